@@ -1,0 +1,79 @@
+-- The new row of an exchange, from its difference.
+use Rattle.std.proofs.Common.{◌≡◌, ◌≢◌, ℕ, zero, suc, ◌+◌, ◌-◌, ◌*◌, ◌^◌, ◌<◌, ◌≤◌, ◌⊎◌, inl, inr, List, [], ◌∷◌, length, set, refl, sym, ap, subst, ◌∙◌, arith}
+use Rattle.std.specs.Prelude.{ℤ, pos, ◌+ℤ◌, ◌-ℤ◌, ◌*ℤ◌, ◌≤ℤ◌, ◌<ℤ◌, unsigned_abs}
+use Rattle.std.specs.Int.{◌∣◌}
+use Rattle.std.proofs.lemmas.Int.{ints, unsigned_abs-mul}
+use Rattle.std.proofs.Math.ListN.{length-set}
+use lib.IntN.{*ℤ-zero, zero-*ℤ, *ℤ_comm}
+use Rattle.crn_frac.proofs.Whole.{pos_pos}
+use Rattle.crn_tab.specs.Entries.{entry, put, AreSmall, IsContent, Combined, NewRow}
+use Rattle.crn_tab.proofs.Rows.{past_end, inside_or, same_rows}
+
+-- a place is the written one or as before
+pub look : (v : List ℤ) (c k : ℕ) (x : ℤ) → c < length v → ((k ≡ c) × (entry (put v c x) k ≡ x)) ⊎ ((k ≢ c) × (entry (put v c x) k ≡ entry v k))
+look [] c k x h = absurd (omega arith)
+look (y ∷ v) zero zero x h = inl (refl, refl)
+look (y ∷ v) zero (suc k) x h = inr ((λ e. omega arith), refl)
+look (y ∷ v) (suc c) zero x h = inr ((λ e. omega arith), refl)
+look (y ∷ v) (suc c) (suc k) x h = elim (look v c k x (omega arith)) [
+  | inl r ↦ inl (ap suc r.0, r.1)
+  | inr r ↦ inr ((λ e. r.0 (omega arith)), r.1)
+]
+
+pub put_same : (v : List ℤ) (c : ℕ) (x : ℤ) → c < length v → entry (put v c x) c ≡ x
+put_same v c x h = elim (look v c c x h) [ inl r ↦ r.1 | inr r ↦ absurd (r.0 refl) ]
+
+pub put_other : (v : List ℤ) (c k : ℕ) (x : ℤ) → c < length v → k ≢ c → entry (put v c x) k ≡ entry v k
+put_other v c k x h ne = elim (look v c k x h) [ inl r ↦ absurd (ne r.0) | inr r ↦ r.1 ]
+
+-- to write what is there changes nothing
+pub put_was : (v : List ℤ) (c : ℕ) (x : ℤ) → c < length v → entry v c ≡ x → put v c x ≡ v
+put_was v c x h e = same_rows (put v c x) v (length-set v c x)
+    (λ k lt. elim (look v c k x h) [ inl r ↦ r.1 ∙ sym e ∙ ap (λ i. entry v i) (sym r.0) | inr r ↦ r.1 ])
+
+pub put_twice : (v : List ℤ) (n : ℕ) (x : ℤ) → n < length v → entry v n ≡ pos 0 → put (put v n x) n (pos 0) ≡ v
+put_twice v n x h e = same_rows (put (put v n x) n (pos 0)) v (length-set (put v n x) n (pos 0) ∙ length-set v n x)
+    (λ k lt. elim (look (put v n x) n k (pos 0) (omega (arith, length-set v n x))) [
+      | inl r ↦ r.1 ∙ sym e ∙ ap (λ i. entry v i) (sym r.0)
+      | inr r ↦ r.1 ∙ put_other v n k x h r.0
+    ])
+
+one_zero : (a b : ℤ) → a *ℤ pos 1 ≡ (pos 1 *ℤ a) -ℤ (pos 0 *ℤ b)
+one_zero a b = omega (arith, ints, zero-*ℤ b)
+
+-- where the leaving coordinate is not in the row, the row stays
+pub new_row_none : (n c : ℕ) (old lead : List ℤ) → c < length old → entry old c ≡ pos 0 → IsContent old 1 → NewRow n c old lead old
+new_row_none n c old lead lt e h = record {
+  p = pos 1;
+  q = pos 0;
+  some = omega (arith, ints);
+  gone = ap (λ (t : ℤ). pos 1 *ℤ t) e ∙ sym (zero-*ℤ (entry lead n));
+  is = record {
+    t = pos 1;
+    some = omega (arith, ints);
+    long = sym (length-set old c (pos 0));
+    is = λ k. one_zero (entry old k) (entry (put lead n (pos 0)) k) ∙ ap (λ (w : List ℤ). (pos 1 *ℤ entry w k) -ℤ (pos 0 *ℤ entry (put lead n (pos 0)) k)) (sym (put_was old c (pos 0) lt e));
+    primitive = h;
+  };
+}
+
+pub new_row_some : (n c : ℕ) (old lead z : List ℤ) (p q : ℤ) → n < length lead → entry lead n ≡ pos 0 → pos 1 ≤ℤ p → q ≡ entry old c
+    → Combined p q (put old c (pos 0)) lead z → NewRow n c old (put lead n p) z
+new_row_some n c old lead z p q lt e some eq h =
+    let same : put (put lead n p) n (pos 0) ≡ lead = put_twice lead n p lt e in
+    let C : List ℤ → Type 0 = λ l. Combined p q (put old c (pos 0)) l z in
+    record {
+      p = p;
+      q = q;
+      some = some;
+      gone = *ℤ_comm p (entry old c) ∙ ap (λ (t : ℤ). t *ℤ p) (sym eq) ∙ ap (λ (t : ℤ). q *ℤ t) (sym (put_same lead n p lt));
+      is = subst C (sym same) h;
+    }
+
+pub last_stays : (c : ℕ) (old lead : List ℤ) (p q : ℤ) → c + 1 < length old → pos 1 ≤ℤ p → pos 1 ≤ℤ entry old (length old - 1)
+    → entry lead (length old - 1) ≡ pos 0 → (p *ℤ entry (put old c (pos 0)) (length old - 1)) -ℤ (q *ℤ entry lead (length old - 1)) ≢ pos 0
+last_stays c old lead p q lt some den e = λ zero_is.
+    let n : ℕ = length old - 1 in
+    let stays : entry (put old c (pos 0)) (length old - 1) ≡ entry old (length old - 1) = put_other old c (length old - 1) (pos 0) (omega arith) (omega arith) in
+    let up : pos 0 <ℤ (p *ℤ entry old (length old - 1)) = pos_pos p (entry old (length old - 1)) (omega (arith, ints)) (omega (arith, ints)) in
+    omega (arith, ints, up, zero_is, ap (λ (t : ℤ). p *ℤ t) stays, ap (λ (t : ℤ). q *ℤ t) e, *ℤ-zero q)

@@ -1,0 +1,54 @@
+-- IsPrimitive rows: a row divided by its content.
+use Rattle.std.proofs.Common.{◌≡◌, ◌≢◌, ℕ, zero, suc, ◌+◌, ◌-◌, ◌*◌, ◌^◌, ◌<◌, ◌≤◌, ◌⊎◌, inl, inr, List, [], ◌∷◌, length, refl, sym, ap, subst, ◌∙◌, arith}
+use Rattle.std.specs.Prelude.{ℤ, pos, ◌+ℤ◌, ◌-ℤ◌, ◌*ℤ◌, ◌≤ℤ◌, unsigned_abs}
+use Rattle.std.specs.Int.{◌∣◌}
+use Rattle.std.proofs.lemmas.Int.{ints, unsigned_abs-mul}
+use Rattle.std.proofs.Math.Nat.{one-dvd, one-mul, mul-dvd-mul_right, dvd_of_mul-dvd-mul_right, pos_of_dvd_of_pos}
+use lib.IntN.{*ℤ-zero, zero-*ℤ}
+use Rattle.crn_tab.specs.Entries.{entry, AreSmall, IsContent, Combined}
+use Rattle.crn_tab.proofs.Rows.{past_end, inside_or}
+
+pub abs_some : (x : ℤ) → x ≢ pos 0 → 1 ≤ unsigned_abs x
+abs_some x h = omega (arith, ints, h)
+
+pub content_some : (v : List ℤ) (g k : ℕ) → IsContent v g → entry v k ≢ pos 0 → 1 ≤ g
+content_some v g k h ne = pos_of_dvd_of_pos (h.divides k) (abs_some (entry v k) ne)
+
+pub primitive_part : (u z : List ℤ) (t : ℤ) → IsContent u (unsigned_abs t) → 1 ≤ unsigned_abs t → ((k : ℕ) → entry z k *ℤ t ≡ entry u k) → IsContent z 1
+primitive_part u z t h some e = record {
+  divides = λ k. one-dvd (unsigned_abs (entry z k));
+  greatest = λ d p.
+      let g = unsigned_abs t in
+      let D : ℕ → Type 0 = λ m. d * g ∣ m in
+      let each : (k : ℕ) → d * g ∣ unsigned_abs (entry u k) = λ k.
+      subst D (sym (unsigned_abs-mul (entry z k) t) ∙ ap unsigned_abs (e k)) (mul-dvd-mul_right d (p k) g) in
+      dvd_of_mul-dvd-mul_right d some (subst D (sym (one-mul g)) (h.greatest (d * g) each));
+}
+
+no_more : (p q x y : ℤ) → x ≡ pos 0 → y ≡ pos 0 → (p *ℤ x) -ℤ (q *ℤ y) ≡ pos 0
+no_more p q x y e f =
+    omega (arith, ints, ap (λ (t : ℤ). p *ℤ t) e, ap (λ (t : ℤ). q *ℤ t) f, *ℤ-zero p, *ℤ-zero q)
+
+no_times : (z t : ℤ) → z ≡ pos 0 → z *ℤ t ≡ pos 0
+no_times z t e = ap (λ (s : ℤ). s *ℤ t) e ∙ zero-*ℤ t
+
+-- the products u, divided by their content, are the primitive difference
+pub combined_of : (p q : ℤ) (w v u z : List ℤ) (t : ℤ) → length v ≡ length w → length u ≡ length w → length z ≡ length w
+    → ((k : ℕ) → k < length w → entry u k ≡ (p *ℤ entry w k) -ℤ (q *ℤ entry v k))
+    → IsContent u (unsigned_abs t) → pos 1 ≤ℤ t → ((k : ℕ) → k < length w → entry z k *ℤ t ≡ entry u k) → Combined p q w v z
+combined_of p q w v u z t ev eu ez value content some divided =
+    let all : (k : ℕ) → entry u k ≡ (p *ℤ entry w k) -ℤ (q *ℤ entry v k) = λ k. elim (inside_or w k) [
+      | inl lt ↦ value k lt
+      | inr le ↦ past_end u k (omega arith) ∙ sym (no_more p q (entry w k) (entry v k) (past_end w k le) (past_end v k (omega arith)))
+    ] in
+    let parts : (k : ℕ) → entry z k *ℤ t ≡ entry u k = λ k. elim (inside_or w k) [
+      | inl lt ↦ divided k lt
+      | inr le ↦ no_times (entry z k) t (past_end z k (omega arith)) ∙ sym (past_end u k (omega arith))
+    ] in
+    record {
+      t = t;
+      some = some;
+      long = ez;
+      is = λ k. parts k ∙ all k;
+      primitive = primitive_part u z t content (omega (arith, ints)) parts;
+    }

@@ -1,0 +1,12 @@
+use Rattle.std.proofs.Common.{◌≡◌, ℕ, ◌<◌, ◌^◌}
+use Rattle.std.specs.Prelude.{unsigned_abs}
+use Rattle.std.specs.Int.{◌∣◌}
+use Rattle.crn_tab.specs.Entries.{entry}
+use Rattle.crn_tab.proofs.combine.content.Given as goal
+
+abbrev pub invariant-loop-x : goal.invariant-loop-x
+invariant-loop-x l = record {
+  divides : (k : ℕ) → k < l.x-index → l.g ∣ unsigned_abs (entry l.work k);
+  greatest : (d : ℕ) → ((k : ℕ) → d ∣ unsigned_abs (entry l.work k)) → d ∣ l.g;
+  small : l.g < 2 ^ 125;
+}

@@ -1,0 +1,11 @@
+use Rattle.std.proofs.Common.{◌≡◌, ◌<◌, ◌≤◌, ◌^◌, ℕ, sym, subst, arith, length}
+use Rattle.std.specs.Prelude.{ℤ, pos, unsigned_abs}
+use Rattle.crn_tab.specs.Entries.{entry}
+use Rattle.crn_tab.proofs.Rows.{same_rows, small_everywhere}
+use Rattle.crn_tab.proofs.combine.keep.Goals as goal
+
+pub returns : goal.returns
+returns c = (
+  same_rows c.loop-j.row c.args.work.now (omega arith) (λ k lt. c.loop-j.invariant.kept k (omega arith)),
+  small_everywhere c.args.work.now (λ k lt. c.loop-j.invariant.small k (omega arith)),
+)

@@ -1,0 +1,10 @@
+use Rattle.std.proofs.Common.{◌≡◌, ℕ, ◌<◌, ◌≤◌}
+use Rattle.std.specs.Prelude.{neg_ℤ}
+use Rattle.crn_tab.specs.Entries.{entry}
+use Rattle.crn_tab.proofs.lead.negate.Given as goal
+
+abbrev pub invariant-loop-j : goal.invariant-loop-j
+invariant-loop-j l = record {
+  done : (k : ℕ) → k < l.j → entry l.row k ≡ neg_ℤ (entry l.initial.row k);
+  left : (k : ℕ) → l.j ≤ k → entry l.row k ≡ entry l.initial.row k;
+}

@@ -1,0 +1,54 @@
+use Rattle.std.proofs.Common.{◌≡◌, ℕ, ◌+◌, ◌-◌, ◌*◌, ◌<◌, ◌≤◌, List, length, ap, sym, subst, ◌∙◌, arith}
+use Rattle.std.specs.Prelude.{ℤ, slice_index}
+use Rattle.crn_vec.specs.Elementary.{IsNamed}
+use Rattle.crn_tab.specs.Entries.{AreSmall}
+use Rattle.crn_tab.specs.Tab.{spread, basis_of, row_at}
+use Rattle.crn_tab.proofs.RowVector.{row_of}
+use Rattle.crn_tab.proofs.spread.row_vector.Goals as goal
+
+pub overflow_sub-i : goal.overflow_sub-i
+overflow_sub-i c =
+    let h = row_of c.args.matrix.now c.args.at.now c.args._order.now c.args.rows.now c.args.row c.requires.tableau c.requires.inside c.requires.outside in
+    omega (arith, h.low, c.cols-n.ensures.count)
+
+pub part-requires-clause-inside : goal.part-requires-clause-inside
+part-requires-clause-inside c =
+    let h = row_of c.args.matrix.now c.args.at.now c.args._order.now c.args.rows.now c.args.row c.requires.tableau c.requires.inside c.requires.outside in
+    rw c.cols-n.ensures.count h.inside
+
+pub spread_of-requires-clause-long : goal.spread_of-requires-clause-long
+spread_of-requires-clause-long c =
+    let h = row_of c.args.matrix.now c.args.at.now c.args._order.now c.args.rows.now c.args.row c.requires.tableau c.requires.inside c.requires.outside in
+    let e = rw c.cols-n.ensures.count at c.part.ensures in
+    rw (c.cols-n.ensures.count, e) h.long
+
+-- the vector that the code makes
+made : (n n' i i' : ℕ) (part row : List ℤ) (at : List ℕ) (items : List ℤ) → n' ≡ n → i' ≡ i → part ≡ row → items ≡ spread n' i' part at → items ≡ spread n i row at
+made n n' i i' part row at items e f g h =
+    let A : ℕ → Type 0 = λ k. items ≡ spread k i' part at in
+    let B : ℕ → Type 0 = λ k. items ≡ spread n k part at in
+    let C : List ℤ → Type 0 = λ v. items ≡ spread n i v at in
+    subst C g (subst B f (subst A e h))
+
+pub returns-clause-named : goal.returns-clause-named
+returns-clause-named c =
+    let h = row_of c.args.matrix.now c.args.at.now c.args._order.now c.args.rows.now c.args.row c.requires.tableau c.requires.inside c.requires.outside in
+    let n = c.args.matrix.now.cols in
+    let i = slice_index c.args.at.now c.args.row - n in
+    let row = rw c.cols-n.ensures.count at c.part.ensures in
+    let is : c.in_ok-vector.vector.items ≡ spread n i (row_at (n + 1) c.args.rows.now i) c.args.at.now =
+    made n c.cols-n.result i (slice_index c.args.at.now c.args.row - c.cols-n.result) c.part.result.now (row_at (n + 1) c.args.rows.now i) c.args.at.now c.in_ok-vector.vector.items
+    c.cols-n.ensures.count (ap (λ m. slice_index c.args.at.now c.args.row - m) c.cols-n.ensures.count) row c.in_ok-vector.ensures in
+    let N : List ℤ → Type 0 = λ v. IsNamed c.args.matrix.now (basis_of n c.args.at.now) c.args.row v in
+    subst N (sym is) h.named
+
+pub returns-clause-small : goal.returns-clause-small
+returns-clause-small c =
+    let h = row_of c.args.matrix.now c.args.at.now c.args._order.now c.args.rows.now c.args.row c.requires.tableau c.requires.inside c.requires.outside in
+    let n = c.args.matrix.now.cols in
+    let i = slice_index c.args.at.now c.args.row - n in
+    let row = rw c.cols-n.ensures.count at c.part.ensures in
+    let is : c.in_ok-vector.vector.items ≡ spread n i (row_at (n + 1) c.args.rows.now i) c.args.at.now =
+    made n c.cols-n.result i (slice_index c.args.at.now c.args.row - c.cols-n.result) c.part.result.now (row_at (n + 1) c.args.rows.now i) c.args.at.now c.in_ok-vector.vector.items
+    c.cols-n.ensures.count (ap (λ m. slice_index c.args.at.now c.args.row - m) c.cols-n.ensures.count) row c.in_ok-vector.ensures in
+    subst AreSmall (sym is) h.bounded

@@ -1,0 +1,86 @@
+ghost use Rattle.std.specs.Prelude.{◌≡◌, ◌≢◌, ◌≤◌, ◌<◌, ◌^◌, ◌-◌, ◌*◌, ◌+◌, ℕ, ℤ, pos, List, length, slice_index};
+ghost use Rattle.crn_tab.specs.Entries.{entry};
+ghost use Rattle.crn_vec.specs.Lists.{IsIn};
+ghost use Rattle.crn_vec.specs.Elementary.{width, IsNamed, WideAt, Exchanged};
+ghost use Rattle.crn_tab.specs.Tab.{row_at, basis_of, IsTableau, IsKeptRow, Filled};
+
+use crate::fill::fill_rows;
+use crate::lead::{make_lead, put_lead};
+use crn_vec::Matrix;
+
+// Fills the spare rows with those after the exchange of the coordinate at slot c and that of row r.
+// The answer is the least coordinate whose new row is wide; where none is, the number of coordinates.
+pub(crate) fn new_rows(
+    rows: &[i64],
+    spare: &mut [i64],
+    m: usize,
+    r: usize,
+    c: usize,
+    order: &[usize],
+    lead: &mut [i64],
+    work: &mut [i128],
+) -> usize
+    requires few { length rows.now ≤ 2 ^ 20 }
+    requires count { length rows.now ≡ m * length lead.old }
+    requires same { length spare.old ≡ length rows.now }
+    requires order { length order.now ≡ length lead.old - 1 + m }
+    requires order_below { (s : ℕ) → s < length order.now → slice_index order.now s < length order.now }
+    requires place { c + 1 < length lead.old }
+    requires inside { r < m }
+    requires work_count { length work.old ≡ length lead.old }
+    requires row { (i : ℕ) → i < m → IsKeptRow (length lead.old) (row_at (length lead.old) rows.now i) }
+    requires some { entry (row_at (length lead.old) rows.now r) c ≢ pos 0 }
+    ensures { Filled (length lead.old) m c r rows.now spare.new order.now result }
+{
+    make_lead(rows, r, c, lead);
+    let last = lead.len() - 1;
+    let p = lead[last];
+    lead[last] = 0;
+    let least = fill_rows(rows, spare, m, r, lead, &p, c, order, work);
+    if least < order.len() {
+        return least;
+    }
+    lead[last] = p;
+    put_lead(spare, r, lead);
+    least
+}
+
+// Exchanges two coordinates: the new slots, and the rows after the exchange in the spare list.
+// The answer is the number of coordinates, or the least one whose new vector is wide, and then the slots stay.
+pub(crate) fn exchange(
+    matrix: &Matrix,
+    at: &mut [usize],
+    order: &mut [usize],
+    rows: &[i64],
+    spare: &mut [i64],
+    lead: &mut [i64],
+    work: &mut [i128],
+    leave: usize,
+    enter: usize,
+) -> usize
+    requires tableau { IsTableau matrix.now at.old order.old rows.now }
+    requires same { length spare.old ≡ length rows.now }
+    requires lead_count { length lead.old ≡ matrix.now.cols + 1 }
+    requires work_count { length work.old ≡ matrix.now.cols + 1 }
+    requires leave { IsIn leave (basis_of matrix.now.cols at.old) }
+    requires inside { enter < width matrix.now }
+    requires enter { IsIn enter (basis_of matrix.now.cols at.old) → ⊥ }
+    requires some { (w : List ℤ) → IsNamed matrix.now (basis_of matrix.now.cols at.old) enter w → entry w leave ≢ pos 0 }
+    ensures ok { result ≡ width matrix.now → IsTableau matrix.now at.new order.new spare.new × Exchanged (basis_of matrix.now.cols at.old) leave enter (basis_of matrix.now.cols at.new) × ((k : ℕ) → (IsIn k (basis_of matrix.now.cols at.new) → ⊥) → WideAt matrix.now (basis_of matrix.now.cols at.new) k → ⊥) }
+    ensures wide { result ≢ width matrix.now → (at.new ≡ at.old) × (order.new ≡ order.old) × ((next : List ℕ) → Exchanged (basis_of matrix.now.cols at.old) leave enter next → WideAt matrix.now next result × ((k : ℕ) → k < result → (IsIn k next → ⊥) → WideAt matrix.now next k → ⊥)) }
+    ensures most { result ≤ width matrix.now }
+{
+    let n = matrix.cols();
+    let m = matrix.rows();
+    let c = at[leave];
+    let r = at[enter] - n;
+    let least = new_rows(rows, spare, m, r, c, order, lead, work);
+    if least < n + m {
+        return least;
+    }
+    at[leave] = n + r;
+    at[enter] = c;
+    order[c] = enter;
+    order[n + r] = leave;
+    least
+}

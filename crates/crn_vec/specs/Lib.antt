@@ -1,0 +1,9 @@
+pub mod Lists
+pub mod Kept
+pub mod Network
+pub mod Linkage
+pub mod Vectors
+pub mod Matrices
+pub mod Elementary
+pub mod Rank
+pub mod Systems

@@ -1,0 +1,115 @@
+-- Reaction networks, and the reactions that a statement says.
+-- Source: Feinberg, Foundations of Chemical Reaction Network Theory (2019), chapter 3. The limits and the numbering are this project's own.
+-- Shapes: species, complexes and reactions are counted from 0. A complex is the list of its amounts, one for each species.
+use Rattle.std.specs.Prelude.{◌≡◌, ◌≤◌, ◌<◌, ◌⊎◌, ◌==◌, ◌&&◌, ◌||◌, nat_le, ℕ, suc, ℤ, pos, ◌≤ℤ◌, Bool, false, IsTrue, if◌then◌else◌, List, [], ◌∷◌, ◌++◌, length, map, slice_index_or}
+use Rattle.std.specs.List.{AllByRecursion, list_all, sum_by}
+use Rattle.std.specs.Str.{bytes_eq}
+use Rattle.std.specs.Ordering.{int_eq}
+use Rattle.std.specs.Cmp.Lexicographic.{pointwise}
+use Rattle.crn_vec.specs.Lists.{IsIn, AreDistinct}
+use Rattle.crn_vec.specs.declared.limits.TheConstants.{MAX_SPECIES, MAX_COMPLEXES, MAX_REACTIONS, MAX_AMOUNT, MAX_NAME}
+
+pub record Net : Type 0 where
+  -- the names of the species
+  pub names : List (List ℕ)
+  -- each complex gives each species an amount
+  pub complexes : List (List ℤ)
+  -- each reaction goes from a complex, its reactant, to another, its product
+  pub reactions : List (ℕ × ℕ)
+
+-- ---- names
+
+abbrev pub is_letter : ℕ → Bool
+is_letter b = (nat_le 97 b && nat_le b 122) || (nat_le 65 b && nat_le b 90) || b == 95
+
+abbrev pub is_name_byte : ℕ → Bool
+is_name_byte b = is_letter b || (nat_le 48 b && nat_le b 57)
+
+abbrev pub begins_name : List ℕ → Bool
+begins_name [] = false
+begins_name (b ∷ bs) = is_letter b && list_all is_name_byte bs
+
+-- a letter or an underscore, then letters, underscores and digits, no more than the limit
+abbrev pub IsName : List ℕ → Type 0
+IsName name = IsTrue (begins_name name) × (length name ≤ MAX_NAME)
+
+-- ---- networks
+
+-- the ends of the reactions in order, the reactant before the product
+abbrev pub ends : List (ℕ × ℕ) → List ℕ
+ends [] = []
+ends (r ∷ rs) = r.0 ∷ r.1 ∷ ends rs
+
+-- each place that comes anew is the next one, and those before `next` are known
+abbrev pub IsNumberedInOrder : ℕ → List ℕ → Type 0
+IsNumberedInOrder next [] = Unit {0}
+IsNumberedInOrder next (y ∷ ys) = ((y < next) × IsNumberedInOrder next ys) ⊎ ((y ≡ next) × IsNumberedInOrder (suc next) ys)
+
+abbrev pub IsAmount : ℤ → Type 0
+IsAmount a = (pos 0 ≤ℤ a) × (a ≤ℤ pos MAX_AMOUNT)
+
+-- the amounts of a complex, one for each species
+abbrev pub IsVector : ℕ → List ℤ → Type 0
+IsVector width v = (length v ≡ width) × AllByRecursion IsAmount v
+
+-- the amount of species s in complex c
+abbrev pub amount_at : Net → ℕ → ℕ → ℤ
+amount_at net c s = slice_index_or (slice_index_or net.complexes c []) s (pos 0)
+
+-- complex c holds species s
+abbrev pub Holds : Net → ℕ → ℕ → Type 0
+Holds net c s = pos 1 ≤ℤ amount_at net c s
+
+-- a complex before c holds species s
+abbrev pub IsHeldBefore : Net → ℕ → ℕ → Type 0
+IsHeldBefore net c s = (b : ℕ) × (b < c) × Holds net b s
+
+-- the reaction joins two different complexes of so many
+abbrev pub JoinsTwo : ℕ → ℕ × ℕ → Type 0
+JoinsTwo count r = (r.0 ≡ r.1 → ⊥) × (r.0 < count) × (r.1 < count)
+
+-- what every network keeps, and what leads to one by adding reactions keeps too
+pub record IsPartialNetwork (net : Net) : Type 0 where
+  pub names : AreDistinct net.names
+  pub names_spelled : AllByRecursion IsName net.names
+  pub complexes : AreDistinct net.complexes
+  pub vectors : AllByRecursion (IsVector (length net.names)) net.complexes
+  pub reactions : AreDistinct net.reactions
+  pub apart : AllByRecursion (JoinsTwo (length net.complexes)) net.reactions
+  -- complexes are numbered by first appearance in the reactions, and each appears
+  pub numbered : IsNumberedInOrder 0 (ends net.reactions)
+  pub each_in_a_reaction : (c : ℕ) → c < length net.complexes → IsIn c (ends net.reactions)
+  -- each species is in a complex, and those in the first complexes are the first species
+  pub each_in_a_complex : (s : ℕ) → s < length net.names → IsHeldBefore net (length net.complexes) s
+  pub species_in_order : (c s t : ℕ) → c ≤ length net.complexes → s < t → t < length net.names → IsHeldBefore net c t → IsHeldBefore net c s
+  pub species_limit : length net.names ≤ MAX_SPECIES
+  pub complexes_limit : length net.complexes ≤ MAX_COMPLEXES
+  pub reactions_limit : length net.reactions ≤ MAX_REACTIONS
+
+pub record IsNetwork (net : Net) : Type 0 where
+  pub partial : IsPartialNetwork net
+  pub some : 1 ≤ length net.reactions
+
+-- the amounts of a reaction's reactant and of its product
+abbrev pub sides_of : Net → ℕ × ℕ → List ℤ × List ℤ
+sides_of net r = (slice_index_or net.complexes r.0 [], slice_index_or net.complexes r.1 [])
+
+abbrev pub sides_eq : List ℤ × List ℤ → List ℤ × List ℤ → Bool
+sides_eq a b = pointwise int_eq a.0 b.0 && pointwise int_eq a.1 b.1
+
+-- ---- statements: two sides, each a list of names with numbers, as a text says them
+
+-- how much of a name a side says, where a name that stands twice has its numbers added
+abbrev pub amount_in : List (List ℕ × ℕ) → List ℕ → ℕ
+amount_in side name = sum_by (λ t. if bytes_eq t.0 name then t.1 else 0) side
+
+abbrev pub amounts_in : List (List ℕ) → List (List ℕ × ℕ) → List ℤ
+amounts_in names side = map (λ name. pos (amount_in side name)) names
+
+-- the two sides of a statement as amounts of these names
+abbrev pub said_by : List (List ℕ) → List (List ℕ × ℕ) × List (List ℕ × ℕ) → List ℤ × List ℤ
+said_by names s = (amounts_in names s.0, amounts_in names s.1)
+
+-- the names of a statement from left to right
+abbrev pub names_in : List (List ℕ × ℕ) × List (List ℕ × ℕ) → List (List ℕ)
+names_in s = map (λ t. t.0) s.0 ++ map (λ t. t.0) s.1

@@ -1,0 +1,43 @@
+-- Combinations of vectors, independence, dependence and rank.
+-- Source: any book of linear algebra; over whole numbers, a multiple of a vector is a combination in the place of the vector itself.
+-- Shapes: `vs` is a list of vectors; `column vs k` is the list of their entries at place k; coefficients are as many as the vectors.
+use Rattle.std.specs.Prelude.{◌≡◌, ◌<◌, ℕ, suc, ℤ, pos, ◌≤ℤ◌, ◌*ℤ◌, List, [], length, map, slice_index_or}
+use Rattle.crn_vec.specs.Lists.{IsIn, IsAscending}
+use Rattle.crn_vec.specs.Vectors.{entry, dot, column}
+
+-- each entry is zero
+abbrev pub IsZero : List ℤ → Type 0
+IsZero v = (k : ℕ) → entry v k ≡ pos 0
+
+-- the entry at place k of the combination of the vectors with these coefficients
+abbrev pub combination_at : List ℤ → List (List ℤ) → ℕ → ℤ
+combination_at c vs k = dot c (column vs k)
+
+-- only zeros combine the vectors to zero
+abbrev pub IsIndependent : List (List ℤ) → Type 0
+IsIndependent vs = (c : List ℤ) → length c ≡ length vs → ((k : ℕ) → combination_at c vs k ≡ pos 0) → IsZero c
+
+-- some positive multiple of v is a combination of the vectors
+pub record DependsOn (v : List ℤ) (vs : List (List ℤ)) : Type 0 where
+  pub d : ℤ
+  pub positive : pos 1 ≤ℤ d
+  pub c : List ℤ
+  pub long : length c ≡ length vs
+  pub is : (k : ℕ) → d *ℤ entry v k ≡ combination_at c vs k
+
+-- different places of a list of so many members, in order
+pub record IsChoice (count : ℕ) (places : List ℕ) : Type 0 where
+  pub ascending : IsAscending places
+  pub below : (k : ℕ) → IsIn k places → k < count
+
+-- the vectors at these places
+abbrev pub chosen : List ℕ → List (List ℤ) → List (List ℤ)
+chosen places vs = map (λ k. slice_index_or vs k []) places
+
+-- some s of the vectors are independent, and no s + 1 of them are
+pub record IsRank (vs : List (List ℤ)) (s : ℕ) : Type 0 where
+  pub places : List ℕ
+  pub choice : IsChoice (length vs) places
+  pub count : length places ≡ s
+  pub independent : IsIndependent (chosen places vs)
+  pub greatest : (more : List ℕ) → IsChoice (length vs) more → length more ≡ suc s → IsIndependent (chosen more vs) → ⊥

@@ -1,0 +1,37 @@
+-- Vectors of whole numbers as lists, and matrices as lists of rows.
+use Rattle.std.specs.Prelude.{◌≡◌, ◌≤◌, ℕ, ℤ, pos, zero, suc, ◌+ℤ◌, ◌*ℤ◌, unsigned_abs, List, [], ◌∷◌, length, take, drop, slice_index_or}
+
+-- the entry at place k, 0 past the end
+abbrev pub entry : List ℤ → ℕ → ℤ
+entry v k = slice_index_or v k (pos 0)
+
+-- the sum of the products, place by place
+abbrev pub dot : List ℤ → List ℤ → ℤ
+dot [] ys = pos 0
+dot (x ∷ xs) [] = pos 0
+dot (x ∷ xs) (y ∷ ys) = (x *ℤ y) +ℤ dot xs ys
+
+-- each entry is at most m in absolute value
+abbrev pub AreWithin : ℕ → List ℤ → Type 0
+AreWithin m [] = Unit {0}
+AreWithin m (x ∷ xs) = (unsigned_abs x ≤ m) × AreWithin m xs
+
+-- a matrix: the number of its columns, and its rows
+pub record Mat : Type 0 where
+  pub cols : ℕ
+  pub rows : List (List ℤ)
+
+-- each row has as many entries as there are columns
+abbrev pub AreOfLength : ℕ → List (List ℤ) → Type 0
+AreOfLength n [] = Unit {0}
+AreOfLength n (r ∷ rs) = (length r ≡ n) × AreOfLength n rs
+
+-- the entries of column j
+abbrev pub column : List (List ℤ) → ℕ → List ℤ
+column [] j = []
+column (r ∷ rs) j = entry r j ∷ column rs j
+
+-- the rows of so many entries each that stand in a list one after another
+abbrev pub rows_of : ℕ → ℕ → List ℤ → List (List ℤ)
+rows_of zero cols xs = []
+rows_of (suc rows) cols xs = take cols xs ∷ rows_of rows cols (drop cols xs)
