@@ -1,5 +1,5 @@
 -- Linkage classes of a network: complexes joined by walks along links, and right labels of them.
--- Source: Feinberg (2019), chapter 3 (linkage classes). The numbering of labels is this project's own.
+-- Source: Feinberg, Foundations of Chemical Reaction Network Theory (2019). The numbering of labels is this project's own.
 -- Shapes: reactions are pairs (reactant, product) of complexes counted from 0; labels are counted from 1.
 use Rattle.std.specs.Prelude.{◌≡◌, ◌≤◌, ◌<◌, ◌⊎◌, ℕ, List, [], ◌∷◌, length, slice_index}
 use Rattle.crn_vec.specs.Lists.{IsIn}

@@ -1,8 +1,8 @@
 -- Reaction networks, and the reactions that a statement says.
--- Source: Feinberg, Foundations of Chemical Reaction Network Theory (2019), chapter 3. The limits and the numbering are this project's own.
+-- Source: Feinberg, Foundations of Chemical Reaction Network Theory (2019). The limits and the numbering are this project's own.
 -- Shapes: species, complexes and reactions are counted from 0. A complex is the list of its amounts, one for each species.
-use Rattle.std.specs.Prelude.{◌≡◌, ◌≤◌, ◌<◌, ◌⊎◌, ◌==◌, ◌&&◌, ◌||◌, nat_le, ℕ, suc, ℤ, pos, ◌≤ℤ◌, Bool, false, IsTrue, if◌then◌else◌, List, [], ◌∷◌, ◌++◌, length, map, slice_index_or}
-use Rattle.std.specs.List.{AllByRecursion, list_all, sum_by}
+use Rattle.std.specs.Prelude.{◌≡◌, ◌≤◌, ◌<◌, ◌⊎◌, ◌==◌, ◌&&◌, ◌||◌, nat_le, ℕ, suc, ℤ, pos, ◌≤ℤ◌, ◌-ℤ◌, Bool, false, IsTrue, if◌then◌else◌, List, [], ◌∷◌, ◌++◌, length, map, slice_index_or}
+use Rattle.std.specs.List.{AllByRecursion, list_all, sum_by, zip}
 use Rattle.std.specs.Str.{bytes_eq}
 use Rattle.std.specs.Ordering.{int_eq}
 use Rattle.std.specs.Cmp.Lexicographic.{pointwise}
@@ -19,12 +19,15 @@ pub record Net : Type 0 where
 
 -- ---- names
 
+-- a letter or an underscore
 abbrev pub is_letter : ℕ → Bool
 is_letter b = (nat_le 97 b && nat_le b 122) || (nat_le 65 b && nat_le b 90) || b == 95
 
+-- a letter, an underscore or a digit
 abbrev pub is_name_byte : ℕ → Bool
 is_name_byte b = is_letter b || (nat_le 48 b && nat_le b 57)
 
+-- a letter or an underscore, then bytes of a name
 abbrev pub begins_name : List ℕ → Bool
 begins_name [] = false
 begins_name (b ∷ bs) = is_letter b && list_all is_name_byte bs
@@ -45,6 +48,7 @@ abbrev pub IsNumberedInOrder : ℕ → List ℕ → Type 0
 IsNumberedInOrder next [] = Unit {0}
 IsNumberedInOrder next (y ∷ ys) = ((y < next) × IsNumberedInOrder next ys) ⊎ ((y ≡ next) × IsNumberedInOrder (suc next) ys)
 
+-- from 0 to the limit
 abbrev pub IsAmount : ℤ → Type 0
 IsAmount a = (pos 0 ≤ℤ a) × (a ≤ℤ pos MAX_AMOUNT)
 
@@ -86,6 +90,7 @@ pub record IsPartialNetwork (net : Net) : Type 0 where
   pub complexes_limit : length net.complexes ≤ MAX_COMPLEXES
   pub reactions_limit : length net.reactions ≤ MAX_REACTIONS
 
+-- a network: all that is kept, and some reaction
 pub record IsNetwork (net : Net) : Type 0 where
   pub partial : IsPartialNetwork net
   pub some : 1 ≤ length net.reactions
@@ -94,22 +99,36 @@ pub record IsNetwork (net : Net) : Type 0 where
 abbrev pub sides_of : Net → ℕ × ℕ → List ℤ × List ℤ
 sides_of net r = (slice_index_or net.complexes r.0 [], slice_index_or net.complexes r.1 [])
 
+-- the same reactant and the same product, by amounts
 abbrev pub sides_eq : List ℤ × List ℤ → List ℤ × List ℤ → Bool
 sides_eq a b = pointwise int_eq a.0 b.0 && pointwise int_eq a.1 b.1
 
--- ---- statements: two sides, each a list of names with numbers, as a text says them
+-- product minus reactant, species by species
+abbrev pub difference_of : List ℤ × List ℤ → List ℤ
+difference_of sides = map (λ e. e.1 -ℤ e.0) (zip sides.0 sides.1)
+
+-- the vector of a reaction
+abbrev pub reaction_vector_of : Net → ℕ × ℕ → List ℤ
+reaction_vector_of net r = difference_of (sides_of net r)
+
+-- ---- statements
+
+-- two sides, each a list of names with numbers, as a text says them
+abbrev pub Statement : Type 0
+Statement = List (List ℕ × ℕ) × List (List ℕ × ℕ)
 
 -- how much of a name a side says, where a name that stands twice has its numbers added
 abbrev pub amount_in : List (List ℕ × ℕ) → List ℕ → ℕ
 amount_in side name = sum_by (λ t. if bytes_eq t.0 name then t.1 else 0) side
 
+-- the amounts that a side says, one for each name
 abbrev pub amounts_in : List (List ℕ) → List (List ℕ × ℕ) → List ℤ
 amounts_in names side = map (λ name. pos (amount_in side name)) names
 
 -- the two sides of a statement as amounts of these names
-abbrev pub said_by : List (List ℕ) → List (List ℕ × ℕ) × List (List ℕ × ℕ) → List ℤ × List ℤ
+abbrev pub said_by : List (List ℕ) → Statement → List ℤ × List ℤ
 said_by names s = (amounts_in names s.0, amounts_in names s.1)
 
 -- the names of a statement from left to right
-abbrev pub names_in : List (List ℕ × ℕ) × List (List ℕ × ℕ) → List (List ℕ)
+abbrev pub names_in : Statement → List (List ℕ)
 names_in s = map (λ t. t.0) s.0 ++ map (λ t. t.0) s.1
