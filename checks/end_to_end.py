@@ -16,7 +16,7 @@ from pathlib import Path
 ROOT = Path(__file__).resolve().parent.parent
 NETWORKS = ROOT / "examples" / "networks"
 
-DONE, REFUSED, USAGE, READ_FAULT, WRITE_FAULT = 0, 2, 4, 5, 6
+DONE, REFUSED, USAGE, READ_FAULT, WRITE_FAULT, NO_WORDS = 0, 2, 4, 5, 6, 8
 MAX_TEXT = 2_097_152
 SECONDS = 120
 
@@ -174,6 +174,13 @@ def reads_a_pipe(program):
     return child.returncode == DONE and out == PAIR, (child.returncode, out)
 
 
+def takes_a_word_of_no_text(program):
+    """A word whose bytes are no UTF-8 is either no command, or can't be read at all."""
+    done = subprocess.run([program, b"\xff"], stdin=subprocess.DEVNULL, capture_output=True, timeout=SECONDS)
+    seen = (done.returncode, done.stdout)
+    return seen in [(USAGE, USAGE_LINE), (NO_WORDS, b"")], seen
+
+
 def leaves_the_rest(program):
     """With words that are no command nothing is read."""
     with tempfile.TemporaryFile() as source:
@@ -193,6 +200,7 @@ def device_cases():
     yield "the reader has gone, SIGPIPE ignored", lambda program: writes_to_nobody(program, True)
     yield "the reader has gone, SIGPIPE as a shell leaves it", lambda program: writes_to_nobody(program, False)
     yield "a text through a pipe", reads_a_pipe
+    yield "a word whose bytes are no UTF-8", takes_a_word_of_no_text
     yield "nothing is read where the words are no command", leaves_the_rest
 
 

@@ -17,11 +17,11 @@ RT = """#!/bin/sh
 echo "$(basename "$PWD") $*" >>"$CALLS"
 echo "what rt says"
 if [ -e "$PWD/broken" ]; then exit 1; fi
-if [ "$1" = run ]; then mkdir -p out; cp "$PROGRAM" out/crnt; exec out/crnt; fi
+if [ "$1" = run ]; then mkdir -p out; cp "$PROGRAM" out/crnt; shift 2; exec out/crnt "$@"; fi
 """
 
 PROGRAM = """#!/bin/sh
-if [ $# -eq 0 ]; then echo usage; exit 4; fi
+if [ "$1" != report ]; then echo usage; exit 4; fi
 cat
 exit 3
 """
@@ -70,7 +70,7 @@ class Repository:
         return done.returncode, done.stdout, done.stderr.decode(), self.calls.read_text().splitlines()
 
 
-BUILD = ["low lib", "middle lib", "crnt run"]
+BUILD = ["low lib", "middle lib", "crnt run -- build"]
 
 
 def tries(repository, folder):
