@@ -1,0 +1,65 @@
+#!/usr/bin/env bash
+# Measures `report` on large plain texts, and prints a table: the least time of several runs, and the greatest memory.
+# Not part of the checks: times depend on the machine.
+#
+#     benches/report.sh [RUNS]
+set -eu
+cd "$(dirname "$0")/.."
+status=0
+./crnt </dev/null >/dev/null || status=$?
+[ $status -eq 4 ] || exit 1
+
+exec python3 - "${CRNT_PROGRAM:-crates/crnt/out/crnt}" "${1:-10}" <<'PYTHON'
+import os
+import platform
+import subprocess
+import sys
+import tempfile
+import time
+
+MAX_TEXT = 2_097_152
+TIME = "/usr/bin/time"
+program, runs = sys.argv[1], int(sys.argv[2])
+
+pairs = [f"X{i} -> X{j}\n" for i in range(12) for j in range(12) if i != j]
+CASES = [
+    ("one reaction", "A -> B\n"),
+    ("120 different lines, 12 species", "".join(pairs[:120])),
+    ("120 lines, 40 species in three cycles of steps 1, 3 and 9",
+     "".join(f"S{i} -> S{(i + step) % 40}\n" for step in (1, 3, 9) for i in range(39, -1, -1))),
+    ("empty lines up to the limit", "\n" * MAX_TEXT),
+    ("one line repeated up to the limit", "A -> B\n" * (MAX_TEXT // 7)),
+]
+
+
+def seconds(source):
+    """Seconds of one run, and its status. The time to start the process is in it."""
+    source.seek(0)
+    begin = time.perf_counter()
+    done = subprocess.run([program, "report"], stdin=source, stdout=subprocess.DEVNULL)
+    return time.perf_counter() - begin, done.returncode
+
+
+def megabytes(source):
+    """The most memory of one run, by GNU time, which starts the program from a small process of its own."""
+    if not os.access(TIME, os.X_OK):
+        return "?"
+    source.seek(0)
+    with tempfile.NamedTemporaryFile("r") as told:
+        subprocess.run([TIME, "-q", "-f", "%M", "-o", told.name, program, "report"], stdin=source, stdout=subprocess.DEVNULL)
+        return f"{int(told.read()) / 1024:.1f}"
+
+
+print(f"{runs} runs each, on {platform.machine()}, {os.cpu_count()} processors, {platform.system()} {platform.release()}\n")
+print("| text | bytes | status | least time, ms | most memory, MB |")
+print("|---|---:|---:|---:|---:|")
+for name, text in CASES:
+    with tempfile.TemporaryFile() as source:
+        source.write(text.encode())
+        source.flush()
+        seen = [seconds(source) for _ in range(runs)]
+        memory = megabytes(source)
+    statuses = "/".join(sorted({str(status) for _, status in seen}))
+    least = min(taken for taken, _ in seen) * 1000
+    print(f"| {name} | {len(text):,} | {statuses} | {least:.1f} | {memory} |")
+PYTHON
