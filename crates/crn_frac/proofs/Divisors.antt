@@ -1,8 +1,8 @@
 -- Common divisors of multiples.
-use Rattle.std.proofs.Common.{◌≡◌, ◌≢◌, ℕ, zero, suc, ◌+◌, ◌-◌, ◌*◌, ◌/◌, ◌%◌, ◌<◌, ◌≤◌, refl, sym, ap, subst, ◌∙◌, arith}
+use Rattle.std.proofs.Common.{◌≡◌, ℕ, zero, suc, ◌+◌, ◌-◌, ◌*◌, ◌/◌, ◌%◌, ◌<◌, ◌≤◌, refl, sym, ap, subst, ◌∙◌, arith}
 use Rattle.std.specs.Int.{IsGcd, ◌∣◌}
-use Rattle.std.proofs.Math.Nat.{dvd-mul_left, dvd-mul_right, dvd-sub, dvd-mod_iff, div-add-mod, div-mul_cancel, mul-dvd-mul_right, mul-dvd-mul_left, dvd_of_mul-dvd-mul_right, mul_comm, mul_assoc}
-use Rattle.std.proofs.lemmas.Nat.Gcd.{dvd_refl, dvd-zero, dvd_trans, dvd_antisymm, le_of_dvd, IsGcd-from_zero, same_from_IsGcd}
+use Rattle.std.proofs.Math.Nat.{dvd-mul_left, dvd-mul_right, dvd-sub, dvd-mod_iff, div-add-mod, div-mul_cancel, mul-dvd-mul_right, dvd_of_mul-dvd-mul_right, mul_comm, mul_assoc}
+use Rattle.std.proofs.lemmas.Nat.Gcd.{dvd_trans, dvd_antisymm, IsGcd-from_zero, same_from_IsGcd}
 use Rattle.crn_frac.specs.Multiple.{IsLcm}
 
 -- Euclid's step the other way

@@ -1,5 +1,5 @@
 -- Ascending lists are determined by their members.
-use Rattle.std.proofs.Common.{◌≡◌, ◌≢◌, ℕ, zero, suc, ◌+◌, ◌<◌, ◌≤◌, ◌⊎◌, inl, inr, List, [], ◌∷◌, refl, sym, ap, ap₂, ◌∙◌, arith}
+use Rattle.std.proofs.Common.{◌≡◌, ℕ, ◌<◌, inl, inr, List, [], ◌∷◌, refl, sym, ap₂, arith}
 use Rattle.crn_vec.specs.Lists.{IsIn, IsAbove, IsAscending}
 
 above_all : (m k : ℕ) (xs : List ℕ) → IsAbove m xs → IsIn k xs → m < k

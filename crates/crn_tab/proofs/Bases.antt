@@ -1,31 +1,31 @@
 -- The rows of a tableau make a basis, and are the vectors that it names.
-use Rattle.std.proofs.Common.{◌≡◌, ◌≢◌, ℕ, zero, suc, ◌+◌, ◌-◌, ◌*◌, ◌<◌, ◌≤◌, ◌⊎◌, inl, inr, List, [], ◌∷◌, length, get_or, refl, sym, ap, subst, ◌∙◌, arith}
-use Rattle.std.specs.Prelude.{ℤ, pos, ◌+ℤ◌, ◌-ℤ◌, ◌*ℤ◌, ◌≤ℤ◌, ◌<ℤ◌, slice_index, unsigned_abs}
+use Rattle.std.proofs.Common.{◌≡◌, ◌≢◌, ℕ, ◌+◌, ◌-◌, ◌<◌, ◌≤◌, inl, inr, List, length, sym, ap, subst, ◌∙◌, arith}
+use Rattle.std.specs.Prelude.{ℤ, pos, ◌*ℤ◌, slice_index, unsigned_abs}
 use Rattle.std.specs.Int.{◌∣◌}
 use Rattle.std.proofs.lemmas.Int.{ints}
 use Rattle.std.proofs.lemmas.Nat.Gcd.{dvd-zero}
 use Rattle.std.proofs.Math.Nat.{eq-one_of_dvd-one}
-use lib.IntN.{*ℤ_comm, *ℤ-zero, zero-*ℤ}
+use lib.IntN.{*ℤ-zero, zero-*ℤ}
 use Rattle.crn_frac.proofs.Whole.{no_zero}
-use Rattle.crn_vec.specs.Vectors.{Mat, entry, dot, AreOfLength}
+use Rattle.crn_vec.specs.Vectors.{Mat, entry, AreOfLength}
 use Rattle.crn_vec.specs.Lists.{IsIn}
-use Rattle.crn_vec.specs.Elementary.{width, InRowSpace, InDualSpace, IsBasis, IsPrimitive, IsNamed, IsNamedRow}
+use Rattle.crn_vec.specs.Elementary.{width, IsBasis, IsPrimitive, IsNamed}
 use Rattle.crn_tab.specs.Entries.{IsContent}
-use Rattle.crn_tab.specs.Tab.{slot_entry, spread, basis_of, Placed, IsRowAt}
+use Rattle.crn_tab.specs.Tab.{slot_entry, spread, basis_of, ArePlaced, IsRowAt}
 use Rattle.crn_tab.proofs.Rows.{past_end, inside_or, lt_or}
 use Rattle.crn_tab.proofs.Places.{isIn_or, slot_basic, slot_own, slot_none, length-spread, entry-spread, in_basis, basis_only, basis_ascending}
 use Rattle.crn_tab.proofs.Dots.{dot_single}
 use Rattle.crn_tab.proofs.Spaces.{orthogonal}
 
 -- a coordinate outside the basis has the slot of a row
-pub outside_slot : (n count : ℕ) (at order : List ℕ) (k : ℕ) → Placed n count at order → k < count → ¬ IsIn k (basis_of n at) → n ≤ slice_index at k
+pub outside_slot : (n count : ℕ) (at order : List ℕ) (k : ℕ) → ArePlaced n count at order → k < count → ¬ IsIn k (basis_of n at) → n ≤ slice_index at k
 outside_slot n count at order k p lt out = elim (lt_or (slice_index at k) n) [
   | inl h ↦ absurd (out (in_basis n at k (omega (arith, p.at_long)) h))
   | inr h ↦ h
 ]
 
 -- what a row keeps is zero outside the basis and its own coordinate
-pub zero_outside : (n count : ℕ) (at order : List ℕ) (i : ℕ) (row : List ℤ) (e : ℕ) → Placed n count at order → e < count → slice_index at e ≡ n + i
+pub zero_outside : (n count : ℕ) (at order : List ℕ) (i : ℕ) (row : List ℤ) (e : ℕ) → ArePlaced n count at order → e < count → slice_index at e ≡ n + i
     → (k : ℕ) → ¬ IsIn k (basis_of n at) → k ≢ e → entry (spread n i row at) k ≡ pos 0
 zero_outside n count at order i row e p e_lt own k out ne = elim (inside_or (spread n i row at) k) [
   | inr h ↦ past_end (spread n i row at) k h
@@ -35,12 +35,12 @@ zero_outside n count at order i row e p e_lt own k out ne = elim (inside_or (spr
       entry-spread n i row at k lt ∙ slot_none n i row (slice_index at k) (outside_slot n count at order k p (omega (arith, p.at_long)) out) far
 ]
 
-pub at_own : (n count : ℕ) (at order : List ℕ) (i : ℕ) (row : List ℤ) (e : ℕ) → Placed n count at order → e < count → slice_index at e ≡ n + i
+pub at_own : (n count : ℕ) (at order : List ℕ) (i : ℕ) (row : List ℤ) (e : ℕ) → ArePlaced n count at order → e < count → slice_index at e ≡ n + i
     → entry (spread n i row at) e ≡ entry row n
 at_own n count at order i row e p lt own = entry-spread n i row at e (omega (arith, p.at_long)) ∙ slot_own n i row (slice_index at e) own
 
 -- rows for all slots make a basis
-pub rows_make_basis : (a : Mat) (at order : List ℕ) → AreOfLength a.cols a.rows → Placed a.cols (width a) at order
+pub rows_make_basis : (a : Mat) (at order : List ℕ) → AreOfLength a.cols a.rows → ArePlaced a.cols (width a) at order
     → ((i : ℕ) → i < length a.rows → (row : List ℤ) × IsRowAt a at i row) → IsBasis a (basis_of a.cols at)
 rows_make_basis a at order wide p each = record {
   ascending = basis_ascending 0 a.cols at;
@@ -69,7 +69,7 @@ rows_make_basis a at order wide p each = record {
 }
 
 -- a primitive row keeps a primitive vector
-pub spread_primitive : (n count : ℕ) (at order : List ℕ) (i : ℕ) (row : List ℤ) → Placed n count at order → n + i < count → length row ≡ n + 1 → IsContent row 1 → IsPrimitive (spread n i row at)
+pub spread_primitive : (n count : ℕ) (at order : List ℕ) (i : ℕ) (row : List ℤ) → ArePlaced n count at order → n + i < count → length row ≡ n + 1 → IsContent row 1 → IsPrimitive (spread n i row at)
 spread_primitive n count at order i row p lt long h d divides =
     let w = spread n i row at in
     let D : ℤ → Type 0 = λ z. d ∣ unsigned_abs z in
@@ -92,7 +92,7 @@ spread_primitive n count at order i row p lt long h d divides =
     eq-one_of_dvd-one (h.greatest d each)
 
 -- and is what the basis names by its coordinate
-pub row_is_named : (a : Mat) (at order : List ℕ) (i : ℕ) (row : List ℤ) → Placed a.cols (width a) at order → i < length a.rows → IsBasis a (basis_of a.cols at)
+pub row_is_named : (a : Mat) (at order : List ℕ) (i : ℕ) (row : List ℤ) → ArePlaced a.cols (width a) at order → i < length a.rows → IsBasis a (basis_of a.cols at)
     → IsRowAt a at i row → IsNamed a (basis_of a.cols at) (slice_index order (a.cols + i)) (spread a.cols i row at)
 row_is_named a at order i row p lt basis kept =
     let n = a.cols in

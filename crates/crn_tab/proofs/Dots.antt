@@ -1,12 +1,10 @@
 -- Dot products: differences, splits, single products, and u (A x) = (u A) x.
-use Rattle.std.proofs.Common.{◌≡◌, ◌≢◌, ℕ, zero, suc, ◌+◌, ◌-◌, ◌*◌, ◌<◌, ◌≤◌, ◌⊎◌, inl, inr, List, [], ◌∷◌, ◌++◌, length, get_or, take, drop, refl, sym, ap, subst, ◌∙◌, arith}
-use Rattle.std.specs.Prelude.{ℤ, pos, negsuc, ◌+ℤ◌, ◌-ℤ◌, ◌*ℤ◌, neg_ℤ, ◌≤ℤ◌, ◌<ℤ◌}
+use Rattle.std.proofs.Common.{◌≡◌, ◌≢◌, ℕ, zero, suc, ◌<◌, List, [], ◌∷◌, length, get_or, take, drop, refl, sym, ap, arith}
+use Rattle.std.specs.Prelude.{ℤ, pos, ◌+ℤ◌, ◌-ℤ◌, ◌*ℤ◌, neg_ℤ}
 use Rattle.std.proofs.lemmas.Int.{ints}
-use Rattle.std.proofs.lemmas.List.{get_or-take, get_or-drop, length-take-le, length-drop}
 use lib.IntN.{*ℤ_comm, *ℤ-zero, zero-*ℤ}
-use Rattle.crn_frac.proofs.Whole.{distrib, distrib-right, assoc, mul-neg, mul-sub, left-comm, no_zero}
+use Rattle.crn_frac.proofs.Whole.{distrib, distrib-right, assoc, mul-neg, mul-sub}
 use Rattle.crn_vec.specs.Vectors.{entry, dot, column, AreOfLength}
-use Rattle.crn_tab.proofs.Rows.{past_end, inside_or, same_rows}
 
 step : (p q t z w v c : ℤ) → z *ℤ t ≡ (p *ℤ w) -ℤ (q *ℤ v) → (z *ℤ c) *ℤ t ≡ (p *ℤ (w *ℤ c)) -ℤ (q *ℤ (v *ℤ c))
 step p q t z w v c e =

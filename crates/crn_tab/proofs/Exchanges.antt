@@ -1,17 +1,16 @@
 -- An exchange of two coordinates: their slots change places, and each row goes over to its new one.
-use Rattle.std.proofs.Common.{◌≡◌, ◌≢◌, ℕ, zero, suc, ◌+◌, ◌-◌, ◌*◌, ◌<◌, ◌≤◌, ◌⊎◌, inl, inr, List, [], ◌∷◌, length, set, refl, sym, ap, subst, ◌∙◌, arith}
-use Rattle.std.specs.Prelude.{ℤ, pos, negsuc, ◌+ℤ◌, ◌-ℤ◌, ◌*ℤ◌, ◌≤ℤ◌, ◌<ℤ◌, slice_index, unsigned_abs}
-use Rattle.std.specs.Int.{◌∣◌}
+use Rattle.std.proofs.Common.{◌≡◌, ◌≢◌, ℕ, zero, suc, ◌+◌, ◌<◌, inl, inr, List, length, sym, ap, ◌∙◌, arith}
+use Rattle.std.specs.Prelude.{ℤ, pos, negsuc, ◌-ℤ◌, ◌*ℤ◌, ◌≤ℤ◌, slice_index}
 use Rattle.std.proofs.lemmas.Int.{ints}
 use Rattle.std.proofs.Math.ListN.{length-set as length-put}
-use lib.IntN.{*ℤ_comm, *ℤ-zero, zero-*ℤ}
-use Rattle.crn_frac.proofs.Whole.{no_zero, pos_pos}
-use Rattle.crn_vec.specs.Vectors.{Mat, entry, AreOfLength}
-use Rattle.crn_vec.specs.Elementary.{width, InDualSpace}
-use Rattle.crn_tab.specs.Entries.{IsContent, Combined, NewRow, put}
-use Rattle.crn_tab.specs.Tab.{slot_entry, spread, basis_of, Placed, IsRowAt}
-use Rattle.crn_tab.proofs.Rows.{past_end, inside_or, lt_or}
-use Rattle.crn_tab.proofs.NewRows.{look, put_same, put_other}
+use lib.IntN.{*ℤ-zero, zero-*ℤ}
+use Rattle.crn_frac.proofs.Whole.{pos_pos}
+use Rattle.crn_vec.specs.Vectors.{Mat, entry}
+use Rattle.crn_vec.specs.Elementary.{width}
+use Rattle.crn_tab.specs.Entries.{IsNewRow, put}
+use Rattle.crn_tab.specs.Tab.{slot_entry, spread, ArePlaced, IsRowAt}
+use Rattle.crn_tab.proofs.Rows.{past_end, lt_or}
+use Rattle.crn_tab.proofs.NewRows.{put_same, put_other}
 use Rattle.crn_tab.proofs.Places.{eq_or, slot_basic, slot_own, slot_none, length-spread, entry-spread}
 use Rattle.crn_tab.proofs.Spaces.{dual_combined}
 
@@ -29,7 +28,7 @@ pub record Differs (n i r c : ℕ) (old lead z : List ℤ) (p q t : ℤ) : Type 
   pub basic : (s : ℕ) → s < n → s ≢ c → entry z s *ℤ t ≡ (p *ℤ entry old s) -ℤ (q *ℤ entry lead s)
   pub own : entry z n *ℤ t ≡ (p *ℤ entry old n) -ℤ (q *ℤ pos 0)
 
-pub differs : (n i r c : ℕ) (old lead z : List ℤ) (h : NewRow n c old lead z) → c < n → length old ≡ n + 1 → length lead ≡ n + 1 → Differs n i r c old lead z h.p h.q h.is.t
+pub differs : (n i r c : ℕ) (old lead z : List ℤ) (h : IsNewRow n c old lead z) → c < n → length old ≡ n + 1 → length lead ≡ n + 1 → Differs n i r c old lead z h.p h.q h.is.t
 differs n i r c old lead z h lt old_long lead_long =
     let p = h.p in
     let q = h.q in
@@ -55,7 +54,7 @@ along p q t z w v z' w' v' e f g h =
 
 -- the same by coordinates
 pub linked : (n count i r c : ℕ) (at order at' : List ℕ) (old lead z : List ℤ) (p q t : ℤ)
-    → Placed n count at order → Swapped c (n + r) at order at' → c < n → n + r < count → i ≢ r → Differs n i r c old lead z p q t
+    → ArePlaced n count at order → Swapped c (n + r) at order at' → c < n → n + r < count → i ≢ r → Differs n i r c old lead z p q t
     → (k : ℕ) → entry (spread n i z at') k *ℤ t ≡ (p *ℤ entry (spread n i old at) k) -ℤ (q *ℤ entry (spread n r lead at') k)
 linked n count i r c at order at' old lead z p q t place swap c_lt r_lt ne d k =
     let W = entry (spread n i z at') k in
@@ -116,8 +115,8 @@ positive_part p old (negsuc z) (negsuc t) hp ho ht e = absurd (omega (arith, int
 
 -- the new row is a row of the tableau after the exchange
 pub new_row_at : (a : Mat) (i r c : ℕ) (at order at' : List ℕ) (old lead z : List ℤ)
-    → Placed a.cols (width a) at order → Swapped c (a.cols + r) at order at' → c < a.cols → r < length a.rows → i ≢ r
-    → IsRowAt a at i old → IsRowAt a at' r lead → NewRow a.cols c old lead z → IsRowAt a at' i z
+    → ArePlaced a.cols (width a) at order → Swapped c (a.cols + r) at order at' → c < a.cols → r < length a.rows → i ≢ r
+    → IsRowAt a at i old → IsRowAt a at' r lead → IsNewRow a.cols c old lead z → IsRowAt a at' i z
 new_row_at a i r c at order at' old lead z place swap c_lt r_lt ne was led made =
     let n = a.cols in
     let d = differs n i r c old lead z made c_lt was.long led.long in

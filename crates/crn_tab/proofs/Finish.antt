@@ -1,21 +1,19 @@
 -- From filled rows to the tableau after an exchange, or to a wide vector.
-use Rattle.std.proofs.Common.{◌≡◌, ◌≢◌, ℕ, zero, suc, ◌+◌, ◌-◌, ◌*◌, ◌/◌, ◌%◌, ◌^◌, ◌<◌, ◌≤◌, ◌⊎◌, inl, inr, List, [], ◌∷◌, length, drop, set, refl, sym, ap, subst, ◌∙◌, arith, lit<}
+use Rattle.std.proofs.Common.{◌≡◌, ◌≢◌, ℕ, ◌+◌, ◌-◌, ◌*◌, ◌/◌, ◌%◌, ◌^◌, ◌<◌, ◌≤◌, inl, inr, List, length, drop, sym, ap, subst, ◌∙◌, arith, lit<}
 use Rattle.std.specs.Prelude.{ℤ, pos, ◌≤ℤ◌, slice_index, unsigned_abs}
-use Rattle.std.proofs.lemmas.Int.{ints}
-use Rattle.std.proofs.lemmas.List.{length-take, length-drop}
-use Rattle.std.proofs.Math.Nat.{div-add-mod, mul_comm, suc-mul, mul-le-mul_right, div-lt_iff_lt-mul}
-use Rattle.crn_vec.specs.Vectors.{Mat, entry, AreOfLength}
+use Rattle.std.proofs.lemmas.List.{length-take}
+use Rattle.std.proofs.Math.Nat.{div-add-mod, mul_comm, div-lt_iff_lt-mul}
+use Rattle.crn_vec.specs.Vectors.{Mat, entry}
 use Rattle.crn_vec.specs.Lists.{IsIn}
-use Rattle.crn_vec.specs.Elementary.{width, IsBasis, IsNamed, WideAt, Exchanged}
-use Rattle.crn_vec.specs.Elementary as vec
-use Rattle.crn_tab.specs.Entries.{AreSmall, IsContent, IsWide, NewRow}
-use Rattle.crn_tab.specs.Tab.{slot_entry, spread, basis_of, row_at, Placed, IsRowAt, IsTableau, IsKeptRow, RowDone, WideRow, Filled, IsLead}
+use Rattle.crn_vec.specs.Elementary.{width, IsBasis, IsNamed, IsWide, WideAt, Exchanged}
+use Rattle.crn_tab.specs.Entries.{AreSmall, IsNewRow}
+use Rattle.crn_tab.specs.Tab.{slot_entry, spread, basis_of, row_at, ArePlaced, IsRowAt, IsTableau, IsKeptRow, IsRowDone, HasWideRow, AreFilled}
 use Rattle.crn_tab.proofs.Rows.{past_end, inside_or, lt_or}
-use Rattle.crn_tab.proofs.Places.{eq_or, slot_basic, slot_own, slot_none, length-spread, entry-spread, basis_only}
+use Rattle.crn_tab.proofs.Places.{eq_or, slot_basic, slot_own, slot_none, length-spread, entry-spread}
 use Rattle.crn_tab.proofs.Flat.{entry-row}
 use Rattle.crn_tab.proofs.Bases.{outside_slot, rows_make_basis, row_is_named, at_own}
-use Rattle.crn_tab.proofs.Exchanges.{Swapped, new_row_at}
-use Rattle.crn_tab.proofs.Slots.{After, after, at_other}
+use Rattle.crn_tab.proofs.Exchanges.{new_row_at}
+use Rattle.crn_tab.proofs.Slots.{After}
 use Rattle.crn_tab.proofs.LeadRow.{lead_at, lead_small_at}
 use Rattle.crn_tab.proofs.Ascending.{same_members}
 
@@ -57,12 +55,12 @@ pub record RowOf (a : Mat) (at' : List ℕ) (i : ℕ) : Type 0 where
   pub row : List ℤ
   pub is : IsRowAt a at' i row
 
-made : (n c : ℕ) (old lead z : List ℤ) → NewRow (n + 1 - 1) c old lead z → NewRow n c old lead z
-made n c old lead z h = let last : n + 1 - 1 ≡ n = omega arith in let N : ℕ → Type 0 = λ k. NewRow k c old lead z in subst N last h
+made : (n c : ℕ) (old lead z : List ℤ) → IsNewRow (n + 1 - 1) c old lead z → IsNewRow n c old lead z
+made n c old lead z h = let last : n + 1 - 1 ≡ n = omega arith in let N : ℕ → Type 0 = λ k. IsNewRow k c old lead z in subst N last h
 
 pub row_after : (a : Mat) (at order at' order' : List ℕ) (rows spare : List ℤ) (r c least i : ℕ) → IsTableau a at order rows → After a.cols (width a) c (a.cols + r) at order at' order'
-    → c < a.cols → r < length a.rows → (f : Filled (a.cols + 1) (length a.rows) c r rows spare order least) → i < length a.rows → (ne : i ≢ r)
-    → (d : RowDone (a.cols + 1) c i rows f.lead spare least (slice_index order (a.cols + 1 - 1 + i))) → IsRowAt a at' i d.z
+    → c < a.cols → r < length a.rows → (f : AreFilled (a.cols + 1) (length a.rows) c r rows spare order least) → i < length a.rows → (ne : i ≢ r)
+    → (d : IsRowDone (a.cols + 1) c i rows f.lead spare least (slice_index order (a.cols + 1 - 1 + i))) → IsRowAt a at' i d.z
 row_after a at order at' order' rows spare r c least i t s c_lt r_lt f i_lt ne d =
     new_row_at a i r c at order at' (row_at (a.cols + 1) rows i) f.lead d.z t.placed s.swapped c_lt r_lt ne (t.each i i_lt)
     (lead_at a r c at order at' (row_at (a.cols + 1) rows r) f.lead t.placed s.swapped c_lt r_lt (t.each r r_lt) f.is)
@@ -70,7 +68,7 @@ row_after a at order at' order' rows spare r c least i t s c_lt r_lt f i_lt ne d
 
 -- all rows fit: the tableau after the exchange
 pub tableau_after : (a : Mat) (at order at' order' : List ℕ) (rows spare : List ℤ) (r c : ℕ) → IsTableau a at order rows → After a.cols (width a) c (a.cols + r) at order at' order'
-    → c < a.cols → r < length a.rows → length spare ≡ length rows → (f : Filled (a.cols + 1) (length a.rows) c r rows spare order (length order))
+    → c < a.cols → r < length a.rows → length spare ≡ length rows → (f : AreFilled (a.cols + 1) (length a.rows) c r rows spare order (length order))
     → row_at (a.cols + 1) spare r ≡ f.lead → IsTableau a at' order' spare
 tableau_after a at order at' order' rows spare r c t s c_lt r_lt same f own =
     let w = a.cols + 1 in
@@ -100,16 +98,16 @@ tableau_after a at order at' order' rows spare r c t s c_lt r_lt same f own =
       small = small_list w (length a.rows) spare (omega arith) (same ∙ t.long) (λ i lt. (fits i lt).1);
     }
 
-spread_wide : (a : Mat) (at order : List ℕ) (i : ℕ) (row : List ℤ) → Placed a.cols (width a) at order → i < length a.rows → length row ≡ a.cols + 1 → IsWide row → vec.IsWide (spread a.cols i row at)
+spread_wide : (a : Mat) (at order : List ℕ) (i : ℕ) (row : List ℤ) → ArePlaced a.cols (width a) at order → i < length a.rows → length row ≡ a.cols + 1 → IsWide row → IsWide (spread a.cols i row at)
 spread_wide a at order i row p lt long (s, big) =
     let n = a.cols in
-    elim (lt_or s n) as (λ _. vec.IsWide (spread n i row at)) [
+    elim (lt_or s n) as (λ _. IsWide (spread n i row at)) [
       | inl low ↦
           let k = slice_index order s in
           let slot : slice_index at k ≡ s = p.back s (omega arith) in
           let e : entry (spread n i row at) k ≡ entry row s = entry-spread n i row at k (omega (arith, p.at_long, p.order_below s (omega arith))) ∙ ap (slot_entry n i row) slot ∙ slot_basic n i row s low in
           (k, omega (arith, big, ap unsigned_abs e))
-      | inr high ↦ elim (lt_or n s) as (λ _. vec.IsWide (spread n i row at)) [
+      | inr high ↦ elim (lt_or n s) as (λ _. IsWide (spread n i row at)) [
         | inl past ↦ absurd (omega (arith, big, ap unsigned_abs (past_end row s (omega arith)), (let z : unsigned_abs (pos 0) < 2 ^ 62 = lit< tt in z)))
         | inr le ↦
             let k = slice_index order (n + i) in
@@ -121,9 +119,9 @@ spread_wide a at order i row p lt long (s, big) =
 
 -- some row is wide: its coordinate names a wide vector in the exchanged basis
 pub wide_after : (a : Mat) (at order at' order' : List ℕ) (rows spare : List ℤ) (r c least : ℕ) → IsTableau a at order rows → After a.cols (width a) c (a.cols + r) at order at' order'
-    → c < a.cols → r < length a.rows → (f : Filled (a.cols + 1) (length a.rows) c r rows spare order least)
+    → c < a.cols → r < length a.rows → (f : AreFilled (a.cols + 1) (length a.rows) c r rows spare order least)
     → ((k : ℕ) → k < width a → k ≢ c → k ≢ (a.cols + r) → slice_index order' k ≡ slice_index order k)
-    → WideRow (a.cols + 1) (length a.rows) c r rows f.lead order least → WideAt a (basis_of a.cols at') least
+    → HasWideRow (a.cols + 1) (length a.rows) c r rows f.lead order least → WideAt a (basis_of a.cols at') least
 wide_after a at order at' order' rows spare r c least t s c_lt r_lt f stays h =
     let n = a.cols in
     let lead_is : IsRowAt a at' r f.lead = lead_at a r c at order at' (row_at (n + 1) rows r) f.lead t.placed s.swapped c_lt r_lt (t.each r r_lt) f.is in
@@ -165,7 +163,7 @@ spread_small n i row at h k =
 
 -- below the least wide coordinate, what is outside the exchanged basis names a small vector
 pub small_before : (a : Mat) (at order at' order' : List ℕ) (rows spare : List ℤ) (r c least k : ℕ) → IsTableau a at order rows → After a.cols (width a) c (a.cols + r) at order at' order'
-    → c < a.cols → r < length a.rows → (f : Filled (a.cols + 1) (length a.rows) c r rows spare order least)
+    → c < a.cols → r < length a.rows → (f : AreFilled (a.cols + 1) (length a.rows) c r rows spare order least)
     → ((s : ℕ) → s < width a → s ≢ c → s ≢ (a.cols + r) → slice_index order' s ≡ slice_index order s)
     → k < width a → ¬ IsIn k (basis_of a.cols at') → k < least → (w : List ℤ) × IsNamed a (basis_of a.cols at') k w × AreSmall w
 small_before a at order at' order' rows spare r c least k t s c_lt r_lt f stays k_lt out lt =

@@ -1,13 +1,13 @@
 -- Where the two coordinates of an exchange stand.
-use Rattle.std.proofs.Common.{◌≡◌, ◌≢◌, ℕ, zero, suc, ◌+◌, ◌-◌, ◌*◌, ◌<◌, ◌≤◌, ◌⊎◌, inl, inr, List, length, set, refl, sym, ap, subst, ◌∙◌, arith}
+use Rattle.std.proofs.Common.{◌≡◌, ◌≢◌, ℕ, ◌+◌, ◌-◌, ◌<◌, ◌≤◌, inl, inr, List, length, set, sym, ap, subst, ◌∙◌, arith}
 use Rattle.std.specs.Prelude.{ℤ, pos, slice_index}
 use Rattle.crn_vec.specs.Vectors.{Mat, entry}
 use Rattle.crn_vec.specs.Lists.{IsIn}
 use Rattle.crn_vec.specs.Elementary.{width, IsBasis, IsNamed, WideAt, Exchanged}
-use Rattle.crn_tab.specs.Tab.{spread, basis_of, row_at, Placed, IsTableau, Filled, WideRow}
+use Rattle.crn_tab.specs.Tab.{spread, basis_of, row_at, IsTableau, AreFilled}
 use Rattle.crn_tab.proofs.Places.{basis_only, entry-spread, slot_basic}
 use Rattle.crn_tab.proofs.Bases.{outside_slot, rows_make_basis, row_is_named}
-use Rattle.crn_tab.proofs.Slots.{After, after, at_other, wrote}
+use Rattle.crn_tab.proofs.Slots.{After, after, wrote}
 use Rattle.crn_tab.proofs.Signs.{no_wide, small_name}
 use Rattle.crn_tab.proofs.Finish.{tableau_after, wide_after, small_before, exchanged_one}
 
@@ -66,16 +66,16 @@ exchanged_here a at order at' order' leave enter c r h s =
     subst B h.enters (subst A h.leaves s.exchanged)
 
 pub ok_here : (a : Mat) (at order : List ℕ) (rows spare : List ℤ) (leave enter c r least : ℕ) → IsTableau a at order rows → Here a at order leave enter c r → length spare ≡ length rows
-    → Filled (a.cols + 1) (length a.rows) c r rows spare order least → least ≡ width a
+    → AreFilled (a.cols + 1) (length a.rows) c r rows spare order least → least ≡ width a
     → IsTableau a (set (set at leave (a.cols + r)) enter c) (set (set order c enter) (a.cols + r) leave) spare × Exchanged (basis_of a.cols at) leave enter (basis_of a.cols (set (set at leave (a.cols + r)) enter c))
     × ((k : ℕ) → ¬ IsIn k (basis_of a.cols (set (set at leave (a.cols + r)) enter c)) → ¬ WideAt a (basis_of a.cols (set (set at leave (a.cols + r)) enter c)) k)
 ok_here a at order rows spare leave enter c r least t h same f e =
     let at' = set (set at leave (a.cols + r)) enter c in
     let order' = set (set order c enter) (a.cols + r) leave in
     let s = after_here a at order rows leave enter c r t h in
-    let F : ℕ → Type 0 = λ l. Filled (a.cols + 1) (length a.rows) c r rows spare order l in
+    let F : ℕ → Type 0 = λ l. AreFilled (a.cols + 1) (length a.rows) c r rows spare order l in
     let all : least ≡ length order = e ∙ sym t.placed.order_long in
-    let g : Filled (a.cols + 1) (length a.rows) c r rows spare order (length order) = subst F all f in
+    let g : AreFilled (a.cols + 1) (length a.rows) c r rows spare order (length order) = subst F all f in
     let own : row_at (a.cols + 1) spare r ≡ g.lead = elim g.last [
       | inl k ↦ k.1
       | inr k ↦ absurd (omega (arith, k.own, k.inside, t.placed.order_long, t.placed.order_below (a.cols + 1 - 1 + k.i) (omega (arith, k.inside))))
@@ -84,7 +84,7 @@ ok_here a at order rows spare leave enter c r least t h same f e =
     (next, exchanged_here a at order at' order' leave enter c r h s, λ k out. no_wide a at' order' spare k next out)
 
 pub wide_here : (a : Mat) (at order : List ℕ) (rows spare : List ℤ) (leave enter c r least : ℕ) → IsTableau a at order rows → Here a at order leave enter c r
-    → Filled (a.cols + 1) (length a.rows) c r rows spare order least → least < width a → (next : List ℕ) → Exchanged (basis_of a.cols at) leave enter next → WideAt a next least
+    → AreFilled (a.cols + 1) (length a.rows) c r rows spare order least → least < width a → (next : List ℕ) → Exchanged (basis_of a.cols at) leave enter next → WideAt a next least
 wide_here a at order rows spare leave enter c r least t h f lt next ex =
     let n = a.cols in
     let at' = set (set at leave (n + r)) enter c in
@@ -99,7 +99,7 @@ wide_here a at order rows spare leave enter c r least t h f lt next ex =
     ]
 
 pub least_here : (a : Mat) (at order : List ℕ) (rows spare : List ℤ) (leave enter c r least : ℕ) → IsTableau a at order rows → Here a at order leave enter c r
-    → Filled (a.cols + 1) (length a.rows) c r rows spare order least → least < width a → (next : List ℕ) → Exchanged (basis_of a.cols at) leave enter next
+    → AreFilled (a.cols + 1) (length a.rows) c r rows spare order least → least < width a → (next : List ℕ) → Exchanged (basis_of a.cols at) leave enter next
     → (k : ℕ) → k < least → ¬ IsIn k next → ¬ WideAt a next k
 least_here a at order rows spare leave enter c r least t h f lt next ex k k_lt out wide =
     let n = a.cols in

@@ -1,15 +1,15 @@
 -- The exchanged row in its new places.
-use Rattle.std.proofs.Common.{◌≡◌, ◌≢◌, ℕ, zero, suc, ◌+◌, ◌-◌, ◌*◌, ◌^◌, ◌<◌, ◌≤◌, ◌⊎◌, inl, inr, List, [], ◌∷◌, length, refl, sym, ap, subst, ◌∙◌, arith, lit<}
-use Rattle.std.specs.Prelude.{ℤ, pos, negsuc, ◌+ℤ◌, ◌-ℤ◌, ◌*ℤ◌, ◌≤ℤ◌, ◌<ℤ◌, slice_index, unsigned_abs}
+use Rattle.std.proofs.Common.{◌≡◌, ◌≢◌, ℕ, ◌+◌, ◌-◌, ◌<◌, ◌⊎◌, inl, inr, List, length, sym, ap, subst, ◌∙◌, arith}
+use Rattle.std.specs.Prelude.{ℤ, pos, negsuc, ◌-ℤ◌, ◌*ℤ◌, ◌≤ℤ◌, slice_index, unsigned_abs}
 use Rattle.std.specs.Int.{◌∣◌}
-use Rattle.std.proofs.lemmas.Int.{ints, unsigned_abs-mul}
+use Rattle.std.proofs.lemmas.Int.{ints}
 use Rattle.std.proofs.Math.Nat.{one-dvd}
-use lib.IntN.{*ℤ_comm, *ℤ-zero, zero-*ℤ}
-use Rattle.crn_vec.specs.Vectors.{Mat, entry, AreOfLength}
-use Rattle.crn_vec.specs.Elementary.{width, InDualSpace}
+use lib.IntN.{*ℤ-zero, zero-*ℤ}
+use Rattle.crn_vec.specs.Vectors.{Mat, entry}
+use Rattle.crn_vec.specs.Elementary.{width}
 use Rattle.crn_tab.specs.Entries.{IsContent, AreSmall}
-use Rattle.crn_tab.specs.Tab.{slot_entry, spread, basis_of, Placed, IsRowAt, IsLead}
-use Rattle.crn_tab.proofs.Rows.{past_end, inside_or, lt_or}
+use Rattle.crn_tab.specs.Tab.{slot_entry, spread, ArePlaced, IsRowAt, IsLead}
+use Rattle.crn_tab.proofs.Rows.{past_end, lt_or}
 use Rattle.crn_tab.proofs.Places.{eq_or, slot_basic, slot_own, slot_none, length-spread, entry-spread}
 use Rattle.crn_tab.proofs.Spaces.{dual_combined}
 use Rattle.crn_tab.proofs.Exchanges.{Swapped}
@@ -49,7 +49,7 @@ lead_content n c row lead h content = record {
 
 -- the exchanged row is a row of the tableau after the exchange
 pub lead_at : (a : Mat) (r c : ℕ) (at order at' : List ℕ) (row lead : List ℤ)
-    → Placed a.cols (width a) at order → Swapped c (a.cols + r) at order at' → c < a.cols → r < length a.rows
+    → ArePlaced a.cols (width a) at order → Swapped c (a.cols + r) at order at' → c < a.cols → r < length a.rows
     → IsRowAt a at r row → IsLead (a.cols + 1) c row lead → IsRowAt a at' r lead
 lead_at a r c at order at' row lead place swap c_lt r_lt was h =
     let n = a.cols in

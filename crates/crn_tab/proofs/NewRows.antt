@@ -1,13 +1,12 @@
 -- The new row of an exchange, from its difference.
-use Rattle.std.proofs.Common.{◌≡◌, ◌≢◌, ℕ, zero, suc, ◌+◌, ◌-◌, ◌*◌, ◌^◌, ◌<◌, ◌≤◌, ◌⊎◌, inl, inr, List, [], ◌∷◌, length, set, refl, sym, ap, subst, ◌∙◌, arith}
-use Rattle.std.specs.Prelude.{ℤ, pos, ◌+ℤ◌, ◌-ℤ◌, ◌*ℤ◌, ◌≤ℤ◌, ◌<ℤ◌, unsigned_abs}
-use Rattle.std.specs.Int.{◌∣◌}
-use Rattle.std.proofs.lemmas.Int.{ints, unsigned_abs-mul}
+use Rattle.std.proofs.Common.{◌≡◌, ◌≢◌, ℕ, zero, suc, ◌+◌, ◌-◌, ◌<◌, ◌⊎◌, inl, inr, List, [], ◌∷◌, length, refl, sym, ap, subst, ◌∙◌, arith}
+use Rattle.std.specs.Prelude.{ℤ, pos, ◌-ℤ◌, ◌*ℤ◌, ◌≤ℤ◌, ◌<ℤ◌}
+use Rattle.std.proofs.lemmas.Int.{ints}
 use Rattle.std.proofs.Math.ListN.{length-set}
 use lib.IntN.{*ℤ-zero, zero-*ℤ, *ℤ_comm}
 use Rattle.crn_frac.proofs.Whole.{pos_pos}
-use Rattle.crn_tab.specs.Entries.{entry, put, AreSmall, IsContent, Combined, NewRow}
-use Rattle.crn_tab.proofs.Rows.{past_end, inside_or, same_rows}
+use Rattle.crn_tab.specs.Entries.{entry, put, IsContent, IsCombined, IsNewRow}
+use Rattle.crn_tab.proofs.Rows.{same_rows}
 
 -- a place is the written one or as before
 pub look : (v : List ℤ) (c k : ℕ) (x : ℤ) → c < length v → ((k ≡ c) × (entry (put v c x) k ≡ x)) ⊎ ((k ≢ c) × (entry (put v c x) k ≡ entry v k))
@@ -42,7 +41,7 @@ one_zero : (a b : ℤ) → a *ℤ pos 1 ≡ (pos 1 *ℤ a) -ℤ (pos 0 *ℤ b)
 one_zero a b = omega (arith, ints, zero-*ℤ b)
 
 -- where the leaving coordinate is not in the row, the row stays
-pub new_row_none : (n c : ℕ) (old lead : List ℤ) → c < length old → entry old c ≡ pos 0 → IsContent old 1 → NewRow n c old lead old
+pub new_row_none : (n c : ℕ) (old lead : List ℤ) → c < length old → entry old c ≡ pos 0 → IsContent old 1 → IsNewRow n c old lead old
 new_row_none n c old lead lt e h = record {
   p = pos 1;
   q = pos 0;
@@ -58,10 +57,10 @@ new_row_none n c old lead lt e h = record {
 }
 
 pub new_row_some : (n c : ℕ) (old lead z : List ℤ) (p q : ℤ) → n < length lead → entry lead n ≡ pos 0 → pos 1 ≤ℤ p → q ≡ entry old c
-    → Combined p q (put old c (pos 0)) lead z → NewRow n c old (put lead n p) z
+    → IsCombined p q (put old c (pos 0)) lead z → IsNewRow n c old (put lead n p) z
 new_row_some n c old lead z p q lt e some eq h =
     let same : put (put lead n p) n (pos 0) ≡ lead = put_twice lead n p lt e in
-    let C : List ℤ → Type 0 = λ l. Combined p q (put old c (pos 0)) l z in
+    let C : List ℤ → Type 0 = λ l. IsCombined p q (put old c (pos 0)) l z in
     record {
       p = p;
       q = q;

@@ -1,8 +1,8 @@
 -- A system of homogeneous equations has a solution that is not zero, or only zero, and then no more unknowns than equations.
-use Rattle.std.proofs.Common.{◌≡◌, ◌≢◌, ℕ, ◌+◌, ◌*◌, ◌≤◌, ◌<◌, ℤ, pos, negsuc, ◌+ℤ◌, ◌-ℤ◌, ◌*ℤ◌, neg_ℤ, ◌⊎◌, inl, inr, arith, List, [], ◌∷◌, ◌++◌, ap, subst, refl, suc, zero, length, sym, ◌∙◌}
+use Rattle.std.proofs.Common.{◌≡◌, ℕ, ◌≤◌, ℤ, pos, negsuc, ◌+ℤ◌, ◌-ℤ◌, ◌*ℤ◌, neg_ℤ, ◌⊎◌, inl, inr, arith, List, [], ◌∷◌, ap, refl, suc, zero, length}
 use Rattle.std.proofs.lemmas.Int.{ints}
 use lib.IntN.{*ℤ_comm, *ℤ-zero}
-use Rattle.crn_frac.proofs.Whole.{no_zero, distrib, distrib-right, assoc, left-comm, mul-neg}
+use Rattle.crn_frac.proofs.Whole.{no_zero, distrib, left-comm, mul-neg}
 use Rattle.crn_vec.specs.Vectors.{dot, AreOfLength}
 use Rattle.crn_tab.proofs.Dots.{scale, plus, zeros, dot-scale, dot-plus, length-scale, length-plus, length-zeros}
 

@@ -1,7 +1,8 @@
 -- Slots and coordinates.
-use Rattle.std.proofs.Common.{◌≡◌, ◌≢◌, ℕ, zero, suc, ◌+◌, ◌-◌, ◌*◌, ◌<◌, ◌≤◌, ◌⊎◌, inl, inr, List, [], ◌∷◌, length, get_or, set, map, take, ◌++◌, add-one, refl, sym, ap, subst, ◌∙◌, arith, Bool, true, false, nat_lt, nat_eq}
+use Rattle.std.proofs.Common.{◌≡◌, ◌≢◌, ℕ, zero, suc, ◌+◌, ◌<◌, ◌≤◌, ◌⊎◌, inl, inr, List, [], ◌∷◌, length, map, take, ◌++◌, add-one, refl, ap, subst, ◌∙◌, arith, Bool, true, false, nat_lt, nat_eq}
 use Rattle.std.specs.Prelude.{ℤ, pos, slice_index}
 use Rattle.std.proofs.lemmas.Bool.Decides.{nat_tests}
+use Rattle.std.proofs.lemmas.List.{append-nil}
 use Rattle.crn_vec.specs.Vectors.{entry}
 use Rattle.crn_vec.specs.Lists.{IsIn, IsAbove, IsAscending}
 use Rattle.crn_tab.specs.Tab.{choose, slot_entry, spread, basis_from, basis_of}
@@ -110,3 +111,23 @@ spread_suc f (s ∷ at) (suc k) h = ap (λ (v : List ℤ). f s ∷ v) (spread_su
 
 pub spread_step : (f : ℕ → ℤ) (at : List ℕ) (k : ℕ) → k < length at → map f (take (k + 1) at) ≡ map f (take k at) ++ (f (slice_index at k) ∷ [])
 spread_step f at k h = rw add-one (spread_suc f at k h)
+
+basis_more : (b : Bool) (j : ℕ) (long short more : List ℕ) → long ≡ short ++ more → choose b (j ∷ long) long ≡ choose b (j ∷ short) short ++ more
+basis_more true j long short more e = ap (λ (v : List ℕ). j ∷ v) e
+basis_more false j long short more e = e
+
+basis_suc : (j n : ℕ) (at : List ℕ) (k : ℕ) → k < length at → basis_from j n (take (suc k) at) ≡ basis_from j n (take k at) ++ choose (nat_lt (slice_index at k) n) ((j + k) ∷ []) []
+basis_suc j n [] k h = absurd (omega arith)
+basis_suc j n (s ∷ at) zero h = ap (λ i. choose (nat_lt s n) (i ∷ []) []) (let e : j ≡ j + 0 = omega arith in e)
+basis_suc j n (s ∷ at) (suc k) h =
+    let rest : basis_from (suc j) n (take (suc k) at) ≡ basis_from (suc j) n (take k at) ++ choose (nat_lt (slice_index at k) n) ((j + suc k) ∷ []) [] =
+    basis_suc (suc j) n at k (omega arith) ∙ ap (λ i. basis_from (suc j) n (take k at) ++ choose (nat_lt (slice_index at k) n) (i ∷ []) []) (let e : suc j + k ≡ j + suc k = omega arith in e) in
+    basis_more (nat_lt s n) j (basis_from (suc j) n (take (suc k) at)) (basis_from (suc j) n (take k at)) (choose (nat_lt (slice_index at k) n) ((j + suc k) ∷ []) []) rest
+
+-- one more coordinate joins the basis where its slot is below n
+pub basis_joins : (n : ℕ) (at : List ℕ) (k : ℕ) → k < length at → slice_index at k < n → basis_of n (take (k + 1) at) ≡ basis_of n (take k at) ++ (k ∷ [])
+basis_joins n at k h lt = rw add-one (basis_suc 0 n at k h ∙ ap (λ b. basis_of n (take k at) ++ choose b ((0 + k) ∷ []) []) (lt_true (slice_index at k) n lt)
+    ∙ ap (λ i. basis_of n (take k at) ++ (i ∷ [])) (let e : 0 + k ≡ k = omega arith in e))
+
+pub basis_stays : (n : ℕ) (at : List ℕ) (k : ℕ) → k < length at → n ≤ slice_index at k → basis_of n (take (k + 1) at) ≡ basis_of n (take k at)
+basis_stays n at k h le = rw add-one (basis_suc 0 n at k h ∙ ap (λ b. basis_of n (take k at) ++ choose b ((0 + k) ∷ []) []) (lt_false (slice_index at k) n le) ∙ append-nil (basis_of n (take k at)))

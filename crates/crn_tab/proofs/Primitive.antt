@@ -1,11 +1,11 @@
--- IsPrimitive rows: a row divided by its content.
-use Rattle.std.proofs.Common.{◌≡◌, ◌≢◌, ℕ, zero, suc, ◌+◌, ◌-◌, ◌*◌, ◌^◌, ◌<◌, ◌≤◌, ◌⊎◌, inl, inr, List, [], ◌∷◌, length, refl, sym, ap, subst, ◌∙◌, arith}
-use Rattle.std.specs.Prelude.{ℤ, pos, ◌+ℤ◌, ◌-ℤ◌, ◌*ℤ◌, ◌≤ℤ◌, unsigned_abs}
+-- Primitive rows: a row divided by its content.
+use Rattle.std.proofs.Common.{◌≡◌, ◌≢◌, ℕ, ◌*◌, ◌<◌, ◌≤◌, inl, inr, List, length, sym, ap, subst, ◌∙◌, arith}
+use Rattle.std.specs.Prelude.{ℤ, pos, ◌-ℤ◌, ◌*ℤ◌, ◌≤ℤ◌, unsigned_abs}
 use Rattle.std.specs.Int.{◌∣◌}
 use Rattle.std.proofs.lemmas.Int.{ints, unsigned_abs-mul}
 use Rattle.std.proofs.Math.Nat.{one-dvd, one-mul, mul-dvd-mul_right, dvd_of_mul-dvd-mul_right, pos_of_dvd_of_pos}
 use lib.IntN.{*ℤ-zero, zero-*ℤ}
-use Rattle.crn_tab.specs.Entries.{entry, AreSmall, IsContent, Combined}
+use Rattle.crn_tab.specs.Entries.{entry, IsContent, IsCombined}
 use Rattle.crn_tab.proofs.Rows.{past_end, inside_or}
 
 pub abs_some : (x : ℤ) → x ≢ pos 0 → 1 ≤ unsigned_abs x
@@ -35,7 +35,7 @@ no_times z t e = ap (λ (s : ℤ). s *ℤ t) e ∙ zero-*ℤ t
 -- the products u, divided by their content, are the primitive difference
 pub combined_of : (p q : ℤ) (w v u z : List ℤ) (t : ℤ) → length v ≡ length w → length u ≡ length w → length z ≡ length w
     → ((k : ℕ) → k < length w → entry u k ≡ (p *ℤ entry w k) -ℤ (q *ℤ entry v k))
-    → IsContent u (unsigned_abs t) → pos 1 ≤ℤ t → ((k : ℕ) → k < length w → entry z k *ℤ t ≡ entry u k) → Combined p q w v z
+    → IsContent u (unsigned_abs t) → pos 1 ≤ℤ t → ((k : ℕ) → k < length w → entry z k *ℤ t ≡ entry u k) → IsCombined p q w v z
 combined_of p q w v u z t ev eu ez value content some divided =
     let all : (k : ℕ) → entry u k ≡ (p *ℤ entry w k) -ℤ (q *ℤ entry v k) = λ k. elim (inside_or w k) [
       | inl lt ↦ value k lt

@@ -1,22 +1,22 @@
 -- Two primitive vectors of one name have the same entries up to sign, so a kept basis has no wide row.
-use Rattle.std.proofs.Common.{◌≡◌, ◌≢◌, ℕ, zero, suc, ◌+◌, ◌-◌, ◌*◌, ◌/◌, ◌%◌, ◌^◌, ◌<◌, ◌≤◌, ◌⊎◌, inl, inr, List, [], ◌∷◌, length, refl, sym, ap, subst, ◌∙◌, arith}
-use Rattle.std.specs.Prelude.{ℤ, pos, negsuc, ◌+ℤ◌, ◌-ℤ◌, ◌*ℤ◌, neg_ℤ, unsigned_abs, slice_index}
+use Rattle.std.proofs.Common.{◌≡◌, ℕ, zero, suc, ◌+◌, ◌-◌, ◌*◌, ◌/◌, ◌%◌, ◌<◌, ◌≤◌, ◌⊎◌, inl, inr, List, [], ◌∷◌, length, refl, sym, ap, subst, ◌∙◌, arith}
+use Rattle.std.specs.Prelude.{ℤ, pos, negsuc, ◌-ℤ◌, ◌*ℤ◌, unsigned_abs, slice_index}
 use Rattle.std.specs.Int.{IsGcd, ◌∣◌}
 use Rattle.std.proofs.lemmas.Int.{ints, unsigned_abs-mul}
-use Rattle.std.proofs.lemmas.Nat.Gcd.{IsGcd-from_zero, IsGcd-from_mod, dvd_antisymm, dvd_trans, dvd-zero}
-use Rattle.std.proofs.Math.Nat.{dvd-mul_left, dvd-mul_right, div-mul_cancel, dvd_of_mul-dvd-mul_right, mul_comm, mul_assoc, pos_of_dvd_of_pos, one-mul, eq_of_mul-eq-mul_left}
-use lib.IntN.{*ℤ_comm, *ℤ-zero, zero-*ℤ}
+use Rattle.std.proofs.lemmas.Nat.Gcd.{IsGcd-from_zero, IsGcd-from_mod, dvd_antisymm, dvd-zero}
+use Rattle.std.proofs.Math.Nat.{dvd-mul_left, dvd-mul_right, div-mul_cancel, dvd_of_mul-dvd-mul_right, mul_comm, pos_of_dvd_of_pos, one-mul, eq_of_mul-eq-mul_left}
+use lib.IntN.{*ℤ_comm, *ℤ-zero}
 use Rattle.crn_frac.proofs.Divisors.{common}
 use Rattle.crn_vec.specs.Vectors.{Mat, entry, AreOfLength}
 use Rattle.crn_vec.specs.Lists.{IsIn}
-use Rattle.crn_vec.specs.Elementary.{width, InRowSpace, InDualSpace, IsBasis, IsPrimitive, IsNamed, IsNamedRow, WideAt}
+use Rattle.crn_vec.specs.Elementary.{width, InDualSpace, IsBasis, IsPrimitive, IsNamed, IsNamedRow, WideAt}
 use Rattle.crn_tab.specs.Entries.{AreSmall}
 use Rattle.crn_tab.specs.Tab.{basis_of, row_at, spread, IsTableau}
-use Rattle.crn_tab.proofs.Rows.{past_end, inside_or, lt_or}
-use Rattle.crn_tab.proofs.Places.{eq_or, isIn_or}
+use Rattle.crn_tab.proofs.Rows.{lt_or}
+use Rattle.crn_tab.proofs.Places.{eq_or}
 use Rattle.crn_tab.proofs.Spaces.{dual_combined}
 use Rattle.crn_tab.proofs.Unique.{dual_none}
-use Rattle.crn_tab.proofs.RowVector.{IsRowOf, row_of}
+use Rattle.crn_tab.proofs.RowVector.{row_of}
 
 gcd_by : (k a b : ℕ) → b ≤ k → (g : ℕ) × IsGcd a b g
 gcd_by k a zero h = (a, IsGcd-from_zero a 0 refl)

@@ -1,10 +1,9 @@
 -- The slots after an exchange.
-use Rattle.std.proofs.Common.{◌≡◌, ◌≢◌, ℕ, zero, suc, ◌+◌, ◌-◌, ◌*◌, ◌<◌, ◌≤◌, ◌⊎◌, inl, inr, List, [], ◌∷◌, length, set, refl, sym, ap, subst, ◌∙◌, arith, Bool, true, false, nat_lt}
-use Rattle.std.specs.Prelude.{slice_index, ◌↔◌}
+use Rattle.std.proofs.Common.{◌≡◌, ◌≢◌, ℕ, zero, suc, ◌+◌, ◌<◌, ◌≤◌, ◌⊎◌, inl, inr, List, [], ◌∷◌, length, set, refl, sym, ap, ◌∙◌, arith, Bool, true, false, nat_lt}
+use Rattle.std.specs.Prelude.{slice_index}
 use Rattle.std.proofs.Math.ListN.{length-set}
-use Rattle.crn_vec.specs.Lists.{IsIn}
 use Rattle.crn_vec.specs.Elementary.{Exchanged}
-use Rattle.crn_tab.specs.Tab.{choose, basis_from, basis_of, Placed}
+use Rattle.crn_tab.specs.Tab.{choose, basis_from, basis_of, ArePlaced}
 use Rattle.crn_tab.proofs.Places.{eq_or, lt_true, lt_false, in_basis, basis_only, basis_ascending}
 use Rattle.crn_tab.proofs.Exchanges.{Swapped}
 
@@ -74,10 +73,10 @@ count_kept n at b e s c hb he ne at_b at_e c_lt s_le =
 
 pub record After (n count c s : ℕ) (at order at' order' : List ℕ) : Type 0 where
   pub swapped : Swapped c s at order at'
-  pub placed : Placed n count at' order'
+  pub placed : ArePlaced n count at' order'
   pub exchanged : Exchanged (basis_of n at) (slice_index order c) (slice_index order s) (basis_of n at')
 
-pub after : (n count c s : ℕ) (at order : List ℕ) → Placed n count at order → c < n → n ≤ s → s < count
+pub after : (n count c s : ℕ) (at order : List ℕ) → ArePlaced n count at order → c < n → n ≤ s → s < count
     → After n count c s at order (set (set at (slice_index order c) s) (slice_index order s) c) (set (set order c (slice_index order s)) s (slice_index order c))
 after n count c s at order p c_lt s_le s_lt =
     let b = slice_index order c in

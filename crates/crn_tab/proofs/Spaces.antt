@@ -1,15 +1,14 @@
 -- The spaces of (x, Ax) and of (-uA, u).
-use Rattle.std.proofs.Common.{◌≡◌, ◌≢◌, ℕ, zero, suc, ◌+◌, ◌-◌, ◌*◌, ◌<◌, ◌≤◌, ◌⊎◌, inl, inr, List, [], ◌∷◌, ◌++◌, length, get_or, take, drop, refl, sym, ap, subst, ◌∙◌, arith}
-use Rattle.std.specs.Prelude.{ℤ, pos, negsuc, ◌+ℤ◌, ◌-ℤ◌, ◌*ℤ◌, neg_ℤ, ◌≤ℤ◌, ◌<ℤ◌}
+use Rattle.std.proofs.Common.{◌≡◌, ◌≢◌, ℕ, ◌+◌, List, length, take, drop, sym, ap, ◌∙◌, arith}
+use Rattle.std.specs.Prelude.{ℤ, pos, ◌+ℤ◌, ◌-ℤ◌, ◌*ℤ◌, neg_ℤ}
 use Rattle.std.proofs.lemmas.Int.{ints}
 use Rattle.std.proofs.lemmas.List.{get_or-take, get_or-drop, length-take-le, length-drop}
-use lib.IntN.{*ℤ_comm, *ℤ-zero, zero-*ℤ}
-use Rattle.crn_frac.proofs.Whole.{distrib, distrib-right, assoc, mul-neg, mul-sub, left-comm, no_zero}
+use lib.IntN.{*ℤ_comm}
+use Rattle.crn_frac.proofs.Whole.{distrib, mul-neg, no_zero}
 use Rattle.crn_vec.specs.Vectors.{Mat, entry, dot, column, AreOfLength}
-use Rattle.crn_vec.specs.Lists.{IsIn}
-use Rattle.crn_vec.specs.Elementary.{width, InRowSpace, InDualSpace, IsBasis}
-use Rattle.crn_tab.proofs.Rows.{past_end, inside_or, same_rows}
-use Rattle.crn_tab.proofs.Dots.{dot_combined, dot_split, dot_single, dot_opposite, comb, dots, length-comb, transposed, entry-comb, entry-dots, length-dots}
+use Rattle.crn_vec.specs.Elementary.{InRowSpace, InDualSpace}
+use Rattle.crn_tab.proofs.Rows.{same_rows}
+use Rattle.crn_tab.proofs.Dots.{dot_combined, dot_split, dot_opposite, comb, dots, length-comb, transposed, entry-comb, entry-dots, length-dots}
 
 opposite : (p q t z w v dz dw dv : ℤ) → t ≢ pos 0 → z *ℤ t ≡ (p *ℤ w) -ℤ (q *ℤ v) → dz *ℤ t ≡ (p *ℤ dw) -ℤ (q *ℤ dv) → w ≡ neg_ℤ dw → v ≡ neg_ℤ dv → z ≡ neg_ℤ dz
 opposite p q t z w v dz dw dv ne e f g h =

@@ -1,19 +1,19 @@
 -- A basis and a coordinate outside it name one vector, up to its sign.
-use Rattle.std.proofs.Common.{◌≡◌, ◌≢◌, ℕ, zero, suc, ◌+◌, ◌-◌, ◌*◌, ◌<◌, ◌≤◌, ◌⊎◌, inl, inr, List, [], ◌∷◌, ◌++◌, length, get_or, take, drop, refl, sym, ap, subst, ◌∙◌, arith}
-use Rattle.std.specs.Prelude.{ℤ, pos, negsuc, ◌+ℤ◌, ◌-ℤ◌, ◌*ℤ◌, neg_ℤ, unsigned_abs, slice_index_or}
-use Rattle.std.proofs.lemmas.Int.{ints, unsigned_abs-mul}
-use Rattle.std.proofs.lemmas.List.{get_or-take, get_or-drop, length-take-le, length-drop, length-append, get_or-append-add, get_or_append_left}
+use Rattle.std.proofs.Common.{◌≡◌, ◌≢◌, ℕ, zero, suc, ◌+◌, ◌-◌, ◌<◌, ◌≤◌, ◌⊎◌, inl, inr, List, [], ◌∷◌, ◌++◌, length, get_or, take, refl, sym, ap, ◌∙◌, arith}
+use Rattle.std.specs.Prelude.{ℤ, pos, ◌*ℤ◌}
+use Rattle.std.proofs.lemmas.Int.{ints}
+use Rattle.std.proofs.lemmas.List.{length-append, get_or-append-add, get_or_append_left}
 use Rattle.std.proofs.Math.Seq.{take-append_seam}
 use lib.IntN.{*ℤ_comm, *ℤ-zero, zero-*ℤ}
-use Rattle.crn_frac.proofs.Whole.{no_zero, distrib, mul-neg}
-use Rattle.crn_vec.specs.Vectors.{Mat, entry, dot, column, AreOfLength}
-use Rattle.crn_vec.specs.Lists.{IsIn, IsAscending, IsAbove}
-use Rattle.crn_vec.specs.Elementary.{width, InRowSpace, InDualSpace, IsBasis, IsPrimitive, IsNamed, IsNamedRow, IsNamedColumn, IsWide, WideAt}
-use Rattle.crn_tab.proofs.Rows.{past_end, inside_or, lt_or, same_rows}
+use Rattle.crn_frac.proofs.Whole.{no_zero}
+use Rattle.crn_vec.specs.Vectors.{Mat, entry, dot, AreOfLength}
+use Rattle.crn_vec.specs.Lists.{IsIn}
+use Rattle.crn_vec.specs.Elementary.{width, InRowSpace, InDualSpace, IsBasis}
+use Rattle.crn_tab.proofs.Rows.{lt_or}
 use Rattle.crn_tab.proofs.Places.{eq_or, isIn_or}
 use Rattle.crn_tab.proofs.Dots.{zeros, length-zeros, dots, length-dots, entry-dots, dot_single}
-use Rattle.crn_tab.proofs.Spaces.{orthogonal, dual_combined}
-use Rattle.crn_tab.proofs.Null.{Zero, Solves, Free, Fixed, null}
+use Rattle.crn_tab.proofs.Spaces.{orthogonal}
+use Rattle.crn_tab.proofs.Null.{Zero, Solves, null}
 
 -- the list of n entries that is 1 at j alone
 abbrev pub unit : ℕ → ℕ → List ℤ

@@ -1,14 +1,12 @@
 -- Entries of rows, and the primitive difference of two rows.
-use Rattle.std.specs.Prelude.{◌≡◌, ◌≢◌, ◌≤◌, ◌<◌, ◌^◌, ℕ, ℤ, pos, ◌≤ℤ◌, ◌-ℤ◌, ◌*ℤ◌, ◌⊎◌, unsigned_abs, List, length, slice_index_or, slice_set, Bool, true, false}
+use Rattle.std.specs.Prelude.{◌≡◌, ◌<◌, ◌^◌, ℕ, ℤ, pos, ◌≤ℤ◌, ◌-ℤ◌, ◌*ℤ◌, unsigned_abs, List, length, slice_set, Bool, true, false}
 use Rattle.std.specs.Int.{◌∣◌}
 pub use Rattle.crn_vec.specs.Vectors.{entry}
+use Rattle.crn_vec.specs.Elementary.{IsWide}
 
 -- each entry is below 2 ^ 62 in absolute value
 abbrev pub AreSmall : List ℤ → Type 0
 AreSmall v = (k : ℕ) → unsigned_abs (entry v k) < 2 ^ 62
-
-abbrev pub IsWide : List ℤ → Type 0
-IsWide v = (k : ℕ) × (2 ^ 62 ≤ unsigned_abs (entry v k))
 
 -- g is the greatest common divisor of the entries
 pub record IsContent (v : List ℤ) (g : ℕ) : Type 0 where
@@ -16,7 +14,7 @@ pub record IsContent (v : List ℤ) (g : ℕ) : Type 0 where
   pub greatest : (d : ℕ) → ((k : ℕ) → d ∣ unsigned_abs (entry v k)) → d ∣ g
 
 -- z is p w - q v, divided by a number, and primitive
-pub record Combined (p q : ℤ) (w v z : List ℤ) : Type 0 where
+pub record IsCombined (p q : ℤ) (w v z : List ℤ) : Type 0 where
   pub t : ℤ
   pub some : pos 1 ≤ℤ t
   pub long : length z ≡ length w
@@ -34,9 +32,9 @@ put v k x = slice_set v k x
 
 -- z is the new row of old: a difference that takes lead's coordinate out, in the new places.
 -- Place c of lead is that of the entering coordinate, which old doesn't have; place n, the last, is that of the leaving one, which lead alone has.
-pub record NewRow (n c : ℕ) (old lead z : List ℤ) : Type 0 where
+pub record IsNewRow (n c : ℕ) (old lead z : List ℤ) : Type 0 where
   pub p : ℤ
   pub q : ℤ
   pub some : pos 1 ≤ℤ p
   pub gone : p *ℤ entry old c ≡ q *ℤ entry lead n
-  pub is : Combined p q (put old c (pos 0)) (put lead n (pos 0)) z
+  pub is : IsCombined p q (put old c (pos 0)) (put lead n (pos 0)) z

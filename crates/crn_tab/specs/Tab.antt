@@ -1,9 +1,10 @@
 -- What a tableau keeps of a matrix with n columns and m rows.
 -- Each coordinate has a slot: below n in the basis, n + i at row i. A row keeps the entries at the slots below n, then the one at its own slot.
-use Rattle.std.specs.Prelude.{◌≡◌, ◌≤◌, ◌<◌, ◌+◌, ◌*◌, ℕ, suc, ℤ, pos, negsuc, ◌*ℤ◌, ◌≤ℤ◌, ◌≢◌, ◌⊎◌, ◌-◌, List, [], ◌∷◌, length, map, take, drop, slice_index, Bool, true, false, nat_lt, nat_eq, if◌then◌else◌}
+use Rattle.std.specs.Prelude.{◌≡◌, ◌≤◌, ◌<◌, ◌+◌, ◌*◌, ℕ, suc, ℤ, pos, negsuc, ◌*ℤ◌, ◌≤ℤ◌, ◌≢◌, ◌⊎◌, ◌-◌, List, [], ◌∷◌, length, map, take, drop, slice_index, Bool, true, false, nat_lt, nat_eq}
+use Rattle.crn_vec.specs.declared.limits.TheConstants.{MAX_COORDINATES}
 use Rattle.crn_vec.specs.Vectors.{Mat, entry, AreOfLength}
-use Rattle.crn_vec.specs.Elementary.{width, InDualSpace, IsBasis}
-use Rattle.crn_tab.specs.Entries.{AreSmall, IsContent, IsWide, NewRow}
+use Rattle.crn_vec.specs.Elementary.{width, InDualSpace, IsWide}
+use Rattle.crn_tab.specs.Entries.{AreSmall, IsContent, IsNewRow}
 
 abbrev pub choose : {A : Type 0} → Bool → A → A → A
 choose true x y = x
@@ -26,7 +27,7 @@ abbrev pub basis_of : ℕ → List ℕ → List ℕ
 basis_of n at = basis_from 0 n at
 
 -- each of so many coordinates has a slot, and each slot a coordinate
-pub record Placed (n count : ℕ) (at order : List ℕ) : Type 0 where
+pub record ArePlaced (n count : ℕ) (at order : List ℕ) : Type 0 where
   pub at_long : length at ≡ count
   pub order_long : length order ≡ count
   pub at_below : (k : ℕ) → k < count → slice_index at k < count
@@ -49,8 +50,8 @@ row_at w rows i = take w (drop (i * w) rows)
 pub record IsTableau (a : Mat) (at order : List ℕ) (rows : List ℤ) : Type 0 where
   pub wide : AreOfLength a.cols a.rows
   pub some : 1 ≤ a.cols
-  pub few : width a ≤ 400
-  pub placed : Placed a.cols (width a) at order
+  pub few : width a ≤ MAX_COORDINATES
+  pub placed : ArePlaced a.cols (width a) at order
   pub long : length rows ≡ length a.rows * (a.cols + 1)
   pub each : (i : ℕ) → i < length a.rows → IsRowAt a at i (row_at (a.cols + 1) rows i)
   pub small : AreSmall rows
@@ -63,19 +64,19 @@ pub record IsKeptRow (w : ℕ) (row : List ℤ) : Type 0 where
   pub small : AreSmall row
 
 -- the new row i, kept in its place or too wide and then not before the least coordinate so far
-pub record RowDone (w c i : ℕ) (rows lead spare : List ℤ) (least own : ℕ) : Type 0 where
+pub record IsRowDone (w c i : ℕ) (rows lead spare : List ℤ) (least own : ℕ) : Type 0 where
   pub z : List ℤ
-  pub is : NewRow (w - 1) c (row_at w rows i) lead z
+  pub is : IsNewRow (w - 1) c (row_at w rows i) lead z
   pub kept : (AreSmall z × (row_at w spare i ≡ z)) ⊎ (IsWide z × (least ≤ own))
 
 -- some new row is wide at this coordinate
-pub record WideRow (w m c r : ℕ) (rows lead : List ℤ) (order : List ℕ) (least : ℕ) : Type 0 where
+pub record HasWideRow (w m c r : ℕ) (rows lead : List ℤ) (order : List ℕ) (least : ℕ) : Type 0 where
   pub i : ℕ
   pub inside : i < m
   pub other : i ≢ r
   pub own : least ≡ slice_index order (w - 1 + i)
   pub z : List ℤ
-  pub is : NewRow (w - 1) c (row_at w rows i) lead z
+  pub is : IsNewRow (w - 1) c (row_at w rows i) lead z
   pub wide : IsWide z
 
 -- the exchanged row in its new places, with the sign that makes its own entry positive
@@ -89,8 +90,8 @@ pub record IsLead (w c : ℕ) (row lead : List ℤ) : Type 0 where
   pub positive : pos 1 ≤ℤ entry lead (w - 1)
 
 -- all new rows but row r are done, and row r is the lead, or some new row is wide
-pub record Filled (w m c r : ℕ) (rows spare : List ℤ) (order : List ℕ) (least : ℕ) : Type 0 where
+pub record AreFilled (w m c r : ℕ) (rows spare : List ℤ) (order : List ℕ) (least : ℕ) : Type 0 where
   pub lead : List ℤ
   pub is : IsLead w c (row_at w rows r) lead
-  pub done : (i : ℕ) → i < m → i ≢ r → RowDone w c i rows lead spare least (slice_index order (w - 1 + i))
-  pub last : ((least ≡ length order) × (row_at w spare r ≡ lead)) ⊎ WideRow w m c r rows lead order least
+  pub done : (i : ℕ) → i < m → i ≢ r → IsRowDone w c i rows lead spare least (slice_index order (w - 1 + i))
+  pub last : ((least ≡ length order) × (row_at w spare r ≡ lead)) ⊎ HasWideRow w m c r rows lead order least

@@ -1,6 +1,6 @@
 ghost use Rattle.std.specs.Prelude.{◌≡◌, ◌≢◌, ◌≤◌, ◌<◌, ◌^◌, ◌-◌, ◌*◌, ◌+◌, ℕ, ℤ, pos, List, ◌≤ℤ◌, ◌+ℤ◌, ◌-ℤ◌, ◌*ℤ◌, ◌⊎◌, length, unsigned_abs, IsTrue, ◌↔◌, slice_set};
 ghost use Rattle.std.specs.Int.{◌∣◌};
-ghost use Rattle.crn_tab.specs.Entries.{entry, AreSmall, IsContent, Combined, IsFit, NewRow, put};
+ghost use Rattle.crn_tab.specs.Entries.{entry, AreSmall, IsContent, IsCombined, IsFit, IsNewRow, put};
 
 use crn_frac::{divided, gcd_of};
 
@@ -88,7 +88,7 @@ fn combine(row: &mut [i64], lead: &[i64], p: &i64, q: &i64, work: &mut [i128]) -
     requires p { unsigned_abs p.now < 2 ^ 62 }
     requires q { unsigned_abs q.now < 2 ^ 62 }
     requires some { (k : ℕ) × (k < length row.old) × ((p.now *ℤ entry row.old k) -ℤ (q.now *ℤ entry lead.now k) ≢ pos 0) }
-    ensures { (z : List ℤ) × Combined p.now q.now row.old lead.now z × IsFit z row.new result }
+    ensures { (z : List ℤ) × IsCombined p.now q.now row.old lead.now z × IsFit z row.new result }
 {
     products(row, lead, p, q, work);
     let t = content(work) as i128;
@@ -116,7 +116,7 @@ pub(crate) fn new_row(
     requires p_some { pos 1 ≤ℤ p.now }
     requires den_some { pos 1 ≤ℤ entry old.now (length old.now - 1) }
     requires primitive { IsContent old.now 1 }
-    ensures { (z : List ℤ) × NewRow (length old.now - 1) c old.now (slice_set lead.now (length old.now - 1) p.now) z × IsFit z into.new result }
+    ensures { (z : List ℤ) × IsNewRow (length old.now - 1) c old.now (slice_set lead.now (length old.now - 1) p.now) z × IsFit z into.new result }
 {
     into.copy_from_slice(old);
     let q = old[c];

@@ -2,7 +2,7 @@ ghost use Rattle.std.specs.Prelude.{◌≡◌, ◌≢◌, ◌≤◌, ◌<◌, �
 ghost use Rattle.crn_tab.specs.Entries.{entry};
 ghost use Rattle.crn_vec.specs.Lists.{IsIn};
 ghost use Rattle.crn_vec.specs.Elementary.{width, IsNamed, WideAt, Exchanged};
-ghost use Rattle.crn_tab.specs.Tab.{row_at, basis_of, IsTableau, IsKeptRow, Filled};
+ghost use Rattle.crn_tab.specs.Tab.{row_at, basis_of, IsTableau, IsKeptRow, AreFilled};
 
 use crate::fill::fill_rows;
 use crate::lead::{make_lead, put_lead};
@@ -30,7 +30,7 @@ pub(crate) fn new_rows(
     requires work_count { length work.old ≡ length lead.old }
     requires row { (i : ℕ) → i < m → IsKeptRow (length lead.old) (row_at (length lead.old) rows.now i) }
     requires some { entry (row_at (length lead.old) rows.now r) c ≢ pos 0 }
-    ensures { Filled (length lead.old) m c r rows.now spare.new order.now result }
+    ensures { AreFilled (length lead.old) m c r rows.now spare.new order.now result }
 {
     make_lead(rows, r, c, lead);
     let last = lead.len() - 1;

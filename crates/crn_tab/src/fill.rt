@@ -1,10 +1,10 @@
 ghost use Rattle.std.specs.Prelude.{◌≡◌, ◌≢◌, ◌≤◌, ◌<◌, ◌^◌, ◌-◌, ◌*◌, ◌+◌, ℕ, ℤ, pos, List, ◌≤ℤ◌, ◌⊎◌, length, take, drop, unsigned_abs, slice_index, slice_set, suc};
-ghost use Rattle.crn_tab.specs.Entries.{entry, AreSmall, IsContent, IsFit, NewRow};
-ghost use Rattle.crn_tab.specs.Tab.{row_at, IsKeptRow, RowDone, WideRow};
+ghost use Rattle.crn_tab.specs.Entries.{entry, AreSmall, IsContent, IsFit, IsNewRow};
+ghost use Rattle.crn_tab.specs.Tab.{row_at, IsKeptRow, IsRowDone, HasWideRow};
 
 use crate::combine::new_row;
 
-// InRowSpace i of a list of rows of so many entries.
+// Row i of a list of rows of so many entries.
 pub(crate) fn part(rows: &[i64], i: usize, w: usize) -> &[i64]
     requires few { length rows.now ≤ 2 ^ 20 }
     requires inside { i * w + w ≤ length rows.now }
@@ -15,7 +15,7 @@ pub(crate) fn part(rows: &[i64], i: usize, w: usize) -> &[i64]
     part
 }
 
-// InRowSpace i of the spare rows becomes the new row of row i.
+// Row i of the spare rows becomes the new row of row i.
 fn fill_row(
     rows: &[i64],
     spare: &mut [i64],
@@ -35,7 +35,7 @@ fn fill_row(
     requires lead_last { entry lead.now (length lead.now - 1) ≡ pos 0 }
     requires p { unsigned_abs p.now < 2 ^ 62 }
     requires p_some { pos 1 ≤ℤ p.now }
-    ensures made { (z : List ℤ) × NewRow (length lead.now - 1) c (row_at (length lead.now) rows.now i) (slice_set lead.now (length lead.now - 1) p.now) z × IsFit z (row_at (length lead.now) spare.new i) result }
+    ensures made { (z : List ℤ) × IsNewRow (length lead.now - 1) c (row_at (length lead.now) rows.now i) (slice_set lead.now (length lead.now - 1) p.now) z × IsFit z (row_at (length lead.now) spare.new i) result }
     ensures others { (j : ℕ) → j ≢ i → row_at (length lead.now) spare.new j ≡ row_at (length lead.now) spare.old j }
 {
     let w = lead.len();
@@ -69,8 +69,8 @@ pub(crate) fn fill_rows(
     requires lead_last { entry lead.now (length lead.now - 1) ≡ pos 0 }
     requires p { unsigned_abs p.now < 2 ^ 62 }
     requires p_some { pos 1 ≤ℤ p.now }
-    ensures done { (i : ℕ) → i < m → i ≢ r → RowDone (length lead.now) c i rows.now (slice_set lead.now (length lead.now - 1) p.now) spare.new result (slice_index order.now (length lead.now - 1 + i)) }
-    ensures least { (result ≡ length order.now) ⊎ WideRow (length lead.now) m c r rows.now (slice_set lead.now (length lead.now - 1) p.now) order.now result }
+    ensures done { (i : ℕ) → i < m → i ≢ r → IsRowDone (length lead.now) c i rows.now (slice_set lead.now (length lead.now - 1) p.now) spare.new result (slice_index order.now (length lead.now - 1 + i)) }
+    ensures least { (result ≡ length order.now) ⊎ HasWideRow (length lead.now) m c r rows.now (slice_set lead.now (length lead.now - 1) p.now) order.now result }
 {
     let mut least = order.len();
     for i in 0..m {
@@ -103,10 +103,10 @@ fn fill_one(
     requires lead_last { entry lead.now (length lead.now - 1) ≡ pos 0 }
     requires p { unsigned_abs p.now < 2 ^ 62 }
     requires p_some { pos 1 ≤ℤ p.now }
-    ensures done { i ≢ r → RowDone (length lead.now) c i rows.now (slice_set lead.now (length lead.now - 1) p.now) spare.new result (slice_index order.now (length lead.now - 1 + i)) }
+    ensures done { i ≢ r → IsRowDone (length lead.now) c i rows.now (slice_set lead.now (length lead.now - 1) p.now) spare.new result (slice_index order.now (length lead.now - 1 + i)) }
     ensures others { (j : ℕ) → j ≢ i → row_at (length lead.now) spare.new j ≡ row_at (length lead.now) spare.old j }
     ensures lower { result ≤ least }
-    ensures wide { (result ≡ least) ⊎ WideRow (length lead.now) (suc i) c r rows.now (slice_set lead.now (length lead.now - 1) p.now) order.now result }
+    ensures wide { (result ≡ least) ⊎ HasWideRow (length lead.now) (suc i) c r rows.now (slice_set lead.now (length lead.now - 1) p.now) order.now result }
 {
     if i == r {
         return least;

@@ -1,13 +1,12 @@
-ghost use Rattle.std.specs.Prelude.{◌≡◌, ◌≤◌, ◌<◌, ◌^◌, ◌+◌, ℕ, ℤ, length, IfOk, slice_index, unsigned_abs};
-ghost use Rattle.crn_vec.specs.Vectors.{entry};
+ghost use Rattle.std.specs.Prelude.{◌≡◌, ◌≤◌, ◌<◌, ◌^◌, ◌+◌, length, IfOk};
 ghost use Rattle.crn_vec.specs.Lists.{IsIn};
 ghost use Rattle.crn_vec.specs.Elementary.{width, IsNamed};
 ghost use Rattle.crn_tab.specs.Entries.{AreSmall};
 ghost use Rattle.crn_tab.specs.Tab.{slot_entry, spread, basis_of, IsTableau};
 
 use crate::fill::part;
-use crn_vec::Matrix;
-use std::alloc::{AllocError, Global};
+use crn_vec::{Ints, MAX_COORDINATES, Matrix, NoMemory, Nums};
+use std::alloc::Global;
 
 // The entry at slot s of the vector that row i keeps.
 fn slot_of(row: &[i64], n: usize, i: usize, s: usize) -> i128
@@ -32,13 +31,13 @@ pub(crate) fn spread_of(
     n: usize,
     i: usize,
     at: &[usize],
-) -> Result<Vec<i128>, AllocError>
+) -> Result<Ints, NoMemory>
     requires long { length row.now ≡ n + 1 }
     requires few { n + i < 2 ^ 20 }
     requires small { AreSmall row.now }
-    ensures { IfOk result (λ v. v.items ≡ spread n i row.now at.now) }
+    ensures { IfOk result (λ v. v.list ≡ spread n i row.now at.now) }
 {
-    let mut v = Vec::with_capacity(alloc, at.len())?;
+    let mut v = Ints::with_room(alloc, at.len())?;
     for s in at {
         v.push(slot_of(row, n, i, *s))?;
     }
@@ -53,15 +52,29 @@ pub(crate) fn row_vector(
     _order: &[usize],
     rows: &[i64],
     row: usize,
-) -> Result<Vec<i128>, AllocError>
+) -> Result<Ints, NoMemory>
     requires tableau { IsTableau matrix.now at.now _order.now rows.now }
     requires inside { row < width matrix.now }
     requires outside { IsIn row (basis_of matrix.now.cols at.now) → ⊥ }
-    ensures named { IfOk result (λ v. IsNamed matrix.now (basis_of matrix.now.cols at.now) row v.items) }
-    ensures small { IfOk result (λ v. (k : ℕ) → unsigned_abs (entry v.items k) < 2 ^ 62) }
+    ensures named { IfOk result (λ v. IsNamed matrix.now (basis_of matrix.now.cols at.now) row v.list) }
+    ensures small { IfOk result (λ v. AreSmall v.list) }
 {
     let n = matrix.cols();
     let i = at[row] - n;
     let vector = spread_of(alloc, part(rows, i, n + 1), n, i, at)?;
     Ok(vector)
+}
+
+// The coordinates whose slot is below n, ascending.
+pub(crate) fn basis_list(alloc: Global, n: usize, at: &[usize]) -> Result<Nums, NoMemory>
+    requires { length at.now ≤ MAX_COORDINATES }
+    ensures { IfOk result (λ v. v.list ≡ basis_of n at.now) }
+{
+    let mut v = Nums::with_room(alloc, n)?;
+    for k in 0..at.len() {
+        if at[k] < n {
+            v.push(k as u32)?;
+        }
+    }
+    Ok(v)
 }

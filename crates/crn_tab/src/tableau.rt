@@ -1,12 +1,14 @@
-ghost use Rattle.std.specs.Prelude.{◌≡◌, ◌≢◌, ◌≤◌, ◌<◌, ◌+◌, ◌-◌, ℕ, ℤ, pos, List, length, ◌^◌, unsigned_abs, IfOk, OnOk, IfErr, ◌⊎◌};
+ghost use Rattle.std.specs.Prelude.{◌≡◌, ◌≢◌, ◌≤◌, ◌<◌, ◌-◌, ◌↔◌, ℕ, ℤ, pos, List, IfOk, OnOk, IfErr, IsTrue};
 ghost use Rattle.crn_vec.specs.Vectors.{entry};
 ghost use Rattle.crn_vec.specs.Lists.{IsIn};
+ghost use Rattle.crn_tab.specs.Entries.{AreSmall};
 ghost use Rattle.crn_vec.specs.Elementary.{width, IsNamed, WideAt, Exchanged};
 
 use crate::exchange::exchange;
-use crate::spread::row_vector;
-use crn_vec::Matrix;
-use std::alloc::{AllocError, Global};
+use crate::spread::{basis_list, row_vector};
+use crate::start::{first_rows, identity};
+use crn_vec::{Ints, Matrix, NoMemory, Nums};
+use std::alloc::Global;
 use std::marker::Model;
 
 /// A vector of an exchanged basis passes the bound of what a tableau keeps.
@@ -29,11 +31,11 @@ pub struct Tableau {
 }
 
 impl Model for Tableau {
-    ghost use Rattle.crn_tab.specs.Kept.{Kept};
+    ghost use Rattle.crn_tab.specs.Kept.{KeptTableau};
     ghost use Rattle.crn_tab.specs.Tab.{basis_of, IsTableau};
     ghost use Rattle.crn_tab.specs.Whole.{IsWhole};
 
-    ghost Value = { Kept };
+    ghost Value = { KeptTableau };
 
     ghost view = { λ s. record { matrix = s.matrix; basis = basis_of s.matrix.cols s.at.items } };
 
@@ -41,6 +43,46 @@ impl Model for Tableau {
 }
 
 impl Tableau {
+    /// The tableau of a matrix, whose basis is the columns. It keeps a copy of the matrix, and all memory that `pivot` needs.
+    pub fn new(alloc: Global, matrix: &Matrix) -> Result<Tableau, NoMemory>
+        ensures matrix { IfOk result (λ made. made.matrix ≡ matrix.now) }
+        ensures basis { IfOk result (λ made. (k : ℕ) → IsIn k made.basis ↔ (k < matrix.now.cols)) }
+    {
+        let matrix = matrix.copy()?;
+        let n = matrix.cols();
+        let m = matrix.rows();
+        let at = identity(alloc, n + m)?;
+        let order = identity(alloc, n + m)?;
+        let rows = first_rows(alloc, &matrix)?;
+        let spare = vec![in alloc; 0i64; rows.len()]?;
+        let lead = vec![in alloc; 0i64; n + 1]?;
+        let work = vec![in alloc; 0i128; n + 1]?;
+        Ok(Tableau {
+            matrix,
+            at,
+            order,
+            rows,
+            spare,
+            lead,
+            work,
+        })
+    }
+
+    /// Whether a coordinate is in the basis.
+    pub fn is_basic(&self, coordinate: usize) -> bool
+        requires { coordinate < width self.now.matrix }
+        ensures { IsTrue result ↔ IsIn coordinate self.now.basis }
+    {
+        self.at[coordinate] < self.matrix.cols()
+    }
+
+    /// The coordinates of the basis, ascending.
+    pub fn basis(&self) -> Result<Nums, NoMemory>
+        ensures { IfOk result (λ made. made.list ≡ self.now.basis) }
+    {
+        basis_list(*self.at.allocator(), self.matrix.cols(), &self.at)
+    }
+
     /// Exchanges a coordinate of the basis for one outside it. It takes no memory.
     pub fn pivot(&mut self, leave: usize, enter: usize) -> Result<(), Wide>
         requires leave { IsIn leave self.old.basis }
@@ -76,12 +118,13 @@ impl Tableau {
     }
 
     /// The primitive vector that the basis names by a coordinate outside it.
-    pub fn row(&self, alloc: Global, row: usize) -> Result<Vec<i128>, AllocError>
+    pub fn row(&self, row: usize) -> Result<Ints, NoMemory>
         requires inside { row < width self.now.matrix }
         requires outside { IsIn row self.now.basis → ⊥ }
-        ensures named { IfOk result (λ v. IsNamed self.now.matrix self.now.basis row v.items) }
-        ensures small { IfOk result (λ v. (k : ℕ) → unsigned_abs (entry v.items k) < 2 ^ 62) }
+        ensures named { IfOk result (λ v. IsNamed self.now.matrix self.now.basis row v.list) }
+        ensures small { IfOk result (λ v. AreSmall v.list) }
     {
+        let alloc = *self.at.allocator();
         row_vector(alloc, &self.matrix, &self.at, &self.order, &self.rows, row)
     }
 }

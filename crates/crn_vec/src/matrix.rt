@@ -1,7 +1,8 @@
-ghost use Rattle.std.specs.Prelude.{◌≡◌, ◌≤◌, ◌<◌, ◌+◌, ◌*◌, pos, [], length, IfOk, unsigned_abs, slice_index_or, ◌^◌, take, drop};
-ghost use Rattle.crn_vec.specs.Vectors.{AreWithin, entry};
+ghost use Rattle.std.specs.Prelude.{◌≡◌, ◌≤◌, ◌<◌, ◌+◌, ◌*◌, ℕ, pos, [], length, IfOk, unsigned_abs, slice_index_or, ◌^◌, take, drop};
+ghost use Rattle.crn_vec.specs.Vectors.{AreOfLength, AreWithin, entry};
 ghost use Rattle.crn_vec.specs.Matrices.{mat_of};
 
+use crate::limits::{MAX_AMOUNT, MAX_COORDINATES};
 use std::alloc::{AllocError, Global};
 use std::marker::Model;
 
@@ -36,6 +37,7 @@ impl Model for Matrix {
 }
 
 impl Matrix {
+    /// A matrix of these entries, row by row. It may have no rows, but has a column.
     pub fn new(
         alloc: Global,
         rows: usize,
@@ -44,8 +46,8 @@ impl Matrix {
     ) -> Result<Matrix, AllocError>
         requires count { length entries.now ≡ rows * cols }
         requires some { 1 ≤ cols }
-        requires few { rows + cols ≤ 400 }
-        requires small { AreWithin 99 entries.now }
+        requires few { rows + cols ≤ MAX_COORDINATES }
+        requires small { AreWithin MAX_AMOUNT entries.now }
         ensures { IfOk result (λ made. made ≡ mat_of rows cols entries.now) }
     {
         Ok(Matrix {
@@ -55,18 +57,32 @@ impl Matrix {
         })
     }
 
+    /// The number of rows.
     pub fn rows(&self) -> usize
         ensures count { result ≡ length self.now.rows }
-        ensures few { result + self.now.cols ≤ 400 }
+        ensures few { result + self.now.cols ≤ MAX_COORDINATES }
+        ensures small { (i : ℕ) → AreWithin MAX_AMOUNT (slice_index_or self.now.rows i []) }
     {
         self.rows
     }
 
+    /// The number of columns.
     pub fn cols(&self) -> usize
         ensures count { result ≡ self.now.cols }
         ensures some { 1 ≤ result }
+        ensures shape { AreOfLength self.now.cols self.now.rows }
     {
         self.cols
+    }
+
+    /// The entry of a row in a column.
+    pub fn entry(&self, row: usize, col: usize) -> i128
+        requires row { row < length self.now.rows }
+        requires col { col < self.now.cols }
+        ensures value { result ≡ entry (slice_index_or self.now.rows row []) col }
+        ensures small { unsigned_abs result ≤ MAX_AMOUNT }
+    {
+        self.row(row)[col]
     }
 
     /// The entries of a row.
@@ -74,8 +90,38 @@ impl Matrix {
         requires { row < length self.now.rows }
         ensures value { result.now ≡ slice_index_or self.now.rows row [] }
         ensures count { length result.now ≡ self.now.cols }
-        ensures small { AreWithin 99 result.now }
+        ensures small { AreWithin MAX_AMOUNT result.now }
     {
         row_of(&self.entries, row, self.cols)
+    }
+
+    /// Another matrix of the same entries.
+    pub fn copy(&self) -> Result<Matrix, AllocError>
+        ensures { IfOk result (λ made. made ≡ self.now) }
+    {
+        let alloc = *self.entries.allocator();
+        Ok(Matrix {
+            rows: self.rows,
+            cols: self.cols,
+            entries: Vec::from_slice(alloc, &self.entries)?,
+        })
+    }
+}
+
+#[cfg(test)]
+mod tests {
+    use super::Matrix;
+
+    #[test]
+    fn entries_stand_row_by_row(rt: HostRuntime) {
+        let made = Matrix::new(rt.alloc(), 2, 3, &[1, -2, 3, -99, 5, 99]).expect(&rt, "memory");
+        assert_eq!(rt; (made.rows(), made.cols()), (2, 3));
+        let copy = made.copy().expect(&rt, "memory");
+        for (row, want) in [(0, [1, -2, 3]), (1, [-99, 5, 99])] {
+            assert!(rt; row < copy.rows());
+            assert_eq!(rt; copy.row(row), want.as_slice());
+            assert!(rt; copy.cols() == 3);
+            assert_eq!(rt; copy.entry(row, 2), want[2]);
+        }
     }
 }

@@ -1,8 +1,8 @@
-use Rattle.std.proofs.Common.{◌≡◌, ◌≢◌, ◌<◌, ◌≤◌, ◌-◌, ◌^◌, ℕ, length, ap, ◌∙◌, sym, subst, arith, to_z}
-use Rattle.std.specs.Prelude.{ℤ, pos, ◌≤ℤ◌, ◌*ℤ◌, ◌-ℤ◌, unsigned_abs, List}
-use Rattle.std.specs.Int.{◌∣◌, w128}
-use Rattle.std.proofs.lemmas.Int.{ints, to_z_pos}
-use Rattle.crn_tab.specs.Entries.{entry, IsContent, Combined, IsFit}
+use Rattle.std.proofs.Common.{◌≡◌, ◌≢◌, ◌<◌, ◌≤◌, ◌^◌, ℕ, length, ◌∙◌, sym, arith, to_z}
+use Rattle.std.specs.Prelude.{ℤ, pos, ◌*ℤ◌, ◌-ℤ◌, unsigned_abs, List}
+use Rattle.std.specs.Int.{w128}
+use Rattle.std.proofs.lemmas.Int.{ints}
+use Rattle.crn_tab.specs.Entries.{entry, IsContent}
 use Rattle.crn_tab.proofs.Primitive.{content_some, combined_of}
 use Rattle.crn_tab.proofs.combine.combine.Goals as goal
 

@@ -1,4 +1,4 @@
-use Rattle.std.proofs.Common.{◌≡◌, ℕ, ◌<◌, ◌^◌}
+use Rattle.std.proofs.Common.{ℕ, ◌<◌, ◌^◌}
 use Rattle.std.specs.Prelude.{unsigned_abs}
 use Rattle.std.specs.Int.{◌∣◌}
 use Rattle.crn_tab.specs.Entries.{entry}

@@ -1,5 +1,5 @@
-use Rattle.std.proofs.Common.{◌≡◌, ℕ, ◌<◌, ◌≤◌, ◌^◌}
-use Rattle.std.specs.Prelude.{unsigned_abs, ◌*ℤ◌}
+use Rattle.std.proofs.Common.{◌≡◌, ℕ, ◌<◌, ◌≤◌}
+use Rattle.std.specs.Prelude.{◌*ℤ◌}
 use Rattle.crn_tab.specs.Entries.{entry}
 use Rattle.crn_tab.proofs.combine.divide.Given as goal
 

@@ -1,6 +1,4 @@
-use Rattle.std.proofs.Common.{◌≡◌, ◌<◌, ◌≤◌, ◌^◌, ℕ, sym, subst, arith, length}
-use Rattle.std.specs.Prelude.{ℤ, pos, unsigned_abs}
-use Rattle.crn_tab.specs.Entries.{entry}
+use Rattle.std.proofs.Common.{arith}
 use Rattle.crn_tab.proofs.Rows.{same_rows, small_everywhere}
 use Rattle.crn_tab.proofs.combine.keep.Goals as goal
 

@@ -1,9 +1,9 @@
-use Rattle.std.proofs.Common.{◌≡◌, ◌≢◌, ◌<◌, ◌≤◌, ◌+◌, ◌-◌, ◌^◌, ℕ, length, ap, ◌∙◌, sym, subst, arith, rules, to_z, of_z}
-use Rattle.std.specs.Prelude.{ℤ, pos, ◌≤ℤ◌, ◌*ℤ◌, ◌-ℤ◌, unsigned_abs, List, FitsSigned}
-use Rattle.std.specs.Int.{◌∣◌, w64}
-use Rattle.std.proofs.lemmas.Int.{ints, to_z-of_z, fits_signed_from_abs}
+use Rattle.std.proofs.Common.{◌≡◌, ◌<◌, ◌-◌, ◌^◌, length, ap, ◌∙◌, sym, arith, to_z, of_z}
+use Rattle.std.specs.Prelude.{ℤ, pos, unsigned_abs, List}
+use Rattle.std.specs.Int.{w64}
+use Rattle.std.proofs.lemmas.Int.{to_z-of_z, fits_signed_from_abs}
 use Rattle.std.proofs.Math.ListN.{length-set}
-use Rattle.crn_tab.specs.Entries.{entry, put, IsContent, Combined, NewRow, IsFit, AreSmall}
+use Rattle.crn_tab.specs.Entries.{entry, put}
 use Rattle.crn_tab.proofs.NewRows.{new_row_none, new_row_some, last_stays}
 use Rattle.crn_tab.proofs.combine.new_row.Goals as goal
 

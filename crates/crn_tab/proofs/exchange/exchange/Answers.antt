@@ -1,10 +1,8 @@
-use Rattle.std.proofs.Common.{◌≡◌, ◌≢◌, ◌<◌, ◌≤◌, ◌+◌, ◌-◌, ◌*◌, ◌^◌, ◌⊎◌, inl, inr, ℕ, List, length, set, refl, ap, ◌∙◌, sym, subst, arith}
-use Rattle.std.specs.Prelude.{ℤ, pos, slice_index}
-use Rattle.crn_vec.specs.Vectors.{Mat, entry}
+use Rattle.std.proofs.Common.{◌<◌, ◌-◌, refl, arith}
+use Rattle.std.specs.Prelude.{slice_index}
 use Rattle.crn_vec.specs.Elementary.{width}
-use Rattle.crn_tab.specs.Tab.{row_at, Filled, IsKeptRow}
 use Rattle.crn_tab.proofs.Finish.{kept_row}
-use Rattle.crn_tab.proofs.Here.{Here, here, some_entry, ok_here, wide_here, least_here}
+use Rattle.crn_tab.proofs.Here.{here, some_entry, ok_here, wide_here, least_here}
 use Rattle.crn_tab.proofs.exchange.exchange.Goals as goal
 
 pub bounds-at-leave : goal.bounds-at-leave

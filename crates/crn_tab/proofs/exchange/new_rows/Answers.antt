@@ -1,11 +1,11 @@
-use Rattle.std.proofs.Common.{◌≡◌, ◌≢◌, ◌<◌, ◌≤◌, ◌+◌, ◌-◌, ◌*◌, ◌^◌, ◌⊎◌, inl, inr, ℕ, List, length, set, refl, ap, ◌∙◌, sym, subst, arith, to_z, of_z}
+use Rattle.std.proofs.Common.{◌≡◌, ◌≢◌, ◌<◌, ◌≤◌, ◌+◌, ◌-◌, ◌^◌, ◌⊎◌, inl, inr, ℕ, List, length, set, refl, ap, ◌∙◌, sym, subst, arith, to_z, of_z}
 use Rattle.std.specs.Prelude.{ℤ, pos, slice_index, unsigned_abs}
 use Rattle.std.specs.Int.{w64}
 use Rattle.std.proofs.lemmas.Int.{to_z-of_z, fits_signed_from_abs}
 use Rattle.std.proofs.Math.ListN.{length-set}
 use Rattle.crn_vec.specs.Vectors.{entry}
-use Rattle.crn_tab.specs.Tab.{row_at, IsLead, RowDone, WideRow, Filled, IsKeptRow}
-use Rattle.crn_tab.proofs.NewRows.{look, put_same}
+use Rattle.crn_tab.specs.Tab.{row_at, IsLead, IsRowDone, HasWideRow}
+use Rattle.crn_tab.proofs.NewRows.{look}
 use Rattle.crn_tab.proofs.Rows.{same_rows}
 use Rattle.crn_tab.proofs.LeadRow.{lead_small_at}
 use Rattle.crn_tab.proofs.exchange.new_rows.Goals as goal
@@ -19,18 +19,18 @@ restored v n x h e = same_rows (set (set v n (pos 0)) n x) v (length-set (set v 
     ])
 
 kept : (w w' m c r : ℕ) (rows spare lead lead' : List ℤ) (order : List ℕ) (least : ℕ) → w' ≡ w → lead' ≡ lead
-    → ((i : ℕ) → i < m → i ≢ r → RowDone w' c i rows lead' spare least (slice_index order (w' - 1 + i)))
-    → (i : ℕ) → i < m → i ≢ r → RowDone w c i rows lead spare least (slice_index order (w - 1 + i))
+    → ((i : ℕ) → i < m → i ≢ r → IsRowDone w' c i rows lead' spare least (slice_index order (w' - 1 + i)))
+    → (i : ℕ) → i < m → i ≢ r → IsRowDone w c i rows lead spare least (slice_index order (w - 1 + i))
 kept w w' m c r rows spare lead lead' order least e f h i lt ne =
-    let A : ℕ → Type 0 = λ n. RowDone n c i rows lead' spare least (slice_index order (n - 1 + i)) in
-    let B : List ℤ → Type 0 = λ l. RowDone w c i rows l spare least (slice_index order (w - 1 + i)) in
+    let A : ℕ → Type 0 = λ n. IsRowDone n c i rows lead' spare least (slice_index order (n - 1 + i)) in
+    let B : List ℤ → Type 0 = λ l. IsRowDone w c i rows l spare least (slice_index order (w - 1 + i)) in
     subst B f (subst A e (h i lt ne))
 
 wide_kept : (w w' m c r : ℕ) (rows lead lead' : List ℤ) (order : List ℕ) (least : ℕ) → w' ≡ w → lead' ≡ lead
-    → (least ≡ length order) ⊎ WideRow w' m c r rows lead' order least → (least ≡ length order) ⊎ WideRow w m c r rows lead order least
+    → (least ≡ length order) ⊎ HasWideRow w' m c r rows lead' order least → (least ≡ length order) ⊎ HasWideRow w m c r rows lead order least
 wide_kept w w' m c r rows lead lead' order least e f h =
-    let A : ℕ → Type 0 = λ n. (least ≡ length order) ⊎ WideRow n m c r rows lead' order least in
-    let B : List ℤ → Type 0 = λ l. (least ≡ length order) ⊎ WideRow w m c r rows l order least in
+    let A : ℕ → Type 0 = λ n. (least ≡ length order) ⊎ HasWideRow n m c r rows lead' order least in
+    let B : List ℤ → Type 0 = λ l. (least ≡ length order) ⊎ HasWideRow w m c r rows l order least in
     subst B f (subst A e h)
 
 read : (x : ℤ) → unsigned_abs x < 2 ^ 62 → to_z w64 (of_z w64 x) ≡ x
@@ -43,7 +43,7 @@ put_back lead c w row h some small n e =
     ap (λ i. set (set lead (length lead - 1) (pos 0)) i x) e
     ∙ restored lead (length lead - 1) x (omega (arith, h.long)) (read (entry lead (length lead - 1)) small)
 
-other_spare : (w c i : ℕ) (rows lead spare spare' : List ℤ) (least own : ℕ) → RowDone w c i rows lead spare least own → row_at w spare' i ≡ row_at w spare i → RowDone w c i rows lead spare' least own
+other_spare : (w c i : ℕ) (rows lead spare spare' : List ℤ) (least own : ℕ) → IsRowDone w c i rows lead spare least own → row_at w spare' i ≡ row_at w spare i → IsRowDone w c i rows lead spare' least own
 other_spare w c i rows lead spare spare' least own h e = record { z = h.z; is = h.is; kept = elim h.kept [ inl f ↦ inl (f.0, e ∙ f.1) | inr g ↦ inr g ] }
 
 rows_after : (w r : ℕ) (lead lead' : List ℤ) (spare spare' : List ℤ) → lead' ≡ lead → length lead ≡ w → (row_at (length lead') spare' r ≡ lead')
@@ -70,7 +70,7 @@ returns-then-least-order c =
       is = c.make_lead.ensures;
       done = kept w (length lead0) c.args.m c.args.c c.args.r rows c.fill_rows-least.new.spare lead _ order c.fill_rows-least.result width back c.fill_rows-least.ensures.done;
       last = elim (wide_kept w (length lead0) c.args.m c.args.c c.args.r rows lead _ order c.fill_rows-least.result width back c.fill_rows-least.ensures.least)
-          as (λ _. ((c.fill_rows-least.result ≡ length order) × (row_at w c.fill_rows-least.new.spare c.args.r ≡ lead)) ⊎ WideRow w c.args.m c.args.c c.args.r rows lead order c.fill_rows-least.result) [
+          as (λ _. ((c.fill_rows-least.result ≡ length order) × (row_at w c.fill_rows-least.new.spare c.args.r ≡ lead)) ⊎ HasWideRow w c.args.m c.args.c c.args.r rows lead order c.fill_rows-least.result) [
             | inl e ↦ absurd (omega arith)
             | inr h ↦ inr h
           ];
@@ -95,7 +95,7 @@ returns c =
       is = c.make_lead.ensures;
       done = λ i lt ne. other_spare w c.args.c i rows lead c.fill_rows-least.new.spare c.put_lead.new.rows c.fill_rows-least.result (slice_index order (w - 1 + i)) (done i lt ne) (stand.1 i ne);
       last = elim (wide_kept w (length lead0) c.args.m c.args.c c.args.r rows lead _ order c.fill_rows-least.result width back c.fill_rows-least.ensures.least)
-          as (λ _. ((c.fill_rows-least.result ≡ length order) × (row_at w c.put_lead.new.rows c.args.r ≡ lead)) ⊎ WideRow w c.args.m c.args.c c.args.r rows lead order c.fill_rows-least.result) [
+          as (λ _. ((c.fill_rows-least.result ≡ length order) × (row_at w c.put_lead.new.rows c.args.r ≡ lead)) ⊎ HasWideRow w c.args.m c.args.c c.args.r rows lead order c.fill_rows-least.result) [
             | inl e ↦ inl (e, stand.0)
             | inr h ↦ inr h
           ];

@@ -1,13 +1,13 @@
-use Rattle.std.proofs.Common.{◌≡◌, ◌≢◌, ◌<◌, ◌≤◌, ◌+◌, ◌-◌, ◌*◌, ◌++◌, ℕ, List, length, set, ap, ◌∙◌, sym, subst, arith, Bool}
-use Rattle.std.specs.Prelude.{ℤ, pos}
-use Rattle.crn_tab.specs.Entries.{IsFit, NewRow}
+use Rattle.std.proofs.Common.{◌≡◌, ◌-◌, ◌++◌, ℕ, List, length, set, ap, ◌∙◌, sym, subst, Bool}
+use Rattle.std.specs.Prelude.{ℤ}
+use Rattle.crn_tab.specs.Entries.{IsFit, IsNewRow}
 use Rattle.crn_tab.specs.Tab.{row_at}
 use Rattle.crn_tab.proofs.Flat.{row_written, row_other}
 use Rattle.crn_tab.proofs.fill.fill_row.Goals as goal
 
 -- a new row that fits or is wide
 abbrev Made : ℕ → ℕ → List ℤ → List ℤ → ℤ → List ℤ → Bool → Type 0
-Made w c old lead p into result = (z : List ℤ) × NewRow (w - 1) c old (set lead (w - 1) p) z × IsFit z into result
+Made w c old lead p into result = (z : List ℤ) × IsNewRow (w - 1) c old (set lead (w - 1) p) z × IsFit z into result
 
 made_at : (w c : ℕ) (old row lead : List ℤ) (p : ℤ) (into spare : List ℤ) (result : Bool) → old ≡ row → length row ≡ w → spare ≡ into
     → Made (length old) c old lead p into result → Made w c row lead p spare result

@@ -1,4 +1,4 @@
-use Rattle.std.proofs.Common.{◌≡◌, ◌≢◌, ◌++◌, ℕ, List, length, ap, ◌∙◌, sym}
+use Rattle.std.proofs.Common.{◌++◌, List, length, ap, ◌∙◌, sym}
 use Rattle.std.specs.Prelude.{ℤ}
 use Rattle.crn_tab.specs.Tab.{row_at}
 use Rattle.crn_tab.proofs.Flat.{row_other}

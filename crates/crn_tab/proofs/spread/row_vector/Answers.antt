@@ -1,4 +1,4 @@
-use Rattle.std.proofs.Common.{◌≡◌, ℕ, ◌+◌, ◌-◌, ◌*◌, ◌<◌, ◌≤◌, List, length, ap, sym, subst, ◌∙◌, arith}
+use Rattle.std.proofs.Common.{◌≡◌, ℕ, ◌+◌, ◌-◌, List, ap, sym, subst, arith}
 use Rattle.std.specs.Prelude.{ℤ, slice_index}
 use Rattle.crn_vec.specs.Elementary.{IsNamed}
 use Rattle.crn_tab.specs.Entries.{AreSmall}
@@ -36,8 +36,8 @@ returns-clause-named c =
     let n = c.args.matrix.now.cols in
     let i = slice_index c.args.at.now c.args.row - n in
     let row = rw c.cols-n.ensures.count at c.part.ensures in
-    let is : c.in_ok-vector.vector.items ≡ spread n i (row_at (n + 1) c.args.rows.now i) c.args.at.now =
-    made n c.cols-n.result i (slice_index c.args.at.now c.args.row - c.cols-n.result) c.part.result.now (row_at (n + 1) c.args.rows.now i) c.args.at.now c.in_ok-vector.vector.items
+    let is : c.in_ok-vector.vector.list ≡ spread n i (row_at (n + 1) c.args.rows.now i) c.args.at.now =
+    made n c.cols-n.result i (slice_index c.args.at.now c.args.row - c.cols-n.result) c.part.result.now (row_at (n + 1) c.args.rows.now i) c.args.at.now c.in_ok-vector.vector.list
     c.cols-n.ensures.count (ap (λ m. slice_index c.args.at.now c.args.row - m) c.cols-n.ensures.count) row c.in_ok-vector.ensures in
     let N : List ℤ → Type 0 = λ v. IsNamed c.args.matrix.now (basis_of n c.args.at.now) c.args.row v in
     subst N (sym is) h.named
@@ -48,7 +48,7 @@ returns-clause-small c =
     let n = c.args.matrix.now.cols in
     let i = slice_index c.args.at.now c.args.row - n in
     let row = rw c.cols-n.ensures.count at c.part.ensures in
-    let is : c.in_ok-vector.vector.items ≡ spread n i (row_at (n + 1) c.args.rows.now i) c.args.at.now =
-    made n c.cols-n.result i (slice_index c.args.at.now c.args.row - c.cols-n.result) c.part.result.now (row_at (n + 1) c.args.rows.now i) c.args.at.now c.in_ok-vector.vector.items
+    let is : c.in_ok-vector.vector.list ≡ spread n i (row_at (n + 1) c.args.rows.now i) c.args.at.now =
+    made n c.cols-n.result i (slice_index c.args.at.now c.args.row - c.cols-n.result) c.part.result.now (row_at (n + 1) c.args.rows.now i) c.args.at.now c.in_ok-vector.vector.list
     c.cols-n.ensures.count (ap (λ m. slice_index c.args.at.now c.args.row - m) c.cols-n.ensures.count) row c.in_ok-vector.ensures in
     subst AreSmall (sym is) h.bounded

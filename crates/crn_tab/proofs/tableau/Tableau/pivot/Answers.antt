@@ -1,9 +1,7 @@
-use Rattle.std.proofs.Common.{◌≡◌, ◌≢◌, ◌<◌, ◌≤◌, ◌+◌, ◌-◌, ◌++◌, take, drop, ℕ, List, length, ap, ◌∙◌, sym, subst, arith}
-use Rattle.std.specs.Prelude.{ℤ}
-use Rattle.crn_vec.specs.Vectors.{Mat}
+use Rattle.std.proofs.Common.{◌≡◌, ◌≢◌, ◌<◌, ◌+◌, ◌-◌, ◌++◌, take, drop, ℕ, List, length, ap, ◌∙◌, sym, subst, arith}
 use Rattle.crn_vec.specs.Lists.{IsIn}
 use Rattle.crn_vec.specs.Elementary.{width, Exchanged, WideAt}
-use Rattle.crn_tab.specs.Kept.{Kept}
+use Rattle.crn_tab.specs.Kept.{KeptTableau}
 use Rattle.crn_tab.specs.Tab.{basis_of}
 use Rattle.std.proofs.Math.Seq.{take-append_seam}
 use Rattle.crn_tab.proofs.tableau.Tableau.pivot.Goals as goal
@@ -11,7 +9,7 @@ use Rattle.crn_tab.proofs.tableau.Tableau.pivot.Goals as goal
 pub returns-then-least-len-clause-wide : goal.returns-then-least-len-clause-wide
 returns-then-least-len-clause-wide c =
     let least = c.exchange-least.result in
-    let V : Kept → Type 0 = λ v. (next : List ℕ) → Exchanged v.basis c.args.leave c.args.enter next → WideAt v.matrix next (least + 1 - 1) in
+    let V : KeptTableau → Type 0 = λ v. (next : List ℕ) → Exchanged v.basis c.args.leave c.args.enter next → WideAt v.matrix next (least + 1 - 1) in
     let W : ℕ → Type 0 = λ l. (next : List ℕ) → Exchanged (basis_of c.self.inside.matrix.cols c.self.inside.at.items) c.args.leave c.args.enter next → WideAt c.self.inside.matrix next l in
     let back : least ≡ least + 1 - 1 = omega arith in
     let X : List ℕ → Type 0 = λ at. (next : List ℕ) → Exchanged (basis_of c.self.inside.matrix.cols at) c.args.leave c.args.enter next → WideAt c.self.inside.matrix next least in
@@ -21,7 +19,7 @@ returns-then-least-len-clause-wide c =
 pub returns-then-least-len-clause-least : goal.returns-then-least-len-clause-least
 returns-then-least-len-clause-least c =
     let least = c.exchange-least.result in
-    let V : Kept → Type 0 = λ v. (next : List ℕ) → Exchanged v.basis c.args.leave c.args.enter next → (k : ℕ) → k < least + 1 - 1 → (IsIn k next → ⊥) → WideAt v.matrix next k → ⊥ in
+    let V : KeptTableau → Type 0 = λ v. (next : List ℕ) → Exchanged v.basis c.args.leave c.args.enter next → (k : ℕ) → k < least + 1 - 1 → (IsIn k next → ⊥) → WideAt v.matrix next k → ⊥ in
     let X : List ℕ → Type 0 = λ at. (next : List ℕ) → Exchanged (basis_of c.self.inside.matrix.cols at) c.args.leave c.args.enter next → (k : ℕ) → k < least + 1 - 1 → (IsIn k next → ⊥) → WideAt c.self.inside.matrix next k → ⊥ in
     let small : least ≢ width c.self.inside.matrix = omega (arith, c.if-least-len.true, c.len.ensures, c.deref_mut.ensures.len, ap length c.deref_mut.ensures.value, c.self.invariant.tableau.placed.at_long) in
     subst V c.self.view_is (subst X c.deref_mut.ensures.value (λ next ex k lt. ((c.exchange-least.ensures.wide small).2 next ex).1 k (omega arith)))

@@ -1,0 +1,48 @@
+ghost use Rattle.std.specs.Prelude.{◌≡◌, ◌≤◌, ◌++◌, length, IfOk, OnOk, neg_ℤ, unsigned_abs};
+ghost use Rattle.crn_vec.specs.Vectors.{AreWithin};
+ghost use Rattle.crn_tab.specs.Start.{IsIdentity, start_row, start_rows};
+
+use crn_vec::{MAX_AMOUNT, Matrix};
+use std::alloc::{AllocError, Global};
+
+// The list of so many numbers from 0 on.
+pub(crate) fn identity(alloc: Global, count: usize) -> Result<Vec<usize>, AllocError>
+    ensures { IfOk result (λ v. IsIdentity count v.items) }
+{
+    let mut v = Vec::with_capacity(alloc, count)?;
+    for k in 0..count {
+        v.push(k)?;
+    }
+    Ok(v)
+}
+
+// The other sign, of an entry of a matrix.
+fn turned(x: &i128) -> i64
+    requires { unsigned_abs x.now ≤ MAX_AMOUNT }
+    ensures { result ≡ neg_ℤ x.now }
+{
+    -(*x as i64)
+}
+
+// Adds what a tableau keeps at first of a row of the matrix.
+fn push_row(rows: &mut Vec<i64>, row: &[i128]) -> Result<(), AllocError>
+    requires { AreWithin MAX_AMOUNT row.now }
+    ensures { OnOk result (rows.new.items ≡ rows.old.items ++ start_row row.now) }
+{
+    for x in row {
+        rows.push(turned(x))?;
+    }
+    rows.push(1)?;
+    Ok(())
+}
+
+// What a tableau keeps at first: each row of the matrix turned, and then a 1.
+pub(crate) fn first_rows(alloc: Global, matrix: &Matrix) -> Result<Vec<i64>, AllocError>
+    ensures { IfOk result (λ v. v.items ≡ start_rows matrix.now.rows) }
+{
+    let mut rows = Vec::with_capacity(alloc, matrix.rows() * (matrix.cols() + 1))?;
+    for i in 0..matrix.rows() {
+        push_row(&mut rows, matrix.row(i))?;
+    }
+    Ok(rows)
+}
