@@ -54,15 +54,20 @@ pub record IsNamed (a : Mat) (basis : List ℕ) (k : ℕ) (v : List ℤ) : Type 
 abbrev pub IsWide : List ℤ → Type 0
 IsWide v = (k : ℕ) × (2 ^ 62 ≤ unsigned_abs (entry v k))
 
+-- the primitive vector that a basis and a coordinate name is wide
 abbrev pub WideAt : Mat → List ℕ → ℕ → Type 0
 WideAt a basis k = (v : List ℤ) × IsNamed a basis k v × IsWide v
+
+-- the primitive vector of a coordinate outside the basis is wide
+abbrev pub IsWideRow : Mat → List ℕ → ℕ → Type 0
+IsWideRow a basis k = (¬ IsIn k basis) × WideAt a basis k
 
 -- the ascending list with e in place of b
 pub record Exchanged (basis : List ℕ) (b e : ℕ) (next : List ℕ) : Type 0 where
   pub ascending : IsAscending next
   pub members : (k : ℕ) → IsIn k next ↔ ((IsIn k basis × (k ≢ b)) ⊎ (k ≡ e))
 
--- one of the two is a multiple of the other
+-- the two are proportional: their entries have one ratio (the zero list is so to each)
 abbrev pub AreProportional : List ℤ → List ℤ → Type 0
 AreProportional v w = (i k : ℕ) → entry v i *ℤ entry w k ≡ entry v k *ℤ entry w i
 
