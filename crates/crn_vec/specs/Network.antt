@@ -2,7 +2,7 @@
 -- Source: Feinberg, Foundations of Chemical Reaction Network Theory (2019). The limits and the numbering are this project's own.
 -- Shapes: species, complexes and reactions are counted from 0. A complex is the list of its amounts, one for each species.
 use Rattle.std.specs.Prelude.{◌≡◌, ◌≤◌, ◌<◌, ◌⊎◌, ◌==◌, ◌&&◌, ◌||◌, nat_le, ℕ, suc, ℤ, pos, ◌≤ℤ◌, ◌-ℤ◌, Bool, false, IsTrue, if◌then◌else◌, List, [], ◌∷◌, ◌++◌, length, map, slice_index_or}
-use Rattle.std.specs.List.{AllByRecursion, list_all, sum_by, zip}
+use Rattle.std.specs.List.{AllByRecursion, list_all, sum_by}
 use Rattle.std.specs.Str.{bytes_eq}
 use Rattle.std.specs.Ordering.{int_eq}
 use Rattle.std.specs.Cmp.Lexicographic.{pointwise}
@@ -103,13 +103,15 @@ sides_of net r = (slice_index_or net.complexes r.0 [], slice_index_or net.comple
 abbrev pub sides_eq : List ℤ × List ℤ → List ℤ × List ℤ → Bool
 sides_eq a b = pointwise int_eq a.0 b.0 && pointwise int_eq a.1 b.1
 
--- product minus reactant, species by species
-abbrev pub difference_of : List ℤ × List ℤ → List ℤ
-difference_of sides = map (λ e. e.1 -ℤ e.0) (zip sides.0 sides.1)
+-- the differences, place by place
+abbrev pub minus : List ℤ → List ℤ → List ℤ
+minus [] ys = []
+minus (x ∷ xs) [] = []
+minus (x ∷ xs) (y ∷ ys) = (x -ℤ y) ∷ minus xs ys
 
--- the vector of a reaction
-abbrev pub reaction_vector_of : Net → ℕ × ℕ → List ℤ
-reaction_vector_of net r = difference_of (sides_of net r)
+-- the vector of a reaction: product minus reactant
+abbrev pub reaction_vector : Net → ℕ × ℕ → List ℤ
+reaction_vector net r = minus (sides_of net r).1 (sides_of net r).0
 
 -- ---- statements
 

@@ -1,0 +1,81 @@
+-- What the sides of a statement say of names.
+use Rattle.std.proofs.Common.{◌≡◌, ◌⊎◌, ℕ, ◌<◌, ◌≤◌, ◌+◌, true, false, cond, List, [], ◌∷◌, length, get_or, take, map, refl, sym, subst, ◌∙◌, inl, inr, arith}
+use Rattle.std.specs.List.{AllByRecursion}
+use Rattle.std.specs.Str.{bytes_eq}
+use Rattle.std.proofs.lemmas.Bool.{cases_Bool}
+use Rattle.std.proofs.lemmas.List.{take_more, take_all}
+use Rattle.std.proofs.lemmas.List.Sums.{sum_by-cons}
+use Rattle.crn_vec.specs.Lists.{IsIn}
+use Rattle.crn_vec.specs.Network.{amount_in}
+use Rattle.crn_net.specs.declared.term.Term.{Term}
+use Rattle.crn_net.specs.Terms.{name_at, side_of, statement_of}
+use Rattle.crn_net.specs.Steps.{SaysSame}
+use Rattle.crn_net.proofs.Lists.{all_in, all_from, all_push}
+use Rattle.crn_net.proofs.Members.{any_is, name_decides, amount_more}
+
+-- ---- loops over the terms of a side
+
+pub amount_yes : (text name : List ℕ) (side : List Term) (i sum : ℕ) (d : Term) → i < length side → sum ≡ amount_in (side_of text (take i side)) name → bytes_eq (name_at text (get_or side i d)) name ≡ true
+    → sum + (get_or side i d).count ≡ amount_in (side_of text (take (i + 1) side)) name
+amount_yes text name side i sum d lt is hit =
+    let more = amount_more text name side i d lt in
+    let one : cond (bytes_eq (name_at text (get_or side i d)) name) (get_or side i d).count 0 ≡ (get_or side i d).count = rw hit refl in
+    omega (arith, is, more, one)
+
+pub amount_no : (text name : List ℕ) (side : List Term) (i sum : ℕ) (d : Term) → i < length side → sum ≡ amount_in (side_of text (take i side)) name → bytes_eq (name_at text (get_or side i d)) name ≡ false
+    → sum ≡ amount_in (side_of text (take (i + 1) side)) name
+amount_no text name side i sum d lt is miss =
+    let more = amount_more text name side i d lt in
+    let one : cond (bytes_eq (name_at text (get_or side i d)) name) (get_or side i d).count 0 ≡ 0 = rw miss refl in
+    omega (arith, is, more, one)
+
+pub all_more : {A : Type 0} (P : A → Type 0) (xs : List A) (i : ℕ) (d : A) → i < length xs → AllByRecursion P (take i xs) → P (get_or xs i d) → AllByRecursion P (take (i + 1) xs)
+all_more {A} P xs i d lt h p = subst (AllByRecursion P) (sym (take_more xs i d lt)) (all_push P (take i xs) (get_or xs i d) h p)
+
+pub all_whole : {A : Type 0} (P : A → Type 0) (xs : List A) (i : ℕ) → length xs ≤ i → AllByRecursion P (take i xs) → AllByRecursion P xs
+all_whole P xs i le h = subst (AllByRecursion P) (take_all i xs le) h
+
+-- ---- both sides
+
+-- a side says nothing of a name that it has not
+pub none_said : (side : List (List ℕ × ℕ)) (name : List ℕ) → (IsIn name (map (λ t. t.0) side) → ⊥) → amount_in side name ≡ 0
+none_said [] name h = refl
+none_said (t ∷ side) name h =
+    let f : List ℕ × ℕ → ℕ = λ u. cond (bytes_eq u.0 name) u.1 0 in
+    let cons = sum_by-cons f t side in
+    let rest = none_said side name (λ i. h (inr i)) in
+    elim (cases_Bool (bytes_eq t.0 name)) [
+      | inl hit ↦ absurd (h (inl (sym ((name_decides name t.0).0 hit))))
+      | inr miss ↦ let one : f t ≡ 0 = rw miss refl in omega (arith, cons, rest, one)
+    ]
+
+pub has_name : (side : List (List ℕ × ℕ)) (name : List ℕ) → IsIn name (map (λ t. t.0) side) ⊎ (IsIn name (map (λ t. t.0) side) → ⊥)
+has_name side name = elim (any_is (λ known. bytes_eq known name) name (λ known. name_decides name known) (map (λ t. t.0) side)) [ inl a ↦ inl a.1 | inr b ↦ inr b.1 ]
+
+-- the terms' names
+abbrev agreed : List ℕ → List Term → List Term → Term → Type 0
+agreed text left right t = amount_in (side_of text left) (name_at text t) ≡ amount_in (side_of text right) (name_at text t)
+
+pub of_name : (text : List ℕ) (terms : List Term) (name : List ℕ) → IsIn name (map (λ t. t.0) (side_of text terms)) → (t : Term) × IsIn t terms × (name ≡ name_at text t)
+of_name text [] name h = absurd h
+of_name text (t ∷ terms) name (inl e) = (t, inl refl, e)
+of_name text (t ∷ terms) name (inr i) = let r = of_name text terms name i in (r.0, inr r.1, r.2)
+
+at_name : (text : List ℕ) (terms left right : List Term) (name : List ℕ) → AllByRecursion (agreed text left right) terms → IsIn name (map (λ t. t.0) (side_of text terms)) → amount_in (side_of text left) name ≡ amount_in (side_of text right) name
+at_name text terms left right name h i =
+    let r = of_name text terms name i in
+    let P : List ℕ → Type 0 = λ n. amount_in (side_of text left) n ≡ amount_in (side_of text right) n in
+    subst P (sym r.2) (all_in (agreed text left right) terms r.0 h r.1)
+
+pub same_said : (text : List ℕ) (left right : List Term) → AllByRecursion (agreed text left right) left → AllByRecursion (agreed text left right) right → SaysSame (statement_of text left right)
+same_said text left right a b name =
+    elim (has_name (side_of text left) name) [
+      | inl i ↦ at_name text left left right name a i
+      | inr no_left ↦ elim (has_name (side_of text right) name) [
+        | inl i ↦ at_name text right left right name b i
+        | inr no_right ↦ none_said (side_of text left) name no_left ∙ sym (none_said (side_of text right) name no_right)
+      ]
+    ]
+
+pub said_same : (text : List ℕ) (left right terms : List Term) → SaysSame (statement_of text left right) → AllByRecursion (agreed text left right) terms
+said_same text left right terms h = all_from (agreed text left right) terms (λ t i. h (name_at text t))

@@ -1,0 +1,13 @@
+pub mod Lists
+pub mod Firsts
+pub mod Members
+pub mod Whole
+pub mod Differences
+pub mod CallerLemmas
+pub mod Adding
+pub mod Species
+pub mod Growth
+pub mod Building
+pub mod Names
+pub mod Rows
+pub mod Amounts

@@ -1,0 +1,82 @@
+-- The names of a table with those of a side that come anew.
+use Rattle.std.proofs.Common.{◌≡◌, ℕ, ◌<◌, ◌≤◌, ◌+◌, List, [], ◌∷◌, ◌++◌, length, get_or, take, drop, map, refl, sym, ap, subst, ◌∙◌, append_assoc, arith}
+use Rattle.std.specs.Str.{bytes_eq}
+use Rattle.std.proofs.lemmas.Slice.Eq.{bytes_eq-Decides}
+use Rattle.std.proofs.lemmas.List.{append-nil, map_more, map-append, take-append-drop, take-append-le, length-take, length_push, take_all}
+use Rattle.crn_vec.specs.Lists.{IsIn, AreDistinct, firsts}
+use Rattle.crn_net.specs.declared.term.Term.{Term}
+use Rattle.crn_net.specs.Terms.{name_at, side_of, statement_of}
+use Rattle.crn_vec.specs.Network.{names_in}
+use Rattle.crn_net.proofs.Firsts.{firsts_has, firsts_from, firsts_known, firsts_new, firsts_length, firsts_all, firsts_firsts}
+
+pub no_more : (old : List (List ℕ)) → AreDistinct old → old ≡ firsts bytes_eq (old ++ [])
+no_more old h = sym (ap (firsts bytes_eq) (append-nil old) ∙ firsts_all bytes_eq bytes_eq-Decides old h)
+
+one_more : (old : List (List ℕ)) (text : List ℕ) (side : List Term) (i : ℕ) (d : Term) → i < length side → old ++ map (name_at text) (take (i + 1) side) ≡ (old ++ map (name_at text) (take i side)) ++ name_at text (get_or side i d) ∷ []
+one_more old text side i d lt = ap (λ (t : List (List ℕ)). old ++ t) (map_more (name_at text) side i d lt) ∙ sym (append_assoc old (map (name_at text) (take i side)) (name_at text (get_or side i d) ∷ []))
+
+pub names_known : (old names : List (List ℕ)) (text : List ℕ) (side : List Term) (i : ℕ) (d : Term) → i < length side → names ≡ firsts bytes_eq (old ++ map (name_at text) (take i side)) → IsIn (name_at text (get_or side i d)) names
+    → names ≡ firsts bytes_eq (old ++ map (name_at text) (take (i + 1) side))
+names_known old names text side i d lt is h =
+    let x = name_at text (get_or side i d) in
+    let front = old ++ map (name_at text) (take i side) in
+    let there : IsIn x front = firsts_from bytes_eq front x (subst (λ (t : List (List ℕ)). IsIn x t) is h) in
+    is ∙ sym (ap (firsts bytes_eq) (one_more old text side i d lt) ∙ firsts_known bytes_eq bytes_eq-Decides front x there)
+
+pub names_new : (old names : List (List ℕ)) (text : List ℕ) (side : List Term) (i : ℕ) (d : Term) → i < length side → names ≡ firsts bytes_eq (old ++ map (name_at text) (take i side)) → (IsIn (name_at text (get_or side i d)) names → ⊥)
+    → names ++ name_at text (get_or side i d) ∷ [] ≡ firsts bytes_eq (old ++ map (name_at text) (take (i + 1) side))
+names_new old names text side i d lt is h =
+    let x = name_at text (get_or side i d) in
+    let front = old ++ map (name_at text) (take i side) in
+    let free : IsIn x front → ⊥ = λ k. h (subst (λ (t : List (List ℕ)). IsIn x t) (sym is) (firsts_has bytes_eq bytes_eq-Decides front x k)) in
+    ap (λ (t : List (List ℕ)). t ++ x ∷ []) is ∙ sym (ap (firsts bytes_eq) (one_more old text side i d lt) ∙ firsts_new bytes_eq bytes_eq-Decides front x free)
+
+pub names_over : (old names : List (List ℕ)) (text : List ℕ) (side : List Term) (i : ℕ) (d : Term) (limit : ℕ) → i < length side → names ≡ firsts bytes_eq (old ++ map (name_at text) (take i side)) → (IsIn (name_at text (get_or side i d)) names → ⊥) → limit ≤ length names
+    → limit < length (firsts bytes_eq (old ++ map (name_at text) side))
+names_over old names text side i d limit lt is h le =
+    let x = name_at text (get_or side i d) in
+    let f = name_at text in
+    let new = ap length (names_new old names text side i d lt is h) in
+    let long = length_push names x in
+    let whole : old ++ map f side ≡ (old ++ map f (take (i + 1) side)) ++ map f (drop (i + 1) side) =
+    ap (λ (t : List (List ℕ)). old ++ t) (ap (map f) (sym (take-append-drop (i + 1) side)) ∙ map-append f (take (i + 1) side) (drop (i + 1) side)) ∙ sym (append_assoc old (map f (take (i + 1) side)) (map f (drop (i + 1) side))) in
+    let more = firsts_length bytes_eq (old ++ map f (take (i + 1) side)) (map f (drop (i + 1) side)) in
+    let all = ap (λ (t : List (List ℕ)). length (firsts bytes_eq t)) whole in
+    omega (arith, new, long, more, all)
+
+-- ---- a front that stays
+
+pub kept_push : {A : Type 0} (old new : List A) (x : A) → take (length old) new ≡ old → take (length old) (new ++ x ∷ []) ≡ old
+kept_push old new x h =
+    let long = ap length h in
+    let least = length-take (length old) new in
+    let le : length old ≤ length new = omega (arith, long, least) in
+    take-append-le (length old) new (x ∷ []) le ∙ h
+
+pub kept_all : {A : Type 0} (old : List A) → take (length old) old ≡ old
+kept_all old = take_all (length old) old (omega arith)
+
+-- ---- the names of both sides
+
+names_of_side : (text : List ℕ) (side : List Term) → map (λ t. t.0) (side_of text side) ≡ map (name_at text) side
+names_of_side text [] = refl
+names_of_side text (t ∷ side) = ap (λ (r : List (List ℕ)). name_at text t ∷ r) (names_of_side text side)
+
+pub statement_names : (text : List ℕ) (left right : List Term) → names_in (statement_of text left right) ≡ map (name_at text) left ++ map (name_at text) right
+statement_names text left right = ap (λ (t : List (List ℕ)). t ++ map (λ u. u.0) (side_of text right)) (names_of_side text left) ∙ ap (λ (t : List (List ℕ)). map (name_at text) left ++ t) (names_of_side text right)
+
+-- first the names of one side, then those of the other
+pub names_both : (old middle : List (List ℕ)) (text : List ℕ) (left right : List Term) → middle ≡ firsts bytes_eq (old ++ map (name_at text) left)
+    → firsts bytes_eq (middle ++ map (name_at text) right) ≡ firsts bytes_eq (old ++ names_in (statement_of text left right))
+names_both old middle text left right is =
+    let l = map (name_at text) left in
+    let r = map (name_at text) right in
+    ap (λ (t : List (List ℕ)). firsts bytes_eq (t ++ r)) is ∙ firsts_firsts bytes_eq bytes_eq-Decides (old ++ l) r ∙ ap (firsts bytes_eq) (append_assoc old l r ∙ ap (λ (t : List (List ℕ)). old ++ t) (sym (statement_names text left right)))
+
+pub left_over : (old : List (List ℕ)) (text : List ℕ) (left right : List Term) (limit : ℕ) → limit < length (firsts bytes_eq (old ++ map (name_at text) left)) → limit < length (firsts bytes_eq (old ++ names_in (statement_of text left right)))
+left_over old text left right limit lt =
+    let l = map (name_at text) left in
+    let r = map (name_at text) right in
+    let more = firsts_length bytes_eq (old ++ l) r in
+    let is = ap (λ (t : List (List ℕ)). length (firsts bytes_eq t)) (append_assoc old l r ∙ ap (λ (t : List (List ℕ)). old ++ t) (sym (statement_names text left right))) in
+    omega (arith, more, is, lt)

@@ -1,0 +1,104 @@
+-- Rows of amounts, which end in zeros, and tables with a member put in.
+use Rattle.std.proofs.Common.{◌≡◌, ◌≢◌, ◌⊎◌, ℕ, ◌<◌, ◌≤◌, ◌+◌, ◌-◌, Bool, true, List, [], ◌∷◌, ◌++◌, length, get_or, take, map, replicate, sym, ap, subst, ◌∙◌, inl, inr, arith, set}
+use Rattle.std.specs.Prelude.{ℤ, pos}
+use Rattle.std.specs.Bool.{Decides}
+use Rattle.std.specs.List.{AllByRecursion}
+use Rattle.std.proofs.lemmas.Bool.{cases_lt, cases_Bool}
+use Rattle.std.proofs.lemmas.List.{take_more_set, map_more, get_or-replicate, get_or_past, length-replicate, get_or-set_other, ext_get_or, get_or-take, length-take-le, length-append, get_or_append_left, get_or-append_right, length_push}
+use Rattle.crn_vec.specs.Lists.{IsIn, AreDistinct, firsts}
+use Rattle.crn_vec.specs.Network.{amount_in, amounts_in}
+use Rattle.crn_vec.specs.declared.limits.TheConstants.{MAX_SPECIES}
+use Rattle.crn_net.specs.Views.{vectors_of, IsRow, AreRows}
+use Rattle.crn_net.specs.Grows.{widened}
+use Rattle.crn_net.specs.Steps.{Puts}
+use Rattle.crn_net.proofs.Lists.{map_twice, map_same, all_in, all_push, at_in, distinct_push}
+use Rattle.crn_net.proofs.Firsts.{firsts_known, firsts_new, firsts_all}
+
+pub zeros_at : (n k : ℕ) → get_or (replicate n (pos 0)) k (pos 0) ≡ pos 0
+zeros_at n k = elim (cases_lt k n) [ inl lt ↦ get_or-replicate n k (pos 0) (pos 0) lt | inr le ↦ get_or_past (replicate n (pos 0)) k (pos 0) (omega (arith, length-replicate n (pos 0))) ]
+
+-- one amount more
+pub row_more : (names : List (List ℕ)) (side : List (List ℕ × ℕ)) (row : List ℤ) (s : ℕ) (v : ℤ) → s < length names → s < length row → take s row ≡ amounts_in (take s names) side → v ≡ pos (amount_in side (get_or names s []))
+    → take (s + 1) (set row s v) ≡ amounts_in (take (s + 1) names) side
+row_more names side row s v in_names in_row is value =
+    take_more_set row s v in_row ∙ ap (λ (t : List ℤ). t ++ v ∷ []) is ∙ ap (λ (t : ℤ). amounts_in (take s names) side ++ t ∷ []) value
+    ∙ sym (map_more (λ name. pos (amount_in side name)) names s [] in_names)
+
+pub rest_stays : (row : List ℤ) (s : ℕ) (v : ℤ) → ((k : ℕ) → s ≤ k → get_or row k (pos 0) ≡ pos 0) → (k : ℕ) → s + 1 ≤ k → get_or (set row s v) k (pos 0) ≡ pos 0
+rest_stays row s v h k le = let ne : k ≢ s = omega arith in rw get_or-set_other (h k (omega arith))
+
+-- ---- rows as vectors
+
+pub row_ext : (n : ℕ) (a b : List ℤ) → IsRow n a → IsRow n b → take n a ≡ take n b → a ≡ b
+row_ext n a b p q e =
+    ext_get_or (pos 0) a b (p.long ∙ sym q.long) (λ k lt. elim (cases_lt k n) [
+      | inl below ↦ sym (get_or-take n a k (pos 0) below) ∙ ap (λ (t : List ℤ). get_or t k (pos 0)) e ∙ get_or-take n b k (pos 0) below
+      | inr above ↦ p.rest k above ∙ sym (q.rest k above)
+    ])
+
+pub row_wider : (n m : ℕ) (a : List ℤ) → n ≤ m → IsRow n a → IsRow m a
+row_wider n m a le p = record { long = p.long; rest = λ k h. p.rest k (omega arith) }
+
+pub row_length : (n : ℕ) (a : List ℤ) → n ≤ MAX_SPECIES → IsRow n a → length (take n a) ≡ n
+row_length n a le p = let long = p.long in length-take-le n a (omega arith)
+
+pub row_widened : (n m : ℕ) (a : List ℤ) → n ≤ m → m ≤ MAX_SPECIES → IsRow n a → widened m (take n a) ≡ take m a
+row_widened n m a le few p =
+    let long = p.long in
+    let front : length (take n a) ≡ n = row_length n a (omega arith) p in
+    let zeros = replicate (m - length (take n a)) (pos 0) in
+    let count = length-replicate (m - length (take n a)) (pos 0) in
+    let whole : length (widened m (take n a)) ≡ m = omega (arith, length-append (take n a) zeros, front, count) in
+    let other : length (take m a) ≡ m = length-take-le m a (omega arith) in
+    ext_get_or (pos 0) (widened m (take n a)) (take m a) (whole ∙ sym other) (λ k lt. elim (cases_lt k n) [
+      | inl below ↦ get_or_append_left (take n a) zeros (pos 0) k (omega arith) ∙ get_or-take n a k (pos 0) below ∙ sym (get_or-take m a k (pos 0) (omega arith))
+      | inr above ↦ get_or-append_right (take n a) zeros n k (pos 0) front above ∙ zeros_at (m - length (take n a)) (k - n) ∙ sym (get_or-take m a k (pos 0) (omega arith) ∙ p.rest k above)
+    ])
+
+-- vectors of rows, widened
+pub vectors_widened : (n m : ℕ) (rows : List (List ℤ)) → n ≤ m → m ≤ MAX_SPECIES → AreRows n rows → map (widened m) (vectors_of n rows) ≡ vectors_of m rows
+vectors_widened n m rows le few p = map_twice (take n) (widened m) rows ∙ map_same (λ row. widened m (take n row)) (take m) rows (λ row i. row_widened n m row le few (all_in (IsRow n) rows row p i))
+
+-- ---- a member put in
+
+pub puts_distinct : {A : Type 0} (old new : List A) (x : A) → AreDistinct old → Puts old x new → AreDistinct new
+puts_distinct {A} old new x d (inl p) = subst AreDistinct (sym p.1) d
+puts_distinct {A} old new x d (inr p) = subst AreDistinct (sym p.1) (distinct_push old x d p.0)
+
+pub puts_firsts : {A : Type 0} (same : A → A → Bool) (dec : (a b : A) → Decides (same a b) (a ≡ b)) (old new : List A) (x : A) → AreDistinct old → Puts old x new → firsts same (old ++ x ∷ []) ≡ new
+puts_firsts same dec old new x d (inl p) = firsts_known same dec old x p.0 ∙ firsts_all same dec old d ∙ sym p.1
+puts_firsts {A} same dec old new x d (inr p) = firsts_new same dec old x p.0 ∙ ap (λ (t : List A). t ++ x ∷ []) (firsts_all same dec old d) ∙ sym p.1
+
+pub puts_all : {A : Type 0} (P : A → Type 0) (old new : List A) (x : A) → AllByRecursion P old → P x → Puts old x new → AllByRecursion P new
+puts_all P old new x h p (inl q) = subst (AllByRecursion P) (sym q.1) h
+puts_all P old new x h p (inr q) = subst (AllByRecursion P) (sym q.1) (all_push P old x h p)
+
+-- a member put in stands at an old place, or at the new one at the end
+pub puts_place : {A : Type 0} (old new : List A) (x : A) (y : ℕ) → Puts old x new → y < length new → get_or new y x ≡ x → ((y < length old) × (length new ≡ length old)) ⊎ ((y ≡ length old) × (length new ≡ length old + 1))
+puts_place {A} old new x y (inl p) lt at = let e = ap length p.1 in inl (omega (arith, e, lt), e)
+puts_place {A} old new x y (inr p) lt at =
+    let e = ap length p.1 in
+    let long = length_push old x in
+    elim (cases_lt y (length old)) [
+      | inl below ↦
+          let there : IsIn (get_or old y x) old = at_in old y x below in
+          let is : get_or old y x ≡ x = sym (get_or_append_left old (x ∷ []) x y below) ∙ ap (λ (t : List A). get_or t y x) (sym p.1) ∙ at in
+          absurd (p.0 (subst (λ (t : A). IsIn t old) is there))
+      | inr above ↦ inr (omega (arith, e, long, lt, above), omega (arith, e, long))
+    ]
+
+pub puts_keeps : {A : Type 0} (old new : List A) (x d : A) (k : ℕ) → Puts old x new → k < length old → get_or new k d ≡ get_or old k d
+puts_keeps {A} old new x d k (inl p) lt = ap (λ (t : List A). get_or t k d) p.1
+puts_keeps {A} old new x d k (inr p) lt = ap (λ (t : List A). get_or t k d) p.1 ∙ get_or_append_left old (x ∷ []) d k lt
+
+pub puts_longer : {A : Type 0} (old new : List A) (x : A) → Puts old x new → length old ≤ length new
+puts_longer old new x (inl p) = let e = ap length p.1 in omega (arith, e)
+puts_longer old new x (inr p) = let e = ap length p.1 in let long = length_push old x in omega (arith, e, long)
+
+-- tests that decide equivalent facts are equal
+pub same_test : (a b : Bool) (P Q : Type 0) → Decides a P → Decides b Q → (P → Q) → (Q → P) → a ≡ b
+same_test a b P Q p q to from =
+    elim (cases_Bool a) [
+      | inl yes' ↦ let t : b ≡ true = q.1 (to (p.0 yes')) in cc
+      | inr no' ↦ elim (cases_Bool b) [ inl yes' ↦ absurd (let t : a ≡ true = p.1 (from (q.0 yes')) in cc) | inr none ↦ cc ]
+    ]

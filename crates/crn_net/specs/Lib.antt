@@ -1,0 +1,4 @@
+pub mod Terms
+pub mod Grows
+pub mod Views
+pub mod Steps

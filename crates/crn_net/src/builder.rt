@@ -1,0 +1,93 @@
+ghost use Rattle.std.specs.Prelude.{◌≡◌, ◌≤◌, length, IfOk};
+ghost use Rattle.crn_net.specs.Terms.{statement_of, IsSide};
+ghost use Rattle.crn_net.specs.Grows.{no_net, AddGives, FinishGives};
+
+use crate::fault::NetFault;
+use crate::name::Name;
+use crate::network::Network;
+use crate::sides::is_self;
+use crate::tables::{Row, build, differences};
+use crate::term::Term;
+use crn_vec::{MAX_COMPLEXES, MAX_REACTIONS, MAX_SPECIES, MAX_TEXT};
+use std::alloc::{AllocError, Global};
+use std::marker::Model;
+
+/// Collects the reactions of a network, which contracts see as far as it is built.
+#[derive(Drop)]
+pub struct NetBuilder {
+    names: Vec<Name>,
+    rows: Vec<Row>,
+    reactions: Vec<(usize, usize)>,
+}
+
+impl Model for NetBuilder {
+    ghost use Rattle.std.specs.Prelude.{length};
+    ghost use Rattle.crn_vec.specs.Network.{Net, IsPartialNetwork};
+    ghost use Rattle.crn_net.specs.Views.{net_of, AreRows};
+
+    ghost Value = { Net };
+
+    ghost view = { λ b. net_of b.names.items b.rows.items b.reactions.items };
+
+    ghost invariant = { λ b. IsPartialNetwork (net_of b.names.items b.rows.items b.reactions.items) × AreRows (length b.names.items) b.rows.items };
+}
+
+impl NetBuilder {
+    /// A builder without reactions. It takes the memory for the largest network at once.
+    pub fn new(alloc: Global) -> Result<NetBuilder, AllocError>
+        ensures { IfOk result (λ made. made ≡ no_net) }
+    {
+        Ok(NetBuilder {
+            names: Vec::with_capacity(alloc, MAX_SPECIES)?,
+            rows: Vec::with_capacity(alloc, MAX_COMPLEXES)?,
+            reactions: Vec::with_capacity(alloc, MAX_REACTIONS)?,
+        })
+    }
+
+    /// Adds the reaction from the complex of one side to that of the other. An empty side is the zero complex.
+    ///
+    /// Species and complexes that come anew are numbered from left to right. A reaction that is there already
+    /// stays once. After an error the builder is as before.
+    pub fn add(&mut self, text: &[u8], left: &[Term], right: &[Term]) -> Result<(), NetFault>
+        requires short { length text.now ≤ MAX_TEXT }
+        requires left { IsSide text.now left.now }
+        requires right { IsSide text.now right.now }
+        ensures { AddGives self.old (statement_of text.now left.now right.now) result self.new }
+    {
+        if is_self(text, left, right) {
+            return Err(NetFault::SelfReaction);
+        }
+        let species = self.names.len();
+        let complexes = self.rows.len();
+        let added = build(
+            &mut self.names,
+            &mut self.rows,
+            &mut self.reactions,
+            text,
+            left,
+            right,
+        );
+        if added.is_err() {
+            self.names.truncate(species);
+            self.rows.truncate(complexes);
+        }
+        added
+    }
+
+    /// The network of the reactions that were added.
+    pub fn finish(self) -> Result<Network, NetFault>
+        ensures { FinishGives self result }
+    {
+        if self.reactions.is_empty() {
+            return Err(NetFault::NoReaction);
+        }
+        let alloc = *self.reactions.allocator();
+        let differences = differences(alloc, &self.rows, &self.reactions)?;
+        let NetBuilder {
+            names,
+            rows,
+            reactions,
+        } = self;
+        Ok(Network::new(names, rows, reactions, differences))
+    }
+}

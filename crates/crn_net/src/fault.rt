@@ -1,0 +1,33 @@
+ghost use Rattle.std.specs.Prelude.{◌≡◌};
+ghost use Rattle.crn_net.specs.declared.fault.NetFault.TheVariants.{NoMemory};
+
+use std::alloc::{AllocError, AllocFailed};
+
+/// Why a reaction is not added, or a network not built, in the order in which the causes are looked at.
+#[derive(Clone, Copy, Debug, PartialEq, Eq)]
+pub enum NetFault {
+    /// Both sides are the same complex.
+    SelfReaction,
+    TooManySpecies,
+    TooManyComplexes,
+    TooManyReactions,
+    /// The network has no reaction.
+    NoReaction,
+    NoMemory,
+}
+
+impl From<AllocError> for NetFault {
+    ghost from_gives = { λ _ e. e ≡ NoMemory };
+
+    fn from(_: AllocError) -> NetFault {
+        NetFault::NoMemory
+    }
+}
+
+impl<T: Drop> From<AllocFailed<T>> for NetFault {
+    ghost from_gives = { λ _ e. e ≡ NoMemory };
+
+    fn from(_: AllocFailed<T>) -> NetFault {
+        NetFault::NoMemory
+    }
+}

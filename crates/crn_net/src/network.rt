@@ -1,0 +1,130 @@
+ghost use Rattle.std.specs.Prelude.{◌≡◌, ◌<◌, ◌≤◌, length, map, [], slice_index_or};
+ghost use Rattle.std.specs.List.{AllByRecursion};
+ghost use Rattle.crn_vec.specs.Network.{Net, IsNetwork, IsName, IsAmount};
+ghost use Rattle.crn_vec.specs.Vectors.{AreWithin};
+ghost use Rattle.crn_vec.specs.Network.{reaction_vector};
+ghost use Rattle.crn_net.specs.Views.{net_of, vectors_of};
+
+use crate::name::Name;
+use crate::tables::Row;
+use crn_vec::{MAX_AMOUNT, MAX_COMPLEXES, MAX_REACTIONS, MAX_SPECIES};
+use std::marker::Model;
+
+/// A reaction network. Species, complexes and reactions are counted from 0.
+#[derive(Drop)]
+pub struct Network {
+    names: Vec<Name>,
+    rows: Vec<Row>,
+    reactions: Vec<(usize, usize)>,
+    differences: Vec<Row>,
+}
+
+impl Model for Network {
+    ghost use Rattle.std.specs.Prelude.{◌≡◌, length, map};
+    ghost use Rattle.crn_vec.specs.Network.{Net, IsNetwork};
+    ghost use Rattle.crn_net.specs.Views.{net_of, vectors_of};
+    ghost use Rattle.crn_vec.specs.Network.{reaction_vector};
+
+    ghost Value = { Net };
+
+    ghost view = { λ n. net_of n.names.items n.rows.items n.reactions.items };
+
+    ghost invariant = { λ n. let net = net_of n.names.items n.rows.items n.reactions.items in IsNetwork net × (vectors_of (length n.names.items) n.differences.items ≡ map (reaction_vector net) n.reactions.items) };
+}
+
+impl Network {
+    // The network that these tables hold, with the vectors of its reactions.
+    pub(crate) fn new(
+        names: Vec<Name>,
+        rows: Vec<Row>,
+        reactions: Vec<(usize, usize)>,
+        differences: Vec<Row>,
+    ) -> Network
+        requires network { IsNetwork (net_of names.items rows.items reactions.items) }
+        requires vectors { vectors_of (length names.items) differences.items ≡ map (reaction_vector (net_of names.items rows.items reactions.items)) reactions.items }
+        ensures { result ≡ net_of names.items rows.items reactions.items }
+    {
+        Network {
+            names,
+            rows,
+            reactions,
+            differences,
+        }
+    }
+
+    /// The number of species.
+    pub fn species(&self) -> usize
+        ensures count { result ≡ length self.now.names }
+        ensures limit { result ≤ MAX_SPECIES }
+        ensures network { IsNetwork self.now }
+    {
+        self.names.len()
+    }
+
+    /// The number of complexes.
+    pub fn complexes(&self) -> usize
+        ensures count { result ≡ length self.now.complexes }
+        ensures limit { result ≤ MAX_COMPLEXES }
+    {
+        self.rows.len()
+    }
+
+    /// The number of reactions.
+    pub fn reactions(&self) -> usize
+        ensures count { result ≡ length self.now.reactions }
+        ensures limit { result ≤ MAX_REACTIONS }
+        ensures some { 1 ≤ result }
+    {
+        self.reactions.len()
+    }
+
+    /// The name of a species.
+    pub fn name(&self, s: usize) -> &[u8]
+        requires { s < length self.now.names }
+        ensures value { result.now ≡ slice_index_or self.now.names s [] }
+        ensures name { IsName result.now }
+    {
+        self.names[s].as_slice()
+    }
+
+    /// The amounts of a complex, one for each species.
+    pub fn vector(&self, c: usize) -> &[i128]
+        requires { c < length self.now.complexes }
+        ensures value { result.now ≡ slice_index_or self.now.complexes c [] }
+        ensures width { length result.now ≡ length self.now.names }
+        ensures amounts { AllByRecursion IsAmount result.now }
+    {
+        let (used, _) = self.rows[c].split_at(self.names.len());
+        used
+    }
+
+    /// The complex that a reaction goes from.
+    pub fn reactant(&self, r: usize) -> usize
+        requires { r < length self.now.reactions }
+        ensures value { result ≡ (slice_index_or self.now.reactions r (0, 0)).0 }
+        ensures complex { result < length self.now.complexes }
+    {
+        self.reactions[r].0
+    }
+
+    /// The complex that a reaction goes to, which is not its reactant.
+    pub fn product(&self, r: usize) -> usize
+        requires { r < length self.now.reactions }
+        ensures value { result ≡ (slice_index_or self.now.reactions r (0, 0)).1 }
+        ensures complex { result < length self.now.complexes }
+        ensures other { result ≡ (slice_index_or self.now.reactions r (0, 0)).0 → ⊥ }
+    {
+        self.reactions[r].1
+    }
+
+    /// The vector of a reaction: product minus reactant, one number for each species.
+    pub fn reaction_vector(&self, r: usize) -> &[i128]
+        requires { r < length self.now.reactions }
+        ensures value { result.now ≡ reaction_vector self.now (slice_index_or self.now.reactions r (0, 0)) }
+        ensures width { length result.now ≡ length self.now.names }
+        ensures small { AreWithin MAX_AMOUNT result.now }
+    {
+        let (used, _) = self.differences[r].split_at(self.names.len());
+        used
+    }
+}
