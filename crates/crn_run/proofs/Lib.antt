@@ -1,0 +1,13 @@
+pub mod Statements
+pub mod LinesRead
+pub mod Firsts
+pub mod Kept
+pub mod Units
+pub mod Builds
+pub mod Unique
+pub mod CallerLemmas
+pub mod Texts
+pub mod Labels
+pub mod LabelLaws
+pub mod Runs
+pub mod Complete

@@ -1,0 +1,7 @@
+pub mod Lines
+pub mod Plain
+pub mod Report
+pub mod Run
+pub mod Spread
+pub mod Steps
+pub mod Turns

@@ -1,0 +1,98 @@
+-- The text of a report, as a function of the network and its verdicts.
+-- Source: this project's own format. Shapes: texts are lists of bytes, and every line ends by LF.
+use Rattle.std.specs.Prelude.{ℕ, ℤ, pos, negsuc, zero, suc, ◌+◌, ◌==◌, if◌then◌else◌, List, [], ◌∷◌, ◌++◌, length, map, codes, decimal}
+use Rattle.std.specs.List.{flat_map}
+use Rattle.crn_vec.specs.Network.{Net}
+
+-- these texts with one between them
+abbrev pub joined : List ℕ → List (List ℕ) → List ℕ
+joined between [] = []
+joined between (x ∷ xs) = x ++ flat_map (λ y. between ++ y) xs
+
+-- ---- complexes
+
+-- a species with its amount, which is left out where it is one
+abbrev pub term : ℤ → List ℕ → List ℕ
+term (pos (suc zero)) name = name
+term (pos n) name = decimal n ++ name
+term (negsuc n) name = name
+
+-- the term of a species, where there is some of it
+abbrev pub term_if_some : ℤ → List ℕ → List (List ℕ)
+term_if_some (pos zero) name = []
+term_if_some (pos (suc n)) name = term (pos (suc n)) name ∷ []
+term_if_some (negsuc n) name = []
+
+-- the terms of a complex in the order of the species
+abbrev pub terms : List (List ℕ) → List ℤ → List (List ℕ)
+terms (name ∷ names) (a ∷ amounts) = term_if_some a name ++ terms names amounts
+terms names amounts = []
+
+-- the terms joined, or a zero where there is none
+abbrev pub or_zero : List (List ℕ) → List ℕ
+or_zero [] = codes "0"
+or_zero (t ∷ ts) = joined (codes " + ") (t ∷ ts)
+
+-- a complex as the canonical text writes it
+unfoldable pub side : List (List ℕ) → List ℤ → List ℕ
+side names amounts = or_zero (terms names amounts)
+
+-- all complexes in order
+abbrev pub sides : Net → List (List ℕ)
+sides net = map (side net.names) net.complexes
+
+-- ---- the head
+
+-- the first line of a report
+unfoldable pub title : List ℕ
+title = codes "crn report 1\n"
+
+-- the number of species and their names
+unfoldable pub species_line : Net → List ℕ
+species_line net = codes "species " ++ decimal (length net.names) ++ codes ": " ++ joined (codes " ") net.names ++ codes "\n"
+
+-- the number of complexes, and the complexes
+unfoldable pub complexes_line : Net → List ℕ
+complexes_line net = codes "complexes " ++ decimal (length net.complexes) ++ codes ": " ++ joined (codes "; ") (sides net) ++ codes "\n"
+
+-- the number of reactions
+unfoldable pub reactions_line : Net → List ℕ
+reactions_line net = codes "reactions " ++ decimal (length net.reactions) ++ codes "\n"
+
+-- the lines before the questions
+abbrev pub head : Net → List ℕ
+head net = title ++ species_line net ++ complexes_line net ++ reactions_line net
+
+-- ---- linkage classes
+
+-- the texts whose label is k
+abbrev pub of_label : ℕ → List ℕ → List (List ℕ) → List (List ℕ)
+of_label k (l ∷ labels) (text ∷ texts) = (if l == k then text ∷ [] else []) ++ of_label k labels texts
+of_label k labels texts = []
+
+-- class k and its complexes in order
+unfoldable pub class_line : List ℕ → List (List ℕ) → ℕ → List ℕ
+class_line labels texts k = codes "  class " ++ decimal k ++ codes ": " ++ joined (codes "; ") (of_label k labels texts) ++ codes "\n"
+
+-- the lines of this many classes, the first of them k
+abbrev pub class_lines : List ℕ → List (List ℕ) → ℕ → ℕ → List ℕ
+class_lines labels texts k zero = []
+class_lines labels texts k (suc n) = class_line labels texts k ++ class_lines labels texts (k + 1) n
+
+-- the question and the number of classes
+unfoldable pub q1_line : ℕ → List ℕ
+q1_line count = codes "Q1 linkage classes: " ++ decimal count ++ codes "\n"
+
+-- the question and its classes
+abbrev pub q1 : Net → ℕ → List ℕ → List ℕ
+q1 net count labels = q1_line count ++ class_lines labels (sides net) 1 count
+
+-- ---- the report
+
+-- the number of open questions
+unfoldable pub open_line : ℕ → List ℕ
+open_line open_count = codes "open: " ++ decimal open_count ++ codes "\n"
+
+-- the report of a network with so many linkage classes and these labels of its complexes
+abbrev pub render : Net → ℕ → List ℕ → List ℕ
+render net count labels = head net ++ q1 net count labels ++ open_line 0

@@ -1,0 +1,199 @@
+-- What a run of the program reads, writes and answers.
+-- Source: this project's own. Shapes: words, names and texts are lists of bytes; lines of a text count from 1.
+use Rattle.std.specs.Prelude.{◌≡◌, ◌≤◌, ◌⊎◌, ◌+◌, ◌==◌, if◌then◌else◌, ℕ, List, [], ◌∷◌, ◌++◌, length, codes, decimal, Option, Some, None, IfSome}
+use Rattle.crn_vec.specs.Network.{Net}
+use Rattle.crn_vec.specs.Linkage.{AreRightLabels, IsLabelCount}
+use Rattle.crn_vec.specs.declared.limits.TheConstants.{MAX_TEXT}
+use Rattle.crn_io.specs.Fault.{Rose}
+use Rattle.crn_io.specs.Pull.{ComesOff}
+use Rattle.crn_io.specs.Push.{Adds, Lowers, HasNoRoom}
+use Rattle.crn_io.specs.Write.{AddsFront}
+use Rattle.crn_run.specs.Plain.{Spells, IsRefused}
+use Rattle.crn_run.specs.Report.{render}
+use Rattle.crn_run.specs.declared.status.Status.{Status}
+use Rattle.crn_run.specs.declared.status.Status.TheVariants.{Done, OpenLeft, Refused, Rejected, Usage, ReadFault, WriteFault, NoMemory}
+
+-- ---- words
+
+-- the words are the program's name and the command `report`
+abbrev pub IsReport : List (List ℕ) → Type 0
+IsReport words = (program : List ℕ) × (words ≡ program ∷ codes "report" ∷ [])
+
+-- ---- texts that are written
+
+-- how the program is used
+unfoldable pub usage_line : List ℕ
+usage_line = codes "usage: crnt report | certify | check | sample K, with --budget N except for check\n"
+
+-- the names of the codes 1, 5 and 10
+abbrev pub name_of_code : ℕ → List ℕ
+name_of_code code = if code == 1 then codes "SelfReaction" else if code == 5 then codes "NoReaction" else codes "NotBuilt"
+
+-- why a text is refused, and at which line
+unfoldable pub refused_line : ℕ → ℕ → List ℕ
+refused_line code line = codes "refused " ++ decimal code ++ codes " " ++ name_of_code code ++ codes " at line " ++ decimal line ++ codes "\n"
+
+-- the report of the network that the text spells, with true verdicts
+pub record IsReportOf (text out : List ℕ) : Type 0 where
+  pub statements : List (List ℕ × List ℕ)
+  pub net : Net
+  pub count : ℕ
+  pub labels : List ℕ
+  pub spells : Spells text net statements
+  pub places : length labels ≡ length net.complexes
+  pub right : AreRightLabels net.reactions labels
+  pub counted : IsLabelCount labels count
+  pub written : out ≡ render net count labels
+
+-- the line that says the first fault of the text
+pub record IsRefusalOf (text out : List ℕ) : Type 0 where
+  pub code : ℕ
+  pub line : ℕ
+  pub refused : IsRefused text code line
+  pub written : out ≡ refused_line code line
+
+-- what may be written for these words and this network text
+abbrev pub IsAllowed : List (List ℕ) → List ℕ → List ℕ → Type 0
+IsAllowed words text out = (IsReport words × (IsReportOf text out ⊎ IsRefusalOf text out)) ⊎ ((IsReport words → ⊥) × (out ≡ usage_line))
+
+-- ---- devices
+
+-- what can be seen of a source and a sink
+pub record Devices : Type 0 where
+  -- the bytes that the source has left, where it tells them
+  pub left : Option (List ℕ)
+  -- its count of faults
+  pub source_faults : ℕ
+  -- the bytes that the sink took, where it tells them
+  pub took : Option (List ℕ)
+  -- how many bytes it takes without a fault, where it tells that
+  pub room : Option ℕ
+  -- its count of faults
+  pub sink_faults : ℕ
+
+-- the text is what the source had left, where it tells it
+abbrev pub WasLeft : Devices → List ℕ → Type 0
+WasLeft old text = IfSome old.left (λ left. left ≡ text)
+
+-- the source was read to its end
+abbrev pub IsReadOut : Option (List ℕ) → Option (List ℕ) → Type 0
+IsReadOut None rest = rest ≡ None
+IsReadOut (Some text) rest = rest ≡ Some []
+
+-- the source was read to its end, or to the first byte past the limit of a text
+abbrev pub IsReadUp : Option (List ℕ) → Option (List ℕ) → Type 0
+IsReadUp left rest = IsReadOut left rest ⊎ ((bytes : List ℕ) × (length bytes ≡ MAX_TEXT + 1) × ComesOff left bytes rest)
+
+-- all of the text was written, without a fault
+pub record Writes (out : List ℕ) (old new : Devices) : Type 0 where
+  pub added : Adds old.took out new.took
+  pub fits : Lowers old.room (length out) (length out) new.room
+  pub quiet : new.sink_faults ≡ old.sink_faults
+
+-- a front of the text was written and something of it is missing; the sink told no room for it, and its count of faults rose
+pub record Breaks (out : List ℕ) (old new : Devices) : Type 0 where
+  pub added : AddsFront old.took out new.took
+  pub no_room : HasNoRoom old.room (length out)
+  pub rose : Rose old.sink_faults new.sink_faults
+  pub later : old.sink_faults ≤ new.sink_faults
+
+-- the sink is as before
+pub record LeavesSink (old new : Devices) : Type 0 where
+  pub took : new.took ≡ old.took
+  pub room : new.room ≡ old.room
+  pub faults : new.sink_faults ≡ old.sink_faults
+
+-- ---- how a run ends, by its status
+
+-- the source was read to its end, its text spells a network, and the report of that network was written
+pub record EndsDone (words : List (List ℕ)) (old new : Devices) : Type 0 where
+  pub command : IsReport words
+  pub read : IsReadOut old.left new.left
+  pub source : new.source_faults ≡ old.source_faults
+  pub text : List ℕ
+  pub left : WasLeft old text
+  pub out : List ℕ
+  pub says : IsReportOf text out
+  pub sink : Writes out old new
+
+-- the source was read as far as a text goes, its text has a fault, and the line of its first fault was written
+pub record EndsRefused (words : List (List ℕ)) (old new : Devices) : Type 0 where
+  pub command : IsReport words
+  pub read : IsReadUp old.left new.left
+  pub source : new.source_faults ≡ old.source_faults
+  pub text : List ℕ
+  pub left : WasLeft old text
+  pub out : List ℕ
+  pub says : IsRefusalOf text out
+  pub sink : Writes out old new
+
+-- the words are no command, nothing was read, and the usage line was written
+pub record EndsUsage (words : List (List ℕ)) (old new : Devices) : Type 0 where
+  pub command : IsReport words → ⊥
+  pub read : new.left ≡ old.left
+  pub source : new.source_faults ≡ old.source_faults
+  pub sink : Writes usage_line old new
+
+-- the source's count of faults rose, and the sink is as before
+pub record EndsReadFault (words : List (List ℕ)) (old new : Devices) : Type 0 where
+  pub command : IsReport words
+  pub source : Rose old.source_faults new.source_faults
+  pub later : old.source_faults ≤ new.source_faults
+  pub sink : LeavesSink old new
+
+-- the sink's count of faults rose, and a front of a text that may be written was written
+pub record EndsWriteFault (words : List (List ℕ)) (old new : Devices) : Type 0 where
+  pub read : (IsReport words → ⊥) → new.left ≡ old.left
+  pub source : new.source_faults ≡ old.source_faults
+  pub text : List ℕ
+  pub left : WasLeft old text
+  pub out : List ℕ
+  pub allowed : IsAllowed words text out
+  pub sink : Breaks out old new
+
+-- nothing was written, for want of memory
+pub record EndsNoMemory (old new : Devices) : Type 0 where
+  pub source : new.source_faults ≡ old.source_faults
+  pub sink : LeavesSink old new
+
+-- what a run did, by the status that it ended with
+abbrev pub RunGives : Status → List (List ℕ) → Devices → Devices → Type 0
+RunGives Done words old new = EndsDone words old new
+RunGives OpenLeft words old new = ⊥
+RunGives Refused words old new = EndsRefused words old new
+RunGives Rejected words old new = ⊥
+RunGives Usage words old new = EndsUsage words old new
+RunGives ReadFault words old new = EndsReadFault words old new
+RunGives WriteFault words old new = EndsWriteFault words old new
+RunGives NoMemory words old new = EndsNoMemory old new
+
+-- ---- completeness
+
+-- neither count of faults rose
+pub record HasNoFault (old new : Devices) : Type 0 where
+  pub source : Rose old.source_faults new.source_faults → ⊥
+  pub sink : Rose old.sink_faults new.sink_faults → ⊥
+
+-- the source tells a text that spells a network
+abbrev pub TellsNetwork : Devices → Type 0
+TellsNetwork old = (text : List ℕ) × (net : Net) × (statements : List (List ℕ × List ℕ)) × (old.left ≡ Some text) × Spells text net statements
+
+-- the source tells a text that has a fault
+abbrev pub TellsFault : Devices → Type 0
+TellsFault old = (text : List ℕ) × (code : ℕ) × (line : ℕ) × (old.left ≡ Some text) × IsRefused text code line
+
+-- a run without a fault of a device answers what the words and the text ask for, or wants memory
+pub record IsComplete (status : Status) (words : List (List ℕ)) (old new : Devices) : Type 0 where
+  pub done : HasNoFault old new → IsReport words → TellsNetwork old → (status ≡ Done) ⊎ (status ≡ NoMemory)
+  pub refused : HasNoFault old new → IsReport words → TellsFault old → (status ≡ Refused) ⊎ (status ≡ NoMemory)
+  pub usage : HasNoFault old new → (IsReport words → ⊥) → (status ≡ Usage) ⊎ (status ≡ NoMemory)
+
+-- ---- devices that don't fail
+
+-- the source tells this text and its count of faults stays at 0, and the sink tells a room for what is written
+pub record IsQuiet (old new : Devices) (text out : List ℕ) : Type 0 where
+  pub left : old.left ≡ Some text
+  pub source : (old.source_faults ≡ 0) × (new.source_faults ≡ 0)
+  pub room : ℕ
+  pub tells : old.room ≡ Some room
+  pub fits : length out ≤ room

@@ -1,0 +1,304 @@
+ghost use Rattle.std.specs.Prelude.{◌≡◌, ◌≤◌, ◌<◌, ◌++◌, ◌+◌, ◌^◌, IfOk, [], pos, ◌<ℤ◌, codes, decimal, length, slice_index_or};
+ghost use Rattle.std.specs.Fmt.{signed_decimal};
+ghost use Rattle.crn_io.specs.Write.{Wrote};
+ghost use Rattle.crn_run.specs.Run.{name_of_code, refused_line, usage_line};
+ghost use Rattle.crn_run.specs.Report.{joined, term, term_if_some, side, sides, of_label, class_line, class_lines, title, species_line, complexes_line, reactions_line, head, q1_line, open_line, render};
+ghost use Rattle.crn_run.specs.Turns.{turn, added, if_label};
+
+use crn_io::{Sink, WriteFault, put_all, put_parts};
+use crn_net::Network;
+use itoa::Buffer;
+
+// A title, a count and a colon.
+fn put_count<K: Sink>(
+    sink: &mut K,
+    title: &[u8],
+    count: usize,
+    after: &[u8],
+) -> Result<(), WriteFault>
+    ensures { Wrote (title.now ++ decimal count ++ after.now) (K.took sink.old) (K.took sink.new) (K.room sink.old) (K.room sink.new) (K.faults sink.old) (K.faults sink.new) result }
+{
+    let mut buffer = Buffer::new();
+    put_parts(sink, &[title, buffer.format(count).as_bytes(), after])
+}
+
+// One of several texts with another between them.
+fn put_turn<K: Sink>(sink: &mut K, between: &[u8], i: usize, piece: &[u8]) -> Result<(), WriteFault>
+    ensures { Wrote (turn between.now i piece.now) (K.took sink.old) (K.took sink.new) (K.room sink.old) (K.room sink.new) (K.faults sink.old) (K.faults sink.new) result }
+{
+    match i {
+        0 => put_all(sink, piece),
+        _ => put_parts(sink, &[between, piece]),
+    }
+}
+
+// The names of all species.
+fn put_names<K: Sink>(sink: &mut K, net: &Network) -> Result<(), WriteFault>
+    ensures { Wrote (joined (codes " ") net.now.names) (K.took sink.old) (K.took sink.new) (K.room sink.old) (K.room sink.new) (K.faults sink.old) (K.faults sink.new) result }
+{
+    for s in 0..net.species() {
+        put_turn(sink, b" ", s, net.name(s))?;
+    }
+    Ok(())
+}
+
+// A separator, a number and a name.
+fn put_number<K: Sink>(
+    sink: &mut K,
+    between: &[u8],
+    amount: i128,
+    name: &[u8],
+) -> Result<(), WriteFault>
+    ensures { Wrote (between.now ++ signed_decimal amount ++ name.now) (K.took sink.old) (K.took sink.new) (K.room sink.old) (K.room sink.new) (K.faults sink.old) (K.faults sink.new) result }
+{
+    let mut buffer = Buffer::new();
+    put_parts(sink, &[between, buffer.format(amount).as_bytes(), name])
+}
+
+// A species with its amount, as the i-th term of a side.
+fn put_term<K: Sink>(sink: &mut K, i: usize, amount: i128, name: &[u8]) -> Result<(), WriteFault>
+    requires { pos 0 <ℤ amount }
+    ensures { Wrote (turn (codes " + ") i (term amount name.now)) (K.took sink.old) (K.took sink.new) (K.room sink.old) (K.room sink.new) (K.faults sink.old) (K.faults sink.new) result }
+{
+    if amount == 1 {
+        return put_turn(sink, b" + ", i, name);
+    }
+    match i {
+        0 => put_number(sink, b"", amount, name),
+        _ => put_number(sink, b" + ", amount, name),
+    }
+}
+
+// A species of a side behind `shown` terms, where there is some of it, and the new number of terms.
+fn put_species<K: Sink>(
+    sink: &mut K,
+    shown: usize,
+    amount: &i128,
+    name: &[u8],
+) -> Result<usize, WriteFault>
+    requires { shown < 2 ^ 32 }
+    ensures text { Wrote (added (codes " + ") shown (term_if_some amount.now name.now)) (K.took sink.old) (K.took sink.new) (K.room sink.old) (K.room sink.new) (K.faults sink.old) (K.faults sink.new) result }
+    ensures count { IfOk result (λ n. n ≡ shown + length (term_if_some amount.now name.now)) }
+{
+    if *amount <= 0 {
+        return Ok(shown);
+    }
+    match put_term(sink, shown, *amount, name) {
+        Ok(()) => Ok(shown + 1),
+        Err(fault) => Err(fault),
+    }
+}
+
+// A complex as the canonical text writes it.
+fn put_side<K: Sink>(sink: &mut K, net: &Network, c: usize) -> Result<(), WriteFault>
+    requires { c < length net.now.complexes }
+    ensures { Wrote (side net.now.names (slice_index_or net.now.complexes c [])) (K.took sink.old) (K.took sink.new) (K.room sink.old) (K.room sink.new) (K.faults sink.old) (K.faults sink.new) result }
+{
+    let vector = net.vector(c);
+    let mut shown = 0usize;
+    for s in 0..net.species() {
+        shown = put_species(sink, shown, &vector[s], net.name(s))?;
+    }
+    if shown == 0 {
+        return put_all(sink, b"0");
+    }
+    Ok(())
+}
+
+// A complex behind `shown` others.
+fn put_next_side<K: Sink>(
+    sink: &mut K,
+    shown: usize,
+    net: &Network,
+    c: usize,
+) -> Result<(), WriteFault>
+    requires { c < length net.now.complexes }
+    ensures { Wrote (turn (codes "; ") shown (slice_index_or (sides net.now) c [])) (K.took sink.old) (K.took sink.new) (K.room sink.old) (K.room sink.new) (K.faults sink.old) (K.faults sink.new) result }
+{
+    if shown == 0 {
+        return put_side(sink, net, c);
+    }
+    put_all(sink, b"; ")?;
+    put_side(sink, net, c)
+}
+
+// All complexes.
+fn put_sides<K: Sink>(sink: &mut K, net: &Network) -> Result<(), WriteFault>
+    ensures { Wrote (joined (codes "; ") (sides net.now)) (K.took sink.old) (K.took sink.new) (K.room sink.old) (K.room sink.new) (K.faults sink.old) (K.faults sink.new) result }
+{
+    for c in 0..net.complexes() {
+        put_next_side(sink, c, net, c)?;
+    }
+    Ok(())
+}
+
+// A complex behind `shown` others, where its label is that of the class, and the new number of complexes.
+fn put_member<K: Sink>(
+    sink: &mut K,
+    shown: usize,
+    class: u32,
+    label: &u32,
+    net: &Network,
+    c: usize,
+) -> Result<usize, WriteFault>
+    requires place { c < length net.now.complexes }
+    requires few { shown < 2 ^ 32 }
+    ensures text { Wrote (added (codes "; ") shown (if_label class label.now (slice_index_or (sides net.now) c []))) (K.took sink.old) (K.took sink.new) (K.room sink.old) (K.room sink.new) (K.faults sink.old) (K.faults sink.new) result }
+    ensures count { IfOk result (λ n. n ≡ shown + length (if_label class label.now (slice_index_or (sides net.now) c []))) }
+{
+    if *label != class {
+        return Ok(shown);
+    }
+    match put_next_side(sink, shown, net, c) {
+        Ok(()) => Ok(shown + 1),
+        Err(fault) => Err(fault),
+    }
+}
+
+// The complexes of a class.
+fn put_members<K: Sink>(
+    sink: &mut K,
+    class: u32,
+    labels: &[u32],
+    net: &Network,
+) -> Result<(), WriteFault>
+    requires { length labels.now ≡ length net.now.complexes }
+    ensures { Wrote (joined (codes "; ") (of_label class labels.now (sides net.now))) (K.took sink.old) (K.took sink.new) (K.room sink.old) (K.room sink.new) (K.faults sink.old) (K.faults sink.new) result }
+{
+    let mut shown = 0usize;
+    for c in 0..net.complexes() {
+        shown = put_member(sink, shown, class, &labels[c], net, c)?;
+    }
+    Ok(())
+}
+
+// The line of a class.
+fn put_class<K: Sink>(
+    sink: &mut K,
+    class: u32,
+    labels: &[u32],
+    net: &Network,
+) -> Result<(), WriteFault>
+    requires { length labels.now ≡ length net.now.complexes }
+    ensures { Wrote (class_line labels.now (sides net.now) class) (K.took sink.old) (K.took sink.new) (K.room sink.old) (K.room sink.new) (K.faults sink.old) (K.faults sink.new) result }
+{
+    put_count(sink, b"  class ", class as usize, b": ")?;
+    put_members(sink, class, labels, net)?;
+    put_all(sink, b"\n")
+}
+
+// The lines of all classes.
+fn put_classes<K: Sink>(
+    sink: &mut K,
+    count: u32,
+    labels: &[u32],
+    net: &Network,
+) -> Result<(), WriteFault>
+    requires { length labels.now ≡ length net.now.complexes }
+    ensures { Wrote (class_lines labels.now (sides net.now) 1 count) (K.took sink.old) (K.took sink.new) (K.room sink.old) (K.room sink.new) (K.faults sink.old) (K.faults sink.new) result }
+{
+    for k in 0..count {
+        put_class(sink, k + 1, labels, net)?;
+    }
+    Ok(())
+}
+
+#[tactic(auto, unfolding(crate::specs::Report::title))]
+fn put_title<K: Sink>(sink: &mut K) -> Result<(), WriteFault>
+    ensures { Wrote title (K.took sink.old) (K.took sink.new) (K.room sink.old) (K.room sink.new) (K.faults sink.old) (K.faults sink.new) result }
+{
+    put_all(sink, b"crn report 1\n")
+}
+
+fn put_species_line<K: Sink>(sink: &mut K, net: &Network) -> Result<(), WriteFault>
+    ensures { Wrote (species_line net.now) (K.took sink.old) (K.took sink.new) (K.room sink.old) (K.room sink.new) (K.faults sink.old) (K.faults sink.new) result }
+{
+    put_count(sink, b"species ", net.species(), b": ")?;
+    put_names(sink, net)?;
+    put_all(sink, b"\n")
+}
+
+fn put_complexes_line<K: Sink>(sink: &mut K, net: &Network) -> Result<(), WriteFault>
+    ensures { Wrote (complexes_line net.now) (K.took sink.old) (K.took sink.new) (K.room sink.old) (K.room sink.new) (K.faults sink.old) (K.faults sink.new) result }
+{
+    put_count(sink, b"complexes ", net.complexes(), b": ")?;
+    put_sides(sink, net)?;
+    put_all(sink, b"\n")
+}
+
+#[tactic(auto, unfolding(crate::specs::Report::reactions_line))]
+fn put_reactions_line<K: Sink>(sink: &mut K, net: &Network) -> Result<(), WriteFault>
+    ensures { Wrote (reactions_line net.now) (K.took sink.old) (K.took sink.new) (K.room sink.old) (K.room sink.new) (K.faults sink.old) (K.faults sink.new) result }
+{
+    put_count(sink, b"reactions ", net.reactions(), b"\n")
+}
+
+fn put_head<K: Sink>(sink: &mut K, net: &Network) -> Result<(), WriteFault>
+    ensures { Wrote (head net.now) (K.took sink.old) (K.took sink.new) (K.room sink.old) (K.room sink.new) (K.faults sink.old) (K.faults sink.new) result }
+{
+    put_title(sink)?;
+    put_species_line(sink, net)?;
+    put_complexes_line(sink, net)?;
+    put_reactions_line(sink, net)
+}
+
+#[tactic(auto, unfolding(crate::specs::Report::q1_line))]
+fn put_q1_line<K: Sink>(sink: &mut K, count: u32) -> Result<(), WriteFault>
+    ensures { Wrote (q1_line count) (K.took sink.old) (K.took sink.new) (K.room sink.old) (K.room sink.new) (K.faults sink.old) (K.faults sink.new) result }
+{
+    put_count(sink, b"Q1 linkage classes: ", count as usize, b"\n")
+}
+
+#[tactic(auto, unfolding(crate::specs::Report::open_line))]
+fn put_open_line<K: Sink>(sink: &mut K, count: u32) -> Result<(), WriteFault>
+    ensures { Wrote (open_line count) (K.took sink.old) (K.took sink.new) (K.room sink.old) (K.room sink.new) (K.faults sink.old) (K.faults sink.new) result }
+{
+    put_count(sink, b"open: ", count as usize, b"\n")
+}
+
+/// Writes the report of a network with so many linkage classes and these labels of its complexes. Takes no memory.
+pub fn write_report<K: Sink>(
+    net: &Network,
+    count: u32,
+    labels: &[u32],
+    sink: &mut K,
+) -> Result<(), WriteFault>
+    requires { length labels.now ≡ length net.now.complexes }
+    ensures { Wrote (render net.now count labels.now) (K.took sink.old) (K.took sink.new) (K.room sink.old) (K.room sink.new) (K.faults sink.old) (K.faults sink.new) result }
+{
+    put_head(sink, net)?;
+    put_q1_line(sink, count)?;
+    put_classes(sink, count, labels, net)?;
+    put_open_line(sink, 0)
+}
+
+// The name of a code.
+fn name_bytes(code: u32) -> &'static [u8]
+    ensures { result.now ≡ name_of_code code }
+{
+    match code {
+        1 => b"SelfReaction",
+        5 => b"NoReaction",
+        _ => b"NotBuilt",
+    }
+}
+
+/// Writes the line that says why a text is refused, and at which line. Takes no memory.
+pub fn put_refused<K: Sink>(sink: &mut K, code: u32, line: u32) -> Result<(), WriteFault>
+    ensures { Wrote (refused_line code line) (K.took sink.old) (K.took sink.new) (K.room sink.old) (K.room sink.new) (K.faults sink.old) (K.faults sink.new) result }
+{
+    put_count(sink, b"refused ", code as usize, b" ")?;
+    put_all(sink, name_bytes(code))?;
+    put_count(sink, b" at line ", line as usize, b"\n")
+}
+
+/// Writes the line that says how the program is used. Takes no memory.
+#[tactic(auto, unfolding(crate::specs::Run::usage_line))]
+pub fn put_usage<K: Sink>(sink: &mut K) -> Result<(), WriteFault>
+    ensures { Wrote usage_line (K.took sink.old) (K.took sink.new) (K.room sink.old) (K.room sink.new) (K.faults sink.old) (K.faults sink.new) result }
+{
+    put_all(
+        sink,
+        b"usage: crnt report | certify | check | sample K, with --budget N except for check\n",
+    )
+}

@@ -1,0 +1,114 @@
+ghost use Rattle.std.specs.Prelude.{◌≡◌, ◌↔◌, ◌+◌, ℕ, List, IsTrue, map, string_bytes};
+ghost use Rattle.crn_vec.specs.declared.limits.TheConstants.{MAX_TEXT};
+ghost use Rattle.crn_io.specs.Read.{ComesOffUpTo};
+ghost use Rattle.crn_run.specs.Run.{Devices, IsReport, IsAllowed, IsQuiet, RunGives, IsComplete, usage_line, refused_line};
+ghost use Rattle.crn_run.specs.Steps.{LineGives, ReportGives};
+ghost use Rattle.crn_run.specs.declared.status.Status.{Status};
+ghost use Rattle.crn_run.specs.declared.status.Status.TheVariants.{Refused, Usage, ReadFault, WriteFault};
+
+use crate::linkage::linkage;
+use crate::reader::{Problem, read};
+use crate::report::{put_refused, put_usage, write_report};
+use crate::status::Status;
+use crn_io::{ReadStop, Sink, Source, read_all};
+use crn_vec::MAX_TEXT;
+use std::alloc::Global;
+
+/// All that the program does, from its words to what it writes and how it ends. Takes memory.
+///
+/// The words begin with the program's name. All memory is taken before the first byte is written.
+pub fn run<S: Source, K: Sink>(
+    alloc: Global,
+    words: &[String],
+    source: &mut S,
+    sink: &mut K,
+) -> Status
+    ensures gives { let old : Devices = record { left = S.left source.old; source_faults = S.faults source.old; took = K.took sink.old; room = K.room sink.old; sink_faults = K.faults sink.old } in
+        let new : Devices = record { left = S.left source.new; source_faults = S.faults source.new; took = K.took sink.new; room = K.room sink.new; sink_faults = K.faults sink.new } in
+        RunGives result (map string_bytes words.now) old new }
+    ensures complete { let old : Devices = record { left = S.left source.old; source_faults = S.faults source.old; took = K.took sink.old; room = K.room sink.old; sink_faults = K.faults sink.old } in
+        let new : Devices = record { left = S.left source.new; source_faults = S.faults source.new; took = K.took sink.new; room = K.room sink.new; sink_faults = K.faults sink.new } in
+        IsComplete result (map string_bytes words.now) old new }
+    ensures unread { (IsReport (map string_bytes words.now) → ⊥) → source.new ≡ source.old }
+    ensures pulled { ComesOffUpTo (MAX_TEXT + 1) (S.left source.old) (S.left source.new) }
+{
+    if !is_report(words) {
+        return usage(sink);
+    }
+    report(alloc, source, sink)
+}
+
+/// For the same words and the same network text, one text may be written.
+pub fn what_may_be_written_is_one_text()
+    ensures { (words : List (List ℕ)) (text a b : List ℕ) → IsAllowed words text a → IsAllowed words text b → a ≡ b }
+{}
+
+/// Over a source that never fails and a sink with room for what may be written, a run meets no fault.
+pub fn quiet_devices_meet_no_fault()
+    ensures { (status : Status) (words : List (List ℕ)) (old new : Devices) (text out : List ℕ) → RunGives status words old new → IsQuiet old new text out → IsAllowed words text out →
+        (status ≡ ReadFault → ⊥) × (status ≡ WriteFault → ⊥) × (new.sink_faults ≡ old.sink_faults) }
+{}
+
+// Whether the words are the program's name and `report`.
+fn is_report(words: &[String]) -> bool
+    ensures { IsTrue result ↔ IsReport (map string_bytes words.now) }
+{
+    match words {
+        [_, command] => command.as_str() == "report",
+        _ => false,
+    }
+}
+
+fn usage<K: Sink>(sink: &mut K) -> Status
+    ensures { LineGives Usage result usage_line (K.took sink.old) (K.took sink.new) (K.room sink.old) (K.room sink.new) (K.faults sink.old) (K.faults sink.new) }
+{
+    match put_usage(sink) {
+        Ok(()) => Status::Usage,
+        Err(_) => Status::WriteFault,
+    }
+}
+
+fn refuse<K: Sink>(code: u32, line: u32, sink: &mut K) -> Status
+    ensures { LineGives Refused result (refused_line code line) (K.took sink.old) (K.took sink.new) (K.room sink.old) (K.room sink.new) (K.faults sink.old) (K.faults sink.new) }
+{
+    match put_refused(sink, code, line) {
+        Ok(()) => Status::Refused,
+        Err(_) => Status::WriteFault,
+    }
+}
+
+// Reads a network text, and writes its report or why it is refused.
+fn report<S: Source, K: Sink>(alloc: Global, source: &mut S, sink: &mut K) -> Status
+    ensures gives { let old : Devices = record { left = S.left source.old; source_faults = S.faults source.old; took = K.took sink.old; room = K.room sink.old; sink_faults = K.faults sink.old } in
+        let new : Devices = record { left = S.left source.new; source_faults = S.faults source.new; took = K.took sink.new; room = K.room sink.new; sink_faults = K.faults sink.new } in
+        (words : List (List ℕ)) → IsReport words → RunGives result words old new }
+    ensures pulled { ComesOffUpTo (MAX_TEXT + 1) (S.left source.old) (S.left source.new) }
+{
+    match read_all(alloc, source, MAX_TEXT) {
+        Ok(text) => report_on(alloc, text.as_slice(), sink),
+        Err(ReadStop::TooLong) => refuse(10, 0, sink),
+        Err(ReadStop::Failed) => Status::ReadFault,
+        Err(ReadStop::NoMemory) => Status::NoMemory,
+    }
+}
+
+// Writes the report of this text, or why it is refused.
+fn report_on<K: Sink>(alloc: Global, text: &[u8], sink: &mut K) -> Status
+    ensures { ReportGives result text.now (K.took sink.old) (K.took sink.new) (K.room sink.old) (K.room sink.new) (K.faults sink.old) (K.faults sink.new) }
+{
+    let net = match read(alloc, text) {
+        Ok(net) => net,
+        Err(Problem::NoMemory) => return Status::NoMemory,
+        Err(Problem::NotBuilt) => return refuse(10, 0, sink),
+        Err(Problem::SelfReaction(line)) => return refuse(1, line, sink),
+        Err(Problem::NoReaction) => return refuse(5, 0, sink),
+    };
+    let found = match linkage(alloc, &net) {
+        Ok(found) => found,
+        Err(_) => return Status::NoMemory,
+    };
+    match write_report(&net, found.count, found.label.as_slice(), sink) {
+        Ok(()) => Status::Done,
+        Err(_) => Status::WriteFault,
+    }
+}
