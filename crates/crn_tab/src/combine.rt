@@ -58,7 +58,7 @@ fn divide(work: &mut [i128], by: &i128)
 }
 
 // Whether the number is below the bound of a kept entry.
-fn is_small(x: &i128) -> bool
+pub(crate) fn is_small(x: &i128) -> bool
     ensures { IsTrue result ↔ (unsigned_abs x.now < 2 ^ 62) }
 {
     x.unsigned_abs() < 1 << 62

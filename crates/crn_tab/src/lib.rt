@@ -1,12 +1,15 @@
 //! The exact tableau of a matrix: a basis, and the primitive elementary vectors that it names.
 #![tactic(auto)]
 
+mod column;
 mod combine;
 mod exchange;
 mod fill;
 mod lead;
 mod spread;
 mod start;
+mod stop;
 mod tableau;
 
-pub use tableau::{Tableau, Wide};
+pub use stop::{ColumnStop, Wide};
+pub use tableau::Tableau;

@@ -1,22 +1,17 @@
-ghost use Rattle.std.specs.Prelude.{◌≡◌, ◌≢◌, ◌≤◌, ◌<◌, ◌-◌, ◌↔◌, ℕ, ℤ, pos, List, IfOk, OnOk, IfErr, IsTrue};
+ghost use Rattle.std.specs.Prelude.{◌≡◌, ◌≢◌, ◌≤◌, ◌<◌, ◌-◌, ◌↔◌, ℕ, ℤ, pos, List, IfOk, OnOk, IfErr, IsOk, IsTrue};
 ghost use Rattle.crn_vec.specs.Vectors.{entry};
 ghost use Rattle.crn_vec.specs.Lists.{IsIn};
 ghost use Rattle.crn_tab.specs.Entries.{AreSmall};
-ghost use Rattle.crn_vec.specs.Elementary.{width, IsNamed, WideAt, Exchanged};
+ghost use Rattle.crn_vec.specs.Elementary.{width, InDualSpace, InRowSpace, IsElementary, IsNamed, WideAt, Exchanged};
 
+use crate::column::column_vector;
 use crate::exchange::exchange;
 use crate::spread::{basis_list, row_vector};
 use crate::start::{first_rows, identity};
+use crate::stop::{ColumnStop, Wide};
 use crn_vec::{Ints, Matrix, NoMemory, Nums};
 use std::alloc::Global;
 use std::marker::Model;
-
-/// A vector of an exchanged basis passes the bound of what a tableau keeps.
-#[derive(Clone, Copy, Drop)]
-pub struct Wide {
-    /// Its coordinate, counted from 1.
-    pub index: u32,
-}
 
 /// A matrix and one of its bases, with the vectors that the basis names.
 #[derive(Drop)]
@@ -122,9 +117,24 @@ impl Tableau {
         requires inside { row < width self.now.matrix }
         requires outside { IsIn row self.now.basis → ⊥ }
         ensures named { IfOk result (λ v. IsNamed self.now.matrix self.now.basis row v.list) }
+        ensures elementary { IfOk result (λ v. IsElementary (InDualSpace self.now.matrix) v.list) }
         ensures small { IfOk result (λ v. AreSmall v.list) }
     {
         let alloc = *self.at.allocator();
         row_vector(alloc, &self.matrix, &self.at, &self.order, &self.rows, row)
+    }
+
+    /// The primitive vector that the basis names by a coordinate in it, over all coordinates.
+    pub fn column(&self, col: usize) -> Result<Ints, ColumnStop>
+        requires { IsIn col self.now.basis }
+        ensures named { IfOk result (λ v. IsNamed self.now.matrix self.now.basis col v.list) }
+        ensures elementary { IfOk result (λ v. IsElementary (InRowSpace self.now.matrix) v.list) }
+        ensures small { IfOk result (λ v. AreSmall v.list) }
+
+        ensures ok { IsOk result → WideAt self.now.matrix self.now.basis col → ⊥ }
+        ensures wide { result ≡ Err ColumnStop.Wide → WideAt self.now.matrix self.now.basis col }
+    {
+        let alloc = *self.at.allocator();
+        column_vector(alloc, &self.matrix, &self.at, &self.order, &self.rows, col)
     }
 }
