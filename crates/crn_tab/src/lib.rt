@@ -3,6 +3,7 @@
 
 mod column;
 mod combine;
+mod dependence;
 mod exchange;
 mod fill;
 mod lead;

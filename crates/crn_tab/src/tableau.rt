@@ -1,14 +1,17 @@
-ghost use Rattle.std.specs.Prelude.{◌≡◌, ◌≢◌, ◌≤◌, ◌<◌, ◌-◌, ◌↔◌, ℕ, ℤ, pos, List, IfOk, OnOk, IfErr, IsOk, IsTrue};
+ghost use Rattle.std.specs.Prelude.{◌≡◌, ◌≢◌, ◌≤◌, ◌<◌, ◌-◌, ◌↔◌, ℕ, ℤ, pos, neg_ℤ, ◌≤ℤ◌, ◌*ℤ◌, unsigned_abs, List, IfOk, OnOk, IfErr, IsOk, IsTrue};
+ghost use Rattle.std.specs.Int.{IsGcd};
 ghost use Rattle.crn_vec.specs.Vectors.{entry};
 ghost use Rattle.crn_vec.specs.Lists.{IsIn};
 ghost use Rattle.crn_tab.specs.Entries.{AreSmall};
-ghost use Rattle.crn_vec.specs.Elementary.{width, InDualSpace, InRowSpace, IsElementary, IsNamed, WideAt, Exchanged};
+ghost use Rattle.crn_vec.specs.Elementary.{width, InDualSpace, InRowSpace, IsElementary, IsNamed, IsNamedColumn, IsNamedRow, WideAt, Exchanged};
 
 use crate::column::column_vector;
+use crate::dependence::dependence;
 use crate::exchange::exchange;
 use crate::spread::{basis_list, row_vector};
 use crate::start::{first_rows, identity};
 use crate::stop::{ColumnStop, Wide};
+use crn_frac::Frac;
 use crn_vec::{Ints, Matrix, NoMemory, Nums};
 use std::alloc::Global;
 use std::marker::Model;
@@ -69,6 +72,24 @@ impl Tableau {
         ensures { IsTrue result ↔ IsIn coordinate self.now.basis }
     {
         self.at[coordinate] < self.matrix.cols()
+    }
+
+    /// How a coordinate outside the basis depends on one in it, where the rest of the basis is zero.
+    ///
+    /// It is the quotient of the entries of the vector (x, Ax) that the basis names by `col`, and, with its sign turned,
+    /// of the vector (-uA, u) that it names by `row`. It takes no memory.
+    pub fn entry(&self, row: usize, col: usize) -> Frac
+        requires inside { row < width self.now.matrix }
+        requires outside { IsIn row self.now.basis → ⊥ }
+        requires member { IsIn col self.now.basis }
+        ensures columns { (v : List ℤ) → IsNamedColumn self.now.matrix self.now.basis col v → result.den *ℤ entry v row ≡ result.num *ℤ entry v col }
+        ensures rows { (w : List ℤ) → IsNamedRow self.now.matrix self.now.basis row w → result.den *ℤ entry w col ≡ neg_ℤ (result.num *ℤ entry w row) }
+        ensures den { pos 1 ≤ℤ result.den }
+        ensures reduced { IsGcd (unsigned_abs result.num) (unsigned_abs result.den) 1 }
+
+        ensures some { result.num ≢ pos 0 → (w : List ℤ) → IsNamed self.now.matrix self.now.basis row w → entry w col ≢ pos 0 }
+    {
+        dependence(&self.matrix, &self.at, &self.order, &self.rows, row, col)
     }
 
     /// The coordinates of the basis, ascending.

@@ -13,22 +13,8 @@ use Rattle.crn_tab.proofs.Bases.{rows_make_basis}
 use Rattle.crn_tab.proofs.Columns.{small_column, column_elementary}
 use Rattle.crn_tab.proofs.ColumnVector.{column_named, wide_scale}
 use Rattle.crn_tab.proofs.Finish.{kept_row}
+use Rattle.crn_tab.proofs.Stands.{stands}
 use Rattle.crn_tab.proofs.column.column_vector.Goals as goal
-
--- where the coordinate stands
-record Stands (a : Mat) (at : List ℕ) (col : ℕ) : Type 0 where
-  pub inside : col < length at
-  pub small : col < 2 ^ 20
-  pub basic : slice_index at col < a.cols
-
-stands : (a : Mat) (at order : List ℕ) (rows : List ℤ) (col : ℕ) → IsTableau a at order rows → IsIn col (basis_of a.cols at) → Stands a at col
-stands a at order rows col t member =
-    let basis = rows_make_basis a at order t.wide t.placed (λ j lt. (row_at (a.cols + 1) rows j, t.each j lt)) in
-    record {
-      inside = omega (arith, basis.below col member, t.placed.at_long);
-      small = omega (arith, basis.below col member, t.few);
-      basic = slot_below a.cols at col member;
-    }
 
 rows_kept : (a : Mat) (at order : List ℕ) (rows : List ℤ) (n m : ℕ) → IsTableau a at order rows → n ≡ a.cols → m ≡ length a.rows → (i : ℕ) → i < m → IsKeptRow (n + 1) (row_at (n + 1) rows i)
 rows_kept a at order rows n m t e f i lt =
