@@ -6,11 +6,15 @@ mod combine;
 mod dependence;
 mod exchange;
 mod fill;
+mod laws;
 mod lead;
 mod spread;
 mod start;
 mod stop;
 mod tableau;
+#[cfg(test)]
+mod tests;
 
+pub use laws::{exchanged_list_is_one, exchanged_list_is_there, named_vector_is_one};
 pub use stop::{ColumnStop, Wide};
 pub use tableau::Tableau;

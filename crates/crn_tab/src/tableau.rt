@@ -3,7 +3,7 @@ ghost use Rattle.std.specs.Int.{IsGcd};
 ghost use Rattle.crn_vec.specs.Vectors.{entry};
 ghost use Rattle.crn_vec.specs.Lists.{IsIn};
 ghost use Rattle.crn_tab.specs.Entries.{AreSmall};
-ghost use Rattle.crn_vec.specs.Elementary.{width, InDualSpace, InRowSpace, IsElementary, IsNamed, IsNamedColumn, IsNamedRow, WideAt, Exchanged};
+ghost use Rattle.crn_vec.specs.Elementary.{width, InDualSpace, InRowSpace, IsBasis, IsElementary, IsNamed, IsNamedColumn, IsNamedRow, WideAt, Exchanged};
 
 use crate::column::column_vector;
 use crate::dependence::dependence;
@@ -67,9 +67,14 @@ impl Tableau {
     }
 
     /// Whether a coordinate is in the basis.
+    ///
+    /// Its last two clauses say what holds of the basis at all times.
     pub fn is_basic(&self, coordinate: usize) -> bool
         requires { coordinate < width self.now.matrix }
-        ensures { IsTrue result ↔ IsIn coordinate self.now.basis }
+        ensures test { IsTrue result ↔ IsIn coordinate self.now.basis }
+
+        ensures basis { IsBasis self.now.matrix self.now.basis }
+        ensures kept { (k : ℕ) → (IsIn k self.now.basis → ⊥) → WideAt self.now.matrix self.now.basis k → ⊥ }
     {
         self.at[coordinate] < self.matrix.cols()
     }
