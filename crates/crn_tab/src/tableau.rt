@@ -115,6 +115,7 @@ impl Tableau {
         ensures kept { OnOk result ((k : ℕ) → (IsIn k self.new.basis → ⊥) → WideAt self.new.matrix self.new.basis k → ⊥) }
         ensures as_before { IfErr result (λ _. self.new ≡ self.old) }
         ensures counted { IfErr result (λ f. 1 ≤ f.index) }
+        ensures row { IfErr result (λ f. (next : List ℕ) → Exchanged self.old.basis leave enter next → IsIn (f.index - 1) next → ⊥) }
         ensures wide { IfErr result (λ f. (next : List ℕ) → Exchanged self.old.basis leave enter next → WideAt self.old.matrix next (f.index - 1)) }
         ensures least { IfErr result (λ f. (next : List ℕ) → Exchanged self.old.basis leave enter next → (k : ℕ) → k < f.index - 1 → (IsIn k next → ⊥) → WideAt self.old.matrix next k → ⊥) }
     {
