@@ -15,6 +15,9 @@ mod tableau;
 #[cfg(test)]
 mod tests;
 
-pub use laws::{exchanged_list_is_one, exchanged_list_is_there, named_vector_is_one};
+pub use laws::{
+    exchanged_list_is_one, exchanged_list_is_there, first_rows_are_those_of_the_matrix,
+    named_vector_is_one,
+};
 pub use stop::{ColumnStop, Wide};
 pub use tableau::Tableau;
