@@ -2,12 +2,12 @@
 use Rattle.std.proofs.Common.{◌≡◌, ℕ, ◌<◌, inl, inr, List, [], ◌∷◌, refl, sym, ap₂, arith}
 use Rattle.crn_vec.specs.Lists.{IsIn, IsAbove, IsAscending}
 
-above_all : (m k : ℕ) (xs : List ℕ) → IsAbove m xs → IsIn k xs → m < k
+pub above_all : (m k : ℕ) (xs : List ℕ) → IsAbove m xs → IsIn k xs → m < k
 above_all m k [] h i = absurd i
 above_all m k (x ∷ xs) h (inl e) = omega (arith, h.0)
 above_all m k (x ∷ xs) h (inr i) = omega (arith, h.0, above_all x k xs h.1 i)
 
-tail : (x : ℕ) (xs : List ℕ) → IsAbove x xs → IsAscending xs
+pub tail : (x : ℕ) (xs : List ℕ) → IsAbove x xs → IsAscending xs
 tail x [] h = tt
 tail x (y ∷ xs) h = h.1
 

@@ -28,13 +28,13 @@ entry-turned [] j = refl
 entry-turned (x ∷ r) zero = refl
 entry-turned (x ∷ r) (suc j) = entry-turned r j
 
-length-start_row : (r : List ℤ) → length (start_row r) ≡ length r + 1
+pub length-start_row : (r : List ℤ) → length (start_row r) ≡ length r + 1
 length-start_row r = omega (arith, length-append (map neg_ℤ r) (pos 1 ∷ []), length-turned r)
 
-start_entry : (r : List ℤ) (j : ℕ) → j < length r → entry (start_row r) j ≡ neg_ℤ (entry r j)
+pub start_entry : (r : List ℤ) (j : ℕ) → j < length r → entry (start_row r) j ≡ neg_ℤ (entry r j)
 start_entry r j lt = get_or_append_left (map neg_ℤ r) (pos 1 ∷ []) (pos 0) j (omega (arith, length-turned r)) ∙ entry-turned r j
 
-start_last : (r : List ℤ) → entry (start_row r) (length r) ≡ pos 1
+pub start_last : (r : List ℤ) → entry (start_row r) (length r) ≡ pos 1
 start_last r =
     ap (λ k. entry (start_row r) k) (let e : length r ≡ length (map neg_ℤ r) + 0 = omega (arith, length-turned r) in e)
     ∙ get_or-append-add (map neg_ℤ r) (pos 1 ∷ []) 0 (pos 0)
@@ -88,7 +88,7 @@ count_from n k (s ∷ at) h le =
       | inr high ↦ ap (λ b. length (choose b (k ∷ basis_from (suc k) n at) (basis_from (suc k) n at))) (lt_false s n high) ∙ (let e : length (basis_from (suc k) n at) ≡ n - k = omega (arith, rest, h 0 (omega arith)) in e)
     ]
 
-identity_placed : (n count : ℕ) (at order : List ℕ) → IsIdentity count at → IsIdentity count order → n ≤ count → ArePlaced n count at order
+pub identity_placed : (n count : ℕ) (at order : List ℕ) → IsIdentity count at → IsIdentity count order → n ≤ count → ArePlaced n count at order
 identity_placed n count at order p q le = record {
   at_long = p.long;
   order_long = q.long;
@@ -99,7 +99,7 @@ identity_placed n count at order p q le = record {
   basis = count_from n 0 at (λ j lt. p.is j (omega (arith, p.long)) ∙ (let e : j ≡ 0 + j = omega arith in e)) (omega (arith, p.long)) ∙ (let e : n - 0 ≡ n = omega arith in e);
 }
 
-row_count : (n : ℕ) (rows : List (List ℤ)) (i : ℕ) → AreOfLength n rows → i < length rows → length (get_or rows i []) ≡ n
+pub row_count : (n : ℕ) (rows : List (List ℤ)) (i : ℕ) → AreOfLength n rows → i < length rows → length (get_or rows i []) ≡ n
 row_count n [] i w lt = absurd (omega arith)
 row_count n (r ∷ rows) zero w lt = w.0
 row_count n (r ∷ rows) (suc i) w lt = row_count n rows i w.1 (omega arith)
@@ -116,7 +116,7 @@ none_times : (u x : ℤ) → u ≡ pos 0 → u *ℤ x ≡ pos 0
 none_times u x e = ap (λ (t : ℤ). t *ℤ x) e ∙ zero-*ℤ x
 
 -- the vector of row i at first: minus the row, then 1 at its own coordinate alone
-first_dual : (a : Mat) (at : List ℕ) (i : ℕ) → AreOfLength a.cols a.rows → IsIdentity (width a) at → i < length a.rows → InDualSpace a (spread a.cols i (start_row (get_or a.rows i [])) at)
+pub first_dual : (a : Mat) (at : List ℕ) (i : ℕ) → AreOfLength a.cols a.rows → IsIdentity (width a) at → i < length a.rows → InDualSpace a (spread a.cols i (start_row (get_or a.rows i [])) at)
 first_dual a at i wide id lt =
     let n = a.cols in
     let r = get_or a.rows i [] in
@@ -140,7 +140,7 @@ first_dual a at i wide id lt =
     }
 
 -- a list with a 1 is primitive
-one_primitive : (v : List ℤ) (k : ℕ) → entry v k ≡ pos 1 → IsContent v 1
+pub one_primitive : (v : List ℤ) (k : ℕ) → entry v k ≡ pos 1 → IsContent v 1
 one_primitive v k e = record {
   divides = λ j. one-dvd (unsigned_abs (entry v j));
   greatest = λ d h. let D : ℕ → Type 0 = λ m. d ∣ m in subst D (ap unsigned_abs e) (h k);

@@ -6,6 +6,7 @@ use Rattle.crn_vec.specs.Lists.{IsIn}
 use Rattle.crn_vec.specs.Elementary.{width, IsBasis, IsNamed, WideAt, Exchanged}
 use Rattle.crn_tab.specs.Tab.{spread, basis_of, row_at, IsTableau, AreFilled}
 use Rattle.crn_tab.proofs.Places.{basis_only, entry-spread, slot_basic}
+use Rattle.crn_tab.proofs.BasicTest.{slot_below}
 use Rattle.crn_tab.proofs.Bases.{outside_slot, rows_make_basis, row_is_named}
 use Rattle.crn_tab.proofs.Slots.{After, after, wrote}
 use Rattle.crn_tab.proofs.Signs.{no_wide, small_name}
@@ -96,6 +97,27 @@ wide_here a at order rows spare leave enter c r least t h f lt next ex =
     elim f.last as (λ _. WideAt a next least) [
       | inl k ↦ absurd (omega (arith, k.0, t.placed.order_long))
       | inr k ↦ subst W same (wide_after a at order at' order' rows spare r c least t s h.c_lt h.r_lt f (λ j j_lt nc nr. wo.others j nc nr) k)
+    ]
+
+-- the coordinate of a wide row is outside the exchanged basis
+pub row_here : (a : Mat) (at order : List ℕ) (rows spare : List ℤ) (leave enter c r least : ℕ) → IsTableau a at order rows → Here a at order leave enter c r
+    → AreFilled (a.cols + 1) (length a.rows) c r rows spare order least → least < width a → (next : List ℕ) → Exchanged (basis_of a.cols at) leave enter next → ¬ IsIn least next
+row_here a at order rows spare leave enter c r least t h f lt next ex member =
+    let n = a.cols in
+    let at' = set (set at leave (n + r)) enter c in
+    let order' = set (set order c enter) (n + r) leave in
+    let s = after_here a at order rows leave enter c r t h in
+    let wo = wrote order c enter (n + r) leave (omega (arith, t.placed.order_long, h.c_lt)) (omega (arith, t.placed.order_long, h.r_lt)) (λ e. omega (arith, h.c_lt)) in
+    let I : List ℕ → Type 0 = λ l. IsIn least l in
+    let same : basis_of n at' ≡ next = exchanged_one (basis_of n at) (basis_of n at') next leave enter (exchanged_here a at order at' order' leave enter c r h s) ex in
+    let low : slice_index at' least < n = slot_below n at' least (subst I (sym same) member) in
+    elim f.last [
+      | inl k ↦ absurd (omega (arith, k.0, t.placed.order_long))
+      | inr k ↦
+          let last : n + 1 - 1 + k.i ≡ n + k.i = omega arith in
+          let own : slice_index order' (n + k.i) ≡ least = wo.others (n + k.i) (λ e. omega (arith, e, h.c_lt)) (λ e. k.other (omega (arith, e))) ∙ ap (slice_index order) (sym last) ∙ sym k.own in
+          let slot : slice_index at' least ≡ n + k.i = ap (slice_index at') (sym own) ∙ s.placed.back (n + k.i) (omega (arith, k.inside)) in
+          omega (arith, low, slot)
     ]
 
 pub least_here : (a : Mat) (at order : List ℕ) (rows spare : List ℤ) (leave enter c r least : ℕ) → IsTableau a at order rows → Here a at order leave enter c r

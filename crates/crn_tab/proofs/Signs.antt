@@ -18,7 +18,7 @@ use Rattle.crn_tab.proofs.Spaces.{dual_combined}
 use Rattle.crn_tab.proofs.Unique.{dual_none}
 use Rattle.crn_tab.proofs.RowVector.{row_of}
 
-gcd_by : (k a b : ℕ) → b ≤ k → (g : ℕ) × IsGcd a b g
+pub gcd_by : (k a b : ℕ) → b ≤ k → (g : ℕ) × IsGcd a b g
 gcd_by k a zero h = (a, IsGcd-from_zero a 0 refl)
 gcd_by zero a (suc b) h = absurd (omega arith)
 gcd_by (suc k) a (suc b) h =
@@ -56,33 +56,33 @@ same_sizes w v a b pw pv sa sb h k =
     let same : a ≡ b = dvd_antisymm ab ba in
     cancel a (unsigned_abs (entry w k)) (unsigned_abs (entry v k)) sa (h k ∙ ap (λ n. n * unsigned_abs (entry v k)) (sym same))
 
-abbrev differ : ℤ → ℤ → List ℤ → List ℤ → List ℤ
+abbrev pub differ : ℤ → ℤ → List ℤ → List ℤ → List ℤ
 differ p q [] vs = []
 differ p q (w ∷ ws) [] = []
 differ p q (w ∷ ws) (v ∷ vs) = ((p *ℤ w) -ℤ (q *ℤ v)) ∷ differ p q ws vs
 
-length-differ : (p q : ℤ) (ws vs : List ℤ) → length ws ≡ length vs → length (differ p q ws vs) ≡ length ws
+pub length-differ : (p q : ℤ) (ws vs : List ℤ) → length ws ≡ length vs → length (differ p q ws vs) ≡ length ws
 length-differ p q [] vs e = refl
 length-differ p q (w ∷ ws) [] e = absurd (omega arith)
 length-differ p q (w ∷ ws) (v ∷ vs) e = omega (arith, length-differ p q ws vs (let f : length ws ≡ length vs = omega arith in f))
 
-entry-differ : (p q : ℤ) (ws vs : List ℤ) (k : ℕ) → length ws ≡ length vs → entry (differ p q ws vs) k ≡ (p *ℤ entry ws k) -ℤ (q *ℤ entry vs k)
+pub entry-differ : (p q : ℤ) (ws vs : List ℤ) (k : ℕ) → length ws ≡ length vs → entry (differ p q ws vs) k ≡ (p *ℤ entry ws k) -ℤ (q *ℤ entry vs k)
 entry-differ p q [] [] k e = omega (arith, ints, *ℤ-zero p, *ℤ-zero q)
 entry-differ p q [] (v ∷ vs) k e = absurd (omega arith)
 entry-differ p q (w ∷ ws) [] k e = absurd (omega arith)
 entry-differ p q (w ∷ ws) (v ∷ vs) zero e = refl
 entry-differ p q (w ∷ ws) (v ∷ vs) (suc k) e = entry-differ p q ws vs k (omega arith)
 
-times_one : (x : ℤ) → x *ℤ pos 1 ≡ x
+pub times_one : (x : ℤ) → x *ℤ pos 1 ≡ x
 times_one x = omega (arith, ints)
 
-own : (p q : ℤ) → (p *ℤ q) -ℤ (q *ℤ p) ≡ pos 0
+pub own : (p q : ℤ) → (p *ℤ q) -ℤ (q *ℤ p) ≡ pos 0
 own p q = omega (arith, ints, *ℤ_comm p q)
 
-both_none : (p q x y : ℤ) → x ≡ pos 0 → y ≡ pos 0 → (p *ℤ x) -ℤ (q *ℤ y) ≡ pos 0
+pub both_none : (p q x y : ℤ) → x ≡ pos 0 → y ≡ pos 0 → (p *ℤ x) -ℤ (q *ℤ y) ≡ pos 0
 both_none p q x y e f = omega (arith, ints, ap (λ (t : ℤ). p *ℤ t) e, ap (λ (t : ℤ). q *ℤ t) f, *ℤ-zero p, *ℤ-zero q)
 
-is_none : (x : ℤ) → (x ≡ pos 0) ⊎ (1 ≤ unsigned_abs x)
+pub is_none : (x : ℤ) → (x ≡ pos 0) ⊎ (1 ≤ unsigned_abs x)
 is_none (pos zero) = inl refl
 is_none (pos (suc n)) = inr (omega arith)
 is_none (negsuc n) = inr (omega arith)
@@ -104,7 +104,7 @@ one_row a basis k w v wide h nw nv j =
     omega (arith, ints, none, at j)
 
 -- a primitive vector that a basis names is not zero at its coordinate
-some_own : (a : Mat) (basis : List ℕ) (k : ℕ) (w : List ℤ) → AreOfLength a.cols a.rows → IsBasis a basis → IsNamedRow a basis k w → IsPrimitive w → 1 ≤ unsigned_abs (entry w k)
+pub some_own : (a : Mat) (basis : List ℕ) (k : ℕ) (w : List ℤ) → AreOfLength a.cols a.rows → IsBasis a basis → IsNamedRow a basis k w → IsPrimitive w → 1 ≤ unsigned_abs (entry w k)
 some_own a basis k w wide h nw prim = elim (is_none (entry w k)) [
   | inr some ↦ some
   | inl e ↦

@@ -6,6 +6,7 @@ use Rattle.crn_vec.specs.Vectors.{Mat, entry, AreOfLength}
 use Rattle.crn_vec.specs.Elementary.{width, InDualSpace, IsWide}
 use Rattle.crn_tab.specs.Entries.{AreSmall, IsContent, IsNewRow}
 
+-- the first where the test holds, else the second
 abbrev pub choose : {A : Type 0} → Bool → A → A → A
 choose true x y = x
 choose false x y = y
@@ -23,6 +24,7 @@ abbrev pub basis_from : ℕ → ℕ → List ℕ → List ℕ
 basis_from k n [] = []
 basis_from k n (s ∷ at) = choose (nat_lt s n) (k ∷ basis_from (suc k) n at) (basis_from (suc k) n at)
 
+-- the coordinates whose slot is below n, ascending
 abbrev pub basis_of : ℕ → List ℕ → List ℕ
 basis_of n at = basis_from 0 n at
 
@@ -47,6 +49,7 @@ pub record IsRowAt (a : Mat) (at : List ℕ) (i : ℕ) (row : List ℤ) : Type 0
 abbrev pub row_at : ℕ → List ℤ → ℕ → List ℤ
 row_at w rows i = take w (drop (i * w) rows)
 
+-- every coordinate has a slot, and every row keeps the small primitive vector of its coordinate
 pub record IsTableau (a : Mat) (at order : List ℕ) (rows : List ℤ) : Type 0 where
   pub wide : AreOfLength a.cols a.rows
   pub some : 1 ≤ a.cols

@@ -32,15 +32,27 @@ fn products(row: &[i64], lead: &[i64], p: &i64, q: &i64, work: &mut [i128])
     }
 }
 
-// The greatest common divisor of the entries.
-fn content(work: &[i128]) -> u128
-    requires { (k : ℕ) → k < length work.now → unsigned_abs (entry work.now k) < 2 ^ 125 }
+// The absolute value of a product.
+fn size(x: &i128) -> u128
+    requires { unsigned_abs x.now < 2 ^ 125 }
+    ensures { result ≡ unsigned_abs x.now }
+{
+    x.unsigned_abs()
+}
+
+// The greatest common divisor of the entries. It begins with the last one and that at place c, which mostly settle it.
+fn content(work: &[i128], c: usize) -> u128
+    requires place { c < length work.now }
+    requires small { (k : ℕ) → k < length work.now → unsigned_abs (entry work.now k) < 2 ^ 125 }
     ensures content { IsContent work.now result }
     ensures small { result < 2 ^ 125 }
 {
-    let mut g = 0u128;
+    let mut g = gcd_of(size(&work[work.len() - 1]), size(&work[c]));
     for x in work {
-        g = gcd_of(g, x.unsigned_abs());
+        if g == 1 {
+            return 1;
+        }
+        g = gcd_of(g, size(x));
     }
     g
 }
@@ -52,13 +64,16 @@ fn divide(work: &mut [i128], by: &i128)
     requires divides { (k : ℕ) → k < length work.old → unsigned_abs by.now ∣ unsigned_abs (entry work.old k) }
     ensures { (k : ℕ) → k < length work.old → entry work.new k *ℤ by.now ≡ entry work.old k }
 {
+    if *by == 1 {
+        return;
+    }
     for j in 0..work.len() {
         work[j] = divided(&work[j], by);
     }
 }
 
 // Whether the number is below the bound of a kept entry.
-fn is_small(x: &i128) -> bool
+pub(crate) fn is_small(x: &i128) -> bool
     ensures { IsTrue result ↔ (unsigned_abs x.now < 2 ^ 62) }
 {
     x.unsigned_abs() < 1 << 62
@@ -79,8 +94,9 @@ fn keep(work: &[i128], row: &mut [i64]) -> bool
 }
 
 // The primitive difference of two rows, each times a factor, in place of the first.
-// The answer is no where an entry passes the bound, and then the row holds nothing of use.
-fn combine(row: &mut [i64], lead: &[i64], p: &i64, q: &i64, work: &mut [i128]) -> bool
+// Place c is the first that its common divisor is sought at. The answer is no where an entry passes the bound, and then the row holds nothing of use.
+fn combine(row: &mut [i64], lead: &[i64], p: &i64, q: &i64, c: usize, work: &mut [i128]) -> bool
+    requires place { c < length row.old }
     requires lead_count { length lead.now ≡ length row.old }
     requires work_count { length work.old ≡ length row.old }
     requires row { AreSmall row.old }
@@ -91,7 +107,7 @@ fn combine(row: &mut [i64], lead: &[i64], p: &i64, q: &i64, work: &mut [i128]) -
     ensures { (z : List ℤ) × IsCombined p.now q.now row.old lead.now z × IsFit z row.new result }
 {
     products(row, lead, p, q, work);
-    let t = content(work) as i128;
+    let t = content(work, c) as i128;
     divide(work, &t);
     keep(work, row)
 }
@@ -124,5 +140,5 @@ pub(crate) fn new_row(
         return true;
     }
     into[c] = 0;
-    combine(into, lead, p, &q, work)
+    combine(into, lead, p, &q, c, work)
 }

@@ -68,6 +68,7 @@ pub(crate) fn exchange(
     requires some { (w : List ℤ) → IsNamed matrix.now (basis_of matrix.now.cols at.old) enter w → entry w leave ≢ pos 0 }
     ensures ok { result ≡ width matrix.now → IsTableau matrix.now at.new order.new spare.new × Exchanged (basis_of matrix.now.cols at.old) leave enter (basis_of matrix.now.cols at.new) × ((k : ℕ) → (IsIn k (basis_of matrix.now.cols at.new) → ⊥) → WideAt matrix.now (basis_of matrix.now.cols at.new) k → ⊥) }
     ensures wide { result ≢ width matrix.now → (at.new ≡ at.old) × (order.new ≡ order.old) × ((next : List ℕ) → Exchanged (basis_of matrix.now.cols at.old) leave enter next → WideAt matrix.now next result × ((k : ℕ) → k < result → (IsIn k next → ⊥) → WideAt matrix.now next k → ⊥)) }
+    ensures row { result ≢ width matrix.now → (next : List ℕ) → Exchanged (basis_of matrix.now.cols at.old) leave enter next → IsIn result next → ⊥ }
     ensures most { result ≤ width matrix.now }
 {
     let n = matrix.cols();

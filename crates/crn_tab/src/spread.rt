@@ -1,6 +1,6 @@
 ghost use Rattle.std.specs.Prelude.{◌≡◌, ◌≤◌, ◌<◌, ◌^◌, ◌+◌, length, IfOk};
 ghost use Rattle.crn_vec.specs.Lists.{IsIn};
-ghost use Rattle.crn_vec.specs.Elementary.{width, IsNamed};
+ghost use Rattle.crn_vec.specs.Elementary.{width, InDualSpace, IsElementary, IsNamed};
 ghost use Rattle.crn_tab.specs.Entries.{AreSmall};
 ghost use Rattle.crn_tab.specs.Tab.{slot_entry, spread, basis_of, IsTableau};
 
@@ -57,6 +57,7 @@ pub(crate) fn row_vector(
     requires inside { row < width matrix.now }
     requires outside { IsIn row (basis_of matrix.now.cols at.now) → ⊥ }
     ensures named { IfOk result (λ v. IsNamed matrix.now (basis_of matrix.now.cols at.now) row v.list) }
+    ensures elementary { IfOk result (λ v. IsElementary (InDualSpace matrix.now) v.list) }
     ensures small { IfOk result (λ v. AreSmall v.list) }
 {
     let n = matrix.cols();

@@ -1,22 +1,20 @@
-ghost use Rattle.std.specs.Prelude.{◌≡◌, ◌≢◌, ◌≤◌, ◌<◌, ◌-◌, ◌↔◌, ℕ, ℤ, pos, List, IfOk, OnOk, IfErr, IsTrue};
+ghost use Rattle.std.specs.Prelude.{◌≡◌, ◌≢◌, ◌≤◌, ◌<◌, ◌-◌, ◌↔◌, ℕ, ℤ, pos, neg_ℤ, ◌≤ℤ◌, ◌*ℤ◌, unsigned_abs, List, IfOk, OnOk, IfErr, IsOk, IsTrue};
+ghost use Rattle.std.specs.Int.{IsGcd};
 ghost use Rattle.crn_vec.specs.Vectors.{entry};
 ghost use Rattle.crn_vec.specs.Lists.{IsIn};
 ghost use Rattle.crn_tab.specs.Entries.{AreSmall};
-ghost use Rattle.crn_vec.specs.Elementary.{width, IsNamed, WideAt, Exchanged};
+ghost use Rattle.crn_vec.specs.Elementary.{width, InDualSpace, InRowSpace, IsBasis, IsElementary, IsNamed, IsNamedColumn, IsNamedRow, WideAt, Exchanged};
 
+use crate::column::column_vector;
+use crate::dependence::dependence;
 use crate::exchange::exchange;
 use crate::spread::{basis_list, row_vector};
 use crate::start::{first_rows, identity};
+use crate::stop::{ColumnStop, Wide};
+use crn_frac::Frac;
 use crn_vec::{Ints, Matrix, NoMemory, Nums};
 use std::alloc::Global;
 use std::marker::Model;
-
-/// A vector of an exchanged basis passes the bound of what a tableau keeps.
-#[derive(Clone, Copy, Drop)]
-pub struct Wide {
-    /// Its coordinate, counted from 1.
-    pub index: u32,
-}
 
 /// A matrix and one of its bases, with the vectors that the basis names.
 #[derive(Drop)]
@@ -69,11 +67,34 @@ impl Tableau {
     }
 
     /// Whether a coordinate is in the basis.
+    ///
+    /// Its last two clauses say what holds of the basis at all times.
     pub fn is_basic(&self, coordinate: usize) -> bool
         requires { coordinate < width self.now.matrix }
-        ensures { IsTrue result ↔ IsIn coordinate self.now.basis }
+        ensures test { IsTrue result ↔ IsIn coordinate self.now.basis }
+
+        ensures basis { IsBasis self.now.matrix self.now.basis }
+        ensures kept { (k : ℕ) → (IsIn k self.now.basis → ⊥) → WideAt self.now.matrix self.now.basis k → ⊥ }
     {
         self.at[coordinate] < self.matrix.cols()
+    }
+
+    /// How a coordinate outside the basis depends on one in it, where the rest of the basis is zero.
+    ///
+    /// It is the quotient of the entries of the vector (x, Ax) that the basis names by `col`, and, with its sign turned,
+    /// of the vector (-uA, u) that it names by `row`. It takes no memory.
+    pub fn entry(&self, row: usize, col: usize) -> Frac
+        requires inside { row < width self.now.matrix }
+        requires outside { IsIn row self.now.basis → ⊥ }
+        requires member { IsIn col self.now.basis }
+        ensures columns { (v : List ℤ) → IsNamedColumn self.now.matrix self.now.basis col v → result.den *ℤ entry v row ≡ result.num *ℤ entry v col }
+        ensures rows { (w : List ℤ) → IsNamedRow self.now.matrix self.now.basis row w → result.den *ℤ entry w col ≡ neg_ℤ (result.num *ℤ entry w row) }
+        ensures den { pos 1 ≤ℤ result.den }
+        ensures reduced { IsGcd (unsigned_abs result.num) (unsigned_abs result.den) 1 }
+
+        ensures some { result.num ≢ pos 0 → (w : List ℤ) → IsNamed self.now.matrix self.now.basis row w → entry w col ≢ pos 0 }
+    {
+        dependence(&self.matrix, &self.at, &self.order, &self.rows, row, col)
     }
 
     /// The coordinates of the basis, ascending.
@@ -94,6 +115,7 @@ impl Tableau {
         ensures kept { OnOk result ((k : ℕ) → (IsIn k self.new.basis → ⊥) → WideAt self.new.matrix self.new.basis k → ⊥) }
         ensures as_before { IfErr result (λ _. self.new ≡ self.old) }
         ensures counted { IfErr result (λ f. 1 ≤ f.index) }
+        ensures row { IfErr result (λ f. (next : List ℕ) → Exchanged self.old.basis leave enter next → IsIn (f.index - 1) next → ⊥) }
         ensures wide { IfErr result (λ f. (next : List ℕ) → Exchanged self.old.basis leave enter next → WideAt self.old.matrix next (f.index - 1)) }
         ensures least { IfErr result (λ f. (next : List ℕ) → Exchanged self.old.basis leave enter next → (k : ℕ) → k < f.index - 1 → (IsIn k next → ⊥) → WideAt self.old.matrix next k → ⊥) }
     {
@@ -122,9 +144,24 @@ impl Tableau {
         requires inside { row < width self.now.matrix }
         requires outside { IsIn row self.now.basis → ⊥ }
         ensures named { IfOk result (λ v. IsNamed self.now.matrix self.now.basis row v.list) }
+        ensures elementary { IfOk result (λ v. IsElementary (InDualSpace self.now.matrix) v.list) }
         ensures small { IfOk result (λ v. AreSmall v.list) }
     {
         let alloc = *self.at.allocator();
         row_vector(alloc, &self.matrix, &self.at, &self.order, &self.rows, row)
+    }
+
+    /// The primitive vector that the basis names by a coordinate in it, over all coordinates.
+    pub fn column(&self, col: usize) -> Result<Ints, ColumnStop>
+        requires { IsIn col self.now.basis }
+        ensures named { IfOk result (λ v. IsNamed self.now.matrix self.now.basis col v.list) }
+        ensures elementary { IfOk result (λ v. IsElementary (InRowSpace self.now.matrix) v.list) }
+        ensures small { IfOk result (λ v. AreSmall v.list) }
+
+        ensures ok { IsOk result → WideAt self.now.matrix self.now.basis col → ⊥ }
+        ensures wide { result ≡ Err ColumnStop.Wide → WideAt self.now.matrix self.now.basis col }
+    {
+        let alloc = *self.at.allocator();
+        column_vector(alloc, &self.matrix, &self.at, &self.order, &self.rows, col)
     }
 }

@@ -2,7 +2,7 @@ use Rattle.std.proofs.Common.{◌<◌, ◌-◌, refl, arith}
 use Rattle.std.specs.Prelude.{slice_index}
 use Rattle.crn_vec.specs.Elementary.{width}
 use Rattle.crn_tab.proofs.Finish.{kept_row}
-use Rattle.crn_tab.proofs.Here.{here, some_entry, ok_here, wide_here, least_here}
+use Rattle.crn_tab.proofs.Here.{here, some_entry, ok_here, wide_here, row_here, least_here}
 use Rattle.crn_tab.proofs.exchange.exchange.Goals as goal
 
 pub bounds-at-leave : goal.bounds-at-leave
@@ -67,6 +67,15 @@ returns-then-least-n-clause-wide c = λ ne.
             lt next ex,
       ),
     )
+
+pub returns-then-least-n-clause-row : goal.returns-then-least-n-clause-row
+returns-then-least-n-clause-row c = λ ne next ex.
+    let h = here c.args.matrix.now c.args.at.now c.args.order.now c.args.rows.now c.args.leave c.args.enter c.requires.tableau c.requires.leave c.requires.inside c.requires.enter in
+    let f = rw (c.requires.lead_count, c.cols-n.ensures.count, c.rows-m.ensures.count) at c.new_rows-least.ensures in
+    let lt : c.new_rows-least.result < width c.args.matrix.now = omega (arith, c.cols-n.ensures.count, c.rows-m.ensures.count) in
+    row_here c.args.matrix.now c.args.at.now c.args.order.now c.args.rows.now c.new_rows-least.new.spare c.args.leave c.args.enter
+    (slice_index c.args.at.now c.args.leave) (slice_index c.args.at.now c.args.enter - c.args.matrix.now.cols) c.new_rows-least.result c.requires.tableau h f
+    lt next ex
 
 pub returns-clause-ok : goal.returns-clause-ok
 returns-clause-ok c = λ e.

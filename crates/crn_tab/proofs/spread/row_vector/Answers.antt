@@ -1,8 +1,9 @@
 use Rattle.std.proofs.Common.{◌≡◌, ℕ, ◌+◌, ◌-◌, List, ap, sym, subst, arith}
 use Rattle.std.specs.Prelude.{ℤ, slice_index}
-use Rattle.crn_vec.specs.Elementary.{IsNamed}
+use Rattle.crn_vec.specs.Elementary.{InDualSpace, IsElementary, IsNamed}
 use Rattle.crn_tab.specs.Entries.{AreSmall}
 use Rattle.crn_tab.specs.Tab.{spread, basis_of, row_at}
+use Rattle.crn_tab.proofs.Columns.{row_elementary}
 use Rattle.crn_tab.proofs.RowVector.{row_of}
 use Rattle.crn_tab.proofs.spread.row_vector.Goals as goal
 
@@ -41,6 +42,18 @@ returns-clause-named c =
     c.cols-n.ensures.count (ap (λ m. slice_index c.args.at.now c.args.row - m) c.cols-n.ensures.count) row c.in_ok-vector.ensures in
     let N : List ℤ → Type 0 = λ v. IsNamed c.args.matrix.now (basis_of n c.args.at.now) c.args.row v in
     subst N (sym is) h.named
+
+pub returns-clause-elementary : goal.returns-clause-elementary
+returns-clause-elementary c =
+    let h = row_of c.args.matrix.now c.args.at.now c.args._order.now c.args.rows.now c.args.row c.requires.tableau c.requires.inside c.requires.outside in
+    let n = c.args.matrix.now.cols in
+    let i = slice_index c.args.at.now c.args.row - n in
+    let row = rw c.cols-n.ensures.count at c.part.ensures in
+    let is : c.in_ok-vector.vector.list ≡ spread n i (row_at (n + 1) c.args.rows.now i) c.args.at.now =
+    made n c.cols-n.result i (slice_index c.args.at.now c.args.row - c.cols-n.result) c.part.result.now (row_at (n + 1) c.args.rows.now i) c.args.at.now c.in_ok-vector.vector.list
+    c.cols-n.ensures.count (ap (λ m. slice_index c.args.at.now c.args.row - m) c.cols-n.ensures.count) row c.in_ok-vector.ensures in
+    let N : List ℤ → Type 0 = λ v. IsElementary (InDualSpace c.args.matrix.now) v in
+    subst N (sym is) (row_elementary c.args.matrix.now (basis_of n c.args.at.now) c.args.row (spread n i (row_at (n + 1) c.args.rows.now i) c.args.at.now) c.requires.tableau.wide c.requires.outside h.named)
 
 pub returns-clause-small : goal.returns-clause-small
 returns-clause-small c =

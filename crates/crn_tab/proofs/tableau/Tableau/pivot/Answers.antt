@@ -16,6 +16,16 @@ returns-then-least-len-clause-wide c =
     let small : least ≢ width c.self.inside.matrix = omega (arith, c.if-least-len.true, c.len.ensures, c.deref_mut.ensures.len, ap length c.deref_mut.ensures.value, c.self.invariant.tableau.placed.at_long) in
     subst V c.self.view_is (subst W back (subst X c.deref_mut.ensures.value (λ next ex. ((c.exchange-least.ensures.wide small).2 next ex).0)))
 
+pub returns-then-least-len-clause-row : goal.returns-then-least-len-clause-row
+returns-then-least-len-clause-row c =
+    let least = c.exchange-least.result in
+    let V : KeptTableau → Type 0 = λ v. (next : List ℕ) → Exchanged v.basis c.args.leave c.args.enter next → IsIn (least + 1 - 1) next → ⊥ in
+    let W : ℕ → Type 0 = λ l. (next : List ℕ) → Exchanged (basis_of c.self.inside.matrix.cols c.self.inside.at.items) c.args.leave c.args.enter next → IsIn l next → ⊥ in
+    let back : least ≡ least + 1 - 1 = omega arith in
+    let X : List ℕ → Type 0 = λ at. (next : List ℕ) → Exchanged (basis_of c.self.inside.matrix.cols at) c.args.leave c.args.enter next → IsIn least next → ⊥ in
+    let small : least ≢ width c.self.inside.matrix = omega (arith, c.if-least-len.true, c.len.ensures, c.deref_mut.ensures.len, ap length c.deref_mut.ensures.value, c.self.invariant.tableau.placed.at_long) in
+    subst V c.self.view_is (subst W back (subst X c.deref_mut.ensures.value (c.exchange-least.ensures.row small)))
+
 pub returns-then-least-len-clause-least : goal.returns-then-least-len-clause-least
 returns-then-least-len-clause-least c =
     let least = c.exchange-least.result in

@@ -1,0 +1,34 @@
+use Rattle.std.proofs.Common.{◌≡◌, ◌+◌, ◌-◌, ◌*◌, ◌<◌, ◌≤◌, ℕ, List, ap, sym, subst, ◌∙◌, arith}
+use Rattle.std.specs.Prelude.{ℤ, pos, ◌≤ℤ◌, ◌*ℤ◌, neg_ℤ, unsigned_abs}
+use Rattle.std.specs.Int.{w128, ◌∣◌}
+use Rattle.std.proofs.lemmas.Int.{to_z-of_z}
+use Rattle.crn_vec.specs.Vectors.{entry}
+use Rattle.crn_tab.specs.Tab.{row_at, IsKeptRow}
+use Rattle.crn_tab.specs.Columns.{MakesWhole, column_entry}
+use Rattle.crn_tab.proofs.ColumnVector.{entry_by}
+use Rattle.crn_tab.proofs.column.cell.Goals as goal
+
+read : (n c l i : ℕ) (rows row : List ℤ) → row ≡ row_at (n + 1) rows i → unsigned_abs (entry (row_at (n + 1) rows i) n) ∣ unsigned_abs (entry (row_at (n + 1) rows i) c) * l
+    → unsigned_abs (entry row n) ∣ unsigned_abs (entry row c) * l
+read n c l i rows row e h = let R : List ℤ → Type 0 = λ v. unsigned_abs (entry v n) ∣ unsigned_abs (entry v c) * l in subst R (sym e) h
+
+value : (n c m l s : ℕ) (rows row : List ℤ) (x : ℤ) → MakesWhole n c rows m l → n ≤ s → s - n < m → IsKeptRow (n + 1) (row_at (n + 1) rows (s - n)) → row ≡ row_at (n + 1) rows (s - n)
+    → x *ℤ entry row n ≡ neg_ℤ (entry row c *ℤ pos l) → x ≡ column_entry n c rows l s
+value n c m l s rows row x whole le lt kept e h =
+    let i = s - n in
+    let R : List ℤ → Type 0 = λ v. x *ℤ entry v n ≡ neg_ℤ (entry v c *ℤ pos l) in
+    let P : ℕ → Type 0 = λ k. pos 1 ≤ℤ entry (row_at (n + 1) rows i) k in
+    let some : pos 1 ≤ℤ entry (row_at (n + 1) rows i) n = subst P (let f : n + 1 - 1 ≡ n = omega arith in f) kept.positive in
+    entry_by n c rows m l i x whole lt some (subst R e h) ∙ ap (column_entry n c rows l) (let f : n + (s - n) ≡ s = omega (arith, le) in f)
+
+pub quotient-requires-clause-divides : goal.quotient-requires-clause-divides
+quotient-requires-clause-divides c =
+    let i = c.args.s - c.args.n in
+    read c.args.n c.args.c c.args.l.now i c.args.rows.now c.part-row.result.now c.part-row.ensures (c.requires.whole i (omega (arith, c.requires.slot, c.if-s-n.true)))
+
+pub returns-then-s-n : goal.returns-then-s-n
+returns-then-s-n c =
+    let i = c.args.s - c.args.n in
+    let lt : i < c.args.m = omega (arith, c.requires.slot, c.if-s-n.true) in
+    rw (to_z-of_z w128 c.quotient.result (record { sfits = c.quotient.type_inv }))
+    (value c.args.n c.args.c c.args.m c.args.l.now c.args.s c.args.rows.now c.part-row.result.now c.quotient.result c.requires.whole c.if-s-n.true lt (c.requires.row i lt) c.part-row.ensures c.quotient.ensures)

@@ -1,0 +1,39 @@
+use Rattle.std.proofs.Common.{◌≡◌, ◌*◌, ◌^◌, ◌<◌, ◌≤◌, ℕ, refl, ap, sym, subst, ◌∙◌, arith, to_z, of_z}
+use Rattle.std.specs.Prelude.{ℤ, pos, ◌-ℤ◌, ◌*ℤ◌, neg_ℤ, FitsSigned, unsigned_abs}
+use Rattle.std.specs.Int.{w64, w128, ◌∣◌}
+use Rattle.std.proofs.lemmas.Int.{ints, to_z-of_z, fits_signed_from_abs, unsigned_abs-mul}
+use Rattle.crn_frac.proofs.Lowest.{minus, abs_minus}
+use Rattle.crn_tab.proofs.Cross.{widened, product_small}
+use Rattle.crn_tab.proofs.column.quotient.Goals as goal
+
+large : (l : ℕ) → l < 2 ^ 62 → to_z w128 l ≡ pos l
+large l h = omega (arith, ints, h)
+
+-- the values that the code forms
+record Formed (num den : ℤ) (l : ℕ) : Type 0 where
+  pub own : to_z w128 (of_z w128 (to_z w64 (of_z w64 den))) ≡ den
+  pub product : to_z w128 (of_z w128 (pos 0 -ℤ to_z w128 (of_z w128 (to_z w128 (of_z w128 (to_z w64 (of_z w64 num))) *ℤ to_z w128 l)))) ≡ neg_ℤ (num *ℤ pos l)
+  pub size : unsigned_abs (neg_ℤ (num *ℤ pos l)) ≡ unsigned_abs num * l
+
+formed : (num den : ℤ) (l : ℕ) → unsigned_abs num < 2 ^ 62 → unsigned_abs den < 2 ^ 62 → l < 2 ^ 62 → Formed num den l
+formed num den l hn hd hl =
+    let p : ℤ = num *ℤ pos l in
+    let small : unsigned_abs p < 2 ^ 124 = product_small num (pos l) hn hl in
+    let fits : FitsSigned w128 p = fits_signed_from_abs w128 p (omega (arith, small)) in
+    let fits' : FitsSigned w128 (neg_ℤ p) = fits_signed_from_abs w128 (neg_ℤ p) (omega (arith, small, abs_minus p)) in
+    record {
+      own = widened den hd;
+      product = rw (widened num hn, large l hl, to_z-of_z w128 p fits, minus p, to_z-of_z w128 (neg_ℤ p) fits') refl;
+      size = abs_minus p ∙ unsigned_abs-mul num (pos l);
+    }
+
+pub divided-requires-clause-divides : goal.divided-requires-clause-divides
+divided-requires-clause-divides c =
+    let h = formed c.args.num.now c.args.den.now c.args.l.now c.requires.num_small c.requires.den_small c.requires.l_small in
+    rw (h.own, h.product, h.size) c.requires.divides
+
+pub returns : goal.returns
+returns c =
+    let h = formed c.args.num.now c.args.den.now c.args.l.now c.requires.num_small c.requires.den_small c.requires.l_small in
+    let e = rw (h.own, h.product) at c.divided.ensures in
+    rw (to_z-of_z w128 c.divided.result (record { sfits = c.divided.type_inv })) e

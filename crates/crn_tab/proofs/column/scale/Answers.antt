@@ -1,0 +1,45 @@
+use Rattle.std.proofs.Common.{◌≡◌, ◌≤◌, ◌<◌, ◌+◌, ◌-◌, ◌*◌, ◌^◌, ℕ, suc, List, ap, sym, subst, ◌∙◌, arith, lit<, add-one}
+use Rattle.std.specs.Prelude.{ℤ, pos, ◌≤ℤ◌, unsigned_abs}
+use Rattle.std.specs.Int.{IsGcd}
+use Rattle.std.proofs.lemmas.Int.{ints}
+use Rattle.crn_frac.specs.Multiple.{IsLcm}
+use Rattle.crn_vec.specs.Vectors.{entry}
+use Rattle.crn_tab.specs.Tab.{row_at, IsKeptRow}
+use Rattle.crn_tab.specs.Columns.{IsScale}
+use Rattle.crn_tab.proofs.Scales.{no_rows, more_rows}
+use Rattle.crn_tab.proofs.column.scale.Goals as goal
+
+-- one more row, read from a part of the rows
+one_more : (n c : ℕ) (rows row : List ℤ) (i l q l' : ℕ) → row ≡ row_at (n + 1) rows i → IsKeptRow (n + 1) (row_at (n + 1) rows i) → IsScale n c rows i l
+    → (g : ℕ) × IsGcd (unsigned_abs (entry row c)) (unsigned_abs (entry row n)) g × (q * g ≡ unsigned_abs (entry row n)) → IsLcm l q l' → IsScale n c rows (i + 1) l'
+one_more n c rows row i l q l' e kept s r lcm =
+    let R : List ℤ → Type 0 = λ v. (g : ℕ) × IsGcd (unsigned_abs (entry v c)) (unsigned_abs (entry v n)) g × (q * g ≡ unsigned_abs (entry v n)) in
+    let h : R (row_at (n + 1) rows i) = subst R e r in
+    let last : n + 1 - 1 ≡ n = omega arith in
+    let P : ℕ → Type 0 = λ k. pos 1 ≤ℤ entry (row_at (n + 1) rows i) k in
+    let den : pos 1 ≤ℤ entry (row_at (n + 1) rows i) n = subst P last kept.positive in
+    rw add-one (more_rows n c rows i l q h.0 l' s h.1 h.2 (omega (arith, ints, den)) lcm)
+
+pub loop-i-init : goal.loop-i-init
+loop-i-init c = record { is = no_rows c.args.n c.args.c c.args.rows.now; small = lit< tt }
+
+pub returns-in-None : goal.returns-in-None
+returns-in-None c =
+    let i = c.loop-i.i in
+    record {
+      i = i + 1;
+      inside = omega (arith, c.loop-i-test.true);
+      l = c.in-None.ensures.0;
+      is = one_more c.args.n c.args.c c.args.rows.now c.part-row.result.now i c.loop-i.l c.reduced.result c.in-None.ensures.0 c.part-row.ensures
+          (c.requires.row i (omega (arith, c.loop-i-test.true))) c.loop-i.invariant.is c.reduced.ensures.is c.in-None.ensures.1.0;
+      wide = c.in-None.ensures.1.1;
+    }
+
+pub loop-i-preserved : goal.loop-i-preserved
+loop-i-preserved c =
+    let i = c.loop-i.i in
+    record {
+      is = one_more c.args.n c.args.c c.args.rows.now c.part-row.result.now i c.loop-i.l c.reduced.result c.in-Some.next c.part-row.ensures
+          (c.requires.row i (omega (arith, c.loop-i-test.true))) c.loop-i.invariant.is c.reduced.ensures.is c.in-Some.ensures.0;
+      small = c.in-Some.ensures.2;
+    }

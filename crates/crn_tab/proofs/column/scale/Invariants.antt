@@ -1,0 +1,9 @@
+use Rattle.std.proofs.Common.{◌≡◌, ◌<◌, ◌≤◌, ◌^◌}
+use Rattle.crn_tab.specs.Columns.{IsScale}
+use Rattle.crn_tab.proofs.column.scale.Given as goal
+
+abbrev pub invariant-loop-i : goal.invariant-loop-i
+invariant-loop-i l = record {
+  is : IsScale l.n l.c l.rows l.i l.l;
+  small : l.l < 2 ^ 62;
+}

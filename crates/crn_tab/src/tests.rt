@@ -1,0 +1,273 @@
+ghost use Rattle.std.specs.Prelude.{◌≡◌, ◌≤◌, ◌<◌, ◌+◌, length, unsigned_abs, vec_len};
+ghost use Rattle.crn_vec.specs.Vectors.{AreWithin};
+
+use crate::{ColumnStop, Tableau, Wide};
+use crn_vec::{Ints, MAX_AMOUNT, Matrix};
+use std::alloc::Global;
+use std::process::Abort;
+
+// Exchanges two coordinates, after each condition was tested.
+fn exchange(
+    rt: &impl Abort,
+    matrix: &Matrix,
+    t: &mut Tableau,
+    leave: usize,
+    enter: usize,
+) -> Result<(), Wide>
+    requires { t.old.matrix ≡ matrix.now }
+    ensures { t.new.matrix ≡ matrix.now }
+{
+    let size = matrix.cols() + matrix.rows();
+    assert!(rt; leave < size);
+    assert!(rt; enter < size);
+    assert!(rt; t.is_basic(leave));
+    assert!(rt; !t.is_basic(enter));
+    assert!(rt; t.entry(enter, leave).num() != 0);
+    t.pivot(leave, enter)
+}
+
+fn row(rt: &impl Abort, matrix: &Matrix, t: &Tableau, k: usize) -> Ints
+    requires { t.now.matrix ≡ matrix.now }
+{
+    assert!(rt; k < matrix.cols() + matrix.rows());
+    assert!(rt; !t.is_basic(k));
+    t.row(k).expect(rt, "memory")
+}
+
+fn column(rt: &impl Abort, matrix: &Matrix, t: &Tableau, k: usize) -> Result<Ints, ColumnStop>
+    requires { t.now.matrix ≡ matrix.now }
+{
+    assert!(rt; k < matrix.cols() + matrix.rows());
+    assert!(rt; t.is_basic(k));
+    t.column(k)
+}
+
+// Whether the list is the wanted one or its negative.
+fn is_up_to_sign(made: &[i128], want: &[i128]) -> bool {
+    let mut same = made.len() == want.len();
+    let mut turned = same;
+    for (x, y) in made.iter().zip(want) {
+        same = same && x == y;
+        turned = turned && x.checked_neg() == Some(*y);
+    }
+    same || turned
+}
+
+#[test]
+fn one_row_exchanges_its_coordinate(rt: HostRuntime) {
+    let matrix = Matrix::new(rt.alloc(), 1, 2, &[-1, 1]).expect(&rt, "memory");
+    let mut t = Tableau::new(rt.alloc(), &matrix).expect(&rt, "memory");
+    assert!(rt; is_up_to_sign(row(&rt, &matrix, &t, 2).as_slice(), &[1, -1, 1]));
+    assert!(rt; exchange(&rt, &matrix, &mut t, 0, 2).is_ok());
+    assert!(rt; is_up_to_sign(row(&rt, &matrix, &t, 0).as_slice(), &[1, -1, 1]));
+    let column = column(&rt, &matrix, &t, 1)
+        .map_err(|_| "wide")
+        .expect(&rt, "column");
+    assert!(rt; is_up_to_sign(column.as_slice(), &[1, 1, 0]));
+    let basis = t.basis().expect(&rt, "memory");
+    assert_eq!(rt; basis.as_slice(), [1, 2].as_slice());
+}
+
+fn at(rows: &[i128], place: usize) -> i128 {
+    match rows.get(place) {
+        Some(x) => *x,
+        None => 0,
+    }
+}
+
+// The rows (-A_i, e_i), one after another.
+fn plain_rows(rt: &impl Abort, alloc: Global, matrix: &Matrix) -> Vec<i128> {
+    let mut rows = Vec::new(alloc);
+    for i in 0..matrix.rows() {
+        for j in 0..matrix.cols() {
+            rows.push(-matrix.entry(i, j)).expect(rt, "memory");
+        }
+        for k in 0..matrix.rows() {
+            rows.push(if k == i { 1 } else { 0 }).expect(rt, "memory");
+        }
+    }
+    rows
+}
+
+// Takes a coordinate out of every row but one, without any division.
+fn eliminate(rows: &mut [i128], size: usize, row: usize, coordinate: usize) {
+    let from = row.wrapping_mul(size);
+    let p = at(rows, from.wrapping_add(coordinate));
+    for place in 0..rows.len() {
+        if size != 0 && place / size != row && place % size == 0 {
+            let q = at(rows, place.wrapping_add(coordinate));
+            for k in 0..size {
+                let difference = p
+                    .wrapping_mul(at(rows, place.wrapping_add(k)))
+                    .wrapping_sub(q.wrapping_mul(at(rows, from.wrapping_add(k))));
+                if let Some(entry) = rows.get_mut(place.wrapping_add(k)) {
+                    *entry = difference;
+                }
+            }
+        }
+    }
+}
+
+// Whether a row of plain elimination is a multiple of the vector.
+fn is_multiple(made: &[i128], rows: &[i128], from: usize) -> bool {
+    let mut all = true;
+    for (j, x) in made.iter().enumerate() {
+        for (k, y) in made.iter().enumerate() {
+            let left = x.wrapping_mul(at(rows, from.wrapping_add(k)));
+            all = all && left == y.wrapping_mul(at(rows, from.wrapping_add(j)));
+        }
+    }
+    all
+}
+
+// Exchanges coordinates one after another, and compares all rows with plain elimination each time.
+fn compare(rt: &impl Abort, alloc: Global, matrix: &Matrix, exchanges: &[(usize, usize)]) {
+    let size = matrix.cols() + matrix.rows();
+    let mut t = Tableau::new(alloc, matrix).expect(rt, "memory");
+    let mut plain = plain_rows(rt, alloc, matrix);
+    let mut own = Vec::new(alloc);
+    for i in 0..matrix.rows() {
+        own.push(matrix.cols() + i).expect(rt, "memory");
+    }
+    for (leave, enter) in exchanges {
+        let r = own
+            .iter()
+            .position(|k| k == enter)
+            .expect(rt, "a coordinate outside the basis");
+        eliminate(&mut plain, size, r, *leave);
+        if let Some(k) = own.get_mut(r) {
+            *k = *leave;
+        }
+        assert!(rt; exchange(rt, matrix, &mut t, *leave, *enter).is_ok());
+        for (i, k) in own.iter().enumerate() {
+            let made = row(rt, matrix, &t, *k);
+            assert!(rt;
+                is_multiple(made.as_slice(), &plain, i.wrapping_mul(size)),
+                "row {k}"
+            );
+        }
+    }
+}
+
+#[test]
+fn rows_are_those_of_plain_elimination(rt: HostRuntime) {
+    let alloc = rt.alloc();
+    let dense = Matrix::new(alloc, 3, 3, &[2, 3, 5, 7, 11, 13, 17, 19, 23]).expect(&rt, "memory");
+    compare(&rt, alloc, &dense, &[(0, 3), (1, 4), (2, 5), (3, 1)]);
+    let flat = Matrix::new(alloc, 2, 3, &[1, -2, 3, -4, 5, -6]).expect(&rt, "memory");
+    compare(&rt, alloc, &flat, &[(1, 3), (2, 4), (3, 2), (0, 3)]);
+    let tall = Matrix::new(alloc, 3, 2, &[99, -99, -98, 97, 1, 0]).expect(&rt, "memory");
+    compare(&rt, alloc, &tall, &[(0, 2), (1, 3), (2, 4), (3, 1)]);
+    let zero = Matrix::new(alloc, 2, 2, &[0, 0, 6, -4]).expect(&rt, "memory");
+    compare(&rt, alloc, &zero, &[(1, 3)]);
+}
+
+// A small number, as a matrix may hold it.
+fn small(x: i128) -> i128
+    ensures { unsigned_abs result ≤ MAX_AMOUNT }
+{
+    if -99 <= x && x <= 99 { x } else { 0 }
+}
+
+// Adds a row that has one number on its diagonal and one in the column beside it or in the last.
+fn push_row(
+    rt: &impl Abort,
+    entries: &mut Vec<i128>,
+    cols: usize,
+    i: usize,
+    own: i128,
+    beside: (usize, i128),
+)
+    requires { AreWithin MAX_AMOUNT entries.old.items }
+    ensures within { AreWithin MAX_AMOUNT entries.new.items }
+    ensures count { vec_len entries.new ≡ vec_len entries.old + cols }
+{
+    for j in 0..cols {
+        let x = if j == i {
+            own
+        } else if j == beside.0 {
+            beside.1
+        } else {
+            0
+        };
+        entries.push(small(x)).expect(rt, "memory");
+    }
+}
+
+// The rows own x_i + 99 x_(i + 1).
+fn chain(rt: &impl Abort, alloc: Global, count: usize) -> Matrix
+    requires { count < 20 }
+    ensures { result.cols ≡ count + 1 }
+{
+    let mut entries = Vec::new(alloc);
+    for i in 0..count {
+        push_row(rt, &mut entries, count + 1, i, -1, (i + 1, 99));
+    }
+    Matrix::new(alloc, count, count + 1, &entries).expect(rt, "memory")
+}
+
+// The rows p x_i - x_last, for each p.
+fn fan(rt: &impl Abort, alloc: Global, numbers: &[i128]) -> Matrix
+    requires { length numbers.now < 20 }
+    ensures { result.cols ≡ length numbers.now + 1 }
+{
+    let count = numbers.len();
+    let mut entries = Vec::new(alloc);
+    for (i, p) in numbers.iter().enumerate() {
+        push_row(rt, &mut entries, count + 1, i, *p, (count, -1));
+    }
+    Matrix::new(alloc, count, count + 1, &entries).expect(rt, "memory")
+}
+
+// Exchanges each of the first columns with the row of the same number.
+fn exchange_diagonal(rt: &impl Abort, matrix: &Matrix, t: &mut Tableau, count: usize)
+    requires { t.old.matrix ≡ matrix.now }
+    ensures { t.new.matrix ≡ matrix.now }
+{
+    assert!(rt; count <= matrix.rows());
+    for i in 0..count {
+        let done = exchange(rt, matrix, t, i, matrix.cols() + i);
+        assert!(rt; done.is_ok());
+    }
+}
+
+#[test]
+fn the_tenth_factor_of_99_is_wide(rt: HostRuntime) {
+    let matrix = chain(&rt, rt.alloc(), 11);
+    let mut t = Tableau::new(rt.alloc(), &matrix).expect(&rt, "memory");
+    exchange_diagonal(&rt, &matrix, &mut t, 9);
+    let made = row(&rt, &matrix, &t, 0);
+    assert_eq!(rt; at(made.as_slice(), 0).unsigned_abs(), 1);
+    assert_eq!(rt; at(made.as_slice(), 9).unsigned_abs(), 913517247483640899);
+    assert_eq!(rt;
+        exchange(&rt, &matrix, &mut t, 9, 21),
+        Err(Wide { index: 1 })
+    );
+    let again = row(&rt, &matrix, &t, 0);
+    assert_eq!(rt; again.as_slice(), made.as_slice());
+}
+
+// The column of the last coordinate, once each other one depends on it.
+fn last_of_fan(rt: &impl Abort, alloc: Global, numbers: &[i128]) -> Result<Ints, ColumnStop>
+    requires { length numbers.now < 20 }
+{
+    let matrix = fan(rt, alloc, numbers);
+    let mut t = Tableau::new(alloc, &matrix).expect(rt, "memory");
+    exchange_diagonal(rt, &matrix, &mut t, numbers.len());
+    column(rt, &matrix, &t, numbers.len())
+}
+
+#[test]
+fn a_column_is_wide_by_its_common_multiple(rt: HostRuntime) {
+    let primes = [97, 89, 83, 79, 73, 71, 67, 61, 59, 53, 47];
+    let made = last_of_fan(&rt, rt.alloc(), &primes[..10])
+        .map_err(|_| "wide")
+        .expect(&rt, "column");
+    assert_eq!(rt; at(made.as_slice(), 10).unsigned_abs(), 3749562977351496827);
+    assert_eq!(rt;
+        at(made.as_slice(), 0).unsigned_abs(),
+        3749562977351496827 / 97
+    );
+    let stop = last_of_fan(&rt, rt.alloc(), &primes).err();
+    assert_eq!(rt; stop, Some(ColumnStop::Wide));
+}
