@@ -17,6 +17,7 @@ use Rattle.crn_net.proofs.Firsts.{firsts_distinct, firsts_from, firsts_has, firs
 use Rattle.crn_net.proofs.Amounts.{has_name, none_said}
 use Rattle.crn_net.proofs.Rows.{row_length, row_widened, puts_place, puts_all, puts_distinct}
 use Rattle.crn_net.proofs.Growth.{Ready, Wider, rows_distinct, vectors_distinct, both_keep, left_stands, right_stands}
+use Rattle.crn_vec.proofs.Appearance.{appears_in_order, in_order_appears}
 use Rattle.crn_net.proofs.Whole.{Covers, Stand, covers_both, ends_below, amounts_widened, amounts_said}
 
 -- what a statement's sides have: names, each with a number of at least 1, up to the limit
@@ -286,7 +287,7 @@ old_covers : (t : Step) → Covers (length t.rows) (ends t.reactions)
 old_covers t =
     let c = old_count t in
     record {
-      numbered = t.ready.network.numbered;
+      numbered = appears_in_order (ends t.reactions) t.ready.network.numbered;
       all = λ k lt. t.ready.network.each_in_a_reaction k (omega (arith, c));
       below = λ k i. let q = ends_below (length (vectors_of (length t.names) t.rows)) t.reactions t.ready.network.apart k i in omega (arith, c, q);
     }
@@ -321,7 +322,7 @@ new_partial t =
       vectors = all_map (IsVector m) (take m) t.rows' (λ row i. (row_length m row t.most (all_in (IsRow m) t.rows' row d.1 i), all_in (λ u. AllByRecursion IsAmount (take m u)) t.rows' row (new_amounts t) i));
       reactions = puts_distinct t.reactions t.reactions' (t.y, t.z) t.ready.network.reactions t.puts;
       apart = joins t;
-      numbered = covers.numbered;
+      numbered = in_order_appears (ends t.reactions') covers.numbered;
       each_in_a_reaction = λ c lt. covers.all c (omega (arith, count));
       each_in_a_complex = each_held t;
       species_in_order = in_order t;

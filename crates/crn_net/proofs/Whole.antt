@@ -5,8 +5,9 @@ use Rattle.std.specs.List.{AllByRecursion}
 use Rattle.std.proofs.lemmas.Bool.{cases_lt}
 use Rattle.std.proofs.lemmas.Int.{ints}
 use Rattle.crn_vec.specs.Lists.{IsIn}
-use Rattle.crn_vec.specs.Network.{IsAmount, IsNumberedInOrder, JoinsTwo, ends, amount_in, amounts_in}
+use Rattle.crn_vec.specs.Network.{IsAmount, JoinsTwo, ends, amount_in, amounts_in}
 use Rattle.crn_vec.specs.declared.limits.TheConstants.{MAX_AMOUNT}
+use Rattle.crn_vec.proofs.Appearance.{IsNumberedInOrder}
 use Rattle.crn_net.specs.Grows.{widened}
 use Rattle.crn_net.specs.Steps.{Puts}
 use Rattle.crn_net.proofs.Lists.{in_left, in_right, in_push, in_at, all_from, all_map}

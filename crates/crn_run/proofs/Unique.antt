@@ -5,7 +5,8 @@ use Rattle.std.specs.List.{AllByRecursion, flat_map}
 use Rattle.std.proofs.lemmas.Bool.{cases_lt}
 use Rattle.crn_net.proofs.Lists.{same_place}
 use Rattle.crn_vec.specs.Lists.{IsIn, AreDistinct}
-use Rattle.crn_vec.specs.Network.{Net, IsPartialNetwork, IsNumberedInOrder, JoinsTwo, ends, sides_of}
+use Rattle.crn_vec.specs.Network.{Net, IsPartialNetwork, JoinsTwo, ends, sides_of}
+use Rattle.crn_vec.proofs.Appearance.{IsNumberedInOrder, appears_in_order}
 
 pub lists_same : {A : Type 0} (xs ys : List A) (e : A) → length xs ≡ length ys → ((k : ℕ) → k < length xs → get_or xs k e ≡ get_or ys k e) → xs ≡ ys
 lists_same [] [] e long at = refl
@@ -100,7 +101,7 @@ network_unique a b p q names sides =
     let below = ends_below (length a.complexes) a.reactions p.apart in
     let under = ends_below (length b.complexes) b.reactions q.apart in
     let read : map (λ k. get_or a.complexes k []) (ends a.reactions) ≡ map (λ k. get_or b.complexes k []) (ends b.reactions) = read_ends a a.reactions ∙ ap (flat_map both) sides ∙ sym (read_ends b b.reactions) in
-    let same : ends a.reactions ≡ ends b.reactions = same_places a.complexes b.complexes 0 (ends a.reactions) (ends b.reactions) p.complexes q.complexes below under (omega arith) (omega arith) (λ k lt. absurd (omega arith)) p.numbered q.numbered read in
+    let same : ends a.reactions ≡ ends b.reactions = same_places a.complexes b.complexes 0 (ends a.reactions) (ends b.reactions) p.complexes q.complexes below under (omega arith) (omega arith) (λ k lt. absurd (omega arith)) (appears_in_order (ends a.reactions) p.numbered) (appears_in_order (ends b.reactions) q.numbered) read in
     let in_b : (c : ℕ) → IsIn c (ends a.reactions) → IsIn c (ends b.reactions) = λ c i. subst (λ (t : List ℕ). IsIn c t) same i in
     let in_a : (c : ℕ) → IsIn c (ends b.reactions) → IsIn c (ends a.reactions) = λ c i. subst (λ (t : List ℕ). IsIn c t) (sym same) i in
     let ab = fits (length a.complexes) (length b.complexes) (ends b.reactions) (λ c lt. in_b c (p.each_in_a_reaction c lt)) under in

@@ -1,7 +1,7 @@
 -- Reaction networks, and the reactions that a statement says.
 -- Source: Feinberg, Foundations of Chemical Reaction Network Theory (2019). The limits and the numbering are this project's own.
 -- Shapes: species, complexes and reactions are counted from 0. A complex is the list of its amounts, one for each species.
-use Rattle.std.specs.Prelude.{◌≡◌, ◌≤◌, ◌<◌, ◌⊎◌, ◌==◌, ◌&&◌, ◌||◌, nat_le, ℕ, suc, ℤ, pos, ◌≤ℤ◌, ◌-ℤ◌, Bool, false, IsTrue, if◌then◌else◌, List, [], ◌∷◌, ◌++◌, length, map, slice_index_or}
+use Rattle.std.specs.Prelude.{◌≡◌, ◌≤◌, ◌<◌, ◌⊎◌, ◌==◌, ◌&&◌, ◌||◌, nat_le, ℕ, suc, ℤ, pos, ◌≤ℤ◌, ◌-ℤ◌, Bool, false, IsTrue, if◌then◌else◌, List, [], ◌∷◌, ◌++◌, length, map, slice_index, slice_index_or}
 use Rattle.std.specs.List.{AllByRecursion, list_all, sum_by}
 use Rattle.std.specs.Str.{bytes_eq}
 use Rattle.std.specs.Ordering.{int_eq}
@@ -43,10 +43,9 @@ abbrev pub ends : List (ℕ × ℕ) → List ℕ
 ends [] = []
 ends (r ∷ rs) = r.0 ∷ r.1 ∷ ends rs
 
--- each place that comes anew is the next one, and those before `next` are known
-abbrev pub IsNumberedInOrder : ℕ → List ℕ → Type 0
-IsNumberedInOrder next [] = Unit {0}
-IsNumberedInOrder next (y ∷ ys) = ((y < next) × IsNumberedInOrder next ys) ⊎ ((y ≡ next) × IsNumberedInOrder (suc next) ys)
+-- numbered by first appearance: before a number each smaller one has stood
+abbrev pub IsFirstAppearance : List ℕ → Type 0
+IsFirstAppearance ys = (i k : ℕ) → i < length ys → k < slice_index ys i → (j : ℕ) × (j < i) × (slice_index ys j ≡ k)
 
 -- from 0 to the limit
 abbrev pub IsAmount : ℤ → Type 0
@@ -81,7 +80,7 @@ pub record IsPartialNetwork (net : Net) : Type 0 where
   pub reactions : AreDistinct net.reactions
   pub apart : AllByRecursion (JoinsTwo (length net.complexes)) net.reactions
   -- complexes are numbered by first appearance in the reactions, and each appears
-  pub numbered : IsNumberedInOrder 0 (ends net.reactions)
+  pub numbered : IsFirstAppearance (ends net.reactions)
   pub each_in_a_reaction : (c : ℕ) → c < length net.complexes → IsIn c (ends net.reactions)
   -- each species is in a complex, and those in the first complexes are the first species
   pub each_in_a_complex : (s : ℕ) → s < length net.names → IsHeldBefore net (length net.complexes) s
