@@ -41,3 +41,12 @@ pub record IsRank (vs : List (List ℤ)) (s : ℕ) : Type 0 where
   pub count : length places ≡ s
   pub independent : IsIndependent (chosen places vs)
   pub greatest : (more : List ℕ) → IsChoice (length vs) more → length more ≡ suc s → IsIndependent (chosen more vs) → ⊥
+
+-- where every vector of a list depends on independent members of it, their number is its rank
+abbrev pub BaseGivesRank : Type 0
+BaseGivesRank = (vs : List (List ℤ)) (places : List ℕ) → IsChoice (length vs) places → IsIndependent (chosen places vs)
+    → ((k : ℕ) → k < length vs → DependsOn (slice_index_or vs k []) (chosen places vs)) → IsRank vs (length places)
+
+-- a list of vectors has one rank
+abbrev pub RankIsOneNumber : Type 0
+RankIsOneNumber = (vs : List (List ℤ)) (s t : ℕ) → IsRank vs s → IsRank vs t → s ≡ t

@@ -32,6 +32,14 @@ MayWeigh NonNeg w = pos 0 ≤ℤ w
 MayWeigh Zero w = Unit {0}
 MayWeigh Free w = w ≡ pos 0
 
+-- what a list (x, Ax) may have at a coordinate of a kind where it is one of several that add up to a solution
+abbrev pub MayTake : Kind → ℤ → Type 0
+MayTake Pos x = pos 0 ≤ℤ x
+MayTake Neg x = x ≤ℤ pos 0
+MayTake NonNeg x = pos 0 ≤ℤ x
+MayTake Zero x = x ≡ pos 0
+MayTake Free x = Unit {0}
+
 -- the kind of coordinate k
 abbrev pub kind_at : List Kind → ℕ → Kind
 kind_at kinds k = slice_index_or kinds k Free
@@ -67,3 +75,7 @@ pub record HasOneRowCut (a : Mat) (kinds : List Kind) : Type 0 where
   pub i : ℕ
   pub single : IsOneRow i u
   pub cut : IsCut a kinds u
+
+-- a system with a cut has no solution
+abbrev pub CutsExcludeSolutions : Type 0
+CutsExcludeSolutions = (a : Mat) (kinds : List Kind) (u x : List ℤ) → IsCut a kinds u → IsSolution a kinds x → ⊥

@@ -1,5 +1,8 @@
 -- Vectors of whole numbers as lists, and matrices as lists of rows.
-use Rattle.std.specs.Prelude.{◌≡◌, ◌≤◌, ℕ, ℤ, pos, zero, suc, ◌+ℤ◌, ◌*ℤ◌, unsigned_abs, List, [], ◌∷◌, length, take, drop, slice_index_or}
+use Rattle.std.specs.Prelude.{◌≡◌, ◌≢◌, ◌≤◌, ◌↔◌, ◌≤ℤ◌, Bool, IsTrue, ℕ, ℤ, pos, negsuc, zero, suc, ◌+ℤ◌, ◌*ℤ◌, unsigned_abs, List, [], ◌∷◌, length, take, drop, slice_index_or}
+use Rattle.std.specs.List.{AllZip}
+use Rattle.crn_vec.specs.declared.signs.Sign.{Sign}
+use Rattle.crn_vec.specs.declared.signs.Sign.TheVariants.{Zero, Plus, Minus}
 
 -- the entry at place k, 0 past the end
 abbrev pub entry : List ℤ → ℕ → ℤ
@@ -35,3 +38,13 @@ column (r ∷ rs) j = entry r j ∷ column rs j
 abbrev pub rows_of : ℕ → ℕ → List ℤ → List (List ℤ)
 rows_of zero cols xs = []
 rows_of (suc rows) cols xs = take cols xs ∷ rows_of rows cols (drop cols xs)
+
+-- a number has a sign
+abbrev pub HasSign : Sign → ℤ → Type 0
+HasSign Zero x = x ≡ pos 0
+HasSign Plus x = pos 1 ≤ℤ x
+HasSign Minus x = x ≤ℤ negsuc 0
+
+-- the marks are true exactly at the nonzero entries
+abbrev pub MarksSupport : List ℤ → List Bool → Type 0
+MarksSupport v marks = AllZip (λ x mark. IsTrue mark ↔ (x ≢ pos 0)) v marks

@@ -1,3 +1,8 @@
+ghost use Rattle.std.specs.Prelude.{◌≡◌, ◌↔◌, IsTrue, length};
+ghost use Rattle.std.specs.List.{AllZip};
+ghost use Rattle.crn_vec.specs.Vectors.{HasSign};
+ghost use Rattle.crn_vec.specs.Systems.{HasKind};
+
 /// The sign of a whole number.
 #[derive(Clone, Copy, Debug, PartialEq, Eq)]
 pub enum Sign {
@@ -14,4 +19,70 @@ pub enum Kind {
     NonNeg,
     Zero,
     Free,
+}
+
+/// The sign of a number.
+pub fn sign_of(value: i128) -> Sign
+    ensures { HasSign result value }
+{
+    if value > 0 {
+        return Sign::Plus;
+    }
+    if value < 0 {
+        return Sign::Minus;
+    }
+    Sign::Zero
+}
+
+// Whether a number is of a kind.
+fn has_kind(kind: Kind, value: &i128) -> bool
+    ensures { IsTrue result ↔ HasKind kind value.now }
+{
+    match kind {
+        Kind::Pos => *value >= 1,
+        Kind::Neg => *value <= -1,
+        Kind::NonNeg => *value >= 0,
+        Kind::Zero => *value == 0,
+        Kind::Free => true,
+    }
+}
+
+/// Whether each value is of its kind.
+pub fn agrees(kinds: &[Kind], values: &[i128]) -> bool
+    requires { length values.now ≡ length kinds.now }
+    ensures { IsTrue result ↔ AllZip HasKind kinds.now values.now }
+{
+    for k in 0..kinds.len() {
+        if !has_kind(kinds[k], &values[k]) {
+            return false;
+        }
+    }
+    true
+}
+
+#[cfg(test)]
+mod tests {
+    use super::*;
+
+    #[test]
+    fn signs_by_table(rt: HostRuntime) {
+        for (value, want) in [(0, Sign::Zero), (1, Sign::Plus), (-1, Sign::Minus)] {
+            assert_eq!(rt; sign_of(value), want, "of {value}");
+        }
+    }
+
+    #[test]
+    fn agrees_exactly_where_each_value_has_its_kind(rt: HostRuntime) {
+        let kinds = [Kind::Pos, Kind::Neg, Kind::NonNeg, Kind::Zero, Kind::Free];
+        for (values, want) in [
+            ([1, -1, 0, 0, -5], true),
+            ([0, -1, 0, 0, 0], false),
+            ([1, 0, 0, 0, 0], false),
+            ([1, -1, -1, 0, 0], false),
+            ([1, -1, 1, 1, 0], false),
+        ] {
+            assert_eq!(rt; agrees(&kinds, &values), want, "at {values:?}");
+        }
+        assert_eq!(rt; agrees(&[], &[]), true);
+    }
 }

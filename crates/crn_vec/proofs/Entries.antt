@@ -1,0 +1,67 @@
+-- Lists by their entries.
+use Rattle.std.proofs.Common.{◌≡◌, ◌≢◌, ℕ, zero, suc, ◌+◌, ◌<◌, ◌≤◌, ◌⊎◌, inl, inr, List, [], ◌∷◌, length, get_or, take, refl, ap, add-one, arith}
+use Rattle.std.specs.Prelude.{ℤ, pos, ◌+ℤ◌, ◌*ℤ◌, unsigned_abs}
+use Rattle.std.specs.List.{AllZip}
+use Rattle.std.proofs.lemmas.Int.{ints}
+use Rattle.crn_vec.specs.Vectors.{entry, dot, AreWithin}
+
+pub past_end : (v : List ℤ) (k : ℕ) → length v ≤ k → entry v k ≡ pos 0
+past_end [] k h = refl
+past_end (x ∷ v) zero h = absurd (omega arith)
+past_end (x ∷ v) (suc k) h = past_end v k (omega arith)
+
+-- each place is inside or past the end
+pub inside_or : {A : Type 0} (xs : List A) (k : ℕ) → (k < length xs) ⊎ (length xs ≤ k)
+inside_or [] k = inr (omega arith)
+inside_or (x ∷ xs) zero = inl (omega arith)
+inside_or (x ∷ xs) (suc k) = elim (inside_or xs k) [ inl h ↦ inl (omega arith) | inr h ↦ inr (omega arith) ]
+
+pub lt_or : (s n : ℕ) → (s < n) ⊎ (n ≤ s)
+lt_or s zero = inr (omega arith)
+lt_or zero (suc n) = inl (omega arith)
+lt_or (suc s) (suc n) = elim (lt_or s n) [ inl h ↦ inl (omega arith) | inr h ↦ inr (omega arith) ]
+
+pub eq_or : (i j : ℕ) → (i ≡ j) ⊎ (i ≢ j)
+eq_or zero zero = inl refl
+eq_or zero (suc j) = inr (λ e. omega arith)
+eq_or (suc i) zero = inr (λ e. omega arith)
+eq_or (suc i) (suc j) = elim (eq_or i j) [ inl e ↦ inl (ap suc e) | inr ne ↦ inr (λ e. ne (omega arith)) ]
+
+-- two lists as long, related place by place
+pub zip_from : {A B : Type 0} (R : A → B → Type 0) (d : A) (e : B) (xs : List A) (ys : List B) → length ys ≡ length xs
+    → ((k : ℕ) → k < length xs → R (get_or xs k d) (get_or ys k e)) → AllZip R xs ys
+zip_from R d e [] [] l h = tt
+zip_from R d e [] (y ∷ ys) l h = absurd (omega arith)
+zip_from R d e (x ∷ xs) [] l h = absurd (omega arith)
+zip_from R d e (x ∷ xs) (y ∷ ys) l h = (h 0 (omega arith), zip_from R d e xs ys (omega arith) (λ k lt. h (suc k) (omega arith)))
+
+pub zip_at : {A B : Type 0} (R : A → B → Type 0) (d : A) (e : B) (xs : List A) (ys : List B) → AllZip R xs ys → (k : ℕ) → k < length xs → R (get_or xs k d) (get_or ys k e)
+zip_at R d e [] ys h k lt = absurd (omega arith)
+zip_at R d e (x ∷ xs) [] h k lt = absurd h
+zip_at R d e (x ∷ xs) (y ∷ ys) h zero lt = h.0
+zip_at R d e (x ∷ xs) (y ∷ ys) h (suc k) lt = zip_at R d e xs ys h.1 k (omega arith)
+
+pub zip_long : {A B : Type 0} (R : A → B → Type 0) (xs : List A) (ys : List B) → AllZip R xs ys → length ys ≡ length xs
+zip_long R [] [] h = refl
+zip_long R [] (y ∷ ys) h = absurd h
+zip_long R (x ∷ xs) [] h = absurd h
+zip_long R (x ∷ xs) (y ∷ ys) h = omega (arith, zip_long R xs ys h.1)
+
+pub within_at : (m : ℕ) (v : List ℤ) (k : ℕ) → AreWithin m v → k < length v → unsigned_abs (entry v k) ≤ m
+within_at m [] k h lt = absurd (omega arith)
+within_at m (x ∷ v) zero h lt = h.0
+within_at m (x ∷ v) (suc k) h lt = within_at m v k h.1 (omega arith)
+
+pub within_from : (m : ℕ) (v : List ℤ) → ((k : ℕ) → k < length v → unsigned_abs (entry v k) ≤ m) → AreWithin m v
+within_from m [] h = tt
+within_from m (x ∷ v) h = (h 0 (omega arith), within_from m v (λ k lt. h (suc k) (omega arith)))
+
+dot_suc : (v w : List ℤ) (k : ℕ) → k < length v → k < length w → dot (take (suc k) v) (take (suc k) w) ≡ dot (take k v) (take k w) +ℤ (entry v k *ℤ entry w k)
+dot_suc [] w k h g = absurd (omega arith)
+dot_suc (x ∷ v) [] k h g = absurd (omega arith)
+dot_suc (x ∷ v) (y ∷ w) zero h g = omega (arith, ints)
+dot_suc (x ∷ v) (y ∷ w) (suc k) h g = omega (arith, ints, dot_suc v w k (omega arith) (omega arith))
+
+-- the dot product of the first entries, with one more
+pub dot_step : (v w : List ℤ) (k : ℕ) → k < length v → k < length w → dot (take (k + 1) v) (take (k + 1) w) ≡ dot (take k v) (take k w) +ℤ (entry v k *ℤ entry w k)
+dot_step v w k h g = rw add-one (dot_suc v w k h g)

@@ -1,0 +1,60 @@
+-- Ring laws and signs of whole numbers.
+use Rattle.std.proofs.Common.{◌≡◌, ◌+◌, ◌*◌, arith, ap, refl, suc, zero, ℤ, pos, negsuc, ◌+ℤ◌, ◌-ℤ◌, ◌*ℤ◌, neg_ℤ, ◌⊎◌, inl, inr}
+use Rattle.std.proofs.lemmas.Int.{ints}
+use borrow.Author.Differences.{up, down, sum_is_lem, product_is, neg_is}
+use lib.IntN.{*ℤ_comm}
+
+pub distrib : (a b c : ℤ) → a *ℤ (b +ℤ c) ≡ a *ℤ b +ℤ a *ℤ c
+distrib a b c =
+    let e : up (b +ℤ c) + down b + down c ≡ down (b +ℤ c) + up b + up c = sum_is_lem b c in
+    let f : up a * (up (b +ℤ c) + down b + down c) ≡ up a * (down (b +ℤ c) + up b + up c) = ap (λ n. up a * n) e in
+    let g : down a * (up (b +ℤ c) + down b + down c) ≡ down a * (down (b +ℤ c) + up b + up c) = ap (λ n. down a * n) e in
+    omega (arith, ints, f, g)
+
+pub assoc : (a b c : ℤ) → (a *ℤ b) *ℤ c ≡ a *ℤ (b *ℤ c)
+assoc a b c =
+    let f1 : up (a *ℤ b) * up c ≡ (up a * up b + down a * down b) * up c = ap (λ n. n * up c) (product_is a b).0 in
+    let f2 : up (a *ℤ b) * down c ≡ (up a * up b + down a * down b) * down c = ap (λ n. n * down c) (product_is a b).0 in
+    let f3 : down (a *ℤ b) * up c ≡ (up a * down b + down a * up b) * up c = ap (λ n. n * up c) (product_is a b).1 in
+    let f4 : down (a *ℤ b) * down c ≡ (up a * down b + down a * up b) * down c = ap (λ n. n * down c) (product_is a b).1 in
+    let g1 : up a * up (b *ℤ c) ≡ up a * (up b * up c + down b * down c) = ap (λ n. up a * n) (product_is b c).0 in
+    let g2 : down a * up (b *ℤ c) ≡ down a * (up b * up c + down b * down c) = ap (λ n. down a * n) (product_is b c).0 in
+    let g3 : up a * down (b *ℤ c) ≡ up a * (up b * down c + down b * up c) = ap (λ n. up a * n) (product_is b c).1 in
+    let g4 : down a * down (b *ℤ c) ≡ down a * (up b * down c + down b * up c) = ap (λ n. down a * n) (product_is b c).1 in
+    omega (arith, ints, f1, f2, f3, f4, g1, g2, g3, g4)
+
+pub mul-neg : (a b : ℤ) → a *ℤ neg_ℤ b ≡ neg_ℤ (a *ℤ b)
+mul-neg a b =
+    let f1 : up a * up (neg_ℤ b) ≡ up a * down b = ap (λ n. up a * n) (neg_is b).0 in
+    let f2 : up a * down (neg_ℤ b) ≡ up a * up b = ap (λ n. up a * n) (neg_is b).1 in
+    let f3 : down a * up (neg_ℤ b) ≡ down a * down b = ap (λ n. down a * n) (neg_is b).0 in
+    let f4 : down a * down (neg_ℤ b) ≡ down a * up b = ap (λ n. down a * n) (neg_is b).1 in
+    omega (arith, ints, f1, f2, f3, f4)
+
+pub mul-sub : (p x y : ℤ) → p *ℤ (x -ℤ y) ≡ p *ℤ x -ℤ p *ℤ y
+mul-sub p x y = omega (arith, ints, distrib p x (neg_ℤ y), mul-neg p y)
+
+pub distrib-right : (a b c : ℤ) → (a +ℤ b) *ℤ c ≡ a *ℤ c +ℤ b *ℤ c
+distrib-right a b c = omega (arith, ints, *ℤ_comm (a +ℤ b) c, distrib c a b, *ℤ_comm c a, *ℤ_comm c b)
+
+pub left-comm : (a b c : ℤ) → a *ℤ (b *ℤ c) ≡ b *ℤ (a *ℤ c)
+left-comm a b c =
+    let e : (a *ℤ b) *ℤ c ≡ (b *ℤ a) *ℤ c = ap (λ t. t *ℤ c) (*ℤ_comm a b) in
+    omega (arith, ints, assoc a b c, assoc b a c, e)
+
+pub no_zero : (a b : ℤ) → a *ℤ b ≡ pos 0 → ¬ (a ≡ pos 0) → b ≡ pos 0
+no_zero (pos zero) b e h = absurd (h refl)
+no_zero (pos (suc a)) (pos zero) e h = refl
+no_zero (pos (suc a)) (pos (suc b)) e h = absurd (omega (arith, ints, e))
+no_zero (pos (suc a)) (negsuc b) e h = absurd (omega (arith, ints, e))
+no_zero (negsuc a) (pos zero) e h = refl
+no_zero (negsuc a) (pos (suc b)) e h = absurd (omega (arith, ints, e))
+no_zero (negsuc a) (negsuc b) e h = absurd (omega (arith, ints, e))
+
+pub is_zero : (a : ℤ) → (a ≡ pos 0) ⊎ (¬ (a ≡ pos 0))
+is_zero (pos zero) = inl refl
+is_zero (pos (suc n)) = inr (λ e. omega (arith, ints, e))
+is_zero (negsuc n) = inr (λ e. omega (arith, ints, e))
+
+pub one_ne_zero : ¬ (pos 1 ≡ pos 0)
+one_ne_zero e = omega (arith, ints, e)

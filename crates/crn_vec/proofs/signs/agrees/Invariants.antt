@@ -1,0 +1,7 @@
+use Rattle.std.proofs.Common.{ℕ, ◌<◌}
+use Rattle.crn_vec.specs.Vectors.{entry}
+use Rattle.crn_vec.specs.Systems.{HasKind, kind_at}
+use Rattle.crn_vec.proofs.signs.agrees.Given as goal
+
+abbrev pub invariant-loop-k : goal.invariant-loop-k
+invariant-loop-k l = (j : ℕ) → j < l.k → HasKind (kind_at l.kinds j) (entry l.values j)
