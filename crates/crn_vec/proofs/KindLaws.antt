@@ -152,3 +152,11 @@ product_some Neg (negsuc w) (negsuc v) s h n k = omega (arith, ints)
 product_some NonNeg w v s h n k = absurd (false≢true s)
 product_some Zero w v s h n k = absurd (false≢true s)
 product_some Free w v s h n k = absurd (false≢true s)
+
+-- a number of a signed kind may be weighed too
+pub kind_weighs : (κ : Kind) (x : ℤ) → is_signed κ ≡ true → HasKind κ x → MayWeigh κ x
+kind_weighs Pos x s h = omega (arith, ints, h)
+kind_weighs Neg x s h = omega (arith, ints, h)
+kind_weighs NonNeg x s h = absurd (false≢true s)
+kind_weighs Zero x s h = absurd (false≢true s)
+kind_weighs Free x s h = absurd (false≢true s)

@@ -97,17 +97,17 @@ transposed n (u ∷ us) x (r ∷ rows) w =
     let h : length (scale u r) ≡ length (comb n us rows) = omega (arith, w.0, length-scale u r, length-comb n us rows w.1) in
     omega (arith, ints, transposed n us x rows w.1, dot-plus (scale u r) (comb n us rows) x h, dot-scale u r x)
 
-entry-zeros : (n j : ℕ) → entry (zeros n) j ≡ pos 0
+pub entry-zeros : (n j : ℕ) → entry (zeros n) j ≡ pos 0
 entry-zeros zero j = refl
 entry-zeros (suc n) zero = refl
 entry-zeros (suc n) (suc j) = entry-zeros n j
 
-entry-scale : (a : ℤ) (xs : List ℤ) (j : ℕ) → entry (scale a xs) j ≡ a *ℤ entry xs j
+pub entry-scale : (a : ℤ) (xs : List ℤ) (j : ℕ) → entry (scale a xs) j ≡ a *ℤ entry xs j
 entry-scale a [] j = sym (*ℤ-zero a)
 entry-scale a (x ∷ xs) zero = refl
 entry-scale a (x ∷ xs) (suc j) = entry-scale a xs j
 
-entry-plus : (xs ys : List ℤ) (j : ℕ) → length xs ≡ length ys → entry (plus xs ys) j ≡ entry xs j +ℤ entry ys j
+pub entry-plus : (xs ys : List ℤ) (j : ℕ) → length xs ≡ length ys → entry (plus xs ys) j ≡ entry xs j +ℤ entry ys j
 entry-plus [] [] j e = refl
 entry-plus [] (y ∷ ys) j e = absurd (omega arith)
 entry-plus (x ∷ xs) [] j e = absurd (omega arith)

@@ -54,14 +54,6 @@ mod tests {
     }
 
     #[test]
-    fn matrices_give_their_rows(rt: HostRuntime) -> Result<(), Fail> {
-        let matrix = Matrix::new(rt.alloc(), 2, 3, &[1, 2, 3, -4, 5, 99])?;
-        assert_eq!(rt; (matrix.rows(), matrix.cols()), (2, 3));
-        assert_eq!(rt; matrix.row(1), [-4, 5, 99].as_slice());
-        Ok(())
-    }
-
-    #[test]
     fn laws_stand() {
         base_gives_rank();
         rank_is_one_number();
