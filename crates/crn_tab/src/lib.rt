@@ -7,6 +7,7 @@ mod dependence;
 mod exchange;
 mod fill;
 mod lead;
+mod shown;
 mod spread;
 mod start;
 mod stop;
