@@ -1,0 +1,5 @@
+pub mod Pairs
+pub mod Seen
+pub mod SignRules
+pub mod ReadSigns
+pub mod Steps
