@@ -3,3 +3,4 @@ pub mod Seen
 pub mod SignRules
 pub mod ReadSigns
 pub mod Steps
+pub mod Ruling

@@ -55,12 +55,12 @@ own_some a basis e w t lt out named none =
 
 -- ---- multiples
 
-take-scale : (q : ℤ) (n : ℕ) (v : List ℤ) → take n (scale q v) ≡ scale q (take n v)
+pub take-scale : (q : ℤ) (n : ℕ) (v : List ℤ) → take n (scale q v) ≡ scale q (take n v)
 take-scale q zero v = refl
 take-scale q (suc n) [] = refl
 take-scale q (suc n) (x ∷ v) = ap (λ (t : List ℤ). (q *ℤ x) ∷ t) (take-scale q n v)
 
-drop-scale : (q : ℤ) (n : ℕ) (v : List ℤ) → drop n (scale q v) ≡ scale q (drop n v)
+pub drop-scale : (q : ℤ) (n : ℕ) (v : List ℤ) → drop n (scale q v) ≡ scale q (drop n v)
 drop-scale q zero v = refl
 drop-scale q (suc n) [] = refl
 drop-scale q (suc n) (x ∷ v) = drop-scale q n v

@@ -1,4 +1,4 @@
-ghost use Rattle.std.specs.Prelude.{◌≡◌, ◌↔◌, ℤ, ◌*ℤ◌, neg_ℤ, IsTrue, true};
+ghost use Rattle.std.specs.Prelude.{◌≡◌, ◌≢◌, ◌↔◌, ℤ, pos, ◌*ℤ◌, neg_ℤ, IsTrue, true};
 ghost use Rattle.crn_vec.specs.Vectors.{HasSign};
 ghost use Rattle.crn_vec.specs.Systems.{HasKind, MayTake, MayWeigh, is_signed};
 ghost use Rattle.crn_farkas.specs.Views.{IsRight};
@@ -70,6 +70,16 @@ pub(crate) fn may_weigh(kind: Kind, sign: Sign) -> bool
         Kind::Neg => sign != Sign::Plus,
         Kind::Zero => true,
         Kind::Free => sign == Sign::Zero,
+    }
+}
+
+// Whether numbers of this sign are not 0 at a coordinate that has to be positive or negative.
+pub(crate) fn counts(kind: Kind, sign: Sign) -> bool
+    ensures { (x : ℤ) → HasSign sign x → (IsTrue result ↔ ((is_signed kind ≡ true) × (x ≢ pos 0))) }
+{
+    match kind {
+        Kind::Pos | Kind::Neg => sign != Sign::Zero,
+        _ => false,
     }
 }
 
