@@ -4,3 +4,7 @@ pub mod SignRules
 pub mod ReadSigns
 pub mod Steps
 pub mod Ruling
+pub mod Numbers
+pub mod Witnesses
+pub mod PartSums
+pub mod Finals

@@ -5,7 +5,7 @@ use Rattle.crn_vec.specs.declared.signs.Sign.{Sign}
 use Rattle.crn_vec.specs.declared.signs.Sign.TheVariants.{Zero}
 use Rattle.crn_vec.specs.Vectors.{Mat, entry, HasSign}
 use Rattle.crn_vec.specs.Lists.{IsIn}
-use Rattle.crn_vec.specs.Elementary.{width, InRowSpace, IsNamedRow, WideAt}
+use Rattle.crn_vec.specs.Elementary.{width, InRowSpace, IsNamedRow, WideAt, Exchanged}
 use Rattle.crn_vec.specs.Systems.{HasKind, MayTake, MayWeigh, kind_at, is_signed, Solves, IsCut, HasOneRowCut}
 
 -- how many coordinates have to be positive or negative
@@ -67,3 +67,9 @@ pub record NamesWide (a : Mat) (index : ℕ) (basis : List ℕ) : Type 0 where
   pub numbered : basis ≡ map suc from_zero
   pub counted : 1 ≤ index
   pub wide : WideAt a from_zero (index - 1)
+
+-- the ascending list with one coordinate in place of another, counted from 1
+pub record IsNumbered (basis : List ℕ) (leave enter : ℕ) (numbers : List ℕ) : Type 0 where
+  pub next : List ℕ
+  pub numbered : numbers ≡ map suc next
+  pub exchanged : Exchanged basis leave enter next

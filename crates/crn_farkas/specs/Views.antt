@@ -1,7 +1,8 @@
 -- What is seen of a tableau for one coordinate g that has to be positive or negative, and how far it is settled.
 -- Source: Minty (1974), on the two elementary vectors of which exactly one is found.
-use Rattle.std.specs.Prelude.{◌≡◌, ◌≢◌, ◌≤◌, ◌<◌, ◌-◌, ◌↔◌, ◌⊎◌, ℕ, ℤ, pos, List, slice_index}
+use Rattle.std.specs.Prelude.{◌≡◌, ◌≢◌, ◌≤◌, ◌<◌, ◌-◌, ◌↔◌, ◌⊎◌, ℕ, ℤ, pos, Bool, true, false, List, slice_index}
 use Rattle.crn_vec.specs.declared.signs.Kind.{Kind}
+use Rattle.crn_vec.specs.declared.signs.Kind.TheVariants.{Pos, Neg, NonNeg, Zero, Free}
 use Rattle.crn_vec.specs.Vectors.{Mat, entry}
 use Rattle.crn_vec.specs.Lists.{IsIn}
 use Rattle.crn_vec.specs.Elementary.{width, IsNamedRow, IsNamedColumn, Exchanged, WideAt}
@@ -49,6 +50,7 @@ IsSwapped basis leave enter next = ((enter ≡ leave) × (next ≡ basis)) ⊎ (
 
 -- the exchange of a member for a coordinate outside names a wide vector
 pub record IsRefused (a : Mat) (basis : List ℕ) (leave enter index : ℕ) : Type 0 where
+  pub inside : enter < width a
   pub counted : 1 ≤ index
   pub wide : (next : List ℕ) → Exchanged basis leave enter next → WideAt a next (index - 1)
 
@@ -58,3 +60,11 @@ pub record IsFirstWrong (a : Mat) (basis : List ℕ) (view : View) (g : ℕ) (ki
   pub high : j < k
   pub settled : IsSettled a basis view g kinds order j
   pub wrong : (y : List ℤ) → IsSeen a basis view g (kind_at kinds g) y → IsRight view (kind_at kinds (slice_index order j)) (entry y (slice_index order j)) → ⊥
+
+-- a coordinate of this kind turns at most once while others are settled
+abbrev pub is_early_kind : Kind → Bool
+is_early_kind Pos = false
+is_early_kind Neg = false
+is_early_kind NonNeg = false
+is_early_kind Zero = true
+is_early_kind Free = true

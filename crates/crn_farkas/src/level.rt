@@ -1,14 +1,14 @@
-ghost use Rattle.std.specs.Prelude.{◌≡◌, ◌≤◌, ◌<◌, ℕ, ℤ, pos, ◌≢◌, List, true, length, slice_index, MatchOption};
+ghost use Rattle.std.specs.Prelude.{◌≡◌, ◌≤◌, ◌<◌, ℕ, ℤ, pos, ◌≢◌, List, true, length, slice_index, MatchOption, OnOk, ◌⊎◌, ◌↔◌, IsTrue};
 ghost use Rattle.crn_vec.specs.Vectors.{entry, HasSign};
 ghost use Rattle.crn_vec.specs.Lists.{IsIn};
 ghost use Rattle.crn_vec.specs.Elementary.{width, IsNamedColumn};
 ghost use Rattle.crn_vec.specs.Systems.{kind_at, is_signed};
-ghost use Rattle.crn_farkas.specs.Views.{IsView, IsSeen, IsSettled, IsFirstWrong};
+ghost use Rattle.crn_farkas.specs.Views.{IsView, IsSeen, IsSettled, IsFirstWrong, is_early_kind};
 
 use crate::side::{is_right, opposite, product, sign_asked};
 use crate::view::View;
 use crn_tab::Tableau;
-use crn_vec::{Kind, Sign};
+use crn_vec::{Kind, NoMemory, Sign};
 
 // The sign at b of the vectors that the basis names by its member b, where they have this sign at g.
 fn lead_sign(tableau: &Tableau, b: usize, g: usize, asked: Sign) -> Sign
@@ -85,4 +85,28 @@ pub(crate) fn first_wrong(
         }
     }
     None
+}
+
+// Whether a coordinate of this kind is one of those that turn at most once while others are settled, or is not.
+fn is_level(kind: Kind, early: bool) -> bool
+    ensures { IsTrue result ↔ (is_early_kind kind ≡ early) }
+{
+    match kind {
+        Kind::Zero | Kind::Free => early,
+        _ => !early,
+    }
+}
+
+// Adds the coordinates that are early, or those that are not.
+pub(crate) fn push_level(order: &mut Vec<usize>, kinds: &[Kind], early: bool) -> Result<(), NoMemory>
+    ensures kept { OnOk result ((c : ℕ) → IsIn c order.old.items → IsIn c order.new.items) }
+    ensures added { OnOk result ((c : ℕ) → c < length kinds.now → is_early_kind (kind_at kinds.now c) ≡ early → IsIn c order.new.items) }
+    ensures below { OnOk result ((c : ℕ) → IsIn c order.new.items → IsIn c order.old.items ⊎ (c < length kinds.now)) }
+{
+    for c in 0..kinds.len() {
+        if is_level(kinds[c], early) {
+            order.push(c)?;
+        }
+    }
+    Ok(())
 }

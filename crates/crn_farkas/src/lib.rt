@@ -2,7 +2,17 @@
 #![tactic(auto)]
 
 mod cut;
+mod decision;
+mod goal;
 mod level;
 mod settle;
 mod side;
+mod solver;
+mod stop;
+mod sum;
+mod system;
 mod view;
+
+pub use decision::Decision;
+pub use stop::Stop;
+pub use system::{System, decide};

@@ -31,7 +31,9 @@ pub(crate) fn product(left: Sign, right: Sign) -> Sign
 // The sign of the numbers of a kind that is positive or negative.
 pub(crate) fn sign_asked(kind: Kind) -> Sign
     requires { is_signed kind ≡ true }
-    ensures { (x : ℤ) → HasKind kind x → HasSign result x }
+    ensures sign { (x : ℤ) → HasKind kind x → HasSign result x }
+    ensures kind { (x : ℤ) → HasSign result x → HasKind kind x }
+    ensures some { result ≢ Sign.Zero }
 {
     match kind {
         Kind::Neg => Sign::Minus,
