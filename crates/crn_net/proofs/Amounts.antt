@@ -1,17 +1,18 @@
 -- What the sides of a statement say of names.
 use Rattle.std.proofs.Common.{◌≡◌, ◌⊎◌, ℕ, ◌<◌, ◌≤◌, ◌+◌, true, false, cond, List, [], ◌∷◌, length, get_or, take, map, refl, sym, subst, ◌∙◌, inl, inr, arith}
-use Rattle.std.specs.List.{AllByRecursion}
+use Rattle.std.specs.List.{AllByRecursion, sum_by}
 use Rattle.std.specs.Str.{bytes_eq}
 use Rattle.std.proofs.lemmas.Bool.{cases_Bool}
 use Rattle.std.proofs.lemmas.List.{take_more, take_all}
-use Rattle.std.proofs.lemmas.List.Sums.{sum_by-cons}
+use Rattle.std.proofs.lemmas.List.Sums.{sum_by-cons, sum_by-le-sum_by}
 use Rattle.crn_vec.specs.Lists.{IsIn}
 use Rattle.crn_vec.specs.Network.{amount_in}
+use Rattle.crn_vec.specs.declared.limits.TheConstants.{MAX_AMOUNT}
 use Rattle.crn_net.specs.declared.term.Term.{Term}
 use Rattle.crn_net.specs.Terms.{name_at, side_of, statement_of}
 use Rattle.crn_net.specs.Steps.{SaysSame}
 use Rattle.crn_net.proofs.Lists.{all_in, all_from, all_push}
-use Rattle.crn_net.proofs.Members.{any_is, name_decides, amount_more}
+use Rattle.crn_net.proofs.Members.{any_is, name_decides, amount_is, amount_more}
 
 -- ---- loops over the terms of a side
 
@@ -79,3 +80,11 @@ same_said text left right a b name =
 
 pub said_same : (text : List ℕ) (left right terms : List Term) → SaysSame (statement_of text left right) → AllByRecursion (agreed text left right) terms
 said_same text left right terms h = all_from (agreed text left right) terms (λ t i. h (name_at text t))
+
+-- terms whose numbers add up to no more than the limit say no more of a name
+pub amounts_most : (text : List ℕ) (terms : List Term) → sum_by (λ t. t.count) terms ≤ MAX_AMOUNT → (name : List ℕ) → amount_in (side_of text terms) name ≤ MAX_AMOUNT
+amounts_most text terms h name =
+    let f : Term → ℕ = λ t. cond (bytes_eq (name_at text t) name) t.count 0 in
+    let is : amount_in (side_of text terms) name ≡ sum_by f terms = amount_is text name terms in
+    let le = sum_by-le-sum_by f (λ t. t.count) terms (λ t. elim (cases_Bool (bytes_eq (name_at text t) name)) [ inl hit ↦ rw hit (omega arith) | inr miss ↦ rw miss (omega arith) ]) in
+    omega (arith, is, le, h)

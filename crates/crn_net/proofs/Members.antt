@@ -82,7 +82,7 @@ found_none row rows h i =
 abbrev said : List ℕ → List ℕ → Term → ℕ
 said text name t = cond (bytes_eq (name_at text t) name) t.count 0
 
-amount_is : (text name : List ℕ) (side : List Term) → amount_in (side_of text side) name ≡ sum_by (said text name) side
+pub amount_is : (text name : List ℕ) (side : List Term) → amount_in (side_of text side) name ≡ sum_by (said text name) side
 amount_is text name [] = refl
 amount_is text name (t ∷ side) =
     let f : List ℕ × ℕ → ℕ = λ u. cond (bytes_eq u.0 name) u.1 0 in

@@ -3,13 +3,17 @@
 
 mod builder;
 mod fault;
+mod laws;
 mod name;
 mod network;
 mod sides;
 mod tables;
 mod term;
+#[cfg(test)]
+mod tests;
 
 pub use builder::NetBuilder;
 pub use fault::NetFault;
+pub use laws::statements_fix_what_has_grown;
 pub use network::Network;
 pub use term::{MAX_TERMS, Term};

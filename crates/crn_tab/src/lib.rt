@@ -8,6 +8,7 @@ mod exchange;
 mod fill;
 mod laws;
 mod lead;
+mod shown;
 mod spread;
 mod start;
 mod stop;

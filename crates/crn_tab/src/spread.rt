@@ -9,7 +9,7 @@ use crn_vec::{Ints, MAX_COORDINATES, Matrix, NoMemory, Nums};
 use std::alloc::Global;
 
 // The entry at slot s of the vector that row i keeps.
-fn slot_of(row: &[i64], n: usize, i: usize, s: usize) -> i128
+pub(crate) fn slot_of(row: &[i64], n: usize, i: usize, s: usize) -> i128
     requires long { length row.now ≡ n + 1 }
     requires few { n + i < 2 ^ 20 }
     requires small { AreSmall row.now }

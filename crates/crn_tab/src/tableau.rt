@@ -19,10 +19,10 @@ use std::marker::Model;
 /// A matrix and one of its bases, with the vectors that the basis names.
 #[derive(Drop)]
 pub struct Tableau {
-    matrix: Matrix,
-    at: Vec<usize>,
-    order: Vec<usize>,
-    rows: Vec<i64>,
+    pub(crate) matrix: Matrix,
+    pub(crate) at: Vec<usize>,
+    pub(crate) order: Vec<usize>,
+    pub(crate) rows: Vec<i64>,
     spare: Vec<i64>,
     lead: Vec<i64>,
     work: Vec<i128>,

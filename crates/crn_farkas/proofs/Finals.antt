@@ -1,0 +1,125 @@
+-- From the parts of a decision to what it says.
+use Rattle.std.proofs.Common.{◌≡◌, ◌≢◌, ℕ, zero, suc, ◌+◌, ◌-◌, ◌*◌, ◌^◌, ◌<◌, ◌≤◌, ◌⊎◌, ◌↔◌, inl, inr, List, [], ◌∷◌, ◌++◌, length, get_or, take, drop, refl, sym, ap, subst, ◌∙◌, arith, length-append}
+use Rattle.std.specs.Prelude.{ℤ, pos, negsuc, unsigned_abs, Bool, true, false, Result, Ok, Err, slice_index}
+use Rattle.std.specs.Result.{MatchResult}
+use Rattle.std.proofs.lemmas.Int.{ints}
+use Rattle.std.proofs.lemmas.List.{get_or-drop}
+use Rattle.crn_vec.specs.declared.signs.Kind.{Kind}
+use Rattle.crn_vec.specs.declared.signs.Kind.TheVariants.{Pos, Neg, NonNeg, Zero, Free}
+use Rattle.crn_vec.specs.Vectors.{Mat, entry, dot}
+use Rattle.crn_vec.specs.Lists.{IsIn}
+use Rattle.crn_vec.specs.Elementary.{width, InRowSpace, IsNamedRow}
+use Rattle.crn_vec.specs.Systems.{HasKind, MayTake, MayWeigh, kind_at, is_signed, HasOneRowCut}
+use Rattle.crn_vec.proofs.Entries.{eq_or, lt_or, past_end, zip_from}
+use Rattle.crn_vec.proofs.Cuts.{kinds_at}
+use Rattle.crn_vec.proofs.KindLaws.{kind_from, take_zero}
+use Rattle.crn_vec.proofs.Null.{dot-zero, Zero as AllZero}
+use Rattle.crn_farkas.specs.declared.stop.Stop.{Stop}
+use Rattle.crn_farkas.specs.declared.stop.Stop.TheVariants.{Wide, NoMemory}
+use Rattle.crn_farkas.specs.Views.{is_early_kind}
+use Rattle.crn_farkas.specs.Decides.{signed_count, HasNoKeptCut, IsSmallSolution}
+use Rattle.crn_farkas.specs.Ends.{IsPartSum, AreZeros, IsKeptStop, IsStop}
+use Rattle.crn_farkas.proofs.PartSums.{part_bound, push_in, push_last, in_push, get_in}
+
+pub no_zeros : AreZeros 0 []
+no_zeros = record { long = refl; zero = λ k. refl }
+
+snoc_zero : (v : List ℤ) (k : ℕ) → ((j : ℕ) → entry v j ≡ pos 0) → entry (v ++ pos 0 ∷ []) k ≡ pos 0
+snoc_zero [] zero h = refl
+snoc_zero [] (suc k) h = refl
+snoc_zero (x ∷ v) zero h = h 0
+snoc_zero (x ∷ v) (suc k) h = snoc_zero v k (λ j. h (suc j))
+
+pub one_zero_more : (k : ℕ) (v w : List ℤ) → AreZeros k v → w ≡ v ++ pos 0 ∷ [] → AreZeros (k + 1) w
+one_zero_more k v w z e = subst (λ (l : List ℤ). AreZeros (k + 1) l) (sym e) (record { long = omega (arith, length-append v (pos 0 ∷ []), z.long); zero = λ j. snoc_zero v j z.zero })
+
+zero_take : (n : ℕ) (v : List ℤ) → ((j : ℕ) → entry v j ≡ pos 0) → AllZero (take n v)
+zero_take zero v h = tt
+zero_take (suc n) [] h = tt
+zero_take (suc n) (x ∷ v) h = (h 0, zero_take n v (λ j. h (suc j)))
+
+pub part_none : (a : Mat) (kinds : List Kind) (v : List ℤ) → length kinds ≡ width a → AreZeros (length kinds) v → IsPartSum a kinds 0 v
+part_none a kinds v long z = record {
+  space = record { long = z.long ∙ long; is = λ i lt. z.zero (a.cols + i) ∙ sym (dot-zero (get_or a.rows i []) (take a.cols v) (zero_take a.cols v z.zero)) };
+  takes = λ k. subst (λ (x : ℤ). MayTake (kind_at kinds k) x) (sym (z.zero k)) (take_zero (kind_at kinds k));
+  some = λ k lt s. absurd (omega (arith, lt));
+  small = λ k. let e : unsigned_abs (entry v k) ≡ 0 = ap unsigned_abs (z.zero k) in omega (arith, e);
+}
+
+pub solution_from : (a : Mat) (kinds : List Kind) (v x : List ℤ) → length kinds ≡ width a → signed_count kinds ≤ 239 → IsPartSum a kinds (length kinds) v → x ≡ take a.cols v → IsSmallSolution a kinds x
+solution_from a kinds v x long few p e = record {
+  v = v;
+  solves = record {
+    space = p.space;
+    columns = sym e;
+    each = zip_from HasKind Free (pos 0) kinds v (p.space.long ∙ sym long) (λ k lt. kind_from (kind_at kinds k) (entry v k) (p.takes k) (p.some k lt));
+  };
+  small = λ k. omega (arith, part_bound a kinds (length kinds) v p few k);
+}
+
+-- ---- the order of settling
+
+pub record LevelKept (olds xs : List ℕ) (kinds : List Kind) (early : Bool) (c : ℕ) : Type 0 where
+  pub kept : (k : ℕ) → IsIn k olds → IsIn k xs
+  pub added : (k : ℕ) → k < c → is_early_kind (kind_at kinds k) ≡ early → IsIn k xs
+  pub below : (k : ℕ) → IsIn k xs → IsIn k olds ⊎ (k < length kinds)
+
+pub level_pushed : (olds xs ys : List ℕ) (kinds : List Kind) (early : Bool) (c : ℕ) → LevelKept olds xs kinds early c → c < length kinds → ys ≡ xs ++ c ∷ [] → LevelKept olds ys kinds early (c + 1)
+level_pushed olds xs ys kinds early c l lt e = subst (λ (zs : List ℕ). LevelKept olds zs kinds early (c + 1)) (sym e) (record {
+  kept = λ k i. push_in xs c k (l.kept k i);
+  added = λ k k_lt s. elim (eq_or k c) as (λ _. IsIn k (xs ++ c ∷ [])) [ inl f ↦ push_last xs c k f | inr ne ↦ push_in xs c k (l.added k (omega (arith, k_lt, ne)) s) ];
+  below = λ k i. elim (in_push xs c k i) as (λ _. IsIn k olds ⊎ (k < length kinds)) [ inl h ↦ l.below k h | inr f ↦ inr (omega (arith, f, lt)) ];
+})
+
+pub level_passed : (olds xs : List ℕ) (kinds : List Kind) (early : Bool) (c : ℕ) → LevelKept olds xs kinds early c → ¬ (is_early_kind (kind_at kinds c) ≡ early) → LevelKept olds xs kinds early (c + 1)
+level_passed olds xs kinds early c l out = record {
+  kept = l.kept;
+  added = λ k k_lt s. elim (eq_or k c) as (λ _. IsIn k xs) [
+    | inl f ↦ absurd (out (subst (λ (j : ℕ). is_early_kind (kind_at kinds j) ≡ early) f s))
+    | inr ne ↦ l.added k (omega (arith, k_lt, ne)) s
+  ];
+  below = l.below;
+}
+
+pub early_or : (κ : Kind) → (is_early_kind κ ≡ true) ⊎ (is_early_kind κ ≡ false)
+early_or Pos = inr refl
+early_or Neg = inr refl
+early_or NonNeg = inr refl
+early_or Zero = inl refl
+early_or Free = inl refl
+
+-- ---- what stops a decision
+
+pub no_one_row : (a : Mat) (basis : List ℕ) (kinds : List Kind) → ((k : ℕ) → IsIn k basis ↔ (k < a.cols)) → HasNoKeptCut a basis kinds → HasOneRowCut a kinds → ⊥
+no_one_row a basis kinds law none h =
+    let n = a.cols in
+    let w = h.cut.0 in
+    let cut = h.cut.1 in
+    let at : (k : ℕ) → entry w (n + k) ≡ entry h.u k = λ k. sym (get_or-drop n w k (pos 0)) ∙ ap (λ (l : List ℤ). entry l k) cut.rows in
+    let own : entry h.u h.i ≢ pos 0 = elim h.single.unit as (λ _. entry h.u h.i ≢ pos 0) [ inl e ↦ λ f. omega (arith, ints, e, f) | inr e ↦ λ f. omega (arith, ints, e, f) ] in
+    let some : entry w (n + h.i) ≢ pos 0 = λ f. own (sym (at h.i) ∙ f) in
+    let inside : n + h.i < width a = elim (lt_or (n + h.i) (length w)) as (λ _. n + h.i < width a) [
+      | inl lt ↦ omega (arith, lt, cut.space.long)
+      | inr le ↦ absurd (some (past_end w (n + h.i) le))
+    ] in
+    let named : IsNamedRow a basis (n + h.i) w = record {
+      inside = inside;
+      outside = λ i. let lt : n + h.i < n = (law (n + h.i)).0 i in omega (arith, lt);
+      space = cut.space;
+      zero_outside = λ k out ne. elim (lt_or k n) as (λ _. entry w k ≡ pos 0) [
+        | inl lt ↦ absurd (out ((law k).1 lt))
+        | inr le ↦
+            let j = k - n in
+            let e : n + j ≡ k = omega (arith, le) in
+            ap (λ (m : ℕ). entry w m) (sym e) ∙ at j ∙ h.single.others j (λ f. ne (sym e ∙ ap (λ (m : ℕ). n + m) f))
+      ];
+    } in
+    none (n + h.i) w named some (kinds_at MayWeigh kinds w refl cut.each, cut.some)
+
+pub stop_from : (a : Mat) (basis : List ℕ) (kinds : List Kind) → ((k : ℕ) → IsIn k basis ↔ (k < a.cols)) → (s : Stop) → IsKeptStop a basis kinds s → IsStop a kinds s
+stop_from a basis kinds law (Wide index numbers) h = (h.0, h.1, no_one_row a basis kinds law h.2)
+stop_from a basis kinds law NoMemory h = tt
+
+pub match_map : {D S : Type 0} (P P' : D → Type 0) (Q Q' : S → Type 0) (r : Result D S) → ((d : D) → P d → P' d) → ((s : S) → Q s → Q' s) → MatchResult r P Q → MatchResult r P' Q'
+match_map P P' Q Q' (Ok d) f g h = f d h
+match_map P P' Q Q' (Err s) f g h = g s h

@@ -1,0 +1,10 @@
+pub mod Pairs
+pub mod Seen
+pub mod SignRules
+pub mod ReadSigns
+pub mod Steps
+pub mod Ruling
+pub mod Numbers
+pub mod Witnesses
+pub mod PartSums
+pub mod Finals

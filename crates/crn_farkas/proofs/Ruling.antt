@@ -1,0 +1,94 @@
+-- Lists that rule a system out, from their entries.
+use Rattle.std.proofs.Common.{◌≡◌, ◌≢◌, ℕ, zero, suc, ◌+◌, ◌^◌, ◌<◌, ◌≤◌, ◌⊎◌, inl, inr, List, [], ◌∷◌, ◌++◌, length, get_or, take, drop, refl, sym, ap, subst, ◌∙◌, add-one, arith}
+use Rattle.std.specs.Prelude.{ℤ, pos, negsuc, ◌*ℤ◌, unsigned_abs, Bool, true, false}
+use Rattle.std.proofs.lemmas.Int.{ints, unsigned_abs-mul}
+use Rattle.std.proofs.lemmas.Bool.{false≢true}
+use Rattle.std.proofs.lemmas.List.{get_or-drop}
+use Rattle.std.specs.Result.{IfOk}
+use Rattle.std.specs.Prelude.{Result, Ok, Err}
+use Rattle.crn_vec.specs.declared.signs.Kind.{Kind}
+use Rattle.crn_vec.specs.declared.signs.Kind.TheVariants.{Free}
+use Rattle.crn_vec.specs.declared.signs.Sign.{Sign}
+use Rattle.crn_vec.specs.declared.signs.Sign.TheVariants.{Zero}
+use Rattle.crn_vec.specs.Vectors.{Mat, entry, HasSign}
+use Rattle.crn_vec.specs.Lists.{IsIn}
+use Rattle.crn_vec.specs.Elementary.{width, IsNamed, IsNamedRow}
+use Rattle.crn_vec.specs.Systems.{MayWeigh, kind_at, is_signed, IsCut}
+use Rattle.crn_vec.proofs.Entries.{eq_or, lt_or, past_end, zip_from}
+use Rattle.crn_vec.proofs.Sums.{scale, entry-scale, length-scale}
+use Rattle.crn_tab.specs.Names.{NamesRows}
+use Rattle.crn_tab.proofs.OwnSign.{as_row}
+use Rattle.crn_farkas.specs.Decides.{factor, WeighsBelow, CountsBelow, IsRuling, CutsBy, IsSmallCut}
+use Rattle.crn_farkas.proofs.Pairs.{dual_scaled, named_scaled, drop-scale, own_some}
+
+pub weighs_more : (kinds : List Kind) (w : List ℤ) (c : ℕ) → WeighsBelow kinds w c → MayWeigh (kind_at kinds c) (entry w c) → WeighsBelow kinds w (c + 1)
+weighs_more kinds w c h here k lt = elim (eq_or k c) as (λ _. MayWeigh (kind_at kinds k) (entry w k)) [
+  | inr ne ↦ h k (omega (arith, lt, ne))
+  | inl e ↦ subst (λ (m : ℕ). MayWeigh (kind_at kinds m) (entry w m)) (sym e) here
+]
+
+pub kind_past : (kinds : List Kind) (k : ℕ) → length kinds ≤ k → kind_at kinds k ≡ Free
+kind_past [] k h = refl
+kind_past (κ ∷ kinds) zero h = absurd (omega arith)
+kind_past (κ ∷ kinds) (suc k) h = kind_past kinds k (omega arith)
+
+pub ruling_from : (kinds : List Kind) (w : List ℤ) → length w ≡ length kinds → WeighsBelow kinds w (length kinds) → CountsBelow kinds w (length kinds) → IsRuling kinds w
+ruling_from kinds w e weighs (k, lt, s, n) = (λ j. elim (lt_or j (length kinds)) as (λ _. MayWeigh (kind_at kinds j) (entry w j)) [
+  | inl h ↦ weighs j h
+  | inr h ↦ subst (λ (κ : Kind). MayWeigh κ (entry w j)) (sym (kind_past kinds j h)) (past_end w j (omega (arith, e, h)))
+], (k, s, n))
+
+free_unsigned : (κ : Kind) → κ ≡ Free → is_signed κ ≡ true → ⊥
+free_unsigned κ e s = false≢true (ap is_signed (sym e) ∙ s)
+
+-- a signed coordinate is one of those that have a kind
+pub signed_inside : (kinds : List Kind) (k : ℕ) → is_signed (kind_at kinds k) ≡ true → k < length kinds
+signed_inside kinds k s = elim (lt_or k (length kinds)) as (λ _. k < length kinds) [
+  | inl h ↦ h
+  | inr h ↦ absurd (free_unsigned (kind_at kinds k) (kind_past kinds k h) s)
+]
+
+pub ruling_counts : (kinds : List Kind) (w : List ℤ) → IsRuling kinds w → CountsBelow kinds w (length kinds)
+ruling_counts kinds w (weighs, (k, s, n)) = (k, signed_inside kinds k s, s, n)
+
+scale_suc : (q : ℤ) (v : List ℤ) (k : ℕ) → k < length v → scale q (take (suc k) v) ≡ scale q (take k v) ++ (q *ℤ entry v k) ∷ []
+scale_suc q [] k h = absurd (omega arith)
+scale_suc q (x ∷ v) zero h = refl
+scale_suc q (x ∷ v) (suc k) h = ap (λ (t : List ℤ). (q *ℤ x) ∷ t) (scale_suc q v k (omega arith))
+
+pub scale_step : (q : ℤ) (v : List ℤ) (k : ℕ) → k < length v → scale q (take (k + 1) v) ≡ scale q (take k v) ++ (q *ℤ entry v k) ∷ []
+scale_step q v k h = rw add-one (scale_suc q v k h)
+
+pub unit_size : (s : Bool) (x : ℤ) → unsigned_abs (factor s *ℤ x) ≡ unsigned_abs x
+unit_size true x = omega (arith, ints)
+unit_size false x = omega (arith, ints)
+
+pub scaled_small : (s : Bool) (v : List ℤ) (m : ℕ) → ((k : ℕ) → unsigned_abs (entry v k) < m) → (k : ℕ) → unsigned_abs (entry (scale (factor s) v) k) < m
+scaled_small s v m h k = subst (λ (t : ℕ). t < m) (sym (ap unsigned_abs (entry-scale (factor s) v k) ∙ unit_size s (entry v k))) (h k)
+
+-- the multipliers of a named vector with its sign
+pub cut_from : (a : Mat) (basis : List ℕ) (kinds : List Kind) (e : ℕ) (turn : Sign) (s : Bool) (w u : List ℤ) → NamesRows a basis → e < width a → ¬ IsIn e basis → length kinds ≡ width a
+    → CutsBy a basis kinds e turn → IsNamed a basis e w → ((k : ℕ) → unsigned_abs (entry w k) < 2 ^ 62) → (entry w e ≢ pos 0 → turn ≢ Zero → HasSign turn (factor s *ℤ entry w e))
+    → u ≡ scale (factor s) (drop a.cols w) → IsSmallCut a kinds u
+cut_from a basis kinds e turn s w u t lt out long cuts named small turns same =
+    let small_part : (k : ℕ) → unsigned_abs (entry (drop a.cols w) k) < 2 ^ 62 = λ k. subst (λ (z : ℤ). unsigned_abs z < 2 ^ 62) (sym (get_or-drop a.cols w k (pos 0))) (small (a.cols + k)) in
+    let q = factor s in
+    let turned = turns (own_some a basis e w t lt out named) cuts.some in
+    let row = as_row a basis e w out named in
+    let v = scale q w in
+    let named_v = named_scaled a basis e q w row in
+    let rules = cuts.rules v named_v (subst (HasSign turn) (sym (entry-scale q w e)) turned) in
+    record {
+      cut = (v, record {
+        space = named_v.space;
+        rows = drop-scale q a.cols w ∙ sym same;
+        each = zip_from MayWeigh Free (pos 0) kinds v (omega (arith, named_v.space.long, long)) (λ k k_lt. rules.0 k);
+        some = rules.1;
+      });
+      small = subst (λ (l : List ℤ). (k : ℕ) → unsigned_abs (entry l k) < 2 ^ 62) (sym same) (scaled_small s (drop a.cols w) (2 ^ 62) small_part);
+    }
+
+-- what holds of a value in an Ok follows from what is known of it
+pub if_ok : {T E : Type 0} (P Q : T → Type 0) (r : Result T E) → ((x : T) → P x → Q x) → IfOk r P → IfOk r Q
+if_ok P Q (Ok x) f h = f x h
+if_ok P Q (Err e) f h = tt

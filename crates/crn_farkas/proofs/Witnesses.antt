@@ -1,0 +1,119 @@
+-- A settled column view shows a vector that is one of those that add up to a solution.
+use Rattle.std.proofs.Common.{◌≡◌, ◌≢◌, ℕ, zero, suc, ◌+◌, ◌-◌, ◌^◌, ◌<◌, ◌≤◌, ◌⊎◌, inl, inr, List, [], ◌∷◌, length, get_or, map, refl, sym, ap, subst, ◌∙◌, arith}
+use Rattle.std.specs.Prelude.{ℤ, pos, negsuc, ◌+ℤ◌, ◌*ℤ◌, unsigned_abs, Bool, true, slice_index}
+use Rattle.std.specs.Int.{◌∣◌}
+use Rattle.std.proofs.lemmas.Int.{ints}
+use Rattle.std.proofs.lemmas.Nat.Gcd.{dvd-zero}
+use lib.IntN.{*ℤ_comm}
+use Rattle.crn_vec.specs.declared.signs.Kind.{Kind}
+use Rattle.crn_vec.specs.declared.signs.Kind.TheVariants.{Free}
+use Rattle.crn_vec.specs.declared.signs.Sign.{Sign}
+use Rattle.crn_vec.specs.declared.signs.Sign.TheVariants.{Zero}
+use Rattle.crn_vec.specs.Vectors.{Mat, entry, HasSign}
+use Rattle.crn_vec.specs.Lists.{IsIn}
+use Rattle.crn_vec.specs.Elementary.{width, IsNamed, IsNamedColumn, IsNamedRow, Exchanged, WideAt}
+use Rattle.crn_vec.specs.Systems.{HasKind, MayTake, MayWeigh, kind_at, is_signed}
+use Rattle.crn_vec.proofs.Entries.{eq_or, lt_or, past_end}
+use Rattle.crn_vec.proofs.Sums.{scale, entry-scale}
+use Rattle.crn_tab.specs.Names.{NamesRows, HasRow}
+use Rattle.crn_tab.proofs.Ascending.{same_members}
+use Rattle.crn_tab.proofs.Unique.{column_at}
+use Rattle.crn_tab.proofs.OwnSign.{as_row}
+use Rattle.crn_farkas.specs.declared.view.View.TheVariants.{Row, Column}
+use Rattle.crn_farkas.specs.Views.{IsView, IsSeen, IsSettled}
+use Rattle.crn_farkas.specs.Decides.{factor, IsWitness, IsNumbered, NamesWide, CutsBy}
+use Rattle.crn_farkas.proofs.Pairs.{pair, column_scaled, other_some, kind_some}
+use Rattle.crn_farkas.proofs.Ruling.{kind_past, scaled_small}
+
+pub as_column : (a : Mat) (basis : List ℕ) (b : ℕ) (w : List ℤ) → IsIn b basis → IsNamed a basis b w → IsNamedColumn a basis b w
+as_column a basis b w i n = elim n.named [ inl c ↦ c | inr r ↦ absurd (r.outside i) ]
+
+-- a primitive vector that the basis names by a member is not 0 there
+column_some : (a : Mat) (basis : List ℕ) (b : ℕ) (w : List ℤ) → IsIn b basis → IsNamed a basis b w → entry w b ≢ pos 0
+column_some a basis b w i n none =
+    let col = as_column a basis b w i n in
+    let all : (k : ℕ) → entry w k ≡ pos 0 = n.basis_is.free w col.space (λ k m. elim (eq_or k b) as (λ _. entry w k ≡ pos 0) [
+      | inl e ↦ ap (λ (j : ℕ). entry w j) e ∙ none
+      | inr ne ↦ col.zero_on_rest k m ne
+    ]) in
+    let two : 2 ≡ 1 = n.primitive 2 (λ j. (let D : ℕ → Type 0 = λ n. 2 ∣ n in subst D (sym (ap unsigned_abs (all j))) (dvd-zero 2))) in
+    omega (arith, two)
+
+-- a view of a column shows each vector that the basis names so
+view_some : (a : Mat) (basis : List ℕ) (b g : ℕ) (w : List ℤ) → NamesRows a basis → g < width a → IsView a basis (Column b) g → IsNamed a basis b w → entry w g ≢ pos 0
+view_some a basis b g w t lt (y, named, some) n =
+    let col = as_column a basis b w named.member n in
+    let w_b = column_some a basis b w named.member n in
+    elim (eq_or g b) as (λ _. entry w g ≢ pos 0) [
+      | inl e ↦ subst (λ (k : ℕ). entry w k ≢ pos 0) (sym e) w_b
+      | inr ne ↦
+          let out : ¬ IsIn g basis = λ i. some (named.zero_on_rest g i ne) in
+          let v = t.rows g lt out in
+          let row = as_row a basis g v.w out v.named in
+          let v_b : entry v.w b ≢ pos 0 = other_some (entry v.w b) (entry y b) (entry v.w g) (entry y g) (pair a basis g b v.w y row named) (λ e. omega (arith, ints, e, v.positive)) some in
+          let sum : entry w g *ℤ entry v.w g +ℤ entry v.w b *ℤ entry w b ≡ pos 0 = omega (arith, ints, pair a basis g b v.w w row col, *ℤ_comm (entry w g) (entry v.w g)) in
+          other_some (entry w g) (entry v.w g) (entry v.w b) (entry w b) sum v_b w_b
+    ]
+
+pub record Place (order : List ℕ) (c : ℕ) : Type 0 where
+  pub i : ℕ
+  pub below : i < length order
+  pub is : slice_index order i ≡ c
+
+in_place : (order : List ℕ) (c : ℕ) → IsIn c order → Place order c
+in_place [] c i = absurd i
+in_place (x ∷ order) c (inl e) = record { i = 0; below = omega arith; is = sym e }
+in_place (x ∷ order) c (inr i) = let p = in_place order c i in record { i = suc p.i; below = omega (arith, p.below); is = p.is }
+
+pub witness_from : (a : Mat) (basis : List ℕ) (kinds : List Kind) (order : List ℕ) (b g : ℕ) (s : Bool) (w y : List ℤ) → NamesRows a basis → g < width a → length kinds ≡ width a → is_signed (kind_at kinds g) ≡ true
+    → IsView a basis (Column b) g → IsSettled a basis (Column b) g kinds order (length order) → ((c : ℕ) → c < width a → IsIn c order)
+    → IsNamed a basis b w → ((k : ℕ) → unsigned_abs (entry w k) < 2 ^ 62) → (entry w g ≢ pos 0 → HasKind (kind_at kinds g) (factor s *ℤ entry w g)) → y ≡ scale (factor s) w → IsWitness a kinds g y
+witness_from a basis kinds order b g s w y t lt long asked view settled all n small turns same =
+    let v = scale (factor s) w in
+    let col = column_scaled a basis b (factor s) w (as_column a basis b w view.1.member n) in
+    let kind : HasKind (kind_at kinds g) (entry v g) = subst (HasKind (kind_at kinds g)) (sym (entry-scale (factor s) w g)) (turns (view_some a basis b g w t lt view n)) in
+    let takes : (k : ℕ) → MayTake (kind_at kinds k) (entry v k) = λ k. elim (lt_or k (width a)) as (λ _. MayTake (kind_at kinds k) (entry v k)) [
+      | inl h ↦ let p = in_place order k (all k h) in subst (λ (j : ℕ). MayTake (kind_at kinds j) (entry v j)) p.is (settled v (col, kind) p.i p.below)
+      | inr h ↦ subst (λ (κ : Kind). MayTake κ (entry v k)) (sym (kind_past kinds k (omega (arith, h, long)))) tt
+    ] in
+    subst (λ (l : List ℤ). IsWitness a kinds g l) (sym same) (record {
+      space = col.space;
+      takes = takes;
+      some = kind_some (kind_at kinds g) (entry v g) asked kind;
+      small = scaled_small s w (2 ^ 62) small;
+    })
+
+-- the numbers of the basis itself
+pub wide_here : (a : Mat) (basis : List ℕ) (b : ℕ) (numbers : List ℕ) → NamesRows a basis → IsIn b basis → WideAt a basis b → IsNumbered basis b b numbers → NamesWide a (b + 1) numbers
+wide_here a basis b numbers t i wide n =
+    let same : n.next ≡ basis = same_members n.next basis n.exchanged.ascending t.basis_is.ascending
+        (λ k m. elim ((n.exchanged.members k).0 m) as (λ _. IsIn k basis) [ inl h ↦ h.0 | inr e ↦ subst (λ (j : ℕ). IsIn j basis) (sym e) i ])
+        (λ k m. (n.exchanged.members k).1 (elim (eq_or k b) as (λ _. (IsIn k basis × (k ≢ b)) ⊎ (k ≡ b)) [ inl e ↦ inr e | inr ne ↦ inl (m, ne) ])) in
+    let back : b + 1 - 1 ≡ b = omega arith in
+    record {
+      from_zero = n.next;
+      numbered = n.numbered;
+      counted = omega arith;
+      wide = subst (λ (l : List ℕ). WideAt a l (b + 1 - 1)) (sym same) (subst (λ (k : ℕ). WideAt a basis k) (sym back) wide);
+    }
+
+-- a settled row view shows multipliers
+pub cuts_settled : (a : Mat) (basis : List ℕ) (kinds : List Kind) (order : List ℕ) (g : ℕ) (turn : Sign) → length kinds ≡ width a → is_signed (kind_at kinds g) ≡ true
+    → IsSettled a basis Row g kinds order (length order) → ((c : ℕ) → c < width a → IsIn c order) → (turn ≢ Zero) → ((x : ℤ) → HasSign turn x → HasKind (kind_at kinds g) x) → CutsBy a basis kinds g turn
+cuts_settled a basis kinds order g turn long asked settled all some kind = record {
+  some = some;
+  rules = λ w named at_g.
+      let seen = kind (entry w g) at_g in (
+        λ k. elim (lt_or k (width a)) as (λ _. MayWeigh (kind_at kinds k) (entry w k)) [
+          | inl h ↦ let p = in_place order k (all k h) in subst (λ (j : ℕ). MayWeigh (kind_at kinds j) (entry w j)) p.is (settled w (named, seen) p.i p.below)
+          | inr h ↦ subst (λ (κ : Kind). MayWeigh κ (entry w k)) (sym (kind_past kinds k (omega (arith, h, long)))) (past_end w k (omega (arith, h, named.space.long)))
+        ],
+        (g, asked, kind_some (kind_at kinds g) (entry w g) asked seen),
+      );
+}
+
+-- the first view of a member
+pub view_first : (a : Mat) (basis : List ℕ) (g : ℕ) → NamesRows a basis → IsIn g basis → IsView a basis (Column g) g
+view_first a basis g t i =
+    let col = column_at a basis g t.wide t.basis_is i in
+    (col.y, record { member = i; space = col.row; zero_on_rest = col.rest }, col.some)

@@ -1,0 +1,7 @@
+use Rattle.std.proofs.Common.{◌≡◌, take}
+use Rattle.crn_vec.proofs.Sums.{scale}
+use Rattle.crn_farkas.specs.Decides.{factor}
+use Rattle.crn_farkas.proofs.cut.multiple.Given as goal
+
+abbrev pub invariant-loop-x : goal.invariant-loop-x
+invariant-loop-x l = l.made.list ≡ scale (factor l.stays) (take l.x-index l.list)

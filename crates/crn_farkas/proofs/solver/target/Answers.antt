@@ -1,0 +1,43 @@
+use Rattle.std.proofs.Common.{◌≡◌, ◌≢◌, ◌<◌, ◌≤◌, ◌+◌, ◌^◌, ◌*◌, ap, sym, subst, ◌∙◌, arith, false, true, List, ℤ, length, of_z}
+use Rattle.std.specs.Prelude.{pos, unsigned_abs, ◌+ℤ◌}
+use Rattle.std.proofs.lemmas.Bool.{false≢true}
+use Rattle.crn_vec.specs.declared.signs.Kind.{Kind}
+use Rattle.crn_vec.specs.declared.signs.Kind.TheVariants.{Pos, Free}
+use Rattle.crn_vec.specs.Vectors.{Mat, entry}
+use Rattle.crn_vec.specs.Systems.{is_signed, kind_at}
+use Rattle.crn_farkas.specs.Decides.{IsWitness}
+use Rattle.crn_farkas.specs.declared.goal.Side.{Side}
+use Rattle.crn_farkas.specs.Ends.{IsPartSum, IsSide}
+use Rattle.std.specs.Int.{w128}
+use Rattle.crn_farkas.proofs.Steps.{any_default}
+use Rattle.crn_farkas.proofs.PartSums.{part_more, part_added, part_bound}
+use Rattle.crn_farkas.proofs.solver.target.Goals as goal
+
+pub returns-then-not-is_asked-clause-end : goal.returns-then-not-is_asked-clause-end
+returns-then-not-is_asked-clause-end c =
+    let lt = c.requires.goal in
+    let g_lt : c.args.g < length c.args.kinds.now = omega (arith, lt, c.requires.kinds) in
+    part_more c.args.tableau.now.matrix c.args.kinds.now c.args.g c.args.sum.now g_lt c.requires.sum
+        (λ s. absurd (false≢true (sym c.if-not-is_asked.true ∙ c.is_asked.ensures ∙ ap is_signed (any_default Pos Free c.args.kinds.now c.args.g g_lt) ∙ s)))
+
+pub returns-then-sum-g-ne0-clause-end : goal.returns-then-sum-g-ne0-clause-end
+returns-then-sum-g-ne0-clause-end c =
+    let lt = c.requires.goal in
+    part_more c.args.tableau.now.matrix c.args.kinds.now c.args.g c.args.sum.now (omega (arith, lt, c.requires.kinds)) c.requires.sum (λ s e. c.if-sum-g-ne0.true (ap (λ (x : ℤ). of_z w128 x) e))
+
+pub add-requires-clause-sum : goal.add-requires-clause-sum
+add-requires-clause-sum c = λ k. omega (arith, part_bound c.args.tableau.now.matrix c.args.kinds.now c.args.g c.args.sum.now c.requires.sum c.requires.few k)
+
+pub returns-in-Witness-clause-end : goal.returns-in-Witness-clause-end
+returns-in-Witness-clause-end c =
+    let a = c.side_of.new.tableau.matrix in
+    let kinds = c.args.kinds.now in
+    let g = c.args.g in
+    let lt = c.requires.goal in
+    let g_lt : g < length kinds = omega (arith, lt, c.requires.kinds) in
+    let S : Side → Type 0 = λ v. IsSide a kinds g v in
+    let W : List ℤ → Type 0 = λ y. IsWitness a kinds g y in
+    let P : Mat → Type 0 = λ m. IsPartSum m kinds g c.args.sum.now in
+    let asked : is_signed (kind_at kinds g) ≡ true = ap is_signed (any_default Free Pos kinds g g_lt) ∙ sym c.is_asked.ensures ∙ c.if-not-is_asked.false in
+    part_added a kinds g c.args.sum.now c.as_slice.result.now c.add.new.sum g_lt asked (subst P (sym c.in_ok-cut.ensures.matrix) c.requires.sum)
+        (subst W (sym c.as_slice.ensures) (subst S c.in-Witness.is c.in_ok-cut.ensures.side)) c.add.ensures.count c.add.ensures.values

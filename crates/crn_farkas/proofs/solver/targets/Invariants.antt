@@ -1,0 +1,9 @@
+use Rattle.std.proofs.Common.{◌≡◌}
+use Rattle.crn_farkas.specs.Ends.{IsPartSum}
+use Rattle.crn_farkas.proofs.solver.targets.Given as goal
+
+abbrev pub invariant-loop-g : goal.invariant-loop-g
+invariant-loop-g l = record {
+  matrix : l.tableau.matrix ≡ l.fn.tableau.matrix;
+  sum : IsPartSum l.tableau.matrix l.kinds l.g l.sum;
+}

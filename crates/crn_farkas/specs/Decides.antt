@@ -1,0 +1,75 @@
+-- What the decision of a linear system says.
+use Rattle.std.specs.Prelude.{◌≡◌, ◌≢◌, ◌≤◌, ◌<◌, ◌+◌, ◌-◌, ◌^◌, ◌⊎◌, ℕ, suc, ℤ, pos, negsuc, unsigned_abs, Bool, true, false, List, [], ◌∷◌, map, length}
+use Rattle.crn_vec.specs.declared.signs.Kind.{Kind}
+use Rattle.crn_vec.specs.declared.signs.Sign.{Sign}
+use Rattle.crn_vec.specs.declared.signs.Sign.TheVariants.{Zero}
+use Rattle.crn_vec.specs.Vectors.{Mat, entry, HasSign}
+use Rattle.crn_vec.specs.Lists.{IsIn}
+use Rattle.crn_vec.specs.Elementary.{width, InRowSpace, IsNamedRow, WideAt, Exchanged}
+use Rattle.crn_vec.specs.Systems.{HasKind, MayTake, MayWeigh, kind_at, is_signed, Solves, IsCut, HasOneRowCut}
+
+-- how many coordinates have to be positive or negative
+abbrev pub one_if : Bool → ℕ
+one_if true = 1
+one_if false = 0
+
+abbrev pub signed_count : List Kind → ℕ
+signed_count [] = 0
+signed_count (kind ∷ kinds) = one_if (is_signed kind) + signed_count kinds
+
+-- 1, or -1 for the negative
+abbrev pub factor : Bool → ℤ
+factor true = pos 1
+factor false = negsuc 0
+
+-- the first so many entries are what a list that rules a system out may have
+abbrev pub WeighsBelow : List Kind → List ℤ → ℕ → Type 0
+WeighsBelow kinds w n = (k : ℕ) → k < n → MayWeigh (kind_at kinds k) (entry w k)
+
+-- some of the first so many coordinates has to be positive or negative, and has a weight
+abbrev pub CountsBelow : List Kind → List ℤ → ℕ → Type 0
+CountsBelow kinds w n = (k : ℕ) × (k < n) × (is_signed (kind_at kinds k) ≡ true) × (entry w k ≢ pos 0)
+
+-- the list (-uA, u) rules a system of these kinds out
+abbrev pub IsRuling : List Kind → List ℤ → Type 0
+IsRuling kinds w = ((k : ℕ) → MayWeigh (kind_at kinds k) (entry w k)) × ((k : ℕ) × (is_signed (kind_at kinds k) ≡ true) × (entry w k ≢ pos 0))
+
+-- each vector that the basis names by e and of this sign there rules the system out
+pub record CutsBy (a : Mat) (basis : List ℕ) (kinds : List Kind) (e : ℕ) (turn : Sign) : Type 0 where
+  pub some : turn ≢ Zero
+  pub rules : (w : List ℤ) → IsNamedRow a basis e w → HasSign turn (entry w e) → IsRuling kinds w
+
+-- no vector that the basis names by a coordinate outside it rules the system out
+abbrev pub HasNoKeptCut : Mat → List ℕ → List Kind → Type 0
+HasNoKeptCut a basis kinds = (e : ℕ) (w : List ℤ) → IsNamedRow a basis e w → entry w e ≢ pos 0 → IsRuling kinds w → ⊥
+
+-- a vector (x, Ax) that is one of those that add up to a solution, and not 0 at g
+pub record IsWitness (a : Mat) (kinds : List Kind) (g : ℕ) (y : List ℤ) : Type 0 where
+  pub space : InRowSpace a y
+  pub takes : (k : ℕ) → MayTake (kind_at kinds k) (entry y k)
+  pub some : entry y g ≢ pos 0
+  pub small : (k : ℕ) → unsigned_abs (entry y k) < 2 ^ 62
+
+-- multipliers below the bound that rule the system out
+pub record IsSmallCut (a : Mat) (kinds : List Kind) (u : List ℤ) : Type 0 where
+  pub cut : IsCut a kinds u
+  pub small : (k : ℕ) → unsigned_abs (entry u k) < 2 ^ 62
+
+-- a solution whose coordinates are below the bound
+pub record IsSmallSolution (a : Mat) (kinds : List Kind) (x : List ℤ) : Type 0 where
+  pub v : List ℤ
+  pub solves : Solves a kinds x v
+  pub small : (k : ℕ) → unsigned_abs (entry v k) < 2 ^ 70
+
+-- a basis and an index, both counted from 1, that name a wide vector of the matrix
+pub record NamesWide (a : Mat) (index : ℕ) (basis : List ℕ) : Type 0 where
+  pub from_zero : List ℕ
+  pub numbered : basis ≡ map suc from_zero
+  pub counted : 1 ≤ index
+  pub wide : WideAt a from_zero (index - 1)
+
+-- the ascending list with one coordinate in place of another, counted from 1
+pub record IsNumbered (basis : List ℕ) (leave enter : ℕ) (numbers : List ℕ) : Type 0 where
+  pub next : List ℕ
+  pub numbered : numbers ≡ map suc next
+  pub exchanged : Exchanged basis leave enter next

@@ -1,0 +1,59 @@
+-- What one coordinate, and the decision, end with.
+use Rattle.std.specs.Prelude.{◌≡◌, ◌≢◌, ◌≤◌, ◌<◌, ◌*◌, ◌^◌, ℕ, ℤ, pos, unsigned_abs, List, true, take, length}
+use Rattle.crn_vec.specs.declared.signs.Kind.{Kind}
+use Rattle.crn_vec.specs.Vectors.{Mat, entry}
+use Rattle.crn_vec.specs.Elementary.{InRowSpace}
+use Rattle.crn_vec.specs.Systems.{HasOneRowCut, MayTake, kind_at, is_signed}
+use Rattle.crn_farkas.specs.declared.stop.Stop.{Stop}
+use Rattle.crn_farkas.specs.declared.stop.Stop.TheVariants.{Wide, NoMemory}
+use Rattle.crn_farkas.specs.declared.goal.Side.{Side}
+use Rattle.crn_farkas.specs.declared.goal.Side.TheVariants.{Cut, Witness}
+use Rattle.crn_farkas.specs.Decides.{NamesWide, IsSmallCut, IsSmallSolution, IsWitness, HasNoKeptCut, signed_count}
+use Rattle.crn_farkas.specs.declared.decision.Decision.{Decision}
+use Rattle.crn_farkas.specs.declared.decision.Decision.TheVariants.{Feasible, Infeasible}
+
+-- a basis and an index that name a wide vector, or want of memory
+abbrev pub IsGoalStop : Mat → Stop → Type 0
+IsGoalStop a (Wide index basis) = NamesWide a index basis.list
+IsGoalStop a NoMemory = Unit {0}
+
+-- one side of the alternative at g
+abbrev pub IsSide : Mat → List Kind → ℕ → Side → Type 0
+IsSide a kinds g (Cut u) = IsSmallCut a kinds u.list
+IsSide a kinds g (Witness y) = IsWitness a kinds g y.list
+
+-- a sum of vectors (x, Ax) that is right everywhere, and not 0 at the coordinates before g that have to be positive or negative
+pub record IsPartSum (a : Mat) (kinds : List Kind) (g : ℕ) (v : List ℤ) : Type 0 where
+  pub space : InRowSpace a v
+  pub takes : (k : ℕ) → MayTake (kind_at kinds k) (entry v k)
+  pub some : (k : ℕ) → k < g → is_signed (kind_at kinds k) ≡ true → entry v k ≢ pos 0
+  pub small : (k : ℕ) → unsigned_abs (entry v k) ≤ signed_count (take g kinds) * 2 ^ 62
+
+-- some coordinate has to be positive or negative
+abbrev pub HasSigned : List Kind → Type 0
+HasSigned kinds = (k : ℕ) × (is_signed (kind_at kinds k) ≡ true)
+
+-- a wide vector that is named, and only where some coordinate has to be positive or negative
+abbrev pub IsTargetStop : Mat → List Kind → Stop → Type 0
+IsTargetStop a kinds (Wide index basis) = NamesWide a index basis.list × HasSigned kinds
+IsTargetStop a kinds NoMemory = Unit {0}
+
+-- a wide vector that is named, where no kept row rules the system out and some coordinate has to be positive or negative
+abbrev pub IsKeptStop : Mat → List ℕ → List Kind → Stop → Type 0
+IsKeptStop a basis kinds (Wide index numbers) = NamesWide a index numbers.list × HasSigned kinds × HasNoKeptCut a basis kinds
+IsKeptStop a basis kinds NoMemory = Unit {0}
+
+-- a wide vector that is named, where no single row rules the system out and some coordinate has to be positive or negative
+abbrev pub IsStop : Mat → List Kind → Stop → Type 0
+IsStop a kinds (Wide index basis) = NamesWide a index basis.list × HasSigned kinds × (HasOneRowCut a kinds → ⊥)
+IsStop a kinds NoMemory = Unit {0}
+
+-- a solution, or multipliers that rule the system out
+abbrev pub IsDecision : Mat → List Kind → Decision → Type 0
+IsDecision a kinds (Feasible x) = IsSmallSolution a kinds x.list
+IsDecision a kinds (Infeasible u) = IsSmallCut a kinds u.list
+
+-- so many zeros
+pub record AreZeros (count : ℕ) (v : List ℤ) : Type 0 where
+  pub long : length v ≡ count
+  pub zero : (k : ℕ) → entry v k ≡ pos 0

@@ -1,0 +1,70 @@
+-- What is seen of a tableau for one coordinate g that has to be positive or negative, and how far it is settled.
+-- Source: Minty (1974), on the two elementary vectors of which exactly one is found.
+use Rattle.std.specs.Prelude.{◌≡◌, ◌≢◌, ◌≤◌, ◌<◌, ◌-◌, ◌↔◌, ◌⊎◌, ℕ, ℤ, pos, Bool, true, false, List, slice_index}
+use Rattle.crn_vec.specs.declared.signs.Kind.{Kind}
+use Rattle.crn_vec.specs.declared.signs.Kind.TheVariants.{Pos, Neg, NonNeg, Zero, Free}
+use Rattle.crn_vec.specs.Vectors.{Mat, entry}
+use Rattle.crn_vec.specs.Lists.{IsIn}
+use Rattle.crn_vec.specs.Elementary.{width, IsNamedRow, IsNamedColumn, Exchanged, WideAt}
+use Rattle.crn_vec.specs.Systems.{HasKind, MayTake, MayWeigh, kind_at}
+use Rattle.crn_farkas.specs.declared.view.View.{View}
+use Rattle.crn_farkas.specs.declared.view.View.TheVariants.{Row, Column}
+
+-- the view shows a vector that is not zero at g
+abbrev pub IsView : Mat → List ℕ → View → ℕ → Type 0
+IsView a basis Row g = IsIn g basis → ⊥
+IsView a basis (Column b) g = (y : List ℤ) × IsNamedColumn a basis b y × (entry y g ≢ pos 0)
+
+-- a vector that the view shows, with the kind of g at g
+abbrev pub IsSeen : Mat → List ℕ → View → ℕ → Kind → List ℤ → Type 0
+IsSeen a basis Row g kind y = IsNamedRow a basis g y × HasKind kind (entry y g)
+IsSeen a basis (Column b) g kind y = IsNamedColumn a basis b y × HasKind kind (entry y g)
+
+-- what a vector may have at a coordinate of a kind, by the space that it is in
+abbrev pub IsRight : View → Kind → ℤ → Type 0
+IsRight Row kind x = MayWeigh kind x
+IsRight (Column b) kind x = MayTake kind x
+
+-- each vector seen is right at the first k coordinates of the order
+abbrev pub IsSettled : Mat → List ℕ → View → ℕ → List Kind → List ℕ → ℕ → Type 0
+IsSettled a basis view g kinds order k = (y : List ℤ) → IsSeen a basis view g (kind_at kinds g) y
+    → (i : ℕ) → i < k → IsRight view (kind_at kinds (slice_index order i)) (entry y (slice_index order i))
+
+-- the coordinate is in the basis, where a column that is looked at counts as left for g
+abbrev pub IsViewed : List ℕ → View → ℕ → Type 0
+IsViewed basis Row c = IsIn c basis
+IsViewed basis (Column b) c = IsIn c basis × (c ≢ b)
+
+-- two views have the same coordinates but for g and the first k of the order
+abbrev pub AgreeBeyond : List ℕ → ℕ → ℕ → List ℕ → View → List ℕ → View → Type 0
+AgreeBeyond order g k basis view basis' view' = (c : ℕ) → c ≢ g → ((i : ℕ) → i < k → slice_index order i ≢ c) → IsViewed basis view c ↔ IsViewed basis' view' c
+
+-- the coordinate that was seen wrong in a view is turned: a row loses it, a column gains it
+abbrev pub IsTurned : View → List ℕ → View → ℕ → Type 0
+IsTurned Row basis' view' c = IsViewed basis' view' c → ⊥
+IsTurned (Column b) basis' view' c = IsViewed basis' view' c
+
+-- the basis after an exchange, or as before where the two coordinates are one
+abbrev pub IsSwapped : List ℕ → ℕ → ℕ → List ℕ → Type 0
+IsSwapped basis leave enter next = ((enter ≡ leave) × (next ≡ basis)) ⊎ ((enter ≢ leave) × Exchanged basis leave enter next)
+
+-- the exchange of a member for a coordinate outside names a wide vector
+pub record IsRefused (a : Mat) (basis : List ℕ) (leave enter index : ℕ) : Type 0 where
+  pub inside : enter < width a
+  pub counted : 1 ≤ index
+  pub wide : (next : List ℕ) → Exchanged basis leave enter next → WideAt a next (index - 1)
+
+-- each vector seen is right at the first j coordinates of the order and wrong at the next
+pub record IsFirstWrong (a : Mat) (basis : List ℕ) (view : View) (g : ℕ) (kinds : List Kind) (order : List ℕ) (done k j : ℕ) : Type 0 where
+  pub low : done ≤ j
+  pub high : j < k
+  pub settled : IsSettled a basis view g kinds order j
+  pub wrong : (y : List ℤ) → IsSeen a basis view g (kind_at kinds g) y → IsRight view (kind_at kinds (slice_index order j)) (entry y (slice_index order j)) → ⊥
+
+-- a coordinate of this kind turns at most once while others are settled
+abbrev pub is_early_kind : Kind → Bool
+is_early_kind Pos = false
+is_early_kind Neg = false
+is_early_kind NonNeg = false
+is_early_kind Zero = true
+is_early_kind Free = true

@@ -1,0 +1,10 @@
+use crn_vec::Ints;
+
+/// What a linear system has.
+#[derive(Drop)]
+pub enum Decision {
+    /// A solution.
+    Feasible(Ints),
+    /// Multipliers of the rows that rule every solution out.
+    Infeasible(Ints),
+}

@@ -1,0 +1,112 @@
+ghost use Rattle.std.specs.Prelude.{◌≡◌, ◌≤◌, ◌<◌, ℕ, ℤ, pos, ◌≢◌, List, true, length, slice_index, MatchOption, OnOk, ◌⊎◌, ◌↔◌, IsTrue};
+ghost use Rattle.crn_vec.specs.Vectors.{entry, HasSign};
+ghost use Rattle.crn_vec.specs.Lists.{IsIn};
+ghost use Rattle.crn_vec.specs.Elementary.{width, IsNamedColumn};
+ghost use Rattle.crn_vec.specs.Systems.{kind_at, is_signed};
+ghost use Rattle.crn_farkas.specs.Views.{IsView, IsSeen, IsSettled, IsFirstWrong, is_early_kind};
+
+use crate::side::{is_right, opposite, product, sign_asked};
+use crate::view::View;
+use crn_tab::Tableau;
+use crn_vec::{Kind, NoMemory, Sign};
+
+// The sign at b of the vectors that the basis names by its member b, where they have this sign at g.
+fn lead_sign(tableau: &Tableau, b: usize, g: usize, asked: Sign) -> Sign
+    requires member { IsIn b tableau.now.basis }
+    requires goal { g < width tableau.now.matrix }
+    ensures { (y : List ℤ) → IsNamedColumn tableau.now.matrix tableau.now.basis b y → HasSign asked (entry y g) → entry y g ≢ pos 0 → HasSign result (entry y b) }
+{
+    tableau.names_rows();
+    if b == g {
+        return asked;
+    }
+    if tableau.is_basic(g) {
+        return asked;
+    }
+    product(tableau.sign(g, b), opposite(asked))
+}
+
+// The sign at c of the vectors that the basis names by its member b, where they have this sign at b.
+fn column_sign(tableau: &Tableau, b: usize, lead: Sign, c: usize) -> Sign
+    requires member { IsIn b tableau.now.basis }
+    requires place { c < width tableau.now.matrix }
+    ensures { (y : List ℤ) → IsNamedColumn tableau.now.matrix tableau.now.basis b y → HasSign lead (entry y b) → HasSign result (entry y c) }
+{
+    tableau.names_rows();
+    if b == c {
+        return lead;
+    }
+    if tableau.is_basic(c) {
+        return Sign::Zero;
+    }
+    opposite(product(tableau.sign(c, b), lead))
+}
+
+// The sign at c of the vectors that a view shows.
+fn seen_sign(tableau: &Tableau, view: View, kind: Kind, g: usize, c: usize) -> Sign
+    requires view { IsView tableau.now.matrix tableau.now.basis view g }
+    requires asked { is_signed kind ≡ true }
+    requires goal { g < width tableau.now.matrix }
+    requires place { c < width tableau.now.matrix }
+    ensures { (y : List ℤ) → IsSeen tableau.now.matrix tableau.now.basis view g kind y → HasSign result (entry y c) }
+{
+    tableau.names_rows();
+    let asked = sign_asked(kind);
+    match view {
+        View::Row => product(asked, tableau.sign(g, c)),
+        View::Column(b) => column_sign(tableau, b, lead_sign(tableau, b, g, asked), c),
+    }
+}
+
+// The first place of the order, from one on, at which the vectors that a view shows are wrong.
+pub(crate) fn first_wrong(
+    tableau: &Tableau,
+    view: View,
+    kinds: &[Kind],
+    order: &[usize],
+    g: usize,
+    done: usize,
+    k: usize,
+) -> Option<usize>
+    requires view { IsView tableau.now.matrix tableau.now.basis view g }
+    requires asked { is_signed (kind_at kinds.now g) ≡ true }
+    requires kinds { length kinds.now ≡ width tableau.now.matrix }
+    requires goal { g < width tableau.now.matrix }
+    requires order { (i : ℕ) → i < length order.now → slice_index order.now i < width tableau.now.matrix }
+    requires end { k ≤ length order.now }
+    requires done { IsSettled tableau.now.matrix tableau.now.basis view g kinds.now order.now done }
+    requires start { done ≤ k }
+    ensures { MatchOption result (IsSettled tableau.now.matrix tableau.now.basis view g kinds.now order.now k) (λ j. IsFirstWrong tableau.now.matrix tableau.now.basis view g kinds.now order.now done k j) }
+{
+    for j in done..k {
+        let c = order[j];
+        if !is_right(view, kinds[c], seen_sign(tableau, view, kinds[g], g, c)) {
+            return Some(j);
+        }
+    }
+    None
+}
+
+// Whether a coordinate of this kind is one of those that turn at most once while others are settled, or is not.
+fn is_level(kind: Kind, early: bool) -> bool
+    ensures { IsTrue result ↔ (is_early_kind kind ≡ early) }
+{
+    match kind {
+        Kind::Zero | Kind::Free => early,
+        _ => !early,
+    }
+}
+
+// Adds the coordinates that are early, or those that are not.
+pub(crate) fn push_level(order: &mut Vec<usize>, kinds: &[Kind], early: bool) -> Result<(), NoMemory>
+    ensures kept { OnOk result ((c : ℕ) → IsIn c order.old.items → IsIn c order.new.items) }
+    ensures added { OnOk result ((c : ℕ) → c < length kinds.now → is_early_kind (kind_at kinds.now c) ≡ early → IsIn c order.new.items) }
+    ensures below { OnOk result ((c : ℕ) → IsIn c order.new.items → IsIn c order.old.items ⊎ (c < length kinds.now)) }
+{
+    for c in 0..kinds.len() {
+        if is_level(kinds[c], early) {
+            order.push(c)?;
+        }
+    }
+    Ok(())
+}

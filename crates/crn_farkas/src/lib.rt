@@ -1,0 +1,18 @@
+//! Linear systems that ask a sign of each coordinate: a solution, or multipliers that rule every solution out.
+#![tactic(auto)]
+
+mod cut;
+mod decision;
+mod goal;
+mod level;
+mod settle;
+mod side;
+mod solver;
+mod stop;
+mod sum;
+mod system;
+mod view;
+
+pub use decision::Decision;
+pub use stop::Stop;
+pub use system::{System, decide};

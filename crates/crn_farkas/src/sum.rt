@@ -1,0 +1,25 @@
+ghost use Rattle.std.specs.Prelude.{◌≡◌, ◌≤◌, ◌<◌, ◌^◌, ◌*◌, ◌+ℤ◌, ℕ, length, unsigned_abs};
+ghost use Rattle.crn_vec.specs.Vectors.{entry};
+ghost use Rattle.crn_vec.proofs.Sums.{plus};
+
+// One more entry.
+fn added(x: &i128, y: &i128) -> i128
+    requires x { unsigned_abs x.now ≤ 2 ^ 70 }
+    requires y { unsigned_abs y.now < 2 ^ 62 }
+    ensures { result ≡ x.now +ℤ y.now }
+{
+    *x + *y
+}
+
+// Adds a vector, place by place.
+pub(crate) fn add(sum: &mut [i128], vector: &[i128])
+    requires same { length vector.now ≡ length sum.old }
+    requires sum { (k : ℕ) → unsigned_abs (entry sum.old k) ≤ 2 ^ 70 }
+    requires vector { (k : ℕ) → unsigned_abs (entry vector.now k) < 2 ^ 62 }
+    ensures count { length sum.new ≡ length sum.old }
+    ensures values { (k : ℕ) → entry sum.new k ≡ entry sum.old k +ℤ entry vector.now k }
+{
+    for k in 0..vector.len() {
+        sum[k] = added(&sum[k], &vector[k]);
+    }
+}
