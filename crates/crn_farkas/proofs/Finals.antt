@@ -1,15 +1,15 @@
 -- From the parts of a decision to what it says.
-use Rattle.std.proofs.Common.{◌≡◌, ◌≢◌, ℕ, zero, suc, ◌+◌, ◌-◌, ◌*◌, ◌^◌, ◌<◌, ◌≤◌, ◌⊎◌, ◌↔◌, inl, inr, List, [], ◌∷◌, ◌++◌, length, get_or, take, drop, refl, sym, ap, subst, ◌∙◌, arith, length-append}
-use Rattle.std.specs.Prelude.{ℤ, pos, negsuc, unsigned_abs, Bool, true, false, Result, Ok, Err, slice_index}
+use Rattle.std.proofs.Common.{◌≡◌, ◌≢◌, ℕ, zero, suc, ◌+◌, ◌-◌, ◌<◌, ◌≤◌, ◌⊎◌, ◌↔◌, inl, inr, List, [], ◌∷◌, ◌++◌, length, get_or, take, refl, sym, ap, subst, ◌∙◌, arith, length-append}
+use Rattle.std.specs.Prelude.{ℤ, pos, unsigned_abs, Bool, true, false, Result, Ok, Err}
 use Rattle.std.specs.Result.{MatchResult}
 use Rattle.std.proofs.lemmas.Int.{ints}
 use Rattle.std.proofs.lemmas.List.{get_or-drop}
 use Rattle.crn_vec.specs.declared.signs.Kind.{Kind}
 use Rattle.crn_vec.specs.declared.signs.Kind.TheVariants.{Pos, Neg, NonNeg, Zero, Free}
-use Rattle.crn_vec.specs.Vectors.{Mat, entry, dot}
+use Rattle.crn_vec.specs.Vectors.{Mat, entry}
 use Rattle.crn_vec.specs.Lists.{IsIn}
-use Rattle.crn_vec.specs.Elementary.{width, InRowSpace, IsNamedRow}
-use Rattle.crn_vec.specs.Systems.{HasKind, MayTake, MayWeigh, kind_at, is_signed, HasOneRowCut}
+use Rattle.crn_vec.specs.Elementary.{width, IsNamedRow}
+use Rattle.crn_vec.specs.Systems.{HasKind, MayTake, MayWeigh, kind_at, HasOneRowCut}
 use Rattle.crn_vec.proofs.Entries.{eq_or, lt_or, past_end, zip_from}
 use Rattle.crn_vec.proofs.Cuts.{kinds_at}
 use Rattle.crn_vec.proofs.KindLaws.{kind_from, take_zero}
@@ -19,7 +19,7 @@ use Rattle.crn_farkas.specs.declared.stop.Stop.TheVariants.{Wide, NoMemory}
 use Rattle.crn_farkas.specs.Views.{is_early_kind}
 use Rattle.crn_farkas.specs.Decides.{signed_count, HasNoKeptCut, IsSmallSolution}
 use Rattle.crn_farkas.specs.Ends.{IsPartSum, AreZeros, IsKeptStop, IsStop}
-use Rattle.crn_farkas.proofs.PartSums.{part_bound, push_in, push_last, in_push, get_in}
+use Rattle.crn_farkas.proofs.PartSums.{part_bound, push_in, push_last, in_push}
 
 pub no_zeros : AreZeros 0 []
 no_zeros = record { long = refl; zero = λ k. refl }

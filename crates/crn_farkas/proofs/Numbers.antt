@@ -1,8 +1,8 @@
 -- The coordinates of an exchanged basis in order, counted from 1.
-use Rattle.std.proofs.Common.{◌≡◌, ◌≢◌, ℕ, zero, suc, ◌+◌, ◌<◌, ◌≤◌, ◌⊎◌, ◌↔◌, inl, inr, List, [], ◌∷◌, ◌++◌, map, refl, sym, ap, subst, ◌∙◌, add-one, arith}
+use Rattle.std.proofs.Common.{◌≡◌, ◌≢◌, ℕ, zero, suc, ◌+◌, ◌<◌, ◌≤◌, ◌⊎◌, ◌↔◌, inl, inr, List, [], ◌∷◌, ◌++◌, map, refl, sym, ap, subst, ◌∙◌, arith}
 use Rattle.crn_vec.specs.Vectors.{Mat}
 use Rattle.crn_vec.specs.Lists.{IsIn, IsAbove, IsAscending}
-use Rattle.crn_vec.specs.Elementary.{width, Exchanged}
+use Rattle.crn_vec.specs.Elementary.{width}
 use Rattle.crn_tab.specs.Names.{NamesRows}
 use Rattle.crn_farkas.specs.Decides.{IsNumbered}
 

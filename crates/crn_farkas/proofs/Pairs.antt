@@ -1,23 +1,22 @@
 -- A vector that a basis names by a coordinate outside it and one that it names by a member: two products add up to 0.
-use Rattle.std.proofs.Common.{◌≡◌, ◌≢◌, ℕ, zero, suc, ◌+◌, ◌<◌, ◌≤◌, ◌⊎◌, inl, inr, List, [], ◌∷◌, length, take, drop, refl, sym, ap, subst, ◌∙◌, arith}
-use Rattle.std.specs.Prelude.{ℤ, pos, negsuc, ◌+ℤ◌, ◌*ℤ◌, neg_ℤ, ◌≤ℤ◌, unsigned_abs, true}
+use Rattle.std.proofs.Common.{◌≡◌, ◌≢◌, ℕ, zero, suc, ◌+◌, ◌<◌, ◌⊎◌, inl, inr, List, [], ◌∷◌, take, drop, refl, sym, ap, subst, ◌∙◌, arith}
+use Rattle.std.specs.Prelude.{ℤ, pos, negsuc, ◌+ℤ◌, ◌*ℤ◌, neg_ℤ, unsigned_abs, true}
 use Rattle.std.specs.Int.{◌∣◌}
 use Rattle.std.proofs.lemmas.Int.{ints}
 use Rattle.std.proofs.lemmas.Nat.Gcd.{dvd-zero}
 use Rattle.std.proofs.lemmas.Bool.{false≢true}
-use lib.IntN.{*ℤ_comm, *ℤ-zero, zero-*ℤ}
+use lib.IntN.{*ℤ-zero, zero-*ℤ}
 use Rattle.crn_vec.specs.declared.signs.Kind.{Kind}
 use Rattle.crn_vec.specs.declared.signs.Kind.TheVariants.{Pos, Neg, NonNeg, Zero, Free}
 use Rattle.crn_vec.specs.Vectors.{Mat, entry, dot, column}
 use Rattle.crn_vec.specs.Lists.{IsIn}
-use Rattle.crn_vec.specs.Elementary.{width, InRowSpace, InDualSpace, IsNamed, IsNamedRow, IsNamedColumn, IsPrimitive}
+use Rattle.crn_vec.specs.Elementary.{width, InRowSpace, InDualSpace, IsNamed, IsNamedRow, IsNamedColumn}
 use Rattle.crn_vec.specs.Systems.{HasKind, is_signed}
 use Rattle.crn_vec.proofs.Ring.{no_zero, mul-neg}
-use Rattle.crn_vec.proofs.Entries.{eq_or}
 use Rattle.crn_vec.proofs.Sums.{scale, length-scale, entry-scale, dot-scale}
 use Rattle.crn_vec.proofs.Null.{dot-scale-right}
 use Rattle.crn_vec.proofs.Orthogonal.{part, orthogonal}
-use Rattle.crn_tab.specs.Names.{NamesRows, HasRow}
+use Rattle.crn_tab.specs.Names.{NamesRows}
 use Rattle.crn_tab.proofs.Dots.{dot_single}
 use Rattle.crn_tab.proofs.Places.{isIn_or}
 use Rattle.crn_tab.proofs.Signs.{one_row}
@@ -47,9 +46,9 @@ pub own_some : (a : Mat) (basis : List ℕ) (e : ℕ) (w : List ℤ) → NamesRo
 own_some a basis e w t lt out named none =
     let v = t.rows e lt out in
     let all : (j : ℕ) → entry w j ≡ pos 0 = λ j.
-        let p : entry v.w e *ℤ entry w j ≡ entry w e *ℤ entry v.w j = one_row a basis e w v.w t.wide t.basis_is (as_row a basis e w out named) (as_row a basis e v.w out v.named) j in
-        let q : entry w e *ℤ entry v.w j ≡ pos 0 *ℤ entry v.w j = ap (λ (t : ℤ). t *ℤ entry v.w j) none in
-        no_zero (entry v.w e) (entry w j) (p ∙ q ∙ zero-*ℤ (entry v.w j)) (λ z. omega (arith, ints, z, v.positive)) in
+    let p : entry v.w e *ℤ entry w j ≡ entry w e *ℤ entry v.w j = one_row a basis e w v.w t.wide t.basis_is (as_row a basis e w out named) (as_row a basis e v.w out v.named) j in
+    let q : entry w e *ℤ entry v.w j ≡ pos 0 *ℤ entry v.w j = ap (λ (t : ℤ). t *ℤ entry v.w j) none in
+    no_zero (entry v.w e) (entry w j) (p ∙ q ∙ zero-*ℤ (entry v.w j)) (λ z. omega (arith, ints, z, v.positive)) in
     let two : 2 ≡ 1 = named.primitive 2 (λ j. (let D : ℕ → Type 0 = λ n. 2 ∣ n in subst D (sym (ap unsigned_abs (all j))) (dvd-zero 2))) in
     omega (arith, two)
 

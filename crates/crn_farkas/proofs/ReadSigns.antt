@@ -1,14 +1,13 @@
 -- The signs of the vectors that a basis names, from those of the kept rows.
-use Rattle.std.proofs.Common.{◌≡◌, ◌≢◌, ℕ, ◌<◌, List, refl, sym, ap, subst, ◌∙◌, arith}
+use Rattle.std.proofs.Common.{◌≡◌, ◌≢◌, ℕ, ◌<◌, List, sym, subst, arith}
 use Rattle.std.specs.Prelude.{ℤ, pos, ◌+ℤ◌, ◌*ℤ◌, neg_ℤ, ◌≤ℤ◌}
 use Rattle.std.proofs.lemmas.Int.{ints}
-use lib.IntN.{*ℤ_comm}
 use Rattle.crn_vec.specs.declared.signs.Sign.{Sign}
 use Rattle.crn_vec.specs.Vectors.{Mat, entry, HasSign}
 use Rattle.crn_vec.specs.Lists.{IsIn}
 use Rattle.crn_vec.specs.Elementary.{width, IsNamedRow, IsNamedColumn}
 use Rattle.crn_vec.proofs.Ring.{mul-neg}
-use Rattle.crn_tab.specs.Names.{NamesRows, HasRow}
+use Rattle.crn_tab.specs.Names.{NamesRows}
 use Rattle.crn_tab.proofs.Signs.{one_row}
 use Rattle.crn_tab.proofs.OwnSign.{as_row, sign_carried}
 use Rattle.crn_farkas.proofs.Pairs.{pair, other_some}

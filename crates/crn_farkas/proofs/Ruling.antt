@@ -1,7 +1,7 @@
 -- Lists that rule a system out, from their entries.
-use Rattle.std.proofs.Common.{◌≡◌, ◌≢◌, ℕ, zero, suc, ◌+◌, ◌^◌, ◌<◌, ◌≤◌, ◌⊎◌, inl, inr, List, [], ◌∷◌, ◌++◌, length, get_or, take, drop, refl, sym, ap, subst, ◌∙◌, add-one, arith}
-use Rattle.std.specs.Prelude.{ℤ, pos, negsuc, ◌*ℤ◌, unsigned_abs, Bool, true, false}
-use Rattle.std.proofs.lemmas.Int.{ints, unsigned_abs-mul}
+use Rattle.std.proofs.Common.{◌≡◌, ◌≢◌, ℕ, zero, suc, ◌+◌, ◌^◌, ◌<◌, ◌≤◌, inl, inr, List, [], ◌∷◌, ◌++◌, length, take, drop, refl, sym, ap, subst, ◌∙◌, add-one, arith}
+use Rattle.std.specs.Prelude.{ℤ, pos, ◌*ℤ◌, unsigned_abs, Bool, true, false}
+use Rattle.std.proofs.lemmas.Int.{ints}
 use Rattle.std.proofs.lemmas.Bool.{false≢true}
 use Rattle.std.proofs.lemmas.List.{get_or-drop}
 use Rattle.std.specs.Result.{IfOk}
@@ -12,14 +12,14 @@ use Rattle.crn_vec.specs.declared.signs.Sign.{Sign}
 use Rattle.crn_vec.specs.declared.signs.Sign.TheVariants.{Zero}
 use Rattle.crn_vec.specs.Vectors.{Mat, entry, HasSign}
 use Rattle.crn_vec.specs.Lists.{IsIn}
-use Rattle.crn_vec.specs.Elementary.{width, IsNamed, IsNamedRow}
-use Rattle.crn_vec.specs.Systems.{MayWeigh, kind_at, is_signed, IsCut}
+use Rattle.crn_vec.specs.Elementary.{width, IsNamed}
+use Rattle.crn_vec.specs.Systems.{MayWeigh, kind_at, is_signed}
 use Rattle.crn_vec.proofs.Entries.{eq_or, lt_or, past_end, zip_from}
-use Rattle.crn_vec.proofs.Sums.{scale, entry-scale, length-scale}
+use Rattle.crn_vec.proofs.Sums.{scale, entry-scale}
 use Rattle.crn_tab.specs.Names.{NamesRows}
 use Rattle.crn_tab.proofs.OwnSign.{as_row}
 use Rattle.crn_farkas.specs.Decides.{factor, WeighsBelow, CountsBelow, IsRuling, CutsBy, IsSmallCut}
-use Rattle.crn_farkas.proofs.Pairs.{dual_scaled, named_scaled, drop-scale, own_some}
+use Rattle.crn_farkas.proofs.Pairs.{named_scaled, drop-scale, own_some}
 
 pub weighs_more : (kinds : List Kind) (w : List ℤ) (c : ℕ) → WeighsBelow kinds w c → MayWeigh (kind_at kinds c) (entry w c) → WeighsBelow kinds w (c + 1)
 weighs_more kinds w c h here k lt = elim (eq_or k c) as (λ _. MayWeigh (kind_at kinds k) (entry w k)) [
@@ -33,10 +33,13 @@ kind_past (κ ∷ kinds) zero h = absurd (omega arith)
 kind_past (κ ∷ kinds) (suc k) h = kind_past kinds k (omega arith)
 
 pub ruling_from : (kinds : List Kind) (w : List ℤ) → length w ≡ length kinds → WeighsBelow kinds w (length kinds) → CountsBelow kinds w (length kinds) → IsRuling kinds w
-ruling_from kinds w e weighs (k, lt, s, n) = (λ j. elim (lt_or j (length kinds)) as (λ _. MayWeigh (kind_at kinds j) (entry w j)) [
-  | inl h ↦ weighs j h
-  | inr h ↦ subst (λ (κ : Kind). MayWeigh κ (entry w j)) (sym (kind_past kinds j h)) (past_end w j (omega (arith, e, h)))
-], (k, s, n))
+ruling_from kinds w e weighs (k, lt, s, n) = (
+  λ j. elim (lt_or j (length kinds)) as (λ _. MayWeigh (kind_at kinds j) (entry w j)) [
+    | inl h ↦ weighs j h
+    | inr h ↦ subst (λ (κ : Kind). MayWeigh κ (entry w j)) (sym (kind_past kinds j h)) (past_end w j (omega (arith, e, h)))
+  ],
+  (k, s, n),
+)
 
 free_unsigned : (κ : Kind) → κ ≡ Free → is_signed κ ≡ true → ⊥
 free_unsigned κ e s = false≢true (ap is_signed (sym e) ∙ s)
@@ -79,12 +82,15 @@ cut_from a basis kinds e turn s w u t lt out long cuts named small turns same =
     let named_v = named_scaled a basis e q w row in
     let rules = cuts.rules v named_v (subst (HasSign turn) (sym (entry-scale q w e)) turned) in
     record {
-      cut = (v, record {
-        space = named_v.space;
-        rows = drop-scale q a.cols w ∙ sym same;
-        each = zip_from MayWeigh Free (pos 0) kinds v (omega (arith, named_v.space.long, long)) (λ k k_lt. rules.0 k);
-        some = rules.1;
-      });
+      cut = (
+        v,
+        record {
+          space = named_v.space;
+          rows = drop-scale q a.cols w ∙ sym same;
+          each = zip_from MayWeigh Free (pos 0) kinds v (omega (arith, named_v.space.long, long)) (λ k k_lt. rules.0 k);
+          some = rules.1;
+        },
+      );
       small = subst (λ (l : List ℤ). (k : ℕ) → unsigned_abs (entry l k) < 2 ^ 62) (sym same) (scaled_small s (drop a.cols w) (2 ^ 62) small_part);
     }
 

@@ -1,23 +1,23 @@
 -- What a view shows: that there is such a vector, and how an exchange turns the view.
-use Rattle.std.proofs.Common.{◌≡◌, ◌≢◌, ℕ, ◌<◌, ◌⊎◌, ◌↔◌, inl, inr, List, refl, sym, ap, subst, ◌∙◌, arith}
-use Rattle.std.specs.Prelude.{ℤ, pos, negsuc, ◌+ℤ◌, ◌*ℤ◌, ◌≤ℤ◌, true}
+use Rattle.std.proofs.Common.{◌≡◌, ◌≢◌, ℕ, ◌<◌, ◌↔◌, inl, inr, List, refl, sym, subst, ◌∙◌, arith}
+use Rattle.std.specs.Prelude.{ℤ, pos, negsuc, ◌+ℤ◌, ◌*ℤ◌, true}
 use Rattle.std.proofs.lemmas.Int.{ints}
 use lib.IntN.{*ℤ_comm}
 use Rattle.crn_vec.specs.declared.signs.Kind.{Kind}
 use Rattle.crn_vec.specs.Vectors.{Mat, entry}
 use Rattle.crn_vec.specs.Lists.{IsIn}
-use Rattle.crn_vec.specs.Elementary.{width, IsNamed, IsNamedRow, IsNamedColumn, Exchanged}
+use Rattle.crn_vec.specs.Elementary.{width, IsNamed, IsNamedColumn}
 use Rattle.crn_vec.specs.Systems.{HasKind, is_signed}
 use Rattle.crn_vec.proofs.Sums.{scale, entry-scale}
-use Rattle.crn_tab.specs.Names.{NamesRows, HasRow}
+use Rattle.crn_tab.specs.Names.{NamesRows}
 use Rattle.crn_tab.proofs.Places.{isIn_or}
 use Rattle.crn_vec.proofs.Entries.{eq_or}
 use Rattle.crn_tab.proofs.Unique.{column_at}
 use Rattle.crn_tab.proofs.OwnSign.{as_row}
 use Rattle.crn_farkas.specs.declared.view.View.{View}
 use Rattle.crn_farkas.specs.declared.view.View.TheVariants.{Row, Column}
-use Rattle.crn_farkas.specs.Views.{IsView, IsSeen, IsViewed, IsTurned, IsSwapped}
-use Rattle.crn_farkas.proofs.Pairs.{pair, own_some, column_scaled, named_scaled, turned_kind, kind_some, other_some}
+use Rattle.crn_farkas.specs.Views.{IsView, IsSeen, IsSwapped}
+use Rattle.crn_farkas.proofs.Pairs.{pair, own_some, column_scaled, named_scaled, turned_kind, other_some}
 
 pub record Shown (a : Mat) (basis : List ℕ) (view : View) (g : ℕ) (kind : Kind) : Type 0 where
   pub y : List ℤ
@@ -69,7 +69,7 @@ wrong_enters a basis b g c κ t lt c_lt s v some ne w named =
     let y = shown a basis (Column b) g κ t lt s v in
     let out = wrong_outside a basis b g c κ t lt s v some ne in
     other_some (entry w b) (entry y.y b) (entry w c) (entry y.y c) (pair a basis c b w y.y (as_row a basis c w out named) y.is.0)
-        (own_some a basis c w t c_lt out named) (some y.y y.is)
+    (own_some a basis c w t c_lt out named) (some y.y y.is)
 
 -- g is outside the basis after the exchange
 pub column_left : (a : Mat) (basis next : List ℕ) (b g c : ℕ) → IsView a basis (Column b) g → c ≢ g → IsSwapped basis b c next → ¬ IsIn g next

@@ -1,15 +1,13 @@
 -- The step of settling: a coordinate that was first wrong is right after the exchange and the settling of those before it.
-use Rattle.std.proofs.Common.{◌≡◌, ◌≢◌, ℕ, zero, suc, ◌+◌, ◌<◌, ◌≤◌, ◌⊎◌, ◌↔◌, inl, inr, List, [], ◌∷◌, length, refl, sym, ap, subst, ◌∙◌, arith, get_or}
-use Rattle.std.specs.Prelude.{ℤ, pos, ◌*ℤ◌, ◌<ℤ◌, ◌≤ℤ◌, true, slice_index}
-use Rattle.std.proofs.lemmas.Int.{ints}
-use lib.IntN.{*ℤ_comm}
+use Rattle.std.proofs.Common.{◌≡◌, ◌≢◌, ℕ, zero, suc, ◌+◌, ◌<◌, ◌⊎◌, ◌↔◌, inl, inr, List, [], ◌∷◌, length, refl, sym, ap, subst, ◌∙◌, arith, get_or}
+use Rattle.std.specs.Prelude.{ℤ, pos, ◌<ℤ◌, true, slice_index}
 use Rattle.crn_vec.specs.declared.signs.Kind.{Kind}
-use Rattle.crn_vec.specs.declared.signs.Kind.TheVariants.{Pos, Neg, NonNeg, Zero, Free}
-use Rattle.crn_vec.specs.Vectors.{Mat, entry, dot}
+use Rattle.crn_vec.specs.declared.signs.Kind.TheVariants.{Free}
+use Rattle.crn_vec.specs.Vectors.{Mat, entry}
 use Rattle.crn_vec.specs.Lists.{IsIn}
-use Rattle.crn_vec.specs.Elementary.{width, InRowSpace, InDualSpace, IsNamedRow, IsNamedColumn}
+use Rattle.crn_vec.specs.Elementary.{IsNamedRow, IsNamedColumn}
 use Rattle.crn_vec.specs.Systems.{HasKind, MayTake, MayWeigh, kind_at, is_signed}
-use Rattle.crn_vec.proofs.Entries.{eq_or, lt_or}
+use Rattle.crn_vec.proofs.Entries.{eq_or}
 use Rattle.crn_vec.proofs.KindLaws.{Quiet, settled_dual, settled_row, take_zero, weigh_zero, kind_takes, kind_weighs, product_some}
 use Rattle.crn_vec.proofs.Orthogonal.{part, orthogonal}
 use Rattle.crn_tab.proofs.Places.{isIn_or}
@@ -98,10 +96,10 @@ step_right a basis basis' (Column b) (Column b') g c j kinds order y y' s other 
     subst (MayTake (kind_at kinds c)) (sym (seen'.0.zero_on_rest c change.turned.0 change.turned.1)) (take_zero (kind_at kinds c))
 step_right a basis basis' Row (Column b) g c j kinds order y y' s other seen before wrong change seen' after =
     settled_row (kind_at kinds) y y' c g other (orthogonal a y y' seen.0.space seen'.0.space) (goal_part (kind_at kinds g) y y' g s seen.1 seen'.1)
-        (row_quiet a basis basis' b g c j kinds order y y' seen.0 seen'.0 (λ i ng nc far m. (change.others i ng nc far).0 m) before after) wrong
+    (row_quiet a basis basis' b g c j kinds order y y' seen.0 seen'.0 (λ i ng nc far m. (change.others i ng nc far).0 m) before after) wrong
 step_right a basis basis' (Column b) Row g c j kinds order y y' s other seen before wrong change seen' after =
     settled_dual (kind_at kinds) y' y c g other (orthogonal a y' y seen'.0.space seen.0.space) (goal_part (kind_at kinds g) y' y g s seen'.1 seen.1)
-        (row_quiet a basis' basis b g c j kinds order y' y seen'.0 seen.0 (λ i ng nc far m. (change.others i ng nc far).1 m) after before) wrong
+    (row_quiet a basis' basis b g c j kinds order y' y seen'.0 seen.0 (λ i ng nc far m. (change.others i ng nc far).1 m) after before) wrong
 
 -- ---- agreement of views
 
@@ -143,7 +141,7 @@ settled_step a basis basis' view view' g done k j kinds order y s f seen change 
       | inl e ↦
           let c = slice_index order j in
           let right : IsRight view' (kind_at kinds c) (entry y' c) = step_right a basis basis' view view' g c j kinds order y y' s
-              (wrong_other a basis view g c kinds y s seen (f.wrong y seen)) seen (f.settled y seen) (f.wrong y seen) change seen' (settled y' seen') in
+          (wrong_other a basis view g c kinds y s seen (f.wrong y seen)) seen (f.settled y seen) (f.wrong y seen) change seen' (settled y' seen') in
           subst (λ (m : ℕ). IsRight view' (kind_at kinds (slice_index order m)) (entry y' (slice_index order m))) (sym e) right
     ]
 

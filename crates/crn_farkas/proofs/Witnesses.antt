@@ -1,26 +1,25 @@
 -- A settled column view shows a vector that is one of those that add up to a solution.
-use Rattle.std.proofs.Common.{◌≡◌, ◌≢◌, ℕ, zero, suc, ◌+◌, ◌-◌, ◌^◌, ◌<◌, ◌≤◌, ◌⊎◌, inl, inr, List, [], ◌∷◌, length, get_or, map, refl, sym, ap, subst, ◌∙◌, arith}
-use Rattle.std.specs.Prelude.{ℤ, pos, negsuc, ◌+ℤ◌, ◌*ℤ◌, unsigned_abs, Bool, true, slice_index}
+use Rattle.std.proofs.Common.{◌≡◌, ◌≢◌, ℕ, suc, ◌+◌, ◌-◌, ◌^◌, ◌<◌, ◌⊎◌, inl, inr, List, [], ◌∷◌, length, sym, ap, subst, ◌∙◌, arith}
+use Rattle.std.specs.Prelude.{ℤ, pos, ◌+ℤ◌, ◌*ℤ◌, unsigned_abs, Bool, true, slice_index}
 use Rattle.std.specs.Int.{◌∣◌}
 use Rattle.std.proofs.lemmas.Int.{ints}
 use Rattle.std.proofs.lemmas.Nat.Gcd.{dvd-zero}
 use lib.IntN.{*ℤ_comm}
 use Rattle.crn_vec.specs.declared.signs.Kind.{Kind}
-use Rattle.crn_vec.specs.declared.signs.Kind.TheVariants.{Free}
 use Rattle.crn_vec.specs.declared.signs.Sign.{Sign}
 use Rattle.crn_vec.specs.declared.signs.Sign.TheVariants.{Zero}
 use Rattle.crn_vec.specs.Vectors.{Mat, entry, HasSign}
 use Rattle.crn_vec.specs.Lists.{IsIn}
-use Rattle.crn_vec.specs.Elementary.{width, IsNamed, IsNamedColumn, IsNamedRow, Exchanged, WideAt}
+use Rattle.crn_vec.specs.Elementary.{width, IsNamed, IsNamedColumn, WideAt}
 use Rattle.crn_vec.specs.Systems.{HasKind, MayTake, MayWeigh, kind_at, is_signed}
 use Rattle.crn_vec.proofs.Entries.{eq_or, lt_or, past_end}
 use Rattle.crn_vec.proofs.Sums.{scale, entry-scale}
-use Rattle.crn_tab.specs.Names.{NamesRows, HasRow}
+use Rattle.crn_tab.specs.Names.{NamesRows}
 use Rattle.crn_tab.proofs.Ascending.{same_members}
 use Rattle.crn_tab.proofs.Unique.{column_at}
 use Rattle.crn_tab.proofs.OwnSign.{as_row}
 use Rattle.crn_farkas.specs.declared.view.View.TheVariants.{Row, Column}
-use Rattle.crn_farkas.specs.Views.{IsView, IsSeen, IsSettled}
+use Rattle.crn_farkas.specs.Views.{IsView, IsSettled}
 use Rattle.crn_farkas.specs.Decides.{factor, IsWitness, IsNumbered, NamesWide, CutsBy}
 use Rattle.crn_farkas.proofs.Pairs.{pair, column_scaled, other_some, kind_some}
 use Rattle.crn_farkas.proofs.Ruling.{kind_past, scaled_small}
@@ -87,8 +86,8 @@ witness_from a basis kinds order b g s w y t lt long asked view settled all n sm
 pub wide_here : (a : Mat) (basis : List ℕ) (b : ℕ) (numbers : List ℕ) → NamesRows a basis → IsIn b basis → WideAt a basis b → IsNumbered basis b b numbers → NamesWide a (b + 1) numbers
 wide_here a basis b numbers t i wide n =
     let same : n.next ≡ basis = same_members n.next basis n.exchanged.ascending t.basis_is.ascending
-        (λ k m. elim ((n.exchanged.members k).0 m) as (λ _. IsIn k basis) [ inl h ↦ h.0 | inr e ↦ subst (λ (j : ℕ). IsIn j basis) (sym e) i ])
-        (λ k m. (n.exchanged.members k).1 (elim (eq_or k b) as (λ _. (IsIn k basis × (k ≢ b)) ⊎ (k ≡ b)) [ inl e ↦ inr e | inr ne ↦ inl (m, ne) ])) in
+    (λ k m. elim ((n.exchanged.members k).0 m) as (λ _. IsIn k basis) [ inl h ↦ h.0 | inr e ↦ subst (λ (j : ℕ). IsIn j basis) (sym e) i ])
+    (λ k m. (n.exchanged.members k).1 (elim (eq_or k b) as (λ _. (IsIn k basis × (k ≢ b)) ⊎ (k ≡ b)) [ inl e ↦ inr e | inr ne ↦ inl (m, ne) ])) in
     let back : b + 1 - 1 ≡ b = omega arith in
     record {
       from_zero = n.next;

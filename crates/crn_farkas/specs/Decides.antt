@@ -1,12 +1,11 @@
 -- What the decision of a linear system says.
-use Rattle.std.specs.Prelude.{◌≡◌, ◌≢◌, ◌≤◌, ◌<◌, ◌+◌, ◌-◌, ◌^◌, ◌⊎◌, ℕ, suc, ℤ, pos, negsuc, unsigned_abs, Bool, true, false, List, [], ◌∷◌, map, length}
+use Rattle.std.specs.Prelude.{◌≡◌, ◌≢◌, ◌≤◌, ◌<◌, ◌+◌, ◌-◌, ◌^◌, ℕ, suc, ℤ, pos, negsuc, unsigned_abs, Bool, true, false, List, [], ◌∷◌, map}
 use Rattle.crn_vec.specs.declared.signs.Kind.{Kind}
 use Rattle.crn_vec.specs.declared.signs.Sign.{Sign}
 use Rattle.crn_vec.specs.declared.signs.Sign.TheVariants.{Zero}
 use Rattle.crn_vec.specs.Vectors.{Mat, entry, HasSign}
-use Rattle.crn_vec.specs.Lists.{IsIn}
-use Rattle.crn_vec.specs.Elementary.{width, InRowSpace, IsNamedRow, WideAt, Exchanged}
-use Rattle.crn_vec.specs.Systems.{HasKind, MayTake, MayWeigh, kind_at, is_signed, Solves, IsCut, HasOneRowCut}
+use Rattle.crn_vec.specs.Elementary.{InRowSpace, IsNamedRow, WideAt, Exchanged}
+use Rattle.crn_vec.specs.Systems.{MayTake, MayWeigh, kind_at, is_signed, Solves, IsCut}
 
 -- how many coordinates have to be positive or negative
 abbrev pub one_if : Bool → ℕ

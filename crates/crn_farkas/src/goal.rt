@@ -100,5 +100,9 @@ fn first_view(tableau: &Tableau, g: usize) -> View
     ensures { IsView tableau.now.matrix tableau.now.basis result g }
 {
     tableau.names_rows();
-    if tableau.is_basic(g) { View::Column(g) } else { View::Row }
+    if tableau.is_basic(g) {
+        View::Column(g)
+    } else {
+        View::Row
+    }
 }

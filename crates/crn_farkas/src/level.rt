@@ -98,7 +98,11 @@ fn is_level(kind: Kind, early: bool) -> bool
 }
 
 // Adds the coordinates that are early, or those that are not.
-pub(crate) fn push_level(order: &mut Vec<usize>, kinds: &[Kind], early: bool) -> Result<(), NoMemory>
+pub(crate) fn push_level(
+    order: &mut Vec<usize>,
+    kinds: &[Kind],
+    early: bool,
+) -> Result<(), NoMemory>
     ensures kept { OnOk result ((c : ℕ) → IsIn c order.old.items → IsIn c order.new.items) }
     ensures added { OnOk result ((c : ℕ) → c < length kinds.now → is_early_kind (kind_at kinds.now c) ≡ early → IsIn c order.new.items) }
     ensures below { OnOk result ((c : ℕ) → IsIn c order.new.items → IsIn c order.old.items ⊎ (c < length kinds.now)) }

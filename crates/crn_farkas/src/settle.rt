@@ -45,7 +45,13 @@ fn swap_in(tableau: &mut Tableau, leave: usize, enter: usize) -> Result<(), Refu
 }
 
 // Turns a coordinate at which the vectors that a view shows are wrong.
-fn turn(tableau: &mut Tableau, view: &mut View, kind: Kind, g: usize, c: usize) -> Result<(), Refused>
+fn turn(
+    tableau: &mut Tableau,
+    view: &mut View,
+    kind: Kind,
+    g: usize,
+    c: usize,
+) -> Result<(), Refused>
     requires view { IsView tableau.old.matrix tableau.old.basis view.old g }
     requires asked { is_signed kind ≡ true }
     requires goal { g < width tableau.old.matrix }

@@ -156,23 +156,10 @@ impl Solver {
         }
         let order = order_of(alloc, kinds)?;
         let mut sum = zeros(alloc, kinds.len())?;
-        let cut = targets(
-            alloc,
-            &mut self.tableau,
-            kinds,
-            &order,
-            &mut sum,
-            self.cols,
-        )?;
+        let cut = targets(alloc, &mut self.tableau, kinds, &order, &mut sum, self.cols)?;
         match cut {
             Some(cut) => Ok(Decision::Infeasible(cut)),
-            None => Ok(Decision::Feasible(solution(
-                alloc,
-                &self.tableau,
-                kinds,
-                &sum,
-                self.cols,
-            )?)),
+            None => Ok(Decision::Feasible(solution(alloc, &self.tableau, kinds, &sum, self.cols)?)),
         }
     }
 }

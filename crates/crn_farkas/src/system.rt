@@ -30,31 +30,45 @@ pub fn decide(alloc: Global, system: &System) -> Result<Decision, Stop>
 #[cfg(test)]
 mod tests {
     use super::*;
+    use crn_vec::Ints;
     use std::test::Fail;
 
+    // Whether the system was found feasible, and the numbers that show it.
+    fn shown(answer: Result<Decision, Stop>) -> Option<(bool, Ints)> {
+        match answer {
+            Ok(Decision::Feasible(solution)) => Some((true, solution)),
+            Ok(Decision::Infeasible(multipliers)) => Some((false, multipliers)),
+            Err(_stop) => None,
+        }
+    }
+
+    // The columns are the reactions and the rows the species of `A -> B`.
     #[test]
-    fn decides_positive_dependences_of_reactions(rt: HostRuntime) -> Result<(), Fail> {
-        // The columns are the reactions and the rows the species of A -> B, then of A <-> B.
-        let one = Matrix::new(rt.alloc(), 2, 1, &[-1, 1])?;
+    fn an_open_path_has_no_positive_dependence(rt: HostRuntime) -> Result<(), Fail> {
+        let matrix = Matrix::new(rt.alloc(), 2, 1, &[-1, 1])?;
         let kinds = [Kind::Pos, Kind::Zero, Kind::Zero];
         let system = System {
-            matrix: &one,
+            matrix: &matrix,
             kinds: &kinds,
         };
-        match decide(rt.alloc(), &system) {
-            Ok(Decision::Infeasible(u)) => assert_eq!(rt; u.as_slice(), [1, 0].as_slice()),
-            _ => assert!(rt; false, "A -> B"),
-        }
-        let two = Matrix::new(rt.alloc(), 2, 2, &[-1, 1, 1, -1])?;
+        let (feasible, numbers) = shown(decide(rt.alloc(), &system)).expect(&rt, "decided");
+        assert!(rt; !feasible);
+        assert_eq!(rt; numbers.as_slice(), [1, 0].as_slice());
+        Ok(())
+    }
+
+    // The columns are the reactions and the rows the species of `A <-> B`.
+    #[test]
+    fn a_reversible_pair_has_a_positive_dependence(rt: HostRuntime) -> Result<(), Fail> {
+        let matrix = Matrix::new(rt.alloc(), 2, 2, &[-1, 1, 1, -1])?;
         let kinds = [Kind::Pos, Kind::Pos, Kind::Zero, Kind::Zero];
         let system = System {
-            matrix: &two,
+            matrix: &matrix,
             kinds: &kinds,
         };
-        match decide(rt.alloc(), &system) {
-            Ok(Decision::Feasible(x)) => assert_eq!(rt; x.as_slice(), [1, 1].as_slice()),
-            _ => assert!(rt; false, "A <-> B"),
-        }
+        let (feasible, numbers) = shown(decide(rt.alloc(), &system)).expect(&rt, "decided");
+        assert!(rt; feasible);
+        assert_eq!(rt; numbers.as_slice(), [1, 1].as_slice());
         Ok(())
     }
 }

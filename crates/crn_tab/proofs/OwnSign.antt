@@ -44,7 +44,7 @@ own_positive a at order rows k t lt own =
     let n = a.cols in
     let i = slice_index at k - n in
     let e : entry (spread n i (row_at (n + 1) rows i) at) k ≡ entry (row_at (n + 1) rows i) n =
-        entry-spread n i (row_at (n + 1) rows i) at k (omega (arith, t.placed.at_long)) ∙ slot_own n i (row_at (n + 1) rows i) (slice_index at k) (omega (arith, own.low)) in
+    entry-spread n i (row_at (n + 1) rows i) at k (omega (arith, t.placed.at_long)) ∙ slot_own n i (row_at (n + 1) rows i) (slice_index at k) (omega (arith, own.low)) in
     subst (λ (z : ℤ). pos 1 ≤ℤ z) (sym e) (t.each i own.i_lt).positive
 
 pub names_rows : (a : Mat) (at order : List ℕ) (rows : List ℤ) → IsTableau a at order rows → NamesRows a (basis_of a.cols at)
@@ -76,4 +76,4 @@ named_sign a at order rows k j s t lt j_lt out h w named positive =
     let e : entry v j ≡ slot_entry n i row (slice_index at j) = entry-spread n i row at j (omega (arith, t.placed.at_long)) in
     let here : HasSign s (entry v j) = subst (HasSign s) (sym e) h in
     sign_carried s (entry w k) (entry v k) (entry v j) (entry w j) positive (own_positive a at order rows k t lt own)
-        (one_row a (basis_of n at) k v w t.wide own.named.basis_is (as_row a (basis_of n at) k v out own.named) named j) here
+    (one_row a (basis_of n at) k v w t.wide own.named.basis_is (as_row a (basis_of n at) k v out own.named) named j) here

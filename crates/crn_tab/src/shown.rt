@@ -34,8 +34,7 @@ fn sign_at(
 fn stands_by(matrix: &Matrix, at: &[usize], _order: &[usize], rows: &[i64])
     requires tableau { IsTableau matrix.now at.now _order.now rows.now }
     ensures { NamesRows matrix.now (basis_of matrix.now.cols at.now) }
-{
-}
+{}
 
 impl Tableau {
     /// The sign of an entry of the vector that the basis names by a coordinate outside it, positive at that coordinate.

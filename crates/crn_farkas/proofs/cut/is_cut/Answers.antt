@@ -1,4 +1,4 @@
-use Rattle.std.proofs.Common.{◌∙◌, sym, arith}
+use Rattle.std.proofs.Common.{arith}
 use Rattle.crn_farkas.proofs.Ruling.{ruling_from, ruling_counts}
 use Rattle.crn_farkas.proofs.cut.is_cut.Goals as goal
 

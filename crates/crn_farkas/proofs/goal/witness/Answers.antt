@@ -1,9 +1,8 @@
-use Rattle.std.proofs.Common.{◌≡◌, ◌≢◌, ◌<◌, List, ℤ, ap, sym, subst, ◌∙◌, arith}
+use Rattle.std.proofs.Common.{◌≡◌, ◌≢◌, List, ℤ, ap, subst, ◌∙◌, arith}
 use Rattle.std.specs.Prelude.{pos, ◌*ℤ◌, Err}
 use Rattle.crn_vec.specs.declared.signs.Kind.{Kind}
 use Rattle.crn_vec.specs.declared.signs.Kind.TheVariants.{Pos, Free}
 use Rattle.crn_vec.specs.declared.signs.Sign.TheVariants.{Zero}
-use Rattle.crn_vec.specs.Elementary.{width}
 use Rattle.crn_vec.specs.Systems.{HasKind}
 use Rattle.crn_vec.specs.Vectors.{entry, HasSign}
 use Rattle.crn_vec.proofs.Sums.{scale}
@@ -31,6 +30,6 @@ returns c =
     let K : Kind → Type 0 = λ κ. HasKind κ (factor s *ℤ entry w g) in
     let g_lt = c.requires.goal in
     witness_from a basis kinds c.args.order.now c.args.b g s w c.in_ok-multiple.field-0.list c.names_rows.ensures g_lt c.requires.kinds c.requires.asked c.requires.view c.requires.settled c.requires.all
-        c.in-Ok.ensures.named c.in-Ok.ensures.small
-        (λ some. subst K (any_default Pos Free kinds g (omega (arith, g_lt, c.requires.kinds))) (c.sign_asked.ensures.kind (factor s *ℤ entry w g) (turns some c.sign_asked.ensures.some)))
-        (c.in_ok-multiple.ensures ∙ ap (scale (factor s)) same)
+    c.in-Ok.ensures.named c.in-Ok.ensures.small
+    (λ some. subst K (any_default Pos Free kinds g (omega (arith, g_lt, c.requires.kinds))) (c.sign_asked.ensures.kind (factor s *ℤ entry w g) (turns some c.sign_asked.ensures.some)))
+    (c.in_ok-multiple.ensures ∙ ap (scale (factor s)) same)

@@ -1,4 +1,4 @@
-use Rattle.std.proofs.Common.{false, ap, sym, ◌∙◌}
+use Rattle.std.proofs.Common.{sym, ◌∙◌}
 use Rattle.std.proofs.lemmas.Bool.{false≢true}
 use Rattle.crn_farkas.proofs.ReadSigns.{lead_sign}
 use Rattle.crn_farkas.proofs.level.lead_sign.Goals as goal
@@ -9,4 +9,4 @@ sign-requires-clause-place c = c.names_rows.ensures.basis_is.below c.args.b c.re
 pub returns : goal.returns
 returns c = λ y named at_g some.
     lead_sign c.args.tableau.now.matrix c.args.tableau.now.basis c.args.b c.args.g c.sign.result c.opposite.result c.product.result c.args.asked y c.names_rows.ensures c.requires.goal
-        (λ i. false≢true (sym c.if-is_basic.false ∙ c.is_basic.ensures.1 i)) c.sign.ensures c.opposite.ensures c.product.ensures named at_g some
+    (λ i. false≢true (sym c.if-is_basic.false ∙ c.is_basic.ensures.1 i)) c.sign.ensures c.opposite.ensures c.product.ensures named at_g some

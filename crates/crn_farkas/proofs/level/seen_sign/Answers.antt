@@ -1,4 +1,4 @@
-use Rattle.std.proofs.Common.{List, ℤ, subst}
+use Rattle.std.proofs.Common.{subst}
 use Rattle.crn_farkas.specs.declared.view.View.{View}
 use Rattle.crn_farkas.specs.Views.{IsView, IsSeen}
 use Rattle.crn_farkas.proofs.ReadSigns.{row_sign}

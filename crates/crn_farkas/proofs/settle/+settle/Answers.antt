@@ -1,10 +1,10 @@
-use Rattle.std.proofs.Common.{◌≡◌, ◌≢◌, ◌≤◌, ◌<◌, ◌+◌, ℕ, ℤ, List, arith, sym, subst, ◌∙◌, ap}
+use Rattle.std.proofs.Common.{◌≡◌, ◌<◌, ◌+◌, arith, sym, subst, ◌∙◌}
 use Rattle.std.specs.Prelude.{slice_index}
 use Rattle.crn_vec.specs.Elementary.{width}
 use Rattle.crn_vec.specs.Systems.{kind_at}
 use Rattle.crn_vec.specs.Vectors.{Mat}
-use Rattle.crn_farkas.specs.Views.{IsSettled, IsView}
-use Rattle.crn_farkas.proofs.Seen.{Shown, shown}
+use Rattle.crn_farkas.specs.Views.{IsSettled}
+use Rattle.crn_farkas.proofs.Seen.{shown}
 use Rattle.crn_farkas.proofs.Steps.{wrong_other, Change, change_of, not_before, agree_step, settled_step}
 use Rattle.crn_farkas.proofs.settle.+settle.Goals as goal
 
@@ -36,7 +36,7 @@ loop-j-preserved t c =
     let first = c.in-Some.ensures in
     let other = wrong_other a basis c.loop-j.view g k kinds y.y asked y.is (first.wrong y.y y.is) in
     let change : Change order g j k basis c.loop-j.view basis' c.settle.new.view = change_of order g j k basis next basis' c.loop-j.view c.turn.new.view c.settle.new.view other
-        (not_before a basis c.loop-j.view g kinds order c.loop-j.done c.args.k j y.y first y.is) c.in_ok-turn.ensures.turned c.in_ok-turn.ensures.others c.in_ok-settle.ensures.agree in
+    (not_before a basis c.loop-j.view g kinds order c.loop-j.done c.args.k j y.y first y.is) c.in_ok-turn.ensures.turned c.in_ok-turn.ensures.others c.in_ok-settle.ensures.agree in
     let same : a' ≡ a = c.in_ok-settle.ensures.matrix ∙ c.in_ok-turn.ensures.matrix in
     let S : Mat → Type 0 = λ m. IsSettled m basis' c.settle.new.view g kinds order j in
     let S' : Mat → Type 0 = λ m. IsSettled m basis' c.settle.new.view g kinds order (j + 1) in

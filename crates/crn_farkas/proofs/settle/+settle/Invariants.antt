@@ -1,7 +1,4 @@
-use Rattle.std.proofs.Common.{◌≡◌, ◌≤◌, ◌-◌, ℕ, List}
-use Rattle.crn_vec.specs.declared.signs.Kind.{Kind}
-use Rattle.crn_vec.specs.Vectors.{Mat}
-use Rattle.crn_farkas.specs.declared.view.View.{View}
+use Rattle.std.proofs.Common.{◌≡◌, ◌≤◌, ◌-◌}
 use Rattle.crn_farkas.specs.Views.{IsView, IsSettled, AgreeBeyond}
 use Rattle.crn_farkas.proofs.settle.+settle.Given as goal
 

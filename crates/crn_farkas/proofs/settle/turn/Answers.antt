@@ -1,8 +1,8 @@
-use Rattle.std.proofs.Common.{◌≡◌, ◌≢◌, ◌↔◌, ℕ, ℤ, List, sym, subst}
+use Rattle.std.proofs.Common.{◌≢◌, ◌↔◌, ℤ, List, sym, subst}
 use Rattle.std.specs.Prelude.{pos}
 use Rattle.crn_vec.specs.Vectors.{entry}
 use Rattle.crn_farkas.specs.declared.view.View.{View}
-use Rattle.crn_farkas.specs.declared.view.View.TheVariants.{Row, Column}
+use Rattle.crn_farkas.specs.declared.view.View.TheVariants.{Row}
 use Rattle.crn_farkas.specs.Views.{IsView, IsSeen, IsViewed, IsTurned}
 use Rattle.crn_farkas.proofs.Seen.{row_turned, wrong_outside, wrong_enters, column_left, column_entered, column_others}
 use Rattle.crn_farkas.proofs.settle.turn.Goals as goal

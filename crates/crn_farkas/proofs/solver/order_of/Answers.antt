@@ -1,4 +1,4 @@
-use Rattle.std.proofs.Common.{◌≡◌, ◌<◌, ℕ, List, inl, inr, subst, true, false, [], ◌⊎◌}
+use Rattle.std.proofs.Common.{ℕ, List, inl, inr, subst}
 use Rattle.std.specs.Prelude.{slice_index}
 use Rattle.crn_vec.specs.Lists.{IsIn}
 use Rattle.crn_vec.specs.Systems.{kind_at}

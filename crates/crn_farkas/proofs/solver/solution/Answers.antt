@@ -1,4 +1,4 @@
-use Rattle.std.proofs.Common.{◌≡◌, ◌∙◌, ℕ, ℤ, List, ap, take}
+use Rattle.std.proofs.Common.{◌∙◌, ℕ, ap, take}
 use Rattle.crn_farkas.proofs.Finals.{solution_from}
 use Rattle.crn_farkas.proofs.solver.solution.Goals as goal
 

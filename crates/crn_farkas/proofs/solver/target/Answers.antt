@@ -1,9 +1,7 @@
-use Rattle.std.proofs.Common.{◌≡◌, ◌≢◌, ◌<◌, ◌≤◌, ◌+◌, ◌^◌, ◌*◌, ap, sym, subst, ◌∙◌, arith, false, true, List, ℤ, length, of_z}
-use Rattle.std.specs.Prelude.{pos, unsigned_abs, ◌+ℤ◌}
+use Rattle.std.proofs.Common.{◌≡◌, ◌<◌, ap, sym, subst, ◌∙◌, arith, true, List, ℤ, length, of_z}
 use Rattle.std.proofs.lemmas.Bool.{false≢true}
-use Rattle.crn_vec.specs.declared.signs.Kind.{Kind}
 use Rattle.crn_vec.specs.declared.signs.Kind.TheVariants.{Pos, Free}
-use Rattle.crn_vec.specs.Vectors.{Mat, entry}
+use Rattle.crn_vec.specs.Vectors.{Mat}
 use Rattle.crn_vec.specs.Systems.{is_signed, kind_at}
 use Rattle.crn_farkas.specs.Decides.{IsWitness}
 use Rattle.crn_farkas.specs.declared.goal.Side.{Side}
@@ -18,7 +16,7 @@ returns-then-not-is_asked-clause-end c =
     let lt = c.requires.goal in
     let g_lt : c.args.g < length c.args.kinds.now = omega (arith, lt, c.requires.kinds) in
     part_more c.args.tableau.now.matrix c.args.kinds.now c.args.g c.args.sum.now g_lt c.requires.sum
-        (λ s. absurd (false≢true (sym c.if-not-is_asked.true ∙ c.is_asked.ensures ∙ ap is_signed (any_default Pos Free c.args.kinds.now c.args.g g_lt) ∙ s)))
+    (λ s. absurd (false≢true (sym c.if-not-is_asked.true ∙ c.is_asked.ensures ∙ ap is_signed (any_default Pos Free c.args.kinds.now c.args.g g_lt) ∙ s)))
 
 pub returns-then-sum-g-ne0-clause-end : goal.returns-then-sum-g-ne0-clause-end
 returns-then-sum-g-ne0-clause-end c =
@@ -40,4 +38,4 @@ returns-in-Witness-clause-end c =
     let P : Mat → Type 0 = λ m. IsPartSum m kinds g c.args.sum.now in
     let asked : is_signed (kind_at kinds g) ≡ true = ap is_signed (any_default Free Pos kinds g g_lt) ∙ sym c.is_asked.ensures ∙ c.if-not-is_asked.false in
     part_added a kinds g c.args.sum.now c.as_slice.result.now c.add.new.sum g_lt asked (subst P (sym c.in_ok-cut.ensures.matrix) c.requires.sum)
-        (subst W (sym c.as_slice.ensures) (subst S c.in-Witness.is c.in_ok-cut.ensures.side)) c.add.ensures.count c.add.ensures.values
+    (subst W (sym c.as_slice.ensures) (subst S c.in-Witness.is c.in_ok-cut.ensures.side)) c.add.ensures.count c.add.ensures.values

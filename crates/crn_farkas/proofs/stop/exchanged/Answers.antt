@@ -1,4 +1,4 @@
-use Rattle.std.proofs.Common.{◌≡◌, ◌<◌, ◌≤◌, ◌+◌, sym, subst, ap, ◌∙◌, arith, [], List, ℕ}
+use Rattle.std.proofs.Common.{◌+◌, sym, subst, ap, ◌∙◌, arith, List, ℕ}
 use Rattle.std.proofs.lemmas.Bool.{false≢true}
 use Rattle.crn_vec.specs.Kept.{KeptNums}
 use Rattle.crn_farkas.proofs.Numbers.{NumberedBelow, none_yet, one_more, none_more, numbered_all}

@@ -1,5 +1,5 @@
-use Rattle.std.proofs.Common.{◌≡◌, ◌<◌, ◌≤◌, ◌^◌, ℕ}
-use Rattle.std.specs.Prelude.{◌+ℤ◌, unsigned_abs}
+use Rattle.std.proofs.Common.{◌≡◌, ◌<◌, ◌≤◌, ℕ}
+use Rattle.std.specs.Prelude.{◌+ℤ◌}
 use Rattle.crn_vec.specs.Vectors.{entry}
 use Rattle.crn_farkas.proofs.sum.add.Given as goal
 

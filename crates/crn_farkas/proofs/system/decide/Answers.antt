@@ -1,7 +1,5 @@
-use Rattle.std.proofs.Common.{◌≡◌, ◌<◌, ◌↔◌, ◌∙◌, ℕ, List, subst, sym, ap}
+use Rattle.std.proofs.Common.{◌≡◌, subst}
 use Rattle.crn_vec.specs.Vectors.{Mat}
-use Rattle.crn_farkas.specs.declared.stop.Stop.{Stop}
-use Rattle.crn_farkas.specs.declared.decision.Decision.{Decision}
 use Rattle.crn_farkas.specs.Ends.{IsDecision, IsKeptStop, IsStop}
 use Rattle.crn_farkas.proofs.Finals.{stop_from, match_map}
 use Rattle.crn_farkas.proofs.system.decide.Goals as goal
@@ -14,5 +12,5 @@ returns c =
     let basis = c.in_ok-solver.solver.tableau.basis in
     let same : made ≡ a = c.in_ok-solver.ensures.matrix in
     match_map (IsDecision made kinds) (IsDecision a kinds) (IsKeptStop made basis kinds) (IsStop a kinds) c.decide.result
-        (λ d h. subst (λ (m : Mat). IsDecision m kinds d) same h)
-        (λ s h. stop_from a basis kinds c.in_ok-solver.ensures.basis s (subst (λ (m : Mat). IsKeptStop m basis kinds s) same h)) c.decide.ensures
+    (λ d h. subst (λ (m : Mat). IsDecision m kinds d) same h)
+    (λ s h. stop_from a basis kinds c.in_ok-solver.ensures.basis s (subst (λ (m : Mat). IsKeptStop m basis kinds s) same h)) c.decide.ensures

@@ -40,6 +40,6 @@ returns c =
     let row = rw c.cols-n.ensures.count at c.part.ensures in
     let unwrapped = subst (HasSign c.sign_of.result) (to_z-of_z w128 c.slot_of.result (record { sfits = c.slot_of.type_inv })) c.sign_of.ensures in
     let is : HasSign c.sign_of.result (slot_entry n i (row_at (n + 1) c.args.rows.now i) (slice_index c.args.at.now c.args.col)) =
-        made n c.cols-n.result i (slice_index c.args.at.now c.args.row - c.cols-n.result) (slice_index c.args.at.now c.args.col) c.part.result.now (row_at (n + 1) c.args.rows.now i) c.slot_of.result c.sign_of.result
-            c.cols-n.ensures.count (ap (λ m. slice_index c.args.at.now c.args.row - m) c.cols-n.ensures.count) row c.slot_of.ensures unwrapped in
+    made n c.cols-n.result i (slice_index c.args.at.now c.args.row - c.cols-n.result) (slice_index c.args.at.now c.args.col) c.part.result.now (row_at (n + 1) c.args.rows.now i) c.slot_of.result c.sign_of.result
+    c.cols-n.ensures.count (ap (λ m. slice_index c.args.at.now c.args.row - m) c.cols-n.ensures.count) row c.slot_of.ensures unwrapped in
     named_sign c.args.matrix.now c.args.at.now c.args._order.now c.args.rows.now c.args.row c.args.col c.sign_of.result c.requires.tableau c.requires.inside c.requires.place c.requires.outside is

@@ -1,8 +1,7 @@
-use Rattle.std.proofs.Common.{◌≡◌, ◌<◌, ◌∙◌, ℕ, ℤ, List, subst, sym, ap, ap₂, arith, take, drop, ◌++◌, length}
+use Rattle.std.proofs.Common.{◌≡◌, ◌∙◌, ℕ, ℤ, List, subst, sym, ap, arith, take, drop, ◌++◌, length}
 use Rattle.std.proofs.Math.Seq.{take-append_seam}
 use Rattle.crn_vec.specs.Elementary.{width}
 use Rattle.crn_vec.specs.Lists.{IsIn}
-use Rattle.crn_vec.specs.Vectors.{Mat}
 use Rattle.crn_vec.specs.Kept.{KeptInts}
 use Rattle.std.specs.Prelude.{Option, MatchOption}
 use Rattle.crn_farkas.specs.Decides.{IsSmallCut}
@@ -26,6 +25,6 @@ solution-requires-clause-sum c =
     let new = c.targets.new.sum in
     let rest = drop (length new) c.in_ok-sum.sum.items in
     let long : c.in_ok-sum.sum.len ≡ length new = sym c.deref_mut.ensures.len ∙ ap (length {A = ℤ}) c.deref_mut.ensures.value ∙ c.in_ok-sum.ensures.long ∙ c.requires.kinds
-        ∙ ap width (sym c.in_ok-cut.ensures.matrix) ∙ sym part.space.long in
+    ∙ ap width (sym c.in_ok-cut.ensures.matrix) ∙ sym part.space.long in
     let back : take c.in_ok-sum.sum.len (new ++ rest) ≡ new = ap (λ (n : ℕ). take n (new ++ rest)) long ∙ take-append_seam new rest in
     subst (λ (l : List ℤ). IsPartSum a kinds (length kinds) l) (sym (c.deref-in-None.ensures.value ∙ back)) part
