@@ -12,7 +12,7 @@ use Rattle.crn_vec.proofs.Ring.{no_zero}
 use Rattle.crn_tab.specs.Names.{NamesRows, HasRow}
 use Rattle.crn_tab.specs.Tab.{slot_entry, spread, basis_of, row_at, IsTableau}
 use Rattle.crn_tab.proofs.Places.{entry-spread, slot_own}
-use Rattle.crn_tab.proofs.Signs.{one_row}
+use Rattle.crn_tab.proofs.Signs.{one_row, no_wide}
 use Rattle.crn_tab.proofs.Bases.{rows_make_basis}
 use Rattle.crn_tab.proofs.RowVector.{IsRowOf, row_of}
 
@@ -53,6 +53,7 @@ names_rows a at order rows t = record {
   some = t.some;
   few = t.few;
   basis_is = rows_make_basis a at order t.wide t.placed (λ j j_lt. (row_at (a.cols + 1) rows j, t.each j j_lt));
+  narrow = λ k wide. no_wide a at order rows k t wide.0 wide.1;
   rows = λ e lt out.
       let own = row_of a at order rows e t lt out in
       record {

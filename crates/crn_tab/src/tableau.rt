@@ -67,14 +67,9 @@ impl Tableau {
     }
 
     /// Whether a coordinate is in the basis.
-    ///
-    /// Its last two clauses say what holds of the basis at all times.
     pub fn is_basic(&self, coordinate: usize) -> bool
         requires { coordinate < width self.now.matrix }
-        ensures test { IsTrue result ↔ IsIn coordinate self.now.basis }
-
-        ensures basis { IsBasis self.now.matrix self.now.basis }
-        ensures kept { (k : ℕ) → (IsIn k self.now.basis → ⊥) → WideAt self.now.matrix self.now.basis k → ⊥ }
+        ensures { IsTrue result ↔ IsIn coordinate self.now.basis }
     {
         self.at[coordinate] < self.matrix.cols()
     }

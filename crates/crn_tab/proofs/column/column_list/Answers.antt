@@ -1,10 +1,9 @@
-use Rattle.std.proofs.Common.{◌≡◌, ◌+◌, ◌<◌, ◌≤◌, ◌^◌, ◌++◌, ◌∷◌, [], List, ℕ, zero, suc, refl, take, map, ap, sym, subst, ◌∙◌, length, arith, lit<, to_z, of_z}
-use Rattle.std.specs.Prelude.{ℤ, pos, not, slice_index, unsigned_abs}
+use Rattle.std.proofs.Common.{◌<◌, ◌^◌, ◌++◌, ◌∷◌, [], List, zero, suc, refl, ap, sym, subst, ◌∙◌, lit<, to_z, of_z}
+use Rattle.std.specs.Prelude.{ℤ, slice_index, unsigned_abs}
 use Rattle.std.specs.Int.{w128}
 use Rattle.std.proofs.lemmas.Int.{to_z-of_z}
-use Rattle.crn_vec.specs.Vectors.{entry}
 use Rattle.crn_tab.specs.Entries.{AreSmall}
-use Rattle.crn_tab.specs.Columns.{column_entry, column_of}
+use Rattle.crn_tab.specs.Columns.{column_entry}
 use Rattle.crn_tab.proofs.Places.{spread_step}
 use Rattle.crn_tab.proofs.column.column_list.Goals as goal
 

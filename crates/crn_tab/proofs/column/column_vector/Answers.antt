@@ -1,15 +1,12 @@
-use Rattle.std.proofs.Common.{◌≡◌, ◌+◌, ◌*◌, ◌^◌, ◌<◌, ◌≤◌, ℕ, List, length, ap, sym, subst, ◌∙◌, arith}
+use Rattle.std.proofs.Common.{◌≡◌, ◌+◌, ◌<◌, ℕ, List, length, sym, subst, arith}
 use Rattle.std.specs.Prelude.{ℤ, slice_index, Result, Ok, Err, IfOk, IsOk}
 use Rattle.std.proofs.lemmas.Result.{IfOk-weaker}
-use Rattle.crn_vec.specs.declared.limits.TheConstants.{MAX_COORDINATES}
 use Rattle.crn_vec.specs.Vectors.{Mat}
 use Rattle.crn_vec.specs.Lists.{IsIn}
-use Rattle.crn_vec.specs.Elementary.{width, InRowSpace, IsElementary, IsNamed, IsWide, WideAt}
+use Rattle.crn_vec.specs.Elementary.{InRowSpace, IsElementary, IsNamed, IsWide, WideAt}
 use Rattle.crn_tab.specs.Entries.{AreSmall}
 use Rattle.crn_tab.specs.Tab.{basis_of, row_at, IsTableau, IsKeptRow}
 use Rattle.crn_tab.specs.Columns.{IsScale, HasWideScale, column_of}
-use Rattle.crn_tab.proofs.BasicTest.{slot_below}
-use Rattle.crn_tab.proofs.Bases.{rows_make_basis}
 use Rattle.crn_tab.proofs.Columns.{small_column, column_elementary}
 use Rattle.crn_tab.proofs.ColumnVector.{column_named, wide_scale}
 use Rattle.crn_tab.proofs.Finish.{kept_row}

@@ -1,4 +1,4 @@
-use Rattle.std.proofs.Common.{◌≡◌, ◌<◌, ◌≤◌, ◌^◌}
+use Rattle.std.proofs.Common.{◌<◌, ◌^◌}
 use Rattle.crn_tab.specs.Columns.{IsScale}
 use Rattle.crn_tab.proofs.column.scale.Given as goal
 
