@@ -1,24 +1,24 @@
 -- The vector that a basis names by a coordinate in it, from the rows of a tableau.
-use Rattle.std.proofs.Common.{◌≡◌, ◌≢◌, ℕ, zero, suc, ◌+◌, ◌-◌, ◌*◌, ◌/◌, ◌^◌, ◌<◌, ◌≤◌, ◌⊎◌, inl, inr, List, [], ◌∷◌, length, map, refl, sym, ap, subst, ◌∙◌, arith, lit<, nat_lt, nat_eq}
-use Rattle.std.specs.Prelude.{ℤ, pos, negsuc, ◌+ℤ◌, ◌-ℤ◌, ◌*ℤ◌, neg_ℤ, ◌≤ℤ◌, int_div, slice_index, unsigned_abs}
+use Rattle.std.proofs.Common.{◌≡◌, ◌≢◌, ℕ, zero, suc, ◌+◌, ◌-◌, ◌*◌, ◌/◌, ◌<◌, ◌≤◌, inl, inr, List, [], ◌∷◌, length, refl, sym, ap, subst, ◌∙◌, arith, nat_eq}
+use Rattle.std.specs.Prelude.{ℤ, pos, ◌+ℤ◌, ◌-ℤ◌, ◌*ℤ◌, neg_ℤ, ◌≤ℤ◌, int_div, slice_index, unsigned_abs}
 use Rattle.std.specs.Int.{◌∣◌}
 use Rattle.std.proofs.lemmas.Int.{ints, unsigned_abs-mul}
 use Rattle.std.proofs.lemmas.Nat.Gcd.{dvd_antisymm, le_of_dvd}
-use Rattle.std.proofs.Math.Nat.{dvd-mul_right, div-mul_cancel, mul-dvd-mul_right, dvd_of_mul-dvd-mul_right, mul_comm, mul_assoc, pos_of_dvd_of_pos, one-mul, eq_of_mul-eq-mul_left}
+use Rattle.std.proofs.Math.Nat.{dvd-mul_right, div-mul_cancel, mul-dvd-mul_right, dvd_of_mul-dvd-mul_right, mul_comm, mul_assoc, pos_of_dvd_of_pos, eq_of_mul-eq-mul_left}
 use lib.IntN.{*ℤ_comm, *ℤ-zero, zero-*ℤ}
-use Rattle.crn_frac.proofs.Whole.{assoc, left-comm, mul-neg, exact}
-use Rattle.crn_vec.specs.Vectors.{Mat, entry, dot, AreOfLength}
+use Rattle.crn_frac.proofs.Whole.{left-comm, mul-neg, exact}
+use Rattle.crn_vec.specs.Vectors.{Mat, entry, dot}
 use Rattle.crn_vec.specs.Lists.{IsIn}
-use Rattle.crn_vec.specs.Elementary.{width, InRowSpace, IsBasis, IsPrimitive, IsNamed, IsWide, WideAt}
-use Rattle.crn_tab.specs.Tab.{choose, slot_entry, spread, basis_of, row_at, ArePlaced, IsRowAt, IsTableau}
+use Rattle.crn_vec.specs.Elementary.{width, InRowSpace, IsPrimitive, IsNamed, WideAt}
+use Rattle.crn_tab.specs.Tab.{choose, spread, basis_of, row_at, IsTableau}
 use Rattle.crn_tab.specs.Columns.{MakesWhole, IsScale, HasWideScale, column_entry, column_of}
-use Rattle.crn_tab.proofs.Rows.{past_end, inside_or, lt_or}
-use Rattle.crn_tab.proofs.Places.{eq_or, isIn_or, lt_true, lt_false, eq_true, eq_false, slot_basic, slot_own, slot_none, length-spread, entry-spread, in_basis}
+use Rattle.crn_tab.proofs.Rows.{past_end, lt_or}
+use Rattle.crn_tab.proofs.Places.{eq_or, isIn_or, lt_true, lt_false, eq_true, eq_false, slot_basic, entry-spread}
 use Rattle.crn_tab.proofs.BasicTest.{slot_below}
 use Rattle.crn_tab.proofs.Bases.{rows_make_basis, zero_outside, outside_slot, at_own}
 use Rattle.crn_tab.proofs.Dots.{dot_single}
 use Rattle.crn_tab.proofs.Spaces.{orthogonal}
-use Rattle.crn_tab.proofs.Unique.{ColumnAt, column_at}
+use Rattle.crn_tab.proofs.Unique.{column_at}
 use Rattle.crn_tab.proofs.Columns.{cancel_left, row_combined}
 use Rattle.crn_tab.proofs.Scales.{scale_of, scale_grows}
 

@@ -1,20 +1,19 @@
 -- Vectors (x, Ax): differences, and that a basis and a coordinate in it name one vector, up to its sign.
-use Rattle.std.proofs.Common.{◌≡◌, ◌≢◌, ℕ, zero, suc, ◌+◌, ◌-◌, ◌*◌, ◌^◌, ◌<◌, ◌≤◌, ◌⊎◌, inl, inr, List, [], ◌∷◌, length, get_or, take, drop, refl, sym, ap, subst, ◌∙◌, arith}
-use Rattle.std.specs.Prelude.{ℤ, pos, negsuc, ◌+ℤ◌, ◌-ℤ◌, ◌*ℤ◌, neg_ℤ, ◌≤ℤ◌, unsigned_abs}
+use Rattle.std.proofs.Common.{◌≡◌, ◌≢◌, ℕ, ◌+◌, ◌*◌, ◌≤◌, inl, inr, List, [], ◌∷◌, length, get_or, take, refl, sym, ap, subst, ◌∙◌, arith}
+use Rattle.std.specs.Prelude.{ℤ, pos, ◌-ℤ◌, ◌*ℤ◌, unsigned_abs}
 use Rattle.std.specs.Int.{◌∣◌}
 use Rattle.std.proofs.lemmas.Int.{ints, unsigned_abs-mul}
 use Rattle.std.proofs.lemmas.List.{get_or-take, length-take-le}
 use Rattle.std.proofs.lemmas.Nat.Gcd.{dvd-zero}
 use lib.IntN.{*ℤ_comm, *ℤ-zero, zero-*ℤ}
-use Rattle.crn_frac.proofs.Whole.{no_zero, mul-sub, left-comm, assoc}
+use Rattle.crn_frac.proofs.Whole.{no_zero, mul-sub, left-comm}
 use Rattle.crn_vec.specs.Vectors.{Mat, entry, dot, AreOfLength}
 use Rattle.crn_vec.specs.Lists.{IsIn}
-use Rattle.crn_vec.specs.Elementary.{width, InRowSpace, InDualSpace, IsBasis, IsPrimitive, IsNamed, IsNamedRow, IsNamedColumn, IsWide, WideAt, AreProportional, IsElementary}
+use Rattle.crn_vec.specs.Elementary.{InRowSpace, InDualSpace, IsBasis, IsPrimitive, IsNamed, IsNamedRow, IsNamedColumn, WideAt, AreProportional, IsElementary}
 use Rattle.crn_tab.specs.Entries.{AreSmall}
-use Rattle.crn_tab.proofs.Rows.{past_end, inside_or, lt_or}
-use Rattle.crn_tab.proofs.Places.{eq_or, isIn_or}
+use Rattle.crn_tab.proofs.Rows.{past_end, lt_or}
+use Rattle.crn_tab.proofs.Places.{eq_or}
 use Rattle.crn_tab.proofs.Dots.{dot_combined}
-use Rattle.crn_tab.proofs.Unique.{dual_none}
 use Rattle.crn_tab.proofs.Signs.{differ, length-differ, entry-differ, times_one, own, both_none, is_none, same_sizes, one_row, some_own}
 
 pub cancel_left : (a x y : ℤ) → a ≢ pos 0 → a *ℤ x ≡ a *ℤ y → x ≡ y

@@ -1,11 +1,11 @@
 -- The ascending list with one coordinate in place of another.
-use Rattle.std.proofs.Common.{◌≡◌, ◌≢◌, ℕ, zero, suc, ◌+◌, ◌<◌, ◌≤◌, ◌⊎◌, inl, inr, List, [], ◌∷◌, refl, sym, ap, ◌∙◌, arith}
+use Rattle.std.proofs.Common.{◌≡◌, ◌≢◌, ℕ, ◌<◌, ◌⊎◌, inl, inr, List, [], ◌∷◌, sym, ◌∙◌, arith}
 use Rattle.std.specs.Prelude.{◌↔◌}
 use Rattle.crn_vec.specs.Lists.{IsIn, IsAbove, IsAscending}
 use Rattle.crn_vec.specs.Elementary.{Exchanged}
 use Rattle.crn_tab.proofs.Places.{eq_or}
 use Rattle.crn_tab.proofs.Rows.{lt_or}
-use Rattle.crn_tab.proofs.Ascending.{above_all, tail}
+use Rattle.crn_tab.proofs.Ascending.{tail}
 
 -- the members other than b
 record Without (b : ℕ) (xs ys : List ℕ) : Type 0 where

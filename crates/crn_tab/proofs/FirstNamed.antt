@@ -1,9 +1,9 @@
 -- At first, row i of a tableau is (-A_i, e_i).
-use Rattle.std.proofs.Common.{◌≡◌, ◌≢◌, ℕ, zero, suc, ◌+◌, ◌-◌, ◌<◌, ◌≤◌, ◌⊎◌, inl, inr, List, [], ◌∷◌, length, get_or, refl, sym, ap, subst, ◌∙◌, arith, nat_lt, nat_eq}
+use Rattle.std.proofs.Common.{◌≡◌, ℕ, zero, suc, ◌+◌, ◌<◌, ◌⊎◌, inl, inr, List, [], ◌∷◌, length, get_or, refl, sym, ap, ◌∙◌, arith, nat_eq}
 use Rattle.std.specs.Prelude.{ℤ, pos, neg_ℤ, slice_index, ◌↔◌}
 use Rattle.crn_vec.specs.Vectors.{Mat, entry, AreOfLength}
 use Rattle.crn_vec.specs.Lists.{IsIn}
-use Rattle.crn_vec.specs.Elementary.{width, IsBasis, IsNamed}
+use Rattle.crn_vec.specs.Elementary.{width, IsNamed}
 use Rattle.crn_tab.specs.Start.{IsIdentity, start_row, first_entry}
 use Rattle.crn_tab.specs.Tab.{choose, slot_entry, spread}
 use Rattle.crn_tab.proofs.Rows.{lt_or, past_end}

@@ -1,11 +1,11 @@
 -- A basis and a coordinate name one primitive vector, up to its sign.
-use Rattle.std.proofs.Common.{◌≡◌, ◌≢◌, ℕ, zero, suc, ◌+◌, ◌*◌, ◌<◌, ◌≤◌, ◌⊎◌, inl, inr, List, refl, sym, ap, ◌∙◌, arith}
+use Rattle.std.proofs.Common.{◌≡◌, ◌≢◌, ℕ, ◌*◌, ◌≤◌, ◌⊎◌, inl, inr, List, sym, ap, ◌∙◌, arith}
 use Rattle.std.specs.Prelude.{ℤ, pos, negsuc, ◌*ℤ◌, neg_ℤ, unsigned_abs}
 use Rattle.std.proofs.lemmas.Int.{ints, unsigned_abs-mul}
 use lib.IntN.{*ℤ_comm}
 use Rattle.crn_frac.proofs.Whole.{mul-neg}
 use Rattle.crn_vec.specs.Vectors.{Mat, entry, AreOfLength}
-use Rattle.crn_vec.specs.Elementary.{IsBasis, IsPrimitive, IsNamed}
+use Rattle.crn_vec.specs.Elementary.{IsPrimitive, IsNamed}
 use Rattle.crn_tab.proofs.Signs.{same_sizes, one_row, some_own}
 use Rattle.crn_tab.proofs.Columns.{cancel_left, one_column, some_own_column}
 

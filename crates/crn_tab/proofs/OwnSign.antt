@@ -1,15 +1,15 @@
 -- The kept row of a coordinate outside the basis is positive there, and its signs are those of every vector named so.
-use Rattle.std.proofs.Common.{◌≡◌, ◌≢◌, ℕ, zero, suc, ◌+◌, ◌-◌, ◌<◌, ◌≤◌, ◌⊎◌, inl, inr, List, length, refl, sym, ap, subst, ◌∙◌, arith}
+use Rattle.std.proofs.Common.{◌≡◌, ℕ, zero, suc, ◌+◌, ◌-◌, ◌<◌, inl, inr, List, sym, ap, subst, ◌∙◌, arith}
 use Rattle.std.specs.Prelude.{ℤ, pos, negsuc, ◌*ℤ◌, ◌≤ℤ◌, slice_index}
 use Rattle.std.proofs.lemmas.Int.{ints}
-use lib.IntN.{*ℤ_comm, *ℤ-zero}
+use lib.IntN.{*ℤ-zero}
 use Rattle.crn_vec.specs.declared.signs.Sign.{Sign}
 use Rattle.crn_vec.specs.declared.signs.Sign.TheVariants.{Zero, Plus, Minus}
 use Rattle.crn_vec.specs.Vectors.{Mat, entry, HasSign}
 use Rattle.crn_vec.specs.Lists.{IsIn}
 use Rattle.crn_vec.specs.Elementary.{width, IsNamed, IsNamedRow}
 use Rattle.crn_vec.proofs.Ring.{no_zero}
-use Rattle.crn_tab.specs.Names.{NamesRows, HasRow}
+use Rattle.crn_tab.specs.Names.{NamesRows}
 use Rattle.crn_tab.specs.Tab.{slot_entry, spread, basis_of, row_at, IsTableau}
 use Rattle.crn_tab.proofs.Places.{entry-spread, slot_own}
 use Rattle.crn_tab.proofs.Signs.{one_row, no_wide}

@@ -1,15 +1,14 @@
 -- The scale of a column: the least common multiple of the reduced denominators of its rows.
-use Rattle.std.proofs.Common.{◌≡◌, ◌≢◌, ℕ, zero, suc, ◌+◌, ◌-◌, ◌*◌, ◌/◌, ◌^◌, ◌<◌, ◌≤◌, ◌⊎◌, inl, inr, List, [], ◌∷◌, length, refl, sym, ap, subst, ◌∙◌, arith}
-use Rattle.std.specs.Prelude.{ℤ, pos, ◌≤ℤ◌, unsigned_abs}
+use Rattle.std.proofs.Common.{◌≡◌, ℕ, zero, suc, ◌+◌, ◌*◌, ◌/◌, ◌<◌, ◌≤◌, inl, inr, List, sym, subst, arith}
+use Rattle.std.specs.Prelude.{ℤ, unsigned_abs}
 use Rattle.std.specs.Int.{IsGcd, ◌∣◌}
-use Rattle.std.proofs.lemmas.Int.{ints}
-use Rattle.std.proofs.Math.Nat.{dvd-mul_left, dvd-mul_right, div-mul_cancel, mul-dvd-mul_right, dvd_of_mul-dvd-mul_right, mul_comm, mul_assoc, pos_of_dvd_of_pos, one-le-mul, one-mul, one-dvd}
-use Rattle.std.proofs.lemmas.Nat.Gcd.{dvd_trans, dvd_antisymm, IsGcd-from_zero, IsGcd-from_mod}
+use Rattle.std.proofs.Math.Nat.{dvd-mul_left, dvd-mul_right, div-mul_cancel, mul-dvd-mul_right, dvd_of_mul-dvd-mul_right, mul_comm, pos_of_dvd_of_pos, one-le-mul, one-dvd}
+use Rattle.std.proofs.lemmas.Nat.Gcd.{dvd_trans}
 use Rattle.crn_frac.specs.Multiple.{IsLcm}
 use Rattle.crn_frac.proofs.Divisors.{common, lcm_is}
 use Rattle.crn_vec.specs.Vectors.{entry}
 use Rattle.crn_tab.specs.Tab.{row_at}
-use Rattle.crn_tab.specs.Columns.{MakesWhole, IsScale}
+use Rattle.crn_tab.specs.Columns.{IsScale}
 use Rattle.crn_tab.proofs.Places.{eq_or}
 use Rattle.crn_tab.proofs.Signs.{gcd_by}
 

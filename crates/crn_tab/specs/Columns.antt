@@ -1,6 +1,6 @@
 -- The vector (x, Ax) that a basis names by a coordinate in it, from the rows of a tableau.
 -- Its entry at the coordinate of row i is minus the row's entry at the slot, times a scale, over the row's own entry.
-use Rattle.std.specs.Prelude.{◌≡◌, ◌≤◌, ◌<◌, ◌+◌, ◌-◌, ◌*◌, ◌^◌, ℕ, ℤ, pos, neg_ℤ, ◌*ℤ◌, int_div, unsigned_abs, List, map, nat_lt, nat_eq}
+use Rattle.std.specs.Prelude.{◌≤◌, ◌<◌, ◌+◌, ◌-◌, ◌*◌, ◌^◌, ℕ, ℤ, pos, neg_ℤ, ◌*ℤ◌, int_div, unsigned_abs, List, map, nat_lt, nat_eq}
 use Rattle.std.specs.Int.{◌∣◌}
 use Rattle.crn_vec.specs.Vectors.{entry}
 use Rattle.crn_tab.specs.Tab.{choose, row_at}

@@ -1,5 +1,5 @@
 -- What the basis of a tableau names.
-use Rattle.std.specs.Prelude.{◌≡◌, ◌≤◌, ◌<◌, ◌^◌, ℕ, ℤ, pos, ◌≤ℤ◌, unsigned_abs, List}
+use Rattle.std.specs.Prelude.{◌≤◌, ◌<◌, ◌^◌, ℕ, ℤ, pos, ◌≤ℤ◌, unsigned_abs, List}
 use Rattle.crn_vec.specs.Vectors.{Mat, entry, AreOfLength}
 use Rattle.crn_vec.specs.Lists.{IsIn}
 use Rattle.crn_vec.specs.Elementary.{width, IsBasis, IsNamed, IsWideRow}

@@ -1,5 +1,5 @@
 -- Numbering by first appearance, and the same read from left to right with the count of what has appeared.
-use Rattle.std.proofs.Common.{◌≡◌, ℕ, zero, suc, ◌+◌, ◌<◌, ◌≤◌, ◌⊎◌, inl, inr, List, [], ◌∷◌, length, get_or, refl, sym, ◌∙◌, arith}
+use Rattle.std.proofs.Common.{◌≡◌, ℕ, zero, suc, ◌<◌, ◌⊎◌, inl, inr, List, [], ◌∷◌, length, get_or, arith}
 use Rattle.std.proofs.lemmas.Bool.{cases_lt}
 use Rattle.crn_vec.specs.Network.{IsFirstAppearance}
 
@@ -17,22 +17,22 @@ appears next [] h i k lt less = absurd (omega arith)
 appears next (y ∷ ys) (inl h) zero k lt less = inl (omega (arith, h.0))
 appears next (y ∷ ys) (inr h) zero k lt less = inl (omega (arith, h.0))
 appears next (y ∷ ys) (inl h) (suc i) k lt less = elim (appears next ys h.1 i k (omega arith) less) [
-      inl known ↦ inl known
-    | inr seen ↦ inr (suc seen.0, omega (arith, seen.1), seen.2)
-    ]
+  | inl known ↦ inl known
+  | inr seen ↦ inr (suc seen.0, omega (arith, seen.1), seen.2)
+]
 appears next (y ∷ ys) (inr h) (suc i) k lt less = elim (appears (suc next) ys h.1 i k (omega arith) less) [
-      inl known ↦ elim (cases_lt k next) [
-        inl known ↦ inl known
-      | inr least ↦ inr (0, omega arith, omega (arith, h.0))
-      ]
-    | inr seen ↦ inr (suc seen.0, omega (arith, seen.1), seen.2)
-    ]
+  | inl known ↦ elim (cases_lt k next) [
+    | inl known ↦ inl known
+    | inr least ↦ inr (0, omega arith, omega (arith, h.0))
+  ]
+  | inr seen ↦ inr (suc seen.0, omega (arith, seen.1), seen.2)
+]
 
 behind_known : (next y : ℕ) (ys : List ℕ) → y < next → Appears next (y ∷ ys) → Appears next ys
 behind_known next y ys le h i k lt less = elim (h (suc i) k (omega arith) less) [
-      inl known ↦ inl known
-    | inr seen ↦ behind seen.0 seen.1 seen.2
-    ]
+  | inl known ↦ inl known
+  | inr seen ↦ behind seen.0 seen.1 seen.2
+]
   where
     behind : (j : ℕ) → j < suc i → get_or (y ∷ ys) j 0 ≡ k → (k < next) ⊎ ((j : ℕ) × (j < i) × (get_or ys j 0 ≡ k))
     behind zero b e = inl (omega (arith, e))
@@ -40,15 +40,15 @@ behind_known next y ys le h i k lt less = elim (h (suc i) k (omega arith) less) 
 
 pub in_order_appears : (ys : List ℕ) → IsNumberedInOrder 0 ys → IsFirstAppearance ys
 in_order_appears ys h i k lt less = elim (appears 0 ys h i k lt less) [
-      inl none ↦ absurd (omega arith)
-    | inr seen ↦ seen
-    ]
+  | inl none ↦ absurd (omega arith)
+  | inr seen ↦ seen
+]
 
 behind_next : (next y : ℕ) (ys : List ℕ) → y ≡ next → Appears next (y ∷ ys) → Appears (suc next) ys
 behind_next next y ys is h i k lt less = elim (h (suc i) k (omega arith) less) [
-      inl known ↦ inl (omega arith)
-    | inr seen ↦ behind seen.0 seen.1 seen.2
-    ]
+  | inl known ↦ inl (omega arith)
+  | inr seen ↦ behind seen.0 seen.1 seen.2
+]
   where
     behind : (j : ℕ) → j < suc i → get_or (y ∷ ys) j 0 ≡ k → (k < suc next) ⊎ ((j : ℕ) × (j < i) × (get_or ys j 0 ≡ k))
     behind zero b e = inl (omega (arith, e, is))
@@ -57,12 +57,12 @@ behind_next next y ys is h i k lt less = elim (h (suc i) k (omega arith) less) [
 ordered : (next : ℕ) (ys : List ℕ) → Appears next ys → IsNumberedInOrder next ys
 ordered next [] h = tt
 ordered next (y ∷ ys) h = elim (cases_lt y next) [
-      inl known ↦ inl (known, ordered next ys (behind_known next y ys known h))
-    | inr least ↦ elim (cases_lt next y) [
-        inl less ↦ absurd (elim (h 0 next (omega arith) less) [ inl known ↦ omega arith | inr seen ↦ let none = seen.1 in omega arith ])
-      | inr most ↦ let is : y ≡ next = omega arith in inr (is, ordered (suc next) ys (behind_next next y ys is h))
-      ]
-    ]
+  | inl known ↦ inl (known, ordered next ys (behind_known next y ys known h))
+  | inr least ↦ elim (cases_lt next y) [
+    | inl less ↦ absurd (elim (h 0 next (omega arith) less) [ inl known ↦ omega arith | inr seen ↦ let none = seen.1 in omega arith ])
+    | inr most ↦ let is : y ≡ next = omega arith in inr (is, ordered (suc next) ys (behind_next next y ys is h))
+  ]
+]
 
 pub appears_in_order : (ys : List ℕ) → IsFirstAppearance ys → IsNumberedInOrder 0 ys
 appears_in_order ys h = ordered 0 ys (λ i k lt less. inr (h i k lt less))

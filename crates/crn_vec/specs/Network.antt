@@ -1,7 +1,7 @@
 -- Reaction networks, and the reactions that a statement says.
 -- Source: Feinberg, Foundations of Chemical Reaction Network Theory (2019). The limits and the numbering are this project's own.
 -- Shapes: species, complexes and reactions are counted from 0. A complex is the list of its amounts, one for each species.
-use Rattle.std.specs.Prelude.{◌≡◌, ◌≤◌, ◌<◌, ◌⊎◌, ◌==◌, ◌&&◌, ◌||◌, nat_le, ℕ, suc, ℤ, pos, ◌≤ℤ◌, ◌-ℤ◌, Bool, false, IsTrue, if◌then◌else◌, List, [], ◌∷◌, ◌++◌, length, map, slice_index, slice_index_or}
+use Rattle.std.specs.Prelude.{◌≡◌, ◌≤◌, ◌<◌, ◌==◌, ◌&&◌, ◌||◌, nat_le, ℕ, ℤ, pos, ◌≤ℤ◌, ◌-ℤ◌, Bool, false, IsTrue, if◌then◌else◌, List, [], ◌∷◌, ◌++◌, length, map, slice_index, slice_index_or}
 use Rattle.std.specs.List.{AllByRecursion, list_all, sum_by}
 use Rattle.std.specs.Str.{bytes_eq}
 use Rattle.std.specs.Ordering.{int_eq}

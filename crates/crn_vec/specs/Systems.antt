@@ -2,7 +2,7 @@
 -- Source: Minty (1974) and Rockafellar (1969); Farkas (1902) for the multipliers. The five kinds are this project's own.
 -- Shapes: a matrix A with m rows and n columns has n + m coordinates, the columns x first and then the rows Ax; one kind for each.
 use Rattle.std.specs.Prelude.{◌≡◌, ◌≢◌, ℕ, ℤ, pos, negsuc, ◌≤ℤ◌, ◌⊎◌, Bool, true, false, List, take, drop, slice_index_or}
-use Rattle.std.specs.List.{AllZip, count_by}
+use Rattle.std.specs.List.{AllZip}
 use Rattle.crn_vec.specs.declared.signs.Kind.{Kind}
 use Rattle.crn_vec.specs.declared.signs.Kind.TheVariants.{Pos, Neg, NonNeg, Zero, Free}
 use Rattle.crn_vec.specs.Vectors.{Mat, entry}
@@ -43,14 +43,6 @@ MayTake Free x = Unit {0}
 -- the kind of coordinate k
 abbrev pub kind_at : List Kind → ℕ → Kind
 kind_at kinds k = slice_index_or kinds k Free
-
--- some coordinate has to be positive or negative
-abbrev pub HasSigned : List Kind → Type 0
-HasSigned kinds = (k : ℕ) × (is_signed (kind_at kinds k) ≡ true)
-
--- how many coordinates have to be positive or negative
-abbrev pub signed_count : List Kind → ℕ
-signed_count kinds = count_by is_signed kinds
 
 -- v is (x, Ax), and each coordinate has its kind
 pub record Solves (a : Mat) (kinds : List Kind) (x v : List ℤ) : Type 0 where
