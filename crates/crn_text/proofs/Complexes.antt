@@ -40,7 +40,7 @@ not_false : (b : Bool) → not b ≡ false → b ≡ true
 not_false true h = refl
 not_false false h = absurd cc
 
-all_kept : {A B : Type 0} (same : A → A → Bool) (e : (a b : A) → Decides (same a b) (a ≡ b)) (E : B → B → Bool) (d : (a b : B) → Decides (E a b) (a ≡ b)) (b : A → List B) (xs : List A) (front : List B) → firsts E (front ++ flat_map b (firsts same xs)) ≡ firsts E (front ++ flat_map b xs)
+pub all_kept : {A B : Type 0} (same : A → A → Bool) (e : (a b : A) → Decides (same a b) (a ≡ b)) (E : B → B → Bool) (d : (a b : B) → Decides (E a b) (a ≡ b)) (b : A → List B) (xs : List A) (front : List B) → firsts E (front ++ flat_map b (firsts same xs)) ≡ firsts E (front ++ flat_map b xs)
 all_kept same e E d b [] front = refl
 all_kept {A} {B} same e E d b (x ∷ xs) front =
     ap (firsts E) (sym (append_assoc front (b x) (flat_map b (filter (λ y. not (same x y)) (firsts same xs)))))
@@ -130,13 +130,13 @@ complexes_are net h =
 
 -- ---- with one statement more
 
-append_same : (a b c d : List ℤ) → length a ≡ length b → a ++ c ≡ b ++ d → a ≡ b
+pub append_same : (a b c d : List ℤ) → length a ≡ length b → a ++ c ≡ b ++ d → a ≡ b
 append_same [] [] c d l e = refl
 append_same [] (y ∷ b) c d l e = absurd (omega (arith, l))
 append_same (x ∷ a) [] c d l e = absurd (omega (arith, l))
 append_same (x ∷ a) (y ∷ b) c d l e = let rest : a ++ c ≡ b ++ d = cc in let less : length a ≡ length b = omega (arith, l) in let same : a ≡ b = append_same a b c d less rest in let heads : x ≡ y = cc in cc
 
-flat_map_map : (w : List ℤ → List ℤ) (rs : List (List ℤ × List ℤ)) → flat_map both_of (map (λ r. (w r.0, w r.1)) rs) ≡ map w (flat_map both_of rs)
+pub flat_map_map : (w : List ℤ → List ℤ) (rs : List (List ℤ × List ℤ)) → flat_map both_of (map (λ r. (w r.0, w r.1)) rs) ≡ map w (flat_map both_of rs)
 flat_map_map w [] = refl
 flat_map_map w (r ∷ rs) = ap (λ (t : List (List ℤ)). w r.0 ∷ w r.1 ∷ t) (flat_map_map w rs)
 

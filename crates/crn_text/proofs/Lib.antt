@@ -12,3 +12,5 @@ pub mod LinesRead
 pub mod Widening
 pub mod Texts
 pub mod Complexes
+pub mod Exclusions
+pub mod Spelled

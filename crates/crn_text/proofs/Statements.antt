@@ -70,7 +70,7 @@ in_back : (name : List ℕ) (xs ys : List (List ℕ)) → IsIn name ys → IsIn 
 in_back name [] ys i = i
 in_back name (x ∷ xs) ys i = inr (in_back name xs ys i)
 
-self_same : (s : Statement) → is_self s ≡ true → SaysSame s
+pub self_same : (s : Statement) → is_self s ≡ true → SaysSame s
 self_same s h = λ name.
     elim (has_name s.0 name) [
       | inl i ↦ same_of s (names_in s) h name (in_front name (map (λ t. t.0) s.0) (map (λ t. t.0) s.1) i)

@@ -23,7 +23,7 @@ flat_push : (ss : List (List (List ℕ × ℕ) × List (List ℕ × ℕ))) (s : 
 flat_push [] s = append-nil (names_in s)
 flat_push (x ∷ ss) s = ap (λ (t : List (List ℕ)). names_in x ++ t) (flat_push ss s) ∙ sym (append_assoc (names_in x) (all_names ss) (names_in s))
 
-in_all : (ss : List (List (List ℕ × ℕ) × List (List ℕ × ℕ))) (s : List (List ℕ × ℕ) × List (List ℕ × ℕ)) (name : List ℕ) → IsIn s ss → IsIn name (names_in s) → IsIn name (all_names ss)
+pub in_all : (ss : List (List (List ℕ × ℕ) × List (List ℕ × ℕ))) (s : List (List ℕ × ℕ) × List (List ℕ × ℕ)) (name : List ℕ) → IsIn s ss → IsIn name (names_in s) → IsIn name (all_names ss)
 in_all [] s name h i = absurd h
 in_all (x ∷ ss) s name (inl e) i = in_left name (names_in x) (all_names ss) (subst (λ (u : List (List ℕ × ℕ) × List (List ℕ × ℕ)). IsIn name (names_in u)) e i)
 in_all (x ∷ ss) s name (inr h) i = in_right name (names_in x) (all_names ss) (in_all ss s name h i)
@@ -46,7 +46,7 @@ apart_of (x ∷ names) more name d i (inr j) = apart_of names more name d.1 i j
 abbrev pair_of : List ℤ → List ℤ → List ℤ × List ℤ
 pair_of a b = (a, b)
 
-said_widened : (names more : List (List ℕ)) (s : List (List ℕ × ℕ) × List (List ℕ × ℕ)) → AreDistinct (names ++ more) → ((name : List ℕ) → IsIn name (names_in s) → IsIn name names) → both_widened (length (names ++ more)) (said_by names s) ≡ said_by (names ++ more) s
+pub said_widened : (names more : List (List ℕ)) (s : List (List ℕ × ℕ) × List (List ℕ × ℕ)) → AreDistinct (names ++ more) → ((name : List ℕ) → IsIn name (names_in s) → IsIn name names) → both_widened (length (names ++ more)) (said_by names s) ≡ said_by (names ++ more) s
 said_widened names more s d h =
     ap₂ pair_of
     (side_widened names more s.0 (λ name i j. apart_of names more name d i (h name (in_left name (map (λ t. t.0) s.0) (map (λ t. t.0) s.1) j))))
@@ -59,7 +59,7 @@ append_same [] (y ∷ b) c d l e = absurd (omega (arith, l))
 append_same (x ∷ a) [] c d l e = absurd (omega (arith, l))
 append_same (x ∷ a) (y ∷ b) c d l e = let rest : a ++ c ≡ b ++ d = cc in let less : length a ≡ length b = omega (arith, l) in let same : a ≡ b = append_same a b c d less rest in let heads : x ≡ y = cc in cc
 
-wide_test : (names : List (List ℕ)) (m : ℕ) (s t : List (List ℕ × ℕ) × List (List ℕ × ℕ)) → sides_eq (both_widened m (said_by names s)) (both_widened m (said_by names t)) ≡ sides_eq (said_by names s) (said_by names t)
+pub wide_test : (names : List (List ℕ)) (m : ℕ) (s t : List (List ℕ × ℕ) × List (List ℕ × ℕ)) → sides_eq (both_widened m (said_by names s)) (both_widened m (said_by names t)) ≡ sides_eq (said_by names s) (said_by names t)
 wide_test names m s t =
     let long = λ (side : List (List ℕ × ℕ)). length-map names (λ name. pos (amount_in side name)) in
     same_test (sides_eq (both_widened m (said_by names s)) (both_widened m (said_by names t))) (sides_eq (said_by names s) (said_by names t)) (both_widened m (said_by names s) ≡ both_widened m (said_by names t)) (said_by names s ≡ said_by names t)

@@ -2,6 +2,7 @@
 #![tactic(auto)]
 
 mod code;
+mod laws;
 mod line;
 mod reader;
 mod side;
@@ -12,5 +13,6 @@ mod token;
 mod writer;
 
 pub use code::{TextCode, TextFault};
+pub use laws::{first_fault_is_one, spelled_text_has_no_fault};
 pub use reader::read;
 pub use writer::{write, write_side};

@@ -1,5 +1,7 @@
-use crate::{TextCode, TextFault, read, write};
+use crate::{read, write};
 use crn_io::QuietSink;
+use itoa::Buffer;
+use std::alloc::AllocError;
 use std::test::Fail;
 
 // Reads a text, and gives the line and the number of its fault, or line 0 and 0.
@@ -89,4 +91,143 @@ fn the_first_fault_is_the_answer(rt: HostRuntime) {
     for (name, text, want) in cases {
         assert_eq!(rt; refusal(&rt, text), want, "{name}");
     }
+}
+
+#[test]
+fn the_canonical_text_is_that_of_the_network(rt: HostRuntime) -> Result<(), Fail> {
+    let cases = [
+        ("one reaction", b"A -> B".as_slice(), b"A -> B\n".as_slice()),
+        (
+            "a repeat by amounts",
+            b"A+A->B\r\n2A -> B\r\n",
+            b"2A -> B\n",
+        ),
+        (
+            "both ways and the zero complex",
+            b"  3X+2Y<->  0 # x",
+            b"3X + 2Y -> 0\n0 -> 3X + 2Y\n",
+        ),
+        ("the greatest amount", b"A -> 99B", b"A -> 99B\n"),
+        ("zeros are one zero", b"00 -> A", b"0 -> A\n"),
+        ("zeros before a number", b"007A -> B", b"7A -> B\n"),
+        ("a number apart from its name", b"2\tA -> B", b"2A -> B\n"),
+        ("a name that ends in a digit", b"99X2 -> 0", b"99X2 -> 0\n"),
+        ("an underscore", b"_->b_1", b"_ -> b_1\n"),
+        (
+            "the species of a side in order",
+            b"A -> B + C\nC + B -> A",
+            b"A -> B + C\nB + C -> A\n",
+        ),
+        (
+            "lines without statements",
+            b"\n # c\nA -> B\n\t\nB -> A",
+            b"A -> B\nB -> A\n",
+        ),
+        (
+            "a reaction that is there already",
+            b"A <-> B\nB -> A\n",
+            b"A -> B\nB -> A\n",
+        ),
+        (
+            "a name of 32 bytes",
+            b"aaaaaaaaaaaaaaaaaaaaaaaaaaaaaaaa -> 0",
+            b"aaaaaaaaaaaaaaaaaaaaaaaaaaaaaaaa -> 0\n",
+        ),
+    ];
+    for (name, text, want) in cases {
+        let net = match read(rt.alloc(), text) {
+            Ok(net) => net,
+            Err(fault) => panic!(&rt; "{name}: {fault}"),
+        };
+        let mut sink = QuietSink::new(rt.alloc(), 100)?;
+        assert_eq!(rt; write(&net, &mut sink).is_ok(), true, "{name}");
+        assert_eq!(rt; sink.bytes(), want, "{name}");
+    }
+    Ok(())
+}
+
+// A number and a name, or `0` where the number is zero.
+fn put_amount(text: &mut Vec<u8>, amount: u32, name: &[u8]) -> Result<(), AllocError> {
+    let mut buffer = Buffer::new();
+    text.extend_from_slice(buffer.format(amount).as_bytes())?;
+    if amount != 0 {
+        text.extend_from_slice(name)?;
+    }
+    Ok(())
+}
+
+// The line from one amount of A to another.
+fn put_line(text: &mut Vec<u8>, from: u32, arrow: &[u8], to: u32) -> Result<(), AllocError> {
+    put_amount(text, from, b"A")?;
+    text.extend_from_slice(arrow)?;
+    put_amount(text, to, b"A")?;
+    text.extend_from_slice(b"\n")
+}
+
+#[test]
+fn a_hundred_complexes_are_the_most(rt: HostRuntime) -> Result<(), Fail> {
+    let mut text = Vec::new(rt.alloc());
+    for i in 0..99 {
+        put_line(&mut text, i, b" -> ", i + 1)?;
+    }
+    assert_eq!(rt; refusal(&rt, &text), (0, 0));
+    text.extend_from_slice(b"B -> 0\n")?;
+    assert_eq!(rt; refusal(&rt, &text), (100, 3));
+    Ok(())
+}
+
+#[test]
+fn a_hundred_and_twenty_reactions_are_the_most(rt: HostRuntime) -> Result<(), Fail> {
+    let mut text = Vec::new(rt.alloc());
+    for i in 0..11 {
+        for j in 0..11 {
+            if i != j {
+                put_line(&mut text, i, b" -> ", j)?;
+            }
+        }
+    }
+    for j in 0..9 {
+        put_line(&mut text, 11, b" -> ", j)?;
+    }
+    assert_eq!(rt; refusal(&rt, &text), (0, 0));
+    put_line(&mut text, 9, b" <-> ", 11)?;
+    assert_eq!(rt; refusal(&rt, &text), (120, 4));
+    Ok(())
+}
+
+// The sum of so many species, all different, and its decay.
+fn put_species(text: &mut Vec<u8>, count: u32) -> Result<(), AllocError> {
+    for s in 0..count {
+        let mut buffer = Buffer::new();
+        if s != 0 {
+            text.extend_from_slice(b"+")?;
+        }
+        text.extend_from_slice(b"S")?;
+        text.extend_from_slice(buffer.format(s).as_bytes())?;
+    }
+    text.extend_from_slice(b" -> 0\n")
+}
+
+#[test]
+fn forty_species_are_the_most(rt: HostRuntime) -> Result<(), Fail> {
+    let mut text = Vec::new(rt.alloc());
+    put_species(&mut text, 40)?;
+    assert_eq!(rt; refusal(&rt, &text), (0, 0));
+    text.clear();
+    put_species(&mut text, 41)?;
+    assert_eq!(rt; refusal(&rt, &text), (1, 2));
+    Ok(())
+}
+
+#[test]
+fn a_text_has_no_more_bytes_than_the_limit(rt: HostRuntime) -> Result<(), Fail> {
+    let mut text = Vec::new(rt.alloc());
+    text.extend_from_slice(b"A -> B\n#")?;
+    for _ in 0..2_097_144 {
+        text.push(b' ')?;
+    }
+    assert_eq!(rt; refusal(&rt, &text), (0, 0));
+    text.push(b' ')?;
+    assert_eq!(rt; refusal(&rt, &text), (0, 19));
+    Ok(())
 }
