@@ -21,10 +21,10 @@ use Rattle.crn_text.proofs.Lists.{one_more, list_any-map, split_more}
 
 -- ---- lists with one element that passes
 
-count_yes : {X : Type 0} (p : X → Bool) (x : X) (xs : List X) → p x ≡ true → count_by p (x ∷ xs) ≡ 1 + count_by p xs
+pub count_yes : {X : Type 0} (p : X → Bool) (x : X) (xs : List X) → p x ≡ true → count_by p (x ∷ xs) ≡ 1 + count_by p xs
 count_yes p x xs h = sum_by-cons (λ x. cond (p x) 1 0) x xs ∙ rw h refl
 
-count_no : {X : Type 0} (p : X → Bool) (x : X) (xs : List X) → p x ≡ false → count_by p (x ∷ xs) ≡ count_by p xs
+pub count_no : {X : Type 0} (p : X → Bool) (x : X) (xs : List X) → p x ≡ false → count_by p (x ∷ xs) ≡ count_by p xs
 count_no p x xs h = sum_by-cons (λ x. cond (p x) 1 0) x xs ∙ rw h (omega arith)
 
 count_map : {X Y : Type 0} (p : Y → Bool) (f : X → Y) (xs : List X) → count_by p (map f xs) ≡ count_by (λ x. p (f x)) xs
@@ -39,7 +39,7 @@ none_passes q r imp (x ∷ xs) h =
       | inr n ↦ let m = imp x n in rw m (none_passes q r imp xs (sym (count_no q x xs n) ∙ h))
     ]
 
-split_count : {X Y : Type 0} (p : Y → Bool) (f : X → Y) (xs : List X) → count_by (λ x. p (f x)) xs ≡ 0 → slice_split p (map f xs) ≡ map f xs ∷ []
+pub split_count : {X Y : Type 0} (p : Y → Bool) (f : X → Y) (xs : List X) → count_by (λ x. p (f x)) xs ≡ 0 → slice_split p (map f xs) ≡ map f xs ∷ []
 split_count p f [] h = refl
 split_count p f (x ∷ xs) h =
     elim (cases_Bool (p (f x))) [
@@ -52,7 +52,7 @@ pub record Parted {X : Type 0} (q r : X → Bool) (xs : List X) (a : X) (right :
   pub count : count_by q xs ≡ 1 + count_by q right
   pub any : list_any r xs ≡ (r a || list_any r right)
 
-parted : {X : Type 0} (q r : X → Bool) → ((x : X) → q x ≡ false → r x ≡ false) → (xs : List X) (a : X) (right : List X) → drop (prefix_len (λ x. not (q x)) xs) xs ≡ a ∷ right → Parted q r xs a right
+pub parted : {X : Type 0} (q r : X → Bool) → ((x : X) → q x ≡ false → r x ≡ false) → (xs : List X) (a : X) (right : List X) → drop (prefix_len (λ x. not (q x)) xs) xs ≡ a ∷ right → Parted q r xs a right
 parted q r imp [] a right h = absurd cc
 parted {X} q r imp (x ∷ xs) a right h =
     elim (cases_Bool (q x)) [

@@ -1,9 +1,8 @@
 -- First faults exclude one another, and exclude networks.
-use Rattle.std.proofs.Common.{◌≡◌, ℕ, ◌+◌, ◌<◌, ◌≤◌, List, [], length, get_or, Option, Some, None, refl, sym, ap, ap₂, ◌∙◌, inl, inr, arith}
-use Rattle.std.specs.Prelude.{◌⊎◌}
+use Rattle.std.proofs.Common.{◌≡◌, ℕ, ◌+◌, List, Option, Some, None, sym, ap, ◌∙◌, inl, inr, arith}
 use Rattle.std.proofs.lemmas.Bool.{cases_order}
 use Rattle.crn_text.specs.Tokens.{lines}
-use Rattle.crn_text.specs.Spells.{Spells, Fault, fault_on, IsTooLong, IsFirstFault, IsWithoutReaction}
+use Rattle.crn_text.specs.Spells.{Fault, fault_on}
 use Rattle.crn_text.specs.declared.code.TextCode.{TextCode}
 
 -- a line has no fault and a fault

@@ -14,3 +14,4 @@ pub mod Texts
 pub mod Complexes
 pub mod Exclusions
 pub mod Spelled
+pub mod Grammar

@@ -1,6 +1,6 @@
 -- A text that spells a network has no fault.
-use Rattle.std.proofs.Common.{◌≡◌, ℕ, zero, suc, ◌+◌, ◌<◌, ◌≤◌, Bool, true, false, List, [], ◌∷◌, ◌++◌, length, take, drop, get_or, map, Option, Some, None, refl, sym, ap, ap₂, subst, ◌∙◌, append_assoc, inl, inr, arith}
-use Rattle.std.specs.Prelude.{ℤ, pos, nat_lt, ◌⊎◌}
+use Rattle.std.proofs.Common.{◌≡◌, ℕ, zero, suc, ◌<◌, ◌≤◌, Bool, false, List, [], ◌∷◌, ◌++◌, length, take, drop, get_or, map, None, refl, sym, ap, ap₂, subst, ◌∙◌, append_assoc, inl, inr, arith}
+use Rattle.std.specs.Prelude.{ℤ, pos, nat_lt}
 use Rattle.std.specs.Bool.{Decides}
 use Rattle.std.specs.List.{AllByRecursion, flat_map}
 use Rattle.std.specs.Str.{bytes_eq}
@@ -11,17 +11,17 @@ use Rattle.std.proofs.lemmas.Slice.Eq.{bytes_eq-Decides}
 use Rattle.std.proofs.lemmas.List.{append-nil, length-map, map-append}
 use Rattle.crn_vec.specs.Lists.{IsIn, AreDistinct, firsts}
 use Rattle.crn_vec.specs.Network.{Net, IsNetwork, Statement, JoinsTwo, sides_of, sides_eq, said_by, names_in, amount_in, amounts_in}
-use Rattle.crn_vec.specs.declared.limits.TheConstants.{MAX_SPECIES, MAX_COMPLEXES, MAX_REACTIONS, MAX_TEXT}
+use Rattle.crn_vec.specs.declared.limits.TheConstants.{MAX_SPECIES, MAX_COMPLEXES, MAX_REACTIONS}
 use Rattle.crn_net.specs.Grows.{widened, both_widened}
 use Rattle.crn_net.specs.Steps.{SaysSame}
-use Rattle.crn_net.proofs.Lists.{in_left, in_right, in_map, map_in, map_same, map_twice, all_in, same_place}
+use Rattle.crn_net.proofs.Lists.{in_right, in_map, map_in, map_same, map_twice, all_in, same_place}
 use Rattle.crn_net.proofs.Firsts.{firsts_distinct, firsts_has, firsts_map, firsts_front, firsts_length}
 use Rattle.crn_net.proofs.Members.{row_decides}
 use Rattle.crn_net.proofs.Growth.{sides_decide}
 use Rattle.crn_net.proofs.Rows.{same_test}
 use Rattle.crn_text.specs.Tokens.{lines}
 use Rattle.crn_text.specs.Sides.{said, all_said}
-use Rattle.crn_text.specs.Faults.{own_fault, line_fault, or_else, statement_fault, statements_fault, limits_fault, is_self, names_of, reactions_of, complexes_of, both_of}
+use Rattle.crn_text.specs.Faults.{own_fault, statement_fault, statements_fault, is_self, names_of, reactions_of, complexes_of, both_of}
 use Rattle.crn_text.specs.Spells.{Spells, Fault, fault_on}
 use Rattle.crn_text.specs.declared.code.TextCode.{TextCode}
 use Rattle.crn_text.proofs.Widening.{said_widened, wide_test, in_all}

@@ -44,5 +44,6 @@ complex_text net c = side net.names (slice_index_or net.complexes c [])
 abbrev pub reaction_line : Net → ℕ × ℕ → List ℕ
 reaction_line net r = complex_text net r.0 ++ codes " -> " ++ complex_text net r.1 ++ codes "\n"
 
+-- the lines of the reactions in order
 abbrev pub canonical : Net → List ℕ
 canonical net = flat_map (reaction_line net) net.reactions

@@ -6,6 +6,7 @@ use Rattle.crn_net.specs.declared.fault.NetFault.TheVariants as net
 use Rattle.crn_text.specs.declared.code.TextCode.{TextCode}
 use Rattle.crn_text.specs.declared.code.TextCode.TheVariants.{SelfReaction, TooManySpecies, TooManyComplexes, TooManyReactions, NoReaction, NoMemory, NotAscii, NoArrow, EmptySide, BadName, NameTooLong, ZeroCoefficient, CoefficientTooLarge, StrayMark, TextTooLong}
 
+-- the number of a refusal
 abbrev pub code_number : TextCode → ℕ
 code_number SelfReaction = 1
 code_number TooManySpecies = 2
@@ -23,6 +24,7 @@ code_number CoefficientTooLarge = 17
 code_number StrayMark = 18
 code_number TextTooLong = 19
 
+-- the name of a refusal
 abbrev pub code_name : TextCode → List ℕ
 code_name SelfReaction = codes "SelfReaction"
 code_name TooManySpecies = codes "TooManySpecies"

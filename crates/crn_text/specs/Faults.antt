@@ -13,6 +13,7 @@ use Rattle.crn_text.specs.Sides.{is_arrow, is_stray, is_side, terms_of, sides, p
 use Rattle.crn_text.specs.declared.code.TextCode.{TextCode}
 use Rattle.crn_text.specs.declared.code.TextCode.TheVariants.{SelfReaction, TooManySpecies, TooManyComplexes, TooManyReactions, NotAscii, NoArrow, EmptySide, BadName, NameTooLong, ZeroCoefficient, CoefficientTooLarge, StrayMark}
 
+-- the list has no member
 abbrev pub is_empty : {A : Type 0} → List A → Bool
 is_empty [] = true
 is_empty (x ∷ xs) = false
@@ -39,15 +40,17 @@ has_zero side = list_any (λ t. t.1 == 0) side
 abbrev pub has_large : List (List ℕ × ℕ) → Bool
 has_large side = list_any (λ t. nat_lt MAX_AMOUNT t.1 || nat_lt MAX_AMOUNT (amount_in side t.0)) side
 
+-- the first test of names and numbers that the sides fail
 abbrev pub terms_fault : List (List (List ℕ × ℕ)) → Option TextCode
 terms_fault ss =
     if list_any has_long_name ss then Some NameTooLong else (if list_any has_zero ss then Some ZeroCoefficient else (if list_any has_large ss then Some CoefficientTooLarge else None))
 
+-- the first test that the sides fail: an empty place, a place that holds no term, a name or a number
 abbrev pub sides_fault : List (List Word) → Option TextCode
 sides_fault ss =
     if list_any has_empty_place ss then Some EmptySide else (if list_any (λ s. not (is_side s)) ss then Some BadName else terms_fault (map terms_of ss))
 
--- a stray mark, or two arrows or more; no token at all; no arrow; what is wrong with the sides
+-- the first test that the tokens fail: a stray mark or a second arrow, no arrow, a side; no token at all is no fault
 abbrev pub words_fault : List Word → Option TextCode
 words_fault ws =
     if list_any is_stray ws || nat_lt 1 (count_by is_arrow ws) then Some StrayMark else (if is_empty ws then None else (if count_by is_arrow ws == 0 then Some NoArrow else sides_fault (sides ws)))
@@ -80,12 +83,12 @@ is_self s = list_all (λ name. amount_in s.0 name == amount_in s.1 name) (names_
 
 -- ---- tests of a line with those before it
 
--- the limits of a network
+-- the first limit that the statements pass together
 abbrev pub limits_fault : List Statement → Option TextCode
 limits_fault ss =
     if nat_lt MAX_SPECIES (length (names_of ss)) then Some TooManySpecies else (if nat_lt MAX_COMPLEXES (length (complexes_of ss)) then Some TooManyComplexes else (if nat_lt MAX_REACTIONS (length (reactions_of ss)) then Some TooManyReactions else None))
 
--- a statement behind these
+-- the first test that a statement fails behind these
 unfoldable pub statement_fault : List Statement → Statement → Option TextCode
 statement_fault before s = if is_self s then Some SelfReaction else limits_fault (before ++ s ∷ [])
 
@@ -94,7 +97,7 @@ abbrev pub or_else : Option TextCode → Option TextCode → Option TextCode
 or_else (Some code) other = Some code
 or_else None other = other
 
--- the statements of a line one after the other
+-- the first test that these statements fail, taken one after the other
 abbrev pub statements_fault : List Statement → List Statement → Option TextCode
 statements_fault before [] = None
 statements_fault before (s ∷ ss) = or_else (statement_fault before s) (statements_fault (before ++ s ∷ []) ss)

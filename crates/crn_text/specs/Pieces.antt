@@ -26,6 +26,7 @@ use Rattle.crn_text.specs.declared.side.TheConstants.{LARGE}
 abbrev pub word_of : List ℕ → Token → Word
 word_of code t = word t.kind (take t.length (drop t.at code))
 
+-- the tokens with their bytes
 abbrev pub words_of : List ℕ → List Token → List Word
 words_of code ts = map (word_of code) ts
 
@@ -34,6 +35,7 @@ pub record IsToken (code : List ℕ) (t : Token) : Type 0 where
   pub inside : t.at + t.length ≤ length code
   pub named : IsTrue (is_name (word_of code t)) → IsTrue (begins_name (word_of code t).text)
 
+-- each stands in the code
 abbrev pub AreTokens : List ℕ → List Token → Type 0
 AreTokens code ts = AllByRecursion (IsToken code) ts
 
@@ -56,6 +58,7 @@ abbrev pub places_left : List ℕ → Option (Bor (List Token)) → List (List W
 places_left code None = []
 places_left code (Some rest) = places (words_of code rest.now)
 
+-- each of those that are left stands in the code
 abbrev pub AreTokensLeft : List ℕ → Option (Bor (List Token)) → Type 0
 AreTokensLeft code None = Unit {0}
 AreTokensLeft code (Some rest) = AreTokens code rest.now
@@ -75,6 +78,7 @@ pub record IsSpelled (code : List ℕ) (t : Term) : Type 0 where
   pub inside : t.at + t.length ≤ length code
   pub named : IsTrue (begins_name (name_at code t))
 
+-- each stands in the code and begins as a name
 abbrev pub AreSpelled : List ℕ → List Term → Type 0
 AreSpelled code terms = AllByRecursion (IsSpelled code) terms
 
@@ -143,6 +147,7 @@ abbrev pub StatementGives : List Statement → Statement → Result Unit TextCod
 StatementGives before s (Ok done) new = (statement_fault before s ≡ None) × Grown (before ++ s ∷ []) new
 StatementGives before s (Err fault) new = (fault ≡ NoMemory) ⊎ (statement_fault before s ≡ Some fault)
 
+-- these statements join those before them in the network, or have their first fault
 abbrev pub StatementsGive : List Statement → List Statement → Result Unit TextCode → Net → Type 0
 StatementsGive before ss (Ok done) new = (statements_fault before ss ≡ None) × Grown (before ++ ss) new
 StatementsGive before ss (Err fault) new = (fault ≡ NoMemory) ⊎ (statements_fault before ss ≡ Some fault)

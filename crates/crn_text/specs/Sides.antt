@@ -1,6 +1,6 @@
 -- What the tokens of a line say: sides of terms, and statements.
 -- The rules are this project's own. Shapes: a side is a list of names with numbers.
-use Rattle.std.specs.Prelude.{ℕ, ◌+◌, ◌-◌, ◌*◌, ◌==◌, ◌&&◌, ◌||◌, Bool, true, false, if◌then◌else◌, List, [], ◌∷◌, map}
+use Rattle.std.specs.Prelude.{◌≡◌, ℕ, ◌+◌, ◌-◌, ◌*◌, ◌==◌, ◌&&◌, ◌||◌, Bool, true, false, IsTrue, if◌then◌else◌, List, [], ◌∷◌, ◌++◌, map}
 use Rattle.std.specs.List.{slice_split, list_any, list_all, flat_map}
 use Rattle.crn_vec.specs.Network.{Statement}
 use Rattle.crn_text.specs.Tokens.{Word, words, before_comment}
@@ -9,37 +9,46 @@ use Rattle.crn_text.specs.declared.token.Kind.TheVariants.{Number, Name, Plus, A
 
 -- ---- kinds
 
+-- the kind of numbers
 abbrev pub is_number_kind : Kind → Bool
 is_number_kind Number = true
 is_number_kind kind = false
 
+-- the kind of names
 abbrev pub is_name_kind : Kind → Bool
 is_name_kind Name = true
 is_name_kind kind = false
 
+-- the kind of plus signs
 abbrev pub is_plus_kind : Kind → Bool
 is_plus_kind Plus = true
 is_plus_kind kind = false
 
+-- the kinds of arrows, of one way and of both
 abbrev pub is_arrow_kind : Kind → Bool
 is_arrow_kind Arrow = true
 is_arrow_kind BothWays = true
 is_arrow_kind kind = false
 
+-- the kind of arrows of both ways
 abbrev pub is_both_kind : Kind → Bool
 is_both_kind BothWays = true
 is_both_kind kind = false
 
+-- the kind of stray marks
 abbrev pub is_stray_kind : Kind → Bool
 is_stray_kind Stray = true
 is_stray_kind kind = false
 
+-- the token is a number
 abbrev pub is_number : Word → Bool
 is_number w = is_number_kind w.kind
 
+-- the token is a name
 abbrev pub is_name : Word → Bool
 is_name w = is_name_kind w.kind
 
+-- the token is a plus sign
 abbrev pub is_plus : Word → Bool
 is_plus w = is_plus_kind w.kind
 
@@ -51,6 +60,7 @@ is_arrow w = is_arrow_kind w.kind
 abbrev pub is_both : Word → Bool
 is_both w = is_both_kind w.kind
 
+-- the token is a stray mark
 abbrev pub is_stray : Word → Bool
 is_stray w = is_stray_kind w.kind
 
@@ -115,6 +125,7 @@ joined both [] = []
 joined both (x ∷ []) = []
 joined both (x ∷ y ∷ z ∷ more) = []
 
+-- the statements that the tokens of a line say
 abbrev pub statements_of : List Word → List Statement
 statements_of ws = joined (list_any is_both ws) (map terms_of (sides ws))
 
@@ -125,3 +136,13 @@ said line = statements_of (words (before_comment line))
 -- the statements of these lines in order
 abbrev pub all_said : List (List ℕ) → List Statement
 all_said ls = flat_map said ls
+
+-- the tokens of a line are a side, an arrow and a side
+pub record IsStatementLine (ws : List Word) : Type 0 where
+  pub left : List Word
+  pub arrow : Word
+  pub right : List Word
+  pub tokens : ws ≡ left ++ arrow ∷ right
+  pub joins : IsTrue (is_arrow arrow)
+  pub reactant : IsTrue (is_side left)
+  pub product : IsTrue (is_side right)

@@ -20,6 +20,7 @@ before_comment line = take_while (λ b. not (b == 35)) (strip_carriage_return li
 abbrev pub is_blank : ℕ → Bool
 is_blank b = b == 32 || b == 9
 
+-- a decimal digit
 abbrev pub is_digit : ℕ → Bool
 is_digit b = nat_le 48 b && nat_le b 57
 

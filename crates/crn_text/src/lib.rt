@@ -1,6 +1,7 @@
 //! Network texts: the network that a text spells, or its first fault, and the canonical text of a network.
 #![tactic(auto)]
 
+mod check;
 mod code;
 mod laws;
 mod line;
@@ -13,6 +14,6 @@ mod token;
 mod writer;
 
 pub use code::{TextCode, TextFault};
-pub use laws::{first_fault_is_one, spelled_text_has_no_fault};
+pub use laws::{first_fault_is_one, sound_line_is_a_statement, spelled_text_has_no_fault};
 pub use reader::read;
 pub use writer::{write, write_side};

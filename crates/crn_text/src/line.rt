@@ -1,4 +1,4 @@
-ghost use Rattle.std.specs.Prelude.{◌≡◌, ◌≤◌, ◌||◌, ◌==◌, nat_lt, false, IfOk, IsTrue, ℕ, List, length, not};
+ghost use Rattle.std.specs.Prelude.{◌≡◌, ◌≤◌, ◌||◌, ◌==◌, nat_lt, ℕ, List, length, not};
 ghost use Rattle.std.specs.List.{list_any, list_all, count_by, prefix_len};
 ghost use Rattle.std.specs.Str.Lines.{strip_carriage_return};
 ghost use Rattle.crn_vec.specs.Network.{Statement};
@@ -6,15 +6,15 @@ ghost use Rattle.crn_net.specs.Terms.{side_of, statement_of, IsSide};
 ghost use Rattle.crn_net.specs.Grows.{Grown};
 ghost use Rattle.crn_text.specs.Tokens.{before_comment};
 ghost use Rattle.crn_text.specs.Sides.{is_stray_kind, is_arrow_kind, by_arrow};
-ghost use Rattle.crn_text.specs.Faults.{is_plain, has_empty_place, has_large};
-ghost use Rattle.crn_text.specs.Pieces.{AreTokens, AreSpelled, HasSmallNumbers, HasSmallSums, words_of, ReadsBoth, ReadsSides, ChecksTerms, StatementGives, StatementsGive, WordsGive, LineGives};
+ghost use Rattle.crn_text.specs.Faults.{is_plain, has_empty_place};
+ghost use Rattle.crn_text.specs.Pieces.{AreTokens, words_of, ReadsBoth, ReadsSides, StatementGives, StatementsGive, WordsGive, LineGives};
 
+use crate::check::check_terms;
 use crate::code::TextCode;
 use crate::side::{lacks_term, read_terms};
-use crate::sums::sums_fit;
 use crate::token::{Token, read_tokens};
-use crn_net::{MAX_TERMS, NetBuilder, Term};
-use crn_vec::{MAX_AMOUNT, MAX_NAME, MAX_TEXT};
+use crn_net::{NetBuilder, Term};
+use crn_vec::MAX_TEXT;
 use std::alloc::{AllocError, Global};
 
 // The line without a CR at its end.
@@ -79,85 +79,6 @@ fn before_arrow(tokens: &[Token]) -> usize
     ensures { result ≡ prefix_len (λ t. not (is_arrow_kind t.kind)) tokens.now }
 {
     tokens.iter().take_while(|t| !t.is_arrow()).count()
-}
-
-fn has_long_names(side: &[Term]) -> bool
-    ensures { result ≡ list_any (λ t. nat_lt MAX_NAME t.length) side.now }
-{
-    side.iter().any(|t| t.length as usize > MAX_NAME)
-}
-
-fn has_zeros(side: &[Term]) -> bool
-    ensures { result ≡ list_any (λ t. t.count == 0) side.now }
-{
-    side.iter().any(|t| t.count == 0)
-}
-
-fn has_large_numbers(side: &[Term]) -> bool
-    ensures { result ≡ list_any (λ t. nat_lt MAX_AMOUNT t.count) side.now }
-{
-    side.iter().any(|t| t.count > MAX_AMOUNT)
-}
-
-fn have_long_names(left: &[Term], right: &[Term]) -> bool
-    ensures { result ≡ (list_any (λ t. nat_lt MAX_NAME t.length) left.now || list_any (λ t. nat_lt MAX_NAME t.length) right.now) }
-{
-    has_long_names(left) || has_long_names(right)
-}
-
-fn have_zeros(left: &[Term], right: &[Term]) -> bool
-    ensures { result ≡ (list_any (λ t. t.count == 0) left.now || list_any (λ t. t.count == 0) right.now) }
-{
-    has_zeros(left) || has_zeros(right)
-}
-
-fn have_large_numbers(left: &[Term], right: &[Term]) -> bool
-    ensures { result ≡ (list_any (λ t. nat_lt MAX_AMOUNT t.count) left.now || list_any (λ t. nat_lt MAX_AMOUNT t.count) right.now) }
-{
-    has_large_numbers(left) || has_large_numbers(right)
-}
-
-// Whether no name has a sum on one of the sides that passes the limit of an amount.
-fn all_sums_fit(
-    alloc: Global,
-    code: &[u8],
-    left: &[Term],
-    right: &[Term],
-) -> Result<bool, AllocError>
-    requires left { AreSpelled code.now left.now }
-    requires right { AreSpelled code.now right.now }
-    requires small_left { HasSmallNumbers left.now }
-    requires small_right { HasSmallNumbers right.now }
-    ensures yes { IfOk result (λ fit. IsTrue fit → HasSmallSums code.now left.now × HasSmallSums code.now right.now) }
-    ensures no { IfOk result (λ fit. fit ≡ false → IsTrue (has_large (side_of code.now left.now) || has_large (side_of code.now right.now))) }
-{
-    if !sums_fit(alloc, code, left)? {
-        return Ok(false);
-    }
-    sums_fit(alloc, code, right)
-}
-
-// The first test of names and numbers that one of the sides fails.
-fn check_terms(alloc: Global, code: &[u8], left: &[Term], right: &[Term]) -> Result<(), TextCode>
-    requires left { AreSpelled code.now left.now }
-    requires right { AreSpelled code.now right.now }
-    requires few_left { length left.now ≤ MAX_TERMS }
-    requires few_right { length right.now ≤ MAX_TERMS }
-    ensures { ChecksTerms code.now left.now right.now result }
-{
-    if have_long_names(left, right) {
-        return Err(TextCode::NameTooLong);
-    }
-    if have_zeros(left, right) {
-        return Err(TextCode::ZeroCoefficient);
-    }
-    if have_large_numbers(left, right) {
-        return Err(TextCode::CoefficientTooLarge);
-    }
-    if !all_sums_fit(alloc, code, left, right)? {
-        return Err(TextCode::CoefficientTooLarge);
-    }
-    Ok(())
 }
 
 // Adds the reaction of a statement. An error is the first test that the statement fails.

@@ -1,6 +1,6 @@
 use Rattle.std.proofs.Common.{sym, ◌∙◌, inr, rules}
 use Rattle.crn_text.proofs.Checks.{fault_long, fault_zero, fault_large, large_numbers, small_left, small_right, checks_all}
-use Rattle.crn_text.proofs.line.check_terms.Goals as goal
+use Rattle.crn_text.proofs.check.check_terms.Goals as goal
 
 pub returns-then-have_long_names : goal.returns-then-have_long_names
 returns-then-have_long_names c = inr (fault_long c.args.code.now c.args.left.now c.args.right.now c.requires.left c.requires.right (sym c.have_long_names.ensures ∙ c.if-have_long_names.true))
