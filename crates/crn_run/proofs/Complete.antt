@@ -3,10 +3,14 @@ use Rattle.std.proofs.Common.{◌≡◌, ◌⊎◌, ℕ, ◌≤◌, List, length
 use Rattle.std.specs.Prelude.{IfSome}
 use Rattle.crn_io.specs.Push.{HasNoRoom}
 use Rattle.crn_vec.specs.Linkage.{AreRightLabels, IsLabelCount}
-use Rattle.crn_run.specs.Plain.{Spells, IsRefused}
+use Rattle.crn_text.specs.Codes.{code_number, code_name}
+use Rattle.crn_text.specs.Spells.{Spells, Fault}
+use Rattle.crn_text.specs.declared.code.TextCode.{TextCode}
+use Rattle.crn_text.proofs.Exclusions.{one_fault}
+use Rattle.crn_text.proofs.Spelled.{no_fault}
 use Rattle.crn_run.specs.Report.{render}
 use Rattle.crn_run.specs.Run.{Devices, WasLeft, IsReportOf, IsRefusalOf, IsAllowed, refused_line, RunGives, TellsNetwork, TellsFault, IsComplete, IsQuiet}
-use Rattle.crn_run.proofs.CallerLemmas.{spelling_unique, refused_once, spelled_not_refused}
+use Rattle.crn_run.proofs.CallerLemmas.{spelling_unique}
 use Rattle.crn_run.proofs.LabelLaws.{one_labels, one_count}
 use Rattle.crn_run.specs.declared.status.Status.{Status}
 use Rattle.crn_run.specs.declared.status.Status.TheVariants.{Done, OpenLeft, Refused, Rejected, Usage, ReadFault, WriteFault, NoMemory}
@@ -15,7 +19,7 @@ use Rattle.crn_run.specs.declared.status.Status.TheVariants.{Done, OpenLeft, Ref
 
 one_report : (text a b : List ℕ) → IsReportOf text a → IsReportOf text b → a ≡ b
 one_report text a b p q =
-    let net : p.net ≡ q.net = spelling_unique text p.net q.net p.statements q.statements p.spells q.spells in
+    let net : p.net ≡ q.net = spelling_unique text p.net q.net p.spells q.spells in
     let q' : (length q.labels ≡ length p.net.complexes) × AreRightLabels p.net.reactions q.labels = rw net (q.places, q.right) in
     let labels : p.labels ≡ q.labels = one_labels p.net.reactions p.labels q.labels p.right q'.1 (p.places ∙ sym q'.0) in
     let counted : IsLabelCount p.labels q.count = rw labels q.counted in
@@ -25,11 +29,11 @@ one_report text a b p q =
 
 one_line : (text a b : List ℕ) → IsRefusalOf text a → IsRefusalOf text b → a ≡ b
 one_line text a b p q =
-    let e = refused_once text p.code q.code p.line q.line p.refused q.refused in
-    p.written ∙ ap₂ refused_line e.0 e.1 ∙ sym q.written
+    let e = one_fault text p.line q.line p.code q.code p.fault q.fault in
+    p.written ∙ ap₂ (λ (line : ℕ) (code : TextCode). refused_line (code_number code) (code_name code) line) e.0 e.1 ∙ sym q.written
 
 apart : (text a b : List ℕ) → IsReportOf text a → IsRefusalOf text b → ⊥
-apart text a b p q = spelled_not_refused text p.net p.statements q.code q.line p.spells q.refused
+apart text a b p q = no_fault text p.net q.line q.code p.spells q.fault
 
 one_said : (text a b : List ℕ) → (IsReportOf text a ⊎ IsRefusalOf text a) → (IsReportOf text b ⊎ IsRefusalOf text b) → a ≡ b
 one_said text a b (inl p) (inl q) = one_report text a b p q
@@ -52,15 +56,15 @@ told_is (Some t) told text e p = let h : t ≡ told = cc in sym h ∙ p
 
 not_refused : (old : Devices) (text out : List ℕ) → TellsNetwork old → WasLeft old text → IsRefusalOf text out → ⊥
 not_refused old text out p left q =
-    let e : p.0 ≡ text = told_is old.left p.0 text p.3 left in
-    let spells : Spells text p.1 p.2 = subst (λ (t : List ℕ). Spells t p.1 p.2) e p.4 in
-    spelled_not_refused text p.1 p.2 q.code q.line spells q.refused
+    let e : p.0 ≡ text = told_is old.left p.0 text p.2 left in
+    let spells : Spells text p.1 = subst (λ (t : List ℕ). Spells t p.1) e p.3 in
+    no_fault text p.1 q.line q.code spells q.fault
 
 not_spelled : (old : Devices) (text out : List ℕ) → TellsFault old → WasLeft old text → IsReportOf text out → ⊥
 not_spelled old text out p left q =
     let e : p.0 ≡ text = told_is old.left p.0 text p.3 left in
-    let refused : IsRefused text p.1 p.2 = subst (λ (t : List ℕ). IsRefused t p.1 p.2) e p.4 in
-    spelled_not_refused text q.net q.statements p.1 p.2 q.spells refused
+    let fault : Fault text p.1 p.2 = subst (λ (t : List ℕ). Fault t p.1 p.2) e p.4 in
+    no_fault text q.net p.1 p.2 q.spells fault
 
 pub run_complete : (status : Status) (words : List (List ℕ)) (old new : Devices) → RunGives status words old new → IsComplete status words old new
 run_complete Done words old new g = record {

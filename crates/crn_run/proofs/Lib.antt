@@ -1,9 +1,3 @@
-pub mod Statements
-pub mod LinesRead
-pub mod Firsts
-pub mod Kept
-pub mod Units
-pub mod Builds
 pub mod Unique
 pub mod CallerLemmas
 pub mod Texts

@@ -9,8 +9,9 @@ use Rattle.crn_io.specs.declared.read.ReadStop.TheVariants.{TooLong, Failed}
 use Rattle.crn_io.specs.declared.read.ReadStop.TheVariants as stop
 use Rattle.crn_io.specs.Pull.{ComesOff, HasNoneLeft}
 use Rattle.crn_io.specs.Read.{ReadGives, ComesOffUpTo}
-use Rattle.crn_run.specs.Plain.{IsPlain}
-use Rattle.crn_run.specs.Plain.IsRefused.{not_built}
+use Rattle.crn_text.specs.Codes.{code_number, code_name}
+use Rattle.crn_text.specs.Spells.{Fault, IsTooLong}
+use Rattle.crn_text.specs.declared.code.TextCode.TheVariants.{TextTooLong}
 use Rattle.crn_run.specs.Run.{Devices, WasLeft, IsReadOut, IsReadUp, Writes, Breaks, LeavesSink, IsReport, IsRefusalOf, refused_line, usage_line, RunGives}
 use Rattle.crn_run.specs.Steps.{WroteAll, WroteFront, Stays, LineGives, ReportGives}
 use Rattle.crn_run.specs.declared.status.Status.{Status}
@@ -59,13 +60,15 @@ some_text : (left : Option (List ℕ)) → (text : List ℕ) × IfSome left (λ 
 some_text None = ([], tt)
 some_text (Some t) = (t, refl)
 
--- a text that goes on past the limit isn't plain
-not_plain : (text bytes rest : List ℕ) → length bytes ≡ MAX_TEXT + 1 → text ≡ bytes ++ rest → IsPlain text → ⊥
-not_plain text bytes rest long e plain = let s = plain.1.short in absurd (omega (arith, ap length e, length-append bytes rest))
+-- a text that goes on past the limit is refused as too long
+long_refused : (text bytes rest : List ℕ) → length bytes ≡ MAX_TEXT + 1 → text ≡ bytes ++ rest → IsRefusalOf text (refused_line (code_number TextTooLong) (code_name TextTooLong) 0)
+long_refused text bytes rest long e =
+    let past : IsTooLong text 0 TextTooLong = record { named = refl; whole = refl; long = omega (arith, ap length e, length-append bytes rest) } in
+    record { line = 0; code = TextTooLong; fault = inl past; written = refl }
 
-pub too_long : (left rest : Option (List ℕ)) (bytes : List ℕ) → length bytes ≡ MAX_TEXT + 1 → ComesOff left bytes rest → (text : List ℕ) × IfSome left (λ t. t ≡ text) × IsRefusalOf text (refused_line 10 0)
-too_long None rest bytes long p = (bytes, tt, record { code = 10; line = 0; refused = not_built (not_plain bytes bytes [] long (sym (append-nil bytes))); written = refl })
-too_long (Some t) rest bytes long p = (t, refl, record { code = 10; line = 0; refused = not_built (not_plain t bytes p.0 long p.2); written = refl })
+pub too_long : (left rest : Option (List ℕ)) (bytes : List ℕ) → length bytes ≡ MAX_TEXT + 1 → ComesOff left bytes rest → (text : List ℕ) × IfSome left (λ t. t ≡ text) × IsRefusalOf text (refused_line (code_number TextTooLong) (code_name TextTooLong) 0)
+too_long None rest bytes long p = (bytes, tt, long_refused bytes bytes [] long (sym (append-nil bytes)))
+too_long (Some t) rest bytes long p = (t, refl, long_refused t bytes p.0 long p.2)
 
 -- reading takes no more than the limit and a byte
 pub pulled : (r : Result (List ℕ) ReadStop) (limit : ℕ) (left after : Option (List ℕ)) (before now : ℕ) → ReadGives r limit left after before now → ComesOffUpTo (limit + 1) left after

@@ -1,5 +1,3 @@
-pub mod Lines
-pub mod Plain
 pub mod Report
 pub mod Run
 pub mod Spread

@@ -1,6 +1,6 @@
 -- What a run of the program reads, writes and answers.
 -- Source: this project's own. Shapes: words, names and texts are lists of bytes; lines of a text count from 1.
-use Rattle.std.specs.Prelude.{◌≡◌, ◌≤◌, ◌⊎◌, ◌+◌, ◌==◌, if◌then◌else◌, ℕ, List, [], ◌∷◌, ◌++◌, length, codes, decimal, Option, Some, None, IfSome}
+use Rattle.std.specs.Prelude.{◌≡◌, ◌≤◌, ◌⊎◌, ◌+◌, ℕ, List, [], ◌∷◌, ◌++◌, length, codes, decimal, Option, Some, None, IfSome}
 use Rattle.crn_vec.specs.Network.{Net}
 use Rattle.crn_vec.specs.Linkage.{AreRightLabels, IsLabelCount}
 use Rattle.crn_vec.specs.declared.limits.TheConstants.{MAX_TEXT}
@@ -8,7 +8,9 @@ use Rattle.crn_io.specs.Fault.{Rose}
 use Rattle.crn_io.specs.Pull.{ComesOff}
 use Rattle.crn_io.specs.Push.{Adds, Lowers, HasNoRoom}
 use Rattle.crn_io.specs.Write.{AddsFront}
-use Rattle.crn_run.specs.Plain.{Spells, IsRefused}
+use Rattle.crn_text.specs.Codes.{code_number, code_name}
+use Rattle.crn_text.specs.Spells.{Spells, Fault}
+use Rattle.crn_text.specs.declared.code.TextCode.{TextCode}
 use Rattle.crn_run.specs.Report.{render}
 use Rattle.crn_run.specs.declared.status.Status.{Status}
 use Rattle.crn_run.specs.declared.status.Status.TheVariants.{Done, OpenLeft, Refused, Rejected, Usage, ReadFault, WriteFault, NoMemory}
@@ -25,21 +27,16 @@ IsReport words = (program : List ℕ) × (words ≡ program ∷ codes "report" �
 unfoldable pub usage_line : List ℕ
 usage_line = codes "usage: crnt report | certify | check | sample K, with --budget N except for check\n"
 
--- the names of the codes 1, 5 and 10
-abbrev pub name_of_code : ℕ → List ℕ
-name_of_code code = if code == 1 then codes "SelfReaction" else if code == 5 then codes "NoReaction" else codes "NotBuilt"
-
--- why a text is refused, and at which line
-unfoldable pub refused_line : ℕ → ℕ → List ℕ
-refused_line code line = codes "refused " ++ decimal code ++ codes " " ++ name_of_code code ++ codes " at line " ++ decimal line ++ codes "\n"
+-- the number and the name of the fault for which a text is refused, and its line
+unfoldable pub refused_line : ℕ → List ℕ → ℕ → List ℕ
+refused_line number name line = codes "refused " ++ decimal number ++ codes " " ++ name ++ codes " at line " ++ decimal line ++ codes "\n"
 
 -- the report of the network that the text spells, with true verdicts
 pub record IsReportOf (text out : List ℕ) : Type 0 where
-  pub statements : List (List ℕ × List ℕ)
   pub net : Net
   pub count : ℕ
   pub labels : List ℕ
-  pub spells : Spells text net statements
+  pub spells : Spells text net
   pub places : length labels ≡ length net.complexes
   pub right : AreRightLabels net.reactions labels
   pub counted : IsLabelCount labels count
@@ -47,10 +44,10 @@ pub record IsReportOf (text out : List ℕ) : Type 0 where
 
 -- the line that says the first fault of the text
 pub record IsRefusalOf (text out : List ℕ) : Type 0 where
-  pub code : ℕ
   pub line : ℕ
-  pub refused : IsRefused text code line
-  pub written : out ≡ refused_line code line
+  pub code : TextCode
+  pub fault : Fault text line code
+  pub written : out ≡ refused_line (code_number code) (code_name code) line
 
 -- what may be written for these words and this network text
 abbrev pub IsAllowed : List (List ℕ) → List ℕ → List ℕ → Type 0
@@ -176,11 +173,11 @@ pub record HasNoFault (old new : Devices) : Type 0 where
 
 -- the source tells a text that spells a network
 abbrev pub TellsNetwork : Devices → Type 0
-TellsNetwork old = (text : List ℕ) × (net : Net) × (statements : List (List ℕ × List ℕ)) × (old.left ≡ Some text) × Spells text net statements
+TellsNetwork old = (text : List ℕ) × (net : Net) × (old.left ≡ Some text) × Spells text net
 
 -- the source tells a text that has a fault
 abbrev pub TellsFault : Devices → Type 0
-TellsFault old = (text : List ℕ) × (code : ℕ) × (line : ℕ) × (old.left ≡ Some text) × IsRefused text code line
+TellsFault old = (text : List ℕ) × (line : ℕ) × (code : TextCode) × (old.left ≡ Some text) × Fault text line code
 
 -- a run without a fault of a device answers what the words and the text ask for, or wants memory
 pub record IsComplete (status : Status) (words : List (List ℕ)) (old new : Devices) : Type 0 where

@@ -3,16 +3,12 @@
 
 mod laws;
 pub mod linkage;
-mod names;
-mod plain;
-mod reader;
 mod report;
-mod statement;
 mod status;
 #[cfg(test)]
 mod tests;
 mod top;
 
-pub use laws::{refusal_is_unique, spelled_is_not_refused, spelling_is_unique};
+pub use laws::spelling_is_unique;
 pub use status::Status;
 pub use top::{quiet_devices_meet_no_fault, run, what_may_be_written_is_one_text};

@@ -1,7 +1,7 @@
 ghost use Rattle.std.specs.Prelude.{◌≡◌, ◌≤◌, ◌<◌, ◌++◌, ◌+◌, ◌^◌, IfOk, [], pos, ◌<ℤ◌, codes, decimal, length, slice_index_or};
 ghost use Rattle.std.specs.Fmt.{signed_decimal};
 ghost use Rattle.crn_io.specs.Write.{Wrote};
-ghost use Rattle.crn_run.specs.Run.{name_of_code, refused_line, usage_line};
+ghost use Rattle.crn_run.specs.Run.{refused_line, usage_line};
 ghost use Rattle.crn_run.specs.Report.{joined, term, term_if_some, side, sides, of_label, class_line, class_lines, title, species_line, complexes_line, reactions_line, head, q1_line, open_line, render};
 ghost use Rattle.crn_run.specs.Turns.{turn, added, if_label};
 
@@ -272,23 +272,17 @@ pub fn write_report<K: Sink>(
     put_open_line(sink, 0)
 }
 
-// The name of a code.
-fn name_bytes(code: u32) -> &'static [u8]
-    ensures { result.now ≡ name_of_code code }
+/// Writes the line that gives the number and the name of a fault, and its line. Takes no memory.
+pub fn put_refused<K: Sink>(
+    sink: &mut K,
+    number: u32,
+    name: &[u8],
+    line: u32,
+) -> Result<(), WriteFault>
+    ensures { Wrote (refused_line number name.now line) (K.took sink.old) (K.took sink.new) (K.room sink.old) (K.room sink.new) (K.faults sink.old) (K.faults sink.new) result }
 {
-    match code {
-        1 => b"SelfReaction",
-        5 => b"NoReaction",
-        _ => b"NotBuilt",
-    }
-}
-
-/// Writes the line that says why a text is refused, and at which line. Takes no memory.
-pub fn put_refused<K: Sink>(sink: &mut K, code: u32, line: u32) -> Result<(), WriteFault>
-    ensures { Wrote (refused_line code line) (K.took sink.old) (K.took sink.new) (K.room sink.old) (K.room sink.new) (K.faults sink.old) (K.faults sink.new) result }
-{
-    put_count(sink, b"refused ", code as usize, b" ")?;
-    put_all(sink, name_bytes(code))?;
+    put_count(sink, b"refused ", number as usize, b" ")?;
+    put_all(sink, name)?;
     put_count(sink, b" at line ", line as usize, b"\n")
 }
 

@@ -1,6 +1,7 @@
 use crate::{Status, run};
 use crn_io::{MemSink, MemSource, QuietSink, QuietSource};
-use std::alloc::Global;
+use crn_vec::MAX_TEXT;
+use std::alloc::{AllocError, Global};
 use std::test::Fail;
 
 const ROW: &[u8] =
@@ -8,6 +9,15 @@ const ROW: &[u8] =
 
 const TWO_CLASSES: &[u8] =
     b"crn report 1\nspecies 5: X B A C Y\ncomplexes 5: X; B; A; C; Y\nreactions 3\nQ1 linkage classes: 2\n  class 1: X; B; Y\n  class 2: A; C\nopen: 0\n";
+
+const TWICE_A: &[u8] =
+    b"crn report 1\nspecies 2: A B\ncomplexes 2: 2A; B\nreactions 1\nQ1 linkage classes: 1\n  class 1: 2A; B\nopen: 0\n";
+
+const BOTH_WAYS: &[u8] =
+    b"crn report 1\nspecies 2: X Y\ncomplexes 2: 3X + 2Y; 0\nreactions 2\nQ1 linkage classes: 1\n  class 1: 3X + 2Y; 0\nopen: 0\n";
+
+const LARGEST: &[u8] =
+    b"crn report 1\nspecies 2: A B\ncomplexes 2: A; 99B\nreactions 1\nQ1 linkage classes: 1\n  class 1: A; 99B\nopen: 0\n";
 
 const USAGE: &[u8] =
     b"usage: crnt report | certify | check | sample K, with --budget N except for check\n";
@@ -21,44 +31,217 @@ fn words_of(alloc: Global, line: &str) -> Result<Vec<String>, Fail> {
     Ok(words)
 }
 
+// Runs `report` on a text, over a sink with so much room.
+fn report_on(alloc: Global, text: &[u8], room: usize) -> Result<(Status, QuietSink), Fail> {
+    let words = words_of(alloc, "crnt report")?;
+    let mut source = QuietSource::new(text);
+    let mut sink = QuietSink::new(alloc, room)?;
+    let status = run(alloc, &words, &mut source, &mut sink);
+    Ok((status, sink))
+}
+
 #[test]
-fn a_text_is_reported_on_or_refused(rt: HostRuntime) -> Result<(), Fail> {
-    let words = words_of(rt.alloc(), "crnt report")?;
-    let not_built = b"refused 10 NotBuilt at line 0\n".as_slice();
-    let self_reaction = b"refused 1 SelfReaction at line 1\n".as_slice();
-    let no_reaction = b"refused 5 NoReaction at line 0\n".as_slice();
+fn a_network_is_reported_on(rt: HostRuntime) -> Result<(), Fail> {
     let cases = [
-        ("one reaction", "A -> B", Status::Done, ROW),
+        ("one reaction", b"A -> B".as_slice(), ROW),
         (
             "empty lines, a line that stands twice",
-            "\nA -> B\n\nA -> B\n",
-            Status::Done,
+            b"\nA -> B\n\nA -> B\n",
             ROW,
         ),
+        ("comments and blanks", b"# one\n\tA->B # two\r\n \t\n", ROW),
         (
             "two classes, one against a reaction",
-            "X -> B\nA -> C\nY -> B\n",
-            Status::Done,
+            b"X -> B\nA -> C\nY -> B\n",
             TWO_CLASSES,
         ),
-        ("the empty text", "", Status::Refused, no_reaction),
-        ("both names equal", "A -> A", Status::Refused, self_reaction),
-        ("an amount", "2A -> B", Status::Refused, not_built),
-        ("a comment", "# nothing", Status::Refused, not_built),
         (
-            "two faults, of which the text's goes first",
-            "A -> A\nA",
-            Status::Refused,
-            not_built,
+            "two lines that say one reaction",
+            b"A+A->B\r\n2A -> B\r\n",
+            TWICE_A,
         ),
+        (
+            "both ways, and the zero complex",
+            b"  3X+2Y<->  0 # x",
+            BOTH_WAYS,
+        ),
+        ("the largest amount", b"A -> 99B", LARGEST),
     ];
-    for (name, text, status, want) in cases {
-        let mut source = QuietSource::new(text.as_bytes());
-        let mut sink = QuietSink::new(rt.alloc(), want.len())?;
-        let got = run(rt.alloc(), &words, &mut source, &mut sink);
-        assert_eq!(rt; got, status, "{name}");
+    for (name, text, want) in cases {
+        let (status, sink) = report_on(rt.alloc(), text, want.len())?;
+        assert_eq!(rt; status, Status::Done, "{name}");
         assert_eq!(rt; sink.bytes(), want, "{name}");
     }
+    Ok(())
+}
+
+#[test]
+fn a_text_is_refused_for_its_first_fault(rt: HostRuntime) -> Result<(), Fail> {
+    let cases = [
+        (b"".as_slice(), "refused 5 NoReaction at line 0\n"),
+        (b"# nothing", "refused 5 NoReaction at line 0\n"),
+        (b"A -> A", "refused 1 SelfReaction at line 1\n"),
+        (b"A -> 100B", "refused 17 CoefficientTooLarge at line 1\n"),
+        (
+            b"60A + 40A -> B",
+            "refused 17 CoefficientTooLarge at line 1\n",
+        ),
+        (b"\xc8 -> B", "refused 11 NotAscii at line 1\n"),
+        (b"A B", "refused 12 NoArrow at line 1\n"),
+        (b" -> B", "refused 13 EmptySide at line 1\n"),
+        (b"A + -> B", "refused 13 EmptySide at line 1\n"),
+        (b"2 -> A", "refused 14 BadName at line 1\n"),
+        (b"A B -> C", "refused 14 BadName at line 1\n"),
+        (
+            b"aaaaaaaaaaaaaaaaaaaaaaaaaaaaaaaaa -> B",
+            "refused 15 NameTooLong at line 1\n",
+        ),
+        (b"0A -> B", "refused 16 ZeroCoefficient at line 1\n"),
+        (b"A <- B", "refused 18 StrayMark at line 1\n"),
+        (b"A -> B -> C", "refused 18 StrayMark at line 1\n"),
+        (b"A => B", "refused 18 StrayMark at line 1\n"),
+        (b"A -> B\n\nB -> B\nA", "refused 1 SelfReaction at line 3\n"),
+    ];
+    for (text, want) in cases {
+        let (status, sink) = report_on(rt.alloc(), text, want.len())?;
+        assert_eq!(rt; status, Status::Refused, "{want:?}");
+        assert_eq!(rt; sink.bytes(), want.as_bytes(), "{want:?}");
+    }
+    Ok(())
+}
+
+// The names S1, S2 and so on, with a text between them.
+fn names(alloc: Global, count: u32, between: &str) -> Result<String, AllocError> {
+    let mut text = String::new(alloc);
+    for s in 0..count {
+        if s > 0 {
+            text.push_str(between)?;
+        }
+        text.push_str(format!(in alloc; "S{}", s + 1)?.as_str())?;
+    }
+    Ok(text)
+}
+
+#[test]
+fn forty_species_are_accepted_and_one_more_is_not(rt: HostRuntime) -> Result<(), Fail> {
+    let alloc = rt.alloc();
+    let sum = names(alloc, 40, " + ")?;
+    let list = names(alloc, 40, " ")?;
+    let text = format!(in alloc; "{sum} -> 0")?;
+    let want = format!(in alloc;
+        "crn report 1\nspecies 40: {list}\ncomplexes 2: {sum}; 0\nreactions 1\nQ1 linkage classes: 1\n  class 1: {sum}; 0\nopen: 0\n"
+    )?;
+    let (status, sink) = report_on(alloc, text.as_bytes(), want.len())?;
+    assert_eq!(rt; status, Status::Done);
+    assert_eq!(rt; sink.bytes(), want.as_bytes());
+    let more = format!(in alloc; "{sum} + S41 -> 0")?;
+    let (status, sink) = report_on(alloc, more.as_bytes(), 64)?;
+    assert_eq!(rt; status, Status::Refused);
+    assert_eq!(rt;
+        sink.bytes(),
+        b"refused 2 TooManySpecies at line 1\n".as_slice()
+    );
+    Ok(())
+}
+
+// So much of A as a side.
+fn some_of_a(alloc: Global, amount: u32) -> Result<String, AllocError> {
+    match amount {
+        0 => "0".to_string(alloc),
+        1 => "A".to_string(alloc),
+        _ => format!(in alloc; "{amount}A"),
+    }
+}
+
+// The sides from 0 to 99A, with a semicolon between them.
+fn all_of_a(alloc: Global) -> Result<String, AllocError> {
+    let mut text = "0".to_string(alloc)?;
+    for n in 0..99u32 {
+        text.push_str("; ")?;
+        text.push_str(some_of_a(alloc, n + 1)?.as_str())?;
+    }
+    Ok(text)
+}
+
+// The lines that add one to each amount of A from 0 to 98.
+fn ladder(alloc: Global) -> Result<String, AllocError> {
+    let mut text = String::new(alloc);
+    for n in 0..99u32 {
+        let (from, to) = (some_of_a(alloc, n)?, some_of_a(alloc, n + 1)?);
+        text.push_str(format!(in alloc; "{from} -> {to}\n")?.as_str())?;
+    }
+    Ok(text)
+}
+
+// So many lines, each from one of twelve amounts of A to another.
+fn jumps(alloc: Global, lines: u32) -> Result<String, AllocError> {
+    let mut text = String::new(alloc);
+    let mut left = lines;
+    for i in 0..12u32 {
+        for j in 0..12u32 {
+            if left > 0 && i != j {
+                let (from, to) = (some_of_a(alloc, i)?, some_of_a(alloc, j)?);
+                text.push_str(format!(in alloc; "{from} -> {to}\n")?.as_str())?;
+                left -= 1;
+            }
+        }
+    }
+    Ok(text)
+}
+
+#[test]
+fn a_hundred_complexes_are_accepted_and_one_more_is_not(rt: HostRuntime) -> Result<(), Fail> {
+    let alloc = rt.alloc();
+    let mut text = ladder(alloc)?;
+    let sides = all_of_a(alloc)?;
+    let want = format!(in alloc;
+        "crn report 1\nspecies 1: A\ncomplexes 100: {sides}\nreactions 99\nQ1 linkage classes: 1\n  class 1: {sides}\nopen: 0\n"
+    )?;
+    let (status, sink) = report_on(alloc, text.as_bytes(), want.len())?;
+    assert_eq!(rt; status, Status::Done);
+    assert_eq!(rt; sink.bytes(), want.as_bytes());
+    text.push_str("B -> 0")?;
+    let (status, sink) = report_on(alloc, text.as_bytes(), 64)?;
+    assert_eq!(rt; status, Status::Refused);
+    assert_eq!(rt;
+        sink.bytes(),
+        b"refused 3 TooManyComplexes at line 100\n".as_slice()
+    );
+    Ok(())
+}
+
+#[test]
+fn as_many_reactions_as_the_limit_are_accepted(rt: HostRuntime) -> Result<(), Fail> {
+    let alloc = rt.alloc();
+    let text = jumps(alloc, 120)?;
+    let (status, _sink) = report_on(alloc, text.as_bytes(), 1000)?;
+    assert_eq!(rt; status, Status::Done);
+    let more = jumps(alloc, 121)?;
+    let (status, sink) = report_on(alloc, more.as_bytes(), 64)?;
+    assert_eq!(rt; status, Status::Refused);
+    assert_eq!(rt;
+        sink.bytes(),
+        b"refused 4 TooManyReactions at line 121\n".as_slice()
+    );
+    Ok(())
+}
+
+#[test]
+fn a_text_may_be_as_long_as_the_limit(rt: HostRuntime) -> Result<(), Fail> {
+    let alloc = rt.alloc();
+    let line = b"A -> B\n";
+    let mut text = vec![in alloc; b'#'; MAX_TEXT]?;
+    text[..line.len()].copy_from_slice(line);
+    let (status, sink) = report_on(alloc, &text, ROW.len())?;
+    assert_eq!(rt; status, Status::Done);
+    assert_eq!(rt; sink.bytes(), ROW);
+    text.push(b'#')?;
+    let (status, sink) = report_on(alloc, &text, 64)?;
+    assert_eq!(rt; status, Status::Refused);
+    assert_eq!(rt;
+        sink.bytes(),
+        b"refused 19 TextTooLong at line 0\n".as_slice()
+    );
     Ok(())
 }
 

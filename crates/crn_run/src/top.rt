@@ -3,14 +3,16 @@ ghost use Rattle.crn_vec.specs.declared.limits.TheConstants.{MAX_TEXT};
 ghost use Rattle.crn_io.specs.Read.{ComesOffUpTo};
 ghost use Rattle.crn_run.specs.Run.{Devices, IsReport, IsAllowed, IsQuiet, RunGives, IsComplete, usage_line, refused_line};
 ghost use Rattle.crn_run.specs.Steps.{LineGives, ReportGives};
+ghost use Rattle.crn_text.specs.Codes.{code_number, code_name};
+ghost use Rattle.crn_text.specs.declared.code.TextCode.TheVariants.{NoMemory};
 ghost use Rattle.crn_run.specs.declared.status.Status.{Status};
 ghost use Rattle.crn_run.specs.declared.status.Status.TheVariants.{Refused, Usage, ReadFault, WriteFault};
 
 use crate::linkage::linkage;
-use crate::reader::{Problem, read};
 use crate::report::{put_refused, put_usage, write_report};
 use crate::status::Status;
 use crn_io::{ReadStop, Sink, Source, read_all};
+use crn_text::{TextCode, read};
 use crn_vec::MAX_TEXT;
 use std::alloc::Global;
 
@@ -68,10 +70,11 @@ fn usage<K: Sink>(sink: &mut K) -> Status
     }
 }
 
-fn refuse<K: Sink>(code: u32, line: u32, sink: &mut K) -> Status
-    ensures { LineGives Refused result (refused_line code line) (K.took sink.old) (K.took sink.new) (K.room sink.old) (K.room sink.new) (K.faults sink.old) (K.faults sink.new) }
+// Writes the line that says why a text is refused.
+fn refuse<K: Sink>(code: TextCode, line: u32, sink: &mut K) -> Status
+    ensures { LineGives Refused result (refused_line (code_number code) (code_name code) line) (K.took sink.old) (K.took sink.new) (K.room sink.old) (K.room sink.new) (K.faults sink.old) (K.faults sink.new) }
 {
-    match put_refused(sink, code, line) {
+    match put_refused(sink, code.number(), code.name(), line) {
         Ok(()) => Status::Refused,
         Err(_) => Status::WriteFault,
     }
@@ -86,10 +89,17 @@ fn report<S: Source, K: Sink>(alloc: Global, source: &mut S, sink: &mut K) -> St
 {
     match read_all(alloc, source, MAX_TEXT) {
         Ok(text) => report_on(alloc, text.as_slice(), sink),
-        Err(ReadStop::TooLong) => refuse(10, 0, sink),
+        Err(ReadStop::TooLong) => refuse(TextCode::TextTooLong, 0, sink),
         Err(ReadStop::Failed) => Status::ReadFault,
         Err(ReadStop::NoMemory) => Status::NoMemory,
     }
+}
+
+// Whether a text was not read for want of memory, which is no fault of the text.
+fn is_want_of_memory(code: TextCode) -> bool
+    ensures { IsTrue result ↔ (code ≡ NoMemory) }
+{
+    matches!(code, TextCode::NoMemory)
 }
 
 // Writes the report of this text, or why it is refused.
@@ -98,10 +108,12 @@ fn report_on<K: Sink>(alloc: Global, text: &[u8], sink: &mut K) -> Status
 {
     let net = match read(alloc, text) {
         Ok(net) => net,
-        Err(Problem::NoMemory) => return Status::NoMemory,
-        Err(Problem::NotBuilt) => return refuse(10, 0, sink),
-        Err(Problem::SelfReaction(line)) => return refuse(1, line, sink),
-        Err(Problem::NoReaction) => return refuse(5, 0, sink),
+        Err(fault) => {
+            if is_want_of_memory(fault.code) {
+                return Status::NoMemory;
+            }
+            return refuse(fault.code, fault.line, sink);
+        }
     };
     let found = match linkage(alloc, &net) {
         Ok(found) => found,

@@ -1,0 +1,17 @@
+pub mod Lists
+pub mod Words
+pub mod Cuts
+pub mod Numbers
+pub mod Terms
+pub mod Totals
+pub mod Checks
+pub mod SidesRead
+pub mod Statements
+pub mod Arrows
+pub mod LinesRead
+pub mod Widening
+pub mod Texts
+pub mod Complexes
+pub mod Exclusions
+pub mod Spelled
+pub mod Grammar

@@ -1,0 +1,124 @@
+-- One line of a text after another.
+use Rattle.std.proofs.Common.{◌≡◌, ℕ, zero, suc, ◌+◌, ◌<◌, ◌≤◌, Bool, true, false, List, [], ◌∷◌, ◌++◌, length, take, drop, get_or, Option, Some, None, Result, Ok, Err, Bor, refl, sym, ap, ◌∙◌, append_assoc, inl, inr, below_more, arith}
+use Rattle.std.specs.Prelude.{map, ◌⊎◌}
+use Rattle.std.specs.List.{AllByRecursion, list_all}
+use Rattle.std.proofs.lemmas.List.{append-nil, length-drop, take_all, take_more}
+use Rattle.crn_vec.specs.Lists.{firsts}
+use Rattle.crn_vec.specs.Network.{Net, Statement, IsNetwork, sides_eq, said_by}
+use Rattle.crn_vec.specs.declared.limits.TheConstants.{MAX_TEXT}
+use Rattle.crn_net.specs.Grows.{Grown, FinishGives, no_net}
+use Rattle.crn_net.specs.declared.fault.NetFault.{NetFault}
+use Rattle.crn_net.specs.declared.fault.NetFault.TheVariants as refusal
+use Rattle.crn_net.proofs.CallerLemmas.{Grown-none, Grown-names, Grown-reactions}
+use Rattle.crn_text.specs.Codes.{net_code}
+use Rattle.crn_text.specs.Tokens.{lines, before_comment, words}
+use Rattle.crn_text.specs.Sides.{said, all_said}
+use Rattle.crn_text.specs.Faults.{is_plain, own_fault, line_fault, or_else}
+use Rattle.crn_text.specs.Spells.{Spells, Fault, fault_on, AreFaultless, IsFirstFault, IsWithoutReaction}
+use Rattle.crn_text.specs.Pieces.{size_left, lines_left, CutsLine, WordsGive, LineGives}
+use Rattle.crn_text.specs.declared.code.TextCode.{TextCode}
+use Rattle.crn_text.specs.declared.code.TextCode.TheVariants.{NotAscii, NoMemory, NoReaction}
+
+-- ---- one line
+
+pub fault_plain : (before : List Statement) (line : List ℕ) → list_all is_plain (before_comment line) ≡ false → line_fault before line ≡ Some NotAscii
+unfolding own_fault
+fault_plain before line h = rw h refl
+
+pub line_gives : (before : List Statement) (line : List ℕ) (r : Result Unit TextCode) (net : Net) → list_all is_plain (before_comment line) ≡ true → WordsGive before (words (before_comment line)) r net → LineGives before line r net
+unfolding own_fault
+line_gives before line (Ok done) net h w = (rw h w.0, w.1)
+line_gives before line (Err fault) net h (inl m) = inl m
+line_gives before line (Err fault) net h (inr f) = inr (rw h f)
+
+-- ---- the loop over the lines
+
+pub record LinesUpTo (text : List ℕ) (number : ℕ) (left : Option (Bor (List ℕ))) (net : Net) : Type 0 where
+  pub behind : drop number (lines text) ≡ lines_left left
+  pub sound : AreFaultless (lines text) number
+  pub grown : Grown (all_said (take number (lines text))) net
+  pub size : number + size_left left ≤ length text + 1
+
+pub lines_none : (text : Bor (List ℕ)) (net : Net) → net ≡ no_net → LinesUpTo text.now 0 (Some text) net
+lines_none text net e = record { behind = refl; sound = λ k lt. absurd (omega (arith, lt)); grown = rw e Grown-none; size = omega arith }
+
+-- the place of the first of the elements that are left
+first_left : {X : Type 0} (xs ys : List X) (x d : X) (n : ℕ) → drop n xs ≡ x ∷ ys → (n < length xs) × (get_or xs n d ≡ x) × (drop (n + 1) xs ≡ ys)
+first_left [] ys x d zero h = absurd cc
+first_left [] ys x d (suc n) h = absurd cc
+first_left (y ∷ xs) ys x d zero h = (omega arith, cc, cc)
+first_left (y ∷ xs) ys x d (suc n) h =
+    let p = first_left xs ys x d n h in
+    let e : drop (suc n + 1) (y ∷ xs) ≡ drop (n + 1) xs = let f : suc n + 1 ≡ suc (n + 1) = omega arith in rw f refl in
+    (omega (arith, p.0), p.1, e ∙ p.2)
+
+flat_push : (ls : List (List ℕ)) (l : List ℕ) → all_said (ls ++ l ∷ []) ≡ all_said ls ++ said l
+flat_push [] l = append-nil (said l)
+flat_push (x ∷ ls) l = ap (λ (t : List Statement). said x ++ t) (flat_push ls l) ∙ sym (append_assoc (said x) (all_said ls) (said l))
+
+pub lines_more : (text line : List ℕ) (number : ℕ) (rest : Bor (List ℕ)) (next : Option (Bor (List ℕ))) (old new : Net) (done : Unit {0}) → LinesUpTo text number (Some rest) old → CutsLine rest.now line next → LineGives (all_said (take number (lines text))) line (Ok done) new → LinesUpTo text (number + 1) next new
+lines_more text line number rest next old new done h cut g =
+    let p = first_left (lines text) (lines_left next) line [] number (h.behind ∙ cut.lines) in
+    let here : fault_on (lines text) number ≡ None = rw p.1 g.0 in
+    let more : take (number + 1) (lines text) ≡ take number (lines text) ++ line ∷ [] = take_more (lines text) number [] p.0 ∙ ap (λ (l : List ℕ). take number (lines text) ++ l ∷ []) p.1 in
+    let said_more : all_said (take (number + 1) (lines text)) ≡ all_said (take number (lines text)) ++ said line = ap all_said more ∙ flat_push (take number (lines text)) line in
+    record {
+      behind = p.2;
+      sound = below_more _ number h.sound here;
+      grown = rw said_more g.1;
+      size = omega (arith, h.size, cut.size);
+    }
+
+pub lines_stop : (text line : List ℕ) (number : ℕ) (rest : Bor (List ℕ)) (next : Option (Bor (List ℕ))) (old new : Net) (fault : TextCode) → length text ≤ MAX_TEXT → LinesUpTo text number (Some rest) old → CutsLine rest.now line next → LineGives (all_said (take number (lines text))) line (Err fault) new → (fault ≡ NoMemory) ⊎ IsFirstFault text (number + 1) fault
+lines_stop text line number rest next old new fault short h cut (inl m) = inl m
+lines_stop text line number rest next old new fault short h cut (inr f) =
+    let p = first_left (lines text) (lines_left next) line [] number (h.behind ∙ cut.lines) in
+    inr (record { before = number; counted = refl; short = short; there = p.0; earlier = h.sound; fault = rw p.1 f })
+
+pub lines_all : (text : List ℕ) (number : ℕ) (net : Net) → LinesUpTo text number None net → AreFaultless (lines text) (length (lines text)) × Grown (all_said (lines text)) net
+lines_all text number net h =
+    let end : length (lines text) ≤ number = omega (arith, ap length h.behind, length-drop number (lines text)) in
+    let whole : take number (lines text) ≡ lines text = take_all number (lines text) end in
+    (λ k lt. h.sound k (omega (arith, lt, end)), (rw whole at h.grown))
+
+-- ---- the whole text
+
+none_own : (own more : Option TextCode) → or_else own more ≡ None → own ≡ None
+none_own None more h = refl
+none_own (Some code) more h = absurd cc
+
+all_sound : (P : List ℕ → Type 0) (ls : List (List ℕ)) → ((k : ℕ) → k < length ls → P (get_or ls k [])) → AllByRecursion P ls
+all_sound P [] h = tt
+all_sound P (l ∷ ls) h = (h 0 (omega arith), all_sound P ls (λ k lt. h (suc k) (omega (arith, lt))))
+
+no_first : {A : Type 0} (same : A → A → Bool) (xs : List A) → firsts same xs ≡ [] → xs ≡ []
+no_first same [] h = refl
+no_first same (x ∷ xs) h = absurd cc
+
+no_map : {A B : Type 0} (f : A → B) (xs : List A) → map f xs ≡ [] → xs ≡ []
+no_map f [] h = refl
+no_map f (x ∷ xs) h = absurd cc
+
+pub text_ok : (text : List ℕ) (old made : Net) → length text ≤ MAX_TEXT → AreFaultless (lines text) (length (lines text)) × Grown (all_said (lines text)) old → (made ≡ old) × IsNetwork made → Spells text made
+text_ok text old made short h f =
+    let network = rw f.0 at f.1 in
+    rw f.0 (record {
+      short = short;
+      sound = all_sound (λ line. own_fault line ≡ None) (lines text) (λ k lt. none_own _ _ (h.0 k lt));
+      names = Grown-names (all_said (lines text)) old h.1;
+      reactions = Grown-reactions (all_said (lines text)) old h.1;
+      network = network;
+    })
+
+pub text_without : (text : List ℕ) (net : Net) → length text ≤ MAX_TEXT → AreFaultless (lines text) (length (lines text)) × Grown (all_said (lines text)) net → net.reactions ≡ [] → IsWithoutReaction text 0 NoReaction
+text_without text net short h none =
+    let empty : [] ≡ firsts sides_eq (map (said_by net.names) (all_said (lines text))) = rw none at (Grown-reactions (all_said (lines text)) net h.1) in
+    record { named = refl; whole = refl; short = short; sound = h.0; none = no_map (said_by net.names) (all_said (lines text)) (no_first sides_eq _ (sym empty)) }
+
+pub text_err : (text : List ℕ) (net : Net) (fault : NetFault) (code : TextCode) → length text ≤ MAX_TEXT → AreFaultless (lines text) (length (lines text)) × Grown (all_said (lines text)) net → FinishGives net (Err fault) → code ≡ net_code fault → (code ≡ NoMemory) ⊎ Fault text 0 code
+text_err text net refusal.NoReaction code short h f e = rw e (inr (inr (inr (text_without text net short h f))))
+text_err text net refusal.NoMemory code short h f e = inl e
+text_err text net refusal.SelfReaction code short h f e = absurd f
+text_err text net refusal.TooManySpecies code short h f e = absurd f
+text_err text net refusal.TooManyComplexes code short h f e = absurd f
+text_err text net refusal.TooManyReactions code short h f e = absurd f

@@ -1,0 +1,185 @@
+-- A text that spells a network has no fault.
+use Rattle.std.proofs.Common.{◌≡◌, ℕ, zero, suc, ◌<◌, ◌≤◌, Bool, false, List, [], ◌∷◌, ◌++◌, length, take, drop, get_or, map, None, refl, sym, ap, ap₂, subst, ◌∙◌, append_assoc, inl, inr, arith}
+use Rattle.std.specs.Prelude.{ℤ, pos, nat_lt}
+use Rattle.std.specs.Bool.{Decides}
+use Rattle.std.specs.List.{AllByRecursion, flat_map}
+use Rattle.std.specs.Str.{bytes_eq}
+use Rattle.std.specs.Ordering.{int_eq}
+use Rattle.std.specs.Cmp.Lexicographic.{pointwise}
+use Rattle.std.proofs.lemmas.Bool.{cases_Bool, le-ltb}
+use Rattle.std.proofs.lemmas.Slice.Eq.{bytes_eq-Decides}
+use Rattle.std.proofs.lemmas.List.{append-nil, length-map, map-append}
+use Rattle.crn_vec.specs.Lists.{IsIn, AreDistinct, firsts}
+use Rattle.crn_vec.specs.Network.{Net, IsNetwork, Statement, JoinsTwo, sides_of, sides_eq, said_by, names_in, amount_in, amounts_in}
+use Rattle.crn_vec.specs.declared.limits.TheConstants.{MAX_SPECIES, MAX_COMPLEXES, MAX_REACTIONS}
+use Rattle.crn_net.specs.Grows.{widened, both_widened}
+use Rattle.crn_net.specs.Steps.{SaysSame}
+use Rattle.crn_net.proofs.Lists.{in_right, in_map, map_in, map_same, map_twice, all_in, same_place}
+use Rattle.crn_net.proofs.Firsts.{firsts_distinct, firsts_has, firsts_map, firsts_front, firsts_length}
+use Rattle.crn_net.proofs.Members.{row_decides}
+use Rattle.crn_net.proofs.Growth.{sides_decide}
+use Rattle.crn_net.proofs.Rows.{same_test}
+use Rattle.crn_text.specs.Tokens.{lines}
+use Rattle.crn_text.specs.Sides.{said, all_said}
+use Rattle.crn_text.specs.Faults.{own_fault, statement_fault, statements_fault, is_self, names_of, reactions_of, complexes_of, both_of}
+use Rattle.crn_text.specs.Spells.{Spells, Fault, fault_on}
+use Rattle.crn_text.specs.declared.code.TextCode.{TextCode}
+use Rattle.crn_text.proofs.Widening.{said_widened, wide_test, in_all}
+use Rattle.crn_text.proofs.Complexes.{all_kept, append_same, flat_map_map, complexes_are}
+use Rattle.crn_text.proofs.Statements.{self_same}
+
+flat_append : {A B : Type 0} (f : A → List B) (xs ys : List A) → flat_map f (xs ++ ys) ≡ flat_map f xs ++ flat_map f ys
+flat_append f [] ys = refl
+flat_append {A} {B} f (x ∷ xs) ys = ap (λ (t : List B). f x ++ t) (flat_append f xs ys) ∙ sym (append_assoc (f x) (flat_map f xs) (flat_map f ys))
+
+flat_whole : {A B : Type 0} (f : A → List B) (xs : List A) (i : ℕ) (d : A) → i < length xs → flat_map f xs ≡ (flat_map f (take i xs) ++ f (get_or xs i d)) ++ flat_map f (drop (suc i) xs)
+flat_whole f [] i d lt = absurd (omega arith)
+flat_whole f (x ∷ xs) zero d lt = refl
+flat_whole {A} {B} f (x ∷ xs) (suc i) d lt =
+    ap (λ (t : List B). f x ++ t) (flat_whole f xs i d (omega arith)) ∙ sym (append_assoc (f x) (flat_map f (take i xs) ++ f (get_or xs i d)) (flat_map f (drop (suc i) xs)))
+    ∙ ap (λ (t : List B). t ++ flat_map f (drop (suc i) xs)) (sym (append_assoc (f x) (flat_map f (take i xs)) (f (get_or xs i d))))
+
+-- ---- the statements of a front of the text
+
+pub record Front (net : Net) (front rest : List Statement) : Type 0 where
+  pub network : IsNetwork net
+  pub names : net.names ≡ names_of (front ++ rest)
+  pub reactions : map (sides_of net) net.reactions ≡ firsts sides_eq (map (said_by net.names) (front ++ rest))
+
+names_few : (net : Net) (front rest : List Statement) → Front net front rest → length (names_of front) ≤ MAX_SPECIES
+names_few net front rest h =
+    let more : names_of (front ++ rest) ≡ firsts bytes_eq (flat_map names_in front ++ flat_map names_in rest) = ap (firsts bytes_eq) (flat_append names_in front rest) in
+    omega (arith, h.network.partial.species_limit, ap length h.names, ap length more, firsts_length bytes_eq (flat_map names_in front) (flat_map names_in rest))
+
+-- the statements of the front as amounts of all names
+wide_statements : (net : Net) (front rest : List Statement) → Front net front rest → map (both_widened (length net.names)) (map (said_by (names_of front)) front) ≡ map (said_by net.names) front
+wide_statements net front rest h =
+    let P : List (List ℕ) = flat_map names_in front in
+    let N : List (List ℕ) = names_of front in
+    let f = firsts_front bytes_eq P (flat_map names_in rest) in
+    let all : net.names ≡ N ++ f.0 = h.names ∙ ap (firsts bytes_eq) (flat_append names_in front rest) ∙ f.1 in
+    let apart : AreDistinct (N ++ f.0) = subst AreDistinct f.1 (firsts_distinct bytes_eq bytes_eq-Decides (P ++ flat_map names_in rest)) in
+    let known : (t : Statement) → IsIn t front → (name : List ℕ) → IsIn name (names_in t) → IsIn name N = λ t i name j. firsts_has bytes_eq bytes_eq-Decides P name (in_all front t name i j) in
+    let m : ℕ = length net.names in
+    let said_as : (t : Statement) → IsIn t front → both_widened m (said_by N t) ≡ said_by net.names t = λ t i.
+    subst (λ (u : List (List ℕ)). both_widened (length u) (said_by N t) ≡ said_by u t) (sym all) (said_widened N f.0 t apart (known t i)) in
+    map_twice (said_by N) (both_widened m) front ∙ map_same (λ t. both_widened m (said_by N t)) (said_by net.names) front said_as
+
+wide_reactions : (net : Net) (front rest : List Statement) → Front net front rest → map (both_widened (length net.names)) (reactions_of front) ≡ firsts sides_eq (map (said_by net.names) front)
+wide_reactions net front rest h =
+    let N : List (List ℕ) = names_of front in
+    let m : ℕ = length net.names in
+    let Y : List (List ℤ × List ℤ) = map (said_by N) front in
+    let test : (a b : List ℤ × List ℤ) → IsIn a Y → IsIn b Y → sides_eq (both_widened m a) (both_widened m b) ≡ sides_eq a b = λ a b i j.
+    let p = in_map (said_by N) front a i in
+    let q = in_map (said_by N) front b j in
+    subst (λ (u : List ℤ × List ℤ). sides_eq (both_widened m u) (both_widened m b) ≡ sides_eq u b) (sym p.2) (subst (λ (u : List ℤ × List ℤ). sides_eq (both_widened m (said_by N p.0)) (both_widened m u) ≡ sides_eq (said_by N p.0) u) (sym q.2) (wide_test N m p.0 q.0)) in
+    sym (firsts_map sides_eq sides_eq (both_widened m) Y test) ∙ ap (firsts sides_eq) (wide_statements net front rest h)
+
+said_append : (net : Net) (front rest : List Statement) → map (said_by net.names) (front ++ rest) ≡ map (said_by net.names) front ++ map (said_by net.names) rest
+said_append net front rest = map-append (said_by net.names) front rest
+
+reactions_few : (net : Net) (front rest : List Statement) → Front net front rest → length (reactions_of front) ≤ MAX_REACTIONS
+reactions_few net front rest h =
+    let wide = ap length (wide_reactions net front rest h) in
+    let same : length (map (both_widened (length net.names)) (reactions_of front)) ≡ length (reactions_of front) = simp length-map in
+    let mapped : length (map (sides_of net) net.reactions) ≡ length net.reactions = simp length-map in
+    let all = ap length (h.reactions ∙ ap (firsts sides_eq) (said_append net front rest)) in
+    omega (arith, wide, same, mapped, all, firsts_length sides_eq (map (said_by net.names) front) (map (said_by net.names) rest), h.network.partial.reactions_limit)
+
+-- the amounts of a statement are as many as the names
+both_long : (names : List (List ℕ)) (ss : List Statement) (v : List ℤ) → IsIn v (flat_map both_of (map (said_by names) ss)) → length v ≡ length names
+both_long names [] v i = absurd i
+both_long names (s ∷ ss) v (inl e) = ap length e ∙ length-map names (λ name. pos (amount_in s.0 name))
+both_long names (s ∷ ss) v (inr (inl e)) = ap length e ∙ length-map names (λ name. pos (amount_in s.1 name))
+both_long names (s ∷ ss) v (inr (inr i)) = both_long names ss v i
+
+complexes_few : (net : Net) (front rest : List Statement) → Front net front rest → length (complexes_of front) ≤ MAX_COMPLEXES
+complexes_few net front rest h =
+    let E : List ℤ → List ℤ → Bool = pointwise int_eq in
+    let d : (a b : List ℤ) → Decides (E a b) (a ≡ b) = λ a b. row_decides b a in
+    let N : List (List ℕ) = names_of front in
+    let m : ℕ = length net.names in
+    let Z : List (List ℤ) = flat_map both_of (map (said_by N) front) in
+    let test : (a b : List ℤ) → IsIn a Z → IsIn b Z → E (widened m a) (widened m b) ≡ E a b = λ a b i j.
+    same_test (E (widened m a) (widened m b)) (E a b) (widened m a ≡ widened m b) (a ≡ b) (d (widened m a) (widened m b)) (d a b) (λ e. append_same a b _ _ (both_long N front a i ∙ sym (both_long N front b j)) e) (ap (widened m)) in
+    -- all of the front's complexes, widened
+    let one : map (widened m) (firsts E Z) ≡ firsts E (map (widened m) Z) = sym (firsts_map E E (widened m) Z test) in
+    let three : complexes_of front ≡ firsts E Z = all_kept sides_eq sides_decide E d both_of (map (said_by N) front) [] in
+    let five : firsts E (map (widened m) Z) ≡ firsts E (flat_map both_of (map (said_by net.names) front)) =
+    ap (firsts E) (sym (flat_map_map (widened m) (map (said_by N) front)) ∙ ap (flat_map both_of) (wide_statements net front rest h)) in
+    let all : firsts E (flat_map both_of (map (said_by net.names) (front ++ rest))) ≡ net.complexes =
+    sym (all_kept sides_eq sides_decide E d both_of (map (said_by net.names) (front ++ rest)) []) ∙ ap (λ (t : List (List ℤ × List ℤ)). firsts E (flat_map both_of t)) (sym h.reactions) ∙ complexes_are net h.network.partial in
+    let cut : flat_map both_of (map (said_by net.names) (front ++ rest)) ≡ flat_map both_of (map (said_by net.names) front) ++ flat_map both_of (map (said_by net.names) rest) = ap (flat_map both_of) (said_append net front rest) ∙ flat_append both_of (map (said_by net.names) front) (map (said_by net.names) rest) in
+    let long : length (map (widened m) (firsts E Z)) ≡ length (firsts E Z) = simp length-map in
+    omega (arith, ap length three, ap length one, long, ap length five, firsts_length E (flat_map both_of (map (said_by net.names) front)) (flat_map both_of (map (said_by net.names) rest)), ap length (ap (firsts E) cut), ap length all, h.network.partial.complexes_limit)
+
+-- ---- no statement is a reaction of a complex to itself
+
+same_amounts : (names : List (List ℕ)) (s : Statement) → SaysSame s → amounts_in names s.0 ≡ amounts_in names s.1
+same_amounts [] s h = refl
+same_amounts (x ∷ names) s h = ap₂ (λ (a : ℤ) (b : List ℤ). a ∷ b) (ap pos (h x)) (same_amounts names s h)
+
+no_self : (net : Net) (all : List Statement) (s : Statement) → Front net all [] → IsIn s all → is_self s ≡ false
+no_self net all s h i =
+    elim (cases_Bool (is_self s)) [
+      | inl y ↦
+          let whole : map (said_by net.names) (all ++ []) ≡ map (said_by net.names) all = ap (map (said_by net.names)) (append-nil all) in
+          let in_said : IsIn (said_by net.names s) (firsts sides_eq (map (said_by net.names) all)) = firsts_has sides_eq sides_decide (map (said_by net.names) all) (said_by net.names s) (map_in (said_by net.names) all s i) in
+          let there : IsIn (said_by net.names s) (map (sides_of net) net.reactions) = subst (λ (t : List (List ℤ × List ℤ)). IsIn (said_by net.names s) t) (sym (h.reactions ∙ ap (firsts sides_eq) whole)) in_said in
+          let p = in_map (sides_of net) net.reactions (said_by net.names s) there in
+          let joins = all_in (JoinsTwo (length net.complexes)) net.reactions p.0 h.network.partial.apart p.1 in
+          let same : get_or net.complexes p.0.0 [] ≡ get_or net.complexes p.0.1 [] = ap (λ (u : List ℤ × List ℤ). u.0) (sym p.2) ∙ same_amounts net.names s (self_same s y) ∙ ap (λ (u : List ℤ × List ℤ). u.1) p.2 in
+          absurd (joins.0 (same_place net.complexes p.0.0 p.0.1 [] h.network.partial.complexes joins.1 joins.2 same))
+      | inr n ↦ n
+    ]
+
+-- ---- no line has a fault
+
+front_of : (net : Net) (all front rest : List Statement) → Front net all [] → all ≡ front ++ rest → Front net front rest
+front_of net all front rest h e =
+    let whole : all ++ [] ≡ front ++ rest = append-nil all ∙ e in
+    record {
+      network = h.network;
+      names = h.names ∙ ap names_of whole;
+      reactions = h.reactions ∙ ap (λ (t : List Statement). firsts sides_eq (map (said_by net.names) t)) whole;
+    }
+
+in_middle : (s : Statement) (front rest : List Statement) → IsIn s (front ++ s ∷ rest)
+in_middle s front rest = in_right s front (s ∷ rest) (inl refl)
+
+fine_statements : (net : Net) (all front ss rest : List Statement) → Front net all [] → all ≡ front ++ (ss ++ rest) → statements_fault front ss ≡ None
+unfolding statement_fault
+fine_statements net all front [] rest h e = refl
+fine_statements net all front (s ∷ ss) rest h e =
+    let more : all ≡ (front ++ s ∷ []) ++ (ss ++ rest) = e ∙ sym (append_assoc front (s ∷ []) (ss ++ rest)) in
+    let f = front_of net all (front ++ s ∷ []) (ss ++ rest) h more in
+    let self : is_self s ≡ false = no_self net all s h (subst (λ (t : List Statement). IsIn s t) (sym e) (in_middle s front (ss ++ rest))) in
+    let species : nat_lt MAX_SPECIES (length (names_of (front ++ s ∷ []))) ≡ false = le-ltb MAX_SPECIES _ (names_few net (front ++ s ∷ []) (ss ++ rest) f) in
+    let complexes : nat_lt MAX_COMPLEXES (length (complexes_of (front ++ s ∷ []))) ≡ false = le-ltb MAX_COMPLEXES _ (complexes_few net (front ++ s ∷ []) (ss ++ rest) f) in
+    let reactions : nat_lt MAX_REACTIONS (length (reactions_of (front ++ s ∷ []))) ≡ false = le-ltb MAX_REACTIONS _ (reactions_few net (front ++ s ∷ []) (ss ++ rest) f) in
+    rw (self, species, complexes, reactions) (fine_statements net all (front ++ s ∷ []) ss rest h more)
+
+at_place : (P : List ℕ → Type 0) (ls : List (List ℕ)) (k : ℕ) → AllByRecursion P ls → k < length ls → P (get_or ls k [])
+at_place P [] k h lt = absurd (omega arith)
+at_place P (l ∷ ls) zero h lt = h.0
+at_place P (l ∷ ls) (suc k) h lt = at_place P ls k h.1 (omega arith)
+
+fine_line : (text : List ℕ) (net : Net) → Spells text net → (k : ℕ) → k < length (lines text) → fault_on (lines text) k ≡ None
+fine_line text net h k lt =
+    let all : List Statement = all_said (lines text) in
+    let front : Front net all [] = record { network = h.network; names = h.names ∙ ap names_of (sym (append-nil all)); reactions = h.reactions ∙ ap (λ (t : List Statement). firsts sides_eq (map (said_by net.names) t)) (sym (append-nil all)) } in
+    let line : List ℕ = get_or (lines text) k [] in
+    let cut : all ≡ all_said (take k (lines text)) ++ (said line ++ all_said (drop (suc k) (lines text))) = flat_whole said (lines text) k [] lt ∙ append_assoc (all_said (take k (lines text))) (said line) (all_said (drop (suc k) (lines text))) in
+    let own : own_fault line ≡ None = at_place (λ l. own_fault l ≡ None) (lines text) k h.sound lt in
+    rw own (fine_statements net all (all_said (take k (lines text))) (said line) (all_said (drop (suc k) (lines text))) front cut)
+
+no_names : (net : Net) → IsNetwork net → map (sides_of net) net.reactions ≡ [] → ⊥
+no_names net h e = let n : length (map (sides_of net) net.reactions) ≡ length net.reactions = simp length-map in let s = h.some in omega (arith, n, ap length e, s)
+
+pub no_fault : (text : List ℕ) (net : Net) (line : ℕ) (code : TextCode) → Spells text net → Fault text line code → ⊥
+no_fault text net line code h (inl x) = let a = x.long in let b = h.short in omega arith
+no_fault text net line code h (inr (inl x)) = let a = fine_line text net h x.before x.there in let b = x.fault in cc
+no_fault text net line code h (inr (inr x)) =
+    let none : map (sides_of net) net.reactions ≡ [] = h.reactions ∙ ap (λ (t : List Statement). firsts sides_eq (map (said_by net.names) t)) x.none in
+    no_names net h.network none

@@ -1,0 +1,122 @@
+-- What the builder of a network answers, and the first fault of a statement.
+use Rattle.std.proofs.Common.{◌≡◌, ℕ, true, false, List, [], ◌∷◌, ◌++◌, length, Some, None, Result, Err, refl, sym, ap, subst, ◌∙◌, append_assoc, inl, inr, eqb}
+use Rattle.std.specs.Prelude.{map, ◌⊎◌, nat_lt, ℤ}
+use Rattle.std.specs.List.{list_all, flat_map}
+use Rattle.std.specs.Str.{bytes_eq}
+use Rattle.std.specs.Ordering.{int_eq}
+use Rattle.std.specs.Cmp.Lexicographic.{pointwise}
+use Rattle.std.proofs.lemmas.Bool.{cases_Bool, lt-ltb, le-ltb, eqb-true, eq-eqb}
+use Rattle.std.proofs.lemmas.List.{append-nil}
+use Rattle.std.proofs.lemmas.Slice.Eq.{bytes_eq-Decides}
+use Rattle.crn_vec.specs.Lists.{IsIn, firsts}
+use Rattle.crn_vec.specs.Network.{Net, Statement, names_in, said_by, sides_eq, amount_in}
+use Rattle.crn_vec.specs.declared.limits.TheConstants.{MAX_SPECIES, MAX_COMPLEXES, MAX_REACTIONS}
+use Rattle.crn_net.specs.Grows.{AddGives, Grows, Grown, IsSelf, said_with, names_with, complexes_with, reactions_with}
+use Rattle.crn_net.specs.Steps.{SaysSame}
+use Rattle.crn_net.specs.declared.fault.NetFault.{NetFault}
+use Rattle.crn_net.specs.declared.fault.NetFault.TheVariants as net
+use Rattle.crn_net.proofs.CallerLemmas.{Grown-more, Grown-names, Grown-network}
+use Rattle.crn_net.proofs.Firsts.{firsts_firsts}
+use Rattle.crn_net.proofs.Adding.{self_says, says_self}
+use Rattle.crn_net.proofs.Amounts.{has_name, none_said}
+use Rattle.crn_text.proofs.Widening.{reactions_grown}
+use Rattle.crn_text.proofs.Complexes.{complexes_more}
+use Rattle.crn_text.specs.Codes.{net_code}
+use Rattle.crn_text.specs.Faults.{is_self, both_of, names_of, complexes_of, reactions_of, statement_fault}
+use Rattle.crn_text.specs.Pieces.{StatementGives}
+use Rattle.crn_text.specs.declared.code.TextCode.{TextCode}
+use Rattle.crn_text.specs.declared.code.TextCode.TheVariants.{NoMemory}
+
+flat_push : (ss : List Statement) (s : Statement) → flat_map names_in (ss ++ s ∷ []) ≡ flat_map names_in ss ++ names_in s
+flat_push [] s = append-nil (names_in s)
+flat_push (x ∷ ss) s = ap (λ (t : List (List ℕ)). names_in x ++ t) (flat_push ss s) ∙ sym (append_assoc (names_in x) (flat_map names_in ss) (names_in s))
+
+names_all : (ss : List Statement) (s : Statement) (old : Net) → Grown ss old → names_with old s ≡ names_of (ss ++ s ∷ [])
+names_all ss s old g =
+    ap (λ (t : List (List ℕ)). firsts bytes_eq (t ++ names_in s)) (Grown-names ss old g) ∙ firsts_firsts bytes_eq bytes_eq-Decides (flat_map names_in ss) (names_in s) ∙ ap (firsts bytes_eq) (sym (flat_push ss s))
+
+reactions_all : (ss : List Statement) (s : Statement) (old : Net) → Grown ss old → reactions_with old s ≡ reactions_of (ss ++ s ∷ [])
+reactions_all ss s old g = reactions_grown ss s old g ∙ ap (λ (t : List (List ℕ)). firsts sides_eq (map (said_by t) (ss ++ s ∷ []))) (names_all ss s old g)
+
+complexes_all : (ss : List Statement) (s : Statement) (old : Net) → Grown ss old → complexes_with old s ≡ complexes_of (ss ++ s ∷ [])
+complexes_all ss s old g =
+    complexes_more old (length (names_with old s)) (said_with old s) (Grown-network ss old g) ∙ ap (λ (t : List (List ℤ × List ℤ)). firsts (pointwise int_eq) (flat_map both_of t)) (reactions_all ss s old g)
+
+-- ---- both sides are the same complex
+
+same_of : (s : Statement) (names : List (List ℕ)) → list_all (λ name. eqb (amount_in s.0 name) (amount_in s.1 name)) names ≡ true → (name : List ℕ) → IsIn name names → amount_in s.0 name ≡ amount_in s.1 name
+same_of s [] h name i = absurd i
+same_of s (x ∷ names) h name i =
+    elim (cases_Bool (eqb (amount_in s.0 x) (amount_in s.1 x))) [
+      | inl y ↦
+          let rest = rw y at h in
+          elim i [
+            | inl e ↦ subst (λ (n : List ℕ). amount_in s.0 n ≡ amount_in s.1 n) (sym e) (eqb-true _ _ y)
+            | inr j ↦ same_of s names rest name j
+          ]
+      | inr n ↦ absurd (let e = rw n at h in cc)
+    ]
+
+all_same : (s : Statement) (names : List (List ℕ)) → SaysSame s → list_all (λ name. eqb (amount_in s.0 name) (amount_in s.1 name)) names ≡ true
+all_same s [] h = refl
+all_same s (x ∷ names) h = let e = eq-eqb (amount_in s.0 x) (amount_in s.1 x) (h x) in rw e (all_same s names h)
+
+in_front : (name : List ℕ) (xs ys : List (List ℕ)) → IsIn name xs → IsIn name (xs ++ ys)
+in_front name [] ys i = absurd i
+in_front name (x ∷ xs) ys (inl e) = inl e
+in_front name (x ∷ xs) ys (inr i) = inr (in_front name xs ys i)
+
+in_back : (name : List ℕ) (xs ys : List (List ℕ)) → IsIn name ys → IsIn name (xs ++ ys)
+in_back name [] ys i = i
+in_back name (x ∷ xs) ys i = inr (in_back name xs ys i)
+
+pub self_same : (s : Statement) → is_self s ≡ true → SaysSame s
+self_same s h = λ name.
+    elim (has_name s.0 name) [
+      | inl i ↦ same_of s (names_in s) h name (in_front name (map (λ t. t.0) s.0) (map (λ t. t.0) s.1) i)
+      | inr n ↦ elim (has_name s.1 name) [
+        | inl j ↦ same_of s (names_in s) h name (in_back name (map (λ t. t.0) s.0) (map (λ t. t.0) s.1) j)
+        | inr m ↦ none_said s.0 name n ∙ sym (none_said s.1 name m)
+      ]
+    ]
+
+self_told : (old : Net) (s : Statement) → IsSelf old s → is_self s ≡ true
+self_told old s h = all_same s (names_in s) (self_says old s h)
+
+not_self : (old : Net) (s : Statement) → (IsSelf old s → ⊥) → is_self s ≡ false
+not_self old s h = elim (cases_Bool (is_self s)) [ inl y ↦ absurd (h (says_self old s (self_same s y))) | inr n ↦ n ]
+
+-- ---- the builder's answer
+
+pub grows_fine : (ss : List Statement) (s : Statement) (old new : Net) → Grown ss old → Grows old s new → (statement_fault ss s ≡ None) × Grown (ss ++ s ∷ []) new
+unfolding statement_fault
+grows_fine ss s old new g h =
+    let self = not_self old s h.apart in
+    let species : nat_lt MAX_SPECIES (length (names_of (ss ++ s ∷ []))) ≡ false = le-ltb MAX_SPECIES _ (rw (names_all ss s old g) at h.species_fit) in
+    let complexes : nat_lt MAX_COMPLEXES (length (complexes_of (ss ++ s ∷ []))) ≡ false = le-ltb MAX_COMPLEXES _ (rw (complexes_all ss s old g) at h.complexes_fit) in
+    let reactions : nat_lt MAX_REACTIONS (length (reactions_of (ss ++ s ∷ []))) ≡ false = le-ltb MAX_REACTIONS _ (rw (reactions_all ss s old g) at h.reactions_fit) in
+    (rw (self, species, complexes, reactions) refl, Grown-more ss s old new g h)
+
+pub add_refuses : (ss : List Statement) (s : Statement) (old new : Net) (fault : NetFault) (code : TextCode) → Grown ss old → AddGives old s (Err fault) new → code ≡ net_code fault → (code ≡ NoMemory) ⊎ (statement_fault ss s ≡ Some code)
+unfolding statement_fault
+add_refuses ss s old new net.SelfReaction code g h e = let self = self_told old s h.1 in inr (rw (self, e) refl)
+add_refuses ss s old new net.TooManySpecies code g h e =
+    let self = not_self old s h.1 in
+    let species : nat_lt MAX_SPECIES (length (names_of (ss ++ s ∷ []))) ≡ true = lt-ltb MAX_SPECIES _ (rw (names_all ss s old g) at h.2) in
+    inr (rw (self, species, e) refl)
+add_refuses ss s old new net.TooManyComplexes code g h e =
+    let self = not_self old s h.1 in
+    let species : nat_lt MAX_SPECIES (length (names_of (ss ++ s ∷ []))) ≡ false = le-ltb MAX_SPECIES _ (rw (names_all ss s old g) at h.2) in
+    let complexes : nat_lt MAX_COMPLEXES (length (complexes_of (ss ++ s ∷ []))) ≡ true = lt-ltb MAX_COMPLEXES _ (rw (complexes_all ss s old g) at h.3) in
+    inr (rw (self, species, complexes, e) refl)
+add_refuses ss s old new net.TooManyReactions code g h e =
+    let self = not_self old s h.1 in
+    let species : nat_lt MAX_SPECIES (length (names_of (ss ++ s ∷ []))) ≡ false = le-ltb MAX_SPECIES _ (rw (names_all ss s old g) at h.2) in
+    let complexes : nat_lt MAX_COMPLEXES (length (complexes_of (ss ++ s ∷ []))) ≡ false = le-ltb MAX_COMPLEXES _ (rw (complexes_all ss s old g) at h.3) in
+    let reactions : nat_lt MAX_REACTIONS (length (reactions_of (ss ++ s ∷ []))) ≡ true = lt-ltb MAX_REACTIONS _ (rw (reactions_all ss s old g) at h.4) in
+    inr (rw (self, species, complexes, reactions, e) refl)
+add_refuses ss s old new net.NoReaction code g h e = absurd h
+add_refuses ss s old new net.NoMemory code g h e = inl e
+
+pub statement_gives : (ss : List Statement) (s : Statement) (old new : Net) (fault : NetFault) (code : TextCode) (r : Result Unit TextCode) → Grown ss old → AddGives old s (Err fault) new → code ≡ net_code fault → r ≡ Err code → StatementGives ss s r new
+statement_gives ss s old new fault code r g h e is = rw is (add_refuses ss s old new fault code g h e)

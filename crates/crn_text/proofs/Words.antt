@@ -1,0 +1,176 @@
+-- The tokens of a text.
+use Rattle.std.proofs.Common.{◌≡◌, ℕ, zero, suc, ◌+◌, ◌-◌, ◌<◌, ◌≤◌, Bool, true, false, eqb, List, [], ◌∷◌, ◌++◌, length, take, drop, get_or, refl, sym, ap, ap₂, ◌∙◌, append_assoc, inl, inr, arith}
+use Rattle.std.specs.Prelude.{codes, nat_eq}
+use Rattle.std.specs.List.{prefix_len, starts_with, list_all}
+use Rattle.std.proofs.lemmas.Bool.{cases_Bool, ne_eqb}
+use Rattle.std.proofs.lemmas.List.{length-take, length-drop, length-append, append-nil, drop-drop, drop_all, map-append}
+use Rattle.std.proofs.lemmas.List.Sums.{prefix_len-le-length}
+use Rattle.crn_vec.specs.Network.{is_letter, is_name_byte, begins_name}
+use Rattle.crn_text.specs.Tokens.{Word, word, first_word, words_behind, words, is_digit, is_blank}
+use Rattle.crn_text.specs.Sides.{is_name_kind}
+use Rattle.crn_text.specs.Pieces.{Begins, IsToken, AreTokens, word_of, words_of}
+use Rattle.crn_text.specs.declared.token.Kind.{Kind}
+use Rattle.crn_text.specs.declared.token.Token.{Token}
+use Rattle.crn_text.proofs.Lists.{one_more, all_push}
+use Rattle.crn_text.specs.declared.token.Kind.TheVariants.{Number, Name, Plus, Arrow, BothWays, Stray}
+
+pub begins_number : (rest : List ℕ) → 0 < length rest → is_digit (get_or rest 0 0) ≡ true → Begins rest Number (prefix_len is_digit rest)
+unfolding first_word
+begins_number [] lt d = absurd (omega arith)
+begins_number (b ∷ bs) lt d = record {
+  same = rw d refl;
+  text = rw d refl;
+  some = rw d (omega arith);
+  inside = prefix_len-le-length is_digit (b ∷ bs);
+}
+
+pub begins_with_name : (rest : List ℕ) → 0 < length rest → is_digit (get_or rest 0 0) ≡ false → is_letter (get_or rest 0 0) ≡ true → Begins rest Name (prefix_len is_name_byte rest)
+unfolding first_word
+begins_with_name [] lt d l = absurd (omega arith)
+begins_with_name (b ∷ bs) lt d l = record {
+  same = rw (d, l) refl;
+  text = rw (d, l) refl;
+  some = rw l (omega arith);
+  inside = prefix_len-le-length is_name_byte (b ∷ bs);
+}
+
+pub begins_plus : (rest : List ℕ) → 0 < length rest → is_digit (get_or rest 0 0) ≡ false → is_letter (get_or rest 0 0) ≡ false → get_or rest 0 0 ≡ 43 → Begins rest Plus 1
+unfolding first_word
+begins_plus [] lt d l e = absurd (omega arith)
+begins_plus (b ∷ bs) lt d l e = record {
+  same = rw e refl;
+  text = rw e refl;
+  some = omega arith;
+  inside = omega arith;
+}
+
+-- what the tests of a first byte say where none of the first three kinds begins
+pub begins_arrow : (rest : List ℕ) → 2 ≤ length rest → is_digit (get_or rest 0 0) ≡ false → is_letter (get_or rest 0 0) ≡ false → (get_or rest 0 0 ≡ 43 → ⊥) → starts_with nat_eq rest (codes "->") ≡ true → Begins rest Arrow 2
+unfolding first_word
+begins_arrow [] lt d l n s = absurd (omega arith)
+begins_arrow (b ∷ bs) lt d l n s =
+    let plus : eqb b 43 ≡ false = ne_eqb b 43 n in record {
+      same = rw (d, l, plus, s) refl;
+      text = rw (d, l, plus, s) refl;
+      some = omega arith;
+      inside = lt;
+    }
+
+pub begins_both : (rest : List ℕ) → 3 ≤ length rest → is_digit (get_or rest 0 0) ≡ false → is_letter (get_or rest 0 0) ≡ false → (get_or rest 0 0 ≡ 43 → ⊥) → starts_with nat_eq rest (codes "->") ≡ false → starts_with nat_eq rest (codes "<->") ≡ true → Begins rest BothWays 3
+unfolding first_word
+begins_both [] lt d l n s t = absurd (omega arith)
+begins_both (b ∷ bs) lt d l n s t =
+    let plus : eqb b 43 ≡ false = ne_eqb b 43 n in record {
+      same = rw (d, l, plus, s, t) refl;
+      text = rw (d, l, plus, s, t) refl;
+      some = omega arith;
+      inside = lt;
+    }
+
+pub begins_stray : (rest : List ℕ) → 0 < length rest → is_digit (get_or rest 0 0) ≡ false → is_letter (get_or rest 0 0) ≡ false → (get_or rest 0 0 ≡ 43 → ⊥) → starts_with nat_eq rest (codes "->") ≡ false → starts_with nat_eq rest (codes "<->") ≡ false → Begins rest Stray 1
+unfolding first_word
+begins_stray [] lt d l n s t = absurd (omega arith)
+begins_stray (b ∷ bs) lt d l n s t =
+    let plus : eqb b 43 ≡ false = ne_eqb b 43 n in record {
+      same = rw (d, l, plus, s, t) refl;
+      text = rw (d, l, plus, s, t) refl;
+      some = omega arith;
+      inside = omega arith;
+    }
+
+-- ---- one token after another
+
+pub behind_is : (n : ℕ) (bs : List ℕ) → words_behind n bs ≡ words (drop n bs)
+unfolding words_behind
+behind_is zero bs = refl
+behind_is (suc n) [] = refl
+behind_is (suc n) (b ∷ bs) = behind_is n bs
+
+pub words_blank : (rest : List ℕ) → 0 < length rest → is_blank (get_or rest 0 0) ≡ true → words rest ≡ words (drop 1 rest)
+unfolding words_behind
+words_blank [] lt blank = absurd (omega arith)
+words_blank (b ∷ bs) lt blank = rw blank refl
+
+less_one : (n : ℕ) → 1 ≤ n → suc (n - 1) ≡ n
+less_one n le = omega arith
+
+pub words_token : (rest : List ℕ) (kind : Kind) (width : ℕ) → is_blank (get_or rest 0 0) ≡ false → Begins rest kind width → words rest ≡ word kind (take width rest) ∷ words (drop width rest)
+unfolding words_behind
+words_token [] kind width blank b = absurd (let i = b.inside in let s = b.some in omega arith)
+words_token (x ∷ bs) kind width blank b =
+    let len : length (take width (x ∷ bs)) ≡ width = omega (arith, length-take width (x ∷ bs), b.inside) in
+    let first : first_word (x ∷ bs) ≡ word kind (take width (x ∷ bs)) = ap₂ word b.same b.text in
+    let next : drop (width - 1) bs ≡ drop width (x ∷ bs) = let e : drop (suc (width - 1)) (x ∷ bs) ≡ drop width (x ∷ bs) = ap (λ (n : ℕ). drop n (x ∷ bs)) (less_one width b.some) in e in
+    rw (blank, first, len, behind_is (width - 1) bs, next) refl
+
+all_prefix : {X : Type 0} (p : X → Bool) (xs : List X) → list_all p (take (prefix_len p xs) xs) ≡ true
+all_prefix p [] = refl
+all_prefix p (x ∷ xs) =
+    elim (cases_Bool (p x)) [
+      | inl hit ↦ rw (hit, one_more, hit) (all_prefix p xs)
+      | inr miss ↦ rw miss refl
+    ]
+
+-- a token of the kind of names begins as a name
+pub begins_named : (rest : List ℕ) (kind : Kind) (width : ℕ) → Begins rest kind width → is_name_kind kind ≡ true → begins_name (take width rest) ≡ true
+unfolding first_word
+begins_named [] kind width b name = absurd (let i = b.inside in let s = b.some in omega arith)
+begins_named (x ∷ bs) kind width b name =
+    let is : is_name_kind (first_word (x ∷ bs)).kind ≡ true = ap is_name_kind b.same ∙ name in
+    elim (cases_Bool (is_digit x)) [
+      | inl d ↦ absurd (let e = rw d at is in cc)
+      | inr d ↦ elim (cases_Bool (is_letter x)) [
+        | inl l ↦ let text = rw (d, l, one_more) at b.text in ap begins_name (sym text) ∙ rw l (all_prefix is_name_byte bs)
+        | inr l ↦ elim (cases_Bool (eqb x 43)) [
+          | inl p ↦ absurd (let e = rw (d, l, p) at is in cc)
+          | inr p ↦ elim (cases_Bool (starts_with nat_eq (x ∷ bs) (codes "->"))) [
+            | inl s ↦ absurd (let e = rw (d, l, p, s) at is in cc)
+            | inr s ↦ elim (cases_Bool (starts_with nat_eq (x ∷ bs) (codes "<->"))) [
+              | inl t ↦ absurd (let e = rw (d, l, p, s, t) at is in cc)
+              | inr t ↦ absurd (let e = rw (d, l, p, s, t) at is in cc)
+            ]
+          ]
+        ]
+      ]
+    ]
+
+-- ---- the loop over the code of a line
+
+pub record ReadUpTo (code : List ℕ) (at : ℕ) (ts : List Token) : Type 0 where
+  pub inside : at ≤ length code
+  pub same : words code ≡ words_of code ts ++ words (drop at code)
+  pub tokens : AreTokens code ts
+  pub few : length ts ≤ at
+
+pub read_none : (code : List ℕ) → ReadUpTo code 0 []
+read_none code = record { inside = omega arith; same = refl; tokens = tt; few = omega arith }
+
+drop_more : (code : List ℕ) (at n : ℕ) → drop n (drop at code) ≡ drop (at + n) code
+drop_more code at n = drop-drop n at code
+
+pub read_blank : (code : List ℕ) (at : ℕ) (ts : List Token) → ReadUpTo code at ts → at < length code → is_blank (get_or (drop at code) 0 0) ≡ true → ReadUpTo code (at + 1) ts
+read_blank code at ts h lt blank = record {
+  inside = omega arith;
+  same = h.same ∙ ap (λ (t : List Word). words_of code ts ++ t) (words_blank (drop at code) (omega (arith, length-drop at code)) blank ∙ ap words (drop_more code at 1));
+  tokens = h.tokens;
+  few = omega (arith, h.few);
+}
+
+pub read_token : (code : List ℕ) (at : ℕ) (ts : List Token) (kind : Kind) (width : ℕ) (t : Token) → ReadUpTo code at ts → at < length code → is_blank (get_or (drop at code) 0 0) ≡ false → Begins (drop at code) kind width → t.kind ≡ kind → t.at ≡ at → t.length ≡ width → ReadUpTo code (at + width) (ts ++ t ∷ [])
+read_token code at ts kind width t h lt blank b k a l =
+    let this : word_of code t ≡ word kind (take width (drop at code)) = rw (k, a, l) refl in
+    let here : words (drop at code) ≡ word_of code t ∷ words (drop (at + width) code) = words_token (drop at code) kind width blank b ∙ ap₂ (λ (w : Word) (ws : List Word). w ∷ ws) (sym this) (ap words (drop_more code at width)) in
+    let fits : at + width ≤ length code = omega (arith, b.inside, length-drop at code) in
+    let token : IsToken code t = record { inside = rw (a, l) fits; named = λ n. rw (a, l) (begins_named (drop at code) kind width b (rw k at n)) } in
+    record {
+      inside = fits;
+      same = h.same ∙ ap (λ (u : List Word). words_of code ts ++ u) here ∙ sym (append_assoc (words_of code ts) (word_of code t ∷ []) (words (drop (at + width) code))) ∙ ap (λ (u : List Word). u ++ words (drop (at + width) code)) (sym (map-append (word_of code) ts (t ∷ [])));
+      tokens = all_push (IsToken code) ts t h.tokens token;
+      few = let s = b.some in omega (arith, h.few, length-append ts (t ∷ []));
+    }
+
+pub read_all : (code : List ℕ) (at : ℕ) (ts : List Token) → ReadUpTo code at ts → length code ≤ at → words_of code ts ≡ words code
+unfolding words_behind
+read_all code at ts h le =
+    let none : drop at code ≡ [] = drop_all at code le in
+    sym (h.same ∙ ap (λ (t : List ℕ). words_of code ts ++ words t) none ∙ append-nil (words_of code ts))

@@ -1,0 +1,14 @@
+use Rattle.std.proofs.Common.{sym, ap, ◌∙◌, inr}
+use Rattle.std.specs.List.{list_all}
+use Rattle.crn_text.specs.Faults.{is_plain}
+use Rattle.crn_text.proofs.LinesRead.{fault_plain, line_gives}
+use Rattle.crn_text.proofs.line.read_line.Goals as goal
+
+pub returns-then-not-are_plain : goal.returns-then-not-are_plain
+returns-then-not-are_plain c = λ before grown.
+    inr (fault_plain before c.args.line.now (ap (list_all is_plain) (sym c.code_of-code.ensures) ∙ sym c.are_plain.ensures ∙ c.if-not-are_plain.true))
+
+pub returns : goal.returns
+returns c = λ before grown.
+    let read = rw (c.deref.ensures.value, c.in_ok-read_tokens.ensures.words, c.code_of-code.ensures) at c.read_statement.ensures before grown in
+    line_gives before c.args.line.now c.read_statement.result _ (ap (list_all is_plain) (sym c.code_of-code.ensures) ∙ sym c.are_plain.ensures ∙ c.if-not-are_plain.false) read

@@ -1,0 +1,9 @@
+use Rattle.crn_text.specs.Pieces.{size_left}
+use Rattle.crn_text.proofs.LinesRead.{LinesUpTo}
+use Rattle.crn_text.proofs.reader.read_lines.Given as goal
+
+abbrev pub invariant-lines : goal.invariant-lines
+invariant-lines l = LinesUpTo l.text l.number l.left l.builder
+
+abbrev pub decreases-lines : goal.decreases-lines
+decreases-lines l = size_left l.left

@@ -1,0 +1,22 @@
+ghost use Rattle.std.specs.Prelude.{◌≡◌, ◌⊎◌, ℕ, List, [], None};
+ghost use Rattle.crn_vec.specs.Network.{Net};
+ghost use Rattle.crn_text.specs.declared.code.TextCode.{TextCode};
+ghost use Rattle.crn_text.specs.Tokens.{words, before_comment};
+ghost use Rattle.crn_text.specs.Sides.{IsStatementLine};
+ghost use Rattle.crn_text.specs.Faults.{own_fault};
+ghost use Rattle.crn_text.specs.Spells.{Spells, Fault};
+
+/// A text has no two first faults.
+pub fn first_fault_is_one()
+    ensures { (text : List ℕ) (line other : ℕ) (code another : TextCode) → Fault text line code → Fault text other another → (line ≡ other) × (code ≡ another) }
+{}
+
+/// A text that spells a network has no fault.
+pub fn spelled_text_has_no_fault()
+    ensures { (text : List ℕ) (net : Net) (line : ℕ) (code : TextCode) → Spells text net → Fault text line code → ⊥ }
+{}
+
+/// A line that is not wrong by itself has no token, or is a side, an arrow and a side.
+pub fn sound_line_is_a_statement()
+    ensures { (line : List ℕ) → own_fault line ≡ None → (words (before_comment line) ≡ []) ⊎ IsStatementLine (words (before_comment line)) }
+{}

@@ -1,0 +1,19 @@
+//! Network texts: the network that a text spells, or its first fault, and the canonical text of a network.
+#![tactic(auto)]
+
+mod check;
+mod code;
+mod laws;
+mod line;
+mod reader;
+mod side;
+mod sums;
+#[cfg(test)]
+mod tests;
+mod token;
+mod writer;
+
+pub use code::{TextCode, TextFault};
+pub use laws::{first_fault_is_one, sound_line_is_a_statement, spelled_text_has_no_fault};
+pub use reader::read;
+pub use writer::{write, write_side};
