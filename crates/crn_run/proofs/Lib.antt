@@ -11,3 +11,4 @@ pub mod Labels
 pub mod LabelLaws
 pub mod Runs
 pub mod Complete
+pub mod WordsSaid

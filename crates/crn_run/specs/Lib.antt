@@ -5,3 +5,4 @@ pub mod Run
 pub mod Spread
 pub mod Steps
 pub mod Turns
+pub mod Words
