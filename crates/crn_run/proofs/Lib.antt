@@ -5,3 +5,4 @@ pub mod Labels
 pub mod LabelLaws
 pub mod Runs
 pub mod Complete
+pub mod WordsSaid

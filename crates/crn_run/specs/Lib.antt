@@ -3,3 +3,4 @@ pub mod Run
 pub mod Spread
 pub mod Steps
 pub mod Turns
+pub mod Words

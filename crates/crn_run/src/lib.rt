@@ -8,7 +8,11 @@ mod status;
 #[cfg(test)]
 mod tests;
 mod top;
+mod words;
 
 pub use laws::spelling_is_unique;
 pub use status::Status;
 pub use top::{quiet_devices_meet_no_fault, run, what_may_be_written_is_one_text};
+pub use words::{
+    Command, DEFAULT_BUDGET, MAX_BUDGET, MAX_BUDGET_DIGITS, command_of, words_say_one_command,
+};
