@@ -1,7 +1,6 @@
 -- From a line or a report to a whole run.
-use Rattle.std.proofs.Common.{◌≡◌, ◌↔◌, ℕ, ◌+◌, List, [], ◌∷◌, ◌++◌, length, map, get_or, codes, Option, Some, None, Result, Ok, Err, refl, sym, ap, ◌∙◌, inl, inr, arith}
-use Rattle.std.specs.Prelude.{IfSome, String, string_bytes}
-use Rattle.std.specs.declared.alloc.Global.{Global}
+use Rattle.std.proofs.Common.{◌≡◌, ℕ, ◌+◌, List, [], ◌++◌, length, Option, Some, None, Result, Ok, Err, refl, sym, ap, ◌∙◌, inl, inr, arith}
+use Rattle.std.specs.Prelude.{IfSome}
 use Rattle.std.proofs.lemmas.List.{length-append, append-nil}
 use Rattle.crn_vec.specs.declared.limits.TheConstants.{MAX_TEXT}
 use Rattle.crn_io.specs.declared.read.ReadStop.{ReadStop}
@@ -10,7 +9,7 @@ use Rattle.crn_io.specs.declared.read.ReadStop.TheVariants as stop
 use Rattle.crn_io.specs.Pull.{ComesOff, HasNoneLeft}
 use Rattle.crn_io.specs.Read.{ReadGives, ComesOffUpTo}
 use Rattle.crn_text.specs.Codes.{code_number, code_name}
-use Rattle.crn_text.specs.Spells.{Fault, IsTooLong}
+use Rattle.crn_text.specs.Spells.{IsTooLong}
 use Rattle.crn_text.specs.declared.code.TextCode.TheVariants.{TextTooLong}
 use Rattle.crn_run.specs.Run.{Devices, WasLeft, IsReadOut, IsReadUp, Writes, Breaks, LeavesSink, IsReport, IsRefusalOf, refused_line, usage_line, RunGives}
 use Rattle.crn_run.specs.Steps.{WroteAll, WroteFront, Stays, LineGives, ReportGives}
@@ -74,7 +73,7 @@ too_long (Some t) rest bytes long p = (t, refl, long_refused t bytes p.0 long p.
 pub pulled : (r : Result (List ℕ) ReadStop) (limit : ℕ) (left after : Option (List ℕ)) (before now : ℕ) → ReadGives r limit left after before now → ComesOffUpTo (limit + 1) left after
 pulled (Ok bytes) limit left after before now g = (bytes, omega (arith, g.0), g.1)
 pulled (Err TooLong) limit left after before now g = (g.0, omega (arith, g.1), g.2)
-pulled (Err Failed) limit left after before now g = g.0
+pulled (Err Failed) limit left after before now g = (g.0.0, omega (arith, g.0.1), g.0.2)
 pulled (Err stop.NoMemory) limit left after before now g = g.0
 
 -- ---- runs
@@ -88,7 +87,7 @@ report_ends Refused words text old new w r e q g = record { command = w; read = 
 report_ends Rejected words text old new w r e q g = absurd g
 report_ends Usage words text old new w r e q g = absurd g
 report_ends ReadFault words text old new w r e q g = absurd g
-report_ends WriteFault words text old new w r e q g = record { read = λ none. absurd (none w); source = q; text = text; left = e; out = g.0; allowed = inl (w, g.1); sink = breaks_of g.0 old new g.2 }
+report_ends WriteFault words text old new w r e q g = record { unread = λ none. absurd (none w); read = λ yes. inl r; source = q; text = text; left = e; out = g.0; allowed = inl (w, g.1); sink = breaks_of g.0 old new g.2 }
 report_ends NoMemory words text old new w r e q g = record { source = q; sink = leaves_of old new g }
 
 pub refusal_ends : (status : Status) (words : List (List ℕ)) (text out : List ℕ) (old new : Devices)
@@ -100,7 +99,7 @@ refusal_ends Refused words text out old new w r e q s g = record { command = w; 
 refusal_ends Rejected words text out old new w r e q s g = absurd (let h = g.0 in cc)
 refusal_ends Usage words text out old new w r e q s g = absurd (let h = g.0 in cc)
 refusal_ends ReadFault words text out old new w r e q s g = absurd (let h = g.0 in cc)
-refusal_ends WriteFault words text out old new w r e q s g = record { read = λ none. absurd (none w); source = q; text = text; left = e; out = out; allowed = inl (w, inr s); sink = breaks_of out old new g }
+refusal_ends WriteFault words text out old new w r e q s g = record { unread = λ none. absurd (none w); read = λ yes. r; source = q; text = text; left = e; out = out; allowed = inl (w, inr s); sink = breaks_of out old new g }
 refusal_ends NoMemory words text out old new w r e q s g = absurd (let h = g.0 in cc)
 
 pub usage_ends : (status : Status) (words : List (List ℕ)) (old new : Devices)
@@ -114,13 +113,5 @@ usage_ends Usage words old new none e q g = record { command = none; read = e; s
 usage_ends ReadFault words old new none e q g = absurd (let h = g.0 in cc)
 usage_ends WriteFault words old new none e q g =
     let t = some_text old.left in
-    record { read = λ _. e; source = q; text = t.0; left = t.1; out = usage_line; allowed = inr (none, refl); sink = breaks_of usage_line old new g }
+    record { unread = λ _. e; read = λ yes. absurd (none yes); source = q; text = t.0; left = t.1; out = usage_line; allowed = inr (none, refl); sink = breaks_of usage_line old new g }
 usage_ends NoMemory words old new none e q g = absurd (let h = g.0 in cc)
-
--- ---- words
-
-pub report_words : (ws : List (String Global)) (w : String Global) → length ws ≡ 2 → w ≡ get_or ws 1 w → (string_bytes w ≡ codes "report") ↔ IsReport (map string_bytes ws)
-report_words [] w len at = absurd (omega arith)
-report_words (a ∷ []) w len at = absurd (omega arith)
-report_words (a ∷ b ∷ []) w len at = (λ e. (string_bytes a, let h : string_bytes b ≡ codes "report" = ap string_bytes (sym at) ∙ e in cc), λ r. let h = r.1 in ap string_bytes at ∙ cc)
-report_words (a ∷ b ∷ d ∷ ws) w len at = absurd (omega arith)

@@ -1,6 +1,6 @@
 -- What a run of the program reads, writes and answers.
 -- Source: this project's own. Shapes: words, names and texts are lists of bytes; lines of a text count from 1.
-use Rattle.std.specs.Prelude.{◌≡◌, ◌≤◌, ◌⊎◌, ◌+◌, ℕ, List, [], ◌∷◌, ◌++◌, length, codes, decimal, Option, Some, None, IfSome}
+use Rattle.std.specs.Prelude.{◌≡◌, ◌≤◌, ◌⊎◌, ◌+◌, ℕ, List, [], ◌++◌, length, codes, decimal, Option, Some, None, IfSome}
 use Rattle.crn_vec.specs.Network.{Net}
 use Rattle.crn_vec.specs.Linkage.{AreRightLabels, IsLabelCount}
 use Rattle.crn_vec.specs.declared.limits.TheConstants.{MAX_TEXT}
@@ -12,14 +12,16 @@ use Rattle.crn_text.specs.Codes.{code_number, code_name}
 use Rattle.crn_text.specs.Spells.{Spells, Fault}
 use Rattle.crn_text.specs.declared.code.TextCode.{TextCode}
 use Rattle.crn_run.specs.Report.{render}
+use Rattle.crn_run.specs.Words.{IsCommand}
+use Rattle.crn_run.specs.declared.words.Command.TheVariants.{Report}
 use Rattle.crn_run.specs.declared.status.Status.{Status}
 use Rattle.crn_run.specs.declared.status.Status.TheVariants.{Done, OpenLeft, Refused, Rejected, Usage, ReadFault, WriteFault, NoMemory}
 
 -- ---- words
 
--- the words are the program's name and the command `report`
+-- the words say the command `report`, with some budget
 abbrev pub IsReport : List (List ℕ) → Type 0
-IsReport words = (program : List ℕ) × (words ≡ program ∷ codes "report" ∷ [])
+IsReport words = (budget : ℕ) × IsCommand words (Report budget)
 
 -- ---- texts that are written
 
@@ -140,7 +142,8 @@ pub record EndsReadFault (words : List (List ℕ)) (old new : Devices) : Type 0 
 
 -- the sink's count of faults rose, and a front of a text that may be written was written
 pub record EndsWriteFault (words : List (List ℕ)) (old new : Devices) : Type 0 where
-  pub read : (IsReport words → ⊥) → new.left ≡ old.left
+  pub unread : (IsReport words → ⊥) → new.left ≡ old.left
+  pub read : IsReport words → IsReadUp old.left new.left
   pub source : new.source_faults ≡ old.source_faults
   pub text : List ℕ
   pub left : WasLeft old text

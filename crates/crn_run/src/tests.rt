@@ -321,3 +321,20 @@ fn a_failing_device_ends_the_run(rt: HostRuntime) -> Result<(), Fail> {
     }
     Ok(())
 }
+
+#[test]
+fn statuses_have_their_numbers(rt: HostRuntime) {
+    let numbers = [
+        (Status::Done, 0),
+        (Status::OpenLeft, 1),
+        (Status::Refused, 2),
+        (Status::Rejected, 3),
+        (Status::Usage, 4),
+        (Status::ReadFault, 5),
+        (Status::WriteFault, 6),
+        (Status::NoMemory, 7),
+    ];
+    for (status, number) in numbers {
+        assert_eq!(rt; status as u8, number, "{status:?}");
+    }
+}

@@ -11,6 +11,7 @@ ghost use Rattle.crn_run.specs.declared.status.Status.TheVariants.{Refused, Usag
 use crate::linkage::linkage;
 use crate::report::{put_refused, put_usage, write_report};
 use crate::status::Status;
+use crate::words::{Command, command_of};
 use crn_io::{ReadStop, Sink, Source, read_all};
 use crn_text::{TextCode, read};
 use crn_vec::MAX_TEXT;
@@ -51,13 +52,13 @@ pub fn quiet_devices_meet_no_fault()
         (status ≡ ReadFault → ⊥) × (status ≡ WriteFault → ⊥) × (new.sink_faults ≡ old.sink_faults) }
 {}
 
-// Whether the words are the program's name and `report`.
+// Whether the words say `report`. The budget has no effect before a search is made.
 fn is_report(words: &[String]) -> bool
     ensures { IsTrue result ↔ IsReport (map string_bytes words.now) }
 {
-    match words {
-        [_, command] => command.as_str() == "report",
-        _ => false,
+    match command_of(words) {
+        Some(Command::Report { budget: _ }) => true,
+        None => false,
     }
 }
 
