@@ -6,7 +6,10 @@
 #     benches/linear.sh [RUNS]
 set -eu
 cd "$(dirname "$0")/../crates/crn_bench"
-rt run -- decide 1 futile2 >/dev/null
+rt run -- decide 1 futile2 >/dev/null 2>&1 || {
+    echo "crn_bench is not built: see \`rt check\` in $PWD" >&2
+    exit 1
+}
 
 exec python3 - out/crn_bench "${1:-5}" <<'PYTHON'
 import os
