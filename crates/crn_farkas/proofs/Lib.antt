@@ -7,4 +7,5 @@ pub mod Ruling
 pub mod Numbers
 pub mod Witnesses
 pub mod PartSums
+pub mod Counts
 pub mod Finals

@@ -11,6 +11,8 @@ mod solver;
 mod stop;
 mod sum;
 mod system;
+#[cfg(test)]
+mod tests;
 mod view;
 
 pub use decision::Decision;

@@ -1,0 +1,351 @@
+ghost use Rattle.std.specs.Prelude.{◌≡◌, ◌≤◌, ◌<◌, ◌+◌, IsTrue, length, unsigned_abs, vec_len};
+ghost use Rattle.crn_vec.specs.Vectors.{AreWithin};
+ghost use Rattle.crn_farkas.specs.Decides.{signed_count};
+
+use crate::{Decision, Stop, System, decide};
+use crn_vec::{Kind, MAX_AMOUNT, MAX_SIGNED, Matrix, agrees};
+use std::alloc::Global;
+use std::process::Abort;
+
+// How a system ended, after its numbers were tested by the definition.
+#[derive(Clone, Copy, Debug, PartialEq, Eq)]
+enum End {
+    Feasible,
+    Infeasible,
+    Wide,
+    NoMemory,
+}
+
+fn at(list: &[i128], place: usize) -> i128 {
+    match list.get(place) {
+        Some(x) => *x,
+        None => 0,
+    }
+}
+
+// A small number, as a matrix may hold it.
+fn small(x: i128) -> i128
+    ensures { unsigned_abs result ≤ MAX_AMOUNT }
+{
+    if -99 <= x && x <= 99 { x } else { 0 }
+}
+
+// Adds a row of the numbers from a first place on, which stand so many places apart.
+fn push_row(
+    rt: &impl Abort,
+    entries: &mut Vec<i128>,
+    cols: usize,
+    from: &[i128],
+    first: usize,
+    step: usize,
+)
+    requires { AreWithin MAX_AMOUNT entries.old.items }
+    ensures within { AreWithin MAX_AMOUNT entries.new.items }
+    ensures count { vec_len entries.new ≡ vec_len entries.old + cols }
+{
+    for j in 0..cols {
+        let x = at(from, first.wrapping_add(step.wrapping_mul(j)));
+        entries.push(small(x)).expect(rt, "memory");
+    }
+}
+
+// The matrix of these entries, row by row.
+fn matrix(rt: &impl Abort, alloc: Global, rows: usize, cols: usize, entries: &[i128]) -> Matrix {
+    assert!(rt; 1 <= cols && cols < 100);
+    assert!(rt; rows < 100);
+    let mut made = Vec::new(alloc);
+    for i in 0..rows {
+        push_row(rt, &mut made, cols, entries, i.wrapping_mul(cols), 1);
+    }
+    Matrix::new(alloc, rows, cols, &made).expect(rt, "memory")
+}
+
+// The matrix whose columns are these entries, column by column.
+fn turned(rt: &impl Abort, alloc: Global, rows: usize, cols: usize, entries: &[i128]) -> Matrix {
+    assert!(rt; 1 <= cols && cols < 100);
+    assert!(rt; rows < 100);
+    let mut made = Vec::new(alloc);
+    for i in 0..rows {
+        push_row(rt, &mut made, cols, entries, i, rows);
+    }
+    Matrix::new(alloc, rows, cols, &made).expect(rt, "memory")
+}
+
+// The sum of the products, place by place.
+fn product(a: &[i128], b: &[i128]) -> i128 {
+    let mut sum = 0i128;
+    for (x, y) in a.iter().zip(b) {
+        sum = sum.wrapping_add(x.wrapping_mul(*y));
+    }
+    sum
+}
+
+// The list (x, Ax).
+fn values(rt: &impl Abort, alloc: Global, matrix: &Matrix, x: &[i128]) -> Vec<i128> {
+    let mut list = Vec::from_slice(alloc, x).expect(rt, "memory");
+    for i in 0..matrix.rows() {
+        list.push(product(matrix.row(i), x)).expect(rt, "memory");
+    }
+    list
+}
+
+// The sum of the entries of a column, each times minus the multiplier of its row.
+fn column_weight(matrix: &Matrix, u: &[i128], j: usize) -> i128
+    requires { j < matrix.now.cols }
+{
+    let mut sum = 0i128;
+    for i in 0..matrix.rows() {
+        sum = sum.wrapping_sub(at(u, i).wrapping_mul(matrix.entry(i, j)));
+    }
+    sum
+}
+
+// The list (-uA, u).
+fn weights(rt: &impl Abort, alloc: Global, matrix: &Matrix, u: &[i128]) -> Vec<i128> {
+    let mut list = Vec::new(alloc);
+    for j in 0..matrix.cols() {
+        list.push(column_weight(matrix, u, j)).expect(rt, "memory");
+    }
+    list.extend_from_slice(u).expect(rt, "memory");
+    list
+}
+
+// Whether a list that rules a system out may have this weight at a coordinate of this kind.
+fn weighs(kind: Kind, weight: i128) -> bool {
+    match kind {
+        Kind::Pos | Kind::NonNeg => weight >= 0,
+        Kind::Neg => weight <= 0,
+        Kind::Zero => true,
+        Kind::Free => weight == 0,
+    }
+}
+
+// Whether a list rules a system of these kinds out.
+fn rules_out(kinds: &[Kind], list: &[i128]) -> bool {
+    let mut some = false;
+    for (kind, weight) in kinds.iter().zip(list) {
+        if !weighs(*kind, *weight) {
+            return false;
+        }
+        if *weight != 0 && (*kind == Kind::Pos || *kind == Kind::Neg) {
+            some = true;
+        }
+    }
+    some && list.len() == kinds.len()
+}
+
+// Whether the kinds are few enough to be asked for.
+#[tactic(auto, using(crate::proofs::Counts::count_at_most))]
+fn are_few(kinds: &[Kind]) -> bool
+    ensures { IsTrue result → signed_count kinds.now ≤ MAX_SIGNED }
+{
+    kinds.len() <= MAX_SIGNED
+}
+
+// Decides a system, and tests the numbers of the answer.
+fn end_of(rt: &impl Abort, alloc: Global, matrix: &Matrix, kinds: &[Kind]) -> End {
+    assert!(rt; kinds.len() == matrix.cols() + matrix.rows());
+    assert!(rt; are_few(kinds));
+    match decide(alloc, &System { matrix, kinds }) {
+        Ok(Decision::Feasible(x)) => {
+            assert_eq!(rt; x.as_slice().len(), matrix.cols());
+            let list = values(rt, alloc, matrix, x.as_slice());
+            assert!(rt; list.len() == kinds.len());
+            assert!(rt; agrees(kinds, &list));
+            End::Feasible
+        }
+        Ok(Decision::Infeasible(u)) => {
+            assert_eq!(rt; u.as_slice().len(), matrix.rows());
+            assert!(rt; rules_out(kinds, &weights(rt, alloc, matrix, u.as_slice())));
+            End::Infeasible
+        }
+        Err(Stop::Wide { index, basis }) => {
+            assert!(rt; index >= 1);
+            assert_eq!(rt; basis.as_slice().len(), matrix.cols());
+            End::Wide
+        }
+        Err(Stop::NoMemory) => End::NoMemory,
+    }
+}
+
+// Positive on so many columns, and zero on so many rows.
+fn positive_on_columns(rt: &impl Abort, alloc: Global, cols: usize, rows: usize) -> Vec<Kind> {
+    let mut kinds = Vec::new(alloc);
+    for k in 0..cols.wrapping_add(rows) {
+        let kind = if k < cols { Kind::Pos } else { Kind::Zero };
+        kinds.push(kind).expect(rt, "memory");
+    }
+    kinds
+}
+
+// Whether a network has a positive dependence of its reaction vectors, and whether it has a positive conservation law.
+fn ends(rt: &impl Abort, alloc: Global, species: usize, vectors: &[i128]) -> (End, End) {
+    assert!(rt; 1 <= species);
+    let reactions = vectors.len() / species;
+    let dependence = turned(rt, alloc, species, reactions, vectors);
+    let conservation = matrix(rt, alloc, reactions, species, vectors);
+    (
+        end_of(
+            rt,
+            alloc,
+            &dependence,
+            &positive_on_columns(rt, alloc, reactions, species),
+        ),
+        end_of(
+            rt,
+            alloc,
+            &conservation,
+            &positive_on_columns(rt, alloc, species, reactions),
+        ),
+    )
+}
+
+// The reaction vectors of the lines `X1 -> 99X2`, `X2 -> 99X3` and on, over so many species.
+fn chain(rt: &impl Abort, alloc: Global, lines: usize, species: usize) -> Vec<i128> {
+    let mut vectors = Vec::new(alloc);
+    assert!(rt; species > 0);
+    for place in 0..lines.wrapping_mul(species) {
+        let (line, s) = (place / species, place % species);
+        let x = if s == line {
+            -1
+        } else if s == line.wrapping_add(1) {
+            99
+        } else {
+            0
+        };
+        vectors.push(x).expect(rt, "memory");
+    }
+    vectors
+}
+
+const EDELSTEIN: [i128; 18] = [1, 0, 0, -1, 0, 0, -1, -1, 1, 1, 1, -1, 0, 1, -1, 0, -1, 1];
+
+// The species in the order S0, K, KS0, S1, KS1, S2, F, FS2, FS1, and a line for each reaction.
+const TWO_SITES: [i128; 108] = [
+    -1, -1, 1, 0, 0, 0, 0, 0, 0, //
+    1, 1, -1, 0, 0, 0, 0, 0, 0, //
+    0, 1, -1, 1, 0, 0, 0, 0, 0, //
+    0, -1, 0, -1, 1, 0, 0, 0, 0, //
+    0, 1, 0, 1, -1, 0, 0, 0, 0, //
+    0, 1, 0, 0, -1, 1, 0, 0, 0, //
+    0, 0, 0, 0, 0, -1, -1, 1, 0, //
+    0, 0, 0, 0, 0, 1, 1, -1, 0, //
+    0, 0, 0, 1, 0, 0, 1, -1, 0, //
+    0, 0, 0, -1, 0, 0, -1, 0, 1, //
+    0, 0, 0, 1, 0, 0, 1, 0, -1, //
+    1, 0, 0, 0, 0, 0, 1, 0, -1,
+];
+
+#[test]
+fn networks_are_dependent_and_conservative_by_table(rt: HostRuntime) {
+    use End::{Feasible, Infeasible};
+    let cases: [(&str, usize, &[i128], (End, End)); 8] = [
+        ("an open path", 2, &[-1, 1], (Infeasible, Feasible)),
+        (
+            "a reversible pair",
+            2,
+            &[-1, 1, 1, -1],
+            (Feasible, Feasible),
+        ),
+        ("Edelstein", 3, &EDELSTEIN, (Feasible, Infeasible)),
+        (
+            "Brusselator",
+            2,
+            &[1, 0, -1, 0, -1, 1, 1, -1],
+            (Feasible, Infeasible),
+        ),
+        (
+            "pairs of A and B",
+            2,
+            &[-1, 1, 1, -1, -1, 1, 1, -1],
+            (Feasible, Feasible),
+        ),
+        ("growth and decay", 1, &[1, -1], (Feasible, Infeasible)),
+        ("two sites", 9, &TWO_SITES, (Feasible, Feasible)),
+        (
+            "a cycle of three",
+            3,
+            &[-1, 1, 0, 0, -1, 1, 1, 0, -1],
+            (Feasible, Feasible),
+        ),
+    ];
+    for (name, species, vectors, want) in cases {
+        assert_eq!(rt; ends(&rt, rt.alloc(), species, vectors), want, "{name}");
+    }
+}
+
+#[test]
+fn chains_of_99_are_decided_or_wide(rt: HostRuntime) {
+    let nine = chain(&rt, rt.alloc(), 9, 10);
+    assert_eq!(rt;
+        ends(&rt, rt.alloc(), 10, &nine),
+        (End::Infeasible, End::Feasible)
+    );
+    let eleven = chain(&rt, rt.alloc(), 11, 12);
+    assert_eq!(rt;
+        ends(&rt, rt.alloc(), 12, &eleven),
+        (End::Infeasible, End::Wide)
+    );
+    let mut twelve = chain(&rt, rt.alloc(), 11, 13);
+    let inflow = [0, 0, 0, 0, 0, 0, 0, 0, 0, 0, 0, 0, 1];
+    twelve.extend_from_slice(&inflow).expect(&rt, "memory");
+    assert_eq!(rt;
+        ends(&rt, rt.alloc(), 13, &twelve),
+        (End::Infeasible, End::Infeasible)
+    );
+}
+
+#[test]
+fn systems_of_all_kinds_by_table(rt: HostRuntime) {
+    use Kind::{Free, Neg, NonNeg, Pos, Zero};
+    let cases: [(&str, usize, &[i128], &[Kind], End); 7] = [
+        ("no rows", 0, &[], &[Pos, Neg], End::Feasible),
+        (
+            "dependent rows",
+            2,
+            &[1, -1, -2, 2],
+            &[Pos, Pos, Zero, Zero],
+            End::Feasible,
+        ),
+        (
+            "dependent rows of two signs",
+            2,
+            &[1, -1, 2, -2],
+            &[Free, NonNeg, Pos, Neg],
+            End::Infeasible,
+        ),
+        (
+            "nothing asked",
+            1,
+            &[1, 1],
+            &[Free, NonNeg, Zero],
+            End::Feasible,
+        ),
+        (
+            "five kinds",
+            2,
+            &[1, 1, 0, 0, 1, 1],
+            &[Pos, Neg, NonNeg, Zero, Free],
+            End::Feasible,
+        ),
+        (
+            "a sum that is zero",
+            2,
+            &[1, 0, 1, 0, 1, 1],
+            &[Pos, Neg, NonNeg, Zero, Free],
+            End::Infeasible,
+        ),
+        (
+            "a negative row",
+            2,
+            &[2, 3, 1, -1],
+            &[NonNeg, Free, Neg, Pos],
+            End::Feasible,
+        ),
+    ];
+    for (name, rows, entries, kinds, want) in cases {
+        let cols = kinds.len().wrapping_sub(rows);
+        let matrix = matrix(&rt, rt.alloc(), rows, cols, entries);
+        assert_eq!(rt; end_of(&rt, rt.alloc(), &matrix, kinds), want, "{name}");
+    }
+}
