@@ -1,7 +1,7 @@
 -- A text spells one network at most.
 use Rattle.std.proofs.Common.{◌≡◌, ℕ, List, map, sym, ap, ◌∙◌}
 use Rattle.crn_vec.specs.Lists.{firsts}
-use Rattle.crn_vec.specs.Network.{Net, sides_of, sides_eq, said_by}
+use Rattle.crn_vec.specs.Network.{Net, sides_eq, said_by}
 use Rattle.crn_text.specs.Tokens.{lines}
 use Rattle.crn_text.specs.Sides.{all_said}
 use Rattle.crn_text.specs.Spells.{Spells}

@@ -10,7 +10,7 @@ use Rattle.crn_io.specs.declared.read.ReadStop.TheVariants as stop
 use Rattle.crn_io.specs.Pull.{ComesOff, HasNoneLeft}
 use Rattle.crn_io.specs.Read.{ReadGives, ComesOffUpTo}
 use Rattle.crn_text.specs.Codes.{code_number, code_name}
-use Rattle.crn_text.specs.Spells.{Fault, IsTooLong}
+use Rattle.crn_text.specs.Spells.{IsTooLong}
 use Rattle.crn_text.specs.declared.code.TextCode.TheVariants.{TextTooLong}
 use Rattle.crn_run.specs.Run.{Devices, WasLeft, IsReadOut, IsReadUp, Writes, Breaks, LeavesSink, IsReport, IsRefusalOf, refused_line, usage_line, RunGives}
 use Rattle.crn_run.specs.Steps.{WroteAll, WroteFront, Stays, LineGives, ReportGives}
