@@ -153,10 +153,10 @@ fn some_of_a(alloc: Global, amount: u32) -> Result<String, AllocError> {
     }
 }
 
-// The sides from 0 to 99A, with a semicolon between them.
-fn all_of_a(alloc: Global) -> Result<String, AllocError> {
+// The sides from none of A to so much of it, with a semicolon between them.
+fn all_of_a(alloc: Global, most: u32) -> Result<String, AllocError> {
     let mut text = "0".to_string(alloc)?;
-    for n in 0..99u32 {
+    for n in 0..most {
         text.push_str("; ")?;
         text.push_str(some_of_a(alloc, n + 1)?.as_str())?;
     }
@@ -193,7 +193,7 @@ fn jumps(alloc: Global, lines: u32) -> Result<String, AllocError> {
 fn a_hundred_complexes_are_accepted_and_one_more_is_not(rt: HostRuntime) -> Result<(), Fail> {
     let alloc = rt.alloc();
     let mut text = ladder(alloc)?;
-    let sides = all_of_a(alloc)?;
+    let sides = all_of_a(alloc, 99)?;
     let want = format!(in alloc;
         "crn report 1\nspecies 1: A\ncomplexes 100: {sides}\nreactions 99\nQ1 linkage classes: 1\n  class 1: {sides}\nopen: 0\n"
     )?;
@@ -211,11 +211,18 @@ fn a_hundred_complexes_are_accepted_and_one_more_is_not(rt: HostRuntime) -> Resu
 }
 
 #[test]
-fn as_many_reactions_as_the_limit_are_accepted(rt: HostRuntime) -> Result<(), Fail> {
+fn a_hundred_and_twenty_reactions_are_accepted_and_one_more_is_not(
+    rt: HostRuntime,
+) -> Result<(), Fail> {
     let alloc = rt.alloc();
     let text = jumps(alloc, 120)?;
-    let (status, _sink) = report_on(alloc, text.as_bytes(), 1000)?;
+    let sides = all_of_a(alloc, 11)?;
+    let want = format!(in alloc;
+        "crn report 1\nspecies 1: A\ncomplexes 12: {sides}\nreactions 120\nQ1 linkage classes: 1\n  class 1: {sides}\nopen: 0\n"
+    )?;
+    let (status, sink) = report_on(alloc, text.as_bytes(), want.len())?;
     assert_eq!(rt; status, Status::Done);
+    assert_eq!(rt; sink.bytes(), want.as_bytes());
     let more = jumps(alloc, 121)?;
     let (status, sink) = report_on(alloc, more.as_bytes(), 64)?;
     assert_eq!(rt; status, Status::Refused);
@@ -229,9 +236,10 @@ fn as_many_reactions_as_the_limit_are_accepted(rt: HostRuntime) -> Result<(), Fa
 #[test]
 fn a_text_may_be_as_long_as_the_limit(rt: HostRuntime) -> Result<(), Fail> {
     let alloc = rt.alloc();
-    let line = b"A -> B\n";
-    let mut text = vec![in alloc; b'#'; MAX_TEXT]?;
-    text[..line.len()].copy_from_slice(line);
+    let mut text = b"A -> B\n".to_vec(alloc)?;
+    for _ in text.len()..MAX_TEXT {
+        text.push(b'#')?;
+    }
     let (status, sink) = report_on(alloc, &text, ROW.len())?;
     assert_eq!(rt; status, Status::Done);
     assert_eq!(rt; sink.bytes(), ROW);
