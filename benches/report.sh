@@ -1,5 +1,5 @@
 #!/usr/bin/env bash
-# Measures `report` on large plain texts, and prints a table: the least time of several runs, and the greatest memory.
+# Measures `report` on large network texts, and prints a table: the least time of several runs, and the greatest memory.
 # Not part of the checks: times depend on the machine.
 #
 #     benches/report.sh [RUNS]
