@@ -21,6 +21,14 @@ MAX_TEXT = 2_097_152
 TIME = "/usr/bin/time"
 program, runs = sys.argv[1], int(sys.argv[2])
 
+
+def near_limits():
+    """40 species, 100 complexes of 20 species each with amounts up to 99, and 120 reactions."""
+    complexes = [" + ".join(f"{1 + (7 * c + s) % 99}S{(c + s) % 40}" for s in range(20)) for c in range(100)]
+    steps = [(c, (c + 1) % 100) for c in range(100)] + [(c, (c + 7) % 100) for c in range(20)]
+    return "".join(f"{complexes[y]} -> {complexes[z]}\n" for y, z in steps)
+
+
 pairs = [f"X{i} -> X{j}\n" for i in range(12) for j in range(12) if i != j]
 CASES = [
     ("one reaction", "A -> B\n"),
@@ -29,6 +37,9 @@ CASES = [
      "".join(f"S{i} -> S{(i + step) % 40}\n" for step in (1, 3, 9) for i in range(39, -1, -1))),
     ("empty lines up to the limit", "\n" * MAX_TEXT),
     ("one line repeated up to the limit", "A -> B\n" * (MAX_TEXT // 7)),
+    ("comments up to the limit", ("#" + "x" * 62 + "\n") * (MAX_TEXT // 64)),
+    ("one side of 1,048,570 terms of one name (refused)", "+".join(["A"] * 1_048_570) + "->B\n"),
+    ("120 reactions near all limits", near_limits()),
 ]
 
 
