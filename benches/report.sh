@@ -21,6 +21,8 @@ MAX_TEXT = 2_097_152
 TIME = "/usr/bin/time"
 program, runs = sys.argv[1], int(sys.argv[2])
 
+side = "+".join(f"S{i}" for i in range(1, 41))
+names = "+".join(f"x{i}" for i in range(10_000))
 pairs = [f"X{i} -> X{j}\n" for i in range(12) for j in range(12) if i != j]
 CASES = [
     ("one reaction", "A -> B\n"),
@@ -29,6 +31,10 @@ CASES = [
      "".join(f"S{i} -> S{(i + step) % 40}\n" for step in (1, 3, 9) for i in range(39, -1, -1))),
     ("empty lines up to the limit", "\n" * MAX_TEXT),
     ("one line repeated up to the limit", "A -> B\n" * (MAX_TEXT // 7)),
+    ("one line of 40 species repeated up to the limit", f"{side} -> 0\n" * (MAX_TEXT // len(f"{side} -> 0\n"))),
+    ("a comment up to the limit", "A -> B\n#" + "c" * (MAX_TEXT - 8)),
+    ("one line of 524,285 equal terms", " + ".join(["A"] * 524_285) + " -> B\n"),
+    ("one line, the same 10,000 names on both sides", f"{names} -> {names}\n"),
 ]
 
 
