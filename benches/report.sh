@@ -29,6 +29,8 @@ def near_limits():
     return "".join(f"{complexes[y]} -> {complexes[z]}\n" for y, z in steps)
 
 
+side = "+".join(f"S{i}" for i in range(1, 41))
+names = "+".join(f"x{i}" for i in range(10_000))
 pairs = [f"X{i} -> X{j}\n" for i in range(12) for j in range(12) if i != j]
 CASES = [
     ("one reaction", "A -> B\n"),
@@ -37,9 +39,11 @@ CASES = [
      "".join(f"S{i} -> S{(i + step) % 40}\n" for step in (1, 3, 9) for i in range(39, -1, -1))),
     ("empty lines up to the limit", "\n" * MAX_TEXT),
     ("one line repeated up to the limit", "A -> B\n" * (MAX_TEXT // 7)),
-    ("comments up to the limit", ("#" + "x" * 62 + "\n") * (MAX_TEXT // 64)),
-    ("one side of 1,048,570 terms of one name (refused)", "+".join(["A"] * 1_048_570) + "->B\n"),
     ("120 reactions near all limits", near_limits()),
+    ("one side of 1,048,570 terms of one name", "+".join(["A"] * 1_048_570) + "->B\n"),
+    ("one line of 40 species repeated up to the limit", f"{side} -> 0\n" * (MAX_TEXT // len(f"{side} -> 0\n"))),
+    ("a comment up to the limit", "A -> B\n#" + "c" * (MAX_TEXT - 8)),
+    ("one line, the same 10,000 names on both sides", f"{names} -> {names}\n"),
 ]
 
 

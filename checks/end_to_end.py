@@ -134,7 +134,8 @@ def form_cases():
         ("no space", b"A->B\n"), ("more spaces", b"  A   ->  B  \n"), ("tabs", b"\tA\t->\tB\t\n"), ("a CR", b"A -> B\r\n"),
         ("a CR at the end of the text", b"A -> B\r"), ("a comment behind", b"A -> B # first\n"),
         ("a comment against the name", b"A -> B#\n"), ("comment lines", b"# one\n  # two\nA -> B\n#\n"),
-        ("any bytes in a comment", b"A -> B # \x00\x07\xff -> \xc3\x84 # \r x\n"), ("lines of blanks", b" \t\n\r\nA -> B\n \n"),
+        ("any bytes in a comment", b"A -> B # \x00\x07\xff -> \xc3\x84 # \r x\n"),
+        ("lines of blanks", b" \t\n\r\nA -> B\n \n"),
         ("the amount 1", b"1A -> 1 B\n"), ("zeros before an amount", b"001A -> 00001B\n"),
     ]
     for name, text in same:
@@ -155,7 +156,8 @@ def form_cases():
     yield "sides that name the same complex are one", b"A + B -> C\nB + A -> D\n", DONE, \
         one_class(["A", "B", "C", "D"], 2, ["A + B", "C", "D"])
     forty = [f"S{i}" for i in range(1, 41)]
-    yield "40 species on one side", f"{' + '.join(forty)} -> 0\n".encode(), DONE, one_class(forty, 1, [" + ".join(forty), "0"])
+    wide = " + ".join(forty)
+    yield "40 species on one side", f"{wide} -> 0\n".encode(), DONE, one_class(forty, 1, [wide, "0"])
     steps = [times(i, "A") for i in range(100)]
     yield "100 complexes", "".join(ladder(99)).encode(), DONE, one_class(["A"], 99, steps)
     filled = b"A -> B\n#"
@@ -196,7 +198,8 @@ def faults_of_texts():
     yield "101 complexes", "".join([*ladder(99), "B -> 0\n"]).encode(), 3, 100
     yield "121 reactions", "".join(amounts_of_one(12)[:121]).encode(), 4, 121
     yield "121 reactions of single species", "".join(all_pairs(12)[:121]).encode(), 4, 121
-    yield "an arrow both ways whose reverse is one too many", "".join([*all_pairs(12)[:119], "X11 <-> 2X11\n"]).encode(), 4, 120
+    reverse = "".join([*all_pairs(12)[:119], "X11 <-> 2X11\n"])
+    yield "an arrow both ways whose reverse is one too many", reverse.encode(), 4, 120
 
 
 def faults_of_lines():
@@ -230,6 +233,7 @@ def faults_of_lines():
     yield "two arrows", b"A -> B -> C\n", 18, 1
     yield "an arrow of another make", b"A => B\n", 18, 1
     yield "an arrow with a space in it", b"A <- > B\n", 18, 1
+    yield "an arrow both ways with a dash too many", b"A <--> B\n", 18, 1
     yield "a minus before an amount", b"-0 -> A\n", 18, 1
     yield "a factor as a product", b"2*A -> B\n", 18, 1
     yield "a reaction from A to A", b"A -> A\n", 1, 1
