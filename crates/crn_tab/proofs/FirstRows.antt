@@ -1,5 +1,5 @@
 -- The rows that a tableau keeps at first make a tableau.
-use Rattle.std.proofs.Common.{◌≡◌, ◌≢◌, ℕ, zero, suc, ◌+◌, ◌-◌, ◌*◌, ◌^◌, ◌<◌, ◌≤◌, inl, inr, List, [], ◌∷◌, ◌++◌, length, get_or, take, drop, map, refl, sym, ap, subst, ◌∙◌, arith, lit<, append_assoc, add-one}
+use Rattle.std.proofs.Common.{◌≡◌, ◌≢◌, ℕ, zero, suc, ◌+◌, ◌-◌, ◌*◌, ◌<◌, ◌≤◌, inl, inr, List, [], ◌∷◌, ◌++◌, length, get_or, take, drop, map, refl, sym, ap, subst, ◌∙◌, arith, lit<, append_assoc, add-one}
 use Rattle.std.specs.Prelude.{ℤ, pos, neg_ℤ, ◌*ℤ◌, slice_index, unsigned_abs}
 use Rattle.std.specs.Int.{◌∣◌}
 use Rattle.std.proofs.lemmas.Int.{ints}
@@ -7,7 +7,7 @@ use Rattle.std.proofs.lemmas.List.{append-nil, get_or-drop, get_or-append-add, g
 use Rattle.std.proofs.Math.Nat.{one-dvd, suc-mul}
 use Rattle.std.proofs.Math.Seq.{take-append_seam}
 use lib.IntN.{zero-*ℤ}
-use Rattle.crn_vec.specs.declared.limits.TheConstants.{MAX_AMOUNT, MAX_COORDINATES}
+use Rattle.crn_vec.specs.declared.limits.TheConstants.{MAX_AMOUNT, MAX_COORDINATES, WIDE_ENTRY}
 use Rattle.crn_vec.specs.Vectors.{Mat, entry, dot, column, AreOfLength, AreWithin}
 use Rattle.crn_vec.specs.Elementary.{width, InDualSpace}
 use Rattle.crn_vec.proofs.RowLists.{within_at}
@@ -147,15 +147,15 @@ one_primitive v k e = record {
 }
 
 first_small : (r : List ℤ) → AreWithin MAX_AMOUNT r → AreSmall (start_row r)
-first_small r h = small_everywhere (start_row r) (λ k lt. elim (lt_or k (length r)) as (λ _. unsigned_abs (entry (start_row r) k) < 2 ^ 62) [
+first_small r h = small_everywhere (start_row r) (λ k lt. elim (lt_or k (length r)) as (λ _. unsigned_abs (entry (start_row r) k) < WIDE_ENTRY) [
   | inl low ↦
-      let few : MAX_AMOUNT < 2 ^ 62 = lit< tt in
+      let few : MAX_AMOUNT < WIDE_ENTRY = lit< tt in
       let e : unsigned_abs (entry (start_row r) k) ≡ unsigned_abs (neg_ℤ (entry r k)) = ap unsigned_abs (start_entry r k low) in
       omega (arith, ints, few, e, within_at MAX_AMOUNT k r h)
   | inr high ↦
       let same : k ≡ length r = omega (arith, length-start_row r) in
       let e : unsigned_abs (entry (start_row r) k) ≡ 1 = ap (λ j. unsigned_abs (entry (start_row r) j)) same ∙ ap unsigned_abs (start_last r) in
-      let few : 1 < 2 ^ 62 = lit< tt in
+      let few : 1 < WIDE_ENTRY = lit< tt in
       omega (arith, e, few)
 ])
 

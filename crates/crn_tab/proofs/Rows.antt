@@ -1,7 +1,8 @@
 -- Rows by their entries.
-use Rattle.std.proofs.Common.{◌≡◌, ℕ, zero, suc, ◌^◌, ◌<◌, ◌≤◌, ◌⊎◌, inl, inr, List, [], ◌∷◌, length, refl, sym, subst, arith, lit<}
+use Rattle.std.proofs.Common.{◌≡◌, ℕ, zero, suc, ◌<◌, ◌≤◌, ◌⊎◌, inl, inr, List, [], ◌∷◌, length, refl, sym, subst, arith, lit<}
 use Rattle.std.specs.Prelude.{ℤ, pos, unsigned_abs}
 use Rattle.std.proofs.lemmas.List.{ext_get_or}
+use Rattle.crn_vec.specs.declared.limits.TheConstants.{WIDE_ENTRY}
 use Rattle.crn_tab.specs.Entries.{entry, AreSmall}
 
 pub past_end : (v : List ℤ) (k : ℕ) → length v ≤ k → entry v k ≡ pos 0
@@ -25,8 +26,8 @@ everywhere P v z h k = elim (inside_or v k) [
   | inr le ↦ subst P (sym (past_end v k le)) z
 ]
 
-pub small_everywhere : (v : List ℤ) → ((k : ℕ) → k < length v → unsigned_abs (entry v k) < 2 ^ 62) → AreSmall v
-small_everywhere v h = everywhere (λ z. unsigned_abs z < 2 ^ 62) v (lit< tt) h
+pub small_everywhere : (v : List ℤ) → ((k : ℕ) → k < length v → unsigned_abs (entry v k) < WIDE_ENTRY) → AreSmall v
+small_everywhere v h = everywhere (λ z. unsigned_abs z < WIDE_ENTRY) v (lit< tt) h
 
 pub lt_or : (s n : ℕ) → (s < n) ⊎ (n ≤ s)
 lt_or s zero = inr (omega arith)
