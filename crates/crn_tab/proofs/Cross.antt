@@ -6,7 +6,11 @@ use Rattle.std.proofs.lemmas.Int.{ints, to_z-of_z, fits_signed_from_abs, unsigne
 use Rattle.std.proofs.Math.Nat.{mul-le-mul}
 use Rattle.crn_vec.specs.declared.limits.TheConstants.{WIDE_ENTRY}
 
--- a number of 64 bits, cast to 128
+-- a number of 64 bits
+pub read : (x : ℤ) → unsigned_abs x < WIDE_ENTRY → to_z w64 (of_z w64 x) ≡ x
+read x h = to_z-of_z w64 x (fits_signed_from_abs w64 x (omega arith))
+
+-- cast to 128
 pub widened : (x : ℤ) → unsigned_abs x < WIDE_ENTRY → to_z w128 (of_z w128 (to_z w64 (of_z w64 x))) ≡ x
 widened x h =
     let f : FitsSigned w64 x = fits_signed_from_abs w64 x (omega arith) in

@@ -7,10 +7,10 @@ use Rattle.crn_vec.specs.declared.limits.TheConstants.{WIDE_ENTRY}
 use Rattle.crn_vec.specs.Vectors.{Mat, entry}
 use Rattle.crn_vec.specs.Lists.{IsIn}
 use Rattle.crn_vec.specs.Elementary.{width, IsBasis, IsNamed, IsWide, WideAt, Exchanged}
+use Rattle.crn_vec.proofs.Entries.{past_end, inside_or, lt_or, eq_or}
 use Rattle.crn_tab.specs.Entries.{AreSmall, IsNewRow}
 use Rattle.crn_tab.specs.Tab.{slot_entry, spread, basis_of, row_at, ArePlaced, IsRowAt, IsTableau, IsKeptRow, IsRowDone, HasWideRow, AreFilled}
-use Rattle.crn_tab.proofs.Rows.{past_end, inside_or, lt_or}
-use Rattle.crn_tab.proofs.Places.{eq_or, slot_basic, slot_own, slot_none, length-spread, entry-spread}
+use Rattle.crn_tab.proofs.Places.{slot_basic, slot_own, slot_none, length-spread, entry-spread}
 use Rattle.crn_tab.proofs.Flat.{entry-row}
 use Rattle.crn_tab.proofs.Bases.{outside_slot, rows_make_basis, row_is_named, at_own}
 use Rattle.crn_tab.proofs.Exchanges.{new_row_at}
