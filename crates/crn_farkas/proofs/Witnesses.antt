@@ -19,8 +19,8 @@ use Rattle.crn_tab.proofs.Ascending.{same_members}
 use Rattle.crn_tab.proofs.Unique.{column_at}
 use Rattle.crn_tab.proofs.OwnSign.{as_row}
 use Rattle.crn_farkas.specs.declared.view.View.TheVariants.{Row, Column}
-use Rattle.crn_farkas.specs.Views.{IsView, IsSettled}
-use Rattle.crn_farkas.specs.Decides.{factor, IsWitness, IsNumbered, NamesWide, CutsBy}
+use Rattle.crn_farkas.specs.Views.{IsView, IsSettled, IsRefused}
+use Rattle.crn_farkas.specs.Decides.{factor, IsWitness, IsNumbered, IsNear, NamesWide, CutsBy}
 use Rattle.crn_farkas.proofs.Pairs.{pair, column_scaled, other_some, kind_some}
 use Rattle.crn_farkas.proofs.Ruling.{kind_past, scaled_small}
 
@@ -82,12 +82,16 @@ witness_from a basis kinds order b g s w y t lt long asked view settled all n sm
       small = scaled_small s w (2 ^ 62) small;
     })
 
+same_numbers : (a : Mat) (basis : List ℕ) (b : ℕ) (numbers : List ℕ) → NamesRows a basis → IsIn b basis → (n : IsNumbered basis b b numbers) → n.next ≡ basis
+same_numbers a basis b numbers t i n =
+    same_members n.next basis n.exchanged.ascending t.basis_is.ascending
+    (λ k m. elim ((n.exchanged.members k).0 m) as (λ _. IsIn k basis) [ inl h ↦ h.0 | inr e ↦ subst (λ (j : ℕ). IsIn j basis) (sym e) i ])
+    (λ k m. (n.exchanged.members k).1 (elim (eq_or k b) as (λ _. (IsIn k basis × (k ≢ b)) ⊎ (k ≡ b)) [ inl e ↦ inr e | inr ne ↦ inl (m, ne) ]))
+
 -- the numbers of the basis itself
 pub wide_here : (a : Mat) (basis : List ℕ) (b : ℕ) (numbers : List ℕ) → NamesRows a basis → IsIn b basis → WideAt a basis b → IsNumbered basis b b numbers → NamesWide a (b + 1) numbers
 wide_here a basis b numbers t i wide n =
-    let same : n.next ≡ basis = same_members n.next basis n.exchanged.ascending t.basis_is.ascending
-    (λ k m. elim ((n.exchanged.members k).0 m) as (λ _. IsIn k basis) [ inl h ↦ h.0 | inr e ↦ subst (λ (j : ℕ). IsIn j basis) (sym e) i ])
-    (λ k m. (n.exchanged.members k).1 (elim (eq_or k b) as (λ _. (IsIn k basis × (k ≢ b)) ⊎ (k ≡ b)) [ inl e ↦ inr e | inr ne ↦ inl (m, ne) ])) in
+    let same = same_numbers a basis b numbers t i n in
     let back : b + 1 - 1 ≡ b = omega arith in
     record {
       from_zero = n.next;
@@ -95,6 +99,16 @@ wide_here a basis b numbers t i wide n =
       counted = omega arith;
       wide = subst (λ (l : List ℕ). WideAt a l (b + 1 - 1)) (sym same) (subst (λ (k : ℕ). WideAt a basis k) (sym back) wide);
     }
+
+pub near_here : (a : Mat) (basis : List ℕ) (b : ℕ) (numbers : List ℕ) → NamesRows a basis → IsIn b basis → IsNumbered basis b b numbers → IsNear basis numbers
+near_here a basis b numbers t i n = record { next = n.next; numbered = n.numbered; near = inl (same_numbers a basis b numbers t i n) }
+
+-- the numbers of a basis that was refused
+pub near_refused : (a : Mat) (basis : List ℕ) (leave enter index : ℕ) (numbers : List ℕ) → IsRefused a basis leave enter index → IsNumbered basis leave enter numbers → NamesWide a index numbers × IsNear basis numbers
+near_refused a basis leave enter index numbers r n = (
+  record { from_zero = n.next; numbered = n.numbered; counted = r.counted; wide = r.wide n.next n.exchanged },
+  record { next = n.next; numbered = n.numbered; near = inr (record { leave = leave; enter = enter; member = r.member; outside = r.outside; exchanged = n.exchanged }) },
+)
 
 -- a settled row view shows multipliers
 pub cuts_settled : (a : Mat) (basis : List ℕ) (kinds : List Kind) (order : List ℕ) (g : ℕ) (turn : Sign) → length kinds ≡ width a → is_signed (kind_at kinds g) ≡ true

@@ -39,7 +39,7 @@ fn witness(
     requires view { IsView tableau.now.matrix tableau.now.basis (View.Column b) g }
     requires settled { IsSettled tableau.now.matrix tableau.now.basis (View.Column b) g kinds.now order.now (length order.now) }
     requires all { (c : ℕ) → c < width tableau.now.matrix → IsIn c order.now }
-    ensures { MatchResult result (λ y. IsWitness tableau.now.matrix kinds.now g y.list) (λ s. IsGoalStop tableau.now.matrix s) }
+    ensures { MatchResult result (λ y. IsWitness tableau.now.matrix kinds.now g y.list) (λ s. IsGoalStop tableau.now.matrix tableau.now.basis s) }
 {
     tableau.names_rows();
     let vector = match tableau.column(b) {
@@ -73,7 +73,7 @@ pub(crate) fn side_of(
     requires order { (i : ℕ) → i < length order.now → slice_index order.now i < width tableau.old.matrix }
     requires all { (c : ℕ) → c < width tableau.old.matrix → IsIn c order.now }
     ensures matrix { tableau.new.matrix ≡ tableau.old.matrix }
-    ensures side { MatchResult result (λ side. IsSide tableau.new.matrix kinds.now g side) (λ s. IsGoalStop tableau.new.matrix s) }
+    ensures side { MatchResult result (λ side. IsSide tableau.new.matrix tableau.new.basis kinds.now g side) (λ s. IsGoalStop tableau.new.matrix tableau.new.basis s) }
 {
     let mut view = first_view(tableau, g);
     if let Err(refused) = settle(tableau, &mut view, kinds, order, g, order.len()) {

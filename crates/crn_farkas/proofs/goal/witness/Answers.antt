@@ -8,12 +8,20 @@ use Rattle.crn_vec.specs.Vectors.{entry, HasSign}
 use Rattle.crn_vec.proofs.Sums.{scale}
 use Rattle.crn_farkas.specs.Decides.{factor}
 use Rattle.crn_farkas.proofs.Steps.{any_default}
-use Rattle.crn_farkas.proofs.Witnesses.{witness_from, wide_here}
+use Rattle.crn_farkas.proofs.Witnesses.{witness_from, wide_here, near_here}
 use Rattle.crn_farkas.proofs.goal.witness.Goals as goal
 
 pub returns-in-Err-Wide : goal.returns-in-Err-Wide
-returns-in-Err-Wide c = wide_here c.args.tableau.now.matrix c.args.tableau.now.basis c.args.b c.in_ok-exchanged-in-Err-Wide.field-0.list c.names_rows.ensures c.requires.view.1.member
-    (c.column.ensures.wide (c.in-Err-Wide.is ∙ ap Err c.in-Err-Wide.field-0-is)) c.in_ok-exchanged-in-Err-Wide.ensures
+returns-in-Err-Wide c =
+    let a = c.args.tableau.now.matrix in
+    let basis = c.args.tableau.now.basis in
+    let b = c.args.b in
+    let numbers = c.in_ok-exchanged-in-Err-Wide.field-0.list in
+    let t = c.names_rows.ensures in
+    let member = c.requires.view.1.member in (
+      wide_here a basis b numbers t member (c.column.ensures.wide (c.in-Err-Wide.is ∙ ap Err c.in-Err-Wide.field-0-is)) c.in_ok-exchanged-in-Err-Wide.ensures,
+      near_here a basis b numbers t member c.in_ok-exchanged-in-Err-Wide.ensures,
+    )
 
 pub returns : goal.returns
 returns c =
