@@ -72,6 +72,9 @@ unit_size false x = omega (arith, ints)
 pub scaled_small : (s : Bool) (v : List ℤ) (m : ℕ) → ((k : ℕ) → unsigned_abs (entry v k) < m) → (k : ℕ) → unsigned_abs (entry (scale (factor s) v) k) < m
 scaled_small s v m h k = subst (λ (t : ℕ). t < m) (sym (ap unsigned_abs (entry-scale (factor s) v k) ∙ unit_size s (entry v k))) (h k)
 
+pub unscaled_small : (s : Bool) (v : List ℤ) (m : ℕ) → ((k : ℕ) → unsigned_abs (entry (scale (factor s) v) k) < m) → (k : ℕ) → unsigned_abs (entry v k) < m
+unscaled_small s v m h k = subst (λ (t : ℕ). t < m) (ap unsigned_abs (entry-scale (factor s) v k) ∙ unit_size s (entry v k)) (h k)
+
 -- the multipliers of a named vector with its sign
 pub cut_from : (a : Mat) (basis : List ℕ) (kinds : List Kind) (e : ℕ) (turn : Sign) (s : Bool) (w u : List ℤ) → NamesRows a basis → e < width a → ¬ IsIn e basis → length kinds ≡ width a
     → CutsBy a basis kinds e turn → IsNamed a basis e w → ((k : ℕ) → unsigned_abs (entry w k) < 2 ^ 62) → (entry w e ≢ pos 0 → turn ≢ Zero → HasSign turn (factor s *ℤ entry w e))

@@ -5,11 +5,12 @@ use Rattle.crn_vec.specs.Kept.{KeptInts}
 use Rattle.crn_vec.specs.Vectors.{Mat, entry}
 use Rattle.crn_vec.specs.Elementary.{InRowSpace}
 use Rattle.crn_vec.specs.Systems.{HasOneRowCut, MayTake, kind_at, is_signed}
+use Rattle.crn_vec.proofs.Sums.{scale}
 use Rattle.crn_farkas.specs.declared.stop.Stop.{Stop}
 use Rattle.crn_farkas.specs.declared.stop.Stop.TheVariants.{Wide, NoMemory}
 use Rattle.crn_farkas.specs.declared.goal.Side.{Side}
 use Rattle.crn_farkas.specs.declared.goal.Side.TheVariants.{Cut, Witness}
-use Rattle.crn_farkas.specs.Decides.{NamesWide, IsNear, IsSmallCut, IsSmallSolution, IsWitness, AreNamedMultipliers, signed_count}
+use Rattle.crn_farkas.specs.Decides.{NamesWide, IsNear, IsSmallCut, IsSmallSolution, IsWitness, factor, AreNamedMultipliers, signed_count}
 use Rattle.crn_farkas.specs.declared.decision.Decision.{Decision}
 use Rattle.crn_farkas.specs.declared.decision.Decision.TheVariants.{Feasible, Infeasible}
 
@@ -25,7 +26,7 @@ IsNamedCut a basis kinds u = IsSmallCut a kinds u × AreNamedMultipliers a basis
 -- one side of the alternative at g
 abbrev pub IsSide : Mat → List ℕ → List Kind → ℕ → Side → Type 0
 IsSide a basis kinds g (Cut u) = IsNamedCut a basis kinds u.list
-IsSide a basis kinds g (Witness y) = IsWitness a kinds g y.list
+IsSide a basis kinds g (Witness vector stays) = IsWitness a kinds g (scale (factor stays) vector.list)
 
 -- a sum of vectors (x, Ax) that is right everywhere, and not 0 at the coordinates before g that have to be positive or negative
 pub record IsPartSum (a : Mat) (kinds : List Kind) (g : ℕ) (v : List ℤ) : Type 0 where

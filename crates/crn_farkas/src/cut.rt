@@ -113,7 +113,7 @@ fn turned(x: &i128, stays: bool) -> i128
 }
 
 // The numbers or their negatives.
-pub(crate) fn multiple(alloc: Global, list: &[i128], stays: bool) -> Result<Ints, NoMemory>
+fn multiple(alloc: Global, list: &[i128], stays: bool) -> Result<Ints, NoMemory>
     requires { (k : ℕ) → unsigned_abs (entry list.now k) < 2 ^ 62 }
     ensures { IfOk result (λ made. made.list ≡ scale (factor stays) list.now) }
 {

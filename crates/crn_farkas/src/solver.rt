@@ -71,8 +71,8 @@ fn target(
     }
     match side_of(alloc, tableau, kinds, order, cols, g)? {
         Side::Cut(cut) => Ok(Some(cut)),
-        Side::Witness(vector) => {
-            add(sum, vector.as_slice());
+        Side::Witness { vector, stays } => {
+            add(sum, vector.as_slice(), stays);
             Ok(None)
         }
     }

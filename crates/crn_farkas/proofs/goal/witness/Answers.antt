@@ -1,4 +1,4 @@
-use Rattle.std.proofs.Common.{◌≡◌, ◌≢◌, List, ℤ, ap, subst, ◌∙◌, arith}
+use Rattle.std.proofs.Common.{◌≡◌, ◌≢◌, List, ℤ, refl, ap, subst, ◌∙◌, arith}
 use Rattle.std.specs.Prelude.{pos, ◌*ℤ◌, Err}
 use Rattle.crn_vec.specs.declared.signs.Kind.{Kind}
 use Rattle.crn_vec.specs.declared.signs.Kind.TheVariants.{Pos, Free}
@@ -31,13 +31,13 @@ returns c =
     let g = c.args.g in
     let s = c.stays-stays.result in
     let w = c.in-Ok.vector.list in
-    let same : c.as_slice-vector.result.now ≡ w = c.as_slice-vector.ensures in
+    let same : c.as_slice.result.now ≡ w = c.as_slice.ensures in
     let asked = c.sign_asked.result in
     let T : List ℤ → Type 0 = λ l. entry l g ≢ pos 0 → asked ≢ Zero → HasSign asked (factor s *ℤ entry l g) in
     let turns = subst T same c.stays-stays.ensures in
     let K : Kind → Type 0 = λ κ. HasKind κ (factor s *ℤ entry w g) in
     let g_lt = c.requires.goal in
-    witness_from a basis kinds c.args.order.now c.args.b g s w c.in_ok-multiple.field-0.list c.names_rows.ensures g_lt c.requires.kinds c.requires.asked c.requires.view c.requires.settled c.requires.all
+    witness_from a basis kinds c.args.order.now c.args.b g s w (scale (factor s) w) c.names_rows.ensures g_lt c.requires.kinds c.requires.asked c.requires.view c.requires.settled c.requires.all
     c.in-Ok.ensures.named c.in-Ok.ensures.small
     (λ some. subst K (any_default Pos Free kinds g (omega (arith, g_lt, c.requires.kinds))) (c.sign_asked.ensures.kind (factor s *ℤ entry w g) (turns some c.sign_asked.ensures.some)))
-    (c.in_ok-multiple.ensures ∙ ap (scale (factor s)) same)
+    refl
