@@ -6,16 +6,16 @@ use Rattle.std.proofs.lemmas.Int.{ints}
 use Rattle.std.proofs.lemmas.Nat.Gcd.{dvd-zero}
 use Rattle.std.proofs.Math.Nat.{eq-one_of_dvd-one}
 use lib.IntN.{*ℤ-zero, zero-*ℤ}
-use Rattle.crn_frac.proofs.Whole.{no_zero}
 use Rattle.crn_vec.specs.Vectors.{Mat, entry, AreOfLength}
 use Rattle.crn_vec.specs.Lists.{IsIn}
 use Rattle.crn_vec.specs.Elementary.{width, IsBasis, IsPrimitive, IsNamed}
+use Rattle.crn_vec.proofs.Ring.{no_zero}
+use Rattle.crn_vec.proofs.Entries.{past_end, inside_or, lt_or}
+use Rattle.crn_vec.proofs.Orthogonal.{orthogonal}
 use Rattle.crn_tab.specs.Entries.{IsContent}
 use Rattle.crn_tab.specs.Tab.{slot_entry, spread, basis_of, ArePlaced, IsRowAt}
-use Rattle.crn_tab.proofs.Rows.{past_end, inside_or, lt_or}
 use Rattle.crn_tab.proofs.Places.{isIn_or, slot_basic, slot_own, slot_none, length-spread, entry-spread, in_basis, basis_only, basis_ascending}
 use Rattle.crn_tab.proofs.Dots.{dot_single}
-use Rattle.crn_tab.proofs.Spaces.{orthogonal}
 
 -- a coordinate outside the basis has the slot of a row
 pub outside_slot : (n count : ℕ) (at order : List ℕ) (k : ℕ) → ArePlaced n count at order → k < count → ¬ IsIn k (basis_of n at) → n ≤ slice_index at k
@@ -62,7 +62,7 @@ rows_make_basis a at order wide p each = record {
             | inl member ↦ ap (λ (s : ℤ). entry w j *ℤ s) (zero_on j member) ∙ *ℤ-zero (entry w j)
             | inr far ↦ ap (λ (s : ℤ). s *ℤ entry v j) (zero_outside n (width a) at order i kept.0 k p lt own j far ne) ∙ zero-*ℤ (entry v j)
           ] in
-          let product : entry w k *ℤ entry v k ≡ pos 0 = sym (dot_single w v k others) ∙ orthogonal a w v wide kept.1.dual row in
+          let product : entry w k *ℤ entry v k ≡ pos 0 = sym (dot_single w v k others) ∙ orthogonal a w v kept.1.dual row in
           no_zero (entry w k) (entry v k) product (λ e. omega (arith, ints, e, kept.1.positive, at_own n (width a) at order i kept.0 k p lt own))
     ]
   ];

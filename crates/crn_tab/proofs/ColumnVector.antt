@@ -6,18 +6,19 @@ use Rattle.std.proofs.lemmas.Int.{ints, unsigned_abs-mul}
 use Rattle.std.proofs.lemmas.Nat.Gcd.{dvd_antisymm, le_of_dvd}
 use Rattle.std.proofs.Math.Nat.{dvd-mul_right, div-mul_cancel, mul-dvd-mul_right, dvd_of_mul-dvd-mul_right, mul_comm, mul_assoc, pos_of_dvd_of_pos, eq_of_mul-eq-mul_left}
 use lib.IntN.{*ℤ_comm, *ℤ-zero, zero-*ℤ}
-use Rattle.crn_frac.proofs.Whole.{left-comm, mul-neg, exact}
+use Rattle.crn_frac.proofs.Whole.{exact}
 use Rattle.crn_vec.specs.Vectors.{Mat, entry, dot}
 use Rattle.crn_vec.specs.Lists.{IsIn}
 use Rattle.crn_vec.specs.Elementary.{width, InRowSpace, IsPrimitive, IsNamed, WideAt}
+use Rattle.crn_vec.proofs.Ring.{left-comm, mul-neg}
+use Rattle.crn_vec.proofs.Entries.{past_end, lt_or, eq_or}
+use Rattle.crn_vec.proofs.Orthogonal.{orthogonal}
 use Rattle.crn_tab.specs.Tab.{choose, spread, basis_of, row_at, IsTableau}
 use Rattle.crn_tab.specs.Columns.{MakesWhole, IsScale, HasWideScale, column_entry, column_of}
-use Rattle.crn_tab.proofs.Rows.{past_end, lt_or}
-use Rattle.crn_tab.proofs.Places.{eq_or, isIn_or, lt_true, lt_false, eq_true, eq_false, slot_basic, entry-spread}
+use Rattle.crn_tab.proofs.Places.{isIn_or, lt_true, lt_false, eq_true, eq_false, slot_basic, entry-spread}
 use Rattle.crn_tab.proofs.BasicTest.{slot_below}
 use Rattle.crn_tab.proofs.Bases.{rows_make_basis, zero_outside, outside_slot, at_own}
 use Rattle.crn_tab.proofs.Dots.{dot_single}
-use Rattle.crn_tab.proofs.Spaces.{orthogonal}
 use Rattle.crn_tab.proofs.Unique.{column_at}
 use Rattle.crn_tab.proofs.Columns.{cancel_left, row_combined}
 use Rattle.crn_tab.proofs.Scales.{scale_of, scale_grows}
@@ -99,7 +100,7 @@ meets a at order rows col k i z t member k_lt own i_lt space rest =
     let at_col : entry w col ≡ entry row (slice_index at col) = entry-spread n i row at col (omega (arith, t.placed.at_long, col_lt)) ∙ slot_basic n i row (slice_index at col) c_lt in
     let at_k : entry w k ≡ entry row n = at_own n (width a) at order i row k t.placed k_lt own in
     ap (λ (x : ℤ). x *ℤ entry z col +ℤ entry row n *ℤ entry z k) (sym at_col) ∙ ap (λ (x : ℤ). entry w col *ℤ entry z col +ℤ x *ℤ entry z k) (sym at_k)
-    ∙ sym (dot_pair w z col k ne others) ∙ orthogonal a w z t.wide (t.each i i_lt).dual space
+    ∙ sym (dot_pair w z col k ne others) ∙ orthogonal a w z (t.each i i_lt).dual space
 
 -- from a z + d y = 0 and v d = - (a l): v z = l y, where d is not 0
 crossed : (a d z y v l : ℤ) → d ≢ pos 0 → a *ℤ z +ℤ d *ℤ y ≡ pos 0 → v *ℤ d ≡ neg_ℤ (a *ℤ l) → v *ℤ z ≡ l *ℤ y

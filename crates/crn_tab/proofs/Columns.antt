@@ -1,35 +1,26 @@
 -- Vectors (x, Ax): differences, and that a basis and a coordinate in it name one vector, up to its sign.
-use Rattle.std.proofs.Common.{◌≡◌, ◌≢◌, ℕ, ◌+◌, ◌*◌, ◌≤◌, inl, inr, List, [], ◌∷◌, length, get_or, take, refl, sym, ap, subst, ◌∙◌, arith}
+use Rattle.std.proofs.Common.{◌≡◌, ◌≢◌, ℕ, ◌+◌, ◌*◌, ◌≤◌, inl, inr, List, [], length, get_or, take, sym, ap, subst, ◌∙◌, arith}
 use Rattle.std.specs.Prelude.{ℤ, pos, ◌-ℤ◌, ◌*ℤ◌, unsigned_abs}
 use Rattle.std.specs.Int.{◌∣◌}
 use Rattle.std.proofs.lemmas.Int.{ints, unsigned_abs-mul}
 use Rattle.std.proofs.lemmas.List.{get_or-take, length-take-le}
 use Rattle.std.proofs.lemmas.Nat.Gcd.{dvd-zero}
-use lib.IntN.{*ℤ_comm, *ℤ-zero, zero-*ℤ}
-use Rattle.crn_frac.proofs.Whole.{no_zero, mul-sub, left-comm}
+use lib.IntN.{*ℤ_comm}
 use Rattle.crn_vec.specs.Vectors.{Mat, entry, dot, AreOfLength}
 use Rattle.crn_vec.specs.Lists.{IsIn}
 use Rattle.crn_vec.specs.Elementary.{InRowSpace, InDualSpace, IsBasis, IsPrimitive, IsNamed, IsNamedRow, IsNamedColumn, WideAt, AreProportional, IsElementary}
+use Rattle.crn_vec.proofs.Ring.{no_zero, mul-sub, left-comm}
+use Rattle.crn_vec.proofs.Entries.{past_end, lt_or, eq_or}
+use Rattle.crn_vec.proofs.Sums.{dot-comm}
 use Rattle.crn_tab.specs.Entries.{AreSmall}
-use Rattle.crn_tab.proofs.Rows.{past_end, lt_or}
-use Rattle.crn_tab.proofs.Places.{eq_or}
 use Rattle.crn_tab.proofs.Dots.{dot_combined}
-use Rattle.crn_tab.proofs.Signs.{differ, length-differ, entry-differ, times_one, own, both_none, is_none, same_sizes, one_row, some_own}
+use Rattle.crn_tab.proofs.Signs.{differ, length-differ, entry-differ, times_one, own, is_none, same_sizes, one_row, some_own}
+use Rattle.crn_tab.proofs.Primitive.{none_left, no_more}
 
 pub cancel_left : (a x y : ℤ) → a ≢ pos 0 → a *ℤ x ≡ a *ℤ y → x ≡ y
 cancel_left a x y ne e =
     let none : a *ℤ (x -ℤ y) ≡ pos 0 = omega (arith, ints, mul-sub a x y, e) in
     omega (arith, ints, no_zero a (x -ℤ y) none ne)
-
-pub dot-comm : (xs ys : List ℤ) → dot xs ys ≡ dot ys xs
-dot-comm [] [] = refl
-dot-comm [] (y ∷ ys) = refl
-dot-comm (x ∷ xs) [] = refl
-dot-comm (x ∷ xs) (y ∷ ys) = omega (arith, ints, dot-comm xs ys, *ℤ_comm x y)
-
-none_left : (p q t z w v : ℤ) → z ≡ pos 0 → w ≡ pos 0 → v ≡ pos 0 → z *ℤ t ≡ (p *ℤ w) -ℤ (q *ℤ v)
-none_left p q t z w v e f g =
-    omega (arith, ints, ap (λ (s : ℤ). s *ℤ t) e, ap (λ (s : ℤ). p *ℤ s) f, ap (λ (s : ℤ). q *ℤ s) g, zero-*ℤ t, *ℤ-zero p, *ℤ-zero q)
 
 -- what holds place by place holds of the first n places
 front : (n : ℕ) (p q t : ℤ) (w v z : List ℤ) → n ≤ length w → n ≤ length v → n ≤ length z → ((k : ℕ) → entry z k *ℤ t ≡ (p *ℤ entry w k) -ℤ (q *ℤ entry v k))
@@ -80,7 +71,7 @@ one_column a basis b w v h nw nv j =
     let row : InRowSpace a z = row_combined a p q (pos 1) w v z (λ e. omega (arith, ints, e)) nw.space nv.space (length-differ p q w v same) (λ i. times_one (entry z i) ∙ at i) in
     let none : entry z j ≡ pos 0 = h.free z row (λ i member. elim (eq_or i b) as (λ _. entry z i ≡ pos 0) [
       | inl e ↦ at i ∙ ap (λ m. (p *ℤ entry w m) -ℤ (q *ℤ entry v m)) e ∙ own p q
-      | inr ne ↦ at i ∙ both_none p q (entry w i) (entry v i) (nw.zero_on_rest i member ne) (nv.zero_on_rest i member ne)
+      | inr ne ↦ at i ∙ no_more p q (entry w i) (entry v i) (nw.zero_on_rest i member ne) (nv.zero_on_rest i member ne)
     ]) j in
     omega (arith, ints, none, at j)
 
@@ -115,7 +106,7 @@ small_column a basis b w member mine small (v, named, (j, big)) = elim named.nam
   ]
 ]
 
-not_zero : (x : ℤ) → 1 ≤ unsigned_abs x → x ≢ pos 0
+pub not_zero : (x : ℤ) → 1 ≤ unsigned_abs x → x ≢ pos 0
 not_zero x h e = omega (arith, h, ap unsigned_abs e)
 
 -- two lists that are proportional at one place, where the first is not zero, are proportional

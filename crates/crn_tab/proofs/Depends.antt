@@ -3,10 +3,10 @@ use Rattle.std.proofs.Common.{◌≡◌, ◌≢◌, ℕ, ◌+◌, ◌-◌, ◌<�
 use Rattle.std.specs.Prelude.{ℤ, pos, ◌+ℤ◌, ◌*ℤ◌, neg_ℤ, slice_index, unsigned_abs}
 use Rattle.std.proofs.lemmas.Int.{ints}
 use lib.IntN.{*ℤ_comm, *ℤ-zero}
-use Rattle.crn_frac.proofs.Whole.{no_zero, left-comm, mul-neg}
 use Rattle.crn_vec.specs.Vectors.{Mat, entry}
 use Rattle.crn_vec.specs.Lists.{IsIn}
 use Rattle.crn_vec.specs.Elementary.{width, IsBasis, IsNamed, IsNamedRow, IsNamedColumn}
+use Rattle.crn_vec.proofs.Ring.{no_zero, left-comm, mul-neg}
 use Rattle.crn_tab.specs.Tab.{spread, basis_of, row_at, IsTableau}
 use Rattle.crn_tab.proofs.Places.{entry-spread, slot_basic}
 use Rattle.crn_tab.proofs.Bases.{rows_make_basis, at_own}

@@ -4,15 +4,16 @@ use Rattle.std.specs.Prelude.{ℤ, pos, negsuc, ◌-ℤ◌, ◌*ℤ◌, ◌≤�
 use Rattle.std.proofs.lemmas.Int.{ints}
 use Rattle.std.proofs.Math.ListN.{length-set as length-put}
 use lib.IntN.{*ℤ-zero, zero-*ℤ}
-use Rattle.crn_frac.proofs.Whole.{pos_pos}
 use Rattle.crn_vec.specs.Vectors.{Mat, entry}
 use Rattle.crn_vec.specs.Elementary.{width}
+use Rattle.crn_vec.proofs.Ring.{pos_pos}
+use Rattle.crn_vec.proofs.Entries.{past_end, lt_or, eq_or}
 use Rattle.crn_tab.specs.Entries.{IsNewRow, put}
 use Rattle.crn_tab.specs.Tab.{slot_entry, spread, ArePlaced, IsRowAt}
-use Rattle.crn_tab.proofs.Rows.{past_end, lt_or}
 use Rattle.crn_tab.proofs.NewRows.{put_same, put_other}
-use Rattle.crn_tab.proofs.Places.{eq_or, slot_basic, slot_own, slot_none, length-spread, entry-spread}
+use Rattle.crn_tab.proofs.Places.{slot_basic, slot_own, slot_none, length-spread, entry-spread}
 use Rattle.crn_tab.proofs.Spaces.{dual_combined}
+use Rattle.crn_tab.proofs.Primitive.{none_left}
 
 -- what the slots are after the exchange of the coordinates at slots c and s
 pub record Swapped (c s : ℕ) (at order at' : List ℕ) : Type 0 where
@@ -44,10 +45,6 @@ differs n i r c old lead z h lt old_long lead_long =
           ∙ ap (λ (x : ℤ). (p *ℤ entry old n) -ℤ (q *ℤ x)) (put_same lead n (pos 0) n_in);
     }
 
-nothing : (p q t z w v : ℤ) → z ≡ pos 0 → w ≡ pos 0 → v ≡ pos 0 → z *ℤ t ≡ (p *ℤ w) -ℤ (q *ℤ v)
-nothing p q t z w v e f g =
-    omega (arith, ints, ap (λ (s : ℤ). s *ℤ t) e, ap (λ (s : ℤ). p *ℤ s) f, ap (λ (s : ℤ). q *ℤ s) g, zero-*ℤ t, *ℤ-zero p, *ℤ-zero q)
-
 along : (p q t z w v z' w' v' : ℤ) → z ≡ z' → w ≡ w' → v ≡ v' → z' *ℤ t ≡ (p *ℤ w') -ℤ (q *ℤ v') → z *ℤ t ≡ (p *ℤ w) -ℤ (q *ℤ v)
 along p q t z w v z' w' v' e f g h =
     omega (arith, ints, h, ap (λ (s : ℤ). s *ℤ t) e, ap (λ (s : ℤ). p *ℤ s) f, ap (λ (s : ℤ). q *ℤ s) g)
@@ -61,7 +58,7 @@ linked n count i r c at order at' old lead z p q t place swap c_lt r_lt ne d k =
     let X = entry (spread n i old at) k in
     let Y = entry (spread n r lead at') k in
     elim (lt_or k count) [
-      | inr past ↦ nothing p q t W X Y
+      | inr past ↦ none_left p q t W X Y
           (past_end (spread n i z at') k (omega (arith, length-spread n i z at', swap.long, place.at_long)))
           (past_end (spread n i old at) k (omega (arith, length-spread n i old at, place.at_long)))
           (past_end (spread n r lead at') k (omega (arith, length-spread n r lead at', swap.long, place.at_long)))
@@ -100,7 +97,7 @@ linked n count i r c at order at' old lead z p q t place swap c_lt r_lt ne d k =
                     | inr high ↦ elim (eq_or s (n + i)) [
                       | inl own ↦ along p q t W X Y (entry z n) (entry old n) (pos 0)
                           (w_at ∙ slot_own n i z s own) (x_is ∙ slot_own n i old s own) (y_at ∙ slot_none n r lead s high not_r) d.own
-                      | inr far ↦ nothing p q t W X Y (w_at ∙ slot_none n i z s high far) (x_is ∙ slot_none n i old s high far) (y_at ∙ slot_none n r lead s high not_r)
+                      | inr far ↦ none_left p q t W X Y (w_at ∙ slot_none n i z s high far) (x_is ∙ slot_none n i old s high far) (y_at ∙ slot_none n r lead s high not_r)
                     ]
                   ]
             ]

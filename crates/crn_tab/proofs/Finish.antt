@@ -1,15 +1,16 @@
 -- From filled rows to the tableau after an exchange, or to a wide vector.
-use Rattle.std.proofs.Common.{◌≡◌, ◌≢◌, ℕ, ◌+◌, ◌-◌, ◌*◌, ◌/◌, ◌%◌, ◌^◌, ◌<◌, ◌≤◌, inl, inr, List, length, drop, sym, ap, subst, ◌∙◌, arith, lit<}
+use Rattle.std.proofs.Common.{◌≡◌, ◌≢◌, ℕ, ◌+◌, ◌-◌, ◌*◌, ◌/◌, ◌%◌, ◌<◌, ◌≤◌, inl, inr, List, length, drop, sym, ap, subst, ◌∙◌, arith, lit<}
 use Rattle.std.specs.Prelude.{ℤ, pos, ◌≤ℤ◌, slice_index, unsigned_abs}
 use Rattle.std.proofs.lemmas.List.{length-take}
 use Rattle.std.proofs.Math.Nat.{div-add-mod, mul_comm, div-lt_iff_lt-mul}
+use Rattle.crn_vec.specs.declared.limits.TheConstants.{WIDE_ENTRY}
 use Rattle.crn_vec.specs.Vectors.{Mat, entry}
 use Rattle.crn_vec.specs.Lists.{IsIn}
 use Rattle.crn_vec.specs.Elementary.{width, IsBasis, IsNamed, IsWide, WideAt, Exchanged}
+use Rattle.crn_vec.proofs.Entries.{past_end, inside_or, lt_or, eq_or}
 use Rattle.crn_tab.specs.Entries.{AreSmall, IsNewRow}
 use Rattle.crn_tab.specs.Tab.{slot_entry, spread, basis_of, row_at, ArePlaced, IsRowAt, IsTableau, IsKeptRow, IsRowDone, HasWideRow, AreFilled}
-use Rattle.crn_tab.proofs.Rows.{past_end, inside_or, lt_or}
-use Rattle.crn_tab.proofs.Places.{eq_or, slot_basic, slot_own, slot_none, length-spread, entry-spread}
+use Rattle.crn_tab.proofs.Places.{slot_basic, slot_own, slot_none, length-spread, entry-spread}
 use Rattle.crn_tab.proofs.Flat.{entry-row}
 use Rattle.crn_tab.proofs.Bases.{outside_slot, rows_make_basis, row_is_named, at_own}
 use Rattle.crn_tab.proofs.Exchanges.{new_row_at}
@@ -22,13 +23,13 @@ small_row w i rows h k = elim (lt_or k w) [
   | inl lt ↦ let e = entry-row w rows i k lt in omega (arith, h (i * w + k), ap unsigned_abs e)
   | inr le ↦
       let e : entry (row_at w rows i) k ≡ pos 0 = past_end (row_at w rows i) k (omega (arith, length-take w (drop (i * w) rows))) in
-      omega (arith, ap unsigned_abs e, (let z : unsigned_abs (pos 0) < 2 ^ 62 = lit< tt in z))
+      omega (arith, ap unsigned_abs e, (let z : unsigned_abs (pos 0) < WIDE_ENTRY = lit< tt in z))
 ]
 
 -- rows that are small make a small list
 pub small_list : (w m : ℕ) (rows : List ℤ) → 1 ≤ w → length rows ≡ m * w → ((i : ℕ) → i < m → AreSmall (row_at w rows i)) → AreSmall rows
 small_list w m rows some long h k = elim (inside_or rows k) [
-  | inr past ↦ let e = past_end rows k past in omega (arith, ap unsigned_abs e, (let z : unsigned_abs (pos 0) < 2 ^ 62 = lit< tt in z))
+  | inr past ↦ let e = past_end rows k past in omega (arith, ap unsigned_abs e, (let z : unsigned_abs (pos 0) < WIDE_ENTRY = lit< tt in z))
   | inl lt ↦
       let i = k / w in
       let j = k % w in
@@ -108,7 +109,7 @@ spread_wide a at order i row p lt long (s, big) =
           let e : entry (spread n i row at) k ≡ entry row s = entry-spread n i row at k (omega (arith, p.at_long, p.order_below s (omega arith))) ∙ ap (slot_entry n i row) slot ∙ slot_basic n i row s low in
           (k, omega (arith, big, ap unsigned_abs e))
       | inr high ↦ elim (lt_or n s) as (λ _. IsWide (spread n i row at)) [
-        | inl past ↦ absurd (omega (arith, big, ap unsigned_abs (past_end row s (omega arith)), (let z : unsigned_abs (pos 0) < 2 ^ 62 = lit< tt in z)))
+        | inl past ↦ absurd (omega (arith, big, ap unsigned_abs (past_end row s (omega arith)), (let z : unsigned_abs (pos 0) < WIDE_ENTRY = lit< tt in z)))
         | inr le ↦
             let k = slice_index order (n + i) in
             let e : entry (spread n i row at) k ≡ entry row n = at_own n (width a) at order i row k p (p.order_below (n + i) (omega arith)) (p.back (n + i) (omega arith)) in
@@ -146,7 +147,7 @@ exchanged_one basis next next' b e f g =
 
 pub spread_small : (n i : ℕ) (row : List ℤ) (at : List ℕ) → AreSmall row → AreSmall (spread n i row at)
 spread_small n i row at h k =
-    let zero_small : unsigned_abs (pos 0) < 2 ^ 62 = lit< tt in
+    let zero_small : unsigned_abs (pos 0) < WIDE_ENTRY = lit< tt in
     elim (inside_or (spread n i row at) k) [
       | inr past ↦ omega (arith, zero_small, ap unsigned_abs (past_end (spread n i row at) k past))
       | inl lt ↦

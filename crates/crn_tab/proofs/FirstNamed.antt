@@ -4,12 +4,13 @@ use Rattle.std.specs.Prelude.{ℤ, pos, neg_ℤ, slice_index, ◌↔◌}
 use Rattle.crn_vec.specs.Vectors.{Mat, entry, AreOfLength}
 use Rattle.crn_vec.specs.Lists.{IsIn}
 use Rattle.crn_vec.specs.Elementary.{width, IsNamed}
+use Rattle.crn_vec.proofs.Entries.{lt_or, past_end, eq_or}
 use Rattle.crn_tab.specs.Start.{IsIdentity, start_row, first_entry}
 use Rattle.crn_tab.specs.Tab.{choose, slot_entry, spread}
-use Rattle.crn_tab.proofs.Rows.{lt_or, past_end}
-use Rattle.crn_tab.proofs.Places.{eq_or, lt_true, lt_false, eq_true, eq_false, slot_basic, slot_own, slot_none, length-spread, entry-spread}
+use Rattle.crn_tab.proofs.Rows.{row_count}
+use Rattle.crn_tab.proofs.Places.{lt_true, lt_false, eq_true, eq_false, slot_basic, slot_own, slot_none, length-spread, entry-spread}
 use Rattle.crn_tab.proofs.Bases.{spread_primitive}
-use Rattle.crn_tab.proofs.FirstRows.{identity_placed, row_count, length-start_row, start_entry, start_last, first_dual, one_primitive}
+use Rattle.crn_tab.proofs.FirstRows.{identity_placed, length-start_row, start_entry, start_last, first_dual, one_primitive}
 use Rattle.crn_tab.proofs.OneVector.{one_vector}
 
 -- m numbers from k on

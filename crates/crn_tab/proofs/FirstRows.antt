@@ -1,23 +1,24 @@
 -- The rows that a tableau keeps at first make a tableau.
-use Rattle.std.proofs.Common.{◌≡◌, ◌≢◌, ℕ, zero, suc, ◌+◌, ◌-◌, ◌*◌, ◌^◌, ◌<◌, ◌≤◌, inl, inr, List, [], ◌∷◌, ◌++◌, length, get_or, take, drop, map, refl, sym, ap, subst, ◌∙◌, arith, lit<, append_assoc, add-one}
+use Rattle.std.proofs.Common.{◌≡◌, ◌≢◌, ℕ, zero, suc, ◌+◌, ◌-◌, ◌*◌, ◌<◌, ◌≤◌, inl, inr, List, [], ◌∷◌, ◌++◌, length, get_or, take, drop, map, refl, sym, ap, subst, ◌∙◌, arith, lit<, append_assoc, add-one}
 use Rattle.std.specs.Prelude.{ℤ, pos, neg_ℤ, ◌*ℤ◌, slice_index, unsigned_abs}
 use Rattle.std.specs.Int.{◌∣◌}
 use Rattle.std.proofs.lemmas.Int.{ints}
 use Rattle.std.proofs.lemmas.List.{append-nil, get_or-drop, get_or-append-add, get_or_append_left, length-append}
 use Rattle.std.proofs.Math.Nat.{one-dvd, suc-mul}
 use Rattle.std.proofs.Math.Seq.{take-append_seam}
-use lib.IntN.{zero-*ℤ}
-use Rattle.crn_vec.specs.declared.limits.TheConstants.{MAX_AMOUNT, MAX_COORDINATES}
+use Rattle.crn_vec.specs.declared.limits.TheConstants.{MAX_AMOUNT, MAX_COORDINATES, WIDE_ENTRY}
 use Rattle.crn_vec.specs.Vectors.{Mat, entry, dot, column, AreOfLength, AreWithin}
 use Rattle.crn_vec.specs.Elementary.{width, InDualSpace}
 use Rattle.crn_vec.proofs.RowLists.{within_at}
+use Rattle.crn_vec.proofs.Entries.{past_end, lt_or}
 use Rattle.crn_tab.specs.Entries.{AreSmall, IsContent}
 use Rattle.crn_tab.specs.Start.{IsIdentity, start_row, start_rows}
 use Rattle.crn_tab.specs.Tab.{choose, slot_entry, spread, basis_from, row_at, ArePlaced, IsRowAt, IsTableau}
-use Rattle.crn_tab.proofs.Rows.{past_end, lt_or, small_everywhere}
+use Rattle.crn_tab.proofs.Rows.{small_everywhere, row_count}
 use Rattle.crn_tab.proofs.Places.{lt_true, lt_false, slot_basic, slot_own, slot_none, length-spread, entry-spread}
 use Rattle.crn_tab.proofs.Dots.{dot_single}
 use Rattle.crn_tab.proofs.Finish.{small_list}
+use Rattle.crn_tab.proofs.Primitive.{no_times}
 
 pub length-turned : (r : List ℤ) → length (map neg_ℤ r) ≡ length r
 length-turned [] = refl
@@ -99,11 +100,6 @@ identity_placed n count at order p q le = record {
   basis = count_from n 0 at (λ j lt. p.is j (omega (arith, p.long)) ∙ (let e : j ≡ 0 + j = omega arith in e)) (omega (arith, p.long)) ∙ (let e : n - 0 ≡ n = omega arith in e);
 }
 
-pub row_count : (n : ℕ) (rows : List (List ℤ)) (i : ℕ) → AreOfLength n rows → i < length rows → length (get_or rows i []) ≡ n
-row_count n [] i w lt = absurd (omega arith)
-row_count n (r ∷ rows) zero w lt = w.0
-row_count n (r ∷ rows) (suc i) w lt = row_count n rows i w.1 (omega arith)
-
 entry-column : (rows : List (List ℤ)) (j i : ℕ) → i < length rows → entry (column rows j) i ≡ entry (get_or rows i []) j
 entry-column [] j i lt = absurd (omega arith)
 entry-column (r ∷ rows) j zero lt = refl
@@ -111,9 +107,6 @@ entry-column (r ∷ rows) j (suc i) lt = entry-column rows j i (omega arith)
 
 one_times : (u x : ℤ) → u ≡ pos 1 → u *ℤ x ≡ x
 one_times u x e = ap (λ (t : ℤ). t *ℤ x) e ∙ (let f : pos 1 *ℤ x ≡ x = omega (arith, ints) in f)
-
-none_times : (u x : ℤ) → u ≡ pos 0 → u *ℤ x ≡ pos 0
-none_times u x e = ap (λ (t : ℤ). t *ℤ x) e ∙ zero-*ℤ x
 
 -- the vector of row i at first: minus the row, then 1 at its own coordinate alone
 pub first_dual : (a : Mat) (at : List ℕ) (i : ℕ) → AreOfLength a.cols a.rows → IsIdentity (width a) at → i < length a.rows → InDualSpace a (spread a.cols i (start_row (get_or a.rows i [])) at)
@@ -129,7 +122,7 @@ first_dual a at i wide id lt =
       is = λ j j_lt.
           let left : entry w j ≡ neg_ℤ (entry r j) = in_at j (omega arith) ∙ slot_basic n i row j j_lt ∙ start_entry r j (omega (arith, r_long)) in
           let below : (k : ℕ) → entry (drop n w) k ≡ entry w (n + k) = λ k. get_or-drop n w k (pos 0) in
-          let others : (k : ℕ) → k ≢ i → entry (drop n w) k *ℤ entry (column a.rows j) k ≡ pos 0 = λ k ne. none_times (entry (drop n w) k) (entry (column a.rows j) k) (below k ∙ elim (lt_or (n + k) (width a)) as (λ _. entry w (n + k) ≡ pos 0) [
+          let others : (k : ℕ) → k ≢ i → entry (drop n w) k *ℤ entry (column a.rows j) k ≡ pos 0 = λ k ne. no_times (entry (drop n w) k) (entry (column a.rows j) k) (below k ∙ elim (lt_or (n + k) (width a)) as (λ _. entry w (n + k) ≡ pos 0) [
             | inl k_lt ↦ in_at (n + k) k_lt ∙ slot_none n i row (n + k) (omega arith) (λ e. ne (omega arith))
             | inr past ↦ past_end w (n + k) (omega (arith, length-spread n i row at, id.long))
           ]) in
@@ -147,15 +140,15 @@ one_primitive v k e = record {
 }
 
 first_small : (r : List ℤ) → AreWithin MAX_AMOUNT r → AreSmall (start_row r)
-first_small r h = small_everywhere (start_row r) (λ k lt. elim (lt_or k (length r)) as (λ _. unsigned_abs (entry (start_row r) k) < 2 ^ 62) [
+first_small r h = small_everywhere (start_row r) (λ k lt. elim (lt_or k (length r)) as (λ _. unsigned_abs (entry (start_row r) k) < WIDE_ENTRY) [
   | inl low ↦
-      let few : MAX_AMOUNT < 2 ^ 62 = lit< tt in
+      let few : MAX_AMOUNT < WIDE_ENTRY = lit< tt in
       let e : unsigned_abs (entry (start_row r) k) ≡ unsigned_abs (neg_ℤ (entry r k)) = ap unsigned_abs (start_entry r k low) in
       omega (arith, ints, few, e, within_at MAX_AMOUNT k r h)
   | inr high ↦
       let same : k ≡ length r = omega (arith, length-start_row r) in
       let e : unsigned_abs (entry (start_row r) k) ≡ 1 = ap (λ j. unsigned_abs (entry (start_row r) j)) same ∙ ap unsigned_abs (start_last r) in
-      let few : 1 < 2 ^ 62 = lit< tt in
+      let few : 1 < WIDE_ENTRY = lit< tt in
       omega (arith, e, few)
 ])
 

@@ -1,21 +1,19 @@
 -- A lead from a row whose places c and w - 1 were swapped.
-use Rattle.std.proofs.Common.{◌≡◌, ◌≢◌, ℕ, ◌-◌, ◌<◌, ◌^◌, inl, inr, List, length, refl, ap, ◌∙◌, arith, to_z, of_z, false, true}
-use Rattle.std.specs.Prelude.{ℤ, pos, negsuc, neg_ℤ, ◌*ℤ◌, ◌≤ℤ◌, unsigned_abs, int_lt}
+use Rattle.std.proofs.Common.{◌≡◌, ◌≢◌, ℕ, ◌-◌, inl, inr, List, length, refl, ap, ◌∙◌, arith, to_z, of_z, false, true}
+use Rattle.std.specs.Prelude.{ℤ, pos, negsuc, neg_ℤ, ◌*ℤ◌, ◌≤ℤ◌, int_lt}
 use Rattle.std.specs.List.{SwappedAt}
 use Rattle.std.specs.Int.{w64}
-use Rattle.std.proofs.lemmas.Int.{ints, to_z-of_z, fits_signed_from_abs}
+use Rattle.std.proofs.lemmas.Int.{ints}
 use Rattle.crn_vec.specs.Vectors.{entry}
 use Rattle.crn_tab.specs.Entries.{AreSmall}
 use Rattle.crn_tab.specs.Tab.{IsLead}
+use Rattle.crn_tab.proofs.Cross.{read}
 
 one : (x : ℤ) → x ≡ pos 1 *ℤ x
 one x = omega (arith, ints)
 
 minus_one : (x : ℤ) → neg_ℤ x ≡ negsuc 0 *ℤ x
 minus_one x = omega (arith, ints)
-
-read : (x : ℤ) → unsigned_abs x < 2 ^ 62 → to_z w64 (of_z w64 x) ≡ x
-read x h = to_z-of_z w64 x (fits_signed_from_abs w64 x (omega arith))
 
 no_less : (n : ℕ) → int_lt (pos n) (pos 0) ≡ true → ⊥
 no_less n h = grind (arith, ints)

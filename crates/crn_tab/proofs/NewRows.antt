@@ -4,7 +4,7 @@ use Rattle.std.specs.Prelude.{ℤ, pos, ◌-ℤ◌, ◌*ℤ◌, ◌≤ℤ◌, �
 use Rattle.std.proofs.lemmas.Int.{ints}
 use Rattle.std.proofs.Math.ListN.{length-set}
 use lib.IntN.{*ℤ-zero, zero-*ℤ, *ℤ_comm}
-use Rattle.crn_frac.proofs.Whole.{pos_pos}
+use Rattle.crn_vec.proofs.Ring.{pos_pos}
 use Rattle.crn_tab.specs.Entries.{entry, put, IsContent, IsCombined, IsNewRow}
 use Rattle.crn_tab.proofs.Rows.{same_rows}
 

@@ -3,20 +3,17 @@ use Rattle.std.proofs.Common.{◌≡◌, ◌≢◌, ℕ, ◌*◌, ◌≤◌, ◌
 use Rattle.std.specs.Prelude.{ℤ, pos, negsuc, ◌*ℤ◌, neg_ℤ, unsigned_abs}
 use Rattle.std.proofs.lemmas.Int.{ints, unsigned_abs-mul}
 use lib.IntN.{*ℤ_comm}
-use Rattle.crn_frac.proofs.Whole.{mul-neg}
 use Rattle.crn_vec.specs.Vectors.{Mat, entry, AreOfLength}
 use Rattle.crn_vec.specs.Elementary.{IsPrimitive, IsNamed}
+use Rattle.crn_vec.proofs.Ring.{mul-neg}
 use Rattle.crn_tab.proofs.Signs.{same_sizes, one_row, some_own}
-use Rattle.crn_tab.proofs.Columns.{cancel_left, one_column, some_own_column}
+use Rattle.crn_tab.proofs.Columns.{cancel_left, one_column, some_own_column, not_zero}
 
 same_or_turned : (x y : ℤ) → unsigned_abs x ≡ unsigned_abs y → (x ≡ y) ⊎ (x ≡ neg_ℤ y)
 same_or_turned (pos n) (pos m) e = inl (ap pos e)
 same_or_turned (pos n) (negsuc m) e = inr (omega (arith, ints, e))
 same_or_turned (negsuc n) (pos m) e = inr (omega (arith, ints, e))
 same_or_turned (negsuc n) (negsuc m) e = inl (omega (arith, ints, e))
-
-not_zero : (x : ℤ) → 1 ≤ unsigned_abs x → x ≢ pos 0
-not_zero x h e = omega (arith, h, ap unsigned_abs e)
 
 -- primitive lists that are multiples of one another, place by place
 up_to_sign : (v w : List ℤ) (k : ℕ) → IsPrimitive v → IsPrimitive w → 1 ≤ unsigned_abs (entry v k) → 1 ≤ unsigned_abs (entry w k)

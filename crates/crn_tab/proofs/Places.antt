@@ -5,13 +5,8 @@ use Rattle.std.proofs.lemmas.Bool.Decides.{nat_tests}
 use Rattle.std.proofs.lemmas.List.{append-nil}
 use Rattle.crn_vec.specs.Vectors.{entry}
 use Rattle.crn_vec.specs.Lists.{IsIn, IsAbove, IsAscending}
+use Rattle.crn_vec.proofs.Entries.{eq_or}
 use Rattle.crn_tab.specs.Tab.{choose, slot_entry, spread, basis_from, basis_of}
-
-pub eq_or : (i j : ℕ) → (i ≡ j) ⊎ (i ≢ j)
-eq_or zero zero = inl refl
-eq_or zero (suc j) = inr (λ e. omega arith)
-eq_or (suc i) zero = inr (λ e. omega arith)
-eq_or (suc i) (suc j) = elim (eq_or i j) [ inl e ↦ inl (ap suc e) | inr ne ↦ inr (λ e. ne (omega arith)) ]
 
 pub isIn_or : (k : ℕ) (xs : List ℕ) → IsIn k xs ⊎ (¬ IsIn k xs)
 isIn_or k [] = inr (λ h. h)

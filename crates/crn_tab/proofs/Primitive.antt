@@ -5,8 +5,8 @@ use Rattle.std.specs.Int.{◌∣◌}
 use Rattle.std.proofs.lemmas.Int.{ints, unsigned_abs-mul}
 use Rattle.std.proofs.Math.Nat.{one-dvd, one-mul, mul-dvd-mul_right, dvd_of_mul-dvd-mul_right, pos_of_dvd_of_pos}
 use lib.IntN.{*ℤ-zero, zero-*ℤ}
+use Rattle.crn_vec.proofs.Entries.{past_end, inside_or}
 use Rattle.crn_tab.specs.Entries.{entry, IsContent, IsCombined}
-use Rattle.crn_tab.proofs.Rows.{past_end, inside_or}
 
 pub abs_some : (x : ℤ) → x ≢ pos 0 → 1 ≤ unsigned_abs x
 abs_some x h = omega (arith, ints, h)
@@ -25,12 +25,15 @@ primitive_part u z t h some e = record {
       dvd_of_mul-dvd-mul_right d some (subst D (sym (one-mul g)) (h.greatest (d * g) each));
 }
 
-no_more : (p q x y : ℤ) → x ≡ pos 0 → y ≡ pos 0 → (p *ℤ x) -ℤ (q *ℤ y) ≡ pos 0
+pub no_more : (p q x y : ℤ) → x ≡ pos 0 → y ≡ pos 0 → (p *ℤ x) -ℤ (q *ℤ y) ≡ pos 0
 no_more p q x y e f =
     omega (arith, ints, ap (λ (t : ℤ). p *ℤ t) e, ap (λ (t : ℤ). q *ℤ t) f, *ℤ-zero p, *ℤ-zero q)
 
-no_times : (z t : ℤ) → z ≡ pos 0 → z *ℤ t ≡ pos 0
+pub no_times : (z t : ℤ) → z ≡ pos 0 → z *ℤ t ≡ pos 0
 no_times z t e = ap (λ (s : ℤ). s *ℤ t) e ∙ zero-*ℤ t
+
+pub none_left : (p q t z w v : ℤ) → z ≡ pos 0 → w ≡ pos 0 → v ≡ pos 0 → z *ℤ t ≡ (p *ℤ w) -ℤ (q *ℤ v)
+none_left p q t z w v e f g = no_times z t e ∙ sym (no_more p q w v f g)
 
 -- the products u, divided by their content, are the primitive difference
 pub combined_of : (p q : ℤ) (w v u z : List ℤ) (t : ℤ) → length v ≡ length w → length u ≡ length w → length z ≡ length w

@@ -7,9 +7,9 @@ use Rattle.std.proofs.lemmas.Nat.Gcd.{dvd_trans}
 use Rattle.crn_frac.specs.Multiple.{IsLcm}
 use Rattle.crn_frac.proofs.Divisors.{common, lcm_is}
 use Rattle.crn_vec.specs.Vectors.{entry}
+use Rattle.crn_vec.proofs.Entries.{eq_or}
 use Rattle.crn_tab.specs.Tab.{row_at}
 use Rattle.crn_tab.specs.Columns.{IsScale}
-use Rattle.crn_tab.proofs.Places.{eq_or}
 use Rattle.crn_tab.proofs.Signs.{gcd_by}
 
 times : (a l k : ℕ) → l ∣ k → a * l ∣ a * k

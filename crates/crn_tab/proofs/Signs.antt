@@ -10,13 +10,13 @@ use Rattle.crn_frac.proofs.Divisors.{common}
 use Rattle.crn_vec.specs.Vectors.{Mat, entry, AreOfLength}
 use Rattle.crn_vec.specs.Lists.{IsIn}
 use Rattle.crn_vec.specs.Elementary.{width, InDualSpace, IsBasis, IsPrimitive, IsNamed, IsNamedRow, WideAt}
+use Rattle.crn_vec.proofs.Entries.{lt_or, eq_or}
 use Rattle.crn_tab.specs.Entries.{AreSmall}
 use Rattle.crn_tab.specs.Tab.{basis_of, row_at, spread, IsTableau}
-use Rattle.crn_tab.proofs.Rows.{lt_or}
-use Rattle.crn_tab.proofs.Places.{eq_or}
 use Rattle.crn_tab.proofs.Spaces.{dual_combined}
 use Rattle.crn_tab.proofs.Unique.{dual_none}
 use Rattle.crn_tab.proofs.RowVector.{row_of}
+use Rattle.crn_tab.proofs.Primitive.{no_more}
 
 pub gcd_by : (k a b : ℕ) → b ≤ k → (g : ℕ) × IsGcd a b g
 gcd_by k a zero h = (a, IsGcd-from_zero a 0 refl)
@@ -79,9 +79,6 @@ times_one x = omega (arith, ints)
 pub own : (p q : ℤ) → (p *ℤ q) -ℤ (q *ℤ p) ≡ pos 0
 own p q = omega (arith, ints, *ℤ_comm p q)
 
-pub both_none : (p q x y : ℤ) → x ≡ pos 0 → y ≡ pos 0 → (p *ℤ x) -ℤ (q *ℤ y) ≡ pos 0
-both_none p q x y e f = omega (arith, ints, ap (λ (t : ℤ). p *ℤ t) e, ap (λ (t : ℤ). q *ℤ t) f, *ℤ-zero p, *ℤ-zero q)
-
 pub is_none : (x : ℤ) → (x ≡ pos 0) ⊎ (1 ≤ unsigned_abs x)
 is_none (pos zero) = inl refl
 is_none (pos (suc n)) = inr (omega arith)
@@ -99,7 +96,7 @@ one_row a basis k w v wide h nw nv j =
     let dual : InDualSpace a z = dual_combined a p q (pos 1) w v z (λ e. omega (arith, ints, e)) nw.space nv.space (length-differ p q w v same) (λ i. times_one (entry z i) ∙ at i) in
     let none : entry z j ≡ pos 0 = dual_none a basis z wide h dual (λ i out. elim (eq_or i k) as (λ _. entry z i ≡ pos 0) [
       | inl e ↦ at i ∙ ap (λ m. (p *ℤ entry w m) -ℤ (q *ℤ entry v m)) e ∙ own p q
-      | inr ne ↦ at i ∙ both_none p q (entry w i) (entry v i) (nw.zero_outside i out ne) (nv.zero_outside i out ne)
+      | inr ne ↦ at i ∙ no_more p q (entry w i) (entry v i) (nw.zero_outside i out ne) (nv.zero_outside i out ne)
     ]) j in
     omega (arith, ints, none, at j)
 

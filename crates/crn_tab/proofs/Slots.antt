@@ -3,8 +3,9 @@ use Rattle.std.proofs.Common.{◌≡◌, ◌≢◌, ℕ, zero, suc, ◌+◌, ◌
 use Rattle.std.specs.Prelude.{slice_index}
 use Rattle.std.proofs.Math.ListN.{length-set}
 use Rattle.crn_vec.specs.Elementary.{Exchanged}
+use Rattle.crn_vec.proofs.Entries.{eq_or}
 use Rattle.crn_tab.specs.Tab.{choose, basis_from, basis_of, ArePlaced}
-use Rattle.crn_tab.proofs.Places.{eq_or, lt_true, lt_false, in_basis, basis_only, basis_ascending}
+use Rattle.crn_tab.proofs.Places.{lt_true, lt_false, in_basis, basis_only, basis_ascending}
 use Rattle.crn_tab.proofs.Exchanges.{Swapped}
 
 pub look_at : (v : List ℕ) (c k x : ℕ) → c < length v → ((k ≡ c) × (slice_index (set v c x) k ≡ x)) ⊎ ((k ≢ c) × (slice_index (set v c x) k ≡ slice_index v k))

@@ -5,15 +5,17 @@ use Rattle.std.proofs.lemmas.Int.{ints}
 use Rattle.std.proofs.lemmas.List.{length-append, get_or-append-add, get_or_append_left}
 use Rattle.std.proofs.Math.Seq.{take-append_seam}
 use lib.IntN.{*ℤ_comm, *ℤ-zero, zero-*ℤ}
-use Rattle.crn_frac.proofs.Whole.{no_zero}
 use Rattle.crn_vec.specs.Vectors.{Mat, entry, dot, AreOfLength}
 use Rattle.crn_vec.specs.Lists.{IsIn}
 use Rattle.crn_vec.specs.Elementary.{width, InRowSpace, InDualSpace, IsBasis}
-use Rattle.crn_tab.proofs.Rows.{lt_or}
-use Rattle.crn_tab.proofs.Places.{eq_or, isIn_or}
-use Rattle.crn_tab.proofs.Dots.{zeros, length-zeros, dots, length-dots, entry-dots, dot_single}
-use Rattle.crn_tab.proofs.Spaces.{orthogonal}
-use Rattle.crn_tab.proofs.Null.{Zero, Solves, null}
+use Rattle.crn_vec.proofs.Ring.{no_zero}
+use Rattle.crn_vec.proofs.Entries.{lt_or, eq_or}
+use Rattle.crn_vec.proofs.Sums.{zeros, length-zeros, dots, length-dots, entry-dots, zeros-dot}
+use Rattle.crn_vec.proofs.Orthogonal.{orthogonal}
+use Rattle.crn_vec.proofs.Null.{Zero, Solves, null}
+use Rattle.crn_tab.proofs.Rows.{row_count}
+use Rattle.crn_tab.proofs.Places.{isIn_or}
+use Rattle.crn_tab.proofs.Dots.{dot_single}
 
 -- the list of n entries that is 1 at j alone
 abbrev pub unit : ℕ → ℕ → List ℤ
@@ -26,15 +28,10 @@ length-unit zero j = refl
 length-unit (suc n) zero = omega (arith, length-zeros n)
 length-unit (suc n) (suc j) = omega (arith, length-unit n j)
 
-zeros_left : (n : ℕ) (x : List ℤ) → dot (zeros n) x ≡ pos 0
-zeros_left zero x = refl
-zeros_left (suc n) [] = refl
-zeros_left (suc n) (y ∷ x) = omega (arith, ints, zeros_left n x, zero-*ℤ y)
-
 dot-unit : (n j : ℕ) (x : List ℤ) → j < n → length x ≡ n → dot (unit n j) x ≡ entry x j
 dot-unit zero j x h e = absurd (omega arith)
 dot-unit (suc n) j [] h e = absurd (omega arith)
-dot-unit (suc n) zero (y ∷ x) h e = omega (arith, ints, zeros_left n x)
+dot-unit (suc n) zero (y ∷ x) h e = omega (arith, ints, zeros-dot n x)
 dot-unit (suc n) (suc j) (y ∷ x) h e = omega (arith, ints, zero-*ℤ y, dot-unit n j x (omega arith) (omega arith))
 
 -- the vector (x, Ax)
@@ -65,15 +62,10 @@ equation_says a k (inr h) x lt e =
     sym (entry-dots a.rows x (k - a.cols) (omega arith)) ∙ sym (entry_back x (dots a.rows x) a.cols (k - a.cols) e)
     ∙ ap (λ j. entry (vector a x) j) (let f : a.cols + (k - a.cols) ≡ k = omega arith in f)
 
-row_length : (n : ℕ) (rows : List (List ℤ)) (i : ℕ) → AreOfLength n rows → i < length rows → length (get_or rows i []) ≡ n
-row_length n [] i w lt = absurd (omega arith)
-row_length n (r ∷ rows) zero w lt = w.0
-row_length n (r ∷ rows) (suc i) w lt = row_length n rows i w.1 (omega arith)
-
 equation_length : (a : Mat) (k : ℕ) (d : (k < a.cols) ⊎ (a.cols ≤ k)) → AreOfLength a.cols a.rows → k < width a → length (equation_by a k d) ≡ a.cols
 unfolding equation_by
 equation_length a k (inl h) w lt = length-unit a.cols k
-equation_length a k (inr h) w lt = row_length a.cols a.rows (k - a.cols) w (omega arith)
+equation_length a k (inr h) w lt = row_count a.cols a.rows (k - a.cols) w (omega arith)
 
 -- equations for the members of a list other than b
 pub record Equations (a : Mat) (b : ℕ) (ks : List ℕ) : Type 0 where
@@ -152,6 +144,6 @@ dual_none a basis w wide h dual out k = elim (isIn_or k basis) as (λ _. entry w
         | inl m ↦ ap (λ (t : ℤ). entry w i *ℤ t) (c.rest i m ne) ∙ *ℤ-zero (entry w i)
         | inr o ↦ ap (λ (t : ℤ). t *ℤ entry c.y i) (out i o) ∙ zero-*ℤ (entry c.y i)
       ] in
-      let product : entry w k *ℤ entry c.y k ≡ pos 0 = sym (dot_single w c.y k others) ∙ orthogonal a w c.y wide dual c.row in
+      let product : entry w k *ℤ entry c.y k ≡ pos 0 = sym (dot_single w c.y k others) ∙ orthogonal a w c.y dual c.row in
       no_zero (entry c.y k) (entry w k) (*ℤ_comm (entry c.y k) (entry w k) ∙ product) c.some
 ]

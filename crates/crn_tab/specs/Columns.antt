@@ -1,7 +1,8 @@
 -- The vector (x, Ax) that a basis names by a coordinate in it, from the rows of a tableau.
 -- Its entry at the coordinate of row i is minus the row's entry at the slot, times a scale, over the row's own entry.
-use Rattle.std.specs.Prelude.{◌≤◌, ◌<◌, ◌+◌, ◌-◌, ◌*◌, ◌^◌, ℕ, ℤ, pos, neg_ℤ, ◌*ℤ◌, int_div, unsigned_abs, List, map, nat_lt, nat_eq}
+use Rattle.std.specs.Prelude.{◌≤◌, ◌<◌, ◌+◌, ◌-◌, ◌*◌, ℕ, ℤ, pos, neg_ℤ, ◌*ℤ◌, int_div, unsigned_abs, List, map, nat_lt, nat_eq}
 use Rattle.std.specs.Int.{◌∣◌}
+use Rattle.crn_vec.specs.declared.limits.TheConstants.{WIDE_ENTRY}
 use Rattle.crn_vec.specs.Vectors.{entry}
 use Rattle.crn_tab.specs.Tab.{choose, row_at}
 
@@ -15,13 +16,13 @@ pub record IsScale (n c : ℕ) (rows : List ℤ) (i l : ℕ) : Type 0 where
   pub whole : MakesWhole n c rows i l
   pub least : (x : ℕ) → MakesWhole n c rows i x → l ∣ x
 
--- the scale of some first rows is 2 ^ 62 or more
+-- the scale of some first rows is WIDE_ENTRY or more
 pub record HasWideScale (n c m : ℕ) (rows : List ℤ) : Type 0 where
   pub i : ℕ
   pub inside : i ≤ m
   pub l : ℕ
   pub is : IsScale n c rows i l
-  pub wide : 2 ^ 62 ≤ l
+  pub wide : WIDE_ENTRY ≤ l
 
 -- the entry at slot s
 abbrev pub column_entry : ℕ → ℕ → List ℤ → ℕ → ℕ → ℤ

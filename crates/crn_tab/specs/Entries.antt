@@ -1,12 +1,13 @@
 -- Entries of rows, and the primitive difference of two rows.
-use Rattle.std.specs.Prelude.{◌≡◌, ◌<◌, ◌^◌, ℕ, ℤ, pos, ◌≤ℤ◌, ◌-ℤ◌, ◌*ℤ◌, unsigned_abs, List, length, slice_set, Bool, true, false}
+use Rattle.std.specs.Prelude.{◌≡◌, ◌<◌, ℕ, ℤ, pos, ◌≤ℤ◌, ◌-ℤ◌, ◌*ℤ◌, unsigned_abs, List, length, slice_set, Bool, true, false}
 use Rattle.std.specs.Int.{◌∣◌}
+use Rattle.crn_vec.specs.declared.limits.TheConstants.{WIDE_ENTRY}
 pub use Rattle.crn_vec.specs.Vectors.{entry}
 use Rattle.crn_vec.specs.Elementary.{IsWide}
 
--- each entry is below 2 ^ 62 in absolute value
+-- each entry is below WIDE_ENTRY in absolute value
 abbrev pub AreSmall : List ℤ → Type 0
-AreSmall v = (k : ℕ) → unsigned_abs (entry v k) < 2 ^ 62
+AreSmall v = (k : ℕ) → unsigned_abs (entry v k) < WIDE_ENTRY
 
 -- g is the greatest common divisor of the entries
 pub record IsContent (v : List ℤ) (g : ℕ) : Type 0 where

@@ -10,13 +10,13 @@ use crate::combine::is_small;
 use crate::fill::part;
 use crate::stop::ColumnStop;
 use crn_frac::{divided, gcd_of, lcm_of_below};
-use crn_vec::{Ints, Matrix};
+use crn_vec::{Ints, Matrix, WIDE_ENTRY};
 use std::alloc::Global;
 
 // The denominator of a fraction, reduced.
 fn reduced(num: &i64, den: &i64) -> u128
-    requires num_small { unsigned_abs num.now < 2 ^ 62 }
-    requires den_small { unsigned_abs den.now < 2 ^ 62 }
+    requires num_small { unsigned_abs num.now < WIDE_ENTRY }
+    requires den_small { unsigned_abs den.now < WIDE_ENTRY }
     requires some { pos 1 ≤ℤ den.now }
     ensures is { (g : ℕ) × IsGcd (unsigned_abs num.now) (unsigned_abs den.now) g × (result * g ≡ unsigned_abs den.now) }
     ensures some { 1 ≤ result }
@@ -25,18 +25,18 @@ fn reduced(num: &i64, den: &i64) -> u128
     d / gcd_of(num.unsigned_abs() as u128, d)
 }
 
-// The scale of the column at slot c, where it is below 2 ^ 62.
+// The scale of the column at slot c, where it is below WIDE_ENTRY.
 fn scale(rows: &[i64], m: usize, n: usize, c: usize) -> Option<u128>
     requires few { length rows.now ≤ 2 ^ 20 }
     requires count { length rows.now ≡ m * (n + 1) }
     requires place { c < n }
     requires row { (i : ℕ) → i < m → IsKeptRow (n + 1) (row_at (n + 1) rows.now i) }
-    ensures { MatchOption result (HasWideScale n c m rows.now) (λ l. IsScale n c rows.now m l × (l < 2 ^ 62)) }
+    ensures { MatchOption result (HasWideScale n c m rows.now) (λ l. IsScale n c rows.now m l × (l < WIDE_ENTRY)) }
 {
     let mut l = 1u128;
     for i in 0..m {
         let row = part(rows, i, n + 1);
-        match lcm_of_below(l, reduced(&row[c], &row[n]), 1 << 62) {
+        match lcm_of_below(l, reduced(&row[c], &row[n]), WIDE_ENTRY) {
             None => return None,
             Some(next) => l = next,
         }
@@ -46,10 +46,10 @@ fn scale(rows: &[i64], m: usize, n: usize, c: usize) -> Option<u128>
 
 // Minus a number times l, over its row's own entry.
 fn quotient(num: &i64, den: &i64, l: &u128) -> i128
-    requires num_small { unsigned_abs num.now < 2 ^ 62 }
-    requires den_small { unsigned_abs den.now < 2 ^ 62 }
+    requires num_small { unsigned_abs num.now < WIDE_ENTRY }
+    requires den_small { unsigned_abs den.now < WIDE_ENTRY }
     requires den_some { pos 1 ≤ℤ den.now }
-    requires l_small { l.now < 2 ^ 62 }
+    requires l_small { l.now < WIDE_ENTRY }
     requires divides { unsigned_abs den.now ∣ unsigned_abs num.now * l.now }
     ensures { result *ℤ den.now ≡ neg_ℤ (num.now *ℤ pos l.now) }
 {
@@ -65,7 +65,7 @@ fn cell(rows: &[i64], m: usize, n: usize, c: usize, l: &u128, s: usize) -> i128
     requires place { c < n }
     requires slot { s < n + m }
     requires row { (i : ℕ) → i < m → IsKeptRow (n + 1) (row_at (n + 1) rows.now i) }
-    requires small { l.now < 2 ^ 62 }
+    requires small { l.now < WIDE_ENTRY }
     requires whole { MakesWhole n c rows.now m l.now }
     ensures { result ≡ column_entry n c rows.now l.now s }
 {
@@ -91,7 +91,7 @@ fn column_list(
     requires place { c < n }
     requires slots { (k : ℕ) → k < length at.now → slice_index at.now k < n + m }
     requires row { (i : ℕ) → i < m → IsKeptRow (n + 1) (row_at (n + 1) rows.now i) }
-    requires small { l.now < 2 ^ 62 }
+    requires small { l.now < WIDE_ENTRY }
     requires whole { MakesWhole n c rows.now m l.now }
     ensures ok { IfOk result (λ v. v.list ≡ column_of n c rows.now l.now at.now) }
     ensures small { IfOk result (λ v. AreSmall v.list) }

@@ -3,13 +3,14 @@ ghost use Rattle.std.specs.Int.{◌∣◌};
 ghost use Rattle.crn_tab.specs.Entries.{entry, AreSmall, IsContent, IsCombined, IsFit, IsNewRow, put};
 
 use crn_frac::{divided, gcd_of};
+use crn_vec::WIDE_ENTRY;
 
 // One entry of the difference of two rows.
 fn cross(p: &i64, x: &i64, q: &i64, y: &i64) -> i128
-    requires p { unsigned_abs p.now < 2 ^ 62 }
-    requires x { unsigned_abs x.now < 2 ^ 62 }
-    requires q { unsigned_abs q.now < 2 ^ 62 }
-    requires y { unsigned_abs y.now < 2 ^ 62 }
+    requires p { unsigned_abs p.now < WIDE_ENTRY }
+    requires x { unsigned_abs x.now < WIDE_ENTRY }
+    requires q { unsigned_abs q.now < WIDE_ENTRY }
+    requires y { unsigned_abs y.now < WIDE_ENTRY }
     ensures value { result ≡ (p.now *ℤ x.now) -ℤ (q.now *ℤ y.now) }
     ensures small { unsigned_abs result < 2 ^ 125 }
 {
@@ -22,8 +23,8 @@ fn products(row: &[i64], lead: &[i64], p: &i64, q: &i64, work: &mut [i128])
     requires work_count { length work.old ≡ length row.now }
     requires row { AreSmall row.now }
     requires lead { AreSmall lead.now }
-    requires p { unsigned_abs p.now < 2 ^ 62 }
-    requires q { unsigned_abs q.now < 2 ^ 62 }
+    requires p { unsigned_abs p.now < WIDE_ENTRY }
+    requires q { unsigned_abs q.now < WIDE_ENTRY }
     ensures value { (k : ℕ) → k < length row.now → entry work.new k ≡ (p.now *ℤ entry row.now k) -ℤ (q.now *ℤ entry lead.now k) }
     ensures small { (k : ℕ) → k < length row.now → unsigned_abs (entry work.new k) < 2 ^ 125 }
 {
@@ -74,9 +75,9 @@ fn divide(work: &mut [i128], by: &i128)
 
 // Whether the number is below the bound of a kept entry.
 pub(crate) fn is_small(x: &i128) -> bool
-    ensures { IsTrue result ↔ (unsigned_abs x.now < 2 ^ 62) }
+    ensures { IsTrue result ↔ (unsigned_abs x.now < WIDE_ENTRY) }
 {
-    x.unsigned_abs() < 1 << 62
+    x.unsigned_abs() < WIDE_ENTRY
 }
 
 // Keeps the entries, where all are below the bound.
@@ -101,8 +102,8 @@ fn combine(row: &mut [i64], lead: &[i64], p: &i64, q: &i64, c: usize, work: &mut
     requires work_count { length work.old ≡ length row.old }
     requires row { AreSmall row.old }
     requires lead { AreSmall lead.now }
-    requires p { unsigned_abs p.now < 2 ^ 62 }
-    requires q { unsigned_abs q.now < 2 ^ 62 }
+    requires p { unsigned_abs p.now < WIDE_ENTRY }
+    requires q { unsigned_abs q.now < WIDE_ENTRY }
     requires some { (k : ℕ) × (k < length row.old) × ((p.now *ℤ entry row.old k) -ℤ (q.now *ℤ entry lead.now k) ≢ pos 0) }
     ensures { (z : List ℤ) × IsCombined p.now q.now row.old lead.now z × IsFit z row.new result }
 {
@@ -128,7 +129,7 @@ pub(crate) fn new_row(
     requires old { AreSmall old.now }
     requires lead { AreSmall lead.now }
     requires lead_last { entry lead.now (length old.now - 1) ≡ pos 0 }
-    requires p { unsigned_abs p.now < 2 ^ 62 }
+    requires p { unsigned_abs p.now < WIDE_ENTRY }
     requires p_some { pos 1 ≤ℤ p.now }
     requires den_some { pos 1 ≤ℤ entry old.now (length old.now - 1) }
     requires primitive { IsContent old.now 1 }

@@ -1,4 +1,4 @@
-ghost use Rattle.std.specs.Prelude.{◌≡◌, ◌≢◌, ◌≤◌, ◌<◌, ◌^◌, ◌*◌, ◌+◌, ℤ, pos, neg_ℤ, List, ◌≤ℤ◌, ◌*ℤ◌, unsigned_abs};
+ghost use Rattle.std.specs.Prelude.{◌≡◌, ◌≢◌, ◌≤◌, ◌<◌, ◌*◌, ◌+◌, ℤ, pos, neg_ℤ, List, ◌≤ℤ◌, ◌*ℤ◌, unsigned_abs};
 ghost use Rattle.std.specs.Int.{IsGcd};
 ghost use Rattle.crn_vec.specs.Lists.{IsIn};
 ghost use Rattle.crn_vec.specs.Elementary.{width, IsNamed, IsNamedColumn, IsNamedRow};
@@ -7,12 +7,12 @@ ghost use Rattle.crn_tab.specs.Tab.{basis_of, IsTableau};
 
 use crate::fill::part;
 use crn_frac::Frac;
-use crn_vec::Matrix;
+use crn_vec::{Matrix, WIDE_ENTRY};
 
 // Minus a number over a positive one.
 fn turned_fraction(num: &i64, den: &i64) -> Frac
-    requires num_small { unsigned_abs num.now < 2 ^ 62 }
-    requires den_small { unsigned_abs den.now < 2 ^ 62 }
+    requires num_small { unsigned_abs num.now < WIDE_ENTRY }
+    requires den_small { unsigned_abs den.now < WIDE_ENTRY }
     requires some { pos 1 ≤ℤ den.now }
     ensures value { result.num *ℤ den.now ≡ neg_ℤ num.now *ℤ result.den }
     ensures den { pos 1 ≤ℤ result.den }

@@ -3,6 +3,7 @@ ghost use Rattle.crn_tab.specs.Entries.{entry, AreSmall, IsContent, IsFit, IsNew
 ghost use Rattle.crn_tab.specs.Tab.{row_at, IsKeptRow, IsRowDone, HasWideRow};
 
 use crate::combine::new_row;
+use crn_vec::WIDE_ENTRY;
 
 // Row i of a list of rows of so many entries.
 pub(crate) fn part(rows: &[i64], i: usize, w: usize) -> &[i64]
@@ -33,7 +34,7 @@ fn fill_row(
     requires row { IsKeptRow (length lead.now) (row_at (length lead.now) rows.now i) }
     requires lead { AreSmall lead.now }
     requires lead_last { entry lead.now (length lead.now - 1) ≡ pos 0 }
-    requires p { unsigned_abs p.now < 2 ^ 62 }
+    requires p { unsigned_abs p.now < WIDE_ENTRY }
     requires p_some { pos 1 ≤ℤ p.now }
     ensures made { (z : List ℤ) × IsNewRow (length lead.now - 1) c (row_at (length lead.now) rows.now i) (slice_set lead.now (length lead.now - 1) p.now) z × IsFit z (row_at (length lead.now) spare.new i) result }
     ensures others { (j : ℕ) → j ≢ i → row_at (length lead.now) spare.new j ≡ row_at (length lead.now) spare.old j }
@@ -67,7 +68,7 @@ pub(crate) fn fill_rows(
     requires row { (i : ℕ) → i < m → IsKeptRow (length lead.now) (row_at (length lead.now) rows.now i) }
     requires lead { AreSmall lead.now }
     requires lead_last { entry lead.now (length lead.now - 1) ≡ pos 0 }
-    requires p { unsigned_abs p.now < 2 ^ 62 }
+    requires p { unsigned_abs p.now < WIDE_ENTRY }
     requires p_some { pos 1 ≤ℤ p.now }
     ensures done { (i : ℕ) → i < m → i ≢ r → IsRowDone (length lead.now) c i rows.now (slice_set lead.now (length lead.now - 1) p.now) spare.new result (slice_index order.now (length lead.now - 1 + i)) }
     ensures least { (result ≡ length order.now) ⊎ HasWideRow (length lead.now) m c r rows.now (slice_set lead.now (length lead.now - 1) p.now) order.now result }
@@ -101,7 +102,7 @@ fn fill_one(
     requires row { IsKeptRow (length lead.now) (row_at (length lead.now) rows.now i) }
     requires lead { AreSmall lead.now }
     requires lead_last { entry lead.now (length lead.now - 1) ≡ pos 0 }
-    requires p { unsigned_abs p.now < 2 ^ 62 }
+    requires p { unsigned_abs p.now < WIDE_ENTRY }
     requires p_some { pos 1 ≤ℤ p.now }
     ensures done { i ≢ r → IsRowDone (length lead.now) c i rows.now (slice_set lead.now (length lead.now - 1) p.now) spare.new result (slice_index order.now (length lead.now - 1 + i)) }
     ensures others { (j : ℕ) → j ≢ i → row_at (length lead.now) spare.new j ≡ row_at (length lead.now) spare.old j }

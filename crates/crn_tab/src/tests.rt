@@ -2,6 +2,7 @@ ghost use Rattle.std.specs.Prelude.{◌≡◌, ◌≤◌, ◌<◌, ◌+◌, leng
 ghost use Rattle.crn_vec.specs.Vectors.{AreWithin};
 
 use crate::{ColumnStop, Tableau, Wide};
+use crn_frac::{Frac, gcd, lcm_below};
 use crn_vec::{Ints, MAX_AMOUNT, Matrix};
 use std::alloc::Global;
 use std::process::Abort;
@@ -54,7 +55,15 @@ fn is_up_to_sign(made: &[i128], want: &[i128]) -> bool {
 }
 
 #[test]
-fn one_row_exchanges_its_coordinate(rt: HostRuntime) {
+fn calls_worked_by_hand(rt: HostRuntime) {
+    assert_eq!(rt; lcm_below(6, 4, 12), None);
+    assert_eq!(rt; lcm_below(6, 4, 13), Some(12));
+    assert_eq!(rt; gcd(-12, 18), 6);
+    let half = Frac::new(6, -4);
+    assert_eq!(rt; (half.num(), half.den()), (-3, 2));
+    let zero = Frac::new(0, -5);
+    assert_eq!(rt; (zero.num(), zero.den()), (0, 1));
+
     let matrix = Matrix::new(rt.alloc(), 1, 2, &[-1, 1]).expect(&rt, "memory");
     let mut t = Tableau::new(rt.alloc(), &matrix).expect(&rt, "memory");
     assert!(rt; is_up_to_sign(row(&rt, &matrix, &t, 2).as_slice(), &[1, -1, 1]));

@@ -2,8 +2,8 @@
 use Rattle.std.proofs.Common.{◌≡◌, ℕ, ◌<◌, inl, inr, arith, List, [], ◌∷◌, ap, refl, suc, zero, length, sym, subst}
 use Rattle.std.specs.Prelude.{ℤ, pos}
 use Rattle.std.proofs.lemmas.Int.{ints}
-use Rattle.crn_vec.specs.Vectors.{dot, AreOfLength}
-use Rattle.crn_vec.proofs.Sums.{scale, plus, zeros, comb, dot-comm}
+use Rattle.crn_vec.specs.Vectors.{dot, AreOfLength, scale}
+use Rattle.crn_vec.proofs.Sums.{plus, zeros, comb, dot-comm}
 use Rattle.crn_vec.proofs.Null.{Zero, Solves, null}
 
 abbrev pub heads : List (List ℤ) → List ℤ

@@ -3,8 +3,8 @@ use Rattle.std.proofs.Common.{◌≡◌, ℕ, ◌≤◌, ℤ, pos, ◌+ℤ◌, �
 use Rattle.std.proofs.lemmas.Int.{ints}
 use lib.IntN.{*ℤ_comm, *ℤ-zero}
 use Rattle.crn_vec.proofs.Ring.{no_zero, distrib, left-comm, mul-neg, is_zero, one_ne_zero}
-use Rattle.crn_vec.specs.Vectors.{dot, AreOfLength}
-use Rattle.crn_vec.proofs.Sums.{scale, plus, zeros, dot-scale, dot-plus, length-scale, length-plus, length-zeros}
+use Rattle.crn_vec.specs.Vectors.{dot, AreOfLength, scale}
+use Rattle.crn_vec.proofs.Sums.{plus, zeros, dot-scale, dot-plus, length-scale, length-plus, length-zeros}
 
 abbrev pub Zero : List ℤ → Type 0
 Zero [] = Unit {0}

@@ -7,7 +7,7 @@ use lib.IntN.{*ℤ_comm, *ℤ-zero, zero-*ℤ}
 use Rattle.crn_vec.specs.Vectors.{Mat, entry, dot, column}
 use Rattle.crn_vec.specs.Elementary.{InRowSpace, InDualSpace}
 use Rattle.crn_vec.proofs.Ring.{distrib, distrib-right, assoc, mul-neg}
-use Rattle.crn_vec.proofs.Sums.{dot_none, dots, entry-dots, length-dots}
+use Rattle.crn_vec.proofs.Sums.{dots, entry-dots, length-dots, dot_split}
 
 -- the product at place i
 abbrev pub part : List ℤ → List ℤ → ℕ → ℤ
@@ -41,12 +41,6 @@ dot_above_two (x ∷ v) (y ∷ w) (suc c) (suc g) n h =
 -- the core of every orthogonality argument
 pub negative_at : (v w : List ℤ) (c g : ℕ) → ¬ (c ≡ g) → dot v w ≡ pos 0 → pos 0 <ℤ part v w g → ((i : ℕ) → ¬ (i ≡ c) → pos 0 ≤ℤ part v w i) → part v w c <ℤ pos 0
 negative_at v w c g n e p h = omega (arith, ints, e, p, dot_above_two v w c g n h)
-
-pub dot_split : (n : ℕ) (v w : List ℤ) → dot v w ≡ dot (take n v) (take n w) +ℤ dot (drop n v) (drop n w)
-dot_split zero v w = omega (arith, ints)
-dot_split (suc n) [] w = omega (arith, ints)
-dot_split (suc n) (x ∷ v) [] = omega (arith, ints, dot_none (drop n v))
-dot_split (suc n) (x ∷ v) (y ∷ w) = omega (arith, ints, dot_split n v w)
 
 -- u A, entry by entry, is minus z
 pub dot_opposite : (z w c : List ℤ) → length z ≡ length w → ((k : ℕ) → k < length w → entry z k ≡ neg_ℤ (entry w k)) → dot z c ≡ neg_ℤ (dot w c)

@@ -1,5 +1,5 @@
 -- Ring laws and signs of whole numbers.
-use Rattle.std.proofs.Common.{◌≡◌, ◌+◌, ◌*◌, arith, ap, refl, suc, zero, ℤ, pos, negsuc, ◌+ℤ◌, ◌-ℤ◌, ◌*ℤ◌, neg_ℤ, ◌⊎◌, inl, inr}
+use Rattle.std.proofs.Common.{◌≡◌, ◌+◌, ◌*◌, arith, ap, refl, suc, zero, ℤ, pos, negsuc, ◌+ℤ◌, ◌-ℤ◌, ◌*ℤ◌, ◌<ℤ◌, neg_ℤ, ◌⊎◌, inl, inr}
 use Rattle.std.proofs.lemmas.Int.{ints}
 use borrow.Author.Differences.{up, down, sum_is_lem, product_is, neg_is}
 use lib.IntN.{*ℤ_comm}
@@ -50,6 +50,13 @@ no_zero (pos (suc a)) (negsuc b) e h = absurd (omega (arith, ints, e))
 no_zero (negsuc a) (pos zero) e h = refl
 no_zero (negsuc a) (pos (suc b)) e h = absurd (omega (arith, ints, e))
 no_zero (negsuc a) (negsuc b) e h = absurd (omega (arith, ints, e))
+
+pub pos_pos : (a b : ℤ) → pos 0 <ℤ a → pos 0 <ℤ b → pos 0 <ℤ (a *ℤ b)
+pos_pos (pos zero) b h k = absurd (omega (arith, ints))
+pos_pos (pos (suc a)) (pos zero) h k = absurd (omega (arith, ints))
+pos_pos (pos (suc a)) (pos (suc b)) h k = omega (arith, ints)
+pos_pos (pos (suc a)) (negsuc b) h k = absurd (omega (arith, ints))
+pos_pos (negsuc a) b h k = absurd (omega (arith, ints))
 
 pub is_zero : (a : ℤ) → (a ≡ pos 0) ⊎ (¬ (a ≡ pos 0))
 is_zero (pos zero) = inl refl

@@ -4,7 +4,7 @@ use Rattle.std.specs.Prelude.{ℤ, pos, ◌+ℤ◌, ◌*ℤ◌}
 use Rattle.std.proofs.lemmas.Int.{ints}
 use lib.IntN.{*ℤ_comm, *ℤ-zero, zero-*ℤ}
 use Rattle.crn_vec.proofs.Ring.{distrib, distrib-right, assoc}
-use Rattle.crn_vec.specs.Vectors.{entry, dot, column, AreOfLength}
+use Rattle.crn_vec.specs.Vectors.{entry, dot, scale, column, AreOfLength}
 
 pub dot-comm : (xs ys : List ℤ) → dot xs ys ≡ dot ys xs
 dot-comm [] [] = refl
@@ -26,10 +26,6 @@ dot_split zero v w = omega (arith, ints)
 dot_split (suc n) [] w = omega (arith, ints)
 dot_split (suc n) (x ∷ v) [] = omega (arith, ints, dot_none (drop n v))
 dot_split (suc n) (x ∷ v) (y ∷ w) = omega (arith, ints, dot_split n v w)
-
-abbrev pub scale : ℤ → List ℤ → List ℤ
-scale a [] = []
-scale a (x ∷ xs) = (a *ℤ x) ∷ scale a xs
 
 abbrev pub plus : List ℤ → List ℤ → List ℤ
 plus [] ys = []

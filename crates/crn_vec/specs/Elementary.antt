@@ -1,8 +1,9 @@
 -- Bases of a matrix, and the vectors that a basis and a coordinate name.
 -- Source: Rockafellar, The elementary vectors of a subspace (1969).
 -- Shapes: coordinates count from 0, the columns first and then the rows.
-use Rattle.std.specs.Prelude.{◌≡◌, ◌≢◌, ◌≤◌, ◌<◌, ◌+◌, ◌^◌, ℕ, ℤ, pos, neg_ℤ, ◌*ℤ◌, ◌⊎◌, ◌↔◌, unsigned_abs, List, [], length, take, drop, slice_index_or}
+use Rattle.std.specs.Prelude.{◌≡◌, ◌≢◌, ◌≤◌, ◌<◌, ◌+◌, ℕ, ℤ, pos, neg_ℤ, ◌*ℤ◌, ◌⊎◌, ◌↔◌, unsigned_abs, List, [], length, take, drop, slice_index_or}
 use Rattle.std.specs.Int.{◌∣◌}
+use Rattle.crn_vec.specs.declared.limits.TheConstants.{WIDE_ENTRY}
 use Rattle.crn_vec.specs.Lists.{IsIn, IsAscending}
 use Rattle.crn_vec.specs.Vectors.{Mat, entry, dot, column}
 
@@ -50,9 +51,9 @@ pub record IsNamed (a : Mat) (basis : List ℕ) (k : ℕ) (v : List ℤ) : Type 
   pub primitive : IsPrimitive v
   pub named : IsNamedColumn a basis k v ⊎ IsNamedRow a basis k v
 
--- some entry is 2 ^ 62 or more in absolute value
+-- some entry is WIDE_ENTRY or more in absolute value
 abbrev pub IsWide : List ℤ → Type 0
-IsWide v = (k : ℕ) × (2 ^ 62 ≤ unsigned_abs (entry v k))
+IsWide v = (k : ℕ) × (WIDE_ENTRY ≤ unsigned_abs (entry v k))
 
 -- the primitive vector that a basis and a coordinate name is wide
 abbrev pub WideAt : Mat → List ℕ → ℕ → Type 0

@@ -1,7 +1,7 @@
 -- Linear systems that ask a sign of each coordinate, their solutions, and the multipliers that rule every solution out.
 -- Source: Minty (1974) and Rockafellar (1969); Farkas (1902) for the multipliers. The five kinds are this project's own.
 -- Shapes: a matrix A with m rows and n columns has n + m coordinates, the columns x first and then the rows Ax; one kind for each.
-use Rattle.std.specs.Prelude.{◌≡◌, ◌≢◌, ℕ, ℤ, pos, negsuc, ◌≤ℤ◌, ◌⊎◌, Bool, true, false, List, take, drop, slice_index_or}
+use Rattle.std.specs.Prelude.{◌≡◌, ◌≢◌, ◌+◌, ℕ, ℤ, pos, negsuc, ◌≤ℤ◌, ◌⊎◌, Bool, true, false, List, [], ◌∷◌, take, drop, slice_index_or}
 use Rattle.std.specs.List.{AllZip}
 use Rattle.crn_vec.specs.declared.signs.Kind.{Kind}
 use Rattle.crn_vec.specs.declared.signs.Kind.TheVariants.{Pos, Neg, NonNeg, Zero, Free}
@@ -24,6 +24,16 @@ is_signed NonNeg = false
 is_signed Zero = false
 is_signed Free = false
 
+-- 1 where it is true
+abbrev pub one_if : Bool → ℕ
+one_if true = 1
+one_if false = 0
+
+-- how many coordinates have to be positive or negative
+abbrev pub signed_count : List Kind → ℕ
+signed_count [] = 0
+signed_count (kind ∷ kinds) = one_if (is_signed kind) + signed_count kinds
+
 -- what a list (-uA, u) that rules a system out may have at a coordinate of a kind
 abbrev pub MayWeigh : Kind → ℤ → Type 0
 MayWeigh Pos w = pos 0 ≤ℤ w
@@ -43,6 +53,10 @@ MayTake Free x = Unit {0}
 -- the kind of coordinate k
 abbrev pub kind_at : List Kind → ℕ → Kind
 kind_at kinds k = slice_index_or kinds k Free
+
+-- some coordinate has to be positive or negative
+abbrev pub HasSigned : List Kind → Type 0
+HasSigned kinds = (k : ℕ) × (is_signed (kind_at kinds k) ≡ true)
 
 -- v is (x, Ax), and each coordinate has its kind
 pub record Solves (a : Mat) (kinds : List Kind) (x v : List ℤ) : Type 0 where

@@ -14,6 +14,11 @@ dot [] ys = pos 0
 dot (x ∷ xs) [] = pos 0
 dot (x ∷ xs) (y ∷ ys) = (x *ℤ y) +ℤ dot xs ys
 
+-- each entry times a number
+abbrev pub scale : ℤ → List ℤ → List ℤ
+scale a [] = []
+scale a (x ∷ xs) = (a *ℤ x) ∷ scale a xs
+
 -- each entry is at most m in absolute value
 abbrev pub AreWithin : ℕ → List ℤ → Type 0
 AreWithin m [] = Unit {0}

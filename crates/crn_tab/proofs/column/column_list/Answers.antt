@@ -1,13 +1,14 @@
-use Rattle.std.proofs.Common.{◌<◌, ◌^◌, ◌++◌, ◌∷◌, [], List, zero, suc, refl, ap, sym, subst, ◌∙◌, lit<, to_z, of_z}
+use Rattle.std.proofs.Common.{◌<◌, ◌++◌, ◌∷◌, [], List, zero, suc, refl, ap, sym, subst, ◌∙◌, lit<, to_z, of_z}
 use Rattle.std.specs.Prelude.{ℤ, slice_index, unsigned_abs}
 use Rattle.std.specs.Int.{w128}
 use Rattle.std.proofs.lemmas.Int.{to_z-of_z}
+use Rattle.crn_vec.specs.declared.limits.TheConstants.{WIDE_ENTRY}
 use Rattle.crn_tab.specs.Entries.{AreSmall}
 use Rattle.crn_tab.specs.Columns.{column_entry}
 use Rattle.crn_tab.proofs.Places.{spread_step}
 use Rattle.crn_tab.proofs.column.column_list.Goals as goal
 
-small_push : (v : List ℤ) (x : ℤ) → AreSmall v → unsigned_abs x < 2 ^ 62 → AreSmall (v ++ x ∷ [])
+small_push : (v : List ℤ) (x : ℤ) → AreSmall v → unsigned_abs x < WIDE_ENTRY → AreSmall (v ++ x ∷ [])
 small_push [] x h s zero = s
 small_push [] x h s (suc k) = lit< tt
 small_push (y ∷ v) x h s zero = h 0

@@ -2,11 +2,12 @@ use Rattle.std.proofs.Common.{◌≡◌, ◌*◌, ◌^◌, ◌<◌, ℕ, refl, �
 use Rattle.std.specs.Prelude.{ℤ, pos, ◌-ℤ◌, ◌*ℤ◌, neg_ℤ, FitsSigned, unsigned_abs}
 use Rattle.std.specs.Int.{w64, w128}
 use Rattle.std.proofs.lemmas.Int.{ints, to_z-of_z, fits_signed_from_abs, unsigned_abs-mul}
+use Rattle.crn_vec.specs.declared.limits.TheConstants.{WIDE_ENTRY}
 use Rattle.crn_frac.proofs.Lowest.{minus, abs_minus}
 use Rattle.crn_tab.proofs.Cross.{widened, product_small}
 use Rattle.crn_tab.proofs.column.quotient.Goals as goal
 
-large : (l : ℕ) → l < 2 ^ 62 → to_z w128 l ≡ pos l
+large : (l : ℕ) → l < WIDE_ENTRY → to_z w128 l ≡ pos l
 large l h = omega (arith, ints, h)
 
 -- the values that the code forms
@@ -15,7 +16,7 @@ record Formed (num den : ℤ) (l : ℕ) : Type 0 where
   pub product : to_z w128 (of_z w128 (pos 0 -ℤ to_z w128 (of_z w128 (to_z w128 (of_z w128 (to_z w64 (of_z w64 num))) *ℤ to_z w128 l)))) ≡ neg_ℤ (num *ℤ pos l)
   pub size : unsigned_abs (neg_ℤ (num *ℤ pos l)) ≡ unsigned_abs num * l
 
-formed : (num den : ℤ) (l : ℕ) → unsigned_abs num < 2 ^ 62 → unsigned_abs den < 2 ^ 62 → l < 2 ^ 62 → Formed num den l
+formed : (num den : ℤ) (l : ℕ) → unsigned_abs num < WIDE_ENTRY → unsigned_abs den < WIDE_ENTRY → l < WIDE_ENTRY → Formed num den l
 formed num den l hn hd hl =
     let p : ℤ = num *ℤ pos l in
     let small : unsigned_abs p < 2 ^ 124 = product_small num (pos l) hn hl in

@@ -1,9 +1,10 @@
-use Rattle.std.proofs.Common.{◌<◌, ◌^◌}
+use Rattle.std.proofs.Common.{◌<◌}
+use Rattle.crn_vec.specs.declared.limits.TheConstants.{WIDE_ENTRY}
 use Rattle.crn_tab.specs.Columns.{IsScale}
 use Rattle.crn_tab.proofs.column.scale.Given as goal
 
 abbrev pub invariant-loop-i : goal.invariant-loop-i
 invariant-loop-i l = record {
   is : IsScale l.n l.c l.rows l.i l.l;
-  small : l.l < 2 ^ 62;
+  small : l.l < WIDE_ENTRY;
 }

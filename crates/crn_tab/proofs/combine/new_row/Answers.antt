@@ -1,14 +1,11 @@
-use Rattle.std.proofs.Common.{◌≡◌, ◌<◌, ◌-◌, ◌^◌, length, ap, ◌∙◌, sym, arith, to_z, of_z}
-use Rattle.std.specs.Prelude.{ℤ, pos, unsigned_abs, List}
+use Rattle.std.proofs.Common.{◌≡◌, ◌-◌, length, ap, ◌∙◌, sym, arith, to_z, of_z}
+use Rattle.std.specs.Prelude.{ℤ, pos, List}
 use Rattle.std.specs.Int.{w64}
-use Rattle.std.proofs.lemmas.Int.{to_z-of_z, fits_signed_from_abs}
 use Rattle.std.proofs.Math.ListN.{length-set}
 use Rattle.crn_tab.specs.Entries.{entry, put}
 use Rattle.crn_tab.proofs.NewRows.{new_row_none, new_row_some, last_stays}
+use Rattle.crn_tab.proofs.Cross.{read}
 use Rattle.crn_tab.proofs.combine.new_row.Goals as goal
-
-read : (x : ℤ) → unsigned_abs x < 2 ^ 62 → to_z w64 (of_z w64 x) ≡ x
-read x h = to_z-of_z w64 x (fits_signed_from_abs w64 x (omega arith))
 
 pub returns-then-q-eq0 : goal.returns-then-q-eq0
 returns-then-q-eq0 c =

@@ -1,5 +1,6 @@
 use Rattle.std.proofs.Common.{◌≡◌, ◌+◌, ◌-◌, ◌^◌, ◌<◌, ℕ, List, length, ap, sym, subst, ◌∙◌, arith}
 use Rattle.std.specs.Prelude.{ℤ, pos, neg_ℤ, ◌*ℤ◌, ◌≤ℤ◌, slice_index, unsigned_abs}
+use Rattle.crn_vec.specs.declared.limits.TheConstants.{WIDE_ENTRY}
 use Rattle.crn_vec.specs.Vectors.{Mat, entry}
 use Rattle.crn_vec.specs.Lists.{IsIn}
 use Rattle.crn_vec.specs.Elementary.{width}
@@ -13,7 +14,7 @@ use Rattle.crn_tab.proofs.dependence.dependence.Goals as goal
 record Reads (a : Mat) (at : List ℕ) (rows : List ℤ) (row col n : ℕ) (kept : List ℤ) : Type 0 where
   pub is : kept ≡ row_at (a.cols + 1) rows (slice_index at row - a.cols)
   pub long : length kept ≡ a.cols + 1
-  pub small : (k : ℕ) → unsigned_abs (entry kept k) < 2 ^ 62
+  pub small : (k : ℕ) → unsigned_abs (entry kept k) < WIDE_ENTRY
   pub some : pos 1 ≤ℤ entry kept n
   pub col_lt : slice_index at col < a.cols
   pub col_in : col < length at
@@ -26,7 +27,7 @@ reads a at order rows row col n kept t lt out member e f =
     let s = stands a at order rows col t member in
     let R : ℕ → Type 0 = λ k. kept ≡ row_at (k + 1) rows (slice_index at row - k) in
     let is : kept ≡ row_at (a.cols + 1) rows (slice_index at row - a.cols) = subst R e f in
-    let S : List ℤ → Type 0 = λ v. (k : ℕ) → unsigned_abs (entry v k) < 2 ^ 62 in
+    let S : List ℤ → Type 0 = λ v. (k : ℕ) → unsigned_abs (entry v k) < WIDE_ENTRY in
     let P : List ℤ → Type 0 = λ v. pos 1 ≤ℤ entry v a.cols in
     let Q : ℕ → Type 0 = λ k. pos 1 ≤ℤ entry kept k in
     record {

@@ -1,13 +1,14 @@
-use Rattle.std.proofs.Common.{◌≡◌, ◌≢◌, ◌<◌, ◌≤◌, ◌+◌, ◌-◌, ◌^◌, ◌⊎◌, inl, inr, ℕ, List, length, set, refl, ap, ◌∙◌, sym, subst, arith, to_z, of_z}
+use Rattle.std.proofs.Common.{◌≡◌, ◌≢◌, ◌<◌, ◌≤◌, ◌+◌, ◌-◌, ◌⊎◌, inl, inr, ℕ, List, length, set, refl, ap, ◌∙◌, sym, subst, arith, to_z, of_z}
 use Rattle.std.specs.Prelude.{ℤ, pos, slice_index, unsigned_abs}
 use Rattle.std.specs.Int.{w64}
-use Rattle.std.proofs.lemmas.Int.{to_z-of_z, fits_signed_from_abs}
 use Rattle.std.proofs.Math.ListN.{length-set}
+use Rattle.crn_vec.specs.declared.limits.TheConstants.{WIDE_ENTRY}
 use Rattle.crn_vec.specs.Vectors.{entry}
 use Rattle.crn_tab.specs.Tab.{row_at, IsLead, IsRowDone, HasWideRow}
 use Rattle.crn_tab.proofs.NewRows.{look}
 use Rattle.crn_tab.proofs.Rows.{same_rows}
 use Rattle.crn_tab.proofs.LeadRow.{lead_small_at}
+use Rattle.crn_tab.proofs.Cross.{read}
 use Rattle.crn_tab.proofs.exchange.new_rows.Goals as goal
 
 -- what was taken out and put back
@@ -33,10 +34,7 @@ wide_kept w w' m c r rows lead lead' order least e f h =
     let B : List ℤ → Type 0 = λ l. (least ≡ length order) ⊎ HasWideRow w m c r rows l order least in
     subst B f (subst A e h)
 
-read : (x : ℤ) → unsigned_abs x < 2 ^ 62 → to_z w64 (of_z w64 x) ≡ x
-read x h = to_z-of_z w64 x (fits_signed_from_abs w64 x (omega arith))
-
-put_back : (lead : List ℤ) (c w : ℕ) (row : List ℤ) → IsLead w c row lead → 1 ≤ w → unsigned_abs (entry lead (length lead - 1)) < 2 ^ 62 → (n : ℕ) → n ≡ length lead - 1
+put_back : (lead : List ℤ) (c w : ℕ) (row : List ℤ) → IsLead w c row lead → 1 ≤ w → unsigned_abs (entry lead (length lead - 1)) < WIDE_ENTRY → (n : ℕ) → n ≡ length lead - 1
     → set (set lead (length lead - 1) (pos 0)) n (to_z w64 (of_z w64 (entry lead (length lead - 1)))) ≡ lead
 put_back lead c w row h some small n e =
     let x = to_z w64 (of_z w64 (entry lead (length lead - 1))) in

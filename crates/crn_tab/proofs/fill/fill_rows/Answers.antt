@@ -1,7 +1,7 @@
 use Rattle.std.proofs.Common.{◌≡◌, ◌≤◌, ◌+◌, ◌-◌, ℕ, suc, List, length, set, ◌∙◌, sym, subst, arith, ◌⊎◌, inl, inr}
 use Rattle.std.specs.Prelude.{ℤ, slice_index}
+use Rattle.crn_vec.proofs.Entries.{eq_or}
 use Rattle.crn_tab.specs.Tab.{row_at, IsRowDone, HasWideRow}
-use Rattle.crn_tab.proofs.Places.{eq_or}
 use Rattle.crn_tab.proofs.fill.fill_rows.Goals as goal
 
 kept : (w c k : ℕ) (rows lead spare spare' : List ℤ) (least least' own : ℕ) → IsRowDone w c k rows lead spare least own → row_at w spare' k ≡ row_at w spare k → least' ≤ least

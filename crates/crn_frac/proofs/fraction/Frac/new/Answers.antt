@@ -1,8 +1,9 @@
-use Rattle.std.proofs.Common.{◌≡◌, ◌≢◌, refl, ◌≤◌, ◌<◌, arith, ◌^◌, to_z, of_z}
+use Rattle.std.proofs.Common.{◌≡◌, ◌≢◌, refl, sym, ap, ◌∙◌, ◌≤◌, ◌<◌, arith, ◌^◌, to_z, of_z}
 use Rattle.std.specs.Prelude.{ℤ, pos, ◌*ℤ◌, ◌-ℤ◌, neg_ℤ, ◌≤ℤ◌, FitsSigned, unsigned_abs}
 use Rattle.std.specs.Int.{w128, IsGcd}
 use Rattle.std.proofs.lemmas.Int.{ints, to_z-of_z, fits_signed_from_abs}
 use Rattle.std.proofs.Math.Nat.{pos_of_dvd_of_pos}
+use lib.IntN.{zero-*ℤ}
 use Rattle.crn_frac.proofs.Lowest.{lowest_value, lowest_value_neg, minus, abs_minus, smaller, reduced}
 use Rattle.crn_frac.proofs.fraction.Frac.new.Goals as goal
 
@@ -43,26 +44,38 @@ record Parts (num den n d : ℤ) : Type 0 where
   pub reduced : IsGcd (unsigned_abs n) (unsigned_abs d) 1
   pub n_small : unsigned_abs n ≤ unsigned_abs num
   pub d_small : unsigned_abs d ≤ unsigned_abs den
+  pub d_some : d ≢ pos 0
 
-parts_of : (num den g n d : ℤ) → Divisor num den g → FitsSigned w128 num → FitsSigned w128 den → FitsSigned w128 g
+parts_of : (num den g n d : ℤ) → Divisor num den g → den ≢ pos 0 → FitsSigned w128 num → FitsSigned w128 den → FitsSigned w128 g
     → n *ℤ to_z w128 (of_z w128 g) ≡ to_z w128 (of_z w128 num) → d *ℤ to_z w128 (of_z w128 g) ≡ to_z w128 (of_z w128 den) → Parts num den n d
-parts_of num den g n d k fn fd fg p q =
+parts_of num den g n d k ne fn fd fg p q =
     let e : n *ℤ g ≡ num = rw (to_z-of_z w128 g fg, to_z-of_z w128 num fn) at p in
     let f : d *ℤ g ≡ den = rw (to_z-of_z w128 g fg, to_z-of_z w128 den fd) at q in
     let some : 1 ≤ unsigned_abs g = omega (arith, ints, k.some) in
-    record { value = lowest_value num den g n d e f; reduced = reduced num den g n d k.gcd some e f; n_small = smaller num g n some e; d_small = smaller den g d some f }
+    record {
+      value = lowest_value num den g n d e f;
+      reduced = reduced num den g n d k.gcd some e f;
+      n_small = smaller num g n some e;
+      d_small = smaller den g d some f;
+      d_some = λ z. ne (sym f ∙ ap (λ (t : ℤ). t *ℤ g) z ∙ zero-*ℤ g);
+    }
 
 pub returns-clause-value : goal.returns-clause-value
 returns-clause-value c =
     let k = divisor_of c.args.num c.args.den c.gcd-g.result c.ranges.num c.ranges.den c.requires.den_some c.gcd-g.ensures.gcd c.gcd-g.ensures.sign in
-    let h = parts_of _ _ _ c.divided-n.result c.divided-d.result k c.ranges.num c.ranges.den (record { sfits = c.gcd-g.type_inv }) c.divided-n.ensures c.divided-d.ensures in
+    let h = parts_of _ _ _ c.divided-n.result c.divided-d.result k c.requires.den_some c.ranges.num c.ranges.den (record { sfits = c.gcd-g.type_inv }) c.divided-n.ensures c.divided-d.ensures in
     rw (to_z-of_z w128 c.divided-n.result (record { sfits = c.divided-n.type_inv }), to_z-of_z w128 c.divided-d.result (record { sfits = c.divided-d.type_inv })) h.value
 
-pub returns-clause-reduced : goal.returns-clause-reduced
-returns-clause-reduced c =
+pub invariant_of-result-2 : goal.invariant_of-result-2
+invariant_of-result-2 c =
     let k = divisor_of c.args.num c.args.den c.gcd-g.result c.ranges.num c.ranges.den c.requires.den_some c.gcd-g.ensures.gcd c.gcd-g.ensures.sign in
-    let h = parts_of _ _ _ c.divided-n.result c.divided-d.result k c.ranges.num c.ranges.den (record { sfits = c.gcd-g.type_inv }) c.divided-n.ensures c.divided-d.ensures in
-    rw (to_z-of_z w128 c.divided-n.result (record { sfits = c.divided-n.type_inv }), to_z-of_z w128 c.divided-d.result (record { sfits = c.divided-d.type_inv })) h.reduced
+    let h = parts_of _ _ _ c.divided-n.result c.divided-d.result k c.requires.den_some c.ranges.num c.ranges.den (record { sfits = c.gcd-g.type_inv }) c.divided-n.ensures c.divided-d.ensures in
+    let not_below = rw (to_z-of_z w128 c.divided-d.result (record { sfits = c.divided-d.type_inv })) at c.if-d-lt0.false in
+    rw (to_z-of_z w128 c.divided-n.result (record { sfits = c.divided-n.type_inv }), to_z-of_z w128 c.divided-d.result (record { sfits = c.divided-d.type_inv }))
+    (record { positive = omega (arith, ints, h.d_some, not_below); lowest = h.reduced })
+
+pub returns-clause-reduced : goal.returns-clause-reduced
+returns-clause-reduced c = (invariant_of-result-2 c).lowest
 
 -- the value that the code gives for -n
 negated : (n : ℤ) → FitsSigned w128 n → unsigned_abs n < 2 ^ 127 → to_z w128 (of_z w128 (pos 0 -ℤ to_z w128 (of_z w128 n))) ≡ neg_ℤ n
@@ -73,13 +86,17 @@ negated n f h =
 pub returns-then-d-lt0-clause-value : goal.returns-then-d-lt0-clause-value
 returns-then-d-lt0-clause-value c =
     let k = divisor_of c.args.num c.args.den c.gcd-g.result c.ranges.num c.ranges.den c.requires.den_some c.gcd-g.ensures.gcd c.gcd-g.ensures.sign in
-    let h = parts_of _ _ _ c.divided-n.result c.divided-d.result k c.ranges.num c.ranges.den (record { sfits = c.gcd-g.type_inv }) c.divided-n.ensures c.divided-d.ensures in
+    let h = parts_of _ _ _ c.divided-n.result c.divided-d.result k c.requires.den_some c.ranges.num c.ranges.den (record { sfits = c.gcd-g.type_inv }) c.divided-n.ensures c.divided-d.ensures in
     rw (negated c.divided-n.result (record { sfits = c.divided-n.type_inv }) (omega (arith, h.n_small)), negated c.divided-d.result (record { sfits = c.divided-d.type_inv }) (omega (arith, h.d_small)))
     (lowest_value_neg c.args.num c.args.den c.divided-n.result c.divided-d.result h.value)
 
-pub returns-then-d-lt0-clause-reduced : goal.returns-then-d-lt0-clause-reduced
-returns-then-d-lt0-clause-reduced c =
+pub invariant_of-result : goal.invariant_of-result
+invariant_of-result c =
     let k = divisor_of c.args.num c.args.den c.gcd-g.result c.ranges.num c.ranges.den c.requires.den_some c.gcd-g.ensures.gcd c.gcd-g.ensures.sign in
-    let h = parts_of _ _ _ c.divided-n.result c.divided-d.result k c.ranges.num c.ranges.den (record { sfits = c.gcd-g.type_inv }) c.divided-n.ensures c.divided-d.ensures in
-    rw (negated c.divided-n.result (record { sfits = c.divided-n.type_inv }) (omega (arith, h.n_small)), negated c.divided-d.result (record { sfits = c.divided-d.type_inv }) (omega (arith, h.d_small)), abs_minus c.divided-n.result, abs_minus c.divided-d.result)
-    h.reduced
+    let h = parts_of _ _ _ c.divided-n.result c.divided-d.result k c.requires.den_some c.ranges.num c.ranges.den (record { sfits = c.gcd-g.type_inv }) c.divided-n.ensures c.divided-d.ensures in
+    let below = rw (to_z-of_z w128 c.divided-d.result (record { sfits = c.divided-d.type_inv })) at c.if-d-lt0.true in
+    rw (negated c.divided-n.result (record { sfits = c.divided-n.type_inv }) (omega (arith, h.n_small)), negated c.divided-d.result (record { sfits = c.divided-d.type_inv }) (omega (arith, h.d_small)))
+    (record { positive = omega (arith, ints, below); lowest = rw (abs_minus c.divided-n.result, abs_minus c.divided-d.result) h.reduced })
+
+pub returns-then-d-lt0-clause-reduced : goal.returns-then-d-lt0-clause-reduced
+returns-then-d-lt0-clause-reduced c = (invariant_of-result c).lowest
