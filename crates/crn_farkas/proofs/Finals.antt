@@ -10,7 +10,7 @@ use Rattle.crn_vec.specs.declared.signs.Kind.TheVariants.{Pos, Neg, NonNeg, Zero
 use Rattle.crn_vec.specs.Vectors.{Mat, entry}
 use Rattle.crn_vec.specs.Lists.{IsIn}
 use Rattle.crn_vec.specs.Elementary.{width, IsNamedRow}
-use Rattle.crn_vec.specs.Systems.{HasKind, MayTake, MayWeigh, kind_at, HasOneRowCut}
+use Rattle.crn_vec.specs.Systems.{HasKind, MayTake, MayWeigh, kind_at, HasOneRowCut, signed_count, HasSigned}
 use Rattle.crn_vec.proofs.Entries.{eq_or, lt_or, past_end, zip_from}
 use Rattle.crn_vec.proofs.Cuts.{kinds_at}
 use Rattle.crn_vec.proofs.KindLaws.{kind_from, take_zero}
@@ -19,8 +19,8 @@ use Rattle.crn_farkas.specs.declared.stop.Stop.{Stop}
 use Rattle.crn_farkas.specs.declared.stop.Stop.TheVariants.{Wide, NoMemory}
 use Rattle.crn_farkas.specs.declared.decision.Decision.{Decision}
 use Rattle.crn_farkas.specs.Views.{is_early_kind, level_of, level_count}
-use Rattle.crn_farkas.specs.Decides.{signed_count, HasKeptCut, IsSmallSolution}
-use Rattle.crn_farkas.specs.Ends.{IsPartSum, AreZeros, IsDecision, IsGoalStop, IsTargetStop, IsNearStop, IsStop, IsRuledOut, HasSigned}
+use Rattle.crn_farkas.specs.Decides.{HasKeptCut, IsSmallSolution}
+use Rattle.crn_farkas.specs.Ends.{IsPartSum, AreZeros, IsDecision, IsGoalStop, IsTargetStop, IsNearStop, IsStop, IsRuledOut}
 use Rattle.crn_farkas.proofs.PartSums.{part_bound, push_in, push_last, in_push}
 
 -- a list filled with zeros

@@ -1,21 +1,22 @@
 -- Lists that rule a system out, from their entries.
-use Rattle.std.proofs.Common.{◌≡◌, ◌≢◌, ℕ, zero, suc, ◌+◌, ◌^◌, ◌<◌, ◌≤◌, inl, inr, List, [], ◌∷◌, ◌++◌, length, take, drop, refl, sym, ap, subst, ◌∙◌, add-one, arith}
+use Rattle.std.proofs.Common.{◌≡◌, ◌≢◌, ℕ, zero, suc, ◌+◌, ◌<◌, ◌≤◌, inl, inr, List, [], ◌∷◌, ◌++◌, length, take, drop, refl, sym, ap, subst, ◌∙◌, add-one, arith}
 use Rattle.std.specs.Prelude.{ℤ, pos, ◌*ℤ◌, unsigned_abs, Bool, true, false}
 use Rattle.std.proofs.lemmas.Int.{ints}
 use Rattle.std.proofs.lemmas.Bool.{false≢true}
 use Rattle.std.proofs.lemmas.List.{get_or-drop}
 use Rattle.std.specs.Result.{IfOk}
 use Rattle.std.specs.Prelude.{Result, Ok, Err}
+use Rattle.crn_vec.specs.declared.limits.TheConstants.{WIDE_ENTRY}
 use Rattle.crn_vec.specs.declared.signs.Kind.{Kind}
 use Rattle.crn_vec.specs.declared.signs.Kind.TheVariants.{Free}
 use Rattle.crn_vec.specs.declared.signs.Sign.{Sign}
 use Rattle.crn_vec.specs.declared.signs.Sign.TheVariants.{Zero}
-use Rattle.crn_vec.specs.Vectors.{Mat, entry, HasSign}
+use Rattle.crn_vec.specs.Vectors.{Mat, entry, HasSign, scale}
 use Rattle.crn_vec.specs.Lists.{IsIn}
 use Rattle.crn_vec.specs.Elementary.{width, IsNamed, IsNamedRow}
 use Rattle.crn_vec.specs.Systems.{MayWeigh, kind_at, is_signed}
 use Rattle.crn_vec.proofs.Entries.{eq_or, lt_or, past_end, zip_from}
-use Rattle.crn_vec.proofs.Sums.{scale, entry-scale}
+use Rattle.crn_vec.proofs.Sums.{entry-scale}
 use Rattle.crn_tab.specs.Names.{NamesRows}
 use lib.IntN.{zero-*ℤ}
 use Rattle.crn_vec.proofs.Ring.{no_zero}
@@ -77,10 +78,10 @@ unscaled_small s v m h k = subst (λ (t : ℕ). t < m) (ap unsigned_abs (entry-s
 
 -- the multipliers of a named vector with its sign
 pub cut_from : (a : Mat) (basis : List ℕ) (kinds : List Kind) (e : ℕ) (turn : Sign) (s : Bool) (w u : List ℤ) → NamesRows a basis → e < width a → ¬ IsIn e basis → length kinds ≡ width a
-    → CutsBy a basis kinds e turn → IsNamed a basis e w → ((k : ℕ) → unsigned_abs (entry w k) < 2 ^ 62) → (entry w e ≢ pos 0 → turn ≢ Zero → HasSign turn (factor s *ℤ entry w e))
+    → CutsBy a basis kinds e turn → IsNamed a basis e w → ((k : ℕ) → unsigned_abs (entry w k) < WIDE_ENTRY) → (entry w e ≢ pos 0 → turn ≢ Zero → HasSign turn (factor s *ℤ entry w e))
     → u ≡ scale (factor s) (drop a.cols w) → IsSmallCut a kinds u
 cut_from a basis kinds e turn s w u t lt out long cuts named small turns same =
-    let small_part : (k : ℕ) → unsigned_abs (entry (drop a.cols w) k) < 2 ^ 62 = λ k. subst (λ (z : ℤ). unsigned_abs z < 2 ^ 62) (sym (get_or-drop a.cols w k (pos 0))) (small (a.cols + k)) in
+    let small_part : (k : ℕ) → unsigned_abs (entry (drop a.cols w) k) < WIDE_ENTRY = λ k. subst (λ (z : ℤ). unsigned_abs z < WIDE_ENTRY) (sym (get_or-drop a.cols w k (pos 0))) (small (a.cols + k)) in
     let q = factor s in
     let turned = turns (own_some a basis e w t lt out named) cuts.some in
     let row = as_row a basis e w out named in
@@ -97,7 +98,7 @@ cut_from a basis kinds e turn s w u t lt out long cuts named small turns same =
           some = rules.1;
         },
       );
-      small = subst (λ (l : List ℤ). (k : ℕ) → unsigned_abs (entry l k) < 2 ^ 62) (sym same) (scaled_small s (drop a.cols w) (2 ^ 62) small_part);
+      small = subst (λ (l : List ℤ). (k : ℕ) → unsigned_abs (entry l k) < WIDE_ENTRY) (sym same) (scaled_small s (drop a.cols w) (WIDE_ENTRY) small_part);
     }
 
 -- they are those of a vector that the basis names

@@ -1,19 +1,20 @@
 -- A settled column view shows a vector that is one of those that add up to a solution.
-use Rattle.std.proofs.Common.{◌≡◌, ◌≢◌, ℕ, suc, ◌+◌, ◌-◌, ◌^◌, ◌<◌, ◌⊎◌, inl, inr, List, [], ◌∷◌, length, sym, ap, subst, ◌∙◌, arith}
+use Rattle.std.proofs.Common.{◌≡◌, ◌≢◌, ℕ, suc, ◌+◌, ◌-◌, ◌<◌, ◌⊎◌, inl, inr, List, [], ◌∷◌, length, sym, ap, subst, ◌∙◌, arith}
 use Rattle.std.specs.Prelude.{ℤ, pos, ◌+ℤ◌, ◌*ℤ◌, unsigned_abs, Bool, true, slice_index}
 use Rattle.std.specs.Int.{◌∣◌}
 use Rattle.std.proofs.lemmas.Int.{ints}
 use Rattle.std.proofs.lemmas.Nat.Gcd.{dvd-zero}
 use lib.IntN.{*ℤ_comm}
+use Rattle.crn_vec.specs.declared.limits.TheConstants.{WIDE_ENTRY}
 use Rattle.crn_vec.specs.declared.signs.Kind.{Kind}
 use Rattle.crn_vec.specs.declared.signs.Sign.{Sign}
 use Rattle.crn_vec.specs.declared.signs.Sign.TheVariants.{Zero}
-use Rattle.crn_vec.specs.Vectors.{Mat, entry, HasSign}
+use Rattle.crn_vec.specs.Vectors.{Mat, entry, HasSign, scale}
 use Rattle.crn_vec.specs.Lists.{IsIn}
 use Rattle.crn_vec.specs.Elementary.{width, IsNamed, IsNamedColumn, WideAt}
 use Rattle.crn_vec.specs.Systems.{HasKind, MayTake, MayWeigh, kind_at, is_signed}
 use Rattle.crn_vec.proofs.Entries.{eq_or, lt_or, past_end}
-use Rattle.crn_vec.proofs.Sums.{scale, entry-scale}
+use Rattle.crn_vec.proofs.Sums.{entry-scale}
 use Rattle.crn_tab.specs.Names.{NamesRows}
 use Rattle.crn_tab.proofs.Ascending.{same_members}
 use Rattle.crn_tab.proofs.Unique.{column_at}
@@ -66,7 +67,7 @@ in_place (x ∷ order) c (inr i) = let p = in_place order c i in record { i = su
 
 pub witness_from : (a : Mat) (basis : List ℕ) (kinds : List Kind) (order : List ℕ) (b g : ℕ) (s : Bool) (w y : List ℤ) → NamesRows a basis → g < width a → length kinds ≡ width a → is_signed (kind_at kinds g) ≡ true
     → IsView a basis (Column b) g → IsSettled a basis (Column b) g kinds order (length order) → ((c : ℕ) → c < width a → IsIn c order)
-    → IsNamed a basis b w → ((k : ℕ) → unsigned_abs (entry w k) < 2 ^ 62) → (entry w g ≢ pos 0 → HasKind (kind_at kinds g) (factor s *ℤ entry w g)) → y ≡ scale (factor s) w → IsWitness a kinds g y
+    → IsNamed a basis b w → ((k : ℕ) → unsigned_abs (entry w k) < WIDE_ENTRY) → (entry w g ≢ pos 0 → HasKind (kind_at kinds g) (factor s *ℤ entry w g)) → y ≡ scale (factor s) w → IsWitness a kinds g y
 witness_from a basis kinds order b g s w y t lt long asked view settled all n small turns same =
     let v = scale (factor s) w in
     let col = column_scaled a basis b (factor s) w (as_column a basis b w view.1.member n) in
@@ -79,7 +80,7 @@ witness_from a basis kinds order b g s w y t lt long asked view settled all n sm
       space = col.space;
       takes = takes;
       some = kind_some (kind_at kinds g) (entry v g) asked kind;
-      small = scaled_small s w (2 ^ 62) small;
+      small = scaled_small s w (WIDE_ENTRY) small;
     })
 
 same_numbers : (a : Mat) (basis : List ℕ) (b : ℕ) (numbers : List ℕ) → NamesRows a basis → IsIn b basis → (n : IsNumbered basis b b numbers) → n.next ≡ basis

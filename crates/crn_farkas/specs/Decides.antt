@@ -1,5 +1,6 @@
 -- What the decision of a linear system says.
-use Rattle.std.specs.Prelude.{◌≡◌, ◌≢◌, ◌≤◌, ◌<◌, ◌+◌, ◌-◌, ◌^◌, ◌⊎◌, ℕ, suc, ℤ, pos, negsuc, ◌*ℤ◌, unsigned_abs, Bool, true, false, List, [], ◌∷◌, map, drop}
+use Rattle.std.specs.Prelude.{◌≡◌, ◌≢◌, ◌≤◌, ◌<◌, ◌-◌, ◌⊎◌, ℕ, suc, ℤ, pos, negsuc, ◌*ℤ◌, unsigned_abs, Bool, true, false, List, map, drop}
+use Rattle.crn_vec.specs.declared.limits.TheConstants.{WIDE_ENTRY, WIDE_SOLUTION}
 use Rattle.crn_vec.specs.declared.signs.Kind.{Kind}
 use Rattle.crn_vec.specs.declared.signs.Sign.{Sign}
 use Rattle.crn_vec.specs.declared.signs.Sign.TheVariants.{Zero}
@@ -7,15 +8,6 @@ use Rattle.crn_vec.specs.Vectors.{Mat, entry, HasSign}
 use Rattle.crn_vec.specs.Lists.{IsIn}
 use Rattle.crn_vec.specs.Elementary.{InRowSpace, InDualSpace, IsNamed, IsNamedRow, WideAt, Exchanged}
 use Rattle.crn_vec.specs.Systems.{MayTake, MayWeigh, kind_at, is_signed, Solves, IsCut}
-
--- how many coordinates have to be positive or negative
-abbrev pub one_if : Bool → ℕ
-one_if true = 1
-one_if false = 0
-
-abbrev pub signed_count : List Kind → ℕ
-signed_count [] = 0
-signed_count (kind ∷ kinds) = one_if (is_signed kind) + signed_count kinds
 
 -- 1, or -1 for the negative
 abbrev pub factor : Bool → ℤ
@@ -63,18 +55,18 @@ pub record IsWitness (a : Mat) (kinds : List Kind) (g : ℕ) (y : List ℤ) : Ty
   pub space : InRowSpace a y
   pub takes : (k : ℕ) → MayTake (kind_at kinds k) (entry y k)
   pub some : entry y g ≢ pos 0
-  pub small : (k : ℕ) → unsigned_abs (entry y k) < 2 ^ 62
+  pub small : (k : ℕ) → unsigned_abs (entry y k) < WIDE_ENTRY
 
 -- multipliers below the bound that rule the system out
 pub record IsSmallCut (a : Mat) (kinds : List Kind) (u : List ℤ) : Type 0 where
   pub cut : IsCut a kinds u
-  pub small : (k : ℕ) → unsigned_abs (entry u k) < 2 ^ 62
+  pub small : (k : ℕ) → unsigned_abs (entry u k) < WIDE_ENTRY
 
 -- a solution whose coordinates are below the bound
 pub record IsSmallSolution (a : Mat) (kinds : List Kind) (x : List ℤ) : Type 0 where
   pub v : List ℤ
   pub solves : Solves a kinds x v
-  pub small : (k : ℕ) → unsigned_abs (entry v k) < 2 ^ 70
+  pub small : (k : ℕ) → unsigned_abs (entry v k) < WIDE_SOLUTION
 
 -- a basis and an index, both counted from 1, that name a wide vector of the matrix
 pub record NamesWide (a : Mat) (index : ℕ) (basis : List ℕ) : Type 0 where

@@ -1,16 +1,16 @@
 -- What one coordinate, and the decision, end with.
-use Rattle.std.specs.Prelude.{◌≡◌, ◌≢◌, ◌≤◌, ◌<◌, ◌*◌, ◌^◌, ℕ, ℤ, pos, unsigned_abs, List, true, take, length, Result, Ok, Err}
+use Rattle.std.specs.Prelude.{◌≡◌, ◌≢◌, ◌≤◌, ◌<◌, ◌*◌, ℕ, ℤ, pos, unsigned_abs, List, true, take, length, Result, Ok, Err}
+use Rattle.crn_vec.specs.declared.limits.TheConstants.{WIDE_ENTRY}
 use Rattle.crn_vec.specs.declared.signs.Kind.{Kind}
 use Rattle.crn_vec.specs.Kept.{KeptInts}
-use Rattle.crn_vec.specs.Vectors.{Mat, entry}
+use Rattle.crn_vec.specs.Vectors.{Mat, entry, scale}
 use Rattle.crn_vec.specs.Elementary.{InRowSpace}
-use Rattle.crn_vec.specs.Systems.{HasOneRowCut, MayTake, kind_at, is_signed}
-use Rattle.crn_vec.proofs.Sums.{scale}
+use Rattle.crn_vec.specs.Systems.{HasOneRowCut, HasSigned, MayTake, kind_at, is_signed, signed_count}
 use Rattle.crn_farkas.specs.declared.stop.Stop.{Stop}
 use Rattle.crn_farkas.specs.declared.stop.Stop.TheVariants.{Wide, NoMemory}
 use Rattle.crn_farkas.specs.declared.goal.Side.{Side}
 use Rattle.crn_farkas.specs.declared.goal.Side.TheVariants.{Cut, Witness}
-use Rattle.crn_farkas.specs.Decides.{NamesWide, IsNear, IsSmallCut, IsSmallSolution, IsWitness, factor, AreNamedMultipliers, signed_count}
+use Rattle.crn_farkas.specs.Decides.{NamesWide, IsNear, IsSmallCut, IsSmallSolution, IsWitness, factor, AreNamedMultipliers}
 use Rattle.crn_farkas.specs.declared.decision.Decision.{Decision}
 use Rattle.crn_farkas.specs.declared.decision.Decision.TheVariants.{Feasible, Infeasible}
 
@@ -33,11 +33,7 @@ pub record IsPartSum (a : Mat) (kinds : List Kind) (g : ℕ) (v : List ℤ) : Ty
   pub space : InRowSpace a v
   pub takes : (k : ℕ) → MayTake (kind_at kinds k) (entry v k)
   pub some : (k : ℕ) → k < g → is_signed (kind_at kinds k) ≡ true → entry v k ≢ pos 0
-  pub small : (k : ℕ) → unsigned_abs (entry v k) ≤ signed_count (take g kinds) * 2 ^ 62
-
--- some coordinate has to be positive or negative
-abbrev pub HasSigned : List Kind → Type 0
-HasSigned kinds = (k : ℕ) × (is_signed (kind_at kinds k) ≡ true)
+  pub small : (k : ℕ) → unsigned_abs (entry v k) ≤ signed_count (take g kinds) * WIDE_ENTRY
 
 -- a wide vector that is named, and only where some coordinate has to be positive or negative
 abbrev pub IsTargetStop : Mat → List Kind → Stop → Type 0

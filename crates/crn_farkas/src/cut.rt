@@ -1,8 +1,8 @@
 ghost use Rattle.std.specs.Prelude.{◌≡◌, ◌≢◌, ◌<◌, ◌^◌, ◌↔◌, ◌⊎◌, ℕ, ℤ, pos, negsuc, ◌*ℤ◌, List, IsTrue, IfOk, length, MatchOption, drop, unsigned_abs};
-ghost use Rattle.crn_vec.specs.Vectors.{entry, HasSign};
+ghost use Rattle.crn_vec.specs.declared.limits.TheConstants.{WIDE_ENTRY};
+ghost use Rattle.crn_vec.specs.Vectors.{entry, HasSign, scale};
 ghost use Rattle.crn_vec.specs.Lists.{IsIn};
 ghost use Rattle.crn_vec.specs.Elementary.{width, IsNamedRow};
-ghost use Rattle.crn_vec.proofs.Sums.{scale};
 ghost use Rattle.crn_farkas.specs.Decides.{factor, IsRuling, WeighsBelow, CountsBelow, CutsBy, HasKeptCut};
 ghost use Rattle.crn_farkas.specs.Ends.{IsNamedCut};
 
@@ -106,7 +106,7 @@ pub(crate) fn stays(x: &i128, want: Sign) -> bool
 
 // The number or its negative.
 fn turned(x: &i128, stays: bool) -> i128
-    requires { unsigned_abs x.now < 2 ^ 62 }
+    requires { unsigned_abs x.now < WIDE_ENTRY }
     ensures { result ≡ factor stays *ℤ x.now }
 {
     if stays { *x } else { -*x }
@@ -114,7 +114,7 @@ fn turned(x: &i128, stays: bool) -> i128
 
 // The numbers or their negatives.
 fn multiple(alloc: Global, list: &[i128], stays: bool) -> Result<Ints, NoMemory>
-    requires { (k : ℕ) → unsigned_abs (entry list.now k) < 2 ^ 62 }
+    requires { (k : ℕ) → unsigned_abs (entry list.now k) < WIDE_ENTRY }
     ensures { IfOk result (λ made. made.list ≡ scale (factor stays) list.now) }
 {
     let mut made = Ints::with_room(alloc, list.len())?;

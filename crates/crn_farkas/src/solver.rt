@@ -1,10 +1,10 @@
 ghost use Rattle.std.specs.Prelude.{◌≡◌, ◌≤◌, ◌<◌, ◌+◌, ◌↔◌, ℕ, length, slice_index, vec_capacity, MatchResult, MatchOption, IfErr, IfOk};
 ghost use Rattle.crn_vec.specs.Lists.{IsIn};
 ghost use Rattle.crn_vec.specs.Elementary.{width, IsBasis};
-ghost use Rattle.crn_vec.specs.Systems.{HasOneRowCut};
+ghost use Rattle.crn_vec.specs.Systems.{HasOneRowCut, signed_count};
 ghost use Rattle.crn_vec.specs.declared.limits.TheConstants.{MAX_SIGNED};
 ghost use Rattle.crn_tab.specs.Names.{NamesRows};
-ghost use Rattle.crn_farkas.specs.Decides.{signed_count, HasKeptCut, IsSmallSolution};
+ghost use Rattle.crn_farkas.specs.Decides.{HasKeptCut, IsSmallSolution};
 ghost use Rattle.crn_farkas.specs.Ends.{IsDecision, IsNamedCut, IsNamedDecision, IsNearStop, IsPartSum, IsRuledOut, IsTargetStop, AreZeros};
 
 use crate::cut::{kept_cut, multipliers};

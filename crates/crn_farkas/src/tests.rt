@@ -1,7 +1,7 @@
 ghost use Rattle.std.specs.Prelude.{◌≡◌, ◌≤◌, ◌<◌, ◌+◌, IsTrue, length, unsigned_abs, vec_len};
+ghost use Rattle.crn_vec.specs.Systems.{signed_count};
 ghost use Rattle.crn_vec.specs.Vectors.{AreWithin};
 ghost use Rattle.crn_vec.specs.Elementary.{width};
-ghost use Rattle.crn_farkas.specs.Decides.{signed_count};
 
 use crate::{Decision, Solver, Stop, System, decide, decisions_exclude_each_other};
 use crn_vec::{Ints, Kind, MAX_AMOUNT, MAX_SIGNED, Matrix, agrees};

@@ -1,8 +1,7 @@
 use Rattle.std.proofs.Common.{◌≡◌, ◌≢◌, List, ℤ, ap, ap₂, subst, ◌∙◌, drop}
 use Rattle.std.specs.Prelude.{pos, ◌*ℤ◌}
 use Rattle.crn_vec.specs.declared.signs.Sign.TheVariants.{Zero}
-use Rattle.crn_vec.specs.Vectors.{entry, HasSign}
-use Rattle.crn_vec.proofs.Sums.{scale}
+use Rattle.crn_vec.specs.Vectors.{entry, HasSign, scale}
 use Rattle.crn_vec.specs.Kept.{KeptInts}
 use Rattle.crn_farkas.specs.Decides.{factor}
 use Rattle.crn_farkas.specs.Ends.{IsNamedCut}

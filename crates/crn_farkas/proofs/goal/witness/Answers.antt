@@ -4,8 +4,7 @@ use Rattle.crn_vec.specs.declared.signs.Kind.{Kind}
 use Rattle.crn_vec.specs.declared.signs.Kind.TheVariants.{Pos, Free}
 use Rattle.crn_vec.specs.declared.signs.Sign.TheVariants.{Zero}
 use Rattle.crn_vec.specs.Systems.{HasKind}
-use Rattle.crn_vec.specs.Vectors.{entry, HasSign}
-use Rattle.crn_vec.proofs.Sums.{scale}
+use Rattle.crn_vec.specs.Vectors.{entry, HasSign, scale}
 use Rattle.crn_farkas.specs.Decides.{factor}
 use Rattle.crn_farkas.proofs.Steps.{any_default}
 use Rattle.crn_farkas.proofs.Witnesses.{witness_from, wide_here, near_here}

@@ -1,12 +1,13 @@
 use Rattle.std.proofs.Common.{◌≡◌, ◌<◌, ap, sym, subst, ◌∙◌, arith, true, List, ℤ, length, of_z}
 use Rattle.std.proofs.lemmas.Bool.{false≢true}
+use Rattle.crn_vec.specs.declared.limits.TheConstants.{WIDE_ENTRY}
 use Rattle.crn_vec.specs.declared.signs.Kind.TheVariants.{Pos, Free}
-use Rattle.crn_vec.specs.Vectors.{Mat}
+use Rattle.crn_vec.specs.Vectors.{Mat, scale}
 use Rattle.crn_vec.specs.Systems.{is_signed, kind_at}
 use Rattle.crn_vec.specs.Vectors.{entry}
-use Rattle.crn_vec.proofs.Sums.{scale, entry-scale, length-scale}
+use Rattle.crn_vec.proofs.Sums.{entry-scale, length-scale}
 use Rattle.crn_vec.specs.Elementary.{width}
-use Rattle.std.specs.Prelude.{◌+ℤ◌, ◌*ℤ◌, ◌^◌, ℕ, unsigned_abs}
+use Rattle.std.specs.Prelude.{◌+ℤ◌, ◌*ℤ◌, ℕ, unsigned_abs}
 use Rattle.crn_farkas.proofs.Ruling.{unscaled_small}
 use Rattle.crn_farkas.specs.Decides.{factor}
 use Rattle.crn_farkas.specs.declared.goal.Side.{Side}
@@ -41,7 +42,7 @@ pub add-requires-clause-vector : goal.add-requires-clause-vector
 add-requires-clause-vector c =
     let S : Side → Type 0 = λ v. IsSide c.side_of.new.tableau.matrix c.side_of.new.tableau.basis c.args.kinds.now c.args.g v in
     let w = subst S c.in-Witness.is c.in_ok-cut.ensures.side in
-    subst (λ (l : List ℤ). (k : ℕ) → unsigned_abs (entry l k) < 2 ^ 62) (sym c.as_slice.ensures) (unscaled_small c.in-Witness.stays c.in-Witness.vector.list (2 ^ 62) w.small)
+    subst (λ (l : List ℤ). (k : ℕ) → unsigned_abs (entry l k) < WIDE_ENTRY) (sym c.as_slice.ensures) (unscaled_small c.in-Witness.stays c.in-Witness.vector.list (WIDE_ENTRY) w.small)
 
 pub returns-in-Witness-clause-end : goal.returns-in-Witness-clause-end
 returns-in-Witness-clause-end c =
