@@ -2,8 +2,7 @@
 use Rattle.std.proofs.Common.{◌≤◌, List, [], ◌∷◌, length, arith}
 use Rattle.std.specs.Prelude.{Bool, true, false}
 use Rattle.crn_vec.specs.declared.signs.Kind.{Kind}
-use Rattle.crn_vec.specs.Systems.{is_signed}
-use Rattle.crn_farkas.specs.Decides.{signed_count, one_if}
+use Rattle.crn_vec.specs.Systems.{is_signed, one_if, signed_count}
 
 one_at_most : (b : Bool) → one_if b ≤ 1
 one_at_most true = omega arith

@@ -1,37 +1,37 @@
 -- From the parts of a decision to what it says.
-use Rattle.std.proofs.Common.{◌≡◌, ◌≢◌, ℕ, zero, suc, ◌+◌, ◌-◌, ◌<◌, ◌≤◌, ◌⊎◌, ◌↔◌, inl, inr, List, [], ◌∷◌, ◌++◌, length, get_or, take, refl, sym, ap, subst, ◌∙◌, arith, length-append}
+use Rattle.std.proofs.Common.{◌≡◌, ◌≢◌, ℕ, zero, suc, ◌+◌, ◌-◌, ◌<◌, ◌≤◌, ◌⊎◌, ◌↔◌, inl, inr, List, [], ◌∷◌, ◌++◌, length, get_or, take, refl, sym, ap, subst, ◌∙◌, add-one, arith, replicate}
 use Rattle.std.specs.Prelude.{ℤ, pos, unsigned_abs, Bool, true, false, Result, Ok, Err}
 use Rattle.std.specs.Result.{MatchResult}
 use Rattle.std.proofs.lemmas.Int.{ints}
-use Rattle.std.proofs.lemmas.List.{get_or-drop}
+use Rattle.std.proofs.lemmas.List.{get_or-drop, get_or-replicate, length-replicate}
+use Rattle.std.proofs.lemmas.Bool.{false≢true}
 use Rattle.crn_vec.specs.declared.signs.Kind.{Kind}
 use Rattle.crn_vec.specs.declared.signs.Kind.TheVariants.{Pos, Neg, NonNeg, Zero, Free}
 use Rattle.crn_vec.specs.Vectors.{Mat, entry}
 use Rattle.crn_vec.specs.Lists.{IsIn}
 use Rattle.crn_vec.specs.Elementary.{width, IsNamedRow}
-use Rattle.crn_vec.specs.Systems.{HasKind, MayTake, MayWeigh, kind_at, HasOneRowCut}
+use Rattle.crn_vec.specs.Systems.{HasKind, MayTake, MayWeigh, kind_at, HasOneRowCut, signed_count, HasSigned}
 use Rattle.crn_vec.proofs.Entries.{eq_or, lt_or, past_end, zip_from}
 use Rattle.crn_vec.proofs.Cuts.{kinds_at}
 use Rattle.crn_vec.proofs.KindLaws.{kind_from, take_zero}
 use Rattle.crn_vec.proofs.Null.{dot-zero, Zero as AllZero}
 use Rattle.crn_farkas.specs.declared.stop.Stop.{Stop}
 use Rattle.crn_farkas.specs.declared.stop.Stop.TheVariants.{Wide, NoMemory}
-use Rattle.crn_farkas.specs.Views.{is_early_kind}
-use Rattle.crn_farkas.specs.Decides.{signed_count, HasNoKeptCut, IsSmallSolution}
-use Rattle.crn_farkas.specs.Ends.{IsPartSum, AreZeros, IsKeptStop, IsStop}
+use Rattle.crn_farkas.specs.declared.decision.Decision.{Decision}
+use Rattle.crn_farkas.specs.Views.{is_early_kind, level_of, level_count}
+use Rattle.crn_farkas.specs.Decides.{HasKeptCut, IsSmallSolution}
+use Rattle.crn_farkas.specs.Ends.{IsPartSum, AreZeros, IsDecision, IsGoalStop, IsTargetStop, IsNearStop, IsStop, IsRuledOut}
 use Rattle.crn_farkas.proofs.PartSums.{part_bound, push_in, push_last, in_push}
 
-pub no_zeros : AreZeros 0 []
-no_zeros = record { long = refl; zero = λ k. refl }
-
-snoc_zero : (v : List ℤ) (k : ℕ) → ((j : ℕ) → entry v j ≡ pos 0) → entry (v ++ pos 0 ∷ []) k ≡ pos 0
-snoc_zero [] zero h = refl
-snoc_zero [] (suc k) h = refl
-snoc_zero (x ∷ v) zero h = h 0
-snoc_zero (x ∷ v) (suc k) h = snoc_zero v k (λ j. h (suc j))
-
-pub one_zero_more : (k : ℕ) (v w : List ℤ) → AreZeros k v → w ≡ v ++ pos 0 ∷ [] → AreZeros (k + 1) w
-one_zero_more k v w z e = subst (λ (l : List ℤ). AreZeros (k + 1) l) (sym e) (record { long = omega (arith, length-append v (pos 0 ∷ []), z.long); zero = λ j. snoc_zero v j z.zero })
+-- a list filled with zeros
+pub all_zeros : (n : ℕ) (v : List ℤ) → v ≡ replicate n (pos 0) → AreZeros n v
+all_zeros n v e = subst (λ (l : List ℤ). AreZeros n l) (sym e) (record {
+  long = length-replicate n (pos 0);
+  zero = λ k. elim (lt_or k n) as (λ _. entry (replicate n (pos 0)) k ≡ pos 0) [
+    | inl lt ↦ get_or-replicate n k (pos 0) (pos 0) lt
+    | inr le ↦ past_end (replicate n (pos 0)) k (omega (arith, le, length-replicate n (pos 0)))
+  ];
+})
 
 zero_take : (n : ℕ) (v : List ℤ) → ((j : ℕ) → entry v j ≡ pos 0) → AllZero (take n v)
 zero_take zero v h = tt
@@ -88,10 +88,55 @@ early_or NonNeg = inr refl
 early_or Zero = inl refl
 early_or Free = inl refl
 
+-- ---- how many coordinates are early, and how many are not
+
+pub level_is : (early e : Bool) → e ≡ early → level_of early e ≡ 1
+level_is true true h = refl
+level_is true false h = absurd (false≢true h)
+level_is false true h = absurd (false≢true (sym h))
+level_is false false h = refl
+
+pub level_not : (early e : Bool) → ¬ (e ≡ early) → level_of early e ≡ 0
+level_not true true h = absurd (h refl)
+level_not true false h = refl
+level_not false true h = refl
+level_not false false h = absurd (h refl)
+
+level_suc : (early : Bool) (kinds : List Kind) (c : ℕ) → c < length kinds → level_count early (take (suc c) kinds) ≡ level_count early (take c kinds) + level_of early (is_early_kind (kind_at kinds c))
+level_suc early [] c h = absurd (omega arith)
+level_suc early (κ ∷ kinds) zero h = omega arith
+level_suc early (κ ∷ kinds) (suc c) h = omega (arith, level_suc early kinds c (omega arith))
+
+-- one more coordinate
+pub level_step : (early : Bool) (kinds : List Kind) (c : ℕ) → c < length kinds → level_count early (take (c + 1) kinds) ≡ level_count early (take c kinds) + level_of early (is_early_kind (kind_at kinds c))
+level_step early kinds c h = rw add-one (level_suc early kinds c h)
+
+pub level_front : (early : Bool) (kinds : List Kind) (c : ℕ) → level_count early (take c kinds) ≤ level_count early kinds
+level_front early [] zero = omega arith
+level_front early [] (suc c) = omega arith
+level_front early (κ ∷ kinds) zero = omega arith
+level_front early (κ ∷ kinds) (suc c) = omega (arith, level_front early kinds c)
+
+pub level_all : (early : Bool) (kinds : List Kind) (c : ℕ) → length kinds ≤ c → level_count early (take c kinds) ≡ level_count early kinds
+level_all early [] zero h = refl
+level_all early [] (suc c) h = refl
+level_all early (κ ∷ kinds) zero h = absurd (omega arith)
+level_all early (κ ∷ kinds) (suc c) h = ap (λ (n : ℕ). level_of early (is_early_kind κ) + n) (level_all early kinds c (omega arith))
+
+one_level : (e : Bool) → level_of true e + level_of false e ≡ 1
+one_level true = refl
+one_level false = refl
+
+-- each coordinate is early or not
+pub both_levels : (kinds : List Kind) → level_count true kinds + level_count false kinds ≡ length kinds
+both_levels [] = refl
+both_levels (κ ∷ kinds) = omega (arith, one_level (is_early_kind κ), both_levels kinds)
+
 -- ---- what stops a decision
 
-pub no_one_row : (a : Mat) (basis : List ℕ) (kinds : List Kind) → ((k : ℕ) → IsIn k basis ↔ (k < a.cols)) → HasNoKeptCut a basis kinds → HasOneRowCut a kinds → ⊥
-no_one_row a basis kinds law none h =
+-- where the basis is the columns, it names one row that rules the system out
+pub one_row_kept : (a : Mat) (basis : List ℕ) (kinds : List Kind) → ((k : ℕ) → IsIn k basis ↔ (k < a.cols)) → HasOneRowCut a kinds → HasKeptCut a basis kinds
+one_row_kept a basis kinds law h =
     let n = a.cols in
     let w = h.cut.0 in
     let cut = h.cut.1 in
@@ -114,12 +159,20 @@ no_one_row a basis kinds law none h =
             ap (λ (m : ℕ). entry w m) (sym e) ∙ at j ∙ h.single.others j (λ f. ne (sym e ∙ ap (λ (m : ℕ). n + m) f))
       ];
     } in
-    none (n + h.i) w named some (kinds_at MayWeigh kinds w refl cut.each, cut.some)
+    record { e = n + h.i; w = w; named = named; rules = (kinds_at MayWeigh kinds w refl cut.each, cut.some) }
 
-pub stop_from : (a : Mat) (basis : List ℕ) (kinds : List Kind) → ((k : ℕ) → IsIn k basis ↔ (k < a.cols)) → (s : Stop) → IsKeptStop a basis kinds s → IsStop a kinds s
-stop_from a basis kinds law (Wide index numbers) h = (h.0, h.1, no_one_row a basis kinds law h.2)
-stop_from a basis kinds law NoMemory h = tt
+-- what a new solver says
+pub decision_from : (a : Mat) (kinds : List Kind) (r : Result Decision Stop) → MatchResult r (λ (d : Decision). IsDecision a kinds d) (λ (s : Stop). IsTargetStop a kinds s) → (HasOneRowCut a kinds → IsRuledOut r)
+    → MatchResult r (λ (d : Decision). IsDecision a kinds d) (λ (s : Stop). IsStop a kinds s)
+decision_from a kinds (Ok d) h k = h
+decision_from a kinds (Err (Wide index numbers)) h k = (h.0, h.1, k)
+decision_from a kinds (Err NoMemory) h k = tt
 
-pub match_map : {D S : Type 0} (P P' : D → Type 0) (Q Q' : S → Type 0) (r : Result D S) → ((d : D) → P d → P' d) → ((s : S) → Q s → Q' s) → MatchResult r P Q → MatchResult r P' Q'
-match_map P P' Q Q' (Ok d) f g h = f d h
-match_map P P' Q Q' (Err s) f g h = g s h
+-- what stops a target
+pub target_stop : (a : Mat) (basis : List ℕ) (kinds : List Kind) (s : Stop) → HasSigned kinds → IsGoalStop a basis s → IsTargetStop a kinds s
+target_stop a basis kinds (Wide index numbers) some h = (h.0, some)
+target_stop a basis kinds NoMemory some h = tt
+
+pub near_stop : (a : Mat) (basis : List ℕ) (s : Stop) → IsGoalStop a basis s → IsNearStop basis s
+near_stop a basis (Wide index numbers) h = h.1
+near_stop a basis NoMemory h = tt

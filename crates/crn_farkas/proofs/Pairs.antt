@@ -8,12 +8,12 @@ use Rattle.std.proofs.lemmas.Bool.{false≢true}
 use lib.IntN.{*ℤ-zero, zero-*ℤ}
 use Rattle.crn_vec.specs.declared.signs.Kind.{Kind}
 use Rattle.crn_vec.specs.declared.signs.Kind.TheVariants.{Pos, Neg, NonNeg, Zero, Free}
-use Rattle.crn_vec.specs.Vectors.{Mat, entry, dot, column}
+use Rattle.crn_vec.specs.Vectors.{Mat, entry, dot, column, scale}
 use Rattle.crn_vec.specs.Lists.{IsIn}
 use Rattle.crn_vec.specs.Elementary.{width, InRowSpace, InDualSpace, IsNamed, IsNamedRow, IsNamedColumn}
 use Rattle.crn_vec.specs.Systems.{HasKind, is_signed}
 use Rattle.crn_vec.proofs.Ring.{no_zero, mul-neg}
-use Rattle.crn_vec.proofs.Sums.{scale, length-scale, entry-scale, dot-scale}
+use Rattle.crn_vec.proofs.Sums.{length-scale, entry-scale, dot-scale}
 use Rattle.crn_vec.proofs.Null.{dot-scale-right}
 use Rattle.crn_vec.proofs.Orthogonal.{part, orthogonal}
 use Rattle.crn_tab.specs.Names.{NamesRows}

@@ -1,17 +1,18 @@
 -- Sums of vectors (x, Ax) that are right everywhere.
-use Rattle.std.proofs.Common.{◌≡◌, ◌≢◌, ℕ, zero, suc, ◌+◌, ◌*◌, ◌^◌, ◌<◌, ◌≤◌, ◌⊎◌, inl, inr, List, [], ◌∷◌, ◌++◌, length, get_or, take, refl, sym, ap, ap₂, subst, ◌∙◌, add-one, arith}
+use Rattle.std.proofs.Common.{◌≡◌, ◌≢◌, ℕ, zero, suc, ◌+◌, ◌*◌, ◌<◌, ◌≤◌, ◌⊎◌, inl, inr, List, [], ◌∷◌, ◌++◌, length, get_or, take, refl, sym, ap, ap₂, subst, ◌∙◌, add-one, arith}
 use Rattle.std.specs.Prelude.{ℤ, pos, ◌+ℤ◌, unsigned_abs, Bool, true, slice_index}
 use Rattle.std.proofs.lemmas.List.{ext_get_or, length-take-le}
+use Rattle.crn_vec.specs.declared.limits.TheConstants.{WIDE_ENTRY}
 use Rattle.crn_vec.specs.declared.signs.Kind.{Kind}
 use Rattle.crn_vec.specs.Vectors.{Mat, entry, dot}
 use Rattle.crn_vec.specs.Lists.{IsIn}
 use Rattle.crn_vec.specs.Elementary.{InRowSpace}
-use Rattle.crn_vec.specs.Systems.{MayTake, kind_at, is_signed}
+use Rattle.crn_vec.specs.Systems.{MayTake, kind_at, is_signed, one_if, signed_count}
 use Rattle.crn_vec.proofs.Entries.{eq_or}
 use Rattle.crn_vec.proofs.Held.{sum_within}
 use Rattle.crn_vec.proofs.Sums.{plus, entry-plus, length-plus, dot-plus, dot-comm}
 use Rattle.crn_vec.proofs.KindLaws.{take_sum, sum_some}
-use Rattle.crn_farkas.specs.Decides.{signed_count, one_if, IsWitness}
+use Rattle.crn_farkas.specs.Decides.{IsWitness}
 use Rattle.crn_farkas.specs.Ends.{IsPartSum}
 
 count_suc : (kinds : List Kind) (g : ℕ) → g < length kinds → signed_count (take (suc g) kinds) ≡ signed_count (take g kinds) + one_if (is_signed (kind_at kinds g))
@@ -75,12 +76,12 @@ part_added a kinds g v y z lt s p w long entries =
           ]));
       small = λ k.
           let n = signed_count (take g kinds) in
-          let b : unsigned_abs (entry v k +ℤ entry y k) ≤ n * 2 ^ 62 + 2 ^ 62 = sum_within (entry v k) (entry y k) (n * 2 ^ 62) (2 ^ 62) (p.small k) (omega (arith, w.small k)) in
+          let b : unsigned_abs (entry v k +ℤ entry y k) ≤ n * WIDE_ENTRY + WIDE_ENTRY = sum_within (entry v k) (entry y k) (n * WIDE_ENTRY) (WIDE_ENTRY) (p.small k) (omega (arith, w.small k)) in
           let c : signed_count (take (g + 1) kinds) ≡ n + one_if true = count_step kinds g lt ∙ ap (λ (q : Bool). n + one_if q) s in
-          subst (λ (x : ℤ). unsigned_abs x ≤ signed_count (take (g + 1) kinds) * 2 ^ 62) (sym (entries k)) (omega (arith, b, c));
+          subst (λ (x : ℤ). unsigned_abs x ≤ signed_count (take (g + 1) kinds) * WIDE_ENTRY) (sym (entries k)) (omega (arith, b, c));
     }
 
-pub part_bound : (a : Mat) (kinds : List Kind) (g : ℕ) (v : List ℤ) → IsPartSum a kinds g v → signed_count kinds ≤ 239 → (k : ℕ) → unsigned_abs (entry v k) ≤ 239 * 2 ^ 62
+pub part_bound : (a : Mat) (kinds : List Kind) (g : ℕ) (v : List ℤ) → IsPartSum a kinds g v → signed_count kinds ≤ 239 → (k : ℕ) → unsigned_abs (entry v k) ≤ 239 * WIDE_ENTRY
 part_bound a kinds g v p few k = omega (arith, p.small k, count_front kinds g, few)
 
 pub get_in : (xs : List ℕ) (i : ℕ) → i < length xs → IsIn (slice_index xs i) xs

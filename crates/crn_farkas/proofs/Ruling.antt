@@ -1,25 +1,29 @@
 -- Lists that rule a system out, from their entries.
-use Rattle.std.proofs.Common.{◌≡◌, ◌≢◌, ℕ, zero, suc, ◌+◌, ◌^◌, ◌<◌, ◌≤◌, inl, inr, List, [], ◌∷◌, ◌++◌, length, take, drop, refl, sym, ap, subst, ◌∙◌, add-one, arith}
+use Rattle.std.proofs.Common.{◌≡◌, ◌≢◌, ℕ, zero, suc, ◌+◌, ◌<◌, ◌≤◌, inl, inr, List, [], ◌∷◌, ◌++◌, length, take, drop, refl, sym, ap, subst, ◌∙◌, add-one, arith}
 use Rattle.std.specs.Prelude.{ℤ, pos, ◌*ℤ◌, unsigned_abs, Bool, true, false}
 use Rattle.std.proofs.lemmas.Int.{ints}
 use Rattle.std.proofs.lemmas.Bool.{false≢true}
 use Rattle.std.proofs.lemmas.List.{get_or-drop}
 use Rattle.std.specs.Result.{IfOk}
 use Rattle.std.specs.Prelude.{Result, Ok, Err}
+use Rattle.crn_vec.specs.declared.limits.TheConstants.{WIDE_ENTRY}
 use Rattle.crn_vec.specs.declared.signs.Kind.{Kind}
 use Rattle.crn_vec.specs.declared.signs.Kind.TheVariants.{Free}
 use Rattle.crn_vec.specs.declared.signs.Sign.{Sign}
 use Rattle.crn_vec.specs.declared.signs.Sign.TheVariants.{Zero}
-use Rattle.crn_vec.specs.Vectors.{Mat, entry, HasSign}
+use Rattle.crn_vec.specs.Vectors.{Mat, entry, HasSign, scale}
 use Rattle.crn_vec.specs.Lists.{IsIn}
-use Rattle.crn_vec.specs.Elementary.{width, IsNamed}
+use Rattle.crn_vec.specs.Elementary.{width, IsNamed, IsNamedRow}
 use Rattle.crn_vec.specs.Systems.{MayWeigh, kind_at, is_signed}
 use Rattle.crn_vec.proofs.Entries.{eq_or, lt_or, past_end, zip_from}
-use Rattle.crn_vec.proofs.Sums.{scale, entry-scale}
+use Rattle.crn_vec.proofs.Sums.{entry-scale}
 use Rattle.crn_tab.specs.Names.{NamesRows}
+use lib.IntN.{zero-*ℤ}
+use Rattle.crn_vec.proofs.Ring.{no_zero}
+use Rattle.crn_tab.proofs.Signs.{one_row}
 use Rattle.crn_tab.proofs.OwnSign.{as_row}
-use Rattle.crn_farkas.specs.Decides.{factor, WeighsBelow, CountsBelow, IsRuling, CutsBy, IsSmallCut}
-use Rattle.crn_farkas.proofs.Pairs.{named_scaled, drop-scale, own_some}
+use Rattle.crn_farkas.specs.Decides.{factor, WeighsBelow, CountsBelow, IsRuling, CutsBy, IsSmallCut, AreNamedMultipliers}
+use Rattle.crn_farkas.proofs.Pairs.{named_scaled, dual_scaled, drop-scale, own_some}
 
 pub weighs_more : (kinds : List Kind) (w : List ℤ) (c : ℕ) → WeighsBelow kinds w c → MayWeigh (kind_at kinds c) (entry w c) → WeighsBelow kinds w (c + 1)
 weighs_more kinds w c h here k lt = elim (eq_or k c) as (λ _. MayWeigh (kind_at kinds k) (entry w k)) [
@@ -69,12 +73,15 @@ unit_size false x = omega (arith, ints)
 pub scaled_small : (s : Bool) (v : List ℤ) (m : ℕ) → ((k : ℕ) → unsigned_abs (entry v k) < m) → (k : ℕ) → unsigned_abs (entry (scale (factor s) v) k) < m
 scaled_small s v m h k = subst (λ (t : ℕ). t < m) (sym (ap unsigned_abs (entry-scale (factor s) v k) ∙ unit_size s (entry v k))) (h k)
 
+pub unscaled_small : (s : Bool) (v : List ℤ) (m : ℕ) → ((k : ℕ) → unsigned_abs (entry (scale (factor s) v) k) < m) → (k : ℕ) → unsigned_abs (entry v k) < m
+unscaled_small s v m h k = subst (λ (t : ℕ). t < m) (ap unsigned_abs (entry-scale (factor s) v k) ∙ unit_size s (entry v k)) (h k)
+
 -- the multipliers of a named vector with its sign
 pub cut_from : (a : Mat) (basis : List ℕ) (kinds : List Kind) (e : ℕ) (turn : Sign) (s : Bool) (w u : List ℤ) → NamesRows a basis → e < width a → ¬ IsIn e basis → length kinds ≡ width a
-    → CutsBy a basis kinds e turn → IsNamed a basis e w → ((k : ℕ) → unsigned_abs (entry w k) < 2 ^ 62) → (entry w e ≢ pos 0 → turn ≢ Zero → HasSign turn (factor s *ℤ entry w e))
+    → CutsBy a basis kinds e turn → IsNamed a basis e w → ((k : ℕ) → unsigned_abs (entry w k) < WIDE_ENTRY) → (entry w e ≢ pos 0 → turn ≢ Zero → HasSign turn (factor s *ℤ entry w e))
     → u ≡ scale (factor s) (drop a.cols w) → IsSmallCut a kinds u
 cut_from a basis kinds e turn s w u t lt out long cuts named small turns same =
-    let small_part : (k : ℕ) → unsigned_abs (entry (drop a.cols w) k) < 2 ^ 62 = λ k. subst (λ (z : ℤ). unsigned_abs z < 2 ^ 62) (sym (get_or-drop a.cols w k (pos 0))) (small (a.cols + k)) in
+    let small_part : (k : ℕ) → unsigned_abs (entry (drop a.cols w) k) < WIDE_ENTRY = λ k. subst (λ (z : ℤ). unsigned_abs z < WIDE_ENTRY) (sym (get_or-drop a.cols w k (pos 0))) (small (a.cols + k)) in
     let q = factor s in
     let turned = turns (own_some a basis e w t lt out named) cuts.some in
     let row = as_row a basis e w out named in
@@ -91,8 +98,33 @@ cut_from a basis kinds e turn s w u t lt out long cuts named small turns same =
           some = rules.1;
         },
       );
-      small = subst (λ (l : List ℤ). (k : ℕ) → unsigned_abs (entry l k) < 2 ^ 62) (sym same) (scaled_small s (drop a.cols w) (2 ^ 62) small_part);
+      small = subst (λ (l : List ℤ). (k : ℕ) → unsigned_abs (entry l k) < WIDE_ENTRY) (sym same) (scaled_small s (drop a.cols w) (WIDE_ENTRY) small_part);
     }
+
+-- they are those of a vector that the basis names
+pub multipliers_from : (a : Mat) (basis : List ℕ) (e : ℕ) (s : Bool) (w u : List ℤ) → ¬ IsIn e basis → IsNamed a basis e w → u ≡ scale (factor s) (drop a.cols w) → AreNamedMultipliers a basis u
+multipliers_from a basis e s w u out named same =
+    let q = factor s in
+    record {
+      e = e;
+      outside = out;
+      w = w;
+      named = named;
+      q = q;
+      v = scale q w;
+      space = dual_scaled a q w (as_row a basis e w out named).space;
+      rows = drop-scale q a.cols w ∙ sym same;
+      multiple = λ k. entry-scale q w k;
+    }
+
+-- a named vector that rules the system out is not 0 at its coordinate
+pub ruling_some : (a : Mat) (basis : List ℕ) (kinds : List Kind) (e : ℕ) (w : List ℤ) → NamesRows a basis → IsNamedRow a basis e w → IsRuling kinds w → entry w e ≢ pos 0
+ruling_some a basis kinds e w t row rules none =
+    let v = t.rows e row.inside row.outside in
+    let k = rules.1.0 in
+    let p : entry v.w e *ℤ entry w k ≡ entry w e *ℤ entry v.w k = one_row a basis e w v.w t.wide t.basis_is row (as_row a basis e v.w row.outside v.named) k in
+    let q : entry w e *ℤ entry v.w k ≡ pos 0 *ℤ entry v.w k = ap (λ (t : ℤ). t *ℤ entry v.w k) none in
+    rules.1.2 (no_zero (entry v.w e) (entry w k) (p ∙ q ∙ zero-*ℤ (entry v.w k)) (λ z. omega (arith, ints, z, v.positive)))
 
 -- what holds of a value in an Ok follows from what is known of it
 pub if_ok : {T E : Type 0} (P Q : T → Type 0) (r : Result T E) → ((x : T) → P x → Q x) → IfOk r P → IfOk r Q

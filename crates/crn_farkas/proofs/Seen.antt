@@ -4,11 +4,11 @@ use Rattle.std.specs.Prelude.{ℤ, pos, negsuc, ◌+ℤ◌, ◌*ℤ◌, true}
 use Rattle.std.proofs.lemmas.Int.{ints}
 use lib.IntN.{*ℤ_comm}
 use Rattle.crn_vec.specs.declared.signs.Kind.{Kind}
-use Rattle.crn_vec.specs.Vectors.{Mat, entry}
+use Rattle.crn_vec.specs.Vectors.{Mat, entry, scale}
 use Rattle.crn_vec.specs.Lists.{IsIn}
 use Rattle.crn_vec.specs.Elementary.{width, IsNamed, IsNamedColumn}
 use Rattle.crn_vec.specs.Systems.{HasKind, is_signed}
-use Rattle.crn_vec.proofs.Sums.{scale, entry-scale}
+use Rattle.crn_vec.proofs.Sums.{entry-scale}
 use Rattle.crn_tab.specs.Names.{NamesRows}
 use Rattle.crn_tab.proofs.Places.{isIn_or}
 use Rattle.crn_vec.proofs.Entries.{eq_or}

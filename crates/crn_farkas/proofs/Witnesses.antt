@@ -1,26 +1,27 @@
 -- A settled column view shows a vector that is one of those that add up to a solution.
-use Rattle.std.proofs.Common.{◌≡◌, ◌≢◌, ℕ, suc, ◌+◌, ◌-◌, ◌^◌, ◌<◌, ◌⊎◌, inl, inr, List, [], ◌∷◌, length, sym, ap, subst, ◌∙◌, arith}
+use Rattle.std.proofs.Common.{◌≡◌, ◌≢◌, ℕ, suc, ◌+◌, ◌-◌, ◌<◌, ◌⊎◌, inl, inr, List, [], ◌∷◌, length, sym, ap, subst, ◌∙◌, arith}
 use Rattle.std.specs.Prelude.{ℤ, pos, ◌+ℤ◌, ◌*ℤ◌, unsigned_abs, Bool, true, slice_index}
 use Rattle.std.specs.Int.{◌∣◌}
 use Rattle.std.proofs.lemmas.Int.{ints}
 use Rattle.std.proofs.lemmas.Nat.Gcd.{dvd-zero}
 use lib.IntN.{*ℤ_comm}
+use Rattle.crn_vec.specs.declared.limits.TheConstants.{WIDE_ENTRY}
 use Rattle.crn_vec.specs.declared.signs.Kind.{Kind}
 use Rattle.crn_vec.specs.declared.signs.Sign.{Sign}
 use Rattle.crn_vec.specs.declared.signs.Sign.TheVariants.{Zero}
-use Rattle.crn_vec.specs.Vectors.{Mat, entry, HasSign}
+use Rattle.crn_vec.specs.Vectors.{Mat, entry, HasSign, scale}
 use Rattle.crn_vec.specs.Lists.{IsIn}
 use Rattle.crn_vec.specs.Elementary.{width, IsNamed, IsNamedColumn, WideAt}
 use Rattle.crn_vec.specs.Systems.{HasKind, MayTake, MayWeigh, kind_at, is_signed}
 use Rattle.crn_vec.proofs.Entries.{eq_or, lt_or, past_end}
-use Rattle.crn_vec.proofs.Sums.{scale, entry-scale}
+use Rattle.crn_vec.proofs.Sums.{entry-scale}
 use Rattle.crn_tab.specs.Names.{NamesRows}
 use Rattle.crn_tab.proofs.Ascending.{same_members}
 use Rattle.crn_tab.proofs.Unique.{column_at}
 use Rattle.crn_tab.proofs.OwnSign.{as_row}
 use Rattle.crn_farkas.specs.declared.view.View.TheVariants.{Row, Column}
-use Rattle.crn_farkas.specs.Views.{IsView, IsSettled}
-use Rattle.crn_farkas.specs.Decides.{factor, IsWitness, IsNumbered, NamesWide, CutsBy}
+use Rattle.crn_farkas.specs.Views.{IsView, IsSettled, IsRefused}
+use Rattle.crn_farkas.specs.Decides.{factor, IsWitness, IsNumbered, IsNear, NamesWide, CutsBy}
 use Rattle.crn_farkas.proofs.Pairs.{pair, column_scaled, other_some, kind_some}
 use Rattle.crn_farkas.proofs.Ruling.{kind_past, scaled_small}
 
@@ -66,7 +67,7 @@ in_place (x ∷ order) c (inr i) = let p = in_place order c i in record { i = su
 
 pub witness_from : (a : Mat) (basis : List ℕ) (kinds : List Kind) (order : List ℕ) (b g : ℕ) (s : Bool) (w y : List ℤ) → NamesRows a basis → g < width a → length kinds ≡ width a → is_signed (kind_at kinds g) ≡ true
     → IsView a basis (Column b) g → IsSettled a basis (Column b) g kinds order (length order) → ((c : ℕ) → c < width a → IsIn c order)
-    → IsNamed a basis b w → ((k : ℕ) → unsigned_abs (entry w k) < 2 ^ 62) → (entry w g ≢ pos 0 → HasKind (kind_at kinds g) (factor s *ℤ entry w g)) → y ≡ scale (factor s) w → IsWitness a kinds g y
+    → IsNamed a basis b w → ((k : ℕ) → unsigned_abs (entry w k) < WIDE_ENTRY) → (entry w g ≢ pos 0 → HasKind (kind_at kinds g) (factor s *ℤ entry w g)) → y ≡ scale (factor s) w → IsWitness a kinds g y
 witness_from a basis kinds order b g s w y t lt long asked view settled all n small turns same =
     let v = scale (factor s) w in
     let col = column_scaled a basis b (factor s) w (as_column a basis b w view.1.member n) in
@@ -79,15 +80,19 @@ witness_from a basis kinds order b g s w y t lt long asked view settled all n sm
       space = col.space;
       takes = takes;
       some = kind_some (kind_at kinds g) (entry v g) asked kind;
-      small = scaled_small s w (2 ^ 62) small;
+      small = scaled_small s w (WIDE_ENTRY) small;
     })
+
+same_numbers : (a : Mat) (basis : List ℕ) (b : ℕ) (numbers : List ℕ) → NamesRows a basis → IsIn b basis → (n : IsNumbered basis b b numbers) → n.next ≡ basis
+same_numbers a basis b numbers t i n =
+    same_members n.next basis n.exchanged.ascending t.basis_is.ascending
+    (λ k m. elim ((n.exchanged.members k).0 m) as (λ _. IsIn k basis) [ inl h ↦ h.0 | inr e ↦ subst (λ (j : ℕ). IsIn j basis) (sym e) i ])
+    (λ k m. (n.exchanged.members k).1 (elim (eq_or k b) as (λ _. (IsIn k basis × (k ≢ b)) ⊎ (k ≡ b)) [ inl e ↦ inr e | inr ne ↦ inl (m, ne) ]))
 
 -- the numbers of the basis itself
 pub wide_here : (a : Mat) (basis : List ℕ) (b : ℕ) (numbers : List ℕ) → NamesRows a basis → IsIn b basis → WideAt a basis b → IsNumbered basis b b numbers → NamesWide a (b + 1) numbers
 wide_here a basis b numbers t i wide n =
-    let same : n.next ≡ basis = same_members n.next basis n.exchanged.ascending t.basis_is.ascending
-    (λ k m. elim ((n.exchanged.members k).0 m) as (λ _. IsIn k basis) [ inl h ↦ h.0 | inr e ↦ subst (λ (j : ℕ). IsIn j basis) (sym e) i ])
-    (λ k m. (n.exchanged.members k).1 (elim (eq_or k b) as (λ _. (IsIn k basis × (k ≢ b)) ⊎ (k ≡ b)) [ inl e ↦ inr e | inr ne ↦ inl (m, ne) ])) in
+    let same = same_numbers a basis b numbers t i n in
     let back : b + 1 - 1 ≡ b = omega arith in
     record {
       from_zero = n.next;
@@ -95,6 +100,16 @@ wide_here a basis b numbers t i wide n =
       counted = omega arith;
       wide = subst (λ (l : List ℕ). WideAt a l (b + 1 - 1)) (sym same) (subst (λ (k : ℕ). WideAt a basis k) (sym back) wide);
     }
+
+pub near_here : (a : Mat) (basis : List ℕ) (b : ℕ) (numbers : List ℕ) → NamesRows a basis → IsIn b basis → IsNumbered basis b b numbers → IsNear basis numbers
+near_here a basis b numbers t i n = record { next = n.next; numbered = n.numbered; near = inl (same_numbers a basis b numbers t i n) }
+
+-- the numbers of a basis that was refused
+pub near_refused : (a : Mat) (basis : List ℕ) (leave enter index : ℕ) (numbers : List ℕ) → IsRefused a basis leave enter index → IsNumbered basis leave enter numbers → NamesWide a index numbers × IsNear basis numbers
+near_refused a basis leave enter index numbers r n = (
+  record { from_zero = n.next; numbered = n.numbered; counted = r.counted; wide = r.wide n.next n.exchanged },
+  record { next = n.next; numbered = n.numbered; near = inr (record { leave = leave; enter = enter; member = r.member; outside = r.outside; exchanged = n.exchanged }) },
+)
 
 -- a settled row view shows multipliers
 pub cuts_settled : (a : Mat) (basis : List ℕ) (kinds : List Kind) (order : List ℕ) (g : ℕ) (turn : Sign) → length kinds ≡ width a → is_signed (kind_at kinds g) ≡ true

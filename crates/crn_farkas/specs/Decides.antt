@@ -1,20 +1,13 @@
 -- What the decision of a linear system says.
-use Rattle.std.specs.Prelude.{◌≡◌, ◌≢◌, ◌≤◌, ◌<◌, ◌+◌, ◌-◌, ◌^◌, ℕ, suc, ℤ, pos, negsuc, unsigned_abs, Bool, true, false, List, [], ◌∷◌, map}
+use Rattle.std.specs.Prelude.{◌≡◌, ◌≢◌, ◌≤◌, ◌<◌, ◌-◌, ◌⊎◌, ℕ, suc, ℤ, pos, negsuc, ◌*ℤ◌, unsigned_abs, Bool, true, false, List, map, drop}
+use Rattle.crn_vec.specs.declared.limits.TheConstants.{WIDE_ENTRY, WIDE_SOLUTION}
 use Rattle.crn_vec.specs.declared.signs.Kind.{Kind}
 use Rattle.crn_vec.specs.declared.signs.Sign.{Sign}
 use Rattle.crn_vec.specs.declared.signs.Sign.TheVariants.{Zero}
 use Rattle.crn_vec.specs.Vectors.{Mat, entry, HasSign}
-use Rattle.crn_vec.specs.Elementary.{InRowSpace, IsNamedRow, WideAt, Exchanged}
+use Rattle.crn_vec.specs.Lists.{IsIn}
+use Rattle.crn_vec.specs.Elementary.{InRowSpace, InDualSpace, IsNamed, IsNamedRow, WideAt, Exchanged}
 use Rattle.crn_vec.specs.Systems.{MayTake, MayWeigh, kind_at, is_signed, Solves, IsCut}
-
--- how many coordinates have to be positive or negative
-abbrev pub one_if : Bool → ℕ
-one_if true = 1
-one_if false = 0
-
-abbrev pub signed_count : List Kind → ℕ
-signed_count [] = 0
-signed_count (kind ∷ kinds) = one_if (is_signed kind) + signed_count kinds
 
 -- 1, or -1 for the negative
 abbrev pub factor : Bool → ℤ
@@ -38,27 +31,42 @@ pub record CutsBy (a : Mat) (basis : List ℕ) (kinds : List Kind) (e : ℕ) (tu
   pub some : turn ≢ Zero
   pub rules : (w : List ℤ) → IsNamedRow a basis e w → HasSign turn (entry w e) → IsRuling kinds w
 
--- no vector that the basis names by a coordinate outside it rules the system out
-abbrev pub HasNoKeptCut : Mat → List ℕ → List Kind → Type 0
-HasNoKeptCut a basis kinds = (e : ℕ) (w : List ℤ) → IsNamedRow a basis e w → entry w e ≢ pos 0 → IsRuling kinds w → ⊥
+-- some vector (-uA, u) that the basis names by a coordinate outside it, or a multiple of it, rules the system out
+pub record HasKeptCut (a : Mat) (basis : List ℕ) (kinds : List Kind) : Type 0 where
+  pub e : ℕ
+  pub w : List ℤ
+  pub named : IsNamedRow a basis e w
+  pub rules : IsRuling kinds w
+
+-- the list (-uA, u) is a multiple of the primitive vector that the basis names by a coordinate outside it
+pub record AreNamedMultipliers (a : Mat) (basis : List ℕ) (u : List ℤ) : Type 0 where
+  pub e : ℕ
+  pub outside : IsIn e basis → ⊥
+  pub w : List ℤ
+  pub named : IsNamed a basis e w
+  pub q : ℤ
+  pub v : List ℤ
+  pub space : InDualSpace a v
+  pub rows : drop a.cols v ≡ u
+  pub multiple : (k : ℕ) → entry v k ≡ q *ℤ entry w k
 
 -- a vector (x, Ax) that is one of those that add up to a solution, and not 0 at g
 pub record IsWitness (a : Mat) (kinds : List Kind) (g : ℕ) (y : List ℤ) : Type 0 where
   pub space : InRowSpace a y
   pub takes : (k : ℕ) → MayTake (kind_at kinds k) (entry y k)
   pub some : entry y g ≢ pos 0
-  pub small : (k : ℕ) → unsigned_abs (entry y k) < 2 ^ 62
+  pub small : (k : ℕ) → unsigned_abs (entry y k) < WIDE_ENTRY
 
 -- multipliers below the bound that rule the system out
 pub record IsSmallCut (a : Mat) (kinds : List Kind) (u : List ℤ) : Type 0 where
   pub cut : IsCut a kinds u
-  pub small : (k : ℕ) → unsigned_abs (entry u k) < 2 ^ 62
+  pub small : (k : ℕ) → unsigned_abs (entry u k) < WIDE_ENTRY
 
 -- a solution whose coordinates are below the bound
 pub record IsSmallSolution (a : Mat) (kinds : List Kind) (x : List ℤ) : Type 0 where
   pub v : List ℤ
   pub solves : Solves a kinds x v
-  pub small : (k : ℕ) → unsigned_abs (entry v k) < 2 ^ 70
+  pub small : (k : ℕ) → unsigned_abs (entry v k) < WIDE_SOLUTION
 
 -- a basis and an index, both counted from 1, that name a wide vector of the matrix
 pub record NamesWide (a : Mat) (index : ℕ) (basis : List ℕ) : Type 0 where
@@ -72,3 +80,17 @@ pub record IsNumbered (basis : List ℕ) (leave enter : ℕ) (numbers : List ℕ
   pub next : List ℕ
   pub numbered : numbers ≡ map suc next
   pub exchanged : Exchanged basis leave enter next
+
+-- a single exchange leads from the basis to the next one
+pub record IsOneExchange (basis next : List ℕ) : Type 0 where
+  pub leave : ℕ
+  pub enter : ℕ
+  pub member : IsIn leave basis
+  pub outside : IsIn enter basis → ⊥
+  pub exchanged : Exchanged basis leave enter next
+
+-- the numbers, counted from 1, are those of the basis, or of one to which a single exchange leads from it
+pub record IsNear (basis numbers : List ℕ) : Type 0 where
+  pub next : List ℕ
+  pub numbered : numbers ≡ map suc next
+  pub near : (next ≡ basis) ⊎ IsOneExchange basis next

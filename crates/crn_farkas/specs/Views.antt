@@ -1,6 +1,6 @@
 -- What is seen of a tableau for one coordinate g that has to be positive or negative, and how far it is settled.
 -- Source: Minty (1974), on the two elementary vectors of which exactly one is found.
-use Rattle.std.specs.Prelude.{◌≡◌, ◌≢◌, ◌≤◌, ◌<◌, ◌-◌, ◌↔◌, ◌⊎◌, ℕ, ℤ, pos, Bool, true, false, List, slice_index}
+use Rattle.std.specs.Prelude.{◌≡◌, ◌≢◌, ◌≤◌, ◌<◌, ◌+◌, ◌-◌, ◌↔◌, ◌⊎◌, ℕ, ℤ, pos, Bool, true, false, List, [], ◌∷◌, slice_index}
 use Rattle.crn_vec.specs.declared.signs.Kind.{Kind}
 use Rattle.crn_vec.specs.declared.signs.Kind.TheVariants.{Pos, Neg, NonNeg, Zero, Free}
 use Rattle.crn_vec.specs.Vectors.{Mat, entry}
@@ -50,6 +50,8 @@ IsSwapped basis leave enter next = ((enter ≡ leave) × (next ≡ basis)) ⊎ (
 
 -- the exchange of a member for a coordinate outside names a wide vector
 pub record IsRefused (a : Mat) (basis : List ℕ) (leave enter index : ℕ) : Type 0 where
+  pub member : IsIn leave basis
+  pub outside : IsIn enter basis → ⊥
   pub inside : enter < width a
   pub counted : 1 ≤ index
   pub wide : (next : List ℕ) → Exchanged basis leave enter next → WideAt a next (index - 1)
@@ -68,3 +70,15 @@ is_early_kind Neg = false
 is_early_kind NonNeg = false
 is_early_kind Zero = true
 is_early_kind Free = true
+
+-- 1 where a kind is one of those that turn at most once, or of the others
+abbrev pub level_of : Bool → Bool → ℕ
+level_of true true = 1
+level_of true false = 0
+level_of false true = 0
+level_of false false = 1
+
+-- how many of the kinds turn at most once, or how many others there are
+abbrev pub level_count : Bool → List Kind → ℕ
+level_count early [] = 0
+level_count early (kind ∷ kinds) = level_of early (is_early_kind kind) + level_count early kinds

@@ -1,9 +1,10 @@
 ghost use Rattle.std.specs.Prelude.{◌≡◌, ◌≢◌, ◌<◌, ◌^◌, ◌↔◌, ◌⊎◌, ℕ, ℤ, pos, negsuc, ◌*ℤ◌, List, IsTrue, IfOk, length, MatchOption, drop, unsigned_abs};
-ghost use Rattle.crn_vec.specs.Vectors.{entry, HasSign};
+ghost use Rattle.crn_vec.specs.declared.limits.TheConstants.{WIDE_ENTRY};
+ghost use Rattle.crn_vec.specs.Vectors.{entry, HasSign, scale};
 ghost use Rattle.crn_vec.specs.Lists.{IsIn};
 ghost use Rattle.crn_vec.specs.Elementary.{width, IsNamedRow};
-ghost use Rattle.crn_vec.proofs.Sums.{scale};
-ghost use Rattle.crn_farkas.specs.Decides.{factor, IsRuling, WeighsBelow, CountsBelow, CutsBy, HasNoKeptCut, IsSmallCut};
+ghost use Rattle.crn_farkas.specs.Decides.{factor, IsRuling, WeighsBelow, CountsBelow, CutsBy, HasKeptCut};
+ghost use Rattle.crn_farkas.specs.Ends.{IsNamedCut};
 
 use crate::side::{counts, may_weigh, product};
 use crn_tab::Tableau;
@@ -74,7 +75,7 @@ fn is_cut(tableau: &Tableau, kinds: &[Kind], e: usize, turn: Sign) -> bool
 // A vector that the basis names and that rules the system out.
 pub(crate) fn kept_cut(tableau: &Tableau, kinds: &[Kind]) -> Option<Cut>
     requires { length kinds.now ≡ width tableau.now.matrix }
-    ensures { MatchOption result (HasNoKeptCut tableau.now.matrix tableau.now.basis kinds.now) (λ cut. (cut.row < width tableau.now.matrix) × (IsIn cut.row tableau.now.basis → ⊥) × CutsBy tableau.now.matrix tableau.now.basis kinds.now cut.row cut.turn) }
+    ensures { MatchOption result (HasKeptCut tableau.now.matrix tableau.now.basis kinds.now → ⊥) (λ cut. (cut.row < width tableau.now.matrix) × (IsIn cut.row tableau.now.basis → ⊥) × CutsBy tableau.now.matrix tableau.now.basis kinds.now cut.row cut.turn) }
 {
     for row in 0..kinds.len() {
         if !tableau.is_basic(row) {
@@ -92,6 +93,7 @@ pub(crate) fn kept_cut(tableau: &Tableau, kinds: &[Kind]) -> Option<Cut>
             }
         }
     }
+    tableau.names_rows();
     None
 }
 
@@ -104,15 +106,15 @@ pub(crate) fn stays(x: &i128, want: Sign) -> bool
 
 // The number or its negative.
 fn turned(x: &i128, stays: bool) -> i128
-    requires { unsigned_abs x.now < 2 ^ 62 }
+    requires { unsigned_abs x.now < WIDE_ENTRY }
     ensures { result ≡ factor stays *ℤ x.now }
 {
     if stays { *x } else { -*x }
 }
 
 // The numbers or their negatives.
-pub(crate) fn multiple(alloc: Global, list: &[i128], stays: bool) -> Result<Ints, NoMemory>
-    requires { (k : ℕ) → unsigned_abs (entry list.now k) < 2 ^ 62 }
+fn multiple(alloc: Global, list: &[i128], stays: bool) -> Result<Ints, NoMemory>
+    requires { (k : ℕ) → unsigned_abs (entry list.now k) < WIDE_ENTRY }
     ensures { IfOk result (λ made. made.list ≡ scale (factor stays) list.now) }
 {
     let mut made = Ints::with_room(alloc, list.len())?;
@@ -135,7 +137,7 @@ pub(crate) fn multipliers(
     requires inside { cut.now.row < width tableau.now.matrix }
     requires outside { IsIn cut.now.row tableau.now.basis → ⊥ }
     requires cuts { CutsBy tableau.now.matrix tableau.now.basis kinds.now cut.now.row cut.now.turn }
-    ensures { IfOk result (λ u. IsSmallCut tableau.now.matrix kinds.now u.list) }
+    ensures { IfOk result (λ u. IsNamedCut tableau.now.matrix tableau.now.basis kinds.now u.list) }
 {
     tableau.names_rows();
     let vector = tableau.row(cut.row)?;

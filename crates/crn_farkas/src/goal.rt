@@ -2,11 +2,10 @@ ghost use Rattle.std.specs.Prelude.{◌≡◌, ◌<◌, ℕ, true, length, slice
 ghost use Rattle.crn_vec.specs.Lists.{IsIn};
 ghost use Rattle.crn_vec.specs.Elementary.{width};
 ghost use Rattle.crn_vec.specs.Systems.{kind_at, is_signed};
-ghost use Rattle.crn_farkas.specs.Decides.{IsWitness};
 ghost use Rattle.crn_farkas.specs.Ends.{IsGoalStop, IsSide};
 ghost use Rattle.crn_farkas.specs.Views.{IsView, IsSettled};
 
-use crate::cut::{Cut, multiple, multipliers, stays};
+use crate::cut::{Cut, multipliers, stays};
 use crate::settle::settle;
 use crate::side::sign_asked;
 use crate::stop::{Stop, exchanged};
@@ -20,8 +19,8 @@ use std::alloc::Global;
 pub(crate) enum Side {
     /// Multipliers that rule the system out.
     Cut(Ints),
-    /// A vector (x, Ax) that is right everywhere and not 0 at the coordinate.
-    Witness(Ints),
+    /// A vector (x, Ax), or minus it where it does not stay, that is right everywhere and not 0 at the coordinate.
+    Witness { vector: Ints, stays: bool },
 }
 
 // The vector (x, Ax) that a settled view shows.
@@ -32,14 +31,14 @@ fn witness(
     order: &[usize],
     b: usize,
     g: usize,
-) -> Result<Ints, Stop>
+) -> Result<Side, Stop>
     requires kinds { length kinds.now ≡ width tableau.now.matrix }
     requires goal { g < width tableau.now.matrix }
     requires asked { is_signed (kind_at kinds.now g) ≡ true }
     requires view { IsView tableau.now.matrix tableau.now.basis (View.Column b) g }
     requires settled { IsSettled tableau.now.matrix tableau.now.basis (View.Column b) g kinds.now order.now (length order.now) }
     requires all { (c : ℕ) → c < width tableau.now.matrix → IsIn c order.now }
-    ensures { MatchResult result (λ y. IsWitness tableau.now.matrix kinds.now g y.list) (λ s. IsGoalStop tableau.now.matrix s) }
+    ensures { MatchResult result (λ side. IsSide tableau.now.matrix tableau.now.basis kinds.now g side) (λ s. IsGoalStop tableau.now.matrix tableau.now.basis s) }
 {
     tableau.names_rows();
     let vector = match tableau.column(b) {
@@ -52,9 +51,8 @@ fn witness(
             });
         }
     };
-    let vector = vector.as_slice();
-    let stays = stays(&vector[g], sign_asked(kinds[g]));
-    Ok(multiple(alloc, vector, stays)?)
+    let stays = stays(&vector.as_slice()[g], sign_asked(kinds[g]));
+    Ok(Side::Witness { vector, stays })
 }
 
 // Settles the whole order for one coordinate that has to be positive or negative.
@@ -73,7 +71,7 @@ pub(crate) fn side_of(
     requires order { (i : ℕ) → i < length order.now → slice_index order.now i < width tableau.old.matrix }
     requires all { (c : ℕ) → c < width tableau.old.matrix → IsIn c order.now }
     ensures matrix { tableau.new.matrix ≡ tableau.old.matrix }
-    ensures side { MatchResult result (λ side. IsSide tableau.new.matrix kinds.now g side) (λ s. IsGoalStop tableau.new.matrix s) }
+    ensures side { MatchResult result (λ side. IsSide tableau.new.matrix tableau.new.basis kinds.now g side) (λ s. IsGoalStop tableau.new.matrix tableau.new.basis s) }
 {
     let mut view = first_view(tableau, g);
     if let Err(refused) = settle(tableau, &mut view, kinds, order, g, order.len()) {
@@ -90,7 +88,7 @@ pub(crate) fn side_of(
             };
             Ok(Side::Cut(multipliers(alloc, tableau, kinds, cols, &cut)?))
         }
-        View::Column(b) => Ok(Side::Witness(witness(alloc, tableau, kinds, order, b, g)?)),
+        View::Column(b) => witness(alloc, tableau, kinds, order, b, g),
     }
 }
 

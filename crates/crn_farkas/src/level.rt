@@ -1,14 +1,14 @@
-ghost use Rattle.std.specs.Prelude.{◌≡◌, ◌≤◌, ◌<◌, ℕ, ℤ, pos, ◌≢◌, List, true, length, slice_index, MatchOption, OnOk, ◌⊎◌, ◌↔◌, IsTrue};
+ghost use Rattle.std.specs.Prelude.{◌≡◌, ◌≤◌, ◌<◌, ℕ, ℤ, pos, ◌≢◌, List, true, length, slice_index, MatchOption, ◌+◌, ◌⊎◌, ◌↔◌, IsTrue, vec_len, vec_capacity};
 ghost use Rattle.crn_vec.specs.Vectors.{entry, HasSign};
 ghost use Rattle.crn_vec.specs.Lists.{IsIn};
 ghost use Rattle.crn_vec.specs.Elementary.{width, IsNamedColumn};
 ghost use Rattle.crn_vec.specs.Systems.{kind_at, is_signed};
-ghost use Rattle.crn_farkas.specs.Views.{IsView, IsSeen, IsSettled, IsFirstWrong, is_early_kind};
+ghost use Rattle.crn_farkas.specs.Views.{IsView, IsSeen, IsSettled, IsFirstWrong, is_early_kind, level_count};
 
 use crate::side::{is_right, opposite, product, sign_asked};
 use crate::view::View;
 use crn_tab::Tableau;
-use crn_vec::{Kind, NoMemory, Sign};
+use crn_vec::{Kind, Sign};
 
 // The sign at b of the vectors that the basis names by its member b, where they have this sign at g.
 fn lead_sign(tableau: &Tableau, b: usize, g: usize, asked: Sign) -> Sign
@@ -97,20 +97,18 @@ fn is_level(kind: Kind, early: bool) -> bool
     }
 }
 
-// Adds the coordinates that are early, or those that are not.
-pub(crate) fn push_level(
-    order: &mut Vec<usize>,
-    kinds: &[Kind],
-    early: bool,
-) -> Result<(), NoMemory>
-    ensures kept { OnOk result ((c : ℕ) → IsIn c order.old.items → IsIn c order.new.items) }
-    ensures added { OnOk result ((c : ℕ) → c < length kinds.now → is_early_kind (kind_at kinds.now c) ≡ early → IsIn c order.new.items) }
-    ensures below { OnOk result ((c : ℕ) → IsIn c order.new.items → IsIn c order.old.items ⊎ (c < length kinds.now)) }
+// Adds the coordinates that are early, or those that are not, to a list that has room for them.
+pub(crate) fn push_level(order: &mut Vec<usize>, kinds: &[Kind], early: bool)
+    requires { vec_len order.old + level_count early kinds.now ≤ vec_capacity order.old }
+    ensures kept { (c : ℕ) → IsIn c order.old.items → IsIn c order.new.items }
+    ensures added { (c : ℕ) → c < length kinds.now → is_early_kind (kind_at kinds.now c) ≡ early → IsIn c order.new.items }
+    ensures below { (c : ℕ) → IsIn c order.new.items → IsIn c order.old.items ⊎ (c < length kinds.now) }
+    ensures count { vec_len order.new ≡ vec_len order.old + level_count early kinds.now }
+    ensures room { vec_capacity order.new ≡ vec_capacity order.old }
 {
     for c in 0..kinds.len() {
         if is_level(kinds[c], early) {
-            order.push(c)?;
+            order.push_reserved(c);
         }
     }
-    Ok(())
 }

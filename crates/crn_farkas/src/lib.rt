@@ -4,6 +4,7 @@
 mod cut;
 mod decision;
 mod goal;
+mod laws;
 mod level;
 mod settle;
 mod side;
@@ -16,5 +17,7 @@ mod tests;
 mod view;
 
 pub use decision::Decision;
+pub use laws::decisions_exclude_each_other;
+pub use solver::Solver;
 pub use stop::Stop;
 pub use system::{System, decide};

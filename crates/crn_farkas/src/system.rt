@@ -1,7 +1,7 @@
 ghost use Rattle.std.specs.Prelude.{◌≡◌, ◌≤◌, length, MatchResult};
+ghost use Rattle.crn_vec.specs.Systems.{signed_count};
 ghost use Rattle.crn_vec.specs.Elementary.{width};
 ghost use Rattle.crn_vec.specs.declared.limits.TheConstants.{MAX_SIGNED};
-ghost use Rattle.crn_farkas.specs.Decides.{signed_count};
 ghost use Rattle.crn_farkas.specs.Ends.{IsDecision, IsStop};
 
 use crate::decision::Decision;

@@ -1,9 +1,10 @@
 ghost use Rattle.std.specs.Prelude.{◌≡◌, ◌≤◌, ◌<◌, ◌+◌, IsTrue, length, unsigned_abs, vec_len};
+ghost use Rattle.crn_vec.specs.Systems.{signed_count};
 ghost use Rattle.crn_vec.specs.Vectors.{AreWithin};
-ghost use Rattle.crn_farkas.specs.Decides.{signed_count};
+ghost use Rattle.crn_vec.specs.Elementary.{width};
 
-use crate::{Decision, Stop, System, decide};
-use crn_vec::{Kind, MAX_AMOUNT, MAX_SIGNED, Matrix, agrees};
+use crate::{Decision, Solver, Stop, System, decide, decisions_exclude_each_other};
+use crn_vec::{Ints, Kind, MAX_AMOUNT, MAX_SIGNED, Matrix, agrees};
 use std::alloc::Global;
 use std::process::Abort;
 
@@ -274,6 +275,39 @@ fn networks_are_dependent_and_conservative_by_table(rt: HostRuntime) {
     }
 }
 
+// What a solver answers, where the system is ruled out.
+fn multipliers_of(rt: &impl Abort, alloc: Global, solver: &mut Solver, kinds: &[Kind]) -> Ints
+    requires { length kinds.now ≡ width solver.old.matrix }
+    ensures { solver.new.matrix ≡ solver.old.matrix }
+{
+    assert!(rt; are_few(kinds));
+    match solver.decide(alloc, kinds) {
+        Ok(Decision::Infeasible(u)) => u,
+        _ => panic!(rt; "the system is not ruled out"),
+    }
+}
+
+// Whether there are two numbers, equal and positive.
+fn are_one_to_one(list: &[i128]) -> bool {
+    list.len() == 2 && at(list, 0) > 0 && at(list, 0) == at(list, 1)
+}
+
+#[test]
+fn a_system_asked_again_is_ruled_out_by_the_kept_basis(rt: HostRuntime) {
+    use Kind::{Free, Pos};
+    let matrix = matrix(&rt, rt.alloc(), 2, 2, &[-1, 1, 1, -1]);
+    let kinds = [Free, Free, Pos, Pos];
+    assert_eq!(rt; matrix.cols() + matrix.rows(), 4);
+    let mut solver = Solver::new(rt.alloc(), &matrix).expect(&rt, "memory");
+    let first = multipliers_of(&rt, rt.alloc(), &mut solver, &kinds);
+    assert!(rt; are_one_to_one(first.as_slice()));
+    let before = solver.basis().expect(&rt, "memory");
+    let second = multipliers_of(&rt, rt.alloc(), &mut solver, &kinds);
+    assert!(rt; are_one_to_one(second.as_slice()));
+    let after = solver.basis().expect(&rt, "memory");
+    assert!(rt; before.as_slice() == after.as_slice());
+}
+
 #[test]
 fn chains_of_99_are_decided_or_wide(rt: HostRuntime) {
     let nine = chain(&rt, rt.alloc(), 9, 10);
@@ -348,4 +382,9 @@ fn systems_of_all_kinds_by_table(rt: HostRuntime) {
         let matrix = matrix(&rt, rt.alloc(), rows, cols, entries);
         assert_eq!(rt; end_of(&rt, rt.alloc(), &matrix, kinds), want, "{name}");
     }
+}
+
+#[test]
+fn laws_stand() {
+    decisions_exclude_each_other();
 }

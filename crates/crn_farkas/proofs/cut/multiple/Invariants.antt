@@ -1,5 +1,5 @@
 use Rattle.std.proofs.Common.{◌≡◌, take}
-use Rattle.crn_vec.proofs.Sums.{scale}
+use Rattle.crn_vec.specs.Vectors.{scale}
 use Rattle.crn_farkas.specs.Decides.{factor}
 use Rattle.crn_farkas.proofs.cut.multiple.Given as goal
 
