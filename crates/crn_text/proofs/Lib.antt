@@ -15,3 +15,4 @@ pub mod Complexes
 pub mod Exclusions
 pub mod Spelled
 pub mod Grammar
+pub mod CanonicalWords

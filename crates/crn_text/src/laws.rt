@@ -5,6 +5,7 @@ ghost use Rattle.crn_text.specs.Tokens.{words, before_comment};
 ghost use Rattle.crn_text.specs.Sides.{IsStatementLine};
 ghost use Rattle.crn_text.specs.Faults.{own_fault};
 ghost use Rattle.crn_text.specs.Spells.{Spells, Fault};
+ghost use Rattle.crn_text.specs.Canonical.{CanonicalTextSpells};
 
 /// A text has no two first faults.
 pub fn first_fault_is_one()
@@ -19,4 +20,9 @@ pub fn spelled_text_has_no_fault()
 /// A line that is not wrong by itself has no token, or is a side, an arrow and a side.
 pub fn sound_line_is_a_statement()
     ensures { (line : List ℕ) → own_fault line ≡ None → (words (before_comment line) ≡ []) ⊎ IsStatementLine (words (before_comment line)) }
+{}
+
+/// The canonical text of each network spells that network.
+pub fn canonical_text_spells_its_network()
+    ensures { CanonicalTextSpells }
 {}
