@@ -16,3 +16,4 @@ pub mod Exclusions
 pub mod Spelled
 pub mod Grammar
 pub mod CanonicalWords
+pub mod CanonicalLines
