@@ -52,7 +52,7 @@ all_kept {A} {B} same e E d b (x ∷ xs) front =
 -- ---- complexes are numbered by first appearance in the reactions
 
 -- so many numbers from a on
-abbrev upto : ℕ → ℕ → List ℕ
+abbrev pub upto : ℕ → ℕ → List ℕ
 upto a zero = []
 upto a (suc n) = a ∷ upto (suc a) n
 
@@ -105,7 +105,7 @@ shifted : {B : Type 0} (f : ℕ → B) (a n : ℕ) → map f (upto (suc a) n) �
 shifted f a zero = refl
 shifted {B} f a (suc n) = ap (λ (t : List B). f (suc a) ∷ t) (shifted f (suc a) n)
 
-places_all : {B : Type 0} (xs : List B) (d : B) → map (λ c. get_or xs c d) (upto 0 (length xs)) ≡ xs
+pub places_all : {B : Type 0} (xs : List B) (d : B) → map (λ c. get_or xs c d) (upto 0 (length xs)) ≡ xs
 places_all [] d = refl
 places_all {B} (x ∷ xs) d = ap (λ (t : List B). x ∷ t) (shifted (λ c. get_or (x ∷ xs) c d) 0 (length xs) ∙ places_all xs d)
 
@@ -113,11 +113,18 @@ ends_sides : (net : Net) (rs : List (ℕ × ℕ)) → flat_map both_of (map (sid
 ends_sides net [] = refl
 ends_sides net (r ∷ rs) = ap (λ (t : List (List ℤ)). get_or net.complexes r.0 [] ∷ get_or net.complexes r.1 [] ∷ t) (ends_sides net rs)
 
-ends_below : (count : ℕ) (rs : List (ℕ × ℕ)) → AllByRecursion (JoinsTwo count) rs → (c : ℕ) → IsIn c (ends rs) → c < count
+pub ends_below : (count : ℕ) (rs : List (ℕ × ℕ)) → AllByRecursion (JoinsTwo count) rs → (c : ℕ) → IsIn c (ends rs) → c < count
 ends_below count [] h c i = absurd i
 ends_below count (r ∷ rs) h c (inl e) = let k = h.0.1 in omega (arith, e, k)
 ends_below count (r ∷ rs) h c (inr (inl e)) = let k = h.0.2 in omega (arith, e, k)
 ends_below count (r ∷ rs) h c (inr (inr i)) = ends_below count rs h.1 c i
+
+-- numbers that come in order, below a count that they reach, are those from 0 on
+pub numbers_are : (count : ℕ) (es : List ℕ) → IsNumberedInOrder 0 es → ((c : ℕ) → c < count → IsIn c es) → ((y : ℕ) → IsIn y es → y < count) → firsts eqb es ≡ upto 0 count
+numbers_are count es h reached below = sym (all_above (firsts eqb es)) ∙ numbers_from 0 count es h (λ c lt le. reached c lt) below ∙ ap (upto 0) (let e : count - 0 ≡ count = omega arith in e)
+
+pub ends_are : (net : Net) → IsPartialNetwork net → firsts eqb (ends net.reactions) ≡ upto 0 (length net.complexes)
+ends_are net h = numbers_are (length net.complexes) (ends net.reactions) (appears_in_order (ends net.reactions) h.numbered) h.each_in_a_reaction (ends_below (length net.complexes) net.reactions h.apart)
 
 pub complexes_are : (net : Net) → IsPartialNetwork net → firsts (pointwise int_eq) (flat_map both_of (map (sides_of net) net.reactions)) ≡ net.complexes
 complexes_are net h =
@@ -125,9 +132,7 @@ complexes_are net h =
     let below = ends_below (length net.complexes) net.reactions h.apart in
     let test : (a b : ℕ) → IsIn a (ends net.reactions) → IsIn b (ends net.reactions) → pointwise int_eq (at a) (at b) ≡ eqb a b = λ a b i j.
     same_test (pointwise int_eq (at a) (at b)) (eqb a b) (at a ≡ at b) (a ≡ b) (row_decides (at b) (at a)) (Decides-eqb a b) (λ e. same_place net.complexes a b [] h.complexes (below a i) (below b j) e) (ap at) in
-    let numbers : firsts eqb (ends net.reactions) ≡ upto 0 (length net.complexes) =
-    sym (all_above (firsts eqb (ends net.reactions))) ∙ numbers_from 0 (length net.complexes) (ends net.reactions) (appears_in_order (ends net.reactions) h.numbered) (λ c lt le. h.each_in_a_reaction c lt) below ∙ ap (upto 0) (let e : length net.complexes - 0 ≡ length net.complexes = omega arith in e) in
-    ap (firsts (pointwise int_eq)) (ends_sides net net.reactions) ∙ firsts_map eqb (pointwise int_eq) at (ends net.reactions) test ∙ ap (map at) numbers ∙ places_all net.complexes []
+    ap (firsts (pointwise int_eq)) (ends_sides net net.reactions) ∙ firsts_map eqb (pointwise int_eq) at (ends net.reactions) test ∙ ap (map at) (ends_are net h) ∙ places_all net.complexes []
 
 -- ---- with one statement more
 

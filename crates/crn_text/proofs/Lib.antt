@@ -17,3 +17,5 @@ pub mod Spelled
 pub mod Grammar
 pub mod CanonicalWords
 pub mod CanonicalLines
+pub mod CanonicalNames
+pub mod CanonicalSpelled
