@@ -19,3 +19,5 @@ pub mod CanonicalWords
 pub mod CanonicalLines
 pub mod CanonicalNames
 pub mod CanonicalSpelled
+pub mod Sayings
+pub mod Judged
