@@ -1,9 +1,8 @@
 -- The species of a network appear in its canonical text in their order.
-use Rattle.std.proofs.Common.{◌≡◌, ◌⊎◌, ℕ, zero, suc, ◌+◌, ◌<◌, ◌≤◌, Bool, List, [], ◌∷◌, ◌++◌, length, map, get_or, eqb, refl, sym, ap, ap₂, subst, ◌∙◌, append_assoc, add-one, inl, inr, arith}
+use Rattle.std.proofs.Common.{◌≡◌, ◌⊎◌, ℕ, zero, suc, ◌+◌, ◌<◌, ◌≤◌, List, [], ◌∷◌, ◌++◌, length, map, get_or, eqb, refl, sym, ap, ap₂, subst, ◌∙◌, append_assoc, add-one, inl, inr, arith}
 use Rattle.std.specs.Prelude.{ℤ, pos, negsuc, ◌≤ℤ◌}
 use Rattle.std.specs.List.{flat_map}
 use Rattle.std.specs.Str.{bytes_eq}
-use Rattle.std.specs.Bool.{Decides}
 use Rattle.std.proofs.lemmas.Bool.{cases_lt}
 use Rattle.std.proofs.lemmas.Bool.Decides.{Decides-eqb}
 use Rattle.std.proofs.lemmas.Int.{ints}
@@ -11,12 +10,12 @@ use Rattle.std.proofs.lemmas.List.{map-append, length_push}
 use Rattle.std.proofs.lemmas.Slice.Eq.{bytes_eq-Decides}
 use Rattle.std.proofs.Math.Seq.{get_or-append_seam}
 use Rattle.crn_vec.specs.Lists.{IsIn, firsts}
-use Rattle.crn_vec.specs.Network.{Net, IsPartialNetwork, IsVector, IsHeldBefore, Holds, ends, names_in}
-use Rattle.crn_vec.proofs.Appearance.{IsNumberedInOrder}
+use Rattle.crn_vec.specs.Network.{Net, IsPartialNetwork, IsVector, IsHeldBefore, Holds, ends}
 use Rattle.crn_net.proofs.Firsts.{firsts_map}
-use Rattle.crn_net.proofs.Lists.{all_at, in_left, in_right, in_cases, same_place}
+use Rattle.crn_net.proofs.Lists.{all_at, same_place}
 use Rattle.crn_net.proofs.Rows.{same_test}
 use Rattle.crn_text.proofs.Complexes.{all_kept, upto, places_all, ends_are, numbers_are}
+use Rattle.crn_text.proofs.Numbering.{AreAfter, known_or_first, after_known, after_append, in_order, in_flat, of_flat, in_upto, of_upto}
 
 -- ---- what a complex holds
 
@@ -67,33 +66,7 @@ names_of_held front (x ∷ names) (pos zero ∷ v) e = names_behind front x name
 names_of_held front (x ∷ names) (negsuc n ∷ v) e = names_behind front x names v (omega (arith, e)) (names_of_held (front ++ x ∷ []) names v (omega (arith, e)))
 names_of_held front (x ∷ names) (pos (suc n) ∷ v) e = ap₂ (λ (t : List ℕ) (ts : List (List ℕ)). t ∷ ts) (sym (get_or-append_seam front x names [])) (names_behind front x names v (omega (arith, e)) (names_of_held (front ++ x ∷ []) names v (omega (arith, e))))
 
--- ---- each number behind the smaller ones
-
--- before each number each smaller one has stood, or is known
-abbrev AreAfter : (ℕ → Type 0) → List ℕ → Type 0
-AreAfter P [] = Unit {0}
-AreAfter P (y ∷ ys) = ((k : ℕ) → k < y → P k) × AreAfter (λ k. P k ⊎ (k ≡ y)) ys
-
-with_more : (P Q : ℕ → Type 0) (y : ℕ) → ((k : ℕ) → P k → Q k) → (k : ℕ) → P k ⊎ (k ≡ y) → Q k ⊎ (k ≡ y)
-with_more P Q y w k (inl p) = inl (w k p)
-with_more P Q y w k (inr e) = inr e
-
-after_known : (P Q : ℕ → Type 0) (ys : List ℕ) → ((k : ℕ) → P k → Q k) → AreAfter P ys → AreAfter Q ys
-after_known P Q [] w h = tt
-after_known P Q (y ∷ ys) w h = (λ k lt. w k (h.0 k lt), after_known (λ k. P k ⊎ (k ≡ y)) (λ k. Q k ⊎ (k ≡ y)) ys (with_more P Q y w) h.1)
-
-known_or_none : (P : ℕ → Type 0) (k : ℕ) → P k ⊎ IsIn k [] → P k
-known_or_none P k (inl p) = p
-known_or_none P k (inr i) = absurd i
-
-known_or_first : (P : ℕ → Type 0) (x : ℕ) (xs : List ℕ) (k : ℕ) → P k ⊎ IsIn k (x ∷ xs) → (P k ⊎ (k ≡ x)) ⊎ IsIn k xs
-known_or_first P x xs k (inl p) = inl (inl p)
-known_or_first P x xs k (inr (inl e)) = inl (inr e)
-known_or_first P x xs k (inr (inr i)) = inr i
-
-after_append : (P : ℕ → Type 0) (xs ys : List ℕ) → AreAfter P xs → AreAfter (λ k. P k ⊎ IsIn k xs) ys → AreAfter P (xs ++ ys)
-after_append P [] ys h g = after_known (λ k. P k ⊎ IsIn k []) P ys (known_or_none P) g
-after_append P (x ∷ xs) ys h g = (h.0, after_append (λ k. P k ⊎ (k ≡ x)) xs ys h.1 (after_known (λ k. P k ⊎ IsIn k (x ∷ xs)) (λ k. (P k ⊎ (k ≡ x)) ⊎ IsIn k xs) ys (known_or_first P x xs) g))
+-- ---- complexes one after another
 
 after_held : (P : ℕ → Type 0) (s : ℕ) (v : List ℤ) → ((t k : ℕ) → IsIn t (held_from s v) → k < t → P k ⊎ IsIn k (held_from s v)) → AreAfter P (held_from s v)
 after_held P s [] h = tt
@@ -103,42 +76,6 @@ after_held P s (pos (suc n) ∷ v) h = (
   λ k lt. elim (h s k (inl refl) lt) [ inl p ↦ p | inr i ↦ absurd (let p = held_at s (pos (suc n) ∷ v) k i in omega (arith, p.1)) ],
   after_held (λ k. P k ⊎ (k ≡ s)) (suc s) v (λ t k i lt. known_or_first P s (held_from (suc s) v) k (h t k (inr i) lt)),
 )
-
-in_order : (P : ℕ → Type 0) (next : ℕ) (ys : List ℕ) → ((k : ℕ) → P k → k < next) → AreAfter P ys → IsNumberedInOrder next ys
-in_order P next [] below h = tt
-in_order P next (y ∷ ys) below h = elim (cases_lt y next) [
-  | inl known ↦ inl (known, in_order (λ k. P k ⊎ (k ≡ y)) next ys (λ k p. elim p [ inl q ↦ below k q | inr e ↦ omega (arith, e) ]) h.1)
-  | inr least ↦ elim (cases_lt next y) [
-    | inl less ↦ absurd (let none = below next (h.0 next less) in omega arith)
-    | inr most ↦ let is : y ≡ next = omega arith in inr (is, in_order (λ k. P k ⊎ (k ≡ y)) (suc next) ys (λ k p. elim p [ inl q ↦ let less = below k q in omega arith | inr e ↦ omega (arith, e) ]) h.1)
-  ]
-]
-
--- ---- complexes one after another
-
-in_flat : (h : ℕ → List ℕ) (cs : List ℕ) (c k : ℕ) → IsIn c cs → IsIn k (h c) → IsIn k (flat_map h cs)
-in_flat h [] c k i j = absurd i
-in_flat h (x ∷ cs) c k (inl e) j = in_left k (h x) (flat_map h cs) (subst (λ (u : ℕ). IsIn k (h u)) e j)
-in_flat h (x ∷ cs) c k (inr i) j = in_right k (h x) (flat_map h cs) (in_flat h cs c k i j)
-
-of_flat : (h : ℕ → List ℕ) (cs : List ℕ) (k : ℕ) → IsIn k (flat_map h cs) → (c : ℕ) × IsIn c cs × IsIn k (h c)
-of_flat h [] k i = absurd i
-of_flat h (x ∷ cs) k i = elim (in_cases k (h x) (flat_map h cs) i) [
-  | inl j ↦ (x, inl refl, j)
-  | inr j ↦ let p = of_flat h cs k j in (p.0, inr p.1, p.2)
-]
-
-in_upto : (a n c : ℕ) → a ≤ c → c < a + n → IsIn c (upto a n)
-in_upto a zero c le lt = absurd (omega arith)
-in_upto a (suc n) c le lt = elim (cases_lt a c) [
-  | inl less ↦ inr (in_upto (suc a) n c (omega arith) (omega arith))
-  | inr same ↦ inl (omega arith)
-]
-
-of_upto : (a n c : ℕ) → IsIn c (upto a n) → c < a + n
-of_upto a zero c i = absurd i
-of_upto a (suc n) c (inl e) = omega (arith, e)
-of_upto a (suc n) c (inr i) = let p = of_upto (suc a) n c i in omega (arith, p)
 
 -- the numbers of the species that complex c holds
 abbrev pub species_of : Net → ℕ → List ℕ

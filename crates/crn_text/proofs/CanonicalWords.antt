@@ -1,8 +1,8 @@
 -- The tokens of the terms, sides and lines that the canonical text writes.
-use Rattle.std.proofs.Common.{◌≡◌, ℕ, zero, suc, ◌+◌, ◌*◌, ◌-◌, ◌/◌, ◌%◌, ◌^◌, ◌<◌, ◌≤◌, Bool, true, false, eqb, List, [], ◌∷◌, ◌++◌, length, take, drop, get_or, map, refl, sym, ap, ap₂, ◌∙◌, append_assoc, inl, inr, arith}
-use Rattle.std.specs.Prelude.{codes, decimal, not, ◌&&◌, ◌||◌, ℤ, pos}
-use Rattle.std.specs.List.{AllByRecursion, flat_map, list_all, list_any, prefix_len}
-use Rattle.std.proofs.lemmas.Bool.{cases_Bool, and_parts}
+use Rattle.std.proofs.Common.{◌≡◌, ℕ, zero, suc, ◌+◌, ◌/◌, ◌%◌, ◌<◌, ◌≤◌, Bool, true, false, List, [], ◌∷◌, ◌++◌, length, take, drop, get_or, map, refl, sym, ap, ap₂, ◌∙◌, append_assoc, arith}
+use Rattle.std.specs.Prelude.{codes, decimal, not, pos}
+use Rattle.std.specs.List.{AllByRecursion, flat_map, list_all, prefix_len}
+use Rattle.std.proofs.lemmas.Bool.{and_parts, not-true}
 use Rattle.std.proofs.Math.Seq.{take-append_seam, drop-append_seam}
 use Rattle.std.proofs.lemmas.Bool.Decides.{nat_tests}
 use Rattle.std.proofs.lemmas.Fmt.{decimal_by_steps}
@@ -11,7 +11,7 @@ use Rattle.std.proofs.lemmas.List.Folds.{list_all-append}
 use Rattle.crn_vec.specs.Network.{is_letter, is_name_byte, begins_name, IsName}
 use Rattle.crn_vec.specs.declared.limits.TheConstants.{MAX_AMOUNT}
 use Rattle.crn_text.specs.Tokens.{Word, word, words, words_behind, first_word, is_digit, is_blank}
-use Rattle.crn_text.specs.Sides.{number_of, number_from}
+use Rattle.crn_text.specs.Sides.{number_of}
 use Rattle.crn_text.specs.Canonical.{term, or_zero}
 use Rattle.crn_text.specs.Pieces.{Begins}
 use Rattle.crn_text.specs.declared.token.Kind.{Kind}
@@ -27,13 +27,9 @@ abbrev pub stops : {X : Type 0} → (X → Bool) → List X → Bool
 stops p [] = true
 stops p (x ∷ xs) = not (p x)
 
-not_true : (b : Bool) → not b ≡ true → b ≡ false
-not_true true h = absurd cc
-not_true false h = refl
-
 prefix_is : {X : Type 0} (p : X → Bool) (xs rest : List X) → list_all p xs ≡ true → stops p rest ≡ true → prefix_len p (xs ++ rest) ≡ length xs
 prefix_is p [] [] h s = refl
-prefix_is p [] (y ∷ rest) h s = rw (not_true (p y) s) refl
+prefix_is p [] (y ∷ rest) h s = rw (not-true (p y) s) refl
 prefix_is p (x ∷ xs) rest h s = let a = and_parts (p x) (list_all p xs) h in rw (a.0, one_more) (ap suc (prefix_is p xs rest a.1 s))
 
 token_front : (p : ℕ → Bool) (kind : Kind) (xs rest : List ℕ) → list_all p xs ≡ true → stops p rest ≡ true → is_blank (get_or (xs ++ rest) 0 0) ≡ false → Begins (xs ++ rest) kind (prefix_len p (xs ++ rest)) → words (xs ++ rest) ≡ word kind xs ∷ words rest
@@ -171,7 +167,7 @@ digit_in_name b h = grind (arith, nat_tests)
 
 stops_digit : (rest : List ℕ) → stops is_name_byte rest ≡ true → stops is_digit rest ≡ true
 stops_digit [] h = refl
-stops_digit (b ∷ rest) h = rw (digit_in_name b (not_true (is_name_byte b) h)) refl
+stops_digit (b ∷ rest) h = rw (digit_in_name b (not-true (is_name_byte b) h)) refl
 
 pub words_side : (ts : List (List ℕ × ℕ)) (rest : List ℕ) → AllByRecursion IsGood ts → stops is_name_byte rest ≡ true → words (side_text ts ++ rest) ≡ side_words ts ++ words rest
 words_side [] rest g stop = words_number (codes "0") rest refl (omega arith) (stops_digit rest stop)

@@ -6,7 +6,7 @@ use Rattle.std.specs.Ordering.{int_eq}
 use Rattle.std.specs.Cmp.Lexicographic.{pointwise}
 use Rattle.std.specs.Bool.{Decides}
 use Rattle.std.proofs.lemmas.Bool.Decides.{Decides-eqb}
-use Rattle.std.proofs.lemmas.Bool.{cases_Bool, cases_lt, eqb-true, eqb-false, leb-true, leb-false, le-leb, lt-leb}
+use Rattle.std.proofs.lemmas.Bool.{cases_Bool, cases_lt, eqb-true, eqb-false, leb-true, leb-false, le-leb, lt-leb, not-false}
 use Rattle.std.proofs.lemmas.List.{append-nil}
 use Rattle.crn_vec.specs.Lists.{IsIn, firsts}
 use Rattle.crn_vec.proofs.Appearance.{IsNumberedInOrder, appears_in_order}
@@ -37,15 +37,11 @@ kept E d b q (y ∷ ys) front h =
       | inr n ↦ rw n (kept E d b q ys front h ∙ sym (known_drop E d front (b y) (flat_map b ys) (h y n)) ∙ ap (firsts E) (append_assoc front (b y) (flat_map b ys)))
     ]
 
-not_false : (b : Bool) → not b ≡ false → b ≡ true
-not_false true h = refl
-not_false false h = absurd cc
-
 pub all_kept : {A B : Type 0} (same : A → A → Bool) (e : (a b : A) → Decides (same a b) (a ≡ b)) (E : B → B → Bool) (d : (a b : B) → Decides (E a b) (a ≡ b)) (b : A → List B) (xs : List A) (front : List B) → firsts E (front ++ flat_map b (firsts same xs)) ≡ firsts E (front ++ flat_map b xs)
 all_kept same e E d b [] front = refl
 all_kept {A} {B} same e E d b (x ∷ xs) front =
     ap (firsts E) (sym (append_assoc front (b x) (flat_map b (filter (λ y. not (same x y)) (firsts same xs)))))
-    ∙ kept E d b (λ y. not (same x y)) (firsts same xs) (front ++ b x) (λ y n z i. in_right z front (b x) (subst (λ (u : A). IsIn z (b u)) (sym ((e x y).0 (not_false (same x y) n))) i))
+    ∙ kept E d b (λ y. not (same x y)) (firsts same xs) (front ++ b x) (λ y n z i. in_right z front (b x) (subst (λ (u : A). IsIn z (b u)) (sym ((e x y).0 (not-false (same x y) n))) i))
     ∙ all_kept same e E d b xs (front ++ b x)
     ∙ ap (firsts E) (append_assoc front (b x) (flat_map b xs))
 

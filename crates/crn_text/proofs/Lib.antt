@@ -16,8 +16,12 @@ pub mod Exclusions
 pub mod Spelled
 pub mod Grammar
 pub mod CanonicalWords
+pub mod CanonicalSides
 pub mod CanonicalLines
+pub mod Numbering
 pub mod CanonicalNames
+pub mod CanonicalAmounts
 pub mod CanonicalSpelled
 pub mod Sayings
+pub mod Tables
 pub mod Judged

@@ -1,21 +1,22 @@
 -- What a line that is not wrong by itself says: names with numbers, within the limits.
-use Rattle.std.proofs.Common.{◌≡◌, ℕ, zero, suc, ◌+◌, ◌-◌, ◌<◌, ◌≤◌, Bool, true, false, cond, eqb, List, [], ◌∷◌, ◌++◌, None, length, map, refl, sym, ap, subst, ◌∙◌, inl, inr, arith}
-use Rattle.std.specs.Prelude.{codes, nat_eq, nat_lt, not, ◌&&◌, ◌||◌}
+use Rattle.std.proofs.Common.{◌≡◌, ℕ, zero, suc, ◌-◌, ◌≤◌, Bool, true, false, cond, eqb, List, [], ◌∷◌, None, length, map, refl, sym, ap, subst, ◌∙◌, inl, inr, arith}
+use Rattle.std.specs.Prelude.{codes, nat_eq, nat_lt, not, ◌||◌}
 use Rattle.std.specs.List.{AllByRecursion, list_any, list_all, starts_with, slice_split, onto_first, count_by}
 use Rattle.std.specs.Str.{bytes_eq}
-use Rattle.std.proofs.lemmas.Bool.{cases_Bool, and_parts, or_parts, ltb-false, eqb-false}
+use Rattle.std.proofs.lemmas.Bool.{cases_Bool, and_parts, or_parts, ltb-false, eqb-false, not-false}
 use Rattle.std.proofs.lemmas.List.Sums.{sum_by-cons}
 use Rattle.std.proofs.lemmas.Slice.Eq.{bytes_eq-Decides}
 use Rattle.crn_vec.specs.Lists.{IsIn}
-use Rattle.crn_vec.specs.Network.{Statement, is_letter, begins_name, IsName, amount_in}
+use Rattle.crn_vec.specs.Network.{is_letter, begins_name, IsName, amount_in}
 use Rattle.crn_vec.specs.declared.limits.TheConstants.{MAX_AMOUNT, MAX_NAME}
 use Rattle.crn_net.proofs.Amounts.{has_name, none_said}
 use Rattle.crn_net.proofs.Lists.{in_map, all_in}
 use Rattle.crn_net.proofs.Species.{IsSaid}
 use Rattle.crn_text.specs.Tokens.{Word, words, words_behind, first_word, before_comment, is_digit, is_blank}
-use Rattle.crn_text.specs.Sides.{is_arrow, is_both, is_stray, is_name, is_name_kind, is_number, is_plus, is_term, is_side, is_zero, term_of, terms_of, places, sides, joined, by_arrow, statements_of, said}
-use Rattle.crn_text.specs.Faults.{is_empty, is_plain, has_empty_place, has_long_name, has_zero, has_large, terms_fault, sides_fault, words_fault, own_fault}
+use Rattle.crn_text.specs.Sides.{is_arrow, is_both, is_stray, is_name, is_number, is_plus, is_term, is_side, is_zero, term_of, terms_of, places, sides, joined, statements_of, said}
+use Rattle.crn_text.specs.Faults.{is_empty, is_plain, has_empty_place, has_long_name, has_zero, has_large, sides_fault, words_fault, own_fault}
 use Rattle.crn_text.specs.declared.token.Kind.TheVariants.{Name}
+use Rattle.crn_text.proofs.Grammar.{none_of}
 use Rattle.crn_text.proofs.Words.{begins_with_name, begins_named}
 
 -- ---- tokens of the kind of names begin as names
@@ -88,10 +89,6 @@ side_named ws h s =
       | inr n ↦ rw n (terms_named (places ws) (split_all IsNamed is_plus ws h) (rw n at s))
     ]
 
-not_false : (b : Bool) → not b ≡ false → b ≡ true
-not_false true h = refl
-not_false false h = absurd cc
-
 -- ---- names and numbers within the limits
 
 -- what a side that passes the tests says
@@ -148,7 +145,7 @@ all_said_sides (w ∷ ss) h s l z m =
     let b = or_parts (has_long_name (terms_of w)) (list_any has_long_name (map terms_of ss)) l in
     let c = or_parts (has_zero (terms_of w)) (list_any has_zero (map terms_of ss)) z in
     let d = or_parts (has_large (terms_of w)) (list_any has_large (map terms_of ss)) m in
-    (side_said (terms_of w) (fine_terms (terms_of w) (terms_of w) (side_named w h.0 (not_false (is_side w) a.0)) b.0 c.0 d.0), all_said_sides ss h.1 a.1 b.1 c.1 d.1)
+    (side_said (terms_of w) (fine_terms (terms_of w) (terms_of w) (side_named w h.0 (not-false (is_side w) a.0)) b.0 c.0 d.0), all_said_sides ss h.1 a.1 b.1 c.1 d.1)
 
 sides_said : (ss : List (List Word)) → AllByRecursion (AllByRecursion IsNamed) ss → sides_fault ss ≡ None → AllByRecursion IsSaidSide (map terms_of ss)
 sides_said ss h f =
@@ -178,10 +175,6 @@ statements_said both (x ∷ []) h = tt
 statements_said true (x ∷ y ∷ []) h = (said_both x y h.0 h.1.0, (said_both y x h.1.0 h.0, tt))
 statements_said false (x ∷ y ∷ []) h = (said_both x y h.0 h.1.0, tt)
 statements_said both (x ∷ y ∷ z ∷ more) h = tt
-
-none_of : (ws : List Word) → is_empty ws ≡ true → ws ≡ []
-none_of [] h = refl
-none_of (w ∷ ws) h = absurd cc
 
 words_said : (ws : List Word) → AllByRecursion IsNamed ws → words_fault ws ≡ None → AllByRecursion IsSaid (statements_of ws)
 words_said ws h f =
