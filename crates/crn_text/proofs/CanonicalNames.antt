@@ -27,7 +27,7 @@ held (name ∷ names) [] = []
 held [] v = []
 
 -- the numbers of those species, where the first is number s
-abbrev pub held_from : ℕ → List ℤ → List ℕ
+abbrev held_from : ℕ → List ℤ → List ℕ
 held_from s (pos (suc n) ∷ v) = s ∷ held_from (suc s) v
 held_from s (a ∷ v) = held_from (suc s) v
 held_from s [] = []
@@ -78,7 +78,7 @@ after_held P s (pos (suc n) ∷ v) h = (
 )
 
 -- the numbers of the species that complex c holds
-abbrev pub species_of : Net → ℕ → List ℕ
+abbrev species_of : Net → ℕ → List ℕ
 species_of net c = held_from 0 (get_or net.complexes c [])
 
 before_or_here : (net : Net) (c k : ℕ) → IsHeldBefore net (suc c) k → IsHeldBefore net c k ⊎ IsIn k (species_of net c)

@@ -23,7 +23,7 @@ use Rattle.crn_text.proofs.Words.{begins_number, begins_with_name, words_token}
 -- ---- a token and what stands behind it
 
 -- the list is empty, or its first element fails the test
-abbrev pub stops : {X : Type 0} → (X → Bool) → List X → Bool
+abbrev stops : {X : Type 0} → (X → Bool) → List X → Bool
 stops p [] = true
 stops p (x ∷ xs) = not (p x)
 
@@ -49,7 +49,7 @@ letter_no_blank b h = grind (arith, nat_tests)
 letter_no_digit : (b : ℕ) → is_letter b ≡ true → is_digit b ≡ false
 letter_no_digit b h = grind (arith, nat_tests)
 
-pub words_number : (ds rest : List ℕ) → list_all is_digit ds ≡ true → 0 < length ds → stops is_digit rest ≡ true → words (ds ++ rest) ≡ word Number ds ∷ words rest
+words_number : (ds rest : List ℕ) → list_all is_digit ds ≡ true → 0 < length ds → stops is_digit rest ≡ true → words (ds ++ rest) ≡ word Number ds ∷ words rest
 words_number [] rest all some stop = absurd (omega arith)
 words_number (d ∷ ds) rest all some stop =
     let first : is_digit d ≡ true = (and_parts (is_digit d) (list_all is_digit ds) all).0 in
@@ -62,17 +62,17 @@ pub name_bytes : (name : List ℕ) → begins_name name ≡ true → list_all is
 name_bytes [] h = refl
 name_bytes (b ∷ bs) h = let a = and_parts (is_letter b) (list_all is_name_byte bs) h in rw (letter_in_name b a.0) a.1
 
-pub words_name : (name rest : List ℕ) → begins_name name ≡ true → stops is_name_byte rest ≡ true → words (name ++ rest) ≡ word Name name ∷ words rest
+words_name : (name rest : List ℕ) → begins_name name ≡ true → stops is_name_byte rest ≡ true → words (name ++ rest) ≡ word Name name ∷ words rest
 words_name [] rest h stop = absurd cc
 words_name (b ∷ bs) rest h stop =
     let first : is_letter b ≡ true = (and_parts (is_letter b) (list_all is_name_byte bs) h).0 in
     token_front is_name_byte Name (b ∷ bs) rest (name_bytes (b ∷ bs) h) stop (letter_no_blank b first) (begins_with_name ((b ∷ bs) ++ rest) (omega arith) (letter_no_digit b first) first)
 
-pub words_plus : (rest : List ℕ) → words (codes " + " ++ rest) ≡ word Plus (codes "+") ∷ words rest
+words_plus : (rest : List ℕ) → words (codes " + " ++ rest) ≡ word Plus (codes "+") ∷ words rest
 unfolding words_behind first_word
 words_plus rest = refl
 
-pub words_arrow : (rest : List ℕ) → words (codes " -> " ++ rest) ≡ word Arrow (codes "->") ∷ words rest
+words_arrow : (rest : List ℕ) → words (codes " -> " ++ rest) ≡ word Arrow (codes "->") ∷ words rest
 unfolding words_behind first_word
 words_arrow rest = refl
 
@@ -132,7 +132,7 @@ words_of_term name (suc (suc n)) rest h some few stop =
     ∙ words_number (decimal (suc (suc n))) (name ++ rest) d.digits d.some (name_stops name rest h)
     ∙ ap (λ (t : List Word). word Number (decimal (suc (suc n))) ∷ t) (words_name name rest h stop)
 
-pub words_term : (t : List ℕ × ℕ) (rest : List ℕ) → IsGood t → stops is_name_byte rest ≡ true → words (term_text t ++ rest) ≡ term_words t ++ words rest
+words_term : (t : List ℕ × ℕ) (rest : List ℕ) → IsGood t → stops is_name_byte rest ≡ true → words (term_text t ++ rest) ≡ term_words t ++ words rest
 words_term t rest g stop = words_of_term t.0 t.1 rest g.name.0 g.some g.few stop ∙ sym (append_assoc (number_words t.1) (word Name t.0 ∷ []) (words rest))
 
 -- ---- the tokens of sides
@@ -169,7 +169,7 @@ stops_digit : (rest : List ℕ) → stops is_name_byte rest ≡ true → stops i
 stops_digit [] h = refl
 stops_digit (b ∷ rest) h = rw (digit_in_name b (not-true (is_name_byte b) h)) refl
 
-pub words_side : (ts : List (List ℕ × ℕ)) (rest : List ℕ) → AllByRecursion IsGood ts → stops is_name_byte rest ≡ true → words (side_text ts ++ rest) ≡ side_words ts ++ words rest
+words_side : (ts : List (List ℕ × ℕ)) (rest : List ℕ) → AllByRecursion IsGood ts → stops is_name_byte rest ≡ true → words (side_text ts ++ rest) ≡ side_words ts ++ words rest
 words_side [] rest g stop = words_number (codes "0") rest refl (omega arith) (stops_digit rest stop)
 words_side (t ∷ ts) rest g stop =
     ap words (append_assoc (term_text t) (tail_text ts) rest)

@@ -109,7 +109,7 @@ ends_sides : (net : Net) (rs : List (ℕ × ℕ)) → flat_map both_of (map (sid
 ends_sides net [] = refl
 ends_sides net (r ∷ rs) = ap (λ (t : List (List ℤ)). get_or net.complexes r.0 [] ∷ get_or net.complexes r.1 [] ∷ t) (ends_sides net rs)
 
-pub ends_below : (count : ℕ) (rs : List (ℕ × ℕ)) → AllByRecursion (JoinsTwo count) rs → (c : ℕ) → IsIn c (ends rs) → c < count
+ends_below : (count : ℕ) (rs : List (ℕ × ℕ)) → AllByRecursion (JoinsTwo count) rs → (c : ℕ) → IsIn c (ends rs) → c < count
 ends_below count [] h c i = absurd i
 ends_below count (r ∷ rs) h c (inl e) = let k = h.0.1 in omega (arith, e, k)
 ends_below count (r ∷ rs) h c (inr (inl e)) = let k = h.0.2 in omega (arith, e, k)

@@ -92,9 +92,9 @@ side_named ws h s =
 -- ---- names and numbers within the limits
 
 -- what a side that passes the tests says
-pub record IsSaidSide (ts : List (List ℕ × ℕ)) : Type 0 where
-  pub each : (name : List ℕ) → IsIn name (map (λ t. t.0) ts) → IsName name × (1 ≤ amount_in ts name)
-  pub most : (name : List ℕ) → amount_in ts name ≤ MAX_AMOUNT
+record IsSaidSide (ts : List (List ℕ × ℕ)) : Type 0 where
+  each : (name : List ℕ) → IsIn name (map (λ t. t.0) ts) → IsName name × (1 ≤ amount_in ts name)
+  most : (name : List ℕ) → amount_in ts name ≤ MAX_AMOUNT
 
 counted : (ts : List (List ℕ × ℕ)) (t : List ℕ × ℕ) → IsIn t ts → t.1 ≤ amount_in ts t.0
 counted [] t i = absurd i
