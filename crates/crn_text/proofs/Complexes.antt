@@ -6,7 +6,7 @@ use Rattle.std.specs.Ordering.{int_eq}
 use Rattle.std.specs.Cmp.Lexicographic.{pointwise}
 use Rattle.std.specs.Bool.{Decides}
 use Rattle.std.proofs.lemmas.Bool.Decides.{Decides-eqb}
-use Rattle.std.proofs.lemmas.Bool.{cases_Bool, cases_lt, eqb-true, eqb-false, leb-true, leb-false, le-leb, lt-leb}
+use Rattle.std.proofs.lemmas.Bool.{cases_Bool, cases_lt, eqb-true, eqb-false, leb-true, leb-false, le-leb, lt-leb, not-false}
 use Rattle.std.proofs.lemmas.List.{append-nil}
 use Rattle.crn_vec.specs.Lists.{IsIn, firsts}
 use Rattle.crn_vec.proofs.Appearance.{IsNumberedInOrder, appears_in_order}
@@ -37,22 +37,18 @@ kept E d b q (y ∷ ys) front h =
       | inr n ↦ rw n (kept E d b q ys front h ∙ sym (known_drop E d front (b y) (flat_map b ys) (h y n)) ∙ ap (firsts E) (append_assoc front (b y) (flat_map b ys)))
     ]
 
-not_false : (b : Bool) → not b ≡ false → b ≡ true
-not_false true h = refl
-not_false false h = absurd cc
-
 pub all_kept : {A B : Type 0} (same : A → A → Bool) (e : (a b : A) → Decides (same a b) (a ≡ b)) (E : B → B → Bool) (d : (a b : B) → Decides (E a b) (a ≡ b)) (b : A → List B) (xs : List A) (front : List B) → firsts E (front ++ flat_map b (firsts same xs)) ≡ firsts E (front ++ flat_map b xs)
 all_kept same e E d b [] front = refl
 all_kept {A} {B} same e E d b (x ∷ xs) front =
     ap (firsts E) (sym (append_assoc front (b x) (flat_map b (filter (λ y. not (same x y)) (firsts same xs)))))
-    ∙ kept E d b (λ y. not (same x y)) (firsts same xs) (front ++ b x) (λ y n z i. in_right z front (b x) (subst (λ (u : A). IsIn z (b u)) (sym ((e x y).0 (not_false (same x y) n))) i))
+    ∙ kept E d b (λ y. not (same x y)) (firsts same xs) (front ++ b x) (λ y n z i. in_right z front (b x) (subst (λ (u : A). IsIn z (b u)) (sym ((e x y).0 (not-false (same x y) n))) i))
     ∙ all_kept same e E d b xs (front ++ b x)
     ∙ ap (firsts E) (append_assoc front (b x) (flat_map b xs))
 
 -- ---- complexes are numbered by first appearance in the reactions
 
 -- so many numbers from a on
-abbrev upto : ℕ → ℕ → List ℕ
+abbrev pub upto : ℕ → ℕ → List ℕ
 upto a zero = []
 upto a (suc n) = a ∷ upto (suc a) n
 
@@ -105,7 +101,7 @@ shifted : {B : Type 0} (f : ℕ → B) (a n : ℕ) → map f (upto (suc a) n) �
 shifted f a zero = refl
 shifted {B} f a (suc n) = ap (λ (t : List B). f (suc a) ∷ t) (shifted f (suc a) n)
 
-places_all : {B : Type 0} (xs : List B) (d : B) → map (λ c. get_or xs c d) (upto 0 (length xs)) ≡ xs
+pub places_all : {B : Type 0} (xs : List B) (d : B) → map (λ c. get_or xs c d) (upto 0 (length xs)) ≡ xs
 places_all [] d = refl
 places_all {B} (x ∷ xs) d = ap (λ (t : List B). x ∷ t) (shifted (λ c. get_or (x ∷ xs) c d) 0 (length xs) ∙ places_all xs d)
 
@@ -119,15 +115,20 @@ ends_below count (r ∷ rs) h c (inl e) = let k = h.0.1 in omega (arith, e, k)
 ends_below count (r ∷ rs) h c (inr (inl e)) = let k = h.0.2 in omega (arith, e, k)
 ends_below count (r ∷ rs) h c (inr (inr i)) = ends_below count rs h.1 c i
 
+-- numbers that come in order, below a count that they reach, are those from 0 on
+pub numbers_are : (count : ℕ) (es : List ℕ) → IsNumberedInOrder 0 es → ((c : ℕ) → c < count → IsIn c es) → ((y : ℕ) → IsIn y es → y < count) → firsts eqb es ≡ upto 0 count
+numbers_are count es h reached below = sym (all_above (firsts eqb es)) ∙ numbers_from 0 count es h (λ c lt le. reached c lt) below ∙ ap (upto 0) (let e : count - 0 ≡ count = omega arith in e)
+
+pub ends_are : (net : Net) → IsPartialNetwork net → firsts eqb (ends net.reactions) ≡ upto 0 (length net.complexes)
+ends_are net h = numbers_are (length net.complexes) (ends net.reactions) (appears_in_order (ends net.reactions) h.numbered) h.each_in_a_reaction (ends_below (length net.complexes) net.reactions h.apart)
+
 pub complexes_are : (net : Net) → IsPartialNetwork net → firsts (pointwise int_eq) (flat_map both_of (map (sides_of net) net.reactions)) ≡ net.complexes
 complexes_are net h =
     let at : ℕ → List ℤ = λ c. get_or net.complexes c [] in
     let below = ends_below (length net.complexes) net.reactions h.apart in
     let test : (a b : ℕ) → IsIn a (ends net.reactions) → IsIn b (ends net.reactions) → pointwise int_eq (at a) (at b) ≡ eqb a b = λ a b i j.
     same_test (pointwise int_eq (at a) (at b)) (eqb a b) (at a ≡ at b) (a ≡ b) (row_decides (at b) (at a)) (Decides-eqb a b) (λ e. same_place net.complexes a b [] h.complexes (below a i) (below b j) e) (ap at) in
-    let numbers : firsts eqb (ends net.reactions) ≡ upto 0 (length net.complexes) =
-    sym (all_above (firsts eqb (ends net.reactions))) ∙ numbers_from 0 (length net.complexes) (ends net.reactions) (appears_in_order (ends net.reactions) h.numbered) (λ c lt le. h.each_in_a_reaction c lt) below ∙ ap (upto 0) (let e : length net.complexes - 0 ≡ length net.complexes = omega arith in e) in
-    ap (firsts (pointwise int_eq)) (ends_sides net net.reactions) ∙ firsts_map eqb (pointwise int_eq) at (ends net.reactions) test ∙ ap (map at) numbers ∙ places_all net.complexes []
+    ap (firsts (pointwise int_eq)) (ends_sides net net.reactions) ∙ firsts_map eqb (pointwise int_eq) at (ends net.reactions) test ∙ ap (map at) (ends_are net h) ∙ places_all net.complexes []
 
 -- ---- with one statement more
 

@@ -2,7 +2,7 @@
 use Rattle.std.proofs.Common.{◌≡◌, ℕ, ◌≤◌, Bool, true, false, eqb, List, [], ◌∷◌, ◌++◌, take, drop, None, refl, sym, ap, ap₂, ◌∙◌, inl, inr, arith}
 use Rattle.std.specs.Prelude.{not, ◌||◌, ◌⊎◌, nat_lt}
 use Rattle.std.specs.List.{list_any, list_all, count_by, prefix_len}
-use Rattle.std.proofs.lemmas.Bool.{cases_Bool, ltb-false, eqb-false}
+use Rattle.std.proofs.lemmas.Bool.{cases_Bool, ltb-false, eqb-false, not-false, or_parts}
 use Rattle.std.proofs.lemmas.List.{take-append-drop}
 use Rattle.crn_text.specs.Tokens.{Word, words, before_comment}
 use Rattle.crn_text.specs.Sides.{is_arrow, is_stray, is_side, sides, IsStatementLine}
@@ -10,15 +10,7 @@ use Rattle.crn_text.specs.Faults.{is_plain, is_empty, has_empty_place, own_fault
 use Rattle.crn_text.proofs.Lists.{one_more, split_more, map_itself}
 use Rattle.crn_text.proofs.Arrows.{Parted, parted, split_count, count_no}
 
-or_parts : (x y : Bool) → (x || y) ≡ false → (x ≡ false) × (y ≡ false)
-or_parts true y h = absurd cc
-or_parts false y h = (refl, h)
-
-not_false : (b : Bool) → not b ≡ false → b ≡ true
-not_false true h = refl
-not_false false h = absurd cc
-
-none_of : (ws : List Word) → is_empty ws ≡ true → ws ≡ []
+pub none_of : (ws : List Word) → is_empty ws ≡ true → ws ≡ []
 none_of [] h = refl
 none_of (w ∷ ws) h = absurd cc
 
@@ -39,7 +31,7 @@ sides_good l r h =
       | inl y ↦ absurd (let e = rw y at h in cc)
       | inr n ↦ elim (cases_Bool (list_any (λ s. not (is_side s)) (l ∷ r ∷ []))) [
         | inl y ↦ absurd (let e = rw (n, y) at h in cc)
-        | inr m ↦ let p = or_parts (not (is_side l)) (not (is_side r) || false) m in let q = or_parts (not (is_side r)) false p.1 in (not_false (is_side l) p.0, not_false (is_side r) q.0)
+        | inr m ↦ let p = or_parts (not (is_side l)) (not (is_side r) || false) m in let q = or_parts (not (is_side r)) false p.1 in (not-false (is_side l) p.0, not-false (is_side r) q.0)
       ]
     ]
 

@@ -15,3 +15,13 @@ pub mod Complexes
 pub mod Exclusions
 pub mod Spelled
 pub mod Grammar
+pub mod CanonicalWords
+pub mod CanonicalSides
+pub mod CanonicalLines
+pub mod Numbering
+pub mod CanonicalNames
+pub mod CanonicalAmounts
+pub mod CanonicalSpelled
+pub mod Sayings
+pub mod Tables
+pub mod Judged

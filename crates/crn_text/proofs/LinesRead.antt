@@ -52,7 +52,7 @@ first_left (y ∷ xs) ys x d (suc n) h =
     let e : drop (suc n + 1) (y ∷ xs) ≡ drop (n + 1) xs = let f : suc n + 1 ≡ suc (n + 1) = omega arith in rw f refl in
     (omega (arith, p.0), p.1, e ∙ p.2)
 
-flat_push : (ls : List (List ℕ)) (l : List ℕ) → all_said (ls ++ l ∷ []) ≡ all_said ls ++ said l
+pub flat_push : (ls : List (List ℕ)) (l : List ℕ) → all_said (ls ++ l ∷ []) ≡ all_said ls ++ said l
 flat_push [] l = append-nil (said l)
 flat_push (x ∷ ls) l = ap (λ (t : List Statement). said x ++ t) (flat_push ls l) ∙ sym (append_assoc (said x) (all_said ls) (said l))
 
@@ -83,7 +83,7 @@ lines_all text number net h =
 
 -- ---- the whole text
 
-none_own : (own more : Option TextCode) → or_else own more ≡ None → own ≡ None
+pub none_own : (own more : Option TextCode) → or_else own more ≡ None → own ≡ None
 none_own None more h = refl
 none_own (Some code) more h = absurd cc
 

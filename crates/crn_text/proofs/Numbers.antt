@@ -5,7 +5,7 @@ use Rattle.std.proofs.lemmas.List.{take_more}
 use Rattle.crn_text.specs.Sides.{number_from, number_of}
 use Rattle.crn_text.specs.declared.side.TheConstants.{LARGE}
 
-number_push : (n : ℕ) (xs : List ℕ) (d : ℕ) → number_from n (xs ++ d ∷ []) ≡ number_from n xs * 10 + (d - 48)
+pub number_push : (n : ℕ) (xs : List ℕ) (d : ℕ) → number_from n (xs ++ d ∷ []) ≡ number_from n xs * 10 + (d - 48)
 number_push n [] d = refl
 number_push n (x ∷ xs) d = number_push (n * 10 + (x - 48)) xs d
 

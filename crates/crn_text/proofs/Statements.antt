@@ -31,14 +31,14 @@ flat_push : (ss : List Statement) (s : Statement) → flat_map names_in (ss ++ s
 flat_push [] s = append-nil (names_in s)
 flat_push (x ∷ ss) s = ap (λ (t : List (List ℕ)). names_in x ++ t) (flat_push ss s) ∙ sym (append_assoc (names_in x) (flat_map names_in ss) (names_in s))
 
-names_all : (ss : List Statement) (s : Statement) (old : Net) → Grown ss old → names_with old s ≡ names_of (ss ++ s ∷ [])
+pub names_all : (ss : List Statement) (s : Statement) (old : Net) → Grown ss old → names_with old s ≡ names_of (ss ++ s ∷ [])
 names_all ss s old g =
     ap (λ (t : List (List ℕ)). firsts bytes_eq (t ++ names_in s)) (Grown-names ss old g) ∙ firsts_firsts bytes_eq bytes_eq-Decides (flat_map names_in ss) (names_in s) ∙ ap (firsts bytes_eq) (sym (flat_push ss s))
 
-reactions_all : (ss : List Statement) (s : Statement) (old : Net) → Grown ss old → reactions_with old s ≡ reactions_of (ss ++ s ∷ [])
+pub reactions_all : (ss : List Statement) (s : Statement) (old : Net) → Grown ss old → reactions_with old s ≡ reactions_of (ss ++ s ∷ [])
 reactions_all ss s old g = reactions_grown ss s old g ∙ ap (λ (t : List (List ℕ)). firsts sides_eq (map (said_by t) (ss ++ s ∷ []))) (names_all ss s old g)
 
-complexes_all : (ss : List Statement) (s : Statement) (old : Net) → Grown ss old → complexes_with old s ≡ complexes_of (ss ++ s ∷ [])
+pub complexes_all : (ss : List Statement) (s : Statement) (old : Net) → Grown ss old → complexes_with old s ≡ complexes_of (ss ++ s ∷ [])
 complexes_all ss s old g =
     complexes_more old (length (names_with old s)) (said_with old s) (Grown-network ss old g) ∙ ap (λ (t : List (List ℤ × List ℤ)). firsts (pointwise int_eq) (flat_map both_of t)) (reactions_all ss s old g)
 
@@ -57,7 +57,7 @@ same_of s (x ∷ names) h name i =
       | inr n ↦ absurd (let e = rw n at h in cc)
     ]
 
-all_same : (s : Statement) (names : List (List ℕ)) → SaysSame s → list_all (λ name. eqb (amount_in s.0 name) (amount_in s.1 name)) names ≡ true
+pub all_same : (s : Statement) (names : List (List ℕ)) → SaysSame s → list_all (λ name. eqb (amount_in s.0 name) (amount_in s.1 name)) names ≡ true
 all_same s [] h = refl
 all_same s (x ∷ names) h = let e = eq-eqb (amount_in s.0 x) (amount_in s.1 x) (h x) in rw e (all_same s names h)
 

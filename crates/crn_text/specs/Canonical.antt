@@ -2,7 +2,8 @@
 -- The form is this project's own.
 use Rattle.std.specs.Prelude.{ℕ, ℤ, pos, negsuc, zero, suc, List, [], ◌∷◌, ◌++◌, codes, decimal, slice_index_or}
 use Rattle.std.specs.List.{flat_map}
-use Rattle.crn_vec.specs.Network.{Net}
+use Rattle.crn_vec.specs.Network.{Net, IsNetwork}
+use Rattle.crn_text.specs.Spells.{Spells}
 
 -- these texts with one between them
 abbrev pub joined : List ℕ → List (List ℕ) → List ℕ
@@ -47,3 +48,7 @@ reaction_line net r = complex_text net r.0 ++ codes " -> " ++ complex_text net r
 -- the lines of the reactions in order
 abbrev pub canonical : Net → List ℕ
 canonical net = flat_map (reaction_line net) net.reactions
+
+-- the canonical text of each network spells that network
+abbrev pub CanonicalTextSpells : Type 0
+CanonicalTextSpells = (net : Net) → IsNetwork net → Spells (canonical net) net

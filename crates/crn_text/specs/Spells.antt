@@ -59,3 +59,7 @@ Fault text line code = IsTooLong text line code ⊎ IsFirstFault text line code 
 abbrev pub TextGives : List ℕ → Result Net TextFault → Type 0
 TextGives text (Ok net) = Spells text net
 TextGives text (Err fault) = (fault.code ≡ NoMemory) ⊎ Fault text fault.line fault.code
+
+-- each text spells a network or has a first fault
+abbrev pub EachTextIsJudged : Type 0
+EachTextIsJudged = (text : List ℕ) → ((net : Net) × Spells text net) ⊎ ((line : ℕ) × (code : TextCode) × Fault text line code)

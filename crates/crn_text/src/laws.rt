@@ -4,7 +4,8 @@ ghost use Rattle.crn_text.specs.declared.code.TextCode.{TextCode};
 ghost use Rattle.crn_text.specs.Tokens.{words, before_comment};
 ghost use Rattle.crn_text.specs.Sides.{IsStatementLine};
 ghost use Rattle.crn_text.specs.Faults.{own_fault};
-ghost use Rattle.crn_text.specs.Spells.{Spells, Fault};
+ghost use Rattle.crn_text.specs.Spells.{Spells, Fault, EachTextIsJudged};
+ghost use Rattle.crn_text.specs.Canonical.{CanonicalTextSpells};
 
 /// A text has no two first faults.
 pub fn first_fault_is_one()
@@ -16,7 +17,17 @@ pub fn spelled_text_has_no_fault()
     ensures { (text : List ℕ) (net : Net) (line : ℕ) (code : TextCode) → Spells text net → Fault text line code → ⊥ }
 {}
 
+/// Each text spells a network or has a first fault, which the proof finds.
+pub fn each_text_is_judged()
+    ensures { EachTextIsJudged }
+{}
+
 /// A line that is not wrong by itself has no token, or is a side, an arrow and a side.
 pub fn sound_line_is_a_statement()
     ensures { (line : List ℕ) → own_fault line ≡ None → (words (before_comment line) ≡ []) ⊎ IsStatementLine (words (before_comment line)) }
+{}
+
+/// The canonical text of each network spells that network.
+pub fn canonical_text_spells_its_network()
+    ensures { CanonicalTextSpells }
 {}

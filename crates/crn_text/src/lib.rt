@@ -14,6 +14,9 @@ mod token;
 mod writer;
 
 pub use code::{TextCode, TextFault};
-pub use laws::{first_fault_is_one, sound_line_is_a_statement, spelled_text_has_no_fault};
+pub use laws::{
+    canonical_text_spells_its_network, each_text_is_judged, first_fault_is_one,
+    sound_line_is_a_statement, spelled_text_has_no_fault,
+};
 pub use reader::read;
 pub use writer::{write, write_side};

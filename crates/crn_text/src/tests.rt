@@ -1,4 +1,7 @@
-use crate::{read, write};
+use crate::{
+    canonical_text_spells_its_network, each_text_is_judged, first_fault_is_one, read,
+    sound_line_is_a_statement, spelled_text_has_no_fault, write,
+};
 use crn_io::QuietSink;
 use itoa::Buffer;
 use std::alloc::AllocError;
@@ -230,4 +233,13 @@ fn a_text_has_no_more_bytes_than_the_limit(rt: HostRuntime) -> Result<(), Fail> 
     text.push(b' ')?;
     assert_eq!(rt; refusal(&rt, &text), (0, 19));
     Ok(())
+}
+
+#[test]
+fn laws_stand() {
+    first_fault_is_one();
+    spelled_text_has_no_fault();
+    each_text_is_judged();
+    sound_line_is_a_statement();
+    canonical_text_spells_its_network();
 }
