@@ -5,4 +5,8 @@ pub mod Labels
 pub mod LabelLaws
 pub mod Runs
 pub mod Complete
+pub mod ClapWords
+pub mod ClapSteps
+pub mod ClapReads
+pub mod ClapForms
 pub mod WordsSaid

@@ -35,10 +35,11 @@ pub fn run<S: Source, K: Sink>(
     ensures unread { (IsReport (map string_bytes words.now) → ⊥) → source.new ≡ source.old }
     ensures pulled { ComesOffUpTo (MAX_TEXT + 1) (S.left source.old) (S.left source.new) }
 {
-    if !is_report(words) {
-        return usage(sink);
+    match command_of(alloc, words) {
+        Ok(Some(Command::Report { budget: _ })) => report(alloc, source, sink),
+        Ok(None) => usage(sink),
+        Err(_) => Status::NoMemory,
     }
-    report(alloc, source, sink)
 }
 
 /// For the same words and the same network text, one text may be written.
@@ -51,16 +52,6 @@ pub fn quiet_devices_meet_no_fault()
     ensures { (status : Status) (words : List (List ℕ)) (old new : Devices) (text out : List ℕ) → RunGives status words old new → IsQuiet old new text out → IsAllowed words text out →
         (status ≡ ReadFault → ⊥) × (status ≡ WriteFault → ⊥) × (new.sink_faults ≡ old.sink_faults) }
 {}
-
-// Whether the words say `report`. The budget has no effect before a search is made.
-fn is_report(words: &[String]) -> bool
-    ensures { IsTrue result ↔ IsReport (map string_bytes words.now) }
-{
-    match command_of(words) {
-        Some(Command::Report { budget: _ }) => true,
-        None => false,
-    }
-}
 
 fn usage<K: Sink>(sink: &mut K) -> Status
     ensures { LineGives Usage result usage_line (K.took sink.old) (K.took sink.new) (K.room sink.old) (K.room sink.new) (K.faults sink.old) (K.faults sink.new) }

@@ -1,6 +1,13 @@
-ghost use Rattle.std.specs.Prelude.{◌≡◌, ◌↔◌, ◌∷◌, ◌++◌, ℕ, List, [], IsTrue, MatchOption, codes, map, string_bytes};
-ghost use Rattle.crn_run.specs.Words.{IsBudget, SaysReport, IsCommand};
+ghost use Rattle.std.specs.Prelude.{◌≡◌, ℕ, List, IfOk, MatchOption, map, drop, string_bytes};
+ghost use Rattle.std.specs.List.{list_any};
+ghost use Rattle.clap.specs.Words.{app_of};
+ghost use Rattle.crn_run.specs.Parse.{IsRead, Gives, Means, MeansBudget, crnt_app, is_two_dashes, text_in};
+ghost use Rattle.crn_run.specs.Words.{IsBudget, IsCommand};
 ghost use Rattle.crn_run.specs.declared.words.Command.{Command};
+
+use clap::error::ErrorKind;
+use clap::{Arg, ArgAction};
+use std::alloc::{AllocError, Global};
 
 /// The greatest budget.
 pub const MAX_BUDGET: u32 = 100_000;
@@ -19,15 +26,19 @@ pub enum Command {
     Report { budget: u32 },
 }
 
-/// The command that the words say, or none where they say none.
+/// The command that the words say, or none where they say none. Takes memory.
 ///
-/// The words begin with the program's name. A word `--` is in no command.
-pub fn command_of(words: &[String]) -> Option<Command>
-    ensures { MatchOption result ((c : Command) → IsCommand (map string_bytes words.now) c → ⊥) (λ c. IsCommand (map string_bytes words.now) c) }
+/// The words begin with the program's name. They are read with clap, as a positional `command`, a
+/// positional `count` that may be left out, and an option `--budget`. A word `--` is in no command.
+pub fn command_of(alloc: Global, words: &[String]) -> Result<Option<Command>, AllocError>
+    ensures { IfOk result (λ found. MatchOption found ((c : Command) → IsCommand (map string_bytes words.now) c → ⊥) (λ c. IsCommand (map string_bytes words.now) c)) }
 {
-    match budget_said(words) {
-        Some(budget) => Some(Command::Report { budget }),
-        None => None,
+    if has_two_dashes(words) {
+        return Ok(None);
+    }
+    match parse(alloc, words)? {
+        Some(said) => Ok(command_meant(&said)),
+        None => Ok(None),
     }
 }
 
@@ -36,78 +47,84 @@ pub fn words_say_one_command()
     ensures { (words : List (List ℕ)) (c other : Command) → IsCommand words c → IsCommand words other → c ≡ other }
 {}
 
-// The budget that the words after the program's name say, where they say `report`.
-fn budget_said(words: &[String]) -> Option<u32>
-    ensures { MatchOption result ((program : List ℕ) (rest : List (List ℕ)) (b : ℕ) → map string_bytes words.now ≡ program ∷ rest → SaysReport rest b → ⊥) (λ b. (program : List ℕ) × (rest : List (List ℕ)) × (map string_bytes words.now ≡ program ∷ rest) × SaysReport rest b) }
+// The values that clap reads from the words.
+#[derive(Drop)]
+struct Said<'a> {
+    command: Option<&'a str>,
+    count: Option<&'a str>,
+    budget: Option<&'a str>,
+}
+
+// Whether `--` is a word after the program's name.
+fn has_two_dashes(words: &[String]) -> bool
+    ensures { result ≡ list_any is_two_dashes (drop 1 (map string_bytes words.now)) }
 {
     match words {
-        [_, command] => budget_alone(command),
-        [_, first, second] => budget_of_two(first, second),
-        [_, first, second, third] => budget_of_three(first, second, third),
+        [_, rest @ ..] => rest.iter().any(|word| word.as_str() == "--"),
+        [] => false,
+    }
+}
+
+// The one command, as clap reads it.
+#[tactic(auto, unfolding(crate::specs::Parse::crnt_app))]
+fn parser<'a>(alloc: Global) -> Result<clap::Command<'a>, AllocError>
+    ensures app { IfOk result (λ c. app_of c ≡ crnt_app) }
+{
+    let command = Arg::new(alloc, "command")
+        .required(true)
+        .action(ArgAction::Set);
+    let count = Arg::new(alloc, "count").action(ArgAction::Set);
+    let budget = Arg::new(alloc, "budget")
+        .long("budget")
+        .action(ArgAction::Set);
+    clap::Command::new(alloc, "crnt")
+        .arg(command)?
+        .arg(count)?
+        .arg(budget)
+}
+
+// The values that clap reads from the words, or none where it refuses them.
+fn parse<'a>(alloc: Global, words: &'a [String]) -> Result<Option<Said<'a>>, AllocError>
+    ensures { IfOk result (λ found. MatchOption found (IsRead (map string_bytes words.now) → ⊥) (λ s. IsRead (map string_bytes words.now) × Gives (map string_bytes words.now) (text_in s.command) (text_in s.count) (text_in s.budget))) }
+{
+    let parser = parser(alloc)?;
+    match parser.try_get_matches_from(words) {
+        Ok(matches) => Ok(Some(Said {
+            command: matches.get_str("command"),
+            count: matches.get_str("count"),
+            budget: matches.get_str("budget"),
+        })),
+        Err(error) => match error.kind() {
+            ErrorKind::OutOfMemory => Err(AllocError),
+            _ => Ok(None),
+        },
+    }
+}
+
+// The command that the values mean.
+fn command_meant(said: &Said<'_>) -> Option<Command>
+    ensures { MatchOption result ((c : Command) → Means (text_in said.now.command) (text_in said.now.count) (text_in said.now.budget) c → ⊥) (Means (text_in said.now.command) (text_in said.now.count) (text_in said.now.budget)) }
+{
+    match said.command {
+        Some("report") => {
+            if said.count.is_some() {
+                return None;
+            }
+            let budget = budget_meant(said.budget)?;
+            Some(Command::Report { budget })
+        }
         _ => None,
     }
 }
 
-// The budget of one word after the program's name.
-fn budget_alone(command: &str) -> Option<u32>
-    ensures { MatchOption result ((b : ℕ) → SaysReport (command.now ∷ []) b → ⊥) (λ b. SaysReport (command.now ∷ []) b) }
+// The budget that a word writes, or the default where there is no word.
+fn budget_meant(word: Option<&str>) -> Option<u32>
+    ensures { MatchOption result ((b : ℕ) → MeansBudget (text_in word.entry) b → ⊥) (MeansBudget (text_in word.entry)) }
 {
-    if !is_report(command) {
-        return None;
-    }
-    Some(DEFAULT_BUDGET)
-}
-
-// The budget of two words, of which one is `--budget=N`.
-fn budget_of_two(first: &str, second: &str) -> Option<u32>
-    ensures { MatchOption result ((b : ℕ) → SaysReport (first.now ∷ second.now ∷ []) b → ⊥) (λ b. SaysReport (first.now ∷ second.now ∷ []) b) }
-{
-    if is_report(first) {
-        return joined_budget(second);
-    }
-    if is_report(second) {
-        return joined_budget(first);
-    }
-    None
-}
-
-// The budget of three words, of which two are `--budget N`.
-fn budget_of_three(first: &str, second: &str, third: &str) -> Option<u32>
-    ensures { MatchOption result ((b : ℕ) → SaysReport (first.now ∷ second.now ∷ third.now ∷ []) b → ⊥) (λ b. SaysReport (first.now ∷ second.now ∷ third.now ∷ []) b) }
-{
-    if is_report(first) {
-        return parted_budget(second, third);
-    }
-    if is_report(third) {
-        return parted_budget(first, second);
-    }
-    None
-}
-
-fn is_report(word: &str) -> bool
-    ensures { IsTrue result ↔ (word.now ≡ codes "report") }
-{
-    word == "report"
-}
-
-// The budget of a word `--budget=N`.
-fn joined_budget(word: &str) -> Option<u32>
-    ensures { MatchOption result ((n : List ℕ) (b : ℕ) → IsBudget n b → word.now ≡ codes "--budget=" ++ n → ⊥) (λ b. (n : List ℕ) × IsBudget n b × (word.now ≡ codes "--budget=" ++ n)) }
-{
-    match word.strip_prefix("--budget=") {
+    match word {
         Some(digits) => budget_of(digits),
-        None => None,
+        None => Some(DEFAULT_BUDGET),
     }
-}
-
-// The budget of two words `--budget N`.
-fn parted_budget(option: &str, digits: &str) -> Option<u32>
-    ensures { MatchOption result ((b : ℕ) → IsBudget digits.now b → option.now ≡ codes "--budget" → ⊥) (λ b. IsBudget digits.now b × (option.now ≡ codes "--budget")) }
-{
-    if option != "--budget" {
-        return None;
-    }
-    budget_of(digits)
 }
 
 // The budget that digits write.
@@ -135,7 +152,7 @@ mod tests {
         for word in line.split(' ') {
             words.push(word.to_string(alloc)?)?;
         }
-        Ok(command_of(&words))
+        Ok(command_of(alloc, &words)?)
     }
 
     #[test]
@@ -193,6 +210,15 @@ mod tests {
             "crnt report 5 --budget",
             "crnt report --help",
             "crnt -h",
+            "crnt --help",
+            "crnt help",
+            "crnt -V",
+            "crnt report -",
+            "crnt report 3 --budget 5",
+            "crnt --budget 5 report 3",
+            "crnt report --budget=5=6",
+            "crnt report --budget 5 -- 3",
+            "crnt report --budget=5 --budget=6 --budget=7",
             "crnt report ",
             "report",
             "",
@@ -202,7 +228,7 @@ mod tests {
             assert_eq!(rt; got, None, "{line}");
         }
         let none = Vec::<String>::new(rt.alloc());
-        assert_eq!(rt; command_of(&none), None);
+        assert_eq!(rt; command_of(rt.alloc(), &none)?, None);
         Ok(())
     }
 }

@@ -1,20 +1,21 @@
-use Rattle.std.proofs.Common.{refl, rules}
-use Rattle.crn_run.specs.Run.{IsReport}
+use Rattle.std.proofs.Common.{refl}
+use Rattle.crn_run.specs.declared.words.Command.TheVariants.{Report}
+use Rattle.crn_run.proofs.WordsSaid.{is_report}
 use Rattle.crn_run.proofs.Runs.{usage_ends}
 use Rattle.crn_run.proofs.Complete.{run_complete}
 use Rattle.crn_run.proofs.top.run.Goals as goal
 
-pub returns-then-not-is_report-clause-gives : goal.returns-then-not-is_report-clause-gives
-returns-then-not-is_report-clause-gives g c =
-    let none : IsReport _ → ⊥ = λ yes. absurd (let is = c.is_report.ensures.1 yes in cc) in
-    usage_ends c.usage.result _ _ _ none refl refl c.usage.ensures
+pub returns-in-Ok-Some-Report-clause-complete : goal.returns-in-Ok-Some-Report-clause-complete
+returns-in-Ok-Some-Report-clause-complete g c =
+    let said = rw c.in-Ok-Some-Report.field-0-is at c.in-Ok-Some-Report.ensures in
+    run_complete c.report.result _ _ _ (c.report.ensures.gives _ (is_report _ _ said))
 
-pub returns-then-not-is_report-clause-complete : goal.returns-then-not-is_report-clause-complete
-returns-then-not-is_report-clause-complete g c =
-    let none : IsReport _ → ⊥ = λ yes. absurd (let is = c.is_report.ensures.1 yes in cc) in
-    run_complete c.usage.result _ _ _ (usage_ends c.usage.result _ _ _ none refl refl c.usage.ensures)
+pub returns-in-Ok-None-clause-gives : goal.returns-in-Ok-None-clause-gives
+returns-in-Ok-None-clause-gives g c =
+    let none = rw c.in-Ok-None.field-0-is at c.in-Ok-None.ensures in
+    usage_ends c.usage.result _ _ _ (λ yes. none (Report yes.0) yes.1) refl refl c.usage.ensures
 
-pub returns-clause-complete : goal.returns-clause-complete
-returns-clause-complete g c =
-    let yes : IsReport _ = c.is_report.ensures.0 (search rules) in
-    run_complete c.report.result _ _ _ (c.report.ensures.gives _ yes)
+pub returns-in-Ok-None-clause-complete : goal.returns-in-Ok-None-clause-complete
+returns-in-Ok-None-clause-complete g c =
+    let none = rw c.in-Ok-None.field-0-is at c.in-Ok-None.ensures in
+    run_complete c.usage.result _ _ _ (usage_ends c.usage.result _ _ _ (λ yes. none (Report yes.0) yes.1) refl refl c.usage.ensures)
