@@ -111,10 +111,8 @@ multipliers_from a basis e s w u out named same =
       w = w;
       named = named;
       q = q;
-      v = scale q w;
       space = dual_scaled a q w (as_row a basis e w out named).space;
       rows = drop-scale q a.cols w ∙ sym same;
-      multiple = λ k. entry-scale q w k;
     }
 
 -- a named vector that rules the system out is not 0 at its coordinate

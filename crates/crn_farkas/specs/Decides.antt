@@ -1,10 +1,10 @@
 -- What the decision of a linear system says.
-use Rattle.std.specs.Prelude.{◌≡◌, ◌≢◌, ◌≤◌, ◌<◌, ◌-◌, ◌⊎◌, ℕ, suc, ℤ, pos, negsuc, ◌*ℤ◌, unsigned_abs, Bool, true, false, List, map, drop}
+use Rattle.std.specs.Prelude.{◌≡◌, ◌≢◌, ◌≤◌, ◌<◌, ◌-◌, ◌⊎◌, ℕ, suc, ℤ, pos, negsuc, unsigned_abs, Bool, true, false, List, map, drop}
 use Rattle.crn_vec.specs.declared.limits.TheConstants.{WIDE_ENTRY, WIDE_SOLUTION}
 use Rattle.crn_vec.specs.declared.signs.Kind.{Kind}
 use Rattle.crn_vec.specs.declared.signs.Sign.{Sign}
 use Rattle.crn_vec.specs.declared.signs.Sign.TheVariants.{Zero}
-use Rattle.crn_vec.specs.Vectors.{Mat, entry, HasSign}
+use Rattle.crn_vec.specs.Vectors.{Mat, entry, HasSign, scale}
 use Rattle.crn_vec.specs.Lists.{IsIn}
 use Rattle.crn_vec.specs.Elementary.{InRowSpace, InDualSpace, IsNamed, IsNamedRow, WideAt, Exchanged}
 use Rattle.crn_vec.specs.Systems.{MayTake, MayWeigh, kind_at, is_signed, Solves, IsCut}
@@ -45,10 +45,8 @@ pub record AreNamedMultipliers (a : Mat) (basis : List ℕ) (u : List ℤ) : Typ
   pub w : List ℤ
   pub named : IsNamed a basis e w
   pub q : ℤ
-  pub v : List ℤ
-  pub space : InDualSpace a v
-  pub rows : drop a.cols v ≡ u
-  pub multiple : (k : ℕ) → entry v k ≡ q *ℤ entry w k
+  pub space : InDualSpace a (scale q w)
+  pub rows : drop a.cols (scale q w) ≡ u
 
 -- a vector (x, Ax) that is one of those that add up to a solution, and not 0 at g
 pub record IsWitness (a : Mat) (kinds : List Kind) (g : ℕ) (y : List ℤ) : Type 0 where

@@ -199,7 +199,7 @@ fn answer(
 }
 
 impl Solver {
-    /// A solver of a matrix, whose basis is the columns.
+    /// A solver of a matrix, whose basis is the columns. It takes the lists that `decide` works in.
     pub fn new(alloc: Global, matrix: &Matrix) -> Result<Solver, NoMemory>
         ensures matrix { IfOk result (λ made. made.matrix ≡ matrix.now) }
         ensures basis { IfOk result (λ made. (k : ℕ) → IsIn k made.basis ↔ (k < matrix.now.cols)) }
@@ -217,6 +217,7 @@ impl Solver {
     /// Decides the system of the kept matrix and these kinds, from the basis where the last question ended.
     ///
     /// A vector of this basis that rules the system out is found at once, and then the basis stays.
+    /// Memory is taken for the answer, and for one vector of the tableau at a time.
     pub fn decide(&mut self, alloc: Global, kinds: &[Kind]) -> Result<Decision, Stop>
         requires kinds { length kinds.now ≡ width self.old.matrix }
         requires few { signed_count kinds.now ≤ MAX_SIGNED }
@@ -224,7 +225,7 @@ impl Solver {
         ensures basis { NamesRows self.new.matrix self.new.basis }
         ensures answer { MatchResult result (λ d. IsDecision self.old.matrix kinds.now d) (λ s. IsTargetStop self.old.matrix kinds.now s) }
         ensures kept { HasKeptCut self.old.matrix self.old.basis kinds.now → IsRuledOut result × (self.new.basis ≡ self.old.basis) }
-        ensures first { ((k : ℕ) → IsIn k self.old.basis ↔ (k < self.old.matrix.cols)) → HasOneRowCut self.old.matrix kinds.now → IsRuledOut result }
+        ensures from_columns { ((k : ℕ) → IsIn k self.old.basis ↔ (k < self.old.matrix.cols)) → HasOneRowCut self.old.matrix kinds.now → IsRuledOut result }
         ensures named { IfOk result (λ d. IsNamedDecision self.new.matrix self.new.basis d) }
         ensures near { IfErr result (λ s. IsNearStop self.new.basis s) }
     {

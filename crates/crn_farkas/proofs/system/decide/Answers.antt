@@ -15,4 +15,4 @@ returns c =
     let same : made ≡ c.args.system.now.matrix.now = c.in_ok-solver.ensures.matrix in
     let D : Mat → Type 0 = λ a. MatchResult c.decide.result (λ (d : Decision). IsDecision a kinds d) (λ (s : Stop). IsStop a kinds s) in
     let columns = λ (k : ℕ). subst (λ (a : Mat). IsIn k c.in_ok-solver.solver.basis ↔ (k < a.cols)) (sym same) (c.in_ok-solver.ensures.basis k) in
-    subst D same (decision_from made kinds c.decide.result c.decide.ensures.answer (c.decide.ensures.first columns))
+    subst D same (decision_from made kinds c.decide.result c.decide.ensures.answer (c.decide.ensures.from_columns columns))

@@ -6,8 +6,8 @@ use Rattle.crn_farkas.specs.Ends.{IsRuledOut}
 use Rattle.crn_farkas.proofs.Finals.{one_row_kept}
 use Rattle.crn_farkas.proofs.solver.Solver.decide.Goals as goal
 
-pub returns-clause-first : goal.returns-clause-first
-returns-clause-first c =
+pub returns-clause-from_columns : goal.returns-clause-from_columns
+returns-clause-from_columns c =
     let t = c.self.inside.tableau in
     let kinds = c.args.kinds.now in
     let P : KeptTableau → Type 0 = λ v. ((k : ℕ) → IsIn k v.basis ↔ (k < v.matrix.cols)) → HasOneRowCut v.matrix kinds → IsRuledOut c.answer-result.result in
