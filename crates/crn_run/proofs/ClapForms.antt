@@ -96,7 +96,7 @@ digits_are (d ∷ ds) h =
     let plain : is_two_dashes (d ∷ ds) ≡ false = ap (λ (b : Bool). b && bytes_eq ds (45 ∷ [])) first in
     (plain, value_of (d ∷ ds) plain (ap (λ (b : Bool). option_and_then long_of_rest (option_and_then (strip_byte 45) (if b then Some ds else None))) first) (ap (λ (b : Bool). option_and_then short_of_rest (if b then Some ds else None)) first))
 
--- the rows of a command and of an option
+-- the row of the command `report`
 abbrev command_row : List Row
 command_row = rows_in (holding [] (Some (codes "command", codes "report" ∷ [])))
 

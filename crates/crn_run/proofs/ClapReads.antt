@@ -174,6 +174,7 @@ after_command n c words r = go (next n [] (Some (codes "command", c ∷ [])) 2 w
     go (inr (inr (inr (v, after, e, is, s)))) =
         absurd (counted (length after + 1) n v (rows_in (holding [] (Some (codes "command", c ∷ [])))) (Some (codes "count", v ∷ [])) after (omega arith) refl (placed n [] (Some (codes "command", c ∷ [])) 2 (codes "count") v after second_place is s))
 
+-- the words after the program's name
 pub reads_report : (n : ℕ) (words : List Text) → Reads n (walk_from nothing_held) words → SaysReport words n
 reads_report n words r = go (next n [] None 1 words r)
   where

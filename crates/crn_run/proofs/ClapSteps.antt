@@ -25,6 +25,7 @@ waiting_walked rows pos word is =
 
 -- ---- where nothing waits
 
+-- the argument at a place
 abbrev place_rule : ℕ → Rule
 place_rule pos = unwrap_or (arg_by_index rules pos) (new_rule [])
 
@@ -68,6 +69,7 @@ second_place = record {
       ∙ ap (λ (h : Held). walk_at (pushed (codes "count") word h) 3) (and_false (is_pending (place_rule 2) p) (holding rows p) (settled rules (holding rows p)));
 }
 
+-- no argument takes a third value
 pub third_place : (rows : List Row) (p : Option (Text × List Text)) (word : Text) → IsValue word → turn_fault shape [] (at rows p idle 3) word ≡ [] → ⊥
 third_place rows p word is e =
     let v = is rows p idle 3 in
@@ -81,6 +83,7 @@ is_count r = bytes_eq r.id (codes "count")
 budget_is_other : (r : Row) → bytes_eq r.id budget ≡ true → is_count r ≡ false
 budget_is_other r e = ap (λ (t : Text). bytes_eq t (codes "count")) ((bytes_eq-Decides r.id budget).0 e)
 
+-- a change of the option's row alone
 kept_at : (change : Row → List Row) (missing rows : List Row) → find is_count missing ≡ None
     → ((r : Row) (rs : List Row) → bytes_eq r.id budget ≡ true → find is_count (change r ++ rs) ≡ find is_count rs)
     → find is_count (at_row budget change missing rows) ≡ find is_count rows

@@ -1,4 +1,5 @@
--- What clap makes of one word, by what the word is.
+-- What clap makes of one word, by what the word is: the option, the option with its value, a word that is refused wherever it stands, or a value.
+-- The bytes of a word need not be UTF-8: a flag word with no first character is a value to clap's pure walk.
 use Rattle.std.proofs.Common.{◌≡◌, ◌⊎◌, ◌++◌, ℕ, ◌==◌, Bool, true, false, List, [], ◌∷◌, length, Option, Some, None, refl, sym, ap, ◌∙◌, ◌&&◌, ◌||◌, drop, take, not, cond, ◌+◌, one-add, subst, inl, inr, codes, ne_eqb}
 use Rattle.std.specs.Prelude.{if◌then◌else◌, option_and_then, unwrap_or, slice_get, encode_utf8}
 use Rattle.std.specs.Option.{option_map_or}
@@ -30,6 +31,7 @@ rules = shape.rules
 abbrev pub holding : List Row → Option (Text × List Text) → Held
 holding rows p = record { rows = rows; pending = p; skip = 0 }
 
+-- the walk between two words, with no `--` met
 abbrev pub at : List Row → Option (Text × List Text) → Waiting → ℕ → Walk
 at rows p w pos = record { held = holding rows p; waiting = w; position = pos; is_trailing = false; stopped = None }
 
@@ -135,7 +137,6 @@ bad_of word faulty rows p idle pos e = faulty rows p (first_none _ _ e)
 bad_of word faulty rows p (option id) pos e = faulty rows p (first_none _ _ e)
 bad_of word faulty rows p positional pos e = faulty rows p (first_none _ _ e)
 
--- the option, the option with its value, a word that clap refuses, or a value
 abbrev pub Kind : Text → Type 0
 Kind word = (word ≡ parted) ⊎ ((v : Text) × (word ≡ joined v)) ⊎ IsBad word ⊎ IsValue word
 
@@ -212,6 +213,7 @@ long_kind z zs = go (bytes_eq budget (name_in (z ∷ zs))) refl
         help_faulty (bytes_eq (codes "help") (name_in (z ∷ zs))) (name_and_value (z ∷ zs)).1 (holding rows p)
         (sym (ap (λ (b : Bool). long_fault rules false (if (b || false) then Some budget_rule else if (bytes_eq (codes "help") (name_in (z ∷ zs)) || false) then Some help_built else None) (name_and_value (z ∷ zs)).1 (holding rows p)) e) ∙ f)))))
 
+-- every word but `--` is of one kind
 pub kind : (word : Text) → is_two_dashes word ≡ false → Kind word
 kind [] d = inr (inr (inr (value_of [] d refl refl)))
 kind (x ∷ xs) d = elim (cases_eq x 45) [
