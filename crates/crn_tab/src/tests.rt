@@ -283,11 +283,11 @@ fn vectors_are_those_of_plain_elimination(rt: HostRuntime) {
     compare(&rt, alloc, &zero, &[(1, 3)]);
 }
 
-// The number from -2 to 2 that a digit to the base 5 means.
-fn digit(code: u32, place: u32) -> i128
+// The number from -2 to 2 that the last digit to the base 5 means.
+fn digit(code: u32) -> i128
     ensures { unsigned_abs result ≤ MAX_AMOUNT }
 {
-    small(i128::from(code / 5u32.wrapping_pow(place) % 5) - 2)
+    small(i128::from(code % 5) - 2)
 }
 
 // All matrices of two rows and two columns, of one row and two columns, and of two rows and one column, with
@@ -297,15 +297,15 @@ fn vectors_of_small_matrices_are_those_of_plain_elimination(rt: HostRuntime) {
     let alloc = rt.alloc();
     for code in 0..625u32 {
         let entries = [
-            digit(code, 0),
-            digit(code, 1),
-            digit(code, 2),
-            digit(code, 3),
+            digit(code),
+            digit(code / 5),
+            digit(code / 25),
+            digit(code / 125),
         ];
         let square = Matrix::new(alloc, 2, 2, &entries).expect(&rt, "memory");
         compare_all(&rt, alloc, &square);
         if code < 25 {
-            let pair = [digit(code, 0), digit(code, 1)];
+            let pair = [digit(code), digit(code / 5)];
             let flat = Matrix::new(alloc, 1, 2, &pair).expect(&rt, "memory");
             compare_all(&rt, alloc, &flat);
             let tall = Matrix::new(alloc, 2, 1, &pair).expect(&rt, "memory");
