@@ -76,6 +76,53 @@ fn a_network_is_reported_on(rt: HostRuntime) -> Result<(), Fail> {
 }
 
 #[test]
+fn networks_of_the_literature_are_reported_on(rt: HostRuntime) -> Result<(), Fail> {
+    let cases = [
+        (
+            "Edelstein",
+            "A <-> 2A\nA + B <-> C\nC <-> B\n",
+            "crn report 1\nspecies 3: A B C\ncomplexes 5: A; 2A; A + B; C; B\nreactions 6\nQ1 linkage classes: 2\n  class 1: A; 2A\n  class 2: A + B; C; B\nopen: 0\n",
+        ),
+        (
+            "Brusselator",
+            "0 <-> A\nA -> B\n2A + B -> 3A\n",
+            "crn report 1\nspecies 2: A B\ncomplexes 5: 0; A; B; 2A + B; 3A\nreactions 4\nQ1 linkage classes: 2\n  class 1: 0; A; B\n  class 2: 2A + B; 3A\nopen: 0\n",
+        ),
+        (
+            "two steps at one deficient class",
+            "2A <-> A + B\nA + B <-> 2B\n",
+            "crn report 1\nspecies 2: A B\ncomplexes 3: 2A; A + B; 2B\nreactions 4\nQ1 linkage classes: 1\n  class 1: 2A; A + B; 2B\nopen: 0\n",
+        ),
+        (
+            "growth and decay",
+            "A -> 2A\nA -> 0\n",
+            "crn report 1\nspecies 1: A\ncomplexes 3: A; 2A; 0\nreactions 2\nQ1 linkage classes: 1\n  class 1: A; 2A; 0\nopen: 0\n",
+        ),
+        (
+            "two-site futile cycle",
+            "# two-site futile cycle\nS0 + K <-> KS0\nKS0 -> S1 + K\nS1 + K <-> KS1\nKS1 -> S2 + K\nS2 + F <-> FS2\nFS2 -> S1 + F\nS1 + F <-> FS1\nFS1 -> S0 + F\n",
+            "crn report 1\nspecies 9: S0 K KS0 S1 KS1 S2 F FS2 FS1\ncomplexes 10: S0 + K; KS0; K + S1; KS1; K + S2; S2 + F; FS2; S1 + F; FS1; S0 + F\nreactions 12\nQ1 linkage classes: 2\n  class 1: S0 + K; KS0; K + S1; KS1; K + S2\n  class 2: S2 + F; FS2; S1 + F; FS1; S0 + F\nopen: 0\n",
+        ),
+        (
+            "nine steps of 99",
+            "X1 -> 99X2\nX2 -> 99X3\nX3 -> 99X4\nX4 -> 99X5\nX5 -> 99X6\nX6 -> 99X7\nX7 -> 99X8\nX8 -> 99X9\nX9 -> 99X10\n",
+            "crn report 1\nspecies 10: X1 X2 X3 X4 X5 X6 X7 X8 X9 X10\ncomplexes 18: X1; 99X2; X2; 99X3; X3; 99X4; X4; 99X5; X5; 99X6; X6; 99X7; X7; 99X8; X8; 99X9; X9; 99X10\nreactions 9\nQ1 linkage classes: 9\n  class 1: X1; 99X2\n  class 2: X2; 99X3\n  class 3: X3; 99X4\n  class 4: X4; 99X5\n  class 5: X5; 99X6\n  class 6: X6; 99X7\n  class 7: X7; 99X8\n  class 8: X8; 99X9\n  class 9: X9; 99X10\nopen: 0\n",
+        ),
+        (
+            "a cycle of three",
+            "A -> B\nB -> C\nC -> A\n",
+            "crn report 1\nspecies 3: A B C\ncomplexes 3: A; B; C\nreactions 3\nQ1 linkage classes: 1\n  class 1: A; B; C\nopen: 0\n",
+        ),
+    ];
+    for (name, text, want) in cases {
+        let (status, sink) = report_on(rt.alloc(), text.as_bytes(), want.len())?;
+        assert_eq!(rt; status, Status::Done, "{name}");
+        assert_eq!(rt; sink.bytes(), want.as_bytes(), "{name}");
+    }
+    Ok(())
+}
+
+#[test]
 fn a_text_is_refused_for_its_first_fault(rt: HostRuntime) -> Result<(), Fail> {
     let cases = [
         (b"".as_slice(), "refused 5 NoReaction at line 0\n"),
@@ -263,6 +310,13 @@ fn words_that_are_no_command_give_the_usage_line(rt: HostRuntime) -> Result<(), 
         "crnt Report",
         "crnt report 3",
         "crnt report --",
+        "crnt report --budget 0",
+        "crnt report --budget 100001",
+        "crnt report --budget 12x",
+        "crnt check --budget 5",
+        "crnt sample",
+        "crnt sample 0",
+        "crnt sample 20",
     ];
     for line in cases {
         let words = words_of(rt.alloc(), line)?;

@@ -2,7 +2,7 @@ ghost use Rattle.std.specs.Prelude.{◌≡◌, ◌≤◌, ◌<◌, ◌+◌, leng
 ghost use Rattle.crn_vec.specs.Vectors.{AreWithin};
 
 use crate::{ColumnStop, Tableau, Wide};
-use crn_frac::{Frac, gcd, lcm_below};
+use crn_frac::{Frac, gcd, gcd_of, lcm_below};
 use crn_vec::{Ints, MAX_AMOUNT, Matrix};
 use std::alloc::Global;
 use std::process::Abort;
@@ -117,49 +117,161 @@ fn eliminate(rows: &mut [i128], size: usize, row: usize, coordinate: usize) {
     }
 }
 
-// Whether a row of plain elimination is a multiple of the vector.
+// Whether the greatest common divisor of the entries is 1.
+fn is_primitive(made: &[i128]) -> bool {
+    let mut divisor = 0;
+    for x in made {
+        divisor = gcd_of(divisor, x.unsigned_abs());
+    }
+    divisor == 1
+}
+
+// Whether a row of plain elimination is a multiple of the vector, and not 0.
 fn is_multiple(made: &[i128], rows: &[i128], from: usize) -> bool {
     let mut all = true;
+    let mut some = false;
     for (j, x) in made.iter().enumerate() {
+        some = some || at(rows, from.wrapping_add(j)) != 0;
         for (k, y) in made.iter().enumerate() {
             let left = x.wrapping_mul(at(rows, from.wrapping_add(k)));
             all = all && left == y.wrapping_mul(at(rows, from.wrapping_add(j)));
         }
     }
-    all
+    all && some
 }
 
-// Exchanges coordinates one after another, and compares all rows with plain elimination each time.
-fn compare(rt: &impl Abort, alloc: Global, matrix: &Matrix, exchanges: &[(usize, usize)]) {
+// Whether the products with a row of plain elimination add up to 0.
+fn is_orthogonal(made: &[i128], rows: &[i128], from: usize) -> bool {
+    let mut sum = 0i128;
+    for (k, x) in made.iter().enumerate() {
+        sum = sum.wrapping_add(x.wrapping_mul(at(rows, from.wrapping_add(k))));
+    }
+    sum == 0
+}
+
+// Compares the rows, which the coordinates in `own` name in this order, with those of plain elimination.
+fn compare_rows(rt: &impl Abort, matrix: &Matrix, t: &Tableau, own: &[usize], plain: &[i128])
+    requires { t.now.matrix ≡ matrix.now }
+{
     let size = matrix.cols() + matrix.rows();
-    let mut t = Tableau::new(alloc, matrix).expect(rt, "memory");
-    let mut plain = plain_rows(rt, alloc, matrix);
+    for (i, k) in own.iter().enumerate() {
+        let made = row(rt, matrix, t, *k);
+        assert!(rt; is_primitive(made.as_slice()), "row {k}");
+        assert!(rt;
+            is_multiple(made.as_slice(), plain, i.wrapping_mul(size)),
+            "row {k}"
+        );
+    }
+}
+
+// Whether a column is orthogonal to each row of plain elimination, and 0 on the rest of the basis.
+fn compare_column(
+    rt: &impl Abort,
+    matrix: &Matrix,
+    t: &Tableau,
+    own: &[usize],
+    plain: &[i128],
+    k: usize,
+)
+    requires { t.now.matrix ≡ matrix.now }
+{
+    let size = matrix.cols() + matrix.rows();
+    let made = column(rt, matrix, t, k)
+        .map_err(|_| "wide")
+        .expect(rt, "column");
+    assert!(rt; is_primitive(made.as_slice()), "column {k}");
+    for i in 0..own.len() {
+        assert!(rt;
+            is_orthogonal(made.as_slice(), plain, i.wrapping_mul(size)),
+            "column {k}"
+        );
+    }
+    for other in 0..size {
+        let rest = other != k && !own.contains(&other);
+        assert!(rt; !rest || at(made.as_slice(), other) == 0, "column {k}");
+    }
+}
+
+// Exchanges two coordinates, of the tableau and by plain elimination, and compares all vectors.
+fn step(
+    rt: &impl Abort,
+    matrix: &Matrix,
+    t: &mut Tableau,
+    plain: &mut [i128],
+    own: &mut [usize],
+    leave: usize,
+    enter: usize,
+)
+    requires { t.old.matrix ≡ matrix.now }
+    ensures { t.new.matrix ≡ matrix.now }
+{
+    let size = matrix.cols() + matrix.rows();
+    let r = own
+        .iter()
+        .position(|k| *k == enter)
+        .expect(rt, "a coordinate outside the basis");
+    eliminate(plain, size, r, leave);
+    if let Some(k) = own.get_mut(r) {
+        *k = leave;
+    }
+    assert!(rt; exchange(rt, matrix, t, leave, enter).is_ok());
+    compare_rows(rt, matrix, t, own, plain);
+    for k in 0..size {
+        if !own.contains(&k) {
+            compare_column(rt, matrix, t, own, plain, k);
+        }
+    }
+}
+
+// The coordinates outside the first basis.
+fn rows_of(rt: &impl Abort, alloc: Global, matrix: &Matrix) -> Vec<usize> {
     let mut own = Vec::new(alloc);
     for i in 0..matrix.rows() {
         own.push(matrix.cols() + i).expect(rt, "memory");
     }
+    own
+}
+
+// Exchanges these coordinates one after another, and compares all vectors each time.
+fn compare(rt: &impl Abort, alloc: Global, matrix: &Matrix, exchanges: &[(usize, usize)]) {
+    let mut t = Tableau::new(alloc, matrix).expect(rt, "memory");
+    let mut plain = plain_rows(rt, alloc, matrix);
+    let mut own = rows_of(rt, alloc, matrix);
     for (leave, enter) in exchanges {
-        let r = own
-            .iter()
-            .position(|k| k == enter)
-            .expect(rt, "a coordinate outside the basis");
-        eliminate(&mut plain, size, r, *leave);
-        if let Some(k) = own.get_mut(r) {
-            *k = *leave;
-        }
-        assert!(rt; exchange(rt, matrix, &mut t, *leave, *enter).is_ok());
-        for (i, k) in own.iter().enumerate() {
-            let made = row(rt, matrix, &t, *k);
-            assert!(rt;
-                is_multiple(made.as_slice(), &plain, i.wrapping_mul(size)),
-                "row {k}"
-            );
+        step(rt, matrix, &mut t, &mut plain, &mut own, *leave, *enter);
+    }
+}
+
+// Whether the two may be exchanged.
+fn may_exchange(rt: &impl Abort, matrix: &Matrix, t: &Tableau, leave: usize, enter: usize) -> bool
+    requires { t.now.matrix ≡ matrix.now }
+{
+    let size = matrix.cols() + matrix.rows();
+    assert!(rt; leave < size);
+    assert!(rt; enter < size);
+    if !t.is_basic(leave) || t.is_basic(enter) {
+        return false;
+    }
+    t.entry(enter, leave).num() != 0
+}
+
+// Goes over all pairs of coordinates, exchanges those that may be exchanged, and compares all vectors each time.
+fn compare_all(rt: &impl Abort, alloc: Global, matrix: &Matrix) {
+    let mut t = Tableau::new(alloc, matrix).expect(rt, "memory");
+    let mut plain = plain_rows(rt, alloc, matrix);
+    let mut own = rows_of(rt, alloc, matrix);
+    let size = matrix.cols() + matrix.rows();
+    for leave in 0..size {
+        for enter in 0..size {
+            if may_exchange(rt, matrix, &t, leave, enter) {
+                step(rt, matrix, &mut t, &mut plain, &mut own, leave, enter);
+            }
         }
     }
 }
 
 #[test]
-fn rows_are_those_of_plain_elimination(rt: HostRuntime) {
+fn vectors_are_those_of_plain_elimination(rt: HostRuntime) {
     let alloc = rt.alloc();
     let dense = Matrix::new(alloc, 3, 3, &[2, 3, 5, 7, 11, 13, 17, 19, 23]).expect(&rt, "memory");
     compare(&rt, alloc, &dense, &[(0, 3), (1, 4), (2, 5), (3, 1)]);
@@ -169,6 +281,37 @@ fn rows_are_those_of_plain_elimination(rt: HostRuntime) {
     compare(&rt, alloc, &tall, &[(0, 2), (1, 3), (2, 4), (3, 1)]);
     let zero = Matrix::new(alloc, 2, 2, &[0, 0, 6, -4]).expect(&rt, "memory");
     compare(&rt, alloc, &zero, &[(1, 3)]);
+}
+
+// The number from -2 to 2 that the last digit to the base 5 means.
+fn digit(code: u32) -> i128
+    ensures { unsigned_abs result ≤ MAX_AMOUNT }
+{
+    small(i128::from(code % 5) - 2)
+}
+
+// All matrices of two rows and two columns, of one row and two columns, and of two rows and one column, with
+// entries from -2 to 2.
+#[test]
+fn vectors_of_small_matrices_are_those_of_plain_elimination(rt: HostRuntime) {
+    let alloc = rt.alloc();
+    for code in 0..625u32 {
+        let entries = [
+            digit(code),
+            digit(code / 5),
+            digit(code / 25),
+            digit(code / 125),
+        ];
+        let square = Matrix::new(alloc, 2, 2, &entries).expect(&rt, "memory");
+        compare_all(&rt, alloc, &square);
+        if code < 25 {
+            let pair = [digit(code), digit(code / 5)];
+            let flat = Matrix::new(alloc, 1, 2, &pair).expect(&rt, "memory");
+            compare_all(&rt, alloc, &flat);
+            let tall = Matrix::new(alloc, 2, 1, &pair).expect(&rt, "memory");
+            compare_all(&rt, alloc, &tall);
+        }
+    }
 }
 
 // A small number, as a matrix may hold it.
