@@ -5,10 +5,10 @@ use Rattle.std.specs.Str.{bytes_eq}
 use Rattle.std.specs.Borrow.{Bor}
 use Rattle.clap.specs.Words.{App, fault_of, first_of, matches_of, new_app, new_rule, with_rule}
 use Rattle.clap.specs.declared.builder.action.ArgAction.TheVariants.{Set}
+use Rattle.crn_vec.specs.declared.limits.TheConstants.{DEFAULT_BUDGET}
 use Rattle.crn_run.specs.Words.{IsBudget}
 use Rattle.crn_run.specs.declared.words.Command.{Command}
 use Rattle.crn_run.specs.declared.words.Command.TheVariants.{Report}
-use Rattle.crn_run.specs.declared.words.TheConstants.{DEFAULT_BUDGET}
 
 -- the one command that clap reads: a positional `command` that is required, a positional `count`, and an option `--budget`
 unfoldable pub crnt_app : App

@@ -1,43 +1,10 @@
 -- The text of a report, as a function of the network and its verdicts.
 -- Source: this project's own format. Shapes: texts are lists of bytes, and every line ends by LF.
-use Rattle.std.specs.Prelude.{ℕ, ℤ, pos, negsuc, zero, suc, ◌+◌, ◌==◌, if◌then◌else◌, List, [], ◌∷◌, ◌++◌, length, map, codes, decimal}
-use Rattle.std.specs.List.{flat_map}
+use Rattle.std.specs.Prelude.{ℕ, zero, suc, ◌+◌, ◌==◌, if◌then◌else◌, List, [], ◌∷◌, ◌++◌, length, map, codes, decimal}
 use Rattle.crn_vec.specs.Network.{Net}
+use Rattle.crn_text.specs.Canonical.{joined, side}
 
--- these texts with one between them
-abbrev pub joined : List ℕ → List (List ℕ) → List ℕ
-joined between [] = []
-joined between (x ∷ xs) = x ++ flat_map (λ y. between ++ y) xs
-
--- ---- complexes
-
--- a species with its amount, which is left out where it is one
-abbrev pub term : ℤ → List ℕ → List ℕ
-term (pos (suc zero)) name = name
-term (pos n) name = decimal n ++ name
-term (negsuc n) name = name
-
--- the term of a species, where there is some of it
-abbrev pub term_if_some : ℤ → List ℕ → List (List ℕ)
-term_if_some (pos zero) name = []
-term_if_some (pos (suc n)) name = term (pos (suc n)) name ∷ []
-term_if_some (negsuc n) name = []
-
--- the terms of a complex in the order of the species
-abbrev pub terms : List (List ℕ) → List ℤ → List (List ℕ)
-terms (name ∷ names) (a ∷ amounts) = term_if_some a name ++ terms names amounts
-terms names amounts = []
-
--- the terms joined, or a zero where there is none
-abbrev pub or_zero : List (List ℕ) → List ℕ
-or_zero [] = codes "0"
-or_zero (t ∷ ts) = joined (codes " + ") (t ∷ ts)
-
--- a complex as the canonical text writes it
-unfoldable pub side : List (List ℕ) → List ℤ → List ℕ
-side names amounts = or_zero (terms names amounts)
-
--- all complexes in order
+-- all complexes in order, as the canonical text writes them
 abbrev pub sides : Net → List (List ℕ)
 sides net = map (side net.names) net.complexes
 

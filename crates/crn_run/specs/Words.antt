@@ -2,9 +2,9 @@
 -- Source: this project's own. Shapes: words are lists of bytes, the first of them the program's name.
 use Rattle.std.specs.Prelude.{◌≡◌, ◌≤◌, ◌⊎◌, ℕ, List, [], ◌∷◌, ◌++◌, length, codes}
 use Rattle.std.specs.Str.Parse.{IsNumeral, digits_value}
+use Rattle.crn_vec.specs.declared.limits.TheConstants.{MAX_BUDGET, MAX_BUDGET_DIGITS, DEFAULT_BUDGET}
 use Rattle.crn_run.specs.declared.words.Command.{Command}
 use Rattle.crn_run.specs.declared.words.Command.TheVariants.{Report}
-use Rattle.crn_run.specs.declared.words.TheConstants.{MAX_BUDGET, MAX_BUDGET_DIGITS, DEFAULT_BUDGET}
 
 -- the text is one to six digits, without a sign, and writes a budget from 1 to 100,000
 pub record IsBudget (text : List ℕ) (budget : ℕ) : Type 0 where

@@ -10,9 +10,8 @@ mod tests;
 mod top;
 mod words;
 
+pub use crn_vec::{DEFAULT_BUDGET, MAX_BUDGET, MAX_BUDGET_DIGITS};
 pub use laws::spelling_is_unique;
 pub use status::Status;
 pub use top::{quiet_devices_meet_no_fault, run, what_may_be_written_is_one_text};
-pub use words::{
-    Command, DEFAULT_BUDGET, MAX_BUDGET, MAX_BUDGET_DIGITS, command_of, words_say_one_command,
-};
+pub use words::{Command, command_of, words_say_one_command};

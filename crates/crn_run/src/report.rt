@@ -1,12 +1,14 @@
-ghost use Rattle.std.specs.Prelude.{◌≡◌, ◌≤◌, ◌<◌, ◌++◌, ◌+◌, ◌^◌, IfOk, [], pos, ◌<ℤ◌, codes, decimal, length, slice_index_or};
-ghost use Rattle.std.specs.Fmt.{signed_decimal};
+ghost use Rattle.std.specs.Prelude.{◌≡◌, ◌<◌, ◌++◌, ◌+◌, ◌^◌, IfOk, [], codes, decimal, length, slice_index_or};
 ghost use Rattle.crn_io.specs.Write.{Wrote};
+ghost use Rattle.crn_text.specs.Canonical.{joined};
+ghost use Rattle.crn_text.specs.Pieces.{turn, added};
 ghost use Rattle.crn_run.specs.Run.{refused_line, usage_line};
-ghost use Rattle.crn_run.specs.Report.{joined, term, term_if_some, side, sides, of_label, class_line, class_lines, title, species_line, complexes_line, reactions_line, head, q1_line, open_line, render};
-ghost use Rattle.crn_run.specs.Turns.{turn, added, if_label};
+ghost use Rattle.crn_run.specs.Report.{sides, of_label, class_line, class_lines, title, species_line, complexes_line, reactions_line, head, q1_line, open_line, render};
+ghost use Rattle.crn_run.specs.Turns.{if_label};
 
 use crn_io::{Sink, WriteFault, put_all, put_parts};
 use crn_net::Network;
+use crn_text::write_side;
 use itoa::Buffer;
 
 // A title, a count and a colon.
@@ -22,13 +24,13 @@ fn put_count<K: Sink>(
     put_parts(sink, &[title, buffer.format(count).as_bytes(), after])
 }
 
-// One of several texts with another between them.
-fn put_turn<K: Sink>(sink: &mut K, between: &[u8], i: usize, piece: &[u8]) -> Result<(), WriteFault>
-    ensures { Wrote (turn between.now i piece.now) (K.took sink.old) (K.took sink.new) (K.room sink.old) (K.room sink.new) (K.faults sink.old) (K.faults sink.new) result }
+// A name behind `shown` others.
+fn put_next_name<K: Sink>(sink: &mut K, shown: usize, name: &[u8]) -> Result<(), WriteFault>
+    ensures { Wrote (turn (codes " ") shown name.now) (K.took sink.old) (K.took sink.new) (K.room sink.old) (K.room sink.new) (K.faults sink.old) (K.faults sink.new) result }
 {
-    match i {
-        0 => put_all(sink, piece),
-        _ => put_parts(sink, &[between, piece]),
+    match shown {
+        0 => put_all(sink, name),
+        _ => put_parts(sink, &[b" ", name]),
     }
 }
 
@@ -37,70 +39,7 @@ fn put_names<K: Sink>(sink: &mut K, net: &Network) -> Result<(), WriteFault>
     ensures { Wrote (joined (codes " ") net.now.names) (K.took sink.old) (K.took sink.new) (K.room sink.old) (K.room sink.new) (K.faults sink.old) (K.faults sink.new) result }
 {
     for s in 0..net.species() {
-        put_turn(sink, b" ", s, net.name(s))?;
-    }
-    Ok(())
-}
-
-// A separator, a number and a name.
-fn put_number<K: Sink>(
-    sink: &mut K,
-    between: &[u8],
-    amount: i128,
-    name: &[u8],
-) -> Result<(), WriteFault>
-    ensures { Wrote (between.now ++ signed_decimal amount ++ name.now) (K.took sink.old) (K.took sink.new) (K.room sink.old) (K.room sink.new) (K.faults sink.old) (K.faults sink.new) result }
-{
-    let mut buffer = Buffer::new();
-    put_parts(sink, &[between, buffer.format(amount).as_bytes(), name])
-}
-
-// A species with its amount, as the i-th term of a side.
-fn put_term<K: Sink>(sink: &mut K, i: usize, amount: i128, name: &[u8]) -> Result<(), WriteFault>
-    requires { pos 0 <ℤ amount }
-    ensures { Wrote (turn (codes " + ") i (term amount name.now)) (K.took sink.old) (K.took sink.new) (K.room sink.old) (K.room sink.new) (K.faults sink.old) (K.faults sink.new) result }
-{
-    if amount == 1 {
-        return put_turn(sink, b" + ", i, name);
-    }
-    match i {
-        0 => put_number(sink, b"", amount, name),
-        _ => put_number(sink, b" + ", amount, name),
-    }
-}
-
-// A species of a side behind `shown` terms, where there is some of it, and the new number of terms.
-fn put_species<K: Sink>(
-    sink: &mut K,
-    shown: usize,
-    amount: &i128,
-    name: &[u8],
-) -> Result<usize, WriteFault>
-    requires { shown < 2 ^ 32 }
-    ensures text { Wrote (added (codes " + ") shown (term_if_some amount.now name.now)) (K.took sink.old) (K.took sink.new) (K.room sink.old) (K.room sink.new) (K.faults sink.old) (K.faults sink.new) result }
-    ensures count { IfOk result (λ n. n ≡ shown + length (term_if_some amount.now name.now)) }
-{
-    if *amount <= 0 {
-        return Ok(shown);
-    }
-    match put_term(sink, shown, *amount, name) {
-        Ok(()) => Ok(shown + 1),
-        Err(fault) => Err(fault),
-    }
-}
-
-// A complex as the canonical text writes it.
-fn put_side<K: Sink>(sink: &mut K, net: &Network, c: usize) -> Result<(), WriteFault>
-    requires { c < length net.now.complexes }
-    ensures { Wrote (side net.now.names (slice_index_or net.now.complexes c [])) (K.took sink.old) (K.took sink.new) (K.room sink.old) (K.room sink.new) (K.faults sink.old) (K.faults sink.new) result }
-{
-    let vector = net.vector(c);
-    let mut shown = 0usize;
-    for s in 0..net.species() {
-        shown = put_species(sink, shown, &vector[s], net.name(s))?;
-    }
-    if shown == 0 {
-        return put_all(sink, b"0");
+        put_next_name(sink, s, net.name(s))?;
     }
     Ok(())
 }
@@ -116,10 +55,10 @@ fn put_next_side<K: Sink>(
     ensures { Wrote (turn (codes "; ") shown (slice_index_or (sides net.now) c [])) (K.took sink.old) (K.took sink.new) (K.room sink.old) (K.room sink.new) (K.faults sink.old) (K.faults sink.new) result }
 {
     if shown == 0 {
-        return put_side(sink, net, c);
+        return write_side(net, c, sink);
     }
     put_all(sink, b"; ")?;
-    put_side(sink, net, c)
+    write_side(net, c, sink)
 }
 
 // All complexes.

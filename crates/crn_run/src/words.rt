@@ -7,16 +7,8 @@ ghost use Rattle.crn_run.specs.declared.words.Command.{Command};
 
 use clap::error::ErrorKind;
 use clap::{Arg, ArgAction};
+use crn_vec::{DEFAULT_BUDGET, MAX_BUDGET, MAX_BUDGET_DIGITS};
 use std::alloc::{AllocError, Global};
-
-/// The greatest budget.
-pub const MAX_BUDGET: u32 = 100_000;
-
-/// The budget of a command whose words give none.
-pub const DEFAULT_BUDGET: u32 = 20_000;
-
-/// The digits of a budget's word.
-pub const MAX_BUDGET_DIGITS: usize = 6;
 
 /// What the words of a command line ask for.
 ///
@@ -142,7 +134,8 @@ fn budget_of(digits: &str) -> Option<u32>
 
 #[cfg(test)]
 mod tests {
-    use super::{Command, DEFAULT_BUDGET, MAX_BUDGET, command_of};
+    use super::{Command, command_of};
+    use crn_vec::{DEFAULT_BUDGET, MAX_BUDGET};
     use std::alloc::Global;
     use std::test::Fail;
 

@@ -55,24 +55,24 @@ pub or_zero_none : (ts : List (List ℕ)) → length ts ≡ 0 → (or_zero ts �
 or_zero_none [] e = (refl, refl)
 or_zero_none (t ∷ ts) e = absurd (omega arith)
 
--- What at most one text adds.
-step_of : (between : List ℕ) (ts m : List (List ℕ)) → length m ≤ 1 → joined between (ts ++ m) ≡ joined between ts ++ added between (length ts) m
-step_of between ts [] le = rw (append-nil ts) (sym (append-nil _))
-step_of between ts (t ∷ []) le = joined_push between ts t
-step_of between ts (t ∷ u ∷ us) le = absurd (omega arith)
+-- What at most one text adds to joined texts.
+pub joined_added : (between : List ℕ) (ts m : List (List ℕ)) → length m ≤ 1 → joined between (ts ++ m) ≡ joined between ts ++ added between (length ts) m
+joined_added between ts [] le = rw (append-nil ts) (sym (append-nil _))
+joined_added between ts (t ∷ []) le = joined_push between ts t
+joined_added between ts (t ∷ u ∷ us) le = absurd (omega arith)
 
 -- Joined texts begin with the first of them and what at most one more adds.
-front_of : (between : List ℕ) (ts m us : List (List ℕ)) → length m ≤ 1 → (rest : List ℕ) × (joined between ((ts ++ m) ++ us) ≡ (joined between ts ++ added between (length ts) m) ++ rest)
-front_of between [] [] us le = (joined between us, refl)
-front_of between (x ∷ ts) [] us le = (flat_map (λ y. between ++ y) us, rw (append-nil ts, append-nil (x ++ flat_map (λ y. between ++ y) ts)) (ap (λ (u : List ℕ). x ++ u) (flat_map-append (λ y. between ++ y) ts us) ∙ sym (append_assoc x _ _)))
-front_of between ts (t ∷ []) us le = (flat_map (λ y. between ++ y) us, joined_more between ts us t)
-front_of between ts (t ∷ u ∷ more) us le = absurd (omega arith)
+pub joined_front : (between : List ℕ) (ts m us : List (List ℕ)) → length m ≤ 1 → (rest : List ℕ) × (joined between ((ts ++ m) ++ us) ≡ (joined between ts ++ added between (length ts) m) ++ rest)
+joined_front between [] [] us le = (joined between us, refl)
+joined_front between (x ∷ ts) [] us le = (flat_map (λ y. between ++ y) us, rw (append-nil ts, append-nil (x ++ flat_map (λ y. between ++ y) ts)) (ap (λ (u : List ℕ). x ++ u) (flat_map-append (λ y. between ++ y) ts us) ∙ sym (append_assoc x _ _)))
+joined_front between ts (t ∷ []) us le = (flat_map (λ y. between ++ y) us, joined_more between ts us t)
+joined_front between ts (t ∷ u ∷ more) us le = absurd (omega arith)
 
 zero_front : (ts m us : List (List ℕ)) → length m ≤ 1 → (rest : List ℕ) × (or_zero ((ts ++ m) ++ us) ≡ (joined (codes " + ") ts ++ added (codes " + ") (length ts) m) ++ rest)
 zero_front [] [] [] le = (codes "0", refl)
-zero_front [] [] (u ∷ us) le = front_of (codes " + ") [] [] (u ∷ us) le
-zero_front [] (t ∷ ms) us le = front_of (codes " + ") [] (t ∷ ms) us le
-zero_front (x ∷ ts) m us le = front_of (codes " + ") (x ∷ ts) m us le
+zero_front [] [] (u ∷ us) le = joined_front (codes " + ") [] [] (u ∷ us) le
+zero_front [] (t ∷ ms) us le = joined_front (codes " + ") [] (t ∷ ms) us le
+zero_front (x ∷ ts) m us le = joined_front (codes " + ") (x ∷ ts) m us le
 
 pub count_of_one : (a : ℤ) (name : List ℕ) → length (term_if_some a name) ≤ 1
 count_of_one (pos zero) name = omega arith
@@ -81,7 +81,7 @@ count_of_one (negsuc n) name = omega arith
 
 pub side_step : (names : List (List ℕ)) (v : List ℤ) (i n : ℕ) → i < length names → i < length v → n ≡ length (terms (take i names) (take i v))
     → joined (codes " + ") (terms (take (i + 1) names) (take (i + 1) v)) ≡ joined (codes " + ") (terms (take i names) (take i v)) ++ added (codes " + ") n (term_if_some (get_or v i (pos 0)) (get_or names i []))
-side_step names v i n p q e = rw (add-one, terms_take names v i p q, e) (step_of (codes " + ") (terms (take i names) (take i v)) (term_if_some (get_or v i (pos 0)) (get_or names i [])) (count_of_one (get_or v i (pos 0)) (get_or names i [])))
+side_step names v i n p q e = rw (add-one, terms_take names v i p q, e) (joined_added (codes " + ") (terms (take i names) (take i v)) (term_if_some (get_or v i (pos 0)) (get_or names i [])) (count_of_one (get_or v i (pos 0)) (get_or names i [])))
 
 pub side_count : (names : List (List ℕ)) (v : List ℤ) (i : ℕ) → i < length names → i < length v → length (terms (take (i + 1) names) (take (i + 1) v)) ≡ length (terms (take i names) (take i v)) + length (term_if_some (get_or v i (pos 0)) (get_or names i []))
 side_count names v i p q = rw (add-one, terms_take names v i p q) (length-append _ _)

@@ -1,7 +1,8 @@
 use Rattle.std.proofs.Common.{◌++◌, refl, codes, append_assoc}
 use Rattle.std.proofs.lemmas.Result.{err_from_is_err_and}
 use Rattle.crn_io.proofs.Writes.{Wrote-step, Wrote-step-stop, Wrote-first-stop}
-use Rattle.crn_run.specs.Report.{class_line, joined, of_label, sides}
+use Rattle.crn_text.specs.Canonical.{joined}
+use Rattle.crn_run.specs.Report.{class_line, of_label, sides}
 use Rattle.crn_run.proofs.report.put_class.Goals as goal
 
 pub returns-in_err-put_count : goal.returns-in_err-put_count

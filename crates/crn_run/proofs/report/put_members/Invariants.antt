@@ -1,6 +1,7 @@
 use Rattle.std.proofs.Common.{◌≡◌, ◌≤◌, ℕ, take, length, Ok, codes}
 use Rattle.crn_io.specs.Write.{Wrote}
-use Rattle.crn_run.specs.Report.{joined, of_label, sides}
+use Rattle.crn_text.specs.Canonical.{joined}
+use Rattle.crn_run.specs.Report.{of_label, sides}
 use Rattle.crn_run.proofs.report.put_members.Given as goal
 
 abbrev pub invariant-loop-c : goal.invariant-loop-c

@@ -1,6 +1,6 @@
 use Rattle.std.proofs.Common.{ℕ, take, Ok, codes}
 use Rattle.crn_io.specs.Write.{Wrote}
-use Rattle.crn_run.specs.Report.{joined}
+use Rattle.crn_text.specs.Canonical.{joined}
 use Rattle.crn_run.proofs.report.put_names.Given as goal
 
 abbrev pub invariant-loop-s : goal.invariant-loop-s

@@ -1,6 +1,7 @@
 use Rattle.std.proofs.Common.{ℕ, take, Ok, codes}
 use Rattle.crn_io.specs.Write.{Wrote}
-use Rattle.crn_run.specs.Report.{joined, sides}
+use Rattle.crn_text.specs.Canonical.{joined}
+use Rattle.crn_run.specs.Report.{sides}
 use Rattle.crn_run.proofs.report.put_sides.Given as goal
 
 abbrev pub invariant-loop-c : goal.invariant-loop-c

@@ -2,7 +2,8 @@ use Rattle.std.proofs.Common.{◌++◌, refl, codes, append_assoc, length}
 use Rattle.std.specs.Fmt.{decimal}
 use Rattle.std.proofs.lemmas.Result.{err_from_is_err_and}
 use Rattle.crn_io.proofs.Writes.{Wrote-step, Wrote-step-stop, Wrote-first-stop}
-use Rattle.crn_run.specs.Report.{species_line, joined}
+use Rattle.crn_text.specs.Canonical.{joined}
+use Rattle.crn_run.specs.Report.{species_line}
 use Rattle.crn_run.proofs.report.put_species_line.Goals as goal
 
 pub returns-in_err-put_count : goal.returns-in_err-put_count
