@@ -8,59 +8,113 @@ ghost use Rattle.crn_vec.specs.Network.{IsAmount, JoinsTwo, amounts_in};
 ghost use Rattle.crn_vec.specs.Network.{minus};
 ghost use Rattle.crn_net.specs.Terms.{name_at, side_of, statement_of, IsSide};
 ghost use Rattle.crn_net.specs.Views.{IsRow};
-ghost use Rattle.crn_net.specs.Steps.{NotesNames, NotesRow, NotesReaction, BuildGives};
+ghost use Rattle.crn_net.specs.Steps.{NotesName, NotesSide, NotesBoth, IsApart, IsCrowded, NotesSides, NotesRow, NotesReaction, BuildGives};
 
 use crate::fault::NetFault;
-use crate::name::Name;
-use crate::sides::{amount, name_of};
+use crate::name::{Name, Names};
+use crate::sides::{name_of, says_same};
 use crate::term::Term;
-use crn_vec::{MAX_COMPLEXES, MAX_REACTIONS, MAX_SPECIES, MAX_TEXT};
+use crn_vec::{MAX_COMPLEXES, MAX_NAME, MAX_REACTIONS, MAX_SPECIES, MAX_TEXT};
 use std::alloc::{AllocError, Global};
 
 // The amounts of a complex, one for each species, and 0 at the places without a species.
 pub type Row = [i128; MAX_SPECIES];
 
-// Whether a name is among these.
-fn has_name(names: &[Name], name: &[u8]) -> bool
-    ensures { result ≡ list_any (λ known. bytes_eq known name.now) names.now }
+// The place of a name, which is added where it is new. A name too many is added, and the answer is an error.
+fn note_name(names: &mut Names, name: &[u8]) -> Result<usize, NetFault>
+    requires few { length names.old.keys ≤ MAX_SPECIES }
+    requires short { length name.now ≤ MAX_NAME }
+    ensures notes { NotesName names.old.keys name.now result names.new.keys }
+    ensures kept { take (length names.old.keys) names.new.keys ≡ names.old.keys }
 {
-    names.iter().any(|known| known.as_slice() == name)
-}
-
-// Adds the names of a side that are not there yet.
-fn note_names(names: &mut Vec<Name>, text: &[u8], side: &[Term]) -> Result<(), NetFault>
-    requires distinct { AreDistinct names.old.items }
-    requires few { length names.old.items ≤ MAX_SPECIES }
-    requires short { length text.now ≤ MAX_TEXT }
-    requires side { IsSide text.now side.now }
-    ensures notes { NotesNames names.old.items (map (name_at text.now) side.now) result names.new.items }
-    ensures kept { take (length names.old.items) names.new.items ≡ names.old.items }
-{
-    for term in side {
-        let name = name_of(text, term);
-        if !has_name(names, name) {
-            if names.len() >= MAX_SPECIES {
-                return Err(NetFault::TooManySpecies);
-            }
-            names.push(Name::new(name))?;
-        }
+    let (place, _) = names.insert_full(Name::new(name))?;
+    if place >= MAX_SPECIES {
+        return Err(NetFault::TooManySpecies);
     }
-    Ok(())
+    Ok(place)
 }
 
-// The amounts that a side says of these names.
-fn row_of(names: &[Name], text: &[u8], side: &[Term]) -> Row
-    requires few { length names.now ≤ MAX_SPECIES }
+// The amounts that a side says of the names, to which it adds its own. It looks each term's name up once.
+fn note_side(names: &mut Names, text: &[u8], side: &[Term]) -> Result<Row, NetFault>
+    requires distinct { AreDistinct names.old.keys }
+    requires few { length names.old.keys ≤ MAX_SPECIES }
     requires short { length text.now ≤ MAX_TEXT }
     requires side { IsSide text.now side.now }
-    ensures amounts { take (length names.now) result ≡ amounts_in names.now (side_of text.now side.now) }
-    ensures row { IsRow (length names.now) result }
+    ensures notes { NotesSide names.old.keys (side_of text.now side.now) result names.new.keys }
+    ensures kept { take (length names.old.keys) names.new.keys ≡ names.old.keys }
 {
     let mut row = [0; MAX_SPECIES];
-    for (s, name) in names.iter().enumerate() {
-        row[s] = i128::from(amount(text, side, name.as_slice()));
+    for term in side {
+        let place = note_name(names, name_of(text, term))?;
+        row[place] += i128::from(term.count);
     }
-    row
+    Ok(row)
+}
+
+// The amounts that the left and the right side say of the names, to which they add their own.
+fn note_both(
+    names: &mut Names,
+    text: &[u8],
+    left: &[Term],
+    right: &[Term],
+) -> Result<(Row, Row), NetFault>
+    requires distinct { AreDistinct names.old.keys }
+    requires few { length names.old.keys ≤ MAX_SPECIES }
+    requires short { length text.now ≤ MAX_TEXT }
+    requires left { IsSide text.now left.now }
+    requires right { IsSide text.now right.now }
+    ensures notes { NotesBoth names.old.keys (statement_of text.now left.now right.now) result names.new.keys }
+    ensures kept { take (length names.old.keys) names.new.keys ≡ names.old.keys }
+{
+    let reactant = note_side(names, text, left)?;
+    let product = note_side(names, text, right)?;
+    Ok((reactant, product))
+}
+
+// The rows, where they differ.
+fn apart(rows: (Row, Row)) -> Result<(Row, Row), NetFault>
+    ensures { IsApart rows result }
+{
+    if rows.0 == rows.1 {
+        return Err(NetFault::SelfReaction);
+    }
+    Ok(rows)
+}
+
+// Why a statement is refused whose names find no room.
+fn crowded(alloc: Global, text: &[u8], left: &[Term], right: &[Term]) -> NetFault
+    requires short { length text.now ≤ MAX_TEXT }
+    requires left { IsSide text.now left.now }
+    requires right { IsSide text.now right.now }
+    ensures { IsCrowded (statement_of text.now left.now right.now) result }
+{
+    match says_same(alloc, text, left, right) {
+        Ok(true) => NetFault::SelfReaction,
+        Ok(false) => NetFault::TooManySpecies,
+        Err(_) => NetFault::NoMemory,
+    }
+}
+
+// The amounts of two sides that are not the same complex.
+fn note_sides(
+    names: &mut Names,
+    text: &[u8],
+    left: &[Term],
+    right: &[Term],
+) -> Result<(Row, Row), NetFault>
+    requires distinct { AreDistinct names.old.keys }
+    requires few { length names.old.keys ≤ MAX_SPECIES }
+    requires short { length text.now ≤ MAX_TEXT }
+    requires left { IsSide text.now left.now }
+    requires right { IsSide text.now right.now }
+    ensures notes { NotesSides names.old.keys (statement_of text.now left.now right.now) result names.new.keys }
+    ensures kept { take (length names.old.keys) names.new.keys ≡ names.old.keys }
+{
+    match note_both(names, text, left, right) {
+        Ok(rows) => apart(rows),
+        Err(NetFault::TooManySpecies) => Err(crowded(*names.allocator(), text, left, right)),
+        Err(fault) => Err(fault),
+    }
 }
 
 // The place of a row among these.
@@ -117,29 +171,28 @@ fn note_reaction(
 // Adds the reaction of a statement to the tables. After an error there may be more names and rows, but no
 // other reaction.
 pub fn build(
-    names: &mut Vec<Name>,
+    names: &mut Names,
     rows: &mut Vec<Row>,
     reactions: &mut Vec<(usize, usize)>,
     text: &[u8],
     left: &[Term],
     right: &[Term],
 ) -> Result<(), NetFault>
-    requires distinct { AreDistinct names.old.items }
-    requires names_few { length names.old.items ≤ MAX_SPECIES }
+    requires distinct { AreDistinct names.old.keys }
+    requires names_few { length names.old.keys ≤ MAX_SPECIES }
     requires rows_few { length rows.old.items ≤ MAX_COMPLEXES }
     requires reactions_few { length reactions.old.items ≤ MAX_REACTIONS }
     requires short { length text.now ≤ MAX_TEXT }
     requires left { IsSide text.now left.now }
     requires right { IsSide text.now right.now }
-    ensures gives { BuildGives names.old.items rows.old.items reactions.old.items (statement_of text.now left.now right.now) result names.new.items rows.new.items reactions.new.items }
-    ensures names_kept { take (length names.old.items) names.new.items ≡ names.old.items }
+    ensures gives { BuildGives names.old.keys rows.old.items reactions.old.items (statement_of text.now left.now right.now) result names.new.keys rows.new.items reactions.new.items }
+    ensures names_kept { take (length names.old.keys) names.new.keys ≡ names.old.keys }
     ensures rows_kept { take (length rows.old.items) rows.new.items ≡ rows.old.items }
     ensures reactions_kept { OnErr result (reactions.new.items ≡ reactions.old.items) }
 {
-    note_names(names, text, left)?;
-    note_names(names, text, right)?;
-    let reactant = note_row(rows, row_of(names, text, left))?;
-    let product = note_row(rows, row_of(names, text, right))?;
+    let (left_row, right_row) = note_sides(names, text, left, right)?;
+    let reactant = note_row(rows, left_row)?;
+    let product = note_row(rows, right_row)?;
     note_reaction(reactions, (reactant, product))
 }
 

@@ -8,7 +8,7 @@ use Rattle.crn_net.proofs.network.Network.vector.Goals as goal
 
 pub returns-clause-amounts : goal.returns-clause-amounts
 returns-clause-amounts c =
-    let n = c.self.inside.names.items in
+    let n = c.self.inside.names.keys in
     let rows = c.self.inside.rows.items in
     let width : c.len.result ≡ length n = omega arith in
     let lt : c.args.c < length (vectors_of (length n) rows) = subst (λ (net : Net). c.args.c < length net.complexes) (sym c.self.view_is) c.requires in
