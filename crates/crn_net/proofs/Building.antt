@@ -9,7 +9,7 @@ use Rattle.crn_vec.specs.Network.{amount_in, amounts_in, names_in, Statement}
 use Rattle.crn_vec.specs.declared.limits.TheConstants.{MAX_SPECIES}
 use Rattle.crn_net.specs.declared.fault.NetFault.{NetFault}
 use Rattle.crn_net.specs.declared.fault.NetFault.TheVariants.{SelfReaction, TooManySpecies, TooManyComplexes, TooManyReactions, NoReaction, NoMemory}
-use Rattle.crn_net.specs.Steps.{SaysSame, Puts, NotesSide, AreNoted, NotesBoth, IsApart, IsCrowded, NotesSides, NotesRow, NotesReaction, PutsBoth, LeftIsOver, RightIsOver, BuildGives}
+use Rattle.crn_net.specs.Steps.{SaysSame, Puts, NotesSide, AreNoted, NotesBoth, TellsApart, NotesSides, NotesRow, NotesReaction, PutsBoth, LeftIsOver, RightIsOver, BuildGives}
 use Rattle.crn_net.proofs.Lists.{in_left, in_right, in_at, map_same}
 use Rattle.crn_net.proofs.Firsts.{firsts_distinct, firsts_has}
 use Rattle.crn_net.proofs.Members.{any_is, name_decides}
@@ -20,24 +20,16 @@ use Rattle.crn_net.proofs.Counting.{counted_is, is_counted, counted_wider}
 
 -- ---- names and rows of both sides
 
-pub left_stops : (old middle new : List (List ℕ)) (s : Statement) (e : NetFault) → NotesSide old s.0 (Err e) middle → NotesBoth old s (Err e) new
-left_stops old middle new s SelfReaction h = h
-left_stops old middle new s TooManySpecies h = left_over old s MAX_SPECIES h
-left_stops old middle new s TooManyComplexes h = absurd h
-left_stops old middle new s TooManyReactions h = absurd h
-left_stops old middle new s NoReaction h = h
-left_stops old middle new s NoMemory h = tt
-
-pub right_stops : (old middle new : List (List ℕ)) (s : Statement) (e : NetFault) → middle ≡ firsts bytes_eq (old ++ map (λ t. t.0) s.0) → NotesSide middle s.1 (Err e) new → NotesBoth old s (Err e) new
-right_stops old middle new s SelfReaction is h = h
-right_stops old middle new s TooManySpecies is h = let e = ap length (names_both old middle s is) in omega (arith, e, h)
-right_stops old middle new s TooManyComplexes is h = absurd h
-right_stops old middle new s TooManyReactions is h = absurd h
-right_stops old middle new s NoReaction is h = h
-right_stops old middle new s NoMemory is h = tt
+pub left_stops : (old middle : List (List ℕ)) (s : Statement) (left : List ℤ) (rows : List ℤ × List ℤ) (e : NetFault) → NotesSide old s.0 (Err e) middle left → NotesBoth old s (Err e) middle rows
+left_stops old middle s left rows SelfReaction h = h
+left_stops old middle s left rows TooManySpecies h = left_over old s MAX_SPECIES h
+left_stops old middle s left rows TooManyComplexes h = absurd h
+left_stops old middle s left rows TooManyReactions h = absurd h
+left_stops old middle s left rows NoReaction h = h
+left_stops old middle s left rows NoMemory h = tt
 
 -- the row of the left side is that of all names too
-pub both_noted : (old middle new : List (List ℕ)) (s : Statement) (left right : List ℤ) → NotesSide old s.0 (Ok left) middle → NotesSide middle s.1 (Ok right) new → take (length middle) new ≡ middle → AreNoted old s (left, right) new
+both_noted : (old middle new : List (List ℕ)) (s : Statement) (left right : List ℤ) → NotesSide old s.0 (Ok tt) middle left → NotesSide middle s.1 (Ok tt) new right → take (length middle) new ≡ middle → AreNoted old s (left, right) new
 both_noted old middle new s left right l r kept =
     let distinct : AreDistinct new = subst AreDistinct (sym r.0) (firsts_distinct bytes_eq bytes_eq-Decides (middle ++ map (λ t. t.0) s.1)) in
     let front = length-take (length middle) new in
@@ -50,6 +42,15 @@ both_noted old middle new s left right l r kept =
       left = counted_is new s.0 left r.1 (counted_wider middle new s.0 left (is_counted middle s.0 left l.2) distinct kept (omega (arith, front, long)) has);
       right = r.2;
     }
+
+pub right_ends : (old middle new : List (List ℕ)) (s : Statement) (left right : List ℤ) (result : Result Unit NetFault) → NotesSide old s.0 (Ok tt) middle left → NotesSide middle s.1 result new right → take (length middle) new ≡ middle → NotesBoth old s result new (left, right)
+right_ends old middle new s left right (Ok done) l r kept = both_noted old middle new s left right l r kept
+right_ends old middle new s left right (Err SelfReaction) l r kept = r
+right_ends old middle new s left right (Err TooManySpecies) l r kept = let e = ap length (names_both old middle s l.0) in omega (arith, e, r)
+right_ends old middle new s left right (Err TooManyComplexes) l r kept = absurd r
+right_ends old middle new s left right (Err TooManyReactions) l r kept = absurd r
+right_ends old middle new s left right (Err NoReaction) l r kept = r
+right_ends old middle new s left right (Err NoMemory) l r kept = tt
 
 -- ---- self reactions
 
@@ -85,9 +86,9 @@ rows_say old new s both n e = amounts_say old s (subst (λ (t : List (List ℕ))
 says_rows : (old new : List (List ℕ)) (s : Statement) (both : List ℤ × List ℤ) → AreNoted old s both new → SaysSame s → both.0 ≡ both.1
 says_rows old new s both n h = row_ext (length new) both.0 both.1 n.left.is n.right.is (n.left.amounts ∙ says_amounts new s h ∙ sym n.right.amounts)
 
--- rows that differ are those of two complexes
-pub apart_noted : (old new : List (List ℕ)) (s : Statement) (both : List ℤ × List ℤ) (result : Result (List ℤ × List ℤ) NetFault) → AreNoted old s both new → IsApart both result → NotesSides old s result new
-apart_noted old new s both (Ok same) n h = (λ says. h.1 (says_rows old new s both n says), subst (λ (t : List ℤ × List ℤ). AreNoted old s t new) (sym h.0) n)
+-- rows tell sides apart
+pub apart_noted : (old new : List (List ℕ)) (s : Statement) (both : List ℤ × List ℤ) (result : Result Unit NetFault) → AreNoted old s both new → TellsApart both result → NotesSides old s result new both
+apart_noted old new s both (Ok done) n h = (λ says. h (says_rows old new s both n says), n)
 apart_noted old new s both (Err SelfReaction) n h = rows_say old new s both n h
 apart_noted old new s both (Err TooManySpecies) n h = absurd h
 apart_noted old new s both (Err TooManyComplexes) n h = h
@@ -95,37 +96,10 @@ apart_noted old new s both (Err TooManyReactions) n h = h
 apart_noted old new s both (Err NoReaction) n h = h
 apart_noted old new s both (Err NoMemory) n h = tt
 
-pub crowded_noted : (old new : List (List ℕ)) (s : Statement) (fault : NetFault) → MAX_SPECIES < length (firsts bytes_eq (old ++ names_in s)) → IsCrowded s fault → NotesSides old s (Err fault) new
-crowded_noted old new s SelfReaction over h = h
-crowded_noted old new s TooManySpecies over h = (h, over)
-crowded_noted old new s TooManyComplexes over h = h
-crowded_noted old new s TooManyReactions over h = h
-crowded_noted old new s NoReaction over h = h
-crowded_noted old new s NoMemory over h = tt
-
 -- ---- rows and the reaction
 
-pub sides_stop : (old new : List (List ℕ)) (rows rows' : List (List ℤ)) (reactions reactions' : List (ℕ × ℕ)) (s : Statement) (e : NetFault) → NotesSides old s (Err e) new → BuildGives old rows reactions s (Err e) new rows' reactions'
-sides_stop old new rows rows' reactions reactions' s SelfReaction h = h
-sides_stop old new rows rows' reactions reactions' s TooManySpecies h = h
-sides_stop old new rows rows' reactions reactions' s TooManyComplexes h = absurd h
-sides_stop old new rows rows' reactions reactions' s TooManyReactions h = absurd h
-sides_stop old new rows rows' reactions reactions' s NoReaction h = h
-sides_stop old new rows rows' reactions reactions' s NoMemory h = tt
-
-pub left_row_stops : (old names : List (List ℕ)) (rows rows' : List (List ℤ)) (reactions reactions' : List (ℕ × ℕ)) (s : Statement) (both : List ℤ × List ℤ) (e : NetFault)
-    → NotesSides old s (Ok both) names → NotesRow rows both.0 (Err e) rows' → BuildGives old rows reactions s (Err e) names rows' reactions'
-left_row_stops old names rows rows' reactions reactions' s both SelfReaction n h = absurd h
-left_row_stops old names rows rows' reactions reactions' s both TooManySpecies n h = absurd h
-left_row_stops old names rows rows' reactions reactions' s both TooManyComplexes n h =
-    let over = subst (λ (t : List (List ℕ)). (length t ≤ MAX_SPECIES) × (LeftIsOver t s rows ⊎ RightIsOver t s rows)) n.1.names (n.1.few, inl (record { left = both.0; left_row = n.1.left; fresh = h.1; full = h.2 })) in
-    (n.0, over.0, over.1)
-left_row_stops old names rows rows' reactions reactions' s both TooManyReactions n h = absurd h
-left_row_stops old names rows rows' reactions reactions' s both NoReaction n h = h
-left_row_stops old names rows rows' reactions reactions' s both NoMemory n h = tt
-
 pub right_row_stops : (old names : List (List ℕ)) (rows middle rows' : List (List ℤ)) (reactions reactions' : List (ℕ × ℕ)) (s : Statement) (both : List ℤ × List ℤ) (e : NetFault)
-    → NotesSides old s (Ok both) names → Puts rows both.0 middle → NotesRow middle both.1 (Err e) rows' → BuildGives old rows reactions s (Err e) names rows' reactions'
+    → NotesSides old s (Ok tt) names both → Puts rows both.0 middle → NotesRow middle both.1 (Err e) rows' → BuildGives old rows reactions s (Err e) names rows' reactions'
 right_row_stops old names rows middle rows' reactions reactions' s both SelfReaction n p h = absurd h
 right_row_stops old names rows middle rows' reactions reactions' s both TooManySpecies n p h = absurd h
 right_row_stops old names rows middle rows' reactions reactions' s both TooManyComplexes n p h =
@@ -152,7 +126,7 @@ both_put old names rows middle rows' s both y z n a b = record {
 }
 
 pub reaction_ends : (old names : List (List ℕ)) (rows rows' : List (List ℤ)) (reactions reactions' : List (ℕ × ℕ)) (s : Statement) (both : List ℤ × List ℤ) (y z : ℕ) (result : Result Unit NetFault)
-    → NotesSides old s (Ok both) names → PutsBoth names s rows y z rows' → NotesReaction reactions (y, z) result reactions' → BuildGives old rows reactions s result names rows' reactions'
+    → NotesSides old s (Ok tt) names both → PutsBoth names s rows y z rows' → NotesReaction reactions (y, z) result reactions' → BuildGives old rows reactions s result names rows' reactions'
 reaction_ends old names rows rows' reactions reactions' s both y z (Ok done) n p h = (n.0, record { y = y; z = z; names_are = n.1.names; names_few = n.1.few; rows_are = p; reactions_are = h.0; reactions_few = h.1 })
 reaction_ends old names rows rows' reactions reactions' s both y z (Err SelfReaction) n p h = absurd h
 reaction_ends old names rows rows' reactions reactions' s both y z (Err TooManySpecies) n p h = absurd h

@@ -179,7 +179,7 @@ count_amount text side i d lt most =
     omega (arith, more, part, all)
 
 pub noting_stops : (old : List (List ℕ)) (text : List ℕ) (side : List Term) (i : ℕ) (d : Term) (names new : List (List ℕ)) (row : List ℤ) (e : NetFault) → IsNoting old text side i names row → i < length side
-    → NotesName names (name_at text (get_or side i d)) (Err e) new → NotesSide old (side_of text side) (Err e) new
+    → NotesName names (name_at text (get_or side i d)) (Err e) new → NotesSide old (side_of text side) (Err e) new row
 noting_stops old text side i d names new row SelfReaction h lt n = n
 noting_stops old text side i d names new row TooManySpecies h lt n =
     let over = names_over old names text side i d MAX_SPECIES lt h.are n.0 n.1 in
@@ -189,17 +189,8 @@ noting_stops old text side i d names new row TooManyReactions h lt n = absurd n
 noting_stops old text side i d names new row NoReaction h lt n = n
 noting_stops old text side i d names new row NoMemory h lt n = tt
 
-pub noting_ends : (old : List (List ℕ)) (text : List ℕ) (side : List Term) (i : ℕ) (names : List (List ℕ)) (row : List ℤ) → IsNoting old text side i names row → length side ≤ i → NotesSide old (side_of text side) (Ok row) names
+pub noting_ends : (old : List (List ℕ)) (text : List ℕ) (side : List Term) (i : ℕ) (names : List (List ℕ)) (row : List ℤ) → IsNoting old text side i names row → length side ≤ i → NotesSide old (side_of text side) (Ok tt) names row
 noting_ends old text side i names row h le =
     let all = take_all i side le in
     let are = h.are ∙ ap (λ (t : List Term). firsts bytes_eq (old ++ map (name_at text) t)) all ∙ ap (λ (t : List (List ℕ)). firsts bytes_eq (old ++ t)) (sym (names_of_side text side)) in
     (are, h.few, counted_is names (side_of text side) row h.few (subst (λ (t : List Term). IsCounted names (side_of text t) row) all h.counted))
-
--- a front that stays under two changes
-pub kept_twice : (old names new : List (List ℕ)) → take (length old) names ≡ old → take (length names) new ≡ names → take (length old) new ≡ old
-kept_twice old names new a b =
-    let n = length old in
-    let long = ap length a in
-    let least = length-take n names in
-    let le : n ≤ length names = omega (arith, long, least) in
-    sym (take-take n (length names) new le) ∙ ap (take n) b ∙ a

@@ -29,11 +29,11 @@ pub record IsRowFor (names : List (List ℕ)) (side : List (List ℕ × ℕ)) (r
   pub is : IsRow (length names) row
 
 -- the names that come anew stand at the end, and the row is that of the side
-abbrev pub NotesSide : List (List ℕ) → List (List ℕ × ℕ) → Result (List ℤ) NetFault → List (List ℕ) → Type 0
-NotesSide old side (Ok row) new = (new ≡ firsts bytes_eq (old ++ map (λ t. t.0) side)) × (length new ≤ MAX_SPECIES) × IsRowFor new side row
-NotesSide old side (Err TooManySpecies) new = MAX_SPECIES < length (firsts bytes_eq (old ++ map (λ t. t.0) side))
-NotesSide old side (Err NoMemory) new = Unit {0}
-NotesSide old side (Err fault) new = ⊥
+abbrev pub NotesSide : List (List ℕ) → List (List ℕ × ℕ) → Result Unit NetFault → List (List ℕ) → List ℤ → Type 0
+NotesSide old side (Ok done) new row = (new ≡ firsts bytes_eq (old ++ map (λ t. t.0) side)) × (length new ≤ MAX_SPECIES) × IsRowFor new side row
+NotesSide old side (Err TooManySpecies) new row = MAX_SPECIES < length (firsts bytes_eq (old ++ map (λ t. t.0) side))
+NotesSide old side (Err NoMemory) new row = Unit {0}
+NotesSide old side (Err fault) new row = ⊥
 
 -- all names of the statement are there, and the rows are those of its sides
 pub record AreNoted (old : List (List ℕ)) (s : Statement) (rows : List ℤ × List ℤ) (new : List (List ℕ)) : Type 0 where
@@ -42,17 +42,17 @@ pub record AreNoted (old : List (List ℕ)) (s : Statement) (rows : List ℤ × 
   pub left : IsRowFor new s.0 rows.0
   pub right : IsRowFor new s.1 rows.1
 
-abbrev pub NotesBoth : List (List ℕ) → Statement → Result (List ℤ × List ℤ) NetFault → List (List ℕ) → Type 0
-NotesBoth old s (Ok rows) new = AreNoted old s rows new
-NotesBoth old s (Err TooManySpecies) new = MAX_SPECIES < length (firsts bytes_eq (old ++ names_in s))
-NotesBoth old s (Err NoMemory) new = Unit {0}
-NotesBoth old s (Err fault) new = ⊥
+abbrev pub NotesBoth : List (List ℕ) → Statement → Result Unit NetFault → List (List ℕ) → List ℤ × List ℤ → Type 0
+NotesBoth old s (Ok done) new rows = AreNoted old s rows new
+NotesBoth old s (Err TooManySpecies) new rows = MAX_SPECIES < length (firsts bytes_eq (old ++ names_in s))
+NotesBoth old s (Err NoMemory) new rows = Unit {0}
+NotesBoth old s (Err fault) new rows = ⊥
 
--- the rows where they differ
-abbrev pub IsApart : List ℤ × List ℤ → Result (List ℤ × List ℤ) NetFault → Type 0
-IsApart rows (Ok same) = (same ≡ rows) × (rows.0 ≡ rows.1 → ⊥)
-IsApart rows (Err SelfReaction) = rows.0 ≡ rows.1
-IsApart rows (Err fault) = ⊥
+-- whether both rows are the same
+abbrev pub TellsApart : List ℤ × List ℤ → Result Unit NetFault → Type 0
+TellsApart rows (Ok done) = rows.0 ≡ rows.1 → ⊥
+TellsApart rows (Err SelfReaction) = rows.0 ≡ rows.1
+TellsApart rows (Err fault) = ⊥
 
 -- why a statement of too many names is refused
 abbrev pub IsCrowded : Statement → NetFault → Type 0
@@ -61,12 +61,12 @@ IsCrowded s TooManySpecies = SaysSame s → ⊥
 IsCrowded s NoMemory = Unit {0}
 IsCrowded s fault = ⊥
 
-abbrev pub NotesSides : List (List ℕ) → Statement → Result (List ℤ × List ℤ) NetFault → List (List ℕ) → Type 0
-NotesSides old s (Ok rows) new = (SaysSame s → ⊥) × AreNoted old s rows new
-NotesSides old s (Err SelfReaction) new = SaysSame s
-NotesSides old s (Err TooManySpecies) new = (SaysSame s → ⊥) × (MAX_SPECIES < length (firsts bytes_eq (old ++ names_in s)))
-NotesSides old s (Err NoMemory) new = Unit {0}
-NotesSides old s (Err fault) new = ⊥
+abbrev pub NotesSides : List (List ℕ) → Statement → Result Unit NetFault → List (List ℕ) → List ℤ × List ℤ → Type 0
+NotesSides old s (Ok done) new rows = (SaysSame s → ⊥) × AreNoted old s rows new
+NotesSides old s (Err SelfReaction) new rows = SaysSame s
+NotesSides old s (Err TooManySpecies) new rows = (SaysSame s → ⊥) × (MAX_SPECIES < length (firsts bytes_eq (old ++ names_in s)))
+NotesSides old s (Err NoMemory) new rows = Unit {0}
+NotesSides old s (Err fault) new rows = ⊥
 
 -- the place of the row in the new list
 abbrev pub NotesRow : List (List ℤ) → List ℤ → Result ℕ NetFault → List (List ℤ) → Type 0

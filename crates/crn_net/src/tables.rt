@@ -1,4 +1,4 @@
-ghost use Rattle.std.specs.Prelude.{◌≡◌, ◌≤◌, ◌<◌, ◌==◌, ◌&&◌, length, take, map, slice_index_or, [], OnErr, IfOk};
+ghost use Rattle.std.specs.Prelude.{◌≡◌, ◌≤◌, ◌<◌, ◌==◌, ◌&&◌, length, take, map, replicate, slice_index_or, pos, [], OnErr, IfOk};
 ghost use Rattle.std.specs.List.{list_any, position, AllByRecursion};
 ghost use Rattle.std.specs.Str.{bytes_eq};
 ghost use Rattle.std.specs.Ordering.{int_eq};
@@ -8,7 +8,7 @@ ghost use Rattle.crn_vec.specs.Network.{IsAmount, JoinsTwo, amounts_in};
 ghost use Rattle.crn_vec.specs.Network.{minus};
 ghost use Rattle.crn_net.specs.Terms.{name_at, side_of, statement_of, IsSide};
 ghost use Rattle.crn_net.specs.Views.{IsRow};
-ghost use Rattle.crn_net.specs.Steps.{NotesName, NotesSide, NotesBoth, IsApart, IsCrowded, NotesSides, NotesRow, NotesReaction, BuildGives};
+ghost use Rattle.crn_net.specs.Steps.{NotesName, NotesSide, NotesBoth, TellsApart, IsCrowded, NotesSides, NotesRow, NotesReaction, BuildGives};
 
 use crate::fault::NetFault;
 use crate::name::{Name, Names};
@@ -34,51 +34,62 @@ fn note_name(names: &mut Names, name: &[u8]) -> Result<usize, NetFault>
     Ok(place)
 }
 
-// The amounts that a side says of the names, to which it adds its own. It looks each term's name up once.
-fn note_side(names: &mut Names, text: &[u8], side: &[Term]) -> Result<Row, NetFault>
+// The amounts of both sides of a statement.
+pub type Sides = (Row, Row);
+
+// Puts the amounts that a side says of the names into the row, and the side's own names at their end. It looks
+// each term's name up once.
+fn note_side(
+    names: &mut Names,
+    row: &mut Row,
+    text: &[u8],
+    side: &[Term],
+) -> Result<(), NetFault>
     requires distinct { AreDistinct names.old.keys }
     requires few { length names.old.keys ≤ MAX_SPECIES }
+    requires zeros { row.old ≡ replicate MAX_SPECIES (pos 0) }
     requires short { length text.now ≤ MAX_TEXT }
     requires side { IsSide text.now side.now }
-    ensures notes { NotesSide names.old.keys (side_of text.now side.now) result names.new.keys }
+    ensures notes { NotesSide names.old.keys (side_of text.now side.now) result names.new.keys row.new }
     ensures kept { take (length names.old.keys) names.new.keys ≡ names.old.keys }
 {
-    let mut row = [0; MAX_SPECIES];
     for term in side {
         let place = note_name(names, name_of(text, term))?;
         row[place] += i128::from(term.count);
     }
-    Ok(row)
+    Ok(())
 }
 
-// The amounts that the left and the right side say of the names, to which they add their own.
+// The same for the left side, and then the right.
 fn note_both(
     names: &mut Names,
+    rows: &mut Sides,
     text: &[u8],
     left: &[Term],
     right: &[Term],
-) -> Result<(Row, Row), NetFault>
+) -> Result<(), NetFault>
     requires distinct { AreDistinct names.old.keys }
     requires few { length names.old.keys ≤ MAX_SPECIES }
+    requires left_zeros { rows.old.0 ≡ replicate MAX_SPECIES (pos 0) }
+    requires right_zeros { rows.old.1 ≡ replicate MAX_SPECIES (pos 0) }
     requires short { length text.now ≤ MAX_TEXT }
     requires left { IsSide text.now left.now }
     requires right { IsSide text.now right.now }
-    ensures notes { NotesBoth names.old.keys (statement_of text.now left.now right.now) result names.new.keys }
+    ensures notes { NotesBoth names.old.keys (statement_of text.now left.now right.now) result names.new.keys rows.new }
     ensures kept { take (length names.old.keys) names.new.keys ≡ names.old.keys }
 {
-    let reactant = note_side(names, text, left)?;
-    let product = note_side(names, text, right)?;
-    Ok((reactant, product))
+    note_side(names, &mut rows.0, text, left)?;
+    note_side(names, &mut rows.1, text, right)
 }
 
-// The rows, where they differ.
-fn apart(rows: (Row, Row)) -> Result<(Row, Row), NetFault>
-    ensures { IsApart rows result }
+// An error where both sides are the same.
+fn tell_apart(rows: &Sides) -> Result<(), NetFault>
+    ensures { TellsApart rows.now result }
 {
     if rows.0 == rows.1 {
         return Err(NetFault::SelfReaction);
     }
-    Ok(rows)
+    Ok(())
 }
 
 // Why a statement is refused whose names find no room.
@@ -95,23 +106,26 @@ fn crowded(alloc: Global, text: &[u8], left: &[Term], right: &[Term]) -> NetFaul
     }
 }
 
-// The amounts of two sides that are not the same complex.
+// Puts in the amounts of both sides, which are not the same complex.
 fn note_sides(
     names: &mut Names,
+    rows: &mut Sides,
     text: &[u8],
     left: &[Term],
     right: &[Term],
-) -> Result<(Row, Row), NetFault>
+) -> Result<(), NetFault>
     requires distinct { AreDistinct names.old.keys }
     requires few { length names.old.keys ≤ MAX_SPECIES }
+    requires left_zeros { rows.old.0 ≡ replicate MAX_SPECIES (pos 0) }
+    requires right_zeros { rows.old.1 ≡ replicate MAX_SPECIES (pos 0) }
     requires short { length text.now ≤ MAX_TEXT }
     requires left { IsSide text.now left.now }
     requires right { IsSide text.now right.now }
-    ensures notes { NotesSides names.old.keys (statement_of text.now left.now right.now) result names.new.keys }
+    ensures notes { NotesSides names.old.keys (statement_of text.now left.now right.now) result names.new.keys rows.new }
     ensures kept { take (length names.old.keys) names.new.keys ≡ names.old.keys }
 {
-    match note_both(names, text, left, right) {
-        Ok(rows) => apart(rows),
+    match note_both(names, rows, text, left, right) {
+        Ok(()) => tell_apart(rows),
         Err(NetFault::TooManySpecies) => Err(crowded(*names.allocator(), text, left, right)),
         Err(fault) => Err(fault),
     }
@@ -125,19 +139,19 @@ fn place_of(rows: &[Row], row: &Row) -> Option<usize>
 }
 
 // The place of a row, which is added where it is new.
-fn note_row(rows: &mut Vec<Row>, row: Row) -> Result<usize, NetFault>
+fn note_row(rows: &mut Vec<Row>, row: &Row) -> Result<usize, NetFault>
     requires few { length rows.old.items ≤ MAX_COMPLEXES }
-    ensures notes { NotesRow rows.old.items row result rows.new.items }
+    ensures notes { NotesRow rows.old.items row.now result rows.new.items }
     ensures kept { take (length rows.old.items) rows.new.items ≡ rows.old.items }
 {
-    if let Some(place) = place_of(rows, &row) {
+    if let Some(place) = place_of(rows, row) {
         return Ok(place);
     }
     if rows.len() >= MAX_COMPLEXES {
         return Err(NetFault::TooManyComplexes);
     }
     let place = rows.len();
-    rows.push(row)?;
+    rows.push(*row)?;
     Ok(place)
 }
 
@@ -190,9 +204,10 @@ pub fn build(
     ensures rows_kept { take (length rows.old.items) rows.new.items ≡ rows.old.items }
     ensures reactions_kept { OnErr result (reactions.new.items ≡ reactions.old.items) }
 {
-    let (left_row, right_row) = note_sides(names, text, left, right)?;
-    let reactant = note_row(rows, left_row)?;
-    let product = note_row(rows, right_row)?;
+    let mut sides = ([0; MAX_SPECIES], [0; MAX_SPECIES]);
+    note_sides(names, &mut sides, text, left, right)?;
+    let reactant = note_row(rows, &sides.0)?;
+    let product = note_row(rows, &sides.1)?;
     note_reaction(reactions, (reactant, product))
 }
 

@@ -12,7 +12,7 @@ abbrev none : Term
 none = record { at = 0; length = 0; count = 0 }
 
 pub loop-term-init : goal.loop-term-init
-loop-term-init c = noting_none c.args.names.now.keys c.args.text.now c.args.side.now c.requires.distinct c.requires.few
+loop-term-init c = rw c.requires.zeros (noting_none c.args.names.now.keys c.args.text.now c.args.side.now c.requires.distinct c.requires.few)
 
 pub returns-in_err-place-clause-notes : goal.returns-in_err-place-clause-notes
 returns-in_err-place-clause-notes c =

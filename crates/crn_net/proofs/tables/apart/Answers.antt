@@ -1,9 +1,0 @@
-use Rattle.std.proofs.Common.{◌∙◌, refl, sym}
-use Rattle.crn_net.proofs.Members.{row_decides}
-use Rattle.crn_net.proofs.tables.apart.Goals as goal
-
-pub returns-then-eq : goal.returns-then-eq
-returns-then-eq c = (row_decides c.args.rows.1 c.args.rows.0).0 (sym c.eq.ensures ∙ c.if-eq.true)
-
-pub returns : goal.returns
-returns c = (refl, λ e. let same = (row_decides c.args.rows.1 c.args.rows.0).1 e in let is = c.eq.ensures in let other = c.if-eq.false in absurd cc)
