@@ -5,7 +5,7 @@ ghost use Rattle.crn_net.specs.Grows.{no_net, AddGives, FinishGives};
 use crate::fault::NetFault;
 use crate::name::Names;
 use crate::network::Network;
-use crate::tables::{Row, build, differences};
+use crate::tables::{Rows, build, differences};
 use crate::term::Term;
 use crn_vec::{MAX_COMPLEXES, MAX_REACTIONS, MAX_SPECIES, MAX_TEXT};
 use indexmap::IndexSet;
@@ -16,7 +16,7 @@ use std::marker::Model;
 #[derive(Drop)]
 pub struct NetBuilder {
     names: Names,
-    rows: Vec<Row>,
+    rows: Rows,
     reactions: Vec<(usize, usize)>,
 }
 
@@ -27,9 +27,9 @@ impl Model for NetBuilder {
 
     ghost Value = { Net };
 
-    ghost view = { λ b. net_of b.names.keys b.rows.items b.reactions.items };
+    ghost view = { λ b. net_of b.names.keys b.rows.keys b.reactions.items };
 
-    ghost invariant = { λ b. IsPartialNetwork (net_of b.names.keys b.rows.items b.reactions.items) × AreRows (length b.names.keys) b.rows.items };
+    ghost invariant = { λ b. IsPartialNetwork (net_of b.names.keys b.rows.keys b.reactions.items) × AreRows (length b.names.keys) b.rows.keys };
 }
 
 impl NetBuilder {
@@ -40,7 +40,7 @@ impl NetBuilder {
         Ok(NetBuilder {
             // A name too many is put in, and taken out again.
             names: IndexSet::with_capacity(alloc, MAX_SPECIES + 1)?,
-            rows: Vec::with_capacity(alloc, MAX_COMPLEXES)?,
+            rows: IndexSet::with_capacity(alloc, MAX_COMPLEXES)?,
             reactions: Vec::with_capacity(alloc, MAX_REACTIONS)?,
         })
     }
@@ -80,7 +80,7 @@ impl NetBuilder {
             return Err(NetFault::NoReaction);
         }
         let alloc = *self.reactions.allocator();
-        let differences = differences(alloc, &self.rows, &self.reactions)?;
+        let differences = differences(alloc, self.rows.as_slice(), &self.reactions)?;
         let NetBuilder {
             names,
             rows,

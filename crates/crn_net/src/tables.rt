@@ -15,10 +15,14 @@ use crate::name::{Name, Names};
 use crate::sides::{name_of, says_same};
 use crate::term::Term;
 use crn_vec::{MAX_COMPLEXES, MAX_NAME, MAX_REACTIONS, MAX_SPECIES, MAX_TEXT};
+use indexmap::IndexSet;
 use std::alloc::{AllocError, Global};
 
 // The amounts of a complex, one for each species, and 0 at the places without a species.
 pub type Row = [i128; MAX_SPECIES];
+
+// The rows of the complexes, each once, in the order in which they came.
+pub type Rows = IndexSet<Row>;
 
 // The place of a name, which is added where it is new. A name too many is added, and the answer is an error.
 fn note_name(names: &mut Names, name: &[u8]) -> Result<usize, NetFault>
@@ -131,27 +135,20 @@ fn note_sides(
     }
 }
 
-// The place of a row among these.
-fn place_of(rows: &[Row], row: &Row) -> Option<usize>
-    ensures { result ≡ position (λ known. pointwise int_eq known row.now) rows.now }
-{
-    rows.iter().position(|known| known == row)
-}
-
 // The place of a row, which is added where it is new.
-fn note_row(rows: &mut Vec<Row>, row: &Row) -> Result<usize, NetFault>
-    requires few { length rows.old.items ≤ MAX_COMPLEXES }
-    ensures notes { NotesRow rows.old.items row.now result rows.new.items }
-    ensures kept { take (length rows.old.items) rows.new.items ≡ rows.old.items }
+fn note_row(rows: &mut Rows, row: &Row) -> Result<usize, NetFault>
+    requires few { length rows.old.keys ≤ MAX_COMPLEXES }
+    ensures notes { NotesRow rows.old.keys row.now result rows.new.keys }
+    ensures kept { take (length rows.old.keys) rows.new.keys ≡ rows.old.keys }
 {
-    if let Some(place) = place_of(rows, row) {
+    if let Some(place) = rows.get_index_of(row) {
         return Ok(place);
     }
     if rows.len() >= MAX_COMPLEXES {
         return Err(NetFault::TooManyComplexes);
     }
     let place = rows.len();
-    rows.push(*row)?;
+    let _ = rows.insert(*row)?;
     Ok(place)
 }
 
@@ -186,7 +183,7 @@ fn note_reaction(
 // other reaction.
 pub fn build(
     names: &mut Names,
-    rows: &mut Vec<Row>,
+    rows: &mut Rows,
     reactions: &mut Vec<(usize, usize)>,
     text: &[u8],
     left: &[Term],
@@ -194,14 +191,14 @@ pub fn build(
 ) -> Result<(), NetFault>
     requires distinct { AreDistinct names.old.keys }
     requires names_few { length names.old.keys ≤ MAX_SPECIES }
-    requires rows_few { length rows.old.items ≤ MAX_COMPLEXES }
+    requires rows_few { length rows.old.keys ≤ MAX_COMPLEXES }
     requires reactions_few { length reactions.old.items ≤ MAX_REACTIONS }
     requires short { length text.now ≤ MAX_TEXT }
     requires left { IsSide text.now left.now }
     requires right { IsSide text.now right.now }
-    ensures gives { BuildGives names.old.keys rows.old.items reactions.old.items (statement_of text.now left.now right.now) result names.new.keys rows.new.items reactions.new.items }
+    ensures gives { BuildGives names.old.keys rows.old.keys reactions.old.items (statement_of text.now left.now right.now) result names.new.keys rows.new.keys reactions.new.items }
     ensures names_kept { take (length names.old.keys) names.new.keys ≡ names.old.keys }
-    ensures rows_kept { take (length rows.old.items) rows.new.items ≡ rows.old.items }
+    ensures rows_kept { take (length rows.old.keys) rows.new.keys ≡ rows.old.keys }
     ensures reactions_kept { OnErr result (reactions.new.items ≡ reactions.old.items) }
 {
     let mut sides = ([0; MAX_SPECIES], [0; MAX_SPECIES]);
