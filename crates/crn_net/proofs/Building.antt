@@ -1,5 +1,5 @@
 -- What the steps of adding a reaction come to.
-use Rattle.std.proofs.Common.{◌≡◌, ◌⊎◌, ℕ, ◌<◌, ◌≤◌, List, [], ◌++◌, length, get_or, take, map, sym, ap, subst, ◌∙◌, inl, inr, arith, Ok, Err, Result}
+use Rattle.std.proofs.Common.{◌≡◌, ◌⊎◌, ℕ, ◌≤◌, List, [], ◌++◌, length, get_or, take, map, sym, ap, subst, ◌∙◌, inl, inr, arith, Ok, Err, Result}
 use Rattle.std.specs.Prelude.{ℤ, pos}
 use Rattle.std.specs.Str.{bytes_eq}
 use Rattle.std.proofs.lemmas.Slice.Eq.{bytes_eq-Decides}

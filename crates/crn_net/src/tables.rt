@@ -43,12 +43,7 @@ pub type Sides = (Row, Row);
 
 // Puts the amounts that a side says of the names into the row, and the side's own names at their end. It looks
 // each term's name up once.
-fn note_side(
-    names: &mut Names,
-    row: &mut Row,
-    text: &[u8],
-    side: &[Term],
-) -> Result<(), NetFault>
+fn note_side(names: &mut Names, row: &mut Row, text: &[u8], side: &[Term]) -> Result<(), NetFault>
     requires distinct { AreDistinct names.old.keys }
     requires few { length names.old.keys ≤ MAX_SPECIES }
     requires zeros { row.old ≡ replicate MAX_SPECIES (pos 0) }

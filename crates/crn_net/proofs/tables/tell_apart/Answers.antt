@@ -1,4 +1,4 @@
-use Rattle.std.proofs.Common.{◌∙◌, refl, sym}
+use Rattle.std.proofs.Common.{◌∙◌, sym}
 use Rattle.crn_net.proofs.Members.{row_decides}
 use Rattle.crn_net.proofs.tables.tell_apart.Goals as goal
 
