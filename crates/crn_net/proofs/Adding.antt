@@ -1,12 +1,12 @@
 -- What adding a reaction to the tables means for the network that they hold.
-use Rattle.std.proofs.Common.{◌≡◌, ℕ, ◌<◌, ◌≤◌, true, false, cond, List, [], ◌∷◌, ◌++◌, length, get_or, take, map, refl, sym, ap, subst, ◌∙◌, inl, inr, arith, Ok, Err, Result}
-use Rattle.std.specs.Prelude.{ℤ, pos}
+use Rattle.std.proofs.Common.{◌≡◌, ℕ, ◌<◌, ◌≤◌, true, false, cond, List, [], ◌∷◌, ◌++◌, length, take, map, refl, sym, ap, subst, ◌∙◌, inl, inr, arith, Ok, Err, Result}
+use Rattle.std.specs.Prelude.{ℤ}
 use Rattle.std.specs.Result.{is_err, OnErr}
 use Rattle.std.specs.Str.{bytes_eq}
 use Rattle.std.specs.Ordering.{int_eq}
 use Rattle.std.specs.Cmp.Lexicographic.{pointwise}
 use Rattle.std.proofs.lemmas.Slice.Eq.{bytes_eq-Decides}
-use Rattle.std.proofs.lemmas.List.{length-map, get_or-map, length_push}
+use Rattle.std.proofs.lemmas.List.{length-map, length_push}
 use Rattle.std.proofs.lemmas.List.Sums.{sum_by-cons}
 use Rattle.crn_vec.specs.Lists.{IsIn, firsts}
 use Rattle.crn_vec.specs.Network.{Net, IsPartialNetwork, IsName, sides_of, sides_eq, amount_in, amounts_in, said_by, names_in, Statement}
@@ -18,10 +18,9 @@ use Rattle.crn_net.specs.Terms.{name_at, side_of, statement_of, IsTerm, IsSide}
 use Rattle.crn_net.specs.Views.{net_of, AreRows}
 use Rattle.crn_net.specs.Grows.{widened, both_widened, names_with, complexes_with, reactions_with, IsSelf, Grows, AddGives}
 use Rattle.crn_net.specs.Steps.{SaysSame, Built, IsOver, BuildGives}
-use Rattle.crn_net.proofs.Lists.{in_left, in_right, in_at, all_in, map_same}
-use Rattle.crn_net.proofs.Firsts.{firsts_has}
-use Rattle.crn_net.proofs.Members.{any_is, name_decides}
-use Rattle.crn_net.proofs.Amounts.{of_name, none_said}
+use Rattle.crn_net.proofs.Lists.{all_in}
+use Rattle.crn_net.proofs.Amounts.{of_name}
+use Rattle.crn_net.proofs.Building.{amounts_say, says_amounts}
 use Rattle.crn_net.proofs.Growth.{Ready, complexes_are, reactions_are, left_over_limit, right_over_limit}
 use Rattle.crn_net.proofs.Species.{IsSaid, Step, wider_names, new_partial, new_rows}
 
@@ -57,30 +56,11 @@ said_of text left right l r = record { left = side_said text left l; right = sid
 
 -- ---- self reactions
 
-same_amounts : (names : List (List ℕ)) (s : Statement) → ((name : List ℕ) → IsIn name (names_in s) → IsIn name names) → amounts_in names s.0 ≡ amounts_in names s.1 → SaysSame s
-same_amounts names s has e name =
-    elim (any_is (λ known. bytes_eq known name) name (λ known. name_decides name known) names) [
-      | inl a ↦
-          let p = in_at name names [] a.1 in
-          let l = get_or-map (λ n. pos (amount_in s.0 n)) names p.0 [] (pos 0) p.1 in
-          let r = get_or-map (λ n. pos (amount_in s.1 n)) names p.0 [] (pos 0) p.1 in
-          let m = ap (λ (u : List ℤ). get_or u p.0 (pos 0)) e in
-          let at : pos (amount_in s.0 (get_or names p.0 [])) ≡ pos (amount_in s.1 (get_or names p.0 [])) = sym l ∙ m ∙ r in
-          let P : List ℕ → Type 0 = λ n. amount_in s.0 n ≡ amount_in s.1 n in
-          subst P p.2 (let q = at in cc)
-      | inr b ↦
-          none_said s.0 name (λ i. b.1 (has name (in_left name (map (λ t. t.0) s.0) (map (λ t. t.0) s.1) i)))
-          ∙ sym (none_said s.1 name (λ i. b.1 (has name (in_right name (map (λ t. t.0) s.0) (map (λ t. t.0) s.1) i))))
-    ]
-
-has_all : (old : Net) (s : Statement) (name : List ℕ) → IsIn name (names_in s) → IsIn name (names_with old s)
-has_all old s name i = firsts_has bytes_eq bytes_eq-Decides (old.names ++ names_in s) name (in_right name old.names (names_in s) i)
-
 pub self_says : (old : Net) (s : Statement) → IsSelf old s → SaysSame s
-self_says old s h = same_amounts (names_with old s) s (has_all old s) h
+self_says old s h = amounts_say old.names s h
 
 pub says_self : (old : Net) (s : Statement) → SaysSame s → IsSelf old s
-says_self old s h = map_same (λ name. pos (amount_in s.0 name)) (λ name. pos (amount_in s.1 name)) (names_with old s) (λ name i. ap pos (h name))
+says_self old s h = says_amounts (names_with old s) s h
 
 -- ---- added
 
@@ -148,25 +128,25 @@ over_reactions names rows reactions s ready o =
     let full = o.full in
     (omega (arith, complexes, l, f), omega (arith, all, k, long, full))
 
-pub build_stops : (names : List (List ℕ)) (rows : List (List ℤ)) (reactions : List (ℕ × ℕ)) (s : Statement) (names' : List (List ℕ)) (rows' : List (List ℤ)) (reactions' : List (ℕ × ℕ)) (result : Result Unit NetFault) → Ready names rows reactions → (SaysSame s → ⊥) → is_err result ≡ true
+pub build_stops : (names : List (List ℕ)) (rows : List (List ℤ)) (reactions : List (ℕ × ℕ)) (s : Statement) (names' : List (List ℕ)) (rows' : List (List ℤ)) (reactions' : List (ℕ × ℕ)) (result : Result Unit NetFault) → Ready names rows reactions → is_err result ≡ true
     → BuildGives names rows reactions s result names' rows' reactions' → AddGives (net_of names rows reactions) s result (net_of names rows reactions)
-build_stops names rows reactions s names' rows' reactions' (Ok done) ready apart err h = absurd cc
-build_stops names rows reactions s names' rows' reactions' (Err SelfReaction) ready apart err h = absurd h
-build_stops names rows reactions s names' rows' reactions' (Err TooManySpecies) ready apart err h = (refl, λ e. apart (self_says (net_of names rows reactions) s e), h)
-build_stops names rows reactions s names' rows' reactions' (Err TooManyComplexes) ready apart err h =
+build_stops names rows reactions s names' rows' reactions' (Ok done) ready err h = absurd cc
+build_stops names rows reactions s names' rows' reactions' (Err SelfReaction) ready err h = (refl, says_self (net_of names rows reactions) s h)
+build_stops names rows reactions s names' rows' reactions' (Err TooManySpecies) ready err h = (refl, λ e. h.0 (self_says (net_of names rows reactions) s e), h.1)
+build_stops names rows reactions s names' rows' reactions' (Err TooManyComplexes) ready err h =
     let all = firsts bytes_eq (names ++ names_in s) in
-    let w = wider_names names all (names_in s) ready.network.names refl h.0 in
-    (refl, λ e. apart (self_says (net_of names rows reactions) s e), h.0, elim h.1 [ inl o ↦ left_over_limit names rows reactions all s ready w o | inr o ↦ right_over_limit names rows reactions all s ready w o ])
-build_stops names rows reactions s names' rows' reactions' (Err TooManyReactions) ready apart err h =
-    let o = over_reactions names rows reactions s ready h in
-    (refl, λ e. apart (self_says (net_of names rows reactions) s e), h.names_few, o.0, o.1)
-build_stops names rows reactions s names' rows' reactions' (Err NoReaction) ready apart err h = h
-build_stops names rows reactions s names' rows' reactions' (Err NoMemory) ready apart err h = refl
+    let w = wider_names names all (names_in s) ready.network.names refl h.1 in
+    (refl, λ e. h.0 (self_says (net_of names rows reactions) s e), h.1, elim h.2 [ inl o ↦ left_over_limit names rows reactions all s ready w o | inr o ↦ right_over_limit names rows reactions all s ready w o ])
+build_stops names rows reactions s names' rows' reactions' (Err TooManyReactions) ready err h =
+    let o = over_reactions names rows reactions s ready h.1 in
+    (refl, λ e. h.0 (self_says (net_of names rows reactions) s e), h.1.names_few, o.0, o.1)
+build_stops names rows reactions s names' rows' reactions' (Err NoReaction) ready err h = h
+build_stops names rows reactions s names' rows' reactions' (Err NoMemory) ready err h = refl
 
-pub build_grows : (names : List (List ℕ)) (rows : List (List ℤ)) (reactions : List (ℕ × ℕ)) (s : Statement) (names' : List (List ℕ)) (rows' : List (List ℤ)) (reactions' : List (ℕ × ℕ)) (result : Result Unit NetFault) → Ready names rows reactions → IsSaid s → (SaysSame s → ⊥) → is_err result ≡ false
+pub build_grows : (names : List (List ℕ)) (rows : List (List ℤ)) (reactions : List (ℕ × ℕ)) (s : Statement) (names' : List (List ℕ)) (rows' : List (List ℤ)) (reactions' : List (ℕ × ℕ)) (result : Result Unit NetFault) → Ready names rows reactions → IsSaid s → is_err result ≡ false
     → BuildGives names rows reactions s result names' rows' reactions' → AddGives (net_of names rows reactions) s result (net_of names' rows' reactions') × IsPartialNetwork (net_of names' rows' reactions') × AreRows (length names') rows'
-build_grows names rows reactions s names' rows' reactions' (Ok done) ready said apart err h = let g = built_grows names rows reactions s names' rows' reactions' ready said apart h in (g.0, g.0.network, g.1)
-build_grows names rows reactions s names' rows' reactions' (Err e) ready said apart err h = absurd cc
+build_grows names rows reactions s names' rows' reactions' (Ok done) ready said err h = let g = built_grows names rows reactions s names' rows' reactions' ready said h.0 h.1 in (g.0, g.0.network, g.1)
+build_grows names rows reactions s names' rows' reactions' (Err e) ready said err h = absurd cc
 
 pub at_err : {P : Type 0} (r : Result Unit NetFault) → is_err r ≡ true → OnErr r P → P
 at_err (Ok done) e h = absurd cc

@@ -54,7 +54,7 @@ pub has_name : (side : List (List ℕ × ℕ)) (name : List ℕ) → IsIn name (
 has_name side name = elim (any_is (λ known. bytes_eq known name) name (λ known. name_decides name known) (map (λ t. t.0) side)) [ inl a ↦ inl a.1 | inr b ↦ inr b.1 ]
 
 -- the terms' names
-abbrev agreed : List ℕ → List Term → List Term → Term → Type 0
+abbrev pub agreed : List ℕ → List Term → List Term → Term → Type 0
 agreed text left right t = amount_in (side_of text left) (name_at text t) ≡ amount_in (side_of text right) (name_at text t)
 
 pub of_name : (text : List ℕ) (terms : List Term) (name : List ℕ) → IsIn name (map (λ t. t.0) (side_of text terms)) → (t : Term) × IsIn t terms × (name ≡ name_at text t)

@@ -11,3 +11,6 @@ pub mod Building
 pub mod Names
 pub mod Rows
 pub mod Amounts
+pub mod Counting
+pub mod Places
+pub mod Sums

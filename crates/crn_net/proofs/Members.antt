@@ -1,5 +1,5 @@
 -- What a side says of a name, term by term, and whether a table has a member.
-use Rattle.std.proofs.Common.{◌≡◌, ◌⊎◌, ℕ, ◌<◌, ◌≤◌, ◌+◌, Bool, true, false, cond, ◌&&◌, ◌==◌, List, [], ◌∷◌, length, get_or, take, refl, sym, ap, ◌∙◌, inl, inr, arith, Some, None, nat_lt}
+use Rattle.std.proofs.Common.{◌≡◌, ◌⊎◌, ℕ, ◌<◌, ◌≤◌, ◌+◌, Bool, true, false, cond, ◌&&◌, ◌==◌, List, [], ◌∷◌, ◌++◌, length, get_or, take, refl, sym, ap, ◌∙◌, inl, inr, arith, Some, None, nat_lt}
 use Rattle.std.specs.Prelude.{ℤ}
 use Rattle.std.specs.List.{list_any, position, position_or_len, sum_by}
 use Rattle.std.specs.Bool.{Decides}
@@ -12,6 +12,7 @@ use Rattle.std.proofs.lemmas.Bool.Decides.{Decides-eqb, Decides-ltb}
 use Rattle.std.proofs.lemmas.Slice.Eq.{bytes_eq-Decides}
 use Rattle.std.proofs.lemmas.List.Sums.{sum_by-cons, sum_by_more, sum_by-take-le}
 use Rattle.std.proofs.lemmas.List.Quantifiers.{position-Some}
+use Rattle.indexmap.specs.IndexSet.{insert_key}
 use Rattle.crn_vec.specs.Lists.{IsIn}
 use Rattle.crn_vec.specs.Network.{amount_in}
 use Rattle.crn_net.specs.declared.term.Term.{Term}
@@ -54,27 +55,35 @@ reaction_decides r known = (
   λ e. let a : (known.0 == r.0) ≡ true = (Decides-eqb known.0 r.0).1 (ap (λ (p : ℕ × ℕ). p.0) e) in let b : (known.1 == r.1) ≡ true = (Decides-eqb known.1 r.1).1 (ap (λ (p : ℕ × ℕ). p.1) e) in rw (a, b) refl,
 )
 
--- a place that `position` gives
-pub found_at : (row : List ℤ) (rows : List (List ℤ)) (i : ℕ) → position (λ known. pointwise int_eq known row) rows ≡ Some i → (i < length rows) × (get_or rows i row ≡ row)
-found_at row rows i h = let f = position-Some (λ known. pointwise int_eq known row) rows i row h in (f.0, (row_decides row (get_or rows i row)).0 f.1)
+-- the test by which a set of rows looks for one
+pub row_sought : (row known : List ℤ) → Decides (pointwise int_eq row known) (known ≡ row)
+row_sought row known = (λ h. sym ((signed_items row known).0 h), λ e. (signed_items row known).1 (sym e))
 
-less_where_in : (row : List ℤ) (rows : List (List ℤ)) → IsIn row rows → position_or_len (λ known. pointwise int_eq known row) rows < length rows
+-- a place that `position` gives
+pub found_at : (row : List ℤ) (rows : List (List ℤ)) (i : ℕ) → position (pointwise int_eq row) rows ≡ Some i → (i < length rows) × (get_or rows i row ≡ row)
+found_at row rows i h = let f = position-Some (pointwise int_eq row) rows i row h in (f.0, (row_sought row (get_or rows i row)).0 f.1)
+
+less_where_in : (row : List ℤ) (rows : List (List ℤ)) → IsIn row rows → position_or_len (pointwise int_eq row) rows < length rows
 less_where_in row [] h = absurd h
 less_where_in row (r ∷ rows) h =
-    elim (cases_Bool (pointwise int_eq r row)) [
+    elim (cases_Bool (pointwise int_eq row r)) [
       | inl hit ↦ rw hit (omega arith)
       | inr miss ↦ elim h [
-        | inl e ↦ absurd (let t = (row_decides row r).1 (sym e) in cc)
+        | inl e ↦ absurd (let t = (row_sought row r).1 (sym e) in cc)
         | inr i ↦ let less = less_where_in row rows i in rw miss (omega (arith, less))
       ]
     ]
 
-pub found_none : (row : List ℤ) (rows : List (List ℤ)) → position (λ known. pointwise int_eq known row) rows ≡ None → IsIn row rows → ⊥
+pub found_none : (row : List ℤ) (rows : List (List ℤ)) → position (pointwise int_eq row) rows ≡ None → IsIn row rows → ⊥
 found_none row rows h i =
     let less = less_where_in row rows i in
-    let t : nat_lt (position_or_len (λ known. pointwise int_eq known row) rows) (length rows) ≡ true = (Decides-ltb (position_or_len (λ known. pointwise int_eq known row) rows) (length rows)).1 less in
-    let is : position (λ known. pointwise int_eq known row) rows ≡ Some (position_or_len (λ known. pointwise int_eq known row) rows) = rw t refl in
+    let t : nat_lt (position_or_len (pointwise int_eq row) rows) (length rows) ≡ true = (Decides-ltb (position_or_len (pointwise int_eq row) rows) (length rows)).1 less in
+    let is : position (pointwise int_eq row) rows ≡ Some (position_or_len (pointwise int_eq row) rows) = rw t refl in
     absurd (let bad = sym is ∙ h in cc)
+
+-- a row that is not there is put at the end
+pub row_put : (old new : List (List ℤ)) (row : List ℤ) → new ≡ insert_key (pointwise int_eq) old row → (IsIn row old → ⊥) → new ≡ old ++ row ∷ []
+row_put old new row keys free = elim (any_is (pointwise int_eq row) row (row_sought row) old) [ inl a ↦ absurd (free a.1) | inr b ↦ let e = keys in rw b.0 at e ]
 
 -- ---- amounts
 

@@ -5,8 +5,8 @@ use Rattle.std.proofs.lemmas.Slice.Eq.{bytes_eq-Decides}
 use Rattle.std.proofs.lemmas.List.{append-nil, map_more, map-append, take-append-drop, take-append-le, length-take, length_push, take_all}
 use Rattle.crn_vec.specs.Lists.{IsIn, AreDistinct, firsts}
 use Rattle.crn_net.specs.declared.term.Term.{Term}
-use Rattle.crn_net.specs.Terms.{name_at, side_of, statement_of}
-use Rattle.crn_vec.specs.Network.{names_in}
+use Rattle.crn_net.specs.Terms.{name_at, side_of}
+use Rattle.crn_vec.specs.Network.{names_in, Statement}
 use Rattle.crn_net.proofs.Firsts.{firsts_has, firsts_from, firsts_known, firsts_new, firsts_length, firsts_all, firsts_firsts}
 
 pub no_more : (old : List (List ℕ)) → AreDistinct old → old ≡ firsts bytes_eq (old ++ [])
@@ -58,25 +58,21 @@ kept_all old = take_all (length old) old (omega arith)
 
 -- ---- the names of both sides
 
-names_of_side : (text : List ℕ) (side : List Term) → map (λ t. t.0) (side_of text side) ≡ map (name_at text) side
+pub names_of_side : (text : List ℕ) (side : List Term) → map (λ t. t.0) (side_of text side) ≡ map (name_at text) side
 names_of_side text [] = refl
 names_of_side text (t ∷ side) = ap (λ (r : List (List ℕ)). name_at text t ∷ r) (names_of_side text side)
 
-pub statement_names : (text : List ℕ) (left right : List Term) → names_in (statement_of text left right) ≡ map (name_at text) left ++ map (name_at text) right
-statement_names text left right = ap (λ (t : List (List ℕ)). t ++ map (λ u. u.0) (side_of text right)) (names_of_side text left) ∙ ap (λ (t : List (List ℕ)). map (name_at text) left ++ t) (names_of_side text right)
-
 -- first the names of one side, then those of the other
-pub names_both : (old middle : List (List ℕ)) (text : List ℕ) (left right : List Term) → middle ≡ firsts bytes_eq (old ++ map (name_at text) left)
-    → firsts bytes_eq (middle ++ map (name_at text) right) ≡ firsts bytes_eq (old ++ names_in (statement_of text left right))
-names_both old middle text left right is =
-    let l = map (name_at text) left in
-    let r = map (name_at text) right in
-    ap (λ (t : List (List ℕ)). firsts bytes_eq (t ++ r)) is ∙ firsts_firsts bytes_eq bytes_eq-Decides (old ++ l) r ∙ ap (firsts bytes_eq) (append_assoc old l r ∙ ap (λ (t : List (List ℕ)). old ++ t) (sym (statement_names text left right)))
+pub names_both : (old middle : List (List ℕ)) (s : Statement) → middle ≡ firsts bytes_eq (old ++ map (λ t. t.0) s.0) → firsts bytes_eq (middle ++ map (λ t. t.0) s.1) ≡ firsts bytes_eq (old ++ names_in s)
+names_both old middle s is =
+    let l = map (λ t. t.0) s.0 in
+    let r = map (λ t. t.0) s.1 in
+    ap (λ (t : List (List ℕ)). firsts bytes_eq (t ++ r)) is ∙ firsts_firsts bytes_eq bytes_eq-Decides (old ++ l) r ∙ ap (firsts bytes_eq) (append_assoc old l r)
 
-pub left_over : (old : List (List ℕ)) (text : List ℕ) (left right : List Term) (limit : ℕ) → limit < length (firsts bytes_eq (old ++ map (name_at text) left)) → limit < length (firsts bytes_eq (old ++ names_in (statement_of text left right)))
-left_over old text left right limit lt =
-    let l = map (name_at text) left in
-    let r = map (name_at text) right in
+pub left_over : (old : List (List ℕ)) (s : Statement) (limit : ℕ) → limit < length (firsts bytes_eq (old ++ map (λ t. t.0) s.0)) → limit < length (firsts bytes_eq (old ++ names_in s))
+left_over old s limit lt =
+    let l = map (λ t. t.0) s.0 in
+    let r = map (λ t. t.0) s.1 in
     let more = firsts_length bytes_eq (old ++ l) r in
-    let is = ap (λ (t : List (List ℕ)). length (firsts bytes_eq t)) (append_assoc old l r ∙ ap (λ (t : List (List ℕ)). old ++ t) (sym (statement_names text left right))) in
+    let is = ap (λ (t : List (List ℕ)). length (firsts bytes_eq t)) (append_assoc old l r) in
     omega (arith, more, is, lt)

@@ -1,4 +1,5 @@
 pub mod Terms
+pub mod Sums
 pub mod Grows
 pub mod Views
 pub mod Steps

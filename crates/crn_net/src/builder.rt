@@ -3,20 +3,20 @@ ghost use Rattle.crn_net.specs.Terms.{statement_of, IsSide};
 ghost use Rattle.crn_net.specs.Grows.{no_net, AddGives, FinishGives};
 
 use crate::fault::NetFault;
-use crate::name::Name;
+use crate::name::Names;
 use crate::network::Network;
-use crate::sides::is_self;
-use crate::tables::{Row, build, differences};
+use crate::tables::{Rows, build, differences};
 use crate::term::Term;
 use crn_vec::{MAX_COMPLEXES, MAX_REACTIONS, MAX_SPECIES, MAX_TEXT};
+use indexmap::IndexSet;
 use std::alloc::{AllocError, Global};
 use std::marker::Model;
 
 /// Collects the reactions of a network, which contracts see as far as it is built.
 #[derive(Drop)]
 pub struct NetBuilder {
-    names: Vec<Name>,
-    rows: Vec<Row>,
+    names: Names,
+    rows: Rows,
     reactions: Vec<(usize, usize)>,
 }
 
@@ -27,9 +27,9 @@ impl Model for NetBuilder {
 
     ghost Value = { Net };
 
-    ghost view = { λ b. net_of b.names.items b.rows.items b.reactions.items };
+    ghost view = { λ b. net_of b.names.keys b.rows.keys b.reactions.items };
 
-    ghost invariant = { λ b. IsPartialNetwork (net_of b.names.items b.rows.items b.reactions.items) × AreRows (length b.names.items) b.rows.items };
+    ghost invariant = { λ b. IsPartialNetwork (net_of b.names.keys b.rows.keys b.reactions.items) × AreRows (length b.names.keys) b.rows.keys };
 }
 
 impl NetBuilder {
@@ -38,8 +38,9 @@ impl NetBuilder {
         ensures { IfOk result (λ made. made ≡ no_net) }
     {
         Ok(NetBuilder {
-            names: Vec::with_capacity(alloc, MAX_SPECIES)?,
-            rows: Vec::with_capacity(alloc, MAX_COMPLEXES)?,
+            // A name too many is put in, and taken out again.
+            names: IndexSet::with_capacity(alloc, MAX_SPECIES + 1)?,
+            rows: IndexSet::with_capacity(alloc, MAX_COMPLEXES)?,
             reactions: Vec::with_capacity(alloc, MAX_REACTIONS)?,
         })
     }
@@ -54,9 +55,6 @@ impl NetBuilder {
         requires right { IsSide text.now right.now }
         ensures { AddGives self.old (statement_of text.now left.now right.now) result self.new }
     {
-        if is_self(text, left, right) {
-            return Err(NetFault::SelfReaction);
-        }
         let species = self.names.len();
         let complexes = self.rows.len();
         let added = build(
@@ -82,7 +80,7 @@ impl NetBuilder {
             return Err(NetFault::NoReaction);
         }
         let alloc = *self.reactions.allocator();
-        let differences = differences(alloc, &self.rows, &self.reactions)?;
+        let differences = differences(alloc, self.rows.as_slice(), &self.reactions)?;
         let NetBuilder {
             names,
             rows,

@@ -1,7 +1,15 @@
-ghost use Rattle.std.specs.Prelude.{◌≡◌, ◌≤◌, length};
+ghost use Rattle.std.specs.Prelude.{◌≡◌, ◌≤◌, length, List, ℕ, [], ◌∷◌, nat_eq};
+ghost use Rattle.std.proofs.Common.{ap};
+ghost use Rattle.std.specs.Cmp.{partial_equiv_from_equiv};
+ghost use Rattle.std.specs.Cmp.Lexicographic.{pointwise, bytes_decides, nat_list_eq_equiv};
 
 use crn_vec::MAX_NAME;
+use indexmap::IndexSet;
+use std::hash::{Hash, Hasher};
 use std::marker::Model;
+
+// Names, each once, in the order in which they came. A look-up takes the same time however many there are.
+pub type Names = IndexSet<Name>;
 
 // The name of a species, seen as its bytes.
 #[derive(Drop)]
@@ -40,5 +48,29 @@ impl Name {
     {
         let (front, _) = self.bytes.split_at(self.size);
         front
+    }
+}
+
+impl PartialEq for Name {
+    ghost eq = { pointwise nat_eq };
+
+    ghost laws = { partial_equiv_from_equiv nat_list_eq_equiv };
+
+    fn eq(&self, other: &Name) -> bool {
+        self.as_slice() == other.as_slice()
+    }
+}
+
+impl Eq for Name {
+    ghost laws = { nat_list_eq_equiv };
+}
+
+impl Hash for Name {
+    ghost hash_input = { λ n. n ∷ [] };
+
+    ghost respects_eq = { λ x y h. ap (λ (bytes : List ℕ). bytes ∷ []) ((bytes_decides x y).0 h) };
+
+    fn hash<H: Hasher>(&self, state: &mut H) {
+        state.write(self.as_slice());
     }
 }

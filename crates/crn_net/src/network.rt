@@ -5,16 +5,16 @@ ghost use Rattle.crn_vec.specs.Vectors.{AreWithin};
 ghost use Rattle.crn_vec.specs.Network.{reaction_vector};
 ghost use Rattle.crn_net.specs.Views.{net_of, vectors_of};
 
-use crate::name::Name;
-use crate::tables::Row;
+use crate::name::Names;
+use crate::tables::{Row, Rows};
 use crn_vec::{MAX_AMOUNT, MAX_COMPLEXES, MAX_REACTIONS, MAX_SPECIES};
 use std::marker::Model;
 
 /// A reaction network. Species, complexes and reactions are counted from 0.
 #[derive(Drop)]
 pub struct Network {
-    names: Vec<Name>,
-    rows: Vec<Row>,
+    names: Names,
+    rows: Rows,
     reactions: Vec<(usize, usize)>,
     differences: Vec<Row>,
 }
@@ -27,22 +27,22 @@ impl Model for Network {
 
     ghost Value = { Net };
 
-    ghost view = { λ n. net_of n.names.items n.rows.items n.reactions.items };
+    ghost view = { λ n. net_of n.names.keys n.rows.keys n.reactions.items };
 
-    ghost invariant = { λ n. let net = net_of n.names.items n.rows.items n.reactions.items in IsNetwork net × (vectors_of (length n.names.items) n.differences.items ≡ map (reaction_vector net) n.reactions.items) };
+    ghost invariant = { λ n. let net = net_of n.names.keys n.rows.keys n.reactions.items in IsNetwork net × (vectors_of (length n.names.keys) n.differences.items ≡ map (reaction_vector net) n.reactions.items) };
 }
 
 impl Network {
     // The network that these tables hold, with the vectors of its reactions.
     pub(crate) fn new(
-        names: Vec<Name>,
-        rows: Vec<Row>,
+        names: Names,
+        rows: Rows,
         reactions: Vec<(usize, usize)>,
         differences: Vec<Row>,
     ) -> Network
-        requires network { IsNetwork (net_of names.items rows.items reactions.items) }
-        requires vectors { vectors_of (length names.items) differences.items ≡ map (reaction_vector (net_of names.items rows.items reactions.items)) reactions.items }
-        ensures { result ≡ net_of names.items rows.items reactions.items }
+        requires network { IsNetwork (net_of names.keys rows.keys reactions.items) }
+        requires vectors { vectors_of (length names.keys) differences.items ≡ map (reaction_vector (net_of names.keys rows.keys reactions.items)) reactions.items }
+        ensures { result ≡ net_of names.keys rows.keys reactions.items }
     {
         Network {
             names,
@@ -84,7 +84,7 @@ impl Network {
         ensures value { result.now ≡ slice_index_or self.now.names s [] }
         ensures name { IsName result.now }
     {
-        self.names[s].as_slice()
+        self.names.as_slice()[s].as_slice()
     }
 
     /// The amounts of a complex, one for each species.
@@ -94,7 +94,7 @@ impl Network {
         ensures width { length result.now ≡ length self.now.names }
         ensures amounts { AllByRecursion IsAmount result.now }
     {
-        let (used, _) = self.rows[c].split_at(self.names.len());
+        let (used, _) = self.rows.as_slice()[c].split_at(self.names.len());
         used
     }
 

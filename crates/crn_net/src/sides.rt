@@ -1,11 +1,14 @@
-ghost use Rattle.std.specs.Prelude.{◌≡◌, ◌≤◌, ◌↔◌, length, IsTrue};
+ghost use Rattle.std.specs.Prelude.{◌≡◌, ◌≤◌, ◌↔◌, ℕ, List, length, IsTrue, IfOk};
 ghost use Rattle.std.specs.List.{AllByRecursion};
 ghost use Rattle.crn_vec.specs.Network.{amount_in};
+ghost use Rattle.crn_net.specs.Sums.{held_for, HoldsSums};
 ghost use Rattle.crn_net.specs.Terms.{name_at, side_of, statement_of, IsTerm, IsSide};
 ghost use Rattle.crn_net.specs.Steps.{SaysSame};
 
 use crate::term::Term;
 use crn_vec::MAX_TEXT;
+use std::alloc::{AllocError, Global};
+use std::collections::BTreeMap;
 
 // The bytes of a term's name.
 pub fn name_of<'a>(text: &'a [u8], term: &Term) -> &'a [u8]
@@ -18,44 +21,71 @@ pub fn name_of<'a>(text: &'a [u8], term: &Term) -> &'a [u8]
     name
 }
 
-// How much of a name a side says.
-pub fn amount(text: &[u8], side: &[Term], name: &[u8]) -> u32
+// What the map holds for a name, or 0.
+fn held(sums: &BTreeMap<&[u8], u32>, name: &[u8]) -> u32
+    ensures { result ≡ held_for sums.now name.now }
+{
+    match sums.get(name) {
+        None => 0,
+        Some(sum) => *sum,
+    }
+}
+
+// How much of each name a side says. The map is sorted, so that no choice of names makes it slow.
+fn sums_of<'a>(
+    alloc: Global,
+    text: &'a [u8],
+    side: &[Term],
+) -> Result<BTreeMap<&'a [u8], u32>, AllocError>
     requires short { length text.now ≤ MAX_TEXT }
     requires side { IsSide text.now side.now }
-    ensures { result ≡ amount_in (side_of text.now side.now) name.now }
+    ensures { IfOk result (HoldsSums (side_of text.now side.now)) }
 {
-    let mut sum = 0;
+    let mut sums: BTreeMap<&[u8], u32> = BTreeMap::new(alloc);
     for term in side {
-        if name_of(text, term) == name {
-            sum += term.count;
-        }
+        let name = name_of(text, term);
+        let sum = held(&sums, name) + term.count;
+        let _ = sums.insert(name, sum)?;
     }
-    sum
+    Ok(sums)
 }
 
 // Whether both sides say the same amount of each of these terms' names.
-fn agree(text: &[u8], terms: &[Term], left: &[Term], right: &[Term]) -> bool
+fn agree(
+    text: &[u8],
+    terms: &[Term],
+    left: &BTreeMap<&[u8], u32>,
+    right: &BTreeMap<&[u8], u32>,
+) -> bool
     requires short { length text.now ≤ MAX_TEXT }
     requires terms { AllByRecursion (IsTerm text.now) terms.now }
-    requires left { IsSide text.now left.now }
-    requires right { IsSide text.now right.now }
-    ensures { IsTrue result ↔ AllByRecursion (λ t. amount_in (side_of text.now left.now) (name_at text.now t) ≡ amount_in (side_of text.now right.now) (name_at text.now t)) terms.now }
+    ensures { IsTrue result ↔ AllByRecursion (λ t. held_for left.now (name_at text.now t) ≡ held_for right.now (name_at text.now t)) terms.now }
 {
     for term in terms {
         let name = name_of(text, term);
-        if amount(text, left, name) != amount(text, right, name) {
+        if held(left, name) != held(right, name) {
             return false;
         }
     }
     true
 }
 
-// Whether both sides are the same complex.
-pub fn is_self(text: &[u8], left: &[Term], right: &[Term]) -> bool
+/// Whether both sides are the same complex.
+///
+/// It takes no longer than to sort the names, and memory for them: for statements of more names than have rows.
+pub fn says_same(
+    alloc: Global,
+    text: &[u8],
+    left: &[Term],
+    right: &[Term],
+) -> Result<bool, AllocError>
     requires short { length text.now ≤ MAX_TEXT }
     requires left { IsSide text.now left.now }
     requires right { IsSide text.now right.now }
-    ensures { IsTrue result ↔ SaysSame (statement_of text.now left.now right.now) }
+    ensures { IfOk result (λ same. IsTrue same ↔ SaysSame (statement_of text.now left.now right.now)) }
 {
-    agree(text, left, left, right) && agree(text, right, left, right)
+    let left_sums = sums_of(alloc, text, left)?;
+    let right_sums = sums_of(alloc, text, right)?;
+    let left_agrees = agree(text, left, &left_sums, &right_sums);
+    Ok(left_agrees && agree(text, right, &left_sums, &right_sums))
 }

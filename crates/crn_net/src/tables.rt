@@ -1,4 +1,4 @@
-ghost use Rattle.std.specs.Prelude.{◌≡◌, ◌≤◌, ◌<◌, ◌==◌, ◌&&◌, length, take, map, slice_index_or, [], OnErr, IfOk};
+ghost use Rattle.std.specs.Prelude.{◌≡◌, ◌≤◌, ◌<◌, ◌==◌, ◌&&◌, length, take, map, replicate, slice_index_or, pos, [], OnErr, IfOk};
 ghost use Rattle.std.specs.List.{list_any, position, AllByRecursion};
 ghost use Rattle.std.specs.Str.{bytes_eq};
 ghost use Rattle.std.specs.Ordering.{int_eq};
@@ -8,82 +8,142 @@ ghost use Rattle.crn_vec.specs.Network.{IsAmount, JoinsTwo, amounts_in};
 ghost use Rattle.crn_vec.specs.Network.{minus};
 ghost use Rattle.crn_net.specs.Terms.{name_at, side_of, statement_of, IsSide};
 ghost use Rattle.crn_net.specs.Views.{IsRow};
-ghost use Rattle.crn_net.specs.Steps.{NotesNames, NotesRow, NotesReaction, BuildGives};
+ghost use Rattle.crn_net.specs.Steps.{NotesName, NotesSide, NotesBoth, TellsApart, IsCrowded, NotesSides, NotesRow, NotesReaction, BuildGives};
 
 use crate::fault::NetFault;
-use crate::name::Name;
-use crate::sides::{amount, name_of};
+use crate::name::{Name, Names};
+use crate::sides::{name_of, says_same};
 use crate::term::Term;
-use crn_vec::{MAX_COMPLEXES, MAX_REACTIONS, MAX_SPECIES, MAX_TEXT};
+use crn_vec::{MAX_COMPLEXES, MAX_NAME, MAX_REACTIONS, MAX_SPECIES, MAX_TEXT};
+use indexmap::IndexSet;
 use std::alloc::{AllocError, Global};
 
 // The amounts of a complex, one for each species, and 0 at the places without a species.
 pub type Row = [i128; MAX_SPECIES];
 
-// Whether a name is among these.
-fn has_name(names: &[Name], name: &[u8]) -> bool
-    ensures { result ≡ list_any (λ known. bytes_eq known name.now) names.now }
+// The rows of the complexes, each once, in the order in which they came.
+pub type Rows = IndexSet<Row>;
+
+// The place of a name, which is added where it is new. A name too many is added, and the answer is an error.
+fn note_name(names: &mut Names, name: &[u8]) -> Result<usize, NetFault>
+    requires few { length names.old.keys ≤ MAX_SPECIES }
+    requires short { length name.now ≤ MAX_NAME }
+    ensures notes { NotesName names.old.keys name.now result names.new.keys }
+    ensures kept { take (length names.old.keys) names.new.keys ≡ names.old.keys }
 {
-    names.iter().any(|known| known.as_slice() == name)
+    let (place, _) = names.insert_full(Name::new(name))?;
+    if place >= MAX_SPECIES {
+        return Err(NetFault::TooManySpecies);
+    }
+    Ok(place)
 }
 
-// Adds the names of a side that are not there yet.
-fn note_names(names: &mut Vec<Name>, text: &[u8], side: &[Term]) -> Result<(), NetFault>
-    requires distinct { AreDistinct names.old.items }
-    requires few { length names.old.items ≤ MAX_SPECIES }
+// The amounts of both sides of a statement.
+pub type Sides = (Row, Row);
+
+// Puts the amounts that a side says of the names into the row, and the side's own names at their end. It looks
+// each term's name up once.
+fn note_side(names: &mut Names, row: &mut Row, text: &[u8], side: &[Term]) -> Result<(), NetFault>
+    requires distinct { AreDistinct names.old.keys }
+    requires few { length names.old.keys ≤ MAX_SPECIES }
+    requires zeros { row.old ≡ replicate MAX_SPECIES (pos 0) }
     requires short { length text.now ≤ MAX_TEXT }
     requires side { IsSide text.now side.now }
-    ensures notes { NotesNames names.old.items (map (name_at text.now) side.now) result names.new.items }
-    ensures kept { take (length names.old.items) names.new.items ≡ names.old.items }
+    ensures notes { NotesSide names.old.keys (side_of text.now side.now) result names.new.keys row.new }
+    ensures kept { take (length names.old.keys) names.new.keys ≡ names.old.keys }
 {
     for term in side {
-        let name = name_of(text, term);
-        if !has_name(names, name) {
-            if names.len() >= MAX_SPECIES {
-                return Err(NetFault::TooManySpecies);
-            }
-            names.push(Name::new(name))?;
-        }
+        let place = note_name(names, name_of(text, term))?;
+        row[place] += i128::from(term.count);
     }
     Ok(())
 }
 
-// The amounts that a side says of these names.
-fn row_of(names: &[Name], text: &[u8], side: &[Term]) -> Row
-    requires few { length names.now ≤ MAX_SPECIES }
+// The same for the left side, and then the right.
+fn note_both(
+    names: &mut Names,
+    rows: &mut Sides,
+    text: &[u8],
+    left: &[Term],
+    right: &[Term],
+) -> Result<(), NetFault>
+    requires distinct { AreDistinct names.old.keys }
+    requires few { length names.old.keys ≤ MAX_SPECIES }
+    requires left_zeros { rows.old.0 ≡ replicate MAX_SPECIES (pos 0) }
+    requires right_zeros { rows.old.1 ≡ replicate MAX_SPECIES (pos 0) }
     requires short { length text.now ≤ MAX_TEXT }
-    requires side { IsSide text.now side.now }
-    ensures amounts { take (length names.now) result ≡ amounts_in names.now (side_of text.now side.now) }
-    ensures row { IsRow (length names.now) result }
+    requires left { IsSide text.now left.now }
+    requires right { IsSide text.now right.now }
+    ensures notes { NotesBoth names.old.keys (statement_of text.now left.now right.now) result names.new.keys rows.new }
+    ensures kept { take (length names.old.keys) names.new.keys ≡ names.old.keys }
 {
-    let mut row = [0; MAX_SPECIES];
-    for (s, name) in names.iter().enumerate() {
-        row[s] = i128::from(amount(text, side, name.as_slice()));
-    }
-    row
+    note_side(names, &mut rows.0, text, left)?;
+    note_side(names, &mut rows.1, text, right)
 }
 
-// The place of a row among these.
-fn place_of(rows: &[Row], row: &Row) -> Option<usize>
-    ensures { result ≡ position (λ known. pointwise int_eq known row.now) rows.now }
+// An error where both sides are the same.
+fn tell_apart(rows: &Sides) -> Result<(), NetFault>
+    ensures { TellsApart rows.now result }
 {
-    rows.iter().position(|known| known == row)
+    if rows.0 == rows.1 {
+        return Err(NetFault::SelfReaction);
+    }
+    Ok(())
+}
+
+// Why a statement is refused whose names find no room.
+fn crowded(alloc: Global, text: &[u8], left: &[Term], right: &[Term]) -> NetFault
+    requires short { length text.now ≤ MAX_TEXT }
+    requires left { IsSide text.now left.now }
+    requires right { IsSide text.now right.now }
+    ensures { IsCrowded (statement_of text.now left.now right.now) result }
+{
+    match says_same(alloc, text, left, right) {
+        Ok(true) => NetFault::SelfReaction,
+        Ok(false) => NetFault::TooManySpecies,
+        Err(_) => NetFault::NoMemory,
+    }
+}
+
+// Puts in the amounts of both sides, which are not the same complex.
+fn note_sides(
+    names: &mut Names,
+    rows: &mut Sides,
+    text: &[u8],
+    left: &[Term],
+    right: &[Term],
+) -> Result<(), NetFault>
+    requires distinct { AreDistinct names.old.keys }
+    requires few { length names.old.keys ≤ MAX_SPECIES }
+    requires left_zeros { rows.old.0 ≡ replicate MAX_SPECIES (pos 0) }
+    requires right_zeros { rows.old.1 ≡ replicate MAX_SPECIES (pos 0) }
+    requires short { length text.now ≤ MAX_TEXT }
+    requires left { IsSide text.now left.now }
+    requires right { IsSide text.now right.now }
+    ensures notes { NotesSides names.old.keys (statement_of text.now left.now right.now) result names.new.keys rows.new }
+    ensures kept { take (length names.old.keys) names.new.keys ≡ names.old.keys }
+{
+    match note_both(names, rows, text, left, right) {
+        Ok(()) => tell_apart(rows),
+        Err(NetFault::TooManySpecies) => Err(crowded(*names.allocator(), text, left, right)),
+        Err(fault) => Err(fault),
+    }
 }
 
 // The place of a row, which is added where it is new.
-fn note_row(rows: &mut Vec<Row>, row: Row) -> Result<usize, NetFault>
-    requires few { length rows.old.items ≤ MAX_COMPLEXES }
-    ensures notes { NotesRow rows.old.items row result rows.new.items }
-    ensures kept { take (length rows.old.items) rows.new.items ≡ rows.old.items }
+fn note_row(rows: &mut Rows, row: &Row) -> Result<usize, NetFault>
+    requires few { length rows.old.keys ≤ MAX_COMPLEXES }
+    ensures notes { NotesRow rows.old.keys row.now result rows.new.keys }
+    ensures kept { take (length rows.old.keys) rows.new.keys ≡ rows.old.keys }
 {
-    if let Some(place) = place_of(rows, &row) {
+    if let Some(place) = rows.get_index_of(row) {
         return Ok(place);
     }
     if rows.len() >= MAX_COMPLEXES {
         return Err(NetFault::TooManyComplexes);
     }
     let place = rows.len();
-    rows.push(row)?;
+    let _ = rows.insert(*row)?;
     Ok(place)
 }
 
@@ -117,29 +177,29 @@ fn note_reaction(
 // Adds the reaction of a statement to the tables. After an error there may be more names and rows, but no
 // other reaction.
 pub fn build(
-    names: &mut Vec<Name>,
-    rows: &mut Vec<Row>,
+    names: &mut Names,
+    rows: &mut Rows,
     reactions: &mut Vec<(usize, usize)>,
     text: &[u8],
     left: &[Term],
     right: &[Term],
 ) -> Result<(), NetFault>
-    requires distinct { AreDistinct names.old.items }
-    requires names_few { length names.old.items ≤ MAX_SPECIES }
-    requires rows_few { length rows.old.items ≤ MAX_COMPLEXES }
+    requires distinct { AreDistinct names.old.keys }
+    requires names_few { length names.old.keys ≤ MAX_SPECIES }
+    requires rows_few { length rows.old.keys ≤ MAX_COMPLEXES }
     requires reactions_few { length reactions.old.items ≤ MAX_REACTIONS }
     requires short { length text.now ≤ MAX_TEXT }
     requires left { IsSide text.now left.now }
     requires right { IsSide text.now right.now }
-    ensures gives { BuildGives names.old.items rows.old.items reactions.old.items (statement_of text.now left.now right.now) result names.new.items rows.new.items reactions.new.items }
-    ensures names_kept { take (length names.old.items) names.new.items ≡ names.old.items }
-    ensures rows_kept { take (length rows.old.items) rows.new.items ≡ rows.old.items }
+    ensures gives { BuildGives names.old.keys rows.old.keys reactions.old.items (statement_of text.now left.now right.now) result names.new.keys rows.new.keys reactions.new.items }
+    ensures names_kept { take (length names.old.keys) names.new.keys ≡ names.old.keys }
+    ensures rows_kept { take (length rows.old.keys) rows.new.keys ≡ rows.old.keys }
     ensures reactions_kept { OnErr result (reactions.new.items ≡ reactions.old.items) }
 {
-    note_names(names, text, left)?;
-    note_names(names, text, right)?;
-    let reactant = note_row(rows, row_of(names, text, left))?;
-    let product = note_row(rows, row_of(names, text, right))?;
+    let mut sides = ([0; MAX_SPECIES], [0; MAX_SPECIES]);
+    note_sides(names, &mut sides, text, left, right)?;
+    let reactant = note_row(rows, &sides.0)?;
+    let product = note_row(rows, &sides.1)?;
     note_reaction(reactions, (reactant, product))
 }
 

@@ -182,3 +182,83 @@ fn refuses_in_the_order_of_the_causes(rt: HostRuntime) -> Result<(), Fail> {
     );
     Ok(())
 }
+
+#[test]
+fn tells_sides_of_too_many_names_apart(rt: HostRuntime) -> Result<(), Fail> {
+    let text = b"ABCDEFGHIJKLMNOPQRSTUVWXYZabcdefghijklmno".as_slice();
+    let mut all = [term(0, 1); 41];
+    let mut turned = [term(0, 1); 41];
+    for i in 0..41u32 {
+        all[i as usize] = term(i, 1);
+        turned[i as usize] = term(40 - i, 1);
+    }
+    let mut more = all;
+    more[40] = term(40, 2);
+    let mut split = [term(40, 1); 42];
+    for i in 0..41u32 {
+        split[i as usize] = term(i, 1);
+    }
+    let mut less = [term(0, 1); 40];
+    for i in 0..40u32 {
+        less[i as usize] = term(i, 1);
+    }
+    let cases = [
+        (
+            "the other way round",
+            all.as_slice(),
+            turned.as_slice(),
+            NetFault::SelfReaction,
+        ),
+        (
+            "a number in two terms",
+            more.as_slice(),
+            split.as_slice(),
+            NetFault::SelfReaction,
+        ),
+        (
+            "another number",
+            all.as_slice(),
+            more.as_slice(),
+            NetFault::TooManySpecies,
+        ),
+        (
+            "a name on one side",
+            less.as_slice(),
+            all.as_slice(),
+            NetFault::TooManySpecies,
+        ),
+    ];
+    let mut builder = NetBuilder::new(rt.alloc())?;
+    for (name, left, right, want) in cases {
+        assert_eq!(rt;
+            add(&rt, &mut builder, text, left, right),
+            Err(want),
+            "{name}"
+        );
+        assert_eq!(rt;
+            add(&rt, &mut builder, text, right, left),
+            Err(want),
+            "{name}"
+        );
+    }
+    // No name of them is left.
+    assert_eq!(rt; add(&rt, &mut builder, text, &less, &[]), Ok(()));
+    let o = [term(40, 1)];
+    assert_eq!(rt;
+        add(&rt, &mut builder, text, &o, &o),
+        Err(NetFault::SelfReaction)
+    );
+    assert_eq!(rt;
+        add(&rt, &mut builder, text, &o, &[]),
+        Err(NetFault::TooManySpecies)
+    );
+    assert_eq!(rt; add(&rt, &mut builder, text, &[], &[term(39, 2)]), Ok(()));
+    match builder.finish() {
+        Ok(net) => assert_eq!(rt;
+            (net.species(), net.complexes(), net.reactions()),
+            (40, 3, 2)
+        ),
+        Err(_) => panic!(rt; "the network is not built"),
+    }
+    Ok(())
+}
