@@ -17,6 +17,13 @@ widened x h =
     let g : FitsSigned w128 x = fits_signed_from_abs w128 x (omega arith) in
     rw (to_z-of_z w64 x f, to_z-of_z w128 x g) refl
 
+-- cast from 128
+pub narrowed : (x : ℤ) → unsigned_abs x < WIDE_ENTRY → to_z w64 (of_z w64 (to_z w128 (of_z w128 x))) ≡ x
+narrowed x h =
+    let f : FitsSigned w64 x = fits_signed_from_abs w64 x (omega arith) in
+    let g : FitsSigned w128 x = fits_signed_from_abs w128 x (omega arith) in
+    rw (to_z-of_z w128 x g, to_z-of_z w64 x f) refl
+
 pub product_small : (a b : ℤ) → unsigned_abs a < WIDE_ENTRY → unsigned_abs b < WIDE_ENTRY → unsigned_abs (a *ℤ b) < 2 ^ 124
 product_small a b p q =
     let a_le : unsigned_abs a ≤ WIDE_ENTRY - 1 = omega arith in

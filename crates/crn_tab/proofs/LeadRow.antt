@@ -1,5 +1,5 @@
 -- The exchanged row in its new places.
-use Rattle.std.proofs.Common.{◌≡◌, ◌≢◌, ℕ, ◌+◌, ◌-◌, ◌<◌, ◌⊎◌, inl, inr, List, length, sym, ap, subst, ◌∙◌, arith}
+use Rattle.std.proofs.Common.{◌≡◌, ◌≢◌, ℕ, zero, suc, ◌+◌, ◌-◌, ◌<◌, ◌≤◌, ◌⊎◌, inl, inr, List, length, sym, ap, subst, ◌∙◌, arith}
 use Rattle.std.specs.Prelude.{ℤ, pos, negsuc, ◌-ℤ◌, ◌*ℤ◌, ◌≤ℤ◌, slice_index, unsigned_abs}
 use Rattle.std.specs.Int.{◌∣◌}
 use Rattle.std.proofs.lemmas.Int.{ints}
@@ -108,3 +108,10 @@ lead_small_at w c row lead h small k = elim (eq_or k c) [
     | inr nn ↦ omega (arith, small k, same_size h.sign (entry row k) (entry lead k) h.unit (h.others k nc nn))
   ]
 ]
+
+pub lead_primitive_at : (w c : ℕ) (row lead : List ℤ) → 1 ≤ w → IsLead w c row lead → IsContent row 1 → IsContent lead 1
+lead_primitive_at zero c row lead some h content = absurd (omega arith)
+lead_primitive_at (suc n) c row lead some h content =
+    let same : suc n ≡ n + 1 = omega arith in
+    let L : ℕ → Type 0 = λ w. IsLead w c row lead in
+    lead_content n c row lead (subst L same h) content

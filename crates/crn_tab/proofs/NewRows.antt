@@ -1,11 +1,11 @@
 -- The new row of an exchange, from its difference.
-use Rattle.std.proofs.Common.{◌≡◌, ◌≢◌, ℕ, zero, suc, ◌+◌, ◌-◌, ◌<◌, ◌⊎◌, inl, inr, List, [], ◌∷◌, length, refl, sym, ap, subst, ◌∙◌, arith}
+use Rattle.std.proofs.Common.{◌≡◌, ◌≢◌, ℕ, zero, suc, ◌+◌, ◌-◌, ◌<◌, ◌⊎◌, inl, inr, List, [], ◌∷◌, length, refl, sym, ap, ◌∙◌, arith}
 use Rattle.std.specs.Prelude.{ℤ, pos, ◌-ℤ◌, ◌*ℤ◌, ◌≤ℤ◌, ◌<ℤ◌}
 use Rattle.std.proofs.lemmas.Int.{ints}
 use Rattle.std.proofs.Math.ListN.{length-set}
-use lib.IntN.{*ℤ-zero, zero-*ℤ, *ℤ_comm}
+use lib.IntN.{*ℤ-zero, zero-*ℤ}
 use Rattle.crn_vec.proofs.Ring.{pos_pos}
-use Rattle.crn_tab.specs.Entries.{entry, put, IsContent, IsCombined, IsNewRow}
+use Rattle.crn_tab.specs.Entries.{entry, put, IsContent, IsNewRow}
 use Rattle.crn_tab.proofs.Rows.{same_rows}
 
 -- a place is the written one or as before
@@ -55,19 +55,6 @@ new_row_none n c old lead lt e h = record {
     primitive = h;
   };
 }
-
-pub new_row_some : (n c : ℕ) (old lead z : List ℤ) (p q : ℤ) → n < length lead → entry lead n ≡ pos 0 → pos 1 ≤ℤ p → q ≡ entry old c
-    → IsCombined p q (put old c (pos 0)) lead z → IsNewRow n c old (put lead n p) z
-new_row_some n c old lead z p q lt e some eq h =
-    let same : put (put lead n p) n (pos 0) ≡ lead = put_twice lead n p lt e in
-    let C : List ℤ → Type 0 = λ l. IsCombined p q (put old c (pos 0)) l z in
-    record {
-      p = p;
-      q = q;
-      some = some;
-      gone = *ℤ_comm p (entry old c) ∙ ap (λ (t : ℤ). t *ℤ p) (sym eq) ∙ ap (λ (t : ℤ). q *ℤ t) (sym (put_same lead n p lt));
-      is = subst C (sym same) h;
-    }
 
 pub last_stays : (c : ℕ) (old lead : List ℤ) (p q : ℤ) → c + 1 < length old → pos 1 ≤ℤ p → pos 1 ≤ℤ entry old (length old - 1)
     → entry lead (length old - 1) ≡ pos 0 → (p *ℤ entry (put old c (pos 0)) (length old - 1)) -ℤ (q *ℤ entry lead (length old - 1)) ≢ pos 0

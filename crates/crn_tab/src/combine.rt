@@ -1,5 +1,5 @@
 ghost use Rattle.std.specs.Prelude.{◌≡◌, ◌≢◌, ◌≤◌, ◌<◌, ◌^◌, ◌-◌, ◌*◌, ◌+◌, ℕ, ℤ, pos, List, ◌≤ℤ◌, ◌+ℤ◌, ◌-ℤ◌, ◌*ℤ◌, ◌⊎◌, length, unsigned_abs, IsTrue, ◌↔◌, slice_set};
-ghost use Rattle.std.specs.Int.{◌∣◌};
+ghost use Rattle.std.specs.Int.{IsGcd, ◌∣◌};
 ghost use Rattle.crn_tab.specs.Entries.{entry, AreSmall, IsContent, IsCombined, IsFit, IsNewRow, put};
 
 use crn_frac::{divided, gcd_of};
@@ -41,19 +41,20 @@ fn size(x: &i128) -> u128
     x.unsigned_abs()
 }
 
-// The greatest common divisor of the entries. It begins with the last one and that at place c, which mostly settle it.
-fn content(work: &[i128], c: usize) -> u128
-    requires place { c < length work.now }
+// The greatest common divisor of the entries, which divides `known`. Mostly that is 1.
+fn content(work: &[i128], known: u128) -> u128
     requires small { (k : ℕ) → k < length work.now → unsigned_abs (entry work.now k) < 2 ^ 125 }
+    requires known { (d : ℕ) → ((k : ℕ) → d ∣ unsigned_abs (entry work.now k)) → d ∣ known }
+    requires known_small { known < WIDE_ENTRY }
     ensures content { IsContent work.now result }
     ensures small { result < 2 ^ 125 }
 {
-    let mut g = gcd_of(size(&work[work.len() - 1]), size(&work[c]));
+    let mut g = known;
     for x in work {
         if g == 1 {
             return 1;
         }
-        g = gcd_of(g, size(x));
+        g = gcd_of(size(x), g);
     }
     g
 }
@@ -94,10 +95,29 @@ fn keep(work: &[i128], row: &mut [i64]) -> bool
     true
 }
 
+// The difference of two rows, each times a factor, in place of the first.
+// The answer is no where an entry passes the bound, and then the row holds nothing of use.
+fn subtract(row: &mut [i64], lead: &[i64], p: &i64, q: &i64) -> bool
+    requires lead_count { length lead.now ≡ length row.old }
+    requires row { AreSmall row.old }
+    requires lead { AreSmall lead.now }
+    requires p { unsigned_abs p.now < WIDE_ENTRY }
+    requires q { unsigned_abs q.now < WIDE_ENTRY }
+    ensures { (z : List ℤ) × (length z ≡ length row.old) × ((k : ℕ) → k < length row.old → entry z k ≡ (p.now *ℤ entry row.old k) -ℤ (q.now *ℤ entry lead.now k)) × IsFit z row.new result }
+{
+    for j in 0..row.len() {
+        let x = cross(p, &row[j], q, &lead[j]);
+        if !is_small(&x) {
+            return false;
+        }
+        row[j] = x as i64;
+    }
+    true
+}
+
 // The primitive difference of two rows, each times a factor, in place of the first.
-// Place c is the first that its common divisor is sought at. The answer is no where an entry passes the bound, and then the row holds nothing of use.
-fn combine(row: &mut [i64], lead: &[i64], p: &i64, q: &i64, c: usize, work: &mut [i128]) -> bool
-    requires place { c < length row.old }
+// Whatever divides all of its entries divides `known`. The answer is no where an entry passes the bound, and then the row holds nothing of use.
+fn combine(row: &mut [i64], lead: &[i64], p: &i64, q: &i64, known: u128, work: &mut [i128]) -> bool
     requires lead_count { length lead.now ≡ length row.old }
     requires work_count { length work.old ≡ length row.old }
     requires row { AreSmall row.old }
@@ -105,12 +125,44 @@ fn combine(row: &mut [i64], lead: &[i64], p: &i64, q: &i64, c: usize, work: &mut
     requires p { unsigned_abs p.now < WIDE_ENTRY }
     requires q { unsigned_abs q.now < WIDE_ENTRY }
     requires some { (k : ℕ) × (k < length row.old) × ((p.now *ℤ entry row.old k) -ℤ (q.now *ℤ entry lead.now k) ≢ pos 0) }
+    requires known { (d : ℕ) → ((k : ℕ) → d ∣ unsigned_abs ((p.now *ℤ entry row.old k) -ℤ (q.now *ℤ entry lead.now k))) → d ∣ known }
+    requires known_small { known < WIDE_ENTRY }
     ensures { (z : List ℤ) × IsCombined p.now q.now row.old lead.now z × IsFit z row.new result }
 {
+    if known == 1 {
+        return subtract(row, lead, p, q);
+    }
     products(row, lead, p, q, work);
-    let t = content(work, c) as i128;
+    let t = content(work, known) as i128;
     divide(work, &t);
     keep(work, row)
+}
+
+// The greatest common divisor of two small numbers, the second positive.
+fn common(x: &i64, y: &i64) -> i64
+    requires x { unsigned_abs x.now < WIDE_ENTRY }
+    requires y { unsigned_abs y.now < WIDE_ENTRY }
+    requires some { pos 1 ≤ℤ y.now }
+    ensures gcd { IsGcd (unsigned_abs x.now) (unsigned_abs y.now) (unsigned_abs result) }
+    ensures some { pos 1 ≤ℤ result }
+    ensures small { unsigned_abs result < WIDE_ENTRY }
+{
+    if *y == 1 {
+        return 1;
+    }
+    gcd_of(x.unsigned_abs() as u128, y.unsigned_abs() as u128) as i64
+}
+
+// A small number over a positive divisor of it.
+fn over(x: &i64, divisor: &i64) -> i64
+    requires small { unsigned_abs x.now < WIDE_ENTRY }
+    requires divisor_small { unsigned_abs divisor.now < WIDE_ENTRY }
+    requires some { pos 1 ≤ℤ divisor.now }
+    requires divides { unsigned_abs divisor.now ∣ unsigned_abs x.now }
+    ensures value { result *ℤ divisor.now ≡ x.now }
+    ensures small { unsigned_abs result < WIDE_ENTRY }
+{
+    if *divisor == 1 { *x } else { *x / *divisor }
 }
 
 // The new row of `old`, into `into`. The last place of `lead` is 0 here, and `p` is what stood there.
@@ -129,6 +181,7 @@ pub(crate) fn new_row(
     requires old { AreSmall old.now }
     requires lead { AreSmall lead.now }
     requires lead_last { entry lead.now (length old.now - 1) ≡ pos 0 }
+    requires lead_primitive { IsContent (slice_set lead.now (length old.now - 1) p.now) 1 }
     requires p { unsigned_abs p.now < WIDE_ENTRY }
     requires p_some { pos 1 ≤ℤ p.now }
     requires den_some { pos 1 ≤ℤ entry old.now (length old.now - 1) }
@@ -141,5 +194,8 @@ pub(crate) fn new_row(
         return true;
     }
     into[c] = 0;
-    combine(into, lead, p, &q, c, work)
+    let t = common(&q, p);
+    // With no common divisor of the factors, what divides the difference divides both of these.
+    let known = common(&lead[c], &old[old.len() - 1]).unsigned_abs() as u128;
+    combine(into, lead, &over(p, &t), &over(&q, &t), known, work)
 }

@@ -34,6 +34,7 @@ fn fill_row(
     requires row { IsKeptRow (length lead.now) (row_at (length lead.now) rows.now i) }
     requires lead { AreSmall lead.now }
     requires lead_last { entry lead.now (length lead.now - 1) ≡ pos 0 }
+    requires lead_primitive { IsContent (slice_set lead.now (length lead.now - 1) p.now) 1 }
     requires p { unsigned_abs p.now < WIDE_ENTRY }
     requires p_some { pos 1 ≤ℤ p.now }
     ensures made { (z : List ℤ) × IsNewRow (length lead.now - 1) c (row_at (length lead.now) rows.now i) (slice_set lead.now (length lead.now - 1) p.now) z × IsFit z (row_at (length lead.now) spare.new i) result }
@@ -68,6 +69,7 @@ pub(crate) fn fill_rows(
     requires row { (i : ℕ) → i < m → IsKeptRow (length lead.now) (row_at (length lead.now) rows.now i) }
     requires lead { AreSmall lead.now }
     requires lead_last { entry lead.now (length lead.now - 1) ≡ pos 0 }
+    requires lead_primitive { IsContent (slice_set lead.now (length lead.now - 1) p.now) 1 }
     requires p { unsigned_abs p.now < WIDE_ENTRY }
     requires p_some { pos 1 ≤ℤ p.now }
     ensures done { (i : ℕ) → i < m → i ≢ r → IsRowDone (length lead.now) c i rows.now (slice_set lead.now (length lead.now - 1) p.now) spare.new result (slice_index order.now (length lead.now - 1 + i)) }
@@ -102,6 +104,7 @@ fn fill_one(
     requires row { IsKeptRow (length lead.now) (row_at (length lead.now) rows.now i) }
     requires lead { AreSmall lead.now }
     requires lead_last { entry lead.now (length lead.now - 1) ≡ pos 0 }
+    requires lead_primitive { IsContent (slice_set lead.now (length lead.now - 1) p.now) 1 }
     requires p { unsigned_abs p.now < WIDE_ENTRY }
     requires p_some { pos 1 ≤ℤ p.now }
     ensures done { i ≢ r → IsRowDone (length lead.now) c i rows.now (slice_set lead.now (length lead.now - 1) p.now) spare.new result (slice_index order.now (length lead.now - 1 + i)) }

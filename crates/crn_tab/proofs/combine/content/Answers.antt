@@ -1,4 +1,4 @@
-use Rattle.std.proofs.Common.{◌≡◌, ◌<◌, ◌-◌, ◌^◌, sym, subst, arith, below_more, length}
+use Rattle.std.proofs.Common.{◌≡◌, ◌<◌, ◌-◌, ◌^◌, sym, subst, arith, below_more}
 use Rattle.std.specs.Prelude.{unsigned_abs}
 use Rattle.std.specs.Int.{◌∣◌}
 use Rattle.std.proofs.lemmas.Nat.Gcd.{dvd-zero, dvd_trans}
@@ -8,28 +8,22 @@ use Rattle.crn_tab.proofs.Rows.{everywhere}
 use Rattle.crn_tab.proofs.combine.content.Goals as goal
 
 pub loop-x-init : goal.loop-x-init
-loop-x-init c =
-    let last = length c.args.work.now - 1 in
-    let first : c.size.result ≡ unsigned_abs (entry c.args.work.now last) = c.size.ensures in
-    let second : c.size-2.result ≡ unsigned_abs (entry c.args.work.now c.args.c) = c.size-2.ensures in
-    let below : unsigned_abs (entry c.args.work.now last) < 2 ^ 125 = c.requires.small last (omega (arith, c.requires.place)) in
-    let below' : unsigned_abs (entry c.args.work.now c.args.c) < 2 ^ 125 = c.requires.small c.args.c c.requires.place in
-    record {
-      divides = λ k lt. absurd (omega arith);
-      greatest = λ d h. c.gcd_of-g.ensures.gcd.2 d (subst (λ n. d ∣ n) (sym first) (h last)) (subst (λ n. d ∣ n) (sym second) (h c.args.c));
-      small = omega (arith, c.gcd_of-g.ensures.small (2 ^ 125 - 1) (omega (arith, first, below)) (omega (arith, second, below')));
-    }
+loop-x-init c = record {
+  divides = λ k lt. absurd (omega arith);
+  greatest = c.requires.known;
+  small = omega (arith, c.requires.known_small);
+}
 
 pub loop-x-preserved : goal.loop-x-preserved
 loop-x-preserved c =
     let x = entry c.args.work.now c.loop-x.x-index in
     let below : unsigned_abs x < 2 ^ 125 = c.requires.small c.loop-x.x-index c.loop-x-test.true in
-    let abs_is : c.size-in-loop-x.result ≡ unsigned_abs x = c.size-in-loop-x.ensures in
-    let g = c.gcd_of-g-in-loop-x.result in
+    let abs_is : c.size.result ≡ unsigned_abs x = c.size.ensures in
+    let g = c.gcd_of-g.result in
     record {
-      divides = below_more _ _ (λ k lt. dvd_trans g c.gcd_of-g-in-loop-x.ensures.gcd.0 (c.loop-x.invariant.divides k lt)) (subst (λ n. g ∣ n) abs_is c.gcd_of-g-in-loop-x.ensures.gcd.1);
-      greatest = λ d h. c.gcd_of-g-in-loop-x.ensures.gcd.2 d (c.loop-x.invariant.greatest d h) (subst (λ n. d ∣ n) (sym abs_is) (h c.loop-x.x-index));
-      small = omega (arith, c.gcd_of-g-in-loop-x.ensures.small (2 ^ 125 - 1) (omega (arith, c.loop-x.invariant.small)) (omega (arith, below, abs_is)));
+      divides = below_more _ _ (λ k lt. dvd_trans g c.gcd_of-g.ensures.gcd.1 (c.loop-x.invariant.divides k lt)) (subst (λ n. g ∣ n) abs_is c.gcd_of-g.ensures.gcd.0);
+      greatest = λ d h. c.gcd_of-g.ensures.gcd.2 d (subst (λ n. d ∣ n) (sym abs_is) (h c.loop-x.x-index)) (c.loop-x.invariant.greatest d h);
+      small = omega (arith, c.gcd_of-g.ensures.small (2 ^ 125 - 1) (omega (arith, below, abs_is)) (omega (arith, c.loop-x.invariant.small)));
     }
 
 pub returns-clause-content : goal.returns-clause-content

@@ -4,10 +4,11 @@ use Rattle.std.specs.Int.{w64}
 use Rattle.std.proofs.Math.ListN.{length-set}
 use Rattle.crn_vec.specs.declared.limits.TheConstants.{WIDE_ENTRY}
 use Rattle.crn_vec.specs.Vectors.{entry}
+use Rattle.crn_tab.specs.Entries.{IsContent}
 use Rattle.crn_tab.specs.Tab.{row_at, IsLead, IsRowDone, HasWideRow}
 use Rattle.crn_tab.proofs.NewRows.{look}
 use Rattle.crn_tab.proofs.Rows.{same_rows}
-use Rattle.crn_tab.proofs.LeadRow.{lead_small_at}
+use Rattle.crn_tab.proofs.LeadRow.{lead_small_at, lead_primitive_at}
 use Rattle.crn_tab.proofs.Cross.{read}
 use Rattle.crn_tab.proofs.exchange.new_rows.Goals as goal
 
@@ -51,6 +52,18 @@ rows_after w r lead lead' spare spare' e f own others =
     let A : List ℤ → Type 0 = λ l. (row_at (length l) spare' r ≡ l) × ((j : ℕ) → j ≢ r → row_at (length l) spare' j ≡ row_at (length l) spare j) in
     let B : ℕ → Type 0 = λ n. (row_at n spare' r ≡ lead) × ((j : ℕ) → j ≢ r → row_at n spare' j ≡ row_at n spare j) in
     subst B f (subst A e (own, others))
+
+pub fill_rows-least-requires-clause-lead_primitive : goal.fill_rows-least-requires-clause-lead_primitive
+fill_rows-least-requires-clause-lead_primitive c =
+    let w = length c.args.lead.now in
+    let rows = c.args.rows.now in
+    let lead = c.make_lead.new.lead in
+    let was = c.requires.row c.args.r c.requires.inside in
+    let small = lead_small_at w c.args.c (row_at w rows c.args.r) lead c.make_lead.ensures was.small in
+    let some : 1 ≤ w = omega (arith, c.requires.place) in
+    let lead0 = set lead (length lead - 1) (pos 0) in
+    let back = put_back lead c.args.c w (row_at w rows c.args.r) c.make_lead.ensures some (small (length lead - 1)) (length lead0 - 1) (ap (λ n. n - 1) (length-set lead (length lead - 1) (pos 0))) in
+    subst (λ (l : List ℤ). IsContent l 1) (sym back) (lead_primitive_at w c.args.c (row_at w rows c.args.r) lead some c.make_lead.ensures was.primitive)
 
 pub returns-then-least-order : goal.returns-then-least-order
 returns-then-least-order c =

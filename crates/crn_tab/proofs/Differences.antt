@@ -1,0 +1,22 @@
+-- The difference of two rows, each times a factor.
+use Rattle.std.proofs.Common.{◌≡◌, ℕ, zero, suc, ◌<◌, List, [], ◌∷◌, length, refl, arith}
+use Rattle.std.specs.Prelude.{ℤ, ◌-ℤ◌, ◌*ℤ◌}
+use Rattle.crn_tab.specs.Entries.{entry}
+
+pub differences : ℤ → ℤ → List ℤ → List ℤ → List ℤ
+differences p q [] v = []
+differences p q (x ∷ w) [] = []
+differences p q (x ∷ w) (y ∷ v) = ((p *ℤ x) -ℤ (q *ℤ y)) ∷ differences p q w v
+
+pub length-differences : (p q : ℤ) (w v : List ℤ) → length v ≡ length w → length (differences p q w v) ≡ length w
+unfolding differences
+length-differences p q [] v e = refl
+length-differences p q (x ∷ w) [] e = absurd (omega arith)
+length-differences p q (x ∷ w) (y ∷ v) e = omega (arith, length-differences p q w v (omega arith))
+
+pub entry-differences : (p q : ℤ) (w v : List ℤ) (k : ℕ) → length v ≡ length w → k < length w → entry (differences p q w v) k ≡ (p *ℤ entry w k) -ℤ (q *ℤ entry v k)
+unfolding differences
+entry-differences p q [] v k e lt = absurd (omega arith)
+entry-differences p q (x ∷ w) [] k e lt = absurd (omega arith)
+entry-differences p q (x ∷ w) (y ∷ v) zero e lt = refl
+entry-differences p q (x ∷ w) (y ∷ v) (suc k) e lt = entry-differences p q w v k (omega arith) (omega arith)
