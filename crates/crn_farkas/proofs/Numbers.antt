@@ -5,6 +5,7 @@ use Rattle.crn_vec.specs.Lists.{IsIn, IsAbove, IsAscending}
 use Rattle.crn_vec.specs.Elementary.{width}
 use Rattle.crn_tab.specs.Names.{NamesRows}
 use Rattle.crn_farkas.specs.Decides.{IsNumbered}
+use Rattle.crn_farkas.proofs.PartSums.{push_in, push_last, in_push}
 
 -- the members of the exchanged basis below k
 pub record NumberedBelow (basis : List ℕ) (leave enter k : ℕ) (numbers : List ℕ) : Type 0 where
@@ -25,21 +26,6 @@ ascending_snoc : (xs : List ℕ) (k : ℕ) → IsAscending xs → ((c : ℕ) →
 ascending_snoc [] k h all = tt
 ascending_snoc (x ∷ xs) k h all = above_snoc x xs k h (all x (inl refl)) (λ c i. all c (inr i))
 
-in_snoc : (xs : List ℕ) (k c : ℕ) → IsIn c (xs ++ k ∷ []) → IsIn c xs ⊎ (c ≡ k)
-in_snoc [] k c (inl e) = inr e
-in_snoc [] k c (inr i) = absurd i
-in_snoc (x ∷ xs) k c (inl e) = inl (inl e)
-in_snoc (x ∷ xs) k c (inr i) = elim (in_snoc xs k c i) as (λ _. IsIn c (x ∷ xs) ⊎ (c ≡ k)) [ inl h ↦ inl (inr h) | inr e ↦ inr e ]
-
-snoc_in : (xs : List ℕ) (k c : ℕ) → IsIn c xs → IsIn c (xs ++ k ∷ [])
-snoc_in [] k c i = absurd i
-snoc_in (x ∷ xs) k c (inl e) = inl e
-snoc_in (x ∷ xs) k c (inr i) = inr (snoc_in xs k c i)
-
-snoc_last : (xs : List ℕ) (k c : ℕ) → c ≡ k → IsIn c (xs ++ k ∷ [])
-snoc_last [] k c e = inl e
-snoc_last (x ∷ xs) k c e = inr (snoc_last xs k c e)
-
 pub none_yet : (basis : List ℕ) (leave enter : ℕ) → NumberedBelow basis leave enter 0 []
 none_yet basis leave enter = record { next = []; numbered = refl; ascending = tt; members = λ c. (λ i. absurd i, λ h. absurd (omega (arith, h.0))) }
 
@@ -57,13 +43,13 @@ one_more basis leave enter k numbers more n here e =
       numbered = e ∙ ap (λ (t : List ℕ). t ++ (k + 1) ∷ []) n.numbered ∙ ap (λ (s : ℕ). map suc n.next ++ s ∷ []) (let f : k + 1 ≡ suc k = omega arith in f) ∙ sym (map_snoc n.next k);
       ascending = ascending_snoc n.next k n.ascending (λ c i. ((n.members c).0 i).0);
       members = λ c. (
-        λ i. elim (in_snoc n.next k c i) as (λ _. (c < k + 1) × P c) [
+        λ i. elim (in_push n.next k c i) as (λ _. (c < k + 1) × P c) [
           | inl h ↦ let m = (n.members c).0 h in (omega (arith, m.0), m.1)
           | inr f ↦ (omega (arith, f), subst P (sym f) here)
         ],
         λ h. elim (less_or c k h.0) as (λ _. IsIn c (n.next ++ k ∷ [])) [
-          | inl lt ↦ snoc_in n.next k c ((n.members c).1 (lt, h.1))
-          | inr f ↦ snoc_last n.next k c f
+          | inl lt ↦ push_in n.next k c ((n.members c).1 (lt, h.1))
+          | inr f ↦ push_last n.next k c f
         ],
       );
     }

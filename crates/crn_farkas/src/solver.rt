@@ -218,7 +218,7 @@ impl Solver {
     ///
     /// A vector of this basis that rules the system out is found at once, and then the basis stays.
     /// Memory is taken for the answer, and for one vector of the tableau at a time.
-    pub fn decide(&mut self, alloc: Global, kinds: &[Kind]) -> Result<Decision, Stop>
+    pub fn decide(&mut self, kinds: &[Kind]) -> Result<Decision, Stop>
         requires kinds { length kinds.now ≡ width self.old.matrix }
         requires few { signed_count kinds.now ≤ MAX_SIGNED }
         ensures matrix { self.new.matrix ≡ self.old.matrix }
@@ -229,6 +229,7 @@ impl Solver {
         ensures named { IfOk result (λ d. IsNamedDecision self.new.matrix self.new.basis d) }
         ensures near { IfErr result (λ s. IsNearStop self.new.basis s) }
     {
+        let alloc = *self.order.allocator();
         let result = answer(
             alloc,
             &mut self.tableau,
@@ -241,7 +242,7 @@ impl Solver {
         result
     }
 
-    /// The coordinates of the kept basis, ascending and counted from 0.
+    /// The coordinates of the kept basis, ascending and counted from 0, where `Stop::Wide` counts from 1.
     pub fn basis(&self) -> Result<Nums, NoMemory>
         ensures list { IfOk result (λ made. made.list ≡ self.now.basis) }
         ensures is { IsBasis self.now.matrix self.now.basis }

@@ -10,8 +10,13 @@ use std::alloc::{AllocError, Global};
 /// Why a system is not decided.
 #[derive(Drop)]
 pub enum Stop {
-    /// A basis of the matrix and an index, both counted from 1, that name a vector past the bound.
-    Wide { index: u32, basis: Nums },
+    /// A coordinate and a basis of the matrix name a vector past the bound.
+    Wide {
+        /// The coordinate, counted from 1.
+        index: u32,
+        /// The coordinates of the basis, ascending and counted from 1, where `Solver::basis` counts from 0.
+        basis: Nums,
+    },
     NoMemory,
 }
 

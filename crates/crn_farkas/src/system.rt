@@ -24,5 +24,5 @@ pub fn decide(alloc: Global, system: &System) -> Result<Decision, Stop>
     ensures { MatchResult result (λ d. IsDecision system.now.matrix.now system.now.kinds.now d) (λ s. IsStop system.now.matrix.now system.now.kinds.now s) }
 {
     let mut solver = Solver::new(alloc, system.matrix)?;
-    solver.decide(alloc, system.kinds)
+    solver.decide(system.kinds)
 }

@@ -4,7 +4,7 @@ ghost use Rattle.crn_vec.specs.Vectors.{AreWithin};
 ghost use Rattle.crn_vec.specs.Elementary.{width};
 
 use crate::{Decision, Solver, Stop, System, decide, decisions_exclude_each_other};
-use crn_vec::{Ints, Kind, MAX_AMOUNT, MAX_SIGNED, Matrix, agrees};
+use crn_vec::{Ints, Kind, MAX_AMOUNT, MAX_SIGNED, Matrix, WIDE_ENTRY, WIDE_SOLUTION, agrees};
 use std::alloc::Global;
 use std::process::Abort;
 
@@ -135,6 +135,130 @@ fn rules_out(kinds: &[Kind], list: &[i128]) -> bool {
     some && list.len() == kinds.len()
 }
 
+// Whether each number is less than the bound in absolute value.
+fn are_below(list: &[i128], bound: u128) -> bool {
+    for x in list.iter() {
+        if x.unsigned_abs() >= bound {
+            return false;
+        }
+    }
+    true
+}
+
+// The greatest common divisor, in as many steps of Euclid as 128 bits may need.
+fn divisor(a: u128, b: u128) -> u128 {
+    let (mut x, mut y) = (a, b);
+    for _ in 0..200 {
+        if y == 0 {
+            return x;
+        }
+        (x, y) = (y, x % y);
+    }
+    x
+}
+
+// The multiple of a list whose greatest common divisor is 1.
+fn primitive(rt: &impl Abort, alloc: Global, list: &[i128]) -> Vec<i128> {
+    let mut all = 0u128;
+    for x in list.iter() {
+        all = divisor(all, x.unsigned_abs());
+    }
+    let by = i128::try_from(all).expect(rt, "an overflow");
+    let mut made = Vec::new(alloc);
+    for x in list.iter() {
+        let entry = x.checked_div(by).expect(rt, "a list of zeros");
+        made.push(entry).expect(rt, "memory");
+    }
+    made
+}
+
+// The difference of two products, where nothing overflows.
+fn difference(p: i128, x: i128, q: i128, y: i128) -> Option<i128> {
+    p.checked_mul(x)?.checked_sub(q.checked_mul(y)?)
+}
+
+// A list less the multiple of another that leaves 0 at a coordinate, made primitive.
+fn cleared(rt: &impl Abort, alloc: Global, list: &[i128], by: &[i128], k: usize) -> Vec<i128> {
+    let ratio = primitive(rt, alloc, &[at(by, k), at(list, k)]);
+    let (p, q) = (at(&ratio, 0), at(&ratio, 1));
+    let mut made = Vec::new(alloc);
+    for (x, y) in list.iter().zip(by) {
+        let entry = difference(p, *x, q, *y).expect(rt, "an overflow");
+        made.push(entry).expect(rt, "memory");
+    }
+    primitive(rt, alloc, &made)
+}
+
+// The place of the first list that is not 0 at a coordinate.
+fn first_with(lists: &[Vec<i128>], k: usize) -> Option<usize> {
+    for (place, list) in lists.iter().enumerate() {
+        if at(list, k) != 0 {
+            return Some(place);
+        }
+    }
+    None
+}
+
+// Lists that span what is 0 at a coordinate of what the lists span, one list fewer.
+fn eliminated(rt: &impl Abort, alloc: Global, lists: &[Vec<i128>], k: usize) -> Vec<Vec<i128>> {
+    let first = first_with(lists, k).expect(rt, "no basis");
+    let by = lists.get(first).expect(rt, "no list");
+    let mut made = Vec::new(alloc);
+    for (place, list) in lists.iter().enumerate() {
+        if place != first {
+            made.push(cleared(rt, alloc, list, by, k))
+                .expect(rt, "memory");
+        }
+    }
+    made
+}
+
+// The list of so many entries, which are 0 but for a 1.
+fn unit(rt: &impl Abort, alloc: Global, size: usize, one: usize) -> Vec<i128> {
+    let mut made = Vec::new(alloc);
+    for place in 0..size {
+        let x = if place == one { 1 } else { 0 };
+        made.push(x).expect(rt, "memory");
+    }
+    made
+}
+
+// Lists that span all (x, Ax), or else all (-uA, u).
+fn spanning(rt: &impl Abort, alloc: Global, matrix: &Matrix, is_columns: bool) -> Vec<Vec<i128>> {
+    let size = if is_columns {
+        matrix.cols()
+    } else {
+        matrix.rows()
+    };
+    let mut made = Vec::new(alloc);
+    for one in 0..size {
+        let x = unit(rt, alloc, size, one);
+        let list = if is_columns {
+            values(rt, alloc, matrix, &x)
+        } else {
+            weights(rt, alloc, matrix, &x)
+        };
+        made.push(list).expect(rt, "memory");
+    }
+    made
+}
+
+// The primitive vector that a basis and an index name, both counted from 1, by plain elimination.
+fn named(rt: &impl Abort, alloc: Global, matrix: &Matrix, basis: &[u32], index: u32) -> Vec<i128> {
+    let member = basis.contains(&index);
+    let mut lists = spanning(rt, alloc, matrix, member);
+    for k in 0..matrix.cols() + matrix.rows() {
+        let number = (k as u32).wrapping_add(1);
+        if number != index && basis.contains(&number) == member {
+            lists = eliminated(rt, alloc, &lists, k);
+        }
+    }
+    assert_eq!(rt; lists.len(), 1);
+    let vector = lists.pop().expect(rt, "no list");
+    assert!(rt; at(&vector, (index as usize).wrapping_sub(1)) != 0);
+    vector
+}
+
 // Whether the kinds are few enough to be asked for.
 #[tactic(auto, using(crate::proofs::Counts::count_at_most))]
 fn are_few(kinds: &[Kind]) -> bool
@@ -143,30 +267,44 @@ fn are_few(kinds: &[Kind]) -> bool
     kinds.len() <= MAX_SIGNED
 }
 
-// Decides a system, and tests the numbers of the answer.
-fn end_of(rt: &impl Abort, alloc: Global, matrix: &Matrix, kinds: &[Kind]) -> End {
-    assert!(rt; kinds.len() == matrix.cols() + matrix.rows());
-    assert!(rt; are_few(kinds));
-    match decide(alloc, &System { matrix, kinds }) {
+// Tests the numbers of an answer by the definition.
+fn tested(
+    rt: &impl Abort,
+    alloc: Global,
+    matrix: &Matrix,
+    kinds: &[Kind],
+    answer: Result<Decision, Stop>,
+) -> End {
+    match answer {
         Ok(Decision::Feasible(x)) => {
             assert_eq!(rt; x.as_slice().len(), matrix.cols());
             let list = values(rt, alloc, matrix, x.as_slice());
+            assert!(rt; are_below(&list, WIDE_SOLUTION));
             assert!(rt; list.len() == kinds.len());
             assert!(rt; agrees(kinds, &list));
             End::Feasible
         }
         Ok(Decision::Infeasible(u)) => {
             assert_eq!(rt; u.as_slice().len(), matrix.rows());
+            assert!(rt; are_below(u.as_slice(), WIDE_ENTRY));
             assert!(rt; rules_out(kinds, &weights(rt, alloc, matrix, u.as_slice())));
             End::Infeasible
         }
         Err(Stop::Wide { index, basis }) => {
-            assert!(rt; index >= 1);
-            assert_eq!(rt; basis.as_slice().len(), matrix.cols());
+            let vector = named(rt, alloc, matrix, basis.as_slice(), index);
+            assert!(rt; !are_below(&vector, WIDE_ENTRY));
             End::Wide
         }
         Err(Stop::NoMemory) => End::NoMemory,
     }
+}
+
+// Decides a system, and tests the numbers of the answer.
+fn end_of(rt: &impl Abort, alloc: Global, matrix: &Matrix, kinds: &[Kind]) -> End {
+    assert!(rt; kinds.len() == matrix.cols() + matrix.rows());
+    assert!(rt; are_few(kinds));
+    let answer = decide(alloc, &System { matrix, kinds });
+    tested(rt, alloc, matrix, kinds, answer)
 }
 
 // Positive on so many columns, and zero on so many rows.
@@ -276,12 +414,12 @@ fn networks_are_dependent_and_conservative_by_table(rt: HostRuntime) {
 }
 
 // What a solver answers, where the system is ruled out.
-fn multipliers_of(rt: &impl Abort, alloc: Global, solver: &mut Solver, kinds: &[Kind]) -> Ints
+fn multipliers_of(rt: &impl Abort, solver: &mut Solver, kinds: &[Kind]) -> Ints
     requires { length kinds.now ≡ width solver.old.matrix }
     ensures { solver.new.matrix ≡ solver.old.matrix }
 {
     assert!(rt; are_few(kinds));
-    match solver.decide(alloc, kinds) {
+    match solver.decide(kinds) {
         Ok(Decision::Infeasible(u)) => u,
         _ => panic!(rt; "the system is not ruled out"),
     }
@@ -299,13 +437,53 @@ fn a_system_asked_again_is_ruled_out_by_the_kept_basis(rt: HostRuntime) {
     let kinds = [Free, Free, Pos, Pos];
     assert_eq!(rt; matrix.cols() + matrix.rows(), 4);
     let mut solver = Solver::new(rt.alloc(), &matrix).expect(&rt, "memory");
-    let first = multipliers_of(&rt, rt.alloc(), &mut solver, &kinds);
+    let first = multipliers_of(&rt, &mut solver, &kinds);
     assert!(rt; are_one_to_one(first.as_slice()));
     let before = solver.basis().expect(&rt, "memory");
-    let second = multipliers_of(&rt, rt.alloc(), &mut solver, &kinds);
+    let second = multipliers_of(&rt, &mut solver, &kinds);
     assert!(rt; are_one_to_one(second.as_slice()));
     let after = solver.basis().expect(&rt, "memory");
     assert!(rt; before.as_slice() == after.as_slice());
+}
+
+// How a solver that was asked before ends, after the numbers of its answer were tested.
+fn end_again(
+    rt: &impl Abort,
+    alloc: Global,
+    solver: &mut Solver,
+    matrix: &Matrix,
+    kinds: &[Kind],
+) -> End
+    requires { solver.old.matrix ≡ matrix.now }
+    ensures { solver.new.matrix ≡ matrix.now }
+{
+    assert!(rt; kinds.len() == matrix.cols() + matrix.rows());
+    assert!(rt; are_few(kinds));
+    let answer = solver.decide(kinds);
+    tested(rt, alloc, matrix, kinds, answer)
+}
+
+// `A + B <-> C` and `C <-> B`, all at positive rates, change B and C by opposite amounts, and A by any.
+#[test]
+fn a_solver_asked_in_turn_ends_as_a_new_one(rt: HostRuntime) {
+    use Kind::{Neg, Pos, Zero};
+    let vectors = [-1, -1, 1, 1, 1, -1, 0, 1, -1, 0, -1, 1];
+    let matrix = turned(&rt, rt.alloc(), 3, 4, &vectors);
+    let mut solver = Solver::new(rt.alloc(), &matrix).expect(&rt, "memory");
+    for place in 0..27 {
+        let (a, b, c) = (place % 3, place / 3 % 3, place / 9);
+        let asked = [Pos, Neg, Zero];
+        let kinds = [Pos, Pos, Pos, Pos, asked[a], asked[b], asked[c]];
+        let want = if c == [1, 0, 2][b] {
+            End::Feasible
+        } else {
+            End::Infeasible
+        };
+        let new = end_of(&rt, rt.alloc(), &matrix, &kinds);
+        assert_eq!(rt; new, want, "new at {place}");
+        let again = end_again(&rt, rt.alloc(), &mut solver, &matrix, &kinds);
+        assert_eq!(rt; again, want, "again at {place}");
+    }
 }
 
 #[test]

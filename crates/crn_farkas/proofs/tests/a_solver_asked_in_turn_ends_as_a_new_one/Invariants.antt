@@ -1,0 +1,5 @@
+use Rattle.std.proofs.Common.{◌≡◌}
+use Rattle.crn_farkas.proofs.tests.a_solver_asked_in_turn_ends_as_a_new_one.Given as goal
+
+abbrev pub invariant-loop-place : goal.invariant-loop-place
+invariant-loop-place g l = l.solver.matrix ≡ l.initial.solver.matrix
