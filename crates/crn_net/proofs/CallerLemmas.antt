@@ -12,9 +12,8 @@ use Rattle.crn_net.proofs.Lists.{in_left, in_right, in_map, map_same, map_twice}
 use Rattle.crn_net.proofs.Firsts.{firsts_distinct, firsts_has, firsts_firsts, firsts_map}
 use Rattle.crn_net.proofs.Amounts.{none_said, amounts_most}
 use Rattle.crn_net.specs.declared.term.Term.{Term}
-use Rattle.crn_net.specs.declared.term.TheConstants.{MAX_TERMS}
 use Rattle.crn_net.specs.Terms.{IsTerm, IsSide}
-use Rattle.crn_vec.specs.declared.limits.TheConstants.{MAX_AMOUNT}
+use Rattle.crn_vec.specs.declared.limits.TheConstants.{MAX_AMOUNT, MAX_TERMS}
 use Rattle.std.proofs.lemmas.List.Sums.{sum_by-cons}
 use Rattle.crn_net.proofs.Rows.{same_test}
 use Rattle.crn_net.proofs.Growth.{sides_decide}

@@ -3,9 +3,8 @@
 use Rattle.std.specs.Prelude.{◌≤◌, ◌+◌, ℕ, List, length, map, take, drop}
 use Rattle.std.specs.List.{AllByRecursion}
 use Rattle.crn_vec.specs.Network.{IsName, amount_in, Statement}
-use Rattle.crn_vec.specs.declared.limits.TheConstants.{MAX_AMOUNT}
+use Rattle.crn_vec.specs.declared.limits.TheConstants.{MAX_AMOUNT, MAX_TERMS}
 use Rattle.crn_net.specs.declared.term.Term.{Term}
-use Rattle.crn_net.specs.declared.term.TheConstants.{MAX_TERMS}
 
 -- the bytes of the term's name
 abbrev pub name_at : List ℕ → Term → List ℕ

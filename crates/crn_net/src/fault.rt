@@ -2,17 +2,22 @@ ghost use Rattle.std.specs.Prelude.{◌≡◌};
 ghost use Rattle.crn_net.specs.declared.fault.NetFault.TheVariants.{NoMemory};
 
 use std::alloc::{AllocError, AllocFailed};
+use thiserror::Error;
 
 /// Why a reaction is not added, or a network not built, in the order in which the causes are looked at.
-#[derive(Clone, Copy, Debug, PartialEq, Eq)]
+#[derive(Clone, Copy, Debug, PartialEq, Eq, Error)]
 pub enum NetFault {
-    /// Both sides are the same complex.
+    #[error("both sides are the same complex")]
     SelfReaction,
+    #[error("the network has too many species")]
     TooManySpecies,
+    #[error("the network has too many complexes")]
     TooManyComplexes,
+    #[error("the network has too many reactions")]
     TooManyReactions,
-    /// The network has no reaction.
+    #[error("the network has no reaction")]
     NoReaction,
+    #[error("memory ran out")]
     NoMemory,
 }
 

@@ -16,4 +16,4 @@ pub use builder::NetBuilder;
 pub use fault::NetFault;
 pub use laws::statements_fix_what_has_grown;
 pub use network::Network;
-pub use term::{MAX_TERMS, Term};
+pub use term::Term;

@@ -1,6 +1,3 @@
-/// The terms of one side of a statement.
-pub const MAX_TERMS: usize = 1_048_576;
-
 /// A name in a text, with its number on a side.
 ///
 /// The name is the `length` bytes from place `at`, counted from 0, of the text that is handed in with the term.

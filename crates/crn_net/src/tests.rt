@@ -4,8 +4,8 @@ ghost use Rattle.crn_net.specs.Terms.{IsTerm, IsSide};
 
 use crate::builder::NetBuilder;
 use crate::fault::NetFault;
-use crate::term::{MAX_TERMS, Term};
-use crn_vec::MAX_TEXT;
+use crate::term::Term;
+use crn_vec::{MAX_TERMS, MAX_TEXT};
 use std::process::Abort;
 use std::test::Fail;
 

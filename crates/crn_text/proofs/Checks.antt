@@ -5,10 +5,9 @@ use Rattle.std.specs.List.{AllByRecursion, list_any}
 use Rattle.std.proofs.lemmas.Bool.{cases_Bool, ltb-false, le-ltb, eqb-false}
 use Rattle.std.proofs.lemmas.List.{length-take, length-drop}
 use Rattle.crn_vec.specs.Network.{amount_in}
-use Rattle.crn_vec.specs.declared.limits.TheConstants.{MAX_AMOUNT, MAX_NAME}
+use Rattle.crn_vec.specs.declared.limits.TheConstants.{MAX_AMOUNT, MAX_NAME, MAX_TERMS}
 use Rattle.crn_net.specs.Terms.{name_at, side_of, IsTerm, IsSide}
 use Rattle.crn_net.specs.declared.term.Term.{Term}
-use Rattle.crn_net.specs.declared.term.TheConstants.{MAX_TERMS}
 use Rattle.crn_text.specs.Faults.{has_long_name, has_zero, has_large, terms_fault}
 use Rattle.crn_text.specs.Pieces.{AreSpelled, HasSmallNumbers, HasSmallSums}
 use Rattle.crn_text.specs.declared.code.TextCode.TheVariants.{NameTooLong, ZeroCoefficient, CoefficientTooLarge}

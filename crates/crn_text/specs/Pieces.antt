@@ -4,11 +4,10 @@ use Rattle.std.specs.Prelude.{◌≡◌, ◌≤◌, ◌+◌, ◌⊎◌, min, not
 use Rattle.std.specs.Borrow.{Bor}
 use Rattle.std.specs.List.{AllByRecursion}
 use Rattle.crn_vec.specs.Network.{Net, Statement, begins_name, amount_in}
-use Rattle.crn_vec.specs.declared.limits.TheConstants.{MAX_AMOUNT}
+use Rattle.crn_vec.specs.declared.limits.TheConstants.{MAX_AMOUNT, MAX_TERMS}
 use Rattle.crn_net.specs.Terms.{name_at, side_of, IsSide}
 use Rattle.crn_net.specs.Grows.{Grown}
 use Rattle.crn_net.specs.declared.term.Term.{Term}
-use Rattle.crn_net.specs.declared.term.TheConstants.{MAX_TERMS}
 use Rattle.crn_text.specs.Tokens.{Word, word, first_word, lines}
 use Rattle.crn_text.specs.Sides.{is_name, is_term, is_side, term_of, terms_of, statements_of, places, said, all_said}
 use Rattle.crn_text.specs.Faults.{terms_fault, sides_fault, words_fault, line_fault, statement_fault, statements_fault, or_else}

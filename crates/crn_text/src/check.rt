@@ -6,8 +6,8 @@ ghost use Rattle.crn_text.specs.Pieces.{AreSpelled, HasSmallNumbers, HasSmallSum
 
 use crate::code::TextCode;
 use crate::sums::sums_fit;
-use crn_net::{MAX_TERMS, Term};
-use crn_vec::{MAX_AMOUNT, MAX_NAME};
+use crn_net::Term;
+use crn_vec::{MAX_AMOUNT, MAX_NAME, MAX_TERMS};
 use std::alloc::{AllocError, Global};
 
 fn has_long_names(side: &[Term]) -> bool
