@@ -12,6 +12,7 @@ mod solver;
 mod stop;
 mod sum;
 mod system;
+mod targets;
 #[cfg(test)]
 mod tests;
 mod view;

@@ -1,21 +1,18 @@
-ghost use Rattle.std.specs.Prelude.{◌≡◌, ◌≤◌, ◌<◌, ◌+◌, ◌↔◌, ℕ, length, slice_index, vec_capacity, MatchResult, MatchOption, IfErr, IfOk};
+ghost use Rattle.std.specs.Prelude.{◌≡◌, ◌≤◌, ◌<◌, ◌↔◌, ℕ, length, vec_capacity, MatchResult, IfErr, IfOk};
 ghost use Rattle.crn_vec.specs.Lists.{IsIn};
 ghost use Rattle.crn_vec.specs.Elementary.{width, IsBasis};
 ghost use Rattle.crn_vec.specs.Systems.{HasOneRowCut, signed_count};
 ghost use Rattle.crn_vec.specs.declared.limits.TheConstants.{MAX_SIGNED};
 ghost use Rattle.crn_tab.specs.Names.{NamesRows};
-ghost use Rattle.crn_farkas.specs.Decides.{HasKeptCut, IsSmallSolution};
-ghost use Rattle.crn_farkas.specs.Ends.{IsDecision, IsNamedCut, IsNamedDecision, IsNearStop, IsPartSum, IsRuledOut, IsTargetStop, AreZeros};
+ghost use Rattle.crn_farkas.specs.Decides.{HasKeptCut};
+ghost use Rattle.crn_farkas.specs.Ends.{IsDecision, IsNamedDecision, IsNearStop, IsRuledOut, IsTargetStop};
 
 use crate::cut::{kept_cut, multipliers};
 use crate::decision::Decision;
-use crate::goal::{Side, side_of};
-use crate::level::push_level;
-use crate::side::is_asked;
 use crate::stop::Stop;
-use crate::sum::add;
+use crate::targets::by_targets;
 use crn_tab::Tableau;
-use crn_vec::{Ints, Kind, Matrix, NoMemory, Nums};
+use crn_vec::{Kind, Matrix, NoMemory, Nums};
 use std::alloc::Global;
 use std::marker::Model;
 
@@ -40,135 +37,6 @@ impl Model for Solver {
     ghost view = { λ s. s.tableau };
 
     ghost invariant = { λ s. HasRoom s.tableau.matrix s.cols (vec_capacity s.order) s.sum.items };
-}
-
-// Makes the sum not 0 at one more coordinate that has to be positive or negative, or finds multipliers.
-fn target(
-    alloc: Global,
-    tableau: &mut Tableau,
-    kinds: &[Kind],
-    order: &[usize],
-    sum: &mut [i128],
-    cols: usize,
-    g: usize,
-) -> Result<Option<Ints>, Stop>
-    requires cols { cols ≡ tableau.old.matrix.cols }
-    requires kinds { length kinds.now ≡ width tableau.old.matrix }
-    requires few { signed_count kinds.now ≤ MAX_SIGNED }
-    requires goal { g < width tableau.old.matrix }
-    requires order { (i : ℕ) → i < length order.now → slice_index order.now i < width tableau.old.matrix }
-    requires all { (c : ℕ) → c < width tableau.old.matrix → IsIn c order.now }
-    requires sum { IsPartSum tableau.old.matrix kinds.now g sum.old }
-    ensures matrix { tableau.new.matrix ≡ tableau.old.matrix }
-    ensures end { MatchResult result (λ cut. MatchOption cut (IsPartSum tableau.new.matrix kinds.now (g + 1) sum.new) (λ u. IsNamedCut tableau.new.matrix tableau.new.basis kinds.now u.list)) (λ s. IsTargetStop tableau.new.matrix kinds.now s) }
-    ensures near { IfErr result (λ s. IsNearStop tableau.new.basis s) }
-{
-    if !is_asked(kinds[g]) {
-        return Ok(None);
-    }
-    if sum[g] != 0 {
-        return Ok(None);
-    }
-    match side_of(alloc, tableau, kinds, order, cols, g)? {
-        Side::Cut(cut) => Ok(Some(cut)),
-        Side::Witness { vector, stays } => {
-            add(sum, vector.as_slice(), stays);
-            Ok(None)
-        }
-    }
-}
-
-// Makes the sum not 0 at each coordinate that has to be positive or negative, or finds multipliers.
-fn targets(
-    alloc: Global,
-    tableau: &mut Tableau,
-    kinds: &[Kind],
-    order: &[usize],
-    sum: &mut [i128],
-    cols: usize,
-) -> Result<Option<Ints>, Stop>
-    requires cols { cols ≡ tableau.old.matrix.cols }
-    requires kinds { length kinds.now ≡ width tableau.old.matrix }
-    requires few { signed_count kinds.now ≤ MAX_SIGNED }
-    requires order { (i : ℕ) → i < length order.now → slice_index order.now i < width tableau.old.matrix }
-    requires all { (c : ℕ) → c < width tableau.old.matrix → IsIn c order.now }
-    requires sum { IsPartSum tableau.old.matrix kinds.now 0 sum.old }
-    ensures matrix { tableau.new.matrix ≡ tableau.old.matrix }
-    ensures end { MatchResult result (λ cut. MatchOption cut (IsPartSum tableau.new.matrix kinds.now (length kinds.now) sum.new) (λ u. IsNamedCut tableau.new.matrix tableau.new.basis kinds.now u.list)) (λ s. IsTargetStop tableau.new.matrix kinds.now s) }
-    ensures near { IfErr result (λ s. IsNearStop tableau.new.basis s) }
-{
-    for g in 0..kinds.len() {
-        if let Some(cut) = target(alloc, tableau, kinds, order, sum, cols, g)? {
-            return Ok(Some(cut));
-        }
-    }
-    Ok(None)
-}
-
-// Puts the coordinates in the order of settling, into a list that has room for them: first those that are zero or free, which turn once at most.
-fn put_order(order: &mut Vec<usize>, kinds: &[Kind])
-    requires { length kinds.now ≤ vec_capacity order.old }
-    ensures below { (i : ℕ) → i < length order.new.items → slice_index order.new.items i < length kinds.now }
-    ensures all { (c : ℕ) → c < length kinds.now → IsIn c order.new.items }
-    ensures room { vec_capacity order.new ≡ vec_capacity order.old }
-{
-    order.clear();
-    push_level(order, kinds, true);
-    push_level(order, kinds, false);
-}
-
-// Puts a zero at each place.
-fn put_zeros(sum: &mut [i128])
-    ensures { AreZeros (length sum.old) sum.new }
-{
-    sum.fill(0);
-}
-
-// The solution that a sum is.
-fn solution(
-    alloc: Global,
-    tableau: &Tableau,
-    kinds: &[Kind],
-    sum: &[i128],
-    cols: usize,
-) -> Result<Ints, NoMemory>
-    requires cols { cols ≡ tableau.now.matrix.cols }
-    requires kinds { length kinds.now ≡ width tableau.now.matrix }
-    requires few { signed_count kinds.now ≤ MAX_SIGNED }
-    requires sum { IsPartSum tableau.now.matrix kinds.now (length kinds.now) sum.now }
-    ensures { IfOk result (λ x. IsSmallSolution tableau.now.matrix kinds.now x.list) }
-{
-    let (front, _) = sum.split_at(cols);
-    let solution = Ints::from_slice(alloc, front)?;
-    Ok(solution)
-}
-
-// Decides a system by its targets in turn, from the basis where the last question left the tableau.
-fn by_targets(
-    alloc: Global,
-    tableau: &mut Tableau,
-    kinds: &[Kind],
-    order: &mut Vec<usize>,
-    sum: &mut [i128],
-    cols: usize,
-) -> Result<Decision, Stop>
-    requires cols { cols ≡ tableau.old.matrix.cols }
-    requires kinds { length kinds.now ≡ width tableau.old.matrix }
-    requires few { signed_count kinds.now ≤ MAX_SIGNED }
-    requires room { width tableau.old.matrix ≤ vec_capacity order.old }
-    requires sum { length sum.old ≡ width tableau.old.matrix }
-    ensures matrix { tableau.new.matrix ≡ tableau.old.matrix }
-    ensures room { vec_capacity order.new ≡ vec_capacity order.old }
-    ensures answer { MatchResult result (λ d. IsDecision tableau.new.matrix kinds.now d) (λ s. IsTargetStop tableau.new.matrix kinds.now s) }
-    ensures named { IfOk result (λ d. IsNamedDecision tableau.new.matrix tableau.new.basis d) }
-    ensures near { IfErr result (λ s. IsNearStop tableau.new.basis s) }
-{
-    put_order(order, kinds);
-    put_zeros(sum);
-    match targets(alloc, tableau, kinds, order, sum, cols)? {
-        Some(cut) => Ok(Decision::Infeasible(cut)),
-        None => Ok(Decision::Feasible(solution(alloc, tableau, kinds, sum, cols)?)),
-    }
 }
 
 // Decides a system by a vector that the basis names, where one rules it out, else by its targets.

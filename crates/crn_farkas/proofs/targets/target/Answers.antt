@@ -15,7 +15,7 @@ use Rattle.crn_farkas.specs.Ends.{IsPartSum, IsSide}
 use Rattle.std.specs.Int.{w128}
 use Rattle.crn_farkas.proofs.Steps.{any_default}
 use Rattle.crn_farkas.proofs.PartSums.{part_more, part_added, part_bound}
-use Rattle.crn_farkas.proofs.solver.target.Goals as goal
+use Rattle.crn_farkas.proofs.targets.target.Goals as goal
 
 pub returns-then-not-is_asked-clause-end : goal.returns-then-not-is_asked-clause-end
 returns-then-not-is_asked-clause-end c =

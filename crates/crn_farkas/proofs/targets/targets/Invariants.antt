@@ -1,6 +1,6 @@
 use Rattle.std.proofs.Common.{◌≡◌}
 use Rattle.crn_farkas.specs.Ends.{IsPartSum}
-use Rattle.crn_farkas.proofs.solver.targets.Given as goal
+use Rattle.crn_farkas.proofs.targets.targets.Given as goal
 
 abbrev pub invariant-loop-g : goal.invariant-loop-g
 invariant-loop-g l = record {

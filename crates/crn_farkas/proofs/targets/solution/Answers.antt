@@ -1,6 +1,6 @@
 use Rattle.std.proofs.Common.{◌∙◌, ℕ, ap, take}
 use Rattle.crn_farkas.proofs.Finals.{solution_from}
-use Rattle.crn_farkas.proofs.solver.solution.Goals as goal
+use Rattle.crn_farkas.proofs.targets.solution.Goals as goal
 
 pub returns : goal.returns
 returns c = solution_from c.args.tableau.now.matrix c.args.kinds.now c.args.sum.now c.in_ok-solution.solution.list c.requires.kinds c.requires.few c.requires.sum

@@ -4,7 +4,7 @@ use Rattle.crn_vec.specs.Lists.{IsIn}
 use Rattle.crn_vec.specs.Systems.{kind_at}
 use Rattle.crn_farkas.proofs.PartSums.{get_in}
 use Rattle.crn_farkas.proofs.Finals.{early_or, both_levels}
-use Rattle.crn_farkas.proofs.solver.put_order.Goals as goal
+use Rattle.crn_farkas.proofs.targets.put_order.Goals as goal
 
 pub push_level-requires : goal.push_level-requires
 push_level-requires c = omega (arith, c.requires, c.clear.ensures.len, c.clear.ensures.capacity, both_levels c.args.kinds.now)

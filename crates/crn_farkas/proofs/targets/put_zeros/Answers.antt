@@ -1,6 +1,6 @@
 use Rattle.std.proofs.Common.{length}
 use Rattle.crn_farkas.proofs.Finals.{all_zeros}
-use Rattle.crn_farkas.proofs.solver.put_zeros.Goals as goal
+use Rattle.crn_farkas.proofs.targets.put_zeros.Goals as goal
 
 pub returns : goal.returns
 returns c = all_zeros (length c.args.sum.now) c.fill.new.self (c.fill.ensures.after (λ y e. e))
