@@ -1,6 +1,6 @@
 ghost use Rattle.std.specs.Prelude.{◌≡◌, ◌≤◌, IsTrue};
 ghost use Rattle.crn_vec.specs.declared.limits.TheConstants.{MAX_SIGNED};
-ghost use Rattle.crn_farkas.specs.Decides.{signed_count};
+ghost use Rattle.crn_vec.specs.Systems.{signed_count};
 
 use anyhow::{Result, bail, ensure};
 use crn_farkas::{Decision, Stop, System, decide};
