@@ -1,13 +1,8 @@
-ghost use Rattle.std.specs.Prelude.{◌≡◌, ◌≤◌, ◌<◌, ◌==◌, ◌&&◌, length, take, map, replicate, slice_index_or, pos, [], OnErr, IfOk};
-ghost use Rattle.std.specs.List.{list_any, position, AllByRecursion};
-ghost use Rattle.std.specs.Str.{bytes_eq};
-ghost use Rattle.std.specs.Ordering.{int_eq};
-ghost use Rattle.std.specs.Cmp.Lexicographic.{pointwise};
+ghost use Rattle.std.specs.Prelude.{◌≡◌, ◌≤◌, ◌==◌, ◌&&◌, length, take, map, replicate, slice_index_or, pos, [], OnErr, IfOk};
+ghost use Rattle.std.specs.List.{list_any, AllByRecursion};
 ghost use Rattle.crn_vec.specs.Lists.{AreDistinct};
-ghost use Rattle.crn_vec.specs.Network.{IsAmount, JoinsTwo, amounts_in};
-ghost use Rattle.crn_vec.specs.Network.{minus};
-ghost use Rattle.crn_net.specs.Terms.{name_at, side_of, statement_of, IsSide};
-ghost use Rattle.crn_net.specs.Views.{IsRow};
+ghost use Rattle.crn_vec.specs.Network.{IsAmount, JoinsTwo, minus};
+ghost use Rattle.crn_net.specs.Terms.{side_of, statement_of, IsSide};
 ghost use Rattle.crn_net.specs.Steps.{NotesName, NotesSide, NotesBoth, TellsApart, IsCrowded, NotesSides, NotesRow, NotesReaction, BuildGives};
 
 use crate::fault::NetFault;
