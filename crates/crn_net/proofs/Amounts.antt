@@ -11,7 +11,7 @@ use Rattle.crn_vec.specs.declared.limits.TheConstants.{MAX_AMOUNT}
 use Rattle.crn_net.specs.declared.term.Term.{Term}
 use Rattle.crn_net.specs.Terms.{name_at, side_of, statement_of}
 use Rattle.crn_net.specs.Steps.{SaysSame}
-use Rattle.crn_net.proofs.Lists.{all_in, all_from, all_push}
+use Rattle.crn_net.proofs.Lists.{all_in, all_push}
 use Rattle.crn_net.proofs.Members.{any_is, name_decides, amount_is, amount_more}
 
 -- ---- loops over the terms of a side
@@ -77,9 +77,6 @@ same_said text left right a b name =
         | inr no_right ↦ none_said (side_of text left) name no_left ∙ sym (none_said (side_of text right) name no_right)
       ]
     ]
-
-pub said_same : (text : List ℕ) (left right terms : List Term) → SaysSame (statement_of text left right) → AllByRecursion (agreed text left right) terms
-said_same text left right terms h = all_from (agreed text left right) terms (λ t i. h (name_at text t))
 
 -- terms whose numbers add up to no more than the limit say no more of a name
 pub amounts_most : (text : List ℕ) (terms : List Term) → sum_by (λ t. t.count) terms ≤ MAX_AMOUNT → (name : List ℕ) → amount_in (side_of text terms) name ≤ MAX_AMOUNT

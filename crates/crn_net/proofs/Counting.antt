@@ -1,6 +1,6 @@
 -- The row of a side, counted term by term while its names come in.
 use Rattle.std.proofs.Common.{◌≡◌, ◌≢◌, ℕ, ◌<◌, ◌≤◌, ◌+◌, false, List, [], ◌∷◌, ◌++◌, length, get_or, take, map, replicate, set, refl, sym, ap, subst, ◌∙◌, inl, inr, arith, Ok, Err}
-use Rattle.std.specs.Prelude.{ℤ, pos, ◌+ℤ◌}
+use Rattle.std.specs.Prelude.{ℤ, pos, ◌+ℤ◌, ◌≤ℤ◌}
 use Rattle.std.specs.Str.{bytes_eq}
 use Rattle.std.proofs.lemmas.Bool.{cases_lt, cases_eq, cases_Bool}
 use Rattle.std.proofs.lemmas.Int.{ints}
@@ -169,14 +169,18 @@ noting_amount old text side i place names row h most =
       | inr above ↦ subst IsAmount (sym (h.counted.rest place above)) (omega (arith, ints), omega (arith, ints))
     ]
 
--- and so is the number of a term
-pub count_amount : (text : List ℕ) (side : List Term) (i : ℕ) (d : Term) → i < length side → ((name : List ℕ) → amount_in (side_of text side) name ≤ MAX_AMOUNT) → (get_or side i d).count ≤ MAX_AMOUNT
-count_amount text side i d lt most =
-    let name = name_at text (get_or side i d) in
-    let more = amount_yes text name side i (amount_in (side_of text (take i side)) name) d lt refl ((bytes_eq-Decides name name).1 refl) in
-    let part = amount_part text name side (i + 1) in
-    let all = most name in
-    omega (arith, more, part, all)
+-- and so is what comes of the next term
+pub noting_sum : (old : List (List ℕ)) (text : List ℕ) (side : List Term) (i place : ℕ) (d : Term) (names new : List (List ℕ)) (row : List ℤ) → IsNoting old text side i names row → i < length side
+    → NotesName names (name_at text (get_or side i d)) (Ok place) new → ((name : List ℕ) → amount_in (side_of text side) name ≤ MAX_AMOUNT) → (place < MAX_SPECIES) × ((get_or row place (pos 0) +ℤ pos (get_or side i d).count) ≤ℤ pos MAX_AMOUNT)
+noting_sum old text side i place d names new row h lt n most =
+    let v : ℤ = get_or row place (pos 0) +ℤ pos (get_or side i d).count in
+    let within = n.1 in
+    let few = n.3 in
+    let long = h.counted.long in
+    let at : place < MAX_SPECIES = omega (arith, within, few) in
+    let next = noting_more old text side i place d names new row v h lt n refl in
+    let amount = noting_amount old text side (i + 1) place new (set row place v) next most in
+    (at, subst (λ (t : ℤ). t ≤ℤ pos MAX_AMOUNT) (get_or-set_same row place v (pos 0) (omega (arith, at, long))) amount.1)
 
 pub noting_stops : (old : List (List ℕ)) (text : List ℕ) (side : List Term) (i : ℕ) (d : Term) (names new : List (List ℕ)) (row : List ℤ) (e : NetFault) → IsNoting old text side i names row → i < length side
     → NotesName names (name_at text (get_or side i d)) (Err e) new → NotesSide old (side_of text side) (Err e) new row

@@ -14,3 +14,4 @@ pub mod Amounts
 pub mod Counting
 pub mod Places
 pub mod Sums
+pub mod Narrow

@@ -1,12 +1,11 @@
 -- Rows of amounts, which end in zeros, and tables with a member put in.
-use Rattle.std.proofs.Common.{◌≡◌, ◌≢◌, ◌⊎◌, ℕ, ◌<◌, ◌≤◌, ◌+◌, ◌-◌, Bool, true, List, [], ◌∷◌, ◌++◌, length, get_or, take, map, replicate, sym, ap, subst, ◌∙◌, inl, inr, arith, set}
+use Rattle.std.proofs.Common.{◌≡◌, ◌⊎◌, ℕ, ◌<◌, ◌≤◌, ◌+◌, ◌-◌, Bool, true, List, [], ◌∷◌, ◌++◌, length, get_or, take, map, replicate, sym, ap, subst, ◌∙◌, inl, inr, arith}
 use Rattle.std.specs.Prelude.{ℤ, pos}
 use Rattle.std.specs.Bool.{Decides}
 use Rattle.std.specs.List.{AllByRecursion}
 use Rattle.std.proofs.lemmas.Bool.{cases_lt, cases_Bool}
-use Rattle.std.proofs.lemmas.List.{take_more_set, map_more, get_or-replicate, get_or_past, length-replicate, get_or-set_other, ext_get_or, get_or-take, length-take-le, length-append, get_or_append_left, get_or-append_right, length_push}
+use Rattle.std.proofs.lemmas.List.{get_or-replicate, get_or_past, length-replicate, ext_get_or, get_or-take, length-take-le, length-append, get_or_append_left, get_or-append_right, length_push}
 use Rattle.crn_vec.specs.Lists.{IsIn, AreDistinct, firsts}
-use Rattle.crn_vec.specs.Network.{amount_in, amounts_in}
 use Rattle.crn_vec.specs.declared.limits.TheConstants.{MAX_SPECIES}
 use Rattle.crn_net.specs.Views.{vectors_of, IsRow, AreRows}
 use Rattle.crn_net.specs.Grows.{widened}
@@ -16,16 +15,6 @@ use Rattle.crn_net.proofs.Firsts.{firsts_known, firsts_new, firsts_all}
 
 pub zeros_at : (n k : ℕ) → get_or (replicate n (pos 0)) k (pos 0) ≡ pos 0
 zeros_at n k = elim (cases_lt k n) [ inl lt ↦ get_or-replicate n k (pos 0) (pos 0) lt | inr le ↦ get_or_past (replicate n (pos 0)) k (pos 0) (omega (arith, length-replicate n (pos 0))) ]
-
--- one amount more
-pub row_more : (names : List (List ℕ)) (side : List (List ℕ × ℕ)) (row : List ℤ) (s : ℕ) (v : ℤ) → s < length names → s < length row → take s row ≡ amounts_in (take s names) side → v ≡ pos (amount_in side (get_or names s []))
-    → take (s + 1) (set row s v) ≡ amounts_in (take (s + 1) names) side
-row_more names side row s v in_names in_row is value =
-    take_more_set row s v in_row ∙ ap (λ (t : List ℤ). t ++ v ∷ []) is ∙ ap (λ (t : ℤ). amounts_in (take s names) side ++ t ∷ []) value
-    ∙ sym (map_more (λ name. pos (amount_in side name)) names s [] in_names)
-
-pub rest_stays : (row : List ℤ) (s : ℕ) (v : ℤ) → ((k : ℕ) → s ≤ k → get_or row k (pos 0) ≡ pos 0) → (k : ℕ) → s + 1 ≤ k → get_or (set row s v) k (pos 0) ≡ pos 0
-rest_stays row s v h k le = let ne : k ≢ s = omega arith in rw get_or-set_other (h k (omega arith))
 
 -- ---- rows as vectors
 

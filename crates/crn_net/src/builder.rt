@@ -5,7 +5,8 @@ ghost use Rattle.crn_net.specs.Grows.{no_net, AddGives, FinishGives};
 use crate::fault::NetFault;
 use crate::name::Names;
 use crate::network::Network;
-use crate::tables::{Rows, build, differences};
+use crate::row::Complexes;
+use crate::tables::{build, differences, wide_rows};
 use crate::term::Term;
 use crn_vec::{MAX_COMPLEXES, MAX_REACTIONS, MAX_SPECIES, MAX_TEXT};
 use indexmap::IndexSet;
@@ -16,7 +17,7 @@ use std::marker::Model;
 #[derive(Drop)]
 pub struct NetBuilder {
     names: Names,
-    rows: Rows,
+    rows: Complexes,
     reactions: Vec<(usize, usize)>,
 }
 
@@ -80,11 +81,12 @@ impl NetBuilder {
             return Err(NetFault::NoReaction);
         }
         let alloc = *self.reactions.allocator();
-        let differences = differences(alloc, self.rows.as_slice(), &self.reactions)?;
+        let rows = wide_rows(alloc, self.rows.as_slice())?;
+        let differences = differences(alloc, &rows, &self.reactions)?;
         let NetBuilder {
             names,
-            rows,
             reactions,
+            ..
         } = self;
         Ok(Network::new(names, rows, reactions, differences))
     }

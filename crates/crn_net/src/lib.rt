@@ -6,6 +6,7 @@ mod fault;
 mod laws;
 mod name;
 mod network;
+mod row;
 mod sides;
 mod tables;
 mod term;

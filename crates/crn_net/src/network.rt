@@ -6,7 +6,7 @@ ghost use Rattle.crn_vec.specs.Network.{reaction_vector};
 ghost use Rattle.crn_net.specs.Views.{net_of, vectors_of};
 
 use crate::name::Names;
-use crate::tables::{Row, Rows};
+use crate::row::Row;
 use crn_vec::{MAX_AMOUNT, MAX_COMPLEXES, MAX_REACTIONS, MAX_SPECIES};
 use std::marker::Model;
 
@@ -14,7 +14,7 @@ use std::marker::Model;
 #[derive(Drop)]
 pub struct Network {
     names: Names,
-    rows: Rows,
+    rows: Vec<Row>,
     reactions: Vec<(usize, usize)>,
     differences: Vec<Row>,
 }
@@ -27,22 +27,22 @@ impl Model for Network {
 
     ghost Value = { Net };
 
-    ghost view = { λ n. net_of n.names.keys n.rows.keys n.reactions.items };
+    ghost view = { λ n. net_of n.names.keys n.rows.items n.reactions.items };
 
-    ghost invariant = { λ n. let net = net_of n.names.keys n.rows.keys n.reactions.items in IsNetwork net × (vectors_of (length n.names.keys) n.differences.items ≡ map (reaction_vector net) n.reactions.items) };
+    ghost invariant = { λ n. let net = net_of n.names.keys n.rows.items n.reactions.items in IsNetwork net × (vectors_of (length n.names.keys) n.differences.items ≡ map (reaction_vector net) n.reactions.items) };
 }
 
 impl Network {
     // The network that these tables hold, with the vectors of its reactions.
     pub(crate) fn new(
         names: Names,
-        rows: Rows,
+        rows: Vec<Row>,
         reactions: Vec<(usize, usize)>,
         differences: Vec<Row>,
     ) -> Network
-        requires network { IsNetwork (net_of names.keys rows.keys reactions.items) }
-        requires vectors { vectors_of (length names.keys) differences.items ≡ map (reaction_vector (net_of names.keys rows.keys reactions.items)) reactions.items }
-        ensures { result ≡ net_of names.keys rows.keys reactions.items }
+        requires network { IsNetwork (net_of names.keys rows.items reactions.items) }
+        requires vectors { vectors_of (length names.keys) differences.items ≡ map (reaction_vector (net_of names.keys rows.items reactions.items)) reactions.items }
+        ensures { result ≡ net_of names.keys rows.items reactions.items }
     {
         Network {
             names,
@@ -94,7 +94,7 @@ impl Network {
         ensures width { length result.now ≡ length self.now.names }
         ensures amounts { AllByRecursion IsAmount result.now }
     {
-        let (used, _) = self.rows.as_slice()[c].split_at(self.names.len());
+        let (used, _) = self.rows[c].split_at(self.names.len());
         used
     }
 

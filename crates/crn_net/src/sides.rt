@@ -1,6 +1,5 @@
-ghost use Rattle.std.specs.Prelude.{◌≡◌, ◌≤◌, ◌↔◌, ℕ, List, length, IsTrue, IfOk};
+ghost use Rattle.std.specs.Prelude.{◌≡◌, ◌≤◌, ◌↔◌, length, IsTrue, IfOk};
 ghost use Rattle.std.specs.List.{AllByRecursion};
-ghost use Rattle.crn_vec.specs.Network.{amount_in};
 ghost use Rattle.crn_net.specs.Sums.{held_for, HoldsSums};
 ghost use Rattle.crn_net.specs.Terms.{name_at, side_of, statement_of, IsTerm, IsSide};
 ghost use Rattle.crn_net.specs.Steps.{SaysSame};

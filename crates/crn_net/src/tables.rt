@@ -1,28 +1,17 @@
-ghost use Rattle.std.specs.Prelude.{◌≡◌, ◌≤◌, ◌<◌, ◌==◌, ◌&&◌, length, take, map, replicate, slice_index_or, pos, [], OnErr, IfOk};
-ghost use Rattle.std.specs.List.{list_any, position, AllByRecursion};
-ghost use Rattle.std.specs.Str.{bytes_eq};
-ghost use Rattle.std.specs.Ordering.{int_eq};
-ghost use Rattle.std.specs.Cmp.Lexicographic.{pointwise};
+ghost use Rattle.std.specs.Prelude.{◌≡◌, ◌≤◌, ◌==◌, ◌&&◌, length, take, map, replicate, slice_index_or, pos, [], OnErr, IfOk};
+ghost use Rattle.std.specs.List.{list_any, AllByRecursion};
 ghost use Rattle.crn_vec.specs.Lists.{AreDistinct};
-ghost use Rattle.crn_vec.specs.Network.{IsAmount, JoinsTwo, amounts_in};
-ghost use Rattle.crn_vec.specs.Network.{minus};
-ghost use Rattle.crn_net.specs.Terms.{name_at, side_of, statement_of, IsSide};
-ghost use Rattle.crn_net.specs.Views.{IsRow};
+ghost use Rattle.crn_vec.specs.Network.{IsAmount, JoinsTwo, minus};
+ghost use Rattle.crn_net.specs.Terms.{side_of, statement_of, IsSide};
 ghost use Rattle.crn_net.specs.Steps.{NotesName, NotesSide, NotesBoth, TellsApart, IsCrowded, NotesSides, NotesRow, NotesReaction, BuildGives};
 
 use crate::fault::NetFault;
 use crate::name::{Name, Names};
+use crate::row::{Amounts, Complexes, Row};
 use crate::sides::{name_of, says_same};
 use crate::term::Term;
 use crn_vec::{MAX_COMPLEXES, MAX_NAME, MAX_REACTIONS, MAX_SPECIES, MAX_TEXT};
-use indexmap::IndexSet;
 use std::alloc::{AllocError, Global};
-
-// The amounts of a complex, one for each species, and 0 at the places without a species.
-pub type Row = [i128; MAX_SPECIES];
-
-// The rows of the complexes, each once, in the order in which they came.
-pub type Rows = IndexSet<Row>;
 
 // The place of a name, which is added where it is new. A name too many is added, and the answer is an error.
 fn note_name(names: &mut Names, name: &[u8]) -> Result<usize, NetFault>
@@ -39,11 +28,16 @@ fn note_name(names: &mut Names, name: &[u8]) -> Result<usize, NetFault>
 }
 
 // The amounts of both sides of a statement.
-pub type Sides = (Row, Row);
+pub type Sides = (Amounts, Amounts);
 
 // Puts the amounts that a side says of the names into the row, and the side's own names at their end. It looks
 // each term's name up once.
-fn note_side(names: &mut Names, row: &mut Row, text: &[u8], side: &[Term]) -> Result<(), NetFault>
+fn note_side(
+    names: &mut Names,
+    row: &mut Amounts,
+    text: &[u8],
+    side: &[Term],
+) -> Result<(), NetFault>
     requires distinct { AreDistinct names.old.keys }
     requires few { length names.old.keys ≤ MAX_SPECIES }
     requires zeros { row.old ≡ replicate MAX_SPECIES (pos 0) }
@@ -54,7 +48,7 @@ fn note_side(names: &mut Names, row: &mut Row, text: &[u8], side: &[Term]) -> Re
 {
     for term in side {
         let place = note_name(names, name_of(text, term))?;
-        row[place] += i128::from(term.count);
+        row.add(place, term.count);
     }
     Ok(())
 }
@@ -131,19 +125,19 @@ fn note_sides(
 }
 
 // The place of a row, which is added where it is new.
-fn note_row(rows: &mut Rows, row: &Row) -> Result<usize, NetFault>
+fn note_row(rows: &mut Complexes, row: Amounts) -> Result<usize, NetFault>
     requires few { length rows.old.keys ≤ MAX_COMPLEXES }
-    ensures notes { NotesRow rows.old.keys row.now result rows.new.keys }
+    ensures notes { NotesRow rows.old.keys row result rows.new.keys }
     ensures kept { take (length rows.old.keys) rows.new.keys ≡ rows.old.keys }
 {
-    if let Some(place) = rows.get_index_of(row) {
+    if let Some(place) = rows.get_index_of(&row) {
         return Ok(place);
     }
     if rows.len() >= MAX_COMPLEXES {
         return Err(NetFault::TooManyComplexes);
     }
     let place = rows.len();
-    let _ = rows.insert(*row)?;
+    let _ = rows.insert(row)?;
     Ok(place)
 }
 
@@ -178,7 +172,7 @@ fn note_reaction(
 // other reaction.
 pub fn build(
     names: &mut Names,
-    rows: &mut Rows,
+    rows: &mut Complexes,
     reactions: &mut Vec<(usize, usize)>,
     text: &[u8],
     left: &[Term],
@@ -196,11 +190,23 @@ pub fn build(
     ensures rows_kept { take (length rows.old.keys) rows.new.keys ≡ rows.old.keys }
     ensures reactions_kept { OnErr result (reactions.new.items ≡ reactions.old.items) }
 {
-    let mut sides = ([0; MAX_SPECIES], [0; MAX_SPECIES]);
+    let mut sides = (Amounts::zeros(), Amounts::zeros());
     note_sides(names, &mut sides, text, left, right)?;
-    let reactant = note_row(rows, &sides.0)?;
-    let product = note_row(rows, &sides.1)?;
+    let (left_row, right_row) = sides;
+    let reactant = note_row(rows, left_row)?;
+    let product = note_row(rows, right_row)?;
     note_reaction(reactions, (reactant, product))
+}
+
+// The rows as a network keeps them.
+pub fn wide_rows(alloc: Global, rows: &[Amounts]) -> Result<Vec<Row>, AllocError>
+    ensures { IfOk result (λ made. made.items ≡ rows.now) }
+{
+    let mut made = Vec::with_capacity(alloc, rows.len())?;
+    for row in rows {
+        made.push(row.wide())?;
+    }
+    Ok(made)
 }
 
 // One row minus another, place by place.

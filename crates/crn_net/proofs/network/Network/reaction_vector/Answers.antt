@@ -21,7 +21,7 @@ returns-clause-value c =
     let n = c.self.inside.names.keys in
     let width : c.len.result ≡ length n = omega arith in
     let lt : c.args.r < length c.self.inside.reactions.items = subst (λ (net : Net). c.args.r < length net.reactions) (sym c.self.view_is) c.requires in
-    let is = lent n c.self.inside.rows.keys c.self.inside.differences.items c.self.inside.reactions.items c.args.r c.len.result c.index.result.now c.split_at.result.0.now c.self.invariant.1 lt c.index.ensures c.split_at.ensures.front width in
+    let is = lent n c.self.inside.rows.items c.self.inside.differences.items c.self.inside.reactions.items c.args.r c.len.result c.index.result.now c.split_at.result.0.now c.self.invariant.1 lt c.index.ensures c.split_at.ensures.front width in
     subst (λ (net : Net). c.split_at.result.0.now ≡ reaction_vector net (get_or net.reactions c.args.r (0, 0))) c.self.view_is is
 
 pub returns-clause-small : goal.returns-clause-small
@@ -29,5 +29,5 @@ returns-clause-small c =
     let n = c.self.inside.names.keys in
     let width : c.len.result ≡ length n = omega arith in
     let lt : c.args.r < length c.self.inside.reactions.items = subst (λ (net : Net). c.args.r < length net.reactions) (sym c.self.view_is) c.requires in
-    let is = lent n c.self.inside.rows.keys c.self.inside.differences.items c.self.inside.reactions.items c.args.r c.len.result c.index.result.now c.split_at.result.0.now c.self.invariant.1 lt c.index.ensures c.split_at.ensures.front width in
-    subst (λ (v : List ℤ). AreWithin MAX_AMOUNT v) (sym is) (reaction_small (net_of n c.self.inside.rows.keys c.self.inside.reactions.items) c.args.r c.self.invariant.0 lt)
+    let is = lent n c.self.inside.rows.items c.self.inside.differences.items c.self.inside.reactions.items c.args.r c.len.result c.index.result.now c.split_at.result.0.now c.self.invariant.1 lt c.index.ensures c.split_at.ensures.front width in
+    subst (λ (v : List ℤ). AreWithin MAX_AMOUNT v) (sym is) (reaction_small (net_of n c.self.inside.rows.items c.self.inside.reactions.items) c.args.r c.self.invariant.0 lt)

@@ -1,0 +1,87 @@
+ghost use Rattle.std.specs.Prelude.{◌≡◌, ◌<◌, pos, ◌+ℤ◌, ◌≤ℤ◌, replicate, slice_index_or, slice_set};
+ghost use Rattle.std.specs.Ordering.{int_eq};
+ghost use Rattle.std.proofs.Common.{ap};
+ghost use Rattle.std.specs.Cmp.{partial_equiv_from_equiv, int_eq_equiv};
+ghost use Rattle.std.specs.Cmp.Lexicographic.{pointwise, lists_equiv};
+ghost use Rattle.std.specs.Cmp.Rules.{signed_items};
+ghost use Rattle.crn_net.specs.Views.{fed_by};
+
+use crn_vec::{MAX_AMOUNT, MAX_SPECIES};
+use indexmap::IndexSet;
+use std::hash::{Hash, Hasher};
+use std::marker::Model;
+
+// The amounts of a complex, one for each species, and 0 at the places without a species.
+pub type Row = [i128; MAX_SPECIES];
+
+// The same while a network is built. A byte holds an amount, so that rows are fast to compare and to hash.
+#[derive(Drop)]
+pub struct Amounts {
+    row: [u8; MAX_SPECIES],
+}
+
+// The amounts of the complexes, each once, in the order in which they came.
+pub type Complexes = IndexSet<Amounts>;
+
+impl Model for Amounts {
+    ghost use Rattle.std.specs.Prelude.{ℤ, pos, List, map};
+
+    ghost Value = { List ℤ };
+
+    ghost view = { λ a. map pos a.row };
+}
+
+impl Amounts {
+    pub fn zeros() -> Amounts
+        ensures { result ≡ replicate MAX_SPECIES (pos 0) }
+    {
+        Amounts {
+            row: [0; MAX_SPECIES],
+        }
+    }
+
+    // Adds to the amount at a place.
+    pub fn add(&mut self, place: usize, count: u32)
+        requires place { place < MAX_SPECIES }
+        requires small { (slice_index_or self.old place (pos 0) +ℤ pos count) ≤ℤ pos MAX_AMOUNT }
+        ensures { self.new ≡ slice_set self.old place (slice_index_or self.old place (pos 0) +ℤ pos count) }
+    {
+        let sum = u32::from(self.row[place]) + count;
+        self.row[place] = sum as u8;
+    }
+
+    // The row as a network keeps it.
+    pub fn wide(&self) -> Row
+        ensures { result ≡ self.now }
+    {
+        let mut row = [0; MAX_SPECIES];
+        for s in 0..MAX_SPECIES {
+            row[s] = i128::from(self.row[s]);
+        }
+        row
+    }
+}
+
+impl PartialEq for Amounts {
+    ghost eq = { pointwise int_eq };
+
+    ghost laws = { partial_equiv_from_equiv (lists_equiv int_eq_equiv) };
+
+    fn eq(&self, other: &Amounts) -> bool {
+        self.row == other.row
+    }
+}
+
+impl Eq for Amounts {
+    ghost laws = { lists_equiv int_eq_equiv };
+}
+
+impl Hash for Amounts {
+    ghost hash_input = { fed_by };
+
+    ghost respects_eq = { λ x y h. ap fed_by ((signed_items x y).0 h) };
+
+    fn hash<H: Hasher>(&self, state: &mut H) {
+        state.write(&self.row);
+    }
+}
