@@ -1,7 +1,6 @@
 //! The top call of the program: it reads words and a network text, and writes a report.
 #![tactic(auto)]
 
-mod laws;
 pub mod linkage;
 mod report;
 mod status;
@@ -10,7 +9,6 @@ mod tests;
 mod top;
 mod words;
 
-pub use laws::spelling_is_unique;
 pub use status::Status;
 pub use top::{quiet_devices_meet_no_fault, run, what_may_be_written_is_one_text};
 pub use words::{

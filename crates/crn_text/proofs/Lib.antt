@@ -13,6 +13,7 @@ pub mod Widening
 pub mod Texts
 pub mod Complexes
 pub mod Exclusions
+pub mod Unique
 pub mod Spelled
 pub mod Grammar
 pub mod CanonicalWords

@@ -12,6 +12,11 @@ pub fn first_fault_is_one()
     ensures { (text : List ℕ) (line other : ℕ) (code another : TextCode) → Fault text line code → Fault text other another → (line ≡ other) × (code ≡ another) }
 {}
 
+/// A text spells at most one network.
+pub fn spelling_is_unique()
+    ensures { (text : List ℕ) (net other : Net) → Spells text net → Spells text other → net ≡ other }
+{}
+
 /// A text that spells a network has no fault.
 pub fn spelled_text_has_no_fault()
     ensures { (text : List ℕ) (net : Net) (line : ℕ) (code : TextCode) → Spells text net → Fault text line code → ⊥ }
