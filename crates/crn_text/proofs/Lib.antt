@@ -23,6 +23,7 @@ pub mod Numbering
 pub mod CanonicalNames
 pub mod CanonicalAmounts
 pub mod CanonicalSpelled
+pub mod SoundLines
 pub mod Sayings
 pub mod Tables
 pub mod Judged

@@ -1,6 +1,6 @@
 use crate::{
     canonical_text_spells_its_network, each_text_is_judged, first_fault_is_one, read,
-    sound_line_is_a_statement, spelled_text_has_no_fault, spelling_is_unique, write,
+    sound_lines_are_statements, spelled_text_has_no_fault, spelling_is_unique, write,
 };
 use crn_io::QuietSink;
 use itoa::Buffer;
@@ -241,6 +241,6 @@ fn laws_stand() {
     spelling_is_unique();
     spelled_text_has_no_fault();
     each_text_is_judged();
-    sound_line_is_a_statement();
+    sound_lines_are_statements();
     canonical_text_spells_its_network();
 }
