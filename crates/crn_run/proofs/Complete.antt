@@ -8,9 +8,9 @@ use Rattle.crn_text.specs.Spells.{Spells, Fault}
 use Rattle.crn_text.specs.declared.code.TextCode.{TextCode}
 use Rattle.crn_text.proofs.Exclusions.{one_fault}
 use Rattle.crn_text.proofs.Spelled.{no_fault}
+use Rattle.crn_text.proofs.Unique.{spelling_unique}
 use Rattle.crn_run.specs.Report.{render}
 use Rattle.crn_run.specs.Run.{Devices, WasLeft, IsReportOf, IsRefusalOf, IsAllowed, refused_line, RunGives, TellsNetwork, TellsFault, IsComplete, IsQuiet}
-use Rattle.crn_run.proofs.CallerLemmas.{spelling_unique}
 use Rattle.crn_run.proofs.LabelLaws.{one_labels, one_count}
 use Rattle.crn_run.specs.declared.status.Status.{Status}
 use Rattle.crn_run.specs.declared.status.Status.TheVariants.{Done, OpenLeft, Refused, Rejected, Usage, ReadFault, WriteFault, NoMemory}

@@ -1,5 +1,3 @@
-pub mod Unique
-pub mod CallerLemmas
 pub mod Texts
 pub mod Labels
 pub mod LabelLaws

@@ -1,7 +1,6 @@
 //! The top call of the program: it reads words and a network text, and writes a report.
 #![tactic(auto)]
 
-mod laws;
 pub mod linkage;
 mod report;
 mod status;
@@ -11,7 +10,6 @@ mod top;
 mod words;
 
 pub use crn_vec::{DEFAULT_BUDGET, MAX_BUDGET, MAX_BUDGET_DIGITS};
-pub use laws::spelling_is_unique;
 pub use status::Status;
 pub use top::{quiet_devices_meet_no_fault, run, what_may_be_written_is_one_text};
 pub use words::{Command, command_of, words_say_one_command};

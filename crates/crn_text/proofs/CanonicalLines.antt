@@ -1,22 +1,22 @@
 -- What a canonical line says: the statement of its two sides, and no fault.
-use Rattle.std.proofs.Common.{◌≡◌, ℕ, zero, suc, ◌-◌, ◌≤◌, Bool, true, false, eqb, List, [], ◌∷◌, ◌++◌, None, length, take, get_or, refl, ap, ◌∙◌, arith}
-use Rattle.std.specs.Prelude.{codes, decimal, not, ◌||◌, pos, if◌then◌else◌}
-use Rattle.std.specs.List.{AllByRecursion, list_all, list_any, count_by, prefix_len}
-use Rattle.std.proofs.lemmas.Bool.{and_parts, or_parts, ne_eqb}
+use Rattle.std.proofs.Common.{◌≡◌, ℕ, zero, suc, ◌-◌, ◌≤◌, Bool, true, false, eqb, List, [], ◌∷◌, ◌++◌, None, length, take, get_or, refl, ap, ◌∙◌, inr, arith}
+use Rattle.std.specs.Prelude.{codes, decimal, not, ◌||◌, pos}
+use Rattle.std.specs.List.{AllByRecursion, list_all, list_any, prefix_len}
+use Rattle.std.proofs.lemmas.Bool.{and_parts, ne_eqb}
 use Rattle.std.proofs.lemmas.Bool.Decides.{nat_tests}
 use Rattle.std.proofs.lemmas.List.Folds.{list_all-append, list_any-append}
-use Rattle.std.proofs.lemmas.List.Sums.{sum_by-append}
 use Rattle.crn_vec.specs.Network.{is_name_byte, begins_name}
 use Rattle.crn_vec.specs.declared.limits.TheConstants.{MAX_AMOUNT}
 use Rattle.crn_text.specs.Tokens.{Word, word, words, before_comment, is_digit}
 use Rattle.crn_text.specs.Sides.{is_arrow, is_both, is_stray, sides, statements_of, said}
-use Rattle.crn_text.specs.Faults.{is_empty, is_plain, sides_fault, words_fault, own_fault}
+use Rattle.crn_text.specs.SoundLines.{IsSoundStatement}
+use Rattle.crn_text.specs.Faults.{is_plain, words_fault, own_fault}
 use Rattle.crn_text.specs.Canonical.{term}
 use Rattle.crn_text.specs.declared.token.Kind.TheVariants.{Number, Name, Plus, Arrow}
-use Rattle.crn_text.proofs.Lists.{one_more}
-use Rattle.crn_text.proofs.Arrows.{count_no, count_yes}
+use Rattle.crn_text.proofs.Lists.{one_more, split_last, split_at}
+use Rattle.crn_text.proofs.SoundLines.{words_sound}
 use Rattle.crn_text.proofs.CanonicalWords.{IsGood, term_text, number_words, term_words, tail_text, tail_words, side_text, side_words, line_text, line_words, decimal_is, name_bytes, words_line}
-use Rattle.crn_text.proofs.CanonicalSides.{IsGoodSide, split_last, split_at, says_side, no_sides_fault}
+use Rattle.crn_text.proofs.CanonicalSides.{IsGoodSide, says_side, is_side_of, sound_side}
 
 -- ---- the line
 
@@ -43,27 +43,17 @@ none_in_line q number is plus arrow x y = list_any-append q (side_words x) (word
 sides_of_line : (x y : List (List ℕ × ℕ)) → sides (line_words x y) ≡ side_words x ∷ side_words y ∷ []
 sides_of_line x y = split_at is_arrow (side_words x) (word Arrow (codes "->")) (side_words y) (no_arrow x) refl ∙ ap (λ (p : List (List Word)). side_words x ∷ p) (split_last is_arrow (side_words y) (no_arrow y))
 
-count_none : (p : Word → Bool) (ws : List Word) → list_any p ws ≡ false → count_by p ws ≡ 0
-count_none p [] h = refl
-count_none p (w ∷ ws) h = let a = or_parts (p w) (list_any p ws) h in count_no p w ws a.0 ∙ count_none p ws a.1
-
-one_arrow : (x y : List (List ℕ × ℕ)) → count_by is_arrow (line_words x y) ≡ 1
-one_arrow x y =
-    let a = sum_by-append (λ w. if is_arrow w then 1 else 0) (side_words x) (word Arrow (codes "->") ∷ side_words y) in
-    let b = count_none is_arrow (side_words x) (no_arrow x) in
-    let c = count_none is_arrow (side_words y) (no_arrow y) in
-    let d = count_yes is_arrow (word Arrow (codes "->")) (side_words y) refl in
-    omega (arith, a, b, c, d)
-
-not_empty : (ws vs : List Word) (a : Word) → is_empty (ws ++ a ∷ vs) ≡ false
-not_empty [] vs a = refl
-not_empty (w ∷ ws) vs a = refl
+sound_statement : (x y : List (List ℕ × ℕ)) → IsGoodSide x → IsGoodSide y → IsSoundStatement (line_words x y)
+sound_statement x y g h = record {
+  line = record { left = side_words x; arrow = word Arrow (codes "->"); right = side_words y; tokens = refl; joins = refl; reactant = is_side_of x g.each; product = is_side_of y h.each };
+  reactant = sound_side x g;
+  product = sound_side y h;
+}
 
 no_words_fault : (x y : List (List ℕ × ℕ)) → IsGoodSide x → IsGoodSide y → words_fault (line_words x y) ≡ None
 no_words_fault x y g h =
     let stray : list_any is_stray (line_words x y) ≡ false = none_in_line is_stray (λ d. refl) (λ d. refl) refl refl x y in
-    let some : is_empty (line_words x y) ≡ false = not_empty (side_words x) (side_words y) (word Arrow (codes "->")) in
-    rw (stray, one_arrow x y, some) (ap sides_fault (sides_of_line x y) ∙ no_sides_fault x y g h)
+    words_sound (line_words x y) stray (inr (sound_statement x y g h))
 
 says_line : (x y : List (List ℕ × ℕ)) → IsGoodSide x → IsGoodSide y → statements_of (line_words x y) ≡ (x, y) ∷ []
 says_line x y g h =

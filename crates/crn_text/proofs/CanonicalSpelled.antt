@@ -15,7 +15,8 @@ use Rattle.crn_text.specs.Faults.{own_fault, names_of}
 use Rattle.crn_text.specs.Canonical.{reaction_line, canonical}
 use Rattle.crn_text.specs.Spells.{Spells}
 use Rattle.crn_text.proofs.CanonicalWords.{side_text, line_text}
-use Rattle.crn_text.proofs.CanonicalSides.{IsGoodSide, split_at}
+use Rattle.crn_text.proofs.Lists.{split_at}
+use Rattle.crn_text.proofs.CanonicalSides.{IsGoodSide}
 use Rattle.crn_text.proofs.CanonicalLines.{no_lf, line_sound, line_says}
 use Rattle.crn_text.proofs.CanonicalNames.{held, names_at, names_are}
 use Rattle.crn_text.proofs.CanonicalAmounts.{side_held, amounts_held, good_terms, small_sums, side_length, held_length}

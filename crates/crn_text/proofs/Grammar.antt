@@ -1,18 +1,104 @@
--- A line without a fault is a side, an arrow and a side.
-use Rattle.std.proofs.Common.{◌≡◌, ℕ, ◌≤◌, Bool, true, false, eqb, List, [], ◌∷◌, ◌++◌, take, drop, None, refl, sym, ap, ap₂, ◌∙◌, inl, inr, arith}
-use Rattle.std.specs.Prelude.{not, ◌||◌, ◌⊎◌, nat_lt}
-use Rattle.std.specs.List.{list_any, list_all, count_by, prefix_len}
-use Rattle.std.proofs.lemmas.Bool.{cases_Bool, ltb-false, eqb-false, not-false, or_parts}
+-- A line without a fault is sound.
+use Rattle.std.proofs.Common.{◌≡◌, ℕ, ◌≤◌, Bool, true, false, eqb, List, [], ◌∷◌, ◌++◌, length, take, drop, None, refl, sym, ap, ap₂, subst, ◌∙◌, inl, inr, arith}
+use Rattle.std.specs.Prelude.{map, not, ◌||◌, ◌⊎◌, nat_le, nat_lt}
+use Rattle.std.specs.List.{AllByRecursion, list_any, list_all, count_by, prefix_len}
+use Rattle.std.proofs.lemmas.Bool.{cases_Bool, ltb-false, leb-true, eqb-true, eqb-false, not-false, and_parts, or_parts}
 use Rattle.std.proofs.lemmas.List.{take-append-drop}
+use Rattle.crn_vec.specs.Network.{amount_in}
+use Rattle.crn_vec.specs.declared.limits.TheConstants.{MAX_AMOUNT, MAX_NAME}
+use Rattle.crn_net.proofs.Amounts.{has_name, none_said}
+use Rattle.crn_net.proofs.Lists.{in_map, all_in}
 use Rattle.crn_text.specs.Tokens.{Word, words, before_comment}
-use Rattle.crn_text.specs.Sides.{is_arrow, is_stray, is_side, sides, IsStatementLine}
-use Rattle.crn_text.specs.Faults.{is_plain, is_empty, has_empty_place, own_fault, words_fault, sides_fault}
+use Rattle.crn_text.specs.Sides.{is_arrow, is_stray, is_stray_kind, is_side, terms_of, sides}
+use Rattle.crn_text.specs.SoundLines.{IsPlain, IsNoStray, IsSoundTerm, IsSoundSide, IsSoundStatement, IsSoundLine}
+use Rattle.crn_text.specs.Faults.{is_plain, is_empty, has_empty_place, has_long_name, has_zero, has_large, own_fault, words_fault, sides_fault}
 use Rattle.crn_text.proofs.Lists.{one_more, split_more, map_itself}
 use Rattle.crn_text.proofs.Arrows.{Parted, parted, split_count, count_no}
 
-pub none_of : (ws : List Word) → is_empty ws ≡ true → ws ≡ []
+-- ---- bytes and tokens
+
+plain_byte : (b : ℕ) → is_plain b ≡ true → IsPlain b
+plain_byte b h =
+    elim (cases_Bool (eqb b 9)) [
+      | inl y ↦ inl (eqb-true b 9 y)
+      | inr n ↦ let a = and_parts (nat_le 32 b) (nat_le b 126) (rw n at h) in inr (leb-true 32 b a.0, leb-true b 126 a.1)
+    ]
+
+plain_bytes : (bs : List ℕ) → list_all is_plain bs ≡ true → AllByRecursion IsPlain bs
+plain_bytes [] h = tt
+plain_bytes (b ∷ bs) h = let a = and_parts (is_plain b) (list_all is_plain bs) h in (plain_byte b a.0, plain_bytes bs a.1)
+
+no_strays : (ws : List Word) → list_any is_stray ws ≡ false → AllByRecursion IsNoStray ws
+no_strays [] h = tt
+no_strays (w ∷ ws) h = let a = or_parts (is_stray w) (list_any is_stray ws) h in (λ e. let s = ap is_stray_kind e in cc, no_strays ws a.1)
+
+none_of : (ws : List Word) → is_empty ws ≡ true → ws ≡ []
 none_of [] h = refl
 none_of (w ∷ ws) h = absurd cc
+
+-- ---- names and numbers
+
+sound_terms : (side ts : List (List ℕ × ℕ)) → has_long_name ts ≡ false → has_zero ts ≡ false → list_any (λ t. nat_lt MAX_AMOUNT t.1 || nat_lt MAX_AMOUNT (amount_in side t.0)) ts ≡ false → AllByRecursion IsSoundTerm ts
+sound_terms side [] l z m = tt
+sound_terms side (t ∷ ts) l z m =
+    let a = or_parts (nat_lt MAX_NAME (length t.0)) (has_long_name ts) l in
+    let b = or_parts (eqb t.1 0) (has_zero ts) z in
+    let c = or_parts (nat_lt MAX_AMOUNT t.1 || nat_lt MAX_AMOUNT (amount_in side t.0)) (list_any (λ t. nat_lt MAX_AMOUNT t.1 || nat_lt MAX_AMOUNT (amount_in side t.0)) ts) m in
+    let d = or_parts (nat_lt MAX_AMOUNT t.1) (nat_lt MAX_AMOUNT (amount_in side t.0)) c.0 in
+    let nonzero = eqb-false t.1 0 b.0 in
+    (record { name = ltb-false MAX_NAME (length t.0) a.0; some = omega (arith, nonzero); few = ltb-false MAX_AMOUNT t.1 d.0 }, sound_terms side ts a.1 b.1 c.1)
+
+small_sums : (side ts : List (List ℕ × ℕ)) → list_any (λ t. nat_lt MAX_AMOUNT t.1 || nat_lt MAX_AMOUNT (amount_in side t.0)) ts ≡ false → AllByRecursion (λ t. amount_in side t.0 ≤ MAX_AMOUNT) ts
+small_sums side [] m = tt
+small_sums side (t ∷ ts) m =
+    let c = or_parts (nat_lt MAX_AMOUNT t.1 || nat_lt MAX_AMOUNT (amount_in side t.0)) (list_any (λ t. nat_lt MAX_AMOUNT t.1 || nat_lt MAX_AMOUNT (amount_in side t.0)) ts) m in
+    let d = or_parts (nat_lt MAX_AMOUNT t.1) (nat_lt MAX_AMOUNT (amount_in side t.0)) c.0 in
+    (ltb-false MAX_AMOUNT (amount_in side t.0) d.1, small_sums side ts c.1)
+
+sound_side : (ts : List (List ℕ × ℕ)) → has_long_name ts ≡ false → has_zero ts ≡ false → has_large ts ≡ false → IsSoundSide ts
+sound_side ts l z m = record {
+  each = sound_terms ts ts l z m;
+  sums = λ name. elim (has_name ts name) [
+    | inl i ↦ let p = in_map (λ t. t.0) ts name i in subst (λ (n : List ℕ). amount_in ts n ≤ MAX_AMOUNT) (sym p.2) (all_in (λ t. amount_in ts t.0 ≤ MAX_AMOUNT) ts p.0 (small_sums ts ts m) p.1)
+    | inr none ↦ omega (arith, none_said ts name none)
+  ];
+}
+
+-- ---- the sides of a line
+
+record IsGood (ws : List Word) : Type 0 where
+  side : is_side ws ≡ true
+  sound : IsSoundSide (terms_of ws)
+
+all_good : (ss : List (List Word)) → list_any (λ s. not (is_side s)) ss ≡ false → list_any has_long_name (map terms_of ss) ≡ false → list_any has_zero (map terms_of ss) ≡ false → list_any has_large (map terms_of ss) ≡ false → AllByRecursion IsGood ss
+all_good [] s l z m = tt
+all_good (w ∷ ss) s l z m =
+    let a = or_parts (not (is_side w)) (list_any (λ s. not (is_side s)) ss) s in
+    let b = or_parts (has_long_name (terms_of w)) (list_any has_long_name (map terms_of ss)) l in
+    let c = or_parts (has_zero (terms_of w)) (list_any has_zero (map terms_of ss)) z in
+    let d = or_parts (has_large (terms_of w)) (list_any has_large (map terms_of ss)) m in
+    (record { side = not-false (is_side w) a.0; sound = sound_side (terms_of w) b.0 c.0 d.0 }, all_good ss a.1 b.1 c.1 d.1)
+
+sides_good : (ss : List (List Word)) → sides_fault ss ≡ None → AllByRecursion IsGood ss
+sides_good ss f =
+    elim (cases_Bool (list_any has_empty_place ss)) [
+      | inl y ↦ absurd (let e = rw y at f in cc)
+      | inr a ↦ elim (cases_Bool (list_any (λ s. not (is_side s)) ss)) [
+        | inl y ↦ absurd (let e = rw (a, y) at f in cc)
+        | inr b ↦ elim (cases_Bool (list_any has_long_name (map terms_of ss))) [
+          | inl y ↦ absurd (let e = rw (a, b, y) at f in cc)
+          | inr c ↦ elim (cases_Bool (list_any has_zero (map terms_of ss))) [
+            | inl y ↦ absurd (let e = rw (a, b, c, y) at f in cc)
+            | inr d ↦ elim (cases_Bool (list_any has_large (map terms_of ss))) [
+              | inl y ↦ absurd (let e = rw (a, b, c, d, y) at f in cc)
+              | inr e ↦ all_good ss b c d e
+            ]
+          ]
+        ]
+      ]
+    ]
+
+-- ---- the tokens of a line
 
 skip_first : (q : Word → Bool) (w : Word) (ws right : List Word) (a : Word) → q w ≡ false → drop (prefix_len (λ w. not (q w)) ws) ws ≡ a ∷ right → drop (prefix_len (λ w. not (q w)) (w ∷ ws)) (w ∷ ws) ≡ a ∷ right
 skip_first q w ws right a n h = rw (n, one_more) h
@@ -25,20 +111,10 @@ first_arrow q (w ∷ ws) h =
       | inr n ↦ let p = first_arrow q ws (λ z. h (count_no q w ws n ∙ z)) in (p.0, p.1, skip_first q w ws p.1 p.0 n p.2)
     ]
 
-sides_good : (l r : List Word) → sides_fault (l ∷ r ∷ []) ≡ None → (is_side l ≡ true) × (is_side r ≡ true)
-sides_good l r h =
-    elim (cases_Bool (list_any has_empty_place (l ∷ r ∷ []))) [
-      | inl y ↦ absurd (let e = rw y at h in cc)
-      | inr n ↦ elim (cases_Bool (list_any (λ s. not (is_side s)) (l ∷ r ∷ []))) [
-        | inl y ↦ absurd (let e = rw (n, y) at h in cc)
-        | inr m ↦ let p = or_parts (not (is_side l)) (not (is_side r) || false) m in let q = or_parts (not (is_side r)) false p.1 in (not-false (is_side l) p.0, not-false (is_side r) q.0)
-      ]
-    ]
-
 same_test : (w : Word) → is_arrow w ≡ false → is_arrow w ≡ false
 same_test w h = h
 
-one_arrow : (ws : List Word) → count_by is_arrow ws ≤ 1 → (count_by is_arrow ws ≡ 0 → ⊥) → sides_fault (sides ws) ≡ None → IsStatementLine ws
+one_arrow : (ws : List Word) → count_by is_arrow ws ≤ 1 → (count_by is_arrow ws ≡ 0 → ⊥) → sides_fault (sides ws) ≡ None → IsSoundStatement ws
 one_arrow ws few some h =
     let f = first_arrow is_arrow ws some in
     let n : ℕ = prefix_len (λ w. not (is_arrow w)) ws in
@@ -46,29 +122,35 @@ one_arrow ws few some h =
     let none : count_by is_arrow f.1 ≡ 0 = omega (arith, p.count, few) in
     let cut : sides ws ≡ take n ws ∷ f.1 ∷ [] =
     ap sides (sym (map_itself ws)) ∙ split_more is_arrow (λ w. w) ws f.0 f.1 f.2 ∙ ap₂ (λ (t : List Word) (u : List (List Word)). t ∷ u) (map_itself (take n ws)) (split_count is_arrow (λ w. w) f.1 none ∙ ap (λ (t : List Word). t ∷ []) (map_itself f.1)) in
-    let good = sides_good (take n ws) f.1 (ap sides_fault (sym cut) ∙ h) in
-    record { left = take n ws; arrow = f.0; right = f.1; tokens = sym (take-append-drop n ws) ∙ ap (λ (t : List Word). take n ws ++ t) f.2; joins = p.hit; reactant = good.0; product = good.1 }
+    let good : AllByRecursion IsGood (take n ws ∷ f.1 ∷ []) = sides_good (take n ws ∷ f.1 ∷ []) (ap sides_fault (sym cut) ∙ h) in
+    record {
+      line = record { left = take n ws; arrow = f.0; right = f.1; tokens = sym (take-append-drop n ws) ∙ ap (λ (t : List Word). take n ws ++ t) f.2; joins = p.hit; reactant = good.0.side; product = good.1.0.side };
+      reactant = good.0.sound;
+      product = good.1.0.sound;
+    }
 
-words_good : (ws : List Word) → words_fault ws ≡ None → (ws ≡ []) ⊎ IsStatementLine ws
+words_good : (ws : List Word) → words_fault ws ≡ None → AllByRecursion IsNoStray ws × ((ws ≡ []) ⊎ IsSoundStatement ws)
 words_good ws h =
     elim (cases_Bool (list_any is_stray ws || nat_lt 1 (count_by is_arrow ws))) [
       | inl y ↦ absurd (let e = rw y at h in cc)
-      | inr n ↦ elim (cases_Bool (is_empty ws)) [
-        | inl y ↦ inl (none_of ws y)
-        | inr m ↦ elim (cases_Bool (eqb (count_by is_arrow ws) 0)) [
-          | inl y ↦ absurd (let e = rw (n, m, y) at h in cc)
-          | inr k ↦
-              let few : count_by is_arrow ws ≤ 1 = ltb-false 1 (count_by is_arrow ws) (or_parts (list_any is_stray ws) (nat_lt 1 (count_by is_arrow ws)) n).1 in
-              let rest = rw (n, m, k) at h in
-              inr (one_arrow ws few (eqb-false (count_by is_arrow ws) 0 k) rest)
-        ]
-      ]
+      | inr n ↦
+          let marks = or_parts (list_any is_stray ws) (nat_lt 1 (count_by is_arrow ws)) n in
+          elim (cases_Bool (is_empty ws)) [
+            | inl y ↦ (no_strays ws marks.0, inl (none_of ws y))
+            | inr m ↦ elim (cases_Bool (eqb (count_by is_arrow ws) 0)) [
+              | inl y ↦ absurd (let e = rw (n, m, y) at h in cc)
+              | inr k ↦
+                  let few : count_by is_arrow ws ≤ 1 = ltb-false 1 (count_by is_arrow ws) marks.1 in
+                  let rest = rw (n, m, k) at h in
+                  (no_strays ws marks.0, inr (one_arrow ws few (eqb-false (count_by is_arrow ws) 0 k) rest))
+            ]
+          ]
     ]
 
-pub line_good : (line : List ℕ) → own_fault line ≡ None → (words (before_comment line) ≡ []) ⊎ IsStatementLine (words (before_comment line))
+pub line_good : (line : List ℕ) → own_fault line ≡ None → IsSoundLine line
 unfolding own_fault
 line_good line h =
     elim (cases_Bool (list_all is_plain (before_comment line))) [
-      | inl y ↦ words_good (words (before_comment line)) (rw y at h)
+      | inl y ↦ let good = words_good (words (before_comment line)) (rw y at h) in record { plain = plain_bytes (before_comment line) y; no_stray = good.0; statement = good.1 }
       | inr n ↦ absurd (let e = rw n at h in cc)
     ]

@@ -13,6 +13,7 @@ pub mod Widening
 pub mod Texts
 pub mod Complexes
 pub mod Exclusions
+pub mod Unique
 pub mod Spelled
 pub mod Grammar
 pub mod CanonicalWords
@@ -22,6 +23,7 @@ pub mod Numbering
 pub mod CanonicalNames
 pub mod CanonicalAmounts
 pub mod CanonicalSpelled
+pub mod SoundLines
 pub mod Sayings
 pub mod Tables
 pub mod Judged

@@ -1,8 +1,8 @@
 -- Lists that are cut at the first element that passes a test.
-use Rattle.std.proofs.Common.{◌≡◌, ℕ, zero, suc, ◌+◌, Bool, List, [], ◌∷◌, ◌++◌, take, drop, refl, ap, inl, inr, arith}
+use Rattle.std.proofs.Common.{◌≡◌, ℕ, zero, suc, ◌+◌, Bool, true, false, List, [], ◌∷◌, ◌++◌, take, drop, refl, ap, inl, inr, arith}
 use Rattle.std.specs.Prelude.{not, map, ◌||◌, ◌&&◌}
 use Rattle.std.specs.List.{AllByRecursion, list_any, list_all, slice_split, prefix_len}
-use Rattle.std.proofs.lemmas.Bool.{cases_Bool}
+use Rattle.std.proofs.lemmas.Bool.{cases_Bool, or_parts}
 
 pub one_more : (n : ℕ) → 1 + n ≡ suc n
 one_more n = omega arith
@@ -50,3 +50,11 @@ split_more {X} {Y} p f (x ∷ xs) y ys h =
 pub map_itself : {X : Type 0} (xs : List X) → map (λ x. x) xs ≡ xs
 map_itself [] = refl
 map_itself {X} (x ∷ xs) = ap (λ (t : List X). x ∷ t) (map_itself xs)
+
+pub split_last : {X : Type 0} (p : X → Bool) (xs : List X) → list_any p xs ≡ false → slice_split p xs ≡ xs ∷ []
+split_last p [] h = refl
+split_last p (x ∷ xs) h = let a = or_parts (p x) (list_any p xs) h in rw (a.0, split_last p xs a.1) refl
+
+pub split_at : {X : Type 0} (p : X → Bool) (xs : List X) (y : X) (ys : List X) → list_any p xs ≡ false → p y ≡ true → slice_split p (xs ++ y ∷ ys) ≡ xs ∷ slice_split p ys
+split_at p [] y ys h hit = rw hit refl
+split_at p (x ∷ xs) y ys h hit = let a = or_parts (p x) (list_any p xs) h in rw (a.0, split_at p xs y ys a.1 hit) refl

@@ -1,22 +1,23 @@
 -- What a line that is not wrong by itself says: names with numbers, within the limits.
 use Rattle.std.proofs.Common.{◌≡◌, ℕ, zero, suc, ◌-◌, ◌≤◌, Bool, true, false, cond, eqb, List, [], ◌∷◌, None, length, map, refl, sym, ap, subst, ◌∙◌, inl, inr, arith}
-use Rattle.std.specs.Prelude.{codes, nat_eq, nat_lt, not, ◌||◌}
-use Rattle.std.specs.List.{AllByRecursion, list_any, list_all, starts_with, slice_split, onto_first, count_by}
+use Rattle.std.specs.Prelude.{codes, nat_eq}
+use Rattle.std.specs.List.{AllByRecursion, list_any, list_all, starts_with, slice_split, onto_first}
 use Rattle.std.specs.Str.{bytes_eq}
-use Rattle.std.proofs.lemmas.Bool.{cases_Bool, and_parts, or_parts, ltb-false, eqb-false, not-false}
+use Rattle.std.proofs.lemmas.Bool.{cases_Bool, and_parts}
 use Rattle.std.proofs.lemmas.List.Sums.{sum_by-cons}
 use Rattle.std.proofs.lemmas.Slice.Eq.{bytes_eq-Decides}
 use Rattle.crn_vec.specs.Lists.{IsIn}
 use Rattle.crn_vec.specs.Network.{is_letter, begins_name, IsName, amount_in}
-use Rattle.crn_vec.specs.declared.limits.TheConstants.{MAX_AMOUNT, MAX_NAME}
-use Rattle.crn_net.proofs.Amounts.{has_name, none_said}
+use Rattle.crn_vec.specs.declared.limits.TheConstants.{MAX_AMOUNT}
 use Rattle.crn_net.proofs.Lists.{in_map, all_in}
 use Rattle.crn_net.proofs.Species.{IsSaid}
 use Rattle.crn_text.specs.Tokens.{Word, words, words_behind, first_word, before_comment, is_digit, is_blank}
-use Rattle.crn_text.specs.Sides.{is_arrow, is_both, is_stray, is_name, is_number, is_plus, is_term, is_side, is_zero, term_of, terms_of, places, sides, joined, statements_of, said}
-use Rattle.crn_text.specs.Faults.{is_empty, is_plain, has_empty_place, has_long_name, has_zero, has_large, sides_fault, words_fault, own_fault}
+use Rattle.crn_text.specs.Sides.{is_arrow, is_both, is_name, is_number, is_plus, is_term, is_side, is_zero, term_of, terms_of, places, sides, joined, statements_of, said}
+use Rattle.crn_text.specs.SoundLines.{IsSoundTerm, IsSoundSide, IsSoundStatement}
+use Rattle.crn_text.specs.Faults.{own_fault}
 use Rattle.crn_text.specs.declared.token.Kind.TheVariants.{Name}
-use Rattle.crn_text.proofs.Grammar.{none_of}
+use Rattle.crn_text.proofs.Grammar.{line_good}
+use Rattle.crn_text.proofs.SoundLines.{side_cut, two_sides}
 use Rattle.crn_text.proofs.Words.{begins_with_name, begins_named}
 
 -- ---- tokens of the kind of names begin as names
@@ -108,63 +109,18 @@ counted (u ∷ ts) t (inr i) =
     let cons = sum_by-cons (λ v. cond (bytes_eq v.0 t.0) v.1 0) u ts in
     omega (arith, cons, counted ts t i)
 
-record IsFine (side : List (List ℕ × ℕ)) (t : List ℕ × ℕ) : Type 0 where
-  name : IsName t.0
-  some : 1 ≤ t.1
-  small : amount_in side t.0 ≤ MAX_AMOUNT
-
-fine_terms : (side ts : List (List ℕ × ℕ)) → AllByRecursion (λ t. begins_name t.0 ≡ true) ts → has_long_name ts ≡ false → has_zero ts ≡ false → list_any (λ t. nat_lt MAX_AMOUNT t.1 || nat_lt MAX_AMOUNT (amount_in side t.0)) ts ≡ false → AllByRecursion (IsFine side) ts
-fine_terms side [] n l z m = tt
-fine_terms side (t ∷ ts) n l z m =
-    let a = or_parts (nat_lt MAX_NAME (length t.0)) (has_long_name ts) l in
-    let b = or_parts (eqb t.1 0) (has_zero ts) z in
-    let c = or_parts (nat_lt MAX_AMOUNT t.1 || nat_lt MAX_AMOUNT (amount_in side t.0)) (list_any (λ t. nat_lt MAX_AMOUNT t.1 || nat_lt MAX_AMOUNT (amount_in side t.0)) ts) m in
-    let d = or_parts (nat_lt MAX_AMOUNT t.1) (nat_lt MAX_AMOUNT (amount_in side t.0)) c.0 in
-    let nonzero = eqb-false t.1 0 b.0 in
-    (record { name = (n.0, ltb-false MAX_NAME (length t.0) a.0); some = omega (arith, nonzero); small = ltb-false MAX_AMOUNT (amount_in side t.0) d.1 }, fine_terms side ts n.1 a.1 b.1 c.1)
-
-side_said : (ts : List (List ℕ × ℕ)) → AllByRecursion (IsFine ts) ts → IsSaidSide ts
-side_said ts h = record {
+side_said : (ws : List Word) → AllByRecursion IsNamed ws → is_side ws ≡ true → IsSoundSide (terms_of ws) → IsSaidSide (terms_of ws)
+side_said ws h s sound = record {
   each = λ name i.
-      let p = in_map (λ t. t.0) ts name i in
-      let f = all_in (IsFine ts) ts p.0 h p.1 in
-      let more = counted ts p.0 p.1 in
-      subst (λ (n : List ℕ). IsName n × (1 ≤ amount_in ts n)) (sym p.2) (f.name, (let s = f.some in omega (arith, more)));
-  most = λ name. elim (has_name ts name) [
-    | inl i ↦ let p = in_map (λ t. t.0) ts name i in let f = all_in (IsFine ts) ts p.0 h p.1 in subst (λ (n : List ℕ). amount_in ts n ≤ MAX_AMOUNT) (sym p.2) f.small
-    | inr none ↦ omega (arith, none_said ts name none)
-  ];
+      let p = in_map (λ t. t.0) (terms_of ws) name i in
+      let f = all_in IsSoundTerm (terms_of ws) p.0 sound.each p.1 in
+      let b = all_in (λ t. begins_name t.0 ≡ true) (terms_of ws) p.0 (side_named ws h s) p.1 in
+      let more = counted (terms_of ws) p.0 p.1 in
+      subst (λ (n : List ℕ). IsName n × (1 ≤ amount_in (terms_of ws) n)) (sym p.2) ((b, f.name), (let s = f.some in omega (arith, more)));
+  most = sound.sums;
 }
 
 -- ---- the sides of a line
-
-all_said_sides : (ss : List (List Word)) → AllByRecursion (AllByRecursion IsNamed) ss → list_any (λ s. not (is_side s)) ss ≡ false → list_any has_long_name (map terms_of ss) ≡ false → list_any has_zero (map terms_of ss) ≡ false → list_any has_large (map terms_of ss) ≡ false → AllByRecursion IsSaidSide (map terms_of ss)
-all_said_sides [] h s l z m = tt
-all_said_sides (w ∷ ss) h s l z m =
-    let a = or_parts (not (is_side w)) (list_any (λ s. not (is_side s)) ss) s in
-    let b = or_parts (has_long_name (terms_of w)) (list_any has_long_name (map terms_of ss)) l in
-    let c = or_parts (has_zero (terms_of w)) (list_any has_zero (map terms_of ss)) z in
-    let d = or_parts (has_large (terms_of w)) (list_any has_large (map terms_of ss)) m in
-    (side_said (terms_of w) (fine_terms (terms_of w) (terms_of w) (side_named w h.0 (not-false (is_side w) a.0)) b.0 c.0 d.0), all_said_sides ss h.1 a.1 b.1 c.1 d.1)
-
-sides_said : (ss : List (List Word)) → AllByRecursion (AllByRecursion IsNamed) ss → sides_fault ss ≡ None → AllByRecursion IsSaidSide (map terms_of ss)
-sides_said ss h f =
-    elim (cases_Bool (list_any has_empty_place ss)) [
-      | inl y ↦ absurd (let e = rw y at f in cc)
-      | inr a ↦ elim (cases_Bool (list_any (λ s. not (is_side s)) ss)) [
-        | inl y ↦ absurd (let e = rw (a, y) at f in cc)
-        | inr b ↦ elim (cases_Bool (list_any has_long_name (map terms_of ss))) [
-          | inl y ↦ absurd (let e = rw (a, b, y) at f in cc)
-          | inr c ↦ elim (cases_Bool (list_any has_zero (map terms_of ss))) [
-            | inl y ↦ absurd (let e = rw (a, b, c, y) at f in cc)
-            | inr d ↦ elim (cases_Bool (list_any has_large (map terms_of ss))) [
-              | inl y ↦ absurd (let e = rw (a, b, c, d, y) at f in cc)
-              | inr e ↦ all_said_sides ss h b c d e
-            ]
-          ]
-        ]
-      ]
-    ]
 
 said_both : (x y : List (List ℕ × ℕ)) → IsSaidSide x → IsSaidSide y → IsSaid (x, y)
 said_both x y a b = record { left = a.each; right = b.each; left_most = a.most; right_most = b.most }
@@ -176,23 +132,16 @@ statements_said true (x ∷ y ∷ []) h = (said_both x y h.0 h.1.0, (said_both y
 statements_said false (x ∷ y ∷ []) h = (said_both x y h.0 h.1.0, tt)
 statements_said both (x ∷ y ∷ z ∷ more) h = tt
 
-words_said : (ws : List Word) → AllByRecursion IsNamed ws → words_fault ws ≡ None → AllByRecursion IsSaid (statements_of ws)
-words_said ws h f =
-    elim (cases_Bool (list_any is_stray ws || nat_lt 1 (count_by is_arrow ws))) [
-      | inl y ↦ absurd (let e = rw y at f in cc)
-      | inr a ↦ elim (cases_Bool (is_empty ws)) [
-        | inl y ↦ subst (λ (t : List Word). AllByRecursion IsSaid (statements_of t)) (sym (none_of ws y)) tt
-        | inr b ↦ elim (cases_Bool (eqb (count_by is_arrow ws) 0)) [
-          | inl y ↦ absurd (let e = rw (a, b, y) at f in cc)
-          | inr c ↦ statements_said (list_any is_both ws) (map terms_of (sides ws)) (sides_said (sides ws) (split_all IsNamed is_arrow ws h) (rw (a, b, c) at f))
-        ]
-      ]
-    ]
+words_said : (ws : List Word) → AllByRecursion IsNamed ws → IsSoundStatement ws → AllByRecursion IsSaid (statements_of ws)
+words_said ws h s =
+    let l = s.line in
+    let cut : sides ws ≡ l.left ∷ l.right ∷ [] = ap sides l.tokens ∙ two_sides l.left l.right l.arrow (side_cut l.left l.reactant) (side_cut l.right l.product) l.joins in
+    let named : AllByRecursion (AllByRecursion IsNamed) (l.left ∷ l.right ∷ []) = subst (AllByRecursion (AllByRecursion IsNamed)) cut (split_all IsNamed is_arrow ws h) in
+    let both : AllByRecursion IsSaidSide (terms_of l.left ∷ terms_of l.right ∷ []) = (side_said l.left named.0 l.reactant s.reactant, (side_said l.right named.1.0 l.product s.product, tt)) in
+    subst (λ (ss : List (List Word)). AllByRecursion IsSaid (joined (list_any is_both ws) (map terms_of ss))) (sym cut) (statements_said (list_any is_both ws) (terms_of l.left ∷ terms_of l.right ∷ []) both)
 
 pub line_said : (line : List ℕ) → own_fault line ≡ None → AllByRecursion IsSaid (said line)
-unfolding own_fault
-line_said line f =
-    elim (cases_Bool (list_all is_plain (before_comment line))) [
-      | inl y ↦ words_said (words (before_comment line)) (words_named 0 (before_comment line)) (rw y at f)
-      | inr n ↦ absurd (let e = rw n at f in cc)
-    ]
+line_said line f = elim (line_good line f).statement [
+  | inl none ↦ subst (λ (ws : List Word). AllByRecursion IsSaid (statements_of ws)) (sym none) tt
+  | inr s ↦ words_said (words (before_comment line)) (words_named 0 (before_comment line)) s
+]

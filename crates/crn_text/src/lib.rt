@@ -16,7 +16,7 @@ mod writer;
 pub use code::{TextCode, TextFault};
 pub use laws::{
     canonical_text_spells_its_network, each_text_is_judged, first_fault_is_one,
-    sound_line_is_a_statement, spelled_text_has_no_fault,
+    sound_lines_are_statements, spelled_text_has_no_fault, spelling_is_unique,
 };
 pub use reader::read;
 pub use writer::{write, write_side};

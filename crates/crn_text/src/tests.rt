@@ -1,6 +1,6 @@
 use crate::{
     canonical_text_spells_its_network, each_text_is_judged, first_fault_is_one, read,
-    sound_line_is_a_statement, spelled_text_has_no_fault, write,
+    sound_lines_are_statements, spelled_text_has_no_fault, spelling_is_unique, write,
 };
 use crn_io::QuietSink;
 use itoa::Buffer;
@@ -238,8 +238,9 @@ fn a_text_has_no_more_bytes_than_the_limit(rt: HostRuntime) -> Result<(), Fail> 
 #[test]
 fn laws_stand() {
     first_fault_is_one();
+    spelling_is_unique();
     spelled_text_has_no_fault();
     each_text_is_judged();
-    sound_line_is_a_statement();
+    sound_lines_are_statements();
     canonical_text_spells_its_network();
 }

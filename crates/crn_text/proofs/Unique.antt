@@ -1,14 +1,17 @@
--- Networks with the same names and the same reactions, as amounts, are equal.
+-- A text spells at most one network, since networks with the same names and the same reactions, as amounts, are equal.
 use Rattle.std.proofs.Common.{◌≡◌, ℕ, suc, ◌<◌, ◌≤◌, List, [], ◌∷◌, length, get_or, map, refl, sym, ap, ap₂, subst, ◌∙◌, inl, inr, arith}
 use Rattle.std.specs.Prelude.{ℤ}
 use Rattle.std.specs.List.{AllByRecursion, flat_map}
 use Rattle.std.proofs.lemmas.Bool.{cases_lt}
 use Rattle.crn_net.proofs.Lists.{same_place}
-use Rattle.crn_vec.specs.Lists.{IsIn, AreDistinct}
-use Rattle.crn_vec.specs.Network.{Net, IsPartialNetwork, JoinsTwo, ends, sides_of}
+use Rattle.crn_vec.specs.Lists.{IsIn, AreDistinct, firsts}
+use Rattle.crn_vec.specs.Network.{Net, IsPartialNetwork, JoinsTwo, ends, sides_of, sides_eq, said_by}
 use Rattle.crn_vec.proofs.Appearance.{IsNumberedInOrder, appears_in_order}
+use Rattle.crn_text.specs.Tokens.{lines}
+use Rattle.crn_text.specs.Sides.{all_said}
+use Rattle.crn_text.specs.Spells.{Spells}
 
-pub lists_same : {A : Type 0} (xs ys : List A) (e : A) → length xs ≡ length ys → ((k : ℕ) → k < length xs → get_or xs k e ≡ get_or ys k e) → xs ≡ ys
+lists_same : {A : Type 0} (xs ys : List A) (e : A) → length xs ≡ length ys → ((k : ℕ) → k < length xs → get_or xs k e ≡ get_or ys k e) → xs ≡ ys
 lists_same [] [] e long at = refl
 lists_same [] (y ∷ ys) e long at = absurd (omega arith)
 lists_same (x ∷ xs) [] e long at = absurd (omega arith)
@@ -96,7 +99,7 @@ net_path a b names complexes reactions =
     ap first names ∙ ap second complexes ∙ ap third reactions
 
 -- complexes are numbered by first appearance, so the names and the reactions as amounts determine a network
-pub network_unique : (a b : Net) → IsPartialNetwork a → IsPartialNetwork b → a.names ≡ b.names → map (sides_of a) a.reactions ≡ map (sides_of b) b.reactions → a ≡ b
+network_unique : (a b : Net) → IsPartialNetwork a → IsPartialNetwork b → a.names ≡ b.names → map (sides_of a) a.reactions ≡ map (sides_of b) b.reactions → a ≡ b
 network_unique a b p q names sides =
     let below = ends_below (length a.complexes) a.reactions p.apart in
     let under = ends_below (length b.complexes) b.reactions q.apart in
@@ -109,3 +112,9 @@ network_unique a b p q names sides =
     let again : map (λ k. get_or a.complexes k []) (ends a.reactions) ≡ map (λ k. get_or b.complexes k []) (ends a.reactions) = read ∙ ap (map (λ k. get_or b.complexes k [])) (sym same) in
     let complexes : a.complexes ≡ b.complexes = lists_same a.complexes b.complexes [] (omega arith) (λ k lt. read_same (λ i. get_or a.complexes i []) (λ i. get_or b.complexes i []) (ends a.reactions) k again (p.each_in_a_reaction k lt)) in
     net_path a b names complexes (ends_same a.reactions b.reactions same)
+
+pub spelling_unique : (text : List ℕ) (net other : Net) → Spells text net → Spells text other → net ≡ other
+spelling_unique text net other h i =
+    let names : net.names ≡ other.names = h.names ∙ sym i.names in
+    let said : firsts sides_eq (map (said_by net.names) (all_said (lines text))) ≡ firsts sides_eq (map (said_by other.names) (all_said (lines text))) = ap (λ (t : List (List ℕ)). firsts sides_eq (map (said_by t) (all_said (lines text)))) names in
+    network_unique net other h.network.partial i.network.partial names (h.reactions ∙ said ∙ sym i.reactions)
