@@ -507,6 +507,34 @@ fn chains_of_99_are_decided_or_wide(rt: HostRuntime) {
     );
 }
 
+// The rows of `x0 - 2 x1`, `x0 - 3 x2` and on, for the first 16 primes.
+fn parts(rt: &impl Abort, alloc: Global) -> Vec<i128> {
+    let turned_primes = [
+        -2, -3, -5, -7, -11, -13, -17, -19, -23, -29, -31, -37, -41, -43, -47, -53,
+    ];
+    let mut rows = Vec::new(alloc);
+    for place in 0..272 {
+        let (i, j) = (place / 17, place % 17);
+        let x = if j == 0 {
+            1
+        } else if j == i + 1 {
+            at(&turned_primes, i)
+        } else {
+            0
+        };
+        rows.push(x).expect(rt, "memory");
+    }
+    rows
+}
+
+#[test]
+fn a_product_of_16_primes_is_wide(rt: HostRuntime) {
+    let parts = parts(&rt, rt.alloc());
+    let matrix = matrix(&rt, rt.alloc(), 16, 17, &parts);
+    let kinds = positive_on_columns(&rt, rt.alloc(), 17, 16);
+    assert_eq!(rt; end_of(&rt, rt.alloc(), &matrix, &kinds), End::Wide);
+}
+
 #[test]
 fn systems_of_all_kinds_by_table(rt: HostRuntime) {
     use Kind::{Free, Neg, NonNeg, Pos, Zero};
