@@ -245,6 +245,7 @@ fn spanning(rt: &impl Abort, alloc: Global, matrix: &Matrix, is_columns: bool) -
 
 // The primitive vector that a basis and an index name, both counted from 1, by plain elimination.
 fn named(rt: &impl Abort, alloc: Global, matrix: &Matrix, basis: &[u32], index: u32) -> Vec<i128> {
+    assert_eq!(rt; basis.len(), matrix.cols());
     let member = basis.contains(&index);
     let mut lists = spanning(rt, alloc, matrix, member);
     for k in 0..matrix.cols() + matrix.rows() {
