@@ -21,6 +21,9 @@ fn reduced(num: &i64, den: &i64) -> u128
     ensures is { (g : ℕ) × IsGcd (unsigned_abs num.now) (unsigned_abs den.now) g × (result * g ≡ unsigned_abs den.now) }
     ensures some { 1 ≤ result }
 {
+    if *den == 1 {
+        return 1;
+    }
     let d = den.unsigned_abs() as u128;
     d / gcd_of(num.unsigned_abs() as u128, d)
 }

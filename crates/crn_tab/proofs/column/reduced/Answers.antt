@@ -1,8 +1,9 @@
-use Rattle.std.proofs.Common.{◌≡◌, ◌≤◌, ◌*◌, ◌/◌, ℕ, ap, sym, subst, ◌∙◌, arith}
+use Rattle.std.proofs.Common.{◌≡◌, ◌≤◌, ◌*◌, ◌/◌, ℕ, ap, sym, subst, ◌∙◌, arith, to_z}
 use Rattle.std.specs.Prelude.{unsigned_abs}
-use Rattle.std.specs.Int.{IsGcd, ◌∣◌}
+use Rattle.std.specs.Int.{IsGcd, ◌∣◌, w64}
 use Rattle.std.proofs.lemmas.Int.{ints}
-use Rattle.std.proofs.Math.Nat.{dvd-mul_right, div-mul_cancel, pos_of_dvd_of_pos}
+use Rattle.std.proofs.Math.Nat.{one-dvd, dvd-mul_right, div-mul_cancel, pos_of_dvd_of_pos}
+use Rattle.crn_tab.proofs.Cross.{read}
 use Rattle.crn_tab.proofs.column.reduced.Goals as goal
 
 -- the quotient by the greatest common divisor
@@ -48,3 +49,8 @@ returns-clause-some c =
     let h = reduced_of (unsigned_abs c.args.num.now) (unsigned_abs c.args.den.now) c.unsigned_abs.result c.unsigned_abs-d.result c.gcd_of.result ua ud some c.gcd_of.ensures.gcd in
     let S : ℕ → Type 0 = λ d. 1 ≤ d / c.gcd_of.result in
     subst S (sym ud) h.some
+
+pub returns-then-den-eq1-clause-is : goal.returns-then-den-eq1-clause-is
+returns-then-den-eq1-clause-is c =
+    let is : unsigned_abs c.args.den.now ≡ 1 = ap unsigned_abs (sym (read c.args.den.now c.requires.den_small) ∙ ap (to_z w64) c.if-den-eq1.true) in
+    (1, (one-dvd (unsigned_abs c.args.num.now), one-dvd (unsigned_abs c.args.den.now), λ d p q. subst (λ n. d ∣ n) is q), sym is)
