@@ -138,7 +138,7 @@ next_tables before s t said f =
     let third : Placed t.reactions (y, z) = reaction_placed t.reactions (y, z) in
     let few_third : length third.new ≤ MAX_REACTIONS = few_placed t.reactions (y, z) third MAX_REACTIONS t.ready.network.reactions_limit (λ fresh full.
     let over : IsOver t.names t.rows t.reactions s = record { y = y; z = z; rows' = second.new; names_few = species; rows_are = both; fresh = fresh; full = full } in
-    let stops : AddGives old s (Err TooManyReactions) old = build_stops t.names t.rows t.reactions s t.names t.rows t.reactions (Err TooManyReactions) t.ready apart refl over in
+    let stops : AddGives old s (Err TooManyReactions) old = build_stops t.names t.rows t.reactions s t.names t.rows t.reactions (Err TooManyReactions) t.ready refl (apart, over) in
     omega (arith, stops.4, reactions)) in
     let built : Built t.names t.rows t.reactions s names second.new third.new = record { y = y; z = z; names_are = refl; names_few = species; rows_are = both; reactions_are = third.puts; reactions_few = few_third } in
     let grows = built_grows t.names t.rows t.reactions s names second.new third.new t.ready said apart built in
