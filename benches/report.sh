@@ -29,8 +29,16 @@ def near_limits():
     return "".join(f"{complexes[y]} -> {complexes[z]}\n" for y, z in steps)
 
 
+def last_place():
+    """Complexes that agree in 39 species, and the last reaction over and over up to the limit."""
+    front = "+".join(f"S{i}" for i in range(1, 40))
+    lines = [f"{front}+{n}S40->{front}+{n + 1}S40\n" for n in range(1, 99)]
+    head = "".join(lines)
+    return head + lines[-1] * ((MAX_TEXT - len(head)) // len(lines[-1]))
+
+
 side = "+".join(f"S{i}" for i in range(1, 41))
-names = "+".join(f"x{i}" for i in range(10_000))
+names = "+".join(f"x{i}" for i in range(120_000))
 pairs = [f"X{i} -> X{j}\n" for i in range(12) for j in range(12) if i != j]
 CASES = [
     ("one reaction", "A -> B\n"),
@@ -43,7 +51,8 @@ CASES = [
     ("one side of 1,048,570 terms of one name", "+".join(["A"] * 1_048_570) + "->B\n"),
     ("one line of 40 species repeated up to the limit", f"{side} -> 0\n" * (MAX_TEXT // len(f"{side} -> 0\n"))),
     ("a comment up to the limit", "A -> B\n#" + "c" * (MAX_TEXT - 8)),
-    ("one line, the same 10,000 names on both sides", f"{names} -> {names}\n"),
+    ("one line, the same 120,000 names on both sides", f"{names} -> {names}\n"),
+    ("99 complexes of 40 species that differ in the last one, the last line repeated", last_place()),
 ]
 
 
