@@ -1,17 +1,14 @@
 -- What the sides of a statement say of names.
-use Rattle.std.proofs.Common.{◌≡◌, ◌⊎◌, ℕ, ◌<◌, ◌≤◌, ◌+◌, true, false, cond, List, [], ◌∷◌, length, get_or, take, map, refl, sym, subst, ◌∙◌, inl, inr, arith}
-use Rattle.std.specs.List.{AllByRecursion, sum_by}
+use Rattle.std.proofs.Common.{◌≡◌, ◌⊎◌, ℕ, ◌<◌, ◌≤◌, ◌+◌, true, false, cond, List, [], ◌∷◌, length, get_or, take, map, refl, sym, inl, inr, arith}
+use Rattle.std.specs.List.{sum_by}
 use Rattle.std.specs.Str.{bytes_eq}
 use Rattle.std.proofs.lemmas.Bool.{cases_Bool}
-use Rattle.std.proofs.lemmas.List.{take_more, take_all}
 use Rattle.std.proofs.lemmas.List.Sums.{sum_by-cons, sum_by-le-sum_by}
 use Rattle.crn_vec.specs.Lists.{IsIn}
 use Rattle.crn_vec.specs.Network.{amount_in}
 use Rattle.crn_vec.specs.declared.limits.TheConstants.{MAX_AMOUNT}
 use Rattle.crn_net.specs.declared.term.Term.{Term}
-use Rattle.crn_net.specs.Terms.{name_at, side_of, statement_of}
-use Rattle.crn_net.specs.Steps.{SaysSame}
-use Rattle.crn_net.proofs.Lists.{all_in, all_push}
+use Rattle.crn_net.specs.Terms.{name_at, side_of}
 use Rattle.crn_net.proofs.Members.{any_is, name_decides, amount_is, amount_more}
 
 -- ---- loops over the terms of a side
@@ -30,12 +27,6 @@ amount_no text name side i sum d lt is miss =
     let one : cond (bytes_eq (name_at text (get_or side i d)) name) (get_or side i d).count 0 ≡ 0 = rw miss refl in
     omega (arith, is, more, one)
 
-pub all_more : {A : Type 0} (P : A → Type 0) (xs : List A) (i : ℕ) (d : A) → i < length xs → AllByRecursion P (take i xs) → P (get_or xs i d) → AllByRecursion P (take (i + 1) xs)
-all_more {A} P xs i d lt h p = subst (AllByRecursion P) (sym (take_more xs i d lt)) (all_push P (take i xs) (get_or xs i d) h p)
-
-pub all_whole : {A : Type 0} (P : A → Type 0) (xs : List A) (i : ℕ) → length xs ≤ i → AllByRecursion P (take i xs) → AllByRecursion P xs
-all_whole P xs i le h = subst (AllByRecursion P) (take_all i xs le) h
-
 -- ---- both sides
 
 -- a side says nothing of a name that it has not
@@ -53,30 +44,10 @@ none_said (t ∷ side) name h =
 pub has_name : (side : List (List ℕ × ℕ)) (name : List ℕ) → IsIn name (map (λ t. t.0) side) ⊎ (IsIn name (map (λ t. t.0) side) → ⊥)
 has_name side name = elim (any_is (λ known. bytes_eq known name) name (λ known. name_decides name known) (map (λ t. t.0) side)) [ inl a ↦ inl a.1 | inr b ↦ inr b.1 ]
 
--- the terms' names
-abbrev pub agreed : List ℕ → List Term → List Term → Term → Type 0
-agreed text left right t = amount_in (side_of text left) (name_at text t) ≡ amount_in (side_of text right) (name_at text t)
-
 pub of_name : (text : List ℕ) (terms : List Term) (name : List ℕ) → IsIn name (map (λ t. t.0) (side_of text terms)) → (t : Term) × IsIn t terms × (name ≡ name_at text t)
 of_name text [] name h = absurd h
 of_name text (t ∷ terms) name (inl e) = (t, inl refl, e)
 of_name text (t ∷ terms) name (inr i) = let r = of_name text terms name i in (r.0, inr r.1, r.2)
-
-at_name : (text : List ℕ) (terms left right : List Term) (name : List ℕ) → AllByRecursion (agreed text left right) terms → IsIn name (map (λ t. t.0) (side_of text terms)) → amount_in (side_of text left) name ≡ amount_in (side_of text right) name
-at_name text terms left right name h i =
-    let r = of_name text terms name i in
-    let P : List ℕ → Type 0 = λ n. amount_in (side_of text left) n ≡ amount_in (side_of text right) n in
-    subst P (sym r.2) (all_in (agreed text left right) terms r.0 h r.1)
-
-pub same_said : (text : List ℕ) (left right : List Term) → AllByRecursion (agreed text left right) left → AllByRecursion (agreed text left right) right → SaysSame (statement_of text left right)
-same_said text left right a b name =
-    elim (has_name (side_of text left) name) [
-      | inl i ↦ at_name text left left right name a i
-      | inr no_left ↦ elim (has_name (side_of text right) name) [
-        | inl i ↦ at_name text right left right name b i
-        | inr no_right ↦ none_said (side_of text left) name no_left ∙ sym (none_said (side_of text right) name no_right)
-      ]
-    ]
 
 -- terms whose numbers add up to no more than the limit say no more of a name
 pub amounts_most : (text : List ℕ) (terms : List Term) → sum_by (λ t. t.count) terms ≤ MAX_AMOUNT → (name : List ℕ) → amount_in (side_of text terms) name ≤ MAX_AMOUNT

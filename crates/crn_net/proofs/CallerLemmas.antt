@@ -1,7 +1,7 @@
--- Laws for callers: sides, and a network that statements make, one after another, from nothing.
-use Rattle.std.proofs.Common.{◌≡◌, ℕ, ◌-◌, List, [], ◌∷◌, ◌++◌, length, map, replicate, refl, sym, ap, ap₂, subst, ◌∙◌, append_assoc, inl, inr, arith, ◌≤◌}
+-- Laws for callers: a network that statements make, one after another, from nothing.
+use Rattle.std.proofs.Common.{◌≡◌, ℕ, ◌-◌, List, [], ◌∷◌, ◌++◌, length, map, replicate, refl, sym, ap, ap₂, subst, ◌∙◌, append_assoc, inl, inr, arith}
 use Rattle.std.specs.Prelude.{ℤ, pos}
-use Rattle.std.specs.List.{flat_map, AllByRecursion, sum_by}
+use Rattle.std.specs.List.{flat_map}
 use Rattle.std.specs.Str.{bytes_eq}
 use Rattle.std.proofs.lemmas.Slice.Eq.{bytes_eq-Decides}
 use Rattle.std.proofs.lemmas.List.{append-nil, length-map, map-append, map_push, length-append}
@@ -10,11 +10,7 @@ use Rattle.crn_vec.specs.Network.{Net, IsPartialNetwork, sides_of, sides_eq, sai
 use Rattle.crn_net.specs.Grows.{widened, both_widened, names_with, Grows, GrownFrom, Grown, no_net}
 use Rattle.crn_net.proofs.Lists.{in_left, in_right, in_map, map_same, map_twice}
 use Rattle.crn_net.proofs.Firsts.{firsts_distinct, firsts_has, firsts_firsts, firsts_map}
-use Rattle.crn_net.proofs.Amounts.{none_said, amounts_most}
-use Rattle.crn_net.specs.declared.term.Term.{Term}
-use Rattle.crn_net.specs.Terms.{IsTerm, IsSide}
-use Rattle.crn_vec.specs.declared.limits.TheConstants.{MAX_AMOUNT, MAX_TERMS}
-use Rattle.std.proofs.lemmas.List.Sums.{sum_by-cons}
+use Rattle.crn_net.proofs.Amounts.{none_said}
 use Rattle.crn_net.proofs.Rows.{same_test}
 use Rattle.crn_net.proofs.Growth.{sides_decide}
 use Rattle.crn_net.proofs.Species.{front}
@@ -158,15 +154,3 @@ Grown-reactions ss net g = (from_has ss [] no_net net nothing g).reactions
 -- what has grown keeps all that a network keeps but for having a reaction
 pub Grown-network : (ss : List Statement) (net : Net) → Grown ss net → IsPartialNetwork net
 Grown-network ss net g = from_network ss no_net net no_net_partial g
-
--- ---- sides
-
--- terms of a text whose numbers add up to no more than the limit are a side
-pub IsSide-from_total : (text : List ℕ) (terms : List Term) → AllByRecursion (IsTerm text) terms → sum_by (λ t. t.count) terms ≤ MAX_AMOUNT → length terms ≤ MAX_TERMS → IsSide text terms
-IsSide-from_total text terms each total few = record { each = each; amounts = amounts_most text terms total; few = few }
-
--- so is one term
-pub IsSide-one : (text : List ℕ) (t : Term) → IsTerm text t → t.count ≤ MAX_AMOUNT → IsSide text (t ∷ [])
-IsSide-one text t is most =
-    let total = sum_by-cons (λ (u : Term). u.count) t [] in
-    IsSide-from_total text (t ∷ []) (is, tt) (omega (arith, total, most)) (omega arith)

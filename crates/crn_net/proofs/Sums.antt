@@ -1,64 +1,254 @@
--- The sums of a side, kept by name.
-use Rattle.std.proofs.Common.{◌≡◌, ℕ, ◌+◌, ◌<◌, ◌≤◌, true, false, List, [], ◌∷◌, length, take, get_or, Option, Some, Bor, refl, sym, ap, ◌∙◌, inl, inr, arith}
-use Rattle.std.specs.Prelude.{unwrap_or}
-use Rattle.std.specs.List.{AllByRecursion}
+-- Sums of names over shares: in another order, over the terms of both sides, and where shares stand in the order of their names.
+use Rattle.std.proofs.Common.{◌≡◌, ℕ, zero, suc, ◌+◌, ◌*◌, ◌-◌, ◌^◌, ◌<◌, ◌≤◌, Bool, true, false, not, cond, List, [], ◌∷◌, length, get_or, take, map, refl, sym, ap, subst, ◌∙◌, inl, inr, arith}
+use Rattle.std.specs.Prelude.{ℤ, pos, negsuc, ◌+ℤ◌, ◌-ℤ◌, ◌≤ℤ◌}
+use Rattle.std.specs.List.{AllByRecursion, fold, sum_by}
+use Rattle.std.specs.List.Sorted.{IsPermutation}
 use Rattle.std.specs.Str.{bytes_eq}
-use Rattle.std.specs.Ordering.{nat_cmp}
+use Rattle.std.specs.Ordering.{nat_cmp, is_lt, is_eq, ordering_reverse}
+use Rattle.std.specs.declared.cmp.Ordering.{Ordering}
+use Rattle.std.specs.declared.cmp.Ordering.TheVariants.{Less, Equal, Greater}
 use Rattle.std.specs.Cmp.Lexicographic.{slice_cmp}
-use Rattle.std.specs.BTreeMap as tree
-use Rattle.std.specs.BTreeMap.{BTreeMap}
-use Rattle.std.proofs.lemmas.Bool.{cases_Bool}
+use Rattle.std.proofs.lemmas.Bool.{cases_Bool, cases_lt}
+use Rattle.std.proofs.lemmas.Cmp.{nat_list_cmp_total}
+use Rattle.std.proofs.lemmas.Int.{ints}
 use Rattle.std.proofs.lemmas.Slice.Eq.{bytes_eq-Decides}
-use Rattle.std.proofs.lemmas.Map.Text.{btree_map_updates_str}
+use Rattle.std.proofs.lemmas.List.{length-append, length-map, take_all, get_or_default}
+use Rattle.std.proofs.lemmas.List.Sums.{sum_by-cons, fold-append, fold_more}
+use Rattle.std.proofs.lemmas.List.Sorted.{length_permutation, sum_by-IsPermutation, sorted_far, ranks_by}
+use Rattle.std.proofs.lemmas.Map.Text.{is_eq-slice_cmp}
+use borrow.Author.Differences.{up, down}
+use mir.Syntax.{w32}
+use mir.Val.{SFits}
 use Rattle.crn_vec.specs.Network.{amount_in}
+use Rattle.crn_vec.specs.declared.limits.TheConstants.{MAX_AMOUNT, MAX_TERMS}
+use Rattle.crn_net.specs.declared.sides.Share.{Share}
 use Rattle.crn_net.specs.declared.term.Term.{Term}
-use Rattle.crn_net.specs.Sums.{held_for, HoldsSums}
-use Rattle.crn_net.specs.Terms.{name_at, side_of, statement_of}
-use Rattle.crn_net.specs.Steps.{SaysSame}
-use Rattle.crn_net.proofs.Members.{amount_part}
-use Rattle.crn_net.proofs.Amounts.{amount_yes, amount_no, agreed, same_said}
+use Rattle.crn_net.specs.Sums.{share_of, shares_of, name_in, sum_in, AreByName}
+use Rattle.crn_net.specs.Terms.{name_at, side_of}
 
-pub sums_none : (text : List ℕ) (side : List Term) (sums : BTreeMap (Bor (List ℕ)) ℕ) → sums.entries ≡ [] → HoldsSums (side_of text (take 0 side)) sums
-sums_none text side sums e = λ name. rw e refl
+-- what one share adds to the sum of a name
+abbrev added : List ℕ → List ℕ → Share → ℤ
+added text name s = cond (bytes_eq (name_in text s) name) s.count (pos 0)
 
-pub sums_more : (text : List ℕ) (side : List Term) (i : ℕ) (d : Term) (old new : BTreeMap (Bor (List ℕ)) ℕ) (name : List ℕ) (sum : ℕ) → HoldsSums (side_of text (take i side)) old → i < length side → name ≡ name_at text (get_or side i d) → sum ≡ held_for old name + (get_or side i d).count
-    → tree.UpdatesBy (λ x y. slice_cmp nat_cmp x.now y.now) (λ k. slice_cmp nat_cmp name k.now) old new (Some sum) → HoldsSums (side_of text (take (i + 1) side)) new
-sums_more text side i d old new name sum h lt is total u = λ other.
-    let t = get_or side i d in
-    let now = ap (λ (o : Option ℕ). unwrap_or o 0) (btree_map_updates_str name old new (Some sum) u other) in
-    elim (cases_Bool (bytes_eq name other)) [
-      | inl hit ↦
-          let same : name ≡ other = (bytes_eq-Decides name other).0 hit in
-          let held : held_for new other ≡ sum = rw hit at now in
-          let was : held_for old name ≡ amount_in (side_of text (take i side)) other = ap (held_for old) same ∙ h other in
-          held ∙ total ∙ amount_yes text other side i (held_for old name) d lt was (let e : bytes_eq (name_at text t) other ≡ true = rw (← is) hit in e)
-      | inr miss ↦
-          let held : held_for new other ≡ held_for old other = rw miss at now in
-          held ∙ amount_no text other side i (held_for old other) d lt (h other) (let e : bytes_eq (name_at text t) other ≡ false = rw (← is) miss in e)
+-- ---- in another order
+
+-- what is added, and apart from it what is taken off
+parted : (f : Share → ℤ) (start : ℤ) (xs : List Share) → fold (λ a s. a +ℤ f s) start xs +ℤ pos (sum_by (λ s. down (f s)) xs) ≡ start +ℤ pos (sum_by (λ s. up (f s)) xs)
+parted f start [] = refl
+parted f start (x ∷ xs) =
+    let ups = sum_by-cons (λ s. up (f s)) x xs in
+    let downs = sum_by-cons (λ s. down (f s)) x xs in
+    let rest = parted f (start +ℤ f x) xs in
+    omega (arith, ints, ups, downs, rest)
+
+sum_in_any_order : (text : List ℕ) (xs ys : List Share) (name : List ℕ) → IsPermutation xs ys → sum_in text ys name ≡ sum_in text xs name
+sum_in_any_order text xs ys name h =
+    let f = added text name in
+    let ups = sum_by-IsPermutation (λ s. up (f s)) xs ys h in
+    let downs = sum_by-IsPermutation (λ s. down (f s)) xs ys h in
+    let before = parted f (pos 0) xs in
+    let after = parted f (pos 0) ys in
+    omega (arith, ints, ups, downs, before, after)
+
+-- ---- over the terms of both sides
+
+left_added : (text name : List ℕ) (start : ℤ) (side : List Term) → fold (λ a s. a +ℤ added text name s) start (map (share_of (pos 1)) side) ≡ start +ℤ pos (amount_in (side_of text side) name)
+left_added text name start [] = omega (arith, ints)
+left_added text name start (t ∷ side) =
+    let f : List ℕ × ℕ → ℕ = λ u. cond (bytes_eq u.0 name) u.1 0 in
+    let more = sum_by-cons f (name_at text t, t.count) (side_of text side) in
+    let one : added text name (share_of (pos 1) t) ≡ pos (f (name_at text t, t.count)) = elim (cases_Bool (bytes_eq (name_at text t) name)) [ inl hit ↦ rw hit (omega (arith, ints)) | inr miss ↦ rw miss refl ] in
+    let rest = left_added text name (start +ℤ added text name (share_of (pos 1) t)) side in
+    omega (arith, ints, more, one, rest)
+
+right_added : (text name : List ℕ) (start : ℤ) (side : List Term) → fold (λ a s. a +ℤ added text name s) start (map (share_of (negsuc 0)) side) ≡ start -ℤ pos (amount_in (side_of text side) name)
+right_added text name start [] = omega (arith, ints)
+right_added text name start (t ∷ side) =
+    let f : List ℕ × ℕ → ℕ = λ u. cond (bytes_eq u.0 name) u.1 0 in
+    let more = sum_by-cons f (name_at text t, t.count) (side_of text side) in
+    let one : added text name (share_of (negsuc 0) t) +ℤ pos (f (name_at text t, t.count)) ≡ pos 0 = elim (cases_Bool (bytes_eq (name_at text t) name)) [ inl hit ↦ rw hit (omega (arith, ints)) | inr miss ↦ rw miss refl ] in
+    let rest = right_added text name (start +ℤ added text name (share_of (negsuc 0) t)) side in
+    omega (arith, ints, more, one, rest)
+
+sum_of_sides : (text : List ℕ) (left right : List Term) (name : List ℕ) → sum_in text (shares_of left right) name ≡ pos (amount_in (side_of text left) name) -ℤ pos (amount_in (side_of text right) name)
+sum_of_sides text left right name =
+    let both = fold-append (λ a s. a +ℤ added text name s) (pos 0) (map (share_of (pos 1)) left) (map (share_of (negsuc 0)) right) in
+    let l = left_added text name (pos 0) left in
+    let r = right_added text name (sum_in text (map (share_of (pos 1)) left) name) right in
+    omega (arith, ints, both, l, r)
+
+-- the sum of a name is what the left side says of it, less what the right side says
+pub sum_is : (text : List ℕ) (left right : List Term) (shares : List Share) (name : List ℕ) → IsPermutation (shares_of left right) shares
+    → sum_in text shares name ≡ pos (amount_in (side_of text left) name) -ℤ pos (amount_in (side_of text right) name)
+sum_is text left right shares name h = sum_in_any_order text (shares_of left right) shares name h ∙ sum_of_sides text left right name
+
+pub shares_few : (left right : List Term) (shares : List Share) → IsPermutation (shares_of left right) shares → length left ≤ MAX_TERMS → length right ≤ MAX_TERMS → length shares ≤ 2 * MAX_TERMS
+shares_few left right shares h l r =
+    let all = length_permutation (shares_of left right) shares h in
+    let both = length-append (map (share_of (pos 1)) left) (map (share_of (negsuc 0)) right) in
+    let lefts = length-map left (share_of (pos 1)) in
+    let rights = length-map right (share_of (negsuc 0)) in
+    omega (arith, all, both, lefts, rights)
+
+-- ---- in the order of names
+
+neither_first : (o p : Ordering) → o ≡ ordering_reverse p → is_lt o ≡ false → is_lt p ≡ false → is_eq o ≡ true
+neither_first Less p e a b = absurd cc
+neither_first Equal p e a b = refl
+neither_first Greater Less e a b = absurd cc
+neither_first Greater Equal e a b = absurd cc
+neither_first Greater Greater e a b = absurd cc
+
+same_place_in_order : (x y : List ℕ) → is_lt (slice_cmp nat_cmp x y) ≡ false → is_lt (slice_cmp nat_cmp y x) ≡ false → x ≡ y
+same_place_in_order x y a b =
+    let tied = neither_first (slice_cmp nat_cmp x y) (slice_cmp nat_cmp y x) (nat_list_cmp_total.antisymm x y) a b in
+    (bytes_eq-Decides x y).0 (sym (is_eq-slice_cmp x y) ∙ tied)
+
+-- shares of one name stand together
+together : (text : List ℕ) (shares : List Share) (i j k : ℕ) (d : Share) → AreByName text shares → i ≤ j → j ≤ k → k < length shares → name_in text (get_or shares i d) ≡ name_in text (get_or shares k d)
+    → name_in text (get_or shares j d) ≡ name_in text (get_or shares i d)
+together text shares i j k d h le le' lt e =
+    let before : Share → Share → Bool = λ a b. is_lt (slice_cmp nat_cmp (name_in text a) (name_in text b)) in
+    let laws = ranks_by nat_list_cmp_total (name_in text) in
+    let low = sorted_far before laws shares h i j d le (omega arith) in
+    let high : is_lt (slice_cmp nat_cmp (name_in text (get_or shares i d)) (name_in text (get_or shares j d))) ≡ false = rw e (sorted_far before laws shares h j k d le' lt) in
+    same_place_in_order (name_in text (get_or shares j d)) (name_in text (get_or shares i d)) low high
+
+-- one share more
+sum_more : (text : List ℕ) (shares : List Share) (name : List ℕ) (i : ℕ) (d : Share) → i < length shares → sum_in text (take (i + 1) shares) name ≡ sum_in text (take i shares) name +ℤ added text name (get_or shares i d)
+sum_more text shares name i d lt = fold_more (λ a s. a +ℤ added text name s) (pos 0) shares i d lt
+
+sum_yes : (text : List ℕ) (shares : List Share) (name : List ℕ) (i : ℕ) (d : Share) → i < length shares → name_in text (get_or shares i d) ≡ name → sum_in text (take (i + 1) shares) name ≡ sum_in text (take i shares) name +ℤ (get_or shares i d).count
+sum_yes text shares name i d lt e =
+    let hit = (bytes_eq-Decides (name_in text (get_or shares i d)) name).1 e in
+    let more = sum_more text shares name i d lt in
+    rw hit at more
+
+sum_no : (text : List ℕ) (shares : List Share) (name : List ℕ) (i : ℕ) (d : Share) → i < length shares → (name_in text (get_or shares i d) ≡ name → ⊥) → sum_in text (take (i + 1) shares) name ≡ sum_in text (take i shares) name
+sum_no text shares name i d lt ne =
+    elim (cases_Bool (bytes_eq (name_in text (get_or shares i d)) name)) [
+      | inl hit ↦ absurd (ne ((bytes_eq-Decides (name_in text (get_or shares i d)) name).0 hit))
+      | inr miss ↦ let more = sum_more text shares name i d lt in let m = rw miss at more in omega (arith, ints, m)
     ]
 
--- a sum is no more than what the whole side says
-pub sum_most : (text : List ℕ) (side : List Term) (i : ℕ) (d : Term) (sums : BTreeMap (Bor (List ℕ)) ℕ) (name : List ℕ) → HoldsSums (side_of text (take i side)) sums → i < length side → name ≡ name_at text (get_or side i d) → held_for sums name + (get_or side i d).count ≤ amount_in (side_of text side) name
-sum_most text side i d sums name h lt is =
-    let t = get_or side i d in
-    let hit : bytes_eq (name_at text t) name ≡ true = (bytes_eq-Decides (name_at text t) name).1 (sym is) in
-    let more = amount_yes text name side i (held_for sums name) d lt (h name) hit in
-    let part = amount_part text name side (i + 1) in
-    omega (arith, more, part)
+-- shares of other names leave the sum
+sum_stays : (text : List ℕ) (shares : List Share) (name : List ℕ) (i m : ℕ) (d : Share) → i + m ≤ length shares → ((j : ℕ) → i ≤ j → j < i + m → name_in text (get_or shares j d) ≡ name → ⊥)
+    → sum_in text (take (i + m) shares) name ≡ sum_in text (take i shares) name
+sum_stays text shares name i zero d le h = let e : i + 0 ≡ i = omega arith in ap (λ (k : ℕ). sum_in text (take k shares) name) e
+sum_stays text shares name i (suc m) d le h =
+    let e : i + suc m ≡ (i + m) + 1 = omega arith in
+    let here = sum_no text shares name (i + m) d (omega arith) (h (i + m) (omega arith) (omega arith)) in
+    let rest = sum_stays text shares name i m d (omega arith) (λ j a b. h j a (omega arith)) in
+    ap (λ (k : ℕ). sum_in text (take k shares) name) e ∙ here ∙ rest
 
--- ---- both sides
+-- a name that is not the next one is done with
+sum_done : (text : List ℕ) (shares : List Share) (name : List ℕ) (i : ℕ) (d : Share) → AreByName text shares → 0 < i → i < length shares → name_in text (get_or shares (i - 1) d) ≡ name
+    → (name_in text (get_or shares i d) ≡ name → ⊥) → sum_in text shares name ≡ sum_in text (take i shares) name
+sum_done text shares name i d h some lt last ne =
+    let m = length shares - i in
+    let all : i + m ≡ length shares = omega arith in
+    let stays = sum_stays text shares name i m d (omega arith) (λ j a b e. ne (together text shares (i - 1) i j d h (omega arith) a (omega arith) (last ∙ sym e) ∙ last)) in
+    sym (ap (λ (xs : List Share). sum_in text xs name) (take_all (i + m) shares (omega arith))) ∙ stays
 
--- both maps hold the same for the term's name
-abbrev pub held_alike : List ℕ → BTreeMap (Bor (List ℕ)) ℕ → BTreeMap (Bor (List ℕ)) ℕ → Term → Type 0
-held_alike text l r t = held_for l (name_at text t) ≡ held_for r (name_at text t)
+-- and the next one has not come yet
+sum_fresh : (text : List ℕ) (shares : List Share) (name : List ℕ) (i : ℕ) (d : Share) → AreByName text shares → 0 < i → i < length shares → name_in text (get_or shares (i - 1) d) ≡ name
+    → (name_in text (get_or shares i d) ≡ name → ⊥) → sum_in text (take i shares) (name_in text (get_or shares i d)) ≡ pos 0
+sum_fresh text shares name i d h some lt last ne =
+    let next = name_in text (get_or shares i d) in
+    let zero-add : 0 + i ≡ i = omega arith in
+    let stays = sum_stays text shares next 0 i d (omega arith) (λ j a b e. ne (sym e ∙ sym (together text shares j (i - 1) i d h (omega arith) (omega arith) lt e) ∙ last)) in
+    ap (λ (k : ℕ). sum_in text (take k shares) next) (sym zero-add) ∙ stays
 
-alike_agreed : (text : List ℕ) (left right terms : List Term) (l r : BTreeMap (Bor (List ℕ)) ℕ) → HoldsSums (side_of text left) l → HoldsSums (side_of text right) r → AllByRecursion (held_alike text l r) terms → AllByRecursion (agreed text left right) terms
-alike_agreed text left right [] l r p q h = tt
-alike_agreed text left right (t ∷ terms) l r p q h = (sym (p (name_at text t)) ∙ h.0 ∙ q (name_at text t), alike_agreed text left right terms l r p q h.1)
+-- ---- the loop over shares in the order of names
 
-pub alike_said : (text : List ℕ) (left right : List Term) (l r : BTreeMap (Bor (List ℕ)) ℕ) → HoldsSums (side_of text left) l → HoldsSums (side_of text right) r → AllByRecursion (held_alike text l r) left → AllByRecursion (held_alike text l r) right → SaysSame (statement_of text left right)
-alike_said text left right l r p q a b = same_said text left right (alike_agreed text left right left l r p q a) (alike_agreed text left right right l r p q b)
+-- the share that stands last, whatever stands for one past the end
+last_is : (text : List ℕ) (shares : List Share) (i : ℕ) (d d' : Share) (name : List ℕ) → i < length shares → name_in text (get_or shares i d) ≡ name → name_in text (get_or shares (i + 1 - 1) d') ≡ name
+last_is text shares i d d' name lt e =
+    let at : i + 1 - 1 ≡ i = omega arith in
+    ap (λ (k : ℕ). name_in text (get_or shares k d')) at ∙ ap (name_in text) (get_or_default shares i d' d lt) ∙ e
 
-pub said_alike : (text : List ℕ) (left right terms : List Term) (l r : BTreeMap (Bor (List ℕ)) ℕ) → HoldsSums (side_of text left) l → HoldsSums (side_of text right) r → SaysSame (statement_of text left right) → AllByRecursion (held_alike text l r) terms
-said_alike text left right [] l r p q h = tt
-said_alike text left right (t ∷ terms) l r p q h = (p (name_at text t) ∙ h (name_at text t) ∙ sym (q (name_at text t)), said_alike text left right terms l r p q h)
+-- what a limit allows
+abbrev pub is_within : ℤ → ℤ → Type 0
+is_within limit sum = (pos 0 ≤ℤ sum) × (sum ≤ℤ limit)
+
+-- the sum of the name that stands last, where the names before it are done with
+pub record IsSumming (text : List ℕ) (shares : List Share) (limit : ℤ) (i : ℕ) (name : List ℕ) (sum : ℤ) : Type 0 where
+  pub last : (d : Share) → 0 < i → name_in text (get_or shares (i - 1) d) ≡ name
+  pub is : sum ≡ sum_in text (take i shares) name
+  pub others : (other : List ℕ) → (other ≡ name → ⊥) → is_within limit (sum_in text (take i shares) other)
+  pub low : pos 0 ≤ℤ (sum +ℤ pos (2 ^ 31 * i))
+  pub high : sum ≤ℤ pos (2 ^ 31 * i)
+
+-- one share more of the same name
+pub summing_more : (text : List ℕ) (shares : List Share) (limit : ℤ) (i : ℕ) (d : Share) (name : List ℕ) (sum : ℤ) → IsSumming text shares limit i name sum → i < length shares → name_in text (get_or shares i d) ≡ name
+    → SFits w32 (get_or shares i d).count → IsSumming text shares limit (i + 1) name (sum +ℤ (get_or shares i d).count)
+summing_more text shares limit i d name sum h lt e fits = record {
+  last = λ d' some. last_is text shares i d d' name lt e;
+  is = let more = sum_yes text shares name i d lt e in let is = h.is in omega (arith, ints, more, is);
+  others = λ other ne. subst (is_within limit) (sym (sum_no text shares other i d lt (λ e'. ne (sym e' ∙ e)))) (h.others other ne);
+  low = let low = h.low in omega (arith, ints, low, fits);
+  high = let high = h.high in omega (arith, ints, high, fits);
+}
+
+-- the first share of another name, where the sum of the last one is within the limit
+pub summing_next : (text : List ℕ) (shares : List Share) (limit : ℤ) (i : ℕ) (d : Share) (name : List ℕ) (sum : ℤ) → AreByName text shares → IsSumming text shares limit i name sum → i < length shares
+    → (name_in text (get_or shares i d) ≡ name → ⊥) → is_within limit sum → SFits w32 (get_or shares i d).count → IsSumming text shares limit (i + 1) (name_in text (get_or shares i d)) (pos 0 +ℤ (get_or shares i d).count)
+summing_next text shares limit i d name sum order h lt ne within fits =
+    let next = name_in text (get_or shares i d) in
+    let fresh : sum_in text (take i shares) next ≡ pos 0 = elim (cases_lt 0 i) [ inl some ↦ sum_fresh text shares name i d order some lt (h.last d some) ne | inr none ↦ let e : i ≡ 0 = omega arith in ap (λ (k : ℕ). sum_in text (take k shares) next) e ] in
+    record {
+      last = λ d' some. last_is text shares i d d' next lt refl;
+      is = let more = sum_yes text shares next i d lt refl in omega (arith, ints, more, fresh);
+      others = λ other other_ne. subst (is_within limit) (sym (sum_no text shares other i d lt (λ e. other_ne (sym e)))) (elim (cases_Bool (bytes_eq other name)) [
+        | inl hit ↦ subst (is_within limit) (h.is ∙ ap (sum_in text (take i shares)) (sym ((bytes_eq-Decides other name).0 hit))) within
+        | inr miss ↦ h.others other (λ e. absurd (let hit = (bytes_eq-Decides other name).1 e in cc))
+      ]);
+      low = omega (arith, ints, fits);
+      high = omega (arith, ints, fits);
+    }
+
+-- the sum of a name that is done with is that of all shares
+pub summing_stops : (text : List ℕ) (shares : List Share) (limit : ℤ) (i : ℕ) (d : Share) (name : List ℕ) (sum : ℤ) → AreByName text shares → IsSumming text shares limit i name sum → i < length shares
+    → (name_in text (get_or shares i d) ≡ name → ⊥) → pos 0 ≤ℤ limit → (is_within limit sum → ⊥) → is_within limit (sum_in text shares name) → ⊥
+summing_stops text shares limit i d name sum order h lt ne least over within = elim (cases_lt 0 i) [
+  | inl some ↦ over (subst (is_within limit) (sum_done text shares name i d order some lt (h.last d some) ne ∙ sym h.is) within)
+  | inr none ↦
+      let e : i ≡ 0 = omega arith in
+      let zero_sum : sum_in text (take i shares) name ≡ pos 0 = ap (λ (k : ℕ). sum_in text (take k shares) name) e in
+      let is = h.is in
+      over (omega (arith, ints, is, zero_sum), omega (arith, ints, is, zero_sum, least))
+]
+
+-- the same of what is equal
+pub summing_at : (text : List ℕ) (shares : List Share) (i : ℕ) (limit limit' : ℤ) (name name' : List ℕ) (sum sum' : ℤ) → limit ≡ limit' → name ≡ name' → sum ≡ sum' → IsSumming text shares limit i name sum → IsSumming text shares limit' i name' sum'
+summing_at text shares i limit limit' name name' sum sum' l n s h =
+    subst (λ (u : ℤ). IsSumming text shares u i name' sum') l (subst (λ (u : List ℕ). IsSumming text shares limit i u sum') n (subst (λ (u : ℤ). IsSumming text shares limit i name u) s h))
+
+-- ---- the numbers of a side
+
+-- no number passes the limit that the sums keep
+pub numbers_most : (text : List ℕ) (side : List Term) → ((name : List ℕ) → amount_in (side_of text side) name ≤ MAX_AMOUNT) → AllByRecursion (λ t. t.count ≤ MAX_AMOUNT) side
+numbers_most text [] h = tt
+numbers_most text (t ∷ side) h =
+    let cons = λ (name : List ℕ). sum_by-cons (λ u. cond (bytes_eq u.0 name) u.1 0) (name_at text t, t.count) (side_of text side) in
+    let name = name_at text t in
+    let hit : bytes_eq name name ≡ true = (bytes_eq-Decides name name).1 refl in
+    let one = cons name in
+    let here = rw hit at one in
+    let most = h name in
+    (omega (arith, here, most), numbers_most text side (λ other. let more = cons other in let most' = h other in omega (arith, more, most')))
+
+total_most : (side : List Term) → AllByRecursion (λ t. t.count ≤ MAX_AMOUNT) side → sum_by (λ t. t.count) side ≤ MAX_AMOUNT * length side
+total_most [] h = omega arith
+total_most (t ∷ side) h = let cons = sum_by-cons (λ (u : Term). u.count) t side in let rest = total_most side h.1 in let here = h.0 in omega (arith, cons, rest, here)
+
+pub total_fits : (side : List Term) → AllByRecursion (λ t. t.count ≤ MAX_AMOUNT) side → length side ≤ MAX_TERMS → sum_by (λ t. t.count) side < 2 ^ 32
+total_fits side h few = let most = total_most side h in omega (arith, most, few)
+
+-- ---- what a test of two names says
+
+pub names_differ : (x y : List ℕ) (test : Bool) → test ≡ not (bytes_eq x y) → test ≡ true → x ≡ y → ⊥
+names_differ x y test is yes' e = let same = (bytes_eq-Decides x y).1 e in absurd (let h : not (bytes_eq x y) ≡ true = sym is ∙ yes' in let no' = rw same at h in cc)
+
+pub names_agree : (x y : List ℕ) (test : Bool) → test ≡ not (bytes_eq x y) → test ≡ false → x ≡ y
+names_agree x y test is no' = (bytes_eq-Decides x y).0 (elim (cases_Bool (bytes_eq x y)) [ inl hit ↦ hit | inr miss ↦ absurd (let h : not (bytes_eq x y) ≡ false = sym is ∙ no' in let yes' = rw miss at h in cc) ])

@@ -1,4 +1,4 @@
-ghost use Rattle.std.specs.Prelude.{◌≡◌, ◌≤◌, length, IfOk};
+ghost use Rattle.std.specs.Prelude.{◌≡◌, IfOk};
 ghost use Rattle.crn_net.specs.Terms.{statement_of, IsSide};
 ghost use Rattle.crn_net.specs.Grows.{no_net, AddGives, FinishGives};
 
@@ -8,7 +8,7 @@ use crate::network::Network;
 use crate::row::Complexes;
 use crate::tables::{build, differences, wide_rows};
 use crate::term::Term;
-use crn_vec::{MAX_COMPLEXES, MAX_REACTIONS, MAX_SPECIES, MAX_TEXT};
+use crn_vec::{MAX_COMPLEXES, MAX_REACTIONS, MAX_SPECIES};
 use indexmap::IndexSet;
 use std::alloc::{AllocError, Global};
 use std::marker::Model;
@@ -51,7 +51,6 @@ impl NetBuilder {
     /// Species and complexes that come anew are numbered from left to right. A reaction that is there already
     /// stays once. After an error the builder is as before.
     pub fn add(&mut self, text: &[u8], left: &[Term], right: &[Term]) -> Result<(), NetFault>
-        requires short { length text.now ≤ MAX_TEXT }
         requires left { IsSide text.now left.now }
         requires right { IsSide text.now right.now }
         ensures { AddGives self.old (statement_of text.now left.now right.now) result self.new }

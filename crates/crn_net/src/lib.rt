@@ -17,4 +17,5 @@ pub use builder::NetBuilder;
 pub use fault::NetFault;
 pub use laws::statements_fix_what_has_grown;
 pub use network::Network;
+pub use sides::sums_fit;
 pub use term::Term;

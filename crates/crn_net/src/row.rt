@@ -11,10 +11,11 @@ use indexmap::IndexSet;
 use std::hash::{Hash, Hasher};
 use std::marker::Model;
 
-// The amounts of a complex, one for each species, and 0 at the places without a species.
+// A number for each species, and 0 at the places without one: the amounts of a complex, or a reaction's vector.
 pub type Row = [i128; MAX_SPECIES];
 
-// The same while a network is built. A byte holds an amount, so that rows are fast to compare and to hash.
+// The amounts of a complex while a network is built. A byte holds an amount, so that rows are fast to compare
+// and to hash.
 #[derive(Drop)]
 pub struct Amounts {
     row: [u8; MAX_SPECIES],

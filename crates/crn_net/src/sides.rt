@@ -1,90 +1,154 @@
-ghost use Rattle.std.specs.Prelude.{◌≡◌, ◌≤◌, ◌↔◌, length, IsTrue, IfOk};
-ghost use Rattle.std.specs.List.{AllByRecursion};
-ghost use Rattle.crn_net.specs.Sums.{held_for, HoldsSums};
-ghost use Rattle.crn_net.specs.Terms.{name_at, side_of, statement_of, IsTerm, IsSide};
+ghost use Rattle.std.specs.Prelude.{◌≡◌, ◌≤◌, ◌<◌, ◌↔◌, ◌*◌, ◌^◌, ◌++◌, ℕ, List, pos, nat_abs, ◌≤ℤ◌, length, map, take, drop, IsTrue, IfOk, OnOk};
+ghost use Rattle.std.specs.List.{AllByRecursion, sum_by};
+ghost use Rattle.std.specs.List.Sorted.{IsPermutation};
+ghost use Rattle.crn_vec.specs.Network.{amount_in};
+ghost use Rattle.crn_net.specs.Sums.{share_of, shares_of, name_in, sum_in, AreByName};
+ghost use Rattle.crn_net.specs.Terms.{name_at, side_of, statement_of, IsSide};
 ghost use Rattle.crn_net.specs.Steps.{SaysSame};
 
 use crate::term::Term;
-use crn_vec::MAX_TEXT;
+use crn_vec::{MAX_AMOUNT, MAX_TERMS};
 use std::alloc::{AllocError, Global};
-use std::collections::BTreeMap;
+
+// So many bytes of a text from a place on, or as many as it has there. With the two `min`s it asks nothing of
+// the place, since the closure that compares two shares can't ask.
+fn part(text: &[u8], at: u32, length: u32) -> &[u8]
+    ensures { result.now ≡ take length (drop at text.now) }
+{
+    let (_, rest) = text.split_at(text.len().min(at as usize));
+    let (bytes, _) = rest.split_at(rest.len().min(length as usize));
+    bytes
+}
 
 // The bytes of a term's name.
 pub fn name_of<'a>(text: &'a [u8], term: &Term) -> &'a [u8]
-    requires short { length text.now ≤ MAX_TEXT }
-    requires term { IsTerm text.now term.now }
     ensures { result.now ≡ name_at text.now term.now }
 {
-    let (_, rest) = text.split_at(term.at as usize);
-    let (name, _) = rest.split_at(term.length as usize);
-    name
+    part(text, term.at, term.length)
 }
 
-// What the map holds for a name, or 0.
-fn held(sums: &BTreeMap<&[u8], u32>, name: &[u8]) -> u32
-    ensures { result ≡ held_for sums.now name.now }
-{
-    match sums.get(name) {
-        None => 0,
-        Some(sum) => *sum,
-    }
+// What a term adds to the sum of its name. It is small, for statements of very many terms.
+#[derive(Clone, Copy)]
+struct Share {
+    at: u32,
+    length: u32,
+    count: i32,
 }
 
-// How much of each name a side says. The map is sorted, so that no choice of names makes it slow.
-fn sums_of<'a>(
-    alloc: Global,
-    text: &'a [u8],
-    side: &[Term],
-) -> Result<BTreeMap<&'a [u8], u32>, AllocError>
-    requires short { length text.now ≤ MAX_TEXT }
-    requires side { IsSide text.now side.now }
-    ensures { IfOk result (HoldsSums (side_of text.now side.now)) }
-{
-    let mut sums: BTreeMap<&[u8], u32> = BTreeMap::new(alloc);
-    for term in side {
-        let name = name_of(text, term);
-        let sum = held(&sums, name) + term.count;
-        let _ = sums.insert(name, sum)?;
-    }
-    Ok(sums)
-}
-
-// Whether both sides say the same amount of each of these terms' names.
-fn agree(
-    text: &[u8],
-    terms: &[Term],
-    left: &BTreeMap<&[u8], u32>,
-    right: &BTreeMap<&[u8], u32>,
-) -> bool
-    requires short { length text.now ≤ MAX_TEXT }
-    requires terms { AllByRecursion (IsTerm text.now) terms.now }
-    ensures { IsTrue result ↔ AllByRecursion (λ t. held_for left.now (name_at text.now t) ≡ held_for right.now (name_at text.now t)) terms.now }
-{
-    for term in terms {
-        let name = name_of(text, term);
-        if held(left, name) != held(right, name) {
-            return false;
+impl Share {
+    // The share of a term. Its sign is 1 on the left side, and -1 on the right.
+    fn new(term: &Term, sign: i32) -> Share
+        requires sign { nat_abs sign ≡ 1 }
+        requires number { term.now.count ≤ MAX_AMOUNT }
+        ensures { result ≡ share_of sign term.now }
+    {
+        Share {
+            at: term.at,
+            length: term.length,
+            count: sign * term.count as i32,
         }
     }
-    true
+
+    fn name<'a>(&self, text: &'a [u8]) -> &'a [u8]
+        ensures { result.now ≡ name_in text.now self.now }
+    {
+        part(text, self.at, self.length)
+    }
 }
 
-/// Whether both sides are the same complex.
-///
-/// It takes no longer than to sort the names, and memory for them: for statements of more names than have rows.
+// Puts in the shares of a side's terms, with the sign of the side.
+fn put_shares(shares: &mut Vec<Share>, side: &[Term], sign: i32) -> Result<(), AllocError>
+    requires sign { nat_abs sign ≡ 1 }
+    requires numbers { AllByRecursion (λ t. t.count ≤ MAX_AMOUNT) side.now }
+    ensures { OnOk result (shares.new.items ≡ shares.old.items ++ map (share_of sign) side.now) }
+{
+    for term in side {
+        shares.push(Share::new(term, sign))?;
+    }
+    Ok(())
+}
+
+// The shares of all terms in the order of their names. It takes memory for them at once, and no more.
+fn shares_by_name(
+    alloc: Global,
+    text: &[u8],
+    left: &[Term],
+    right: &[Term],
+) -> Result<Vec<Share>, AllocError>
+    requires left { AllByRecursion (λ t. t.count ≤ MAX_AMOUNT) left.now }
+    requires right { AllByRecursion (λ t. t.count ≤ MAX_AMOUNT) right.now }
+    requires left_few { length left.now ≤ MAX_TERMS }
+    requires right_few { length right.now ≤ MAX_TERMS }
+    ensures same { IfOk result (λ shares. IsPermutation (shares_of left.now right.now) shares.items) }
+    ensures by_name { IfOk result (λ shares. AreByName text.now shares.items) }
+{
+    let mut shares = Vec::with_capacity(alloc, left.len() + right.len())?;
+    put_shares(&mut shares, left, 1)?;
+    put_shares(&mut shares, right, -1)?;
+    shares.sort_unstable_by(|a, b| a.name(text).cmp(b.name(text)));
+    Ok(shares)
+}
+
+// Whether no name's sum is below 0 or past the limit. Shares of one name stand together.
+fn sums_lie_within(text: &[u8], shares: &[Share], limit: i64) -> bool
+    requires limit { pos 0 ≤ℤ limit }
+    requires few { length shares.now ≤ 2 * MAX_TERMS }
+    requires by_name { AreByName text.now shares.now }
+    ensures { IsTrue result ↔ ((name : List ℕ) → (pos 0 ≤ℤ sum_in text.now shares.now name) × (sum_in text.now shares.now name ≤ℤ limit)) }
+{
+    // No share has been seen yet, so that any name has the sum 0, which lies within.
+    let mut name = [].as_slice();
+    let mut sum = 0i64;
+    for share in shares {
+        let next = share.name(text);
+        if next != name {
+            if sum < 0 || limit < sum {
+                return false;
+            }
+            name = next;
+            sum = 0;
+        }
+        sum += i64::from(share.count);
+    }
+    0 <= sum && sum <= limit
+}
+
+// Whether both sides are the same complex. It is for statements of more names than a row has places: it takes
+// no longer than to sort the terms by their names, and 12 bytes for each term.
 pub fn says_same(
     alloc: Global,
     text: &[u8],
     left: &[Term],
     right: &[Term],
 ) -> Result<bool, AllocError>
-    requires short { length text.now ≤ MAX_TEXT }
     requires left { IsSide text.now left.now }
     requires right { IsSide text.now right.now }
     ensures { IfOk result (λ same. IsTrue same ↔ SaysSame (statement_of text.now left.now right.now)) }
 {
-    let left_sums = sums_of(alloc, text, left)?;
-    let right_sums = sums_of(alloc, text, right)?;
-    let left_agrees = agree(text, left, &left_sums, &right_sums);
-    Ok(left_agrees && agree(text, right, &left_sums, &right_sums))
+    let shares = shares_by_name(alloc, text, left, right)?;
+    Ok(sums_lie_within(text, &shares, 0))
+}
+
+// All numbers of a side together.
+fn total(side: &[Term]) -> u32
+    requires { sum_by (λ t. t.count) side.now < 2 ^ 32 }
+    ensures { result ≡ sum_by (λ t. t.count) side.now }
+{
+    side.iter().map(|term| term.count).sum()
+}
+
+/// Whether no name has a sum on the side that passes the limit of an amount, as `NetBuilder::add` asks.
+///
+/// Where all numbers together pass the limit, it takes 12 bytes for each term.
+pub fn sums_fit(alloc: Global, text: &[u8], side: &[Term]) -> Result<bool, AllocError>
+    requires numbers { AllByRecursion (λ t. t.count ≤ MAX_AMOUNT) side.now }
+    requires few { length side.now ≤ MAX_TERMS }
+    ensures { IfOk result (λ fit. IsTrue fit ↔ ((name : List ℕ) → amount_in (side_of text.now side.now) name ≤ MAX_AMOUNT)) }
+{
+    // Nearly every side says so little, and takes no memory.
+    if total(side) <= MAX_AMOUNT {
+        return Ok(true);
+    }
+    let shares = shares_by_name(alloc, text, side, &[])?;
+    Ok(sums_lie_within(text, &shares, i64::from(MAX_AMOUNT)))
 }

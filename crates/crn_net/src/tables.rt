@@ -10,7 +10,7 @@ use crate::name::{Name, Names};
 use crate::row::{Amounts, Complexes, Row};
 use crate::sides::{name_of, says_same};
 use crate::term::Term;
-use crn_vec::{MAX_COMPLEXES, MAX_NAME, MAX_REACTIONS, MAX_SPECIES, MAX_TEXT};
+use crn_vec::{MAX_COMPLEXES, MAX_NAME, MAX_REACTIONS, MAX_SPECIES};
 use std::alloc::{AllocError, Global};
 
 // The place of a name, which is added where it is new. A name too many is added, and the answer is an error.
@@ -41,7 +41,6 @@ fn note_side(
     requires distinct { AreDistinct names.old.keys }
     requires few { length names.old.keys ≤ MAX_SPECIES }
     requires zeros { row.old ≡ replicate MAX_SPECIES (pos 0) }
-    requires short { length text.now ≤ MAX_TEXT }
     requires side { IsSide text.now side.now }
     ensures notes { NotesSide names.old.keys (side_of text.now side.now) result names.new.keys row.new }
     ensures kept { take (length names.old.keys) names.new.keys ≡ names.old.keys }
@@ -65,7 +64,6 @@ fn note_both(
     requires few { length names.old.keys ≤ MAX_SPECIES }
     requires left_zeros { rows.old.0 ≡ replicate MAX_SPECIES (pos 0) }
     requires right_zeros { rows.old.1 ≡ replicate MAX_SPECIES (pos 0) }
-    requires short { length text.now ≤ MAX_TEXT }
     requires left { IsSide text.now left.now }
     requires right { IsSide text.now right.now }
     ensures notes { NotesBoth names.old.keys (statement_of text.now left.now right.now) result names.new.keys rows.new }
@@ -85,9 +83,8 @@ fn tell_apart(rows: &Sides) -> Result<(), NetFault>
     Ok(())
 }
 
-// Why a statement is refused whose names find no room.
+// Why a statement is refused whose names find no room: that both sides are the same comes first.
 fn crowded(alloc: Global, text: &[u8], left: &[Term], right: &[Term]) -> NetFault
-    requires short { length text.now ≤ MAX_TEXT }
     requires left { IsSide text.now left.now }
     requires right { IsSide text.now right.now }
     ensures { IsCrowded (statement_of text.now left.now right.now) result }
@@ -99,7 +96,7 @@ fn crowded(alloc: Global, text: &[u8], left: &[Term], right: &[Term]) -> NetFaul
     }
 }
 
-// Puts in the amounts of both sides, which are not the same complex.
+// Puts in the names and amounts of both sides. An error where they are the same complex.
 fn note_sides(
     names: &mut Names,
     rows: &mut Sides,
@@ -111,7 +108,6 @@ fn note_sides(
     requires few { length names.old.keys ≤ MAX_SPECIES }
     requires left_zeros { rows.old.0 ≡ replicate MAX_SPECIES (pos 0) }
     requires right_zeros { rows.old.1 ≡ replicate MAX_SPECIES (pos 0) }
-    requires short { length text.now ≤ MAX_TEXT }
     requires left { IsSide text.now left.now }
     requires right { IsSide text.now right.now }
     ensures notes { NotesSides names.old.keys (statement_of text.now left.now right.now) result names.new.keys rows.new }
@@ -141,7 +137,7 @@ fn note_row(rows: &mut Complexes, row: Amounts) -> Result<usize, NetFault>
     Ok(place)
 }
 
-// Whether a reaction is among these.
+// Whether a reaction is among these. They are few, so it looks at each.
 fn has_reaction(reactions: &[(usize, usize)], reaction: (usize, usize)) -> bool
     ensures { result ≡ list_any (λ known. known.0 == reaction.0 && known.1 == reaction.1) reactions.now }
 {
@@ -182,7 +178,6 @@ pub fn build(
     requires names_few { length names.old.keys ≤ MAX_SPECIES }
     requires rows_few { length rows.old.keys ≤ MAX_COMPLEXES }
     requires reactions_few { length reactions.old.items ≤ MAX_REACTIONS }
-    requires short { length text.now ≤ MAX_TEXT }
     requires left { IsSide text.now left.now }
     requires right { IsSide text.now right.now }
     ensures gives { BuildGives names.old.keys rows.old.keys reactions.old.items (statement_of text.now left.now right.now) result names.new.keys rows.new.keys reactions.new.items }

@@ -1,65 +1,79 @@
-ghost use Rattle.std.specs.Prelude.{◌≡◌, ◌≤◌, length, IsTrue};
-ghost use Rattle.crn_vec.specs.Network.{is_letter};
+ghost use Rattle.std.specs.Prelude.{◌≡◌, ◌≤◌, IsTrue, IfOk};
+ghost use Rattle.std.specs.List.{AllByRecursion, list_all};
+ghost use Rattle.crn_vec.specs.Network.{is_letter, is_name_byte, IsName};
 ghost use Rattle.crn_net.specs.Terms.{IsTerm, IsSide};
 
 use crate::builder::NetBuilder;
 use crate::fault::NetFault;
+use crate::sides::{name_of, sums_fit};
 use crate::term::Term;
-use crn_vec::{MAX_TERMS, MAX_TEXT};
+use crn_vec::{MAX_AMOUNT, MAX_NAME, MAX_TERMS, MAX_TEXT};
+use std::alloc::{AllocError, Global};
 use std::process::Abort;
 use std::test::Fail;
 
 fn starts_name(b: u8) -> bool
-    ensures { IsTrue result → IsTrue (is_letter b) }
+    ensures { result ≡ is_letter b }
 {
     (97 <= b && b <= 122) || (65 <= b && b <= 90) || b == 95
 }
 
-fn is_term(text: &[u8], term: &Term) -> bool
-    requires { length text.now ≤ MAX_TEXT }
-    ensures { IsTrue result → IsTerm text.now term.now }
+fn is_name_byte(b: u8) -> bool
+    ensures { result ≡ is_name_byte b }
 {
-    let at = term.at as usize;
-    let size = term.length as usize;
-    if at + size > text.len() || term.count == 0 {
-        return false;
-    }
-    let (_, rest) = text.split_at(at);
-    let (name, _) = rest.split_at(size);
-    match name {
-        [first] => starts_name(*first),
-        _ => false,
+    starts_name(b) || (48 <= b && b <= 57)
+}
+
+fn are_name_bytes(bytes: &[u8]) -> bool
+    ensures { result ≡ list_all is_name_byte bytes.now }
+{
+    bytes.iter().all(|b| is_name_byte(*b))
+}
+
+fn is_name(name: &[u8]) -> bool
+    ensures { IsTrue result → IsName name.now }
+{
+    match name.split_first() {
+        Some((first, rest)) => {
+            name.len() <= MAX_NAME && starts_name(*first) && are_name_bytes(rest)
+        }
+        None => false,
     }
 }
 
-// Terms of names of one letter, with numbers whose sum is at most 99.
-fn is_side(text: &[u8], terms: &[Term]) -> bool
-    requires { length text.now ≤ MAX_TEXT }
-    ensures { IsTrue result → IsSide text.now terms.now }
+fn is_term(text: &[u8], term: &Term) -> bool
+    ensures term { IsTrue result → IsTerm text.now term.now }
+    ensures number { IsTrue result → term.now.count ≤ MAX_AMOUNT }
 {
-    if terms.len() > MAX_TERMS {
-        return false;
+    let end = term.at as usize + term.length as usize;
+    end <= text.len() && 1 <= term.count && term.count <= MAX_AMOUNT && is_name(name_of(text, term))
+}
+
+fn are_terms(text: &[u8], terms: &[Term]) -> bool
+    ensures terms { IsTrue result → AllByRecursion (IsTerm text.now) terms.now }
+    ensures numbers { IsTrue result → AllByRecursion (λ t. t.count ≤ MAX_AMOUNT) terms.now }
+{
+    terms.iter().all(|term| is_term(text, term))
+}
+
+fn is_side(alloc: Global, text: &[u8], terms: &[Term]) -> Result<bool, AllocError>
+    ensures { IfOk result (λ is. IsTrue is → IsSide text.now terms.now) }
+{
+    if terms.len() > MAX_TERMS || !are_terms(text, terms) {
+        return Ok(false);
     }
-    let mut total = 0;
-    for term in terms {
-        if !is_term(text, term) || term.count > 99 - total {
-            return false;
-        }
-        total += term.count;
-    }
-    true
+    sums_fit(alloc, text, terms)
 }
 
 fn add(
-    rt: &impl Abort,
+    rt: &(impl Abort + AllocGlobal),
     builder: &mut NetBuilder,
     text: &[u8],
     left: &[Term],
     right: &[Term],
 ) -> Result<(), NetFault> {
-    assert!(rt; text.len() <= MAX_TEXT);
-    assert!(rt; is_side(text, left));
-    assert!(rt; is_side(text, right));
+    assert!(rt; is_side(rt.alloc(), text, left)?);
+    assert!(rt; is_side(rt.alloc(), text, right)?);
     builder.add(text, left, right)
 }
 
@@ -259,6 +273,119 @@ fn tells_sides_of_too_many_names_apart(rt: HostRuntime) -> Result<(), Fail> {
             (40, 3, 2)
         ),
         Err(_) => panic!(rt; "the network is not built"),
+    }
+    Ok(())
+}
+
+// Writes a name at the end of a text, for a term.
+fn spell(rt: &impl Abort, text: &mut Vec<u8>, name: &str, count: u32) -> Result<Term, AllocError> {
+    let at = text.len();
+    assert!(rt; at <= MAX_TEXT && name.len() <= MAX_NAME);
+    text.extend_from_slice(name.as_bytes())?;
+    Ok(Term {
+        at: at as u32,
+        length: name.len() as u32,
+        count,
+    })
+}
+
+#[test]
+fn sums_fit_up_to_the_limit(rt: HostRuntime) -> Result<(), Fail> {
+    let cases = [
+        ("no term", [].as_slice(), true),
+        ("99 in one term", [("A", 99)].as_slice(), true),
+        ("99 in two terms", [("A", 50), ("A", 49)].as_slice(), true),
+        ("100 in two terms", [("A", 50), ("A", 50)].as_slice(), false),
+        ("100 of two names", [("A", 50), ("B", 50)].as_slice(), true),
+        (
+            "99 of each of two names",
+            [("B", 99), ("A", 99)].as_slice(),
+            true,
+        ),
+        (
+            "99 in terms apart",
+            [("A", 50), ("B", 99), ("A", 49)].as_slice(),
+            true,
+        ),
+        (
+            "100 in terms apart",
+            [("A", 50), ("B", 1), ("A", 50)].as_slice(),
+            false,
+        ),
+        (
+            "100 of the last name",
+            [("B", 99), ("A", 1), ("B", 1)].as_slice(),
+            false,
+        ),
+        (
+            "99 of a name, and of one that begins so",
+            [("A1", 99), ("A", 99)].as_slice(),
+            true,
+        ),
+        (
+            "100 of a name that begins like another",
+            [("A1", 50), ("A", 99), ("A1", 50)].as_slice(),
+            false,
+        ),
+    ];
+    for (row, parts, want) in cases {
+        let mut text = Vec::new(rt.alloc());
+        let mut side = Vec::new(rt.alloc());
+        for (name, count) in parts {
+            side.push(spell(&rt, &mut text, name, *count)?)?;
+        }
+        assert!(rt; side.len() <= MAX_TERMS);
+        assert!(rt; are_terms(&text, &side));
+        assert_eq!(rt; sums_fit(rt.alloc(), &text, &side)?, want, "{row}");
+    }
+    Ok(())
+}
+
+const MANY: u32 = 1000;
+
+#[test]
+fn compares_sides_of_very_many_names(rt: HostRuntime) -> Result<(), Fail> {
+    let mut text = Vec::new(rt.alloc());
+    let mut twos = Vec::new(rt.alloc());
+    for i in 0..MANY {
+        let name = format!(in rt.alloc(); "x{i}")?;
+        twos.push(spell(&rt, &mut text, &name, 2)?)?;
+    }
+    // The same names in another order, and then again, so that each stands in two terms of 1.
+    let mut ones = Vec::new(rt.alloc());
+    for i in 0..2 * MANY {
+        let place = (i * 7 % MANY) as usize;
+        assert!(rt; place < twos.len());
+        ones.push(Term {
+            count: 1,
+            ..twos[place]
+        })?;
+    }
+    let mut less = ones.clone()?;
+    let _ = less.pop();
+    let mut moved = ones.clone()?;
+    assert!(rt; moved.len() > 1);
+    moved[0] = moved[1];
+    let cases = [
+        ("the same terms", twos.as_slice(), NetFault::SelfReaction),
+        ("each in two terms", ones.as_slice(), NetFault::SelfReaction),
+        ("a number less", less.as_slice(), NetFault::TooManySpecies),
+        (
+            "a name for another",
+            moved.as_slice(),
+            NetFault::TooManySpecies,
+        ),
+        ("nothing", [].as_slice(), NetFault::TooManySpecies),
+    ];
+    let mut builder = NetBuilder::new(rt.alloc())?;
+    for (row, other, want) in cases {
+        for (left, right) in [(twos.as_slice(), other), (other, twos.as_slice())] {
+            assert_eq!(rt;
+                add(&rt, &mut builder, &text, left, right),
+                Err(want),
+                "{row}"
+            );
+        }
     }
     Ok(())
 }

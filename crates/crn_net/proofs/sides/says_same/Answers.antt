@@ -1,23 +1,28 @@
-use Rattle.crn_net.proofs.Sums.{alike_said, said_alike}
+use Rattle.std.proofs.Common.{length, ap, arith}
+use Rattle.std.proofs.lemmas.Int.{ints}
+use Rattle.crn_net.proofs.Sums.{numbers_most, shares_few, sum_is}
 use Rattle.crn_net.proofs.sides.says_same.Goals as goal
-use Rattle.crn_net.proofs.sides.says_same.Goals.{then-left_agrees, else-left_agrees}
+
+pub shares_by_name-requires-clause-left : goal.shares_by_name-requires-clause-left
+shares_by_name-requires-clause-left c = numbers_most c.args.text.now c.args.left.now c.requires.left.amounts
+
+pub shares_by_name-requires-clause-right : goal.shares_by_name-requires-clause-right
+shares_by_name-requires-clause-right c = numbers_most c.args.text.now c.args.right.now c.requires.right.amounts
+
+pub sums_lie_within-requires-clause-few : goal.sums_lie_within-requires-clause-few
+sums_lie_within-requires-clause-few c =
+    let few = shares_few c.args.left.now c.args.right.now c.in_ok-shares.shares.items c.in_ok-shares.ensures.same c.requires.left.few c.requires.right.few in
+    let is = ap length c.deref.ensures.value in
+    omega (arith, few, is)
 
 pub returns : goal.returns
 returns c =
     let text = c.args.text.now in
     let left = c.args.left.now in
     let right = c.args.right.now in
-    let l = c.in_ok-left_sums.left_sums in
-    let r = c.in_ok-right_sums.right_sums in
-    let p = c.in_ok-left_sums.ensures in
-    let q = c.in_ok-right_sums.ensures in
-    elim c.if-left_agrees.branch [
-      | then-left_agrees w ↦ (
-        λ h. alike_said text left right l r p q (c.agree-left_agrees.ensures.0 w.if-left_agrees.true) (w.agree.ensures.0 (let e = w.result-is in cc)),
-        λ h. let yes' = w.agree.ensures.1 (said_alike text left right right l r p q h) in let e = w.result-is in cc,
-      )
-      | else-left_agrees w ↦ (
-        λ h. absurd (let e = w.result-is in let f = w.if-left_agrees.false in cc),
-        λ h. let yes' = c.agree-left_agrees.ensures.1 (said_alike text left right left l r p q h) in let f = w.if-left_agrees.false in absurd cc,
-      )
-    ]
+    let shares = c.deref.result.now in
+    let same = c.in_ok-shares.ensures.same in
+    let is = c.deref.ensures.value in (
+      λ yes' name. let sum = sum_is text left right shares name (rw is same) in let within = c.sums_lie_within.ensures.0 yes' name in omega (arith, ints, sum, within),
+      λ h. c.sums_lie_within.ensures.1 (λ name. let sum = sum_is text left right shares name (rw is same) in let e = h name in (omega (arith, ints, sum, e), omega (arith, ints, sum, e))),
+    )
