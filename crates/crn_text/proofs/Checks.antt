@@ -1,129 +1,111 @@
--- The tests of the names and numbers of a line.
-use Rattle.std.proofs.Common.{◌≡◌, ℕ, ◌+◌, ◌≤◌, Bool, true, false, List, [], ◌∷◌, length, drop, Some, None, refl, ap, ap₂, ◌∙◌, inl, inr, eqb, arith}
-use Rattle.std.specs.Prelude.{◌||◌, nat_lt}
-use Rattle.std.specs.List.{AllByRecursion, list_any}
-use Rattle.std.proofs.lemmas.Bool.{cases_Bool, ltb-false, le-ltb, eqb-false}
-use Rattle.std.proofs.lemmas.List.{length-take, length-drop}
+-- The tests of a side.
+use Rattle.std.proofs.Common.{◌≡◌, ℕ, ◌≤◌, Bool, true, false, eqb, List, [], ◌∷◌, ◌++◌, length, Option, Some, None, refl, sym, ap, ◌∙◌, arith}
+use Rattle.std.specs.Prelude.{map, not, ◌||◌, if◌then◌else◌, nat_lt}
+use Rattle.std.specs.List.{AllByRecursion, list_any, list_all}
+use Rattle.std.proofs.lemmas.Bool.{and_parts, or_parts, or_from, ltb-false, le-ltb, eqb-false, ne_eqb}
+use Rattle.std.proofs.lemmas.List.{map-append}
 use Rattle.crn_vec.specs.Network.{amount_in}
-use Rattle.crn_vec.specs.declared.limits.TheConstants.{MAX_AMOUNT, MAX_NAME, MAX_TERMS}
-use Rattle.crn_net.specs.Terms.{name_at, side_of, IsTerm, IsSide}
-use Rattle.crn_net.specs.declared.term.Term.{Term}
-use Rattle.crn_text.specs.Faults.{has_long_name, has_zero, has_large, terms_fault}
-use Rattle.crn_text.specs.Pieces.{AreSpelled, HasSmallNumbers, HasSmallSums}
-use Rattle.crn_text.specs.declared.code.TextCode.TheVariants.{NameTooLong, ZeroCoefficient, CoefficientTooLarge}
+use Rattle.crn_vec.specs.declared.limits.TheConstants.{MAX_AMOUNT, MAX_NAME}
+use Rattle.crn_text.specs.Tokens.{Word}
+use Rattle.crn_text.specs.Sides.{is_term, term_of, terms_of, is_zero, is_side, places}
+use Rattle.crn_text.specs.SoundLines.{IsSoundTerm, IsSoundSide}
+use Rattle.crn_text.specs.Faults.{is_empty, has_empty_place, has_long_name, has_zero, has_large, sides_fault}
+use Rattle.crn_text.specs.declared.code.TextCode.{TextCode}
+use Rattle.crn_text.specs.declared.code.TextCode.TheVariants.{EmptySide, BadName, NameTooLong, ZeroCoefficient, CoefficientTooLarge}
+use Rattle.crn_text.proofs.SideTokens.{no_empty}
 
-or_parts : (x y : Bool) → (x || y) ≡ false → (x ≡ false) × (y ≡ false)
-or_parts true y h = absurd cc
-or_parts false y h = (refl, h)
+-- ---- all tests of one side
 
-or_none : (x y : Bool) → (x || (y || false)) ≡ (x || y)
-or_none true y = refl
-or_none false true = refl
-or_none false false = refl
+-- a side passes each test
+pub record Passes (ws : List Word) : Type 0 where
+  pub full : has_empty_place ws ≡ false
+  pub side : is_side ws ≡ true
+  pub short : has_long_name (terms_of ws) ≡ false
+  pub some : has_zero (terms_of ws) ≡ false
+  pub small : has_large (terms_of ws) ≡ false
 
-abbrev pub are_long : List Term → Bool
-are_long ts = list_any (λ t. nat_lt MAX_NAME t.length) ts
+-- the fault of the first test that fails; `side` is the one that has to hold
+abbrev first_of_tests : Bool → Bool → Bool → Bool → Bool → Option TextCode
+first_of_tests empty side long none large =
+    if empty || false then Some EmptySide else (if not side || false then Some BadName else (if long || false then Some NameTooLong else (if none || false then Some ZeroCoefficient else (if large || false then Some CoefficientTooLarge else None))))
 
-abbrev pub are_zero : List Term → Bool
-are_zero ts = list_any (λ t. eqb t.count 0) ts
+no_first : (empty side long none large : Bool) → first_of_tests empty side long none large ≡ None → (empty ≡ false) × (side ≡ true) × (long ≡ false) × (none ≡ false) × (large ≡ false)
+no_first true side long none large h = absurd cc
+no_first false false long none large h = absurd cc
+no_first false true true none large h = absurd cc
+no_first false true false true large h = absurd cc
+no_first false true false false true h = absurd cc
+no_first false true false false false h = (refl, refl, refl, refl, refl)
 
-abbrev pub are_large : List Term → Bool
-are_large ts = list_any (λ t. nat_lt MAX_AMOUNT t.count) ts
+pub passes : (ws : List Word) → sides_fault (ws ∷ []) ≡ None → Passes ws
+passes ws h =
+    let p = no_first (has_empty_place ws) (is_side ws) (has_long_name (terms_of ws)) (has_zero (terms_of ws)) (has_large (terms_of ws)) h in
+    record { full = p.0; side = p.1; short = p.2; some = p.3; small = p.4 }
 
-name_length : (code : List ℕ) (t : Term) → t.at + t.length ≤ length code → length (name_at code t) ≡ t.length
-name_length code t h = omega (arith, length-take t.length (drop t.at code), length-drop t.at code)
+first_none : (empty side long none large : Bool) → empty ≡ false → side ≡ true → long ≡ false → none ≡ false → large ≡ false → first_of_tests empty side long none large ≡ None
+first_none empty side long none large a b c d e = rw (a, b, c, d, e) refl
 
-long_is : (code : List ℕ) (ts : List Term) → AreSpelled code ts → has_long_name (side_of code ts) ≡ are_long ts
-long_is code [] h = refl
-long_is code (t ∷ ts) h = ap₂ (λ (x y : Bool). x || y) (ap (λ (n : ℕ). nat_lt MAX_NAME n) (name_length code t h.0.inside)) (long_is code ts h.1)
+pub no_fault : (ws : List Word) → Passes ws → sides_fault (ws ∷ []) ≡ None
+no_fault ws p = first_none (has_empty_place ws) (is_side ws) (has_long_name (terms_of ws)) (has_zero (terms_of ws)) (has_large (terms_of ws)) p.full p.side p.short p.some p.small
 
-zero_is : (code : List ℕ) (ts : List Term) → has_zero (side_of code ts) ≡ are_zero ts
-zero_is code [] = refl
-zero_is code (t ∷ ts) = ap (λ (y : Bool). eqb t.count 0 || y) (zero_is code ts)
+-- ---- places
 
--- a number that passes the limit
-large_is_for : (f : List ℕ → ℕ) (code : List ℕ) (ts : List Term) → are_large ts ≡ true → list_any (λ (t : List ℕ × ℕ). nat_lt MAX_AMOUNT t.1 || nat_lt MAX_AMOUNT (f t.0)) (side_of code ts) ≡ true
-large_is_for f code [] h = absurd cc
-large_is_for f code (t ∷ ts) h =
-    elim (cases_Bool (nat_lt MAX_AMOUNT t.count)) [
-      | inl y ↦ rw y refl
-      | inr n ↦
-          let rest = large_is_for f code ts (rw n at h) in
-          elim (cases_Bool (nat_lt MAX_AMOUNT (f (name_at code t)))) [ inl y ↦ rw (n, y) refl | inr m ↦ rw (n, m) rest ]
-    ]
+-- a place that holds a term within the limits
+pub record HoldsTerm (place : List Word) : Type 0 where
+  pub term : is_term place ≡ true
+  pub sound : IsSoundTerm (term_of place)
 
-pub large_is : (code : List ℕ) (ts : List Term) → are_large ts ≡ true → has_large (side_of code ts) ≡ true
-large_is code ts h = large_is_for (amount_in (side_of code ts)) code ts h
+one_of_all : {X : Type 0} (q : X → Bool) (xs : List X) (y : X) (ys : List X) → list_all q (xs ++ y ∷ ys) ≡ true → q y ≡ true
+one_of_all q [] y ys h = (and_parts (q y) (list_all q ys) h).0
+one_of_all q (x ∷ xs) y ys h = one_of_all q xs y ys (and_parts (q x) (list_all q (xs ++ y ∷ ys)) h).1
 
-pub small_numbers : (ts : List Term) → are_large ts ≡ false → HasSmallNumbers ts
-small_numbers [] h = tt
-small_numbers (t ∷ ts) h = let p = or_parts _ _ h in (ltb-false MAX_AMOUNT t.count p.0, small_numbers ts p.1)
+none_of_any : {X : Type 0} (q : X → Bool) (xs : List X) (y : X) (ys : List X) → list_any q (xs ++ y ∷ ys) ≡ false → q y ≡ false
+none_of_any q [] y ys h = (or_parts (q y) (list_any q ys) h).0
+none_of_any q (x ∷ xs) y ys h = none_of_any q xs y ys (or_parts (q x) (list_any q (xs ++ y ∷ ys)) h).1
 
-none_large_for : (f : List ℕ → ℕ) (code : List ℕ) (ts : List Term) → ((name : List ℕ) → f name ≤ MAX_AMOUNT) → HasSmallNumbers ts → list_any (λ (t : List ℕ × ℕ). nat_lt MAX_AMOUNT t.1 || nat_lt MAX_AMOUNT (f t.0)) (side_of code ts) ≡ false
-none_large_for f code [] h small = refl
-none_large_for f code (t ∷ ts) h small =
-    let count : nat_lt MAX_AMOUNT t.count ≡ false = le-ltb MAX_AMOUNT t.count small.0 in
-    let sum : nat_lt MAX_AMOUNT (f (name_at code t)) ≡ false = le-ltb MAX_AMOUNT (f (name_at code t)) (h (name_at code t)) in
-    rw (count, sum) (none_large_for f code ts h small.1)
+pub terms_are : (ws : List Word) → is_zero ws ≡ false → terms_of ws ≡ map term_of (places ws)
+terms_are ws not_zero = rw not_zero refl
 
-none_large : (code : List ℕ) (ts : List Term) → HasSmallSums code ts → HasSmallNumbers ts → has_large (side_of code ts) ≡ false
-none_large code ts h small = none_large_for (amount_in (side_of code ts)) code ts h small
+-- each place of a side that passes all tests, and isn't zero, holds a term within the limits
+pub place_passes : (ws : List Word) (read left : List (List Word)) (place : List Word) → is_zero ws ≡ false → Passes ws → places ws ≡ read ++ place ∷ left → HoldsTerm place
+place_passes ws read left place not_zero p cut =
+    let all : list_all is_term (places ws) ≡ true = rw not_zero at p.side in
+    let terms : terms_of ws ≡ map term_of read ++ term_of place ∷ map term_of left = terms_are ws not_zero ∙ ap (map term_of) cut ∙ map-append term_of read (place ∷ left) in
+    let long = none_of_any (λ t. nat_lt MAX_NAME (length t.0)) (map term_of read) (term_of place) (map term_of left) (sym (ap has_long_name terms) ∙ p.short) in
+    let none = none_of_any (λ t. eqb t.1 0) (map term_of read) (term_of place) (map term_of left) (sym (ap has_zero terms) ∙ p.some) in
+    let large = none_of_any (λ t. nat_lt MAX_AMOUNT t.1 || nat_lt MAX_AMOUNT (amount_in (terms_of ws) t.0)) (map term_of read) (term_of place) (map term_of left) (ap (list_any (λ t. nat_lt MAX_AMOUNT t.1 || nat_lt MAX_AMOUNT (amount_in (terms_of ws) t.0))) (sym terms) ∙ p.small) in
+    record {
+      term = one_of_all is_term read place left (ap (list_all is_term) (sym cut) ∙ all);
+      sound = record {
+        name = ltb-false MAX_NAME (length (term_of place).0) long;
+        some = let not_none = eqb-false (term_of place).1 0 none in omega arith;
+        few = ltb-false MAX_AMOUNT (term_of place).1 (or_parts (nat_lt MAX_AMOUNT (term_of place).1) _ large).0;
+      };
+    }
 
-positive : (n : ℕ) → (n ≡ 0 → ⊥) → 1 ≤ n
-positive n h = omega arith
+-- ---- sound sides
 
-are_terms : (code : List ℕ) (ts : List Term) → AreSpelled code ts → are_long ts ≡ false → are_zero ts ≡ false → AllByRecursion (IsTerm code) ts
-are_terms code [] h long none = tt
-are_terms code (t ∷ ts) h long none =
-    let l = or_parts _ _ long in
-    let z = or_parts _ _ none in
-    let short : length (name_at code t) ≤ MAX_NAME = omega (arith, name_length code t h.0.inside, ltb-false MAX_NAME t.length l.0) in
-    (record { inside = h.0.inside; name = (h.0.named, short); some = positive t.count (eqb-false t.count 0 z.0) }, are_terms code ts h.1 l.1 z.1)
+pub short_names : (ts : List (List ℕ × ℕ)) → AllByRecursion IsSoundTerm ts → has_long_name ts ≡ false
+short_names [] h = refl
+short_names (t ∷ ts) h = or_from (nat_lt MAX_NAME (length t.0)) (has_long_name ts) (le-ltb MAX_NAME (length t.0) h.0.name) (short_names ts h.1)
 
-is_side : (code : List ℕ) (ts : List Term) → AreSpelled code ts → length ts ≤ MAX_TERMS → are_long ts ≡ false → are_zero ts ≡ false → HasSmallSums code ts → IsSide code ts
-is_side code ts h few long none sums = record { each = are_terms code ts h long none; amounts = sums; few = few }
+pub no_zeros : (ts : List (List ℕ × ℕ)) → AllByRecursion IsSoundTerm ts → has_zero ts ≡ false
+no_zeros [] h = refl
+no_zeros (t ∷ ts) h = or_from (eqb t.1 0) (has_zero ts) (ne_eqb t.1 0 (λ e. let s = h.0.some in omega (arith, e, s))) (no_zeros ts h.1)
 
--- ---- the first test that fails
+pub none_large : (f : List ℕ → ℕ) (ts : List (List ℕ × ℕ)) → ((name : List ℕ) → f name ≤ MAX_AMOUNT) → AllByRecursion IsSoundTerm ts → list_any (λ t. nat_lt MAX_AMOUNT t.1 || nat_lt MAX_AMOUNT (f t.0)) ts ≡ false
+none_large f [] sums h = refl
+none_large f (t ∷ ts) sums h =
+    or_from (nat_lt MAX_AMOUNT t.1 || nat_lt MAX_AMOUNT (f t.0)) (list_any (λ t. nat_lt MAX_AMOUNT t.1 || nat_lt MAX_AMOUNT (f t.0)) ts)
+    (or_from (nat_lt MAX_AMOUNT t.1) (nat_lt MAX_AMOUNT (f t.0)) (le-ltb MAX_AMOUNT t.1 h.0.few) (le-ltb MAX_AMOUNT (f t.0) (sums t.0)))
+    (none_large f ts sums h.1)
 
-two_long : (code : List ℕ) (l r : List Term) → AreSpelled code l → AreSpelled code r → list_any has_long_name (side_of code l ∷ side_of code r ∷ []) ≡ (are_long l || are_long r)
-two_long code l r p q = or_none _ _ ∙ ap₂ (λ (x y : Bool). x || y) (long_is code l p) (long_is code r q)
-
-two_zero : (code : List ℕ) (l r : List Term) → list_any has_zero (side_of code l ∷ side_of code r ∷ []) ≡ (are_zero l || are_zero r)
-two_zero code l r = or_none _ _ ∙ ap₂ (λ (x y : Bool). x || y) (zero_is code l) (zero_is code r)
-
-pub fault_long : (code : List ℕ) (l r : List Term) → AreSpelled code l → AreSpelled code r → (are_long l || are_long r) ≡ true → terms_fault (side_of code l ∷ side_of code r ∷ []) ≡ Some NameTooLong
-fault_long code l r p q long = let a = two_long code l r p q ∙ long in rw a refl
-
-pub fault_zero : (code : List ℕ) (l r : List Term) → AreSpelled code l → AreSpelled code r → (are_long l || are_long r) ≡ false → (are_zero l || are_zero r) ≡ true → terms_fault (side_of code l ∷ side_of code r ∷ []) ≡ Some ZeroCoefficient
-fault_zero code l r p q long none = let a = two_long code l r p q ∙ long in let b = two_zero code l r ∙ none in rw (a, b) refl
-
-pub fault_large : (code : List ℕ) (l r : List Term) → AreSpelled code l → AreSpelled code r → (are_long l || are_long r) ≡ false → (are_zero l || are_zero r) ≡ false → (has_large (side_of code l) || has_large (side_of code r)) ≡ true → terms_fault (side_of code l ∷ side_of code r ∷ []) ≡ Some CoefficientTooLarge
-fault_large code l r p q long none large =
-    let a = two_long code l r p q ∙ long in
-    let b = two_zero code l r ∙ none in
-    let c : list_any has_large (side_of code l ∷ side_of code r ∷ []) ≡ true = or_none _ _ ∙ large in
-    rw (a, b, c) refl
-
-pub large_numbers : (code : List ℕ) (l r : List Term) → (are_large l || are_large r) ≡ true → (has_large (side_of code l) || has_large (side_of code r)) ≡ true
-large_numbers code l r h =
-    elim (cases_Bool (are_large l)) [
-      | inl y ↦ let a = large_is code l y in rw a refl
-      | inr n ↦ let b = large_is code r (rw n at h) in elim (cases_Bool (has_large (side_of code l))) [ inl y ↦ rw y refl | inr m ↦ rw (m, b) refl ]
-    ]
-
-pub small_left : (l r : List Term) → (are_large l || are_large r) ≡ false → HasSmallNumbers l
-small_left l r h = small_numbers l (or_parts _ _ h).0
-
-pub small_right : (l r : List Term) → (are_large l || are_large r) ≡ false → HasSmallNumbers r
-small_right l r h = small_numbers r (or_parts _ _ h).1
-
-pub checks_all : (code : List ℕ) (l r : List Term) → AreSpelled code l → AreSpelled code r → length l ≤ MAX_TERMS → length r ≤ MAX_TERMS → (are_long l || are_long r) ≡ false → (are_zero l || are_zero r) ≡ false → (are_large l || are_large r) ≡ false → HasSmallSums code l → HasSmallSums code r
-    → (terms_fault (side_of code l ∷ side_of code r ∷ []) ≡ None) × IsSide code l × IsSide code r
-checks_all code l r p q few_l few_r long none large sums_l sums_r =
-    let a = two_long code l r p q ∙ long in
-    let b = two_zero code l r ∙ none in
-    let c : list_any has_large (side_of code l ∷ side_of code r ∷ []) ≡ false = let x = none_large code l sums_l (small_left l r large) in let y = none_large code r sums_r (small_right l r large) in rw (x, y) refl in
-    let fine : terms_fault (side_of code l ∷ side_of code r ∷ []) ≡ None = rw (a, b, c) refl in
-    let longs = or_parts _ _ long in
-    let nones = or_parts _ _ none in
-    (fine, is_side code l p few_l longs.0 nones.0 sums_l, is_side code r q few_r longs.1 nones.1 sums_r)
+-- a side of terms passes all tests where it is sound
+pub sound_passes : (ws : List Word) → is_zero ws ≡ false → list_all is_term (places ws) ≡ true → IsSoundSide (terms_of ws) → Passes ws
+sound_passes ws not_zero all s = record {
+  full = no_empty (places ws) all;
+  side = rw not_zero all;
+  short = short_names (terms_of ws) s.each;
+  some = no_zeros (terms_of ws) s.each;
+  small = none_large (amount_in (terms_of ws)) (terms_of ws) s.sums s.each;
+}

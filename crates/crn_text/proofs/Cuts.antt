@@ -1,59 +1,73 @@
--- Sides cut into places, and texts cut into lines.
-use Rattle.std.proofs.Common.{◌≡◌, ℕ, ◌≤◌, eqb, List, [], ◌∷◌, length, take, drop, Some, None, Bor, refl, sym, ap, ap₂, ◌∙◌, arith}
+-- Texts cut at the first byte like this one.
+use Rattle.std.proofs.Common.{◌≡◌, ℕ, ◌+◌, false, eqb, List, [], ◌∷◌, ◌++◌, length, take, drop, Option, Some, None, Bor, refl, sym, ap, ap₂, ◌∙◌, inl, inr, arith}
 use Rattle.std.specs.Prelude.{not}
-use Rattle.std.specs.List.{prefix_len}
-use Rattle.std.proofs.lemmas.List.{length-take, length-drop}
-use Rattle.std.proofs.lemmas.List.Sums.{prefix_len-le-length}
-use Rattle.crn_text.specs.declared.token.Token.{Token}
+use Rattle.std.specs.List.{prefix_len, list_any, take_while}
+use Rattle.std.proofs.lemmas.Bool.{cases_Bool, eqb-true, eq-eqb, or_parts}
+use Rattle.std.proofs.lemmas.List.{length-append, append-nil, take-append-drop}
 use Rattle.crn_text.specs.Tokens.{lines}
-use Rattle.crn_text.specs.Sides.{is_plus, is_plus_kind}
-use Rattle.crn_text.specs.Pieces.{word_of, IsToken, CutsPlace, CutsLine}
-use Rattle.crn_text.proofs.Lists.{all_take, all_drop, split_none, split_more, map_itself}
+use Rattle.crn_text.specs.Pieces.{CutsAt, behind_cut}
+use Rattle.crn_text.proofs.Lists.{one_more, split_at, split_last}
 
-abbrev plus_at : List Token → ℕ
-plus_at side = prefix_len (λ t. not (is_plus_kind t.kind)) side
+-- how many bytes stand before the first such byte
+abbrev place_in : ℕ → List ℕ → ℕ
+place_in byte text = prefix_len (λ b. not (eqb b byte)) text
 
 nothing : {X : Type 0} (xs : List X) → length xs ≡ 0 → xs ≡ []
 nothing [] e = refl
 nothing (x ∷ xs) e = absurd (omega arith)
 
-pub cuts_last_place : (side place : List Token) (n : ℕ) → n ≡ plus_at side → place ≡ take n side → length (drop n side) ≡ 0 → CutsPlace side place None
-cuts_last_place side place n at front none =
-    let le : n ≤ length side = omega (arith, prefix_len-le-length (λ t. not (is_plus_kind t.kind)) side) in
-    let end : drop (plus_at side) side ≡ [] = nothing (drop (plus_at side) side) (rw at at none) in
+none_before : (byte : ℕ) (text : List ℕ) → list_any (λ b. eqb b byte) (take (place_in byte text) text) ≡ false
+none_before byte [] = refl
+none_before byte (b ∷ text) =
+    elim (cases_Bool (eqb b byte)) [
+      | inl hit ↦ rw hit refl
+      | inr miss ↦ rw (miss, one_more, miss) (none_before byte text)
+    ]
+
+found_there : (byte : ℕ) (text : List ℕ) (b : ℕ) (rest : List ℕ) → drop (place_in byte text) text ≡ b ∷ rest → b ≡ byte
+found_there byte [] b rest h = absurd cc
+found_there byte (x ∷ text) b rest h =
+    elim (cases_Bool (eqb x byte)) [
+      | inl hit ↦ let e = rw hit at h in let is : x ≡ byte = eqb-true x byte hit in cc
+      | inr miss ↦ let e = rw (miss, one_more) at h in found_there byte text b rest e
+    ]
+
+pub cuts_none : (byte : ℕ) (text front : List ℕ) (n : ℕ) → n ≡ place_in byte text → front ≡ take n text → length (drop n text) ≡ 0 → CutsAt byte text front None
+cuts_none byte text front n at is none = record {
+  whole = sym (take-append-drop n text) ∙ ap₂ (λ (t u : List ℕ). t ++ u) (sym is) (nothing (drop n text) none);
+  apart = rw (is, at) (none_before byte text);
+}
+
+pub cuts_some : (byte : ℕ) (text front : List ℕ) (n b : ℕ) (rest : Bor (List ℕ)) → n ≡ place_in byte text → front ≡ take n text → drop n text ≡ b ∷ rest.now → CutsAt byte text front (Some rest)
+cuts_some byte text front n b rest at is more =
+    let found : b ≡ byte = found_there byte text b rest.now (rw at at more) in
     record {
-      size = rw front (omega (arith, length-take n side, length-drop n side));
-      places = λ code. rw (front, at) (split_none is_plus (word_of code) side end);
-      kept = λ code h. (rw front (all_take (IsToken code) n side h), tt);
+      whole = sym (take-append-drop n text) ∙ ap₂ (λ (t u : List ℕ). t ++ u) (sym is) (more ∙ ap (λ (x : ℕ). x ∷ rest.now) found);
+      apart = rw (is, at) (none_before byte text);
     }
 
-pub cuts_next_place : (side place : List Token) (n : ℕ) (plus : Token) (next : Bor (List Token)) → n ≡ plus_at side → place ≡ take n side → drop n side ≡ plus ∷ next.now → CutsPlace side place (Some next)
-cuts_next_place side place n plus next at front more =
-    let le : n ≤ length side = omega (arith, prefix_len-le-length (λ t. not (is_plus_kind t.kind)) side) in
-    let end : drop (plus_at side) side ≡ plus ∷ next.now = rw at at more in
-    record {
-      size = rw front (omega (arith, length-take n side, length-drop n side, ap length more));
-      places = λ code. rw (front, at) (split_more is_plus (word_of code) side plus next.now end);
-      kept = λ code h. (rw front (all_take (IsToken code) n side h), (let d = all_drop (IsToken code) n side h in rw more at d).1);
-    }
+pub cut_size : (byte : ℕ) (text front : List ℕ) (behind : Option (Bor (List ℕ))) → CutsAt byte text front behind → length front + length (behind_cut byte behind) ≡ length text
+cut_size byte text front behind cut = sym (length-append front (behind_cut byte behind)) ∙ sym (ap length cut.whole)
 
-abbrev lf_at : List ℕ → ℕ
-lf_at text = prefix_len (λ b. not (eqb b 10)) text
+-- ---- what stands before the first such byte
 
-pub cuts_last_line : (text line : List ℕ) (n : ℕ) → n ≡ lf_at text → line ≡ take n text → length (drop n text) ≡ 0 → CutsLine text line None
-cuts_last_line text line n at front none =
-    let le : n ≤ length text = omega (arith, prefix_len-le-length (λ b. not (eqb b 10)) text) in
-    let end : drop (lf_at text) text ≡ [] = nothing (drop (lf_at text) text) (rw at at none) in
-    record {
-      size = rw front (omega (arith, length-take n text, length-drop n text));
-      lines = rw (front, at) (ap lines (sym (map_itself text)) ∙ split_none (λ b. eqb b 10) (λ b. b) text end ∙ ap (λ (t : List ℕ). t ∷ []) (map_itself (take (lf_at text) text)));
-    }
+front_of : (byte : ℕ) (front : List ℕ) (behind : Option (Bor (List ℕ))) → list_any (λ b. eqb b byte) front ≡ false → take_while (λ b. not (eqb b byte)) (front ++ behind_cut byte behind) ≡ front
+front_of byte [] None h = refl
+front_of byte [] (Some rest) h = rw (eq-eqb byte byte refl) refl
+front_of byte (b ∷ front) behind h =
+    let a = or_parts (eqb b byte) (list_any (λ b. eqb b byte) front) h in
+    rw (a.0, one_more) (ap (λ (t : List ℕ). b ∷ t) (front_of byte front behind a.1))
 
-pub cuts_next_line : (text line : List ℕ) (n lf : ℕ) (next : Bor (List ℕ)) → n ≡ lf_at text → line ≡ take n text → drop n text ≡ lf ∷ next.now → CutsLine text line (Some next)
-cuts_next_line text line n lf next at front more =
-    let le : n ≤ length text = omega (arith, prefix_len-le-length (λ b. not (eqb b 10)) text) in
-    let end : drop (lf_at text) text ≡ lf ∷ next.now = rw at at more in
-    record {
-      size = rw front (omega (arith, length-take n text, length-drop n text, ap length more));
-      lines = rw (front, at) (ap lines (sym (map_itself text)) ∙ split_more (λ b. eqb b 10) (λ b. b) text lf next.now end ∙ ap₂ (λ (t : List ℕ) (u : List ℕ). t ∷ lines u) (map_itself (take (lf_at text) text)) (map_itself next.now));
-    }
+pub cut_front : (byte : ℕ) (text front : List ℕ) (behind : Option (Bor (List ℕ))) → CutsAt byte text front behind → front ≡ take_while (λ b. not (eqb b byte)) text
+cut_front byte text front behind cut = sym (front_of byte front behind cut.apart) ∙ ap (λ (t : List ℕ). take_while (λ b. not (eqb b byte)) t) (sym cut.whole)
+
+-- ---- the lines of a text
+
+-- the lines behind a cut
+abbrev pub lines_behind : Option (Bor (List ℕ)) → List (List ℕ)
+lines_behind None = []
+lines_behind (Some rest) = lines rest.now
+
+pub lines_cut : (text line : List ℕ) (behind : Option (Bor (List ℕ))) → CutsAt 10 text line behind → lines text ≡ line ∷ lines_behind behind
+lines_cut text line None cut = ap lines (cut.whole ∙ append-nil line) ∙ split_last (λ b. eqb b 10) line cut.apart
+lines_cut text line (Some rest) cut = ap lines cut.whole ∙ split_at (λ b. eqb b 10) line 10 rest.now cut.apart refl

@@ -1,9 +1,9 @@
 -- A line without a fault is sound.
-use Rattle.std.proofs.Common.{◌≡◌, ℕ, ◌≤◌, Bool, true, false, eqb, List, [], ◌∷◌, ◌++◌, length, take, drop, None, refl, sym, ap, ap₂, subst, ◌∙◌, inl, inr, arith}
+use Rattle.std.proofs.Common.{◌≡◌, ℕ, ◌≤◌, Bool, true, false, eqb, cond, List, [], ◌∷◌, ◌++◌, length, None, refl, sym, ap, subst, ◌∙◌, inl, inr, arith}
 use Rattle.std.specs.Prelude.{map, not, ◌||◌, ◌⊎◌, nat_le, nat_lt}
-use Rattle.std.specs.List.{AllByRecursion, list_any, list_all, count_by, prefix_len}
-use Rattle.std.proofs.lemmas.Bool.{cases_Bool, ltb-false, leb-true, eqb-true, eqb-false, not-false, and_parts, or_parts}
-use Rattle.std.proofs.lemmas.List.{take-append-drop}
+use Rattle.std.specs.List.{AllByRecursion, list_any, list_all, count_by}
+use Rattle.std.proofs.lemmas.Bool.{cases_Bool, ltb-false, leb-true, eqb-true, eqb-false, not-false, and_parts, or_parts, or_from}
+use Rattle.std.proofs.lemmas.List.Sums.{sum_by-append}
 use Rattle.crn_vec.specs.Network.{amount_in}
 use Rattle.crn_vec.specs.declared.limits.TheConstants.{MAX_AMOUNT, MAX_NAME}
 use Rattle.crn_net.proofs.Amounts.{has_name, none_said}
@@ -12,8 +12,8 @@ use Rattle.crn_text.specs.Tokens.{Word, words, before_comment}
 use Rattle.crn_text.specs.Sides.{is_arrow, is_stray, is_stray_kind, is_side, terms_of, sides}
 use Rattle.crn_text.specs.SoundLines.{IsPlain, IsNoStray, IsSoundTerm, IsSoundSide, IsSoundStatement, IsSoundLine}
 use Rattle.crn_text.specs.Faults.{is_plain, is_empty, has_empty_place, has_long_name, has_zero, has_large, own_fault, words_fault, sides_fault}
-use Rattle.crn_text.proofs.Lists.{one_more, split_more, map_itself}
-use Rattle.crn_text.proofs.Arrows.{Parted, parted, split_count, count_no}
+use Rattle.crn_text.proofs.Lists.{split_at, split_last}
+use Rattle.crn_text.proofs.Arrows.{count_no, count_yes, none_passes}
 
 -- ---- bytes and tokens
 
@@ -100,31 +100,34 @@ sides_good ss f =
 
 -- ---- the tokens of a line
 
-skip_first : (q : Word → Bool) (w : Word) (ws right : List Word) (a : Word) → q w ≡ false → drop (prefix_len (λ w. not (q w)) ws) ws ≡ a ∷ right → drop (prefix_len (λ w. not (q w)) (w ∷ ws)) (w ∷ ws) ≡ a ∷ right
-skip_first q w ws right a n h = rw (n, one_more) h
+-- the first token that passes a test, with those before it and behind it
+record First (q : Word → Bool) (ws : List Word) : Type 0 where
+  before : List Word
+  it : Word
+  behind : List Word
+  tokens : ws ≡ before ++ it ∷ behind
+  none : list_any q before ≡ false
+  passes : q it ≡ true
 
-first_arrow : (q : Word → Bool) (ws : List Word) → (count_by q ws ≡ 0 → ⊥) → (a : Word) × (right : List Word) × (drop (prefix_len (λ w. not (q w)) ws) ws ≡ a ∷ right)
-first_arrow q [] h = absurd (h refl)
-first_arrow q (w ∷ ws) h =
+first : (q : Word → Bool) (ws : List Word) → (count_by q ws ≡ 0 → ⊥) → First q ws
+first q [] h = absurd (h refl)
+first q (w ∷ ws) h =
     elim (cases_Bool (q w)) [
-      | inl y ↦ (w, ws, (rw y refl))
-      | inr n ↦ let p = first_arrow q ws (λ z. h (count_no q w ws n ∙ z)) in (p.0, p.1, skip_first q w ws p.1 p.0 n p.2)
+      | inl y ↦ record { before = []; it = w; behind = ws; tokens = refl; none = refl; passes = y }
+      | inr n ↦
+          let f = first q ws (λ z. h (count_no q w ws n ∙ z)) in
+          record { before = w ∷ f.before; it = f.it; behind = f.behind; tokens = ap (λ (t : List Word). w ∷ t) f.tokens; none = or_from (q w) (list_any q f.before) n f.none; passes = f.passes }
     ]
-
-same_test : (w : Word) → is_arrow w ≡ false → is_arrow w ≡ false
-same_test w h = h
 
 one_arrow : (ws : List Word) → count_by is_arrow ws ≤ 1 → (count_by is_arrow ws ≡ 0 → ⊥) → sides_fault (sides ws) ≡ None → IsSoundStatement ws
 one_arrow ws few some h =
-    let f = first_arrow is_arrow ws some in
-    let n : ℕ = prefix_len (λ w. not (is_arrow w)) ws in
-    let p : Parted is_arrow is_arrow ws f.0 f.1 = parted is_arrow is_arrow same_test ws f.0 f.1 f.2 in
-    let none : count_by is_arrow f.1 ≡ 0 = omega (arith, p.count, few) in
-    let cut : sides ws ≡ take n ws ∷ f.1 ∷ [] =
-    ap sides (sym (map_itself ws)) ∙ split_more is_arrow (λ w. w) ws f.0 f.1 f.2 ∙ ap₂ (λ (t : List Word) (u : List (List Word)). t ∷ u) (map_itself (take n ws)) (split_count is_arrow (λ w. w) f.1 none ∙ ap (λ (t : List Word). t ∷ []) (map_itself f.1)) in
-    let good : AllByRecursion IsGood (take n ws ∷ f.1 ∷ []) = sides_good (take n ws ∷ f.1 ∷ []) (ap sides_fault (sym cut) ∙ h) in
+    let f = first is_arrow ws some in
+    let total = sum_by-append (λ w. cond (is_arrow w) 1 0) f.before (f.it ∷ f.behind) in
+    let last : count_by is_arrow f.behind ≡ 0 = omega (arith, few, ap (count_by is_arrow) f.tokens, total, count_yes is_arrow f.it f.behind f.passes) in
+    let cut : sides ws ≡ f.before ∷ f.behind ∷ [] = ap sides f.tokens ∙ split_at is_arrow f.before f.it f.behind f.none f.passes ∙ ap (λ (t : List (List Word)). f.before ∷ t) (split_last is_arrow f.behind (none_passes is_arrow f.behind last)) in
+    let good : AllByRecursion IsGood (f.before ∷ f.behind ∷ []) = sides_good (f.before ∷ f.behind ∷ []) (ap sides_fault (sym cut) ∙ h) in
     record {
-      line = record { left = take n ws; arrow = f.0; right = f.1; tokens = sym (take-append-drop n ws) ∙ ap (λ (t : List Word). take n ws ++ t) f.2; joins = p.hit; reactant = good.0.side; product = good.1.0.side };
+      line = record { left = f.before; arrow = f.it; right = f.behind; tokens = f.tokens; joins = f.passes; reactant = good.0.side; product = good.1.0.side };
       reactant = good.0.sound;
       product = good.1.0.sound;
     }

@@ -6,18 +6,19 @@ use Rattle.std.proofs.lemmas.List.{append-nil, length-drop, take_all, take_more}
 use Rattle.crn_vec.specs.Lists.{firsts}
 use Rattle.crn_vec.specs.Network.{Net, Statement, IsNetwork, sides_eq, said_by}
 use Rattle.crn_vec.specs.declared.limits.TheConstants.{MAX_TEXT}
-use Rattle.crn_net.specs.Grows.{Grown, FinishGives, no_net}
+use Rattle.crn_net.specs.Grows.{Grown, FinishGives}
 use Rattle.crn_net.specs.declared.fault.NetFault.{NetFault}
 use Rattle.crn_net.specs.declared.fault.NetFault.TheVariants as refusal
-use Rattle.crn_net.proofs.CallerLemmas.{Grown-none, Grown-names, Grown-reactions}
+use Rattle.crn_net.proofs.CallerLemmas.{Grown-names, Grown-reactions}
 use Rattle.crn_text.specs.Codes.{net_code}
 use Rattle.crn_text.specs.Tokens.{lines, before_comment, words}
 use Rattle.crn_text.specs.Sides.{said, all_said}
 use Rattle.crn_text.specs.Faults.{is_plain, own_fault, line_fault, or_else}
 use Rattle.crn_text.specs.Spells.{Spells, Fault, fault_on, AreFaultless, IsFirstFault, IsWithoutReaction}
-use Rattle.crn_text.specs.Pieces.{size_left, lines_left, CutsLine, WordsGive, LineGives}
+use Rattle.crn_text.specs.Pieces.{CutsAt, behind_cut, WordsGive, LineGives}
 use Rattle.crn_text.specs.declared.code.TextCode.{TextCode}
 use Rattle.crn_text.specs.declared.code.TextCode.TheVariants.{NotAscii, NoMemory, NoReaction}
+use Rattle.crn_text.proofs.Cuts.{lines_behind, lines_cut, cut_size}
 
 -- ---- one line
 
@@ -33,14 +34,12 @@ line_gives before line (Err fault) net h (inr f) = inr (rw h f)
 
 -- ---- the loop over the lines
 
+-- the lines before those that are left have no fault, and their statements are in the network
 pub record LinesUpTo (text : List ℕ) (number : ℕ) (left : Option (Bor (List ℕ))) (net : Net) : Type 0 where
-  pub behind : drop number (lines text) ≡ lines_left left
+  pub behind : drop number (lines text) ≡ lines_behind left
   pub sound : AreFaultless (lines text) number
   pub grown : Grown (all_said (take number (lines text))) net
-  pub size : number + size_left left ≤ length text + 1
-
-pub lines_none : (text : Bor (List ℕ)) (net : Net) → net ≡ no_net → LinesUpTo text.now 0 (Some text) net
-lines_none text net e = record { behind = refl; sound = λ k lt. absurd (omega (arith, lt)); grown = rw e Grown-none; size = omega arith }
+  pub size : number + length (behind_cut 10 left) ≤ length text + 1
 
 -- the place of the first of the elements that are left
 first_left : {X : Type 0} (xs ys : List X) (x d : X) (n : ℕ) → drop n xs ≡ x ∷ ys → (n < length xs) × (get_or xs n d ≡ x) × (drop (n + 1) xs ≡ ys)
@@ -56,9 +55,9 @@ pub flat_push : (ls : List (List ℕ)) (l : List ℕ) → all_said (ls ++ l ∷ 
 flat_push [] l = append-nil (said l)
 flat_push (x ∷ ls) l = ap (λ (t : List Statement). said x ++ t) (flat_push ls l) ∙ sym (append_assoc (said x) (all_said ls) (said l))
 
-pub lines_more : (text line : List ℕ) (number : ℕ) (rest : Bor (List ℕ)) (next : Option (Bor (List ℕ))) (old new : Net) (done : Unit {0}) → LinesUpTo text number (Some rest) old → CutsLine rest.now line next → LineGives (all_said (take number (lines text))) line (Ok done) new → LinesUpTo text (number + 1) next new
+pub lines_more : (text line : List ℕ) (number : ℕ) (rest : Bor (List ℕ)) (next : Option (Bor (List ℕ))) (old new : Net) (done : Unit {0}) → LinesUpTo text number (Some rest) old → CutsAt 10 rest.now line next → LineGives (all_said (take number (lines text))) line (Ok done) new → LinesUpTo text (number + 1) next new
 lines_more text line number rest next old new done h cut g =
-    let p = first_left (lines text) (lines_left next) line [] number (h.behind ∙ cut.lines) in
+    let p = first_left (lines text) (lines_behind next) line [] number (h.behind ∙ lines_cut rest.now line next cut) in
     let here : fault_on (lines text) number ≡ None = rw p.1 g.0 in
     let more : take (number + 1) (lines text) ≡ take number (lines text) ++ line ∷ [] = take_more (lines text) number [] p.0 ∙ ap (λ (l : List ℕ). take number (lines text) ++ l ∷ []) p.1 in
     let said_more : all_said (take (number + 1) (lines text)) ≡ all_said (take number (lines text)) ++ said line = ap all_said more ∙ flat_push (take number (lines text)) line in
@@ -66,13 +65,13 @@ lines_more text line number rest next old new done h cut g =
       behind = p.2;
       sound = below_more _ number h.sound here;
       grown = rw said_more g.1;
-      size = omega (arith, h.size, cut.size);
+      size = omega (arith, h.size, cut_size 10 rest.now line next cut);
     }
 
-pub lines_stop : (text line : List ℕ) (number : ℕ) (rest : Bor (List ℕ)) (next : Option (Bor (List ℕ))) (old new : Net) (fault : TextCode) → length text ≤ MAX_TEXT → LinesUpTo text number (Some rest) old → CutsLine rest.now line next → LineGives (all_said (take number (lines text))) line (Err fault) new → (fault ≡ NoMemory) ⊎ IsFirstFault text (number + 1) fault
+pub lines_stop : (text line : List ℕ) (number : ℕ) (rest : Bor (List ℕ)) (next : Option (Bor (List ℕ))) (old new : Net) (fault : TextCode) → length text ≤ MAX_TEXT → LinesUpTo text number (Some rest) old → CutsAt 10 rest.now line next → LineGives (all_said (take number (lines text))) line (Err fault) new → (fault ≡ NoMemory) ⊎ IsFirstFault text (number + 1) fault
 lines_stop text line number rest next old new fault short h cut (inl m) = inl m
 lines_stop text line number rest next old new fault short h cut (inr f) =
-    let p = first_left (lines text) (lines_left next) line [] number (h.behind ∙ cut.lines) in
+    let p = first_left (lines text) (lines_behind next) line [] number (h.behind ∙ lines_cut rest.now line next cut) in
     inr (record { before = number; counted = refl; short = short; there = p.0; earlier = h.sound; fault = rw p.1 f })
 
 pub lines_all : (text : List ℕ) (number : ℕ) (net : Net) → LinesUpTo text number None net → AreFaultless (lines text) (length (lines text)) × Grown (all_said (lines text)) net

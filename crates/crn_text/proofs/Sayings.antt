@@ -17,7 +17,8 @@ use Rattle.crn_text.specs.SoundLines.{IsSoundTerm, IsSoundSide, IsSoundStatement
 use Rattle.crn_text.specs.Faults.{own_fault}
 use Rattle.crn_text.specs.declared.token.Kind.TheVariants.{Name}
 use Rattle.crn_text.proofs.Grammar.{line_good}
-use Rattle.crn_text.proofs.SoundLines.{side_cut, two_sides}
+use Rattle.crn_text.proofs.SideTokens.{side_cut}
+use Rattle.crn_text.proofs.SoundLines.{two_sides}
 use Rattle.crn_text.proofs.Words.{begins_with_name, begins_named}
 
 -- ---- tokens of the kind of names begin as names

@@ -9,23 +9,7 @@ use Rattle.std.specs.Fmt.{signed_decimal}
 use Rattle.crn_text.specs.Canonical.{joined, term, term_if_some, terms, or_zero, side}
 use Rattle.crn_text.specs.Pieces.{turn, added}
 
-pub term_number : (a : ℤ) (name : List ℕ) → pos 0 <ℤ a → (a ≡ pos 1 → ⊥) → term a name ≡ signed_decimal a ++ name
-term_number (pos zero) name lt ne = refl
-term_number (pos (suc zero)) name lt ne = absurd (ne refl)
-term_number (pos (suc (suc n))) name lt ne = refl
-term_number (negsuc n) name lt ne = absurd (omega (arith, ints))
-
 -- ---- the terms of a side
-
-pub term_some : (a : ℤ) (name : List ℕ) → pos 0 <ℤ a → term_if_some a name ≡ term a name ∷ []
-term_some (pos zero) name lt = absurd (omega (arith, ints))
-term_some (pos (suc n)) name lt = refl
-term_some (negsuc n) name lt = absurd (omega (arith, ints))
-
-pub term_none : (a : ℤ) (name : List ℕ) → a ≤ℤ pos 0 → term_if_some a name ≡ []
-term_none (pos zero) name le = refl
-term_none (pos (suc n)) name le = absurd (omega (arith, ints))
-term_none (negsuc n) name le = refl
 
 pub terms_take : (names : List (List ℕ)) (v : List ℤ) (i : ℕ) → i < length names → i < length v → terms (take (suc i) names) (take (suc i) v) ≡ terms (take i names) (take i v) ++ term_if_some (get_or v i (pos 0)) (get_or names i [])
 terms_take [] v i p q = absurd (omega arith)

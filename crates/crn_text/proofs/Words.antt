@@ -1,17 +1,16 @@
 -- The tokens of a text.
-use Rattle.std.proofs.Common.{◌≡◌, ℕ, zero, suc, ◌+◌, ◌-◌, ◌<◌, ◌≤◌, Bool, true, false, eqb, List, [], ◌∷◌, ◌++◌, length, take, drop, get_or, refl, sym, ap, ap₂, ◌∙◌, append_assoc, inl, inr, arith}
+use Rattle.std.proofs.Common.{◌≡◌, ℕ, zero, suc, ◌-◌, ◌<◌, ◌≤◌, Bool, true, false, eqb, List, [], ◌∷◌, ◌++◌, Bor, length, take, drop, get_or, refl, sym, ap, ap₂, ◌∙◌, inl, inr, arith}
 use Rattle.std.specs.Prelude.{codes, nat_eq}
 use Rattle.std.specs.List.{prefix_len, starts_with, list_all}
 use Rattle.std.proofs.lemmas.Bool.{cases_Bool, ne_eqb}
-use Rattle.std.proofs.lemmas.List.{length-take, length-drop, length-append, append-nil, drop-drop, drop_all, map-append}
+use Rattle.std.proofs.lemmas.List.{length-take, take-append-drop}
 use Rattle.std.proofs.lemmas.List.Sums.{prefix_len-le-length}
 use Rattle.crn_vec.specs.Network.{is_letter, is_name_byte, begins_name}
-use Rattle.crn_text.specs.Tokens.{Word, word, first_word, words_behind, words, is_digit, is_blank}
+use Rattle.crn_text.specs.Tokens.{word, first_word, words_behind, words, is_digit, is_blank}
 use Rattle.crn_text.specs.Sides.{is_name_kind}
-use Rattle.crn_text.specs.Pieces.{Begins, IsToken, AreTokens, word_of, words_of}
+use Rattle.crn_text.specs.Pieces.{Begins, BeginsWith}
 use Rattle.crn_text.specs.declared.token.Kind.{Kind}
-use Rattle.crn_text.specs.declared.token.Token.{Token}
-use Rattle.crn_text.proofs.Lists.{one_more, all_push}
+use Rattle.crn_text.proofs.Lists.{one_more}
 use Rattle.crn_text.specs.declared.token.Kind.TheVariants.{Number, Name, Plus, Arrow, BothWays, Stray}
 
 pub begins_number : (rest : List ℕ) → 0 < length rest → is_digit (get_or rest 0 0) ≡ true → Begins rest Number (prefix_len is_digit rest)
@@ -86,11 +85,6 @@ behind_is zero bs = refl
 behind_is (suc n) [] = refl
 behind_is (suc n) (b ∷ bs) = behind_is n bs
 
-pub words_blank : (rest : List ℕ) → 0 < length rest → is_blank (get_or rest 0 0) ≡ true → words rest ≡ words (drop 1 rest)
-unfolding words_behind
-words_blank [] lt blank = absurd (omega arith)
-words_blank (b ∷ bs) lt blank = rw blank refl
-
 less_one : (n : ℕ) → 1 ≤ n → suc (n - 1) ≡ n
 less_one n le = omega arith
 
@@ -134,43 +128,42 @@ begins_named (x ∷ bs) kind width b name =
       ]
     ]
 
--- ---- the loop over the code of a line
+-- ---- the first token of a text
 
-pub record ReadUpTo (code : List ℕ) (at : ℕ) (ts : List Token) : Type 0 where
-  pub inside : at ≤ length code
-  pub same : words code ≡ words_of code ts ++ words (drop at code)
-  pub tokens : AreTokens code ts
-  pub few : length ts ≤ at
-
-pub read_none : (code : List ℕ) → ReadUpTo code 0 []
-read_none code = record { inside = omega arith; same = refl; tokens = tt; few = omega arith }
-
-drop_more : (code : List ℕ) (at n : ℕ) → drop n (drop at code) ≡ drop (at + n) code
-drop_more code at n = drop-drop n at code
-
-pub read_blank : (code : List ℕ) (at : ℕ) (ts : List Token) → ReadUpTo code at ts → at < length code → is_blank (get_or (drop at code) 0 0) ≡ true → ReadUpTo code (at + 1) ts
-read_blank code at ts h lt blank = record {
-  inside = omega arith;
-  same = h.same ∙ ap (λ (t : List Word). words_of code ts ++ t) (words_blank (drop at code) (omega (arith, length-drop at code)) blank ∙ ap words (drop_more code at 1));
-  tokens = h.tokens;
-  few = omega (arith, h.few);
-}
-
-pub read_token : (code : List ℕ) (at : ℕ) (ts : List Token) (kind : Kind) (width : ℕ) (t : Token) → ReadUpTo code at ts → at < length code → is_blank (get_or (drop at code) 0 0) ≡ false → Begins (drop at code) kind width → t.kind ≡ kind → t.at ≡ at → t.length ≡ width → ReadUpTo code (at + width) (ts ++ t ∷ [])
-read_token code at ts kind width t h lt blank b k a l =
-    let this : word_of code t ≡ word kind (take width (drop at code)) = rw (k, a, l) refl in
-    let here : words (drop at code) ≡ word_of code t ∷ words (drop (at + width) code) = words_token (drop at code) kind width blank b ∙ ap₂ (λ (w : Word) (ws : List Word). w ∷ ws) (sym this) (ap words (drop_more code at width)) in
-    let fits : at + width ≤ length code = omega (arith, b.inside, length-drop at code) in
-    let token : IsToken code t = record { inside = rw (a, l) fits; named = λ n. rw (a, l) (begins_named (drop at code) kind width b (rw k at n)) } in
-    record {
-      inside = fits;
-      same = h.same ∙ ap (λ (u : List Word). words_of code ts ++ u) here ∙ sym (append_assoc (words_of code ts) (word_of code t ∷ []) (words (drop (at + width) code))) ∙ ap (λ (u : List Word). u ++ words (drop (at + width) code)) (sym (map-append (word_of code) ts (t ∷ [])));
-      tokens = all_push (IsToken code) ts t h.tokens token;
-      few = let s = b.some in omega (arith, h.few, length-append ts (t ∷ []));
-    }
-
-pub read_all : (code : List ℕ) (at : ℕ) (ts : List Token) → ReadUpTo code at ts → length code ≤ at → words_of code ts ≡ words code
+words_skip : (text : List ℕ) → words text ≡ words (drop (prefix_len is_blank text) text)
 unfolding words_behind
-read_all code at ts h le =
-    let none : drop at code ≡ [] = drop_all at code le in
-    sym (h.same ∙ ap (λ (t : List ℕ). words_of code ts ++ words t) none ∙ append-nil (words_of code ts))
+words_skip [] = refl
+words_skip (b ∷ text) =
+    elim (cases_Bool (is_blank b)) [
+      | inl hit ↦ rw (hit, one_more) (words_skip text)
+      | inr miss ↦ rw (miss, miss) refl
+    ]
+
+no_blank_there : (text : List ℕ) → is_blank (get_or (drop (prefix_len is_blank text) text) 0 0) ≡ false
+no_blank_there [] = refl
+no_blank_there (b ∷ text) =
+    elim (cases_Bool (is_blank b)) [
+      | inl hit ↦ rw (hit, one_more) (no_blank_there text)
+      | inr miss ↦ rw (miss, miss) refl
+    ]
+
+no_words : (rest : List ℕ) → length rest ≡ 0 → words rest ≡ []
+unfolding words_behind
+no_words [] none = refl
+no_words (b ∷ rest) none = absurd (omega arith)
+
+pub takes_none : (text : List ℕ) (n : ℕ) → n ≡ prefix_len is_blank text → length (drop n text) ≡ 0 → words text ≡ []
+takes_none text n is none = words_skip text ∙ rw (← is) (no_words (drop n text) none)
+
+pub takes_token : (text : List ℕ) (n : ℕ) (kind : Kind) (width : ℕ) (bytes : Bor (List ℕ)) (rest : List ℕ) → n ≡ prefix_len is_blank text → Begins (drop n text) kind width → bytes.now ≡ take width (drop n text) → rest ≡ drop width (drop n text) → BeginsWith text (record { kind = kind; bytes = bytes }) rest
+takes_token text n kind width bytes rest is begins front back =
+    let free : is_blank (get_or (drop n text) 0 0) ≡ false = rw is (no_blank_there text) in
+    let skip : words text ≡ words (drop n text) = rw is (words_skip text) in
+    let len : length (take width (drop n text)) ≡ width = omega (arith, length-take width (drop n text), begins.inside) in
+    record {
+      words = rw (front, back) (skip ∙ words_token (drop n text) kind width free begins);
+      front = take n text;
+      whole = rw (front, back) (sym (ap (λ (t : List ℕ). take n text ++ t) (take-append-drop width (drop n text)) ∙ take-append-drop n text));
+      some = rw (front, len) begins.some;
+      named = λ name. rw front (begins_named (drop n text) kind width begins name);
+    }

@@ -1,42 +1,26 @@
 -- What contracts see of the tokens, the terms and the lines as they are read, and of the terms as they are written.
 -- Shapes: places in the code of a line count bytes from 0.
-use Rattle.std.specs.Prelude.{◌≡◌, ◌≤◌, ◌+◌, ◌⊎◌, min, not, ◌||◌, ℕ, zero, suc, Bool, true, false, Option, Some, None, Result, Ok, Err, IsTrue, List, [], ◌∷◌, ◌++◌, length, map, take, drop}
+use Rattle.std.specs.Prelude.{◌≡◌, ◌≤◌, ◌+◌, ◌==◌, ◌⊎◌, ◌&&◌, nat_le, min, ℕ, zero, suc, Bool, true, false, Option, Some, None, Result, Ok, Err, IsTrue, List, [], ◌∷◌, ◌++◌, length, take}
 use Rattle.std.specs.Borrow.{Bor}
-use Rattle.std.specs.List.{AllByRecursion}
-use Rattle.crn_vec.specs.Network.{Net, Statement, begins_name, amount_in}
-use Rattle.crn_vec.specs.declared.limits.TheConstants.{MAX_AMOUNT, MAX_TERMS}
+use Rattle.std.specs.List.{list_any, count_by}
+use Rattle.crn_vec.specs.Network.{Net, Statement, begins_name}
+use Rattle.crn_vec.specs.declared.limits.TheConstants.{MAX_AMOUNT, MAX_NAME}
 use Rattle.crn_net.specs.Terms.{name_at, side_of, IsSide}
 use Rattle.crn_net.specs.Grows.{Grown}
 use Rattle.crn_net.specs.declared.term.Term.{Term}
-use Rattle.crn_text.specs.Tokens.{Word, word, first_word, lines}
-use Rattle.crn_text.specs.Sides.{is_name, is_term, is_side, term_of, terms_of, statements_of, places, said, all_said}
-use Rattle.crn_text.specs.Faults.{terms_fault, sides_fault, words_fault, line_fault, statement_fault, statements_fault, or_else}
+use Rattle.crn_text.specs.Tokens.{Word, word, first_word, words, lines}
+use Rattle.crn_text.specs.Sides.{is_name, is_arrow, is_both, is_stray, is_term, term_of, terms_of, statements_of, said, all_said}
+use Rattle.crn_text.specs.Faults.{is_empty, sides_fault, words_fault, line_fault, statement_fault, statements_fault, or_else}
 use Rattle.crn_text.specs.declared.code.TextCode.{TextCode}
 use Rattle.crn_text.specs.declared.code.TextFault.{TextFault}
 use Rattle.crn_text.specs.Spells.{AreFaultless, IsFirstFault}
 use Rattle.crn_text.specs.declared.code.TextCode.TheVariants.{NoMemory}
+use Rattle.crn_text.specs.declared.arrow.Sides.{Sides}
 use Rattle.crn_text.specs.declared.token.Kind.{Kind}
 use Rattle.crn_text.specs.declared.token.Token.{Token}
 use Rattle.crn_text.specs.declared.side.TheConstants.{LARGE}
 
 -- ---- tokens
-
--- the token with its bytes in the code of a line
-abbrev pub word_of : List ℕ → Token → Word
-word_of code t = word t.kind (take t.length (drop t.at code))
-
--- the tokens with their bytes
-abbrev pub words_of : List ℕ → List Token → List Word
-words_of code ts = map (word_of code) ts
-
--- the token stands in the code, and one of the kind of names begins as a name
-pub record IsToken (code : List ℕ) (t : Token) : Type 0 where
-  pub inside : t.at + t.length ≤ length code
-  pub named : IsTrue (is_name (word_of code t)) → IsTrue (begins_name (word_of code t).text)
-
--- each stands in the code
-abbrev pub AreTokens : List ℕ → List Token → Type 0
-AreTokens code ts = AllByRecursion (IsToken code) ts
 
 -- the text begins with a token of this kind and length
 pub record Begins (rest : List ℕ) (kind : Kind) (width : ℕ) : Type 0 where
@@ -45,101 +29,91 @@ pub record Begins (rest : List ℕ) (kind : Kind) (width : ℕ) : Type 0 where
   pub some : 1 ≤ width
   pub inside : width ≤ length rest
 
+-- the token of the text with its bytes
+abbrev pub word_of : Token → Word
+word_of t = word t.kind t.bytes.now
+
+-- this is the first token of the text, and the rest stands behind it
+pub record BeginsWith (text : List ℕ) (t : Token) (rest : List ℕ) : Type 0 where
+  pub words : words text ≡ word_of t ∷ words rest
+  pub front : List ℕ
+  pub whole : text ≡ front ++ (t.bytes.now ++ rest)
+  pub some : 1 ≤ length t.bytes.now
+  pub named : IsTrue (is_name (word_of t)) → IsTrue (begins_name t.bytes.now)
+
+-- the first token of a text and what stands behind it, or none where the text has no token
+abbrev pub TakesToken : List ℕ → Option (Token × Bor (List ℕ)) → Type 0
+TakesToken text None = words text ≡ []
+TakesToken text (Some cut) = BeginsWith text cut.0 cut.1.now
+
+-- ---- cuts
+
+-- what is left behind a cut at a byte, with the byte
+abbrev pub behind_cut : ℕ → Option (Bor (List ℕ)) → List ℕ
+behind_cut byte None = []
+behind_cut byte (Some rest) = byte ∷ rest.now
+
+-- what stands before the first such byte, and behind it
+pub record CutsAt (byte : ℕ) (text front : List ℕ) (behind : Option (Bor (List ℕ))) : Type 0 where
+  pub whole : text ≡ front ++ behind_cut byte behind
+  pub apart : list_any (λ b. b == byte) front ≡ false
+
+-- the piece stands in the text and ends at this place
+pub record StandsIn (text piece : List ℕ) (end : ℕ) : Type 0 where
+  pub front : List ℕ
+  pub back : List ℕ
+  pub is : text ≡ front ++ (piece ++ back)
+  pub ends : length front + length piece ≡ end
+
+-- the tokens of a line's code are those of a side, an arrow and those of another one
+pub record PartsAt (code : List ℕ) (s : Sides) : Type 0 where
+  pub arrow : Word
+  pub joins : IsTrue (is_arrow arrow)
+  pub both : is_both arrow ≡ s.both
+  pub tokens : words code ≡ words s.left.now ++ arrow ∷ words s.right.now
+  pub left : StandsIn code s.left.now (length s.left.now)
+  pub right : StandsIn code s.right.now (length code)
+
+-- the sides of a line's code, or none where it has no arrow or a stray mark
+abbrev pub CutsArrow : List ℕ → Option Sides → Type 0
+CutsArrow code None = (count_by is_arrow (words code) ≡ 0) ⊎ IsTrue (list_any is_stray (words code))
+CutsArrow code (Some s) = PartsAt code s
+
 -- ---- sides
-
--- how much of a list is left to be cut, with 1 for the cut before it
-abbrev pub size_left : {A : Type 0} → Option (Bor (List A)) → ℕ
-size_left None = 0
-size_left (Some rest) = suc (length rest.now)
-
--- the places of the tokens that are left
-abbrev pub places_left : List ℕ → Option (Bor (List Token)) → List (List Word)
-places_left code None = []
-places_left code (Some rest) = places (words_of code rest.now)
-
--- each of those that are left stands in the code
-abbrev pub AreTokensLeft : List ℕ → Option (Bor (List Token)) → Type 0
-AreTokensLeft code None = Unit {0}
-AreTokensLeft code (Some rest) = AreTokens code rest.now
-
--- the first place of these tokens and what is left behind it
-pub record CutsPlace (side place : List Token) (next : Option (Bor (List Token))) : Type 0 where
-  pub size : length place + size_left next ≡ length side
-  pub places : (code : List ℕ) → places (words_of code side) ≡ words_of code place ∷ places_left code next
-  pub kept : (code : List ℕ) → AreTokens code side → AreTokens code place × AreTokensLeft code next
-
--- a number that passes the limit of an amount counts as one more than the limit
-abbrev pub capped : List ℕ × ℕ → List ℕ × ℕ
-capped t = (t.0, min t.1 LARGE)
 
 -- the term stands in the code and begins as a name
 pub record IsSpelled (code : List ℕ) (t : Term) : Type 0 where
   pub inside : t.at + t.length ≤ length code
   pub named : IsTrue (begins_name (name_at code t))
 
--- each stands in the code and begins as a name
-abbrev pub AreSpelled : List ℕ → List Term → Type 0
-AreSpelled code terms = AllByRecursion (IsSpelled code) terms
-
--- no number passes the limit of an amount
-abbrev pub HasSmallNumbers : List Term → Type 0
-HasSmallNumbers terms = AllByRecursion (λ t. t.count ≤ MAX_AMOUNT) terms
-
--- no name has a sum that passes the limit of an amount
-abbrev pub HasSmallSums : List ℕ → List Term → Type 0
-HasSmallSums code terms = (name : List ℕ) → amount_in (side_of code terms) name ≤ MAX_AMOUNT
-
 -- what stands in a place, as a term of the code
-abbrev pub ReadsTerm : List ℕ → List Token → Option Term → Type 0
-ReadsTerm code place None = is_term (words_of code place) ≡ false
-ReadsTerm code place (Some t) = IsTrue (is_term (words_of code place)) × IsSpelled code t × (name_at code t ≡ (term_of (words_of code place)).0) × (t.count ≡ min (term_of (words_of code place)).1 LARGE)
+abbrev pub ReadsTerm : List ℕ → List ℕ → Option Term → Type 0
+ReadsTerm code place None = is_term (words place) ≡ false
+ReadsTerm code place (Some t) = IsTrue (is_term (words place)) × IsSpelled code t × (name_at code t ≡ (term_of (words place)).0) × (t.count ≡ min (term_of (words place)).1 LARGE)
 
--- a name as a term with this number
-abbrev pub NamesTerm : List ℕ → ℕ → Token → Option Term → Type 0
-NamesTerm code count name None = is_name (word_of code name) ≡ false
-NamesTerm code count name (Some t) = IsTrue (is_name (word_of code name)) × IsSpelled code t × (name_at code t ≡ (word_of code name).text) × (t.count ≡ count)
+-- a token that nothing follows, as a term with this number, where it is a name
+abbrev pub NamesTerm : List ℕ → ℕ → Token → List ℕ → Option Term → Type 0
+NamesTerm code count name rest None = (is_name (word_of name) && is_empty (words rest)) ≡ false
+NamesTerm code count name rest (Some t) = IsTrue (is_name (word_of name) && is_empty (words rest)) × IsSpelled code t × (name_at code t ≡ name.bytes.now) × (t.count ≡ count)
 
--- the terms of the code are these
-pub record HasTerms (code : List ℕ) (terms : List Term) (side : List (List ℕ × ℕ)) : Type 0 where
-  pub spelled : AreSpelled code terms
-  pub same : side_of code terms ≡ map capped side
-  pub few : length terms ≤ MAX_TERMS
+-- the name and the number of a term are within their limits
+abbrev pub is_within : Term → Bool
+is_within t = nat_le t.length MAX_NAME && (nat_le 1 t.count && nat_le t.count MAX_AMOUNT)
 
--- the terms of a side, or no where it isn't one
-abbrev pub ReadsSide : {E : Type 0} → List ℕ → List Token → List Term → Result Bool E → Type 0
-ReadsSide code side terms (Ok true) = IsTrue (is_side (words_of code side)) × HasTerms code terms (terms_of (words_of code side))
-ReadsSide code side terms (Ok false) = is_side (words_of code side) ≡ false
+-- the terms of a side that passes all tests, or no where it fails one
+abbrev pub ReadsSide : {E : Type 0} → List ℕ → List ℕ → List Term → Result Bool E → Type 0
+ReadsSide code side terms (Ok true) = (sides_fault (words side ∷ []) ≡ None) × IsSide code terms × (side_of code terms ≡ terms_of (words side))
+ReadsSide code side terms (Ok false) = sides_fault (words side ∷ []) ≡ None → ⊥
 ReadsSide code side terms (Err error) = Unit {0}
 
--- the terms of two sides, or no where one of them isn't a side
-abbrev pub ReadsBoth : {E : Type 0} → List ℕ → List Token → List Token → List Term → List Term → Result Bool E → Type 0
-ReadsBoth code before after left right (Ok true) =
-    IsTrue (is_side (words_of code before)) × IsTrue (is_side (words_of code after)) × HasTerms code left (terms_of (words_of code before)) × HasTerms code right (terms_of (words_of code after))
-ReadsBoth code before after left right (Ok false) = IsTrue (not (is_side (words_of code before)) || not (is_side (words_of code after)))
-ReadsBoth code before after left right (Err error) = Unit {0}
-
--- two sides of terms that pass the tests of names and numbers, or the first test that they fail
-abbrev pub ChecksTerms : List ℕ → List Term → List Term → Result Unit TextCode → Type 0
-ChecksTerms code left right (Ok done) = (terms_fault (side_of code left ∷ side_of code right ∷ []) ≡ None) × IsSide code left × IsSide code right
-ChecksTerms code left right (Err fault) = (fault ≡ NoMemory) ⊎ (terms_fault (side_of code left ∷ side_of code right ∷ []) ≡ Some fault)
-
--- the sides of a line as terms, or the first test of them that fails
-abbrev pub ReadsSides : List ℕ → List Token → List Token → List Term → List Term → Result Unit TextCode → Type 0
-ReadsSides code before after left right (Ok done) =
-    (sides_fault (words_of code before ∷ words_of code after ∷ []) ≡ None) × IsSide code left × IsSide code right × (side_of code left ≡ terms_of (words_of code before)) × (side_of code right ≡ terms_of (words_of code after))
-ReadsSides code before after left right (Err fault) = (fault ≡ NoMemory) ⊎ (sides_fault (words_of code before ∷ words_of code after ∷ []) ≡ Some fault)
+-- the terms of two sides that pass all tests, or no where one of them fails one
+abbrev pub ReadsSides : {E : Type 0} → List ℕ → List ℕ → List ℕ → List Term → List Term → Result Bool E → Type 0
+ReadsSides code left right x y (Ok true) =
+    (sides_fault (words left ∷ words right ∷ []) ≡ None) × IsSide code x × IsSide code y × (side_of code x ≡ terms_of (words left)) × (side_of code y ≡ terms_of (words right))
+ReadsSides code left right x y (Ok false) = sides_fault (words left ∷ words right ∷ []) ≡ None → ⊥
+ReadsSides code left right x y (Err error) = Unit {0}
 
 -- ---- lines
-
--- the lines of what is left of a text
-abbrev pub lines_left : Option (Bor (List ℕ)) → List (List ℕ)
-lines_left None = []
-lines_left (Some rest) = lines rest.now
-
--- the first line of a text and what is left behind it
-pub record CutsLine (text line : List ℕ) (next : Option (Bor (List ℕ))) : Type 0 where
-  pub size : length line + size_left next ≡ length text
-  pub lines : lines text ≡ line ∷ lines_left next
 
 -- a statement joins those before it in the network, or is its first fault
 abbrev pub StatementGives : List Statement → Statement → Result Unit TextCode → Net → Type 0

@@ -1,13 +1,14 @@
 //! Network texts: the network that a text spells, or its first fault, and the canonical text of a network.
 #![tactic(auto)]
 
-mod check;
+mod arrow;
 mod code;
+mod cut;
+mod fault;
 mod laws;
 mod line;
 mod reader;
 mod side;
-mod sums;
 #[cfg(test)]
 mod tests;
 mod token;

@@ -1,16 +1,20 @@
-ghost use Rattle.std.specs.Prelude.{◌≡◌, ◌≤◌, ℕ, List, length, min, not};
-ghost use Rattle.std.specs.List.{prefix_len};
-ghost use Rattle.crn_text.specs.Sides.{is_plus_kind, is_zero, number_of};
-ghost use Rattle.crn_text.specs.Faults.{has_empty_place};
-ghost use Rattle.crn_text.specs.Pieces.{words_of, IsToken, AreTokens, CutsPlace, NamesTerm, ReadsTerm, ReadsSide};
+ghost use Rattle.std.specs.Prelude.{◌≡◌, ◌≤◌, ◌+◌, ℕ, List, length, min};
+ghost use Rattle.crn_text.specs.Tokens.{words};
+ghost use Rattle.crn_text.specs.Sides.{is_zero, number_of};
+ghost use Rattle.crn_text.specs.Pieces.{StandsIn, BeginsWith, NamesTerm, ReadsTerm, is_within, ReadsSide};
 
-use crate::token::Token;
-use crn_net::Term;
-use crn_vec::{MAX_AMOUNT, MAX_TEXT};
+use crate::cut::cut_at;
+use crate::token::{Token, next_token};
+use crn_net::{Term, sums_fit};
+use crn_vec::{MAX_AMOUNT, MAX_NAME, MAX_TEXT};
 use std::alloc::AllocError;
 
 /// What a number that passes the limit of an amount counts as.
 pub const LARGE: u32 = MAX_AMOUNT + 1;
+
+// From how many terms on the sums of a side are tried while it is read. No side of a network has so many: 40
+// species with amounts of 99 are 3,960 terms at most.
+const MANY_TERMS: usize = 4096;
 
 // The number that digits write, as far as it doesn't pass the limit of an amount.
 fn number(digits: &[u8]) -> u32
@@ -23,100 +27,91 @@ fn number(digits: &[u8]) -> u32
     number
 }
 
-// How many tokens stand before the first plus sign.
-fn before_plus(side: &[Token]) -> usize
-    ensures { result ≡ prefix_len (λ t. not (is_plus_kind t.kind)) side.now }
+/// Whether a side is the single number zero.
+pub fn is_single_zero(side: &[u8]) -> bool
+    ensures { result ≡ is_zero (words side.now) }
 {
-    side.iter().take_while(|t| !t.is_plus()).count()
-}
-
-// The tokens before the first plus sign, and those behind it.
-fn cut_place(side: &[Token]) -> (&[Token], Option<&[Token]>)
-    ensures { CutsPlace side.now result.0.now result.1 }
-{
-    let (place, rest) = side.split_at(before_plus(side));
-    match rest.split_first() {
-        None => (place, None),
-        Some((_plus, next)) => (place, Some(next)),
-    }
-}
-
-/// Whether some place for a term has no token.
-pub fn lacks_term(side: &[Token]) -> bool
-    ensures { (code : List ℕ) → result ≡ has_empty_place (words_of code side.now) }
-{
-    let mut left = Some(side);
-    'places: while let Some(rest) = left {
-        let (place, next) = cut_place(rest);
-        if place.is_empty() {
-            return true;
+    match next_token(side) {
+        None => false,
+        Some((token, rest)) => {
+            token.is_number() && number(token.bytes) == 0 && next_token(rest).is_none()
         }
-        left = next;
-    }
-    false
-}
-
-// Whether a side is the single number zero.
-fn is_single_zero(code: &[u8], side: &[Token]) -> bool
-    requires { AreTokens code.now side.now }
-    ensures { result ≡ is_zero (words_of code.now side.now) }
-{
-    match side {
-        [token] => token.is_number() && number(token.bytes(code)) == 0,
-        _ => false,
     }
 }
 
-// The term of a name, with a number before it.
-fn named(count: u32, name: &Token) -> Option<Term>
-    ensures { (code : List ℕ) → IsToken code name.now → NamesTerm code count name.now result }
+// The term of a token that ends a place, where it is a name. The place ends at `end` in the code.
+fn named(count: u32, name: &Token<'_>, rest: &[u8], end: usize) -> Option<Term>
+    requires short { end ≤ MAX_TEXT }
+    requires inside { length name.now.bytes.now + length rest.now ≤ end }
+    ensures { (code text : List ℕ) → StandsIn code text end → BeginsWith text name.now rest.now → NamesTerm code count name.now rest.now result }
 {
-    if !name.is_name() {
+    if !name.is_name() || next_token(rest).is_some() {
         return None;
     }
+    let length = name.bytes.len();
     Some(Term {
-        at: name.at,
-        length: name.length,
+        at: (end - rest.len() - length) as u32,
+        length: length as u32,
         count,
     })
 }
 
-// The term that stands in a place.
-fn term_at(code: &[u8], place: &[Token]) -> Option<Term>
-    requires { AreTokens code.now place.now }
-    ensures { ReadsTerm code.now place.now result }
+/// The term that stands in a place, which ends at `end` in the code.
+pub fn read_term(place: &[u8], end: usize) -> Option<Term>
+    requires short { end ≤ MAX_TEXT }
+    requires inside { length place.now ≤ end }
+    ensures { (code : List ℕ) → StandsIn code place.now end → ReadsTerm code place.now result }
 {
-    match place {
-        [name] => named(1, name),
-        [digits, name] => {
-            if !digits.is_number() {
-                return None;
-            }
-            named(number(digits.bytes(code)), name)
-        }
-        _ => None,
+    let (first, rest) = next_token(place)?;
+    if !first.is_number() {
+        return named(1, &first, rest, end);
     }
+    let (name, behind) = next_token(rest)?;
+    named(number(first.bytes), &name, behind, end)
 }
 
-/// The terms of a side in place of those in the buffer, or no where it has a place that holds no term.
-pub fn read_terms(code: &[u8], side: &[Token], terms: &mut Vec<Term>) -> Result<bool, AllocError>
-    requires tokens { AreTokens code.now side.now }
+// Whether the name and the number of a term are within their limits.
+fn is_within_limits(term: &Term) -> bool
+    ensures { result ≡ is_within term.now }
+{
+    term.length as usize <= MAX_NAME && 1 <= term.count && term.count <= MAX_AMOUNT
+}
+
+// Whether the sums of the terms are to be tried now: at so many terms, and each time there are twice as many.
+fn have_doubled(terms: &[Term]) -> bool {
+    terms.len() >= MANY_TERMS && terms.len().is_power_of_two()
+}
+
+/// The terms of a side, which ends at `end` in the code, in place of those in the buffer, or no where the side
+/// fails a test. After a no or an error the buffer holds some terms or none.
+///
+/// A side of few names that repeats them too often is given up early: where sums pass the limit, a side of n names
+/// puts no more than 4,096 terms into the buffer, or 200 n where that is more.
+pub fn read_side(
+    code: &[u8],
+    side: &[u8],
+    end: usize,
+    terms: &mut Vec<Term>,
+) -> Result<bool, AllocError>
     requires short { length code.now ≤ MAX_TEXT }
-    requires few { length side.now ≤ length code.now }
+    requires stands { StandsIn code.now side.now end }
     ensures { ReadsSide code.now side.now terms.new.items result }
 {
     terms.clear();
-    if is_single_zero(code, side) {
+    if is_single_zero(side) {
         return Ok(true);
     }
     let mut left = Some(side);
     'places: while let Some(rest) = left {
-        let (place, next) = cut_place(rest);
-        match term_at(code, place) {
-            None => return Ok(false),
-            Some(term) => terms.push(term)?,
+        let (place, behind) = cut_at(rest, b'+');
+        match read_term(place, end - rest.len() + place.len()) {
+            Some(term) if is_within_limits(&term) => terms.push(term)?,
+            _ => return Ok(false),
         }
-        left = next;
+        if have_doubled(terms) && !sums_fit(*terms.allocator(), code, terms)? {
+            return Ok(false);
+        }
+        left = behind;
     }
-    Ok(true)
+    sums_fit(*terms.allocator(), code, terms)
 }

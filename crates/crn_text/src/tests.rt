@@ -222,6 +222,73 @@ fn forty_species_are_the_most(rt: HostRuntime) -> Result<(), Fail> {
     Ok(())
 }
 
+// So many terms of A, and one of another name or number, joined by plus signs.
+fn put_long_side(text: &mut Vec<u8>, count: u32, last: &[u8]) -> Result<(), AllocError> {
+    for _ in 0..count {
+        text.extend_from_slice(b"A+")?;
+    }
+    text.extend_from_slice(last)
+}
+
+#[test]
+fn a_side_of_very_many_terms_has_the_first_fault_of_its_line(rt: HostRuntime) -> Result<(), Fail> {
+    let cases = [
+        ("its sum alone", b"A -> B".as_slice(), 17),
+        ("a zero behind it", b"A -> 0B", 16),
+        (
+            "a long name behind it",
+            b"A -> aaaaaaaaaaaaaaaaaaaaaaaaaaaaaaaaa",
+            15,
+        ),
+        ("two names at its end", b"A B -> C", 14),
+        ("no product", b"A ->", 13),
+        ("no term at its end", b"-> B", 13),
+        ("a stray mark at its end", b"= -> B", 18),
+        ("a second arrow", b"A -> B -> C", 18),
+        ("no arrow", b"A", 12),
+    ];
+    let mut text = Vec::new(rt.alloc());
+    for (name, end, want) in cases {
+        for count in [4_095, 10_000] {
+            text.clear();
+            put_long_side(&mut text, count, end)?;
+            assert_eq!(rt; refusal(&rt, &text), (1, want), "{name}");
+        }
+    }
+    Ok(())
+}
+
+// So many rounds of as many names, joined by plus signs, on the one side of a line.
+fn put_rounds(text: &mut Vec<u8>, rounds: u32, names: u32) -> Result<(), AllocError> {
+    for round in 0..rounds {
+        for s in 0..names {
+            let mut buffer = Buffer::new();
+            if round != 0 || s != 0 {
+                text.extend_from_slice(b"+")?;
+            }
+            text.extend_from_slice(b"S")?;
+            text.extend_from_slice(buffer.format(s).as_bytes())?;
+        }
+    }
+    text.extend_from_slice(b" -> 0\n")
+}
+
+#[test]
+fn sums_of_very_many_terms_are_tried_as_they_are_read(rt: HostRuntime) -> Result<(), Fail> {
+    let mut text = Vec::new(rt.alloc());
+    let cases = [
+        ("the longest side of a network", 99, 40, (0, 0)),
+        ("sums of 100", 100, 41, (1, 17)),
+        ("too many names within the limit", 99, 42, (1, 2)),
+    ];
+    for (name, rounds, names, want) in cases {
+        text.clear();
+        put_rounds(&mut text, rounds, names)?;
+        assert_eq!(rt; refusal(&rt, &text), want, "{name}");
+    }
+    Ok(())
+}
+
 #[test]
 fn a_text_has_no_more_bytes_than_the_limit(rt: HostRuntime) -> Result<(), Fail> {
     let mut text = Vec::new(rt.alloc());

@@ -1,12 +1,9 @@
-ghost use Rattle.std.specs.Prelude.{◌≡◌, ◌≤◌, ◌<◌, OnOk, length};
+ghost use Rattle.std.specs.Prelude.{◌≡◌, ◌<◌, length};
 ghost use Rattle.std.specs.List.{prefix_len};
 ghost use Rattle.crn_vec.specs.Network.{is_letter, is_name_byte};
-ghost use Rattle.crn_text.specs.Tokens.{is_blank, is_digit, words};
-ghost use Rattle.crn_text.specs.Sides.{is_number_kind, is_name_kind, is_plus_kind, is_arrow_kind, is_both_kind, is_stray_kind};
-ghost use Rattle.crn_text.specs.Pieces.{word_of, words_of, IsToken, AreTokens, Begins};
-
-use crn_vec::MAX_TEXT;
-use std::alloc::AllocError;
+ghost use Rattle.crn_text.specs.Tokens.{is_blank, is_digit};
+ghost use Rattle.crn_text.specs.Sides.{is_number_kind, is_name_kind, is_arrow_kind, is_stray_kind};
+ghost use Rattle.crn_text.specs.Pieces.{Begins, TakesToken};
 
 /// The kind of a token of a network text.
 #[derive(Clone, Copy, Debug, PartialEq, Eq)]
@@ -22,15 +19,14 @@ pub enum Kind {
     Stray,
 }
 
-/// A token of a line: its kind, and its place in the line's code with its length, in bytes.
+/// A token of a text: its kind and its bytes.
 #[derive(Clone, Copy)]
-pub struct Token {
+pub struct Token<'a> {
     pub kind: Kind,
-    pub at: u32,
-    pub length: u32,
+    pub bytes: &'a [u8],
 }
 
-impl Token {
+impl Token<'_> {
     pub fn is_number(&self) -> bool
         ensures { result ≡ is_number_kind self.now.kind }
     {
@@ -43,32 +39,10 @@ impl Token {
         matches!(self.kind, Kind::Name)
     }
 
-    pub fn is_plus(&self) -> bool
-        ensures { result ≡ is_plus_kind self.now.kind }
-    {
-        matches!(self.kind, Kind::Plus)
-    }
-
     pub fn is_arrow(&self) -> bool
         ensures { result ≡ is_arrow_kind self.now.kind }
     {
         matches!(self.kind, Kind::Arrow | Kind::BothWays)
-    }
-
-    pub fn is_both(&self) -> bool
-        ensures { result ≡ is_both_kind self.now.kind }
-    {
-        matches!(self.kind, Kind::BothWays)
-    }
-
-    /// The token's bytes in the code that it was read from.
-    pub fn bytes<'a>(&self, code: &'a [u8]) -> &'a [u8]
-        requires { IsToken code.now self.now }
-        ensures { result.now ≡ (word_of code.now self.now).text }
-    {
-        let (_, rest) = code.split_at(self.at as usize);
-        let (bytes, _) = rest.split_at(self.length as usize);
-        bytes
     }
 
     pub fn is_stray(&self) -> bool
@@ -140,28 +114,22 @@ fn first_token(rest: &[u8]) -> (Kind, usize)
     (Kind::Stray, 1)
 }
 
-/// The tokens of a line's code in place of those in the buffer.
-pub fn read_tokens(code: &[u8], tokens: &mut Vec<Token>) -> Result<(), AllocError>
-    requires { length code.now ≤ MAX_TEXT }
-    ensures words { OnOk result (words_of code.now tokens.new.items ≡ words code.now) }
-    ensures tokens { OnOk result (AreTokens code.now tokens.new.items) }
-    ensures few { OnOk result (length tokens.new.items ≤ length code.now) }
+// How many blanks stand at the front.
+fn blanks(text: &[u8]) -> usize
+    ensures { result ≡ prefix_len is_blank text.now }
 {
-    tokens.clear();
-    let mut at = 0;
-    'read: while at < code.len() {
-        let (_, rest) = code.split_at(at);
-        if is_blank_byte(rest[0]) {
-            at += 1;
-            continue;
-        }
-        let (kind, width) = first_token(rest);
-        tokens.push(Token {
-            kind,
-            at: at as u32,
-            length: width as u32,
-        })?;
-        at += width;
+    text.iter().take_while(|b| is_blank_byte(**b)).count()
+}
+
+/// The first token of a text, and what stands behind it; none where the text has no token.
+pub fn next_token(text: &[u8]) -> Option<(Token<'_>, &[u8])>
+    ensures { TakesToken text.now result }
+{
+    let (_, rest) = text.split_at(blanks(text));
+    if rest.is_empty() {
+        return None;
     }
-    Ok(())
+    let (kind, width) = first_token(rest);
+    let (bytes, behind) = rest.split_at(width);
+    Some((Token { kind, bytes }, behind))
 }

@@ -1,5 +1,8 @@
-use Rattle.std.proofs.lemmas.List.Sums.{prefix_len-le-length}
+use Rattle.std.proofs.Common.{ℕ, List, eqb, ap, ◌∙◌}
+use Rattle.std.specs.Prelude.{not}
+use Rattle.std.specs.List.{take_while}
+use Rattle.crn_text.proofs.Cuts.{cut_front}
 use Rattle.crn_text.proofs.line.code_of.Goals as goal
 
-pub split_at-requires : goal.split_at-requires
-split_at-requires c = rw c.before_mark.ensures (prefix_len-le-length _ c.without_cr-whole.result.now)
+pub returns : goal.returns
+returns c = cut_front 35 _ _ _ c.cut_at.ensures ∙ ap (λ (t : List ℕ). take_while (λ b. not (eqb b 35)) t) c.without_cr.ensures

@@ -10,5 +10,5 @@ returns-then-not-are_plain c = λ before grown.
 
 pub returns : goal.returns
 returns c = λ before grown.
-    let read = rw (c.deref.ensures.value, c.in_ok-read_tokens.ensures.words, c.code_of-code.ensures) at c.read_statement.ensures before grown in
-    line_gives before c.args.line.now c.read_statement.result _ (ap (list_all is_plain) (sym c.code_of-code.ensures) ∙ sym c.are_plain.ensures ∙ c.if-not-are_plain.false) read
+    let read = rw c.code_of-code.ensures at (c.read_code.ensures before grown) in
+    line_gives before c.args.line.now c.read_code.result _ (ap (list_all is_plain) (sym c.code_of-code.ensures) ∙ sym c.are_plain.ensures ∙ c.if-not-are_plain.false) read

@@ -1,10 +1,13 @@
-use Rattle.std.proofs.Common.{◌≡◌, true, sym, ◌∙◌, rules}
-use Rattle.crn_text.proofs.SidesRead.{reads_sides}
+use Rattle.crn_text.specs.Tokens.{words}
+use Rattle.crn_text.proofs.SidesRead.{left_fails, reads_sides}
 use Rattle.crn_text.proofs.line.Terms.read.Goals as goal
+
+pub returns-then-not-branch : goal.returns-then-not-branch
+returns-then-not-branch c =
+    let fails = rw c.if-not-branch.true at c.in_ok-read_side.ensures in
+    left_fails (words c.args.sides.now.left.now) (words c.args.sides.now.right.now) fails
 
 pub returns : goal.returns
 returns c =
-    let yes : c.in_ok-fill.field-0 ≡ true = search rules in
-    let both = rw yes at c.in_ok-fill.ensures in
-    let tests = rw (c.deref.ensures.value, c.deref-2.ensures.value) at c.check_terms.ensures in
-    reads_sides c.args.code.now c.args.left.now c.args.right.now c.fill.new.self.left.items c.fill.new.self.right.items c.check_terms.result (sym (c.lack_terms.ensures c.args.code.now) ∙ c.if-lack_terms.false) both.0 both.1 both.2 both.3 tests
+    let left = rw c.if-not-branch.false at c.in_ok-read_side.ensures in
+    reads_sides c.args.code.now c.args.sides.now.left.now c.args.sides.now.right.now c.read_side.new.terms.items c.read_side-2.new.terms.items c.read_side-2.result left c.read_side-2.ensures

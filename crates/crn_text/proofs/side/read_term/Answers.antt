@@ -1,0 +1,17 @@
+use Rattle.std.proofs.Common.{rules}
+use Rattle.crn_text.proofs.Terms.{stands_rest, reads_name, reads_number}
+use Rattle.crn_text.proofs.side.read_term.Goals as goal
+
+pub returns-then-not-is_number : goal.returns-then-not-is_number
+returns-then-not-is_number c =
+    let first = c.in_ok-first in
+    let begins = first.ensures in
+    λ code h. reads_name code c.args.place.now first.first first.rest.now c.named.result begins (search rules) (c.named.ensures code c.args.place.now h begins)
+
+pub returns : goal.returns
+returns c =
+    let first = c.in_ok-first in
+    let begins = first.ensures in
+    let name = c.in_ok-name in
+    λ code h.
+    reads_number code c.args.place.now first.first name.name first.rest.now name.behind.now c.number.result c.named-2.result begins name.ensures (search rules) c.number.ensures (c.named-2.ensures code first.rest.now (stands_rest code c.args.place.now c.args.end first.first first.rest.now h begins) name.ensures)

@@ -1,9 +1,0 @@
-use Rattle.crn_text.specs.Pieces.{size_left}
-use Rattle.crn_text.proofs.Terms.{TermsUpTo}
-use Rattle.crn_text.proofs.side.read_terms.Given as goal
-
-abbrev pub invariant-places : goal.invariant-places
-invariant-places l = TermsUpTo l.code l.side l.terms.items l.left
-
-abbrev pub decreases-places : goal.decreases-places
-decreases-places l = size_left l.left
