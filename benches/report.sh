@@ -10,8 +10,11 @@ status=0
 [ $status -eq 4 ] || exit 1
 
 exec python3 - "${CRNT_PROGRAM:-crates/crnt/out/crnt}" "${1:-10}" <<'PYTHON'
+import itertools
 import os
 import platform
+import random
+import string
 import subprocess
 import sys
 import tempfile
@@ -37,6 +40,23 @@ def last_place():
     return head + lines[-1] * ((MAX_TEXT - len(head)) // len(lines[-1]))
 
 
+def short_names(limit):
+    """As many different names as can be joined in so many bytes, the shortest first."""
+    letters = string.ascii_letters + "_"
+    names, size = [], -1
+    for length in itertools.count():
+        for first, *rest in itertools.product(letters, *[letters + string.digits] * length):
+            size += length + 2
+            if size > limit:
+                return names
+            names.append(first + "".join(rest))
+
+
+def joined_shuffled(names, seed=1):
+    """The names joined by plus signs, in an order that has nothing to do with theirs."""
+    return "+".join(random.Random(seed).sample(names, len(names)))
+
+
 side = "+".join(f"S{i}" for i in range(1, 41))
 names = "+".join(f"x{i}" for i in range(120_000))
 pairs = [f"X{i} -> X{j}\n" for i in range(12) for j in range(12) if i != j]
@@ -52,6 +72,13 @@ CASES = [
     ("one line of 40 species repeated up to the limit", f"{side} -> 0\n" * (MAX_TEXT // len(f"{side} -> 0\n"))),
     ("a comment up to the limit", "A -> B\n#" + "c" * (MAX_TEXT - 8)),
     ("one line, the same 120,000 names on both sides", f"{names} -> {names}\n"),
+    ("one side of as many different names as there is room for", joined_shuffled(short_names(MAX_TEXT - 4)) + "->0\n"),
+    ("as many names as there is room for twice, on both sides",
+     "->".join(joined_shuffled(short_names(MAX_TEXT // 2 - 2), seed) for seed in (1, 2)) + "\n"),
+    ("as many names as there is room for 4 times, each twice on both sides",
+     "->".join(joined_shuffled(2 * short_names(MAX_TEXT // 4 - 2), seed) for seed in (1, 2)) + "\n"),
+    ("as many names as there is room for 198 times, each 99 times on both sides",
+     "->".join(joined_shuffled(99 * short_names(MAX_TEXT // 198 - 2), seed) for seed in (1, 2)) + "\n"),
     ("99 complexes of 40 species that differ in the last one, the last line repeated", last_place()),
 ]
 
