@@ -5,14 +5,14 @@ use Rattle.std.specs.Result.{MatchResult}
 use Rattle.std.proofs.lemmas.Int.{ints}
 use Rattle.std.proofs.lemmas.List.{get_or-drop, get_or-replicate, length-replicate}
 use Rattle.std.proofs.lemmas.Bool.{false≢true}
+use Rattle.crn_vec.specs.declared.limits.TheConstants.{MAX_SIGNED}
 use Rattle.crn_vec.specs.declared.signs.Kind.{Kind}
 use Rattle.crn_vec.specs.declared.signs.Kind.TheVariants.{Pos, Neg, NonNeg, Zero, Free}
 use Rattle.crn_vec.specs.Vectors.{Mat, entry}
 use Rattle.crn_vec.specs.Lists.{IsIn}
 use Rattle.crn_vec.specs.Elementary.{width, IsNamedRow}
-use Rattle.crn_vec.specs.Systems.{HasKind, MayTake, MayWeigh, kind_at, HasOneRowCut, signed_count, HasSigned}
+use Rattle.crn_vec.specs.Systems.{HasKind, MayTake, kind_at, HasOneRowCut, signed_count, HasSigned}
 use Rattle.crn_vec.proofs.Entries.{eq_or, lt_or, past_end, zip_from}
-use Rattle.crn_vec.proofs.Cuts.{kinds_at}
 use Rattle.crn_vec.proofs.KindLaws.{kind_from, take_zero}
 use Rattle.crn_vec.proofs.Null.{dot-zero, Zero as AllZero}
 use Rattle.crn_farkas.specs.declared.stop.Stop.{Stop}
@@ -21,7 +21,8 @@ use Rattle.crn_farkas.specs.declared.decision.Decision.{Decision}
 use Rattle.crn_farkas.specs.Views.{is_early_kind, level_of, level_count}
 use Rattle.crn_farkas.specs.Decides.{HasKeptCut, IsSmallSolution}
 use Rattle.crn_farkas.specs.Ends.{IsPartSum, AreZeros, IsDecision, IsGoalStop, IsTargetStop, IsNearStop, IsStop, IsRuledOut}
-use Rattle.crn_farkas.proofs.PartSums.{part_bound, push_in, push_last, in_push}
+use Rattle.crn_tab.proofs.Numbers.{push_in, push_last, in_push}
+use Rattle.crn_farkas.proofs.PartSums.{part_bound}
 
 -- a list filled with zeros
 pub all_zeros : (n : ℕ) (v : List ℤ) → v ≡ replicate n (pos 0) → AreZeros n v
@@ -46,7 +47,7 @@ part_none a kinds v long z = record {
   small = λ k. let e : unsigned_abs (entry v k) ≡ 0 = ap unsigned_abs (z.zero k) in omega (arith, e);
 }
 
-pub solution_from : (a : Mat) (kinds : List Kind) (v x : List ℤ) → length kinds ≡ width a → signed_count kinds ≤ 239 → IsPartSum a kinds (length kinds) v → x ≡ take a.cols v → IsSmallSolution a kinds x
+pub solution_from : (a : Mat) (kinds : List Kind) (v x : List ℤ) → length kinds ≡ width a → signed_count kinds ≤ MAX_SIGNED → IsPartSum a kinds (length kinds) v → x ≡ take a.cols v → IsSmallSolution a kinds x
 solution_from a kinds v x long few p e = record {
   v = v;
   solves = record {
@@ -159,7 +160,7 @@ one_row_kept a basis kinds law h =
             ap (λ (m : ℕ). entry w m) (sym e) ∙ at j ∙ h.single.others j (λ f. ne (sym e ∙ ap (λ (m : ℕ). n + m) f))
       ];
     } in
-    record { e = n + h.i; w = w; named = named; rules = (kinds_at MayWeigh kinds w refl cut.each, cut.some) }
+    record { e = n + h.i; w = w; named = named; rules = (w, record { space = cut.space; rows = refl; each = cut.each; some = cut.some }) }
 
 -- what a new solver says
 pub decision_from : (a : Mat) (kinds : List Kind) (r : Result Decision Stop) → MatchResult r (λ (d : Decision). IsDecision a kinds d) (λ (s : Stop). IsTargetStop a kinds s) → (HasOneRowCut a kinds → IsRuledOut r)

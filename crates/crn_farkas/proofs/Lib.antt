@@ -4,8 +4,10 @@ pub mod SignRules
 pub mod ReadSigns
 pub mod Steps
 pub mod Ruling
-pub mod Numbers
 pub mod Witnesses
 pub mod PartSums
 pub mod Counts
 pub mod Finals
+pub mod Levels
+pub mod Marks
+pub mod Witnessing

@@ -1,8 +1,8 @@
 -- Sums of vectors (x, Ax) that are right everywhere.
-use Rattle.std.proofs.Common.{◌≡◌, ◌≢◌, ℕ, zero, suc, ◌+◌, ◌*◌, ◌<◌, ◌≤◌, ◌⊎◌, inl, inr, List, [], ◌∷◌, ◌++◌, length, get_or, take, refl, sym, ap, ap₂, subst, ◌∙◌, add-one, arith}
+use Rattle.std.proofs.Common.{◌≡◌, ◌≢◌, ℕ, zero, suc, ◌+◌, ◌*◌, ◌<◌, ◌≤◌, ◌⊎◌, inl, inr, List, [], ◌∷◌, length, get_or, take, refl, sym, ap, ap₂, subst, ◌∙◌, add-one, arith}
 use Rattle.std.specs.Prelude.{ℤ, pos, ◌+ℤ◌, unsigned_abs, Bool, true, slice_index}
 use Rattle.std.proofs.lemmas.List.{ext_get_or, length-take-le}
-use Rattle.crn_vec.specs.declared.limits.TheConstants.{WIDE_ENTRY}
+use Rattle.crn_vec.specs.declared.limits.TheConstants.{WIDE_ENTRY, MAX_SIGNED}
 use Rattle.crn_vec.specs.declared.signs.Kind.{Kind}
 use Rattle.crn_vec.specs.Vectors.{Mat, entry, dot}
 use Rattle.crn_vec.specs.Lists.{IsIn}
@@ -47,7 +47,7 @@ take-plus (suc n) [] w = refl
 take-plus (suc n) (x ∷ v) [] = refl
 take-plus (suc n) (x ∷ v) (y ∷ w) = ap (λ (t : List ℤ). (x +ℤ y) ∷ t) (take-plus n v w)
 
-row_plus : (a : Mat) (v w : List ℤ) → InRowSpace a v → InRowSpace a w → InRowSpace a (plus v w)
+pub row_plus : (a : Mat) (v w : List ℤ) → InRowSpace a v → InRowSpace a w → InRowSpace a (plus v w)
 row_plus a v w h k =
     let same : length v ≡ length w = h.long ∙ sym k.long in
     let n = a.cols in
@@ -81,25 +81,10 @@ part_added a kinds g v y z lt s p w long entries =
           subst (λ (x : ℤ). unsigned_abs x ≤ signed_count (take (g + 1) kinds) * WIDE_ENTRY) (sym (entries k)) (omega (arith, b, c));
     }
 
-pub part_bound : (a : Mat) (kinds : List Kind) (g : ℕ) (v : List ℤ) → IsPartSum a kinds g v → signed_count kinds ≤ 239 → (k : ℕ) → unsigned_abs (entry v k) ≤ 239 * WIDE_ENTRY
+pub part_bound : (a : Mat) (kinds : List Kind) (g : ℕ) (v : List ℤ) → IsPartSum a kinds g v → signed_count kinds ≤ MAX_SIGNED → (k : ℕ) → unsigned_abs (entry v k) ≤ MAX_SIGNED * WIDE_ENTRY
 part_bound a kinds g v p few k = omega (arith, p.small k, count_front kinds g, few)
 
 pub get_in : (xs : List ℕ) (i : ℕ) → i < length xs → IsIn (slice_index xs i) xs
 get_in [] i h = absurd (omega arith)
 get_in (x ∷ xs) zero h = inl refl
 get_in (x ∷ xs) (suc i) h = inr (get_in xs i (omega arith))
-
-pub push_in : (xs : List ℕ) (k c : ℕ) → IsIn c xs → IsIn c (xs ++ k ∷ [])
-push_in [] k c i = absurd i
-push_in (x ∷ xs) k c (inl e) = inl e
-push_in (x ∷ xs) k c (inr i) = inr (push_in xs k c i)
-
-pub push_last : (xs : List ℕ) (k c : ℕ) → c ≡ k → IsIn c (xs ++ k ∷ [])
-push_last [] k c e = inl e
-push_last (x ∷ xs) k c e = inr (push_last xs k c e)
-
-pub in_push : (xs : List ℕ) (k c : ℕ) → IsIn c (xs ++ k ∷ []) → IsIn c xs ⊎ (c ≡ k)
-in_push [] k c (inl e) = inr e
-in_push [] k c (inr i) = absurd i
-in_push (x ∷ xs) k c (inl e) = inl (inl e)
-in_push (x ∷ xs) k c (inr i) = elim (in_push xs k c i) as (λ _. IsIn c (x ∷ xs) ⊎ (c ≡ k)) [ inl h ↦ inl (inr h) | inr e ↦ inr e ]

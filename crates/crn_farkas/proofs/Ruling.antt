@@ -13,23 +13,29 @@ use Rattle.crn_vec.specs.declared.signs.Sign.{Sign}
 use Rattle.crn_vec.specs.declared.signs.Sign.TheVariants.{Zero}
 use Rattle.crn_vec.specs.Vectors.{Mat, entry, HasSign, scale}
 use Rattle.crn_vec.specs.Lists.{IsIn}
-use Rattle.crn_vec.specs.Elementary.{width, IsNamed, IsNamedRow}
-use Rattle.crn_vec.specs.Systems.{MayWeigh, kind_at, is_signed}
-use Rattle.crn_vec.proofs.Entries.{eq_or, lt_or, past_end, zip_from}
+use Rattle.crn_vec.specs.Elementary.{width, InDualSpace, IsNamed, IsNamedRow}
+use Rattle.crn_vec.specs.Systems.{HasWeight, IsCut, MayWeigh, kind_at, is_signed}
+use Rattle.crn_vec.proofs.Cuts.{kinds_at, weights_tell_cuts}
+use Rattle.crn_vec.proofs.Entries.{lt_or, past_end, zip_from}
 use Rattle.crn_vec.proofs.Sums.{entry-scale}
 use Rattle.crn_tab.specs.Names.{NamesRows}
+use Rattle.crn_tab.specs.Scans.{RulesBelow}
 use lib.IntN.{zero-*ℤ}
 use Rattle.crn_vec.proofs.Ring.{no_zero}
 use Rattle.crn_tab.proofs.Signs.{one_row}
 use Rattle.crn_tab.proofs.OwnSign.{as_row}
-use Rattle.crn_farkas.specs.Decides.{factor, WeighsBelow, CountsBelow, IsRuling, CutsBy, IsSmallCut, AreNamedMultipliers}
+use Rattle.crn_farkas.specs.Decides.{factor, WeighsBelow, CountsBelow, CutsBy, IsSmallCut, AreNamedMultipliers}
 use Rattle.crn_farkas.proofs.Pairs.{named_scaled, dual_scaled, drop-scale, own_some}
 
-pub weighs_more : (kinds : List Kind) (w : List ℤ) (c : ℕ) → WeighsBelow kinds w c → MayWeigh (kind_at kinds c) (entry w c) → WeighsBelow kinds w (c + 1)
-weighs_more kinds w c h here k lt = elim (eq_or k c) as (λ _. MayWeigh (kind_at kinds k) (entry w k)) [
-  | inr ne ↦ h k (omega (arith, lt, ne))
-  | inl e ↦ subst (λ (m : ℕ). MayWeigh (kind_at kinds m) (entry w m)) (sym e) here
-]
+-- what a list (-uA, u) that rules a system of these kinds out has at each place
+abbrev pub IsRuling : List Kind → List ℤ → Type 0
+IsRuling kinds w = ((k : ℕ) → MayWeigh (kind_at kinds k) (entry w k)) × HasWeight kinds w
+
+pub cut_of_ruling : (a : Mat) (kinds : List Kind) (w : List ℤ) → InDualSpace a w → length kinds ≡ width a → IsRuling kinds w → IsCut a kinds (drop a.cols w)
+cut_of_ruling a kinds w space long rules = (w, record { space = space; rows = refl; each = zip_from MayWeigh Free (pos 0) kinds w (space.long ∙ sym long) (λ k lt. rules.0 k); some = rules.1 })
+
+pub ruling_of_cut : (a : Mat) (kinds : List Kind) (w : List ℤ) → InDualSpace a w → IsCut a kinds (drop a.cols w) → IsRuling kinds w
+ruling_of_cut a kinds w space cut = let r = (weights_tell_cuts a kinds (drop a.cols w) w space refl).0 cut in (kinds_at MayWeigh kinds w refl r.0, r.1)
 
 pub kind_past : (kinds : List Kind) (k : ℕ) → length kinds ≤ k → kind_at kinds k ≡ Free
 kind_past [] k h = refl
@@ -57,6 +63,13 @@ signed_inside kinds k s = elim (lt_or k (length kinds)) as (λ _. k < length kin
 
 pub ruling_counts : (kinds : List Kind) (w : List ℤ) → IsRuling kinds w → CountsBelow kinds w (length kinds)
 ruling_counts kinds w (weighs, (k, s, n)) = (k, signed_inside kinds k s, s, n)
+
+-- the same of the coordinates below a count that are all
+pub rules_below : (kinds : List Kind) (count : ℕ) (w : List ℤ) → length kinds ≡ count → IsRuling kinds w → RulesBelow kinds count w
+rules_below kinds count w e r = let k = ruling_counts kinds w r in (λ c lt. r.0 c, (k.0, omega (arith, k.1, e), k.2, k.3))
+
+pub rules_of : (kinds : List Kind) (count : ℕ) (w : List ℤ) → length kinds ≡ count → length w ≡ count → RulesBelow kinds count w → IsRuling kinds w
+rules_of kinds count w e long r = ruling_from kinds w (omega (arith, e, long)) (λ c lt. r.0 c (omega (arith, lt, e))) (r.1.0, omega (arith, r.1.1, e), r.1.2, r.1.3)
 
 scale_suc : (q : ℤ) (v : List ℤ) (k : ℕ) → k < length v → scale q (take (suc k) v) ≡ scale q (take k v) ++ (q *ℤ entry v k) ∷ []
 scale_suc q [] k h = absurd (omega arith)
@@ -89,15 +102,7 @@ cut_from a basis kinds e turn s w u t lt out long cuts named small turns same =
     let named_v = named_scaled a basis e q w row in
     let rules = cuts.rules v named_v (subst (HasSign turn) (sym (entry-scale q w e)) turned) in
     record {
-      cut = (
-        v,
-        record {
-          space = named_v.space;
-          rows = drop-scale q a.cols w ∙ sym same;
-          each = zip_from MayWeigh Free (pos 0) kinds v (omega (arith, named_v.space.long, long)) (λ k k_lt. rules.0 k);
-          some = rules.1;
-        },
-      );
+      cut = subst (IsCut a kinds) (drop-scale q a.cols w ∙ sym same) rules;
       small = subst (λ (l : List ℤ). (k : ℕ) → unsigned_abs (entry l k) < WIDE_ENTRY) (sym same) (scaled_small s (drop a.cols w) (WIDE_ENTRY) small_part);
     }
 
@@ -116,8 +121,9 @@ multipliers_from a basis e s w u out named same =
     }
 
 -- a named vector that rules the system out is not 0 at its coordinate
-pub ruling_some : (a : Mat) (basis : List ℕ) (kinds : List Kind) (e : ℕ) (w : List ℤ) → NamesRows a basis → IsNamedRow a basis e w → IsRuling kinds w → entry w e ≢ pos 0
-ruling_some a basis kinds e w t row rules none =
+pub ruling_some : (a : Mat) (basis : List ℕ) (kinds : List Kind) (e : ℕ) (w : List ℤ) → NamesRows a basis → IsNamedRow a basis e w → IsCut a kinds (drop a.cols w) → entry w e ≢ pos 0
+ruling_some a basis kinds e w t row cut none =
+    let rules = ruling_of_cut a kinds w row.space cut in
     let v = t.rows e row.inside row.outside in
     let k = rules.1.0 in
     let p : entry v.w e *ℤ entry w k ≡ entry w e *ℤ entry v.w k = one_row a basis e w v.w t.wide t.basis_is row (as_row a basis e v.w row.outside v.named) k in

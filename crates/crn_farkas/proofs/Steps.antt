@@ -152,16 +152,5 @@ any_default d e [] k h = absurd (omega arith)
 any_default d e (x ∷ xs) zero h = refl
 any_default d e (x ∷ xs) (suc k) h = any_default d e xs k (omega arith)
 
-pub right_by : (view : View) (d : Kind) (kinds : List Kind) (k : ℕ) (x : ℤ) → k < length kinds → IsRight view (get_or kinds k d) x → IsRight view (kind_at kinds k) x
-right_by view d kinds k x lt h = subst (λ (κ : Kind). IsRight view κ x) (any_default d Free kinds k lt) h
-
 pub seen_by : (a : Mat) (basis : List ℕ) (view : View) (g : ℕ) (d : Kind) (kinds : List Kind) (y : List ℤ) → g < length kinds → IsSeen a basis view g (kind_at kinds g) y → IsSeen a basis view g (get_or kinds g d) y
 seen_by a basis view g d kinds y lt h = subst (λ (κ : Kind). IsSeen a basis view g κ y) (any_default Free d kinds g lt) h
-
--- one more place is settled where the vectors seen are right there
-pub settled_more : (a : Mat) (basis : List ℕ) (view : View) (g : ℕ) (kinds : List Kind) (order : List ℕ) (j : ℕ) → IsSettled a basis view g kinds order j
-    → ((y : List ℤ) → IsSeen a basis view g (kind_at kinds g) y → IsRight view (kind_at kinds (slice_index order j)) (entry y (slice_index order j))) → IsSettled a basis view g kinds order (j + 1)
-settled_more a basis view g kinds order j h here y seen i lt = elim (eq_or i j) as (λ _. IsRight view (kind_at kinds (slice_index order i)) (entry y (slice_index order i))) [
-  | inr ne ↦ h y seen i (omega (arith, lt, ne))
-  | inl e ↦ subst (λ (m : ℕ). IsRight view (kind_at kinds (slice_index order m)) (entry y (slice_index order m))) (sym e) (here y seen)
-]

@@ -11,19 +11,19 @@ use Rattle.crn_vec.specs.declared.signs.Sign.{Sign}
 use Rattle.crn_vec.specs.declared.signs.Sign.TheVariants.{Zero}
 use Rattle.crn_vec.specs.Vectors.{Mat, entry, HasSign, scale}
 use Rattle.crn_vec.specs.Lists.{IsIn}
-use Rattle.crn_vec.specs.Elementary.{width, IsNamed, IsNamedColumn, WideAt}
+use Rattle.crn_vec.specs.Elementary.{width, IsNamed, IsNamedColumn, NamesWide, WideAt}
 use Rattle.crn_vec.specs.Systems.{HasKind, MayTake, MayWeigh, kind_at, is_signed}
 use Rattle.crn_vec.proofs.Entries.{eq_or, lt_or, past_end}
 use Rattle.crn_vec.proofs.Sums.{entry-scale}
-use Rattle.crn_tab.specs.Names.{NamesRows}
+use Rattle.crn_tab.specs.Names.{NamesRows, IsNumbered, IsRefused}
 use Rattle.crn_tab.proofs.Ascending.{same_members}
 use Rattle.crn_tab.proofs.Unique.{column_at}
 use Rattle.crn_tab.proofs.OwnSign.{as_row}
 use Rattle.crn_farkas.specs.declared.view.View.TheVariants.{Row, Column}
-use Rattle.crn_farkas.specs.Views.{IsView, IsSettled, IsRefused}
-use Rattle.crn_farkas.specs.Decides.{factor, IsWitness, IsNumbered, IsNear, NamesWide, CutsBy}
+use Rattle.crn_farkas.specs.Views.{IsView, IsSettled}
+use Rattle.crn_farkas.specs.Decides.{factor, IsWitness, IsNear, CutsBy}
 use Rattle.crn_farkas.proofs.Pairs.{pair, column_scaled, other_some, kind_some}
-use Rattle.crn_farkas.proofs.Ruling.{kind_past, scaled_small}
+use Rattle.crn_farkas.proofs.Ruling.{kind_past, scaled_small, cut_of_ruling}
 
 pub as_column : (a : Mat) (basis : List ℕ) (b : ℕ) (w : List ℤ) → IsIn b basis → IsNamed a basis b w → IsNamedColumn a basis b w
 as_column a basis b w i n = elim n.named [ inl c ↦ c | inr r ↦ absurd (r.outside i) ]
@@ -60,7 +60,7 @@ pub record Place (order : List ℕ) (c : ℕ) : Type 0 where
   pub below : i < length order
   pub is : slice_index order i ≡ c
 
-in_place : (order : List ℕ) (c : ℕ) → IsIn c order → Place order c
+pub in_place : (order : List ℕ) (c : ℕ) → IsIn c order → Place order c
 in_place [] c i = absurd i
 in_place (x ∷ order) c (inl e) = record { i = 0; below = omega arith; is = sym e }
 in_place (x ∷ order) c (inr i) = let p = in_place order c i in record { i = suc p.i; below = omega (arith, p.below); is = p.is }
@@ -117,7 +117,8 @@ pub cuts_settled : (a : Mat) (basis : List ℕ) (kinds : List Kind) (order : Lis
 cuts_settled a basis kinds order g turn long asked settled all some kind = record {
   some = some;
   rules = λ w named at_g.
-      let seen = kind (entry w g) at_g in (
+      let seen = kind (entry w g) at_g in
+      cut_of_ruling a kinds w named.space long (
         λ k. elim (lt_or k (width a)) as (λ _. MayWeigh (kind_at kinds k) (entry w k)) [
           | inl h ↦ let p = in_place order k (all k h) in subst (λ (j : ℕ). MayWeigh (kind_at kinds j) (entry w j)) p.is (settled w (named, seen) p.i p.below)
           | inr h ↦ subst (λ (κ : Kind). MayWeigh κ (entry w k)) (sym (kind_past kinds k (omega (arith, h, long)))) (past_end w k (omega (arith, h, named.space.long)))

@@ -1,11 +1,11 @@
 -- What is seen of a tableau for one coordinate g that has to be positive or negative, and how far it is settled.
 -- Source: Minty (1974), on the two elementary vectors of which exactly one is found.
-use Rattle.std.specs.Prelude.{◌≡◌, ◌≢◌, ◌≤◌, ◌<◌, ◌+◌, ◌-◌, ◌↔◌, ◌⊎◌, ℕ, ℤ, pos, Bool, true, false, List, [], ◌∷◌, slice_index}
+use Rattle.std.specs.Prelude.{◌≡◌, ◌≢◌, ◌≤◌, ◌<◌, ◌+◌, ◌↔◌, ◌⊎◌, ℕ, ℤ, pos, Bool, true, false, List, [], ◌∷◌, length, slice_index}
 use Rattle.crn_vec.specs.declared.signs.Kind.{Kind}
 use Rattle.crn_vec.specs.declared.signs.Kind.TheVariants.{Pos, Neg, NonNeg, Zero, Free}
 use Rattle.crn_vec.specs.Vectors.{Mat, entry}
 use Rattle.crn_vec.specs.Lists.{IsIn}
-use Rattle.crn_vec.specs.Elementary.{width, IsNamedRow, IsNamedColumn, Exchanged, WideAt}
+use Rattle.crn_vec.specs.Elementary.{width, IsNamedRow, IsNamedColumn, Exchanged}
 use Rattle.crn_vec.specs.Systems.{HasKind, MayTake, MayWeigh, kind_at}
 use Rattle.crn_farkas.specs.declared.view.View.{View}
 use Rattle.crn_farkas.specs.declared.view.View.TheVariants.{Row, Column}
@@ -20,6 +20,11 @@ abbrev pub IsSeen : Mat → List ℕ → View → ℕ → Kind → List ℤ → 
 IsSeen a basis Row g kind y = IsNamedRow a basis g y × HasKind kind (entry y g)
 IsSeen a basis (Column b) g kind y = IsNamedColumn a basis b y × HasKind kind (entry y g)
 
+-- the coordinate from whose sign the others of a vector that a view shows are read
+abbrev pub lead_at : View → ℕ → ℕ
+lead_at Row g = g
+lead_at (Column b) g = b
+
 -- what a vector may have at a coordinate of a kind, by the space that it is in
 abbrev pub IsRight : View → Kind → ℤ → Type 0
 IsRight Row kind x = MayWeigh kind x
@@ -29,6 +34,22 @@ IsRight (Column b) kind x = MayTake kind x
 abbrev pub IsSettled : Mat → List ℕ → View → ℕ → List Kind → List ℕ → ℕ → Type 0
 IsSettled a basis view g kinds order k = (y : List ℤ) → IsSeen a basis view g (kind_at kinds g) y
     → (i : ℕ) → i < k → IsRight view (kind_at kinds (slice_index order i)) (entry y (slice_index order i))
+
+-- the level of a coordinate is a place of the order where it stands, and no later than each other one
+abbrev pub AreLevels : List ℕ → List ℕ → Type 0
+AreLevels order level = (j : ℕ) → j < length order → (slice_index level (slice_index order j) ≤ j) × (slice_index order (slice_index level (slice_index order j)) ≡ slice_index order j)
+
+-- each vector seen is right at the coordinates whose level is at least one and below another
+abbrev pub IsRightBetween : Mat → List ℕ → View → ℕ → List Kind → List ℕ → ℕ → ℕ → Type 0
+IsRightBetween a basis view g kinds level from end = (y : List ℤ) → IsSeen a basis view g (kind_at kinds g) y
+    → (c : ℕ) → c < width a → from ≤ slice_index level c → slice_index level c < end → IsRight view (kind_at kinds c) (entry y c)
+
+-- each vector seen is wrong at some coordinate of this level
+pub record IsWrongHere (a : Mat) (basis : List ℕ) (view : View) (g : ℕ) (kinds : List Kind) (level : List ℕ) (here : ℕ) : Type 0 where
+  pub c : ℕ
+  pub inside : c < width a
+  pub at : slice_index level c ≡ here
+  pub wrong : (y : List ℤ) → IsSeen a basis view g (kind_at kinds g) y → IsRight view (kind_at kinds c) (entry y c) → ⊥
 
 -- the coordinate is in the basis, where a column that is looked at counts as left for g
 abbrev pub IsViewed : List ℕ → View → ℕ → Type 0
@@ -47,14 +68,6 @@ IsTurned (Column b) basis' view' c = IsViewed basis' view' c
 -- the basis after an exchange, or as before where the two coordinates are one
 abbrev pub IsSwapped : List ℕ → ℕ → ℕ → List ℕ → Type 0
 IsSwapped basis leave enter next = ((enter ≡ leave) × (next ≡ basis)) ⊎ ((enter ≢ leave) × Exchanged basis leave enter next)
-
--- the exchange of a member for a coordinate outside names a wide vector
-pub record IsRefused (a : Mat) (basis : List ℕ) (leave enter index : ℕ) : Type 0 where
-  pub member : IsIn leave basis
-  pub outside : IsIn enter basis → ⊥
-  pub inside : enter < width a
-  pub counted : 1 ≤ index
-  pub wide : (next : List ℕ) → Exchanged basis leave enter next → WideAt a next (index - 1)
 
 -- each vector seen is right at the first j coordinates of the order and wrong at the next
 pub record IsFirstWrong (a : Mat) (basis : List ℕ) (view : View) (g : ℕ) (kinds : List Kind) (order : List ℕ) (done k j : ℕ) : Type 0 where

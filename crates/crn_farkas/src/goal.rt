@@ -1,17 +1,19 @@
-ghost use Rattle.std.specs.Prelude.{◌≡◌, ◌<◌, ℕ, true, length, slice_index, MatchResult};
+ghost use Rattle.std.specs.Prelude.{◌≡◌, ◌<◌, ℕ, ℤ, true, length, slice_index, MatchResult, IfOk, IfErr, OnOk};
 ghost use Rattle.crn_vec.specs.Lists.{IsIn};
 ghost use Rattle.crn_vec.specs.Elementary.{width};
-ghost use Rattle.crn_vec.specs.Systems.{kind_at, is_signed};
-ghost use Rattle.crn_farkas.specs.Ends.{IsGoalStop, IsSide};
-ghost use Rattle.crn_farkas.specs.Views.{IsView, IsSettled};
+ghost use Rattle.crn_vec.specs.Systems.{HasKind, kind_at, is_signed};
+ghost use Rattle.crn_vec.specs.Vectors.{HasSign};
+ghost use Rattle.crn_farkas.specs.Decides.{IsCutBy};
+ghost use Rattle.crn_farkas.specs.Ends.{IsGoalStop, IsRefusedStop, IsSide};
+ghost use Rattle.crn_farkas.specs.Views.{AreLevels, IsView, IsSettled};
+ghost use Rattle.crn_tab.specs.Names.{IsRefused};
 
 use crate::cut::{Cut, multipliers, stays};
 use crate::settle::settle;
-use crate::side::sign_asked;
-use crate::stop::{Stop, exchanged};
+use crate::stop::Stop;
 use crate::view::View;
-use crn_tab::{ColumnStop, Tableau};
-use crn_vec::{Ints, Kind};
+use crn_tab::{Refused, Tableau};
+use crn_vec::{Ints, Kind, sign_asked};
 use std::alloc::Global;
 
 /// Which side of the alternative holds at one coordinate.
@@ -19,16 +21,16 @@ use std::alloc::Global;
 pub(crate) enum Side {
     /// Multipliers that rule the system out.
     Cut(Ints),
-    /// A vector (x, Ax), or minus it where it does not stay, that is right everywhere and not 0 at the coordinate.
-    Witness { vector: Ints, stays: bool },
+    /// The lent list has a vector (x, Ax), or minus it where it does not stay, that is right everywhere and not 0 at the coordinate.
+    Witness { stays: bool },
 }
 
 // The vector (x, Ax) that a settled view shows.
 fn witness(
-    alloc: Global,
     tableau: &Tableau,
     kinds: &[Kind],
     order: &[usize],
+    work: &mut [i128],
     b: usize,
     g: usize,
 ) -> Result<Side, Stop>
@@ -38,29 +40,88 @@ fn witness(
     requires view { IsView tableau.now.matrix tableau.now.basis (View.Column b) g }
     requires settled { IsSettled tableau.now.matrix tableau.now.basis (View.Column b) g kinds.now order.now (length order.now) }
     requires all { (c : ℕ) → c < width tableau.now.matrix → IsIn c order.now }
-    ensures { MatchResult result (λ side. IsSide tableau.now.matrix tableau.now.basis kinds.now g side) (λ s. IsGoalStop tableau.now.matrix tableau.now.basis s) }
+    requires work { length work.old ≡ width tableau.now.matrix }
+    ensures work { OnOk result (length work.new ≡ length work.old) }
+    ensures side { MatchResult result (λ side. IsSide tableau.now.matrix tableau.now.basis kinds.now g work.new side) (λ s. IsGoalStop tableau.now.matrix tableau.now.basis s) }
 {
     tableau.names_rows();
-    let vector = match tableau.column(b) {
-        Ok(vector) => vector,
-        Err(ColumnStop::NoMemory) => return Err(Stop::NoMemory),
-        Err(ColumnStop::Wide) => {
-            return Err(Stop::Wide {
-                index: b as u32 + 1,
-                basis: exchanged(alloc, tableau, kinds.len(), b, b)?,
-            });
-        }
-    };
-    let stays = stays(&vector.as_slice()[g], sign_asked(kinds[g]));
-    Ok(Side::Witness { vector, stays })
+    if let Err(_) = tableau.put_column(b, work) {
+        return Err(Stop::Wide {
+            index: b as u32 + 1,
+            basis: tableau.basis_after(b, b)?,
+        });
+    }
+    let stays = stays(&work[g], sign_asked(kinds[g]));
+    Ok(Side::Witness { stays })
 }
 
-// Settles the whole order for one coordinate that has to be positive or negative.
+// Settles the whole order for one coordinate that has to be positive or negative, and gives the view that is settled.
+pub(crate) fn settled_view(
+    tableau: &mut Tableau,
+    kinds: &[Kind],
+    order: &[usize],
+    level: &[usize],
+    g: usize,
+) -> Result<View, Stop>
+    requires kinds { length kinds.now ≡ width tableau.old.matrix }
+    requires goal { g < width tableau.old.matrix }
+    requires asked { is_signed (kind_at kinds.now g) ≡ true }
+    requires order { (i : ℕ) → i < length order.now → slice_index order.now i < width tableau.old.matrix }
+    requires all { (c : ℕ) → c < width tableau.old.matrix → IsIn c order.now }
+    requires level { length level.now ≡ length kinds.now }
+    requires levels { AreLevels order.now level.now }
+    ensures matrix { tableau.new.matrix ≡ tableau.old.matrix }
+    ensures view { IfOk result (λ view. IsView tableau.new.matrix tableau.new.basis view g) }
+    ensures settled { IfOk result (λ view. IsSettled tableau.new.matrix tableau.new.basis view g kinds.now order.now (length order.now)) }
+    ensures refused { IfErr result (λ s. IsRefusedStop tableau.new.matrix tableau.new.basis s) }
+{
+    let mut view = first_view(tableau, g);
+    if let Err(refused) = settle(tableau, &mut view, kinds, order, level, g, order.len()) {
+        return Err(refused_stop(tableau, &refused));
+    }
+    Ok(view)
+}
+
+// What an exchange that was refused stops with.
+fn refused_stop(tableau: &Tableau, refused: &Refused) -> Stop
+    requires { IsRefused tableau.now.matrix tableau.now.basis refused.now.leave refused.now.enter refused.now.index }
+    ensures { IsRefusedStop tableau.now.matrix tableau.now.basis result }
+{
+    match tableau.basis_after(refused.leave, refused.enter) {
+        Ok(basis) => Stop::Wide {
+            index: refused.index,
+            basis,
+        },
+        Err(_) => Stop::NoMemory,
+    }
+}
+
+// The cut that a settled view of a row shows.
+pub(crate) fn settled_cut(_tableau: &Tableau, kinds: &[Kind], _order: &[usize], g: usize) -> Cut
+    requires kinds { length kinds.now ≡ width _tableau.now.matrix }
+    requires goal { g < width _tableau.now.matrix }
+    requires asked { is_signed (kind_at kinds.now g) ≡ true }
+    requires view { IsView _tableau.now.matrix _tableau.now.basis View.Row g }
+    requires settled { IsSettled _tableau.now.matrix _tableau.now.basis View.Row g kinds.now _order.now (length _order.now) }
+    requires all { (c : ℕ) → c < width _tableau.now.matrix → IsIn c _order.now }
+    ensures cut { IsCutBy _tableau.now.matrix _tableau.now.basis kinds.now result.row result.turn }
+    ensures row { result.row ≡ g }
+    ensures turn { (x : ℤ) → HasKind (kind_at kinds.now g) x → HasSign result.turn x }
+{
+    Cut {
+        row: g,
+        turn: sign_asked(kinds[g]),
+    }
+}
+
+// Which side of the alternative holds at one coordinate that has to be positive or negative.
 pub(crate) fn side_of(
     alloc: Global,
     tableau: &mut Tableau,
     kinds: &[Kind],
     order: &[usize],
+    level: &[usize],
+    work: &mut [i128],
     cols: usize,
     g: usize,
 ) -> Result<Side, Stop>
@@ -70,25 +131,19 @@ pub(crate) fn side_of(
     requires asked { is_signed (kind_at kinds.now g) ≡ true }
     requires order { (i : ℕ) → i < length order.now → slice_index order.now i < width tableau.old.matrix }
     requires all { (c : ℕ) → c < width tableau.old.matrix → IsIn c order.now }
+    requires level { length level.now ≡ length kinds.now }
+    requires levels { AreLevels order.now level.now }
+    requires work { length work.old ≡ width tableau.old.matrix }
     ensures matrix { tableau.new.matrix ≡ tableau.old.matrix }
-    ensures side { MatchResult result (λ side. IsSide tableau.new.matrix tableau.new.basis kinds.now g side) (λ s. IsGoalStop tableau.new.matrix tableau.new.basis s) }
+    ensures work { OnOk result (length work.new ≡ length work.old) }
+    ensures side { MatchResult result (λ side. IsSide tableau.new.matrix tableau.new.basis kinds.now g work.new side) (λ s. IsGoalStop tableau.new.matrix tableau.new.basis s) }
 {
-    let mut view = first_view(tableau, g);
-    if let Err(refused) = settle(tableau, &mut view, kinds, order, g, order.len()) {
-        return Err(Stop::Wide {
-            index: refused.index,
-            basis: exchanged(alloc, tableau, kinds.len(), refused.leave, refused.enter)?,
-        });
-    }
-    match view {
+    match settled_view(tableau, kinds, order, level, g)? {
         View::Row => {
-            let cut = Cut {
-                row: g,
-                turn: sign_asked(kinds[g]),
-            };
-            Ok(Side::Cut(multipliers(alloc, tableau, kinds, cols, &cut)?))
+            let cut = settled_cut(tableau, kinds, order, g);
+            Ok(Side::Cut(multipliers(alloc, tableau, kinds, work, cols, &cut)?))
         }
-        View::Column(b) => witness(alloc, tableau, kinds, order, b, g),
+        View::Column(b) => witness(tableau, kinds, order, work, b, g),
     }
 }
 

@@ -3,15 +3,14 @@ ghost use Rattle.crn_vec.specs.Vectors.{entry, HasSign};
 ghost use Rattle.crn_vec.specs.Lists.{IsIn};
 ghost use Rattle.crn_vec.specs.Elementary.{width, IsNamedColumn};
 ghost use Rattle.crn_vec.specs.Systems.{kind_at, is_signed};
-ghost use Rattle.crn_farkas.specs.Views.{IsView, IsSeen, IsSettled, IsFirstWrong, is_early_kind, level_count};
+ghost use Rattle.crn_farkas.specs.Views.{AreLevels, IsView, IsSeen, IsSettled, IsFirstWrong, IsRightBetween, IsWrongHere, is_early_kind, lead_at, level_count};
 
-use crate::side::{is_right, opposite, product, sign_asked};
 use crate::view::View;
 use crn_tab::Tableau;
-use crn_vec::{Kind, Sign};
+use crn_vec::{Kind, Sign, opposite, product, sign_asked};
 
 // The sign at b of the vectors that the basis names by its member b, where they have this sign at g.
-fn lead_sign(tableau: &Tableau, b: usize, g: usize, asked: Sign) -> Sign
+pub(crate) fn lead_sign(tableau: &Tableau, b: usize, g: usize, asked: Sign) -> Sign
     requires member { IsIn b tableau.now.basis }
     requires goal { g < width tableau.now.matrix }
     ensures { (y : List ℤ) → IsNamedColumn tableau.now.matrix tableau.now.basis b y → HasSign asked (entry y g) → entry y g ≢ pos 0 → HasSign result (entry y b) }
@@ -27,7 +26,7 @@ fn lead_sign(tableau: &Tableau, b: usize, g: usize, asked: Sign) -> Sign
 }
 
 // The sign at c of the vectors that the basis names by its member b, where they have this sign at b.
-fn column_sign(tableau: &Tableau, b: usize, lead: Sign, c: usize) -> Sign
+pub(crate) fn column_sign(tableau: &Tableau, b: usize, lead: Sign, c: usize) -> Sign
     requires member { IsIn b tableau.now.basis }
     requires place { c < width tableau.now.matrix }
     ensures { (y : List ℤ) → IsNamedColumn tableau.now.matrix tableau.now.basis b y → HasSign lead (entry y b) → HasSign result (entry y c) }
@@ -42,19 +41,70 @@ fn column_sign(tableau: &Tableau, b: usize, lead: Sign, c: usize) -> Sign
     opposite(product(tableau.sign(c, b), lead))
 }
 
-// The sign at c of the vectors that a view shows.
-fn seen_sign(tableau: &Tableau, view: View, kind: Kind, g: usize, c: usize) -> Sign
+// The sign of the vectors that a view shows at the coordinate from which the others are read.
+pub(crate) fn seen_lead(tableau: &Tableau, view: View, kind: Kind, g: usize) -> Sign
     requires view { IsView tableau.now.matrix tableau.now.basis view g }
     requires asked { is_signed kind ≡ true }
     requires goal { g < width tableau.now.matrix }
-    requires place { c < width tableau.now.matrix }
-    ensures { (y : List ℤ) → IsSeen tableau.now.matrix tableau.now.basis view g kind y → HasSign result (entry y c) }
+    ensures { (y : List ℤ) → IsSeen tableau.now.matrix tableau.now.basis view g kind y → HasSign result (entry y (lead_at view g)) }
 {
-    tableau.names_rows();
     let asked = sign_asked(kind);
     match view {
-        View::Row => product(asked, tableau.sign(g, c)),
-        View::Column(b) => column_sign(tableau, b, lead_sign(tableau, b, g, asked), c),
+        View::Row => asked,
+        View::Column(b) => lead_sign(tableau, b, g, asked),
+    }
+}
+
+// The sign at c of the vectors that a view shows.
+pub(crate) fn seen_sign(
+    tableau: &Tableau,
+    view: View,
+    _kind: Kind,
+    g: usize,
+    lead: Sign,
+    c: usize,
+) -> Sign
+    requires view { IsView tableau.now.matrix tableau.now.basis view g }
+    requires goal { g < width tableau.now.matrix }
+    requires place { c < width tableau.now.matrix }
+    ensures { (y : List ℤ) → IsSeen tableau.now.matrix tableau.now.basis view g _kind y → HasSign lead (entry y (lead_at view g)) → HasSign result (entry y c) }
+{
+    tableau.names_rows();
+    match view {
+        View::Row => product(lead, tableau.sign(g, c)),
+        View::Column(b) => column_sign(tableau, b, lead, c),
+    }
+}
+
+// The least level, from one on and below another, of a coordinate at which the vectors that a view shows are wrong; where there is none, the end.
+fn wrong_level(
+    tableau: &Tableau,
+    view: View,
+    kinds: &[Kind],
+    level: &[usize],
+    g: usize,
+    done: usize,
+    k: usize,
+) -> usize
+    requires view { IsView tableau.now.matrix tableau.now.basis view g }
+    requires asked { is_signed (kind_at kinds.now g) ≡ true }
+    requires kinds { length kinds.now ≡ width tableau.now.matrix }
+    requires level { length level.now ≡ length kinds.now }
+    requires goal { g < width tableau.now.matrix }
+    requires start { done ≤ k }
+    ensures low { done ≤ result }
+    ensures high { result ≤ k }
+    ensures right { IsRightBetween tableau.now.matrix tableau.now.basis view g kinds.now level.now done result }
+    ensures wrong { (result ≡ k) ⊎ IsWrongHere tableau.now.matrix tableau.now.basis view g kinds.now level.now result }
+{
+    let asked = sign_asked(kinds[g]);
+    tableau.names_rows();
+    match view {
+        View::Row => tableau.wrong_in_row(g, asked, kinds, level, done, k),
+        View::Column(b) => {
+            let lead = lead_sign(tableau, b, g, asked);
+            tableau.wrong_in_column(b, lead, kinds, level, done, k)
+        }
     }
 }
 
@@ -63,7 +113,8 @@ pub(crate) fn first_wrong(
     tableau: &Tableau,
     view: View,
     kinds: &[Kind],
-    order: &[usize],
+    _order: &[usize],
+    level: &[usize],
     g: usize,
     done: usize,
     k: usize,
@@ -72,19 +123,17 @@ pub(crate) fn first_wrong(
     requires asked { is_signed (kind_at kinds.now g) ≡ true }
     requires kinds { length kinds.now ≡ width tableau.now.matrix }
     requires goal { g < width tableau.now.matrix }
-    requires order { (i : ℕ) → i < length order.now → slice_index order.now i < width tableau.now.matrix }
-    requires end { k ≤ length order.now }
-    requires done { IsSettled tableau.now.matrix tableau.now.basis view g kinds.now order.now done }
+    requires order { (i : ℕ) → i < length _order.now → slice_index _order.now i < width tableau.now.matrix }
+    requires all { (c : ℕ) → c < length kinds.now → IsIn c _order.now }
+    requires level { length level.now ≡ length kinds.now }
+    requires levels { AreLevels _order.now level.now }
+    requires end { k ≤ length _order.now }
+    requires done { IsSettled tableau.now.matrix tableau.now.basis view g kinds.now _order.now done }
     requires start { done ≤ k }
-    ensures { MatchOption result (IsSettled tableau.now.matrix tableau.now.basis view g kinds.now order.now k) (λ j. IsFirstWrong tableau.now.matrix tableau.now.basis view g kinds.now order.now done k j) }
+    ensures { MatchOption result (IsSettled tableau.now.matrix tableau.now.basis view g kinds.now _order.now k) (λ j. IsFirstWrong tableau.now.matrix tableau.now.basis view g kinds.now _order.now done k j) }
 {
-    for j in done..k {
-        let c = order[j];
-        if !is_right(view, kinds[c], seen_sign(tableau, view, kinds[g], g, c)) {
-            return Some(j);
-        }
-    }
-    None
+    let end = wrong_level(tableau, view, kinds, level, g, done, k);
+    if end < k { Some(end) } else { None }
 }
 
 // Whether a coordinate of this kind is one of those that turn at most once while others are settled, or is not.

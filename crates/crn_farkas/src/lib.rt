@@ -1,14 +1,16 @@
 //! Linear systems that ask a sign of each coordinate: a solution, or multipliers that rule every solution out.
 #![tactic(auto)]
 
+mod alternative;
 mod cut;
 mod decision;
 mod goal;
 mod laws;
 mod level;
 mod settle;
-mod side;
 mod solver;
+mod stand;
+mod standing;
 mod stop;
 mod sum;
 mod system;
@@ -17,8 +19,11 @@ mod targets;
 mod tests;
 mod view;
 
+pub use alternative::Alternative;
+pub use cut::Cut;
 pub use decision::Decision;
-pub use laws::decisions_exclude_each_other;
+pub use laws::{decisions_exclude_each_other, witnesses_make_solutions};
 pub use solver::Solver;
+pub use standing::Standing;
 pub use stop::Stop;
 pub use system::{System, decide};

@@ -1,18 +1,21 @@
-ghost use Rattle.std.specs.Prelude.{◌≡◌, ◌≤◌, ◌<◌, ◌↔◌, ℕ, length, vec_capacity, MatchResult, IfErr, IfOk};
+ghost use Rattle.std.specs.Prelude.{◌≡◌, ◌≤◌, ◌<◌, ◌↔◌, ℕ, true, length, vec_capacity, MatchResult, IfErr, IfOk};
 ghost use Rattle.crn_vec.specs.Lists.{IsIn};
 ghost use Rattle.crn_vec.specs.Elementary.{width, IsBasis};
-ghost use Rattle.crn_vec.specs.Systems.{HasOneRowCut, signed_count};
+ghost use Rattle.crn_vec.specs.Systems.{HasOneRowCut, is_signed, kind_at, signed_count};
 ghost use Rattle.crn_vec.specs.declared.limits.TheConstants.{MAX_SIGNED};
 ghost use Rattle.crn_tab.specs.Names.{NamesRows};
-ghost use Rattle.crn_farkas.specs.Decides.{HasKeptCut};
-ghost use Rattle.crn_farkas.specs.Ends.{IsDecision, IsNamedDecision, IsNearStop, IsRuledOut, IsTargetStop};
+ghost use Rattle.crn_farkas.specs.Decides.{HasKeptCut, IsCutBy};
+ghost use Rattle.crn_farkas.specs.Ends.{IsAlternative, IsDecision, IsFall, IsNamedCut, IsNamedDecision, IsNearStop, IsRefusedStop, IsRuledOut, IsStanding, IsTargetStop};
 
-use crate::cut::{kept_cut, multipliers};
+use crate::alternative::{Alternative, alternative_at};
+use crate::cut::{Cut, kept_cut, multipliers};
 use crate::decision::Decision;
+use crate::stand::standing;
+use crate::standing::Standing;
 use crate::stop::Stop;
 use crate::targets::by_targets;
 use crn_tab::Tableau;
-use crn_vec::{Kind, Matrix, NoMemory, Nums};
+use crn_vec::{Ints, Kind, Matrix, NoMemory, Nums, Sign};
 use std::alloc::Global;
 use std::marker::Model;
 
@@ -24,7 +27,10 @@ pub struct Solver {
     tableau: Tableau,
     cols: usize,
     order: Vec<usize>,
+    level: Vec<usize>,
     sum: Vec<i128>,
+    work: Vec<i128>,
+    marks: Vec<bool>,
 }
 
 impl Model for Solver {
@@ -36,7 +42,7 @@ impl Model for Solver {
 
     ghost view = { λ s. s.tableau };
 
-    ghost invariant = { λ s. HasRoom s.tableau.matrix s.cols (vec_capacity s.order) s.sum.items };
+    ghost invariant = { λ s. HasRoom s.tableau.matrix s.cols (vec_capacity s.order) s.level.items s.sum.items s.work.items s.marks.items };
 }
 
 // Decides a system by a vector that the basis names, where one rules it out, else by its targets.
@@ -45,14 +51,18 @@ fn answer(
     tableau: &mut Tableau,
     kinds: &[Kind],
     order: &mut Vec<usize>,
+    level: &mut [usize],
     sum: &mut [i128],
+    work: &mut [i128],
     cols: usize,
 ) -> Result<Decision, Stop>
     requires cols { cols ≡ tableau.old.matrix.cols }
     requires kinds { length kinds.now ≡ width tableau.old.matrix }
     requires few { signed_count kinds.now ≤ MAX_SIGNED }
     requires room { width tableau.old.matrix ≤ vec_capacity order.old }
+    requires level { length level.old ≡ width tableau.old.matrix }
     requires sum { length sum.old ≡ width tableau.old.matrix }
+    requires work { length work.old ≡ width tableau.old.matrix }
     ensures matrix { tableau.new.matrix ≡ tableau.old.matrix }
     ensures room { vec_capacity order.new ≡ vec_capacity order.old }
     ensures answer { MatchResult result (λ d. IsDecision tableau.new.matrix kinds.now d) (λ s. IsTargetStop tableau.new.matrix kinds.now s) }
@@ -61,8 +71,10 @@ fn answer(
     ensures near { IfErr result (λ s. IsNearStop tableau.new.basis s) }
 {
     match kept_cut(tableau, kinds) {
-        Some(cut) => Ok(Decision::Infeasible(multipliers(alloc, tableau, kinds, cols, &cut)?)),
-        None => by_targets(alloc, tableau, kinds, order, sum, cols),
+        Some(cut) => Ok(Decision::Infeasible(multipliers(
+            alloc, tableau, kinds, work, cols, &cut,
+        )?)),
+        None => by_targets(alloc, tableau, kinds, order, level, sum, work, cols),
     }
 }
 
@@ -78,14 +90,17 @@ impl Solver {
             tableau: Tableau::new(alloc, matrix)?,
             cols,
             order: Vec::with_capacity(alloc, count)?,
+            level: vec![in alloc; 0usize; count]?,
             sum: vec![in alloc; 0i128; count]?,
+            work: vec![in alloc; 0i128; count]?,
+            marks: vec![in alloc; false; count]?,
         })
     }
 
     /// Decides the system of the kept matrix and these kinds, from the basis where the last question ended.
     ///
     /// A vector of this basis that rules the system out is found at once, and then the basis stays.
-    /// Memory is taken for the answer, and for one vector of the tableau at a time.
+    /// Memory is taken for the answer, and to name a wide vector.
     pub fn decide(&mut self, kinds: &[Kind]) -> Result<Decision, Stop>
         requires kinds { length kinds.now ≡ width self.old.matrix }
         requires few { signed_count kinds.now ≤ MAX_SIGNED }
@@ -103,11 +118,79 @@ impl Solver {
             &mut self.tableau,
             kinds,
             &mut self.order,
+            &mut self.level,
             &mut self.sum,
+            &mut self.work,
             self.cols,
         );
         self.tableau.names_rows();
         result
+    }
+
+    /// Whether the system of the kept matrix and these kinds has a solution, from the basis where the last question ended.
+    ///
+    /// It reads signs alone: no vector is formed, and none has to be below a bound. A vector of this basis that rules
+    /// the system out is found at once, and then the basis stays. It takes memory only to name a wide vector.
+    pub fn stands(&mut self, kinds: &[Kind]) -> Result<Standing, Stop>
+        requires { length kinds.now ≡ width self.old.matrix }
+        ensures matrix { self.new.matrix ≡ self.old.matrix }
+        ensures basis { NamesRows self.new.matrix self.new.basis }
+        ensures answer { MatchResult result (λ d. IsStanding self.new.matrix self.new.basis kinds.now d) (λ s. IsTargetStop self.old.matrix kinds.now s) }
+        ensures kept { HasKeptCut self.old.matrix self.old.basis kinds.now → IsFall result × (self.new.basis ≡ self.old.basis) }
+        ensures from_columns { ((k : ℕ) → IsIn k self.old.basis ↔ (k < self.old.matrix.cols)) → HasOneRowCut self.old.matrix kinds.now → IsFall result }
+        ensures refused { IfErr result (λ s. IsRefusedStop self.new.matrix self.new.basis s) }
+    {
+        let result = standing(
+            &mut self.tableau,
+            kinds,
+            &mut self.order,
+            &mut self.level,
+            &mut self.marks,
+        );
+        self.tableau.names_rows();
+        result
+    }
+
+    /// Which vector a coordinate that has to be positive or negative has, counted from 0, and the signs of that vector.
+    ///
+    /// Exactly one of the two is there, of any size. It forms no vector, and takes memory only to name a wide one.
+    pub fn alternative(
+        &mut self,
+        kinds: &[Kind],
+        g: usize,
+        signs: &mut [Sign],
+    ) -> Result<Alternative, Stop>
+        requires kinds { length kinds.now ≡ width self.old.matrix }
+        requires signs { length signs.old ≡ length kinds.now }
+        requires goal { g < length kinds.now }
+        requires asked { is_signed (kind_at kinds.now g) ≡ true }
+        ensures matrix { self.new.matrix ≡ self.old.matrix }
+        ensures basis { NamesRows self.new.matrix self.new.basis }
+        ensures count { length signs.new ≡ length signs.old }
+        ensures answer { IfOk result (λ d. IsAlternative self.new.matrix self.new.basis kinds.now g signs.new d) }
+        ensures refused { IfErr result (λ s. IsRefusedStop self.new.matrix self.new.basis s) }
+    {
+        let result = alternative_at(
+            &mut self.tableau,
+            kinds,
+            &mut self.order,
+            &mut self.level,
+            g,
+            signs,
+        );
+        self.tableau.names_rows();
+        result
+    }
+
+    /// The multipliers of the vector by which `stands` or `alternative` has found that the system falls. It takes memory for them.
+    pub fn multipliers(&mut self, kinds: &[Kind], cut: &Cut) -> Result<Ints, NoMemory>
+        requires kinds { length kinds.now ≡ width self.old.matrix }
+        requires cut { IsCutBy self.old.matrix self.old.basis kinds.now cut.now.row cut.now.turn }
+        ensures kept { self.new ≡ self.old }
+        ensures named { IfOk result (λ u. IsNamedCut self.new.matrix self.new.basis kinds.now u.list) }
+    {
+        let alloc = *self.order.allocator();
+        multipliers(alloc, &self.tableau, kinds, &mut self.work, self.cols, cut)
     }
 
     /// The coordinates of the kept basis, ascending and counted from 0, where `Stop::Wide` counts from 1.

@@ -1,19 +1,19 @@
-ghost use Rattle.std.specs.Prelude.{◌≡◌, ◌≤◌, ◌<◌, ◌+◌, ℕ, length, slice_index, vec_capacity, MatchResult, MatchOption, IfErr, IfOk};
+ghost use Rattle.std.specs.Prelude.{◌≡◌, ◌≤◌, ◌<◌, ◌+◌, ℕ, length, slice_index, vec_capacity, MatchResult, MatchOption, IfErr, IfOk, OnOk};
 ghost use Rattle.crn_vec.specs.Lists.{IsIn};
 ghost use Rattle.crn_vec.specs.Elementary.{width};
 ghost use Rattle.crn_vec.specs.Systems.{signed_count};
 ghost use Rattle.crn_vec.specs.declared.limits.TheConstants.{MAX_SIGNED};
 ghost use Rattle.crn_farkas.specs.Decides.{IsSmallSolution};
+ghost use Rattle.crn_farkas.specs.Views.{AreLevels};
 ghost use Rattle.crn_farkas.specs.Ends.{IsDecision, IsNamedCut, IsNamedDecision, IsNearStop, IsPartSum, IsTargetStop, AreZeros};
 
 use crate::decision::Decision;
 use crate::goal::{Side, side_of};
 use crate::level::push_level;
-use crate::side::is_asked;
 use crate::stop::Stop;
 use crate::sum::add;
 use crn_tab::Tableau;
-use crn_vec::{Ints, Kind, NoMemory};
+use crn_vec::{Ints, Kind, NoMemory, is_asked};
 use std::alloc::Global;
 
 // Makes the sum not 0 at one more coordinate that has to be positive or negative, or finds multipliers.
@@ -22,7 +22,9 @@ fn target(
     tableau: &mut Tableau,
     kinds: &[Kind],
     order: &[usize],
+    level: &[usize],
     sum: &mut [i128],
+    work: &mut [i128],
     cols: usize,
     g: usize,
 ) -> Result<Option<Ints>, Stop>
@@ -32,8 +34,12 @@ fn target(
     requires goal { g < width tableau.old.matrix }
     requires order { (i : ℕ) → i < length order.now → slice_index order.now i < width tableau.old.matrix }
     requires all { (c : ℕ) → c < width tableau.old.matrix → IsIn c order.now }
+    requires level { length level.now ≡ length kinds.now }
+    requires levels { AreLevels order.now level.now }
     requires sum { IsPartSum tableau.old.matrix kinds.now g sum.old }
+    requires work { length work.old ≡ length kinds.now }
     ensures matrix { tableau.new.matrix ≡ tableau.old.matrix }
+    ensures work { OnOk result (length work.new ≡ length work.old) }
     ensures end { MatchResult result (λ cut. MatchOption cut (IsPartSum tableau.new.matrix kinds.now (g + 1) sum.new) (λ u. IsNamedCut tableau.new.matrix tableau.new.basis kinds.now u.list)) (λ s. IsTargetStop tableau.new.matrix kinds.now s) }
     ensures near { IfErr result (λ s. IsNearStop tableau.new.basis s) }
 {
@@ -43,10 +49,10 @@ fn target(
     if sum[g] != 0 {
         return Ok(None);
     }
-    match side_of(alloc, tableau, kinds, order, cols, g)? {
+    match side_of(alloc, tableau, kinds, order, level, work, cols, g)? {
         Side::Cut(cut) => Ok(Some(cut)),
-        Side::Witness { vector, stays } => {
-            add(sum, vector.as_slice(), stays);
+        Side::Witness { stays } => {
+            add(sum, work, stays);
             Ok(None)
         }
     }
@@ -58,7 +64,9 @@ fn targets(
     tableau: &mut Tableau,
     kinds: &[Kind],
     order: &[usize],
+    level: &[usize],
     sum: &mut [i128],
+    work: &mut [i128],
     cols: usize,
 ) -> Result<Option<Ints>, Stop>
     requires cols { cols ≡ tableau.old.matrix.cols }
@@ -66,13 +74,16 @@ fn targets(
     requires few { signed_count kinds.now ≤ MAX_SIGNED }
     requires order { (i : ℕ) → i < length order.now → slice_index order.now i < width tableau.old.matrix }
     requires all { (c : ℕ) → c < width tableau.old.matrix → IsIn c order.now }
+    requires level { length level.now ≡ length kinds.now }
+    requires levels { AreLevels order.now level.now }
     requires sum { IsPartSum tableau.old.matrix kinds.now 0 sum.old }
+    requires work { length work.old ≡ length kinds.now }
     ensures matrix { tableau.new.matrix ≡ tableau.old.matrix }
     ensures end { MatchResult result (λ cut. MatchOption cut (IsPartSum tableau.new.matrix kinds.now (length kinds.now) sum.new) (λ u. IsNamedCut tableau.new.matrix tableau.new.basis kinds.now u.list)) (λ s. IsTargetStop tableau.new.matrix kinds.now s) }
     ensures near { IfErr result (λ s. IsNearStop tableau.new.basis s) }
 {
     for g in 0..kinds.len() {
-        if let Some(cut) = target(alloc, tableau, kinds, order, sum, cols, g)? {
+        if let Some(cut) = target(alloc, tableau, kinds, order, level, sum, work, cols, g)? {
             return Ok(Some(cut));
         }
     }
@@ -80,7 +91,7 @@ fn targets(
 }
 
 // Puts the coordinates in the order of settling, into a list that has room for them: first those that are zero or free, which turn once at most.
-fn put_order(order: &mut Vec<usize>, kinds: &[Kind])
+pub(crate) fn put_order(order: &mut Vec<usize>, kinds: &[Kind])
     requires { length kinds.now ≤ vec_capacity order.old }
     ensures below { (i : ℕ) → i < length order.new.items → slice_index order.new.items i < length kinds.now }
     ensures all { (c : ℕ) → c < length kinds.now → IsIn c order.new.items }
@@ -89,6 +100,17 @@ fn put_order(order: &mut Vec<usize>, kinds: &[Kind])
     order.clear();
     push_level(order, kinds, true);
     push_level(order, kinds, false);
+}
+
+// Puts the level of each coordinate, the first place of the order where it stands. It goes from the last place to the first.
+pub(crate) fn put_levels(order: &[usize], level: &mut [usize])
+    requires { (j : ℕ) → j < length order.now → slice_index order.now j < length level.old }
+    ensures { AreLevels order.now level.new }
+{
+    for i in 0..order.len() {
+        let j = order.len() - 1 - i;
+        level[order[j]] = j;
+    }
 }
 
 // Puts a zero at each place.
@@ -123,14 +145,18 @@ pub(crate) fn by_targets(
     tableau: &mut Tableau,
     kinds: &[Kind],
     order: &mut Vec<usize>,
+    level: &mut [usize],
     sum: &mut [i128],
+    work: &mut [i128],
     cols: usize,
 ) -> Result<Decision, Stop>
     requires cols { cols ≡ tableau.old.matrix.cols }
     requires kinds { length kinds.now ≡ width tableau.old.matrix }
     requires few { signed_count kinds.now ≤ MAX_SIGNED }
     requires room { width tableau.old.matrix ≤ vec_capacity order.old }
+    requires level { length level.old ≡ width tableau.old.matrix }
     requires sum { length sum.old ≡ width tableau.old.matrix }
+    requires work { length work.old ≡ width tableau.old.matrix }
     ensures matrix { tableau.new.matrix ≡ tableau.old.matrix }
     ensures room { vec_capacity order.new ≡ vec_capacity order.old }
     ensures answer { MatchResult result (λ d. IsDecision tableau.new.matrix kinds.now d) (λ s. IsTargetStop tableau.new.matrix kinds.now s) }
@@ -138,8 +164,9 @@ pub(crate) fn by_targets(
     ensures near { IfErr result (λ s. IsNearStop tableau.new.basis s) }
 {
     put_order(order, kinds);
+    put_levels(order, level);
     put_zeros(sum);
-    match targets(alloc, tableau, kinds, order, sum, cols)? {
+    match targets(alloc, tableau, kinds, order, level, sum, work, cols)? {
         Some(cut) => Ok(Decision::Infeasible(cut)),
         None => Ok(Decision::Feasible(solution(alloc, tableau, kinds, sum, cols)?)),
     }

@@ -2,6 +2,7 @@
 #![tactic(auto)]
 
 mod ints;
+mod kinds;
 mod limits;
 mod matrix;
 mod nums;
@@ -10,6 +11,7 @@ mod theorems;
 mod vectors;
 
 pub use ints::Ints;
+pub use kinds::{counts, is_asked, may_take, may_weigh, opposite, product, rules_out, sign_asked};
 pub use limits::{
     DEFAULT_BUDGET, MAX_AMOUNT, MAX_BUDGET, MAX_BUDGET_DIGITS, MAX_COMPLEXES, MAX_COORDINATES,
     MAX_NAME, MAX_REACTIONS, MAX_SIGNED, MAX_SPECIES, MAX_TERMS, MAX_TEXT, WIDE_ENTRY,
@@ -18,7 +20,9 @@ pub use limits::{
 pub use matrix::Matrix;
 pub use nums::Nums;
 pub use signs::{Kind, Sign, agrees, sign_of};
-pub use theorems::{base_gives_rank, cuts_exclude_solutions, rank_is_one_number};
+pub use theorems::{
+    base_gives_rank, cuts_exclude_solutions, rank_is_one_number, weights_tell_cuts,
+};
 pub use vectors::{dot, support};
 
 /// Want of memory.
@@ -41,6 +45,10 @@ mod tests {
             Ints::from_slice(rt.alloc(), &[3])?.as_slice(),
             [3].as_slice()
         );
+        let own = Ints::from_slice(rt.alloc(), &[3, 4])?.into_vec();
+        assert_eq!(rt; Ints::from_vec(own).as_slice(), [3, 4].as_slice());
+        let own = Nums::from_slice(rt.alloc(), &[5, 6])?.into_vec();
+        assert_eq!(rt; Nums::from_vec(own).as_slice(), [5, 6].as_slice());
         let mut nums = Nums::with_room(rt.alloc(), 1)?;
         nums.push(7)?;
         nums.push(8)?;
@@ -67,5 +75,6 @@ mod tests {
         base_gives_rank();
         rank_is_one_number();
         cuts_exclude_solutions();
+        weights_tell_cuts();
     }
 }

@@ -1,4 +1,4 @@
-use Rattle.std.proofs.Common.{◌≡◌, ◌<◌, ap, sym, subst, ◌∙◌, arith, true, List, ℤ, length, of_z}
+use Rattle.std.proofs.Common.{◌≡◌, ◌<◌, ap, sym, subst, ◌∙◌, arith, true, ℤ, length, of_z}
 use Rattle.std.proofs.lemmas.Bool.{false≢true}
 use Rattle.crn_vec.specs.declared.limits.TheConstants.{WIDE_ENTRY}
 use Rattle.crn_vec.specs.declared.signs.Kind.TheVariants.{Pos, Free}
@@ -7,7 +7,7 @@ use Rattle.crn_vec.specs.Systems.{is_signed, kind_at}
 use Rattle.crn_vec.specs.Vectors.{entry}
 use Rattle.crn_vec.proofs.Sums.{entry-scale, length-scale}
 use Rattle.crn_vec.specs.Elementary.{width}
-use Rattle.std.specs.Prelude.{◌+ℤ◌, ◌*ℤ◌, ℕ, unsigned_abs}
+use Rattle.std.specs.Prelude.{◌+ℤ◌}
 use Rattle.crn_farkas.proofs.Ruling.{unscaled_small}
 use Rattle.crn_farkas.specs.Decides.{factor}
 use Rattle.crn_farkas.specs.declared.goal.Side.{Side}
@@ -34,15 +34,15 @@ add-requires-clause-sum c = λ k. omega (arith, part_bound c.args.tableau.now.ma
 
 pub add-requires-clause-same : goal.add-requires-clause-same
 add-requires-clause-same c =
-    let S : Side → Type 0 = λ v. IsSide c.side_of.new.tableau.matrix c.side_of.new.tableau.basis c.args.kinds.now c.args.g v in
+    let S : Side → Type 0 = λ v. IsSide c.side_of.new.tableau.matrix c.side_of.new.tableau.basis c.args.kinds.now c.args.g c.side_of.new.work v in
     let w = subst S c.in-Witness.is c.in_ok-cut.ensures.side in
-    ap (length {A = ℤ}) c.as_slice.ensures ∙ sym (length-scale (factor c.in-Witness.stays) c.in-Witness.vector.list) ∙ w.space.long ∙ ap width c.in_ok-cut.ensures.matrix ∙ sym c.requires.sum.space.long
+    sym (length-scale (factor c.in-Witness.stays) c.side_of.new.work) ∙ w.space.long ∙ ap width c.in_ok-cut.ensures.matrix ∙ sym c.requires.sum.space.long
 
 pub add-requires-clause-vector : goal.add-requires-clause-vector
 add-requires-clause-vector c =
-    let S : Side → Type 0 = λ v. IsSide c.side_of.new.tableau.matrix c.side_of.new.tableau.basis c.args.kinds.now c.args.g v in
+    let S : Side → Type 0 = λ v. IsSide c.side_of.new.tableau.matrix c.side_of.new.tableau.basis c.args.kinds.now c.args.g c.side_of.new.work v in
     let w = subst S c.in-Witness.is c.in_ok-cut.ensures.side in
-    subst (λ (l : List ℤ). (k : ℕ) → unsigned_abs (entry l k) < WIDE_ENTRY) (sym c.as_slice.ensures) (unscaled_small c.in-Witness.stays c.in-Witness.vector.list (WIDE_ENTRY) w.small)
+    unscaled_small c.in-Witness.stays c.side_of.new.work (WIDE_ENTRY) w.small
 
 pub returns-in-Witness-clause-end : goal.returns-in-Witness-clause-end
 returns-in-Witness-clause-end c =
@@ -51,12 +51,12 @@ returns-in-Witness-clause-end c =
     let g = c.args.g in
     let lt = c.requires.goal in
     let g_lt : g < length kinds = omega (arith, lt, c.requires.kinds) in
-    let S : Side → Type 0 = λ v. IsSide a c.side_of.new.tableau.basis kinds g v in
+    let S : Side → Type 0 = λ v. IsSide a c.side_of.new.tableau.basis kinds g c.side_of.new.work v in
     let P : Mat → Type 0 = λ m. IsPartSum m kinds g c.args.sum.now in
     let asked : is_signed (kind_at kinds g) ≡ true = ap is_signed (any_default Free Pos kinds g g_lt) ∙ sym c.is_asked.ensures ∙ c.if-not-is_asked.false in
     let q = factor c.in-Witness.stays in
-    let v = c.in-Witness.vector.list in
+    let v = c.side_of.new.work in
     let sum = c.args.sum.now in
     part_added a kinds g sum (scale q v) c.add.new.sum g_lt asked (subst P (sym c.in_ok-cut.ensures.matrix) c.requires.sum)
     (subst S c.in-Witness.is c.in_ok-cut.ensures.side) c.add.ensures.count
-    (λ k. c.add.ensures.values k ∙ ap (λ (l : List ℤ). entry sum k +ℤ (q *ℤ entry l k)) c.as_slice.ensures ∙ ap (λ (x : ℤ). entry sum k +ℤ x) (sym (entry-scale q v k)))
+    (λ k. c.add.ensures.values k ∙ ap (λ (x : ℤ). entry sum k +ℤ x) (sym (entry-scale q v k)))

@@ -1,4 +1,4 @@
-use Rattle.std.proofs.Common.{◌≡◌}
+use Rattle.std.proofs.Common.{◌≡◌, length}
 use Rattle.crn_farkas.specs.Ends.{IsPartSum}
 use Rattle.crn_farkas.proofs.targets.targets.Given as goal
 
@@ -6,4 +6,5 @@ abbrev pub invariant-loop-g : goal.invariant-loop-g
 invariant-loop-g l = record {
   matrix : l.tableau.matrix ≡ l.fn.tableau.matrix;
   sum : IsPartSum l.tableau.matrix l.kinds l.g l.sum;
+  work : length l.work ≡ length l.kinds;
 }
