@@ -3,7 +3,7 @@ use Rattle.std.proofs.Common.{◌≡◌, ℕ, zero, suc, ◌<◌, ◌⊎◌, inl
 use Rattle.std.proofs.lemmas.Bool.{cases_lt}
 use Rattle.crn_vec.specs.Network.{IsFirstAppearance}
 
--- each number that comes anew is the next one, and those below `next` are known
+-- each number that appears for the first time is the next one, and those below `next` are known
 abbrev pub IsNumberedInOrder : ℕ → List ℕ → Type 0
 IsNumberedInOrder next [] = Unit {0}
 IsNumberedInOrder next (y ∷ ys) = ((y < next) × IsNumberedInOrder next ys) ⊎ ((y ≡ next) × IsNumberedInOrder (suc next) ys)

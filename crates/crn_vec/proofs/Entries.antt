@@ -1,4 +1,4 @@
--- Lists by their entries.
+-- Lists by their entries: which places are inside, lists related place by place, and dot products of one entry more.
 use Rattle.std.proofs.Common.{◌≡◌, ◌≢◌, ℕ, zero, suc, ◌+◌, ◌<◌, ◌≤◌, ◌⊎◌, inl, inr, List, [], ◌∷◌, length, get_or, take, refl, ap, add-one, arith}
 use Rattle.std.specs.Prelude.{ℤ, pos, ◌+ℤ◌, ◌*ℤ◌, unsigned_abs}
 use Rattle.std.specs.List.{AllZip}
@@ -46,11 +46,6 @@ zip_long R [] [] h = refl
 zip_long R [] (y ∷ ys) h = absurd h
 zip_long R (x ∷ xs) [] h = absurd h
 zip_long R (x ∷ xs) (y ∷ ys) h = omega (arith, zip_long R xs ys h.1)
-
-pub within_at : (m : ℕ) (v : List ℤ) (k : ℕ) → AreWithin m v → k < length v → unsigned_abs (entry v k) ≤ m
-within_at m [] k h lt = absurd (omega arith)
-within_at m (x ∷ v) zero h lt = h.0
-within_at m (x ∷ v) (suc k) h lt = within_at m v k h.1 (omega arith)
 
 pub within_from : (m : ℕ) (v : List ℤ) → ((k : ℕ) → k < length v → unsigned_abs (entry v k) ≤ m) → AreWithin m v
 within_from m [] h = tt

@@ -1,4 +1,5 @@
--- What the kinds of a coordinate ask on both sides: products, and sides that follow from a negative product.
+-- What a kind requires of a coordinate in a solution and in a cut: signs of products, and what follows from a
+-- negative product.
 use Rattle.std.proofs.Common.{◌≡◌, ◌≢◌, ℕ, ◌⊎◌, inl, inr, arith, List, ap, refl, suc, zero}
 use Rattle.std.specs.Prelude.{ℤ, pos, negsuc, ◌+ℤ◌, ◌*ℤ◌, ◌≤ℤ◌, ◌<ℤ◌, true}
 use Rattle.std.proofs.lemmas.Int.{ints}
@@ -101,7 +102,7 @@ weigh_zero NonNeg = omega (arith, ints)
 weigh_zero Zero = tt
 weigh_zero Free = refl
 
--- a number of a kind is one that a solution may take, and not 0 where the kind is signed
+-- a number of a kind is one that a solution may take, and not 0 if the kind is signed
 pub kind_takes : (κ : Kind) (x : ℤ) → HasKind κ x → MayTake κ x
 kind_takes Pos x h = omega (arith, ints, h)
 kind_takes Neg x h = omega (arith, ints, h)
@@ -128,7 +129,7 @@ take_sum NonNeg x y h k = omega (arith, ints, h, k)
 take_sum Zero x y h k = omega (arith, ints, h, k)
 take_sum Free x y h k = tt
 
--- and not 0 at a signed kind where one of the two is not
+-- and not 0 at a signed kind if one of the two is not
 pub sum_some : (κ : Kind) (x y : ℤ) → is_signed κ ≡ true → MayTake κ x → MayTake κ y → (x ≢ pos 0) ⊎ (y ≢ pos 0) → x +ℤ y ≢ pos 0
 sum_some Pos x y s h k (inl n) = λ e. n (omega (arith, ints, h, k, e))
 sum_some Pos x y s h k (inr n) = λ e. n (omega (arith, ints, h, k, e))

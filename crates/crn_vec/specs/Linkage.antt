@@ -1,6 +1,7 @@
--- Linkage classes of a network: complexes joined by walks along links, and right labels of them.
--- Source: Feinberg, Foundations of Chemical Reaction Network Theory (2019). The numbering of labels is this project's own.
--- Shapes: reactions are pairs (reactant, product) of complexes counted from 0; labels are counted from 1.
+-- Linkage classes of a network: complexes joined by walks along links, and the right labels of complexes.
+-- Source: Feinberg, Foundations of Chemical Reaction Network Theory (2019). The numbering of labels is
+-- this project's own.
+-- Shapes: reactions are pairs (reactant, product) of complexes, which count from 0; labels count from 1.
 use Rattle.std.specs.Prelude.{◌≡◌, ◌≤◌, ◌<◌, ◌⊎◌, ℕ, List, [], ◌∷◌, length, slice_index}
 use Rattle.crn_vec.specs.Lists.{IsIn}
 
@@ -17,7 +18,7 @@ IsWalk reactions y (x ∷ xs) z = IsLinked reactions y x × IsWalk reactions x x
 abbrev pub SameClass : List (ℕ × ℕ) → ℕ → ℕ → Type 0
 SameClass reactions y z = (steps : List ℕ) × IsWalk reactions y steps z
 
--- labels are equal exactly where the complexes are in one class, and are numbered by first appearance from 1
+-- labels are equal if and only if the complexes are in one class, and count from 1 by first appearance
 pub record AreRightLabels (reactions : List (ℕ × ℕ)) (labels : List ℕ) : Type 0 where
   pub same : (y z : ℕ) → y < length labels → z < length labels → slice_index labels y ≡ slice_index labels z → SameClass reactions y z
   pub together : (y z : ℕ) → y < length labels → z < length labels → SameClass reactions y z → slice_index labels y ≡ slice_index labels z
@@ -28,4 +29,5 @@ pub record AreRightLabels (reactions : List (ℕ × ℕ)) (labels : List ℕ) : 
 -- the labels are 1 to count, each of them
 pub record IsLabelCount (labels : List ℕ) (count : ℕ) : Type 0 where
   pub most : (y : ℕ) → y < length labels → slice_index labels y ≤ count
-  pub each : (k : ℕ) → 1 ≤ k → k ≤ count → (y : ℕ) × (y < length labels) × (slice_index labels y ≡ k)
+  pub each : (k : ℕ) → 1 ≤ k → k ≤ count
+      → (y : ℕ) × (y < length labels) × (slice_index labels y ≡ k)

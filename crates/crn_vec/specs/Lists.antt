@@ -1,7 +1,7 @@
 -- Lists: membership, distinct members, first occurrences, ascending order.
 use Rattle.std.specs.Prelude.{◌≡◌, ◌<◌, ◌⊎◌, not, ℕ, Bool, List, [], ◌∷◌, filter}
 
--- x stands in the list
+-- x is a member of the list
 abbrev pub IsIn : {A : Type 0} → A → List A → Type 0
 IsIn x [] = ⊥
 IsIn x (y ∷ ys) = (x ≡ y) ⊎ IsIn x ys
@@ -16,7 +16,7 @@ abbrev pub firsts : {A : Type 0} → (A → A → Bool) → List A → List A
 firsts same [] = []
 firsts same (x ∷ xs) = x ∷ filter (λ y. not (same x y)) (firsts same xs)
 
--- the members go up from above k
+-- the list is ascending, and its first member is above k
 abbrev pub IsAbove : ℕ → List ℕ → Type 0
 IsAbove k [] = Unit {0}
 IsAbove k (x ∷ xs) = (k < x) × IsAbove x xs

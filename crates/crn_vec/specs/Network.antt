@@ -1,6 +1,8 @@
 -- Reaction networks, and the reactions that a statement says.
--- Source: Feinberg, Foundations of Chemical Reaction Network Theory (2019). The limits and the numbering are this project's own.
--- Shapes: species, complexes and reactions are counted from 0. A complex is the list of its amounts, one for each species.
+-- Source: Feinberg, Foundations of Chemical Reaction Network Theory (2019). The limits and the numbering are
+-- this project's own.
+-- Shapes: species, complexes and reactions count from 0. A complex is the list of its amounts, one for each
+-- species.
 use Rattle.std.specs.Prelude.{◌≡◌, ◌≤◌, ◌<◌, ◌==◌, ◌&&◌, ◌||◌, nat_le, ℕ, ℤ, pos, ◌≤ℤ◌, ◌-ℤ◌, Bool, false, IsTrue, if◌then◌else◌, List, [], ◌∷◌, ◌++◌, length, map, slice_index, slice_index_or}
 use Rattle.std.specs.List.{AllByRecursion, list_all, sum_by}
 use Rattle.std.specs.Str.{bytes_eq}
@@ -43,9 +45,10 @@ abbrev pub ends : List (ℕ × ℕ) → List ℕ
 ends [] = []
 ends (r ∷ rs) = r.0 ∷ r.1 ∷ ends rs
 
--- numbered by first appearance: before a number each smaller one has stood
+-- numbered by first appearance: each number is preceded by every smaller one
 abbrev pub IsFirstAppearance : List ℕ → Type 0
-IsFirstAppearance ys = (i k : ℕ) → i < length ys → k < slice_index ys i → (j : ℕ) × (j < i) × (slice_index ys j ≡ k)
+IsFirstAppearance ys = (i k : ℕ) → i < length ys → k < slice_index ys i
+    → (j : ℕ) × (j < i) × (slice_index ys j ≡ k)
 
 -- from 0 to the limit
 abbrev pub IsAmount : ℤ → Type 0
@@ -71,7 +74,7 @@ IsHeldBefore net c s = (b : ℕ) × (b < c) × Holds net b s
 abbrev pub JoinsTwo : ℕ → ℕ × ℕ → Type 0
 JoinsTwo count r = (r.0 ≡ r.1 → ⊥) × (r.0 < count) × (r.1 < count)
 
--- what every network keeps, and what leads to one by adding reactions keeps too
+-- what a network keeps while reactions are added, from no reaction on
 pub record IsPartialNetwork (net : Net) : Type 0 where
   pub names : AreDistinct net.names
   pub names_spelled : AllByRecursion IsName net.names
@@ -83,13 +86,15 @@ pub record IsPartialNetwork (net : Net) : Type 0 where
   pub numbered : IsFirstAppearance (ends net.reactions)
   pub each_in_a_reaction : (c : ℕ) → c < length net.complexes → IsIn c (ends net.reactions)
   -- each species is in a complex, and those in the first complexes are the first species
-  pub each_in_a_complex : (s : ℕ) → s < length net.names → IsHeldBefore net (length net.complexes) s
-  pub species_in_order : (c s t : ℕ) → c ≤ length net.complexes → s < t → t < length net.names → IsHeldBefore net c t → IsHeldBefore net c s
+  pub each_in_a_complex : (s : ℕ) → s < length net.names
+      → IsHeldBefore net (length net.complexes) s
+  pub species_in_order : (c s t : ℕ) → c ≤ length net.complexes → s < t → t < length net.names
+      → IsHeldBefore net c t → IsHeldBefore net c s
   pub species_limit : length net.names ≤ MAX_SPECIES
   pub complexes_limit : length net.complexes ≤ MAX_COMPLEXES
   pub reactions_limit : length net.reactions ≤ MAX_REACTIONS
 
--- a network: all that is kept, and some reaction
+-- a network: at least one reaction, and all that is kept
 pub record IsNetwork (net : Net) : Type 0 where
   pub partial : IsPartialNetwork net
   pub some : 1 ≤ length net.reactions
@@ -118,7 +123,7 @@ reaction_vector net r = minus (sides_of net r).1 (sides_of net r).0
 abbrev pub Statement : Type 0
 Statement = List (List ℕ × ℕ) × List (List ℕ × ℕ)
 
--- how much of a name a side says, where a name that stands twice has its numbers added
+-- how much of a name a side says: the sum of the numbers of the name
 abbrev pub amount_in : List (List ℕ × ℕ) → List ℕ → ℕ
 amount_in side name = sum_by (λ t. if bytes_eq t.0 name then t.1 else 0) side
 

@@ -1,6 +1,8 @@
 -- Combinations of vectors, independence, dependence and rank.
--- Source: any book of linear algebra; over whole numbers, a multiple of a vector is a combination in the place of the vector itself.
--- Shapes: `vs` is a list of vectors; `column vs k` is the list of their entries at place k; coefficients are as many as the vectors.
+-- Source: any book of linear algebra. Numbers are whole, so a vector depends on others if a positive multiple
+-- of it is a combination of them.
+-- Shapes: `vs` is a list of vectors, `column vs k` the list of their entries at place k. There are as many
+-- coefficients as vectors.
 use Rattle.std.specs.Prelude.{◌≡◌, ◌<◌, ℕ, suc, ℤ, pos, ◌≤ℤ◌, ◌*ℤ◌, List, [], length, map, slice_index_or}
 use Rattle.crn_vec.specs.Lists.{IsIn, IsAscending}
 use Rattle.crn_vec.specs.Vectors.{entry, dot, column}
@@ -15,7 +17,8 @@ combination_at c vs k = dot c (column vs k)
 
 -- only zeros combine the vectors to zero
 abbrev pub IsIndependent : List (List ℤ) → Type 0
-IsIndependent vs = (c : List ℤ) → length c ≡ length vs → ((k : ℕ) → combination_at c vs k ≡ pos 0) → IsZero c
+IsIndependent vs = (c : List ℤ) → length c ≡ length vs
+    → ((k : ℕ) → combination_at c vs k ≡ pos 0) → IsZero c
 
 -- some positive multiple of v is a combination of the vectors
 pub record DependsOn (v : List ℤ) (vs : List (List ℤ)) : Type 0 where
@@ -40,12 +43,15 @@ pub record IsRank (vs : List (List ℤ)) (s : ℕ) : Type 0 where
   pub choice : IsChoice (length vs) places
   pub count : length places ≡ s
   pub independent : IsIndependent (chosen places vs)
-  pub greatest : (more : List ℕ) → IsChoice (length vs) more → length more ≡ suc s → IsIndependent (chosen more vs) → ⊥
+  pub greatest : (more : List ℕ) → IsChoice (length vs) more → length more ≡ suc s
+      → IsIndependent (chosen more vs) → ⊥
 
--- where every vector of a list depends on independent members of it, their number is its rank
+-- if every vector of a list depends on independent members of it, their number is its rank
 abbrev pub BaseGivesRank : Type 0
-BaseGivesRank = (vs : List (List ℤ)) (places : List ℕ) → IsChoice (length vs) places → IsIndependent (chosen places vs)
-    → ((k : ℕ) → k < length vs → DependsOn (slice_index_or vs k []) (chosen places vs)) → IsRank vs (length places)
+BaseGivesRank = (vs : List (List ℤ)) (places : List ℕ) → IsChoice (length vs) places
+    → IsIndependent (chosen places vs)
+    → ((k : ℕ) → k < length vs → DependsOn (slice_index_or vs k []) (chosen places vs))
+    → IsRank vs (length places)
 
 -- a list of vectors has one rank
 abbrev pub RankIsOneNumber : Type 0

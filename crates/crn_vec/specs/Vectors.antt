@@ -39,7 +39,7 @@ abbrev pub column : List (List ℤ) → ℕ → List ℤ
 column [] j = []
 column (r ∷ rs) j = entry r j ∷ column rs j
 
--- the rows of so many entries each that stand in a list one after another
+-- the list cut into rows of `cols` entries each
 abbrev pub rows_of : ℕ → ℕ → List ℤ → List (List ℤ)
 rows_of zero cols xs = []
 rows_of (suc rows) cols xs = take cols xs ∷ rows_of rows cols (drop cols xs)
@@ -50,6 +50,6 @@ HasSign Zero x = x ≡ pos 0
 HasSign Plus x = pos 1 ≤ℤ x
 HasSign Minus x = x ≤ℤ negsuc 0
 
--- the marks are true exactly at the nonzero entries
+-- a mark is true if and only if the entry is not zero
 abbrev pub MarksSupport : List ℤ → List Bool → Type 0
 MarksSupport v marks = AllZip (λ x mark. IsTrue mark ↔ (x ≢ pos 0)) v marks

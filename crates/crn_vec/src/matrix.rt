@@ -107,21 +107,3 @@ impl Matrix {
         })
     }
 }
-
-#[cfg(test)]
-mod tests {
-    use super::Matrix;
-
-    #[test]
-    fn entries_stand_row_by_row(rt: HostRuntime) {
-        let made = Matrix::new(rt.alloc(), 2, 3, &[1, -2, 3, -99, 5, 99]).expect(&rt, "memory");
-        assert_eq!(rt; (made.rows(), made.cols()), (2, 3));
-        let copy = made.copy().expect(&rt, "memory");
-        for (row, want) in [(0, [1, -2, 3]), (1, [-99, 5, 99])] {
-            assert!(rt; row < copy.rows());
-            assert_eq!(rt; copy.row(row), want.as_slice());
-            assert!(rt; copy.cols() == 3);
-            assert_eq!(rt; copy.entry(row, 2), want[2]);
-        }
-    }
-}

@@ -11,7 +11,7 @@ pub enum Sign {
     Minus,
 }
 
-/// What a coordinate of a linear system has to be: positive, negative, not negative, zero, or anything.
+/// What a coordinate of a linear system has to be: at least 1, at most -1, at least 0, zero, or anything.
 #[derive(Clone, Copy, Debug, PartialEq, Eq)]
 pub enum Kind {
     Pos,
@@ -47,7 +47,7 @@ fn has_kind(kind: Kind, value: &i128) -> bool
     }
 }
 
-/// Whether each value is of its kind.
+/// Whether each value is of its kind, place by place.
 pub fn agrees(kinds: &[Kind], values: &[i128]) -> bool
     requires { length values.now ≡ length kinds.now }
     ensures { IsTrue result ↔ AllZip HasKind kinds.now values.now }
@@ -58,31 +58,4 @@ pub fn agrees(kinds: &[Kind], values: &[i128]) -> bool
         }
     }
     true
-}
-
-#[cfg(test)]
-mod tests {
-    use super::*;
-
-    #[test]
-    fn signs_by_table(rt: HostRuntime) {
-        for (value, want) in [(0, Sign::Zero), (1, Sign::Plus), (-1, Sign::Minus)] {
-            assert_eq!(rt; sign_of(value), want, "of {value}");
-        }
-    }
-
-    #[test]
-    fn agrees_exactly_where_each_value_has_its_kind(rt: HostRuntime) {
-        let kinds = [Kind::Pos, Kind::Neg, Kind::NonNeg, Kind::Zero, Kind::Free];
-        for (values, want) in [
-            ([1, -1, 0, 0, -5], true),
-            ([0, -1, 0, 0, 0], false),
-            ([1, 0, 0, 0, 0], false),
-            ([1, -1, -1, 0, 0], false),
-            ([1, -1, 1, 1, 0], false),
-        ] {
-            assert_eq!(rt; agrees(&kinds, &values), want, "at {values:?}");
-        }
-        assert_eq!(rt; agrees(&[], &[]), true);
-    }
 }

@@ -1,0 +1,36 @@
+-- What other crates may cite of this crate's proofs.
+
+-- Lists of any kind: members, distinct members, facts of all members, and lists with a member put at the end.
+pub use Rattle.crn_vec.proofs.Lists.{in_left, in_right, in_cases, in_push, in_map, map_in, at_in, in_at, same_place}
+pub use Rattle.crn_vec.proofs.Lists.{distinct_push, map_distinct, map_same, map_twice, append_same, pair, and_cases}
+pub use Rattle.crn_vec.proofs.Lists.{all_in, all_from, all_at, all_push, all_map}
+-- Lists by their entries: which places are inside, and lists related place by place.
+pub use Rattle.crn_vec.proofs.Entries.{past_end, inside_or, lt_or, eq_or, zip_from, zip_at, zip_long, within_from, dot_step}
+-- The rows of a list that holds them one after another, and bounds of their entries.
+pub use Rattle.crn_vec.proofs.RowLists.{length-rows_of, row_at, row_inside, rows_of_length, within_at, within_drop, within_take, within_rows}
+-- Numbers that 128 bits hold, and bounds of sums and products.
+pub use Rattle.crn_vec.proofs.Held.{held, product_within, sum_within}
+-- Ring laws and signs of whole numbers.
+pub use Rattle.crn_vec.proofs.Ring.{distrib, distrib-right, assoc, left-comm, mul-neg, mul-sub, no_zero, pos_pos, is_zero, one_ne_zero}
+-- Dot products, sums and multiples of vectors, and combinations of rows.
+pub use Rattle.crn_vec.proofs.Sums.{dot-comm, dot_none, dot_zero, dot_split, dot-scale, dot-plus, zeros-dot, transposed}
+pub use Rattle.crn_vec.proofs.Sums.{plus, zeros, comb, dots, length-scale, length-plus, length-zeros, length-comb, length-dots}
+pub use Rattle.crn_vec.proofs.Sums.{entry-zeros, entry-scale, entry-plus, entry-comb, entry-dots}
+-- A homogeneous system has a solution that is not zero, or no more unknowns than equations.
+pub use Rattle.crn_vec.proofs.Null.{Zero, Solves, Free, Fixed, null, dot-zero, dot-scale-right}
+-- More vectors than they have entries are dependent.
+pub use Rattle.crn_vec.proofs.Many.{Related, too_many}
+-- The number of independent vectors, and the rank.
+pub use Rattle.crn_vec.proofs.Ranks.{base_gives_rank, rank_is_one_number}
+-- The two spaces of a matrix are orthogonal, and signs of dot products.
+pub use Rattle.crn_vec.proofs.Orthogonal.{part, dot_not_below, dot_above, dot_above_two, negative_at, dot_opposite, across, orthogonal}
+pub use Rattle.crn_vec.proofs.Orthogonal.{listed, length-listed, entry-listed, listed-sum, listed_zeros}
+-- What a coordinate of each kind may have in a solution and in a cut.
+pub use Rattle.crn_vec.proofs.KindLaws.{Quiet, quiet_part, agree, dual_after, row_after, settled_dual, settled_row, take_zero, weigh_zero}
+pub use Rattle.crn_vec.proofs.KindLaws.{kind_takes, kind_from, kind_weighs, take_sum, sum_some, product_some, up_up, down_down}
+-- A system with a cut has no solution, and the weights decide whether there is a cut.
+pub use Rattle.crn_vec.proofs.Cuts.{kinds_at, dual_one, cuts_exclude_solutions, weights_tell_cuts}
+-- Numbering by first appearance, read from left to right.
+pub use Rattle.crn_vec.proofs.Appearance.{IsNumberedInOrder, appears_in_order, in_order_appears}
+-- The ends of the reactions of a network.
+pub use Rattle.crn_vec.proofs.Ends.{ends_below}

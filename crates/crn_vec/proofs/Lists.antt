@@ -1,0 +1,111 @@
+-- Lists of any kind: members, distinct members, facts of all members, lists with a member put at the end, and pairs.
+use Rattle.std.proofs.Common.{◌≡◌, ◌⊎◌, ℕ, Bool, true, false, zero, suc, ◌<◌, List, [], ◌∷◌, ◌++◌, length, get_or, map, refl, sym, ap, subst, inl, inr, arith}
+use Rattle.std.specs.Prelude.{◌&&◌}
+use Rattle.std.specs.List.{AllByRecursion}
+use Rattle.crn_vec.specs.Lists.{IsIn, AreDistinct}
+
+pub in_left : {A : Type 0} (x : A) (xs ys : List A) → IsIn x xs → IsIn x (xs ++ ys)
+in_left x [] ys h = absurd h
+in_left x (y ∷ xs) ys (inl e) = inl e
+in_left x (y ∷ xs) ys (inr h) = inr (in_left x xs ys h)
+
+pub in_right : {A : Type 0} (x : A) (xs ys : List A) → IsIn x ys → IsIn x (xs ++ ys)
+in_right x [] ys h = h
+in_right x (y ∷ xs) ys h = inr (in_right x xs ys h)
+
+pub in_cases : {A : Type 0} (x : A) (xs ys : List A) → IsIn x (xs ++ ys) → IsIn x xs ⊎ IsIn x ys
+in_cases x [] ys h = inr h
+in_cases x (y ∷ xs) ys (inl e) = inl (inl e)
+in_cases x (y ∷ xs) ys (inr h) = elim (in_cases x xs ys h) [ inl a ↦ inl (inr a) | inr b ↦ inr b ]
+
+-- a member of the list with x at its end is x or was there
+pub in_push : {A : Type 0} (y : A) (xs : List A) (x : A) → IsIn y (xs ++ x ∷ []) → IsIn y xs ⊎ (y ≡ x)
+in_push y xs x h = elim (in_cases y xs (x ∷ []) h) [ inl a ↦ inl a | inr b ↦ elim b [ inl e ↦ inr e | inr c ↦ absurd c ] ]
+
+pub distinct_push : {A : Type 0} (xs : List A) (x : A) → AreDistinct xs → (IsIn x xs → ⊥) → AreDistinct (xs ++ x ∷ [])
+distinct_push [] x h free = (λ i. i, tt)
+distinct_push (y ∷ xs) x h free = (λ i. elim (in_push y xs x i) [ inl a ↦ h.0 a | inr e ↦ free (inl (sym e)) ], distinct_push xs x h.1 (λ i. free (inr i)))
+
+pub in_map : {A B : Type 0} (f : A → B) (xs : List A) (y : B) → IsIn y (map f xs) → (x : A) × IsIn x xs × (y ≡ f x)
+in_map f [] y h = absurd h
+in_map f (x ∷ xs) y (inl e) = (x, inl refl, e)
+in_map f (x ∷ xs) y (inr h) = let r = in_map f xs y h in (r.0, inr r.1, r.2)
+
+pub map_in : {A B : Type 0} (f : A → B) (xs : List A) (x : A) → IsIn x xs → IsIn (f x) (map f xs)
+map_in f [] x h = absurd h
+map_in f (y ∷ xs) x (inl e) = inl (ap f e)
+map_in f (y ∷ xs) x (inr h) = inr (map_in f xs x h)
+
+pub map_distinct : {A B : Type 0} (f : A → B) (xs : List A) → AreDistinct xs → ((a b : A) → IsIn a xs → IsIn b xs → f a ≡ f b → a ≡ b) → AreDistinct (map f xs)
+map_distinct f [] h inj = tt
+map_distinct {A} f (x ∷ xs) h inj = (
+  λ i. let r = in_map f xs (f x) i in h.0 (subst (λ (y : A). IsIn y xs) (sym (inj x r.0 (inl refl) (inr r.1) r.2)) r.1),
+  map_distinct f xs h.1 (λ a b p q e. inj a b (inr p) (inr q) e),
+)
+
+pub map_same : {A B : Type 0} (f g : A → B) (xs : List A) → ((x : A) → IsIn x xs → f x ≡ g x) → map f xs ≡ map g xs
+map_same f g [] h = refl
+map_same {A} {B} f g (x ∷ xs) h = let rest : map f xs ≡ map g xs = map_same f g xs (λ y i. h y (inr i)) in let here : f x ≡ g x = h x (inl refl) in cc
+
+pub map_twice : {A B C : Type 0} (f : A → B) (g : B → C) (xs : List A) → map g (map f xs) ≡ map (λ x. g (f x)) xs
+map_twice f g [] = refl
+map_twice {A} {B} {C} f g (x ∷ xs) = ap (λ (t : List C). g (f x) ∷ t) (map_twice f g xs)
+
+pub at_in : {A : Type 0} (xs : List A) (i : ℕ) (d : A) → i < length xs → IsIn (get_or xs i d) xs
+at_in [] i d lt = absurd (omega arith)
+at_in (x ∷ xs) zero d lt = inl refl
+at_in (x ∷ xs) (suc i) d lt = inr (at_in xs i d (omega arith))
+
+pub in_at : {A : Type 0} (x : A) (xs : List A) (d : A) → IsIn x xs → (i : ℕ) × (i < length xs) × (get_or xs i d ≡ x)
+in_at x [] d h = absurd h
+in_at x (y ∷ xs) d (inl e) = (0, omega arith, sym e)
+in_at x (y ∷ xs) d (inr h) = let r = in_at x xs d h in (suc r.0, omega (arith, r.1), r.2)
+
+-- equal members of a list of distinct ones are at one place
+pub same_place : {A : Type 0} (xs : List A) (i j : ℕ) (d : A) → AreDistinct xs → i < length xs → j < length xs → get_or xs i d ≡ get_or xs j d → i ≡ j
+same_place [] i j d h p q e = absurd (omega arith)
+same_place (x ∷ xs) zero zero d h p q e = refl
+same_place {A} (x ∷ xs) zero (suc j) d h p q e = absurd (h.0 (subst (λ (y : A). IsIn y xs) (sym e) (at_in xs j d (omega arith))))
+same_place {A} (x ∷ xs) (suc i) zero d h p q e = absurd (h.0 (subst (λ (y : A). IsIn y xs) e (at_in xs i d (omega arith))))
+same_place (x ∷ xs) (suc i) (suc j) d h p q e = ap suc (same_place xs i j d h.1 (omega arith) (omega arith) e)
+
+pub all_in : {A : Type 0} (P : A → Type 0) (xs : List A) (x : A) → AllByRecursion P xs → IsIn x xs → P x
+all_in P [] x h i = absurd i
+all_in P (y ∷ xs) x h (inl e) = subst P (sym e) h.0
+all_in P (y ∷ xs) x h (inr i) = all_in P xs x h.1 i
+
+pub all_from : {A : Type 0} (P : A → Type 0) (xs : List A) → ((x : A) → IsIn x xs → P x) → AllByRecursion P xs
+all_from P [] h = tt
+all_from P (x ∷ xs) h = (h x (inl refl), all_from P xs (λ y i. h y (inr i)))
+
+pub all_at : {A : Type 0} (P : A → Type 0) (xs : List A) (i : ℕ) (d : A) → AllByRecursion P xs → i < length xs → P (get_or xs i d)
+all_at P xs i d h lt = all_in P xs (get_or xs i d) h (at_in xs i d lt)
+
+pub all_push : {A : Type 0} (P : A → Type 0) (xs : List A) (x : A) → AllByRecursion P xs → P x → AllByRecursion P (xs ++ x ∷ [])
+all_push P [] x h p = (p, tt)
+all_push P (y ∷ xs) x h p = (h.0, all_push P xs x h.1 p)
+
+pub all_map : {A B : Type 0} (P : B → Type 0) (f : A → B) (xs : List A) → ((x : A) → IsIn x xs → P (f x)) → AllByRecursion P (map f xs)
+all_map P f [] h = tt
+all_map P f (x ∷ xs) h = (h x (inl refl), all_map P f xs (λ y i. h y (inr i)))
+
+-- the first parts of two equal lists are equal if they are as long
+pub append_same : {A : Type 0} (a b c d : List A) → length a ≡ length b → a ++ c ≡ b ++ d → a ≡ b
+append_same [] [] c d l e = refl
+append_same [] (y ∷ b) c d l e = absurd (omega (arith, l))
+append_same (x ∷ a) [] c d l e = absurd (omega (arith, l))
+append_same {A} (x ∷ a) (y ∷ b) c d l e =
+    let rest : a ++ c ≡ b ++ d = cc in
+    let less : length a ≡ length b = omega (arith, l) in
+    let same : a ≡ b = append_same a b c d less rest in
+    let heads : x ≡ y = cc in
+    cc
+
+-- names a pair, as `ap₂ pair` needs
+abbrev pub pair : {A B : Type 0} → A → B → A × B
+pair a b = (a, b)
+
+-- both parts of a conjunction are true
+pub and_cases : (a b : Bool) → ((a && b) ≡ true) → (a ≡ true) × (b ≡ true)
+and_cases true b h = (refl, h)
+and_cases false b h = absurd cc
