@@ -5,15 +5,20 @@ The `rt` there writes down each call, fails where a file says so, and copies the
 """
 
 import os
+import pty
 import shutil
 import subprocess
 import sys
 import tempfile
 from pathlib import Path
 
+from tally import Tally
+
 ROOT = Path(__file__).resolve().parent.parent
+SECONDS = 60
 
 RT = """#!/bin/sh
+if [ "$1" = version ]; then echo version >>"$CALLS"; echo "toolchain $VERSION"; exit; fi
 echo "$(basename "$PWD") $*" >>"$CALLS"
 echo "what rt says"
 if [ -e "$PWD/broken" ]; then exit 1; fi
@@ -23,7 +28,13 @@ if [ "$1" = run ]; then mkdir -p out; cp "$PROGRAM" out/crnt; shift 2; exec out/
 PROGRAM = """#!/bin/sh
 if [ "$1" != report ]; then echo usage; exit 4; fi
 cat
-exit 3
+if [ "$STATUS" = killed ]; then kill -9 $$; fi
+exit "${STATUS:-3}"
+"""
+
+# what must not run: a program beside a copied launcher, or one in the folder where somebody stands
+DECOY = """#!/bin/sh
+echo decoy
 """
 
 CRATES = """# the lowest first
@@ -33,6 +44,13 @@ middle: low clap # a library of the kit
 crnt status=4: middle
 """
 
+BUILD = ["version", "low lib", "middle lib", "crnt run -- build"]
+
+
+def put_script(path, text):
+    path.write_text(text)
+    path.chmod(0o755)
+
 
 class Repository:
     """A repository in a folder of its own, with a launcher, four crates, and a toolchain in PATH."""
@@ -40,18 +58,19 @@ class Repository:
     def __init__(self, folder):
         self.root = folder / "a repository"
         self.calls = folder / "calls"
+        self.tools = folder / "tools"
         for name in ["low", "aside", "middle", "crnt"]:
-            (self.root / "crates" / name / "src").mkdir(parents=True)
+            for kind in ["src", "specs"]:
+                (self.root / "crates" / name / kind).mkdir(parents=True)
             self.source(name).write_text("")
         (self.root / "crates.txt").write_text(CRATES)
         shutil.copy(ROOT / "crnt", self.root / "crnt")
-        tools = folder / "tools"
-        tools.mkdir()
-        for path, text in [(tools / "rt", RT), (folder / "program", PROGRAM)]:
-            path.write_text(text)
-            path.chmod(0o755)
-        self.environment = dict(os.environ, CALLS=str(self.calls), PROGRAM=str(folder / "program"),
-                                PATH=f"{tools}:{os.environ['PATH']}")
+        self.tools.mkdir()
+        put_script(self.tools / "rt", RT)
+        put_script(folder / "program", PROGRAM)
+        self.path = f"{self.tools}:{os.environ['PATH']}"
+        self.environment = dict(os.environ, CALLS=str(self.calls), PROGRAM=str(folder / "program"), PATH=self.path,
+                                VERSION="1")
         self.age()
 
     def source(self, name):
@@ -63,48 +82,209 @@ class Repository:
             at = path.stat().st_mtime - 3600
             os.utime(path, (at, at))
 
-    def run(self, words, where=None, launcher=None):
+    def command(self, words, launcher):
         self.calls.write_text("")
-        done = subprocess.run([launcher or self.root / "crnt", *words], input=b"text", capture_output=True,
-                              env=self.environment, cwd=where or self.root, timeout=60)
-        return done.returncode, done.stdout, done.stderr.decode(), self.calls.read_text().splitlines()
+        return [launcher or self.root / "crnt", *words]
 
+    def called(self):
+        return self.calls.read_text().splitlines()
 
-BUILD = ["low lib", "middle lib", "crnt run -- build"]
+    def run(self, words, where=None, launcher=None, **changes):
+        """The status, both outputs and the calls of rt, where no stream is a terminal."""
+        done = subprocess.run(self.command(words, launcher), input=b"text", capture_output=True,
+                              env={**self.environment, **changes}, cwd=where or self.root, timeout=SECONDS)
+        return done.returncode, done.stdout, done.stderr.decode(), self.called()
+
+    def run_on_a_terminal(self, words, typed=None, **changes):
+        """The status, standard output and what the terminal shows, where standard error is a terminal. It is standard
+        input too where something is typed."""
+        ours, theirs = pty.openpty()
+        stdin = subprocess.PIPE if typed is None else theirs
+        child = subprocess.Popen(self.command(words, None), stdin=stdin, stdout=subprocess.PIPE, stderr=theirs,
+                                 env={**self.environment, **changes}, cwd=self.root)
+        os.close(theirs)
+        if typed is not None:
+            os.write(ours, typed)
+        out, _ = child.communicate(None if typed is not None else b"text", timeout=SECONDS)
+        shown = b""
+        try:
+            while piece := os.read(ours, 4096):
+                shown += piece
+        except OSError:  # the last holder of the other end has gone
+            pass
+        os.close(ours)
+        return child.returncode, out, shown.decode().replace("\r\n", "\n")
 
 
 def tries(repository, folder):
+    yield from builds(repository, folder)
+    yield from builds_again(repository)
+    yield from doubts(repository, folder)
+    yield from toolchains(repository, folder)
+    yield from copies(repository, folder)
+    yield from terminals(repository)
+    yield from failures(repository, folder)
+
+
+QUIET = (3, b"text", "", [])
+
+
+def builds(repository, folder):
     status, out, told, calls = repository.run(["report"])
     yield "builds a program that is missing, the lowest crate first", calls == BUILD, calls
+    yield "says how many crates are proved", "3 crates are proved once" in told, told
     yield "says which crate is being proved", "crnt: proving middle (2 of 3)" in told and "what rt says" not in told, told
     yield "hands on streams and status", (status, out) == (3, b"text"), (status, out)
 
     seen = repository.run(["report"])
-    yield "is quiet where the program is up to date", seen == (3, b"text", "", []), seen
+    yield "is quiet where the program is up to date", seen == QUIET, seen
     seen = repository.run(["report"], where="/")
-    yield "works from any folder", seen == (3, b"text", "", []), seen
+    yield "works from any folder", seen == QUIET, seen
     link = folder / "link"
     link.symlink_to(repository.root / "crnt")
     seen = repository.run(["report"], launcher=link)
-    yield "works through a link", seen == (3, b"text", "", []), seen
+    yield "works through a link", seen == QUIET, seen
+    seen = repository.run(["report"], where="/", launcher="crnt", PATH=f"{repository.root}:{repository.path}")
+    yield "works from the path", seen == QUIET, seen
     seen = repository.run([])
     yield "hands on an empty list of words", seen == (4, b"usage\n", "", []), seen
 
+
+def builds_again(repository):
     repository.age()
     repository.source("middle").write_text("changed")
-    _, _, _, calls = repository.run(["report"])
-    yield "builds where a source is newer", calls == BUILD, calls
+    _, _, told, calls = repository.run(["report"])
+    yield "builds where a source is newer", calls == BUILD and "a source has changed" in told, (calls, told)
     repository.age()
     repository.source("aside").unlink()
     _, _, _, calls = repository.run(["report"])
     yield "builds where a source has gone", calls == BUILD, calls
+    repository.age()
+    (repository.root / "crates" / "aside" / "specs").rmdir()
+    _, _, _, calls = repository.run(["report"])
+    yield "builds where a folder of sources has gone", calls == BUILD, calls
+    repository.age()
+    (repository.root / "crates" / "aside" / "specs").mkdir()
+    _, _, _, calls = repository.run(["report"])
+    yield "builds where a folder of sources is new", calls == BUILD, calls
+    put_script(repository.root / "crates" / "crnt" / "out" / "crnt", PROGRAM)
+    _, _, _, calls = repository.run(["report"])
+    yield "builds where somebody else built the program", calls == BUILD, calls
+    (repository.root / "crates" / "crnt" / "out" / "built").unlink()
+    _, _, _, calls = repository.run(["report"])
+    yield "builds where nothing says how the program was built", calls == BUILD, calls
 
+
+def doubts(repository, folder):
+    """Some tool that the launcher calls fails or is not there."""
+    def failing(tool):
+        only = folder / f"{tool} fails"
+        only.mkdir(exist_ok=True)
+        put_script(only / tool, "#!/bin/sh\nexit 1\n")
+        return f"{only}:{repository.path}"
+
+    status, out, _, calls = repository.run(["report"], PATH=failing("find"))
+    yield "builds where find fails", (status, out, calls) == (3, b"text", BUILD), (status, out, calls)
+    seen = repository.run(["report"], PATH=failing("ls"))
+    yield "asks the toolchain where ls fails", seen == (3, b"text", "", ["version"]), seen
+    status, out, told, calls = repository.run(["report"], launcher=folder / "link", PATH=failing("readlink"))
+    yield "ends with 70 where readlink fails on a link", (status, out, calls) == (70, b"", []), (status, out, told, calls)
+    seen = repository.run(["report"], PATH=failing("readlink"))
+    yield "needs no readlink where there is no link", seen == QUIET, seen
+    for tool in ["ls", "awk", "mktemp", "touch"]:
+        repository.source("low").write_text(f"changed before {tool} fails")
+        status, out, told, calls = repository.run(["report"], PATH=failing(tool))
+        yield f"ends with 70 where {tool} fails at a build", (status, out) == (70, b""), (status, out, told, calls)
+        status, _, _, calls = repository.run(["report"])
+        yield f"builds after {tool} failed", (status, calls) == (3, BUILD), (status, calls)
+
+    bare = folder / "find and ls alone"
+    bare.mkdir()
+    for tool in ["find", "ls", "cat"]:
+        (bare / tool).symlink_to(shutil.which(tool))
+    elsewhere = folder / "elsewhere"
+    (elsewhere / "crates" / "crnt" / "out").mkdir(parents=True)
+    (elsewhere / "crates.txt").write_text(CRATES)
+    put_script(elsewhere / "crates" / "crnt" / "out" / "crnt", DECOY)
+    seen = repository.run(["report"], where=elsewhere, PATH=str(bare))
+    yield "knows its folder without dirname, and runs without a toolchain what is up to date", seen == QUIET, seen
+    (bare / "find").unlink()
+    status, out, told, calls = repository.run(["report"], PATH=str(bare))
+    yield "ends with 70 where there is no find and no toolchain", (status, out, calls) == (70, b"", []), (status, out, calls)
+
+
+def toolchains(repository, folder):
+    rt = repository.tools / "rt"
+    put_script(rt, RT + "# the same version from another file\n")
+    seen = repository.run(["report"])
+    yield "asks a toolchain of another file for its version", seen == (3, b"text", "", ["version"]), seen
+    seen = repository.run(["report"])
+    yield "asks it once", seen == QUIET, seen
+    put_script(rt, RT)
+    _, _, told, calls = repository.run(["report"], VERSION="2")
+    yield "builds where the toolchain has changed", calls == ["version", *BUILD], calls
+    yield "says that the toolchain has changed", "the toolchain has changed" in told, told
+    seen = repository.run(["report"], VERSION="2")
+    yield "runs what the new toolchain built", seen == QUIET, seen
+    repository.environment["VERSION"] = "2"
+
+    other = folder / "other tools"
+    other.mkdir()
+    put_script(other / "rt", "#!/bin/sh\nexit 1\n")
+    status, out, told, _ = repository.run(["report"], PATH=f"{other}:{repository.path}")
+    yield "ends with 70 where another toolchain says no version", (status, out) == (70, b""), (status, out, told)
+    status, _, _, calls = repository.run(["report"])
+    yield "builds with the first toolchain again", (status, calls) == (3, BUILD), (status, calls)
+
+
+def copies(repository, folder):
+    copy = folder / "a copy" / "crnt"
+    (copy.parent / "crates" / "crnt" / "out").mkdir(parents=True)
+    put_script(copy.parent / "crates" / "crnt" / "out" / "crnt", DECOY)
+    shutil.copy(repository.root / "crnt", copy)
+    status, out, told, calls = repository.run(["report"], launcher=copy)
+    yield "ends with 70 where it was copied", (status, out, calls) == (70, b"", []), (status, out, calls)
+    yield "says that it is a copy, and how to make a link", "is a copy" in told and "ln -s" in told, told
+
+
+def terminals(repository):
+    for status, hint in [(2, "If your text is refused"), (4, "crnt report < FILE"), (5, "standard input"),
+                         (6, "the output"), (7, "memory"), (8, "arguments")]:
+        seen = repository.run_on_a_terminal(["report"], STATUS=str(status))
+        good = seen[:2] == (status, b"text") and seen[2].count("\n") == 1 and hint in seen[2]
+        yield f"explains the status {status} at a terminal in one line", good, seen
+        seen = repository.run(["report"], STATUS=str(status))
+        yield f"says nothing of the status {status} where there is no terminal", seen == (status, b"text", "", []), seen
+    for status in ["0", "1", "3"]:
+        seen = repository.run_on_a_terminal(["report"], STATUS=status)
+        yield f"says nothing of the status {status} at a terminal", seen == (int(status), b"text", ""), seen
+    status, out, shown = repository.run_on_a_terminal([])
+    yield "says at a terminal what to type instead of no words", (status, out) == (4, b"usage\n") and "report < FILE" in shown, \
+        (status, out, shown)
+
+    for words in [["report"], ["report", "--budget", "5"], ["--budget=5", "report"]]:
+        status, out, shown = repository.run_on_a_terminal(words, typed=b"A -> B\n\x04")
+        yield f"says how to end what is typed: {words}", "Ctrl-D" in shown, shown
+    status, out, shown = repository.run_on_a_terminal(["report"], typed=b"A -> B\n\x04")
+    yield "hands on what is typed", (status, out) == (3, b"A -> B\n"), (status, out, shown)
+    for words in [[], ["report", "file"], ["--help"]]:
+        _, _, shown = repository.run_on_a_terminal(words, typed=b"\x04")
+        yield f"says nothing of typing where nothing is read: {words}", "Ctrl-D" not in shown, shown
+
+    for seen in [repository.run_on_a_terminal(["report"], STATUS="killed"), repository.run(["report"], STATUS="killed")]:
+        yield "ends by the signal that ends the program", seen[0] == -9, seen
+    repository.source("low").write_text("changed for the terminal")
+    status, out, shown = repository.run_on_a_terminal(["report"])
+    yield "builds at a terminal too", (status, out, repository.called()) == (3, b"text", BUILD), (status, out, shown)
+
+
+def failures(repository, folder):
     repository.age()
     repository.source("low").write_text("changed")
     broken = repository.root / "crates" / "middle" / "broken"
     broken.write_text("")
     status, out, told, calls = repository.run(["report"])
-    yield "ends with 70 where a crate is not proved", (status, out, calls) == (70, b"", BUILD[:2]), (status, out, calls)
+    yield "ends with 70 where a crate is not proved", (status, out, calls) == (70, b"", BUILD[:3]), (status, out, calls)
     yield "shows the log of what failed", "middle was not proved" in told and "what rt says" in told, told
     broken.unlink()
     status, _, _, calls = repository.run(["report"])
@@ -113,25 +293,21 @@ def tries(repository, folder):
     shutil.rmtree(repository.root / "crates" / "crnt" / "out")
     bare = folder / "bare"
     bare.mkdir()
-    for tool in ["dirname", "readlink"]:
-        (bare / tool).symlink_to(shutil.which(tool))
-    repository.environment["PATH"] = str(bare)
-    status, out, told, _ = repository.run(["report"])
-    yield "ends with 70 where there is no toolchain", (status, out) == (70, b"") and "rt is not there" in told, (status, told)
+    status, out, told, _ = repository.run(["report"], PATH=str(bare))
+    yield "ends with 70 where there is no program and no toolchain", \
+        (status, out) == (70, b"") and "rt is not on the path" in told, (status, told)
+    (repository.root / "crates.txt").write_text("low:\n")
+    status, out, told, calls = repository.run(["report"])
+    yield "ends with 70 where crates.txt has no crnt", (status, out, calls) == (70, b"", []), (status, told, calls)
 
 
 def main():
-    passed, failed = 0, 0
+    tally = Tally("launcher")
     with tempfile.TemporaryDirectory() as name:
         folder = Path(name)
         for name, good, seen in tries(Repository(folder), folder):
-            if good:
-                passed += 1
-            else:
-                failed += 1
-                print(f"FAILED {name}: {seen!r:.400}")
-    print(f"launcher: {passed} passed, {failed} failed")
-    return 1 if failed else 0
+            tally.count(name, good, seen)
+    return tally.end()
 
 
 if __name__ == "__main__":
