@@ -1,17 +1,21 @@
 #!/usr/bin/env python3
-"""Reads the documents: their links lead somewhere, the definitions and contracts that they name are there, the reports
-that they show are stored reports, and they cite nothing that is not in the repository."""
+"""Reads the documents and the crates.
+
+The documents: their links lead somewhere, the definitions and contracts that they name are there, the reports that they
+show are stored reports, and they cite nothing that is not in the repository. The definitions pages name every
+definition that a public contract reaches. The crates: what one may cite of another, the lines of clauses, and who may
+stand on whom (`structure.py`)."""
 
 import re
 import sys
 from pathlib import Path
 
+import structure
+from sources import Repository
+
 ROOT = Path(__file__).resolve().parent.parent
-DOCUMENTS = sorted([*ROOT.glob("*.md"), *ROOT.glob("docs/*.md"), *ROOT.glob("examples/**/*.md")])
 
 LINK = re.compile(r"\]\(([^)#:]+)(?:#[^)]*)?\)")
-# a file of a crate, and names in it: `crn_vec/specs/Linkage.antt`: `SameClass`, `IsWalk`
-PLACE = re.compile(r"`(\w+/(?:specs|src)/[\w/]+\.(?:antt|rt))`: ((?:`[\w:]+`(?:, | and )?)+)")
 REPORT = re.compile(r"^```\n(crn report 1\n.*?)^```", re.MULTILINE | re.DOTALL)
 # a number of a text that readers don't have, as a definition's or a theorem's
 CITATION = re.compile(r"\b(?:[RDLHW][1-9][0-9]?|T[1-5](?:\.[0-9])?)\b")
@@ -20,18 +24,18 @@ CITATION = re.compile(r"\b(?:[RDLHW][1-9][0-9]?|T[1-5](?:\.[0-9])?)\b")
 def is_defined(text, name):
     """Whether the text of a file defines the name, which may be TYPE::FUNCTION."""
     owner, _, own = name.rpartition("::")
-    kinds = r"(?:(?:abbrev|unfoldable) pub|pub (?:record|data)|fn|struct|enum|trait|const)"
+    kinds = r"(?:(?:abbrev|unfoldable)(?: pub)?|(?:pub )?(?:record|data)|fn|struct|enum|trait|const|type)"
     has_owner = not owner or re.search(rf"\b(?:impl|struct|trait)\b.*\b{owner}\b", text)
     return bool(has_owner and re.search(rf"\b{kinds} {own}\b", text))
 
 
-def claims(document, text, reports):
+def document_claims(root, document, text, reports):
     for target in LINK.findall(text):
         yield f"the link to {target}", (document.parent / target).exists()
-    for path, names in PLACE.findall(text):
-        file = ROOT / "crates" / path
+    for path, names in structure.PLACE.findall(text):
+        file = root / "crates" / path
         yield f"the file {path}", file.exists()
-        for name in re.findall(r"`([\w:]+)`", names) if file.exists() else []:
+        for name in structure.QUOTED.findall(names) if file.exists() else []:
             yield f"{name} in {path}", is_defined(file.read_text(), name)
     for report in REPORT.findall(text):
         yield f"the report that begins {report[13:40]!r}", report in reports
@@ -39,16 +43,43 @@ def claims(document, text, reports):
         yield f"no citation of {citation}", False
 
 
+def claims(root):
+    """All that is asked: where, what, and whether it holds."""
+    documents = sorted([*root.glob("*.md"), *root.glob("docs/**/*.md"), *root.glob("examples/**/*.md")])
+    reports = {path.read_text() for path in root.glob("examples/networks/*.report")}
+    for document in documents:
+        for claim, holds in document_claims(root, document, document.read_text(), reports):
+            yield str(document.relative_to(root)), claim, holds
+
+    repository = Repository(root)
+    pages = [path.read_text() for path in [root / "docs/DEFINITIONS.md", *sorted(root.glob("docs/definitions/*.md"))]]
+    architecture = (root / "docs/ARCHITECTURE.md").read_text()
+    by_group = {"ARCHITECTURE": architecture, "README": (root / "README.md").read_text()}
+    rules = {
+        "definitions": structure.definitions_are_on_the_pages(repository, pages),
+        "helpers": structure.helpers_are_in_their_files(repository, pages),
+        "reading path": structure.lines_are_counted(repository, pages[0]),
+        "doors": structure.doors_are_kept(repository),
+        "clauses": structure.clauses_are_short(repository),
+        "solver": structure.checkers_stand_on_no_solver(repository),
+        "groups": structure.groups_agree(repository, by_group),
+        "crates below": structure.crates_below_agree(repository, architecture),
+    }
+    for rule, found in rules.items():
+        for claim, holds in found:
+            yield rule, claim, holds
+
+
 def main():
+    """`documents.py [ROOT]`, where ROOT is the top of the repository that is read: this one, if none is given."""
+    root = Path(sys.argv[1]).resolve() if len(sys.argv) > 1 else ROOT
     passed, failed = 0, 0
-    reports = {path.read_text() for path in ROOT.glob("examples/networks/*.report")}
-    for document in DOCUMENTS:
-        for claim, holds in claims(document, document.read_text(), reports):
-            if holds:
-                passed += 1
-            else:
-                failed += 1
-                print(f"FAILED {document.relative_to(ROOT)}: {claim}")
+    for place, claim, holds in claims(root):
+        if holds:
+            passed += 1
+        else:
+            failed += 1
+            print(f"FAILED {place}: {claim}")
     print(f"documents: {passed} passed, {failed} failed")
     return 1 if failed else 0
 

@@ -1,0 +1,190 @@
+#!/usr/bin/env python3
+"""Breaks each rule of `documents.py` in a small repository that keeps all of them: each break has to be seen."""
+
+import sys
+import tempfile
+from pathlib import Path
+
+import documents
+
+FILES = {
+    "crates.txt": """\
+# ground: numbers
+crn_low:
+# certificate: checkers
+crn_cert: crn_low
+crn_part_check: crn_cert crn_low
+# solver: solvers
+crn_tab: crn_low itoa
+""",
+    "crates/crn_low/src/lib.rt": "//! Counts.\n\nmod count;\n\npub use count::{Counter, HasCount, MOST, count_of};\n",
+    "crates/crn_low/src/count.rt": """\
+ghost use Rattle.std.specs.Prelude.{◌≡◌, ℕ};
+ghost use Rattle.crn_low.specs.Count.{IsCount};
+ghost use Rattle.crn_low.specs.Inner.Steps.{IsStep};
+
+/// The greatest count.
+pub const MOST: u32 = 9;
+
+/// Counts.
+pub struct Counter {
+    n: u32,
+}
+
+impl Model for Counter {
+    ghost use Rattle.crn_low.specs.Kept.{KeptCounter};
+
+    ghost Value = { KeptCounter };
+
+    ghost view = { λ s. record { n = s.n } };
+}
+
+/// What has a count.
+pub trait HasCount {
+    ghost count: { Self → ℕ };
+
+    /// The count.
+    fn count(&self) -> u32
+        ensures { result ≡ count self.now };
+}
+
+/// The count after a number.
+pub fn count_of(n: u32) -> u32
+    ensures { IsCount n result }
+{
+    step(n)
+}
+
+// The text "}" in a string, and '{' as a byte, are no braces.
+fn step(n: u32) -> u32
+    ensures next { IsStep n result }
+{
+    n + 1
+}
+""",
+    "crates/crn_low/specs/Lib.antt": "pub mod Count\npub mod Kept\npub mod Inner\n",
+    "crates/crn_low/specs/Count.antt": """\
+-- Counts.
+use Rattle.std.specs.Prelude.{◌≡◌, ℕ, suc}
+use Rattle.crn_low.specs.declared.count.TheConstants.{MOST}
+
+-- the next number
+abbrev pub next : ℕ → ℕ
+next n = suc n
+
+-- the count after a number
+abbrev pub IsCount : ℕ → ℕ → Type 0
+IsCount n count = (count ≡ next n) × (count ≡ MOST)
+""",
+    "crates/crn_low/specs/Kept.antt": "-- What contracts see.\n\n-- a counter\npub record KeptCounter : Type 0 where\n  pub n : ℕ\n",
+    "crates/crn_low/specs/Inner.antt": "pub mod Steps\n",
+    "crates/crn_low/specs/Inner/Steps.antt": """\
+-- For the contracts of private functions alone.
+use Rattle.std.specs.Prelude.{◌≡◌, ℕ}
+
+-- one step
+abbrev pub IsStep : ℕ → ℕ → Type 0
+IsStep n m = m ≡ n
+""",
+    "crates/crn_low/proofs/CallerLemmas.antt": "-- For callers.\npub same : ℕ\nsame = 0\n",
+    "crates/crn_low/proofs/Steps.antt": "-- Steps.\npub step : ℕ\nstep = 0\n",
+    "crates/crn_tab/src/lib.rt": "//! A solver.\n",
+    "crates/crn_tab/proofs/Uses.antt": "-- Uses.\nuse Rattle.crn_low.proofs.CallerLemmas.{same}\n",
+    "crates/crn_cert/src/lib.rt": "//! Answers.\n",
+    "crates/crn_part_check/src/lib.rt": "//! A checker.\n",
+    "README.md": """\
+| group | crates |
+|---|---|
+| ground | `crn_low` |
+| certificate | `crn_cert`, `crn_part_check` |
+| solver | `crn_tab` |
+
+[definitions](docs/DEFINITIONS.md)
+
+```
+crn report 1
+open: 0
+```
+""",
+    "docs/ARCHITECTURE.md": """\
+| group | crate | what it does |
+|---|---|---|
+| ground | `crn_low` | counts |
+| certificate | `crn_cert` | answers |
+| certificate | `crn_part_check` | checks |
+| solver | `crn_tab` | solves |
+
+| crate | stands on | of the toolchain |
+|---|---|---|
+| `crn_low` | | |
+| `crn_cert` | `crn_low` | |
+| `crn_part_check` | `crn_cert`, `crn_low` | |
+| `crn_tab` | `crn_low` | `itoa` |
+""",
+    "docs/DEFINITIONS.md": """\
+| line | definitions | lines of definitions |
+|---|---|---:|
+| `open` | `crn_low/specs/Count.antt`: `IsCount` | 4 |
+
+**Count.** The number after it. `crn_low/specs/Count.antt`: `IsCount`, with: `next`. Limit `crn_low/src/count.rt`: `MOST`.
+""",
+    "docs/definitions/kept.md": "**Counter.** Its number. `crn_low/specs/Kept.antt`: `KeptCounter`.\n",
+    "examples/networks/one.report": "crn report 1\nopen: 0\n",
+}
+
+# what is broken; the file; the text there; the text in its place; the rule or document that says so
+BREAKS = [
+    ("a link leads nowhere", "README.md", "docs/DEFINITIONS.md", "docs/DEFINITION.md", "README.md"),
+    ("a file is not there", "docs/definitions/kept.md", "Kept.antt", "Keep.antt", "docs/definitions/kept.md"),
+    ("a name is not in its file", "docs/DEFINITIONS.md", "Count.antt`: `IsCount`, with", "Count.antt`: `IsCounted`, with", "docs/DEFINITIONS.md"),
+    ("a report is not a stored one", "README.md", "open: 0", "open: 1", "README.md"),
+    ("a text outside is cited", "README.md", "[definitions]", "By T2.1 the [definitions]", "README.md"),
+    ("a cited definition has no row", "docs/DEFINITIONS.md", "`crn_low/specs/Count.antt`: `IsCount`, with: `next`.", "", "definitions"),
+    ("a definition below a cited one has no row", "docs/DEFINITIONS.md", ", with: `next`", "", "definitions"),
+    ("a constant has no row", "docs/DEFINITIONS.md", "`crn_low/src/count.rt`: `MOST`", "", "definitions"),
+    ("what a view shows has no row", "docs/definitions/kept.md", "`crn_low/specs/Kept.antt`: `KeptCounter`", "", "definitions"),
+    ("what a trait cites has no row", "crates/crn_low/src/count.rt", "result ≡ count self.now", "IsStep self.now result", "definitions"),
+    ("a public contract cites an inner definition", "crates/crn_low/src/count.rt", "IsCount n result", "IsStep n result", "definitions"),
+    ("a helper is not in the files of its row", "docs/DEFINITIONS.md", "with: `next`", "with: `next`, `last`", "helpers"),
+    ("the lines of definitions are miscounted", "docs/DEFINITIONS.md", "| 4 |", "| 3 |", "reading path"),
+    ("a proof cites another crate's lemma past its door", "crates/crn_tab/proofs/Uses.antt", "CallerLemmas.{same}", "Steps.{step}", "doors"),
+    ("a crate cites another's inner definition", "crates/crn_tab/proofs/Uses.antt", "proofs.CallerLemmas.{same}", "specs.Inner.Steps.{IsStep}", "doors"),
+    ("a clause line is too long", "crates/crn_low/src/count.rt", "ensures next {", f"ensures next {{{' ' * 100}", "clauses"),
+    ("a line within a clause is too long", "crates/crn_low/src/count.rt", "ensures next { ", f"ensures next {{\n{' ' * 100}", "clauses"),
+    ("a ghost member is too long", "crates/crn_low/src/count.rt", "{ Self → ℕ }", f"{{ Self →{' ' * 100}ℕ }}", "clauses"),
+    ("a checker stands on a solver", "crates.txt", "crn_cert: crn_low", "crn_cert: crn_low crn_tab", "solver"),
+    ("a part's checker stands on one by way of another", "crates.txt", "crn_low:\n", "crn_low: crn_tab\n", "solver"),
+    ("a solver hides in another group", "crates.txt", "# solver: solvers\n", "crn_cert: crn_tab\n# ground: more\n", "solver"),
+    ("README has a crate in another group", "README.md", "| solver | `crn_tab`", "| ground | `crn_tab`", "groups"),
+    ("ARCHITECTURE has another order", "docs/ARCHITECTURE.md", "| certificate | `crn_cert` | answers |\n", "", "groups"),
+    ("ARCHITECTURE leaves a crate below out", "docs/ARCHITECTURE.md", "| `crn_low` | `itoa` |", "| `crn_low` | |", "crates below"),
+]
+
+
+def failures(files):
+    """The rules that a repository of these files breaks."""
+    with tempfile.TemporaryDirectory() as folder:
+        root = Path(folder)
+        for name, text in files.items():
+            (root / name).parent.mkdir(parents=True, exist_ok=True)
+            (root / name).write_text(text)
+        return {place for place, _, holds in documents.claims(root) if not holds}
+
+
+def main():
+    passed, failed = 0, 0
+    cases = [("nothing is broken", "README.md", "", "", None)] + BREAKS
+    for name, file, old, new, rule in cases:
+        changed = FILES[file].replace(old, new) if old else FILES[file]
+        found = failures({**FILES, file: changed})
+        if (changed != FILES[file] or rule is None) and (rule in found if rule else not found):
+            passed += 1
+        else:
+            failed += 1
+            print(f"FAILED {name}: {sorted(found)}")
+    print(f"documents, broken: {passed} passed, {failed} failed")
+    return 1 if failed else 0
+
+
+if __name__ == "__main__":
+    sys.exit(main())

@@ -1,0 +1,144 @@
+"""Rules on the crates themselves: which definitions readers have to know, what a crate may cite of another one, how
+long the lines of a clause are, and which crates may stand on which."""
+
+import re
+
+from sources import Definition, clause_lines
+
+LONGEST_CLAUSE_LINE = 100
+CITED = re.compile(r"\bRattle\.(\w+)\.(specs|proofs)\.([\w.]+)")
+
+# Whatever group `crates.txt` puts them in, these may never stand on those.
+CHECKERS = {"crn_cert", "crn_ctext", "crn_check", "crn_ctree"}
+SOLVERS = {
+    "crn_tab",
+    "crn_farkas",
+    "crn_rank",
+    "crn_defi",
+    "crn_reg",
+    "crn_sign",
+    "crn_conc",
+    "crn_shelf",
+    "crn_solve",
+}
+
+# A row of a definitions page names a file and then definitions in it, and helpers of these in a clause "with: ..".
+PLACE = re.compile(r"`(\w+/(?:specs|src)/[\w/]+\.(?:antt|rt))`: ((?:`[\w:']+`(?:, | and )?)+)")
+HELPERS = re.compile(r"\bwith: ((?:`[\w']+`(?:, | and )?)+)")
+QUOTED = re.compile(r"`([\w:']+)`")
+
+
+def rows(page):
+    """The paragraphs of a page; a table only points to them."""
+    text = "\n".join(line for line in page.splitlines() if not line.startswith("|"))
+    return re.split(r"\n\s*\n", text)
+
+
+def named_on(pages, repository):
+    """The definitions that rows of these pages name."""
+    found = set()
+    for page in pages:
+        for row in rows(page):
+            files = []
+            for file, names in PLACE.findall(row):
+                files.append(file)
+                found.update(Definition(file, name) for name in QUOTED.findall(names))
+            for names in HELPERS.findall(row):
+                for name in QUOTED.findall(names):
+                    found.update(Definition(file, name) for file in files if repository.is_there(Definition(file, name)))
+    return found
+
+
+def definitions_are_on_the_pages(repository, pages):
+    """Each definition that a public contract reaches has a row, and none of them is an inner one."""
+    named = named_on(pages, repository)
+    for definition, cause in sorted(repository.reached_from(repository.cited_by_contracts()).items()):
+        yield f"{definition} has a row in a definitions page (cited by {cause})", definition in named
+        yield f"{definition} is no inner definition (cited by {cause})", not definition.is_inner
+
+
+def helpers_are_in_their_files(repository, pages):
+    """Each helper that a row lists stands in a file that the row names."""
+    for page in pages:
+        for row in rows(page):
+            files = [file for file, _ in PLACE.findall(row)]
+            for names in HELPERS.findall(row):
+                for name in QUOTED.findall(names):
+                    there = any(repository.is_there(Definition(file, name)) for file in files)
+                    yield f"the helper {name} stands in a file of its row ({row[:40]!r})", there
+
+
+def lines_are_counted(repository, page):
+    """Each row of the table that begins the page says how many lines its definitions have, with all that they reach."""
+    for line in page.splitlines():
+        cells = [cell.strip() for cell in line.strip().strip("|").split("|")]
+        if not line.startswith("|") or len(cells) != 3 or not cells[2].isdecimal():
+            continue
+        starts = {Definition(file, name) for file, names in PLACE.findall(cells[1]) for name in QUOTED.findall(names)}
+        starts = {start: cells[0] for start in starts if repository.is_there(start)}
+        count = sum(repository.lines_of(definition) for definition in repository.reached_from(starts))
+        yield f"the definitions of {cells[0]} have {count} lines", int(cells[2]) == count
+
+
+def doors_are_kept(repository):
+    """Of another crate only its public definitions and its lemmas for callers are cited."""
+    for crate in repository.crates.needs:
+        folders = [("src", ".rt"), ("specs", ".antt"), ("proofs", ".antt")]
+        for file in (file for folder, ending in folders for file in repository.files(crate, folder, ending)):
+            for owner, part, rest in CITED.findall(repository.plain(file)):
+                if owner == crate or owner not in repository.crates.needs:
+                    continue
+                top = rest.split(".")[0]
+                if part == "proofs":
+                    yield f"{file} cites of {owner}'s proofs only CallerLemmas, not {rest}", top == "CallerLemmas"
+                else:
+                    yield f"{file} cites no inner definition of {owner} ({rest})", top != "Inner"
+
+
+def clauses_are_short(repository):
+    for crate in repository.crates.needs:
+        for file in repository.files(crate, "src", ".rt"):
+            for number, line in clause_lines(repository.text(file)):
+                length = len(line)
+                yield f"{file}:{number}: a clause line has {length} columns", length <= LONGEST_CLAUSE_LINE
+
+
+def checkers_stand_on_no_solver(repository):
+    crates = repository.crates
+    solvers = (SOLVERS | set(crates.groups.get("solver", []))) & set(crates.needs)
+    checkers = (CHECKERS | set(crates.groups.get("certificate", []))) & set(crates.needs)
+    checkers |= {crate for crate in crates.needs if crate.endswith("_check")}
+    for crate in sorted(checkers):
+        for below in sorted(crates.reached(crate)):
+            yield f"{crate} stands on no crate of the solver ({below})", below not in solvers
+
+
+def groups_of(document, names):
+    """The groups and their crates in the tables of a document, in order."""
+    found = {}
+    for line in document.splitlines():
+        cells = [cell.strip() for cell in line.strip().strip("|").split("|")]
+        if line.startswith("|") and len(cells) > 1 and cells[0] in names:
+            found.setdefault(cells[0], []).extend(re.findall(r"`(crnt|crn_\w+)`", cells[1]))
+    return found
+
+
+def groups_agree(repository, documents):
+    """`crates.txt` and these documents have the same groups with the same crates, in the same order."""
+    wanted = repository.crates.groups
+    for name, text in documents.items():
+        found = groups_of(text, set(wanted))
+        yield f"{name} has the groups {', '.join(wanted)} in this order", list(found) == list(wanted)
+        for group, crates in wanted.items():
+            yield f"{name} has in the group {group} the crates {', '.join(crates)}", found.get(group) == crates
+
+
+def crates_below_agree(repository, document):
+    """The table of who stands on whom says what `crates.txt` says."""
+    found = {}
+    for line in document.splitlines():
+        cells = [cell.strip() for cell in line.strip().strip("|").split("|")]
+        if len(cells) == 3 and re.fullmatch(r"`(?:crnt|crn_\w+)`", cells[0]):
+            found[cells[0].strip("`")] = sorted(re.findall(r"`(\w+)`", cells[1] + cells[2]))
+    for crate, needs in repository.crates.needs.items():
+        yield f"ARCHITECTURE says that {crate} stands on {', '.join(needs) or 'nothing'}", found.get(crate) == sorted(needs)
