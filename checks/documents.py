@@ -17,6 +17,8 @@ ROOT = Path(__file__).resolve().parent.parent
 
 LINK = re.compile(r"\]\(([^)#:]+)(?:#[^)]*)?\)")
 REPORT = re.compile(r"^```\n(crn report 1\n.*?)^```", re.MULTILINE | re.DOTALL)
+SHOWN = re.compile(r"^```antt\n(.*?)^```", re.MULTILINE | re.DOTALL)
+FILE = re.compile(r"`((?:crates/)?(?:crn_\w+|crnt)/(?:src|specs|proofs)/[\w/]+\.(?:rt|antt))`")
 # a number of a text that readers don't have, as a definition's or a theorem's
 CITATION = re.compile(r"\b(?:[RDLHW][1-9][0-9]?|T[1-5](?:\.[0-9])?)\b")
 
@@ -37,6 +39,11 @@ def document_claims(root, document, text, reports):
         yield f"the file {path}", file.exists()
         for name in structure.QUOTED.findall(names) if file.exists() else []:
             yield f"{name} in {path}", is_defined(file.read_text(), name)
+    for path in FILE.findall(text):
+        yield f"the file {path}", (root / "crates" / path.removeprefix("crates/")).exists()
+    for shown in SHOWN.findall(text):
+        first = shown.splitlines()[0]
+        yield f"the definition that begins {first!r}", any(shown in file.read_text() for file in root.glob("crates/*/specs/**/*.antt"))
     for report in REPORT.findall(text):
         yield f"the report that begins {report[13:40]!r}", report in reports
     for citation in CITATION.findall(text):
@@ -60,6 +67,7 @@ def claims(root):
         "helpers": structure.helpers_are_in_their_files(repository, pages),
         "reading path": structure.lines_are_counted(repository, pages[0]),
         "doors": structure.doors_are_kept(repository),
+        "negation": structure.negation_is_said_in_one_way(repository),
         "clauses": structure.clauses_are_short(repository),
         "solver": structure.checkers_stand_on_no_solver(repository),
         "groups": structure.groups_agree(repository, by_group),

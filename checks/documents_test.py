@@ -109,7 +109,7 @@ open: 0
     "docs/ARCHITECTURE.md": """\
 | group | crate | what it does |
 |---|---|---|
-| ground | `crn_low` | counts |
+| ground | `crn_low` | counts, `crn_low/src/count.rt` |
 | certificate | `crn_cert` | answers |
 | certificate | `crn_part_check` | checks |
 | solver | `crn_tab` | solves |
@@ -128,7 +128,15 @@ open: 0
 
 **Count.** The number after it. `crn_low/specs/Count.antt`: `IsCount`, with: `next`. Limit `crn_low/src/count.rt`: `MOST`.
 """,
-    "docs/definitions/kept.md": "**Counter.** Its number. `crn_low/specs/Kept.antt`: `KeptCounter`.\n",
+    "docs/definitions/kept.md": """\
+**Counter.** Its number. `crn_low/specs/Kept.antt`: `KeptCounter`.
+
+```antt
+-- a counter
+pub record KeptCounter : Type 0 where
+  pub n : ℕ
+```
+""",
     "examples/networks/one.report": "crn report 1\nopen: 0\n",
 }
 
@@ -137,6 +145,9 @@ BREAKS = [
     ("a link leads nowhere", "README.md", "docs/DEFINITIONS.md", "docs/DEFINITION.md", "README.md"),
     ("a file is not there", "docs/definitions/kept.md", "Kept.antt", "Keep.antt", "docs/definitions/kept.md"),
     ("a name is not in its file", "docs/DEFINITIONS.md", "Count.antt`: `IsCount`, with", "Count.antt`: `IsCounted`, with", "docs/DEFINITIONS.md"),
+    ("a definition is shown that is not there", "docs/definitions/kept.md", "pub n : ℕ", "pub n : ℤ", "docs/definitions/kept.md"),
+    ("a file in a table is not there", "docs/ARCHITECTURE.md", "crn_low/src/count.rt", "crn_low/src/counts.rt", "docs/ARCHITECTURE.md"),
+    ("a definition says no by the other sign", "crates/crn_low/specs/Count.antt", "count ≡ MOST", "¬ count ≡ MOST", "negation"),
     ("a report is not a stored one", "README.md", "open: 0", "open: 1", "README.md"),
     ("a text outside is cited", "README.md", "[definitions]", "By T2.1 the [definitions]", "README.md"),
     ("a cited definition has no row", "docs/DEFINITIONS.md", "`crn_low/specs/Count.antt`: `IsCount`, with: `next`.", "", "definitions"),

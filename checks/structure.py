@@ -95,6 +95,16 @@ def doors_are_kept(repository):
                     yield f"{file} cites no inner definition of {owner} ({rest})", top != "Inner"
 
 
+def negation_is_said_in_one_way(repository):
+    """Definitions and clauses say that something does not hold by `→ ⊥`."""
+    for crate in repository.crates.needs:
+        files = repository.files(crate, "specs", ".antt") + repository.files(crate, "src", ".rt")
+        for file in files:
+            for number, line in enumerate(repository.plain(file).splitlines(), 1):
+                if "¬" in line or "⊥" in line:
+                    yield f"{file}:{number} says `→ ⊥` and not `¬`", "¬" not in line
+
+
 def clauses_are_short(repository):
     for crate in repository.crates.needs:
         for file in repository.files(crate, "src", ".rt"):
