@@ -23,24 +23,25 @@ FILE = re.compile(r"`((?:crates/)?(?:crn_\w+|crnt)/(?:src|specs|proofs)/[\w/]+\.
 CITATION = re.compile(r"\b(?:[RDLHW][1-9][0-9]?|T[1-5](?:\.[0-9])?)\b")
 
 
-def is_defined(text, name):
-    """Whether the text of a file defines the name, which may be TYPE::FUNCTION."""
+def is_defined(repository, file, name):
+    """Whether a file defines the name, which may be TYPE::FUNCTION."""
+    if file.endswith(".antt"):
+        return name in repository.definitions(file)
+    text = repository.text(file)
     owner, _, own = name.rpartition("::")
-    kinds = r"(?:(?:abbrev|unfoldable)(?: pub)?|(?:pub )?(?:record|data)|fn|struct|enum|trait|const|type)"
     has_owner = not owner or re.search(rf"\b(?:impl|struct|trait)\b.*\b{owner}\b", text)
-    return bool(has_owner and re.search(rf"\b{kinds} {own}\b", text))
+    return bool(has_owner and re.search(rf"\b(?:fn|struct|enum|trait|const|type) {own}\b", text))
 
 
-def document_claims(root, document, text, reports):
+def document_claims(repository, document, text, reports):
+    root = repository.root
     for target in LINK.findall(text):
         yield f"the link to {target}", (document.parent / target).exists()
+    for path in sorted(set(FILE.findall(text))):
+        yield f"the file {path}", repository.exists(path.removeprefix("crates/"))
     for path, names in structure.PLACE.findall(text):
-        file = root / "crates" / path
-        yield f"the file {path}", file.exists()
-        for name in structure.QUOTED.findall(names) if file.exists() else []:
-            yield f"{name} in {path}", is_defined(file.read_text(), name)
-    for path in FILE.findall(text):
-        yield f"the file {path}", (root / "crates" / path.removeprefix("crates/")).exists()
+        for name in structure.QUOTED.findall(names) if repository.exists(path) else []:
+            yield f"{name} in {path}", is_defined(repository, path, name)
     for shown in SHOWN.findall(text):
         first = shown.splitlines()[0]
         yield f"the definition that begins {first!r}", any(shown in file.read_text() for file in root.glob("crates/*/specs/**/*.antt"))
@@ -54,11 +55,11 @@ def claims(root):
     """All that is asked: where, what, and whether it holds."""
     documents = sorted([*root.glob("*.md"), *root.glob("docs/**/*.md"), *root.glob("examples/**/*.md")])
     reports = {path.read_text() for path in root.glob("examples/networks/*.report")}
+    repository = Repository(root)
     for document in documents:
-        for claim, holds in document_claims(root, document, document.read_text(), reports):
+        for claim, holds in document_claims(repository, document, document.read_text(), reports):
             yield str(document.relative_to(root)), claim, holds
 
-    repository = Repository(root)
     pages = [path.read_text() for path in [root / "docs/DEFINITIONS.md", *sorted(root.glob("docs/definitions/*.md"))]]
     architecture = (root / "docs/ARCHITECTURE.md").read_text()
     by_group = {"ARCHITECTURE": architecture, "README": (root / "README.md").read_text()}

@@ -7,6 +7,8 @@ from functools import cache
 from pathlib import Path
 
 NAME = r"[\w']+(?:-[\w']+)*"
+HEAD = re.compile(rf"(?:abbrev|unfoldable) (?:pub )?({NAME})|(?:pub )?(?:record|data) ({NAME})|(?:pub )?({NAME}) :")
+HEAD_INSIDE = re.compile(rf"  (?:pub )?()()({NAME}) :")
 IMPORT = re.compile(r"\b(pub )?use (Rattle\.[\w.]+?)(?:\.\{([^}]*)\}|(?=[\s;]))")
 RUST_IMPORT = re.compile(r"^\s*(pub )?use ((?:crate|crn_\w+|self|super|\w+)(?:::\w+)*)(?:::\{([^}]*)\})?;", re.MULTILINE)
 DECLARED = re.compile(r"^ *(pub(?:\([\w ]+\))? )?(?:const|struct|enum|trait|type) (\w+)", re.MULTILINE)
@@ -211,10 +213,12 @@ class Repository:
     @cache
     def definitions(self, file):
         """The definitions of a file of specs/, each with the text that follows its name."""
-        found, current = {}, None
+        found, current, is_mutual = {}, None, False
         for line in self.plain(file).splitlines(keepends=True):
-            head = re.match(rf"(?:abbrev|unfoldable) (?:pub )?({NAME})|(?:pub )?(?:record|data) ({NAME})|(?:pub )?({NAME}) :", line)
-            if re.match(r"(?:pub )?(?:use|mod) ", line):
+            if not line.startswith(" ") and line.strip():
+                is_mutual = bool(re.match(r"(?:\w+ )?mutual$", line))
+            head = HEAD_INSIDE.match(line) if is_mutual else HEAD.match(line)
+            if is_mutual and not line.startswith(" ") or re.match(r"(?:pub )?(?:use|mod) ", line):
                 current = None
             elif head:
                 current = head.group(1) or head.group(2) or head.group(3)
