@@ -29,6 +29,7 @@ PROGRAM = """#!/bin/sh
 if [ "$1" != report ]; then echo usage; exit 4; fi
 cat
 if [ "$STATUS" = killed ]; then kill -9 $$; fi
+if [ "$STATUS" = number ]; then echo $$; exit; fi
 exit "${STATUS:-3}"
 """
 
@@ -154,7 +155,7 @@ def builds_again(repository):
     repository.age()
     repository.source("middle").write_text("changed")
     _, _, told, calls = repository.run(["report"])
-    yield "builds where a source is newer", calls == BUILD and "a source has changed" in told, (calls, told)
+    yield "builds where a source is newer", calls == BUILD and "has changed" in told, (calls, told)
     repository.age()
     repository.source("aside").unlink()
     _, _, _, calls = repository.run(["report"])
@@ -271,6 +272,11 @@ def terminals(repository):
         _, _, shown = repository.run_on_a_terminal(words, typed=b"\x04")
         yield f"says nothing of typing where nothing is read: {words}", "Ctrl-D" not in shown, shown
 
+    environment = {**repository.environment, "STATUS": "number"}
+    with subprocess.Popen(repository.command(["report"], None), stdin=subprocess.DEVNULL, stdout=subprocess.PIPE,
+                          stderr=subprocess.PIPE, env=environment) as child:
+        seen = child.communicate(timeout=SECONDS)
+    yield "gives its place to the program where there is no terminal", seen == (b"%d\n" % child.pid, b""), seen
     for seen in [repository.run_on_a_terminal(["report"], STATUS="killed"), repository.run(["report"], STATUS="killed")]:
         yield "ends by the signal that ends the program", seen[0] == -9, seen
     repository.source("low").write_text("changed for the terminal")
