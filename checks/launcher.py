@@ -6,6 +6,7 @@ The `rt` there writes down each call, fails where a file says so, and copies the
 
 import os
 import pty
+import re
 import shutil
 import subprocess
 import sys
@@ -256,6 +257,9 @@ def terminals(repository):
         yield f"explains the status {status} at a terminal in one line", good, seen
         seen = repository.run(["report"], STATUS=str(status))
         yield f"says nothing of the status {status} where there is no terminal", seen == (status, b"text", "", []), seen
+    _, _, shown = repository.run_on_a_terminal(["report"], STATUS="2")
+    found = re.search(r'/(docs/.*), "(.*)"$', shown.strip())
+    yield "names a section that is there", found and f"\n## {found[2]}\n" in (ROOT / found[1]).read_text("utf-8"), shown
     for status in ["0", "1", "3"]:
         seen = repository.run_on_a_terminal(["report"], STATUS=status)
         yield f"says nothing of the status {status} at a terminal", seen == (int(status), b"text", ""), seen
