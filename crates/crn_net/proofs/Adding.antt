@@ -16,7 +16,7 @@ use Rattle.crn_net.specs.declared.fault.NetFault.TheVariants.{SelfReaction, TooM
 use Rattle.crn_net.specs.declared.term.Term.{Term}
 use Rattle.crn_net.specs.Terms.{name_at, side_of, statement_of, IsTerm, IsSide}
 use Rattle.crn_net.specs.Views.{net_of, AreRows}
-use Rattle.crn_net.specs.Grows.{widened, both_widened, names_with, complexes_with, reactions_with, IsSelf, Grows, AddGives}
+use Rattle.crn_net.specs.Grows.{with_zeros, both_with_zeros, names_with, complexes_with, reactions_with, IsSelf, Grows, AddGives}
 use Rattle.crn_net.specs.Steps.{SaysSame, Built, IsOver, BuildGives}
 use Rattle.crn_net.proofs.Lists.{all_in}
 use Rattle.crn_net.proofs.Amounts.{of_name}
@@ -65,10 +65,10 @@ says_self old s h = says_amounts (names_with old s) s h
 -- ---- added
 
 abbrev complexes_for : Net → Statement → List (List ℕ) → List (List ℤ)
-complexes_for old s names = firsts (pointwise int_eq) (map (widened (length names)) old.complexes ++ (said_by names s).0 ∷ (said_by names s).1 ∷ [])
+complexes_for old s names = firsts (pointwise int_eq) (map (with_zeros (length names)) old.complexes ++ (said_by names s).0 ∷ (said_by names s).1 ∷ [])
 
 abbrev reactions_for : Net → Statement → List (List ℕ) → List (List ℤ × List ℤ)
-reactions_for old s names = firsts sides_eq (map (λ r. both_widened (length names) (sides_of old r)) old.reactions ++ said_by names s ∷ [])
+reactions_for old s names = firsts sides_eq (map (λ r. both_with_zeros (length names) (sides_of old r)) old.reactions ++ said_by names s ∷ [])
 
 abbrev pub step_of : (names : List (List ℕ)) (rows : List (List ℤ)) (reactions : List (ℕ × ℕ)) (s : Statement) (names' : List (List ℕ)) (rows' : List (List ℤ)) (reactions' : List (ℕ × ℕ)) → Ready names rows reactions → IsSaid s → (SaysSame s → ⊥) → Built names rows reactions s names' rows' reactions' → Step
 step_of names rows reactions s names' rows' reactions' ready said apart b = record {

@@ -7,7 +7,7 @@ use Rattle.std.proofs.lemmas.Slice.Eq.{bytes_eq-Decides}
 use Rattle.std.proofs.lemmas.List.{append-nil, length-map, map-append, map_push, length-append}
 use Rattle.crn_vec.specs.Lists.{IsIn, AreDistinct, firsts}
 use Rattle.crn_vec.specs.Network.{Net, IsPartialNetwork, sides_of, sides_eq, said_by, names_in, amount_in, amounts_in, Statement}
-use Rattle.crn_net.specs.Grows.{widened, both_widened, names_with, Grows, GrownFrom, Grown, no_net}
+use Rattle.crn_net.specs.Grows.{with_zeros, both_with_zeros, names_with, Grows, GrownFrom, Grown, no_net}
 use Rattle.crn_net.proofs.Lists.{in_left, in_right, in_map, map_same, map_twice}
 use Rattle.crn_net.proofs.Firsts.{firsts_distinct, firsts_has, firsts_firsts, firsts_map}
 use Rattle.crn_net.proofs.Amounts.{none_said}
@@ -74,8 +74,8 @@ none_of [] side h = refl
 none_of (x ∷ more) side h = ap₂ (λ (a : ℤ) (b : List ℤ). a ∷ b) (ap pos (none_said side x (h x (inl refl)))) (none_of more side (λ name i. h name (inr i)))
 
 -- names that come later widen a side that has none of them
-side_widened : (names more : List (List ℕ)) (side : List (List ℕ × ℕ)) → ((name : List ℕ) → IsIn name more → IsIn name (map (λ t. t.0) side) → ⊥) → widened (length (names ++ more)) (amounts_in names side) ≡ amounts_in (names ++ more) side
-side_widened names more side h =
+side_with_zeros : (names more : List (List ℕ)) (side : List (List ℕ × ℕ)) → ((name : List ℕ) → IsIn name more → IsIn name (map (λ t. t.0) side) → ⊥) → with_zeros (length (names ++ more)) (amounts_in names side) ≡ amounts_in (names ++ more) side
+side_with_zeros names more side h =
     let count : length (names ++ more) - length (amounts_in names side) ≡ length more = let a = length-append names more in let b = length-map names (λ name. pos (amount_in side name)) in omega (arith, a, b) in
     ap (λ (n : ℕ). amounts_in names side ++ replicate n (pos 0)) count ∙ ap (λ (t : List ℤ). amounts_in names side ++ t) (sym (none_of more side h)) ∙ sym (map-append (λ name. pos (amount_in side name)) names more)
 
@@ -87,28 +87,28 @@ apart_of (x ∷ names) more name d i (inr j) = apart_of names more name d.1 i j
 abbrev pair_of : List ℤ → List ℤ → List ℤ × List ℤ
 pair_of a b = (a, b)
 
-said_widened : (names more : List (List ℕ)) (s : Statement) → AreDistinct (names ++ more) → ((name : List ℕ) → IsIn name (names_in s) → IsIn name names) → both_widened (length (names ++ more)) (said_by names s) ≡ said_by (names ++ more) s
-said_widened names more s d h =
+said_with_zeros : (names more : List (List ℕ)) (s : Statement) → AreDistinct (names ++ more) → ((name : List ℕ) → IsIn name (names_in s) → IsIn name names) → both_with_zeros (length (names ++ more)) (said_by names s) ≡ said_by (names ++ more) s
+said_with_zeros names more s d h =
     ap₂ pair_of
-    (side_widened names more s.0 (λ name i j. apart_of names more name d i (h name (in_left name (map (λ t. t.0) s.0) (map (λ t. t.0) s.1) j))))
-    (side_widened names more s.1 (λ name i j. apart_of names more name d i (h name (in_right name (map (λ t. t.0) s.0) (map (λ t. t.0) s.1) j))))
+    (side_with_zeros names more s.0 (λ name i j. apart_of names more name d i (h name (in_left name (map (λ t. t.0) s.0) (map (λ t. t.0) s.1) j))))
+    (side_with_zeros names more s.1 (λ name i j. apart_of names more name d i (h name (in_right name (map (λ t. t.0) s.0) (map (λ t. t.0) s.1) j))))
 
--- lists of one length are widened to different lists
+-- different lists of one length stay different when lists are appended
 append_same : (a b c d : List ℤ) → length a ≡ length b → a ++ c ≡ b ++ d → a ≡ b
 append_same [] [] c d l e = refl
 append_same [] (y ∷ b) c d l e = absurd (omega (arith, l))
 append_same (x ∷ a) [] c d l e = absurd (omega (arith, l))
 append_same (x ∷ a) (y ∷ b) c d l e = let rest : a ++ c ≡ b ++ d = cc in let less : length a ≡ length b = omega (arith, l) in let same : a ≡ b = append_same a b c d less rest in let heads : x ≡ y = cc in cc
 
-wide_test : (names : List (List ℕ)) (m : ℕ) (s t : Statement) → sides_eq (both_widened m (said_by names s)) (both_widened m (said_by names t)) ≡ sides_eq (said_by names s) (said_by names t)
+wide_test : (names : List (List ℕ)) (m : ℕ) (s t : Statement) → sides_eq (both_with_zeros m (said_by names s)) (both_with_zeros m (said_by names t)) ≡ sides_eq (said_by names s) (said_by names t)
 wide_test names m s t =
     let long = λ (side : List (List ℕ × ℕ)). length-map names (λ name. pos (amount_in side name)) in
-    same_test (sides_eq (both_widened m (said_by names s)) (both_widened m (said_by names t))) (sides_eq (said_by names s) (said_by names t)) (both_widened m (said_by names s) ≡ both_widened m (said_by names t)) (said_by names s ≡ said_by names t)
-    (sides_decide (both_widened m (said_by names s)) (both_widened m (said_by names t))) (sides_decide (said_by names s) (said_by names t))
+    same_test (sides_eq (both_with_zeros m (said_by names s)) (both_with_zeros m (said_by names t))) (sides_eq (said_by names s) (said_by names t)) (both_with_zeros m (said_by names s) ≡ both_with_zeros m (said_by names t)) (said_by names s ≡ said_by names t)
+    (sides_decide (both_with_zeros m (said_by names s)) (both_with_zeros m (said_by names t))) (sides_decide (said_by names s) (said_by names t))
     (λ e. ap₂ pair_of
     (append_same (amounts_in names s.0) (amounts_in names t.0) _ _ (long s.0 ∙ sym (long t.0)) (ap (λ (u : List ℤ × List ℤ). u.0) e))
     (append_same (amounts_in names s.1) (amounts_in names t.1) _ _ (long s.1 ∙ sym (long t.1)) (ap (λ (u : List ℤ × List ℤ). u.1) e)))
-    (ap (both_widened m))
+    (ap (both_with_zeros m))
 
 has_more : (done : List Statement) (s : Statement) (old new : Net) → Has done old → Grows old s new → Has (done ++ s ∷ []) new
 has_more done s old new h g =
@@ -119,17 +119,17 @@ has_more done s old new h g =
     let f = front old.names all (names_in s) d refl in
     let apart : AreDistinct (old.names ++ f.0) = subst AreDistinct f.1 (firsts_distinct bytes_eq bytes_eq-Decides (old.names ++ names_in s)) in
     let known : (t : Statement) → IsIn t done → (name : List ℕ) → IsIn name (names_in t) → IsIn name old.names = λ t i name j. subst (λ (u : List (List ℕ)). IsIn name u) (sym h.names) (firsts_has bytes_eq bytes_eq-Decides P name (in_all done t name i j)) in
-    let said : (t : Statement) → IsIn t done → both_widened m (said_by old.names t) ≡ said_by all t = λ t i.
-    subst (λ (u : List (List ℕ)). both_widened (length u) (said_by old.names t) ≡ said_by u t) (sym f.1) (said_widened old.names f.0 t apart (known t i)) in
+    let said : (t : Statement) → IsIn t done → both_with_zeros m (said_by old.names t) ≡ said_by all t = λ t i.
+    subst (λ (u : List (List ℕ)). both_with_zeros (length u) (said_by old.names t) ≡ said_by u t) (sym f.1) (said_with_zeros old.names f.0 t apart (known t i)) in
     let X : List (List ℤ × List ℤ) = map (said_by all) done in
     let Y : List (List ℤ × List ℤ) = map (said_by old.names) done in
-    let test : (a b : List ℤ × List ℤ) → IsIn a Y → IsIn b Y → sides_eq (both_widened m a) (both_widened m b) ≡ sides_eq a b = λ a b i j.
+    let test : (a b : List ℤ × List ℤ) → IsIn a Y → IsIn b Y → sides_eq (both_with_zeros m a) (both_with_zeros m b) ≡ sides_eq a b = λ a b i j.
     let p = in_map (said_by old.names) done a i in
     let q = in_map (said_by old.names) done b j in
-    subst (λ (u : List ℤ × List ℤ). sides_eq (both_widened m u) (both_widened m b) ≡ sides_eq u b) (sym p.2) (subst (λ (u : List ℤ × List ℤ). sides_eq (both_widened m (said_by old.names p.0)) (both_widened m u) ≡ sides_eq (said_by old.names p.0) u) (sym q.2) (wide_test old.names m p.0 q.0)) in
-    let olds : map (λ r. both_widened m (sides_of old r)) old.reactions ≡ firsts sides_eq X =
-    sym (map_twice (sides_of old) (both_widened m) old.reactions) ∙ ap (map (both_widened m)) h.reactions ∙ sym (firsts_map sides_eq sides_eq (both_widened m) Y test)
-    ∙ ap (firsts sides_eq) (map_twice (said_by old.names) (both_widened m) done ∙ map_same (λ t. both_widened m (said_by old.names t)) (said_by all) done said) in
+    subst (λ (u : List ℤ × List ℤ). sides_eq (both_with_zeros m u) (both_with_zeros m b) ≡ sides_eq u b) (sym p.2) (subst (λ (u : List ℤ × List ℤ). sides_eq (both_with_zeros m (said_by old.names p.0)) (both_with_zeros m u) ≡ sides_eq (said_by old.names p.0) u) (sym q.2) (wide_test old.names m p.0 q.0)) in
+    let olds : map (λ r. both_with_zeros m (sides_of old r)) old.reactions ≡ firsts sides_eq X =
+    sym (map_twice (sides_of old) (both_with_zeros m) old.reactions) ∙ ap (map (both_with_zeros m)) h.reactions ∙ sym (firsts_map sides_eq sides_eq (both_with_zeros m) Y test)
+    ∙ ap (firsts sides_eq) (map_twice (said_by old.names) (both_with_zeros m) done ∙ map_same (λ t. both_with_zeros m (said_by old.names t)) (said_by all) done said) in
     record {
       names = g.names ∙ ap (λ (t : List (List ℕ)). firsts bytes_eq (t ++ names_in s)) h.names ∙ firsts_firsts bytes_eq bytes_eq-Decides P (names_in s) ∙ ap (firsts bytes_eq) (sym (flat_push done s));
       reactions = g.reactions ∙ ap (λ (t : List (List ℤ × List ℤ)). firsts sides_eq (t ++ said_by all s ∷ [])) olds ∙ firsts_firsts sides_eq sides_decide X (said_by all s ∷ [])

@@ -10,8 +10,8 @@ use Rattle.crn_vec.specs.declared.limits.TheConstants.{MAX_SPECIES, MAX_AMOUNT}
 use Rattle.crn_vec.specs.Network.{minus, reaction_vector}
 use Rattle.crn_net.specs.Views.{net_of, vectors_of, IsRow, AreRows}
 use Rattle.crn_net.proofs.Lists.{all_in, all_at, all_from, map_in, map_same, map_twice}
-use Rattle.crn_net.proofs.Rows.{row_widened}
-use Rattle.crn_net.proofs.Whole.{amounts_widened}
+use Rattle.crn_net.proofs.Rows.{row_with_zeros}
+use Rattle.crn_net.proofs.Whole.{amounts_with_zeros}
 
 minus_suc : (a b : List ℤ) (s : ℕ) (d e : ℤ) → s < length a → s < length b → minus (take (suc s) a) (take (suc s) b) ≡ minus (take s a) (take s b) ++ (get_or a s d -ℤ get_or b s e) ∷ []
 minus_suc [] b s d e p q = absurd (omega arith)
@@ -43,7 +43,7 @@ row_amounts names rows reactions net padded = all_from (λ row. AllByRecursion I
     let long = is.long in
     let v = all_in (IsVector n) (vectors_of n rows) (take n row) net.vectors (map_in (take n) rows row i) in
     let most = net.species_limit in
-    subst (AllByRecursion IsAmount) (row_widened n MAX_SPECIES row most (omega arith) is ∙ take_all MAX_SPECIES row (omega (arith, long))) (amounts_widened MAX_SPECIES (take n row) v.1))
+    subst (AllByRecursion IsAmount) (row_with_zeros n MAX_SPECIES row most (omega arith) is ∙ take_all MAX_SPECIES row (omega (arith, long))) (amounts_with_zeros MAX_SPECIES (take n row) v.1))
 
 pub vectors_are : (names : List (List ℕ)) (rows : List (List ℤ)) (reactions : List (ℕ × ℕ)) → AllByRecursion (JoinsTwo (length rows)) reactions → vectors_of (length names) (map (λ r. minus (get_or rows r.1 []) (get_or rows r.0 [])) reactions) ≡ map (reaction_vector (net_of names rows reactions)) reactions
 vectors_are names rows reactions apart =

@@ -10,12 +10,12 @@ use Rattle.crn_vec.specs.Lists.{IsIn, AreDistinct, firsts}
 use Rattle.crn_vec.specs.Network.{IsPartialNetwork, JoinsTwo, sides_of, sides_eq, amounts_in, said_by, Statement}
 use Rattle.crn_vec.specs.declared.limits.TheConstants.{MAX_SPECIES, MAX_COMPLEXES}
 use Rattle.crn_net.specs.Views.{net_of, vectors_of, IsRow, AreRows}
-use Rattle.crn_net.specs.Grows.{widened, both_widened}
+use Rattle.crn_net.specs.Grows.{with_zeros, both_with_zeros}
 use Rattle.crn_net.specs.Steps.{Puts, IsRowFor, PutsBoth, LeftIsOver, RightIsOver}
 use Rattle.crn_net.proofs.Lists.{map_in, map_same, map_distinct, all_in, all_push, at_in, same_place, in_push}
 use Rattle.crn_net.proofs.Firsts.{firsts_map, firsts_firsts, firsts_length}
 use Rattle.crn_net.proofs.Members.{reaction_decides}
-use Rattle.crn_net.proofs.Rows.{row_ext, row_wider, row_widened, vectors_widened, puts_distinct, puts_firsts, puts_all, puts_keeps, puts_longer, same_test}
+use Rattle.crn_net.proofs.Rows.{row_ext, row_wider, row_with_zeros, vectors_with_zeros, puts_distinct, puts_firsts, puts_all, puts_keeps, puts_longer, same_test}
 
 pub distinct_of_map : {A B : Type 0} (f : A → B) (xs : List A) → AreDistinct (map f xs) → AreDistinct xs
 distinct_of_map f [] h = tt
@@ -47,11 +47,11 @@ pub record Wider (names names' : List (List ℕ)) : Type 0 where
   pub most : length names' ≤ MAX_SPECIES
 
 first_complex : (names : List (List ℕ)) (rows : List (List ℤ)) (reactions : List (ℕ × ℕ)) (names' : List (List ℕ)) (side : List (List ℕ × ℕ)) (left : List ℤ) (middle : List (List ℤ)) → Ready names rows reactions → Wider names names' → IsRowFor names' side left → Puts rows left middle
-    → firsts (pointwise int_eq) (map (widened (length names')) (vectors_of (length names) rows) ++ amounts_in names' side ∷ []) ≡ vectors_of (length names') middle
+    → firsts (pointwise int_eq) (map (with_zeros (length names')) (vectors_of (length names) rows) ++ amounts_in names' side ∷ []) ≡ vectors_of (length names') middle
 first_complex names rows reactions names' side left middle ready wide row p =
     let n = length names in
     let m = length names' in
-    let e : map (widened m) (vectors_of n rows) ≡ vectors_of m rows = vectors_widened n m rows wide.least wide.most ready.padded in
+    let e : map (with_zeros m) (vectors_of n rows) ≡ vectors_of m rows = vectors_with_zeros n m rows wide.least wide.most ready.padded in
     ap (λ (t : List (List ℤ)). firsts (pointwise int_eq) (t ++ amounts_in names' side ∷ [])) e
     ∙ ap (λ (t : List ℤ). firsts (pointwise int_eq) (vectors_of m rows ++ t ∷ [])) (sym row.amounts)
     ∙ vectors_put m rows middle left (rows_wider n m rows wide.least ready.padded) row.is (distinct_of_map (take n) rows ready.network.complexes) p
@@ -61,27 +61,27 @@ split_two xs a b = sym (append_assoc xs (a ∷ []) (b ∷ []))
 
 second_complex : (names : List (List ℕ)) (rows : List (List ℤ)) (reactions : List (ℕ × ℕ)) (names' : List (List ℕ)) (s : Statement) (left right : List ℤ) (middle rows' : List (List ℤ)) → Ready names rows reactions → Wider names names'
     → IsRowFor names' s.0 left → IsRowFor names' s.1 right → Puts rows left middle → Puts middle right rows'
-    → firsts (pointwise int_eq) (map (widened (length names')) (vectors_of (length names) rows) ++ amounts_in names' s.0 ∷ amounts_in names' s.1 ∷ []) ≡ vectors_of (length names') rows'
+    → firsts (pointwise int_eq) (map (with_zeros (length names')) (vectors_of (length names) rows) ++ amounts_in names' s.0 ∷ amounts_in names' s.1 ∷ []) ≡ vectors_of (length names') rows'
 second_complex names rows reactions names' s left right middle rows' ready wide l r p q =
     let n = length names in
     let m = length names' in
-    let front = map (widened m) (vectors_of n rows) ++ amounts_in names' s.0 ∷ [] in
+    let front = map (with_zeros m) (vectors_of n rows) ++ amounts_in names' s.0 ∷ [] in
     let rows_are = rows_wider n m rows wide.least ready.padded in
     let d = distinct_of_map (take n) rows ready.network.complexes in
-    ap (firsts (pointwise int_eq)) (split_two (map (widened m) (vectors_of n rows)) (amounts_in names' s.0) (amounts_in names' s.1))
+    ap (firsts (pointwise int_eq)) (split_two (map (with_zeros m) (vectors_of n rows)) (amounts_in names' s.0) (amounts_in names' s.1))
     ∙ sym (firsts_firsts (pointwise int_eq) signed_items front (amounts_in names' s.1 ∷ []))
     ∙ ap (λ (t : List (List ℤ)). firsts (pointwise int_eq) (t ++ amounts_in names' s.1 ∷ [])) (first_complex names rows reactions names' s.0 left middle ready wide l p)
     ∙ ap (λ (t : List ℤ). firsts (pointwise int_eq) (vectors_of m middle ++ t ∷ [])) (sym r.amounts)
     ∙ vectors_put m middle rows' right (puts_all (IsRow m) rows middle left rows_are l.is p) r.is (puts_distinct rows middle left d p) q
 
 pub complexes_are : (names : List (List ℕ)) (rows : List (List ℤ)) (reactions : List (ℕ × ℕ)) (names' : List (List ℕ)) (s : Statement) (y z : ℕ) (rows' : List (List ℤ)) → Ready names rows reactions → Wider names names' → PutsBoth names' s rows y z rows'
-    → firsts (pointwise int_eq) (map (widened (length names')) (vectors_of (length names) rows) ++ amounts_in names' s.0 ∷ amounts_in names' s.1 ∷ []) ≡ vectors_of (length names') rows'
+    → firsts (pointwise int_eq) (map (with_zeros (length names')) (vectors_of (length names) rows) ++ amounts_in names' s.0 ∷ amounts_in names' s.1 ∷ []) ≡ vectors_of (length names') rows'
 complexes_are names rows reactions names' s y z rows' ready wide b = second_complex names rows reactions names' s b.left b.right b.middle rows' ready wide b.left_row b.right_row b.first b.second
 
 pub left_over_limit : (names : List (List ℕ)) (rows : List (List ℤ)) (reactions : List (ℕ × ℕ)) (names' : List (List ℕ)) (s : Statement) → Ready names rows reactions → Wider names names' → LeftIsOver names' s rows
-    → MAX_COMPLEXES < length (firsts (pointwise int_eq) (map (widened (length names')) (vectors_of (length names) rows) ++ amounts_in names' s.0 ∷ amounts_in names' s.1 ∷ []))
+    → MAX_COMPLEXES < length (firsts (pointwise int_eq) (map (with_zeros (length names')) (vectors_of (length names) rows) ++ amounts_in names' s.0 ∷ amounts_in names' s.1 ∷ []))
 left_over_limit names rows reactions names' s ready wide o =
-    let xs = map (widened (length names')) (vectors_of (length names) rows) in
+    let xs = map (with_zeros (length names')) (vectors_of (length names) rows) in
     let e = ap length (first_complex names rows reactions names' s.0 o.left (rows ++ o.left ∷ []) ready wide o.left_row (inr (o.fresh, refl))) in
     let two = ap (λ (t : List (List ℤ)). length (firsts (pointwise int_eq) t)) (split_two xs (amounts_in names' s.0) (amounts_in names' s.1)) in
     let more = firsts_length (pointwise int_eq) (xs ++ amounts_in names' s.0 ∷ []) (amounts_in names' s.1 ∷ []) in
@@ -90,7 +90,7 @@ left_over_limit names rows reactions names' s ready wide o =
     omega (arith, e, two, more, count, long, o.full)
 
 pub right_over_limit : (names : List (List ℕ)) (rows : List (List ℤ)) (reactions : List (ℕ × ℕ)) (names' : List (List ℕ)) (s : Statement) → Ready names rows reactions → Wider names names' → RightIsOver names' s rows
-    → MAX_COMPLEXES < length (firsts (pointwise int_eq) (map (widened (length names')) (vectors_of (length names) rows) ++ amounts_in names' s.0 ∷ amounts_in names' s.1 ∷ []))
+    → MAX_COMPLEXES < length (firsts (pointwise int_eq) (map (with_zeros (length names')) (vectors_of (length names) rows) ++ amounts_in names' s.0 ∷ amounts_in names' s.1 ∷ []))
 right_over_limit names rows reactions names' s ready wide o =
     let e = ap length (second_complex names rows reactions names' s o.left o.right o.middle (o.middle ++ o.right ∷ []) ready wide o.left_row o.right_row o.first (inr (o.fresh, refl))) in
     let count = length-map (o.middle ++ o.right ∷ []) (take (length names')) in
@@ -156,19 +156,19 @@ right_stands names s rows y z rows' b = get_or_default rows' z [] b.right b.righ
 vector_at : (m : ℕ) (rows : List (List ℤ)) (c : ℕ) → c < length rows → get_or (vectors_of m rows) c [] ≡ take m (get_or rows c [])
 vector_at m rows c lt = get_or-map (take m) rows c [] [] lt
 
--- of an old reaction, the sides are widened
+-- the sides of an old reaction get zeros for the new names
 old_sides : (names : List (List ℕ)) (rows : List (List ℤ)) (reactions : List (ℕ × ℕ)) (names' : List (List ℕ)) (s : Statement) (y z : ℕ) (rows' : List (List ℤ)) → Ready names rows reactions → Wider names names' → PutsBoth names' s rows y z rows' → (c : ℕ) → c < length rows
-    → widened (length names') (get_or (vectors_of (length names) rows) c []) ≡ get_or (vectors_of (length names') rows') c []
+    → with_zeros (length names') (get_or (vectors_of (length names) rows) c []) ≡ get_or (vectors_of (length names') rows') c []
 old_sides names rows reactions names' s y z rows' ready wide b c lt =
     let n = length names in
     let m = length names' in
     let keep = both_keep names' s rows y z rows' c b lt in
     let row = all_in (IsRow n) rows (get_or rows c []) ready.padded (at_in rows c [] lt) in
-    ap (widened m) (vector_at n rows c lt) ∙ row_widened n m (get_or rows c []) wide.least wide.most row ∙ ap (take m) (sym keep.0) ∙ sym (vector_at m rows' c keep.1)
+    ap (with_zeros m) (vector_at n rows c lt) ∙ row_with_zeros n m (get_or rows c []) wide.least wide.most row ∙ ap (take m) (sym keep.0) ∙ sym (vector_at m rows' c keep.1)
 
 pub reactions_are : (names : List (List ℕ)) (rows : List (List ℤ)) (reactions : List (ℕ × ℕ)) (names' : List (List ℕ)) (s : Statement) (y z : ℕ) (rows' : List (List ℤ)) (reactions' : List (ℕ × ℕ)) → Ready names rows reactions → Wider names names' → PutsBoth names' s rows y z rows'
     → Puts reactions (y, z) reactions'
-    → firsts sides_eq (map (λ r. both_widened (length names') (sides_of (net_of names rows reactions) r)) reactions ++ said_by names' s ∷ []) ≡ map (sides_of (net_of names' rows' reactions')) reactions'
+    → firsts sides_eq (map (λ r. both_with_zeros (length names') (sides_of (net_of names rows reactions) r)) reactions ++ said_by names' s ∷ []) ≡ map (sides_of (net_of names' rows' reactions')) reactions'
 reactions_are names rows reactions names' s y z rows' reactions' ready wide b p =
     let n = length names in
     let m = length names' in
@@ -176,8 +176,8 @@ reactions_are names rows reactions names' s y z rows' reactions' ready wide b p 
     let count : length (vectors_of n rows) ≡ length rows = length-map rows (take n) in
     let count' : length (vectors_of m rows') ≡ length rows' = length-map rows' (take m) in
     let apart : (r : ℕ × ℕ) → IsIn r reactions → (r.0 < length rows) × (r.1 < length rows) = λ r i. let j = all_in (JoinsTwo (length (vectors_of n rows))) reactions r ready.network.apart i in (omega (arith, count, j.1), omega (arith, count, j.2)) in
-    let old : map (λ r. both_widened m (sides_of (net_of names rows reactions) r)) reactions ≡ map (sides_of new) reactions =
-    map_same (λ r. both_widened m (sides_of (net_of names rows reactions) r)) (sides_of new) reactions
+    let old : map (λ r. both_with_zeros m (sides_of (net_of names rows reactions) r)) reactions ≡ map (sides_of new) reactions =
+    map_same (λ r. both_with_zeros m (sides_of (net_of names rows reactions) r)) (sides_of new) reactions
     (λ r i. ap₂ sides_pair (old_sides names rows reactions names' s y z rows' ready wide b r.0 (apart r i).0) (old_sides names rows reactions names' s y z rows' ready wide b r.1 (apart r i).1)) in
     let l = left_stands names' s rows y z rows' b in
     let said : said_by names' s ≡ sides_of new (y, z) =

@@ -8,7 +8,7 @@ use Rattle.std.proofs.lemmas.List.{get_or-replicate, get_or_past, length-replica
 use Rattle.crn_vec.specs.Lists.{IsIn, AreDistinct, firsts}
 use Rattle.crn_vec.specs.declared.limits.TheConstants.{MAX_SPECIES}
 use Rattle.crn_net.specs.Views.{vectors_of, IsRow, AreRows}
-use Rattle.crn_net.specs.Grows.{widened}
+use Rattle.crn_net.specs.Grows.{with_zeros}
 use Rattle.crn_net.specs.Steps.{Puts}
 use Rattle.crn_net.proofs.Lists.{map_twice, map_same, all_in, all_push, at_in, distinct_push}
 use Rattle.crn_net.proofs.Firsts.{firsts_known, firsts_new, firsts_all}
@@ -31,22 +31,22 @@ row_wider n m a le p = record { long = p.long; rest = λ k h. p.rest k (omega ar
 pub row_length : (n : ℕ) (a : List ℤ) → n ≤ MAX_SPECIES → IsRow n a → length (take n a) ≡ n
 row_length n a le p = let long = p.long in length-take-le n a (omega arith)
 
-pub row_widened : (n m : ℕ) (a : List ℤ) → n ≤ m → m ≤ MAX_SPECIES → IsRow n a → widened m (take n a) ≡ take m a
-row_widened n m a le few p =
+pub row_with_zeros : (n m : ℕ) (a : List ℤ) → n ≤ m → m ≤ MAX_SPECIES → IsRow n a → with_zeros m (take n a) ≡ take m a
+row_with_zeros n m a le few p =
     let long = p.long in
     let front : length (take n a) ≡ n = row_length n a (omega arith) p in
     let zeros = replicate (m - length (take n a)) (pos 0) in
     let count = length-replicate (m - length (take n a)) (pos 0) in
-    let whole : length (widened m (take n a)) ≡ m = omega (arith, length-append (take n a) zeros, front, count) in
+    let whole : length (with_zeros m (take n a)) ≡ m = omega (arith, length-append (take n a) zeros, front, count) in
     let other : length (take m a) ≡ m = length-take-le m a (omega arith) in
-    ext_get_or (pos 0) (widened m (take n a)) (take m a) (whole ∙ sym other) (λ k lt. elim (cases_lt k n) [
+    ext_get_or (pos 0) (with_zeros m (take n a)) (take m a) (whole ∙ sym other) (λ k lt. elim (cases_lt k n) [
       | inl below ↦ get_or_append_left (take n a) zeros (pos 0) k (omega arith) ∙ get_or-take n a k (pos 0) below ∙ sym (get_or-take m a k (pos 0) (omega arith))
       | inr above ↦ get_or-append_right (take n a) zeros n k (pos 0) front above ∙ zeros_at (m - length (take n a)) (k - n) ∙ sym (get_or-take m a k (pos 0) (omega arith) ∙ p.rest k above)
     ])
 
--- vectors of rows, widened
-pub vectors_widened : (n m : ℕ) (rows : List (List ℤ)) → n ≤ m → m ≤ MAX_SPECIES → AreRows n rows → map (widened m) (vectors_of n rows) ≡ vectors_of m rows
-vectors_widened n m rows le few p = map_twice (take n) (widened m) rows ∙ map_same (λ row. widened m (take n row)) (take m) rows (λ row i. row_widened n m row le few (all_in (IsRow n) rows row p i))
+-- the vectors of rows, with zeros for the new names
+pub vectors_with_zeros : (n m : ℕ) (rows : List (List ℤ)) → n ≤ m → m ≤ MAX_SPECIES → AreRows n rows → map (with_zeros m) (vectors_of n rows) ≡ vectors_of m rows
+vectors_with_zeros n m rows le few p = map_twice (take n) (with_zeros m) rows ∙ map_same (λ row. with_zeros m (take n row)) (take m) rows (λ row i. row_with_zeros n m row le few (all_in (IsRow n) rows row p i))
 
 -- ---- a member put in
 

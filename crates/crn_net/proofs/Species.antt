@@ -15,10 +15,10 @@ use Rattle.crn_net.specs.Steps.{Puts, PutsBoth, IsRowFor}
 use Rattle.crn_net.proofs.Lists.{in_right, in_cases, in_at, at_in, map_in, all_in, all_from, all_map, same_place}
 use Rattle.crn_net.proofs.Firsts.{firsts_distinct, firsts_from, firsts_has, firsts_front, firsts_all}
 use Rattle.crn_net.proofs.Amounts.{has_name, none_said}
-use Rattle.crn_net.proofs.Rows.{row_length, row_widened, puts_place, puts_all, puts_distinct}
+use Rattle.crn_net.proofs.Rows.{row_length, row_with_zeros, puts_place, puts_all, puts_distinct}
 use Rattle.crn_net.proofs.Growth.{Ready, Wider, rows_distinct, vectors_distinct, both_keep, left_stands, right_stands}
 use Rattle.crn_vec.proofs.Appearance.{appears_in_order, in_order_appears}
-use Rattle.crn_net.proofs.Whole.{Covers, Stand, covers_both, ends_below, amounts_widened, amounts_said}
+use Rattle.crn_net.proofs.Whole.{Covers, Stand, covers_both, ends_below, amounts_with_zeros, amounts_said}
 
 -- what a statement's sides have: names, each with a number of at least 1, up to the limit
 pub record IsSaid (s : Statement) : Type 0 where
@@ -274,7 +274,7 @@ old_amounts t row i =
     let m = length t.names' in
     let w = wide t in
     let v = all_in (IsVector n) (vectors_of n t.rows) (take n row) t.ready.network.vectors (map_in (take n) t.rows row i) in
-    subst (AllByRecursion IsAmount) (row_widened n m row w.least w.most (all_in (IsRow n) t.rows row t.ready.padded i)) (amounts_widened m (take n row) v.1)
+    subst (AllByRecursion IsAmount) (row_with_zeros n m row w.least w.most (all_in (IsRow n) t.rows row t.ready.padded i)) (amounts_with_zeros m (take n row) v.1)
 
 new_amounts : (t : Step) → AllByRecursion (λ row. AllByRecursion IsAmount (take (length t.names') row)) t.rows'
 new_amounts t =

@@ -8,7 +8,7 @@ use Rattle.crn_vec.specs.Lists.{IsIn}
 use Rattle.crn_vec.specs.Network.{IsAmount, JoinsTwo, ends, amount_in, amounts_in}
 use Rattle.crn_vec.specs.declared.limits.TheConstants.{MAX_AMOUNT}
 use Rattle.crn_vec.proofs.Appearance.{IsNumberedInOrder}
-use Rattle.crn_net.specs.Grows.{widened}
+use Rattle.crn_net.specs.Grows.{with_zeros}
 use Rattle.crn_net.specs.Steps.{Puts}
 use Rattle.crn_net.proofs.Lists.{in_left, in_right, in_push, in_at, all_from, all_map}
 use Rattle.crn_net.proofs.Rows.{zeros_at}
@@ -94,8 +94,8 @@ in_zeros n x i = let r = in_at x (replicate n (pos 0)) (pos 0) i in sym r.2 ∙ 
 all_zeros : (n : ℕ) → AllByRecursion IsAmount (replicate n (pos 0))
 all_zeros n = all_from IsAmount (replicate n (pos 0)) (λ x i. let e = in_zeros n x i in subst IsAmount (sym e) (omega (arith, ints), omega (arith, ints)))
 
-pub amounts_widened : (m : ℕ) (v : List ℤ) → AllByRecursion IsAmount v → AllByRecursion IsAmount (widened m v)
-amounts_widened m v h = all_append v (replicate (m - length v) (pos 0)) h (all_zeros (m - length v))
+pub amounts_with_zeros : (m : ℕ) (v : List ℤ) → AllByRecursion IsAmount v → AllByRecursion IsAmount (with_zeros m v)
+amounts_with_zeros m v h = all_append v (replicate (m - length v) (pos 0)) h (all_zeros (m - length v))
 
 pub amounts_said : (names : List (List ℕ)) (side : List (List ℕ × ℕ)) → ((name : List ℕ) → amount_in side name ≤ MAX_AMOUNT) → AllByRecursion IsAmount (amounts_in names side)
 amounts_said names side h = all_map IsAmount (λ name. pos (amount_in side name)) names (λ name i. let le = h name in (omega (arith, ints), omega (arith, ints)))

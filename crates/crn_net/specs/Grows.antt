@@ -1,5 +1,5 @@
 -- What adding a reaction to a network does, over plain lists.
--- Shapes: a statement is two sides, each a list of names with numbers. Amounts are widened by zeros where a statement brings new names.
+-- Shapes: a statement is two sides, each a list of names with numbers. Amounts are with_zeros by zeros where a statement brings new names.
 use Rattle.std.specs.Prelude.{◌≡◌, ◌≤◌, ◌<◌, ◌-◌, ℕ, ℤ, pos, List, [], ◌∷◌, ◌++◌, length, map, replicate, Result, Ok, Err}
 use Rattle.std.specs.Str.{bytes_eq}
 use Rattle.std.specs.Ordering.{int_eq}
@@ -11,8 +11,8 @@ use Rattle.crn_net.specs.declared.fault.NetFault.{NetFault}
 use Rattle.crn_net.specs.declared.fault.NetFault.TheVariants.{SelfReaction, TooManySpecies, TooManyComplexes, TooManyReactions, NoReaction, NoMemory}
 
 -- amounts of so many species: none of those that came later
-abbrev pub widened : ℕ → List ℤ → List ℤ
-widened width amounts = amounts ++ replicate (width - length amounts) (pos 0)
+abbrev pub with_zeros : ℕ → List ℤ → List ℤ
+with_zeros width amounts = amounts ++ replicate (width - length amounts) (pos 0)
 
 -- with the statement: all names, all complexes and all reactions as amounts of all names, each once, in order of first appearance
 abbrev pub names_with : Net → Statement → List (List ℕ)
@@ -22,13 +22,13 @@ abbrev pub said_with : Net → Statement → List ℤ × List ℤ
 said_with old s = said_by (names_with old s) s
 
 abbrev pub complexes_with : Net → Statement → List (List ℤ)
-complexes_with old s = firsts (pointwise int_eq) (map (widened (length (names_with old s))) old.complexes ++ (said_with old s).0 ∷ (said_with old s).1 ∷ [])
+complexes_with old s = firsts (pointwise int_eq) (map (with_zeros (length (names_with old s))) old.complexes ++ (said_with old s).0 ∷ (said_with old s).1 ∷ [])
 
-abbrev pub both_widened : ℕ → List ℤ × List ℤ → List ℤ × List ℤ
-both_widened width r = (widened width r.0, widened width r.1)
+abbrev pub both_with_zeros : ℕ → List ℤ × List ℤ → List ℤ × List ℤ
+both_with_zeros width r = (with_zeros width r.0, with_zeros width r.1)
 
 abbrev pub reactions_with : Net → Statement → List (List ℤ × List ℤ)
-reactions_with old s = firsts sides_eq (map (λ r. both_widened (length (names_with old s)) (sides_of old r)) old.reactions ++ said_with old s ∷ [])
+reactions_with old s = firsts sides_eq (map (λ r. both_with_zeros (length (names_with old s)) (sides_of old r)) old.reactions ++ said_with old s ∷ [])
 
 -- both sides are the same complex
 abbrev pub IsSelf : Net → Statement → Type 0

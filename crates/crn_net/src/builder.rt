@@ -6,14 +6,14 @@ use crate::fault::NetFault;
 use crate::name::Names;
 use crate::network::Network;
 use crate::row::Complexes;
-use crate::tables::{build, differences, wide_rows};
+use crate::tables::{build, differences, full_rows};
 use crate::term::Term;
 use crn_vec::{MAX_COMPLEXES, MAX_REACTIONS, MAX_SPECIES};
 use indexmap::IndexSet;
 use std::alloc::{AllocError, Global};
 use std::marker::Model;
 
-/// Collects the reactions of a network, which contracts see as far as it is built.
+/// Collects the reactions of a network. Contracts see it as the network built so far.
 #[derive(Drop)]
 pub struct NetBuilder {
     names: Names,
@@ -39,7 +39,7 @@ impl NetBuilder {
         ensures { IfOk result (λ made. made ≡ no_net) }
     {
         Ok(NetBuilder {
-            // A name too many is put in, and taken out again.
+            // A name above the limit is inserted first, and removed again.
             names: IndexSet::with_capacity(alloc, MAX_SPECIES + 1)?,
             rows: IndexSet::with_capacity(alloc, MAX_COMPLEXES)?,
             reactions: Vec::with_capacity(alloc, MAX_REACTIONS)?,
@@ -48,8 +48,8 @@ impl NetBuilder {
 
     /// Adds the reaction from the complex of one side to that of the other. An empty side is the zero complex.
     ///
-    /// Species and complexes that come anew are numbered from left to right. A reaction that is there already
-    /// stays once. After an error the builder is as before.
+    /// New species and complexes are numbered from left to right. A reaction that is already there is not added again.
+    /// After an error the builder is as before.
     pub fn add(&mut self, text: &[u8], left: &[Term], right: &[Term]) -> Result<(), NetFault>
         requires left { IsSide text.now left.now }
         requires right { IsSide text.now right.now }
@@ -80,7 +80,7 @@ impl NetBuilder {
             return Err(NetFault::NoReaction);
         }
         let alloc = *self.reactions.allocator();
-        let rows = wide_rows(alloc, self.rows.as_slice())?;
+        let rows = full_rows(alloc, self.rows.as_slice())?;
         let differences = differences(alloc, &rows, &self.reactions)?;
         let NetBuilder {
             names,

@@ -4,7 +4,7 @@ ghost use Rattle.crn_net.specs.declared.fault.NetFault.TheVariants.{NoMemory};
 use std::alloc::{AllocError, AllocFailed};
 use thiserror::Error;
 
-/// Why a reaction is not added, or a network not built, in the order in which the causes are looked at.
+/// Why a reaction is not added, or a network is not built. The variants are in the order in which the causes are tried.
 #[derive(Clone, Copy, Debug, PartialEq, Eq, Error)]
 pub enum NetFault {
     #[error("both sides are the same complex")]

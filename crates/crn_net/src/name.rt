@@ -8,12 +8,12 @@ use indexmap::IndexSet;
 use std::hash::{Hash, Hasher};
 use std::marker::Model;
 
-// Names, each once, in the order in which they came. A look-up takes the same time however many there are.
-pub type Names = IndexSet<Name>;
+// Names, each once, in the order in which they were inserted. A look-up takes the same time however many there are.
+pub(crate) type Names = IndexSet<Name>;
 
-// The name of a species, seen as its bytes.
+// The name of a species, which contracts see as its bytes.
 #[derive(Drop)]
-pub struct Name {
+pub(crate) struct Name {
     bytes: [u8; MAX_NAME],
     size: usize,
 }
@@ -30,7 +30,7 @@ impl Model for Name {
 }
 
 impl Name {
-    pub fn new(name: &[u8]) -> Name
+    pub(crate) fn new(name: &[u8]) -> Name
         requires { length name.now ≤ MAX_NAME }
         ensures { result ≡ name.now }
     {
@@ -43,7 +43,7 @@ impl Name {
         }
     }
 
-    pub fn as_slice(&self) -> &[u8]
+    pub(crate) fn as_slice(&self) -> &[u8]
         ensures { result.now ≡ self.now }
     {
         let (front, _) = self.bytes.split_at(self.size);

@@ -11,18 +11,18 @@ use indexmap::IndexSet;
 use std::hash::{Hash, Hasher};
 use std::marker::Model;
 
-// A number for each species, and 0 at the places without one: the amounts of a complex, or a reaction's vector.
-pub type Row = [i128; MAX_SPECIES];
+// A number for each species, and 0 at the places past the last species: the amounts of a complex, or the vector of a
+// reaction.
+pub(crate) type Row = [i128; MAX_SPECIES];
 
-// The amounts of a complex while a network is built. A byte holds an amount, so that rows are fast to compare
-// and to hash.
+// The amounts of a complex while a network is built. One byte holds an amount, so rows are fast to compare and to hash.
 #[derive(Drop)]
-pub struct Amounts {
+pub(crate) struct Amounts {
     row: [u8; MAX_SPECIES],
 }
 
-// The amounts of the complexes, each once, in the order in which they came.
-pub type Complexes = IndexSet<Amounts>;
+// The amounts of the complexes, each once, in the order in which they were inserted.
+pub(crate) type Complexes = IndexSet<Amounts>;
 
 impl Model for Amounts {
     ghost use Rattle.std.specs.Prelude.{ℤ, pos, List, map};
@@ -33,7 +33,7 @@ impl Model for Amounts {
 }
 
 impl Amounts {
-    pub fn zeros() -> Amounts
+    pub(crate) fn zeros() -> Amounts
         ensures { result ≡ replicate MAX_SPECIES (pos 0) }
     {
         Amounts {
@@ -42,7 +42,7 @@ impl Amounts {
     }
 
     // Adds to the amount at a place.
-    pub fn add(&mut self, place: usize, count: u32)
+    pub(crate) fn add(&mut self, place: usize, count: u32)
         requires place { place < MAX_SPECIES }
         requires small { (slice_index_or self.old place (pos 0) +ℤ pos count) ≤ℤ pos MAX_AMOUNT }
         ensures { self.new ≡ slice_set self.old place (slice_index_or self.old place (pos 0) +ℤ pos count) }
@@ -51,8 +51,8 @@ impl Amounts {
         self.row[place] = sum as u8;
     }
 
-    // The row as a network keeps it.
-    pub fn wide(&self) -> Row
+    // The row with numbers as large as a network's vectors have them.
+    pub(crate) fn full_row(&self) -> Row
         ensures { result ≡ self.now }
     {
         let mut row = [0; MAX_SPECIES];

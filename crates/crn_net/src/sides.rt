@@ -10,8 +10,8 @@ use crate::term::Term;
 use crn_vec::{MAX_AMOUNT, MAX_TERMS};
 use std::alloc::{AllocError, Global};
 
-// So many bytes of a text from a place on, or as many as it has there. With the two `min`s it asks nothing of
-// the place, since the closure that compares two shares can't ask.
+// At most `length` bytes of a text from place `at` on. The two `min`s make it total: the closure that compares two
+// shares can't have a precondition.
 fn part(text: &[u8], at: u32, length: u32) -> &[u8]
     ensures { result.now ≡ take length (drop at text.now) }
 {
@@ -21,13 +21,13 @@ fn part(text: &[u8], at: u32, length: u32) -> &[u8]
 }
 
 // The bytes of a term's name.
-pub fn name_of<'a>(text: &'a [u8], term: &Term) -> &'a [u8]
+pub(crate) fn name_of<'a>(text: &'a [u8], term: &Term) -> &'a [u8]
     ensures { result.now ≡ name_at text.now term.now }
 {
     part(text, term.at, term.length)
 }
 
-// What a term adds to the sum of its name. It is small, for statements of very many terms.
+// The contribution of a term to the sum of its name. It is small, since a statement may have very many terms.
 #[derive(Clone, Copy)]
 struct Share {
     at: u32,
@@ -56,7 +56,7 @@ impl Share {
     }
 }
 
-// Puts in the shares of a side's terms, with the sign of the side.
+// Appends the shares of a side's terms, with the sign of the side.
 fn put_shares(shares: &mut Vec<Share>, side: &[Term], sign: i32) -> Result<(), AllocError>
     requires sign { nat_abs sign ≡ 1 }
     requires numbers { AllByRecursion (λ t. t.count ≤ MAX_AMOUNT) side.now }
@@ -68,7 +68,7 @@ fn put_shares(shares: &mut Vec<Share>, side: &[Term], sign: i32) -> Result<(), A
     Ok(())
 }
 
-// The shares of all terms in the order of their names. It takes memory for them at once, and no more.
+// The shares of all terms in the order of their names. It takes the memory for all of them at once.
 fn shares_by_name(
     alloc: Global,
     text: &[u8],
@@ -89,14 +89,14 @@ fn shares_by_name(
     Ok(shares)
 }
 
-// Whether no name's sum is below 0 or past the limit. Shares of one name stand together.
+// Whether each name's sum is between 0 and the limit. Shares of one name are adjacent.
 fn sums_lie_within(text: &[u8], shares: &[Share], limit: i64) -> bool
     requires limit { pos 0 ≤ℤ limit }
     requires few { length shares.now ≤ 2 * MAX_TERMS }
     requires by_name { AreByName text.now shares.now }
     ensures { IsTrue result ↔ ((name : List ℕ) → (pos 0 ≤ℤ sum_in text.now shares.now name) × (sum_in text.now shares.now name ≤ℤ limit)) }
 {
-    // No share has been seen yet, so that any name has the sum 0, which lies within.
+    // No share has been read yet, so the sum of any name is 0, which is within the limit.
     let mut name = [].as_slice();
     let mut sum = 0i64;
     for share in shares {
@@ -113,9 +113,9 @@ fn sums_lie_within(text: &[u8], shares: &[Share], limit: i64) -> bool
     0 <= sum && sum <= limit
 }
 
-// Whether both sides are the same complex. It is for statements of more names than a row has places: it takes
-// no longer than to sort the terms by their names, and 12 bytes for each term.
-pub fn says_same(
+// Whether both sides are the same complex. It serves statements with more names than a row has places. It takes as
+// long as sorting the terms by their names, and 12 bytes for each term.
+pub(crate) fn says_same(
     alloc: Global,
     text: &[u8],
     left: &[Term],
@@ -129,7 +129,7 @@ pub fn says_same(
     Ok(sums_lie_within(text, &shares, 0))
 }
 
-// All numbers of a side together.
+// The sum of all numbers of a side.
 fn total(side: &[Term]) -> u32
     requires { sum_by (λ t. t.count) side.now < 2 ^ 32 }
     ensures { result ≡ sum_by (λ t. t.count) side.now }
@@ -137,15 +137,15 @@ fn total(side: &[Term]) -> u32
     side.iter().map(|term| term.count).sum()
 }
 
-/// Whether no name has a sum on the side that passes the limit of an amount, as `NetBuilder::add` asks.
+/// Whether each name's sum on the side is within the limit of an amount, as `NetBuilder::add` requires.
 ///
-/// Where all numbers together pass the limit, it takes 12 bytes for each term.
+/// If all numbers together exceed the limit, it takes 12 bytes for each term.
 pub fn sums_fit(alloc: Global, text: &[u8], side: &[Term]) -> Result<bool, AllocError>
     requires numbers { AllByRecursion (λ t. t.count ≤ MAX_AMOUNT) side.now }
     requires few { length side.now ≤ MAX_TERMS }
     ensures { IfOk result (λ fit. IsTrue fit ↔ ((name : List ℕ) → amount_in (side_of text.now side.now) name ≤ MAX_AMOUNT)) }
 {
-    // Nearly every side says so little, and takes no memory.
+    // Nearly every side is this small, and takes no memory.
     if total(side) <= MAX_AMOUNT {
         return Ok(true);
     }

@@ -13,7 +13,7 @@ use crate::term::Term;
 use crn_vec::{MAX_COMPLEXES, MAX_NAME, MAX_REACTIONS, MAX_SPECIES};
 use std::alloc::{AllocError, Global};
 
-// The place of a name, which is added where it is new. A name too many is added, and the answer is an error.
+// The place of a name, which is added if it is new. A name above the limit is added too, and the answer is an error.
 fn note_name(names: &mut Names, name: &[u8]) -> Result<usize, NetFault>
     requires few { length names.old.keys ≤ MAX_SPECIES }
     requires short { length name.now ≤ MAX_NAME }
@@ -28,10 +28,9 @@ fn note_name(names: &mut Names, name: &[u8]) -> Result<usize, NetFault>
 }
 
 // The amounts of both sides of a statement.
-pub type Sides = (Amounts, Amounts);
+pub(crate) type RowPair = (Amounts, Amounts);
 
-// Puts the amounts that a side says of the names into the row, and the side's own names at their end. It looks
-// each term's name up once.
+// Adds the amounts of a side to the row, and the new names of the side to the names. Each term's name is looked up once.
 fn note_side(
     names: &mut Names,
     row: &mut Amounts,
@@ -52,10 +51,10 @@ fn note_side(
     Ok(())
 }
 
-// The same for the left side, and then the right.
+// Adds the amounts of both sides to their rows, and their new names to the names, the left side first.
 fn note_both(
     names: &mut Names,
-    rows: &mut Sides,
+    rows: &mut RowPair,
     text: &[u8],
     left: &[Term],
     right: &[Term],
@@ -73,8 +72,8 @@ fn note_both(
     note_side(names, &mut rows.1, text, right)
 }
 
-// An error where both sides are the same.
-fn tell_apart(rows: &Sides) -> Result<(), NetFault>
+// An error if both rows are the same.
+fn tell_apart(rows: &RowPair) -> Result<(), NetFault>
     ensures { TellsApart rows.now result }
 {
     if rows.0 == rows.1 {
@@ -83,8 +82,8 @@ fn tell_apart(rows: &Sides) -> Result<(), NetFault>
     Ok(())
 }
 
-// Why a statement is refused whose names find no room: that both sides are the same comes first.
-fn crowded(alloc: Global, text: &[u8], left: &[Term], right: &[Term]) -> NetFault
+// Why a statement with too many species is refused. Equal sides are reported first.
+fn crowded_fault(alloc: Global, text: &[u8], left: &[Term], right: &[Term]) -> NetFault
     requires left { IsSide text.now left.now }
     requires right { IsSide text.now right.now }
     ensures { IsCrowded (statement_of text.now left.now right.now) result }
@@ -96,10 +95,10 @@ fn crowded(alloc: Global, text: &[u8], left: &[Term], right: &[Term]) -> NetFaul
     }
 }
 
-// Puts in the names and amounts of both sides. An error where they are the same complex.
+// Adds the names and amounts of both sides. An error if they are the same complex, or have too many names.
 fn note_sides(
     names: &mut Names,
-    rows: &mut Sides,
+    rows: &mut RowPair,
     text: &[u8],
     left: &[Term],
     right: &[Term],
@@ -115,12 +114,12 @@ fn note_sides(
 {
     match note_both(names, rows, text, left, right) {
         Ok(()) => tell_apart(rows),
-        Err(NetFault::TooManySpecies) => Err(crowded(*names.allocator(), text, left, right)),
+        Err(NetFault::TooManySpecies) => Err(crowded_fault(*names.allocator(), text, left, right)),
         Err(fault) => Err(fault),
     }
 }
 
-// The place of a row, which is added where it is new.
+// The place of a row, which is added if it is new.
 fn note_row(rows: &mut Complexes, row: Amounts) -> Result<usize, NetFault>
     requires few { length rows.old.keys ≤ MAX_COMPLEXES }
     ensures notes { NotesRow rows.old.keys row result rows.new.keys }
@@ -146,7 +145,7 @@ fn has_reaction(reactions: &[(usize, usize)], reaction: (usize, usize)) -> bool
         .any(|known| known.0 == reaction.0 && known.1 == reaction.1)
 }
 
-// Adds a reaction where it is new.
+// Adds a reaction if it is new.
 fn note_reaction(
     reactions: &mut Vec<(usize, usize)>,
     reaction: (usize, usize),
@@ -164,9 +163,9 @@ fn note_reaction(
     Ok(())
 }
 
-// Adds the reaction of a statement to the tables. After an error there may be more names and rows, but no
-// other reaction.
-pub fn build(
+// Adds the reaction of a statement to the tables. After an error there may be more names and rows, but the reactions
+// are as before.
+pub(crate) fn build(
     names: &mut Names,
     rows: &mut Complexes,
     reactions: &mut Vec<(usize, usize)>,
@@ -193,18 +192,18 @@ pub fn build(
     note_reaction(reactions, (reactant, product))
 }
 
-// The rows as a network keeps them.
-pub fn wide_rows(alloc: Global, rows: &[Amounts]) -> Result<Vec<Row>, AllocError>
+// The rows with numbers as large as a network's vectors have them.
+pub(crate) fn full_rows(alloc: Global, rows: &[Amounts]) -> Result<Vec<Row>, AllocError>
     ensures { IfOk result (λ made. made.items ≡ rows.now) }
 {
     let mut made = Vec::with_capacity(alloc, rows.len())?;
     for row in rows {
-        made.push(row.wide())?;
+        made.push(row.full_row())?;
     }
     Ok(made)
 }
 
-// One row minus another, place by place.
+// One row minus another, entry by entry.
 fn difference(from: &Row, take: &Row) -> Row
     requires from { AllByRecursion IsAmount from.now }
     requires take { AllByRecursion IsAmount take.now }
@@ -217,8 +216,8 @@ fn difference(from: &Row, take: &Row) -> Row
     row
 }
 
-// Of each reaction the row of its product minus that of its reactant.
-pub fn differences(
+// For each reaction, the row of its product minus that of its reactant.
+pub(crate) fn differences(
     alloc: Global,
     rows: &[Row],
     reactions: &[(usize, usize)],

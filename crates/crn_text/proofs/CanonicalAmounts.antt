@@ -15,7 +15,7 @@ use Rattle.crn_vec.specs.declared.limits.TheConstants.{MAX_AMOUNT}
 use Rattle.crn_net.proofs.Amounts.{none_said}
 use Rattle.crn_net.proofs.Lists.{map_same}
 use Rattle.crn_text.specs.Canonical.{term, terms, or_zero, side}
-use Rattle.crn_text.proofs.CanonicalWords.{IsGood, term_text, tail_text, side_text}
+use Rattle.crn_text.proofs.CanonicalTokens.{IsGood, term_text, tail_text, side_text}
 use Rattle.crn_text.proofs.CanonicalNames.{held}
 
 -- ---- what a side says of each name

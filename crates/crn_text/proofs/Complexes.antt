@@ -11,7 +11,7 @@ use Rattle.std.proofs.lemmas.List.{append-nil}
 use Rattle.crn_vec.specs.Lists.{IsIn, firsts}
 use Rattle.crn_vec.proofs.Appearance.{IsNumberedInOrder, appears_in_order}
 use Rattle.crn_vec.specs.Network.{Net, IsPartialNetwork, IsVector, JoinsTwo, ends, sides_of, sides_eq}
-use Rattle.crn_net.specs.Grows.{widened, both_widened}
+use Rattle.crn_net.specs.Grows.{with_zeros, both_with_zeros}
 use Rattle.crn_net.proofs.Lists.{in_left, in_right, in_map, all_in, at_in, same_place, map_twice}
 use Rattle.crn_net.proofs.Firsts.{firsts_known, firsts_firsts, firsts_map}
 use Rattle.crn_net.proofs.Members.{row_decides}
@@ -153,15 +153,15 @@ long_of net rs h apart v i =
     let lt = ends_below (length net.complexes) rs apart p.0 p.1 in
     ap length p.2 ∙ (all_in (IsVector (length net.names)) net.complexes (get_or net.complexes p.0 []) h.vectors (at_in net.complexes p.0 [] lt)).0
 
-pub complexes_more : (net : Net) (m : ℕ) (p : List ℤ × List ℤ) → IsPartialNetwork net → firsts (pointwise int_eq) (map (widened m) net.complexes ++ p.0 ∷ p.1 ∷ []) ≡ firsts (pointwise int_eq) (flat_map both_of (firsts sides_eq (map (λ r. both_widened m (sides_of net r)) net.reactions ++ p ∷ [])))
+pub complexes_more : (net : Net) (m : ℕ) (p : List ℤ × List ℤ) → IsPartialNetwork net → firsts (pointwise int_eq) (map (with_zeros m) net.complexes ++ p.0 ∷ p.1 ∷ []) ≡ firsts (pointwise int_eq) (flat_map both_of (firsts sides_eq (map (λ r. both_with_zeros m (sides_of net r)) net.reactions ++ p ∷ [])))
 complexes_more net m p h =
     let E : List ℤ → List ℤ → Bool = pointwise int_eq in
     let d : (a b : List ℤ) → Decides (E a b) (a ≡ b) = λ a b. row_decides b a in
     let olds : List (List ℤ) = flat_map both_of (map (sides_of net) net.reactions) in
-    let wide : List (List ℤ × List ℤ) = map (λ r. both_widened m (sides_of net r)) net.reactions in
-    let test : (a b : List ℤ) → IsIn a olds → IsIn b olds → E (widened m a) (widened m b) ≡ E a b = λ a b i j.
-    same_test (E (widened m a) (widened m b)) (E a b) (widened m a ≡ widened m b) (a ≡ b) (d (widened m a) (widened m b)) (d a b)
-    (λ e. append_same a b _ _ (long_of net net.reactions h h.apart a i ∙ sym (long_of net net.reactions h h.apart b j)) e) (ap (widened m)) in
-    let these : flat_map both_of wide ≡ map (widened m) olds = ap (flat_map both_of) (sym (map_twice (sides_of net) (both_widened m) net.reactions)) ∙ flat_map_map (widened m) (map (sides_of net) net.reactions) in
-    let known : firsts E (flat_map both_of wide) ≡ map (widened m) net.complexes = ap (firsts E) these ∙ firsts_map E E (widened m) olds test ∙ ap (map (widened m)) (complexes_are net h) in
+    let wide : List (List ℤ × List ℤ) = map (λ r. both_with_zeros m (sides_of net r)) net.reactions in
+    let test : (a b : List ℤ) → IsIn a olds → IsIn b olds → E (with_zeros m a) (with_zeros m b) ≡ E a b = λ a b i j.
+    same_test (E (with_zeros m a) (with_zeros m b)) (E a b) (with_zeros m a ≡ with_zeros m b) (a ≡ b) (d (with_zeros m a) (with_zeros m b)) (d a b)
+    (λ e. append_same a b _ _ (long_of net net.reactions h h.apart a i ∙ sym (long_of net net.reactions h h.apart b j)) e) (ap (with_zeros m)) in
+    let these : flat_map both_of wide ≡ map (with_zeros m) olds = ap (flat_map both_of) (sym (map_twice (sides_of net) (both_with_zeros m) net.reactions)) ∙ flat_map_map (with_zeros m) (map (sides_of net) net.reactions) in
+    let known : firsts E (flat_map both_of wide) ≡ map (with_zeros m) net.complexes = ap (firsts E) these ∙ firsts_map E E (with_zeros m) olds test ∙ ap (map (with_zeros m)) (complexes_are net h) in
     ap (λ (t : List (List ℤ)). firsts E (t ++ p.0 ∷ p.1 ∷ [])) (sym known) ∙ firsts_firsts E d (flat_map both_of wide) (p.0 ∷ p.1 ∷ []) ∙ ap (firsts E) (sym (flat_push wide p)) ∙ sym (all_kept sides_eq sides_decide E d both_of (wide ++ p ∷ []) [])

@@ -3,7 +3,7 @@ use Rattle.std.proofs.Common.{◌≡◌, ℕ, ◌+◌, List, Option, Some, None,
 use Rattle.std.proofs.lemmas.Bool.{cases_order}
 use Rattle.crn_text.specs.Tokens.{lines}
 use Rattle.crn_text.specs.Spells.{Fault, fault_on}
-use Rattle.crn_text.specs.declared.code.TextCode.{TextCode}
+use Rattle.crn_text.specs.declared.fault.TextCode.{TextCode}
 
 -- a line has no fault and a fault
 both : (o : Option TextCode) (code : TextCode) → o ≡ None → o ≡ Some code → ⊥

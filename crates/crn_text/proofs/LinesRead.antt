@@ -11,14 +11,14 @@ use Rattle.crn_net.specs.declared.fault.NetFault.{NetFault}
 use Rattle.crn_net.specs.declared.fault.NetFault.TheVariants as refusal
 use Rattle.crn_net.proofs.CallerLemmas.{Grown-names, Grown-reactions}
 use Rattle.crn_text.specs.Codes.{net_code}
-use Rattle.crn_text.specs.Tokens.{lines, before_comment, words}
-use Rattle.crn_text.specs.Sides.{said, all_said}
+use Rattle.crn_text.specs.Tokens.{lines, before_comment, tokens}
+use Rattle.crn_text.specs.Sides.{line_statements, all_statements}
 use Rattle.crn_text.specs.Faults.{is_plain, own_fault, line_fault, or_else}
 use Rattle.crn_text.specs.Spells.{Spells, Fault, fault_on, AreFaultless, IsFirstFault, IsWithoutReaction}
-use Rattle.crn_text.specs.Pieces.{CutsAt, behind_cut, WordsGive, LineGives}
-use Rattle.crn_text.specs.declared.code.TextCode.{TextCode}
-use Rattle.crn_text.specs.declared.code.TextCode.TheVariants.{NotAscii, NoMemory, NoReaction}
-use Rattle.crn_text.proofs.Cuts.{lines_behind, lines_cut, cut_size}
+use Rattle.crn_text.specs.Pieces.{SplitsAt, after_split, TokensGive, LineGives}
+use Rattle.crn_text.specs.declared.fault.TextCode.{TextCode}
+use Rattle.crn_text.specs.declared.fault.TextCode.TheVariants.{NotAscii, NoMemory, NoReaction}
+use Rattle.crn_text.proofs.Splits.{lines_behind, lines_split, split_size}
 
 -- ---- one line
 
@@ -26,7 +26,7 @@ pub fault_plain : (before : List Statement) (line : List ℕ) → list_all is_pl
 unfolding own_fault
 fault_plain before line h = rw h refl
 
-pub line_gives : (before : List Statement) (line : List ℕ) (r : Result Unit TextCode) (net : Net) → list_all is_plain (before_comment line) ≡ true → WordsGive before (words (before_comment line)) r net → LineGives before line r net
+pub line_gives : (before : List Statement) (line : List ℕ) (r : Result Unit TextCode) (net : Net) → list_all is_plain (before_comment line) ≡ true → TokensGive before (tokens (before_comment line)) r net → LineGives before line r net
 unfolding own_fault
 line_gives before line (Ok done) net h w = (rw h w.0, w.1)
 line_gives before line (Err fault) net h (inl m) = inl m
@@ -38,8 +38,8 @@ line_gives before line (Err fault) net h (inr f) = inr (rw h f)
 pub record LinesUpTo (text : List ℕ) (number : ℕ) (left : Option (Bor (List ℕ))) (net : Net) : Type 0 where
   pub behind : drop number (lines text) ≡ lines_behind left
   pub sound : AreFaultless (lines text) number
-  pub grown : Grown (all_said (take number (lines text))) net
-  pub size : number + length (behind_cut 10 left) ≤ length text + 1
+  pub grown : Grown (all_statements (take number (lines text))) net
+  pub size : number + length (after_split 10 left) ≤ length text + 1
 
 -- the place of the first of the elements that are left
 first_left : {X : Type 0} (xs ys : List X) (x d : X) (n : ℕ) → drop n xs ≡ x ∷ ys → (n < length xs) × (get_or xs n d ≡ x) × (drop (n + 1) xs ≡ ys)
@@ -51,30 +51,30 @@ first_left (y ∷ xs) ys x d (suc n) h =
     let e : drop (suc n + 1) (y ∷ xs) ≡ drop (n + 1) xs = let f : suc n + 1 ≡ suc (n + 1) = omega arith in rw f refl in
     (omega (arith, p.0), p.1, e ∙ p.2)
 
-pub flat_push : (ls : List (List ℕ)) (l : List ℕ) → all_said (ls ++ l ∷ []) ≡ all_said ls ++ said l
-flat_push [] l = append-nil (said l)
-flat_push (x ∷ ls) l = ap (λ (t : List Statement). said x ++ t) (flat_push ls l) ∙ sym (append_assoc (said x) (all_said ls) (said l))
+pub flat_push : (ls : List (List ℕ)) (l : List ℕ) → all_statements (ls ++ l ∷ []) ≡ all_statements ls ++ line_statements l
+flat_push [] l = append-nil (line_statements l)
+flat_push (x ∷ ls) l = ap (λ (t : List Statement). line_statements x ++ t) (flat_push ls l) ∙ sym (append_assoc (line_statements x) (all_statements ls) (line_statements l))
 
-pub lines_more : (text line : List ℕ) (number : ℕ) (rest : Bor (List ℕ)) (next : Option (Bor (List ℕ))) (old new : Net) (done : Unit {0}) → LinesUpTo text number (Some rest) old → CutsAt 10 rest.now line next → LineGives (all_said (take number (lines text))) line (Ok done) new → LinesUpTo text (number + 1) next new
-lines_more text line number rest next old new done h cut g =
-    let p = first_left (lines text) (lines_behind next) line [] number (h.behind ∙ lines_cut rest.now line next cut) in
+pub lines_more : (text line : List ℕ) (number : ℕ) (rest : Bor (List ℕ)) (next : Option (Bor (List ℕ))) (old new : Net) (done : Unit {0}) → LinesUpTo text number (Some rest) old → SplitsAt 10 rest.now line next → LineGives (all_statements (take number (lines text))) line (Ok done) new → LinesUpTo text (number + 1) next new
+lines_more text line number rest next old new done h split g =
+    let p = first_left (lines text) (lines_behind next) line [] number (h.behind ∙ lines_split rest.now line next split) in
     let here : fault_on (lines text) number ≡ None = rw p.1 g.0 in
     let more : take (number + 1) (lines text) ≡ take number (lines text) ++ line ∷ [] = take_more (lines text) number [] p.0 ∙ ap (λ (l : List ℕ). take number (lines text) ++ l ∷ []) p.1 in
-    let said_more : all_said (take (number + 1) (lines text)) ≡ all_said (take number (lines text)) ++ said line = ap all_said more ∙ flat_push (take number (lines text)) line in
+    let said_more : all_statements (take (number + 1) (lines text)) ≡ all_statements (take number (lines text)) ++ line_statements line = ap all_statements more ∙ flat_push (take number (lines text)) line in
     record {
       behind = p.2;
       sound = below_more _ number h.sound here;
       grown = rw said_more g.1;
-      size = omega (arith, h.size, cut_size 10 rest.now line next cut);
+      size = omega (arith, h.size, split_size 10 rest.now line next split);
     }
 
-pub lines_stop : (text line : List ℕ) (number : ℕ) (rest : Bor (List ℕ)) (next : Option (Bor (List ℕ))) (old new : Net) (fault : TextCode) → length text ≤ MAX_TEXT → LinesUpTo text number (Some rest) old → CutsAt 10 rest.now line next → LineGives (all_said (take number (lines text))) line (Err fault) new → (fault ≡ NoMemory) ⊎ IsFirstFault text (number + 1) fault
-lines_stop text line number rest next old new fault short h cut (inl m) = inl m
-lines_stop text line number rest next old new fault short h cut (inr f) =
-    let p = first_left (lines text) (lines_behind next) line [] number (h.behind ∙ lines_cut rest.now line next cut) in
+pub lines_stop : (text line : List ℕ) (number : ℕ) (rest : Bor (List ℕ)) (next : Option (Bor (List ℕ))) (old new : Net) (fault : TextCode) → length text ≤ MAX_TEXT → LinesUpTo text number (Some rest) old → SplitsAt 10 rest.now line next → LineGives (all_statements (take number (lines text))) line (Err fault) new → (fault ≡ NoMemory) ⊎ IsFirstFault text (number + 1) fault
+lines_stop text line number rest next old new fault short h split (inl m) = inl m
+lines_stop text line number rest next old new fault short h split (inr f) =
+    let p = first_left (lines text) (lines_behind next) line [] number (h.behind ∙ lines_split rest.now line next split) in
     inr (record { before = number; counted = refl; short = short; there = p.0; earlier = h.sound; fault = rw p.1 f })
 
-pub lines_all : (text : List ℕ) (number : ℕ) (net : Net) → LinesUpTo text number None net → AreFaultless (lines text) (length (lines text)) × Grown (all_said (lines text)) net
+pub lines_all : (text : List ℕ) (number : ℕ) (net : Net) → LinesUpTo text number None net → AreFaultless (lines text) (length (lines text)) × Grown (all_statements (lines text)) net
 lines_all text number net h =
     let end : length (lines text) ≤ number = omega (arith, ap length h.behind, length-drop number (lines text)) in
     let whole : take number (lines text) ≡ lines text = take_all number (lines text) end in
@@ -98,23 +98,23 @@ no_map : {A B : Type 0} (f : A → B) (xs : List A) → map f xs ≡ [] → xs �
 no_map f [] h = refl
 no_map f (x ∷ xs) h = absurd cc
 
-pub text_ok : (text : List ℕ) (old made : Net) → length text ≤ MAX_TEXT → AreFaultless (lines text) (length (lines text)) × Grown (all_said (lines text)) old → (made ≡ old) × IsNetwork made → Spells text made
+pub text_ok : (text : List ℕ) (old made : Net) → length text ≤ MAX_TEXT → AreFaultless (lines text) (length (lines text)) × Grown (all_statements (lines text)) old → (made ≡ old) × IsNetwork made → Spells text made
 text_ok text old made short h f =
     let network = rw f.0 at f.1 in
     rw f.0 (record {
       short = short;
       sound = all_sound (λ line. own_fault line ≡ None) (lines text) (λ k lt. none_own _ _ (h.0 k lt));
-      names = Grown-names (all_said (lines text)) old h.1;
-      reactions = Grown-reactions (all_said (lines text)) old h.1;
+      names = Grown-names (all_statements (lines text)) old h.1;
+      reactions = Grown-reactions (all_statements (lines text)) old h.1;
       network = network;
     })
 
-pub text_without : (text : List ℕ) (net : Net) → length text ≤ MAX_TEXT → AreFaultless (lines text) (length (lines text)) × Grown (all_said (lines text)) net → net.reactions ≡ [] → IsWithoutReaction text 0 NoReaction
+pub text_without : (text : List ℕ) (net : Net) → length text ≤ MAX_TEXT → AreFaultless (lines text) (length (lines text)) × Grown (all_statements (lines text)) net → net.reactions ≡ [] → IsWithoutReaction text 0 NoReaction
 text_without text net short h none =
-    let empty : [] ≡ firsts sides_eq (map (said_by net.names) (all_said (lines text))) = rw none at (Grown-reactions (all_said (lines text)) net h.1) in
-    record { named = refl; whole = refl; short = short; sound = h.0; none = no_map (said_by net.names) (all_said (lines text)) (no_first sides_eq _ (sym empty)) }
+    let empty : [] ≡ firsts sides_eq (map (said_by net.names) (all_statements (lines text))) = rw none at (Grown-reactions (all_statements (lines text)) net h.1) in
+    record { named = refl; whole = refl; short = short; sound = h.0; none = no_map (said_by net.names) (all_statements (lines text)) (no_first sides_eq _ (sym empty)) }
 
-pub text_err : (text : List ℕ) (net : Net) (fault : NetFault) (code : TextCode) → length text ≤ MAX_TEXT → AreFaultless (lines text) (length (lines text)) × Grown (all_said (lines text)) net → FinishGives net (Err fault) → code ≡ net_code fault → (code ≡ NoMemory) ⊎ Fault text 0 code
+pub text_err : (text : List ℕ) (net : Net) (fault : NetFault) (code : TextCode) → length text ≤ MAX_TEXT → AreFaultless (lines text) (length (lines text)) × Grown (all_statements (lines text)) net → FinishGives net (Err fault) → code ≡ net_code fault → (code ≡ NoMemory) ⊎ Fault text 0 code
 text_err text net refusal.NoReaction code short h f e = rw e (inr (inr (inr (text_without text net short h f))))
 text_err text net refusal.NoMemory code short h f e = inl e
 text_err text net refusal.SelfReaction code short h f e = absurd f

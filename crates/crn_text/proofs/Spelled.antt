@@ -12,7 +12,7 @@ use Rattle.std.proofs.lemmas.List.{append-nil, length-map, map-append}
 use Rattle.crn_vec.specs.Lists.{IsIn, AreDistinct, firsts}
 use Rattle.crn_vec.specs.Network.{Net, IsNetwork, Statement, JoinsTwo, sides_of, sides_eq, said_by, names_in, amount_in, amounts_in}
 use Rattle.crn_vec.specs.declared.limits.TheConstants.{MAX_SPECIES, MAX_COMPLEXES, MAX_REACTIONS}
-use Rattle.crn_net.specs.Grows.{widened, both_widened}
+use Rattle.crn_net.specs.Grows.{with_zeros, both_with_zeros}
 use Rattle.crn_net.specs.Steps.{SaysSame}
 use Rattle.crn_net.proofs.Lists.{in_right, in_map, map_in, map_same, map_twice, all_in, same_place}
 use Rattle.crn_net.proofs.Firsts.{firsts_distinct, firsts_has, firsts_map, firsts_front, firsts_length}
@@ -20,11 +20,11 @@ use Rattle.crn_net.proofs.Members.{row_decides}
 use Rattle.crn_net.proofs.Growth.{sides_decide}
 use Rattle.crn_net.proofs.Rows.{same_test}
 use Rattle.crn_text.specs.Tokens.{lines}
-use Rattle.crn_text.specs.Sides.{said, all_said}
+use Rattle.crn_text.specs.Sides.{line_statements, all_statements}
 use Rattle.crn_text.specs.Faults.{own_fault, statement_fault, statements_fault, is_self, names_of, reactions_of, complexes_of, both_of}
 use Rattle.crn_text.specs.Spells.{Spells, Fault, fault_on}
-use Rattle.crn_text.specs.declared.code.TextCode.{TextCode}
-use Rattle.crn_text.proofs.Widening.{said_widened, wide_test, in_all}
+use Rattle.crn_text.specs.declared.fault.TextCode.{TextCode}
+use Rattle.crn_text.proofs.Widening.{said_with_zeros, wide_test, in_all}
 use Rattle.crn_text.proofs.Complexes.{all_kept, append_same, flat_map_map, complexes_are}
 use Rattle.crn_text.proofs.Statements.{self_same}
 
@@ -52,7 +52,7 @@ names_few net front rest h =
     omega (arith, h.network.partial.species_limit, ap length h.names, ap length more, firsts_length bytes_eq (flat_map names_in front) (flat_map names_in rest))
 
 -- the statements of the front as amounts of all names
-wide_statements : (net : Net) (front rest : List Statement) → Front net front rest → map (both_widened (length net.names)) (map (said_by (names_of front)) front) ≡ map (said_by net.names) front
+wide_statements : (net : Net) (front rest : List Statement) → Front net front rest → map (both_with_zeros (length net.names)) (map (said_by (names_of front)) front) ≡ map (said_by net.names) front
 wide_statements net front rest h =
     let P : List (List ℕ) = flat_map names_in front in
     let N : List (List ℕ) = names_of front in
@@ -61,20 +61,20 @@ wide_statements net front rest h =
     let apart : AreDistinct (N ++ f.0) = subst AreDistinct f.1 (firsts_distinct bytes_eq bytes_eq-Decides (P ++ flat_map names_in rest)) in
     let known : (t : Statement) → IsIn t front → (name : List ℕ) → IsIn name (names_in t) → IsIn name N = λ t i name j. firsts_has bytes_eq bytes_eq-Decides P name (in_all front t name i j) in
     let m : ℕ = length net.names in
-    let said_as : (t : Statement) → IsIn t front → both_widened m (said_by N t) ≡ said_by net.names t = λ t i.
-    subst (λ (u : List (List ℕ)). both_widened (length u) (said_by N t) ≡ said_by u t) (sym all) (said_widened N f.0 t apart (known t i)) in
-    map_twice (said_by N) (both_widened m) front ∙ map_same (λ t. both_widened m (said_by N t)) (said_by net.names) front said_as
+    let said_as : (t : Statement) → IsIn t front → both_with_zeros m (said_by N t) ≡ said_by net.names t = λ t i.
+    subst (λ (u : List (List ℕ)). both_with_zeros (length u) (said_by N t) ≡ said_by u t) (sym all) (said_with_zeros N f.0 t apart (known t i)) in
+    map_twice (said_by N) (both_with_zeros m) front ∙ map_same (λ t. both_with_zeros m (said_by N t)) (said_by net.names) front said_as
 
-wide_reactions : (net : Net) (front rest : List Statement) → Front net front rest → map (both_widened (length net.names)) (reactions_of front) ≡ firsts sides_eq (map (said_by net.names) front)
+wide_reactions : (net : Net) (front rest : List Statement) → Front net front rest → map (both_with_zeros (length net.names)) (reactions_of front) ≡ firsts sides_eq (map (said_by net.names) front)
 wide_reactions net front rest h =
     let N : List (List ℕ) = names_of front in
     let m : ℕ = length net.names in
     let Y : List (List ℤ × List ℤ) = map (said_by N) front in
-    let test : (a b : List ℤ × List ℤ) → IsIn a Y → IsIn b Y → sides_eq (both_widened m a) (both_widened m b) ≡ sides_eq a b = λ a b i j.
+    let test : (a b : List ℤ × List ℤ) → IsIn a Y → IsIn b Y → sides_eq (both_with_zeros m a) (both_with_zeros m b) ≡ sides_eq a b = λ a b i j.
     let p = in_map (said_by N) front a i in
     let q = in_map (said_by N) front b j in
-    subst (λ (u : List ℤ × List ℤ). sides_eq (both_widened m u) (both_widened m b) ≡ sides_eq u b) (sym p.2) (subst (λ (u : List ℤ × List ℤ). sides_eq (both_widened m (said_by N p.0)) (both_widened m u) ≡ sides_eq (said_by N p.0) u) (sym q.2) (wide_test N m p.0 q.0)) in
-    sym (firsts_map sides_eq sides_eq (both_widened m) Y test) ∙ ap (firsts sides_eq) (wide_statements net front rest h)
+    subst (λ (u : List ℤ × List ℤ). sides_eq (both_with_zeros m u) (both_with_zeros m b) ≡ sides_eq u b) (sym p.2) (subst (λ (u : List ℤ × List ℤ). sides_eq (both_with_zeros m (said_by N p.0)) (both_with_zeros m u) ≡ sides_eq (said_by N p.0) u) (sym q.2) (wide_test N m p.0 q.0)) in
+    sym (firsts_map sides_eq sides_eq (both_with_zeros m) Y test) ∙ ap (firsts sides_eq) (wide_statements net front rest h)
 
 said_append : (net : Net) (front rest : List Statement) → map (said_by net.names) (front ++ rest) ≡ map (said_by net.names) front ++ map (said_by net.names) rest
 said_append net front rest = map-append (said_by net.names) front rest
@@ -82,7 +82,7 @@ said_append net front rest = map-append (said_by net.names) front rest
 reactions_few : (net : Net) (front rest : List Statement) → Front net front rest → length (reactions_of front) ≤ MAX_REACTIONS
 reactions_few net front rest h =
     let wide = ap length (wide_reactions net front rest h) in
-    let same : length (map (both_widened (length net.names)) (reactions_of front)) ≡ length (reactions_of front) = simp length-map in
+    let same : length (map (both_with_zeros (length net.names)) (reactions_of front)) ≡ length (reactions_of front) = simp length-map in
     let mapped : length (map (sides_of net) net.reactions) ≡ length net.reactions = simp length-map in
     let all = ap length (h.reactions ∙ ap (firsts sides_eq) (said_append net front rest)) in
     omega (arith, wide, same, mapped, all, firsts_length sides_eq (map (said_by net.names) front) (map (said_by net.names) rest), h.network.partial.reactions_limit)
@@ -101,18 +101,18 @@ complexes_few net front rest h =
     let N : List (List ℕ) = names_of front in
     let m : ℕ = length net.names in
     let Z : List (List ℤ) = flat_map both_of (map (said_by N) front) in
-    let test : (a b : List ℤ) → IsIn a Z → IsIn b Z → E (widened m a) (widened m b) ≡ E a b = λ a b i j.
-    same_test (E (widened m a) (widened m b)) (E a b) (widened m a ≡ widened m b) (a ≡ b) (d (widened m a) (widened m b)) (d a b) (λ e. append_same a b _ _ (both_long N front a i ∙ sym (both_long N front b j)) e) (ap (widened m)) in
-    -- all of the front's complexes, widened
-    let one : map (widened m) (firsts E Z) ≡ firsts E (map (widened m) Z) = sym (firsts_map E E (widened m) Z test) in
+    let test : (a b : List ℤ) → IsIn a Z → IsIn b Z → E (with_zeros m a) (with_zeros m b) ≡ E a b = λ a b i j.
+    same_test (E (with_zeros m a) (with_zeros m b)) (E a b) (with_zeros m a ≡ with_zeros m b) (a ≡ b) (d (with_zeros m a) (with_zeros m b)) (d a b) (λ e. append_same a b _ _ (both_long N front a i ∙ sym (both_long N front b j)) e) (ap (with_zeros m)) in
+    -- all complexes of the prefix, with zeros for the later names
+    let one : map (with_zeros m) (firsts E Z) ≡ firsts E (map (with_zeros m) Z) = sym (firsts_map E E (with_zeros m) Z test) in
     let three : complexes_of front ≡ firsts E Z = all_kept sides_eq sides_decide E d both_of (map (said_by N) front) [] in
-    let five : firsts E (map (widened m) Z) ≡ firsts E (flat_map both_of (map (said_by net.names) front)) =
-    ap (firsts E) (sym (flat_map_map (widened m) (map (said_by N) front)) ∙ ap (flat_map both_of) (wide_statements net front rest h)) in
+    let five : firsts E (map (with_zeros m) Z) ≡ firsts E (flat_map both_of (map (said_by net.names) front)) =
+    ap (firsts E) (sym (flat_map_map (with_zeros m) (map (said_by N) front)) ∙ ap (flat_map both_of) (wide_statements net front rest h)) in
     let all : firsts E (flat_map both_of (map (said_by net.names) (front ++ rest))) ≡ net.complexes =
     sym (all_kept sides_eq sides_decide E d both_of (map (said_by net.names) (front ++ rest)) []) ∙ ap (λ (t : List (List ℤ × List ℤ)). firsts E (flat_map both_of t)) (sym h.reactions) ∙ complexes_are net h.network.partial in
-    let cut : flat_map both_of (map (said_by net.names) (front ++ rest)) ≡ flat_map both_of (map (said_by net.names) front) ++ flat_map both_of (map (said_by net.names) rest) = ap (flat_map both_of) (said_append net front rest) ∙ flat_append both_of (map (said_by net.names) front) (map (said_by net.names) rest) in
-    let long : length (map (widened m) (firsts E Z)) ≡ length (firsts E Z) = simp length-map in
-    omega (arith, ap length three, ap length one, long, ap length five, firsts_length E (flat_map both_of (map (said_by net.names) front)) (flat_map both_of (map (said_by net.names) rest)), ap length (ap (firsts E) cut), ap length all, h.network.partial.complexes_limit)
+    let split : flat_map both_of (map (said_by net.names) (front ++ rest)) ≡ flat_map both_of (map (said_by net.names) front) ++ flat_map both_of (map (said_by net.names) rest) = ap (flat_map both_of) (said_append net front rest) ∙ flat_append both_of (map (said_by net.names) front) (map (said_by net.names) rest) in
+    let long : length (map (with_zeros m) (firsts E Z)) ≡ length (firsts E Z) = simp length-map in
+    omega (arith, ap length three, ap length one, long, ap length five, firsts_length E (flat_map both_of (map (said_by net.names) front)) (flat_map both_of (map (said_by net.names) rest)), ap length (ap (firsts E) split), ap length all, h.network.partial.complexes_limit)
 
 -- ---- no statement is a reaction of a complex to itself
 
@@ -167,12 +167,12 @@ at_place P (l ∷ ls) (suc k) h lt = at_place P ls k h.1 (omega arith)
 
 fine_line : (text : List ℕ) (net : Net) → Spells text net → (k : ℕ) → k < length (lines text) → fault_on (lines text) k ≡ None
 fine_line text net h k lt =
-    let all : List Statement = all_said (lines text) in
+    let all : List Statement = all_statements (lines text) in
     let front : Front net all [] = record { network = h.network; names = h.names ∙ ap names_of (sym (append-nil all)); reactions = h.reactions ∙ ap (λ (t : List Statement). firsts sides_eq (map (said_by net.names) t)) (sym (append-nil all)) } in
     let line : List ℕ = get_or (lines text) k [] in
-    let cut : all ≡ all_said (take k (lines text)) ++ (said line ++ all_said (drop (suc k) (lines text))) = flat_whole said (lines text) k [] lt ∙ append_assoc (all_said (take k (lines text))) (said line) (all_said (drop (suc k) (lines text))) in
+    let split : all ≡ all_statements (take k (lines text)) ++ (line_statements line ++ all_statements (drop (suc k) (lines text))) = flat_whole line_statements (lines text) k [] lt ∙ append_assoc (all_statements (take k (lines text))) (line_statements line) (all_statements (drop (suc k) (lines text))) in
     let own : own_fault line ≡ None = at_place (λ l. own_fault l ≡ None) (lines text) k h.sound lt in
-    rw own (fine_statements net all (all_said (take k (lines text))) (said line) (all_said (drop (suc k) (lines text))) front cut)
+    rw own (fine_statements net all (all_statements (take k (lines text))) (line_statements line) (all_statements (drop (suc k) (lines text))) front split)
 
 no_names : (net : Net) → IsNetwork net → map (sides_of net) net.reactions ≡ [] → ⊥
 no_names net h e = let n : length (map (sides_of net) net.reactions) ≡ length net.reactions = simp length-map in let s = h.some in omega (arith, n, ap length e, s)

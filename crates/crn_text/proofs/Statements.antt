@@ -24,8 +24,8 @@ use Rattle.crn_text.proofs.Complexes.{complexes_more}
 use Rattle.crn_text.specs.Codes.{net_code}
 use Rattle.crn_text.specs.Faults.{is_self, both_of, names_of, complexes_of, reactions_of, statement_fault}
 use Rattle.crn_text.specs.Pieces.{StatementGives}
-use Rattle.crn_text.specs.declared.code.TextCode.{TextCode}
-use Rattle.crn_text.specs.declared.code.TextCode.TheVariants.{NoMemory}
+use Rattle.crn_text.specs.declared.fault.TextCode.{TextCode}
+use Rattle.crn_text.specs.declared.fault.TextCode.TheVariants.{NoMemory}
 
 flat_push : (ss : List Statement) (s : Statement) → flat_map names_in (ss ++ s ∷ []) ≡ flat_map names_in ss ++ names_in s
 flat_push [] s = append-nil (names_in s)

@@ -22,9 +22,8 @@ use Rattle.crn_net.proofs.Lists.{in_at}
 use Rattle.crn_net.proofs.Members.{any_is, row_decides, reaction_decides}
 use Rattle.crn_net.proofs.Rows.{zeros_at}
 use Rattle.crn_net.proofs.Species.{IsSaid, wider_names}
-use Rattle.crn_text.specs.Sides.{said}
 use Rattle.crn_text.specs.Faults.{is_self, names_of, complexes_of, reactions_of, statement_fault, statements_fault, or_else}
-use Rattle.crn_text.specs.declared.code.TextCode.{TextCode}
+use Rattle.crn_text.specs.declared.fault.TextCode.{TextCode}
 use Rattle.crn_text.proofs.LinesRead.{none_own}
 use Rattle.crn_text.proofs.Statements.{names_all, complexes_all, reactions_all, all_same}
 

@@ -8,7 +8,7 @@ use Rattle.crn_vec.specs.Lists.{IsIn, AreDistinct, firsts}
 use Rattle.crn_vec.specs.Network.{Net, IsPartialNetwork, JoinsTwo, ends, sides_of, sides_eq, said_by}
 use Rattle.crn_vec.proofs.Appearance.{IsNumberedInOrder, appears_in_order}
 use Rattle.crn_text.specs.Tokens.{lines}
-use Rattle.crn_text.specs.Sides.{all_said}
+use Rattle.crn_text.specs.Sides.{all_statements}
 use Rattle.crn_text.specs.Spells.{Spells}
 
 lists_same : {A : Type 0} (xs ys : List A) (e : A) → length xs ≡ length ys → ((k : ℕ) → k < length xs → get_or xs k e ≡ get_or ys k e) → xs ≡ ys
@@ -116,5 +116,5 @@ network_unique a b p q names sides =
 pub spelling_unique : (text : List ℕ) (net other : Net) → Spells text net → Spells text other → net ≡ other
 spelling_unique text net other h i =
     let names : net.names ≡ other.names = h.names ∙ sym i.names in
-    let said : firsts sides_eq (map (said_by net.names) (all_said (lines text))) ≡ firsts sides_eq (map (said_by other.names) (all_said (lines text))) = ap (λ (t : List (List ℕ)). firsts sides_eq (map (said_by t) (all_said (lines text)))) names in
+    let said : firsts sides_eq (map (said_by net.names) (all_statements (lines text))) ≡ firsts sides_eq (map (said_by other.names) (all_statements (lines text))) = ap (λ (t : List (List ℕ)). firsts sides_eq (map (said_by t) (all_statements (lines text)))) names in
     network_unique net other h.network.partial i.network.partial names (h.reactions ∙ said ∙ sym i.reactions)

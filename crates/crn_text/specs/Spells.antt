@@ -5,24 +5,24 @@ use Rattle.crn_vec.specs.Lists.{firsts}
 use Rattle.crn_vec.specs.Network.{Net, IsNetwork, sides_of, sides_eq, said_by}
 use Rattle.crn_vec.specs.declared.limits.TheConstants.{MAX_TEXT}
 use Rattle.crn_text.specs.Tokens.{lines}
-use Rattle.crn_text.specs.Sides.{all_said}
+use Rattle.crn_text.specs.Sides.{all_statements}
 use Rattle.crn_text.specs.Faults.{own_fault, line_fault, names_of}
-use Rattle.crn_text.specs.declared.code.TextCode.{TextCode}
-use Rattle.crn_text.specs.declared.code.TextCode.TheVariants.{NoReaction, NoMemory, TextTooLong}
-use Rattle.crn_text.specs.declared.code.TextFault.{TextFault}
+use Rattle.crn_text.specs.declared.fault.TextCode.{TextCode}
+use Rattle.crn_text.specs.declared.fault.TextCode.TheVariants.{NoReaction, NoMemory, TextTooLong}
+use Rattle.crn_text.specs.declared.fault.TextFault.{TextFault}
 
 -- The text spells the network: no line is wrong by itself, its names are those of the text in order of first
 -- appearance, and its reactions, as amounts by name, are the statements with every later repeat dropped.
 pub record Spells (text : List ℕ) (net : Net) : Type 0 where
   pub short : length text ≤ MAX_TEXT
   pub sound : AllByRecursion (λ line. own_fault line ≡ None) (lines text)
-  pub names : net.names ≡ names_of (all_said (lines text))
-  pub reactions : map (sides_of net) net.reactions ≡ firsts sides_eq (map (said_by net.names) (all_said (lines text)))
+  pub names : net.names ≡ names_of (all_statements (lines text))
+  pub reactions : map (sides_of net) net.reactions ≡ firsts sides_eq (map (said_by net.names) (all_statements (lines text)))
   pub network : IsNetwork net
 
 -- the first test that a line fails behind so many others
 abbrev pub fault_on : List (List ℕ) → ℕ → Option TextCode
-fault_on ls k = line_fault (all_said (take k ls)) (slice_index_or ls k [])
+fault_on ls k = line_fault (all_statements (take k ls)) (slice_index_or ls k [])
 
 -- none of the first so many lines has a fault
 abbrev pub AreFaultless : List (List ℕ) → ℕ → Type 0
@@ -49,7 +49,7 @@ pub record IsWithoutReaction (text : List ℕ) (line : ℕ) (code : TextCode) : 
   pub whole : line ≡ 0
   pub short : length text ≤ MAX_TEXT
   pub sound : AreFaultless (lines text) (length (lines text))
-  pub none : all_said (lines text) ≡ []
+  pub none : all_statements (lines text) ≡ []
 
 -- the first fault of the text
 abbrev pub Fault : List ℕ → ℕ → TextCode → Type 0

@@ -6,9 +6,9 @@ use Rattle.crn_text.proofs.line.read_line.Goals as goal
 
 pub returns-then-not-are_plain : goal.returns-then-not-are_plain
 returns-then-not-are_plain c = λ before grown.
-    inr (fault_plain before c.args.line.now (ap (list_all is_plain) (sym c.code_of-code.ensures) ∙ sym c.are_plain.ensures ∙ c.if-not-are_plain.true))
+    inr (fault_plain before c.args.line.now (ap (list_all is_plain) (sym c.body_of-body.ensures) ∙ sym c.are_plain.ensures ∙ c.if-not-are_plain.true))
 
 pub returns : goal.returns
 returns c = λ before grown.
-    let read = rw c.code_of-code.ensures at (c.read_code.ensures before grown) in
-    line_gives before c.args.line.now c.read_code.result _ (ap (list_all is_plain) (sym c.code_of-code.ensures) ∙ sym c.are_plain.ensures ∙ c.if-not-are_plain.false) read
+    let read = rw c.body_of-body.ensures at (c.read_body.ensures before grown) in
+    line_gives before c.args.line.now c.read_body.result _ (ap (list_all is_plain) (sym c.body_of-body.ensures) ∙ sym c.are_plain.ensures ∙ c.if-not-are_plain.false) read

@@ -6,12 +6,12 @@ pub returns-then-not-is_number : goal.returns-then-not-is_number
 returns-then-not-is_number c =
     let first = c.in_ok-first in
     let begins = first.ensures in
-    λ code h. reads_name code c.args.place.now first.first first.rest.now c.named.result begins (search rules) (c.named.ensures code c.args.place.now h begins)
+    λ body h. reads_name body c.args.place.now first.first first.rest.now c.term_of_name.result begins (search rules) (c.term_of_name.ensures body c.args.place.now h begins)
 
 pub returns : goal.returns
 returns c =
     let first = c.in_ok-first in
     let begins = first.ensures in
     let name = c.in_ok-name in
-    λ code h.
-    reads_number code c.args.place.now first.first name.name first.rest.now name.behind.now c.number.result c.named-2.result begins name.ensures (search rules) c.number.ensures (c.named-2.ensures code first.rest.now (stands_rest code c.args.place.now c.args.end first.first first.rest.now h begins) name.ensures)
+    λ body h.
+    reads_number body c.args.place.now first.first name.name first.rest.now name.behind.now c.number.result c.term_of_name-2.result begins name.ensures (search rules) c.number.ensures (c.term_of_name-2.ensures body first.rest.now (stands_rest body c.args.place.now c.args.end first.first first.rest.now h begins) name.ensures)

@@ -1,7 +1,7 @@
 use Rattle.std.proofs.Common.{sym, ◌∙◌}
 use Rattle.std.proofs.lemmas.Bool.{eqb-true}
 use Rattle.std.proofs.lemmas.List.Sums.{prefix_len-le-length}
-use Rattle.crn_text.proofs.Words.{takes_none, takes_token}
+use Rattle.crn_text.proofs.Tokens.{takes_none, takes_token}
 use Rattle.crn_text.proofs.token.next_token.Goals as goal
 
 pub split_at-requires : goal.split_at-requires

@@ -1,0 +1,9 @@
+use Rattle.std.proofs.Common.{◌≡◌, take, length}
+use Rattle.crn_vec.specs.declared.limits.TheConstants.{MAX_SPECIES}
+use Rattle.crn_net.proofs.row.Amounts.full_row.Given as goal
+
+abbrev pub invariant-loop-s : goal.invariant-loop-s
+invariant-loop-s l = record {
+  long : length l.row ≡ MAX_SPECIES;
+  are : take l.s l.row ≡ take l.s l.self;
+}

@@ -1,0 +1,106 @@
+-- A text split at its first arrow.
+use Rattle.std.proofs.Common.{◌≡◌, ℕ, suc, true, false, eqb, List, [], ◌∷◌, ◌++◌, Some, None, Bor, refl, sym, ap, ◌∙◌, append_assoc, inl, inr, arith}
+use Rattle.std.specs.Prelude.{◌≢◌}
+use Rattle.std.specs.List.{list_any}
+use Rattle.std.proofs.lemmas.Bool.{ne_eqb, or_parts, or_right}
+use Rattle.std.proofs.lemmas.List.{append-nil}
+use Rattle.std.proofs.lemmas.List.Folds.{list_any-append}
+use Rattle.crn_text.specs.Tokens.{Token, token, tokens, tokens_after, first_token}
+use Rattle.crn_text.specs.Sides.{is_arrow, is_stray}
+use Rattle.crn_text.specs.Pieces.{SplitsAt, SplitsArrow, PartsAt}
+use Rattle.crn_text.specs.declared.token.TokenKind.TheVariants.{Arrow, BothWays, Back, Stray}
+use Rattle.crn_text.proofs.Apart.{EndsBefore, last_or, tokens_apart, no_arrow}
+
+-- ---- where a side ends
+
+-- a text that is not empty ends with its last byte
+ends_with_last : (b : ℕ) (xs : List ℕ) → (front : List ℕ) × (b ∷ xs ≡ front ++ last_or b xs ∷ [])
+ends_with_last b [] = ([], refl)
+ends_with_last b (x ∷ xs) = let e = ends_with_last x xs in (b ∷ e.0, ap (λ (t : List ℕ). b ∷ t) e.1)
+
+last_differs : (xs : List ℕ) (e : ℕ) → ((front : List ℕ) → xs ≢ front ++ suc e ∷ []) → last_or 0 xs ≡ suc e → ⊥
+last_differs [] e apart last = omega arith
+last_differs (x ∷ xs) e apart last = let ends = ends_with_last x xs in apart ends.0 (ends.1 ∙ ap (λ (b : ℕ). ends.0 ++ b ∷ []) last)
+
+-- a text that doesn't end with `<` ends before a `-`
+before_dash : (front : List ℕ) → ((far : List ℕ) → front ≢ far ++ 60 ∷ []) → EndsBefore front 45
+before_dash front apart = record { name = refl; arrow = λ is last. omega arith; both = λ is last. last_differs front 59 apart last }
+
+before_angle : (front : List ℕ) → EndsBefore front 60
+before_angle front = record { name = refl; arrow = λ is last. omega arith; both = λ is last. omega arith }
+
+-- ---- the token that begins there
+
+pub tokens_arrow : (rest : List ℕ) → tokens (45 ∷ 62 ∷ rest) ≡ token Arrow (45 ∷ 62 ∷ []) ∷ tokens rest
+unfolding tokens_after first_token
+tokens_arrow rest = refl
+
+pub tokens_both : (rest : List ℕ) → tokens (60 ∷ 45 ∷ 62 ∷ rest) ≡ token BothWays (60 ∷ 45 ∷ 62 ∷ []) ∷ tokens rest
+unfolding tokens_after first_token
+tokens_both rest = refl
+
+no_angle : (b : ℕ) (rest : List ℕ) → ((more : List ℕ) → b ∷ rest ≢ 62 ∷ more) → eqb 62 b ≡ false
+no_angle b rest apart = ne_eqb 62 b (λ is. apart rest (ap (λ (x : ℕ). x ∷ rest) (sym is)))
+
+pub tokens_back : (rest : List ℕ) → ((more : List ℕ) → rest ≢ 62 ∷ more) → tokens (60 ∷ 45 ∷ rest) ≡ token Back (60 ∷ 45 ∷ []) ∷ tokens rest
+unfolding tokens_after first_token
+tokens_back [] apart = refl
+tokens_back (b ∷ rest) apart = let no = no_angle b rest apart in rw no refl
+
+tokens_stray : (rest : List ℕ) → ((more : List ℕ) → rest ≢ 62 ∷ more) → tokens (45 ∷ rest) ≡ token Stray (45 ∷ []) ∷ tokens rest
+unfolding tokens_after first_token
+tokens_stray [] apart = refl
+tokens_stray (b ∷ rest) apart = let no = no_angle b rest apart in rw no refl
+
+-- ---- no arrow, or a stray mark
+
+pub splits_none : (text front : List ℕ) → SplitsAt 45 text front None → SplitsArrow text text None
+splits_none text front split = (refl, inl (ap (λ (t : List ℕ). list_any is_arrow (tokens t)) (split.whole ∙ append-nil front) ∙ no_arrow front split.apart))
+
+pub splits_stray : (text front : List ℕ) (back : Bor (List ℕ)) → SplitsAt 45 text front (Some back) → ((far : List ℕ) → front ≢ far ++ 60 ∷ []) → ((more : List ℕ) → back.now ≢ 62 ∷ more) → SplitsArrow text text None
+splits_stray text front back split left right =
+    let same : tokens text ≡ tokens front ++ token Stray (45 ∷ []) ∷ tokens back.now = ap tokens split.whole ∙ tokens_apart front 45 back.now (before_dash front left) ∙ ap (λ (t : List Token). tokens front ++ t) (tokens_stray back.now right) in
+    (refl, inr (ap (list_any is_stray) same ∙ list_any-append is_stray (tokens front) (token Stray (45 ∷ []) ∷ tokens back.now) ∙ or_right (list_any is_stray (tokens front)) true refl))
+
+-- ---- an arrow
+
+pub splits_arrow : (text front : List ℕ) (back rest : Bor (List ℕ)) → SplitsAt 45 text front (Some back) → ((far : List ℕ) → front ≢ far ++ 60 ∷ []) → back.now ≡ 62 ∷ rest.now → PartsAt text front Arrow rest.now
+splits_arrow text front back rest split left right =
+    let whole : text ≡ front ++ 45 ∷ 62 ∷ rest.now = split.whole ∙ ap (λ (t : List ℕ). front ++ 45 ∷ t) right in
+    record {
+      joins = refl;
+      mark = 45 ∷ 62 ∷ [];
+      some = omega arith;
+      whole = whole;
+      parted = ap tokens whole ∙ tokens_apart front 45 (62 ∷ rest.now) (before_dash front left) ∙ ap (λ (t : List Token). tokens front ++ t) (tokens_arrow rest.now);
+      first = no_arrow front split.apart;
+    }
+
+-- what stands before the `<` of an arrow has no `-`
+side_apart : (front side : List ℕ) → front ≡ side ++ 60 ∷ [] → list_any (λ b. eqb b 45) front ≡ false → list_any is_arrow (tokens side) ≡ false
+side_apart front side is apart =
+    no_arrow side (or_parts (list_any (λ b. eqb b 45) side) (list_any (λ b. eqb b 45) (60 ∷ [])) (sym (list_any-append (λ b. eqb b 45) side (60 ∷ [])) ∙ ap (list_any (λ b. eqb b 45)) (sym is) ∙ apart)).0
+
+pub splits_both : (text front side : List ℕ) (back rest : Bor (List ℕ)) → SplitsAt 45 text front (Some back) → front ≡ side ++ 60 ∷ [] → back.now ≡ 62 ∷ rest.now → PartsAt text side BothWays rest.now
+splits_both text front side back rest split left right =
+    let whole : text ≡ side ++ 60 ∷ 45 ∷ 62 ∷ rest.now = split.whole ∙ ap (λ (t : List ℕ). front ++ 45 ∷ t) right ∙ ap (λ (t : List ℕ). t ++ 45 ∷ 62 ∷ rest.now) left ∙ append_assoc side (60 ∷ []) (45 ∷ 62 ∷ rest.now) in
+    record {
+      joins = refl;
+      mark = 60 ∷ 45 ∷ 62 ∷ [];
+      some = omega arith;
+      whole = whole;
+      parted = ap tokens whole ∙ tokens_apart side 60 (45 ∷ 62 ∷ rest.now) (before_angle side) ∙ ap (λ (t : List Token). tokens side ++ t) (tokens_both rest.now);
+      first = side_apart front side left split.apart;
+    }
+
+pub splits_back : (text front side : List ℕ) (back : Bor (List ℕ)) → SplitsAt 45 text front (Some back) → front ≡ side ++ 60 ∷ [] → ((more : List ℕ) → back.now ≢ 62 ∷ more) → PartsAt text side Back back.now
+splits_back text front side back split left right =
+    let whole : text ≡ side ++ 60 ∷ 45 ∷ back.now = split.whole ∙ ap (λ (t : List ℕ). t ++ 45 ∷ back.now) left ∙ append_assoc side (60 ∷ []) (45 ∷ back.now) in
+    record {
+      joins = refl;
+      mark = 60 ∷ 45 ∷ [];
+      some = omega arith;
+      whole = whole;
+      parted = ap tokens whole ∙ tokens_apart side 60 (45 ∷ back.now) (before_angle side) ∙ ap (λ (t : List Token). tokens side ++ t) (tokens_back back.now right);
+      first = side_apart front side left split.apart;
+    }

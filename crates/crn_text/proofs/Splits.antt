@@ -1,0 +1,73 @@
+-- Texts split at the first byte like this one.
+use Rattle.std.proofs.Common.{◌≡◌, ℕ, ◌+◌, false, eqb, List, [], ◌∷◌, ◌++◌, length, take, drop, Option, Some, None, Bor, refl, sym, ap, ap₂, ◌∙◌, inl, inr, arith}
+use Rattle.std.specs.Prelude.{not}
+use Rattle.std.specs.List.{prefix_len, list_any, take_while}
+use Rattle.std.proofs.lemmas.Bool.{cases_Bool, eqb-true, eq-eqb, or_parts}
+use Rattle.std.proofs.lemmas.List.{length-append, append-nil, take-append-drop}
+use Rattle.crn_text.specs.Tokens.{lines}
+use Rattle.crn_text.specs.Pieces.{SplitsAt, after_split}
+use Rattle.crn_text.proofs.Lists.{one_more, split_at, split_last}
+
+-- how many bytes stand before the first such byte
+abbrev place_in : ℕ → List ℕ → ℕ
+place_in byte text = prefix_len (λ b. not (eqb b byte)) text
+
+nothing : {X : Type 0} (xs : List X) → length xs ≡ 0 → xs ≡ []
+nothing [] e = refl
+nothing (x ∷ xs) e = absurd (omega arith)
+
+none_before : (byte : ℕ) (text : List ℕ) → list_any (λ b. eqb b byte) (take (place_in byte text) text) ≡ false
+none_before byte [] = refl
+none_before byte (b ∷ text) =
+    elim (cases_Bool (eqb b byte)) [
+      | inl hit ↦ rw hit refl
+      | inr miss ↦ rw (miss, one_more, miss) (none_before byte text)
+    ]
+
+found_there : (byte : ℕ) (text : List ℕ) (b : ℕ) (rest : List ℕ) → drop (place_in byte text) text ≡ b ∷ rest → b ≡ byte
+found_there byte [] b rest h = absurd cc
+found_there byte (x ∷ text) b rest h =
+    elim (cases_Bool (eqb x byte)) [
+      | inl hit ↦ let e = rw hit at h in let is : x ≡ byte = eqb-true x byte hit in cc
+      | inr miss ↦ let e = rw (miss, one_more) at h in found_there byte text b rest e
+    ]
+
+pub splits_none : (byte : ℕ) (text front : List ℕ) (n : ℕ) → n ≡ place_in byte text → front ≡ take n text → length (drop n text) ≡ 0 → SplitsAt byte text front None
+splits_none byte text front n at is none = record {
+  whole = sym (take-append-drop n text) ∙ ap₂ (λ (t u : List ℕ). t ++ u) (sym is) (nothing (drop n text) none);
+  apart = rw (is, at) (none_before byte text);
+}
+
+pub splits_some : (byte : ℕ) (text front : List ℕ) (n b : ℕ) (rest : Bor (List ℕ)) → n ≡ place_in byte text → front ≡ take n text → drop n text ≡ b ∷ rest.now → SplitsAt byte text front (Some rest)
+splits_some byte text front n b rest at is more =
+    let found : b ≡ byte = found_there byte text b rest.now (rw at at more) in
+    record {
+      whole = sym (take-append-drop n text) ∙ ap₂ (λ (t u : List ℕ). t ++ u) (sym is) (more ∙ ap (λ (x : ℕ). x ∷ rest.now) found);
+      apart = rw (is, at) (none_before byte text);
+    }
+
+pub split_size : (byte : ℕ) (text front : List ℕ) (behind : Option (Bor (List ℕ))) → SplitsAt byte text front behind → length front + length (after_split byte behind) ≡ length text
+split_size byte text front behind split = sym (length-append front (after_split byte behind)) ∙ sym (ap length split.whole)
+
+-- ---- what stands before the first such byte
+
+front_of : (byte : ℕ) (front : List ℕ) (behind : Option (Bor (List ℕ))) → list_any (λ b. eqb b byte) front ≡ false → take_while (λ b. not (eqb b byte)) (front ++ after_split byte behind) ≡ front
+front_of byte [] None h = refl
+front_of byte [] (Some rest) h = rw (eq-eqb byte byte refl) refl
+front_of byte (b ∷ front) behind h =
+    let a = or_parts (eqb b byte) (list_any (λ b. eqb b byte) front) h in
+    rw (a.0, one_more) (ap (λ (t : List ℕ). b ∷ t) (front_of byte front behind a.1))
+
+pub split_front : (byte : ℕ) (text front : List ℕ) (behind : Option (Bor (List ℕ))) → SplitsAt byte text front behind → front ≡ take_while (λ b. not (eqb b byte)) text
+split_front byte text front behind split = sym (front_of byte front behind split.apart) ∙ ap (λ (t : List ℕ). take_while (λ b. not (eqb b byte)) t) (sym split.whole)
+
+-- ---- the lines of a text
+
+-- the lines behind a split
+abbrev pub lines_behind : Option (Bor (List ℕ)) → List (List ℕ)
+lines_behind None = []
+lines_behind (Some rest) = lines rest.now
+
+pub lines_split : (text line : List ℕ) (behind : Option (Bor (List ℕ))) → SplitsAt 10 text line behind → lines text ≡ line ∷ lines_behind behind
+lines_split text line None split = ap lines (split.whole ∙ append-nil line) ∙ split_last (λ b. eqb b 10) line split.apart
+lines_split text line (Some rest) split = ap lines split.whole ∙ split_at (λ b. eqb b 10) line 10 rest.now split.apart refl

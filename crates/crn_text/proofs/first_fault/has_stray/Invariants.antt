@@ -1,0 +1,11 @@
+use Rattle.std.proofs.Common.{◌≡◌, length}
+use Rattle.std.specs.List.{list_any}
+use Rattle.crn_text.specs.Tokens.{tokens}
+use Rattle.crn_text.specs.Sides.{is_stray}
+use Rattle.crn_text.proofs.first_fault.has_stray.Given as goal
+
+abbrev pub invariant-tokens : goal.invariant-tokens
+invariant-tokens l = list_any is_stray (tokens l.text) ≡ list_any is_stray (tokens l.left)
+
+abbrev pub decreases-tokens : goal.decreases-tokens
+decreases-tokens l = length l.left

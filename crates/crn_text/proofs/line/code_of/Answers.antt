@@ -1,8 +1,0 @@
-use Rattle.std.proofs.Common.{ℕ, List, eqb, ap, ◌∙◌}
-use Rattle.std.specs.Prelude.{not}
-use Rattle.std.specs.List.{take_while}
-use Rattle.crn_text.proofs.Cuts.{cut_front}
-use Rattle.crn_text.proofs.line.code_of.Goals as goal
-
-pub returns : goal.returns
-returns c = cut_front 35 _ _ _ c.cut_at.ensures ∙ ap (λ (t : List ℕ). take_while (λ b. not (eqb b 35)) t) c.without_cr.ensures

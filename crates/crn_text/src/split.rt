@@ -1,0 +1,21 @@
+ghost use Rattle.std.specs.Prelude.{◌≡◌, ◌==◌, not};
+ghost use Rattle.std.specs.List.{prefix_len};
+ghost use Rattle.crn_text.specs.Pieces.{SplitsAt};
+
+// The number of bytes before the first byte that equals this one.
+fn bytes_before(text: &[u8], byte: u8) -> usize
+    ensures { result ≡ prefix_len (λ b. not (b == byte)) text.now }
+{
+    text.iter().take_while(|b| **b != byte).count()
+}
+
+/// The bytes before the first byte that equals this one, and those after it; `None` if there is no such byte.
+pub(crate) fn split_at_byte(text: &[u8], byte: u8) -> (&[u8], Option<&[u8]>)
+    ensures { SplitsAt byte text.now result.0.now result.1 }
+{
+    let (front, rest) = text.split_at(bytes_before(text, byte));
+    match rest.split_first() {
+        None => (front, None),
+        Some((_byte, behind)) => (front, Some(behind)),
+    }
+}
