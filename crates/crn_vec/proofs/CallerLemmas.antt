@@ -4,6 +4,15 @@
 pub use Rattle.crn_vec.proofs.Lists.{in_left, in_right, in_cases, in_push, in_map, map_in, at_in, in_at, same_place}
 pub use Rattle.crn_vec.proofs.Lists.{distinct_push, map_distinct, map_same, map_twice, append_same, pair, and_cases}
 pub use Rattle.crn_vec.proofs.Lists.{all_in, all_from, all_at, all_push, all_map}
+pub use Rattle.crn_vec.proofs.Lists.{distinct_of_map, apart_of, all_append, flat_map_push, in_flat_map, of_flat_map}
+-- Tests that decide: whether two agree, and whether one finds a member.
+pub use Rattle.crn_vec.proofs.Lists.{same_test, any_is, any_true, any_false}
+-- The members of a list, each once, in order of first appearance.
+pub use Rattle.crn_vec.proofs.Firsts.{firsts_from, firsts_has, firsts_distinct, firsts_all, firsts_known, firsts_new}
+pub use Rattle.crn_vec.proofs.Firsts.{firsts_firsts, firsts_front, firsts_length, firsts_map}
+-- Amounts of the names of a side, and tests that decide whether names, complexes, sides and reactions are equal.
+pub use Rattle.crn_vec.proofs.Statements.{name_decides, row_decides, sides_decide, reaction_decides}
+pub use Rattle.crn_vec.proofs.Statements.{none_said, has_name, amounts_same}
 -- Lists by their entries: which places are inside, and lists related place by place.
 pub use Rattle.crn_vec.proofs.Entries.{past_end, inside_or, lt_or, eq_or, zip_from, zip_at, zip_long, within_from, dot_step}
 -- The rows of a list that holds them one after another, and bounds of their entries.

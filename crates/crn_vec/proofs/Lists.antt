@@ -1,7 +1,11 @@
 -- Lists of any kind: members, distinct members, facts of all members, lists with a member put at the end, and pairs.
-use Rattle.std.proofs.Common.{◌≡◌, ◌⊎◌, ℕ, Bool, true, false, zero, suc, ◌<◌, List, [], ◌∷◌, ◌++◌, length, get_or, map, refl, sym, ap, subst, inl, inr, arith}
+use Rattle.std.proofs.Common.{◌≡◌, ◌⊎◌, ℕ, Bool, true, false, zero, suc, ◌<◌, List, [], ◌∷◌, ◌++◌, length, get_or, map, refl, sym, ap, subst, ◌∙◌, inl, inr, arith}
 use Rattle.std.specs.Prelude.{◌&&◌}
-use Rattle.std.specs.List.{AllByRecursion}
+use Rattle.std.specs.List.{AllByRecursion, list_any, flat_map}
+use Rattle.std.specs.Bool.{Decides}
+use Rattle.std.proofs.lemmas.Bool.{cases_Bool}
+use Rattle.std.proofs.lemmas.List.{append-nil}
+use Rattle.std.proofs.lemmas.List.Concat.{flat_map-append}
 use Rattle.crn_vec.specs.Lists.{IsIn, AreDistinct}
 
 pub in_left : {A : Type 0} (x : A) (xs ys : List A) → IsIn x xs → IsIn x (xs ++ ys)
@@ -109,3 +113,59 @@ pair a b = (a, b)
 pub and_cases : (a b : Bool) → ((a && b) ≡ true) → (a ≡ true) × (b ≡ true)
 and_cases true b h = (refl, h)
 and_cases false b h = absurd cc
+
+-- a list is distinct if its map is
+pub distinct_of_map : {A B : Type 0} (f : A → B) (xs : List A) → AreDistinct (map f xs) → AreDistinct xs
+distinct_of_map f [] h = tt
+distinct_of_map f (x ∷ xs) h = (λ i. h.0 (map_in f xs x i), distinct_of_map f xs h.1)
+
+-- no member of the second part of a distinct list is in the first part
+pub apart_of : {A : Type 0} (xs ys : List A) (x : A) → AreDistinct (xs ++ ys) → IsIn x ys → IsIn x xs → ⊥
+apart_of [] ys x d i j = j
+apart_of {A} (y ∷ xs) ys x d i (inl e) = d.0 (in_right y xs ys (subst (λ (u : A). IsIn u ys) e i))
+apart_of (y ∷ xs) ys x d i (inr j) = apart_of xs ys x d.1 i j
+
+pub all_append : {A : Type 0} (P : A → Type 0) (xs ys : List A) → AllByRecursion P xs → AllByRecursion P ys → AllByRecursion P (xs ++ ys)
+all_append P [] ys h g = g
+all_append P (x ∷ xs) ys h g = (h.0, all_append P xs ys h.1 g)
+
+pub flat_map_push : {A B : Type 0} (f : A → List B) (xs : List A) (x : A) → flat_map f (xs ++ x ∷ []) ≡ flat_map f xs ++ f x
+flat_map_push {A} {B} f xs x = flat_map-append f xs (x ∷ []) ∙ ap (λ (t : List B). flat_map f xs ++ t) (append-nil (f x))
+
+pub in_flat_map : {A B : Type 0} (f : A → List B) (xs : List A) (x : A) (y : B) → IsIn x xs → IsIn y (f x) → IsIn y (flat_map f xs)
+in_flat_map f [] x y i j = absurd i
+in_flat_map {A} f (z ∷ xs) x y (inl e) j = in_left y (f z) (flat_map f xs) (subst (λ (u : A). IsIn y (f u)) e j)
+in_flat_map f (z ∷ xs) x y (inr i) j = in_right y (f z) (flat_map f xs) (in_flat_map f xs x y i j)
+
+pub of_flat_map : {A B : Type 0} (f : A → List B) (xs : List A) (y : B) → IsIn y (flat_map f xs) → (x : A) × IsIn x xs × IsIn y (f x)
+of_flat_map f [] y i = absurd i
+of_flat_map f (z ∷ xs) y i = elim (in_cases y (f z) (flat_map f xs) i) [
+  | inl j ↦ (z, inl refl, j)
+  | inr j ↦ let p = of_flat_map f xs y j in (p.0, inr p.1, p.2)
+]
+
+-- tests that decide equivalent facts are equal
+pub same_test : (a b : Bool) (P Q : Type 0) → Decides a P → Decides b Q → (P → Q) → (Q → P) → a ≡ b
+same_test a b P Q p q to from =
+    elim (cases_Bool a) [
+      | inl yes' ↦ let t : b ≡ true = q.1 (to (p.0 yes')) in cc
+      | inr no' ↦ elim (cases_Bool b) [ inl yes' ↦ absurd (let t : a ≡ true = p.1 (from (q.0 yes')) in cc) | inr none ↦ cc ]
+    ]
+
+-- a test that decides equality with x finds x if and only if x is a member
+pub any_is : {A : Type 0} (p : A → Bool) (x : A) (d : (y : A) → Decides (p y) (y ≡ x)) (xs : List A) → ((list_any p xs ≡ true) × IsIn x xs) ⊎ ((list_any p xs ≡ false) × (IsIn x xs → ⊥))
+any_is p x d [] = inr (refl, λ h. h)
+any_is p x d (y ∷ xs) =
+    elim (cases_Bool (p y)) [
+      | inl hit ↦ inl (rw hit refl, inl (sym ((d y).0 hit)))
+      | inr miss ↦ elim (any_is p x d xs) [
+        | inl a ↦ inl (rw miss a.0, inr a.1)
+        | inr b ↦ inr (rw miss b.0, λ h. elim h [ inl e ↦ absurd (let t = (d y).1 (sym e) in cc) | inr i ↦ b.1 i ])
+      ]
+    ]
+
+pub any_true : {A : Type 0} (p : A → Bool) (x : A) (d : (y : A) → Decides (p y) (y ≡ x)) (xs : List A) → list_any p xs ≡ true → IsIn x xs
+any_true p x d xs h = elim (any_is p x d xs) [ inl a ↦ a.1 | inr b ↦ absurd (let e = b.0 in cc) ]
+
+pub any_false : {A : Type 0} (p : A → Bool) (x : A) (d : (y : A) → Decides (p y) (y ≡ x)) (xs : List A) → list_any p xs ≡ false → IsIn x xs → ⊥
+any_false p x d xs h = elim (any_is p x d xs) [ inl a ↦ absurd (let e = a.0 in cc) | inr b ↦ b.1 ]

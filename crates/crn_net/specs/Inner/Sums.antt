@@ -1,0 +1,30 @@
+-- For the contracts of private functions alone.
+-- What contracts see of the sums of names, over terms that are put in order by their names.
+use Rattle.std.specs.Prelude.{◌++◌, ℕ, ℤ, pos, negsuc, ◌+ℤ◌, ◌*ℤ◌, if◌then◌else◌, List, map, take, drop}
+use Rattle.std.specs.List.{fold}
+use Rattle.std.specs.List.Sorted.{IsSortedBy}
+use Rattle.std.specs.Str.{bytes_eq}
+use Rattle.std.specs.Ordering.{nat_cmp, is_lt}
+use Rattle.std.specs.Cmp.Lexicographic.{slice_cmp}
+use Rattle.crn_net.specs.declared.sides.Share.{Share}
+use Rattle.crn_net.specs.declared.term.Term.{Term}
+
+-- what a term adds to the sum of its name: its number with a sign
+abbrev pub share_of : ℤ → Term → Share
+share_of sign t = record { at = t.at; length = t.length; count = sign *ℤ pos t.count }
+
+-- the shares of the terms of both sides: those of the right side take off
+abbrev pub shares_of : List Term → List Term → List Share
+shares_of left right = map (share_of (pos 1)) left ++ map (share_of (negsuc 0)) right
+
+-- the bytes of the share's name
+abbrev pub name_in : List ℕ → Share → List ℕ
+name_in text s = take s.length (drop s.at text)
+
+-- what the shares of a name add up to
+abbrev pub sum_in : List ℕ → List Share → List ℕ → ℤ
+sum_in text shares name = fold (λ a s. a +ℤ (if bytes_eq (name_in text s) name then s.count else pos 0)) (pos 0) shares
+
+-- no name comes before that of an earlier share
+abbrev pub AreByName : List ℕ → List Share → Type 0
+AreByName text shares = IsSortedBy (λ a b. is_lt (slice_cmp nat_cmp (name_in text a) (name_in text b))) shares
