@@ -17,10 +17,10 @@ use Rattle.crn_net.specs.declared.term.Term.{Term}
 use Rattle.crn_net.specs.Terms.{name_at, side_of, statement_of, IsTerm, IsSide}
 use Rattle.crn_net.specs.Views.{net_of, AreRows}
 use Rattle.crn_net.specs.Grows.{with_zeros, both_with_zeros, names_with, complexes_with, reactions_with, IsSelf, Grows, AddGives}
-use Rattle.crn_net.specs.Steps.{SaysSame, Built, IsOver, BuildGives}
-use Rattle.crn_net.proofs.Lists.{all_in}
+use Rattle.crn_net.specs.Inner.Steps.{SaysSame, Built, IsOver, BuildGives}
+use Rattle.crn_vec.proofs.CallerLemmas.{all_in, amounts_same}
 use Rattle.crn_net.proofs.Amounts.{of_name}
-use Rattle.crn_net.proofs.Building.{amounts_say, says_amounts}
+use Rattle.crn_net.proofs.Building.{amounts_say}
 use Rattle.crn_net.proofs.Growth.{Ready, complexes_are, reactions_are, left_over_limit, right_over_limit}
 use Rattle.crn_net.proofs.Species.{IsSaid, Step, wider_names, new_partial, new_rows}
 
@@ -54,13 +54,13 @@ side_said text terms h name i =
 pub said_of : (text : List ℕ) (left right : List Term) → IsSide text left → IsSide text right → IsSaid (statement_of text left right)
 said_of text left right l r = record { left = side_said text left l; right = side_said text right r; left_most = l.amounts; right_most = r.amounts }
 
--- ---- self reactions
+-- ---- self reactions: each name has the same amount on both sides
 
-pub self_says : (old : Net) (s : Statement) → IsSelf old s → SaysSame s
+pub self_says : (old : Net) (s : Statement) → IsSelf old s → (name : List ℕ) → amount_in s.0 name ≡ amount_in s.1 name
 self_says old s h = amounts_say old.names s h
 
-pub says_self : (old : Net) (s : Statement) → SaysSame s → IsSelf old s
-says_self old s h = says_amounts (names_with old s) s h
+pub says_self : (old : Net) (s : Statement) → ((name : List ℕ) → amount_in s.0 name ≡ amount_in s.1 name) → IsSelf old s
+says_self old s h = amounts_same (names_with old s) s.0 s.1 h
 
 -- ---- added
 
@@ -136,10 +136,10 @@ build_stops names rows reactions s names' rows' reactions' (Err TooManySpecies) 
 build_stops names rows reactions s names' rows' reactions' (Err TooManyComplexes) ready err h =
     let all = firsts bytes_eq (names ++ names_in s) in
     let w = wider_names names all (names_in s) ready.network.names refl h.1 in
-    (refl, λ e. h.0 (self_says (net_of names rows reactions) s e), h.1, elim h.2 [ inl o ↦ left_over_limit names rows reactions all s ready w o | inr o ↦ right_over_limit names rows reactions all s ready w o ])
+    (refl, record { apart = λ e. h.0 (self_says (net_of names rows reactions) s e); species_fit = h.1; complexes_many = elim h.2 [ inl o ↦ left_over_limit names rows reactions all s ready w o | inr o ↦ right_over_limit names rows reactions all s ready w o ] })
 build_stops names rows reactions s names' rows' reactions' (Err TooManyReactions) ready err h =
     let o = over_reactions names rows reactions s ready h.1 in
-    (refl, λ e. h.0 (self_says (net_of names rows reactions) s e), h.1.names_few, o.0, o.1)
+    (refl, record { apart = λ e. h.0 (self_says (net_of names rows reactions) s e); species_fit = h.1.names_few; complexes_fit = o.0; reactions_many = o.1 })
 build_stops names rows reactions s names' rows' reactions' (Err NoReaction) ready err h = h
 build_stops names rows reactions s names' rows' reactions' (Err NoMemory) ready err h = refl
 

@@ -9,7 +9,8 @@ use Rattle.crn_vec.specs.Network.{amount_in}
 use Rattle.crn_vec.specs.declared.limits.TheConstants.{MAX_AMOUNT}
 use Rattle.crn_net.specs.declared.term.Term.{Term}
 use Rattle.crn_net.specs.Terms.{name_at, side_of}
-use Rattle.crn_net.proofs.Members.{any_is, name_decides, amount_is, amount_more}
+use Rattle.crn_vec.proofs.CallerLemmas.{any_is, name_decides}
+use Rattle.crn_net.proofs.Members.{amount_is, amount_more}
 
 -- ---- loops over the terms of a side
 
@@ -27,22 +28,7 @@ amount_no text name side i sum d lt is miss =
     let one : cond (bytes_eq (name_at text (get_or side i d)) name) (get_or side i d).count 0 ≡ 0 = rw miss refl in
     omega (arith, is, more, one)
 
--- ---- both sides
-
--- a side says nothing of a name that it has not
-pub none_said : (side : List (List ℕ × ℕ)) (name : List ℕ) → (IsIn name (map (λ t. t.0) side) → ⊥) → amount_in side name ≡ 0
-none_said [] name h = refl
-none_said (t ∷ side) name h =
-    let f : List ℕ × ℕ → ℕ = λ u. cond (bytes_eq u.0 name) u.1 0 in
-    let cons = sum_by-cons f t side in
-    let rest = none_said side name (λ i. h (inr i)) in
-    elim (cases_Bool (bytes_eq t.0 name)) [
-      | inl hit ↦ absurd (h (inl (sym ((name_decides name t.0).0 hit))))
-      | inr miss ↦ let one : f t ≡ 0 = rw miss refl in omega (arith, cons, rest, one)
-    ]
-
-pub has_name : (side : List (List ℕ × ℕ)) (name : List ℕ) → IsIn name (map (λ t. t.0) side) ⊎ (IsIn name (map (λ t. t.0) side) → ⊥)
-has_name side name = elim (any_is (λ known. bytes_eq known name) name (λ known. name_decides name known) (map (λ t. t.0) side)) [ inl a ↦ inl a.1 | inr b ↦ inr b.1 ]
+-- ---- names
 
 pub of_name : (text : List ℕ) (terms : List Term) (name : List ℕ) → IsIn name (map (λ t. t.0) (side_of text terms)) → (t : Term) × IsIn t terms × (name ≡ name_at text t)
 of_name text [] name h = absurd h

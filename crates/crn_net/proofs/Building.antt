@@ -9,11 +9,8 @@ use Rattle.crn_vec.specs.Network.{amount_in, amounts_in, names_in, Statement}
 use Rattle.crn_vec.specs.declared.limits.TheConstants.{MAX_SPECIES}
 use Rattle.crn_net.specs.declared.fault.NetFault.{NetFault}
 use Rattle.crn_net.specs.declared.fault.NetFault.TheVariants.{SelfReaction, TooManySpecies, TooManyComplexes, TooManyReactions, NoReaction, NoMemory}
-use Rattle.crn_net.specs.Steps.{SaysSame, Puts, NotesSide, AreNoted, NotesBoth, TellsApart, NotesSides, NotesRow, NotesReaction, PutsBoth, LeftIsOver, RightIsOver, BuildGives}
-use Rattle.crn_net.proofs.Lists.{in_left, in_right, in_at, map_same}
-use Rattle.crn_net.proofs.Firsts.{firsts_distinct, firsts_has}
-use Rattle.crn_net.proofs.Members.{any_is, name_decides}
-use Rattle.crn_net.proofs.Amounts.{none_said}
+use Rattle.crn_net.specs.Inner.Steps.{SaysSame, Puts, NotesSide, AreNoted, NotesBoth, TellsApart, NotesSides, NotesRow, NotesReaction, PutsBoth, LeftIsOver, RightIsOver, BuildGives}
+use Rattle.crn_vec.proofs.CallerLemmas.{in_left, in_right, in_at, map_same, firsts_distinct, firsts_has, any_is, name_decides, none_said, amounts_same}
 use Rattle.crn_net.proofs.Names.{names_both, left_over}
 use Rattle.crn_net.proofs.Rows.{row_ext}
 use Rattle.crn_net.proofs.Counting.{counted_is, is_counted, counted_wider}
@@ -77,14 +74,11 @@ has_all old s name i = firsts_has bytes_eq bytes_eq-Decides (old ++ names_in s) 
 pub amounts_say : (old : List (List ℕ)) (s : Statement) → amounts_in (firsts bytes_eq (old ++ names_in s)) s.0 ≡ amounts_in (firsts bytes_eq (old ++ names_in s)) s.1 → SaysSame s
 amounts_say old s h = same_amounts (firsts bytes_eq (old ++ names_in s)) s (has_all old s) h
 
-pub says_amounts : (names : List (List ℕ)) (s : Statement) → SaysSame s → amounts_in names s.0 ≡ amounts_in names s.1
-says_amounts names s h = map_same (λ name. pos (amount_in s.0 name)) (λ name. pos (amount_in s.1 name)) names (λ name i. ap pos (h name))
-
 rows_say : (old new : List (List ℕ)) (s : Statement) (both : List ℤ × List ℤ) → AreNoted old s both new → both.0 ≡ both.1 → SaysSame s
 rows_say old new s both n e = amounts_say old s (subst (λ (t : List (List ℕ)). amounts_in t s.0 ≡ amounts_in t s.1) n.names (sym n.left.amounts ∙ ap (take (length new)) e ∙ n.right.amounts))
 
 says_rows : (old new : List (List ℕ)) (s : Statement) (both : List ℤ × List ℤ) → AreNoted old s both new → SaysSame s → both.0 ≡ both.1
-says_rows old new s both n h = row_ext (length new) both.0 both.1 n.left.is n.right.is (n.left.amounts ∙ says_amounts new s h ∙ sym n.right.amounts)
+says_rows old new s both n h = row_ext (length new) both.0 both.1 n.left.is n.right.is (n.left.amounts ∙ amounts_same new s.0 s.1 h ∙ sym n.right.amounts)
 
 -- rows tell sides apart
 pub apart_noted : (old new : List (List ℕ)) (s : Statement) (both : List ℤ × List ℤ) (result : Result Unit NetFault) → AreNoted old s both new → TellsApart both result → NotesSides old s result new both

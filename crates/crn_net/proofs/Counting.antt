@@ -13,10 +13,9 @@ use Rattle.crn_net.specs.declared.fault.NetFault.{NetFault}
 use Rattle.crn_net.specs.declared.fault.NetFault.TheVariants.{SelfReaction, TooManySpecies, TooManyComplexes, TooManyReactions, NoReaction, NoMemory}
 use Rattle.crn_net.specs.declared.term.Term.{Term}
 use Rattle.crn_net.specs.Terms.{name_at, side_of}
-use Rattle.crn_net.specs.Steps.{NotesName, NotesSide, IsRowFor}
-use Rattle.crn_net.proofs.Lists.{in_at, in_right, same_place, distinct_push}
-use Rattle.crn_net.proofs.Firsts.{firsts_has}
-use Rattle.crn_net.proofs.Amounts.{none_said, amount_yes, amount_no}
+use Rattle.crn_net.specs.Inner.Steps.{NotesName, NotesSide, IsRowFor}
+use Rattle.crn_vec.proofs.CallerLemmas.{in_at, in_right, same_place, distinct_push, firsts_has, none_said}
+use Rattle.crn_net.proofs.Amounts.{amount_yes, amount_no}
 use Rattle.crn_net.proofs.Members.{amount_part}
 use Rattle.crn_net.proofs.Names.{no_more, names_known, names_new, names_over, names_of_side, kept_push, kept_all}
 use Rattle.crn_net.proofs.Rows.{zeros_at}

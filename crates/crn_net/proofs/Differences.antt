@@ -4,12 +4,11 @@ use Rattle.std.specs.Prelude.{ℤ, ◌-ℤ◌}
 use Rattle.std.specs.List.{AllByRecursion}
 use Rattle.std.proofs.lemmas.Int.{ints}
 use Rattle.std.proofs.lemmas.List.{get_or-map, length-map, map_more, take_all}
-use Rattle.crn_vec.specs.Network.{Net, IsPartialNetwork, IsNetwork, IsAmount, IsVector, JoinsTwo}
+use Rattle.crn_vec.specs.Network.{Net, IsPartialNetwork, IsNetwork, IsAmount, IsVector, JoinsTwo, minus, reaction_vector}
 use Rattle.crn_vec.specs.Vectors.{AreWithin}
 use Rattle.crn_vec.specs.declared.limits.TheConstants.{MAX_SPECIES, MAX_AMOUNT}
-use Rattle.crn_vec.specs.Network.{minus, reaction_vector}
 use Rattle.crn_net.specs.Views.{net_of, vectors_of, IsRow, AreRows}
-use Rattle.crn_net.proofs.Lists.{all_in, all_at, all_from, map_in, map_same, map_twice}
+use Rattle.crn_vec.proofs.CallerLemmas.{all_in, all_at, all_from, map_in, map_same, map_twice}
 use Rattle.crn_net.proofs.Rows.{row_with_zeros}
 use Rattle.crn_net.proofs.Whole.{amounts_with_zeros}
 

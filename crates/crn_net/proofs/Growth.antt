@@ -11,15 +11,9 @@ use Rattle.crn_vec.specs.Network.{IsPartialNetwork, JoinsTwo, sides_of, sides_eq
 use Rattle.crn_vec.specs.declared.limits.TheConstants.{MAX_SPECIES, MAX_COMPLEXES}
 use Rattle.crn_net.specs.Views.{net_of, vectors_of, IsRow, AreRows}
 use Rattle.crn_net.specs.Grows.{with_zeros, both_with_zeros}
-use Rattle.crn_net.specs.Steps.{Puts, IsRowFor, PutsBoth, LeftIsOver, RightIsOver}
-use Rattle.crn_net.proofs.Lists.{map_in, map_same, map_distinct, all_in, all_push, at_in, same_place, in_push}
-use Rattle.crn_net.proofs.Firsts.{firsts_map, firsts_firsts, firsts_length}
-use Rattle.crn_net.proofs.Members.{reaction_decides}
-use Rattle.crn_net.proofs.Rows.{row_ext, row_wider, row_with_zeros, vectors_with_zeros, puts_distinct, puts_firsts, puts_all, puts_keeps, puts_longer, same_test}
-
-pub distinct_of_map : {A B : Type 0} (f : A → B) (xs : List A) → AreDistinct (map f xs) → AreDistinct xs
-distinct_of_map f [] h = tt
-distinct_of_map f (x ∷ xs) h = (λ i. h.0 (map_in f xs x i), distinct_of_map f xs h.1)
+use Rattle.crn_net.specs.Inner.Steps.{Puts, IsRowFor, PutsBoth, LeftIsOver, RightIsOver}
+use Rattle.crn_vec.proofs.CallerLemmas.{map_in, map_same, map_distinct, all_in, all_push, at_in, same_place, in_push, firsts_map, firsts_firsts, firsts_length, reaction_decides, same_test, pair, distinct_of_map, sides_decide}
+use Rattle.crn_net.proofs.Rows.{row_ext, row_wider, row_with_zeros, vectors_with_zeros, puts_distinct, puts_firsts, puts_all, puts_keeps, puts_longer}
 
 rows_wider : (n m : ℕ) (rows : List (List ℤ)) → n ≤ m → AreRows n rows → AreRows m rows
 rows_wider n m [] le h = tt
@@ -115,27 +109,11 @@ vectors_distinct names rows reactions names' s y z rows' ready wide b =
 
 -- ---- reactions
 
-abbrev sides_pair : List ℤ → List ℤ → List ℤ × List ℤ
-sides_pair a b = (a, b)
-
-and_cases : (a b : Bool) → ((a && b) ≡ true) → (a ≡ true) × (b ≡ true)
-and_cases true b h = (refl, h)
-and_cases false b h = absurd cc
-
-pub sides_decide : (a b : List ℤ × List ℤ) → Decides (sides_eq a b) (a ≡ b)
-sides_decide a b = (
-  λ h. let p = and_cases (pointwise int_eq a.0 b.0) (pointwise int_eq a.1 b.1) h in ap₂ sides_pair ((signed_items a.0 b.0).0 p.0) ((signed_items a.1 b.1).0 p.1),
-  λ e. let p = (signed_items a.0 b.0).1 (ap (λ (t : List ℤ × List ℤ). t.0) e) in let q = (signed_items a.1 b.1).1 (ap (λ (t : List ℤ × List ℤ). t.1) e) in rw (p, q) refl,
-)
-
 abbrev pub pair_same : ℕ × ℕ → ℕ × ℕ → Bool
 pair_same a b = (a.0 == b.0) && (a.1 == b.1)
 
 pub pair_decides : (a b : ℕ × ℕ) → Decides (pair_same a b) (a ≡ b)
 pair_decides a b = reaction_decides b a
-
-abbrev pairing : ℕ → ℕ → ℕ × ℕ
-pairing a b = (a, b)
 
 -- rows stay at their places
 pub both_keep : (names : List (List ℕ)) (s : Statement) (rows : List (List ℤ)) (y z : ℕ) (rows' : List (List ℤ)) (k : ℕ) → PutsBoth names s rows y z rows' → k < length rows → (get_or rows' k [] ≡ get_or rows k []) × (k < length rows')
@@ -178,10 +156,10 @@ reactions_are names rows reactions names' s y z rows' reactions' ready wide b p 
     let apart : (r : ℕ × ℕ) → IsIn r reactions → (r.0 < length rows) × (r.1 < length rows) = λ r i. let j = all_in (JoinsTwo (length (vectors_of n rows))) reactions r ready.network.apart i in (omega (arith, count, j.1), omega (arith, count, j.2)) in
     let old : map (λ r. both_with_zeros m (sides_of (net_of names rows reactions) r)) reactions ≡ map (sides_of new) reactions =
     map_same (λ r. both_with_zeros m (sides_of (net_of names rows reactions) r)) (sides_of new) reactions
-    (λ r i. ap₂ sides_pair (old_sides names rows reactions names' s y z rows' ready wide b r.0 (apart r i).0) (old_sides names rows reactions names' s y z rows' ready wide b r.1 (apart r i).1)) in
+    (λ r i. ap₂ pair (old_sides names rows reactions names' s y z rows' ready wide b r.0 (apart r i).0) (old_sides names rows reactions names' s y z rows' ready wide b r.1 (apart r i).1)) in
     let l = left_stands names' s rows y z rows' b in
     let said : said_by names' s ≡ sides_of new (y, z) =
-    ap₂ sides_pair (sym (vector_at m rows' y l.1 ∙ ap (take m) l.0 ∙ b.left_row.amounts)) (sym (vector_at m rows' z b.right_in ∙ ap (take m) (right_stands names' s rows y z rows' b) ∙ b.right_row.amounts)) in
+    ap₂ pair (sym (vector_at m rows' y l.1 ∙ ap (take m) l.0 ∙ b.left_row.amounts)) (sym (vector_at m rows' z b.right_in ∙ ap (take m) (right_stands names' s rows y z rows' b) ∙ b.right_row.amounts)) in
     let places : (r : ℕ × ℕ) → IsIn r (reactions ++ (y, z) ∷ []) → (r.0 < length (vectors_of m rows')) × (r.1 < length (vectors_of m rows')) = λ r i. elim (in_push r reactions (y, z) i) [
       | inl a ↦ let q = apart r a in let e = (both_keep names' s rows y z rows' r.0 b q.0).1 in let f = (both_keep names' s rows y z rows' r.1 b q.1).1 in (omega (arith, count', e), omega (arith, count', f))
       | inr e ↦ let a = ap (λ (t : ℕ × ℕ). t.0) e in let f = ap (λ (t : ℕ × ℕ). t.1) e in (omega (arith, count', l.1, a), omega (arith, count', b.right_in, f))
@@ -189,7 +167,7 @@ reactions_are names rows reactions names' s y z rows' reactions' ready wide b p 
     let vectors : AreDistinct (vectors_of m rows') = vectors_distinct names rows reactions names' s y z rows' ready wide b in
     let test : (x t : ℕ × ℕ) → IsIn x (reactions ++ (y, z) ∷ []) → IsIn t (reactions ++ (y, z) ∷ []) → sides_eq (sides_of new x) (sides_of new t) ≡ pair_same x t = λ x t i j.
     same_test (sides_eq (sides_of new x) (sides_of new t)) (pair_same x t) (sides_of new x ≡ sides_of new t) (x ≡ t) (sides_decide (sides_of new x) (sides_of new t)) (pair_decides x t)
-    (λ e. ap₂ pairing
+    (λ e. ap₂ pair
     (same_place (vectors_of m rows') x.0 t.0 [] vectors (places x i).0 (places t j).0 (ap (λ (u : List ℤ × List ℤ). u.0) e))
     (same_place (vectors_of m rows') x.1 t.1 [] vectors (places x i).1 (places t j).1 (ap (λ (u : List ℤ × List ℤ). u.1) e)))
     (ap (sides_of new)) in

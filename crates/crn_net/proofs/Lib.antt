@@ -1,17 +1,17 @@
-pub mod Lists
-pub mod Firsts
-pub mod Members
-pub mod Whole
-pub mod Differences
 pub mod CallerLemmas
-pub mod Adding
-pub mod Species
-pub mod Growth
-pub mod Building
-pub mod Names
-pub mod Rows
-pub mod Amounts
-pub mod Counting
-pub mod Places
-pub mod Sums
-pub mod Narrow
+mod Members
+mod Whole
+mod Differences
+mod Adding
+mod Species
+mod Growth
+mod Grown
+mod Growing
+mod Building
+mod Names
+mod Rows
+mod Amounts
+mod Counting
+mod Places
+mod Sums
+mod Narrow

@@ -1,5 +1,6 @@
 -- What a side says of a name, term by term, and whether a table has a member.
 use Rattle.std.proofs.Common.{◌≡◌, ◌⊎◌, ℕ, ◌<◌, ◌≤◌, ◌+◌, Bool, true, false, cond, ◌&&◌, ◌==◌, List, [], ◌∷◌, ◌++◌, length, get_or, take, refl, sym, ap, ◌∙◌, inl, inr, arith, Some, None, nat_lt}
+use Rattle.crn_vec.proofs.CallerLemmas.{any_is}
 use Rattle.std.specs.Prelude.{ℤ}
 use Rattle.std.specs.List.{list_any, position, position_or_len, sum_by}
 use Rattle.std.specs.Bool.{Decides}
@@ -17,43 +18,6 @@ use Rattle.crn_vec.specs.Lists.{IsIn}
 use Rattle.crn_vec.specs.Network.{amount_in}
 use Rattle.crn_net.specs.declared.term.Term.{Term}
 use Rattle.crn_net.specs.Terms.{name_at, side_of}
-
--- a test that decides equality with x tells whether x is in the list
-pub any_is : {A : Type 0} (p : A → Bool) (x : A) (d : (y : A) → Decides (p y) (y ≡ x)) (xs : List A) → ((list_any p xs ≡ true) × IsIn x xs) ⊎ ((list_any p xs ≡ false) × (IsIn x xs → ⊥))
-any_is p x d [] = inr (refl, λ h. h)
-any_is p x d (y ∷ xs) =
-    elim (cases_Bool (p y)) [
-      | inl hit ↦ inl (rw hit refl, inl (sym ((d y).0 hit)))
-      | inr miss ↦ elim (any_is p x d xs) [
-        | inl a ↦ inl (rw miss a.0, inr a.1)
-        | inr b ↦ inr (rw miss b.0, λ h. elim h [ inl e ↦ absurd (let t = (d y).1 (sym e) in cc) | inr i ↦ b.1 i ])
-      ]
-    ]
-
-pub any_true : {A : Type 0} (p : A → Bool) (x : A) (d : (y : A) → Decides (p y) (y ≡ x)) (xs : List A) → list_any p xs ≡ true → IsIn x xs
-any_true p x d xs h = elim (any_is p x d xs) [ inl a ↦ a.1 | inr b ↦ absurd (let e = b.0 in cc) ]
-
-pub any_false : {A : Type 0} (p : A → Bool) (x : A) (d : (y : A) → Decides (p y) (y ≡ x)) (xs : List A) → list_any p xs ≡ false → IsIn x xs → ⊥
-any_false p x d xs h = elim (any_is p x d xs) [ inl a ↦ absurd (let e = a.0 in cc) | inr b ↦ b.1 ]
-
-pub name_decides : (name known : List ℕ) → Decides (bytes_eq known name) (known ≡ name)
-name_decides name known = bytes_eq-Decides known name
-
-pub row_decides : (row known : List ℤ) → Decides (pointwise int_eq known row) (known ≡ row)
-row_decides row known = signed_items known row
-
-abbrev pair_of : ℕ → ℕ → ℕ × ℕ
-pair_of a b = (a, b)
-
-and_cases : (a b : Bool) → ((a && b) ≡ true) → (a ≡ true) × (b ≡ true)
-and_cases true b h = (refl, h)
-and_cases false b h = absurd cc
-
-pub reaction_decides : (r known : ℕ × ℕ) → Decides ((known.0 == r.0) && (known.1 == r.1)) (known ≡ r)
-reaction_decides r known = (
-  λ h. let p = and_cases (known.0 == r.0) (known.1 == r.1) h in let a : known.0 ≡ r.0 = (Decides-eqb known.0 r.0).0 p.0 in let b : known.1 ≡ r.1 = (Decides-eqb known.1 r.1).0 p.1 in ap (λ (x : ℕ). pair_of x known.1) a ∙ ap (pair_of r.0) b,
-  λ e. let a : (known.0 == r.0) ≡ true = (Decides-eqb known.0 r.0).1 (ap (λ (p : ℕ × ℕ). p.0) e) in let b : (known.1 == r.1) ≡ true = (Decides-eqb known.1 r.1).1 (ap (λ (p : ℕ × ℕ). p.1) e) in rw (a, b) refl,
-)
 
 -- the test by which a set of rows looks for one
 pub row_sought : (row known : List ℤ) → Decides (pointwise int_eq row known) (known ≡ row)

@@ -7,7 +7,7 @@ use Rattle.crn_vec.specs.Lists.{IsIn, AreDistinct, firsts}
 use Rattle.crn_net.specs.declared.term.Term.{Term}
 use Rattle.crn_net.specs.Terms.{name_at, side_of}
 use Rattle.crn_vec.specs.Network.{names_in, Statement}
-use Rattle.crn_net.proofs.Firsts.{firsts_has, firsts_from, firsts_known, firsts_new, firsts_length, firsts_all, firsts_firsts}
+use Rattle.crn_vec.proofs.CallerLemmas.{firsts_has, firsts_from, firsts_known, firsts_new, firsts_length, firsts_all, firsts_firsts}
 
 pub no_more : (old : List (List ℕ)) → AreDistinct old → old ≡ firsts bytes_eq (old ++ [])
 no_more old h = sym (ap (firsts bytes_eq) (append-nil old) ∙ firsts_all bytes_eq bytes_eq-Decides old h)

@@ -5,7 +5,7 @@ use Rattle.std.specs.Ordering.{int_eq}
 use Rattle.std.specs.Cmp.Lexicographic.{pointwise}
 use Rattle.std.specs.Cmp.Rules.{signed_items}
 use Rattle.std.proofs.lemmas.Slice.Eq.{bytes_eq-Decides}
-use Rattle.crn_net.proofs.Rows.{same_test}
+use Rattle.crn_vec.proofs.CallerLemmas.{same_test}
 
 -- the sign of a byte that is seen drops off again
 pub unsigned : (x : List ℕ) → map nat_abs (map pos x) ≡ x

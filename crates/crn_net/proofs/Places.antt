@@ -12,9 +12,8 @@ use Rattle.indexmap.specs.IndexSet.{insert_key}
 use Rattle.crn_vec.specs.Lists.{IsIn}
 use Rattle.crn_vec.specs.declared.limits.TheConstants.{MAX_SPECIES}
 use Rattle.crn_net.specs.declared.fault.NetFault.TheVariants.{TooManySpecies}
-use Rattle.crn_net.specs.Steps.{NotesName}
-use Rattle.crn_net.proofs.Lists.{at_in}
-use Rattle.crn_net.proofs.Members.{any_is}
+use Rattle.crn_net.specs.Inner.Steps.{NotesName}
+use Rattle.crn_vec.proofs.CallerLemmas.{at_in, any_is}
 
 decides : (name known : List ℕ) → Decides (bytes_eq name known) (known ≡ name)
 decides name known = (λ h. sym ((bytes_eq-Decides name known).0 h), λ e. (bytes_eq-Decides name known).1 (sym e))

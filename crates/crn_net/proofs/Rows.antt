@@ -9,9 +9,8 @@ use Rattle.crn_vec.specs.Lists.{IsIn, AreDistinct, firsts}
 use Rattle.crn_vec.specs.declared.limits.TheConstants.{MAX_SPECIES}
 use Rattle.crn_net.specs.Views.{vectors_of, IsRow, AreRows}
 use Rattle.crn_net.specs.Grows.{with_zeros}
-use Rattle.crn_net.specs.Steps.{Puts}
-use Rattle.crn_net.proofs.Lists.{map_twice, map_same, all_in, all_push, at_in, distinct_push}
-use Rattle.crn_net.proofs.Firsts.{firsts_known, firsts_new, firsts_all}
+use Rattle.crn_net.specs.Inner.Steps.{Puts}
+use Rattle.crn_vec.proofs.CallerLemmas.{map_twice, map_same, all_in, all_push, at_in, distinct_push, firsts_known, firsts_new, firsts_all}
 
 pub zeros_at : (n k : ℕ) → get_or (replicate n (pos 0)) k (pos 0) ≡ pos 0
 zeros_at n k = elim (cases_lt k n) [ inl lt ↦ get_or-replicate n k (pos 0) (pos 0) lt | inr le ↦ get_or_past (replicate n (pos 0)) k (pos 0) (omega (arith, length-replicate n (pos 0))) ]
@@ -83,11 +82,3 @@ puts_keeps {A} old new x d k (inr p) lt = ap (λ (t : List A). get_or t k d) p.1
 pub puts_longer : {A : Type 0} (old new : List A) (x : A) → Puts old x new → length old ≤ length new
 puts_longer old new x (inl p) = let e = ap length p.1 in omega (arith, e)
 puts_longer old new x (inr p) = let e = ap length p.1 in let long = length_push old x in omega (arith, e, long)
-
--- tests that decide equivalent facts are equal
-pub same_test : (a b : Bool) (P Q : Type 0) → Decides a P → Decides b Q → (P → Q) → (Q → P) → a ≡ b
-same_test a b P Q p q to from =
-    elim (cases_Bool a) [
-      | inl yes' ↦ let t : b ≡ true = q.1 (to (p.0 yes')) in cc
-      | inr no' ↦ elim (cases_Bool b) [ inl yes' ↦ absurd (let t : a ≡ true = p.1 (from (q.0 yes')) in cc) | inr none ↦ cc ]
-    ]

@@ -11,14 +11,11 @@ use Rattle.crn_vec.specs.Lists.{IsIn, AreDistinct, firsts}
 use Rattle.crn_vec.specs.Network.{Net, IsPartialNetwork, IsName, IsAmount, IsVector, JoinsTwo, Holds, IsHeldBefore, ends, amount_at, amount_in, amounts_in, names_in, Statement}
 use Rattle.crn_vec.specs.declared.limits.TheConstants.{MAX_SPECIES, MAX_REACTIONS, MAX_AMOUNT}
 use Rattle.crn_net.specs.Views.{net_of, vectors_of, IsRow, AreRows}
-use Rattle.crn_net.specs.Steps.{Puts, PutsBoth, IsRowFor}
-use Rattle.crn_net.proofs.Lists.{in_right, in_cases, in_at, at_in, map_in, all_in, all_from, all_map, same_place}
-use Rattle.crn_net.proofs.Firsts.{firsts_distinct, firsts_from, firsts_has, firsts_front, firsts_all}
-use Rattle.crn_net.proofs.Amounts.{has_name, none_said}
+use Rattle.crn_net.specs.Inner.Steps.{Puts, PutsBoth, IsRowFor}
+use Rattle.crn_vec.proofs.CallerLemmas.{in_right, in_cases, in_at, at_in, map_in, all_in, all_from, all_map, same_place, firsts_distinct, firsts_from, firsts_has, firsts_front, firsts_all, has_name, none_said, appears_in_order, in_order_appears, ends_below}
 use Rattle.crn_net.proofs.Rows.{row_length, row_with_zeros, puts_place, puts_all, puts_distinct}
 use Rattle.crn_net.proofs.Growth.{Ready, Wider, rows_distinct, vectors_distinct, both_keep, left_stands, right_stands}
-use Rattle.crn_vec.proofs.Appearance.{appears_in_order, in_order_appears}
-use Rattle.crn_net.proofs.Whole.{Covers, Stand, covers_both, ends_below, amounts_with_zeros, amounts_said}
+use Rattle.crn_net.proofs.Whole.{Covers, Stand, covers_both, amounts_with_zeros, amounts_said}
 
 -- what a statement's sides have: names, each with a number of at least 1, up to the limit
 pub record IsSaid (s : Statement) : Type 0 where

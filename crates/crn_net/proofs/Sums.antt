@@ -23,7 +23,7 @@ use Rattle.crn_vec.specs.Network.{amount_in}
 use Rattle.crn_vec.specs.declared.limits.TheConstants.{MAX_AMOUNT, MAX_TERMS}
 use Rattle.crn_net.specs.declared.sides.Share.{Share}
 use Rattle.crn_net.specs.declared.term.Term.{Term}
-use Rattle.crn_net.specs.Sums.{share_of, shares_of, name_in, sum_in, AreByName}
+use Rattle.crn_net.specs.Inner.Sums.{share_of, shares_of, name_in, sum_in, AreByName}
 use Rattle.crn_net.specs.Terms.{name_at, side_of}
 
 -- what one share adds to the sum of a name

@@ -7,10 +7,9 @@ use Rattle.std.proofs.lemmas.Int.{ints}
 use Rattle.crn_vec.specs.Lists.{IsIn}
 use Rattle.crn_vec.specs.Network.{IsAmount, JoinsTwo, ends, amount_in, amounts_in}
 use Rattle.crn_vec.specs.declared.limits.TheConstants.{MAX_AMOUNT}
-use Rattle.crn_vec.proofs.Appearance.{IsNumberedInOrder}
+use Rattle.crn_vec.proofs.CallerLemmas.{IsNumberedInOrder, in_left, in_right, in_push, in_at, all_from, all_map, all_append}
 use Rattle.crn_net.specs.Grows.{with_zeros}
-use Rattle.crn_net.specs.Steps.{Puts}
-use Rattle.crn_net.proofs.Lists.{in_left, in_right, in_push, in_at, all_from, all_map}
+use Rattle.crn_net.specs.Inner.Steps.{Puts}
 use Rattle.crn_net.proofs.Rows.{zeros_at}
 
 -- ---- numbering
@@ -59,12 +58,6 @@ in_ends [] r h = absurd h
 in_ends (x ∷ rs) r (inl e) = (inl (ap (λ (t : ℕ × ℕ). t.0) e), inr (inl (ap (λ (t : ℕ × ℕ). t.1) e)))
 in_ends (x ∷ rs) r (inr h) = let p = in_ends rs r h in (inr (inr p.0), inr (inr p.1))
 
-pub ends_below : (count : ℕ) (rs : List (ℕ × ℕ)) → AllByRecursion (JoinsTwo count) rs → (c : ℕ) → IsIn c (ends rs) → c < count
-ends_below count [] h c i = absurd i
-ends_below count (r ∷ rs) h c (inl e) = let k = h.0.1 in omega arith
-ends_below count (r ∷ rs) h c (inr (inl e)) = let k = h.0.2 in omega arith
-ends_below count (r ∷ rs) h c (inr (inr i)) = ends_below count rs h.1 c i
-
 -- where both rows stand
 pub record Stand (before middle after y z : ℕ) : Type 0 where
   pub first : ((y < before) × (middle ≡ before)) ⊎ ((y ≡ before) × (middle ≡ before + 1))
@@ -84,10 +77,6 @@ covers_both before middle after y z rs rs' h s (inr p) =
 
 -- ---- amounts
 
-all_append : (xs ys : List ℤ) → AllByRecursion IsAmount xs → AllByRecursion IsAmount ys → AllByRecursion IsAmount (xs ++ ys)
-all_append [] ys h k = k
-all_append (x ∷ xs) ys h k = (h.0, all_append xs ys h.1 k)
-
 in_zeros : (n : ℕ) (x : ℤ) → IsIn x (replicate n (pos 0)) → x ≡ pos 0
 in_zeros n x i = let r = in_at x (replicate n (pos 0)) (pos 0) i in sym r.2 ∙ zeros_at n r.0
 
@@ -95,7 +84,7 @@ all_zeros : (n : ℕ) → AllByRecursion IsAmount (replicate n (pos 0))
 all_zeros n = all_from IsAmount (replicate n (pos 0)) (λ x i. let e = in_zeros n x i in subst IsAmount (sym e) (omega (arith, ints), omega (arith, ints)))
 
 pub amounts_with_zeros : (m : ℕ) (v : List ℤ) → AllByRecursion IsAmount v → AllByRecursion IsAmount (with_zeros m v)
-amounts_with_zeros m v h = all_append v (replicate (m - length v) (pos 0)) h (all_zeros (m - length v))
+amounts_with_zeros m v h = all_append IsAmount v (replicate (m - length v) (pos 0)) h (all_zeros (m - length v))
 
 pub amounts_said : (names : List (List ℕ)) (side : List (List ℕ × ℕ)) → ((name : List ℕ) → amount_in side name ≤ MAX_AMOUNT) → AllByRecursion IsAmount (amounts_in names side)
 amounts_said names side h = all_map IsAmount (λ name. pos (amount_in side name)) names (λ name i. let le = h name in (omega (arith, ints), omega (arith, ints)))

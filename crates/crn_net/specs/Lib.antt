@@ -1,5 +1,4 @@
 pub mod Terms
-pub mod Sums
 pub mod Grows
 pub mod Views
-pub mod Steps
+pub mod Inner

@@ -30,7 +30,9 @@ impl Model for NetBuilder {
 
     ghost view = { λ b. net_of b.names.keys b.rows.keys b.reactions.items };
 
-    ghost invariant = { λ b. IsPartialNetwork (net_of b.names.keys b.rows.keys b.reactions.items) × AreRows (length b.names.keys) b.rows.keys };
+    ghost invariant = { λ b.
+        let net = net_of b.names.keys b.rows.keys b.reactions.items in
+        IsPartialNetwork net × AreRows (length b.names.keys) b.rows.keys };
 }
 
 impl NetBuilder {

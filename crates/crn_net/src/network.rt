@@ -29,7 +29,10 @@ impl Model for Network {
 
     ghost view = { λ n. net_of n.names.keys n.rows.items n.reactions.items };
 
-    ghost invariant = { λ n. let net = net_of n.names.keys n.rows.items n.reactions.items in IsNetwork net × (vectors_of (length n.names.keys) n.differences.items ≡ map (reaction_vector net) n.reactions.items) };
+    ghost invariant = { λ n.
+        let net = net_of n.names.keys n.rows.items n.reactions.items in
+        let vectors = vectors_of (length n.names.keys) n.differences.items in
+        IsNetwork net × (vectors ≡ map (reaction_vector net) n.reactions.items) };
 }
 
 impl Network {
@@ -41,7 +44,9 @@ impl Network {
         differences: Vec<Row>,
     ) -> Network
         requires network { IsNetwork (net_of names.keys rows.items reactions.items) }
-        requires vectors { vectors_of (length names.keys) differences.items ≡ map (reaction_vector (net_of names.keys rows.items reactions.items)) reactions.items }
+        requires vectors { let net = net_of names.keys rows.items reactions.items in
+            let vectors = vectors_of (length names.keys) differences.items in
+            vectors ≡ map (reaction_vector net) reactions.items }
         ensures { result ≡ net_of names.keys rows.items reactions.items }
     {
         Network {

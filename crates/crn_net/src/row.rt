@@ -4,7 +4,7 @@ ghost use Rattle.std.proofs.Common.{ap};
 ghost use Rattle.std.specs.Cmp.{partial_equiv_from_equiv, int_eq_equiv};
 ghost use Rattle.std.specs.Cmp.Lexicographic.{pointwise, lists_equiv};
 ghost use Rattle.std.specs.Cmp.Rules.{signed_items};
-ghost use Rattle.crn_net.specs.Views.{fed_by};
+ghost use Rattle.crn_net.specs.Inner.Rows.{fed_by};
 
 use crn_vec::{MAX_AMOUNT, MAX_SPECIES};
 use indexmap::IndexSet;
@@ -45,7 +45,8 @@ impl Amounts {
     pub(crate) fn add(&mut self, place: usize, count: u32)
         requires place { place < MAX_SPECIES }
         requires small { (slice_index_or self.old place (pos 0) +ℤ pos count) ≤ℤ pos MAX_AMOUNT }
-        ensures { self.new ≡ slice_set self.old place (slice_index_or self.old place (pos 0) +ℤ pos count) }
+        ensures { let sum = slice_index_or self.old place (pos 0) +ℤ pos count in
+            self.new ≡ slice_set self.old place sum }
     {
         let sum = u32::from(self.row[place]) + count;
         self.row[place] = sum as u8;

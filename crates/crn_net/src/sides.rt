@@ -2,9 +2,9 @@ ghost use Rattle.std.specs.Prelude.{◌≡◌, ◌≤◌, ◌<◌, ◌↔◌, �
 ghost use Rattle.std.specs.List.{AllByRecursion, sum_by};
 ghost use Rattle.std.specs.List.Sorted.{IsPermutation};
 ghost use Rattle.crn_vec.specs.Network.{amount_in};
-ghost use Rattle.crn_net.specs.Sums.{share_of, shares_of, name_in, sum_in, AreByName};
+ghost use Rattle.crn_net.specs.Inner.Sums.{share_of, shares_of, name_in, sum_in, AreByName};
 ghost use Rattle.crn_net.specs.Terms.{name_at, side_of, statement_of, IsSide};
-ghost use Rattle.crn_net.specs.Steps.{SaysSame};
+ghost use Rattle.crn_net.specs.Inner.Steps.{SaysSame};
 
 use crate::term::Term;
 use crn_vec::{MAX_AMOUNT, MAX_TERMS};
@@ -94,7 +94,8 @@ fn sums_lie_within(text: &[u8], shares: &[Share], limit: i64) -> bool
     requires limit { pos 0 ≤ℤ limit }
     requires few { length shares.now ≤ 2 * MAX_TERMS }
     requires by_name { AreByName text.now shares.now }
-    ensures { IsTrue result ↔ ((name : List ℕ) → (pos 0 ≤ℤ sum_in text.now shares.now name) × (sum_in text.now shares.now name ≤ℤ limit)) }
+    ensures { IsTrue result ↔ ((name : List ℕ) →
+        (pos 0 ≤ℤ sum_in text.now shares.now name) × (sum_in text.now shares.now name ≤ℤ limit)) }
 {
     // No share has been read yet, so the sum of any name is 0, which is within the limit.
     let mut name = [].as_slice();
@@ -123,7 +124,8 @@ pub(crate) fn says_same(
 ) -> Result<bool, AllocError>
     requires left { IsSide text.now left.now }
     requires right { IsSide text.now right.now }
-    ensures { IfOk result (λ same. IsTrue same ↔ SaysSame (statement_of text.now left.now right.now)) }
+    ensures { let statement = statement_of text.now left.now right.now in
+        IfOk result (λ same. IsTrue same ↔ SaysSame statement) }
 {
     let shares = shares_by_name(alloc, text, left, right)?;
     Ok(sums_lie_within(text, &shares, 0))
@@ -143,7 +145,8 @@ fn total(side: &[Term]) -> u32
 pub fn sums_fit(alloc: Global, text: &[u8], side: &[Term]) -> Result<bool, AllocError>
     requires numbers { AllByRecursion (λ t. t.count ≤ MAX_AMOUNT) side.now }
     requires few { length side.now ≤ MAX_TERMS }
-    ensures { IfOk result (λ fit. IsTrue fit ↔ ((name : List ℕ) → amount_in (side_of text.now side.now) name ≤ MAX_AMOUNT)) }
+    ensures { let amount = amount_in (side_of text.now side.now) in
+        IfOk result (λ fit. IsTrue fit ↔ ((name : List ℕ) → amount name ≤ MAX_AMOUNT)) }
 {
     // Nearly every side is this small, and takes no memory.
     if total(side) <= MAX_AMOUNT {

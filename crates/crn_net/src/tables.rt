@@ -1,9 +1,9 @@
-ghost use Rattle.std.specs.Prelude.{◌≡◌, ◌≤◌, ◌==◌, ◌&&◌, length, take, map, replicate, slice_index_or, pos, [], OnErr, IfOk};
+ghost use Rattle.std.specs.Prelude.{◌≡◌, ◌≤◌, ◌==◌, ◌&&◌, length, take, map, replicate, slice_index_or, pos, ℕ, [], OnErr, IfOk};
 ghost use Rattle.std.specs.List.{list_any, AllByRecursion};
 ghost use Rattle.crn_vec.specs.Lists.{AreDistinct};
 ghost use Rattle.crn_vec.specs.Network.{IsAmount, JoinsTwo, minus};
 ghost use Rattle.crn_net.specs.Terms.{side_of, statement_of, IsSide};
-ghost use Rattle.crn_net.specs.Steps.{NotesName, NotesSide, NotesBoth, TellsApart, IsCrowded, NotesSides, NotesRow, NotesReaction, BuildGives};
+ghost use Rattle.crn_net.specs.Inner.Steps.{NotesName, NotesSide, NotesBoth, TellsApart, IsCrowded, NotesSides, NotesRow, NotesReaction, BuildGives};
 
 use crate::fault::NetFault;
 use crate::name::{Name, Names};
@@ -65,7 +65,8 @@ fn note_both(
     requires right_zeros { rows.old.1 ≡ replicate MAX_SPECIES (pos 0) }
     requires left { IsSide text.now left.now }
     requires right { IsSide text.now right.now }
-    ensures notes { NotesBoth names.old.keys (statement_of text.now left.now right.now) result names.new.keys rows.new }
+    ensures notes { let statement = statement_of text.now left.now right.now in
+        NotesBoth names.old.keys statement result names.new.keys rows.new }
     ensures kept { take (length names.old.keys) names.new.keys ≡ names.old.keys }
 {
     note_side(names, &mut rows.0, text, left)?;
@@ -109,7 +110,8 @@ fn note_sides(
     requires right_zeros { rows.old.1 ≡ replicate MAX_SPECIES (pos 0) }
     requires left { IsSide text.now left.now }
     requires right { IsSide text.now right.now }
-    ensures notes { NotesSides names.old.keys (statement_of text.now left.now right.now) result names.new.keys rows.new }
+    ensures notes { let statement = statement_of text.now left.now right.now in
+        NotesSides names.old.keys statement result names.new.keys rows.new }
     ensures kept { take (length names.old.keys) names.new.keys ≡ names.old.keys }
 {
     match note_both(names, rows, text, left, right) {
@@ -179,7 +181,9 @@ pub(crate) fn build(
     requires reactions_few { length reactions.old.items ≤ MAX_REACTIONS }
     requires left { IsSide text.now left.now }
     requires right { IsSide text.now right.now }
-    ensures gives { BuildGives names.old.keys rows.old.keys reactions.old.items (statement_of text.now left.now right.now) result names.new.keys rows.new.keys reactions.new.items }
+    ensures gives { let statement = statement_of text.now left.now right.now in
+        BuildGives names.old.keys rows.old.keys reactions.old.items statement
+        result names.new.keys rows.new.keys reactions.new.items }
     ensures names_kept { take (length names.old.keys) names.new.keys ≡ names.old.keys }
     ensures rows_kept { take (length rows.old.keys) rows.new.keys ≡ rows.old.keys }
     ensures reactions_kept { OnErr result (reactions.new.items ≡ reactions.old.items) }
@@ -224,7 +228,8 @@ pub(crate) fn differences(
 ) -> Result<Vec<Row>, AllocError>
     requires amounts { AllByRecursion (λ row. AllByRecursion IsAmount row) rows.now }
     requires places { AllByRecursion (JoinsTwo (length rows.now)) reactions.now }
-    ensures { IfOk result (λ made. made.items ≡ map (λ r. minus (slice_index_or rows.now r.1 []) (slice_index_or rows.now r.0 [])) reactions.now) }
+    ensures { let row = λ (c : ℕ). slice_index_or rows.now c [] in
+        IfOk result (λ made. made.items ≡ map (λ r. minus (row r.1) (row r.0)) reactions.now) }
 {
     let mut made = Vec::with_capacity(alloc, reactions.len())?;
     for reaction in reactions {

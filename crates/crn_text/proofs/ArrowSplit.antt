@@ -7,7 +7,7 @@ use Rattle.std.proofs.lemmas.List.{append-nil}
 use Rattle.std.proofs.lemmas.List.Folds.{list_any-append}
 use Rattle.crn_text.specs.Tokens.{Token, token, tokens, tokens_after, first_token}
 use Rattle.crn_text.specs.Sides.{is_arrow, is_stray}
-use Rattle.crn_text.specs.Pieces.{SplitsAt, SplitsArrow, PartsAt}
+use Rattle.crn_text.specs.Inner.Pieces.{SplitsAt, SplitsArrow, PartsAt}
 use Rattle.crn_text.specs.declared.token.TokenKind.TheVariants.{Arrow, BothWays, Back, Stray}
 use Rattle.crn_text.proofs.Apart.{EndsBefore, last_or, tokens_apart, no_arrow}
 

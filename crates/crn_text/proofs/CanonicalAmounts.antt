@@ -12,8 +12,7 @@ use Rattle.std.proofs.lemmas.Slice.Eq.{bytes_eq-Decides}
 use Rattle.crn_vec.specs.Lists.{IsIn, AreDistinct}
 use Rattle.crn_vec.specs.Network.{IsName, IsAmount, amount_in, amounts_in}
 use Rattle.crn_vec.specs.declared.limits.TheConstants.{MAX_AMOUNT}
-use Rattle.crn_net.proofs.Amounts.{none_said}
-use Rattle.crn_net.proofs.Lists.{map_same}
+use Rattle.crn_vec.proofs.CallerLemmas.{none_said, map_same}
 use Rattle.crn_text.specs.Canonical.{term, terms, or_zero, side}
 use Rattle.crn_text.proofs.CanonicalTokens.{IsGood, term_text, tail_text, side_text}
 use Rattle.crn_text.proofs.CanonicalNames.{held}

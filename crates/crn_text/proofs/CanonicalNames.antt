@@ -11,11 +11,9 @@ use Rattle.std.proofs.lemmas.Slice.Eq.{bytes_eq-Decides}
 use Rattle.std.proofs.Math.Seq.{get_or-append_seam}
 use Rattle.crn_vec.specs.Lists.{IsIn, firsts}
 use Rattle.crn_vec.specs.Network.{Net, IsPartialNetwork, IsVector, IsHeldBefore, Holds, ends}
-use Rattle.crn_net.proofs.Firsts.{firsts_map}
-use Rattle.crn_net.proofs.Lists.{all_at, same_place}
-use Rattle.crn_net.proofs.Rows.{same_test}
+use Rattle.crn_vec.proofs.CallerLemmas.{firsts_map, all_at, same_place, same_test, in_flat_map, of_flat_map}
 use Rattle.crn_text.proofs.Complexes.{all_kept, upto, places_all, ends_are, numbers_are}
-use Rattle.crn_text.proofs.Numbering.{AreAfter, known_or_first, after_known, after_append, in_order, in_flat, of_flat, in_upto, of_upto}
+use Rattle.crn_text.proofs.Numbering.{AreAfter, known_or_first, after_known, after_append, in_order, in_upto, of_upto}
 
 -- ---- what a complex holds
 
@@ -111,7 +109,7 @@ after_complexes net c (suc n) h le =
 
 below_all : (net : Net) (s : ℕ) → IsPartialNetwork net → IsIn s (flat_map (species_of net) (upto 0 (length net.complexes))) → s < length net.names
 below_all net s h i =
-    let p = of_flat (species_of net) (upto 0 (length net.complexes)) s i in
+    let p = of_flat_map (species_of net) (upto 0 (length net.complexes)) s i in
     let lt = of_upto 0 (length net.complexes) p.0 p.1 in
     species_below net p.0 s h (omega arith) (holds net p.0 s p.2)
 
@@ -120,7 +118,7 @@ species_are net h =
     let n = length net.complexes in
     numbers_are (length net.names) (flat_map (species_of net) (upto 0 n))
     (in_order (IsHeldBefore net 0) 0 (flat_map (species_of net) (upto 0 n)) (λ k p. absurd (let lt = p.1 in omega arith)) (after_complexes net 0 n h (omega arith)))
-    (λ s lt. let p = h.each_in_a_complex s lt in in_flat (species_of net) (upto 0 n) p.0 s (in_upto 0 n p.0 (omega arith) (let l = p.1 in omega arith)) (is_held 0 (get_or net.complexes p.0 []) s s (omega arith) p.2))
+    (λ s lt. let p = h.each_in_a_complex s lt in in_flat_map (species_of net) (upto 0 n) p.0 s (in_upto 0 n p.0 (omega arith) (let l = p.1 in omega arith)) (is_held 0 (get_or net.complexes p.0 []) s s (omega arith) p.2))
     (λ s i. below_all net s h i)
 
 -- ---- names

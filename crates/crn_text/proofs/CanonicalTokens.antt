@@ -13,7 +13,7 @@ use Rattle.crn_vec.specs.declared.limits.TheConstants.{MAX_AMOUNT}
 use Rattle.crn_text.specs.Tokens.{Token, token, tokens, tokens_after, first_token, is_digit, is_blank}
 use Rattle.crn_text.specs.Sides.{number_of}
 use Rattle.crn_text.specs.Canonical.{term, or_zero}
-use Rattle.crn_text.specs.Pieces.{Begins}
+use Rattle.crn_text.specs.Inner.Pieces.{Begins}
 use Rattle.crn_text.specs.declared.token.TokenKind.{TokenKind}
 use Rattle.crn_text.specs.declared.token.TokenKind.TheVariants.{Number, Name, Plus, Arrow}
 use Rattle.crn_text.proofs.Lists.{one_more}

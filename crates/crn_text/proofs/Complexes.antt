@@ -9,14 +9,9 @@ use Rattle.std.proofs.lemmas.Bool.Decides.{Decides-eqb}
 use Rattle.std.proofs.lemmas.Bool.{cases_Bool, cases_lt, eqb-true, eqb-false, leb-true, leb-false, le-leb, lt-leb, not-false}
 use Rattle.std.proofs.lemmas.List.{append-nil}
 use Rattle.crn_vec.specs.Lists.{IsIn, firsts}
-use Rattle.crn_vec.proofs.Appearance.{IsNumberedInOrder, appears_in_order}
+use Rattle.crn_vec.proofs.CallerLemmas.{IsNumberedInOrder, appears_in_order, in_left, in_right, in_map, all_in, at_in, same_place, map_twice, firsts_known, firsts_firsts, firsts_map, row_decides, sides_decide, same_test, ends_below, append_same, flat_map_push}
 use Rattle.crn_vec.specs.Network.{Net, IsPartialNetwork, IsVector, JoinsTwo, ends, sides_of, sides_eq}
 use Rattle.crn_net.specs.Grows.{with_zeros, both_with_zeros}
-use Rattle.crn_net.proofs.Lists.{in_left, in_right, in_map, all_in, at_in, same_place, map_twice}
-use Rattle.crn_net.proofs.Firsts.{firsts_known, firsts_firsts, firsts_map}
-use Rattle.crn_net.proofs.Members.{row_decides}
-use Rattle.crn_net.proofs.Growth.{sides_decide}
-use Rattle.crn_net.proofs.Rows.{same_test}
 use Rattle.crn_text.specs.Faults.{both_of}
 
 -- ---- repeats that are dropped drop no first occurrence of what they have
@@ -109,12 +104,6 @@ ends_sides : (net : Net) (rs : List (ℕ × ℕ)) → flat_map both_of (map (sid
 ends_sides net [] = refl
 ends_sides net (r ∷ rs) = ap (λ (t : List (List ℤ)). get_or net.complexes r.0 [] ∷ get_or net.complexes r.1 [] ∷ t) (ends_sides net rs)
 
-ends_below : (count : ℕ) (rs : List (ℕ × ℕ)) → AllByRecursion (JoinsTwo count) rs → (c : ℕ) → IsIn c (ends rs) → c < count
-ends_below count [] h c i = absurd i
-ends_below count (r ∷ rs) h c (inl e) = let k = h.0.1 in omega (arith, e, k)
-ends_below count (r ∷ rs) h c (inr (inl e)) = let k = h.0.2 in omega (arith, e, k)
-ends_below count (r ∷ rs) h c (inr (inr i)) = ends_below count rs h.1 c i
-
 -- numbers that come in order, below a count that they reach, are those from 0 on
 pub numbers_are : (count : ℕ) (es : List ℕ) → IsNumberedInOrder 0 es → ((c : ℕ) → c < count → IsIn c es) → ((y : ℕ) → IsIn y es → y < count) → firsts eqb es ≡ upto 0 count
 numbers_are count es h reached below = sym (all_above (firsts eqb es)) ∙ numbers_from 0 count es h (λ c lt le. reached c lt) below ∙ ap (upto 0) (let e : count - 0 ≡ count = omega arith in e)
@@ -132,19 +121,9 @@ complexes_are net h =
 
 -- ---- with one statement more
 
-pub append_same : (a b c d : List ℤ) → length a ≡ length b → a ++ c ≡ b ++ d → a ≡ b
-append_same [] [] c d l e = refl
-append_same [] (y ∷ b) c d l e = absurd (omega (arith, l))
-append_same (x ∷ a) [] c d l e = absurd (omega (arith, l))
-append_same (x ∷ a) (y ∷ b) c d l e = let rest : a ++ c ≡ b ++ d = cc in let less : length a ≡ length b = omega (arith, l) in let same : a ≡ b = append_same a b c d less rest in let heads : x ≡ y = cc in cc
-
 pub flat_map_map : (w : List ℤ → List ℤ) (rs : List (List ℤ × List ℤ)) → flat_map both_of (map (λ r. (w r.0, w r.1)) rs) ≡ map w (flat_map both_of rs)
 flat_map_map w [] = refl
 flat_map_map w (r ∷ rs) = ap (λ (t : List (List ℤ)). w r.0 ∷ w r.1 ∷ t) (flat_map_map w rs)
-
-flat_push : (rs : List (List ℤ × List ℤ)) (p : List ℤ × List ℤ) → flat_map both_of (rs ++ p ∷ []) ≡ flat_map both_of rs ++ p.0 ∷ p.1 ∷ []
-flat_push [] p = refl
-flat_push (r ∷ rs) p = ap (λ (t : List (List ℤ)). r.0 ∷ r.1 ∷ t) (flat_push rs p)
 
 long_of : (net : Net) (rs : List (ℕ × ℕ)) → IsPartialNetwork net → AllByRecursion (JoinsTwo (length net.complexes)) rs → (v : List ℤ) → IsIn v (flat_map both_of (map (sides_of net) rs)) → length v ≡ length net.names
 long_of net rs h apart v i =
@@ -164,4 +143,4 @@ complexes_more net m p h =
     (λ e. append_same a b _ _ (long_of net net.reactions h h.apart a i ∙ sym (long_of net net.reactions h h.apart b j)) e) (ap (with_zeros m)) in
     let these : flat_map both_of wide ≡ map (with_zeros m) olds = ap (flat_map both_of) (sym (map_twice (sides_of net) (both_with_zeros m) net.reactions)) ∙ flat_map_map (with_zeros m) (map (sides_of net) net.reactions) in
     let known : firsts E (flat_map both_of wide) ≡ map (with_zeros m) net.complexes = ap (firsts E) these ∙ firsts_map E E (with_zeros m) olds test ∙ ap (map (with_zeros m)) (complexes_are net h) in
-    ap (λ (t : List (List ℤ)). firsts E (t ++ p.0 ∷ p.1 ∷ [])) (sym known) ∙ firsts_firsts E d (flat_map both_of wide) (p.0 ∷ p.1 ∷ []) ∙ ap (firsts E) (sym (flat_push wide p)) ∙ sym (all_kept sides_eq sides_decide E d both_of (wide ++ p ∷ []) [])
+    ap (λ (t : List (List ℤ)). firsts E (t ++ p.0 ∷ p.1 ∷ [])) (sym known) ∙ firsts_firsts E d (flat_map both_of wide) (p.0 ∷ p.1 ∷ []) ∙ ap (firsts E) (sym (flat_map_push both_of wide p)) ∙ sym (all_kept sides_eq sides_decide E d both_of (wide ++ p ∷ []) [])

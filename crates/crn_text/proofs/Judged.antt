@@ -1,39 +1,90 @@
 -- Each text spells a network or has a first fault.
-use Rattle.std.proofs.Common.{◌≡◌, ◌⊎◌, ℕ, zero, suc, ◌+◌, ◌<◌, ◌≤◌, List, [], ◌∷◌, ◌++◌, Option, Some, None, length, take, get_or, refl, sym, ap, subst, ◌∙◌, add-one, inl, inr, arith}
-use Rattle.std.specs.Prelude.{ℤ}
-use Rattle.std.proofs.lemmas.Bool.{cases_lt}
-use Rattle.std.proofs.lemmas.List.{take_all, take_more}
-use Rattle.crn_vec.specs.Network.{Net, Statement, IsPartialNetwork}
-use Rattle.crn_vec.specs.declared.limits.TheConstants.{MAX_TEXT}
-use Rattle.crn_net.specs.Grows.{Grown}
-use Rattle.crn_net.specs.Views.{net_of}
-use Rattle.crn_net.proofs.CallerLemmas.{Grown-none, Grown-network}
+use Rattle.std.proofs.Common.{◌≡◌, ◌⊎◌, ℕ, zero, suc, ◌+◌, ◌<◌, ◌≤◌, false, List, [], ◌∷◌, ◌++◌, Option, Some, None, length, take, get_or, refl, sym, ap, subst, ◌∙◌, append_assoc, add-one, inl, inr, arith}
+use Rattle.std.specs.Prelude.{nat_lt}
+use Rattle.std.specs.List.{AllByRecursion}
+use Rattle.std.proofs.lemmas.Bool.{cases_Bool, cases_lt, ltb-false}
+use Rattle.std.proofs.lemmas.List.{append-nil, take_all, take_more}
+use Rattle.crn_vec.specs.Network.{Net, Statement}
+use Rattle.crn_vec.specs.declared.limits.TheConstants.{MAX_SPECIES, MAX_COMPLEXES, MAX_REACTIONS, MAX_TEXT}
+use Rattle.crn_vec.proofs.CallerLemmas.{flat_map_push}
+use Rattle.crn_net.specs.Grows.{Grown, IsSelf, no_net, names_with, complexes_with, reactions_with}
+use Rattle.crn_net.proofs.CallerLemmas.{Grown-none, Grown-more, Grown-network, IsSaid, may_grow}
 use Rattle.crn_text.specs.Tokens.{lines}
 use Rattle.crn_text.specs.Sides.{line_statements, all_statements}
-use Rattle.crn_text.specs.Faults.{statements_fault, own_fault, line_fault}
+use Rattle.crn_text.specs.Faults.{is_self, names_of, complexes_of, reactions_of, statement_fault, statements_fault, own_fault, line_fault, or_else}
 use Rattle.crn_text.specs.Spells.{Spells, Fault, fault_on, AreFaultless}
 use Rattle.crn_text.specs.declared.fault.TextCode.{TextCode}
 use Rattle.crn_text.specs.declared.fault.TextCode.TheVariants.{TextTooLong, NoReaction}
-use Rattle.crn_text.proofs.LinesRead.{flat_push, none_own, text_ok, text_without}
+use Rattle.crn_text.proofs.LinesRead.{none_own, text_ok, text_without}
 use Rattle.crn_text.proofs.Sayings.{line_said}
-use Rattle.crn_text.proofs.Tables.{Tables, none_more, more_tables}
+use Rattle.crn_text.proofs.Statements.{names_all, complexes_all, reactions_all, self_told}
+
+-- ---- one statement after another
+
+-- what a statement without a fault keeps to
+record IsWithin (before : List Statement) (s : Statement) : Type 0 where
+  apart : is_self s ≡ false
+  species : length (names_of (before ++ s ∷ [])) ≤ MAX_SPECIES
+  complexes : length (complexes_of (before ++ s ∷ [])) ≤ MAX_COMPLEXES
+  reactions : length (reactions_of (before ++ s ∷ [])) ≤ MAX_REACTIONS
+
+within : (before : List Statement) (s : Statement) → statement_fault before s ≡ None → IsWithin before s
+unfolding statement_fault
+within before s f =
+    let all : List Statement = before ++ s ∷ [] in
+    elim (cases_Bool (is_self s)) [
+      | inl y ↦ absurd (let e = rw y at f in cc)
+      | inr a ↦ elim (cases_Bool (nat_lt MAX_SPECIES (length (names_of (before ++ s ∷ []))))) [
+        | inl y ↦ absurd (let e = rw (a, y) at f in cc)
+        | inr b ↦ elim (cases_Bool (nat_lt MAX_COMPLEXES (length (complexes_of (before ++ s ∷ []))))) [
+          | inl y ↦ absurd (let e = rw (a, b, y) at f in cc)
+          | inr c ↦ elim (cases_Bool (nat_lt MAX_REACTIONS (length (reactions_of (before ++ s ∷ []))))) [
+            | inl y ↦ absurd (let e = rw (a, b, c, y) at f in cc)
+            | inr d ↦ record { apart = a; species = ltb-false _ _ b; complexes = ltb-false _ _ c; reactions = ltb-false _ _ d }
+          ]
+        ]
+      ]
+    ]
+
+-- a network that these statements make
+abbrev Made : List Statement → Type 0
+Made before = (net : Net) × Grown before net
+
+next_made : (before : List Statement) (s : Statement) → Made before → IsSaid s → statement_fault before s ≡ None → Made (before ++ s ∷ [])
+next_made before s m said f =
+    let w = within before s f in
+    let old = m.0 in
+    let g = m.1 in
+    let apart : IsSelf old s → ⊥ = λ h. let same = self_told old s h in let differ = w.apart in cc in
+    let species : length (names_with old s) ≤ MAX_SPECIES = let e = ap length (names_all before s old g) in omega (arith, e, w.species) in
+    let complexes : length (complexes_with old s) ≤ MAX_COMPLEXES = let e = ap length (complexes_all before s old g) in omega (arith, e, w.complexes) in
+    let reactions : length (reactions_with old s) ≤ MAX_REACTIONS = let e = ap length (reactions_all before s old g) in omega (arith, e, w.reactions) in
+    let new = may_grow old s (Grown-network before old g) said apart species complexes reactions in
+    (new.0, Grown-more before s old new.0 g new.1)
+
+none_more : (own more : Option TextCode) → or_else own more ≡ None → more ≡ None
+none_more None more h = h
+none_more (Some code) more h = absurd cc
+
+more_made : (before ss : List Statement) → Made before → AllByRecursion IsSaid ss → statements_fault before ss ≡ None → Made (before ++ ss)
+more_made before [] m said f = subst Made (sym (append-nil before)) m
+more_made before (s ∷ ss) m said f =
+    let one = next_made before s m said.0 (none_own (statement_fault before s) (statements_fault (before ++ s ∷ []) ss) f) in
+    subst Made (append_assoc before (s ∷ []) ss) (more_made (before ++ s ∷ []) ss one said.1 (none_more (statement_fault before s) (statements_fault (before ++ s ∷ []) ss) f))
 
 -- ---- one line after another
 
-no_tables : Tables []
-no_tables = record { names = []; rows = []; reactions = []; ready = record { network = Grown-network [] (net_of [] [] []) Grown-none; padded = tt }; grown = Grown-none }
-
-line_tables : (before : List Statement) (line : List ℕ) → Tables before → line_fault before line ≡ None → Tables (before ++ line_statements line)
-line_tables before line t f =
+line_made : (before : List Statement) (line : List ℕ) → Made before → line_fault before line ≡ None → Made (before ++ line_statements line)
+line_made before line m f =
     let own = none_own (own_fault line) (statements_fault before (line_statements line)) f in
-    more_tables before (line_statements line) t (line_said line own) (none_more (own_fault line) (statements_fault before (line_statements line)) f)
+    more_made before (line_statements line) m (line_said line own) (none_more (own_fault line) (statements_fault before (line_statements line)) f)
 
-tables_upto : (ls : List (List ℕ)) (n : ℕ) → n ≤ length ls → AreFaultless ls n → Tables (all_statements (take n ls))
-tables_upto ls zero le h = no_tables
-tables_upto ls (suc n) le h =
+made_upto : (ls : List (List ℕ)) (n : ℕ) → n ≤ length ls → AreFaultless ls n → Made (all_statements (take n ls))
+made_upto ls zero le h = (no_net, Grown-none)
+made_upto ls (suc n) le h =
     let more : take (suc n) ls ≡ take n ls ++ get_or ls n [] ∷ [] = ap (λ (k : ℕ). take k ls) (sym (add-one n)) ∙ take_more ls n [] (omega arith) in
-    subst Tables (sym (ap all_statements more ∙ flat_push (take n ls) (get_or ls n [])))
-    (line_tables (all_statements (take n ls)) (get_or ls n []) (tables_upto ls n (omega arith) (λ k lt. h k (omega arith))) (h n (omega arith)))
+    subst Made (sym (ap all_statements more ∙ flat_map_push line_statements (take n ls) (get_or ls n [])))
+    (line_made (all_statements (take n ls)) (get_or ls n []) (made_upto ls n (omega arith) (λ k lt. h k (omega arith))) (h n (omega arith)))
 
 -- the first line with a fault
 record FirstLine (ls : List (List ℕ)) (n : ℕ) : Type 0 where
@@ -62,19 +113,17 @@ first_line ls (suc n) = elim (first_line ls n) [
 abbrev IsJudged : List ℕ → Type 0
 IsJudged text = ((net : Net) × Spells text net) ⊎ ((line : ℕ) × (code : TextCode) × Fault text line code)
 
-judged_tables : (text : List ℕ) → length text ≤ MAX_TEXT → AreFaultless (lines text) (length (lines text)) → (names : List (List ℕ)) (rows : List (List ℤ)) (reactions : List (ℕ × ℕ)) → IsPartialNetwork (net_of names rows reactions) → Grown (all_statements (lines text)) (net_of names rows reactions) → IsJudged text
-judged_tables text short sound names rows [] h g = inr (0, NoReaction, inr (inr (text_without text (net_of names rows []) short (sound, g) refl)))
-judged_tables text short sound names rows (r ∷ rs) h g =
-    let net : Net = net_of names rows (r ∷ rs) in
-    inl (net, text_ok text net net short (sound, g) (refl, record { partial = h; some = omega arith }))
+judged_net : (text : List ℕ) → length text ≤ MAX_TEXT → AreFaultless (lines text) (length (lines text)) → (net : Net) → Grown (all_statements (lines text)) net → (reactions : List (ℕ × ℕ)) → net.reactions ≡ reactions → IsJudged text
+judged_net text short sound net g [] e = inr (0, NoReaction, inr (inr (text_without text net short (sound, g) e)))
+judged_net text short sound net g (r ∷ rs) e = inl (net, text_ok text net net short (sound, g) (refl, record { partial = Grown-network (all_statements (lines text)) net g; some = let l = ap length e in omega (arith, l) }))
 
 pub judged : (text : List ℕ) → IsJudged text
 judged text = elim (cases_lt MAX_TEXT (length text)) [
   | inl long ↦ inr (0, TextTooLong, inl (record { named = refl; whole = refl; long = long }))
   | inr short ↦ elim (first_line (lines text) (length (lines text))) [
     | inl sound ↦
-        let t : Tables (all_statements (lines text)) = subst (λ (ls : List (List ℕ)). Tables (all_statements ls)) (take_all (length (lines text)) (lines text) (omega arith)) (tables_upto (lines text) (length (lines text)) (omega arith) sound) in
-        judged_tables text short sound t.names t.rows t.reactions t.ready.network t.grown
+        let m : Made (all_statements (lines text)) = subst (λ (ls : List (List ℕ)). Made (all_statements ls)) (take_all (length (lines text)) (lines text) (omega arith)) (made_upto (lines text) (length (lines text)) (omega arith) sound) in
+        judged_net text short sound m.0 m.1 m.0.reactions refl
     | inr found ↦ inr (found.at + 1, found.code, inr (inl (record { before = found.at; counted = refl; short = short; there = found.below; earlier = found.earlier; fault = found.fault })))
   ]
 ]

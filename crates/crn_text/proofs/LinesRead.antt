@@ -1,5 +1,6 @@
 -- One line of a text after another.
 use Rattle.std.proofs.Common.{◌≡◌, ℕ, zero, suc, ◌+◌, ◌<◌, ◌≤◌, Bool, true, false, List, [], ◌∷◌, ◌++◌, length, take, drop, get_or, Option, Some, None, Result, Ok, Err, Bor, refl, sym, ap, ◌∙◌, append_assoc, inl, inr, below_more, arith}
+use Rattle.crn_vec.proofs.CallerLemmas.{flat_map_push}
 use Rattle.std.specs.Prelude.{map, ◌⊎◌}
 use Rattle.std.specs.List.{AllByRecursion, list_all}
 use Rattle.std.proofs.lemmas.List.{append-nil, length-drop, take_all, take_more}
@@ -15,7 +16,7 @@ use Rattle.crn_text.specs.Tokens.{lines, before_comment, tokens}
 use Rattle.crn_text.specs.Sides.{line_statements, all_statements}
 use Rattle.crn_text.specs.Faults.{is_plain, own_fault, line_fault, or_else}
 use Rattle.crn_text.specs.Spells.{Spells, Fault, fault_on, AreFaultless, IsFirstFault, IsWithoutReaction}
-use Rattle.crn_text.specs.Pieces.{SplitsAt, after_split, TokensGive, LineGives}
+use Rattle.crn_text.specs.Inner.Pieces.{SplitsAt, after_split, TokensGive, LineGives}
 use Rattle.crn_text.specs.declared.fault.TextCode.{TextCode}
 use Rattle.crn_text.specs.declared.fault.TextCode.TheVariants.{NotAscii, NoMemory, NoReaction}
 use Rattle.crn_text.proofs.Splits.{lines_behind, lines_split, split_size}
@@ -51,16 +52,12 @@ first_left (y ∷ xs) ys x d (suc n) h =
     let e : drop (suc n + 1) (y ∷ xs) ≡ drop (n + 1) xs = let f : suc n + 1 ≡ suc (n + 1) = omega arith in rw f refl in
     (omega (arith, p.0), p.1, e ∙ p.2)
 
-pub flat_push : (ls : List (List ℕ)) (l : List ℕ) → all_statements (ls ++ l ∷ []) ≡ all_statements ls ++ line_statements l
-flat_push [] l = append-nil (line_statements l)
-flat_push (x ∷ ls) l = ap (λ (t : List Statement). line_statements x ++ t) (flat_push ls l) ∙ sym (append_assoc (line_statements x) (all_statements ls) (line_statements l))
-
 pub lines_more : (text line : List ℕ) (number : ℕ) (rest : Bor (List ℕ)) (next : Option (Bor (List ℕ))) (old new : Net) (done : Unit {0}) → LinesUpTo text number (Some rest) old → SplitsAt 10 rest.now line next → LineGives (all_statements (take number (lines text))) line (Ok done) new → LinesUpTo text (number + 1) next new
 lines_more text line number rest next old new done h split g =
     let p = first_left (lines text) (lines_behind next) line [] number (h.behind ∙ lines_split rest.now line next split) in
     let here : fault_on (lines text) number ≡ None = rw p.1 g.0 in
     let more : take (number + 1) (lines text) ≡ take number (lines text) ++ line ∷ [] = take_more (lines text) number [] p.0 ∙ ap (λ (l : List ℕ). take number (lines text) ++ l ∷ []) p.1 in
-    let said_more : all_statements (take (number + 1) (lines text)) ≡ all_statements (take number (lines text)) ++ line_statements line = ap all_statements more ∙ flat_push (take number (lines text)) line in
+    let said_more : all_statements (take (number + 1) (lines text)) ≡ all_statements (take number (lines text)) ++ line_statements line = ap all_statements more ∙ flat_map_push line_statements (take number (lines text)) line in
     record {
       behind = p.2;
       sound = below_more _ number h.sound here;

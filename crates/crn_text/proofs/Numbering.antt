@@ -3,8 +3,7 @@ use Rattle.std.proofs.Common.{◌≡◌, ◌⊎◌, ℕ, zero, suc, ◌+◌, ◌
 use Rattle.std.specs.List.{flat_map}
 use Rattle.std.proofs.lemmas.Bool.{cases_lt}
 use Rattle.crn_vec.specs.Lists.{IsIn}
-use Rattle.crn_vec.proofs.Appearance.{IsNumberedInOrder}
-use Rattle.crn_net.proofs.Lists.{in_left, in_right, in_cases}
+use Rattle.crn_vec.proofs.CallerLemmas.{IsNumberedInOrder, in_left, in_right, in_cases}
 use Rattle.crn_text.proofs.Complexes.{upto}
 
 -- ---- each number behind the smaller ones
@@ -45,19 +44,7 @@ in_order P next (y ∷ ys) below h = elim (cases_lt y next) [
   ]
 ]
 
--- ---- lists joined, and numbers in a row
-
-pub in_flat : (h : ℕ → List ℕ) (cs : List ℕ) (c k : ℕ) → IsIn c cs → IsIn k (h c) → IsIn k (flat_map h cs)
-in_flat h [] c k i j = absurd i
-in_flat h (x ∷ cs) c k (inl e) j = in_left k (h x) (flat_map h cs) (subst (λ (u : ℕ). IsIn k (h u)) e j)
-in_flat h (x ∷ cs) c k (inr i) j = in_right k (h x) (flat_map h cs) (in_flat h cs c k i j)
-
-pub of_flat : (h : ℕ → List ℕ) (cs : List ℕ) (k : ℕ) → IsIn k (flat_map h cs) → (c : ℕ) × IsIn c cs × IsIn k (h c)
-of_flat h [] k i = absurd i
-of_flat h (x ∷ cs) k i = elim (in_cases k (h x) (flat_map h cs) i) [
-  | inl j ↦ (x, inl refl, j)
-  | inr j ↦ let p = of_flat h cs k j in (p.0, inr p.1, p.2)
-]
+-- ---- numbers in a row
 
 pub in_upto : (a n c : ℕ) → a ≤ c → c < a + n → IsIn c (upto a n)
 in_upto a zero c le lt = absurd (omega arith)

@@ -9,7 +9,7 @@ use Rattle.std.proofs.lemmas.List.{append-nil, length-append, length-take, lengt
 use Rattle.std.proofs.lemmas.Slice.Eq.{starts_is}
 use Rattle.crn_vec.specs.Network.{is_letter, is_name_byte}
 use Rattle.crn_text.specs.Tokens.{Token, token, tokens, tokens_after, is_blank, is_digit, BeginsNot, BeginsNone, IsToken, IsSplitInto, TextsAreSplitInOneWay}
-use Rattle.crn_text.specs.Pieces.{Begins}
+use Rattle.crn_text.specs.Inner.Pieces.{Begins}
 use Rattle.crn_text.specs.declared.token.TokenKind.{TokenKind}
 use Rattle.crn_text.specs.declared.token.TokenKind.TheVariants.{Number, Name, Plus, Arrow, BothWays, Back, Stray}
 use Rattle.crn_text.proofs.ArrowSplit.{tokens_arrow, tokens_both, tokens_back}

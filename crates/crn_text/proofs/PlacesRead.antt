@@ -13,8 +13,8 @@ use Rattle.crn_text.specs.Tokens.{Token, tokens, tokens_after}
 use Rattle.crn_text.specs.Sides.{is_term, term_of, terms_of, is_zero, places}
 use Rattle.crn_text.specs.SoundLines.{IsSoundTerm, IsSoundSide}
 use Rattle.crn_text.specs.Faults.{sides_fault}
-use Rattle.crn_text.specs.Pieces.{StandsIn, SplitsAt, ReadsTerm, is_within, ReadsSide}
-use Rattle.crn_text.proofs.Lists.{all_push}
+use Rattle.crn_text.specs.Inner.Pieces.{StandsIn, SplitsAt, ReadsTerm, is_within, ReadsSide}
+use Rattle.crn_vec.proofs.CallerLemmas.{all_push}
 use Rattle.crn_text.proofs.Places.{places_behind, places_split}
 use Rattle.crn_text.proofs.Splits.{split_size}
 use Rattle.crn_text.proofs.Terms.{piece_size, stands_front, stands_behind}

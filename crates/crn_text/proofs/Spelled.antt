@@ -9,28 +9,20 @@ use Rattle.std.specs.Cmp.Lexicographic.{pointwise}
 use Rattle.std.proofs.lemmas.Bool.{cases_Bool, le-ltb}
 use Rattle.std.proofs.lemmas.Slice.Eq.{bytes_eq-Decides}
 use Rattle.std.proofs.lemmas.List.{append-nil, length-map, map-append}
+use Rattle.std.proofs.lemmas.List.Concat.{flat_map-append}
 use Rattle.crn_vec.specs.Lists.{IsIn, AreDistinct, firsts}
 use Rattle.crn_vec.specs.Network.{Net, IsNetwork, Statement, JoinsTwo, sides_of, sides_eq, said_by, names_in, amount_in, amounts_in}
 use Rattle.crn_vec.specs.declared.limits.TheConstants.{MAX_SPECIES, MAX_COMPLEXES, MAX_REACTIONS}
 use Rattle.crn_net.specs.Grows.{with_zeros, both_with_zeros}
-use Rattle.crn_net.specs.Steps.{SaysSame}
-use Rattle.crn_net.proofs.Lists.{in_right, in_map, map_in, map_same, map_twice, all_in, same_place}
-use Rattle.crn_net.proofs.Firsts.{firsts_distinct, firsts_has, firsts_map, firsts_front, firsts_length}
-use Rattle.crn_net.proofs.Members.{row_decides}
-use Rattle.crn_net.proofs.Growth.{sides_decide}
-use Rattle.crn_net.proofs.Rows.{same_test}
+use Rattle.crn_vec.proofs.CallerLemmas.{in_right, in_map, map_in, map_same, map_twice, all_in, same_place, firsts_distinct, firsts_has, firsts_map, firsts_front, firsts_length, row_decides, sides_decide, same_test, in_flat_map, append_same, all_at, amounts_same}
 use Rattle.crn_text.specs.Tokens.{lines}
 use Rattle.crn_text.specs.Sides.{line_statements, all_statements}
 use Rattle.crn_text.specs.Faults.{own_fault, statement_fault, statements_fault, is_self, names_of, reactions_of, complexes_of, both_of}
 use Rattle.crn_text.specs.Spells.{Spells, Fault, fault_on}
 use Rattle.crn_text.specs.declared.fault.TextCode.{TextCode}
-use Rattle.crn_text.proofs.Widening.{said_with_zeros, wide_test, in_all}
-use Rattle.crn_text.proofs.Complexes.{all_kept, append_same, flat_map_map, complexes_are}
+use Rattle.crn_net.proofs.CallerLemmas.{said_with_zeros, with_zeros_test}
+use Rattle.crn_text.proofs.Complexes.{all_kept, flat_map_map, complexes_are}
 use Rattle.crn_text.proofs.Statements.{self_same}
-
-flat_append : {A B : Type 0} (f : A → List B) (xs ys : List A) → flat_map f (xs ++ ys) ≡ flat_map f xs ++ flat_map f ys
-flat_append f [] ys = refl
-flat_append {A} {B} f (x ∷ xs) ys = ap (λ (t : List B). f x ++ t) (flat_append f xs ys) ∙ sym (append_assoc (f x) (flat_map f xs) (flat_map f ys))
 
 flat_whole : {A B : Type 0} (f : A → List B) (xs : List A) (i : ℕ) (d : A) → i < length xs → flat_map f xs ≡ (flat_map f (take i xs) ++ f (get_or xs i d)) ++ flat_map f (drop (suc i) xs)
 flat_whole f [] i d lt = absurd (omega arith)
@@ -48,7 +40,7 @@ pub record Front (net : Net) (front rest : List Statement) : Type 0 where
 
 names_few : (net : Net) (front rest : List Statement) → Front net front rest → length (names_of front) ≤ MAX_SPECIES
 names_few net front rest h =
-    let more : names_of (front ++ rest) ≡ firsts bytes_eq (flat_map names_in front ++ flat_map names_in rest) = ap (firsts bytes_eq) (flat_append names_in front rest) in
+    let more : names_of (front ++ rest) ≡ firsts bytes_eq (flat_map names_in front ++ flat_map names_in rest) = ap (firsts bytes_eq) (flat_map-append names_in front rest) in
     omega (arith, h.network.partial.species_limit, ap length h.names, ap length more, firsts_length bytes_eq (flat_map names_in front) (flat_map names_in rest))
 
 -- the statements of the front as amounts of all names
@@ -57,9 +49,9 @@ wide_statements net front rest h =
     let P : List (List ℕ) = flat_map names_in front in
     let N : List (List ℕ) = names_of front in
     let f = firsts_front bytes_eq P (flat_map names_in rest) in
-    let all : net.names ≡ N ++ f.0 = h.names ∙ ap (firsts bytes_eq) (flat_append names_in front rest) ∙ f.1 in
+    let all : net.names ≡ N ++ f.0 = h.names ∙ ap (firsts bytes_eq) (flat_map-append names_in front rest) ∙ f.1 in
     let apart : AreDistinct (N ++ f.0) = subst AreDistinct f.1 (firsts_distinct bytes_eq bytes_eq-Decides (P ++ flat_map names_in rest)) in
-    let known : (t : Statement) → IsIn t front → (name : List ℕ) → IsIn name (names_in t) → IsIn name N = λ t i name j. firsts_has bytes_eq bytes_eq-Decides P name (in_all front t name i j) in
+    let known : (t : Statement) → IsIn t front → (name : List ℕ) → IsIn name (names_in t) → IsIn name N = λ t i name j. firsts_has bytes_eq bytes_eq-Decides P name (in_flat_map names_in front t name i j) in
     let m : ℕ = length net.names in
     let said_as : (t : Statement) → IsIn t front → both_with_zeros m (said_by N t) ≡ said_by net.names t = λ t i.
     subst (λ (u : List (List ℕ)). both_with_zeros (length u) (said_by N t) ≡ said_by u t) (sym all) (said_with_zeros N f.0 t apart (known t i)) in
@@ -73,7 +65,7 @@ wide_reactions net front rest h =
     let test : (a b : List ℤ × List ℤ) → IsIn a Y → IsIn b Y → sides_eq (both_with_zeros m a) (both_with_zeros m b) ≡ sides_eq a b = λ a b i j.
     let p = in_map (said_by N) front a i in
     let q = in_map (said_by N) front b j in
-    subst (λ (u : List ℤ × List ℤ). sides_eq (both_with_zeros m u) (both_with_zeros m b) ≡ sides_eq u b) (sym p.2) (subst (λ (u : List ℤ × List ℤ). sides_eq (both_with_zeros m (said_by N p.0)) (both_with_zeros m u) ≡ sides_eq (said_by N p.0) u) (sym q.2) (wide_test N m p.0 q.0)) in
+    subst (λ (u : List ℤ × List ℤ). sides_eq (both_with_zeros m u) (both_with_zeros m b) ≡ sides_eq u b) (sym p.2) (subst (λ (u : List ℤ × List ℤ). sides_eq (both_with_zeros m (said_by N p.0)) (both_with_zeros m u) ≡ sides_eq (said_by N p.0) u) (sym q.2) (with_zeros_test N m p.0 q.0)) in
     sym (firsts_map sides_eq sides_eq (both_with_zeros m) Y test) ∙ ap (firsts sides_eq) (wide_statements net front rest h)
 
 said_append : (net : Net) (front rest : List Statement) → map (said_by net.names) (front ++ rest) ≡ map (said_by net.names) front ++ map (said_by net.names) rest
@@ -110,15 +102,11 @@ complexes_few net front rest h =
     ap (firsts E) (sym (flat_map_map (with_zeros m) (map (said_by N) front)) ∙ ap (flat_map both_of) (wide_statements net front rest h)) in
     let all : firsts E (flat_map both_of (map (said_by net.names) (front ++ rest))) ≡ net.complexes =
     sym (all_kept sides_eq sides_decide E d both_of (map (said_by net.names) (front ++ rest)) []) ∙ ap (λ (t : List (List ℤ × List ℤ)). firsts E (flat_map both_of t)) (sym h.reactions) ∙ complexes_are net h.network.partial in
-    let split : flat_map both_of (map (said_by net.names) (front ++ rest)) ≡ flat_map both_of (map (said_by net.names) front) ++ flat_map both_of (map (said_by net.names) rest) = ap (flat_map both_of) (said_append net front rest) ∙ flat_append both_of (map (said_by net.names) front) (map (said_by net.names) rest) in
+    let split : flat_map both_of (map (said_by net.names) (front ++ rest)) ≡ flat_map both_of (map (said_by net.names) front) ++ flat_map both_of (map (said_by net.names) rest) = ap (flat_map both_of) (said_append net front rest) ∙ flat_map-append both_of (map (said_by net.names) front) (map (said_by net.names) rest) in
     let long : length (map (with_zeros m) (firsts E Z)) ≡ length (firsts E Z) = simp length-map in
     omega (arith, ap length three, ap length one, long, ap length five, firsts_length E (flat_map both_of (map (said_by net.names) front)) (flat_map both_of (map (said_by net.names) rest)), ap length (ap (firsts E) split), ap length all, h.network.partial.complexes_limit)
 
 -- ---- no statement is a reaction of a complex to itself
-
-same_amounts : (names : List (List ℕ)) (s : Statement) → SaysSame s → amounts_in names s.0 ≡ amounts_in names s.1
-same_amounts [] s h = refl
-same_amounts (x ∷ names) s h = ap₂ (λ (a : ℤ) (b : List ℤ). a ∷ b) (ap pos (h x)) (same_amounts names s h)
 
 no_self : (net : Net) (all : List Statement) (s : Statement) → Front net all [] → IsIn s all → is_self s ≡ false
 no_self net all s h i =
@@ -129,7 +117,7 @@ no_self net all s h i =
           let there : IsIn (said_by net.names s) (map (sides_of net) net.reactions) = subst (λ (t : List (List ℤ × List ℤ)). IsIn (said_by net.names s) t) (sym (h.reactions ∙ ap (firsts sides_eq) whole)) in_said in
           let p = in_map (sides_of net) net.reactions (said_by net.names s) there in
           let joins = all_in (JoinsTwo (length net.complexes)) net.reactions p.0 h.network.partial.apart p.1 in
-          let same : get_or net.complexes p.0.0 [] ≡ get_or net.complexes p.0.1 [] = ap (λ (u : List ℤ × List ℤ). u.0) (sym p.2) ∙ same_amounts net.names s (self_same s y) ∙ ap (λ (u : List ℤ × List ℤ). u.1) p.2 in
+          let same : get_or net.complexes p.0.0 [] ≡ get_or net.complexes p.0.1 [] = ap (λ (u : List ℤ × List ℤ). u.0) (sym p.2) ∙ amounts_same net.names s.0 s.1 (self_same s y) ∙ ap (λ (u : List ℤ × List ℤ). u.1) p.2 in
           absurd (joins.0 (same_place net.complexes p.0.0 p.0.1 [] h.network.partial.complexes joins.1 joins.2 same))
       | inr n ↦ n
     ]
@@ -160,18 +148,13 @@ fine_statements net all front (s ∷ ss) rest h e =
     let reactions : nat_lt MAX_REACTIONS (length (reactions_of (front ++ s ∷ []))) ≡ false = le-ltb MAX_REACTIONS _ (reactions_few net (front ++ s ∷ []) (ss ++ rest) f) in
     rw (self, species, complexes, reactions) (fine_statements net all (front ++ s ∷ []) ss rest h more)
 
-at_place : (P : List ℕ → Type 0) (ls : List (List ℕ)) (k : ℕ) → AllByRecursion P ls → k < length ls → P (get_or ls k [])
-at_place P [] k h lt = absurd (omega arith)
-at_place P (l ∷ ls) zero h lt = h.0
-at_place P (l ∷ ls) (suc k) h lt = at_place P ls k h.1 (omega arith)
-
 fine_line : (text : List ℕ) (net : Net) → Spells text net → (k : ℕ) → k < length (lines text) → fault_on (lines text) k ≡ None
 fine_line text net h k lt =
     let all : List Statement = all_statements (lines text) in
     let front : Front net all [] = record { network = h.network; names = h.names ∙ ap names_of (sym (append-nil all)); reactions = h.reactions ∙ ap (λ (t : List Statement). firsts sides_eq (map (said_by net.names) t)) (sym (append-nil all)) } in
     let line : List ℕ = get_or (lines text) k [] in
     let split : all ≡ all_statements (take k (lines text)) ++ (line_statements line ++ all_statements (drop (suc k) (lines text))) = flat_whole line_statements (lines text) k [] lt ∙ append_assoc (all_statements (take k (lines text))) (line_statements line) (all_statements (drop (suc k) (lines text))) in
-    let own : own_fault line ≡ None = at_place (λ l. own_fault l ≡ None) (lines text) k h.sound lt in
+    let own : own_fault line ≡ None = all_at (λ l. own_fault l ≡ None) (lines text) k [] h.sound lt in
     rw own (fine_statements net all (all_statements (take k (lines text))) (line_statements line) (all_statements (drop (suc k) (lines text))) front split)
 
 no_names : (net : Net) → IsNetwork net → map (sides_of net) net.reactions ≡ [] → ⊥

@@ -5,7 +5,7 @@ use Rattle.std.specs.List.{prefix_len, list_any, take_while}
 use Rattle.std.proofs.lemmas.Bool.{cases_Bool, eqb-true, eq-eqb, or_parts}
 use Rattle.std.proofs.lemmas.List.{length-append, append-nil, take-append-drop}
 use Rattle.crn_text.specs.Tokens.{lines}
-use Rattle.crn_text.specs.Pieces.{SplitsAt, after_split}
+use Rattle.crn_text.specs.Inner.Pieces.{SplitsAt, after_split}
 use Rattle.crn_text.proofs.Lists.{one_more, split_at, split_last}
 
 -- how many bytes stand before the first such byte

@@ -12,31 +12,22 @@ use Rattle.crn_vec.specs.Lists.{IsIn, firsts}
 use Rattle.crn_vec.specs.Network.{Net, Statement, names_in, said_by, sides_eq, amount_in}
 use Rattle.crn_vec.specs.declared.limits.TheConstants.{MAX_SPECIES, MAX_COMPLEXES, MAX_REACTIONS}
 use Rattle.crn_net.specs.Grows.{AddGives, Grows, Grown, IsSelf, said_with, names_with, complexes_with, reactions_with}
-use Rattle.crn_net.specs.Steps.{SaysSame}
 use Rattle.crn_net.specs.declared.fault.NetFault.{NetFault}
 use Rattle.crn_net.specs.declared.fault.NetFault.TheVariants as net
-use Rattle.crn_net.proofs.CallerLemmas.{Grown-more, Grown-names, Grown-network}
-use Rattle.crn_net.proofs.Firsts.{firsts_firsts}
-use Rattle.crn_net.proofs.Adding.{self_says, says_self}
-use Rattle.crn_net.proofs.Amounts.{has_name, none_said}
-use Rattle.crn_text.proofs.Widening.{reactions_grown}
+use Rattle.crn_net.proofs.CallerLemmas.{Grown-more, Grown-network, Grown-names_with, Grown-reactions_with, self_says, says_self}
+use Rattle.crn_vec.proofs.CallerLemmas.{firsts_firsts, has_name, none_said, in_left, in_right}
 use Rattle.crn_text.proofs.Complexes.{complexes_more}
 use Rattle.crn_text.specs.Codes.{net_code}
 use Rattle.crn_text.specs.Faults.{is_self, both_of, names_of, complexes_of, reactions_of, statement_fault}
-use Rattle.crn_text.specs.Pieces.{StatementGives}
+use Rattle.crn_text.specs.Inner.Pieces.{StatementGives}
 use Rattle.crn_text.specs.declared.fault.TextCode.{TextCode}
 use Rattle.crn_text.specs.declared.fault.TextCode.TheVariants.{NoMemory}
 
-flat_push : (ss : List Statement) (s : Statement) → flat_map names_in (ss ++ s ∷ []) ≡ flat_map names_in ss ++ names_in s
-flat_push [] s = append-nil (names_in s)
-flat_push (x ∷ ss) s = ap (λ (t : List (List ℕ)). names_in x ++ t) (flat_push ss s) ∙ sym (append_assoc (names_in x) (flat_map names_in ss) (names_in s))
-
 pub names_all : (ss : List Statement) (s : Statement) (old : Net) → Grown ss old → names_with old s ≡ names_of (ss ++ s ∷ [])
-names_all ss s old g =
-    ap (λ (t : List (List ℕ)). firsts bytes_eq (t ++ names_in s)) (Grown-names ss old g) ∙ firsts_firsts bytes_eq bytes_eq-Decides (flat_map names_in ss) (names_in s) ∙ ap (firsts bytes_eq) (sym (flat_push ss s))
+names_all ss s old g = Grown-names_with ss s old g
 
 pub reactions_all : (ss : List Statement) (s : Statement) (old : Net) → Grown ss old → reactions_with old s ≡ reactions_of (ss ++ s ∷ [])
-reactions_all ss s old g = reactions_grown ss s old g ∙ ap (λ (t : List (List ℕ)). firsts sides_eq (map (said_by t) (ss ++ s ∷ []))) (names_all ss s old g)
+reactions_all ss s old g = Grown-reactions_with ss s old g ∙ ap (λ (t : List (List ℕ)). firsts sides_eq (map (said_by t) (ss ++ s ∷ []))) (names_all ss s old g)
 
 pub complexes_all : (ss : List Statement) (s : Statement) (old : Net) → Grown ss old → complexes_with old s ≡ complexes_of (ss ++ s ∷ [])
 complexes_all ss s old g =
@@ -57,30 +48,21 @@ same_of s (x ∷ names) h name i =
       | inr n ↦ absurd (let e = rw n at h in cc)
     ]
 
-pub all_same : (s : Statement) (names : List (List ℕ)) → SaysSame s → list_all (λ name. eqb (amount_in s.0 name) (amount_in s.1 name)) names ≡ true
+pub all_same : (s : Statement) (names : List (List ℕ)) → ((name : List ℕ) → amount_in s.0 name ≡ amount_in s.1 name) → list_all (λ name. eqb (amount_in s.0 name) (amount_in s.1 name)) names ≡ true
 all_same s [] h = refl
 all_same s (x ∷ names) h = let e = eq-eqb (amount_in s.0 x) (amount_in s.1 x) (h x) in rw e (all_same s names h)
 
-in_front : (name : List ℕ) (xs ys : List (List ℕ)) → IsIn name xs → IsIn name (xs ++ ys)
-in_front name [] ys i = absurd i
-in_front name (x ∷ xs) ys (inl e) = inl e
-in_front name (x ∷ xs) ys (inr i) = inr (in_front name xs ys i)
-
-in_back : (name : List ℕ) (xs ys : List (List ℕ)) → IsIn name ys → IsIn name (xs ++ ys)
-in_back name [] ys i = i
-in_back name (x ∷ xs) ys i = inr (in_back name xs ys i)
-
-pub self_same : (s : Statement) → is_self s ≡ true → SaysSame s
+pub self_same : (s : Statement) → is_self s ≡ true → (name : List ℕ) → amount_in s.0 name ≡ amount_in s.1 name
 self_same s h = λ name.
     elim (has_name s.0 name) [
-      | inl i ↦ same_of s (names_in s) h name (in_front name (map (λ t. t.0) s.0) (map (λ t. t.0) s.1) i)
+      | inl i ↦ same_of s (names_in s) h name (in_left name (map (λ t. t.0) s.0) (map (λ t. t.0) s.1) i)
       | inr n ↦ elim (has_name s.1 name) [
-        | inl j ↦ same_of s (names_in s) h name (in_back name (map (λ t. t.0) s.0) (map (λ t. t.0) s.1) j)
+        | inl j ↦ same_of s (names_in s) h name (in_right name (map (λ t. t.0) s.0) (map (λ t. t.0) s.1) j)
         | inr m ↦ none_said s.0 name n ∙ sym (none_said s.1 name m)
       ]
     ]
 
-self_told : (old : Net) (s : Statement) → IsSelf old s → is_self s ≡ true
+pub self_told : (old : Net) (s : Statement) → IsSelf old s → is_self s ≡ true
 self_told old s h = all_same s (names_in s) (self_says old s h)
 
 not_self : (old : Net) (s : Statement) → (IsSelf old s → ⊥) → is_self s ≡ false
@@ -105,15 +87,15 @@ add_refuses ss s old new net.TooManySpecies code g h e =
     let species : nat_lt MAX_SPECIES (length (names_of (ss ++ s ∷ []))) ≡ true = lt-ltb MAX_SPECIES _ (rw (names_all ss s old g) at h.2) in
     inr (rw (self, species, e) refl)
 add_refuses ss s old new net.TooManyComplexes code g h e =
-    let self = not_self old s h.1 in
-    let species : nat_lt MAX_SPECIES (length (names_of (ss ++ s ∷ []))) ≡ false = le-ltb MAX_SPECIES _ (rw (names_all ss s old g) at h.2) in
-    let complexes : nat_lt MAX_COMPLEXES (length (complexes_of (ss ++ s ∷ []))) ≡ true = lt-ltb MAX_COMPLEXES _ (rw (complexes_all ss s old g) at h.3) in
+    let self = not_self old s h.1.apart in
+    let species : nat_lt MAX_SPECIES (length (names_of (ss ++ s ∷ []))) ≡ false = le-ltb MAX_SPECIES _ (rw (names_all ss s old g) at h.1.species_fit) in
+    let complexes : nat_lt MAX_COMPLEXES (length (complexes_of (ss ++ s ∷ []))) ≡ true = lt-ltb MAX_COMPLEXES _ (rw (complexes_all ss s old g) at h.1.complexes_many) in
     inr (rw (self, species, complexes, e) refl)
 add_refuses ss s old new net.TooManyReactions code g h e =
-    let self = not_self old s h.1 in
-    let species : nat_lt MAX_SPECIES (length (names_of (ss ++ s ∷ []))) ≡ false = le-ltb MAX_SPECIES _ (rw (names_all ss s old g) at h.2) in
-    let complexes : nat_lt MAX_COMPLEXES (length (complexes_of (ss ++ s ∷ []))) ≡ false = le-ltb MAX_COMPLEXES _ (rw (complexes_all ss s old g) at h.3) in
-    let reactions : nat_lt MAX_REACTIONS (length (reactions_of (ss ++ s ∷ []))) ≡ true = lt-ltb MAX_REACTIONS _ (rw (reactions_all ss s old g) at h.4) in
+    let self = not_self old s h.1.apart in
+    let species : nat_lt MAX_SPECIES (length (names_of (ss ++ s ∷ []))) ≡ false = le-ltb MAX_SPECIES _ (rw (names_all ss s old g) at h.1.species_fit) in
+    let complexes : nat_lt MAX_COMPLEXES (length (complexes_of (ss ++ s ∷ []))) ≡ false = le-ltb MAX_COMPLEXES _ (rw (complexes_all ss s old g) at h.1.complexes_fit) in
+    let reactions : nat_lt MAX_REACTIONS (length (reactions_of (ss ++ s ∷ []))) ≡ true = lt-ltb MAX_REACTIONS _ (rw (reactions_all ss s old g) at h.1.reactions_many) in
     inr (rw (self, species, complexes, reactions, e) refl)
 add_refuses ss s old new net.NoReaction code g h e = absurd h
 add_refuses ss s old new net.NoMemory code g h e = inl e

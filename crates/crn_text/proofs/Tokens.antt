@@ -8,7 +8,7 @@ use Rattle.std.proofs.lemmas.List.Sums.{prefix_len-le-length}
 use Rattle.crn_vec.specs.Network.{is_letter, is_name_byte, begins_name}
 use Rattle.crn_text.specs.Tokens.{token, first_token, tokens_after, tokens, is_digit, is_blank}
 use Rattle.crn_text.specs.Sides.{is_name_kind}
-use Rattle.crn_text.specs.Pieces.{Begins, BeginsWith}
+use Rattle.crn_text.specs.Inner.Pieces.{Begins, BeginsWith}
 use Rattle.crn_text.specs.declared.token.TokenKind.{TokenKind}
 use Rattle.crn_text.proofs.Lists.{one_more}
 use Rattle.crn_text.specs.declared.token.TokenKind.TheVariants.{Number, Name, Plus, Arrow, BothWays, Back, Stray}

@@ -3,10 +3,9 @@ use Rattle.std.proofs.Common.{◌≡◌, ℕ, suc, ◌<◌, ◌≤◌, List, [],
 use Rattle.std.specs.Prelude.{ℤ}
 use Rattle.std.specs.List.{AllByRecursion, flat_map}
 use Rattle.std.proofs.lemmas.Bool.{cases_lt}
-use Rattle.crn_net.proofs.Lists.{same_place}
+use Rattle.crn_vec.proofs.CallerLemmas.{same_place, IsNumberedInOrder, appears_in_order, pair, ends_below}
 use Rattle.crn_vec.specs.Lists.{IsIn, AreDistinct, firsts}
 use Rattle.crn_vec.specs.Network.{Net, IsPartialNetwork, JoinsTwo, ends, sides_of, sides_eq, said_by}
-use Rattle.crn_vec.proofs.Appearance.{IsNumberedInOrder, appears_in_order}
 use Rattle.crn_text.specs.Tokens.{lines}
 use Rattle.crn_text.specs.Sides.{all_statements}
 use Rattle.crn_text.specs.Spells.{Spells}
@@ -63,15 +62,6 @@ both s = s.0 ∷ s.1 ∷ []
 read_ends : (net : Net) (reactions : List (ℕ × ℕ)) → map (λ k. get_or net.complexes k []) (ends reactions) ≡ flat_map both (map (sides_of net) reactions)
 read_ends net [] = refl
 read_ends net (r ∷ rs) = ap (λ (t : List (List ℤ)). get_or net.complexes r.0 [] ∷ get_or net.complexes r.1 [] ∷ t) (read_ends net rs)
-
-ends_below : (count : ℕ) (reactions : List (ℕ × ℕ)) → AllByRecursion (JoinsTwo count) reactions → AllBelow count (ends reactions)
-ends_below count [] h k i = absurd i
-ends_below count (r ∷ rs) h k (inl e) = omega (arith, e, h.0.1)
-ends_below count (r ∷ rs) h k (inr (inl e)) = omega (arith, e, h.0.2)
-ends_below count (r ∷ rs) h k (inr (inr i)) = ends_below count rs h.1 k i
-
-abbrev pair : ℕ → ℕ → ℕ × ℕ
-pair a b = (a, b)
 
 ends_same : (rs ts : List (ℕ × ℕ)) → ends rs ≡ ends ts → rs ≡ ts
 ends_same [] [] e = refl

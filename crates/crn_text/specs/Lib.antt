@@ -2,8 +2,8 @@ pub mod Codes
 pub mod Tokens
 pub mod Sides
 pub mod Faults
-pub mod Flaws
 pub mod SoundLines
 pub mod Spells
 pub mod Canonical
 pub mod Pieces
+pub mod Inner

@@ -3,7 +3,7 @@ ghost use Rattle.std.specs.List.{list_any};
 ghost use Rattle.crn_text.specs.Tokens.{tokens};
 ghost use Rattle.crn_text.specs.Sides.{is_stray, sides};
 ghost use Rattle.crn_text.specs.Faults.{is_empty, tokens_fault};
-ghost use Rattle.crn_text.specs.Flaws.{place_flaw, side_flaw, sides_flaw, flaw_code};
+ghost use Rattle.crn_text.specs.Inner.Flaws.{place_flaw, side_flaw, sides_flaw, flaw_code};
 
 use crate::arrow::split_side;
 use crate::fault::TextCode;

@@ -1,6 +1,6 @@
 ghost use Rattle.std.specs.Prelude.{◌≡◌, ◌==◌, not};
 ghost use Rattle.std.specs.List.{prefix_len};
-ghost use Rattle.crn_text.specs.Pieces.{SplitsAt};
+ghost use Rattle.crn_text.specs.Inner.Pieces.{SplitsAt};
 
 // The number of bytes before the first byte that equals this one.
 fn bytes_before(text: &[u8], byte: u8) -> usize

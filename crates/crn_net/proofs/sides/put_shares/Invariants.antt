@@ -1,5 +1,5 @@
 use Rattle.std.proofs.Common.{◌≡◌, ◌++◌, map, take}
-use Rattle.crn_net.specs.Sums.{share_of}
+use Rattle.crn_net.specs.Inner.Sums.{share_of}
 use Rattle.crn_net.proofs.sides.put_shares.Given as goal
 
 abbrev pub invariant-loop-term : goal.invariant-loop-term

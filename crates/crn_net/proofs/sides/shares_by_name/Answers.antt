@@ -4,7 +4,7 @@ use Rattle.std.specs.Cmp.Lexicographic.{slice_cmp}
 use Rattle.std.proofs.lemmas.Cmp.{nat_list_cmp_total}
 use Rattle.std.proofs.lemmas.Fn.{always_returns_same}
 use Rattle.std.proofs.lemmas.List.Sorted.{ranks_by}
-use Rattle.crn_net.specs.Sums.{name_in}
+use Rattle.crn_net.specs.Inner.Sums.{name_in}
 use Rattle.crn_net.proofs.sides.shares_by_name.Goals as goal
 
 pub returns-clause-by_name : goal.returns-clause-by_name

@@ -1,6 +1,6 @@
 use Rattle.std.proofs.Common.{◌&&◌, ◌==◌, arith, inl, inr, refl, sym, ◌∙◌}
 use Rattle.std.proofs.lemmas.List.{length_push}
-use Rattle.crn_net.proofs.Members.{any_true, any_false, reaction_decides}
+use Rattle.crn_vec.proofs.CallerLemmas.{any_true, any_false, reaction_decides}
 use Rattle.crn_net.proofs.tables.note_reaction.Goals as goal
 
 pub returns-then-has_reaction : goal.returns-then-has_reaction

@@ -1,7 +1,7 @@
 use Rattle.std.proofs.Common.{arith, inl, inr, refl, sym, ◌∙◌, List, subst}
 use Rattle.std.specs.Prelude.{ℤ}
 use Rattle.crn_vec.specs.Lists.{IsIn}
-use Rattle.crn_net.proofs.Lists.{at_in}
+use Rattle.crn_vec.proofs.CallerLemmas.{at_in}
 use Rattle.std.proofs.lemmas.List.{length_push, get_or_push}
 use Rattle.crn_net.proofs.Members.{found_at, found_none, row_put}
 use Rattle.crn_net.proofs.tables.note_row.Goals as goal

@@ -1,5 +1,5 @@
 use Rattle.std.proofs.Common.{length}
-use Rattle.crn_text.specs.Pieces.{after_split}
+use Rattle.crn_text.specs.Inner.Pieces.{after_split}
 use Rattle.crn_text.proofs.LinesRead.{LinesUpTo}
 use Rattle.crn_text.proofs.reader.read_lines.Given as goal
 

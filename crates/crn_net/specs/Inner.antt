@@ -1,0 +1,4 @@
+-- For the contracts of private functions alone.
+pub mod Steps
+pub mod Sums
+pub mod Rows

@@ -1,0 +1,7 @@
+-- What other crates may cite of this crate's proofs.
+
+-- A text has no two first faults; a text that spells a network has none.
+pub use Rattle.crn_text.proofs.Exclusions.{one_fault}
+pub use Rattle.crn_text.proofs.Spelled.{no_fault}
+-- A text spells at most one network.
+pub use Rattle.crn_text.proofs.Unique.{spelling_unique}
