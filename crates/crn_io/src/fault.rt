@@ -1,0 +1,19 @@
+use std::alloc::AllocError;
+
+/// Memory ran out.
+pub type NoMemory = AllocError;
+
+/// Why not all was read, in the order in which the causes are met.
+#[derive(Clone, Copy, Debug, PartialEq, Eq)]
+pub enum ReadStop {
+    /// More bytes were left than the limit.
+    TooLong,
+    /// The source failed.
+    Failed,
+    /// Memory ran out.
+    NoMemory,
+}
+
+/// Not all was written, because the sink failed.
+#[derive(Clone, Copy, Debug, PartialEq, Eq)]
+pub struct WriteFault;
