@@ -11,6 +11,7 @@ HEAD = re.compile(rf"(?:abbrev|unfoldable) (?:pub )?({NAME})|(?:pub )?(?:record|
 HEAD_INSIDE = re.compile(rf"  (?:pub )?()()({NAME}) :")
 IMPORT = re.compile(r"\b(pub )?use (Rattle\.[\w.]+?)(?:\.\{([^}]*)\}|(?=[\s;]))")
 RUST_IMPORT = re.compile(r"^\s*(pub )?use ((?:crate|crn_\w+|self|super|\w+)(?:::\w+)*)(?:::\{([^}]*)\})?;", re.MULTILINE)
+ITEM_HEAD = re.compile(r"^(pub(?:\([\w ]+\))? )?(?:fn|const|struct|enum|trait|type) (\w+)", re.MULTILINE)
 DECLARED = re.compile(r"^ *(pub(?:\([\w ]+\))? )?(?:const|struct|enum|trait|type) (\w+)", re.MULTILINE)
 GROUP = re.compile(r"# (\w+)(?:: .*)?$")
 
@@ -47,6 +48,12 @@ def read_crates(root):
             crates.groups.setdefault(group, []).append(name.split()[0])
             crates.needs[name.split()[0]] = needs.split()
     return crates
+
+
+def module_of(file):
+    """The module that a source file is, as the names of its path: none for the root file."""
+    parts = file.removesuffix(".rt").split("/")[2:]
+    return [] if parts == ["lib"] else parts
 
 
 # ---- text
@@ -176,26 +183,39 @@ class Repository:
         target, is_public = self.imports(file).get(name, (None, False))
         return target if is_public else None
 
+    @cache
     def rust_imports(self, file):
+        """The items that a source file imports by `use`, each with where it stands, and whether the import is `pub`."""
         found = {}
-        crate = file.split("/")[0]
+        crate, module = file.split("/")[0], module_of(file)
         for is_public, path, names in RUST_IMPORT.findall(self.plain(file)):
             parts = path.split("::")
             listed = names.split(",") if names else [parts.pop()]
+            if not parts:
+                continue
+            owner = parts[0] if parts[0] in self.crates.needs else crate
+            if parts[0] == owner:
+                inside = parts[1:]
+            elif parts[0] in ("crate", "self", "super"):
+                inside = {"crate": [], "self": module, "super": module[:-1]}[parts[0]] + parts[1:]
+            else:
+                inside = module + parts
             for name in listed:
                 name, _, alias = (part.strip() for part in name.partition(" as "))
-                if not name or not parts:
-                    continue
-                owner = crate if parts[0] in ("crate", "self", "super") else parts[0]
-                if owner in self.crates.needs and parts[0] == owner:
-                    target = self.public_items(owner).get(name)
-                else:
-                    inside = parts[1:] if parts[0] in ("crate", "self", "super") else parts
-                    place = f"{crate}/src/{'/'.join(inside) or 'lib'}.rt"
-                    target = Definition(place, name) if self.exists(place) else None
+                target = self.item(owner, inside, name) if name else None
                 if target:
                     found[alias or name] = (target, bool(is_public))
         return found
+
+    def item(self, crate, module, name):
+        """The item of this name in a module, which may pass it on from another one."""
+        file = f"{crate}/src/{'/'.join(module) or 'lib'}.rt"
+        if not self.exists(file):
+            return None
+        if name in self.items(file):
+            return Definition(file, name)
+        passed_on = re.search(rf"\buse [\w:]+(?:::\{{[^}}]*\b{name}\b[^}}]*\}}|::{name});", self.plain(file))
+        return self.rust_imports(file).get(name, (None, False))[0] if passed_on else None
 
     @cache
     def public_items(self, crate):
@@ -204,9 +224,15 @@ class Repository:
         found = {name: target for name, (target, is_public) in self.rust_imports(root).items() if is_public}
         for module in re.findall(r"^pub mod (\w+);", self.plain(root), re.MULTILINE):
             place = f"{crate}/src/{module}.rt"
-            for is_public, name in re.findall(r"^(pub )(?:fn|const|struct|enum|trait|type) (\w+)", self.plain(place), re.MULTILINE):
-                found[name] = Definition(place, name)
+            for is_public, name in ITEM_HEAD.findall(self.plain(place)):
+                if is_public == "pub ":
+                    found[name] = Definition(place, name)
         return found
+
+    @cache
+    def items(self, file):
+        """The names of the items of a source file: types, traits, constants and functions."""
+        return {name for _, name in ITEM_HEAD.findall(self.plain(file))}
 
     # definitions
 
