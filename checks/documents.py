@@ -51,18 +51,32 @@ def document_claims(repository, document, text, reports):
         yield f"no citation of {citation}", False
 
 
+def contracts_are_there(repository, readme):
+    """What the table of what is proved names is in its crate."""
+    for line in readme.splitlines():
+        cells = [cell.strip() for cell in line.strip().strip("|").split("|")]
+        crate = re.fullmatch(r"`(crn_\w+)`", cells[1]) if line.startswith("|") and len(cells) == 3 else None
+        for name in structure.QUOTED.findall(cells[2]) if crate else []:
+            files = repository.files(crate.group(1), "src", ".rt")
+            own = name if name[0].isupper() else name.split("::")[-1]
+            yield f"{crate.group(1)} has {name}", any(is_defined(repository, file, own) for file in files)
+
+
 def claims(root):
     """All that is asked: where, what, and whether it holds."""
     documents = sorted([*root.glob("*.md"), *root.glob("docs/**/*.md"), *root.glob("examples/**/*.md")])
     reports = {path.read_text() for path in root.glob("examples/networks/*.report")}
     repository = Repository(root)
+    readme = (root / "README.md").read_text()
+    for claim, holds in contracts_are_there(repository, readme):
+        yield "README.md", claim, holds
     for document in documents:
         for claim, holds in document_claims(repository, document, document.read_text(), reports):
             yield str(document.relative_to(root)), claim, holds
 
     pages = [path.read_text() for path in [root / "docs/DEFINITIONS.md", *sorted(root.glob("docs/definitions/*.md"))]]
     architecture = (root / "docs/ARCHITECTURE.md").read_text()
-    by_group = {"ARCHITECTURE": architecture, "README": (root / "README.md").read_text()}
+    by_group = {"ARCHITECTURE": architecture, "README": readme}
     rules = {
         "definitions": structure.definitions_are_on_the_pages(repository, pages),
         "helpers": structure.helpers_are_in_their_files(repository, pages),

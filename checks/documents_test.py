@@ -99,6 +99,10 @@ IsStep n m = m ≡ n
 | certificate | `crn_cert`, `crn_part_check` |
 | solver | `crn_tab` |
 
+| what holds | crate | contract |
+|---|---|---|
+| It counts. | `crn_low` | `count_of`, view of `Counter` |
+
 [definitions](docs/DEFINITIONS.md)
 
 ```
@@ -143,6 +147,7 @@ pub record KeptCounter : Type 0 where
 # what is broken; the file; the text there; the text in its place; the rule or document that says so
 BREAKS = [
     ("a link leads nowhere", "README.md", "docs/DEFINITIONS.md", "docs/DEFINITION.md", "README.md"),
+    ("a contract is not in its crate", "README.md", "`count_of`", "`counts`", "README.md"),
     ("a file is not there", "docs/definitions/kept.md", "Kept.antt", "Keep.antt", "docs/definitions/kept.md"),
     ("a name is not in its file", "docs/DEFINITIONS.md", "Count.antt`: `IsCount`, with", "Count.antt`: `IsCounted`, with", "docs/DEFINITIONS.md"),
     ("a definition is shown that is not there", "docs/definitions/kept.md", "pub n : ℕ", "pub n : ℤ", "docs/definitions/kept.md"),
