@@ -7,17 +7,17 @@ use thiserror::Error;
 /// Why a reaction is not added, or a network is not built. The variants are in the order in which the causes are tried.
 #[derive(Clone, Copy, Debug, PartialEq, Eq, Error)]
 pub enum NetFault {
-    #[error("both sides are the same complex")]
+    #[error("SelfReaction: both sides are the same complex")]
     SelfReaction,
-    #[error("the network has too many species")]
+    #[error("TooManySpecies: the network has too many species")]
     TooManySpecies,
-    #[error("the network has too many complexes")]
+    #[error("TooManyComplexes: the network has too many complexes")]
     TooManyComplexes,
-    #[error("the network has too many reactions")]
+    #[error("TooManyReactions: the network has too many reactions")]
     TooManyReactions,
-    #[error("the network has no reaction")]
+    #[error("NoReaction: the network has no reaction")]
     NoReaction,
-    #[error("memory ran out")]
+    #[error("NoMemory: memory ran out")]
     NoMemory,
 }
 
