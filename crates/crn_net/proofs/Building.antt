@@ -1,4 +1,4 @@
--- What the steps of adding a reaction come to.
+-- The results of the steps of adding a reaction.
 use Rattle.std.proofs.Common.{◌≡◌, ◌⊎◌, ℕ, ◌≤◌, List, [], ◌++◌, length, get_or, take, map, sym, ap, subst, ◌∙◌, inl, inr, arith, Ok, Err, Result}
 use Rattle.std.specs.Prelude.{ℤ, pos}
 use Rattle.std.specs.Str.{bytes_eq}
@@ -70,7 +70,7 @@ same_amounts names s has e name =
 has_all : (old : List (List ℕ)) (s : Statement) (name : List ℕ) → IsIn name (names_in s) → IsIn name (firsts bytes_eq (old ++ names_in s))
 has_all old s name i = firsts_has bytes_eq bytes_eq-Decides (old ++ names_in s) name (in_right name old (names_in s) i)
 
--- amounts of all names tell whether both sides say the same
+-- equal amounts of all names mean equal sides
 pub amounts_say : (old : List (List ℕ)) (s : Statement) → amounts_in (firsts bytes_eq (old ++ names_in s)) s.0 ≡ amounts_in (firsts bytes_eq (old ++ names_in s)) s.1 → SaysSame s
 amounts_say old s h = same_amounts (firsts bytes_eq (old ++ names_in s)) s (has_all old s) h
 
@@ -80,7 +80,7 @@ rows_say old new s both n e = amounts_say old s (subst (λ (t : List (List ℕ))
 says_rows : (old new : List (List ℕ)) (s : Statement) (both : List ℤ × List ℤ) → AreNoted old s both new → SaysSame s → both.0 ≡ both.1
 says_rows old new s both n h = row_ext (length new) both.0 both.1 n.left.is n.right.is (n.left.amounts ∙ amounts_same new s.0 s.1 h ∙ sym n.right.amounts)
 
--- rows tell sides apart
+-- different sides have different rows
 pub apart_noted : (old new : List (List ℕ)) (s : Statement) (both : List ℤ × List ℤ) (result : Result Unit NetFault) → AreNoted old s both new → TellsApart both result → NotesSides old s result new both
 apart_noted old new s both (Ok done) n h = (λ says. h (says_rows old new s both n says), n)
 apart_noted old new s both (Err SelfReaction) n h = rows_say old new s both n h

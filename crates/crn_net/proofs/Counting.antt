@@ -1,4 +1,4 @@
--- The row of a side, counted term by term while its names come in.
+-- The row of a side, counted term by term while its names are added.
 use Rattle.std.proofs.Common.{◌≡◌, ◌≢◌, ℕ, ◌<◌, ◌≤◌, ◌+◌, false, List, [], ◌∷◌, ◌++◌, length, get_or, take, map, replicate, set, refl, sym, ap, subst, ◌∙◌, inl, inr, arith, Ok, Err}
 use Rattle.std.specs.Prelude.{ℤ, pos, ◌+ℤ◌, ◌≤ℤ◌}
 use Rattle.std.specs.Str.{bytes_eq}
@@ -48,7 +48,7 @@ is_counted names side row h =
       rest = h.is.rest;
     }
 
--- a side says nothing of names that come after its own
+-- a side has the amount 0 of the names after its own
 pub counted_wider : (names wider : List (List ℕ)) (side : List (List ℕ × ℕ)) (row : List ℤ) → IsCounted names side row → AreDistinct wider → take (length names) wider ≡ names → length names ≤ length wider
     → ((name : List ℕ) → IsIn name (map (λ t. t.0) side) → IsIn name names) → IsCounted wider side row
 counted_wider names wider side row h d kept more has =
@@ -68,7 +68,7 @@ counted_wider names wider side row h d kept more has =
       rest = λ k le. h.rest k (omega (arith, more, le));
     }
 
--- one term more, whose name stands at a place
+-- one more term, whose name is at a place
 pub counted_more : (names : List (List ℕ)) (text : List ℕ) (side : List Term) (i place : ℕ) (d : Term) (row : List ℤ) (v : ℤ) → i < length side → AreDistinct names → length names ≤ MAX_SPECIES → place < length names
     → get_or names place [] ≡ name_at text (get_or side i d) → IsCounted names (side_of text (take i side)) row → v ≡ get_or row place (pos 0) +ℤ pos (get_or side i d).count
     → IsCounted names (side_of text (take (i + 1) side)) (set row place v)
@@ -168,7 +168,7 @@ noting_amount old text side i place names row h most =
       | inr above ↦ subst IsAmount (sym (h.counted.rest place above)) (omega (arith, ints), omega (arith, ints))
     ]
 
--- and so is what comes of the next term
+-- and so is the entry after the next term
 pub noting_sum : (old : List (List ℕ)) (text : List ℕ) (side : List Term) (i place : ℕ) (d : Term) (names new : List (List ℕ)) (row : List ℤ) → IsNoting old text side i names row → i < length side
     → NotesName names (name_at text (get_or side i d)) (Ok place) new → ((name : List ℕ) → amount_in (side_of text side) name ≤ MAX_AMOUNT) → (place < MAX_SPECIES) × ((get_or row place (pos 0) +ℤ pos (get_or side i d).count) ≤ℤ pos MAX_AMOUNT)
 noting_sum old text side i place d names new row h lt n most =

@@ -57,7 +57,7 @@ none_of : (more : List (List ℕ)) (side : List (List ℕ × ℕ)) → ((name : 
 none_of [] side h = refl
 none_of (x ∷ more) side h = ap₂ (λ (a : ℤ) (b : List ℤ). a ∷ b) (ap pos (none_said side x (h x (inl refl)))) (none_of more side (λ name i. h name (inr i)))
 
--- a side has zeros for the names that come later and that it does not have
+-- a side has zeros for the later names, which it does not have
 side_with_zeros : (names more : List (List ℕ)) (side : List (List ℕ × ℕ)) → ((name : List ℕ) → IsIn name more → IsIn name (map (λ t. t.0) side) → ⊥) → with_zeros (length (names ++ more)) (amounts_in names side) ≡ amounts_in (names ++ more) side
 side_with_zeros names more side h =
     let count : length (names ++ more) - length (amounts_in names side) ≡ length more = let a = length-append names more in let b = length-map names (λ name. pos (amount_in side name)) in omega (arith, a, b) in

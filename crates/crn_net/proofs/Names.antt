@@ -1,4 +1,4 @@
--- The names of a table with those of a side that come anew.
+-- The names of a table with the new names of a side.
 use Rattle.std.proofs.Common.{◌≡◌, ℕ, ◌<◌, ◌≤◌, ◌+◌, List, [], ◌∷◌, ◌++◌, length, get_or, take, drop, map, refl, sym, ap, subst, ◌∙◌, append_assoc, arith}
 use Rattle.std.specs.Str.{bytes_eq}
 use Rattle.std.proofs.lemmas.Slice.Eq.{bytes_eq-Decides}
@@ -44,7 +44,7 @@ names_over old names text side i d limit lt is h le =
     let all = ap (λ (t : List (List ℕ)). length (firsts bytes_eq t)) whole in
     omega (arith, new, long, more, all)
 
--- ---- a front that stays
+-- ---- a prefix that stays
 
 pub kept_push : {A : Type 0} (old new : List A) (x : A) → take (length old) new ≡ old → take (length old) (new ++ x ∷ []) ≡ old
 kept_push old new x h =

@@ -12,13 +12,13 @@ pub unsigned : (x : List ℕ) → map nat_abs (map pos x) ≡ x
 unsigned [] = refl
 unsigned (a ∷ x) = ap (λ (t : List ℕ). a ∷ t) (unsigned x)
 
--- bytes are equal where they are seen so
+-- bytes are equal if contracts see them as equal
 pub same_seen : (x y : List ℕ) → pointwise int_eq (map pos x) (map pos y) ≡ pointwise nat_eq x y
 same_seen x y =
     same_test (pointwise int_eq (map pos x) (map pos y)) (pointwise nat_eq x y) (map pos x ≡ map pos y) (x ≡ y) (signed_items (map pos x) (map pos y)) (bytes_eq-Decides x y)
     (λ e. sym (unsigned x) ∙ ap (map nat_abs) e ∙ unsigned y) (ap (map pos))
 
--- an amount is read where it is seen
+-- an amount is read as contracts see it
 pub at_seen : (x : List ℕ) (s : ℕ) → get_or (map pos x) s (pos 0) ≡ pos (get_or x s 0)
 at_seen [] s = refl
 at_seen (a ∷ x) zero = refl

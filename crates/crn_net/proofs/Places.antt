@@ -1,4 +1,4 @@
--- The place of a name in a table, where it may come anew.
+-- The place of a name in a table, to which it may be added.
 use Rattle.std.proofs.Common.{◌≡◌, ◌⊎◌, ℕ, ◌<◌, ◌≤◌, true, List, [], ◌∷◌, ◌++◌, length, get_or, sym, ap, subst, ◌∙◌, inl, inr, arith, Some, slice_get, Ok, Err}
 use Rattle.std.specs.Bool.{Decides}
 use Rattle.std.specs.List.{position_or_len}
@@ -18,7 +18,7 @@ use Rattle.crn_vec.proofs.CallerLemmas.{at_in, any_is}
 decides : (name known : List ℕ) → Decides (bytes_eq name known) (known ≡ name)
 decides name known = (λ h. sym ((bytes_eq-Decides name known).0 h), λ e. (bytes_eq-Decides name known).1 (sym e))
 
--- where a name is that is not there
+-- the place of a new name
 absent_place : (name : List ℕ) (old : List (List ℕ)) → (IsIn name old → ⊥) → position_or_len (bytes_eq name) old ≡ length old
 absent_place name old free =
     position_or_len_is (bytes_eq name) old (length old) [] (omega arith)
@@ -28,7 +28,7 @@ absent_place name old free =
     ])
     (λ lt. absurd (omega (arith, lt)))
 
--- what a set makes of a name: it is put in, and stands at its place
+-- a set with a name inserted: the name is at its place
 pub record IsPlaced (old : List (List ℕ)) (name : List ℕ) (place : ℕ) (new : List (List ℕ)) : Type 0 where
   pub keys : new ≡ insert_key bytes_eq old name
   pub index : place ≡ position_or_len (bytes_eq name) old

@@ -61,7 +61,7 @@ pub puts_all : {A : Type 0} (P : A → Type 0) (old new : List A) (x : A) → Al
 puts_all P old new x h p (inl q) = subst (AllByRecursion P) (sym q.1) h
 puts_all P old new x h p (inr q) = subst (AllByRecursion P) (sym q.1) (all_push P old x h p)
 
--- a member put in stands at an old place, or at the new one at the end
+-- an inserted member is at an old place, or at the new one at the end
 pub puts_place : {A : Type 0} (old new : List A) (x : A) (y : ℕ) → Puts old x new → y < length new → get_or new y x ≡ x → ((y < length old) × (length new ≡ length old)) ⊎ ((y ≡ length old) × (length new ≡ length old + 1))
 puts_place {A} old new x y (inl p) lt at = let e = ap length p.1 in inl (omega (arith, e, lt), e)
 puts_place {A} old new x y (inr p) lt at =

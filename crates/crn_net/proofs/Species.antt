@@ -66,7 +66,7 @@ wide t = wider_names t.names t.names' (names_in t.s) t.ready.network.names t.nam
 names_apart : (t : Step) → AreDistinct t.names'
 names_apart t = subst AreDistinct (sym t.names_are) (firsts_distinct bytes_eq bytes_eq-Decides (t.names ++ names_in t.s))
 
--- a name of a front stands there alone
+-- a name of a prefix is not in the rest
 beyond : (names rest : List (List ℕ)) (k : ℕ) → AreDistinct (names ++ rest) → length names ≤ k → k < length (names ++ rest) → IsIn (get_or (names ++ rest) k []) names → ⊥
 beyond names rest k d le lt i =
     let p = in_at (get_or (names ++ rest) k []) names [] i in
@@ -82,7 +82,7 @@ not_old t k le lt i =
     let p = subst P f.1 (names_apart t, lt, i) in
     beyond t.names f.0 k p.0 le p.1 p.2
 
--- a name that came anew is of the left or of the right side
+-- a new name is a name of the left or of the right side
 fresh : (t : Step) (k : ℕ) → length t.names ≤ k → k < length t.names' → IsIn (get_or t.names' k []) (map (λ u. u.0) t.s.0) ⊎ IsIn (get_or t.names' k []) (map (λ u. u.0) t.s.1)
 fresh t k le lt =
     let x : List ℕ = get_or t.names' k [] in
@@ -90,7 +90,7 @@ fresh t k le lt =
     let whole : IsIn x (t.names ++ names_in t.s) = firsts_from bytes_eq (t.names ++ names_in t.s) x (subst (λ (u : List (List ℕ)). IsIn x u) t.names_are there) in
     elim (in_cases x t.names (names_in t.s) whole) [ inl a ↦ absurd (not_old t k le lt a) | inr b ↦ in_cases x (map (λ u. u.0) t.s.0) (map (λ u. u.0) t.s.1) b ]
 
--- of the names that came anew, those of the left side stand first
+-- of the new names, those of the left side come first
 left_first : (t : Step) (k m : ℕ) → k < m → m < length t.names' → length t.names ≤ k → IsIn (get_or t.names' m []) (map (λ u. u.0) t.s.0) → IsIn (get_or t.names' k []) (map (λ u. u.0) t.s.0)
 left_first t k m km mn nk i =
     let l : List (List ℕ) = map (λ u. u.0) t.s.0 in
@@ -168,7 +168,7 @@ stand t = record {
   second = puts_place t.both.middle t.rows' t.both.right t.z t.both.second t.both.right_in t.both.right_at;
 }
 
--- a place that came anew is one of the two
+-- a new place is one of the two
 new_place : (before middle after y z b : ℕ) → Stand before middle after y z → before ≤ b → b < after → (b ≡ y) ⊎ (b ≡ z)
 new_place before middle after y z b s le lt =
     elim s.first [
@@ -179,7 +179,7 @@ new_place before middle after y z b s le lt =
       ]
     ]
 
--- where the right row is new, the left one stands before it
+-- if the right row is new, the left row is before it
 left_before : (before middle after y z : ℕ) → Stand before middle after y z → (y ≡ z → ⊥) → before ≤ z → y < z
 left_before before middle after y z s ne le =
     elim s.first [

@@ -1,4 +1,4 @@
--- Sums of names over shares: in another order, over the terms of both sides, and where shares stand in the order of their names.
+-- Sums of names over shares: in another order, over the terms of both sides, and over shares sorted by their names.
 use Rattle.std.proofs.Common.{◌≡◌, ℕ, zero, suc, ◌+◌, ◌*◌, ◌-◌, ◌^◌, ◌<◌, ◌≤◌, Bool, true, false, not, cond, List, [], ◌∷◌, length, get_or, take, map, refl, sym, ap, subst, ◌∙◌, inl, inr, arith}
 use Rattle.std.specs.Prelude.{ℤ, pos, negsuc, ◌+ℤ◌, ◌-ℤ◌, ◌≤ℤ◌}
 use Rattle.std.specs.List.{AllByRecursion, fold, sum_by}
@@ -104,7 +104,7 @@ same_place_in_order x y a b =
     let tied = neither_first (slice_cmp nat_cmp x y) (slice_cmp nat_cmp y x) (nat_list_cmp_total.antisymm x y) a b in
     (bytes_eq-Decides x y).0 (sym (is_eq-slice_cmp x y) ∙ tied)
 
--- shares of one name stand together
+-- shares of one name are adjacent
 together : (text : List ℕ) (shares : List Share) (i j k : ℕ) (d : Share) → AreByName text shares → i ≤ j → j ≤ k → k < length shares → name_in text (get_or shares i d) ≡ name_in text (get_or shares k d)
     → name_in text (get_or shares j d) ≡ name_in text (get_or shares i d)
 together text shares i j k d h le le' lt e =
@@ -150,7 +150,7 @@ sum_done text shares name i d h some lt last ne =
     let stays = sum_stays text shares name i m d (omega arith) (λ j a b e. ne (together text shares (i - 1) i j d h (omega arith) a (omega arith) (last ∙ sym e) ∙ last)) in
     sym (ap (λ (xs : List Share). sum_in text xs name) (take_all (i + m) shares (omega arith))) ∙ stays
 
--- and the next one has not come yet
+-- and the next name has no share yet
 sum_fresh : (text : List ℕ) (shares : List Share) (name : List ℕ) (i : ℕ) (d : Share) → AreByName text shares → 0 < i → i < length shares → name_in text (get_or shares (i - 1) d) ≡ name
     → (name_in text (get_or shares i d) ≡ name → ⊥) → sum_in text (take i shares) (name_in text (get_or shares i d)) ≡ pos 0
 sum_fresh text shares name i d h some lt last ne =
@@ -161,7 +161,7 @@ sum_fresh text shares name i d h some lt last ne =
 
 -- ---- the loop over shares in the order of names
 
--- the share that stands last, whatever stands for one past the end
+-- the last share, whatever the default is
 last_is : (text : List ℕ) (shares : List Share) (i : ℕ) (d d' : Share) (name : List ℕ) → i < length shares → name_in text (get_or shares i d) ≡ name → name_in text (get_or shares (i + 1 - 1) d') ≡ name
 last_is text shares i d d' name lt e =
     let at : i + 1 - 1 ≡ i = omega arith in
@@ -171,7 +171,7 @@ last_is text shares i d d' name lt e =
 abbrev pub is_within : ℤ → ℤ → Type 0
 is_within limit sum = (pos 0 ≤ℤ sum) × (sum ≤ℤ limit)
 
--- the sum of the name that stands last, where the names before it are done with
+-- the sum of the last name, with no more shares of the names before it
 pub record IsSumming (text : List ℕ) (shares : List Share) (limit : ℤ) (i : ℕ) (name : List ℕ) (sum : ℤ) : Type 0 where
   pub last : (d : Share) → 0 < i → name_in text (get_or shares (i - 1) d) ≡ name
   pub is : sum ≡ sum_in text (take i shares) name
@@ -190,7 +190,7 @@ summing_more text shares limit i d name sum h lt e fits = record {
   high = let high = h.high in omega (arith, ints, high, fits);
 }
 
--- the first share of another name, where the sum of the last one is within the limit
+-- the first share of another name, if the sum of the last one is within the limit
 pub summing_next : (text : List ℕ) (shares : List Share) (limit : ℤ) (i : ℕ) (d : Share) (name : List ℕ) (sum : ℤ) → AreByName text shares → IsSumming text shares limit i name sum → i < length shares
     → (name_in text (get_or shares i d) ≡ name → ⊥) → is_within limit sum → SFits w32 (get_or shares i d).count → IsSumming text shares limit (i + 1) (name_in text (get_or shares i d)) (pos 0 +ℤ (get_or shares i d).count)
 summing_next text shares limit i d name sum order h lt ne within fits =
@@ -226,7 +226,7 @@ summing_at text shares i limit limit' name name' sum sum' l n s h =
 
 -- ---- the numbers of a side
 
--- no number passes the limit that the sums keep
+-- no number exceeds the limit of the sums
 pub numbers_most : (text : List ℕ) (side : List Term) → ((name : List ℕ) → amount_in (side_of text side) name ≤ MAX_AMOUNT) → AllByRecursion (λ t. t.count ≤ MAX_AMOUNT) side
 numbers_most text [] h = tt
 numbers_most text (t ∷ side) h =

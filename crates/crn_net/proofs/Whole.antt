@@ -58,7 +58,7 @@ in_ends [] r h = absurd h
 in_ends (x ∷ rs) r (inl e) = (inl (ap (λ (t : ℕ × ℕ). t.0) e), inr (inl (ap (λ (t : ℕ × ℕ). t.1) e)))
 in_ends (x ∷ rs) r (inr h) = let p = in_ends rs r h in (inr (inr p.0), inr (inr p.1))
 
--- where both rows stand
+-- the places of both rows
 pub record Stand (before middle after y z : ℕ) : Type 0 where
   pub first : ((y < before) × (middle ≡ before)) ⊎ ((y ≡ before) × (middle ≡ before + 1))
   pub second : ((z < middle) × (after ≡ middle)) ⊎ ((z ≡ middle) × (after ≡ middle + 1))

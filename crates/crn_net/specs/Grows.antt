@@ -72,7 +72,8 @@ pub record HasTooManyReactions (old : Net) (s : Statement) : Type 0 where
 abbrev pub AddGives : Net → Statement → Result Unit NetFault → Net → Type 0
 AddGives old s (Ok done) new = Grows old s new
 AddGives old s (Err SelfReaction) new = (new ≡ old) × IsSelf old s
-AddGives old s (Err TooManySpecies) new = (new ≡ old) × (IsSelf old s → ⊥) × (MAX_SPECIES < length (names_with old s))
+AddGives old s (Err TooManySpecies) new =
+    (new ≡ old) × (IsSelf old s → ⊥) × (MAX_SPECIES < length (names_with old s))
 AddGives old s (Err TooManyComplexes) new = (new ≡ old) × HasTooManyComplexes old s
 AddGives old s (Err TooManyReactions) new = (new ≡ old) × HasTooManyReactions old s
 AddGives old s (Err NoMemory) new = new ≡ old

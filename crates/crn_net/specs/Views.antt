@@ -11,7 +11,11 @@ vectors_of width rows = map (λ row. take width row) rows
 
 -- the network of these names, rows and reactions
 abbrev pub net_of : List (List ℕ) → List (List ℤ) → List (ℕ × ℕ) → Net
-net_of names rows reactions = record { names = names; complexes = vectors_of (length names) rows; reactions = reactions }
+net_of names rows reactions = record {
+  names = names;
+  complexes = vectors_of (length names) rows;
+  reactions = reactions;
+}
 
 -- a row has as many places as the limit on species, and those from `width` on hold 0
 pub record IsRow (width : ℕ) (row : List ℤ) : Type 0 where

@@ -125,7 +125,8 @@ impl Network {
     /// The vector of a reaction: product minus reactant, one number for each species.
     pub fn reaction_vector(&self, r: usize) -> &[i128]
         requires { r < length self.now.reactions }
-        ensures value { result.now ≡ reaction_vector self.now (slice_index_or self.now.reactions r (0, 0)) }
+        ensures value { result.now
+            ≡ reaction_vector self.now (slice_index_or self.now.reactions r (0, 0)) }
         ensures width { length result.now ≡ length self.now.names }
         ensures small { AreWithin MAX_AMOUNT result.now }
     {

@@ -79,7 +79,8 @@ fn shares_by_name(
     requires right { AllByRecursion (λ t. t.count ≤ MAX_AMOUNT) right.now }
     requires left_few { length left.now ≤ MAX_TERMS }
     requires right_few { length right.now ≤ MAX_TERMS }
-    ensures same { IfOk result (λ shares. IsPermutation (shares_of left.now right.now) shares.items) }
+    ensures same { IfOk result (λ shares.
+        IsPermutation (shares_of left.now right.now) shares.items) }
     ensures by_name { IfOk result (λ shares. AreByName text.now shares.items) }
 {
     let mut shares = Vec::with_capacity(alloc, left.len() + right.len())?;

@@ -30,7 +30,7 @@ fn note_name(names: &mut Names, name: &[u8]) -> Result<usize, NetFault>
 // The amounts of both sides of a statement.
 pub(crate) type RowPair = (Amounts, Amounts);
 
-// Adds the amounts of a side to the row, and the new names of the side to the names. Each term's name is looked up once.
+// Adds the amounts of a side to the row, and its new names to the names. Each term's name is looked up once.
 fn note_side(
     names: &mut Names,
     row: &mut Amounts,
@@ -41,7 +41,8 @@ fn note_side(
     requires few { length names.old.keys ≤ MAX_SPECIES }
     requires zeros { row.old ≡ replicate MAX_SPECIES (pos 0) }
     requires side { IsSide text.now side.now }
-    ensures notes { NotesSide names.old.keys (side_of text.now side.now) result names.new.keys row.new }
+    ensures notes { NotesSide names.old.keys (side_of text.now side.now)
+        result names.new.keys row.new }
     ensures kept { take (length names.old.keys) names.new.keys ≡ names.old.keys }
 {
     for term in side {
@@ -140,7 +141,8 @@ fn note_row(rows: &mut Complexes, row: Amounts) -> Result<usize, NetFault>
 
 // Whether a reaction is among these. They are few, so it looks at each.
 fn has_reaction(reactions: &[(usize, usize)], reaction: (usize, usize)) -> bool
-    ensures { result ≡ list_any (λ known. known.0 == reaction.0 && known.1 == reaction.1) reactions.now }
+    ensures { result ≡ list_any
+        (λ known. known.0 == reaction.0 && known.1 == reaction.1) reactions.now }
 {
     reactions
         .iter()

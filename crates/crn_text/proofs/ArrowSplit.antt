@@ -11,7 +11,7 @@ use Rattle.crn_text.specs.Inner.Pieces.{SplitsAt, SplitsArrow, PartsAt}
 use Rattle.crn_text.specs.declared.token.TokenKind.TheVariants.{Arrow, BothWays, Back, Stray}
 use Rattle.crn_text.proofs.Apart.{EndsBefore, last_or, tokens_apart, no_arrow}
 
--- ---- where a side ends
+-- ---- the end of a side
 
 -- a text that is not empty ends with its last byte
 ends_with_last : (b : ℕ) (xs : List ℕ) → (front : List ℕ) × (b ∷ xs ≡ front ++ last_or b xs ∷ [])
@@ -76,7 +76,7 @@ splits_arrow text front back rest split left right =
       first = no_arrow front split.apart;
     }
 
--- what stands before the `<` of an arrow has no `-`
+-- the part before the `<` of an arrow has no `-`
 side_apart : (front side : List ℕ) → front ≡ side ++ 60 ∷ [] → list_any (λ b. eqb b 45) front ≡ false → list_any is_arrow (tokens side) ≡ false
 side_apart front side is apart =
     no_arrow side (or_parts (list_any (λ b. eqb b 45) side) (list_any (λ b. eqb b 45) (60 ∷ [])) (sym (list_any-append (λ b. eqb b 45) side (60 ∷ [])) ∙ ap (list_any (λ b. eqb b 45)) (sym is) ∙ apart)).0

@@ -11,13 +11,13 @@ use Rattle.std.proofs.lemmas.List.Folds.{list_all-append}
 use Rattle.crn_vec.specs.Network.{is_letter, is_name_byte, begins_name, IsName}
 use Rattle.crn_vec.specs.declared.limits.TheConstants.{MAX_AMOUNT}
 use Rattle.crn_text.specs.Tokens.{Token, token, tokens, tokens_after, first_token, is_digit, is_blank}
-use Rattle.crn_text.specs.Sides.{number_of}
+use Rattle.std.specs.Str.Parse.{digits_value}
 use Rattle.crn_text.specs.Canonical.{term, or_zero}
 use Rattle.crn_text.specs.Inner.Pieces.{Begins}
 use Rattle.crn_text.specs.declared.token.TokenKind.{TokenKind}
 use Rattle.crn_text.specs.declared.token.TokenKind.TheVariants.{Number, Name, Plus, Arrow}
 use Rattle.crn_text.proofs.Lists.{one_more}
-use Rattle.crn_text.proofs.Numbers.{number_push}
+use Rattle.crn_text.proofs.Numbers.{digit_is_value, value_push}
 use Rattle.crn_text.proofs.Tokens.{begins_number, begins_with_name, tokens_first}
 
 -- ---- a token and what stands behind it
@@ -81,19 +81,19 @@ tokens_arrow rest = refl
 pub record IsDecimal (n : ℕ) (ds : List ℕ) : Type 0 where
   pub digits : list_all is_digit ds ≡ true
   pub some : 0 < length ds
-  pub value : number_of ds ≡ n
+  pub value : digits_value 10 ds ≡ n
 
 digit_is : (n : ℕ) → n < 10 → is_digit (48 + n) ≡ true
 digit_is n lt = grind (arith, nat_tests)
 
 decimal_one : (n : ℕ) → n < 10 → IsDecimal n ((48 + n) ∷ [])
-decimal_one n lt = record { digits = rw (digit_is n lt) refl; some = omega arith; value = omega arith }
+decimal_one n lt = record { digits = rw (digit_is n lt) refl; some = omega arith; value = let d = digit_is_value (48 + n) (digit_is n lt) in omega (arith, d) }
 
 decimal_more : (n : ℕ) (ds : List ℕ) → 10 ≤ n → IsDecimal (n / 10) ds → IsDecimal n (ds ++ ((48 + n % 10) ∷ []))
 decimal_more n ds le h = record {
   digits = list_all-append is_digit ds ((48 + n % 10) ∷ []) ∙ rw (h.digits, digit_is (n % 10) (omega arith)) refl;
   some = omega (arith, h.some, length-append ds ((48 + n % 10) ∷ []));
-  value = number_push 0 ds (48 + n % 10) ∙ (let v = h.value in omega arith);
+  value = value_push 0 ds (48 + n % 10) ∙ (let v = h.value in let d = digit_is_value (48 + n % 10) (digit_is (n % 10) (omega arith)) in omega (arith, v, d));
 }
 
 pub decimal_is : (n : ℕ) → n ≤ MAX_AMOUNT → IsDecimal n (decimal n)

@@ -104,7 +104,7 @@ ends_sides : (net : Net) (rs : List (ℕ × ℕ)) → flat_map both_of (map (sid
 ends_sides net [] = refl
 ends_sides net (r ∷ rs) = ap (λ (t : List (List ℤ)). get_or net.complexes r.0 [] ∷ get_or net.complexes r.1 [] ∷ t) (ends_sides net rs)
 
--- numbers that come in order, below a count that they reach, are those from 0 on
+-- numbers that appear in order, below a count that they reach, are those from 0 on
 pub numbers_are : (count : ℕ) (es : List ℕ) → IsNumberedInOrder 0 es → ((c : ℕ) → c < count → IsIn c es) → ((y : ℕ) → IsIn y es → y < count) → firsts eqb es ≡ upto 0 count
 numbers_are count es h reached below = sym (all_above (firsts eqb es)) ∙ numbers_from 0 count es h (λ c lt le. reached c lt) below ∙ ap (upto 0) (let e : count - 0 ≡ count = omega arith in e)
 

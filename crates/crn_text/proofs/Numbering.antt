@@ -1,4 +1,4 @@
--- Numbers each of which stands behind the smaller ones.
+-- Numbers each of which is after the smaller ones.
 use Rattle.std.proofs.Common.{◌≡◌, ◌⊎◌, ℕ, zero, suc, ◌+◌, ◌<◌, ◌≤◌, List, [], ◌∷◌, ◌++◌, refl, subst, inl, inr, arith}
 use Rattle.std.specs.List.{flat_map}
 use Rattle.std.proofs.lemmas.Bool.{cases_lt}
@@ -6,7 +6,7 @@ use Rattle.crn_vec.specs.Lists.{IsIn}
 use Rattle.crn_vec.proofs.CallerLemmas.{IsNumberedInOrder, in_left, in_right, in_cases}
 use Rattle.crn_text.proofs.Complexes.{upto}
 
--- ---- each number behind the smaller ones
+-- ---- each number after the smaller ones
 
 -- before each number each smaller one has stood, or is known
 abbrev pub AreAfter : (ℕ → Type 0) → List ℕ → Type 0

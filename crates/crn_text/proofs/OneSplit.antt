@@ -150,7 +150,7 @@ stray_tokens b rest h =
     let name = or_parts (is_letter b) (is_digit b) blank.1 in
     tokens_first (b ∷ rest) Stray 1 blank.0 (begins_stray (b ∷ rest) (omega arith) name.1 name.0 (eqb-false b 43 plus.1) h.right (no_longer (b ∷ rest) h.left) h.left)
 
--- a token and what stands behind it
+-- a token and the text after it
 token_first : (kind : TokenKind) (text rest : List ℕ) → IsToken kind text rest → tokens (text ++ rest) ≡ token kind text ∷ tokens rest
 token_first Number text rest h = tokens_number text rest h.1 (let some = h.0 in omega arith) (stops_there is_digit rest h.2)
 token_first Name text rest h = tokens_name text rest h.0 (stops_there is_name_byte rest h.1)

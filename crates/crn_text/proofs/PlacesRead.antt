@@ -26,12 +26,12 @@ pub record IsKept (body : List ℕ) (t : Term) : Type 0 where
   pub term : IsTerm body t
   pub small : t.count ≤ MAX_AMOUNT
 
--- what is left of a side ends where the side does
+-- what is left of a side ends with the side
 abbrev pub StandsLeft : List ℕ → ℕ → Option (Bor (List ℕ)) → Type 0
 StandsLeft body end None = Unit {0}
 StandsLeft body end (Some rest) = StandsIn body rest.now end
 
--- one more than the bytes that are left, or 0 where no place is left
+-- one more than the number of bytes that are left, or 0 if no place is left
 abbrev pub size_left : Option (Bor (List ℕ)) → ℕ
 size_left None = 0
 size_left (Some rest) = length rest.now + 1
@@ -69,7 +69,7 @@ stands_left : (body : List ℕ) (end : ℕ) (rest : Bor (List ℕ)) (place : Lis
 stands_left body end rest place None h split = tt
 stands_left body end rest place (Some next) h split = stands_behind 43 body rest.now place next end h split
 
--- what is left behind a place, with the mark before it, is what was left without the place
+-- what is left after a place, with the mark before it, is what was left without the place
 left_size : (rest : Bor (List ℕ)) (place : List ℕ) (behind : Option (Bor (List ℕ))) → SplitsAt 43 rest.now place behind → length place + size_left behind ≡ length rest.now
 left_size rest place None split = omega (arith, split_size 43 rest.now place None split)
 left_size rest place (Some next) split = omega (arith, split_size 43 rest.now place (Some next) split)
@@ -84,7 +84,7 @@ at_rest {body} {side} {end} {terms} h is = subst (λ (o : Option (Bor (List ℕ)
 place_split : {body side : List ℕ} {end : ℕ} {terms : List Term} {rest : Bor (List ℕ)} {place : List ℕ} {behind : Option (Bor (List ℕ))} → (h : TermsUpTo body side end terms (Some rest)) → SplitsAt 43 rest.now place behind → places (tokens side) ≡ h.read ++ tokens place ∷ places_behind behind
 place_split {rest = rest} {place = place} {behind = behind} h split = h.split ∙ ap (λ (u : List (List Token)). h.read ++ u) (places_split rest.now place behind split)
 
--- the place that comes next ends there in the body
+-- the next place ends there in the body
 place_stands : {body side : List ℕ} {end : ℕ} {terms : List Term} {rest : Bor (List ℕ)} {place : List ℕ} {behind : Option (Bor (List ℕ))} → TermsUpTo body side end terms (Some rest) → SplitsAt 43 rest.now place behind → StandsIn body place (end - length rest.now + length place)
 place_stands {body} {end = end} {rest = rest} {place = place} {behind = behind} h split = stands_front 43 body rest.now place behind end h.stands split
 
@@ -150,7 +150,7 @@ sums_small {body} {side} {end} {terms} {left} h not_zero p name =
     let whole : terms_of (tokens side) ≡ side_of body terms ++ map term_of (places_behind left) = terms_are (tokens side) not_zero ∙ ap (map term_of) h.split ∙ map-append term_of h.read (places_behind left) ∙ ap (λ (u : List (List ℕ × ℕ)). u ++ map term_of (places_behind left)) (sym h.same) in
     omega (arith, amount_front (side_of body terms) (map term_of (places_behind left)) name, ap (λ (u : List (List ℕ × ℕ)). amount_in u name) whole, amounts_small (terms_of (tokens side)) p.small name)
 
--- a sum that passes the limit is a fault, however much of the side is left
+-- a sum that exceeds the limit is a fault, however much of the side is left
 pub fault_sums : {body side : List ℕ} {end : ℕ} {terms : List Term} {left : Option (Bor (List ℕ))} (fit : Bool) → TermsUpTo body side end terms left → is_zero (tokens side) ≡ false → (IsTrue fit ↔ ((name : List ℕ) → amount_in (side_of body terms) name ≤ MAX_AMOUNT)) → fit ≡ false → sides_fault (tokens side ∷ []) ≡ None → ⊥
 fault_sums {side = side} fit h not_zero fits not_fit fine = let yes = fits.1 (sums_small h not_zero (passes (tokens side) fine)) in cc (yes, not_fit)
 
@@ -180,7 +180,7 @@ all_read {body} {side} {end} {terms} h none not_zero stands short sums =
     let side_is : IsSide body terms = record { each = all_weaker (IsKept body) (IsTerm body) (λ t k. k.term) terms h.kept; amounts = sums; few = few_terms h stands short } in
     (no_fault (tokens side) (sound_passes (tokens side) not_zero all (subst IsSoundSide same sound)), side_is, same)
 
--- where no place is left, the sums decide
+-- if no place is left, the sums decide
 pub reads_all : {E : Type 0} {body side : List ℕ} {end : ℕ} {terms : List Term} {left : Option (Bor (List ℕ))} (now : List Term) (r : Result Bool E) → TermsUpTo body side end terms left → left ≡ None → is_zero (tokens side) ≡ false → StandsIn body side end → length body ≤ MAX_TEXT → now ≡ terms
     → IfOk r (λ fit. IsTrue fit ↔ ((name : List ℕ) → amount_in (side_of body now) name ≤ MAX_AMOUNT)) → ReadsSide body side terms r
 reads_all now (Err error) h none not_zero stands short is fits = tt

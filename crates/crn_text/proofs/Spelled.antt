@@ -31,7 +31,7 @@ flat_whole {A} {B} f (x ∷ xs) (suc i) d lt =
     ap (λ (t : List B). f x ++ t) (flat_whole f xs i d (omega arith)) ∙ sym (append_assoc (f x) (flat_map f (take i xs) ++ f (get_or xs i d)) (flat_map f (drop (suc i) xs)))
     ∙ ap (λ (t : List B). t ++ flat_map f (drop (suc i) xs)) (sym (append_assoc (f x) (flat_map f (take i xs)) (f (get_or xs i d))))
 
--- ---- the statements of a front of the text
+-- ---- the statements of a prefix of the text
 
 pub record Front (net : Net) (front rest : List Statement) : Type 0 where
   pub network : IsNetwork net
@@ -43,7 +43,7 @@ names_few net front rest h =
     let more : names_of (front ++ rest) ≡ firsts bytes_eq (flat_map names_in front ++ flat_map names_in rest) = ap (firsts bytes_eq) (flat_map-append names_in front rest) in
     omega (arith, h.network.partial.species_limit, ap length h.names, ap length more, firsts_length bytes_eq (flat_map names_in front) (flat_map names_in rest))
 
--- the statements of the front as amounts of all names
+-- the statements of the prefix as amounts of all names
 wide_statements : (net : Net) (front rest : List Statement) → Front net front rest → map (both_with_zeros (length net.names)) (map (said_by (names_of front)) front) ≡ map (said_by net.names) front
 wide_statements net front rest h =
     let P : List (List ℕ) = flat_map names_in front in

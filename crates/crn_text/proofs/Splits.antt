@@ -8,7 +8,7 @@ use Rattle.crn_text.specs.Tokens.{lines}
 use Rattle.crn_text.specs.Inner.Pieces.{SplitsAt, after_split}
 use Rattle.crn_text.proofs.Lists.{one_more, split_at, split_last}
 
--- how many bytes stand before the first such byte
+-- the number of bytes before the first such byte
 abbrev place_in : ℕ → List ℕ → ℕ
 place_in byte text = prefix_len (λ b. not (eqb b byte)) text
 
@@ -49,7 +49,7 @@ splits_some byte text front n b rest at is more =
 pub split_size : (byte : ℕ) (text front : List ℕ) (behind : Option (Bor (List ℕ))) → SplitsAt byte text front behind → length front + length (after_split byte behind) ≡ length text
 split_size byte text front behind split = sym (length-append front (after_split byte behind)) ∙ sym (ap length split.whole)
 
--- ---- what stands before the first such byte
+-- ---- the part before the first such byte
 
 front_of : (byte : ℕ) (front : List ℕ) (behind : Option (Bor (List ℕ))) → list_any (λ b. eqb b byte) front ≡ false → take_while (λ b. not (eqb b byte)) (front ++ after_split byte behind) ≡ front
 front_of byte [] None h = refl
@@ -63,7 +63,7 @@ split_front byte text front behind split = sym (front_of byte front behind split
 
 -- ---- the lines of a text
 
--- the lines behind a split
+-- the lines after a split
 abbrev pub lines_behind : Option (Bor (List ℕ)) → List (List ℕ)
 lines_behind None = []
 lines_behind (Some rest) = lines rest.now

@@ -7,7 +7,7 @@ use Rattle.std.proofs.lemmas.List.{length-take, take-append-drop}
 use Rattle.std.proofs.lemmas.List.Sums.{prefix_len-le-length}
 use Rattle.crn_vec.specs.Network.{is_letter, is_name_byte, begins_name}
 use Rattle.crn_text.specs.Tokens.{token, first_token, tokens_after, tokens, is_digit, is_blank}
-use Rattle.crn_text.specs.Sides.{is_name_kind}
+use Rattle.crn_text.specs.Sides.{is_name_kind, is_number_kind}
 use Rattle.crn_text.specs.Inner.Pieces.{Begins, BeginsWith}
 use Rattle.crn_text.specs.declared.token.TokenKind.{TokenKind}
 use Rattle.crn_text.proofs.Lists.{one_more}
@@ -43,7 +43,7 @@ begins_plus (b ∷ bs) lt d l e = record {
   inside = omega arith;
 }
 
--- what the tests of a first byte say where none of the first three kinds begins
+-- the tests of a first byte that begins none of the first three kinds
 pub begins_arrow : (rest : List ℕ) → 2 ≤ length rest → is_digit (get_or rest 0 0) ≡ false → is_letter (get_or rest 0 0) ≡ false → (get_or rest 0 0 ≡ 43 → ⊥) → starts_with nat_eq rest (codes "->") ≡ true → Begins rest Arrow 2
 unfolding first_token
 begins_arrow [] lt d l n s = absurd (omega arith)
@@ -142,6 +142,40 @@ begins_named (x ∷ bs) kind width b name =
       ]
     ]
 
+-- a token that begins with another byte than a digit is no number
+other_number : (x : ℕ) (bs : List ℕ) → is_digit x ≡ false → is_number_kind (first_token (x ∷ bs)).kind ≡ true → ⊥
+unfolding first_token
+other_number x bs d is =
+    elim (cases_Bool (is_letter x)) [
+      | inl l ↦ absurd (let e = rw (d, l) at is in cc)
+      | inr l ↦ elim (cases_Bool (eqb x 43)) [
+        | inl p ↦ absurd (let e = rw (d, l, p) at is in cc)
+        | inr p ↦ elim (cases_Bool (starts_with nat_eq (x ∷ bs) (codes "->"))) [
+          | inl s ↦ absurd (let e = rw (d, l, p, s) at is in cc)
+          | inr s ↦ elim (cases_Bool (starts_with nat_eq (x ∷ bs) (codes "<->"))) [
+            | inl t ↦ absurd (let e = rw (d, l, p, s, t) at is in cc)
+            | inr t ↦ elim (cases_Bool (starts_with nat_eq (x ∷ bs) (codes "<-"))) [
+              | inl u ↦ absurd (let e = rw (d, l, p, s, t, u) at is in cc)
+              | inr u ↦ absurd (let e = rw (d, l, p, s, t, u) at is in cc)
+            ]
+          ]
+        ]
+      ]
+    ]
+
+-- a token of the kind of numbers is digits
+pub begins_digits : (rest : List ℕ) (kind : TokenKind) (width : ℕ) → Begins rest kind width → is_number_kind kind ≡ true → list_all is_digit (take width rest) ≡ true
+unfolding first_token
+begins_digits [] kind width b number = absurd (let i = b.inside in let s = b.some in omega arith)
+begins_digits (x ∷ bs) kind width b number =
+    let is : is_number_kind (first_token (x ∷ bs)).kind ≡ true = ap is_number_kind b.same ∙ number in
+    elim (cases_Bool (is_digit x)) [
+      | inl d ↦
+          let first : (first_token (x ∷ bs)).text ≡ take (prefix_len is_digit (x ∷ bs)) (x ∷ bs) = rw d refl in
+          ap (list_all is_digit) (sym (sym first ∙ b.text)) ∙ all_prefix is_digit (x ∷ bs)
+      | inr d ↦ absurd (other_number x bs d is)
+    ]
+
 -- ---- the first token of a text
 
 tokens_skip : (text : List ℕ) → tokens text ≡ tokens (drop (prefix_len is_blank text) text)
@@ -180,4 +214,5 @@ takes_token text n kind width bytes rest is begins front back =
       whole = rw (front, back) (sym (ap (λ (t : List ℕ). take n text ++ t) (take-append-drop width (drop n text)) ∙ take-append-drop n text));
       some = rw (front, len) begins.some;
       named = λ name. rw front (begins_named (drop n text) kind width begins name);
+      digits = λ number. rw front (begins_digits (drop n text) kind width begins number);
     }

@@ -10,13 +10,13 @@ abbrev pub joined : List ℕ → List (List ℕ) → List ℕ
 joined between [] = []
 joined between (x ∷ xs) = x ++ flat_map (λ y. between ++ y) xs
 
--- a species with its amount, where it is 2 or more
+-- a species, with its amount before it if that is 2 or more
 abbrev pub term : ℤ → List ℕ → List ℕ
 term (pos (suc zero)) name = name
 term (pos n) name = decimal n ++ name
 term (negsuc n) name = name
 
--- one where there is some of it
+-- such a term, if there is some of the species
 abbrev pub term_if_some : ℤ → List ℕ → List (List ℕ)
 term_if_some (pos zero) name = []
 term_if_some (pos (suc n)) name = term (pos (suc n)) name ∷ []
@@ -28,7 +28,7 @@ terms (name ∷ names) (a ∷ amounts) = term_if_some a name ++ terms names amou
 terms [] amounts = []
 terms (name ∷ names) [] = []
 
--- the terms joined, or a zero where there is none
+-- the terms joined, or a zero if there are none
 abbrev pub or_zero : List (List ℕ) → List ℕ
 or_zero [] = codes "0"
 or_zero (t ∷ ts) = joined (codes " + ") (t ∷ ts)

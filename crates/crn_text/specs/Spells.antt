@@ -1,4 +1,4 @@
--- The network that a text spells, and the first fault of a text that spells none.
+-- The network that a text spells, and the first fault of a text that does not spell one.
 use Rattle.std.specs.Prelude.{◌≡◌, ◌≤◌, ◌<◌, ◌⊎◌, ◌+◌, ℕ, Option, Some, None, Result, Ok, Err, List, [], length, map, take, slice_index_or}
 use Rattle.std.specs.List.{AllByRecursion}
 use Rattle.crn_vec.specs.Lists.{firsts}
@@ -17,14 +17,15 @@ pub record Spells (text : List ℕ) (net : Net) : Type 0 where
   pub short : length text ≤ MAX_TEXT
   pub sound : AllByRecursion (λ line. own_fault line ≡ None) (lines text)
   pub names : net.names ≡ names_of (all_statements (lines text))
-  pub reactions : map (sides_of net) net.reactions ≡ firsts sides_eq (map (said_by net.names) (all_statements (lines text)))
+  pub reactions : map (sides_of net) net.reactions
+      ≡ firsts sides_eq (map (said_by net.names) (all_statements (lines text)))
   pub network : IsNetwork net
 
--- the first test that a line fails behind so many others
+-- the first test that line k, counted from 0, fails after the lines before it
 abbrev pub fault_on : List (List ℕ) → ℕ → Option TextCode
 fault_on ls k = line_fault (all_statements (take k ls)) (slice_index_or ls k [])
 
--- none of the first so many lines has a fault
+-- no line among the first `count` has a fault
 abbrev pub AreFaultless : List (List ℕ) → ℕ → Type 0
 AreFaultless ls count = (k : ℕ) → k < count → fault_on ls k ≡ None
 
@@ -43,7 +44,7 @@ pub record IsFirstFault (text : List ℕ) (line : ℕ) (code : TextCode) : Type 
   pub earlier : AreFaultless (lines text) before
   pub fault : fault_on (lines text) before ≡ Some code
 
--- no line has a fault, and none has a statement
+-- no line has a fault, and no line has a statement
 pub record IsWithoutReaction (text : List ℕ) (line : ℕ) (code : TextCode) : Type 0 where
   pub named : code ≡ NoReaction
   pub whole : line ≡ 0
@@ -53,13 +54,15 @@ pub record IsWithoutReaction (text : List ℕ) (line : ℕ) (code : TextCode) : 
 
 -- the first fault of the text
 abbrev pub Fault : List ℕ → ℕ → TextCode → Type 0
-Fault text line code = IsTooLong text line code ⊎ IsFirstFault text line code ⊎ IsWithoutReaction text line code
+Fault text line code =
+    IsTooLong text line code ⊎ IsFirstFault text line code ⊎ IsWithoutReaction text line code
 
--- the network that the text spells, or its first fault; want of memory may come at any point
+-- the network that the text spells, or its first fault; memory may run out at any point
 abbrev pub TextGives : List ℕ → Result Net TextFault → Type 0
 TextGives text (Ok net) = Spells text net
 TextGives text (Err fault) = (fault.code ≡ NoMemory) ⊎ Fault text fault.line fault.code
 
 -- each text spells a network or has a first fault
 abbrev pub EachTextIsJudged : Type 0
-EachTextIsJudged = (text : List ℕ) → ((net : Net) × Spells text net) ⊎ ((line : ℕ) × (code : TextCode) × Fault text line code)
+EachTextIsJudged = (text : List ℕ) →
+    ((net : Net) × Spells text net) ⊎ ((line : ℕ) × (code : TextCode) × Fault text line code)

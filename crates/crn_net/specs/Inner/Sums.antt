@@ -1,5 +1,5 @@
 -- For the contracts of private functions alone.
--- What contracts see of the sums of names, over terms that are put in order by their names.
+-- Sums of names over terms that are sorted by their names.
 use Rattle.std.specs.Prelude.{◌++◌, ℕ, ℤ, pos, negsuc, ◌+ℤ◌, ◌*ℤ◌, if◌then◌else◌, List, map, take, drop}
 use Rattle.std.specs.List.{fold}
 use Rattle.std.specs.List.Sorted.{IsSortedBy}
@@ -9,11 +9,11 @@ use Rattle.std.specs.Cmp.Lexicographic.{slice_cmp}
 use Rattle.crn_net.specs.declared.sides.Share.{Share}
 use Rattle.crn_net.specs.declared.term.Term.{Term}
 
--- what a term adds to the sum of its name: its number with a sign
+-- the share of a term in the sum of its name: its number with a sign
 abbrev pub share_of : ℤ → Term → Share
 share_of sign t = record { at = t.at; length = t.length; count = sign *ℤ pos t.count }
 
--- the shares of the terms of both sides: those of the right side take off
+-- the shares of the terms of both sides; those of the right side are negative
 abbrev pub shares_of : List Term → List Term → List Share
 shares_of left right = map (share_of (pos 1)) left ++ map (share_of (negsuc 0)) right
 
@@ -21,10 +21,12 @@ shares_of left right = map (share_of (pos 1)) left ++ map (share_of (negsuc 0)) 
 abbrev pub name_in : List ℕ → Share → List ℕ
 name_in text s = take s.length (drop s.at text)
 
--- what the shares of a name add up to
+-- the sum of the shares of a name
 abbrev pub sum_in : List ℕ → List Share → List ℕ → ℤ
-sum_in text shares name = fold (λ a s. a +ℤ (if bytes_eq (name_in text s) name then s.count else pos 0)) (pos 0) shares
+sum_in text shares name =
+    fold (λ a s. a +ℤ (if bytes_eq (name_in text s) name then s.count else pos 0)) (pos 0) shares
 
--- no name comes before that of an earlier share
+-- the shares are sorted by their names
 abbrev pub AreByName : List ℕ → List Share → Type 0
-AreByName text shares = IsSortedBy (λ a b. is_lt (slice_cmp nat_cmp (name_in text a) (name_in text b))) shares
+AreByName text shares =
+    IsSortedBy (λ a b. is_lt (slice_cmp nat_cmp (name_in text a) (name_in text b))) shares

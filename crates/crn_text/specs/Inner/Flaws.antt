@@ -12,23 +12,31 @@ use Rattle.crn_text.specs.declared.first_fault.Flaw.TheVariants.{NoToken, NoTerm
 use Rattle.crn_text.specs.declared.fault.TextCode.{TextCode}
 use Rattle.crn_text.specs.declared.fault.TextCode.TheVariants.{EmptySide, BadName, NameTooLong, ZeroCoefficient, CoefficientTooLarge}
 
--- the flaw of the first of these tests that says yes
+-- the flaw of the first of these tests that is true
 abbrev pub first_flaw : Bool → Bool → Bool → Bool → Flaw
-first_flaw no_token no_term long zero = if no_token then NoToken else (if no_term then NoTerm else (if long then LongName else (if zero then ZeroNumber else Other)))
+first_flaw no_token no_term long zero =
+    if no_token then NoToken else (
+    if no_term then NoTerm else (
+    if long then LongName else (
+    if zero then ZeroNumber else Other)))
 
 -- the first flaw of a place for a term
 abbrev pub place_flaw : List Token → Flaw
-place_flaw ws = first_flaw (is_empty ws) (not (is_term ws)) (nat_lt MAX_NAME (length (term_of ws).0)) ((term_of ws).1 == 0)
+place_flaw ws =
+    first_flaw (is_empty ws) (not (is_term ws)) (nat_lt MAX_NAME (length (term_of ws).0)) ((term_of ws).1 == 0)
 
 -- the first flaw of a side
 abbrev pub side_flaw : List Token → Flaw
-side_flaw ws = first_flaw (has_empty_place ws) (not (is_side ws)) (has_long_name (terms_of ws)) (has_zero (terms_of ws))
+side_flaw ws =
+    first_flaw (has_empty_place ws) (not (is_side ws)) (has_long_name (terms_of ws)) (has_zero (terms_of ws))
 
 -- the first flaw of sides
 abbrev pub sides_flaw : List (List Token) → Flaw
-sides_flaw ss = first_flaw (list_any has_empty_place ss) (list_any (λ s. not (is_side s)) ss) (list_any has_long_name (map terms_of ss)) (list_any has_zero (map terms_of ss))
+sides_flaw ss =
+    first_flaw (list_any has_empty_place ss) (list_any (λ s. not (is_side s)) ss)
+    (list_any has_long_name (map terms_of ss)) (list_any has_zero (map terms_of ss))
 
--- the code of a line's fault, where this is the first flaw of its sides
+-- the code of a line's fault, if this is the first flaw of its sides
 abbrev pub flaw_code : Flaw → TextCode
 flaw_code NoToken = EmptySide
 flaw_code NoTerm = BadName

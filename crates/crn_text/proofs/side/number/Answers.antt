@@ -1,12 +1,15 @@
 use Rattle.std.proofs.Common.{◌<◌, ◌-◌, length, take, get_or, arith}
-use Rattle.crn_text.specs.Sides.{number_of}
-use Rattle.crn_text.proofs.Numbers.{number_more, capped_more}
+use Rattle.std.specs.Str.Parse.{digits_value}
+use Rattle.std.proofs.lemmas.Int.Digits.{digits_value_more}
+use Rattle.crn_text.proofs.Numbers.{value_at, capped_more}
 use Rattle.crn_text.proofs.side.number.Goals as goal
 
 pub loop-digit-preserved : goal.loop-digit-preserved
 loop-digit-preserved c =
+    let ds = c.args.digits.now in
     let i = c.loop-digit.digit-index in
     let lt : c.loop-digit.digit-index < length c.args.digits.now = omega arith in
-    let more = number_more c.args.digits.now i lt in
-    let step = capped_more c.loop-digit.number (number_of (take i c.args.digits.now)) (get_or c.args.digits.now i 0 - 48) c.loop-digit.invariant in
-    omega (arith, more, step, c.min-number.ensures, c.from.ensures, c.saturating_sub.ensures)
+    let more = digits_value_more 10 ds i lt in
+    let digit = value_at ds i c.requires lt in
+    let step = capped_more c.loop-digit.number (digits_value 10 (take i ds)) (get_or ds i 0 - 48) c.loop-digit.invariant in
+    omega (arith, more, digit, step, c.min-number.ensures, c.from.ensures, c.saturating_sub.ensures)

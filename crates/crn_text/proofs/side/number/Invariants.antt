@@ -1,8 +1,8 @@
 use Rattle.std.proofs.Common.{◌≡◌, take}
 use Rattle.std.specs.Prelude.{min}
-use Rattle.crn_text.specs.Sides.{number_of}
+use Rattle.std.specs.Str.Parse.{digits_value}
 use Rattle.crn_text.specs.declared.side.TheConstants.{LARGE}
 use Rattle.crn_text.proofs.side.number.Given as goal
 
 abbrev pub invariant-loop-digit : goal.invariant-loop-digit
-invariant-loop-digit l = l.number ≡ min (number_of (take l.digit-index l.digits)) LARGE
+invariant-loop-digit l = l.number ≡ min (digits_value 10 (take l.digit-index l.digits)) LARGE
