@@ -79,11 +79,13 @@ def claims(root):
     by_group = {"ARCHITECTURE": architecture, "README": readme}
     rules = {
         "definitions": structure.definitions_are_on_the_pages(repository, pages),
+        "public definitions": structure.public_definitions_are_on_the_pages(repository, pages),
         "helpers": structure.helpers_are_in_their_files(repository, pages),
         "reading path": structure.lines_are_counted(repository, pages[0]),
         "doors": structure.doors_are_kept(repository),
         "negation": structure.negation_is_said_in_one_way(repository),
         "clauses": structure.clauses_are_short(repository),
+        "files": structure.files_have_their_form(repository),
         "solver": structure.checkers_stand_on_no_solver(repository),
         "groups": structure.groups_agree(repository, by_group),
         "crates below": structure.crates_below_agree(repository, architecture),

@@ -86,6 +86,7 @@ use Rattle.std.specs.Prelude.{◌≡◌, ℕ}
 abbrev pub IsStep : ℕ → ℕ → Type 0
 IsStep n m = m ≡ n
 """,
+    "crates/crn_low/proofs/Lib.antt": "pub mod CallerLemmas\nmod Steps\n",
     "crates/crn_low/proofs/CallerLemmas.antt": "-- For callers.\npub same : ℕ\nsame = 0\n",
     "crates/crn_low/proofs/Steps.antt": "-- Steps.\npub step : ℕ\nstep = 0\n",
     "crates/crn_tab/src/lib.rt": "//! A solver.\n",
@@ -161,6 +162,12 @@ BREAKS = [
     ("what a view shows has no row", "docs/definitions/kept.md", "`crn_low/specs/Kept.antt`: `KeptCounter`", "", "definitions"),
     ("what a trait cites has no row", "crates/crn_low/src/count.rt", "result ≡ count self.now", "IsStep self.now result", "definitions"),
     ("a public contract cites an inner definition", "crates/crn_low/src/count.rt", "IsCount n result", "IsStep n result", "definitions"),
+    ("a definition that nothing cites is neither inner nor has a row", "crates/crn_low/specs/Kept.antt", "-- a counter", "-- two\nabbrev pub two : ℕ\ntwo = 2\n\n-- a counter", "public definitions"),
+    ("a definition has no sentence", "crates/crn_low/specs/Count.antt", "-- the next number\n", "", "files"),
+    ("an inner file does not say so", "crates/crn_low/specs/Inner/Steps.antt", "-- For the contracts of private functions alone.\n", "", "files"),
+    ("an exported item has no doc comment", "crates/crn_low/src/count.rt", "/// The greatest count.\n", "", "files"),
+    ("the root file has an item", "crates/crn_low/src/lib.rt", "mod count;", "mod count;\n\npub fn none() {}", "files"),
+    ("a proof is open to other crates", "crates/crn_low/proofs/Lib.antt", "mod Steps", "pub mod Steps", "files"),
     ("a helper is not in the files of its row", "docs/DEFINITIONS.md", "with: `next`", "with: `next`, `last`", "helpers"),
     ("the lines of definitions are miscounted", "docs/DEFINITIONS.md", "| 4 |", "| 3 |", "reading path"),
     ("a proof cites another crate's lemma past its door", "crates/crn_tab/proofs/Uses.antt", "CallerLemmas.{same}", "Steps.{step}", "doors"),

@@ -3,9 +3,10 @@ long the lines of a clause are, and which crates may stand on which."""
 
 import re
 
-from sources import Definition, clause_lines
+from sources import NAME, Definition, clause_lines
 
 LONGEST_CLAUSE_LINE = 100
+INNER = "-- For the contracts of private functions alone."
 CITED = re.compile(r"\bRattle\.(\w+)\.(specs|proofs)\.([\w.]+)")
 
 # Whatever group `crates.txt` puts them in, these may never stand on those.
@@ -55,6 +56,17 @@ def definitions_are_on_the_pages(repository, pages):
     for definition, cause in sorted(repository.reached_from(repository.cited_by_contracts()).items()):
         yield f"{definition} has a row in a definitions page (cited by {cause})", definition in named
         yield f"{definition} is no inner definition (cited by {cause})", not definition.is_inner
+
+
+def public_definitions_are_on_the_pages(repository, pages):
+    """So has each other definition that other crates may cite."""
+    named = named_on(pages, repository)
+    for crate in repository.crates.needs:
+        for file in repository.files(crate, "specs", ".antt"):
+            for name in repository.definitions(file):
+                definition = Definition(file, name)
+                if not definition.is_inner:
+                    yield f"{definition} has a row, or is an inner definition", definition in named
 
 
 def helpers_are_in_their_files(repository, pages):
@@ -111,6 +123,45 @@ def clauses_are_short(repository):
             for number, line in clause_lines(repository.text(file)):
                 length = len(line)
                 yield f"{file}:{number}: a clause line has {length} columns", length <= LONGEST_CLAUSE_LINE
+
+
+def files_have_their_form(repository):
+    """The files that every crate has look alike, and definitions and exported items say what they are."""
+    for crate in repository.crates.needs:
+        lib = repository.plain(f"{crate}/src/lib.rt")
+        yield f"{crate}/src/lib.rt has mods and uses alone", not re.search(r"\b(?:fn|struct|enum|trait|impl|type|const)\b|\{\s*use", lib)
+        doors = re.findall(r"^pub mod (\w+)", repository.text(f"{crate}/proofs/Lib.antt"), re.MULTILINE)
+        yield f"{crate}/proofs/Lib.antt opens CallerLemmas alone, not {', '.join(doors)}", set(doors) <= {"CallerLemmas"}
+        for file in repository.files(crate, "specs", ".antt"):
+            if "/specs/Inner/" in file:
+                yield f"{file} says at its head whom it is for", repository.text(file).startswith(INNER)
+            for name in without_sentence(repository.text(file)):
+                yield f"{name} in {file} has a sentence above it", False
+        for name, item in repository.public_items(crate).items():
+            if item.crate == crate:
+                yield f"{name} in {item.file} has a doc comment", is_documented(repository.text(item.file), item.name)
+
+
+def without_sentence(text):
+    """The definitions of a file of specs/ that have no comment right above them."""
+    above = ""
+    for line in text.splitlines():
+        head = re.match(rf"(?:abbrev|unfoldable) (?:pub )?({NAME})|(?:pub )?(?:record|data) ({NAME})", line)
+        if head and head.group(1) != "mutual" and (not above.startswith("--") or above.startswith("-- ----")):
+            yield head.group(1) or head.group(2)
+        above = line
+
+
+def is_documented(text, name):
+    """Whether the item of this name has a doc comment above it and its attributes."""
+    lines = text.splitlines()
+    for place, line in enumerate(lines):
+        if re.match(rf"\s*pub (?:fn|const|struct|enum|trait|type) {name}\b", line):
+            above = place - 1
+            while above > 0 and re.match(r"\s*#\[.*\]$", lines[above]):
+                above -= 1
+            return above >= 0 and lines[above].strip().startswith("///")
+    return False
 
 
 def checkers_stand_on_no_solver(repository):
