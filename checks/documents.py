@@ -43,8 +43,8 @@ def document_claims(repository, document, text, reports):
         for name in structure.QUOTED.findall(names) if repository.exists(path) else []:
             yield f"{name} in {path}", is_defined(repository, path, name)
     for shown in SHOWN.findall(text):
-        first = shown.splitlines()[0]
-        yield f"the definition that begins {first!r}", any(shown in file.read_text() for file in root.glob("crates/*/specs/**/*.antt"))
+        texts = (file.read_text() for file in repository.root.glob("crates/*/specs/**/*.antt"))
+        yield f"the definition that begins {shown.splitlines()[0]!r}", any(shown in text for text in texts)
     for report in REPORT.findall(text):
         yield f"the report that begins {report[13:40]!r}", report in reports
     for citation in CITATION.findall(text):
@@ -74,7 +74,7 @@ def claims(root):
         for claim, holds in document_claims(repository, document, document.read_text(), reports):
             yield str(document.relative_to(root)), claim, holds
 
-    pages = [path.read_text() for path in [root / "docs/DEFINITIONS.md", *sorted(root.glob("docs/definitions/*.md"))]]
+    pages = [path.read_text() for path in [root / "docs/DEFINITIONS.md", *root.glob("docs/definitions/*.md")]]
     architecture = (root / "docs/ARCHITECTURE.md").read_text()
     by_group = {"ARCHITECTURE": architecture, "README": readme}
     rules = {

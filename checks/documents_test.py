@@ -7,6 +7,16 @@ from pathlib import Path
 
 import documents
 
+SOURCE = "crates/crn_low/src/count.rt"
+PAGE = "docs/DEFINITIONS.md"
+SPECS = "crates/crn_low/specs/Count.antt"
+KEPT = "docs/definitions/kept.md"
+USES = "crates/crn_tab/proofs/Uses.antt"
+VIEW = "crates/crn_low/specs/Kept.antt"
+MAP = "docs/ARCHITECTURE.md"
+README = "README.md"
+INNER = "crates/crn_low/specs/Inner/Steps.antt"
+
 FILES = {
     "crates.txt": """\
 # ground: numbers
@@ -18,7 +28,7 @@ crn_part_check: crn_cert crn_low
 crn_tab: crn_low itoa
 """,
     "crates/crn_low/src/lib.rt": "//! Counts.\n\nmod count;\n\npub use count::{Counter, HasCount, MOST, count_of};\n",
-    "crates/crn_low/src/count.rt": """\
+    SOURCE: """\
 ghost use Rattle.std.specs.Prelude.{◌≡◌, ℕ};
 ghost use Rattle.crn_low.specs.Count.{IsCount};
 ghost use Rattle.crn_low.specs.Inner.Steps.{IsStep};
@@ -63,7 +73,7 @@ fn step(n: u32) -> u32
 }
 """,
     "crates/crn_low/specs/Lib.antt": "pub mod Count\npub mod Kept\npub mod Inner\n",
-    "crates/crn_low/specs/Count.antt": """\
+    SPECS: """\
 -- Counts.
 use Rattle.std.specs.Prelude.{◌≡◌, ℕ, suc}
 use Rattle.crn_low.specs.declared.count.TheConstants.{MOST}
@@ -76,9 +86,9 @@ next n = suc n
 abbrev pub IsCount : ℕ → ℕ → Type 0
 IsCount n count = (count ≡ next n) × (count ≡ MOST)
 """,
-    "crates/crn_low/specs/Kept.antt": "-- What contracts see.\n\n-- a counter\npub record KeptCounter : Type 0 where\n  pub n : ℕ\n",
+    VIEW: "-- What contracts see.\n\n-- a counter\npub record KeptCounter : Type 0 where\n  pub n : ℕ\n",
     "crates/crn_low/specs/Inner.antt": "pub mod Steps\n",
-    "crates/crn_low/specs/Inner/Steps.antt": """\
+    INNER: """\
 -- For the contracts of private functions alone.
 use Rattle.std.specs.Prelude.{◌≡◌, ℕ}
 
@@ -90,10 +100,10 @@ IsStep n m = m ≡ n
     "crates/crn_low/proofs/CallerLemmas.antt": "-- For callers.\npub same : ℕ\nsame = 0\n",
     "crates/crn_low/proofs/Steps.antt": "-- Steps.\npub step : ℕ\nstep = 0\n",
     "crates/crn_tab/src/lib.rt": "//! A solver.\n",
-    "crates/crn_tab/proofs/Uses.antt": "-- Uses.\nuse Rattle.crn_low.proofs.CallerLemmas.{same}\n",
+    USES: "-- Uses.\nuse Rattle.crn_low.proofs.CallerLemmas.{same}\n",
     "crates/crn_cert/src/lib.rt": "//! Answers.\n",
     "crates/crn_part_check/src/lib.rt": "//! A checker.\n",
-    "README.md": """\
+    README: """\
 | group | crates |
 |---|---|
 | ground | `crn_low` |
@@ -111,7 +121,7 @@ crn report 1
 open: 0
 ```
 """,
-    "docs/ARCHITECTURE.md": """\
+    MAP: """\
 | group | crate | what it does |
 |---|---|---|
 | ground | `crn_low` | counts, `crn_low/src/count.rt` |
@@ -126,14 +136,14 @@ open: 0
 | `crn_part_check` | `crn_cert`, `crn_low` | |
 | `crn_tab` | `crn_low` | `itoa` |
 """,
-    "docs/DEFINITIONS.md": """\
+    PAGE: """\
 | line | definitions | lines of definitions |
 |---|---|---:|
 | `open` | `crn_low/specs/Count.antt`: `IsCount` | 4 |
 
 **Count.** The number after it. `crn_low/specs/Count.antt`: `IsCount`, with: `next`. Limit `crn_low/src/count.rt`: `MOST`.
 """,
-    "docs/definitions/kept.md": """\
+    KEPT: """\
 **Counter.** Its number. `crn_low/specs/Kept.antt`: `KeptCounter`.
 
 ```antt
@@ -147,40 +157,55 @@ pub record KeptCounter : Type 0 where
 
 # what is broken; the file; the text there; the text in its place; the rule or document that says so
 BREAKS = [
-    ("a link leads nowhere", "README.md", "docs/DEFINITIONS.md", "docs/DEFINITION.md", "README.md"),
-    ("a contract is not in its crate", "README.md", "`count_of`", "`counts`", "README.md"),
-    ("a file is not there", "docs/definitions/kept.md", "Kept.antt", "Keep.antt", "docs/definitions/kept.md"),
-    ("a name is not in its file", "docs/DEFINITIONS.md", "Count.antt`: `IsCount`, with", "Count.antt`: `IsCounted`, with", "docs/DEFINITIONS.md"),
-    ("a definition is shown that is not there", "docs/definitions/kept.md", "pub n : ℕ", "pub n : ℤ", "docs/definitions/kept.md"),
-    ("a file in a table is not there", "docs/ARCHITECTURE.md", "crn_low/src/count.rt", "crn_low/src/counts.rt", "docs/ARCHITECTURE.md"),
-    ("a definition says no by the other sign", "crates/crn_low/specs/Count.antt", "count ≡ MOST", "¬ count ≡ MOST", "negation"),
-    ("a report is not a stored one", "README.md", "open: 0", "open: 1", "README.md"),
-    ("a text outside is cited", "README.md", "[definitions]", "By T2.1 the [definitions]", "README.md"),
-    ("a cited definition has no row", "docs/DEFINITIONS.md", "`crn_low/specs/Count.antt`: `IsCount`, with: `next`.", "", "definitions"),
-    ("a definition below a cited one has no row", "docs/DEFINITIONS.md", ", with: `next`", "", "definitions"),
-    ("a constant has no row", "docs/DEFINITIONS.md", "`crn_low/src/count.rt`: `MOST`", "", "definitions"),
-    ("what a view shows has no row", "docs/definitions/kept.md", "`crn_low/specs/Kept.antt`: `KeptCounter`", "", "definitions"),
-    ("what a trait cites has no row", "crates/crn_low/src/count.rt", "result ≡ count self.now", "IsStep self.now result", "definitions"),
-    ("a public contract cites an inner definition", "crates/crn_low/src/count.rt", "IsCount n result", "IsStep n result", "definitions"),
-    ("a definition that nothing cites is neither inner nor has a row", "crates/crn_low/specs/Kept.antt", "-- a counter", "-- two\nabbrev pub two : ℕ\ntwo = 2\n\n-- a counter", "public definitions"),
-    ("a definition has no sentence", "crates/crn_low/specs/Count.antt", "-- the next number\n", "", "files"),
-    ("an inner file does not say so", "crates/crn_low/specs/Inner/Steps.antt", "-- For the contracts of private functions alone.\n", "", "files"),
-    ("an exported item has no doc comment", "crates/crn_low/src/count.rt", "/// The greatest count.\n", "", "files"),
-    ("the root file has an item", "crates/crn_low/src/lib.rt", "mod count;", "mod count;\n\npub fn none() {}", "files"),
-    ("a proof is open to other crates", "crates/crn_low/proofs/Lib.antt", "mod Steps", "pub mod Steps", "files"),
-    ("a helper is not in the files of its row", "docs/DEFINITIONS.md", "with: `next`", "with: `next`, `last`", "helpers"),
-    ("the lines of definitions are miscounted", "docs/DEFINITIONS.md", "| 4 |", "| 3 |", "reading path"),
-    ("a proof cites another crate's lemma past its door", "crates/crn_tab/proofs/Uses.antt", "CallerLemmas.{same}", "Steps.{step}", "doors"),
-    ("a crate cites another's inner definition", "crates/crn_tab/proofs/Uses.antt", "proofs.CallerLemmas.{same}", "specs.Inner.Steps.{IsStep}", "doors"),
-    ("a clause line is too long", "crates/crn_low/src/count.rt", "ensures next {", f"ensures next {{{' ' * 100}", "clauses"),
-    ("a line within a clause is too long", "crates/crn_low/src/count.rt", "ensures next { ", f"ensures next {{\n{' ' * 100}", "clauses"),
-    ("a ghost member is too long", "crates/crn_low/src/count.rt", "{ Self → ℕ }", f"{{ Self →{' ' * 100}ℕ }}", "clauses"),
-    ("a checker stands on a solver", "crates.txt", "crn_cert: crn_low", "crn_cert: crn_low crn_tab", "solver"),
-    ("a part's checker stands on one by way of another", "crates.txt", "crn_low:\n", "crn_low: crn_tab\n", "solver"),
-    ("a solver hides in another group", "crates.txt", "# solver: solvers\n", "crn_cert: crn_tab\n# ground: more\n", "solver"),
-    ("README has a crate in another group", "README.md", "| solver | `crn_tab`", "| ground | `crn_tab`", "groups"),
-    ("ARCHITECTURE has another order", "docs/ARCHITECTURE.md", "| certificate | `crn_cert` | answers |\n", "", "groups"),
-    ("ARCHITECTURE leaves a crate below out", "docs/ARCHITECTURE.md", "| `crn_low` | `itoa` |", "| `crn_low` | |", "crates below"),
+    ("a link leads nowhere", README, PAGE, "docs/DEFINITION.md", README),
+    ("a contract is not in its crate", README, "`count_of`", "`counts`", README),
+    ("a file is not there", KEPT, "Kept.antt", "Keep.antt", KEPT),
+    ("a name is not in its file", PAGE,
+     "Count.antt`: `IsCount`, with", "Count.antt`: `IsCounted`, with", PAGE),
+    ("a definition is shown that is not there", KEPT, "pub n : ℕ", "pub n : ℤ", KEPT),
+    ("a file in a table is not there", MAP, "crn_low/src/count.rt", "crn_low/src/counts.rt", MAP),
+    ("a definition says no by the other sign", SPECS, "count ≡ MOST", "¬ count ≡ MOST", "negation"),
+    ("a report is not a stored one", README, "open: 0", "open: 1", README),
+    ("a text outside is cited", README, "[definitions]", "By T2.1 the [definitions]", README),
+    ("a cited definition has no row", PAGE,
+     "`crn_low/specs/Count.antt`: `IsCount`, with: `next`.", "", "definitions"),
+    ("a definition below a cited one has no row", PAGE, ", with: `next`", "", "definitions"),
+    ("a constant has no row", PAGE, "`crn_low/src/count.rt`: `MOST`", "", "definitions"),
+    ("what a view shows has no row", KEPT, "`crn_low/specs/Kept.antt`: `KeptCounter`", "", "definitions"),
+    ("what a trait cites has no row", SOURCE,
+     "result ≡ count self.now", "IsStep self.now result", "definitions"),
+    ("a public contract cites an inner definition", SOURCE,
+     "IsCount n result", "IsStep n result", "definitions"),
+    ("a definition that nothing cites is neither inner nor has a row", VIEW,
+     "-- a counter", "-- two\nabbrev pub two : ℕ\ntwo = 2\n\n-- a counter", "public definitions"),
+    ("a definition has no sentence", SPECS, "-- the next number\n", "", "files"),
+    ("an inner file does not say so", INNER,
+     "-- For the contracts of private functions alone.\n", "", "files"),
+    ("an exported item has no doc comment", SOURCE, "/// The greatest count.\n", "", "files"),
+    ("the root file has an item", "crates/crn_low/src/lib.rt",
+     "mod count;", "mod count;\n\npub fn none() {}", "files"),
+    ("a proof is open to other crates", "crates/crn_low/proofs/Lib.antt",
+     "mod Steps", "pub mod Steps", "files"),
+    ("a helper is not in the files of its row", PAGE, "with: `next`", "with: `next`, `last`", "helpers"),
+    ("the lines of definitions are miscounted", PAGE, "| 4 |", "| 3 |", "reading path"),
+    ("a proof cites another crate's lemma past its door", USES,
+     "CallerLemmas.{same}", "Steps.{step}", "doors"),
+    ("a crate cites another's inner definition", USES,
+     "proofs.CallerLemmas.{same}", "specs.Inner.Steps.{IsStep}", "doors"),
+    ("a clause line is too long", SOURCE, "ensures next {", f"ensures next {{{' ' * 100}", "clauses"),
+    ("a line within a clause is too long", SOURCE,
+     "ensures next { ", f"ensures next {{\n{' ' * 100}", "clauses"),
+    ("a ghost member is too long", SOURCE, "{ Self → ℕ }", f"{{ Self →{' ' * 100}ℕ }}", "clauses"),
+    ("a checker stands on a solver", "crates.txt",
+     "crn_cert: crn_low", "crn_cert: crn_low crn_tab", "solver"),
+    ("a part's checker stands on one by way of another", "crates.txt",
+     "crn_low:\n", "crn_low: crn_tab\n", "solver"),
+    ("a solver hides in another group", "crates.txt",
+     "# solver: solvers\n", "crn_cert: crn_tab\n# ground: more\n", "solver"),
+    ("README has a crate in another group", README, "| solver | `crn_tab`", "| ground | `crn_tab`", "groups"),
+    ("ARCHITECTURE has another order", MAP, "| certificate | `crn_cert` | answers |\n", "", "groups"),
+    ("ARCHITECTURE leaves a crate below out", MAP,
+     "| `crn_low` | `itoa` |", "| `crn_low` | |", "crates below"),
 ]
 
 
@@ -196,7 +221,7 @@ def failures(files):
 
 def main():
     passed, failed = 0, 0
-    cases = [("nothing is broken", "README.md", "", "", None)] + BREAKS
+    cases = [("nothing is broken", README, "", "", None)] + BREAKS
     for name, file, old, new, rule in cases:
         changed = FILES[file].replace(old, new) if old else FILES[file]
         found = failures({**FILES, file: changed})

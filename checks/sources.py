@@ -10,7 +10,7 @@ NAME = r"[\w']+(?:-[\w']+)*"
 HEAD = re.compile(rf"(?:abbrev|unfoldable) (?:pub )?({NAME})|(?:pub )?(?:record|data) ({NAME})|(?:pub )?({NAME}) :")
 HEAD_INSIDE = re.compile(rf"  (?:pub )?()()({NAME}) :")
 IMPORT = re.compile(r"\b(pub )?use (Rattle\.[\w.]+?)(?:\.\{([^}]*)\}|(?=[\s;]))")
-RUST_IMPORT = re.compile(r"^\s*(pub )?use ((?:crate|crn_\w+|self|super|\w+)(?:::\w+)*)(?:::\{([^}]*)\})?;", re.MULTILINE)
+RUST_IMPORT = re.compile(r"^\s*(pub )?use (\w+(?:::\w+)*)(?:::\{([^}]*)\})?;", re.MULTILINE)
 ITEM_HEAD = re.compile(r"^(pub(?:\([\w ]+\))? )?(?:fn|const|struct|enum|trait|type) (\w+)", re.MULTILINE)
 DECLARED = re.compile(r"^ *(pub(?:\([\w ]+\))? )?(?:const|struct|enum|trait|type) (\w+)", re.MULTILINE)
 GROUP = re.compile(r"# (\w+)(?:: .*)?$")
@@ -99,8 +99,8 @@ def names_used(text):
     text = re.sub(rf"(?:(?<=[{{;])|^)\s*(?:pub\s+)?{NAME}\s*=(?!=)", " ", text, flags=re.MULTILINE)
     text = re.sub(rf"^\s+pub\s+{NAME}\s*:", " ", text, flags=re.MULTILINE)
     for match in re.finditer(NAME, text):
-        follows_dot = match.start() > 1 and text[match.start() - 1] == "." and re.match(r"[\w')]", text[match.start() - 2])
-        if not follows_dot or text[match.start()].isupper():
+        is_field = re.search(r"[\w')]\.$", text[max(0, match.start() - 2) : match.start()])
+        if not is_field or match.group()[0].isupper():
             yield match.group()
 
 

@@ -46,7 +46,8 @@ def named_on(pages, repository):
                 found.update(Definition(file, name) for name in QUOTED.findall(names))
             for names in HELPERS.findall(row):
                 for name in QUOTED.findall(names):
-                    found.update(Definition(file, name) for file in files if repository.is_there(Definition(file, name)))
+                    helpers = [Definition(file, name) for file in files]
+                    found.update(helper for helper in helpers if repository.is_there(helper))
     return found
 
 
@@ -128,10 +129,11 @@ def clauses_are_short(repository):
 def files_have_their_form(repository):
     """The files that every crate has look alike, and definitions and exported items say what they are."""
     for crate in repository.crates.needs:
-        lib = repository.plain(f"{crate}/src/lib.rt")
-        yield f"{crate}/src/lib.rt has mods and uses alone", not re.search(r"\b(?:fn|struct|enum|trait|impl|type|const)\b|\{\s*use", lib)
-        doors = re.findall(r"^pub mod (\w+)", repository.text(f"{crate}/proofs/Lib.antt"), re.MULTILINE)
-        yield f"{crate}/proofs/Lib.antt opens CallerLemmas alone, not {', '.join(doors)}", set(doors) <= {"CallerLemmas"}
+        has_items = re.search(r"\b(?:fn|struct|enum|trait|impl|type|const)\b", repository.plain(f"{crate}/src/lib.rt"))
+        yield f"{crate}/src/lib.rt has mods and uses alone", not has_items
+        open_modules = set(re.findall(r"^pub mod (\w+)", repository.text(f"{crate}/proofs/Lib.antt"), re.MULTILINE))
+        others = ", ".join(sorted(open_modules - {"CallerLemmas"}))
+        yield f"{crate}/proofs/Lib.antt opens no module but CallerLemmas ({others})", not others
         for file in repository.files(crate, "specs", ".antt"):
             if "/specs/Inner/" in file:
                 yield f"{file} says at its head whom it is for", repository.text(file).startswith(INNER)
@@ -202,4 +204,5 @@ def crates_below_agree(repository, document):
         if len(cells) == 3 and re.fullmatch(r"`(?:crnt|crn_\w+)`", cells[0]):
             found[cells[0].strip("`")] = sorted(re.findall(r"`(\w+)`", cells[1] + cells[2]))
     for crate, needs in repository.crates.needs.items():
-        yield f"ARCHITECTURE says that {crate} stands on {', '.join(needs) or 'nothing'}", found.get(crate) == sorted(needs)
+        claim = f"ARCHITECTURE says that {crate} stands on {', '.join(needs) or 'nothing'}"
+        yield claim, found.get(crate) == sorted(needs)
