@@ -81,6 +81,7 @@ def claims(root):
         "definitions": structure.definitions_are_on_the_pages(repository, pages),
         "public definitions": structure.public_definitions_are_on_the_pages(repository, pages),
         "helpers": structure.helpers_are_in_their_files(repository, pages),
+        "citations": structure.citations_are_true(repository, pages),
         "reading path": structure.lines_are_counted(repository, pages[0]),
         "doors": structure.doors_are_kept(repository),
         "negation": structure.negation_is_said_in_one_way(repository),

@@ -142,6 +142,7 @@ open: 0
 | `open` | `crn_low/specs/Count.antt`: `IsCount` | 4 |
 
 **Count.** The number after it. `crn_low/specs/Count.antt`: `IsCount`, with: `next`. Limit `crn_low/src/count.rt`: `MOST`.
+Cited by `crn_low/src/count.rt`: `count_of`.
 """,
     KEPT: """\
 **Counter.** Its number. `crn_low/specs/Kept.antt`: `KeptCounter`.
@@ -187,6 +188,7 @@ BREAKS = [
     ("a proof is open to other crates", "crates/crn_low/proofs/Lib.antt",
      "mod Steps", "pub mod Steps", "files"),
     ("a helper is not in the files of its row", PAGE, "with: `next`", "with: `next`, `last`", "helpers"),
+    ("a row says that it is cited where it is not", KEPT, "`KeptCounter`.\n", "`KeptCounter`. Cited by `count_of`.\n", "citations"),
     ("the lines of definitions are miscounted", PAGE, "| 4 |", "| 3 |", "reading path"),
     ("a proof cites another crate's lemma past its door", USES,
      "CallerLemmas.{same}", "Steps.{step}", "doors"),

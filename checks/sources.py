@@ -13,6 +13,7 @@ IMPORT = re.compile(r"\b(pub )?use (Rattle\.[\w.]+?)(?:\.\{([^}]*)\}|(?=[\s;]))"
 RUST_IMPORT = re.compile(r"^\s*(pub )?use (\w+(?:::\w+)*)(?:::\{([^}]*)\})?;", re.MULTILINE)
 ITEM_HEAD = re.compile(r"^(pub(?:\([\w ]+\))? )?(?:fn|const|struct|enum|trait|type) (\w+)", re.MULTILINE)
 DECLARED = re.compile(r"^ *(pub(?:\([\w ]+\))? )?(?:const|struct|enum|trait|type) (\w+)", re.MULTILINE)
+BRACE = re.compile(r"[{}]")
 GROUP = re.compile(r"# (\w+)(?:: .*)?$")
 
 
@@ -84,13 +85,10 @@ def plain_antt(text):
 def end_of_block(text, start):
     """The place after the brace that closes the one at `start`."""
     depth = 0
-    for place in range(start, len(text)):
-        if text[place] == "{":
-            depth += 1
-        elif text[place] == "}":
-            depth -= 1
-            if depth == 0:
-                return place + 1
+    for brace in BRACE.finditer(text, start):
+        depth += 1 if brace.group() == "{" else -1
+        if depth == 0:
+            return brace.end()
     return len(text)
 
 
@@ -285,14 +283,20 @@ class Repository:
         led, todo = dict(starts), list(starts)
         while todo:
             at = todo.pop()
-            if not at.file.endswith(".antt"):
-                continue
-            for name in names_used(self.definitions(at.file)[at.name]):
-                target = self.resolved(at.file, name)
-                if target and target not in led:
+            for target in self.cited_in(at):
+                if target not in led:
                     led[target] = f"{at.name} in {at.file}"
                     todo.append(target)
         return led
+
+    @cache
+    def cited_in(self, definition):
+        """The definitions that a definition of specs/ cites itself."""
+        if not definition.file.endswith(".antt"):
+            return []
+        names = dict.fromkeys(names_used(self.definitions(definition.file)[definition.name]))
+        targets = (self.resolved(definition.file, name) for name in names)
+        return [target for target in targets if target]
 
     # public contracts
 
@@ -304,15 +308,38 @@ class Repository:
             types = {target.name for target in public.values()}
             yield from clauses_of(file, self.plain(file), exported, types)
 
+    @cache
+    def public_citations(self):
+        """What each public contract cites: the file, the item, and the definition."""
+        found = []
+        for crate in self.crates.needs:
+            for file, item, clause in self.public_clauses(crate):
+                targets = (self.resolved(file, name) for name in names_used(clause))
+                found += [(file, item, target) for target in targets if target]
+        return found
+
     def cited_by_contracts(self):
         """The definitions that public contracts cite, each with one place that does."""
+        return {target: f"{file}: {item}" for file, item, target in reversed(self.public_citations())}
+
+    def contracts(self):
+        """The items with public contracts, as `FUNCTION`, `TYPE::FUNCTION` or `TYPE, MEMBER`, and what they cite."""
+        found = {}
+        for _, item, target in self.public_citations():
+            found.setdefault(item, set()).add(target)
+        return found
+
+    def files_with(self, name):
+        """The files of specs/ that have a definition of this name."""
+        return self.files_by_name().get(name, [])
+
+    @cache
+    def files_by_name(self):
         found = {}
         for crate in self.crates.needs:
-            for file, place, clause in self.public_clauses(crate):
-                for name in names_used(clause):
-                    target = self.resolved(file, name)
-                    if target:
-                        found.setdefault(target, f"{file}: {place}")
+            for file in self.files(crate, "specs", ".antt"):
+                for name in self.definitions(file):
+                    found.setdefault(name, []).append(file)
         return found
 
 
@@ -368,28 +395,25 @@ def members(file, owner, text, all_public):
                 yield file, f"{owner}::{function.group(2)}", clause
 
 
+HEADER_MARK = re.compile(r"(?P<clause>\b(?:requires|ensures)\b(?:\s+\w+)?\s*\{)|[()\[\]{};]")
+
+
 def header(text, place):
     """The clauses of a function whose name ends at `place`, and the place after its body."""
     clauses, depth = [], 0
-    while place < len(text):
-        clause = re.compile(r"(?:requires|ensures|invariant|decreases)(?:\s+\w+)?\s*\{").match(text, place)
-        if clause and not re.match(r"\w", text[place - 1]):
-            end = end_of_block(text, clause.end() - 1)
-            clauses.append(text[clause.end() : end - 1])
+    while mark := HEADER_MARK.search(text, place):
+        place = mark.end()
+        if mark.group("clause"):
+            end = end_of_block(text, place - 1)
+            clauses.append(text[place : end - 1])
             place = end
-        elif text[place] in "([":
+        elif mark.group() in "([":
             depth += 1
-            place += 1
-        elif text[place] in ")]":
+        elif mark.group() in ")]":
             depth -= 1
-            place += 1
-        elif text[place] == "{" and depth == 0:
-            return clauses, end_of_block(text, place)
-        elif text[place] == ";" and depth == 0:
-            return clauses, place + 1
-        else:
-            place += 1
-    return clauses, place
+        elif depth == 0:
+            return clauses, end_of_block(text, place - 1) if mark.group() == "{" else place
+    return clauses, len(text)
 
 
 def clause_lines(text):

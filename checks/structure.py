@@ -81,6 +81,20 @@ def helpers_are_in_their_files(repository, pages):
                     yield f"the helper {name} stands in a file of its row ({row[:40]!r})", there
 
 
+def citations_are_true(repository, pages):
+    """What a row says it is cited by reaches one of the definitions of the row."""
+    contracts = repository.contracts()
+    for row in (row for page in pages for row in rows(page)):
+        cited_by = re.search(r"Cited by (.*?)(?:\. [A-Z`]|$)", row, re.DOTALL)
+        for name in dict.fromkeys(QUOTED.findall(PLACE.sub(r"\2", cited_by.group(1)))) if cited_by else []:
+            starts = {Definition(file, name) for file in repository.files_with(name)}
+            for item, definitions in contracts.items():
+                if item == name or item.startswith(f"{name}::") or item.startswith(f"{name},"):
+                    starts |= definitions
+            reached = set(repository.reached_from(dict.fromkeys(starts)))
+            yield f"{name} cites a definition of the row {row[:40]!r}", bool(reached & named_on([row], repository))
+
+
 def lines_are_counted(repository, page):
     """Each row of the table that begins the page says how many lines its definitions have, with all that they reach."""
     for line in page.splitlines():
