@@ -12,6 +12,7 @@ from pathlib import Path
 
 import structure
 from sources import Repository
+from tally import Tally
 
 ROOT = Path(__file__).resolve().parent.parent
 
@@ -99,15 +100,10 @@ def claims(root):
 def main():
     """`documents.py [ROOT]`, where ROOT is the top of the repository that is read: this one, if none is given."""
     root = Path(sys.argv[1]).resolve() if len(sys.argv) > 1 else ROOT
-    passed, failed = 0, 0
+    tally = Tally("documents")
     for place, claim, holds in claims(root):
-        if holds:
-            passed += 1
-        else:
-            failed += 1
-            print(f"FAILED {place}: {claim}")
-    print(f"documents: {passed} passed, {failed} failed")
-    return 1 if failed else 0
+        tally.count(f"{place}: {claim}", holds)
+    return tally.end()
 
 
 if __name__ == "__main__":

@@ -6,6 +6,7 @@ import tempfile
 from pathlib import Path
 
 import documents
+from tally import Tally
 
 SOURCE = "crates/crn_low/src/count.rt"
 PAGE = "docs/DEFINITIONS.md"
@@ -222,18 +223,13 @@ def failures(files):
 
 
 def main():
-    passed, failed = 0, 0
-    cases = [("nothing is broken", README, "", "", None)] + BREAKS
-    for name, file, old, new, rule in cases:
-        changed = FILES[file].replace(old, new) if old else FILES[file]
+    tally = Tally("documents, broken")
+    tally.count("nothing is broken", not failures(FILES), failures(FILES))
+    for name, file, old, new, rule in BREAKS:
+        changed = FILES[file].replace(old, new)
         found = failures({**FILES, file: changed})
-        if (changed != FILES[file] or rule is None) and (rule in found if rule else not found):
-            passed += 1
-        else:
-            failed += 1
-            print(f"FAILED {name}: {sorted(found)}")
-    print(f"documents, broken: {passed} passed, {failed} failed")
-    return 1 if failed else 0
+        tally.count(name, changed != FILES[file] and rule in found, sorted(found))
+    return tally.end()
 
 
 if __name__ == "__main__":
