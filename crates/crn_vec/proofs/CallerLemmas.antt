@@ -43,3 +43,41 @@ pub use Rattle.crn_vec.proofs.Cuts.{kinds_at, dual_one, cuts_exclude_solutions, 
 pub use Rattle.crn_vec.proofs.Appearance.{IsNumberedInOrder, appears_in_order, in_order_appears}
 -- The ends of the reactions of a network.
 pub use Rattle.crn_vec.proofs.Ends.{ends_below}
+-- Walks of any kind and their classes: joined, reversed, extended by a step, and kept by what each step keeps.
+pub use Rattle.crn_vec.proofs.WalkLaws.{leads_here, leads_step, leads_then, leads_back, leads_keeps, linked_back}
+pub use Rattle.crn_vec.proofs.WalkLaws.{class_link, class_then, class_back, reaches_step, reaches_then}
+pub use Rattle.crn_vec.proofs.WalkLaws.{strong_here, strong_then, strong_back, strong_class, terminal_on}
+pub use Rattle.crn_vec.proofs.WalkLaws.{weakly_reversible_by_reactions}
+-- Reactions and complexes by their places, and terminal classes by their reactions.
+pub use Rattle.crn_vec.proofs.Reached.{inside_at, place_of, reaction_in, marks_for, reached_marks, terminal_marks}
+pub use Rattle.crn_vec.proofs.Reached.{terminal_by_reactions}
+-- Marks of sides, and cut pairs.
+pub use Rattle.crn_vec.proofs.SideLaws.{is_between, marking_is_cut, marks_are_sides}
+-- Unit vectors, and what walks gain of a vector over the complexes.
+pub use Rattle.crn_vec.proofs.Flows.{unit, dot_unit, gain, flow, flow_sum, gain_kept, gain_raised, none_gained}
+-- Sums over the complexes with a property, and over the complexes of a label.
+pub use Rattle.crn_vec.proofs.SumLaws.{sum_by, sums_for, sums_one, sum_scaled, dot_ratio}
+pub use Rattle.crn_vec.proofs.LabelMarks.{label_sum, label_sum_is}
+-- Columns and vectors of a network.
+pub use Rattle.crn_vec.proofs.Carried.{entry-column, length-column, vector_long, gain_made}
+-- The deficiency is one number, and so is the confluence vector of a regular network up to multiples.
+pub use Rattle.crn_vec.proofs.Numbers.{deficiency_is_one}
+pub use Rattle.crn_vec.proofs.Confluences.{confluence_vectors_are_one, negative_sum}
+-- Mirrors of prefixes.
+pub use Rattle.crn_vec.proofs.Mirrors.{opposite-opposite, length-mirror, mirror-append, mirror-zero, mirror_stands}
+-- Visit lists, their lengths, and the budgets that they exceed.
+pub use Rattle.crn_vec.proofs.VisitLaws.{are_one, longer_by, passes_by, passes_at, passes_first, passes_then}
+pub use Rattle.crn_vec.proofs.VisitLaws.{visits_then, visits_ended}
+pub use Rattle.crn_vec.proofs.VisitsReached.{are_reached}
+pub use Rattle.crn_vec.proofs.Few.{visits_few, passes_few}
+-- The sign problems of the influence tables of a network.
+pub use Rattle.crn_vec.proofs.NetTables.{networks_have_tables, length-minus}
+pub use Rattle.crn_vec.proofs.TableLawful.{tables_are_lawful, tables_are_steady}
+pub use Rattle.crn_vec.proofs.Discordance.{tables_stand}
+-- The sign problem of the signals of a network, and the shape that it uses.
+pub use Rattle.crn_vec.proofs.NetSignalLaws.{top_inside, some_is, shapes_are_one, multiples_share_signals, signals_stand}
+pub use Rattle.crn_vec.proofs.BothOrders.{signals_are_of_shape}
+pub use Rattle.crn_vec.proofs.OppositeShapes.{negatives_have_opposite_shapes}
+pub use Rattle.crn_vec.proofs.FewPairs.{networks_are_lawful}
+pub use Rattle.crn_vec.proofs.SignalLawful.{signals_are_lawful, signals_are_steady}
+pub use Rattle.crn_vec.proofs.Shelves.{shelves_stand}

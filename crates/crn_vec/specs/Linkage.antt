@@ -1,9 +1,12 @@
--- Linkage classes of a network: complexes joined by walks along links, and the right labels of complexes.
--- Source: Feinberg, Foundations of Chemical Reaction Network Theory (2019). The numbering of labels is
--- this project's own.
--- Shapes: reactions are pairs (reactant, product) of complexes, which count from 0; labels count from 1.
-use Rattle.std.specs.Prelude.{◌≡◌, ◌≤◌, ◌<◌, ◌⊎◌, ℕ, List, [], ◌∷◌, length, slice_index}
+-- Linkage classes of a network: complexes joined by walks along links, and the right labels of
+-- complexes.
+-- Source: Feinberg, Foundations of Chemical Reaction Network Theory (2019). The numbering of labels
+-- is this project's own.
+-- Shapes: reactions are pairs (reactant, product) of complexes, which count from 0; labels count
+-- from 1.
+use Rattle.std.specs.Prelude.{◌≡◌, ◌≤◌, ◌<◌, ◌⊎◌, ℕ, List, length, slice_index}
 use Rattle.crn_vec.specs.Lists.{IsIn}
+use Rattle.crn_vec.specs.Walks.{IsAlong, LeadsTo, AreLabelsOf}
 
 -- a reaction goes from one to the other, in either direction
 abbrev pub IsLinked : List (ℕ × ℕ) → ℕ → ℕ → Type 0
@@ -11,20 +14,16 @@ IsLinked reactions y z = IsIn (y, z) reactions ⊎ IsIn (z, y) reactions
 
 -- a walk from y over these steps ends at z
 abbrev pub IsWalk : List (ℕ × ℕ) → ℕ → List ℕ → ℕ → Type 0
-IsWalk reactions y [] z = y ≡ z
-IsWalk reactions y (x ∷ xs) z = IsLinked reactions y x × IsWalk reactions x xs z
+IsWalk reactions y steps z = IsAlong (IsLinked reactions) y steps z
 
 -- some walk along links leads from y to z
 abbrev pub SameClass : List (ℕ × ℕ) → ℕ → ℕ → Type 0
-SameClass reactions y z = (steps : List ℕ) × IsWalk reactions y steps z
+SameClass reactions y z = LeadsTo (IsLinked reactions) y z
 
--- labels are equal if and only if the complexes are in one class, and count from 1 by first appearance
-pub record AreRightLabels (reactions : List (ℕ × ℕ)) (labels : List ℕ) : Type 0 where
-  pub same : (y z : ℕ) → y < length labels → z < length labels → slice_index labels y ≡ slice_index labels z → SameClass reactions y z
-  pub together : (y z : ℕ) → y < length labels → z < length labels → SameClass reactions y z → slice_index labels y ≡ slice_index labels z
-  pub positive : (y : ℕ) → y < length labels → 1 ≤ slice_index labels y
-  -- each smaller label stands at an earlier complex
-  pub numbered : (y k : ℕ) → y < length labels → 1 ≤ k → k < slice_index labels y → (x : ℕ) × (x < y) × (slice_index labels x ≡ k)
+-- labels are equal if and only if the complexes are in one class, and count from 1 by first
+-- appearance
+abbrev pub AreRightLabels : List (ℕ × ℕ) → List ℕ → Type 0
+AreRightLabels reactions labels = AreLabelsOf (SameClass reactions) labels
 
 -- the labels are 1 to count, each of them
 pub record IsLabelCount (labels : List ℕ) (count : ℕ) : Type 0 where

@@ -1,8 +1,8 @@
 -- Reaction networks, and the reactions that a statement says.
--- Source: Feinberg, Foundations of Chemical Reaction Network Theory (2019). The limits and the numbering are
--- this project's own.
--- Shapes: species, complexes and reactions count from 0. A complex is the list of its amounts, one for each
--- species.
+-- Source: Feinberg, Foundations of Chemical Reaction Network Theory (2019). The limits and the
+-- numbering are this project's own.
+-- Shapes: species, complexes and reactions count from 0. A complex is the list of its amounts, one
+-- for each species.
 use Rattle.std.specs.Prelude.{◌≡◌, ◌≤◌, ◌<◌, ◌==◌, ◌&&◌, ◌||◌, nat_le, ℕ, ℤ, pos, ◌≤ℤ◌, ◌-ℤ◌, Bool, false, IsTrue, if◌then◌else◌, List, [], ◌∷◌, ◌++◌, length, map, slice_index, slice_index_or}
 use Rattle.std.specs.List.{AllByRecursion, list_all, sum_by}
 use Rattle.std.specs.Str.{bytes_eq}
@@ -11,6 +11,7 @@ use Rattle.std.specs.Cmp.Lexicographic.{pointwise}
 use Rattle.crn_vec.specs.Lists.{IsIn, AreDistinct}
 use Rattle.crn_vec.specs.declared.limits.TheConstants.{MAX_SPECIES, MAX_COMPLEXES, MAX_REACTIONS, MAX_AMOUNT, MAX_NAME}
 
+-- a network: the names of its species, its complexes and its reactions
 pub record Net : Type 0 where
   -- the names of the species
   pub names : List (List ℕ)

@@ -1,8 +1,8 @@
 -- Combinations of vectors, independence, dependence and rank.
--- Source: any book of linear algebra. Numbers are whole, so a vector depends on others if a positive multiple
--- of it is a combination of them.
--- Shapes: `vs` is a list of vectors, `column vs k` the list of their entries at place k. There are as many
--- coefficients as vectors.
+-- Source: any book of linear algebra. Numbers are whole, so a vector depends on others if a
+-- positive multiple of it is a combination of them.
+-- Shapes: `vs` is a list of vectors, `column vs k` the list of their entries at place k. There are
+-- as many coefficients as vectors.
 use Rattle.std.specs.Prelude.{◌≡◌, ◌<◌, ℕ, suc, ℤ, pos, ◌≤ℤ◌, ◌*ℤ◌, List, [], length, map, slice_index_or}
 use Rattle.crn_vec.specs.Lists.{IsIn, IsAscending}
 use Rattle.crn_vec.specs.Vectors.{entry, dot, column}

@@ -16,7 +16,17 @@ mod vectors;
 pub use fault::NoMemory;
 pub use ints::Ints;
 pub use kinds::{counts, is_asked, may_take, may_weigh, opposite, product, rules_out, sign_asked};
-pub use laws::{base_gives_rank, cuts_exclude_solutions, rank_is_one_number, weights_tell_cuts};
+pub use laws::{
+    base_gives_rank, budgets_that_are_never_spent, confluence_vectors_are_one,
+    cuts_exclude_solutions, deficiency_is_one_number, level_is_zero, longer_visits,
+    marks_are_sides, multiples_share_signals, negatives_have_opposite_shapes, networks_are_lawful,
+    networks_have_tables, no_problem_lacks_visits, rank_is_one_number, shapes_are_one,
+    signals_are_of_shape, signals_are_steady, signals_meet_the_laws_of_sign_problems,
+    signals_of_networks_stand, signals_stand_where_they_are,
+    tables_are_discordant_where_a_prefix_stands, tables_are_steady,
+    tables_meet_the_laws_of_sign_problems, terminal_classes_are_by_reactions, visits_are_one_list,
+    visits_are_reached, weak_reversibility_is_by_reactions, weights_tell_cuts,
+};
 pub use limits::{
     DEFAULT_BUDGET, MAX_AMOUNT, MAX_BUDGET, MAX_BUDGET_DIGITS, MAX_COMPLEXES, MAX_COORDINATES,
     MAX_NAME, MAX_REACTIONS, MAX_SIGNED, MAX_SPECIES, MAX_TERMS, MAX_TEXT, WIDE_ENTRY,

@@ -44,6 +44,30 @@ fn laws_stand() {
     rank_is_one_number();
     cuts_exclude_solutions();
     weights_tell_cuts();
+    weak_reversibility_is_by_reactions();
+    terminal_classes_are_by_reactions();
+    marks_are_sides();
+    deficiency_is_one_number();
+    confluence_vectors_are_one();
+    visits_are_one_list();
+    no_problem_lacks_visits();
+    visits_are_reached();
+    longer_visits();
+    budgets_that_are_never_spent();
+    tables_meet_the_laws_of_sign_problems();
+    tables_are_steady();
+    tables_are_discordant_where_a_prefix_stands();
+    networks_have_tables();
+    signals_meet_the_laws_of_sign_problems();
+    signals_are_steady();
+    level_is_zero();
+    signals_stand_where_they_are();
+    shapes_are_one();
+    negatives_have_opposite_shapes();
+    multiples_share_signals();
+    signals_are_of_shape();
+    signals_of_networks_stand();
+    networks_are_lawful();
 }
 
 #[test]
