@@ -1,21 +1,11 @@
-use Rattle.std.proofs.Common.{◌&&◌, ◌==◌, arith, inl, inr, refl, sym, ◌∙◌}
-use Rattle.std.proofs.lemmas.List.{length_push}
-use Rattle.crn_vec.proofs.CallerLemmas.{any_true, any_false, reaction_decides}
+use Rattle.std.proofs.Common.{ℕ, inl, refl, subst}
+use Rattle.crn_vec.specs.Lists.{IsIn}
+use Rattle.crn_net.proofs.Lists.{at_in}
 use Rattle.crn_net.proofs.tables.note_reaction.Goals as goal
 
-pub returns-then-has_reaction : goal.returns-then-has_reaction
-returns-then-has_reaction c =
-    let e = rw c.deref.ensures.value at c.has_reaction.ensures in
-    (inl (any_true (λ known. (known.0 == c.args.reaction.0) && (known.1 == c.args.reaction.1)) c.args.reaction (λ known. reaction_decides c.args.reaction known) c.args.reactions.now.items (sym e ∙ c.if-has_reaction.true), refl), c.requires.few)
-
-pub returns-then-len-ge-MAX_REACTIONS : goal.returns-then-len-ge-MAX_REACTIONS
-returns-then-len-ge-MAX_REACTIONS c =
-    let e = rw c.deref.ensures.value at c.has_reaction.ensures in
-    (refl, any_false (λ known. (known.0 == c.args.reaction.0) && (known.1 == c.args.reaction.1)) c.args.reaction (λ known. reaction_decides c.args.reaction known) c.args.reactions.now.items (sym e ∙ c.if-has_reaction.false), omega arith)
-
-pub returns : goal.returns
-returns c =
-    let e = rw c.deref.ensures.value at c.has_reaction.ensures in
-    let is = c.in_ok-push.ensures.items in
-    let long = length_push c.args.reactions.now.items c.args.reaction in
-    rw is (inr (any_false (λ known. (known.0 == c.args.reaction.0) && (known.1 == c.args.reaction.1)) c.args.reaction (λ known. reaction_decides c.args.reaction known) c.args.reactions.now.items (sym e ∙ c.if-has_reaction.false), refl), omega arith)
+pub returns-then-is_reaction_at : goal.returns-then-is_reaction_at
+returns-then-is_reaction_at c =
+    let reactions = c.args.reactions.now.items in
+    let hit = c.is_reaction_at.ensures c.if-is_reaction_at.true in
+    let at = rw c.deref.ensures.value at hit in
+    (inl (subst (λ (r : ℕ × ℕ). IsIn r reactions) at.1 (at_in reactions c.place.result c.args.reaction at.0), refl), c.requires.few)

@@ -1,0 +1,54 @@
+ghost use Rattle.std.specs.Prelude.{◌<◌, ◌^◌};
+
+// How many guesses there are. Of 60 names few share one.
+const SIZE: usize = 1024;
+
+// Guesses where the entries of a table stand, each under a mark of the entry. Entries may share a mark, so a guess
+// may be wrong: whoever asks looks whether the entry stands there, and in the table itself where it does not.
+#[derive(Drop)]
+pub struct Guesses {
+    places: [u8; SIZE],
+}
+
+// Where the guess for a mark stands. Near marks are spread over all places.
+fn slot(mark: usize) -> usize
+    ensures { result < SIZE }
+{
+    (mark.wrapping_mul(0x9e37_79b9_7f4a_7c15) >> 48) % SIZE
+}
+
+impl Guesses {
+    pub fn new() -> Guesses {
+        Guesses {
+            places: [0; SIZE],
+        }
+    }
+
+    pub fn place(&self, mark: usize) -> usize {
+        self.places[slot(mark)] as usize
+    }
+
+    pub fn put(&mut self, mark: usize, place: usize)
+        requires { place < 2 ^ 8 }
+    {
+        self.places[slot(mark)] = place as u8;
+    }
+}
+
+// The guesses of a builder's tables.
+#[derive(Drop)]
+pub struct TableGuesses {
+    pub names: Guesses,
+    pub rows: Guesses,
+    pub reactions: Guesses,
+}
+
+impl TableGuesses {
+    pub fn new() -> TableGuesses {
+        TableGuesses {
+            names: Guesses::new(),
+            rows: Guesses::new(),
+            reactions: Guesses::new(),
+        }
+    }
+}
