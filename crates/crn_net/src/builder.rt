@@ -3,6 +3,7 @@ ghost use Rattle.crn_net.specs.Terms.{statement_of, IsSide};
 ghost use Rattle.crn_net.specs.Grows.{no_net, AddGives, FinishGives};
 
 use crate::fault::NetFault;
+use crate::guesses::TableGuesses;
 use crate::name::Names;
 use crate::network::Network;
 use crate::row::Complexes;
@@ -19,6 +20,7 @@ pub struct NetBuilder {
     names: Names,
     rows: Complexes,
     reactions: Vec<(usize, usize)>,
+    guesses: TableGuesses,
 }
 
 impl Model for NetBuilder {
@@ -45,6 +47,7 @@ impl NetBuilder {
             names: IndexSet::with_capacity(alloc, MAX_SPECIES + 1)?,
             rows: IndexSet::with_capacity(alloc, MAX_COMPLEXES)?,
             reactions: Vec::with_capacity(alloc, MAX_REACTIONS)?,
+            guesses: TableGuesses::new(),
         })
     }
 
@@ -63,6 +66,7 @@ impl NetBuilder {
             &mut self.names,
             &mut self.rows,
             &mut self.reactions,
+            &mut self.guesses,
             text,
             left,
             right,

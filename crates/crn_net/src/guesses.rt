@@ -6,7 +6,7 @@ const SIZE: usize = 1024;
 // Guesses where the entries of a table stand, each under a mark of the entry. Entries may share a mark, so a guess
 // may be wrong: whoever asks looks whether the entry stands there, and in the table itself where it does not.
 #[derive(Drop)]
-pub struct Guesses {
+pub(crate) struct Guesses {
     places: [u8; SIZE],
 }
 
@@ -18,17 +18,15 @@ fn slot(mark: usize) -> usize
 }
 
 impl Guesses {
-    pub fn new() -> Guesses {
-        Guesses {
-            places: [0; SIZE],
-        }
+    pub(crate) fn new() -> Guesses {
+        Guesses { places: [0; SIZE] }
     }
 
-    pub fn place(&self, mark: usize) -> usize {
+    pub(crate) fn place(&self, mark: usize) -> usize {
         self.places[slot(mark)] as usize
     }
 
-    pub fn put(&mut self, mark: usize, place: usize)
+    pub(crate) fn put(&mut self, mark: usize, place: usize)
         requires { place < 2 ^ 8 }
     {
         self.places[slot(mark)] = place as u8;
@@ -37,14 +35,14 @@ impl Guesses {
 
 // The guesses of a builder's tables.
 #[derive(Drop)]
-pub struct TableGuesses {
-    pub names: Guesses,
-    pub rows: Guesses,
-    pub reactions: Guesses,
+pub(crate) struct TableGuesses {
+    pub(crate) names: Guesses,
+    pub(crate) rows: Guesses,
+    pub(crate) reactions: Guesses,
 }
 
 impl TableGuesses {
-    pub fn new() -> TableGuesses {
+    pub(crate) fn new() -> TableGuesses {
         TableGuesses {
             names: Guesses::new(),
             rows: Guesses::new(),

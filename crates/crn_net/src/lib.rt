@@ -3,6 +3,7 @@
 
 mod builder;
 mod fault;
+mod guesses;
 mod laws;
 mod name;
 mod network;

@@ -16,9 +16,11 @@ use std::marker::Model;
 pub(crate) type Row = [i128; MAX_SPECIES];
 
 // The amounts of a complex while a network is built. One byte holds an amount, so rows are fast to compare and to hash.
+// Equal rows have the same mark, whatever the order in which their terms came.
 #[derive(Drop)]
 pub(crate) struct Amounts {
     row: [u8; MAX_SPECIES],
+    mark: usize,
 }
 
 // The amounts of the complexes, each once, in the order in which they were inserted.
@@ -32,13 +34,25 @@ impl Model for Amounts {
     ghost view = { λ a. map pos a.row };
 }
 
+// What one of the species at a place adds to the mark of a row.
+fn weight(place: usize) -> usize {
+    let odd = place.wrapping_mul(2).wrapping_add(1);
+    odd.wrapping_mul(odd).wrapping_mul(odd)
+}
+
 impl Amounts {
     pub(crate) fn zeros() -> Amounts
         ensures { result ≡ replicate MAX_SPECIES (pos 0) }
     {
         Amounts {
             row: [0; MAX_SPECIES],
+            mark: 0,
         }
+    }
+
+    // A number that other rows seldom share.
+    pub(crate) fn mark(&self) -> usize {
+        self.mark
     }
 
     // Adds to the amount at a place.
@@ -50,6 +64,9 @@ impl Amounts {
     {
         let sum = u32::from(self.row[place]) + count;
         self.row[place] = sum as u8;
+        self.mark = self
+            .mark
+            .wrapping_add(weight(place).wrapping_mul(count as usize));
     }
 
     // The row with numbers as large as a network's vectors have them.

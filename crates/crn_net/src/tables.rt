@@ -1,4 +1,4 @@
-ghost use Rattle.std.specs.Prelude.{◌≡◌, ◌≤◌, ◌==◌, ◌&&◌, length, take, map, replicate, slice_index_or, pos, ℕ, [], OnErr, IfOk};
+ghost use Rattle.std.specs.Prelude.{◌≡◌, ◌≤◌, ◌<◌, ◌==◌, ◌&&◌, IsTrue, length, take, map, replicate, slice_index_or, pos, ℕ, [], OnErr, IfOk};
 ghost use Rattle.std.specs.List.{list_any, AllByRecursion};
 ghost use Rattle.crn_vec.specs.Lists.{AreDistinct};
 ghost use Rattle.crn_vec.specs.Network.{IsAmount, JoinsTwo, minus};
@@ -6,6 +6,7 @@ ghost use Rattle.crn_net.specs.Terms.{side_of, statement_of, IsSide};
 ghost use Rattle.crn_net.specs.Inner.Steps.{NotesName, NotesSide, NotesBoth, TellsApart, IsCrowded, NotesSides, NotesRow, NotesReaction, BuildGives};
 
 use crate::fault::NetFault;
+use crate::guesses::{Guesses, TableGuesses};
 use crate::name::{Name, Names};
 use crate::row::{Amounts, Complexes, Row};
 use crate::sides::{name_of, says_same};
@@ -13,8 +14,25 @@ use crate::term::Term;
 use crn_vec::{MAX_COMPLEXES, MAX_NAME, MAX_REACTIONS, MAX_SPECIES};
 use std::alloc::{AllocError, Global};
 
+// Whether a name stands at a place.
+fn is_name_at(names: &Names, place: usize, name: &[u8]) -> bool
+    ensures { let stands = slice_index_or names.now.keys place [] ≡ name.now in
+        IsTrue result → (place < length names.now.keys) × stands }
+{
+    place < names.len() && names.as_slice()[place].as_slice() == name
+}
+
+// A number that other names seldom share.
+fn mark_of(name: &[u8]) -> usize {
+    let mut mark = 0usize;
+    for byte in name {
+        mark = mark.wrapping_mul(31).wrapping_add(usize::from(*byte));
+    }
+    mark
+}
+
 // The place of a name, which is added if it is new. A name above the limit is added too, and the answer is an error.
-fn note_name(names: &mut Names, name: &[u8]) -> Result<usize, NetFault>
+fn add_name(names: &mut Names, name: &[u8]) -> Result<usize, NetFault>
     requires few { length names.old.keys ≤ MAX_SPECIES }
     requires short { length name.now ≤ MAX_NAME }
     ensures notes { NotesName names.old.keys name.now result names.new.keys }
@@ -27,12 +45,30 @@ fn note_name(names: &mut Names, name: &[u8]) -> Result<usize, NetFault>
     Ok(place)
 }
 
+// The same, where the place may have been guessed.
+fn note_name(names: &mut Names, guesses: &mut Guesses, name: &[u8]) -> Result<usize, NetFault>
+    requires few { length names.old.keys ≤ MAX_SPECIES }
+    requires short { length name.now ≤ MAX_NAME }
+    ensures notes { NotesName names.old.keys name.now result names.new.keys }
+    ensures kept { take (length names.old.keys) names.new.keys ≡ names.old.keys }
+{
+    let mark = mark_of(name);
+    let guess = guesses.place(mark);
+    if is_name_at(names, guess, name) {
+        return Ok(guess);
+    }
+    let place = add_name(names, name)?;
+    guesses.put(mark, place);
+    Ok(place)
+}
+
 // The amounts of both sides of a statement.
 pub(crate) type RowPair = (Amounts, Amounts);
 
 // Adds the amounts of a side to the row, and its new names to the names. Each term's name is looked up once.
 fn note_side(
     names: &mut Names,
+    guesses: &mut Guesses,
     row: &mut Amounts,
     text: &[u8],
     side: &[Term],
@@ -46,7 +82,7 @@ fn note_side(
     ensures kept { take (length names.old.keys) names.new.keys ≡ names.old.keys }
 {
     for term in side {
-        let place = note_name(names, name_of(text, term))?;
+        let place = note_name(names, guesses, name_of(text, term))?;
         row.add(place, term.count);
     }
     Ok(())
@@ -55,6 +91,7 @@ fn note_side(
 // Adds the amounts of both sides to their rows, and their new names to the names, the left side first.
 fn note_both(
     names: &mut Names,
+    guesses: &mut Guesses,
     rows: &mut RowPair,
     text: &[u8],
     left: &[Term],
@@ -70,8 +107,8 @@ fn note_both(
         NotesBoth names.old.keys statement result names.new.keys rows.new }
     ensures kept { take (length names.old.keys) names.new.keys ≡ names.old.keys }
 {
-    note_side(names, &mut rows.0, text, left)?;
-    note_side(names, &mut rows.1, text, right)
+    note_side(names, guesses, &mut rows.0, text, left)?;
+    note_side(names, guesses, &mut rows.1, text, right)
 }
 
 // An error if both rows are the same.
@@ -100,6 +137,7 @@ fn crowded_fault(alloc: Global, text: &[u8], left: &[Term], right: &[Term]) -> N
 // Adds the names and amounts of both sides. An error if they are the same complex, or have too many names.
 fn note_sides(
     names: &mut Names,
+    guesses: &mut Guesses,
     rows: &mut RowPair,
     text: &[u8],
     left: &[Term],
@@ -115,7 +153,7 @@ fn note_sides(
         NotesSides names.old.keys statement result names.new.keys rows.new }
     ensures kept { take (length names.old.keys) names.new.keys ≡ names.old.keys }
 {
-    match note_both(names, rows, text, left, right) {
+    match note_both(names, guesses, rows, text, left, right) {
         Ok(()) => tell_apart(rows),
         Err(NetFault::TooManySpecies) => Err(crowded_fault(*names.allocator(), text, left, right)),
         Err(fault) => Err(fault),
@@ -123,7 +161,7 @@ fn note_sides(
 }
 
 // The place of a row, which is added if it is new.
-fn note_row(rows: &mut Complexes, row: Amounts) -> Result<usize, NetFault>
+fn add_row(rows: &mut Complexes, row: Amounts) -> Result<usize, NetFault>
     requires few { length rows.old.keys ≤ MAX_COMPLEXES }
     ensures notes { NotesRow rows.old.keys row result rows.new.keys }
     ensures kept { take (length rows.old.keys) rows.new.keys ≡ rows.old.keys }
@@ -139,6 +177,30 @@ fn note_row(rows: &mut Complexes, row: Amounts) -> Result<usize, NetFault>
     Ok(place)
 }
 
+// Whether a row stands at a place.
+fn is_row_at(rows: &Complexes, place: usize, row: &Amounts) -> bool
+    ensures { let stands = slice_index_or rows.now.keys place row.now ≡ row.now in
+        IsTrue result → (place < length rows.now.keys) × stands }
+{
+    place < rows.len() && rows.as_slice()[place] == *row
+}
+
+// The same, where the place may have been guessed.
+fn note_row(rows: &mut Complexes, guesses: &mut Guesses, row: Amounts) -> Result<usize, NetFault>
+    requires few { length rows.old.keys ≤ MAX_COMPLEXES }
+    ensures notes { NotesRow rows.old.keys row result rows.new.keys }
+    ensures kept { take (length rows.old.keys) rows.new.keys ≡ rows.old.keys }
+{
+    let mark = row.mark();
+    let guess = guesses.place(mark);
+    if is_row_at(rows, guess, &row) {
+        return Ok(guess);
+    }
+    let place = add_row(rows, row)?;
+    guesses.put(mark, place);
+    Ok(place)
+}
+
 // Whether a reaction is among these. They are few, so it looks at each.
 fn has_reaction(reactions: &[(usize, usize)], reaction: (usize, usize)) -> bool
     ensures { result ≡ list_any
@@ -150,7 +212,7 @@ fn has_reaction(reactions: &[(usize, usize)], reaction: (usize, usize)) -> bool
 }
 
 // Adds a reaction if it is new.
-fn note_reaction(
+fn add_reaction(
     reactions: &mut Vec<(usize, usize)>,
     reaction: (usize, usize),
 ) -> Result<(), NetFault>
@@ -167,12 +229,43 @@ fn note_reaction(
     Ok(())
 }
 
+// Whether a reaction stands at a place.
+fn is_reaction_at(reactions: &[(usize, usize)], place: usize, reaction: (usize, usize)) -> bool
+    ensures { let stands = slice_index_or reactions.now place reaction ≡ reaction in
+        IsTrue result → (place < length reactions.now) × stands }
+{
+    place < reactions.len() && reactions[place].0 == reaction.0 && reactions[place].1 == reaction.1
+}
+
+// The same, where the place of the reaction may have been guessed.
+fn note_reaction(
+    reactions: &mut Vec<(usize, usize)>,
+    guesses: &mut Guesses,
+    reaction: (usize, usize),
+) -> Result<(), NetFault>
+    requires few { length reactions.old.items ≤ MAX_REACTIONS }
+    ensures { NotesReaction reactions.old.items reaction result reactions.new.items }
+{
+    let mark = reaction
+        .0
+        .wrapping_mul(MAX_COMPLEXES)
+        .wrapping_add(reaction.1);
+    if is_reaction_at(reactions, guesses.place(mark), reaction) {
+        return Ok(());
+    }
+    let next = reactions.len();
+    add_reaction(reactions, reaction)?;
+    guesses.put(mark, next.min(MAX_REACTIONS));
+    Ok(())
+}
+
 // Adds the reaction of a statement to the tables. After an error there may be more names and rows, but the reactions
 // are as before.
 pub(crate) fn build(
     names: &mut Names,
     rows: &mut Complexes,
     reactions: &mut Vec<(usize, usize)>,
+    guesses: &mut TableGuesses,
     text: &[u8],
     left: &[Term],
     right: &[Term],
@@ -191,11 +284,11 @@ pub(crate) fn build(
     ensures reactions_kept { OnErr result (reactions.new.items ≡ reactions.old.items) }
 {
     let mut sides = (Amounts::zeros(), Amounts::zeros());
-    note_sides(names, &mut sides, text, left, right)?;
+    note_sides(names, &mut guesses.names, &mut sides, text, left, right)?;
     let (left_row, right_row) = sides;
-    let reactant = note_row(rows, left_row)?;
-    let product = note_row(rows, right_row)?;
-    note_reaction(reactions, (reactant, product))
+    let reactant = note_row(rows, &mut guesses.rows, left_row)?;
+    let product = note_row(rows, &mut guesses.rows, right_row)?;
+    note_reaction(reactions, &mut guesses.reactions, (reactant, product))
 }
 
 // The rows with numbers as large as a network's vectors have them.
