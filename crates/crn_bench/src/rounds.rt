@@ -25,14 +25,14 @@ pub struct Decisions {
 
 // What came of two coordinates.
 #[derive(Clone, Copy)]
-enum Step {
+pub(crate) enum Step {
     Exchanged,
     Refused,
     Unfit,
 }
 
 // Exchanges a coordinate of the basis for one outside it, if it can be exchanged for that.
-fn exchange(matrix: &Matrix, tableau: &mut Tableau, leave: usize, enter: usize) -> Step
+pub(crate) fn exchange(matrix: &Matrix, tableau: &mut Tableau, leave: usize, enter: usize) -> Step
     requires { tableau.old.matrix ≡ matrix.now }
     ensures { tableau.new.matrix ≡ matrix.now }
 {
@@ -73,7 +73,7 @@ fn exchange_first(
 }
 
 impl Exchanges {
-    fn count(&mut self, step: Step) {
+    pub(crate) fn count(&mut self, step: Step) {
         match step {
             Step::Exchanged => self.done = self.done.wrapping_add(1),
             Step::Refused => self.refused = self.refused.wrapping_add(1),
@@ -114,7 +114,7 @@ pub fn exchange_often(alloc: Global, matrix: &Matrix, rounds: u32) -> Result<Exc
 
 // Whether the kinds are few enough to be asked for.
 #[tactic(auto, using(crn_farkas::proofs::Counts::count_at_most))]
-fn are_few(kinds: &[Kind]) -> bool
+pub(crate) fn are_few(kinds: &[Kind]) -> bool
     ensures { IsTrue result → signed_count kinds.now ≤ MAX_SIGNED }
 {
     kinds.len() <= MAX_SIGNED
