@@ -1,6 +1,7 @@
 -- Texts that a loop writes one by one, joined by a separator or not at all.
 use Rattle.std.proofs.Common.{◌≡◌, ℕ, zero, suc, ◌+◌, ◌<◌, List, [], ◌∷◌, ◌++◌, length, take, drop, get_or, refl, sym, ap, ◌∙◌, append_assoc, add-one, arith}
 use Rattle.std.proofs.lemmas.List.{append-nil}
+use Rattle.std.proofs.lemmas.List.Concat.{flat_map-append}
 use Rattle.std.specs.List.{flat_map}
 use Rattle.crn_io.specs.Joined.{joined, with_separator}
 
@@ -60,3 +61,18 @@ joined_whole separator (x ∷ xs) (suc i) lt =
     ap (λ (t : List ℕ). x ++ t) (flat_map_whole (λ y. separator ++ y) xs i [] (omega arith))
     ∙ sym (append_assoc x (flat_map (λ y. separator ++ y) (take i xs) ++ (separator ++ get_or xs i [])) (flat_map (λ y. separator ++ y) (drop (suc i) xs)))
     ∙ ap (λ (t : List ℕ). t ++ flat_map (λ y. separator ++ y) (drop (suc i) xs)) (sym (append_assoc x (flat_map (λ y. separator ++ y) (take i xs)) (separator ++ get_or xs i [])))
+
+-- a text at the end
+pub joined_push : (separator : List ℕ) (xs : List (List ℕ)) (x : List ℕ) → joined separator (xs ++ x ∷ []) ≡ joined separator xs ++ with_separator separator (length xs) x
+joined_push separator [] x = append-nil x
+joined_push separator (y ∷ xs) x =
+    ap (λ (t : List ℕ). y ++ t) (flat_map-append (λ z. separator ++ z) xs (x ∷ []) ∙ ap (λ (t : List ℕ). flat_map (λ z. separator ++ z) xs ++ t) (append-nil (separator ++ x))) ∙ sym (append_assoc y _ _)
+
+-- a text at the end, and more texts after it
+pub joined_more : (separator : List ℕ) (xs more : List (List ℕ)) (x : List ℕ) → joined separator ((xs ++ x ∷ []) ++ more) ≡ (joined separator xs ++ with_separator separator (length xs) x) ++ flat_map (λ z. separator ++ z) more
+joined_more separator [] more x = refl
+joined_more separator (y ∷ xs) more x =
+    ap (λ (t : List ℕ). y ++ t)
+    (flat_map-append (λ z. separator ++ z) (xs ++ x ∷ []) more
+    ∙ ap (λ (t : List ℕ). t ++ flat_map (λ z. separator ++ z) more) (flat_map-append (λ z. separator ++ z) xs (x ∷ []) ∙ ap (λ (t : List ℕ). flat_map (λ z. separator ++ z) xs ++ t) (append-nil (separator ++ x))))
+    ∙ simp append_assoc

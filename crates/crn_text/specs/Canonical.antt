@@ -3,12 +3,8 @@
 use Rattle.std.specs.Prelude.{ℕ, ℤ, pos, negsuc, zero, suc, List, [], ◌∷◌, ◌++◌, codes, decimal, slice_index_or}
 use Rattle.std.specs.List.{flat_map}
 use Rattle.crn_vec.specs.Network.{Net, IsNetwork}
+use Rattle.crn_io.specs.Joined.{joined}
 use Rattle.crn_text.specs.Spells.{Spells}
-
--- these texts with one between them
-abbrev pub joined : List ℕ → List (List ℕ) → List ℕ
-joined between [] = []
-joined between (x ∷ xs) = x ++ flat_map (λ y. between ++ y) xs
 
 -- a species, with its amount before it if that is 2 or more
 abbrev pub term : ℤ → List ℕ → List ℕ

@@ -5,5 +5,4 @@ pub mod Faults
 pub mod SoundLines
 pub mod Spells
 pub mod Canonical
-pub mod Pieces
 pub mod Inner

@@ -1,19 +1,19 @@
-use Rattle.std.proofs.Common.{arith, length, ◌<◌}
+use Rattle.std.proofs.Common.{arith, length, ◌<◌, take_all}
 use Rattle.std.proofs.lemmas.Result.{err_from_is_err_and}
-use Rattle.crn_io.proofs.Writes.{Wrote-ok, Wrote-each, Wrote-each-stop, Wrote-all}
+use Rattle.crn_io.proofs.CallerLemmas.{WroteAll-step, WrotePrefix-step, Wrote-all, Wrote-prefix, flat_map_step, flat_map_whole}
 use Rattle.crn_text.specs.Canonical.{reaction_line}
 use Rattle.crn_text.proofs.writer.write.Goals as goal
 
 pub loop-r-preserved : goal.loop-r-preserved
 loop-r-preserved g c =
     let lt : c.loop-r.r < length c.args.net.now.reactions = omega arith in
-    Wrote-ok _ _ _ _ _ _ _ _ 0 (Wrote-each (reaction_line c.args.net.now) c.args.net.now.reactions c.loop-r.r (0, 0) _ _ _ _ _ _ _ _ _ _ _ lt c.loop-r.invariant c.in_ok-put_reaction.ensures)
+    WroteAll-step (flat_map_step (reaction_line c.args.net.now) c.args.net.now.reactions c.loop-r.r (0, 0) lt) c.loop-r.invariant c.in_ok-put_reaction.ensures.all
 
 pub returns-in_err-put_reaction : goal.returns-in_err-put_reaction
 returns-in_err-put_reaction g c =
     let lt : c.loop-r.r < length c.args.net.now.reactions = omega arith in
     let p = err_from_is_err_and c.from_residual.result c.from_residual.ensures.1 in
-    Wrote-each-stop (reaction_line c.args.net.now) c.args.net.now.reactions c.loop-r.r (0, 0) _ _ _ _ _ _ _ _ _ _ p.0 c.from_residual.result p.1 lt c.loop-r.invariant c.in_err-put_reaction.ensures
+    Wrote-prefix p.1 (WrotePrefix-step _ (flat_map_whole (reaction_line c.args.net.now) c.args.net.now.reactions c.loop-r.r (0, 0) lt) c.loop-r.invariant c.in_err-put_reaction.ensures.prefix)
 
 pub returns : goal.returns
-returns g c = Wrote-all (reaction_line c.args.net.now) c.args.net.now.reactions c.loop-r.r _ _ _ _ _ _ _ tt (omega arith) c.loop-r.invariant
+returns g c = Wrote-all (rw (take_all c.loop-r.r c.args.net.now.reactions (omega arith)) at c.loop-r.invariant)
