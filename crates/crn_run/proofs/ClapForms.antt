@@ -13,7 +13,7 @@ use Rattle.clap.specs.Simple.{built, entered}
 use Rattle.clap.specs.Kinds.{Kinds, or_else}
 use Rattle.clap.specs.Faults.{check_fault, defaults_fault, entered_fault, settle_fault, turn_fault, walk_fault}
 use Rattle.clap.specs.Words.{fault_of, matches_of}
-use Rattle.crn_run.specs.Parse.{Gives, IsRead, MeansBudget, crnt_app, is_two_dashes}
+use Rattle.crn_run.specs.Inner.Parse.{Gives, IsRead, MeansBudget, crnt_app, is_two_dashes}
 use Rattle.crn_run.specs.Words.{IsReportWith, SaysReport}
 use Rattle.crn_run.proofs.ClapWords.{IsValue, at, budget, budget_rule, first_none, holding, joined, none_then, parted, rules, second_none, shape, value_of}
 use Rattle.crn_run.proofs.ClapSteps.{waiting_fault, waiting_walked}

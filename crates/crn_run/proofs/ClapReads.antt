@@ -4,7 +4,7 @@ use Rattle.std.specs.Prelude.{fold}
 use Rattle.std.specs.List.{list_any}
 use Rattle.clap.specs.Walk.{Held, Row, Text, Walk, first_of, idle, nothing_held, option, settled, used, walk_from, walked}
 use Rattle.clap.specs.Faults.{settle_fault, turn_fault, use_fault, walk_fault}
-use Rattle.crn_run.specs.Parse.{MeansBudget, is_two_dashes}
+use Rattle.crn_run.specs.Inner.Parse.{MeansBudget, is_two_dashes}
 use Rattle.crn_run.specs.Words.{SaysReport}
 use Rattle.crn_run.proofs.ClapWords.{IsValue, Kind, at, budget, budget_rule, first_none, holding, joined, joined_fault, joined_walked, kind, parted, parted_fault, parted_walked, rules, second_none, shape, some_fault}
 use Rattle.crn_run.proofs.ClapSteps.{IsPlace, first_place, second_place, third_place, use_keeps_count, waiting_walked}

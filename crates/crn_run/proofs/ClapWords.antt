@@ -14,7 +14,7 @@ use Rattle.clap.specs.Simple.{Shape, built, new_app, new_rule, with_rule}
 use Rattle.clap.specs.Kinds.{Kinds, or_else}
 use Rattle.clap.specs.Faults.{bundle_fault, bundle_step_fault, long_fault, flag_word_fault, flags_fault, other_fault, settle_fault, short_fault, turn_fault, use_fault, word_fault}
 use Rattle.clap.specs.declared.builder.action.ArgAction.TheVariants.{Set}
-use Rattle.crn_run.specs.Parse.{is_two_dashes}
+use Rattle.crn_run.specs.Inner.Parse.{is_two_dashes}
 
 -- the command, once built
 abbrev pub shape : Shape

@@ -6,11 +6,9 @@ use Rattle.crn_vec.specs.Linkage.{AreRightLabels, IsLabelCount}
 use Rattle.crn_text.specs.Codes.{code_number, code_name}
 use Rattle.crn_text.specs.Spells.{Spells, Fault}
 use Rattle.crn_text.specs.declared.code.TextCode.{TextCode}
-use Rattle.crn_text.proofs.Exclusions.{one_fault}
-use Rattle.crn_text.proofs.Spelled.{no_fault}
-use Rattle.crn_text.proofs.Unique.{spelling_unique}
+use Rattle.crn_text.proofs.CallerLemmas.{one_fault, no_fault, spelling_unique}
 use Rattle.crn_run.specs.Report.{render}
-use Rattle.crn_run.specs.Run.{Devices, WasLeft, IsReportOf, IsRefusalOf, IsAllowed, refused_line, RunGives, TellsNetwork, TellsFault, IsComplete, IsQuiet}
+use Rattle.crn_run.specs.Run.{Devices, WasLeft, IsReportOf, IsRefusalOf, IsAllowed, refused_line, RunGives, ShowsNetwork, ShowsFault, IsComplete, IsQuiet}
 use Rattle.crn_run.proofs.LabelLaws.{one_labels, one_count}
 use Rattle.crn_run.specs.declared.status.Status.{Status}
 use Rattle.crn_run.specs.declared.status.Status.TheVariants.{Done, OpenLeft, Refused, Rejected, Usage, ReadFault, WriteFault, NoMemory}
@@ -49,20 +47,20 @@ one_allowed words text a b (inr p) (inr q) = p.1 ∙ sym q.1
 
 -- ---- completeness
 
--- the text that was told is the one that was left
-told_is : (left : Option (List ℕ)) (told text : List ℕ) → left ≡ Some told → IfSome left (λ t. t ≡ text) → told ≡ text
-told_is None told text e p = absurd cc
-told_is (Some t) told text e p = let h : t ≡ told = cc in sym h ∙ p
+-- the text that is shown is the one that was left
+shown_is : (left : Option (List ℕ)) (shown text : List ℕ) → left ≡ Some shown → IfSome left (λ t. t ≡ text) → shown ≡ text
+shown_is None shown text e p = absurd cc
+shown_is (Some t) shown text e p = let h : t ≡ shown = cc in sym h ∙ p
 
-not_refused : (old : Devices) (text out : List ℕ) → TellsNetwork old → WasLeft old text → IsRefusalOf text out → ⊥
+not_refused : (old : Devices) (text out : List ℕ) → ShowsNetwork old → WasLeft old text → IsRefusalOf text out → ⊥
 not_refused old text out p left q =
-    let e : p.0 ≡ text = told_is old.left p.0 text p.2 left in
+    let e : p.0 ≡ text = shown_is old.source.left p.0 text p.2 left in
     let spells : Spells text p.1 = subst (λ (t : List ℕ). Spells t p.1) e p.3 in
     no_fault text p.1 q.line q.code spells q.fault
 
-not_spelled : (old : Devices) (text out : List ℕ) → TellsFault old → WasLeft old text → IsReportOf text out → ⊥
+not_spelled : (old : Devices) (text out : List ℕ) → ShowsFault old → WasLeft old text → IsReportOf text out → ⊥
 not_spelled old text out p left q =
-    let e : p.0 ≡ text = told_is old.left p.0 text p.3 left in
+    let e : p.0 ≡ text = shown_is old.source.left p.0 text p.3 left in
     let fault : Fault text p.1 p.2 = subst (λ (t : List ℕ). Fault t p.1 p.2) e p.4 in
     no_fault text q.net p.1 p.2 q.spells fault
 
@@ -107,7 +105,7 @@ room_for None len n e le p = absurd cc
 room_for (Some r) len n e le p = let h : r ≡ n = cc in absurd (omega arith)
 
 pub quiet_run : (status : Status) (words : List (List ℕ)) (old new : Devices) (text out : List ℕ) → RunGives status words old new → IsQuiet old new text out → IsAllowed words text out
-    → (status ≡ ReadFault → ⊥) × (status ≡ WriteFault → ⊥) × (new.sink_faults ≡ old.sink_faults)
+    → (status ≡ ReadFault → ⊥) × (status ≡ WriteFault → ⊥) × (new.sink.faults ≡ old.sink.faults)
 quiet_run Done words old new text out g q a = (λ e. absurd cc, λ e. absurd cc, g.sink.quiet)
 quiet_run OpenLeft words old new text out g q a = absurd g
 quiet_run Refused words old new text out g q a = (λ e. absurd cc, λ e. absurd cc, g.sink.quiet)
@@ -115,8 +113,8 @@ quiet_run Rejected words old new text out g q a = absurd g
 quiet_run Usage words old new text out g q a = (λ e. absurd cc, λ e. absurd cc, g.sink.quiet)
 quiet_run ReadFault words old new text out g q a = absurd (let r = g.source in let n = q.source in omega arith)
 quiet_run WriteFault words old new text out g q a =
-    let e : text ≡ g.text = told_is old.left text g.text q.left g.left in
+    let e : text ≡ g.text = shown_is old.source.left text g.text q.left g.left in
     let here : IsAllowed words g.text out = subst (λ (t : List ℕ). IsAllowed words t out) e a in
     let same : out ≡ g.out = one_allowed words g.text out g.out here g.allowed in
-    absurd (room_for old.room (length g.out) q.room q.tells (omega (arith, ap length same, q.fits)) g.sink.no_room)
-quiet_run NoMemory words old new text out g q a = (λ e. absurd cc, λ e. absurd cc, g.sink.faults)
+    absurd (room_for old.sink.room (length g.out) q.room q.shows (omega (arith, ap length same, q.fits)) g.sink.no_room)
+quiet_run NoMemory words old new text out g q a = (λ e. absurd cc, λ e. absurd cc, ap (λ s. s.faults) g.sink)

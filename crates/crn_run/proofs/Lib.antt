@@ -1,10 +1,10 @@
-pub mod Texts
-pub mod Labels
-pub mod LabelLaws
-pub mod Runs
-pub mod Complete
-pub mod ClapWords
-pub mod ClapSteps
-pub mod ClapReads
-pub mod ClapForms
-pub mod WordsSaid
+mod Texts
+mod Labels
+mod LabelLaws
+mod Runs
+mod Complete
+mod ClapWords
+mod ClapSteps
+mod ClapReads
+mod ClapForms
+mod WordsSaid

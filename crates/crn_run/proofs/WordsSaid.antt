@@ -10,7 +10,7 @@ use Rattle.clap.specs.declared.error.kind.ErrorKind.TheVariants.{OutOfMemory}
 use Rattle.clap.specs.declared.parser.matches.ArgMatches.{ArgMatches}
 use Rattle.clap.proofs.OnLiterals.{clap_on_literals}
 use Rattle.clap.proofs.WalkLemmas.{first_value-rows}
-use Rattle.crn_run.specs.Parse.{Gives, IsRead, Means, MeansBudget, crnt_app, is_two_dashes}
+use Rattle.crn_run.specs.Inner.Parse.{Gives, IsRead, Means, MeansBudget, crnt_app, is_two_dashes}
 use Rattle.crn_run.specs.Run.{IsReport}
 use Rattle.crn_run.specs.Words.{IsCommand}
 use Rattle.crn_run.specs.declared.words.Command.{Command}

@@ -2,7 +2,8 @@
 -- Source: this project's own format. Shapes: texts are lists of bytes, and every line ends by LF.
 use Rattle.std.specs.Prelude.{ℕ, zero, suc, ◌+◌, ◌==◌, if◌then◌else◌, List, [], ◌∷◌, ◌++◌, length, map, codes, decimal}
 use Rattle.crn_vec.specs.Network.{Net}
-use Rattle.crn_text.specs.Canonical.{joined, side}
+use Rattle.crn_io.specs.Joined.{joined}
+use Rattle.crn_text.specs.Canonical.{side}
 
 -- all complexes in order, as the canonical text writes them
 abbrev pub sides : Net → List (List ℕ)

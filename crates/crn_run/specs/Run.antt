@@ -4,10 +4,9 @@ use Rattle.std.specs.Prelude.{◌≡◌, ◌≤◌, ◌⊎◌, ◌+◌, ℕ, Lis
 use Rattle.crn_vec.specs.Network.{Net}
 use Rattle.crn_vec.specs.Linkage.{AreRightLabels, IsLabelCount}
 use Rattle.crn_vec.specs.declared.limits.TheConstants.{MAX_TEXT}
-use Rattle.crn_io.specs.Fault.{Rose}
-use Rattle.crn_io.specs.Pull.{ComesOff}
-use Rattle.crn_io.specs.Push.{Adds, Lowers, HasNoRoom}
-use Rattle.crn_io.specs.Write.{AddsFront}
+use Rattle.crn_io.specs.Device.{SourceSeen, SinkSeen, Rose}
+use Rattle.crn_io.specs.Pull.{Consumes}
+use Rattle.crn_io.specs.Write.{WroteAll, WrotePrefix}
 use Rattle.crn_text.specs.Codes.{code_number, code_name}
 use Rattle.crn_text.specs.Spells.{Spells, Fault}
 use Rattle.crn_text.specs.declared.code.TextCode.{TextCode}
@@ -31,7 +30,8 @@ usage_line = codes "usage: crnt report | certify | check | sample K, with --budg
 
 -- the number and the name of the fault for which a text is refused, and its line
 unfoldable pub refused_line : ℕ → List ℕ → ℕ → List ℕ
-refused_line number name line = codes "refused " ++ decimal number ++ codes " " ++ name ++ codes " at line " ++ decimal line ++ codes "\n"
+refused_line number name line =
+    codes "refused " ++ decimal number ++ codes " " ++ name ++ codes " at line " ++ decimal line ++ codes "\n"
 
 -- the report of the network that the text spells, with true verdicts
 pub record IsReportOf (text out : List ℕ) : Type 0 where
@@ -53,108 +53,81 @@ pub record IsRefusalOf (text out : List ℕ) : Type 0 where
 
 -- what may be written for these words and this network text
 abbrev pub IsAllowed : List (List ℕ) → List ℕ → List ℕ → Type 0
-IsAllowed words text out = (IsReport words × (IsReportOf text out ⊎ IsRefusalOf text out)) ⊎ ((IsReport words → ⊥) × (out ≡ usage_line))
+IsAllowed words text out = (IsReport words × (IsReportOf text out ⊎ IsRefusalOf text out))
+    ⊎ ((IsReport words → ⊥) × (out ≡ usage_line))
 
 -- ---- devices
 
--- what can be seen of a source and a sink
+-- what contracts see of a source and of a sink
 pub record Devices : Type 0 where
-  -- the bytes that the source has left, where it tells them
-  pub left : Option (List ℕ)
-  -- its count of faults
-  pub source_faults : ℕ
-  -- the bytes that the sink took, where it tells them
-  pub took : Option (List ℕ)
-  -- how many bytes it takes without a fault, where it tells that
-  pub room : Option ℕ
-  -- its count of faults
-  pub sink_faults : ℕ
+  pub source : SourceSeen
+  pub sink : SinkSeen
 
--- the text is what the source had left, where it tells it
+-- the text is what the source had left, if the source shows it
 abbrev pub WasLeft : Devices → List ℕ → Type 0
-WasLeft old text = IfSome old.left (λ left. left ≡ text)
+WasLeft old text = IfSome old.source.left (λ left. left ≡ text)
 
 -- the source was read to its end
 abbrev pub IsReadOut : Option (List ℕ) → Option (List ℕ) → Type 0
 IsReadOut None rest = rest ≡ None
 IsReadOut (Some text) rest = rest ≡ Some []
 
--- the source was read to its end, or to the first byte past the limit of a text
+-- the source was read to its end, or to the first byte that exceeds the limit of a text
 abbrev pub IsReadUp : Option (List ℕ) → Option (List ℕ) → Type 0
-IsReadUp left rest = IsReadOut left rest ⊎ ((bytes : List ℕ) × (length bytes ≡ MAX_TEXT + 1) × ComesOff left bytes rest)
-
--- all of the text was written, without a fault
-pub record Writes (out : List ℕ) (old new : Devices) : Type 0 where
-  pub added : Adds old.took out new.took
-  pub fits : Lowers old.room (length out) (length out) new.room
-  pub quiet : new.sink_faults ≡ old.sink_faults
-
--- a front of the text was written and something of it is missing; the sink told no room for it, and its count of faults rose
-pub record Breaks (out : List ℕ) (old new : Devices) : Type 0 where
-  pub added : AddsFront old.took out new.took
-  pub no_room : HasNoRoom old.room (length out)
-  pub rose : Rose old.sink_faults new.sink_faults
-  pub later : old.sink_faults ≤ new.sink_faults
-
--- the sink is as before
-pub record LeavesSink (old new : Devices) : Type 0 where
-  pub took : new.took ≡ old.took
-  pub room : new.room ≡ old.room
-  pub faults : new.sink_faults ≡ old.sink_faults
+IsReadUp left rest = IsReadOut left rest ⊎ ((bytes : List ℕ) × (length bytes ≡ MAX_TEXT + 1) × Consumes left bytes rest)
 
 -- ---- how a run ends, by its status
 
 -- the source was read to its end, its text spells a network, and the report of that network was written
 pub record EndsDone (words : List (List ℕ)) (old new : Devices) : Type 0 where
   pub command : IsReport words
-  pub read : IsReadOut old.left new.left
-  pub source : new.source_faults ≡ old.source_faults
+  pub read : IsReadOut old.source.left new.source.left
+  pub source : new.source.faults ≡ old.source.faults
   pub text : List ℕ
   pub left : WasLeft old text
   pub out : List ℕ
   pub says : IsReportOf text out
-  pub sink : Writes out old new
+  pub sink : WroteAll out old.sink new.sink
 
 -- the source was read as far as a text goes, its text has a fault, and the line of its first fault was written
 pub record EndsRefused (words : List (List ℕ)) (old new : Devices) : Type 0 where
   pub command : IsReport words
-  pub read : IsReadUp old.left new.left
-  pub source : new.source_faults ≡ old.source_faults
+  pub read : IsReadUp old.source.left new.source.left
+  pub source : new.source.faults ≡ old.source.faults
   pub text : List ℕ
   pub left : WasLeft old text
   pub out : List ℕ
   pub says : IsRefusalOf text out
-  pub sink : Writes out old new
+  pub sink : WroteAll out old.sink new.sink
 
 -- the words are no command, nothing was read, and the usage line was written
 pub record EndsUsage (words : List (List ℕ)) (old new : Devices) : Type 0 where
   pub command : IsReport words → ⊥
-  pub read : new.left ≡ old.left
-  pub source : new.source_faults ≡ old.source_faults
-  pub sink : Writes usage_line old new
+  pub source : new.source ≡ old.source
+  pub sink : WroteAll usage_line old.sink new.sink
 
 -- the source's count of faults rose, and the sink is as before
 pub record EndsReadFault (words : List (List ℕ)) (old new : Devices) : Type 0 where
   pub command : IsReport words
-  pub source : Rose old.source_faults new.source_faults
-  pub later : old.source_faults ≤ new.source_faults
-  pub sink : LeavesSink old new
+  pub source : Rose old.source.faults new.source.faults
+  pub later : old.source.faults ≤ new.source.faults
+  pub sink : new.sink ≡ old.sink
 
--- the sink's count of faults rose, and a front of a text that may be written was written
+-- the sink's count of faults rose, and a prefix of a text that may be written was written
 pub record EndsWriteFault (words : List (List ℕ)) (old new : Devices) : Type 0 where
-  pub unread : (IsReport words → ⊥) → new.left ≡ old.left
-  pub read : IsReport words → IsReadUp old.left new.left
-  pub source : new.source_faults ≡ old.source_faults
+  pub unread : (IsReport words → ⊥) → new.source.left ≡ old.source.left
+  pub read : IsReport words → IsReadUp old.source.left new.source.left
+  pub source : new.source.faults ≡ old.source.faults
   pub text : List ℕ
   pub left : WasLeft old text
   pub out : List ℕ
   pub allowed : IsAllowed words text out
-  pub sink : Breaks out old new
+  pub sink : WrotePrefix out old.sink new.sink
 
--- nothing was written, for want of memory
+-- nothing was written, because memory ran out
 pub record EndsNoMemory (old new : Devices) : Type 0 where
-  pub source : new.source_faults ≡ old.source_faults
-  pub sink : LeavesSink old new
+  pub source : new.source.faults ≡ old.source.faults
+  pub sink : new.sink ≡ old.sink
 
 -- what a run did, by the status that it ended with
 abbrev pub RunGives : Status → List (List ℕ) → Devices → Devices → Type 0
@@ -171,29 +144,30 @@ RunGives NoMemory words old new = EndsNoMemory old new
 
 -- neither count of faults rose
 pub record HasNoFault (old new : Devices) : Type 0 where
-  pub source : Rose old.source_faults new.source_faults → ⊥
-  pub sink : Rose old.sink_faults new.sink_faults → ⊥
+  pub source : Rose old.source.faults new.source.faults → ⊥
+  pub sink : Rose old.sink.faults new.sink.faults → ⊥
 
--- the source tells a text that spells a network
-abbrev pub TellsNetwork : Devices → Type 0
-TellsNetwork old = (text : List ℕ) × (net : Net) × (old.left ≡ Some text) × Spells text net
+-- the source shows a text that spells a network
+abbrev pub ShowsNetwork : Devices → Type 0
+ShowsNetwork old = (text : List ℕ) × (net : Net) × (old.source.left ≡ Some text) × Spells text net
 
--- the source tells a text that has a fault
-abbrev pub TellsFault : Devices → Type 0
-TellsFault old = (text : List ℕ) × (line : ℕ) × (code : TextCode) × (old.left ≡ Some text) × Fault text line code
+-- the source shows a text that has a fault
+abbrev pub ShowsFault : Devices → Type 0
+ShowsFault old = (text : List ℕ) × (line : ℕ) × (code : TextCode) × (old.source.left ≡ Some text)
+    × Fault text line code
 
--- a run without a fault of a device answers what the words and the text ask for, or wants memory
+-- if no device failed, a run answers what the words and the text ask for, or memory ran out
 pub record IsComplete (status : Status) (words : List (List ℕ)) (old new : Devices) : Type 0 where
-  pub done : HasNoFault old new → IsReport words → TellsNetwork old → (status ≡ Done) ⊎ (status ≡ NoMemory)
-  pub refused : HasNoFault old new → IsReport words → TellsFault old → (status ≡ Refused) ⊎ (status ≡ NoMemory)
+  pub done : HasNoFault old new → IsReport words → ShowsNetwork old → (status ≡ Done) ⊎ (status ≡ NoMemory)
+  pub refused : HasNoFault old new → IsReport words → ShowsFault old → (status ≡ Refused) ⊎ (status ≡ NoMemory)
   pub usage : HasNoFault old new → (IsReport words → ⊥) → (status ≡ Usage) ⊎ (status ≡ NoMemory)
 
 -- ---- devices that don't fail
 
--- the source tells this text and its count of faults stays at 0, and the sink tells a room for what is written
+-- the source shows this text and its count of faults stays at 0, and the sink shows a room for what is written
 pub record IsQuiet (old new : Devices) (text out : List ℕ) : Type 0 where
-  pub left : old.left ≡ Some text
-  pub source : (old.source_faults ≡ 0) × (new.source_faults ≡ 0)
+  pub left : old.source.left ≡ Some text
+  pub source : (old.source.faults ≡ 0) × (new.source.faults ≡ 0)
   pub room : ℕ
-  pub tells : old.room ≡ Some room
+  pub shows : old.sink.room ≡ Some room
   pub fits : length out ≤ room

@@ -1,15 +1,19 @@
 //! The top call of the program: it reads words and a network text, and writes a report.
 #![tactic(auto)]
 
+mod laws;
 pub mod linkage;
 mod report;
+mod runner;
 mod status;
 #[cfg(test)]
 mod tests;
-mod top;
 mod words;
 
 pub use crn_vec::{DEFAULT_BUDGET, MAX_BUDGET, MAX_BUDGET_DIGITS};
+pub use laws::{
+    quiet_devices_meet_no_fault, what_may_be_written_is_one_text, words_say_one_command,
+};
+pub use runner::run;
 pub use status::Status;
-pub use top::{quiet_devices_meet_no_fault, run, what_may_be_written_is_one_text};
-pub use words::{Command, command_of, words_say_one_command};
+pub use words::{Command, command_of};

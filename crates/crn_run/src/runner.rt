@@ -1,15 +1,15 @@
 ghost use Rattle.std.specs.Prelude.{◌≡◌, ◌↔◌, ◌+◌, ℕ, List, IsTrue, map, string_bytes};
 ghost use Rattle.crn_vec.specs.declared.limits.TheConstants.{MAX_TEXT};
-ghost use Rattle.crn_io.specs.Read.{ComesOffUpTo};
-ghost use Rattle.crn_run.specs.Run.{Devices, IsReport, IsAllowed, IsQuiet, RunGives, IsComplete, usage_line, refused_line};
-ghost use Rattle.crn_run.specs.Steps.{LineGives, ReportGives};
+ghost use Rattle.crn_io.specs.Device.{SourceSeen};
+ghost use Rattle.crn_io.specs.Read.{ConsumesUpTo};
+ghost use Rattle.crn_run.specs.Run.{Devices, IsReport, RunGives, IsComplete, usage_line, refused_line};
+ghost use Rattle.crn_run.specs.Inner.Steps.{LineGives, ReportGives};
 ghost use Rattle.crn_text.specs.Codes.{code_number, code_name};
 ghost use Rattle.crn_text.specs.declared.code.TextCode.TheVariants.{NoMemory};
-ghost use Rattle.crn_run.specs.declared.status.Status.{Status};
-ghost use Rattle.crn_run.specs.declared.status.Status.TheVariants.{Refused, Usage, ReadFault, WriteFault};
+ghost use Rattle.crn_run.specs.declared.status.Status.TheVariants.{Refused, Usage};
 
 use crate::linkage::linkage;
-use crate::report::{put_refused, put_usage, write_report};
+use crate::report::{put_refused_line, put_usage_line, write_report};
 use crate::status::Status;
 use crate::words::{Command, command_of};
 use crn_io::{ReadStop, Sink, Source, read_all};
@@ -26,14 +26,14 @@ pub fn run<S: Source, K: Sink>(
     source: &mut S,
     sink: &mut K,
 ) -> Status
-    ensures gives { let old : Devices = record { left = S.left source.old; source_faults = S.faults source.old; took = K.took sink.old; room = K.room sink.old; sink_faults = K.faults sink.old } in
-        let new : Devices = record { left = S.left source.new; source_faults = S.faults source.new; took = K.took sink.new; room = K.room sink.new; sink_faults = K.faults sink.new } in
+    ensures gives { let old : Devices = record { source = S.seen source.old; sink = K.seen sink.old } in
+        let new : Devices = record { source = S.seen source.new; sink = K.seen sink.new } in
         RunGives result (map string_bytes words.now) old new }
-    ensures complete { let old : Devices = record { left = S.left source.old; source_faults = S.faults source.old; took = K.took sink.old; room = K.room sink.old; sink_faults = K.faults sink.old } in
-        let new : Devices = record { left = S.left source.new; source_faults = S.faults source.new; took = K.took sink.new; room = K.room sink.new; sink_faults = K.faults sink.new } in
+    ensures complete { let old : Devices = record { source = S.seen source.old; sink = K.seen sink.old } in
+        let new : Devices = record { source = S.seen source.new; sink = K.seen sink.new } in
         IsComplete result (map string_bytes words.now) old new }
     ensures unread { (IsReport (map string_bytes words.now) → ⊥) → source.new ≡ source.old }
-    ensures pulled { ComesOffUpTo (MAX_TEXT + 1) (S.left source.old) (S.left source.new) }
+    ensures pulled { ConsumesUpTo (MAX_TEXT + 1) (S.seen source.old).left (S.seen source.new).left }
 {
     match command_of(alloc, words) {
         Ok(Some(Command::Report { budget: _ })) => report(alloc, source, sink),
@@ -42,21 +42,11 @@ pub fn run<S: Source, K: Sink>(
     }
 }
 
-/// For the same words and the same network text, one text may be written.
-pub fn what_may_be_written_is_one_text()
-    ensures { (words : List (List ℕ)) (text a b : List ℕ) → IsAllowed words text a → IsAllowed words text b → a ≡ b }
-{}
-
-/// Over a source that never fails and a sink with room for what may be written, a run meets no fault.
-pub fn quiet_devices_meet_no_fault()
-    ensures { (status : Status) (words : List (List ℕ)) (old new : Devices) (text out : List ℕ) → RunGives status words old new → IsQuiet old new text out → IsAllowed words text out →
-        (status ≡ ReadFault → ⊥) × (status ≡ WriteFault → ⊥) × (new.sink_faults ≡ old.sink_faults) }
-{}
-
+// Writes how the program is used.
 fn usage<K: Sink>(sink: &mut K) -> Status
-    ensures { LineGives Usage result usage_line (K.took sink.old) (K.took sink.new) (K.room sink.old) (K.room sink.new) (K.faults sink.old) (K.faults sink.new) }
+    ensures { LineGives Usage result usage_line (K.seen sink.old) (K.seen sink.new) }
 {
-    match put_usage(sink) {
+    match put_usage_line(sink) {
         Ok(()) => Status::Usage,
         Err(_) => Status::WriteFault,
     }
@@ -64,9 +54,10 @@ fn usage<K: Sink>(sink: &mut K) -> Status
 
 // Writes the line that says why a text is refused.
 fn refuse<K: Sink>(code: TextCode, line: u32, sink: &mut K) -> Status
-    ensures { LineGives Refused result (refused_line (code_number code) (code_name code) line) (K.took sink.old) (K.took sink.new) (K.room sink.old) (K.room sink.new) (K.faults sink.old) (K.faults sink.new) }
+    ensures { LineGives Refused result (refused_line (code_number code) (code_name code) line)
+        (K.seen sink.old) (K.seen sink.new) }
 {
-    match put_refused(sink, code.number(), code.name(), line) {
+    match put_refused_line(sink, code.number(), code.name(), line) {
         Ok(()) => Status::Refused,
         Err(_) => Status::WriteFault,
     }
@@ -74,10 +65,10 @@ fn refuse<K: Sink>(code: TextCode, line: u32, sink: &mut K) -> Status
 
 // Reads a network text, and writes its report or why it is refused.
 fn report<S: Source, K: Sink>(alloc: Global, source: &mut S, sink: &mut K) -> Status
-    ensures gives { let old : Devices = record { left = S.left source.old; source_faults = S.faults source.old; took = K.took sink.old; room = K.room sink.old; sink_faults = K.faults sink.old } in
-        let new : Devices = record { left = S.left source.new; source_faults = S.faults source.new; took = K.took sink.new; room = K.room sink.new; sink_faults = K.faults sink.new } in
+    ensures gives { let old : Devices = record { source = S.seen source.old; sink = K.seen sink.old } in
+        let new : Devices = record { source = S.seen source.new; sink = K.seen sink.new } in
         (words : List (List ℕ)) → IsReport words → RunGives result words old new }
-    ensures pulled { ComesOffUpTo (MAX_TEXT + 1) (S.left source.old) (S.left source.new) }
+    ensures pulled { ConsumesUpTo (MAX_TEXT + 1) (S.seen source.old).left (S.seen source.new).left }
 {
     match read_all(alloc, source, MAX_TEXT) {
         Ok(text) => report_on(alloc, text.as_slice(), sink),
@@ -87,8 +78,8 @@ fn report<S: Source, K: Sink>(alloc: Global, source: &mut S, sink: &mut K) -> St
     }
 }
 
-// Whether a text was not read for want of memory, which is no fault of the text.
-fn is_want_of_memory(code: TextCode) -> bool
+// Whether memory ran out while a text was read, which is no fault of the text.
+fn is_out_of_memory(code: TextCode) -> bool
     ensures { IsTrue result ↔ (code ≡ NoMemory) }
 {
     matches!(code, TextCode::NoMemory)
@@ -96,12 +87,12 @@ fn is_want_of_memory(code: TextCode) -> bool
 
 // Writes the report of this text, or why it is refused.
 fn report_on<K: Sink>(alloc: Global, text: &[u8], sink: &mut K) -> Status
-    ensures { ReportGives result text.now (K.took sink.old) (K.took sink.new) (K.room sink.old) (K.room sink.new) (K.faults sink.old) (K.faults sink.new) }
+    ensures { ReportGives result text.now (K.seen sink.old) (K.seen sink.new) }
 {
     let net = match read(alloc, text) {
         Ok(net) => net,
         Err(fault) => {
-            if is_want_of_memory(fault.code) {
+            if is_out_of_memory(fault.code) {
                 return Status::NoMemory;
             }
             return refuse(fault.code, fault.line, sink);

@@ -1,7 +1,7 @@
 ghost use Rattle.std.specs.Prelude.{◌≡◌, ℕ, List, IfOk, MatchOption, map, drop, string_bytes};
 ghost use Rattle.std.specs.List.{list_any};
 ghost use Rattle.clap.specs.Words.{app_of};
-ghost use Rattle.crn_run.specs.Parse.{IsRead, Gives, Means, MeansBudget, crnt_app, is_two_dashes, text_in};
+ghost use Rattle.crn_run.specs.Inner.Parse.{IsRead, Gives, Means, MeansBudget, crnt_app, is_two_dashes, text_in};
 ghost use Rattle.crn_run.specs.Words.{IsBudget, IsCommand};
 ghost use Rattle.crn_run.specs.declared.words.Command.{Command};
 
@@ -34,11 +34,6 @@ pub fn command_of(alloc: Global, words: &[String]) -> Result<Option<Command>, Al
     }
 }
 
-/// The words of a command line say at most one command.
-pub fn words_say_one_command()
-    ensures { (words : List (List ℕ)) (c other : Command) → IsCommand words c → IsCommand words other → c ≡ other }
-{}
-
 // The values that clap reads from the words.
 #[derive(Drop)]
 struct Said<'a> {
@@ -58,7 +53,7 @@ fn has_two_dashes(words: &[String]) -> bool
 }
 
 // The one command, as clap reads it.
-#[tactic(auto, unfolding(crate::specs::Parse::crnt_app))]
+#[tactic(auto, unfolding(crate::specs::Inner::Parse::crnt_app))]
 fn parser<'a>(alloc: Global) -> Result<clap::Command<'a>, AllocError>
     ensures app { IfOk result (λ c. app_of c ≡ crnt_app) }
 {
@@ -129,99 +124,5 @@ fn budget_of(digits: &str) -> Option<u32>
     match digits.parse::<u32>() {
         Ok(budget) if 1 <= budget && budget <= MAX_BUDGET => Some(budget),
         _ => None,
-    }
-}
-
-#[cfg(test)]
-mod tests {
-    use super::{Command, command_of};
-    use crn_vec::{DEFAULT_BUDGET, MAX_BUDGET};
-    use std::alloc::Global;
-    use std::test::Fail;
-
-    // The command of the words of a line, cut at spaces.
-    fn command_in(alloc: Global, line: &str) -> Result<Option<Command>, Fail> {
-        let mut words = Vec::new(alloc);
-        for word in line.split(' ') {
-            words.push(word.to_string(alloc)?)?;
-        }
-        Ok(command_of(alloc, &words)?)
-    }
-
-    #[test]
-    fn report_takes_at_most_one_budget(rt: HostRuntime) -> Result<(), Fail> {
-        let cases = [
-            ("crnt report", DEFAULT_BUDGET),
-            ("crnt report --budget 8", 8),
-            ("crnt report --budget=8", 8),
-            ("crnt --budget 8 report", 8),
-            ("crnt --budget=8 report", 8),
-            ("crnt report --budget 1", 1),
-            ("crnt report --budget 100000", MAX_BUDGET),
-            ("crnt report --budget 000007", 7),
-            ("report report", DEFAULT_BUDGET),
-        ];
-        for (line, budget) in cases {
-            let got = command_in(rt.alloc(), line)?;
-            assert_eq!(rt; got, Some(Command::Report { budget }), "{line}");
-        }
-        Ok(())
-    }
-
-    #[test]
-    fn other_words_are_no_command(rt: HostRuntime) -> Result<(), Fail> {
-        let cases = [
-            "crnt",
-            "crnt frobnicate",
-            "crnt report --budget 0",
-            "crnt report --budget 100001",
-            "crnt report --budget 12x",
-            "crnt report 3",
-            "crnt check --budget 5",
-            "crnt sample",
-            "crnt sample 0",
-            "crnt sample 20",
-            "crnt report --",
-            "crnt -- report",
-            "crnt report -- 3",
-            "crnt report --budget --",
-            "crnt report --budget",
-            "crnt report --budget=",
-            "crnt report --budget ",
-            "crnt --budget report",
-            "crnt --budget 5",
-            "crnt --budget=5",
-            "crnt report --budget 5 --budget 6",
-            "crnt --budget=5 report --budget=5",
-            "crnt --budget 5 --budget=5",
-            "crnt report report",
-            "crnt report --budget +5",
-            "crnt report --budget -5",
-            "crnt report --budget 0000007",
-            "crnt report --Budget 5",
-            "crnt report -budget 5",
-            "crnt report 5 --budget",
-            "crnt report --help",
-            "crnt -h",
-            "crnt --help",
-            "crnt help",
-            "crnt -V",
-            "crnt report -",
-            "crnt report 3 --budget 5",
-            "crnt --budget 5 report 3",
-            "crnt report --budget=5=6",
-            "crnt report --budget 5 -- 3",
-            "crnt report --budget=5 --budget=6 --budget=7",
-            "crnt report ",
-            "report",
-            "",
-        ];
-        for line in cases {
-            let got = command_in(rt.alloc(), line)?;
-            assert_eq!(rt; got, None, "{line}");
-        }
-        let none = Vec::<String>::new(rt.alloc());
-        assert_eq!(rt; command_of(rt.alloc(), &none)?, None);
-        Ok(())
     }
 }

@@ -1,3 +1,4 @@
+-- For the contracts of private functions alone.
 -- What clap reads from the words of a command line, and what the values that it reads mean.
 -- Source: this project's own. Shapes: words and values are lists of bytes.
 use Rattle.std.specs.Prelude.{◌≡◌, Bool, ℕ, List, [], codes, true, Option, Some, None, option_map}
@@ -26,7 +27,7 @@ is_two_dashes word = bytes_eq word (codes "--")
 abbrev pub text_in : Option (Bor (List ℕ)) → Option (List ℕ)
 text_in = option_map (λ v. v.now)
 
--- clap refuses the words for no cause but want of memory
+-- clap does not refuse the words, unless memory runs out
 unfoldable pub IsRead : List (List ℕ) → Type 0
 IsRead words = fault_of crnt_app words ≡ []
 
@@ -36,7 +37,7 @@ Gives words command count budget = (first_of (codes "command") (matches_of crnt_
     × (first_of (codes "count") (matches_of crnt_app words) ≡ count)
     × (first_of (codes "budget") (matches_of crnt_app words) ≡ budget)
 
--- the budget that a word writes, or the default where there is no word
+-- the budget that a word writes, or the default if there is no word
 abbrev pub MeansBudget : Option (List ℕ) → ℕ → Type 0
 MeansBudget None budget = budget ≡ DEFAULT_BUDGET
 MeansBudget (Some text) budget = IsBudget text budget

@@ -1,10 +1,10 @@
-use Rattle.std.proofs.Common.{◌≡◌, ◌≤◌, ℕ, take, length, Ok, codes}
-use Rattle.crn_io.specs.Write.{Wrote}
-use Rattle.crn_text.specs.Canonical.{joined}
+use Rattle.std.proofs.Common.{◌≡◌, ◌≤◌, take, length, codes}
+use Rattle.crn_io.specs.Joined.{joined}
+use Rattle.crn_io.specs.Write.{WroteAll}
 use Rattle.crn_run.specs.Report.{of_label, sides}
 use Rattle.crn_run.proofs.report.put_members.Given as goal
 
 abbrev pub invariant-loop-c : goal.invariant-loop-c
-invariant-loop-c g l = Wrote {T = ℕ} {E = ℕ} (joined (codes "; ") (of_label l.class (take l.c l.labels) (take l.c (sides l.net))))
-    (g.K.Sink.took l.initial.sink) (g.K.Sink.took l.sink) (g.K.Sink.room l.initial.sink) (g.K.Sink.room l.sink) (g.K.Sink.faults l.initial.sink) (g.K.Sink.faults l.sink) (Ok 0)
-    × (l.shown ≡ length (of_label l.class (take l.c l.labels) (take l.c (sides l.net)))) × (l.shown ≤ l.c)
+invariant-loop-c g l =
+    let written = of_label l.class (take l.c l.labels) (take l.c (sides l.net)) in
+    WroteAll (joined (codes "; ") written) (g.K.Sink.seen l.initial.sink) (g.K.Sink.seen l.sink) × (l.shown ≡ length written) × (l.shown ≤ l.c)

@@ -1,8 +1,7 @@
-use Rattle.std.proofs.Common.{ℕ, take, Ok, codes}
-use Rattle.crn_io.specs.Write.{Wrote}
-use Rattle.crn_text.specs.Canonical.{joined}
+use Rattle.std.proofs.Common.{take, codes}
+use Rattle.crn_io.specs.Joined.{joined}
+use Rattle.crn_io.specs.Write.{WroteAll}
 use Rattle.crn_run.proofs.report.put_names.Given as goal
 
 abbrev pub invariant-loop-s : goal.invariant-loop-s
-invariant-loop-s g l = Wrote {T = ℕ} {E = ℕ} (joined (codes " ") (take l.s l.net.names))
-    (g.K.Sink.took l.initial.sink) (g.K.Sink.took l.sink) (g.K.Sink.room l.initial.sink) (g.K.Sink.room l.sink) (g.K.Sink.faults l.initial.sink) (g.K.Sink.faults l.sink) (Ok 0)
+invariant-loop-s g l = WroteAll (joined (codes " ") (take l.s l.net.names)) (g.K.Sink.seen l.initial.sink) (g.K.Sink.seen l.sink)

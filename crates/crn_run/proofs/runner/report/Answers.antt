@@ -3,7 +3,7 @@ use Rattle.crn_text.specs.Codes.{code_number, code_name}
 use Rattle.crn_text.specs.declared.code.TextCode.TheVariants.{TextTooLong}
 use Rattle.crn_run.specs.Run.{refused_line}
 use Rattle.crn_run.proofs.Runs.{too_long, refusal_ends}
-use Rattle.crn_run.proofs.top.report.Goals as goal
+use Rattle.crn_run.proofs.runner.report.Goals as goal
 
 pub returns-in-Err-TooLong-clause-gives : goal.returns-in-Err-TooLong-clause-gives
 returns-in-Err-TooLong-clause-gives g c = λ words yes.

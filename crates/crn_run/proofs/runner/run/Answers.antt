@@ -3,7 +3,7 @@ use Rattle.crn_run.specs.declared.words.Command.TheVariants.{Report}
 use Rattle.crn_run.proofs.WordsSaid.{is_report}
 use Rattle.crn_run.proofs.Runs.{usage_ends}
 use Rattle.crn_run.proofs.Complete.{run_complete}
-use Rattle.crn_run.proofs.top.run.Goals as goal
+use Rattle.crn_run.proofs.runner.run.Goals as goal
 
 pub returns-in-Ok-Some-Report-clause-complete : goal.returns-in-Ok-Some-Report-clause-complete
 returns-in-Ok-Some-Report-clause-complete g c =
@@ -13,9 +13,9 @@ returns-in-Ok-Some-Report-clause-complete g c =
 pub returns-in-Ok-None-clause-gives : goal.returns-in-Ok-None-clause-gives
 returns-in-Ok-None-clause-gives g c =
     let none = rw c.in-Ok-None.field-0-is at c.in-Ok-None.ensures in
-    usage_ends c.usage.result _ _ _ (λ yes. none (Report yes.0) yes.1) refl refl c.usage.ensures
+    usage_ends c.usage.result _ _ _ (λ yes. none (Report yes.0) yes.1) refl c.usage.ensures
 
 pub returns-in-Ok-None-clause-complete : goal.returns-in-Ok-None-clause-complete
 returns-in-Ok-None-clause-complete g c =
     let none = rw c.in-Ok-None.field-0-is at c.in-Ok-None.ensures in
-    run_complete c.usage.result _ _ _ (usage_ends c.usage.result _ _ _ (λ yes. none (Report yes.0) yes.1) refl refl c.usage.ensures)
+    run_complete c.usage.result _ _ _ (usage_ends c.usage.result _ _ _ (λ yes. none (Report yes.0) yes.1) refl c.usage.ensures)

@@ -4,7 +4,7 @@ use Rattle.std.specs.List.{list_any}
 use Rattle.std.specs.declared.alloc.Global.{Global}
 use Rattle.std.proofs.lemmas.Iterator.{YieldsList-from_slice}
 use Rattle.std.proofs.lemmas.Iterator.Search.{any_from_yields_List}
-use Rattle.crn_run.specs.Parse.{is_two_dashes}
+use Rattle.crn_run.specs.Inner.Parse.{is_two_dashes}
 use Rattle.crn_run.proofs.words.has_two_dashes.Goals as goal
 
 any_is : (ws : List (String Global)) → list_any (λ w. is_two_dashes (string_bytes w)) ws ≡ list_any is_two_dashes (map string_bytes ws)

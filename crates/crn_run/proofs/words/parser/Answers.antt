@@ -2,7 +2,7 @@ use Rattle.std.proofs.Common.{rules, ap₂, codes, true, Some, ◌≡◌, ◌∙
 use Rattle.std.proofs.lemmas.Result.{IfOk-weaker}
 use Rattle.clap.specs.Words.{new_rule, rule_of, with_rule}
 use Rattle.clap.specs.declared.builder.action.ArgAction.TheVariants.{Set}
-use Rattle.crn_run.specs.Parse.{crnt_app}
+use Rattle.crn_run.specs.Inner.Parse.{crnt_app}
 use Rattle.crn_run.proofs.words.parser.Goals as goal
 
 pub returns : goal.returns
