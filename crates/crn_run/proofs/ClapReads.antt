@@ -1,4 +1,4 @@
--- The words that clap reads, where the values that it gives mean a report.
+-- The words that clap reads if the values that it gives mean a report.
 use Rattle.std.proofs.Common.{◌≡◌, ◌⊎◌, ◌||◌, ◌+◌, ℕ, Bool, true, false, List, [], ◌∷◌, Option, Some, None, refl, sym, ap, ◌∙◌, subst, inl, inr, codes, length, ◌<◌, zero, suc, arith}
 use Rattle.std.specs.Prelude.{fold}
 use Rattle.std.specs.List.{list_any}
@@ -33,9 +33,9 @@ or_right true b e = absurd cc
 or_right false b e = e
 
 -- a word further
-turn : (n : ℕ) (w : Walk) (word : Text) (rest : List Text) → Reads n w (word ∷ rest) → Kind word × (turn_fault shape [] w word ≡ [])
+next_word : (n : ℕ) (w : Walk) (word : Text) (rest : List Text) → Reads n w (word ∷ rest) → Kind word × (turn_fault shape [] w word ≡ [])
 unfolding walk_fault
-turn n w word rest r = (kind word (or_left _ _ r.plain), first_none _ _ r.quiet)
+next_word n w word rest r = (kind word (or_left _ _ r.plain), first_none _ _ r.quiet)
 
 further : (n : ℕ) (w next : Walk) (word : Text) (rest : List Text) → walked rules [] w word ≡ next → Reads n w (word ∷ rest) → Reads n next rest
 unfolding walk_fault
@@ -50,7 +50,7 @@ further n w next word rest e r = subst (λ (u : Walk). Reads n u rest) e (record
 value_after : (n : ℕ) (rows : List Row) (pos : ℕ) (rest : List Text) → Reads n (at rows (Some (budget, [])) (option budget) pos) rest
     → (v : Text) × (after : List Text) × (rest ≡ v ∷ after) × Reads n (at rows (Some (budget, v ∷ [])) idle pos) after
 value_after n rows pos [] r = absurd (some_fault r.settles)
-value_after n rows pos (v ∷ after) r = go (turn n _ v after r)
+value_after n rows pos (v ∷ after) r = go (next_word n _ v after r)
   where
     go : Kind v × (turn_fault shape [] (at rows (Some (budget, [])) (option budget) pos) v ≡ []) → (u : Text) × (others : List Text) × (v ∷ after ≡ u ∷ others) × Reads n (at rows (Some (budget, u ∷ [])) idle pos) others
     go (inl e, t) = absurd (some_fault (first_none (settle_fault rules false (holding rows (Some (budget, [])))) [] (sym (parted_fault rows (Some (budget, [])) (option budget) pos) ∙ subst (λ (u : Text). turn_fault shape [] (at rows (Some (budget, [])) (option budget) pos) u ≡ []) e t)))
@@ -58,7 +58,7 @@ value_after n rows pos (v ∷ after) r = go (turn n _ v after r)
     go (inr (inr (inl bad)), t) = absurd (bad rows (Some (budget, [])) (option budget) pos t)
     go (inr (inr (inr is)), t) = (v, after, refl, further n (at rows (Some (budget, [])) (option budget) pos) (at rows (Some (budget, v ∷ [])) idle pos) v after (waiting_walked rows pos v is) r)
 
--- where nothing waits, the words end, or the next is the option with its value, or a value, and what is pending has no fault
+-- if nothing waits, the words end, or the next is the option with its value, or a value, and what is pending has no fault
 abbrev Next : ℕ → List Row → Option (Text × List Text) → ℕ → List Text → Type 0
 Next n rows p pos words = (words ≡ [])
     ⊎ ((v : Text) × (after : List Text) × (words ≡ parted ∷ v ∷ after) × Reads n (at (rows_in (holding rows p)) (Some (budget, v ∷ [])) idle pos) after)
@@ -67,7 +67,7 @@ Next n rows p pos words = (words ≡ [])
 
 next : (n : ℕ) (rows : List Row) (p : Option (Text × List Text)) (pos : ℕ) (words : List Text) → Reads n (at rows p idle pos) words → Next n rows p pos words
 next n rows p pos [] r = inl refl
-next n rows p pos (word ∷ rest) r = go (turn n _ word rest r)
+next n rows p pos (word ∷ rest) r = go (next_word n _ word rest r)
   where
     go : Kind word × (turn_fault shape [] (at rows p idle pos) word ≡ []) → Next n rows p pos (word ∷ rest)
     go (inl e, t) =
@@ -82,7 +82,7 @@ next n rows p pos (word ∷ rest) r = go (turn n _ word rest r)
 -- what is pending has no fault
 quiet_here : (n : ℕ) (rows : List Row) (p : Option (Text × List Text)) (pos : ℕ) (id : Text) (words : List Text) → IsPlace pos id → Reads n (at rows p idle pos) words → settle_fault rules false (holding rows p) ≡ []
 quiet_here n rows p pos id [] place r = r.settles
-quiet_here n rows p pos id (word ∷ rest) place r = go (turn n _ word rest r)
+quiet_here n rows p pos id (word ∷ rest) place r = go (next_word n _ word rest r)
   where
     go : Kind word × (turn_fault shape [] (at rows p idle pos) word ≡ []) → settle_fault rules false (holding rows p) ≡ []
     go (inl e, t) = first_none _ [] (sym (parted_fault rows p idle pos) ∙ subst (λ (x : Text). turn_fault shape [] (at rows p idle pos) x ≡ []) e t)
@@ -116,9 +116,9 @@ counted (suc k) n c rows p words lt has r = go (next n rows p 3 words r) (λ oth
         absurd (let bad : Some c ≡ None = sym has ∙ none in cc)
     go (inr (inl (v, after, e, s))) later = later (rows_in (holding rows p)) (Some (budget, v ∷ [])) after (omega (arith, ap length e)) (use_keeps_count v (rows_in (holding rows p)) ∙ has) s
     go (inr (inr (inl (v, after, e, f, s)))) later = later (used budget_rule (v ∷ []) (rows_in (holding rows p))) None after (omega (arith, ap length e)) (use_keeps_count v (rows_in (holding rows p)) ∙ has) s
-    go (inr (inr (inr (v, after, e, is, s)))) later = third_place rows p v is (turn n (at rows p idle 3) v after s).1
+    go (inr (inr (inr (v, after, e, is, s)))) later = third_place rows p v is (next_word n (at rows p idle 3) v after s).1
 
--- where the command and the option are there, no word is left
+-- if the command and the option are there, no word is left
 abbrev CountsNext : List Row → Type 0
 CountsNext rows = (m : Text) → first_of (codes "count") (rows_in (holding rows (Some (codes "count", m ∷ [])))) ≡ Some m
 
@@ -132,7 +132,7 @@ full n rows p words spent counts r = go (next n rows p 2 words r)
     go (inr (inr (inl (v, after, e, f, s)))) = absurd (spent v f)
     go (inr (inr (inr (v, after, e, is, s)))) = absurd (counted (length after + 1) n v (rows_in (holding rows p)) (Some (codes "count", v ∷ [])) after (omega arith) (counts v) (placed n rows p 2 (codes "count") v after second_place is s))
 
--- where the option is there, one word is left, the command
+-- if the option is there, one word is left, the command
 abbrev With : List Row → Text → List Row
 With rows c = rows_in (holding rows (Some (codes "command", c ∷ [])))
 

@@ -10,7 +10,7 @@ use Rattle.clap.specs.Kinds.{Kinds, or_else}
 use Rattle.clap.specs.Faults.{settle_fault, step_fault, turn_fault}
 use Rattle.crn_run.proofs.ClapWords.{IsValue, at, budget, budget_rule, holding, none_then, rules, second_none, shape, some_fault}
 
--- ---- where the option waits for a value
+-- ---- the option waits for a value
 
 pub waiting_fault : (rows : List Row) (pos : ℕ) (word : Text) → IsValue word → turn_fault shape [] (at rows (Some (budget, [])) (option budget) pos) word ≡ []
 waiting_fault rows pos word is =
@@ -23,7 +23,7 @@ waiting_walked rows pos word is =
     let v = is rows (Some (budget, [])) (option budget) pos in
     ap (λ (m : Held × Step). after_step rules word (at rows (Some (budget, [])) (option budget) pos) m.0 m.1) v.1
 
--- ---- where nothing waits
+-- ---- nothing waits
 
 -- the argument at a place
 abbrev place_rule : ℕ → Rule

@@ -35,7 +35,7 @@ holding rows p = record { rows = rows; pending = p; skip = 0 }
 abbrev pub at : List Row → Option (Text × List Text) → Waiting → ℕ → Walk
 at rows p w pos = record { held = holding rows p; waiting = w; position = pos; is_trailing = false; stopped = None }
 
--- ---- faults in turn
+-- ---- faults one by one
 
 pub first_none : (a b : Kinds) → or_else a b ≡ [] → a ≡ []
 first_none [] b e = refl
@@ -148,7 +148,7 @@ short_faulty x rest h next e = go (104 == x) e
     go true e = some_fault (second_none _ _ (first_none _ _ e))
     go false e = some_fault e
 
--- its first character, where the bytes spell one, says what it is
+-- if the bytes spell a character, the first one says what it is
 flags_kind : (y : ℕ) (ys : Text) (o : Option ℕ) → slice_get (chars (y ∷ ys)) 0 ≡ o → long_of (45 ∷ y ∷ ys) ≡ None → short_of (45 ∷ y ∷ ys) ≡ Some (y ∷ ys) → bytes_eq (45 ∷ y ∷ ys) (45 ∷ 45 ∷ []) ≡ false → Kind (45 ∷ y ∷ ys)
 unfolding flags_fault bundle_met
 flags_kind y ys None first l s d =
@@ -172,7 +172,7 @@ short_kind y ys ne = flags_kind y ys _ refl
     (ap (λ (b : Bool). if b then None else Some (y ∷ ys)) ne)
     (ap (λ (b : Bool). true && (b && bytes_eq ys [])) ne)
 
--- a text, cut at its first `=`
+-- a text, split at its first `=`
 abbrev Cut : Text → Type 0
 Cut xs = (has_byte 61 xs ≡ true → (v : Text) × (xs ≡ before_first (λ x. x == 61) xs ++ 61 ∷ v)) × (has_byte 61 xs ≡ false → before_first (λ x. x == 61) xs ≡ xs)
 

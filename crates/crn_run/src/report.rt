@@ -16,7 +16,8 @@ fn put_count<K: Sink>(
     count: usize,
     after: &[u8],
 ) -> Result<(), WriteFault>
-    ensures { Wrote (before.now ++ decimal count ++ after.now) (K.seen sink.old) (K.seen sink.new) result }
+    ensures { Wrote (before.now ++ decimal count ++ after.now)
+        (K.seen sink.old) (K.seen sink.new) result }
 {
     let mut buffer = Buffer::new();
     put_parts(sink, &[before, buffer.format(count).as_bytes(), after])
@@ -49,7 +50,8 @@ fn put_complex<K: Sink>(
 
 // All complexes.
 fn put_complexes<K: Sink>(sink: &mut K, net: &Network) -> Result<(), WriteFault>
-    ensures { Wrote (joined (codes "; ") (sides net.now)) (K.seen sink.old) (K.seen sink.new) result }
+    ensures { Wrote (joined (codes "; ") (sides net.now))
+        (K.seen sink.old) (K.seen sink.new) result }
 {
     for c in 0..net.complexes() {
         put_complex(sink, c, net, c)?;
@@ -87,7 +89,8 @@ fn put_class<K: Sink>(
     net: &Network,
 ) -> Result<(), WriteFault>
     requires { length labels.now ≡ length net.now.complexes }
-    ensures { Wrote (class_line labels.now (sides net.now) class) (K.seen sink.old) (K.seen sink.new) result }
+    ensures { Wrote (class_line labels.now (sides net.now) class)
+        (K.seen sink.old) (K.seen sink.new) result }
 {
     put_count(sink, b"  class ", class as usize, b": ")?;
     put_members(sink, class, labels, net)?;
@@ -102,7 +105,8 @@ fn put_classes<K: Sink>(
     net: &Network,
 ) -> Result<(), WriteFault>
     requires { length labels.now ≡ length net.now.complexes }
-    ensures { Wrote (class_lines labels.now (sides net.now) 1 count) (K.seen sink.old) (K.seen sink.new) result }
+    ensures { Wrote (class_lines labels.now (sides net.now) 1 count)
+        (K.seen sink.old) (K.seen sink.new) result }
 {
     for k in 0..count {
         put_class(sink, k + 1, labels, net)?;

@@ -2,7 +2,7 @@ ghost use Rattle.std.specs.Prelude.{◌≡◌, ◌↔◌, ◌+◌, ℕ, List, Is
 ghost use Rattle.crn_vec.specs.declared.limits.TheConstants.{MAX_TEXT};
 ghost use Rattle.crn_io.specs.Device.{SourceSeen};
 ghost use Rattle.crn_io.specs.Read.{ConsumesUpTo};
-ghost use Rattle.crn_run.specs.Run.{Devices, IsReport, RunGives, IsComplete, usage_line, refused_line};
+ghost use Rattle.crn_run.specs.Run.{IsReport, RunGives, IsComplete, usage_line, refused_line};
 ghost use Rattle.crn_run.specs.Inner.Steps.{LineGives, ReportGives};
 ghost use Rattle.crn_text.specs.Codes.{code_number, code_name};
 ghost use Rattle.crn_text.specs.declared.code.TextCode.TheVariants.{NoMemory};
@@ -26,12 +26,12 @@ pub fn run<S: Source, K: Sink>(
     source: &mut S,
     sink: &mut K,
 ) -> Status
-    ensures gives { let old : Devices = record { source = S.seen source.old; sink = K.seen sink.old } in
-        let new : Devices = record { source = S.seen source.new; sink = K.seen sink.new } in
-        RunGives result (map string_bytes words.now) old new }
-    ensures complete { let old : Devices = record { source = S.seen source.old; sink = K.seen sink.old } in
-        let new : Devices = record { source = S.seen source.new; sink = K.seen sink.new } in
-        IsComplete result (map string_bytes words.now) old new }
+    ensures gives { RunGives result (map string_bytes words.now)
+        (record { source = S.seen source.old; sink = K.seen sink.old })
+        (record { source = S.seen source.new; sink = K.seen sink.new }) }
+    ensures complete { IsComplete result (map string_bytes words.now)
+        (record { source = S.seen source.old; sink = K.seen sink.old })
+        (record { source = S.seen source.new; sink = K.seen sink.new }) }
     ensures unread { (IsReport (map string_bytes words.now) → ⊥) → source.new ≡ source.old }
     ensures pulled { ConsumesUpTo (MAX_TEXT + 1) (S.seen source.old).left (S.seen source.new).left }
 {
@@ -65,9 +65,9 @@ fn refuse<K: Sink>(code: TextCode, line: u32, sink: &mut K) -> Status
 
 // Reads a network text, and writes its report or why it is refused.
 fn report<S: Source, K: Sink>(alloc: Global, source: &mut S, sink: &mut K) -> Status
-    ensures gives { let old : Devices = record { source = S.seen source.old; sink = K.seen sink.old } in
-        let new : Devices = record { source = S.seen source.new; sink = K.seen sink.new } in
-        (words : List (List ℕ)) → IsReport words → RunGives result words old new }
+    ensures gives { (words : List (List ℕ)) → IsReport words → RunGives result words
+        (record { source = S.seen source.old; sink = K.seen sink.old })
+        (record { source = S.seen source.new; sink = K.seen sink.new }) }
     ensures pulled { ConsumesUpTo (MAX_TEXT + 1) (S.seen source.old).left (S.seen source.new).left }
 {
     match read_all(alloc, source, MAX_TEXT) {

@@ -18,12 +18,13 @@ pub enum Command {
     Report { budget: u32 },
 }
 
-/// The command that the words say, or none where they say none. Takes memory.
+/// The command that the words say, or none if they say none. Takes memory.
 ///
 /// The words begin with the program's name. They are read with clap, as a positional `command`, a
 /// positional `count` that may be left out, and an option `--budget`. A word `--` is in no command.
 pub fn command_of(alloc: Global, words: &[String]) -> Result<Option<Command>, AllocError>
-    ensures { IfOk result (λ found. MatchOption found ((c : Command) → IsCommand (map string_bytes words.now) c → ⊥) (λ c. IsCommand (map string_bytes words.now) c)) }
+    ensures { let said = map string_bytes words.now in IfOk result (λ found.
+        MatchOption found ((c : Command) → IsCommand said c → ⊥) (λ c. IsCommand said c)) }
 {
     if has_two_dashes(words) {
         return Ok(None);
@@ -70,9 +71,11 @@ fn parser<'a>(alloc: Global) -> Result<clap::Command<'a>, AllocError>
         .arg(budget)
 }
 
-// The values that clap reads from the words, or none where it refuses them.
+// The values that clap reads from the words, or none if it refuses them.
 fn parse<'a>(alloc: Global, words: &'a [String]) -> Result<Option<Said<'a>>, AllocError>
-    ensures { IfOk result (λ found. MatchOption found (IsRead (map string_bytes words.now) → ⊥) (λ s. IsRead (map string_bytes words.now) × Gives (map string_bytes words.now) (text_in s.command) (text_in s.count) (text_in s.budget))) }
+    ensures { let said = map string_bytes words.now in IfOk result (λ found.
+        MatchOption found (IsRead said → ⊥) (λ s. IsRead said
+        × Gives said (text_in s.command) (text_in s.count) (text_in s.budget))) }
 {
     let parser = parser(alloc)?;
     match parser.try_get_matches_from(words) {
@@ -90,7 +93,10 @@ fn parse<'a>(alloc: Global, words: &'a [String]) -> Result<Option<Said<'a>>, All
 
 // The command that the values mean.
 fn command_meant(said: &Said<'_>) -> Option<Command>
-    ensures { MatchOption result ((c : Command) → Means (text_in said.now.command) (text_in said.now.count) (text_in said.now.budget) c → ⊥) (Means (text_in said.now.command) (text_in said.now.count) (text_in said.now.budget)) }
+    ensures { let command = text_in said.now.command in
+        let count = text_in said.now.count in
+        let budget = text_in said.now.budget in
+        MatchOption result ((c : Command) → Means command count budget c → ⊥) (Means command count budget) }
 {
     match said.command {
         Some("report") => {
@@ -104,9 +110,10 @@ fn command_meant(said: &Said<'_>) -> Option<Command>
     }
 }
 
-// The budget that a word writes, or the default where there is no word.
+// The budget that a word writes, or the default if there is no word.
 fn budget_meant(word: Option<&str>) -> Option<u32>
-    ensures { MatchOption result ((b : ℕ) → MeansBudget (text_in word.entry) b → ⊥) (MeansBudget (text_in word.entry)) }
+    ensures { let text = text_in word.entry in
+        MatchOption result ((b : ℕ) → MeansBudget text b → ⊥) (MeansBudget text) }
 {
     match word {
         Some(digits) => budget_of(digits),
@@ -116,7 +123,8 @@ fn budget_meant(word: Option<&str>) -> Option<u32>
 
 // The budget that digits write.
 fn budget_of(digits: &str) -> Option<u32>
-    ensures { MatchOption result ((b : ℕ) → IsBudget digits.now b → ⊥) (λ b. IsBudget digits.now b) }
+    ensures { MatchOption result ((b : ℕ) → IsBudget digits.now b → ⊥)
+        (λ b. IsBudget digits.now b) }
 {
     if digits.len() > MAX_BUDGET_DIGITS || digits.as_bytes().first() == Some(&b'+') {
         return None;

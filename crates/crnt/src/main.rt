@@ -6,7 +6,7 @@ use crn_run::run;
 use std::process::ExitCode;
 use std::{env, io};
 
-/// The exit status where the words can't be got, which is no status of a run.
+/// The exit status if the words can't be got, which is not a status of a run.
 const NO_WORDS: u8 = 8;
 
 // The words of the command line, the program's name first.

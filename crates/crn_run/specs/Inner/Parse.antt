@@ -23,7 +23,7 @@ crnt_app =
 abbrev pub is_two_dashes : List ℕ → Bool
 is_two_dashes word = bytes_eq word (codes "--")
 
--- the text behind a reference
+-- the text that a reference points to
 abbrev pub text_in : Option (Bor (List ℕ)) → Option (List ℕ)
 text_in = option_map (λ v. v.now)
 
