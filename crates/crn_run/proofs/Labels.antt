@@ -4,7 +4,7 @@ use Rattle.std.proofs.lemmas.List.{get_or-set_other, get_or-set_same, length-set
 use Rattle.std.proofs.lemmas.Bool.{cases_lt}
 use Rattle.crn_vec.specs.Lists.{IsIn}
 use Rattle.crn_vec.specs.Linkage.{IsLinked, IsWalk, SameClass, AreRightLabels, IsLabelCount}
-use Rattle.crn_run.specs.Spread.{AreEven, Joins, IsSpread}
+use Rattle.crn_run.specs.Inner.Spread.{AreEven, Joins, IsSpread}
 
 -- ---- members by place
 

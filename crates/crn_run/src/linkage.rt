@@ -1,6 +1,6 @@
 ghost use Rattle.std.specs.Prelude.{◌≡◌, ◌≤◌, ◌<◌, ◌+◌, ℕ, List, length, slice_index, IfSome, IfNone, IfOk};
 ghost use Rattle.crn_vec.specs.Linkage.{IsLinked, AreRightLabels, IsLabelCount};
-ghost use Rattle.crn_run.specs.Spread.{AreEven, IsSpread};
+ghost use Rattle.crn_run.specs.Inner.Spread.{AreEven, IsSpread};
 
 use crn_net::Network;
 use crn_vec::{MAX_COMPLEXES, Nums};

@@ -1,4 +1,5 @@
--- Labels on the way: those of the classes so far, and zero elsewhere.
+-- For the contracts of private functions alone.
+-- Labels that are still being given: those of the classes so far, and zero elsewhere.
 use Rattle.std.specs.Prelude.{◌≡◌, ◌≤◌, ◌<◌, ◌⊎◌, ℕ, List, length, slice_index}
 use Rattle.crn_vec.specs.Lists.{IsIn}
 use Rattle.crn_vec.specs.Linkage.{SameClass}
@@ -11,7 +12,7 @@ AreEven reactions labels = (y z : ℕ) → IsIn (y, z) reactions → ((1 ≤ sli
 abbrev pub Joins : ℕ → ℕ → ℕ → Type 0
 Joins count a b = (a ≡ b) ⊎ ((a ≡ 0) × (b ≡ count)) ⊎ ((a ≡ count) × (b ≡ 0))
 
--- Labels up to count, the newest of them on its way, where first is the place after the newest class's first complex.
+-- Labels up to count, the newest of them still being given; first is the place after the newest class's first complex.
 pub record IsSpread (reactions : List (ℕ × ℕ)) (labels : List ℕ) (count first : ℕ) : Type 0 where
   pub most : (y : ℕ) → slice_index labels y ≤ count
   pub same : (y z : ℕ) → 1 ≤ slice_index labels y → slice_index labels y ≡ slice_index labels z → SameClass reactions y z
