@@ -15,13 +15,14 @@ use Rattle.crn_vec.specs.Systems.{HasKind, MayTake, kind_at, HasOneRowCut, signe
 use Rattle.crn_vec.proofs.Entries.{eq_or, lt_or, past_end, zip_from}
 use Rattle.crn_vec.proofs.KindLaws.{kind_from, take_zero}
 use Rattle.crn_vec.proofs.Null.{dot-zero, Zero as AllZero}
-use Rattle.crn_farkas.specs.declared.stop.Stop.{Stop}
-use Rattle.crn_farkas.specs.declared.stop.Stop.TheVariants.{Wide, NoMemory}
+use Rattle.crn_farkas.specs.declared.fault.Stop.{Stop}
+use Rattle.crn_farkas.specs.declared.fault.Stop.TheVariants.{Wide, NoMemory}
 use Rattle.crn_farkas.specs.declared.decision.Decision.{Decision}
-use Rattle.crn_farkas.specs.Views.{is_early_kind, level_of, level_count}
-use Rattle.crn_farkas.specs.Decides.{HasKeptCut, IsSmallSolution}
-use Rattle.crn_farkas.specs.Ends.{IsPartSum, AreZeros, IsDecision, IsGoalStop, IsTargetStop, IsNearStop, IsStop, IsRuledOut}
-use Rattle.crn_tab.proofs.Numbers.{push_in, push_last, in_push}
+use Rattle.crn_farkas.specs.Inner.Views.{is_early_kind, level_of, level_count}
+use Rattle.crn_farkas.specs.Solver.{HasKeptCut, IsNearStop, IsRuledOut}
+use Rattle.crn_farkas.specs.Decision.{IsSmallSolution, IsDecision, IsTargetStop, IsStop}
+use Rattle.crn_farkas.specs.Inner.Sums.{IsPartSum, AreZeros, IsGoalStop}
+use Rattle.crn_tab.proofs.CallerLemmas.{push_in, push_last, in_push}
 use Rattle.crn_farkas.proofs.PartSums.{part_bound}
 
 -- a list filled with zeros

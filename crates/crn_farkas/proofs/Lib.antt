@@ -1,13 +1,15 @@
-pub mod Pairs
-pub mod Seen
-pub mod SignRules
-pub mod ReadSigns
-pub mod Steps
-pub mod Ruling
-pub mod Witnesses
-pub mod PartSums
-pub mod Counts
-pub mod Finals
-pub mod Levels
-pub mod Marks
-pub mod Witnessing
+mod Pairs
+mod Seen
+mod SignRules
+mod ReadSigns
+mod Steps
+mod Ruling
+mod Witnesses
+mod PartSums
+mod Counts
+mod Finals
+mod Levels
+mod Marks
+mod Witnessing
+mod WideStops
+pub mod CallerLemmas

@@ -16,11 +16,8 @@ use Rattle.crn_vec.proofs.Ring.{no_zero, mul-neg}
 use Rattle.crn_vec.proofs.Sums.{length-scale, entry-scale, dot-scale}
 use Rattle.crn_vec.proofs.Null.{dot-scale-right}
 use Rattle.crn_vec.proofs.Orthogonal.{part, orthogonal}
-use Rattle.crn_tab.specs.Names.{NamesRows}
-use Rattle.crn_tab.proofs.Dots.{dot_single}
-use Rattle.crn_tab.proofs.Places.{isIn_or}
-use Rattle.crn_tab.proofs.Signs.{one_row}
-use Rattle.crn_tab.proofs.OwnSign.{as_row}
+use Rattle.crn_tab.specs.Tableau.{NamesRows}
+use Rattle.crn_tab.proofs.CallerLemmas.{dot_single, isIn_or, one_row, as_row}
 
 -- all products but two are 0
 dot_pair : (v w : List ℤ) (c g : ℕ) → c ≢ g → ((i : ℕ) → i ≢ c → i ≢ g → part v w i ≡ pos 0) → dot v w ≡ part v w c +ℤ part v w g
@@ -98,16 +95,16 @@ named_scaled a basis e q w h = record {
 }
 
 -- a number that is not 0 has a signed kind, or its negative has
-pub turned_kind : (κ : Kind) (x : ℤ) → is_signed κ ≡ true → x ≢ pos 0 → HasKind κ (pos 1 *ℤ x) ⊎ HasKind κ (negsuc 0 *ℤ x)
-turned_kind Pos (pos zero) s n = absurd (n refl)
-turned_kind Pos (pos (suc x)) s n = inl (omega (arith, ints))
-turned_kind Pos (negsuc x) s n = inr (omega (arith, ints))
-turned_kind Neg (pos zero) s n = absurd (n refl)
-turned_kind Neg (pos (suc x)) s n = inr (omega (arith, ints))
-turned_kind Neg (negsuc x) s n = inl (omega (arith, ints))
-turned_kind NonNeg x s n = absurd (false≢true s)
-turned_kind Zero x s n = absurd (false≢true s)
-turned_kind Free x s n = absurd (false≢true s)
+pub signed_kind : (κ : Kind) (x : ℤ) → is_signed κ ≡ true → x ≢ pos 0 → HasKind κ (pos 1 *ℤ x) ⊎ HasKind κ (negsuc 0 *ℤ x)
+signed_kind Pos (pos zero) s n = absurd (n refl)
+signed_kind Pos (pos (suc x)) s n = inl (omega (arith, ints))
+signed_kind Pos (negsuc x) s n = inr (omega (arith, ints))
+signed_kind Neg (pos zero) s n = absurd (n refl)
+signed_kind Neg (pos (suc x)) s n = inr (omega (arith, ints))
+signed_kind Neg (negsuc x) s n = inl (omega (arith, ints))
+signed_kind NonNeg x s n = absurd (false≢true s)
+signed_kind Zero x s n = absurd (false≢true s)
+signed_kind Free x s n = absurd (false≢true s)
 
 pub kind_some : (κ : Kind) (x : ℤ) → is_signed κ ≡ true → HasKind κ x → x ≢ pos 0
 kind_some Pos x s h = λ e. omega (arith, ints, e, h)

@@ -7,9 +7,8 @@ use Rattle.crn_vec.specs.Vectors.{Mat, entry, HasSign}
 use Rattle.crn_vec.specs.Lists.{IsIn}
 use Rattle.crn_vec.specs.Elementary.{width, IsNamedRow, IsNamedColumn}
 use Rattle.crn_vec.proofs.Ring.{mul-neg}
-use Rattle.crn_tab.specs.Names.{NamesRows}
-use Rattle.crn_tab.proofs.Signs.{one_row}
-use Rattle.crn_tab.proofs.OwnSign.{as_row, sign_carried}
+use Rattle.crn_tab.specs.Tableau.{NamesRows}
+use Rattle.crn_tab.proofs.CallerLemmas.{one_row, as_row, sign_carried}
 use Rattle.crn_farkas.proofs.Pairs.{pair, other_some}
 use Rattle.crn_farkas.proofs.SignRules.{sign_divided, sign_of_factor, minus_sum, one-mul}
 

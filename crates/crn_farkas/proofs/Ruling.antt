@@ -1,11 +1,10 @@
 -- Lists that rule a system out, from their entries.
 use Rattle.std.proofs.Common.{◌≡◌, ◌≢◌, ℕ, zero, suc, ◌+◌, ◌<◌, ◌≤◌, inl, inr, List, [], ◌∷◌, ◌++◌, length, take, drop, refl, sym, ap, subst, ◌∙◌, add-one, arith}
-use Rattle.std.specs.Prelude.{ℤ, pos, ◌*ℤ◌, unsigned_abs, Bool, true, false}
+use Rattle.std.specs.Prelude.{ℤ, pos, ◌*ℤ◌, unsigned_abs, Bool, true, false, Result, Ok, Err}
 use Rattle.std.proofs.lemmas.Int.{ints}
 use Rattle.std.proofs.lemmas.Bool.{false≢true}
 use Rattle.std.proofs.lemmas.List.{get_or-drop}
 use Rattle.std.specs.Result.{IfOk}
-use Rattle.std.specs.Prelude.{Result, Ok, Err}
 use Rattle.crn_vec.specs.declared.limits.TheConstants.{WIDE_ENTRY}
 use Rattle.crn_vec.specs.declared.signs.Kind.{Kind}
 use Rattle.crn_vec.specs.declared.signs.Kind.TheVariants.{Free}
@@ -18,14 +17,21 @@ use Rattle.crn_vec.specs.Systems.{HasWeight, IsCut, MayWeigh, kind_at, is_signed
 use Rattle.crn_vec.proofs.Cuts.{kinds_at, weights_tell_cuts}
 use Rattle.crn_vec.proofs.Entries.{lt_or, past_end, zip_from}
 use Rattle.crn_vec.proofs.Sums.{entry-scale}
-use Rattle.crn_tab.specs.Names.{NamesRows}
-use Rattle.crn_tab.specs.Scans.{RulesBelow}
+use Rattle.crn_tab.specs.Tableau.{NamesRows, RulesBelow}
 use lib.IntN.{zero-*ℤ}
 use Rattle.crn_vec.proofs.Ring.{no_zero}
-use Rattle.crn_tab.proofs.Signs.{one_row}
-use Rattle.crn_tab.proofs.OwnSign.{as_row}
-use Rattle.crn_farkas.specs.Decides.{factor, WeighsBelow, CountsBelow, CutsBy, IsSmallCut, AreNamedMultipliers}
+use Rattle.crn_tab.proofs.CallerLemmas.{one_row, as_row}
+use Rattle.crn_farkas.specs.Decision.{factor, IsSmallCut}
+use Rattle.crn_farkas.specs.Solver.{CutsBy, AreNamedMultipliers}
 use Rattle.crn_farkas.proofs.Pairs.{named_scaled, dual_scaled, drop-scale, own_some}
+
+-- the first so many entries are what a list that rules a system out may have
+abbrev WeighsBelow : List Kind → List ℤ → ℕ → Type 0
+WeighsBelow kinds w n = (k : ℕ) → k < n → MayWeigh (kind_at kinds k) (entry w k)
+
+-- some of the first so many coordinates has to be positive or negative, and has a weight
+abbrev CountsBelow : List Kind → List ℤ → ℕ → Type 0
+CountsBelow kinds w n = (k : ℕ) × (k < n) × (is_signed (kind_at kinds k) ≡ true) × (entry w k ≢ pos 0)
 
 -- what a list (-uA, u) that rules a system of these kinds out has at each place
 abbrev pub IsRuling : List Kind → List ℤ → Type 0
@@ -90,17 +96,17 @@ pub unscaled_small : (s : Bool) (v : List ℤ) (m : ℕ) → ((k : ℕ) → unsi
 unscaled_small s v m h k = subst (λ (t : ℕ). t < m) (ap unsigned_abs (entry-scale (factor s) v k) ∙ unit_size s (entry v k)) (h k)
 
 -- the multipliers of a named vector with its sign
-pub cut_from : (a : Mat) (basis : List ℕ) (kinds : List Kind) (e : ℕ) (turn : Sign) (s : Bool) (w u : List ℤ) → NamesRows a basis → e < width a → ¬ IsIn e basis → length kinds ≡ width a
-    → CutsBy a basis kinds e turn → IsNamed a basis e w → ((k : ℕ) → unsigned_abs (entry w k) < WIDE_ENTRY) → (entry w e ≢ pos 0 → turn ≢ Zero → HasSign turn (factor s *ℤ entry w e))
+pub cut_from : (a : Mat) (basis : List ℕ) (kinds : List Kind) (e : ℕ) (sign : Sign) (s : Bool) (w u : List ℤ) → NamesRows a basis → e < width a → ¬ IsIn e basis → length kinds ≡ width a
+    → CutsBy a basis kinds e sign → IsNamed a basis e w → ((k : ℕ) → unsigned_abs (entry w k) < WIDE_ENTRY) → (entry w e ≢ pos 0 → sign ≢ Zero → HasSign sign (factor s *ℤ entry w e))
     → u ≡ scale (factor s) (drop a.cols w) → IsSmallCut a kinds u
-cut_from a basis kinds e turn s w u t lt out long cuts named small turns same =
+cut_from a basis kinds e sign s w u t lt out long cuts named small signs same =
     let small_part : (k : ℕ) → unsigned_abs (entry (drop a.cols w) k) < WIDE_ENTRY = λ k. subst (λ (z : ℤ). unsigned_abs z < WIDE_ENTRY) (sym (get_or-drop a.cols w k (pos 0))) (small (a.cols + k)) in
     let q = factor s in
-    let turned = turns (own_some a basis e w t lt out named) cuts.some in
+    let signed = signs (own_some a basis e w t lt out named) cuts.some in
     let row = as_row a basis e w out named in
     let v = scale q w in
     let named_v = named_scaled a basis e q w row in
-    let rules = cuts.rules v named_v (subst (HasSign turn) (sym (entry-scale q w e)) turned) in
+    let rules = cuts.rules v named_v (subst (HasSign sign) (sym (entry-scale q w e)) signed) in
     record {
       cut = subst (IsCut a kinds) (drop-scale q a.cols w ∙ sym same) rules;
       small = subst (λ (l : List ℤ). (k : ℕ) → unsigned_abs (entry l k) < WIDE_ENTRY) (sym same) (scaled_small s (drop a.cols w) (WIDE_ENTRY) small_part);

@@ -1,4 +1,4 @@
--- What a view shows: that there is such a vector, and how an exchange turns the view.
+-- What a view shows: that there is such a vector, and how an exchange changes the view.
 use Rattle.std.proofs.Common.{◌≡◌, ◌≢◌, ℕ, ◌<◌, ◌↔◌, inl, inr, List, refl, sym, subst, ◌∙◌, arith}
 use Rattle.std.specs.Prelude.{ℤ, pos, negsuc, ◌+ℤ◌, ◌*ℤ◌, true}
 use Rattle.std.proofs.lemmas.Int.{ints}
@@ -9,15 +9,13 @@ use Rattle.crn_vec.specs.Lists.{IsIn}
 use Rattle.crn_vec.specs.Elementary.{width, IsNamed, IsNamedColumn}
 use Rattle.crn_vec.specs.Systems.{HasKind, is_signed}
 use Rattle.crn_vec.proofs.Sums.{entry-scale}
-use Rattle.crn_tab.specs.Names.{NamesRows}
-use Rattle.crn_tab.proofs.Places.{isIn_or}
+use Rattle.crn_tab.specs.Tableau.{NamesRows}
+use Rattle.crn_tab.proofs.CallerLemmas.{isIn_or, column_at, as_row}
 use Rattle.crn_vec.proofs.Entries.{eq_or}
-use Rattle.crn_tab.proofs.Unique.{column_at}
-use Rattle.crn_tab.proofs.OwnSign.{as_row}
 use Rattle.crn_farkas.specs.declared.view.View.{View}
 use Rattle.crn_farkas.specs.declared.view.View.TheVariants.{Row, Column}
-use Rattle.crn_farkas.specs.Views.{IsView, IsSeen, IsSwapped}
-use Rattle.crn_farkas.proofs.Pairs.{pair, own_some, column_scaled, named_scaled, turned_kind, other_some}
+use Rattle.crn_farkas.specs.Inner.Views.{IsView, IsSeen, IsSwapped}
+use Rattle.crn_farkas.proofs.Pairs.{pair, own_some, column_scaled, named_scaled, signed_kind, other_some}
 
 pub record Shown (a : Mat) (basis : List ℕ) (view : View) (g : ℕ) (kind : Kind) : Type 0 where
   pub y : List ℤ
@@ -31,20 +29,20 @@ pub shown : (a : Mat) (basis : List ℕ) (view : View) (g : ℕ) (κ : Kind) →
 shown a basis Row g κ t lt s v =
     let r = t.rows g lt v in
     let named = as_row a basis g r.w v r.named in
-    elim (turned_kind κ (entry r.w g) s (λ e. omega (arith, ints, e, r.positive))) as (λ _. Shown a basis Row g κ) [
+    elim (signed_kind κ (entry r.w g) s (λ e. omega (arith, ints, e, r.positive))) as (λ _. Shown a basis Row g κ) [
       | inl h ↦ record { y = scale (pos 1) r.w; is = (named_scaled a basis g (pos 1) r.w named, scaled_kind κ (pos 1) r.w g h) }
       | inr h ↦ record { y = scale (negsuc 0) r.w; is = (named_scaled a basis g (negsuc 0) r.w named, scaled_kind κ (negsuc 0) r.w g h) }
     ]
 shown a basis (Column b) g κ t lt s (y, named, some) =
-    elim (turned_kind κ (entry y g) s some) as (λ _. Shown a basis (Column b) g κ) [
+    elim (signed_kind κ (entry y g) s some) as (λ _. Shown a basis (Column b) g κ) [
       | inl h ↦ record { y = scale (pos 1) y; is = (column_scaled a basis b (pos 1) y named, scaled_kind κ (pos 1) y g h) }
       | inr h ↦ record { y = scale (negsuc 0) y; is = (column_scaled a basis b (negsuc 0) y named, scaled_kind κ (negsuc 0) y g h) }
     ]
 
 -- a row view that is wrong at c becomes a view of column c
-pub row_turned : (a : Mat) (basis : List ℕ) (g c : ℕ) (κ : Kind) → NamesRows a basis → g < width a → is_signed κ ≡ true → IsView a basis Row g → c ≢ g
+pub row_crossed : (a : Mat) (basis : List ℕ) (g c : ℕ) (κ : Kind) → NamesRows a basis → g < width a → is_signed κ ≡ true → IsView a basis Row g → c ≢ g
     → ((y : List ℤ) → IsSeen a basis Row g κ y → entry y c ≢ pos 0) → IsView a basis (Column c) g
-row_turned a basis g c κ t lt s v other some =
+row_crossed a basis g c κ t lt s v other some =
     let y = shown a basis Row g κ t lt s v in
     let member : IsIn c basis = elim (isIn_or c basis) as (λ _. IsIn c basis) [
       | inl m ↦ m

@@ -5,7 +5,7 @@ use Rattle.std.proofs.lemmas.Int.{ints}
 use Rattle.crn_vec.specs.declared.signs.Sign.{Sign}
 use Rattle.crn_vec.specs.Vectors.{HasSign}
 use Rattle.crn_vec.proofs.Ring.{assoc}
-use Rattle.crn_tab.proofs.OwnSign.{sign_carried}
+use Rattle.crn_tab.proofs.CallerLemmas.{sign_carried}
 
 pub one-mul : (x : ℤ) → pos 1 *ℤ x ≡ x
 one-mul x = omega (arith, ints)

@@ -10,11 +10,11 @@ use Rattle.crn_vec.specs.Systems.{HasKind, MayTake, MayWeigh, kind_at, is_signed
 use Rattle.crn_vec.proofs.Entries.{eq_or}
 use Rattle.crn_vec.proofs.KindLaws.{Quiet, settled_dual, settled_row, take_zero, weigh_zero, kind_takes, kind_weighs, product_some}
 use Rattle.crn_vec.proofs.Orthogonal.{part, orthogonal}
-use Rattle.crn_tab.proofs.Places.{isIn_or}
+use Rattle.crn_tab.proofs.CallerLemmas.{isIn_or}
 use Rattle.crn_farkas.specs.declared.view.View.{View}
 use Rattle.crn_farkas.specs.declared.view.View.TheVariants.{Row, Column}
 use Rattle.crn_farkas.proofs.Pairs.{kind_some}
-use Rattle.crn_farkas.specs.Views.{IsSeen, IsRight, IsSettled, IsFirstWrong, IsViewed, IsTurned, AgreeBeyond}
+use Rattle.crn_farkas.specs.Inner.Views.{IsSeen, IsRight, IsSettled, IsFirstWrong, IsViewed, HasCrossed, AgreeBeyond}
 
 right_zero : (v : View) (κ : Kind) → IsRight v κ (pos 0)
 right_zero Row κ = weigh_zero κ
@@ -57,9 +57,9 @@ level_or order (suc k) c = elim (level_or order k c) as (λ _. Level order (suc 
   ]
 ]
 
--- from a view that was wrong at c to one in which c is turned, and the others beyond j are as they were
+-- from a view that was wrong at c to one in which c has crossed, and the others beyond j are as they were
 pub record Change (order : List ℕ) (g j c : ℕ) (basis : List ℕ) (view : View) (basis' : List ℕ) (view' : View) : Type 0 where
-  pub turned : IsTurned view basis' view' c
+  pub crossed : HasCrossed view basis' view' c
   pub others : (i : ℕ) → i ≢ g → i ≢ c → ((m : ℕ) → m < j → slice_index order m ≢ i) → IsViewed basis view i ↔ IsViewed basis' view' i
 
 abbrev IsRightBelow : View → List Kind → List ℕ → ℕ → List ℤ → Type 0
@@ -91,9 +91,9 @@ pub step_right : (a : Mat) (basis basis' : List ℕ) (view view' : View) (g c j 
     → Change order g j c basis view basis' view'
     → IsSeen a basis' view' g (kind_at kinds g) y' → IsRightBelow view' kinds order j y' → IsRight view' (kind_at kinds c) (entry y' c)
 step_right a basis basis' Row Row g c j kinds order y y' s other seen before wrong change seen' after =
-    subst (MayWeigh (kind_at kinds c)) (sym (seen'.0.zero_outside c change.turned other)) (weigh_zero (kind_at kinds c))
+    subst (MayWeigh (kind_at kinds c)) (sym (seen'.0.zero_outside c change.crossed other)) (weigh_zero (kind_at kinds c))
 step_right a basis basis' (Column b) (Column b') g c j kinds order y y' s other seen before wrong change seen' after =
-    subst (MayTake (kind_at kinds c)) (sym (seen'.0.zero_on_rest c change.turned.0 change.turned.1)) (take_zero (kind_at kinds c))
+    subst (MayTake (kind_at kinds c)) (sym (seen'.0.zero_on_rest c change.crossed.0 change.crossed.1)) (take_zero (kind_at kinds c))
 step_right a basis basis' Row (Column b) g c j kinds order y y' s other seen before wrong change seen' after =
     settled_row (kind_at kinds) y y' c g other (orthogonal a y y' seen.0.space seen'.0.space) (goal_part (kind_at kinds g) y y' g s seen.1 seen'.1)
     (row_quiet a basis basis' b g c j kinds order y y' seen.0 seen'.0 (λ i ng nc far m. (change.others i ng nc far).0 m) before after) wrong
@@ -106,16 +106,16 @@ step_right a basis basis' (Column b) Row g c j kinds order y y' s other seen bef
 pub agree_all : (order : List ℕ) (g k : ℕ) (basis : List ℕ) (view : View) → AgreeBeyond order g k basis view basis view
 agree_all order g k basis view c ng far = (λ h. h, λ h. h)
 
-turned_by : (order : List ℕ) (g j c : ℕ) (basis next basis' : List ℕ) (view between view' : View) → c ≢ g → ((m : ℕ) → m < j → slice_index order m ≢ c)
-    → IsTurned view next between c → AgreeBeyond order g j next between basis' view' → IsTurned view basis' view' c
-turned_by order g j c basis next basis' Row between view' other far turned agree = λ h. turned ((agree c other far).1 h)
-turned_by order g j c basis next basis' (Column b) between view' other far turned agree = (agree c other far).0 turned
+crossed_by : (order : List ℕ) (g j c : ℕ) (basis next basis' : List ℕ) (view between view' : View) → c ≢ g → ((m : ℕ) → m < j → slice_index order m ≢ c)
+    → HasCrossed view next between c → AgreeBeyond order g j next between basis' view' → HasCrossed view basis' view' c
+crossed_by order g j c basis next basis' Row between view' other far crossed agree = λ h. crossed ((agree c other far).1 h)
+crossed_by order g j c basis next basis' (Column b) between view' other far crossed agree = (agree c other far).0 crossed
 
 pub change_of : (order : List ℕ) (g j c : ℕ) (basis next basis' : List ℕ) (view between view' : View) → c ≢ g → ((m : ℕ) → m < j → slice_index order m ≢ c)
-    → IsTurned view next between c → ((i : ℕ) → i ≢ g → i ≢ c → IsViewed basis view i ↔ IsViewed next between i)
+    → HasCrossed view next between c → ((i : ℕ) → i ≢ g → i ≢ c → IsViewed basis view i ↔ IsViewed next between i)
     → AgreeBeyond order g j next between basis' view' → Change order g j c basis view basis' view'
-change_of order g j c basis next basis' view between view' other far turned others agree = record {
-  turned = turned_by order g j c basis next basis' view between view' other far turned agree;
+change_of order g j c basis next basis' view between view' other far crossed others agree = record {
+  crossed = crossed_by order g j c basis next basis' view between view' other far crossed agree;
   others = λ i ng nc no_level. (λ h. (agree i ng no_level).0 ((others i ng nc).0 h), λ h. (others i ng nc).1 ((agree i ng no_level).1 h));
 }
 

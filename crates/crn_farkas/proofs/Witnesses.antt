@@ -15,13 +15,13 @@ use Rattle.crn_vec.specs.Elementary.{width, IsNamed, IsNamedColumn, NamesWide, W
 use Rattle.crn_vec.specs.Systems.{HasKind, MayTake, MayWeigh, kind_at, is_signed}
 use Rattle.crn_vec.proofs.Entries.{eq_or, lt_or, past_end}
 use Rattle.crn_vec.proofs.Sums.{entry-scale}
-use Rattle.crn_tab.specs.Names.{NamesRows, IsNumbered, IsRefused}
-use Rattle.crn_tab.proofs.Ascending.{same_members}
-use Rattle.crn_tab.proofs.Unique.{column_at}
-use Rattle.crn_tab.proofs.OwnSign.{as_row}
+use Rattle.crn_tab.specs.Tableau.{NamesRows, IsNumbered, IsRefused}
+use Rattle.crn_tab.proofs.CallerLemmas.{same_members, column_at, as_row}
 use Rattle.crn_farkas.specs.declared.view.View.TheVariants.{Row, Column}
-use Rattle.crn_farkas.specs.Views.{IsView, IsSettled}
-use Rattle.crn_farkas.specs.Decides.{factor, IsWitness, IsNear, CutsBy}
+use Rattle.crn_farkas.specs.Inner.Views.{IsView, IsSettled}
+use Rattle.crn_farkas.specs.Decision.{factor}
+use Rattle.crn_farkas.specs.Inner.Sums.{IsWitness}
+use Rattle.crn_farkas.specs.Solver.{IsNear, CutsBy}
 use Rattle.crn_farkas.proofs.Pairs.{pair, column_scaled, other_some, kind_some}
 use Rattle.crn_farkas.proofs.Ruling.{kind_past, scaled_small, cut_of_ruling}
 
@@ -68,10 +68,10 @@ in_place (x ∷ order) c (inr i) = let p = in_place order c i in record { i = su
 pub witness_from : (a : Mat) (basis : List ℕ) (kinds : List Kind) (order : List ℕ) (b g : ℕ) (s : Bool) (w y : List ℤ) → NamesRows a basis → g < width a → length kinds ≡ width a → is_signed (kind_at kinds g) ≡ true
     → IsView a basis (Column b) g → IsSettled a basis (Column b) g kinds order (length order) → ((c : ℕ) → c < width a → IsIn c order)
     → IsNamed a basis b w → ((k : ℕ) → unsigned_abs (entry w k) < WIDE_ENTRY) → (entry w g ≢ pos 0 → HasKind (kind_at kinds g) (factor s *ℤ entry w g)) → y ≡ scale (factor s) w → IsWitness a kinds g y
-witness_from a basis kinds order b g s w y t lt long asked view settled all n small turns same =
+witness_from a basis kinds order b g s w y t lt long asked view settled all n small signs same =
     let v = scale (factor s) w in
     let col = column_scaled a basis b (factor s) w (as_column a basis b w view.1.member n) in
-    let kind : HasKind (kind_at kinds g) (entry v g) = subst (HasKind (kind_at kinds g)) (sym (entry-scale (factor s) w g)) (turns (view_some a basis b g w t lt view n)) in
+    let kind : HasKind (kind_at kinds g) (entry v g) = subst (HasKind (kind_at kinds g)) (sym (entry-scale (factor s) w g)) (signs (view_some a basis b g w t lt view n)) in
     let takes : (k : ℕ) → MayTake (kind_at kinds k) (entry v k) = λ k. elim (lt_or k (width a)) as (λ _. MayTake (kind_at kinds k) (entry v k)) [
       | inl h ↦ let p = in_place order k (all k h) in subst (λ (j : ℕ). MayTake (kind_at kinds j) (entry v j)) p.is (settled v (col, kind) p.i p.below)
       | inr h ↦ subst (λ (κ : Kind). MayTake κ (entry v k)) (sym (kind_past kinds k (omega (arith, h, long)))) tt
@@ -112,9 +112,9 @@ near_refused a basis leave enter index numbers r n = (
 )
 
 -- a settled row view shows multipliers
-pub cuts_settled : (a : Mat) (basis : List ℕ) (kinds : List Kind) (order : List ℕ) (g : ℕ) (turn : Sign) → length kinds ≡ width a → is_signed (kind_at kinds g) ≡ true
-    → IsSettled a basis Row g kinds order (length order) → ((c : ℕ) → c < width a → IsIn c order) → (turn ≢ Zero) → ((x : ℤ) → HasSign turn x → HasKind (kind_at kinds g) x) → CutsBy a basis kinds g turn
-cuts_settled a basis kinds order g turn long asked settled all some kind = record {
+pub cuts_settled : (a : Mat) (basis : List ℕ) (kinds : List Kind) (order : List ℕ) (g : ℕ) (sign : Sign) → length kinds ≡ width a → is_signed (kind_at kinds g) ≡ true
+    → IsSettled a basis Row g kinds order (length order) → ((c : ℕ) → c < width a → IsIn c order) → (sign ≢ Zero) → ((x : ℤ) → HasSign sign x → HasKind (kind_at kinds g) x) → CutsBy a basis kinds g sign
+cuts_settled a basis kinds order g sign long asked settled all some kind = record {
   some = some;
   rules = λ w named at_g.
       let seen = kind (entry w g) at_g in

@@ -3,13 +3,13 @@ ghost use Rattle.crn_vec.specs.Vectors.{entry, HasSign};
 ghost use Rattle.crn_vec.specs.declared.signs.Sign.TheVariants.{Zero};
 ghost use Rattle.crn_vec.specs.Elementary.{width};
 ghost use Rattle.crn_vec.specs.Systems.{kind_at, is_signed};
-ghost use Rattle.crn_farkas.specs.Ends.{IsAlternative, IsRefusedStop};
-ghost use Rattle.crn_farkas.specs.Views.{IsSeen, IsView};
+ghost use Rattle.crn_farkas.specs.Solver.{IsAlternative, IsRefusedStop};
+ghost use Rattle.crn_farkas.specs.Inner.Views.{IsSeen, IsView};
 
 use crate::cut::Cut;
+use crate::fault::Stop;
 use crate::goal::{settled_cut, settled_view};
 use crate::level::{seen_lead, seen_sign};
-use crate::stop::Stop;
 use crate::targets::{put_levels, put_order};
 use crate::view::View;
 use crn_tab::Tableau;
@@ -32,7 +32,9 @@ fn put_signs(tableau: &Tableau, view: View, kinds: &[Kind], g: usize, signs: &mu
     requires asked { is_signed (kind_at kinds.now g) ≡ true }
     requires view { IsView tableau.now.matrix tableau.now.basis view g }
     ensures count { length signs.new ≡ length signs.old }
-    ensures signs { (y : List ℤ) → IsSeen tableau.now.matrix tableau.now.basis view g (kind_at kinds.now g) y → (k : ℕ) → k < length kinds.now → HasSign (slice_index_or signs.new k Zero) (entry y k) }
+    ensures signs { (y : List ℤ)
+        → IsSeen tableau.now.matrix tableau.now.basis view g (kind_at kinds.now g) y → (k : ℕ)
+        → k < length kinds.now → HasSign (slice_index_or signs.new k Zero) (entry y k) }
 {
     let lead = seen_lead(tableau, view, kinds[g], g);
     for c in 0..kinds.len() {
@@ -58,7 +60,8 @@ pub(crate) fn alternative_at(
     ensures matrix { tableau.new.matrix ≡ tableau.old.matrix }
     ensures room { vec_capacity order.new ≡ vec_capacity order.old }
     ensures count { length signs.new ≡ length signs.old }
-    ensures answer { IfOk result (λ d. IsAlternative tableau.new.matrix tableau.new.basis kinds.now g signs.new d) }
+    ensures answer { IfOk result
+        (λ d. IsAlternative tableau.new.matrix tableau.new.basis kinds.now g signs.new d) }
     ensures refused { IfErr result (λ s. IsRefusedStop tableau.new.matrix tableau.new.basis s) }
 {
     put_order(order, kinds);

@@ -4,8 +4,8 @@ ghost use Rattle.crn_vec.specs.Vectors.{entry, HasSign, scale};
 ghost use Rattle.crn_vec.specs.Lists.{IsIn};
 ghost use Rattle.crn_vec.specs.Elementary.{width, IsNamedRow};
 ghost use Rattle.crn_vec.specs.Systems.{HasSigned};
-ghost use Rattle.crn_farkas.specs.Decides.{factor, IsCutBy, HasKeptCut};
-ghost use Rattle.crn_farkas.specs.Ends.{IsNamedCut};
+ghost use Rattle.crn_farkas.specs.Decision.{factor};
+ghost use Rattle.crn_farkas.specs.Solver.{IsCutBy, HasKeptCut, IsNamedCut};
 
 use crn_tab::Tableau;
 use crn_vec::{Ints, Kind, NoMemory, Sign, is_asked, sign_of};
@@ -17,7 +17,7 @@ pub struct Cut {
     /// Its coordinate outside the basis, counted from 0.
     pub row: usize,
     /// Its sign there.
-    pub turn: Sign,
+    pub sign: Sign,
 }
 
 // Whether some coordinate has to be positive or negative.
@@ -35,15 +35,16 @@ fn some_asked(kinds: &[Kind]) -> bool
 // A vector that the basis names and that rules the system out.
 pub(crate) fn kept_cut(tableau: &Tableau, kinds: &[Kind]) -> Option<Cut>
     requires { length kinds.now ≡ width tableau.now.matrix }
-    ensures { MatchOption result (HasKeptCut tableau.now.matrix tableau.now.basis kinds.now → ⊥) (λ cut. IsCutBy tableau.now.matrix tableau.now.basis kinds.now cut.row cut.turn) }
+    ensures { MatchOption result (HasKeptCut tableau.now.matrix tableau.now.basis kinds.now → ⊥)
+        (λ cut. IsCutBy tableau.now.matrix tableau.now.basis kinds.now cut.row cut.sign) }
 {
     if !some_asked(kinds) {
         return None;
     }
     for row in 0..kinds.len() {
         if !tableau.is_basic(row) {
-            if let Some(turn) = tableau.row_cuts(row, kinds) {
-                return Some(Cut { row, turn });
+            if let Some(sign) = tableau.row_cuts(row, kinds) {
+                return Some(Cut { row, sign });
             }
         }
     }
@@ -59,7 +60,7 @@ pub(crate) fn stays(x: &i128, want: Sign) -> bool
 }
 
 // The number or its negative.
-fn turned(x: &i128, stays: bool) -> i128
+fn or_negative(x: &i128, stays: bool) -> i128
     requires { unsigned_abs x.now < WIDE_ENTRY }
     ensures { result ≡ factor stays *ℤ x.now }
 {
@@ -73,7 +74,7 @@ fn multiple(alloc: Global, list: &[i128], stays: bool) -> Result<Ints, NoMemory>
 {
     let mut made = Ints::with_room(alloc, list.len())?;
     for x in list {
-        made.push(turned(x, stays))?;
+        made.push(or_negative(x, stays))?;
     }
     Ok(made)
 }
@@ -84,19 +85,18 @@ pub(crate) fn multipliers(
     tableau: &Tableau,
     kinds: &[Kind],
     work: &mut [i128],
-    cols: usize,
     cut: &Cut,
 ) -> Result<Ints, NoMemory>
-    requires cols { cols ≡ tableau.now.matrix.cols }
     requires kinds { length kinds.now ≡ width tableau.now.matrix }
     requires work { length work.old ≡ width tableau.now.matrix }
-    requires cut { IsCutBy tableau.now.matrix tableau.now.basis kinds.now cut.now.row cut.now.turn }
+    requires cut { IsCutBy tableau.now.matrix tableau.now.basis kinds.now cut.now.row cut.now.sign }
     ensures work { length work.new ≡ length work.old }
-    ensures named { IfOk result (λ u. IsNamedCut tableau.now.matrix tableau.now.basis kinds.now u.list) }
+    ensures named { IfOk result
+        (λ u. IsNamedCut tableau.now.matrix tableau.now.basis kinds.now u.list) }
 {
     tableau.names_rows();
     tableau.put_row(cut.row, work);
-    let stays = stays(&work[cut.row], cut.turn);
-    let (_, part) = work.split_at(cols);
+    let stays = stays(&work[cut.row], cut.sign);
+    let (_, part) = work.split_at(tableau.cols());
     multiple(alloc, part, stays)
 }

@@ -3,20 +3,20 @@ ghost use Rattle.crn_vec.specs.Lists.{IsIn};
 ghost use Rattle.crn_vec.specs.Elementary.{width};
 ghost use Rattle.crn_vec.specs.Systems.{HasKind, kind_at, is_signed};
 ghost use Rattle.crn_vec.specs.Vectors.{HasSign};
-ghost use Rattle.crn_farkas.specs.Decides.{IsCutBy};
-ghost use Rattle.crn_farkas.specs.Ends.{IsGoalStop, IsRefusedStop, IsSide};
-ghost use Rattle.crn_farkas.specs.Views.{AreLevels, IsView, IsSettled};
-ghost use Rattle.crn_tab.specs.Names.{IsRefused};
+ghost use Rattle.crn_farkas.specs.Solver.{IsCutBy, IsRefusedStop};
+ghost use Rattle.crn_farkas.specs.Inner.Sums.{IsGoalStop, IsSide};
+ghost use Rattle.crn_farkas.specs.Inner.Views.{AreLevels, IsView, IsSettled};
+ghost use Rattle.crn_tab.specs.Tableau.{IsRefused};
 
 use crate::cut::{Cut, multipliers, stays};
+use crate::fault::Stop;
 use crate::settle::settle;
-use crate::stop::Stop;
 use crate::view::View;
 use crn_tab::{Refused, Tableau};
 use crn_vec::{Ints, Kind, sign_asked};
 use std::alloc::Global;
 
-/// Which side of the alternative holds at one coordinate.
+/// Which side of the alternative holds at the goal: the one coordinate that has to be positive or negative for which a vector is sought.
 #[derive(Drop)]
 pub(crate) enum Side {
     /// Multipliers that rule the system out.
@@ -38,11 +38,14 @@ fn witness(
     requires goal { g < width tableau.now.matrix }
     requires asked { is_signed (kind_at kinds.now g) ≡ true }
     requires view { IsView tableau.now.matrix tableau.now.basis (View.Column b) g }
-    requires settled { IsSettled tableau.now.matrix tableau.now.basis (View.Column b) g kinds.now order.now (length order.now) }
+    requires settled { IsSettled tableau.now.matrix tableau.now.basis (View.Column b) g kinds.now
+        order.now (length order.now) }
     requires all { (c : ℕ) → c < width tableau.now.matrix → IsIn c order.now }
     requires work { length work.old ≡ width tableau.now.matrix }
     ensures work { OnOk result (length work.new ≡ length work.old) }
-    ensures side { MatchResult result (λ side. IsSide tableau.now.matrix tableau.now.basis kinds.now g work.new side) (λ s. IsGoalStop tableau.now.matrix tableau.now.basis s) }
+    ensures side { MatchResult result
+        (λ side. IsSide tableau.now.matrix tableau.now.basis kinds.now g work.new side)
+        (λ s. IsGoalStop tableau.now.matrix tableau.now.basis s) }
 {
     tableau.names_rows();
     if let Err(_) = tableau.put_column(b, work) {
@@ -66,13 +69,17 @@ pub(crate) fn settled_view(
     requires kinds { length kinds.now ≡ width tableau.old.matrix }
     requires goal { g < width tableau.old.matrix }
     requires asked { is_signed (kind_at kinds.now g) ≡ true }
-    requires order { (i : ℕ) → i < length order.now → slice_index order.now i < width tableau.old.matrix }
+    requires order { (i : ℕ) → i < length order.now
+        → slice_index order.now i < width tableau.old.matrix }
     requires all { (c : ℕ) → c < width tableau.old.matrix → IsIn c order.now }
     requires level { length level.now ≡ length kinds.now }
     requires levels { AreLevels order.now level.now }
     ensures matrix { tableau.new.matrix ≡ tableau.old.matrix }
     ensures view { IfOk result (λ view. IsView tableau.new.matrix tableau.new.basis view g) }
-    ensures settled { IfOk result (λ view. IsSettled tableau.new.matrix tableau.new.basis view g kinds.now order.now (length order.now)) }
+    ensures settled { IfOk result
+        (λ view.
+        IsSettled tableau.new.matrix tableau.new.basis view g kinds.now order.now
+        (length order.now)) }
     ensures refused { IfErr result (λ s. IsRefusedStop tableau.new.matrix tableau.new.basis s) }
 {
     let mut view = first_view(tableau, g);
@@ -84,7 +91,8 @@ pub(crate) fn settled_view(
 
 // What an exchange that was refused stops with.
 fn refused_stop(tableau: &Tableau, refused: &Refused) -> Stop
-    requires { IsRefused tableau.now.matrix tableau.now.basis refused.now.leave refused.now.enter refused.now.index }
+    requires { IsRefused tableau.now.matrix tableau.now.basis refused.now.leave refused.now.enter
+        refused.now.index }
     ensures { IsRefusedStop tableau.now.matrix tableau.now.basis result }
 {
     match tableau.basis_after(refused.leave, refused.enter) {
@@ -102,15 +110,16 @@ pub(crate) fn settled_cut(_tableau: &Tableau, kinds: &[Kind], _order: &[usize], 
     requires goal { g < width _tableau.now.matrix }
     requires asked { is_signed (kind_at kinds.now g) ≡ true }
     requires view { IsView _tableau.now.matrix _tableau.now.basis View.Row g }
-    requires settled { IsSettled _tableau.now.matrix _tableau.now.basis View.Row g kinds.now _order.now (length _order.now) }
+    requires settled { IsSettled _tableau.now.matrix _tableau.now.basis View.Row g kinds.now
+        _order.now (length _order.now) }
     requires all { (c : ℕ) → c < width _tableau.now.matrix → IsIn c _order.now }
-    ensures cut { IsCutBy _tableau.now.matrix _tableau.now.basis kinds.now result.row result.turn }
+    ensures cut { IsCutBy _tableau.now.matrix _tableau.now.basis kinds.now result.row result.sign }
     ensures row { result.row ≡ g }
-    ensures turn { (x : ℤ) → HasKind (kind_at kinds.now g) x → HasSign result.turn x }
+    ensures sign { (x : ℤ) → HasKind (kind_at kinds.now g) x → HasSign result.sign x }
 {
     Cut {
         row: g,
-        turn: sign_asked(kinds[g]),
+        sign: sign_asked(kinds[g]),
     }
 }
 
@@ -122,26 +131,27 @@ pub(crate) fn side_of(
     order: &[usize],
     level: &[usize],
     work: &mut [i128],
-    cols: usize,
     g: usize,
 ) -> Result<Side, Stop>
-    requires cols { cols ≡ tableau.old.matrix.cols }
     requires kinds { length kinds.now ≡ width tableau.old.matrix }
     requires goal { g < width tableau.old.matrix }
     requires asked { is_signed (kind_at kinds.now g) ≡ true }
-    requires order { (i : ℕ) → i < length order.now → slice_index order.now i < width tableau.old.matrix }
+    requires order { (i : ℕ) → i < length order.now
+        → slice_index order.now i < width tableau.old.matrix }
     requires all { (c : ℕ) → c < width tableau.old.matrix → IsIn c order.now }
     requires level { length level.now ≡ length kinds.now }
     requires levels { AreLevels order.now level.now }
     requires work { length work.old ≡ width tableau.old.matrix }
     ensures matrix { tableau.new.matrix ≡ tableau.old.matrix }
     ensures work { OnOk result (length work.new ≡ length work.old) }
-    ensures side { MatchResult result (λ side. IsSide tableau.new.matrix tableau.new.basis kinds.now g work.new side) (λ s. IsGoalStop tableau.new.matrix tableau.new.basis s) }
+    ensures side { MatchResult result
+        (λ side. IsSide tableau.new.matrix tableau.new.basis kinds.now g work.new side)
+        (λ s. IsGoalStop tableau.new.matrix tableau.new.basis s) }
 {
     match settled_view(tableau, kinds, order, level, g)? {
         View::Row => {
             let cut = settled_cut(tableau, kinds, order, g);
-            Ok(Side::Cut(multipliers(alloc, tableau, kinds, work, cols, &cut)?))
+            Ok(Side::Cut(multipliers(alloc, tableau, kinds, work, &cut)?))
         }
         View::Column(b) => witness(tableau, kinds, order, work, b, g),
     }

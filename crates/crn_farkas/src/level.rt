@@ -3,17 +3,21 @@ ghost use Rattle.crn_vec.specs.Vectors.{entry, HasSign};
 ghost use Rattle.crn_vec.specs.Lists.{IsIn};
 ghost use Rattle.crn_vec.specs.Elementary.{width, IsNamedColumn};
 ghost use Rattle.crn_vec.specs.Systems.{kind_at, is_signed};
-ghost use Rattle.crn_farkas.specs.Views.{AreLevels, IsView, IsSeen, IsSettled, IsFirstWrong, IsRightBetween, IsWrongHere, is_early_kind, lead_at, level_count};
+ghost use Rattle.crn_farkas.specs.Inner.Views.{AreLevels, IsView, IsSeen, IsSettled, IsFirstWrong, IsRightBetween, IsWrongHere, is_early_kind, lead_at, level_count};
 
 use crate::view::View;
 use crn_tab::Tableau;
 use crn_vec::{Kind, Sign, opposite, product, sign_asked};
 
+// The level of a coordinate is its place in the order of settling. The lead sign of a view is the sign of the vectors that it shows
+// at the coordinate from which the signs at all others are read: g for a row, and the member for a column.
+
 // The sign at b of the vectors that the basis names by its member b, where they have this sign at g.
 pub(crate) fn lead_sign(tableau: &Tableau, b: usize, g: usize, asked: Sign) -> Sign
     requires member { IsIn b tableau.now.basis }
     requires goal { g < width tableau.now.matrix }
-    ensures { (y : List ℤ) → IsNamedColumn tableau.now.matrix tableau.now.basis b y → HasSign asked (entry y g) → entry y g ≢ pos 0 → HasSign result (entry y b) }
+    ensures { (y : List ℤ) → IsNamedColumn tableau.now.matrix tableau.now.basis b y
+        → HasSign asked (entry y g) → entry y g ≢ pos 0 → HasSign result (entry y b) }
 {
     tableau.names_rows();
     if b == g {
@@ -29,7 +33,8 @@ pub(crate) fn lead_sign(tableau: &Tableau, b: usize, g: usize, asked: Sign) -> S
 pub(crate) fn column_sign(tableau: &Tableau, b: usize, lead: Sign, c: usize) -> Sign
     requires member { IsIn b tableau.now.basis }
     requires place { c < width tableau.now.matrix }
-    ensures { (y : List ℤ) → IsNamedColumn tableau.now.matrix tableau.now.basis b y → HasSign lead (entry y b) → HasSign result (entry y c) }
+    ensures { (y : List ℤ) → IsNamedColumn tableau.now.matrix tableau.now.basis b y
+        → HasSign lead (entry y b) → HasSign result (entry y c) }
 {
     tableau.names_rows();
     if b == c {
@@ -46,7 +51,8 @@ pub(crate) fn seen_lead(tableau: &Tableau, view: View, kind: Kind, g: usize) -> 
     requires view { IsView tableau.now.matrix tableau.now.basis view g }
     requires asked { is_signed kind ≡ true }
     requires goal { g < width tableau.now.matrix }
-    ensures { (y : List ℤ) → IsSeen tableau.now.matrix tableau.now.basis view g kind y → HasSign result (entry y (lead_at view g)) }
+    ensures { (y : List ℤ) → IsSeen tableau.now.matrix tableau.now.basis view g kind y
+        → HasSign result (entry y (lead_at view g)) }
 {
     let asked = sign_asked(kind);
     match view {
@@ -67,7 +73,8 @@ pub(crate) fn seen_sign(
     requires view { IsView tableau.now.matrix tableau.now.basis view g }
     requires goal { g < width tableau.now.matrix }
     requires place { c < width tableau.now.matrix }
-    ensures { (y : List ℤ) → IsSeen tableau.now.matrix tableau.now.basis view g _kind y → HasSign lead (entry y (lead_at view g)) → HasSign result (entry y c) }
+    ensures { (y : List ℤ) → IsSeen tableau.now.matrix tableau.now.basis view g _kind y
+        → HasSign lead (entry y (lead_at view g)) → HasSign result (entry y c) }
 {
     tableau.names_rows();
     match view {
@@ -94,8 +101,10 @@ fn wrong_level(
     requires start { done ≤ k }
     ensures low { done ≤ result }
     ensures high { result ≤ k }
-    ensures right { IsRightBetween tableau.now.matrix tableau.now.basis view g kinds.now level.now done result }
-    ensures wrong { (result ≡ k) ⊎ IsWrongHere tableau.now.matrix tableau.now.basis view g kinds.now level.now result }
+    ensures right { IsRightBetween tableau.now.matrix tableau.now.basis view g kinds.now level.now
+        done result }
+    ensures wrong { (result ≡ k)
+        ⊎ IsWrongHere tableau.now.matrix tableau.now.basis view g kinds.now level.now result }
 {
     let asked = sign_asked(kinds[g]);
     tableau.names_rows();
@@ -123,20 +132,25 @@ pub(crate) fn first_wrong(
     requires asked { is_signed (kind_at kinds.now g) ≡ true }
     requires kinds { length kinds.now ≡ width tableau.now.matrix }
     requires goal { g < width tableau.now.matrix }
-    requires order { (i : ℕ) → i < length _order.now → slice_index _order.now i < width tableau.now.matrix }
+    requires order { (i : ℕ) → i < length _order.now
+        → slice_index _order.now i < width tableau.now.matrix }
     requires all { (c : ℕ) → c < length kinds.now → IsIn c _order.now }
     requires level { length level.now ≡ length kinds.now }
     requires levels { AreLevels _order.now level.now }
     requires end { k ≤ length _order.now }
-    requires done { IsSettled tableau.now.matrix tableau.now.basis view g kinds.now _order.now done }
+    requires done { IsSettled tableau.now.matrix tableau.now.basis view g kinds.now _order.now
+        done }
     requires start { done ≤ k }
-    ensures { MatchOption result (IsSettled tableau.now.matrix tableau.now.basis view g kinds.now _order.now k) (λ j. IsFirstWrong tableau.now.matrix tableau.now.basis view g kinds.now _order.now done k j) }
+    ensures { MatchOption result
+        (IsSettled tableau.now.matrix tableau.now.basis view g kinds.now _order.now k)
+        (λ j.
+        IsFirstWrong tableau.now.matrix tableau.now.basis view g kinds.now _order.now done k j) }
 {
     let end = wrong_level(tableau, view, kinds, level, g, done, k);
     if end < k { Some(end) } else { None }
 }
 
-// Whether a coordinate of this kind is one of those that turn at most once while others are settled, or is not.
+// Whether a coordinate of this kind is one of those that cross at most once while others are settled, or is not.
 fn is_level(kind: Kind, early: bool) -> bool
     ensures { IsTrue result ↔ (is_early_kind kind ≡ early) }
 {
@@ -150,8 +164,10 @@ fn is_level(kind: Kind, early: bool) -> bool
 pub(crate) fn push_level(order: &mut Vec<usize>, kinds: &[Kind], early: bool)
     requires { vec_len order.old + level_count early kinds.now ≤ vec_capacity order.old }
     ensures kept { (c : ℕ) → IsIn c order.old.items → IsIn c order.new.items }
-    ensures added { (c : ℕ) → c < length kinds.now → is_early_kind (kind_at kinds.now c) ≡ early → IsIn c order.new.items }
-    ensures below { (c : ℕ) → IsIn c order.new.items → IsIn c order.old.items ⊎ (c < length kinds.now) }
+    ensures added { (c : ℕ) → c < length kinds.now → is_early_kind (kind_at kinds.now c) ≡ early
+        → IsIn c order.new.items }
+    ensures below { (c : ℕ) → IsIn c order.new.items → IsIn c order.old.items
+        ⊎ (c < length kinds.now) }
     ensures count { vec_len order.new ≡ vec_len order.old + level_count early kinds.now }
     ensures room { vec_capacity order.new ≡ vec_capacity order.old }
 {

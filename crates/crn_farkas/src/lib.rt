@@ -4,14 +4,14 @@
 mod alternative;
 mod cut;
 mod decision;
+mod fault;
 mod goal;
 mod laws;
 mod level;
 mod settle;
 mod solver;
-mod stand;
 mod standing;
-mod stop;
+mod stands;
 mod sum;
 mod system;
 mod targets;
@@ -22,8 +22,11 @@ mod view;
 pub use alternative::Alternative;
 pub use cut::Cut;
 pub use decision::Decision;
-pub use laws::{decisions_exclude_each_other, witnesses_make_solutions};
+pub use fault::Stop;
+pub use laws::{
+    decisions_exclude_each_other, narrow_matrices_are_decided, refused_stops_show_a_wide_matrix,
+    witnesses_make_solutions,
+};
 pub use solver::Solver;
 pub use standing::Standing;
-pub use stop::Stop;
 pub use system::{System, decide};

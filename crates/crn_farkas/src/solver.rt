@@ -3,29 +3,28 @@ ghost use Rattle.crn_vec.specs.Lists.{IsIn};
 ghost use Rattle.crn_vec.specs.Elementary.{width, IsBasis};
 ghost use Rattle.crn_vec.specs.Systems.{HasOneRowCut, is_signed, kind_at, signed_count};
 ghost use Rattle.crn_vec.specs.declared.limits.TheConstants.{MAX_SIGNED};
-ghost use Rattle.crn_tab.specs.Names.{NamesRows};
-ghost use Rattle.crn_farkas.specs.Decides.{HasKeptCut, IsCutBy};
-ghost use Rattle.crn_farkas.specs.Ends.{IsAlternative, IsDecision, IsFall, IsNamedCut, IsNamedDecision, IsNearStop, IsRefusedStop, IsRuledOut, IsStanding, IsTargetStop};
+ghost use Rattle.crn_tab.specs.Tableau.{NamesRows};
+ghost use Rattle.crn_farkas.specs.Solver.{HasKeptCut, IsCutBy, IsAlternative, IsFall, IsNamedCut, IsNamedDecision, IsNearStop, IsRefusedStop, IsRuledOut, IsStanding};
+ghost use Rattle.crn_farkas.specs.Decision.{IsDecision, IsTargetStop};
 
 use crate::alternative::{Alternative, alternative_at};
 use crate::cut::{Cut, kept_cut, multipliers};
 use crate::decision::Decision;
-use crate::stand::standing;
+use crate::fault::Stop;
 use crate::standing::Standing;
-use crate::stop::Stop;
+use crate::stands::standing;
 use crate::targets::by_targets;
 use crn_tab::Tableau;
 use crn_vec::{Ints, Kind, Matrix, NoMemory, Nums, Sign};
 use std::alloc::Global;
 use std::marker::Model;
 
-/// A matrix that is asked for several kinds in turn: each question begins with the basis where the last one ended.
+/// A matrix that is asked for one list of kinds after another: each question begins with the basis where the last one ended.
 ///
 /// It keeps a copy of the matrix, and room for all that a decision works in.
 #[derive(Drop)]
 pub struct Solver {
     tableau: Tableau,
-    cols: usize,
     order: Vec<usize>,
     level: Vec<usize>,
     sum: Vec<i128>,
@@ -35,14 +34,15 @@ pub struct Solver {
 
 impl Model for Solver {
     ghost use Rattle.std.specs.Prelude.{vec_capacity};
-    ghost use Rattle.crn_tab.specs.Kept.{KeptTableau};
-    ghost use Rattle.crn_farkas.specs.Kept.{HasRoom};
+    ghost use Rattle.crn_tab.specs.Tableau.{KeptTableau};
+    ghost use Rattle.crn_farkas.specs.Solver.{HasRoom};
 
     ghost Value = { KeptTableau };
 
     ghost view = { λ s. s.tableau };
 
-    ghost invariant = { λ s. HasRoom s.tableau.matrix s.cols (vec_capacity s.order) s.level.items s.sum.items s.work.items s.marks.items };
+    ghost invariant = { λ s. HasRoom s.tableau.matrix (vec_capacity s.order)
+        s.level.items s.sum.items s.work.items s.marks.items };
 }
 
 // Decides a system by a vector that the basis names, where one rules it out, else by its targets.
@@ -54,9 +54,7 @@ fn answer(
     level: &mut [usize],
     sum: &mut [i128],
     work: &mut [i128],
-    cols: usize,
 ) -> Result<Decision, Stop>
-    requires cols { cols ≡ tableau.old.matrix.cols }
     requires kinds { length kinds.now ≡ width tableau.old.matrix }
     requires few { signed_count kinds.now ≤ MAX_SIGNED }
     requires room { width tableau.old.matrix ≤ vec_capacity order.old }
@@ -65,16 +63,16 @@ fn answer(
     requires work { length work.old ≡ width tableau.old.matrix }
     ensures matrix { tableau.new.matrix ≡ tableau.old.matrix }
     ensures room { vec_capacity order.new ≡ vec_capacity order.old }
-    ensures answer { MatchResult result (λ d. IsDecision tableau.new.matrix kinds.now d) (λ s. IsTargetStop tableau.new.matrix kinds.now s) }
-    ensures kept { HasKeptCut tableau.old.matrix tableau.old.basis kinds.now → IsRuledOut result × (tableau.new ≡ tableau.old) }
+    ensures answer { MatchResult result (λ d. IsDecision tableau.new.matrix kinds.now d)
+        (λ s. IsTargetStop tableau.new.matrix kinds.now s) }
+    ensures kept { HasKeptCut tableau.old.matrix tableau.old.basis kinds.now → IsRuledOut result
+        × (tableau.new ≡ tableau.old) }
     ensures named { IfOk result (λ d. IsNamedDecision tableau.new.matrix tableau.new.basis d) }
     ensures near { IfErr result (λ s. IsNearStop tableau.new.basis s) }
 {
     match kept_cut(tableau, kinds) {
-        Some(cut) => Ok(Decision::Infeasible(multipliers(
-            alloc, tableau, kinds, work, cols, &cut,
-        )?)),
-        None => by_targets(alloc, tableau, kinds, order, level, sum, work, cols),
+        Some(cut) => Ok(Decision::Infeasible(multipliers(alloc, tableau, kinds, work, &cut)?)),
+        None => by_targets(alloc, tableau, kinds, order, level, sum, work),
     }
 }
 
@@ -84,11 +82,9 @@ impl Solver {
         ensures matrix { IfOk result (λ made. made.matrix ≡ matrix.now) }
         ensures basis { IfOk result (λ made. (k : ℕ) → IsIn k made.basis ↔ (k < matrix.now.cols)) }
     {
-        let cols = matrix.cols();
-        let count = cols + matrix.rows();
+        let count = matrix.cols() + matrix.rows();
         Ok(Solver {
             tableau: Tableau::new(alloc, matrix)?,
-            cols,
             order: Vec::with_capacity(alloc, count)?,
             level: vec![in alloc; 0usize; count]?,
             sum: vec![in alloc; 0i128; count]?,
@@ -106,9 +102,12 @@ impl Solver {
         requires few { signed_count kinds.now ≤ MAX_SIGNED }
         ensures matrix { self.new.matrix ≡ self.old.matrix }
         ensures basis { NamesRows self.new.matrix self.new.basis }
-        ensures answer { MatchResult result (λ d. IsDecision self.old.matrix kinds.now d) (λ s. IsTargetStop self.old.matrix kinds.now s) }
-        ensures kept { HasKeptCut self.old.matrix self.old.basis kinds.now → IsRuledOut result × (self.new.basis ≡ self.old.basis) }
-        ensures from_columns { ((k : ℕ) → IsIn k self.old.basis ↔ (k < self.old.matrix.cols)) → HasOneRowCut self.old.matrix kinds.now → IsRuledOut result }
+        ensures answer { MatchResult result (λ d. IsDecision self.old.matrix kinds.now d)
+            (λ s. IsTargetStop self.old.matrix kinds.now s) }
+        ensures kept { HasKeptCut self.old.matrix self.old.basis kinds.now → IsRuledOut result
+            × (self.new.basis ≡ self.old.basis) }
+        ensures from_columns { ((k : ℕ) → IsIn k self.old.basis ↔ (k < self.old.matrix.cols))
+            → HasOneRowCut self.old.matrix kinds.now → IsRuledOut result }
         ensures named { IfOk result (λ d. IsNamedDecision self.new.matrix self.new.basis d) }
         ensures near { IfErr result (λ s. IsNearStop self.new.basis s) }
     {
@@ -121,7 +120,6 @@ impl Solver {
             &mut self.level,
             &mut self.sum,
             &mut self.work,
-            self.cols,
         );
         self.tableau.names_rows();
         result
@@ -135,9 +133,13 @@ impl Solver {
         requires { length kinds.now ≡ width self.old.matrix }
         ensures matrix { self.new.matrix ≡ self.old.matrix }
         ensures basis { NamesRows self.new.matrix self.new.basis }
-        ensures answer { MatchResult result (λ d. IsStanding self.new.matrix self.new.basis kinds.now d) (λ s. IsTargetStop self.old.matrix kinds.now s) }
-        ensures kept { HasKeptCut self.old.matrix self.old.basis kinds.now → IsFall result × (self.new.basis ≡ self.old.basis) }
-        ensures from_columns { ((k : ℕ) → IsIn k self.old.basis ↔ (k < self.old.matrix.cols)) → HasOneRowCut self.old.matrix kinds.now → IsFall result }
+        ensures answer { MatchResult result
+            (λ d. IsStanding self.new.matrix self.new.basis kinds.now d)
+            (λ s. IsTargetStop self.old.matrix kinds.now s) }
+        ensures kept { HasKeptCut self.old.matrix self.old.basis kinds.now → IsFall result
+            × (self.new.basis ≡ self.old.basis) }
+        ensures from_columns { ((k : ℕ) → IsIn k self.old.basis ↔ (k < self.old.matrix.cols))
+            → HasOneRowCut self.old.matrix kinds.now → IsFall result }
         ensures refused { IfErr result (λ s. IsRefusedStop self.new.matrix self.new.basis s) }
     {
         let result = standing(
@@ -167,7 +169,8 @@ impl Solver {
         ensures matrix { self.new.matrix ≡ self.old.matrix }
         ensures basis { NamesRows self.new.matrix self.new.basis }
         ensures count { length signs.new ≡ length signs.old }
-        ensures answer { IfOk result (λ d. IsAlternative self.new.matrix self.new.basis kinds.now g signs.new d) }
+        ensures answer { IfOk result
+            (λ d. IsAlternative self.new.matrix self.new.basis kinds.now g signs.new d) }
         ensures refused { IfErr result (λ s. IsRefusedStop self.new.matrix self.new.basis s) }
     {
         let result = alternative_at(
@@ -185,12 +188,13 @@ impl Solver {
     /// The multipliers of the vector by which `stands` or `alternative` has found that the system falls. It takes memory for them.
     pub fn multipliers(&mut self, kinds: &[Kind], cut: &Cut) -> Result<Ints, NoMemory>
         requires kinds { length kinds.now ≡ width self.old.matrix }
-        requires cut { IsCutBy self.old.matrix self.old.basis kinds.now cut.now.row cut.now.turn }
+        requires cut { IsCutBy self.old.matrix self.old.basis kinds.now cut.now.row cut.now.sign }
         ensures kept { self.new ≡ self.old }
-        ensures named { IfOk result (λ u. IsNamedCut self.new.matrix self.new.basis kinds.now u.list) }
+        ensures named { IfOk result
+            (λ u. IsNamedCut self.new.matrix self.new.basis kinds.now u.list) }
     {
         let alloc = *self.order.allocator();
-        multipliers(alloc, &self.tableau, kinds, &mut self.work, self.cols, cut)
+        multipliers(alloc, &self.tableau, kinds, &mut self.work, cut)
     }
 
     /// The coordinates of the kept basis, ascending and counted from 0, where `Stop::Wide` counts from 1.

@@ -2,11 +2,11 @@ ghost use Rattle.std.specs.Prelude.{◌≡◌, ◌≤◌, length, MatchResult};
 ghost use Rattle.crn_vec.specs.Systems.{signed_count};
 ghost use Rattle.crn_vec.specs.Elementary.{width};
 ghost use Rattle.crn_vec.specs.declared.limits.TheConstants.{MAX_SIGNED};
-ghost use Rattle.crn_farkas.specs.Ends.{IsDecision, IsStop};
+ghost use Rattle.crn_farkas.specs.Decision.{IsDecision, IsStop};
 
 use crate::decision::Decision;
+use crate::fault::Stop;
 use crate::solver::Solver;
-use crate::stop::Stop;
 use crn_vec::{Kind, Matrix};
 use std::alloc::Global;
 
@@ -21,7 +21,8 @@ pub struct System<'a> {
 pub fn decide(alloc: Global, system: &System) -> Result<Decision, Stop>
     requires kinds { length system.now.kinds.now ≡ width system.now.matrix.now }
     requires few { signed_count system.now.kinds.now ≤ MAX_SIGNED }
-    ensures { MatchResult result (λ d. IsDecision system.now.matrix.now system.now.kinds.now d) (λ s. IsStop system.now.matrix.now system.now.kinds.now s) }
+    ensures { MatchResult result (λ d. IsDecision system.now.matrix.now system.now.kinds.now d)
+        (λ s. IsStop system.now.matrix.now system.now.kinds.now s) }
 {
     let mut solver = Solver::new(alloc, system.matrix)?;
     solver.decide(system.kinds)

@@ -3,14 +3,15 @@ ghost use Rattle.crn_vec.specs.Lists.{IsIn};
 ghost use Rattle.crn_vec.specs.Elementary.{width};
 ghost use Rattle.crn_vec.specs.Systems.{signed_count};
 ghost use Rattle.crn_vec.specs.declared.limits.TheConstants.{MAX_SIGNED};
-ghost use Rattle.crn_farkas.specs.Decides.{IsSmallSolution};
-ghost use Rattle.crn_farkas.specs.Views.{AreLevels};
-ghost use Rattle.crn_farkas.specs.Ends.{IsDecision, IsNamedCut, IsNamedDecision, IsNearStop, IsPartSum, IsTargetStop, AreZeros};
+ghost use Rattle.crn_farkas.specs.Decision.{IsSmallSolution, IsDecision, IsTargetStop};
+ghost use Rattle.crn_farkas.specs.Inner.Views.{AreLevels};
+ghost use Rattle.crn_farkas.specs.Solver.{IsNamedCut, IsNamedDecision, IsNearStop};
+ghost use Rattle.crn_farkas.specs.Inner.Sums.{IsPartSum, AreZeros};
 
 use crate::decision::Decision;
+use crate::fault::Stop;
 use crate::goal::{Side, side_of};
 use crate::level::push_level;
-use crate::stop::Stop;
 use crate::sum::add;
 use crn_tab::Tableau;
 use crn_vec::{Ints, Kind, NoMemory, is_asked};
@@ -25,14 +26,13 @@ fn target(
     level: &[usize],
     sum: &mut [i128],
     work: &mut [i128],
-    cols: usize,
     g: usize,
 ) -> Result<Option<Ints>, Stop>
-    requires cols { cols ≡ tableau.old.matrix.cols }
     requires kinds { length kinds.now ≡ width tableau.old.matrix }
     requires few { signed_count kinds.now ≤ MAX_SIGNED }
     requires goal { g < width tableau.old.matrix }
-    requires order { (i : ℕ) → i < length order.now → slice_index order.now i < width tableau.old.matrix }
+    requires order { (i : ℕ) → i < length order.now
+        → slice_index order.now i < width tableau.old.matrix }
     requires all { (c : ℕ) → c < width tableau.old.matrix → IsIn c order.now }
     requires level { length level.now ≡ length kinds.now }
     requires levels { AreLevels order.now level.now }
@@ -40,7 +40,11 @@ fn target(
     requires work { length work.old ≡ length kinds.now }
     ensures matrix { tableau.new.matrix ≡ tableau.old.matrix }
     ensures work { OnOk result (length work.new ≡ length work.old) }
-    ensures end { MatchResult result (λ cut. MatchOption cut (IsPartSum tableau.new.matrix kinds.now (g + 1) sum.new) (λ u. IsNamedCut tableau.new.matrix tableau.new.basis kinds.now u.list)) (λ s. IsTargetStop tableau.new.matrix kinds.now s) }
+    ensures end { MatchResult result
+        (λ cut.
+        MatchOption cut (IsPartSum tableau.new.matrix kinds.now (g + 1) sum.new)
+        (λ u. IsNamedCut tableau.new.matrix tableau.new.basis kinds.now u.list))
+        (λ s. IsTargetStop tableau.new.matrix kinds.now s) }
     ensures near { IfErr result (λ s. IsNearStop tableau.new.basis s) }
 {
     if !is_asked(kinds[g]) {
@@ -49,7 +53,7 @@ fn target(
     if sum[g] != 0 {
         return Ok(None);
     }
-    match side_of(alloc, tableau, kinds, order, level, work, cols, g)? {
+    match side_of(alloc, tableau, kinds, order, level, work, g)? {
         Side::Cut(cut) => Ok(Some(cut)),
         Side::Witness { stays } => {
             add(sum, work, stays);
@@ -67,33 +71,37 @@ fn targets(
     level: &[usize],
     sum: &mut [i128],
     work: &mut [i128],
-    cols: usize,
 ) -> Result<Option<Ints>, Stop>
-    requires cols { cols ≡ tableau.old.matrix.cols }
     requires kinds { length kinds.now ≡ width tableau.old.matrix }
     requires few { signed_count kinds.now ≤ MAX_SIGNED }
-    requires order { (i : ℕ) → i < length order.now → slice_index order.now i < width tableau.old.matrix }
+    requires order { (i : ℕ) → i < length order.now
+        → slice_index order.now i < width tableau.old.matrix }
     requires all { (c : ℕ) → c < width tableau.old.matrix → IsIn c order.now }
     requires level { length level.now ≡ length kinds.now }
     requires levels { AreLevels order.now level.now }
     requires sum { IsPartSum tableau.old.matrix kinds.now 0 sum.old }
     requires work { length work.old ≡ length kinds.now }
     ensures matrix { tableau.new.matrix ≡ tableau.old.matrix }
-    ensures end { MatchResult result (λ cut. MatchOption cut (IsPartSum tableau.new.matrix kinds.now (length kinds.now) sum.new) (λ u. IsNamedCut tableau.new.matrix tableau.new.basis kinds.now u.list)) (λ s. IsTargetStop tableau.new.matrix kinds.now s) }
+    ensures end { MatchResult result
+        (λ cut.
+        MatchOption cut (IsPartSum tableau.new.matrix kinds.now (length kinds.now) sum.new)
+        (λ u. IsNamedCut tableau.new.matrix tableau.new.basis kinds.now u.list))
+        (λ s. IsTargetStop tableau.new.matrix kinds.now s) }
     ensures near { IfErr result (λ s. IsNearStop tableau.new.basis s) }
 {
     for g in 0..kinds.len() {
-        if let Some(cut) = target(alloc, tableau, kinds, order, level, sum, work, cols, g)? {
+        if let Some(cut) = target(alloc, tableau, kinds, order, level, sum, work, g)? {
             return Ok(Some(cut));
         }
     }
     Ok(None)
 }
 
-// Puts the coordinates in the order of settling, into a list that has room for them: first those that are zero or free, which turn once at most.
+// Puts the coordinates in the order of settling, into a list that has room for them: first those that are zero or free, which cross at most once.
 pub(crate) fn put_order(order: &mut Vec<usize>, kinds: &[Kind])
     requires { length kinds.now ≤ vec_capacity order.old }
-    ensures below { (i : ℕ) → i < length order.new.items → slice_index order.new.items i < length kinds.now }
+    ensures below { (i : ℕ) → i < length order.new.items
+        → slice_index order.new.items i < length kinds.now }
     ensures all { (c : ℕ) → c < length kinds.now → IsIn c order.new.items }
     ensures room { vec_capacity order.new ≡ vec_capacity order.old }
 {
@@ -126,20 +134,18 @@ fn solution(
     tableau: &Tableau,
     kinds: &[Kind],
     sum: &[i128],
-    cols: usize,
 ) -> Result<Ints, NoMemory>
-    requires cols { cols ≡ tableau.now.matrix.cols }
     requires kinds { length kinds.now ≡ width tableau.now.matrix }
     requires few { signed_count kinds.now ≤ MAX_SIGNED }
     requires sum { IsPartSum tableau.now.matrix kinds.now (length kinds.now) sum.now }
     ensures { IfOk result (λ x. IsSmallSolution tableau.now.matrix kinds.now x.list) }
 {
-    let (front, _) = sum.split_at(cols);
+    let (front, _) = sum.split_at(tableau.cols());
     let solution = Ints::from_slice(alloc, front)?;
     Ok(solution)
 }
 
-// Decides a system by its targets in turn, from the basis where the last question left the tableau.
+// Decides a system by its targets, one after another, from the basis where the last question left the tableau.
 pub(crate) fn by_targets(
     alloc: Global,
     tableau: &mut Tableau,
@@ -148,9 +154,7 @@ pub(crate) fn by_targets(
     level: &mut [usize],
     sum: &mut [i128],
     work: &mut [i128],
-    cols: usize,
 ) -> Result<Decision, Stop>
-    requires cols { cols ≡ tableau.old.matrix.cols }
     requires kinds { length kinds.now ≡ width tableau.old.matrix }
     requires few { signed_count kinds.now ≤ MAX_SIGNED }
     requires room { width tableau.old.matrix ≤ vec_capacity order.old }
@@ -159,15 +163,16 @@ pub(crate) fn by_targets(
     requires work { length work.old ≡ width tableau.old.matrix }
     ensures matrix { tableau.new.matrix ≡ tableau.old.matrix }
     ensures room { vec_capacity order.new ≡ vec_capacity order.old }
-    ensures answer { MatchResult result (λ d. IsDecision tableau.new.matrix kinds.now d) (λ s. IsTargetStop tableau.new.matrix kinds.now s) }
+    ensures answer { MatchResult result (λ d. IsDecision tableau.new.matrix kinds.now d)
+        (λ s. IsTargetStop tableau.new.matrix kinds.now s) }
     ensures named { IfOk result (λ d. IsNamedDecision tableau.new.matrix tableau.new.basis d) }
     ensures near { IfErr result (λ s. IsNearStop tableau.new.basis s) }
 {
     put_order(order, kinds);
     put_levels(order, level);
     put_zeros(sum);
-    match targets(alloc, tableau, kinds, order, level, sum, work, cols)? {
+    match targets(alloc, tableau, kinds, order, level, sum, work)? {
         Some(cut) => Ok(Decision::Infeasible(cut)),
-        None => Ok(Decision::Feasible(solution(alloc, tableau, kinds, sum, cols)?)),
+        None => Ok(Decision::Feasible(solution(alloc, tableau, kinds, sum)?)),
     }
 }

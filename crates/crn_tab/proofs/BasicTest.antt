@@ -2,8 +2,8 @@
 use Rattle.std.proofs.Common.{◌≡◌, ℕ, zero, suc, ◌<◌, ◌≤◌, List, [], ◌∷◌, length, get_or, refl, ap, arith, nat_lt}
 use Rattle.std.specs.Prelude.{slice_index, IsTrue, ◌↔◌}
 use Rattle.crn_vec.specs.Lists.{IsIn}
-use Rattle.crn_tab.specs.Start.{IsIdentity}
-use Rattle.crn_tab.specs.Tab.{basis_of}
+use Rattle.crn_tab.specs.Inner.Start.{IsIdentity}
+use Rattle.crn_tab.specs.Slots.{basis_of}
 use Rattle.crn_tab.proofs.Places.{lt_true, below_from, in_basis, basis_only}
 
 pub slot_below : (n : ℕ) (at : List ℕ) (k : ℕ) → IsIn k (basis_of n at) → slice_index at k < n

@@ -6,15 +6,16 @@ use Rattle.std.proofs.lemmas.Int.{ints, unsigned_abs-mul}
 use Rattle.std.proofs.lemmas.Nat.Gcd.{dvd_antisymm, le_of_dvd}
 use Rattle.std.proofs.Math.Nat.{dvd-mul_right, div-mul_cancel, mul-dvd-mul_right, dvd_of_mul-dvd-mul_right, mul_comm, mul_assoc, pos_of_dvd_of_pos, eq_of_mul-eq-mul_left}
 use lib.IntN.{*ℤ_comm, *ℤ-zero, zero-*ℤ}
-use Rattle.crn_frac.proofs.Whole.{exact}
+use Rattle.crn_frac.proofs.CallerLemmas.{exact}
 use Rattle.crn_vec.specs.Vectors.{Mat, entry, dot}
 use Rattle.crn_vec.specs.Lists.{IsIn}
 use Rattle.crn_vec.specs.Elementary.{width, InRowSpace, IsPrimitive, IsNamed, WideAt}
 use Rattle.crn_vec.proofs.Ring.{left-comm, mul-neg}
 use Rattle.crn_vec.proofs.Entries.{past_end, lt_or, eq_or}
 use Rattle.crn_vec.proofs.Orthogonal.{orthogonal}
-use Rattle.crn_tab.specs.Tab.{choose, spread, basis_of, row_at, IsTableau}
-use Rattle.crn_tab.specs.Columns.{MakesWhole, IsScale, HasWideScale, column_entry, column_of}
+use Rattle.crn_tab.specs.Tableau.{choose}
+use Rattle.crn_tab.specs.Slots.{spread, basis_of, row_at, IsTableau}
+use Rattle.crn_tab.specs.Inner.Columns.{MakesWhole, IsScale, HasWideScale, column_entry, column_of}
 use Rattle.crn_tab.proofs.Places.{isIn_or, lt_true, lt_false, eq_true, eq_false, slot_basic, entry-spread}
 use Rattle.crn_tab.proofs.BasicTest.{slot_below}
 use Rattle.crn_tab.proofs.Bases.{rows_make_basis, zero_outside, outside_slot, at_own}
@@ -108,8 +109,8 @@ crossed a d z y v l ne e f =
     let first : d *ℤ (v *ℤ z) ≡ z *ℤ (v *ℤ d) = ap (λ (t : ℤ). d *ℤ t) (*ℤ_comm v z) ∙ left-comm d z v ∙ ap (λ (t : ℤ). z *ℤ t) (*ℤ_comm d v) in
     let second : z *ℤ (v *ℤ d) ≡ neg_ℤ (z *ℤ (a *ℤ l)) = ap (λ (t : ℤ). z *ℤ t) f ∙ mul-neg z (a *ℤ l) in
     let third : z *ℤ (a *ℤ l) ≡ l *ℤ (a *ℤ z) = ap (λ (t : ℤ). z *ℤ t) (*ℤ_comm a l) ∙ left-comm z l a ∙ ap (λ (t : ℤ). l *ℤ t) (*ℤ_comm z a) in
-    let turned : a *ℤ z ≡ neg_ℤ (d *ℤ y) = omega (arith, ints, e) in
-    let fourth : l *ℤ (a *ℤ z) ≡ neg_ℤ (l *ℤ (d *ℤ y)) = ap (λ (t : ℤ). l *ℤ t) turned ∙ mul-neg l (d *ℤ y) in
+    let negated : a *ℤ z ≡ neg_ℤ (d *ℤ y) = omega (arith, ints, e) in
+    let fourth : l *ℤ (a *ℤ z) ≡ neg_ℤ (l *ℤ (d *ℤ y)) = ap (λ (t : ℤ). l *ℤ t) negated ∙ mul-neg l (d *ℤ y) in
     let fifth : l *ℤ (d *ℤ y) ≡ d *ℤ (l *ℤ y) = left-comm l d y in
     cancel_left d (v *ℤ z) (l *ℤ y) ne (omega (arith, ints, first, second, third, fourth, fifth))
 

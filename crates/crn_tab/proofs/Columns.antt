@@ -1,5 +1,5 @@
 -- Vectors (x, Ax): differences, and that a basis and a coordinate in it name one vector, up to its sign.
-use Rattle.std.proofs.Common.{◌≡◌, ◌≢◌, ℕ, ◌+◌, ◌*◌, ◌≤◌, inl, inr, List, [], length, get_or, take, sym, ap, subst, ◌∙◌, arith}
+use Rattle.std.proofs.Common.{◌≡◌, ◌≢◌, ◌⊎◌, ℕ, ◌+◌, ◌*◌, ◌≤◌, inl, inr, List, [], length, get_or, take, sym, ap, subst, ◌∙◌, arith}
 use Rattle.std.specs.Prelude.{ℤ, pos, ◌-ℤ◌, ◌*ℤ◌, unsigned_abs}
 use Rattle.std.specs.Int.{◌∣◌}
 use Rattle.std.proofs.lemmas.Int.{ints, unsigned_abs-mul}
@@ -8,11 +8,11 @@ use Rattle.std.proofs.lemmas.Nat.Gcd.{dvd-zero}
 use lib.IntN.{*ℤ_comm}
 use Rattle.crn_vec.specs.Vectors.{Mat, entry, dot, AreOfLength}
 use Rattle.crn_vec.specs.Lists.{IsIn}
-use Rattle.crn_vec.specs.Elementary.{InRowSpace, InDualSpace, IsBasis, IsPrimitive, IsNamed, IsNamedRow, IsNamedColumn, WideAt, AreProportional, IsElementary}
+use Rattle.crn_vec.specs.Elementary.{InRowSpace, InDualSpace, IsBasis, IsPrimitive, IsNamed, IsNamedRow, IsNamedColumn, WideAt, AreProportional, IsElementary, IsWideMatrix}
 use Rattle.crn_vec.proofs.Ring.{no_zero, mul-sub, left-comm}
 use Rattle.crn_vec.proofs.Entries.{past_end, lt_or, eq_or}
 use Rattle.crn_vec.proofs.Sums.{dot-comm}
-use Rattle.crn_tab.specs.Entries.{AreSmall}
+use Rattle.crn_tab.specs.Tableau.{AreSmall}
 use Rattle.crn_tab.proofs.Dots.{dot_combined}
 use Rattle.crn_tab.proofs.Signs.{differ, length-differ, entry-differ, times_one, own, is_none, same_sizes, one_row, some_own}
 use Rattle.crn_tab.proofs.Primitive.{none_left, no_more}
@@ -39,7 +39,7 @@ swapped r x y p q t z h = rw (dot-comm r z, dot-comm r x, dot-comm r y) h
 same_quotient : (t x y d e : ℤ) → t ≢ pos 0 → x *ℤ t ≡ d → y *ℤ t ≡ e → d ≡ e → x ≡ y
 same_quotient t x y d e ne f g h = cancel_left t x y ne (*ℤ_comm t x ∙ f ∙ h ∙ sym g ∙ *ℤ_comm y t)
 
--- a difference of vectors (x, Ax), also divided, is one
+-- a difference of vectors (x, Ax), also exact_quotient, is one
 pub row_combined : (a : Mat) (p q t : ℤ) (w v z : List ℤ) → t ≢ pos 0 → InRowSpace a w → InRowSpace a v → length z ≡ length w
     → ((k : ℕ) → entry z k *ℤ t ≡ (p *ℤ entry w k) -ℤ (q *ℤ entry v k)) → InRowSpace a z
 row_combined a p q t w v z ne rw_is rv_is e h = record {
@@ -148,3 +148,10 @@ column_elementary a basis b w member named = elim named.named as (λ _. IsElemen
             proportional_by w v b some (one_column a basis b w v named.basis_is column other);
       }
 ]
+
+-- where a basis and a coordinate name a wide vector, some primitive elementary vector is wide
+pub wide_shown : (a : Mat) (basis : List ℕ) (k : ℕ) → AreOfLength a.cols a.rows → WideAt a basis k → IsWideMatrix a
+wide_shown a basis k long wide =
+    let v : List ℤ = wide.0 in
+    let e : IsElementary (InRowSpace a) v ⊎ IsElementary (InDualSpace a) v = elim wide.1.named [ inl m ↦ inl (column_elementary a basis k v m.member wide.1) | inr r ↦ inr (row_elementary a basis k v long r.outside wide.1) ] in
+    record { v = v; elementary = e; primitive = wide.1.primitive; wide = wide.2 }

@@ -7,7 +7,7 @@ use Rattle.crn_vec.specs.Vectors.{Mat, entry}
 use Rattle.crn_vec.specs.Lists.{IsIn}
 use Rattle.crn_vec.specs.Elementary.{width, IsBasis, IsNamed, IsNamedRow, IsNamedColumn}
 use Rattle.crn_vec.proofs.Ring.{no_zero, left-comm, mul-neg}
-use Rattle.crn_tab.specs.Tab.{spread, basis_of, row_at, IsTableau}
+use Rattle.crn_tab.specs.Slots.{spread, basis_of, row_at, IsTableau}
 use Rattle.crn_tab.proofs.Places.{entry-spread, slot_basic}
 use Rattle.crn_tab.proofs.Bases.{rows_make_basis, at_own}
 use Rattle.crn_tab.proofs.BasicTest.{slot_below}
@@ -16,17 +16,17 @@ use Rattle.crn_tab.proofs.Signs.{one_row, some_own}
 use Rattle.crn_tab.proofs.Columns.{cancel_left}
 use Rattle.crn_tab.proofs.ColumnVector.{meets}
 
-turn : (x y : ℤ) → neg_ℤ x *ℤ y ≡ neg_ℤ (x *ℤ y)
-turn x y = *ℤ_comm (neg_ℤ x) y ∙ mul-neg y x ∙ ap neg_ℤ (*ℤ_comm y x)
+neg-mul : (x y : ℤ) → neg_ℤ x *ℤ y ≡ neg_ℤ (x *ℤ y)
+neg-mul x y = *ℤ_comm (neg_ℤ x) y ∙ mul-neg y x ∙ ap neg_ℤ (*ℤ_comm y x)
 
 -- from x b + d a = 0 and num d = - x den: den a = num b
 down_column : (x d a b num den : ℤ) → d ≢ pos 0 → x *ℤ b +ℤ d *ℤ a ≡ pos 0 → num *ℤ d ≡ neg_ℤ x *ℤ den → den *ℤ a ≡ num *ℤ b
 down_column x d a b num den ne e f =
     let first : d *ℤ (den *ℤ a) ≡ den *ℤ (d *ℤ a) = left-comm d den a in
-    let turned : d *ℤ a ≡ neg_ℤ (x *ℤ b) = omega (arith, ints, e) in
-    let second : den *ℤ (d *ℤ a) ≡ neg_ℤ (den *ℤ (x *ℤ b)) = ap (λ (t : ℤ). den *ℤ t) turned ∙ mul-neg den (x *ℤ b) in
+    let negated : d *ℤ a ≡ neg_ℤ (x *ℤ b) = omega (arith, ints, e) in
+    let second : den *ℤ (d *ℤ a) ≡ neg_ℤ (den *ℤ (x *ℤ b)) = ap (λ (t : ℤ). den *ℤ t) negated ∙ mul-neg den (x *ℤ b) in
     let third : d *ℤ (num *ℤ b) ≡ b *ℤ (num *ℤ d) = left-comm d num b ∙ ap (λ (t : ℤ). num *ℤ t) (*ℤ_comm d b) ∙ left-comm num b d in
-    let fourth : b *ℤ (num *ℤ d) ≡ neg_ℤ (b *ℤ (x *ℤ den)) = ap (λ (t : ℤ). b *ℤ t) (f ∙ turn x den) ∙ mul-neg b (x *ℤ den) in
+    let fourth : b *ℤ (num *ℤ d) ≡ neg_ℤ (b *ℤ (x *ℤ den)) = ap (λ (t : ℤ). b *ℤ t) (f ∙ neg-mul x den) ∙ mul-neg b (x *ℤ den) in
     let fifth : b *ℤ (x *ℤ den) ≡ den *ℤ (x *ℤ b) = ap (λ (t : ℤ). b *ℤ t) (*ℤ_comm x den) ∙ left-comm b den x ∙ ap (λ (t : ℤ). den *ℤ t) (*ℤ_comm b x) in
     cancel_left d (den *ℤ a) (num *ℤ b) ne (omega (arith, ints, first, second, third, fourth, fifth))
 
@@ -36,7 +36,7 @@ along_row x d w v num den ne e f =
     let first : d *ℤ (den *ℤ v) ≡ den *ℤ (w *ℤ x) = left-comm d den v ∙ ap (λ (t : ℤ). den *ℤ t) (sym e) in
     let second : d *ℤ neg_ℤ (num *ℤ w) ≡ neg_ℤ (d *ℤ (num *ℤ w)) = mul-neg d (num *ℤ w) in
     let third : d *ℤ (num *ℤ w) ≡ w *ℤ (num *ℤ d) = left-comm d num w ∙ ap (λ (t : ℤ). num *ℤ t) (*ℤ_comm d w) ∙ left-comm num w d in
-    let fourth : w *ℤ (num *ℤ d) ≡ neg_ℤ (w *ℤ (x *ℤ den)) = ap (λ (t : ℤ). w *ℤ t) (f ∙ turn x den) ∙ mul-neg w (x *ℤ den) in
+    let fourth : w *ℤ (num *ℤ d) ≡ neg_ℤ (w *ℤ (x *ℤ den)) = ap (λ (t : ℤ). w *ℤ t) (f ∙ neg-mul x den) ∙ mul-neg w (x *ℤ den) in
     let fifth : w *ℤ (x *ℤ den) ≡ den *ℤ (w *ℤ x) = ap (λ (t : ℤ). w *ℤ t) (*ℤ_comm x den) ∙ left-comm w den x in
     cancel_left d (den *ℤ v) (neg_ℤ (num *ℤ w)) ne (omega (arith, ints, first, second, third, fourth, fifth))
 

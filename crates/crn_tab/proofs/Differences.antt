@@ -1,7 +1,7 @@
 -- The difference of two rows, each times a factor.
 use Rattle.std.proofs.Common.{◌≡◌, ℕ, zero, suc, ◌<◌, List, [], ◌∷◌, length, refl, arith}
 use Rattle.std.specs.Prelude.{ℤ, ◌-ℤ◌, ◌*ℤ◌}
-use Rattle.crn_tab.specs.Entries.{entry}
+use Rattle.crn_vec.specs.Vectors.{entry}
 
 pub differences : ℤ → ℤ → List ℤ → List ℤ → List ℤ
 differences p q [] v = []

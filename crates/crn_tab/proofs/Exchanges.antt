@@ -8,8 +8,8 @@ use Rattle.crn_vec.specs.Vectors.{Mat, entry}
 use Rattle.crn_vec.specs.Elementary.{width}
 use Rattle.crn_vec.proofs.Ring.{pos_pos}
 use Rattle.crn_vec.proofs.Entries.{past_end, lt_or, eq_or}
-use Rattle.crn_tab.specs.Entries.{IsNewRow, put}
-use Rattle.crn_tab.specs.Tab.{slot_entry, spread, ArePlaced, IsRowAt}
+use Rattle.crn_tab.specs.Inner.Rows.{IsNewRow, put}
+use Rattle.crn_tab.specs.Slots.{slot_entry, spread, ArePlaced, IsRowAt}
 use Rattle.crn_tab.proofs.NewRows.{put_same, put_other}
 use Rattle.crn_tab.proofs.Places.{slot_basic, slot_own, slot_none, length-spread, entry-spread}
 use Rattle.crn_tab.proofs.Spaces.{dual_combined}

@@ -5,8 +5,9 @@ use Rattle.crn_vec.specs.Vectors.{Mat, entry, AreOfLength}
 use Rattle.crn_vec.specs.Lists.{IsIn}
 use Rattle.crn_vec.specs.Elementary.{width, IsNamed}
 use Rattle.crn_vec.proofs.Entries.{lt_or, past_end, eq_or}
-use Rattle.crn_tab.specs.Start.{IsIdentity, start_row, first_entry}
-use Rattle.crn_tab.specs.Tab.{choose, slot_entry, spread}
+use Rattle.crn_tab.specs.Inner.Start.{IsIdentity, start_row}
+use Rattle.crn_tab.specs.Tableau.{first_entry, choose}
+use Rattle.crn_tab.specs.Slots.{slot_entry, spread}
 use Rattle.crn_tab.proofs.Rows.{row_count}
 use Rattle.crn_tab.proofs.Places.{lt_true, lt_false, eq_true, eq_false, slot_basic, slot_own, slot_none, length-spread, entry-spread}
 use Rattle.crn_tab.proofs.Bases.{spread_primitive}
@@ -75,5 +76,5 @@ first_named a basis i v wide columns lt named =
     } in
     elim (one_vector a basis (n + i) v w wide named own) as (λ _. ((k : ℕ) → k < width a → entry v k ≡ first_entry a i k) ⊎ ((k : ℕ) → k < width a → entry v k ≡ neg_ℤ (first_entry a i k))) [
       | inl same ↦ inl (λ k k_lt. same k ∙ in_at k k_lt ∙ entry_is a i k r_long)
-      | inr turned ↦ inr (λ k k_lt. turned k ∙ ap neg_ℤ (in_at k k_lt ∙ entry_is a i k r_long))
+      | inr negated ↦ inr (λ k k_lt. negated k ∙ ap neg_ℤ (in_at k k_lt ∙ entry_is a i k r_long))
     ]

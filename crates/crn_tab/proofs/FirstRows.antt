@@ -11,33 +11,33 @@ use Rattle.crn_vec.specs.Vectors.{Mat, entry, dot, column, AreOfLength, AreWithi
 use Rattle.crn_vec.specs.Elementary.{width, InDualSpace}
 use Rattle.crn_vec.proofs.RowLists.{within_at}
 use Rattle.crn_vec.proofs.Entries.{past_end, lt_or}
-use Rattle.crn_tab.specs.Entries.{AreSmall, IsContent}
-use Rattle.crn_tab.specs.Start.{IsIdentity, start_row, start_rows}
-use Rattle.crn_tab.specs.Tab.{choose, slot_entry, spread, basis_from, row_at, ArePlaced, IsRowAt, IsTableau}
+use Rattle.crn_tab.specs.Tableau.{AreSmall, choose}
+use Rattle.crn_tab.specs.Slots.{IsContent, slot_entry, spread, basis_from, row_at, ArePlaced, IsRowAt, IsTableau}
+use Rattle.crn_tab.specs.Inner.Start.{IsIdentity, start_row, start_rows}
 use Rattle.crn_tab.proofs.Rows.{small_everywhere, row_count}
 use Rattle.crn_tab.proofs.Places.{lt_true, lt_false, slot_basic, slot_own, slot_none, length-spread, entry-spread}
 use Rattle.crn_tab.proofs.Dots.{dot_single}
 use Rattle.crn_tab.proofs.Finish.{small_list}
 use Rattle.crn_tab.proofs.Primitive.{no_times}
 
-pub length-turned : (r : List ℤ) → length (map neg_ℤ r) ≡ length r
-length-turned [] = refl
-length-turned (x ∷ r) = ap suc (length-turned r)
+pub length-negatives : (r : List ℤ) → length (map neg_ℤ r) ≡ length r
+length-negatives [] = refl
+length-negatives (x ∷ r) = ap suc (length-negatives r)
 
-entry-turned : (r : List ℤ) (j : ℕ) → entry (map neg_ℤ r) j ≡ neg_ℤ (entry r j)
-entry-turned [] j = refl
-entry-turned (x ∷ r) zero = refl
-entry-turned (x ∷ r) (suc j) = entry-turned r j
+entry-negatives : (r : List ℤ) (j : ℕ) → entry (map neg_ℤ r) j ≡ neg_ℤ (entry r j)
+entry-negatives [] j = refl
+entry-negatives (x ∷ r) zero = refl
+entry-negatives (x ∷ r) (suc j) = entry-negatives r j
 
 pub length-start_row : (r : List ℤ) → length (start_row r) ≡ length r + 1
-length-start_row r = omega (arith, length-append (map neg_ℤ r) (pos 1 ∷ []), length-turned r)
+length-start_row r = omega (arith, length-append (map neg_ℤ r) (pos 1 ∷ []), length-negatives r)
 
 pub start_entry : (r : List ℤ) (j : ℕ) → j < length r → entry (start_row r) j ≡ neg_ℤ (entry r j)
-start_entry r j lt = get_or_append_left (map neg_ℤ r) (pos 1 ∷ []) (pos 0) j (omega (arith, length-turned r)) ∙ entry-turned r j
+start_entry r j lt = get_or_append_left (map neg_ℤ r) (pos 1 ∷ []) (pos 0) j (omega (arith, length-negatives r)) ∙ entry-negatives r j
 
 pub start_last : (r : List ℤ) → entry (start_row r) (length r) ≡ pos 1
 start_last r =
-    ap (λ k. entry (start_row r) k) (let e : length r ≡ length (map neg_ℤ r) + 0 = omega (arith, length-turned r) in e)
+    ap (λ k. entry (start_row r) k) (let e : length r ≡ length (map neg_ℤ r) + 0 = omega (arith, length-negatives r) in e)
     ∙ get_or-append-add (map neg_ℤ r) (pos 1 ∷ []) 0 (pos 0)
 
 by_suc : (rs : List (List ℤ)) (i : ℕ) → i < length rs → start_rows (take (suc i) rs) ≡ start_rows (take i rs) ++ start_row (get_or rs i [])
@@ -70,14 +70,14 @@ start_row_at n (r ∷ rs) (suc i) w h =
     ∙ ap (take (n + 1)) (drop_more (start_row r) (start_rows rs) (i * (n + 1)))
     ∙ start_row_at n rs i w.1 (omega arith)
 
--- one more entry of the turned row
+-- one more entry of the negative row
 map_suc : (r : List ℤ) (k : ℕ) → k < length r → map neg_ℤ (take (suc k) r) ≡ map neg_ℤ (take k r) ++ (neg_ℤ (entry r k) ∷ [])
 map_suc [] k h = absurd (omega arith)
 map_suc (x ∷ r) zero h = refl
 map_suc (x ∷ r) (suc k) h = ap (λ (v : List ℤ). neg_ℤ x ∷ v) (map_suc r k (omega arith))
 
-pub turned_step : (r : List ℤ) (k : ℕ) → k < length r → map neg_ℤ (take (k + 1) r) ≡ map neg_ℤ (take k r) ++ (neg_ℤ (entry r k) ∷ [])
-turned_step r k h = rw add-one (map_suc r k h)
+pub negatives_step : (r : List ℤ) (k : ℕ) → k < length r → map neg_ℤ (take (k + 1) r) ≡ map neg_ℤ (take k r) ++ (neg_ℤ (entry r k) ∷ [])
+negatives_step r k h = rw add-one (map_suc r k h)
 
 -- a slot of its own for each coordinate
 count_from : (n k : ℕ) (at : List ℕ) → ((j : ℕ) → j < length at → slice_index at j ≡ k + j) → n ≤ k + length at → length (basis_from k n at) ≡ n - k

@@ -6,7 +6,7 @@ use Rattle.std.proofs.Math.Seq.{take-append_seam}
 use Rattle.std.proofs.Math.Nat.{suc-mul, mul-le-mul_right}
 use Rattle.crn_vec.specs.Vectors.{entry}
 use Rattle.crn_vec.proofs.Entries.{lt_or}
-use Rattle.crn_tab.specs.Tab.{row_at}
+use Rattle.crn_tab.specs.Slots.{row_at}
 use Rattle.crn_tab.proofs.Rows.{same_rows}
 
 pub drop_front : (xs ys : List ℤ) → drop (length xs) (xs ++ ys) ≡ ys

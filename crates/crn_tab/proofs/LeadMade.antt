@@ -5,8 +5,8 @@ use Rattle.std.specs.List.{SwappedAt}
 use Rattle.std.specs.Int.{w64}
 use Rattle.std.proofs.lemmas.Int.{ints}
 use Rattle.crn_vec.specs.Vectors.{entry}
-use Rattle.crn_tab.specs.Entries.{AreSmall}
-use Rattle.crn_tab.specs.Tab.{IsLead}
+use Rattle.crn_tab.specs.Tableau.{AreSmall}
+use Rattle.crn_tab.specs.Inner.Rows.{IsLead}
 use Rattle.crn_tab.proofs.Cross.{read}
 
 one : (x : ℤ) → x ≡ pos 1 *ℤ x
@@ -42,10 +42,10 @@ plain w c row copy lead e long same s small some sign =
       positive = rw last (not_less (entry row c) test some);
     }
 
-pub turned : (w c : ℕ) (row copy swapped lead : List ℤ) → copy ≡ row → length row ≡ w → length swapped ≡ length copy → length lead ≡ length swapped → SwappedAt copy swapped c (w - 1) → AreSmall row
+pub lead_made : (w c : ℕ) (row copy swapped lead : List ℤ) → copy ≡ row → length row ≡ w → length swapped ≡ length copy → length lead ≡ length swapped → SwappedAt copy swapped c (w - 1) → AreSmall row
     → ((k : ℕ) → entry lead k ≡ neg_ℤ (entry swapped k))
     → int_lt (to_z w64 (of_z w64 (entry swapped (w - 1)))) (pos 0) ≡ true → IsLead w c row lead
-turned w c row copy swapped lead e long same long' s small neg sign =
+lead_made w c row copy swapped lead e long same long' s small neg sign =
     let last : entry swapped (w - 1) ≡ entry row c = s.1 (pos 0) ∙ ap (λ (v : List ℤ). entry v c) e in
     let value : to_z w64 (of_z w64 (entry swapped (w - 1))) ≡ entry row c = ap (λ (x : ℤ). to_z w64 (of_z w64 x)) last ∙ read (entry row c) (small c) in
     let test : int_lt (entry row c) (pos 0) ≡ true = rw value at sign in

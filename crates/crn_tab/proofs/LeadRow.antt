@@ -8,8 +8,9 @@ use lib.IntN.{*ℤ-zero, zero-*ℤ}
 use Rattle.crn_vec.specs.Vectors.{Mat, entry}
 use Rattle.crn_vec.specs.Elementary.{width}
 use Rattle.crn_vec.proofs.Entries.{past_end, lt_or, eq_or}
-use Rattle.crn_tab.specs.Entries.{IsContent, AreSmall}
-use Rattle.crn_tab.specs.Tab.{slot_entry, spread, ArePlaced, IsRowAt, IsLead}
+use Rattle.crn_tab.specs.Slots.{IsContent, slot_entry, spread, ArePlaced, IsRowAt}
+use Rattle.crn_tab.specs.Tableau.{AreSmall}
+use Rattle.crn_tab.specs.Inner.Rows.{IsLead}
 use Rattle.crn_tab.proofs.Places.{slot_basic, slot_own, slot_none, length-spread, entry-spread}
 use Rattle.crn_tab.proofs.Spaces.{dual_combined}
 use Rattle.crn_tab.proofs.Exchanges.{Swapped}

@@ -8,7 +8,9 @@ use Rattle.std.proofs.Math.Nat.{one-dvd, one-mul, mul-dvd-mul_right, dvd_of_mul-
 use Rattle.std.proofs.Math.IntN.{negsuc-*ℤ-pos}
 use lib.IntN.{zero-*ℤ}
 use Rattle.crn_vec.proofs.Ring.{left-comm}
-use Rattle.crn_tab.specs.Entries.{entry, put, IsContent, IsCombined, IsNewRow}
+use Rattle.crn_vec.specs.Vectors.{entry}
+use Rattle.crn_tab.specs.Inner.Rows.{put, IsCombined, IsNewRow}
+use Rattle.crn_tab.specs.Slots.{IsContent}
 use Rattle.crn_tab.proofs.NewRows.{put_same, put_other, put_twice}
 use Rattle.crn_tab.proofs.Settled.{settled}
 
@@ -51,9 +53,9 @@ pub divides_both : (n c : ℕ) (old lead : List ℤ) (p q a b t : ℤ) → Lower
 divides_both n c old lead p q a b t l e ne c_lt n_lt none old_one lead_one d h =
     let row = put old c (pos 0) in
     let D : ℕ → Type 0 = λ m. d ∣ m in
-    let turned : (k : ℕ) → d ∣ unsigned_abs ((b *ℤ entry lead k) -ℤ (a *ℤ entry row k)) = λ k.
+    let other_way : (k : ℕ) → d ∣ unsigned_abs ((b *ℤ entry lead k) -ℤ (a *ℤ entry row k)) = λ k.
     subst D (let f : unsigned_abs ((a *ℤ entry row k) -ℤ (b *ℤ entry lead k)) ≡ unsigned_abs ((b *ℤ entry lead k) -ℤ (a *ℤ entry row k)) = omega (arith, ints) in f) (h k) in (
-      settled d c (unsigned_abs t) b a lead row old (IsGcd-swap (unsigned_abs a) (unsigned_abs b) 1 l.lowest) turned (put_same old c (pos 0) c_lt) old_one
+      settled d c (unsigned_abs t) b a lead row old (IsGcd-swap (unsigned_abs a) (unsigned_abs b) 1 l.lowest) other_way (put_same old c (pos 0) c_lt) old_one
           (λ k other. sym (put_other old c k (pos 0) c_lt other)) (ap unsigned_abs (sym e ∙ sym l.second) ∙ unsigned_abs-mul b t),
       subst D (ap unsigned_abs (put_other old c n (pos 0) c_lt ne))
           (settled d n (unsigned_abs t) a b row lead (put lead n p) l.lowest h none lead_one

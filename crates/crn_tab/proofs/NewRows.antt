@@ -5,7 +5,9 @@ use Rattle.std.proofs.lemmas.Int.{ints}
 use Rattle.std.proofs.Math.ListN.{length-set}
 use lib.IntN.{*ℤ-zero, zero-*ℤ}
 use Rattle.crn_vec.proofs.Ring.{pos_pos}
-use Rattle.crn_tab.specs.Entries.{entry, put, IsContent, IsNewRow}
+use Rattle.crn_vec.specs.Vectors.{entry}
+use Rattle.crn_tab.specs.Inner.Rows.{put, IsNewRow}
+use Rattle.crn_tab.specs.Slots.{IsContent}
 use Rattle.crn_tab.proofs.Rows.{same_rows}
 
 -- a place is the written one or as before

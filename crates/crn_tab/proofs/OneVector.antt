@@ -9,11 +9,11 @@ use Rattle.crn_vec.proofs.Ring.{mul-neg}
 use Rattle.crn_tab.proofs.Signs.{same_sizes, one_row, some_own}
 use Rattle.crn_tab.proofs.Columns.{cancel_left, one_column, some_own_column, not_zero}
 
-same_or_turned : (x y : ℤ) → unsigned_abs x ≡ unsigned_abs y → (x ≡ y) ⊎ (x ≡ neg_ℤ y)
-same_or_turned (pos n) (pos m) e = inl (ap pos e)
-same_or_turned (pos n) (negsuc m) e = inr (omega (arith, ints, e))
-same_or_turned (negsuc n) (pos m) e = inr (omega (arith, ints, e))
-same_or_turned (negsuc n) (negsuc m) e = inl (omega (arith, ints, e))
+same_or_negative : (x y : ℤ) → unsigned_abs x ≡ unsigned_abs y → (x ≡ y) ⊎ (x ≡ neg_ℤ y)
+same_or_negative (pos n) (pos m) e = inl (ap pos e)
+same_or_negative (pos n) (negsuc m) e = inr (omega (arith, ints, e))
+same_or_negative (negsuc n) (pos m) e = inr (omega (arith, ints, e))
+same_or_negative (negsuc n) (negsuc m) e = inl (omega (arith, ints, e))
 
 -- primitive lists that are multiples of one another, place by place
 up_to_sign : (v w : List ℤ) (k : ℕ) → IsPrimitive v → IsPrimitive w → 1 ≤ unsigned_abs (entry v k) → 1 ≤ unsigned_abs (entry w k)
@@ -23,7 +23,7 @@ up_to_sign v w k pv pw sv sw h =
     sym (unsigned_abs-mul (entry w k) (entry v j)) ∙ ap unsigned_abs (h j) ∙ unsigned_abs-mul (entry v k) (entry w j) in
     let size = same_sizes v w (unsigned_abs (entry w k)) (unsigned_abs (entry v k)) pv pw sw sv abs k in
     let ne : entry w k ≢ pos 0 = not_zero (entry w k) sw in
-    elim (same_or_turned (entry v k) (entry w k) size) as (λ _. ((j : ℕ) → entry v j ≡ entry w j) ⊎ ((j : ℕ) → entry v j ≡ neg_ℤ (entry w j))) [
+    elim (same_or_negative (entry v k) (entry w k) size) as (λ _. ((j : ℕ) → entry v j ≡ entry w j) ⊎ ((j : ℕ) → entry v j ≡ neg_ℤ (entry w j))) [
       | inl e ↦ inl (λ j. cancel_left (entry w k) (entry v j) (entry w j) ne (h j ∙ ap (λ (x : ℤ). x *ℤ entry w j) e))
       | inr e ↦ inr (λ j. cancel_left (entry w k) (entry v j) (neg_ℤ (entry w j)) ne
           (h j ∙ ap (λ (x : ℤ). x *ℤ entry w j) e ∙ *ℤ_comm (neg_ℤ (entry w k)) (entry w j) ∙ mul-neg (entry w j) (entry w k) ∙ ap neg_ℤ (*ℤ_comm (entry w j) (entry w k)) ∙ sym (mul-neg (entry w k) (entry w j))))

@@ -9,8 +9,8 @@ use Rattle.crn_vec.specs.Vectors.{Mat, entry, HasSign}
 use Rattle.crn_vec.specs.Lists.{IsIn}
 use Rattle.crn_vec.specs.Elementary.{width, IsNamed, IsNamedRow}
 use Rattle.crn_vec.proofs.Ring.{no_zero}
-use Rattle.crn_tab.specs.Names.{NamesRows}
-use Rattle.crn_tab.specs.Tab.{slot_entry, spread, basis_of, row_at, IsTableau}
+use Rattle.crn_tab.specs.Tableau.{NamesRows}
+use Rattle.crn_tab.specs.Slots.{slot_entry, spread, basis_of, row_at, IsTableau}
 use Rattle.crn_tab.proofs.Places.{entry-spread, slot_own}
 use Rattle.crn_tab.proofs.Signs.{one_row, no_wide}
 use Rattle.crn_tab.proofs.Bases.{rows_make_basis}

@@ -6,7 +6,8 @@ use Rattle.std.proofs.lemmas.List.{append-nil}
 use Rattle.crn_vec.specs.Vectors.{entry}
 use Rattle.crn_vec.specs.Lists.{IsIn, IsAbove, IsAscending}
 use Rattle.crn_vec.proofs.Entries.{eq_or}
-use Rattle.crn_tab.specs.Tab.{choose, slot_entry, spread, basis_from, basis_of}
+use Rattle.crn_tab.specs.Tableau.{choose}
+use Rattle.crn_tab.specs.Slots.{slot_entry, spread, basis_from, basis_of}
 
 pub isIn_or : (k : ℕ) (xs : List ℕ) → IsIn k xs ⊎ (¬ IsIn k xs)
 isIn_or k [] = inr (λ h. h)

@@ -6,7 +6,9 @@ use Rattle.std.proofs.lemmas.Int.{ints, unsigned_abs-mul}
 use Rattle.std.proofs.Math.Nat.{one-dvd, one-mul, mul-dvd-mul_right, dvd_of_mul-dvd-mul_right, pos_of_dvd_of_pos}
 use lib.IntN.{*ℤ-zero, zero-*ℤ}
 use Rattle.crn_vec.proofs.Entries.{past_end, inside_or}
-use Rattle.crn_tab.specs.Entries.{entry, IsContent, IsCombined}
+use Rattle.crn_vec.specs.Vectors.{entry}
+use Rattle.crn_tab.specs.Slots.{IsContent}
+use Rattle.crn_tab.specs.Inner.Rows.{IsCombined}
 
 pub abs_some : (x : ℤ) → x ≢ pos 0 → 1 ≤ unsigned_abs x
 abs_some x h = omega (arith, ints, h)

@@ -5,8 +5,8 @@ use Rattle.std.proofs.Math.Nat.{suc-mul, mul-le-mul_right}
 use Rattle.crn_vec.specs.Vectors.{Mat}
 use Rattle.crn_vec.specs.Lists.{IsIn}
 use Rattle.crn_vec.specs.Elementary.{width, IsNamed}
-use Rattle.crn_tab.specs.Entries.{AreSmall}
-use Rattle.crn_tab.specs.Tab.{spread, basis_of, row_at, IsTableau}
+use Rattle.crn_tab.specs.Tableau.{AreSmall}
+use Rattle.crn_tab.specs.Slots.{spread, basis_of, row_at, IsTableau}
 use Rattle.crn_tab.proofs.Bases.{outside_slot, rows_make_basis, row_is_named}
 use Rattle.crn_tab.proofs.Finish.{small_row, spread_small}
 

@@ -3,9 +3,9 @@ use Rattle.std.proofs.Common.{◌≡◌, ℕ, zero, suc, ◌<◌, inl, inr, List
 use Rattle.std.specs.Prelude.{ℤ, pos, unsigned_abs}
 use Rattle.std.proofs.lemmas.List.{ext_get_or}
 use Rattle.crn_vec.specs.declared.limits.TheConstants.{WIDE_ENTRY}
-use Rattle.crn_vec.specs.Vectors.{AreOfLength}
+use Rattle.crn_vec.specs.Vectors.{AreOfLength, entry}
 use Rattle.crn_vec.proofs.Entries.{past_end, inside_or}
-use Rattle.crn_tab.specs.Entries.{entry, AreSmall}
+use Rattle.crn_tab.specs.Tableau.{AreSmall}
 
 pub same_rows : (v w : List ℤ) → length v ≡ length w → ((k : ℕ) → k < length v → entry v k ≡ entry w k) → v ≡ w
 same_rows v w e h = ext_get_or (pos 0) v w e h

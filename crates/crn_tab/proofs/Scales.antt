@@ -5,11 +5,11 @@ use Rattle.std.specs.Int.{IsGcd, ◌∣◌}
 use Rattle.std.proofs.Math.Nat.{dvd-mul_left, dvd-mul_right, div-mul_cancel, mul-dvd-mul_right, dvd_of_mul-dvd-mul_right, mul_comm, pos_of_dvd_of_pos, one-le-mul, one-dvd}
 use Rattle.std.proofs.lemmas.Nat.Gcd.{dvd_trans}
 use Rattle.crn_frac.specs.Multiple.{IsLcm}
-use Rattle.crn_frac.proofs.Divisors.{common, lcm_is}
+use Rattle.crn_frac.proofs.CallerLemmas.{common, lcm_is}
 use Rattle.crn_vec.specs.Vectors.{entry}
 use Rattle.crn_vec.proofs.Entries.{eq_or}
-use Rattle.crn_tab.specs.Tab.{row_at}
-use Rattle.crn_tab.specs.Columns.{IsScale}
+use Rattle.crn_tab.specs.Slots.{row_at}
+use Rattle.crn_tab.specs.Inner.Columns.{IsScale}
 use Rattle.crn_tab.proofs.Signs.{gcd_by}
 
 times : (a l k : ℕ) → l ∣ k → a * l ∣ a * k

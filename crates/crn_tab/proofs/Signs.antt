@@ -6,13 +6,13 @@ use Rattle.std.proofs.lemmas.Int.{ints, unsigned_abs-mul}
 use Rattle.std.proofs.lemmas.Nat.Gcd.{IsGcd-from_zero, IsGcd-from_mod, dvd_antisymm, dvd-zero}
 use Rattle.std.proofs.Math.Nat.{dvd-mul_left, dvd-mul_right, div-mul_cancel, dvd_of_mul-dvd-mul_right, mul_comm, pos_of_dvd_of_pos, one-mul, eq_of_mul-eq-mul_left}
 use lib.IntN.{*ℤ_comm, *ℤ-zero}
-use Rattle.crn_frac.proofs.Divisors.{common}
+use Rattle.crn_frac.proofs.CallerLemmas.{common}
 use Rattle.crn_vec.specs.Vectors.{Mat, entry, AreOfLength}
 use Rattle.crn_vec.specs.Lists.{IsIn}
 use Rattle.crn_vec.specs.Elementary.{width, InDualSpace, IsBasis, IsPrimitive, IsNamed, IsNamedRow, WideAt}
 use Rattle.crn_vec.proofs.Entries.{lt_or, eq_or}
-use Rattle.crn_tab.specs.Entries.{AreSmall}
-use Rattle.crn_tab.specs.Tab.{basis_of, row_at, spread, IsTableau}
+use Rattle.crn_tab.specs.Tableau.{AreSmall}
+use Rattle.crn_tab.specs.Slots.{basis_of, row_at, spread, IsTableau}
 use Rattle.crn_tab.proofs.Spaces.{dual_combined}
 use Rattle.crn_tab.proofs.Unique.{dual_none}
 use Rattle.crn_tab.proofs.RowVector.{row_of}

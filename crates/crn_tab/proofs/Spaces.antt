@@ -16,7 +16,7 @@ opposite p q t z w v dz dw dv ne e f g h =
     let sum : t *ℤ (z +ℤ dz) ≡ pos 0 = omega (arith, ints, e, f, g', h', mul-neg p dw, mul-neg q dv, distrib t z dz, *ℤ_comm t z, *ℤ_comm t dz) in
     omega (arith, ints, no_zero t (z +ℤ dz) sum ne)
 
--- a difference of vectors (-uA, u), also divided, is one
+-- a difference of vectors (-uA, u), also exact_quotient, is one
 pub dual_combined : (a : Mat) (p q t : ℤ) (w v z : List ℤ) → t ≢ pos 0 → InDualSpace a w → InDualSpace a v → length z ≡ length w
     → ((k : ℕ) → entry z k *ℤ t ≡ (p *ℤ entry w k) -ℤ (q *ℤ entry v k)) → InDualSpace a z
 dual_combined a p q t w v z ne dw dv e h =

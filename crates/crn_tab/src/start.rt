@@ -1,6 +1,6 @@
 ghost use Rattle.std.specs.Prelude.{◌≡◌, ◌≤◌, ◌++◌, length, IfOk, OnOk, neg_ℤ, unsigned_abs};
 ghost use Rattle.crn_vec.specs.Vectors.{AreWithin};
-ghost use Rattle.crn_tab.specs.Start.{IsIdentity, start_row, start_rows};
+ghost use Rattle.crn_tab.specs.Inner.Start.{IsIdentity, start_row, start_rows};
 
 use crn_vec::{MAX_AMOUNT, Matrix};
 use std::alloc::{AllocError, Global};
@@ -16,8 +16,8 @@ pub(crate) fn identity(alloc: Global, count: usize) -> Result<Vec<usize>, AllocE
     Ok(v)
 }
 
-// The other sign, of an entry of a matrix.
-fn turned(x: &i128) -> i64
+// Minus an entry of a matrix.
+fn negative_of(x: &i128) -> i64
     requires { unsigned_abs x.now ≤ MAX_AMOUNT }
     ensures { result ≡ neg_ℤ x.now }
 {
@@ -30,13 +30,13 @@ fn push_row(rows: &mut Vec<i64>, row: &[i128]) -> Result<(), AllocError>
     ensures { OnOk result (rows.new.items ≡ rows.old.items ++ start_row row.now) }
 {
     for x in row {
-        rows.push(turned(x))?;
+        rows.push(negative_of(x))?;
     }
     rows.push(1)?;
     Ok(())
 }
 
-// What a tableau keeps at first: each row of the matrix turned, and then a 1.
+// What a tableau keeps at first: each row of the matrix negative_of, and then a 1.
 pub(crate) fn first_rows(alloc: Global, matrix: &Matrix) -> Result<Vec<i64>, AllocError>
     ensures { IfOk result (λ v. v.items ≡ start_rows matrix.now.rows) }
 {

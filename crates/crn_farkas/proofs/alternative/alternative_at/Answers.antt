@@ -5,7 +5,7 @@ use Rattle.crn_vec.specs.Lists.{IsIn}
 use Rattle.crn_vec.specs.Systems.{kind_at}
 use Rattle.crn_vec.specs.Vectors.{Mat, entry, HasSign}
 use Rattle.crn_farkas.specs.declared.view.View.{View}
-use Rattle.crn_farkas.specs.Views.{IsView, IsSeen, IsSettled}
+use Rattle.crn_farkas.specs.Inner.Views.{IsView, IsSeen, IsSettled}
 use Rattle.crn_farkas.proofs.Witnessing.{witness_signs, cut_signs}
 use Rattle.crn_farkas.proofs.alternative.alternative_at.Goals as goal
 
@@ -28,8 +28,8 @@ returns-in-Row-clause-answer c =
     let S : View → Type 0 = λ v. (y : List ℤ) → IsSeen a basis v g (kind_at kinds g) y → (k : ℕ) → k < length kinds → HasSign (get_or c.put_signs.new.signs k Zero) (entry y k) in (
       c.settled_cut.ensures.row,
       c.settled_cut.ensures.cut,
-      cut_signs a basis kinds g c.settled_cut.result.turn c.put_signs.new.signs c.names_rows.ensures (subst (λ (m : Mat). g < width m) (sym same) c.requires.goal) long c.requires.asked
-          (subst V c.in-Row.is c.in_ok-view.ensures.view) c.settled_cut.ensures.turn (c.put_signs.ensures.count ∙ c.requires.signs) (subst S c.in-Row.is c.put_signs.ensures.signs),
+      cut_signs a basis kinds g c.settled_cut.result.sign c.put_signs.new.signs c.names_rows.ensures (subst (λ (m : Mat). g < width m) (sym same) c.requires.goal) long c.requires.asked
+          (subst V c.in-Row.is c.in_ok-view.ensures.view) c.settled_cut.ensures.sign (c.put_signs.ensures.count ∙ c.requires.signs) (subst S c.in-Row.is c.put_signs.ensures.signs),
     )
 
 pub returns-in-Column-clause-answer : goal.returns-in-Column-clause-answer

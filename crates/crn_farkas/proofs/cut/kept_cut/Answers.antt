@@ -14,7 +14,7 @@ returns-in-Some c =
     record {
       inside = omega (arith, c.loop-row-test.true, c.requires);
       outside = λ member. false≢true (sym c.if-not-is_basic.true ∙ c.is_basic.ensures.1 member);
-      cuts = record { some = c.in-Some.ensures.0; rules = λ w named turned. cut_of_ruling a kinds w named.space c.requires (rules_of kinds _ w c.requires named.space.long (c.in-Some.ensures.1 w (named, turned))) };
+      cuts = record { some = c.in-Some.ensures.0; rules = λ w named signed. cut_of_ruling a kinds w named.space c.requires (rules_of kinds _ w c.requires named.space.long (c.in-Some.ensures.1 w (named, signed))) };
     }
 
 pub loop-row-preserved : goal.loop-row-preserved

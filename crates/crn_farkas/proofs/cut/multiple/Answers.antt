@@ -3,7 +3,7 @@ use Rattle.std.specs.Int.{w128}
 use Rattle.std.proofs.lemmas.Int.{to_z-of_z}
 use Rattle.crn_vec.specs.Vectors.{entry}
 use Rattle.std.specs.Prelude.{◌*ℤ◌}
-use Rattle.crn_farkas.specs.Decides.{factor}
+use Rattle.crn_farkas.specs.Decision.{factor}
 use Rattle.crn_farkas.proofs.Ruling.{scale_step}
 use Rattle.crn_farkas.proofs.cut.multiple.Goals as goal
 
@@ -11,6 +11,6 @@ pub loop-x-preserved : goal.loop-x-preserved
 loop-x-preserved c =
     let q = factor c.args.stays in
     let k = c.loop-x.x-index in
-    let pushed = to_z-of_z w128 c.turned.result (record { sfits = c.turned.type_inv }) ∙ c.turned.ensures in
+    let pushed = to_z-of_z w128 c.or_negative.result (record { sfits = c.or_negative.type_inv }) ∙ c.or_negative.ensures in
     c.in_ok-push.ensures.ok ∙ ap (λ (x : ℤ). c.loop-x.made.list ++ (x ∷ [])) pushed
     ∙ ap (λ (v : List ℤ). v ++ ((q *ℤ entry c.args.list.now k) ∷ [])) c.loop-x.invariant ∙ sym (scale_step q c.args.list.now k c.loop-x-test.true)

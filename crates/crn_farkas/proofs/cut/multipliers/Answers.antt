@@ -1,9 +1,9 @@
 use Rattle.std.proofs.Common.{◌≡◌, ℕ, ap, sym, ◌∙◌, drop}
 use Rattle.crn_vec.specs.Vectors.{scale}
-use Rattle.crn_tab.proofs.OwnSign.{as_row}
+use Rattle.crn_tab.proofs.CallerLemmas.{as_row}
 use Rattle.crn_vec.specs.Kept.{KeptInts}
-use Rattle.crn_farkas.specs.Decides.{factor}
-use Rattle.crn_farkas.specs.Ends.{IsNamedCut}
+use Rattle.crn_farkas.specs.Decision.{factor}
+use Rattle.crn_farkas.specs.Solver.{IsNamedCut}
 use Rattle.crn_farkas.proofs.Ruling.{cut_from, multipliers_from, if_ok}
 use Rattle.crn_farkas.proofs.cut.multipliers.Goals as goal
 
@@ -18,13 +18,13 @@ returns-clause-named c =
     let basis = c.args.tableau.now.basis in
     let kinds = c.args.kinds.now in
     let row = c.args.cut.now.row in
-    let turn = c.args.cut.now.turn in
+    let sign = c.args.cut.now.sign in
     let s = c.stays-stays.result in
     let w = c.put_row.new.into in
-    let part : c.split_at.result.1.now ≡ drop a.cols w = c.split_at.ensures.back ∙ ap (λ (n : ℕ). drop n w) c.requires.cols in
+    let part : c.split_at.result.1.now ≡ drop a.cols w = c.split_at.ensures.back ∙ ap (λ (n : ℕ). drop n w) c.cols.ensures in
     if_ok (λ (made : KeptInts). made.list ≡ scale (factor s) c.split_at.result.1.now) (λ (u : KeptInts). IsNamedCut a basis kinds u.list) c.multiple.result
     (λ u e. (
-      cut_from a basis kinds row turn s w u.list c.names_rows.ensures c.requires.cut.inside c.requires.cut.outside c.requires.kinds c.requires.cut.cuts c.put_row.ensures.named c.put_row.ensures.small
+      cut_from a basis kinds row sign s w u.list c.names_rows.ensures c.requires.cut.inside c.requires.cut.outside c.requires.kinds c.requires.cut.cuts c.put_row.ensures.named c.put_row.ensures.small
           c.stays-stays.ensures (e ∙ ap (scale (factor s)) part),
       multipliers_from a basis row s w u.list c.requires.cut.outside c.put_row.ensures.named (e ∙ ap (scale (factor s)) part),
     ))

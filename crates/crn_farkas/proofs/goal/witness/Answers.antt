@@ -4,7 +4,7 @@ use Rattle.crn_vec.specs.declared.signs.Kind.{Kind}
 use Rattle.crn_vec.specs.declared.signs.Kind.TheVariants.{Pos, Free}
 use Rattle.crn_vec.specs.Systems.{HasKind}
 use Rattle.crn_vec.specs.Vectors.{entry, scale}
-use Rattle.crn_farkas.specs.Decides.{factor}
+use Rattle.crn_farkas.specs.Decision.{factor}
 use Rattle.crn_farkas.proofs.Steps.{any_default}
 use Rattle.crn_farkas.proofs.Witnesses.{as_column, witness_from, wide_here, near_here}
 use Rattle.crn_farkas.proofs.goal.witness.Goals as goal
@@ -35,10 +35,10 @@ returns-clause-side c =
     let s = c.stays-stays.result in
     let w = c.put_column.new.into in
     let asked = c.sign_asked.result in
-    let turns = c.stays-stays.ensures in
+    let signs = c.stays-stays.ensures in
     let K : Kind → Type 0 = λ κ. HasKind κ (factor s *ℤ entry w g) in
     let g_lt = c.requires.goal in
     witness_from a basis kinds c.args.order.now c.args.b g s w (scale (factor s) w) c.names_rows.ensures g_lt c.requires.kinds c.requires.asked c.requires.view c.requires.settled c.requires.all
     c.in_default.ensures.named c.in_default.ensures.small
-    (λ some. subst K (any_default Pos Free kinds g (omega (arith, g_lt, c.requires.kinds))) (c.sign_asked.ensures.kind (factor s *ℤ entry w g) (turns some c.sign_asked.ensures.some)))
+    (λ some. subst K (any_default Pos Free kinds g (omega (arith, g_lt, c.requires.kinds))) (c.sign_asked.ensures.kind (factor s *ℤ entry w g) (signs some c.sign_asked.ensures.some)))
     refl

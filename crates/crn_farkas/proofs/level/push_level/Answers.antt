@@ -2,7 +2,7 @@ use Rattle.std.proofs.Common.{◌≡◌, ◌+◌, ◌<◌, ℕ, inl, refl, arith
 use Rattle.std.proofs.lemmas.Bool.{false≢true}
 use Rattle.crn_vec.specs.declared.signs.Kind.TheVariants.{Pos, Free}
 use Rattle.crn_vec.specs.Systems.{kind_at}
-use Rattle.crn_farkas.specs.Views.{is_early_kind}
+use Rattle.crn_farkas.specs.Inner.Views.{is_early_kind}
 use Rattle.crn_farkas.proofs.Steps.{any_default}
 use Rattle.crn_farkas.proofs.Finals.{LevelKept, level_pushed, level_passed, level_is, level_not, level_step, level_front}
 use Rattle.crn_farkas.proofs.level.push_level.Goals as goal

@@ -1,5 +1,5 @@
 use Rattle.std.proofs.Common.{◌≡◌, ◌+◌, take, vec_len, vec_capacity}
-use Rattle.crn_farkas.specs.Views.{level_count}
+use Rattle.crn_farkas.specs.Inner.Views.{level_count}
 use Rattle.crn_farkas.proofs.Finals.{LevelKept}
 use Rattle.crn_farkas.proofs.level.push_level.Given as goal
 

@@ -3,13 +3,13 @@ use Rattle.std.specs.Prelude.{slice_index}
 use Rattle.crn_vec.specs.Elementary.{width}
 use Rattle.crn_vec.specs.Systems.{kind_at}
 use Rattle.crn_vec.specs.Vectors.{Mat}
-use Rattle.crn_farkas.specs.Views.{IsSettled}
+use Rattle.crn_farkas.specs.Inner.Views.{IsSettled}
 use Rattle.crn_farkas.proofs.Seen.{shown}
 use Rattle.crn_farkas.proofs.Steps.{wrong_other, Change, change_of, not_before, agree_step, settled_step}
 use Rattle.crn_farkas.proofs.settle.+settle.Goals as goal
 
-pub turn-requires-clause-other : goal.turn-requires-clause-other
-turn-requires-clause-other t c =
+pub cross-requires-clause-other : goal.cross-requires-clause-other
+cross-requires-clause-other t c =
     let a = c.loop-j.tableau.matrix in
     let basis = c.loop-j.tableau.basis in
     let g = c.args.g in
@@ -22,7 +22,7 @@ pub loop-j-preserved : goal.loop-j-preserved
 loop-j-preserved t c =
     let a = c.loop-j.tableau.matrix in
     let basis = c.loop-j.tableau.basis in
-    let next = c.turn.new.tableau.basis in
+    let next = c.cross.new.tableau.basis in
     let basis' = c.settle.new.tableau.basis in
     let a' = c.settle.new.tableau.matrix in
     let g = c.args.g in
@@ -35,9 +35,9 @@ loop-j-preserved t c =
     let y = shown a basis c.loop-j.view g (kind_at kinds g) c.names_rows.ensures g_lt asked c.loop-j.invariant.view in
     let first = c.in-Some.ensures in
     let other = wrong_other a basis c.loop-j.view g k kinds y.y asked y.is (first.wrong y.y y.is) in
-    let change : Change order g j k basis c.loop-j.view basis' c.settle.new.view = change_of order g j k basis next basis' c.loop-j.view c.turn.new.view c.settle.new.view other
-    (not_before a basis c.loop-j.view g kinds order c.loop-j.done c.args.k j y.y first y.is) c.in_ok-turn.ensures.turned c.in_ok-turn.ensures.others c.in_ok-settle.ensures.agree in
-    let same : a' ≡ a = c.in_ok-settle.ensures.matrix ∙ c.in_ok-turn.ensures.matrix in
+    let change : Change order g j k basis c.loop-j.view basis' c.settle.new.view = change_of order g j k basis next basis' c.loop-j.view c.cross.new.view c.settle.new.view other
+    (not_before a basis c.loop-j.view g kinds order c.loop-j.done c.args.k j y.y first y.is) c.in_ok-cross.ensures.crossed c.in_ok-cross.ensures.others c.in_ok-settle.ensures.agree in
+    let same : a' ≡ a = c.in_ok-settle.ensures.matrix ∙ c.in_ok-cross.ensures.matrix in
     let S : Mat → Type 0 = λ m. IsSettled m basis' c.settle.new.view g kinds order j in
     let S' : Mat → Type 0 = λ m. IsSettled m basis' c.settle.new.view g kinds order (j + 1) in
     record {

@@ -3,8 +3,8 @@ use Rattle.std.specs.Result.{MatchResult}
 use Rattle.crn_vec.specs.Lists.{IsIn}
 use Rattle.crn_vec.specs.Vectors.{Mat}
 use Rattle.crn_farkas.specs.declared.decision.Decision.{Decision}
-use Rattle.crn_farkas.specs.declared.stop.Stop.{Stop}
-use Rattle.crn_farkas.specs.Ends.{IsDecision, IsStop}
+use Rattle.crn_farkas.specs.declared.fault.Stop.{Stop}
+use Rattle.crn_farkas.specs.Decision.{IsDecision, IsStop}
 use Rattle.crn_farkas.proofs.Finals.{decision_from}
 use Rattle.crn_farkas.proofs.system.decide.Goals as goal
 

@@ -2,16 +2,15 @@ use Rattle.std.proofs.Common.{◌≡◌, ◌<◌, ap, sym, subst, ◌∙◌, ari
 use Rattle.std.proofs.lemmas.Bool.{false≢true}
 use Rattle.crn_vec.specs.declared.limits.TheConstants.{WIDE_ENTRY}
 use Rattle.crn_vec.specs.declared.signs.Kind.TheVariants.{Pos, Free}
-use Rattle.crn_vec.specs.Vectors.{Mat, scale}
+use Rattle.crn_vec.specs.Vectors.{Mat, scale, entry}
 use Rattle.crn_vec.specs.Systems.{is_signed, kind_at}
-use Rattle.crn_vec.specs.Vectors.{entry}
 use Rattle.crn_vec.proofs.Sums.{entry-scale, length-scale}
 use Rattle.crn_vec.specs.Elementary.{width}
 use Rattle.std.specs.Prelude.{◌+ℤ◌}
 use Rattle.crn_farkas.proofs.Ruling.{unscaled_small}
-use Rattle.crn_farkas.specs.Decides.{factor}
+use Rattle.crn_farkas.specs.Decision.{factor}
 use Rattle.crn_farkas.specs.declared.goal.Side.{Side}
-use Rattle.crn_farkas.specs.Ends.{IsPartSum, IsSide}
+use Rattle.crn_farkas.specs.Inner.Sums.{IsPartSum, IsSide}
 use Rattle.std.specs.Int.{w128}
 use Rattle.crn_farkas.proofs.Steps.{any_default}
 use Rattle.crn_farkas.proofs.PartSums.{part_more, part_added, part_bound}

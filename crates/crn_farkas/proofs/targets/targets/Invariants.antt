@@ -1,5 +1,5 @@
 use Rattle.std.proofs.Common.{◌≡◌, length}
-use Rattle.crn_farkas.specs.Ends.{IsPartSum}
+use Rattle.crn_farkas.specs.Inner.Sums.{IsPartSum}
 use Rattle.crn_farkas.proofs.targets.targets.Given as goal
 
 abbrev pub invariant-loop-g : goal.invariant-loop-g

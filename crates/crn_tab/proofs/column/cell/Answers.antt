@@ -3,8 +3,9 @@ use Rattle.std.specs.Prelude.{ℤ, pos, ◌≤ℤ◌, ◌*ℤ◌, neg_ℤ, unsig
 use Rattle.std.specs.Int.{w128, ◌∣◌}
 use Rattle.std.proofs.lemmas.Int.{to_z-of_z}
 use Rattle.crn_vec.specs.Vectors.{entry}
-use Rattle.crn_tab.specs.Tab.{row_at, IsKeptRow}
-use Rattle.crn_tab.specs.Columns.{MakesWhole, column_entry}
+use Rattle.crn_tab.specs.Slots.{row_at}
+use Rattle.crn_tab.specs.Inner.Rows.{IsKeptRow}
+use Rattle.crn_tab.specs.Inner.Columns.{MakesWhole, column_entry}
 use Rattle.crn_tab.proofs.ColumnVector.{entry_by}
 use Rattle.crn_tab.proofs.column.cell.Goals as goal
 

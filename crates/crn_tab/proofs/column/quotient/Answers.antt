@@ -3,7 +3,7 @@ use Rattle.std.specs.Prelude.{ℤ, pos, ◌-ℤ◌, ◌*ℤ◌, neg_ℤ, FitsSig
 use Rattle.std.specs.Int.{w64, w128}
 use Rattle.std.proofs.lemmas.Int.{ints, to_z-of_z, fits_signed_from_abs, unsigned_abs-mul}
 use Rattle.crn_vec.specs.declared.limits.TheConstants.{WIDE_ENTRY}
-use Rattle.crn_frac.proofs.Lowest.{minus, abs_minus}
+use Rattle.crn_frac.proofs.CallerLemmas.{minus, abs_minus}
 use Rattle.crn_tab.proofs.Cross.{widened, product_small}
 use Rattle.crn_tab.proofs.column.quotient.Goals as goal
 
@@ -28,13 +28,13 @@ formed num den l hn hd hl =
       size = abs_minus p ∙ unsigned_abs-mul num (pos l);
     }
 
-pub divided-requires-clause-divides : goal.divided-requires-clause-divides
-divided-requires-clause-divides c =
+pub exact_quotient-requires-clause-divides : goal.exact_quotient-requires-clause-divides
+exact_quotient-requires-clause-divides c =
     let h = formed c.args.num.now c.args.den.now c.args.l.now c.requires.num_small c.requires.den_small c.requires.l_small in
     rw (h.own, h.product, h.size) c.requires.divides
 
 pub returns : goal.returns
 returns c =
     let h = formed c.args.num.now c.args.den.now c.args.l.now c.requires.num_small c.requires.den_small c.requires.l_small in
-    let e = rw (h.own, h.product) at c.divided.ensures in
-    rw (to_z-of_z w128 c.divided.result (record { sfits = c.divided.type_inv })) e
+    let e = rw (h.own, h.product) at c.exact_quotient.ensures in
+    rw (to_z-of_z w128 c.exact_quotient.result (record { sfits = c.exact_quotient.type_inv })) e

@@ -4,8 +4,9 @@ use Rattle.std.specs.Int.{IsGcd}
 use Rattle.std.proofs.lemmas.Int.{ints}
 use Rattle.crn_frac.specs.Multiple.{IsLcm}
 use Rattle.crn_vec.specs.Vectors.{entry}
-use Rattle.crn_tab.specs.Tab.{row_at, IsKeptRow}
-use Rattle.crn_tab.specs.Columns.{IsScale}
+use Rattle.crn_tab.specs.Slots.{row_at}
+use Rattle.crn_tab.specs.Inner.Rows.{IsKeptRow}
+use Rattle.crn_tab.specs.Inner.Columns.{IsScale}
 use Rattle.crn_tab.proofs.Scales.{no_rows, more_rows}
 use Rattle.crn_tab.proofs.column.scale.Goals as goal
 
@@ -30,8 +31,8 @@ returns-in-None c =
       i = i + 1;
       inside = omega (arith, c.loop-i-test.true);
       l = c.in-None.ensures.0;
-      is = one_more c.args.n c.args.c c.args.rows.now c.part-row.result.now i c.loop-i.l c.reduced.result c.in-None.ensures.0 c.part-row.ensures
-          (c.requires.row i (omega (arith, c.loop-i-test.true))) c.loop-i.invariant.is c.reduced.ensures.is c.in-None.ensures.1.0;
+      is = one_more c.args.n c.args.c c.args.rows.now c.part-row.result.now i c.loop-i.l c.reduced_denominator.result c.in-None.ensures.0 c.part-row.ensures
+          (c.requires.row i (omega (arith, c.loop-i-test.true))) c.loop-i.invariant.is c.reduced_denominator.ensures.is c.in-None.ensures.1.0;
       wide = c.in-None.ensures.1.1;
     }
 
@@ -39,7 +40,7 @@ pub loop-i-preserved : goal.loop-i-preserved
 loop-i-preserved c =
     let i = c.loop-i.i in
     record {
-      is = one_more c.args.n c.args.c c.args.rows.now c.part-row.result.now i c.loop-i.l c.reduced.result c.in-Some.next c.part-row.ensures
-          (c.requires.row i (omega (arith, c.loop-i-test.true))) c.loop-i.invariant.is c.reduced.ensures.is c.in-Some.ensures.0;
+      is = one_more c.args.n c.args.c c.args.rows.now c.part-row.result.now i c.loop-i.l c.reduced_denominator.result c.in-Some.next c.part-row.ensures
+          (c.requires.row i (omega (arith, c.loop-i-test.true))) c.loop-i.invariant.is c.reduced_denominator.ensures.is c.in-Some.ensures.0;
       small = c.in-Some.ensures.2;
     }

@@ -3,7 +3,7 @@ use Rattle.std.specs.Prelude.{unsigned_abs}
 use Rattle.std.specs.Int.{◌∣◌}
 use Rattle.std.proofs.lemmas.Nat.Gcd.{dvd-zero, dvd_trans}
 use Rattle.std.proofs.Math.Nat.{one-dvd}
-use Rattle.crn_tab.specs.Entries.{entry}
+use Rattle.crn_vec.specs.Vectors.{entry}
 use Rattle.crn_tab.proofs.Rows.{everywhere}
 use Rattle.crn_tab.proofs.combine.content.Goals as goal
 

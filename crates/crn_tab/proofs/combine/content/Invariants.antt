@@ -1,7 +1,7 @@
 use Rattle.std.proofs.Common.{ℕ, ◌<◌, ◌^◌}
 use Rattle.std.specs.Prelude.{unsigned_abs}
 use Rattle.std.specs.Int.{◌∣◌}
-use Rattle.crn_tab.specs.Entries.{entry}
+use Rattle.crn_vec.specs.Vectors.{entry}
 use Rattle.crn_tab.proofs.combine.content.Given as goal
 
 abbrev pub invariant-loop-x : goal.invariant-loop-x

@@ -1,6 +1,6 @@
 use Rattle.std.proofs.Common.{◌++◌, List, take, ap, sym, ◌∙◌, arith}
 use Rattle.std.specs.Prelude.{ℤ}
-use Rattle.crn_tab.specs.Start.{start_row, start_rows}
+use Rattle.crn_tab.specs.Inner.Start.{start_row, start_rows}
 use Rattle.crn_tab.proofs.FirstRows.{start_rows_step}
 use Rattle.crn_tab.proofs.start.first_rows.Goals as goal
 

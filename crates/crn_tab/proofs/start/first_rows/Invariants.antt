@@ -1,5 +1,5 @@
 use Rattle.std.proofs.Common.{◌≡◌, take}
-use Rattle.crn_tab.specs.Start.{start_rows}
+use Rattle.crn_tab.specs.Inner.Start.{start_rows}
 use Rattle.crn_tab.proofs.start.first_rows.Given as goal
 
 abbrev pub invariant-loop-i : goal.invariant-loop-i

@@ -5,19 +5,19 @@ use Rattle.std.proofs.lemmas.Int.{to_z-of_z}
 use Rattle.crn_vec.specs.declared.limits.TheConstants.{MAX_AMOUNT}
 use Rattle.crn_vec.specs.Vectors.{entry}
 use Rattle.crn_vec.proofs.RowLists.{within_at}
-use Rattle.crn_tab.proofs.FirstRows.{turned_step}
+use Rattle.crn_tab.proofs.FirstRows.{negatives_step}
 use Rattle.crn_tab.proofs.start.push_row.Goals as goal
 
-pub turned-requires : goal.turned-requires
-turned-requires c = within_at MAX_AMOUNT c.loop-x.x-index c.args.row.now c.requires
+pub negative_of-requires : goal.negative_of-requires
+negative_of-requires c = within_at MAX_AMOUNT c.loop-x.x-index c.args.row.now c.requires
 
 pub loop-x-preserved : goal.loop-x-preserved
 loop-x-preserved c =
     let k = c.loop-x.x-index in
     let r = c.args.row.now in
     let x : ℤ = neg_ℤ (entry r k) in
-    let pushed = to_z-of_z w64 c.turned.result (record { sfits = c.turned.type_inv }) ∙ c.turned.ensures in
+    let pushed = to_z-of_z w64 c.negative_of.result (record { sfits = c.negative_of.type_inv }) ∙ c.negative_of.ensures in
     c.in_ok-push.ensures.items ∙ ap (λ (y : ℤ). c.loop-x.rows.items ++ (y ∷ [])) pushed
     ∙ ap (λ (v : List ℤ). v ++ (x ∷ [])) c.loop-x.invariant
     ∙ append_assoc c.args.rows.now.items (map neg_ℤ (take k r)) (x ∷ [])
-    ∙ ap (λ (v : List ℤ). c.args.rows.now.items ++ v) (sym (turned_step r k c.loop-x-test.true))
+    ∙ ap (λ (v : List ℤ). c.args.rows.now.items ++ v) (sym (negatives_step r k c.loop-x-test.true))

@@ -1,4 +1,3 @@
-use Rattle.std.proofs.Common.{rules, ◌≡◌}
 use Rattle.crn_frac.proofs.fraction.Frac.den.Goals as goal
 
 pub returns-clause-reduced : goal.returns-clause-reduced

@@ -20,22 +20,22 @@ divisor_of num den g fn fd ne h sign =
     let some : 1 ≤ unsigned_abs g = pos_of_dvd_of_pos both.1 abs_some in
     record { gcd = both; some = omega (arith, ints) }
 
-pub divided-n-requires-clause-some : goal.divided-n-requires-clause-some
-divided-n-requires-clause-some c =
+pub exact_quotient-n-requires-clause-some : goal.exact_quotient-n-requires-clause-some
+exact_quotient-n-requires-clause-some c =
     let k = divisor_of c.args.num c.args.den c.gcd-g.result c.ranges.num c.ranges.den c.requires.den_some c.gcd-g.ensures.gcd c.gcd-g.ensures.sign in
     rw (to_z-of_z w128 c.gcd-g.result (record { sfits = c.gcd-g.type_inv })) k.some
 
-pub divided-n-requires-clause-divides : goal.divided-n-requires-clause-divides
-divided-n-requires-clause-divides c =
+pub exact_quotient-n-requires-clause-divides : goal.exact_quotient-n-requires-clause-divides
+exact_quotient-n-requires-clause-divides c =
     rw (to_z-of_z w128 c.gcd-g.result (record { sfits = c.gcd-g.type_inv })) c.gcd-g.ensures.gcd.0
 
-pub divided-d-requires-clause-some : goal.divided-d-requires-clause-some
-divided-d-requires-clause-some c =
+pub exact_quotient-d-requires-clause-some : goal.exact_quotient-d-requires-clause-some
+exact_quotient-d-requires-clause-some c =
     let k = divisor_of c.args.num c.args.den c.gcd-g.result c.ranges.num c.ranges.den c.requires.den_some c.gcd-g.ensures.gcd c.gcd-g.ensures.sign in
     rw (to_z-of_z w128 c.gcd-g.result (record { sfits = c.gcd-g.type_inv })) k.some
 
-pub divided-d-requires-clause-divides : goal.divided-d-requires-clause-divides
-divided-d-requires-clause-divides c =
+pub exact_quotient-d-requires-clause-divides : goal.exact_quotient-d-requires-clause-divides
+exact_quotient-d-requires-clause-divides c =
     rw (to_z-of_z w128 c.gcd-g.result (record { sfits = c.gcd-g.type_inv })) c.gcd-g.ensures.gcd.1
 
 -- what is known once both parts are divided
@@ -63,15 +63,15 @@ parts_of num den g n d k ne fn fd fg p q =
 pub returns-clause-value : goal.returns-clause-value
 returns-clause-value c =
     let k = divisor_of c.args.num c.args.den c.gcd-g.result c.ranges.num c.ranges.den c.requires.den_some c.gcd-g.ensures.gcd c.gcd-g.ensures.sign in
-    let h = parts_of _ _ _ c.divided-n.result c.divided-d.result k c.requires.den_some c.ranges.num c.ranges.den (record { sfits = c.gcd-g.type_inv }) c.divided-n.ensures c.divided-d.ensures in
-    rw (to_z-of_z w128 c.divided-n.result (record { sfits = c.divided-n.type_inv }), to_z-of_z w128 c.divided-d.result (record { sfits = c.divided-d.type_inv })) h.value
+    let h = parts_of _ _ _ c.exact_quotient-n.result c.exact_quotient-d.result k c.requires.den_some c.ranges.num c.ranges.den (record { sfits = c.gcd-g.type_inv }) c.exact_quotient-n.ensures c.exact_quotient-d.ensures in
+    rw (to_z-of_z w128 c.exact_quotient-n.result (record { sfits = c.exact_quotient-n.type_inv }), to_z-of_z w128 c.exact_quotient-d.result (record { sfits = c.exact_quotient-d.type_inv })) h.value
 
 pub invariant_of-result-2 : goal.invariant_of-result-2
 invariant_of-result-2 c =
     let k = divisor_of c.args.num c.args.den c.gcd-g.result c.ranges.num c.ranges.den c.requires.den_some c.gcd-g.ensures.gcd c.gcd-g.ensures.sign in
-    let h = parts_of _ _ _ c.divided-n.result c.divided-d.result k c.requires.den_some c.ranges.num c.ranges.den (record { sfits = c.gcd-g.type_inv }) c.divided-n.ensures c.divided-d.ensures in
-    let not_below = rw (to_z-of_z w128 c.divided-d.result (record { sfits = c.divided-d.type_inv })) at c.if-d-lt0.false in
-    rw (to_z-of_z w128 c.divided-n.result (record { sfits = c.divided-n.type_inv }), to_z-of_z w128 c.divided-d.result (record { sfits = c.divided-d.type_inv }))
+    let h = parts_of _ _ _ c.exact_quotient-n.result c.exact_quotient-d.result k c.requires.den_some c.ranges.num c.ranges.den (record { sfits = c.gcd-g.type_inv }) c.exact_quotient-n.ensures c.exact_quotient-d.ensures in
+    let not_below = rw (to_z-of_z w128 c.exact_quotient-d.result (record { sfits = c.exact_quotient-d.type_inv })) at c.if-d-lt0.false in
+    rw (to_z-of_z w128 c.exact_quotient-n.result (record { sfits = c.exact_quotient-n.type_inv }), to_z-of_z w128 c.exact_quotient-d.result (record { sfits = c.exact_quotient-d.type_inv }))
     (record { positive = omega (arith, ints, h.d_some, not_below); lowest = h.reduced })
 
 pub returns-clause-reduced : goal.returns-clause-reduced
@@ -86,17 +86,17 @@ negated n f h =
 pub returns-then-d-lt0-clause-value : goal.returns-then-d-lt0-clause-value
 returns-then-d-lt0-clause-value c =
     let k = divisor_of c.args.num c.args.den c.gcd-g.result c.ranges.num c.ranges.den c.requires.den_some c.gcd-g.ensures.gcd c.gcd-g.ensures.sign in
-    let h = parts_of _ _ _ c.divided-n.result c.divided-d.result k c.requires.den_some c.ranges.num c.ranges.den (record { sfits = c.gcd-g.type_inv }) c.divided-n.ensures c.divided-d.ensures in
-    rw (negated c.divided-n.result (record { sfits = c.divided-n.type_inv }) (omega (arith, h.n_small)), negated c.divided-d.result (record { sfits = c.divided-d.type_inv }) (omega (arith, h.d_small)))
-    (lowest_value_neg c.args.num c.args.den c.divided-n.result c.divided-d.result h.value)
+    let h = parts_of _ _ _ c.exact_quotient-n.result c.exact_quotient-d.result k c.requires.den_some c.ranges.num c.ranges.den (record { sfits = c.gcd-g.type_inv }) c.exact_quotient-n.ensures c.exact_quotient-d.ensures in
+    rw (negated c.exact_quotient-n.result (record { sfits = c.exact_quotient-n.type_inv }) (omega (arith, h.n_small)), negated c.exact_quotient-d.result (record { sfits = c.exact_quotient-d.type_inv }) (omega (arith, h.d_small)))
+    (lowest_value_neg c.args.num c.args.den c.exact_quotient-n.result c.exact_quotient-d.result h.value)
 
 pub invariant_of-result : goal.invariant_of-result
 invariant_of-result c =
     let k = divisor_of c.args.num c.args.den c.gcd-g.result c.ranges.num c.ranges.den c.requires.den_some c.gcd-g.ensures.gcd c.gcd-g.ensures.sign in
-    let h = parts_of _ _ _ c.divided-n.result c.divided-d.result k c.requires.den_some c.ranges.num c.ranges.den (record { sfits = c.gcd-g.type_inv }) c.divided-n.ensures c.divided-d.ensures in
-    let below = rw (to_z-of_z w128 c.divided-d.result (record { sfits = c.divided-d.type_inv })) at c.if-d-lt0.true in
-    rw (negated c.divided-n.result (record { sfits = c.divided-n.type_inv }) (omega (arith, h.n_small)), negated c.divided-d.result (record { sfits = c.divided-d.type_inv }) (omega (arith, h.d_small)))
-    (record { positive = omega (arith, ints, below); lowest = rw (abs_minus c.divided-n.result, abs_minus c.divided-d.result) h.reduced })
+    let h = parts_of _ _ _ c.exact_quotient-n.result c.exact_quotient-d.result k c.requires.den_some c.ranges.num c.ranges.den (record { sfits = c.gcd-g.type_inv }) c.exact_quotient-n.ensures c.exact_quotient-d.ensures in
+    let below = rw (to_z-of_z w128 c.exact_quotient-d.result (record { sfits = c.exact_quotient-d.type_inv })) at c.if-d-lt0.true in
+    rw (negated c.exact_quotient-n.result (record { sfits = c.exact_quotient-n.type_inv }) (omega (arith, h.n_small)), negated c.exact_quotient-d.result (record { sfits = c.exact_quotient-d.type_inv }) (omega (arith, h.d_small)))
+    (record { positive = omega (arith, ints, below); lowest = rw (abs_minus c.exact_quotient-n.result, abs_minus c.exact_quotient-d.result) h.reduced })
 
 pub returns-then-d-lt0-clause-reduced : goal.returns-then-d-lt0-clause-reduced
 returns-then-d-lt0-clause-reduced c = (invariant_of-result c).lowest

@@ -2,8 +2,8 @@ use Rattle.std.proofs.Common.{◌≡◌, ◌<◌, ℕ, length, ap, sym, subst, �
 use Rattle.std.specs.Prelude.{slice_index, IsTrue, ◌↔◌}
 use Rattle.crn_vec.specs.Lists.{IsIn}
 use Rattle.crn_vec.specs.Elementary.{width}
-use Rattle.crn_tab.specs.Kept.{KeptTableau}
-use Rattle.crn_tab.specs.Tab.{basis_of}
+use Rattle.crn_tab.specs.Tableau.{KeptTableau}
+use Rattle.crn_tab.specs.Slots.{basis_of}
 use Rattle.crn_tab.proofs.BasicTest.{basic_test, any_default}
 use Rattle.crn_tab.proofs.tableau.Tableau.is_basic.Goals as goal
 

@@ -1,0 +1,20 @@
+use Rattle.std.proofs.Common.{◌∙◌, ℕ, List, length, ap, subst, sym, arith, rules}
+use Rattle.crn_vec.specs.Lists.{IsIn}
+use Rattle.crn_vec.specs.Elementary.{width}
+use Rattle.crn_farkas.specs.Inner.Sums.{HasPartSum}
+use Rattle.crn_farkas.proofs.Marks.{marks_none, solution_by_marks}
+use Rattle.crn_farkas.proofs.stands.by_signs.Goals as goal
+
+pub stand_everywhere-requires-clause-all : goal.stand_everywhere-requires-clause-all
+stand_everywhere-requires-clause-all c = λ k lt. subst (λ (l : List ℕ). IsIn k l) (sym c.deref-2.ensures.value) (c.put_order.ensures.all k (omega (arith, lt, c.requires.kinds)))
+
+pub stand_everywhere-requires-clause-sum : goal.stand_everywhere-requires-clause-sum
+stand_everywhere-requires-clause-sum c = marks_none c.args.tableau.now.matrix c.args.kinds.now (length c.args.marks.now) c.fill.new.self c.requires.kinds (c.fill.ensures.after (λ y e. e))
+
+pub returns-in-None-clause-answer : goal.returns-in-None-clause-answer
+returns-in-None-clause-answer c =
+    let a = c.stand_everywhere.new.tableau.matrix in
+    let kinds = c.args.kinds.now in
+    let marks = c.stand_everywhere.new.marks in
+    let sum : HasPartSum a kinds (length kinds) marks = search rules in
+    solution_by_marks a kinds marks (c.requires.kinds ∙ ap width (sym c.stand_everywhere.ensures.matrix)) sum

@@ -1,0 +1,49 @@
+-- For the contracts of private functions alone. The sum of witnesses that a decision builds, coordinate by coordinate, and what it ends with at one of them.
+use Rattle.std.specs.Prelude.{Bool, IsTrue, List, false, length, pos, slice_index_or, take, true, unsigned_abs, ℕ, ℤ, ◌*◌, ◌<◌, ◌≡◌, ◌≢◌, ◌≤◌, ◌⊎◌}
+use Rattle.crn_farkas.specs.Decision.{factor}
+use Rattle.crn_farkas.specs.Solver.{IsNamedCut, IsNear}
+use Rattle.crn_farkas.specs.declared.goal.Side.{Side}
+use Rattle.crn_farkas.specs.declared.goal.Side.TheVariants.{Cut as SideCut, Witness as SideWitness}
+use Rattle.crn_farkas.specs.declared.fault.Stop.{Stop}
+use Rattle.crn_farkas.specs.declared.fault.Stop.TheVariants.{NoMemory, Wide}
+use Rattle.crn_vec.specs.Elementary.{InRowSpace, NamesWide}
+use Rattle.crn_vec.specs.Systems.{MayTake, is_signed, kind_at, signed_count}
+use Rattle.crn_vec.specs.Vectors.{Mat, entry, scale}
+use Rattle.crn_vec.specs.declared.limits.TheConstants.{WIDE_ENTRY}
+use Rattle.crn_vec.specs.declared.signs.Kind.{Kind}
+
+-- a vector (x, Ax) that is one of those that add up to a solution, and not 0 at g
+pub record IsWitness (a : Mat) (kinds : List Kind) (g : ℕ) (y : List ℤ) : Type 0 where
+  pub space : InRowSpace a y
+  pub takes : (k : ℕ) → MayTake (kind_at kinds k) (entry y k)
+  pub some : entry y g ≢ pos 0
+  pub small : (k : ℕ) → unsigned_abs (entry y k) < WIDE_ENTRY
+
+-- a basis and an index that name a wide vector, where the kept basis is that one or a single exchange leads to it, or memory runs out
+abbrev pub IsGoalStop : Mat → List ℕ → Stop → Type 0
+IsGoalStop a basis (Wide index numbers) = NamesWide a index numbers.list × IsNear basis numbers.list
+IsGoalStop a basis NoMemory = Unit {0}
+
+-- one side of the alternative at g: multipliers, or a list that was lent has a witness or minus one
+abbrev pub IsSide : Mat → List ℕ → List Kind → ℕ → List ℤ → Side → Type 0
+IsSide a basis kinds g work (SideCut u) = IsNamedCut a basis kinds u.list
+IsSide a basis kinds g work (SideWitness stays) = IsWitness a kinds g (scale (factor stays) work)
+
+-- a sum of vectors (x, Ax) that is right everywhere, and not 0 at the coordinates before g that have to be positive or negative
+pub record IsPartSum (a : Mat) (kinds : List Kind) (g : ℕ) (v : List ℤ) : Type 0 where
+  pub space : InRowSpace a v
+  pub takes : (k : ℕ) → MayTake (kind_at kinds k) (entry v k)
+  pub some : (k : ℕ) → k < g → is_signed (kind_at kinds k) ≡ true → entry v k ≢ pos 0
+  pub small : (k : ℕ) → unsigned_abs (entry v k) ≤ signed_count (take g kinds) * WIDE_ENTRY
+
+-- some vector (x, Ax), of any size, is right everywhere, and not 0 at the coordinates that have to be positive or negative and stand before g or have a mark
+pub record HasPartSum (a : Mat) (kinds : List Kind) (g : ℕ) (marks : List Bool) : Type 0 where
+  pub v : List ℤ
+  pub space : InRowSpace a v
+  pub takes : (k : ℕ) → MayTake (kind_at kinds k) (entry v k)
+  pub some : (k : ℕ) → (k < g) ⊎ IsTrue (slice_index_or marks k false) → is_signed (kind_at kinds k) ≡ true → entry v k ≢ pos 0
+
+-- so many zeros
+pub record AreZeros (count : ℕ) (v : List ℤ) : Type 0 where
+  pub long : length v ≡ count
+  pub zero : (k : ℕ) → entry v k ≡ pos 0

@@ -1,0 +1,27 @@
+ghost use Rattle.std.specs.Prelude.{◌≡◌};
+
+use crn_vec::Nums;
+use std::alloc::AllocError;
+
+/// Why a system is not decided.
+#[derive(Drop)]
+pub enum Stop {
+    /// A coordinate and a basis of the matrix name a vector past the bound.
+    Wide {
+        /// The coordinate, counted from 1.
+        index: u32,
+        /// The coordinates of the basis, ascending and counted from 1, where `Solver::basis` counts from 0.
+        basis: Nums,
+    },
+    NoMemory,
+}
+
+impl From<AllocError> for Stop {
+    ghost use Rattle.crn_farkas.specs.declared.fault.Stop.{Stop};
+
+    ghost from_gives = { λ _ e. e ≡ Stop.NoMemory };
+
+    fn from(_: AllocError) -> Stop {
+        Stop::NoMemory
+    }
+}

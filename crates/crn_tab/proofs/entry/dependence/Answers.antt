@@ -1,0 +1,98 @@
+use Rattle.std.proofs.Common.{◌≡◌, ◌+◌, ◌-◌, ◌^◌, ◌<◌, ℕ, List, length, ap, sym, subst, ◌∙◌, arith}
+use Rattle.std.specs.Prelude.{ℤ, pos, neg_ℤ, ◌*ℤ◌, ◌≤ℤ◌, slice_index, unsigned_abs}
+use Rattle.crn_vec.specs.declared.limits.TheConstants.{WIDE_ENTRY}
+use Rattle.crn_vec.specs.Vectors.{Mat, entry}
+use Rattle.crn_vec.specs.Lists.{IsIn}
+use Rattle.crn_vec.specs.Elementary.{width}
+use Rattle.crn_tab.specs.Slots.{basis_of, row_at, IsTableau}
+use Rattle.crn_tab.proofs.RowVector.{row_of}
+use Rattle.crn_tab.proofs.Stands.{stands}
+use Rattle.crn_tab.proofs.Depends.{TellsHow, tells}
+use Rattle.crn_tab.proofs.entry.dependence.Goals as goal
+
+-- the part of the rows that the code reads
+record Reads (a : Mat) (at : List ℕ) (rows : List ℤ) (row col n : ℕ) (kept : List ℤ) : Type 0 where
+  pub is : kept ≡ row_at (a.cols + 1) rows (slice_index at row - a.cols)
+  pub long : length kept ≡ a.cols + 1
+  pub small : (k : ℕ) → unsigned_abs (entry kept k) < WIDE_ENTRY
+  pub some : pos 1 ≤ℤ entry kept n
+  pub col_lt : slice_index at col < a.cols
+  pub col_in : col < length at
+  pub col_small : col < 2 ^ 20
+
+reads : (a : Mat) (at order : List ℕ) (rows : List ℤ) (row col n : ℕ) (kept : List ℤ) → IsTableau a at order rows → row < width a → ¬ IsIn row (basis_of a.cols at) → IsIn col (basis_of a.cols at)
+    → n ≡ a.cols → kept ≡ row_at (n + 1) rows (slice_index at row - n) → Reads a at rows row col n kept
+reads a at order rows row col n kept t lt out member e f =
+    let h = row_of a at order rows row t lt out in
+    let s = stands a at order rows col t member in
+    let R : ℕ → Type 0 = λ k. kept ≡ row_at (k + 1) rows (slice_index at row - k) in
+    let is : kept ≡ row_at (a.cols + 1) rows (slice_index at row - a.cols) = subst R e f in
+    let S : List ℤ → Type 0 = λ v. (k : ℕ) → unsigned_abs (entry v k) < WIDE_ENTRY in
+    let P : List ℤ → Type 0 = λ v. pos 1 ≤ℤ entry v a.cols in
+    let Q : ℕ → Type 0 = λ k. pos 1 ≤ℤ entry kept k in
+    record {
+      is = is;
+      long = ap length is ∙ h.long;
+      small = subst S (sym is) h.small;
+      some = subst Q (sym e) (subst P (sym is) (t.each (slice_index at row - a.cols) h.i_lt).positive);
+      col_lt = s.basic;
+      col_in = s.inside;
+      col_small = s.small;
+    }
+
+told : (a : Mat) (at order : List ℕ) (rows : List ℤ) (row col n : ℕ) (kept : List ℤ) (num den : ℤ) → IsTableau a at order rows → row < width a → ¬ IsIn row (basis_of a.cols at) → IsIn col (basis_of a.cols at)
+    → n ≡ a.cols → kept ≡ row_at (n + 1) rows (slice_index at row - n) → num *ℤ entry kept n ≡ neg_ℤ (entry kept (slice_index at col)) *ℤ den → TellsHow a (basis_of a.cols at) row col num den
+told a at order rows row col n kept num den t lt out member e f value =
+    let R : ℕ → Type 0 = λ k. kept ≡ row_at (k + 1) rows (slice_index at row - k) in
+    let is : kept ≡ row_at (a.cols + 1) rows (slice_index at row - a.cols) = subst R e f in
+    let V : List ℤ → ℕ → Type 0 = λ v k. num *ℤ entry v k ≡ neg_ℤ (entry v (slice_index at col)) *ℤ den in
+    tells a at order rows row col num den t lt out member (subst (V (row_at (a.cols + 1) rows (slice_index at row - a.cols))) e (subst (λ v. V v n) is value))
+
+pub overflow_sub-at : goal.overflow_sub-at
+overflow_sub-at c =
+    let h = row_of c.args.matrix.now c.args.at.now c.args._order.now c.args.rows.now c.args.row c.requires.tableau c.requires.inside c.requires.outside in
+    omega (arith, h.low, c.cols-n.ensures.count)
+
+pub part-kept-requires-clause-inside : goal.part-kept-requires-clause-inside
+part-kept-requires-clause-inside c =
+    let h = row_of c.args.matrix.now c.args.at.now c.args._order.now c.args.rows.now c.args.row c.requires.tableau c.requires.inside c.requires.outside in
+    rw c.cols-n.ensures.count h.inside
+
+pub offset_bounds-at-col : goal.offset_bounds-at-col
+offset_bounds-at-col c =
+    let h = stands c.args.matrix.now c.args.at.now c.args._order.now c.args.rows.now c.args.col c.requires.tableau c.requires.member in
+    omega (arith, h.small)
+
+pub bounds-at-col : goal.bounds-at-col
+bounds-at-col c = (stands c.args.matrix.now c.args.at.now c.args._order.now c.args.rows.now c.args.col c.requires.tableau c.requires.member).inside
+
+pub bounds-kept-at : goal.bounds-kept-at
+bounds-kept-at c =
+    let h = reads c.args.matrix.now c.args.at.now c.args._order.now c.args.rows.now c.args.row c.args.col c.cols-n.result c.part-kept.result.now c.requires.tableau c.requires.inside c.requires.outside c.requires.member c.cols-n.ensures.count c.part-kept.ensures in
+    omega (arith, h.col_lt, h.long)
+
+pub bounds-kept-n : goal.bounds-kept-n
+bounds-kept-n c =
+    let h = reads c.args.matrix.now c.args.at.now c.args._order.now c.args.rows.now c.args.row c.args.col c.cols-n.result c.part-kept.result.now c.requires.tableau c.requires.inside c.requires.outside c.requires.member c.cols-n.ensures.count c.part-kept.ensures in
+    omega (arith, h.long, c.cols-n.ensures.count)
+
+pub negative_quotient-requires-clause-num_small : goal.negative_quotient-requires-clause-num_small
+negative_quotient-requires-clause-num_small c =
+    (reads c.args.matrix.now c.args.at.now c.args._order.now c.args.rows.now c.args.row c.args.col c.cols-n.result c.part-kept.result.now c.requires.tableau c.requires.inside c.requires.outside c.requires.member c.cols-n.ensures.count c.part-kept.ensures).small
+    (slice_index c.args.at.now c.args.col)
+
+pub negative_quotient-requires-clause-some : goal.negative_quotient-requires-clause-some
+negative_quotient-requires-clause-some c =
+    (reads c.args.matrix.now c.args.at.now c.args._order.now c.args.rows.now c.args.row c.args.col c.cols-n.result c.part-kept.result.now c.requires.tableau c.requires.inside c.requires.outside c.requires.member c.cols-n.ensures.count c.part-kept.ensures).some
+
+pub returns-clause-columns : goal.returns-clause-columns
+returns-clause-columns c =
+    (told c.args.matrix.now c.args.at.now c.args._order.now c.args.rows.now c.args.row c.args.col c.cols-n.result c.part-kept.result.now c.negative_quotient.result.num c.negative_quotient.result.den c.requires.tableau c.requires.inside c.requires.outside c.requires.member c.cols-n.ensures.count c.part-kept.ensures c.negative_quotient.ensures.value).columns
+
+pub returns-clause-rows : goal.returns-clause-rows
+returns-clause-rows c =
+    (told c.args.matrix.now c.args.at.now c.args._order.now c.args.rows.now c.args.row c.args.col c.cols-n.result c.part-kept.result.now c.negative_quotient.result.num c.negative_quotient.result.den c.requires.tableau c.requires.inside c.requires.outside c.requires.member c.cols-n.ensures.count c.part-kept.ensures c.negative_quotient.ensures.value).rows
+
+pub returns-clause-some : goal.returns-clause-some
+returns-clause-some c =
+    (told c.args.matrix.now c.args.at.now c.args._order.now c.args.rows.now c.args.row c.args.col c.cols-n.result c.part-kept.result.now c.negative_quotient.result.num c.negative_quotient.result.den c.requires.tableau c.requires.inside c.requires.outside c.requires.member c.cols-n.ensures.count c.part-kept.ensures c.negative_quotient.ensures.value).some

@@ -1,0 +1,12 @@
+use Rattle.std.proofs.Common.{◌≡◌, ◌≢◌, ℕ, ◌<◌, ◌≤◌}
+use Rattle.std.specs.Prelude.{pos}
+use Rattle.crn_vec.specs.Vectors.{entry}
+use Rattle.crn_tab.specs.Slots.{row_at}
+use Rattle.crn_tab.proofs.pivot.bring_rows.Given as goal
+
+abbrev pub invariant-loop-i : goal.invariant-loop-i
+invariant-loop-i l = record {
+  changed : (k : ℕ) → k < l.i → entry (row_at l.w l.initial.rows k) l.c ≢ pos 0 → row_at l.w l.rows k ≡ row_at l.w l.spare k;
+  stays : (k : ℕ) → k < l.i → entry (row_at l.w l.initial.rows k) l.c ≡ pos 0 → row_at l.w l.rows k ≡ row_at l.w l.initial.rows k;
+  left : (k : ℕ) → l.i ≤ k → row_at l.w l.rows k ≡ row_at l.w l.initial.rows k;
+}

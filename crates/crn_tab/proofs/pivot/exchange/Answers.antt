@@ -1,0 +1,86 @@
+use Rattle.std.proofs.Common.{◌<◌, ◌-◌, refl, arith}
+use Rattle.std.specs.Prelude.{slice_index}
+use Rattle.crn_vec.specs.Elementary.{width}
+use Rattle.crn_tab.proofs.Finish.{kept_row}
+use Rattle.crn_tab.proofs.Here.{here, some_entry, ok_here, wide_here, row_here, least_here}
+use Rattle.crn_tab.proofs.pivot.exchange.Goals as goal
+
+pub bounds-at-leave : goal.bounds-at-leave
+bounds-at-leave c =
+    let h = here c.args.matrix.now c.args.at.now c.args.order.now c.args.rows.now c.args.leave c.args.enter c.requires.tableau c.requires.leave c.requires.inside c.requires.enter in
+    omega (arith, h.leave_in, c.requires.tableau.placed.at_long)
+
+pub bounds-at-leave-2 : goal.bounds-at-leave-2
+bounds-at-leave-2 c =
+    let h = here c.args.matrix.now c.args.at.now c.args.order.now c.args.rows.now c.args.leave c.args.enter c.requires.tableau c.requires.leave c.requires.inside c.requires.enter in
+    omega (arith, h.leave_in, c.requires.tableau.placed.at_long)
+
+pub offset_bounds-at-leave : goal.offset_bounds-at-leave
+offset_bounds-at-leave c =
+    let h = here c.args.matrix.now c.args.at.now c.args.order.now c.args.rows.now c.args.leave c.args.enter c.requires.tableau c.requires.leave c.requires.inside c.requires.enter in
+    omega (arith, h.leave_in, c.requires.tableau.few)
+
+pub offset_bounds-at-leave-2 : goal.offset_bounds-at-leave-2
+offset_bounds-at-leave-2 c =
+    let h = here c.args.matrix.now c.args.at.now c.args.order.now c.args.rows.now c.args.leave c.args.enter c.requires.tableau c.requires.leave c.requires.inside c.requires.enter in
+    omega (arith, h.leave_in, c.requires.tableau.few)
+
+pub overflow_sub-r : goal.overflow_sub-r
+overflow_sub-r c =
+    let h = here c.args.matrix.now c.args.at.now c.args.order.now c.args.rows.now c.args.leave c.args.enter c.requires.tableau c.requires.leave c.requires.inside c.requires.enter in
+    omega (arith, h.own, c.cols-n.ensures.count)
+
+pub new_rows-least-requires-clause-place : goal.new_rows-least-requires-clause-place
+new_rows-least-requires-clause-place c =
+    let h = here c.args.matrix.now c.args.at.now c.args.order.now c.args.rows.now c.args.leave c.args.enter c.requires.tableau c.requires.leave c.requires.inside c.requires.enter in
+    omega (arith, h.c_lt, c.requires.lead_count)
+
+pub new_rows-least-requires-clause-inside : goal.new_rows-least-requires-clause-inside
+new_rows-least-requires-clause-inside c =
+    let h = here c.args.matrix.now c.args.at.now c.args.order.now c.args.rows.now c.args.leave c.args.enter c.requires.tableau c.requires.leave c.requires.inside c.requires.enter in
+    omega (arith, h.r_lt, c.cols-n.ensures.count, c.rows-m.ensures.count)
+
+pub new_rows-least-requires-clause-row : goal.new_rows-least-requires-clause-row
+new_rows-least-requires-clause-row c = λ i lt.
+    rw c.requires.lead_count (kept_row c.args.matrix.now c.args.at.now c.args.order.now c.args.rows.now i c.requires.tableau (omega (arith, lt, c.rows-m.ensures.count)))
+
+pub new_rows-least-requires-clause-some : goal.new_rows-least-requires-clause-some
+new_rows-least-requires-clause-some c =
+    let h = here c.args.matrix.now c.args.at.now c.args.order.now c.args.rows.now c.args.leave c.args.enter c.requires.tableau c.requires.leave c.requires.inside c.requires.enter in
+    rw (c.requires.lead_count, c.cols-n.ensures.count)
+    (some_entry c.args.matrix.now c.args.at.now c.args.order.now c.args.rows.now c.args.leave c.args.enter (slice_index c.args.at.now c.args.leave) (slice_index c.args.at.now c.args.enter - c.args.matrix.now.cols)
+    c.requires.tableau h c.requires.some)
+
+pub returns-then-least-n-clause-wide : goal.returns-then-least-n-clause-wide
+returns-then-least-n-clause-wide c = λ ne.
+    let h = here c.args.matrix.now c.args.at.now c.args.order.now c.args.rows.now c.args.leave c.args.enter c.requires.tableau c.requires.leave c.requires.inside c.requires.enter in
+    let f = rw (c.requires.lead_count, c.cols-n.ensures.count, c.rows-m.ensures.count) at c.new_rows-least.ensures.filled in
+    let lt : c.new_rows-least.result < width c.args.matrix.now = omega (arith, c.cols-n.ensures.count, c.rows-m.ensures.count) in (
+      refl,
+      refl,
+      c.new_rows-least.ensures.stay (omega (arith, c.cols-n.ensures.count, c.rows-m.ensures.count, c.requires.tableau.placed.order_long)),
+      λ next ex. (
+        wide_here c.args.matrix.now c.args.at.now c.args.order.now c.args.rows.now c.new_rows-least.new.rows c.args.leave c.args.enter
+            (slice_index c.args.at.now c.args.leave) (slice_index c.args.at.now c.args.enter - c.args.matrix.now.cols) c.new_rows-least.result c.requires.tableau h f
+            lt next ex,
+        least_here c.args.matrix.now c.args.at.now c.args.order.now c.args.rows.now c.new_rows-least.new.rows c.args.leave c.args.enter
+            (slice_index c.args.at.now c.args.leave) (slice_index c.args.at.now c.args.enter - c.args.matrix.now.cols) c.new_rows-least.result c.requires.tableau h f
+            lt next ex,
+      ),
+    )
+
+pub returns-then-least-n-clause-row : goal.returns-then-least-n-clause-row
+returns-then-least-n-clause-row c = λ ne next ex.
+    let h = here c.args.matrix.now c.args.at.now c.args.order.now c.args.rows.now c.args.leave c.args.enter c.requires.tableau c.requires.leave c.requires.inside c.requires.enter in
+    let f = rw (c.requires.lead_count, c.cols-n.ensures.count, c.rows-m.ensures.count) at c.new_rows-least.ensures.filled in
+    let lt : c.new_rows-least.result < width c.args.matrix.now = omega (arith, c.cols-n.ensures.count, c.rows-m.ensures.count) in
+    row_here c.args.matrix.now c.args.at.now c.args.order.now c.args.rows.now c.new_rows-least.new.rows c.args.leave c.args.enter
+    (slice_index c.args.at.now c.args.leave) (slice_index c.args.at.now c.args.enter - c.args.matrix.now.cols) c.new_rows-least.result c.requires.tableau h f
+    lt next ex
+
+pub returns-clause-ok : goal.returns-clause-ok
+returns-clause-ok c = λ e.
+    let h = here c.args.matrix.now c.args.at.now c.args.order.now c.args.rows.now c.args.leave c.args.enter c.requires.tableau c.requires.leave c.requires.inside c.requires.enter in
+    let f = rw (c.requires.lead_count, c.cols-n.ensures.count, c.rows-m.ensures.count) at c.new_rows-least.ensures.filled in
+    rw c.cols-n.ensures.count (ok_here c.args.matrix.now c.args.at.now c.args.order.now c.args.rows.now c.new_rows-least.new.rows c.args.leave c.args.enter
+    (slice_index c.args.at.now c.args.leave) (slice_index c.args.at.now c.args.enter - c.args.matrix.now.cols) c.new_rows-least.result c.requires.tableau h (omega arith) f e)

@@ -1,0 +1,161 @@
+use Rattle.std.proofs.Common.{◌≡◌, ◌≢◌, ◌<◌, ◌≤◌, ◌+◌, ◌-◌, ◌⊎◌, inl, inr, ℕ, List, length, set, refl, ap, ◌∙◌, sym, subst, arith, to_z, of_z}
+use Rattle.std.specs.Prelude.{ℤ, pos, slice_index, unsigned_abs}
+use Rattle.std.specs.Int.{w64}
+use Rattle.std.proofs.Math.ListN.{length-set}
+use Rattle.crn_vec.specs.declared.limits.TheConstants.{WIDE_ENTRY}
+use Rattle.crn_vec.specs.Vectors.{entry}
+use Rattle.crn_tab.specs.Slots.{IsContent, row_at}
+use Rattle.crn_tab.specs.Inner.Rows.{IsKeptRow, IsLead, IsRowDone, IsRowMade, HasWideRow}
+use Rattle.crn_tab.proofs.Signs.{is_none}
+use Rattle.crn_tab.proofs.NewRows.{look, new_row_none}
+use Rattle.crn_tab.proofs.Rows.{same_rows}
+use Rattle.crn_tab.proofs.LeadRow.{lead_small_at, lead_primitive_at}
+use Rattle.crn_tab.proofs.Cross.{read}
+use Rattle.crn_tab.proofs.pivot.new_rows.Goals as goal
+
+-- what was taken out and put back
+restored : (v : List ℤ) (n : ℕ) (x : ℤ) → n < length v → x ≡ entry v n → set (set v n (pos 0)) n x ≡ v
+restored v n x h e = same_rows (set (set v n (pos 0)) n x) v (length-set (set v n (pos 0)) n x ∙ length-set v n (pos 0))
+    (λ k lt. elim (look (set v n (pos 0)) n k x (omega (arith, length-set v n (pos 0)))) [
+      | inl f ↦ f.1 ∙ e ∙ ap (λ i. entry v i) (sym f.0)
+      | inr f ↦ f.1 ∙ (elim (look v n k (pos 0) h) [ inl g ↦ absurd (f.0 g.0) | inr g ↦ g.1 ])
+    ])
+
+kept : (w w' m c r : ℕ) (rows spare lead lead' : List ℤ) (order : List ℕ) (least : ℕ) → w' ≡ w → lead' ≡ lead
+    → ((i : ℕ) → i < m → i ≢ r → entry (row_at w' rows i) c ≢ pos 0 → IsRowDone w' c i rows lead' spare least (slice_index order (w' - 1 + i)))
+    → (i : ℕ) → i < m → i ≢ r → entry (row_at w rows i) c ≢ pos 0 → IsRowDone w c i rows lead spare least (slice_index order (w - 1 + i))
+kept w w' m c r rows spare lead lead' order least e f h =
+    let A : ℕ → Type 0 = λ n. (i : ℕ) → i < m → i ≢ r → entry (row_at n rows i) c ≢ pos 0 → IsRowDone n c i rows lead' spare least (slice_index order (n - 1 + i)) in
+    let B : List ℤ → Type 0 = λ l. (i : ℕ) → i < m → i ≢ r → entry (row_at w rows i) c ≢ pos 0 → IsRowDone w c i rows l spare least (slice_index order (w - 1 + i)) in
+    subst B f (subst A e h)
+
+wide_kept : (w w' m c r : ℕ) (rows lead lead' : List ℤ) (order : List ℕ) (least : ℕ) → w' ≡ w → lead' ≡ lead
+    → (least ≡ length order) ⊎ HasWideRow w' m c r rows lead' order least → (least ≡ length order) ⊎ HasWideRow w m c r rows lead order least
+wide_kept w w' m c r rows lead lead' order least e f h =
+    let A : ℕ → Type 0 = λ n. (least ≡ length order) ⊎ HasWideRow n m c r rows lead' order least in
+    let B : List ℤ → Type 0 = λ l. (least ≡ length order) ⊎ HasWideRow w m c r rows l order least in
+    subst B f (subst A e h)
+
+put_back : (lead : List ℤ) (c w : ℕ) (row : List ℤ) → IsLead w c row lead → 1 ≤ w → unsigned_abs (entry lead (length lead - 1)) < WIDE_ENTRY → (n : ℕ) → n ≡ length lead - 1
+    → set (set lead (length lead - 1) (pos 0)) n (to_z w64 (of_z w64 (entry lead (length lead - 1)))) ≡ lead
+put_back lead c w row h some small n e =
+    let x = to_z w64 (of_z w64 (entry lead (length lead - 1))) in
+    ap (λ i. set (set lead (length lead - 1) (pos 0)) i x) e
+    ∙ restored lead (length lead - 1) x (omega (arith, h.long)) (read (entry lead (length lead - 1)) small)
+
+rows_after : (w r : ℕ) (lead lead' : List ℤ) (spare spare' : List ℤ) → lead' ≡ lead → length lead ≡ w → (row_at (length lead') spare' r ≡ lead')
+    → ((j : ℕ) → j ≢ r → row_at (length lead') spare' j ≡ row_at (length lead') spare j)
+    → (row_at w spare' r ≡ lead) × ((j : ℕ) → j ≢ r → row_at w spare' j ≡ row_at w spare j)
+rows_after w r lead lead' spare spare' e f own others =
+    let A : List ℤ → Type 0 = λ l. (row_at (length l) spare' r ≡ l) × ((j : ℕ) → j ≢ r → row_at (length l) spare' j ≡ row_at (length l) spare j) in
+    let B : ℕ → Type 0 = λ n. (row_at n spare' r ≡ lead) × ((j : ℕ) → j ≢ r → row_at n spare' j ≡ row_at n spare j) in
+    subst B f (subst A e (own, others))
+
+pub fill_rows-least-requires-clause-lead_primitive : goal.fill_rows-least-requires-clause-lead_primitive
+fill_rows-least-requires-clause-lead_primitive c =
+    let w = length c.args.lead.now in
+    let rows = c.args.rows.now in
+    let lead = c.make_lead.new.lead in
+    let was = c.requires.row c.args.r c.requires.inside in
+    let small = lead_small_at w c.args.c (row_at w rows c.args.r) lead c.make_lead.ensures was.small in
+    let some : 1 ≤ w = omega (arith, c.requires.place) in
+    let lead0 = set lead (length lead - 1) (pos 0) in
+    let back = put_back lead c.args.c w (row_at w rows c.args.r) c.make_lead.ensures some (small (length lead - 1)) (length lead0 - 1) (ap (λ n. n - 1) (length-set lead (length lead - 1) (pos 0))) in
+    subst (λ (l : List ℤ). IsContent l 1) (sym back) (lead_primitive_at w c.args.c (row_at w rows c.args.r) lead some c.make_lead.ensures was.primitive)
+
+-- the rows that were brought, for the width that the code reads
+brought_at : (w w' m c : ℕ) (rows spare new : List ℤ) → w' ≡ w → ((i : ℕ) → i < m → entry (row_at w' rows i) c ≢ pos 0 → row_at w' new i ≡ row_at w' spare i) → ((i : ℕ) → i < m → entry (row_at w' rows i) c ≡ pos 0 → row_at w' new i ≡ row_at w' rows i)
+    → ((i : ℕ) → i < m → entry (row_at w rows i) c ≢ pos 0 → row_at w new i ≡ row_at w spare i) × ((i : ℕ) → i < m → entry (row_at w rows i) c ≡ pos 0 → row_at w new i ≡ row_at w rows i)
+brought_at w w' m c rows spare new e changed stays =
+    let A : ℕ → Type 0 = λ n. ((i : ℕ) → i < m → entry (row_at n rows i) c ≢ pos 0 → row_at n new i ≡ row_at n spare i) × ((i : ℕ) → i < m → entry (row_at n rows i) c ≡ pos 0 → row_at n new i ≡ row_at n rows i) in
+    subst A e (changed, stays)
+
+-- a row without the leaving coordinate is its own new row
+stays_made : (w c i : ℕ) (rows lead : List ℤ) (least own : ℕ) → c + 1 < w → IsKeptRow w (row_at w rows i) → entry (row_at w rows i) c ≡ pos 0 → IsRowMade w c i rows lead least own
+stays_made w c i rows lead least own lt k e = record { z = row_at w rows i; is = new_row_none (w - 1) c (row_at w rows i) lead (omega (arith, lt, k.long)) e k.primitive; kept = inl k.small }
+
+done_made : (w c i : ℕ) (rows lead spare : List ℤ) (least own : ℕ) → IsRowDone w c i rows lead spare least own → IsRowMade w c i rows lead least own
+done_made w c i rows lead spare least own d = record { z = d.z; is = d.is; kept = elim d.kept [ inl f ↦ inl f.0 | inr f ↦ inr f ] }
+
+-- the new row, with the place where it then stands
+record Placed (w c i : ℕ) (rows lead new : List ℤ) (least own count : ℕ) : Type 0 where
+  pub made : IsRowMade w c i rows lead least own
+  pub here : least ≡ count → row_at w new i ≡ made.z
+
+-- what the fill loop made of a row that has the leaving coordinate
+abbrev AreDone : ℕ → ℕ → ℕ → ℕ → List ℤ → List ℤ → List ℤ → List ℕ → ℕ → Type 0
+AreDone w m c r rows lead spare order least = (i : ℕ) → i < m → i ≢ r → entry (row_at w rows i) c ≢ pos 0 → IsRowDone w c i rows lead spare least (slice_index order (w - 1 + i))
+
+some_entry : (x : ℤ) → 1 ≤ unsigned_abs x → x ≢ pos 0
+some_entry x h e = omega (arith, h, ap unsigned_abs e)
+
+placed : (w m c r i : ℕ) (rows lead spare new : List ℤ) (order : List ℕ) (least : ℕ) → c + 1 < w → ((k : ℕ) → k < m → IsKeptRow w (row_at w rows k)) → AreDone w m c r rows lead spare order least
+    → ((s : ℕ) → s < length order → slice_index order s < length order) → length order ≡ w - 1 + m
+    → (least ≡ length order → entry (row_at w rows i) c ≢ pos 0 → row_at w new i ≡ row_at w spare i) → (least ≡ length order → entry (row_at w rows i) c ≡ pos 0 → row_at w new i ≡ row_at w rows i)
+    → i < m → i ≢ r → Placed w c i rows lead new least (slice_index order (w - 1 + i)) (length order)
+unfolding stays_made done_made
+placed w m c r i rows lead spare new order least c_lt rows_kept done below long changed stays lt ne = elim (is_none (entry (row_at w rows i) c)) as (λ _. Placed w c i rows lead new least (slice_index order (w - 1 + i)) (length order)) [
+  | inl none ↦ record { made = stays_made w c i rows lead least (slice_index order (w - 1 + i)) c_lt (rows_kept i lt) none; here = λ all. stays all none }
+  | inr some ↦
+      let d = done i lt ne (some_entry (entry (row_at w rows i) c) some) in
+      record {
+        made = done_made w c i rows lead spare least (slice_index order (w - 1 + i)) d;
+        here = λ all. elim d.kept as (λ _. row_at w new i ≡ d.z) [
+          | inl f ↦ changed all (some_entry (entry (row_at w rows i) c) some) ∙ f.1
+          | inr f ↦ absurd (omega (arith, f.1, all, below (w - 1 + i) (omega (arith, lt, long))))
+        ];
+      }
+]
+
+pub returns-then-least-order-clause-filled : goal.returns-then-least-order-clause-filled
+returns-then-least-order-clause-filled c =
+    let w = length c.args.lead.now in
+    let rows = c.args.rows.now in
+    let order = c.args.order.now in
+    let lead = c.make_lead.new.lead in
+    let lead0 = set lead (length lead - 1) (pos 0) in
+    let least = c.fill_rows-least.result in
+    let small = lead_small_at w c.args.c (row_at w rows c.args.r) lead c.make_lead.ensures (c.requires.row c.args.r c.requires.inside).small in
+    let some : 1 ≤ w = omega (arith, c.requires.place) in
+    let width : length lead0 ≡ w = length-set lead (length lead - 1) (pos 0) ∙ c.make_lead.ensures.long in
+    let back = put_back lead c.args.c w (row_at w rows c.args.r) c.make_lead.ensures some (small (length lead - 1)) (length lead0 - 1) (ap (λ n. n - 1) (length-set lead (length lead - 1) (pos 0))) in
+    let done = kept w (length lead0) c.args.m c.args.c c.args.r rows c.fill_rows-least.new.spare lead _ order least width back c.fill_rows-least.ensures.done in
+    record {
+      lead = lead;
+      is = c.make_lead.ensures;
+      made = λ i lt ne. (placed w c.args.m c.args.c c.args.r i rows lead c.fill_rows-least.new.spare rows order least c.requires.place c.requires.row done c.requires.order_below c.requires.order
+          (λ all. absurd (omega (arith, all))) (λ all. absurd (omega (arith, all))) lt ne).made;
+      last = elim (wide_kept w (length lead0) c.args.m c.args.c c.args.r rows lead _ order least width back c.fill_rows-least.ensures.least) [
+        | inl e ↦ absurd (omega arith)
+        | inr h ↦ inr h
+      ];
+    }
+
+pub returns-clause-filled : goal.returns-clause-filled
+returns-clause-filled c =
+    let w = length c.args.lead.now in
+    let rows = c.args.rows.now in
+    let order = c.args.order.now in
+    let lead = c.make_lead.new.lead in
+    let lead0 = set lead (length lead - 1) (pos 0) in
+    let least = c.fill_rows-least.result in
+    let small = lead_small_at w c.args.c (row_at w rows c.args.r) lead c.make_lead.ensures (c.requires.row c.args.r c.requires.inside).small in
+    let some : 1 ≤ w = omega (arith, c.requires.place) in
+    let width : length lead0 ≡ w = length-set lead (length lead - 1) (pos 0) ∙ c.make_lead.ensures.long in
+    let back = put_back lead c.args.c w (row_at w rows c.args.r) c.make_lead.ensures some (small (length lead - 1)) (length lead0 - 1) (ap (λ n. n - 1) (length-set lead (length lead - 1) (pos 0))) in
+    let again = put_back lead c.args.c w (row_at w rows c.args.r) c.make_lead.ensures some (small (length lead - 1)) (length lead - 1) refl in
+    let stand = rows_after w c.args.r lead _ c.bring_rows.new.rows c.put_lead.new.rows again c.make_lead.ensures.long c.put_lead.ensures.own c.put_lead.ensures.others in
+    let done = kept w (length lead0) c.args.m c.args.c c.args.r rows c.fill_rows-least.new.spare lead _ order least width back c.fill_rows-least.ensures.done in
+    let brought = brought_at w _ c.args.m c.args.c rows c.fill_rows-least.new.spare c.bring_rows.new.rows (ap (length {A = ℤ}) again ∙ c.make_lead.ensures.long) c.bring_rows.ensures.changed c.bring_rows.ensures.stays in
+    let each : (i : ℕ) → i < c.args.m → i ≢ c.args.r → Placed w c.args.c i rows lead c.put_lead.new.rows least (slice_index order (w - 1 + i)) (length order) = λ i lt ne.
+    placed w c.args.m c.args.c c.args.r i rows lead c.fill_rows-least.new.spare c.put_lead.new.rows order least c.requires.place c.requires.row done c.requires.order_below c.requires.order
+    (λ _ some. stand.1 i ne ∙ brought.0 i lt some) (λ _ none. stand.1 i ne ∙ brought.1 i lt none) lt ne in
+    record {
+      lead = lead;
+      is = c.make_lead.ensures;
+      made = λ i lt ne. (each i lt ne).made;
+      last = elim (wide_kept w (length lead0) c.args.m c.args.c c.args.r rows lead _ order least width back c.fill_rows-least.ensures.least) [
+        | inl e ↦ inl (e, stand.0, (λ i lt ne. (each i lt ne).here e))
+        | inr h ↦ inr h
+      ];
+    }

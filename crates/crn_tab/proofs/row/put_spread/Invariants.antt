@@ -1,0 +1,8 @@
+use Rattle.std.proofs.Common.{◌≡◌, ℕ, ◌<◌}
+use Rattle.std.specs.Prelude.{slice_index}
+use Rattle.crn_vec.specs.Vectors.{entry}
+use Rattle.crn_tab.specs.Slots.{slot_entry}
+use Rattle.crn_tab.proofs.row.put_spread.Given as goal
+
+abbrev pub invariant-loop-k : goal.invariant-loop-k
+invariant-loop-k l = (s : ℕ) → s < l.k → entry l.into s ≡ slot_entry l.n l.i l.row (slice_index l.at s)

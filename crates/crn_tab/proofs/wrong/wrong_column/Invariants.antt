@@ -1,0 +1,15 @@
+use Rattle.std.proofs.Common.{◌≡◌, ◌≤◌, ◌⊎◌}
+use Rattle.crn_vec.specs.Elementary.{width}
+use Rattle.crn_vec.specs.Systems.{MayTake}
+use Rattle.crn_tab.specs.Tableau.{IsColumnOfSign, AreWrongAt}
+use Rattle.crn_tab.specs.Slots.{basis_of}
+use Rattle.crn_tab.proofs.Scans.{ColumnRight}
+use Rattle.crn_tab.proofs.wrong.wrong_column.Given as goal
+
+abbrev pub invariant-loop-i : goal.invariant-loop-i
+invariant-loop-i l = record {
+  low : l.from ≤ l.best;
+  high : l.best ≤ l.end;
+  right : ColumnRight l.matrix l.at l.order l.col l.fn.sign l.kinds l.level l.from l.best l.i;
+  wrong : (l.best ≡ l.end) ⊎ AreWrongAt (IsColumnOfSign l.matrix (basis_of l.matrix.cols l.at) l.col l.fn.sign) MayTake l.kinds l.level (width l.matrix) l.best;
+}

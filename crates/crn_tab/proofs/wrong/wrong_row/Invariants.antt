@@ -1,0 +1,15 @@
+use Rattle.std.proofs.Common.{◌≡◌, ◌≤◌, ◌⊎◌}
+use Rattle.crn_vec.specs.Elementary.{width}
+use Rattle.crn_vec.specs.Systems.{MayWeigh}
+use Rattle.crn_tab.specs.Tableau.{IsRowOfSign, AreWrongAt}
+use Rattle.crn_tab.specs.Slots.{basis_of}
+use Rattle.crn_tab.proofs.Scans.{RowRight}
+use Rattle.crn_tab.proofs.wrong.wrong_row.Given as goal
+
+abbrev pub invariant-loop-s : goal.invariant-loop-s
+invariant-loop-s l = record {
+  low : l.from ≤ l.best;
+  high : l.best ≤ l.end;
+  right : RowRight l.matrix l.at l.order l.row l.sign l.kinds l.level l.from l.best l.s;
+  wrong : (l.best ≡ l.end) ⊎ AreWrongAt (IsRowOfSign l.matrix (basis_of l.matrix.cols l.at) l.row l.sign) MayWeigh l.kinds l.level (width l.matrix) l.best;
+}

@@ -1,0 +1,39 @@
+ghost use Rattle.std.specs.Prelude.{◌≡◌};
+
+use std::alloc::AllocError;
+
+/// A vector of an exchanged basis passes the bound of what a tableau keeps.
+#[derive(Clone, Copy, Debug, PartialEq, Eq)]
+pub struct Wide {
+    /// Its coordinate, counted from 1.
+    pub index: u32,
+}
+
+/// An exchange that was not made, as it would name a vector past the bound of what a tableau keeps.
+#[derive(Clone, Copy, Debug, PartialEq, Eq)]
+pub struct Refused {
+    /// The member of the basis that was to leave.
+    pub leave: usize,
+    /// The coordinate that was to enter.
+    pub enter: usize,
+    /// The coordinate of the vector, counted from 1.
+    pub index: u32,
+}
+
+/// Why a column vector is not given.
+#[derive(Clone, Copy, Debug, PartialEq, Eq)]
+pub enum ColumnStop {
+    /// The vector passes the bound of what a tableau keeps.
+    Wide,
+    NoMemory,
+}
+
+impl From<AllocError> for ColumnStop {
+    ghost use Rattle.crn_tab.specs.declared.fault.ColumnStop.{ColumnStop};
+
+    ghost from_gives = { λ _ e. e ≡ ColumnStop.NoMemory };
+
+    fn from(_: AllocError) -> ColumnStop {
+        ColumnStop::NoMemory
+    }
+}

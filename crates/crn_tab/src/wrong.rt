@@ -1,0 +1,210 @@
+ghost use Rattle.std.specs.Prelude.{◌≡◌, ◌≤◌, ◌<◌, ◌⊎◌, ◌↔◌, ℕ, ℤ, length};
+ghost use Rattle.crn_vec.specs.Vectors.{HasSign};
+ghost use Rattle.crn_vec.specs.Lists.{IsIn};
+ghost use Rattle.crn_vec.specs.Elementary.{width};
+ghost use Rattle.crn_vec.specs.Systems.{MayTake, MayWeigh};
+ghost use Rattle.crn_tab.specs.Tableau.{IsRowOfSign, IsColumnOfSign, AreRight, AreWrongAt};
+ghost use Rattle.crn_tab.specs.Inner.Scans.{Follows};
+ghost use Rattle.crn_tab.specs.Slots.{basis_of, IsTableau};
+
+use crate::fill::part;
+use crate::tableau::Tableau;
+use crn_vec::{Kind, Matrix, Sign, may_weigh, opposite, product, sign_of};
+
+// The sign of a number that follows another.
+pub(crate) fn follower(sign: Sign, x: &i64) -> Sign
+    ensures { (y : ℤ) → Follows sign x.now y → HasSign result y }
+{
+    product(sign, sign_of(*x as i128))
+}
+
+// The least level so far of a wrong coordinate: this one's, if it is lower and what follows x may not stand there.
+fn least_wrong(sign: Sign, x: &i64, kind: Kind, level: usize, from: usize, best: usize) -> usize
+    ensures lower { result ≤ best }
+    ensures from { from ≤ best → from ≤ result }
+    ensures right { (y : ℤ) → Follows sign x.now y → from ≤ level → level < result
+        → MayWeigh kind y }
+    ensures wrong { (result ≡ best)
+        ⊎ ((result ≡ level) × ((y : ℤ) → Follows sign x.now y → MayWeigh kind y → ⊥)) }
+{
+    if *x == 0 {
+        return best;
+    }
+    if level < from {
+        return best;
+    }
+    if level >= best {
+        return best;
+    }
+    if may_weigh(kind, follower(sign, x)) {
+        return best;
+    }
+    level
+}
+
+// The kind whose weights are what a part of a solution may have at a coordinate of the given kind.
+fn dual(kind: Kind) -> Kind
+    ensures { (x : ℤ) → MayTake kind x ↔ MayWeigh result x }
+{
+    match kind {
+        Kind::Zero => Kind::Free,
+        Kind::Free => Kind::Zero,
+        _ => kind,
+    }
+}
+
+// The least level of a coordinate at which the vectors of one outside the basis are wrong.
+fn wrong_row(
+    matrix: &Matrix,
+    at: &[usize],
+    order: &[usize],
+    rows: &[i64],
+    row: usize,
+    sign: Sign,
+    kinds: &[Kind],
+    level: &[usize],
+    from: usize,
+    end: usize,
+) -> usize
+    requires tableau { IsTableau matrix.now at.now order.now rows.now }
+    requires inside { row < width matrix.now }
+    requires outside { IsIn row (basis_of matrix.now.cols at.now) → ⊥ }
+    requires kinds { length kinds.now ≡ width matrix.now }
+    requires level { length level.now ≡ width matrix.now }
+    requires range { from ≤ end }
+    ensures low { from ≤ result }
+    ensures high { result ≤ end }
+    ensures right { AreRight (IsRowOfSign matrix.now (basis_of matrix.now.cols at.now) row sign)
+        MayWeigh kinds.now level.now (width matrix.now) from result }
+    ensures wrong { (result ≡ end)
+        ⊎ AreWrongAt (IsRowOfSign matrix.now (basis_of matrix.now.cols at.now) row sign) MayWeigh
+        kinds.now level.now (width matrix.now) result }
+{
+    let n = matrix.cols();
+    let kept = part(rows, at[row] - n, n + 1);
+    let mut best = least_wrong(sign, &kept[n], kinds[row], level[row], from, end);
+    for s in 0..n {
+        let c = order[s];
+        best = least_wrong(sign, &kept[s], kinds[c], level[c], from, best);
+    }
+    best
+}
+
+// The least level of a coordinate at which the vectors of a member of the basis are wrong.
+fn wrong_column(
+    matrix: &Matrix,
+    at: &[usize],
+    order: &[usize],
+    rows: &[i64],
+    col: usize,
+    sign: Sign,
+    kinds: &[Kind],
+    level: &[usize],
+    from: usize,
+    end: usize,
+) -> usize
+    requires tableau { IsTableau matrix.now at.now order.now rows.now }
+    requires member { IsIn col (basis_of matrix.now.cols at.now) }
+    requires kinds { length kinds.now ≡ width matrix.now }
+    requires level { length level.now ≡ width matrix.now }
+    requires range { from ≤ end }
+    ensures low { from ≤ result }
+    ensures high { result ≤ end }
+    ensures right { AreRight
+        (IsColumnOfSign matrix.now (basis_of matrix.now.cols at.now) col sign) MayTake kinds.now
+        level.now (width matrix.now) from result }
+    ensures wrong { (result ≡ end)
+        ⊎ AreWrongAt (IsColumnOfSign matrix.now (basis_of matrix.now.cols at.now) col sign)
+        MayTake kinds.now level.now (width matrix.now) result }
+{
+    let n = matrix.cols();
+    let m = matrix.rows();
+    let place = at[col];
+    let other = opposite(sign);
+    let mut best = least_wrong(sign, &1, dual(kinds[col]), level[col], from, end);
+    for i in 0..m {
+        let c = order[n + i];
+        let kept = part(rows, i, n + 1);
+        best = least_wrong(other, &kept[place], dual(kinds[c]), level[c], from, best);
+    }
+    best
+}
+
+impl Tableau {
+    /// The least level, from one level on and below another, of a coordinate at which the vectors that the basis names by a coordinate
+    /// outside it, and of this sign there, do not have the weight that its kind asks. Where there is none, it is the end.
+    /// `kinds` and `level` have a member for each coordinate. It goes over the basis once, and takes no memory.
+    pub fn wrong_in_row(
+        &self,
+        row: usize,
+        sign: Sign,
+        kinds: &[Kind],
+        level: &[usize],
+        from: usize,
+        end: usize,
+    ) -> usize
+        requires inside { row < width self.now.matrix }
+        requires outside { IsIn row self.now.basis → ⊥ }
+        requires kinds { length kinds.now ≡ width self.now.matrix }
+        requires level { length level.now ≡ width self.now.matrix }
+        requires range { from ≤ end }
+        ensures low { from ≤ result }
+        ensures high { result ≤ end }
+        ensures right { AreRight (IsRowOfSign self.now.matrix self.now.basis row sign) MayWeigh
+            kinds.now level.now (width self.now.matrix) from result }
+        ensures wrong { (result ≡ end)
+            ⊎ AreWrongAt (IsRowOfSign self.now.matrix self.now.basis row sign) MayWeigh kinds.now
+            level.now (width self.now.matrix) result }
+    {
+        wrong_row(
+            &self.matrix,
+            &self.at,
+            &self.order,
+            &self.rows,
+            row,
+            sign,
+            kinds,
+            level,
+            from,
+            end,
+        )
+    }
+
+    /// The least level, from one level on and below another, of a coordinate at which the vectors that the basis names by a coordinate
+    /// in it, and of this sign there, do not have what its kind lets a part of a solution have. Where there is none, it is the end.
+    /// `kinds` and `level` have a member for each coordinate. It goes over the rows once, and takes no memory.
+    pub fn wrong_in_column(
+        &self,
+        col: usize,
+        sign: Sign,
+        kinds: &[Kind],
+        level: &[usize],
+        from: usize,
+        end: usize,
+    ) -> usize
+        requires member { IsIn col self.now.basis }
+        requires kinds { length kinds.now ≡ width self.now.matrix }
+        requires level { length level.now ≡ width self.now.matrix }
+        requires range { from ≤ end }
+        ensures low { from ≤ result }
+        ensures high { result ≤ end }
+        ensures right { AreRight (IsColumnOfSign self.now.matrix self.now.basis col sign) MayTake
+            kinds.now level.now (width self.now.matrix) from result }
+        ensures wrong { (result ≡ end)
+            ⊎ AreWrongAt (IsColumnOfSign self.now.matrix self.now.basis col sign) MayTake
+            kinds.now level.now (width self.now.matrix) result }
+    {
+        wrong_column(
+            &self.matrix,
+            &self.at,
+            &self.order,
+            &self.rows,
+            col,
+            sign,
+            kinds,
+            level,
+            from,
+            end,
+        )
+    }
+}
