@@ -90,6 +90,7 @@ def claims(root):
         "files": structure.files_have_their_form(repository),
         "solver": structure.checkers_stand_on_no_solver(repository),
         "groups": structure.groups_agree(repository, by_group),
+        "trust base": structure.ported_crates_are_named(repository, readme),
         "crates below": structure.crates_below_agree(repository, architecture),
     }
     for rule, found in rules.items():

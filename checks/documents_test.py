@@ -115,7 +115,7 @@ IsStep n m = m ≡ n
 |---|---|---|
 | It counts. | `crn_low` | `count_of`, view of `Counter` |
 
-[definitions](docs/DEFINITIONS.md)
+It rests on `itoa`. [definitions](docs/DEFINITIONS.md)
 
 ```
 crn report 1
@@ -206,6 +206,7 @@ BREAKS = [
     ("a solver hides in another group", "crates.txt",
      "# solver: solvers\n", "crn_cert: crn_tab\n# ground: more\n", "solver"),
     ("README has a crate in another group", README, "| solver | `crn_tab`", "| ground | `crn_tab`", "groups"),
+    ("README leaves out what it rests on", README, "`itoa`", "a crate", "trust base"),
     ("ARCHITECTURE has another order", MAP, "| certificate | `crn_cert` | answers |\n", "", "groups"),
     ("ARCHITECTURE leaves a crate below out", MAP,
      "| `crn_low` | `itoa` |", "| `crn_low` | |", "crates below"),

@@ -210,6 +210,13 @@ def groups_agree(repository, documents):
             yield f"{name} has in the group {group} the crates {', '.join(crates)}", found.get(group) == crates
 
 
+def ported_crates_are_named(repository, readme):
+    """README says of each crate of the toolchain that the repository stands on it."""
+    for name in sorted({need for needs in repository.crates.needs.values() for need in needs}):
+        if name not in repository.crates.needs:
+            yield f"README names {name}, on which it rests", f"`{name}`" in readme
+
+
 def crates_below_agree(repository, document):
     """The table of who stands on whom says what `crates.txt` says."""
     found = {}
