@@ -9,8 +9,8 @@ use crn_tab::Tableau;
 use crn_vec::{Kind, Matrix, NoMemory, Sign, is_asked, opposite, product, sign_asked, sign_of};
 use std::alloc::Global;
 
-// Far more turns than one coordinate of these systems needs.
-const MAX_TURNS: usize = 1_000_000;
+// Far more crossings than one coordinate of these systems needs.
+const MAX_CROSSINGS: usize = 1_000_000;
 
 // What a decision works in, and the exchanges that it has made: the leaving coordinate, and the entering one.
 #[derive(Drop)]
@@ -101,7 +101,7 @@ fn wrong_place(
 }
 
 // Brings a coordinate at which the vector is wrong to the other side of the basis: an exchange for a member, else none.
-fn take_turn(
+fn cross(
     matrix: &Matrix,
     noted: &mut Noted,
     member: Option<usize>,
@@ -140,13 +140,13 @@ fn settled_member(
     } else {
         None
     };
-    for _ in 0..MAX_TURNS {
+    for _ in 0..MAX_CROSSINGS {
         let place = wrong_place(matrix, noted, member, kinds, g);
         match noted.order.get(place) {
             None => return Ok(member),
             Some(c) => {
                 let c = *c;
-                member = take_turn(matrix, noted, member, c)?;
+                member = cross(matrix, noted, member, c)?;
             }
         }
     }

@@ -5,9 +5,10 @@ ghost use Rattle.crn_vec.specs.Elementary.{width, IsNamed, IsNamedColumn, IsName
 ghost use Rattle.crn_vec.specs.Vectors.{entry};
 ghost use Rattle.crn_tab.specs.Slots.{basis_of, IsTableau};
 
+use crate::fields::Fields;
 use crate::fill::part;
 use crn_frac::Frac;
-use crn_vec::{Matrix, WIDE_ENTRY};
+use crn_vec::WIDE_ENTRY;
 
 // Minus a number over a positive one.
 fn negative_quotient(num: &i64, den: &i64) -> Frac
@@ -22,29 +23,26 @@ fn negative_quotient(num: &i64, den: &i64) -> Frac
 }
 
 // How a coordinate outside the basis depends on one in it.
-pub(crate) fn dependence(
-    matrix: &Matrix,
-    at: &[usize],
-    _order: &[usize],
-    rows: &[i64],
-    row: usize,
-    col: usize,
-) -> Frac
-    requires tableau { IsTableau matrix.now at.now _order.now rows.now }
-    requires inside { row < width matrix.now }
-    requires outside { IsIn row (basis_of matrix.now.cols at.now) → ⊥ }
-    requires member { IsIn col (basis_of matrix.now.cols at.now) }
+pub(crate) fn dependence(fields: &Fields, row: usize, col: usize) -> Frac
+    requires tableau { IsTableau fields.now.matrix.now fields.now.at.now fields.now.order.now
+        fields.now.rows.now }
+    requires inside { row < width fields.now.matrix.now }
+    requires outside { IsIn row (basis_of fields.now.matrix.now.cols fields.now.at.now) → ⊥ }
+    requires member { IsIn col (basis_of fields.now.matrix.now.cols fields.now.at.now) }
     ensures columns { (v : List ℤ)
-        → IsNamedColumn matrix.now (basis_of matrix.now.cols at.now) col v
+        → IsNamedColumn fields.now.matrix.now
+        (basis_of fields.now.matrix.now.cols fields.now.at.now) col v
         → result.den *ℤ entry v row ≡ result.num *ℤ entry v col }
-    ensures rows { (w : List ℤ) → IsNamedRow matrix.now (basis_of matrix.now.cols at.now) row w
-        → result.den *ℤ entry w col ≡ neg_ℤ (result.num *ℤ entry w row) }
+    ensures rows { (w : List ℤ)
+        → IsNamedRow fields.now.matrix.now (basis_of fields.now.matrix.now.cols fields.now.at.now)
+        row w → result.den *ℤ entry w col ≡ neg_ℤ (result.num *ℤ entry w row) }
     ensures den { pos 1 ≤ℤ result.den }
     ensures reduced { IsGcd (unsigned_abs result.num) (unsigned_abs result.den) 1 }
     ensures some { result.num ≢ pos 0 → (w : List ℤ)
-        → IsNamed matrix.now (basis_of matrix.now.cols at.now) row w → entry w col ≢ pos 0 }
+        → IsNamed fields.now.matrix.now (basis_of fields.now.matrix.now.cols fields.now.at.now)
+        row w → entry w col ≢ pos 0 }
 {
-    let n = matrix.cols();
-    let kept = part(rows, at[row] - n, n + 1);
-    negative_quotient(&kept[at[col]], &kept[n])
+    let n = fields.matrix.cols();
+    let kept = part(fields.rows, fields.at[row] - n, n + 1);
+    negative_quotient(&kept[fields.at[col]], &kept[n])
 }

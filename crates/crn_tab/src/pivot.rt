@@ -6,7 +6,7 @@ ghost use Rattle.crn_tab.specs.Slots.{row_at, basis_of, IsTableau};
 ghost use Rattle.crn_tab.specs.Inner.Rows.{IsKeptRow, AreFilled};
 
 use crate::fill::{fill_rows, part};
-use crate::lead::{make_lead, put_lead};
+use crate::lead::{Lead, make_lead, put_lead};
 use crn_vec::Matrix;
 
 // Row i becomes that of the spare rows, where it has the leaving coordinate.
@@ -74,7 +74,13 @@ pub(crate) fn new_rows(
     let last = lead.len() - 1;
     let p = lead[last];
     lead[last] = 0;
-    let least = fill_rows(rows, spare, m, r, lead, &p, c, order, work);
+    let made = Lead {
+        row: r,
+        slot: c,
+        own: &p,
+        entries: lead,
+    };
+    let least = fill_rows(rows, spare, m, &made, order, work);
     if least < order.len() {
         return least;
     }

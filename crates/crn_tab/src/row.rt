@@ -4,8 +4,9 @@ ghost use Rattle.crn_vec.specs.Elementary.{width, InDualSpace, IsElementary, IsN
 ghost use Rattle.crn_tab.specs.Tableau.{AreSmall};
 ghost use Rattle.crn_tab.specs.Slots.{slot_entry, spread, basis_of, IsTableau};
 
+use crate::fields::Fields;
 use crate::fill::part;
-use crn_vec::{MAX_COORDINATES, Matrix, NoMemory, Nums};
+use crn_vec::{MAX_COORDINATES, NoMemory, Nums};
 use std::alloc::Global;
 
 // The entry at slot s of the vector that row i keeps.
@@ -38,25 +39,20 @@ pub(crate) fn put_spread(row: &[i64], n: usize, i: usize, at: &[usize], into: &m
 }
 
 // The vector that the basis names by a coordinate outside it.
-pub(crate) fn put_row_vector(
-    matrix: &Matrix,
-    at: &[usize],
-    _order: &[usize],
-    rows: &[i64],
-    row: usize,
-    into: &mut [i128],
-)
-    requires tableau { IsTableau matrix.now at.now _order.now rows.now }
-    requires inside { row < width matrix.now }
-    requires outside { IsIn row (basis_of matrix.now.cols at.now) → ⊥ }
-    requires room { length into.old ≡ width matrix.now }
-    ensures named { IsNamed matrix.now (basis_of matrix.now.cols at.now) row into.new }
-    ensures elementary { IsElementary (InDualSpace matrix.now) into.new }
+pub(crate) fn put_row_vector(fields: &Fields, row: usize, into: &mut [i128])
+    requires tableau { IsTableau fields.now.matrix.now fields.now.at.now fields.now.order.now
+        fields.now.rows.now }
+    requires inside { row < width fields.now.matrix.now }
+    requires outside { IsIn row (basis_of fields.now.matrix.now.cols fields.now.at.now) → ⊥ }
+    requires room { length into.old ≡ width fields.now.matrix.now }
+    ensures named { IsNamed fields.now.matrix.now
+        (basis_of fields.now.matrix.now.cols fields.now.at.now) row into.new }
+    ensures elementary { IsElementary (InDualSpace fields.now.matrix.now) into.new }
     ensures small { AreSmall into.new }
 {
-    let n = matrix.cols();
-    let i = at[row] - n;
-    put_spread(part(rows, i, n + 1), n, i, at, into);
+    let n = fields.matrix.cols();
+    let i = fields.at[row] - n;
+    put_spread(part(fields.rows, i, n + 1), n, i, fields.at, into);
 }
 
 // The coordinates whose slot is below n, ascending.

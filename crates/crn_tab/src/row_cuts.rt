@@ -7,10 +7,11 @@ ghost use Rattle.crn_tab.specs.Tableau.{IsRowOfSign, RulesBelow};
 ghost use Rattle.crn_tab.specs.Inner.Scans.{Follows};
 ghost use Rattle.crn_tab.specs.Slots.{basis_of, IsTableau};
 
+use crate::fields::Fields;
 use crate::fill::part;
 use crate::tableau::Tableau;
 use crate::wrong::follower;
-use crn_vec::{Kind, Matrix, Sign, is_asked, may_weigh};
+use crn_vec::{Kind, Sign, is_asked, may_weigh};
 
 // Whether what follows a number may stand in a list that rules a system out.
 fn weighs(sign: Sign, x: &i64, kind: Kind) -> bool
@@ -32,33 +33,29 @@ fn is_weight(x: &i64, kind: Kind) -> bool
 }
 
 // Whether the vectors of a coordinate outside the basis, of this sign there, have weights that they may.
-fn all_weigh(
-    matrix: &Matrix,
-    at: &[usize],
-    order: &[usize],
-    rows: &[i64],
-    row: usize,
-    sign: Sign,
-    kinds: &[Kind],
-) -> bool
-    requires tableau { IsTableau matrix.now at.now order.now rows.now }
-    requires inside { row < width matrix.now }
-    requires outside { IsIn row (basis_of matrix.now.cols at.now) → ⊥ }
-    requires kinds { length kinds.now ≡ width matrix.now }
+fn all_weigh(fields: &Fields, row: usize, sign: Sign, kinds: &[Kind]) -> bool
+    requires tableau { IsTableau fields.now.matrix.now fields.now.at.now fields.now.order.now
+        fields.now.rows.now }
+    requires inside { row < width fields.now.matrix.now }
+    requires outside { IsIn row (basis_of fields.now.matrix.now.cols fields.now.at.now) → ⊥ }
+    requires kinds { length kinds.now ≡ width fields.now.matrix.now }
     ensures yes { IsTrue result → (w : List ℤ)
-        → IsRowOfSign matrix.now (basis_of matrix.now.cols at.now) row sign w → (c : ℕ)
-        → c < width matrix.now → MayWeigh (kind_at kinds.now c) (entry w c) }
+        → IsRowOfSign fields.now.matrix.now
+        (basis_of fields.now.matrix.now.cols fields.now.at.now) row sign w → (c : ℕ)
+        → c < width fields.now.matrix.now → MayWeigh (kind_at kinds.now c) (entry w c) }
     ensures no { result ≡ false → (w : List ℤ)
-        → IsRowOfSign matrix.now (basis_of matrix.now.cols at.now) row sign w
-        → ((c : ℕ) → c < width matrix.now → MayWeigh (kind_at kinds.now c) (entry w c)) → ⊥ }
+        → IsRowOfSign fields.now.matrix.now
+        (basis_of fields.now.matrix.now.cols fields.now.at.now) row sign w
+        → ((c : ℕ) → c < width fields.now.matrix.now → MayWeigh (kind_at kinds.now c) (entry w c))
+        → ⊥ }
 {
-    let n = matrix.cols();
-    let kept = part(rows, at[row] - n, n + 1);
+    let n = fields.matrix.cols();
+    let kept = part(fields.rows, fields.at[row] - n, n + 1);
     if !weighs(sign, &kept[n], kinds[row]) {
         return false;
     }
     for s in 0..n {
-        if !weighs(sign, &kept[s], kinds[order[s]]) {
+        if !weighs(sign, &kept[s], kinds[fields.order[s]]) {
             return false;
         }
     }
@@ -66,32 +63,29 @@ fn all_weigh(
 }
 
 // Whether the vectors of a coordinate outside the basis are not 0 at some coordinate that has to be positive or negative.
-fn some_counts(
-    matrix: &Matrix,
-    at: &[usize],
-    order: &[usize],
-    rows: &[i64],
-    row: usize,
-    kinds: &[Kind],
-) -> bool
-    requires tableau { IsTableau matrix.now at.now order.now rows.now }
-    requires inside { row < width matrix.now }
-    requires outside { IsIn row (basis_of matrix.now.cols at.now) → ⊥ }
-    requires kinds { length kinds.now ≡ width matrix.now }
+fn some_counts(fields: &Fields, row: usize, kinds: &[Kind]) -> bool
+    requires tableau { IsTableau fields.now.matrix.now fields.now.at.now fields.now.order.now
+        fields.now.rows.now }
+    requires inside { row < width fields.now.matrix.now }
+    requires outside { IsIn row (basis_of fields.now.matrix.now.cols fields.now.at.now) → ⊥ }
+    requires kinds { length kinds.now ≡ width fields.now.matrix.now }
     ensures yes { IsTrue result → (sign : Sign) → sign ≢ Sign.Zero → (w : List ℤ)
-        → IsRowOfSign matrix.now (basis_of matrix.now.cols at.now) row sign w → (c : ℕ)
-        × (c < width matrix.now) × (is_signed (kind_at kinds.now c) ≡ true) × (entry w c ≢ pos 0) }
+        → IsRowOfSign fields.now.matrix.now
+        (basis_of fields.now.matrix.now.cols fields.now.at.now) row sign w → (c : ℕ)
+        × (c < width fields.now.matrix.now) × (is_signed (kind_at kinds.now c) ≡ true)
+        × (entry w c ≢ pos 0) }
     ensures no { result ≡ false → (w : List ℤ)
-        → IsNamedRow matrix.now (basis_of matrix.now.cols at.now) row w → (c : ℕ)
-        → c < width matrix.now → is_signed (kind_at kinds.now c) ≡ true → entry w c ≡ pos 0 }
+        → IsNamedRow fields.now.matrix.now (basis_of fields.now.matrix.now.cols fields.now.at.now)
+        row w → (c : ℕ) → c < width fields.now.matrix.now
+        → is_signed (kind_at kinds.now c) ≡ true → entry w c ≡ pos 0 }
 {
-    let n = matrix.cols();
-    let kept = part(rows, at[row] - n, n + 1);
+    let n = fields.matrix.cols();
+    let kept = part(fields.rows, fields.at[row] - n, n + 1);
     if is_weight(&kept[n], kinds[row]) {
         return true;
     }
     for s in 0..n {
-        if is_weight(&kept[s], kinds[order[s]]) {
+        if is_weight(&kept[s], kinds[fields.order[s]]) {
             return true;
         }
     }
@@ -99,32 +93,30 @@ fn some_counts(
 }
 
 // The sign with which the vectors of a coordinate outside the basis rule a system out.
-fn cuts_of(
-    matrix: &Matrix,
-    at: &[usize],
-    order: &[usize],
-    rows: &[i64],
-    row: usize,
-    kinds: &[Kind],
-) -> Option<Sign>
-    requires tableau { IsTableau matrix.now at.now order.now rows.now }
-    requires inside { row < width matrix.now }
-    requires outside { IsIn row (basis_of matrix.now.cols at.now) → ⊥ }
-    requires kinds { length kinds.now ≡ width matrix.now }
+fn cuts_of(fields: &Fields, row: usize, kinds: &[Kind]) -> Option<Sign>
+    requires tableau { IsTableau fields.now.matrix.now fields.now.at.now fields.now.order.now
+        fields.now.rows.now }
+    requires inside { row < width fields.now.matrix.now }
+    requires outside { IsIn row (basis_of fields.now.matrix.now.cols fields.now.at.now) → ⊥ }
+    requires kinds { length kinds.now ≡ width fields.now.matrix.now }
     ensures { MatchOption result
-        ((w : List ℤ) → IsNamedRow matrix.now (basis_of matrix.now.cols at.now) row w
-        → RulesBelow kinds.now (width matrix.now) w → ⊥)
+        ((w : List ℤ)
+        → IsNamedRow fields.now.matrix.now
+        (basis_of fields.now.matrix.now.cols fields.now.at.now) row w
+        → RulesBelow kinds.now (width fields.now.matrix.now) w → ⊥)
         (λ sign. (sign ≢ Sign.Zero)
-        × ((w : List ℤ) → IsRowOfSign matrix.now (basis_of matrix.now.cols at.now) row sign w
-        → RulesBelow kinds.now (width matrix.now) w)) }
+        × ((w : List ℤ)
+        → IsRowOfSign fields.now.matrix.now
+        (basis_of fields.now.matrix.now.cols fields.now.at.now) row sign w
+        → RulesBelow kinds.now (width fields.now.matrix.now) w)) }
 {
-    if !some_counts(matrix, at, order, rows, row, kinds) {
+    if !some_counts(fields, row, kinds) {
         return None;
     }
-    if all_weigh(matrix, at, order, rows, row, Sign::Plus, kinds) {
+    if all_weigh(fields, row, Sign::Plus, kinds) {
         return Some(Sign::Plus);
     }
-    if all_weigh(matrix, at, order, rows, row, Sign::Minus, kinds) {
+    if all_weigh(fields, row, Sign::Minus, kinds) {
         return Some(Sign::Minus);
     }
     None
@@ -144,6 +136,6 @@ impl Tableau {
             × ((w : List ℤ) → IsRowOfSign self.now.matrix self.now.basis row sign w
             → RulesBelow kinds.now (width self.now.matrix) w)) }
     {
-        cuts_of(&self.matrix, &self.at, &self.order, &self.rows, row, kinds)
+        cuts_of(&self.fields(), row, kinds)
     }
 }

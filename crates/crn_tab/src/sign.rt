@@ -5,36 +5,34 @@ ghost use Rattle.crn_vec.specs.Elementary.{width, IsNamedRow};
 ghost use Rattle.crn_tab.specs.Slots.{basis_of, IsTableau};
 ghost use Rattle.crn_tab.specs.Tableau.{NamesRows};
 
+use crate::fields::Fields;
 use crate::fill::part;
 use crate::row::slot_of;
 use crate::tableau::Tableau;
-use crn_vec::{Matrix, Sign, sign_of};
+use crn_vec::{Sign, sign_of};
 
 // The sign of an entry of the vector that a coordinate outside the basis names, positive at that coordinate.
-fn sign_at(
-    matrix: &Matrix,
-    at: &[usize],
-    _order: &[usize],
-    rows: &[i64],
-    row: usize,
-    col: usize,
-) -> Sign
-    requires tableau { IsTableau matrix.now at.now _order.now rows.now }
-    requires inside { row < width matrix.now }
-    requires outside { IsIn row (basis_of matrix.now.cols at.now) → ⊥ }
-    requires place { col < width matrix.now }
-    ensures { (w : List ℤ) → IsNamedRow matrix.now (basis_of matrix.now.cols at.now) row w
-        → pos 1 ≤ℤ entry w row → HasSign result (entry w col) }
+fn sign_at(fields: &Fields, row: usize, col: usize) -> Sign
+    requires tableau { IsTableau fields.now.matrix.now fields.now.at.now fields.now.order.now
+        fields.now.rows.now }
+    requires inside { row < width fields.now.matrix.now }
+    requires outside { IsIn row (basis_of fields.now.matrix.now.cols fields.now.at.now) → ⊥ }
+    requires place { col < width fields.now.matrix.now }
+    ensures { (w : List ℤ)
+        → IsNamedRow fields.now.matrix.now (basis_of fields.now.matrix.now.cols fields.now.at.now)
+        row w → pos 1 ≤ℤ entry w row → HasSign result (entry w col) }
 {
-    let n = matrix.cols();
-    let i = at[row] - n;
-    sign_of(slot_of(part(rows, i, n + 1), n, i, at[col]))
+    let n = fields.matrix.cols();
+    let i = fields.at[row] - n;
+    sign_of(slot_of(part(fields.rows, i, n + 1), n, i, fields.at[col]))
 }
 
 // What the slots and rows of a tableau say of its basis.
-fn stands_by(matrix: &Matrix, at: &[usize], _order: &[usize], rows: &[i64])
-    requires tableau { IsTableau matrix.now at.now _order.now rows.now }
-    ensures { NamesRows matrix.now (basis_of matrix.now.cols at.now) }
+fn stands_by(_fields: &Fields)
+    requires tableau { IsTableau _fields.now.matrix.now _fields.now.at.now _fields.now.order.now
+        _fields.now.rows.now }
+    ensures { NamesRows _fields.now.matrix.now
+        (basis_of _fields.now.matrix.now.cols _fields.now.at.now) }
 {}
 
 impl Tableau {
@@ -46,13 +44,13 @@ impl Tableau {
         ensures { (w : List ℤ) → IsNamedRow self.now.matrix self.now.basis row w
             → pos 1 ≤ℤ entry w row → HasSign result (entry w col) }
     {
-        sign_at(&self.matrix, &self.at, &self.order, &self.rows, row, col)
+        sign_at(&self.fields(), row, col)
     }
 
     /// The basis of a tableau is one, and names a vector without a wide entry by each coordinate outside it.
     pub fn names_rows(&self)
         ensures { NamesRows self.now.matrix self.now.basis }
     {
-        stands_by(&self.matrix, &self.at, &self.order, &self.rows)
+        stands_by(&self.fields())
     }
 }

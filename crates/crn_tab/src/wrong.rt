@@ -7,9 +7,10 @@ ghost use Rattle.crn_tab.specs.Tableau.{IsRowOfSign, IsColumnOfSign, AreRight, A
 ghost use Rattle.crn_tab.specs.Inner.Scans.{Follows};
 ghost use Rattle.crn_tab.specs.Slots.{basis_of, IsTableau};
 
+use crate::fields::Fields;
 use crate::fill::part;
 use crate::tableau::Tableau;
-use crn_vec::{Kind, Matrix, Sign, may_weigh, opposite, product, sign_of};
+use crn_vec::{Kind, Sign, may_weigh, opposite, product, sign_of};
 
 // The sign of a number that follows another.
 pub(crate) fn follower(sign: Sign, x: &i64) -> Sign
@@ -55,10 +56,7 @@ fn dual(kind: Kind) -> Kind
 
 // The least level of a coordinate at which the vectors of one outside the basis are wrong.
 fn wrong_row(
-    matrix: &Matrix,
-    at: &[usize],
-    order: &[usize],
-    rows: &[i64],
+    fields: &Fields,
     row: usize,
     sign: Sign,
     kinds: &[Kind],
@@ -66,25 +64,30 @@ fn wrong_row(
     from: usize,
     end: usize,
 ) -> usize
-    requires tableau { IsTableau matrix.now at.now order.now rows.now }
-    requires inside { row < width matrix.now }
-    requires outside { IsIn row (basis_of matrix.now.cols at.now) → ⊥ }
-    requires kinds { length kinds.now ≡ width matrix.now }
-    requires level { length level.now ≡ width matrix.now }
+    requires tableau { IsTableau fields.now.matrix.now fields.now.at.now fields.now.order.now
+        fields.now.rows.now }
+    requires inside { row < width fields.now.matrix.now }
+    requires outside { IsIn row (basis_of fields.now.matrix.now.cols fields.now.at.now) → ⊥ }
+    requires kinds { length kinds.now ≡ width fields.now.matrix.now }
+    requires level { length level.now ≡ width fields.now.matrix.now }
     requires range { from ≤ end }
     ensures low { from ≤ result }
     ensures high { result ≤ end }
-    ensures right { AreRight (IsRowOfSign matrix.now (basis_of matrix.now.cols at.now) row sign)
-        MayWeigh kinds.now level.now (width matrix.now) from result }
+    ensures right { AreRight
+        (IsRowOfSign fields.now.matrix.now
+        (basis_of fields.now.matrix.now.cols fields.now.at.now) row sign) MayWeigh kinds.now
+        level.now (width fields.now.matrix.now) from result }
     ensures wrong { (result ≡ end)
-        ⊎ AreWrongAt (IsRowOfSign matrix.now (basis_of matrix.now.cols at.now) row sign) MayWeigh
-        kinds.now level.now (width matrix.now) result }
+        ⊎ AreWrongAt
+        (IsRowOfSign fields.now.matrix.now
+        (basis_of fields.now.matrix.now.cols fields.now.at.now) row sign) MayWeigh kinds.now
+        level.now (width fields.now.matrix.now) result }
 {
-    let n = matrix.cols();
-    let kept = part(rows, at[row] - n, n + 1);
+    let n = fields.matrix.cols();
+    let kept = part(fields.rows, fields.at[row] - n, n + 1);
     let mut best = least_wrong(sign, &kept[n], kinds[row], level[row], from, end);
     for s in 0..n {
-        let c = order[s];
+        let c = fields.order[s];
         best = least_wrong(sign, &kept[s], kinds[c], level[c], from, best);
     }
     best
@@ -92,10 +95,7 @@ fn wrong_row(
 
 // The least level of a coordinate at which the vectors of a member of the basis are wrong.
 fn wrong_column(
-    matrix: &Matrix,
-    at: &[usize],
-    order: &[usize],
-    rows: &[i64],
+    fields: &Fields,
     col: usize,
     sign: Sign,
     kinds: &[Kind],
@@ -103,28 +103,32 @@ fn wrong_column(
     from: usize,
     end: usize,
 ) -> usize
-    requires tableau { IsTableau matrix.now at.now order.now rows.now }
-    requires member { IsIn col (basis_of matrix.now.cols at.now) }
-    requires kinds { length kinds.now ≡ width matrix.now }
-    requires level { length level.now ≡ width matrix.now }
+    requires tableau { IsTableau fields.now.matrix.now fields.now.at.now fields.now.order.now
+        fields.now.rows.now }
+    requires member { IsIn col (basis_of fields.now.matrix.now.cols fields.now.at.now) }
+    requires kinds { length kinds.now ≡ width fields.now.matrix.now }
+    requires level { length level.now ≡ width fields.now.matrix.now }
     requires range { from ≤ end }
     ensures low { from ≤ result }
     ensures high { result ≤ end }
     ensures right { AreRight
-        (IsColumnOfSign matrix.now (basis_of matrix.now.cols at.now) col sign) MayTake kinds.now
-        level.now (width matrix.now) from result }
+        (IsColumnOfSign fields.now.matrix.now
+        (basis_of fields.now.matrix.now.cols fields.now.at.now) col sign) MayTake kinds.now
+        level.now (width fields.now.matrix.now) from result }
     ensures wrong { (result ≡ end)
-        ⊎ AreWrongAt (IsColumnOfSign matrix.now (basis_of matrix.now.cols at.now) col sign)
-        MayTake kinds.now level.now (width matrix.now) result }
+        ⊎ AreWrongAt
+        (IsColumnOfSign fields.now.matrix.now
+        (basis_of fields.now.matrix.now.cols fields.now.at.now) col sign) MayTake kinds.now
+        level.now (width fields.now.matrix.now) result }
 {
-    let n = matrix.cols();
-    let m = matrix.rows();
-    let place = at[col];
+    let n = fields.matrix.cols();
+    let m = fields.matrix.rows();
+    let place = fields.at[col];
     let other = opposite(sign);
     let mut best = least_wrong(sign, &1, dual(kinds[col]), level[col], from, end);
     for i in 0..m {
-        let c = order[n + i];
-        let kept = part(rows, i, n + 1);
+        let c = fields.order[n + i];
+        let kept = part(fields.rows, i, n + 1);
         best = least_wrong(other, &kept[place], dual(kinds[c]), level[c], from, best);
     }
     best
@@ -156,18 +160,7 @@ impl Tableau {
             ⊎ AreWrongAt (IsRowOfSign self.now.matrix self.now.basis row sign) MayWeigh kinds.now
             level.now (width self.now.matrix) result }
     {
-        wrong_row(
-            &self.matrix,
-            &self.at,
-            &self.order,
-            &self.rows,
-            row,
-            sign,
-            kinds,
-            level,
-            from,
-            end,
-        )
+        wrong_row(&self.fields(), row, sign, kinds, level, from, end)
     }
 
     /// The least level, from one level on and below another, of a coordinate at which the vectors that the basis names by a coordinate
@@ -194,17 +187,6 @@ impl Tableau {
             ⊎ AreWrongAt (IsColumnOfSign self.now.matrix self.now.basis col sign) MayTake
             kinds.now level.now (width self.now.matrix) result }
     {
-        wrong_column(
-            &self.matrix,
-            &self.at,
-            &self.order,
-            &self.rows,
-            col,
-            sign,
-            kinds,
-            level,
-            from,
-            end,
-        )
+        wrong_column(&self.fields(), col, sign, kinds, level, from, end)
     }
 }

@@ -48,51 +48,51 @@ told a at order rows row col n kept num den t lt out member e f value =
     let V : List ℤ → ℕ → Type 0 = λ v k. num *ℤ entry v k ≡ neg_ℤ (entry v (slice_index at col)) *ℤ den in
     tells a at order rows row col num den t lt out member (subst (V (row_at (a.cols + 1) rows (slice_index at row - a.cols))) e (subst (λ v. V v n) is value))
 
-pub overflow_sub-at : goal.overflow_sub-at
-overflow_sub-at c =
-    let h = row_of c.args.matrix.now c.args.at.now c.args._order.now c.args.rows.now c.args.row c.requires.tableau c.requires.inside c.requires.outside in
+pub overflow_sub-fields : goal.overflow_sub-fields
+overflow_sub-fields c =
+    let h = row_of c.args.fields.now.matrix.now c.args.fields.now.at.now c.args.fields.now.order.now c.args.fields.now.rows.now c.args.row c.requires.tableau c.requires.inside c.requires.outside in
     omega (arith, h.low, c.cols-n.ensures.count)
 
 pub part-kept-requires-clause-inside : goal.part-kept-requires-clause-inside
 part-kept-requires-clause-inside c =
-    let h = row_of c.args.matrix.now c.args.at.now c.args._order.now c.args.rows.now c.args.row c.requires.tableau c.requires.inside c.requires.outside in
+    let h = row_of c.args.fields.now.matrix.now c.args.fields.now.at.now c.args.fields.now.order.now c.args.fields.now.rows.now c.args.row c.requires.tableau c.requires.inside c.requires.outside in
     rw c.cols-n.ensures.count h.inside
 
-pub offset_bounds-at-col : goal.offset_bounds-at-col
-offset_bounds-at-col c =
-    let h = stands c.args.matrix.now c.args.at.now c.args._order.now c.args.rows.now c.args.col c.requires.tableau c.requires.member in
+pub offset_bounds-fields-col : goal.offset_bounds-fields-col
+offset_bounds-fields-col c =
+    let h = stands c.args.fields.now.matrix.now c.args.fields.now.at.now c.args.fields.now.order.now c.args.fields.now.rows.now c.args.col c.requires.tableau c.requires.member in
     omega (arith, h.small)
 
-pub bounds-at-col : goal.bounds-at-col
-bounds-at-col c = (stands c.args.matrix.now c.args.at.now c.args._order.now c.args.rows.now c.args.col c.requires.tableau c.requires.member).inside
+pub bounds-fields-col : goal.bounds-fields-col
+bounds-fields-col c = (stands c.args.fields.now.matrix.now c.args.fields.now.at.now c.args.fields.now.order.now c.args.fields.now.rows.now c.args.col c.requires.tableau c.requires.member).inside
 
-pub bounds-kept-at : goal.bounds-kept-at
-bounds-kept-at c =
-    let h = reads c.args.matrix.now c.args.at.now c.args._order.now c.args.rows.now c.args.row c.args.col c.cols-n.result c.part-kept.result.now c.requires.tableau c.requires.inside c.requires.outside c.requires.member c.cols-n.ensures.count c.part-kept.ensures in
+pub bounds-kept-fields : goal.bounds-kept-fields
+bounds-kept-fields c =
+    let h = reads c.args.fields.now.matrix.now c.args.fields.now.at.now c.args.fields.now.order.now c.args.fields.now.rows.now c.args.row c.args.col c.cols-n.result c.part-kept.result.now c.requires.tableau c.requires.inside c.requires.outside c.requires.member c.cols-n.ensures.count c.part-kept.ensures in
     omega (arith, h.col_lt, h.long)
 
 pub bounds-kept-n : goal.bounds-kept-n
 bounds-kept-n c =
-    let h = reads c.args.matrix.now c.args.at.now c.args._order.now c.args.rows.now c.args.row c.args.col c.cols-n.result c.part-kept.result.now c.requires.tableau c.requires.inside c.requires.outside c.requires.member c.cols-n.ensures.count c.part-kept.ensures in
+    let h = reads c.args.fields.now.matrix.now c.args.fields.now.at.now c.args.fields.now.order.now c.args.fields.now.rows.now c.args.row c.args.col c.cols-n.result c.part-kept.result.now c.requires.tableau c.requires.inside c.requires.outside c.requires.member c.cols-n.ensures.count c.part-kept.ensures in
     omega (arith, h.long, c.cols-n.ensures.count)
 
 pub negative_quotient-requires-clause-num_small : goal.negative_quotient-requires-clause-num_small
 negative_quotient-requires-clause-num_small c =
-    (reads c.args.matrix.now c.args.at.now c.args._order.now c.args.rows.now c.args.row c.args.col c.cols-n.result c.part-kept.result.now c.requires.tableau c.requires.inside c.requires.outside c.requires.member c.cols-n.ensures.count c.part-kept.ensures).small
-    (slice_index c.args.at.now c.args.col)
+    (reads c.args.fields.now.matrix.now c.args.fields.now.at.now c.args.fields.now.order.now c.args.fields.now.rows.now c.args.row c.args.col c.cols-n.result c.part-kept.result.now c.requires.tableau c.requires.inside c.requires.outside c.requires.member c.cols-n.ensures.count c.part-kept.ensures).small
+    (slice_index c.args.fields.now.at.now c.args.col)
 
 pub negative_quotient-requires-clause-some : goal.negative_quotient-requires-clause-some
 negative_quotient-requires-clause-some c =
-    (reads c.args.matrix.now c.args.at.now c.args._order.now c.args.rows.now c.args.row c.args.col c.cols-n.result c.part-kept.result.now c.requires.tableau c.requires.inside c.requires.outside c.requires.member c.cols-n.ensures.count c.part-kept.ensures).some
+    (reads c.args.fields.now.matrix.now c.args.fields.now.at.now c.args.fields.now.order.now c.args.fields.now.rows.now c.args.row c.args.col c.cols-n.result c.part-kept.result.now c.requires.tableau c.requires.inside c.requires.outside c.requires.member c.cols-n.ensures.count c.part-kept.ensures).some
 
 pub returns-clause-columns : goal.returns-clause-columns
 returns-clause-columns c =
-    (told c.args.matrix.now c.args.at.now c.args._order.now c.args.rows.now c.args.row c.args.col c.cols-n.result c.part-kept.result.now c.negative_quotient.result.num c.negative_quotient.result.den c.requires.tableau c.requires.inside c.requires.outside c.requires.member c.cols-n.ensures.count c.part-kept.ensures c.negative_quotient.ensures.value).columns
+    (told c.args.fields.now.matrix.now c.args.fields.now.at.now c.args.fields.now.order.now c.args.fields.now.rows.now c.args.row c.args.col c.cols-n.result c.part-kept.result.now c.negative_quotient.result.num c.negative_quotient.result.den c.requires.tableau c.requires.inside c.requires.outside c.requires.member c.cols-n.ensures.count c.part-kept.ensures c.negative_quotient.ensures.value).columns
 
 pub returns-clause-rows : goal.returns-clause-rows
 returns-clause-rows c =
-    (told c.args.matrix.now c.args.at.now c.args._order.now c.args.rows.now c.args.row c.args.col c.cols-n.result c.part-kept.result.now c.negative_quotient.result.num c.negative_quotient.result.den c.requires.tableau c.requires.inside c.requires.outside c.requires.member c.cols-n.ensures.count c.part-kept.ensures c.negative_quotient.ensures.value).rows
+    (told c.args.fields.now.matrix.now c.args.fields.now.at.now c.args.fields.now.order.now c.args.fields.now.rows.now c.args.row c.args.col c.cols-n.result c.part-kept.result.now c.negative_quotient.result.num c.negative_quotient.result.den c.requires.tableau c.requires.inside c.requires.outside c.requires.member c.cols-n.ensures.count c.part-kept.ensures c.negative_quotient.ensures.value).rows
 
 pub returns-clause-some : goal.returns-clause-some
 returns-clause-some c =
-    (told c.args.matrix.now c.args.at.now c.args._order.now c.args.rows.now c.args.row c.args.col c.cols-n.result c.part-kept.result.now c.negative_quotient.result.num c.negative_quotient.result.den c.requires.tableau c.requires.inside c.requires.outside c.requires.member c.cols-n.ensures.count c.part-kept.ensures c.negative_quotient.ensures.value).some
+    (told c.args.fields.now.matrix.now c.args.fields.now.at.now c.args.fields.now.order.now c.args.fields.now.rows.now c.args.row c.args.col c.cols-n.result c.part-kept.result.now c.negative_quotient.result.num c.negative_quotient.result.den c.requires.tableau c.requires.inside c.requires.outside c.requires.member c.cols-n.ensures.count c.part-kept.ensures c.negative_quotient.ensures.value).some

@@ -9,17 +9,17 @@ use Rattle.crn_tab.proofs.row.put_row_vector.Goals as goal
 
 pub overflow_sub-i : goal.overflow_sub-i
 overflow_sub-i c =
-    let h = row_of c.args.matrix.now c.args.at.now c.args._order.now c.args.rows.now c.args.row c.requires.tableau c.requires.inside c.requires.outside in
+    let h = row_of c.args.fields.now.matrix.now c.args.fields.now.at.now c.args.fields.now.order.now c.args.fields.now.rows.now c.args.row c.requires.tableau c.requires.inside c.requires.outside in
     omega (arith, h.low, c.cols-n.ensures.count)
 
 pub part-requires-clause-inside : goal.part-requires-clause-inside
 part-requires-clause-inside c =
-    let h = row_of c.args.matrix.now c.args.at.now c.args._order.now c.args.rows.now c.args.row c.requires.tableau c.requires.inside c.requires.outside in
+    let h = row_of c.args.fields.now.matrix.now c.args.fields.now.at.now c.args.fields.now.order.now c.args.fields.now.rows.now c.args.row c.requires.tableau c.requires.inside c.requires.outside in
     rw c.cols-n.ensures.count h.inside
 
 pub put_spread-requires-clause-long : goal.put_spread-requires-clause-long
 put_spread-requires-clause-long c =
-    let h = row_of c.args.matrix.now c.args.at.now c.args._order.now c.args.rows.now c.args.row c.requires.tableau c.requires.inside c.requires.outside in
+    let h = row_of c.args.fields.now.matrix.now c.args.fields.now.at.now c.args.fields.now.order.now c.args.fields.now.rows.now c.args.row c.requires.tableau c.requires.inside c.requires.outside in
     let e = rw c.cols-n.ensures.count at c.part.ensures in
     rw (c.cols-n.ensures.count, e) h.long
 
@@ -33,35 +33,35 @@ made n n' i i' part row at items e f g h =
 
 pub returns-clause-named : goal.returns-clause-named
 returns-clause-named c =
-    let h = row_of c.args.matrix.now c.args.at.now c.args._order.now c.args.rows.now c.args.row c.requires.tableau c.requires.inside c.requires.outside in
-    let n = c.args.matrix.now.cols in
-    let i = slice_index c.args.at.now c.args.row - n in
+    let h = row_of c.args.fields.now.matrix.now c.args.fields.now.at.now c.args.fields.now.order.now c.args.fields.now.rows.now c.args.row c.requires.tableau c.requires.inside c.requires.outside in
+    let n = c.args.fields.now.matrix.now.cols in
+    let i = slice_index c.args.fields.now.at.now c.args.row - n in
     let row = rw c.cols-n.ensures.count at c.part.ensures in
-    let is : c.put_spread.new.into ≡ spread n i (row_at (n + 1) c.args.rows.now i) c.args.at.now =
-    made n c.cols-n.result i (slice_index c.args.at.now c.args.row - c.cols-n.result) c.part.result.now (row_at (n + 1) c.args.rows.now i) c.args.at.now c.put_spread.new.into
-    c.cols-n.ensures.count (ap (λ m. slice_index c.args.at.now c.args.row - m) c.cols-n.ensures.count) row c.put_spread.ensures in
-    let N : List ℤ → Type 0 = λ v. IsNamed c.args.matrix.now (basis_of n c.args.at.now) c.args.row v in
+    let is : c.put_spread.new.into ≡ spread n i (row_at (n + 1) c.args.fields.now.rows.now i) c.args.fields.now.at.now =
+    made n c.cols-n.result i (slice_index c.args.fields.now.at.now c.args.row - c.cols-n.result) c.part.result.now (row_at (n + 1) c.args.fields.now.rows.now i) c.args.fields.now.at.now c.put_spread.new.into
+    c.cols-n.ensures.count (ap (λ m. slice_index c.args.fields.now.at.now c.args.row - m) c.cols-n.ensures.count) row c.put_spread.ensures in
+    let N : List ℤ → Type 0 = λ v. IsNamed c.args.fields.now.matrix.now (basis_of n c.args.fields.now.at.now) c.args.row v in
     subst N (sym is) h.named
 
 pub returns-clause-elementary : goal.returns-clause-elementary
 returns-clause-elementary c =
-    let h = row_of c.args.matrix.now c.args.at.now c.args._order.now c.args.rows.now c.args.row c.requires.tableau c.requires.inside c.requires.outside in
-    let n = c.args.matrix.now.cols in
-    let i = slice_index c.args.at.now c.args.row - n in
+    let h = row_of c.args.fields.now.matrix.now c.args.fields.now.at.now c.args.fields.now.order.now c.args.fields.now.rows.now c.args.row c.requires.tableau c.requires.inside c.requires.outside in
+    let n = c.args.fields.now.matrix.now.cols in
+    let i = slice_index c.args.fields.now.at.now c.args.row - n in
     let row = rw c.cols-n.ensures.count at c.part.ensures in
-    let is : c.put_spread.new.into ≡ spread n i (row_at (n + 1) c.args.rows.now i) c.args.at.now =
-    made n c.cols-n.result i (slice_index c.args.at.now c.args.row - c.cols-n.result) c.part.result.now (row_at (n + 1) c.args.rows.now i) c.args.at.now c.put_spread.new.into
-    c.cols-n.ensures.count (ap (λ m. slice_index c.args.at.now c.args.row - m) c.cols-n.ensures.count) row c.put_spread.ensures in
-    let N : List ℤ → Type 0 = λ v. IsElementary (InDualSpace c.args.matrix.now) v in
-    subst N (sym is) (row_elementary c.args.matrix.now (basis_of n c.args.at.now) c.args.row (spread n i (row_at (n + 1) c.args.rows.now i) c.args.at.now) c.requires.tableau.wide c.requires.outside h.named)
+    let is : c.put_spread.new.into ≡ spread n i (row_at (n + 1) c.args.fields.now.rows.now i) c.args.fields.now.at.now =
+    made n c.cols-n.result i (slice_index c.args.fields.now.at.now c.args.row - c.cols-n.result) c.part.result.now (row_at (n + 1) c.args.fields.now.rows.now i) c.args.fields.now.at.now c.put_spread.new.into
+    c.cols-n.ensures.count (ap (λ m. slice_index c.args.fields.now.at.now c.args.row - m) c.cols-n.ensures.count) row c.put_spread.ensures in
+    let N : List ℤ → Type 0 = λ v. IsElementary (InDualSpace c.args.fields.now.matrix.now) v in
+    subst N (sym is) (row_elementary c.args.fields.now.matrix.now (basis_of n c.args.fields.now.at.now) c.args.row (spread n i (row_at (n + 1) c.args.fields.now.rows.now i) c.args.fields.now.at.now) c.requires.tableau.wide c.requires.outside h.named)
 
 pub returns-clause-small : goal.returns-clause-small
 returns-clause-small c =
-    let h = row_of c.args.matrix.now c.args.at.now c.args._order.now c.args.rows.now c.args.row c.requires.tableau c.requires.inside c.requires.outside in
-    let n = c.args.matrix.now.cols in
-    let i = slice_index c.args.at.now c.args.row - n in
+    let h = row_of c.args.fields.now.matrix.now c.args.fields.now.at.now c.args.fields.now.order.now c.args.fields.now.rows.now c.args.row c.requires.tableau c.requires.inside c.requires.outside in
+    let n = c.args.fields.now.matrix.now.cols in
+    let i = slice_index c.args.fields.now.at.now c.args.row - n in
     let row = rw c.cols-n.ensures.count at c.part.ensures in
-    let is : c.put_spread.new.into ≡ spread n i (row_at (n + 1) c.args.rows.now i) c.args.at.now =
-    made n c.cols-n.result i (slice_index c.args.at.now c.args.row - c.cols-n.result) c.part.result.now (row_at (n + 1) c.args.rows.now i) c.args.at.now c.put_spread.new.into
-    c.cols-n.ensures.count (ap (λ m. slice_index c.args.at.now c.args.row - m) c.cols-n.ensures.count) row c.put_spread.ensures in
+    let is : c.put_spread.new.into ≡ spread n i (row_at (n + 1) c.args.fields.now.rows.now i) c.args.fields.now.at.now =
+    made n c.cols-n.result i (slice_index c.args.fields.now.at.now c.args.row - c.cols-n.result) c.part.result.now (row_at (n + 1) c.args.fields.now.rows.now i) c.args.fields.now.at.now c.put_spread.new.into
+    c.cols-n.ensures.count (ap (λ m. slice_index c.args.fields.now.at.now c.args.row - m) c.cols-n.ensures.count) row c.put_spread.ensures in
     subst AreSmall (sym is) h.bounded

@@ -12,4 +12,4 @@ pub returns-then-all_weigh-2 : goal.returns-then-all_weigh-2
 returns-then-all_weigh-2 c = (minus_some, λ w named. (c.all_weigh-2.ensures.yes c.if-all_weigh-2.true w named, c.some_counts.ensures.yes c.if-not-some_counts.false Minus minus_some w named))
 
 pub returns : goal.returns
-returns c = none_rules c.args.matrix.now c.args.at.now c.args.order.now c.args.rows.now c.args.row c.args.kinds.now c.requires.tableau c.requires.inside c.requires.outside (c.all_weigh.ensures.no c.if-all_weigh.false) (c.all_weigh-2.ensures.no c.if-all_weigh-2.false)
+returns c = none_rules c.args.fields.now.matrix.now c.args.fields.now.at.now c.args.fields.now.order.now c.args.fields.now.rows.now c.args.row c.args.kinds.now c.requires.tableau c.requires.inside c.requires.outside (c.all_weigh.ensures.no c.if-all_weigh.false) (c.all_weigh-2.ensures.no c.if-all_weigh-2.false)

@@ -2,4 +2,4 @@ use Rattle.crn_tab.proofs.OwnSign.{names_rows}
 use Rattle.crn_tab.proofs.sign.stands_by.Goals as goal
 
 pub returns : goal.returns
-returns c = names_rows c.args.matrix.now c.args.at.now c.args._order.now c.args.rows.now c.requires.tableau
+returns c = names_rows c.args._fields.now.matrix.now c.args._fields.now.at.now c.args._fields.now.order.now c.args._fields.now.rows.now c.requires.tableau
