@@ -18,7 +18,7 @@ use Rattle.crn_vec.proofs.Sums.{entry-scale}
 use Rattle.crn_tab.specs.Tableau.{NamesRows, IsNumbered, IsRefused}
 use Rattle.crn_tab.proofs.CallerLemmas.{same_members, column_at, as_row}
 use Rattle.crn_farkas.specs.declared.view.View.TheVariants.{Row, Column}
-use Rattle.crn_farkas.specs.Inner.Views.{IsView, IsSettled}
+use Rattle.crn_farkas.specs.Inner.Views.{IsView, IsRightEverywhere}
 use Rattle.crn_farkas.specs.Decision.{factor}
 use Rattle.crn_farkas.specs.Inner.Sums.{IsWitness}
 use Rattle.crn_farkas.specs.Solver.{IsNear, CutsBy}
@@ -55,25 +55,15 @@ view_some a basis b g w t lt (y, named, some) n =
           other_some (entry w g) (entry v.w g) (entry v.w b) (entry w b) sum v_b w_b
     ]
 
-pub record Place (order : List ℕ) (c : ℕ) : Type 0 where
-  pub i : ℕ
-  pub below : i < length order
-  pub is : slice_index order i ≡ c
-
-pub in_place : (order : List ℕ) (c : ℕ) → IsIn c order → Place order c
-in_place [] c i = absurd i
-in_place (x ∷ order) c (inl e) = record { i = 0; below = omega arith; is = sym e }
-in_place (x ∷ order) c (inr i) = let p = in_place order c i in record { i = suc p.i; below = omega (arith, p.below); is = p.is }
-
-pub witness_from : (a : Mat) (basis : List ℕ) (kinds : List Kind) (order : List ℕ) (b g : ℕ) (s : Bool) (w y : List ℤ) → NamesRows a basis → g < width a → length kinds ≡ width a → is_signed (kind_at kinds g) ≡ true
-    → IsView a basis (Column b) g → IsSettled a basis (Column b) g kinds order (length order) → ((c : ℕ) → c < width a → IsIn c order)
+pub witness_from : (a : Mat) (basis : List ℕ) (kinds : List Kind) (b g : ℕ) (s : Bool) (w y : List ℤ) → NamesRows a basis → g < width a → length kinds ≡ width a → is_signed (kind_at kinds g) ≡ true
+    → IsView a basis (Column b) g → IsRightEverywhere a basis (Column b) g kinds
     → IsNamed a basis b w → ((k : ℕ) → unsigned_abs (entry w k) < WIDE_ENTRY) → (entry w g ≢ pos 0 → HasKind (kind_at kinds g) (factor s *ℤ entry w g)) → y ≡ scale (factor s) w → IsWitness a kinds g y
-witness_from a basis kinds order b g s w y t lt long asked view settled all n small signs same =
+witness_from a basis kinds b g s w y t lt long asked view right n small signs same =
     let v = scale (factor s) w in
     let col = column_scaled a basis b (factor s) w (as_column a basis b w view.1.member n) in
     let kind : HasKind (kind_at kinds g) (entry v g) = subst (HasKind (kind_at kinds g)) (sym (entry-scale (factor s) w g)) (signs (view_some a basis b g w t lt view n)) in
     let takes : (k : ℕ) → MayTake (kind_at kinds k) (entry v k) = λ k. elim (lt_or k (width a)) as (λ _. MayTake (kind_at kinds k) (entry v k)) [
-      | inl h ↦ let p = in_place order k (all k h) in subst (λ (j : ℕ). MayTake (kind_at kinds j) (entry v j)) p.is (settled v (col, kind) p.i p.below)
+      | inl h ↦ right v (col, kind) k h
       | inr h ↦ subst (λ (κ : Kind). MayTake κ (entry v k)) (sym (kind_past kinds k (omega (arith, h, long)))) tt
     ] in
     subst (λ (l : List ℤ). IsWitness a kinds g l) (sym same) (record {
@@ -112,15 +102,15 @@ near_refused a basis leave enter index numbers r n = (
 )
 
 -- a settled row view shows multipliers
-pub cuts_settled : (a : Mat) (basis : List ℕ) (kinds : List Kind) (order : List ℕ) (g : ℕ) (sign : Sign) → length kinds ≡ width a → is_signed (kind_at kinds g) ≡ true
-    → IsSettled a basis Row g kinds order (length order) → ((c : ℕ) → c < width a → IsIn c order) → (sign ≢ Zero) → ((x : ℤ) → HasSign sign x → HasKind (kind_at kinds g) x) → CutsBy a basis kinds g sign
-cuts_settled a basis kinds order g sign long asked settled all some kind = record {
+pub cuts_settled : (a : Mat) (basis : List ℕ) (kinds : List Kind) (g : ℕ) (sign : Sign) → length kinds ≡ width a → is_signed (kind_at kinds g) ≡ true
+    → IsRightEverywhere a basis Row g kinds → (sign ≢ Zero) → ((x : ℤ) → HasSign sign x → HasKind (kind_at kinds g) x) → CutsBy a basis kinds g sign
+cuts_settled a basis kinds g sign long asked right some kind = record {
   some = some;
   rules = λ w named at_g.
       let seen = kind (entry w g) at_g in
       cut_of_ruling a kinds w named.space long (
         λ k. elim (lt_or k (width a)) as (λ _. MayWeigh (kind_at kinds k) (entry w k)) [
-          | inl h ↦ let p = in_place order k (all k h) in subst (λ (j : ℕ). MayWeigh (kind_at kinds j) (entry w j)) p.is (settled w (named, seen) p.i p.below)
+          | inl h ↦ right w (named, seen) k h
           | inr h ↦ subst (λ (κ : Kind). MayWeigh κ (entry w k)) (sym (kind_past kinds k (omega (arith, h, long)))) (past_end w k (omega (arith, h, named.space.long)))
         ],
         (g, asked, kind_some (kind_at kinds g) (entry w g) asked seen),

@@ -9,7 +9,7 @@ ghost use Rattle.crn_farkas.specs.Inner.Views.{IsSeen, IsView};
 use crate::cut::Cut;
 use crate::fault::Stop;
 use crate::goal::{settled_cut, settled_view};
-use crate::level::{seen_lead, seen_sign};
+use crate::level::{Order, seen_lead, seen_sign};
 use crate::targets::{put_levels, put_order};
 use crate::view::View;
 use crn_tab::Tableau;
@@ -66,11 +66,15 @@ pub(crate) fn alternative_at(
 {
     put_order(order, kinds);
     put_levels(order, level);
-    let view = settled_view(tableau, kinds, order, level, g)?;
+    let settling = Order {
+        places: order,
+        levels: level,
+    };
+    let view = settled_view(tableau, kinds, &settling, g)?;
     tableau.names_rows();
     put_signs(tableau, view, kinds, g, signs);
     match view {
-        View::Row => Ok(Alternative::Cut(settled_cut(tableau, kinds, order, g))),
+        View::Row => Ok(Alternative::Cut(settled_cut(tableau, kinds, g))),
         View::Column(_) => Ok(Alternative::Witness),
     }
 }

@@ -5,11 +5,12 @@ ghost use Rattle.crn_vec.specs.Systems.{HasKind, kind_at, is_signed};
 ghost use Rattle.crn_vec.specs.Vectors.{HasSign};
 ghost use Rattle.crn_farkas.specs.Solver.{IsCutBy, IsRefusedStop};
 ghost use Rattle.crn_farkas.specs.Inner.Sums.{IsGoalStop, IsSide};
-ghost use Rattle.crn_farkas.specs.Inner.Views.{AreLevels, IsView, IsSettled};
+ghost use Rattle.crn_farkas.specs.Inner.Views.{IsView, IsOrder, IsRightEverywhere};
 ghost use Rattle.crn_tab.specs.Tableau.{IsRefused};
 
 use crate::cut::{Cut, multipliers, stays};
 use crate::fault::Stop;
+use crate::level::Order;
 use crate::settle::settle;
 use crate::view::View;
 use crn_tab::{Refused, Tableau};
@@ -29,7 +30,6 @@ pub(crate) enum Side {
 fn witness(
     tableau: &Tableau,
     kinds: &[Kind],
-    order: &[usize],
     work: &mut [i128],
     b: usize,
     g: usize,
@@ -38,9 +38,8 @@ fn witness(
     requires goal { g < width tableau.now.matrix }
     requires asked { is_signed (kind_at kinds.now g) ≡ true }
     requires view { IsView tableau.now.matrix tableau.now.basis (View.Column b) g }
-    requires settled { IsSettled tableau.now.matrix tableau.now.basis (View.Column b) g kinds.now
-        order.now (length order.now) }
-    requires all { (c : ℕ) → c < width tableau.now.matrix → IsIn c order.now }
+    requires right { IsRightEverywhere tableau.now.matrix tableau.now.basis (View.Column b) g
+        kinds.now }
     requires work { length work.old ≡ width tableau.now.matrix }
     ensures work { OnOk result (length work.new ≡ length work.old) }
     ensures side { MatchResult result
@@ -62,28 +61,21 @@ fn witness(
 pub(crate) fn settled_view(
     tableau: &mut Tableau,
     kinds: &[Kind],
-    order: &[usize],
-    level: &[usize],
+    order: &Order,
     g: usize,
 ) -> Result<View, Stop>
     requires kinds { length kinds.now ≡ width tableau.old.matrix }
     requires goal { g < width tableau.old.matrix }
     requires asked { is_signed (kind_at kinds.now g) ≡ true }
-    requires order { (i : ℕ) → i < length order.now
-        → slice_index order.now i < width tableau.old.matrix }
-    requires all { (c : ℕ) → c < width tableau.old.matrix → IsIn c order.now }
-    requires level { length level.now ≡ length kinds.now }
-    requires levels { AreLevels order.now level.now }
+    requires order { IsOrder (length kinds.now) order.now.places.now order.now.levels.now }
     ensures matrix { tableau.new.matrix ≡ tableau.old.matrix }
     ensures view { IfOk result (λ view. IsView tableau.new.matrix tableau.new.basis view g) }
-    ensures settled { IfOk result
-        (λ view.
-        IsSettled tableau.new.matrix tableau.new.basis view g kinds.now order.now
-        (length order.now)) }
+    ensures right { IfOk result
+        (λ view. IsRightEverywhere tableau.new.matrix tableau.new.basis view g kinds.now) }
     ensures refused { IfErr result (λ s. IsRefusedStop tableau.new.matrix tableau.new.basis s) }
 {
     let mut view = first_view(tableau, g);
-    if let Err(refused) = settle(tableau, &mut view, kinds, order, level, g, order.len()) {
+    if let Err(refused) = settle(tableau, &mut view, kinds, order, g, order.places.len()) {
         return Err(refused_stop(tableau, &refused));
     }
     Ok(view)
@@ -105,14 +97,12 @@ fn refused_stop(tableau: &Tableau, refused: &Refused) -> Stop
 }
 
 // The cut that a settled view of a row shows.
-pub(crate) fn settled_cut(_tableau: &Tableau, kinds: &[Kind], _order: &[usize], g: usize) -> Cut
+pub(crate) fn settled_cut(_tableau: &Tableau, kinds: &[Kind], g: usize) -> Cut
     requires kinds { length kinds.now ≡ width _tableau.now.matrix }
     requires goal { g < width _tableau.now.matrix }
     requires asked { is_signed (kind_at kinds.now g) ≡ true }
     requires view { IsView _tableau.now.matrix _tableau.now.basis View.Row g }
-    requires settled { IsSettled _tableau.now.matrix _tableau.now.basis View.Row g kinds.now
-        _order.now (length _order.now) }
-    requires all { (c : ℕ) → c < width _tableau.now.matrix → IsIn c _order.now }
+    requires right { IsRightEverywhere _tableau.now.matrix _tableau.now.basis View.Row g kinds.now }
     ensures cut { IsCutBy _tableau.now.matrix _tableau.now.basis kinds.now result.row result.sign }
     ensures row { result.row ≡ g }
     ensures sign { (x : ℤ) → HasKind (kind_at kinds.now g) x → HasSign result.sign x }
@@ -128,19 +118,14 @@ pub(crate) fn side_of(
     alloc: Global,
     tableau: &mut Tableau,
     kinds: &[Kind],
-    order: &[usize],
-    level: &[usize],
+    order: &Order,
     work: &mut [i128],
     g: usize,
 ) -> Result<Side, Stop>
     requires kinds { length kinds.now ≡ width tableau.old.matrix }
     requires goal { g < width tableau.old.matrix }
     requires asked { is_signed (kind_at kinds.now g) ≡ true }
-    requires order { (i : ℕ) → i < length order.now
-        → slice_index order.now i < width tableau.old.matrix }
-    requires all { (c : ℕ) → c < width tableau.old.matrix → IsIn c order.now }
-    requires level { length level.now ≡ length kinds.now }
-    requires levels { AreLevels order.now level.now }
+    requires order { IsOrder (length kinds.now) order.now.places.now order.now.levels.now }
     requires work { length work.old ≡ width tableau.old.matrix }
     ensures matrix { tableau.new.matrix ≡ tableau.old.matrix }
     ensures work { OnOk result (length work.new ≡ length work.old) }
@@ -148,12 +133,12 @@ pub(crate) fn side_of(
         (λ side. IsSide tableau.new.matrix tableau.new.basis kinds.now g work.new side)
         (λ s. IsGoalStop tableau.new.matrix tableau.new.basis s) }
 {
-    match settled_view(tableau, kinds, order, level, g)? {
+    match settled_view(tableau, kinds, order, g)? {
         View::Row => {
-            let cut = settled_cut(tableau, kinds, order, g);
+            let cut = settled_cut(tableau, kinds, g);
             Ok(Side::Cut(multipliers(alloc, tableau, kinds, work, &cut)?))
         }
-        View::Column(b) => witness(tableau, kinds, order, work, b, g),
+        View::Column(b) => witness(tableau, kinds, work, b, g),
     }
 }
 

@@ -3,11 +3,20 @@ ghost use Rattle.crn_vec.specs.Vectors.{entry, HasSign};
 ghost use Rattle.crn_vec.specs.Lists.{IsIn};
 ghost use Rattle.crn_vec.specs.Elementary.{width, IsNamedColumn};
 ghost use Rattle.crn_vec.specs.Systems.{kind_at, is_signed};
-ghost use Rattle.crn_farkas.specs.Inner.Views.{AreLevels, IsView, IsSeen, IsSettled, IsFirstWrong, IsRightBetween, IsWrongHere, is_early_kind, lead_at, level_count};
+ghost use Rattle.crn_farkas.specs.Inner.Views.{IsView, IsSeen, IsSettled, IsFirstWrong, IsRightBetween, IsWrongHere, is_early_kind, lead_at, level_count, IsOrder};
 
 use crate::view::View;
 use crn_tab::Tableau;
 use crn_vec::{Kind, Sign, opposite, product, sign_asked};
+
+/// The order of settling: a list of all coordinates, to be read.
+#[derive(Clone, Copy)]
+pub(crate) struct Order<'a> {
+    /// The coordinate at each place.
+    pub places: &'a [usize],
+    /// The level of each coordinate, which is its place.
+    pub levels: &'a [usize],
+}
 
 // The level of a coordinate is its place in the order of settling. The lead sign of a view is the sign of the vectors that it shows
 // at the coordinate from which the signs at all others are read: g for a row, and the member for a column.
@@ -122,8 +131,7 @@ pub(crate) fn first_wrong(
     tableau: &Tableau,
     view: View,
     kinds: &[Kind],
-    _order: &[usize],
-    level: &[usize],
+    order: &Order,
     g: usize,
     done: usize,
     k: usize,
@@ -132,21 +140,18 @@ pub(crate) fn first_wrong(
     requires asked { is_signed (kind_at kinds.now g) ≡ true }
     requires kinds { length kinds.now ≡ width tableau.now.matrix }
     requires goal { g < width tableau.now.matrix }
-    requires order { (i : ℕ) → i < length _order.now
-        → slice_index _order.now i < width tableau.now.matrix }
-    requires all { (c : ℕ) → c < length kinds.now → IsIn c _order.now }
-    requires level { length level.now ≡ length kinds.now }
-    requires levels { AreLevels _order.now level.now }
-    requires end { k ≤ length _order.now }
-    requires done { IsSettled tableau.now.matrix tableau.now.basis view g kinds.now _order.now
-        done }
+    requires order { IsOrder (length kinds.now) order.now.places.now order.now.levels.now }
+    requires end { k ≤ length order.now.places.now }
+    requires done { IsSettled tableau.now.matrix tableau.now.basis view g kinds.now
+        order.now.places.now done }
     requires start { done ≤ k }
     ensures { MatchOption result
-        (IsSettled tableau.now.matrix tableau.now.basis view g kinds.now _order.now k)
+        (IsSettled tableau.now.matrix tableau.now.basis view g kinds.now order.now.places.now k)
         (λ j.
-        IsFirstWrong tableau.now.matrix tableau.now.basis view g kinds.now _order.now done k j) }
+        IsFirstWrong tableau.now.matrix tableau.now.basis view g kinds.now
+        order.now.places.now done k j) }
 {
-    let end = wrong_level(tableau, view, kinds, level, g, done, k);
+    let end = wrong_level(tableau, view, kinds, order.levels, g, done, k);
     if end < k { Some(end) } else { None }
 }
 

@@ -6,12 +6,12 @@ ghost use Rattle.crn_vec.specs.Systems.{kind_at, is_signed};
 ghost use Rattle.crn_farkas.specs.Solver.{HasKeptCut, IsCutBy, IsFall, IsRefusedStop, IsStanding};
 ghost use Rattle.crn_farkas.specs.Inner.Sums.{HasPartSum};
 ghost use Rattle.crn_farkas.specs.Decision.{IsTargetStop};
-ghost use Rattle.crn_farkas.specs.Inner.Views.{AreLevels, IsSeen, IsView};
+ghost use Rattle.crn_farkas.specs.Inner.Views.{IsSeen, IsView, IsOrder};
 
 use crate::cut::{Cut, kept_cut};
 use crate::fault::Stop;
 use crate::goal::{settled_cut, settled_view};
-use crate::level::{column_sign, lead_sign};
+use crate::level::{Order, column_sign, lead_sign};
 use crate::standing::Standing;
 use crate::targets::{put_levels, put_order};
 use crate::view::View;
@@ -43,19 +43,14 @@ fn mark(tableau: &Tableau, kinds: &[Kind], marks: &mut [bool], b: usize, g: usiz
 fn stand_at(
     tableau: &mut Tableau,
     kinds: &[Kind],
-    order: &[usize],
-    level: &[usize],
+    order: &Order,
     marks: &mut [bool],
     g: usize,
 ) -> Result<Option<Cut>, Stop>
     requires kinds { length kinds.now ≡ width tableau.old.matrix }
     requires marks { length marks.old ≡ length kinds.now }
     requires goal { g < width tableau.old.matrix }
-    requires order { (i : ℕ) → i < length order.now
-        → slice_index order.now i < width tableau.old.matrix }
-    requires all { (c : ℕ) → c < width tableau.old.matrix → IsIn c order.now }
-    requires level { length level.now ≡ length kinds.now }
-    requires levels { AreLevels order.now level.now }
+    requires order { IsOrder (length kinds.now) order.now.places.now order.now.levels.now }
     requires sum { HasPartSum tableau.old.matrix kinds.now g marks.old }
     ensures matrix { tableau.new.matrix ≡ tableau.old.matrix }
     ensures count { length marks.new ≡ length marks.old }
@@ -72,8 +67,8 @@ fn stand_at(
     if marks[g] {
         return Ok(None);
     }
-    match settled_view(tableau, kinds, order, level, g)? {
-        View::Row => Ok(Some(settled_cut(tableau, kinds, order, g))),
+    match settled_view(tableau, kinds, order, g)? {
+        View::Row => Ok(Some(settled_cut(tableau, kinds, g))),
         View::Column(b) => {
             tableau.names_rows();
             mark(tableau, kinds, marks, b, g);
@@ -86,17 +81,12 @@ fn stand_at(
 fn stand_everywhere(
     tableau: &mut Tableau,
     kinds: &[Kind],
-    order: &[usize],
-    level: &[usize],
+    order: &Order,
     marks: &mut [bool],
 ) -> Result<Option<Cut>, Stop>
     requires kinds { length kinds.now ≡ width tableau.old.matrix }
     requires marks { length marks.old ≡ length kinds.now }
-    requires order { (i : ℕ) → i < length order.now
-        → slice_index order.now i < width tableau.old.matrix }
-    requires all { (c : ℕ) → c < width tableau.old.matrix → IsIn c order.now }
-    requires level { length level.now ≡ length kinds.now }
-    requires levels { AreLevels order.now level.now }
+    requires order { IsOrder (length kinds.now) order.now.places.now order.now.levels.now }
     requires sum { HasPartSum tableau.old.matrix kinds.now 0 marks.old }
     ensures matrix { tableau.new.matrix ≡ tableau.old.matrix }
     ensures count { length marks.new ≡ length marks.old }
@@ -108,7 +98,7 @@ fn stand_everywhere(
     ensures refused { IfErr result (λ s. IsRefusedStop tableau.new.matrix tableau.new.basis s) }
 {
     for g in 0..kinds.len() {
-        if let Some(cut) = stand_at(tableau, kinds, order, level, marks, g)? {
+        if let Some(cut) = stand_at(tableau, kinds, order, marks, g)? {
             return Ok(Some(cut));
         }
     }
@@ -138,7 +128,11 @@ fn by_signs(
     put_order(order, kinds);
     put_levels(order, level);
     marks.fill(false);
-    match stand_everywhere(tableau, kinds, order, level, marks)? {
+    let settling = Order {
+        places: order,
+        levels: level,
+    };
+    match stand_everywhere(tableau, kinds, &settling, marks)? {
         Some(cut) => Ok(Standing::Falls(cut)),
         None => Ok(Standing::Stands),
     }

@@ -4,14 +4,14 @@ ghost use Rattle.crn_vec.specs.Elementary.{width};
 ghost use Rattle.crn_vec.specs.Systems.{signed_count};
 ghost use Rattle.crn_vec.specs.declared.limits.TheConstants.{MAX_SIGNED};
 ghost use Rattle.crn_farkas.specs.Decision.{IsSmallSolution, IsDecision, IsTargetStop};
-ghost use Rattle.crn_farkas.specs.Inner.Views.{AreLevels};
+ghost use Rattle.crn_farkas.specs.Inner.Views.{AreLevels, IsOrder};
 ghost use Rattle.crn_farkas.specs.Solver.{IsNamedCut, IsNamedDecision, IsNearStop};
 ghost use Rattle.crn_farkas.specs.Inner.Sums.{IsPartSum, AreZeros};
 
 use crate::decision::Decision;
 use crate::fault::Stop;
 use crate::goal::{Side, side_of};
-use crate::level::push_level;
+use crate::level::{Order, push_level};
 use crate::sum::add;
 use crn_tab::Tableau;
 use crn_vec::{Ints, Kind, NoMemory, is_asked};
@@ -22,8 +22,7 @@ fn target(
     alloc: Global,
     tableau: &mut Tableau,
     kinds: &[Kind],
-    order: &[usize],
-    level: &[usize],
+    order: &Order,
     sum: &mut [i128],
     work: &mut [i128],
     g: usize,
@@ -31,11 +30,7 @@ fn target(
     requires kinds { length kinds.now ≡ width tableau.old.matrix }
     requires few { signed_count kinds.now ≤ MAX_SIGNED }
     requires goal { g < width tableau.old.matrix }
-    requires order { (i : ℕ) → i < length order.now
-        → slice_index order.now i < width tableau.old.matrix }
-    requires all { (c : ℕ) → c < width tableau.old.matrix → IsIn c order.now }
-    requires level { length level.now ≡ length kinds.now }
-    requires levels { AreLevels order.now level.now }
+    requires order { IsOrder (length kinds.now) order.now.places.now order.now.levels.now }
     requires sum { IsPartSum tableau.old.matrix kinds.now g sum.old }
     requires work { length work.old ≡ length kinds.now }
     ensures matrix { tableau.new.matrix ≡ tableau.old.matrix }
@@ -53,7 +48,7 @@ fn target(
     if sum[g] != 0 {
         return Ok(None);
     }
-    match side_of(alloc, tableau, kinds, order, level, work, g)? {
+    match side_of(alloc, tableau, kinds, order, work, g)? {
         Side::Cut(cut) => Ok(Some(cut)),
         Side::Witness { stays } => {
             add(sum, work, stays);
@@ -67,18 +62,13 @@ fn targets(
     alloc: Global,
     tableau: &mut Tableau,
     kinds: &[Kind],
-    order: &[usize],
-    level: &[usize],
+    order: &Order,
     sum: &mut [i128],
     work: &mut [i128],
 ) -> Result<Option<Ints>, Stop>
     requires kinds { length kinds.now ≡ width tableau.old.matrix }
     requires few { signed_count kinds.now ≤ MAX_SIGNED }
-    requires order { (i : ℕ) → i < length order.now
-        → slice_index order.now i < width tableau.old.matrix }
-    requires all { (c : ℕ) → c < width tableau.old.matrix → IsIn c order.now }
-    requires level { length level.now ≡ length kinds.now }
-    requires levels { AreLevels order.now level.now }
+    requires order { IsOrder (length kinds.now) order.now.places.now order.now.levels.now }
     requires sum { IsPartSum tableau.old.matrix kinds.now 0 sum.old }
     requires work { length work.old ≡ length kinds.now }
     ensures matrix { tableau.new.matrix ≡ tableau.old.matrix }
@@ -90,7 +80,7 @@ fn targets(
     ensures near { IfErr result (λ s. IsNearStop tableau.new.basis s) }
 {
     for g in 0..kinds.len() {
-        if let Some(cut) = target(alloc, tableau, kinds, order, level, sum, work, g)? {
+        if let Some(cut) = target(alloc, tableau, kinds, order, sum, work, g)? {
             return Ok(Some(cut));
         }
     }
@@ -171,7 +161,11 @@ pub(crate) fn by_targets(
     put_order(order, kinds);
     put_levels(order, level);
     put_zeros(sum);
-    match targets(alloc, tableau, kinds, order, level, sum, work)? {
+    let settling = Order {
+        places: order,
+        levels: level,
+    };
+    match targets(alloc, tableau, kinds, &settling, sum, work)? {
         Some(cut) => Ok(Decision::Infeasible(cut)),
         None => Ok(Decision::Feasible(solution(alloc, tableau, kinds, sum)?)),
     }

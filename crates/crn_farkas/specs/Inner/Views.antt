@@ -35,9 +35,21 @@ abbrev pub IsSettled : Mat → List ℕ → View → ℕ → List Kind → List 
 IsSettled a basis view g kinds order k = (y : List ℤ) → IsSeen a basis view g (kind_at kinds g) y
     → (i : ℕ) → i < k → IsRight view (kind_at kinds (slice_index order i)) (entry y (slice_index order i))
 
+-- each vector seen is right at every coordinate
+abbrev pub IsRightEverywhere : Mat → List ℕ → View → ℕ → List Kind → Type 0
+IsRightEverywhere a basis view g kinds = (y : List ℤ) → IsSeen a basis view g (kind_at kinds g) y
+    → (c : ℕ) → c < width a → IsRight view (kind_at kinds c) (entry y c)
+
 -- the level of a coordinate is a place of the order where it stands, and no later than each other one
 abbrev pub AreLevels : List ℕ → List ℕ → Type 0
 AreLevels order level = (j : ℕ) → j < length order → (slice_index level (slice_index order j) ≤ j) × (slice_index order (slice_index level (slice_index order j)) ≡ slice_index order j)
+
+-- the order of settling: it has each of so many coordinates and no others, and each has its level
+pub record IsOrder (count : ℕ) (places levels : List ℕ) : Type 0 where
+  pub below : (i : ℕ) → i < length places → slice_index places i < count
+  pub all : (c : ℕ) → c < count → IsIn c places
+  pub long : length levels ≡ count
+  pub are : AreLevels places levels
 
 -- each vector seen is right at the coordinates whose level is at least one and below another
 abbrev pub IsRightBetween : Mat → List ℕ → View → ℕ → List Kind → List ℕ → ℕ → ℕ → Type 0

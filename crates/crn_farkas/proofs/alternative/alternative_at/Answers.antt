@@ -5,16 +5,19 @@ use Rattle.crn_vec.specs.Lists.{IsIn}
 use Rattle.crn_vec.specs.Systems.{kind_at}
 use Rattle.crn_vec.specs.Vectors.{Mat, entry, HasSign}
 use Rattle.crn_farkas.specs.declared.view.View.{View}
-use Rattle.crn_farkas.specs.Inner.Views.{IsView, IsSeen, IsSettled}
+use Rattle.crn_farkas.specs.Inner.Views.{AreLevels, IsOrder, IsView, IsSeen, IsRightEverywhere}
 use Rattle.crn_farkas.proofs.Witnessing.{witness_signs, cut_signs}
 use Rattle.crn_farkas.proofs.alternative.alternative_at.Goals as goal
 
-pub settled_view-requires-clause-all : goal.settled_view-requires-clause-all
-settled_view-requires-clause-all c = λ k lt. subst (λ (l : List ℕ). IsIn k l) (sym c.deref-2.ensures.value) (c.put_order.ensures.all k (omega (arith, lt, c.requires.kinds)))
-
-pub settled_cut-requires-clause-all : goal.settled_cut-requires-clause-all
-settled_cut-requires-clause-all c = λ k lt.
-    subst (λ (l : List ℕ). IsIn k l) (sym c.deref-in-Row.ensures.value) (c.put_order.ensures.all k (omega (arith, c.requires.kinds, subst (λ (m : Mat). k < width m) c.settled_view.ensures.matrix lt)))
+pub settled_view-requires-clause-order : goal.settled_view-requires-clause-order
+settled_view-requires-clause-order c =
+    let levels = c.put_levels.new.level in
+    subst (λ (l : List ℕ). IsOrder (length c.args.kinds.now) l levels) (sym c.deref-2.ensures.value) (record {
+      below = c.put_order.ensures.below;
+      all = c.put_order.ensures.all;
+      long = c.put_levels.auto.level ∙ c.requires.level ∙ sym c.requires.kinds;
+      are = subst (λ (l : List ℕ). AreLevels l levels) c.deref.ensures.value c.put_levels.ensures;
+    })
 
 pub returns-in-Row-clause-answer : goal.returns-in-Row-clause-answer
 returns-in-Row-clause-answer c =
@@ -38,13 +41,11 @@ returns-in-Column-clause-answer c =
     let basis = c.settled_view.new.tableau.basis in
     let kinds = c.args.kinds.now in
     let g = c.args.g in
-    let order = c.deref-2.result.now in
     let same : a ≡ c.args.tableau.now.matrix = c.settled_view.ensures.matrix in
     let long : length kinds ≡ width a = c.requires.kinds ∙ ap width (sym same) in
     let V : View → Type 0 = λ v. IsView a basis v g in
-    let T : View → Type 0 = λ v. IsSettled a basis v g kinds order (length order) in
+    let T : View → Type 0 = λ v. IsRightEverywhere a basis v g kinds in
     let S : View → Type 0 = λ v. (y : List ℤ) → IsSeen a basis v g (kind_at kinds g) y → (k : ℕ) → k < length kinds → HasSign (get_or c.put_signs.new.signs k Zero) (entry y k) in
-    witness_signs a basis kinds order c.in-Column.field-0 g c.put_signs.new.signs c.names_rows.ensures (subst (λ (m : Mat). g < width m) (sym same) c.requires.goal) long c.requires.asked
-    (subst V c.in-Column.is c.in_ok-view.ensures.view) (subst T c.in-Column.is c.in_ok-view.ensures.settled)
-    (λ k lt. subst (λ (l : List ℕ). IsIn k l) (sym c.deref-2.ensures.value) (c.put_order.ensures.all k (omega (arith, lt, long))))
+    witness_signs a basis kinds c.in-Column.field-0 g c.put_signs.new.signs c.names_rows.ensures (subst (λ (m : Mat). g < width m) (sym same) c.requires.goal) long c.requires.asked
+    (subst V c.in-Column.is c.in_ok-view.ensures.view) (subst T c.in-Column.is c.in_ok-view.ensures.right)
     (c.put_signs.ensures.count ∙ c.requires.signs) (subst S c.in-Column.is c.put_signs.ensures.signs)

@@ -38,7 +38,7 @@ returns-clause-side c =
     let signs = c.stays-stays.ensures in
     let K : Kind → Type 0 = λ κ. HasKind κ (factor s *ℤ entry w g) in
     let g_lt = c.requires.goal in
-    witness_from a basis kinds c.args.order.now c.args.b g s w (scale (factor s) w) c.names_rows.ensures g_lt c.requires.kinds c.requires.asked c.requires.view c.requires.settled c.requires.all
+    witness_from a basis kinds c.args.b g s w (scale (factor s) w) c.names_rows.ensures g_lt c.requires.kinds c.requires.asked c.requires.view c.requires.right
     c.in_default.ensures.named c.in_default.ensures.small
     (λ some. subst K (any_default Pos Free kinds g (omega (arith, g_lt, c.requires.kinds))) (c.sign_asked.ensures.kind (factor s *ℤ entry w g) (signs some c.sign_asked.ensures.some)))
     refl

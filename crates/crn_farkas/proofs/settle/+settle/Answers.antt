@@ -16,7 +16,7 @@ cross-requires-clause-other t c =
     let kinds = c.args.kinds.now in
     let g_lt : g < width a = subst (λ (m : Mat). g < width m) (sym c.loop-j.invariant.matrix) c.requires.goal in
     let y = shown a basis c.loop-j.view g (kind_at kinds g) c.names_rows.ensures g_lt c.requires.asked c.loop-j.invariant.view in
-    wrong_other a basis c.loop-j.view g (slice_index c.args.order.now c.in-Some.j) kinds y.y c.requires.asked y.is (c.in-Some.ensures.wrong y.y y.is)
+    wrong_other a basis c.loop-j.view g (slice_index c.args.order.now.places.now c.in-Some.j) kinds y.y c.requires.asked y.is (c.in-Some.ensures.wrong y.y y.is)
 
 pub loop-j-preserved : goal.loop-j-preserved
 loop-j-preserved t c =
@@ -27,7 +27,7 @@ loop-j-preserved t c =
     let a' = c.settle.new.tableau.matrix in
     let g = c.args.g in
     let kinds = c.args.kinds.now in
-    let order = c.args.order.now in
+    let order = c.args.order.now.places.now in
     let j = c.in-Some.j in
     let k = slice_index order j in
     let asked = c.requires.asked in

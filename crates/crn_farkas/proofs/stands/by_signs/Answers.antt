@@ -1,12 +1,20 @@
 use Rattle.std.proofs.Common.{◌∙◌, ℕ, List, length, ap, subst, sym, arith, rules}
 use Rattle.crn_vec.specs.Lists.{IsIn}
 use Rattle.crn_vec.specs.Elementary.{width}
+use Rattle.crn_farkas.specs.Inner.Views.{AreLevels, IsOrder}
 use Rattle.crn_farkas.specs.Inner.Sums.{HasPartSum}
 use Rattle.crn_farkas.proofs.Marks.{marks_none, solution_by_marks}
 use Rattle.crn_farkas.proofs.stands.by_signs.Goals as goal
 
-pub stand_everywhere-requires-clause-all : goal.stand_everywhere-requires-clause-all
-stand_everywhere-requires-clause-all c = λ k lt. subst (λ (l : List ℕ). IsIn k l) (sym c.deref-2.ensures.value) (c.put_order.ensures.all k (omega (arith, lt, c.requires.kinds)))
+pub stand_everywhere-requires-clause-order : goal.stand_everywhere-requires-clause-order
+stand_everywhere-requires-clause-order c =
+    let levels = c.put_levels.new.level in
+    subst (λ (l : List ℕ). IsOrder (length c.args.kinds.now) l levels) (sym c.deref-2.ensures.value) (record {
+      below = c.put_order.ensures.below;
+      all = c.put_order.ensures.all;
+      long = c.put_levels.auto.level ∙ c.requires.level ∙ sym c.requires.kinds;
+      are = subst (λ (l : List ℕ). AreLevels l levels) c.deref.ensures.value c.put_levels.ensures;
+    })
 
 pub stand_everywhere-requires-clause-sum : goal.stand_everywhere-requires-clause-sum
 stand_everywhere-requires-clause-sum c = marks_none c.args.tableau.now.matrix c.args.kinds.now (length c.args.marks.now) c.fill.new.self c.requires.kinds (c.fill.ensures.after (λ y e. e))

@@ -5,7 +5,7 @@ use Rattle.crn_vec.specs.Elementary.{width}
 use Rattle.crn_vec.specs.Vectors.{Mat}
 use Rattle.crn_vec.specs.Systems.{is_signed, kind_at}
 use Rattle.crn_farkas.specs.declared.view.View.{View}
-use Rattle.crn_farkas.specs.Inner.Views.{IsView, IsSettled}
+use Rattle.crn_farkas.specs.Inner.Views.{IsView, IsRightEverywhere}
 use Rattle.crn_farkas.specs.Inner.Sums.{HasPartSum}
 use Rattle.crn_farkas.proofs.Steps.{any_default}
 use Rattle.crn_farkas.proofs.Marks.{marks_more, marks_seen}
@@ -20,23 +20,19 @@ returns-then-not-is_asked-clause-end c =
 pub returns-then-marks-g-clause-end : goal.returns-then-marks-g-clause-end
 returns-then-marks-g-clause-end c = marks_more c.args.tableau.now.matrix c.args.kinds.now c.args.g c.args.marks.now c.requires.sum (λ s. c.if-marks-g.true)
 
-pub settled_cut-requires-clause-all : goal.settled_cut-requires-clause-all
-settled_cut-requires-clause-all c = λ k lt. c.requires.all k (subst (λ (m : Mat). k < width m) c.settled_view.ensures.matrix lt)
-
 pub returns-in-Column-clause-end : goal.returns-in-Column-clause-end
 returns-in-Column-clause-end c =
     let a = c.settled_view.new.tableau.matrix in
     let basis = c.settled_view.new.tableau.basis in
     let kinds = c.args.kinds.now in
     let g = c.args.g in
-    let order = c.args.order.now in
     let same : a ≡ c.args.tableau.now.matrix = c.settled_view.ensures.matrix in
     let g_lt = c.requires.goal in
     let long : length kinds ≡ width a = c.requires.kinds ∙ ap width (sym same) in
     let asked : is_signed (kind_at kinds g) ≡ true = ap is_signed (any_default Free Pos kinds g (omega (arith, g_lt, c.requires.kinds))) ∙ sym c.is_asked.ensures ∙ c.if-not-is_asked.false in
     let V : View → Type 0 = λ v. IsView a basis v g in
-    let S : View → Type 0 = λ v. IsSettled a basis v g kinds order (length order) in
+    let S : View → Type 0 = λ v. IsRightEverywhere a basis v g kinds in
     let P : Mat → Type 0 = λ m. HasPartSum m kinds g c.args.marks.now in
-    marks_seen a basis kinds order c.in-Column.b g c.args.marks.now c.mark.new.marks c.names_rows.ensures (subst (λ (m : Mat). g < width m) (sym same) g_lt) long asked
-    (subst V c.in-Column.is c.in_ok-settled_view.ensures.view) (subst S c.in-Column.is c.in_ok-settled_view.ensures.settled)
-    (λ k lt. c.requires.all k (subst (λ (m : Mat). k < width m) same lt)) (subst P (sym same) c.requires.sum) c.mark.ensures.marks
+    marks_seen a basis kinds c.in-Column.b g c.args.marks.now c.mark.new.marks c.names_rows.ensures (subst (λ (m : Mat). g < width m) (sym same) g_lt) long asked
+    (subst V c.in-Column.is c.in_ok-settled_view.ensures.view) (subst S c.in-Column.is c.in_ok-settled_view.ensures.right)
+    (subst P (sym same) c.requires.sum) c.mark.ensures.marks
