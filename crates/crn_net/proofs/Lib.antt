@@ -15,3 +15,4 @@ mod Counting
 mod Places
 mod Sums
 mod Narrow
+mod BucketSums

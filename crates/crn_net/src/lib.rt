@@ -1,6 +1,7 @@
 //! Reaction networks, and the builder that collects their reactions.
 #![tactic(auto)]
 
+mod buckets;
 mod builder;
 mod fault;
 mod guesses;

@@ -6,9 +6,13 @@ ghost use Rattle.crn_net.specs.Inner.Sums.{share_of, shares_of, name_in, sum_in,
 ghost use Rattle.crn_net.specs.Terms.{name_at, side_of, statement_of, IsSide};
 ghost use Rattle.crn_net.specs.Inner.Steps.{SaysSame};
 
+use crate::buckets::buckets_fit;
 use crate::term::Term;
 use crn_vec::{MAX_AMOUNT, MAX_TERMS};
 use std::alloc::{AllocError, Global};
+
+// The number of terms from which on it pays to try sums of buckets before sums of names.
+const MANY_TERMS: usize = 256;
 
 // At most `length` bytes of a text from place `at` on. The two `min`s make it total: the closure that compares two
 // shares can't have a precondition.
@@ -115,6 +119,36 @@ fn sums_lie_within(text: &[u8], shares: &[Share], limit: i64) -> bool
     0 <= sum && sum <= limit
 }
 
+// The sum of a name on a side.
+fn amount_of(text: &[u8], side: &[Term], name: &[u8]) -> u32
+    requires { IsSide text.now side.now }
+    ensures { result ≡ amount_in (side_of text.now side.now) name.now }
+{
+    let mut sum = 0u32;
+    for term in side {
+        if name_of(text, term) == name {
+            sum += term.count;
+        }
+    }
+    sum
+}
+
+// Whether the first name of the left side has another sum on the right side.
+fn first_name_differs(text: &[u8], left: &[Term], right: &[Term]) -> bool
+    requires left { IsSide text.now left.now }
+    requires right { IsSide text.now right.now }
+    ensures { let statement = statement_of text.now left.now right.now in
+        IsTrue result → SaysSame statement → ⊥ }
+{
+    match left.first() {
+        None => false,
+        Some(term) => {
+            let name = name_of(text, term);
+            amount_of(text, left, name) != amount_of(text, right, name)
+        }
+    }
+}
+
 // Whether both sides are the same complex. It serves statements with more names than a row has places. It takes as
 // long as sorting the terms by their names, and 12 bytes for each term.
 pub(crate) fn says_same(
@@ -128,6 +162,9 @@ pub(crate) fn says_same(
     ensures { let statement = statement_of text.now left.now right.now in
         IfOk result (λ same. IsTrue same ↔ SaysSame statement) }
 {
+    if first_name_differs(text, left, right) {
+        return Ok(false);
+    }
     let shares = shares_by_name(alloc, text, left, right)?;
     Ok(sums_lie_within(text, &shares, 0))
 }
@@ -151,6 +188,9 @@ pub fn sums_fit(alloc: Global, text: &[u8], side: &[Term]) -> Result<bool, Alloc
 {
     // Nearly every side is this small, and takes no memory.
     if total(side) <= MAX_AMOUNT {
+        return Ok(true);
+    }
+    if side.len() >= MANY_TERMS && buckets_fit(alloc, text, side)? {
         return Ok(true);
     }
     let shares = shares_by_name(alloc, text, side, &[])?;

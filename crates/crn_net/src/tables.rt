@@ -5,6 +5,7 @@ ghost use Rattle.crn_vec.specs.Network.{IsAmount, JoinsTwo, minus};
 ghost use Rattle.crn_net.specs.Terms.{side_of, statement_of, IsSide};
 ghost use Rattle.crn_net.specs.Inner.Steps.{NotesName, NotesSide, NotesBoth, TellsApart, IsCrowded, NotesSides, NotesRow, NotesReaction, BuildGives};
 
+use crate::buckets::mark_of;
 use crate::fault::NetFault;
 use crate::guesses::{Guesses, TableGuesses};
 use crate::name::{Name, Names};
@@ -20,15 +21,6 @@ fn is_name_at(names: &Names, place: usize, name: &[u8]) -> bool
         IsTrue result → (place < length names.now.keys) × stands }
 {
     place < names.len() && names.as_slice()[place].as_slice() == name
-}
-
-// A number that other names seldom share.
-fn mark_of(name: &[u8]) -> usize {
-    let mut mark = 0usize;
-    for byte in name {
-        mark = mark.wrapping_mul(31).wrapping_add(usize::from(*byte));
-    }
-    mark
 }
 
 // The place of a name, which is added if it is new. A name above the limit is added too, and the answer is an error.

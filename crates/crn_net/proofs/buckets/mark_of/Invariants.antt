@@ -1,0 +1,6 @@
+use Rattle.std.proofs.Common.{◌≡◌, take}
+use Rattle.crn_net.specs.Inner.BucketSums.{mark}
+use Rattle.crn_net.proofs.buckets.mark_of.Given as goal
+
+abbrev pub invariant-loop-byte : goal.invariant-loop-byte
+invariant-loop-byte l = l.mark ≡ mark (take l.byte-index l.name)

@@ -1,0 +1,25 @@
+-- For the contracts of private functions alone.
+-- Names in buckets, and the sums of the numbers in each.
+use Rattle.std.specs.Prelude.{◌≡◌, ◌<◌, ◌+◌, ◌*◌, ◌%◌, ◌^◌, ◌==◌, min, ℕ, if◌then◌else◌, List, [], ◌∷◌, length, slice_index}
+use Rattle.std.specs.List.{sum_by}
+use Rattle.crn_net.specs.declared.term.Term.{Term}
+use Rattle.crn_net.specs.Terms.{name_at}
+
+-- the bytes as digits of base 31 after those of m, modulo 2^64
+abbrev pub mark_after : ℕ → List ℕ → ℕ
+mark_after m [] = m
+mark_after m (b ∷ bs) = mark_after ((m * 31 % 2 ^ 64 + b) % 2 ^ 64) bs
+
+-- the mark of a name
+abbrev pub mark : List ℕ → ℕ
+mark name = mark_after 0 name
+
+-- the number of a term, if its name is in this one of so many buckets
+abbrev pub in_bucket : List ℕ → ℕ → ℕ → Term → ℕ
+in_bucket text size bucket t =
+    if mark (name_at text t) % size == bucket then t.count else 0
+
+-- the sums of the numbers by buckets, each up to 255
+abbrev pub AreBucketSums : List ℕ → List Term → ℕ → List ℕ → Type 0
+AreBucketSums text side size sums =
+    (length sums ≡ size) × ((k : ℕ) → k < size → slice_index sums k ≡ min (sum_by (in_bucket text size k) side) 255)
