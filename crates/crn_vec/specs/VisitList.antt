@@ -1,8 +1,9 @@
 -- Laws of visit lists.
-use Rattle.std.specs.Prelude.{◌≡◌, ◌<◌, ◌≤◌, ℕ, Bool, false, List, length}
+use Rattle.std.specs.Prelude.{◌≡◌, ◌<◌, ◌≤◌, ◌⊎◌, ℕ, Bool, true, false, List, [], ◌∷◌, length}
 use Rattle.crn_vec.specs.declared.signs.Sign.{Sign}
+use Rattle.crn_vec.specs.declared.signs.Sign.TheVariants.{Zero, Plus, Minus}
 use Rattle.crn_vec.specs.Lists.{IsIn}
-use Rattle.crn_vec.specs.Problems.{Signed}
+use Rattle.crn_vec.specs.Problems.{Signed, IsFull, Stands}
 use Rattle.crn_vec.specs.Visits.{IsVisitList, IsReached, PassesBudget, most_visits}
 
 -- two visit lists are equal
@@ -51,3 +52,45 @@ pub record AreReached (w : Signed) (visits : List (List Sign)) (found : Bool) : 
 abbrev pub VisitsAreReached : Type 0
 VisitsAreReached = (w : Signed) (visits : List (List Sign)) (found : Bool)
     → IsVisitList w visits found → AreReached w visits found
+
+-- ---- the order of the visits, said of the list and not by a walk
+
+-- the option s comes before t: zero, plus, minus
+abbrev pub IsEarlier : Sign → Sign → Type 0
+IsEarlier Zero Plus = Unit {0}
+IsEarlier Zero Minus = Unit {0}
+IsEarlier Plus Minus = Unit {0}
+IsEarlier s t = ⊥
+
+-- q continues p, or has a later option at the first place where they differ
+abbrev pub IsBefore : List Sign → List Sign → Type 0
+IsBefore [] [] = ⊥
+IsBefore [] (t ∷ q) = Unit {0}
+IsBefore (s ∷ p) [] = ⊥
+IsBefore (s ∷ p) (t ∷ q) = IsEarlier s t ⊎ ((s ≡ t) × IsBefore p q)
+
+-- each member is before all that follow it
+abbrev pub AreInPreorder : List (List Sign) → Type 0
+AreInPreorder [] = Unit {0}
+AreInPreorder (p ∷ ps) = ((q : List Sign) → IsIn q ps → IsBefore p q) × AreInPreorder ps
+
+-- a full standing prefix
+abbrev pub EndsVisits : Signed → List Sign → Type 0
+EndsVisits w p = IsFull w p × Stands w p
+
+-- the visits are the reached prefixes in preorder, up to the first full one that stands
+pub record IsPreorderOf (w : Signed) (visits : List (List Sign)) (found : Bool) : Type 0 where
+  pub order : AreInPreorder visits
+  pub reached : (q : List Sign) → IsIn q visits → IsReached w q
+  -- each reached prefix is visited, or comes after a visited one that ends the list
+  pub whole : (q : List Sign) → IsReached w q
+      → IsIn q visits ⊎ ((r : List Sign) × IsIn r visits × EndsVisits w r × IsBefore r q)
+  -- nothing visited comes after one that ends the list
+  pub last : (q r : List Sign) → IsIn q visits → IsIn r visits → EndsVisits w r → IsBefore r q → ⊥
+  pub found_is : found ≡ true → (r : List Sign) × IsIn r visits × EndsVisits w r
+  pub ends : (r : List Sign) → IsIn r visits → EndsVisits w r → found ≡ true
+
+-- a visit list is in preorder, and cut after the first full standing prefix
+abbrev pub VisitsArePreorder : Type 0
+VisitsArePreorder = (w : Signed) (visits : List (List Sign)) (found : Bool)
+    → IsVisitList w visits found → IsPreorderOf w visits found

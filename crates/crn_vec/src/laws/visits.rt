@@ -1,4 +1,4 @@
-ghost use Rattle.crn_vec.specs.VisitList.{BudgetsNeverSpent, LongVisits, NoProblemLacksVisits, VisitsAreOne, VisitsAreReached};
+ghost use Rattle.crn_vec.specs.VisitList.{BudgetsNeverSpent, LongVisits, NoProblemLacksVisits, VisitsAreOne, VisitsAreReached, VisitsArePreorder};
 
 /// A sign problem has one visit list.
 pub fn visits_are_one_list()
@@ -23,4 +23,9 @@ pub fn longer_visits()
 /// The number of visits is bounded by the number of choices, so a budget of that bound is never spent.
 pub fn budgets_that_are_never_spent()
     ensures { BudgetsNeverSpent }
+{}
+
+/// The visit list is in preorder, and ends after the first full standing prefix.
+pub fn visits_are_in_preorder()
+    ensures { VisitsArePreorder }
 {}
