@@ -12,9 +12,7 @@ use Rattle.crn_vec.specs.Vectors.{Mat, entry}
 use Rattle.crn_vec.specs.Lists.{IsIn}
 use Rattle.crn_vec.specs.Elementary.{width, IsNamedRow}
 use Rattle.crn_vec.specs.Systems.{HasKind, MayTake, kind_at, HasOneRowCut, signed_count, HasSigned}
-use Rattle.crn_vec.proofs.Entries.{eq_or, lt_or, past_end, zip_from}
-use Rattle.crn_vec.proofs.KindLaws.{kind_from, take_zero}
-use Rattle.crn_vec.proofs.Null.{dot-zero, Zero as AllZero}
+use Rattle.crn_vec.proofs.CallerLemmas.{eq_or, lt_or, past_end, zip_from, kind_from, take_zero, dot-zero, Zero as AllZero}
 use Rattle.crn_farkas.specs.declared.fault.Stop.{Stop}
 use Rattle.crn_farkas.specs.declared.fault.Stop.TheVariants.{Wide, NoMemory}
 use Rattle.crn_farkas.specs.declared.decision.Decision.{Decision}

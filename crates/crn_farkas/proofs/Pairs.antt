@@ -12,10 +12,7 @@ use Rattle.crn_vec.specs.Vectors.{Mat, entry, dot, column, scale}
 use Rattle.crn_vec.specs.Lists.{IsIn}
 use Rattle.crn_vec.specs.Elementary.{width, InRowSpace, InDualSpace, IsNamed, IsNamedRow, IsNamedColumn}
 use Rattle.crn_vec.specs.Systems.{HasKind, is_signed}
-use Rattle.crn_vec.proofs.Ring.{no_zero, mul-neg}
-use Rattle.crn_vec.proofs.Sums.{length-scale, entry-scale, dot-scale}
-use Rattle.crn_vec.proofs.Null.{dot-scale-right}
-use Rattle.crn_vec.proofs.Orthogonal.{part, orthogonal}
+use Rattle.crn_vec.proofs.CallerLemmas.{no_zero, mul-neg, length-scale, entry-scale, dot-scale, dot-scale-right, part, orthogonal}
 use Rattle.crn_tab.specs.Tableau.{NamesRows}
 use Rattle.crn_tab.proofs.CallerLemmas.{dot_single, isIn_or, one_row, as_row}
 

@@ -8,10 +8,7 @@ use Rattle.crn_vec.specs.Vectors.{Mat, entry, dot}
 use Rattle.crn_vec.specs.Lists.{IsIn}
 use Rattle.crn_vec.specs.Elementary.{InRowSpace}
 use Rattle.crn_vec.specs.Systems.{MayTake, kind_at, is_signed, one_if, signed_count}
-use Rattle.crn_vec.proofs.Entries.{eq_or}
-use Rattle.crn_vec.proofs.Held.{sum_within}
-use Rattle.crn_vec.proofs.Sums.{plus, entry-plus, length-plus, dot-plus, dot-comm}
-use Rattle.crn_vec.proofs.KindLaws.{take_sum, sum_some}
+use Rattle.crn_vec.proofs.CallerLemmas.{eq_or, sum_within, plus, entry-plus, length-plus, dot-plus, dot-comm, take_sum, sum_some}
 use Rattle.crn_farkas.specs.Inner.Sums.{IsWitness, IsPartSum}
 
 count_suc : (kinds : List Kind) (g : ℕ) → g < length kinds → signed_count (take (suc g) kinds) ≡ signed_count (take g kinds) + one_if (is_signed (kind_at kinds g))

@@ -6,7 +6,7 @@ use Rattle.crn_vec.specs.declared.signs.Sign.{Sign}
 use Rattle.crn_vec.specs.Vectors.{Mat, entry, HasSign}
 use Rattle.crn_vec.specs.Lists.{IsIn}
 use Rattle.crn_vec.specs.Elementary.{width, IsNamedRow, IsNamedColumn}
-use Rattle.crn_vec.proofs.Ring.{mul-neg}
+use Rattle.crn_vec.proofs.CallerLemmas.{mul-neg}
 use Rattle.crn_tab.specs.Tableau.{NamesRows}
 use Rattle.crn_tab.proofs.CallerLemmas.{one_row, as_row, sign_carried}
 use Rattle.crn_farkas.proofs.Pairs.{pair, other_some}

@@ -14,12 +14,9 @@ use Rattle.crn_vec.specs.Vectors.{Mat, entry, HasSign, scale}
 use Rattle.crn_vec.specs.Lists.{IsIn}
 use Rattle.crn_vec.specs.Elementary.{width, InDualSpace, IsNamed, IsNamedRow}
 use Rattle.crn_vec.specs.Systems.{HasWeight, IsCut, MayWeigh, kind_at, is_signed}
-use Rattle.crn_vec.proofs.Cuts.{kinds_at, weights_tell_cuts}
-use Rattle.crn_vec.proofs.Entries.{lt_or, past_end, zip_from}
-use Rattle.crn_vec.proofs.Sums.{entry-scale}
+use Rattle.crn_vec.proofs.CallerLemmas.{kinds_at, weights_tell_cuts, lt_or, past_end, zip_from, entry-scale, no_zero}
 use Rattle.crn_tab.specs.Tableau.{NamesRows, RulesBelow}
 use lib.IntN.{zero-*ℤ}
-use Rattle.crn_vec.proofs.Ring.{no_zero}
 use Rattle.crn_tab.proofs.CallerLemmas.{one_row, as_row}
 use Rattle.crn_farkas.specs.Decision.{factor, IsSmallCut}
 use Rattle.crn_farkas.specs.Solver.{CutsBy, AreNamedMultipliers}

@@ -8,10 +8,9 @@ use Rattle.crn_vec.specs.Vectors.{Mat, entry, scale}
 use Rattle.crn_vec.specs.Lists.{IsIn}
 use Rattle.crn_vec.specs.Elementary.{width, IsNamed, IsNamedColumn}
 use Rattle.crn_vec.specs.Systems.{HasKind, is_signed}
-use Rattle.crn_vec.proofs.Sums.{entry-scale}
+use Rattle.crn_vec.proofs.CallerLemmas.{entry-scale, eq_or}
 use Rattle.crn_tab.specs.Tableau.{NamesRows}
 use Rattle.crn_tab.proofs.CallerLemmas.{isIn_or, column_at, as_row}
-use Rattle.crn_vec.proofs.Entries.{eq_or}
 use Rattle.crn_farkas.specs.declared.view.View.{View}
 use Rattle.crn_farkas.specs.declared.view.View.TheVariants.{Row, Column}
 use Rattle.crn_farkas.specs.Inner.Views.{IsView, IsSeen, IsSwapped}

@@ -4,7 +4,7 @@ use Rattle.std.specs.Prelude.{ℤ, pos, negsuc, ◌+ℤ◌, ◌*ℤ◌, neg_ℤ,
 use Rattle.std.proofs.lemmas.Int.{ints}
 use Rattle.crn_vec.specs.declared.signs.Sign.{Sign}
 use Rattle.crn_vec.specs.Vectors.{HasSign}
-use Rattle.crn_vec.proofs.Ring.{assoc}
+use Rattle.crn_vec.proofs.CallerLemmas.{assoc}
 use Rattle.crn_tab.proofs.CallerLemmas.{sign_carried}
 
 pub one-mul : (x : ℤ) → pos 1 *ℤ x ≡ x

@@ -7,9 +7,7 @@ use Rattle.crn_vec.specs.Vectors.{Mat, entry}
 use Rattle.crn_vec.specs.Lists.{IsIn}
 use Rattle.crn_vec.specs.Elementary.{IsNamedRow, IsNamedColumn}
 use Rattle.crn_vec.specs.Systems.{HasKind, MayTake, MayWeigh, kind_at, is_signed}
-use Rattle.crn_vec.proofs.Entries.{eq_or}
-use Rattle.crn_vec.proofs.KindLaws.{Quiet, settled_dual, settled_row, take_zero, weigh_zero, kind_takes, kind_weighs, product_some}
-use Rattle.crn_vec.proofs.Orthogonal.{part, orthogonal}
+use Rattle.crn_vec.proofs.CallerLemmas.{eq_or, Quiet, settled_dual, settled_row, take_zero, weigh_zero, kind_takes, kind_weighs, product_some, part, orthogonal}
 use Rattle.crn_tab.proofs.CallerLemmas.{isIn_or}
 use Rattle.crn_farkas.specs.declared.view.View.{View}
 use Rattle.crn_farkas.specs.declared.view.View.TheVariants.{Row, Column}

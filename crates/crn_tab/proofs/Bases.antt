@@ -9,9 +9,7 @@ use lib.IntN.{*ℤ-zero, zero-*ℤ}
 use Rattle.crn_vec.specs.Vectors.{Mat, entry, AreOfLength}
 use Rattle.crn_vec.specs.Lists.{IsIn}
 use Rattle.crn_vec.specs.Elementary.{width, IsBasis, IsPrimitive, IsNamed}
-use Rattle.crn_vec.proofs.Ring.{no_zero}
-use Rattle.crn_vec.proofs.Entries.{past_end, inside_or, lt_or}
-use Rattle.crn_vec.proofs.Orthogonal.{orthogonal}
+use Rattle.crn_vec.proofs.CallerLemmas.{no_zero, past_end, inside_or, lt_or, orthogonal}
 use Rattle.crn_tab.specs.Slots.{IsContent, slot_entry, spread, basis_of, ArePlaced, IsRowAt}
 use Rattle.crn_tab.proofs.Places.{isIn_or, slot_basic, slot_own, slot_none, length-spread, entry-spread, in_basis, basis_only, basis_ascending}
 use Rattle.crn_tab.proofs.Dots.{dot_single}

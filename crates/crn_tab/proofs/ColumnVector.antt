@@ -10,9 +10,7 @@ use Rattle.crn_frac.proofs.CallerLemmas.{exact}
 use Rattle.crn_vec.specs.Vectors.{Mat, entry, dot}
 use Rattle.crn_vec.specs.Lists.{IsIn}
 use Rattle.crn_vec.specs.Elementary.{width, InRowSpace, IsPrimitive, IsNamed, WideAt}
-use Rattle.crn_vec.proofs.Ring.{left-comm, mul-neg}
-use Rattle.crn_vec.proofs.Entries.{past_end, lt_or, eq_or}
-use Rattle.crn_vec.proofs.Orthogonal.{orthogonal}
+use Rattle.crn_vec.proofs.CallerLemmas.{left-comm, mul-neg, past_end, lt_or, eq_or, orthogonal}
 use Rattle.crn_tab.specs.Tableau.{choose}
 use Rattle.crn_tab.specs.Slots.{spread, basis_of, row_at, IsTableau}
 use Rattle.crn_tab.specs.Inner.Columns.{MakesWhole, IsScale, HasWideScale, column_entry, column_of}

@@ -9,9 +9,7 @@ use lib.IntN.{*ℤ_comm}
 use Rattle.crn_vec.specs.Vectors.{Mat, entry, dot, AreOfLength}
 use Rattle.crn_vec.specs.Lists.{IsIn}
 use Rattle.crn_vec.specs.Elementary.{InRowSpace, InDualSpace, IsBasis, IsPrimitive, IsNamed, IsNamedRow, IsNamedColumn, WideAt, AreProportional, IsElementary, IsWideMatrix}
-use Rattle.crn_vec.proofs.Ring.{no_zero, mul-sub, left-comm}
-use Rattle.crn_vec.proofs.Entries.{past_end, lt_or, eq_or}
-use Rattle.crn_vec.proofs.Sums.{dot-comm}
+use Rattle.crn_vec.proofs.CallerLemmas.{no_zero, mul-sub, left-comm, past_end, lt_or, eq_or, dot-comm}
 use Rattle.crn_tab.specs.Tableau.{AreSmall}
 use Rattle.crn_tab.proofs.Dots.{dot_combined}
 use Rattle.crn_tab.proofs.Signs.{differ, length-differ, entry-differ, times_one, own, is_none, same_sizes, one_row, some_own}

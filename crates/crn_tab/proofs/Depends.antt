@@ -6,7 +6,7 @@ use lib.IntN.{*ℤ_comm, *ℤ-zero}
 use Rattle.crn_vec.specs.Vectors.{Mat, entry}
 use Rattle.crn_vec.specs.Lists.{IsIn}
 use Rattle.crn_vec.specs.Elementary.{width, IsBasis, IsNamed, IsNamedRow, IsNamedColumn}
-use Rattle.crn_vec.proofs.Ring.{no_zero, left-comm, mul-neg}
+use Rattle.crn_vec.proofs.CallerLemmas.{no_zero, left-comm, mul-neg}
 use Rattle.crn_tab.specs.Slots.{spread, basis_of, row_at, IsTableau}
 use Rattle.crn_tab.proofs.Places.{entry-spread, slot_basic}
 use Rattle.crn_tab.proofs.Bases.{rows_make_basis, at_own}

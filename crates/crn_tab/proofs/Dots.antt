@@ -4,8 +4,7 @@ use Rattle.std.specs.Prelude.{ℤ, pos, ◌-ℤ◌, ◌*ℤ◌}
 use Rattle.std.proofs.lemmas.Int.{ints}
 use lib.IntN.{*ℤ_comm, *ℤ-zero, zero-*ℤ}
 use Rattle.crn_vec.specs.Vectors.{entry, dot}
-use Rattle.crn_vec.proofs.Ring.{distrib, distrib-right, assoc, mul-sub}
-use Rattle.crn_vec.proofs.Sums.{dot_zero}
+use Rattle.crn_vec.proofs.CallerLemmas.{distrib, distrib-right, assoc, mul-sub, dot_zero}
 
 step : (p q t z w v c : ℤ) → z *ℤ t ≡ (p *ℤ w) -ℤ (q *ℤ v) → (z *ℤ c) *ℤ t ≡ (p *ℤ (w *ℤ c)) -ℤ (q *ℤ (v *ℤ c))
 step p q t z w v c e =

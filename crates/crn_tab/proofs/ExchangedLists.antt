@@ -3,7 +3,7 @@ use Rattle.std.proofs.Common.{◌≡◌, ◌≢◌, ℕ, ◌<◌, ◌⊎◌, inl
 use Rattle.std.specs.Prelude.{◌↔◌}
 use Rattle.crn_vec.specs.Lists.{IsIn, IsAbove, IsAscending}
 use Rattle.crn_vec.specs.Elementary.{Exchanged}
-use Rattle.crn_vec.proofs.Entries.{eq_or, lt_or}
+use Rattle.crn_vec.proofs.CallerLemmas.{eq_or, lt_or}
 use Rattle.crn_tab.proofs.Ascending.{tail}
 
 -- the members other than b

@@ -6,8 +6,7 @@ use Rattle.std.proofs.Math.ListN.{length-set as length-put}
 use lib.IntN.{*ℤ-zero, zero-*ℤ}
 use Rattle.crn_vec.specs.Vectors.{Mat, entry}
 use Rattle.crn_vec.specs.Elementary.{width}
-use Rattle.crn_vec.proofs.Ring.{pos_pos}
-use Rattle.crn_vec.proofs.Entries.{past_end, lt_or, eq_or}
+use Rattle.crn_vec.proofs.CallerLemmas.{pos_pos, past_end, lt_or, eq_or}
 use Rattle.crn_tab.specs.Inner.Rows.{IsNewRow, put}
 use Rattle.crn_tab.specs.Slots.{slot_entry, spread, ArePlaced, IsRowAt}
 use Rattle.crn_tab.proofs.NewRows.{put_same, put_other}

@@ -4,7 +4,7 @@ use Rattle.std.specs.Prelude.{ℤ, pos, neg_ℤ, slice_index, ◌↔◌}
 use Rattle.crn_vec.specs.Vectors.{Mat, entry, AreOfLength}
 use Rattle.crn_vec.specs.Lists.{IsIn}
 use Rattle.crn_vec.specs.Elementary.{width, IsNamed}
-use Rattle.crn_vec.proofs.Entries.{lt_or, past_end, eq_or}
+use Rattle.crn_vec.proofs.CallerLemmas.{lt_or, past_end, eq_or}
 use Rattle.crn_tab.specs.Inner.Start.{IsIdentity, start_row}
 use Rattle.crn_tab.specs.Tableau.{first_entry, choose}
 use Rattle.crn_tab.specs.Slots.{slot_entry, spread}

@@ -9,8 +9,7 @@ use Rattle.std.proofs.Math.Seq.{take-append_seam}
 use Rattle.crn_vec.specs.declared.limits.TheConstants.{MAX_AMOUNT, MAX_COORDINATES, WIDE_ENTRY}
 use Rattle.crn_vec.specs.Vectors.{Mat, entry, dot, column, AreOfLength, AreWithin}
 use Rattle.crn_vec.specs.Elementary.{width, InDualSpace}
-use Rattle.crn_vec.proofs.RowLists.{within_at}
-use Rattle.crn_vec.proofs.Entries.{past_end, lt_or}
+use Rattle.crn_vec.proofs.CallerLemmas.{within_at, past_end, lt_or}
 use Rattle.crn_tab.specs.Tableau.{AreSmall, choose}
 use Rattle.crn_tab.specs.Slots.{IsContent, slot_entry, spread, basis_from, row_at, ArePlaced, IsRowAt, IsTableau}
 use Rattle.crn_tab.specs.Inner.Start.{IsIdentity, start_row, start_rows}

@@ -5,7 +5,7 @@ use Rattle.std.proofs.lemmas.List.{get_or-take, get_or-drop, length-take, length
 use Rattle.std.proofs.Math.Seq.{take-append_seam}
 use Rattle.std.proofs.Math.Nat.{suc-mul, mul-le-mul_right}
 use Rattle.crn_vec.specs.Vectors.{entry}
-use Rattle.crn_vec.proofs.Entries.{lt_or}
+use Rattle.crn_vec.proofs.CallerLemmas.{lt_or}
 use Rattle.crn_tab.specs.Slots.{row_at}
 use Rattle.crn_tab.proofs.Rows.{same_rows}
 

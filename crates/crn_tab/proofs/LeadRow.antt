@@ -7,7 +7,7 @@ use Rattle.std.proofs.Math.Nat.{one-dvd}
 use lib.IntN.{*ℤ-zero, zero-*ℤ}
 use Rattle.crn_vec.specs.Vectors.{Mat, entry}
 use Rattle.crn_vec.specs.Elementary.{width}
-use Rattle.crn_vec.proofs.Entries.{past_end, lt_or, eq_or}
+use Rattle.crn_vec.proofs.CallerLemmas.{past_end, lt_or, eq_or}
 use Rattle.crn_tab.specs.Slots.{IsContent, slot_entry, spread, ArePlaced, IsRowAt}
 use Rattle.crn_tab.specs.Tableau.{AreSmall}
 use Rattle.crn_tab.specs.Inner.Rows.{IsLead}

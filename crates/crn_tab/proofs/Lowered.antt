@@ -7,7 +7,7 @@ use Rattle.std.proofs.lemmas.Nat.Gcd.{IsGcd-swap}
 use Rattle.std.proofs.Math.Nat.{one-dvd, one-mul, mul-dvd-mul_right, dvd_of_mul-dvd-mul_right}
 use Rattle.std.proofs.Math.IntN.{negsuc-*ℤ-pos}
 use lib.IntN.{zero-*ℤ}
-use Rattle.crn_vec.proofs.Ring.{left-comm}
+use Rattle.crn_vec.proofs.CallerLemmas.{left-comm}
 use Rattle.crn_vec.specs.Vectors.{entry}
 use Rattle.crn_tab.specs.Inner.Rows.{put, IsCombined, IsNewRow}
 use Rattle.crn_tab.specs.Slots.{IsContent}

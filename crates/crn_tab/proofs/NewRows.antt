@@ -4,7 +4,7 @@ use Rattle.std.specs.Prelude.{ℤ, pos, ◌-ℤ◌, ◌*ℤ◌, ◌≤ℤ◌, �
 use Rattle.std.proofs.lemmas.Int.{ints}
 use Rattle.std.proofs.Math.ListN.{length-set}
 use lib.IntN.{*ℤ-zero, zero-*ℤ}
-use Rattle.crn_vec.proofs.Ring.{pos_pos}
+use Rattle.crn_vec.proofs.CallerLemmas.{pos_pos}
 use Rattle.crn_vec.specs.Vectors.{entry}
 use Rattle.crn_tab.specs.Inner.Rows.{put, IsNewRow}
 use Rattle.crn_tab.specs.Slots.{IsContent}

@@ -5,7 +5,7 @@ use Rattle.std.proofs.lemmas.Int.{ints, unsigned_abs-mul}
 use lib.IntN.{*ℤ_comm}
 use Rattle.crn_vec.specs.Vectors.{Mat, entry, AreOfLength}
 use Rattle.crn_vec.specs.Elementary.{IsPrimitive, IsNamed}
-use Rattle.crn_vec.proofs.Ring.{mul-neg}
+use Rattle.crn_vec.proofs.CallerLemmas.{mul-neg}
 use Rattle.crn_tab.proofs.Signs.{same_sizes, one_row, some_own}
 use Rattle.crn_tab.proofs.Columns.{cancel_left, one_column, some_own_column, not_zero}
 

@@ -8,7 +8,7 @@ use Rattle.crn_vec.specs.declared.signs.Sign.TheVariants.{Zero, Plus, Minus}
 use Rattle.crn_vec.specs.Vectors.{Mat, entry, HasSign}
 use Rattle.crn_vec.specs.Lists.{IsIn}
 use Rattle.crn_vec.specs.Elementary.{width, IsNamed, IsNamedRow}
-use Rattle.crn_vec.proofs.Ring.{no_zero}
+use Rattle.crn_vec.proofs.CallerLemmas.{no_zero}
 use Rattle.crn_tab.specs.Tableau.{NamesRows}
 use Rattle.crn_tab.specs.Slots.{slot_entry, spread, basis_of, row_at, IsTableau}
 use Rattle.crn_tab.proofs.Places.{entry-spread, slot_own}

@@ -5,7 +5,7 @@ use Rattle.std.proofs.lemmas.Bool.Decides.{nat_tests}
 use Rattle.std.proofs.lemmas.List.{append-nil}
 use Rattle.crn_vec.specs.Vectors.{entry}
 use Rattle.crn_vec.specs.Lists.{IsIn, IsAbove, IsAscending}
-use Rattle.crn_vec.proofs.Entries.{eq_or}
+use Rattle.crn_vec.proofs.CallerLemmas.{eq_or}
 use Rattle.crn_tab.specs.Tableau.{choose}
 use Rattle.crn_tab.specs.Slots.{slot_entry, spread, basis_from, basis_of}
 

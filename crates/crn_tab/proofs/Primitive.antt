@@ -5,7 +5,7 @@ use Rattle.std.specs.Int.{◌∣◌}
 use Rattle.std.proofs.lemmas.Int.{ints, unsigned_abs-mul}
 use Rattle.std.proofs.Math.Nat.{one-dvd, one-mul, mul-dvd-mul_right, dvd_of_mul-dvd-mul_right, pos_of_dvd_of_pos}
 use lib.IntN.{*ℤ-zero, zero-*ℤ}
-use Rattle.crn_vec.proofs.Entries.{past_end, inside_or}
+use Rattle.crn_vec.proofs.CallerLemmas.{past_end, inside_or}
 use Rattle.crn_vec.specs.Vectors.{entry}
 use Rattle.crn_tab.specs.Slots.{IsContent}
 use Rattle.crn_tab.specs.Inner.Rows.{IsCombined}

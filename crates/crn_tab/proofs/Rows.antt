@@ -4,7 +4,7 @@ use Rattle.std.specs.Prelude.{ℤ, pos, unsigned_abs}
 use Rattle.std.proofs.lemmas.List.{ext_get_or}
 use Rattle.crn_vec.specs.declared.limits.TheConstants.{WIDE_ENTRY}
 use Rattle.crn_vec.specs.Vectors.{AreOfLength, entry}
-use Rattle.crn_vec.proofs.Entries.{past_end, inside_or}
+use Rattle.crn_vec.proofs.CallerLemmas.{past_end, inside_or}
 use Rattle.crn_tab.specs.Tableau.{AreSmall}
 
 pub same_rows : (v w : List ℤ) → length v ≡ length w → ((k : ℕ) → k < length v → entry v k ≡ entry w k) → v ≡ w

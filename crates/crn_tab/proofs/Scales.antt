@@ -7,7 +7,7 @@ use Rattle.std.proofs.lemmas.Nat.Gcd.{dvd_trans}
 use Rattle.crn_frac.specs.Multiple.{IsLcm}
 use Rattle.crn_frac.proofs.CallerLemmas.{common, lcm_is}
 use Rattle.crn_vec.specs.Vectors.{entry}
-use Rattle.crn_vec.proofs.Entries.{eq_or}
+use Rattle.crn_vec.proofs.CallerLemmas.{eq_or}
 use Rattle.crn_tab.specs.Slots.{row_at}
 use Rattle.crn_tab.specs.Inner.Columns.{IsScale}
 use Rattle.crn_tab.proofs.Signs.{gcd_by}

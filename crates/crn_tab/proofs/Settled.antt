@@ -7,7 +7,7 @@ use Rattle.std.proofs.lemmas.Nat.Gcd.{dvd-zero, dvd_trans}
 use Rattle.std.proofs.Math.Nat.{dvd-add, dvd-sub, dvd-mul_right, dvd-mul_left_of_dvd, div-mul_cancel, pos_of_dvd_of_pos, eq-one_of_dvd-one}
 use lib.IntN.{*ℤ-zero}
 use Rattle.crn_frac.proofs.CallerLemmas.{common}
-use Rattle.crn_vec.proofs.Entries.{eq_or}
+use Rattle.crn_vec.proofs.CallerLemmas.{eq_or}
 use Rattle.crn_vec.specs.Vectors.{entry}
 use Rattle.crn_tab.specs.Slots.{IsContent}
 use Rattle.crn_tab.proofs.Signs.{gcd_by}

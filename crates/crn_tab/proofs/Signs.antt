@@ -10,7 +10,7 @@ use Rattle.crn_frac.proofs.CallerLemmas.{common}
 use Rattle.crn_vec.specs.Vectors.{Mat, entry, AreOfLength}
 use Rattle.crn_vec.specs.Lists.{IsIn}
 use Rattle.crn_vec.specs.Elementary.{width, InDualSpace, IsBasis, IsPrimitive, IsNamed, IsNamedRow, WideAt}
-use Rattle.crn_vec.proofs.Entries.{lt_or, eq_or}
+use Rattle.crn_vec.proofs.CallerLemmas.{lt_or, eq_or}
 use Rattle.crn_tab.specs.Tableau.{AreSmall}
 use Rattle.crn_tab.specs.Slots.{basis_of, row_at, spread, IsTableau}
 use Rattle.crn_tab.proofs.Spaces.{dual_combined}

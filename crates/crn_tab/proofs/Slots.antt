@@ -3,7 +3,7 @@ use Rattle.std.proofs.Common.{◌≡◌, ◌≢◌, ℕ, zero, suc, ◌+◌, ◌
 use Rattle.std.specs.Prelude.{slice_index}
 use Rattle.std.proofs.Math.ListN.{length-set}
 use Rattle.crn_vec.specs.Elementary.{Exchanged}
-use Rattle.crn_vec.proofs.Entries.{eq_or}
+use Rattle.crn_vec.proofs.CallerLemmas.{eq_or}
 use Rattle.crn_tab.specs.Tableau.{choose}
 use Rattle.crn_tab.specs.Slots.{basis_from, basis_of, ArePlaced}
 use Rattle.crn_tab.proofs.Places.{lt_true, lt_false, in_basis, basis_only, basis_ascending}

@@ -6,7 +6,7 @@ use Rattle.std.proofs.lemmas.List.{get_or-drop, length-drop}
 use lib.IntN.{*ℤ_comm}
 use Rattle.crn_vec.specs.Vectors.{Mat, entry, dot, column}
 use Rattle.crn_vec.specs.Elementary.{InDualSpace}
-use Rattle.crn_vec.proofs.Ring.{distrib, mul-neg, no_zero}
+use Rattle.crn_vec.proofs.CallerLemmas.{distrib, mul-neg, no_zero}
 use Rattle.crn_tab.proofs.Dots.{dot_combined}
 
 opposite : (p q t z w v dz dw dv : ℤ) → t ≢ pos 0 → z *ℤ t ≡ (p *ℤ w) -ℤ (q *ℤ v) → dz *ℤ t ≡ (p *ℤ dw) -ℤ (q *ℤ dv) → w ≡ neg_ℤ dw → v ≡ neg_ℤ dv → z ≡ neg_ℤ dz

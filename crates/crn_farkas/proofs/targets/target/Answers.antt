@@ -4,7 +4,7 @@ use Rattle.crn_vec.specs.declared.limits.TheConstants.{WIDE_ENTRY}
 use Rattle.crn_vec.specs.declared.signs.Kind.TheVariants.{Pos, Free}
 use Rattle.crn_vec.specs.Vectors.{Mat, scale, entry}
 use Rattle.crn_vec.specs.Systems.{is_signed, kind_at}
-use Rattle.crn_vec.proofs.Sums.{entry-scale, length-scale}
+use Rattle.crn_vec.proofs.CallerLemmas.{entry-scale, length-scale}
 use Rattle.crn_vec.specs.Elementary.{width}
 use Rattle.std.specs.Prelude.{◌+ℤ◌}
 use Rattle.crn_farkas.proofs.Ruling.{unscaled_small}

@@ -4,7 +4,7 @@ use Rattle.std.specs.Int.{w64}
 use Rattle.std.proofs.lemmas.Int.{to_z-of_z}
 use Rattle.crn_vec.specs.declared.limits.TheConstants.{MAX_AMOUNT}
 use Rattle.crn_vec.specs.Vectors.{entry}
-use Rattle.crn_vec.proofs.RowLists.{within_at}
+use Rattle.crn_vec.proofs.CallerLemmas.{within_at}
 use Rattle.crn_tab.proofs.FirstRows.{negatives_step}
 use Rattle.crn_tab.proofs.start.push_row.Goals as goal
 
