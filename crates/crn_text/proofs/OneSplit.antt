@@ -42,11 +42,11 @@ no_longer t h = elim (cases_Bool (starts_with nat_eq t (codes "<->"))) [
 -- ---- the token with which a text begins
 
 -- a token of a text, with no longer one of its kind
-record Found (t : List ℕ) : Type 0 where
-  kind : TokenKind
-  width : ℕ
-  begins : Begins t kind width
-  is : IsToken kind (take width t) (drop width t)
+pub record Found (t : List ℕ) : Type 0 where
+  pub kind : TokenKind
+  pub width : ℕ
+  pub begins : Begins t kind width
+  pub is : IsToken kind (take width t) (drop width t)
 
 some_taken : (t : List ℕ) (width : ℕ) → 1 ≤ width → width ≤ length t → 1 ≤ length (take width t)
 some_taken t width some inside = omega (arith, length-take width t, some, inside)
@@ -80,7 +80,7 @@ stray_found b bs blank d l p s t u = record {
   is = (refl, record { one = rw (blank, l, d, p) refl; right = s; left = u });
 }
 
-found : (b : ℕ) (bs : List ℕ) → is_blank b ≡ false → Found (b ∷ bs)
+pub found : (b : ℕ) (bs : List ℕ) → is_blank b ≡ false → Found (b ∷ bs)
 found b bs blank =
     let t = b ∷ bs in
     let some : 0 < length (b ∷ bs) = omega arith in

@@ -178,7 +178,7 @@ begins_digits (x ∷ bs) kind width b number =
 
 -- ---- the first token of a text
 
-tokens_skip : (text : List ℕ) → tokens text ≡ tokens (drop (prefix_len is_blank text) text)
+pub tokens_skip : (text : List ℕ) → tokens text ≡ tokens (drop (prefix_len is_blank text) text)
 unfolding tokens_after
 tokens_skip [] = refl
 tokens_skip (b ∷ text) =
@@ -187,7 +187,7 @@ tokens_skip (b ∷ text) =
       | inr miss ↦ rw (miss, miss) refl
     ]
 
-no_blank_there : (text : List ℕ) → is_blank (get_or (drop (prefix_len is_blank text) text) 0 0) ≡ false
+pub no_blank_there : (text : List ℕ) → is_blank (get_or (drop (prefix_len is_blank text) text) 0 0) ≡ false
 no_blank_there [] = refl
 no_blank_there (b ∷ text) =
     elim (cases_Bool (is_blank b)) [
