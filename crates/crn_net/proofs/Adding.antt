@@ -24,7 +24,7 @@ use Rattle.crn_net.proofs.Building.{amounts_say}
 use Rattle.crn_net.proofs.Growth.{Ready, complexes_are, reactions_are, left_over_limit, right_over_limit}
 use Rattle.crn_net.proofs.Species.{IsSaid, Step, wider_names, new_partial, new_rows}
 
--- ---- what terms of a text say
+-- ---- the names and amounts of terms
 
 count_said : (text : List ℕ) (terms : List Term) (t : Term) → IsIn t terms → t.count ≤ amount_in (side_of text terms) (name_at text t)
 count_said text [] t i = absurd i

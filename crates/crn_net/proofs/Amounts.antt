@@ -1,15 +1,14 @@
--- What the sides of a statement say of names.
-use Rattle.std.proofs.Common.{◌≡◌, ◌⊎◌, ℕ, ◌<◌, ◌≤◌, ◌+◌, true, false, cond, List, [], ◌∷◌, length, get_or, take, map, refl, sym, inl, inr, arith}
+-- The amounts of the names of a side.
+use Rattle.std.proofs.Common.{◌≡◌, ℕ, ◌<◌, ◌≤◌, ◌+◌, true, false, cond, List, [], ◌∷◌, length, get_or, take, map, refl, inl, inr, arith}
 use Rattle.std.specs.List.{sum_by}
 use Rattle.std.specs.Str.{bytes_eq}
 use Rattle.std.proofs.lemmas.Bool.{cases_Bool}
-use Rattle.std.proofs.lemmas.List.Sums.{sum_by-cons, sum_by-le-sum_by}
+use Rattle.std.proofs.lemmas.List.Sums.{sum_by-le-sum_by}
 use Rattle.crn_vec.specs.Lists.{IsIn}
 use Rattle.crn_vec.specs.Network.{amount_in}
 use Rattle.crn_vec.specs.declared.limits.TheConstants.{MAX_AMOUNT}
 use Rattle.crn_net.specs.declared.term.Term.{Term}
 use Rattle.crn_net.specs.Terms.{name_at, side_of}
-use Rattle.crn_vec.proofs.CallerLemmas.{any_is, name_decides}
 use Rattle.crn_net.proofs.Members.{amount_is, amount_more}
 
 -- ---- loops over the terms of a side
@@ -35,7 +34,7 @@ of_name text [] name h = absurd h
 of_name text (t ∷ terms) name (inl e) = (t, inl refl, e)
 of_name text (t ∷ terms) name (inr i) = let r = of_name text terms name i in (r.0, inr r.1, r.2)
 
--- terms whose numbers add up to no more than the limit say no more of a name
+-- terms whose numbers add up to at most the limit have at most the limit of a name
 pub amounts_most : (text : List ℕ) (terms : List Term) → sum_by (λ t. t.count) terms ≤ MAX_AMOUNT → (name : List ℕ) → amount_in (side_of text terms) name ≤ MAX_AMOUNT
 amounts_most text terms h name =
     let f : Term → ℕ = λ t. cond (bytes_eq (name_at text t) name) t.count 0 in

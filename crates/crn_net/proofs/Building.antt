@@ -10,7 +10,7 @@ use Rattle.crn_vec.specs.declared.limits.TheConstants.{MAX_SPECIES}
 use Rattle.crn_net.specs.declared.fault.NetFault.{NetFault}
 use Rattle.crn_net.specs.declared.fault.NetFault.TheVariants.{SelfReaction, TooManySpecies, TooManyComplexes, TooManyReactions, NoReaction, NoMemory}
 use Rattle.crn_net.specs.Inner.Steps.{SaysSame, Puts, NotesSide, AreNoted, NotesBoth, TellsApart, NotesSides, NotesRow, NotesReaction, PutsBoth, LeftIsOver, RightIsOver, BuildGives}
-use Rattle.crn_vec.proofs.CallerLemmas.{in_left, in_right, in_at, map_same, firsts_distinct, firsts_has, any_is, name_decides, none_said, amounts_same}
+use Rattle.crn_vec.proofs.CallerLemmas.{in_left, in_right, in_at, firsts_distinct, firsts_has, any_is, name_decides, none_said, amounts_same}
 use Rattle.crn_net.proofs.Names.{names_both, left_over}
 use Rattle.crn_net.proofs.Rows.{row_ext}
 use Rattle.crn_net.proofs.Counting.{counted_is, is_counted, counted_wider}

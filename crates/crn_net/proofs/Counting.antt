@@ -20,7 +20,7 @@ use Rattle.crn_net.proofs.Members.{amount_part}
 use Rattle.crn_net.proofs.Names.{no_more, names_known, names_new, names_over, names_of_side, kept_push, kept_all}
 use Rattle.crn_net.proofs.Rows.{zeros_at}
 
--- place by place: the row holds what the side says of the names, and then 0
+-- place by place: the row holds the amounts of the names on the side, and then 0
 pub record IsCounted (names : List (List ℕ)) (side : List (List ℕ × ℕ)) (row : List ℤ) : Type 0 where
   pub long : length row ≡ MAX_SPECIES
   pub amounts : (k : ℕ) → k < length names → get_or row k (pos 0) ≡ pos (amount_in side (get_or names k []))
@@ -98,7 +98,7 @@ counted_more names text side i place d row v lt apart few at is h value =
 
 -- ---- the loop over the terms of a side
 
--- the names that came in with the terms so far, and what these terms say of them
+-- the names that the terms so far added, and their amounts
 pub record IsNoting (old : List (List ℕ)) (text : List ℕ) (side : List Term) (i : ℕ) (names : List (List ℕ)) (row : List ℤ) : Type 0 where
   pub distinct : AreDistinct names
   pub few : length names ≤ MAX_SPECIES

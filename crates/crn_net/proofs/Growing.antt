@@ -77,7 +77,7 @@ few_placed old x p limit le full = few_put p.puts
 
 -- ---- one more statement
 
--- a statement that is no self reaction, and with which the limits hold
+-- a statement that is not a self reaction, and with which the limits hold
 record IsAllowed (old : Net) (s : Statement) : Type 0 where
   apart : IsSelf old s → ⊥
   species : length (names_with old s) ≤ MAX_SPECIES

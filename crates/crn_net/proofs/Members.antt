@@ -1,16 +1,15 @@
--- What a side says of a name, term by term, and whether a table has a member.
-use Rattle.std.proofs.Common.{◌≡◌, ◌⊎◌, ℕ, ◌<◌, ◌≤◌, ◌+◌, Bool, true, false, cond, ◌&&◌, ◌==◌, List, [], ◌∷◌, ◌++◌, length, get_or, take, refl, sym, ap, ◌∙◌, inl, inr, arith, Some, None, nat_lt}
+-- The amount of a name on a side, term by term, and whether a table has a member.
+use Rattle.std.proofs.Common.{◌≡◌, ℕ, ◌<◌, ◌≤◌, ◌+◌, true, cond, List, [], ◌∷◌, ◌++◌, length, get_or, take, refl, sym, ap, ◌∙◌, inl, inr, arith, Some, None, nat_lt}
 use Rattle.crn_vec.proofs.CallerLemmas.{any_is}
 use Rattle.std.specs.Prelude.{ℤ}
-use Rattle.std.specs.List.{list_any, position, position_or_len, sum_by}
+use Rattle.std.specs.List.{position, position_or_len, sum_by}
 use Rattle.std.specs.Bool.{Decides}
 use Rattle.std.specs.Str.{bytes_eq}
 use Rattle.std.specs.Ordering.{int_eq}
 use Rattle.std.specs.Cmp.Lexicographic.{pointwise}
 use Rattle.std.specs.Cmp.Rules.{signed_items}
 use Rattle.std.proofs.lemmas.Bool.{cases_Bool}
-use Rattle.std.proofs.lemmas.Bool.Decides.{Decides-eqb, Decides-ltb}
-use Rattle.std.proofs.lemmas.Slice.Eq.{bytes_eq-Decides}
+use Rattle.std.proofs.lemmas.Bool.Decides.{Decides-ltb}
 use Rattle.std.proofs.lemmas.List.Sums.{sum_by-cons, sum_by_more, sum_by-take-le}
 use Rattle.std.proofs.lemmas.List.Quantifiers.{position-Some}
 use Rattle.indexmap.specs.IndexSet.{insert_key}
@@ -51,7 +50,7 @@ row_put old new row keys free = elim (any_is (pointwise int_eq row) row (row_sou
 
 -- ---- amounts
 
--- what one term says of a name
+-- the amount of a name in one term
 abbrev said : List ℕ → List ℕ → Term → ℕ
 said text name t = cond (bytes_eq (name_at text t) name) t.count 0
 
@@ -67,6 +66,6 @@ pub amount_more : (text name : List ℕ) (side : List Term) (i : ℕ) (d : Term)
 amount_more text name side i d lt =
     amount_is text name (take (i + 1) side) ∙ sum_by_more (said text name) side i d lt ∙ ap (λ (n : ℕ). n + said text name (get_or side i d)) (sym (amount_is text name (take i side)))
 
--- the terms up to one say no more than all
+-- the terms up to one have at most as much as all terms
 pub amount_part : (text name : List ℕ) (side : List Term) (i : ℕ) → amount_in (side_of text (take i side)) name ≤ amount_in (side_of text side) name
 amount_part text name side i = let a = amount_is text name (take i side) in let b = amount_is text name side in let le = sum_by-take-le (said text name) side i in omega (arith, a, b, le)

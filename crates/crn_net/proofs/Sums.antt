@@ -77,7 +77,7 @@ sum_of_sides text left right name =
     let r = right_added text name (sum_in text (map (share_of (pos 1)) left) name) right in
     omega (arith, ints, both, l, r)
 
--- the sum of a name is what the left side says of it, less what the right side says
+-- the sum of a name is its amount on the left side minus that on the right side
 pub sum_is : (text : List ℕ) (left right : List Term) (shares : List Share) (name : List ℕ) → IsPermutation (shares_of left right) shares
     → sum_in text shares name ≡ pos (amount_in (side_of text left) name) -ℤ pos (amount_in (side_of text right) name)
 sum_is text left right shares name h = sum_in_any_order text (shares_of left right) shares name h ∙ sum_of_sides text left right name
@@ -245,7 +245,7 @@ total_most (t ∷ side) h = let cons = sum_by-cons (λ (u : Term). u.count) t si
 pub total_fits : (side : List Term) → AllByRecursion (λ t. t.count ≤ MAX_AMOUNT) side → length side ≤ MAX_TERMS → sum_by (λ t. t.count) side < 2 ^ 32
 total_fits side h few = let most = total_most side h in omega (arith, most, few)
 
--- ---- what a test of two names says
+-- ---- a test of two names
 
 pub names_differ : (x y : List ℕ) (test : Bool) → test ≡ not (bytes_eq x y) → test ≡ true → x ≡ y → ⊥
 names_differ x y test is yes' e = let same = (bytes_eq-Decides x y).1 e in absurd (let h : not (bytes_eq x y) ≡ true = sym is ∙ yes' in let no' = rw same at h in cc)

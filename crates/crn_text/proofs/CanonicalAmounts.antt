@@ -1,4 +1,4 @@
--- What a canonical side says of each name, and how long it is.
+-- The amounts of the names of a canonical side, and its length.
 use Rattle.std.proofs.Common.{◌≡◌, ℕ, zero, suc, ◌+◌, ◌*◌, ◌≤◌, false, cond, List, [], ◌∷◌, ◌++◌, length, map, refl, sym, ap, ap₂, subst, ◌∙◌, inl, inr, arith}
 use Rattle.std.specs.Prelude.{ℤ, pos, negsuc, codes, decimal}
 use Rattle.std.specs.List.{AllByRecursion}
@@ -17,7 +17,7 @@ use Rattle.crn_text.specs.Canonical.{term, terms, or_zero, side}
 use Rattle.crn_text.proofs.CanonicalTokens.{IsGood, term_text, tail_text, side_text}
 use Rattle.crn_text.proofs.CanonicalNames.{held}
 
--- ---- what a side says of each name
+-- ---- the amount of each name on a side
 
 terms_held : (names : List (List ℕ)) (v : List ℤ) → terms names v ≡ map term_text (held names v)
 terms_held [] v = refl
@@ -38,7 +38,7 @@ in_held (x ∷ names) (negsuc n ∷ v) name i = inr (in_held names v name i)
 in_held (x ∷ names) (pos (suc n) ∷ v) name (inl e) = inl e
 in_held (x ∷ names) (pos (suc n) ∷ v) name (inr i) = inr (in_held names v name i)
 
--- how much the first term of a side says of its name, and of another
+-- the amounts of the first term's name, and of another name
 amount_here : (name : List ℕ) (n : ℕ) (ts : List (List ℕ × ℕ)) → (IsIn name (map (λ t. t.0) ts) → ⊥) → amount_in ((name, n) ∷ ts) name ≡ n
 amount_here name n ts none =
     let cons = sum_by-cons (λ t. cond (bytes_eq t.0 name) t.1 0) (name, n) ts in

@@ -24,7 +24,7 @@ held (name ∷ names) (a ∷ v) = held names v
 held (name ∷ names) [] = []
 held [] v = []
 
--- the numbers of those species, where the first is number s
+-- the numbers of those species, if the first is number s
 abbrev held_from : ℕ → List ℤ → List ℕ
 held_from s (pos (suc n) ∷ v) = s ∷ held_from (suc s) v
 held_from s (a ∷ v) = held_from (suc s) v
@@ -51,7 +51,7 @@ held_below [] j h = absurd (omega (arith, ints))
 held_below (a ∷ v) zero h = omega arith
 held_below (a ∷ v) (suc j) h = let p = held_below v j h in omega (arith, p)
 
--- the names behind one more
+-- the names after one more
 names_behind : (front : List (List ℕ)) (x : List ℕ) (names : List (List ℕ)) (v : List ℤ) → length v ≡ length names → map (λ t. t.0) (held names v) ≡ map (λ s. get_or ((front ++ x ∷ []) ++ names) s []) (held_from (length (front ++ x ∷ [])) v)
     → map (λ t. t.0) (held names v) ≡ map (λ s. get_or (front ++ x ∷ names) s []) (held_from (suc (length front)) v)
 names_behind front x names v e h = h ∙ ap₂ (λ (t : List (List ℕ)) (n : ℕ). map (λ s. get_or t s []) (held_from n v)) (append_assoc front (x ∷ []) names) (length_push front x ∙ add-one (length front))

@@ -1,4 +1,4 @@
--- A canonical side says its terms, and is sound.
+-- A canonical side has its own terms, and is sound.
 use Rattle.std.proofs.Common.{◌≡◌, ℕ, zero, suc, ◌≤◌, true, false, List, [], ◌∷◌, ◌++◌, map, refl, sym, ap, ap₂, subst, ◌∙◌, arith}
 use Rattle.std.specs.Prelude.{codes}
 use Rattle.std.specs.List.{AllByRecursion, list_all, list_any}
@@ -23,7 +23,7 @@ places_of : (t : List ℕ × ℕ) (ts : List (List ℕ × ℕ)) → places (term
 places_of t [] = ap places (append-nil (term_tokens t)) ∙ split_last is_plus (term_tokens t) (no_plus t.0 t.1)
 places_of t (u ∷ ts) = split_at is_plus (term_tokens t) (token Plus (codes "+")) (term_tokens u ++ tail_tokens ts) (no_plus t.0 t.1) refl ∙ ap (λ (p : List (List Token)). term_tokens t ∷ p) (places_of u ts)
 
--- the tokens of a good term are a term, and say it
+-- the tokens of a good term are that term
 record Says (ws : List Token) (name : List ℕ) (n : ℕ) : Type 0 where
   term : is_term ws ≡ true
   says : term_of ws ≡ (name, n)

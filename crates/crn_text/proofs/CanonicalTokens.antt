@@ -16,11 +16,12 @@ use Rattle.crn_text.specs.Canonical.{term, or_zero}
 use Rattle.crn_text.specs.Inner.Pieces.{Begins}
 use Rattle.crn_text.specs.declared.token.TokenKind.{TokenKind}
 use Rattle.crn_text.specs.declared.token.TokenKind.TheVariants.{Number, Name, Plus, Arrow}
+use Rattle.crn_text.proofs.Apart.{no_digit}
 use Rattle.crn_text.proofs.Lists.{one_more}
 use Rattle.crn_text.proofs.Numbers.{digit_is_value, value_push}
 use Rattle.crn_text.proofs.Tokens.{begins_number, begins_with_name, tokens_first}
 
--- ---- a token and what stands behind it
+-- ---- a token and the text after it
 
 -- the list is empty, or its first element fails the test
 abbrev pub stops : {X : Type 0} → (X → Bool) → List X → Bool
@@ -111,7 +112,7 @@ pub record IsGood (t : List ℕ × ℕ) : Type 0 where
 abbrev pub term_text : List ℕ × ℕ → List ℕ
 term_text t = term (pos t.1) t.0
 
--- the number before a name, where it is 2 or more
+-- the number before a name, if it is 2 or more
 abbrev pub number_tokens : ℕ → List Token
 number_tokens (suc zero) = []
 number_tokens n = token Number (decimal n) ∷ []
@@ -162,12 +163,9 @@ abbrev pub side_tokens : List (List ℕ × ℕ) → List Token
 side_tokens [] = token Number (codes "0") ∷ []
 side_tokens (t ∷ ts) = term_tokens t ++ tail_tokens ts
 
-digit_in_name : (b : ℕ) → is_name_byte b ≡ false → is_digit b ≡ false
-digit_in_name b h = grind (arith, nat_tests)
-
 stops_digit : (rest : List ℕ) → stops is_name_byte rest ≡ true → stops is_digit rest ≡ true
 stops_digit [] h = refl
-stops_digit (b ∷ rest) h = rw (digit_in_name b (not-true (is_name_byte b) h)) refl
+stops_digit (b ∷ rest) h = rw (no_digit b (not-true (is_name_byte b) h)) refl
 
 tokens_side : (ts : List (List ℕ × ℕ)) (rest : List ℕ) → AllByRecursion IsGood ts → stops is_name_byte rest ≡ true → tokens (side_text ts ++ rest) ≡ side_tokens ts ++ tokens rest
 tokens_side [] rest g stop = tokens_number (codes "0") rest refl (omega arith) (stops_digit rest stop)

@@ -1,4 +1,4 @@
--- The complexes of the reactions that statements say.
+-- The complexes of the reactions of statements.
 use Rattle.std.proofs.Common.{◌≡◌, ℕ, zero, suc, ◌-◌, ◌<◌, ◌≤◌, Bool, true, false, List, [], ◌∷◌, ◌++◌, length, map, get_or, refl, sym, ap, ap₂, subst, ◌∙◌, append_assoc, inl, inr, eqb, leb, arith}
 use Rattle.std.specs.Prelude.{ℤ, not, filter}
 use Rattle.std.specs.List.{AllByRecursion, flat_map}

@@ -1,9 +1,8 @@
 -- Numbers each of which is after the smaller ones.
-use Rattle.std.proofs.Common.{◌≡◌, ◌⊎◌, ℕ, zero, suc, ◌+◌, ◌<◌, ◌≤◌, List, [], ◌∷◌, ◌++◌, refl, subst, inl, inr, arith}
-use Rattle.std.specs.List.{flat_map}
+use Rattle.std.proofs.Common.{◌≡◌, ◌⊎◌, ℕ, zero, suc, ◌+◌, ◌<◌, ◌≤◌, List, [], ◌∷◌, ◌++◌, inl, inr, arith}
 use Rattle.std.proofs.lemmas.Bool.{cases_lt}
 use Rattle.crn_vec.specs.Lists.{IsIn}
-use Rattle.crn_vec.proofs.CallerLemmas.{IsNumberedInOrder, in_left, in_right, in_cases}
+use Rattle.crn_vec.proofs.CallerLemmas.{IsNumberedInOrder}
 use Rattle.crn_text.proofs.Complexes.{upto}
 
 -- ---- each number after the smaller ones

@@ -113,7 +113,7 @@ terms_more {body} {side} {end} {terms} {left} {rest} {place} {behind} t new befo
     } in
     rw push more
 
--- ---- what a fault says of a place and of the sums
+-- ---- faults of a place and of the sums
 
 next_holds : {body side : List ℕ} {end : ℕ} {terms : List Term} {rest : Bor (List ℕ)} {place : List ℕ} {behind : Option (Bor (List ℕ))} → TermsUpTo body side end terms (Some rest) → SplitsAt 43 rest.now place behind → is_zero (tokens side) ≡ false → Passes (tokens side) → HoldsTerm (tokens place)
 next_holds {side = side} {place = place} {behind = behind} h split not_zero p = place_passes (tokens side) h.read (places_behind behind) (tokens place) not_zero p (place_split h split)

@@ -142,7 +142,7 @@ begins_named (x ∷ bs) kind width b name =
       ]
     ]
 
--- a token that begins with another byte than a digit is no number
+-- a token that begins with another byte than a digit is not a number
 other_number : (x : ℕ) (bs : List ℕ) → is_digit x ≡ false → is_number_kind (first_token (x ∷ bs)).kind ≡ true → ⊥
 unfolding first_token
 other_number x bs d is =

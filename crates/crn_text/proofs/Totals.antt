@@ -1,4 +1,4 @@
--- The sums of a side: how much of each name it says.
+-- The sums of a side: the amount of each name.
 use Rattle.std.proofs.Common.{◌≡◌, ℕ, ◌≤◌, false, List, [], ◌∷◌, ◌++◌, refl, ap, inl, inr, arith}
 use Rattle.std.specs.Prelude.{◌⊎◌, ◌||◌, if◌then◌else◌, nat_lt}
 use Rattle.std.specs.List.{list_any}
@@ -10,7 +10,7 @@ use Rattle.crn_vec.specs.Network.{amount_in}
 use Rattle.crn_vec.specs.declared.limits.TheConstants.{MAX_AMOUNT}
 use Rattle.crn_text.specs.Faults.{has_large}
 
--- what a term says of a name
+-- the amount of a name in a term
 abbrev share : List ℕ → List ℕ × ℕ → ℕ
 share name t = if bytes_eq t.0 name then t.1 else 0
 
@@ -33,6 +33,6 @@ small_or_none f (t ∷ ts) name h =
           elim (small_or_none f ts name here.1) [ inl small ↦ inl small | inr zero ↦ inr (omega (arith, sum_by-cons (share name) t ts)) ]
     ]
 
--- a side without large numbers and sums says no more of any name than the limit
+-- a side without large numbers and sums has at most the limit of each name
 pub amounts_small : (side : List (List ℕ × ℕ)) → has_large side ≡ false → (name : List ℕ) → amount_in side name ≤ MAX_AMOUNT
 amounts_small side h name = elim (small_or_none (amount_in side) side name h) [ inl small ↦ small | inr none ↦ omega arith ]
