@@ -34,7 +34,7 @@ abbrev pub IsTargetStop : Mat → List Kind → Stop → Type 0
 IsTargetStop a kinds (Wide index basis) = NamesWide a index basis.list × HasSigned kinds
 IsTargetStop a kinds NoMemory = Unit {0}
 
--- a wide vector that is named, where no single row rules the system out and some coordinate has to be positive or negative
+-- a wide vector that is named, while no single row rules the system out and some coordinate has to be positive or negative
 abbrev pub IsStop : Mat → List Kind → Stop → Type 0
 IsStop a kinds (Wide index basis) = NamesWide a index basis.list × HasSigned kinds × (HasOneRowCut a kinds → ⊥)
 IsStop a kinds NoMemory = Unit {0}

@@ -84,7 +84,7 @@ pub record IsNear (basis numbers : List ℕ) : Type 0 where
   pub numbered : numbers ≡ map suc next
   pub near : (next ≡ basis) ⊎ IsOneExchange basis next
 
--- where a vector is wide, the kept basis is the one named, or a single exchange leads from it to that one
+-- if a vector is wide, the kept basis is the one named, or a single exchange leads from it to that one
 abbrev pub IsNearStop : List ℕ → Stop → Type 0
 IsNearStop basis (Wide index numbers) = IsNear basis numbers.list
 IsNearStop basis NoMemory = Unit {0}
@@ -101,7 +101,7 @@ abbrev pub IsRefusedStop : Mat → List ℕ → Stop → Type 0
 IsRefusedStop a basis (Wide index numbers) = NamesWide a index numbers.list × IsNext basis numbers.list
 IsRefusedStop a basis NoMemory = HasRefused a basis
 
--- where a question by signs stops, some primitive elementary vector of the matrix is wide: the questions of any other matrix are answered, also where no memory is left
+-- if a question by signs stops, some primitive elementary vector of the matrix is wide: the questions of any other matrix are answered, also if no memory is left
 abbrev pub RefusedStopsShowAWideMatrix : Type 0
 RefusedStopsShowAWideMatrix = (a : Mat) (basis : List ℕ) (stop : Stop) → NamesRows a basis → IsRefusedStop a basis stop → IsWideMatrix a
 

@@ -22,7 +22,7 @@ use std::alloc::Global;
 pub(crate) enum Side {
     /// Multipliers that rule the system out.
     Cut(Ints),
-    /// The lent list has a vector (x, Ax), or minus it where it does not stay, that is right everywhere and not 0 at the coordinate.
+    /// The lent list has a vector (x, Ax), or minus it if it does not stay, that is right everywhere and not 0 at the coordinate.
     Witness { stays: bool },
 }
 

@@ -21,7 +21,7 @@ pub(crate) struct Order<'a> {
 // The level of a coordinate is its place in the order of settling. The lead sign of a view is the sign of the vectors that it shows
 // at the coordinate from which the signs at all others are read: g for a row, and the member for a column.
 
-// The sign at b of the vectors that the basis names by its member b, where they have this sign at g.
+// The sign at b of the vectors that the basis names by its member b, if they have this sign at g.
 pub(crate) fn lead_sign(tableau: &Tableau, b: usize, g: usize, asked: Sign) -> Sign
     requires member { IsIn b tableau.now.basis }
     requires goal { g < width tableau.now.matrix }
@@ -38,7 +38,7 @@ pub(crate) fn lead_sign(tableau: &Tableau, b: usize, g: usize, asked: Sign) -> S
     product(tableau.sign(g, b), opposite(asked))
 }
 
-// The sign at c of the vectors that the basis names by its member b, where they have this sign at b.
+// The sign at c of the vectors that the basis names by its member b, if they have this sign at b.
 pub(crate) fn column_sign(tableau: &Tableau, b: usize, lead: Sign, c: usize) -> Sign
     requires member { IsIn b tableau.now.basis }
     requires place { c < width tableau.now.matrix }
@@ -92,7 +92,7 @@ pub(crate) fn seen_sign(
     }
 }
 
-// The least level, from one on and below another, of a coordinate at which the vectors that a view shows are wrong; where there is none, the end.
+// The least level, from one on and below another, of a coordinate at which the vectors that a view shows are wrong, or else the end.
 fn wrong_level(
     tableau: &Tableau,
     view: View,

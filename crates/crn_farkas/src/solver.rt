@@ -45,7 +45,7 @@ impl Model for Solver {
         s.level.items s.sum.items s.work.items s.marks.items };
 }
 
-// Decides a system by a vector that the basis names, where one rules it out, else by its targets.
+// Decides a system by a vector that the basis names, if one rules it out, or else by its targets.
 fn answer(
     alloc: Global,
     tableau: &mut Tableau,

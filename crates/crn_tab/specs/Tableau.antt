@@ -67,7 +67,7 @@ pub record ArePlacesOfRows (a : Mat) (basis places : List ℕ) : Type 0 where
   pub choice : IsChoice (length a.rows) places
   pub members : (k : ℕ) → k < length a.rows → IsIn k places ↔ IsIn (a.cols + k) basis
 
--- where the rows have entered a basis as far as they can, as many as are in it are the rank of the rows
+-- if the rows have entered a basis as far as they can, as many as are in it are the rank of the rows
 abbrev pub EnteredRowsGiveTheRank : Type 0
 EnteredRowsGiveTheRank = (a : Mat) (basis places : List ℕ) → NamesRows a basis → AreEntered a basis a.cols → ArePlacesOfRows a basis places → IsRank a.rows (length places)
 
@@ -94,7 +94,7 @@ pub record AreWrongAt (Named : List ℤ → Type 0) (May : Kind → ℤ → Type
 abbrev pub RulesBelow : List Kind → ℕ → List ℤ → Type 0
 RulesBelow kinds count w = ((c : ℕ) → c < count → MayWeigh (kind_at kinds c) (entry w c)) × ((c : ℕ) × (c < count) × (is_signed (kind_at kinds c) ≡ true) × (entry w c ≢ pos 0))
 
--- the first where the test holds, else the second
+-- the first if the test holds, else the second
 abbrev pub choose : {A : Type 0} → Bool → A → A → A
 choose true x y = x
 choose false x y = y

@@ -44,7 +44,7 @@ fn leaving(tableau: &Tableau, first: usize, e: usize) -> Option<usize>
     None
 }
 
-// Makes the exchange that brings a coordinate into the basis for one before `first`, where there is one.
+// Makes the exchange that brings a coordinate into the basis for one before `first`, if there is one.
 fn enter_one(tableau: &mut Tableau, first: usize, e: usize) -> Result<(), Refused>
     requires inside { e < width tableau.old.matrix }
     requires first { first ≤ e }

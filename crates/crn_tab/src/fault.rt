@@ -2,7 +2,7 @@ ghost use Rattle.std.specs.Prelude.{◌≡◌};
 
 use std::alloc::AllocError;
 
-/// A vector of an exchanged basis passes the bound of what a tableau keeps.
+/// A vector of an exchanged basis exceeds the bound of what a tableau keeps.
 #[derive(Clone, Copy, Debug, PartialEq, Eq)]
 pub struct Wide {
     /// Its coordinate, counted from 1.
@@ -23,7 +23,7 @@ pub struct Refused {
 /// Why a column vector is not given.
 #[derive(Clone, Copy, Debug, PartialEq, Eq)]
 pub enum ColumnStop {
-    /// The vector passes the bound of what a tableau keeps.
+    /// The vector exceeds the bound of what a tableau keeps.
     Wide,
     NoMemory,
 }

@@ -9,7 +9,7 @@ use crate::fill::{fill_rows, part};
 use crate::lead::{Lead, make_lead, put_lead};
 use crn_vec::Matrix;
 
-// Row i becomes that of the spare rows, where it has the leaving coordinate.
+// Row i becomes that of the spare rows, if it has the leaving coordinate.
 fn bring_row(rows: &mut [i64], spare: &[i64], i: usize, w: usize, c: usize)
     requires few { length rows.old ≤ 2 ^ 20 }
     requires same { length spare.now ≡ length rows.old }
@@ -44,7 +44,7 @@ fn bring_rows(rows: &mut [i64], spare: &[i64], m: usize, w: usize, c: usize)
 }
 
 // The rows after the exchange of the coordinate at slot c and that of row r. Those that don't have the leaving coordinate stay.
-// The answer is the least coordinate whose new row is wide, and then the rows stay; where none is, the number of coordinates.
+// The answer is the least coordinate whose new row is wide, and then the rows stay; or else the number of coordinates.
 pub(crate) fn new_rows(
     rows: &mut [i64],
     spare: &mut [i64],

@@ -136,7 +136,7 @@ fn wrong_column(
 
 impl Tableau {
     /// The least level, from one level on and below another, of a coordinate at which the vectors that the basis names by a coordinate
-    /// outside it, and of this sign there, do not have the weight that its kind asks. Where there is none, it is the end.
+    /// outside it, and of this sign there, do not have the weight that its kind requires. If there is none, it is the end.
     /// `kinds` and `level` have a member for each coordinate. It goes over the basis once, and takes no memory.
     pub fn wrong_in_row(
         &self,
@@ -164,7 +164,7 @@ impl Tableau {
     }
 
     /// The least level, from one level on and below another, of a coordinate at which the vectors that the basis names by a coordinate
-    /// in it, and of this sign there, do not have what its kind lets a part of a solution have. Where there is none, it is the end.
+    /// in it, and of this sign there, do not have what its kind lets a part of a solution have. If there is none, it is the end.
     /// `kinds` and `level` have a member for each coordinate. It goes over the rows once, and takes no memory.
     pub fn wrong_in_column(
         &self,

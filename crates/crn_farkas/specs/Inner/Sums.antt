@@ -19,7 +19,7 @@ pub record IsWitness (a : Mat) (kinds : List Kind) (g : ℕ) (y : List ℤ) : Ty
   pub some : entry y g ≢ pos 0
   pub small : (k : ℕ) → unsigned_abs (entry y k) < WIDE_ENTRY
 
--- a basis and an index that name a wide vector, where the kept basis is that one or a single exchange leads to it, or memory runs out
+-- a basis and an index that name a wide vector, and the kept basis is that one or a single exchange leads to it, or memory runs out
 abbrev pub IsGoalStop : Mat → List ℕ → Stop → Type 0
 IsGoalStop a basis (Wide index numbers) = NamesWide a index numbers.list × IsNear basis numbers.list
 IsGoalStop a basis NoMemory = Unit {0}

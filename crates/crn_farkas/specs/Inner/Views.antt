@@ -77,7 +77,7 @@ abbrev pub HasCrossed : View → List ℕ → View → ℕ → Type 0
 HasCrossed Row basis' view' c = IsViewed basis' view' c → ⊥
 HasCrossed (Column b) basis' view' c = IsViewed basis' view' c
 
--- the basis after an exchange, or as before where the two coordinates are one
+-- the basis after an exchange, or as before if the two coordinates are one
 abbrev pub IsSwapped : List ℕ → ℕ → ℕ → List ℕ → Type 0
 IsSwapped basis leave enter next = ((enter ≡ leave) × (next ≡ basis)) ⊎ ((enter ≢ leave) × Exchanged basis leave enter next)
 
@@ -96,7 +96,7 @@ is_early_kind NonNeg = false
 is_early_kind Zero = true
 is_early_kind Free = true
 
--- 1 where a kind is one of those that cross at most once, or of the others
+-- 1 if a kind is one of those that cross at most once, or of the others
 abbrev pub level_of : Bool → Bool → ℕ
 level_of true true = 1
 level_of true false = 0

@@ -18,7 +18,7 @@ pub record IsCombined (p q : ℤ) (w v z : List ℤ) : Type 0 where
   pub is : (k : ℕ) → entry z k *ℤ t ≡ (p *ℤ entry w k) -ℤ (q *ℤ entry v k)
   pub primitive : IsContent z 1
 
--- the row keeps z, where each entry is small
+-- the row keeps z, if each entry is small
 abbrev pub IsFit : List ℤ → List ℤ → Bool → Type 0
 IsFit z row true = (row ≡ z) × AreSmall z
 IsFit z row false = IsWide z
