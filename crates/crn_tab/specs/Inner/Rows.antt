@@ -1,6 +1,6 @@
 -- For the contracts of private functions alone. How an exchange makes the new rows.
 -- The lead is the row of the entering coordinate in its new places.
-use Rattle.std.specs.Prelude.{Bool, List, false, length, negsuc, pos, slice_index, slice_set, true, unsigned_abs, ℕ, ℤ, ◌*ℤ◌, ◌*◌, ◌+◌, ◌-ℤ◌, ◌-◌, ◌<◌, ◌≡◌, ◌≢◌, ◌≤ℤ◌, ◌≤◌, ◌⊎◌}
+use Rattle.std.specs.Prelude.{Bool, List, false, length, negsuc, pos, slice_index, slice_set, true, unsigned_abs, ℕ, ℤ, ◌*ℤ◌, ◌+◌, ◌-ℤ◌, ◌-◌, ◌<◌, ◌≡◌, ◌≢◌, ◌≤ℤ◌, ◌≤◌, ◌⊎◌}
 use Rattle.crn_tab.specs.Slots.{IsContent, row_at}
 use Rattle.crn_tab.specs.Tableau.{AreSmall}
 use Rattle.crn_vec.specs.Elementary.{IsWide}

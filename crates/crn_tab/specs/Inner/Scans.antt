@@ -1,5 +1,5 @@
 -- For the contracts of private functions alone. What a pass over a kept row shows of the vectors that it stands for.
-use Rattle.std.specs.Prelude.{pos, ℤ, ◌*ℤ◌, ◌*◌, ◌≡◌, ◌≤ℤ◌, ◌≤◌}
+use Rattle.std.specs.Prelude.{pos, ℤ, ◌*ℤ◌, ◌≡◌, ◌≤ℤ◌}
 use Rattle.crn_vec.specs.Vectors.{HasSign}
 use Rattle.crn_vec.specs.declared.signs.Sign.{Sign}
 

@@ -1,5 +1,5 @@
 -- For the contracts of private functions alone. What a tableau keeps at first, when its basis is the columns.
-use Rattle.std.specs.Prelude.{List, [], length, map, neg_ℤ, pos, slice_index, ℕ, ℤ, ◌++◌, ◌+◌, ◌<◌, ◌∷◌, ◌≡◌}
+use Rattle.std.specs.Prelude.{List, [], length, map, neg_ℤ, pos, slice_index, ℕ, ℤ, ◌++◌, ◌<◌, ◌∷◌, ◌≡◌}
 
 -- each of so many numbers stands at its own place
 pub record IsIdentity (count : ℕ) (at : List ℕ) : Type 0 where
