@@ -1,4 +1,4 @@
-use Rattle.std.proofs.Common.{◌≡◌, ◌∙◌, sym, ap, length}
+use Rattle.std.proofs.Common.{◌∙◌, sym, ap}
 use Rattle.crn_vec.specs.Elementary.{width}
 use Rattle.crn_farkas.proofs.Levels.{right_everywhere}
 use Rattle.crn_farkas.proofs.goal.settled_view.Goals as goal

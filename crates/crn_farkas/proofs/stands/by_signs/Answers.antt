@@ -1,5 +1,4 @@
-use Rattle.std.proofs.Common.{◌∙◌, ℕ, List, length, ap, subst, sym, arith, rules}
-use Rattle.crn_vec.specs.Lists.{IsIn}
+use Rattle.std.proofs.Common.{◌∙◌, ℕ, List, length, ap, subst, sym, rules}
 use Rattle.crn_vec.specs.Elementary.{width}
 use Rattle.crn_farkas.specs.Inner.Views.{AreLevels, IsOrder}
 use Rattle.crn_farkas.specs.Inner.Sums.{HasPartSum}
