@@ -1,0 +1,195 @@
+-- Labels, trees, levels and exits that pass the tests are right.
+use Rattle.std.proofs.Common.{◌≡◌, ◌⊎◌, ℕ, zero, suc, ◌+◌, ◌-◌, ◌<◌, ◌≤◌, List, length, get_or, refl, sym, subst, ◌∙◌, inl, inr, arith}
+use Rattle.std.proofs.lemmas.Bool.{cases_lt, cases_eq}
+use Rattle.crn_vec.specs.Lists.{IsIn}
+use Rattle.crn_vec.specs.Network.{Net, IsNetwork}
+use Rattle.crn_vec.specs.Linkage.{IsLinked, SameClass}
+use Rattle.crn_vec.specs.Strong.{ReactsTo, Reaches, IsTerminal, LeavesClass, AreRightStrongLabels, AreExits}
+use Rattle.crn_vec.proofs.CallerLemmas.{leads_keeps, leads_here, class_then, class_back, class_link, reaches_then, reaches_step}
+use Rattle.crn_vec.proofs.CallerLemmas.{inside_at, reaction_in, place_of}
+use Rattle.crn_cert.specs.Says.{IsReactionNumber, AreLinkageClasses}
+use Rattle.crn_cert.specs.ClassTests.{AreNumbered, AreEven, IsFirst, AreLinkTrees, AreFromTrees, AreToTrees, of_class, DoLevelsFall, GoesOut, IsExit, AreAllExits}
+
+-- a reaction that is named is one
+pub named_in : (net : Net) (r y z : ℕ) → IsReactionNumber net r y z → IsIn (y, z) net.reactions
+named_in net r y z h = reaction_in net.reactions (r - 1) (y, z) h.1.0 h.1.1
+
+pub named_inside : (net : Net) → IsNetwork net → (r y z : ℕ) → IsReactionNumber net r y z → (y < length net.complexes) × (z < length net.complexes)
+named_inside net network r y z h = inside_at (length net.complexes) net.reactions network.partial.apart y z (named_in net r y z h)
+
+-- ---- first complexes of classes
+
+-- the root of c: the first complex of its label, joined to c
+record Root (labels : List ℕ) (Joined : ℕ → ℕ → Type 0) (c : ℕ) : Type 0 where
+  f : ℕ
+  first : IsFirst labels f
+  same : get_or labels f 0 ≡ get_or labels c 0
+  joined : Joined c f
+
+-- two first complexes with one label are one
+one_first : (labels : List ℕ) (a b : ℕ) → IsFirst labels a → IsFirst labels b → get_or labels a 0 ≡ get_or labels b 0 → a ≡ b
+one_first labels a b p q e = elim (cases_lt a b) [
+  | inl lt ↦ absurd (q a lt e)
+  | inr ge ↦ elim (cases_lt b a) [ inl lt ↦ absurd (p b lt (sym e)) | inr le ↦ omega arith ]
+]
+
+-- the parent of c in its tree
+record Parent (net : Net) (labels depth : List ℕ) (Joined : ℕ → ℕ → Type 0) (c : ℕ) : Type 0 where
+  d : ℕ
+  inside : d < length net.complexes
+  same : get_or labels d 0 ≡ get_or labels c 0
+  deeper : get_or depth c 0 ≡ suc (get_or depth d 0)
+  joined : Joined c d
+
+-- every complex has a root, where each is a first one or has a parent
+root_at : (net : Net) (labels depth : List ℕ) (Joined : ℕ → ℕ → Type 0) → ((x : ℕ) → Joined x x) → ((x y z : ℕ) → Joined x y → Joined y z → Joined x z)
+    → ((c : ℕ) → c < length net.complexes → IsFirst labels c ⊎ Parent net labels depth Joined c) → (n c : ℕ) → c < length net.complexes → get_or depth c 0 ≤ n → Root labels Joined c
+root_at net labels depth J here join tree n c lt le = elim (tree c lt) [
+  | inl first ↦ record { f = c; first = first; same = refl; joined = here c }
+  | inr p ↦ root_below net labels depth J here join tree n c p le
+]
+  where
+    root_below : (net : Net) (labels depth : List ℕ) (J : ℕ → ℕ → Type 0) → ((x : ℕ) → J x x) → ((x y z : ℕ) → J x y → J y z → J x z)
+        → ((c : ℕ) → c < length net.complexes → IsFirst labels c ⊎ Parent net labels depth J c) → (n c : ℕ) → Parent net labels depth J c → get_or depth c 0 ≤ n → Root labels J c
+    root_below net labels depth J here join tree zero c p le = absurd (omega (arith, p.deeper, le))
+    root_below net labels depth J here join tree (suc n) c p le =
+        let below : Root labels J p.d = elim (tree p.d p.inside) [
+          | inl first ↦ record { f = p.d; first = first; same = refl; joined = here p.d }
+          | inr q ↦ root_below net labels depth J here join tree n p.d q (omega (arith, p.deeper, le))
+        ] in
+        record { f = below.f; first = below.first; same = below.same ∙ p.same; joined = join c p.d below.f p.joined below.joined }
+
+-- ---- linkage classes
+
+link_parent : (net : Net) → IsNetwork net → (labels up depth : List ℕ) → AreEven net labels → AreLinkTrees net labels up depth → (c : ℕ) → c < length net.complexes → IsFirst labels c ⊎ Parent net labels depth (SameClass net.reactions) c
+link_parent net network labels up depth even tree c lt = elim (tree c lt) [
+  | inl first ↦ inl first.0
+  | inr hangs ↦ let h = hangs.1 in elim h.joins [
+    | inl g ↦ let i = named_in net (get_or up c 0) c h.d g in
+        inr (record { d = h.d; inside = (named_inside net network (get_or up c 0) c h.d g).1; same = sym (even c h.d i); deeper = h.deeper; joined = class_link net.reactions c h.d (inl i) })
+    | inr g ↦ let i = named_in net (get_or up c 0) h.d c g in
+        inr (record { d = h.d; inside = (named_inside net network (get_or up c 0) h.d c g).0; same = even h.d c i; deeper = h.deeper; joined = class_link net.reactions c h.d (inr i) })
+  ]
+]
+
+pub linkage_right : (net : Net) → IsNetwork net → (count : ℕ) (labels up depth : List ℕ) → length labels ≡ length net.complexes → AreNumbered labels count → AreEven net labels → AreLinkTrees net labels up depth → AreLinkageClasses net count labels
+linkage_right net network count labels up depth long numbered even tree =
+    let rs = net.reactions in
+    let root : (c : ℕ) → c < length labels → Root labels (SameClass rs) c = λ c lt.
+    root_at net labels depth (SameClass rs) (leads_here (IsLinked rs)) (class_then rs) (link_parent net network labels up depth even tree) (get_or depth c 0) c (omega (arith, long, lt)) (omega arith) in
+    record {
+      labelled = record {
+        long = long;
+        right = record {
+          same = λ y z ly lz e.
+              let a = root y ly in
+              let b = root z lz in
+              let f : a.f ≡ b.f = one_first labels a.f b.f a.first b.first (a.same ∙ e ∙ sym b.same) in
+              class_then rs y a.f z a.joined (subst (λ (x : ℕ). SameClass rs x z) (sym f) (class_back rs z b.f b.joined));
+          together = λ y z ly lz walk.
+              leads_keeps (IsLinked rs) (λ v. get_or labels y 0 ≡ get_or labels v 0) (λ v w link e. e ∙ elim link [ inl i ↦ even v w i | inr i ↦ sym (even w v i) ]) y z walk refl;
+          positive = numbered.positive;
+          numbered = numbered.numbered;
+        };
+      };
+      count_is = numbered.count_is;
+    }
+
+-- ---- strong classes
+
+from_parent : (net : Net) → IsNetwork net → (labels from depth : List ℕ) → AreFromTrees net labels from depth → (c : ℕ) → c < length net.complexes → IsFirst labels c ⊎ Parent net labels depth (λ x y. Reaches net.reactions y x) c
+from_parent net network labels from depth tree c lt = elim (tree c lt) [
+  | inl first ↦ inl first.0
+  | inr hangs ↦ let h = hangs.1 in
+      inr (record { d = h.d; inside = (named_inside net network (get_or from c 0) h.d c h.goes).0; same = h.class; deeper = h.deeper; joined = reaches_step net.reactions h.d c (named_in net (get_or from c 0) h.d c h.goes) })
+]
+
+to_parent : (net : Net) → IsNetwork net → (labels to depth : List ℕ) → AreToTrees net labels to depth → (c : ℕ) → c < length net.complexes → IsFirst labels c ⊎ Parent net labels depth (Reaches net.reactions) c
+to_parent net network labels to depth tree c lt = elim (tree c lt) [
+  | inl first ↦ inl first.0
+  | inr hangs ↦ let h = hangs.1 in
+      inr (record { d = h.d; inside = (named_inside net network (get_or to c 0) c h.d h.goes).1; same = h.class; deeper = h.deeper; joined = reaches_step net.reactions c h.d (named_in net (get_or to c 0) c h.d h.goes) })
+]
+
+-- along reactions the label stays or the level falls
+abbrev Falls : List ℕ → List ℕ → ℕ → ℕ → Type 0
+Falls labels level y z = (get_or labels y 0 ≡ get_or labels z 0) ⊎ (of_class labels level z < of_class labels level y)
+
+falls_on : (labels level : List ℕ) (y v w : ℕ) → Falls labels level y v → Falls labels level v w → Falls labels level y w
+falls_on labels level y v w (inl e) (inl f) = inl (e ∙ f)
+falls_on labels level y v w (inl e) (inr g) = inr (subst (λ (k : ℕ). of_class labels level w < get_or level (k - 1) 0) (sym e) g)
+falls_on labels level y v w (inr e) (inl f) = inr (subst (λ (k : ℕ). get_or level (k - 1) 0 < of_class labels level y) f e)
+falls_on labels level y v w (inr e) (inr g) = inr (omega (arith, e, g))
+
+pub strong_labels_right : (net : Net) → IsNetwork net → (count : ℕ) (labels from from_depth to to_depth level : List ℕ) → length labels ≡ length net.complexes → AreNumbered labels count
+    → AreFromTrees net labels from from_depth → AreToTrees net labels to to_depth → DoLevelsFall net labels level → AreRightStrongLabels net.reactions labels
+strong_labels_right net network count labels from from_depth to to_depth level long numbered from_tree to_tree falls =
+    let rs = net.reactions in
+    let source : (c : ℕ) → c < length labels → Root labels (λ x y. Reaches rs y x) c = λ c lt.
+    root_at net labels from_depth (λ x y. Reaches rs y x) (leads_here (ReactsTo rs)) (λ x y z p q. reaches_then rs z y x q p) (from_parent net network labels from from_depth from_tree) (get_or from_depth c 0) c (omega (arith, long, lt)) (omega arith) in
+    let sink : (c : ℕ) → c < length labels → Root labels (Reaches rs) c = λ c lt.
+    root_at net labels to_depth (Reaches rs) (leads_here (ReactsTo rs)) (reaches_then rs) (to_parent net network labels to to_depth to_tree) (get_or to_depth c 0) c (omega (arith, long, lt)) (omega arith) in
+    let across : (y z : ℕ) → y < length labels → z < length labels → get_or labels y 0 ≡ get_or labels z 0 → Reaches rs y z = λ y z ly lz e.
+    let a = sink y ly in
+    let b = source z lz in
+    let f : a.f ≡ b.f = one_first labels a.f b.f a.first b.first (a.same ∙ e ∙ sym b.same) in
+    reaches_then rs y a.f z a.joined (subst (λ (x : ℕ). Reaches rs x z) (sym f) b.joined) in
+    let along : (y z : ℕ) → Reaches rs y z → Falls labels level y z = λ y z h.
+    leads_keeps (ReactsTo rs) (Falls labels level y) (λ v w i p. falls_on labels level y v w p (falls v w i)) y z h (inl refl) in
+    record {
+      same = λ y z ly lz e. (across y z ly lz e, across z y lz ly (sym e));
+      together = λ y z ly lz s. elim (along y z s.0) [
+        | inl e ↦ e
+        | inr lt ↦ elim (along z y s.1) [ inl e ↦ sym e | inr lt' ↦ absurd (omega (arith, lt, lt')) ]
+      ];
+      positive = numbered.positive;
+      numbered = numbered.numbered;
+    }
+
+-- ---- exits
+
+pub exits_right : (net : Net) → IsNetwork net → (labels exits : List ℕ) → length labels ≡ length net.complexes → AreRightStrongLabels net.reactions labels
+    → ((y : ℕ) → y < length labels → get_or labels y 0 ≤ length exits) → AreAllExits net labels exits → AreExits net.reactions labels exits
+exits_right net network labels exits long right few tests =
+    let rs = net.reactions in
+    let inside = network.partial.apart in
+    let exit_at : (y : ℕ) → y < length labels → IsExit net labels (get_or labels y 0) (get_or exits (get_or labels y 0 - 1) 0) = λ y ly.
+    let some = right.positive y ly in
+    let back : suc (get_or labels y 0 - 1) ≡ get_or labels y 0 = omega (arith, some) in
+    subst (λ (k : ℕ). IsExit net labels k (get_or exits (get_or labels y 0 - 1) 0)) back (tests (get_or labels y 0 - 1) (omega (arith, some, few y ly))) in
+    let closed : (y : ℕ) → y < length labels → ((r : ℕ) → GoesOut net labels (get_or labels y 0) r → ⊥) → IsTerminal rs y = λ y ly none z h.
+    let stays : (get_or labels z 0 ≡ get_or labels y 0) × (z < length labels) =
+    leads_keeps (ReactsTo rs) (λ v. (get_or labels v 0 ≡ get_or labels y 0) × (v < length labels)) (λ v w i p.
+    let at = inside_at (length net.complexes) rs inside v w i in
+    let lw : w < length labels = omega (arith, at.1, long) in
+    elim (cases_eq (get_or labels w 0) (get_or labels y 0)) [
+      | inl e ↦ (e, lw)
+      | inr ne ↦ let k = place_of (v, w) rs i in
+          absurd (none (k.0 + 1) (record { y = v; z = w; goes = (omega arith, (omega (arith, k.1), subst (λ (j : ℕ). get_or rs j (0, 0) ≡ (v, w)) (omega arith) k.2)); from = p.0; other = ne }))
+    ]) y z h (refl, ly) in
+    (right.same z y stays.1 ly stays.0).0 in
+    let leaving : (y r : ℕ) → y < length labels → GoesOut net labels (get_or labels y 0) r → (LeavesClass rs y (r - 1)) = λ y r ly g.
+    let at = named_inside net network r g.y g.z g.goes in
+    record {
+      reactant = g.y;
+      product = g.z;
+      goes = g.goes.1;
+      from = right.same y g.y ly (omega (arith, at.0, long)) (sym g.from);
+      outside = λ s. g.other (sym (right.together y g.z ly (omega (arith, at.1, long)) s));
+    } in
+    let never : (y r : ℕ) → y < length labels → GoesOut net labels (get_or labels y 0) r → IsTerminal rs y → ⊥ = λ y r ly g term.
+    let l = leaving y r ly g in
+    let there : Reaches rs y l.product = reaches_then rs y l.reactant l.product l.from.0 (reaches_step rs l.reactant l.product (reaction_in rs (r - 1) (l.reactant, l.product) l.goes.0 l.goes.1)) in
+    l.outside (there, term l.product there) in
+    record {
+      terminal = λ y ly.
+          elim (exit_at y ly) [
+            | inl e ↦ (λ zero_exit. closed y ly e.1, λ term. e.0)
+            | inr g ↦ (λ zero_exit. absurd (let some = g.goes.0 in omega (arith, some, zero_exit)), λ term. absurd (never y (get_or exits (get_or labels y 0 - 1) 0) ly g term))
+          ];
+      leaves = λ y r ly e.
+          elim (exit_at y ly) [
+            | inl z ↦ absurd (omega (arith, z.0, e))
+            | inr g ↦ subst (λ (k : ℕ). LeavesClass rs y k) (omega (arith, e)) (leaving y (get_or exits (get_or labels y 0 - 1) 0) ly g)
+          ];
+    }

@@ -1,0 +1,25 @@
+pub mod CallerLemmas
+mod Ties
+mod Kept
+mod ClassesRight
+mod Multipliers
+mod Cycles
+mod Counts
+mod StrongRight
+mod Known
+mod Filters
+mod Pairs
+mod ValidLaws
+mod TreeLaws
+mod TreesRight
+mod SignalRight
+mod Ranked
+mod RankLaws
+mod AllLaws
+mod Networks
+mod Examples
+mod GoodDocument
+mod WorkedRows
+mod Heads
+mod PairPlaces
+mod ShapesExist

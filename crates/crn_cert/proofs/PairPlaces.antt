@@ -1,0 +1,160 @@
+-- The pairs that are computed from true strong classes are the linked pairs of terminal classes, each by its least reaction.
+use Rattle.std.proofs.Common.{◌≡◌, ◌⊎◌, ℕ, zero, suc, ◌+◌, ◌-◌, ◌<◌, ◌≤◌, Bool, true, false, List, [], ◌∷◌, length, get_or, refl, sym, ap, subst, ◌∙◌, inl, inr, arith, ◌==◌, ◌&&◌, ◌||◌, not}
+use Rattle.std.specs.List.{range_with_len, list_any, filter}
+use Rattle.std.proofs.lemmas.Bool.{cases_Bool, eq-eqb, eqb-true, false≢true}
+use Rattle.crn_vec.specs.Lists.{IsIn, IsAscending}
+use Rattle.crn_vec.specs.Network.{Net, IsNetwork}
+use Rattle.crn_vec.specs.CutPairs.{IsBetween, IsFirstOfPair}
+use Rattle.crn_vec.proofs.CallerLemmas.{eq_or}
+use Rattle.crn_vec.proofs.CallerLemmas.{reaction_in, inside_at}
+use Rattle.crn_cert.specs.Questions.{Earlier, Q2, on, count_of}
+use Rattle.crn_cert.specs.Says.{from_zero}
+use Rattle.crn_cert.specs.ClassTests.{of_class}
+use Rattle.crn_cert.specs.Valid.{strong, exits, ends_at, is_within_terminal, is_same_pair, is_least_of_pair, pair_places}
+use Rattle.crn_cert.specs.Law.{PairPlacesArePairs}
+use Rattle.crn_cert.proofs.Filters.{in_range, filter_has, some_place}
+use Rattle.crn_cert.proofs.StrongRight.{both, and_both}
+use Rattle.crn_cert.proofs.Known.{StrongKnown, strong_known}
+use Rattle.crn_cert.proofs.RankLaws.{range_bounds, range_above, filter_above, above_ascending, from_zero_ascending}
+
+-- ---- lists
+
+or_left : (a b : Bool) → a ≡ true → (a || b) ≡ true
+or_left true b e = refl
+or_left false b e = cc
+
+or_right : (a b : Bool) → b ≡ true → (a || b) ≡ true
+or_right true b e = refl
+or_right false b e = e
+
+or_either : (a b : Bool) → (a || b) ≡ true → (a ≡ true) ⊎ (b ≡ true)
+or_either true b e = inl refl
+or_either false b e = inr e
+
+not_both : (b : Bool) → not b ≡ true → b ≡ true → ⊥
+not_both true n e = false≢true n
+not_both false n e = false≢true e
+
+any_at : (test : ℕ → Bool) (a n c : ℕ) → a ≤ c → c < a + n → test c ≡ true → list_any test (range_with_len a n) ≡ true
+any_at test a zero c le lt e = absurd (omega (arith, le, lt))
+any_at test a (suc n) c le lt e = elim (eq_or c a) as (λ _. (test a || list_any test (range_with_len (a + 1) n)) ≡ true) [
+  | inl same ↦ or_left (test a) (list_any test (range_with_len (a + 1) n)) (subst (λ (k : ℕ). test k ≡ true) same e)
+  | inr ne ↦ or_right (test a) (list_any test (range_with_len (a + 1) n)) (any_at test (a + 1) n c (after c a le ne) (omega (arith, lt)) e)
+]
+  where
+    after : (c a : ℕ) → a ≤ c → (c ≡ a → ⊥) → a + 1 ≤ c
+    after zero zero l ne = absurd (ne refl)
+    after (suc c) zero l ne = omega arith
+    after zero (suc a) l ne = absurd (omega (arith, l))
+    after (suc c) (suc a) l ne = let h = after c a (omega (arith, l)) (λ e. ne (ap suc e)) in omega (arith, h)
+
+filter_from : (p : ℕ → Bool) (xs : List ℕ) (y : ℕ) → IsIn y (filter p xs) → IsIn y xs × (p y ≡ true)
+filter_from p [] y h = absurd h
+filter_from p (x ∷ xs) y h =
+    elim (cases_Bool (p x)) as (λ _. IsIn y (x ∷ xs) × (p y ≡ true)) [
+      | inl hit ↦
+          let step : filter p (x ∷ xs) ≡ x ∷ filter p xs = rw hit refl in
+          elim (subst (λ (z : List ℕ). IsIn y z) step h) as (λ _. IsIn y (x ∷ xs) × (p y ≡ true)) [
+            | inl e ↦ (inl e, ap p e ∙ hit)
+            | inr i ↦ let r = filter_from p xs y i in (inr r.0, r.1)
+          ]
+      | inr miss ↦
+          let step : filter p (x ∷ xs) ≡ filter p xs = rw miss refl in
+          let r = filter_from p xs y (subst (λ (z : List ℕ). IsIn y z) step h) in (inr r.0, r.1)
+    ]
+
+into_zero : (rs : List ℕ) (r : ℕ) → IsIn r rs → IsIn (r - 1) (from_zero rs)
+into_zero [] r i = absurd i
+into_zero (s ∷ rs) r (inl e) = inl (ap (λ (k : ℕ). k - 1) e)
+into_zero (s ∷ rs) r (inr i) = inr (into_zero rs r i)
+
+out_of_zero : (rs : List ℕ) (k : ℕ) → ((r : ℕ) → IsIn r rs → 1 ≤ r) → IsIn k (from_zero rs) → IsIn (k + 1) rs
+out_of_zero [] k h i = absurd i
+out_of_zero (r ∷ rs) k h (inl e) = inl (let le = h r (inl refl) in omega (arith, e, le))
+out_of_zero (r ∷ rs) k h (inr i) = inr (out_of_zero rs k (λ q j. h q (inr j)) i)
+
+-- ---- the two tests
+
+pub same_pair : (q r : ℕ × ℕ) → IsBetween r.0 r.1 q.0 q.1 → is_same_pair q r ≡ true
+same_pair q r (inl e) = or_left ((q.0 == r.0) && (q.1 == r.1)) ((q.0 == r.1) && (q.1 == r.0)) (and_both (q.0 == r.0) (q.1 == r.1) (eq-eqb q.0 r.0 e.0) (eq-eqb q.1 r.1 e.1))
+same_pair q r (inr e) = or_right ((q.0 == r.0) && (q.1 == r.1)) ((q.0 == r.1) && (q.1 == r.0)) (and_both (q.0 == r.1) (q.1 == r.0) (eq-eqb q.0 r.1 e.0) (eq-eqb q.1 r.0 e.1))
+
+pub pair_same : (q r : ℕ × ℕ) → is_same_pair q r ≡ true → IsBetween r.0 r.1 q.0 q.1
+pair_same q r e = elim (or_either ((q.0 == r.0) && (q.1 == r.1)) ((q.0 == r.1) && (q.1 == r.0)) e) as (λ _. IsBetween r.0 r.1 q.0 q.1) [
+  | inl h ↦ let p = both (q.0 == r.0) (q.1 == r.1) h in inl (eqb-true q.0 r.0 p.0, eqb-true q.1 r.1 p.1)
+  | inr h ↦ let p = both (q.0 == r.1) (q.1 == r.0) h in inr (eqb-true q.0 r.1 p.0, eqb-true q.1 r.0 p.1)
+]
+
+-- ---- the law
+
+abbrev tests : Net → Earlier → ℕ → Bool
+tests net earlier r = is_within_terminal earlier (ends_at net r) && is_least_of_pair net r
+
+place_range : (net : Net) (earlier : Earlier) (r : ℕ) → IsIn r (pair_places net earlier) → (1 ≤ r) × (r < 1 + length net.reactions)
+place_range net earlier r i = range_bounds r 1 (length net.reactions) (filter_from (tests net earlier) (range_with_len 1 (length net.reactions)) r i).0
+
+first_of : (net : Net) (earlier : Earlier) → IsNetwork net → StrongKnown net (count_of (on earlier Q2)) (strong earlier) (exits earlier) → (k : ℕ) → IsIn (k + 1) (pair_places net earlier) → IsFirstOfPair net.reactions k
+first_of net earlier n known k i =
+    let rs = net.reactions in
+    let s = known.is in
+    let f = filter_from (tests net earlier) (range_with_len 1 (length rs)) (k + 1) i in
+    let lt : k < length rs = let b = range_bounds (k + 1) 1 (length rs) f.0 in omega (arith, b.1) in
+    let p : ℕ × ℕ = get_or rs k (0, 0) in
+    let at : ends_at net (k + 1) ≡ p = ap (λ (j : ℕ). get_or rs j (0, 0)) (omega arith) in
+    let t = both (is_within_terminal earlier (ends_at net (k + 1))) (is_least_of_pair net (k + 1)) f.1 in
+    let w : is_within_terminal earlier p ≡ true = ap (is_within_terminal earlier) (sym at) ∙ t.0 in
+    let u = both (get_or (strong earlier) p.0 0 == get_or (strong earlier) p.1 0) (of_class (strong earlier) (exits earlier) p.0 == 0) w in
+    let ends = inside_at (length net.complexes) rs n.partial.apart p.0 p.1 (reaction_in rs k p lt refl) in
+    let l0 : p.0 < length (strong earlier) = omega (arith, ends.0, s.places) in
+    let l1 : p.1 < length (strong earlier) = omega (arith, ends.1, s.places) in
+    record {
+      a = p.0;
+      b = p.1;
+      goes = (lt, refl);
+      pair = record {
+        linked = inl (reaction_in rs k p lt refl);
+        within = s.right.same p.0 p.1 l0 l1 (eqb-true (get_or (strong earlier) p.0 0) (get_or (strong earlier) p.1 0) u.0);
+        terminal = (s.exits_are.terminal p.0 l0).0 (eqb-true (of_class (strong earlier) (exits earlier) p.0) 0 u.1);
+      };
+      first = λ q y z less goes between.
+          let q_at : ends_at net (q + 1) ≡ (y, z) = ap (λ (j : ℕ). get_or rs j (0, 0)) (omega arith) ∙ goes.1 in
+          let same : is_same_pair (ends_at net (q + 1)) (ends_at net (k + 1)) ≡ true = ap (λ (e : ℕ × ℕ). is_same_pair e (ends_at net (k + 1))) q_at ∙ ap (λ (e : ℕ × ℕ). is_same_pair (y, z) e) at ∙ same_pair (y, z) p between in
+          not_both (list_any (λ j. is_same_pair (ends_at net j) (ends_at net (k + 1))) (range_with_len 1 (k + 1 - 1))) t.1
+          (any_at (λ j. is_same_pair (ends_at net j) (ends_at net (k + 1))) 1 (k + 1 - 1) (q + 1) (omega arith) (omega (arith, less)) same);
+    }
+
+place_of_first : (net : Net) (earlier : Earlier) → IsNetwork net → StrongKnown net (count_of (on earlier Q2)) (strong earlier) (exits earlier) → (k : ℕ) → IsFirstOfPair net.reactions k → IsIn (k + 1) (pair_places net earlier)
+place_of_first net earlier n known k f =
+    let rs = net.reactions in
+    let s = known.is in
+    let at : ends_at net (k + 1) ≡ (f.a, f.b) = ap (λ (j : ℕ). get_or rs j (0, 0)) (omega arith) ∙ f.goes.1 in
+    let ends = inside_at (length net.complexes) rs n.partial.apart f.a f.b (reaction_in rs k (f.a, f.b) f.goes.0 f.goes.1) in
+    let la : f.a < length (strong earlier) = omega (arith, ends.0, s.places) in
+    let lb : f.b < length (strong earlier) = omega (arith, ends.1, s.places) in
+    let within : is_within_terminal earlier (ends_at net (k + 1)) ≡ true = ap (is_within_terminal earlier) at
+    ∙ and_both (get_or (strong earlier) f.a 0 == get_or (strong earlier) f.b 0) (of_class (strong earlier) (exits earlier) f.a == 0)
+    (eq-eqb (get_or (strong earlier) f.a 0) (get_or (strong earlier) f.b 0) (s.right.together f.a f.b la lb f.pair.within))
+    (eq-eqb (of_class (strong earlier) (exits earlier) f.a) 0 ((s.exits_are.terminal f.a la).1 f.pair.terminal)) in
+    let least : is_least_of_pair net (k + 1) ≡ true = elim (cases_Bool (list_any (λ j. is_same_pair (ends_at net j) (ends_at net (k + 1))) (range_with_len 1 (k + 1 - 1)))) as (λ _. is_least_of_pair net (k + 1) ≡ true) [
+      | inr none ↦ ap not none
+      | inl some ↦
+          let q = some_place (λ j. is_same_pair (ends_at net j) (ends_at net (k + 1))) 1 (k + 1 - 1) some in
+          let less : q.0 - 1 < k = omega (arith, q.1, q.2) in
+          let between : IsBetween f.a f.b (ends_at net q.0).0 (ends_at net q.0).1 = pair_same (ends_at net q.0) (f.a, f.b) (ap (λ (e : ℕ × ℕ). is_same_pair (ends_at net q.0) e) (sym at) ∙ q.3) in
+          absurd (f.first (q.0 - 1) (ends_at net q.0).0 (ends_at net q.0).1 less (omega (arith, less, f.goes.0), refl) between)
+    ] in
+    filter_has (tests net earlier) (range_with_len 1 (length rs)) (k + 1) (in_range (k + 1) 1 (length rs) (omega arith) (let lt = f.goes.0 in omega (arith, lt)))
+    (and_both (is_within_terminal earlier (ends_at net (k + 1))) (is_least_of_pair net (k + 1)) within least)
+
+pub pair_places_are_pairs : PairPlacesArePairs
+pair_places_are_pairs net earlier n h =
+    let known = strong_known net (on earlier Q2) h in
+    let positive : (r : ℕ) → IsIn r (pair_places net earlier) → 1 ≤ r = λ r i. (place_range net earlier r i).0 in
+    let ascending : IsAscending (pair_places net earlier) = above_ascending 0 (pair_places net earlier) (filter_above (tests net earlier) 0 (range_with_len 1 (length net.reactions)) (range_above 0 1 (length net.reactions) (omega arith))) in
+    record {
+      ascending = from_zero_ascending (pair_places net earlier) positive ascending;
+      each = λ r. (
+        λ i. first_of net earlier n known r (out_of_zero (pair_places net earlier) r positive i),
+        λ f. subst (λ (k : ℕ). IsIn k (from_zero (pair_places net earlier))) (omega arith) (into_zero (pair_places net earlier) (r + 1) (place_of_first net earlier n known r f)),
+      );
+    }

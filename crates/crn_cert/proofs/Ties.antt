@@ -1,0 +1,159 @@
+-- Ties show that the confluence space is a line, or holds only zero.
+use Rattle.std.proofs.Common.{◌≡◌, ◌≢◌, ℕ, zero, suc, ◌<◌, ◌≤◌, List, [], ◌∷◌, length, refl, sym, ap, subst, ◌∙◌, inl, inr, arith}
+use Rattle.std.specs.Prelude.{ℤ, pos, ◌+ℤ◌, ◌-ℤ◌, ◌*ℤ◌}
+use Rattle.std.proofs.lemmas.Int.{ints}
+use lib.IntN.{*ℤ_comm, *ℤ-zero, zero-*ℤ}
+use Rattle.crn_vec.specs.Network.{Net}
+use Rattle.crn_vec.specs.Vectors.{entry, dot}
+use Rattle.crn_vec.specs.Elementary.{AreProportional}
+use Rattle.crn_vec.specs.NetSystems.{confluence_system}
+use Rattle.crn_vec.proofs.CallerLemmas.{no_zero, assoc, left-comm, mul-sub}
+use Rattle.crn_vec.proofs.CallerLemmas.{eq_or, past_end, lt_or}
+use Rattle.crn_vec.proofs.CallerLemmas.{listed, length-listed, entry-listed, across}
+use Rattle.crn_vec.proofs.CallerLemmas.{dots, dot_zero}
+use Rattle.crn_cert.specs.ConfluenceTests.{IsTie, tie_at}
+
+-- ---- sums with one or two places
+
+pub dot_one : (v w : List ℤ) (c : ℕ) → ((i : ℕ) → i ≢ c → entry v i *ℤ entry w i ≡ pos 0) → dot v w ≡ entry v c *ℤ entry w c
+dot_one [] w c h = sym (zero-*ℤ (entry w c))
+dot_one (x ∷ v) [] c h = sym (*ℤ-zero (entry (x ∷ v) c))
+dot_one (x ∷ v) (y ∷ w) zero h = omega (arith, ints, dot_zero v w (λ i. h (suc i) (λ e. omega arith)))
+dot_one (x ∷ v) (y ∷ w) (suc c) h = omega (arith, ints, h 0 (λ e. omega arith), dot_one v w c (λ i ne. h (suc i) (λ e. ne (omega (arith, e)))))
+
+pub dot_two : (v w : List ℤ) (c d : ℕ) → c ≢ d → ((i : ℕ) → i ≢ c → i ≢ d → entry v i *ℤ entry w i ≡ pos 0) → dot v w ≡ (entry v c *ℤ entry w c) +ℤ (entry v d *ℤ entry w d)
+dot_two [] w c d ne h = omega (arith, ints, zero-*ℤ (entry w c), zero-*ℤ (entry w d))
+dot_two (x ∷ v) [] c d ne h = omega (arith, ints, *ℤ-zero (entry (x ∷ v) c), *ℤ-zero (entry (x ∷ v) d))
+dot_two (x ∷ v) (y ∷ w) zero zero ne h = absurd (ne refl)
+dot_two (x ∷ v) (y ∷ w) zero (suc d) ne h = omega (arith, ints, dot_one v w d (λ i n. h (suc i) (λ e. omega arith) (λ e. n (omega (arith, e)))))
+dot_two (x ∷ v) (y ∷ w) (suc c) zero ne h = omega (arith, ints, dot_one v w c (λ i n. h (suc i) (λ e. n (omega (arith, e))) (λ e. omega arith)))
+dot_two (x ∷ v) (y ∷ w) (suc c) (suc d) ne h =
+    omega (arith, ints, h 0 (λ e. omega arith) (λ e. omega arith), dot_two v w c d (λ e. ne (ap suc e)) (λ i m n. h (suc i) (λ e. m (omega (arith, e))) (λ e. n (omega (arith, e)))))
+
+-- ---- a tie on a vector of the space
+
+-- what a tie makes of the complexes
+abbrev tied : Net → List ℕ → ℕ → List ℤ → List ℤ
+tied net linkage count tie = listed (length net.complexes) (tie_at net linkage count tie)
+
+-- every row of the confluence system is orthogonal to the vector
+abbrev pub IsKept : Net → List ℕ → ℕ → List ℤ → Type 0
+IsKept net linkage count g = (length g ≡ length net.complexes) × ((k : ℕ) → entry (dots (confluence_system net linkage count).rows g) k ≡ pos 0)
+
+tie_sum : (net : Net) (linkage : List ℕ) (count : ℕ) (tie g : List ℤ) → IsKept net linkage count g → dot (tied net linkage count tie) g ≡ pos 0
+tie_sum net linkage count tie g kept =
+    let rows = (confluence_system net linkage count).rows in
+    ap (λ (n : ℕ). dot (listed n (tie_at net linkage count tie)) g) (sym kept.0)
+    ∙ sym (across tie g rows)
+    ∙ dot_zero tie (dots rows g) (λ k. ap (λ (z : ℤ). entry tie k *ℤ z) (kept.1 k) ∙ *ℤ-zero (entry tie k))
+
+tied_entry : (net : Net) (linkage : List ℕ) (count : ℕ) (tie : List ℤ) (c : ℕ) → c < length net.complexes → entry (tied net linkage count tie) c ≡ tie_at net linkage count tie c
+tied_entry net linkage count tie c lt = entry-listed (length net.complexes) (tie_at net linkage count tie) c lt
+
+-- past the last complex there is nothing
+tied_past : (net : Net) (linkage : List ℕ) (count : ℕ) (tie : List ℤ) (i : ℕ) → length net.complexes ≤ i → entry (tied net linkage count tie) i ≡ pos 0
+tied_past net linkage count tie i le = past_end (tied net linkage count tie) i (omega (arith, length-listed (length net.complexes) (tie_at net linkage count tie), le))
+
+none_of : (x y : ℤ) → x ≡ pos 0 → x *ℤ y ≡ pos 0
+none_of x y e = ap (λ (z : ℤ). z *ℤ y) e ∙ zero-*ℤ y
+
+-- ---- only zero
+
+pub zero_by_tie : (net : Net) (linkage : List ℕ) (count c : ℕ) (tie g : List ℤ) → c < length net.complexes → IsTie net linkage count (λ d. ⊥) c tie → IsKept net linkage count g → entry g c ≡ pos 0
+zero_by_tie net linkage count c tie g lt t kept =
+    let v = tied net linkage count tie in
+    let others : (i : ℕ) → i ≢ c → entry v i *ℤ entry g i ≡ pos 0 = λ i ne. elim (lt_or i (length net.complexes)) [
+      | inl l ↦ none_of (entry v i) (entry g i) (tied_entry net linkage count tie i l ∙ elim (t.others i l ne) [ inl bad ↦ absurd bad | inr z ↦ z ])
+      | inr past ↦ none_of (entry v i) (entry g i) (tied_past net linkage count tie i past)
+    ] in
+    no_zero (entry v c) (entry g c) (sym (dot_one v g c others) ∙ tie_sum net linkage count tie g kept) (λ e. t.own (sym (tied_entry net linkage count tie c lt) ∙ e))
+
+-- ---- a line
+
+-- the entries of a vector of the space at c and at the spared complex balance by the tie
+balance : (net : Net) (linkage : List ℕ) (count c c0 : ℕ) (tie g : List ℤ) → c < length net.complexes → c0 < length net.complexes → c ≢ c0 → IsTie net linkage count (λ d. d ≡ c0) c tie → IsKept net linkage count g
+    → (tie_at net linkage count tie c *ℤ entry g c) +ℤ (tie_at net linkage count tie c0 *ℤ entry g c0) ≡ pos 0
+balance net linkage count c c0 tie g lt lt0 ne t kept =
+    let v = tied net linkage count tie in
+    let others : (i : ℕ) → i ≢ c → i ≢ c0 → entry v i *ℤ entry g i ≡ pos 0 = λ i n n0. elim (lt_or i (length net.complexes)) [
+      | inl l ↦ none_of (entry v i) (entry g i) (tied_entry net linkage count tie i l ∙ elim (t.others i l n) [ inl bad ↦ absurd (n0 bad) | inr z ↦ z ])
+      | inr past ↦ none_of (entry v i) (entry g i) (tied_past net linkage count tie i past)
+    ] in
+    let sum = sym (dot_two v g c c0 ne others) ∙ tie_sum net linkage count tie g kept in
+    let first : entry v c *ℤ entry g c ≡ tie_at net linkage count tie c *ℤ entry g c = ap (λ (z : ℤ). z *ℤ entry g c) (tied_entry net linkage count tie c lt) in
+    let second : entry v c0 *ℤ entry g c0 ≡ tie_at net linkage count tie c0 *ℤ entry g c0 = ap (λ (z : ℤ). z *ℤ entry g c0) (tied_entry net linkage count tie c0 lt0) in
+    omega (arith, ints, sum, first, second)
+
+-- from t g + u g0 = 0 and t h + u h0 = 0 with t not 0: h g0 = g h0
+eliminated : (t u g g0 h h0 : ℤ) → t ≢ pos 0 → (t *ℤ g) +ℤ (u *ℤ g0) ≡ pos 0 → (t *ℤ h) +ℤ (u *ℤ h0) ≡ pos 0 → h *ℤ g0 ≡ g *ℤ h0
+eliminated t u g g0 h h0 ne eg eh =
+    let a : (t *ℤ h) *ℤ g0 ≡ (pos 0 -ℤ (u *ℤ h0)) *ℤ g0 = ap (λ (z : ℤ). z *ℤ g0) (omega (arith, ints, eh)) in
+    let b : (t *ℤ g) *ℤ h0 ≡ (pos 0 -ℤ (u *ℤ g0)) *ℤ h0 = ap (λ (z : ℤ). z *ℤ h0) (omega (arith, ints, eg)) in
+    let a' : g0 *ℤ (pos 0 -ℤ (u *ℤ h0)) ≡ (g0 *ℤ pos 0) -ℤ (g0 *ℤ (u *ℤ h0)) = mul-sub g0 (pos 0) (u *ℤ h0) in
+    let b' : h0 *ℤ (pos 0 -ℤ (u *ℤ g0)) ≡ (h0 *ℤ pos 0) -ℤ (h0 *ℤ (u *ℤ g0)) = mul-sub h0 (pos 0) (u *ℤ g0) in
+    let swap : g0 *ℤ (u *ℤ h0) ≡ h0 *ℤ (u *ℤ g0) = left-comm g0 u h0 ∙ ap (λ (z : ℤ). u *ℤ z) (*ℤ_comm g0 h0) ∙ sym (left-comm h0 u g0) in
+    let none : t *ℤ ((h *ℤ g0) -ℤ (g *ℤ h0)) ≡ pos 0 =
+    omega (
+      arith,
+      ints,
+      mul-sub t (h *ℤ g0) (g *ℤ h0),
+      assoc t h g0,
+      assoc t g h0,
+      a,
+      b,
+      *ℤ_comm (pos 0 -ℤ (u *ℤ h0)) g0,
+      *ℤ_comm (pos 0 -ℤ (u *ℤ g0)) h0,
+      a',
+      b',
+      swap,
+      *ℤ-zero g0,
+      *ℤ-zero h0,
+    ) in
+    omega (arith, ints, no_zero t ((h *ℤ g0) -ℤ (g *ℤ h0)) none ne)
+
+cancel_right : (a x y : ℤ) → a ≢ pos 0 → x *ℤ a ≡ y *ℤ a → x ≡ y
+cancel_right a x y ne e =
+    let none : a *ℤ (x -ℤ y) ≡ pos 0 = omega (arith, ints, mul-sub a x y, *ℤ_comm a x, *ℤ_comm a y, e) in
+    omega (arith, ints, no_zero a (x -ℤ y) none ne)
+
+swapped : (x y z : ℤ) → (x *ℤ y) *ℤ z ≡ (x *ℤ z) *ℤ y
+swapped x y z = assoc x y z ∙ ap (λ (t : ℤ). x *ℤ t) (*ℤ_comm y z) ∙ sym (assoc x z y)
+
+-- entries of two vectors that are both in one ratio to a third are in one ratio
+crossed : (g0 gi gk hi hk h0 ei ek e0 : ℤ) → g0 ≢ pos 0 → hi *ℤ g0 ≡ gi *ℤ h0 → hk *ℤ g0 ≡ gk *ℤ h0 → ei *ℤ g0 ≡ gi *ℤ e0 → ek *ℤ g0 ≡ gk *ℤ e0 → hi *ℤ ek ≡ hk *ℤ ei
+crossed g0 gi gk hi hk h0 ei ek e0 ne a b c d =
+    let left : (hi *ℤ gk) *ℤ g0 ≡ (gi *ℤ h0) *ℤ gk = swapped hi gk g0 ∙ ap (λ (t : ℤ). t *ℤ gk) a in
+    let right : (hk *ℤ gi) *ℤ g0 ≡ (gk *ℤ h0) *ℤ gi = swapped hk gi g0 ∙ ap (λ (t : ℤ). t *ℤ gi) b in
+    let moved : (gi *ℤ h0) *ℤ gk ≡ (gk *ℤ h0) *ℤ gi = assoc gi h0 gk ∙ *ℤ_comm gi (h0 *ℤ gk) ∙ ap (λ (t : ℤ). t *ℤ gi) (*ℤ_comm h0 gk) in
+    let first : hi *ℤ gk ≡ hk *ℤ gi = cancel_right g0 (hi *ℤ gk) (hk *ℤ gi) ne (left ∙ moved ∙ sym right) in
+    let up : (hi *ℤ ek) *ℤ g0 ≡ (hi *ℤ gk) *ℤ e0 = assoc hi ek g0 ∙ ap (λ (t : ℤ). hi *ℤ t) d ∙ sym (assoc hi gk e0) in
+    let down : (hk *ℤ ei) *ℤ g0 ≡ (hk *ℤ gi) *ℤ e0 = assoc hk ei g0 ∙ ap (λ (t : ℤ). hk *ℤ t) c ∙ sym (assoc hk gi e0) in
+    cancel_right g0 (hi *ℤ ek) (hk *ℤ ei) ne (up ∙ ap (λ (t : ℤ). t *ℤ e0) first ∙ sym down)
+
+-- a tie for each complex but one
+abbrev pub AreTied : Net → List ℕ → ℕ → ℕ → Type 0
+AreTied net linkage count c0 = (c : ℕ) → c < length net.complexes → c ≢ c0 → (tie : List ℤ) × IsTie net linkage count (λ d. d ≡ c0) c tie
+
+-- every vector of the space is in one ratio to one that is not zero at the spared complex
+to_one : (net : Net) (linkage : List ℕ) (count c0 : ℕ) (g h : List ℤ) → c0 < length net.complexes → AreTied net linkage count c0 → IsKept net linkage count g → IsKept net linkage count h
+    → (i : ℕ) → entry h i *ℤ entry g c0 ≡ entry g i *ℤ entry h c0
+to_one net linkage count c0 g h lt0 tied_all kg kh i = elim (lt_or i (length net.complexes)) [
+  | inr past ↦ none_of (entry h i) (entry g c0) (past_end h i (omega (arith, kh.0, past))) ∙ sym (none_of (entry g i) (entry h c0) (past_end g i (omega (arith, kg.0, past))))
+  | inl lt ↦ elim (eq_or i c0) [
+    | inl e ↦ subst (λ (k : ℕ). entry h k *ℤ entry g c0 ≡ entry g k *ℤ entry h c0) (sym e) (*ℤ_comm (entry h c0) (entry g c0))
+    | inr ne ↦
+        let t = tied_all i lt ne in
+        eliminated (tie_at net linkage count t.0 i) (tie_at net linkage count t.0 c0) (entry g i) (entry g c0) (entry h i) (entry h c0) t.1.own
+        (balance net linkage count i c0 t.0 g lt lt0 ne t.1 kg)
+        (balance net linkage count i c0 t.0 h lt lt0 ne t.1 kh)
+  ]
+]
+
+pub one_line : (net : Net) (linkage : List ℕ) (count c0 : ℕ) (g h e : List ℤ) → c0 < length net.complexes → entry g c0 ≢ pos 0 → AreTied net linkage count c0
+    → IsKept net linkage count g → IsKept net linkage count h → IsKept net linkage count e → AreProportional h e
+one_line net linkage count c0 g h e lt0 some tied_all kg kh ke i k =
+    crossed (entry g c0) (entry g i) (entry g k) (entry h i) (entry h k) (entry h c0) (entry e i) (entry e k) (entry e c0) some
+    (to_one net linkage count c0 g h lt0 tied_all kg kh i)
+    (to_one net linkage count c0 g h lt0 tied_all kg kh k)
+    (to_one net linkage count c0 g e lt0 tied_all kg ke i)
+    (to_one net linkage count c0 g e lt0 tied_all kg ke k)

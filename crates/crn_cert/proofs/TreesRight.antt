@@ -1,0 +1,76 @@
+-- A formed tree whose nodes pass their tests is valid, and what valid trees show of networks.
+use Rattle.std.proofs.Common.{ℕ, ◌+◌, List, [], ◌∷◌, ◌++◌}
+use Rattle.crn_vec.specs.declared.signs.Sign.{Sign}
+use Rattle.crn_vec.specs.declared.signs.Sign.TheVariants.{Zero, Plus, Minus}
+use Rattle.crn_vec.specs.Network.{Net, IsNetwork}
+use Rattle.crn_vec.specs.NetSystems.{reaction_system}
+use Rattle.crn_vec.specs.Problems.{Signed}
+use Rattle.crn_vec.specs.Concordance.{IsTable, IsConcordant, concordance}
+use Rattle.crn_vec.specs.Influence.{plain_table, strong_table}
+use Rattle.crn_vec.proofs.CallerLemmas.{tables_are_steady}
+use Rattle.crn_vec.proofs.CallerLemmas.{tables_stand}
+use Rattle.crn_vec.proofs.CallerLemmas.{networks_have_tables}
+use Rattle.crn_cert.specs.declared.answer.Verdict.{Verdict}
+use Rattle.crn_cert.specs.declared.answer.Verdict.TheVariants.{Yes, NoPair, Unknown}
+use Rattle.crn_cert.specs.declared.answer.Proof.{Proof}
+use Rattle.crn_cert.specs.declared.answer.Proof.TheVariants.{Nothing, One}
+use Rattle.crn_cert.specs.Questions.{Earlier, Q14, Q15}
+use Rattle.crn_cert.specs.Tests.{AllHold}
+use Rattle.crn_cert.specs.Trees.{Plan, Both, Three, RulesA, RulesB, Level, plan, node_count, IsValid, IsFormedTree}
+use Rattle.crn_cert.specs.Nodes.{Said, Fits}
+use Rattle.crn_cert.specs.TreeTests.{tree_tests}
+use Rattle.crn_cert.specs.Formed.{IsFormedOf}
+use Rattle.crn_cert.specs.Valid.{table_rows}
+use Rattle.crn_cert.specs.Law.{IsTrueOrOpen, ValidIsTrue}
+use Rattle.crn_cert.proofs.Ranked.{hold_both}
+use Rattle.crn_cert.proofs.TreeLaws.{leaves_nothing}
+
+-- where what holds of each node gives its test in a problem
+pub tree_right : (w : Signed) (Holds : List Sign → Said → Type 0) → ((p : List Sign) (said : Said) → Holds p said → Fits w p said)
+    → (choices rows_a rows_b part : ℕ) (p : List Sign) (tree : Plan) → IsFormedTree choices rows_a rows_b p tree → AllHold (tree_tests Holds part p tree) → IsValid w p tree
+tree_right w Holds fits choices rows_a rows_b part p (Both zero plus) f t =
+    let split = hold_both (tree_tests Holds (part + 1) (p ++ Zero ∷ []) zero) (tree_tests Holds (part + 1 + node_count zero) (p ++ Plus ∷ []) plus) t.1 in
+    (fits p _ t.0, f.1, tree_right w Holds fits choices rows_a rows_b (part + 1) (p ++ Zero ∷ []) zero f.2 split.0, tree_right w Holds fits choices rows_a rows_b (part + 1 + node_count zero) (p ++ Plus ∷ []) plus f.3 split.1)
+tree_right w Holds fits choices rows_a rows_b part p (Three zero plus minus) f t =
+    let last = part + 1 + node_count zero + node_count plus in
+    let split = hold_both (tree_tests Holds (part + 1) (p ++ Zero ∷ []) zero ++ tree_tests Holds (part + 1 + node_count zero) (p ++ Plus ∷ []) plus) (tree_tests Holds last (p ++ Minus ∷ []) minus) t.1 in
+    let more = hold_both (tree_tests Holds (part + 1) (p ++ Zero ∷ []) zero) (tree_tests Holds (part + 1 + node_count zero) (p ++ Plus ∷ []) plus) split.0 in (
+      fits p _ t.0,
+      f.1,
+      tree_right w Holds fits choices rows_a rows_b (part + 1) (p ++ Zero ∷ []) zero f.2 more.0,
+      tree_right w Holds fits choices rows_a rows_b (part + 1 + node_count zero) (p ++ Plus ∷ []) plus f.3 more.1,
+      tree_right w Holds fits choices rows_a rows_b last (p ++ Minus ∷ []) minus f.4 split.1,
+    )
+tree_right w Holds fits choices rows_a rows_b part p (RulesA u) f t = fits p _ t.0
+tree_right w Holds fits choices rows_a rows_b part p (RulesB u) f t = fits p _ t.0
+tree_right w Holds fits choices rows_a rows_b part p Level f t = fits p _ t.0
+
+-- ---- concordance
+
+concordant_by : (net : Net) (table : List (List Sign)) → IsTable (reaction_system net) table → (tree : Plan) → IsValid (concordance (reaction_system net) table) [] tree → IsConcordant (reaction_system net) table
+concordant_by net table t tree v alpha weights d =
+    let m = reaction_system net in
+    let at = (tables_stand m table t).stands alpha weights d in
+    leaves_nothing (concordance m table) (tables_are_steady m table) tree [] at.0 v at.1 at.2
+
+concordant_law : (net : Net) (earlier : Earlier) → IsNetwork net → (v : Verdict) (p : Proof) → IsFormedOf net earlier Q14 v p → AllHold (table_rows net (plain_table net) v p) → IsTrueOrOpen net Q14 v
+concordant_law net earlier n (Unknown gap) p f t = tt
+concordant_law net earlier n Yes (One tree) f t =
+    let w = concordance (reaction_system net) (plain_table net) in
+    concordant_by net (plain_table net) (networks_have_tables net n).plain (plan tree) (tree_right w (Fits w) (λ p said h. h) _ _ _ 1 [] (plan tree) f.1 t)
+concordant_law net earlier n (NoPair alpha weights) Nothing f t = t.0
+concordant_law net earlier n v p f t = absurd f.1
+
+pub concordant_valid : ValidIsTrue [] [] Q14
+concordant_valid net earlier answer n known rests f t = concordant_law net earlier n answer.verdict answer.proof f t
+
+strongly_law : (net : Net) (earlier : Earlier) → IsNetwork net → (v : Verdict) (p : Proof) → IsFormedOf net earlier Q15 v p → AllHold (table_rows net (strong_table net) v p) → IsTrueOrOpen net Q15 v
+strongly_law net earlier n (Unknown gap) p f t = tt
+strongly_law net earlier n Yes (One tree) f t =
+    let w = concordance (reaction_system net) (strong_table net) in
+    concordant_by net (strong_table net) (networks_have_tables net n).strong (plan tree) (tree_right w (Fits w) (λ p said h. h) _ _ _ 1 [] (plan tree) f.1 t)
+strongly_law net earlier n (NoPair alpha weights) Nothing f t = t.0
+strongly_law net earlier n v p f t = absurd f.1
+
+pub strongly_concordant_valid : ValidIsTrue [] [] Q15
+strongly_concordant_valid net earlier answer n known rests f t = strongly_law net earlier n answer.verdict answer.proof f t

@@ -1,0 +1,38 @@
+ghost use Rattle.crn_cert.specs.Heads.{HeadsDependOnNoLists};
+ghost use Rattle.crn_cert.specs.TreeLaw.{ValidTreesLeaveNothing};
+ghost use Rattle.crn_cert.specs.Law.{PairPlacesArePairs, ShapesExist, TestedMarksAreSides, ValidAnswersAreTrue, ValidDocumentsAreTrue};
+
+/// A valid answer on each of these questions is true of the network, or open.
+pub fn valid_answers_are_true()
+    ensures { ValidAnswersAreTrue }
+{}
+
+/// If all answers are formed and valid, each verdict is true of the network or open.
+pub fn valid_documents_are_true()
+    ensures { ValidDocumentsAreTrue }
+{}
+
+/// Marks that pass the test of a side mark the side of a cut pair.
+pub fn tested_marks_are_sides()
+    ensures { TestedMarksAreSides }
+{}
+
+/// If a tree is valid at the empty prefix, no full prefix of its sign problem stands.
+pub fn valid_trees_leave_nothing()
+    ensures { ValidTreesLeaveNothing }
+{}
+
+/// The pairs that are computed from true strong classes are the linked pairs within terminal classes.
+pub fn pair_places_are_pairs()
+    ensures { PairPlacesArePairs }
+{}
+
+/// If the strong classes are true, the network has a shape for each vector over its complexes.
+pub fn shapes_exist()
+    ensures { ShapesExist }
+{}
+
+/// The form of a verdict's head and its tests do not depend on the lists that later records hold.
+pub fn heads_depend_on_no_lists()
+    ensures { HeadsDependOnNoLists }
+{}

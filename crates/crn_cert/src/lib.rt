@@ -1,0 +1,23 @@
+//! The data of answers: verdicts, their proofs and what leaves a question open, with what each says of a network.
+#![tactic(auto)]
+
+mod answer;
+mod answers;
+mod laws;
+mod rank_list;
+mod rows;
+#[cfg(test)]
+mod tests;
+mod tree;
+mod verdicts;
+
+pub use answer::{Answer, Gap, Proof, RankProof, Verdict};
+pub use answers::Answers;
+pub use laws::{
+    heads_depend_on_no_lists, pair_places_are_pairs, shapes_exist, tested_marks_are_sides,
+    valid_answers_are_true, valid_documents_are_true, valid_trees_leave_nothing,
+};
+pub use rank_list::RankList;
+pub use rows::Rows;
+pub use tree::Tree;
+pub use verdicts::Verdicts;
