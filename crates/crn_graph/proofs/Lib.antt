@@ -1,0 +1,7 @@
+mod ArcLaws
+mod ChainLaws
+mod SearchLaws
+mod ClassLaws
+mod LinkTests
+mod ReverseLaws
+mod PairLaws

@@ -1,0 +1,6 @@
+use Rattle.std.proofs.Common.{◌≡◌, take}
+use Rattle.crn_graph.specs.Inner.Pair.{marks_of}
+use Rattle.crn_graph.proofs.pair.side.Given as goal
+
+abbrev pub invariant-loop-l : goal.invariant-loop-l
+invariant-loop-l l = l.marks.list ≡ marks_of (take l.l-index l.label)

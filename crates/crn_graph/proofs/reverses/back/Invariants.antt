@@ -1,0 +1,9 @@
+use Rattle.std.proofs.Common.{◌≡◌, ◌<◌, ℕ, length, get_or}
+use Rattle.crn_cert.specs.ClassTests.{IsReverse}
+use Rattle.crn_graph.proofs.reverses.back.Given as goal
+
+abbrev pub invariant-loop-r : goal.invariant-loop-r
+invariant-loop-r l = record {
+  long : length l.reverses.list ≡ l.r;
+  each : (q : ℕ) → q < l.r → IsReverse l.net q (get_or l.reverses.list q 0);
+}

@@ -1,0 +1,5 @@
+pub mod Arcs
+pub mod Graph
+pub mod Search
+pub mod Linkage
+pub mod Pair
