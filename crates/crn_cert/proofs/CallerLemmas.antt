@@ -10,3 +10,9 @@ pub use Rattle.crn_cert.proofs.PairPlaces.{pair_places_are_pairs}
 pub use Rattle.crn_cert.proofs.ShapesExist.{shapes_exist}
 -- Heads of verdicts do not depend on the lists of later records.
 pub use Rattle.crn_cert.proofs.Heads.{tests_by_heads, forms_by_heads, heads_depend_on_no_lists}
+-- The verdict of a formed answer is formed; tests of trees; the share of cuts fits them.
+pub use Rattle.crn_cert.proofs.VerdictsFormed.{formed_answers_have_formed_verdicts}
+pub use Rattle.crn_cert.proofs.TreesDecided.{tests_decide_valid_trees}
+pub use Rattle.crn_cert.proofs.CutShares.{shares_fit}
+-- The count of the terminal classes of a shape is their number.
+pub use Rattle.crn_cert.proofs.TopsCounted.{tops_are_counted}

@@ -11,7 +11,7 @@ use Rattle.crn_vec.proofs.CallerLemmas.{strong_then, strong_back, weakly_reversi
 use Rattle.crn_vec.proofs.CallerLemmas.{reaction_in}
 use Rattle.crn_cert.specs.declared.answer.Verdict.{Verdict}
 use Rattle.crn_cert.specs.declared.answer.Verdict.TheVariants.{Classes, Strong, Yes, YesWeak, YesVec, NoReaction, NoVec, NoTerminal, NoDependence, NoCycle}
-use Rattle.crn_cert.specs.Questions.{Earlier, Q1, Q2, Q4, Q7, Q11, on, labels_of, count_of, exits_of, IsYes, IsNo}
+use Rattle.crn_cert.specs.Questions.{Earlier, Q1, Q2, Q4, Q7, Q11, on, labels_of, count_of, exits_of, terminal_of, IsYes, IsNo}
 use Rattle.crn_cert.specs.Says.{IsTrueOf, AreLinkageClasses, AreStrongClasses}
 use Rattle.crn_cert.specs.Law.{IsTrueOrOpen}
 use Rattle.crn_cert.specs.Valid.{linkage, linkage_count, strong, exits, terminals_in, HaveOneEach, IsFirstSplit}
@@ -30,6 +30,11 @@ pub record StrongKnown (net : Net) (count : ℕ) (labels exits : List ℕ) : Typ
 pub strong_known : (net : Net) (v : Verdict) → IsTrueOf net Q2 v → StrongKnown net (count_of v) (labels_of v) (exits_of v)
 strong_known net (Strong count terminal label exit) h = record { terminal = terminal; is = h }
 strong_known net v h = absurd h
+
+-- the number of terminal classes of a true verdict
+pub terminal_known : (net : Net) (v : Verdict) → IsTrueOf net Q2 v → IsNumberOf (λ y. IsComplex net y × IsTerminal net.reactions y) (SameStrong net.reactions) (terminal_of v)
+terminal_known net (Strong count terminal label exit) h = h.terminal_is
+terminal_known net v h = absurd h
 
 -- what later questions know of the classes
 pub record ClassesKnown (net : Net) (earlier : Earlier) : Type 0 where

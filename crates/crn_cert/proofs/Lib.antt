@@ -23,3 +23,7 @@ mod WorkedRows
 mod Heads
 mod PairPlaces
 mod ShapesExist
+mod VerdictsFormed
+mod TreesDecided
+mod CutShares
+mod TopsCounted

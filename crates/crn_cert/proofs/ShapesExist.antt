@@ -8,7 +8,8 @@ use Rattle.crn_vec.specs.Lists.{IsIn}
 use Rattle.crn_vec.specs.Vectors.{dot}
 use Rattle.crn_vec.specs.Network.{Net, IsNetwork, IsVector, JoinsTwo}
 use Rattle.crn_vec.specs.Linkage.{IsLinked, IsLabelCount}
-use Rattle.crn_vec.specs.Strong.{ReactsTo, Reaches, IsTerminal}
+use Rattle.crn_vec.specs.Deficiency.{IsComplex}
+use Rattle.crn_vec.specs.Strong.{ReactsTo, Reaches, SameStrong, IsTerminal}
 use Rattle.crn_vec.specs.CutPairs.{IsBetween, IsFreeStep, IsOnSide, IsFirstOfPair}
 use Rattle.crn_vec.specs.Sums.{AreMarks}
 use Rattle.crn_vec.specs.Signals.{Pair, Shape}
@@ -17,12 +18,13 @@ use Rattle.crn_vec.proofs.CallerLemmas.{lt_or, eq_or}
 use Rattle.crn_vec.proofs.CallerLemmas.{sum_by}
 use Rattle.crn_vec.proofs.CallerLemmas.{leads_then, leads_here, leads_step, leads_keeps}
 use Rattle.crn_vec.proofs.CallerLemmas.{reached_marks, marks_for, reaction_in, inside_at}
-use Rattle.crn_vec.proofs.CallerLemmas.{top_inside, some_is}
-use Rattle.crn_cert.specs.Questions.{Earlier, Q2, on, count_of}
+use Rattle.crn_vec.proofs.CallerLemmas.{top_inside, some_is, number_is_one, strong_back, strong_then}
+use Rattle.crn_cert.proofs.TopsCounted.{tops_are_counted}
+use Rattle.crn_cert.specs.Questions.{Earlier, Q2, on, count_of, terminal_of}
 use Rattle.crn_cert.specs.Says.{from_zero}
 use Rattle.crn_cert.specs.Valid.{strong, exits, is_same_pair, pair_places}
 use Rattle.crn_cert.specs.Law.{ShapesExist}
-use Rattle.crn_cert.proofs.Known.{StrongKnown, strong_known}
+use Rattle.crn_cert.proofs.Known.{StrongKnown, strong_known, terminal_known}
 use Rattle.crn_cert.proofs.PairPlaces.{same_pair, pair_same, pair_places_are_pairs}
 
 -- ---- numbers of terminal classes
@@ -316,5 +318,6 @@ shapes_exist net earlier g n h even =
         places_are = places;
         pairs = b.are;
       };
+      count = number_is_one (λ y. IsComplex net y × IsTerminal net.reactions y) (SameStrong net.reactions) (strong_back net.reactions) (strong_then net.reactions) count (terminal_of (on earlier Q2)) (tops_are_counted net (tops_of earlier) count t) (terminal_known net (on earlier Q2) h);
       pairs = b.long ∙ length-map (pair_places net earlier) (λ r. r - 1);
     }

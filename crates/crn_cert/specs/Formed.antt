@@ -90,13 +90,13 @@ IsWideGap net earlier Q15 system class index basis = (system ≡ 2) × (class �
 IsWideGap net earlier q system class index basis = ⊥
 
 -- there is a question, and it has this number
-abbrev pub IsNumberOf : Option Question → ℕ → Type 0
-IsNumberOf None j = ⊥
-IsNumberOf (Some q) j = number q ≡ j
+abbrev pub IsNumberOfQuestion : Option Question → ℕ → Type 0
+IsNumberOfQuestion None j = ⊥
+IsNumberOfQuestion (Some q) j = number q ≡ j
 
 -- the question on which an open one may rest
 abbrev pub MayRestOn : Question → ℕ → Type 0
-MayRestOn q j = IsNumberOf (rests_on q) j
+MayRestOn q j = IsNumberOfQuestion (rests_on q) j
 
 -- the questions that a budget may leave open
 abbrev pub MayBeSpent : Question → ℕ → Type 0
@@ -346,22 +346,32 @@ IsSignalTree net earlier tree =
     IsFormedTree (terminal_of (on earlier Q2) + species net)
     (complexes net + length (pair_places net earlier)) (species net) [] tree
 
--- signal: its lists, or a tree for the vector and, if and only if the network is weakly reversible,
--- one for its negative
+-- signal: a tree for the vector and, if and only if the network is weakly reversible, one for its
+-- negative
+abbrev pub AreSignalTrees : Net → Earlier → List Plan → Type 0
+AreSignalTrees net earlier (tree ∷ []) = (IsYes (on earlier Q4) → ⊥) × IsSignalTree net earlier tree
+AreSignalTrees net earlier (tree ∷ second ∷ []) =
+    IsYes (on earlier Q4) × IsSignalTree net earlier tree × IsSignalTree net earlier second
+AreSignalTrees net earlier trees = ⊥
+
+-- signal: its lists, or the trees
 abbrev pub RowsSignal : Net → Earlier → Verdict → Proof → Type 0
 RowsSignal net earlier (YesSignal turn shelves mu level weights) Nothing =
     AreSignalRows net earlier shelves.list mu.list level weights.list
-RowsSignal net earlier No (One tree) = (IsYes (on earlier Q4) → ⊥)
-    × IsSignalTree net earlier (plan tree)
-RowsSignal net earlier No (Two tree second) = IsYes (on earlier Q4)
-    × IsSignalTree net earlier (plan tree) × IsSignalTree net earlier (plan second)
+RowsSignal net earlier No (One tree) = AreSignalTrees net earlier (plan tree ∷ [])
+RowsSignal net earlier No (Two tree second) =
+    AreSignalTrees net earlier (plan tree ∷ plan second ∷ [])
 RowsSignal net earlier NotApplicable Nothing = Unit {0}
 RowsSignal net earlier verdict proof = ⊥
 
+-- concordance: one tree over the species
+abbrev pub AreTableTrees : Net → List Plan → Type 0
+AreTableTrees net (tree ∷ []) = IsFormedTree (species net) (species net) (species net) [] tree
+AreTableTrees net trees = ⊥
+
 -- concordance: a tree over the species, or two lists of a number for each reaction
 abbrev pub RowsConcordant : Net → Verdict → Proof → Type 0
-RowsConcordant net Yes (One tree) =
-    IsFormedTree (species net) (species net) (species net) [] (plan tree)
+RowsConcordant net Yes (One tree) = AreTableTrees net (plan tree ∷ [])
 RowsConcordant net (NoPair alpha weights) Nothing = AreFree (reactions net) alpha.list
     × AreFree (reactions net) weights.list
 RowsConcordant net verdict proof = ⊥

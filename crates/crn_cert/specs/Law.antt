@@ -12,7 +12,7 @@ use Rattle.crn_vec.specs.NetSignals.{IsShapeOf}
 use Rattle.crn_cert.specs.declared.answer.Verdict.{Verdict}
 use Rattle.crn_cert.specs.declared.answer.Verdict.TheVariants.{Unknown}
 use Rattle.crn_cert.specs.declared.answer.Answer.{Answer}
-use Rattle.crn_cert.specs.Questions.{Earlier, Question, Q1, Q2, Q4, Q5, Q6, Q7, Q9, Q10, Q11, Q12, Q13, on}
+use Rattle.crn_cert.specs.Questions.{Earlier, Question, Q1, Q2, Q4, Q5, Q6, Q7, Q9, Q10, Q11, Q12, Q13, on, terminal_of}
 use Rattle.crn_cert.specs.Says.{IsTrueOf, from_zero}
 use Rattle.crn_cert.specs.ClassTests.{AreSideMarks}
 use Rattle.crn_cert.specs.Formed.{IsFormed, AreFormed}
@@ -101,10 +101,11 @@ abbrev pub PairPlacesArePairs : Type 0
 PairPlacesArePairs = (net : Net) (earlier : Earlier) → IsNetwork net
     → IsTrueOf net Q2 (on earlier Q2) → ArePairs net.reactions (from_zero (pair_places net earlier))
 
--- the network has a shape for g, with as many pairs as are computed from the strong classes
+-- the network has a shape for g, with as many terminal classes and pairs as the strong classes have
 pub record HasShape (net : Net) (earlier : Earlier) (g : List ℤ) : Type 0 where
   pub shape : Shape
   pub is : IsShapeOf net g shape
+  pub count : shape.count ≡ terminal_of (on earlier Q2)
   pub pairs : length shape.pairs ≡ length (pair_places net earlier)
 
 -- if the strong classes are true, the network has a shape for each vector over its complexes

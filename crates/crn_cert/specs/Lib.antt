@@ -12,6 +12,7 @@ pub mod ConfluenceTests
 pub mod Valid
 pub mod Formed
 pub mod Licensed
+pub mod FormedVerdicts
 pub mod Heads
 pub mod Law
 pub mod Answers

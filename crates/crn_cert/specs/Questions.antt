@@ -3,7 +3,7 @@
 -- Shapes: each earlier verdict is paired with its question. Classes and reactions count from 1.
 use Rattle.std.specs.Prelude.{◌==◌, if◌then◌else◌, ℕ, ℤ, List, [], ◌∷◌, Option, Some, None}
 use Rattle.crn_cert.specs.declared.answer.Verdict.{Verdict}
-use Rattle.crn_cert.specs.declared.answer.Verdict.TheVariants.{Classes, Strong, Rank, Deficiency, Yes, YesWeak, YesVec, NoReaction, NoVec, NoTerminal, NoDependence, NoCycle, NotApplicable, Unknown}
+use Rattle.crn_cert.specs.declared.answer.Verdict.TheVariants.{Classes, Strong, Rank, Deficiency, Yes, YesVec, NoVec, NoTerminal, NoDependence, NoCycle, NotApplicable, Unknown}
 
 -- the fifteen questions
 pub data Question : Type 0 where
@@ -102,13 +102,11 @@ IsOpen other = ⊥
 -- a yes of question 4, 7 or 11
 abbrev pub IsYes : Verdict → Type 0
 IsYes Yes = Unit {0}
-IsYes (YesWeak weak) = Unit {0}
 IsYes (YesVec vector) = Unit {0}
 IsYes other = ⊥
 
 -- a no of question 7 or 11
 abbrev pub IsNo : Verdict → Type 0
-IsNo (NoReaction reaction) = Unit {0}
 IsNo (NoVec multipliers) = Unit {0}
 IsNo (NoTerminal class count) = Unit {0}
 IsNo NoDependence = Unit {0}

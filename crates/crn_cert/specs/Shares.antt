@@ -51,21 +51,32 @@ pub record IsShareable (room : ℕ) (u : List ℤ) : Type 0 where
   pub few : length u ≤ room
   pub narrow : AllByRecursion IsNarrow u
 
--- a share fits answers: each cut is written with its numbers, or has the number of its list in the
--- table
-pub record FitsAnswers (most room : ℕ) (answers : List Answer) (share : Shared) : Type 0 where
+-- a share fits cuts: each is written with its numbers, or has the number of its list in the table
+pub record FitsCuts (most room : ℕ) (cuts : List (List ℤ)) (share : Shared) : Type 0 where
   pub few : length share.table ≤ most
   pub lists : AllByRecursion (IsShareable room) share.table
-  pub leaves : AllZip (StandsAt share.table) share.leaf (all_cuts answers)
+  pub leaves : AllZip (StandsAt share.table) share.leaf cuts
+
+-- a share fits answers: it fits all their cuts
+abbrev pub FitsAnswers : ℕ → ℕ → List Answer → Shared → Type 0
+FitsAnswers most room answers share = FitsCuts most room (all_cuts answers) share
 
 -- the number of the list among these, which count from k, or 0
 abbrev pub number_in : ℕ → List (List ℤ) → List ℤ → ℕ
 number_in k [] u = 0
 number_in k (t ∷ ts) u = if pointwise int_eq t u then k else number_in (k + 1) ts u
 
--- the share of answers: the first `most` distinct lists of their cuts, and for each cut the number
--- of its list, or 0
+-- the share of cuts: the first `most` distinct lists, and for each cut the number of its list, or 0
+abbrev pub share_of_cuts : ℕ → List (List ℤ) → Shared
+share_of_cuts most cuts =
+    let table = take most (firsts (pointwise int_eq) cuts) in
+    record { table = table; leaf = map (number_in 1 table) cuts }
+
+-- the share of answers: that of all their cuts
 abbrev pub share_of : ℕ → List Answer → Shared
-share_of most answers =
-    let table = take most (firsts (pointwise int_eq) (all_cuts answers)) in
-    record { table = table; leaf = map (number_in 1 table) (all_cuts answers) }
+share_of most answers = share_of_cuts most (all_cuts answers)
+
+-- the share of cuts that lines may hold fits them
+abbrev pub SharesFit : Type 0
+SharesFit = (most room : ℕ) (cuts : List (List ℤ)) → AllByRecursion (IsShareable room) cuts
+    → FitsCuts most room cuts (share_of_cuts most cuts)

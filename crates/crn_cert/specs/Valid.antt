@@ -27,7 +27,7 @@ use Rattle.crn_cert.specs.Questions.{Earlier, Question, Q1, Q2, Q3, Q4, Q5, Q6, 
 use Rattle.crn_cert.specs.Says.{by_turn, IsReactionNumber, HasNoReverse, RuleOutDependence, RuleOutConservation}
 use Rattle.crn_cert.specs.Tests.{Test, test, AllHold}
 use Rattle.crn_cert.specs.ClassTests.{AreNumbered, AreEven, AreLinkTrees, AreFromTrees, AreToTrees, DoLevelsFall, AreAllExits, zeros_in, of_class, AreReverses, AreSideMarks, IsWayRound}
-use Rattle.crn_cert.specs.Trees.{plan, node_count}
+use Rattle.crn_cert.specs.Trees.{Plan, plan, node_count}
 use Rattle.crn_cert.specs.Nodes.{Said, Fits}
 use Rattle.crn_cert.specs.TreeTests.{tree_tests}
 use Rattle.crn_cert.specs.RankTests.{rank_tests}
@@ -363,20 +363,27 @@ IsSignalNode net g p said = (s : Shape) × IsShapeOf net g s
 abbrev pub OfVector : Earlier → ℤ → (List ℤ → Type 0) → Type 0
 OfVector earlier turn Has = IsSomeAnd (vector_given (on earlier Q12)) (λ g. Has (by_turn turn g))
 
+-- a node of the tree for the vector of question 12 with a turn fits its prefix
+abbrev pub IsNodeOf : Net → Earlier → ℤ → List Sign → Said → Type 0
+IsNodeOf net earlier turn p said = OfVector earlier turn (λ g. IsSignalNode net g p said)
+
+-- the tests of the trees of a signal, the second after the first
+abbrev pub signal_tree_tests : Net → Earlier → List Plan → List Test
+signal_tree_tests net earlier (tree ∷ []) = tree_tests (IsNodeOf net earlier (pos 1)) 1 [] tree
+signal_tree_tests net earlier (tree ∷ second ∷ []) =
+    tree_tests (IsNodeOf net earlier (pos 1)) 1 [] tree
+    ++ tree_tests (IsNodeOf net earlier (negsuc 0)) (1 + node_count tree) [] second
+signal_tree_tests net earlier trees = []
+
 -- the signal, or the nodes of the trees
 abbrev pub signal_rows : Net → Earlier → Verdict → Proof → List Test
 signal_rows net earlier (YesSignal turn shelves mu level weights) proof =
     test 4 45
     (OfVector earlier turn
     (λ g. IsSignalOf net g (map sign shelves.list) mu.list level weights.list)) ∷ []
-signal_rows net earlier No (One tree) =
-    tree_tests (λ p said. OfVector earlier (pos 1) (λ g. IsSignalNode net g p said)) 1 []
-    (plan tree)
+signal_rows net earlier No (One tree) = signal_tree_tests net earlier (plan tree ∷ [])
 signal_rows net earlier No (Two tree second) =
-    tree_tests (λ p said. OfVector earlier (pos 1) (λ g. IsSignalNode net g p said)) 1 []
-    (plan tree)
-    ++ tree_tests (λ p said. OfVector earlier (negsuc 0) (λ g. IsSignalNode net g p said))
-    (1 + node_count (plan tree)) [] (plan second)
+    signal_tree_tests net earlier (plan tree ∷ plan second ∷ [])
 signal_rows net earlier verdict proof = []
 
 -- ---- concordance: the pair or the tree

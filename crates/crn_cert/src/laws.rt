@@ -1,5 +1,7 @@
 ghost use Rattle.crn_cert.specs.Heads.{HeadsDependOnNoLists};
-ghost use Rattle.crn_cert.specs.TreeLaw.{ValidTreesLeaveNothing};
+ghost use Rattle.crn_cert.specs.FormedVerdicts.{FormedAnswersHaveFormedVerdicts};
+ghost use Rattle.crn_cert.specs.Shares.{SharesFit};
+ghost use Rattle.crn_cert.specs.TreeLaw.{TestsDecideValidTrees, ValidTreesLeaveNothing};
 ghost use Rattle.crn_cert.specs.Law.{PairPlacesArePairs, ShapesExist, TestedMarksAreSides, ValidAnswersAreTrue, ValidDocumentsAreTrue};
 
 /// A valid answer on each of these questions is true of the network, or open.
@@ -35,4 +37,19 @@ pub fn shapes_exist()
 /// The form of a verdict's head and its tests do not depend on the lists that later records hold.
 pub fn heads_depend_on_no_lists()
     ensures { HeadsDependOnNoLists }
+{}
+
+/// The verdict of a formed answer is formed.
+pub fn formed_answers_have_formed_verdicts()
+    ensures { FormedAnswersHaveFormedVerdicts }
+{}
+
+/// The tests of a formed tree hold if and only if the tree is valid.
+pub fn tests_decide_valid_trees()
+    ensures { TestsDecideValidTrees }
+{}
+
+/// The share of cuts that lines may hold fits them.
+pub fn shares_fit()
+    ensures { SharesFit }
 {}

@@ -87,4 +87,7 @@ fn laws_stand() {
     pair_places_are_pairs();
     shapes_exist();
     heads_depend_on_no_lists();
+    formed_answers_have_formed_verdicts();
+    tests_decide_valid_trees();
+    shares_fit();
 }

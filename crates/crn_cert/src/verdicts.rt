@@ -32,7 +32,7 @@ impl Verdicts {
         })
     }
 
-    /// Adds the verdict to the next question. It takes no memory.
+    /// Adds the verdict on the next question. It takes no memory.
     pub fn push(&mut self, verdict: Verdict)
         requires { length self.old < 15 }
         ensures { self.new ≡ self.old ++ verdict ∷ [] }

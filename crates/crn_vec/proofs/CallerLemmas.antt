@@ -61,7 +61,7 @@ pub use Rattle.crn_vec.proofs.LabelMarks.{label_sum, label_sum_is}
 -- Columns and vectors of a network.
 pub use Rattle.crn_vec.proofs.Carried.{entry-column, length-column, vector_long, gain_made}
 -- The deficiency is one number, and so is the confluence vector of a regular network up to multiples.
-pub use Rattle.crn_vec.proofs.Numbers.{deficiency_is_one}
+pub use Rattle.crn_vec.proofs.Numbers.{number_is_one, deficiency_is_one}
 pub use Rattle.crn_vec.proofs.Confluences.{confluence_vectors_are_one, negative_sum}
 -- Mirrors of prefixes.
 pub use Rattle.crn_vec.proofs.Mirrors.{opposite-opposite, length-mirror, mirror-append, mirror-zero, mirror_stands}

@@ -1,0 +1,67 @@
+-- The share of cuts fits them.
+use Rattle.std.proofs.Common.{◌≡◌, ◌⊎◌, ◌≤◌, inl, inr, ℕ, zero, suc, ◌+◌, List, [], ◌∷◌, length, map, take, refl, sym, subst, ◌∙◌, arith}
+use Rattle.std.specs.Prelude.{ℤ, pos}
+use Rattle.std.specs.List.{AllZip}
+use Rattle.std.specs.Ordering.{int_eq}
+use Rattle.std.specs.Cmp.Lexicographic.{pointwise}
+use Rattle.std.specs.Cmp.Rules.{signed_items}
+use Rattle.std.proofs.lemmas.Bool.{cases_Bool}
+use Rattle.crn_vec.specs.Lists.{IsIn, firsts}
+use Rattle.crn_vec.proofs.CallerLemmas.{firsts_from, all_in, all_from}
+use Rattle.crn_cert.specs.Shares.{StandsAt, IsShareable, number_in, share_of_cuts, SharesFit}
+
+take_from : {A : Type 0} (n : ℕ) (xs : List A) (y : A) → IsIn y (take n xs) → IsIn y xs
+take_from zero xs y h = absurd h
+take_from (suc n) [] y h = absurd h
+take_from (suc n) (x ∷ xs) y (inl e) = inl e
+take_from (suc n) (x ∷ xs) y (inr h) = inr (take_from n xs y h)
+
+take_few : {A : Type 0} (n : ℕ) (xs : List A) → length (take n xs) ≤ n
+take_few zero xs = omega arith
+take_few (suc n) [] = omega arith
+take_few (suc n) (x ∷ xs) = omega (arith, take_few n xs)
+
+-- the number of a list is 0, or leads to it
+record Found (k : ℕ) (ts : List (List ℤ)) (u : List ℤ) : Type 0 where
+  i : ℕ
+  is : number_in k ts u ≡ k + i
+  at : StandsAt ts (suc i) u
+
+found_or : (k : ℕ) (ts : List (List ℤ)) (u : List ℤ) → (number_in k ts u ≡ 0) ⊎ Found k ts u
+found_or k [] u = inl refl
+found_or k (t ∷ ts) u = elim (cases_Bool (pointwise int_eq t u)) [
+  | inl hit ↦
+      let step : number_in k (t ∷ ts) u ≡ k = rw hit refl in
+      let same : k ≡ k + 0 = omega arith in
+      inr (record { i = 0; is = step ∙ same; at = (signed_items t u).0 hit })
+  | inr miss ↦
+      let step : number_in k (t ∷ ts) u ≡ number_in (k + 1) ts u = rw miss refl in
+      elim (found_or (k + 1) ts u) [
+        | inl none ↦ inl (step ∙ none)
+        | inr f ↦ let same : (k + 1) + f.i ≡ k + suc f.i = omega arith in
+            inr (record { i = suc f.i; is = step ∙ (f.is ∙ same); at = f.at })
+      ]
+]
+
+stands : (ts : List (List ℤ)) (u : List ℤ) → StandsAt ts (number_in 1 ts u) u
+stands ts u = elim (found_or 1 ts u) [
+  | inl none ↦ subst (λ (n : ℕ). StandsAt ts n u) (sym none) tt
+  | inr f ↦ let same : 1 + f.i ≡ suc f.i = omega arith in subst (λ (n : ℕ). StandsAt ts n u) (sym (f.is ∙ same)) f.at
+]
+
+all_stand : (ts cuts : List (List ℤ)) → AllZip (StandsAt ts) (map (number_in 1 ts) cuts) cuts
+all_stand ts [] = tt
+all_stand ts (u ∷ cuts) = (stands ts u, all_stand ts cuts)
+
+pub shares_fit : SharesFit
+shares_fit most room cuts h =
+    let table : List (List ℤ) = take most (firsts (pointwise int_eq) cuts) in
+    record {
+      few = take_few most (firsts (pointwise int_eq) cuts);
+      lists = all_from (IsShareable room) table (λ y i. all_in (IsShareable room) cuts y h (firsts_from (pointwise int_eq) cuts y (take_from most (firsts (pointwise int_eq) cuts) y i)));
+      leaves = all_stand table cuts;
+    }
+
+-- the trees of questions 14 and 15 of A <-> B: the cuts 0 1, 1 0, 1 1, 1 0, twice
+worked : (share_of_cuts 4096 ((pos 0 ∷ pos 1 ∷ []) ∷ (pos 1 ∷ pos 0 ∷ []) ∷ (pos 1 ∷ pos 1 ∷ []) ∷ (pos 1 ∷ pos 0 ∷ []) ∷ (pos 0 ∷ pos 1 ∷ []) ∷ (pos 1 ∷ pos 0 ∷ []) ∷ (pos 1 ∷ pos 1 ∷ []) ∷ (pos 1 ∷ pos 0 ∷ []) ∷ [])).leaf ≡ 1 ∷ 2 ∷ 3 ∷ 2 ∷ 1 ∷ 2 ∷ 3 ∷ 2 ∷ []
+worked = refl
