@@ -29,7 +29,8 @@ impl Model for Graph {
 
     ghost invariant = { λ g.
         let arcs = g.arcs.items in
-        IsChained arcs (length arcs) g.first.items g.next.items × AreInside (length g.first.items) arcs };
+        IsChained arcs (length arcs) g.first.items g.next.items
+        × AreInside (length g.first.items) arcs };
 }
 
 impl Graph {

@@ -96,7 +96,9 @@ fn command_meant(said: &Said<'_>) -> Option<Command>
     ensures { let command = text_in said.now.command in
         let count = text_in said.now.count in
         let budget = text_in said.now.budget in
-        MatchOption result ((c : Command) → Means command count budget c → ⊥) (Means command count budget) }
+        MatchOption result
+        ((c : Command) → Means command count budget c → ⊥)
+        (Means command count budget) }
 {
     match said.command {
         Some("report") => {
