@@ -8,6 +8,10 @@ use memchr::memchr;
 fn bytes_before(text: &[u8], byte: u8) -> usize
     ensures { result ≡ prefix_len (λ b. not (b == byte)) text.now }
 {
+    // Many lines are empty, or a comment alone.
+    if !text.is_empty() && text[0] == byte {
+        return 0;
+    }
     match memchr(byte, text) {
         Some(place) => place,
         None => text.len(),
