@@ -25,12 +25,7 @@ mark_push m (x ∷ bs) b = mark_push ((m * 31 % 2 ^ 64 + x) % 2 ^ 64) bs b
 pub mark_more : (name : List ℕ) (i : ℕ) → i < length name → mark (take (i + 1) name) ≡ (mark (take i name) * 31 % 2 ^ 64 + get_or name i 0) % 2 ^ 64
 mark_more name i lt = ap mark (take_more name i 0 lt) ∙ mark_push 0 (take i name) (get_or name i 0)
 
--- ---- what small sums say
-
-small_at : (sums : List ℕ) (k : ℕ) → list_all (λ s. nat_le s MAX_AMOUNT) sums ≡ true → k < length sums → get_or sums k 0 ≤ MAX_AMOUNT
-small_at [] k h lt = absurd (omega arith)
-small_at (s ∷ sums) zero h lt = leb-true s MAX_AMOUNT (and_parts (nat_le s MAX_AMOUNT) (list_all (λ s. nat_le s MAX_AMOUNT) sums) h).0
-small_at (s ∷ sums) (suc k) h lt = small_at sums k (and_parts (nat_le s MAX_AMOUNT) (list_all (λ s. nat_le s MAX_AMOUNT) sums) h).1 (omega arith)
+-- ---- what the sums of buckets say
 
 -- a term of the name is in the bucket of the name
 in_its_bucket : (text name : List ℕ) (size : ℕ) (t : Term) → cond (bytes_eq (name_at text t) name) t.count 0 ≤ in_bucket text size (mark name % size) t
@@ -43,12 +38,11 @@ in_its_bucket text name size t = elim (cases_Bool (bytes_eq (name_at text t) nam
 ]
 
 -- if the sum of each bucket is within the limit, so is that of each name
-pub fit_by_buckets : (text : List ℕ) (side : List Term) (size : ℕ) (sums : List ℕ) → 1 ≤ size → AreBucketSums text side size sums → list_all (λ s. nat_le s MAX_AMOUNT) sums ≡ true → (name : List ℕ) → amount_in (side_of text side) name ≤ MAX_AMOUNT
-fit_by_buckets text side size sums some are small name =
+pub fit_by_buckets : (text : List ℕ) (side : List Term) (size : ℕ) (sums : List ℕ) → 1 ≤ size → AreBucketSums text side size sums → (name : List ℕ) → amount_in (side_of text side) name ≤ MAX_AMOUNT
+fit_by_buckets text side size sums some are name =
     let k = mark name % size in
     let lt : mark name % size < size = mod-lt (mark name) some in
     let is = amount_is text name side in
     let le = sum_by-le-sum_by (λ t. cond (bytes_eq (name_at text t) name) t.count 0) (in_bucket text size k) side (in_its_bucket text name size) in
-    let value = are.1 k lt in
-    let few = small_at sums k small (let long = are.0 in omega (arith, lt, long)) in
-    omega (arith, is, le, value, few)
+    let here = are.1 k lt in
+    omega (arith, is, le, here)

@@ -11,8 +11,8 @@ use crate::term::Term;
 use crn_vec::{MAX_AMOUNT, MAX_TERMS};
 use std::alloc::{AllocError, Global};
 
-// The number of terms from which on it pays to try sums of buckets before sums of names.
-const MANY_TERMS: usize = 256;
+// The least number of buckets that sums are tried in.
+const MIN_BUCKETS: usize = 1024;
 
 // At most `length` bytes of a text from place `at` on. The two `min`s make it total: the closure that compares two
 // shares can't have a precondition.
@@ -179,7 +179,7 @@ fn total(side: &[Term]) -> u32
 
 /// Whether each name's sum on the side is within the limit of an amount, as `NetBuilder::add` requires.
 ///
-/// If all numbers together exceed the limit, it takes 12 bytes for each term.
+/// If all numbers together exceed the limit, it takes 12 bytes for each term, or 1,024 if that is more.
 pub fn sums_fit(alloc: Global, text: &[u8], side: &[Term]) -> Result<bool, AllocError>
     requires numbers { AllByRecursion (λ t. t.count ≤ MAX_AMOUNT) side.now }
     requires few { length side.now ≤ MAX_TERMS }
@@ -190,7 +190,7 @@ pub fn sums_fit(alloc: Global, text: &[u8], side: &[Term]) -> Result<bool, Alloc
     if total(side) <= MAX_AMOUNT {
         return Ok(true);
     }
-    if side.len() >= MANY_TERMS && buckets_fit(alloc, text, side)? {
+    if buckets_fit(alloc, text, side, side.len().max(MIN_BUCKETS))? {
         return Ok(true);
     }
     let shares = shares_by_name(alloc, text, side, &[])?;

@@ -1,7 +1,8 @@
 -- For the contracts of private functions alone.
 -- Names in buckets, and the sums of the numbers in each.
-use Rattle.std.specs.Prelude.{◌≡◌, ◌<◌, ◌+◌, ◌*◌, ◌%◌, ◌^◌, ◌==◌, min, ℕ, if◌then◌else◌, List, [], ◌∷◌, length, slice_index}
+use Rattle.std.specs.Prelude.{◌≡◌, ◌<◌, ◌+◌, ◌*◌, ◌%◌, ◌^◌, ◌==◌, ◌≤◌, ℕ, if◌then◌else◌, List, [], ◌∷◌, length, slice_index}
 use Rattle.std.specs.List.{sum_by}
+use Rattle.crn_vec.specs.declared.limits.TheConstants.{MAX_AMOUNT}
 use Rattle.crn_net.specs.declared.term.Term.{Term}
 use Rattle.crn_net.specs.Terms.{name_at}
 
@@ -19,7 +20,7 @@ abbrev pub in_bucket : List ℕ → ℕ → ℕ → Term → ℕ
 in_bucket text size bucket t =
     if mark (name_at text t) % size == bucket then t.count else 0
 
--- the sums of the numbers by buckets, each up to 255
+-- the sums of the numbers by buckets, none of them above the limit of an amount
 abbrev pub AreBucketSums : List ℕ → List Term → ℕ → List ℕ → Type 0
 AreBucketSums text side size sums =
-    (length sums ≡ size) × ((k : ℕ) → k < size → slice_index sums k ≡ min (sum_by (in_bucket text size k) side) 255)
+    (length sums ≡ size) × ((k : ℕ) → k < size → (slice_index sums k ≡ sum_by (in_bucket text size k) side) × (slice_index sums k ≤ MAX_AMOUNT))

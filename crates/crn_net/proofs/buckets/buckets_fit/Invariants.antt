@@ -1,6 +1,6 @@
 use Rattle.std.proofs.Common.{take}
 use Rattle.crn_net.specs.Inner.BucketSums.{AreBucketSums}
-use Rattle.crn_net.proofs.buckets.bucket_sums.Given as goal
+use Rattle.crn_net.proofs.buckets.buckets_fit.Given as goal
 
 abbrev pub invariant-loop-term : goal.invariant-loop-term
 invariant-loop-term l = AreBucketSums l.text (take l.term-index l.side) l.size l.sums.items
