@@ -5,3 +5,6 @@ mod ClassLaws
 mod LinkTests
 mod ReverseLaws
 mod PairLaws
+mod StrongLaws
+mod ExitLaws
+mod StrongTests

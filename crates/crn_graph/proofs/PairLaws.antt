@@ -217,7 +217,7 @@ walk_ended net s from c walk h w none = elim (h.hangs c w.its) [
 ]
 
 -- one reaction goes between one pair
-same_ends : (net : Net) (r a b a' b' : ℕ) → IsReactionNumber net r a b → IsReactionNumber net r a' b' → (a ≡ a') × (b ≡ b')
+pub same_ends : (net : Net) (r a b a' b' : ℕ) → IsReactionNumber net r a b → IsReactionNumber net r a' b' → (a ≡ a') × (b ≡ b')
 same_ends net r a b a' b' p q = let e : (a, b) ≡ (a', b') = sym p.1.1 ∙ q.1.1 in (ap (λ (v : ℕ × ℕ). v.0) e, ap (λ (v : ℕ × ℕ). v.1) e)
 
 free_back : (net : Net) (arcs : List Arc) (s t : Search) (r y z c d : ℕ) → IsRound net arcs s t r y z → IsStepBack net t c d → IsFreeStep net.reactions y z c d

@@ -3,3 +3,4 @@ pub mod Graph
 pub mod Search
 pub mod Linkage
 pub mod Pair
+pub mod Strong

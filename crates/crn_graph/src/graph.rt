@@ -1,5 +1,5 @@
 ghost use Rattle.std.specs.Prelude.{◌≡◌, ◌≤◌, ◌<◌, length, IfOk};
-ghost use Rattle.crn_graph.specs.Inner.Arcs.{arc_at, AreArcsOf};
+ghost use Rattle.crn_graph.specs.Inner.Arcs.{arc_at, AreArcsOf, AreInside};
 ghost use Rattle.crn_graph.specs.Inner.Graph.{IsNext};
 
 use crate::arcs::{Arc, Way, arcs_of};
@@ -38,6 +38,7 @@ impl Graph {
     pub(crate) fn new(alloc: Global, net: &Network, way: Way) -> Result<Graph, NoMemory>
         ensures complexes { IfOk result (λ made. made.complexes ≡ length net.now.complexes) }
         ensures some { IfOk result (λ made. 1 ≤ made.complexes) }
+        ensures inside { IfOk result (λ made. AreInside made.complexes made.arcs) }
         ensures arcs { IfOk result (λ made. AreArcsOf net.now way made.arcs) }
     {
         let arcs = arcs_of(alloc, net, way)?;

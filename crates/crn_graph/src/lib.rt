@@ -2,12 +2,15 @@
 #![tactic(auto)]
 
 mod arcs;
+mod classes;
 mod graph;
 mod linkage_data;
 mod pair;
 mod reverses;
 mod search;
+mod strong_data;
 
 pub use linkage_data::{LinkageData, linkage};
 pub use pair::{CutPair, cut_pair};
 pub use reverses::{Reverses, back};
+pub use strong_data::{StrongData, strong};
