@@ -1,5 +1,5 @@
 -- One line of a text after another.
-use Rattle.std.proofs.Common.{◌≡◌, ℕ, zero, suc, ◌+◌, ◌<◌, ◌≤◌, Bool, true, false, List, [], ◌∷◌, ◌++◌, length, take, drop, get_or, Option, Some, None, Result, Ok, Err, Bor, refl, sym, ap, ◌∙◌, inl, inr, below_more, arith}
+use Rattle.std.proofs.Common.{◌≡◌, ℕ, zero, suc, ◌+◌, ◌<◌, ◌≤◌, Bool, true, false, List, [], ◌∷◌, ◌++◌, length, take, drop, get_or, Option, Some, None, Result, Ok, Err, Bor, refl, sym, ap, subst, ◌∙◌, append_assoc, inl, inr, below_more, arith}
 use Rattle.crn_vec.proofs.CallerLemmas.{flat_map_push}
 use Rattle.std.specs.Prelude.{map, ◌⊎◌}
 use Rattle.std.specs.List.{AllByRecursion, list_all}
@@ -12,7 +12,7 @@ use Rattle.crn_net.specs.declared.fault.NetFault.{NetFault}
 use Rattle.crn_net.specs.declared.fault.NetFault.TheVariants as refusal
 use Rattle.crn_net.proofs.CallerLemmas.{Grown-names, Grown-reactions}
 use Rattle.crn_text.specs.Codes.{net_code}
-use Rattle.crn_text.specs.Tokens.{lines, before_comment, tokens}
+use Rattle.crn_text.specs.Tokens.{lines, before_comment, tokens, tokens_after}
 use Rattle.crn_text.specs.Sides.{line_statements, all_statements}
 use Rattle.crn_text.specs.Faults.{is_plain, own_fault, line_fault, or_else}
 use Rattle.crn_text.specs.Spells.{Spells, Fault, fault_on, AreFaultless, IsFirstFault, IsWithoutReaction}
@@ -32,6 +32,21 @@ unfolding own_fault
 line_gives before line (Ok done) net h w = (rw h w.0, w.1)
 line_gives before line (Err fault) net h (inl m) = inl m
 line_gives before line (Err fault) net h (inr f) = inr (rw h f)
+
+nothing : (xs : List ℕ) → length xs ≡ 0 → xs ≡ []
+nothing [] e = refl
+nothing (x ∷ xs) e = absurd (omega arith)
+
+no_tokens_give : (before : List Statement) (done : Unit {0}) (net : Net) → Grown before net → TokensGive before (tokens []) (Ok done) net
+unfolding tokens_after
+no_tokens_give before done net grown = (refl, subst (λ (ss : List Statement). Grown ss net) (sym (append-nil before)) grown)
+
+-- a line without a body has no tokens
+pub empty_gives : (before : List Statement) (line : List ℕ) (done : Unit {0}) (net : Net) → length (before_comment line) ≡ 0 → Grown before net → LineGives before line (Ok done) net
+empty_gives before line done net none grown =
+    let empty : before_comment line ≡ [] = nothing (before_comment line) none in
+    let some : TokensGive before (tokens []) (Ok done) net = no_tokens_give before done net grown in
+    line_gives before line (Ok done) net (rw empty refl) (rw empty some)
 
 -- ---- the loop over the lines
 

@@ -5,6 +5,7 @@ ghost use Rattle.crn_text.specs.Inner.Pieces.{SplitsAt};
 use memchr::memchr;
 
 // The number of bytes before the first byte that equals this one.
+#[inline(always)]
 fn bytes_before(text: &[u8], byte: u8) -> usize
     ensures { result ≡ prefix_len (λ b. not (b == byte)) text.now }
 {
