@@ -1,0 +1,38 @@
+use Rattle.std.proofs.Common.{◌≡◌, ◌≤◌, ◌++◌, length, take, ap, ◌∙◌, arith}
+use Rattle.std.proofs.lemmas.List.{length-append, length-take}
+use Rattle.crn_io.specs.declared.lines.TheConstants.{MAX_AHEAD}
+use Rattle.crn_io.proofs.Streams.{Consumes-then}
+use Rattle.crn_io.proofs.LineLists.{EndsAt-held, IsLine-held, held_more}
+use Rattle.crn_io.proofs.gather.gather.Goals as goal
+
+pub returns-in-Some-clause-gives : goal.returns-in-Some-clause-gives
+returns-in-Some-clause-gives g c =
+    let inv = c.pulls.invariant in
+    let did = c.in-Got.ensures in
+    let prefix = c.split_at.result.0.now in
+    let prefix_is : prefix ≡ take c.in-Got.count c.pull.new.into = c.split_at.ensures.front in
+    let few : length prefix ≤ MAX_AHEAD = omega (arith, ap length prefix_is, length-take c.in-Got.count c.pull.new.into) in
+    let here : c.len-at.result ≡ length c.pulls.held.items = omega arith in (
+      inv.0 ++ prefix,
+      held_more _ inv.0 _ prefix _ inv.1 c.hold.ensures.items,
+      Consumes-then _ _ _ inv.0 prefix inv.2 (rw prefix_is did.2),
+      (EndsAt-held _ prefix _ _ c.in-Some.i c.hold.ensures.items here inv.4 c.in-Some.ensures, omega (arith, ap length c.hold.ensures.items, length-append c.pulls.held.items prefix)),
+      did.3 ∙ inv.3,
+      omega (arith, ap length c.hold.ensures.items, length-append c.pulls.held.items prefix),
+    )
+
+pub pulls-preserved : goal.pulls-preserved
+pulls-preserved g c =
+    let inv = c.pulls.invariant in
+    let did = c.in-Got.ensures in
+    let prefix = c.split_at.result.0.now in
+    let prefix_is : prefix ≡ take c.in-Got.count c.pull.new.into = c.split_at.ensures.front in (
+      inv.0 ++ prefix,
+      held_more _ inv.0 _ prefix _ inv.1 c.hold.ensures.items,
+      Consumes-then _ _ _ inv.0 prefix inv.2 (rw prefix_is did.2),
+      did.3 ∙ inv.3,
+      IsLine-held _ prefix _ c.hold.ensures.items inv.4 c.in_default.ensures,
+      omega arith,
+      omega arith,
+      omega (arith, ap length c.hold.ensures.items, length-append c.pulls.held.items prefix),
+    )
