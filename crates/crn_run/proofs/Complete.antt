@@ -5,7 +5,7 @@ use Rattle.crn_io.specs.Push.{HasNoRoom}
 use Rattle.crn_vec.specs.Linkage.{AreRightLabels, IsLabelCount}
 use Rattle.crn_text.specs.Codes.{code_number, code_name}
 use Rattle.crn_text.specs.Spells.{Spells, Fault}
-use Rattle.crn_text.specs.declared.code.TextCode.{TextCode}
+use Rattle.crn_text.specs.declared.fault.TextCode.{TextCode}
 use Rattle.crn_text.proofs.CallerLemmas.{one_fault, no_fault, spelling_unique}
 use Rattle.crn_run.specs.Report.{render}
 use Rattle.crn_run.specs.Run.{Devices, WasLeft, IsReportOf, IsRefusalOf, IsAllowed, refused_line, RunGives, ShowsNetwork, ShowsFault, IsComplete, IsQuiet}

@@ -38,7 +38,7 @@ agree_below rs a b (suc n) p q len le y lt =
 pub one_labels : (rs : List (ℕ × ℕ)) (a b : List ℕ) → AreRightLabels rs a → AreRightLabels rs b → length a ≡ length b → a ≡ b
 one_labels rs a b p q len = same_number_lists a b len (λ k lt. agree_below rs a b (length a) p q len (omega arith) k lt)
 
--- no count passes another
+-- no count exceeds another
 no_more : (labels : List ℕ) (m n : ℕ) → IsLabelCount labels m → IsLabelCount labels n → m < n → ⊥
 no_more labels m n p q lt =
     let at = q.each n (omega arith) (omega arith) in

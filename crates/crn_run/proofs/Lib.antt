@@ -1,5 +1,4 @@
 mod Texts
-mod Labels
 mod LabelLaws
 mod Runs
 mod Complete

@@ -10,7 +10,7 @@ use Rattle.crn_io.specs.Pull.{Consumes, HasNoneLeft}
 use Rattle.crn_io.specs.Read.{ReadGives, ConsumesUpTo}
 use Rattle.crn_text.specs.Codes.{code_number, code_name}
 use Rattle.crn_text.specs.Spells.{IsTooLong}
-use Rattle.crn_text.specs.declared.code.TextCode.TheVariants.{TextTooLong}
+use Rattle.crn_text.specs.declared.fault.TextCode.TheVariants.{TextTooLong}
 use Rattle.crn_io.specs.Device.{SourceSeen, SinkSeen}
 use Rattle.crn_run.specs.Run.{Devices, WasLeft, IsReadOut, IsReadUp, IsReport, IsRefusalOf, refused_line, usage_line, RunGives}
 use Rattle.crn_run.specs.Inner.Steps.{LineGives, ReportGives}

@@ -1,4 +1,3 @@
 -- For the contracts of private functions alone.
 pub mod Parse
-pub mod Spread
 pub mod Steps

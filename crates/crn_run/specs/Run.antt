@@ -9,7 +9,7 @@ use Rattle.crn_io.specs.Pull.{Consumes}
 use Rattle.crn_io.specs.Write.{WroteAll, WrotePrefix}
 use Rattle.crn_text.specs.Codes.{code_number, code_name}
 use Rattle.crn_text.specs.Spells.{Spells, Fault}
-use Rattle.crn_text.specs.declared.code.TextCode.{TextCode}
+use Rattle.crn_text.specs.declared.fault.TextCode.{TextCode}
 use Rattle.crn_run.specs.Report.{render}
 use Rattle.crn_run.specs.Words.{IsCommand}
 use Rattle.crn_run.specs.declared.words.Command.TheVariants.{Report}

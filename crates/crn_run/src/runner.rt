@@ -5,13 +5,13 @@ ghost use Rattle.crn_io.specs.Read.{ConsumesUpTo};
 ghost use Rattle.crn_run.specs.Run.{IsReport, RunGives, IsComplete, usage_line, refused_line};
 ghost use Rattle.crn_run.specs.Inner.Steps.{LineGives, ReportGives};
 ghost use Rattle.crn_text.specs.Codes.{code_number, code_name};
-ghost use Rattle.crn_text.specs.declared.code.TextCode.TheVariants.{NoMemory};
+ghost use Rattle.crn_text.specs.declared.fault.TextCode.TheVariants.{NoMemory};
 ghost use Rattle.crn_run.specs.declared.status.Status.TheVariants.{Refused, Usage};
 
-use crate::linkage::linkage;
 use crate::report::{put_refused_line, put_usage_line, write_report};
 use crate::status::Status;
 use crate::words::{Command, command_of};
+use crn_graph::linkage;
 use crn_io::{ReadStop, Sink, Source, read_all};
 use crn_text::{TextCode, read};
 use crn_vec::MAX_TEXT;

@@ -1,6 +1,6 @@
 use Rattle.std.proofs.Common.{inr}
 use Rattle.crn_text.specs.Codes.{code_number, code_name}
-use Rattle.crn_text.specs.declared.code.TextCode.TheVariants.{TextTooLong}
+use Rattle.crn_text.specs.declared.fault.TextCode.TheVariants.{TextTooLong}
 use Rattle.crn_run.specs.Run.{refused_line}
 use Rattle.crn_run.proofs.Runs.{too_long, refusal_ends}
 use Rattle.crn_run.proofs.runner.report.Goals as goal

@@ -1,5 +1,5 @@
 use Rattle.crn_run.proofs.LabelLaws.{one_labels, one_count}
-use Rattle.crn_run.proofs.linkage.right_labels_are_one.Goals as goal
+use Rattle.crn_run.proofs.laws.right_labels_are_one.Goals as goal
 
 pub returns-clause-labels : goal.returns-clause-labels
 returns-clause-labels c = one_labels
