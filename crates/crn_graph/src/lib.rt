@@ -9,6 +9,8 @@ mod pair;
 mod reverses;
 mod search;
 mod strong_data;
+#[cfg(test)]
+mod tests;
 
 pub use linkage_data::{LinkageData, linkage};
 pub use pair::{CutPair, cut_pair};
