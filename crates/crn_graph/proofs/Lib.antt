@@ -1,3 +1,5 @@
+pub mod CallerLemmas
+mod LabelLaws
 mod ArcLaws
 mod ChainLaws
 mod SearchLaws

@@ -4,6 +4,7 @@
 mod arcs;
 mod classes;
 mod graph;
+mod laws;
 mod linkage_data;
 mod pair;
 mod reverses;
@@ -12,6 +13,7 @@ mod strong_data;
 #[cfg(test)]
 mod tests;
 
+pub use laws::right_labels_are_one;
 pub use linkage_data::{LinkageData, linkage};
 pub use pair::{CutPair, cut_pair};
 pub use reverses::{Reverses, back};
