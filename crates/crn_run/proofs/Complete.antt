@@ -9,7 +9,7 @@ use Rattle.crn_text.specs.declared.fault.TextCode.{TextCode}
 use Rattle.crn_text.proofs.CallerLemmas.{one_fault, no_fault, spelling_unique}
 use Rattle.crn_run.specs.Report.{render}
 use Rattle.crn_run.specs.Run.{Devices, WasLeft, IsReportOf, IsRefusalOf, IsAllowed, refused_line, RunGives, ShowsNetwork, ShowsFault, IsComplete, IsQuiet}
-use Rattle.crn_run.proofs.LabelLaws.{one_labels, one_count}
+use Rattle.crn_graph.proofs.CallerLemmas.{one_labels, one_count}
 use Rattle.crn_run.specs.declared.status.Status.{Status}
 use Rattle.crn_run.specs.declared.status.Status.TheVariants.{Done, OpenLeft, Refused, Rejected, Usage, ReadFault, WriteFault, NoMemory}
 

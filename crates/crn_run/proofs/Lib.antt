@@ -1,5 +1,4 @@
 mod Texts
-mod LabelLaws
 mod Runs
 mod Complete
 mod ClapWords

@@ -1,5 +1,4 @@
-ghost use Rattle.std.specs.Prelude.{◌≡◌, ℕ, List, length};
-ghost use Rattle.crn_vec.specs.Linkage.{AreRightLabels, IsLabelCount};
+ghost use Rattle.std.specs.Prelude.{◌≡◌, ℕ, List};
 ghost use Rattle.crn_run.specs.Run.{Devices, IsAllowed, IsQuiet, RunGives};
 ghost use Rattle.crn_run.specs.Words.{IsCommand};
 ghost use Rattle.crn_run.specs.declared.words.Command.{Command};
@@ -10,14 +9,6 @@ ghost use Rattle.crn_run.specs.declared.status.Status.TheVariants.{ReadFault, Wr
 pub fn words_say_one_command()
     ensures { (words : List (List ℕ)) (c other : Command) →
         IsCommand words c → IsCommand words other → c ≡ other }
-{}
-
-/// Right labels of the complexes are one list, and their number is one number.
-pub fn right_labels_are_one()
-    ensures labels { (reactions : List (ℕ × ℕ)) (a b : List ℕ) →
-        AreRightLabels reactions a → AreRightLabels reactions b → length a ≡ length b → a ≡ b }
-    ensures count { (labels : List ℕ) (m n : ℕ) →
-        IsLabelCount labels m → IsLabelCount labels n → m ≡ n }
 {}
 
 /// For the same words and the same network text, one text may be written.
