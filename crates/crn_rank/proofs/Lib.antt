@@ -1,0 +1,6 @@
+mod PickedRows
+mod MemberRows
+mod DualTests
+mod CombTests
+mod Proven
+mod WideNames

@@ -1,0 +1,6 @@
+use Rattle.std.proofs.Common.{◌≡◌, map, slice_index}
+use Rattle.crn_rank.specs.Inner.Rows.{rows_inside}
+use Rattle.crn_rank.proofs.base.base_members.Given as goal
+
+abbrev pub invariant-loop-k : goal.invariant-loop-k
+invariant-loop-k l = l.base.list ≡ map (slice_index l.members) (rows_inside l.tableau.matrix l.tableau.basis l.k)

@@ -1,0 +1,11 @@
+use Rattle.std.proofs.Common.{◌≡◌, length}
+use Rattle.std.specs.List.{AllZip}
+use Rattle.crn_vec.specs.Elementary.{width}
+use Rattle.crn_rank.specs.Inner.Rows.{IsDualOf, rows_inside}
+use Rattle.crn_rank.proofs.duals.duals.Given as goal
+
+abbrev pub invariant-loop-k : goal.invariant-loop-k
+invariant-loop-k l = record {
+  work : length l.work ≡ width l.tableau.matrix;
+  duals : AllZip (IsDualOf l.tableau.matrix l.tableau.basis) (rows_inside l.tableau.matrix l.tableau.basis l.k) l.duals;
+}

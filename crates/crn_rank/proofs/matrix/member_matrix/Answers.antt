@@ -1,0 +1,32 @@
+use Rattle.std.proofs.Common.{◌≡◌, ◌*◌, ℕ, length, ap, sym, ◌∙◌, arith}
+use Rattle.crn_vec.specs.Vectors.{Mat}
+use Rattle.crn_vec.specs.Matrices.{mat_of}
+use Rattle.crn_cert.specs.RankTests.{vector_of}
+use Rattle.crn_rank.specs.Rank.{member_matrix}
+use Rattle.crn_rank.proofs.MemberRows.{members_few, some_species, vector_width, length-rows_after, matrix_of, if_ok}
+use Rattle.crn_rank.proofs.matrix.member_matrix.Goals as goal
+
+pub new-requires-clause-count : goal.new-requires-clause-count
+new-requires-clause-count c =
+    let net = c.args.net.now in
+    let members = c.args.members.now in
+    ap length (c.deref.ensures.value ∙ c.in_ok-entries.ensures.value)
+    ∙ length-rows_after (length net.names) (vector_of net) members (λ r i. vector_width net members r c.species.ensures.network c.requires i)
+    ∙ ap (λ (n : ℕ). length members * n) (sym c.species.ensures.count)
+
+pub new-requires-clause-some : goal.new-requires-clause-some
+new-requires-clause-some c = omega (arith, some_species c.args.net.now c.species.ensures.network, c.species.ensures.count)
+
+pub new-requires-clause-few : goal.new-requires-clause-few
+new-requires-clause-few c =
+    let n = c.species.ensures.network in
+    omega (arith, members_few c.args.net.now c.args.members.now c.requires, n.partial.reactions_limit, c.species.ensures.limit)
+
+pub returns : goal.returns
+returns c =
+    let net = c.args.net.now in
+    let members = c.args.members.now in
+    let a = mat_of (length members) c.species.result c.deref.result.now in
+    if_ok (λ (made : Mat). made ≡ a) (λ (made : Mat). made ≡ member_matrix net members) c.new.result
+    (λ made e. e ∙ matrix_of net members c.species.result c.deref.result.now c.species.ensures.network c.requires c.species.ensures.count (c.deref.ensures.value ∙ c.in_ok-entries.ensures.value))
+    c.new.ensures
