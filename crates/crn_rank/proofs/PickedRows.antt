@@ -50,7 +50,7 @@ above_snoc : (m : ℕ) (xs : List ℕ) (k : ℕ) → IsAbove m xs → m < k → 
 above_snoc m [] k h lt all = (lt, tt)
 above_snoc m (x ∷ xs) k h lt all = (h.0, above_snoc x xs k h.1 (all x (inl refl)) (λ c i. all c (inr i)))
 
-ascending_snoc : (xs : List ℕ) (k : ℕ) → IsAscending xs → ((c : ℕ) → IsIn c xs → c < k) → IsAscending (xs ++ k ∷ [])
+pub ascending_snoc : (xs : List ℕ) (k : ℕ) → IsAscending xs → ((c : ℕ) → IsIn c xs → c < k) → IsAscending (xs ++ k ∷ [])
 ascending_snoc [] k h all = tt
 ascending_snoc (x ∷ xs) k h all = above_snoc x xs k h (all x (inl refl)) (λ c i. all c (inr i))
 

@@ -6,5 +6,7 @@ mod combs;
 mod duals;
 mod matrix;
 mod rank_proof;
+#[cfg(test)]
+mod tests;
 
 pub use rank_proof::rank;
