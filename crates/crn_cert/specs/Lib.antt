@@ -3,6 +3,7 @@ pub mod Trees
 pub mod Nodes
 pub mod TreeLaw
 pub mod Questions
+pub mod Built
 pub mod Says
 pub mod Tests
 pub mod TreeTests
