@@ -1,0 +1,47 @@
+-- Answers and their records: what is asked of the one is asked of the other.
+-- Source: this project's own.
+use Rattle.std.specs.Prelude.{◌≡◌, ◌↔◌, List, [], ◌∷◌, map}
+use Rattle.crn_vec.specs.Network.{Net, IsNetwork}
+use Rattle.crn_cert.specs.declared.answer.Verdict.{Verdict}
+use Rattle.crn_cert.specs.declared.answer.Answer.{Answer}
+use Rattle.crn_cert.specs.Questions.{Question}
+use Rattle.crn_cert.specs.Law.{IsTrueOrOpen}
+use Rattle.crn_cert.specs.Formed.{AreFormed}
+use Rattle.crn_cert.specs.Valid.{AreValid}
+use Rattle.crn_ctext.specs.Records.{Record}
+use Rattle.crn_ctext.specs.Documents as documents
+use Rattle.crn_ctext.specs.Answers.{all_records}
+use Rattle.crn_ctext.specs.Meaning.{meaning, verdicts_said}
+use Rattle.crn_cert.specs.Built.{built}
+use Rattle.crn_ctext.specs.Judged.{AreFormedOf}
+
+-- the records of answers to the built questions
+abbrev pub records_of : Net → List Answer → List (List Record)
+records_of net answers = all_records meaning built (meaning.start net) answers
+
+-- formed answers have formed records
+abbrev pub FormedAnswersHaveFormedRecords : Type 0
+FormedAnswersHaveFormedRecords = (net : Net) (answers : List Answer) → AreFormed net [] built answers → AreFormedOf net (records_of net answers)
+
+-- formed answers are valid exactly where their records are
+abbrev pub ValidAnswersHaveValidRecords : Type 0
+ValidAnswersHaveValidRecords = (net : Net) (answers : List Answer) → AreFormed net [] built answers → AreValid net [] built answers ↔ documents.AreValid meaning built (meaning.start net) (records_of net answers)
+
+-- the verdicts of the answers
+abbrev pub verdicts_of : List Answer → List Verdict
+verdicts_of answers = map (λ (a : Answer). a.verdict) answers
+
+-- formed records are those of formed answers, whose verdicts are the ones that the records say
+abbrev pub FormedRecordsAreOfAnswers : Type 0
+FormedRecordsAreOfAnswers = (net : Net) (answers : List (List Record)) → AreFormedOf net answers
+    → (given : List Answer) × AreFormed net [] built given × (records_of net given ≡ answers) × (verdicts_said built (meaning.start net) answers ≡ verdicts_of given)
+
+-- each question has a verdict, which is true of the network or open
+abbrev pub AreSound : Net → List Question → List Verdict → Type 0
+AreSound net [] verdicts = verdicts ≡ []
+AreSound net (q ∷ qs) [] = ⊥
+AreSound net (q ∷ qs) (v ∷ vs) = IsTrueOrOpen net q v × AreSound net qs vs
+
+-- what valid records say is true or open
+abbrev pub ValidRecordsAreTrue : Type 0
+ValidRecordsAreTrue = (net : Net) (answers : List (List Record)) → IsNetwork net → documents.AreValid meaning built (meaning.start net) answers → AreSound net built (verdicts_said built (meaning.start net) answers)

@@ -1,0 +1,195 @@
+-- What the questions mean: the records of a block, read as a verdict and a proof, with the tests of these.
+-- Source: this project's own. Shapes: a block is a head and the records below it; verdicts stand in the order of the questions.
+use Rattle.std.specs.Prelude.{ℕ, zero, suc, ℤ, pos, ◌==◌, Bool, true, false, if◌then◌else◌, nat_abs, List, [], ◌∷◌, ◌++◌, length, map, take, drop, codes, slice_index_or}
+use Rattle.std.specs.Str.{bytes_eq}
+use Rattle.crn_vec.specs.Kept.{KeptInts, KeptNums}
+use Rattle.crn_vec.specs.Network.{Net}
+use Rattle.crn_vec.specs.Deficiency.{class_members}
+use Rattle.crn_cert.specs.declared.answer.Gap.{Gap}
+use Rattle.crn_cert.specs.declared.answer.Gap.TheVariants.{Wide, Budget, Rests}
+use Rattle.crn_cert.specs.declared.answer.Verdict.{Verdict}
+use Rattle.crn_cert.specs.declared.answer.Verdict.TheVariants.{Classes, Strong, Rank, Deficiency, Yes, YesWeak, YesVec, NoReaction, NoVec, NoNumber, NoTerminal, NoClass, NoSum, NoDependence, NoCycle, NotRegular, OnlyZero, Plane, NotApplicable, Unknown}
+use Rattle.crn_cert.specs.declared.answer.RankProof.{RankProof}
+use Rattle.crn_cert.specs.declared.answer.Proof.{Proof}
+use Rattle.crn_cert.specs.declared.answer.Proof.TheVariants.{Nothing, Forest, Strong as StrongTrees, Back, Rank as RankRows, Ranks, Sides, Ties}
+use Rattle.crn_cert.specs.Questions.{Earlier, Question, Q1, Q2, Q3, Q4, Q5, Q6, Q7, Q8, Q9, Q10, Q11, Q12, on, count_of, terminal_of}
+use Rattle.crn_cert.specs.Tests.{Test as Claim}
+use Rattle.crn_cert.specs.Valid.{linkage, linkage_count, classes_to, class_places, pair_places, head_tests, row_tests}
+use Rattle.crn_ctext.specs.Records.{Record}
+use Rattle.crn_ctext.specs.Questions.{Sizes, Shapes, heads, class_rank, later_numbers}
+use Rattle.crn_ctext.specs.Blocks.{Meaning, place_of, is_open}
+
+-- what is known where a block begins: the network, and the verdicts of the blocks before
+pub record Known : Type 0 where
+  pub net : Net
+  pub earlier : Earlier
+
+-- ---- the sizes of forms
+
+-- a vector of the confluence space is given
+abbrev pub has_vector : Verdict → Bool
+has_vector (YesVec vector) = true
+has_vector verdict = false
+
+-- the linked pairs within terminal classes, where the strong classes are known
+abbrev pub pairs_by : Known → Verdict → List ℕ
+pairs_by known (Strong count terminal label exit) = pair_places known.net known.earlier
+pairs_by known verdict = []
+
+abbrev pub pairs_of : Known → List ℕ
+pairs_of known = pairs_by known (on known.earlier Q2)
+
+-- the reactions of each linkage class, and its complexes
+abbrev pub reactions_by_class : Known → List (List ℕ)
+reactions_by_class known = map (λ k. class_places known.net known.earlier k) (classes_to (linkage_count known.earlier))
+
+abbrev pub complexes_by_class : Known → List (List ℕ)
+complexes_by_class known = map (λ k. class_members (linkage known.earlier) k) (classes_to (linkage_count known.earlier))
+
+abbrev pub lengths : List (List ℕ) → List ℕ
+lengths lists = map (λ list. length list) lists
+
+abbrev pub sizes_of : Known → Sizes
+sizes_of known = record {
+  species = length known.net.names;
+  complexes = length known.net.complexes;
+  reactions = length known.net.reactions;
+  strong = count_of (on known.earlier Q2);
+  terminal = terminal_of (on known.earlier Q2);
+  pairs = length (pairs_of known);
+  class_reactions = lengths (reactions_by_class known);
+  vector = has_vector (on known.earlier Q12);
+}
+
+abbrev pub shapes_of : Known → Shapes
+shapes_of known = record {
+  sizes = sizes_of known;
+  class_complexes = lengths (complexes_by_class known);
+  class_members = reactions_by_class known;
+  pair_reactions = pairs_of known;
+}
+
+-- ---- numbers of records
+
+abbrev pub nums : List ℤ → KeptNums
+nums zs = record { list = map nat_abs zs; spare = 0 }
+
+abbrev pub ints : List ℤ → KeptInts
+ints zs = record { list = zs; spare = 0 }
+
+-- the number at this place, from 0
+abbrev pub number : List ℤ → ℕ → ℕ
+number zs i = nat_abs (slice_index_or zs i (pos 0))
+
+-- the numbers of these records
+abbrev pub lists : List Record → List (List ℤ)
+lists rs = map (λ (r : Record). r.numbers) rs
+
+-- the numbers of the record at this place, from 0
+abbrev pub row : List Record → ℕ → List ℤ
+row rs i = slice_index_or (lists rs) i []
+
+-- ---- a verdict
+
+-- why the answer with this head is open
+abbrev pub gap_of : Record → Gap
+gap_of h =
+    if bytes_eq (slice_index_or h.words 2 []) (codes "wide") then Wide (number h.numbers 0) (number h.numbers 1) (number h.numbers 2) (nums (drop 3 h.numbers)) else (
+    if bytes_eq (slice_index_or h.words 2 []) (codes "budget") then Budget (number h.numbers 0) else Rests (number h.numbers 0))
+
+-- the decided verdict of a head's form, by the place of the form, the numbers of the head and the records below
+abbrev pub verdict_by : Question → ℕ → List ℤ → List Record → Verdict
+verdict_by Q1 (suc zero) n rs = Classes (number n 0) (nums (row rs 0))
+verdict_by Q2 (suc zero) n rs = Strong (number n 0) (number n 1) (nums (row rs 0)) (nums (row rs 6))
+verdict_by Q3 (suc zero) n rs = Yes
+verdict_by Q3 (suc (suc zero)) n rs = NoReaction (number n 0)
+verdict_by Q4 (suc zero) n rs = Yes
+verdict_by Q4 (suc (suc zero)) n rs = NoReaction (number n 0)
+verdict_by Q5 (suc zero) n rs = Rank (number n 0) (nums (row rs 0))
+verdict_by Q6 (suc zero) n rs = Deficiency (number n 0) (nums (later_numbers n))
+verdict_by Q7 (suc zero) n rs = YesVec (ints (row rs 0))
+verdict_by Q7 (suc (suc zero)) n rs = NoVec (ints (row rs 0))
+verdict_by Q8 (suc zero) n rs = YesVec (ints (row rs 0))
+verdict_by Q8 (suc (suc zero)) n rs = NoVec (ints (row rs 0))
+verdict_by Q9 (suc zero) n rs = YesWeak (number n 0 == 1)
+verdict_by Q9 (suc (suc zero)) n rs = NoNumber (number n 0)
+verdict_by Q10 (suc zero) n rs = Yes
+verdict_by Q10 (suc (suc zero)) n rs = NoTerminal (number n 0) (number n 1)
+verdict_by Q10 (suc (suc (suc zero))) n rs = NoClass (number n 0) (number n 1)
+verdict_by Q10 (suc (suc (suc (suc zero)))) n rs = NoSum (number n 0)
+verdict_by Q11 (suc zero) n rs = Yes
+verdict_by Q11 (suc (suc zero)) n rs = NoTerminal (number n 0) (number n 1)
+verdict_by Q11 (suc (suc (suc zero))) n rs = NoDependence
+verdict_by Q11 (suc (suc (suc (suc zero)))) n rs = NoCycle (number n 0) (nums (row rs 0))
+verdict_by Q12 (suc zero) n rs = YesVec (ints (row rs 0))
+verdict_by Q12 (suc (suc zero)) n rs = NotRegular
+verdict_by Q12 (suc (suc (suc zero))) n rs = OnlyZero
+verdict_by Q12 (suc (suc (suc (suc zero)))) n rs = Plane (number n 0) (number n 1) (ints (row rs 0)) (ints (row rs 1))
+verdict_by q place n rs = NotApplicable
+
+-- the verdict of a block
+abbrev pub verdict_of : Question → Sizes → Record → List Record → Verdict
+verdict_of q z h rs = if is_open h then Unknown (gap_of h) else verdict_by q (place_of (heads q z) h.words) h.numbers rs
+
+-- ---- a proof
+
+-- a base, so many duals, and combinations
+abbrev pub rank_proof : ℕ → List Record → RankProof
+rank_proof rank rs = record { base = nums (row rs 0); duals = take rank (drop 1 (lists rs)); combs = drop (suc rank) (lists rs) }
+
+-- the proofs of the classes' ranks, by the class numbers
+abbrev pub class_proofs : List ℕ → List (List ℕ) → List ℤ → List Record → List RankProof
+class_proofs (complexes ∷ more) (reactions ∷ others) (d ∷ ds) rs = rank_proof (class_rank complexes d) (take (suc (length reactions)) rs) ∷ class_proofs more others ds (drop (suc (length reactions)) rs)
+class_proofs complexes reactions ds rs = []
+
+-- the decided verdict's proof
+abbrev pub proof_by : Question → Shapes → ℕ → List ℤ → List Record → Proof
+proof_by Q1 s (suc zero) n rs = Forest (nums (row rs 1)) (nums (row rs 2))
+proof_by Q2 s (suc zero) n rs = StrongTrees (nums (row rs 1)) (nums (row rs 2)) (nums (row rs 3)) (nums (row rs 4)) (nums (row rs 5))
+proof_by Q3 s (suc zero) n rs = Back (nums (row rs 0))
+proof_by Q5 s (suc zero) n rs = RankRows (rank_proof (number n 0) rs)
+proof_by Q6 s (suc zero) n rs = Ranks (class_proofs s.class_complexes s.class_members (later_numbers n) rs)
+proof_by Q11 s (suc zero) n rs = Sides (map later_numbers (lists rs))
+proof_by Q12 s (suc zero) n rs = Ties (drop 1 (lists rs))
+proof_by Q12 s (suc (suc (suc zero))) n rs = Ties (lists rs)
+proof_by q s place n rs = Nothing
+
+-- the proof of a block
+abbrev pub proof_of : Question → Shapes → Record → List Record → Proof
+proof_of q s h rs = if is_open h then Nothing else proof_by q s (place_of (heads q s.sizes) h.words) h.numbers rs
+
+-- ---- the meaning
+
+-- the tests at a head, which look at the head's numbers alone
+abbrev pub head_claims_of : Question → Known → Record → List Claim
+head_claims_of q known h = head_tests known.net known.earlier q (verdict_of q (sizes_of known) h [])
+
+-- the tests of the records below a head
+abbrev pub row_claims_of : Question → Known → Record → List Record → List Claim
+row_claims_of q known h rs = row_tests known.net known.earlier q (verdict_of q (sizes_of known) h rs) (proof_of q (shapes_of known) h rs)
+
+-- what is known behind a block: its verdict, too
+abbrev pub learn_of : Question → Known → Record → List Record → Known
+learn_of q known h rs = record { net = known.net; earlier = known.earlier ++ (q, verdict_of q (sizes_of known) h rs) ∷ [] }
+
+-- What the questions mean. No question whose meaning stands here has a tree.
+abbrev pub meaning : Meaning Known
+meaning = record {
+  start = λ net. record { net = net; earlier = [] };
+  shapes = shapes_of;
+  head_claims = head_claims_of;
+  row_claims = row_claims_of;
+  problems = λ q known h. [];
+  learn = learn_of;
+}
+
+-- the verdicts that the answers' records say
+abbrev pub verdicts_said : List Question → Known → List (List Record) → List Verdict
+verdicts_said (q ∷ qs) known ((h ∷ rs) ∷ more) = verdict_of q (sizes_of known) h rs ∷ verdicts_said qs (learn_of q known h rs) more
+verdicts_said qs known answers = []
+
+-- ---- what is built
+
+-- the versions of documents that are read
+abbrev pub versions : List ℕ
+versions = 1 ∷ 2 ∷ []

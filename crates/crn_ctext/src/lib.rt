@@ -1,0 +1,2 @@
+//! Definitions of documents: records, their forms, and the course of a document.
+#![tactic(auto)]
