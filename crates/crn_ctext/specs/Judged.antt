@@ -1,4 +1,5 @@
--- What is read of a document, to its end, and its first fault: with the questions and the versions that are built.
+-- What is read of a document, to its end, and its first fault: with the questions and the versions
+-- that are built.
 -- Source: this project's own format.
 use Rattle.std.specs.Prelude.{◌≡◌, ℕ, List}
 use Rattle.crn_vec.specs.Network.{Net, IsNetwork}
@@ -12,13 +13,15 @@ use Rattle.crn_cert.specs.Built.{built}
 
 -- this is read of the document, to its end
 abbrev pub IsReadOf : List ℕ → ReadOf → Type 0
-IsReadOf bytes read = (behind : Place) × Gives (course meaning versions built) (beginning bytes) read behind
+IsReadOf bytes read =
+    (behind : Place) × Gives (course meaning versions built) (beginning bytes) read behind
 
 -- its first fault
 abbrev pub IsFaultOf : List ℕ → (line code : ℕ) → Type 0
 IsFaultOf bytes line code = DocFault meaning versions built bytes line code
 
--- a document of a network and of formed answers to the built questions, of which each decided one is valid
+-- a document of a network and of formed answers to the built questions, of which each decided one
+-- is valid
 abbrev pub IsGood : List ℕ → Type 0
 IsGood bytes = Good meaning versions built bytes
 
@@ -28,11 +31,15 @@ AreFormedOf net answers = AreFormed meaning built (meaning.start net) answers
 
 -- ---- laws
 
--- networks and formed answers are told apart by their documents
+-- equal documents are of equal networks and equal formed answers
 abbrev pub DocumentsAreOne : Type 0
-DocumentsAreOne = (net other : Net) (answers others : List (List Record)) → IsNetwork net → IsNetwork other → AreFormedOf net answers → AreFormedOf other others
+DocumentsAreOne =
+    (net other : Net) (answers others : List (List Record)) → IsNetwork net → IsNetwork other
+    → AreFormedOf net answers → AreFormedOf other others
     → document net answers ≡ document other others → (net ≡ other) × (answers ≡ others)
 
 -- no text is of both versions
 abbrev pub VersionsAreApart : Type 0
-VersionsAreApart = (net other : Net) (answers others : List (List Record)) (share : Share) → document net answers ≡ document2 built other others share → ⊥
+VersionsAreApart =
+    (net other : Net) (answers others : List (List Record)) (share : Share)
+    → document net answers ≡ document2 built other others share → ⊥

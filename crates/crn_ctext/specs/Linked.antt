@@ -21,11 +21,16 @@ records_of net answers = all_records meaning built (meaning.start net) answers
 
 -- formed answers have formed records
 abbrev pub FormedAnswersHaveFormedRecords : Type 0
-FormedAnswersHaveFormedRecords = (net : Net) (answers : List Answer) → AreFormed net [] built answers → AreFormedOf net (records_of net answers)
+FormedAnswersHaveFormedRecords =
+    (net : Net) (answers : List Answer) → AreFormed net [] built answers
+    → AreFormedOf net (records_of net answers)
 
--- formed answers are valid exactly where their records are
+-- formed answers are valid if and only if their records are
 abbrev pub ValidAnswersHaveValidRecords : Type 0
-ValidAnswersHaveValidRecords = (net : Net) (answers : List Answer) → AreFormed net [] built answers → AreValid net [] built answers ↔ documents.AreValid meaning built (meaning.start net) (records_of net answers)
+ValidAnswersHaveValidRecords =
+    (net : Net) (answers : List Answer) → AreFormed net [] built answers
+    → AreValid net [] built answers
+    ↔ documents.AreValid meaning built (meaning.start net) (records_of net answers)
 
 -- the verdicts of the answers
 abbrev pub verdicts_of : List Answer → List Verdict
@@ -34,7 +39,8 @@ verdicts_of answers = map (λ (a : Answer). a.verdict) answers
 -- formed records are those of formed answers, whose verdicts are the ones that the records say
 abbrev pub FormedRecordsAreOfAnswers : Type 0
 FormedRecordsAreOfAnswers = (net : Net) (answers : List (List Record)) → AreFormedOf net answers
-    → (given : List Answer) × AreFormed net [] built given × (records_of net given ≡ answers) × (verdicts_said built (meaning.start net) answers ≡ verdicts_of given)
+    → (given : List Answer) × AreFormed net [] built given × (records_of net given ≡ answers)
+    × (verdicts_said built (meaning.start net) answers ≡ verdicts_of given)
 
 -- each question has a verdict, which is true of the network or open
 abbrev pub AreSound : Net → List Question → List Verdict → Type 0
@@ -44,4 +50,7 @@ AreSound net (q ∷ qs) (v ∷ vs) = IsTrueOrOpen net q v × AreSound net qs vs
 
 -- what valid records say is true or open
 abbrev pub ValidRecordsAreTrue : Type 0
-ValidRecordsAreTrue = (net : Net) (answers : List (List Record)) → IsNetwork net → documents.AreValid meaning built (meaning.start net) answers → AreSound net built (verdicts_said built (meaning.start net) answers)
+ValidRecordsAreTrue =
+    (net : Net) (answers : List (List Record)) → IsNetwork net
+    → documents.AreValid meaning built (meaning.start net) answers
+    → AreSound net built (verdicts_said built (meaning.start net) answers)

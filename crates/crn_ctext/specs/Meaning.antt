@@ -1,5 +1,7 @@
--- What the questions mean: the records of a block, read as a verdict and a proof, with the tests of these.
--- Source: this project's own. Shapes: a block is a head and the records below it; verdicts stand in the order of the questions.
+-- What the questions mean: the records of a block, read as a verdict and a proof, with the tests
+-- of these.
+-- Source: this project's own.
+-- Shapes: a block is a head and the records below it; verdicts come in the order of the questions.
 use Rattle.std.specs.Prelude.{ℕ, zero, suc, ℤ, pos, ◌==◌, Bool, true, false, if◌then◌else◌, nat_abs, List, [], ◌∷◌, ◌++◌, length, map, take, drop, codes, slice_index_or}
 use Rattle.std.specs.Str.{bytes_eq}
 use Rattle.crn_vec.specs.Kept.{KeptInts, KeptNums}
@@ -19,7 +21,7 @@ use Rattle.crn_ctext.specs.Records.{Record}
 use Rattle.crn_ctext.specs.Questions.{Sizes, Shapes, heads, class_rank, later_numbers}
 use Rattle.crn_ctext.specs.Blocks.{Meaning, place_of, is_open}
 
--- what is known where a block begins: the network, and the verdicts of the blocks before
+-- what is known before a block: the network, and the verdicts of the blocks before it
 pub record Known : Type 0 where
   pub net : Net
   pub earlier : Earlier
@@ -31,7 +33,7 @@ abbrev pub has_vector : Verdict → Bool
 has_vector (YesVec vector) = true
 has_vector verdict = false
 
--- the linked pairs within terminal classes, where the strong classes are known
+-- the linked pairs within terminal classes, if the strong classes are known
 abbrev pub pairs_by : Known → Verdict → List ℕ
 pairs_by known (Strong count terminal label exit) = pair_places known.net known.earlier
 pairs_by known verdict = []
@@ -41,10 +43,12 @@ pairs_of known = pairs_by known (on known.earlier Q2)
 
 -- the reactions of each linkage class, and its complexes
 abbrev pub reactions_by_class : Known → List (List ℕ)
-reactions_by_class known = map (λ k. class_places known.net known.earlier k) (classes_to (linkage_count known.earlier))
+reactions_by_class known =
+    map (λ k. class_places known.net known.earlier k) (classes_to (linkage_count known.earlier))
 
 abbrev pub complexes_by_class : Known → List (List ℕ)
-complexes_by_class known = map (λ k. class_members (linkage known.earlier) k) (classes_to (linkage_count known.earlier))
+complexes_by_class known =
+    map (λ k. class_members (linkage known.earlier) k) (classes_to (linkage_count known.earlier))
 
 abbrev pub lengths : List (List ℕ) → List ℕ
 lengths lists = map (λ list. length list) lists
@@ -94,10 +98,15 @@ row rs i = slice_index_or (lists rs) i []
 -- why the answer with this head is open
 abbrev pub gap_of : Record → Gap
 gap_of h =
-    if bytes_eq (slice_index_or h.words 2 []) (codes "wide") then Wide (number h.numbers 0) (number h.numbers 1) (number h.numbers 2) (nums (drop 3 h.numbers)) else (
-    if bytes_eq (slice_index_or h.words 2 []) (codes "budget") then Budget (number h.numbers 0) else Rests (number h.numbers 0))
+    if bytes_eq (slice_index_or h.words 2 []) (codes "wide")
+    then Wide (number h.numbers 0) (number h.numbers 1) (number h.numbers 2)
+        (nums (drop 3 h.numbers))
+    else (
+    if bytes_eq (slice_index_or h.words 2 []) (codes "budget") then Budget (number h.numbers 0)
+    else Rests (number h.numbers 0))
 
--- the decided verdict of a head's form, by the place of the form, the numbers of the head and the records below
+-- the decided verdict of a head's form, by the place of the form, the numbers of the head and the
+-- records below
 abbrev pub verdict_by : Question → ℕ → List ℤ → List Record → Verdict
 verdict_by Q1 (suc zero) n rs = Classes (number n 0) (nums (row rs 0))
 verdict_by Q2 (suc zero) n rs = Strong (number n 0) (number n 1) (nums (row rs 0)) (nums (row rs 6))
@@ -124,31 +133,44 @@ verdict_by Q11 (suc (suc (suc (suc zero)))) n rs = NoCycle (number n 0) (nums (r
 verdict_by Q12 (suc zero) n rs = YesVec (ints (row rs 0))
 verdict_by Q12 (suc (suc zero)) n rs = NotRegular
 verdict_by Q12 (suc (suc (suc zero))) n rs = OnlyZero
-verdict_by Q12 (suc (suc (suc (suc zero)))) n rs = Plane (number n 0) (number n 1) (ints (row rs 0)) (ints (row rs 1))
+verdict_by Q12 (suc (suc (suc (suc zero)))) n rs =
+    Plane (number n 0) (number n 1) (ints (row rs 0)) (ints (row rs 1))
 verdict_by q place n rs = NotApplicable
 
 -- the verdict of a block
 abbrev pub verdict_of : Question → Sizes → Record → List Record → Verdict
-verdict_of q z h rs = if is_open h then Unknown (gap_of h) else verdict_by q (place_of (heads q z) h.words) h.numbers rs
+verdict_of q z h rs =
+    if is_open h then Unknown (gap_of h)
+    else verdict_by q (place_of (heads q z) h.words) h.numbers rs
 
 -- ---- a proof
 
 -- a base, so many duals, and combinations
 abbrev pub rank_proof : ℕ → List Record → RankProof
-rank_proof rank rs = record { base = nums (row rs 0); duals = take rank (drop 1 (lists rs)); combs = drop (suc rank) (lists rs) }
+rank_proof rank rs =
+    record {
+      base = nums (row rs 0);
+      duals = take rank (drop 1 (lists rs));
+      combs = drop (suc rank) (lists rs);
+    }
 
 -- the proofs of the classes' ranks, by the class numbers
 abbrev pub class_proofs : List ℕ → List (List ℕ) → List ℤ → List Record → List RankProof
-class_proofs (complexes ∷ more) (reactions ∷ others) (d ∷ ds) rs = rank_proof (class_rank complexes d) (take (suc (length reactions)) rs) ∷ class_proofs more others ds (drop (suc (length reactions)) rs)
+class_proofs (complexes ∷ more) (reactions ∷ others) (d ∷ ds) rs =
+    rank_proof (class_rank complexes d) (take (suc (length reactions)) rs)
+    ∷ class_proofs more others ds (drop (suc (length reactions)) rs)
 class_proofs complexes reactions ds rs = []
 
 -- the decided verdict's proof
 abbrev pub proof_by : Question → Shapes → ℕ → List ℤ → List Record → Proof
 proof_by Q1 s (suc zero) n rs = Forest (nums (row rs 1)) (nums (row rs 2))
-proof_by Q2 s (suc zero) n rs = StrongTrees (nums (row rs 1)) (nums (row rs 2)) (nums (row rs 3)) (nums (row rs 4)) (nums (row rs 5))
+proof_by Q2 s (suc zero) n rs =
+    StrongTrees (nums (row rs 1)) (nums (row rs 2)) (nums (row rs 3)) (nums (row rs 4))
+    (nums (row rs 5))
 proof_by Q3 s (suc zero) n rs = Back (nums (row rs 0))
 proof_by Q5 s (suc zero) n rs = RankRows (rank_proof (number n 0) rs)
-proof_by Q6 s (suc zero) n rs = Ranks (class_proofs s.class_complexes s.class_members (later_numbers n) rs)
+proof_by Q6 s (suc zero) n rs =
+    Ranks (class_proofs s.class_complexes s.class_members (later_numbers n) rs)
 proof_by Q11 s (suc zero) n rs = Sides (map later_numbers (lists rs))
 proof_by Q12 s (suc zero) n rs = Ties (drop 1 (lists rs))
 proof_by Q12 s (suc (suc (suc zero))) n rs = Ties (lists rs)
@@ -156,7 +178,9 @@ proof_by q s place n rs = Nothing
 
 -- the proof of a block
 abbrev pub proof_of : Question → Shapes → Record → List Record → Proof
-proof_of q s h rs = if is_open h then Nothing else proof_by q s (place_of (heads q s.sizes) h.words) h.numbers rs
+proof_of q s h rs =
+    if is_open h then Nothing
+    else proof_by q s (place_of (heads q s.sizes) h.words) h.numbers rs
 
 -- ---- the meaning
 
@@ -166,13 +190,19 @@ head_claims_of q known h = head_tests known.net known.earlier q (verdict_of q (s
 
 -- the tests of the records below a head
 abbrev pub row_claims_of : Question → Known → Record → List Record → List Claim
-row_claims_of q known h rs = row_tests known.net known.earlier q (verdict_of q (sizes_of known) h rs) (proof_of q (shapes_of known) h rs)
+row_claims_of q known h rs =
+    row_tests known.net known.earlier q (verdict_of q (sizes_of known) h rs)
+    (proof_of q (shapes_of known) h rs)
 
--- what is known behind a block: its verdict, too
+-- what is known after a block: its verdict, too
 abbrev pub learn_of : Question → Known → Record → List Record → Known
-learn_of q known h rs = record { net = known.net; earlier = known.earlier ++ (q, verdict_of q (sizes_of known) h rs) ∷ [] }
+learn_of q known h rs =
+    record {
+      net = known.net;
+      earlier = known.earlier ++ (q, verdict_of q (sizes_of known) h rs) ∷ [];
+    }
 
--- What the questions mean. No question whose meaning stands here has a tree.
+-- What the questions mean. Trees of the questions on signals and concordance are left out.
 abbrev pub meaning : Meaning Known
 meaning = record {
   start = λ net. record { net = net; earlier = [] };
@@ -185,7 +215,8 @@ meaning = record {
 
 -- the verdicts that the answers' records say
 abbrev pub verdicts_said : List Question → Known → List (List Record) → List Verdict
-verdicts_said (q ∷ qs) known ((h ∷ rs) ∷ more) = verdict_of q (sizes_of known) h rs ∷ verdicts_said qs (learn_of q known h rs) more
+verdicts_said (q ∷ qs) known ((h ∷ rs) ∷ more) =
+    verdict_of q (sizes_of known) h rs ∷ verdicts_said qs (learn_of q known h rs) more
 verdicts_said qs known answers = []
 
 -- ---- what is built
