@@ -5,3 +5,12 @@ pub use Rattle.crn_text.proofs.Exclusions.{one_fault}
 pub use Rattle.crn_text.proofs.Spelled.{no_fault}
 -- A text spells at most one network.
 pub use Rattle.crn_text.proofs.Unique.{spelling_unique}
+-- Each text spells a network or has a first fault.
+pub use Rattle.crn_text.proofs.Judged.{judged}
+-- The canonical text of a network spells it.
+pub use Rattle.crn_text.proofs.CanonicalSpelled.{spells_its_network}
+-- The lines of a canonical text: their terms, their lengths, and that none has an LF.
+pub use Rattle.crn_text.proofs.CanonicalNames.{held}
+pub use Rattle.crn_text.proofs.CanonicalTokens.{side_text, line_text}
+pub use Rattle.crn_text.proofs.CanonicalAmounts.{side_held, good_terms, side_length, held_length}
+pub use Rattle.crn_text.proofs.CanonicalLines.{no_lf}

@@ -1,0 +1,335 @@
+-- The records of formed answers to the built questions are formed, and their tests are those of the answers.
+use Rattle.std.proofs.Common.{◌≡◌, ◌≤◌, ◌-◌, ◌++◌, ◌∙◌, ℕ, Bool, true, false, List, [], ◌∷◌, length, map, refl, sym, ap, ap₂, subst, inl, inr, arith}
+use Rattle.std.specs.Prelude.{◌≢◌, pos, nat_abs, codes, slice_index}
+use Rattle.std.specs.List.{AllByRecursion}
+use Rattle.std.proofs.lemmas.Int.{ints}
+use Rattle.std.proofs.lemmas.List.{append-nil, length-map}
+use Rattle.crn_vec.specs.Network.{Net}
+use Rattle.crn_cert.specs.declared.answer.Gap.TheVariants.{Wide, Budget, Rests}
+use Rattle.crn_cert.specs.declared.answer.Verdict.{Verdict}
+use Rattle.crn_cert.specs.declared.answer.Verdict.TheVariants.{Classes, Strong, Yes, NoReaction, Unknown}
+use Rattle.crn_cert.specs.declared.answer.Proof.{Proof}
+use Rattle.crn_cert.specs.declared.answer.Proof.TheVariants.{Nothing, Forest, Strong as StrongTrees, Back}
+use Rattle.crn_cert.specs.declared.answer.Answer.{Answer}
+use Rattle.crn_cert.specs.Questions.{Earlier, Question, Q1, Q2, Q3, Q4, labels_of}
+use Rattle.crn_cert.specs.Tests.{Test, test, AllHold}
+use Rattle.crn_cert.specs.ClassTests.{AreNumbered, AreEven, AreLinkTrees, AreFromTrees, AreToTrees, DoLevelsFall, AreAllExits, zeros_in, AreReverses}
+use Rattle.crn_cert.specs.Formed.{IsFormedOf, AreFormed}
+use Rattle.crn_cert.specs.Ranges.{AreFrom}
+use Rattle.crn_cert.specs.Says.{IsReactionNumber}
+use Rattle.crn_cert.specs.Valid.{strong, head_tests, row_tests, IsValid, AreValid}
+use Rattle.crn_ctext.specs.Records.{Record, Takes, AreNarrow, AreOf, AreBetween, Fits}
+use Rattle.crn_ctext.specs.Kinds.{small, small_form}
+use Rattle.crn_ctext.specs.Blocks.{Problem, head_claims, row_claims, is_open, unless}
+use Rattle.crn_ctext.specs.Documents.{Parts, IsFormed, AreTrees, IsGoodLeaf, IsOneOf, leaf_forms}
+use Rattle.crn_ctext.specs.Documents as documents
+use Rattle.crn_ctext.specs.Answers.{small_record, head_of, records_below, proof_nodes, records, all_records}
+use Rattle.crn_ctext.specs.Meaning.{Known, shapes_of, sizes_of, verdict_of, meaning}
+use Rattle.crn_cert.specs.Built.{built}
+use Rattle.crn_ctext.specs.Judged.{AreFormedOf}
+use Rattle.crn_ctext.specs.Linked.{records_of}
+use Rattle.crn_ctext.proofs.AnswersApart.{block_apart}
+use Rattle.crn_vec.specs.declared.signs.Sign.{Sign}
+
+-- ---- lists
+
+pub back_again : (xs : List ℕ) → map nat_abs (map pos xs) ≡ xs
+back_again [] = refl
+back_again (x ∷ xs) = ap (λ (t : List ℕ). x ∷ t) (back_again xs)
+
+between : (least greatest : ℕ) (xs : List ℕ) → AllByRecursion (λ x. (least ≤ x) × (x ≤ greatest)) xs → AreBetween (pos least) (pos greatest) (map pos xs)
+between least greatest [] p = tt
+between least greatest (x ∷ xs) p = ((omega (arith, ints, p.0.0), omega (arith, ints, p.0.1)), between least greatest xs p.1)
+
+-- a record of small numbers fits its form
+small_fits : (word : List ℕ) (count least greatest : ℕ) (xs : List ℕ) → AreFrom count least greatest xs → Fits (small_form word count least greatest) (small_record word xs)
+small_fits word count least greatest xs p =
+    let long = p.long in
+    let each = p.each in
+    (refl, (map pos xs, [], sym (append-nil (map pos xs)), ((length-map xs pos ∙ long, between least greatest xs each), tt), refl))
+
+-- ---- an answer and its records
+
+-- the parts of an answer's block
+abbrev pub parts : (q : Question) (known : Known) (a : Answer) → Parts (records q (shapes_of known) a)
+parts q known a = record { head = head_of q a.verdict; rows = records_below (shapes_of known) a; nodes = proof_nodes a.proof; all = refl }
+
+-- the records are formed, and their tests are those of the answer
+pub record IsLinked (known : Known) (earlier : Earlier) (q : Question) (a : Answer) : Type 1 where
+  pub formed : IsFormed meaning q known (records q (shapes_of known) a) (parts q known a)
+  pub heads : head_claims meaning q known (head_of q a.verdict) ≡ head_tests known.net earlier q a.verdict
+  pub rows : row_claims meaning q known (head_of q a.verdict) (records_below (shapes_of known) a) ≡ row_tests known.net earlier q a.verdict a.proof
+
+abbrev answer : Verdict → Proof → Answer
+answer v p = record { verdict = v; proof = p }
+
+-- ---- linkage classes
+
+linkage_tests : Net → ℕ → (label up depth : List ℕ) → List Test
+linkage_tests net count label up depth = test 1 31 (AreNumbered label count × AreEven net label) ∷ test 3 31 (AreLinkTrees net label up depth) ∷ []
+
+linkage_linked : (known : Known) (earlier : Earlier) (v : Verdict) (p : Proof) → IsFormedOf known.net earlier Q1 v p → IsLinked known earlier Q1 (answer v p)
+unfolding linkage_tests
+linkage_linked known earlier (Classes count label) (Forest up depth) f =
+    let c = length known.net.complexes in
+    let r = length known.net.reactions in
+    let forest = f.1.1 in
+    record {
+      formed = record {
+        head = (_, inl refl, (refl, (pos count ∷ [], [], refl, ((refl, ((omega (arith, ints, f.0.0), omega (arith, ints, f.0.1)), tt)), tt), refl)));
+        rows = (small_fits (codes "label") c 1 count label.list f.1.0, (small_fits (codes "up") c 0 r up.list forest.names_are, (small_fits (codes "depth") c 0 (c - 1) depth.list forest.depth_is, tt)));
+        trees = refl;
+      };
+      heads = refl;
+      rows = ap₂ (λ (x y : List ℕ). linkage_tests known.net count x y (map nat_abs (map pos depth.list))) (back_again label.list) (back_again up.list) ∙ ap (λ (z : List ℕ). linkage_tests known.net count label.list up.list z) (back_again depth.list);
+    }
+linkage_linked known earlier (Unknown (Wide system class index basis)) p f = absurd f.0
+linkage_linked known earlier (Unknown (Budget nodes)) p f = absurd f.0
+linkage_linked known earlier (Unknown (Rests question)) p f = absurd f.0
+linkage_linked known earlier (Classes count label) p f = absurd f.1
+linkage_linked known earlier v p f = absurd f.0
+
+-- ---- strong classes
+
+strong_tests : Net → ℕ → ℕ → (label from from_depth to to_depth level exit : List ℕ) → List Test
+strong_tests net count terminal label from from_depth to to_depth level exit =
+    test 1 31 (AreNumbered label count) ∷ test 3 31 (AreFromTrees net label from from_depth) ∷ test 5 31 (AreToTrees net label to to_depth) ∷ test 6 31 (DoLevelsFall net label level)
+    ∷ test 7 31 (AreAllExits net label exit) ∷ test 7 36 (zeros_in exit ≡ terminal) ∷ []
+
+strong_linked : (known : Known) (earlier : Earlier) (v : Verdict) (p : Proof) → IsFormedOf known.net earlier Q2 v p → IsLinked known earlier Q2 (answer v p)
+unfolding strong_tests
+strong_linked known earlier (Strong count terminal label exit) (StrongTrees from from_depth to to_depth level) f =
+    let net = known.net in
+    let c = length net.complexes in
+    let r = length net.reactions in
+    let a = f.1.2 in
+    let b = f.1.3 in
+    let twice : List ℕ → List ℕ = λ xs. map nat_abs (map pos xs) in
+    record {
+      formed = record {
+        head = (_, inl refl, (refl, (pos count ∷ pos terminal ∷ [], [], refl, ((count, terminal, refl, f.0.1.0, f.0.1.1, f.0.0.1), tt), refl)));
+        rows = (
+          small_fits (codes "label") c 1 count label.list f.1.0,
+          (
+            small_fits (codes "from") c 0 r from.list a.names_are,
+            (
+              small_fits (codes "fromdepth") c 0 (c - 1) from_depth.list a.depth_is,
+              (
+                small_fits (codes "to") c 0 r to.list b.names_are,
+                (
+                  small_fits (codes "todepth") c 0 (c - 1) to_depth.list b.depth_is,
+                  (small_fits (codes "level") count 0 c level.list f.1.4, (small_fits (codes "exit") count 0 r exit.list f.1.1, tt)),
+                ),
+              ),
+            ),
+          ),
+        );
+        trees = refl;
+      };
+      heads = refl;
+      rows = ap₂ (λ (x y : List ℕ). strong_tests net count terminal x y (twice from_depth.list) (twice to.list) (twice to_depth.list) (twice level.list) (twice exit.list)) (back_again label.list) (back_again from.list)
+          ∙ ap₂ (λ (x y : List ℕ). strong_tests net count terminal label.list from.list x y (twice to_depth.list) (twice level.list) (twice exit.list)) (back_again from_depth.list) (back_again to.list)
+          ∙ ap₂ (λ (x y : List ℕ). strong_tests net count terminal label.list from.list from_depth.list to.list x y (twice exit.list)) (back_again to_depth.list) (back_again level.list)
+          ∙ ap (λ (x : List ℕ). strong_tests net count terminal label.list from.list from_depth.list to.list to_depth.list level.list x) (back_again exit.list);
+    }
+strong_linked known earlier (Unknown (Wide system class index basis)) p f = absurd f.0
+strong_linked known earlier (Unknown (Budget nodes)) p f = absurd f.0
+strong_linked known earlier (Unknown (Rests question)) p f = absurd f.0
+strong_linked known earlier (Strong count terminal label exit) p f = absurd f.1
+strong_linked known earlier v p f = absurd f.0
+
+-- the labels that are read back
+strong_labels : (known : Known) (net : Net) (earlier : Earlier) (v : Verdict) (p : Proof) → IsFormedOf net earlier Q2 v p → labels_of (verdict_of Q2 (sizes_of known) (head_of Q2 v) (records_below (shapes_of known) (answer v p))) ≡ labels_of v
+strong_labels known net earlier (Strong count terminal label exit) (StrongTrees from from_depth to to_depth level) f = back_again label.list
+strong_labels known net earlier (Unknown (Wide system class index basis)) p f = absurd f.0
+strong_labels known net earlier (Unknown (Budget nodes)) p f = absurd f.0
+strong_labels known net earlier (Unknown (Rests question)) p f = absurd f.0
+strong_labels known net earlier (Strong count terminal label exit) p f = absurd f.1
+strong_labels known net earlier v p f = absurd f.0
+
+-- ---- reversible
+
+reverse_tests : Net → List ℕ → List Test
+reverse_tests net back = test 1 32 (AreReverses net back) ∷ []
+
+-- one number from 1
+number_fits : (most n : ℕ) → 1 ≤ n → n ≤ most → AreOf (λ field zs. Takes field zs × AreNarrow field zs) (small 1 1 most ∷ []) (pos n ∷ [])
+number_fits most n a b = (pos n ∷ [], [], refl, ((refl, ((omega (arith, ints, a), omega (arith, ints, b)), tt)), tt), refl)
+
+reversible_linked : (known : Known) (earlier : Earlier) (v : Verdict) (p : Proof) → IsFormedOf known.net earlier Q3 v p → IsLinked known earlier Q3 (answer v p)
+unfolding reverse_tests
+reversible_linked known earlier Yes (Back back) f =
+    let r = length known.net.reactions in
+    record {
+      formed = record { head = (_, inl refl, (refl, refl)); rows = (small_fits (codes "back") r 1 r back.list f.1, tt); trees = refl };
+      heads = refl;
+      rows = ap (λ (x : List ℕ). reverse_tests known.net x) (back_again back.list);
+    }
+reversible_linked known earlier (NoReaction n) Nothing f =
+    record {
+      formed = record { head = (_, inr (inl refl), (refl, number_fits (length known.net.reactions) n f.0.0 f.0.1)); rows = tt; trees = refl };
+      heads = refl;
+      rows = refl;
+    }
+reversible_linked known earlier (Unknown (Wide system class index basis)) p f = absurd f.0
+reversible_linked known earlier (Unknown (Budget nodes)) p f = absurd f.0
+reversible_linked known earlier (Unknown (Rests question)) p f = absurd f.0
+reversible_linked known earlier Yes p f = absurd f.1
+reversible_linked known earlier (NoReaction n) p f = absurd f.1
+reversible_linked known earlier v p f = absurd f.0
+
+-- ---- weakly reversible
+
+weak_tests : Net → List ℕ → List Test
+weak_tests net labels = test 0 37 (AreEven net labels) ∷ []
+
+leave_tests : Net → ℕ → List ℕ → List Test
+leave_tests net r labels = test 0 37 ((y : ℕ) × (z : ℕ) × IsReactionNumber net r y z × (slice_index labels y ≢ slice_index labels z)) ∷ []
+
+weak_linked : (known : Known) (earlier : Earlier) (v : Verdict) (p : Proof) → strong known.earlier ≡ strong earlier → IsFormedOf known.net earlier Q4 v p → IsLinked known earlier Q4 (answer v p)
+unfolding weak_tests leave_tests
+weak_linked known earlier Yes Nothing e f =
+    record {
+      formed = record { head = (_, inl refl, (refl, refl)); rows = tt; trees = refl };
+      heads = ap (λ (x : List ℕ). weak_tests known.net x) e;
+      rows = refl;
+    }
+weak_linked known earlier (NoReaction n) Nothing e f =
+    record {
+      formed = record { head = (_, inr (inl refl), (refl, number_fits (length known.net.reactions) n f.0.0 f.0.1)); rows = tt; trees = refl };
+      heads = ap (λ (x : List ℕ). leave_tests known.net n x) e;
+      rows = refl;
+    }
+weak_linked known earlier (Unknown (Wide system class index basis)) p e f = absurd f.0
+weak_linked known earlier (Unknown (Budget nodes)) p e f = absurd f.0
+weak_linked known earlier (Unknown (Rests question)) p e f = absurd f.0
+weak_linked known earlier Yes p e f = absurd f.1
+weak_linked known earlier (NoReaction n) p e f = absurd f.1
+weak_linked known earlier v p e f = absurd f.0
+
+-- ---- all answers
+
+-- what is known behind an answer
+abbrev behind : Question → Known → Answer → Known
+behind q known a = meaning.learn q known (head_of q a.verdict) (records_below (shapes_of known) a)
+
+abbrev start : Net → Known
+start net = meaning.start net
+
+-- the answers are linked one after the other
+pub record AreLinked (net : Net) (a b c d : Answer) : Type 1 where
+  pub one : IsLinked (start net) [] Q1 a
+  pub two : IsLinked (behind Q1 (start net) a) ((Q1, a.verdict) ∷ []) Q2 b
+  pub three : IsLinked (behind Q2 (behind Q1 (start net) a) b) ((Q1, a.verdict) ∷ (Q2, b.verdict) ∷ []) Q3 c
+  pub four : IsLinked (behind Q3 (behind Q2 (behind Q1 (start net) a) b) c) ((Q1, a.verdict) ∷ (Q2, b.verdict) ∷ (Q3, c.verdict) ∷ []) Q4 d
+
+are_linked : (net : Net) (a b c d : Answer) → AreFormed net [] built (a ∷ b ∷ c ∷ d ∷ []) → AreLinked net a b c d
+are_linked net a b c d f =
+    let k1 = behind Q1 (start net) a in
+    let k2 = behind Q2 k1 b in
+    let k3 = behind Q3 k2 c in
+    record {
+      one = linkage_linked (start net) [] a.verdict a.proof f.0;
+      two = strong_linked k1 ((Q1, a.verdict) ∷ []) b.verdict b.proof f.1.0;
+      three = reversible_linked k2 ((Q1, a.verdict) ∷ (Q2, b.verdict) ∷ []) c.verdict c.proof f.1.1.0;
+      four = weak_linked k3 ((Q1, a.verdict) ∷ (Q2, b.verdict) ∷ (Q3, c.verdict) ∷ []) d.verdict d.proof (strong_labels k1 net ((Q1, a.verdict) ∷ []) b.verdict b.proof f.1.0) f.1.1.1.0;
+    }
+
+pub answers_formed : (net : Net) (answers : List Answer) → AreFormed net [] built answers → AreFormedOf net (records_of net answers)
+unfolding documents.AreFormed all_records
+answers_formed net [] f = absurd f
+answers_formed net (a ∷ []) f = absurd f.1
+answers_formed net (a ∷ b ∷ []) f = absurd f.1.1
+answers_formed net (a ∷ b ∷ c ∷ []) f = absurd f.1.1.1
+answers_formed net (a ∷ b ∷ c ∷ d ∷ e ∷ more) f = absurd f.1.1.1.1
+answers_formed net (a ∷ b ∷ c ∷ d ∷ []) f =
+    let l = are_linked net a b c d f in
+    let k1 = behind Q1 (start net) a in
+    let k2 = behind Q2 k1 b in
+    let k3 = behind Q3 k2 c in
+    (parts Q1 (start net) a, l.one.formed, (parts Q2 k1 b, l.two.formed, (parts Q3 k2 c, l.three.formed, (parts Q4 k3 d, l.four.formed, refl))))
+
+-- ---- valid answers
+
+all_front : (xs ys : List Test) → AllHold (xs ++ ys) → AllHold xs × AllHold ys
+all_front [] ys h = (tt, h)
+all_front (x ∷ xs) ys h = let more = all_front xs ys h.1 in ((h.0, more.0), more.1)
+
+all_both : (xs ys : List Test) → AllHold xs → AllHold ys → AllHold (xs ++ ys)
+all_both [] ys p q = q
+all_both (x ∷ xs) ys p q = (p.0, all_both xs ys p.1 q)
+
+-- a block without trees that is formed has valid trees
+no_trees : (t : Bool) (rs : List Record) → AreTrees (λ (problem : Problem) (prefix : List Sign) (r : Record). IsOneOf (leaf_forms problem) r) (unless t []) rs → AreTrees IsGoodLeaf (unless t []) rs
+no_trees true rs h = h
+no_trees false rs h = h
+
+there : (known : Known) (earlier : Earlier) (q : Question) (a : Answer) → IsLinked known earlier q a → IsValid known.net earlier q a → documents.IsValid meaning q known (records q (shapes_of known) a) (parts q known a)
+there known earlier q a l v =
+    let hold = all_front (head_tests known.net earlier q a.verdict) (row_tests known.net earlier q a.verdict a.proof) v in
+    let formed = l.formed in
+    record { head = subst AllHold (sym l.heads) hold.0; rows = subst AllHold (sym l.rows) hold.1; trees = no_trees (is_open (head_of q a.verdict)) (proof_nodes a.proof) formed.trees }
+
+back : (known : Known) (earlier : Earlier) (q : Question) (a : Answer) → IsLinked known earlier q a → documents.IsValid meaning q known (records q (shapes_of known) a) (parts q known a) → IsValid known.net earlier q a
+back known earlier q a l v = all_both (head_tests known.net earlier q a.verdict) (row_tests known.net earlier q a.verdict a.proof) (subst AllHold l.heads v.head) (subst AllHold l.rows v.rows)
+
+-- what is valid of one cut into parts is valid of the other
+same_valid : (q : Question) (known : Known) (rs : List Record) (p u : Parts rs) → IsFormed meaning q known rs p → IsFormed meaning q known rs u → documents.IsValid meaning q known rs p
+    → documents.IsValid meaning q known rs u × (meaning.learn q known p.head p.rows ≡ meaning.learn q known u.head u.rows)
+same_valid q known rs p u f g v =
+    let same = (block_apart meaning q known rs rs [] [] p u f g refl).1 in
+    let heads = subst (λ (h : Record). AllHold (head_claims meaning q known h)) same.0 v.head in
+    let rows = subst (λ (h : Record). AllHold (row_claims meaning q known h u.rows)) same.0 (subst (λ (r : List Record). AllHold (row_claims meaning q known p.head r)) same.1 v.rows) in
+    (record { head = heads; rows = rows; trees = no_trees (is_open u.head) u.nodes g.trees }, ap₂ (λ (h : Record) (r : List Record). meaning.learn q known h r) same.0 same.1)
+
+abbrev Rest : List Question → Known → Known → List Answer → Type 0
+Rest qs known from answers = documents.AreValid meaning qs known (all_records meaning qs from answers)
+
+pub answers_valid : (net : Net) (answers : List Answer) → AreFormed net [] built answers → AreValid net [] built answers → documents.AreValid meaning built (start net) (records_of net answers)
+unfolding documents.AreValid all_records
+answers_valid net [] f v = absurd f
+answers_valid net (a ∷ []) f v = absurd f.1
+answers_valid net (a ∷ b ∷ []) f v = absurd f.1.1
+answers_valid net (a ∷ b ∷ c ∷ []) f v = absurd f.1.1.1
+answers_valid net (a ∷ b ∷ c ∷ d ∷ e ∷ more) f v = absurd f.1.1.1.1
+answers_valid net (a ∷ b ∷ c ∷ d ∷ []) f v =
+    let l = are_linked net a b c d f in
+    let k1 = behind Q1 (start net) a in
+    let k2 = behind Q2 k1 b in
+    let k3 = behind Q3 k2 c in (
+      parts Q1 (start net) a,
+      l.one.formed,
+      there (start net) [] Q1 a l.one v.0,
+      (
+        parts Q2 k1 b,
+        l.two.formed,
+        there k1 ((Q1, a.verdict) ∷ []) Q2 b l.two v.1.0,
+        (
+          parts Q3 k2 c,
+          l.three.formed,
+          there k2 ((Q1, a.verdict) ∷ (Q2, b.verdict) ∷ []) Q3 c l.three v.1.1.0,
+          (parts Q4 k3 d, l.four.formed, there k3 ((Q1, a.verdict) ∷ (Q2, b.verdict) ∷ (Q3, c.verdict) ∷ []) Q4 d l.four v.1.1.1.0, refl),
+        ),
+      ),
+    )
+
+pub records_valid : (net : Net) (answers : List Answer) → AreFormed net [] built answers → documents.AreValid meaning built (start net) (records_of net answers) → AreValid net [] built answers
+unfolding documents.AreValid all_records
+records_valid net [] f v = absurd f
+records_valid net (a ∷ []) f v = absurd f.1
+records_valid net (a ∷ b ∷ []) f v = absurd f.1.1
+records_valid net (a ∷ b ∷ c ∷ []) f v = absurd f.1.1.1
+records_valid net (a ∷ b ∷ c ∷ d ∷ e ∷ more) f v = absurd f.1.1.1.1
+records_valid net (a ∷ b ∷ c ∷ d ∷ []) f v =
+    let l = are_linked net a b c d f in
+    let k1 = behind Q1 (start net) a in
+    let k2 = behind Q2 k1 b in
+    let k3 = behind Q3 k2 c in
+    let s1 = same_valid Q1 (start net) (records Q1 (shapes_of (start net)) a) v.0 (parts Q1 (start net) a) v.1 l.one.formed v.2 in
+    let w2 : Rest (Q2 ∷ Q3 ∷ Q4 ∷ []) k1 k1 (b ∷ c ∷ d ∷ []) = subst (λ (k : Known). Rest (Q2 ∷ Q3 ∷ Q4 ∷ []) k k1 (b ∷ c ∷ d ∷ [])) s1.1 v.3 in
+    let s2 = same_valid Q2 k1 (records Q2 (shapes_of k1) b) w2.0 (parts Q2 k1 b) w2.1 l.two.formed w2.2 in
+    let w3 : Rest (Q3 ∷ Q4 ∷ []) k2 k2 (c ∷ d ∷ []) = subst (λ (k : Known). Rest (Q3 ∷ Q4 ∷ []) k k2 (c ∷ d ∷ [])) s2.1 w2.3 in
+    let s3 = same_valid Q3 k2 (records Q3 (shapes_of k2) c) w3.0 (parts Q3 k2 c) w3.1 l.three.formed w3.2 in
+    let w4 : Rest (Q4 ∷ []) k3 k3 (d ∷ []) = subst (λ (k : Known). Rest (Q4 ∷ []) k k3 (d ∷ [])) s3.1 w3.3 in
+    let s4 = same_valid Q4 k3 (records Q4 (shapes_of k3) d) w4.0 (parts Q4 k3 d) w4.1 l.four.formed w4.2 in
+    (back (start net) [] Q1 a l.one s1.0, (back k1 ((Q1, a.verdict) ∷ []) Q2 b l.two s2.0, (back k2 ((Q1, a.verdict) ∷ (Q2, b.verdict) ∷ []) Q3 c l.three s3.0, (back k3 ((Q1, a.verdict) ∷ (Q2, b.verdict) ∷ (Q3, c.verdict) ∷ []) Q4 d l.four s4.0, tt))))

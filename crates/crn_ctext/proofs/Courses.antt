@@ -1,0 +1,143 @@
+-- Of a settled course a text gives one thing or has one first fault, and never both; and what one course behind another does.
+use Rattle.std.proofs.Common.{◌≡◌, ◌⊎◌, ℕ, ◌<◌, List, [], ◌∷◌, length, refl, sym, ap, subst, ◌∙◌, inl, inr, arith}
+use Rattle.crn_io.specs.declared.lines.TheConstants.{MAX_DOCUMENT}
+use Rattle.crn_io.specs.Lines.{Place, IsLineAt, BreaksLine, document_too_long, line_too_long, otherwise, LacksLine, HasMore, early}
+use Rattle.crn_ctext.specs.Course.{Course, Give, Line, Test, End, ◌>>=◌, Gives, FailsFirst, IsSettled, EachIsJudged, GivesOrFails, GivesOne, FirstIsOne}
+use Rattle.crn_io.proofs.CallerLemmas.{line_or_not, breaks_or_not, line_is_there, line_breaks_none, line_is_one, break_is_one}
+
+-- whether something is left is decided
+more_or_not : (at : Place) → HasMore at ⊎ (HasMore at → ⊥)
+more_or_not at = by at.left
+  where
+    by : (bs : List ℕ) → ((bs ≡ []) → ⊥) ⊎ (((bs ≡ []) → ⊥) → ⊥)
+    by [] = inr (λ h. h refl)
+    by (b ∷ bs) = inl (λ e. absurd cc)
+
+abbrev Judged : {A : Type 0} → Course A → Place → Type 0
+Judged {A} course at = ((y : A) × (behind : Place) × Gives course at y behind) ⊎ ((n : ℕ) × (code : ℕ) × FailsFirst course at n code)
+
+pub each_is_judged : {A : Type 0} (course : Course A) → IsSettled course → (at : Place) → at.before < MAX_DOCUMENT → Judged course at
+unfolding Gives FailsFirst IsSettled
+each_is_judged (Give x) s at lt = inl (x, at, (refl, refl))
+each_is_judged (Line node next) s at lt = elim (breaks_or_not at (early node) (LacksLine at) lt (line_or_not at.left)) [
+  | inl breaks ↦ inr (at.line, breaks.0, inl (refl, breaks.1))
+  | inr none ↦ let l = line_is_there at lt none.0 none.1 none.2 in let b = l.2.bound in elim (each_is_judged (next l.0) (s l.0) l.1 b) [
+    | inl gives ↦ inl (gives.0, gives.1, (l.0, l.1, l.2, gives.2))
+    | inr fails ↦ inr (fails.0, fails.1, inr (l.0, l.1, l.2, fails.2))
+  ]
+]
+each_is_judged (Test n c X P next) s at lt = elim s.0 [
+  | inl x ↦ elim (each_is_judged (next x.0) (s.2 x.0 x.1) at lt) [
+    | inl gives ↦ inl (gives.0, gives.1, (x.0, x.1, gives.2))
+    | inr fails ↦ inr (fails.0, fails.1, inr (x.0, x.1, fails.2))
+  ]
+  | inr none ↦ inr (n, c, inl (refl, refl, none))
+]
+each_is_judged (End next) s at lt = elim (breaks_or_not at 28 (HasMore at) lt (more_or_not at)) [
+  | inl breaks ↦ inr (at.line, breaks.0, inl (refl, breaks.1))
+  | inr none ↦ elim (each_is_judged next s at lt) [
+    | inl gives ↦ inl (gives.0, gives.1, (none.2, gives.2))
+    | inr fails ↦ inr (fails.0, fails.1, inr (none.2, fails.2))
+  ]
+]
+
+-- where nothing is left no test of a line fails
+end_breaks_none : (at : Place) (code : ℕ) → (HasMore at → ⊥) → BreaksLine at 28 (HasMore at) code → ⊥
+end_breaks_none at code none (document_too_long d) = none (λ e. absurd (let l : length at.left ≡ 0 = ap length e in omega (arith, l, d.2)))
+end_breaks_none at code none (line_too_long d l) = none (λ e. absurd (let n : length at.left ≡ 0 = ap length e in omega (arith, n, l.0)))
+end_breaks_none at code none (otherwise d l o) = none o
+
+-- what is said of the place behind a line is said of the place behind the same line
+same_behind : (P : List ℕ → Place → Type 0) (at : Place) (line l : List ℕ) (behind b : Place) → IsLineAt at line behind → IsLineAt at l b → P l b → P line behind
+same_behind P at line l behind b p q h =
+    let same = line_is_one at line l behind b p q in
+    subst (λ (x : List ℕ). P x behind) (sym same.0) (subst (λ (y : Place). P l y) (sym same.1) h)
+
+pub gives_or_fails : {A : Type 0} (course : Course A) → IsSettled course → (at behind : Place) (y : A) (n code : ℕ) → Gives course at y behind → FailsFirst course at n code → ⊥
+unfolding Gives FailsFirst IsSettled
+gives_or_fails (Give x) s at behind y n code p f = f
+gives_or_fails (Line node next) s at behind y n code p f = elim f [
+  | inl breaks ↦ line_breaks_none at p.0 p.1 (early node) code p.2 breaks.1
+  | inr l ↦ gives_or_fails (next p.0) (s p.0) p.1 behind y n code p.3 (same_behind (λ x b. FailsFirst (next x) b n code) at p.0 l.0 p.1 l.1 p.2 l.2 l.3)
+]
+gives_or_fails (Test m c X P next) s at behind y n code p f = elim f [
+  | inl none ↦ none.2 p.0 p.1
+  | inr x ↦ gives_or_fails (next p.0) (s.2 p.0 p.1) at behind y n code p.2 (subst (λ (y : X). FailsFirst (next y) at n code) (s.1 x.0 p.0 x.1 p.1) x.2)
+]
+gives_or_fails (End next) s at behind y n code p f = elim f [
+  | inl breaks ↦ end_breaks_none at code p.0 breaks.1
+  | inr more ↦ gives_or_fails next s at behind y n code p.1 more.1
+]
+
+pub gives_one : {A : Type 0} (course : Course A) → IsSettled course → (at behind past : Place) (y z : A) → Gives course at y behind → Gives course at z past → (y ≡ z) × (behind ≡ past)
+unfolding Gives IsSettled
+gives_one (Give x) s at behind past y z p q = (sym p.0 ∙ q.0, sym p.1 ∙ q.1)
+gives_one (Line node next) s at behind past y z p q = gives_one (next p.0) (s p.0) p.1 behind past y z p.3 (same_behind (λ x b. Gives (next x) b z past) at p.0 q.0 p.1 q.1 p.2 q.2 q.3)
+gives_one (Test m c X P next) s at behind past y z p q = gives_one (next p.0) (s.2 p.0 p.1) at behind past y z p.2 (subst (λ (x : X). Gives (next x) at z past) (s.1 q.0 p.0 q.1 p.1) q.2)
+gives_one (End next) s at behind past y z p q = gives_one next s at behind past y z p.1 q.1
+
+pub first_is_one : {A : Type 0} (course : Course A) → IsSettled course → (at : Place) (n m c d : ℕ) → FailsFirst course at n c → FailsFirst course at m d → (n ≡ m) × (c ≡ d)
+unfolding FailsFirst IsSettled
+first_is_one (Give x) s at n m c d f g = absurd f
+first_is_one (Line node next) s at n m c d (inl f) (inl g) = (f.0 ∙ sym g.0, break_is_one at (early node) c d (LacksLine at) f.1 g.1)
+first_is_one (Line node next) s at n m c d (inl f) (inr g) = absurd (line_breaks_none at g.0 g.1 (early node) c g.2 f.1)
+first_is_one (Line node next) s at n m c d (inr f) (inl g) = absurd (line_breaks_none at f.0 f.1 (early node) d f.2 g.1)
+first_is_one (Line node next) s at n m c d (inr f) (inr g) = first_is_one (next f.0) (s f.0) f.1 n m c d f.3 (same_behind (λ x b. FailsFirst (next x) b m d) at f.0 g.0 f.1 g.1 f.2 g.2 g.3)
+first_is_one (Test k e X P next) s at n m c d (inl f) (inl g) = (f.0 ∙ sym g.0, f.1 ∙ sym g.1)
+first_is_one (Test k e X P next) s at n m c d (inl f) (inr g) = absurd (f.2 g.0 g.1)
+first_is_one (Test k e X P next) s at n m c d (inr f) (inl g) = absurd (g.2 f.0 f.1)
+first_is_one (Test k e X P next) s at n m c d (inr f) (inr g) = first_is_one (next f.0) (s.2 f.0 f.1) at n m c d f.2 (subst (λ (y : X). FailsFirst (next y) at m d) (s.1 g.0 f.0 g.1 f.1) g.2)
+first_is_one (End next) s at n m c d (inl f) (inl g) = (f.0 ∙ sym g.0, break_is_one at 28 c d (HasMore at) f.1 g.1)
+first_is_one (End next) s at n m c d (inl f) (inr g) = absurd (end_breaks_none at c g.0 f.1)
+first_is_one (End next) s at n m c d (inr f) (inl g) = absurd (end_breaks_none at d f.0 g.1)
+first_is_one (End next) s at n m c d (inr f) (inr g) = first_is_one next s at n m c d f.1 g.1
+
+-- ---- one course behind another
+
+pub settled_then : {A B : Type 0} (c : Course A) (f : A → Course B) → IsSettled c → ((x : A) → IsSettled (f x)) → IsSettled (c >>= f)
+unfolding IsSettled
+settled_then (Give x) f s t = t x
+settled_then (Line node next) f s t = λ line. settled_then (next line) f (s line) t
+settled_then (Test n c X P next) f s t = (s.0, s.1, λ x p. settled_then (next x) f (s.2 x p) t)
+settled_then (End next) f s t = settled_then next f s t
+
+-- it gives what the second gives behind the first
+pub gives_then : {A B : Type 0} (c : Course A) (f : A → Course B) (at mid behind : Place) (x : A) (y : B) → Gives c at x mid → Gives (f x) mid y behind → Gives (c >>= f) at y behind
+unfolding Gives
+gives_then (Give z) f at mid behind x y p q = subst (λ (z : _). Gives (f z) at y behind) (sym p.0) (subst (λ (m : Place). Gives (f x) m y behind) (sym p.1) q)
+gives_then (Line node next) f at mid behind x y p q = (p.0, p.1, p.2, gives_then (next p.0) f p.1 mid behind x y p.3 q)
+gives_then (Test n c X P next) f at mid behind x y p q = (p.0, p.1, gives_then (next p.0) f at mid behind x y p.2 q)
+gives_then (End next) f at mid behind x y p q = (p.0, gives_then next f at mid behind x y p.1 q)
+
+-- what fails in the first fails in both
+pub fails_before : {A B : Type 0} (c : Course A) (f : A → Course B) (at : Place) (n code : ℕ) → FailsFirst c at n code → FailsFirst (c >>= f) at n code
+unfolding FailsFirst
+fails_before (Give x) f at n code p = absurd p
+fails_before (Line node next) f at n code (inl p) = inl p
+fails_before (Line node next) f at n code (inr p) = inr (p.0, p.1, p.2, fails_before (next p.0) f p.1 n code p.3)
+fails_before (Test m c X P next) f at n code (inl p) = inl p
+fails_before (Test m c X P next) f at n code (inr p) = inr (p.0, p.1, fails_before (next p.0) f at n code p.2)
+fails_before (End next) f at n code (inl p) = inl p
+fails_before (End next) f at n code (inr p) = inr (p.0, fails_before next f at n code p.1)
+
+-- and what fails in the second fails behind the first
+pub fails_then : {A B : Type 0} (c : Course A) (f : A → Course B) (at mid : Place) (x : A) (n code : ℕ) → Gives c at x mid → FailsFirst (f x) mid n code → FailsFirst (c >>= f) at n code
+unfolding Gives FailsFirst
+fails_then (Give z) f at mid x n code p q = subst (λ (z : _). FailsFirst (f z) at n code) (sym p.0) (subst (λ (m : Place). FailsFirst (f x) m n code) (sym p.1) q)
+fails_then (Line node next) f at mid x n code p q = inr (p.0, p.1, p.2, fails_then (next p.0) f p.1 mid x n code p.3 q)
+fails_then (Test m c X P next) f at mid x n code p q = inr (p.0, p.1, fails_then (next p.0) f at mid x n code p.2 q)
+fails_then (End next) f at mid x n code p q = inr (p.0, fails_then next f at mid x n code p.1 q)
+
+-- ---- the laws
+
+pub judged : EachIsJudged
+judged A course s at lt = each_is_judged course s at lt
+
+pub never_both : GivesOrFails
+never_both A course s at behind y n code p f = gives_or_fails course s at behind y n code p f
+
+pub one_given : GivesOne
+one_given A course s at behind past y z p q = gives_one course s at behind past y z p q
+
+pub one_first : FirstIsOne
+one_first A course s at n m c d f g = first_is_one course s at n m c d f g

@@ -1,0 +1,103 @@
+-- Each test of the built questions is decided, whatever a block holds.
+use Rattle.std.proofs.Common.{ℕ, zero, suc, Bool, true, false, List, [], if◌then◌else◌}
+use Rattle.std.specs.Prelude.{ℤ}
+use Rattle.crn_vec.specs.Network.{Net}
+use Rattle.crn_cert.specs.declared.answer.Gap.{Gap}
+use Rattle.crn_cert.specs.declared.answer.Verdict.TheVariants.{Unknown}
+use Rattle.crn_cert.specs.declared.answer.Proof.TheVariants.{Nothing}
+use Rattle.crn_cert.specs.Questions.{Earlier, Q1, Q2, Q3, Q4}
+use Rattle.crn_cert.specs.ClassTests.{zeros_in}
+use Rattle.crn_cert.specs.Valid.{strong, linkage_rows, strong_rows, reversible_head, reversible_rows, weak_head}
+use Rattle.crn_ctext.specs.Records.{Record}
+use Rattle.crn_ctext.specs.Questions.{Shapes, heads}
+use Rattle.crn_ctext.specs.Blocks.{place_of, is_open}
+use Rattle.crn_ctext.specs.Meaning.{shapes_of, sizes_of, number, row, nums, gap_of, verdict_by, proof_by, meaning}
+use Rattle.crn_cert.specs.Built.{built}
+use Rattle.crn_ctext.proofs.Decided.{both_decided, nat_decided}
+use Rattle.crn_ctext.proofs.TestsDecided.{numbered_decided, even_decided, link_trees_decided, from_trees_decided, to_trees_decided, levels_decided, exits_decided, no_reverse_decided, reverses_decided, leaves_decided}
+use Rattle.crn_ctext.proofs.Settled.{AllDecided, IsDecidedFor, IsDecidedMeaning}
+
+-- ---- linkage classes
+
+linkage_rows_decided : (net : Net) (s : Shapes) (t : Bool) (g : Gap) (place : ℕ) (n : List ℤ) (rs : List Record) → AllDecided (linkage_rows net (if t then Unknown g else verdict_by Q1 place n rs) (if t then Nothing else proof_by Q1 s place n rs))
+linkage_rows_decided net s true g place n rs = tt
+linkage_rows_decided net s false g zero n rs = tt
+linkage_rows_decided net s false g (suc zero) n rs =
+    let label = (nums (row rs 0)).list in
+    (both_decided (numbered_decided label (number n 0)) (even_decided net label), (link_trees_decided net label (nums (row rs 1)).list (nums (row rs 2)).list, tt))
+linkage_rows_decided net s false g (suc (suc k)) n rs = tt
+
+linkage_decided : IsDecidedFor meaning Q1
+linkage_decided = record {
+  head = λ known h. tt;
+  rows = λ known h rs. linkage_rows_decided known.net (shapes_of known) (is_open h) (gap_of h) (place_of (heads Q1 (sizes_of known)) h.words) h.numbers rs;
+  trees = λ known h. tt;
+}
+
+-- ---- strong classes
+
+strong_rows_decided : (net : Net) (s : Shapes) (t : Bool) (g : Gap) (place : ℕ) (n : List ℤ) (rs : List Record) → AllDecided (strong_rows net (if t then Unknown g else verdict_by Q2 place n rs) (if t then Nothing else proof_by Q2 s place n rs))
+strong_rows_decided net s true g place n rs = tt
+strong_rows_decided net s false g zero n rs = tt
+strong_rows_decided net s false g (suc zero) n rs =
+    let label = (nums (row rs 0)).list in
+    let exit = (nums (row rs 6)).list in (
+      numbered_decided label (number n 0),
+      (
+        from_trees_decided net label (nums (row rs 1)).list (nums (row rs 2)).list,
+        (
+          to_trees_decided net label (nums (row rs 3)).list (nums (row rs 4)).list,
+          (levels_decided net label (nums (row rs 5)).list, (exits_decided net label exit, (nat_decided (zeros_in exit) (number n 1), tt))),
+        ),
+      ),
+    )
+strong_rows_decided net s false g (suc (suc k)) n rs = tt
+
+strong_decided : IsDecidedFor meaning Q2
+strong_decided = record {
+  head = λ known h. tt;
+  rows = λ known h rs. strong_rows_decided known.net (shapes_of known) (is_open h) (gap_of h) (place_of (heads Q2 (sizes_of known)) h.words) h.numbers rs;
+  trees = λ known h. tt;
+}
+
+-- ---- reversible
+
+reversible_head_decided : (net : Net) (t : Bool) (g : Gap) (place : ℕ) (n : List ℤ) → AllDecided (reversible_head net (if t then Unknown g else verdict_by Q3 place n []))
+reversible_head_decided net true g place n = tt
+reversible_head_decided net false g zero n = tt
+reversible_head_decided net false g (suc zero) n = tt
+reversible_head_decided net false g (suc (suc zero)) n = (no_reverse_decided net (number n 0), tt)
+reversible_head_decided net false g (suc (suc (suc k))) n = tt
+
+reversible_rows_decided : (net : Net) (s : Shapes) (t : Bool) (g : Gap) (place : ℕ) (n : List ℤ) (rs : List Record) → AllDecided (reversible_rows net (if t then Unknown g else verdict_by Q3 place n rs) (if t then Nothing else proof_by Q3 s place n rs))
+reversible_rows_decided net s true g place n rs = tt
+reversible_rows_decided net s false g zero n rs = tt
+reversible_rows_decided net s false g (suc zero) n rs = (reverses_decided net (nums (row rs 0)).list, tt)
+reversible_rows_decided net s false g (suc (suc zero)) n rs = tt
+reversible_rows_decided net s false g (suc (suc (suc k))) n rs = tt
+
+reversible_decided : IsDecidedFor meaning Q3
+reversible_decided = record {
+  head = λ known h. reversible_head_decided known.net (is_open h) (gap_of h) (place_of (heads Q3 (sizes_of known)) h.words) h.numbers;
+  rows = λ known h rs. reversible_rows_decided known.net (shapes_of known) (is_open h) (gap_of h) (place_of (heads Q3 (sizes_of known)) h.words) h.numbers rs;
+  trees = λ known h. tt;
+}
+
+-- ---- weakly reversible
+
+weak_head_decided : (net : Net) (earlier : Earlier) (t : Bool) (g : Gap) (place : ℕ) (n : List ℤ) → AllDecided (weak_head net earlier (if t then Unknown g else verdict_by Q4 place n []))
+weak_head_decided net earlier true g place n = tt
+weak_head_decided net earlier false g zero n = tt
+weak_head_decided net earlier false g (suc zero) n = (even_decided net (strong earlier), tt)
+weak_head_decided net earlier false g (suc (suc zero)) n = (leaves_decided net earlier (number n 0), tt)
+weak_head_decided net earlier false g (suc (suc (suc k))) n = tt
+
+weak_decided : IsDecidedFor meaning Q4
+weak_decided = record {
+  head = λ known h. weak_head_decided known.net known.earlier (is_open h) (gap_of h) (place_of (heads Q4 (sizes_of known)) h.words) h.numbers;
+  rows = λ known h rs. tt;
+  trees = λ known h. tt;
+}
+
+pub meaning_decided : IsDecidedMeaning meaning built
+meaning_decided = (linkage_decided, (strong_decided, (reversible_decided, (weak_decided, tt))))

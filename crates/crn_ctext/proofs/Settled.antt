@@ -1,0 +1,293 @@
+-- The course of a document is settled, where the tests of meaning are decided.
+use Rattle.std.proofs.Common.{◌≡◌, ◌⊎◌, ◌==◌, ◌≤◌, ◌+◌, ◌++◌, ℕ, zero, suc, Bool, true, false, List, [], ◌∷◌, length, map, refl, sym, ap, subst, ◌∙◌, inl, inr, arith}
+use Rattle.std.specs.Prelude.{ℤ, replicate, codes, decimal}
+use Rattle.std.proofs.lemmas.List.{append_cancel_left}
+use Rattle.std.proofs.lemmas.Fmt.{decimal_injective}
+use Rattle.crn_vec.specs.Lists.{IsIn}
+use Rattle.crn_vec.specs.Network.{Net}
+use Rattle.crn_vec.specs.declared.signs.Sign.{Sign}
+use Rattle.crn_vec.specs.declared.signs.Sign.TheVariants.{Zero, Plus, Minus}
+use Rattle.crn_vec.specs.declared.limits.TheConstants.{MAX_REACTIONS}
+use Rattle.crn_text.specs.Canonical.{canonical}
+use Rattle.crn_text.specs.Spells.{Spells}
+use Rattle.crn_text.proofs.CallerLemmas.{spells_its_network}
+use Rattle.crn_text.proofs.CallerLemmas.{judged}
+use Rattle.crn_text.proofs.CallerLemmas.{no_fault}
+use Rattle.crn_text.proofs.CallerLemmas.{spelling_unique}
+use Rattle.crn_ctext.specs.Records.{Record, Form}
+use Rattle.crn_ctext.specs.Kinds.{node_forms, section_form, table_form, vector_form, end_form}
+use Rattle.crn_cert.specs.Questions.{Question}
+use Rattle.crn_ctext.specs.Questions.{heads, first_number}
+use Rattle.crn_ctext.specs.Course.{Course, Give, ◌>>=◌, due, find, test, ends, IsSettled}
+use Rattle.crn_cert.specs.Tests.{Test as Claim}
+use Rattle.crn_ctext.specs.Blocks.{Problem, Meaning, head_claims, row_claims, problems, is_open, unless, either, asks, asks_node, asks_all, claims, Node, Split, Flat, CutA, CutB, node_of, leaf, asks_leaf, goes_on, if_signed, is_all_zero, asks_tree, asks_trees, sections, below, has_tree, Behind, asks_block, behind_sections, asks_blocks, asks_table, lists_of, asks_lines, title, network_line, ended, IsNetworkOf, ReadOf, course}
+use Rattle.crn_ctext.proofs.Decided.{IsDecided, if_decided, nat_decided, bool_decided, bytes_decided, some_decided}
+use Rattle.crn_ctext.proofs.Courses.{settled_then}
+use Rattle.crn_ctext.proofs.LinesRead.{HaveWords, reads_settled}
+use Rattle.crn_ctext.proofs.FormWords.{heads_have, below_have, nodes_have, sections_have, table_has, vectors_have, end_has}
+
+-- ---- what is asked of the meaning
+
+-- each claim is decided
+abbrev pub AllDecided : List {1} Claim → Type 0
+AllDecided [] = Unit {0}
+AllDecided (c ∷ cs) = IsDecided c.holds × AllDecided cs
+
+-- each test of a tree is decided
+pub record IsDecidedProblem (p : Problem) : Type 0 where
+  pub part_a : (prefix : List Sign) (u : List ℤ) → IsDecided (p.RulesOutA prefix u)
+  pub part_b : (prefix : List Sign) (u : List ℤ) → IsDecided (p.RulesOutB prefix u)
+  pub closed : (prefix : List Sign) → IsDecided (p.IsClosed prefix)
+
+abbrev pub AreDecidedProblems : List {1} Problem → Type 0
+AreDecidedProblems [] = Unit {0}
+AreDecidedProblems (p ∷ ps) = IsDecidedProblem p × AreDecidedProblems ps
+
+-- each test of meaning of a question is decided
+pub record IsDecidedFor {Known : Type 0} (m : Meaning Known) (q : Question) : Type 0 where
+  pub head : (known : Known) (h : Record) → AllDecided (m.head_claims q known h)
+  pub rows : (known : Known) (h : Record) (rs : List Record) → AllDecided (m.row_claims q known h rs)
+  pub trees : (known : Known) (h : Record) → AreDecidedProblems (m.problems q known h)
+
+-- each test of meaning of these questions is decided
+abbrev pub IsDecidedMeaning : {Known : Type 0} → Meaning Known → List Question → Type 0
+IsDecidedMeaning m [] = Unit {0}
+IsDecidedMeaning m (q ∷ qs) = IsDecidedFor m q × IsDecidedMeaning m qs
+
+unless_decided : (t : Bool) (cs : List {1} Claim) → AllDecided cs → AllDecided (unless t cs)
+unless_decided true cs d = tt
+unless_decided false cs d = d
+
+unless_problems : (t : Bool) (ps : List {1} Problem) → AreDecidedProblems ps → AreDecidedProblems (unless t ps)
+unless_problems true ps d = tt
+unless_problems false ps d = d
+
+-- ---- records
+
+test_settled : (n code : ℕ) (P : Type 0) → IsDecided P → IsSettled (test n code P)
+unfolding IsSettled
+test_settled n code P (inl p) = (inl (tt, p), (λ x y p q. refl), (λ x p. tt))
+test_settled n code P (inr p) = (inr (λ x. p), (λ x y p q. refl), (λ x p. tt))
+
+find_settled : (n code : ℕ) (X : Type 0) (P : X → Type 0) → (((x : X) × P x) ⊎ ((x : X) → P x → ⊥)) → ((x y : X) → P x → P y → x ≡ y) → IsSettled (find n code X P)
+unfolding IsSettled
+find_settled n code X P decided one = (decided, one, (λ x p. tt))
+
+due_settled : (node : Bool) → IsSettled (due node)
+unfolding IsSettled
+due_settled node = λ line. tt
+
+give_settled : {A : Type 0} (x : A) → IsSettled (Give x)
+unfolding IsSettled
+give_settled x = tt
+
+asks_settled : (version n : ℕ) (after : Bool) (forms : List Form) → HaveWords forms → IsSettled (asks version n after forms)
+unfolding IsSettled
+asks_settled version n after forms w = λ line. reads_settled version n after forms 26 line w
+
+node_settled : (version n : ℕ) (forms : List Form) → HaveWords forms → IsSettled (asks_node version n forms)
+unfolding IsSettled
+node_settled version n forms w = λ line. reads_settled version n false forms 43 line w
+
+all_settled : (version n : ℕ) (after : Bool) (forms : List Form) → HaveWords forms → IsSettled (asks_all version n after forms)
+unfolding asks_all
+all_settled version n after [] w = give_settled []
+all_settled version n after (form ∷ forms) w =
+    settled_then (asks version n after (form ∷ [])) (λ r. asks_all version (n + 1) false forms >>= (λ rs. Give (r ∷ rs))) (asks_settled version n after (form ∷ []) (w.0, tt))
+    (λ r. settled_then (asks_all version (n + 1) false forms) (λ rs. Give (r ∷ rs)) (all_settled version (n + 1) false forms w.1) (λ rs. give_settled (r ∷ rs)))
+
+claims_settled : (n : ℕ) (cs : List {1} Claim) → AllDecided cs → IsSettled (claims n cs)
+unfolding claims
+claims_settled n [] d = give_settled tt
+claims_settled n (c ∷ cs) d = settled_then (test (n + c.part) c.code c.holds) (λ x. claims n cs) (test_settled (n + c.part) c.code c.holds d.0) (λ x. claims_settled n cs d.1)
+
+-- ---- trees
+
+leaf_settled : (p : Problem) (prefix : List Sign) (n : ℕ) (node : Node) → IsDecidedProblem p → IsSettled (leaf p prefix n node)
+leaf_settled p prefix n Split d = test_settled n 42 ⊥ (inr (λ h. h))
+leaf_settled p prefix n Flat d = test_settled n 42 (p.IsClosed prefix) (d.closed prefix)
+leaf_settled p prefix n (CutA shared u) d = settled_then (test n 46 (shared ≡ true → length u ≡ p.count_a)) (λ x. test n 41 (p.RulesOutA prefix u))
+    (test_settled n 46 (shared ≡ true → length u ≡ p.count_a) (if_decided (bool_decided shared true) (nat_decided (length u) p.count_a))) (λ x. test_settled n 41 (p.RulesOutA prefix u) (d.part_a prefix u))
+leaf_settled p prefix n (CutB shared u) d = settled_then (test n 46 (shared ≡ true → length u ≡ p.count_b)) (λ x. test n 41 (p.RulesOutB prefix u))
+    (test_settled n 46 (shared ≡ true → length u ≡ p.count_b) (if_decided (bool_decided shared true) (nat_decided (length u) p.count_b))) (λ x. test_settled n 41 (p.RulesOutB prefix u) (d.part_b prefix u))
+
+asks_leaf_settled : (version : ℕ) (table : List (List ℤ)) (p : Problem) (n : ℕ) → IsSettled (asks_leaf version table p n)
+asks_leaf_settled version table p n =
+    settled_then (asks_node version n (node_forms version p.count_a p.count_b (length table))) (λ r. Give (node_of table r)) (node_settled version n (node_forms version p.count_a p.count_b (length table)) (nodes_have version p.count_a p.count_b (length table))) (λ r. give_settled (node_of table r))
+
+leaf_then : (p : Problem) (prefix : List Sign) (n : ℕ) (node : Node) → IsDecidedProblem p → IsSettled (leaf p prefix n node >>= (λ x. Give (n + 1)))
+leaf_then p prefix n node d = settled_then (leaf p prefix n node) (λ x. Give (n + 1)) (leaf_settled p prefix n node d) (λ x. give_settled (n + 1))
+
+goes_on_settled : (p : Problem) (prefix : List Sign) (n : ℕ) (node : Node) (children : Course ℕ) → IsDecidedProblem p → IsSettled children → IsSettled (goes_on p prefix n node children)
+goes_on_settled p prefix n Split children d c = c
+goes_on_settled p prefix n Flat children d c = leaf_then p prefix n Flat d
+goes_on_settled p prefix n (CutA shared u) children d c = leaf_then p prefix n (CutA shared u) d
+goes_on_settled p prefix n (CutB shared u) children d c = leaf_then p prefix n (CutB shared u) d
+
+either_settled : {A : Type 0} (t : Bool) (this that : Course A) → IsSettled this → IsSettled that → IsSettled (either t this that)
+either_settled true this that p q = p
+either_settled false this that p q = q
+
+pub tree_settled : (version : ℕ) (table : List (List ℤ)) (p : Problem) (more : ℕ) (prefix : List Sign) (n : ℕ) → IsDecidedProblem p → IsSettled (asks_tree version table p more prefix n)
+unfolding asks_tree
+tree_settled version table p zero prefix n d =
+    settled_then (asks_leaf version table p n) (λ node. leaf p prefix n node >>= (λ x. Give (n + 1))) (asks_leaf_settled version table p n) (λ node. leaf_then p prefix n node d)
+tree_settled version table p (suc more) prefix n d =
+    settled_then (asks_leaf version table p n) (λ node. goes_on p prefix n node (children n)) (asks_leaf_settled version table p n) (λ node. goes_on_settled p prefix n node (children n) d
+    (settled_then (asks_tree version table p more (prefix ++ Zero ∷ []) (n + 1)) (λ k. asks_tree version table p more (prefix ++ Plus ∷ []) k >>= (λ m. last m)) (tree_settled version table p more (prefix ++ Zero ∷ []) (n + 1) d)
+    (λ k. settled_then (asks_tree version table p more (prefix ++ Plus ∷ []) k) (λ m. last m) (tree_settled version table p more (prefix ++ Plus ∷ []) k d)
+    (λ m. either_settled (is_all_zero prefix) (Give m) (asks_tree version table p more (prefix ++ Minus ∷ []) m) (give_settled m) (tree_settled version table p more (prefix ++ Minus ∷ []) m d)))))
+  where
+    last : ℕ → Course ℕ
+    last m = if_signed prefix m (asks_tree version table p more (prefix ++ Minus ∷ []) m)
+
+    children : ℕ → Course ℕ
+    children n = asks_tree version table p more (prefix ++ Zero ∷ []) (n + 1) >>= (λ k. asks_tree version table p more (prefix ++ Plus ∷ []) k >>= (λ m. last m))
+
+trees_settled : (version : ℕ) (table : List (List ℤ)) (ps : List {1} Problem) (n : ℕ) → AreDecidedProblems ps → IsSettled (asks_trees version table ps n)
+unfolding asks_trees
+trees_settled version table [] n d = give_settled n
+trees_settled version table (p ∷ ps) n d = settled_then (asks_tree version table p p.choices [] n) (λ m. asks_trees version table ps m) (tree_settled version table p p.choices [] n d.0) (λ m. trees_settled version table ps m d.1)
+
+-- ---- blocks
+
+block_settled : {Known : Type 0} (m : Meaning Known) (version : ℕ) (table : List (List ℤ)) (q : Question) (at : Behind Known) → IsDecidedFor m q → IsSettled (asks_block m version table q at)
+block_settled {Known} m version table q at d =
+    settled_then (asks version at.line at.by_tree (heads q (m.shapes at.known).sizes)) (λ head. behind_head head) (asks_settled version at.line at.by_tree (heads q (m.shapes at.known).sizes) (heads_have q (m.shapes at.known).sizes))
+    (λ head. settled_then (claims at.line (head_claims m q at.known head)) (λ x. behind_claims head) (claims_settled at.line (head_claims m q at.known head) (unless_decided (is_open head) (m.head_claims q at.known head) (let g = d.head in g at.known head)))
+    (λ x. settled_then (asks_all version (at.line + 1) false (below q (m.shapes at.known) head)) (λ rows. behind_rows head rows) (all_settled version (at.line + 1) false (below q (m.shapes at.known) head) (below_have q (m.shapes at.known) head))
+    (λ rows. settled_then (claims at.line (row_claims m q at.known head rows)) (λ y. behind_meaning head rows) (claims_settled at.line (row_claims m q at.known head rows) (unless_decided (is_open head) (m.row_claims q at.known head rows) (let g = d.rows in g at.known head rows)))
+    (λ y. settled_then (asks_trees version table (problems m q at.known head) (at.line + 1 + length rows)) (λ line. Give (given head rows line)) (trees_settled version table (problems m q at.known head) (at.line + 1 + length rows) (unless_problems (is_open head) (m.problems q at.known head) (let g = d.trees in g at.known head)))
+    (λ line. give_settled (given head rows line))))))
+  where
+    given : Record → List Record → ℕ → Behind Known
+    given head rows line = record { known = m.learn q at.known head rows; by_tree = has_tree (problems m q at.known head); line = line; blocks = at.blocks ++ (head ∷ rows) ∷ [] }
+
+    behind_meaning : Record → List Record → Course (Behind Known)
+    behind_meaning head rows = asks_trees version table (problems m q at.known head) (at.line + 1 + length rows) >>= (λ line. Give (given head rows line))
+
+    behind_rows : Record → List Record → Course (Behind Known)
+    behind_rows head rows = claims at.line (row_claims m q at.known head rows) >>= (λ y. behind_meaning head rows)
+
+    behind_claims : Record → Course (Behind Known)
+    behind_claims head = asks_all version (at.line + 1) false (below q (m.shapes at.known) head) >>= (λ rows. behind_rows head rows)
+
+    behind_head : Record → Course (Behind Known)
+    behind_head head = claims at.line (head_claims m q at.known head) >>= (λ x. behind_claims head)
+
+pub blocks_settled : {Known : Type 0} (m : Meaning Known) (version : ℕ) (table : List (List ℤ)) (built : List Question) (at : Behind Known) → IsDecidedMeaning m built → IsSettled (asks_blocks m version table built at)
+unfolding asks_blocks
+blocks_settled m version table [] at d = give_settled at
+blocks_settled m version table (q ∷ qs) at d =
+    settled_then (asks_all version at.line at.by_tree (map section_form (sections version q))) (λ opened. asks_block m version table q (behind_sections opened at) >>= (λ behind. asks_blocks m version table qs behind))
+    (all_settled version at.line at.by_tree (map section_form (sections version q)) (sections_have version q))
+    (λ opened. settled_then (asks_block m version table q (behind_sections opened at)) (λ behind. asks_blocks m version table qs behind) (block_settled m version table q (behind_sections opened at) d.0)
+    (λ behind. blocks_settled m version table qs behind d.1))
+
+-- ---- the opening
+
+-- the titles of these versions differ
+abbrev pub HaveTitles : List ℕ → Type 0
+HaveTitles versions = (v w : ℕ) → IsIn v versions → IsIn w versions → title v ≡ title w → v ≡ w
+
+version_settled : (versions : List ℕ) (first : List ℕ) → HaveTitles versions → IsSettled (find 1 21 ℕ (λ version. IsIn version versions × (first ≡ title version)))
+version_settled versions first t = find_settled 1 21 ℕ (λ version. IsIn version versions × (first ≡ title version))
+    (by (some_decided (λ version. first ≡ title version) (λ version. bytes_decided first (title version)) versions)) (λ x y p q. t x y p.0 q.0 (sym p.1 ∙ q.1))
+  where
+    by : IsDecided ((v : ℕ) × IsIn v versions × (first ≡ title v)) → ((v : ℕ) × (IsIn v versions × (first ≡ title v))) ⊎ ((v : ℕ) → IsIn v versions × (first ≡ title v) → ⊥)
+    by (inl h) = inl (h.0, (h.1, h.2))
+    by (inr h) = inr (λ v p. h (v, p.0, p.1))
+
+-- some number up to a bound
+bounded : (P : ℕ → Type 0) → ((n : ℕ) → IsDecided (P n)) → (most : ℕ) → ((n : ℕ) × ((1 ≤ n) × (n ≤ most) × P n)) ⊎ ((n : ℕ) → (1 ≤ n) × (n ≤ most) × P n → ⊥)
+bounded P each zero = inr (λ n p. omega (arith, p.0, p.1))
+bounded P each (suc most) = by (each (suc most)) (bounded P each most)
+  where
+    by : IsDecided (P (suc most)) → ((n : ℕ) × ((1 ≤ n) × (n ≤ most) × P n)) ⊎ ((n : ℕ) → (1 ≤ n) × (n ≤ most) × P n → ⊥) → ((n : ℕ) × ((1 ≤ n) × (n ≤ suc most) × P n)) ⊎ ((n : ℕ) → (1 ≤ n) × (n ≤ suc most) × P n → ⊥)
+    by (inl h) more = inl (suc most, (omega arith, omega arith, h))
+    by (inr h) (inl more) = inl (more.0, (more.1.0, omega (arith, more.1.1), more.1.2))
+    by (inr h) (inr more) = inr (λ n p. elim (nat_decided n (suc most)) [ inl same ↦ h (subst P same p.2) | inr other ↦ more n (p.0, omega (arith, other, p.1), p.2) ])
+
+count_settled : (second : List ℕ) → IsSettled (find 2 22 ℕ (λ count. (1 ≤ count) × (count ≤ MAX_REACTIONS) × (second ≡ network_line count)))
+count_settled second = find_settled 2 22 ℕ (λ count. (1 ≤ count) × (count ≤ MAX_REACTIONS) × (second ≡ network_line count))
+    (bounded (λ count. second ≡ network_line count) (λ count. bytes_decided second (network_line count)) MAX_REACTIONS)
+    (λ m n p q. decimal_injective m n (omega (arith, p.1)) (omega (arith, q.1)) (append_cancel_left (codes "network ") (decimal m) (decimal n) (sym p.2 ∙ q.2)))
+
+-- a network whose canonical text the lines are is the one that they spell
+spelled_by : (lines : List (List ℕ)) (net : Net) → IsNetworkOf lines net → Spells (ended lines) net
+spelled_by lines net p = subst (λ t. Spells t net) p.1 (spells_its_network net p.0)
+
+network_settled : (n : ℕ) (lines : List (List ℕ)) → IsSettled (find n 22 Net (IsNetworkOf lines))
+network_settled n lines = find_settled n 22 Net (IsNetworkOf lines) decided (λ x y p q. spelling_unique (ended lines) x y (spelled_by lines x p) (spelled_by lines y q))
+  where
+    decided : ((net : Net) × IsNetworkOf lines net) ⊎ ((net : Net) → IsNetworkOf lines net → ⊥)
+    decided = elim (judged (ended lines)) [
+      | inl spelled ↦ elim (bytes_decided (canonical spelled.0) (ended lines)) [
+        | inl same ↦ inl (spelled.0, ((let p = spelled.1 in p.network), same))
+        | inr other ↦ inr (λ net p. other (ap canonical (sym (spelling_unique (ended lines) net spelled.0 (spelled_by lines net p) spelled.1)) ∙ p.1))
+      ]
+      | inr fault ↦ inr (λ net p. no_fault (ended lines) net fault.0 fault.1 (spelled_by lines net p) fault.2)
+    ]
+
+lines_settled : (n : ℕ) → IsSettled (asks_lines n)
+unfolding asks_lines
+lines_settled zero = give_settled []
+lines_settled (suc n) = settled_then (due false) (λ line. asks_lines n >>= (λ lines. Give (line ∷ lines))) (due_settled false) (λ line. settled_then (asks_lines n) (λ lines. Give (line ∷ lines)) (lines_settled n) (λ lines. give_settled (line ∷ lines)))
+
+table_settled : (version n : ℕ) → IsSettled (asks_table version n)
+table_settled version n = either_settled (version == 2) _ (Give [])
+    (settled_then (asks version n false (table_form ∷ [])) (λ head. asks_all version (n + 1) false (replicate (first_number head.numbers) vector_form) >>= (λ rows. Give (head ∷ rows))) (asks_settled version n false (table_form ∷ []) table_has)
+    (λ head. settled_then (asks_all version (n + 1) false (replicate (first_number head.numbers) vector_form)) (λ rows. Give (head ∷ rows)) (all_settled version (n + 1) false (replicate (first_number head.numbers) vector_form) (vectors_have (first_number head.numbers))) (λ rows. give_settled (head ∷ rows))))
+    (give_settled [])
+
+ends_settled : IsSettled ends
+unfolding IsSettled
+ends_settled = tt
+
+-- ---- the document
+
+pub course_settled : {Known : Type 0} (m : Meaning Known) (versions : List ℕ) (built : List Question) → IsDecidedMeaning m built → HaveTitles versions → IsSettled (course m versions built)
+course_settled {Known} m versions built d t =
+    settled_then (due false) (λ first. c1 first) (due_settled false) (λ first.
+    settled_then (find 1 21 ℕ (λ version. IsIn version versions × (first ≡ title version))) (λ version. c2 version) (version_settled versions first t) (λ version.
+    settled_then (due false) (λ second. c3 version second) (due_settled false) (λ second.
+    settled_then (find 2 22 ℕ (λ count. (1 ≤ count) × (count ≤ MAX_REACTIONS) × (second ≡ network_line count))) (λ count. c4 version count) (count_settled second) (λ count.
+    settled_then (asks_lines count) (λ lines. c5 version count lines) (lines_settled count) (λ lines.
+    settled_then (find (2 + count) 22 Net (IsNetworkOf lines)) (λ net. c6 version count net) (network_settled (2 + count) lines) (λ net.
+    settled_then (asks_table version (3 + count)) (λ table. c7 version count net table) (table_settled version (3 + count)) (λ table.
+    settled_then (asks_blocks m version (lists_of table) built (start count net table)) (λ behind. c8 version net behind) (blocks_settled m version (lists_of table) built (start count net table) d) (λ behind.
+    settled_then (asks version behind.line behind.by_tree (end_form ∷ [])) (λ last. c9 net behind) (asks_settled version behind.line behind.by_tree (end_form ∷ []) end_has) (λ last.
+    settled_then ends (λ x. Give (read net behind)) ends_settled (λ x. give_settled (read net behind)))))))))))
+  where
+    start : ℕ → Net → List Record → Behind Known
+    start count net table = record { known = m.start net; by_tree = false; line = 3 + count + length table; blocks = [] }
+
+    read : Net → Behind Known → ReadOf
+    read net behind = record { net = net; blocks = behind.blocks }
+
+    c9 : Net → Behind Known → Course ReadOf
+    c9 net behind = ends >>= (λ x. Give (read net behind))
+
+    c8 : ℕ → Net → Behind Known → Course ReadOf
+    c8 version net behind = asks version behind.line behind.by_tree (end_form ∷ []) >>= (λ last. c9 net behind)
+
+    c7 : ℕ → ℕ → Net → List Record → Course ReadOf
+    c7 version count net table = asks_blocks m version (lists_of table) built (start count net table) >>= (λ behind. c8 version net behind)
+
+    c6 : ℕ → ℕ → Net → Course ReadOf
+    c6 version count net = asks_table version (3 + count) >>= (λ table. c7 version count net table)
+
+    c5 : ℕ → ℕ → List (List ℕ) → Course ReadOf
+    c5 version count lines = find (2 + count) 22 Net (IsNetworkOf lines) >>= (λ net. c6 version count net)
+
+    c4 : ℕ → ℕ → Course ReadOf
+    c4 version count = asks_lines count >>= (λ lines. c5 version count lines)
+
+    c3 : ℕ → List ℕ → Course ReadOf
+    c3 version second = find 2 22 ℕ (λ count. (1 ≤ count) × (count ≤ MAX_REACTIONS) × (second ≡ network_line count)) >>= (λ count. c4 version count)
+
+    c2 : ℕ → Course ReadOf
+    c2 version = due false >>= (λ second. c3 version second)
+
+    c1 : List ℕ → Course ReadOf
+    c1 first = find 1 21 ℕ (λ version. IsIn version versions × (first ≡ title version)) >>= (λ version. c2 version)

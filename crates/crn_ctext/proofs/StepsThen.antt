@@ -1,0 +1,101 @@
+-- One step of a reader behind another.
+use Rattle.std.proofs.Common.{◌≡◌, ◌≤◌, ◌+◌, ◌++◌, ℕ, List, [], ◌∷◌, length, Option, Some, None, refl, sym, ap, subst, ◌∙◌, append_assoc, arith}
+use Rattle.std.proofs.lemmas.List.{length-append}
+use Rattle.crn_io.specs.Pull.{Consumes}
+use Rattle.crn_io.proofs.CallerLemmas.{Consumes-then}
+use Rattle.crn_io.specs.Lines.{Place, IsLineAt, beginning}
+use Rattle.crn_ctext.specs.Course.{Course, Give, Line, Test, End, ◌>>=◌, Gives, FailsFirst}
+use Rattle.crn_io.specs.Next.{KeptLines, place}
+use Rattle.crn_io.specs.declared.lines.TheConstants.{MAX_AHEAD, MAX_DOCUMENT}
+use Rattle.crn_ctext.specs.Steps.{IsRest, StepGives, StepEnds, StepFails}
+use Rattle.crn_ctext.proofs.Courses.{gives_then, fails_before, fails_then}
+
+-- no byte of a text is lost while a course goes through it
+pub gives_counts : {A : Type 0} (c : Course A) (at behind : Place) (y : A) → Gives c at y behind → at.before + length at.left ≡ behind.before + length behind.left
+unfolding Gives
+gives_counts (Give x) at behind y g = ap (λ (p : Place). p.before + length p.left) g.1
+gives_counts (Line node next) at behind y g = line g.0 g.1 g.2 (gives_counts (next g.0) g.1 behind y g.3)
+  where
+    line : (l : List ℕ) (after : Place) → IsLineAt at l after → after.before + length after.left ≡ behind.before + length behind.left → at.before + length at.left ≡ behind.before + length behind.left
+    line l after p rest = omega (arith, ap length p.left, length-append l (10 ∷ after.left), p.before, rest)
+gives_counts (Test n code X P next) at behind y g = gives_counts (next g.0) at behind y g.2
+gives_counts (End next) at behind y g = gives_counts next at behind y g.1
+
+-- what is pulled behind a step is counted from where the step began
+bound_then : {A : Type 0} (c : Course A) (x : A) (n m most : ℕ) (old mid : KeptLines) (left between : Option (List ℕ)) (p : StepGives c x n m old mid left between) (more : List ℕ)
+    → mid.taken + length (mid.ahead ++ more) ≤ most → old.taken + length (old.ahead ++ (p.pulled ++ more)) ≤ most
+bound_then c x n m most old mid left between p more le =
+    let counts : old.taken + length (old.ahead ++ (p.pulled ++ more)) ≡ mid.taken + length (mid.ahead ++ more) = gives_counts c (place n old (p.pulled ++ more)) (place m mid more) x (let g = p.gives in g more) in
+    omega (arith, counts, le)
+
+-- one place, with what follows in two parts
+in_parts : (n : ℕ) (old : KeptLines) (x y rest : List ℕ) → place n old ((x ++ y) ++ rest) ≡ place n old (x ++ (y ++ rest))
+in_parts n old x y rest = ap (λ (t : List ℕ). place n old t) (append_assoc x y rest)
+
+pub step_then : {A B : Type 0} (c : Course A) (f : A → Course B) (x : A) (y : B) (n m k : ℕ) (old mid new : KeptLines) (left between after : Option (List ℕ))
+    → StepGives c x n m old mid left between → StepGives (f x) y m k mid new between after → StepGives (c >>= f) y n k old new left after
+step_then c f x y n m k old mid new left between after p q = record {
+  pulled = p.pulled ++ q.pulled;
+  off = Consumes-then left between after p.pulled q.pulled p.off q.off;
+  gives = λ rest. subst (λ (at : Place). Gives (c >>= f) at y (place k new rest)) (sym (in_parts n old p.pulled q.pulled rest))
+      (gives_then c f (place n old (p.pulled ++ (q.pulled ++ rest))) (place m mid (q.pulled ++ rest)) (place k new rest) x y (let g = p.gives in g (q.pulled ++ rest)) (let g = q.gives in g rest));
+}
+
+pub step_fails_then : {A B : Type 0} (c : Course A) (f : A → Course B) (x : A) (n m line code : ℕ) (old mid : KeptLines) (left between after : Option (List ℕ))
+    → StepGives c x n m old mid left between → StepFails (f x) m mid between after line code → StepFails (c >>= f) n old left after line code
+step_fails_then c f x n m line code old mid left between after p q = record {
+  pulled = p.pulled ++ q.pulled;
+  off = Consumes-then left between after p.pulled q.pulled p.off q.off;
+  bound = bound_then c x n m (MAX_DOCUMENT + MAX_AHEAD) old mid left between p q.pulled q.bound;
+  fails = λ rest h. subst (λ (at : Place). FailsFirst (c >>= f) at line code) (sym (in_parts n old p.pulled q.pulled rest))
+      (fails_then c f (place n old (p.pulled ++ (q.pulled ++ rest))) (place m mid (q.pulled ++ rest)) x line code (let g = p.gives in g (q.pulled ++ rest)) (let g = q.fails in g rest h));
+}
+
+pub step_fails_before : {A B : Type 0} (c : Course A) (f : A → Course B) (n line code : ℕ) (old : KeptLines) (left after : Option (List ℕ))
+    → StepFails c n old left after line code → StepFails (c >>= f) n old left after line code
+step_fails_before c f n line code old left after p = record { pulled = p.pulled; off = p.off; bound = p.bound; fails = λ rest h. fails_before c f (place n old (p.pulled ++ rest)) line code (let g = p.fails in g rest h) }
+
+pub step_ends_then : {A B : Type 0} (c : Course A) (f : A → Course B) (x : A) (y : B) (n m k : ℕ) (old mid new : KeptLines) (left between after : Option (List ℕ))
+    → StepGives c x n m old mid left between → StepEnds (f x) y m k mid new between after → StepEnds (c >>= f) y n k old new left after
+step_ends_then c f x y n m k old mid new left between after p q = record {
+  pulled = p.pulled ++ q.pulled;
+  off = Consumes-then left between after p.pulled q.pulled p.off q.off;
+  bound = bound_then c x n m (MAX_DOCUMENT + MAX_AHEAD) old mid left between p q.pulled q.bound;
+  gives = λ rest h. subst (λ (at : Place). Gives (c >>= f) at y (place k new rest)) (sym (in_parts n old p.pulled q.pulled rest))
+      (gives_then c f (place n old (p.pulled ++ (q.pulled ++ rest))) (place m mid (q.pulled ++ rest)) (place k new rest) x y (let g = p.gives in g (q.pulled ++ rest)) (let g = q.gives in g rest h));
+}
+
+-- ---- the whole document
+
+-- the text is what the source had left, where it tells it
+abbrev pub IsWhole : Option (List ℕ) → List ℕ → Type 0
+IsWhole None text = Unit {0}
+IsWhole (Some left) text = left ≡ text
+
+-- Of a whole document: where a new reader fails, some text fails there, which is all that the source had left, where it tells that.
+pub fails_of_a_text : {A : Type 0} (c : Course A) (start : KeptLines) (left after : Option (List ℕ)) (line code : ℕ) → start.ahead ≡ [] → start.taken ≡ 0
+    → StepFails c 1 start left after line code → (text : List ℕ) × IsWhole left text × FailsFirst c (beginning text) line code
+fails_of_a_text c start left after line code none zero p = by left after p.off (let g = p.fails in g)
+  where
+    here : (text : List ℕ) → FailsFirst c (place 1 start text) line code → FailsFirst c (beginning text) line code
+    here text f = subst (λ (at : Place). FailsFirst c at line code) (ap (λ (t : List ℕ). record { line = 1; before = start.taken; left = t ++ text }) none ∙ ap (λ (k : ℕ). record { line = 1; before = k; left = text }) zero) f
+
+    by : (left after : Option (List ℕ)) → Consumes left p.pulled after → ((rest : List ℕ) → IsRest after rest → FailsFirst c (place 1 start (p.pulled ++ rest)) line code) → (text : List ℕ) × IsWhole left text × FailsFirst c (beginning text) line code
+    by None None off fails = (p.pulled ++ [], tt, here (p.pulled ++ []) (fails [] refl))
+    by None (Some r) off fails = absurd cc
+    by (Some text) None off fails = absurd (let e = off.1 in cc)
+    by (Some text) (Some r) off fails = let same : r ≡ off.0 = let e = off.1 in cc in (text, refl, here text (subst (λ (t : List ℕ). FailsFirst c (place 1 start t) line code) (sym off.2) (fails off.0 same)))
+
+-- and where it goes through to the end, some text gives this, which is all that the source had left, where it tells that
+pub gives_of_a_text : {A : Type 0} (c : Course A) (y : A) (m : ℕ) (start new : KeptLines) (left after : Option (List ℕ)) → start.ahead ≡ [] → start.taken ≡ 0
+    → StepEnds c y 1 m start new left after → (text : List ℕ) × IsWhole left text × ((behind : Place) × Gives c (beginning text) y behind)
+gives_of_a_text c y m start new left after none zero p = by left after p.off (let g = p.gives in g)
+  where
+    here : (text : List ℕ) (behind : Place) → Gives c (place 1 start text) y behind → (behind : Place) × Gives c (beginning text) y behind
+    here text behind g = (behind, subst (λ (at : Place). Gives c at y behind) (ap (λ (t : List ℕ). record { line = 1; before = start.taken; left = t ++ text }) none ∙ ap (λ (k : ℕ). record { line = 1; before = k; left = text }) zero) g)
+
+    by : (left after : Option (List ℕ)) → Consumes left p.pulled after → ((rest : List ℕ) → IsRest after rest → Gives c (place 1 start (p.pulled ++ rest)) y (place m new rest)) → (text : List ℕ) × IsWhole left text × ((behind : Place) × Gives c (beginning text) y behind)
+    by None None off gives = (p.pulled ++ [], tt, here (p.pulled ++ []) (place m new []) (gives [] refl))
+    by None (Some r) off gives = absurd cc
+    by (Some text) None off gives = absurd (let e = off.1 in cc)
+    by (Some text) (Some r) off gives = let same : r ≡ off.0 = let e = off.1 in cc in (text, refl, here text (place m new off.0) (subst (λ (t : List ℕ). Gives c (place 1 start t) y (place m new off.0)) (sym off.2) (gives off.0 same)))

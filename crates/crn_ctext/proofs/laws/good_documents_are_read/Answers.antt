@@ -1,0 +1,13 @@
+use Rattle.crn_io.specs.Lines.{beginning}
+use Rattle.crn_ctext.specs.Blocks.{course}
+use Rattle.crn_ctext.specs.Meaning.{meaning, versions}
+use Rattle.crn_cert.specs.Built.{built}
+use Rattle.crn_ctext.proofs.Courses.{gives_one}
+use Rattle.crn_ctext.proofs.DocumentsGood as documents
+use Rattle.crn_ctext.proofs.laws.good_documents_are_read.Goals as goal
+
+pub returns-clause-read : goal.returns-clause-read
+returns-clause-read c = λ bytes. (documents.good_documents_are_read bytes, λ r. documents.read_documents_are_good bytes r.0 r.1)
+
+pub returns-clause-one : goal.returns-clause-one
+returns-clause-one c = λ bytes read other g h. (gives_one (course meaning versions built) documents.settled (beginning bytes) g.0 h.0 read other g.1 h.1).0
