@@ -1,43 +1,134 @@
--- A document is good exactly where it is read to its end: the built questions, version 1.
-use Rattle.std.proofs.Common.{◌≡◌, ◌<◌, ℕ, List, length, sym, subst, inl, inr, ◌∙◌}
-use Rattle.crn_io.specs.declared.lines.TheConstants.{MAX_DOCUMENT}
+-- A document is good if and only if it is read to its end: the built questions, both versions.
+use Rattle.std.proofs.Common.{◌≡◌, ◌⊎◌, ◌<◌, ◌≤◌, ◌++◌, ℕ, List, [], ◌∷◌, length, map, refl, sym, ap, ap₂, subst, inl, inr, ◌∙◌, arith}
+use Rattle.std.specs.Prelude.{ℤ, slice_index, Bool, true, false}
+use Rattle.std.specs.List.{AllByRecursion, AllZip}
+use Rattle.std.proofs.lemmas.List.{append-nil}
+use Rattle.std.specs.Fmt.{digits}
+use Rattle.crn_vec.specs.Lists.{IsIn}
+use Rattle.crn_vec.specs.Network.{Net, IsNetwork}
+use Rattle.crn_io.specs.declared.lines.TheConstants.{MAX_DOCUMENT, MAX_SHARED}
 use Rattle.crn_io.specs.Lines.{beginning}
+use Rattle.crn_ctext.specs.Records.{Record}
 use Rattle.crn_ctext.specs.Course.{Gives, IsSettled}
-use Rattle.crn_ctext.specs.Blocks.{ReadOf, course}
-use Rattle.crn_ctext.specs.Documents.{IsDocumentOf, document}
-use Rattle.crn_ctext.specs.Meaning.{meaning, versions}
+use Rattle.crn_ctext.specs.Blocks.{Problem, unless, ReadOf, title, problems, is_open, course}
+use Rattle.crn_ctext.specs.Documents.{Share, FitsShare, cut_lists, IsNamed, written, in_sections, IsShareable, AreFormed, AreValid, AreTrees, IsGoodLeaf, IsDocumentOf, document, document2}
+use Rattle.crn_ctext.specs.Meaning.{Known, meaning, versions}
 use Rattle.crn_cert.specs.Built.{built}
+use Rattle.crn_cert.specs.Questions.{Question}
 use Rattle.crn_ctext.specs.Judged.{IsReadOf, IsGood}
 use Rattle.crn_ctext.proofs.Settled.{HaveTitles, course_settled}
+use Rattle.crn_ctext.proofs.Image.{AllShort}
 use Rattle.crn_ctext.proofs.MeaningDecided.{meaning_decided}
 use Rattle.crn_ctext.proofs.MeaningShort.{IsSmall, networks_are_small, meaning_short}
-use Rattle.crn_ctext.proofs.ShortAnswers.{valid_are_plain, all_are_short}
-use Rattle.crn_ctext.proofs.ShortLines.{document_lines_are_short}
-use Rattle.crn_ctext.proofs.BlocksWritten.{document_is_read}
-use Rattle.crn_ctext.proofs.DocumentsRead.{read_is_good}
+use Rattle.crn_ctext.proofs.ShortAnswers.{AllPlain, valid_are_plain, valid_are_formed, plain_are_short, short_both}
+use Rattle.crn_ctext.proofs.ShortLines.{text_lines_are_short}
+use Rattle.crn_ctext.proofs.Shared.{IsVersion, IsWrittenFor, shared_written, all_texts}
+use Rattle.crn_ctext.proofs.BlocksRead.{AreVersions, IsFrontOf}
+use Rattle.crn_ctext.proofs.BlocksWritten.{all_of, parted, table_part}
+use Rattle.crn_ctext.proofs.DocumentsWritten.{IsTable, text_of, document_is_read}
+use Rattle.crn_ctext.proofs.DocumentTexts.{parted_first, parted_second, parted_cuts, parted_plain, written_alone, written_plain, table_plain}
+use Rattle.crn_ctext.proofs.DocumentsRead.{IsGoodBy, read_is_good}
+
+are_versions : AreVersions versions
+are_versions version (inl one) = inl one
+are_versions version (inr (inl two)) = inr two
+are_versions version (inr (inr none)) = absurd none
+
+-- the titles of the two versions differ
+titles_apart : title 1 ≡ title 2 → ⊥
+unfolding digits
+titles_apart e =
+    let one : slice_index (title 1) 16 ≡ 49 = refl in
+    let two : slice_index (title 2) 16 ≡ 50 = refl in
+    let h : 49 ≡ 50 = sym one ∙ ap (λ (t : List ℕ). slice_index t 16) e ∙ two in omega (arith, h)
 
 one_title : HaveTitles versions
 one_title v w (inl a) (inl b) e = a ∙ sym b
-one_title v w (inl a) (inr b) e = absurd b
-one_title v w (inr a) b e = absurd a
+one_title v w (inl a) (inr (inl b)) e = absurd (titles_apart (ap title (sym a) ∙ e ∙ ap title b))
+one_title v w (inr (inl a)) (inl b) e = absurd (titles_apart (ap title (sym b) ∙ sym e ∙ ap title a))
+one_title v w (inr (inl a)) (inr (inl b)) e = a ∙ sym b
+one_title v w (inl a) (inr (inr none)) e = absurd none
+one_title v w (inr (inl a)) (inr (inr none)) e = absurd none
+one_title v w (inr (inr none)) b e = absurd none
 
 pub settled : IsSettled (course meaning versions built)
 settled = course_settled meaning versions built meaning_decided one_title
 
+pub read_documents_are_good_by : (bytes : List ℕ) (read : ReadOf) → IsReadOf bytes read → IsGoodBy meaning versions built bytes read
+read_documents_are_good_by bytes read p = read_is_good meaning IsSmall versions built are_versions meaning_short networks_are_small bytes read p.0 p.1
+
 pub read_documents_are_good : (bytes : List ℕ) (read : ReadOf) → IsReadOf bytes read → IsGood bytes
-read_documents_are_good bytes read p = read_is_good meaning IsSmall built meaning_short networks_are_small bytes read p.0 p.1
+read_documents_are_good bytes read p = (read_documents_are_good_by bytes read p).0
+
+-- a text of a version is read, if its leaves fit
+text_is_read : (version : ℕ) (table : List (List ℤ)) (leaf : List ℕ) (net : Net) (answers : List (List Record)) (bytes : List ℕ) → IsIn version versions → version ≤ 2 → IsVersion version table → length table ≤ MAX_SHARED → AllByRecursion IsShareable table
+    → IsNetwork net → AllByRecursion AllPlain answers → AreValid meaning built (meaning.start net) answers → AllZip (IsNamed table) leaf (cut_lists (parted version built answers)) → length bytes < MAX_DOCUMENT
+    → bytes ≡ text_of version net (table_part version table ++ written leaf (parted version built answers)) → (read : ReadOf) × IsReadOf bytes read
+text_is_read version table leaf net answers bytes i low v few lists n plain valid named short is =
+    let rs = parted version built answers in
+    let ws = written leaf rs in
+    let for = shared_written table leaf rs named in
+    let ws_plain : AllPlain ws = written_plain table ws rs few (parted_plain version built answers plain) for in
+    let ts = table_part version table in
+    let ts_plain : AllPlain ts = table_plain version table few lists in
+    let t : IsTable version table = record { version_is = v; most = few; lists = lists; short = plain_are_short ts ts_plain } in
+    let lines = text_lines_are_short version net (ts ++ ws) low n (short_both ts ws ts_plain ws_plain) in
+    let below : length (text_of version net (ts ++ ws)) < MAX_DOCUMENT = subst (λ (b : List ℕ). length b < MAX_DOCUMENT) is short in
+    let r = document_is_read version table meaning versions built net answers ws i t n valid (all_texts table ws rs for (plain_are_short ws ws_plain)) lines below in
+    (r.0, (r.1, subst (λ (b : List ℕ). Gives (course meaning versions built) (beginning b) r.0 r.1) (sym is) r.2))
+
+-- without shared lists each leaf is written with its numbers
+no_leaves : (us : List (List ℤ)) → (leaf : List ℕ) × AllZip (IsNamed []) leaf us
+no_leaves [] = ([], tt)
+no_leaves (u ∷ us) = let more = no_leaves us in (0 ∷ more.0, (tt, more.1))
 
 pub good_documents_are_read : (bytes : List ℕ) → IsGood bytes → (read : ReadOf) × IsReadOf bytes read
 good_documents_are_read bytes g = by g.document
   where
-    written : bytes ≡ document g.net g.answers → (read : ReadOf) × IsReadOf bytes read
-    written is =
-        let plain = valid_are_plain meaning IsSmall built (meaning.start g.net) g.answers meaning_short (networks_are_small g.net g.network) g.valid in
-        let short : length (document g.net g.answers) < MAX_DOCUMENT = subst (λ (t : List ℕ). length t < MAX_DOCUMENT) is g.short in
-        let r = document_is_read meaning built g.net g.answers g.network g.valid (all_are_short g.answers plain) (document_lines_are_short g.net g.answers g.network plain) short in
-        (r.0, (r.1, subst (λ (t : List ℕ). Gives (course meaning versions built) (beginning t) r.0 r.1) (sym is) r.2))
+    plain : AllByRecursion AllPlain g.answers
+    plain = valid_are_plain meaning IsSmall built (meaning.start g.net) g.answers meaning_short (networks_are_small g.net g.network) g.valid
+
+    formed : AreFormed meaning built (meaning.start g.net) g.answers
+    formed = valid_are_formed meaning built (meaning.start g.net) g.answers g.valid
+
+    first : bytes ≡ document g.net g.answers → (read : ReadOf) × IsReadOf bytes read
+    first is =
+        let rs = parted 1 built g.answers in
+        let named = no_leaves (cut_lists rs) in
+        let alone : written named.0 rs ≡ all_of g.answers = written_alone [] (written named.0 rs) rs refl (shared_written [] named.0 rs named.1) ∙ parted_first meaning built (meaning.start g.net) g.answers formed in
+        text_is_read 1 [] named.0 g.net g.answers bytes (inl refl) (omega arith) (inl (refl, refl)) (omega arith) tt g.network plain g.valid named.1 g.short (is ∙ ap (λ (ws : List Record). text_of 1 g.net ws) (sym alone))
+
+    second : (share : Share) → FitsShare g.answers share → bytes ≡ document2 built g.net g.answers share → (read : ReadOf) × IsReadOf bytes read
+    second share fits is =
+        let table = share.table in
+        let named : AllZip (IsNamed table) share.leaf (cut_lists (parted 2 built g.answers)) = subst (λ (us : List (List ℤ)). AllZip (IsNamed table) share.leaf us) (sym (parted_cuts 2 meaning built (meaning.start g.net) g.answers formed)) fits.leaves in
+        text_is_read 2 table share.leaf g.net g.answers bytes (inr (inl refl)) (omega arith) (inr refl) fits.most fits.lists g.network plain g.valid named g.short
+        (is ∙ ap (λ (rs : List Record). text_of 2 g.net (table_part 2 table ++ written share.leaf rs)) (sym (parted_second built g.answers)))
 
     by : IsDocumentOf versions built g.net g.answers bytes → (read : ReadOf) × IsReadOf bytes read
-    by (inl one) = written one.1
-    by (inr (inl e, more)) = absurd cc
-    by (inr (inr none, more)) = absurd none
+    by (inl one) = first one.1
+    by (inr two) = second two.1.0 two.1.1 two.1.2
+
+-- ---- what is read
+
+-- no built question has a tree
+no_trees : (q : Question) (known : Known) (h : Record) → problems meaning q known h ≡ []
+no_trees q known h = none (is_open h)
+  where
+    none : (t : Bool) → unless {A = Problem} t [] ≡ []
+    none true = refl
+    none false = refl
+
+-- the blocks that are read are the answers
+fronts_are : (blocks answers : List (List Record)) → AllZip (IsFrontOf meaning) blocks answers → blocks ≡ answers
+fronts_are [] [] z = refl
+fronts_are [] (rs ∷ more) z = absurd z
+fronts_are (b ∷ blocks) [] z = absurd z
+fronts_are (b ∷ blocks) (rs ∷ more) z =
+    let none : z.0.3 ≡ [] = subst (λ (ps : List {1} Problem). AreTrees IsGoodLeaf ps z.0.3) (no_trees z.0.0 z.0.1 z.0.2) z.0.5 in
+    let same : b ≡ rs = sym (append-nil b) ∙ ap (λ (t : List Record). b ++ t) (sym none) ∙ sym z.0.4 in
+    ap₂ (λ (x : List Record) (xs : List (List Record)). x ∷ xs) same (fronts_are blocks more z.1)
+
+-- the network and the answers of a document that is read are those that are read
+pub read_is_of : (bytes : List ℕ) (read : ReadOf) → IsReadOf bytes read → (g : IsGood bytes) × (g.net ≡ read.net) × (g.answers ≡ read.blocks)
+read_is_of bytes read p = let g = read_documents_are_good_by bytes read p in (g.0, g.1, sym (fronts_are read.blocks g.0.answers g.2))

@@ -11,10 +11,12 @@ mod Digits
 mod Texts
 mod StepsThen
 mod Image
+mod Shared
 mod TreesWritten
 mod RowsWritten
 mod FormKinds
 mod BlocksWritten
+mod DocumentsWritten
 mod TestsDecided
 mod MeaningDecided
 mod TreesRead
@@ -22,6 +24,7 @@ mod BlocksRead
 mod Bounded
 mod ShortAnswers
 mod NetworkLines
+mod DocumentTexts
 mod DocumentsRead
 mod MeaningShort
 mod ShortLines

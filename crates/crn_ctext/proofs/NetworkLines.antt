@@ -13,7 +13,7 @@ use Rattle.crn_text.proofs.CallerLemmas.{held}
 use Rattle.crn_text.proofs.CallerLemmas.{side_held, good_terms}
 use Rattle.crn_io.specs.Lines.{IsLine}
 use Rattle.crn_ctext.specs.Blocks.{ended}
-use Rattle.crn_ctext.proofs.BlocksWritten.{network_lines, canonical_ended}
+use Rattle.crn_ctext.proofs.DocumentsWritten.{network_lines, canonical_ended}
 
 -- how many bytes of a text end a line
 abbrev pub ends_in : List ℕ → ℕ

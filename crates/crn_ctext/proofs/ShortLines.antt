@@ -17,7 +17,7 @@ use Rattle.crn_io.specs.Lines.{IsLine}
 use Rattle.crn_ctext.specs.Records.{Record, record_text}
 use Rattle.crn_ctext.proofs.Digits.{is_digit, spells}
 use Rattle.crn_ctext.proofs.Written.{IsShortLine}
-use Rattle.crn_ctext.proofs.BlocksWritten.{all_of, network_lines, document_lines}
+use Rattle.crn_ctext.proofs.DocumentsWritten.{network_lines, text_lines}
 use Rattle.crn_ctext.proofs.Bounded.{IsSlim, AreSlim, IsPlain, is_plain, word_fits}
 use Rattle.crn_ctext.proofs.NetworkLines.{ends_in, net_line, line_is, net_line_has_none}
 use Rattle.crn_ctext.proofs.ShortAnswers.{AllPlain}
@@ -167,22 +167,14 @@ records_are_short : (rs : List Record) → AllPlain rs → AllByRecursion IsShor
 records_are_short [] p = tt
 records_are_short (r ∷ rs) p = (record_line_is_short r p.0, records_are_short rs p.1)
 
-plain_both : (xs ys : List Record) → AllPlain xs → AllPlain ys → AllPlain (xs ++ ys)
-plain_both [] ys p q = q
-plain_both (x ∷ xs) ys p q = (p.0, plain_both xs ys p.1 q)
-
-pub all_plain : (answers : List (List Record)) → AllByRecursion AllPlain answers → AllPlain (all_of answers)
-all_plain [] p = tt
-all_plain (rs ∷ more) p = plain_both rs (all_of more) p.0 (all_plain more p.1)
-
-pub document_lines_are_short : (net : Net) (answers : List (List Record)) → IsNetwork net → AllByRecursion AllPlain answers → AllByRecursion IsShortLine (document_lines net answers)
-document_lines_are_short net answers n p =
+pub text_lines_are_short : (version : ℕ) (net : Net) (records : List Record) → version ≤ 2 → IsNetwork net → AllPlain records → AllByRecursion IsShortLine (text_lines version net records)
+text_lines_are_short version net records low n p =
     let h = n.partial in
     let few = h.reactions_limit in (
-      said_line (codes "crn certificate ") 1 refl (omega arith) (omega arith),
+      said_line (codes "crn certificate ") version refl (omega arith) (omega (arith, low)),
       (
         said_line (codes "network ") (length net.reactions) refl (omega arith) (omega (arith, few)),
-        both_short (network_lines net) (map record_text (all_of answers) ++ codes "end" ∷ []) (net_lines_are_short net net.reactions h h.apart)
-            (both_short (map record_text (all_of answers)) (codes "end" ∷ []) (records_are_short (all_of answers) (all_plain answers p)) ((plain_is_line (codes "end") refl, omega arith), tt)),
+        both_short (network_lines net) (map record_text records ++ codes "end" ∷ []) (net_lines_are_short net net.reactions h h.apart)
+            (both_short (map record_text records) (codes "end" ∷ []) (records_are_short records p) ((plain_is_line (codes "end") refl, omega arith), tt)),
       ),
     )

@@ -223,4 +223,4 @@ verdicts_said qs known answers = []
 
 -- the versions of documents that are read
 abbrev pub versions : List ℕ
-versions = 1 ∷ []
+versions = 1 ∷ 2 ∷ []
