@@ -1,7 +1,9 @@
 -- Networks and formed answers are told apart by their documents, and the versions by the first line.
-use Rattle.std.proofs.Common.{◌≡◌, ◌+◌, ◌==◌, ◌++◌, ◌∙◌, ℕ, if◌then◌else◌, List, [], ◌∷◌, length, map, refl, sym, ap, ap₂, subst, append_assoc, arith}
-use Rattle.std.specs.Prelude.{codes, decimal, slice_index}
-use Rattle.std.specs.List.{AllByRecursion}
+use Rattle.std.proofs.Common.{◌≡◌, ◌+◌, ◌≤◌, ◌==◌, ◌++◌, ◌∙◌, ℕ, if◌then◌else◌, List, [], ◌∷◌, length, map, refl, sym, ap, ap₂, subst, inl, inr, append_assoc, arith}
+use Rattle.std.specs.Prelude.{ℤ, pos, Bool, true, false, codes, decimal, slice_index}
+use Rattle.std.specs.List.{AllByRecursion, AllZip}
+use Rattle.std.specs.Str.{bytes_eq}
+use Rattle.crn_ctext.specs.Questions.{first_number}
 use Rattle.std.specs.Fmt.{digits}
 use Rattle.std.proofs.lemmas.List.{append_cancel_left, length-map}
 use Rattle.std.proofs.lemmas.Fmt.{decimal_injective}
@@ -11,20 +13,26 @@ use Rattle.crn_text.proofs.CallerLemmas.{spells_its_network}
 use Rattle.crn_text.proofs.CallerLemmas.{spelling_unique}
 use Rattle.crn_text.specs.Spells.{Spells}
 use Rattle.crn_ctext.specs.Records.{Record, record_text}
-use Rattle.crn_ctext.specs.Blocks.{network_line, ended}
-use Rattle.crn_ctext.specs.Documents.{AreFormed, Share, document, document2}
+use Rattle.crn_ctext.specs.Blocks.{word_of, title, network_line, ended}
+use Rattle.crn_ctext.specs.Documents.{one_word, AreFormed, Share, FitsShare, IsNamed, cut_lists, written, table_records, document, document2}
 use Rattle.crn_ctext.specs.Meaning.{meaning}
 use Rattle.crn_cert.specs.Built.{built}
 use Rattle.crn_ctext.specs.Judged.{AreFormedOf}
 use Rattle.crn_ctext.proofs.Texts.{text_is_one}
 use Rattle.crn_ctext.proofs.Image.{AllShort}
-use Rattle.crn_ctext.proofs.BlocksWritten.{all_of, network_lines, document_lines, document_ended, canonical_ended}
+use Rattle.crn_ctext.proofs.BlocksWritten.{all_of, parted, lists_back}
+use Rattle.crn_ctext.proofs.DocumentsWritten.{network_lines, text_lines, text_of, text_ended, canonical_ended}
+use Rattle.crn_ctext.proofs.Shared.{IsWrittenFor, shared_written}
+use Rattle.crn_ctext.proofs.DocumentTexts.{parted_second, parted_cuts, parted_plain, written_plain, table_plain}
+use Rattle.crn_ctext.proofs.SharesApart.{formed_kinds, written_is_one, parted_apart}
+use Rattle.crn_ctext.proofs.FormWords.{words_yes}
+use Rattle.crn_ctext.proofs.Sayings.{AreWords}
 use Rattle.crn_ctext.proofs.NetworkLines.{ends_in, net_line}
-use Rattle.crn_ctext.proofs.DocumentsRead.{all_short, no_ends}
-use Rattle.crn_ctext.proofs.ShortAnswers.{formed_are_plain, all_are_short}
-use Rattle.crn_ctext.proofs.ShortLines.{document_lines_are_short}
+use Rattle.crn_ctext.proofs.DocumentsRead.{no_ends}
+use Rattle.crn_ctext.proofs.ShortAnswers.{AllPlain, formed_are_plain, plain_are_short, short_both}
+use Rattle.crn_ctext.proofs.ShortLines.{text_lines_are_short}
 use Rattle.crn_ctext.proofs.MeaningShort.{IsSmall, networks_are_small, meaning_short}
-use Rattle.crn_ctext.proofs.AnswersApart.{AllWorded, formed_are_worded, answers_apart, same_long}
+use Rattle.crn_ctext.proofs.AnswersApart.{AllWorded, worded_both, formed_are_worded, parted_worded, answers_apart, same_long}
 
 -- ---- lines
 
@@ -87,25 +95,118 @@ last_gone (x ∷ xs) (y ∷ ys) z e =
     let rest : xs ++ z ∷ [] ≡ ys ++ z ∷ [] = cc in
     ap₂ (λ (u : List ℕ) (us : List (List ℕ)). u ∷ us) first (last_gone xs ys z rest)
 
-pub document_one : (net other : Net) (answers others : List (List Record)) → IsNetwork net → IsNetwork other → AreFormedOf net answers → AreFormedOf other others → document net answers ≡ document other others → (net ≡ other) × (answers ≡ others)
-document_one net other answers others n k f g e =
-    let p = formed_are_plain meaning IsSmall built (meaning.start net) answers meaning_short (networks_are_small net n) f in
-    let q = formed_are_plain meaning IsSmall built (meaning.start other) others meaning_short (networks_are_small other k) g in
-    let lines : document_lines net answers ≡ document_lines other others = ended_one (document_lines net answers) (document_lines other others) (no_ends (document_lines net answers) (document_lines_are_short net answers n p)) (no_ends (document_lines other others) (document_lines_are_short other others k q))
-    (sym (document_ended net answers) ∙ e ∙ document_ended other others) in
-    let second : network_line (length net.reactions) ≡ network_line (length other.reactions) = cc in
-    let rest : network_lines net ++ (map record_text (all_of answers) ++ codes "end" ∷ []) ≡ network_lines other ++ (map record_text (all_of others) ++ codes "end" ∷ []) = cc in
+-- plain records with words, whose texts tell them apart
+abbrev Texts : List Record → Type 0
+Texts rs = AllPlain rs × AllWorded rs
+
+-- a text of a version is of one network and of one list of records
+texts_one : (version : ℕ) (net other : Net) (records others : List Record) → version ≤ 2 → IsNetwork net → IsNetwork other → Texts records → Texts others → text_of version net records ≡ text_of version other others → (net ≡ other) × (records ≡ others)
+texts_one version net other records others low n k p q e =
+    let lines : text_lines version net records ≡ text_lines version other others = ended_one (text_lines version net records) (text_lines version other others) (no_ends (text_lines version net records) (text_lines_are_short version net records low n p.0)) (no_ends (text_lines version other others) (text_lines_are_short version other others low k q.0))
+    (sym (text_ended version net records) ∙ e ∙ text_ended version other others) in
+    let tail = first_same (title version) (title version) (network_line (length net.reactions) ∷ (network_lines net ++ (map record_text records ++ codes "end" ∷ []))) (network_line (length other.reactions) ∷ (network_lines other ++ (map record_text others ++ codes "end" ∷ []))) lines in
+    let after = first_same (network_line (length net.reactions)) (network_line (length other.reactions)) (network_lines net ++ (map record_text records ++ codes "end" ∷ [])) (network_lines other ++ (map record_text others ++ codes "end" ∷ [])) tail.1 in
     let few = n.partial.reactions_limit in
     let fewer = k.partial.reactions_limit in
-    let count : length net.reactions ≡ length other.reactions = decimal_injective (length net.reactions) (length other.reactions) (omega (arith, few)) (omega (arith, fewer)) (append_cancel_left (codes "network ") (decimal (length net.reactions)) (decimal (length other.reactions)) second) in
-    let parts = same_long (network_lines net) (network_lines other) (map record_text (all_of answers) ++ codes "end" ∷ []) (map record_text (all_of others) ++ codes "end" ∷ []) (length-map net.reactions (net_line net) ∙ count ∙ sym (length-map other.reactions (net_line other))) rest in
+    let count : length net.reactions ≡ length other.reactions = decimal_injective (length net.reactions) (length other.reactions) (omega (arith, few)) (omega (arith, fewer)) (append_cancel_left (codes "network ") (decimal (length net.reactions)) (decimal (length other.reactions)) after.0) in
+    let parts = same_long (network_lines net) (network_lines other) (map record_text records ++ codes "end" ∷ []) (map record_text others ++ codes "end" ∷ []) (length-map net.reactions (net_line net) ∙ count ∙ sym (length-map other.reactions (net_line other))) after.1 in
     let text : canonical net ≡ canonical other = canonical_ended net ∙ ap ended parts.0 ∙ sym (canonical_ended other) in
     let same : net ≡ other = spelling_unique (canonical other) net other (subst (λ (t : List ℕ). Spells t net) text (spells_its_network net n)) (spells_its_network other k) in
-    let records : map record_text (all_of answers) ≡ map record_text (all_of others) = last_gone (map record_text (all_of answers)) (map record_text (all_of others)) (codes "end") parts.1 in
-    let known : AreFormed meaning built (meaning.start other) answers = subst (λ (t : Net). AreFormed meaning built (meaning.start t) answers) same f in
-    let all : all_of answers ≡ all_of others = records_one (all_of answers) (all_of others) (formed_are_worded meaning built (meaning.start net) answers f) (formed_are_worded meaning built (meaning.start other) others g)
-    (all_short answers (all_are_short answers p)) (all_short others (all_are_short others q)) records in
-    (same, answers_apart meaning built (meaning.start other) answers others known g all)
+    let said : map record_text records ≡ map record_text others = last_gone (map record_text records) (map record_text others) (codes "end") parts.1 in
+    (same, records_one records others p.1 q.1 (plain_are_short records p.0) (plain_are_short others q.0) said)
+  where
+    first_same : (x y : List ℕ) (xs ys : List (List ℕ)) → x ∷ xs ≡ y ∷ ys → (x ≡ y) × (xs ≡ ys)
+    first_same x y xs ys e = (cc, cc)
+
+-- the records of formed answers are plain
+formed_plain : (net : Net) (answers : List (List Record)) → IsNetwork net → AreFormedOf net answers → AllByRecursion AllPlain answers
+formed_plain net answers n f = formed_are_plain meaning IsSmall built (meaning.start net) answers meaning_short (networks_are_small net n) f
+
+pub document_one : (net other : Net) (answers others : List (List Record)) → IsNetwork net → IsNetwork other → AreFormedOf net answers → AreFormedOf other others → document net answers ≡ document other others → (net ≡ other) × (answers ≡ others)
+document_one net other answers others n k f g e =
+    let a : Texts (all_of answers) = (all_plain answers (formed_plain net answers n f), formed_are_worded meaning built (meaning.start net) answers f) in
+    let b : Texts (all_of others) = (all_plain others (formed_plain other others k g), formed_are_worded meaning built (meaning.start other) others g) in
+    let one = texts_one 1 net other (all_of answers) (all_of others) (omega arith) n k a b e in
+    let known : AreFormed meaning built (meaning.start other) answers = subst (λ (t : Net). AreFormed meaning built (meaning.start t) answers) one.0 f in
+    (one.0, answers_apart meaning built (meaning.start other) answers others known g one.1)
+  where
+    plain_both : (xs ys : List Record) → AllPlain xs → AllPlain ys → AllPlain (xs ++ ys)
+    plain_both [] ys p q = q
+    plain_both (x ∷ xs) ys p q = (p.0, plain_both xs ys p.1 q)
+
+    all_plain : (answers : List (List Record)) → AllByRecursion AllPlain answers → AllPlain (all_of answers)
+    all_plain [] p = tt
+    all_plain (rs ∷ more) p = plain_both rs (all_of more) p.0 (all_plain more p.1)
+
+-- ---- version 2
+
+table_worded : (table : List (List ℤ)) → AllWorded (table_records table)
+table_worded table = (words_yes (codes "vectors" ∷ []) refl, each table)
+  where
+    each : (us : List (List ℤ)) → AllWorded (map (one_word (codes "vector")) us)
+    each [] = tt
+    each (u ∷ us) = (words_yes (codes "vector" ∷ []) refl, each us)
+
+-- what is written in the place of records with words has words
+written_worded : (table : List (List ℤ)) (ws rs : List Record) → AllWorded rs → AllZip (IsWrittenFor table) ws rs → AllWorded ws
+written_worded table [] [] p z = tt
+written_worded table [] (r ∷ rs) p z = absurd z
+written_worded table (w ∷ ws) [] p z = absurd z
+written_worded table (w ∷ ws) (r ∷ rs) p z = (one z.0, written_worded table ws rs p.1 z.1)
+  where
+    name : (t : Bool) → AreWords ((if t then codes "refa" else codes "refb") ∷ [])
+    name true = words_yes (codes "refa" ∷ []) refl
+    name false = words_yes (codes "refb" ∷ []) refl
+
+    one : IsWrittenFor table w r → AreWords w.words
+    one (inl same) = subst (λ (x : Record). AreWords x.words) (sym same) p.0
+    one (inr named) = subst (λ (x : Record). AreWords x.words) (sym named.3) (name (bytes_eq (word_of r) (codes "cuta")))
+
+-- the records of a document of version 2
+second_records : List (List Record) → Share → List Record
+second_records answers share = table_records share.table ++ written share.leaf (parted 2 built answers)
+
+named_in_sections : (net : Net) (answers : List (List Record)) (share : Share) → AreFormedOf net answers → FitsShare answers share → AllZip (IsNamed share.table) share.leaf (cut_lists (parted 2 built answers))
+named_in_sections net answers share f fits = subst (λ (us : List (List ℤ)). AllZip (IsNamed share.table) share.leaf us) (sym (parted_cuts 2 meaning built (meaning.start net) answers f)) fits.leaves
+
+second_texts : (net : Net) (answers : List (List Record)) (share : Share) → IsNetwork net → AreFormedOf net answers → FitsShare answers share → Texts (second_records answers share)
+unfolding second_records
+second_texts net answers share n f fits =
+    let rs = parted 2 built answers in
+    let for = shared_written share.table share.leaf rs (named_in_sections net answers share f fits) in
+    let ws = written share.leaf rs in
+    let plain : AllPlain ws = written_plain share.table ws rs fits.most (parted_plain 2 built answers (formed_plain net answers n f)) for in
+    let worded : AllWorded ws = written_worded share.table ws rs (parted_worded 2 meaning built (meaning.start net) answers f) for in
+    (short_both (table_records share.table) ws (table_plain 2 share.table fits.most fits.lists) plain, worded_both (table_records share.table) ws (table_worded share.table) worded)
+
+-- equal shared lists and what follows them
+tables_one : (table other : List (List ℤ)) (ws vs : List Record) → table_records table ++ ws ≡ table_records other ++ vs → (table ≡ other) × (ws ≡ vs)
+tables_one table other ws vs e =
+    let head = first_same (one_word (codes "vectors") (pos (length table) ∷ [])) (one_word (codes "vectors") (pos (length other) ∷ [])) (map (one_word (codes "vector")) table ++ ws) (map (one_word (codes "vector")) other ++ vs) e in
+    let long : length table ≡ length other = count (length table) (length other) head.0 in
+    let parts = same_long (map (one_word (codes "vector")) table) (map (one_word (codes "vector")) other) ws vs (length-map table (one_word (codes "vector")) ∙ long ∙ sym (length-map other (one_word (codes "vector")))) head.1 in
+    (sym (lists_back table) ∙ ap (λ (rs : List Record). map (λ (r : Record). r.numbers) rs) parts.0 ∙ lists_back other, parts.1)
+  where
+    first_same : (x y : Record) (xs ys : List Record) → x ∷ xs ≡ y ∷ ys → (x ≡ y) × (xs ≡ ys)
+    first_same x y xs ys e = (cc, cc)
+
+    count : (k j : ℕ) → one_word (codes "vectors") (pos k ∷ []) ≡ one_word (codes "vectors") (pos j ∷ []) → k ≡ j
+    count k j e = ap (λ (r : Record). first_number r.numbers) e
+
+second_text : (net : Net) (answers : List (List Record)) (share : Share) → document2 built net answers share ≡ text_of 2 net (second_records answers share)
+unfolding second_records
+second_text net answers share = ap (λ (rs : List Record). text_of 2 net (table_records share.table ++ written share.leaf rs)) (sym (parted_second built answers))
+
+pub second_document_one : (net other : Net) (answers others : List (List Record)) (share another : Share) → IsNetwork net → IsNetwork other → AreFormedOf net answers → AreFormedOf other others → FitsShare answers share → FitsShare others another
+    → document2 built net answers share ≡ document2 built other others another → (net ≡ other) × (answers ≡ others) × (share ≡ another)
+unfolding second_records
+second_document_one net other answers others share another n k f g fits gits e =
+    let one = texts_one 2 net other (second_records answers share) (second_records others another) (omega arith) n k (second_texts net answers share n f fits) (second_texts other others another k g gits) (sym (second_text net answers share) ∙ e ∙ second_text other others another) in
+    let tables = tables_one share.table another.table (written share.leaf (parted 2 built answers)) (written another.leaf (parted 2 built others)) one.1 in
+    let named : AllZip (IsNamed another.table) share.leaf (cut_lists (parted 2 built answers)) = subst (λ (t : List (List ℤ)). AllZip (IsNamed t) share.leaf (cut_lists (parted 2 built answers))) tables.0 (named_in_sections net answers share f fits) in
+    let known : AreFormed meaning built (meaning.start other) answers = subst (λ (t : Net). AreFormed meaning built (meaning.start t) answers) one.0 f in
+    let back = written_is_one another.table share.leaf another.leaf (parted 2 built answers) (parted 2 built others) (formed_kinds 2 meaning built (meaning.start other) answers known) (formed_kinds 2 meaning built (meaning.start other) others g) named (named_in_sections other others another g gits) tables.1 in
+    (one.0, parted_apart 2 meaning built (meaning.start other) answers others known g back.0, ap₂ (λ (t : List (List ℤ)) (l : List ℕ). record { table = t; leaf = l }) tables.0 back.1)
 
 -- byte 17 of a document is the digit of its version
 pub versions_apart : (net other : Net) (answers others : List (List Record)) (share : Share) → document net answers ≡ document2 built other others share → ⊥

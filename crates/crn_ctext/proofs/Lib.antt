@@ -30,6 +30,7 @@ mod MeaningShort
 mod ShortLines
 mod DocumentsGood
 mod AnswersApart
+mod SharesApart
 mod DocumentsOne
 mod AnswersLinked
 mod RecordsLinked
