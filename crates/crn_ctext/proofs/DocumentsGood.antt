@@ -6,6 +6,7 @@ use Rattle.std.proofs.lemmas.List.{append-nil}
 use Rattle.std.specs.Fmt.{digits}
 use Rattle.crn_vec.specs.Lists.{IsIn}
 use Rattle.crn_vec.specs.Network.{Net, IsNetwork}
+use Rattle.crn_vec.specs.declared.signs.Sign.{Sign}
 use Rattle.crn_io.specs.declared.lines.TheConstants.{MAX_DOCUMENT, MAX_SHARED}
 use Rattle.crn_io.specs.Lines.{beginning}
 use Rattle.crn_ctext.specs.Records.{Record}
@@ -119,13 +120,17 @@ no_trees q known h = none (is_open h)
     none true = refl
     none false = refl
 
+-- so no answer has a node
+pub no_nodes : (Leaf : Problem → List Sign → Record → Type 0) (q : Question) (known : Known) (h : Record) (nodes : List Record) → AreTrees Leaf (problems meaning q known h) nodes → nodes ≡ []
+no_nodes Leaf q known h nodes t = subst (λ (ps : List {1} Problem). AreTrees Leaf ps nodes) (no_trees q known h) t
+
 -- the blocks that are read are the answers
 fronts_are : (blocks answers : List (List Record)) → AllZip (IsFrontOf meaning) blocks answers → blocks ≡ answers
 fronts_are [] [] z = refl
 fronts_are [] (rs ∷ more) z = absurd z
 fronts_are (b ∷ blocks) [] z = absurd z
 fronts_are (b ∷ blocks) (rs ∷ more) z =
-    let none : z.0.3 ≡ [] = subst (λ (ps : List {1} Problem). AreTrees IsGoodLeaf ps z.0.3) (no_trees z.0.0 z.0.1 z.0.2) z.0.5 in
+    let none : z.0.3 ≡ [] = no_nodes IsGoodLeaf z.0.0 z.0.1 z.0.2 z.0.3 z.0.5 in
     let same : b ≡ rs = sym (append-nil b) ∙ ap (λ (t : List Record). b ++ t) (sym none) ∙ sym z.0.4 in
     ap₂ (λ (x : List Record) (xs : List (List Record)). x ∷ xs) same (fronts_are blocks more z.1)
 

@@ -30,10 +30,12 @@ mod MeaningShort
 mod ShortLines
 mod DocumentsGood
 mod AnswersApart
+mod DocumentsShort
 mod SharesApart
 mod DocumentsOne
 mod AnswersLinked
 mod RecordsLinked
 mod TrueRecords
+mod GoodLaws
 mod DueSteps
 mod WordsApart

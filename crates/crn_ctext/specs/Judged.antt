@@ -6,7 +6,7 @@ use Rattle.crn_vec.specs.Network.{Net, IsNetwork}
 use Rattle.crn_io.specs.Lines.{Place, beginning}
 use Rattle.crn_ctext.specs.Course.{Gives}
 use Rattle.crn_ctext.specs.Blocks.{ReadOf, course}
-use Rattle.crn_ctext.specs.Documents.{AreFormed, Good, DocFault, Share, document, document2}
+use Rattle.crn_ctext.specs.Documents.{AreFormed, Good, DocFault, Share, FitsShare, document, document2}
 use Rattle.crn_ctext.specs.Records.{Record}
 use Rattle.crn_ctext.specs.Meaning.{meaning, versions}
 use Rattle.crn_cert.specs.Built.{built}
@@ -43,3 +43,27 @@ abbrev pub VersionsAreApart : Type 0
 VersionsAreApart =
     (net other : Net) (answers others : List (List Record)) (share : Share)
     → document net answers ≡ document2 built other others share → ⊥
+
+-- equal documents with shared lists are of equal networks, equal formed answers and equal shares
+abbrev pub SharedDocumentsAreOne : Type 0
+SharedDocumentsAreOne =
+    (net other : Net) (answers others : List (List Record)) (share another : Share)
+    → IsNetwork net → IsNetwork other → AreFormedOf net answers → AreFormedOf other others
+    → FitsShare answers share → FitsShare others another
+    → document2 built net answers share ≡ document2 built other others another
+    → (net ≡ other) × (answers ≡ others) × (share ≡ another)
+
+-- the bytes are a good document of this network and these answers
+abbrev pub IsGoodOf : Net → List (List Record) → List ℕ → Type 0
+IsGoodOf net answers bytes =
+    (good : IsGood bytes) × (good.net ≡ net) × (good.answers ≡ answers)
+
+-- a good document is of one network and of one list of answers
+abbrev pub GoodDocumentsAreOne : Type 0
+GoodDocumentsAreOne = (bytes : List ℕ) (good other : IsGood bytes)
+    → (good.net ≡ other.net) × (good.answers ≡ other.answers)
+
+-- what is read of a document are the network and the answers of the good document that it is
+abbrev pub ReadDocumentsAreGood : Type 0
+ReadDocumentsAreGood = (bytes : List ℕ) (read : ReadOf) → IsReadOf bytes read
+    → IsGoodOf read.net read.blocks bytes

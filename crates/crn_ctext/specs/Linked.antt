@@ -1,6 +1,6 @@
 -- Answers and their records: what is asked of the one is asked of the other.
 -- Source: this project's own.
-use Rattle.std.specs.Prelude.{◌≡◌, ◌↔◌, List, [], ◌∷◌, map}
+use Rattle.std.specs.Prelude.{◌≡◌, ◌↔◌, ℕ, List, [], ◌∷◌, map}
 use Rattle.crn_vec.specs.Network.{Net, IsNetwork}
 use Rattle.crn_cert.specs.declared.answer.Verdict.{Verdict}
 use Rattle.crn_cert.specs.declared.answer.Answer.{Answer}
@@ -13,7 +13,9 @@ use Rattle.crn_ctext.specs.Documents as documents
 use Rattle.crn_ctext.specs.Answers.{all_records}
 use Rattle.crn_ctext.specs.Meaning.{meaning, verdicts_said}
 use Rattle.crn_cert.specs.Built.{built}
-use Rattle.crn_ctext.specs.Judged.{AreFormedOf}
+use Rattle.crn_ctext.specs.Blocks.{ReadOf}
+use Rattle.crn_ctext.specs.Documents.{Share, FitsShare, share_of, document, document2}
+use Rattle.crn_ctext.specs.Judged.{AreFormedOf, IsReadOf, IsGoodOf}
 
 -- the records of answers to the built questions
 abbrev pub records_of : Net → List Answer → List (List Record)
@@ -54,3 +56,28 @@ ValidRecordsAreTrue =
     (net : Net) (answers : List (List Record)) → IsNetwork net
     → documents.AreValid meaning built (meaning.start net) answers
     → AreSound net built (verdicts_said built (meaning.start net) answers)
+
+-- what is read of a document is a network, and verdicts that are true of it or open
+abbrev pub ReadDocumentsAreTrue : Type 0
+ReadDocumentsAreTrue = (bytes : List ℕ) (read : ReadOf) → IsReadOf bytes read → IsNetwork read.net
+    × AreSound read.net built (verdicts_said built (meaning.start read.net) read.blocks)
+
+-- the document of a network and of valid answers is a good one
+abbrev pub WrittenDocumentsAreGood : Type 0
+WrittenDocumentsAreGood =
+    (net : Net) (answers : List Answer) → IsNetwork net → AreFormed net [] built answers
+    → AreValid net [] built answers
+    → IsGoodOf net (records_of net answers) (document net (records_of net answers))
+
+-- so it is with each share that fits the answers
+abbrev pub SharedDocumentsAreGood : Type 0
+SharedDocumentsAreGood =
+    (net : Net) (answers : List Answer) (share : Share) → IsNetwork net
+    → AreFormed net [] built answers → AreValid net [] built answers
+    → FitsShare (records_of net answers) share
+    → IsGoodOf net (records_of net answers) (document2 built net (records_of net answers) share)
+
+-- the share that `certify` writes fits formed answers
+abbrev pub SharesFit : Type 0
+SharesFit = (net : Net) (answers : List Answer) → AreFormed net [] built answers
+    → FitsShare (records_of net answers) (share_of (records_of net answers))

@@ -11,3 +11,6 @@ returns-clause-read c = λ bytes. (documents.good_documents_are_read bytes, λ r
 
 pub returns-clause-one : goal.returns-clause-one
 returns-clause-one c = λ bytes read other g h. (gives_one (course meaning versions built) documents.settled (beginning bytes) g.0 h.0 read other g.1 h.1).0
+
+pub returns-clause-same : goal.returns-clause-same
+returns-clause-same c = documents.read_is_of

@@ -1,0 +1,195 @@
+-- Documents of formed answers to the built questions have few lines, and so they are shorter than the bound.
+use Rattle.std.proofs.Common.{◌≡◌, ◌+◌, ◌*◌, ◌<◌, ◌≤◌, ◌==◌, ◌++◌, ◌∙◌, ℕ, zero, suc, Bool, true, false, cond, if◌then◌else◌, List, [], ◌∷◌, length, map, take, refl, sym, ap, ap₂, subst, inl, inr, arith}
+use Rattle.std.specs.Prelude.{ℤ, codes}
+use Rattle.std.specs.List.{AllByRecursion, AllZip, filter}
+use Rattle.std.specs.Ordering.{int_eq}
+use Rattle.std.specs.Cmp.Lexicographic.{pointwise}
+use Rattle.std.proofs.lemmas.List.{length-append, length-map, append-nil}
+use Rattle.crn_vec.specs.Lists.{firsts}
+use Rattle.crn_vec.specs.Network.{Net, IsNetwork}
+use Rattle.crn_io.specs.declared.lines.TheConstants.{MAX_DOCUMENT, MAX_SHARED}
+use Rattle.crn_cert.specs.Questions.{Question, Q1, Q2, Q3, Q4, Q5, Q6, Q7, Q8, Q9, Q10, Q11, Q12, Q13, Q14, Q15}
+use Rattle.crn_cert.specs.Built.{built}
+use Rattle.crn_ctext.specs.Records.{Record, Form, Fits, record_text}
+use Rattle.crn_ctext.specs.Questions.{Shapes, heads, rows, opens}
+use Rattle.crn_ctext.specs.Blocks.{Meaning, sections, below, place_of, problems, ended}
+use Rattle.crn_ctext.specs.Documents.{section, is_cut_leaf, cut_lists, number_in, written, table_records, IsShareable, Share, FitsShare, share_of, one_word, IsNamed, leaf_forms, IsOneOf, document, document2, Parts, IsFormed, AreFormed}
+use Rattle.crn_ctext.specs.Meaning.{Known, meaning}
+use Rattle.crn_ctext.specs.Judged.{AreFormedOf}
+use Rattle.crn_ctext.proofs.Written.{IsShortLine, first_ended}
+use Rattle.crn_ctext.proofs.LinesRead.{each_of}
+use Rattle.crn_ctext.proofs.FormKinds.{IsRowKind, heads_kinds, below_kinds, fits_no_cut, rows_no_cut}
+use Rattle.crn_ctext.proofs.Shared.{IsWrittenFor, NoCuts, shared_written}
+use Rattle.crn_ctext.proofs.BlocksWritten.{all_of, parted, table_part}
+use Rattle.crn_ctext.proofs.DocumentsWritten.{network_lines, text_lines, text_of, text_ended}
+use Rattle.crn_ctext.proofs.NetworkLines.{net_line}
+use Rattle.crn_ctext.proofs.DocumentTexts.{parted_first, parted_second, parted_cuts, parted_plain, cuts_append, written_plain, table_plain}
+use Rattle.crn_ctext.proofs.ShortAnswers.{AllPlain, formed_are_plain, short_both}
+use Rattle.crn_ctext.proofs.ShortLines.{text_lines_are_short}
+use Rattle.crn_ctext.proofs.MeaningShort.{IsSmall, networks_are_small, meaning_short}
+use Rattle.crn_ctext.proofs.DocumentsGood.{no_nodes}
+
+-- ---- lines
+
+-- short lines have no more than so many bytes
+ended_short : (ls : List (List ℕ)) → AllByRecursion IsShortLine ls → length (ended ls) ≤ 16385 * length ls
+ended_short [] s = omega arith
+ended_short (l ∷ ls) s =
+    let more = ended_short ls s.1 in
+    let size : length (ended (l ∷ ls)) ≡ length l + length (10 ∷ ended ls) = ap length (first_ended l ls) ∙ length-append l (10 ∷ ended ls) in
+    omega (arith, more, size, s.0.1)
+
+-- a text of few lines is shorter than the bound
+few_lines : (version : ℕ) (net : Net) (records : List Record) → IsNetwork net → AllByRecursion IsShortLine (text_lines version net records) → length records ≤ 10000 → length (text_of version net records) < MAX_DOCUMENT
+few_lines version net records n s few =
+    let h = n.partial in
+    let limit = h.reactions_limit in
+    let size : length (text_of version net records) ≡ length (ended (text_lines version net records)) = ap length (text_ended version net records) in
+    let bytes = ended_short (text_lines version net records) s in
+    let tail : length (network_lines net ++ (map record_text records ++ codes "end" ∷ [])) ≡ length (network_lines net) + length (map record_text records ++ codes "end" ∷ []) = length-append (network_lines net) (map record_text records ++ codes "end" ∷ []) in
+    let last : length (map record_text records ++ codes "end" ∷ []) ≡ length (map record_text records) + 1 = length-append (map record_text records) (codes "end" ∷ []) in
+    let whole : length (network_lines net) ≡ length net.reactions = length-map net.reactions (net_line net) in
+    let said : length (map record_text records) ≡ length records = length-map records record_text in
+    omega (arith, limit, size, bytes, tail, last, whole, said, few)
+
+-- ---- records
+
+-- few records below a head
+abbrev IsFew : Question → Type 0
+IsFew q = (s : Shapes) (h : Record) → length (below q s h) ≤ 7
+
+first_few : (s : Shapes) (place : ℕ) (n : List ℤ) → length (rows Q1 s place n) ≤ 7
+first_few s zero n = omega arith
+first_few s (suc zero) n = omega arith
+first_few s (suc (suc k)) n = omega arith
+
+second_few : (s : Shapes) (place : ℕ) (n : List ℤ) → length (rows Q2 s place n) ≤ 7
+second_few s zero n = omega arith
+second_few s (suc zero) n = omega arith
+second_few s (suc (suc k)) n = omega arith
+
+third_few : (s : Shapes) (place : ℕ) (n : List ℤ) → length (rows Q3 s place n) ≤ 7
+third_few s zero n = omega arith
+third_few s (suc zero) n = omega arith
+third_few s (suc (suc k)) n = omega arith
+
+built_few : AllByRecursion IsFew built
+built_few = (
+  (λ s h. first_few s (place_of (heads Q1 s.sizes) h.words) h.numbers),
+  (
+    (λ s h. second_few s (place_of (heads Q2 s.sizes) h.words) h.numbers),
+    ((λ s h. third_few s (place_of (heads Q3 s.sizes) h.words) h.numbers), ((λ s h. omega arith), tt)),
+  ),
+)
+
+-- a question opens no more than one section
+one_section : (version : ℕ) (q : Question) → length (map section (sections version q)) ≤ 1
+one_section version q = by (version == 2)
+  where
+    opened : (q : Question) → length (map section (opens q)) ≤ 1
+    opened Q1 = omega arith
+    opened Q2 = omega arith
+    opened Q3 = omega arith
+    opened Q4 = omega arith
+    opened Q5 = omega arith
+    opened Q6 = omega arith
+    opened Q7 = omega arith
+    opened Q8 = omega arith
+    opened Q9 = omega arith
+    opened Q10 = omega arith
+    opened Q11 = omega arith
+    opened Q12 = omega arith
+    opened Q13 = omega arith
+    opened Q14 = omega arith
+    opened Q15 = omega arith
+
+    by : (t : Bool) → length (map section (if t then opens q else [])) ≤ 1
+    by true = opened q
+    by false = omega arith
+
+zip_long : {A B : Type 0} (R : A → B → Type 0) (xs : List A) (ys : List B) → AllZip R xs ys → length xs ≡ length ys
+zip_long R [] [] z = refl
+zip_long R [] (y ∷ ys) z = absurd z
+zip_long R (x ∷ xs) [] z = absurd z
+zip_long R (x ∷ xs) (y ∷ ys) z = let more = zip_long R xs ys z.1 in omega (arith, more)
+
+block_few : (q : Question) (known : Known) (rs : List Record) (p : Parts rs) → IsFew q → IsFormed meaning q known rs p → length rs ≤ 8
+block_few q known rs p few f =
+    let none : p.nodes ≡ [] = no_nodes (λ problem prefix r. _) q known p.head p.nodes f.trees in
+    let long : length (below q (meaning.shapes known) p.head) ≡ length p.rows = zip_long Fits (below q (meaning.shapes known) p.head) p.rows f.rows in
+    let size : length rs ≡ suc (length (p.rows ++ p.nodes)) = ap length p.all in
+    omega (arith, size, length-append p.rows p.nodes, ap length none, long, few (meaning.shapes known) p.head)
+
+pub parted_few : (version : ℕ) (qs : List Question) (known : Known) (answers : List (List Record)) → AllByRecursion IsFew qs → AreFormed meaning qs known answers → length (parted version qs answers) ≤ 9 * length qs
+unfolding AreFormed
+parted_few version [] known answers few f = omega arith
+parted_few version (q ∷ qs) known [] few f = absurd f
+parted_few version (q ∷ qs) known (rs ∷ more) few f =
+    let later = parted_few version qs (meaning.learn q known f.0.head f.0.rows) more few.1 f.2 in
+    omega (arith, later, one_section version q, block_few q known rs f.0 few.0 f.1, length-append (map section (sections version q)) (rs ++ parted version qs more), length-append rs (parted version qs more))
+
+-- ---- documents
+
+-- the records of formed answers are plain
+formed_plain : (net : Net) (answers : List (List Record)) → IsNetwork net → AreFormedOf net answers → AllByRecursion AllPlain answers
+formed_plain net answers n f = formed_are_plain meaning IsSmall built (meaning.start net) answers meaning_short (networks_are_small net n) f
+
+pub first_short : (net : Net) (answers : List (List Record)) → IsNetwork net → AreFormedOf net answers → length (document net answers) < MAX_DOCUMENT
+first_short net answers n f =
+    let same = parted_first meaning built (meaning.start net) answers f in
+    let plain : AllPlain (all_of answers) = subst AllPlain same (parted_plain 1 built answers (formed_plain net answers n f)) in
+    let few : length (parted 1 built answers) ≤ 36 = parted_few 1 built (meaning.start net) answers built_few f in
+    few_lines 1 net (all_of answers) n (text_lines_are_short 1 net (all_of answers) (omega arith) n plain) (omega (arith, few, ap length same))
+
+pub second_short : (net : Net) (answers : List (List Record)) (share : Share) → IsNetwork net → AreFormedOf net answers → FitsShare answers share → length (document2 built net answers share) < MAX_DOCUMENT
+second_short net answers share n f fits =
+    let rs = parted 2 built answers in
+    let ws = written share.leaf rs in
+    let named = subst (λ (us : List (List ℤ)). AllZip (IsNamed share.table) share.leaf us) (sym (parted_cuts 2 meaning built (meaning.start net) answers f)) fits.leaves in
+    let for = shared_written share.table share.leaf rs named in
+    let plain : AllPlain ws = written_plain share.table ws rs fits.most (parted_plain 2 built answers (formed_plain net answers n f)) for in
+    let all = table_records share.table ++ ws in
+    let lines = text_lines_are_short 2 net all (omega arith) n (short_both (table_records share.table) ws (table_plain 2 share.table fits.most fits.lists) plain) in
+    let few : length rs ≤ 36 = parted_few 2 built (meaning.start net) answers built_few f in
+    let table : length (table_records share.table) ≡ suc (length share.table) = ap suc (length-map share.table (one_word (codes "vector"))) in
+    let most = fits.most in
+    let short : length (text_of 2 net all) < MAX_DOCUMENT = few_lines 2 net all n lines (omega (arith, few, most, table, zip_long (IsWrittenFor share.table) ws rs for, length-append (table_records share.table) ws)) in
+    subst (λ (xs : List Record). length (text_of 2 net (table_records share.table ++ written share.leaf xs)) < MAX_DOCUMENT) (parted_second built answers) short
+
+-- ---- the share of answers without trees
+
+-- the lists of cut leaves, by whether the first record is one
+abbrev lists_by : Bool → Record → List Record → List (List ℤ)
+lists_by t r rs = map (λ r. r.numbers) (cond t (r ∷ filter is_cut_leaf rs) (filter is_cut_leaf rs))
+
+none_cut : (rs : List Record) → NoCuts rs → cut_lists rs ≡ []
+none_cut [] n = refl
+none_cut (r ∷ rs) n = subst (λ (t : Bool). lists_by t r rs ≡ []) (sym n.0) (none_cut rs n.1)
+
+no_cuts : (qs : List Question) (known : Known) (answers : List (List Record)) → AreFormed meaning qs known answers → cut_lists (all_of answers) ≡ []
+unfolding AreFormed
+no_cuts [] known answers f = ap (λ (a : List (List Record)). cut_lists (all_of a)) f
+no_cuts (q ∷ qs) known [] f = absurd f
+no_cuts (q ∷ qs) known (rs ∷ more) f =
+    let p = f.0 in
+    let g = f.1 in
+    let z = meaning.shapes known in
+    let none : p.nodes ≡ [] = no_nodes (λ problem prefix r. IsOneOf (leaf_forms problem) r) q known p.head p.nodes g.trees in
+    let front : NoCuts (p.head ∷ p.rows) = (fits_no_cut g.head.0 p.head (each_of IsRowKind (heads q z.sizes) g.head.0 (heads_kinds q z.sizes) g.head.1) g.head.2, rows_no_cut (below q z p.head) p.rows (below_kinds q z p.head) g.rows) in
+    let is : rs ≡ p.head ∷ p.rows = p.all ∙ ap (λ (ns : List Record). p.head ∷ (p.rows ++ ns)) none ∙ ap (λ (xs : List Record). p.head ∷ xs) (append-nil p.rows) in
+    cuts_append rs (all_of more) ∙ ap₂ (λ (a b : List (List ℤ)). a ++ b) (ap cut_lists is ∙ none_cut (p.head ∷ p.rows) front) (no_cuts qs (meaning.learn q known p.head p.rows) more f.2)
+
+-- the share by the lists of the cut leaves
+abbrev share_by : List (List ℤ) → Share
+share_by lists = let table = take MAX_SHARED (firsts (pointwise int_eq) lists) in record { table = table; leaf = map (number_in 1 table) lists }
+
+abbrev Fits2 : List (List ℤ) → Share → Type 0
+Fits2 lists share = (length share.table ≤ MAX_SHARED) × AllByRecursion IsShareable share.table × AllZip (IsNamed share.table) share.leaf lists
+
+empty_fits : Fits2 [] (share_by [])
+empty_fits = (omega arith, tt, tt)
+
+pub share_fits : (net : Net) (answers : List (List Record)) → AreFormedOf net answers → FitsShare answers (share_of answers)
+share_fits net answers f =
+    let h : Fits2 (cut_lists (all_of answers)) (share_by (cut_lists (all_of answers))) = subst (λ (us : List (List ℤ)). Fits2 us (share_by us)) (sym (no_cuts built (meaning.start net) answers f)) empty_fits in
+    record { most = h.0; lists = h.1; leaves = h.2 }

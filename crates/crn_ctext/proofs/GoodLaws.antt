@@ -1,0 +1,57 @@
+-- Documents of valid answers are good, good documents are of one network and one list of answers, and what is read of them is true.
+use Rattle.std.proofs.Common.{◌≡◌, ℕ, List, [], refl, sym, subst, inl, inr, ◌∙◌}
+use Rattle.crn_vec.specs.Network.{Net, IsNetwork}
+use Rattle.crn_cert.specs.declared.answer.Answer.{Answer}
+use Rattle.crn_cert.specs.Built.{built}
+use Rattle.crn_cert.specs.Formed.{AreFormed}
+use Rattle.crn_cert.specs.Valid.{AreValid}
+use Rattle.crn_ctext.specs.Records.{Record}
+use Rattle.crn_ctext.specs.Documents as documents
+use Rattle.crn_ctext.specs.Documents.{Share, FitsShare, IsDocumentOf, document, document2}
+use Rattle.crn_ctext.specs.Meaning.{meaning, versions, verdicts_said}
+use Rattle.crn_ctext.specs.Judged.{IsGood, AreFormedOf, GoodDocumentsAreOne}
+use Rattle.crn_ctext.specs.Linked.{records_of, AreSound, ReadDocumentsAreTrue, WrittenDocumentsAreGood, SharedDocumentsAreGood, SharesFit}
+use Rattle.crn_ctext.proofs.ShortAnswers.{valid_are_formed}
+use Rattle.crn_ctext.proofs.DocumentsGood.{read_is_of}
+use Rattle.crn_ctext.proofs.DocumentsShort.{first_short, second_short, share_fits}
+use Rattle.crn_ctext.proofs.DocumentsOne.{document_one, second_document_one, versions_apart}
+use Rattle.crn_ctext.proofs.AnswersLinked.{answers_formed, answers_valid}
+use Rattle.crn_ctext.proofs.TrueRecords.{records_true}
+
+-- ---- what is written
+
+pub written_good : WrittenDocumentsAreGood
+written_good net answers n f v =
+    let rs = records_of net answers in
+    (record { short = first_short net rs n (answers_formed net answers f); net = net; network = n; answers = rs; valid = answers_valid net answers f v; document = inl (inl refl, refl) }, refl, refl)
+
+pub shared_good : SharedDocumentsAreGood
+shared_good net answers share n f v fits =
+    let rs = records_of net answers in
+    (record { short = second_short net rs share n (answers_formed net answers f) fits; net = net; network = n; answers = rs; valid = answers_valid net answers f v; document = inr (inr (inl refl), (share, fits, refl)) }, refl, refl)
+
+pub shares_fit : SharesFit
+shares_fit net answers f = share_fits net (records_of net answers) (answers_formed net answers f)
+
+-- ---- what is good
+
+-- the answers of a good document are formed
+formed : (bytes : List ℕ) (g : IsGood bytes) → AreFormedOf g.net g.answers
+formed bytes g = valid_are_formed meaning built (meaning.start g.net) g.answers g.valid
+
+pub good_one : GoodDocumentsAreOne
+good_one bytes g h = by g.document h.document
+  where
+    by : IsDocumentOf versions built g.net g.answers bytes → IsDocumentOf versions built h.net h.answers bytes → (g.net ≡ h.net) × (g.answers ≡ h.answers)
+    by (inl a) (inl b) = document_one g.net h.net g.answers h.answers g.network h.network (formed bytes g) (formed bytes h) (sym a.1 ∙ b.1)
+    by (inl a) (inr b) = absurd (versions_apart g.net h.net g.answers h.answers b.1.0 (sym a.1 ∙ b.1.2))
+    by (inr a) (inl b) = absurd (versions_apart h.net g.net h.answers g.answers a.1.0 (sym b.1 ∙ a.1.2))
+    by (inr a) (inr b) = let one = second_document_one g.net h.net g.answers h.answers a.1.0 b.1.0 g.network h.network (formed bytes g) (formed bytes h) a.1.1 b.1.1 (sym a.1.2 ∙ b.1.2) in (one.0, one.1)
+
+-- what is read of a document is true or open
+pub read_true : ReadDocumentsAreTrue
+read_true bytes read p =
+    let g = read_is_of bytes read p in
+    let n : IsNetwork read.net = subst IsNetwork g.1 g.0.network in
+    let valid = subst (λ (net : Net). documents.AreValid meaning built (meaning.start net) g.0.answers) g.1 g.0.valid in
+    (n, records_true read.net read.blocks n (subst (λ (answers : List (List Record)). documents.AreValid meaning built (meaning.start read.net) answers) g.2 valid))
