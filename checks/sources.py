@@ -7,7 +7,7 @@ from functools import cache
 from pathlib import Path
 
 NAME = r"[\w']+(?:-[\w']+)*"
-HEAD = re.compile(rf"(?:abbrev|unfoldable) (?:pub )?({NAME})|(?:pub )?(?:record|data) ({NAME})|(?:pub )?({NAME}) :")
+HEAD = re.compile(rf"(?:abbrev|unfoldable) (?:pub )?(?!pub\b)({NAME})|(?:pub )?(?:record|data) ({NAME})|(?:pub )?({NAME}) :")
 HEAD_INSIDE = re.compile(rf"  (?:pub )?()()({NAME}) :")
 IMPORT = re.compile(r"\b(pub )?use (Rattle\.[\w.]+?)(?:\.\{([^}]*)\}|(?=[\s;]))")
 RUST_IMPORT = re.compile(r"^\s*(pub )?use (\w+(?:::\w+)*)(?:::\{([^}]*)\})?;", re.MULTILINE)

@@ -162,7 +162,7 @@ def without_sentence(text):
     """The definitions of a file of specs/ that have no comment right above them."""
     above = ""
     for line in text.splitlines():
-        head = re.match(rf"(?:abbrev|unfoldable) (?:pub )?({NAME})|(?:pub )?(?:record|data) ({NAME})", line)
+        head = re.match(rf"(?:abbrev|unfoldable) (?:pub )?(?!pub\b)({NAME})|(?:pub )?(?:record|data) ({NAME})", line)
         if head and head.group(1) != "mutual" and (not above.startswith("--") or above.startswith("-- ----")):
             yield head.group(1) or head.group(2)
         above = line

@@ -8,3 +8,22 @@ pub use Rattle.crn_ctext.proofs.Courses.{gives_then, fails_before, fails_then}
 pub use Rattle.crn_ctext.proofs.DocumentsGood.{settled, read_documents_are_good, good_documents_are_read}
 -- A call for the next line is a step of the course at which a line is due.
 pub use Rattle.crn_ctext.proofs.DueSteps.{line_is_due, IsNoLine, line_is_missing}
+-- A place counts the same bytes before and after what a course reads.
+pub use Rattle.crn_ctext.proofs.StepsThen.{gives_counts}
+-- Steps of a reader one after another, and the text of a whole document.
+pub use Rattle.crn_ctext.proofs.StepsThen.{step_then, step_fails_then, step_fails_before, step_ends_then, IsWhole, fails_of_a_text, gives_of_a_text}
+-- What is read of a document is its network and its answers, and what these say is true or open.
+pub use Rattle.crn_ctext.proofs.DocumentsGood.{read_is_of}
+pub use Rattle.crn_ctext.proofs.GoodLaws.{good_one, read_true, written_good, shared_good, shares_fit}
+-- Records of formed and of valid answers, and answers of formed records.
+pub use Rattle.crn_ctext.proofs.AnswersLinked.{answers_formed, answers_valid, records_valid}
+pub use Rattle.crn_ctext.proofs.RecordsLinked.{records_answered}
+pub use Rattle.crn_ctext.proofs.TrueRecords.{records_true}
+-- Documents tell networks and answers apart, and versions.
+pub use Rattle.crn_ctext.proofs.DocumentsOne.{document_one, second_document_one, versions_apart}
+-- The text of a record with short numbers says it, and a line that says it is its text.
+pub use Rattle.crn_ctext.proofs.Texts.{AreShort, text_says, says_text}
+-- The records of formed answers are plain: few short words and numbers.
+pub use Rattle.crn_ctext.proofs.ShortAnswers.{AllPlain, formed_are_plain, plain_are_short}
+-- Documents of formed answers are shorter than the bound.
+pub use Rattle.crn_ctext.proofs.DocumentsShort.{first_short, second_short}

@@ -2,7 +2,7 @@
 use Rattle.std.proofs.Common.{◌≡◌, ◌⊎◌, ℕ, ◌<◌, List, [], ◌∷◌, length, refl, sym, ap, subst, ◌∙◌, inl, inr, arith}
 use Rattle.crn_io.specs.declared.lines.TheConstants.{MAX_DOCUMENT}
 use Rattle.crn_io.specs.Lines.{Place, IsLineAt, BreaksLine, document_too_long, line_too_long, otherwise, LacksLine, HasMore, early}
-use Rattle.crn_ctext.specs.Course.{Course, Give, Line, Test, End, ◌>>=◌, Gives, FailsFirst, IsSettled, EachIsJudged, GivesOrFails, GivesOne, FirstIsOne}
+use Rattle.crn_ctext.specs.Course.{Course, Give, Line, Test, End, ◌>>=◌, Gives, FailsFirst, IsSettled}
 use Rattle.crn_io.proofs.CallerLemmas.{line_or_not, breaks_or_not, line_is_there, line_breaks_none, line_is_one, break_is_one}
 
 -- whether something is left is decided
@@ -127,17 +127,3 @@ fails_then (Give z) f at mid x n code p q = subst (λ (z : _). FailsFirst (f z) 
 fails_then (Line node next) f at mid x n code p q = inr (p.0, p.1, p.2, fails_then (next p.0) f p.1 mid x n code p.3 q)
 fails_then (Test m c X P next) f at mid x n code p q = inr (p.0, p.1, fails_then (next p.0) f at mid x n code p.2 q)
 fails_then (End next) f at mid x n code p q = inr (p.0, fails_then next f at mid x n code p.1 q)
-
--- ---- the laws
-
-pub judged : EachIsJudged
-judged A course s at lt = each_is_judged course s at lt
-
-pub never_both : GivesOrFails
-never_both A course s at behind y n code p f = gives_or_fails course s at behind y n code p f
-
-pub one_given : GivesOne
-one_given A course s at behind past y z p q = gives_one course s at behind past y z p q
-
-pub one_first : FirstIsOne
-one_first A course s at n m c d f g = first_is_one course s at n m c d f g

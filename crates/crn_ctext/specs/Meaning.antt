@@ -38,21 +38,25 @@ abbrev pub pairs_by : Known → Verdict → List ℕ
 pairs_by known (Strong count terminal label exit) = pair_places known.net known.earlier
 pairs_by known verdict = []
 
+-- these pairs, by the earlier verdict on strong classes
 abbrev pub pairs_of : Known → List ℕ
 pairs_of known = pairs_by known (on known.earlier Q2)
 
--- the reactions of each linkage class, and its complexes
+-- the reactions of each linkage class
 abbrev pub reactions_by_class : Known → List (List ℕ)
 reactions_by_class known =
     map (λ k. class_places known.net known.earlier k) (classes_to (linkage_count known.earlier))
 
+-- the complexes of each linkage class
 abbrev pub complexes_by_class : Known → List (List ℕ)
 complexes_by_class known =
     map (λ k. class_members (linkage known.earlier) k) (classes_to (linkage_count known.earlier))
 
+-- how long each list is
 abbrev pub lengths : List (List ℕ) → List ℕ
 lengths lists = map (λ list. length list) lists
 
+-- the sizes of heads, by what is known
 abbrev pub sizes_of : Known → Sizes
 sizes_of known = record {
   species = length known.net.names;
@@ -65,6 +69,7 @@ sizes_of known = record {
   vector = has_vector (on known.earlier Q12);
 }
 
+-- the sizes and lists of all forms, by what is known
 abbrev pub shapes_of : Known → Shapes
 shapes_of known = record {
   sizes = sizes_of known;
@@ -75,9 +80,11 @@ shapes_of known = record {
 
 -- ---- numbers of records
 
+-- naturals, by their absolute values
 abbrev pub nums : List ℤ → KeptNums
 nums zs = record { list = map nat_abs zs; spare = 0 }
 
+-- whole numbers
 abbrev pub ints : List ℤ → KeptInts
 ints zs = record { list = zs; spare = 0 }
 
