@@ -1,5 +1,5 @@
 -- A document is good if and only if it is read to its end: the built questions, both versions.
-use Rattle.std.proofs.Common.{◌≡◌, ◌⊎◌, ◌<◌, ◌≤◌, ◌++◌, ℕ, List, [], ◌∷◌, length, map, refl, sym, ap, ap₂, subst, inl, inr, ◌∙◌, arith}
+use Rattle.std.proofs.Common.{◌≡◌, ◌<◌, ◌≤◌, ◌++◌, ℕ, List, [], ◌∷◌, length, refl, sym, ap, ap₂, subst, inl, inr, ◌∙◌, arith}
 use Rattle.std.specs.Prelude.{ℤ, slice_index, Bool, true, false}
 use Rattle.std.specs.List.{AllByRecursion, AllZip}
 use Rattle.std.proofs.lemmas.List.{append-nil}
@@ -12,18 +12,17 @@ use Rattle.crn_io.specs.Lines.{beginning}
 use Rattle.crn_ctext.specs.Records.{Record}
 use Rattle.crn_ctext.specs.Course.{Gives, IsSettled}
 use Rattle.crn_ctext.specs.Blocks.{Problem, unless, ReadOf, title, problems, is_open, course}
-use Rattle.crn_ctext.specs.Documents.{Share, FitsShare, cut_lists, IsNamed, written, in_sections, IsShareable, AreFormed, AreValid, AreTrees, IsGoodLeaf, IsDocumentOf, document, document2}
+use Rattle.crn_ctext.specs.Documents.{Share, FitsShare, cut_lists, IsNamed, written, IsShareable, AreFormed, AreValid, AreTrees, IsGoodLeaf, IsDocumentOf, document, document2}
 use Rattle.crn_ctext.specs.Meaning.{Known, meaning, versions}
 use Rattle.crn_cert.specs.Built.{built}
 use Rattle.crn_cert.specs.Questions.{Question}
 use Rattle.crn_ctext.specs.Judged.{IsReadOf, IsGood}
 use Rattle.crn_ctext.proofs.Settled.{HaveTitles, course_settled}
-use Rattle.crn_ctext.proofs.Image.{AllShort}
 use Rattle.crn_ctext.proofs.MeaningDecided.{meaning_decided}
 use Rattle.crn_ctext.proofs.MeaningShort.{IsSmall, networks_are_small, meaning_short}
 use Rattle.crn_ctext.proofs.ShortAnswers.{AllPlain, valid_are_plain, valid_are_formed, plain_are_short, short_both}
 use Rattle.crn_ctext.proofs.ShortLines.{text_lines_are_short}
-use Rattle.crn_ctext.proofs.Shared.{IsVersion, IsWrittenFor, shared_written, all_texts}
+use Rattle.crn_ctext.proofs.Shared.{IsVersion, shared_written, all_texts}
 use Rattle.crn_ctext.proofs.BlocksRead.{AreVersions, IsFrontOf}
 use Rattle.crn_ctext.proofs.BlocksWritten.{all_of, parted, table_part}
 use Rattle.crn_ctext.proofs.DocumentsWritten.{IsTable, text_of, document_is_read}

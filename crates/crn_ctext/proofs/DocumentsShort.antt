@@ -1,5 +1,5 @@
 -- Documents of formed answers to the built questions have few lines, and so they are shorter than the bound.
-use Rattle.std.proofs.Common.{◌≡◌, ◌+◌, ◌*◌, ◌<◌, ◌≤◌, ◌==◌, ◌++◌, ◌∙◌, ℕ, zero, suc, Bool, true, false, cond, if◌then◌else◌, List, [], ◌∷◌, length, map, take, refl, sym, ap, ap₂, subst, inl, inr, arith}
+use Rattle.std.proofs.Common.{◌≡◌, ◌+◌, ◌*◌, ◌<◌, ◌≤◌, ◌==◌, ◌++◌, ◌∙◌, ℕ, zero, suc, Bool, true, false, cond, if◌then◌else◌, List, [], ◌∷◌, length, map, take, refl, sym, ap, ap₂, subst, arith}
 use Rattle.std.specs.Prelude.{ℤ, codes}
 use Rattle.std.specs.List.{AllByRecursion, AllZip, filter}
 use Rattle.std.specs.Ordering.{int_eq}
@@ -10,9 +10,9 @@ use Rattle.crn_vec.specs.Network.{Net, IsNetwork}
 use Rattle.crn_io.specs.declared.lines.TheConstants.{MAX_DOCUMENT, MAX_SHARED}
 use Rattle.crn_cert.specs.Questions.{Question, Q1, Q2, Q3, Q4, Q5, Q6, Q7, Q8, Q9, Q10, Q11, Q12, Q13, Q14, Q15}
 use Rattle.crn_cert.specs.Built.{built}
-use Rattle.crn_ctext.specs.Records.{Record, Form, Fits, record_text}
+use Rattle.crn_ctext.specs.Records.{Record, Fits, record_text}
 use Rattle.crn_ctext.specs.Questions.{Shapes, heads, rows, opens}
-use Rattle.crn_ctext.specs.Blocks.{Meaning, sections, below, place_of, problems, ended}
+use Rattle.crn_ctext.specs.Blocks.{sections, below, place_of, ended}
 use Rattle.crn_ctext.specs.Documents.{section, is_cut_leaf, cut_lists, number_in, written, table_records, IsShareable, Share, FitsShare, share_of, one_word, IsNamed, leaf_forms, IsOneOf, document, document2, Parts, IsFormed, AreFormed}
 use Rattle.crn_ctext.specs.Meaning.{Known, meaning}
 use Rattle.crn_ctext.specs.Judged.{AreFormedOf}
@@ -20,7 +20,7 @@ use Rattle.crn_ctext.proofs.Written.{IsShortLine, first_ended}
 use Rattle.crn_ctext.proofs.LinesRead.{each_of}
 use Rattle.crn_ctext.proofs.FormKinds.{IsRowKind, heads_kinds, below_kinds, fits_no_cut, rows_no_cut}
 use Rattle.crn_ctext.proofs.Shared.{IsWrittenFor, NoCuts, shared_written}
-use Rattle.crn_ctext.proofs.BlocksWritten.{all_of, parted, table_part}
+use Rattle.crn_ctext.proofs.BlocksWritten.{all_of, parted}
 use Rattle.crn_ctext.proofs.DocumentsWritten.{network_lines, text_lines, text_of, text_ended}
 use Rattle.crn_ctext.proofs.NetworkLines.{net_line}
 use Rattle.crn_ctext.proofs.DocumentTexts.{parted_first, parted_second, parted_cuts, parted_plain, cuts_append, written_plain, table_plain}

@@ -1,5 +1,5 @@
 -- The document of valid answers, written in one of the versions, goes through the course of documents to its end.
-use Rattle.std.proofs.Common.{◌≡◌, ◌+◌, ◌<◌, ◌≤◌, ◌==◌, ◌++◌, ℕ, zero, suc, if◌then◌else◌, false, List, [], ◌∷◌, length, map, refl, sym, ap, subst, ◌∙◌, inl, inr, arith, append_assoc, ap₂}
+use Rattle.std.proofs.Common.{◌≡◌, ◌+◌, ◌<◌, ◌≤◌, ◌++◌, ℕ, zero, suc, false, List, [], ◌∷◌, length, map, refl, sym, ap, subst, ◌∙◌, inl, inr, arith, append_assoc, ap₂}
 use Rattle.std.specs.Prelude.{ℤ, codes}
 use Rattle.std.specs.List.{AllByRecursion, AllZip, flat_map}
 use Rattle.std.proofs.lemmas.List.{append-nil, length-map}
@@ -11,7 +11,7 @@ use Rattle.crn_ctext.specs.Kinds.{end_form}
 use Rattle.crn_cert.specs.Questions.{Question}
 use Rattle.crn_ctext.specs.Course.{Course, Give, ◌>>=◌, ◌>>◌, find, ends, Gives, IsWrittenBy}
 use Rattle.crn_ctext.specs.Blocks.{Meaning, Behind, asks, asks_blocks, asks_table, lists_of, asks_lines, title, network_line, ended, ReadOf, IsNetworkOf, course}
-use Rattle.crn_ctext.specs.Documents.{one_word, opening, record_lines, table_records, IsShareable, AreValid}
+use Rattle.crn_ctext.specs.Documents.{one_word, opening, record_lines, IsShareable, AreValid}
 use Rattle.crn_io.specs.declared.lines.TheConstants.{MAX_DOCUMENT, MAX_SHARED}
 use Rattle.crn_io.specs.Lines.{Place, beginning}
 use Rattle.crn_ctext.proofs.Written.{IsShortLine, written_is_given}

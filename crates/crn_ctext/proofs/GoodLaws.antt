@@ -1,16 +1,13 @@
 -- Documents of valid answers are good, good documents are of one network and one list of answers, and what is read of them is true.
-use Rattle.std.proofs.Common.{◌≡◌, ℕ, List, [], refl, sym, subst, inl, inr, ◌∙◌}
+use Rattle.std.proofs.Common.{◌≡◌, ℕ, List, refl, sym, subst, inl, inr, ◌∙◌}
 use Rattle.crn_vec.specs.Network.{Net, IsNetwork}
-use Rattle.crn_cert.specs.declared.answer.Answer.{Answer}
 use Rattle.crn_cert.specs.Built.{built}
-use Rattle.crn_cert.specs.Formed.{AreFormed}
-use Rattle.crn_cert.specs.Valid.{AreValid}
 use Rattle.crn_ctext.specs.Records.{Record}
 use Rattle.crn_ctext.specs.Documents as documents
 use Rattle.crn_ctext.specs.Documents.{Share, FitsShare, IsDocumentOf, document, document2}
-use Rattle.crn_ctext.specs.Meaning.{meaning, versions, verdicts_said}
+use Rattle.crn_ctext.specs.Meaning.{meaning, versions}
 use Rattle.crn_ctext.specs.Judged.{IsGood, AreFormedOf, GoodDocumentsAreOne}
-use Rattle.crn_ctext.specs.Linked.{records_of, AreSound, ReadDocumentsAreTrue, WrittenDocumentsAreGood, SharedDocumentsAreGood, SharesFit}
+use Rattle.crn_ctext.specs.Linked.{records_of, ReadDocumentsAreTrue, WrittenDocumentsAreGood, SharedDocumentsAreGood, SharesFit}
 use Rattle.crn_ctext.proofs.ShortAnswers.{valid_are_formed}
 use Rattle.crn_ctext.proofs.DocumentsGood.{read_is_of}
 use Rattle.crn_ctext.proofs.DocumentsShort.{first_short, second_short, share_fits}

@@ -107,7 +107,7 @@ abbrev pub gap_of : Record → Gap
 gap_of h =
     if bytes_eq (slice_index_or h.words 2 []) (codes "wide")
     then Wide (number h.numbers 0) (number h.numbers 1) (number h.numbers 2)
-        (nums (drop 3 h.numbers))
+    (nums (drop 3 h.numbers))
     else (
     if bytes_eq (slice_index_or h.words 2 []) (codes "budget") then Budget (number h.numbers 0)
     else Rests (number h.numbers 0))
