@@ -29,6 +29,7 @@ use Rattle.crn_cert.specs.Built.{built}
 use Rattle.crn_ctext.specs.Judged.{AreFormedOf}
 use Rattle.crn_ctext.specs.Linked.{records_of}
 use Rattle.crn_ctext.proofs.AnswersApart.{block_apart}
+use Rattle.crn_ctext.proofs.Alike.{said, IsAlike, alike_then, labels_alike}
 use Rattle.crn_vec.specs.declared.signs.Sign.{Sign}
 
 -- ---- lists
@@ -54,11 +55,12 @@ small_fits word count least greatest xs p =
 abbrev pub parts : (q : Question) (known : Known) (a : Answer) → Parts (records q (shapes_of known) a)
 parts q known a = record { head = head_of q a.verdict; rows = records_below (shapes_of known) a; nodes = proof_nodes a.proof; all = refl }
 
--- the records are formed, and their tests are those of the answer
+-- the records are formed, their tests are those of the answer, and they say its verdict
 pub record IsLinked (known : Known) (earlier : Earlier) (q : Question) (a : Answer) : Type 1 where
   pub formed : IsFormed meaning q known (records q (shapes_of known) a) (parts q known a)
   pub heads : head_claims meaning q known (head_of q a.verdict) ≡ head_tests known.net earlier q a.verdict
   pub rows : row_claims meaning q known (head_of q a.verdict) (records_below (shapes_of known) a) ≡ row_tests known.net earlier q a.verdict a.proof
+  pub says : said (verdict_of q (sizes_of known) (head_of q a.verdict) (records_below (shapes_of known) a)) ≡ said a.verdict
 
 abbrev answer : Verdict → Proof → Answer
 answer v p = record { verdict = v; proof = p }
@@ -82,6 +84,7 @@ linkage_linked known earlier (Classes count label) (Forest up depth) f =
       };
       heads = refl;
       rows = ap₂ (λ (x y : List ℕ). linkage_tests known.net count x y (map nat_abs (map pos depth.list))) (back_again label.list) (back_again up.list) ∙ ap (λ (z : List ℕ). linkage_tests known.net count label.list up.list z) (back_again depth.list);
+      says = ap (λ (x : List ℕ). Classes count (record { list = x; spare = 0 })) (back_again label.list);
     }
 linkage_linked known earlier (Unknown (Wide system class index basis)) p f = absurd f.0
 linkage_linked known earlier (Unknown (Budget nodes)) p f = absurd f.0
@@ -131,21 +134,13 @@ strong_linked known earlier (Strong count terminal label exit) (StrongTrees from
           ∙ ap₂ (λ (x y : List ℕ). strong_tests net count terminal label.list from.list x y (twice to_depth.list) (twice level.list) (twice exit.list)) (back_again from_depth.list) (back_again to.list)
           ∙ ap₂ (λ (x y : List ℕ). strong_tests net count terminal label.list from.list from_depth.list to.list x y (twice exit.list)) (back_again to_depth.list) (back_again level.list)
           ∙ ap (λ (x : List ℕ). strong_tests net count terminal label.list from.list from_depth.list to.list to_depth.list level.list x) (back_again exit.list);
+      says = ap₂ (λ (x y : List ℕ). Strong count terminal (record { list = x; spare = 0 }) (record { list = y; spare = 0 })) (back_again label.list) (back_again exit.list);
     }
 strong_linked known earlier (Unknown (Wide system class index basis)) p f = absurd f.0
 strong_linked known earlier (Unknown (Budget nodes)) p f = absurd f.0
 strong_linked known earlier (Unknown (Rests question)) p f = absurd f.0
 strong_linked known earlier (Strong count terminal label exit) p f = absurd f.1
 strong_linked known earlier v p f = absurd f.0
-
--- the labels that are read back
-strong_labels : (known : Known) (net : Net) (earlier : Earlier) (v : Verdict) (p : Proof) → IsFormedOf net earlier Q2 v p → labels_of (verdict_of Q2 (sizes_of known) (head_of Q2 v) (records_below (shapes_of known) (answer v p))) ≡ labels_of v
-strong_labels known net earlier (Strong count terminal label exit) (StrongTrees from from_depth to to_depth level) f = back_again label.list
-strong_labels known net earlier (Unknown (Wide system class index basis)) p f = absurd f.0
-strong_labels known net earlier (Unknown (Budget nodes)) p f = absurd f.0
-strong_labels known net earlier (Unknown (Rests question)) p f = absurd f.0
-strong_labels known net earlier (Strong count terminal label exit) p f = absurd f.1
-strong_labels known net earlier v p f = absurd f.0
 
 -- ---- reversible
 
@@ -164,12 +159,14 @@ reversible_linked known earlier Yes (Back back) f =
       formed = record { head = (_, inl refl, (refl, refl)); rows = (small_fits (codes "back") r 1 r back.list f.1, tt); trees = refl };
       heads = refl;
       rows = ap (λ (x : List ℕ). reverse_tests known.net x) (back_again back.list);
+      says = refl;
     }
 reversible_linked known earlier (NoReaction n) Nothing f =
     record {
       formed = record { head = (_, inr (inl refl), (refl, number_fits (length known.net.reactions) n f.0.0 f.0.1)); rows = tt; trees = refl };
       heads = refl;
       rows = refl;
+      says = refl;
     }
 reversible_linked known earlier (Unknown (Wide system class index basis)) p f = absurd f.0
 reversible_linked known earlier (Unknown (Budget nodes)) p f = absurd f.0
@@ -193,12 +190,14 @@ weak_linked known earlier Yes Nothing e f =
       formed = record { head = (_, inl refl, (refl, refl)); rows = tt; trees = refl };
       heads = ap (λ (x : List ℕ). weak_tests known.net x) e;
       rows = refl;
+      says = refl;
     }
 weak_linked known earlier (NoReaction n) Nothing e f =
     record {
       formed = record { head = (_, inr (inl refl), (refl, number_fits (length known.net.reactions) n f.0.0 f.0.1)); rows = tt; trees = refl };
       heads = ap (λ (x : List ℕ). leave_tests known.net n x) e;
       rows = refl;
+      says = refl;
     }
 weak_linked known earlier (Unknown (Wide system class index basis)) p e f = absurd f.0
 weak_linked known earlier (Unknown (Budget nodes)) p e f = absurd f.0
@@ -209,45 +208,45 @@ weak_linked known earlier v p e f = absurd f.0
 
 -- ---- all answers
 
--- what is known behind an answer
+-- what is known after an answer
 abbrev behind : Question → Known → Answer → Known
 behind q known a = meaning.learn q known (head_of q a.verdict) (records_below (shapes_of known) a)
 
-abbrev start : Net → Known
-start net = meaning.start net
+-- each formed answer to the question is linked, if what is known says the same as the earlier verdicts
+abbrev pub IsLinkedFor : Question → Type 1
+IsLinkedFor q = (known : Known) (earlier : Earlier) (v : Verdict) (p : Proof) → IsAlike known earlier → IsFormedOf known.net earlier q v p → IsLinked known earlier q (answer v p)
 
--- the answers are linked one after the other
-pub record AreLinked (net : Net) (a b c d : Answer) : Type 1 where
-  pub one : IsLinked (start net) [] Q1 a
-  pub two : IsLinked (behind Q1 (start net) a) ((Q1, a.verdict) ∷ []) Q2 b
-  pub three : IsLinked (behind Q2 (behind Q1 (start net) a) b) ((Q1, a.verdict) ∷ (Q2, b.verdict) ∷ []) Q3 c
-  pub four : IsLinked (behind Q3 (behind Q2 (behind Q1 (start net) a) b) c) ((Q1, a.verdict) ∷ (Q2, b.verdict) ∷ (Q3, c.verdict) ∷ []) Q4 d
+abbrev pub AreLinkedFor : List Question → Type 1
+AreLinkedFor [] = Unit {1}
+AreLinkedFor (q ∷ qs) = IsLinkedFor q × AreLinkedFor qs
 
-are_linked : (net : Net) (a b c d : Answer) → AreFormed net [] built (a ∷ b ∷ c ∷ d ∷ []) → AreLinked net a b c d
-are_linked net a b c d f =
-    let k1 = behind Q1 (start net) a in
-    let k2 = behind Q2 k1 b in
-    let k3 = behind Q3 k2 c in
-    record {
-      one = linkage_linked (start net) [] a.verdict a.proof f.0;
-      two = strong_linked k1 ((Q1, a.verdict) ∷ []) b.verdict b.proof f.1.0;
-      three = reversible_linked k2 ((Q1, a.verdict) ∷ (Q2, b.verdict) ∷ []) c.verdict c.proof f.1.1.0;
-      four = weak_linked k3 ((Q1, a.verdict) ∷ (Q2, b.verdict) ∷ (Q3, c.verdict) ∷ []) d.verdict d.proof (strong_labels k1 net ((Q1, a.verdict) ∷ []) b.verdict b.proof f.1.0) f.1.1.1.0;
-    }
+built_linked : AreLinkedFor built
+built_linked = (
+  (λ known earlier v p e f. linkage_linked known earlier v p f),
+  (
+    (λ known earlier v p e f. strong_linked known earlier v p f),
+    (
+      (λ known earlier v p e f. reversible_linked known earlier v p f),
+      ((λ known earlier v p e f. weak_linked known earlier v p (labels_alike known.earlier earlier Q2 e) f), tt),
+    ),
+  ),
+)
+
+-- so they are after an answer
+alike_behind : (q : Question) (known : Known) (earlier : Earlier) (a : Answer) → IsAlike known earlier → IsLinked known earlier q a → IsAlike (behind q known a) (earlier ++ (q, a.verdict) ∷ [])
+alike_behind q known earlier a e l = alike_then known.earlier earlier q (verdict_of q (sizes_of known) (head_of q a.verdict) (records_below (shapes_of known) a)) a.verdict e l.says
+
+formed_by : (qs : List Question) → AreLinkedFor qs → (known : Known) (earlier : Earlier) (answers : List Answer) → IsAlike known earlier → AreFormed known.net earlier qs answers → documents.AreFormed meaning qs known (all_records meaning qs known answers)
+unfolding documents.AreFormed all_records
+formed_by [] links known earlier [] e f = refl
+formed_by [] links known earlier (a ∷ answers) e f = absurd f
+formed_by (q ∷ qs) links known earlier [] e f = absurd f
+formed_by (q ∷ qs) links known earlier (a ∷ answers) e f =
+    let l = links.0 known earlier a.verdict a.proof e f.0 in
+    (parts q known a, l.formed, formed_by qs links.1 (behind q known a) (earlier ++ (q, a.verdict) ∷ []) answers (alike_behind q known earlier a e l) f.1)
 
 pub answers_formed : (net : Net) (answers : List Answer) → AreFormed net [] built answers → AreFormedOf net (records_of net answers)
-unfolding documents.AreFormed all_records
-answers_formed net [] f = absurd f
-answers_formed net (a ∷ []) f = absurd f.1
-answers_formed net (a ∷ b ∷ []) f = absurd f.1.1
-answers_formed net (a ∷ b ∷ c ∷ []) f = absurd f.1.1.1
-answers_formed net (a ∷ b ∷ c ∷ d ∷ e ∷ more) f = absurd f.1.1.1.1
-answers_formed net (a ∷ b ∷ c ∷ d ∷ []) f =
-    let l = are_linked net a b c d f in
-    let k1 = behind Q1 (start net) a in
-    let k2 = behind Q2 k1 b in
-    let k3 = behind Q3 k2 c in
-    (parts Q1 (start net) a, l.one.formed, (parts Q2 k1 b, l.two.formed, (parts Q3 k2 c, l.three.formed, (parts Q4 k3 d, l.four.formed, refl))))
+answers_formed net answers f = formed_by built built_linked (meaning.start net) [] answers refl f
 
 -- ---- valid answers
 
@@ -285,51 +284,29 @@ same_valid q known rs p u f g v =
 abbrev Rest : List Question → Known → Known → List Answer → Type 0
 Rest qs known from answers = documents.AreValid meaning qs known (all_records meaning qs from answers)
 
-pub answers_valid : (net : Net) (answers : List Answer) → AreFormed net [] built answers → AreValid net [] built answers → documents.AreValid meaning built (start net) (records_of net answers)
+valid_by : (qs : List Question) → AreLinkedFor qs → (known : Known) (earlier : Earlier) (answers : List Answer) → IsAlike known earlier → AreFormed known.net earlier qs answers → AreValid known.net earlier qs answers → Rest qs known known answers
 unfolding documents.AreValid all_records
-answers_valid net [] f v = absurd f
-answers_valid net (a ∷ []) f v = absurd f.1
-answers_valid net (a ∷ b ∷ []) f v = absurd f.1.1
-answers_valid net (a ∷ b ∷ c ∷ []) f v = absurd f.1.1.1
-answers_valid net (a ∷ b ∷ c ∷ d ∷ e ∷ more) f v = absurd f.1.1.1.1
-answers_valid net (a ∷ b ∷ c ∷ d ∷ []) f v =
-    let l = are_linked net a b c d f in
-    let k1 = behind Q1 (start net) a in
-    let k2 = behind Q2 k1 b in
-    let k3 = behind Q3 k2 c in (
-      parts Q1 (start net) a,
-      l.one.formed,
-      there (start net) [] Q1 a l.one v.0,
-      (
-        parts Q2 k1 b,
-        l.two.formed,
-        there k1 ((Q1, a.verdict) ∷ []) Q2 b l.two v.1.0,
-        (
-          parts Q3 k2 c,
-          l.three.formed,
-          there k2 ((Q1, a.verdict) ∷ (Q2, b.verdict) ∷ []) Q3 c l.three v.1.1.0,
-          (parts Q4 k3 d, l.four.formed, there k3 ((Q1, a.verdict) ∷ (Q2, b.verdict) ∷ (Q3, c.verdict) ∷ []) Q4 d l.four v.1.1.1.0, refl),
-        ),
-      ),
-    )
+valid_by [] links known earlier [] e f v = refl
+valid_by [] links known earlier (a ∷ answers) e f v = absurd f
+valid_by (q ∷ qs) links known earlier [] e f v = absurd f
+valid_by (q ∷ qs) links known earlier (a ∷ answers) e f v =
+    let l = links.0 known earlier a.verdict a.proof e f.0 in
+    (parts q known a, l.formed, there known earlier q a l v.0, valid_by qs links.1 (behind q known a) (earlier ++ (q, a.verdict) ∷ []) answers (alike_behind q known earlier a e l) f.1 v.1)
 
-pub records_valid : (net : Net) (answers : List Answer) → AreFormed net [] built answers → documents.AreValid meaning built (start net) (records_of net answers) → AreValid net [] built answers
+pub answers_valid : (net : Net) (answers : List Answer) → AreFormed net [] built answers → AreValid net [] built answers → documents.AreValid meaning built (meaning.start net) (records_of net answers)
+answers_valid net answers f v = valid_by built built_linked (meaning.start net) [] answers refl f v
+
+back_by : (qs : List Question) → AreLinkedFor qs → (known : Known) (earlier : Earlier) (answers : List Answer) → IsAlike known earlier → AreFormed known.net earlier qs answers → Rest qs known known answers → AreValid known.net earlier qs answers
 unfolding documents.AreValid all_records
-records_valid net [] f v = absurd f
-records_valid net (a ∷ []) f v = absurd f.1
-records_valid net (a ∷ b ∷ []) f v = absurd f.1.1
-records_valid net (a ∷ b ∷ c ∷ []) f v = absurd f.1.1.1
-records_valid net (a ∷ b ∷ c ∷ d ∷ e ∷ more) f v = absurd f.1.1.1.1
-records_valid net (a ∷ b ∷ c ∷ d ∷ []) f v =
-    let l = are_linked net a b c d f in
-    let k1 = behind Q1 (start net) a in
-    let k2 = behind Q2 k1 b in
-    let k3 = behind Q3 k2 c in
-    let s1 = same_valid Q1 (start net) (records Q1 (shapes_of (start net)) a) v.0 (parts Q1 (start net) a) v.1 l.one.formed v.2 in
-    let w2 : Rest (Q2 ∷ Q3 ∷ Q4 ∷ []) k1 k1 (b ∷ c ∷ d ∷ []) = subst (λ (k : Known). Rest (Q2 ∷ Q3 ∷ Q4 ∷ []) k k1 (b ∷ c ∷ d ∷ [])) s1.1 v.3 in
-    let s2 = same_valid Q2 k1 (records Q2 (shapes_of k1) b) w2.0 (parts Q2 k1 b) w2.1 l.two.formed w2.2 in
-    let w3 : Rest (Q3 ∷ Q4 ∷ []) k2 k2 (c ∷ d ∷ []) = subst (λ (k : Known). Rest (Q3 ∷ Q4 ∷ []) k k2 (c ∷ d ∷ [])) s2.1 w2.3 in
-    let s3 = same_valid Q3 k2 (records Q3 (shapes_of k2) c) w3.0 (parts Q3 k2 c) w3.1 l.three.formed w3.2 in
-    let w4 : Rest (Q4 ∷ []) k3 k3 (d ∷ []) = subst (λ (k : Known). Rest (Q4 ∷ []) k k3 (d ∷ [])) s3.1 w3.3 in
-    let s4 = same_valid Q4 k3 (records Q4 (shapes_of k3) d) w4.0 (parts Q4 k3 d) w4.1 l.four.formed w4.2 in
-    (back (start net) [] Q1 a l.one s1.0, (back k1 ((Q1, a.verdict) ∷ []) Q2 b l.two s2.0, (back k2 ((Q1, a.verdict) ∷ (Q2, b.verdict) ∷ []) Q3 c l.three s3.0, (back k3 ((Q1, a.verdict) ∷ (Q2, b.verdict) ∷ (Q3, c.verdict) ∷ []) Q4 d l.four s4.0, tt))))
+back_by [] links known earlier [] e f v = tt
+back_by [] links known earlier (a ∷ answers) e f v = absurd f
+back_by (q ∷ qs) links known earlier [] e f v = absurd f
+back_by (q ∷ qs) links known earlier (a ∷ answers) e f v =
+    let l = links.0 known earlier a.verdict a.proof e f.0 in
+    let next = behind q known a in
+    let s = same_valid q known (records q (shapes_of known) a) v.0 (parts q known a) v.1 l.formed v.2 in
+    let later : Rest qs next next answers = subst (λ (k : Known). Rest qs k next answers) s.1 v.3 in
+    (back known earlier q a l s.0, back_by qs links.1 next (earlier ++ (q, a.verdict) ∷ []) answers (alike_behind q known earlier a e l) f.1 later)
+
+pub records_valid : (net : Net) (answers : List Answer) → AreFormed net [] built answers → documents.AreValid meaning built (meaning.start net) (records_of net answers) → AreValid net [] built answers
+records_valid net answers f v = back_by built built_linked (meaning.start net) [] answers refl f v

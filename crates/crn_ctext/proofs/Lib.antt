@@ -33,6 +33,7 @@ mod AnswersApart
 mod DocumentsShort
 mod SharesApart
 mod DocumentsOne
+mod Alike
 mod AnswersLinked
 mod RecordsLinked
 mod TrueRecords

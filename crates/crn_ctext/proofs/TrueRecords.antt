@@ -1,17 +1,18 @@
 -- What valid records of the built questions say is true.
-use Rattle.std.proofs.Common.{List, [], ◌∷◌, refl, sym, subst}
+use Rattle.std.proofs.Common.{List, [], ◌∷◌, refl, sym, subst, inl, inr}
 use Rattle.crn_vec.specs.Network.{Net, IsNetwork}
 use Rattle.crn_cert.specs.declared.answer.Gap.TheVariants.{Wide, Budget, Rests}
 use Rattle.crn_cert.specs.declared.answer.Verdict.{Verdict}
 use Rattle.crn_cert.specs.declared.answer.Verdict.TheVariants.{Unknown}
 use Rattle.crn_cert.specs.declared.answer.Proof.{Proof}
 use Rattle.crn_cert.specs.declared.answer.Answer.{Answer}
-use Rattle.crn_cert.specs.Questions.{Earlier, Q1, Q2, Q3, Q4}
+use Rattle.crn_cert.specs.Questions.{Question, Q1, Q2, Q3}
 use Rattle.crn_cert.specs.Says.{IsTrueOf}
 use Rattle.crn_cert.specs.Formed.{IsFormedOf, AreFormed}
 use Rattle.crn_cert.specs.Valid.{AreValid}
-use Rattle.crn_cert.specs.Law.{IsTrueOrOpen}
-use Rattle.crn_cert.proofs.CallerLemmas.{valid_answers_are_true}
+use Rattle.crn_cert.specs.Law.{AllTrueOrOpen, AreBuilt}
+use Rattle.crn_vec.specs.Lists.{IsIn}
+use Rattle.crn_cert.proofs.CallerLemmas.{valid_documents_are_true}
 use Rattle.crn_ctext.specs.Records.{Record}
 use Rattle.crn_ctext.specs.Documents as documents
 use Rattle.crn_ctext.specs.Meaning.{meaning, verdicts_said}
@@ -21,31 +22,22 @@ use Rattle.crn_ctext.proofs.ShortAnswers.{valid_are_formed}
 use Rattle.crn_ctext.proofs.AnswersLinked.{records_valid}
 use Rattle.crn_ctext.proofs.RecordsLinked.{records_answered}
 
--- a formed verdict on strong classes is decided
-strong_decided : (net : Net) (earlier : Earlier) (v : Verdict) (p : Proof) → IsFormedOf net earlier Q2 v p → IsTrueOrOpen net Q2 v → IsTrueOf net Q2 v
-strong_decided net earlier (Unknown (Wide system class index basis)) p f h = absurd f.0
-strong_decided net earlier (Unknown (Budget nodes)) p f h = absurd f.0
-strong_decided net earlier (Unknown (Rests question)) p f h = absurd f.0
-strong_decided net earlier v p f h = h
+-- each question comes after those that its law requires
+built_in_order : AreBuilt [] built
+built_in_order = ((λ j i. i), ((λ j i. absurd i), ((λ j i. absurd i), ((λ j i. by j i), tt))))
+  where
+    by : (j : Question) → IsIn j (Q2 ∷ []) → IsIn j (Q1 ∷ Q2 ∷ Q3 ∷ [])
+    by j (inl e) = inr (inl e)
+    by j (inr none) = absurd none
+
+sound_by : (net : Net) (qs : List Question) (answers : List Answer) → AllTrueOrOpen net qs answers → AreSound net qs (verdicts_of answers)
+sound_by net [] [] t = refl
+sound_by net [] (a ∷ answers) t = absurd t
+sound_by net (q ∷ qs) [] t = absurd t
+sound_by net (q ∷ qs) (a ∷ answers) t = (t.0, sound_by net qs answers t.1)
 
 answers_true : (net : Net) (answers : List Answer) → IsNetwork net → AreFormed net [] built answers → AreValid net [] built answers → AreSound net built (verdicts_of answers)
-answers_true net [] n f v = absurd f
-answers_true net (a ∷ []) n f v = absurd f.1
-answers_true net (a ∷ b ∷ []) n f v = absurd f.1.1
-answers_true net (a ∷ b ∷ c ∷ []) n f v = absurd f.1.1.1
-answers_true net (a ∷ b ∷ c ∷ d ∷ e ∷ more) n f v = absurd f.1.1.1.1
-answers_true net (a ∷ b ∷ c ∷ d ∷ []) n f v =
-    let laws = valid_answers_are_true in
-    let linkage = laws Q1 in
-    let strong = laws Q2 in
-    let reversible = laws Q3 in
-    let weak = laws Q4 in
-    let one = linkage net [] a n tt tt f.0 v.0 in
-    let two = strong net ((Q1, a.verdict) ∷ []) b n tt tt f.1.0 v.1.0 in
-    let known = strong_decided net ((Q1, a.verdict) ∷ []) b.verdict b.proof f.1.0 two in
-    let three = reversible net ((Q1, a.verdict) ∷ (Q2, b.verdict) ∷ []) c n tt tt f.1.1.0 v.1.1.0 in
-    let four = weak net ((Q1, a.verdict) ∷ (Q2, b.verdict) ∷ (Q3, c.verdict) ∷ []) d n (known, tt) tt f.1.1.1.0 v.1.1.1.0 in
-    (one, (two, (three, (four, refl))))
+answers_true net answers n f v = sound_by net built answers (valid_documents_are_true built net answers built_in_order n f v)
 
 pub records_true : (net : Net) (answers : List (List Record)) → IsNetwork net → documents.AreValid meaning built (meaning.start net) answers → AreSound net built (verdicts_said built (meaning.start net) answers)
 records_true net answers n v =
