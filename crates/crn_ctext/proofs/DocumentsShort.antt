@@ -14,7 +14,7 @@ use Rattle.crn_ctext.specs.Records.{Record, Fits, record_text}
 use Rattle.crn_ctext.specs.Questions.{Shapes, heads, rows, opens}
 use Rattle.crn_ctext.specs.Blocks.{sections, below, place_of, ended}
 use Rattle.crn_ctext.specs.Documents.{section, is_cut_leaf, cut_lists, number_in, written, table_records, IsShareable, Share, FitsShare, share_of, one_word, IsNamed, leaf_forms, IsOneOf, document, document2, Parts, IsFormed, AreFormed}
-use Rattle.crn_ctext.specs.Meaning.{Known, meaning}
+use Rattle.crn_ctext.specs.Meaning.{Known, sizes_of, shapes_of, meaning}
 use Rattle.crn_ctext.specs.Judged.{AreFormedOf}
 use Rattle.crn_ctext.proofs.Written.{IsShortLine, first_ended}
 use Rattle.crn_ctext.proofs.LinesRead.{each_of}
@@ -24,7 +24,7 @@ use Rattle.crn_ctext.proofs.BlocksWritten.{all_of, parted}
 use Rattle.crn_ctext.proofs.DocumentsWritten.{network_lines, text_lines, text_of, text_ended}
 use Rattle.crn_ctext.proofs.NetworkLines.{net_line}
 use Rattle.crn_ctext.proofs.DocumentTexts.{parted_first, parted_second, parted_cuts, parted_plain, cuts_append, written_plain, table_plain}
-use Rattle.crn_ctext.proofs.ShortAnswers.{AllPlain, formed_are_plain, short_both}
+use Rattle.crn_ctext.proofs.ShortAnswers.{AllPlain, IsShortFor, formed_are_plain, short_both}
 use Rattle.crn_ctext.proofs.ShortLines.{text_lines_are_short}
 use Rattle.crn_ctext.proofs.MeaningShort.{IsSmall, networks_are_small, meaning_short}
 use Rattle.crn_ctext.proofs.DocumentsGood.{no_nodes}
@@ -40,7 +40,7 @@ ended_short (l ∷ ls) s =
     omega (arith, more, size, s.0.1)
 
 -- a text of few lines is shorter than the bound
-few_lines : (version : ℕ) (net : Net) (records : List Record) → IsNetwork net → AllByRecursion IsShortLine (text_lines version net records) → length records ≤ 10000 → length (text_of version net records) < MAX_DOCUMENT
+few_lines : (version : ℕ) (net : Net) (records : List Record) → IsNetwork net → AllByRecursion IsShortLine (text_lines version net records) → length records ≤ 30000 → length (text_of version net records) < MAX_DOCUMENT
 few_lines version net records n s few =
     let h = n.partial in
     let limit = h.reactions_limit in
@@ -54,31 +54,31 @@ few_lines version net records n s few =
 
 -- ---- records
 
--- few records below a head
+-- few records below a head, if the sizes are those of a network
 abbrev IsFew : Question → Type 0
-IsFew q = (s : Shapes) (h : Record) → length (below q s h) ≤ 7
+IsFew q = (known : Known) (h : Record) → IsSmall known → IsOneOf (heads q (sizes_of known)) h → length (below q (shapes_of known) h) ≤ 1000
 
-first_few : (s : Shapes) (place : ℕ) (n : List ℤ) → length (rows Q1 s place n) ≤ 7
-first_few s zero n = omega arith
-first_few s (suc zero) n = omega arith
-first_few s (suc (suc k)) n = omega arith
+linkage_few : (s : Shapes) (place : ℕ) (n : List ℤ) → length (rows Q1 s place n) ≤ 1000
+linkage_few s zero n = omega arith
+linkage_few s (suc zero) n = omega arith
+linkage_few s (suc (suc k)) n = omega arith
 
-second_few : (s : Shapes) (place : ℕ) (n : List ℤ) → length (rows Q2 s place n) ≤ 7
-second_few s zero n = omega arith
-second_few s (suc zero) n = omega arith
-second_few s (suc (suc k)) n = omega arith
+strong_few : (s : Shapes) (place : ℕ) (n : List ℤ) → length (rows Q2 s place n) ≤ 1000
+strong_few s zero n = omega arith
+strong_few s (suc zero) n = omega arith
+strong_few s (suc (suc k)) n = omega arith
 
-third_few : (s : Shapes) (place : ℕ) (n : List ℤ) → length (rows Q3 s place n) ≤ 7
-third_few s zero n = omega arith
-third_few s (suc zero) n = omega arith
-third_few s (suc (suc k)) n = omega arith
+reversible_few : (s : Shapes) (place : ℕ) (n : List ℤ) → length (rows Q3 s place n) ≤ 1000
+reversible_few s zero n = omega arith
+reversible_few s (suc zero) n = omega arith
+reversible_few s (suc (suc k)) n = omega arith
 
 built_few : AllByRecursion IsFew built
 built_few = (
-  (λ s h. first_few s (place_of (heads Q1 s.sizes) h.words) h.numbers),
+  (λ known h s o. linkage_few (shapes_of known) (place_of (heads Q1 (sizes_of known)) h.words) h.numbers),
   (
-    (λ s h. second_few s (place_of (heads Q2 s.sizes) h.words) h.numbers),
-    ((λ s h. third_few s (place_of (heads Q3 s.sizes) h.words) h.numbers), ((λ s h. omega arith), tt)),
+    (λ known h s o. strong_few (shapes_of known) (place_of (heads Q2 (sizes_of known)) h.words) h.numbers),
+    ((λ known h s o. reversible_few (shapes_of known) (place_of (heads Q3 (sizes_of known)) h.words) h.numbers), ((λ known h s o. omega arith), tt)),
   ),
 )
 
@@ -113,20 +113,28 @@ zip_long R [] (y ∷ ys) z = absurd z
 zip_long R (x ∷ xs) [] z = absurd z
 zip_long R (x ∷ xs) (y ∷ ys) z = let more = zip_long R xs ys z.1 in omega (arith, more)
 
-block_few : (q : Question) (known : Known) (rs : List Record) (p : Parts rs) → IsFew q → IsFormed meaning q known rs p → length rs ≤ 8
-block_few q known rs p few f =
+block_few : (q : Question) (known : Known) (rs : List Record) (p : Parts rs) → IsSmall known → IsFew q → IsFormed meaning q known rs p → length rs ≤ 1001
+block_few q known rs p small few f =
     let none : p.nodes ≡ [] = no_nodes (λ problem prefix r. _) q known p.head p.nodes f.trees in
-    let long : length (below q (meaning.shapes known) p.head) ≡ length p.rows = zip_long Fits (below q (meaning.shapes known) p.head) p.rows f.rows in
+    let long : length (below q (shapes_of known) p.head) ≡ length p.rows = zip_long Fits (below q (shapes_of known) p.head) p.rows f.rows in
     let size : length rs ≡ suc (length (p.rows ++ p.nodes)) = ap length p.all in
-    omega (arith, size, length-append p.rows p.nodes, ap length none, long, few (meaning.shapes known) p.head)
+    omega (arith, size, length-append p.rows p.nodes, ap length none, long, few known p.head small f.head)
 
-pub parted_few : (version : ℕ) (qs : List Question) (known : Known) (answers : List (List Record)) → AllByRecursion IsFew qs → AreFormed meaning qs known answers → length (parted version qs answers) ≤ 9 * length qs
+-- each block has no more records than its bound
+parted_few : (version : ℕ) (qs : List Question) (known : Known) (answers : List (List Record)) → IsSmall known → AllByRecursion IsFew qs → AllByRecursion (IsShortFor meaning IsSmall) qs → AreFormed meaning qs known answers → length (parted version qs answers) ≤ 1002 * length qs
 unfolding AreFormed
-parted_few version [] known answers few f = omega arith
-parted_few version (q ∷ qs) known [] few f = absurd f
-parted_few version (q ∷ qs) known (rs ∷ more) few f =
-    let later = parted_few version qs (meaning.learn q known f.0.head f.0.rows) more few.1 f.2 in
-    omega (arith, later, one_section version q, block_few q known rs f.0 few.0 f.1, length-append (map section (sections version q)) (rs ++ parted version qs more), length-append rs (parted version qs more))
+parted_few version [] known answers small few shorts f = omega arith
+parted_few version (q ∷ qs) known [] small few shorts f = absurd f
+parted_few version (q ∷ qs) known (rs ∷ more) small few shorts f =
+    let learns = shorts.0.learn in
+    let later = parted_few version qs (meaning.learn q known f.0.head f.0.rows) more (learns known f.0.head f.0.rows small) few.1 shorts.1 f.2 in
+    omega (arith, later, one_section version q, block_few q known rs f.0 small few.0 f.1, length-append (map section (sections version q)) (rs ++ parted version qs more), length-append rs (parted version qs more))
+
+-- the records of formed answers are few
+all_few : (version : ℕ) (net : Net) (answers : List (List Record)) → IsNetwork net → AreFormedOf net answers → length (parted version built answers) ≤ 20000
+all_few version net answers n f =
+    let few : length (parted version built answers) ≤ 1002 * length built = parted_few version built (meaning.start net) answers (networks_are_small net n) built_few meaning_short f in
+    omega (arith, few)
 
 -- ---- documents
 
@@ -138,7 +146,7 @@ pub first_short : (net : Net) (answers : List (List Record)) → IsNetwork net �
 first_short net answers n f =
     let same = parted_first meaning built (meaning.start net) answers f in
     let plain : AllPlain (all_of answers) = subst AllPlain same (parted_plain 1 built answers (formed_plain net answers n f)) in
-    let few : length (parted 1 built answers) ≤ 36 = parted_few 1 built (meaning.start net) answers built_few f in
+    let few = all_few 1 net answers n f in
     few_lines 1 net (all_of answers) n (text_lines_are_short 1 net (all_of answers) (omega arith) n plain) (omega (arith, few, ap length same))
 
 pub second_short : (net : Net) (answers : List (List Record)) (share : Share) → IsNetwork net → AreFormedOf net answers → FitsShare answers share → length (document2 built net answers share) < MAX_DOCUMENT
@@ -150,7 +158,7 @@ second_short net answers share n f fits =
     let plain : AllPlain ws = written_plain share.table ws rs fits.most (parted_plain 2 built answers (formed_plain net answers n f)) for in
     let all = table_records share.table ++ ws in
     let lines = text_lines_are_short 2 net all (omega arith) n (short_both (table_records share.table) ws (table_plain 2 share.table fits.most fits.lists) plain) in
-    let few : length rs ≤ 36 = parted_few 2 built (meaning.start net) answers built_few f in
+    let few = all_few 2 net answers n f in
     let table : length (table_records share.table) ≡ suc (length share.table) = ap suc (length-map share.table (one_word (codes "vector"))) in
     let most = fits.most in
     let short : length (text_of 2 net all) < MAX_DOCUMENT = few_lines 2 net all n lines (omega (arith, few, most, table, zip_long (IsWrittenFor share.table) ws rs for, length-append (table_records share.table) ws)) in
