@@ -1,5 +1,5 @@
 -- Verdicts with the same numbers and lists, whatever their spare room, say the same to later questions.
-use Rattle.std.proofs.Common.{◌≡◌, ◌==◌, ◌++◌, ◌∙◌, ℕ, Bool, true, false, if◌then◌else◌, List, [], ◌∷◌, map, refl, sym, ap, ap₂, subst, inl, inr}
+use Rattle.std.proofs.Common.{◌≡◌, ◌==◌, ◌++◌, ◌∙◌, Bool, if◌then◌else◌, [], ◌∷◌, map, refl, sym, ap, ap₂, subst, inl, inr}
 use Rattle.std.proofs.lemmas.Bool.{cases_Bool}
 use Rattle.crn_vec.specs.Kept.{KeptInts, KeptNums}
 use Rattle.crn_cert.specs.declared.answer.Gap.{Gap}

@@ -1,4 +1,4 @@
--- Of a settled course a text gives one thing or has one first fault, and never both; and what one course behind another does.
+-- Of a settled course a text gives one thing or has one first fault, and never both; and what one course after another does.
 use Rattle.std.proofs.Common.{◌≡◌, ◌⊎◌, ℕ, ◌<◌, List, [], ◌∷◌, length, refl, sym, ap, subst, ◌∙◌, inl, inr, arith}
 use Rattle.crn_io.specs.declared.lines.TheConstants.{MAX_DOCUMENT}
 use Rattle.crn_io.specs.Lines.{Place, IsLineAt, BreaksLine, document_too_long, line_too_long, otherwise, LacksLine, HasMore, early}
@@ -47,7 +47,7 @@ end_breaks_none at code none (document_too_long d) = none (λ e. absurd (let l :
 end_breaks_none at code none (line_too_long d l) = none (λ e. absurd (let n : length at.left ≡ 0 = ap length e in omega (arith, n, l.0)))
 end_breaks_none at code none (otherwise d l o) = none o
 
--- what is said of the place behind a line is said of the place behind the same line
+-- what holds of the place after a line holds of the place after the same line
 same_behind : (P : List ℕ → Place → Type 0) (at : Place) (line l : List ℕ) (behind b : Place) → IsLineAt at line behind → IsLineAt at l b → P l b → P line behind
 same_behind P at line l behind b p q h =
     let same = line_is_one at line l behind b p q in
@@ -101,7 +101,7 @@ settled_then (Line node next) f s t = λ line. settled_then (next line) f (s lin
 settled_then (Test n c X P next) f s t = (s.0, s.1, λ x p. settled_then (next x) f (s.2 x p) t)
 settled_then (End next) f s t = settled_then next f s t
 
--- it gives what the second gives behind the first
+-- it gives what the second gives after the first
 pub gives_then : {A B : Type 0} (c : Course A) (f : A → Course B) (at mid behind : Place) (x : A) (y : B) → Gives c at x mid → Gives (f x) mid y behind → Gives (c >>= f) at y behind
 unfolding Gives
 gives_then (Give z) f at mid behind x y p q = subst (λ (z : _). Gives (f z) at y behind) (sym p.0) (subst (λ (m : Place). Gives (f x) m y behind) (sym p.1) q)
@@ -120,7 +120,7 @@ fails_before (Test m c X P next) f at n code (inr p) = inr (p.0, p.1, fails_befo
 fails_before (End next) f at n code (inl p) = inl p
 fails_before (End next) f at n code (inr p) = inr (p.0, fails_before next f at n code p.1)
 
--- and what fails in the second fails behind the first
+-- and what fails in the second fails after the first
 pub fails_then : {A B : Type 0} (c : Course A) (f : A → Course B) (at mid : Place) (x : A) (n code : ℕ) → Gives c at x mid → FailsFirst (f x) mid n code → FailsFirst (c >>= f) at n code
 unfolding Gives FailsFirst
 fails_then (Give z) f at mid x n code p q = subst (λ (z : _). FailsFirst (f z) at n code) (sym p.0) (subst (λ (m : Place). FailsFirst (f x) m n code) (sym p.1) q)

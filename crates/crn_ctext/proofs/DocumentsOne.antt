@@ -1,4 +1,4 @@
--- Networks and formed answers are told apart by their documents, and the versions by the first line.
+-- Equal documents are of equal networks, equal formed answers and equal shares, and of one version.
 use Rattle.std.proofs.Common.{◌≡◌, ◌+◌, ◌≤◌, ◌==◌, ◌++◌, ◌∙◌, ℕ, if◌then◌else◌, List, [], ◌∷◌, length, map, refl, sym, ap, ap₂, subst, inl, inr, append_assoc, arith}
 use Rattle.std.specs.Prelude.{ℤ, pos, Bool, true, false, codes, decimal, slice_index}
 use Rattle.std.specs.List.{AllByRecursion, AllZip}
@@ -95,7 +95,7 @@ last_gone (x ∷ xs) (y ∷ ys) z e =
     let rest : xs ++ z ∷ [] ≡ ys ++ z ∷ [] = cc in
     ap₂ (λ (u : List ℕ) (us : List (List ℕ)). u ∷ us) first (last_gone xs ys z rest)
 
--- plain records with words, whose texts tell them apart
+-- plain records with words, which their texts determine
 abbrev Texts : List Record → Type 0
 Texts rs = AllPlain rs × AllWorded rs
 

@@ -1,4 +1,4 @@
--- The document of valid answers, written in one of the versions, goes through the course of documents to its end.
+-- The document of valid answers, written in one of the versions, is read by the course of documents to its end.
 use Rattle.std.proofs.Common.{◌≡◌, ◌+◌, ◌<◌, ◌≤◌, ◌++◌, ℕ, zero, suc, false, List, [], ◌∷◌, length, map, refl, sym, ap, subst, ◌∙◌, inl, inr, arith, append_assoc, ap₂}
 use Rattle.std.specs.Prelude.{ℤ, codes}
 use Rattle.std.specs.List.{AllByRecursion, AllZip, flat_map}

@@ -39,7 +39,7 @@ IsNoLine Line = ⊥
 IsNoLine Failed = ⊥
 IsNoLine answer = Unit {0}
 
--- what an answer says of what is left, it says of nothing where nothing is told
+-- what an answer says of what is left, it says of no bytes if the source does not show them
 told : (answer : Next) (taken : ℕ) (bytes : List ℕ) (after : Option (List ℕ)) (new : KeptLines) (rest : List ℕ) → IsRest after rest → NextIs answer taken bytes after new → NextIs answer taken bytes (Some rest) new
 told Line taken bytes after new rest r q = q
 told LineTooLong taken bytes after new rest r q = q

@@ -1,4 +1,4 @@
--- The course of a document is settled, where the tests of meaning are decided.
+-- The course of a document is settled, if the tests of meaning are decided.
 use Rattle.std.proofs.Common.{◌≡◌, ◌⊎◌, ◌==◌, ◌≤◌, ◌+◌, ◌++◌, ℕ, zero, suc, Bool, true, false, List, [], ◌∷◌, length, map, refl, sym, ap, subst, ◌∙◌, inl, inr, arith}
 use Rattle.std.specs.Prelude.{ℤ, replicate, codes, decimal}
 use Rattle.std.proofs.lemmas.List.{append_cancel_left}

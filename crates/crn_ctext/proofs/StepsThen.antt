@@ -1,4 +1,4 @@
--- One step of a reader behind another.
+-- One step of a reader after another.
 use Rattle.std.proofs.Common.{◌≡◌, ◌≤◌, ◌+◌, ◌++◌, ℕ, List, [], ◌∷◌, length, Option, Some, None, refl, sym, ap, subst, ◌∙◌, append_assoc, arith}
 use Rattle.std.proofs.lemmas.List.{length-append}
 use Rattle.crn_io.specs.Pull.{Consumes}
@@ -10,7 +10,7 @@ use Rattle.crn_io.specs.declared.lines.TheConstants.{MAX_AHEAD, MAX_DOCUMENT}
 use Rattle.crn_ctext.specs.Steps.{IsRest, StepGives, StepEnds, StepFails}
 use Rattle.crn_ctext.proofs.Courses.{gives_then, fails_before, fails_then}
 
--- no byte of a text is lost while a course goes through it
+-- no byte of a text is lost while a course reads it
 pub gives_counts : {A : Type 0} (c : Course A) (at behind : Place) (y : A) → Gives c at y behind → at.before + length at.left ≡ behind.before + length behind.left
 unfolding Gives
 gives_counts (Give x) at behind y g = ap (λ (p : Place). p.before + length p.left) g.1
@@ -21,7 +21,7 @@ gives_counts (Line node next) at behind y g = line g.0 g.1 g.2 (gives_counts (ne
 gives_counts (Test n code X P next) at behind y g = gives_counts (next g.0) at behind y g.2
 gives_counts (End next) at behind y g = gives_counts next at behind y g.1
 
--- what is pulled behind a step is counted from where the step began
+-- what is pulled after a step is counted from where the step began
 bound_then : {A : Type 0} (c : Course A) (x : A) (n m most : ℕ) (old mid : KeptLines) (left between : Option (List ℕ)) (p : StepGives c x n m old mid left between) (more : List ℕ)
     → mid.taken + length (mid.ahead ++ more) ≤ most → old.taken + length (old.ahead ++ (p.pulled ++ more)) ≤ most
 bound_then c x n m most old mid left between p more le =
@@ -67,12 +67,12 @@ step_ends_then c f x y n m k old mid new left between after p q = record {
 
 -- ---- the whole document
 
--- the text is what the source had left, where it tells it
+-- the text is what the source had left, if it shows that
 abbrev pub IsWhole : Option (List ℕ) → List ℕ → Type 0
 IsWhole None text = Unit {0}
 IsWhole (Some left) text = left ≡ text
 
--- Of a whole document: where a new reader fails, some text fails there, which is all that the source had left, where it tells that.
+-- Of a whole document: if a new reader fails, some text fails there, which is all that the source had left, if it shows that.
 pub fails_of_a_text : {A : Type 0} (c : Course A) (start : KeptLines) (left after : Option (List ℕ)) (line code : ℕ) → start.ahead ≡ [] → start.taken ≡ 0
     → StepFails c 1 start left after line code → (text : List ℕ) × IsWhole left text × FailsFirst c (beginning text) line code
 fails_of_a_text c start left after line code none zero p = by left after p.off (let g = p.fails in g)
@@ -86,7 +86,7 @@ fails_of_a_text c start left after line code none zero p = by left after p.off (
     by (Some text) None off fails = absurd (let e = off.1 in cc)
     by (Some text) (Some r) off fails = let same : r ≡ off.0 = let e = off.1 in cc in (text, refl, here text (subst (λ (t : List ℕ). FailsFirst c (place 1 start t) line code) (sym off.2) (fails off.0 same)))
 
--- and where it goes through to the end, some text gives this, which is all that the source had left, where it tells that
+-- and if it reads to the end, some text gives this, which is all that the source had left, if it shows that
 pub gives_of_a_text : {A : Type 0} (c : Course A) (y : A) (m : ℕ) (start new : KeptLines) (left after : Option (List ℕ)) → start.ahead ≡ [] → start.taken ≡ 0
     → StepEnds c y 1 m start new left after → (text : List ℕ) × IsWhole left text × ((behind : Place) × Gives c (beginning text) y behind)
 gives_of_a_text c y m start new left after none zero p = by left after p.off (let g = p.gives in g)

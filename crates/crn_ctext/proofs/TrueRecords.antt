@@ -1,14 +1,10 @@
 -- What valid records of the built questions say is true.
 use Rattle.std.proofs.Common.{List, [], ◌∷◌, refl, sym, subst, inl, inr}
 use Rattle.crn_vec.specs.Network.{Net, IsNetwork}
-use Rattle.crn_cert.specs.declared.answer.Gap.TheVariants.{Wide, Budget, Rests}
 use Rattle.crn_cert.specs.declared.answer.Verdict.{Verdict}
-use Rattle.crn_cert.specs.declared.answer.Verdict.TheVariants.{Unknown}
-use Rattle.crn_cert.specs.declared.answer.Proof.{Proof}
 use Rattle.crn_cert.specs.declared.answer.Answer.{Answer}
 use Rattle.crn_cert.specs.Questions.{Question, Q1, Q2, Q3}
-use Rattle.crn_cert.specs.Says.{IsTrueOf}
-use Rattle.crn_cert.specs.Formed.{IsFormedOf, AreFormed}
+use Rattle.crn_cert.specs.Formed.{AreFormed}
 use Rattle.crn_cert.specs.Valid.{AreValid}
 use Rattle.crn_cert.specs.Law.{AllTrueOrOpen, AreBuilt}
 use Rattle.crn_vec.specs.Lists.{IsIn}
