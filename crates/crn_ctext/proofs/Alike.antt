@@ -1,41 +1,13 @@
 -- Verdicts with the same numbers and lists, whatever their spare room, say the same to later questions.
 use Rattle.std.proofs.Common.{◌≡◌, ◌==◌, ◌++◌, ◌∙◌, Bool, if◌then◌else◌, [], ◌∷◌, map, refl, sym, ap, ap₂, subst, inl, inr}
 use Rattle.std.proofs.lemmas.Bool.{cases_Bool}
-use Rattle.crn_vec.specs.Kept.{KeptInts, KeptNums}
-use Rattle.crn_cert.specs.declared.answer.Gap.{Gap}
-use Rattle.crn_cert.specs.declared.answer.Gap.TheVariants.{Wide, Budget, Rests}
 use Rattle.crn_cert.specs.declared.answer.Verdict.{Verdict}
-use Rattle.crn_cert.specs.declared.answer.Verdict.TheVariants.{Classes, Strong, Rank, Deficiency, YesVec, YesSignal, NoVec, NoCycle, NoPair, Plane, Unknown}
+use Rattle.crn_cert.specs.declared.answer.Verdict.TheVariants.{Classes, Strong}
 use Rattle.crn_cert.specs.Questions.{Earlier, Question, number, on, labels_of}
+use Rattle.crn_ctext.specs.Same.{said}
 use Rattle.crn_ctext.specs.Meaning.{Known}
 
--- ---- without spare room
-
-abbrev bare : KeptNums → KeptNums
-bare xs = record { list = xs.list; spare = 0 }
-
-abbrev bare_ints : KeptInts → KeptInts
-bare_ints zs = record { list = zs.list; spare = 0 }
-
-abbrev pub said_gap : Gap → Gap
-said_gap (Wide system class index basis) = Wide system class index (bare basis)
-said_gap (Budget nodes) = Budget nodes
-said_gap (Rests question) = Rests question
-
--- the verdict without spare room
-abbrev pub said : Verdict → Verdict
-said (Classes count label) = Classes count (bare label)
-said (Strong count terminal label exit) = Strong count terminal (bare label) (bare exit)
-said (Rank rank base) = Rank rank (bare base)
-said (Deficiency total classes) = Deficiency total (bare classes)
-said (YesVec vector) = YesVec (bare_ints vector)
-said (YesSignal turn shelves mu m weights) = YesSignal turn (bare_ints shelves) (bare_ints mu) m (bare_ints weights)
-said (NoVec multipliers) = NoVec (bare_ints multipliers)
-said (NoCycle reaction walk) = NoCycle reaction (bare walk)
-said (NoPair alpha weights) = NoPair (bare_ints alpha) (bare_ints weights)
-said (Plane first second one two) = Plane first second (bare_ints one) (bare_ints two)
-said (Unknown gap) = Unknown (said_gap gap)
-said verdict = verdict
+-- ---- earlier verdicts
 
 -- earlier verdicts without spare room
 abbrev pub all_said : Earlier → Earlier

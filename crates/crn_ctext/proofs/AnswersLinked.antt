@@ -5,6 +5,8 @@ use Rattle.std.specs.List.{AllByRecursion}
 use Rattle.std.proofs.lemmas.Int.{ints}
 use Rattle.std.proofs.lemmas.List.{append-nil, length-map}
 use Rattle.crn_vec.specs.Network.{Net}
+use Rattle.crn_vec.specs.Kept.{KeptNums}
+use Rattle.crn_cert.specs.Trees.{Plan}
 use Rattle.crn_cert.specs.declared.answer.Gap.TheVariants.{Wide, Budget, Rests}
 use Rattle.crn_cert.specs.declared.answer.Verdict.{Verdict}
 use Rattle.crn_cert.specs.declared.answer.Verdict.TheVariants.{Classes, Strong, Yes, NoReaction, Unknown}
@@ -24,12 +26,13 @@ use Rattle.crn_ctext.specs.Blocks.{Problem, head_claims, row_claims, is_open, un
 use Rattle.crn_ctext.specs.Documents.{Parts, IsFormed, AreTrees, IsGoodLeaf, IsOneOf, leaf_forms}
 use Rattle.crn_ctext.specs.Documents as documents
 use Rattle.crn_ctext.specs.Answers.{small_record, head_of, records_below, proof_nodes, records, all_records}
-use Rattle.crn_ctext.specs.Meaning.{Known, shapes_of, sizes_of, verdict_of, meaning}
+use Rattle.crn_ctext.specs.Meaning.{Known, shapes_of, sizes_of, verdict_of, proof_of, meaning}
 use Rattle.crn_cert.specs.Built.{built}
 use Rattle.crn_ctext.specs.Judged.{AreFormedOf}
 use Rattle.crn_ctext.specs.Linked.{records_of}
 use Rattle.crn_ctext.proofs.AnswersApart.{block_apart}
-use Rattle.crn_ctext.proofs.Alike.{said, IsAlike, alike_then, labels_alike}
+use Rattle.crn_ctext.specs.Same.{said, shown, AreSame}
+use Rattle.crn_ctext.proofs.Alike.{IsAlike, alike_then, labels_alike}
 use Rattle.crn_vec.specs.declared.signs.Sign.{Sign}
 
 -- ---- lists
@@ -55,12 +58,13 @@ small_fits word count least greatest xs p =
 abbrev pub parts : (q : Question) (known : Known) (a : Answer) → Parts (records q (shapes_of known) a)
 parts q known a = record { head = head_of q a.verdict; rows = records_below (shapes_of known) a; nodes = proof_nodes a.proof; all = refl }
 
--- the records are formed, their tests are those of the answer, and they say its verdict
+-- the records are formed, their tests are those of the answer, and they say its verdict and its proof
 pub record IsLinked (known : Known) (earlier : Earlier) (q : Question) (a : Answer) : Type 1 where
   pub formed : IsFormed meaning q known (records q (shapes_of known) a) (parts q known a)
   pub heads : head_claims meaning q known (head_of q a.verdict) ≡ head_tests known.net earlier q a.verdict
   pub rows : row_claims meaning q known (head_of q a.verdict) (records_below (shapes_of known) a) ≡ row_tests known.net earlier q a.verdict a.proof
   pub says : said (verdict_of q (sizes_of known) (head_of q a.verdict) (records_below (shapes_of known) a)) ≡ said a.verdict
+  pub shows : shown (proof_of q (shapes_of known) (head_of q a.verdict) (records_below (shapes_of known) a)) ≡ shown a.proof
 
 abbrev answer : Verdict → Proof → Answer
 answer v p = record { verdict = v; proof = p }
@@ -85,6 +89,7 @@ linkage_linked known earlier (Classes count label) (Forest up depth) f =
       heads = refl;
       rows = ap₂ (λ (x y : List ℕ). linkage_tests known.net count x y (map nat_abs (map pos depth.list))) (back_again label.list) (back_again up.list) ∙ ap (λ (z : List ℕ). linkage_tests known.net count label.list up.list z) (back_again depth.list);
       says = ap (λ (x : List ℕ). Classes count (record { list = x; spare = 0 })) (back_again label.list);
+      shows = ap₂ (λ (x y : List ℕ). (Forest (record { list = x; spare = 0 }) (record { list = y; spare = 0 }), [])) (back_again up.list) (back_again depth.list);
     }
 linkage_linked known earlier (Unknown (Wide system class index basis)) p f = absurd f.0
 linkage_linked known earlier (Unknown (Budget nodes)) p f = absurd f.0
@@ -99,8 +104,15 @@ strong_tests net count terminal label from from_depth to to_depth level exit =
     test 1 31 (AreNumbered label count) ∷ test 3 31 (AreFromTrees net label from from_depth) ∷ test 5 31 (AreToTrees net label to to_depth) ∷ test 6 31 (DoLevelsFall net label level)
     ∷ test 7 31 (AreAllExits net label exit) ∷ test 7 36 (zeros_in exit ≡ terminal) ∷ []
 
+-- the trees of strong classes without spare room
+trees_shown : (from from_depth to to_depth level : List ℕ) → Proof × List Plan
+trees_shown from from_depth to to_depth level = (StrongTrees (kept from) (kept from_depth) (kept to) (kept to_depth) (kept level), [])
+  where
+    kept : List ℕ → KeptNums
+    kept xs = record { list = xs; spare = 0 }
+
 strong_linked : (known : Known) (earlier : Earlier) (v : Verdict) (p : Proof) → IsFormedOf known.net earlier Q2 v p → IsLinked known earlier Q2 (answer v p)
-unfolding strong_tests
+unfolding strong_tests trees_shown
 strong_linked known earlier (Strong count terminal label exit) (StrongTrees from from_depth to to_depth level) f =
     let net = known.net in
     let c = length net.complexes in
@@ -135,6 +147,9 @@ strong_linked known earlier (Strong count terminal label exit) (StrongTrees from
           ∙ ap₂ (λ (x y : List ℕ). strong_tests net count terminal label.list from.list from_depth.list to.list x y (twice exit.list)) (back_again to_depth.list) (back_again level.list)
           ∙ ap (λ (x : List ℕ). strong_tests net count terminal label.list from.list from_depth.list to.list to_depth.list level.list x) (back_again exit.list);
       says = ap₂ (λ (x y : List ℕ). Strong count terminal (record { list = x; spare = 0 }) (record { list = y; spare = 0 })) (back_again label.list) (back_again exit.list);
+      shows = ap₂ (λ (x y : List ℕ). trees_shown x y (twice to.list) (twice to_depth.list) (twice level.list)) (back_again from.list) (back_again from_depth.list)
+          ∙ ap₂ (λ (x y : List ℕ). trees_shown from.list from_depth.list x y (twice level.list)) (back_again to.list) (back_again to_depth.list)
+          ∙ ap (λ (x : List ℕ). trees_shown from.list from_depth.list to.list to_depth.list x) (back_again level.list);
     }
 strong_linked known earlier (Unknown (Wide system class index basis)) p f = absurd f.0
 strong_linked known earlier (Unknown (Budget nodes)) p f = absurd f.0
@@ -160,6 +175,7 @@ reversible_linked known earlier Yes (Back back) f =
       heads = refl;
       rows = ap (λ (x : List ℕ). reverse_tests known.net x) (back_again back.list);
       says = refl;
+      shows = ap (λ (x : List ℕ). (Back (record { list = x; spare = 0 }), [])) (back_again back.list);
     }
 reversible_linked known earlier (NoReaction n) Nothing f =
     record {
@@ -167,6 +183,7 @@ reversible_linked known earlier (NoReaction n) Nothing f =
       heads = refl;
       rows = refl;
       says = refl;
+      shows = refl;
     }
 reversible_linked known earlier (Unknown (Wide system class index basis)) p f = absurd f.0
 reversible_linked known earlier (Unknown (Budget nodes)) p f = absurd f.0
@@ -191,6 +208,7 @@ weak_linked known earlier Yes Nothing e f =
       heads = ap (λ (x : List ℕ). weak_tests known.net x) e;
       rows = refl;
       says = refl;
+      shows = refl;
     }
 weak_linked known earlier (NoReaction n) Nothing e f =
     record {
@@ -198,6 +216,7 @@ weak_linked known earlier (NoReaction n) Nothing e f =
       heads = ap (λ (x : List ℕ). leave_tests known.net n x) e;
       rows = refl;
       says = refl;
+      shows = refl;
     }
 weak_linked known earlier (Unknown (Wide system class index basis)) p e f = absurd f.0
 weak_linked known earlier (Unknown (Budget nodes)) p e f = absurd f.0
@@ -310,3 +329,34 @@ back_by (q ∷ qs) links known earlier (a ∷ answers) e f v =
 
 pub records_valid : (net : Net) (answers : List Answer) → AreFormed net [] built answers → documents.AreValid meaning built (meaning.start net) (records_of net answers) → AreValid net [] built answers
 records_valid net answers f v = back_by built built_linked (meaning.start net) [] answers refl f v
+
+-- ---- answers with the same records
+
+-- equal records are of answers that are the same
+same_by : (qs : List Question) → AreLinkedFor qs → (known : Known) (earlier later : Earlier) (answers others : List Answer) → IsAlike known earlier → IsAlike known later → AreFormed known.net earlier qs answers → AreFormed known.net later qs others
+    → all_records meaning qs known answers ≡ all_records meaning qs known others → AreSame answers others
+unfolding all_records
+same_by [] links known earlier later [] [] d e f g r = refl
+same_by [] links known earlier later [] (b ∷ others) d e f g r = absurd g
+same_by [] links known earlier later (a ∷ answers) others d e f g r = absurd f
+same_by (q ∷ qs) links known earlier later [] others d e f g r = absurd f
+same_by (q ∷ qs) links known earlier later (a ∷ answers) [] d e f g r = absurd g
+same_by (q ∷ qs) links known earlier later (a ∷ answers) (b ∷ others) d e f g r =
+    let k = links.0 known earlier a.verdict a.proof d f.0 in
+    let l = links.0 known later b.verdict b.proof e g.0 in
+    let h = first_same (records q (shapes_of known) a) (records q (shapes_of known) b) (all_records meaning qs (behind q known a) answers) (all_records meaning qs (behind q known b) others) r in
+    let block : records q (shapes_of known) a ++ [] ≡ records q (shapes_of known) b ++ [] = ap (λ (t : List Record). t ++ []) h.0 in
+    let same = (block_apart meaning q known (records q (shapes_of known) a) (records q (shapes_of known) b) [] [] (parts q known a) (parts q known b) k.formed l.formed block).1 in
+    let verdicts : said a.verdict ≡ said b.verdict = sym k.says ∙ ap₂ (λ (x : Record) (xs : List Record). said (verdict_of q (sizes_of known) x xs)) same.0 same.1 ∙ l.says in
+    let proofs : shown a.proof ≡ shown b.proof = sym k.shows ∙ ap₂ (λ (x : Record) (xs : List Record). shown (proof_of q (shapes_of known) x xs)) same.0 same.1 ∙ l.shows in
+    let next : behind q known a ≡ behind q known b = ap₂ (λ (x : Record) (xs : List Record). meaning.learn q known x xs) same.0 same.1 in
+    let rest : all_records meaning qs (behind q known a) answers ≡ all_records meaning qs (behind q known a) others = h.1 ∙ ap (λ (x : Known). all_records meaning qs x others) (sym next) in
+    let alike : IsAlike (behind q known a) (later ++ (q, b.verdict) ∷ []) = subst (λ (x : Known). IsAlike x (later ++ (q, b.verdict) ∷ [])) (sym next) (alike_behind q known later b e l) in
+    let more = same_by qs links.1 (behind q known a) (earlier ++ (q, a.verdict) ∷ []) (later ++ (q, b.verdict) ∷ []) answers others (alike_behind q known earlier a d k) alike f.1 g.1 rest in
+    ap₂ (λ (x : Verdict × (Proof × List Plan)) (xs : List (Verdict × (Proof × List Plan))). x ∷ xs) (ap₂ (λ (v : Verdict) (p : Proof × List Plan). (v, p)) verdicts proofs) more
+  where
+    first_same : (x y : List Record) (xs ys : List (List Record)) → x ∷ xs ≡ y ∷ ys → (x ≡ y) × (xs ≡ ys)
+    first_same x y xs ys e = (cc, cc)
+
+pub answers_same : (net : Net) (answers others : List Answer) → AreFormed net [] built answers → AreFormed net [] built others → records_of net answers ≡ records_of net others → AreSame answers others
+answers_same net answers others f g r = same_by built built_linked (meaning.start net) [] [] answers others refl refl f g r

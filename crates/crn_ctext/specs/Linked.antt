@@ -15,6 +15,7 @@ use Rattle.crn_ctext.specs.Meaning.{meaning, verdicts_said}
 use Rattle.crn_cert.specs.Built.{built}
 use Rattle.crn_ctext.specs.Blocks.{ReadOf}
 use Rattle.crn_ctext.specs.Documents.{Share, FitsShare, share_of, document, document2}
+use Rattle.crn_ctext.specs.Same.{AreSame}
 use Rattle.crn_ctext.specs.Judged.{AreFormedOf, IsReadOf, IsGoodOf}
 
 -- the records of answers to the built questions
@@ -81,3 +82,22 @@ SharedDocumentsAreGood =
 abbrev pub SharesFit : Type 0
 SharesFit = (net : Net) (answers : List Answer) → AreFormed net [] built answers
     → FitsShare (records_of net answers) (share_of (records_of net answers))
+
+-- equal documents of formed answers are of equal networks and of answers that are the same
+abbrev pub AnswersAreOne : Type 0
+AnswersAreOne =
+    (net other : Net) (answers others : List Answer) → IsNetwork net → IsNetwork other
+    → AreFormed net [] built answers → AreFormed other [] built others
+    → document net (records_of net answers) ≡ document other (records_of other others)
+    → (net ≡ other) × AreSame answers others
+
+-- so it is with shared lists, which are also the same
+abbrev pub SharedAnswersAreOne : Type 0
+SharedAnswersAreOne =
+    (net other : Net) (answers others : List Answer) (share another : Share)
+    → IsNetwork net → IsNetwork other
+    → AreFormed net [] built answers → AreFormed other [] built others
+    → FitsShare (records_of net answers) share → FitsShare (records_of other others) another
+    → document2 built net (records_of net answers) share
+    ≡ document2 built other (records_of other others) another
+    → (net ≡ other) × AreSame answers others × (share ≡ another)
