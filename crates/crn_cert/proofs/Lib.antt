@@ -27,3 +27,4 @@ mod VerdictsFormed
 mod TreesDecided
 mod CutShares
 mod TopsCounted
+mod ShareTables

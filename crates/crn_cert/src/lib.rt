@@ -6,6 +6,7 @@ mod answers;
 mod laws;
 mod rank_list;
 mod rows;
+mod share;
 #[cfg(test)]
 mod tests;
 mod tree;
@@ -20,5 +21,6 @@ pub use laws::{
 };
 pub use rank_list::RankList;
 pub use rows::Rows;
+pub use share::{Share, share_of};
 pub use tree::Tree;
 pub use verdicts::Verdicts;

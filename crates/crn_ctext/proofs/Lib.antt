@@ -1,3 +1,9 @@
+mod Pieces
+mod WrittenLines
+mod WrittenLeaves
+mod WrittenBlocks
+mod WrittenAnswers
+mod Counted
 pub mod CallerLemmas
 mod Courses
 mod Written
@@ -40,3 +46,12 @@ mod TrueRecords
 mod GoodLaws
 mod DueSteps
 mod WordsApart
+mod FormedExamples
+mod LineNumbers
+mod LineCame
+mod LineShapes
+mod LineCapped
+mod LineForms
+mod LineTries
+mod LineSought
+mod LineRows

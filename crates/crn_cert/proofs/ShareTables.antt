@@ -1,0 +1,152 @@
+-- The tables of shares: the first distinct lists, one cut after another, and the numbers of lists.
+use Rattle.std.proofs.Common.{Bor, Option, ◌≡◌, ◌⊎◌, ◌≤◌, ◌<◌, inl, inr, ℕ, zero, suc, ◌+◌, ◌-◌, Bool, true, false, ◌||◌, cond, if◌then◌else◌, min, List, [], ◌∷◌, ◌++◌, length, map, take, get_or, slice_get, Some, None, refl, sym, ap, subst, ◌∙◌, take_all, append_assoc, add-one, arith}
+use Rattle.std.specs.Prelude.{ℤ, ◌≢◌}
+use Rattle.std.specs.List.{list_any, position}
+use Rattle.std.proofs.lemmas.List.Quantifiers.{position-Some}
+use Rattle.std.specs.Ordering.{int_eq}
+use Rattle.std.specs.Cmp.Lexicographic.{pointwise}
+use Rattle.std.specs.Cmp.Rules.{signed_items}
+use Rattle.std.proofs.lemmas.Bool.{cases_Bool, cases_lt, true≢false}
+use Rattle.std.proofs.lemmas.List.{append-nil, map-append, length-append, length-map, length-take, take-append-le, take_more}
+use Rattle.indexmap.specs.IndexSet.{insert_key}
+use Rattle.crn_vec.specs.Lists.{IsIn, firsts}
+use Rattle.crn_vec.proofs.CallerLemmas.{firsts_known, firsts_new, firsts_from, firsts_has}
+use Rattle.crn_cert.specs.declared.answer.Answer.{Answer}
+use Rattle.crn_cert.specs.Shares.{cuts_in, all_cuts, number_in}
+
+abbrev same : List ℤ → List ℤ → Bool
+same = pointwise int_eq
+
+-- ---- cuts
+
+cuts_next : (xs : List Answer) (k : ℕ) (a : Answer) → slice_get xs k ≡ Some a → all_cuts (take (suc k) xs) ≡ all_cuts (take k xs) ++ cuts_in a.proof
+cuts_next [] k a e = absurd cc
+cuts_next (x ∷ xs) zero a e = let f : x ≡ a = cc in append-nil (cuts_in x.proof) ∙ ap (λ (y : Answer). cuts_in y.proof) f
+cuts_next (x ∷ xs) (suc k) a e = ap (λ (t : List (List ℤ)). cuts_in x.proof ++ t) (cuts_next xs k a e) ∙ sym (append_assoc (cuts_in x.proof) (all_cuts (take k xs)) (cuts_in a.proof))
+
+-- the cuts of one answer more
+pub cuts_step : (xs : List Answer) (k : ℕ) (a : Answer) → slice_get xs (k + 1 - 1) ≡ Some a → all_cuts (take (k + 1) xs) ≡ all_cuts (take k xs) ++ cuts_in a.proof
+cuts_step xs k a e =
+    let f : k + 1 - 1 ≡ k = omega arith in
+    rw add-one (cuts_next xs k a (ap (λ (j : ℕ). slice_get xs j) (sym f) ∙ e))
+
+-- ---- tables
+
+any_in : (ts : List (List ℤ)) (u : List ℤ) → list_any (same u) ts ≡ true → IsIn u ts
+any_in [] u e = absurd cc
+any_in (t ∷ ts) u e = elim (cases_Bool (same u t)) [
+  | inl hit ↦ inl ((signed_items u t).0 hit)
+  | inr miss ↦ let rest : list_any (same u) ts ≡ true = rw miss at e in inr (any_in ts u rest)
+]
+
+in_any : (ts : List (List ℤ)) (u : List ℤ) → IsIn u ts → list_any (same u) ts ≡ true
+in_any [] u h = absurd h
+in_any (t ∷ ts) u (inl e) = let hit : same u t ≡ true = (signed_items u t).1 e in rw hit refl
+in_any (t ∷ ts) u (inr h) = elim (cases_Bool (same u t)) [
+  | inl hit ↦ rw hit refl
+  | inr miss ↦ rw miss (in_any ts u h)
+]
+
+known_or_new : (us : List (List ℤ)) (u : List ℤ) → (IsIn u us × (firsts same (us ++ u ∷ []) ≡ firsts same us)) ⊎ ((IsIn u us → ⊥) × (firsts same (us ++ u ∷ []) ≡ firsts same us ++ u ∷ []))
+known_or_new us u = elim (cases_Bool (list_any (same u) us)) [
+  | inl hit ↦ let i = any_in us u hit in inl (i, firsts_known same signed_items us u i)
+  | inr miss ↦ let apart : IsIn u us → ⊥ = λ i. true≢false (sym (in_any us u i) ∙ miss) in inr (apart, firsts_new same signed_items us u apart)
+]
+
+-- no room: the table stays
+full_table : (most : ℕ) (fs gs : List (List ℤ)) (u : List ℤ) → most ≤ length (take most fs) → (gs ≡ fs) ⊎ (gs ≡ fs ++ u ∷ []) → take most gs ≡ take most fs
+full_table most fs gs u full (inl e) = ap (take most) e
+full_table most fs gs u full (inr e) = ap (take most) e ∙ take-append-le most fs (u ∷ []) (omega (arith, full, length-take most fs))
+
+whole_table : (most : ℕ) (fs : List (List ℤ)) → length (take most fs) < most → take most fs ≡ fs
+whole_table most fs room = take_all most fs (omega (arith, room, length-take most fs))
+
+not_there : (us : List (List ℤ)) (u : List ℤ) → (IsIn u us → ⊥) → list_any (same u) (firsts same us) ≡ false
+not_there us u apart = elim (cases_Bool (list_any (same u) (firsts same us))) [
+  | inl hit ↦ absurd (apart (firsts_from same us u (any_in (firsts same us) u hit)))
+  | inr miss ↦ miss
+]
+
+either : (us : List (List ℤ)) (u : List ℤ) → (firsts same (us ++ u ∷ []) ≡ firsts same us) ⊎ (firsts same (us ++ u ∷ []) ≡ firsts same us ++ u ∷ [])
+either us u = elim (known_or_new us u) [ inl known ↦ inl known.1 | inr added ↦ inr added.1 ]
+
+-- the table with one cut more
+pub next_table : (most : ℕ) (us : List (List ℤ)) (u : List ℤ) (old new : List (List ℤ)) → old ≡ take most (firsts same us) → (most ≤ length old → new ≡ old) → (length old < most → new ≡ insert_key same old u)
+    → new ≡ take most (firsts same (us ++ u ∷ []))
+next_table most us u old new is full room = elim (cases_lt (length old) most) [
+  | inl lt ↦
+      let few : length (take most (firsts same us)) < most = rw is at lt in
+      let all = whole_table most (firsts same us) few in
+      let short : length (firsts same us) < most = rw all at few in
+      let was : old ≡ firsts same us = is ∙ all in
+      let added : new ≡ insert_key same (firsts same us) u = rw was at (room lt) in
+      elim (known_or_new us u) [
+        | inl known ↦
+            let there : list_any (same u) (firsts same us) ≡ true = in_any (firsts same us) u (firsts_has same signed_items us u known.0) in
+            let kept : insert_key same (firsts same us) u ≡ firsts same us = rw there refl in
+            added ∙ kept ∙ sym all ∙ ap (take most) (sym known.1)
+        | inr new_one ↦
+            let there : list_any (same u) (firsts same us) ≡ false = not_there us u new_one.0 in
+            let kept : insert_key same (firsts same us) u ≡ firsts same us ++ u ∷ [] = rw there refl in
+            let fits = take_all most (firsts same us ++ u ∷ []) (omega (arith, short, length-append (firsts same us) (u ∷ []))) in
+            added ∙ kept ∙ sym fits ∙ ap (take most) (sym new_one.1)
+      ]
+  | inr le ↦
+      let much : most ≤ length (take most (firsts same us)) = rw is at le in
+      full le ∙ is ∙ sym (full_table most (firsts same us) (firsts same (us ++ u ∷ [])) u much (either us u))
+]
+
+-- ---- keys of a set, which are references
+
+any_seen : (k : Bor (List ℤ)) (ks : List (Bor (List ℤ))) → list_any (λ t. same k.now t.now) ks ≡ list_any (same k.now) (map (λ u. u.now) ks)
+any_seen k [] = refl
+any_seen k (t ∷ ks) = ap (λ (b : Bool). same k.now t.now || b) (any_seen k ks)
+
+if_seen : (b : Bool) (ks : List (Bor (List ℤ))) (k : Bor (List ℤ)) → map (λ u. u.now) (if b then ks else ks ++ k ∷ []) ≡ (if b then map (λ u. u.now) ks else map (λ u. u.now) ks ++ k.now ∷ [])
+if_seen true ks k = refl
+if_seen false ks k = map-append (λ u. u.now) ks (k ∷ [])
+
+-- the lists that keys refer to, with one key more
+pub keys_seen : (ks : List (Bor (List ℤ))) (k : Bor (List ℤ)) → map (λ u. u.now) (insert_key (λ x y. same x.now y.now) ks k) ≡ insert_key same (map (λ u. u.now) ks) k.now
+keys_seen ks k =
+    if_seen (list_any (λ t. same k.now t.now) ks) ks k
+    ∙ ap (λ (b : Bool). if b then map (λ u. u.now) ks else map (λ u. u.now) ks ++ k.now ∷ []) (any_seen k ks)
+
+-- the cuts that references refer to, one more
+pub seen_more : (ks : List (Bor (List ℤ))) (i : ℕ) (d : Bor (List ℤ)) → i < length ks → map (λ u. u.now) (take (i + 1) ks) ≡ map (λ u. u.now) (take i ks) ++ (get_or ks i d).now ∷ []
+seen_more ks i d lt = ap (map (λ u. u.now)) (take_more ks i d lt) ∙ map-append (λ u. u.now) (take i ks) (get_or ks i d ∷ [])
+
+-- ---- numbers of lists
+
+flip : (t u : List ℤ) → same t u ≡ true → same u t ≡ true
+flip t u h = (signed_items u t).1 (sym ((signed_items t u).0 h))
+
+flip_not : (t u : List ℤ) → same t u ≡ false → same u t ≡ false
+flip_not t u h = elim (cases_Bool (same u t)) [ inl hit ↦ absurd (true≢false (sym (flip u t hit) ∙ h)) | inr miss ↦ miss ]
+
+number_found : (k : ℕ) (ts : List (Bor (List ℤ))) (u : List ℤ) (i : ℕ) (d : Bor (List ℤ)) → i < length ts → same u (get_or ts i d).now ≡ true → ((j : ℕ) → j < i → same u (get_or ts j d).now ≡ false)
+    → number_in k (map (λ u. u.now) ts) u ≡ k + i
+number_found k [] u i d lt hit before = absurd (omega arith)
+number_found k (t ∷ ts) u zero d lt hit before = let h = flip u t.now hit in rw h (omega arith)
+number_found k (t ∷ ts) u (suc i) d lt hit before =
+    let h = flip_not u t.now (before 0 (omega arith)) in
+    let rest = number_found (k + 1) ts u i d (omega arith) hit (λ j less. before (suc j) (omega arith)) in
+    rw h (omega (arith, rest))
+
+-- the number of a list that a search found, and 0 for one that no key equals
+pub number_some : (ts : List (Bor (List ℤ))) (u : List ℤ) (i : ℕ) (d : Bor (List ℤ)) → position (λ t. same u t.now) ts ≡ Some i → number_in 1 (map (λ u. u.now) ts) u ≡ i + 1
+number_some ts u i d e = let h = position-Some (λ t. same u t.now) ts i d e in number_found 1 ts u i d h.0 h.1 h.2 ∙ omega arith
+
+pub number_zero : (k : ℕ) (ts : List (Bor (List ℤ))) (u : List ℤ) → list_any (λ t. same u t.now) ts ≡ false → number_in k (map (λ u. u.now) ts) u ≡ 0
+number_zero k [] u e = refl
+number_zero k (t ∷ ts) u e = elim (cases_Bool (same u t.now)) [
+  | inl hit ↦ absurd (true≢false (rw hit at e))
+  | inr miss ↦
+      let h = flip_not u t.now miss in
+      let rest : list_any (λ t. same u t.now) ts ≡ false = rw miss at e in
+      rw h (number_zero (k + 1) ts u rest)
+]
+
+-- a set whose keys refer to a table has no more keys than the table
+pub few_keys : (most : ℕ) (keys : List (Bor (List ℤ))) (fs : List (List ℤ)) → map (λ u. u.now) keys ≡ take most fs → length keys ≤ most
+few_keys most keys fs e = let f = ap length e in omega (arith, f, length-map keys (λ u. u.now), length-take most fs)

@@ -1,0 +1,5 @@
+use Rattle.std.proofs.Common.{◌≡◌, map, take}
+use Rattle.crn_cert.proofs.share.rows_of.Given as goal
+
+abbrev pub invariant-loop-list : goal.invariant-loop-list
+invariant-loop-list l = l.rows ≡ map (λ u. u.now) (take l.list-index l.lists.keys)

@@ -1,0 +1,516 @@
+-- The answers to the questions that are built, xs documents write them.
+use Rattle.std.proofs.Common.{◌↔◌, ap₂, subst, cond, filter, ◌≤◌, ℤ, if◌then◌else◌, ◌≡◌, ℕ, zero, suc, ◌+◌, ◌<◌, Bool, true, false, List, [], ◌∷◌, ◌++◌, length, map, take, codes, refl, sym, ap, ◌∙◌, append_assoc, arith}
+use Rattle.std.specs.List.{AllByRecursion, AllZip, flat_map}
+use Rattle.std.specs.Ordering.{int_eq}
+use Rattle.std.specs.Cmp.Lexicographic.{pointwise}
+use Rattle.std.proofs.lemmas.List.{map-append}
+use Rattle.std.proofs.lemmas.List.Elements.{filter-append}
+use Rattle.crn_vec.specs.Lists.{firsts}
+use Rattle.crn_io.specs.declared.lines.TheConstants.{MAX_SHARED, MAX_NUMBERS}
+use Rattle.crn_cert.specs.Ranges as ranges
+use Rattle.crn_cert.specs.Trees.{plan}
+use Rattle.crn_cert.specs.Shares.{Shared, StandsAt, IsShareable, FitsAnswers, cuts_of, cuts_in, all_cuts, number_in, share_of_cuts, share_of}
+use Rattle.crn_cert.specs.declared.tree.Tree.{Tree, Split', CutA, CutB, Flat, Held-Tree-Split-2, None', Some'}
+use Rattle.crn_ctext.specs.Documents as documents
+use Rattle.crn_ctext.specs.Shares.{as_share}
+use Rattle.std.proofs.lemmas.List.{append-nil}
+use Rattle.crn_vec.specs.Network.{Net}
+use Rattle.crn_cert.specs.Built.{built}
+use Rattle.crn_cert.specs.Formed.{AreFormed, IsFormed, RowsMayBe, RowsLinkage, RowsStrong, RowsReversible, RowsWeak}
+use Rattle.crn_cert.specs.Questions.{Earlier, Question, Q1, Q2, Q3, Q4, questions}
+use Rattle.crn_cert.specs.declared.answer.Verdict.{Verdict}
+use Rattle.crn_cert.specs.declared.answer.Verdict.TheVariants.{Classes, Strong, Rank, Deficiency, Yes, YesWeak, YesVec, YesSignal, No, NoReaction, NoVec, NoNumber, NoTerminal, NoClass, NoSum, NoDependence, NoCycle, NoPair, NotRegular, OnlyZero, Plane, NotApplicable, Unknown}
+use Rattle.crn_cert.specs.declared.answer.Proof.{Proof}
+use Rattle.crn_cert.specs.declared.answer.Proof.TheVariants as proof
+use Rattle.crn_cert.specs.declared.answer.Answer.{Answer}
+use Rattle.crn_ctext.specs.Records.{Record, IsNarrow}
+use Rattle.crn_ctext.specs.Questions.{Shapes, opens}
+use Rattle.crn_ctext.specs.Blocks.{ended}
+use Rattle.crn_ctext.specs.Answers.{records, all_records, head_of, records_below, proof_records, proof_nodes, nodes, nodes_behind}
+use Rattle.crn_ctext.specs.Documents.{Share, FitsShare, is_cut_leaf, cut_lists, document, document2, opening, record_lines, table_records, written, in_sections, section}
+use Rattle.crn_ctext.specs.Meaning.{Known, meaning}
+use Rattle.crn_ctext.specs.Linked.{records_of}
+use Rattle.crn_ctext.specs.Inner.Written.{shapes_with, headings, block, blocks}
+use Rattle.crn_ctext.proofs.WrittenLines.{lines_append}
+use Rattle.crn_ctext.proofs.WrittenLeaves.{IsPlain, written_none}
+use Rattle.crn_ctext.proofs.WrittenBlocks.{blocks_short, front_plain}
+
+-- the proof has no sides of pairs and no trees
+abbrev pub IsShort : Proof → Type 0
+IsShort (proof.Sides rows) = ⊥
+IsShort (proof.One tree) = ⊥
+IsShort (proof.Two tree second) = ⊥
+IsShort p = Unit {0}
+
+-- an answer without them has the same records, whatever the pairs
+same_rows : (s other : Shapes) (p : Proof) → IsShort p → proof_records s p ≡ proof_records other p
+same_rows s other proof.Nothing h = refl
+same_rows s other (proof.Forest up depth) h = refl
+same_rows s other (proof.Strong from from_depth to to_depth level) h = refl
+same_rows s other (proof.Back back) h = refl
+same_rows s other (proof.Rank p) h = refl
+same_rows s other (proof.Ranks ps) h = refl
+same_rows s other (proof.Sides rows) h = absurd h
+same_rows s other (proof.Ties rows) h = refl
+same_rows s other (proof.One tree) h = refl
+same_rows s other (proof.Two tree second) h = refl
+
+same_records : (q : Question) (s other : Shapes) (a : Answer) → IsShort a.proof → records q s a ≡ records q other a
+same_records q s other a h = rw (same_rows s other a.proof h) refl
+
+-- ---- formed answers to the questions that are built have neither
+
+no_linkage : (net : Net) (v : Verdict) (p : Proof) → RowsLinkage net v p → IsShort p
+no_linkage net (Classes count label) (proof.Nothing) h = absurd h
+no_linkage net (Classes count label) (proof.Forest up depth) h = tt
+no_linkage net (Classes count label) (proof.Strong from from_depth to to_depth level) h = absurd h
+no_linkage net (Classes count label) (proof.Back back) h = absurd h
+no_linkage net (Classes count label) (proof.Rank r) h = absurd h
+no_linkage net (Classes count label) (proof.Ranks rs) h = absurd h
+no_linkage net (Classes count label) (proof.Sides rows) h = absurd h
+no_linkage net (Classes count label) (proof.Ties rows) h = absurd h
+no_linkage net (Classes count label) (proof.One tree) h = absurd h
+no_linkage net (Classes count label) (proof.Two tree second) h = absurd h
+no_linkage net (Strong count terminal label exit) p h = absurd h
+no_linkage net (Rank rank base) p h = absurd h
+no_linkage net (Deficiency total classes) p h = absurd h
+no_linkage net (Yes) p h = absurd h
+no_linkage net (YesWeak weak) p h = absurd h
+no_linkage net (YesVec vector) p h = absurd h
+no_linkage net (YesSignal turn shelves mu m weights) p h = absurd h
+no_linkage net (No) p h = absurd h
+no_linkage net (NoReaction reaction) p h = absurd h
+no_linkage net (NoVec multipliers) p h = absurd h
+no_linkage net (NoNumber number) p h = absurd h
+no_linkage net (NoTerminal class count) p h = absurd h
+no_linkage net (NoClass class number) p h = absurd h
+no_linkage net (NoSum total) p h = absurd h
+no_linkage net (NoDependence) p h = absurd h
+no_linkage net (NoCycle reaction walk) p h = absurd h
+no_linkage net (NoPair alpha weights) p h = absurd h
+no_linkage net (NotRegular) p h = absurd h
+no_linkage net (OnlyZero) p h = absurd h
+no_linkage net (Plane first second one two) p h = absurd h
+no_linkage net (NotApplicable) p h = absurd h
+no_linkage net (Unknown gap) p h = absurd h
+
+no_strong : (net : Net) (v : Verdict) (p : Proof) → RowsStrong net v p → IsShort p
+no_strong net (Classes count label) p h = absurd h
+no_strong net (Strong count terminal label exit) (proof.Nothing) h = absurd h
+no_strong net (Strong count terminal label exit) (proof.Forest up depth) h = absurd h
+no_strong net (Strong count terminal label exit) (proof.Strong from from_depth to to_depth level) h = tt
+no_strong net (Strong count terminal label exit) (proof.Back back) h = absurd h
+no_strong net (Strong count terminal label exit) (proof.Rank r) h = absurd h
+no_strong net (Strong count terminal label exit) (proof.Ranks rs) h = absurd h
+no_strong net (Strong count terminal label exit) (proof.Sides rows) h = absurd h
+no_strong net (Strong count terminal label exit) (proof.Ties rows) h = absurd h
+no_strong net (Strong count terminal label exit) (proof.One tree) h = absurd h
+no_strong net (Strong count terminal label exit) (proof.Two tree second) h = absurd h
+no_strong net (Rank rank base) p h = absurd h
+no_strong net (Deficiency total classes) p h = absurd h
+no_strong net (Yes) p h = absurd h
+no_strong net (YesWeak weak) p h = absurd h
+no_strong net (YesVec vector) p h = absurd h
+no_strong net (YesSignal turn shelves mu m weights) p h = absurd h
+no_strong net (No) p h = absurd h
+no_strong net (NoReaction reaction) p h = absurd h
+no_strong net (NoVec multipliers) p h = absurd h
+no_strong net (NoNumber number) p h = absurd h
+no_strong net (NoTerminal class count) p h = absurd h
+no_strong net (NoClass class number) p h = absurd h
+no_strong net (NoSum total) p h = absurd h
+no_strong net (NoDependence) p h = absurd h
+no_strong net (NoCycle reaction walk) p h = absurd h
+no_strong net (NoPair alpha weights) p h = absurd h
+no_strong net (NotRegular) p h = absurd h
+no_strong net (OnlyZero) p h = absurd h
+no_strong net (Plane first second one two) p h = absurd h
+no_strong net (NotApplicable) p h = absurd h
+no_strong net (Unknown gap) p h = absurd h
+
+no_reversible : (net : Net) (v : Verdict) (p : Proof) → RowsReversible net v p → IsShort p
+no_reversible net (Classes count label) p h = absurd h
+no_reversible net (Strong count terminal label exit) p h = absurd h
+no_reversible net (Rank rank base) p h = absurd h
+no_reversible net (Deficiency total classes) p h = absurd h
+no_reversible net (Yes) (proof.Nothing) h = absurd h
+no_reversible net (Yes) (proof.Forest up depth) h = absurd h
+no_reversible net (Yes) (proof.Strong from from_depth to to_depth level) h = absurd h
+no_reversible net (Yes) (proof.Back back) h = tt
+no_reversible net (Yes) (proof.Rank r) h = absurd h
+no_reversible net (Yes) (proof.Ranks rs) h = absurd h
+no_reversible net (Yes) (proof.Sides rows) h = absurd h
+no_reversible net (Yes) (proof.Ties rows) h = absurd h
+no_reversible net (Yes) (proof.One tree) h = absurd h
+no_reversible net (Yes) (proof.Two tree second) h = absurd h
+no_reversible net (YesWeak weak) p h = absurd h
+no_reversible net (YesVec vector) p h = absurd h
+no_reversible net (YesSignal turn shelves mu m weights) p h = absurd h
+no_reversible net (No) p h = absurd h
+no_reversible net (NoReaction reaction) (proof.Nothing) h = tt
+no_reversible net (NoReaction reaction) (proof.Forest up depth) h = absurd h
+no_reversible net (NoReaction reaction) (proof.Strong from from_depth to to_depth level) h = absurd h
+no_reversible net (NoReaction reaction) (proof.Back back) h = absurd h
+no_reversible net (NoReaction reaction) (proof.Rank r) h = absurd h
+no_reversible net (NoReaction reaction) (proof.Ranks rs) h = absurd h
+no_reversible net (NoReaction reaction) (proof.Sides rows) h = absurd h
+no_reversible net (NoReaction reaction) (proof.Ties rows) h = absurd h
+no_reversible net (NoReaction reaction) (proof.One tree) h = absurd h
+no_reversible net (NoReaction reaction) (proof.Two tree second) h = absurd h
+no_reversible net (NoVec multipliers) p h = absurd h
+no_reversible net (NoNumber number) p h = absurd h
+no_reversible net (NoTerminal class count) p h = absurd h
+no_reversible net (NoClass class number) p h = absurd h
+no_reversible net (NoSum total) p h = absurd h
+no_reversible net (NoDependence) p h = absurd h
+no_reversible net (NoCycle reaction walk) p h = absurd h
+no_reversible net (NoPair alpha weights) p h = absurd h
+no_reversible net (NotRegular) p h = absurd h
+no_reversible net (OnlyZero) p h = absurd h
+no_reversible net (Plane first second one two) p h = absurd h
+no_reversible net (NotApplicable) p h = absurd h
+no_reversible net (Unknown gap) p h = absurd h
+
+no_weak : (v : Verdict) (p : Proof) → RowsWeak v p → IsShort p
+no_weak (Classes count label) p h = absurd h
+no_weak (Strong count terminal label exit) p h = absurd h
+no_weak (Rank rank base) p h = absurd h
+no_weak (Deficiency total classes) p h = absurd h
+no_weak (Yes) (proof.Nothing) h = tt
+no_weak (Yes) (proof.Forest up depth) h = absurd h
+no_weak (Yes) (proof.Strong from from_depth to to_depth level) h = absurd h
+no_weak (Yes) (proof.Back back) h = absurd h
+no_weak (Yes) (proof.Rank r) h = absurd h
+no_weak (Yes) (proof.Ranks rs) h = absurd h
+no_weak (Yes) (proof.Sides rows) h = absurd h
+no_weak (Yes) (proof.Ties rows) h = absurd h
+no_weak (Yes) (proof.One tree) h = absurd h
+no_weak (Yes) (proof.Two tree second) h = absurd h
+no_weak (YesWeak weak) p h = absurd h
+no_weak (YesVec vector) p h = absurd h
+no_weak (YesSignal turn shelves mu m weights) p h = absurd h
+no_weak (No) p h = absurd h
+no_weak (NoReaction reaction) (proof.Nothing) h = tt
+no_weak (NoReaction reaction) (proof.Forest up depth) h = absurd h
+no_weak (NoReaction reaction) (proof.Strong from from_depth to to_depth level) h = absurd h
+no_weak (NoReaction reaction) (proof.Back back) h = absurd h
+no_weak (NoReaction reaction) (proof.Rank r) h = absurd h
+no_weak (NoReaction reaction) (proof.Ranks rs) h = absurd h
+no_weak (NoReaction reaction) (proof.Sides rows) h = absurd h
+no_weak (NoReaction reaction) (proof.Ties rows) h = absurd h
+no_weak (NoReaction reaction) (proof.One tree) h = absurd h
+no_weak (NoReaction reaction) (proof.Two tree second) h = absurd h
+no_weak (NoVec multipliers) p h = absurd h
+no_weak (NoNumber number) p h = absurd h
+no_weak (NoTerminal class count) p h = absurd h
+no_weak (NoClass class number) p h = absurd h
+no_weak (NoSum total) p h = absurd h
+no_weak (NoDependence) p h = absurd h
+no_weak (NoCycle reaction walk) p h = absurd h
+no_weak (NoPair alpha weights) p h = absurd h
+no_weak (NotRegular) p h = absurd h
+no_weak (OnlyZero) p h = absurd h
+no_weak (Plane first second one two) p h = absurd h
+no_weak (NotApplicable) p h = absurd h
+no_weak (Unknown gap) p h = absurd h
+
+no_nothing : (p : Proof) → p ≡ proof.Nothing → IsShort p
+no_nothing p e = rw e tt
+
+rows_linkage : (net : Net) (earlier : Earlier) (v : Verdict) (p : Proof) → RowsMayBe net earlier Q1 v p → IsShort p
+rows_linkage net earlier (Classes count label) p h = no_linkage net (Classes count label) p h
+rows_linkage net earlier (Strong count terminal label exit) p h = no_linkage net (Strong count terminal label exit) p h
+rows_linkage net earlier (Rank rank base) p h = no_linkage net (Rank rank base) p h
+rows_linkage net earlier (Deficiency total classes) p h = no_linkage net (Deficiency total classes) p h
+rows_linkage net earlier (Yes) p h = no_linkage net (Yes) p h
+rows_linkage net earlier (YesWeak weak) p h = no_linkage net (YesWeak weak) p h
+rows_linkage net earlier (YesVec vector) p h = no_linkage net (YesVec vector) p h
+rows_linkage net earlier (YesSignal turn shelves mu m weights) p h = no_linkage net (YesSignal turn shelves mu m weights) p h
+rows_linkage net earlier (No) p h = no_linkage net (No) p h
+rows_linkage net earlier (NoReaction reaction) p h = no_linkage net (NoReaction reaction) p h
+rows_linkage net earlier (NoVec multipliers) p h = no_linkage net (NoVec multipliers) p h
+rows_linkage net earlier (NoNumber number) p h = no_linkage net (NoNumber number) p h
+rows_linkage net earlier (NoTerminal class count) p h = no_linkage net (NoTerminal class count) p h
+rows_linkage net earlier (NoClass class number) p h = no_linkage net (NoClass class number) p h
+rows_linkage net earlier (NoSum total) p h = no_linkage net (NoSum total) p h
+rows_linkage net earlier (NoDependence) p h = no_linkage net (NoDependence) p h
+rows_linkage net earlier (NoCycle reaction walk) p h = no_linkage net (NoCycle reaction walk) p h
+rows_linkage net earlier (NoPair alpha weights) p h = no_linkage net (NoPair alpha weights) p h
+rows_linkage net earlier (NotRegular) p h = no_linkage net (NotRegular) p h
+rows_linkage net earlier (OnlyZero) p h = no_linkage net (OnlyZero) p h
+rows_linkage net earlier (Plane first second one two) p h = no_linkage net (Plane first second one two) p h
+rows_linkage net earlier (NotApplicable) p h = no_linkage net (NotApplicable) p h
+rows_linkage net earlier (Unknown gap) p h = no_nothing p h
+
+rows_strong : (net : Net) (earlier : Earlier) (v : Verdict) (p : Proof) → RowsMayBe net earlier Q2 v p → IsShort p
+rows_strong net earlier (Classes count label) p h = no_strong net (Classes count label) p h
+rows_strong net earlier (Strong count terminal label exit) p h = no_strong net (Strong count terminal label exit) p h
+rows_strong net earlier (Rank rank base) p h = no_strong net (Rank rank base) p h
+rows_strong net earlier (Deficiency total classes) p h = no_strong net (Deficiency total classes) p h
+rows_strong net earlier (Yes) p h = no_strong net (Yes) p h
+rows_strong net earlier (YesWeak weak) p h = no_strong net (YesWeak weak) p h
+rows_strong net earlier (YesVec vector) p h = no_strong net (YesVec vector) p h
+rows_strong net earlier (YesSignal turn shelves mu m weights) p h = no_strong net (YesSignal turn shelves mu m weights) p h
+rows_strong net earlier (No) p h = no_strong net (No) p h
+rows_strong net earlier (NoReaction reaction) p h = no_strong net (NoReaction reaction) p h
+rows_strong net earlier (NoVec multipliers) p h = no_strong net (NoVec multipliers) p h
+rows_strong net earlier (NoNumber number) p h = no_strong net (NoNumber number) p h
+rows_strong net earlier (NoTerminal class count) p h = no_strong net (NoTerminal class count) p h
+rows_strong net earlier (NoClass class number) p h = no_strong net (NoClass class number) p h
+rows_strong net earlier (NoSum total) p h = no_strong net (NoSum total) p h
+rows_strong net earlier (NoDependence) p h = no_strong net (NoDependence) p h
+rows_strong net earlier (NoCycle reaction walk) p h = no_strong net (NoCycle reaction walk) p h
+rows_strong net earlier (NoPair alpha weights) p h = no_strong net (NoPair alpha weights) p h
+rows_strong net earlier (NotRegular) p h = no_strong net (NotRegular) p h
+rows_strong net earlier (OnlyZero) p h = no_strong net (OnlyZero) p h
+rows_strong net earlier (Plane first second one two) p h = no_strong net (Plane first second one two) p h
+rows_strong net earlier (NotApplicable) p h = no_strong net (NotApplicable) p h
+rows_strong net earlier (Unknown gap) p h = no_nothing p h
+
+rows_reversible : (net : Net) (earlier : Earlier) (v : Verdict) (p : Proof) → RowsMayBe net earlier Q3 v p → IsShort p
+rows_reversible net earlier (Classes count label) p h = no_reversible net (Classes count label) p h
+rows_reversible net earlier (Strong count terminal label exit) p h = no_reversible net (Strong count terminal label exit) p h
+rows_reversible net earlier (Rank rank base) p h = no_reversible net (Rank rank base) p h
+rows_reversible net earlier (Deficiency total classes) p h = no_reversible net (Deficiency total classes) p h
+rows_reversible net earlier (Yes) p h = no_reversible net (Yes) p h
+rows_reversible net earlier (YesWeak weak) p h = no_reversible net (YesWeak weak) p h
+rows_reversible net earlier (YesVec vector) p h = no_reversible net (YesVec vector) p h
+rows_reversible net earlier (YesSignal turn shelves mu m weights) p h = no_reversible net (YesSignal turn shelves mu m weights) p h
+rows_reversible net earlier (No) p h = no_reversible net (No) p h
+rows_reversible net earlier (NoReaction reaction) p h = no_reversible net (NoReaction reaction) p h
+rows_reversible net earlier (NoVec multipliers) p h = no_reversible net (NoVec multipliers) p h
+rows_reversible net earlier (NoNumber number) p h = no_reversible net (NoNumber number) p h
+rows_reversible net earlier (NoTerminal class count) p h = no_reversible net (NoTerminal class count) p h
+rows_reversible net earlier (NoClass class number) p h = no_reversible net (NoClass class number) p h
+rows_reversible net earlier (NoSum total) p h = no_reversible net (NoSum total) p h
+rows_reversible net earlier (NoDependence) p h = no_reversible net (NoDependence) p h
+rows_reversible net earlier (NoCycle reaction walk) p h = no_reversible net (NoCycle reaction walk) p h
+rows_reversible net earlier (NoPair alpha weights) p h = no_reversible net (NoPair alpha weights) p h
+rows_reversible net earlier (NotRegular) p h = no_reversible net (NotRegular) p h
+rows_reversible net earlier (OnlyZero) p h = no_reversible net (OnlyZero) p h
+rows_reversible net earlier (Plane first second one two) p h = no_reversible net (Plane first second one two) p h
+rows_reversible net earlier (NotApplicable) p h = no_reversible net (NotApplicable) p h
+rows_reversible net earlier (Unknown gap) p h = no_nothing p h
+
+rows_weak : (net : Net) (earlier : Earlier) (v : Verdict) (p : Proof) → RowsMayBe net earlier Q4 v p → IsShort p
+rows_weak net earlier (Classes count label) p h = no_weak (Classes count label) p h
+rows_weak net earlier (Strong count terminal label exit) p h = no_weak (Strong count terminal label exit) p h
+rows_weak net earlier (Rank rank base) p h = no_weak (Rank rank base) p h
+rows_weak net earlier (Deficiency total classes) p h = no_weak (Deficiency total classes) p h
+rows_weak net earlier (Yes) p h = no_weak (Yes) p h
+rows_weak net earlier (YesWeak weak) p h = no_weak (YesWeak weak) p h
+rows_weak net earlier (YesVec vector) p h = no_weak (YesVec vector) p h
+rows_weak net earlier (YesSignal turn shelves mu m weights) p h = no_weak (YesSignal turn shelves mu m weights) p h
+rows_weak net earlier (No) p h = no_weak (No) p h
+rows_weak net earlier (NoReaction reaction) p h = no_weak (NoReaction reaction) p h
+rows_weak net earlier (NoVec multipliers) p h = no_weak (NoVec multipliers) p h
+rows_weak net earlier (NoNumber number) p h = no_weak (NoNumber number) p h
+rows_weak net earlier (NoTerminal class count) p h = no_weak (NoTerminal class count) p h
+rows_weak net earlier (NoClass class number) p h = no_weak (NoClass class number) p h
+rows_weak net earlier (NoSum total) p h = no_weak (NoSum total) p h
+rows_weak net earlier (NoDependence) p h = no_weak (NoDependence) p h
+rows_weak net earlier (NoCycle reaction walk) p h = no_weak (NoCycle reaction walk) p h
+rows_weak net earlier (NoPair alpha weights) p h = no_weak (NoPair alpha weights) p h
+rows_weak net earlier (NotRegular) p h = no_weak (NotRegular) p h
+rows_weak net earlier (OnlyZero) p h = no_weak (OnlyZero) p h
+rows_weak net earlier (Plane first second one two) p h = no_weak (Plane first second one two) p h
+rows_weak net earlier (NotApplicable) p h = no_weak (NotApplicable) p h
+rows_weak net earlier (Unknown gap) p h = no_nothing p h
+
+-- no answer has sides or trees
+abbrev pub AreShort : List Answer → Type 0
+AreShort xs = AllByRecursion (λ (a : Answer). IsShort a.proof) xs
+
+-- formed answers to the questions that are built have neither
+pub all_short : (net : Net) (xs : List Answer) → AreFormed net [] built xs → AreShort xs
+all_short net [] h = tt
+all_short net (a ∷ []) h = absurd h.1
+all_short net (a ∷ b ∷ []) h = absurd h.1.1
+all_short net (a ∷ b ∷ c ∷ []) h = absurd h.1.1.1
+all_short net (a ∷ b ∷ c ∷ d ∷ []) h =
+    (rows_linkage net [] a.verdict a.proof h.0.1, (rows_strong net ((Q1, a.verdict) ∷ []) b.verdict b.proof h.1.0.1, (rows_reversible net ((Q1, a.verdict) ∷ (Q2, b.verdict) ∷ []) c.verdict c.proof h.1.1.0.1, (rows_weak net ((Q1, a.verdict) ∷ (Q2, b.verdict) ∷ (Q3, c.verdict) ∷ []) d.verdict d.proof h.1.1.1.0.1, tt))))
+all_short net (a ∷ b ∷ c ∷ d ∷ e ∷ more) h = absurd h.1.1.1.1
+
+-- there are xs many answers xs questions
+pub as_many : (net : Net) (earlier : Earlier) (qs : List Question) (xs : List Answer) → AreFormed net earlier qs xs → length xs ≡ length qs
+as_many net earlier [] [] h = refl
+as_many net earlier [] (a ∷ xs) h = absurd h
+as_many net earlier (q ∷ qs) [] h = absurd h
+as_many net earlier (q ∷ qs) (a ∷ xs) h = ap suc (as_many net _ qs xs h.1)
+
+-- ---- blocks
+
+flat_blocks : (qs : List Question) (known : Known) (xs : List Answer) → AreShort xs → flat_map (λ (rs : List Record). rs) (all_records meaning qs known xs) ≡ blocks false qs xs
+unfolding all_records
+flat_blocks [] known xs h = refl
+flat_blocks (q ∷ qs) known [] h = refl
+flat_blocks (q ∷ qs) known (a ∷ xs) h =
+    ap (λ (t : List Record). t ++ flat_map (λ (rs : List Record). rs) (all_records meaning qs (meaning.learn q known (head_of q a.verdict) (records_below (meaning.shapes known) a)) xs)) (same_records q (meaning.shapes known) (shapes_with []) a h.0)
+    ∙ ap (λ (t : List Record). records q (shapes_with []) a ++ t) (flat_blocks qs (meaning.learn q known (head_of q a.verdict) (records_below (meaning.shapes known) a)) xs h.1)
+
+headed_blocks : (qs : List Question) (known : Known) (xs : List Answer) → AreShort xs → in_sections qs (all_records meaning qs known xs) ≡ blocks true qs xs
+unfolding all_records
+headed_blocks [] known xs h = refl
+headed_blocks (q ∷ qs) known [] h = refl
+headed_blocks (q ∷ qs) known (a ∷ xs) h =
+    ap (λ (t : List Record). (map section (opens q) ++ t) ++ in_sections qs (all_records meaning qs (meaning.learn q known (head_of q a.verdict) (records_below (meaning.shapes known) a)) xs)) (same_records q (meaning.shapes known) (shapes_with []) a h.0)
+    ∙ ap (λ (t : List Record). (map section (opens q) ++ records q (shapes_with []) a) ++ t) (headed_blocks qs (meaning.learn q known (head_of q a.verdict) (records_below (meaning.shapes known) a)) xs h.1)
+
+built_blocks : (sections : Bool) (xs : List Answer) → length xs ≡ length built → blocks sections built xs ≡ blocks sections questions xs
+built_blocks sections xs e = ap (λ (n : ℕ). blocks sections (take n questions) xs) (sym e) ∙ blocks_short sections questions xs
+
+-- the records of a document in version 1 are those of the blocks
+pub records_are : (net : Net) (xs : List Answer) → AreFormed net [] built xs → flat_map (λ (rs : List Record). rs) (records_of net xs) ≡ blocks false questions xs
+records_are net xs h = flat_blocks built (meaning.start net) xs (all_short net xs h) ∙ built_blocks false xs (as_many net [] built xs h)
+
+-- and in version 2
+pub headed_are : (net : Net) (xs : List Answer) → AreFormed net [] built xs → in_sections built (records_of net xs) ≡ blocks true questions xs
+headed_are net xs h = headed_blocks built (meaning.start net) xs (all_short net xs h) ∙ built_blocks true xs (as_many net [] built xs h)
+
+-- ---- documents
+
+-- a document: its opening, the lines of its blocks, and its last line
+pub document_lines : (net : Net) (xs : List Answer) → AreFormed net [] built xs
+    → document net (records_of net xs) ≡ (opening 1 net ++ record_lines (written [] (blocks false questions xs))) ++ codes "end\n"
+document_lines net xs h =
+    ap (λ (t : List Record). (opening 1 net ++ record_lines t) ++ codes "end\n") (records_are net xs h ∙ sym (written_none (blocks false questions xs)))
+
+four : (a b c d : List ℕ) → (a ++ (b ++ c)) ++ d ≡ ((a ++ b) ++ c) ++ d
+four a b c d = simp append_assoc
+
+-- in version 2 with the lines of its table
+pub document2_lines : (net : Net) (xs : List Answer) (share : Share) → AreFormed net [] built xs
+    → document2 built net (records_of net xs) share ≡ ((opening 2 net ++ record_lines (table_records share.table)) ++ record_lines (written share.leaf (blocks true questions xs))) ++ codes "end\n"
+document2_lines net xs share h =
+    ap (λ (t : List Record). (opening 2 net ++ record_lines (table_records share.table ++ written share.leaf t)) ++ codes "end\n") (headed_are net xs h)
+    ∙ ap (λ (t : List ℕ). (opening 2 net ++ t) ++ codes "end\n") (lines_append (table_records share.table) (written share.leaf (blocks true questions xs)))
+    ∙ four (opening 2 net) (record_lines (table_records share.table)) (record_lines (written share.leaf (blocks true questions xs))) (codes "end\n")
+
+-- ---- cut leaves
+
+-- a proof without trees has no cuts
+no_cuts : (p : Proof) → IsShort p → cuts_in p ≡ []
+no_cuts proof.Nothing h = refl
+no_cuts (proof.Forest up depth) h = refl
+no_cuts (proof.Strong from from_depth to to_depth level) h = refl
+no_cuts (proof.Back back) h = refl
+no_cuts (proof.Rank p) h = refl
+no_cuts (proof.Ranks ps) h = refl
+no_cuts (proof.Sides rows) h = absurd h
+no_cuts (proof.Ties rows) h = refl
+no_cuts (proof.One tree) h = absurd h
+no_cuts (proof.Two tree second) h = absurd h
+
+none_of_all : (xs : List Answer) → AreShort xs → all_cuts xs ≡ []
+none_of_all [] h = refl
+none_of_all (a ∷ xs) h = ap (λ (t : List (List ℤ)). t ++ all_cuts xs) (no_cuts a.proof h.0) ∙ none_of_all xs h.1
+
+-- formed answers to the questions that are built have no cuts
+pub built_cuts : (net : Net) (xs : List Answer) → AreFormed net [] built xs → all_cuts xs ≡ []
+built_cuts net xs h = none_of_all xs (all_short net xs h)
+
+-- the lists of the cut leaves of records are those of the trees' cuts
+cuts_append : (xs ys : List Record) → cut_lists (xs ++ ys) ≡ cut_lists xs ++ cut_lists ys
+cuts_append xs ys = ap (λ (t : List Record). map (λ (r : Record). r.numbers) t) (filter-append is_cut_leaf xs ys) ∙ map-append (λ (r : Record). r.numbers) (filter is_cut_leaf xs) (filter is_cut_leaf ys)
+
+skip_by : (b : Bool) (r : Record) (ts : List Record) → b ≡ false → cond b (r ∷ ts) ts ≡ ts
+skip_by true r ts e = absurd cc
+skip_by false r ts e = refl
+
+plain_cuts : (rs : List Record) → AllByRecursion IsPlain rs → cut_lists rs ≡ []
+plain_cuts [] h = refl
+plain_cuts (r ∷ rs) h = ap (λ (t : List Record). map (λ (r : Record). r.numbers) t) (skip_by (is_cut_leaf r) r (filter is_cut_leaf rs) h.0) ∙ plain_cuts rs h.1
+
+-- the lists of the cut leaves of a tree's nodes are those of its cuts
+tree_cuts : (tree : Tree) → cut_lists (nodes tree) ≡ cuts_of (plan tree)
+tree_cuts (Split' a zeros b pluses None') =
+    cuts_append (nodes zeros ++ nodes pluses) [] ∙ append-nil (cut_lists (nodes zeros ++ nodes pluses)) ∙ cuts_append (nodes zeros) (nodes pluses)
+    ∙ ap (λ (t : List (List ℤ)). t ++ cut_lists (nodes pluses)) (tree_cuts zeros) ∙ ap (λ (t : List (List ℤ)). cuts_of (plan zeros) ++ t) (tree_cuts pluses)
+tree_cuts (Split' a zeros b pluses (Some' c minuses)) =
+    cuts_append (nodes zeros ++ nodes pluses) (nodes minuses) ∙ ap (λ (t : List (List ℤ)). t ++ cut_lists (nodes minuses)) (cuts_append (nodes zeros) (nodes pluses))
+    ∙ ap (λ (t : List (List ℤ)). (t ++ cut_lists (nodes pluses)) ++ cut_lists (nodes minuses)) (tree_cuts zeros) ∙ ap (λ (t : List (List ℤ)). (cuts_of (plan zeros) ++ t) ++ cut_lists (nodes minuses)) (tree_cuts pluses)
+    ∙ ap (λ (t : List (List ℤ)). (cuts_of (plan zeros) ++ cuts_of (plan pluses)) ++ t) (tree_cuts minuses)
+tree_cuts (CutA u) = refl
+tree_cuts (CutB u) = refl
+tree_cuts Flat = refl
+
+proof_cuts : (p : Proof) → cut_lists (proof_nodes p) ≡ cuts_in p
+proof_cuts proof.Nothing = refl
+proof_cuts (proof.Forest up depth) = refl
+proof_cuts (proof.Strong from from_depth to to_depth level) = refl
+proof_cuts (proof.Back back) = refl
+proof_cuts (proof.Rank p) = refl
+proof_cuts (proof.Ranks ps) = refl
+proof_cuts (proof.Sides rows) = refl
+proof_cuts (proof.Ties rows) = refl
+proof_cuts (proof.One tree) = tree_cuts tree
+proof_cuts (proof.Two tree second) = cuts_append (nodes tree) (nodes second) ∙ ap (λ (t : List (List ℤ)). t ++ cut_lists (nodes second)) (tree_cuts tree) ∙ ap (λ (t : List (List ℤ)). cuts_of (plan tree) ++ t) (tree_cuts second)
+
+answer_cuts : (q : Question) (s : Shapes) (a : Answer) → cut_lists (records q s a) ≡ cuts_in a.proof
+answer_cuts q s a =
+    cuts_append (head_of q a.verdict ∷ records_below s a) (proof_nodes a.proof)
+    ∙ ap (λ (t : List (List ℤ)). t ++ cut_lists (proof_nodes a.proof)) (plain_cuts (head_of q a.verdict ∷ records_below s a) (front_plain q s a)) ∙ proof_cuts a.proof
+
+blocks_cuts : (qs : List Question) (xs : List Answer) → length xs ≤ length qs → cut_lists (blocks false qs xs) ≡ all_cuts xs
+blocks_cuts [] [] h = refl
+blocks_cuts [] (a ∷ xs) h = absurd (omega arith)
+blocks_cuts (q ∷ qs) [] h = refl
+blocks_cuts (q ∷ qs) (a ∷ xs) h =
+    cuts_append (records q (shapes_with []) a) (blocks false qs xs)
+    ∙ ap (λ (t : List (List ℤ)). t ++ cut_lists (blocks false qs xs)) (answer_cuts q (shapes_with []) a) ∙ ap (λ (t : List (List ℤ)). cuts_in a.proof ++ t) (blocks_cuts qs xs (omega arith))
+
+-- the lists of the cut leaves of formed answers' records are those of the answers' cuts
+pub records_cuts : (net : Net) (xs : List Answer) → AreFormed net [] built xs → cut_lists (flat_map (λ (rs : List Record). rs) (records_of net xs)) ≡ all_cuts xs
+records_cuts net xs h =
+    ap cut_lists (records_are net xs h) ∙ blocks_cuts questions xs (let e = as_many net [] built xs h in omega (arith, e))
+
+-- ---- shares
+
+same_number : (k : ℕ) (ts : List (List ℤ)) (u : List ℤ) → documents.number_in k ts u ≡ number_in k ts u
+same_number k [] u = refl
+same_number k (t ∷ ts) u = ap (λ (n : ℕ). if pointwise int_eq t u then k else n) (same_number (k + 1) ts u)
+
+same_numbers : (ts us : List (List ℤ)) → map (documents.number_in 1 ts) us ≡ map (number_in 1 ts) us
+same_numbers ts [] = refl
+same_numbers ts (u ∷ us) = ap₂ (λ (n : ℕ) (ns : List ℕ). n ∷ ns) (same_number 1 ts u) (same_numbers ts us)
+
+share_by : (lists cuts : List (List ℤ)) → lists ≡ cuts
+    → (let table = take MAX_SHARED (firsts (pointwise int_eq) lists) in let made : Share = record { table = table; leaf = map (documents.number_in 1 table) lists } in made) ≡ as_share (share_of_cuts MAX_SHARED cuts)
+share_by lists cuts e =
+    rw e (ap (λ (ns : List ℕ). let made : Share = record { table = take MAX_SHARED (firsts (pointwise int_eq) cuts); leaf = ns } in made) (same_numbers (take MAX_SHARED (firsts (pointwise int_eq) cuts)) cuts))
+
+-- the share of answers is that of their records
+pub shares_are_one : (net : Net) (xs : List Answer) → AreFormed net [] built xs → documents.share_of (records_of net xs) ≡ as_share (share_of MAX_SHARED xs)
+shares_are_one net xs h = share_by (cut_lists (flat_map (λ (rs : List Record). rs) (records_of net xs))) (all_cuts xs) (records_cuts net xs h)
+
+named_at : (ts : List (List ℤ)) (k : ℕ) (u : List ℤ) → StandsAt ts k u ↔ documents.IsNamed ts k u
+named_at ts zero u = ((λ h. h), (λ h. h))
+named_at [] (suc k) u = ((λ h. h), (λ h. h))
+named_at (t ∷ ts) (suc zero) u = ((λ h. h), (λ h. h))
+named_at (t ∷ ts) (suc (suc k)) u = named_at ts (suc k) u
+
+all_named : (ts : List (List ℤ)) (ks : List ℕ) (us : List (List ℤ)) → AllZip (StandsAt ts) ks us ↔ AllZip (documents.IsNamed ts) ks us
+all_named ts [] [] = ((λ h. h), (λ h. h))
+all_named ts [] (u ∷ us) = ((λ h. h), (λ h. h))
+all_named ts (k ∷ ks) [] = ((λ h. h), (λ h. h))
+all_named ts (k ∷ ks) (u ∷ us) = let a = named_at ts k u in let b = all_named ts ks us in ((λ h. (a.0 h.0, b.0 h.1)), (λ h. (a.1 h.0, b.1 h.1)))
+
+all_narrow : (xs : List ℤ) → AllByRecursion ranges.IsNarrow xs ↔ AllByRecursion IsNarrow xs
+all_narrow [] = ((λ h. h), (λ h. h))
+all_narrow (x ∷ xs) = let b = all_narrow xs in ((λ h. (h.0, b.0 h.1)), (λ h. (h.0, b.1 h.1)))
+
+all_shareable : (ts : List (List ℤ)) → AllByRecursion (IsShareable MAX_NUMBERS) ts ↔ AllByRecursion documents.IsShareable ts
+all_shareable [] = ((λ h. h), (λ h. h))
+all_shareable (t ∷ ts) =
+    let b = all_shareable ts in
+    let n = all_narrow t in
+    ((λ h. (record { some = h.0.some; most = h.0.few; narrow = n.0 h.0.narrow }, b.0 h.1)), (λ h. (record { some = h.0.some; few = h.0.most; narrow = n.1 h.0.narrow }, b.1 h.1)))
+
+-- a share fits answers if and only if it fits their records
+pub shares_fit_both : (net : Net) (xs : List Answer) (share : Shared) → AreFormed net [] built xs → FitsAnswers MAX_SHARED MAX_NUMBERS xs share ↔ FitsShare (records_of net xs) (as_share share)
+shares_fit_both net xs share h =
+    let e = records_cuts net xs h in
+    let l = all_shareable share.table in
+    let z = all_named share.table share.leaf (all_cuts xs) in
+    ((λ f. record { most = f.few; lists = l.0 f.lists; leaves = subst (λ (us : List (List ℤ)). AllZip (documents.IsNamed share.table) share.leaf us) (sym e) (z.0 f.leaves) }),
+    (λ f. record { few = f.most; lists = l.1 f.lists; leaves = z.1 (subst (λ (us : List (List ℤ)). AllZip (documents.IsNamed share.table) share.leaf us) e f.leaves) }))

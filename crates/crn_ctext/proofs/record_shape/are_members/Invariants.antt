@@ -1,0 +1,8 @@
+use Rattle.std.proofs.Common.{◌≤◌, ◌↔◌, length, drop}
+use Rattle.crn_vec.specs.Lists.{IsAscending}
+use Rattle.crn_ctext.specs.Inner.Shapes.{AreMembers}
+use Rattle.crn_ctext.proofs.record_shape.are_members.Given as goal
+
+abbrev pub invariant-loop-member : goal.invariant-loop-member
+invariant-loop-member l = (l.met ≤ length l.numbers) × IsAscending (drop l.member-index l.members)
+    × (AreMembers (drop l.member-index l.members) (drop l.met l.numbers) ↔ AreMembers l.members l.numbers)

@@ -1,0 +1,22 @@
+use Rattle.std.proofs.Common.{◌≡◌, ◌∙◌, sym, refl, ap, take, [], arith, codes, false, ◌<◌}
+use Rattle.std.proofs.lemmas.Result.{err_from_is_err_and}
+use Rattle.crn_io.proofs.CallerLemmas.{WroteAll-none, WroteAll-then, WroteAll-step, WrotePrefix-then, WrotePrefix-more, Wrote-all, Wrote-prefix}
+use Rattle.crn_ctext.proofs.Pieces.{stops_first, stops_later, ends_with, wrote_as}
+use Rattle.crn_cert.specs.Questions.{questions}
+use Rattle.crn_ctext.specs.Documents.{record_lines, written}
+use Rattle.crn_ctext.specs.Inner.Written.{blocks}
+use Rattle.crn_ctext.proofs.WrittenAnswers.{document_lines}
+use Rattle.crn_ctext.proofs.write.write_document.Goals as goal
+
+pub returns-in_err-put_opening : goal.returns-in_err-put_opening
+returns-in_err-put_opening g c =
+    let p = err_from_is_err_and c.from_residual.result c.from_residual.ensures.1 in
+    wrote_as (document_lines c.args.net.now c.args.answers.now c.requires.formed) (Wrote-prefix p.1 (WrotePrefix-more (codes "end\n") (WrotePrefix-more (record_lines (written [] (blocks false questions c.args.answers.now))) c.in_err-put_opening.ensures.prefix)))
+
+pub returns-in_err-put_answers : goal.returns-in_err-put_answers
+returns-in_err-put_answers g c =
+    let p = err_from_is_err_and c.from_residual-in_err-put_answers.result c.from_residual-in_err-put_answers.ensures.1 in
+    wrote_as (document_lines c.args.net.now c.args.answers.now c.requires.formed) (Wrote-prefix p.1 (WrotePrefix-more (codes "end\n") (WrotePrefix-then c.in_ok-put_opening.ensures.all c.in_err-put_answers.ensures.prefix)))
+
+pub returns : goal.returns
+returns g c = ends_with (document_lines c.args.net.now c.args.answers.now c.requires.formed) (WroteAll-then c.in_ok-put_opening.ensures.all c.in_ok-put_answers.ensures.all) c.put_all.ensures.writes

@@ -1,0 +1,16 @@
+use Rattle.std.proofs.lemmas.Result.{err_from_is_err_and}
+use Rattle.crn_io.proofs.CallerLemmas.{WroteAll-then, WrotePrefix-then, WrotePrefix-more, Wrote-prefix, Wrote-then}
+use Rattle.crn_ctext.proofs.write_record.put_free.Goals as goal
+
+pub returns-in_err-put_all : goal.returns-in_err-put_all
+returns-in_err-put_all g c =
+    let p = err_from_is_err_and c.from_residual.result c.from_residual.ensures.1 in
+    Wrote-prefix p.1 (WrotePrefix-more _ (WrotePrefix-more _ c.in_err-put_all.ensures.writes.prefix))
+
+pub returns-in_err-put_ints : goal.returns-in_err-put_ints
+returns-in_err-put_ints g c =
+    let p = err_from_is_err_and c.from_residual-in_err-put_ints.result c.from_residual-in_err-put_ints.ensures.1 in
+    Wrote-prefix p.1 (WrotePrefix-more _ (WrotePrefix-then c.in_ok-put_all.ensures.writes.all c.in_err-put_ints.ensures.prefix))
+
+pub returns : goal.returns
+returns g c = Wrote-then (WroteAll-then c.in_ok-put_all.ensures.writes.all c.in_ok-put_ints.ensures.all) c.put_all-2.ensures.writes

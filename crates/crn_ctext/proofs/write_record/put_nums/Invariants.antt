@@ -1,0 +1,7 @@
+use Rattle.std.proofs.Common.{take, map, pos}
+use Rattle.crn_io.specs.Write.{WroteAll}
+use Rattle.crn_ctext.specs.Inner.Written.{numbers_text}
+use Rattle.crn_ctext.proofs.write_record.put_nums.Given as goal
+
+abbrev pub invariant-loop-number : goal.invariant-loop-number
+invariant-loop-number g l = WroteAll (numbers_text (map pos (take l.number-index l.numbers))) (g.K.Sink.seen l.initial.sink) (g.K.Sink.seen l.sink)

@@ -1,0 +1,8 @@
+use Rattle.std.proofs.Common.{take}
+use Rattle.std.specs.List.{flat_map}
+use Rattle.crn_io.specs.Write.{WroteAll}
+use Rattle.crn_ctext.specs.Inner.Written.{line}
+use Rattle.crn_ctext.proofs.write_record.put_rows.Given as goal
+
+abbrev pub invariant-loop-i : goal.invariant-loop-i
+invariant-loop-i g l = WroteAll (flat_map (line l.text) (take l.i l.rows)) (g.K.Sink.seen l.initial.sink) (g.K.Sink.seen l.sink)

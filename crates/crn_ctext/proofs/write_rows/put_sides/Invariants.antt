@@ -1,0 +1,8 @@
+use Rattle.std.proofs.Common.{take}
+use Rattle.crn_io.specs.Write.{WroteAll}
+use Rattle.crn_ctext.specs.Answers.{side_records}
+use Rattle.crn_ctext.specs.Documents.{record_lines}
+use Rattle.crn_ctext.proofs.write_rows.put_sides.Given as goal
+
+abbrev pub invariant-loop-i : goal.invariant-loop-i
+invariant-loop-i g l = WroteAll (record_lines (side_records l.pairs (take l.i l.rows))) (g.K.Sink.seen l.initial.sink) (g.K.Sink.seen l.sink)

@@ -1,0 +1,107 @@
+-- For the contracts of private functions alone: how a document is written piece by piece.
+-- Source: this project's own. Shapes: questions are numbered from 1. `leaf` has for each cut leaf
+-- that is still to be written the number of its list, or 0; beyond its end each is 0.
+use Rattle.std.specs.Prelude.{ℕ, ℤ, pos, ◌-◌, ◌^◌, Option, Some, None, Bool, true, false, if◌then◌else◌, List, [], ◌∷◌, ◌++◌, map, take, drop, codes, slice_index_or}
+use Rattle.std.specs.List.{flat_map}
+use Rattle.std.specs.Fmt.{signed_decimal}
+use Rattle.crn_io.specs.Device.{SinkSeen}
+use Rattle.crn_cert.specs.Questions.{Question, Q1, questions}
+use Rattle.crn_cert.specs.declared.answer.Verdict.{Verdict}
+use Rattle.crn_cert.specs.declared.answer.Gap.{Gap}
+use Rattle.crn_cert.specs.declared.answer.Answer.{Answer}
+use Rattle.crn_ctext.specs.Records.{Record}
+use Rattle.crn_ctext.specs.Questions.{Shapes, opens}
+use Rattle.crn_ctext.specs.Answers.{head_of, open_head, records, small_record}
+use Rattle.crn_ctext.specs.Documents.{is_cut_leaf, later_leaves, section}
+
+-- a space and a number
+abbrev pub number_text : ℤ → List ℕ
+number_text z = 32 ∷ signed_decimal z
+
+-- numbers, each after a space
+abbrev pub numbers_text : List ℤ → List ℕ
+numbers_text zs = flat_map number_text zs
+
+-- words, each after a space
+abbrev pub words_text : List (List ℕ) → List ℕ
+words_text words = flat_map (λ word. 32 ∷ word) words
+
+-- a line: a text, and then numbers
+abbrev pub line : List ℕ → List ℤ → List ℕ
+line text numbers = text ++ numbers_text numbers ++ codes "\n"
+
+-- the question of a number
+abbrev pub question_at : ℕ → Question
+question_at k = slice_index_or questions (k - 1) Q1
+
+-- the words of a verdict's head after that of its question, and its numbers
+abbrev pub head_words : Verdict → List (List ℕ)
+head_words verdict = drop 1 (head_of Q1 verdict).words
+
+abbrev pub head_numbers : Verdict → List ℤ
+head_numbers verdict = (head_of Q1 verdict).numbers
+
+-- the same of an open answer
+abbrev pub gap_words : Gap → List (List ℕ)
+gap_words gap = drop 1 (open_head Q1 gap).words
+
+abbrev pub gap_numbers : Gap → List ℤ
+gap_numbers gap = (open_head Q1 gap).numbers
+
+-- shapes with these linked pairs, and nothing else
+abbrev pub shapes_with : List ℕ → Shapes
+shapes_with pairs = record {
+  sizes = record {
+    species = 0;
+    complexes = 0;
+    reactions = 0;
+    strong = 0;
+    terminal = 0;
+    pairs = 0;
+    class_reactions = [];
+    vector = false;
+  };
+  class_complexes = [];
+  class_members = [];
+  pair_reactions = pairs;
+}
+
+-- the numbers of the leaves after these records
+abbrev pub leaves_after : List Record → List ℕ → List ℕ
+leaves_after [] leaf = leaf
+leaves_after (r ∷ rs) leaf =
+    if is_cut_leaf r then leaves_after rs (later_leaves leaf) else leaves_after rs leaf
+
+-- the lines that open sections before a question's block, if there are sections
+abbrev pub headings : Bool → Question → List Record
+headings true q = map section (opens q)
+headings false q = []
+
+-- the records of an answer, without pairs, after the line that opens its section
+abbrev pub block : Bool → Question → Answer → List Record
+block sections q a = headings sections q ++ records q (shapes_with []) a
+
+-- the blocks of answers to these questions
+abbrev pub blocks : Bool → List Question → List Answer → List Record
+blocks sections (q ∷ qs) (a ∷ more) = block sections q a ++ blocks sections qs more
+blocks sections [] answers = []
+blocks sections (q ∷ qs) [] = []
+
+-- the least reaction of pair i, counted from 0, or nothing if there is none
+abbrev pub pair_at : List ℕ → ℕ → List ℕ
+pair_at pairs i = take 1 (drop i pairs)
+
+-- the records of the trees that show strong classes
+abbrev pub strong_records : (from from_depth to to_depth level : List ℕ) → List Record
+strong_records from from_depth to to_depth level =
+    small_record (codes "from") from ∷ small_record (codes "fromdepth") from_depth
+    ∷ small_record (codes "to") to ∷ small_record (codes "todepth") to_depth
+    ∷ small_record (codes "level") level ∷ []
+
+-- what contracts see of a sink that counts bytes: room for as many more as a count below 2^64 takes
+abbrev pub counter_seen : ℕ → ℕ → SinkSeen
+counter_seen count faults = record {
+  took = None;
+  room = Some (2 ^ 64 - 1 - count);
+  faults = faults;
+}
