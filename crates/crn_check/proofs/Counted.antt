@@ -1,0 +1,40 @@
+-- Reactions by their numbers.
+use Rattle.std.proofs.Common.{◌≡◌, ℕ, ◌+◌, ◌-◌, ◌<◌, ◌≤◌, length, get_or, refl, sym, subst, ◌∙◌, arith}
+use Rattle.crn_vec.specs.Lists.{IsIn}
+use Rattle.crn_vec.specs.Network.{Net}
+use Rattle.crn_vec.specs.Strong.{ReactsTo, IsReaction}
+use Rattle.crn_vec.proofs.CallerLemmas.{in_at, at_in}
+use Rattle.crn_cert.specs.Says.{HasNoReverse}
+use Rattle.crn_cert.specs.ClassTests.{IsReverse}
+
+-- a reaction between two complexes has a place
+pub place_between : (net : Net) (y z : ℕ) → ReactsTo net.reactions y z → (r : ℕ) × IsReaction net.reactions r y z
+place_between net y z h = let f = in_at (y, z) net.reactions (0, 0) h in (f.0, (f.1, f.2))
+
+pub between_place : (net : Net) (r y z : ℕ) → IsReaction net.reactions r y z → ReactsTo net.reactions y z
+between_place net r y z h = subst (λ (p : ℕ × ℕ). IsIn p net.reactions) h.1 (at_in net.reactions r (0, 0) h.0)
+
+-- the reaction at a place
+pub reaction_at : (net : Net) (r y z : ℕ) → r < length net.reactions → y ≡ (get_or net.reactions r (0, 0)).0 → z ≡ (get_or net.reactions r (0, 0)).1 → IsReaction net.reactions r y z
+reaction_at net r y z lt p q = (lt, rw (p, q) refl)
+
+-- a reaction with a reverse
+pub has_reverse : (net : Net) (r b : ℕ) → IsReverse net (r - 1) b → HasNoReverse net r → ⊥
+has_reverse net r b h none =
+    let same : (h.y, h.z) ≡ (none.0, none.1) = sym h.goes.1 ∙ none.2.1.1 in
+    none.3 (subst (λ (p : ℕ × ℕ). ReactsTo net.reactions p.1 p.0) same (between_place net (b - 1) h.z h.y h.back.1))
+
+-- a reaction of which none is the reverse
+pub no_reverse : (net : Net) (r : ℕ) → 1 ≤ r → r ≤ length net.reactions → ((q : ℕ) → q < length net.reactions → IsReverse net (r - 1) (q + 1) → ⊥) → HasNoReverse net r
+no_reverse net r one most none =
+    let y = (get_or net.reactions (r - 1) (0, 0)).0 in
+    let z = (get_or net.reactions (r - 1) (0, 0)).1 in
+    let goes : IsReaction net.reactions (r - 1) y z = (omega arith, refl) in (
+      y,
+      z,
+      (one, goes),
+      λ back.
+          let f = place_between net z y back in
+          let e : f.0 ≡ f.0 + 1 - 1 = omega arith in
+          none f.0 f.1.0 (record { y = y; z = z; goes = goes; back = (omega arith, subst (λ (k : ℕ). IsReaction net.reactions k z y) e f.1) }),
+    )

@@ -1,0 +1,163 @@
+-- The verdicts that facts hold, by their questions.
+use Rattle.std.proofs.Common.{◌≡◌, ◌≢◌, inl, inr, ◌==◌, true, false, ℕ, zero, suc, ◌+◌, ◌-◌, ◌<◌, ◌≤◌, List, [], ◌∷◌, ◌++◌, length, map, get_or, drop, refl, sym, ap, subst, ◌∙◌, arith}
+use Rattle.std.proofs.lemmas.Bool.{eq-eqb, ne_eqb}
+use Rattle.std.proofs.lemmas.List.{drop_more}
+use Rattle.crn_cert.specs.Questions.{Earlier, Question, Q1, Q2, Q3, Q4, Q5, Q6, Q7, Q8, Q9, Q10, Q11, Q12, Q13, Q14, Q15, questions, number, on}
+use Rattle.crn_check.specs.declared.facts.Fact.{Fact}
+use Rattle.crn_vec.specs.Kept.{KeptNums}
+use Rattle.crn_check.specs.Facts.{asked, HoldsOn, HoldsNoneFrom}
+use Rattle.crn_check.specs.Facts.{AreInOrder, IsReserved}
+
+number_at : (k : ℕ) → k < 15 → number (get_or questions k Q15) ≡ k + 1
+number_at zero lt = refl
+number_at (suc zero) lt = refl
+number_at (suc (suc zero)) lt = refl
+number_at (suc (suc (suc zero))) lt = refl
+number_at (suc (suc (suc (suc zero)))) lt = refl
+number_at (suc (suc (suc (suc (suc zero))))) lt = refl
+number_at (suc (suc (suc (suc (suc (suc zero)))))) lt = refl
+number_at (suc (suc (suc (suc (suc (suc (suc zero))))))) lt = refl
+number_at (suc (suc (suc (suc (suc (suc (suc (suc zero)))))))) lt = refl
+number_at (suc (suc (suc (suc (suc (suc (suc (suc (suc zero))))))))) lt = refl
+number_at (suc (suc (suc (suc (suc (suc (suc (suc (suc (suc zero)))))))))) lt = refl
+number_at (suc (suc (suc (suc (suc (suc (suc (suc (suc (suc (suc zero))))))))))) lt = refl
+number_at (suc (suc (suc (suc (suc (suc (suc (suc (suc (suc (suc (suc zero)))))))))))) lt = refl
+number_at (suc (suc (suc (suc (suc (suc (suc (suc (suc (suc (suc (suc (suc zero))))))))))))) lt = refl
+number_at (suc (suc (suc (suc (suc (suc (suc (suc (suc (suc (suc (suc (suc (suc zero)))))))))))))) lt = refl
+number_at (suc (suc (suc (suc (suc (suc (suc (suc (suc (suc (suc (suc (suc (suc (suc k))))))))))))))) lt = absurd (omega arith)
+
+pub number_asked : (n : ℕ) → 1 ≤ n → n ≤ 15 → number (asked n) ≡ n
+number_asked n one few = number_at (n - 1) (omega arith) ∙ omega arith
+
+-- the verdicts of facts with their questions
+abbrev pub earlier_of : List Fact → Earlier
+earlier_of facts = map (λ (f : Fact). (asked f.question, f.verdict)) facts
+
+-- the numbers of the questions of facts
+abbrev pub numbers_of : List Fact → List ℕ
+numbers_of facts = map (λ (f : Fact). f.question) facts
+
+pub order_few : (k : ℕ) (ns : List ℕ) → AreInOrder k ns → k + length ns ≤ 15
+order_few k [] h = omega (arith, h)
+order_few k (n ∷ ns) h = let few = order_few n ns h.1 in omega (arith, h.0, few)
+
+-- facts from a place on hold the verdict on a question, and it is that of all facts
+pub record IsAhead (facts : List Fact) (earlier : Earlier) (n : ℕ) : Type 0 where
+  pub last : ℕ
+  pub order : AreInOrder last (numbers_of facts)
+  pub holds : HoldsOn (earlier_of facts) n
+  pub same : on (earlier_of facts) (asked n) ≡ on earlier (asked n)
+
+pub all_ahead : (facts : List Fact) (n : ℕ) → AreInOrder 0 (numbers_of facts) → HoldsOn (earlier_of facts) n → IsAhead facts (earlier_of facts) n
+all_ahead facts n order holds = record { last = 0; order = order; holds = holds; same = refl }
+
+number_few : (q : Question) → (1 ≤ number q) × (number q ≤ 15)
+number_few Q1 = (omega arith, omega arith)
+number_few Q2 = (omega arith, omega arith)
+number_few Q3 = (omega arith, omega arith)
+number_few Q4 = (omega arith, omega arith)
+number_few Q5 = (omega arith, omega arith)
+number_few Q6 = (omega arith, omega arith)
+number_few Q7 = (omega arith, omega arith)
+number_few Q8 = (omega arith, omega arith)
+number_few Q9 = (omega arith, omega arith)
+number_few Q10 = (omega arith, omega arith)
+number_few Q11 = (omega arith, omega arith)
+number_few Q12 = (omega arith, omega arith)
+number_few Q13 = (omega arith, omega arith)
+number_few Q14 = (omega arith, omega arith)
+number_few Q15 = (omega arith, omega arith)
+
+-- a question with a verdict has a number from 1 to 15
+pub held_few : (earlier : Earlier) (n : ℕ) → HoldsOn earlier n → (1 ≤ n) × (n ≤ 15)
+held_few [] n h = absurd h
+held_few (e ∷ es) n (inl is) = let few = number_few e.0 in (omega (arith, few.0, is), omega (arith, few.1, is))
+held_few (e ∷ es) n (inr later) = held_few es n later
+
+here : (f : Fact) (fs : List Fact) (earlier : Earlier) (n : ℕ) → IsAhead (f ∷ fs) earlier n → f.question ≡ n → f.verdict ≡ on earlier (asked n)
+here f fs earlier n h is = sym found ∙ h.same
+  where
+    equal : (number (asked f.question) == number (asked n)) ≡ true
+    equal = eq-eqb _ _ (ap (λ (x : ℕ). number (asked x)) is)
+
+    found : on (earlier_of (f ∷ fs)) (asked n) ≡ f.verdict
+    found = rw equal refl
+
+later : (f : Fact) (fs : List Fact) (earlier : Earlier) (n : ℕ) → IsAhead (f ∷ fs) earlier n → f.question ≢ n → IsAhead fs earlier n
+later f fs earlier n h other = record {
+  last = f.question;
+  order = h.order.1;
+  holds = elim h.holds [ inl is ↦ absurd (other (sym (is ∙ its))) | inr rest ↦ rest ];
+  same = sym skipped ∙ h.same;
+}
+  where
+    few : f.question ≤ 15
+    few = let all = order_few f.question (numbers_of fs) h.order.1 in omega arith
+
+    its : number (asked f.question) ≡ f.question
+    its = number_asked f.question (omega (arith, h.order.0)) (omega (arith, few))
+
+    asks : number (asked n) ≡ n
+    asks = let r = held_few (earlier_of (f ∷ fs)) n h.holds in number_asked n r.0 r.1
+
+    differ : (number (asked f.question) == number (asked n)) ≡ false
+    differ = ne_eqb _ _ (λ e. other (sym its ∙ e ∙ asks))
+
+    skipped : on (earlier_of (f ∷ fs)) (asked n) ≡ on (earlier_of fs) (asked n)
+    skipped = rw differ refl
+
+pub ahead_here : (facts : List Fact) (i : ℕ) (f : Fact) (earlier : Earlier) (n : ℕ) → IsAhead (drop i facts) earlier n → i < length facts → f ≡ get_or facts i f → f.question ≡ n → f.verdict ≡ on earlier (asked n)
+ahead_here facts i f earlier n h lt is = here f (drop (i + 1) facts) earlier n (subst (λ (fs : List Fact). IsAhead fs earlier n) (drop_more facts i f lt ∙ ap (λ (g : Fact). g ∷ drop (i + 1) facts) (sym is)) h)
+
+pub ahead_later : (facts : List Fact) (i : ℕ) (f : Fact) (earlier : Earlier) (n : ℕ) → IsAhead (drop i facts) earlier n → i < length facts → f ≡ get_or facts i f → f.question ≢ n → IsAhead (drop (i + 1) facts) earlier n
+ahead_later facts i f earlier n h lt is = later f (drop (i + 1) facts) earlier n (subst (λ (fs : List Fact). IsAhead fs earlier n) (drop_more facts i f lt ∙ ap (λ (g : Fact). g ∷ drop (i + 1) facts) (sym is)) h)
+
+-- ---- a verdict on a later question
+
+pub earlier_push : (items : List Fact) (f : Fact) → earlier_of (items ++ f ∷ []) ≡ earlier_of items ++ (asked f.question, f.verdict) ∷ []
+earlier_push [] f = refl
+earlier_push (g ∷ gs) f = ap (λ (es : Earlier). (asked g.question, g.verdict) ∷ es) (earlier_push gs f)
+
+-- the first of facts in order has a question below n, if all have
+below : (g : Fact) (gs : List Fact) (k n : ℕ) → AreInOrder k (numbers_of (g ∷ gs)) → HoldsNoneFrom n (earlier_of (g ∷ gs)) → g.question < n
+below g gs k n h none =
+    let all = order_few g.question (numbers_of gs) h.1 in
+    let its : number (asked g.question) ≡ g.question = number_asked g.question (omega (arith, h.0)) (omega (arith, all)) in
+    omega (arith, none.0, its)
+
+pub order_push : (items : List Fact) (k n : ℕ) (f : Fact) → AreInOrder k (numbers_of items) → HoldsNoneFrom n (earlier_of items) → k < n → n ≤ 15 → f.question ≡ n → AreInOrder k (numbers_of (items ++ f ∷ []))
+order_push [] k n f h none lt few is = (omega (arith, lt, is), omega (arith, few, is))
+order_push (g ∷ gs) k n f h none lt few is = (h.0, order_push gs g.question n f h.1 none.1 (below g gs k n h none) few is)
+
+-- facts in order on questions before n are fewer than n
+pub few_before : (items : List Fact) (k n : ℕ) → AreInOrder k (numbers_of items) → HoldsNoneFrom n (earlier_of items) → k < n → k + length items < n
+few_before [] k n h none lt = omega (arith, lt)
+few_before (g ∷ gs) k n h none lt = let more = few_before gs g.question n h.1 none.1 (below g gs k n h none) in omega (arith, h.0, more)
+
+pub not_held : (earlier : Earlier) (n : ℕ) → HoldsNoneFrom n earlier → HoldsOn earlier n → ⊥
+not_held [] n none held = absurd held
+not_held (e ∷ es) n none (inl is) = let lt = none.0 in omega (arith, lt, is)
+not_held (e ∷ es) n none (inr later) = not_held es n none.1 later
+
+held_push : (items : List Fact) (f : Fact) (n : ℕ) → HoldsOn (earlier_of items) n → HoldsOn (earlier_of (items ++ f ∷ [])) n
+held_push [] f n held = absurd held
+held_push (g ∷ gs) f n (inl is) = inl is
+held_push (g ∷ gs) f n (inr later) = inr (held_push gs f n later)
+
+held_last : (items : List Fact) (f : Fact) (n : ℕ) → n ≡ number (asked f.question) → HoldsOn (earlier_of (items ++ f ∷ [])) n
+held_last [] f n is = inl is
+held_last (g ∷ gs) f n is = inr (held_last gs f n is)
+
+pub reserved_push : (items : List Fact) (f : Fact) (n room : ℕ) (kept : KeptNums) → IsReserved (earlier_of items) n room kept → IsReserved (earlier_of (items ++ f ∷ [])) n room kept
+reserved_push items f n room kept h none = h (λ held. none (held_push items f n held))
+
+pub reserved_taken : (items : List Fact) (f : Fact) (n room : ℕ) (kept : KeptNums) → n ≡ number (asked f.question) → IsReserved (earlier_of (items ++ f ∷ [])) n room kept
+reserved_taken items f n room kept is none = absurd (none (held_last items f n is))
+
+-- ---- lists with no spare
+
+abbrev kept : List ℕ → ℕ → KeptNums
+kept list spare = record { list = list; spare = spare }
+
+pub kept_same : (k : KeptNums) (list : List ℕ) → k.list ≡ list → k.spare ≡ 0 → k ≡ kept list 0
+kept_same k list same none = subst (λ (l : List ℕ). k ≡ kept l 0) same (subst (λ (s : ℕ). k ≡ kept k.list s) none refl)

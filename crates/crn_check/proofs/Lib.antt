@@ -1,0 +1,5 @@
+mod Decided
+mod Numbering
+mod Counted
+mod Kept
+mod Forms

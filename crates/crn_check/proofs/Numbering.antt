@@ -1,0 +1,83 @@
+-- Labels that are numbered by first appearance, read from left to right.
+use Rattle.std.proofs.Common.{◌≡◌, inl, inr, ℕ, ◌+◌, ◌<◌, ◌≤◌, List, length, get_or, sym, subst, arith}
+use Rattle.std.proofs.lemmas.Bool.{cases_lt}
+use Rattle.crn_cert.specs.ClassTests.{AreNumbered}
+
+-- the labels of the complexes before i are numbered by first appearance, up to `most`
+pub record IsNumberedTo (labels : List ℕ) (i most : ℕ) : Type 0 where
+  pub some : (y : ℕ) → y < i → 1 ≤ get_or labels y 0
+  pub within : (y : ℕ) → y < i → get_or labels y 0 ≤ most
+  pub numbered : (y k : ℕ) → y < i → 1 ≤ k → k < get_or labels y 0 → (x : ℕ) × (x < y) × (get_or labels x 0 ≡ k)
+  pub each : (k : ℕ) → 1 ≤ k → k ≤ most → (y : ℕ) × (y < i) × (get_or labels y 0 ≡ k)
+
+pub none_numbered : (labels : List ℕ) → IsNumberedTo labels 0 0
+none_numbered labels = record {
+  some = λ y lt. absurd (omega arith);
+  within = λ y lt. absurd (omega arith);
+  numbered = λ y k lt one less. absurd (omega arith);
+  each = λ k one most. absurd (omega arith);
+}
+
+-- a label that has appeared
+pub numbered_old : (labels : List ℕ) (i most : ℕ) → IsNumberedTo labels i most → 1 ≤ get_or labels i 0 → get_or labels i 0 ≤ most → IsNumberedTo labels (i + 1) most
+numbered_old labels i most h one le = record {
+  some = λ y lt. elim (cases_lt y i) [ inl early ↦ h.some y early | inr late ↦ subst (λ (x : ℕ). 1 ≤ get_or labels x 0) (at y lt late) one ];
+  within = λ y lt. elim (cases_lt y i) [ inl early ↦ h.within y early | inr late ↦ subst (λ (x : ℕ). get_or labels x 0 ≤ most) (at y lt late) le ];
+  numbered = λ y k lt some less. elim (cases_lt y i) [
+    | inl early ↦ h.numbered y k early some less
+    | inr late ↦
+        let less : k < get_or labels i 0 = subst (λ (x : ℕ). k < get_or labels x 0) (sym (at y lt late)) less in
+        let f = h.each k some (omega (arith, less, le)) in
+        (f.0, omega (arith, f.1, late), f.2)
+  ];
+  each = λ k some few. let f = h.each k some few in (f.0, omega (arith, f.1), f.2);
+}
+  where
+    at : (y : ℕ) → y < i + 1 → i ≤ y → i ≡ y
+    at y lt le = omega arith
+
+-- the next label
+pub numbered_new : (labels : List ℕ) (i most : ℕ) → IsNumberedTo labels i most → get_or labels i 0 ≡ most + 1 → IsNumberedTo labels (i + 1) (most + 1)
+numbered_new labels i most h e = record {
+  some = λ y lt. elim (cases_lt y i) [ inl early ↦ h.some y early | inr late ↦ subst (λ (x : ℕ). 1 ≤ get_or labels x 0) (at y lt late) (omega (arith, e)) ];
+  within = λ y lt. elim (cases_lt y i) [ inl early ↦ let w = h.within y early in omega arith | inr late ↦ subst (λ (x : ℕ). get_or labels x 0 ≤ most + 1) (at y lt late) (omega (arith, e)) ];
+  numbered = λ y k lt some less. elim (cases_lt y i) [
+    | inl early ↦ h.numbered y k early some less
+    | inr late ↦
+        let less : k < get_or labels i 0 = subst (λ (x : ℕ). k < get_or labels x 0) (sym (at y lt late)) less in
+        let f = h.each k some (omega (arith, less, e)) in
+        (f.0, omega (arith, f.1, late), f.2)
+  ];
+  each = λ k some few. elim (cases_lt most k) [
+    | inl last ↦ (i, omega arith, omega (arith, e))
+    | inr old ↦ let f = h.each k some old in (f.0, omega (arith, f.1), f.2)
+  ];
+}
+  where
+    at : (y : ℕ) → y < i + 1 → i ≤ y → i ≡ y
+    at y lt le = omega arith
+
+-- a label that leaves one out
+pub numbered_gap : (labels : List ℕ) (i most count : ℕ) → IsNumberedTo labels i most → i < length labels → most + 1 < get_or labels i 0 → AreNumbered labels count → ⊥
+numbered_gap labels i most count h lt gap all =
+    let f = all.numbered i (most + 1) lt (omega arith) gap in
+    let w = h.within f.0 f.1 in
+    let e = f.2 in
+    omega arith
+
+pub numbered_all : (labels : List ℕ) (most : ℕ) → IsNumberedTo labels (length labels) most → AreNumbered labels most
+numbered_all labels most h = record {
+  positive = h.some;
+  numbered = h.numbered;
+  count_is = record { most = h.within; each = h.each };
+}
+
+-- the labels have one count
+pub one_count : (labels : List ℕ) (most count : ℕ) → IsNumberedTo labels (length labels) most → AreNumbered labels count → most ≡ count
+one_count labels most count h all = elim (cases_lt most count) [
+  | inl less ↦ absurd (let f = all.count_is.each count (omega arith) (omega arith) in let w = h.within f.0 f.1 in let e = f.2 in omega arith)
+  | inr le ↦ elim (cases_lt count most) [
+    | inl less ↦ absurd (let f = h.each most (omega arith) (omega arith) in let w = all.count_is.most f.0 f.1 in let e = f.2 in omega arith)
+    | inr ge ↦ omega arith
+  ]
+]

@@ -1,0 +1,4 @@
+-- For the contracts of private functions alone.
+pub mod Trees
+pub mod Facts
+pub mod Tests

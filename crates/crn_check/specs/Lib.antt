@@ -1,0 +1,4 @@
+pub mod Facts
+pub mod Verdicts
+pub mod Check
+pub mod Inner

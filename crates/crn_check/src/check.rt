@@ -1,0 +1,78 @@
+ghost use Rattle.std.specs.Prelude.{◌≡◌, [], ◌∷◌, ◌++◌, OnOk, OnErr};
+ghost use Rattle.crn_cert.specs.Formed.{HeadMayBe, IsFormed};
+ghost use Rattle.crn_cert.specs.Valid.{head_tests, row_tests, tests_of};
+ghost use Rattle.crn_check.specs.Verdicts.{tight};
+ghost use Rattle.crn_check.specs.Facts.{asked, HoldsNoneFrom, AreFactsOf};
+ghost use Rattle.crn_check.specs.Check.{IsBuilt, Judges};
+
+use crate::facts::Facts;
+use crate::fault::CheckFault;
+use crate::linkage::check_linkage;
+use crate::reversible::{check_reverses, check_reversible_head};
+use crn_cert::{Answer, Verdict};
+use crn_net::Network;
+
+/// The tests of the head of a verdict, before the lists of its later records are read. It takes no memory.
+///
+/// Questions are counted from 1. The facts hold verdicts accepted for this network. The lists of the verdict that stand
+/// in later records may be empty.
+pub fn check_head(
+    net: &Network,
+    facts: &Facts,
+    question: u32,
+    verdict: &Verdict,
+) -> Result<(), CheckFault>
+    requires built { IsBuilt question }
+    requires facts { AreFactsOf net.now facts.now }
+    requires head { HeadMayBe net.now facts.now.earlier (asked question) verdict.now }
+    ensures { Judges (head_tests net.now facts.now.earlier (asked question) verdict.now) result }
+{
+    match question {
+        3 => check_reversible_head(net, verdict),
+        _ => Ok(()),
+    }
+}
+
+// The tests of the records below a head.
+fn check_rows(
+    net: &Network,
+    facts: &Facts,
+    question: u32,
+    answer: &Answer,
+) -> Result<(), CheckFault>
+    requires built { IsBuilt question }
+    requires formed { IsFormed net.now facts.now.earlier (asked question) answer.now }
+    ensures { let now = answer.now in
+        Judges (row_tests net.now facts.now.earlier (asked question) now.verdict now.proof) result }
+{
+    match question {
+        1 => check_linkage(net, &answer.verdict, &answer.proof),
+        _ => check_reverses(net, &answer.verdict, &answer.proof),
+    }
+}
+
+/// Whether the answer to a question is valid, and if it is, the facts hold its verdict. It takes no memory.
+///
+/// Questions are counted from 1. The facts hold verdicts accepted for this network, on earlier questions only. The fault
+/// names the first test that fails, the tests of the head first.
+pub fn check_answer(
+    net: &Network,
+    facts: &mut Facts,
+    question: u32,
+    answer: &Answer,
+) -> Result<(), CheckFault>
+    requires built { IsBuilt question }
+    requires facts { AreFactsOf net.now facts.old }
+    requires later { HoldsNoneFrom question facts.old.earlier }
+    requires formed { IsFormed net.now facts.old.earlier (asked question) answer.now }
+    ensures judged { Judges (tests_of net.now facts.old.earlier (asked question) answer.now) result }
+    ensures kept { OnOk result (facts.new.earlier
+        ≡ facts.old.earlier ++ (asked question, tight answer.now.verdict) ∷ []) }
+    ensures same { OnErr result (facts.new ≡ facts.old) }
+    ensures facts { AreFactsOf net.now facts.new }
+{
+    check_head(net, facts, question, &answer.verdict)?;
+    check_rows(net, facts, question, answer)?;
+    facts.accept(question, &answer.verdict);
+    Ok(())
+}
