@@ -1,9 +1,11 @@
 -- Reactions by their numbers.
-use Rattle.std.proofs.Common.{◌≡◌, ℕ, ◌+◌, ◌-◌, ◌<◌, ◌≤◌, length, get_or, refl, sym, subst, ◌∙◌, arith}
+use Rattle.std.proofs.Common.{◌≡◌, ℕ, ◌+◌, ◌-◌, ◌<◌, ◌≤◌, List, length, get_or, refl, sym, subst, ◌∙◌, arith}
+use Rattle.std.proofs.lemmas.Grind.{common_steps}
 use Rattle.crn_vec.specs.Lists.{IsIn}
 use Rattle.crn_vec.specs.Network.{Net}
 use Rattle.crn_vec.specs.Strong.{ReactsTo, IsReaction}
 use Rattle.crn_vec.proofs.CallerLemmas.{in_at, at_in}
+use Rattle.crn_cert.specs.Ranges.{AreFrom}
 use Rattle.crn_cert.specs.Says.{HasNoReverse}
 use Rattle.crn_cert.specs.ClassTests.{IsReverse}
 
@@ -38,3 +40,7 @@ no_reverse net r one most none =
           let e : f.0 ≡ f.0 + 1 - 1 = omega arith in
           none f.0 f.1.0 (record { y = y; z = z; goes = goes; back = (omega arith, subst (λ (k : ℕ). IsReaction net.reactions k z y) e f.1) }),
     )
+
+-- a list of labels gives each complex one from 1 to the count
+pub label_from : (count most : ℕ) (labels : List ℕ) (y : ℕ) → AreFrom count 1 most labels → y < count → (1 ≤ get_or labels y 0) × (get_or labels y 0 ≤ most)
+label_from count most labels y h lt = grind (arith, common_steps, h.each)

@@ -1,7 +1,7 @@
 -- Labels that are numbered by first appearance, read from left to right.
-use Rattle.std.proofs.Common.{◌≡◌, inl, inr, ℕ, ◌+◌, ◌<◌, ◌≤◌, List, length, get_or, sym, subst, arith}
-use Rattle.std.proofs.lemmas.Bool.{cases_lt}
-use Rattle.crn_cert.specs.ClassTests.{AreNumbered}
+use Rattle.std.proofs.Common.{◌≡◌, ◌↔◌, inl, inr, ℕ, ◌+◌, ◌<◌, ◌≤◌, List, length, get_or, IsTrue, nat_lt, sym, subst, arith}
+use Rattle.std.proofs.lemmas.Bool.{cases_lt, lt-ltb, ltb-true}
+use Rattle.crn_cert.specs.ClassTests.{AreNumbered, IsFirst}
 
 -- the labels of the complexes before i are numbered by first appearance, up to `most`
 pub record IsNumberedTo (labels : List ℕ) (i most : ℕ) : Type 0 where
@@ -80,4 +80,23 @@ one_count labels most count h all = elim (cases_lt most count) [
     | inl less ↦ absurd (let f = h.each most (omega arith) (omega arith) in let w = all.count_is.most f.0 f.1 in let e = f.2 in omega arith)
     | inr ge ↦ omega arith
   ]
+]
+
+-- a complex is the first of its class if and only if its label exceeds all labels before it
+pub first_new : (labels : List ℕ) (i most count : ℕ) → IsNumberedTo labels i most → AreNumbered labels count → i < length labels → (IsTrue (nat_lt most (get_or labels i 0)) ↔ IsFirst labels i)
+first_new labels i most count h all lt = (
+  λ more b before same. let w = h.within b before in let less = ltb-true _ _ more in omega (arith, w, less, same),
+  λ first. elim (cases_lt most (get_or labels i 0)) [
+    | inl more ↦ lt-ltb _ _ more
+    | inr le ↦ absurd (let f = h.each (get_or labels i 0) (all.positive i lt) le in first f.0 f.1 f.2)
+  ],
+)
+
+-- a label that exceeds all before it is the next
+pub numbered_next : (labels : List ℕ) (i most count : ℕ) → IsNumberedTo labels i most → AreNumbered labels count → i < length labels → most < get_or labels i 0 → IsNumberedTo labels (i + 1) (get_or labels i 0)
+numbered_next labels i most count h all lt more = elim (cases_lt (most + 1) (get_or labels i 0)) [
+  | inl gap ↦ absurd (numbered_gap labels i most count h lt gap all)
+  | inr le ↦
+      let next : get_or labels i 0 ≡ most + 1 = omega arith in
+      subst (IsNumberedTo labels (i + 1)) (sym next) (numbered_new labels i most h next)
 ]

@@ -1,18 +1,33 @@
 -- What the check of an answer says: all its tests hold, or the first that fails.
 -- Source: this project's own.
+-- Shapes: questions and parts count from 1; part 0 is the head.
 use Rattle.std.specs.Prelude.{ℕ, List, [], ◌∷◌, map, Result, Ok, Err}
+use Rattle.std.specs.List.{AllByRecursion}
 use Rattle.crn_vec.specs.Lists.{IsIn}
-use Rattle.crn_cert.specs.Questions.{Question, Q1, Q3, number}
+use Rattle.crn_cert.specs.Built.{built}
+use Rattle.crn_cert.specs.Questions.{Earlier, Question, Q1, Q2, Q4, Q5, Q6, Q7, Q9, Q10, Q11, Q12, Q13, number}
 use Rattle.crn_cert.specs.Tests.{Test, AllHold, FailsFirst}
 use Rattle.crn_check.specs.declared.fault.CheckFault.{CheckFault}
+use Rattle.crn_check.specs.Facts.{asked, HoldsOn}
 
--- the questions whose answers can be checked
-abbrev pub built : List Question
-built = Q1 ∷ Q3 ∷ []
-
--- the question of this number is one of them
+-- the question of this number is answered
 abbrev pub IsBuilt : ℕ → Type 0
 IsBuilt n = IsIn n (map number built)
+
+-- the questions at whose verdicts the form or the tests of an answer look
+abbrev pub needs : Question → List Question
+needs Q4 = Q2 ∷ []
+needs Q6 = Q1 ∷ Q5 ∷ []
+needs Q9 = Q1 ∷ Q4 ∷ Q5 ∷ []
+needs Q10 = Q1 ∷ Q2 ∷ Q6 ∷ []
+needs Q11 = Q1 ∷ Q2 ∷ Q7 ∷ []
+needs Q12 = Q1 ∷ Q2 ∷ Q4 ∷ Q11 ∷ []
+needs Q13 = Q2 ∷ Q4 ∷ Q12 ∷ []
+needs q = []
+
+-- there is a verdict on each question at whose verdict an answer to this one looks
+abbrev pub HoldsNeeds : Earlier → ℕ → Type 0
+HoldsNeeds earlier n = AllByRecursion (λ q. HoldsOn earlier (number q)) (needs (asked n))
 
 -- all tests hold, or the fault names the first that fails
 abbrev pub Judges : List Test → Result Unit CheckFault → Type 0

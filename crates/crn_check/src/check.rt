@@ -3,12 +3,14 @@ ghost use Rattle.crn_cert.specs.Formed.{HeadMayBe, IsFormed};
 ghost use Rattle.crn_cert.specs.Valid.{head_tests, row_tests, tests_of};
 ghost use Rattle.crn_check.specs.Verdicts.{tight};
 ghost use Rattle.crn_check.specs.Facts.{asked, HoldsNoneFrom, AreFactsOf};
-ghost use Rattle.crn_check.specs.Check.{IsBuilt, Judges};
+ghost use Rattle.crn_check.specs.Check.{IsBuilt, HoldsNeeds, Judges};
 
 use crate::facts::Facts;
 use crate::fault::CheckFault;
 use crate::linkage::check_linkage;
 use crate::reversible::{check_reverses, check_reversible_head};
+use crate::strong::check_strong;
+use crate::weak::check_weak_head;
 use crn_cert::{Answer, Verdict};
 use crn_net::Network;
 
@@ -24,11 +26,13 @@ pub fn check_head(
 ) -> Result<(), CheckFault>
     requires built { IsBuilt question }
     requires facts { AreFactsOf net.now facts.now }
+    requires needs { HoldsNeeds facts.now.earlier question }
     requires head { HeadMayBe net.now facts.now.earlier (asked question) verdict.now }
     ensures { Judges (head_tests net.now facts.now.earlier (asked question) verdict.now) result }
 {
     match question {
         3 => check_reversible_head(net, verdict),
+        4 => check_weak_head(net, facts, verdict),
         _ => Ok(()),
     }
 }
@@ -47,7 +51,9 @@ fn check_rows(
 {
     match question {
         1 => check_linkage(net, &answer.verdict, &answer.proof),
-        _ => check_reverses(net, &answer.verdict, &answer.proof),
+        2 => check_strong(net, &answer.verdict, &answer.proof),
+        3 => check_reverses(net, &answer.verdict, &answer.proof),
+        _ => Ok(()),
     }
 }
 
@@ -63,9 +69,11 @@ pub fn check_answer(
 ) -> Result<(), CheckFault>
     requires built { IsBuilt question }
     requires facts { AreFactsOf net.now facts.old }
+    requires needs { HoldsNeeds facts.old.earlier question }
     requires later { HoldsNoneFrom question facts.old.earlier }
     requires formed { IsFormed net.now facts.old.earlier (asked question) answer.now }
-    ensures judged { Judges (tests_of net.now facts.old.earlier (asked question) answer.now) result }
+    ensures judged { let earlier = facts.old.earlier in
+        Judges (tests_of net.now earlier (asked question) answer.now) result }
     ensures kept { OnOk result (facts.new.earlier
         ≡ facts.old.earlier ++ (asked question, tight answer.now.verdict) ∷ []) }
     ensures same { OnErr result (facts.new ≡ facts.old) }

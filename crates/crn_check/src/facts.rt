@@ -1,6 +1,6 @@
 ghost use Rattle.std.specs.Prelude.{◌≡◌, ◌≤◌, ◌<◌, [], ◌∷◌, ◌++◌, length, IfOk, vec_len, vec_capacity};
 ghost use Rattle.crn_cert.specs.Questions.{on};
-ghost use Rattle.crn_cert.specs.declared.answer.Verdict.TheVariants.{Classes};
+ghost use Rattle.crn_cert.specs.declared.answer.Verdict.TheVariants.{Classes, Strong};
 ghost use Rattle.crn_cert.specs.Ranges.{IsFrom};
 ghost use Rattle.crn_check.specs.Verdicts.{tight};
 ghost use Rattle.crn_check.specs.Facts.{asked, HoldsOn, HoldsNoneFrom, AreFactsOf};
@@ -23,20 +23,30 @@ struct Fact {
 // Memory for the lists of verdicts that are not accepted yet.
 #[derive(Drop)]
 struct Rooms {
-    label: Nums,
+    linkage: Nums,
+    strong: Nums,
+    exit: Nums,
 }
 
 // The numbers in the memory of an empty list with room for them.
 fn filled(mut list: Nums, values: &[u32]) -> Nums
     requires empty { list.list ≡ [] }
     requires room { length values.now ≤ list.spare }
-    ensures list { result.list ≡ values.now }
-    ensures spare { result.spare ≡ 0 }
+    ensures { result ≡ record { list = values.now; spare = 0 } }
 {
     for value in values {
         let _ = list.push(*value);
     }
     Nums::from_vec(list.into_vec())
+}
+
+// The numbers in memory that is taken from this place, which has room for them.
+fn moved(alloc: Global, room: &mut Nums, values: &[u32]) -> Nums
+    requires empty { room.old.list ≡ [] }
+    requires room { length values.now ≤ room.old.spare }
+    ensures { result ≡ record { list = values.now; spare = 0 } }
+{
+    filled(mem::replace(room, Nums::from_vec(Vec::new(alloc))), values)
 }
 
 // Adds a fact to a list that has room for it.
@@ -70,7 +80,9 @@ impl Model for Facts {
     ghost invariant = { λ s.
         let earlier = map (λ f. (asked f.question, f.verdict)) s.items.items in
         (15 ≤ vec_capacity s.items) × AreInOrder 0 (map (λ f. f.question) s.items.items)
-        × IsReserved earlier 1 s.complexes s.rooms.label };
+        × IsReserved earlier 1 s.complexes s.rooms.linkage
+        × IsReserved earlier 2 s.complexes s.rooms.strong
+        × IsReserved earlier 2 s.complexes s.rooms.exit };
 }
 
 impl Facts {
@@ -83,7 +95,9 @@ impl Facts {
         Ok(Facts {
             items: Vec::with_capacity(alloc, 15)?,
             rooms: Rooms {
-                label: Nums::with_room(alloc, complexes)?,
+                linkage: Nums::with_room(alloc, complexes)?,
+                strong: Nums::with_room(alloc, complexes)?,
+                exit: Nums::with_room(alloc, complexes)?,
             },
             complexes,
         })
@@ -121,16 +135,32 @@ impl Facts {
         ensures room { self.new.room ≡ self.old.room }
     {
         let alloc = *self.items.allocator();
-        let room = mem::replace(&mut self.rooms.label, Nums::from_vec(Vec::new(alloc)));
-        let label = filled(room, label.as_slice());
+        let label = moved(alloc, &mut self.rooms.linkage, label.as_slice());
         let verdict = Verdict::Classes { count, label };
-        add(
-            &mut self.items,
-            Fact {
-                question: 1,
-                verdict,
-            },
-        );
+        let question = 1;
+        add(&mut self.items, Fact { question, verdict });
+    }
+
+    // Adds the verdict on strong classes, in the memory that is reserved for it.
+    fn accept_strong(&mut self, count: u32, terminal: u32, label: &Nums, exit: &Nums)
+        requires later { HoldsNoneFrom 2 self.old.earlier }
+        requires label { length label.now.list ≤ self.old.room }
+        requires exit { length exit.now.list ≤ self.old.room }
+        ensures kept { let verdict = Strong count terminal label.now exit.now in
+            self.new.earlier ≡ self.old.earlier ++ (asked 2, tight verdict) ∷ [] }
+        ensures room { self.new.room ≡ self.old.room }
+    {
+        let alloc = *self.items.allocator();
+        let label = moved(alloc, &mut self.rooms.strong, label.as_slice());
+        let exit = moved(alloc, &mut self.rooms.exit, exit.as_slice());
+        let verdict = Verdict::Strong {
+            count,
+            terminal,
+            label,
+            exit,
+        };
+        let question = 2;
+        add(&mut self.items, Fact { question, verdict });
     }
 
     // Adds the accepted verdict on a question, in the memory that is reserved for it.
@@ -144,6 +174,12 @@ impl Facts {
     {
         match verdict {
             Verdict::Classes { count, label } => self.accept_linkage(*count, label),
+            Verdict::Strong {
+                count,
+                terminal,
+                label,
+                exit,
+            } => self.accept_strong(*count, *terminal, label, exit),
             Verdict::NoReaction { reaction } => self.accept_plain(
                 question,
                 Verdict::NoReaction {

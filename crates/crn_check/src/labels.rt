@@ -1,5 +1,7 @@
-ghost use Rattle.std.specs.Prelude.{◌≡◌, ◌↔◌, ◌<◌, IsTrue, length};
-ghost use Rattle.crn_cert.specs.ClassTests.{AreNumbered, AreEven, IsFirst};
+ghost use Rattle.std.specs.Prelude.{◌≡◌, ◌↔◌, IsTrue, length};
+ghost use Rattle.crn_cert.specs.Ranges.{IsFrom};
+ghost use Rattle.crn_cert.specs.ClassTests.{AreNumbered, AreEven};
+ghost use Rattle.crn_check.specs.Inner.Tests.{LeavesLabels};
 
 use crn_net::Network;
 
@@ -35,15 +37,12 @@ pub(crate) fn are_even(net: &Network, labels: &[u32]) -> bool
     true
 }
 
-// Whether no complex before this one has its label.
-pub(crate) fn is_first(labels: &[u32], c: usize) -> bool
-    requires { c < length labels.now }
-    ensures { IsTrue result ↔ IsFirst labels.now c }
+// Whether a reaction, counted from 1, goes to a complex of another label.
+pub(crate) fn leaves_label(net: &Network, labels: &[u32], reaction: u32) -> bool
+    requires labelled { length labels.now ≡ length net.now.complexes }
+    requires number { IsFrom 1 (length net.now.reactions) reaction }
+    ensures { IsTrue result ↔ LeavesLabels net.now labels.now reaction }
 {
-    for b in 0..c {
-        if labels[b] == labels[c] {
-            return false;
-        }
-    }
-    true
+    let r = reaction as usize - 1;
+    labels[net.reactant(r)] != labels[net.product(r)]
 }

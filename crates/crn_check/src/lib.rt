@@ -2,15 +2,19 @@
 #![tactic(auto)]
 
 mod check;
+mod exits;
 mod facts;
 mod fault;
 mod labels;
+mod levels;
 mod linkage;
 mod reverses;
 mod reversible;
+mod strong;
 #[cfg(test)]
 mod tests;
 mod trees;
+mod weak;
 
 pub use check::{check_answer, check_head};
 pub use facts::Facts;

@@ -1,9 +1,8 @@
 ghost use Rattle.std.specs.Prelude.{◌≡◌, ◌↔◌, ◌≤◌, ◌<◌, suc, IsTrue, length, slice_index};
 ghost use Rattle.crn_cert.specs.Formed.{IsForest};
-ghost use Rattle.crn_cert.specs.ClassTests.{HangsByLink, HangsFrom, HangsTo};
-ghost use Rattle.crn_check.specs.Inner.Trees.{Hangs, IsInTree, AreTrees};
+ghost use Rattle.crn_cert.specs.ClassTests.{IsFirst, HangsByLink, HangsFrom, HangsTo};
+ghost use Rattle.crn_check.specs.Inner.Trees.{HaveNumbers, IsInTree, AreTrees};
 
-use crate::labels::is_first;
 use crn_net::Network;
 
 // How the reaction that a complex names joins it to its parent.
@@ -70,6 +69,7 @@ fn hangs_to(net: &Network, labels: &[u32], names: &[u32], depth: &[u32], c: usiz
 fn is_in_tree(
     net: &Network,
     rule: Rule,
+    first: bool,
     labels: &[u32],
     names: &[u32],
     depth: &[u32],
@@ -78,9 +78,10 @@ fn is_in_tree(
     requires labelled { length labels.now ≡ length net.now.complexes }
     requires forest { IsForest net.now names.now depth.now }
     requires inside { c < length net.now.complexes }
+    requires first { IsTrue first ↔ IsFirst labels.now c }
     ensures { IsTrue result ↔ IsInTree rule net.now labels.now names.now depth.now c }
 {
-    if is_first(labels, c) {
+    if first {
         return names[c] == 0 && depth[c] == 0;
     }
     if names[c] == 0 {
@@ -102,12 +103,18 @@ pub(crate) fn are_trees(
     depth: &[u32],
 ) -> bool
     requires labelled { length labels.now ≡ length net.now.complexes }
+    requires numbered { HaveNumbers labels.now }
     requires forest { IsForest net.now names.now depth.now }
     ensures { IsTrue result ↔ AreTrees rule net.now labels.now names.now depth.now }
 {
+    let mut most = 0;
     for c in 0..net.complexes() {
-        if !is_in_tree(net, rule, labels, names, depth, c) {
+        let first = labels[c] > most;
+        if !is_in_tree(net, rule, first, labels, names, depth, c) {
             return false;
+        }
+        if first {
+            most = labels[c];
         }
     }
     true

@@ -2,9 +2,13 @@
 -- The rules by which complexes hang in the trees of classes.
 use Rattle.std.specs.Prelude.{ℕ, List}
 use Rattle.crn_vec.specs.Network.{Net}
-use Rattle.crn_cert.specs.ClassTests.{HangsByLink, HangsFrom, HangsTo, IsTree, EachComplex}
+use Rattle.crn_cert.specs.ClassTests.{AreNumbered, HangsByLink, HangsFrom, HangsTo, IsTree, EachComplex}
 use Rattle.crn_check.specs.declared.trees.Rule.{Rule}
 use Rattle.crn_check.specs.declared.trees.Rule.TheVariants.{ByLink, From, To}
+
+-- the labels count from 1 by first appearance
+abbrev pub HaveNumbers : List ℕ → Type 0
+HaveNumbers labels = (count : ℕ) × AreNumbered labels count
 
 -- the reaction that c names joins it to its parent by the rule
 abbrev pub Hangs : Rule → Net → List ℕ → List ℕ → List ℕ → ℕ → Type 0

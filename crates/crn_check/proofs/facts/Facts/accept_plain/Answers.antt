@@ -22,7 +22,9 @@ invariant_of-self c =
     let fact : Fact = record { question = c.args.question; verdict = c.args.verdict } in (
       c.add.ensures.room,
       subst (λ (fs : List Fact). AreInOrder 0 (numbers_of fs)) (sym c.add.ensures.items) (order_push items 0 c.args.question fact c.self.invariant.1 later (omega (arith, c.requires.number.0)) c.requires.number.1 refl),
-      subst (λ (fs : List Fact). IsReserved (earlier_of fs) 1 c.self.inside.complexes c.self.inside.rooms.label) (sym c.add.ensures.items) (reserved_push items fact 1 c.self.inside.complexes c.self.inside.rooms.label c.self.invariant.2),
+      subst (λ (fs : List Fact). IsReserved (earlier_of fs) 1 c.self.inside.complexes c.self.inside.rooms.linkage) (sym c.add.ensures.items) (reserved_push items fact 1 c.self.inside.complexes c.self.inside.rooms.linkage c.self.invariant.2),
+      subst (λ (fs : List Fact). IsReserved (earlier_of fs) 2 c.self.inside.complexes c.self.inside.rooms.strong) (sym c.add.ensures.items) (reserved_push items fact 2 c.self.inside.complexes c.self.inside.rooms.strong c.self.invariant.3),
+      subst (λ (fs : List Fact). IsReserved (earlier_of fs) 2 c.self.inside.complexes c.self.inside.rooms.exit) (sym c.add.ensures.items) (reserved_push items fact 2 c.self.inside.complexes c.self.inside.rooms.exit c.self.invariant.4),
     )
 
 pub returns-clause-kept : goal.returns-clause-kept
