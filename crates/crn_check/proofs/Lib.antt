@@ -1,3 +1,4 @@
+pub mod CallerLemmas
 mod Decided
 mod Judging
 mod Numbering
@@ -5,3 +6,5 @@ mod Counted
 mod Leaving
 mod Kept
 mod Forms
+mod Spares
+mod Asked

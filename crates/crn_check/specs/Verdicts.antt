@@ -1,4 +1,4 @@
--- Verdicts without the spares of their lists.
+-- Verdicts and proofs without the spares of their lists.
 -- Source: this project's own.
 use Rattle.std.specs.Prelude.{map}
 use Rattle.crn_vec.specs.Kept.{KeptInts, KeptNums}
@@ -6,6 +6,9 @@ use Rattle.crn_cert.specs.declared.answer.Gap.{Gap}
 use Rattle.crn_cert.specs.declared.answer.Gap.TheVariants.{Wide, Budget, Rests}
 use Rattle.crn_cert.specs.declared.answer.Verdict.{Verdict}
 use Rattle.crn_cert.specs.declared.answer.Verdict.TheVariants.{Classes, Strong, Rank, Deficiency, YesVec, YesSignal, NoVec, NoCycle, NoPair, Plane, Unknown}
+use Rattle.crn_cert.specs.declared.answer.Proof.{Proof}
+use Rattle.crn_cert.specs.declared.answer.Proof.TheVariants.{Forest, Strong as StrongTrees, Back, Rank as RankRows, Ranks}
+use Rattle.crn_cert.specs.declared.answer.RankProof.{RankProof}
 use Rattle.crn_cert.specs.Questions.{Earlier}
 
 -- the list of natural numbers, with no spare
@@ -38,6 +41,25 @@ tight (NoPair alpha weights) = NoPair (tight_ints alpha) (tight_ints weights)
 tight (Plane first second one two) = Plane first second (tight_ints one) (tight_ints two)
 tight (Unknown gap) = Unknown (tight_gap gap)
 tight other = other
+
+-- the proof of a rank, with no spare
+abbrev pub tight_rank : RankProof → RankProof
+tight_rank proof = record {
+  base = tight_nums proof.base;
+  duals = proof.duals;
+  combs = proof.combs;
+}
+
+-- the proof with the same lists, which have no spare, but for the lists in trees
+abbrev pub tight_proof : Proof → Proof
+tight_proof (Forest up depth) = Forest (tight_nums up) (tight_nums depth)
+tight_proof (StrongTrees from from_depth to to_depth level) =
+    StrongTrees (tight_nums from) (tight_nums from_depth) (tight_nums to) (tight_nums to_depth)
+    (tight_nums level)
+tight_proof (Back back) = Back (tight_nums back)
+tight_proof (RankRows proof) = RankRows (tight_rank proof)
+tight_proof (Ranks list) = Ranks (map tight_rank list)
+tight_proof other = other
 
 -- verdicts with their questions, with no spares
 abbrev pub all_tight : Earlier → Earlier
