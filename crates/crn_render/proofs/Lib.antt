@@ -1,0 +1,4 @@
+mod Texts
+mod ClassLines
+mod Readings
+mod SumEntries

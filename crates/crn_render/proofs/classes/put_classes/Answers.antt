@@ -1,0 +1,14 @@
+use Rattle.std.proofs.lemmas.Result.{err_from_is_err_and}
+use Rattle.crn_io.proofs.CallerLemmas.{WroteAll-step, WrotePrefix-step, Wrote-prefix}
+use Rattle.crn_render.specs.Details.{class_line}
+use Rattle.crn_render.proofs.ClassLines.{lines_step, lines_whole}
+use Rattle.crn_render.proofs.classes.put_classes.Goals as goal
+
+pub loop-k-preserved : goal.loop-k-preserved
+loop-k-preserved g c = WroteAll-step (lines_step (class_line c.args.net.now c.args.labels.now) c.loop-k.k) c.loop-k.invariant c.in_ok-put_class.ensures.all
+
+pub returns-in_err-put_class : goal.returns-in_err-put_class
+returns-in_err-put_class g c =
+    let p = err_from_is_err_and c.from_residual.result c.from_residual.ensures.1 in
+    let f = lines_whole (class_line c.args.net.now c.args.labels.now) c.loop-k.k c.args.count c.loop-k-test.true in
+    Wrote-prefix p.1 (WrotePrefix-step f.0 f.1 c.loop-k.invariant c.in_err-put_class.ensures.prefix)

@@ -1,0 +1,6 @@
+use Rattle.crn_io.specs.Write.{WroteAll}
+use Rattle.crn_render.specs.Details.{class_line, lines_from}
+use Rattle.crn_render.proofs.classes.put_classes.Given as goal
+
+abbrev pub invariant-loop-k : goal.invariant-loop-k
+invariant-loop-k g l = WroteAll (lines_from (class_line l.net l.labels) 1 l.k) (g.K.Sink.seen l.initial.sink) (g.K.Sink.seen l.sink)

@@ -1,0 +1,10 @@
+use Rattle.std.proofs.Common.{take, codes}
+use Rattle.std.specs.Prelude.{map}
+use Rattle.crn_io.specs.Joined.{joined}
+use Rattle.crn_io.specs.Write.{WroteAll}
+use Rattle.std.specs.Prelude.{◌-◌}
+use Rattle.crn_text.specs.Canonical.{complex_text}
+use Rattle.crn_render.proofs.parts.put_walk.Given as goal
+
+abbrev pub invariant-loop-i : goal.invariant-loop-i
+invariant-loop-i g l = WroteAll (joined (codes "; ") (take l.i (map (λ y. complex_text l.net (y - 1)) l.walk))) (g.K.Sink.seen l.initial.sink) (g.K.Sink.seen l.sink)

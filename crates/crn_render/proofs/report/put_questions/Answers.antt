@@ -1,0 +1,32 @@
+use Rattle.std.proofs.Common.{◌≡◌, ◌<◌, ◌≤◌, [], length, arith}
+use Rattle.std.proofs.lemmas.Result.{err_from_is_err_and}
+use Rattle.crn_io.proofs.CallerLemmas.{WroteAll-step, WrotePrefix-step, Wrote-all, Wrote-prefix}
+use Rattle.crn_cert.specs.Built.{built}
+use Rattle.crn_render.proofs.Readings.{verdicts_count, all_readable, built_few, got_here, questions_step, questions_whole, questions_all}
+use Rattle.crn_render.proofs.report.put_questions.Goals as goal
+
+pub put_question-requires-clause-place : goal.put_question-requires-clause-place
+put_question-requires-clause-place g c = omega (arith, built_few, verdicts_count c.args.net.now [] built c.args.verdicts.now c.requires)
+
+pub put_question-requires-clause-inside : goal.put_question-requires-clause-inside
+put_question-requires-clause-inside g c =
+    let lt : c.loop-place.place < length c.args.verdicts.now = omega arith in
+    rw (got_here c.args.verdicts.now c.loop-place.place c.get.result.now c.get.ensures) at (all_readable c.args.net.now [] built c.args.verdicts.now c.loop-place.place c.requires lt)
+
+pub loop-place-preserved : goal.loop-place-preserved
+loop-place-preserved g c =
+    let same : length c.args.verdicts.now ≡ length built = verdicts_count c.args.net.now [] built c.args.verdicts.now c.requires in
+    let lt : c.loop-place.place < length built = omega arith in
+    WroteAll-step (questions_step c.args.net.now c.args.verdicts.now c.loop-place.place c.get.result.now lt same (got_here c.args.verdicts.now c.loop-place.place c.get.result.now c.get.ensures)) c.loop-place.invariant c.in_ok-put_question.ensures.all
+
+pub returns-in_err-put_question : goal.returns-in_err-put_question
+returns-in_err-put_question g c =
+    let same : length c.args.verdicts.now ≡ length built = verdicts_count c.args.net.now [] built c.args.verdicts.now c.requires in
+    let lt : c.loop-place.place < length built = omega arith in
+    let p = err_from_is_err_and c.from_residual.result c.from_residual.ensures.1 in
+    Wrote-prefix p.1 (WrotePrefix-step _ (questions_whole c.args.net.now c.args.verdicts.now c.loop-place.place c.get.result.now lt same (got_here c.args.verdicts.now c.loop-place.place c.get.result.now c.get.ensures)) c.loop-place.invariant c.in_err-put_question.ensures.prefix)
+
+pub returns : goal.returns
+returns g c =
+    let same : length c.args.verdicts.now ≡ length built = verdicts_count c.args.net.now [] built c.args.verdicts.now c.requires in
+    Wrote-all (rw (questions_all c.args.verdicts.now c.loop-place.place same (omega arith)) at c.loop-place.invariant)

@@ -1,0 +1,24 @@
+use Rattle.std.proofs.lemmas.Result.{err_from_is_err_and}
+use Rattle.crn_io.proofs.CallerLemmas.{WroteAll-then, WrotePrefix-then, WrotePrefix-more, Wrote-prefix, Wrote-then}
+use Rattle.crn_render.specs.Report.{species_line}
+use Rattle.crn_render.proofs.report.put_species_line.Goals as goal
+
+pub returns-in_err-put_number : goal.returns-in_err-put_number
+unfolding species_line
+returns-in_err-put_number g c =
+    let p = err_from_is_err_and c.from_residual.result c.from_residual.ensures.1 in
+    let first0 = rw c.species.ensures.count at c.in_err-put_number.ensures in
+    Wrote-prefix p.1 (WrotePrefix-more _ (WrotePrefix-more _ first0.prefix))
+
+pub returns-in_err-put_names : goal.returns-in_err-put_names
+unfolding species_line
+returns-in_err-put_names g c =
+    let p = err_from_is_err_and c.from_residual-in_err-put_names.result c.from_residual-in_err-put_names.ensures.1 in
+    let first0 = rw c.species.ensures.count at c.in_ok-put_number.ensures in
+    Wrote-prefix p.1 (WrotePrefix-more _ (WrotePrefix-then first0.all c.in_err-put_names.ensures.prefix))
+
+pub returns : goal.returns
+unfolding species_line
+returns g c =
+    let first0 = rw c.species.ensures.count at c.in_ok-put_number.ensures in
+    Wrote-then (WroteAll-then first0.all c.in_ok-put_names.ensures.all) c.put_all.ensures.writes

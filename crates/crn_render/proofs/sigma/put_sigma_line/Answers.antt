@@ -1,0 +1,16 @@
+use Rattle.std.proofs.lemmas.Result.{err_from_is_err_and}
+use Rattle.crn_io.proofs.CallerLemmas.{WroteAll-then, WrotePrefix-then, WrotePrefix-more, Wrote-prefix, Wrote-then}
+use Rattle.crn_render.proofs.sigma.put_sigma_line.Goals as goal
+
+pub returns-in_err-put_title : goal.returns-in_err-put_title
+returns-in_err-put_title g c =
+    let p = err_from_is_err_and c.from_residual.result c.from_residual.ensures.1 in
+    Wrote-prefix p.1 (WrotePrefix-more _ (WrotePrefix-more _ c.in_err-put_title.ensures.prefix))
+
+pub returns-in_err-put_sigma : goal.returns-in_err-put_sigma
+returns-in_err-put_sigma g c =
+    let p = err_from_is_err_and c.from_residual-in_err-put_sigma.result c.from_residual-in_err-put_sigma.ensures.1 in
+    Wrote-prefix p.1 (WrotePrefix-more _ (WrotePrefix-then c.in_ok-put_title.ensures.all c.in_err-put_sigma.ensures.prefix))
+
+pub returns : goal.returns
+returns g c = Wrote-then (WroteAll-then c.in_ok-put_title.ensures.all c.in_ok-put_sigma.ensures.all) c.put_all.ensures.writes
