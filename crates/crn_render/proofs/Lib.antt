@@ -1,4 +1,6 @@
+pub mod CallerLemmas
 mod Texts
 mod ClassLines
 mod Readings
 mod SumEntries
+mod FaultNames

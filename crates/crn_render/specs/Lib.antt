@@ -1,4 +1,5 @@
 pub mod Words
 pub mod Details
 pub mod Report
+pub mod Faults
 pub mod Inner

@@ -3,9 +3,13 @@
 
 mod classes;
 mod details;
+mod fault;
+mod laws;
 mod parts;
 mod report;
 mod sigma;
 mod words;
 
+pub use fault::{Printed, write_fault};
+pub use laws::text_codes_have_their_names;
 pub use report::write_report;

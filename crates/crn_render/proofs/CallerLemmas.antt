@@ -1,0 +1,3 @@
+-- What other crates may cite of this crate's proofs.
+-- Each refusal of a network text is printed with its own name.
+pub use Rattle.crn_render.proofs.FaultNames.{text_codes_have_their_names}
