@@ -4,3 +4,6 @@ mod ClassLines
 mod Readings
 mod SumEntries
 mod FaultNames
+mod OneNumbers
+mod Exclusions
+mod OneLine

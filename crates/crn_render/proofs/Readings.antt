@@ -10,9 +10,9 @@ use Rattle.crn_vec.specs.Kept.{KeptInts, KeptNums}
 use Rattle.crn_vec.specs.Network.{Net}
 use Rattle.crn_cert.specs.Built.{built}
 use Rattle.crn_cert.specs.FormedVerdicts.{IsFormedVerdict, AreFormedVerdicts}
-use Rattle.crn_cert.specs.Questions.{Earlier, Question, questions, Q1, Q2, Q3, Q4, Q5, Q6, Q7, Q8, Q9, Q10, Q11, Q12, Q13, Q14, Q15}
+use Rattle.crn_cert.specs.Questions.{Earlier, Question, questions, Q1, Q2, Q3, Q4, Q11, Q14, Q15}
 use Rattle.crn_cert.specs.declared.answer.Verdict.{Verdict}
-use Rattle.crn_cert.specs.declared.answer.Verdict.TheVariants.{Classes, Strong, Rank, Deficiency, Yes, YesWeak, YesVec, YesSignal, No, NoReaction, NoVec, NoNumber, NoTerminal, NoClass, NoSum, NoDependence, NoCycle, NoPair, NotRegular, OnlyZero, Plane, NotApplicable, Unknown}
+use Rattle.crn_cert.specs.declared.answer.Verdict.TheVariants.{Classes, Strong, NoReaction, NoCycle, NoPair, NotApplicable, Unknown}
 use Rattle.crn_render.specs.Inner.Reading.{question_at, IsReadable}
 use Rattle.crn_render.specs.Report.{question_lines, all_lines, one_if_open, open_count}
 
@@ -20,114 +20,34 @@ use Rattle.crn_render.specs.Report.{question_lines, all_lines, one_if_open, open
 
 classes_readable : (net : Net) (earlier : Earlier) (q : Question) (count : ℕ) (label : KeptNums) → IsFormedVerdict net earlier q (Classes count label) → IsReadable net (Classes count label)
 classes_readable net earlier Q1 count label p = p.1.long
-classes_readable net earlier Q2 count label p = absurd p.0
-classes_readable net earlier Q3 count label p = absurd p.0
-classes_readable net earlier Q4 count label p = absurd p.0
-classes_readable net earlier Q5 count label p = absurd p.0
-classes_readable net earlier Q6 count label p = absurd p.0
-classes_readable net earlier Q7 count label p = absurd p.0
-classes_readable net earlier Q8 count label p = absurd p.0
-classes_readable net earlier Q9 count label p = absurd p.0
-classes_readable net earlier Q10 count label p = absurd p.0
-classes_readable net earlier Q11 count label p = absurd p.0
-classes_readable net earlier Q12 count label p = absurd p.0
-classes_readable net earlier Q13 count label p = absurd p.0
-classes_readable net earlier Q14 count label p = absurd p.0
-classes_readable net earlier Q15 count label p = absurd p.0
+classes_readable net earlier q count label p = absurd p.0
 
 strong_readable : (net : Net) (earlier : Earlier) (q : Question) (count : ℕ) (terminal : ℕ) (label : KeptNums) (exit : KeptNums) → IsFormedVerdict net earlier q (Strong count terminal label exit) → IsReadable net (Strong count terminal label exit)
-strong_readable net earlier Q1 count terminal label exit p = absurd p.0
 strong_readable net earlier Q2 count terminal label exit p = (p.1.0.long, omega (arith, p.1.1.long))
-strong_readable net earlier Q3 count terminal label exit p = absurd p.0
-strong_readable net earlier Q4 count terminal label exit p = absurd p.0
-strong_readable net earlier Q5 count terminal label exit p = absurd p.0
-strong_readable net earlier Q6 count terminal label exit p = absurd p.0
-strong_readable net earlier Q7 count terminal label exit p = absurd p.0
-strong_readable net earlier Q8 count terminal label exit p = absurd p.0
-strong_readable net earlier Q9 count terminal label exit p = absurd p.0
-strong_readable net earlier Q10 count terminal label exit p = absurd p.0
-strong_readable net earlier Q11 count terminal label exit p = absurd p.0
-strong_readable net earlier Q12 count terminal label exit p = absurd p.0
-strong_readable net earlier Q13 count terminal label exit p = absurd p.0
-strong_readable net earlier Q14 count terminal label exit p = absurd p.0
-strong_readable net earlier Q15 count terminal label exit p = absurd p.0
+strong_readable net earlier q count terminal label exit p = absurd p.0
 
 reaction_readable : (net : Net) (earlier : Earlier) (q : Question) (r : ℕ) → IsFormedVerdict net earlier q (NoReaction r) → IsReadable net (NoReaction r)
-reaction_readable net earlier Q1 r p = absurd p.0
-reaction_readable net earlier Q2 r p = absurd p.0
 reaction_readable net earlier Q3 r p = p.0
 reaction_readable net earlier Q4 r p = p.0
-reaction_readable net earlier Q5 r p = absurd p.0
-reaction_readable net earlier Q6 r p = absurd p.0
-reaction_readable net earlier Q7 r p = absurd p.0
-reaction_readable net earlier Q8 r p = absurd p.0
-reaction_readable net earlier Q9 r p = absurd p.0
-reaction_readable net earlier Q10 r p = absurd p.0
-reaction_readable net earlier Q11 r p = absurd p.0
-reaction_readable net earlier Q12 r p = absurd p.0
-reaction_readable net earlier Q13 r p = absurd p.0
-reaction_readable net earlier Q14 r p = absurd p.0
-reaction_readable net earlier Q15 r p = absurd p.0
+reaction_readable net earlier q r p = absurd p.0
 
 cycle_readable : (net : Net) (earlier : Earlier) (q : Question) (r : ℕ) (walk : KeptNums) → IsFormedVerdict net earlier q (NoCycle r walk) → IsReadable net (NoCycle r walk)
-cycle_readable net earlier Q1 r walk p = absurd p.0
-cycle_readable net earlier Q2 r walk p = absurd p.0
-cycle_readable net earlier Q3 r walk p = absurd p.0
-cycle_readable net earlier Q4 r walk p = absurd p.0
-cycle_readable net earlier Q5 r walk p = absurd p.0
-cycle_readable net earlier Q6 r walk p = absurd p.0
-cycle_readable net earlier Q7 r walk p = absurd p.0
-cycle_readable net earlier Q8 r walk p = absurd p.0
-cycle_readable net earlier Q9 r walk p = absurd p.0
-cycle_readable net earlier Q10 r walk p = absurd p.0
 cycle_readable net earlier Q11 r walk p = p.1.each
-cycle_readable net earlier Q12 r walk p = absurd p.0
-cycle_readable net earlier Q13 r walk p = absurd p.0
-cycle_readable net earlier Q14 r walk p = absurd p.0
-cycle_readable net earlier Q15 r walk p = absurd p.0
+cycle_readable net earlier q r walk p = absurd p.0
 
 pair_readable : (net : Net) (earlier : Earlier) (q : Question) (alpha : KeptInts) (weights : KeptInts) → IsFormedVerdict net earlier q (NoPair alpha weights) → IsReadable net (NoPair alpha weights)
-pair_readable net earlier Q1 alpha weights p = absurd p.0
-pair_readable net earlier Q2 alpha weights p = absurd p.0
-pair_readable net earlier Q3 alpha weights p = absurd p.0
-pair_readable net earlier Q4 alpha weights p = absurd p.0
-pair_readable net earlier Q5 alpha weights p = absurd p.0
-pair_readable net earlier Q6 alpha weights p = absurd p.0
-pair_readable net earlier Q7 alpha weights p = absurd p.0
-pair_readable net earlier Q8 alpha weights p = absurd p.0
-pair_readable net earlier Q9 alpha weights p = absurd p.0
-pair_readable net earlier Q10 alpha weights p = absurd p.0
-pair_readable net earlier Q11 alpha weights p = absurd p.0
-pair_readable net earlier Q12 alpha weights p = absurd p.0
-pair_readable net earlier Q13 alpha weights p = absurd p.0
 pair_readable net earlier Q14 alpha weights p = p.1.1
 pair_readable net earlier Q15 alpha weights p = p.1.1
+pair_readable net earlier q alpha weights p = absurd p.0
 
 -- what a report reads of a formed verdict is inside its lists and the network
 readable : (net : Net) (earlier : Earlier) (q : Question) (v : Verdict) → IsFormedVerdict net earlier q v → IsReadable net v
 readable net earlier q (Classes count label) p = classes_readable net earlier q count label p
 readable net earlier q (Strong count terminal label exit) p = strong_readable net earlier q count terminal label exit p
-readable net earlier q (Rank rank base) p = tt
-readable net earlier q (Deficiency total classes) p = tt
-readable net earlier q Yes p = tt
-readable net earlier q (YesWeak weak) p = tt
-readable net earlier q (YesVec vector) p = tt
-readable net earlier q (YesSignal turn shelves mu m weights) p = tt
-readable net earlier q No p = tt
 readable net earlier q (NoReaction r) p = reaction_readable net earlier q r p
-readable net earlier q (NoVec u) p = tt
-readable net earlier q (NoNumber d) p = tt
-readable net earlier q (NoTerminal class count) p = tt
-readable net earlier q (NoClass class d) p = tt
-readable net earlier q (NoSum sum) p = tt
-readable net earlier q NoDependence p = tt
 readable net earlier q (NoCycle r walk) p = cycle_readable net earlier q r walk p
 readable net earlier q (NoPair alpha weights) p = pair_readable net earlier q alpha weights p
-readable net earlier q NotRegular p = tt
-readable net earlier q OnlyZero p = tt
-readable net earlier q (Plane first second one two) p = tt
-readable net earlier q NotApplicable p = tt
-readable net earlier q (Unknown gap) p = tt
+readable net earlier q v p = tt
 
 -- ---- all verdicts
 
@@ -199,27 +119,7 @@ open_more (v ∷ vs) (suc i) lt = omega (arith, open_more vs i (omega arith))
 pub open_step : (vs : List Verdict) (i : ℕ) (v : Verdict) → i < length vs → get_or vs i NotApplicable ≡ v → open_count (take (i + 1) vs) ≡ open_count (take i vs) + one_if_open v
 open_step vs i v lt is = rw (add-one, ← is) (open_more vs i lt)
 
+-- a question counts at most once
 pub one_or_none : (v : Verdict) → one_if_open v ≤ 1
-one_or_none (Classes count label) = omega arith
-one_or_none (Strong count terminal label exit) = omega arith
-one_or_none (Rank rank base) = omega arith
-one_or_none (Deficiency total classes) = omega arith
-one_or_none Yes = omega arith
-one_or_none (YesWeak weak) = omega arith
-one_or_none (YesVec vector) = omega arith
-one_or_none (YesSignal turn shelves mu m weights) = omega arith
-one_or_none No = omega arith
-one_or_none (NoReaction r) = omega arith
-one_or_none (NoVec u) = omega arith
-one_or_none (NoNumber d) = omega arith
-one_or_none (NoTerminal class count) = omega arith
-one_or_none (NoClass class d) = omega arith
-one_or_none (NoSum sum) = omega arith
-one_or_none NoDependence = omega arith
-one_or_none (NoCycle r walk) = omega arith
-one_or_none (NoPair alpha weights) = omega arith
-one_or_none NotRegular = omega arith
-one_or_none OnlyZero = omega arith
-one_or_none (Plane first second one two) = omega arith
-one_or_none NotApplicable = omega arith
 one_or_none (Unknown gap) = omega arith
+one_or_none v = omega arith

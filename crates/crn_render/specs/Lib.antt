@@ -2,4 +2,5 @@ pub mod Words
 pub mod Details
 pub mod Report
 pub mod Faults
+pub mod Titles
 pub mod Inner

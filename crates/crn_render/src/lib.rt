@@ -11,5 +11,5 @@ mod sigma;
 mod words;
 
 pub use fault::{Printed, write_fault};
-pub use laws::text_codes_have_their_names;
+pub use laws::{text_codes_have_their_names, true_verdicts_have_one_line};
 pub use report::write_report;
