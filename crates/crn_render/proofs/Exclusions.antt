@@ -1,9 +1,8 @@
 -- Verdicts on one question that exclude each other.
-use Rattle.std.proofs.Common.{◌≡◌, ◌≢◌, ◌≤◌, ◌-◌, ℕ, List, length, get_or, sym, ◌∙◌, ap, refl, arith}
+use Rattle.std.proofs.Common.{◌≡◌, ◌-◌, ℕ, List, sym, ◌∙◌, ap, refl, arith}
 use Rattle.std.proofs.lemmas.Int.{ints}
-use Rattle.std.specs.Prelude.{Bool, true, false, IsTrue, ◌↔◌, ℤ, pos, ◌*ℤ◌, sum}
+use Rattle.std.specs.Prelude.{Bool, true, false, IsTrue, ◌↔◌, ℤ, sum}
 use Rattle.crn_vec.specs.Network.{Net}
-use Rattle.crn_vec.specs.Vectors.{entry}
 use Rattle.crn_vec.specs.Rank.{IsZero}
 use Rattle.crn_vec.specs.Elementary.{AreProportional}
 use Rattle.crn_vec.specs.Strong.{IsReversible, StaysStrong, ReactsTo}

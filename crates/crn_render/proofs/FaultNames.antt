@@ -1,8 +1,6 @@
 -- The numbers and names of the refusals of a network text.
 use Rattle.std.proofs.Common.{refl}
-use Rattle.crn_text.specs.declared.fault.TextCode.{TextCode}
 use Rattle.crn_text.specs.declared.fault.TextCode.TheVariants.{SelfReaction, TooManySpecies, TooManyComplexes, TooManyReactions, NoReaction, NoMemory, NotAscii, NoArrow, EmptySide, BadName, NameTooLong, ZeroCoefficient, CoefficientTooLarge, StrayMark, TextTooLong}
-use Rattle.crn_text.specs.Codes.{code_number, code_name}
 use Rattle.crn_render.specs.Faults.{TextCodesHaveTheirNames}
 
 pub text_codes_have_their_names : TextCodesHaveTheirNames

@@ -7,3 +7,4 @@ mod FaultNames
 mod OneNumbers
 mod Exclusions
 mod OneLine
+mod WorkedRows

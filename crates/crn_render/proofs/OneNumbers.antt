@@ -1,12 +1,11 @@
 -- Numbers and lists that verdicts say of a network are one.
-use Rattle.std.proofs.Common.{◌≡◌, ◌≢◌, ◌≤◌, ◌<◌, ◌+◌, ◌-◌, ℕ, List, [], length, get_or, sym, ◌∙◌, ap, ap₂, subst, refl, inl, inr, ◌⊎◌, arith}
+use Rattle.std.proofs.Common.{◌≡◌, ◌≤◌, ◌<◌, ◌+◌, ◌-◌, ℕ, List, [], length, get_or, sym, ◌∙◌, ap, refl, inl, inr, arith}
 use Rattle.std.specs.Prelude.{slice_index}
 use Rattle.std.proofs.lemmas.Bool.{cases_lt}
 use Rattle.std.proofs.lemmas.Grind.{same_number_lists}
 use Rattle.crn_vec.specs.Network.{Net}
-use Rattle.crn_vec.specs.Lists.{IsIn}
-use Rattle.crn_vec.specs.Linkage.{SameClass, IsLabelCount}
-use Rattle.crn_vec.specs.Walks.{IsNumberOf, AreRepresentatives}
+use Rattle.crn_vec.specs.Linkage.{SameClass}
+use Rattle.crn_vec.specs.Walks.{IsNumberOf}
 use Rattle.crn_vec.specs.Strong.{SameStrong, IsTerminal}
 use Rattle.crn_vec.specs.Deficiency.{IsComplex, IsLabelled, AreDeficiencies, IsClassDeficiency, class_vectors, HasTerminalClasses, HasOneTerminalEach, IsFirstSplitClass, IsFirstLargeClass, AreAtMostOne}
 use Rattle.crn_vec.proofs.CallerLemmas.{all_at, number_is_one, deficiency_is_one, rank_is_one_number, class_then, class_back, strong_then, strong_back}

@@ -1,7 +1,7 @@
 -- The words that the line of a question says.
 -- Source: this project's own format.
 -- Shapes: texts are lists of bytes, and a line ends by LF. Classes count from 1.
-use Rattle.std.specs.Prelude.{ℕ, Bool, true, false, List, [], ◌++◌, map, codes, decimal}
+use Rattle.std.specs.Prelude.{ℕ, Bool, true, false, List, ◌++◌, map, codes, decimal}
 use Rattle.crn_io.specs.Joined.{joined}
 use Rattle.crn_cert.specs.Questions.{Question, Q1, Q2, Q3, Q4, Q5, Q6, Q7, Q8, Q9, Q10, Q11, Q12, Q13, Q14, Q15}
 use Rattle.crn_cert.specs.declared.answer.Gap.{Gap}

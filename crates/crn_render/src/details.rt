@@ -8,7 +8,10 @@ ghost use Rattle.crn_render.specs.Details.{titled_line, vector_text, vector_titl
 ghost use Rattle.crn_render.specs.Inner.Reading.{question_at, IsReadable};
 
 use crate::classes::{put_classes, put_strong_classes};
-use crate::parts::{put_number, put_number_after, put_numbers, put_reaction, put_shelves, put_title, put_vector, put_walk};
+use crate::parts::{
+    put_number, put_number_after, put_numbers, put_reaction, put_shelves, put_title, put_vector,
+    put_walk,
+};
 use crate::sigma::put_sigma_line;
 use crn_cert::{Gap, Verdict};
 use crn_io::{Sink, WriteFault, put_all, put_parts};
@@ -16,11 +19,7 @@ use crn_net::Network;
 use itoa::Buffer;
 
 // The line of a list of numbers.
-fn put_numbers_entry<K: Sink>(
-    sink: &mut K,
-    title: &[u8],
-    numbers: &[u32],
-) -> Result<(), WriteFault>
+fn put_numbers_entry<K: Sink>(sink: &mut K, title: &[u8], numbers: &[u32]) -> Result<(), WriteFault>
     ensures { Wrote (titled_line title.now (numbers_text numbers.now))
         (K.seen sink.old) (K.seen sink.new) result }
 {
@@ -30,11 +29,7 @@ fn put_numbers_entry<K: Sink>(
 }
 
 // The line of a vector.
-fn put_vector_entry<K: Sink>(
-    sink: &mut K,
-    title: &[u8],
-    vector: &[i128],
-) -> Result<(), WriteFault>
+fn put_vector_entry<K: Sink>(sink: &mut K, title: &[u8], vector: &[i128]) -> Result<(), WriteFault>
     ensures { Wrote (titled_line title.now (vector_text vector.now))
         (K.seen sink.old) (K.seen sink.new) result }
 {
@@ -74,7 +69,15 @@ fn put_walk_title<K: Sink>(sink: &mut K, r: u32) -> Result<(), WriteFault>
         (K.seen sink.old) (K.seen sink.new) result }
 {
     let mut buffer = Buffer::new();
-    put_parts(sink, &[b"  reaction ", buffer.format(r).as_bytes(), b", walk", b": "])
+    put_parts(
+        sink,
+        &[
+            b"  reaction ",
+            buffer.format(r).as_bytes(),
+            b", walk",
+            b": ",
+        ],
+    )
 }
 
 // The line of a reaction and a walk.
@@ -111,7 +114,10 @@ fn put_value_entry<K: Sink>(sink: &mut K, title: &[u8], value: &i128) -> Result<
         (K.seen sink.old) (K.seen sink.new) result }
 {
     let mut buffer = Buffer::new();
-    put_parts(sink, &[b"  ", title, b": ", buffer.format(*value).as_bytes(), b"\n"])
+    put_parts(
+        sink,
+        &[b"  ", title, b": ", buffer.format(*value).as_bytes(), b"\n"],
+    )
 }
 
 // The line of the shelves, after its title.
@@ -134,7 +140,10 @@ fn put_turn_entry<K: Sink>(sink: &mut K, title: &[u8], turn: &i32) -> Result<(),
         (K.seen sink.old) (K.seen sink.new) result }
 {
     let mut buffer = Buffer::new();
-    put_parts(sink, &[b"  ", title, b": ", buffer.format(*turn).as_bytes(), b"\n"])
+    put_parts(
+        sink,
+        &[b"  ", title, b": ", buffer.format(*turn).as_bytes(), b"\n"],
+    )
 }
 
 // The lines of a signal.
@@ -245,7 +254,10 @@ pub(crate) fn put_details<K: Sink>(
     match verdict {
         Verdict::Classes { count, label } => put_classes(sink, net, label.as_slice(), *count),
         Verdict::Strong {
-            count, label, exit, ..
+            count,
+            label,
+            exit,
+            ..
         } => put_strong_classes(sink, net, label.as_slice(), exit.as_slice(), *count),
         Verdict::Rank { base, .. } => {
             put_numbers_entry(sink, b"independent reactions", base.as_slice())

@@ -90,7 +90,10 @@ fn put_fault<K: Sink>(
     let mut two = Buffer::new();
     let number = one.format(code).as_bytes();
     let place = two.format(line).as_bytes();
-    put_parts(sink, &[verb, b" ", number, b" ", name, b" at line ", place, b"\n"])
+    put_parts(
+        sink,
+        &[verb, b" ", number, b" ", name, b" at line ", place, b"\n"],
+    )
 }
 
 #[tactic(auto, unfolding(crate::specs::Faults::usage_line))]

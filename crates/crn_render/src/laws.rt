@@ -4,11 +4,9 @@ ghost use Rattle.crn_render.specs.Titles.{TrueVerdictsHaveOneLine};
 /// Each refusal of a network text is printed with its own name.
 pub fn text_codes_have_their_names()
     ensures { TextCodesHaveTheirNames }
-{
-}
+{}
 
 /// The line of a question is the same for each true verdict, but for the reason why a network is not regular.
 pub fn true_verdicts_have_one_line()
     ensures { TrueVerdictsHaveOneLine }
-{
-}
+{}

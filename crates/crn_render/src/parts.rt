@@ -147,11 +147,7 @@ pub(crate) fn put_complexes<K: Sink>(sink: &mut K, net: &Network) -> Result<(), 
 }
 
 // The complexes of a walk, which counts them from 1.
-pub(crate) fn put_walk<K: Sink>(
-    sink: &mut K,
-    net: &Network,
-    walk: &[u32],
-) -> Result<(), WriteFault>
+pub(crate) fn put_walk<K: Sink>(sink: &mut K, net: &Network, walk: &[u32]) -> Result<(), WriteFault>
     requires { AllByRecursion (IsFrom 1 (length net.now.complexes)) walk.now }
     ensures { Wrote (walk_text net.now walk.now) (K.seen sink.old) (K.seen sink.new) result }
 {

@@ -93,11 +93,7 @@ fn put_pair<K: Sink>(
 }
 
 // The deficiency of the network and those of its linkage classes.
-fn put_deficiencies<K: Sink>(
-    sink: &mut K,
-    total: u32,
-    classes: &[u32],
-) -> Result<(), WriteFault>
+fn put_deficiencies<K: Sink>(sink: &mut K, total: u32, classes: &[u32]) -> Result<(), WriteFault>
     ensures { Wrote (decimal total ++ codes ", classes " ++ numbers_text classes.now)
         (K.seen sink.old) (K.seen sink.new) result }
 {
@@ -120,7 +116,17 @@ fn put_split_class<K: Sink>(
     let mut two = Buffer::new();
     let class_digits = one.format(class).as_bytes();
     let digits = two.format(count).as_bytes();
-    put_parts(sink, &[before, b"class ", class_digits, b" has ", digits, b" terminal classes"])
+    put_parts(
+        sink,
+        &[
+            before,
+            b"class ",
+            class_digits,
+            b" has ",
+            digits,
+            b" terminal classes",
+        ],
+    )
 }
 
 // A class of large deficiency, after what goes before the reason of a no.
@@ -137,7 +143,10 @@ fn put_large_class<K: Sink>(
     let mut two = Buffer::new();
     let class_digits = one.format(class).as_bytes();
     let digits = two.format(number).as_bytes();
-    put_parts(sink, &[before, b"class ", class_digits, b" has deficiency ", digits])
+    put_parts(
+        sink,
+        &[before, b"class ", class_digits, b" has deficiency ", digits],
+    )
 }
 
 // The sum of the class deficiencies, after what goes before the reason of a no.
@@ -160,7 +169,9 @@ fn put_words<K: Sink>(sink: &mut K, place: usize, verdict: &Verdict) -> Result<(
     match verdict {
         Verdict::Classes { count, .. } => put_digits(sink, *count),
         Verdict::Strong {
-            count, terminal, ..
+            count,
+            terminal,
+            ..
         } => put_pair(sink, *count, b", terminal ", *terminal),
         Verdict::Rank { rank, .. } => put_digits(sink, *rank),
         Verdict::Deficiency { total, classes } => {

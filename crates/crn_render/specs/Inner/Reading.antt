@@ -2,7 +2,7 @@
 -- reads of a verdict.
 -- Source: this project's own.
 -- Shapes: places of questions count from 0, numbers in verdicts from 1.
-use Rattle.std.specs.Prelude.{◌≡◌, ◌≤◌, ◌<◌, ℕ, List, [], ◌∷◌, length, slice_index_or}
+use Rattle.std.specs.Prelude.{◌≡◌, ◌≤◌, ℕ, length, slice_index_or}
 use Rattle.std.specs.List.{AllByRecursion}
 use Rattle.crn_vec.specs.Network.{Net}
 use Rattle.crn_cert.specs.Questions.{Question, Q1, questions}

@@ -2,7 +2,6 @@ use Rattle.std.proofs.Common.{take, codes}
 use Rattle.std.specs.Prelude.{map}
 use Rattle.crn_io.specs.Joined.{joined}
 use Rattle.crn_io.specs.Write.{WroteAll}
-use Rattle.std.specs.Prelude.{[]}
 use Rattle.crn_text.specs.Canonical.{side}
 use Rattle.crn_render.proofs.parts.put_complexes.Given as goal
 

@@ -1,5 +1,4 @@
 use Rattle.std.proofs.Common.{arith, codes, ◌<◌, length}
-use Rattle.std.specs.Prelude.{pos}
 use Rattle.std.proofs.lemmas.Result.{err_from_is_err_and}
 use Rattle.crn_io.proofs.CallerLemmas.{WroteAll-step, WrotePrefix-step, Wrote-all, Wrote-prefix}
 use Rattle.std.specs.Prelude.{◌-◌}

@@ -1,10 +1,9 @@
 use Rattle.std.proofs.Common.{◌≡◌, ◌≤◌, ◌<◌, ◌*◌, ◌+◌, ◌∙◌, length, take, get_or, ap, ap₂, sym, arith, to_z, take_all}
 use Rattle.std.specs.Prelude.{ℤ, pos, ◌+ℤ◌, ◌*ℤ◌, unsigned_abs}
 use Rattle.std.specs.Int.{w128}
-use Rattle.crn_vec.specs.Network.{reaction_vector}
 use Rattle.crn_vec.specs.Vectors.{dot, column, entry}
 use Rattle.crn_vec.specs.Deficiency.{vectors}
-use Rattle.crn_vec.specs.declared.limits.TheConstants.{MAX_AMOUNT, MAX_REACTIONS, WIDE_SOLUTION}
+use Rattle.crn_vec.specs.declared.limits.TheConstants.{MAX_AMOUNT, WIDE_SOLUTION}
 use Rattle.crn_vec.proofs.CallerLemmas.{held, sum_within, dot_step, within_at, all_at}
 use Rattle.crn_cert.specs.Ranges.{IsNarrow}
 use Rattle.crn_render.proofs.SumEntries.{vectors_count, vector_entry}

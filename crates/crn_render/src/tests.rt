@@ -1,0 +1,73 @@
+ghost use Rattle.std.specs.Prelude.{◌≡◌, [], length, IfOk};
+ghost use Rattle.crn_cert.specs.Built.{built};
+ghost use Rattle.crn_cert.specs.FormedVerdicts.{AreFormedVerdicts};
+ghost use Rattle.crn_render.specs.Faults.{HasName};
+
+use crate::{Printed, write_fault, write_report};
+use crn_cert::{Verdict, Verdicts};
+use crn_io::QuietSink;
+use crn_net::Network;
+use crn_text::read;
+use crn_vec::{NoMemory, Nums};
+use std::alloc::Global;
+use std::test::Fail;
+
+// The verdicts on a network of two complexes and two reactions, `A <-> B`.
+fn verdicts_on(alloc: Global, net: &Network) -> Result<Verdicts, NoMemory>
+    requires complexes { length net.now.complexes ≡ 2 }
+    requires reactions { length net.now.reactions ≡ 2 }
+    ensures { IfOk result (λ made. AreFormedVerdicts net.now [] built made) }
+{
+    let mut verdicts = Verdicts::new(alloc)?;
+    verdicts.push(Verdict::Classes {
+        count: 1,
+        label: Nums::from_slice(alloc, &[1, 1])?,
+    });
+    verdicts.push(Verdict::Strong {
+        count: 1,
+        terminal: 1,
+        label: Nums::from_slice(alloc, &[1, 1])?,
+        exit: Nums::from_slice(alloc, &[0])?,
+    });
+    verdicts.push(Verdict::Yes);
+    verdicts.push(Verdict::Yes);
+    Ok(verdicts)
+}
+
+#[test]
+fn a_reversible_reaction_has_its_report(rt: HostRuntime) -> Result<(), Fail> {
+    let alloc = rt.alloc();
+    let net = read(alloc, b"A <-> B")?;
+    assert_eq!(rt; net.complexes(), 2);
+    assert_eq!(rt; net.reactions(), 2);
+    let verdicts = verdicts_on(alloc, &net)?;
+    let mut sink = QuietSink::new(alloc, 1000)?;
+    write_report(&net, &verdicts, &mut sink)?;
+    let want: &[u8] =
+        b"crn report 1\nspecies 2: A B\ncomplexes 2: A; B\nreactions 2\nQ1 linkage classes: 1\n  class 1: A; B\nQ2 strong classes: 1, terminal 1\n  strong 1: A; B (terminal)\nQ3 reversible: yes\nQ4 weakly reversible: yes\nopen: 0\n";
+    assert_eq!(rt; sink.bytes(), want);
+    Ok(())
+}
+
+// Whether this is the line of a fault.
+fn is_line(rt: &HostRuntime, fault: &Printed, want: &[u8]) -> Result<bool, Fail>
+    requires { HasName fault.now }
+{
+    let mut sink = QuietSink::new(rt.alloc(), 100)?;
+    write_fault(fault, &mut sink)?;
+    Ok(sink.bytes() == want)
+}
+
+#[test]
+fn faults_have_their_lines(rt: HostRuntime) -> Result<(), Fail> {
+    let refused = Printed::Refused { code: 5, line: 0 };
+    assert!(rt; is_line(&rt, &refused, b"refused 5 NoReaction at line 0\n")?);
+    let rejected = Printed::Rejected { code: 21, line: 1 };
+    assert!(rt; is_line(&rt, &rejected, b"rejected 21 BadHeader at line 1\n")?);
+    let shape = Printed::Rejected { code: 46, line: 54 };
+    assert!(rt; is_line(&rt, &shape, b"rejected 46 WrongShape at line 54\n")?);
+    let usage: &[u8] =
+        b"usage: crnt report | certify | check | sample K, with --budget N except for check\n";
+    assert!(rt; is_line(&rt, &Printed::Usage, usage)?);
+    Ok(())
+}
