@@ -118,7 +118,8 @@ sigma net weights = image (reaction_system net) weights
 -- the lines of a signal
 abbrev pub signal_details : (turn : ℤ) (shelves mu : List ℤ) (m : ℤ) → List ℕ
 signal_details turn shelves mu m = titled_line (codes "turn") (signed_decimal turn)
-    ++ titled_line (codes "shelves") (shelves_text shelves) ++ titled_line (codes "mu") (vector_text mu)
+    ++ titled_line (codes "shelves") (shelves_text shelves)
+    ++ titled_line (codes "mu") (vector_text mu)
     ++ titled_line (codes "m") (signed_decimal m)
 
 -- the lines below the line of a question
@@ -126,7 +127,8 @@ abbrev pub details : Net → Question → Verdict → List ℕ
 details net q (Classes count label) = lines_from (class_line net label.list) 1 count
 details net q (Strong count terminal label exit) =
     lines_from (strong_line net label.list exit.list) 1 count
-details net q (Rank rank base) = titled_line (codes "independent reactions") (numbers_text base.list)
+details net q (Rank rank base) =
+    titled_line (codes "independent reactions") (numbers_text base.list)
 details net q (Deficiency total classes) = []
 details net q Yes = []
 details net q (YesWeak weak) = []
@@ -144,7 +146,8 @@ details net q (NoSum total) = []
 details net q NoDependence = []
 details net q (NoCycle reaction walk) =
     titled_line (codes "reaction " ++ decimal reaction ++ codes ", walk") (walk_text net walk.list)
-details net q (NoPair alpha weights) = titled_line (codes "sigma") (vector_text (sigma net weights.list))
+details net q (NoPair alpha weights) =
+    titled_line (codes "sigma") (vector_text (sigma net weights.list))
     ++ titled_line (codes "alpha") (vector_text alpha.list)
 details net q NotRegular = []
 details net q OnlyZero = []

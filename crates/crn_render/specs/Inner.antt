@@ -1,2 +1,2 @@
--- Definitions for the contracts of private functions.
+-- For the contracts of private functions alone.
 pub mod Reading

@@ -36,7 +36,8 @@ fn put_class<K: Sink>(
     class: u32,
 ) -> Result<(), WriteFault>
     requires { length labels.now ≡ length net.now.complexes }
-    ensures { Wrote (class_line net.now labels.now class) (K.seen sink.old) (K.seen sink.new) result }
+    ensures { Wrote (class_line net.now labels.now class)
+        (K.seen sink.old) (K.seen sink.new) result }
 {
     put_number(sink, b"  class ", class as usize, b": ")?;
     put_members(sink, net, labels, class)?;

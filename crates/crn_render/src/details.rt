@@ -45,7 +45,8 @@ fn put_two_vectors<K: Sink>(
     one: &[i128],
     two: &[i128],
 ) -> Result<(), WriteFault>
-    ensures { Wrote (titled_line title.now (vector_text one.now) ++ titled_line title.now (vector_text two.now))
+    ensures { Wrote (titled_line title.now (vector_text one.now)
+        ++ titled_line title.now (vector_text two.now))
         (K.seen sink.old) (K.seen sink.new) result }
 {
     put_vector_entry(sink, title, one)?;
@@ -200,7 +201,8 @@ fn put_wide<K: Sink>(
     basis: &[u32],
 ) -> Result<(), WriteFault>
     ensures { Wrote (system_line system class ++ index_line index
-        ++ titled_line (codes "basis") (numbers_text basis.now)) (K.seen sink.old) (K.seen sink.new) result }
+        ++ titled_line (codes "basis") (numbers_text basis.now))
+        (K.seen sink.old) (K.seen sink.new) result }
 {
     put_system_line(sink, system, class)?;
     put_index_line(sink, index)?;

@@ -1,5 +1,5 @@
--- For the contracts of private functions alone: which question has which place, and what a report
--- reads of a verdict.
+-- For the contracts of private functions alone.
+-- Which question has which place, and what a report reads of a verdict.
 -- Source: this project's own.
 -- Shapes: places of questions count from 0, numbers in verdicts from 1.
 use Rattle.std.specs.Prelude.{◌≡◌, ◌≤◌, ℕ, length, slice_index_or}
