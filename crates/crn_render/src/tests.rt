@@ -13,7 +13,7 @@ use std::alloc::Global;
 use std::test::Fail;
 
 // The verdicts on a network of two complexes and two reactions, `A <-> B`.
-fn verdicts_on(alloc: Global, net: &Network) -> Result<Verdicts, NoMemory>
+fn verdicts_both_ways(alloc: Global, net: &Network) -> Result<Verdicts, NoMemory>
     requires complexes { length net.now.complexes ≡ 2 }
     requires reactions { length net.now.reactions ≡ 2 }
     ensures { IfOk result (λ made. AreFormedVerdicts net.now [] built made) }
@@ -34,17 +34,54 @@ fn verdicts_on(alloc: Global, net: &Network) -> Result<Verdicts, NoMemory>
     Ok(verdicts)
 }
 
+// The verdicts on a network of two complexes and one reaction, `A -> B`.
+fn verdicts_one_way(alloc: Global, net: &Network) -> Result<Verdicts, NoMemory>
+    requires complexes { length net.now.complexes ≡ 2 }
+    requires reactions { length net.now.reactions ≡ 1 }
+    ensures { IfOk result (λ made. AreFormedVerdicts net.now [] built made) }
+{
+    let mut verdicts = Verdicts::new(alloc)?;
+    verdicts.push(Verdict::Classes {
+        count: 1,
+        label: Nums::from_slice(alloc, &[1, 1])?,
+    });
+    verdicts.push(Verdict::Strong {
+        count: 2,
+        terminal: 1,
+        label: Nums::from_slice(alloc, &[1, 2])?,
+        exit: Nums::from_slice(alloc, &[1, 0])?,
+    });
+    verdicts.push(Verdict::NoReaction { reaction: 1 });
+    verdicts.push(Verdict::NoReaction { reaction: 1 });
+    Ok(verdicts)
+}
+
 #[test]
 fn a_reversible_reaction_has_its_report(rt: HostRuntime) -> Result<(), Fail> {
     let alloc = rt.alloc();
     let net = read(alloc, b"A <-> B")?;
     assert_eq!(rt; net.complexes(), 2);
     assert_eq!(rt; net.reactions(), 2);
-    let verdicts = verdicts_on(alloc, &net)?;
+    let verdicts = verdicts_both_ways(alloc, &net)?;
     let mut sink = QuietSink::new(alloc, 1000)?;
     write_report(&net, &verdicts, &mut sink)?;
     let want: &[u8] =
         b"crn report 1\nspecies 2: A B\ncomplexes 2: A; B\nreactions 2\nQ1 linkage classes: 1\n  class 1: A; B\nQ2 strong classes: 1, terminal 1\n  strong 1: A; B (terminal)\nQ3 reversible: yes\nQ4 weakly reversible: yes\nopen: 0\n";
+    assert_eq!(rt; sink.bytes(), want);
+    Ok(())
+}
+
+#[test]
+fn a_reaction_has_its_report(rt: HostRuntime) -> Result<(), Fail> {
+    let alloc = rt.alloc();
+    let net = read(alloc, b"A -> B")?;
+    assert_eq!(rt; net.complexes(), 2);
+    assert_eq!(rt; net.reactions(), 1);
+    let verdicts = verdicts_one_way(alloc, &net)?;
+    let mut sink = QuietSink::new(alloc, 1000)?;
+    write_report(&net, &verdicts, &mut sink)?;
+    let want: &[u8] =
+        b"crn report 1\nspecies 2: A B\ncomplexes 2: A; B\nreactions 1\nQ1 linkage classes: 1\n  class 1: A; B\nQ2 strong classes: 2, terminal 1\n  strong 1: A\n  strong 2: B (terminal)\nQ3 reversible: no\n  reaction 1: A -> B\nQ4 weakly reversible: no\n  reaction 1: A -> B\nopen: 0\n";
     assert_eq!(rt; sink.bytes(), want);
     Ok(())
 }
