@@ -1,0 +1,16 @@
+use Rattle.crn_cert.specs.declared.answer.Answer.{Answer}
+use Rattle.crn_cert.specs.declared.answer.Verdict.TheVariants.{Classes}
+use Rattle.crn_cert.specs.declared.answer.Proof.TheVariants.{Forest}
+use Rattle.crn_cert.specs.Questions.{Q1}
+use Rattle.crn_cert.specs.Formed.{IsFormed}
+use Rattle.crn_cert.specs.Valid.{IsValid}
+use Rattle.crn_cert.proofs.CallerLemmas.{valid_answers_are_true}
+use Rattle.crn_solve.proofs.classes.linkage_answer.Goals as goal
+
+pub returns-clause-answer : goal.returns-clause-answer
+returns-clause-answer c net earlier n d =
+    let classes = c.args.classes in
+    let answer : Answer = record { verdict = Classes classes.count classes.label; proof = Forest classes.up classes.depth } in
+    let formed : IsFormed net earlier Q1 answer = (d.count, (d.labels, d.forest)) in
+    let valid : IsValid net earlier Q1 answer = ((d.numbered, d.even), (d.trees, tt)) in
+    record { formed = formed; valid = valid; true_of = valid_answers_are_true Q1 net earlier answer n tt tt formed valid; decided = λ o. o }

@@ -1,0 +1,19 @@
+use Rattle.crn_cert.specs.declared.answer.Answer.{Answer}
+use Rattle.crn_cert.specs.declared.answer.Verdict.TheVariants.{Strong}
+use Rattle.crn_cert.specs.declared.answer.Proof.TheVariants.{Strong as StrongTrees}
+use Rattle.crn_cert.specs.Questions.{Q2}
+use Rattle.crn_cert.specs.Formed.{IsFormed}
+use Rattle.crn_cert.specs.Valid.{IsValid}
+use Rattle.crn_cert.proofs.CallerLemmas.{valid_answers_are_true}
+use Rattle.crn_solve.proofs.classes.strong_answer.Goals as goal
+
+pub returns-clause-answer : goal.returns-clause-answer
+returns-clause-answer c net earlier n d =
+    let classes = c.args.classes in
+    let answer : Answer = record {
+      verdict = Strong classes.count classes.terminal classes.label classes.exit;
+      proof = StrongTrees classes.from classes.from_depth classes.to classes.to_depth classes.level;
+    } in
+    let formed : IsFormed net earlier Q2 answer = ((d.count, d.terminals), (d.labels, d.exit_numbers, d.from_forest, d.to_forest, d.levels)) in
+    let valid : IsValid net earlier Q2 answer = (d.numbered, (d.from_trees, (d.to_trees, (d.falls, (d.exits, (d.terminal, tt)))))) in
+    record { formed = formed; valid = valid; true_of = valid_answers_are_true Q2 net earlier answer n tt tt formed valid; decided = λ o. o }

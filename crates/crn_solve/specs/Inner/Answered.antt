@@ -1,0 +1,38 @@
+-- For the contracts of private functions alone: what each question's answer is.
+-- Source: this project's own.
+-- Shapes: `earlier` holds the verdicts on earlier questions. Labels and reactions count from 1.
+use Rattle.std.specs.Prelude.{◌≡◌, ◌≢◌, ◌<◌, ℕ, List, slice_index}
+use Rattle.crn_vec.specs.Network.{Net}
+use Rattle.crn_cert.specs.declared.answer.Answer.{Answer}
+use Rattle.crn_cert.specs.Questions.{Earlier, Question, IsOpen}
+use Rattle.crn_cert.specs.Ranges.{IsFrom}
+use Rattle.crn_cert.specs.Says.{IsReactionNumber, IsTrueOf}
+use Rattle.crn_cert.specs.Formed.{reactions, IsFormed}
+use Rattle.crn_cert.specs.Valid.{IsValid}
+use Rattle.crn_cert.specs.Licensed.{IsTrueOrLicensed}
+
+-- a formed and valid answer whose verdict is true, or open and licensed
+pub record IsAnswer (net : Net) (budget : ℕ) (earlier : Earlier) (q : Question)
+    (answer : Answer) : Type 0 where
+  pub formed : IsFormed net earlier q answer
+  pub valid : IsValid net earlier q answer
+  pub answered : IsTrueOrLicensed net budget earlier q answer.verdict
+
+-- a formed and valid answer that is not open and whose verdict is true
+pub record IsDecidedAnswer (net : Net) (earlier : Earlier) (q : Question)
+    (answer : Answer) : Type 0 where
+  pub formed : IsFormed net earlier q answer
+  pub valid : IsValid net earlier q answer
+  pub true_of : IsTrueOf net q answer.verdict
+  pub decided : IsOpen answer.verdict → ⊥
+
+-- reaction r joins two complexes of different labels
+abbrev pub JoinsTwoLabels : Net → List ℕ → ℕ → Type 0
+JoinsTwoLabels net labels r = (y : ℕ) × (z : ℕ) × IsReactionNumber net r y z
+    × (slice_index labels y ≢ slice_index labels z)
+
+-- reaction r is the first that joins two complexes of different labels
+pub record IsFirstLeaving (net : Net) (labels : List ℕ) (r : ℕ) : Type 0 where
+  pub from : IsFrom 1 (reactions net) r
+  pub leaves : JoinsTwoLabels net labels r
+  pub first : (q : ℕ) → q < r → JoinsTwoLabels net labels q → ⊥

@@ -1,0 +1,45 @@
+ghost use Rattle.std.specs.Prelude.{◌≤◌, [], take, IfOk};
+ghost use Rattle.std.specs.List.{AllByRecursion};
+ghost use Rattle.crn_vec.specs.declared.limits.TheConstants.{MAX_BUDGET};
+ghost use Rattle.crn_cert.specs.Questions.{IsOpen};
+ghost use Rattle.crn_cert.specs.Answers.{verdicts_of};
+ghost use Rattle.crn_cert.specs.Built.{built};
+ghost use Rattle.crn_cert.specs.Formed.{AreFormed};
+ghost use Rattle.crn_cert.specs.Valid.{AreValid};
+ghost use Rattle.crn_cert.specs.Licensed.{AllTrueOrLicensed};
+
+use crate::classes::{linkage_answer, strong_answer};
+use crate::laws::meets_definition;
+use crate::reversible::{reversible, weakly_reversible};
+use crn_cert::Answers;
+use crn_graph::{linkage, strong};
+use crn_net::Network;
+use crn_vec::NoMemory;
+use std::alloc::Global;
+
+/// The answers to the questions that are built, in order. The budget is the most prefixes that a search may visit.
+///
+/// Each answer is formed and valid, and its verdict is true of the network, or open and licensed with this budget.
+/// The first four are never open.
+pub fn solve(alloc: Global, net: &Network, budget: u32) -> Result<Answers, NoMemory>
+    requires some { 1 ≤ budget }
+    requires most { budget ≤ MAX_BUDGET }
+    ensures formed { IfOk result (λ answers. AreFormed net.now [] built answers) }
+    ensures valid { IfOk result (λ answers. AreValid net.now [] built answers) }
+    ensures answered { IfOk result (λ answers.
+        AllTrueOrLicensed net.now budget [] built (verdicts_of answers)) }
+    ensures decided { IfOk result (λ answers.
+        AllByRecursion (λ v. IsOpen v → ⊥) (take 4 (verdicts_of answers))) }
+{
+    meets_definition(net);
+    let linkage = linkage(alloc, net)?;
+    let strong = strong(alloc, net)?;
+    let reversible = reversible(alloc, net)?;
+    let weakly_reversible = weakly_reversible(net, strong.label.as_slice());
+    let mut answers = Answers::new(alloc)?;
+    answers.push(linkage_answer(linkage));
+    answers.push(strong_answer(strong));
+    answers.push(reversible);
+    answers.push(weakly_reversible);
+    Ok(answers)
+}

@@ -1,0 +1,49 @@
+ghost use Rattle.std.specs.Prelude.{◌≡◌};
+ghost use Rattle.crn_vec.specs.Network.{Net, IsNetwork};
+ghost use Rattle.crn_cert.specs.Questions.{Earlier, Q1, Q2, labels_of};
+ghost use Rattle.crn_solve.specs.Inner.Answered.{IsDecidedAnswer};
+ghost use Rattle.crn_solve.specs.Inner.ClassData.{AreLinkageData, AreStrongData};
+
+use crn_cert::{Answer, Proof, Verdict};
+use crn_graph::{LinkageData, StrongData};
+
+// Question 1: the linkage classes, whose labels and forest are moved into the answer.
+pub(crate) fn linkage_answer(classes: LinkageData) -> Answer
+    ensures answer { (net : Net) (earlier : Earlier) → IsNetwork net → AreLinkageData net classes →
+        IsDecidedAnswer net earlier Q1 result }
+    ensures labels { labels_of result.verdict ≡ classes.label.list }
+{
+    Answer {
+        verdict: Verdict::Classes {
+            count: classes.count,
+            label: classes.label,
+        },
+        proof: Proof::Forest {
+            up: classes.up,
+            depth: classes.depth,
+        },
+    }
+}
+
+// Question 2: the strong classes, whose labels, exits, forests and levels are moved into the answer.
+pub(crate) fn strong_answer(classes: StrongData) -> Answer
+    ensures answer { (net : Net) (earlier : Earlier) → IsNetwork net → AreStrongData net classes →
+        IsDecidedAnswer net earlier Q2 result }
+    ensures labels { labels_of result.verdict ≡ classes.label.list }
+{
+    Answer {
+        verdict: Verdict::Strong {
+            count: classes.count,
+            terminal: classes.terminal,
+            label: classes.label,
+            exit: classes.exit,
+        },
+        proof: Proof::Strong {
+            from: classes.from,
+            from_depth: classes.from_depth,
+            to: classes.to,
+            to_depth: classes.to_depth,
+            level: classes.level,
+        },
+    }
+}
