@@ -1,0 +1,297 @@
+ghost use Rattle.std.specs.Prelude.{◌≡◌, ◌≤◌, ◌+◌, IsTrue, IfOk, length};
+ghost use Rattle.std.specs.List.{AllByRecursion};
+ghost use Rattle.crn_vec.specs.Network.{is_letter, IsName};
+ghost use Rattle.crn_net.specs.Terms.{IsTerm, IsSide};
+
+use crate::solve;
+use crn_cert::{Answers, Proof, Verdict};
+use crn_net::{NetBuilder, NetFault, Network, Term, sums_fit};
+use crn_vec::{DEFAULT_BUDGET, MAX_AMOUNT, MAX_TERMS};
+use std::alloc::{AllocError, Global};
+use std::process::Abort;
+use std::test::Fail;
+
+fn is_letter(b: u8) -> bool
+    ensures { result ≡ is_letter b }
+{
+    (97 <= b && b <= 122) || (65 <= b && b <= 90) || b == 95
+}
+
+fn is_name(name: &[u8]) -> bool
+    ensures { IsTrue result → IsName name.now }
+{
+    match name {
+        [b] => is_letter(*b),
+        _ => false,
+    }
+}
+
+fn is_term(text: &[u8], term: &Term) -> bool
+    ensures term { IsTrue result → IsTerm text.now term.now }
+    ensures number { IsTrue result → term.now.count ≤ MAX_AMOUNT }
+{
+    let end = term.at as usize + term.length as usize;
+    if end > text.len() || term.count < 1 || term.count > MAX_AMOUNT {
+        return false;
+    }
+    let (_, rest) = text.split_at(term.at as usize);
+    let (name, _) = rest.split_at(term.length as usize);
+    is_name(name)
+}
+
+fn are_terms(text: &[u8], terms: &[Term]) -> bool
+    ensures terms { IsTrue result → AllByRecursion (IsTerm text.now) terms.now }
+    ensures numbers { IsTrue result → AllByRecursion (λ t. t.count ≤ MAX_AMOUNT) terms.now }
+{
+    terms.iter().all(|term| is_term(text, term))
+}
+
+fn is_side(alloc: Global, text: &[u8], terms: &[Term]) -> Result<bool, AllocError>
+    ensures { IfOk result (λ is. IsTrue is → IsSide text.now terms.now) }
+{
+    if terms.len() > MAX_TERMS || !are_terms(text, terms) {
+        return Ok(false);
+    }
+    sums_fit(alloc, text, terms)
+}
+
+// Adds a statement, whose names are single letters of the text.
+fn add(
+    rt: &(impl Abort + AllocGlobal),
+    builder: &mut NetBuilder,
+    text: &[u8],
+    left: &[Term],
+    right: &[Term],
+) -> Result<(), NetFault> {
+    assert!(rt; is_side(rt.alloc(), text, left)?);
+    assert!(rt; is_side(rt.alloc(), text, right)?);
+    builder.add(text, left, right)
+}
+
+// Adds the statements of a text such as `2AB>C,>A`, of letters with their numbers.
+fn add_all(
+    rt: &(impl Abort + AllocGlobal),
+    builder: &mut NetBuilder,
+    text: &[u8],
+) -> Result<(), NetFault> {
+    let mut left = Vec::new(rt.alloc());
+    let mut right = Vec::new(rt.alloc());
+    let mut is_right = false;
+    let mut count = 0u32;
+    for at in 0..text.len() {
+        let b = text[at];
+        if b == b'>' {
+            is_right = true;
+        } else if b == b',' {
+            add(rt, builder, text, &left, &right)?;
+            left.clear();
+            right.clear();
+            is_right = false;
+        } else if b <= b'9' {
+            count = count
+                .wrapping_mul(10)
+                .wrapping_add(u32::from(b.wrapping_sub(b'0')));
+        } else {
+            let term = Term {
+                at: at.min(999) as u32,
+                length: 1,
+                count: count.max(1),
+            };
+            count = 0;
+            if is_right {
+                right.push(term)?;
+            } else {
+                left.push(term)?;
+            }
+        }
+    }
+    add(rt, builder, text, &left, &right)
+}
+
+fn network(rt: &(impl Abort + AllocGlobal), text: &[u8]) -> Network {
+    let mut builder = NetBuilder::new(rt.alloc()).expect(rt, "memory");
+    assert!(rt; add_all(rt, &mut builder, text).is_ok());
+    match builder.finish() {
+        Ok(net) => net,
+        Err(_) => panic!(rt; "the network is not built"),
+    }
+}
+
+// A network, and what its answers say.
+#[derive(Clone, Copy)]
+struct Row {
+    text: &'static [u8],
+    linkage: &'static [u32],
+    classes: u32,
+    strong: &'static [u32],
+    strong_classes: u32,
+    terminal: u32,
+    // the reverses of all reactions, or none if the network is not reversible
+    back: &'static [u32],
+    // the first reaction that leaves its strong class, or 0
+    leaving: u32,
+}
+
+const ROWS: [Row; 8] = [
+    // one reaction
+    Row {
+        text: b"A>B",
+        linkage: &[1, 1],
+        classes: 1,
+        strong: &[1, 2],
+        strong_classes: 2,
+        terminal: 1,
+        back: &[],
+        leaving: 1,
+    },
+    // a reaction and its reverse
+    Row {
+        text: b"A>B,B>A",
+        linkage: &[1, 1],
+        classes: 1,
+        strong: &[1, 1],
+        strong_classes: 1,
+        terminal: 1,
+        back: &[2, 1],
+        leaving: 0,
+    },
+    // Edelstein's network
+    Row {
+        text: b"A>2A,2A>A,AB>C,C>AB,C>B,B>C",
+        linkage: &[1, 1, 2, 2, 2],
+        classes: 2,
+        strong: &[1, 1, 2, 2, 2],
+        strong_classes: 2,
+        terminal: 2,
+        back: &[2, 1, 4, 3, 6, 5],
+        leaving: 0,
+    },
+    // the Brusselator
+    Row {
+        text: b">A,A>,A>B,2AB>3A",
+        linkage: &[1, 1, 1, 2, 2],
+        classes: 2,
+        strong: &[1, 1, 2, 3, 4],
+        strong_classes: 4,
+        terminal: 2,
+        back: &[],
+        leaving: 3,
+    },
+    // three complexes in a row, reversible
+    Row {
+        text: b"2A>AB,AB>2A,AB>2B,2B>AB",
+        linkage: &[1, 1, 1],
+        classes: 1,
+        strong: &[1, 1, 1],
+        strong_classes: 1,
+        terminal: 1,
+        back: &[2, 1, 4, 3],
+        leaving: 0,
+    },
+    // two terminal classes in one linkage class
+    Row {
+        text: b"A>2A,A>",
+        linkage: &[1, 1, 1],
+        classes: 1,
+        strong: &[1, 2, 3],
+        strong_classes: 3,
+        terminal: 2,
+        back: &[],
+        leaving: 1,
+    },
+    // the two-site futile cycle
+    Row {
+        text: b"SK>P,P>SK,P>TK,TK>Q,Q>TK,Q>UK,UF>X,X>UF,X>TF,TF>Y,Y>TF,Y>SF",
+        linkage: &[1, 1, 1, 1, 1, 2, 2, 2, 2, 2],
+        classes: 2,
+        strong: &[1, 1, 2, 2, 3, 4, 4, 5, 5, 6],
+        strong_classes: 6,
+        terminal: 2,
+        back: &[],
+        leaving: 3,
+    },
+    // a cycle of three reactions
+    Row {
+        text: b"A>B,B>C,C>A",
+        linkage: &[1, 1, 1],
+        classes: 1,
+        strong: &[1, 1, 1],
+        strong_classes: 1,
+        terminal: 1,
+        back: &[],
+        leaving: 0,
+    },
+];
+
+// The answers on classes are those of the row.
+fn classes_are(rt: &impl Abort, answers: &Answers, row: &Row) {
+    assert!(rt; answers.len() >= 2);
+    match &answers.get(1).verdict {
+        Verdict::Classes { count, label } => {
+            assert_eq!(rt; *count, row.classes);
+            assert!(rt; label.as_slice() == row.linkage);
+        }
+        _ => panic!(rt; "the linkage classes are found"),
+    }
+    match &answers.get(2).verdict {
+        Verdict::Strong {
+            count,
+            terminal,
+            label,
+            ..
+        } => {
+            assert_eq!(rt; (*count, *terminal), (row.strong_classes, row.terminal));
+            assert!(rt; label.as_slice() == row.strong);
+        }
+        _ => panic!(rt; "the strong classes are found"),
+    }
+}
+
+// So are those on reversibility.
+fn reverses_are(rt: &impl Abort, answers: &Answers, row: &Row) {
+    assert!(rt; answers.len() >= 4);
+    let reversible = answers.get(3);
+    match (&reversible.verdict, &reversible.proof) {
+        (Verdict::Yes, Proof::Back(back)) => assert!(rt; back.as_slice() == row.back),
+        (Verdict::NoReaction { .. }, Proof::Nothing) => assert!(rt; row.back.is_empty()),
+        _ => panic!(rt; "reversibility is decided"),
+    }
+    match &answers.get(4).verdict {
+        Verdict::Yes => assert_eq!(rt; row.leaving, 0),
+        Verdict::NoReaction { reaction } => assert_eq!(rt; *reaction, row.leaving),
+        _ => panic!(rt; "weak reversibility is decided"),
+    }
+}
+
+#[test]
+fn worked_networks_have_their_answers(rt: HostRuntime) -> Result<(), Fail> {
+    for row in ROWS {
+        let net = network(&rt, row.text);
+        let answers = solve(rt.alloc(), &net, DEFAULT_BUDGET)?;
+        classes_are(&rt, &answers, &row);
+        reverses_are(&rt, &answers, &row);
+    }
+    Ok(())
+}
+
+// Nine chains of one reaction each.
+#[test]
+fn each_of_nine_reactions_is_a_class(rt: HostRuntime) -> Result<(), Fail> {
+    let text = b"A>99B,B>99C,C>99D,D>99E,E>99F,F>99G,G>99H,H>99I,I>99J".as_slice();
+    let answers = solve(rt.alloc(), &network(&rt, text), DEFAULT_BUDGET)?;
+    let row = Row {
+        text,
+        linkage: &[1, 1, 2, 2, 3, 3, 4, 4, 5, 5, 6, 6, 7, 7, 8, 8, 9, 9],
+        classes: 9,
+        strong: &[
+            1, 2, 3, 4, 5, 6, 7, 8, 9, 10, 11, 12, 13, 14, 15, 16, 17, 18,
+        ],
+        strong_classes: 18,
+        terminal: 9,
+        back: &[],
+        leaving: 1,
+    };
+    classes_are(&rt, &answers, &row);
+    reverses_are(&rt, &answers, &row);
+    Ok(())
+}

@@ -9,5 +9,5 @@ pub returns : goal.returns
 returns c =
     let net = c.args.net.now in
     even_if_none net c.args.label.now (λ r y z lt at other.
-      c.loop-r.invariant (r + 1) (omega (arith, lt, c.reactions-r-end.ensures.count, c.loop-r-test.false))
-      (joins_two net c.args.label.now r y z lt (sym (ap (λ p. p.0) at)) (sym (ap (λ p. p.1) at)) other))
+    c.loop-r.invariant (r + 1) (omega (arith, lt, c.reactions-r-end.ensures.count, c.loop-r-test.false))
+    (joins_two net c.args.label.now r y z lt (sym (ap (λ p. p.0) at)) (sym (ap (λ p. p.1) at)) other))
