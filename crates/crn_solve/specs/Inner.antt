@@ -1,3 +1,4 @@
 -- For the contracts of private functions alone.
 pub mod Answered
 pub mod ClassData
+pub mod Given

@@ -4,7 +4,10 @@
 mod answers;
 mod classes;
 mod laws;
+mod open;
+mod positive;
 mod reversible;
+mod systems;
 #[cfg(test)]
 mod tests;
 

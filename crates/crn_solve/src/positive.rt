@@ -1,0 +1,72 @@
+ghost use Rattle.std.specs.Prelude.{◌≡◌, ◌≤◌, ℕ, IfOk, MatchResult};
+ghost use Rattle.crn_vec.specs.declared.limits.TheConstants.{MAX_SIGNED};
+ghost use Rattle.crn_vec.specs.NetSystems.{positive_kinds};
+ghost use Rattle.crn_cert.specs.Questions.{Earlier, Q7, Q8};
+ghost use Rattle.crn_farkas.specs.Decision.{IsDecision, IsStop};
+ghost use Rattle.crn_solve.specs.Inner.Answered.{IsAnswer};
+ghost use Rattle.crn_solve.specs.Inner.Given.{vector_answer};
+
+use crate::laws::meets_definition;
+use crate::open::wide_answer;
+use crate::systems::{positive_kinds, reaction_matrix, species_matrix};
+use crn_cert::{Answer, Proof, Verdict};
+use crn_farkas::{Decision, Stop, System, decide};
+use crn_net::Network;
+use crn_vec::{Matrix, NoMemory};
+use std::alloc::{AllocError, Global};
+
+// A solution with positive columns and zero rows, or multipliers that rule every one out.
+fn decide_positive(alloc: Global, matrix: &Matrix) -> Result<Decision, Stop>
+    requires { matrix.now.cols ≤ MAX_SIGNED }
+    ensures { MatchResult result (λ d. IsDecision matrix.now (positive_kinds matrix.now) d)
+        (λ s. IsStop matrix.now (positive_kinds matrix.now) s) }
+{
+    let kinds = positive_kinds(alloc, matrix)?;
+    let system = System {
+        matrix,
+        kinds: &kinds,
+    };
+    decide(alloc, &system)
+}
+
+// The answer of a decision: yes with the solution, or no with the multipliers.
+fn vector_answer(decision: Decision) -> Answer
+    ensures { result ≡ vector_answer decision }
+{
+    let verdict = match decision {
+        Decision::Feasible(vector) => Verdict::YesVec { vector },
+        Decision::Infeasible(multipliers) => Verdict::NoVec { multipliers },
+    };
+    Answer {
+        verdict,
+        proof: Proof::Nothing,
+    }
+}
+
+/// Question 7: a positive dependence of the reaction vectors, or multipliers that rule each one out.
+pub(crate) fn positively_dependent(alloc: Global, net: &Network) -> Result<Answer, NoMemory>
+    ensures { IfOk result (λ answer. (budget : ℕ) (earlier : Earlier) →
+        IsAnswer net.now budget earlier Q7 answer) }
+{
+    meets_definition(net);
+    let matrix = reaction_matrix(alloc, net)?;
+    match decide_positive(alloc, &matrix) {
+        Ok(decision) => Ok(vector_answer(decision)),
+        Err(Stop::Wide { index, basis }) => Ok(wide_answer(2, index, basis)),
+        Err(Stop::NoMemory) => Err(AllocError),
+    }
+}
+
+/// Question 8: a conservation law with positive weights, or multipliers that rule each one out.
+pub(crate) fn conservative(alloc: Global, net: &Network) -> Result<Answer, NoMemory>
+    ensures { IfOk result (λ answer. (budget : ℕ) (earlier : Earlier) →
+        IsAnswer net.now budget earlier Q8 answer) }
+{
+    meets_definition(net);
+    let matrix = species_matrix(alloc, net)?;
+    match decide_positive(alloc, &matrix) {
+        Ok(decision) => Ok(vector_answer(decision)),
+        Err(Stop::Wide { index, basis }) => Ok(wide_answer(1, index, basis)),
+        Err(Stop::NoMemory) => Err(AllocError),
+    }
+}
