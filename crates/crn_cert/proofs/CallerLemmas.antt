@@ -16,3 +16,5 @@ pub use Rattle.crn_cert.proofs.TreesDecided.{tests_decide_valid_trees}
 pub use Rattle.crn_cert.proofs.CutShares.{shares_fit}
 -- The count of the terminal classes of a shape is their number.
 pub use Rattle.crn_cert.proofs.TopsCounted.{tops_are_counted}
+-- The vectors of all reactions and of a linkage class by their numbers, and ranges of numbers.
+pub use Rattle.crn_cert.proofs.RankLaws.{all_vectors, class_vectors_are, range_ascending, range_bounds}

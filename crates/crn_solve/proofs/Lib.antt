@@ -5,3 +5,5 @@ mod NetRows
 mod WideGaps
 mod PositiveKinds
 mod PositiveAnswers
+mod Ranks
+mod RankAnswers

@@ -6,6 +6,7 @@ mod classes;
 mod laws;
 mod open;
 mod positive;
+mod rank_answer;
 mod reversible;
 mod systems;
 #[cfg(test)]

@@ -1,10 +1,11 @@
 -- For the contracts of private functions alone: the answers that decisions and stops give.
 -- Source: this project's own.
-use Rattle.std.specs.Prelude.{ℕ}
+use Rattle.std.specs.Prelude.{◌≡◌, ℕ, length}
 use Rattle.crn_vec.specs.Kept.{KeptNums}
 use Rattle.crn_cert.specs.declared.answer.Gap.TheVariants.{Wide}
-use Rattle.crn_cert.specs.declared.answer.Verdict.TheVariants.{YesVec, NoVec, Unknown}
-use Rattle.crn_cert.specs.declared.answer.Proof.TheVariants.{Nothing}
+use Rattle.crn_cert.specs.declared.answer.Verdict.TheVariants.{Rank, YesVec, NoVec, Unknown}
+use Rattle.crn_cert.specs.declared.answer.Proof.TheVariants.{Nothing, Rank as RankRows}
+use Rattle.crn_cert.specs.declared.answer.RankProof.{RankProof}
 use Rattle.crn_cert.specs.declared.answer.Answer.{Answer}
 use Rattle.crn_farkas.specs.declared.decision.Decision.{Decision}
 use Rattle.crn_farkas.specs.declared.decision.Decision.TheVariants.{Feasible, Infeasible}
@@ -20,3 +21,10 @@ wide_answer system index basis = record {
 abbrev pub vector_answer : Decision → Answer
 vector_answer (Feasible vector) = record { verdict = YesVec vector; proof = Nothing }
 vector_answer (Infeasible multipliers) = record { verdict = NoVec multipliers; proof = Nothing }
+
+-- the number of the base with a copy of it, and the proof
+pub record IsRankAnswer (proof : RankProof) (answer : Answer) : Type 0 where
+  pub base : KeptNums
+  pub same : base.list ≡ proof.base.list
+  pub verdict : answer.verdict ≡ Rank (length proof.base.list) base
+  pub proof_is : answer.proof ≡ RankRows proof

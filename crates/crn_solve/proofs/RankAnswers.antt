@@ -1,0 +1,72 @@
+-- The answer on the rank that a proof or a stop gives.
+use Rattle.std.proofs.Common.{◌≡◌, ℕ, zero, suc, ◌+◌, ◌<◌, ◌≤◌, List, [], ◌∷◌, ◌++◌, length, refl, sym, ap, subst, ◌∙◌, arith}
+use Rattle.std.specs.Prelude.{ℤ}
+use Rattle.std.specs.List.{range_with_len}
+use Rattle.crn_vec.specs.Kept.{KeptNums}
+use Rattle.crn_vec.specs.Lists.{IsIn}
+use Rattle.crn_vec.specs.Network.{Net, IsNetwork}
+use Rattle.crn_vec.specs.Vectors.{Mat}
+use Rattle.crn_vec.specs.Elementary.{NamesWide}
+use Rattle.crn_vec.specs.Rank.{IsRank}
+use Rattle.crn_vec.specs.Deficiency.{vectors}
+use Rattle.crn_vec.specs.NetSystems.{species_system}
+use Rattle.crn_vec.specs.declared.limits.TheConstants.{MAX_REACTIONS}
+use Rattle.crn_cert.specs.declared.answer.Answer.{Answer}
+use Rattle.crn_cert.specs.declared.answer.RankProof.{RankProof}
+use Rattle.crn_cert.specs.declared.answer.Verdict.{Verdict}
+use Rattle.crn_cert.specs.declared.answer.Verdict.TheVariants.{Rank}
+use Rattle.crn_cert.specs.declared.answer.Proof.{Proof}
+use Rattle.crn_cert.specs.declared.answer.Proof.TheVariants.{Rank as RankRows}
+use Rattle.crn_cert.specs.Questions.{Earlier, Q5}
+use Rattle.crn_cert.specs.Ranges.{IsFrom}
+use Rattle.crn_cert.specs.Formed.{IsFormed, IsFormedOf, IsWideGap}
+use Rattle.crn_cert.specs.Valid.{IsValid}
+use Rattle.crn_cert.proofs.CallerLemmas.{valid_answers_are_true, all_vectors, range_ascending, range_bounds}
+use Rattle.crn_rank.specs.Rank.{AreMembers, ProvesRank, member_matrix}
+use Rattle.crn_solve.specs.Inner.Answered.{IsAnswer}
+use Rattle.crn_solve.specs.Inner.Given.{IsRankAnswer, wide_answer}
+use Rattle.crn_solve.proofs.NetRows.{vectors_count}
+use Rattle.crn_solve.proofs.Ranks.{rank_from}
+use Rattle.crn_solve.proofs.WideGaps.{wide_basis}
+
+abbrev pub all_places : Net → List ℕ
+all_places net = range_with_len 1 (length net.reactions)
+
+pub range_more : (a n j : ℕ) → a + n ≡ j → range_with_len a (n + 1) ≡ range_with_len a n ++ j ∷ []
+range_more a zero j e = ap (λ (k : ℕ). k ∷ []) (let f : a ≡ j = omega (arith, e) in f)
+range_more a (suc n) j e =
+    let same : suc n + 1 ≡ suc (n + 1) = omega arith in
+    let more : range_with_len a (suc n + 1) ≡ range_with_len a (suc (n + 1)) = ap (range_with_len a) same in
+    more ∙ ap (λ (l : List ℕ). a ∷ l) (range_more (a + 1) n j (omega (arith, e)))
+
+pub are_members : (net : Net) → AreMembers net (all_places net)
+are_members net = record {
+  ascending = range_ascending 1 (length net.reactions);
+  each = λ r i. let b = range_bounds r 1 (length net.reactions) i in (b.0, omega (arith, b.1));
+}
+
+rank_is : (net : Net) (proof : RankProof) → ProvesRank net (all_places net) proof → IsRank (vectors net) (length proof.base.list)
+rank_is net proof h = subst (λ (vs : List (List ℤ)). IsRank vs (length proof.base.list)) (all_vectors net) h.rank
+
+pub base_few : (net : Net) (proof : RankProof) → IsNetwork net → ProvesRank net (all_places net) proof → length proof.base.list ≤ MAX_REACTIONS
+base_few net proof n h = let r = rank_from net (length proof.base.list) n (rank_is net proof h) in omega (arith, r.1, n.partial.reactions_limit)
+
+given : (net : Net) (budget : ℕ) (earlier : Earlier) (proof : RankProof) (base : KeptNums) → IsNetwork net → ProvesRank net (all_places net) proof → base.list ≡ proof.base.list → IsAnswer net budget earlier Q5 (record { verdict = Rank (length proof.base.list) base; proof = RankRows proof })
+given net budget earlier proof base n h same =
+    let answer : Answer = record { verdict = Rank (length proof.base.list) base; proof = RankRows proof } in
+    let formed : IsFormed net earlier Q5 answer = (rank_from net (length proof.base.list) n (rank_is net proof h), (same, h.formed)) in
+    let valid : IsValid net earlier Q5 answer = h.holds 1 in
+    record { formed = formed; valid = valid; answered = valid_answers_are_true Q5 net earlier answer n tt tt formed valid }
+
+pub rank_given : (net : Net) (budget : ℕ) (earlier : Earlier) (proof : RankProof) (answer : Answer) → IsNetwork net → ProvesRank net (all_places net) proof → IsRankAnswer proof answer → IsAnswer net budget earlier Q5 answer
+rank_given net budget earlier proof answer n h g =
+    let first : IsAnswer net budget earlier Q5 (record { verdict = Rank (length proof.base.list) g.base; proof = RankRows proof }) = given net budget earlier proof g.base n h g.same in
+    let second = subst (λ (v : Verdict). IsAnswer net budget earlier Q5 (record { verdict = v; proof = RankRows proof })) (sym g.verdict) first in
+    subst (λ (p : Proof). IsAnswer net budget earlier Q5 (record { verdict = answer.verdict; proof = p })) (sym g.proof_is) second
+
+pub rank_wide : (net : Net) (budget : ℕ) (earlier : Earlier) (index : ℕ) (basis : KeptNums) → NamesWide (member_matrix net (all_places net)) index basis.list → IsAnswer net budget earlier Q5 (wide_answer 1 index basis)
+rank_wide net budget earlier index basis h =
+    let same : member_matrix net (all_places net) ≡ species_system net = ap (λ (rows : List (List ℤ)). let a : Mat = record { cols = length net.names; rows = rows } in a) (all_vectors net) in
+    let wide : NamesWide (species_system net) index basis.list = subst (λ (a : Mat). NamesWide a index basis.list) same h in
+    let gap : IsWideGap net earlier Q5 1 0 index basis.list = (refl, refl, wide_basis (species_system net) (length net.names) (length net.reactions) index basis.list refl (vectors_count net) wide) in
+    record { formed = (gap, refl); valid = tt; answered = (gap, wide) }
