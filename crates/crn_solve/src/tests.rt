@@ -3,8 +3,10 @@ ghost use Rattle.std.specs.List.{AllByRecursion};
 ghost use Rattle.crn_vec.specs.Network.{is_letter, IsName};
 ghost use Rattle.crn_net.specs.Terms.{IsTerm, IsSide};
 
+use crate::positive::{conservative, positively_dependent};
+use crate::rank_answer::rank_answer;
 use crate::solve;
-use crn_cert::{Answers, Proof, Verdict};
+use crn_cert::{Answer, Answers, Gap, Proof, Verdict};
 use crn_net::{NetBuilder, NetFault, Network, Term, sums_fit};
 use crn_vec::{DEFAULT_BUDGET, MAX_AMOUNT, MAX_TERMS};
 use std::alloc::{AllocError, Global};
@@ -130,6 +132,9 @@ struct Row {
     back: &'static [u32],
     // the first reaction that leaves its strong class, or 0
     leaving: u32,
+    rank: u32,
+    dependent: bool,
+    conservative: bool,
 }
 
 const ROWS: [Row; 8] = [
@@ -143,6 +148,9 @@ const ROWS: [Row; 8] = [
         terminal: 1,
         back: &[],
         leaving: 1,
+        rank: 1,
+        dependent: false,
+        conservative: true,
     },
     // a reaction and its reverse
     Row {
@@ -154,6 +162,9 @@ const ROWS: [Row; 8] = [
         terminal: 1,
         back: &[2, 1],
         leaving: 0,
+        rank: 1,
+        dependent: true,
+        conservative: true,
     },
     // Edelstein's network
     Row {
@@ -165,6 +176,9 @@ const ROWS: [Row; 8] = [
         terminal: 2,
         back: &[2, 1, 4, 3, 6, 5],
         leaving: 0,
+        rank: 2,
+        dependent: true,
+        conservative: false,
     },
     // the Brusselator
     Row {
@@ -176,6 +190,9 @@ const ROWS: [Row; 8] = [
         terminal: 2,
         back: &[],
         leaving: 3,
+        rank: 2,
+        dependent: true,
+        conservative: false,
     },
     // three complexes in a row, reversible
     Row {
@@ -187,6 +204,9 @@ const ROWS: [Row; 8] = [
         terminal: 1,
         back: &[2, 1, 4, 3],
         leaving: 0,
+        rank: 1,
+        dependent: true,
+        conservative: true,
     },
     // two terminal classes in one linkage class
     Row {
@@ -198,6 +218,9 @@ const ROWS: [Row; 8] = [
         terminal: 2,
         back: &[],
         leaving: 1,
+        rank: 1,
+        dependent: true,
+        conservative: false,
     },
     // the two-site futile cycle
     Row {
@@ -209,6 +232,9 @@ const ROWS: [Row; 8] = [
         terminal: 2,
         back: &[],
         leaving: 3,
+        rank: 6,
+        dependent: true,
+        conservative: true,
     },
     // a cycle of three reactions
     Row {
@@ -220,6 +246,9 @@ const ROWS: [Row; 8] = [
         terminal: 1,
         back: &[],
         leaving: 0,
+        rank: 2,
+        dependent: true,
+        conservative: true,
     },
 ];
 
@@ -263,6 +292,31 @@ fn reverses_are(rt: &impl Abort, answers: &Answers, row: &Row) {
     }
 }
 
+// Whether the answer is a yes with a vector. It is decided.
+fn is_yes(rt: &impl Abort, answer: &Answer) -> bool {
+    match &answer.verdict {
+        Verdict::YesVec { .. } => true,
+        Verdict::NoVec { .. } => false,
+        _ => panic!(rt; "the question is decided"),
+    }
+}
+
+// The rank is that of the row, and so are the answers on positive vectors.
+fn vectors_are(rt: &(impl Abort + AllocGlobal), net: &Network, row: &Row) -> Result<(), Fail> {
+    match &rank_answer(rt.alloc(), net)?.verdict {
+        Verdict::Rank { rank, base } => {
+            assert_eq!(rt; *rank, row.rank);
+            assert_eq!(rt; base.as_slice().len(), row.rank as usize);
+        }
+        _ => panic!(rt; "the rank is found"),
+    }
+    let dependent = positively_dependent(rt.alloc(), net)?;
+    assert_eq!(rt; is_yes(rt, &dependent), row.dependent);
+    let conservative = conservative(rt.alloc(), net)?;
+    assert_eq!(rt; is_yes(rt, &conservative), row.conservative);
+    Ok(())
+}
+
 #[test]
 fn worked_networks_have_their_answers(rt: HostRuntime) -> Result<(), Fail> {
     for row in ROWS {
@@ -270,6 +324,7 @@ fn worked_networks_have_their_answers(rt: HostRuntime) -> Result<(), Fail> {
         let answers = solve(rt.alloc(), &net, DEFAULT_BUDGET)?;
         classes_are(&rt, &answers, &row);
         reverses_are(&rt, &answers, &row);
+        vectors_are(&rt, &net, &row)?;
     }
     Ok(())
 }
@@ -278,7 +333,8 @@ fn worked_networks_have_their_answers(rt: HostRuntime) -> Result<(), Fail> {
 #[test]
 fn each_of_nine_reactions_is_a_class(rt: HostRuntime) -> Result<(), Fail> {
     let text = b"A>99B,B>99C,C>99D,D>99E,E>99F,F>99G,G>99H,H>99I,I>99J".as_slice();
-    let answers = solve(rt.alloc(), &network(&rt, text), DEFAULT_BUDGET)?;
+    let net = network(&rt, text);
+    let answers = solve(rt.alloc(), &net, DEFAULT_BUDGET)?;
     let row = Row {
         text,
         linkage: &[1, 1, 2, 2, 3, 3, 4, 4, 5, 5, 6, 6, 7, 7, 8, 8, 9, 9],
@@ -290,8 +346,54 @@ fn each_of_nine_reactions_is_a_class(rt: HostRuntime) -> Result<(), Fail> {
         terminal: 9,
         back: &[],
         leaving: 1,
+        rank: 9,
+        dependent: false,
+        conservative: true,
     };
     classes_are(&rt, &answers, &row);
     reverses_are(&rt, &answers, &row);
+    vectors_are(&rt, &net, &row)
+}
+
+fn number(list: &[i128], place: usize) -> i128 {
+    match list.get(place) {
+        Some(x) => *x,
+        None => 0,
+    }
+}
+
+// A molecule of A weighs 99^9 molecules of J.
+#[test]
+fn the_law_of_nine_reactions_is_found(rt: HostRuntime) -> Result<(), Fail> {
+    let text = b"A>99B,B>99C,C>99D,D>99E,E>99F,F>99G,G>99H,H>99I,I>99J".as_slice();
+    match &conservative(rt.alloc(), &network(&rt, text))?.verdict {
+        Verdict::YesVec { vector } => {
+            let last = number(vector.as_slice(), 9);
+            assert!(rt; last >= 1);
+            let first = last.wrapping_mul(913_517_247_483_640_899);
+            assert_eq!(rt; number(vector.as_slice(), 0), first);
+        }
+        _ => panic!(rt; "the network is conservative"),
+    }
+    Ok(())
+}
+
+// Every law of eleven such reactions has an entry of 99^11 or more. One row rules dependence out, and one
+// rules conservation out if a species appears from nothing.
+#[test]
+fn eleven_reactions_leave_conservation_open(rt: HostRuntime) -> Result<(), Fail> {
+    let eleven = b"A>99B,B>99C,C>99D,D>99E,E>99F,F>99G,G>99H,H>99I,I>99J,J>99K,K>99L".as_slice();
+    let net = network(&rt, eleven);
+    assert!(rt; !is_yes(&rt, &positively_dependent(rt.alloc(), &net)?));
+    match &conservative(rt.alloc(), &net)?.verdict {
+        Verdict::Unknown(Gap::Wide { system, class, .. }) => {
+            assert_eq!(rt; (*system, *class), (1, 0));
+        }
+        _ => panic!(rt; "conservation is open"),
+    }
+    let twelve = b"A>99B,B>99C,C>99D,D>99E,E>99F,F>99G,G>99H,H>99I,I>99J,J>99K,K>99L,>M".as_slice();
+    let net = network(&rt, twelve);
+    assert!(rt; !is_yes(&rt, &positively_dependent(rt.alloc(), &net)?));
+    assert!(rt; !is_yes(&rt, &conservative(rt.alloc(), &net)?));
     Ok(())
 }
