@@ -1,4 +1,4 @@
--- For the contracts of private functions alone: what each question's answer is.
+-- For the contracts of private functions alone. What the answer to a question is.
 -- Source: this project's own.
 -- Shapes: `earlier` holds the verdicts on earlier questions. Labels and reactions count from 1.
 use Rattle.std.specs.Prelude.{◌≡◌, ◌≢◌, ◌<◌, ℕ, List, slice_index}

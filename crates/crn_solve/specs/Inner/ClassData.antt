@@ -1,4 +1,4 @@
--- For the contracts of private functions alone: the data of linkage classes and of strong classes.
+-- For the contracts of private functions alone. The data of linkage classes and of strong classes.
 -- Source: Feinberg, Foundations of Chemical Reaction Network Theory (2019), for the classes.
 use Rattle.std.specs.Prelude.{◌≡◌}
 use Rattle.crn_vec.specs.Network.{Net}

@@ -1,4 +1,4 @@
--- For the contracts of private functions alone: the answers that decisions and stops give.
+-- For the contracts of private functions alone. The answers that decisions, rank proofs and stops give.
 -- Source: this project's own.
 use Rattle.std.specs.Prelude.{◌≡◌, ℕ, length}
 use Rattle.crn_vec.specs.Kept.{KeptNums}
