@@ -511,6 +511,7 @@ pub shares_fit_both : (net : Net) (xs : List Answer) (share : Shared) → AreFor
 shares_fit_both net xs share h =
     let e = records_cuts net xs h in
     let l = all_shareable share.table in
-    let z = all_named share.table share.leaf (all_cuts xs) in
-    ((λ f. record { most = f.few; lists = l.0 f.lists; leaves = subst (λ (us : List (List ℤ)). AllZip (documents.IsNamed share.table) share.leaf us) (sym e) (z.0 f.leaves) }),
-    (λ f. record { few = f.most; lists = l.1 f.lists; leaves = z.1 (subst (λ (us : List (List ℤ)). AllZip (documents.IsNamed share.table) share.leaf us) e f.leaves) }))
+    let z = all_named share.table share.leaf (all_cuts xs) in (
+      (λ f. record { most = f.few; lists = l.0 f.lists; leaves = subst (λ (us : List (List ℤ)). AllZip (documents.IsNamed share.table) share.leaf us) (sym e) (z.0 f.leaves) }),
+      (λ f. record { few = f.most; lists = l.1 f.lists; leaves = z.1 (subst (λ (us : List (List ℤ)). AllZip (documents.IsNamed share.table) share.leaf us) e f.leaves) }),
+    )

@@ -271,11 +271,13 @@ pub one_of : (leaf rest : List ℕ) (sections : Bool) (xs : List Answer) (k : �
 one_of leaf rest sections xs k a few e f =
     let at = at_answer xs k a e in
     let done = record_lines (written leaf (blocks sections (take k questions) (take k xs))) in
-    let h = blocks_lines leaf sections questions xs k Q1 a few at.0 in
-    (h.0, h.1
-    ∙ ap (λ (r : List ℕ). (done ++ record_lines (written r (block sections (get_or questions k Q1) (get_or xs k a)))) ++ h.0) (sym f)
-    ∙ ap (λ (q : Question). (done ++ record_lines (written rest (block sections q (get_or xs k a)))) ++ h.0) (sym (at_question k))
-    ∙ ap (λ (x : Answer). (done ++ record_lines (written rest (block sections (question_at (k + 1)) x))) ++ h.0) at.1)
+    let h = blocks_lines leaf sections questions xs k Q1 a few at.0 in (
+      h.0,
+      h.1
+          ∙ ap (λ (r : List ℕ). (done ++ record_lines (written r (block sections (get_or questions k Q1) (get_or xs k a)))) ++ h.0) (sym f)
+          ∙ ap (λ (q : Question). (done ++ record_lines (written rest (block sections q (get_or xs k a)))) ++ h.0) (sym (at_question k))
+          ∙ ap (λ (x : Answer). (done ++ record_lines (written rest (block sections (question_at (k + 1)) x))) ++ h.0) at.1,
+    )
 
 -- all answers
 pub all_done : (leaf : List ℕ) (sections : Bool) (xs : List Answer) (k : ℕ) → k ≡ length xs

@@ -1,6 +1,6 @@
 -- What is due at a line of a document: the records that may be there, what reading the line against them gives, and which refusal it meets.
 -- Source: this project's own format. Shapes: words and lines are lists of bytes; questions, sections and lines count from 1.
-use Rattle.std.specs.Prelude.{◌≡◌, ◌≤◌, ◌<◌, ◌-◌, ◌⊎◌, ◌==◌, ◌++◌, ℕ, ℤ, pos, unsigned_abs, Bool, true, false, if◌then◌else◌, List, [], ◌∷◌, length, codes, slice_index_or}
+use Rattle.std.specs.Prelude.{◌≡◌, ◌≤◌, ◌<◌, ◌-◌, ◌⊎◌, ◌==◌, ◌++◌, ℕ, ℤ, pos, unsigned_abs, Bool, true, false, if◌then◌else◌, List, [], ◌∷◌, length, map, codes, slice_index_or}
 use Rattle.std.specs.List.{AllByRecursion, flat_map, list_any}
 use Rattle.std.specs.Str.{bytes_eq}
 use Rattle.crn_vec.specs.Lists.{IsIn, IsAscending}
@@ -15,6 +15,7 @@ use Rattle.crn_ctext.specs.Course.{Course, Gives, FailsFirst}
 use Rattle.crn_ctext.specs.Blocks.{reads, place_of, word_of}
 use Rattle.crn_ctext.specs.declared.word.Word.{Word}
 use Rattle.crn_ctext.specs.declared.word.Word.TheVariants as word
+use Rattle.crn_ctext.specs.declared.kinds.Kind.{Kind}
 use Rattle.crn_ctext.specs.declared.fault.DocCode.{DocCode}
 use Rattle.crn_ctext.specs.declared.fault.DocCode.TheVariants as code
 use Rattle.crn_ctext.specs.declared.expect.Sizes.{Sizes as GivenSizes}
@@ -72,6 +73,10 @@ text_of word.Vector = codes "vector"
 text_of word.Section = codes "section"
 text_of word.RefA = codes "refa"
 text_of word.RefB = codes "refb"
+
+-- the words of these kinds
+abbrev pub texts : List Kind → List (List ℕ)
+texts kinds = map (λ (k : Kind). text_of k.word) kinds
 
 -- the number of a refusal
 abbrev pub code_of : DocCode → ℕ

@@ -1,6 +1,9 @@
-ghost use Rattle.std.specs.Prelude.{◌≡◌, ◌↔◌, ◌⊎◌, IsTrue};
-ghost use Rattle.crn_vec.specs.Lists.{IsIn};
-ghost use Rattle.crn_ctext.specs.Inner.Rows.{is_row_of, words_of, asked_words, IsTable};
+ghost use Rattle.std.specs.Prelude.{◌≡◌, ◌↔◌, ◌⊎◌, IsTrue, true};
+ghost use Rattle.crn_vec.specs.Lists.{IsIn, AreDistinct};
+ghost use Rattle.crn_ctext.specs.Expect.{texts};
+ghost use Rattle.crn_ctext.specs.Inner.Rows.{are_told_apart, is_row_of, words_of, asked_words, IsTable};
+
+use crate::word::Word;
 
 // The table of record kinds, and what is made from it: an expression with an arm or a row for each kind. A row has the
 // word, the first version that has it, whether it is a word of trees, and whether its numbers are free.
@@ -17,9 +20,10 @@ macro_rules! kinds {
     };
     (@rows $count:expr; $($kind:ident $text:literal $version:literal $tree:literal $free:literal)*) => {
         [$(Kind {
-            text: $text,
+            word: Word::$kind,
             version: $version,
             tree: $tree,
+            free: $free,
         },)*]
     };
     ($task:ident $given:expr) => {
@@ -82,11 +86,13 @@ pub(crate) use kinds;
 #[derive(Clone, Copy)]
 pub struct Kind {
     /// The word that begins its lines.
-    pub text: &'static [u8],
+    pub word: Word,
     /// The first version of documents that has it.
     pub version: u32,
     /// Whether it is a node of a tree.
     pub tree: bool,
+    /// Whether the numbers of a row of this kind are free.
+    pub free: bool,
 }
 
 /// A table of record kinds.
@@ -98,6 +104,55 @@ pub struct Kinds<const N: usize> {
 pub const KINDS: Kinds<48> = Kinds {
     rows: kinds!(rows 48),
 };
+
+// Whether some kind has the word.
+fn has_text(rows: &[Kind], word: &[u8]) -> bool
+    ensures { IsTrue result ↔ IsIn word.now (texts rows.now) }
+{
+    for row in rows {
+        if same(row.word.text(), word) {
+            return true;
+        }
+    }
+    false
+}
+
+// Whether no two kinds have one word.
+fn are_apart(rows: &[Kind]) -> bool
+    ensures { IsTrue result ↔ AreDistinct (texts rows.now) }
+{
+    for (i, row) in rows.iter().enumerate() {
+        let (_, later) = rows.split_at(i + 1);
+        if has_text(later, row.word.text()) {
+            return false;
+        }
+    }
+    true
+}
+
+impl<const N: usize> Kinds<N> {
+    /// Whether no two kinds have one word. It takes no memory.
+    pub fn distinct(&self) -> bool
+        ensures { IsTrue result ↔ AreDistinct (texts self.now.rows) }
+    {
+        are_apart(&self.rows)
+    }
+}
+
+// The test, where it is known to hold.
+fn tell_apart(kinds: &Kinds<48>) -> bool
+    requires { are_told_apart (texts kinds.now.rows) ≡ true }
+    ensures { IsTrue result }
+{
+    kinds.distinct()
+}
+
+/// The words of the record kinds are pairwise distinct.
+pub fn kinds_are_distinct() -> bool
+    ensures { IsTrue result }
+{
+    tell_apart(&KINDS)
+}
 
 // Whether the kind is one of this version, and of a tree if only those are asked for.
 fn is_of(kind: &Kind, version: u32, trees: bool) -> bool
@@ -118,7 +173,7 @@ fn has_word(rows: &[Kind], word: &[u8], version: u32, trees: bool) -> bool
 {
     for row in rows {
         if is_of(row, version, trees) {
-            if same(row.text, word) {
+            if same(row.word.text(), word) {
                 return true;
             }
         }

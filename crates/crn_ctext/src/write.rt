@@ -50,7 +50,7 @@ fn put_table<K: Sink>(sink: &mut K, table: &Rows) -> Result<(), WriteFault>
 }
 
 // The records of an answer to this question, and the numbers of the leaves after it.
-fn put_answer<'a, K: Sink>(
+pub(crate) fn put_answer<'a, K: Sink>(
     sink: &mut K,
     question: usize,
     pairs: &[u32],

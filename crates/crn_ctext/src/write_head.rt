@@ -80,7 +80,9 @@ fn put_head_numbers<K: Sink>(sink: &mut K, verdict: &Verdict) -> Result<(), Writ
     match verdict {
         Verdict::Classes { count, .. } => put_num(sink, *count),
         Verdict::Strong {
-            count, terminal, ..
+            count,
+            terminal,
+            ..
         } => put_first(sink, *count, &[*terminal]),
         Verdict::Rank { rank, .. } => put_num(sink, *rank),
         Verdict::Deficiency { total, classes } => put_first(sink, *total, classes.as_slice()),

@@ -44,11 +44,7 @@ pub(crate) fn put_nums<K: Sink>(sink: &mut K, numbers: &[u32]) -> Result<(), Wri
 }
 
 // A natural number and then more of them, each after a space.
-pub(crate) fn put_first<K: Sink>(
-    sink: &mut K,
-    first: u32,
-    more: &[u32],
-) -> Result<(), WriteFault>
+pub(crate) fn put_first<K: Sink>(sink: &mut K, first: u32, more: &[u32]) -> Result<(), WriteFault>
     ensures { Wrote (numbers_text (map pos (first ∷ more.now)))
         (K.seen sink.old) (K.seen sink.new) result }
 {
@@ -70,11 +66,7 @@ pub(crate) fn put_free<K: Sink>(
 }
 
 // The line of a record with this number.
-pub(crate) fn put_one<K: Sink>(
-    sink: &mut K,
-    text: &[u8],
-    number: &i128,
-) -> Result<(), WriteFault>
+pub(crate) fn put_one<K: Sink>(sink: &mut K, text: &[u8], number: &i128) -> Result<(), WriteFault>
     ensures { Wrote (line text.now (number.now ∷ [])) (K.seen sink.old) (K.seen sink.new) result }
 {
     put_all(sink, text)?;

@@ -28,4 +28,3 @@ returns-in_err-put_small-4 g c =
 pub returns : goal.returns
 returns g c =
     (ends_with (lines_five (codes "from") (codes "fromdepth") (codes "to") (codes "todepth") (codes "level") (map pos c.args.from.now) (map pos c.args.from_depth.now) (map pos c.args.to.now) (map pos c.args.to_depth.now) (map pos c.args.level.now)) (WroteAll-then (WroteAll-then (WroteAll-then c.in_ok-put_small.ensures.all c.in_ok-put_small-2.ensures.all) c.in_ok-put_small-3.ensures.all) c.in_ok-put_small-4.ensures.all) c.put_small-5.ensures)
-
