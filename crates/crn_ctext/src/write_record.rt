@@ -35,7 +35,8 @@ pub(crate) fn put_ints<K: Sink>(sink: &mut K, numbers: &[i128]) -> Result<(), Wr
 
 // Natural numbers, each after a space.
 pub(crate) fn put_nums<K: Sink>(sink: &mut K, numbers: &[u32]) -> Result<(), WriteFault>
-    ensures { Wrote (numbers_text (map pos numbers.now)) (K.seen sink.old) (K.seen sink.new) result }
+    ensures { Wrote (numbers_text (map pos numbers.now))
+        (K.seen sink.old) (K.seen sink.new) result }
 {
     for number in numbers {
         put_num(sink, *number)?;
@@ -80,7 +81,8 @@ pub(crate) fn put_small<K: Sink>(
     text: &[u8],
     numbers: &[u32],
 ) -> Result<(), WriteFault>
-    ensures { Wrote (line text.now (map pos numbers.now)) (K.seen sink.old) (K.seen sink.new) result }
+    ensures { Wrote (line text.now (map pos numbers.now))
+        (K.seen sink.old) (K.seen sink.new) result }
 {
     put_all(sink, text)?;
     put_nums(sink, numbers)?;

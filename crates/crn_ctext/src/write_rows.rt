@@ -123,8 +123,8 @@ fn put_strong<K: Sink>(
     to_depth: &[u32],
     level: &[u32],
 ) -> Result<(), WriteFault>
-    ensures { Wrote (record_lines (strong_records from.now from_depth.now to.now to_depth.now level.now))
-        (K.seen sink.old) (K.seen sink.new) result }
+    ensures { let rs = strong_records from.now from_depth.now to.now to_depth.now level.now in
+        Wrote (record_lines rs) (K.seen sink.old) (K.seen sink.new) result }
 {
     put_small(sink, b"from", from)?;
     put_small(sink, b"fromdepth", from_depth)?;

@@ -1,4 +1,5 @@
--- For the contracts of private functions alone: how a document is written piece by piece.
+-- For the contracts of private functions alone.
+-- How a document is written piece by piece.
 -- Source: this project's own. Shapes: questions are numbered from 1. `leaf` has for each cut leaf
 -- that is still to be written the number of its list, or 0; beyond its end each is 0.
 use Rattle.std.specs.Prelude.{ℕ, ℤ, pos, ◌-◌, ◌^◌, Option, Some, None, Bool, true, false, if◌then◌else◌, List, [], ◌∷◌, ◌++◌, map, take, drop, codes, slice_index_or}
@@ -34,17 +35,19 @@ line text numbers = text ++ numbers_text numbers ++ codes "\n"
 abbrev pub question_at : ℕ → Question
 question_at k = slice_index_or questions (k - 1) Q1
 
--- the words of a verdict's head after that of its question, and its numbers
+-- the words of a verdict's head after that of its question
 abbrev pub head_words : Verdict → List (List ℕ)
 head_words verdict = drop 1 (head_of Q1 verdict).words
 
+-- the numbers of a verdict's head
 abbrev pub head_numbers : Verdict → List ℤ
 head_numbers verdict = (head_of Q1 verdict).numbers
 
--- the same of an open answer
+-- the words of an open answer's head after that of its question
 abbrev pub gap_words : Gap → List (List ℕ)
 gap_words gap = drop 1 (open_head Q1 gap).words
 
+-- the numbers of an open answer's head
 abbrev pub gap_numbers : Gap → List ℤ
 gap_numbers gap = (open_head Q1 gap).numbers
 
