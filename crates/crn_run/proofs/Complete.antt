@@ -2,48 +2,59 @@
 use Rattle.std.proofs.Common.{◌≡◌, ◌⊎◌, ℕ, ◌≤◌, List, length, Option, Some, None, refl, sym, ap, ap₂, subst, ◌∙◌, inl, inr, arith}
 use Rattle.std.specs.Prelude.{IfSome}
 use Rattle.crn_io.specs.Push.{HasNoRoom}
-use Rattle.crn_vec.specs.Linkage.{AreRightLabels, IsLabelCount}
-use Rattle.crn_text.specs.Codes.{code_number, code_name}
-use Rattle.crn_text.specs.Spells.{Spells, Fault}
+use Rattle.crn_vec.specs.Network.{Net}
+use Rattle.crn_text.specs.Spells.{Spells}
 use Rattle.crn_text.specs.declared.fault.TextCode.{TextCode}
-use Rattle.crn_text.proofs.CallerLemmas.{one_fault, no_fault, spelling_unique}
-use Rattle.crn_run.specs.Report.{render}
-use Rattle.crn_run.specs.Run.{Devices, WasLeft, IsReportOf, IsRefusalOf, IsAllowed, refused_line, RunGives, ShowsNetwork, ShowsFault, IsComplete, IsQuiet}
-use Rattle.crn_graph.proofs.CallerLemmas.{one_labels, one_count}
+use Rattle.crn_text.proofs.CallerLemmas.{one_fault, no_fault}
+use Rattle.crn_render.specs.Faults.{usage_line}
+use Rattle.crn_run.specs.Run.{Devices, refused_line, WasLeft, IsRefusalOf, IsOutput, IsAllowed, IsReadForOutput, RunGives, EndsWritten, HasNoFault, AskOfNetwork, IsSpelled, IsFaulty, IsComplete, IsQuiet}
+use Rattle.crn_run.specs.Words.{IsCommand, SayACommand}
+use Rattle.crn_run.specs.declared.words.Command.{Command}
+use Rattle.crn_run.specs.declared.words.Command.TheVariants.{Report, Certify}
 use Rattle.crn_run.specs.declared.status.Status.{Status}
 use Rattle.crn_run.specs.declared.status.Status.TheVariants.{Done, OpenLeft, Refused, Rejected, Usage, ReadFault, WriteFault, NoMemory}
 
 -- ---- one text
 
-one_report : (text a b : List ℕ) → IsReportOf text a → IsReportOf text b → a ≡ b
-one_report text a b p q =
-    let net : p.net ≡ q.net = spelling_unique text p.net q.net p.spells q.spells in
-    let q' : (length q.labels ≡ length p.net.complexes) × AreRightLabels p.net.reactions q.labels = rw net (q.places, q.right) in
-    let labels : p.labels ≡ q.labels = one_labels p.net.reactions p.labels q.labels p.right q'.1 (p.places ∙ sym q'.0) in
-    let counted : IsLabelCount p.labels q.count = rw labels q.counted in
-    let count : p.count ≡ q.count = one_count p.labels p.count q.count p.counted counted in
-    let same : render p.net p.count p.labels ≡ render q.net q.count q.labels = rw (net, labels, count) refl in
-    p.written ∙ same ∙ sym q.written
+pub one_usage : (words : List (List ℕ)) (text out other : List ℕ) → (SayACommand words → ⊥) → IsAllowed words text out → IsAllowed words text other → out ≡ other
+one_usage words text out other none p q = only words text out none p ∙ sym (only words text other none q)
+  where
+    only : (words : List (List ℕ)) (text out : List ℕ) → (SayACommand words → ⊥) → IsAllowed words text out → out ≡ usage_line
+    only words text out none (inl a) = absurd (none (a.0, a.2))
+    only words text out none (inr a) = a.1
 
-one_line : (text a b : List ℕ) → IsRefusalOf text a → IsRefusalOf text b → a ≡ b
-one_line text a b p q =
-    let e = one_fault text p.line q.line p.code q.code p.fault q.fault in
-    p.written ∙ ap₂ (λ (line : ℕ) (code : TextCode). refused_line (code_number code) (code_name code) line) e.0 e.1 ∙ sym q.written
+pub one_refusal : (text out other : List ℕ) → IsRefusalOf text out → IsRefusalOf text other → out ≡ other
+one_refusal text out other p q =
+    let same = one_fault text p.line q.line p.code q.code p.fault q.fault in
+    p.written ∙ ap₂ (λ (line : ℕ) (code : TextCode). refused_line code line) same.0 same.1 ∙ sym q.written
 
-apart : (text a b : List ℕ) → IsReportOf text a → IsRefusalOf text b → ⊥
-apart text a b p q = no_fault text p.net q.line q.code p.spells q.fault
+-- ---- what an output says of the text
 
-one_said : (text a b : List ℕ) → (IsReportOf text a ⊎ IsRefusalOf text a) → (IsReportOf text b ⊎ IsRefusalOf text b) → a ≡ b
-one_said text a b (inl p) (inl q) = one_report text a b p q
-one_said text a b (inl p) (inr q) = absurd (apart text a b p q)
-one_said text a b (inr p) (inl q) = absurd (apart text b a q p)
-one_said text a b (inr p) (inr q) = one_line text a b p q
+-- a text that spells a network has no fault
+spelled_or_faulty : (text : List ℕ) → IsSpelled text → IsFaulty text → ⊥
+spelled_or_faulty text (net, spells) (line, code, fault) = no_fault text net line code spells fault
 
-pub one_allowed : (words : List (List ℕ)) (text a b : List ℕ) → IsAllowed words text a → IsAllowed words text b → a ≡ b
-one_allowed words text a b (inl p) (inl q) = one_said text a b p.1 q.1
-one_allowed words text a b (inl p) (inr q) = absurd (q.0 p.0)
-one_allowed words text a b (inr p) (inl q) = absurd (p.0 q.0)
-one_allowed words text a b (inr p) (inr q) = p.1 ∙ sym q.1
+-- what an output with this status says of the text
+abbrev Kind : Status → List ℕ → Type 0
+Kind status text = (((status ≡ Done) ⊎ (status ≡ OpenLeft)) × IsSpelled text) ⊎ ((status ≡ Refused) × IsFaulty text)
+
+kind : (command : Command) (status : Status) (text out : List ℕ) → IsOutput command status text out → Kind status text
+kind (Report n) Done text out g = inl (inl refl, (g.2.net, g.2.says.spells))
+kind (Report n) OpenLeft text out g = inl (inr refl, (g.2.net, g.2.says.spells))
+kind (Report n) Refused text out g = inr (refl, (g.line, g.code, g.fault))
+kind (Report n) Rejected text out g = absurd g.1
+kind (Report n) Usage text out g = absurd g.1
+kind (Report n) ReadFault text out g = absurd g.1
+kind (Report n) WriteFault text out g = absurd g.1
+kind (Report n) NoMemory text out g = absurd g.1
+kind (Certify n) Done text out g = inl (inl refl, (g.2.net, g.2.says.spells))
+kind (Certify n) OpenLeft text out g = inl (inr refl, (g.2.net, g.2.says.spells))
+kind (Certify n) Refused text out g = inr (refl, (g.line, g.code, g.fault))
+kind (Certify n) Rejected text out g = absurd g.1
+kind (Certify n) Usage text out g = absurd g.1
+kind (Certify n) ReadFault text out g = absurd g.1
+kind (Certify n) WriteFault text out g = absurd g.1
+kind (Certify n) NoMemory text out g = absurd g.1
 
 -- ---- completeness
 
@@ -52,49 +63,60 @@ shown_is : (left : Option (List ℕ)) (shown text : List ℕ) → left ≡ Some 
 shown_is None shown text e p = absurd cc
 shown_is (Some t) shown text e p = let h : t ≡ shown = cc in sym h ∙ p
 
-not_refused : (old : Devices) (text out : List ℕ) → ShowsNetwork old → WasLeft old text → IsRefusalOf text out → ⊥
-not_refused old text out p left q =
-    let e : p.0 ≡ text = shown_is old.source.left p.0 text p.2 left in
-    let spells : Spells text p.1 = subst (λ (t : List ℕ). Spells t p.1) e p.3 in
-    no_fault text p.1 q.line q.code spells q.fault
+shows : (P : List ℕ → Type 0) (old : Devices) (text shown : List ℕ) → old.source.left ≡ Some shown → WasLeft old text → P shown → P text
+shows P old text shown e left p = subst P (shown_is old.source.left shown text e left) p
 
-not_spelled : (old : Devices) (text out : List ℕ) → ShowsFault old → WasLeft old text → IsReportOf text out → ⊥
-not_spelled old text out p left q =
-    let e : p.0 ≡ text = shown_is old.source.left p.0 text p.3 left in
-    let fault : Fault text p.1 p.2 = subst (λ (t : List ℕ). Fault t p.1 p.2) e p.4 in
-    no_fault text q.net p.1 p.2 q.spells fault
+written_complete : (status : Status) (words : List (List ℕ)) (old new : Devices) → EndsWritten status words old new → IsComplete status words old new
+written_complete status words old new g = by (kind g.command status g.text g.out g.says)
+  where
+    no_command : {X : Type 0} → (SayACommand words → ⊥) → X
+    no_command none = absurd (none (g.command, g.said))
+
+    by : Kind status g.text → IsComplete status words old new
+    by (inl (inl is, spelled)) = record {
+      spelled = λ quiet ask. inl is;
+      refused = λ quiet ask. absurd (spelled_or_faulty g.text spelled (shows IsFaulty old g.text ask.2.0 ask.2.1 g.left ask.2.2));
+      usage = λ quiet none. no_command none;
+    }
+    by (inl (inr is, spelled)) = record {
+      spelled = λ quiet ask. inr (inl is);
+      refused = λ quiet ask. absurd (spelled_or_faulty g.text spelled (shows IsFaulty old g.text ask.2.0 ask.2.1 g.left ask.2.2));
+      usage = λ quiet none. no_command none;
+    }
+    by (inr (is, faulty)) = record {
+      spelled = λ quiet ask. absurd (spelled_or_faulty g.text (shows IsSpelled old g.text ask.2.0 ask.2.1 g.left ask.2.2) faulty);
+      refused = λ quiet ask. inl is;
+      usage = λ quiet none. no_command none;
+    }
+
+-- the words say the command that is asked for
+some_command : (P : List ℕ → Type 0) (words : List (List ℕ)) (old : Devices) → AskOfNetwork P words old → SayACommand words
+some_command P words old (n, inl said, shown) = (Report n, said)
+some_command P words old (n, inr said, shown) = (Certify n, said)
 
 pub run_complete : (status : Status) (words : List (List ℕ)) (old new : Devices) → RunGives status words old new → IsComplete status words old new
-run_complete Done words old new g = record {
-  done = λ quiet w t. inl refl;
-  refused = λ quiet w t. absurd (not_spelled old g.text g.out t g.left g.says);
-  usage = λ quiet none. absurd (none g.command);
-}
-run_complete OpenLeft words old new g = absurd g
-run_complete Refused words old new g = record {
-  done = λ quiet w t. absurd (not_refused old g.text g.out t g.left g.says);
-  refused = λ quiet w t. inl refl;
-  usage = λ quiet none. absurd (none g.command);
-}
-run_complete Rejected words old new g = absurd g
+run_complete Done words old new g = written_complete Done words old new g
+run_complete OpenLeft words old new g = written_complete OpenLeft words old new g
+run_complete Refused words old new g = written_complete Refused words old new g
+run_complete Rejected words old new g = written_complete Rejected words old new g
 run_complete Usage words old new g = record {
-  done = λ quiet w t. absurd (g.command w);
-  refused = λ quiet w t. absurd (g.command w);
+  spelled = λ quiet ask. absurd (g.command (some_command IsSpelled words old ask));
+  refused = λ quiet ask. absurd (g.command (some_command IsFaulty words old ask));
   usage = λ quiet none. inl refl;
 }
 run_complete ReadFault words old new g = record {
-  done = λ quiet w t. absurd (quiet.source g.source);
-  refused = λ quiet w t. absurd (quiet.source g.source);
+  spelled = λ quiet ask. absurd (quiet.source g.source);
+  refused = λ quiet ask. absurd (quiet.source g.source);
   usage = λ quiet none. absurd (quiet.source g.source);
 }
 run_complete WriteFault words old new g = record {
-  done = λ quiet w t. absurd (quiet.sink g.sink.rose);
-  refused = λ quiet w t. absurd (quiet.sink g.sink.rose);
+  spelled = λ quiet ask. absurd (quiet.sink g.sink.rose);
+  refused = λ quiet ask. absurd (quiet.sink g.sink.rose);
   usage = λ quiet none. absurd (quiet.sink g.sink.rose);
 }
 run_complete NoMemory words old new g = record {
-  done = λ quiet w t. inr refl;
-  refused = λ quiet w t. inr refl;
+  spelled = λ quiet ask. inr (inr refl);
+  refused = λ quiet ask. inr refl;
   usage = λ quiet none. inr refl;
 }
 
@@ -104,17 +126,19 @@ room_for : (room : Option ℕ) (len n : ℕ) → room ≡ Some n → len ≤ n �
 room_for None len n e le p = absurd cc
 room_for (Some r) len n e le p = let h : r ≡ n = cc in absurd (omega arith)
 
-pub quiet_run : (status : Status) (words : List (List ℕ)) (old new : Devices) (text out : List ℕ) → RunGives status words old new → IsQuiet old new text out → IsAllowed words text out
+allowed : (words : List (List ℕ)) (old new : Devices) (text out : List ℕ) → IsReadForOutput words old new text out → IsAllowed words text out
+allowed words old new text out (inl (command, status, said, read, says)) = inl (command, status, said, says)
+allowed words old new text out (inr (none, same, is)) = inr (none, is)
+
+pub quiet_run : (status : Status) (words : List (List ℕ)) (old new : Devices) (text : List ℕ) → RunGives status words old new → IsQuiet words old new text
     → (status ≡ ReadFault → ⊥) × (status ≡ WriteFault → ⊥) × (new.sink.faults ≡ old.sink.faults)
-quiet_run Done words old new text out g q a = (λ e. absurd cc, λ e. absurd cc, g.sink.quiet)
-quiet_run OpenLeft words old new text out g q a = absurd g
-quiet_run Refused words old new text out g q a = (λ e. absurd cc, λ e. absurd cc, g.sink.quiet)
-quiet_run Rejected words old new text out g q a = absurd g
-quiet_run Usage words old new text out g q a = (λ e. absurd cc, λ e. absurd cc, g.sink.quiet)
-quiet_run ReadFault words old new text out g q a = absurd (let r = g.source in let n = q.source in omega arith)
-quiet_run WriteFault words old new text out g q a =
-    let e : text ≡ g.text = shown_is old.source.left text g.text q.left g.left in
-    let here : IsAllowed words g.text out = subst (λ (t : List ℕ). IsAllowed words t out) e a in
-    let same : out ≡ g.out = one_allowed words g.text out g.out here g.allowed in
-    absurd (room_for old.sink.room (length g.out) q.room q.shows (omega (arith, ap length same, q.fits)) g.sink.no_room)
-quiet_run NoMemory words old new text out g q a = (λ e. absurd cc, λ e. absurd cc, ap (λ s. s.faults) g.sink)
+quiet_run Done words old new text g q = (λ e. absurd cc, λ e. absurd cc, g.sink.quiet)
+quiet_run OpenLeft words old new text g q = (λ e. absurd cc, λ e. absurd cc, g.sink.quiet)
+quiet_run Refused words old new text g q = (λ e. absurd cc, λ e. absurd cc, g.sink.quiet)
+quiet_run Rejected words old new text g q = (λ e. absurd cc, λ e. absurd cc, g.sink.quiet)
+quiet_run Usage words old new text g q = (λ e. absurd cc, λ e. absurd cc, g.sink.quiet)
+quiet_run ReadFault words old new text g q = absurd (let r = g.source in let n = q.source in omega arith)
+quiet_run WriteFault words old new text g q =
+    let here : IsAllowed words text g.out = subst (λ (t : List ℕ). IsAllowed words t g.out) (sym (shown_is old.source.left text g.text q.left g.left)) (allowed words old new g.text g.out g.allowed) in
+    absurd (room_for old.sink.room (length g.out) q.room q.shows (q.fits g.out here) g.sink.no_room)
+quiet_run NoMemory words old new text g q = (λ e. absurd cc, λ e. absurd cc, ap (λ s. s.faults) g.sink)

@@ -1,5 +1,7 @@
-mod Texts
 mod Runs
+mod OpenAnswers
+mod Outputs
+mod Certificates
 mod Complete
 mod ClapWords
 mod ClapSteps

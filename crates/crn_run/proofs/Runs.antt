@@ -1,5 +1,5 @@
--- From a line or a report to a whole run.
-use Rattle.std.proofs.Common.{◌≡◌, ℕ, ◌+◌, List, [], ◌++◌, length, Option, Some, None, Result, Ok, Err, refl, sym, ap, ◌∙◌, inl, inr, arith}
+-- From a line or an output to a whole run.
+use Rattle.std.proofs.Common.{◌≡◌, ℕ, ◌+◌, ◌≤◌, List, [], ◌++◌, length, Option, Some, None, Result, Ok, Err, refl, sym, ap, subst, ◌∙◌, inl, inr, arith}
 use Rattle.std.specs.Prelude.{IfSome}
 use Rattle.std.proofs.lemmas.List.{length-append, append-nil}
 use Rattle.crn_vec.specs.declared.limits.TheConstants.{MAX_TEXT}
@@ -8,27 +8,21 @@ use Rattle.crn_io.specs.declared.fault.ReadStop.TheVariants.{TooLong, Failed}
 use Rattle.crn_io.specs.declared.fault.ReadStop.TheVariants as stop
 use Rattle.crn_io.specs.Pull.{Consumes, HasNoneLeft}
 use Rattle.crn_io.specs.Read.{ReadGives, ConsumesUpTo}
-use Rattle.crn_text.specs.Codes.{code_number, code_name}
-use Rattle.crn_text.specs.Spells.{IsTooLong}
+use Rattle.crn_text.specs.Spells.{Fault, IsTooLong}
 use Rattle.crn_text.specs.declared.fault.TextCode.TheVariants.{TextTooLong}
 use Rattle.crn_io.specs.Device.{SourceSeen, SinkSeen}
-use Rattle.crn_run.specs.Run.{Devices, WasLeft, IsReadOut, IsReadUp, IsReport, IsRefusalOf, refused_line, usage_line, RunGives}
-use Rattle.crn_run.specs.Inner.Steps.{LineGives, ReportGives}
+use Rattle.crn_render.specs.Faults.{usage_line}
+use Rattle.crn_run.specs.Run.{Devices, WasLeft, IsReadOut, IsReadUp, IsReadFor, IsReadWithin, IsOutput, IsRefusalOf, RunGives, refused_line}
+use Rattle.crn_run.specs.Words.{IsCommand, SayACommand}
+use Rattle.crn_vec.specs.Network.{Net}
+use Rattle.crn_run.specs.Inner.Network.{NetworkRead}
+use Rattle.crn_run.specs.Inner.Steps.{HasNoMemory, LineGives, NetworkGives, OutputGives, ReadsNetwork, StopGives}
+use Rattle.crn_run.specs.declared.network.Stop.{Stop}
+use Rattle.crn_run.specs.declared.network.Stop.TheVariants as network
+use Rattle.crn_run.specs.declared.words.Command.{Command}
+use Rattle.crn_run.specs.declared.words.Command.TheVariants.{Report, Certify}
 use Rattle.crn_run.specs.declared.status.Status.{Status}
 use Rattle.crn_run.specs.declared.status.Status.TheVariants.{Done, OpenLeft, Refused, Rejected, Usage, ReadFault, WriteFault, NoMemory}
-
--- ---- sinks
-
--- a refusal of this text reports on it
-pub refusal_reports : (status : Status) (text out : List ℕ) (old new : SinkSeen) → IsRefusalOf text out → LineGives Refused status out old new → ReportGives status text old new
-refusal_reports Done text out old new r g = absurd (let e = g.0 in cc)
-refusal_reports OpenLeft text out old new r g = absurd (let e = g.0 in cc)
-refusal_reports Refused text out old new r g = (out, r, g.1)
-refusal_reports Rejected text out old new r g = absurd (let e = g.0 in cc)
-refusal_reports Usage text out old new r g = absurd (let e = g.0 in cc)
-refusal_reports ReadFault text out old new r g = absurd (let e = g.0 in cc)
-refusal_reports WriteFault text out old new r g = (out, inr r, g)
-refusal_reports NoMemory text out old new r g = absurd (let e = g.0 in cc)
 
 -- ---- sources
 
@@ -51,12 +45,12 @@ some_text None = ([], tt)
 some_text (Some t) = (t, refl)
 
 -- a text that exceeds the limit is refused as too long
-long_refused : (text bytes rest : List ℕ) → length bytes ≡ MAX_TEXT + 1 → text ≡ bytes ++ rest → IsRefusalOf text (refused_line (code_number TextTooLong) (code_name TextTooLong) 0)
+long_refused : (text bytes rest : List ℕ) → length bytes ≡ MAX_TEXT + 1 → text ≡ bytes ++ rest → Fault text 0 TextTooLong
 long_refused text bytes rest long e =
     let past : IsTooLong text 0 TextTooLong = record { named = refl; whole = refl; long = omega (arith, ap length e, length-append bytes rest) } in
-    record { line = 0; code = TextTooLong; fault = inl past; written = refl }
+    inl past
 
-pub too_long : (left rest : Option (List ℕ)) (bytes : List ℕ) → length bytes ≡ MAX_TEXT + 1 → Consumes left bytes rest → (text : List ℕ) × IfSome left (λ t. t ≡ text) × IsRefusalOf text (refused_line (code_number TextTooLong) (code_name TextTooLong) 0)
+pub too_long : (left rest : Option (List ℕ)) (bytes : List ℕ) → length bytes ≡ MAX_TEXT + 1 → Consumes left bytes rest → (text : List ℕ) × IfSome left (λ t. t ≡ text) × Fault text 0 TextTooLong
 too_long None rest bytes long p = (bytes, tt, long_refused bytes bytes [] long (sym (append-nil bytes)))
 too_long (Some t) rest bytes long p = (t, refl, long_refused t bytes p.0 long p.2)
 
@@ -67,34 +61,135 @@ pulled (Err TooLong) limit old new g = (g.0, omega (arith, g.1), g.2)
 pulled (Err Failed) limit old new g = (g.0.0, omega (arith, g.0.1), g.0.2)
 pulled (Err stop.NoMemory) limit old new g = g.0
 
+-- no more is read than a command that reads a network text reads
+pub within_network : (words : List (List ℕ)) (command : Command) (left rest : Option (List ℕ)) → ReadsNetwork command → IsCommand words command → ConsumesUpTo (MAX_TEXT + 1) left rest → IsReadWithin words left rest
+within_network words (Report n) left rest reads said g = inl (Report n, said, g)
+within_network words (Certify n) left rest reads said g = inl (Certify n, said, g)
+
+-- ---- outputs
+
+-- what a command writes for a network text that was read to its end was read for its status
+pub read_for : (command : Command) (status : Status) (text out : List ℕ) (left rest : Option (List ℕ)) → ReadsNetwork command → IsOutput command status text out → IsReadOut left rest → IsReadFor status left rest
+read_for (Report n) Done text out left rest reads g r = r
+read_for (Report n) OpenLeft text out left rest reads g r = r
+read_for (Report n) Refused text out left rest reads g r = inl r
+read_for (Report n) Rejected text out left rest reads g r = absurd g.1
+read_for (Report n) Usage text out left rest reads g r = r
+read_for (Report n) ReadFault text out left rest reads g r = r
+read_for (Report n) WriteFault text out left rest reads g r = r
+read_for (Report n) NoMemory text out left rest reads g r = r
+read_for (Certify n) Done text out left rest reads g r = r
+read_for (Certify n) OpenLeft text out left rest reads g r = r
+read_for (Certify n) Refused text out left rest reads g r = inl r
+read_for (Certify n) Rejected text out left rest reads g r = absurd g.1
+read_for (Certify n) Usage text out left rest reads g r = r
+read_for (Certify n) ReadFault text out left rest reads g r = r
+read_for (Certify n) WriteFault text out left rest reads g r = r
+read_for (Certify n) NoMemory text out left rest reads g r = r
+
+-- a refusal is what a command that reads a network text writes
+pub refusal_is_output : (command : Command) (text out : List ℕ) → ReadsNetwork command → IsRefusalOf text out → IsOutput command Refused text out
+refusal_is_output (Report n) text out reads r = r
+refusal_is_output (Certify n) text out reads r = r
+
+-- no command writes a text with these statuses
+abbrev IsWritten : Status → Type 0
+IsWritten Usage = ⊥
+IsWritten ReadFault = ⊥
+IsWritten WriteFault = ⊥
+IsWritten NoMemory = ⊥
+IsWritten status = Unit {0}
+
+output_is_written : (command : Command) (status : Status) (text out : List ℕ) → IsOutput command status text out → IsWritten status
+output_is_written command Done text out g = tt
+output_is_written command OpenLeft text out g = tt
+output_is_written command Refused text out g = tt
+output_is_written command Rejected text out g = tt
+output_is_written (Report n) Usage text out g = g.1
+output_is_written (Report n) ReadFault text out g = g.1
+output_is_written (Report n) WriteFault text out g = g.1
+output_is_written (Report n) NoMemory text out g = g.1
+output_is_written (Certify n) Usage text out g = g.1
+output_is_written (Certify n) ReadFault text out g = g.1
+output_is_written (Certify n) WriteFault text out g = g.1
+output_is_written (Certify n) NoMemory text out g = g.1
+
 -- ---- runs
 
-pub report_ends : (status : Status) (words : List (List ℕ)) (text : List ℕ) (old new : Devices)
-    → IsReport words → IsReadOut old.source.left new.source.left → WasLeft old text → new.source.faults ≡ old.source.faults
-    → ReportGives status text old.sink new.sink → RunGives status words old new
-report_ends Done words text old new w r e q g = record { command = w; read = r; source = q; text = text; left = e; out = g.0; says = g.1; sink = g.2 }
-report_ends OpenLeft words text old new w r e q g = absurd g
-report_ends Refused words text old new w r e q g = record { command = w; read = inl r; source = q; text = text; left = e; out = g.0; says = g.1; sink = g.2 }
-report_ends Rejected words text old new w r e q g = absurd g
-report_ends Usage words text old new w r e q g = absurd g
-report_ends ReadFault words text old new w r e q g = absurd g
-report_ends WriteFault words text old new w r e q g = record { unread = λ none. absurd (none w); read = λ yes. inl r; source = q; text = text; left = e; out = g.0; allowed = inl (w, g.1); sink = g.2 }
-report_ends NoMemory words text old new w r e q g = record { source = q; sink = g }
+-- what every end of a command says of the source and of the text
+pub record WasRead (command : Command) (status : Status) (words : List (List ℕ)) (text out : List ℕ) (old new : Devices) : Type 0 where
+  pub said : IsCommand words command
+  pub read : IsReadFor status old.source.left new.source.left
+  pub within : IsReadWithin words old.source.left new.source.left
+  pub source : new.source.faults ≡ old.source.faults
+  pub left : WasLeft old text
+  pub says : IsOutput command status text out
 
-pub refusal_ends : (status : Status) (words : List (List ℕ)) (text out : List ℕ) (old new : Devices)
-    → IsReport words → IsReadUp old.source.left new.source.left → WasLeft old text → new.source.faults ≡ old.source.faults → IsRefusalOf text out
-    → LineGives Refused status out old.sink new.sink → RunGives status words old new
-refusal_ends Done words text out old new w r e q s g = absurd (let h = g.0 in cc)
-refusal_ends OpenLeft words text out old new w r e q s g = absurd (let h = g.0 in cc)
-refusal_ends Refused words text out old new w r e q s g = record { command = w; read = r; source = q; text = text; left = e; out = out; says = s; sink = g.1 }
-refusal_ends Rejected words text out old new w r e q s g = absurd (let h = g.0 in cc)
-refusal_ends Usage words text out old new w r e q s g = absurd (let h = g.0 in cc)
-refusal_ends ReadFault words text out old new w r e q s g = absurd (let h = g.0 in cc)
-refusal_ends WriteFault words text out old new w r e q s g = record { unread = λ none. absurd (none w); read = λ yes. r; source = q; text = text; left = e; out = out; allowed = inl (w, inr s); sink = g }
-refusal_ends NoMemory words text out old new w r e q s g = absurd (let h = g.0 in cc)
+-- an output that was written, or a prefix of it
+pub output_ends : (command : Command) (whole status : Status) (words : List (List ℕ)) (text out : List ℕ) (old new : Devices)
+    → WasRead command whole words text out old new → LineGives whole status out old.sink new.sink → RunGives status words old new
+output_ends command whole status words text out old new r g = by status g
+  where
+    at : (status : Status) → status ≡ whole → WasRead command status words text out old new
+    at status e = subst (λ (s : Status). WasRead command s words text out old new) (sym e) r
 
+    by : (status : Status) → LineGives whole status out old.sink new.sink → RunGives status words old new
+    by Done g = let s = at Done g.0 in record { command = command; said = s.said; read = s.read; within = s.within; source = s.source; text = text; left = s.left; out = out; says = s.says; sink = g.1 }
+    by OpenLeft g = let s = at OpenLeft g.0 in record { command = command; said = s.said; read = s.read; within = s.within; source = s.source; text = text; left = s.left; out = out; says = s.says; sink = g.1 }
+    by Refused g = let s = at Refused g.0 in record { command = command; said = s.said; read = s.read; within = s.within; source = s.source; text = text; left = s.left; out = out; says = s.says; sink = g.1 }
+    by Rejected g = let s = at Rejected g.0 in record { command = command; said = s.said; read = s.read; within = s.within; source = s.source; text = text; left = s.left; out = out; says = s.says; sink = g.1 }
+    by Usage g = absurd (output_is_written command Usage text out (at Usage g.0).says)
+    by ReadFault g = absurd (output_is_written command ReadFault text out (at ReadFault g.0).says)
+    by WriteFault g = record { within = r.within; source = r.source; text = text; left = r.left; out = out; allowed = inl (command, whole, r.said, r.read, r.says); sink = g }
+    by NoMemory g = absurd (output_is_written command NoMemory text out (at NoMemory g.0).says)
+
+-- memory ran out
+pub memory_ends : (status : Status) (words : List (List ℕ)) (old new : Devices) → IsReadWithin words old.source.left new.source.left → new.source.faults ≡ old.source.faults
+    → HasNoMemory status old.sink new.sink → RunGives status words old new
+memory_ends status words old new within source g = subst (λ (s : Status). RunGives s words old new) (sym g.0) (record { within = within; source = source; sink = g.1 })
+
+-- the output of a command for a network text that was read to its end
+pub network_ends : (command : Command) (status : Status) (words : List (List ℕ)) (text : List ℕ) (old new : Devices) → ReadsNetwork command → IsCommand words command
+    → IsReadOut old.source.left new.source.left → ConsumesUpTo (MAX_TEXT + 1) old.source.left new.source.left → new.source.faults ≡ old.source.faults → WasLeft old text
+    → OutputGives command status text old.sink new.sink → RunGives status words old new
+network_ends command status words text old new reads said read most source left (inl none) = memory_ends status words old new (within_network words command old.source.left new.source.left reads said most) source none
+network_ends command status words text old new reads said read most source left (inr (whole, out, says, line)) = output_ends command whole status words text out old new (record {
+  said = said;
+  read = read_for command whole text out old.source.left new.source.left reads says read;
+  within = within_network words command old.source.left new.source.left reads said most;
+  source = source;
+  left = left;
+  says = says;
+}) line
+
+-- no network was read
+pub stop_ends : (stop : Stop) (command : Command) (status : Status) (words : List (List ℕ)) (old new : Devices) → ReadsNetwork command → IsCommand words command
+    → NetworkRead (Err stop) old.source new.source → StopGives stop status old.sink new.sink → RunGives status words old new
+stop_ends (network.Fault code line) command status words old new reads said (text, read, up, fault) g = output_ends command Refused status words text (refused_line code line) old new (record {
+  said = said;
+  read = up;
+  within = within_network words command old.source.left new.source.left reads said read.within;
+  source = read.faults;
+  left = read.left;
+  says = refusal_is_output command text (refused_line code line) reads (record { line = line; code = code; fault = fault; written = refl });
+}) g
+stop_ends network.Failed command status words old new reads said (most, rose, later) g = subst (λ (s : Status). RunGives s words old new) (sym g.0) (record {
+  command = (command, said);
+  within = within_network words command old.source.left new.source.left reads said most;
+  source = rose;
+  later = later;
+  sink = g.1;
+})
+stop_ends network.NoMemory command status words old new reads said (most, source) g = memory_ends status words old new (within_network words command old.source.left new.source.left reads said most) source g
+
+-- a network was read
+pub read_ends : (net : Net) (command : Command) (status : Status) (words : List (List ℕ)) (old new : Devices) → ReadsNetwork command → IsCommand words command
+    → NetworkRead (Ok net) old.source new.source → NetworkGives command status net old.sink new.sink → RunGives status words old new
+read_ends net command status words old new reads said (text, read, out, spells) g = network_ends command status words text old new reads said out read.within read.faults read.left (g text spells)
+
+-- the words are no command
 pub usage_ends : (status : Status) (words : List (List ℕ)) (old new : Devices)
-    → (IsReport words → ⊥) → new.source ≡ old.source → LineGives Usage status usage_line old.sink new.sink → RunGives status words old new
+    → (SayACommand words → ⊥) → new.source ≡ old.source → LineGives Usage status usage_line old.sink new.sink → RunGives status words old new
 usage_ends Done words old new none e g = absurd (let h = g.0 in cc)
 usage_ends OpenLeft words old new none e g = absurd (let h = g.0 in cc)
 usage_ends Refused words old new none e g = absurd (let h = g.0 in cc)
@@ -103,5 +198,13 @@ usage_ends Usage words old new none e g = record { command = none; source = e; s
 usage_ends ReadFault words old new none e g = absurd (let h = g.0 in cc)
 usage_ends WriteFault words old new none e g =
     let t = some_text old.source.left in
-    record { unread = λ _. ap (λ s. s.left) e; read = λ yes. absurd (none yes); source = ap (λ s. s.faults) e; text = t.0; left = t.1; out = usage_line; allowed = inr (none, refl); sink = g }
+    record {
+      within = inr (ap (λ (s : SourceSeen). s.left) e);
+      source = ap (λ (s : SourceSeen). s.faults) e;
+      text = t.0;
+      left = t.1;
+      out = usage_line;
+      allowed = inr (none, e, refl);
+      sink = g;
+    }
 usage_ends NoMemory words old new none e g = absurd (let h = g.0 in cc)

@@ -1,5 +1,5 @@
 -- From what clap reads to the command that the words say, and back.
-use Rattle.std.proofs.Common.{◌≡◌, true, false, List, [], Option, Some, None, drop, refl, sym, ap, ◌∙◌, subst, inl, inr, codes}
+use Rattle.std.proofs.Common.{◌≡◌, ◌≤◌, ℕ, true, false, arith, List, [], ◌∷◌, Option, Some, None, drop, refl, sym, ap, ◌∙◌, subst, inl, inr, codes}
 use Rattle.std.specs.Prelude.{MatchOption}
 use Rattle.std.specs.List.{list_any}
 use Rattle.clap.specs.Walk.{Text}
@@ -10,12 +10,13 @@ use Rattle.clap.specs.declared.error.kind.ErrorKind.TheVariants.{OutOfMemory}
 use Rattle.clap.specs.declared.parser.matches.ArgMatches.{ArgMatches}
 use Rattle.clap.proofs.OnLiterals.{clap_on_literals}
 use Rattle.clap.proofs.WalkLemmas.{first_value-rows}
-use Rattle.crn_run.specs.Inner.Parse.{Gives, IsRead, Means, MeansBudget, crnt_app, is_two_dashes}
-use Rattle.crn_run.specs.Run.{IsReport}
-use Rattle.crn_run.specs.Words.{IsCommand}
+use Rattle.crn_run.specs.Inner.Parse.{Gives, IsRead, Means, MeansBudget, MeansName, crnt_app, is_two_dashes}
+use Rattle.crn_vec.specs.declared.limits.TheConstants.{MAX_BUDGET}
+use Rattle.crn_run.specs.Words.{IsCommand, Say, SayName}
 use Rattle.crn_run.specs.declared.words.Command.{Command}
-use Rattle.crn_run.specs.declared.words.Command.TheVariants.{Report}
-use Rattle.crn_run.proofs.ClapForms.{read_is_report, report_is_read}
+use Rattle.crn_run.specs.declared.words.Command.TheVariants.{Report, Certify}
+use Rattle.crn_run.proofs.ClapReads.{Asked, SayAsked}
+use Rattle.crn_run.proofs.ClapForms.{IsPlain, IsReadAs, certify_plain, name_is_read, named_is_read, read_is_asked, report_plain}
 
 -- ---- the clauses of clap
 
@@ -53,21 +54,52 @@ unread_of a words e is (inr among) other read =
 
 -- ---- the command
 
+-- a name, with a word that writes this budget
+abbrev named : Text → ℕ → Asked
+named name n = record { name = name; budget_is = λ o. MeansBudget o n }
+
+values_asked : (ask : Asked) (words : List Text) (command count budget : Option Text) → list_any is_two_dashes (drop 1 words) ≡ false → IsRead words
+    → Gives words command count budget → command ≡ Some ask.name → count ≡ None → ask.budget_is budget → (program : Text) × (rest : List Text) × (words ≡ program ∷ rest) × SayAsked ask rest
+values_asked ask words command count budget plain read gives is none means =
+    read_is_asked words budget ask plain read (subst (λ (o : Option Text). Gives words o None budget) is (subst (λ (o : Option Text). Gives words command o budget) none gives)) means
+
 values_say : (words : List Text) (command count budget : Option Text) (c : Command) → list_any is_two_dashes (drop 1 words) ≡ false → IsRead words
     → Gives words command count budget → Means command count budget c → IsCommand words c
-values_say words command count budget (Report n) plain read gives (is, none, means) =
-    read_is_report words budget n plain read (subst (λ (o : Option Text). Gives words o None budget) is (subst (λ (o : Option Text). Gives words command o budget) none gives)) means
+values_say words command count budget (Report n) plain read gives (is, none, means) = values_asked (named (codes "report") n) words command count budget plain read gives is none means
+values_say words command count budget (Certify n) plain read gives (is, none, means) = values_asked (named (codes "certify") n) words command count budget plain read gives is none means
+
+-- the words of a command with a name, as clap reads them
+name_read : (name program : Text) (words : List Text) (n : ℕ) → IsPlain name → SayName name words n → (b : Option Text) × IsReadAs name program words b × MeansBudget b n
+name_read name program words n is (inl (e, d)) = (None, rw e (name_is_read name program is), d)
+name_read name program words n is (inr (text, writes, form)) = (Some text, named_is_read name program text words is writes.digits form, writes)
+
+abbrev name_of : Command → Text
+name_of (Report n) = codes "report"
+name_of (Certify n) = codes "certify"
+
+-- the words of a command, as clap reads them
+said_read : (program : Text) (words : List Text) (c : Command) → Say words c → (b : Option Text) × IsReadAs (name_of c) program words b × Means (Some (name_of c)) None b c
+said_read program words (Report n) says = let (b, r, means) = name_read (codes "report") program words n report_plain says in (b, r, (refl, refl, means))
+said_read program words (Certify n) says = let (b, r, means) = name_read (codes "certify") program words n certify_plain says in (b, r, (refl, refl, means))
+
+-- words give their values once
+gives_one : (words : List Text) (command count budget first second third : Option Text) (c : Command) → Gives words command count budget → Gives words first second third
+    → Means first second third c → Means command count budget c
+unfolding Gives
+gives_one words command count budget first second third c a b means =
+    subst (λ (o : Option Text). Means o count budget c) (sym b.0 ∙ a.0)
+    (subst (λ (o : Option Text). Means first o budget c) (sym b.1 ∙ a.1)
+    (subst (λ (o : Option Text). Means first second o c) (sym b.2 ∙ a.2) means))
 
 said_values : (words : List Text) (command count budget : Option Text) (c : Command) → Gives words command count budget → IsCommand words c → Means command count budget c
-unfolding Gives
-said_values words command count budget (Report n) gives (program, rest, e, says) =
-    let (b, r, means) = report_is_read program rest n says in
-    let back : Gives words (Some (codes "report")) None b = rw e r.2 in
-    (sym gives.0 ∙ back.0, sym gives.1 ∙ back.1, subst (λ (o : Option Text). MeansBudget o n) (sym back.2 ∙ gives.2) means)
+said_values words command count budget c gives (program, rest, e, says) =
+    let (b, r, means) = said_read program rest c says in
+    let back : Gives words (Some (name_of c)) None b = rw e r.2 in
+    gives_one words command count budget (Some (name_of c)) None b c gives back means
 
 pub said_is_read : (words : List Text) (c : Command) → IsCommand words c → (list_any is_two_dashes (drop 1 words) ≡ false) × IsRead words
-said_is_read words (Report n) (program, rest, e, says) =
-    let (b, r, means) = report_is_read program rest n says in
+said_is_read words c (program, rest, e, says) =
+    let (b, r, means) = said_read program rest c says in
     rw e (r.0, r.1)
 
 -- the command that the values mean is the one that the words say
@@ -77,6 +109,32 @@ pub meant_is_said : (r : Option Command) (words : List Text) (command count budg
 meant_is_said None words command count budget plain read gives none = λ c is. none c (said_values words command count budget c gives is)
 meant_is_said (Some c) words command count budget plain read gives means = values_say words command count budget c plain read gives means
 
--- a command, so far, is `report`
-pub is_report : (words : List Text) (c : Command) → IsCommand words c → IsReport words
-is_report words (Report budget) is = (budget, is)
+-- ---- one command
+
+budget_one : (b : Option Text) (n m : ℕ) → MeansBudget b n → MeansBudget b m → n ≡ m
+budget_one None n m p q = p ∙ sym q
+budget_one (Some text) n m p q = sym p.value ∙ q.value
+
+means_one : (command count word : Option Text) (c d : Command) → Means command count word c → Means command count word d → c ≡ d
+means_one command count word (Report n) (Report m) p q = ap Report (budget_one word n m p.2 q.2)
+means_one command count word (Report n) (Certify m) p q = absurd (let e : Some (codes "report") ≡ Some (codes "certify") = sym p.0 ∙ q.0 in cc)
+means_one command count word (Certify n) (Report m) p q = absurd (let e : Some (codes "certify") ≡ Some (codes "report") = sym p.0 ∙ q.0 in cc)
+means_one command count word (Certify n) (Certify m) p q = ap Certify (budget_one word n m p.2 q.2)
+
+pub one_command : (words : List Text) (c d : Command) → IsCommand words c → IsCommand words d → c ≡ d
+one_command words c d (program, rest, e, says) other =
+    let (b, r, means) = said_read program rest c says in
+    let back : Gives words (Some (name_of c)) None b = rw e r.2 in
+    means_one (Some (name_of c)) None b c d means (said_values words (Some (name_of c)) None b d back other)
+
+-- ---- budgets
+
+budget_bounds : (name : Text) (words : List Text) (n : ℕ) → SayName name words n → (1 ≤ n) × (n ≤ MAX_BUDGET)
+budget_bounds name words n (inl (e, d)) = (omega (arith, d), omega (arith, d))
+budget_bounds name words n (inr (text, writes, form)) = (writes.least, writes.most)
+
+pub report_bounds : (words : List Text) (n : ℕ) → IsCommand words (Report n) → (1 ≤ n) × (n ≤ MAX_BUDGET)
+report_bounds words n (program, rest, e, says) = budget_bounds (codes "report") rest n says
+
+pub certify_bounds : (words : List Text) (n : ℕ) → IsCommand words (Certify n) → (1 ≤ n) × (n ≤ MAX_BUDGET)
+certify_bounds words n (program, rest, e, says) = budget_bounds (codes "certify") rest n says

@@ -1,4 +1,3 @@
-pub mod Report
 pub mod Run
 pub mod Words
 pub mod Inner

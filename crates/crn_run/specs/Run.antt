@@ -1,60 +1,101 @@
 -- What a run of the program reads, writes and answers.
--- Source: this project's own. Shapes: words, names and texts are lists of bytes; lines of a text count from 1.
-use Rattle.std.specs.Prelude.{◌≡◌, ◌≤◌, ◌⊎◌, ◌+◌, ℕ, List, [], ◌++◌, length, codes, decimal, Option, Some, None, IfSome}
+-- Source: this project's own. Shapes: words and texts are lists of bytes; lines of a text count from 1.
+use Rattle.std.specs.Prelude.{◌≡◌, ◌≤◌, ◌⊎◌, ◌+◌, ℕ, List, [], ◌∷◌, length, codes, Option, Some, None, IfSome}
 use Rattle.crn_vec.specs.Network.{Net}
-use Rattle.crn_vec.specs.Linkage.{AreRightLabels, IsLabelCount}
 use Rattle.crn_vec.specs.declared.limits.TheConstants.{MAX_TEXT}
 use Rattle.crn_io.specs.Device.{SourceSeen, SinkSeen, Rose}
 use Rattle.crn_io.specs.Pull.{Consumes}
+use Rattle.crn_io.specs.Read.{ConsumesUpTo}
 use Rattle.crn_io.specs.Write.{WroteAll, WrotePrefix}
 use Rattle.crn_text.specs.Codes.{code_number, code_name}
 use Rattle.crn_text.specs.Spells.{Spells, Fault}
 use Rattle.crn_text.specs.declared.fault.TextCode.{TextCode}
-use Rattle.crn_run.specs.Report.{render}
-use Rattle.crn_run.specs.Words.{IsCommand}
-use Rattle.crn_run.specs.declared.words.Command.TheVariants.{Report}
+use Rattle.crn_cert.specs.declared.answer.Verdict.{Verdict}
+use Rattle.crn_cert.specs.declared.answer.Answer.{Answer}
+use Rattle.crn_cert.specs.Answers.{verdicts_of}
+use Rattle.crn_cert.specs.Built.{built}
+use Rattle.crn_cert.specs.Questions.{IsOpen}
+use Rattle.crn_cert.specs.Formed.{AreFormed}
+use Rattle.crn_cert.specs.Valid.{AreValid}
+use Rattle.crn_cert.specs.Licensed.{AllTrueOrLicensed}
+use Rattle.crn_ctext.specs.Documents.{document2, share_of}
+use Rattle.crn_ctext.specs.Judged.{IsGood}
+use Rattle.crn_ctext.specs.Linked.{records_of}
+use Rattle.crn_render.specs.Report.{render}
+use Rattle.crn_render.specs.Faults.{usage_line, fault_line}
+use Rattle.crn_run.specs.Words.{IsCommand, SayACommand}
+use Rattle.crn_run.specs.declared.words.Command.{Command}
+use Rattle.crn_run.specs.declared.words.Command.TheVariants.{Report, Certify}
 use Rattle.crn_run.specs.declared.status.Status.{Status}
 use Rattle.crn_run.specs.declared.status.Status.TheVariants.{Done, OpenLeft, Refused, Rejected, Usage, ReadFault, WriteFault, NoMemory}
 
--- ---- words
+-- ---- answers
 
--- the words say the command `report`, with some budget
-abbrev pub IsReport : List (List ℕ) → Type 0
-IsReport words = (budget : ℕ) × IsCommand words (Report budget)
+-- some verdict is open
+abbrev pub HasOpen : List Verdict → Type 0
+HasOpen [] = ⊥
+HasOpen (v ∷ vs) = IsOpen v ⊎ HasOpen vs
+
+-- the text spells the network, and the answers to its questions are formed, each true of it, or open
+-- as it may be with this budget
+pub record AreAnswersOf (budget : ℕ) (text : List ℕ) (net : Net) (answers : List Answer) : Type 0 where
+  pub spells : Spells text net
+  pub formed : AreFormed net [] built answers
+  pub answered : AllTrueOrLicensed net budget [] built (verdicts_of answers)
+
+-- none of the answers is open, if a run ends as Done, and some is, if it ends as OpenLeft
+abbrev pub AreLeftBy : Status → List Answer → Type 0
+AreLeftBy Done answers = HasOpen (verdicts_of answers) → ⊥
+AreLeftBy OpenLeft answers = HasOpen (verdicts_of answers)
+AreLeftBy status answers = ⊥
 
 -- ---- texts that are written
 
--- how the program is used
-unfoldable pub usage_line : List ℕ
-usage_line = codes "usage: crnt report | certify | check | sample K, with --budget N except for check\n"
-
--- the number and the name of the fault for which a text is refused, and its line
-unfoldable pub refused_line : ℕ → List ℕ → ℕ → List ℕ
-refused_line number name line =
-    codes "refused " ++ decimal number ++ codes " " ++ name ++ codes " at line " ++ decimal line ++ codes "\n"
-
--- the report of the network that the text spells, with true verdicts
-pub record IsReportOf (text out : List ℕ) : Type 0 where
+-- the report of the network that the text spells, with the verdicts of these answers
+pub record IsReportOf (budget : ℕ) (text out : List ℕ) (answers : List Answer) : Type 0 where
   pub net : Net
-  pub count : ℕ
-  pub labels : List ℕ
-  pub spells : Spells text net
-  pub places : length labels ≡ length net.complexes
-  pub right : AreRightLabels net.reactions labels
-  pub counted : IsLabelCount labels count
-  pub written : out ≡ render net count labels
+  pub says : AreAnswersOf budget text net answers
+  pub written : out ≡ render built net (verdicts_of answers)
 
--- the line that says the first fault of the text
+-- the document of a network and of answers, in version 2, with equal lists written once
+abbrev pub certificate : Net → List Answer → List ℕ
+certificate net answers =
+    document2 built net (records_of net answers) (share_of (records_of net answers))
+
+-- the document of the network that the text spells and of these answers, of which each decided one
+-- is valid; it is a good document
+pub record IsCertificateOf (budget : ℕ) (text out : List ℕ) (answers : List Answer) : Type 0 where
+  pub net : Net
+  pub says : AreAnswersOf budget text net answers
+  pub valid : AreValid net [] built answers
+  pub written : out ≡ certificate net answers
+  pub good : IsGood out
+
+-- the line that says a fault of a network text
+abbrev pub refused_line : TextCode → (line : ℕ) → List ℕ
+refused_line code line = fault_line (codes "refused") (code_number code) (code_name code) line
+
+-- the line that says the first fault of a network text
 pub record IsRefusalOf (text out : List ℕ) : Type 0 where
   pub line : ℕ
   pub code : TextCode
   pub fault : Fault text line code
-  pub written : out ≡ refused_line (code_number code) (code_name code) line
+  pub written : out ≡ refused_line code line
 
--- what may be written for these words and this network text
-abbrev pub IsAllowed : List (List ℕ) → List ℕ → List ℕ → Type 0
-IsAllowed words text out = (IsReport words × (IsReportOf text out ⊎ IsRefusalOf text out))
-    ⊎ ((IsReport words → ⊥) × (out ≡ usage_line))
+-- what a command writes for a text, by the status that the run ends with
+abbrev pub IsOutput : Command → Status → (text out : List ℕ) → Type 0
+IsOutput (Report budget) Refused text out = IsRefusalOf text out
+IsOutput (Report budget) status text out = (answers : List Answer) × AreLeftBy status answers
+    × IsReportOf budget text out answers
+IsOutput (Certify budget) Refused text out = IsRefusalOf text out
+IsOutput (Certify budget) status text out = (answers : List Answer) × AreLeftBy status answers
+    × IsCertificateOf budget text out answers
+
+-- what may be written for these words and this text
+abbrev pub IsAllowed : List (List ℕ) → (text out : List ℕ) → Type 0
+IsAllowed words text out = ((command : Command) × (status : Status) × IsCommand words command
+    × IsOutput command status text out)
+    ⊎ ((SayACommand words → ⊥) × (out ≡ usage_line))
 
 -- ---- devices
 
@@ -74,71 +115,86 @@ IsReadOut (Some text) rest = rest ≡ Some []
 
 -- the source was read to its end, or to the first byte that exceeds the limit of a text
 abbrev pub IsReadUp : Option (List ℕ) → Option (List ℕ) → Type 0
-IsReadUp left rest = IsReadOut left rest ⊎ ((bytes : List ℕ) × (length bytes ≡ MAX_TEXT + 1) × Consumes left bytes rest)
+IsReadUp left rest = IsReadOut left rest
+    ⊎ ((bytes : List ℕ) × (length bytes ≡ MAX_TEXT + 1) × Consumes left bytes rest)
+
+-- the most bytes that a command reads
+abbrev pub most_read : Command → ℕ
+most_read (Report budget) = MAX_TEXT + 1
+most_read (Certify budget) = MAX_TEXT + 1
+
+-- how far the source was read, by the status that the run ends with: to its end, or as far as a
+-- text goes
+abbrev pub IsReadFor : Status → Option (List ℕ) → Option (List ℕ) → Type 0
+IsReadFor Refused left rest = IsReadUp left rest
+IsReadFor status left rest = IsReadOut left rest
+
+-- no more was read than the command reads that the words say, so nothing if they say none
+abbrev pub IsReadWithin : List (List ℕ) → Option (List ℕ) → Option (List ℕ) → Type 0
+IsReadWithin words left rest = ((command : Command) × IsCommand words command
+    × ConsumesUpTo (most_read command) left rest)
+    ⊎ (rest ≡ left)
 
 -- ---- how a run ends, by its status
 
--- the source was read to its end, its text spells a network, and the report of that network was written
-pub record EndsDone (words : List (List ℕ)) (old new : Devices) : Type 0 where
-  pub command : IsReport words
-  pub read : IsReadOut old.source.left new.source.left
+-- the source was read for this status, and what the command writes for its text was written
+pub record EndsWritten (status : Status) (words : List (List ℕ)) (old new : Devices) : Type 0 where
+  pub command : Command
+  pub said : IsCommand words command
+  pub read : IsReadFor status old.source.left new.source.left
+  pub within : IsReadWithin words old.source.left new.source.left
   pub source : new.source.faults ≡ old.source.faults
   pub text : List ℕ
   pub left : WasLeft old text
   pub out : List ℕ
-  pub says : IsReportOf text out
-  pub sink : WroteAll out old.sink new.sink
-
--- the source was read as far as a text goes, its text has a fault, and the line of its first fault was written
-pub record EndsRefused (words : List (List ℕ)) (old new : Devices) : Type 0 where
-  pub command : IsReport words
-  pub read : IsReadUp old.source.left new.source.left
-  pub source : new.source.faults ≡ old.source.faults
-  pub text : List ℕ
-  pub left : WasLeft old text
-  pub out : List ℕ
-  pub says : IsRefusalOf text out
+  pub says : IsOutput command status text out
   pub sink : WroteAll out old.sink new.sink
 
 -- the words are no command, nothing was read, and the usage line was written
 pub record EndsUsage (words : List (List ℕ)) (old new : Devices) : Type 0 where
-  pub command : IsReport words → ⊥
+  pub command : SayACommand words → ⊥
   pub source : new.source ≡ old.source
   pub sink : WroteAll usage_line old.sink new.sink
 
 -- the source's count of faults rose, and the sink is as before
 pub record EndsReadFault (words : List (List ℕ)) (old new : Devices) : Type 0 where
-  pub command : IsReport words
+  pub command : SayACommand words
+  pub within : IsReadWithin words old.source.left new.source.left
   pub source : Rose old.source.faults new.source.faults
   pub later : old.source.faults ≤ new.source.faults
   pub sink : new.sink ≡ old.sink
 
+-- the source was read for what the command writes for its text, or the words are no command and
+-- this is the usage line
+abbrev pub IsReadForOutput : List (List ℕ) → Devices → Devices → (text out : List ℕ) → Type 0
+IsReadForOutput words old new text out = ((command : Command) × (status : Status)
+    × IsCommand words command × IsReadFor status old.source.left new.source.left
+    × IsOutput command status text out)
+    ⊎ ((SayACommand words → ⊥) × (new.source ≡ old.source) × (out ≡ usage_line))
+
 -- the sink's count of faults rose, and a prefix of a text that may be written was written
 pub record EndsWriteFault (words : List (List ℕ)) (old new : Devices) : Type 0 where
-  pub unread : (IsReport words → ⊥) → new.source.left ≡ old.source.left
-  pub read : IsReport words → IsReadUp old.source.left new.source.left
+  pub within : IsReadWithin words old.source.left new.source.left
   pub source : new.source.faults ≡ old.source.faults
   pub text : List ℕ
   pub left : WasLeft old text
   pub out : List ℕ
-  pub allowed : IsAllowed words text out
+  pub allowed : IsReadForOutput words old new text out
   pub sink : WrotePrefix out old.sink new.sink
 
 -- nothing was written, because memory ran out
-pub record EndsNoMemory (old new : Devices) : Type 0 where
+pub record EndsNoMemory (words : List (List ℕ)) (old new : Devices) : Type 0 where
+  pub within : IsReadWithin words old.source.left new.source.left
   pub source : new.source.faults ≡ old.source.faults
   pub sink : new.sink ≡ old.sink
 
 -- what a run did, by the status that it ended with
 abbrev pub RunGives : Status → List (List ℕ) → Devices → Devices → Type 0
-RunGives Done words old new = EndsDone words old new
-RunGives OpenLeft words old new = ⊥
-RunGives Refused words old new = EndsRefused words old new
-RunGives Rejected words old new = ⊥
 RunGives Usage words old new = EndsUsage words old new
 RunGives ReadFault words old new = EndsReadFault words old new
 RunGives WriteFault words old new = EndsWriteFault words old new
-RunGives NoMemory words old new = EndsNoMemory old new
+RunGives NoMemory words old new = EndsNoMemory words old new
+RunGives status words old new = EndsWritten status words old new
 
 -- ---- completeness
 
@@ -147,27 +203,39 @@ pub record HasNoFault (old new : Devices) : Type 0 where
   pub source : Rose old.source.faults new.source.faults → ⊥
   pub sink : Rose old.sink.faults new.sink.faults → ⊥
 
--- the source shows a text that spells a network
-abbrev pub ShowsNetwork : Devices → Type 0
-ShowsNetwork old = (text : List ℕ) × (net : Net) × (old.source.left ≡ Some text) × Spells text net
+-- the source shows a text with this property
+abbrev pub Shows : (List ℕ → Type 0) → Devices → Type 0
+Shows P old = (text : List ℕ) × (old.source.left ≡ Some text) × P text
 
--- the source shows a text that has a fault
-abbrev pub ShowsFault : Devices → Type 0
-ShowsFault old = (text : List ℕ) × (line : ℕ) × (code : TextCode) × (old.source.left ≡ Some text)
-    × Fault text line code
+-- the words say a command that reads a network text, and the source shows one with this property
+abbrev pub AskOfNetwork : (List ℕ → Type 0) → List (List ℕ) → Devices → Type 0
+AskOfNetwork P words old = (budget : ℕ)
+    × (IsCommand words (Report budget) ⊎ IsCommand words (Certify budget)) × Shows P old
+
+-- the text spells a network
+abbrev pub IsSpelled : List ℕ → Type 0
+IsSpelled text = (net : Net) × Spells text net
+
+-- the text has a fault
+abbrev pub IsFaulty : List ℕ → Type 0
+IsFaulty text = (line : ℕ) × (code : TextCode) × Fault text line code
 
 -- if no device failed, a run answers what the words and the text ask for, or memory ran out
 pub record IsComplete (status : Status) (words : List (List ℕ)) (old new : Devices) : Type 0 where
-  pub done : HasNoFault old new → IsReport words → ShowsNetwork old → (status ≡ Done) ⊎ (status ≡ NoMemory)
-  pub refused : HasNoFault old new → IsReport words → ShowsFault old → (status ≡ Refused) ⊎ (status ≡ NoMemory)
-  pub usage : HasNoFault old new → (IsReport words → ⊥) → (status ≡ Usage) ⊎ (status ≡ NoMemory)
+  pub spelled : HasNoFault old new → AskOfNetwork IsSpelled words old
+      → (status ≡ Done) ⊎ (status ≡ OpenLeft) ⊎ (status ≡ NoMemory)
+  pub refused : HasNoFault old new → AskOfNetwork IsFaulty words old
+      → (status ≡ Refused) ⊎ (status ≡ NoMemory)
+  pub usage : HasNoFault old new → (SayACommand words → ⊥)
+      → (status ≡ Usage) ⊎ (status ≡ NoMemory)
 
 -- ---- devices that don't fail
 
--- the source shows this text and its count of faults stays at 0, and the sink shows a room for what is written
-pub record IsQuiet (old new : Devices) (text out : List ℕ) : Type 0 where
+-- the source shows this text and its count of faults stays at 0, and the sink shows a room for
+-- each text that may be written
+pub record IsQuiet (words : List (List ℕ)) (old new : Devices) (text : List ℕ) : Type 0 where
   pub left : old.source.left ≡ Some text
   pub source : (old.source.faults ≡ 0) × (new.source.faults ≡ 0)
   pub room : ℕ
   pub shows : old.sink.room ≡ Some room
-  pub fits : length out ≤ room
+  pub fits : (out : List ℕ) → IsAllowed words text out → length out ≤ room

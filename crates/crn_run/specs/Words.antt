@@ -4,7 +4,7 @@ use Rattle.std.specs.Prelude.{◌≡◌, ◌≤◌, ◌⊎◌, ℕ, List, [], �
 use Rattle.std.specs.Str.Parse.{IsNumeral, digits_value}
 use Rattle.crn_vec.specs.declared.limits.TheConstants.{MAX_BUDGET, MAX_BUDGET_DIGITS, DEFAULT_BUDGET}
 use Rattle.crn_run.specs.declared.words.Command.{Command}
-use Rattle.crn_run.specs.declared.words.Command.TheVariants.{Report}
+use Rattle.crn_run.specs.declared.words.Command.TheVariants.{Report, Certify}
 
 -- the text is one to six digits, without a sign, and writes a budget from 1 to 100,000
 pub record IsBudget (text : List ℕ) (budget : ℕ) : Type 0 where
@@ -14,18 +14,28 @@ pub record IsBudget (text : List ℕ) (budget : ℕ) : Type 0 where
   pub least : 1 ≤ budget
   pub most : budget ≤ MAX_BUDGET
 
--- the words are `report --budget N`, `report --budget=N`, `--budget N report` or `--budget=N report`
-abbrev pub IsReportWith : List ℕ → List (List ℕ) → Type 0
-IsReportWith n words = (words ≡ codes "report" ∷ codes "--budget" ∷ n ∷ [])
-    ⊎ (words ≡ codes "report" ∷ (codes "--budget=" ++ n) ∷ [])
-    ⊎ (words ≡ codes "--budget" ∷ n ∷ codes "report" ∷ [])
-    ⊎ (words ≡ (codes "--budget=" ++ n) ∷ codes "report" ∷ [])
+-- the words are the command's name with `--budget N` or `--budget=N` after or before it
+abbrev pub AreNamedWith : List ℕ → List ℕ → List (List ℕ) → Type 0
+AreNamedWith name n words = (words ≡ name ∷ codes "--budget" ∷ n ∷ [])
+    ⊎ (words ≡ name ∷ (codes "--budget=" ++ n) ∷ [])
+    ⊎ (words ≡ codes "--budget" ∷ n ∷ name ∷ [])
+    ⊎ (words ≡ (codes "--budget=" ++ n) ∷ name ∷ [])
 
--- the words are `report` alone, with the default budget, or `report` with one budget
-abbrev pub SaysReport : List (List ℕ) → ℕ → Type 0
-SaysReport words budget = ((words ≡ codes "report" ∷ []) × (budget ≡ DEFAULT_BUDGET))
-    ⊎ ((n : List ℕ) × IsBudget n budget × IsReportWith n words)
+-- the words are the command's name alone, with the default budget, or the name with one budget
+abbrev pub SayName : List ℕ → List (List ℕ) → ℕ → Type 0
+SayName name words budget = ((words ≡ name ∷ []) × (budget ≡ DEFAULT_BUDGET))
+    ⊎ ((n : List ℕ) × IsBudget n budget × AreNamedWith name n words)
 
 -- the words after the program's name say the command
+abbrev pub Say : List (List ℕ) → Command → Type 0
+Say words (Report budget) = SayName (codes "report") words budget
+Say words (Certify budget) = SayName (codes "certify") words budget
+
+-- the words of a command line say the command
 abbrev pub IsCommand : List (List ℕ) → Command → Type 0
-IsCommand words (Report budget) = (program : List ℕ) × (rest : List (List ℕ)) × (words ≡ program ∷ rest) × SaysReport rest budget
+IsCommand words command = (program : List ℕ) × (rest : List (List ℕ)) × (words ≡ program ∷ rest)
+    × Say rest command
+
+-- the words say some command
+abbrev pub SayACommand : List (List ℕ) → Type 0
+SayACommand words = (command : Command) × IsCommand words command

@@ -1,6 +1,6 @@
 ghost use Rattle.std.specs.Prelude.{◌≡◌, ℕ, List};
-ghost use Rattle.crn_run.specs.Run.{Devices, IsAllowed, IsQuiet, RunGives};
-ghost use Rattle.crn_run.specs.Words.{IsCommand};
+ghost use Rattle.crn_run.specs.Run.{Devices, IsAllowed, IsQuiet, IsRefusalOf, RunGives};
+ghost use Rattle.crn_run.specs.Words.{IsCommand, SayACommand};
 ghost use Rattle.crn_run.specs.declared.words.Command.{Command};
 ghost use Rattle.crn_run.specs.declared.status.Status.{Status};
 ghost use Rattle.crn_run.specs.declared.status.Status.TheVariants.{ReadFault, WriteFault};
@@ -11,16 +11,19 @@ pub fn words_say_one_command()
         IsCommand words c → IsCommand words other → c ≡ other }
 {}
 
-/// For the same words and the same network text, one text may be written.
+/// What may be written is one text if the words say no command, and for a text that is refused.
 pub fn what_may_be_written_is_one_text()
-    ensures { (words : List (List ℕ)) (text a b : List ℕ) →
-        IsAllowed words text a → IsAllowed words text b → a ≡ b }
+    ensures usage { (words : List (List ℕ)) (text out other : List ℕ) →
+        (SayACommand words → ⊥) → IsAllowed words text out → IsAllowed words text other →
+        out ≡ other }
+    ensures refused { (text out other : List ℕ) →
+        IsRefusalOf text out → IsRefusalOf text other → out ≡ other }
 {}
 
-/// Over a source that never fails and a sink with room for what may be written, a run meets no fault.
+/// Over a source that never fails and a sink with room for each text that may be written, a run meets no fault.
 pub fn quiet_devices_meet_no_fault()
-    ensures { (status : Status) (words : List (List ℕ)) (old new : Devices) (text out : List ℕ) →
-        RunGives status words old new → IsQuiet old new text out → IsAllowed words text out →
+    ensures { (status : Status) (words : List (List ℕ)) (old new : Devices) (text : List ℕ) →
+        RunGives status words old new → IsQuiet words old new text →
         (status ≡ ReadFault → ⊥) × (status ≡ WriteFault → ⊥)
         × (new.sink.faults ≡ old.sink.faults) }
 {}

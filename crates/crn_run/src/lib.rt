@@ -1,8 +1,9 @@
-//! The top call of the program: it reads words and a network text, and writes a report.
+//! The top call of the program: it reads words and a network text, and writes a report or a document.
 #![tactic(auto)]
 
 mod laws;
-mod report;
+mod network;
+mod output;
 mod runner;
 mod status;
 #[cfg(test)]

@@ -16,6 +16,7 @@ use std::alloc::{AllocError, Global};
 #[derive(Clone, Copy, Debug, PartialEq, Eq)]
 pub enum Command {
     Report { budget: u32 },
+    Certify { budget: u32 },
 }
 
 /// The command that the words say, or none if they say none. Takes memory.
@@ -100,13 +101,17 @@ fn command_meant(said: &Said<'_>) -> Option<Command>
         ((c : Command) → Means command count budget c → ⊥)
         (Means command count budget) }
 {
+    if said.count.is_some() {
+        return None;
+    }
     match said.command {
         Some("report") => {
-            if said.count.is_some() {
-                return None;
-            }
             let budget = budget_meant(said.budget)?;
             Some(Command::Report { budget })
+        }
+        Some("certify") => {
+            let budget = budget_meant(said.budget)?;
+            Some(Command::Certify { budget })
         }
         _ => None,
     }

@@ -9,7 +9,7 @@ use Rattle.clap.specs.declared.builder.action.ArgAction.TheVariants.{Set}
 use Rattle.crn_vec.specs.declared.limits.TheConstants.{DEFAULT_BUDGET}
 use Rattle.crn_run.specs.Words.{IsBudget}
 use Rattle.crn_run.specs.declared.words.Command.{Command}
-use Rattle.crn_run.specs.declared.words.Command.TheVariants.{Report}
+use Rattle.crn_run.specs.declared.words.Command.TheVariants.{Report, Certify}
 
 -- the one command that clap reads: a positional `command` that is required, a positional `count`, and an option `--budget`
 unfoldable pub crnt_app : App
@@ -42,6 +42,12 @@ abbrev pub MeansBudget : Option (List ℕ) → ℕ → Type 0
 MeansBudget None budget = budget ≡ DEFAULT_BUDGET
 MeansBudget (Some text) budget = IsBudget text budget
 
+-- the values are this name, no count, and a word that writes this budget, or none for the default
+abbrev pub MeansName : List ℕ → Option (List ℕ) → Option (List ℕ) → Option (List ℕ) → ℕ → Type 0
+MeansName name command count word budget = (command ≡ Some name) × (count ≡ None)
+    × MeansBudget word budget
+
 -- the command that the values mean
 abbrev pub Means : Option (List ℕ) → Option (List ℕ) → Option (List ℕ) → Command → Type 0
-Means command count word (Report budget) = (command ≡ Some (codes "report")) × (count ≡ None) × MeansBudget word budget
+Means command count word (Report budget) = MeansName (codes "report") command count word budget
+Means command count word (Certify budget) = MeansName (codes "certify") command count word budget

@@ -1,21 +1,47 @@
 -- For the contracts of private functions alone.
 -- What the parts of a run do to a sink, by the status that they end with.
-use Rattle.std.specs.Prelude.{◌≡◌, ◌⊎◌, ℕ, List}
+use Rattle.std.specs.Prelude.{◌≡◌, ◌⊎◌, ◌≤◌, ℕ, List}
+use Rattle.crn_vec.specs.Network.{Net}
+use Rattle.crn_vec.specs.declared.limits.TheConstants.{MAX_BUDGET}
 use Rattle.crn_io.specs.Device.{SinkSeen}
 use Rattle.crn_io.specs.Write.{WroteAll, WrotePrefix}
-use Rattle.crn_run.specs.Run.{IsReportOf, IsRefusalOf}
+use Rattle.crn_text.specs.Spells.{Spells}
+use Rattle.crn_run.specs.Run.{IsOutput, refused_line}
+use Rattle.crn_run.specs.declared.words.Command.{Command}
+use Rattle.crn_run.specs.declared.words.Command.TheVariants.{Report, Certify}
 use Rattle.crn_run.specs.declared.status.Status.{Status}
-use Rattle.crn_run.specs.declared.status.Status.TheVariants.{Done, Refused, WriteFault, NoMemory}
+use Rattle.crn_run.specs.declared.status.Status.TheVariants.{Refused, ReadFault, WriteFault}
+use Rattle.crn_run.specs.declared.status.Status.TheVariants as status_is
+use Rattle.crn_run.specs.declared.network.Stop.{Stop}
+use Rattle.crn_run.specs.declared.network.Stop.TheVariants.{Fault, Failed, NoMemory}
 
 -- writing this text, with the status `whole` if all of it was written
 abbrev pub LineGives : Status → Status → List ℕ → SinkSeen → SinkSeen → Type 0
 LineGives whole WriteFault out old new = WrotePrefix out old new
 LineGives whole status out old new = (status ≡ whole) × WroteAll out old new
 
--- reporting on a text that was read
-abbrev pub ReportGives : Status → List ℕ → SinkSeen → SinkSeen → Type 0
-ReportGives Done text old new = (out : List ℕ) × IsReportOf text out × WroteAll out old new
-ReportGives Refused text old new = (out : List ℕ) × IsRefusalOf text out × WroteAll out old new
-ReportGives WriteFault text old new = (out : List ℕ) × (IsReportOf text out ⊎ IsRefusalOf text out) × WrotePrefix out old new
-ReportGives NoMemory text old new = new ≡ old
-ReportGives status text old new = ⊥
+-- memory ran out before anything was written
+abbrev pub HasNoMemory : Status → SinkSeen → SinkSeen → Type 0
+HasNoMemory status old new = (status ≡ status_is.NoMemory) × (new ≡ old)
+
+-- writing what a command writes for a text that was read
+abbrev pub OutputGives : Command → Status → List ℕ → SinkSeen → SinkSeen → Type 0
+OutputGives command status text old new = HasNoMemory status old new
+    ⊎ ((whole : Status) × (out : List ℕ) × IsOutput command whole text out
+    × LineGives whole status out old new)
+
+-- writing what a command writes for each text that spells the network
+abbrev pub NetworkGives : Command → Status → Net → SinkSeen → SinkSeen → Type 0
+NetworkGives command status net old new =
+    (text : List ℕ) → Spells text net → OutputGives command status text old new
+
+-- the command reads a network text
+abbrev pub ReadsNetwork : Command → Type 0
+ReadsNetwork (Report budget) = (1 ≤ budget) × (budget ≤ MAX_BUDGET)
+ReadsNetwork (Certify budget) = (1 ≤ budget) × (budget ≤ MAX_BUDGET)
+
+-- ending a run that read no network
+abbrev pub StopGives : Stop → Status → SinkSeen → SinkSeen → Type 0
+StopGives (Fault code line) status old new = LineGives Refused status (refused_line code line) old new
+StopGives Failed status old new = (status ≡ ReadFault) × (new ≡ old)
+StopGives NoMemory status old new = HasNoMemory status old new

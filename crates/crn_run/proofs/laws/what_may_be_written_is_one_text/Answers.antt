@@ -1,5 +1,8 @@
-use Rattle.crn_run.proofs.Complete.{one_allowed}
+use Rattle.crn_run.proofs.Complete.{one_usage, one_refusal}
 use Rattle.crn_run.proofs.laws.what_may_be_written_is_one_text.Goals as goal
 
-pub returns : goal.returns
-returns c = one_allowed
+pub returns-clause-usage : goal.returns-clause-usage
+returns-clause-usage c = one_usage
+
+pub returns-clause-refused : goal.returns-clause-refused
+returns-clause-refused c = one_refusal

@@ -1,21 +1,24 @@
-use Rattle.std.proofs.Common.{refl}
-use Rattle.crn_run.specs.declared.words.Command.TheVariants.{Report}
-use Rattle.crn_run.proofs.WordsSaid.{is_report}
+use Rattle.std.proofs.Common.{refl, inr}
 use Rattle.crn_run.proofs.Runs.{usage_ends}
 use Rattle.crn_run.proofs.Complete.{run_complete}
 use Rattle.crn_run.proofs.runner.run.Goals as goal
 
 pub returns-in-Ok-Some-Report-clause-complete : goal.returns-in-Ok-Some-Report-clause-complete
 returns-in-Ok-Some-Report-clause-complete g c =
-    let said = rw c.in-Ok-Some-Report.field-0-is at c.in-Ok-Some-Report.ensures in
-    run_complete c.report.result _ _ _ (c.report.ensures.gives _ (is_report _ _ said))
+    let said = rw (c.in-Ok-Some-Report.field-0-is, c.in-Ok-Some-Report.field-0-0-is) at c.in-Ok-Some-Report.ensures in
+    run_complete c.report.result _ _ _ (c.report.ensures _ said)
+
+pub returns-in-Ok-Some-Certify-clause-complete : goal.returns-in-Ok-Some-Certify-clause-complete
+returns-in-Ok-Some-Certify-clause-complete g c =
+    let said = rw (c.in-Ok-Some-Certify.field-0-is, c.in-Ok-Some-Certify.field-0-0-is) at c.in-Ok-Some-Certify.ensures in
+    run_complete c.certify.result _ _ _ (c.certify.ensures _ said)
 
 pub returns-in-Ok-None-clause-gives : goal.returns-in-Ok-None-clause-gives
 returns-in-Ok-None-clause-gives g c =
     let none = rw c.in-Ok-None.field-0-is at c.in-Ok-None.ensures in
-    usage_ends c.usage.result _ _ _ (λ yes. none (Report yes.0) yes.1) refl c.usage.ensures
+    usage_ends c.usage.result _ _ _ (λ p. none p.0 p.1) refl c.usage.ensures
 
 pub returns-in-Ok-None-clause-complete : goal.returns-in-Ok-None-clause-complete
 returns-in-Ok-None-clause-complete g c =
     let none = rw c.in-Ok-None.field-0-is at c.in-Ok-None.ensures in
-    run_complete c.usage.result _ _ _ (usage_ends c.usage.result _ _ _ (λ yes. none (Report yes.0) yes.1) refl c.usage.ensures)
+    run_complete c.usage.result _ _ _ (usage_ends c.usage.result _ _ _ (λ p. none p.0 p.1) refl c.usage.ensures)

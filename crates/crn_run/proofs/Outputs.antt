@@ -1,0 +1,72 @@
+-- From the answers to a network's questions to what a command writes for its text.
+use Rattle.std.proofs.Common.{◌≡◌, ℕ, List, [], refl, subst, inl, inr}
+use Rattle.crn_vec.specs.Network.{Net}
+use Rattle.crn_io.specs.Device.{SinkSeen}
+use Rattle.crn_io.specs.Write.{WroteAll, WrotePrefix}
+use Rattle.crn_cert.specs.declared.answer.Verdict.{Verdict}
+use Rattle.crn_cert.specs.Answers.{verdicts_of}
+use Rattle.crn_cert.specs.Built.{built}
+use Rattle.crn_cert.specs.Valid.{AreValid}
+use Rattle.crn_ctext.specs.Judged.{IsGood}
+use Rattle.crn_render.specs.Report.{render}
+use Rattle.crn_cert.specs.declared.answer.Answer.{Answer}
+use Rattle.crn_run.specs.Run.{AreAnswersOf, AreLeftBy, certificate, IsCertificateOf, IsOutput, IsReportOf}
+use Rattle.crn_run.specs.Inner.Steps.{LineGives, OutputGives}
+use Rattle.crn_run.specs.declared.words.Command.TheVariants.{Report, Certify}
+use Rattle.crn_run.specs.declared.status.Status.{Status}
+use Rattle.crn_run.specs.declared.status.Status.TheVariants.{Done, OpenLeft, Refused, Rejected, Usage, ReadFault, WriteFault, NoMemory}
+
+report_is_output : (budget : ℕ) (whole : Status) (text out : List ℕ) (answers : List Answer) → AreLeftBy whole answers → IsReportOf budget text out answers → IsOutput (Report budget) whole text out
+report_is_output budget Done text out answers left r = (answers, left, r)
+report_is_output budget OpenLeft text out answers left r = (answers, left, r)
+report_is_output budget Refused text out answers left r = absurd left
+report_is_output budget Rejected text out answers left r = absurd left
+report_is_output budget Usage text out answers left r = absurd left
+report_is_output budget ReadFault text out answers left r = absurd left
+report_is_output budget WriteFault text out answers left r = absurd left
+report_is_output budget NoMemory text out answers left r = absurd left
+
+certificate_is_output : (budget : ℕ) (whole : Status) (text out : List ℕ) (answers : List Answer) → AreLeftBy whole answers → IsCertificateOf budget text out answers → IsOutput (Certify budget) whole text out
+certificate_is_output budget Done text out answers left r = (answers, left, r)
+certificate_is_output budget OpenLeft text out answers left r = (answers, left, r)
+certificate_is_output budget Refused text out answers left r = absurd left
+certificate_is_output budget Rejected text out answers left r = absurd left
+certificate_is_output budget Usage text out answers left r = absurd left
+certificate_is_output budget ReadFault text out answers left r = absurd left
+certificate_is_output budget WriteFault text out answers left r = absurd left
+certificate_is_output budget NoMemory text out answers left r = absurd left
+
+-- a text that was written whole is written with the status that it has
+whole_is_written : (whole : Status) (out : List ℕ) (answers : List Answer) (old new : SinkSeen) → AreLeftBy whole answers → WroteAll out old new → LineGives whole whole out old new
+whole_is_written Done out answers old new left w = (refl, w)
+whole_is_written OpenLeft out answers old new left w = (refl, w)
+whole_is_written Refused out answers old new left w = absurd left
+whole_is_written Rejected out answers old new left w = absurd left
+whole_is_written Usage out answers old new left w = absurd left
+whole_is_written ReadFault out answers old new left w = absurd left
+whole_is_written WriteFault out answers old new left w = absurd left
+whole_is_written NoMemory out answers old new left w = absurd left
+
+reported : (budget : ℕ) (text : List ℕ) (net : Net) (answers : List Answer) → AreAnswersOf budget text net answers → IsReportOf budget text (render built net (verdicts_of answers)) answers
+reported budget text net answers says = record { net = net; says = says; written = refl }
+
+pub report_gives : (budget : ℕ) (whole : Status) (text : List ℕ) (net : Net) (answers : List Answer) (verdicts : List Verdict) (old new : SinkSeen) → verdicts ≡ verdicts_of answers
+    → AreAnswersOf budget text net answers → AreLeftBy whole answers → WroteAll (render built net verdicts) old new → OutputGives (Report budget) whole text old new
+report_gives budget whole text net answers verdicts old new e says left w =
+    let here : WroteAll (render built net (verdicts_of answers)) old new = subst (λ (vs : List Verdict). WroteAll (render built net vs) old new) e w in
+    inr (whole, render built net (verdicts_of answers), report_is_output budget whole text (render built net (verdicts_of answers)) answers left (reported budget text net answers says), whole_is_written whole (render built net (verdicts_of answers)) answers old new left here)
+
+certified : (budget : ℕ) (text : List ℕ) (net : Net) (answers : List Answer) → AreAnswersOf budget text net answers → AreValid net [] built answers → IsGood (certificate net answers) → IsCertificateOf budget text (certificate net answers) answers
+certified budget text net answers says valid good = record { net = net; says = says; valid = valid; written = refl; good = good }
+
+pub certificate_gives : (budget : ℕ) (whole : Status) (text : List ℕ) (net : Net) (answers : List Answer) (out : List ℕ) (old new : SinkSeen) → out ≡ certificate net answers → AreAnswersOf budget text net answers
+    → AreValid net [] built answers → IsGood (certificate net answers) → AreLeftBy whole answers → WroteAll out old new → OutputGives (Certify budget) whole text old new
+certificate_gives budget whole text net answers out old new e says valid good left w =
+    let here : WroteAll (certificate net answers) old new = subst (λ (t : List ℕ). WroteAll t old new) e w in
+    inr (whole, certificate net answers, certificate_is_output budget whole text (certificate net answers) answers left (certified budget text net answers says valid good), whole_is_written whole (certificate net answers) answers old new left here)
+
+pub certificate_broken : (budget : ℕ) (whole : Status) (text : List ℕ) (net : Net) (answers : List Answer) (out : List ℕ) (old new : SinkSeen) → out ≡ certificate net answers → AreAnswersOf budget text net answers
+    → AreValid net [] built answers → IsGood (certificate net answers) → AreLeftBy whole answers → WrotePrefix out old new → OutputGives (Certify budget) WriteFault text old new
+certificate_broken budget whole text net answers out old new e says valid good left w =
+    let here : WrotePrefix (certificate net answers) old new = subst (λ (t : List ℕ). WrotePrefix t old new) e w in
+    inr (whole, certificate net answers, certificate_is_output budget whole text (certificate net answers) answers left (certified budget text net answers says valid good), here)

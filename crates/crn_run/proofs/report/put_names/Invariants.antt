@@ -1,7 +1,0 @@
-use Rattle.std.proofs.Common.{take, codes}
-use Rattle.crn_io.specs.Joined.{joined}
-use Rattle.crn_io.specs.Write.{WroteAll}
-use Rattle.crn_run.proofs.report.put_names.Given as goal
-
-abbrev pub invariant-loop-s : goal.invariant-loop-s
-invariant-loop-s g l = WroteAll (joined (codes " ") (take l.s l.net.names)) (g.K.Sink.seen l.initial.sink) (g.K.Sink.seen l.sink)

@@ -1,0 +1,149 @@
+ghost use Rattle.std.specs.Prelude.{◌≡◌, ◌↔◌, ◌≤◌, [], IfOk, IsTrue};
+ghost use Rattle.crn_vec.specs.declared.limits.TheConstants.{MAX_BUDGET};
+ghost use Rattle.crn_cert.specs.Answers.{verdicts_of};
+ghost use Rattle.crn_cert.specs.Built.{built};
+ghost use Rattle.crn_cert.specs.Formed.{AreFormed};
+ghost use Rattle.crn_cert.specs.Questions.{IsOpen};
+ghost use Rattle.crn_cert.specs.Valid.{AreValid};
+ghost use Rattle.crn_ctext.specs.Documents.{share_of};
+ghost use Rattle.crn_ctext.specs.Judged.{IsGood};
+ghost use Rattle.crn_ctext.specs.Linked.{records_of};
+ghost use Rattle.crn_render.specs.Faults.{usage_line};
+ghost use Rattle.crn_run.specs.Run.{AreLeftBy, HasOpen, certificate, refused_line};
+ghost use Rattle.crn_run.specs.Inner.Steps.{LineGives, NetworkGives};
+ghost use Rattle.crn_run.specs.declared.words.Command.TheVariants.{Report, Certify};
+ghost use Rattle.crn_run.specs.declared.status.Status.TheVariants.{Refused, Usage};
+
+use crate::status::Status;
+use crn_cert::{Answers, Rows, Share, Verdict};
+use crn_ctext::{
+    built_answers_have_no_cuts, shares_are_of_records, write_document2, written_documents_are_good,
+};
+use crn_io::Sink;
+use crn_net::Network;
+use crn_render::{Printed, write_fault, write_report};
+use crn_solve::solve;
+use crn_text::TextCode;
+use crn_vec::{NoMemory, Nums};
+use std::alloc::Global;
+
+/// Writes how the program is used. Takes no memory.
+pub(crate) fn usage<K: Sink>(sink: &mut K) -> Status
+    ensures { LineGives Usage result usage_line (K.seen sink.old) (K.seen sink.new) }
+{
+    match write_fault(&Printed::Usage, sink) {
+        Ok(()) => Status::Usage,
+        Err(_) => Status::WriteFault,
+    }
+}
+
+/// Writes the line that says why a network text is refused. Takes no memory.
+pub(crate) fn refuse<K: Sink>(code: TextCode, line: u32, sink: &mut K) -> Status
+    ensures { LineGives Refused result (refused_line code line)
+        (K.seen sink.old) (K.seen sink.new) }
+{
+    let code = code.number();
+    match write_fault(&Printed::Refused { code, line }, sink) {
+        Ok(()) => Status::Refused,
+        Err(_) => Status::WriteFault,
+    }
+}
+
+// Whether a verdict is open.
+fn is_open(verdict: &Verdict) -> bool
+    ensures { IsTrue result ↔ IsOpen verdict.now }
+{
+    matches!(verdict, Verdict::Unknown(_))
+}
+
+// Whether some answer is open.
+fn has_open(answers: &Answers) -> bool
+    ensures { IsTrue result ↔ HasOpen (verdicts_of answers.now) }
+{
+    for question in 0..answers.len() {
+        if is_open(&answers.get(question + 1).verdict) {
+            return true;
+        }
+    }
+    false
+}
+
+// The status of a run that wrote these answers.
+fn status_of(answers: &Answers) -> Status
+    ensures { AreLeftBy result answers.now }
+{
+    if has_open(answers) {
+        Status::OpenLeft
+    } else {
+        Status::Done
+    }
+}
+
+/// Answers the questions on a network, and writes the report. Takes memory, before it writes.
+pub(crate) fn report<K: Sink>(alloc: Global, net: &Network, budget: u32, sink: &mut K) -> Status
+    requires some { 1 ≤ budget }
+    requires most { budget ≤ MAX_BUDGET }
+    ensures { NetworkGives (Report budget) result net.now (K.seen sink.old) (K.seen sink.new) }
+{
+    let answers = match solve(alloc, net, budget) {
+        Ok(answers) => answers,
+        Err(_) => return Status::NoMemory,
+    };
+    let whole = status_of(&answers);
+    let verdicts = match answers.into_verdicts() {
+        Ok(verdicts) => verdicts,
+        Err(_) => return Status::NoMemory,
+    };
+    match write_report(net, &verdicts, sink) {
+        Ok(()) => whole,
+        Err(_) => Status::WriteFault,
+    }
+}
+
+// The share of answers that have no cuts: no list is written once.
+fn empty_share(alloc: Global) -> Result<Share, NoMemory>
+    ensures table { IfOk result (λ share. share.table ≡ []) }
+    ensures leaf { IfOk result (λ share. share.leaf.list ≡ []) }
+{
+    Ok(Share {
+        table: Rows::new(alloc)?,
+        leaf: Nums::from_vec(Vec::new(alloc)),
+    })
+}
+
+// What is written for a network and valid answers to its questions is a good document.
+fn certificate_is_good(net: &Network, answers: &Answers)
+    requires formed { AreFormed net.now [] built answers.now }
+    requires valid { AreValid net.now [] built answers.now }
+    ensures share { share_of (records_of net.now answers.now) ≡ record { table = []; leaf = [] } }
+    ensures good { IsGood (certificate net.now answers.now) }
+{
+    let _ = net.species();
+    built_answers_have_no_cuts();
+    shares_are_of_records();
+    written_documents_are_good();
+}
+
+/// Answers the questions on a network, and writes the document of the answers. Takes memory, before it writes.
+///
+/// The answers to the questions that are built have no cuts, so the document shares no lists.
+pub(crate) fn certify<K: Sink>(alloc: Global, net: &Network, budget: u32, sink: &mut K) -> Status
+    requires some { 1 ≤ budget }
+    requires most { budget ≤ MAX_BUDGET }
+    ensures { NetworkGives (Certify budget) result net.now (K.seen sink.old) (K.seen sink.new) }
+{
+    let answers = match solve(alloc, net, budget) {
+        Ok(answers) => answers,
+        Err(_) => return Status::NoMemory,
+    };
+    let whole = status_of(&answers);
+    let share = match empty_share(alloc) {
+        Ok(share) => share,
+        Err(_) => return Status::NoMemory,
+    };
+    certificate_is_good(net, &answers);
+    match write_document2(net, &answers, &share, sink) {
+        Ok(()) => whole,
+        Err(_) => Status::WriteFault,
+    }
+}
