@@ -64,21 +64,21 @@ one_came [] value width lt space n = absurd (omega (arith, lt))
 one_came (b ∷ field) value width lt space n = record {
   adds = λ ys h. (take width field ∷ h.0, (n.spelled, h.1), ap₂ (λ x t. x ∷ t) space (sym (take-append-drop width field) ∙ ap (λ t. take width field ++ t) h.2));
   only = λ ys h.
-    let f = first_of (b ∷ field) ys lt h in
-    let same : field ≡ f.text ++ spaced f.texts = drop_one (b ∷ field) (f.text ++ spaced f.texts) f.bytes in
-    let parts = words_one f.text (take width field) (spaced f.texts) (drop width field) (spelled_is_word f.text f.number f.spelled) (spelled_is_word (take width field) n.number n.spelled)
-    (spaced_tail f.texts) (tail_at field width n.ends) (sym same ∙ sym (take-append-drop width field)) in
-    let number : f.number ≡ n.number = spelled_one f.text f.number n.number f.spelled (subst (λ t. IsSpelled t n.number) (sym parts.0) n.spelled) in
-    (f.more, f.numbers ∙ ap (λ z. z ∷ f.more) number, (f.texts, f.others, sym parts.1));
+      let f = first_of (b ∷ field) ys lt h in
+      let same : field ≡ f.text ++ spaced f.texts = drop_one (b ∷ field) (f.text ++ spaced f.texts) f.bytes in
+      let parts = words_one f.text (take width field) (spaced f.texts) (drop width field) (spelled_is_word f.text f.number f.spelled) (spelled_is_word (take width field) n.number n.spelled)
+      (spaced_tail f.texts) (tail_at field width n.ends) (sym same ∙ sym (take-append-drop width field)) in
+      let number : f.number ≡ n.number = spelled_one f.text f.number n.number f.spelled (subst (λ t. IsSpelled t n.number) (sym parts.0) n.spelled) in
+      (f.more, f.numbers ∙ ap (λ z. z ∷ f.more) number, (f.texts, f.others, sym parts.1));
 }
 
 came_both : (before middle left : List ℕ) (ys zs : List ℤ) → Came before middle ys → Came middle left zs → Came before left (ys ++ zs)
 came_both before middle left ys zs p q = record {
   adds = λ ws h. subst (SaysNumbers before) (sym (append_assoc ys zs ws)) (p.adds (zs ++ ws) (q.adds ws h));
   only = λ ws h.
-    let m = p.only ws h in
-    let n = q.only m.0 m.2 in
-    (n.0, m.1 ∙ ap (λ t. ys ++ t) n.1 ∙ sym (append_assoc ys zs n.0), n.2);
+      let m = p.only ws h in
+      let n = q.only m.0 m.2 in
+      (n.0, m.1 ∙ ap (λ t. ys ++ t) n.1 ∙ sym (append_assoc ys zs n.0), n.2);
 }
 
 -- the numbers so far, and how they are held

@@ -235,7 +235,7 @@ free_shape (shape.ClassWide species reactions) e = absurd cc
 pub judged_misfit : (s : Shape) (zs held : List ℤ) → HasBounds s → held ≡ map capped zs → (AreOf Takes (fields_of s) held → ⊥) → AreOf Takes (fields_of s) zs → ⊥
 judged_misfit s zs held b e none t = elim (cases_Bool (has_free s)) [
   | inl free ↦ let f = free_shape s free in
-    free_misfit f.0 zs held f.2 e (λ h. none (subst (λ fs. AreOf Takes fs held) (sym f.1) h)) (subst (λ fs. AreOf Takes fs zs) f.1 t)
+      free_misfit f.0 zs held f.2 e (λ h. none (subst (λ fs. AreOf Takes fs held) (sym f.1) h)) (subst (λ fs. AreOf Takes fs zs) f.1 t)
   | inr solid ↦ solid_misfit (fields_of s) zs held (solid_shape s solid) b e none t
 ]
 

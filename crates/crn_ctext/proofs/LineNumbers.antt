@@ -41,6 +41,13 @@ value_more bs i v d w lt e low high is h =
     let x = digit_is (get_or bs i 0) low high in
     omega arith
 
+pub digits_value_next : (bs : List ℕ) (i v d : ℕ) → i < length bs → v ≡ digits_value 10 (take i bs) → 48 ≤ get_or bs i 0 → get_or bs i 0 ≤ 57 → d ≡ get_or bs i 0 - 48
+    → v * 10 + d ≡ digits_value 10 (take (i + 1) bs)
+digits_value_next bs i v d lt e low high is =
+    let v2 = digits_value_more 10 bs i lt in
+    let x = digit_is (get_or bs i 0) low high in
+    omega arith
+
 pub no_digit : (c : ℕ) → (c < 48) ⊎ (57 < c) → digit_value c < 10 → ⊥
 no_digit c (inl lt) h = let ge = digit_low c h in omega (arith, lt, ge)
 no_digit c (inr gt) h = let le = digit_high c h in omega (arith, gt, le)
@@ -231,7 +238,6 @@ plain_number bytes size count h = record {
   spelled = h.natural;
   is = held_is size (let e = h.is in omega (arith, e)) ∙ ap pos h.is;
 }
-
 
 pub minus_number : (bytes : List ℕ) (size count : ℕ) → 0 < length bytes → get_or bytes 0 0 ≡ 45 → HasNatural (drop 1 bytes) size count
     → HasNumber bytes (to_z w128 (of_z w128 (pos 0 -ℤ to_z w128 size))) (count + 1)

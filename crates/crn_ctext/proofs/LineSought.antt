@@ -178,7 +178,6 @@ heads_ordinary_2 Q13 z = elim z.vector as (λ t. all_ordinary 2 (heads Q13 (reco
 heads_ordinary_2 Q14 z = refl
 heads_ordinary_2 Q15 z = refl
 
-
 -- the words of rows
 rows_ordinary : ℕ → List (List ℕ) → Bool
 rows_ordinary v [] = true

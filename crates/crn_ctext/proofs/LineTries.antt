@@ -106,7 +106,7 @@ said f form line r is h e =
     let words : r.words ≡ text_of f.word ∷ later form.words = e ∙ is.words in
     let all : line ≡ text_of f.word ++ spaced (later form.words ++ h.0) = h.2 ∙ ap (λ (t : List (List ℕ)). join_with_byte 32 (t ++ h.0)) words ∙ join_spaced (text_of f.word) (later form.words ++ h.0) in
     let parts : line ≡ (text_of f.word ++ f.words.now) ++ spaced h.0 =
-        all ∙ ap (λ t. text_of f.word ++ t) (spaced_both (later form.words) h.0 ∙ ap (λ t. t ++ spaced h.0) (sym is.others)) ∙ sym (append_assoc (text_of f.word) f.words.now (spaced h.0)) in
+    all ∙ ap (λ t. text_of f.word ++ t) (spaced_both (later form.words) h.0 ∙ ap (λ t. t ++ spaced h.0) (sym is.others)) ∙ sym (append_assoc (text_of f.word) f.words.now (spaced h.0)) in
     (spaced h.0, parts, (h.0, h.1, refl))
 
 abbrev record_of : Form → List ℤ → Record
@@ -116,7 +116,7 @@ says : (f : GivenForm) (form : Form) (line : List ℕ) (zs : List ℤ) → IsFor
 says f form line zs is s =
     let n = s.2 in
     let parts : line ≡ text_of f.word ++ spaced (later form.words ++ n.0) =
-        s.1 ∙ append_assoc (text_of f.word) f.words.now s.0 ∙ ap (λ t. text_of f.word ++ t) (ap₂ (λ x y. x ++ y) is.others n.2 ∙ sym (spaced_both (later form.words) n.0)) in
+    s.1 ∙ append_assoc (text_of f.word) f.words.now s.0 ∙ ap (λ t. text_of f.word ++ t) (ap₂ (λ x y. x ++ y) is.others n.2 ∙ sym (spaced_both (later form.words) n.0)) in
     (n.0, n.1, parts ∙ sym (ap (λ (t : List (List ℕ)). join_with_byte 32 (t ++ n.0)) is.words ∙ join_spaced (text_of f.word) (later form.words ++ n.0)))
 
 kind_is : (f : GivenForm) (form : Form) → IsForm f form → kind_of form ≡ text_of f.word
@@ -129,10 +129,10 @@ pub other_word : (f : GivenForm) (form : Form) (line : List ℕ) (read : List �
 other_word f form line read is none = (
   (λ word b e. let cut = begins_tail line word b in none cut.0 cut.2 (cut.1 ∙ ap (λ t. t ++ cut.0) (sym e ∙ kind_is f form is))),
   (λ r h s.
-    let a = said f form line r is h s.0 in
-    let n = a.2 in
-    let tail : spaced (later form.words ++ n.0) ≡ f.words.now ++ a.0 = spaced_both (later form.words) n.0 ∙ ap₂ (λ x y. x ++ y) (sym is.others) (sym n.2) in
-    none (f.words.now ++ a.0) (subst IsTail tail (spaced_tail (later form.words ++ n.0))) (a.1 ∙ append_assoc (text_of f.word) f.words.now a.0)),
+      let a = said f form line r is h s.0 in
+      let n = a.2 in
+      let tail : spaced (later form.words ++ n.0) ≡ f.words.now ++ a.0 = spaced_both (later form.words) n.0 ∙ ap₂ (λ x y. x ++ y) (sym is.others) (sym n.2) in
+      none (f.words.now ++ a.0) (subst IsTail tail (spaced_tail (later form.words ++ n.0))) (a.1 ∙ append_assoc (text_of f.word) f.words.now a.0)),
 )
 
 said_from : (f : GivenForm) (line rest : List ℕ) (zs : List ℤ) → line ≡ text_of f.word ++ rest → SaysAfter f.words.now rest zs → SaidBy f line zs

@@ -1,4 +1,4 @@
--- What is due at a line of a document: the records that may be there, what reading the line against them gives, and which refusal it meets.
+-- What is due at a line of a document, and what reading the line against it gives.
 -- Source: this project's own format. Shapes: words and lines are lists of bytes; questions, sections and lines count from 1.
 use Rattle.std.specs.Prelude.{◌≡◌, ◌≤◌, ◌<◌, ◌-◌, ◌⊎◌, ◌==◌, ◌++◌, ℕ, ℤ, pos, unsigned_abs, Bool, true, false, if◌then◌else◌, List, [], ◌∷◌, length, map, codes, slice_index_or}
 use Rattle.std.specs.List.{AllByRecursion, flat_map, list_any}
@@ -110,9 +110,11 @@ section_names = flat_map opens questions
 
 -- the words of records whose numbers are free
 abbrev pub free_words : List (List ℕ)
-free_words = codes "dual" ∷ codes "comb" ∷ codes "vec" ∷ codes "cut" ∷ codes "tie" ∷ codes "mu" ∷ codes "m" ∷ codes "weights" ∷ codes "alpha" ∷ []
+free_words =
+    codes "dual" ∷ codes "comb" ∷ codes "vec" ∷ codes "cut" ∷ codes "tie" ∷ codes "mu" ∷ codes "m"
+    ∷ codes "weights" ∷ codes "alpha" ∷ []
 
--- the numbers of a record with this word: so many, free if the word says so, and else from the least to the greatest
+-- so many numbers: free ones if the word says so, and else from the least to the greatest
 abbrev pub part_field : List ℕ → (count : ℕ) → (least greatest : ℤ) → Field
 part_field word count least greatest =
     if list_any (bytes_eq word) free_words then Free count else Small count least greatest
@@ -120,9 +122,11 @@ part_field word count least greatest =
 -- the forms of the records that may be at the line
 abbrev pub due_forms : Due → (version : ℕ) → Sizes → List Form
 due_forms (due.Head k) version z = heads (question_of k) z
-due_forms (due.Base count members) version z = record_form (codes "base") (Members count members.now ∷ []) ∷ []
+due_forms (due.Base count members) version z =
+    record_form (codes "base") (Members count members.now ∷ []) ∷ []
 due_forms (due.Side reaction) version z = side_form z reaction ∷ []
-due_forms due.Walk version z = record_form (codes "walk") (Several 2 z.complexes (pos 1) (pos z.complexes) ∷ []) ∷ []
+due_forms due.Walk version z =
+    record_form (codes "walk") (Several 2 z.complexes (pos 1) (pos z.complexes) ∷ []) ∷ []
 due_forms (due.Part word count least greatest) version z =
     record_form (text_of word) (part_field (text_of word) count least greatest ∷ []) ∷ []
 due_forms (due.Node count_a count_b shared) version z = node_forms version count_a count_b shared
@@ -131,6 +135,7 @@ due_forms due.Table version z = table_form ∷ []
 due_forms due.Vector version z = vector_form ∷ []
 due_forms (due.Section i) version z = section_form (slice_index_or section_names (i - 1) []) ∷ []
 
+-- the forms of the records that are due
 abbrev pub forms_of : Expect → List Form
 forms_of e = due_forms e.due e.version (sizes_of e.sizes)
 
@@ -146,7 +151,8 @@ is_after other after_tree = after_tree
 
 -- the tests of the line of this number against what is due, in their order
 abbrev pub tests_of : Expect → (line : ℕ) → List ℕ → Course Record
-tests_of e n line = reads e.version n (is_after e.due e.after_tree) (forms_of e) (misplaced e.due) line
+tests_of e n line =
+    reads e.version n (is_after e.due e.after_tree) (forms_of e) (misplaced e.due) line
 
 -- a head's numbers are after the place of its form
 abbrev pub tag_of : Due → Sizes → Record → List ℤ
@@ -175,16 +181,19 @@ pub record AreSizes (z : Sizes) : Type 0 where
   pub classes : length z.class_reactions ≤ MAX_COMPLEXES
   pub each : AllByRecursion (λ r. r ≤ MAX_REACTIONS) z.class_reactions
 
--- what is due is of this version, and has at most as many numbers as a line may have, with bounds below those of free numbers
+-- it may be due in this version, has at most as many numbers as a line, and bounds below those of free numbers
 abbrev pub MayBeDue : Due → (version : ℕ) → Type 0
 MayBeDue (due.Head k) version = (1 ≤ k) × (k ≤ 15)
 MayBeDue (due.Base count members) version =
-    (count ≤ MAX_NUMBERS) × IsAscending members.now × AllByRecursion (λ m. m ≤ MAX_REACTIONS) members.now
+    (count ≤ MAX_NUMBERS) × IsAscending members.now
+    × AllByRecursion (λ m. m ≤ MAX_REACTIONS) members.now
 MayBeDue (due.Side reaction) version = Unit {0}
 MayBeDue due.Walk version = Unit {0}
 MayBeDue (due.Part word count least greatest) version =
-    IsIn (text_of word) row_words × (count ≤ MAX_NUMBERS) × (unsigned_abs least < WIDE_SOLUTION) × (unsigned_abs greatest < WIDE_SOLUTION)
-MayBeDue (due.Node count_a count_b shared) version = (count_a ≤ MAX_NUMBERS) × (count_b ≤ MAX_NUMBERS)
+    IsIn (text_of word) row_words × (count ≤ MAX_NUMBERS)
+    × (unsigned_abs least < WIDE_SOLUTION) × (unsigned_abs greatest < WIDE_SOLUTION)
+MayBeDue (due.Node count_a count_b shared) version =
+    (count_a ≤ MAX_NUMBERS) × (count_b ≤ MAX_NUMBERS)
 MayBeDue due.Finish version = Unit {0}
 MayBeDue due.Table version = version ≡ 2
 MayBeDue due.Vector version = version ≡ 2

@@ -22,9 +22,14 @@ pub enum Due<'a> {
     /// The head of a question.
     Head(u32),
     /// A base of so many of these reactions, which are ascending.
-    Base { count: u32, members: &'a [u32] },
+    Base {
+        count: u32,
+        members: &'a [u32],
+    },
     /// The side of the product of this reaction.
-    Side { reaction: u32 },
+    Side {
+        reaction: u32,
+    },
     /// A walk over complexes.
     Walk,
     /// A record of this word with so many numbers: free ones if the word says so, and else from the least to the greatest.

@@ -90,7 +90,10 @@ fn a_row_of_free_numbers(rt: HostRuntime) -> Result<(), Fail> {
         false
     );
     for (line, expected) in [
-        (b"vec 4722366482869645213695 -4722366482869645213695".as_slice(), 0),
+        (
+            b"vec 4722366482869645213695 -4722366482869645213695".as_slice(),
+            0,
+        ),
         (b"vec 4722366482869645213696 1".as_slice(), 25),
         (b"vec 1 -4722366482869645213696".as_slice(), 25),
         (b"vec 4722366482869645213696 01".as_slice(), 24),

@@ -13,8 +13,8 @@ use crate::expect::{Due, Expect};
 use crate::kinds::kinds;
 use crate::record_heads::head;
 use crate::record_shape::{Range, Shape};
-use crn_io::MAX_SHARED;
 use crate::word::Word;
+use crn_io::MAX_SHARED;
 
 /// A record that may be at a line.
 #[derive(Clone, Copy)]
@@ -79,8 +79,8 @@ fn part<'a>(i: u32, word: Word, count: u32, range: Range) -> Option<Form<'a>>
     requires least { unsigned_abs range.least < WIDE_SOLUTION }
     requires greatest { unsigned_abs range.greatest < WIDE_SOLUTION }
     ensures { IsNth
-        (record_form (text_of word) (part_field (text_of word) count range.least range.greatest ∷ []) ∷ [])
-        i result }
+        (record_form (text_of word)
+        (part_field (text_of word) count range.least range.greatest ∷ []) ∷ []) i result }
 {
     if i != 0 {
         return None;
@@ -88,10 +88,7 @@ fn part<'a>(i: u32, word: Word, count: u32, range: Range) -> Option<Form<'a>>
     let shape = if is_free(word) {
         Shape::Free(count)
     } else {
-        Shape::Small {
-            count,
-            range,
-        }
+        Shape::Small { count, range }
     };
     Some(Form {
         word,

@@ -1,20 +1,46 @@
-ghost use Rattle.std.specs.Prelude.{◌≡◌, ◌≤◌, ◌<◌, ◌+◌, ◌++◌, ◌∷◌, [], ℤ, List, IsTrue, ◌↔◌, length, map, MatchBool, MatchOption};
+ghost use Rattle.std.specs.Prelude.{◌≡◌, ◌≤◌, ◌<◌, ◌+◌, ◌++◌, ◌∷◌, [], ℤ, List, IsTrue, ◌↔◌, length, map, MatchBool, MatchOption, min, take};
+ghost use Rattle.std.specs.Str.Parse.{AllDigits, digits_value};
+ghost use Rattle.crn_vec.specs.declared.limits.TheConstants.{WIDE_SOLUTION};
 ghost use Rattle.crn_ctext.specs.Inner.Line.{HasDigits, HasNatural, HasNoNatural, HasNumber, HasNoNumber, EndsAt, SaysNumbers, capped};
 
 use crn_vec::{Ints, WIDE_SOLUTION};
+
+// From here on a value is held in 128 bits.
+const LONG: u64 = 1_000_000_000_000_000_000;
+
+// The digits at the start, of which so many were read already, with this value.
+fn long_digits(bytes: &[u8], read: usize, start: u128) -> (u128, usize)
+    requires within { read ≤ length bytes.now }
+    requires digits { AllDigits 10 (take read bytes.now) }
+    requires start { start ≡ min (digits_value 10 (take read bytes.now)) WIDE_SOLUTION }
+    ensures { HasDigits bytes.now result.0 result.1 }
+{
+    let mut value = start;
+    for i in read..bytes.len() {
+        let byte = bytes[i];
+        if byte < b'0' || b'9' < byte {
+            return (value, i);
+        }
+        value = (value * 10 + u128::from(byte - b'0')).min(WIDE_SOLUTION);
+    }
+    (value, bytes.len())
+}
 
 // The digits at the start: their value, and how many they are.
 fn digits(bytes: &[u8]) -> (u128, usize)
     ensures { HasDigits bytes.now result.0 result.1 }
 {
-    let mut value: u128 = 0;
+    let mut value: u64 = 0;
     for (i, byte) in bytes.iter().enumerate() {
         if *byte < b'0' || b'9' < *byte {
-            return (value, i);
+            return (u128::from(value), i);
         }
-        value = (value * 10 + u128::from(*byte - b'0')).min(WIDE_SOLUTION);
+        if LONG <= value {
+            return long_digits(bytes, i, u128::from(value));
+        }
+        value = value * 10 + u64::from(*byte - b'0');
     }
-    (value, bytes.len())
+    (u128::from(value), bytes.len())
 }
 
 // Whether a space or nothing is after so many bytes.

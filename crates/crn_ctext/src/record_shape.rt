@@ -22,7 +22,10 @@ pub(crate) struct Range {
 pub(crate) enum Shape<'a> {
     Empty,
     /// So many of a range.
-    Small { count: u32, range: Range },
+    Small {
+        count: u32,
+        range: Range,
+    },
     /// From 2 numbers on, each from 1 to this.
     Walk(u32),
     /// So many free numbers.
@@ -30,7 +33,10 @@ pub(crate) enum Shape<'a> {
     /// Free numbers of a shared list.
     Vector,
     /// So many of these, ascending.
-    Members { count: u32, members: &'a [u32] },
+    Members {
+        count: u32,
+        members: &'a [u32],
+    },
     /// A number from 1 to this, and one from 1 to that number.
     CountAndPart(u32),
     /// Two different numbers from 1 to this.
@@ -38,9 +44,15 @@ pub(crate) enum Shape<'a> {
     /// 1 or -1.
     Turn,
     /// A linkage class, and a number from 2 to that of the complexes.
-    ClassAndCount { classes: u32, complexes: u32 },
+    ClassAndCount {
+        classes: u32,
+        complexes: u32,
+    },
     /// A reaction, and a mark of each complex.
-    Side { reaction: u32, complexes: u32 },
+    Side {
+        reaction: u32,
+        complexes: u32,
+    },
     /// A system, no class, a coordinate and a basis.
     Wide {
         system: u32,
@@ -48,7 +60,10 @@ pub(crate) enum Shape<'a> {
         coordinates: u32,
     },
     /// The systems of classes: a class with its number of reactions, a coordinate and a basis.
-    ClassWide { species: u32, reactions: &'a [u32] },
+    ClassWide {
+        species: u32,
+        reactions: &'a [u32],
+    },
 }
 
 /// How the numbers of a line fit a shape.

@@ -90,7 +90,8 @@ fn read_fit(form: &Form, line: &[u8], into: &mut Ints) -> Fit
     requires room { MAX_NUMBERS ≤ into.old.spare }
     requires bounds { HasBounds form.now.shape }
     requires few { length (tag form.now.place) + most_of (fields_of form.now.shape) ≤ MAX_NUMBERS }
-    ensures fit { IsFit result (fields_of form.now.shape) form.now.place (SaysNumbers line.now) into.new.list }
+    ensures fit { IsFit result (fields_of form.now.shape) form.now.place
+        (SaysNumbers line.now) into.new.list }
     ensures spare { into.new.spare + length into.new.list ≡ into.old.spare }
     ensures list { (result ≡ Fit.Fits) ⊎ (into.new.list ≡ []) }
 {

@@ -1,4 +1,4 @@
--- Only for contracts of private functions: the forms that are due, one after another.
+-- For the contracts of private functions alone: the forms that are due, one after another.
 -- Source: this project's own. Shapes: forms count from 0, places of heads from 1; words after the first are each after a space.
 use Rattle.std.specs.Prelude.{◌≡◌, ◌≤◌, ◌<◌, ◌+◌, ℕ, zero, suc, ℤ, pos, Option, Some, None, List, [], ◌∷◌, length, slice_index_or}
 use Rattle.crn_ctext.specs.Records.{Form, Record, Field, Small, Several, Free, FreeSeveral, Rising, Members, CountAndPart, TwoOf, Turn, ClassWide}
@@ -15,7 +15,7 @@ abbrev pub later : List (List ℕ) → List (List ℕ)
 later [] = []
 later (w ∷ words) = words
 
--- at most so many numbers are of a field, and of fields
+-- at most so many numbers are of a field
 abbrev pub field_most : Field → ℕ
 field_most (Small count least greatest) = count
 field_most (Several fewest most least greatest) = most
@@ -28,6 +28,7 @@ field_most (TwoOf greatest) = 2
 field_most Turn = 1
 field_most (ClassWide species reactions) = 2 + species
 
+-- at most so many numbers are of these fields
 abbrev pub most_of : List Field → ℕ
 most_of [] = 0
 most_of (field ∷ fields) = field_most field + most_of fields

@@ -1,4 +1,4 @@
--- Only for contracts of private functions: what trying one form on a line gives, and several.
+-- For the contracts of private functions alone: what trying one form on a line gives, and several.
 -- Source: this project's own. Shapes: forms count from 0.
 use Rattle.std.specs.Prelude.{◌≡◌, ◌⊎◌, ◌++◌, ◌+◌, ◌≤◌, ℕ, ℤ, Option, Some, None, Result, Ok, Err, List, [], ◌∷◌, length, take}
 use Rattle.std.specs.Borrow.{Bor}
@@ -39,9 +39,11 @@ IsFit fit.Fits fields place Said read =
 abbrev pub IsNotShaped : List ℕ → Form → Type 0
 IsNotShaped line form = (r : Record) → Says line r → IsShaped form r → ⊥
 
+-- it is a record of the form, but for the size of its free numbers
 abbrev pub IsSomeShaped : List ℕ → Form → Type 0
 IsSomeShaped line form = (r : Record) × Says line r × IsShaped form r
 
+-- it is no record of the form
 abbrev pub IsNotFit : List ℕ → Form → Type 0
 IsNotFit line form = (r : Record) → Says line r → Fits form r → ⊥
 

@@ -1,10 +1,9 @@
-use Rattle.std.proofs.Common.{◌≡◌, take, min}
+use Rattle.std.proofs.Common.{◌≡◌, take}
 use Rattle.std.specs.Str.Parse.{AllDigits, digits_value}
-use Rattle.crn_vec.specs.declared.limits.TheConstants.{WIDE_SOLUTION}
 use Rattle.crn_ctext.proofs.record_numbers.digits.Given as goal
 
 abbrev pub invariant-loop-i : goal.invariant-loop-i
 invariant-loop-i l = record {
   digits : AllDigits 10 (take l.i l.bytes);
-  is : l.value ≡ min (digits_value 10 (take l.i l.bytes)) WIDE_SOLUTION;
+  is : l.value ≡ digits_value 10 (take l.i l.bytes);
 }
