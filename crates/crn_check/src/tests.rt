@@ -1,13 +1,16 @@
 ghost use Rattle.std.specs.Prelude.{◌≡◌, ◌≤◌, ◌+◌, length, IsTrue, IfOk};
 ghost use Rattle.std.specs.List.{AllByRecursion, list_all};
 ghost use Rattle.crn_vec.specs.Network.{is_letter, is_name_byte, IsName};
+ghost use Rattle.crn_cert.specs.Questions.{Earlier, Q1, Q2, Q3, Q4};
+ghost use Rattle.crn_cert.specs.Ranges.{IsFrom, AreFrom};
+ghost use Rattle.crn_cert.specs.Formed.{HeadMayBe, IsFormed, IsForest};
+ghost use Rattle.crn_check.specs.Facts.{AreFactsOf, HoldsOn, HoldsNoneFrom};
 ghost use Rattle.crn_net.specs.Terms.{name_at, IsTerm, IsSide};
 
-use crate::labels::are_numbered;
-use crate::{CheckFault, Facts, check_answer, check_head};
+use crate::{CheckFault, Facts, check_answer, check_head, checks_see_no_spares};
 use crn_cert::{Answer, Proof, Verdict};
 use crn_net::{NetBuilder, Network, Term, sums_fit};
-use crn_vec::{MAX_AMOUNT, MAX_NAME, MAX_TERMS};
+use crn_vec::{MAX_AMOUNT, MAX_NAME, MAX_TERMS, Nums};
 use std::alloc::{AllocError, Global};
 use std::process::Abort;
 use std::test::Fail;
@@ -111,62 +114,422 @@ fn network(rt: &(impl Abort + AllocGlobal), reactions: &[(u32, u32)]) -> Result<
     }
 }
 
-// How a check of the answer that a reaction, the first, has no reverse ends on the network of these reactions.
-fn first_has_no_reverse(
+fn is_in(x: u32, least: usize, greatest: usize) -> bool
+    ensures { IsTrue result → IsFrom least greatest x }
+{
+    least <= x as usize && x as usize <= greatest
+}
+
+fn are_in(values: &[u32], least: usize, greatest: usize) -> bool
+    ensures { IsTrue result → AllByRecursion (IsFrom least greatest) values.now }
+{
+    values.iter().all(|x| is_in(*x, least, greatest))
+}
+
+fn are_from(values: &[u32], count: usize, least: usize, greatest: usize) -> bool
+    ensures { IsTrue result → AreFrom count least greatest values.now }
+{
+    values.len() == count && are_in(values, least, greatest)
+}
+
+fn is_forest(net: &Network, names: &[u32], depth: &[u32]) -> bool
+    ensures { IsTrue result → IsForest net.now names.now depth.now }
+{
+    let complexes = net.complexes();
+    are_from(names, complexes, 0, net.reactions())
+        && 1 <= complexes
+        && are_from(depth, complexes, 0, complexes - 1)
+}
+
+// A reaction and its reverse.
+const BOTH: &[(u32, u32)] = &[(0, 1), (1, 0)];
+
+// The code and the record of a fault, or zeros if there is none.
+fn place(said: Result<(), CheckFault>) -> (u32, u32) {
+    match said {
+        Ok(()) => (0, 0),
+        Err(fault) => (fault.code, fault.part),
+    }
+}
+
+fn same(left: (u32, u32), right: (u32, u32)) -> bool {
+    left.0 == right.0 && left.1 == right.1
+}
+
+// An answer on linkage classes, and the place of its fault.
+#[derive(Clone, Copy)]
+struct Linked {
+    count: u32,
+    label: &'static [u32],
+    up: &'static [u32],
+    depth: &'static [u32],
+    fault: (u32, u32),
+}
+
+// The row's answer.
+fn linkage_answer(
     rt: &(impl Abort + AllocGlobal),
-    reactions: &[(u32, u32)],
-) -> Result<Option<CheckFault>, Fail> {
-    let net = network(rt, reactions)?;
-    let mut facts = Facts::new(rt.alloc(), &net)?;
-    assert!(rt; 1 <= net.reactions());
-    let answer = Answer {
-        verdict: Verdict::NoReaction { reaction: 1 },
+    net: &Network,
+    row: &Linked,
+) -> Result<Answer, Fail>
+    ensures { IfOk result (λ a. (earlier : Earlier) → IsFormed net.now earlier Q1 a) }
+{
+    let (alloc, complexes) = (rt.alloc(), net.complexes());
+    assert!(rt; 1 <= row.count && row.count as usize <= complexes);
+    assert!(rt; are_from(row.label, complexes, 1, row.count as usize));
+    assert!(rt; is_forest(net, row.up, row.depth));
+    Ok(Answer {
+        verdict: Verdict::Classes {
+            count: row.count,
+            label: Nums::from_slice(alloc, row.label)?,
+        },
+        proof: Proof::Forest {
+            up: Nums::from_slice(alloc, row.up)?,
+            depth: Nums::from_slice(alloc, row.depth)?,
+        },
+    })
+}
+
+fn linkage_place(
+    rt: &(impl Abort + AllocGlobal),
+    net: &Network,
+    row: &Linked,
+) -> Result<(u32, u32), Fail> {
+    let answer = linkage_answer(rt, net, row)?;
+    let mut facts = Facts::new(rt.alloc(), net)?;
+    Ok(place(check_answer(net, &mut facts, 1, &answer)))
+}
+
+const LINKED: [Linked; 6] = [
+    // valid
+    Linked {
+        count: 1,
+        label: &[1, 1],
+        up: &[0, 1],
+        depth: &[0, 1],
+        fault: (0, 0),
+    },
+    // a count that no label reaches
+    Linked {
+        count: 2,
+        label: &[1, 1],
+        up: &[0, 1],
+        depth: &[0, 1],
+        fault: (31, 1),
+    },
+    // a reaction joins two labels
+    Linked {
+        count: 2,
+        label: &[1, 2],
+        up: &[0, 0],
+        depth: &[0, 0],
+        fault: (31, 1),
+    },
+    // the second complex names no reaction
+    Linked {
+        count: 1,
+        label: &[1, 1],
+        up: &[0, 0],
+        depth: &[0, 1],
+        fault: (31, 3),
+    },
+    // its depth is not greater by one
+    Linked {
+        count: 1,
+        label: &[1, 1],
+        up: &[0, 1],
+        depth: &[0, 0],
+        fault: (31, 3),
+    },
+    // the root has a depth
+    Linked {
+        count: 1,
+        label: &[1, 1],
+        up: &[0, 1],
+        depth: &[1, 1],
+        fault: (31, 3),
+    },
+];
+
+#[test]
+fn linkage_classes_are_tested(rt: HostRuntime) -> Result<(), Fail> {
+    let net = network(&rt, BOTH)?;
+    for row in LINKED {
+        assert!(rt; same(linkage_place(&rt, &net, &row)?, row.fault));
+    }
+    Ok(())
+}
+
+// An answer on strong classes.
+#[derive(Clone, Copy)]
+struct Strong {
+    count: u32,
+    terminal: u32,
+    label: &'static [u32],
+    trees: [&'static [u32]; 4],
+    level: &'static [u32],
+    exit: &'static [u32],
+}
+
+// The row's answer.
+fn strong_answer(
+    rt: &(impl Abort + AllocGlobal),
+    net: &Network,
+    row: &Strong,
+) -> Result<Answer, Fail>
+    ensures { IfOk result (λ a. (earlier : Earlier) → IsFormed net.now earlier Q2 a) }
+{
+    let (alloc, complexes) = (rt.alloc(), net.complexes());
+    let count = row.count as usize;
+    let [from, from_depth, to, to_depth] = row.trees;
+    assert!(rt; 1 <= row.count && count <= complexes);
+    assert!(rt; 1 <= row.terminal && row.terminal <= row.count);
+    assert!(rt; are_from(row.label, complexes, 1, count));
+    assert!(rt; are_from(row.exit, count, 0, net.reactions()));
+    assert!(rt; are_from(row.level, count, 0, complexes));
+    assert!(rt; is_forest(net, from, from_depth));
+    assert!(rt; is_forest(net, to, to_depth));
+    Ok(Answer {
+        verdict: Verdict::Strong {
+            count: row.count,
+            terminal: row.terminal,
+            label: Nums::from_slice(alloc, row.label)?,
+            exit: Nums::from_slice(alloc, row.exit)?,
+        },
+        proof: Proof::Strong {
+            from: Nums::from_slice(alloc, from)?,
+            from_depth: Nums::from_slice(alloc, from_depth)?,
+            to: Nums::from_slice(alloc, to)?,
+            to_depth: Nums::from_slice(alloc, to_depth)?,
+            level: Nums::from_slice(alloc, row.level)?,
+        },
+    })
+}
+
+fn strong_place(
+    rt: &(impl Abort + AllocGlobal),
+    net: &Network,
+    row: &Strong,
+) -> Result<(u32, u32), Fail> {
+    let answer = strong_answer(rt, net, row)?;
+    let mut facts = Facts::new(rt.alloc(), net)?;
+    Ok(place(check_answer(net, &mut facts, 2, &answer)))
+}
+
+// An answer for a reaction and its reverse, valid with the reactions 0, 1 and 0, 2 and the exit 0.
+fn whole(from: &'static [u32], to: &'static [u32], exit: &'static [u32]) -> Strong {
+    Strong {
+        count: 1,
+        terminal: 1,
+        label: &[1, 1],
+        trees: [from, &[0, 1], to, &[0, 1]],
+        level: &[0],
+        exit,
+    }
+}
+
+// An answer for one reaction, valid with the labels 1, 2, the levels 1, 0, the exits 1, 0 and one terminal class.
+fn split(
+    label: &'static [u32],
+    level: &'static [u32],
+    exit: &'static [u32],
+    terminal: u32,
+) -> Strong {
+    Strong {
+        count: 2,
+        terminal,
+        label,
+        trees: [&[0, 0], &[0, 0], &[0, 0], &[0, 0]],
+        level,
+        exit,
+    }
+}
+
+#[test]
+fn trees_of_a_strong_class_are_tested(rt: HostRuntime) -> Result<(), Fail> {
+    let net = network(&rt, BOTH)?;
+    let valid = whole(&[0, 1], &[0, 2], &[0]);
+    assert!(rt; same(strong_place(&rt, &net, &valid)?, (0, 0)));
+    let row = whole(&[0, 2], &[0, 2], &[0]);
+    assert!(rt; same(strong_place(&rt, &net, &row)?, (31, 3)));
+    let row = whole(&[0, 1], &[0, 1], &[0]);
+    assert!(rt; same(strong_place(&rt, &net, &row)?, (31, 5)));
+    let row = whole(&[0, 1], &[0, 2], &[1]);
+    assert!(rt; same(strong_place(&rt, &net, &row)?, (31, 7)));
+    Ok(())
+}
+
+#[test]
+fn levels_and_exits_are_tested(rt: HostRuntime) -> Result<(), Fail> {
+    let net = network(&rt, &[(0, 1)])?;
+    let row = split(&[2, 1], &[1, 0], &[1, 0], 1);
+    assert!(rt; same(strong_place(&rt, &net, &row)?, (31, 1)));
+    let row = split(&[1, 2], &[1, 1], &[1, 0], 1);
+    assert!(rt; same(strong_place(&rt, &net, &row)?, (31, 6)));
+    let row = split(&[1, 2], &[1, 0], &[0, 0], 1);
+    assert!(rt; same(strong_place(&rt, &net, &row)?, (31, 7)));
+    let row = split(&[1, 2], &[1, 0], &[1, 0], 2);
+    assert!(rt; same(strong_place(&rt, &net, &row)?, (36, 7)));
+    Ok(())
+}
+
+// A yes to question 3 with these reverses.
+fn yes_answer(rt: &(impl Abort + AllocGlobal), net: &Network, back: &[u32]) -> Result<Answer, Fail>
+    ensures { IfOk result (λ a. (earlier : Earlier) → IsFormed net.now earlier Q3 a) }
+{
+    let reactions = net.reactions();
+    assert!(rt; are_from(back, reactions, 1, reactions));
+    Ok(Answer {
+        verdict: Verdict::Yes,
+        proof: Proof::Back(Nums::from_slice(rt.alloc(), back)?),
+    })
+}
+
+// A no to question 3 or 4 by a reaction.
+fn no_answer(net: &Network, reaction: u32) -> Answer
+    requires { IsFrom 1 (length net.now.reactions) reaction }
+    ensures reversible { (earlier : Earlier) → IsFormed net.now earlier Q3 result }
+    ensures reversible_head { (earlier : Earlier) → HeadMayBe net.now earlier Q3 result.verdict }
+    ensures weak { (earlier : Earlier) → IsFormed net.now earlier Q4 result }
+    ensures weak_head { (earlier : Earlier) → HeadMayBe net.now earlier Q4 result.verdict }
+{
+    let _ = net;
+    Answer {
+        verdict: Verdict::NoReaction { reaction },
         proof: Proof::Nothing,
-    };
-    let head = check_head(&net, &facts, 3, &answer.verdict);
-    match check_answer(&net, &mut facts, 3, &answer) {
-        Ok(()) => {
-            assert!(rt; head.is_ok());
-            match facts.verdict(3) {
-                Verdict::NoReaction { reaction } => assert_eq!(rt; *reaction, 1),
-                _ => assert!(rt; false),
-            }
-            Ok(None)
-        }
-        Err(fault) => {
-            assert!(rt; head.is_err());
-            Ok(Some(fault))
-        }
     }
 }
 
-#[test]
-fn a_reaction_without_a_reverse_is_accepted(rt: HostRuntime) -> Result<(), Fail> {
-    assert!(rt; first_has_no_reverse(&rt, &[(0, 1)])?.is_none());
-    assert!(rt; first_has_no_reverse(&rt, &[(0, 1), (1, 2), (2, 0)])?.is_none());
-    Ok(())
+fn reversible_place(
+    rt: &(impl Abort + AllocGlobal),
+    net: &Network,
+    back: &[u32],
+) -> Result<(u32, u32), Fail> {
+    let answer = yes_answer(rt, net, back)?;
+    let mut facts = Facts::new(rt.alloc(), net)?;
+    Ok(place(check_answer(net, &mut facts, 3, &answer)))
+}
+
+// The places of the fault of this answer to question 3, at its head and of all its tests.
+fn no_places(net: &Network, facts: &mut Facts, answer: &Answer) -> ((u32, u32), (u32, u32))
+    requires facts { AreFactsOf net.now facts.old }
+    requires later { HoldsNoneFrom 3 facts.old.earlier }
+    requires formed { (earlier : Earlier) → IsFormed net.now earlier Q3 answer.now }
+    requires head { (earlier : Earlier) → HeadMayBe net.now earlier Q3 answer.now.verdict }
+{
+    let head = place(check_head(net, facts, 3, &answer.verdict));
+    (head, place(check_answer(net, facts, 3, answer)))
+}
+
+// The place of the fault of a no to question 3 by a reaction, which is at the head.
+fn lone_place(
+    rt: &(impl Abort + AllocGlobal),
+    net: &Network,
+    reaction: u32,
+) -> Result<(u32, u32), Fail> {
+    assert!(rt; 1 <= reaction && reaction as usize <= net.reactions());
+    let mut facts = Facts::new(rt.alloc(), net)?;
+    let (head, all) = no_places(net, &mut facts, &no_answer(net, reaction));
+    assert!(rt; same(head, all));
+    Ok(head)
 }
 
 #[test]
-fn a_reaction_with_a_reverse_is_refused_at_the_head(rt: HostRuntime) -> Result<(), Fail> {
-    match first_has_no_reverse(&rt, &[(0, 1), (1, 0)])? {
-        Some(fault) => {
-            assert_eq!(rt; fault.code, 37);
-            assert_eq!(rt; fault.part, 0);
-        }
-        None => assert!(rt; false),
+fn reverses_are_tested(rt: HostRuntime) -> Result<(), Fail> {
+    let both = network(&rt, BOTH)?;
+    assert!(rt; same(reversible_place(&rt, &both, &[2, 1])?, (0, 0)));
+    assert!(rt; same(reversible_place(&rt, &both, &[1, 1])?, (32, 1)));
+    assert!(rt; same(lone_place(&rt, &both, 1)?, (37, 0)));
+    let one = network(&rt, &[(0, 1)])?;
+    assert!(rt; same(reversible_place(&rt, &one, &[1])?, (32, 1)));
+    assert!(rt; same(lone_place(&rt, &one, 1)?, (0, 0)));
+    Ok(())
+}
+
+// Facts after this valid answer on strong classes.
+fn classes_known(
+    rt: &(impl Abort + AllocGlobal),
+    net: &Network,
+    row: &Strong,
+) -> Result<Facts, Fail>
+    ensures facts { IfOk result (λ facts. AreFactsOf net.now facts) }
+    ensures held { IfOk result (λ facts. HoldsOn facts.earlier 2) }
+    ensures later { IfOk result (λ facts. HoldsNoneFrom 4 facts.earlier) }
+{
+    let answer = strong_answer(rt, net, row)?;
+    let mut facts = Facts::new(rt.alloc(), net)?;
+    assert!(rt; check_answer(net, &mut facts, 2, &answer).is_ok());
+    match facts.verdict(2) {
+        Verdict::Strong { label, .. } => assert!(rt; label.as_slice() == row.label),
+        _ => assert!(rt; false),
     }
+    Ok(facts)
+}
+
+// A yes to question 4.
+fn weak_answer(net: &Network) -> Answer
+    ensures weak { (earlier : Earlier) → IsFormed net.now earlier Q4 result }
+    ensures weak_head { (earlier : Earlier) → HeadMayBe net.now earlier Q4 result.verdict }
+{
+    let _ = net;
+    Answer {
+        verdict: Verdict::Yes,
+        proof: Proof::Nothing,
+    }
+}
+
+// The place of the fault of this answer to question 4, which is at the head.
+fn weak_place(net: &Network, facts: &mut Facts, answer: &Answer) -> ((u32, u32), (u32, u32))
+    requires facts { AreFactsOf net.now facts.old }
+    requires held { HoldsOn facts.old.earlier 2 }
+    requires later { HoldsNoneFrom 4 facts.old.earlier }
+    requires weak { (earlier : Earlier) → IsFormed net.now earlier Q4 answer.now }
+    requires weak_head { (earlier : Earlier) → HeadMayBe net.now earlier Q4 answer.now.verdict }
+{
+    let head = place(check_head(net, facts, 4, &answer.verdict));
+    (head, place(check_answer(net, facts, 4, answer)))
+}
+
+// The place of the fault of a yes to question 4 after a valid answer on strong classes.
+fn stays_place(
+    rt: &(impl Abort + AllocGlobal),
+    net: &Network,
+    strong: &Strong,
+) -> Result<(u32, u32), Fail> {
+    let mut facts = classes_known(rt, net, strong)?;
+    let (head, all) = weak_place(net, &mut facts, &weak_answer(net));
+    assert!(rt; same(head, all));
+    Ok(head)
+}
+
+// The same of a no by a reaction.
+fn leaves_place(
+    rt: &(impl Abort + AllocGlobal),
+    net: &Network,
+    strong: &Strong,
+    reaction: u32,
+) -> Result<(u32, u32), Fail> {
+    let mut facts = classes_known(rt, net, strong)?;
+    assert!(rt; 1 <= reaction && reaction as usize <= net.reactions());
+    let (head, all) = weak_place(net, &mut facts, &no_answer(net, reaction));
+    assert!(rt; same(head, all));
+    Ok(head)
+}
+
+#[test]
+fn weak_reversibility_is_tested(rt: HostRuntime) -> Result<(), Fail> {
+    let both = network(&rt, BOTH)?;
+    let row = whole(&[0, 1], &[0, 2], &[0]);
+    assert!(rt; same(stays_place(&rt, &both, &row)?, (0, 0)));
+    assert!(rt; same(leaves_place(&rt, &both, &row, 1)?, (37, 0)));
+    let one = network(&rt, &[(0, 1)])?;
+    let row = split(&[1, 2], &[1, 0], &[1, 0], 1);
+    assert!(rt; same(stays_place(&rt, &one, &row)?, (37, 0)));
+    assert!(rt; same(leaves_place(&rt, &one, &row, 1)?, (0, 0)));
     Ok(())
 }
 
 #[test]
-fn labels_are_numbered_by_first_appearance(rt: HostRuntime) -> Result<(), Fail> {
-    assert!(rt; are_numbered(&[1, 1], 1));
-    assert!(rt; are_numbered(&[1, 2, 1], 2));
-    assert!(rt; !are_numbered(&[1, 1], 2));
-    assert!(rt; !are_numbered(&[1, 2], 1));
-    assert!(rt; !are_numbered(&[2, 1], 2));
-    assert!(rt; !are_numbered(&[1, 3], 3));
-    assert!(rt; !are_numbered(&[0, 1], 1));
-    Ok(())
+fn the_law_stands() {
+    checks_see_no_spares();
 }
