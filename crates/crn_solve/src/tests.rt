@@ -8,7 +8,7 @@ use crate::rank_answer::rank_answer;
 use crate::solve;
 use crn_cert::{Answer, Answers, Gap, Proof, Verdict};
 use crn_net::{NetBuilder, NetFault, Network, Term, sums_fit};
-use crn_vec::{DEFAULT_BUDGET, MAX_AMOUNT, MAX_TERMS};
+use crn_vec::{DEFAULT_BUDGET, MAX_AMOUNT, MAX_TERMS, NoMemory};
 use std::alloc::{AllocError, Global};
 use std::process::Abort;
 use std::test::Fail;
@@ -315,6 +315,23 @@ fn reverses_are(rt: &impl Abort, answers: &Answers, row: &Row) {
     }
 }
 
+// The answers as they are given, so that no proof of a test looks into what is promised of them.
+fn all_of(rt: &impl AllocGlobal, net: &Network) -> Result<Answers, NoMemory> {
+    solve(rt.alloc(), net, DEFAULT_BUDGET)
+}
+
+fn rank_of(rt: &impl AllocGlobal, net: &Network) -> Result<Answer, NoMemory> {
+    rank_answer(rt.alloc(), net)
+}
+
+fn dependence_of(rt: &impl AllocGlobal, net: &Network) -> Result<Answer, NoMemory> {
+    positively_dependent(rt.alloc(), net)
+}
+
+fn conservation_of(rt: &impl AllocGlobal, net: &Network) -> Result<Answer, NoMemory> {
+    conservative(rt.alloc(), net)
+}
+
 // Whether the answer is a yes with a vector. It is decided.
 fn is_yes(rt: &impl Abort, answer: &Answer) -> bool {
     match &answer.verdict {
@@ -326,7 +343,7 @@ fn is_yes(rt: &impl Abort, answer: &Answer) -> bool {
 
 // The rank is that of the row.
 fn rank_is(rt: &(impl Abort + AllocGlobal), net: &Network, row: &Row) -> Result<(), Fail> {
-    let answer = rank_answer(rt.alloc(), net)?;
+    let answer = rank_of(rt, net)?;
     match &answer.verdict {
         Verdict::Rank { rank, .. } => assert_eq!(rt; *rank, row.rank),
         _ => panic!(rt; "the rank is found"),
@@ -340,9 +357,9 @@ fn positive_vectors_are(
     net: &Network,
     row: &Row,
 ) -> Result<(), Fail> {
-    let dependent = positively_dependent(rt.alloc(), net)?;
+    let dependent = dependence_of(rt, net)?;
     assert!(rt; is_yes(rt, &dependent) == row.dependent);
-    let conservative = conservative(rt.alloc(), net)?;
+    let conservative = conservation_of(rt, net)?;
     assert!(rt; is_yes(rt, &conservative) == row.conservative);
     Ok(())
 }
@@ -350,7 +367,7 @@ fn positive_vectors_are(
 // All answers are those of the row.
 fn answers_are(rt: &(impl Abort + AllocGlobal), row: &Row) -> Result<(), Fail> {
     let net = network(rt, row.text);
-    let answers = solve(rt.alloc(), &net, DEFAULT_BUDGET)?;
+    let answers = all_of(rt, &net)?;
     classes_are(rt, &answers, row);
     reverses_are(rt, &answers, row);
     rank_is(rt, &net, row)?;
@@ -368,10 +385,14 @@ fn worked_networks_have_their_answers(rt: HostRuntime) -> Result<(), Fail> {
 // Whether a yes has a law by which A weighs 99^9 times as much as J.
 fn weighs_all(verdict: &Verdict) -> bool {
     match verdict {
-        Verdict::YesVec { vector } => match vector.as_slice() {
-            [first, .., last] => *first == last.wrapping_mul(913_517_247_483_640_899),
-            _ => false,
-        },
+        Verdict::YesVec { vector } => weigh_so(vector.as_slice().first(), vector.as_slice().last()),
+        _ => false,
+    }
+}
+
+fn weigh_so(first: Option<&i128>, last: Option<&i128>) -> bool {
+    match (first, last) {
+        (Some(first), Some(last)) => *first == last.wrapping_mul(913_517_247_483_640_899),
         _ => false,
     }
 }
@@ -379,7 +400,7 @@ fn weighs_all(verdict: &Verdict) -> bool {
 #[test]
 fn a_long_chain_has_a_law(rt: HostRuntime) -> Result<(), Fail> {
     let net = network(&rt, NINE);
-    let answer = conservative(rt.alloc(), &net)?;
+    let answer = conservation_of(&rt, &net)?;
     assert!(rt; weighs_all(&answer.verdict));
     Ok(())
 }
@@ -388,9 +409,9 @@ fn a_long_chain_has_a_law(rt: HostRuntime) -> Result<(), Fail> {
 #[test]
 fn a_longer_chain_leaves_conservation_open(rt: HostRuntime) -> Result<(), Fail> {
     let net = network(&rt, ELEVEN);
-    let dependent = positively_dependent(rt.alloc(), &net)?;
+    let dependent = dependence_of(&rt, &net)?;
     assert!(rt; !is_yes(&rt, &dependent));
-    let conservative = conservative(rt.alloc(), &net)?;
+    let conservative = conservation_of(&rt, &net)?;
     match &conservative.verdict {
         Verdict::Unknown(Gap::Wide { system, .. }) => assert_eq!(rt; *system, 1),
         _ => panic!(rt; "conservation is open"),
@@ -402,7 +423,7 @@ fn a_longer_chain_leaves_conservation_open(rt: HostRuntime) -> Result<(), Fail> 
 #[test]
 fn one_row_is_enough(rt: HostRuntime) -> Result<(), Fail> {
     let net = network(&rt, TWELVE);
-    let conservative = conservative(rt.alloc(), &net)?;
+    let conservative = conservation_of(&rt, &net)?;
     assert!(rt; !is_yes(&rt, &conservative));
     Ok(())
 }
