@@ -59,7 +59,8 @@ fn read_numbers(line: &[u8], place: u32, into: &mut Ints) -> bool
     requires room { MAX_NUMBERS ≤ into.old.spare }
     ensures numbers { MatchBool result
         ((zs : List ℤ) × SaysNumbers line.now zs × (into.new.list ≡ tag place ++ map capped zs))
-        ((zs : List ℤ) → SaysNumbers line.now zs → length (tag place) + length zs ≤ MAX_NUMBERS → ⊥) }
+        ((zs : List ℤ) → SaysNumbers line.now zs
+        → length (tag place) + length zs ≤ MAX_NUMBERS → ⊥) }
     ensures spare { into.new.spare + length into.new.list ≡ into.old.spare }
 {
     if place == 0 {

@@ -1,4 +1,5 @@
--- For the contracts of private functions alone: the forms that are due, one after another.
+-- For the contracts of private functions alone.
+-- The forms that are due, one after another.
 -- Source: this project's own. Shapes: forms count from 0, places of heads from 1; words after the first are each after a space.
 use Rattle.std.specs.Prelude.{◌≡◌, ◌≤◌, ◌<◌, ◌+◌, ℕ, zero, suc, ℤ, pos, Option, Some, None, List, [], ◌∷◌, length, slice_index_or}
 use Rattle.crn_ctext.specs.Records.{Form, Record, Field, Small, Several, Free, FreeSeveral, Rising, Members, CountAndPart, TwoOf, Turn, ClassWide}

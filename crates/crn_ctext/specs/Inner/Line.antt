@@ -1,4 +1,5 @@
--- For the contracts of private functions alone: what the bytes of a line say, read from left to right.
+-- For the contracts of private functions alone.
+-- What the bytes of a line say, read from left to right.
 -- Source: this project's own. Shapes: words and lines are lists of bytes; 32 is a space.
 use Rattle.std.specs.Prelude.{◌≡◌, ◌≤◌, ◌<◌, ◌⊎◌, ◌-◌, ◌++◌, ℕ, suc, ℤ, pos, negsuc, min, List, [], ◌∷◌, length, take, slice_index}
 use Rattle.std.specs.List.{AllZip, flat_map}

@@ -1,4 +1,5 @@
--- For the contracts of private functions alone: the words of a table of record kinds.
+-- For the contracts of private functions alone.
+-- The words of a table of record kinds.
 -- Source: this project's own.
 use Rattle.std.specs.Prelude.{◌≡◌, ℕ, Bool, true, false, ◌&&◌, ◌||◌, not, nat_le, if◌then◌else◌, List, [], ◌∷◌}
 use Rattle.std.specs.Str.{bytes_eq}

@@ -1,4 +1,5 @@
--- For the contracts of private functions alone: the numbers of a record as one shape, and what judging them gives.
+-- For the contracts of private functions alone.
+-- The numbers of a record as one shape, and what judging them gives.
 -- Source: this project's own. Shapes: reactions, complexes and classes count from 1.
 use Rattle.std.specs.Prelude.{◌≡◌, ◌≤◌, ◌<◌, ◌↔◌, ℕ, ℤ, pos, unsigned_abs, Bool, true, false, Option, Some, None, List, [], ◌∷◌, length, map, suc, slice_index_or}
 use Rattle.std.specs.Borrow.{Bor}

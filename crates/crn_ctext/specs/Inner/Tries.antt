@@ -1,4 +1,5 @@
--- For the contracts of private functions alone: what trying one form on a line gives, and several.
+-- For the contracts of private functions alone.
+-- What trying one form on a line gives, and several.
 -- Source: this project's own. Shapes: forms count from 0.
 use Rattle.std.specs.Prelude.{◌≡◌, ◌⊎◌, ◌++◌, ◌+◌, ◌≤◌, ℕ, ℤ, Option, Some, None, Result, Ok, Err, List, [], ◌∷◌, length, take}
 use Rattle.std.specs.Borrow.{Bor}
