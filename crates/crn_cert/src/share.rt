@@ -110,11 +110,7 @@ fn number_of(lists: &IndexSet<&[i128]>, cut: &[i128]) -> u32
 }
 
 // For each cut the number of its list, or 0.
-fn numbers_of(
-    alloc: Global,
-    lists: &IndexSet<&[i128]>,
-    cuts: &[&[i128]],
-) -> Result<Nums, NoMemory>
+fn numbers_of(alloc: Global, lists: &IndexSet<&[i128]>, cuts: &[&[i128]]) -> Result<Nums, NoMemory>
     requires { length lists.now.keys ≤ MAX_SHARED }
     ensures { IfOk result (λ made. made.list
         ≡ map (number_in 1 (map (λ u. u.now) lists.now.keys)) (map (λ u. u.now) cuts.now)) }

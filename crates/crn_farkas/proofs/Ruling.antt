@@ -19,7 +19,7 @@ use Rattle.crn_tab.specs.Tableau.{NamesRows, RulesBelow}
 use lib.IntN.{zero-*ℤ}
 use Rattle.crn_tab.proofs.CallerLemmas.{one_row, as_row}
 use Rattle.crn_farkas.specs.Decision.{IsSmallCut}
-use Rattle.crn_farkas.specs.Inner.Sums.{factor}
+use Rattle.crn_farkas.specs.Decision.{factor}
 use Rattle.crn_farkas.specs.Solver.{CutsBy, AreNamedMultipliers}
 use Rattle.crn_farkas.proofs.Pairs.{named_scaled, dual_scaled, drop-scale, own_some}
 

@@ -18,7 +18,7 @@ use Rattle.crn_tab.specs.Tableau.{NamesRows, IsNumbered, IsRefused}
 use Rattle.crn_tab.proofs.CallerLemmas.{same_members, column_at, as_row}
 use Rattle.crn_farkas.specs.declared.view.View.TheVariants.{Row, Column}
 use Rattle.crn_farkas.specs.Inner.Views.{IsView, IsRightEverywhere}
-use Rattle.crn_farkas.specs.Inner.Sums.{factor}
+use Rattle.crn_farkas.specs.Decision.{factor}
 use Rattle.crn_farkas.specs.Inner.Sums.{IsWitness}
 use Rattle.crn_farkas.specs.Solver.{IsNear, CutsBy}
 use Rattle.crn_farkas.proofs.Pairs.{pair, column_scaled, other_some, kind_some}

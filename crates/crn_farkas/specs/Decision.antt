@@ -13,6 +13,11 @@ use Rattle.crn_vec.specs.Vectors.{AreOfLength, Mat, entry}
 use Rattle.crn_vec.specs.declared.limits.TheConstants.{WIDE_ENTRY, WIDE_SOLUTION}
 use Rattle.crn_vec.specs.declared.signs.Kind.{Kind}
 
+-- 1, or -1 for the negative
+abbrev pub factor : Bool → ℤ
+factor true = pos 1
+factor false = negsuc 0
+
 -- multipliers below the bound that rule the system out
 pub record IsSmallCut (a : Mat) (kinds : List Kind) (u : List ℤ) : Type 0 where
   pub cut : IsCut a kinds u

@@ -4,7 +4,7 @@ ghost use Rattle.crn_vec.specs.Vectors.{entry, HasSign, scale};
 ghost use Rattle.crn_vec.specs.Lists.{IsIn};
 ghost use Rattle.crn_vec.specs.Elementary.{width, IsNamedRow};
 ghost use Rattle.crn_vec.specs.Systems.{HasSigned};
-ghost use Rattle.crn_farkas.specs.Inner.Sums.{factor};
+ghost use Rattle.crn_farkas.specs.Decision.{factor};
 ghost use Rattle.crn_farkas.specs.Solver.{IsCutBy, HasKeptCut, IsNamedCut};
 
 use crn_tab::Tableau;

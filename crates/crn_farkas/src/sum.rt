@@ -1,7 +1,7 @@
 ghost use Rattle.std.specs.Prelude.{◌≡◌, ◌≤◌, ◌<◌, ◌^◌, ◌*◌, ◌+ℤ◌, ◌*ℤ◌, ℕ, length, unsigned_abs};
 ghost use Rattle.crn_vec.specs.declared.limits.TheConstants.{WIDE_ENTRY, WIDE_SOLUTION};
 ghost use Rattle.crn_vec.specs.Vectors.{entry};
-ghost use Rattle.crn_farkas.specs.Inner.Sums.{factor};
+ghost use Rattle.crn_farkas.specs.Decision.{factor};
 
 // One more entry, or its negative.
 fn sum_with(x: &i128, y: &i128, stays: bool) -> i128

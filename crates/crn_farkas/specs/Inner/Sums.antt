@@ -1,5 +1,6 @@
 -- For the contracts of private functions alone. The sum of witnesses that a decision builds, coordinate by coordinate, and what it ends with at one of them.
 use Rattle.std.specs.Prelude.{Bool, IsTrue, List, false, length, negsuc, pos, slice_index_or, take, true, unsigned_abs, ℕ, ℤ, ◌*◌, ◌<◌, ◌≡◌, ◌≢◌, ◌≤◌, ◌⊎◌}
+use Rattle.crn_farkas.specs.Decision.{factor}
 use Rattle.crn_farkas.specs.Solver.{IsNamedCut, IsNear}
 use Rattle.crn_farkas.specs.declared.goal.Side.{Side}
 use Rattle.crn_farkas.specs.declared.goal.Side.TheVariants.{Cut as SideCut, Witness as SideWitness}
@@ -10,11 +11,6 @@ use Rattle.crn_vec.specs.Systems.{MayTake, is_signed, kind_at, signed_count}
 use Rattle.crn_vec.specs.Vectors.{Mat, entry, scale}
 use Rattle.crn_vec.specs.declared.limits.TheConstants.{WIDE_ENTRY}
 use Rattle.crn_vec.specs.declared.signs.Kind.{Kind}
-
--- 1, or -1 for the negative
-abbrev pub factor : Bool → ℤ
-factor true = pos 1
-factor false = negsuc 0
 
 -- a vector (x, Ax) that is one of those that add up to a solution, and not 0 at g
 pub record IsWitness (a : Mat) (kinds : List Kind) (g : ℕ) (y : List ℤ) : Type 0 where

@@ -3,7 +3,7 @@ use Rattle.std.specs.Int.{w128}
 use Rattle.std.proofs.lemmas.Int.{to_z-of_z}
 use Rattle.crn_vec.specs.Vectors.{entry}
 use Rattle.std.specs.Prelude.{◌*ℤ◌}
-use Rattle.crn_farkas.specs.Inner.Sums.{factor}
+use Rattle.crn_farkas.specs.Decision.{factor}
 use Rattle.crn_farkas.proofs.Ruling.{scale_step}
 use Rattle.crn_farkas.proofs.cut.multiple.Goals as goal
 

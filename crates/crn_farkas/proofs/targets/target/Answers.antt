@@ -8,7 +8,7 @@ use Rattle.crn_vec.proofs.CallerLemmas.{entry-scale, length-scale}
 use Rattle.crn_vec.specs.Elementary.{width}
 use Rattle.std.specs.Prelude.{◌+ℤ◌}
 use Rattle.crn_farkas.proofs.Ruling.{unscaled_small}
-use Rattle.crn_farkas.specs.Inner.Sums.{factor}
+use Rattle.crn_farkas.specs.Decision.{factor}
 use Rattle.crn_farkas.specs.declared.goal.Side.{Side}
 use Rattle.crn_farkas.specs.Inner.Sums.{IsPartSum, IsSide}
 use Rattle.std.specs.Int.{w128}

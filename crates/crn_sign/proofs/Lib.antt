@@ -1,0 +1,3 @@
+mod Exchange
+mod PastLaws
+mod Walks

@@ -1,0 +1,100 @@
+use Rattle.std.proofs.Common.{◌≡◌, ◌+◌, List, [], ◌∷◌, ◌++◌, length, sym, ◌∙◌, ap, subst, arith}
+use Rattle.crn_vec.specs.declared.signs.Sign.TheVariants.{Zero, Plus, Minus}
+use Rattle.crn_farkas.specs.Decision.{IsSmallCut}
+use Rattle.crn_sign.specs.Inner.Walk.{EndsAt, EndsBelow, IsFoundAt}
+use Rattle.crn_vec.specs.declared.signs.Sign.{Sign}
+use Rattle.crn_vec.specs.Problems.{Signed, all_zero}
+use Rattle.crn_sign.proofs.Walks.{run_out, stands_from, flat_at, cut_a_at, cut_b_at, found_at, opened_at, child_tree, first_child, second_child, third_child, both_trees, three_trees}
+use Rattle.crn_sign.proofs.walk.+walk.Goals as goal
+
+pub walk-returns-then-search-eq0-clause-answer : goal.walk-returns-then-search-eq0-clause-answer
+walk-returns-then-search-eq0-clause-answer g t c = run_out (g.P.SignProblem.signed c.args.problem.now) c.args.search.now.prefix.items c.args.search.now.left (omega arith)
+
+pub walk-returns-then-closed-clause-answer : goal.walk-returns-then-closed-clause-answer
+walk-returns-then-closed-clause-answer g t c =
+    let w : Signed = g.P.SignProblem.signed c.args.problem.now in
+    flat_at w c.args.search.now.prefix.items c.args.search.now.left _ (omega arith) (ap (λ (p : List Sign). w.closed p) (sym c.deref.ensures.value) ∙ sym c.closed.ensures ∙ c.if-closed.true)
+
+pub walk-returns-in-Some-clause-answer : goal.walk-returns-in-Some-clause-answer
+walk-returns-in-Some-clause-answer g t c =
+    let d = rw c.in-Some.is at c.in_ok-u.ensures.answer in
+    cut_b_at (g.P.SignProblem.signed c.args.problem.now) c.args.search.now.prefix.items c.in-Some.u.list c.args.search.now.left _ (omega (arith, c.in_ok-u.ensures.place.left)) d
+
+pub walk-returns-in-Some-2-clause-answer : goal.walk-returns-in-Some-2-clause-answer
+walk-returns-in-Some-2-clause-answer g t c =
+    let d = rw c.in-Some-2.is at c.in_ok-u-2.ensures.answer in
+    let w : Signed = g.P.SignProblem.signed c.args.problem.now in
+    let e = subst (λ (p : List Sign). IsSmallCut w.matrix_a (w.kinds_a p) c.in-Some-2.u.list) c.in_ok-u.ensures.place.prefix d in
+    cut_a_at w c.args.search.now.prefix.items c.in-Some-2.u.list c.args.search.now.left _ (omega (arith, c.in_ok-u.ensures.place.left, c.in_ok-u-2.ensures.place.left)) e
+
+pub split-returns-in_default : goal.split-returns-in_default
+split-returns-in_default g t c = record {
+  prefix = c.in_ok-end.ensures.prefix;
+  ready = c.in_ok-end.ensures.ready;
+  answer = first_child (g.P.SignProblem.signed c.args.problem.now) c.args.search.now.prefix.items c.args.search.now.left c.child.new.search.left c.in_ok-end.end c.in_default.not-Refuted c.in_ok-end.ensures.answer;
+}
+
+pub split-returns-in_default-2 : goal.split-returns-in_default-2
+split-returns-in_default-2 g t c =
+    let w : Signed = g.P.SignProblem.signed c.args.problem.now in
+    let p : List Sign = c.args.search.now.prefix.items in
+    let z = child_tree w (p ++ Zero ∷ []) c.args.search.now.left c.child.new.search.left c.in_ok-end.end c.in-Refuted.tree c.in_ok-zero-in-Refuted.zero.value c.in_ok-end.ensures.answer c.in-Refuted.is c.in_ok-zero-in-Refuted.ensures in
+    let a = subst (λ (q : List Sign). EndsAt w (q ++ Plus ∷ []) c.child.new.search.left c.child-2.new.search.left c.in_ok-end-2.end) c.in_ok-end.ensures.prefix c.in_ok-end-2.ensures.answer in
+    record {
+      prefix = c.in_ok-end-2.ensures.prefix ∙ c.in_ok-end.ensures.prefix;
+      ready = c.in_ok-end-2.ensures.ready;
+      answer = second_child w p _ c.args.search.now.left c.child.new.search.left c.child-2.new.search.left c.in_ok-end-2.end z c.in_default-2.not-Refuted a;
+    }
+
+pub split-returns-then-zeros-clause-answer : goal.split-returns-then-zeros-clause-answer
+split-returns-then-zeros-clause-answer g t c =
+    let w : Signed = g.P.SignProblem.signed c.args.problem.now in
+    let p : List Sign = c.args.search.now.prefix.items in
+    let z = child_tree w (p ++ Zero ∷ []) c.args.search.now.left c.child.new.search.left c.in_ok-end.end c.in-Refuted.tree c.in_ok-zero-in-Refuted.zero.value c.in_ok-end.ensures.answer c.in-Refuted.is c.in_ok-zero-in-Refuted.ensures in
+    let a = subst (λ (q : List Sign). EndsAt w (q ++ Plus ∷ []) c.child.new.search.left c.child-2.new.search.left c.in_ok-end-2.end) c.in_ok-end.ensures.prefix c.in_ok-end-2.ensures.answer in
+    let q = child_tree w (p ++ Plus ∷ []) c.child.new.search.left c.child-2.new.search.left c.in_ok-end-2.end c.in-Refuted-2.tree c.in_ok-plus-in-Refuted-2.plus.value a c.in-Refuted-2.is c.in_ok-plus-in-Refuted-2.ensures in
+    both_trees w p _ _ c.args.search.now.left c.child.new.search.left c.child-2.new.search.left c.requires.room (ap all_zero (sym c.deref.ensures.value) ∙ sym c.is_all_zero-zeros.ensures ∙ c.if-zeros.true) z q
+
+pub split-returns-in_default-3 : goal.split-returns-in_default-3
+split-returns-in_default-3 g t c =
+    let w : Signed = g.P.SignProblem.signed c.args.problem.now in
+    let p : List Sign = c.args.search.now.prefix.items in
+    let z = child_tree w (p ++ Zero ∷ []) c.args.search.now.left c.child.new.search.left c.in_ok-end.end c.in-Refuted.tree c.in_ok-zero-in-Refuted.zero.value c.in_ok-end.ensures.answer c.in-Refuted.is c.in_ok-zero-in-Refuted.ensures in
+    let a = subst (λ (q : List Sign). EndsAt w (q ++ Plus ∷ []) c.child.new.search.left c.child-2.new.search.left c.in_ok-end-2.end) c.in_ok-end.ensures.prefix c.in_ok-end-2.ensures.answer in
+    let q = child_tree w (p ++ Plus ∷ []) c.child.new.search.left c.child-2.new.search.left c.in_ok-end-2.end c.in-Refuted-2.tree c.in_ok-plus-in-Refuted-2.plus.value a c.in-Refuted-2.is c.in_ok-plus-in-Refuted-2.ensures in
+    let b = subst (λ (q : List Sign). EndsAt w (q ++ Minus ∷ []) c.child-2.new.search.left c.child-3.new.search.left c.in_ok-end-3.end) (c.in_ok-end-2.ensures.prefix ∙ c.in_ok-end.ensures.prefix) c.in_ok-end-3.ensures.answer in
+    record {
+      prefix = c.in_ok-end-3.ensures.prefix ∙ c.in_ok-end-2.ensures.prefix ∙ c.in_ok-end.ensures.prefix;
+      ready = c.in_ok-end-3.ensures.ready;
+      answer = third_child w p _ _ c.args.search.now.left c.child.new.search.left c.child-2.new.search.left c.child-3.new.search.left c.in_ok-end-3.end (ap all_zero (sym c.deref.ensures.value) ∙ sym c.is_all_zero-zeros.ensures ∙ c.if-zeros.false) z q c.in_default-3.not-Refuted b;
+    }
+
+pub split-returns-clause-answer : goal.split-returns-clause-answer
+split-returns-clause-answer g t c =
+    let w : Signed = g.P.SignProblem.signed c.args.problem.now in
+    let p : List Sign = c.args.search.now.prefix.items in
+    let z = child_tree w (p ++ Zero ∷ []) c.args.search.now.left c.child.new.search.left c.in_ok-end.end c.in-Refuted.tree c.in_ok-zero-in-Refuted.zero.value c.in_ok-end.ensures.answer c.in-Refuted.is c.in_ok-zero-in-Refuted.ensures in
+    let a = subst (λ (q : List Sign). EndsAt w (q ++ Plus ∷ []) c.child.new.search.left c.child-2.new.search.left c.in_ok-end-2.end) c.in_ok-end.ensures.prefix c.in_ok-end-2.ensures.answer in
+    let q = child_tree w (p ++ Plus ∷ []) c.child.new.search.left c.child-2.new.search.left c.in_ok-end-2.end c.in-Refuted-2.tree c.in_ok-plus-in-Refuted-2.plus.value a c.in-Refuted-2.is c.in_ok-plus-in-Refuted-2.ensures in
+    let b = subst (λ (q : List Sign). EndsAt w (q ++ Minus ∷ []) c.child-2.new.search.left c.child-3.new.search.left c.in_ok-end-3.end) (c.in_ok-end-2.ensures.prefix ∙ c.in_ok-end.ensures.prefix) c.in_ok-end-3.ensures.answer in
+    let m = child_tree w (p ++ Minus ∷ []) c.child-2.new.search.left c.child-3.new.search.left c.in_ok-end-3.end c.in-Refuted-3.tree c.in_ok-minus-in-Refuted-3.minus.value b c.in-Refuted-3.is c.in_ok-minus-in-Refuted-3.ensures in
+    three_trees w p _ _ _ c.args.search.now.left c.child.new.search.left c.child-2.new.search.left c.child-3.new.search.left c.requires.room (ap all_zero (sym c.deref.ensures.value) ∙ sym c.is_all_zero-zeros.ensures ∙ c.if-zeros.false) z q m
+
+pub walk-returns-then-len-length-clause-answer : goal.walk-returns-then-len-length-clause-answer
+walk-returns-then-len-length-clause-answer g t c =
+    let w : Signed = g.P.SignProblem.signed c.args.problem.now in
+    let f = subst (λ (p : List Sign). IsFoundAt w p c.in_ok-end.end) (c.in_ok-u-2.ensures.place.prefix ∙ c.in_ok-u.ensures.place.prefix) c.in_ok-end.ensures.answer in
+    found_at w c.args.search.now.prefix.items c.args.search.now.left _ c.in_ok-end.end (omega (arith, c.in_ok-u.ensures.place.left, c.in_ok-u-2.ensures.place.left, c.in_ok-end.ensures.place.left)) f
+
+pub walk-returns-clause-answer : goal.walk-returns-clause-answer
+walk-returns-clause-answer g t c =
+    let w : Signed = g.P.SignProblem.signed c.args.problem.now in
+    let p : List Sign = c.args.search.now.prefix.items in
+    let b = rw c.in_default.is at c.in_ok-u.ensures.answer in
+    let a = rw c.in_default-2.is at c.in_ok-u-2.ensures.answer in
+    let same = c.in_ok-u-2.ensures.place.prefix ∙ c.in_ok-u.ensures.place.prefix in
+    let s = stands_from w p _ c.in_ok-u.ensures.place.prefix (ap (λ (q : List Sign). w.closed q) (sym c.deref.ensures.value) ∙ sym c.closed.ensures ∙ c.if-closed.false) b a in
+    let e = subst (λ (q : List Sign). EndsBelow w q c.rule_out_a.new.search.left c.split.new.search.left c.in_ok-end-2.end) same c.in_ok-end-2.ensures.answer in
+    let long : length c.rule_out_a.new.search.prefix.items ≡ length p = ap (λ (q : List Sign). length q) same in
+    let one : c.rule_out_a.new.search.left + 1 ≡ c.args.search.now.left = omega (arith, c.in_ok-u.ensures.place.left, c.in_ok-u-2.ensures.place.left) in
+    opened_at w p c.args.search.now.left c.rule_out_a.new.search.left c.split.new.search.left c.in_ok-end-2.end one s (λ (f : length p ≡ w.choices). omega (arith, f, long, c.len.ensures, c.length.ensures.choices, c.if-len-length.false)) e

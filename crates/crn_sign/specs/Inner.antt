@@ -1,0 +1,4 @@
+pub mod Walk
+pub mod Ready
+pub mod Parts
+pub mod Past

@@ -1,0 +1,71 @@
+-- For the contracts of private functions alone.
+-- How the visits of a prefix, of its children and of all below them end.
+-- Shapes: `left` visits are allowed where it begins, and `after` where it ends. `due` lists the
+-- prefixes that are to be visited with all below them.
+use Rattle.std.specs.Prelude.{◌≡◌, ◌+◌, ℕ, true, false, List, [], ◌∷◌, ◌++◌, length}
+use Rattle.crn_vec.specs.declared.signs.Sign.{Sign}
+use Rattle.crn_vec.specs.Problems.{Signed, children}
+use Rattle.crn_vec.specs.Visits.{Visits, Passes}
+use Rattle.crn_cert.specs.Trees.{Plan, plan, places}
+use Rattle.crn_farkas.specs.declared.fault.Stop.{Stop}
+use Rattle.crn_farkas.specs.declared.fault.Stop.TheVariants.{Wide, NoMemory as StopMemory}
+use Rattle.crn_sign.specs.declared.end.SearchEnd.{SearchEnd}
+use Rattle.crn_sign.specs.declared.end.SearchEnd.TheVariants.{Found, Refuted, Spent}
+use Rattle.crn_sign.specs.declared.fault.SearchStop.{SearchStop}
+use Rattle.crn_sign.specs.declared.fault.SearchStop.TheVariants.{WideA, WideB, NoMemory}
+use Rattle.crn_sign.specs.Search.{IsStanding, IsTreeAt}
+
+-- the visits of what is due end with the full standing prefix q
+pub record EndsWith (w : Signed) (due : List (List Sign)) (left after : ℕ) (q : List Sign)
+    : Type 0 where
+  pub before : List (List Sign)
+  pub visits : Visits w due (before ++ q ∷ []) true
+  pub count : length (before ++ q ∷ []) + after ≡ left
+
+-- the visits of what is due are these, and none is a full standing prefix
+pub record EndsWithout (w : Signed) (due list : List (List Sign)) (left after : ℕ) : Type 0 where
+  pub visits : Visits w due list false
+  pub count : length list + after ≡ left
+
+-- the visits of what is due exceed those that are allowed
+pub record RunsOut (w : Signed) (due : List (List Sign)) (left after : ℕ) : Type 0 where
+  pub passes : Passes w due left
+  pub none : after ≡ 0
+
+-- what the visit of a prefix, and of all below it, ends with
+abbrev pub EndsAt : Signed → List Sign → ℕ → ℕ → SearchEnd → Type 0
+EndsAt w p left after (Found q a b) = IsStanding w q a.list b.list
+    × EndsWith w (p ∷ []) left after q
+EndsAt w p left after (Refuted tree) = IsTreeAt w p (plan tree)
+    × EndsWithout w (p ∷ []) (places p (plan tree)) left after
+EndsAt w p left after Spent = RunsOut w (p ∷ []) left after
+
+-- the visits of a tree's nodes below its root
+pub record BelowRoot (w : Signed) (p : List Sign) (tree : Plan) (left after : ℕ) : Type 0 where
+  pub rest : List (List Sign)
+  pub places_are : places p tree ≡ p ∷ rest
+  pub ends : EndsWithout w (children p) rest left after
+
+-- what the visits of a prefix's children, and of all below them, end with
+abbrev pub EndsBelow : Signed → List Sign → ℕ → ℕ → SearchEnd → Type 0
+EndsBelow w p left after (Found q a b) = IsStanding w q a.list b.list
+    × EndsWith w (children p) left after q
+EndsBelow w p left after (Refuted tree) = IsTreeAt w p (plan tree)
+    × BelowRoot w p (plan tree) left after
+EndsBelow w p left after Spent = RunsOut w (children p) left after
+
+-- the full prefix, with solutions of its parts
+abbrev pub IsFoundAt : Signed → List Sign → SearchEnd → Type 0
+IsFoundAt w p (Found q a b) = (q ≡ p) × IsStanding w p a.list b.list
+IsFoundAt w p (Refuted tree) = ⊥
+IsFoundAt w p Spent = ⊥
+
+-- the stop of part A's solver as the stop of the search
+abbrev pub IsWideA : Stop → SearchStop → Type 0
+IsWideA (Wide index basis) s = s ≡ WideA index basis
+IsWideA StopMemory s = s ≡ NoMemory
+
+-- the stop of part B's solver as the stop of the search
+abbrev pub IsWideB : Stop → SearchStop → Type 0
+IsWideB (Wide index basis) s = s ≡ WideB index basis
+IsWideB StopMemory s = s ≡ NoMemory

@@ -1,0 +1,44 @@
+-- What a search over the prefixes of a sign problem ends with, and why it stops.
+-- Source: this project's own. The parts of a prefix are linear systems that ask a sign of each
+-- coordinate, as in Minty (1974) and Rockafellar (1969).
+-- Shapes: a prefix has a sign for each of the first choices; `a` has a number for each column of
+-- part A's matrix, and `b` one for each column of part B's.
+use Rattle.std.specs.Prelude.{◌≡◌, ◌≤◌, ℕ, ℤ, true, false, List, [], ◌∷◌, ◌++◌, length}
+use Rattle.crn_vec.specs.declared.signs.Sign.{Sign}
+use Rattle.crn_vec.specs.Elementary.{NamesWide}
+use Rattle.crn_vec.specs.Problems.{Signed, IsFull}
+use Rattle.crn_vec.specs.Visits.{IsVisitList, PassesBudget}
+use Rattle.crn_cert.specs.Trees.{Plan, plan, IsValid, AreNarrow, places}
+use Rattle.crn_farkas.specs.Decision.{IsSmallSolution}
+use Rattle.crn_sign.specs.declared.end.SearchEnd.{SearchEnd}
+use Rattle.crn_sign.specs.declared.end.SearchEnd.TheVariants.{Found, Refuted, Spent}
+use Rattle.crn_sign.specs.declared.fault.SearchStop.{SearchStop}
+use Rattle.crn_sign.specs.declared.fault.SearchStop.TheVariants.{WideA, WideB, NoMemory}
+
+-- a full prefix that stands, with solutions of its parts, whose coordinates are below the bound
+pub record IsStanding (w : Signed) (q : List Sign) (a b : List ℤ) : Type 0 where
+  pub full : IsFull w q
+  pub opened : w.closed q ≡ false
+  pub part_a : IsSmallSolution w.matrix_a (w.kinds_a q) a
+  pub part_b : IsSmallSolution w.matrix_b (w.kinds_b q) b
+
+-- a tree that is valid at a prefix, and whose multipliers are numbers of a certificate
+pub record IsTreeAt (w : Signed) (p : List Sign) (tree : Plan) : Type 0 where
+  pub valid : IsValid w p tree
+  pub narrow : AreNarrow tree
+
+-- the search ends with the first full standing prefix and solutions of its parts, or with a valid
+-- tree that has one node for each visit in their order, or because the visits exceed the budget
+abbrev pub IsSearchEnd : Signed → ℕ → SearchEnd → Type 0
+IsSearchEnd w budget (Found q a b) = IsStanding w q a.list b.list
+    × (before : List (List Sign)) × IsVisitList w (before ++ q ∷ []) true
+    × (length (before ++ q ∷ []) ≤ budget)
+IsSearchEnd w budget (Refuted tree) = IsTreeAt w [] (plan tree)
+    × IsVisitList w (places [] (plan tree)) false × (length (places [] (plan tree)) ≤ budget)
+IsSearchEnd w budget Spent = PassesBudget w budget
+
+-- a wide vector of one part's matrix by name, or memory runs out
+abbrev pub IsSearchStop : Signed → SearchStop → Type 0
+IsSearchStop w (WideA index basis) = NamesWide w.matrix_a index basis.list
+IsSearchStop w (WideB index basis) = NamesWide w.matrix_b index basis.list
+IsSearchStop w NoMemory = Unit {0}

@@ -1,0 +1,18 @@
+//! The search of a sign problem: a full standing prefix, or a tree that shows that none stands.
+#![tactic(auto)]
+
+mod end;
+mod fault;
+mod part;
+mod past;
+mod problem;
+mod signs;
+#[cfg(test)]
+mod tests;
+mod walk;
+
+pub use end::SearchEnd;
+pub use fault::SearchStop;
+pub use problem::SignProblem;
+pub use signs::Signs;
+pub use walk::search;

@@ -1,0 +1,225 @@
+ghost use Rattle.std.specs.Prelude.{◌≡◌, ◌≢◌, ◌<◌, ◌≤◌, ◌+◌, ◌*ℤ◌, ◌↔◌, ℕ, ℤ, List, pos, neg_ℤ, length, drop, true, unsigned_abs, IsTrue, IfOk, OnOk, MatchOption};
+ghost use Rattle.crn_vec.specs.Vectors.{AreWithin, Mat, HasSign, column, entry, scale};
+ghost use Rattle.crn_vec.specs.Elementary.{InDualSpace, width};
+ghost use Rattle.crn_vec.specs.Systems.{MayWeigh, is_signed};
+ghost use Rattle.crn_vec.specs.declared.limits.TheConstants.{MAX_AMOUNT, WIDE_ENTRY};
+ghost use Rattle.crn_farkas.specs.Decision.{IsSmallCut, factor};
+ghost use Rattle.crn_sign.specs.Inner.Past.{AllWeigh, AreInside, IsPast, SignsBefore, SomeCounts};
+
+use crn_vec::{Ints, Kind, Matrix, NoMemory, Sign, dot, sign_of};
+use std::alloc::Global;
+
+/// Multipliers u that ruled a system out, with the places and signs of the list (-uA, u), and the
+/// length of the prefix.
+#[derive(Drop)]
+pub(crate) struct Past {
+    pub multipliers: Ints,
+    pub places: Vec<(usize, Sign)>,
+    pub depth: usize,
+}
+
+// The sign of minus a number.
+fn opposite(sign: Sign) -> Sign
+    ensures { (x : ℤ) → HasSign sign x → HasSign result (neg_ℤ x) }
+{
+    match sign {
+        Sign::Zero => Sign::Zero,
+        Sign::Plus => Sign::Minus,
+        Sign::Minus => Sign::Plus,
+    }
+}
+
+// The sign of a number, or of its negative.
+fn sign_of_multiple(sign: Sign, stays: bool) -> Sign
+    ensures { (x : ℤ) → HasSign sign x → HasSign result (factor stays *ℤ x) }
+{
+    if stays { sign } else { opposite(sign) }
+}
+
+// Whether a number of this sign may be weighed at a coordinate of this kind.
+fn may_weigh(kind: Kind, sign: Sign) -> bool
+    ensures { (x : ℤ) → HasSign sign x → (IsTrue result ↔ MayWeigh kind x) }
+{
+    match kind {
+        Kind::Pos | Kind::NonNeg => sign != Sign::Minus,
+        Kind::Neg => sign != Sign::Plus,
+        Kind::Zero => true,
+        Kind::Free => sign == Sign::Zero,
+    }
+}
+
+// Whether the kind is positive or negative, and the sign is not zero.
+fn counts(kind: Kind, sign: Sign) -> bool
+    ensures { IsTrue result ↔ ((is_signed kind ≡ true) × (sign ≢ Sign.Zero)) }
+{
+    match kind {
+        Kind::Pos | Kind::Neg => sign != Sign::Zero,
+        _ => false,
+    }
+}
+
+// Whether numbers of these signs, or their negatives, may be weighed at these places.
+fn all_weigh(kinds: &[Kind], places: &[(usize, Sign)], stays: bool) -> bool
+    requires { AreInside (length kinds.now) places.now }
+    ensures { IsTrue result → AllWeigh kinds.now stays places.now }
+{
+    match places {
+        [] => true,
+        [p, rest @ ..] => {
+            if !may_weigh(kinds[p.0], sign_of_multiple(p.1, stays)) {
+                return false;
+            }
+            all_weigh(kinds, rest, stays)
+        }
+    }
+}
+
+// Whether some place has to be positive or negative.
+fn some_counts(kinds: &[Kind], places: &[(usize, Sign)]) -> bool
+    requires { AreInside (length kinds.now) places.now }
+    ensures { IsTrue result → SomeCounts kinds.now places.now }
+{
+    match places {
+        [] => false,
+        [p, rest @ ..] => {
+            if counts(kinds[p.0], p.1) {
+                return true;
+            }
+            some_counts(kinds, rest)
+        }
+    }
+}
+
+// The entries of a column.
+fn column_of(alloc: Global, matrix: &Matrix, col: usize) -> Result<Ints, NoMemory>
+    requires { col < matrix.now.cols }
+    ensures column { IfOk result (λ made. made.list ≡ column matrix.now.rows col) }
+    ensures small { IfOk result (λ made. AreWithin MAX_AMOUNT made.list) }
+{
+    let mut made = Ints::with_room(alloc, matrix.rows())?;
+    for row in 0..matrix.rows() {
+        made.push(matrix.entry(row, col))?;
+    }
+    Ok(made)
+}
+
+// The sign of the list (-uA, u) at a coordinate.
+fn sign_at(alloc: Global, matrix: &Matrix, u: &[i128], c: usize) -> Result<Sign, NoMemory>
+    requires long { length u.now ≡ length matrix.now.rows }
+    requires small { (k : ℕ) → unsigned_abs (entry u.now k) < WIDE_ENTRY }
+    requires inside { c < width matrix.now }
+    ensures { (w : List ℤ) → InDualSpace matrix.now w → drop matrix.now.cols w ≡ u.now
+        → IfOk result (λ s. HasSign s (entry w c)) }
+{
+    let cols = matrix.cols();
+    let _ = matrix.rows();
+    if c < cols {
+        let column = column_of(alloc, matrix, c)?;
+        return Ok(opposite(sign_of(dot(u, column.as_slice()))));
+    }
+    Ok(sign_of(u[c - cols]))
+}
+
+// Adds a place with its sign, unless the sign is zero.
+fn note(places: &mut Vec<(usize, Sign)>, c: usize, sign: Sign) -> Result<(), NoMemory>
+    ensures signs { OnOk result ((w : List ℤ) → SignsBefore c places.old.items w
+        → HasSign sign (entry w c) → SignsBefore (c + 1) places.new.items w) }
+    ensures inside { OnOk result ((n : ℕ) → AreInside n places.old.items → c < n
+        → AreInside n places.new.items) }
+{
+    match sign {
+        Sign::Zero => Ok(()),
+        _ => {
+            places.push((c, sign))?;
+            Ok(())
+        }
+    }
+}
+
+// The places and signs of the list (-uA, u).
+fn places_of(alloc: Global, matrix: &Matrix, u: &[i128]) -> Result<Vec<(usize, Sign)>, NoMemory>
+    requires long { length u.now ≡ length matrix.now.rows }
+    requires small { (k : ℕ) → unsigned_abs (entry u.now k) < WIDE_ENTRY }
+    ensures inside { IfOk result (λ made. AreInside (width matrix.now) made.items) }
+    ensures signs { (w : List ℤ) → InDualSpace matrix.now w → drop matrix.now.cols w ≡ u.now
+        → IfOk result (λ made. SignsBefore (width matrix.now) made.items w) }
+{
+    let mut places = Vec::new(alloc);
+    for c in 0..matrix.cols() + matrix.rows() {
+        let sign = sign_at(alloc, matrix, u, c)?;
+        note(&mut places, c, sign)?;
+    }
+    Ok(places)
+}
+
+// The number or its negative.
+fn number_of_multiple(x: &i128, stays: bool) -> i128
+    requires { unsigned_abs x.now < WIDE_ENTRY }
+    ensures { result ≡ factor stays *ℤ x.now }
+{
+    if stays { *x } else { -*x }
+}
+
+// The numbers or their negatives.
+fn multiple(alloc: Global, list: &[i128], stays: bool) -> Result<Ints, NoMemory>
+    requires { (k : ℕ) → unsigned_abs (entry list.now k) < WIDE_ENTRY }
+    ensures { IfOk result (λ made. made.list ≡ scale (factor stays) list.now) }
+{
+    let mut made = Ints::with_room(alloc, list.len())?;
+    for x in list {
+        made.push(number_of_multiple(x, stays))?;
+    }
+    Ok(made)
+}
+
+impl Past {
+    /// Keeps multipliers that rule a system of the matrix out.
+    pub fn new(
+        alloc: Global,
+        matrix: &Matrix,
+        kinds: &[Kind],
+        u: &Ints,
+        depth: usize,
+    ) -> Result<Past, NoMemory>
+        requires { IsSmallCut matrix.now kinds.now u.now.list }
+        ensures { IfOk result (λ made. IsPast matrix.now made.multipliers.list made.places.items) }
+    {
+        Ok(Past {
+            multipliers: u.copy()?,
+            places: places_of(alloc, matrix, u.as_slice())?,
+            depth,
+        })
+    }
+
+    // Whether the list, or its negative, rules the system of these kinds out.
+    fn rules_out(&self, kinds: &[Kind], stays: bool) -> bool
+        requires { AreInside (length kinds.now) self.now.places.items }
+        ensures weigh { IsTrue result → AllWeigh kinds.now stays self.now.places.items }
+        ensures some { IsTrue result → SomeCounts kinds.now self.now.places.items }
+    {
+        all_weigh(kinds, &self.places, stays) && some_counts(kinds, &self.places)
+    }
+
+    /// The multipliers, or their negatives, if they rule the system of these kinds out.
+    pub fn again(
+        &self,
+        alloc: Global,
+        matrix: &Matrix,
+        kinds: &[Kind],
+    ) -> Result<Option<Ints>, NoMemory>
+        requires past { IsPast matrix.now self.now.multipliers.list self.now.places.items }
+        requires kinds { length kinds.now ≡ width matrix.now }
+        ensures { IfOk result (λ o. MatchOption o (Unit {0})
+            (λ u. IsSmallCut matrix.now kinds.now u.list)) }
+    {
+        if self.rules_out(kinds, true) {
+            let u = multiple(alloc, self.multipliers.as_slice(), true)?;
+            return Ok(Some(u));
+        }
+        if self.rules_out(kinds, false) {
+            let u = multiple(alloc, self.multipliers.as_slice(), false)?;
+            return Ok(Some(u));
+        }
+        Ok(None)
+    }
+}
