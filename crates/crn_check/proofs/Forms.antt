@@ -1,5 +1,6 @@
 -- What the form of an answer gives for the tests of its question, and for what is kept of it.
 use Rattle.std.proofs.Common.{◌≡◌, inl, inr, ◌==◌, true, false, ℕ, List, [], ◌∷◌, ◌++◌, length, map, refl, sym, ap, subst, ◌∙◌}
+use Rattle.std.specs.List.{AllByRecursion}
 use Rattle.std.proofs.lemmas.Bool.{cases_eq, eq-eqb, ne_eqb}
 use Rattle.std.proofs.lemmas.List.{append-nil, append_assoc}
 use Rattle.crn_vec.specs.Network.{Net}
@@ -13,9 +14,11 @@ use Rattle.crn_cert.specs.Questions.{Earlier, Question, Q1, Q2, Q3, Q4, Q5, Q6, 
 use Rattle.crn_cert.specs.Valid.{strong}
 use Rattle.crn_cert.specs.Formed.{HeadMayBe, RowsMayBe, RowsLinkage, RowsStrong, RowsReversible, RowsWeak, IsFormed}
 use Rattle.crn_cert.specs.FormedVerdicts.{IsFormedVerdict, AreFormedVerdicts}
+use Rattle.crn_cert.specs.Law.{IsTrueOrOpen}
 use Rattle.crn_check.specs.Check.{IsBuilt}
 use Rattle.crn_check.specs.Verdicts.{tight}
 use Rattle.crn_check.specs.Facts.{KeptFacts, AreFactsOf, asked, HoldsOn}
+use Rattle.crn_check.proofs.Spares.{true_tight}
 
 rows_linkage : (net : Net) (e : Earlier) (v : Verdict) (p : Proof) → HeadMayBe net e Q1 v → RowsMayBe net e Q1 v p → RowsLinkage net v p
 rows_linkage net e (Unknown (Wide system class index basis)) p h r = absurd h
@@ -79,6 +82,11 @@ formed_push : (net : Net) (before es : Earlier) (q : Question) (v : Verdict) →
 formed_push net before [] q v h f = (subst (λ (x : Earlier). IsFormedVerdict net x q v) (append-nil before) f, tt)
 formed_push net before (e ∷ es) q v h f = (h.0, formed_push net (before ++ e ∷ []) es q v h.1 (subst (λ (x : Earlier). IsFormedVerdict net x q v) (sym (append_assoc before (e ∷ []) es)) f))
 
+-- verdicts that are true or open, and one more
+sound_push : (net : Net) (es : Earlier) (q : Question) (v : Verdict) → AllByRecursion (λ (e : Question × Verdict). IsTrueOrOpen net e.0 e.1) es → IsTrueOrOpen net q v → AllByRecursion (λ (e : Question × Verdict). IsTrueOrOpen net e.0 e.1) (es ++ (q, v) ∷ [])
+sound_push net [] q v h t = (t, tt)
+sound_push net (e ∷ es) q v h t = (h.0, sound_push net es q v h.1 t)
+
 -- ---- facts with the verdict of an answer
 
 tight_formed : (net : Net) (e : Earlier) (n : ℕ) (a : Answer) → IsBuilt n → IsFormed net e (asked n) a → IsFormedVerdict net e (asked n) (tight a.verdict)
@@ -96,10 +104,11 @@ tight_formed net e n a (inr (inr (inr (inl is)))) f =
     subst (λ (m : ℕ). IsFormedVerdict net e (asked m) (tight a.verdict)) (sym is) (tight_weak net e a.verdict a.proof g.0 (rows_weak net e a.verdict a.proof g.0 g.1))
 tight_formed net e n a (inr (inr (inr (inr none)))) f = absurd none
 
-pub facts_push : (net : Net) (old new : KeptFacts) (n : ℕ) (a : Answer) → IsBuilt n → AreFactsOf net old → IsFormed net old.earlier (asked n) a → new.earlier ≡ old.earlier ++ (asked n, tight a.verdict) ∷ [] → new.room ≡ old.room → AreFactsOf net new
-facts_push net old new n a built h f e room = record {
+pub facts_push : (net : Net) (old new : KeptFacts) (n : ℕ) (a : Answer) → IsBuilt n → AreFactsOf net old → IsFormed net old.earlier (asked n) a → new.earlier ≡ old.earlier ++ (asked n, tight a.verdict) ∷ [] → new.room ≡ old.room → IsTrueOrOpen net (asked n) a.verdict → AreFactsOf net new
+facts_push net old new n a built h f e room t = record {
   room = room ∙ h.room;
   formed = subst (λ (es : Earlier). AreFormedVerdicts net [] (asks es) (says es)) (sym e) (formed_push net [] old.earlier (asked n) (tight a.verdict) h.formed (tight_formed net old.earlier n a built f));
+  sound = subst (AllByRecursion (λ (e : Question × Verdict). IsTrueOrOpen net e.0 e.1)) (sym e) (sound_push net old.earlier (asked n) (tight a.verdict) h.sound (true_tight net (asked n) a.verdict t));
 }
 
 -- ---- the verdict that facts hold on a question
@@ -121,7 +130,7 @@ question_of Q13 = refl
 question_of Q14 = refl
 question_of Q15 = refl
 
-same_question : (q r : Question) → number q ≡ number r → q ≡ r
+pub same_question : (q r : Question) → number q ≡ number r → q ≡ r
 same_question q r is = sym (question_of q) ∙ ap asked is ∙ question_of r
 
 -- a verdict that is held has a form that its question admits

@@ -5,6 +5,7 @@ mod Numbering
 mod Counted
 mod Leaving
 mod Kept
-mod Forms
 mod Spares
+mod Forms
+mod Truths
 mod Asked

@@ -1,4 +1,4 @@
--- The form and the tests of an answer do not depend on spares of lists.
+-- The form, the tests and the truth of an answer do not depend on spares of lists.
 use Rattle.std.proofs.Common.{◌≡◌, ◌↔◌, ◌==◌, Bool, true, false, if◌then◌else◌, inl, inr, List, [], ◌∷◌, refl, sym, ap, subst, ◌∙◌}
 use Rattle.crn_vec.specs.Lists.{IsIn}
 use Rattle.crn_vec.specs.Network.{Net}
@@ -8,10 +8,11 @@ use Rattle.crn_cert.specs.declared.answer.Verdict.TheVariants.{Classes, Strong, 
 use Rattle.crn_cert.specs.declared.answer.Proof.{Proof}
 use Rattle.crn_cert.specs.declared.answer.Proof.TheVariants.{Nothing, Forest, Strong as StrongTrees, Back}
 use Rattle.crn_cert.specs.Built.{built}
-use Rattle.crn_cert.specs.Questions.{Earlier, Question, Q1, Q2, Q3, Q4, number, on, labels_of}
+use Rattle.crn_cert.specs.Questions.{Earlier, Question, Q1, Q2, Q3, Q4, Q5, Q6, Q7, Q8, Q9, Q10, Q11, Q12, Q13, Q14, Q15, number, on, labels_of}
 use Rattle.crn_cert.specs.Tests.{Test, AllHold, FailsFirst}
 use Rattle.crn_cert.specs.Formed.{IsFormedOf}
 use Rattle.crn_cert.specs.Valid.{head_tests, row_tests, strong}
+use Rattle.crn_cert.specs.Law.{IsTrueOrOpen}
 use Rattle.crn_check.specs.Verdicts.{tight, tight_proof, all_tight}
 use Rattle.crn_check.specs.Law.{AreAlike, ChecksSeeNoSpares}
 
@@ -119,6 +120,27 @@ formed_tight net es q v p (inr (inl is)) = rw is (forms_2 net es v p)
 formed_tight net es q v p (inr (inr (inl is))) = rw is (forms_3 net es v p)
 formed_tight net es q v p (inr (inr (inr (inl is)))) = rw is (forms_4 net es v p)
 formed_tight net es q v p (inr (inr (inr (inr none)))) = absurd none
+
+-- ---- truth
+
+-- a verdict stays true or open without its spares
+pub true_tight : (net : Net) (q : Question) (v : Verdict) → IsTrueOrOpen net q v → IsTrueOrOpen net q (tight v)
+true_tight net q (Unknown gap) h = tt
+true_tight net Q1 v h = h
+true_tight net Q2 v h = h
+true_tight net Q3 v h = h
+true_tight net Q4 v h = h
+true_tight net Q5 v h = h
+true_tight net Q6 v h = h
+true_tight net Q7 v h = h
+true_tight net Q8 v h = h
+true_tight net Q9 v h = h
+true_tight net Q10 v h = h
+true_tight net Q11 v h = h
+true_tight net Q12 v h = h
+true_tight net Q13 v h = h
+true_tight net Q14 v h = h
+true_tight net Q15 v h = h
 
 -- ---- the law
 

@@ -8,6 +8,7 @@ use Rattle.crn_vec.specs.Network.{Net}
 use Rattle.crn_vec.specs.Kept.{KeptNums}
 use Rattle.crn_cert.specs.Questions.{Earlier, Question, Q15, questions, number}
 use Rattle.crn_cert.specs.FormedVerdicts.{AreFormedVerdicts}
+use Rattle.crn_cert.specs.Law.{IsTrueOrOpen}
 
 -- the accepted verdicts, each with its question, and the number of complexes for which there is room
 pub record KeptFacts : Type 0 where
@@ -27,11 +28,12 @@ abbrev pub HoldsNoneFrom : ℕ → Earlier → Type 0
 HoldsNoneFrom n earlier = AllByRecursion (λ e. number e.0 < n) earlier
 
 -- there is room for the verdicts on this network, and each that is held has a form that the network
--- admits
+-- admits, and is true of the network or open
 pub record AreFactsOf (net : Net) (facts : KeptFacts) : Type 0 where
   pub room : facts.room ≡ length net.complexes
   pub formed : AreFormedVerdicts net [] (map (λ e. e.0) facts.earlier)
       (map (λ e. e.1) facts.earlier)
+  pub sound : AllByRecursion (λ e. IsTrueOrOpen net e.0 e.1) facts.earlier
 
 -- numbers of questions above k, each less than the next
 abbrev pub AreInOrder : ℕ → List ℕ → Type 0

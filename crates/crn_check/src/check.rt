@@ -1,5 +1,6 @@
 ghost use Rattle.std.specs.Prelude.{◌≡◌, [], ◌∷◌, ◌++◌, OnOk, OnErr};
 ghost use Rattle.crn_cert.specs.Formed.{HeadMayBe, IsFormed};
+ghost use Rattle.crn_cert.specs.Law.{IsTrueOrOpen};
 ghost use Rattle.crn_cert.specs.Valid.{head_tests, row_tests, tests_of};
 ghost use Rattle.crn_check.specs.Verdicts.{tight};
 ghost use Rattle.crn_check.specs.Facts.{asked, HoldsNoneFrom, AreFactsOf};
@@ -7,6 +8,7 @@ ghost use Rattle.crn_check.specs.Check.{IsBuilt, HoldsNeeds, Judges};
 
 use crate::facts::Facts;
 use crate::fault::CheckFault;
+use crate::laws::meets_definition;
 use crate::linkage::check_linkage;
 use crate::reversible::{check_reverses, check_reversible_head};
 use crate::strong::check_strong;
@@ -57,7 +59,8 @@ fn check_rows(
     }
 }
 
-/// Whether the answer to a question is valid, and if it is, the facts hold its verdict. It takes no memory.
+/// Whether the answer to a question is valid. If it is, its verdict is true of the network or open, and the facts hold
+/// it. It takes no memory.
 ///
 /// Questions are counted from 1. The facts hold verdicts accepted for this network, on earlier questions only. The fault
 /// names the first test that fails, the tests of the head first.
@@ -74,11 +77,13 @@ pub fn check_answer(
     requires formed { IsFormed net.now facts.old.earlier (asked question) answer.now }
     ensures judged { let earlier = facts.old.earlier in
         Judges (tests_of net.now earlier (asked question) answer.now) result }
+    ensures sound { OnOk result (IsTrueOrOpen net.now (asked question) answer.now.verdict) }
     ensures kept { OnOk result (facts.new.earlier
         ≡ facts.old.earlier ++ (asked question, tight answer.now.verdict) ∷ []) }
     ensures same { OnErr result (facts.new ≡ facts.old) }
     ensures facts { AreFactsOf net.now facts.new }
 {
+    meets_definition(net);
     check_head(net, facts, question, &answer.verdict)?;
     check_rows(net, facts, question, answer)?;
     facts.accept(question, &answer.verdict);

@@ -1,0 +1,69 @@
+-- The verdict of a valid answer is true or open, if the facts are.
+use Rattle.std.proofs.Common.{◌≡◌, ◌==◌, true, false, inl, inr, ℕ, [], ◌∷◌, Ok, sym, subst}
+use Rattle.std.specs.List.{AllByRecursion}
+use Rattle.std.proofs.lemmas.Bool.{cases_eq, eq-eqb, ne_eqb}
+use Rattle.crn_vec.specs.Network.{Net, IsNetwork}
+use Rattle.crn_cert.specs.declared.answer.Answer.{Answer}
+use Rattle.crn_cert.specs.declared.answer.Gap.TheVariants.{Wide, Budget, Rests}
+use Rattle.crn_cert.specs.declared.answer.Verdict.{Verdict}
+use Rattle.crn_cert.specs.declared.answer.Verdict.TheVariants.{Unknown}
+use Rattle.crn_cert.specs.Questions.{Earlier, Question, Q2, number, on}
+use Rattle.crn_cert.specs.Says.{IsTrueOf}
+use Rattle.crn_cert.specs.Formed.{IsFormed}
+use Rattle.crn_cert.specs.FormedVerdicts.{IsFormedVerdict}
+use Rattle.crn_cert.specs.Valid.{head_tests, row_tests}
+use Rattle.crn_cert.specs.Tests.{AllHold}
+use Rattle.crn_cert.specs.Law.{IsTrueOrOpen, AreTrue, AreTrueOrOpen, known_for, rests_for}
+use Rattle.crn_cert.proofs.CallerLemmas.{valid_answers_are_true}
+use Rattle.crn_check.specs.Check.{IsBuilt, HoldsNeeds}
+use Rattle.crn_check.specs.Facts.{KeptFacts, AreFactsOf, asked, HoldsOn}
+use Rattle.crn_check.proofs.Judging.{judges_go}
+use Rattle.crn_check.proofs.Forms.{formed_on, same_question}
+
+-- a verdict that is held is true of its question or open
+sound_on : (net : Net) (es : Earlier) (q : Question) → AllByRecursion (λ (e : Question × Verdict). IsTrueOrOpen net e.0 e.1) es → HoldsOn es (number q) → IsTrueOrOpen net q (on es q)
+sound_on net [] q h held = absurd held
+sound_on net (e ∷ es) q h held = elim (cases_eq (number e.0) (number q)) [
+  | inl is ↦
+      let equal : (number e.0 == number q) ≡ true = eq-eqb _ _ is in
+      let first : IsTrueOrOpen net q e.1 = subst (λ (r : Question). IsTrueOrOpen net r e.1) (same_question e.0 q is) h.0 in
+      rw equal first
+  | inr other ↦
+      let differ : (number e.0 == number q) ≡ false = ne_eqb _ _ other in
+      let rest : HoldsOn es (number q) = elim held [ inl is ↦ absurd (other (sym is)) | inr later ↦ later ] in
+      rw differ (sound_on net es q h.1 rest)
+]
+
+-- a verdict on strong classes is not open
+strong_decided : (net : Net) (e : Earlier) (v : Verdict) → IsFormedVerdict net e Q2 v → IsTrueOrOpen net Q2 v → IsTrueOf net Q2 v
+strong_decided net e (Unknown (Wide system class index basis)) f h = absurd f.0
+strong_decided net e (Unknown (Budget nodes)) f h = absurd f.0
+strong_decided net e (Unknown (Rests question)) f h = absurd f.0
+strong_decided net e v f h = h
+
+strong_true : (net : Net) (facts : KeptFacts) → AreFactsOf net facts → HoldsOn facts.earlier 2 → IsTrueOf net Q2 (on facts.earlier Q2)
+strong_true net facts h held =
+    let f = formed_on net [] facts.earlier Q2 h.formed held in
+    strong_decided net f.0 (on facts.earlier Q2) f.1 (sound_on net facts.earlier Q2 h.sound held)
+
+-- the facts give what the law of a question requires
+knows : (net : Net) (facts : KeptFacts) (n : ℕ) → IsBuilt n → AreFactsOf net facts → HoldsNeeds facts.earlier n → AreTrue net (known_for (asked n)) facts.earlier
+knows net facts n (inl is) h needs = rw is tt
+knows net facts n (inr (inl is)) h needs = rw is tt
+knows net facts n (inr (inr (inl is))) h needs = rw is tt
+knows net facts n (inr (inr (inr (inl is)))) h needs =
+    let held : HoldsNeeds facts.earlier 4 = subst (HoldsNeeds facts.earlier) is needs in
+    rw is (strong_true net facts h held.0, tt)
+knows net facts n (inr (inr (inr (inr none)))) h needs = absurd none
+
+-- no question that is answered rests on an open one
+rests : (net : Net) (earlier : Earlier) (n : ℕ) → IsBuilt n → AreTrueOrOpen net (rests_for (asked n)) earlier
+rests net earlier n (inl is) = rw is tt
+rests net earlier n (inr (inl is)) = rw is tt
+rests net earlier n (inr (inr (inl is))) = rw is tt
+rests net earlier n (inr (inr (inr (inl is)))) = rw is tt
+rests net earlier n (inr (inr (inr (inr none)))) = absurd none
+
+pub answer_true : (net : Net) (facts : KeptFacts) (n : ℕ) (a : Answer) → IsNetwork net → IsBuilt n → AreFactsOf net facts → HoldsNeeds facts.earlier n → IsFormed net facts.earlier (asked n) a → AllHold (head_tests net facts.earlier (asked n) a.verdict) → AllHold (row_tests net facts.earlier (asked n) a.verdict a.proof) → IsTrueOrOpen net (asked n) a.verdict
+answer_true net facts n a network is h needs f head rows =
+    valid_answers_are_true (asked n) net facts.earlier a network (knows net facts n is h needs) (rests net facts.earlier n is) f (judges_go _ _ (Ok tt) head rows)
