@@ -19,7 +19,7 @@ pub use Rattle.crn_ctext.proofs.GoodLaws.{good_one, read_true, written_good, sha
 pub use Rattle.crn_ctext.proofs.AnswersLinked.{answers_formed, answers_valid, records_valid}
 pub use Rattle.crn_ctext.proofs.RecordsLinked.{records_answered}
 pub use Rattle.crn_ctext.proofs.TrueRecords.{records_true}
--- Equal documents are of equal networks, answers and shares, and of one version.
+-- If two documents are equal, so are their networks, answers and shares, and they are of one version.
 pub use Rattle.crn_ctext.proofs.DocumentsOne.{document_one, second_document_one, versions_apart}
 -- The text of a record with short numbers says it, and a line that says it is its text.
 pub use Rattle.crn_ctext.proofs.Texts.{AreShort, text_says, says_text}

@@ -1,4 +1,4 @@
--- Equal documents are of equal networks, equal formed answers and equal shares, and of one version.
+-- If two documents are equal, so are their networks, formed answers and shares, and they are of one version.
 use Rattle.std.proofs.Common.{◌≡◌, ◌+◌, ◌≤◌, ◌==◌, ◌++◌, ◌∙◌, ℕ, if◌then◌else◌, List, [], ◌∷◌, length, map, refl, sym, ap, ap₂, subst, inl, inr, append_assoc, arith}
 use Rattle.std.specs.Prelude.{ℤ, pos, Bool, true, false, codes, decimal, slice_index}
 use Rattle.std.specs.List.{AllByRecursion, AllZip}

@@ -54,7 +54,7 @@ same_answers net other answers others f g e r =
     let there : AreFormed net [] built others = subst (λ (x : Net). AreFormed x [] built others) (sym e) g in
     answers_same net answers others f there (r ∙ ap (λ (x : Net). records_of x others) (sym e))
 
--- equal documents are of answers that are the same
+-- if two documents are equal, their answers are the same
 pub answers_one : AnswersAreOne
 answers_one net other answers others n k f g e =
     let one = document_one net other (records_of net answers) (records_of other others) n k (answers_formed net answers f) (answers_formed other others g) e in

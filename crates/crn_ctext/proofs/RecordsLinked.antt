@@ -24,7 +24,7 @@ use Rattle.crn_ctext.specs.Documents as documents
 use Rattle.crn_ctext.specs.Answers.{small_record, head_with, head_of, records_below, proof_nodes, records, all_records}
 use Rattle.crn_ctext.specs.Meaning.{Known, shapes_of, sizes_of, verdict_of, learn_of, verdicts_said, meaning}
 use Rattle.crn_cert.specs.Built.{built}
-use Rattle.crn_ctext.specs.Linked.{verdicts_of}
+use Rattle.crn_cert.specs.Answers.{verdicts_of}
 use Rattle.crn_ctext.proofs.AnswersLinked.{back_again}
 
 -- ---- numbers

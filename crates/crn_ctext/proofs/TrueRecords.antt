@@ -13,7 +13,8 @@ use Rattle.crn_ctext.specs.Records.{Record}
 use Rattle.crn_ctext.specs.Documents as documents
 use Rattle.crn_ctext.specs.Meaning.{meaning, verdicts_said}
 use Rattle.crn_cert.specs.Built.{built}
-use Rattle.crn_ctext.specs.Linked.{verdicts_of, AreSound}
+use Rattle.crn_cert.specs.Answers.{verdicts_of}
+use Rattle.crn_ctext.specs.Linked.{AreSound}
 use Rattle.crn_ctext.proofs.ShortAnswers.{valid_are_formed}
 use Rattle.crn_ctext.proofs.AnswersLinked.{records_valid}
 use Rattle.crn_ctext.proofs.RecordsLinked.{records_answered}

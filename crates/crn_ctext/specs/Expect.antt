@@ -108,7 +108,7 @@ question_of k = slice_index_or questions (k - 1) Q1
 abbrev pub section_names : List (List ℕ)
 section_names = flat_map opens questions
 
--- the words of records whose numbers are free
+-- the words of rows below a head whose numbers are free
 abbrev pub free_words : List (List ℕ)
 free_words =
     codes "dual" ∷ codes "comb" ∷ codes "vec" ∷ codes "cut" ∷ codes "tie" ∷ codes "mu" ∷ codes "m"

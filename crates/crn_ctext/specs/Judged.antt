@@ -31,7 +31,7 @@ AreFormedOf net answers = AreFormed meaning built (meaning.start net) answers
 
 -- ---- laws
 
--- equal documents are of equal networks and equal formed answers
+-- if two documents are equal, so are their networks and formed answers
 abbrev pub DocumentsAreOne : Type 0
 DocumentsAreOne =
     (net other : Net) (answers others : List (List Record)) → IsNetwork net → IsNetwork other
@@ -44,7 +44,7 @@ VersionsAreApart =
     (net other : Net) (answers others : List (List Record)) (share : Share)
     → document net answers ≡ document2 built other others share → ⊥
 
--- equal documents with shared lists are of equal networks, equal formed answers and equal shares
+-- if two documents with shared lists are equal, so are their networks, formed answers and shares
 abbrev pub SharedDocumentsAreOne : Type 0
 SharedDocumentsAreOne =
     (net other : Net) (answers others : List (List Record)) (share another : Share)

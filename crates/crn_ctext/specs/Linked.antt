@@ -1,10 +1,11 @@
 -- Answers and their records: what is asked of the one is asked of the other.
 -- Source: this project's own.
-use Rattle.std.specs.Prelude.{◌≡◌, ◌↔◌, ℕ, List, [], ◌∷◌, map}
+use Rattle.std.specs.Prelude.{◌≡◌, ◌↔◌, ℕ, List, [], ◌∷◌}
 use Rattle.crn_vec.specs.Network.{Net, IsNetwork}
 use Rattle.crn_cert.specs.declared.answer.Verdict.{Verdict}
 use Rattle.crn_cert.specs.declared.answer.Answer.{Answer}
 use Rattle.crn_cert.specs.Questions.{Question}
+use Rattle.crn_cert.specs.Answers.{verdicts_of}
 use Rattle.crn_cert.specs.Law.{IsTrueOrOpen}
 use Rattle.crn_cert.specs.Formed.{AreFormed}
 use Rattle.crn_cert.specs.Valid.{AreValid}
@@ -34,10 +35,6 @@ ValidAnswersHaveValidRecords =
     (net : Net) (answers : List Answer) → AreFormed net [] built answers
     → AreValid net [] built answers
     ↔ documents.AreValid meaning built (meaning.start net) (records_of net answers)
-
--- the verdicts of the answers
-abbrev pub verdicts_of : List Answer → List Verdict
-verdicts_of answers = map (λ (a : Answer). a.verdict) answers
 
 -- formed records are those of formed answers, whose verdicts are the ones that the records say
 abbrev pub FormedRecordsAreOfAnswers : Type 0
@@ -83,7 +80,7 @@ abbrev pub SharesFit : Type 0
 SharesFit = (net : Net) (answers : List Answer) → AreFormed net [] built answers
     → FitsShare (records_of net answers) (share_of (records_of net answers))
 
--- equal documents of formed answers are of equal networks and of answers that are the same
+-- if documents of formed answers are equal, so are their networks, and the answers are the same
 abbrev pub AnswersAreOne : Type 0
 AnswersAreOne =
     (net other : Net) (answers others : List Answer) → IsNetwork net → IsNetwork other

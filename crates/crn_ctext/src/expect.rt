@@ -12,7 +12,7 @@ pub struct Sizes<'a> {
     pub pairs: u32,
     /// Of each linkage class in order, how many reactions it has.
     pub class_reactions: &'a [u32],
-    /// Whether question 12 is a yes.
+    /// Whether the answer to question 12 gives a confluence vector.
     pub vector: bool,
 }
 

@@ -1,12 +1,14 @@
-ghost use Rattle.std.specs.Prelude.{◌≡◌, ◌↔◌, ◌⊎◌, IsTrue, true};
+ghost use Rattle.std.specs.Prelude.{◌≡◌, ◌↔◌, ◌⊎◌, IsTrue};
 ghost use Rattle.crn_vec.specs.Lists.{IsIn, AreDistinct};
+ghost use Rattle.crn_ctext.specs.Kinds.{known_words};
 ghost use Rattle.crn_ctext.specs.Expect.{texts};
-ghost use Rattle.crn_ctext.specs.Inner.Rows.{are_told_apart, is_row_of, words_of, asked_words, IsTable};
+ghost use Rattle.crn_ctext.specs.Inner.Rows.{is_row_of, words_of, asked_words, IsTable};
 
 use crate::word::Word;
 
 // The table of record kinds, and what is made from it: an expression with an arm or a row for each kind. A row has the
-// word, the first version that has it, whether it is a word of trees, and whether its numbers are free.
+// word, the first version that has it, whether it is a word of trees, and whether the numbers of a record of this kind,
+// below a head, are free. Nodes of trees and shared lists are not asked.
 macro_rules! kinds {
     (@text $word:expr; $($kind:ident $text:literal $version:literal $tree:literal $free:literal)*) => {
         match $word {
@@ -91,7 +93,7 @@ pub struct Kind {
     pub version: u32,
     /// Whether it is a node of a tree.
     pub tree: bool,
-    /// Whether the numbers of a row of this kind are free.
+    /// Whether the numbers of a row of this kind, below a head, are free. Nodes of trees and shared lists are not asked.
     pub free: bool,
 }
 
@@ -139,19 +141,14 @@ impl<const N: usize> Kinds<N> {
     }
 }
 
-// The test, where it is known to hold.
-fn tell_apart(kinds: &Kinds<48>) -> bool
-    requires { are_told_apart (texts kinds.now.rows) ≡ true }
-    ensures { IsTrue result }
-{
-    kinds.distinct()
-}
-
-/// The words of the record kinds are pairwise distinct.
+/// Whether the words of `KINDS` are pairwise distinct. They are those of version 2 in their order,
+/// and the answer is a yes.
 pub fn kinds_are_distinct() -> bool
-    ensures { IsTrue result }
+    ensures yes { IsTrue result }
+    ensures distinct { AreDistinct (texts KINDS.rows) }
+    ensures words { texts KINDS.rows ≡ known_words 2 }
 {
-    tell_apart(&KINDS)
+    KINDS.distinct()
 }
 
 // Whether the kind is one of this version, and of a tree if only those are asked for.

@@ -2,7 +2,6 @@
 -- The words of a table of record kinds.
 -- Source: this project's own.
 use Rattle.std.specs.Prelude.{◌≡◌, ℕ, Bool, true, false, ◌&&◌, ◌||◌, not, nat_le, if◌then◌else◌, List, [], ◌∷◌}
-use Rattle.std.specs.Str.{bytes_eq}
 use Rattle.crn_ctext.specs.Kinds.{tree_words, known_words}
 use Rattle.crn_ctext.specs.Expect.{text_of}
 use Rattle.crn_ctext.specs.declared.kinds.Kind.{Kind}
@@ -28,13 +27,3 @@ pub record IsTable (rows : List Kind) : Type 0 where
   pub second : words_of 2 false rows ≡ known_words 2
   pub first_trees : words_of 1 true rows ≡ tree_words 1
   pub second_trees : words_of 2 true rows ≡ tree_words 2
-
--- a word is among these
-abbrev pub is_among : List ℕ → List (List ℕ) → Bool
-is_among w [] = false
-is_among w (x ∷ xs) = if bytes_eq w x then true else is_among w xs
-
--- no two words are one
-abbrev pub are_told_apart : List (List ℕ) → Bool
-are_told_apart [] = true
-are_told_apart (w ∷ ws) = not (is_among w ws) && are_told_apart ws
