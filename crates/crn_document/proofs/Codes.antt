@@ -1,0 +1,275 @@
+-- The codes under which the tests of a document fail are numbers of kinds of faults.
+use Rattle.std.proofs.Common.{◌≤◌, ◌+◌, ◌++◌, ℕ, zero, suc, Bool, true, false, ◌==◌, List, [], ◌∷◌, length, map, sym, subst, inl, inr, arith, Result, Ok, Err}
+use Rattle.std.specs.Prelude.{ℤ, replicate, if◌then◌else◌}
+use Rattle.crn_io.specs.Device.{SourceSeen}
+use Rattle.crn_io.specs.Lines.{Place, BreaksLine, document_too_long, line_too_long, otherwise, LacksLine, HasMore, early, beginning}
+use Rattle.crn_vec.specs.Network.{Net}
+use Rattle.crn_cert.specs.Built.{built}
+use Rattle.crn_cert.specs.Questions.{Earlier, Question, Q1, Q2, Q3, Q4}
+use Rattle.crn_cert.specs.Tests.{Test as Claim}
+use Rattle.crn_cert.specs.Valid.{linkage_rows, reversible_head, reversible_rows, strong_rows, weak_head}
+use Rattle.crn_cert.specs.declared.answer.Gap.{Gap}
+use Rattle.crn_cert.specs.declared.answer.Verdict.TheVariants.{Unknown}
+use Rattle.crn_cert.specs.declared.answer.Proof.TheVariants.{Nothing}
+use Rattle.crn_ctext.specs.Records.{Record, Form}
+use Rattle.crn_ctext.specs.Kinds.{end_form, section_form, table_form, vector_form}
+use Rattle.crn_ctext.specs.Questions.{Shapes, first_number, heads}
+use Rattle.crn_ctext.specs.Course.{Course, Give, Line, Test, End, ◌>>=◌, FailsFirst, due, ends, find, test}
+use Rattle.crn_ctext.specs.Blocks.{Behind, IsNetworkOf, asks, asks_all, asks_block, asks_blocks, asks_lines, asks_table, asks_trees, behind_sections, below, claims, either, has_tree, head_claims, is_open, lists_of, place_of, problems, row_claims, sections, unless}
+use Rattle.crn_ctext.specs.Meaning.{Known, gap_of, head_claims_of, meaning, proof_by, row_claims_of, shapes_of, sizes_of, verdict_by}
+use Rattle.crn_document.specs.Check.{CheckGives, HasFaultNumber, IsFaultNumber}
+use Rattle.crn_document.specs.declared.check.Accepted.{Accepted}
+use Rattle.crn_document.specs.declared.stop.CheckStop.{CheckStop}
+use Rattle.crn_document.specs.declared.stop.CheckStop.TheVariants as stop
+use Rattle.crn_document.specs.Inner.Blocks.{behind_at}
+use Rattle.crn_document.specs.Inner.Courses.{last_course, whole_course}
+use Rattle.crn_document.specs.Inner.Ending.{ends_with}
+use Rattle.crn_document.specs.Inner.Opening.{IsTitleOf, SaysCount, count_course, title_course}
+use Rattle.crn_document.proofs.Bodies.{after_table}
+use Rattle.crn_document.proofs.Documents.{after_count, after_network, after_title}
+
+-- ---- courses
+
+-- each test has the number of a kind of faults
+unfoldable pub IsNumbered : {A : Type 0} → Course A → Type 0
+IsNumbered (Give x) = Unit {0}
+IsNumbered (Line node next) = (line : List ℕ) → IsNumbered (next line)
+IsNumbered (Test n c X P next) = IsFaultNumber c × ((x : X) → IsNumbered (next x))
+IsNumbered (End next) = IsNumbered next
+
+from_21 : (code : ℕ) → 21 ≤ code → code ≤ 37 → IsFaultNumber code
+from_21 code a b = inl (a, b)
+
+from_41 : (code : ℕ) → 41 ≤ code → code ≤ 46 → IsFaultNumber code
+from_41 code a b = inr (a, b)
+
+early_numbered : (node : Bool) → IsFaultNumber (early node)
+early_numbered true = from_41 43 (omega arith) (omega arith)
+early_numbered false = from_21 27 (omega arith) (omega arith)
+
+break_numbered : (at : Place) (last : ℕ) (Other : Type 0) (code : ℕ) → IsFaultNumber last → BreaksLine at last Other code → IsFaultNumber code
+break_numbered at last Other code n (document_too_long d) = from_21 29 (omega arith) (omega arith)
+break_numbered at last Other code n (line_too_long d l) = from_21 30 (omega arith) (omega arith)
+break_numbered at last Other code n (otherwise d l o) = n
+
+pub fault_numbered : {A : Type 0} (c : Course A) → IsNumbered c → (at : Place) (n code : ℕ) → FailsFirst c at n code → IsFaultNumber code
+unfolding IsNumbered FailsFirst
+fault_numbered (Give x) h at n code f = absurd f
+fault_numbered (Line node next) h at n code (inl f) = break_numbered at (early node) (LacksLine at) code (early_numbered node) f.1
+fault_numbered (Line node next) h at n code (inr f) = fault_numbered (next f.0) (h f.0) f.1 n code f.3
+fault_numbered (Test m c X P next) h at n code (inl f) = subst IsFaultNumber (sym f.1) h.0
+fault_numbered (Test m c X P next) h at n code (inr f) = fault_numbered (next f.0) (h.1 f.0) at n code f.2
+fault_numbered (End next) h at n code (inl f) = break_numbered at 28 (HasMore at) code (from_21 28 (omega arith) (omega arith)) f.1
+fault_numbered (End next) h at n code (inr f) = fault_numbered next h at n code f.1
+
+numbered_then : {A B : Type 0} (c : Course A) (f : A → Course B) → IsNumbered c → ((x : A) → IsNumbered (f x)) → IsNumbered (c >>= f)
+unfolding IsNumbered
+numbered_then (Give x) f p q = q x
+numbered_then (Line node next) f p q = λ line. numbered_then (next line) f (p line) q
+numbered_then (Test n c X P next) f p q = (p.0, λ x. numbered_then (next x) f (p.1 x) q)
+numbered_then (End next) f p q = numbered_then next f p q
+
+give_numbered : {A : Type 0} (x : A) → IsNumbered (Give x)
+unfolding IsNumbered
+give_numbered x = tt
+
+due_numbered : (node : Bool) → IsNumbered (due node)
+unfolding IsNumbered
+due_numbered node = λ line. tt
+
+find_numbered : (n code : ℕ) (X : Type 0) (P : X → Type 0) → IsFaultNumber code → IsNumbered (find n code X P)
+unfolding IsNumbered
+find_numbered n code X P c = (c, λ x. tt)
+
+ends_numbered : IsNumbered ends
+unfolding IsNumbered
+ends_numbered = tt
+
+-- ---- records
+
+asks_numbered : (version n : ℕ) (after : Bool) (forms : List Form) → IsNumbered (asks version n after forms)
+unfolding IsNumbered
+asks_numbered version n after forms = λ line. (
+  from_21 23 (omega arith) (omega arith),
+  λ word. (
+    from_41 44 (omega arith) (omega arith),
+    λ x. (
+      from_21 26 (omega arith) (omega arith),
+      λ y. (
+        from_21 24 (omega arith) (omega arith),
+        λ z. (from_21 25 (omega arith) (omega arith), λ r. tt),
+      ),
+    ),
+  ),
+)
+
+all_numbered : (version n : ℕ) (after : Bool) (forms : List Form) → IsNumbered (asks_all version n after forms)
+unfolding asks_all
+all_numbered version n after [] = give_numbered []
+all_numbered version n after (form ∷ forms) =
+    numbered_then (asks version n after (form ∷ [])) (λ r. asks_all version (n + 1) false forms >>= (λ rs. Give (r ∷ rs))) (asks_numbered version n after (form ∷ []))
+    (λ r. numbered_then (asks_all version (n + 1) false forms) (λ rs. Give (r ∷ rs)) (all_numbered version (n + 1) false forms) (λ rs. give_numbered (r ∷ rs)))
+
+-- ---- tests of meaning
+
+-- each claim has the number of a kind of faults
+abbrev AreNumbered : List {1} Claim → Type 0
+AreNumbered [] = Unit {0}
+AreNumbered (c ∷ cs) = IsFaultNumber c.code × AreNumbered cs
+
+unless_numbered : (t : Bool) (cs : List {1} Claim) → AreNumbered cs → AreNumbered (unless t cs)
+unless_numbered true cs p = tt
+unless_numbered false cs p = p
+
+claims_numbered : (n : ℕ) (cs : List {1} Claim) → AreNumbered cs → IsNumbered (claims n cs)
+unfolding claims
+claims_numbered n [] p = give_numbered tt
+claims_numbered n (c ∷ cs) p = numbered_then (test (n + c.part) c.code c.holds) (λ x. claims n cs) (find_numbered (n + c.part) c.code (Unit {0}) (λ x. c.holds) p.0) (λ x. claims_numbered n cs p.1)
+
+-- so have the tests of a question
+record IsNumberedFor (q : Question) : Type 0 where
+  pub head : (known : Known) (h : Record) → AreNumbered (head_claims_of q known h)
+  pub rows : (known : Known) (h : Record) (rs : List Record) → AreNumbered (row_claims_of q known h rs)
+
+-- and those of these questions
+abbrev AreNumberedFor : List Question → Type 0
+AreNumberedFor [] = Unit {0}
+AreNumberedFor (q ∷ qs) = IsNumberedFor q × AreNumberedFor qs
+
+of_31 : IsFaultNumber 31
+of_31 = from_21 31 (omega arith) (omega arith)
+
+of_37 : IsFaultNumber 37
+of_37 = from_21 37 (omega arith) (omega arith)
+
+linkage_numbered : (net : Net) (s : Shapes) (t : Bool) (g : Gap) (place : ℕ) (n : List ℤ) (rs : List Record) → AreNumbered (linkage_rows net (if t then Unknown g else verdict_by Q1 place n rs) (if t then Nothing else proof_by Q1 s place n rs))
+linkage_numbered net s true g place n rs = tt
+linkage_numbered net s false g zero n rs = tt
+linkage_numbered net s false g (suc zero) n rs = (of_31, (of_31, tt))
+linkage_numbered net s false g (suc (suc k)) n rs = tt
+
+strong_numbered : (net : Net) (s : Shapes) (t : Bool) (g : Gap) (place : ℕ) (n : List ℤ) (rs : List Record) → AreNumbered (strong_rows net (if t then Unknown g else verdict_by Q2 place n rs) (if t then Nothing else proof_by Q2 s place n rs))
+strong_numbered net s true g place n rs = tt
+strong_numbered net s false g zero n rs = tt
+strong_numbered net s false g (suc zero) n rs = (of_31, (of_31, (of_31, (of_31, (of_31, (from_21 36 (omega arith) (omega arith), tt))))))
+strong_numbered net s false g (suc (suc k)) n rs = tt
+
+reversible_head_numbered : (net : Net) (t : Bool) (g : Gap) (place : ℕ) (n : List ℤ) → AreNumbered (reversible_head net (if t then Unknown g else verdict_by Q3 place n []))
+reversible_head_numbered net true g place n = tt
+reversible_head_numbered net false g zero n = tt
+reversible_head_numbered net false g (suc zero) n = tt
+reversible_head_numbered net false g (suc (suc zero)) n = (of_37, tt)
+reversible_head_numbered net false g (suc (suc (suc k))) n = tt
+
+reversible_numbered : (net : Net) (s : Shapes) (t : Bool) (g : Gap) (place : ℕ) (n : List ℤ) (rs : List Record) → AreNumbered (reversible_rows net (if t then Unknown g else verdict_by Q3 place n rs) (if t then Nothing else proof_by Q3 s place n rs))
+reversible_numbered net s true g place n rs = tt
+reversible_numbered net s false g zero n rs = tt
+reversible_numbered net s false g (suc zero) n rs = (from_21 32 (omega arith) (omega arith), tt)
+reversible_numbered net s false g (suc (suc zero)) n rs = tt
+reversible_numbered net s false g (suc (suc (suc k))) n rs = tt
+
+weak_numbered : (net : Net) (earlier : Earlier) (t : Bool) (g : Gap) (place : ℕ) (n : List ℤ) → AreNumbered (weak_head net earlier (if t then Unknown g else verdict_by Q4 place n []))
+weak_numbered net earlier true g place n = tt
+weak_numbered net earlier false g zero n = tt
+weak_numbered net earlier false g (suc zero) n = (of_37, tt)
+weak_numbered net earlier false g (suc (suc zero)) n = (of_37, tt)
+weak_numbered net earlier false g (suc (suc (suc k))) n = tt
+
+built_numbered : AreNumberedFor built
+built_numbered = (
+  record { head = λ known h. tt; rows = λ known h rs. linkage_numbered known.net (shapes_of known) (is_open h) (gap_of h) (place_of (heads Q1 (sizes_of known)) h.words) h.numbers rs },
+  (
+    record { head = λ known h. tt; rows = λ known h rs. strong_numbered known.net (shapes_of known) (is_open h) (gap_of h) (place_of (heads Q2 (sizes_of known)) h.words) h.numbers rs },
+    (
+      record {
+        head = λ known h. reversible_head_numbered known.net (is_open h) (gap_of h) (place_of (heads Q3 (sizes_of known)) h.words) h.numbers;
+        rows = λ known h rs. reversible_numbered known.net (shapes_of known) (is_open h) (gap_of h) (place_of (heads Q3 (sizes_of known)) h.words) h.numbers rs;
+      },
+      (
+        record { head = λ known h. weak_numbered known.net known.earlier (is_open h) (gap_of h) (place_of (heads Q4 (sizes_of known)) h.words) h.numbers; rows = λ known h rs. tt },
+        tt,
+      ),
+    ),
+  ),
+)
+
+-- ---- blocks
+
+-- no question has trees
+no_trees : (version : ℕ) (table : List (List ℤ)) (t : Bool) (n : ℕ) → IsNumbered (asks_trees version table (unless t []) n)
+unfolding asks_trees
+no_trees version table true n = give_numbered n
+no_trees version table false n = give_numbered n
+
+block_numbered : (version : ℕ) (table : List (List ℤ)) (q : Question) (at : Behind Known) → IsNumberedFor q → IsNumbered (asks_block meaning version table q at)
+block_numbered version table q at p =
+    numbered_then (asks version at.line at.by_tree (heads q (sizes_of at.known))) after_head (asks_numbered version at.line at.by_tree (heads q (sizes_of at.known)))
+    (λ h. numbered_then (claims at.line (head_claims meaning q at.known h)) (λ x. after_claims h) (claims_numbered at.line (head_claims meaning q at.known h) (unless_numbered (is_open h) (head_claims_of q at.known h) (let f = p.head in f at.known h)))
+    (λ x. numbered_then (asks_all version (at.line + 1) false (below q (shapes_of at.known) h)) (after_rows h) (all_numbered version (at.line + 1) false (below q (shapes_of at.known) h))
+    (λ rs. numbered_then (claims at.line (row_claims meaning q at.known h rs)) (λ y. after_tests h rs) (claims_numbered at.line (row_claims meaning q at.known h rs) (unless_numbered (is_open h) (row_claims_of q at.known h rs) (let f = p.rows in f at.known h rs)))
+    (λ y. numbered_then (asks_trees version table (problems meaning q at.known h) (at.line + 1 + length rs)) (λ line. Give (given h rs line)) (no_trees version table (is_open h) (at.line + 1 + length rs)) (λ line. give_numbered (given h rs line))))))
+  where
+    given : Record → List Record → ℕ → Behind Known
+    given h rs line = record { known = meaning.learn q at.known h rs; by_tree = has_tree (problems meaning q at.known h); line = line; blocks = at.blocks ++ (h ∷ rs) ∷ [] }
+
+    after_tests : Record → List Record → Course (Behind Known)
+    after_tests h rs = asks_trees version table (problems meaning q at.known h) (at.line + 1 + length rs) >>= (λ line. Give (given h rs line))
+
+    after_rows : Record → List Record → Course (Behind Known)
+    after_rows h rs = claims at.line (row_claims meaning q at.known h rs) >>= (λ y. after_tests h rs)
+
+    after_claims : Record → Course (Behind Known)
+    after_claims h = asks_all version (at.line + 1) false (below q (shapes_of at.known) h) >>= (λ rs. after_rows h rs)
+
+    after_head : Record → Course (Behind Known)
+    after_head h = claims at.line (head_claims meaning q at.known h) >>= (λ x. after_claims h)
+
+blocks_numbered : (version : ℕ) (table : List (List ℤ)) (qs : List Question) (at : Behind Known) → AreNumberedFor qs → IsNumbered (asks_blocks meaning version table qs at)
+unfolding asks_blocks
+blocks_numbered version table [] at p = give_numbered at
+blocks_numbered version table (q ∷ qs) at p =
+    numbered_then (asks_all version at.line at.by_tree (map section_form (sections version q))) (λ opened. asks_block meaning version table q (behind_sections opened at) >>= (λ behind. asks_blocks meaning version table qs behind))
+    (all_numbered version at.line at.by_tree (map section_form (sections version q)))
+    (λ opened. numbered_then (asks_block meaning version table q (behind_sections opened at)) (λ behind. asks_blocks meaning version table qs behind) (block_numbered version table q (behind_sections opened at) p.0)
+    (λ behind. blocks_numbered version table qs behind p.1))
+
+-- ---- a document
+
+lines_numbered : (n : ℕ) → IsNumbered (asks_lines n)
+unfolding asks_lines
+lines_numbered zero = give_numbered []
+lines_numbered (suc n) = numbered_then (due false) (λ line. asks_lines n >>= (λ lines. Give (line ∷ lines))) (due_numbered false) (λ line. numbered_then (asks_lines n) (λ lines. Give (line ∷ lines)) (lines_numbered n) (λ lines. give_numbered (line ∷ lines)))
+
+either_numbered : {A : Type 0} (t : Bool) (this that : Course A) → IsNumbered this → IsNumbered that → IsNumbered (either t this that)
+either_numbered true this that p q = p
+either_numbered false this that p q = q
+
+table_numbered : (version n : ℕ) → IsNumbered (asks_table version n)
+table_numbered version n = either_numbered (version == 2) _ (Give [])
+    (numbered_then (asks version n false (table_form ∷ [])) (λ head. asks_all version (n + 1) false (replicate (first_number head.numbers) vector_form) >>= (λ rows. Give (head ∷ rows))) (asks_numbered version n false (table_form ∷ []))
+    (λ head. numbered_then (asks_all version (n + 1) false (replicate (first_number head.numbers) vector_form)) (λ rows. Give (head ∷ rows)) (all_numbered version (n + 1) false (replicate (first_number head.numbers) vector_form)) (λ rows. give_numbered (head ∷ rows))))
+    (give_numbered [])
+
+of_22 : IsFaultNumber 22
+of_22 = from_21 22 (omega arith) (omega arith)
+
+whole_numbered : IsNumbered whole_course
+whole_numbered =
+    numbered_then title_course after_title (opening_numbered 1 21 IsTitleOf (from_21 21 (omega arith) (omega arith))) (λ version.
+    numbered_then count_course (after_count version) (opening_numbered 2 22 SaysCount of_22) (λ count.
+    numbered_then (asks_lines count) (λ lines. find (2 + count) 22 Net (IsNetworkOf lines) >>= (λ net. after_network version count net)) (lines_numbered count) (λ lines.
+    numbered_then (find (2 + count) 22 Net (IsNetworkOf lines)) (after_network version count) (find_numbered (2 + count) 22 Net (IsNetworkOf lines) of_22) (λ net.
+    numbered_then (asks_table version (3 + count)) (after_table version (3 + count) net) (table_numbered version (3 + count)) (λ table.
+    numbered_then (asks_blocks meaning version (lists_of table) built (behind_at net [] (3 + count + length table) [])) (λ behind. last_course version net behind) (blocks_numbered version (lists_of table) built (behind_at net [] (3 + count + length table) []) built_numbered) (λ behind.
+    numbered_then (asks version behind.line behind.by_tree (end_form ∷ [])) (λ last. ends_with (record { net = net; blocks = behind.blocks })) (asks_numbered version behind.line behind.by_tree (end_form ∷ [])) (λ last.
+    numbered_then ends (λ x. Give (record { net = net; blocks = behind.blocks })) ends_numbered (λ x. give_numbered (record { net = net; blocks = behind.blocks })))))))))
+  where
+    opening_numbered : (n code : ℕ) (P : List ℕ → ℕ → Type 0) → IsFaultNumber code → IsNumbered (due false >>= (λ line. find n code ℕ (P line)))
+    opening_numbered n code P c = numbered_then (due false) (λ line. find n code ℕ (P line)) (due_numbered false) (λ line. find_numbered n code ℕ (P line) c)
+
+-- a document is rejected by the number of a kind of faults
+pub document_numbered : (result : Result Accepted CheckStop) (before now : SourceSeen) → CheckGives result before now → HasFaultNumber result
+document_numbered (Ok accepted) before now p = tt
+document_numbered (Err (stop.Rejected code line)) before now p = fault_numbered whole_course whole_numbered (beginning p.text) line code p.fault
+document_numbered (Err stop.Failed) before now p = tt
+document_numbered (Err stop.NoMemory) before now p = tt

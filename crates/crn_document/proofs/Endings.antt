@@ -1,0 +1,121 @@
+-- A call for a line after the last line of a document, and the step to the end.
+use Rattle.std.proofs.Common.{◌≡◌, ◌<◌, ◌++◌, ◌∙◌, ℕ, true, List, [], Option, Some, None, refl, sym, subst, ap, append_assoc, inl, Result, Ok, Err}
+use Rattle.crn_io.specs.declared.next.Next.{Next}
+use Rattle.crn_io.specs.declared.next.Next.TheVariants.{Line, Last, End, LineTooLong, DocumentTooLong, Failed}
+use Rattle.crn_io.specs.declared.lines.TheConstants.{MAX_DOCUMENT}
+use Rattle.crn_io.specs.Device.{SourceSeen}
+use Rattle.crn_io.specs.Lines.{Place, BreaksLine, HasMore}
+use Rattle.crn_io.specs.Pull.{HasNoneLeft}
+use Rattle.crn_io.specs.Next.{KeptLines, NextIs, NextGives, place, code_of, EndIs}
+use Rattle.crn_io.proofs.CallerLemmas.{end_is}
+use Rattle.crn_ctext.specs.Course.{Course, ◌>>=◌, Gives, FailsFirst}
+use Rattle.crn_ctext.specs.Blocks.{ReadOf}
+use Rattle.crn_ctext.specs.Steps.{IsRest, StepGives, StepFails, StepEnds}
+use Rattle.crn_ctext.proofs.CallerLemmas.{step_ends_then}
+use Rattle.crn_document.specs.declared.reading.Reading.{Reading}
+use Rattle.crn_document.specs.declared.stop.CheckStop.{CheckStop}
+use Rattle.crn_document.specs.Inner.Ending.{EndStepIs, ends_with}
+use Rattle.crn_document.specs.Inner.Steps.{StopIs}
+use Rattle.crn_document.proofs.Steps.{stop_after}
+
+-- ---- nothing is left
+
+none_rest : (after : Option (List ℕ)) (rest : List ℕ) → HasNoneLeft after → IsRest after rest → rest ≡ []
+none_rest None rest none is = is
+none_rest (Some left) rest none is = sym is ∙ none
+
+-- the lines of a reader that is at the end
+abbrev kept_at_end : KeptLines → KeptLines
+kept_at_end old = record { ahead = []; taken = old.taken; line = []; goes_on = true }
+
+same_place : (n : ℕ) (old : KeptLines) (pulled rest : List ℕ) → old.ahead ++ pulled ≡ [] → place n old (pulled ++ rest) ≡ place n (kept_at_end old) rest
+same_place n old pulled rest none = ap (λ (t : List ℕ). record { line = n; before = old.taken; left = t }) (sym (append_assoc old.ahead pulled rest) ∙ ap (λ (t : List ℕ). t ++ rest) none)
+
+gives_end : (read : ReadOf) (at after : Place) → (HasMore at → ⊥) → at ≡ after → Gives (ends_with read) at read after
+unfolding Gives
+gives_end read at after none same = (none, (refl, same))
+
+-- where nothing is left, the course gives what was read
+pub nothing_left : (read : ReadOf) (n : ℕ) (old new : KeptLines) (before now : SourceSeen) → old.taken < MAX_DOCUMENT → NextGives End old new before now
+    → ((m : ℕ) × (kept : KeptLines) × StepEnds (ends_with read) read n m old kept before.left now.left) × HasNoneLeft now.left × (now.faults ≡ before.faults)
+nothing_left read n old new before now lt g = (
+  (
+    n,
+    kept_at_end old,
+    record {
+      pulled = g.0;
+      off = g.1;
+      bound = g.4;
+      gives = λ rest r. gives_end read (place n old (g.0 ++ rest)) (place n (kept_at_end old) rest)
+          (end_is End n old new (g.0 ++ rest) rest (old.ahead ++ g.0) lt (sym (append_assoc old.ahead g.0 rest)) (g.2.0, none_rest now.left rest g.2.1 r))
+          (same_place n old g.0 rest g.2.0);
+    },
+  ),
+  g.2.1,
+  g.3,
+)
+
+-- ---- something is left
+
+-- an answer that the end is not here, but for a fault of the source
+abbrev pub IsNoEnd : Next → Type 0
+IsNoEnd End = ⊥
+IsNoEnd Failed = ⊥
+IsNoEnd answer = Unit {0}
+
+-- what an answer says of what is left is said of the bytes that follow
+told : (answer : Next) (taken : ℕ) (bytes : List ℕ) (after : Option (List ℕ)) (new : KeptLines) (rest : List ℕ) → IsNoEnd answer → IsRest after rest → NextIs answer taken bytes after new → NextIs answer taken bytes (Some rest) new
+told End taken bytes after new rest none r q = absurd none
+told Failed taken bytes after new rest none r q = absurd none
+told Line taken bytes after new rest none r q = q
+told LineTooLong taken bytes after new rest none r q = q
+told DocumentTooLong taken bytes after new rest none r q = q
+told Last taken bytes after new rest none r q = (q.0, q.1, q.2, q.3, q.4, none_rest after rest q.5 r)
+
+breaks : (answer : Next) (at : Place) → IsNoEnd answer → EndIs answer at → BreaksLine at 28 (HasMore at) (code_of 28 answer)
+breaks End at none d = absurd none
+breaks Failed at none d = absurd none
+breaks Line at none d = d
+breaks Last at none d = d
+breaks LineTooLong at none d = d
+breaks DocumentTooLong at none d = d
+
+same_count : (answer : Next) (old new : KeptLines) (before now : SourceSeen) → IsNoEnd answer → NextGives answer old new before now → now.faults ≡ before.faults
+same_count End old new before now none g = absurd none
+same_count Failed old new before now none g = absurd none
+same_count Line old new before now none g = g.3
+same_count Last old new before now none g = g.3
+same_count LineTooLong old new before now none g = g.3
+same_count DocumentTooLong old new before now none g = g.3
+
+fails_end : (read : ReadOf) (n : ℕ) (old : KeptLines) (bytes : List ℕ) (code : ℕ) → BreaksLine (place n old bytes) 28 (HasMore (place n old bytes)) code → FailsFirst (ends_with read) (place n old bytes) n code
+unfolding FailsFirst
+fails_end read n old bytes code p = inl (refl, p)
+
+-- where something is left, the course fails first here
+pub something_left : (answer : Next) (read : ReadOf) (n : ℕ) (old new : KeptLines) (before now : SourceSeen) → IsNoEnd answer → old.taken < MAX_DOCUMENT → NextGives answer old new before now
+    → StepFails (ends_with read) n old before.left now.left n (code_of 28 answer) × (now.faults ≡ before.faults)
+something_left answer read n old new before now none lt g = (
+  record {
+    pulled = g.0;
+    off = g.1;
+    bound = g.4;
+    fails = λ rest r. fails_end read n old (g.0 ++ rest) (code_of 28 answer) (breaks answer (place n old (g.0 ++ rest)) none
+        (end_is answer n old new (g.0 ++ rest) rest (old.ahead ++ g.0) lt (sym (append_assoc old.ahead g.0 rest)) (told answer old.taken (old.ahead ++ g.0) now.left new rest none r g.2)));
+  },
+  same_count answer old new before now none g,
+)
+
+-- ---- a step, and then the end
+
+-- a step and what follows it up to the end
+pub step_then_ends : {A B T : Type 0} (c : Course A) (f : A → Course B) (x : A) (y : B) (result : Result T CheckStop) (old mid : Reading) (before between now : SourceSeen)
+    → StepGives c x old.line mid.line old.lines mid.lines before.left between.left → between.faults ≡ before.faults → EndStepIs (f x) y result mid between now → EndStepIs (c >>= f) y result old before now
+step_then_ends c f x y (Ok t) old mid before between now p same q =
+    ((q.0.0, q.0.1, step_ends_then c f x y old.line mid.line q.0.0 old.lines mid.lines q.0.1 before.left between.left now.left p q.0.2), q.1, q.2 ∙ same)
+step_then_ends c f x y (Err e) old mid before between now p same q = stop_after c f x e old mid before between now p same q
+
+-- an answer at the exit of a call that stopped
+pub end_exits : {A T : Type 0} (c : Course A) (y : A) (r : Result T CheckStop) (e : CheckStop) (old : Reading) (before now : SourceSeen)
+    → (x : CheckStop) × (r ≡ Err x) × (x ≡ e) → StopIs c e old before now → EndStepIs c y r old before now
+end_exits c y r e old before now x p = subst (λ (q : Result _ CheckStop). EndStepIs c y q old before now) (sym (x.1 ∙ ap (λ (s : CheckStop). Err s) x.2)) p

@@ -1,0 +1,16 @@
+mod Steps
+mod Records
+mod CanonicalTexts
+mod Heads
+mod Blocks
+mod Sections
+mod Titles
+mod FoundLines
+mod NetworkLines
+mod Tables
+mod Endings
+mod Texts
+mod Said
+mod Bodies
+mod Documents
+mod Codes

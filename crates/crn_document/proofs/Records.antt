@@ -1,0 +1,88 @@
+-- What is due where a record is, in the words of a document's course.
+use Rattle.std.proofs.Common.{◌≡◌, ◌+◌, ◌++◌, ◌∙◌, ℕ, Bool, false, List, [], ◌∷◌, refl, sym, subst, ap, inl, inr, Result, Ok, append_assoc}
+use Rattle.std.proofs.lemmas.List.{append-nil}
+use Rattle.std.specs.List.{AllZip}
+use Rattle.std.specs.Prelude.{ℤ}
+use Rattle.crn_io.specs.Device.{SourceSeen}
+use Rattle.crn_ctext.specs.Records.{Record, Form, Fits}
+use Rattle.crn_io.specs.Lines.{Place}
+use Rattle.crn_ctext.specs.Course.{Course, Give, Gives, due, ◌>>=◌}
+use Rattle.crn_ctext.specs.Blocks.{reads, asks, asks_all}
+use Rattle.crn_ctext.specs.Documents.{IsOneOf}
+use Rattle.crn_ctext.specs.Expect.{forms_of, is_after, misplaced, sizes_of, tag_of}
+use Rattle.crn_ctext.specs.declared.expect.Due.{Due}
+use Rattle.crn_ctext.specs.declared.expect.Expect.{Expect}
+use Rattle.crn_document.specs.Inner.Records.{asks_for, Expects, IsRowDue, IsSaid, IsRow, AreRows}
+use Rattle.crn_ctext.specs.Steps.{StepGives}
+use Rattle.crn_ctext.specs.Meaning.{lists}
+use Rattle.crn_document.specs.declared.reading.Reading.{Reading}
+use Rattle.crn_document.specs.declared.stop.CheckStop.{CheckStop}
+use Rattle.crn_document.specs.Inner.Steps.{StepIs}
+use Rattle.crn_document.proofs.Steps.{step_gives, step_then_is, step_map}
+
+abbrev course_by : ℕ → ℕ → Bool → List Form → ℕ → Course Record
+course_by version n after forms mis = due false >>= (λ line. reads version n after forms mis line)
+
+-- what is said of the record that is due is said of the record of these forms
+pub as_expected : (P : Course Record → Type 0) (e : Expect) (version n : ℕ) (forms : List Form) → Expects e version forms → P (asks_for e n) → P (asks version n false forms)
+as_expected P e version n forms x p =
+    subst (λ (m : ℕ). P (course_by version n false forms m)) x.misplaced
+    (subst (λ (fs : List Form). P (course_by version n false fs (misplaced e.due))) x.has
+    (subst (λ (b : Bool). P (course_by version n b (forms_of e) (misplaced e.due))) x.after
+    (subst (λ (v : ℕ). P (course_by v n (is_after e.due e.after_tree) (forms_of e) (misplaced e.due))) x.of_version p)))
+
+-- a row has no tag
+pub row_untagged : (form : Form) (d : Due) → IsRowDue form d → (z : _) (r : Record) → tag_of d z r ≡ []
+row_untagged form d i z r = subst (λ (d : Due). tag_of d z r ≡ []) (sym i.is) refl
+
+-- a record that was due where nothing is tagged
+pub row_said : (e : Expect) (version : ℕ) (form : Form) → Expects e version (form ∷ []) → ((r : Record) → tag_of e.due (sizes_of e.sizes) r ≡ []) → (r : Record) (read : List ℤ) → IsSaid e read r → Fits form r × (read ≡ r.numbers)
+row_said e version form x none r read said =
+    (only (subst (λ (fs : List Form). IsOneOf fs r) x.has said.form), said.numbers ∙ ap (λ (zs : List ℤ). zs ++ r.numbers) (none r))
+  where
+    only : IsOneOf (form ∷ []) r → Fits form r
+    only (f, inl is, fits) = subst (λ (f : Form). Fits f r) is fits
+    only (f, inr none, fits) = absurd none
+
+-- ---- records one after another
+
+-- what follows the first of several records
+abbrev pub rows_after : ℕ → ℕ → List Form → Record → Course (List Record)
+rows_after version n forms r = asks_all version (n + 1) false forms >>= (λ rs. Give (r ∷ rs))
+
+-- what is said of the first record and those after it is said of all
+pub first_row : (P : Course (List Record) → Type 0) (version n : ℕ) (form : Form) (forms all : List Form) → all ≡ form ∷ forms → P (asks version n false (form ∷ []) >>= rows_after version n forms) → P (asks_all version n false all)
+unfolding asks_all
+first_row P version n form forms all is p = subst (λ (fs : List Form). P (asks_all version n false fs)) (sym is) p
+
+-- no records
+pub no_rows : (version n : ℕ) (forms : List Form) (at : Reading) (kept : List (List ℤ)) (seen : SourceSeen) → forms ≡ [] → StepIs (asks_all version n false forms) (λ (t : Unit {0}) rs. AreRows forms kept kept rs) (Ok tt) at at seen seen
+unfolding asks_all
+no_rows version n forms at kept seen none =
+    subst (λ (fs : List Form). StepIs (asks_all version n false fs) (λ (t : Unit {0}) rs. AreRows fs kept kept rs) (Ok tt) at at seen seen) (sym none)
+    (step_gives [] (λ (t : Unit {0}) (rs : List Record). AreRows [] kept kept rs) tt at seen (tt, sym (append-nil kept)))
+
+-- one record, and then the others
+pub rows_then : (version n : ℕ) (form : Form) (forms all : List Form) (r : Record) (a b c : List (List ℤ)) (result : Result (Unit {0}) CheckStop) (old mid new : Reading) (before between now : SourceSeen)
+    → all ≡ form ∷ forms → mid.version ≡ version → mid.line ≡ n + 1 → IsRow form a b r
+    → StepGives (asks version n false (form ∷ [])) r old.line mid.line old.lines mid.lines before.left between.left → between.faults ≡ before.faults
+    → StepIs (asks_all mid.version mid.line false forms) (λ t rs. AreRows forms b c rs) result mid new between now
+    → StepIs (asks_all version n false all) (λ t rs. AreRows all a c rs) result old new before now
+rows_then version n form forms all r a b c result old mid new before between now is v l row p same q =
+    first_row (λ d. StepIs d (λ t rs. AreRows all a c rs) result old new before now) version n form forms all is
+    (step_then_is (asks version n false (form ∷ [])) (rows_after version n forms) r (λ t rs. AreRows all a c rs) result old mid new before between now p same
+    (step_map (asks_all version (n + 1) false forms) (λ rs. r ∷ rs) (λ t rs. AreRows forms b c rs) (λ t rs. AreRows all a c rs) result mid new between now more
+    (subst (λ (k : ℕ). StepIs (asks_all version k false forms) (λ t rs. AreRows forms b c rs) result mid new between now) l
+    (subst (λ (k : ℕ). StepIs (asks_all k mid.line false forms) (λ t rs. AreRows forms b c rs) result mid new between now) v q))))
+  where
+    more : (t : Unit {0}) (rs : List Record) → AreRows forms b c rs → AreRows all a c (r ∷ rs)
+    more t rs h = (subst (λ (fs : List Form). AllZip Fits fs (r ∷ rs)) (sym is) (row.0, h.0), h.1 ∙ ap (λ (x : List (List ℤ)). x ++ lists rs) row.1 ∙ append_assoc a (r.numbers ∷ []) (lists rs))
+
+-- ---- a record that was read
+
+-- the record that passes all tests of a line is one of those that were due
+pub reads_one : (version n : ℕ) (after : Bool) (forms : List Form) (mis : ℕ) (line : List ℕ) (at behind : Place) (r : Record) → Gives (reads version n after forms mis line) at r behind → IsOneOf forms r
+unfolding Gives
+reads_one version n after forms mis line at behind r g =
+    let last = g.2.2.2.2 in
+    subst (λ (x : Record). IsOneOf forms x) last.2.0 last.1.1

@@ -1,0 +1,109 @@
+-- Records that are read and not kept: the shared lists of a document, and the lines that open sections.
+use Rattle.std.proofs.Common.{◌≡◌, ◌+◌, ℕ, suc, false, List, [], ◌∷◌, replicate, refl, sym, subst, ap, inl, inr, arith, Result, Ok}
+use Rattle.std.specs.Prelude.{ℤ, pos, negsuc}
+use Rattle.std.proofs.lemmas.Int.{ints}
+use Rattle.crn_io.specs.declared.lines.TheConstants.{MAX_SHARED}
+use Rattle.crn_io.specs.Device.{SourceSeen}
+use Rattle.crn_ctext.specs.Records.{Record, Form}
+use Rattle.crn_ctext.specs.Kinds.{small, table_form, vector_form}
+use Rattle.crn_ctext.specs.Questions.{first_number}
+use Rattle.crn_ctext.specs.Course.{Course, Give, ◌>>=◌}
+use Rattle.crn_ctext.specs.Blocks.{asks, asks_all, asks_table}
+use Rattle.crn_ctext.specs.Steps.{StepGives}
+use Rattle.crn_document.specs.declared.reading.Reading.{Reading}
+use Rattle.crn_document.specs.declared.stop.CheckStop.{CheckStop}
+use Rattle.crn_document.specs.declared.plain.Plain.TheVariants.{Table}
+use Rattle.crn_document.specs.Inner.Plain.{IsPlain}
+use Rattle.crn_document.specs.Inner.Steps.{IsVersion, StopIs, StepIs}
+use Rattle.crn_document.specs.Inner.Table.{IsCount, MovesBy}
+use Rattle.crn_document.proofs.Steps.{step_gives, step_then_is, step_map, stop_first}
+use Rattle.crn_document.proofs.Records.{rows_after, first_row}
+use Rattle.crn_document.proofs.Heads.{Holds, one_field}
+
+-- the number of shared lists is one small number
+one_count : (zs : List ℤ) → Holds (small 1 0 MAX_SHARED) zs → IsCount zs
+one_count [] p = absurd (let e = p.0.0 in omega (arith, e))
+one_count (pos n ∷ []) p = (n, refl, omega (arith, ints, p.0.1.0.1))
+one_count (negsuc n ∷ []) p = absurd (omega (arith, ints, p.0.1.0.0))
+one_count (y ∷ z ∷ zs) p = absurd (let e = p.0.0 in omega (arith, e))
+
+pub count_is : (numbers : List ℤ) (r : Record) → IsPlain Table numbers r → IsCount numbers
+count_is numbers r p = subst IsCount (sym p.1) (one_count r.numbers (one_field (small 1 0 MAX_SHARED) r.numbers p.0.1))
+
+-- a document that is not of version 1 is of version 2
+pub is_second : (version : ℕ) → IsVersion version → (version ≡ 1 → ⊥) → version ≡ 2
+is_second version (inl e) other = absurd (other e)
+is_second version (inr e) other = e
+
+-- ---- records one after another
+
+-- one record, and then the others
+pub moves_then : (version : ℕ) (form : Form) (forms all : List Form) (r : Record) (result : Result (Unit {0}) CheckStop) (old mid new : Reading) (before between now : SourceSeen)
+    → all ≡ form ∷ forms → mid.version ≡ version → mid.line ≡ old.line + 1
+    → StepGives (asks version old.line false (form ∷ [])) r old.line mid.line old.lines mid.lines before.left between.left → between.faults ≡ before.faults
+    → StepIs (asks_all mid.version mid.line false forms) (λ t rs. MovesBy mid new rs) result mid new between now
+    → StepIs (asks_all version old.line false all) (λ t rs. MovesBy old new rs) result old new before now
+moves_then version form forms all r result old mid new before between now is v l p same q =
+    first_row (λ d. StepIs d (λ t rs. MovesBy old new rs) result old new before now) version old.line form forms all is
+    (step_then_is (asks version old.line false (form ∷ [])) (rows_after version old.line forms) r (λ t rs. MovesBy old new rs) result old mid new before between now p same
+    (step_map (asks_all version (old.line + 1) false forms) (λ rs. r ∷ rs) (λ t rs. MovesBy mid new rs) (λ t rs. MovesBy old new rs) result mid new between now more
+    (subst (λ (k : ℕ). StepIs (asks_all version k false forms) (λ t rs. MovesBy mid new rs) result mid new between now) l
+    (subst (λ (k : ℕ). StepIs (asks_all k mid.line false forms) (λ t rs. MovesBy mid new rs) result mid new between now) v q))))
+  where
+    more : (t : Unit {0}) (rs : List Record) → MovesBy mid new rs → MovesBy old new (r ∷ rs)
+    more t rs h = omega (arith, h, l)
+
+-- what stops the first record stops all
+pub stops_first : (version n : ℕ) (form : Form) (forms all : List Form) (e : CheckStop) (old : Reading) (before now : SourceSeen) → all ≡ form ∷ forms → StopIs (asks version n false (form ∷ [])) e old before now
+    → StopIs (asks_all version n false all) e old before now
+stops_first version n form forms all e old before now is p =
+    first_row (λ d. StopIs d e old before now) version n form forms all is (stop_first (asks version n false (form ∷ [])) (rows_after version n forms) e old before now p)
+
+-- no records
+pub moves_none : (version n : ℕ) (all : List Form) (at : Reading) (seen : SourceSeen) → all ≡ [] → StepIs (asks_all version n false all) (λ (t : Unit {0}) rs. MovesBy at at rs) (Ok tt) at at seen seen
+unfolding asks_all
+moves_none version n all at seen none =
+    subst (λ (fs : List Form). StepIs (asks_all version n false fs) (λ (t : Unit {0}) rs. MovesBy at at rs) (Ok tt) at at seen seen) (sym none)
+    (step_gives [] (λ (t : Unit {0}) (rs : List Record). MovesBy at at rs) tt at seen (omega arith))
+
+-- ---- shared lists
+
+-- the shared lists after their number
+abbrev pub table_rest : ℕ → ℕ → Record → Course (List Record)
+table_rest version n head = asks_all version (n + 1) false (replicate (first_number head.numbers) vector_form) >>= (λ rows. Give (head ∷ rows))
+
+-- what is said of the number of shared lists and those after it is said of the table of version 2
+pub as_table : (P : Course (List Record) → Type 0) (version n : ℕ) → version ≡ 2 → P (asks version n false (table_form ∷ []) >>= table_rest version n) → P (asks_table version n)
+as_table P version n e p = subst (λ (v : ℕ). P (asks_table v n)) (sym e) (subst (λ (v : ℕ). P (asks v n false (table_form ∷ []) >>= table_rest v n)) e p)
+
+-- the number of shared lists, and then these
+pub table_then : (head : Record) (count : ℕ) (result : Result (Unit {0}) CheckStop) (old mid new : Reading) (before between now : SourceSeen)
+    → old.version ≡ 2 → mid.version ≡ old.version → mid.line ≡ old.line + 1 → count ≡ first_number head.numbers
+    → StepGives (asks old.version old.line false (table_form ∷ [])) head old.line mid.line old.lines mid.lines before.left between.left → between.faults ≡ before.faults
+    → StepIs (asks_all mid.version mid.line false (replicate count vector_form)) (λ t rs. MovesBy mid new rs) result mid new between now
+    → StepIs (asks_table old.version old.line) (λ t rs. MovesBy old new rs) result old new before now
+table_then head count result old mid new before between now second v l number p same q =
+    as_table (λ d. StepIs d (λ t rs. MovesBy old new rs) result old new before now) old.version old.line second
+    (step_then_is (asks old.version old.line false (table_form ∷ [])) (table_rest old.version old.line) head (λ t rs. MovesBy old new rs) result old mid new before between now p same
+    (step_map (asks_all old.version (old.line + 1) false (replicate (first_number head.numbers) vector_form)) (λ rs. head ∷ rs) (λ t rs. MovesBy mid new rs) (λ t rs. MovesBy old new rs) result mid new between now more
+    (subst (λ (k : ℕ). StepIs (asks_all old.version (old.line + 1) false (replicate k vector_form)) (λ t rs. MovesBy mid new rs) result mid new between now) number
+    (subst (λ (k : ℕ). StepIs (asks_all old.version k false (replicate count vector_form)) (λ t rs. MovesBy mid new rs) result mid new between now) l
+    (subst (λ (k : ℕ). StepIs (asks_all k mid.line false (replicate count vector_form)) (λ t rs. MovesBy mid new rs) result mid new between now) v q)))))
+  where
+    more : (t : Unit {0}) (rs : List Record) → MovesBy mid new rs → MovesBy old new (head ∷ rs)
+    more t rs h = omega (arith, h, l)
+
+pub table_stops : (e : CheckStop) (old : Reading) (before now : SourceSeen) → old.version ≡ 2 → StopIs (asks old.version old.line false (table_form ∷ [])) e old before now → StopIs (asks_table old.version old.line) e old before now
+table_stops e old before now second p = as_table (λ d. StopIs d e old before now) old.version old.line second (stop_first (asks old.version old.line false (table_form ∷ [])) (table_rest old.version old.line) e old before now p)
+
+-- version 1 has none
+pub no_table : (at : Reading) (seen : SourceSeen) → at.version ≡ 1 → StepIs (asks_table at.version at.line) (λ (t : Unit {0}) rs. MovesBy at at rs) (Ok tt) at at seen seen
+no_table at seen first = subst (λ (v : ℕ). StepIs (asks_table v at.line) (λ (t : Unit {0}) rs. MovesBy at at rs) (Ok tt) at at seen seen) (sym first)
+    (step_gives [] (λ (t : Unit {0}) (rs : List Record). MovesBy at at rs) tt at seen (omega arith))
+
+-- so many of one form, of which the first is split off
+pub replicate_first : (form : Form) (k m : ℕ) → k ≡ suc m → replicate k form ≡ form ∷ replicate m form
+replicate_first form k m e = ap (λ (n : ℕ). replicate n form) e
+
+pub replicate_none : (form : Form) (k : ℕ) → k ≡ 0 → replicate k form ≡ []
+replicate_none form k e = ap (λ (n : ℕ). replicate n form) e

@@ -1,0 +1,89 @@
+-- What steps through a whole document say of its text.
+use Rattle.std.proofs.Common.{◌≡◌, ◌≤◌, ◌+◌, ◌++◌, ◌∙◌, ℕ, List, [], length, Option, Some, None, refl, sym, subst, ap, inl, inr, arith, Result, Ok, Err}
+use Rattle.std.proofs.lemmas.List.{append-nil}
+use Rattle.crn_io.specs.declared.lines.TheConstants.{MAX_DOCUMENT, MAX_AHEAD}
+use Rattle.crn_io.specs.Device.{SourceSeen}
+use Rattle.crn_io.specs.Lines.{Place, beginning}
+use Rattle.crn_io.specs.Next.{KeptLines, place}
+use Rattle.crn_io.specs.Pull.{Consumes}
+use Rattle.crn_ctext.specs.Course.{Course, Give, Line, Test, End, ◌>>=◌, Gives, FailsFirst}
+use Rattle.crn_ctext.specs.Steps.{IsRest, StepFails, StepEnds}
+use Rattle.crn_document.specs.Check.{IsRead, IsTextOf, PullsDocument}
+use Rattle.crn_document.specs.declared.reading.Reading.{Reading}
+use Rattle.crn_document.specs.declared.stop.CheckStop.{CheckStop}
+use Rattle.crn_document.specs.declared.stop.CheckStop.TheVariants as stop
+use Rattle.crn_document.specs.Inner.Steps.{StepStops, StopIs}
+use Rattle.crn_document.specs.Inner.Ending.{EndStepIs}
+
+-- ---- courses one after another, in other brackets
+
+pub gives_all : {A B C : Type 0} (m : Course A) (k : A → Course B) (f : B → Course C) (at behind : Place) (y : C) → Gives ((m >>= k) >>= f) at y behind → Gives (m >>= (λ x. k x >>= f)) at y behind
+unfolding Gives
+gives_all (Give x) k f at behind y p = p
+gives_all (Line node next) k f at behind y p = (p.0, p.1, p.2, gives_all (next p.0) k f p.1 behind y p.3)
+gives_all (Test n c X P next) k f at behind y p = (p.0, p.1, gives_all (next p.0) k f at behind y p.2)
+gives_all (End next) k f at behind y p = (p.0, gives_all next k f at behind y p.1)
+
+pub fails_all : {A B C : Type 0} (m : Course A) (k : A → Course B) (f : B → Course C) (at : Place) (n code : ℕ) → FailsFirst ((m >>= k) >>= f) at n code → FailsFirst (m >>= (λ x. k x >>= f)) at n code
+unfolding FailsFirst
+fails_all (Give x) k f at n code p = p
+fails_all (Line node next) k f at n code (inl p) = inl p
+fails_all (Line node next) k f at n code (inr p) = inr (p.0, p.1, p.2, fails_all (next p.0) k f p.1 n code p.3)
+fails_all (Test m c X P next) k f at n code (inl p) = inl p
+fails_all (Test m c X P next) k f at n code (inr p) = inr (p.0, p.1, fails_all (next p.0) k f at n code p.2)
+fails_all (End next) k f at n code (inl p) = inl p
+fails_all (End next) k f at n code (inr p) = inr (p.0, fails_all next k f at n code p.1)
+
+pub stops_all : {A B C : Type 0} (m : Course A) (k : A → Course B) (f : B → Course C) (e : CheckStop) (old : Reading) (before now : SourceSeen)
+    → StopIs ((m >>= k) >>= f) e old before now → StopIs (m >>= (λ x. k x >>= f)) e old before now
+stops_all m k f (stop.Rejected code line) old before now p = let e = p.0 in
+    (record { pulled = e.pulled; off = e.off; bound = e.bound; fails = λ rest r. fails_all m k f (place old.line old.lines (e.pulled ++ rest)) line code (let g = e.fails in g rest r) }, p.1)
+stops_all m k f stop.Failed old before now p = p
+stops_all m k f stop.NoMemory old before now p = p
+
+pub ends_all : {A B C T : Type 0} (m : Course A) (k : A → Course B) (f : B → Course C) (y : C) (result : Result T CheckStop) (old : Reading) (before now : SourceSeen)
+    → EndStepIs ((m >>= k) >>= f) y result old before now → EndStepIs (m >>= (λ x. k x >>= f)) y result old before now
+ends_all m k f y (Ok t) old before now p = let e = p.0.2 in
+    ((p.0.0, p.0.1, record { pulled = e.pulled; off = e.off; bound = e.bound; gives = λ rest r. gives_all m k f (place old.line old.lines (e.pulled ++ rest)) (place p.0.0 p.0.1 rest) y (let g = e.gives in g rest r) }), p.1, p.2)
+ends_all m k f y (Err e) old before now p = stops_all m k f e old before now p
+
+-- ---- the text
+
+-- what is left after a step, as the text goes on
+rest_of : (left after : Option (List ℕ)) (pulled : List ℕ) → Consumes left pulled after → (rest : List ℕ) × IsRest after rest × IsTextOf left pulled (pulled ++ rest)
+rest_of None None pulled off = ([], refl, append-nil pulled)
+rest_of None (Some r) pulled off = absurd cc
+rest_of (Some left) None pulled off = absurd (let e = off.1 in cc)
+rest_of (Some left) (Some r) pulled off = (r, refl, let e = off.1 in let same : r ≡ off.0 = cc in ap (λ (t : List ℕ). pulled ++ t) same ∙ sym off.2)
+
+at_start : (start : KeptLines) (text : List ℕ) → start.ahead ≡ [] → start.taken ≡ 0 → place 1 start text ≡ beginning text
+at_start start text none zero = ap (λ (t : List ℕ). record { line = 1; before = start.taken; left = t ++ text }) none ∙ ap (λ (k : ℕ). record { line = 1; before = k; left = text }) zero
+
+few_pulled : (start : KeptLines) (pulled : List ℕ) → start.ahead ≡ [] → start.taken ≡ 0 → start.taken + length (start.ahead ++ pulled) ≤ MAX_DOCUMENT + MAX_AHEAD → length pulled ≤ MAX_DOCUMENT + MAX_AHEAD
+few_pulled start pulled none zero le = let same : length (start.ahead ++ pulled) ≡ length pulled = ap (λ (t : List ℕ). length (t ++ pulled)) none in omega (arith, same, zero, le)
+
+-- where a course goes through from the first line to the end, a text was read that gives this
+pub text_gives : {A : Type 0} (c : Course A) (y : A) (m : ℕ) (start kept : KeptLines) (before now : SourceSeen) → start.ahead ≡ [] → start.taken ≡ 0
+    → StepEnds c y 1 m start kept before.left now.left → now.faults ≡ before.faults
+    → (text : List ℕ) × IsRead text before now × ((behind : Place) × Gives c (beginning text) y behind)
+text_gives c y m start kept before now none zero p same =
+    let r = rest_of before.left now.left p.pulled p.off in (
+      p.pulled ++ r.0,
+      record { pulled = p.pulled; consumed = p.off; bound = few_pulled start p.pulled none zero p.bound; is = r.2; faults = same },
+      (place m kept r.0, subst (λ (at : Place). Gives c at y (place m kept r.0)) (at_start start (p.pulled ++ r.0) none zero) (let g = p.gives in g r.0 r.1)),
+    )
+
+-- and where it fails first somewhere, a text was read that fails first there
+pub text_fails : {A : Type 0} (c : Course A) (start : KeptLines) (before now : SourceSeen) (line code : ℕ) → start.ahead ≡ [] → start.taken ≡ 0
+    → StepFails c 1 start before.left now.left line code → now.faults ≡ before.faults
+    → (text : List ℕ) × IsRead text before now × FailsFirst c (beginning text) line code
+text_fails c start before now line code none zero p same =
+    let r = rest_of before.left now.left p.pulled p.off in (
+      p.pulled ++ r.0,
+      record { pulled = p.pulled; consumed = p.off; bound = few_pulled start p.pulled none zero p.bound; is = r.2; faults = same },
+      subst (λ (at : Place). FailsFirst c at line code) (at_start start (p.pulled ++ r.0) none zero) (let g = p.fails in g r.0 r.1),
+    )
+
+-- and no more was pulled than one pull after the bound of documents
+pub text_stops : (start : KeptLines) (before now : SourceSeen) → start.ahead ≡ [] → start.taken ≡ 0 → StepStops start before.left now.left → PullsDocument before now
+text_stops start before now none zero p = (p.pulled, few_pulled start p.pulled none zero p.bound, p.off)

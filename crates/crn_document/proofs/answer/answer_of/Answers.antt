@@ -1,0 +1,10 @@
+use Rattle.crn_document.proofs.answer.answer_of.Goals as goal
+
+pub returns-in-1-clause-proof : goal.returns-in-1-clause-proof
+returns-in-1-clause-proof c rs s same = rw c.in-1.is (c.linkage_answer.ensures.proof rs s same)
+
+pub returns-in-2-clause-proof : goal.returns-in-2-clause-proof
+returns-in-2-clause-proof c rs s same = rw c.in-2.is (c.strong_answer.ensures.proof rs s same)
+
+pub returns-in-3-clause-proof : goal.returns-in-3-clause-proof
+returns-in-3-clause-proof c rs s same = rw c.in-3.is (c.reversible_answer.ensures.proof rs s same)

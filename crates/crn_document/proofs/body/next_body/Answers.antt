@@ -1,0 +1,22 @@
+use Rattle.std.proofs.Common.{refl}
+use Rattle.std.proofs.lemmas.Result.{err_from_is_err_and}
+use Rattle.crn_document.specs.declared.stop.CheckStop.TheVariants as stop
+use Rattle.crn_document.proofs.Bodies.{last_exits}
+use Rattle.crn_document.proofs.Steps.{stops_here}
+use Rattle.crn_document.proofs.body.next_body.Goals as goal
+
+pub returns-in_err-checked : goal.returns-in_err-checked
+returns-in_err-checked g c = record {
+  step =
+      let at = c.args.at.now in
+      last_exits _ _ c.from_residual.result stop.NoMemory at _ _ (err_from_is_err_and _ c.from_residual.ensures.1) (stops_here at _ c.requires.goes.reads, refl);
+}
+
+pub returns-in_err-next_parts : goal.returns-in_err-next_parts
+returns-in_err-next_parts g c = record {
+  step =
+      last_exits _ _ c.from_residual-in_err-next_parts.result c.in_err-next_parts.field-0.0 c.args.at.now _ _ (err_from_is_err_and _ c.from_residual-in_err-next_parts.ensures.1) c.in_err-next_parts.ensures.step;
+}
+
+pub returns : goal.returns
+returns g c = record { step = c.in_ok-next_parts.ensures.step }

@@ -1,0 +1,18 @@
+use Rattle.crn_io.specs.declared.next.Next.TheVariants.{Line, Last, LineTooLong, DocumentTooLong}
+use Rattle.crn_document.proofs.Endings.{nothing_left, something_left}
+use Rattle.crn_document.proofs.ending.no_more.Goals as goal
+
+pub returns-in-End : goal.returns-in-End
+returns-in-End g c = record { step = λ read. nothing_left read c.args.at.now.line c.args.at.now.lines c.next.new.self (g.S.Source.seen c.args.source.now) (g.S.Source.seen c.next.new.source) c.requires.reads.taken c.in-End.ensures }
+
+pub returns-in-Line : goal.returns-in-Line
+returns-in-Line g c = record { step = λ read. something_left Line read c.args.at.now.line c.args.at.now.lines c.next.new.self (g.S.Source.seen c.args.source.now) (g.S.Source.seen c.next.new.source) tt c.requires.reads.taken c.in-Line.ensures }
+
+pub returns-in-Last : goal.returns-in-Last
+returns-in-Last g c = record { step = λ read. something_left Last read c.args.at.now.line c.args.at.now.lines c.next.new.self (g.S.Source.seen c.args.source.now) (g.S.Source.seen c.next.new.source) tt c.requires.reads.taken c.in-Last.ensures }
+
+pub returns-in-DocumentTooLong : goal.returns-in-DocumentTooLong
+returns-in-DocumentTooLong g c = record { step = λ read. something_left DocumentTooLong read c.args.at.now.line c.args.at.now.lines c.next.new.self (g.S.Source.seen c.args.source.now) (g.S.Source.seen c.next.new.source) tt c.requires.reads.taken c.in-DocumentTooLong.ensures }
+
+pub returns-in-LineTooLong : goal.returns-in-LineTooLong
+returns-in-LineTooLong g c = record { step = λ read. something_left LineTooLong read c.args.at.now.line c.args.at.now.lines c.next.new.self (g.S.Source.seen c.args.source.now) (g.S.Source.seen c.next.new.source) tt c.requires.reads.taken c.in-LineTooLong.ensures }

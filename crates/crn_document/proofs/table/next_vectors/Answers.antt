@@ -1,0 +1,41 @@
+use Rattle.std.proofs.Common.{◌≡◌, ◌+◌, ◌-◌, ◌∙◌, suc, replicate, arith, Ok}
+use Rattle.std.proofs.lemmas.Result.{err_from_is_err_and}
+use Rattle.crn_ctext.specs.Kinds.{vector_form}
+use Rattle.crn_document.proofs.Steps.{step_exits}
+use Rattle.crn_document.proofs.Tables.{moves_none, moves_then, replicate_first, replicate_none, stops_first}
+use Rattle.crn_document.proofs.table.next_vectors.Goals as goal
+
+pub returns-in_err-next_plain-clause-step : goal.returns-in_err-next_plain-clause-step
+returns-in_err-next_plain-clause-step g c =
+    let h = c.loop.invariant in
+    let whole = h.whole in
+    let k = c.args.count - c.loop.counter in
+    let m = c.args.count - (c.loop.counter + 1) in
+    let more : k ≡ suc m = omega (arith, c.loop-test.true) in
+    whole c.from_residual.result c.next_plain.new.at (g.S.Source.seen c.next_plain.new.source)
+    (step_exits _ _ c.from_residual.result _ _ _ _ _ (err_from_is_err_and c.from_residual.result c.from_residual.ensures.1)
+    (stops_first c.loop.at.version c.loop.at.line vector_form (replicate m vector_form) (replicate k vector_form) c.in_err-next_plain.field-0.0 c.loop.at _ _ (replicate_first vector_form k m more) c.in_err-next_plain.ensures.step))
+
+pub loop-preserved : goal.loop-preserved
+loop-preserved g c =
+    let h = c.loop.invariant in
+    let whole = h.whole in
+    let k = c.args.count - c.loop.counter in
+    let m = c.args.count - (c.loop.counter + 1) in
+    let more : k ≡ suc m = omega (arith, c.loop-test.true) in
+    let s = c.in_ok-next_plain.ensures.step in
+    record {
+      goes = c.in_ok-next_plain.ensures.goes;
+      version = c.next_plain.ensures.version ∙ h.version;
+      whole = λ result new now q. whole result new now
+          (moves_then c.loop.at.version vector_form (replicate m vector_form) (replicate k vector_form) s.0 result c.loop.at c.next_plain.new.at new (g.S.Source.seen c.loop.source) (g.S.Source.seen c.next_plain.new.source) now
+          (replicate_first vector_form k m more) c.next_plain.ensures.version c.in_ok-next_plain.ensures.line s.2 s.3 q);
+    }
+
+pub returns-clause-step : goal.returns-clause-step
+returns-clause-step g c =
+    let h = c.loop.invariant in
+    let whole = h.whole in
+    let k = c.args.count - c.loop.counter in
+    let none : k ≡ 0 = omega (arith, c.loop-test.false) in
+    whole (Ok tt) c.loop.at (g.S.Source.seen c.loop.source) (moves_none c.loop.at.version c.loop.at.line (replicate k vector_form) c.loop.at (g.S.Source.seen c.loop.source) (replicate_none vector_form k none))

@@ -1,0 +1,88 @@
+-- What checking a document answers, by the bytes that were read.
+-- Source: this project's own. Shapes: lines of a document count from 1.
+use Rattle.std.specs.Prelude.{◌≡◌, ◌≤◌, ◌+◌, ◌⊎◌, ℕ, List, length, map, Option, Some, None, Result, Ok, Err}
+use Rattle.crn_io.specs.Device.{SourceSeen, Rose}
+use Rattle.crn_io.specs.Pull.{Consumes, HasNoneLeft}
+use Rattle.crn_io.specs.Read.{ConsumesUpTo}
+use Rattle.crn_io.specs.declared.lines.TheConstants.{MAX_DOCUMENT, MAX_AHEAD}
+use Rattle.crn_cert.specs.Built.{built}
+use Rattle.crn_ctext.specs.Records.{Record}
+use Rattle.crn_ctext.specs.Blocks.{ReadOf}
+use Rattle.crn_ctext.specs.Meaning.{meaning, verdicts_said}
+use Rattle.crn_ctext.specs.Judged.{IsReadOf, IsFaultOf}
+use Rattle.crn_ctext.specs.Linked.{AreSound}
+use Rattle.crn_check.specs.Verdicts.{tight}
+use Rattle.crn_document.specs.declared.check.Accepted.{Accepted}
+use Rattle.crn_document.specs.declared.stop.CheckStop.{CheckStop}
+use Rattle.crn_document.specs.declared.stop.CheckStop.TheVariants.{Rejected, Failed, NoMemory}
+
+-- the bytes that a document is: those that the source had left, if it shows them, and else those
+-- that were pulled
+abbrev pub IsTextOf : Option (List ℕ) → List ℕ → List ℕ → Type 0
+IsTextOf None pulled text = text ≡ pulled
+IsTextOf (Some left) pulled text = text ≡ left
+
+-- bytes were pulled, no more than one pull after the bound of documents, and this is the text of
+-- the document
+pub record IsRead (text : List ℕ) (old new : SourceSeen) : Type 0 where
+  pub pulled : List ℕ
+  pub consumed : Consumes old.left pulled new.left
+  pub bound : length pulled ≤ MAX_DOCUMENT + MAX_AHEAD
+  pub is : IsTextOf old.left pulled text
+  pub faults : new.faults ≡ old.faults
+
+-- The document was read to its end, and gave this network and these blocks. The verdicts are those
+-- that the blocks say, but for the memory of their lists, and each is true of the network or open.
+pub record Accepts (accepted : Accepted) (old new : SourceSeen) : Type 0 where
+  pub text : List ℕ
+  pub read : IsRead text old new
+  pub none : HasNoneLeft new.left
+  pub blocks : List (List Record)
+  pub gives : IsReadOf text (record { net = accepted.net; blocks = blocks })
+  pub verdicts : map tight accepted.verdicts
+      ≡ verdicts_said built (meaning.start accepted.net) blocks
+  pub sound : AreSound accepted.net built (map tight accepted.verdicts)
+
+-- the first fault of the document is of this kind and at this line
+pub record Rejects (code line : ℕ) (old new : SourceSeen) : Type 0 where
+  pub text : List ℕ
+  pub read : IsRead text old new
+  pub fault : IsFaultOf text line code
+
+-- no more was pulled than one pull after the bound of documents
+abbrev pub PullsDocument : SourceSeen → SourceSeen → Type 0
+PullsDocument old new = ConsumesUpTo (MAX_DOCUMENT + MAX_AHEAD) old.left new.left
+
+-- what checking a document did, by its answer; memory may run out at any point
+abbrev pub CheckGives : Result Accepted CheckStop → SourceSeen → SourceSeen → Type 0
+CheckGives (Ok accepted) old new = Accepts accepted old new
+CheckGives (Err (Rejected code line)) old new = Rejects code line old new
+CheckGives (Err Failed) old new = PullsDocument old new
+    × Rose old.faults new.faults × (old.faults ≤ new.faults)
+CheckGives (Err NoMemory) old new = PullsDocument old new × (new.faults ≡ old.faults)
+
+-- the document is accepted, with this network
+abbrev pub IsAccepted : Result Accepted CheckStop → ReadOf → Type 0
+IsAccepted (Ok accepted) read = accepted.net ≡ read.net
+IsAccepted (Err stop) read = ⊥
+
+-- If the source shows its bytes and does not fail, the document is accepted if it is read to its
+-- end, and rejected by its first fault if it has one, or memory runs out.
+pub record IsAnswered (result : Result Accepted CheckStop) (old new : SourceSeen) : Type 0 where
+  pub good : (text : List ℕ) (read : ReadOf) → old.left ≡ Some text
+      → (Rose old.faults new.faults → ⊥)
+      → IsReadOf text read → IsAccepted result read ⊎ (result ≡ Err NoMemory)
+  pub fault : (text : List ℕ) (line code : ℕ) → old.left ≡ Some text
+      → (Rose old.faults new.faults → ⊥)
+      → IsFaultOf text line code → (result ≡ Err (Rejected code line)) ⊎ (result ≡ Err NoMemory)
+
+-- the number of a kind of faults of documents
+abbrev pub IsFaultNumber : ℕ → Type 0
+IsFaultNumber code = ((21 ≤ code) × (code ≤ 37)) ⊎ ((41 ≤ code) × (code ≤ 46))
+
+-- a rejection has the number of a kind of faults
+abbrev pub HasFaultNumber : Result Accepted CheckStop → Type 0
+HasFaultNumber (Ok accepted) = Unit {0}
+HasFaultNumber (Err (Rejected code line)) = IsFaultNumber code
+HasFaultNumber (Err Failed) = Unit {0}
+HasFaultNumber (Err NoMemory) = Unit {0}

@@ -1,0 +1,12 @@
+-- For the contracts of private functions alone.
+pub mod Steps
+pub mod Records
+pub mod Answer
+pub mod Network
+pub mod Heads
+pub mod Blocks
+pub mod Courses
+pub mod Plain
+pub mod Table
+pub mod Ending
+pub mod Opening

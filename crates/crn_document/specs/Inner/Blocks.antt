@@ -1,0 +1,83 @@
+-- For the contracts of private functions alone.
+-- The parts of the course of a block, and what is known after some blocks.
+-- Source: this project's own format. Shapes: questions count from 1.
+use Rattle.std.specs.Prelude.{◌≡◌, ◌+◌, ◌-◌, ◌++◌, ℕ, ℤ, List, [], ◌∷◌, length, map, false}
+use Rattle.std.specs.List.{AllZip, range_with_len}
+use Rattle.crn_vec.specs.Network.{Net, IsNetwork}
+use Rattle.crn_cert.specs.Questions.{Earlier, Question, number}
+use Rattle.crn_cert.specs.Tests.{AllHold}
+use Rattle.crn_cert.specs.Valid.{head_tests}
+use Rattle.crn_ctext.specs.Records.{Record, Form, Fits}
+use Rattle.crn_ctext.specs.Questions.{later_numbers}
+use Rattle.crn_ctext.specs.Course.{Course, Give, ◌>>=◌}
+use Rattle.crn_ctext.specs.Blocks.{Behind, asks_all, asks_trees, below, claims, has_tree, head_claims, problems, row_claims}
+use Rattle.crn_ctext.specs.Meaning.{Known, lists, meaning, verdict_by}
+use Rattle.crn_ctext.specs.Meaning as said
+use Rattle.crn_check.specs.Facts.{AreFactsOf, asked}
+use Rattle.crn_check.specs.Verdicts.{tight}
+use Rattle.crn_document.specs.Inner.Heads.{IsHead, class_count, known_of}
+use Rattle.crn_document.specs.Inner.Records.{row_form, rows_below}
+use Rattle.crn_document.specs.declared.block.Checked.{Checked}
+
+-- after these verdicts and these blocks, at this line, which follows no tree
+abbrev pub behind_at : Net → Earlier → (line : ℕ) → List (List Record) → Behind Known
+behind_at net earlier line blocks = record {
+  known = known_of net earlier;
+  by_tree = false;
+  line = line;
+  blocks = blocks;
+}
+
+-- it is after these verdicts, at this line
+abbrev pub IsAfter : Net → Earlier → (line : ℕ) → Behind Known → Type 0
+IsAfter net earlier line y = (blocks : List (List Record)) × (y ≡ behind_at net earlier line blocks)
+
+-- what follows the records below a head
+abbrev pub end_course : (version : ℕ) → List (List ℤ) → Question → Behind Known → Record
+    → List Record → Course (Behind Known)
+end_course version table q at h rows =
+    claims at.line (row_claims meaning q at.known h rows) >>= (λ x.
+    asks_trees version table (problems meaning q at.known h)
+    (at.line + 1 + length rows) >>= (λ line. Give (record {
+      known = meaning.learn q at.known h rows;
+      by_tree = has_tree (problems meaning q at.known h);
+      line = line;
+      blocks = at.blocks ++ (h ∷ rows) ∷ [];
+    })))
+
+-- what follows the tests of a head
+abbrev pub rows_course : (version : ℕ) → List (List ℤ) → Question → Behind Known → Record
+    → Course (Behind Known)
+rows_course version table q at h =
+    asks_all version (at.line + 1) false (below q (meaning.shapes at.known) h) >>= (λ rows.
+    end_course version table q at h rows)
+
+-- what follows a head
+abbrev pub head_course : (version : ℕ) → List (List ℤ) → Question → Behind Known → Record
+    → Course (Behind Known)
+head_course version table q at h =
+    claims at.line (head_claims meaning q at.known h) >>= (λ x. rows_course version table q at h)
+
+-- the forms of the records below a head with these numbers
+abbrev pub forms_below : Net → (question : ℕ) → List ℤ → List Form
+forms_below net question head =
+    map (row_form net (class_count question head)) (rows_below question (said.number head 0))
+
+-- the tests of a head with these numbers hold
+abbrev pub HeadHolds : Net → Earlier → (question : ℕ) → List ℤ → Type 0
+HeadHolds net earlier question head = AllHold (head_tests net earlier (asked question)
+    (verdict_by (asked question) (said.number head 0) (later_numbers head) []))
+
+-- the head and the records below it have these numbers
+pub record IsBlock (net : Net) (question : ℕ) (head : List ℤ) (rows : List (List ℤ)) (h : Record)
+    (rs : List Record) : Type 0 where
+  pub is_head : IsHead net question head h
+  pub fit : AllZip Fits (forms_below net question head) rs
+  pub rows_are : rows ≡ lists rs
+
+-- the verdicts on the questions before this one are known, and kept in order
+pub record IsReady (net : Net) (question : ℕ) (checked : Checked) : Type 0 where
+  pub network : IsNetwork net
+  pub facts_of : AreFactsOf net checked.facts
+  pub so_far : map (λ e. number e.0) checked.facts.earlier ≡ range_with_len 1 (question - 1)
+  pub kept : map tight checked.verdicts ≡ map (λ e. e.1) checked.facts.earlier

@@ -1,0 +1,54 @@
+-- For the contracts of private functions alone. The parts of the course of a document, and what is
+-- said of its end.
+-- Source: this project's own format. Shapes: lines of a document count from 1.
+use Rattle.std.specs.Prelude.{◌≡◌, ◌≤◌, ◌+◌, ℕ, true, List, [], ◌∷◌, length, map}
+use Rattle.crn_vec.specs.Network.{Net}
+use Rattle.crn_io.specs.declared.lines.TheConstants.{MAX_NUMBERS}
+use Rattle.crn_cert.specs.Built.{built}
+use Rattle.crn_cert.specs.declared.answer.Verdict.{Verdict}
+use Rattle.crn_ctext.specs.Records.{Record}
+use Rattle.crn_ctext.specs.Kinds.{end_form}
+use Rattle.crn_ctext.specs.Course.{Course, ◌>>=◌}
+use Rattle.crn_ctext.specs.Blocks.{Behind, ReadOf, asks, asks_blocks, asks_table, course, lists_of}
+use Rattle.crn_ctext.specs.Meaning.{Known, meaning, verdicts_said, versions}
+use Rattle.crn_check.specs.Verdicts.{tight}
+use Rattle.crn_document.specs.declared.check.Accepted.{Accepted}
+use Rattle.crn_document.specs.declared.reading.Reading.{Reading}
+use Rattle.crn_document.specs.Inner.Blocks.{behind_at}
+use Rattle.crn_document.specs.Inner.Ending.{ends_with}
+
+-- nothing was read yet, and there is memory for the numbers of a line
+pub record IsNew (at : Reading) : Type 0 where
+  pub line : at.line ≡ 1
+  pub taken : at.lines.taken ≡ 0
+  pub ahead : at.lines.ahead ≡ []
+  pub goes_on : at.lines.goes_on ≡ true
+  pub room : MAX_NUMBERS ≤ at.numbers.spare + length at.numbers.list
+
+-- what follows the blocks
+abbrev pub last_course : (version : ℕ) → Net → Behind Known → Course ReadOf
+last_course version net behind =
+    asks version behind.line behind.by_tree (end_form ∷ []) >>= (λ last.
+    ends_with (record { net = net; blocks = behind.blocks }))
+
+-- what follows the network
+abbrev pub body_course : (version line : ℕ) → Net → Course ReadOf
+body_course version line net = asks_table version line >>= (λ table.
+    asks_blocks meaning version (lists_of table) built
+    (behind_at net [] (line + length table) []) >>= (λ behind.
+    last_course version net behind))
+
+-- a document
+abbrev pub whole_course : Course ReadOf
+whole_course = course meaning versions built
+
+-- the document is of this network, and its blocks say these verdicts, but for the memory of their
+-- lists
+abbrev pub IsSaidIn : Net → List Verdict → ReadOf → Type 0
+IsSaidIn net verdicts read = (blocks : List (List Record))
+    × (read ≡ record { net = net; blocks = blocks })
+    × (map tight verdicts ≡ verdicts_said built (meaning.start net) blocks)
+
+-- this network, and these verdicts
+abbrev pub IsWhole : Accepted → ReadOf → Type 0
+IsWhole accepted read = IsSaidIn accepted.net accepted.verdicts read

@@ -1,0 +1,33 @@
+-- For the contracts of private functions alone.
+-- The head of a question, and what the records below it rest on.
+-- Source: this project's own format. Shapes: questions and the places of forms count from 1.
+use Rattle.std.specs.Prelude.{◌≡◌, ◌==◌, ◌||◌, if◌then◌else◌, ℕ, ℤ, pos, List, [], ◌∷◌}
+use Rattle.crn_vec.specs.Network.{Net}
+use Rattle.crn_cert.specs.Questions.{Earlier}
+use Rattle.crn_ctext.specs.Records.{Record, Form}
+use Rattle.crn_ctext.specs.Questions.{heads}
+use Rattle.crn_ctext.specs.Blocks.{place_of}
+use Rattle.crn_ctext.specs.Documents.{IsOneOf}
+use Rattle.crn_ctext.specs.Meaning.{Known, number, sizes_of}
+use Rattle.crn_check.specs.Facts.{asked}
+
+-- what is known of a network and of the verdicts so far
+abbrev pub known_of : Net → Earlier → Known
+known_of net earlier = record { net = net; earlier = earlier }
+
+-- the forms of the head of a question
+abbrev pub head_forms : Net → ℕ → List Form
+head_forms net question = heads (asked question) (sizes_of (known_of net []))
+
+-- the numbers of a head, after the place of its form
+abbrev pub tagged : Net → ℕ → Record → List ℤ
+tagged net question h = pos (place_of (head_forms net question) h.words) ∷ h.numbers
+
+-- the record is the head of this question, and these are its numbers, after the place of its form
+pub record IsHead (net : Net) (question : ℕ) (numbers : List ℤ) (h : Record) : Type 0 where
+  pub form : IsOneOf (head_forms net question) h
+  pub tag : numbers ≡ tagged net question h
+
+-- the number of classes that a head says, which the lengths of some records below it are
+abbrev pub class_count : ℕ → List ℤ → ℕ
+class_count question head = if question == 1 || question == 2 then number head 1 else 0

@@ -1,0 +1,67 @@
+ghost use Rattle.std.specs.Prelude.{◌≡◌, [], IfOk};
+ghost use Rattle.crn_vec.specs.Network.{IsNetwork};
+ghost use Rattle.crn_document.specs.Inner.Steps.{GoesOn};
+ghost use Rattle.crn_document.specs.Inner.Blocks.{IsReady};
+ghost use Rattle.crn_document.specs.Inner.Courses.{IsSaidIn, body_course};
+ghost use Rattle.crn_document.specs.Inner.Ending.{LastIs};
+
+use crate::block::Checked;
+use crate::ending::next_end;
+use crate::questions::next_blocks;
+use crate::reading::Reading;
+use crate::stop::CheckStop;
+use crate::table::next_table;
+use crn_cert::Verdicts;
+use crn_check::Facts;
+use crn_io::{NoMemory, Source};
+use crn_net::Network;
+use std::alloc::Global;
+
+// No verdicts, with memory for those on this network.
+fn none_checked(alloc: Global, net: &Network) -> Result<Checked, NoMemory>
+    requires network { IsNetwork net.now }
+    ensures ready { IfOk result (λ made. IsReady net.now 1 made) }
+    ensures empty { IfOk result (λ made. made.facts.earlier ≡ []) }
+{
+    Ok(Checked {
+        facts: Facts::new(alloc, net)?,
+        verdicts: Verdicts::new(alloc)?,
+    })
+}
+
+// What follows the network of a document, to its end: the shared lists, and the blocks, whose verdicts are kept.
+fn next_parts<S: Source>(
+    source: &mut S,
+    at: &mut Reading,
+    net: &Network,
+    checked: &mut Checked,
+) -> Result<(), CheckStop>
+    requires goes { GoesOn at.old }
+    requires ready { IsReady net.now 1 checked.old }
+    requires empty { checked.old.facts.earlier ≡ [] }
+    ensures step { LastIs (body_course at.old.version at.old.line net.now)
+        (λ _ read. IsSaidIn net.now checked.new.verdicts read)
+        result at.old (S.seen source.old) (S.seen source.new) }
+{
+    next_table(source, at)?;
+    next_blocks(source, at, net, checked, 1)?;
+    next_end(source, at)
+}
+
+// What follows the network of a document, to its end, and the verdicts that its blocks say.
+pub(crate) fn next_body<S: Source>(
+    source: &mut S,
+    at: &mut Reading,
+    net: &Network,
+) -> Result<Verdicts, CheckStop>
+    requires goes { GoesOn at.old }
+    requires network { IsNetwork net.now }
+    ensures step { LastIs (body_course at.old.version at.old.line net.now)
+        (λ verdicts read. IsSaidIn net.now verdicts read)
+        result at.old (S.seen source.old) (S.seen source.new) }
+{
+    let mut checked = none_checked(at.alloc, net)?;
+    next_parts(source, at, net, &mut checked)?;
+    let Checked { facts: _, verdicts } = checked;
+    Ok(verdicts)
+}

@@ -1,0 +1,28 @@
+ghost use Rattle.crn_document.specs.Check.{CheckGives, HasFaultNumber, IsAnswered};
+
+use crate::document::{begin, next_document};
+use crate::stop::CheckStop;
+use crn_cert::Verdicts;
+use crn_io::Source;
+use crn_net::Network;
+use std::alloc::Global;
+
+/// What a good document says: its network, and a verdict on each question that is answered, in their order.
+#[derive(Drop)]
+pub struct Accepted {
+    pub net: Network,
+    pub verdicts: Verdicts,
+}
+
+/// Reads a document to its end and checks it, or says its first fault.
+///
+/// It holds one line, the network and one block of the document at a time, so the memory that it takes does not grow
+/// with the document.
+pub fn check_document<S: Source>(alloc: Global, source: &mut S) -> Result<Accepted, CheckStop>
+    ensures gives { CheckGives result (S.seen source.old) (S.seen source.new) }
+    ensures numbered { HasFaultNumber result }
+    ensures answered { IsAnswered result (S.seen source.old) (S.seen source.new) }
+{
+    let mut at = begin(alloc)?;
+    next_document(source, &mut at)
+}

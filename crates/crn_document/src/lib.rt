@@ -1,0 +1,25 @@
+//! Reads the document of a certificate line by line, and checks it.
+#![tactic(auto)]
+
+mod answer;
+mod block;
+mod body;
+mod check;
+mod document;
+mod ending;
+mod head;
+mod network;
+mod opening;
+mod plain;
+mod questions;
+mod reading;
+mod record;
+mod rows;
+mod sizes;
+mod stop;
+mod table;
+#[cfg(test)]
+mod tests;
+
+pub use check::{Accepted, check_document};
+pub use stop::CheckStop;

@@ -1,0 +1,155 @@
+ghost use Rattle.std.specs.Prelude.{◌≡◌, ◌≤◌, ◌+◌, ◌++◌, ◌∷◌, [], ◌↔◌, IsTrue, IfOk, OnOk, length};
+ghost use Rattle.crn_vec.specs.Network.{IsNetwork};
+ghost use Rattle.crn_vec.specs.declared.limits.TheConstants.{MAX_REACTIONS};
+ghost use Rattle.crn_io.specs.declared.lines.TheConstants.{MAX_NUMBERS};
+ghost use Rattle.crn_ctext.specs.Blocks.{asks_lines, ended, network_line};
+ghost use Rattle.crn_document.specs.Inner.Steps.{CanRead, GoesOn, StepIs};
+ghost use Rattle.crn_document.specs.Inner.Opening.{IsVersionOf, IsCountOf, title_course, count_course, network_course};
+
+use crate::network::network_of;
+use crate::reading::{Reading, next_line};
+use crate::stop::CheckStop;
+use crn_io::{NoMemory, Source};
+use crn_net::Network;
+use crn_vec::MAX_REACTIONS;
+use itoa::Buffer;
+
+// Whether the line is this text.
+fn is_line(line: &[u8], text: &[u8]) -> bool
+    ensures { IsTrue result ↔ (line.now ≡ text.now) }
+{
+    line == text
+}
+
+// Whether the line says that the network has so many lines.
+fn says_count(line: &[u8], count: u32) -> bool
+    ensures { IsTrue result ↔ (line.now ≡ network_line count) }
+{
+    let mut buffer = Buffer::new();
+    match line.strip_prefix(b"network ") {
+        Some(digits) => digits == buffer.format(count).as_bytes(),
+        None => false,
+    }
+}
+
+// The version of which this is the first line.
+fn version_of(line: &[u8]) -> Option<u32>
+    ensures { IsVersionOf line.now result }
+{
+    if is_line(line, b"crn certificate 1") {
+        return Some(1);
+    }
+    if is_line(line, b"crn certificate 2") {
+        return Some(2);
+    }
+    None
+}
+
+// The number of lines that the network has by this second line. There are so few numbers that each is tried.
+fn count_of(line: &[u8]) -> Option<u32>
+    ensures { IsCountOf line.now result }
+{
+    for count in 1..=MAX_REACTIONS as u32 {
+        if says_count(line, count) {
+            return Some(count);
+        }
+    }
+    None
+}
+
+// The first line of a document, which says its version.
+pub(crate) fn next_version<S: Source>(source: &mut S, at: &mut Reading) -> Result<(), CheckStop>
+    requires reads { CanRead at.old }
+    requires first { (at.old.line ≡ 1) × (at.old.lines.taken ≡ 0) }
+    requires room { MAX_NUMBERS ≤ at.old.numbers.spare + length at.old.numbers.list }
+    ensures step { StepIs title_course (λ _ version. version ≡ at.new.version) result at.old at.new
+        (S.seen source.old) (S.seen source.new) }
+    ensures goes { OnOk result (GoesOn at.new) }
+    ensures line { OnOk result (at.new.line ≡ 2) }
+{
+    next_line(source, at, false)?;
+    match version_of(at.lines.line()) {
+        Some(version) => {
+            at.version = version;
+            Ok(())
+        }
+        None => Err(CheckStop::Rejected { code: 21, line: 1 }),
+    }
+}
+
+// The second line of a document, which says how many lines its network has.
+pub(crate) fn next_count<S: Source>(source: &mut S, at: &mut Reading) -> Result<u32, CheckStop>
+    requires goes { GoesOn at.old }
+    requires second { at.old.line ≡ 2 }
+    ensures step { StepIs count_course (λ count n. n ≡ count) result at.old at.new
+        (S.seen source.old) (S.seen source.new) }
+    ensures goes { OnOk result (GoesOn at.new) }
+    ensures few { IfOk result (λ count. (1 ≤ count) × (count ≤ MAX_REACTIONS)) }
+    ensures line { OnOk result (at.new.line ≡ 3) }
+    ensures version { at.new.version ≡ at.old.version }
+{
+    next_line(source, at, false)?;
+    match count_of(at.lines.line()) {
+        Some(count) => Ok(count),
+        None => Err(CheckStop::Rejected { code: 22, line: 2 }),
+    }
+}
+
+// Adds a line with its LF.
+fn add_line(text: &mut Vec<u8>, line: &[u8]) -> Result<(), NoMemory>
+    ensures { OnOk result (text.new.items ≡ text.old.items ++ line.now ++ 10 ∷ []) }
+{
+    text.extend_from_slice(line)?;
+    text.extend_from_slice(b"\n")?;
+    Ok(())
+}
+
+// The next lines, so many of them, whatever they hold. Each is added to the text with its LF.
+fn next_lines<S: Source>(
+    source: &mut S,
+    at: &mut Reading,
+    count: u32,
+    text: &mut Vec<u8>,
+) -> Result<(), CheckStop>
+    requires goes { GoesOn at.old }
+    ensures step { StepIs (asks_lines count)
+        (λ _ lines. text.new.items ≡ text.old.items ++ ended lines)
+        result at.old at.new (S.seen source.old) (S.seen source.new) }
+    ensures goes { OnOk result (GoesOn at.new) }
+    ensures line { OnOk result (at.new.line ≡ at.old.line + count) }
+    ensures version { at.new.version ≡ at.old.version }
+{
+    if count == 0 {
+        return Ok(());
+    }
+    next_line(source, at, false)?;
+    add_line(text, at.lines.line())?;
+    next_lines(source, at, count - 1, text)
+}
+
+// The lines of the network, so many of them, and the network whose canonical text they are.
+pub(crate) fn next_network<S: Source>(
+    source: &mut S,
+    at: &mut Reading,
+    count: u32,
+) -> Result<Network, CheckStop>
+    requires goes { GoesOn at.old }
+    requires few { count ≤ MAX_REACTIONS }
+    requires third { at.old.line ≡ 3 }
+    ensures step { StepIs (network_course count) (λ net n. n ≡ net) result at.old at.new
+        (S.seen source.old) (S.seen source.new) }
+    ensures goes { OnOk result (GoesOn at.new) }
+    ensures network { IfOk result IsNetwork }
+    ensures line { OnOk result (at.new.line ≡ 3 + count) }
+    ensures version { at.new.version ≡ at.old.version }
+{
+    let mut text = Vec::new(at.alloc);
+    next_lines(source, at, count, &mut text)?;
+    match network_of(at.alloc, &text)? {
+        Some(net) => Ok(net),
+        None => Err(CheckStop::Rejected {
+            code: 22,
+            line: 2 + count,
+        }),
+    }
+}

@@ -1,0 +1,23 @@
+ghost use Rattle.std.specs.Prelude.{◌≡◌};
+ghost use Rattle.crn_document.specs.declared.stop.CheckStop.TheVariants.{NoMemory};
+
+use std::alloc::AllocError;
+
+/// Why a document is not accepted.
+#[derive(Clone, Copy, Debug, PartialEq, Eq)]
+pub enum CheckStop {
+    /// The first fault of the document, by the number of its kind and by its line, counted from 1.
+    Rejected { code: u32, line: u32 },
+    /// The source failed.
+    Failed,
+    /// Memory ran out.
+    NoMemory,
+}
+
+impl From<AllocError> for CheckStop {
+    ghost from_gives = { λ _ e. e ≡ NoMemory };
+
+    fn from(_: AllocError) -> CheckStop {
+        CheckStop::NoMemory
+    }
+}
