@@ -121,6 +121,9 @@ report_plain = (refl, value_of (codes "report") refl refl refl)
 pub certify_plain : IsPlain (codes "certify")
 certify_plain = (refl, value_of (codes "certify") refl refl refl)
 
+pub check_plain : IsPlain (codes "check")
+check_plain = (refl, value_of (codes "check") refl refl refl)
+
 -- the row of a command
 abbrev command_row : Text → List Row
 command_row c = rows_in (holding [] (Some (codes "command", c ∷ [])))

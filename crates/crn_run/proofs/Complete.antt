@@ -2,17 +2,26 @@
 use Rattle.std.proofs.Common.{◌≡◌, ◌⊎◌, ℕ, ◌≤◌, List, length, Option, Some, None, refl, sym, ap, ap₂, subst, ◌∙◌, inl, inr, arith}
 use Rattle.std.specs.Prelude.{IfSome}
 use Rattle.crn_io.specs.Push.{HasNoRoom}
+use Rattle.crn_io.specs.Lines.{beginning}
 use Rattle.crn_vec.specs.Network.{Net}
-use Rattle.crn_text.specs.Spells.{Spells}
+use Rattle.crn_text.specs.Spells.{Spells, Fault}
 use Rattle.crn_text.specs.declared.fault.TextCode.{TextCode}
 use Rattle.crn_text.proofs.CallerLemmas.{one_fault, no_fault}
+use Rattle.crn_ctext.specs.Blocks.{course}
+use Rattle.crn_ctext.specs.Records.{Record}
+use Rattle.crn_ctext.specs.Judged.{IsGood, IsFaultOf}
+use Rattle.crn_ctext.specs.Meaning.{meaning, versions}
+use Rattle.crn_ctext.proofs.CallerLemmas.{settled, gives_or_fails, first_is_one, good_documents_are_read, good_one}
+use Rattle.crn_cert.specs.Built.{built}
 use Rattle.crn_render.specs.Faults.{usage_line}
-use Rattle.crn_run.specs.Run.{Devices, refused_line, WasLeft, IsRefusalOf, IsOutput, IsAllowed, IsReadForOutput, RunGives, EndsWritten, HasNoFault, AskOfNetwork, IsSpelled, IsFaulty, IsComplete, IsQuiet}
+use Rattle.crn_render.specs.Report.{render}
+use Rattle.crn_run.specs.Run.{Devices, refused_line, rejected_line, WasLeft, IsRefusalOf, IsRejectionOf, IsCheckOf, verdicts_in, IsOutput, IsAllowed, IsReadForOutput, RunGives, EndsWritten, HasNoFault, AskOfNetwork, AskOfDocument, IsSpelled, IsFaulty, IsFaultyDocument, IsComplete, IsQuiet}
 use Rattle.crn_run.specs.Words.{IsCommand, SayACommand}
 use Rattle.crn_run.specs.declared.words.Command.{Command}
-use Rattle.crn_run.specs.declared.words.Command.TheVariants.{Report, Certify}
+use Rattle.crn_run.specs.declared.words.Command.TheVariants.{Report, Certify, Check}
 use Rattle.crn_run.specs.declared.status.Status.{Status}
 use Rattle.crn_run.specs.declared.status.Status.TheVariants.{Done, OpenLeft, Refused, Rejected, Usage, ReadFault, WriteFault, NoMemory}
+use Rattle.crn_run.proofs.WordsSaid.{one_command}
 
 -- ---- one text
 
@@ -28,33 +37,95 @@ one_refusal text out other p q =
     let same = one_fault text p.line q.line p.code q.code p.fault q.fault in
     p.written ∙ ap₂ (λ (line : ℕ) (code : TextCode). refused_line code line) same.0 same.1 ∙ sym q.written
 
+pub one_rejection : (text out other : List ℕ) → IsRejectionOf text out → IsRejectionOf text other → out ≡ other
+one_rejection text out other p q =
+    let same = first_is_one (course meaning versions built) settled (beginning text) p.line q.line p.code q.code p.fault q.fault in
+    p.written ∙ ap₂ (λ (line : ℕ) (code : ℕ). rejected_line code line) same.0 same.1 ∙ sym q.written
+
 -- ---- what an output says of the text
+
+-- a good document has no fault
+good_or_faulty : (text : List ℕ) → IsGood text → IsFaultyDocument text → ⊥
+good_or_faulty text good (line, code, fault) =
+    let read = good_documents_are_read text good in
+    gives_or_fails (course meaning versions built) settled (beginning text) read.1.0 read.0 line code read.1.1 fault
+
+-- a good document has one report
+one_check : (text out other : List ℕ) → IsCheckOf text out → IsCheckOf text other → out ≡ other
+one_check text out other p q =
+    let same = good_one text p.good q.good in
+    p.written ∙ ap₂ (λ (net : Net) (answers : List (List Record)). render built net (verdicts_in net answers)) same.0 same.1 ∙ sym q.written
+
+-- what `check` writes for a document
+abbrev Checks : (text out : List ℕ) → Type 0
+Checks text out = IsCheckOf text out ⊎ IsRejectionOf text out
+
+check_writes : (status : Status) (text out : List ℕ) → IsOutput Check status text out → Checks text out
+check_writes Done text out g = inl g
+check_writes OpenLeft text out g = absurd g
+check_writes Refused text out g = absurd g
+check_writes Rejected text out g = inr g
+check_writes Usage text out g = absurd g
+check_writes ReadFault text out g = absurd g
+check_writes WriteFault text out g = absurd g
+check_writes NoMemory text out g = absurd g
+
+checks : (words : List (List ℕ)) (text out : List ℕ) → IsCommand words Check → IsAllowed words text out → Checks text out
+checks words text out said (inl (command, status, other, says)) =
+    check_writes status text out (subst (λ (c : Command). IsOutput c status text out) (one_command words command Check other said) says)
+checks words text out said (inr (none, is)) = absurd (none (Check, said))
+
+one_of_checks : (text out other : List ℕ) → Checks text out → Checks text other → out ≡ other
+one_of_checks text out other (inl p) (inl q) = one_check text out other p q
+one_of_checks text out other (inl p) (inr q) = absurd (good_or_faulty text p.good (q.line, q.code, q.fault))
+one_of_checks text out other (inr p) (inl q) = absurd (good_or_faulty text q.good (p.line, p.code, p.fault))
+one_of_checks text out other (inr p) (inr q) = one_rejection text out other p q
+
+pub one_checked : (words : List (List ℕ)) (text out other : List ℕ) → IsCommand words Check → IsAllowed words text out → IsAllowed words text other → out ≡ other
+one_checked words text out other said p q = one_of_checks text out other (checks words text out said p) (checks words text other said q)
 
 -- a text that spells a network has no fault
 spelled_or_faulty : (text : List ℕ) → IsSpelled text → IsFaulty text → ⊥
 spelled_or_faulty text (net, spells) (line, code, fault) = no_fault text net line code spells fault
 
--- what an output with this status says of the text
-abbrev Kind : Status → List ℕ → Type 0
-Kind status text = (((status ≡ Done) ⊎ (status ≡ OpenLeft)) × IsSpelled text) ⊎ ((status ≡ Refused) × IsFaulty text)
+-- the command reads a network text
+abbrev OfNetwork : Command → Type 0
+OfNetwork (Report n) = Unit {0}
+OfNetwork (Certify n) = Unit {0}
+OfNetwork Check = ⊥
 
-kind : (command : Command) (status : Status) (text out : List ℕ) → IsOutput command status text out → Kind status text
-kind (Report n) Done text out g = inl (inl refl, (g.2.net, g.2.says.spells))
-kind (Report n) OpenLeft text out g = inl (inr refl, (g.2.net, g.2.says.spells))
-kind (Report n) Refused text out g = inr (refl, (g.line, g.code, g.fault))
+-- what an output with this status says of its command and of the text
+abbrev Kind : Command → Status → List ℕ → Type 0
+Kind command status text = (OfNetwork command × ((status ≡ Done) ⊎ (status ≡ OpenLeft)) × IsSpelled text)
+    ⊎ (OfNetwork command × (status ≡ Refused) × IsFaulty text)
+    ⊎ ((command ≡ Check) × (status ≡ Done) × IsGood text)
+    ⊎ ((command ≡ Check) × (status ≡ Rejected) × IsFaultyDocument text)
+
+kind : (command : Command) (status : Status) (text out : List ℕ) → IsOutput command status text out → Kind command status text
+kind (Report n) Done text out g = inl (tt, inl refl, (g.2.net, g.2.says.spells))
+kind (Report n) OpenLeft text out g = inl (tt, inr refl, (g.2.net, g.2.says.spells))
+kind (Report n) Refused text out g = inr (inl (tt, refl, (g.line, g.code, g.fault)))
 kind (Report n) Rejected text out g = absurd g.1
 kind (Report n) Usage text out g = absurd g.1
 kind (Report n) ReadFault text out g = absurd g.1
 kind (Report n) WriteFault text out g = absurd g.1
 kind (Report n) NoMemory text out g = absurd g.1
-kind (Certify n) Done text out g = inl (inl refl, (g.2.net, g.2.says.spells))
-kind (Certify n) OpenLeft text out g = inl (inr refl, (g.2.net, g.2.says.spells))
-kind (Certify n) Refused text out g = inr (refl, (g.line, g.code, g.fault))
+kind (Certify n) Done text out g = inl (tt, inl refl, (g.2.net, g.2.says.spells))
+kind (Certify n) OpenLeft text out g = inl (tt, inr refl, (g.2.net, g.2.says.spells))
+kind (Certify n) Refused text out g = inr (inl (tt, refl, (g.line, g.code, g.fault)))
 kind (Certify n) Rejected text out g = absurd g.1
 kind (Certify n) Usage text out g = absurd g.1
 kind (Certify n) ReadFault text out g = absurd g.1
 kind (Certify n) WriteFault text out g = absurd g.1
 kind (Certify n) NoMemory text out g = absurd g.1
+kind Check Done text out g = inr (inr (inl (refl, refl, g.good)))
+kind Check OpenLeft text out g = absurd g
+kind Check Refused text out g = absurd g
+kind Check Rejected text out g = inr (inr (inr (refl, refl, (g.line, g.code, g.fault))))
+kind Check Usage text out g = absurd g
+kind Check ReadFault text out g = absurd g
+kind Check WriteFault text out g = absurd g
+kind Check NoMemory text out g = absurd g
 
 -- ---- completeness
 
@@ -66,26 +137,65 @@ shown_is (Some t) shown text e p = let h : t ≡ shown = cc in sym h ∙ p
 shows : (P : List ℕ → Type 0) (old : Devices) (text shown : List ℕ) → old.source.left ≡ Some shown → WasLeft old text → P shown → P text
 shows P old text shown e left p = subst P (shown_is old.source.left shown text e left) p
 
+-- no words say two commands
+not_check : (words : List (List ℕ)) (n : ℕ) → IsCommand words (Report n) ⊎ IsCommand words (Certify n) → IsCommand words Check → ⊥
+not_check words n (inl p) q = let e = one_command words (Report n) Check p q in cc
+not_check words n (inr p) q = let e = one_command words (Certify n) Check p q in cc
+
+not_network : (words : List (List ℕ)) (command : Command) → OfNetwork command → IsCommand words command → IsCommand words Check → ⊥
+not_network words (Report n) reads p q = not_check words n (inl p) q
+not_network words (Certify n) reads p q = not_check words n (inr p) q
+not_network words Check reads p q = reads
+
 written_complete : (status : Status) (words : List (List ℕ)) (old new : Devices) → EndsWritten status words old new → IsComplete status words old new
 written_complete status words old new g = by (kind g.command status g.text g.out g.says)
   where
     no_command : {X : Type 0} → (SayACommand words → ⊥) → X
     no_command none = absurd (none (g.command, g.said))
 
-    by : Kind status g.text → IsComplete status words old new
-    by (inl (inl is, spelled)) = record {
+    said_check : g.command ≡ Check → IsCommand words Check
+    said_check e = subst (IsCommand words) e g.said
+
+    of_check : {X : Type 0} → g.command ≡ Check → (n : ℕ) → IsCommand words (Report n) ⊎ IsCommand words (Certify n) → X
+    of_check e n ask = absurd (not_check words n ask (said_check e))
+
+    of_network : {X : Type 0} → OfNetwork g.command → IsCommand words Check → X
+    of_network reads ask = absurd (not_network words g.command reads g.said ask)
+
+    by : Kind g.command status g.text → IsComplete status words old new
+    by (inl (reads, inl is, spelled)) = record {
       spelled = λ quiet ask. inl is;
       refused = λ quiet ask. absurd (spelled_or_faulty g.text spelled (shows IsFaulty old g.text ask.2.0 ask.2.1 g.left ask.2.2));
+      accepted = λ quiet ask. of_network reads ask.0;
+      rejected = λ quiet ask. of_network reads ask.0;
       usage = λ quiet none. no_command none;
     }
-    by (inl (inr is, spelled)) = record {
+    by (inl (reads, inr is, spelled)) = record {
       spelled = λ quiet ask. inr (inl is);
       refused = λ quiet ask. absurd (spelled_or_faulty g.text spelled (shows IsFaulty old g.text ask.2.0 ask.2.1 g.left ask.2.2));
+      accepted = λ quiet ask. of_network reads ask.0;
+      rejected = λ quiet ask. of_network reads ask.0;
       usage = λ quiet none. no_command none;
     }
-    by (inr (is, faulty)) = record {
+    by (inr (inl (reads, is, faulty))) = record {
       spelled = λ quiet ask. absurd (spelled_or_faulty g.text (shows IsSpelled old g.text ask.2.0 ask.2.1 g.left ask.2.2) faulty);
       refused = λ quiet ask. inl is;
+      accepted = λ quiet ask. of_network reads ask.0;
+      rejected = λ quiet ask. of_network reads ask.0;
+      usage = λ quiet none. no_command none;
+    }
+    by (inr (inr (inl (e, is, good)))) = record {
+      spelled = λ quiet ask. of_check e ask.0 ask.1;
+      refused = λ quiet ask. of_check e ask.0 ask.1;
+      accepted = λ quiet ask. inl is;
+      rejected = λ quiet ask. absurd (good_or_faulty g.text good (shows IsFaultyDocument old g.text ask.1.0 ask.1.1 g.left ask.1.2));
+      usage = λ quiet none. no_command none;
+    }
+    by (inr (inr (inr (e, is, faulty)))) = record {
+      spelled = λ quiet ask. of_check e ask.0 ask.1;
+      refused = λ quiet ask. of_check e ask.0 ask.1;
+      accepted = λ quiet ask. absurd (good_or_faulty g.text (shows IsGood old g.text ask.1.0 ask.1.1 g.left ask.1.2) faulty);
+      rejected = λ quiet ask. inl is;
       usage = λ quiet none. no_command none;
     }
 
@@ -102,21 +212,29 @@ run_complete Rejected words old new g = written_complete Rejected words old new 
 run_complete Usage words old new g = record {
   spelled = λ quiet ask. absurd (g.command (some_command IsSpelled words old ask));
   refused = λ quiet ask. absurd (g.command (some_command IsFaulty words old ask));
+  accepted = λ quiet ask. absurd (g.command (Check, ask.0));
+  rejected = λ quiet ask. absurd (g.command (Check, ask.0));
   usage = λ quiet none. inl refl;
 }
 run_complete ReadFault words old new g = record {
   spelled = λ quiet ask. absurd (quiet.source g.source);
   refused = λ quiet ask. absurd (quiet.source g.source);
+  accepted = λ quiet ask. absurd (quiet.source g.source);
+  rejected = λ quiet ask. absurd (quiet.source g.source);
   usage = λ quiet none. absurd (quiet.source g.source);
 }
 run_complete WriteFault words old new g = record {
   spelled = λ quiet ask. absurd (quiet.sink g.sink.rose);
   refused = λ quiet ask. absurd (quiet.sink g.sink.rose);
+  accepted = λ quiet ask. absurd (quiet.sink g.sink.rose);
+  rejected = λ quiet ask. absurd (quiet.sink g.sink.rose);
   usage = λ quiet none. absurd (quiet.sink g.sink.rose);
 }
 run_complete NoMemory words old new g = record {
   spelled = λ quiet ask. inr (inr refl);
   refused = λ quiet ask. inr refl;
+  accepted = λ quiet ask. inr refl;
+  rejected = λ quiet ask. inr refl;
   usage = λ quiet none. inr refl;
 }
 

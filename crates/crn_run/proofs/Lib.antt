@@ -2,6 +2,8 @@ mod Runs
 mod OpenAnswers
 mod Outputs
 mod Certificates
+mod Checked
+mod CheckedForms
 mod Complete
 mod ClapWords
 mod ClapSteps

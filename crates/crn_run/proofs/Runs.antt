@@ -20,7 +20,7 @@ use Rattle.crn_run.specs.Inner.Steps.{HasNoMemory, LineGives, NetworkGives, Outp
 use Rattle.crn_run.specs.declared.network.Stop.{Stop}
 use Rattle.crn_run.specs.declared.network.Stop.TheVariants as network
 use Rattle.crn_run.specs.declared.words.Command.{Command}
-use Rattle.crn_run.specs.declared.words.Command.TheVariants.{Report, Certify}
+use Rattle.crn_run.specs.declared.words.Command.TheVariants.{Report, Certify, Check}
 use Rattle.crn_run.specs.declared.status.Status.{Status}
 use Rattle.crn_run.specs.declared.status.Status.TheVariants.{Done, OpenLeft, Refused, Rejected, Usage, ReadFault, WriteFault, NoMemory}
 
@@ -65,6 +65,7 @@ pulled (Err stop.NoMemory) limit old new g = g.0
 pub within_network : (words : List (List ℕ)) (command : Command) (left rest : Option (List ℕ)) → ReadsNetwork command → IsCommand words command → ConsumesUpTo (MAX_TEXT + 1) left rest → IsReadWithin words left rest
 within_network words (Report n) left rest reads said g = inl (Report n, said, g)
 within_network words (Certify n) left rest reads said g = inl (Certify n, said, g)
+within_network words Check left rest reads said g = absurd reads
 
 -- ---- outputs
 
@@ -86,11 +87,13 @@ read_for (Certify n) Usage text out left rest reads g r = r
 read_for (Certify n) ReadFault text out left rest reads g r = r
 read_for (Certify n) WriteFault text out left rest reads g r = r
 read_for (Certify n) NoMemory text out left rest reads g r = r
+read_for Check status text out left rest reads g r = absurd reads
 
 -- a refusal is what a command that reads a network text writes
 pub refusal_is_output : (command : Command) (text out : List ℕ) → ReadsNetwork command → IsRefusalOf text out → IsOutput command Refused text out
 refusal_is_output (Report n) text out reads r = r
 refusal_is_output (Certify n) text out reads r = r
+refusal_is_output Check text out reads r = absurd reads
 
 -- no command writes a text with these statuses
 abbrev IsWritten : Status → Type 0
@@ -113,6 +116,10 @@ output_is_written (Certify n) Usage text out g = g.1
 output_is_written (Certify n) ReadFault text out g = g.1
 output_is_written (Certify n) WriteFault text out g = g.1
 output_is_written (Certify n) NoMemory text out g = g.1
+output_is_written Check Usage text out g = g
+output_is_written Check ReadFault text out g = g
+output_is_written Check WriteFault text out g = g
+output_is_written Check NoMemory text out g = g
 
 -- ---- runs
 

@@ -14,9 +14,9 @@ use Rattle.crn_run.specs.Inner.Parse.{Gives, IsRead, Means, MeansBudget, MeansNa
 use Rattle.crn_vec.specs.declared.limits.TheConstants.{MAX_BUDGET}
 use Rattle.crn_run.specs.Words.{IsCommand, Say, SayName}
 use Rattle.crn_run.specs.declared.words.Command.{Command}
-use Rattle.crn_run.specs.declared.words.Command.TheVariants.{Report, Certify}
+use Rattle.crn_run.specs.declared.words.Command.TheVariants.{Report, Certify, Check}
 use Rattle.crn_run.proofs.ClapReads.{Asked, SayAsked}
-use Rattle.crn_run.proofs.ClapForms.{IsPlain, IsReadAs, certify_plain, name_is_read, named_is_read, read_is_asked, report_plain}
+use Rattle.crn_run.proofs.ClapForms.{IsPlain, IsReadAs, certify_plain, check_plain, name_is_read, named_is_read, read_is_asked, report_plain}
 
 -- ---- the clauses of clap
 
@@ -58,15 +58,26 @@ unread_of a words e is (inr among) other read =
 abbrev named : Text → ℕ → Asked
 named name n = record { name = name; budget_is = λ o. MeansBudget o n }
 
+-- a name alone
+abbrev alone : Text → Asked
+alone name = record { name = name; budget_is = λ o. o ≡ None }
+
 values_asked : (ask : Asked) (words : List Text) (command count budget : Option Text) → list_any is_two_dashes (drop 1 words) ≡ false → IsRead words
     → Gives words command count budget → command ≡ Some ask.name → count ≡ None → ask.budget_is budget → (program : Text) × (rest : List Text) × (words ≡ program ∷ rest) × SayAsked ask rest
 values_asked ask words command count budget plain read gives is none means =
     read_is_asked words budget ask plain read (subst (λ (o : Option Text). Gives words o None budget) is (subst (λ (o : Option Text). Gives words command o budget) none gives)) means
 
+alone_said : (name : Text) (words : List Text) → SayAsked (alone name) words → words ≡ name ∷ []
+alone_said name words (inl (e, none)) = e
+alone_said name words (inr (v, bad, form)) = absurd (let e : Some v ≡ None = bad in cc)
+
 values_say : (words : List Text) (command count budget : Option Text) (c : Command) → list_any is_two_dashes (drop 1 words) ≡ false → IsRead words
     → Gives words command count budget → Means command count budget c → IsCommand words c
 values_say words command count budget (Report n) plain read gives (is, none, means) = values_asked (named (codes "report") n) words command count budget plain read gives is none means
 values_say words command count budget (Certify n) plain read gives (is, none, means) = values_asked (named (codes "certify") n) words command count budget plain read gives is none means
+values_say words command count budget Check plain read gives (is, none, means) =
+    let (program, rest, e, says) = values_asked (alone (codes "check")) words command count budget plain read gives is none means in
+    (program, rest, e, alone_said (codes "check") rest says)
 
 -- the words of a command with a name, as clap reads them
 name_read : (name program : Text) (words : List Text) (n : ℕ) → IsPlain name → SayName name words n → (b : Option Text) × IsReadAs name program words b × MeansBudget b n
@@ -76,11 +87,13 @@ name_read name program words n is (inr (text, writes, form)) = (Some text, named
 abbrev name_of : Command → Text
 name_of (Report n) = codes "report"
 name_of (Certify n) = codes "certify"
+name_of Check = codes "check"
 
 -- the words of a command, as clap reads them
 said_read : (program : Text) (words : List Text) (c : Command) → Say words c → (b : Option Text) × IsReadAs (name_of c) program words b × Means (Some (name_of c)) None b c
 said_read program words (Report n) says = let (b, r, means) = name_read (codes "report") program words n report_plain says in (b, r, (refl, refl, means))
 said_read program words (Certify n) says = let (b, r, means) = name_read (codes "certify") program words n certify_plain says in (b, r, (refl, refl, means))
+said_read program words Check e = (None, rw e (name_is_read (codes "check") program check_plain), (refl, refl, refl))
 
 -- words give their values once
 gives_one : (words : List Text) (command count budget first second third : Option Text) (c : Command) → Gives words command count budget → Gives words first second third
@@ -118,8 +131,13 @@ budget_one (Some text) n m p q = sym p.value ∙ q.value
 means_one : (command count word : Option Text) (c d : Command) → Means command count word c → Means command count word d → c ≡ d
 means_one command count word (Report n) (Report m) p q = ap Report (budget_one word n m p.2 q.2)
 means_one command count word (Report n) (Certify m) p q = absurd (let e : Some (codes "report") ≡ Some (codes "certify") = sym p.0 ∙ q.0 in cc)
+means_one command count word (Report n) Check p q = absurd (let e : Some (codes "report") ≡ Some (codes "check") = sym p.0 ∙ q.0 in cc)
 means_one command count word (Certify n) (Report m) p q = absurd (let e : Some (codes "certify") ≡ Some (codes "report") = sym p.0 ∙ q.0 in cc)
 means_one command count word (Certify n) (Certify m) p q = ap Certify (budget_one word n m p.2 q.2)
+means_one command count word (Certify n) Check p q = absurd (let e : Some (codes "certify") ≡ Some (codes "check") = sym p.0 ∙ q.0 in cc)
+means_one command count word Check (Report m) p q = absurd (let e : Some (codes "check") ≡ Some (codes "report") = sym p.0 ∙ q.0 in cc)
+means_one command count word Check (Certify m) p q = absurd (let e : Some (codes "check") ≡ Some (codes "certify") = sym p.0 ∙ q.0 in cc)
+means_one command count word Check Check p q = refl
 
 pub one_command : (words : List Text) (c d : Command) → IsCommand words c → IsCommand words d → c ≡ d
 one_command words c d (program, rest, e, says) other =

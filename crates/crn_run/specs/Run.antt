@@ -7,6 +7,7 @@ use Rattle.crn_io.specs.Device.{SourceSeen, SinkSeen, Rose}
 use Rattle.crn_io.specs.Pull.{Consumes}
 use Rattle.crn_io.specs.Read.{ConsumesUpTo}
 use Rattle.crn_io.specs.Write.{WroteAll, WrotePrefix}
+use Rattle.crn_io.specs.declared.lines.TheConstants.{MAX_AHEAD, MAX_DOCUMENT}
 use Rattle.crn_text.specs.Codes.{code_number, code_name}
 use Rattle.crn_text.specs.Spells.{Spells, Fault}
 use Rattle.crn_text.specs.declared.fault.TextCode.{TextCode}
@@ -18,14 +19,16 @@ use Rattle.crn_cert.specs.Questions.{IsOpen}
 use Rattle.crn_cert.specs.Formed.{AreFormed}
 use Rattle.crn_cert.specs.Valid.{AreValid}
 use Rattle.crn_cert.specs.Licensed.{AllTrueOrLicensed}
-use Rattle.crn_ctext.specs.Documents.{document2, share_of}
-use Rattle.crn_ctext.specs.Judged.{IsGood}
-use Rattle.crn_ctext.specs.Linked.{records_of}
+use Rattle.crn_ctext.specs.Records.{Record}
+use Rattle.crn_ctext.specs.Documents.{Share, document2, share_of}
+use Rattle.crn_ctext.specs.Judged.{IsGood, IsFaultOf}
+use Rattle.crn_ctext.specs.Linked.{AreSound, records_of}
+use Rattle.crn_ctext.specs.Meaning.{meaning, verdicts_said}
 use Rattle.crn_render.specs.Report.{render}
-use Rattle.crn_render.specs.Faults.{usage_line, fault_line}
+use Rattle.crn_render.specs.Faults.{usage_line, fault_line, document_name}
 use Rattle.crn_run.specs.Words.{IsCommand, SayACommand}
 use Rattle.crn_run.specs.declared.words.Command.{Command}
-use Rattle.crn_run.specs.declared.words.Command.TheVariants.{Report, Certify}
+use Rattle.crn_run.specs.declared.words.Command.TheVariants.{Report, Certify, Check}
 use Rattle.crn_run.specs.declared.status.Status.{Status}
 use Rattle.crn_run.specs.declared.status.Status.TheVariants.{Done, OpenLeft, Refused, Rejected, Usage, ReadFault, WriteFault, NoMemory}
 
@@ -71,9 +74,24 @@ pub record IsCertificateOf (budget : ℕ) (text out : List ℕ) (answers : List 
   pub written : out ≡ certificate net answers
   pub good : IsGood out
 
+-- the verdicts that the records of a document say of its network
+abbrev pub verdicts_in : Net → List (List Record) → List Verdict
+verdicts_in net answers = verdicts_said built (meaning.start net) answers
+
+-- the text is a good document, and this the report of its network and of the verdicts that its
+-- records say, each true or open
+pub record IsCheckOf (text out : List ℕ) : Type 0 where
+  pub good : IsGood text
+  pub sound : AreSound good.net built (verdicts_in good.net good.answers)
+  pub written : out ≡ render built good.net (verdicts_in good.net good.answers)
+
 -- the line that says a fault of a network text
 abbrev pub refused_line : TextCode → (line : ℕ) → List ℕ
 refused_line code line = fault_line (codes "refused") (code_number code) (code_name code) line
+
+-- the line that says a fault of a document
+abbrev pub rejected_line : (code line : ℕ) → List ℕ
+rejected_line code line = fault_line (codes "rejected") code (document_name code) line
 
 -- the line that says the first fault of a network text
 pub record IsRefusalOf (text out : List ℕ) : Type 0 where
@@ -81,6 +99,13 @@ pub record IsRefusalOf (text out : List ℕ) : Type 0 where
   pub code : TextCode
   pub fault : Fault text line code
   pub written : out ≡ refused_line code line
+
+-- the line that says the first fault of a document
+pub record IsRejectionOf (text out : List ℕ) : Type 0 where
+  pub line : ℕ
+  pub code : ℕ
+  pub fault : IsFaultOf text line code
+  pub written : out ≡ rejected_line code line
 
 -- what a command writes for a text, by the status that the run ends with
 abbrev pub IsOutput : Command → Status → (text out : List ℕ) → Type 0
@@ -90,6 +115,9 @@ IsOutput (Report budget) status text out = (answers : List Answer) × AreLeftBy 
 IsOutput (Certify budget) Refused text out = IsRefusalOf text out
 IsOutput (Certify budget) status text out = (answers : List Answer) × AreLeftBy status answers
     × IsCertificateOf budget text out answers
+IsOutput Check Done text out = IsCheckOf text out
+IsOutput Check Rejected text out = IsRejectionOf text out
+IsOutput Check status text out = ⊥
 
 -- what may be written for these words and this text
 abbrev pub IsAllowed : List (List ℕ) → (text out : List ℕ) → Type 0
@@ -122,11 +150,13 @@ IsReadUp left rest = IsReadOut left rest
 abbrev pub most_read : Command → ℕ
 most_read (Report budget) = MAX_TEXT + 1
 most_read (Certify budget) = MAX_TEXT + 1
+most_read Check = MAX_DOCUMENT + MAX_AHEAD
 
--- how far the source was read, by the status that the run ends with: to its end, or as far as a
--- text goes
+-- how far the source was read, by the status that the run ends with: to its end, as far as a text
+-- goes, or no further than a document goes
 abbrev pub IsReadFor : Status → Option (List ℕ) → Option (List ℕ) → Type 0
 IsReadFor Refused left rest = IsReadUp left rest
+IsReadFor Rejected left rest = ConsumesUpTo (MAX_DOCUMENT + MAX_AHEAD) left rest
 IsReadFor status left rest = IsReadOut left rest
 
 -- no more was read than the command reads that the words say, so nothing if they say none
@@ -212,6 +242,10 @@ abbrev pub AskOfNetwork : (List ℕ → Type 0) → List (List ℕ) → Devices 
 AskOfNetwork P words old = (budget : ℕ)
     × (IsCommand words (Report budget) ⊎ IsCommand words (Certify budget)) × Shows P old
 
+-- the words say `check`, and the source shows a document with this property
+abbrev pub AskOfDocument : (List ℕ → Type 0) → List (List ℕ) → Devices → Type 0
+AskOfDocument P words old = IsCommand words Check × Shows P old
+
 -- the text spells a network
 abbrev pub IsSpelled : List ℕ → Type 0
 IsSpelled text = (net : Net) × Spells text net
@@ -220,12 +254,20 @@ IsSpelled text = (net : Net) × Spells text net
 abbrev pub IsFaulty : List ℕ → Type 0
 IsFaulty text = (line : ℕ) × (code : TextCode) × Fault text line code
 
+-- the document has a fault
+abbrev pub IsFaultyDocument : List ℕ → Type 0
+IsFaultyDocument text = (line : ℕ) × (code : ℕ) × IsFaultOf text line code
+
 -- if no device failed, a run answers what the words and the text ask for, or memory ran out
 pub record IsComplete (status : Status) (words : List (List ℕ)) (old new : Devices) : Type 0 where
   pub spelled : HasNoFault old new → AskOfNetwork IsSpelled words old
       → (status ≡ Done) ⊎ (status ≡ OpenLeft) ⊎ (status ≡ NoMemory)
   pub refused : HasNoFault old new → AskOfNetwork IsFaulty words old
       → (status ≡ Refused) ⊎ (status ≡ NoMemory)
+  pub accepted : HasNoFault old new → AskOfDocument IsGood words old
+      → (status ≡ Done) ⊎ (status ≡ NoMemory)
+  pub rejected : HasNoFault old new → AskOfDocument IsFaultyDocument words old
+      → (status ≡ Rejected) ⊎ (status ≡ NoMemory)
   pub usage : HasNoFault old new → (SayACommand words → ⊥)
       → (status ≡ Usage) ⊎ (status ≡ NoMemory)
 

@@ -4,7 +4,7 @@ use Rattle.std.specs.Prelude.{◌≡◌, ◌≤◌, ◌⊎◌, ℕ, List, [], �
 use Rattle.std.specs.Str.Parse.{IsNumeral, digits_value}
 use Rattle.crn_vec.specs.declared.limits.TheConstants.{MAX_BUDGET, MAX_BUDGET_DIGITS, DEFAULT_BUDGET}
 use Rattle.crn_run.specs.declared.words.Command.{Command}
-use Rattle.crn_run.specs.declared.words.Command.TheVariants.{Report, Certify}
+use Rattle.crn_run.specs.declared.words.Command.TheVariants.{Report, Certify, Check}
 
 -- the text is one to six digits, without a sign, and writes a budget from 1 to 100,000
 pub record IsBudget (text : List ℕ) (budget : ℕ) : Type 0 where
@@ -30,6 +30,7 @@ SayName name words budget = ((words ≡ name ∷ []) × (budget ≡ DEFAULT_BUDG
 abbrev pub Say : List (List ℕ) → Command → Type 0
 Say words (Report budget) = SayName (codes "report") words budget
 Say words (Certify budget) = SayName (codes "certify") words budget
+Say words Check = words ≡ codes "check" ∷ []
 
 -- the words of a command line say the command
 abbrev pub IsCommand : List (List ℕ) → Command → Type 0

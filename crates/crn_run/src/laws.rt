@@ -1,7 +1,8 @@
 ghost use Rattle.std.specs.Prelude.{◌≡◌, ℕ, List};
-ghost use Rattle.crn_run.specs.Run.{Devices, IsAllowed, IsQuiet, IsRefusalOf, RunGives};
+ghost use Rattle.crn_run.specs.Run.{Devices, IsAllowed, IsQuiet, IsRefusalOf, IsRejectionOf, RunGives};
 ghost use Rattle.crn_run.specs.Words.{IsCommand, SayACommand};
 ghost use Rattle.crn_run.specs.declared.words.Command.{Command};
+ghost use Rattle.crn_run.specs.declared.words.Command.TheVariants.{Check};
 ghost use Rattle.crn_run.specs.declared.status.Status.{Status};
 ghost use Rattle.crn_run.specs.declared.status.Status.TheVariants.{ReadFault, WriteFault};
 
@@ -11,13 +12,19 @@ pub fn words_say_one_command()
         IsCommand words c → IsCommand words other → c ≡ other }
 {}
 
-/// What may be written is one text if the words say no command, and for a text that is refused.
+/// What may be written is one text if the words say no command, for a text that is refused or rejected, and
+/// for each document that is checked.
 pub fn what_may_be_written_is_one_text()
     ensures usage { (words : List (List ℕ)) (text out other : List ℕ) →
         (SayACommand words → ⊥) → IsAllowed words text out → IsAllowed words text other →
         out ≡ other }
     ensures refused { (text out other : List ℕ) →
         IsRefusalOf text out → IsRefusalOf text other → out ≡ other }
+    ensures rejected { (text out other : List ℕ) →
+        IsRejectionOf text out → IsRejectionOf text other → out ≡ other }
+    ensures checked { (words : List (List ℕ)) (text out other : List ℕ) →
+        IsCommand words Check → IsAllowed words text out → IsAllowed words text other →
+        out ≡ other }
 {}
 
 /// Over a source that never fails and a sink with room for each text that may be written, a run meets no fault.

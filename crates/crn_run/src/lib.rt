@@ -1,4 +1,4 @@
-//! The top call of the program: it reads words and a network text, and writes a report or a document.
+//! The top call of the program: it reads words and a text, and writes a report, a document, or why a text is refused or rejected.
 #![tactic(auto)]
 
 mod laws;

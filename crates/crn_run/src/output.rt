@@ -8,17 +8,20 @@ ghost use Rattle.crn_cert.specs.Valid.{AreValid};
 ghost use Rattle.crn_ctext.specs.Documents.{share_of};
 ghost use Rattle.crn_ctext.specs.Judged.{IsGood};
 ghost use Rattle.crn_ctext.specs.Linked.{records_of};
-ghost use Rattle.crn_render.specs.Faults.{usage_line};
-ghost use Rattle.crn_run.specs.Run.{AreLeftBy, HasOpen, certificate, refused_line};
+ghost use Rattle.crn_cert.specs.FormedVerdicts.{AreFormedVerdicts};
+ghost use Rattle.crn_render.specs.Faults.{IsDocumentCode, usage_line};
+ghost use Rattle.crn_render.specs.Report.{render};
+ghost use Rattle.crn_run.specs.Run.{AreLeftBy, HasOpen, certificate, refused_line, rejected_line};
 ghost use Rattle.crn_run.specs.Inner.Steps.{LineGives, NetworkGives};
 ghost use Rattle.crn_run.specs.declared.words.Command.TheVariants.{Report, Certify};
-ghost use Rattle.crn_run.specs.declared.status.Status.TheVariants.{Refused, Usage};
+ghost use Rattle.crn_run.specs.declared.status.Status.TheVariants.{Done, Refused, Rejected, Usage};
 
 use crate::status::Status;
 use crn_cert::{Answers, Rows, Share, Verdict};
 use crn_ctext::{
     built_answers_have_no_cuts, shares_are_of_records, write_document2, written_documents_are_good,
 };
+use crn_document::Accepted;
 use crn_io::Sink;
 use crn_net::Network;
 use crn_render::{Printed, write_fault, write_report};
@@ -45,6 +48,30 @@ pub(crate) fn refuse<K: Sink>(code: TextCode, line: u32, sink: &mut K) -> Status
     let code = code.number();
     match write_fault(&Printed::Refused { code, line }, sink) {
         Ok(()) => Status::Refused,
+        Err(_) => Status::WriteFault,
+    }
+}
+
+/// Writes the line that says why a document is rejected. Takes no memory.
+pub(crate) fn reject<K: Sink>(code: u32, line: u32, sink: &mut K) -> Status
+    requires { IsDocumentCode code }
+    ensures { LineGives Rejected result (rejected_line code line)
+        (K.seen sink.old) (K.seen sink.new) }
+{
+    match write_fault(&Printed::Rejected { code, line }, sink) {
+        Ok(()) => Status::Rejected,
+        Err(_) => Status::WriteFault,
+    }
+}
+
+/// Writes the report of what an accepted document says. Takes no memory.
+pub(crate) fn accept<K: Sink>(accepted: &Accepted, sink: &mut K) -> Status
+    requires { AreFormedVerdicts accepted.now.net [] built accepted.now.verdicts }
+    ensures { LineGives Done result (render built accepted.now.net accepted.now.verdicts)
+        (K.seen sink.old) (K.seen sink.new) }
+{
+    match write_report(&accepted.net, &accepted.verdicts, sink) {
+        Ok(()) => Status::Done,
         Err(_) => Status::WriteFault,
     }
 }

@@ -4,12 +4,15 @@ ghost use Rattle.crn_io.specs.Device.{SinkSeen};
 ghost use Rattle.crn_run.specs.Inner.Steps.{StopGives};
 ghost use Rattle.crn_run.specs.Run.{IsComplete, RunGives};
 ghost use Rattle.crn_run.specs.Words.{IsCommand, SayACommand};
-ghost use Rattle.crn_run.specs.declared.words.Command.TheVariants.{Report, Certify};
+ghost use Rattle.crn_run.specs.declared.words.Command.TheVariants.{Report, Certify, Check};
 
 use crate::network::{Stop, read_network};
 use crate::output;
 use crate::status::Status;
 use crate::words::{Command, command_of};
+use crn_cert::formed_answers_have_formed_verdicts;
+use crn_ctext::{answers_are_as_their_records, good_documents_are_read};
+use crn_document::{CheckStop, check_document};
 use crn_io::{Sink, Source};
 use std::alloc::Global;
 
@@ -33,6 +36,7 @@ pub fn run<S: Source, K: Sink>(
     match command_of(alloc, words) {
         Ok(Some(Command::Report { budget })) => report(alloc, budget, source, sink),
         Ok(Some(Command::Certify { budget })) => certify(alloc, budget, source, sink),
+        Ok(Some(Command::Check)) => check(alloc, source, sink),
         Ok(None) => output::usage(sink),
         Err(_) => Status::NoMemory,
     }
@@ -74,5 +78,22 @@ fn certify<S: Source, K: Sink>(alloc: Global, budget: u32, source: &mut S, sink:
     match read_network(alloc, source) {
         Ok(net) => output::certify(alloc, &net, budget, sink),
         Err(stop) => stopped(stop, sink),
+    }
+}
+
+// Reads a document to its end and checks it, and writes the report of what it says or why it is rejected.
+fn check<S: Source, K: Sink>(alloc: Global, source: &mut S, sink: &mut K) -> Status
+    ensures { (words : List (List ℕ)) → IsCommand words Check → RunGives result words
+        (record { source = S.seen source.old; sink = K.seen sink.old })
+        (record { source = S.seen source.new; sink = K.seen sink.new }) }
+{
+    good_documents_are_read();
+    answers_are_as_their_records();
+    formed_answers_have_formed_verdicts();
+    match check_document(alloc, source) {
+        Ok(accepted) => output::accept(&accepted, sink),
+        Err(CheckStop::Rejected { code, line }) => output::reject(code, line, sink),
+        Err(CheckStop::Failed) => Status::ReadFault,
+        Err(CheckStop::NoMemory) => Status::NoMemory,
     }
 }

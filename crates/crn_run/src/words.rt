@@ -17,6 +17,7 @@ use std::alloc::{AllocError, Global};
 pub enum Command {
     Report { budget: u32 },
     Certify { budget: u32 },
+    Check,
 }
 
 /// The command that the words say, or none if they say none. Takes memory.
@@ -113,6 +114,7 @@ fn command_meant(said: &Said<'_>) -> Option<Command>
             let budget = budget_meant(said.budget)?;
             Some(Command::Certify { budget })
         }
+        Some("check") if said.budget.is_none() => Some(Command::Check),
         _ => None,
     }
 }

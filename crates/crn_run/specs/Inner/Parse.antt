@@ -9,7 +9,7 @@ use Rattle.clap.specs.declared.builder.action.ArgAction.TheVariants.{Set}
 use Rattle.crn_vec.specs.declared.limits.TheConstants.{DEFAULT_BUDGET}
 use Rattle.crn_run.specs.Words.{IsBudget}
 use Rattle.crn_run.specs.declared.words.Command.{Command}
-use Rattle.crn_run.specs.declared.words.Command.TheVariants.{Report, Certify}
+use Rattle.crn_run.specs.declared.words.Command.TheVariants.{Report, Certify, Check}
 
 -- the one command that clap reads: a positional `command` that is required, a positional `count`, and an option `--budget`
 unfoldable pub crnt_app : App
@@ -51,3 +51,4 @@ MeansName name command count word budget = (command ≡ Some name) × (count ≡
 abbrev pub Means : Option (List ℕ) → Option (List ℕ) → Option (List ℕ) → Command → Type 0
 Means command count word (Report budget) = MeansName (codes "report") command count word budget
 Means command count word (Certify budget) = MeansName (codes "certify") command count word budget
+Means command count word Check = (command ≡ Some (codes "check")) × (count ≡ None) × (word ≡ None)

@@ -13,6 +13,11 @@ returns-in-Ok-Some-Certify-clause-complete g c =
     let said = rw (c.in-Ok-Some-Certify.field-0-is, c.in-Ok-Some-Certify.field-0-0-is) at c.in-Ok-Some-Certify.ensures in
     run_complete c.certify.result _ _ _ (c.certify.ensures _ said)
 
+pub returns-in-Ok-Some-Check-clause-complete : goal.returns-in-Ok-Some-Check-clause-complete
+returns-in-Ok-Some-Check-clause-complete g c =
+    let said = rw (c.in-Ok-Some-Check.field-0-is, c.in-Ok-Some-Check.field-0-0-is) at c.in-Ok-Some-Check.ensures in
+    run_complete c.check.result _ _ _ (c.check.ensures _ said)
+
 pub returns-in-Ok-None-clause-gives : goal.returns-in-Ok-None-clause-gives
 returns-in-Ok-None-clause-gives g c =
     let none = rw c.in-Ok-None.field-0-is at c.in-Ok-None.ensures in

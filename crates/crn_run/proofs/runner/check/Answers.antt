@@ -1,0 +1,15 @@
+use Rattle.crn_run.proofs.Checked.{accept_ends, reject_ends, read_formed}
+use Rattle.crn_run.proofs.CheckedForms.{accepted_formed}
+use Rattle.crn_run.proofs.runner.check.Goals as goal
+
+pub accept-requires : goal.accept-requires
+accept-requires g c =
+    let a = c.in-Ok.ensures.gives in
+    accepted_formed c.formed_answers_have_formed_verdicts.ensures c.answers_are_as_their_records.ensures.given c.in-Ok.accepted.net a.blocks c.in-Ok.accepted.verdicts
+    (read_formed c.good_documents_are_read.ensures.same a.text c.in-Ok.accepted.net a.blocks a.gives) a.verdicts
+
+pub returns-in-Ok : goal.returns-in-Ok
+returns-in-Ok g c = λ words said. accept_ends c.good_documents_are_read.ensures.same c.accept.result words c.in-Ok.accepted _ _ said c.in-Ok.ensures.gives c.accept.ensures
+
+pub returns-in-Err-Rejected : goal.returns-in-Err-Rejected
+returns-in-Err-Rejected g c = λ words said. reject_ends c.reject.result words c.in-Err-Rejected.code c.in-Err-Rejected.line _ _ said (rw c.in-Err-Rejected.field-0-is at c.in-Err-Rejected.ensures.gives) c.reject.ensures
