@@ -250,7 +250,7 @@ def copies(repository, folder):
 
 
 def terminals(repository):
-    for status, hint in [(2, "If your text is refused"), (4, "crnt report < FILE"), (5, "standard input"),
+    for status, hint in [(2, "If your text is refused"), (3, "Rejections"), (4, "crnt report < FILE"), (5, "standard input"),
                          (6, "the output"), (7, "memory"), (8, "arguments")]:
         seen = repository.run_on_a_terminal(["report"], STATUS=str(status))
         good = seen[:2] == (status, b"text") and seen[2].count("\n") == 1 and hint in seen[2]
@@ -260,7 +260,7 @@ def terminals(repository):
     _, _, shown = repository.run_on_a_terminal(["report"], STATUS="2")
     found = re.search(r'/(docs/.*), "(.*)"$', shown.strip())
     yield "names a section that is there", found and f"\n## {found[2]}\n" in (ROOT / found[1]).read_text("utf-8"), shown
-    for status in ["0", "1", "3"]:
+    for status in ["0", "1"]:
         seen = repository.run_on_a_terminal(["report"], STATUS=status)
         yield f"says nothing of the status {status} at a terminal", seen == (int(status), b"text", ""), seen
     status, out, shown = repository.run_on_a_terminal([])
