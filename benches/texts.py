@@ -1,4 +1,4 @@
-"""Network texts to measure `crnt report` on, and random ones to try it on."""
+"""Network texts and documents to measure `crnt` on, and random and damaged ones to try it on."""
 
 import itertools
 import random
@@ -84,6 +84,122 @@ def cases():
         ("as many names as there is room for 198 times, each 99 times on both sides",
          "->".join(joined_shuffled(99 * short_names(MAX_TEXT // 198 - 2), seed) for seed in (1, 2)) + "\n"),
     ]
+
+
+def random_reversible(species=40, lines=60):
+    """So many lines `A + B <-> C` of random species: the network that benches/linear.sh calls random40."""
+    state, text = 1, ""
+    for _ in range(lines):
+        numbers = []
+        for _ in range(3):
+            state = (state * 6_364_136_223_846_793_005 + 1_442_695_040_888_963_407) % 2**64
+            numbers.append((state >> 33) % species)
+        text += "S{} + S{} <-> S{}\n".format(*numbers)
+    return text
+
+
+def random_directed(species=40, complexes=80, reactions=120, seed=1):
+    """Reactions between random complexes of two species or three, most of them without a reverse."""
+    dice = random.Random(seed)
+    sides = [" + ".join(f"S{s}" for s in dice.sample(range(species), dice.choice([2, 3]))) for _ in range(complexes)]
+    return "".join("{} -> {}\n".format(*dice.sample(sides, 2)) for _ in range(reactions))
+
+
+def futile(sites):
+    """The futile cycle of so many sites: a kinase adds a phosphate at each, and a phosphatase takes it off again."""
+    lines = [f"S{i} + K <-> KS{i} -> S{i + 1} + K\nS{i + 1} + F <-> FS{i} -> S{i} + F\n" for i in range(sites)]
+    return "".join(lines)
+
+
+def networks():
+    """Pairs of a name and a text that spells a network, to certify."""
+    pairs = [f"X{i} -> X{j}\n" for i in range(12) for j in range(12) if i != j]
+    row = "".join(f"{c}A -> {c + 1}A\n" for c in range(1, 99))
+    return [
+        ("one reaction", "A -> B\n"),
+        ("nine-site futile cycle", futile(9)),
+        ("nineteen-site futile cycle", futile(19)),
+        ("120 different lines, 12 species", "".join(pairs[:120])),
+        ("30 pairs of species, each a linkage class", "".join(f"A{i} <-> B{i}\n" for i in range(30))),
+        ("99 amounts of one species in a row", row),
+        ("random reversible network of 40 species", random_reversible()),
+        ("random network of 40 species without reverses", random_directed()),
+        ("240 reactions near all limits", near_limits()),
+    ]
+
+
+def with_lists(document, lists):
+    """A certificate in version 2 without shared lists, with these."""
+    lines = "".join(f"vector {' '.join(map(str, numbers))}\n" for numbers in lists)
+    return document.replace("vectors 0\n", f"vectors {len(lists)}\n{lines}")
+
+
+def documents(document):
+    """Pairs of a name and a document, most of them with long lines, made from a certificate without shared lists."""
+    widest = [2**72 - 1 - k if k % 2 else k + 1 - 2**72 for k in range(400)]
+    lines = document.split("\n")
+    long_word = lines.index("vectors 0")
+    return [
+        ("4,096 shared lists of 400 numbers of 22 digits", with_lists(document, [widest] * 4096)),
+        ("512 shared lists of 400 numbers of 22 digits", with_lists(document, [widest] * 512)),
+        ("512 shared lists of 400 numbers of one digit", with_lists(document, [[k % 10 for k in range(400)]] * 512)),
+        ("a shared number of 16,377 digits (rejected)", with_lists(document, [["7" * 16_377]])),
+        ("240 network lines of 16,384 bytes (rejected)", "crn certificate 2\nnetwork 240\n" + ("x" * 16_384 + "\n") * 240),
+        ("240 network lines of 16,384 bytes that begin well (rejected)",
+         "crn certificate 2\nnetwork 240\n" + "".join(f"{k}A -> {k + 1}A".ljust(16_384) + "\n" for k in range(2, 242))),
+        ("a line of 16,384 bytes with too many numbers (rejected)",
+         "\n".join([*lines[:long_word], "vectors 1", "vector" + " 1" * 8_189, *lines[long_word + 1 :]])),
+        ("a word of 16,384 bytes (rejected)", "\n".join([*lines[:long_word], "w" * 16_384, ""])),
+    ]
+
+
+WORDS = ["0", "1", "2", "3", "01", "-1", "-0", "", "yes", "no", "99999999999", str(2**72), "end", "q4", "vectors", "section", "refa", "tie", "foo"]
+
+
+def damaged(document, dice):
+    """The document with one slip, or with two."""
+    lines = document.split(b"\n")
+    for _ in range(dice.choice([1, 1, 1, 2])):
+        place, kind = dice.randrange(len(lines)), dice.random()
+        words = lines[place].split(b" ")
+        word = dice.randrange(len(words))
+        if kind < 0.1:
+            del lines[place]
+        elif kind < 0.2:
+            lines.insert(place, dice.choice(lines))
+        elif kind < 0.5:
+            words[word] = dice.choice(WORDS).encode()
+            lines[place] = b" ".join(words)
+        elif kind < 0.6:
+            lines[place] += dice.choice([b" ", b"\r", b" 1", b" yes", b"\t"])
+        elif kind < 0.7:
+            text = b"\n".join(lines)
+            cut = dice.randrange(len(text) + 1)
+            slip = dice.choice([b"\n", b" ", b"\r", b"0", b"1", b"\xc8", b"\0"]) + text[cut:]
+            lines = (text[:cut] + dice.choice([b"", slip])).split(b"\n")
+        elif words[word].lstrip(b"-").isdigit():
+            words[word] = str(int(words[word]) + dice.choice([-1, 1])).encode()
+            lines[place] = b" ".join(words)
+        lines = lines or [b""]
+    return b"\n".join(lines)
+
+
+def random_network(seed):
+    """A text of a network of any size within the limits, or nearly: some texts are refused."""
+    dice = random.Random(seed)
+    count, reactions = dice.choice([3, 6, 12, 25, 60]), dice.choice([3, 10, 40, 120, 240])
+    most, terms = dice.choice([1, 1, 2, 3, 20, 99]), dice.choice([1, 2, 2, 3, 6])
+
+    def side():
+        names = dice.sample(range(count), min(count, dice.randint(dice.choice([0, 1, 1, 1, 1]), terms)))
+        return " + ".join(f"{dice.randint(1, most)}S{s}" for s in names) or "0"
+
+    sides = list(dict.fromkeys(side() for _ in range(dice.choice([4, 10, 40, 150])))) + ["Z"]
+    if dice.random() < 0.3:
+        return "".join(f"{left} <-> {right}\n" for left, right in zip(sides, sides[1:120]))
+    arrows = ["->", "->", "<->", "<-"] if reactions < 200 else ["->"]
+    lines = ["{} {arrow} {}\n".format(*dice.sample(sides, 2), arrow=dice.choice(arrows)) for _ in range(reactions)]
+    return "".join(lines)
 
 
 def random_text(seed):

@@ -1,566 +1,80 @@
-//! Answers as `crnt report` does, with nothing proved: the yardstick of `benches/compare.sh`.
+//! Answers as `crnt` does, with nothing proved: the yardstick of `benches/report.sh` and `benches/certificates.sh`.
 //!
-//! It is written for speed: each byte of a text is looked at once, names are slices of the text, statements are added
-//! as they are read, and a line is read again only to name its fault.
+//!     yardstick report|certify|check [QUESTIONS]
+//!
+//! It is written for speed, with the questions from 1 to QUESTIONS, or all that it knows. Where an answer leaves a
+//! choice, as for a base, it may choose other than `crnt`.
 
-use std::collections::HashMap;
-use std::ffi::{c_int, c_void};
-use std::hash::{BuildHasherDefault, Hasher};
+mod answers;
+mod canonical;
+mod certificate;
+mod check;
+mod graph;
+mod linear;
+mod lines;
+mod net;
+mod report;
+mod text;
+
 use std::io::{self, Read, Write};
 use std::process::ExitCode;
 
-const MAX_TEXT: usize = 2_097_152;
-const MAX_SPECIES: usize = 60;
-const MAX_COMPLEXES: usize = 160;
-const MAX_REACTIONS: usize = 240;
-const MAX_AMOUNT: u32 = 99;
-const MAX_NAME: usize = 32;
+const USAGE: &str = "usage: crnt report | certify | check | sample K, with --budget N except for check\n";
 
-/// Why a text is refused, in the order of the tests.
-#[derive(Clone, Copy, PartialEq, Eq, PartialOrd, Ord)]
-enum Code {
-    TextTooLong,
-    NotAscii,
-    StrayMark,
-    NoArrow,
-    EmptySide,
-    BadName,
-    NameTooLong,
-    ZeroCoefficient,
-    CoefficientTooLarge,
-    SelfReaction,
-    TooManySpecies,
-    TooManyComplexes,
-    TooManyReactions,
-    NoReaction,
+/// What is written, and the status.
+type Told = (Vec<u8>, u8);
+
+fn told(words: &str, code: u32, name: &str, line: u32, status: u8) -> Told {
+    (format!("{words} {code} {name} at line {line}\n").into_bytes(), status)
 }
 
-impl Code {
-    fn told(self) -> (u32, &'static str) {
-        match self {
-            Code::TextTooLong => (19, "TextTooLong"),
-            Code::NotAscii => (11, "NotAscii"),
-            Code::StrayMark => (18, "StrayMark"),
-            Code::NoArrow => (12, "NoArrow"),
-            Code::EmptySide => (13, "EmptySide"),
-            Code::BadName => (14, "BadName"),
-            Code::NameTooLong => (15, "NameTooLong"),
-            Code::ZeroCoefficient => (16, "ZeroCoefficient"),
-            Code::CoefficientTooLarge => (17, "CoefficientTooLarge"),
-            Code::SelfReaction => (1, "SelfReaction"),
-            Code::TooManySpecies => (2, "TooManySpecies"),
-            Code::TooManyComplexes => (3, "TooManyComplexes"),
-            Code::TooManyReactions => (4, "TooManyReactions"),
-            Code::NoReaction => (5, "NoReaction"),
+fn read_and_solve(questions: u32, certifies: bool) -> io::Result<Told> {
+    let mut text = Vec::new();
+    io::stdin().lock().take(text::MAX_TEXT as u64 + 1).read_to_end(&mut text)?;
+    let net = match text::read(&text) {
+        Ok(net) => net,
+        Err((code, line)) => {
+            let (number, name) = code.told();
+            return Ok(told("refused", number, name, line, 2));
         }
-    }
-}
-
-/// A hash of a few operations for each eight bytes.
-#[derive(Default)]
-struct Quick(u64);
-
-impl Quick {
-    fn mix(&mut self, word: u64) {
-        self.0 = (self.0.rotate_left(26) ^ word).wrapping_mul(0xf135_7aea_2e62_a9c5);
-    }
-}
-
-impl Hasher for Quick {
-    fn write(&mut self, bytes: &[u8]) {
-        let mut chunks = bytes.chunks_exact(8);
-        for chunk in &mut chunks {
-            self.mix(u64::from_le_bytes(chunk.try_into().unwrap()));
-        }
-        let rest = chunks.remainder().iter().rev();
-        self.mix(rest.fold(0, |word, byte| word << 8 | u64::from(*byte)));
-    }
-
-    fn write_usize(&mut self, number: usize) {
-        self.mix(number as u64);
-    }
-
-    fn finish(&self) -> u64 {
-        self.0.rotate_left(20)
-    }
-}
-
-type Quickly = BuildHasherDefault<Quick>;
-
-unsafe extern "C" {
-    fn memchr(bytes: *const c_void, byte: c_int, count: usize) -> *const c_void;
-}
-
-/// The place of the first such byte, or the end.
-fn find(byte: u8, bytes: &[u8]) -> usize {
-    // SAFETY: the C library looks at the bytes of the slice alone, and answers null or a place among them.
-    unsafe {
-        let start = bytes.as_ptr().cast::<c_void>();
-        let place = memchr(start, c_int::from(byte), bytes.len());
-        if place.is_null() { bytes.len() } else { place.byte_offset_from(start) as usize }
-    }
-}
-
-/// What a byte can be in a name: 2 anywhere, 1 anywhere but at its start.
-const NAME: [u8; 256] = {
-    let mut table = [0; 256];
-    let mut byte = 0;
-    while byte < 256 {
-        table[byte] = match byte as u8 {
-            b'a'..=b'z' | b'A'..=b'Z' | b'_' => 2,
-            b'0'..=b'9' => 1,
-            _ => 0,
-        };
-        byte += 1;
-    }
-    table
-};
-
-#[derive(Clone, Copy, PartialEq, Eq)]
-enum Arrow {
-    Right,
-    Left,
-    Both,
-}
-
-const NONE: u32 = u32::MAX;
-
-/// A name of the text: its species, where it has one, and its place on the side that it was last seen on.
-struct Known<'t> {
-    name: &'t [u8],
-    species: u32,
-    side: u32,
-    place: u32,
-}
-
-/// The names of a side with their amounts, each name once, and the complex once it has a number.
-#[derive(Default)]
-struct Side {
-    terms: Vec<(u32, u32)>,
-    complex: Option<u32>,
-}
-
-type Row = [u8; MAX_SPECIES];
-
-struct Network<'t> {
-    ids: HashMap<&'t [u8], u32, Quickly>,
-    known: Vec<Known<'t>>,
-    species: Vec<&'t [u8]>,
-    numbers: HashMap<Row, u32, Quickly>,
-    complexes: Vec<Row>,
-    joined: Vec<bool>,
-    reactions: Vec<(u32, u32)>,
-    sides_read: u32,
-}
-
-impl<'t> Network<'t> {
-    fn new() -> Network<'t> {
-        Network {
-            ids: HashMap::default(),
-            known: Vec::new(),
-            species: Vec::with_capacity(MAX_SPECIES),
-            numbers: HashMap::default(),
-            complexes: Vec::new(),
-            joined: vec![false; MAX_COMPLEXES * MAX_COMPLEXES],
-            reactions: Vec::new(),
-            sides_read: 0,
-        }
-    }
-
-    /// Adds a term to the side that is read. The answer is the amount of its name so far.
-    fn add_term(&mut self, side: &mut Side, name: &'t [u8], count: u32) -> u32 {
-        let next = self.known.len() as u32;
-        let id = *self.ids.entry(name).or_insert(next);
-        if id == next {
-            self.known.push(Known { name, species: NONE, side: NONE, place: 0 });
-        }
-        let known = &mut self.known[id as usize];
-        if known.side == self.sides_read {
-            let amount = &mut side.terms[known.place as usize].1;
-            *amount += count;
-            return *amount;
-        }
-        known.side = self.sides_read;
-        known.place = side.terms.len() as u32;
-        side.terms.push((id, count));
-        count
-    }
-
-    /// Whether two sides are the same complex, for more names than there may be species.
-    fn are_same(&self, x: &Side, y: &Side) -> bool {
-        let mut amounts = vec![0; self.known.len()];
-        for (id, amount) in &x.terms {
-            amounts[*id as usize] = *amount;
-        }
-        x.terms.len() == y.terms.len() && y.terms.iter().all(|(id, amount)| amounts[*id as usize] == *amount)
-    }
-
-    fn number_species(&mut self, side: &Side) -> Option<()> {
-        for (id, _) in &side.terms {
-            let known = &mut self.known[*id as usize];
-            if known.species == NONE {
-                if self.species.len() == MAX_SPECIES {
-                    return None;
-                }
-                known.species = self.species.len() as u32;
-                self.species.push(known.name);
-            }
-        }
-        Some(())
-    }
-
-    fn row(&self, side: &Side) -> Row {
-        let mut row = [0; MAX_SPECIES];
-        for (id, amount) in &side.terms {
-            row[self.known[*id as usize].species as usize] = *amount as u8;
-        }
-        row
-    }
-
-    fn complex(&mut self, side: &mut Side, row: Row) -> Result<u32, Code> {
-        let next = self.complexes.len() as u32;
-        let number = *self.numbers.entry(row).or_insert(next);
-        if number == next {
-            if self.complexes.len() == MAX_COMPLEXES {
-                return Err(Code::TooManyComplexes);
-            }
-            self.complexes.push(row);
-        }
-        side.complex = Some(number);
-        Ok(number)
-    }
-
-    fn complexes(&mut self, x: &mut Side, y: &mut Side) -> Result<(u32, u32), Code> {
-        if let (Some(from), Some(to)) = (x.complex, y.complex) {
-            return Ok((from, to));
-        }
-        if self.number_species(x).and_then(|()| self.number_species(y)).is_none() {
-            return Err(if self.are_same(x, y) { Code::SelfReaction } else { Code::TooManySpecies });
-        }
-        let (from, to) = (self.row(x), self.row(y));
-        if from == to {
-            return Err(Code::SelfReaction);
-        }
-        Ok((self.complex(x, from)?, self.complex(y, to)?))
-    }
-
-    fn add_reaction(&mut self, x: &mut Side, y: &mut Side) -> Result<(), Code> {
-        let (from, to) = self.complexes(x, y)?;
-        let joined = &mut self.joined[from as usize * MAX_COMPLEXES + to as usize];
-        if !*joined {
-            if self.reactions.len() == MAX_REACTIONS {
-                return Err(Code::TooManyReactions);
-            }
-            *joined = true;
-            self.reactions.push((from, to));
-        }
-        Ok(())
-    }
-
-    fn add_arrow(&mut self, x: &mut Side, arrow: Arrow, y: &mut Side) -> Result<(), Code> {
-        if arrow != Arrow::Left {
-            self.add_reaction(x, y)?;
-        }
-        if arrow != Arrow::Right {
-            self.add_reaction(y, x)?;
-        }
-        Ok(())
-    }
-}
-
-/// What ends a side.
-enum End {
-    Arrow(Arrow),
-    Line,
-}
-
-/// A line that is not right by itself.
-struct Wrong;
-
-struct Text<'t> {
-    bytes: &'t [u8],
-    at: usize,
-}
-
-impl<'t> Text<'t> {
-    /// The next byte; an LF at the end.
-    fn byte(&self) -> u8 {
-        self.bytes.get(self.at).copied().unwrap_or(b'\n')
-    }
-
-    fn skip_blanks(&mut self) -> u8 {
-        loop {
-            match self.byte() {
-                b' ' | b'\t' => self.at += 1,
-                byte => return byte,
-            }
-        }
-    }
-
-    /// The number here, or some number above the limit.
-    fn number(&mut self) -> u32 {
-        let mut number = 0u32;
-        loop {
-            let digit = self.byte().wrapping_sub(b'0');
-            if digit > 9 {
-                return number;
-            }
-            number = (number * 10 + u32::from(digit)).min(MAX_AMOUNT + 1);
-            self.at += 1;
-        }
-    }
-
-    fn name(&mut self) -> &'t [u8] {
-        let rest = &self.bytes[self.at..];
-        let length = rest.iter().position(|byte| NAME[*byte as usize] == 0).unwrap_or(rest.len());
-        self.at += length;
-        &rest[..length]
-    }
-
-    /// Whether the line ends here. Then what stands here is passed over.
-    fn ends(&mut self, byte: u8) -> bool {
-        match byte {
-            b'\n' => {}
-            b'#' => self.at += find(b'\n', &self.bytes[self.at..]),
-            b'\r' if matches!(self.bytes.get(self.at + 1), None | Some(b'\n')) => self.at += 1,
-            _ => return false,
-        }
-        self.at += 1;
-        true
-    }
-
-    /// The arrow here, if there is one.
-    fn arrow(&mut self) -> Option<Arrow> {
-        let (arrow, width) = match &self.bytes[self.at..] {
-            [b'-', b'>', ..] => (Arrow::Right, 2),
-            [b'<', b'-', b'>', ..] => (Arrow::Both, 3),
-            [b'<', b'-', ..] => (Arrow::Left, 2),
-            _ => return None,
-        };
-        self.at += width;
-        Some(arrow)
-    }
-
-    fn end_of_side(&mut self, byte: u8) -> Result<End, Wrong> {
-        match byte {
-            b'-' | b'<' => self.arrow().map(End::Arrow).ok_or(Wrong),
-            _ => self.ends(byte).then_some(End::Line).ok_or(Wrong),
-        }
-    }
-
-    /// Reads a side, and what ends it.
-    fn side(&mut self, net: &mut Network<'t>, side: &mut Side) -> Result<End, Wrong> {
-        side.terms.clear();
-        side.complex = None;
-        net.sides_read += 1;
-        let mut is_first = true;
-        loop {
-            let mut byte = self.skip_blanks();
-            let mut count = 1;
-            if byte.is_ascii_digit() {
-                count = self.number();
-                byte = self.skip_blanks();
-                if is_first && count == 0 && NAME[byte as usize] != 2 {
-                    return self.end_of_side(byte);
-                }
-            }
-            if NAME[byte as usize] != 2 {
-                return Err(Wrong);
-            }
-            let name = self.name();
-            if name.len() > MAX_NAME || count == 0 || net.add_term(side, name, count) > MAX_AMOUNT {
-                return Err(Wrong);
-            }
-            byte = self.skip_blanks();
-            if byte != b'+' {
-                return self.end_of_side(byte);
-            }
-            self.at += 1;
-            is_first = false;
-        }
-    }
-
-    /// Reads a line, and adds what it says. The sides of the line go before its statements, so that a statement's
-    /// fault waits for the end of the line.
-    fn line(&mut self, net: &mut Network<'t>, sides: &mut (Side, Side)) -> Result<Result<(), Code>, Wrong> {
-        let byte = self.skip_blanks();
-        if self.ends(byte) {
-            return Ok(Ok(()));
-        }
-        let End::Arrow(mut arrow) = self.side(net, &mut sides.0)? else { return Err(Wrong) };
-        let mut added = Ok(());
-        loop {
-            let end = self.side(net, &mut sides.1)?;
-            added = added.and_then(|()| net.add_arrow(&mut sides.0, arrow, &mut sides.1));
-            match end {
-                End::Line => return Ok(added),
-                End::Arrow(next) => arrow = next,
-            }
-            std::mem::swap(&mut sides.0, &mut sides.1);
-        }
-    }
-
-    /// The first fault of a line that is wrong by itself.
-    fn fault(&mut self) -> Code {
-        #[derive(Clone, Copy)]
-        enum Place {
-            Empty,
-            Number(u32),
-            Term,
-            Bad,
-        }
-        let mut fault = Code::CoefficientTooLarge;
-        let mut has_arrow = false;
-        let (mut place, mut is_first) = (Place::Empty, true);
-        loop {
-            let byte = self.skip_blanks();
-            let here = self.at;
-            let arrow = self.arrow();
-            let ends = arrow.is_none() && self.ends(byte);
-            if arrow.is_some() || ends || byte == b'+' {
-                match place {
-                    Place::Empty => fault = fault.min(Code::EmptySide),
-                    Place::Number(0) if is_first && byte != b'+' => {}
-                    Place::Number(_) | Place::Bad => fault = fault.min(Code::BadName),
-                    Place::Term => {}
-                }
-                is_first = byte != b'+';
-                place = Place::Empty;
-                has_arrow |= arrow.is_some();
-                self.at += usize::from(byte == b'+');
-                if ends {
-                    return if has_arrow { fault } else { fault.min(Code::NoArrow) };
-                }
-            } else if byte.is_ascii_digit() {
-                let number = self.number();
-                place = if let Place::Empty = place { Place::Number(number) } else { Place::Bad };
-            } else if NAME[byte as usize] == 2 {
-                let length = self.name().len();
-                place = match place {
-                    Place::Empty | Place::Number(_) => {
-                        if length > MAX_NAME {
-                            fault = fault.min(Code::NameTooLong);
-                        } else if let Place::Number(0) = place {
-                            fault = fault.min(Code::ZeroCoefficient);
-                        }
-                        Place::Term
-                    }
-                    Place::Term | Place::Bad => Place::Bad,
-                };
-            } else {
-                fault = fault.min(if matches!(byte, b' '..=b'~') { Code::StrayMark } else { Code::NotAscii });
-                place = Place::Bad;
-                self.at = here + 1;
-            }
-        }
-    }
-}
-
-/// The network of a text, or its first fault and the line of that.
-fn read(bytes: &[u8]) -> Result<Network<'_>, (Code, u32)> {
-    if bytes.len() > MAX_TEXT {
-        return Err((Code::TextTooLong, 0));
-    }
-    let mut net = Network::new();
-    let mut sides = (Side::default(), Side::default());
-    let mut text = Text { bytes, at: 0 };
-    let mut line = 0;
-    while text.at <= bytes.len() {
-        line += 1;
-        let start = text.at;
-        match text.line(&mut net, &mut sides) {
-            Ok(added) => added.map_err(|code| (code, line))?,
-            Err(Wrong) => {
-                text.at = start;
-                return Err((text.fault(), line));
-            }
-        }
-    }
-    if net.reactions.is_empty() { Err((Code::NoReaction, 0)) } else { Ok(net) }
-}
-
-/// The linkage class of each complex, counted from 1 by first appearance, and how many there are.
-fn linkage(net: &Network) -> (Vec<u32>, u32) {
-    let mut root: Vec<usize> = (0..net.complexes.len()).collect();
-    fn find(root: &mut [usize], mut c: usize) -> usize {
-        while root[c] != c {
-            root[c] = root[root[c]];
-            c = root[c];
-        }
-        c
-    }
-    for (y, z) in &net.reactions {
-        let (y, z) = (find(&mut root, *y as usize), find(&mut root, *z as usize));
-        root[y.max(z)] = y.min(z);
-    }
-    let mut labels = vec![0; root.len()];
-    let mut count = 0;
-    for c in 0..root.len() {
-        let first = find(&mut root, c);
-        if first == c {
-            count += 1;
-            labels[c] = count;
-        }
-        labels[c] = labels[first];
-    }
-    (labels, count)
-}
-
-fn put_complex(net: &Network, c: usize, out: &mut Vec<u8>) {
-    let mut is_zero = true;
-    for (s, amount) in net.complexes[c].iter().enumerate().filter(|(_, amount)| **amount > 0) {
-        if !is_zero {
-            out.extend_from_slice(b" + ");
-        }
-        if *amount > 1 {
-            write!(out, "{amount}").unwrap();
-        }
-        out.extend_from_slice(net.species[s]);
-        is_zero = false;
-    }
-    if is_zero {
-        out.push(b'0');
-    }
-}
-
-fn put_complexes(net: &Network, members: impl Iterator<Item = usize>, out: &mut Vec<u8>) {
-    for (shown, c) in members.enumerate() {
-        if shown > 0 {
-            out.extend_from_slice(b"; ");
-        }
-        put_complex(net, c, out);
-    }
-    out.push(b'\n');
-}
-
-fn report(net: &Network) -> Vec<u8> {
-    let (labels, count) = linkage(net);
+    };
+    let (verdicts, shown) = answers::solve(&net, questions);
     let mut out = Vec::with_capacity(4096);
-    write!(out, "crn report 1\nspecies {}: ", net.species.len()).unwrap();
-    out.extend_from_slice(&net.species.join(&b' '));
-    write!(out, "\ncomplexes {}: ", net.complexes.len()).unwrap();
-    put_complexes(net, 0..net.complexes.len(), &mut out);
-    write!(out, "reactions {}\nQ1 linkage classes: {count}\n", net.reactions.len()).unwrap();
-    for class in 1..=count {
-        write!(out, "  class {class}: ").unwrap();
-        put_complexes(net, (0..labels.len()).filter(|c| labels[*c] == class), &mut out);
+    if certifies {
+        certificate::certificate(&net, &verdicts, &shown, &mut out);
+    } else {
+        report::report(&net, &verdicts, &mut out);
     }
-    out.extend_from_slice(b"open: 0\n");
-    out
+    Ok((out, u8::from(verdicts.open() > 0)))
+}
+
+fn check(questions: u32) -> io::Result<Told> {
+    match check::check(io::stdin().lock(), questions) {
+        Err(check::Stop::Failed(error)) => Err(error),
+        Err(check::Stop::Rejected(code, line)) => {
+            let name = check::CODES.iter().find(|(number, _)| *number == code).unwrap().1;
+            Ok(told("rejected", code, name, line, 3))
+        }
+        Ok((net, verdicts)) => {
+            let mut out = Vec::with_capacity(4096);
+            report::report(&net, &verdicts, &mut out);
+            Ok((out, 0))
+        }
+    }
 }
 
 fn main() -> ExitCode {
-    let mut text = Vec::new();
-    if io::stdin().lock().take(MAX_TEXT as u64 + 1).read_to_end(&mut text).is_err() {
-        return ExitCode::from(5);
-    }
-    let (out, status) = match read(&text) {
-        Ok(net) => (report(&net), 0),
-        Err((code, line)) => {
-            let (number, name) = code.told();
-            (format!("refused {number} {name} at line {line}\n").into_bytes(), 2)
-        }
+    let mut words = std::env::args().skip(1);
+    let (command, count, rest) = (words.next(), words.next(), words.next());
+    let questions = count.map_or(Some(answers::QUESTIONS), |count| count.parse().ok());
+    let questions = questions.filter(|count| (1..=answers::QUESTIONS).contains(count) && rest.is_none());
+    let answer = match (command.as_deref(), questions) {
+        (Some("report"), Some(questions)) => read_and_solve(questions, false),
+        (Some("certify"), Some(questions)) => read_and_solve(questions, true),
+        (Some("check"), Some(questions)) => check(questions),
+        _ => Ok((USAGE.into(), 4)),
     };
+    let Ok((out, status)) = answer else { return ExitCode::from(5) };
     match io::stdout().lock().write_all(&out) {
         Ok(()) => ExitCode::from(status),
         Err(_) => ExitCode::from(6),
