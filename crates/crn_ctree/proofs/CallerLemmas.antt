@@ -1,0 +1,8 @@
+-- What other crates may cite of this crate's proofs.
+
+-- Multipliers that are as many numbers of a certificate as there are species are the numbers of a cut.
+pub use Rattle.crn_ctree.proofs.NodeTests.{free_a, free_b}
+-- Nodes that fit one after another, and one more that is taken, fit one after another.
+pub use Rattle.crn_ctree.proofs.TreeEnds.{passing_none, passing_taken}
+-- When nothing is due after them, and what they show then.
+pub use Rattle.crn_ctree.proofs.TreeEnds.{complete_where_valid, complete_trees_show_concordance}

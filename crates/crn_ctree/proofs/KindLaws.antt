@@ -1,0 +1,227 @@
+-- The kinds of the coordinates of a part at a prefix.
+use Rattle.std.proofs.Common.{◌≡◌, ℕ, zero, suc, ◌+◌, ◌-◌, ◌<◌, ◌≤◌, List, [], ◌∷◌, length, map, get_or, take, drop, replicate, Bool, true, false, cond, refl, sym, ap, ap₂, ◌∙◌, arith}
+use Rattle.std.specs.Prelude.{ℤ, pos, negsuc, neg_ℤ, ◌-ℤ◌, ◌*ℤ◌, ◌||◌}
+use Rattle.std.proofs.lemmas.Int.{ints}
+use Rattle.std.proofs.lemmas.List.{take_all, get_or-map, get_or-replicate, get_or_append_left, get_or-append_right, length-map, length-replicate}
+use Rattle.crn_vec.specs.declared.signs.Sign.{Sign}
+use Rattle.crn_vec.specs.declared.signs.Sign.TheVariants.{Zero, Plus, Minus}
+use Rattle.crn_vec.specs.declared.signs.Kind.{Kind}
+use Rattle.crn_vec.specs.declared.signs.Kind.TheVariants.{Free, Zero as ZeroKind}
+use Rattle.crn_vec.specs.Network.{Net, minus, sides_of, reaction_vector}
+use Rattle.crn_vec.specs.Vectors.{Mat, HasSign, column}
+use Rattle.std.specs.List.{range_with_len}
+use Rattle.std.proofs.lemmas.List.FromFn.{length-range_with_len}
+use Rattle.crn_vec.specs.Systems.{kind_at}
+use Rattle.crn_vec.specs.Problems.{opposite, all_zero}
+use Rattle.crn_vec.specs.Concordance.{sign, product, products, is_plus, is_minus, some_sign, kind_of_sum, column_kind, kind_of_sign, row_kinds, kinds_a_of, kinds_b_of}
+use Rattle.crn_vec.specs.Deficiency.{vectors}
+use Rattle.crn_vec.specs.Influence.{strong_table}
+use Rattle.crn_vec.specs.NetSystems.{by_species}
+use Rattle.crn_ctree.specs.Problem.{table_of}
+use Rattle.crn_ctree.specs.declared.problem.Problem.{Problem}
+use Rattle.crn_ctree.specs.declared.problem.Problem.TheVariants.{Plain, Strong}
+use Rattle.crn_ctree.specs.Inner.Kinds.{column_from, opposite_kind}
+
+-- ---- signs
+
+pub sign_is : (s : Sign) (x : ℤ) → HasSign s x → s ≡ sign x
+sign_is Zero (pos zero) h = refl
+sign_is Zero (pos (suc n)) h = absurd (omega (arith, ints, h))
+sign_is Zero (negsuc n) h = absurd (omega (arith, ints, h))
+sign_is Plus (pos zero) h = absurd (omega (arith, ints, h))
+sign_is Plus (pos (suc n)) h = refl
+sign_is Plus (negsuc n) h = absurd (omega (arith, ints, h))
+sign_is Minus (pos zero) h = absurd (omega (arith, ints, h))
+sign_is Minus (pos (suc n)) h = absurd (omega (arith, ints, h))
+sign_is Minus (negsuc n) h = refl
+
+-- a number of each sign
+abbrev number_of : Sign → ℤ
+number_of Zero = pos 0
+number_of Plus = pos 1
+number_of Minus = negsuc 0
+
+has_number : (s : Sign) → HasSign s (number_of s)
+has_number Zero = refl
+has_number Plus = omega (arith, ints)
+has_number Minus = omega (arith, ints)
+
+sign_of_product : (s t : Sign) → sign (number_of s *ℤ number_of t) ≡ product s t
+sign_of_product Zero Zero = refl
+sign_of_product Zero Plus = refl
+sign_of_product Zero Minus = refl
+sign_of_product Plus Zero = refl
+sign_of_product Plus Plus = refl
+sign_of_product Plus Minus = refl
+sign_of_product Minus Zero = refl
+sign_of_product Minus Plus = refl
+sign_of_product Minus Minus = refl
+
+-- the sign of all products of numbers of two signs is the product of the signs
+pub product_is : (s t r : Sign) → ((x y : ℤ) → HasSign s x → HasSign t y → HasSign r (x *ℤ y)) → r ≡ product s t
+product_is s t r h = sign_is r (number_of s *ℤ number_of t) (h (number_of s) (number_of t) (has_number s) (has_number t)) ∙ sign_of_product s t
+
+-- ---- the column of a reaction, species by species
+
+or_true : (b : Bool) → (b || true) ≡ true
+or_true true = refl
+or_true false = refl
+
+products_none : (ss : List Sign) → products ss [] ≡ []
+products_none [] = refl
+products_none (s ∷ ss) = refl
+
+column_closed : (raised lowered : Bool) (ss : List Sign) → column_from raised lowered (Zero ∷ ss) [] ≡ column_from raised lowered ss []
+column_closed raised lowered ss = ap (λ (l : List Sign). cond (all_zero ss) (kind_of_sum (raised || some_sign is_plus l) (lowered || some_sign is_minus l)) Free) (sym (products_none ss))
+
+column_more : (raised lowered : Bool) (s t : Sign) (ss p : List Sign) → product s t ≡ Zero → column_from raised lowered (s ∷ ss) (t ∷ p) ≡ column_from raised lowered ss p
+column_more raised lowered s t ss p e = ap (λ (u : Sign). cond (all_zero (drop (length p) ss)) (kind_of_sum (raised || cond (is_plus u) true (some_sign is_plus (products ss p))) (lowered || cond (is_minus u) true (some_sign is_minus (products ss p)))) Free) e
+
+column_raised : (raised lowered : Bool) (s t : Sign) (ss p : List Sign) → product s t ≡ Plus → column_from raised lowered (s ∷ ss) (t ∷ p) ≡ column_from true lowered ss p
+column_raised raised lowered s t ss p e =
+    ap (λ (u : Sign). cond (all_zero (drop (length p) ss)) (kind_of_sum (raised || cond (is_plus u) true (some_sign is_plus (products ss p))) (lowered || cond (is_minus u) true (some_sign is_minus (products ss p)))) Free) e
+    ∙ ap (λ (b : Bool). cond (all_zero (drop (length p) ss)) (kind_of_sum b (lowered || some_sign is_minus (products ss p))) Free) (or_true raised)
+
+column_lowered : (raised lowered : Bool) (s t : Sign) (ss p : List Sign) → product s t ≡ Minus → column_from raised lowered (s ∷ ss) (t ∷ p) ≡ column_from raised true ss p
+column_lowered raised lowered s t ss p e =
+    ap (λ (u : Sign). cond (all_zero (drop (length p) ss)) (kind_of_sum (raised || cond (is_plus u) true (some_sign is_plus (products ss p))) (lowered || cond (is_minus u) true (some_sign is_minus (products ss p)))) Free) e
+    ∙ ap (λ (b : Bool). cond (all_zero (drop (length p) ss)) (kind_of_sum (raised || some_sign is_plus (products ss p)) b) Free) (or_true lowered)
+
+behind_first : {A : Type 0} (x : A) (xs : List A) → take (length (x ∷ xs) - 1) xs ≡ xs
+behind_first x xs = let e : length (x ∷ xs) - 1 ≡ length xs = omega arith in rw e (take_all (length xs) xs (omega arith))
+
+pub first_open : (raised lowered : Bool) (xs : List ℤ) (p : List Sign) (κ : Kind) → 1 ≤ length xs → length p < 1 → get_or xs 0 (pos 0) ≡ pos 0 → κ ≡ column_from raised lowered (map sign (take (length xs - 1) (drop 1 xs))) p → κ ≡ column_from raised lowered (map sign xs) p
+first_open raised lowered [] p κ l g z h = absurd (omega (arith, l))
+first_open raised lowered (x ∷ xs) (t ∷ p) κ l g z h = absurd (omega (arith, g))
+first_open raised lowered (x ∷ xs) [] κ l g z h =
+    h ∙ ap (λ (ys : List ℤ). column_from raised lowered (map sign ys) []) (behind_first x xs)
+    ∙ sym (column_closed raised lowered (map sign xs))
+    ∙ ap (λ (y : ℤ). column_from raised lowered (sign y ∷ map sign xs) []) (sym z)
+
+-- the same for numbers and their signs, at the first species
+pub first_none : (raised lowered : Bool) (xs : List ℤ) (p : List Sign) (r : Sign) (κ : Kind) → 1 ≤ length xs → 1 ≤ length p → r ≡ product (sign (get_or xs 0 (pos 0))) (get_or p 0 Zero) → r ≡ Zero → κ ≡ column_from raised lowered (map sign (take (length xs - 1) (drop 1 xs))) (take (length p - 1) (drop 1 p)) → κ ≡ column_from raised lowered (map sign xs) p
+first_none raised lowered [] p r κ l g e z h = absurd (omega (arith, l))
+first_none raised lowered (x ∷ xs) [] r κ l g e z h = absurd (omega (arith, g))
+first_none raised lowered (x ∷ xs) (t ∷ p) r κ l g e z h = h ∙ ap₂ (λ (ys : List ℤ) (q : List Sign). column_from raised lowered (map sign ys) q) (behind_first x xs) (behind_first t p) ∙ sym (column_more raised lowered (sign x) t (map sign xs) p (sym e ∙ z))
+
+pub first_raises : (raised lowered : Bool) (xs : List ℤ) (p : List Sign) (r : Sign) (κ : Kind) → 1 ≤ length xs → 1 ≤ length p → r ≡ product (sign (get_or xs 0 (pos 0))) (get_or p 0 Zero) → r ≡ Plus → κ ≡ column_from true lowered (map sign (take (length xs - 1) (drop 1 xs))) (take (length p - 1) (drop 1 p)) → κ ≡ column_from raised lowered (map sign xs) p
+first_raises raised lowered [] p r κ l g e z h = absurd (omega (arith, l))
+first_raises raised lowered (x ∷ xs) [] r κ l g e z h = absurd (omega (arith, g))
+first_raises raised lowered (x ∷ xs) (t ∷ p) r κ l g e z h = h ∙ ap₂ (λ (ys : List ℤ) (q : List Sign). column_from true lowered (map sign ys) q) (behind_first x xs) (behind_first t p) ∙ sym (column_raised raised lowered (sign x) t (map sign xs) p (sym e ∙ z))
+
+pub first_lowers : (raised lowered : Bool) (xs : List ℤ) (p : List Sign) (r : Sign) (κ : Kind) → 1 ≤ length xs → 1 ≤ length p → r ≡ product (sign (get_or xs 0 (pos 0))) (get_or p 0 Zero) → r ≡ Minus → κ ≡ column_from raised true (map sign (take (length xs - 1) (drop 1 xs))) (take (length p - 1) (drop 1 p)) → κ ≡ column_from raised lowered (map sign xs) p
+first_lowers raised lowered [] p r κ l g e z h = absurd (omega (arith, l))
+first_lowers raised lowered (x ∷ xs) [] r κ l g e z h = absurd (omega (arith, g))
+first_lowers raised lowered (x ∷ xs) (t ∷ p) r κ l g e z h = h ∙ ap₂ (λ (ys : List ℤ) (q : List Sign). column_from raised true (map sign ys) q) (behind_first x xs) (behind_first t p) ∙ sym (column_lowered raised lowered (sign x) t (map sign xs) p (sym e ∙ z))
+
+-- ---- the strong table has the signs opposite to the reaction vectors
+
+product-opposite : (s t : Sign) → product (opposite s) t ≡ opposite (product s t)
+product-opposite Zero t = refl
+product-opposite Plus t = refl
+product-opposite Minus Zero = refl
+product-opposite Minus Plus = refl
+product-opposite Minus Minus = refl
+
+plus-opposite : (s : Sign) → is_plus (opposite s) ≡ is_minus s
+plus-opposite Zero = refl
+plus-opposite Plus = refl
+plus-opposite Minus = refl
+
+minus-opposite : (s : Sign) → is_minus (opposite s) ≡ is_plus s
+minus-opposite Zero = refl
+minus-opposite Plus = refl
+minus-opposite Minus = refl
+
+some_turned : (test test' : Sign → Bool) → ((s : Sign) → test (opposite s) ≡ test' s) → (ss p : List Sign) → some_sign test (products (map opposite ss) p) ≡ some_sign test' (products ss p)
+some_turned test test' h [] p = refl
+some_turned test test' h (s ∷ ss) [] = refl
+some_turned test test' h (s ∷ ss) (t ∷ p) = ap₂ (λ (b c : Bool). cond b true c) (ap test (product-opposite s t) ∙ h (product s t)) (some_turned test test' h ss p)
+
+zeros_turned : (n : ℕ) (ss : List Sign) → all_zero (drop n (map opposite ss)) ≡ all_zero (drop n ss)
+zeros_turned (suc n) [] = refl
+zeros_turned (suc n) (s ∷ ss) = zeros_turned n ss
+zeros_turned zero [] = refl
+zeros_turned zero (Zero ∷ ss) = zeros_turned zero ss
+zeros_turned zero (Plus ∷ ss) = refl
+zeros_turned zero (Minus ∷ ss) = refl
+
+sum-opposite : (a b : Bool) → kind_of_sum b a ≡ opposite_kind (kind_of_sum a b)
+sum-opposite true true = refl
+sum-opposite true false = refl
+sum-opposite false true = refl
+sum-opposite false false = refl
+
+cond-opposite : (b : Bool) (κ : Kind) → cond b (opposite_kind κ) Free ≡ opposite_kind (cond b κ Free)
+cond-opposite true κ = refl
+cond-opposite false κ = refl
+
+column_turned : (ss p : List Sign) → column_kind (map opposite ss) p ≡ opposite_kind (column_kind ss p)
+column_turned ss p =
+    let k : kind_of_sum (some_sign is_plus (products (map opposite ss) p)) (some_sign is_minus (products (map opposite ss) p)) ≡ opposite_kind (kind_of_sum (some_sign is_plus (products ss p)) (some_sign is_minus (products ss p))) =
+    ap₂ kind_of_sum (some_turned is_plus is_minus plus-opposite ss p) (some_turned is_minus is_plus minus-opposite ss p) ∙ sum-opposite (some_sign is_plus (products ss p)) (some_sign is_minus (products ss p)) in
+    ap₂ (λ (b : Bool) (κ : Kind). cond b κ Free) (zeros_turned (length p) ss) k ∙ cond-opposite (all_zero (drop (length p) ss)) (kind_of_sum (some_sign is_plus (products ss p)) (some_sign is_minus (products ss p)))
+
+sign_of_negative : (x y : ℤ) → y ≡ neg_ℤ x → sign y ≡ opposite (sign x)
+sign_of_negative (pos zero) (pos zero) e = refl
+sign_of_negative (pos zero) (pos (suc m)) e = absurd (omega (arith, ints, e))
+sign_of_negative (pos zero) (negsuc m) e = absurd (omega (arith, ints, e))
+sign_of_negative (pos (suc n)) (pos m) e = absurd (omega (arith, ints, e))
+sign_of_negative (pos (suc n)) (negsuc m) e = refl
+sign_of_negative (negsuc n) (pos zero) e = absurd (omega (arith, ints, e))
+sign_of_negative (negsuc n) (pos (suc m)) e = refl
+sign_of_negative (negsuc n) (negsuc m) e = absurd (omega (arith, ints, e))
+
+signs_turned : (xs ys : List ℤ) → map sign (minus xs ys) ≡ map opposite (map sign (minus ys xs))
+signs_turned [] [] = refl
+signs_turned [] (y ∷ ys) = refl
+signs_turned (x ∷ xs) [] = refl
+signs_turned (x ∷ xs) (y ∷ ys) = ap₂ (λ (s : Sign) (l : List Sign). s ∷ l) (sign_of_negative (y -ℤ x) (x -ℤ y) (omega (arith, ints))) (signs_turned xs ys)
+
+-- the kind of a reaction's column in the strong table
+pub strong_column : (net : Net) (r : ℕ) (v : List ℤ) (p : List Sign) (κ κ' : Kind) → r < length net.reactions → v ≡ reaction_vector net (get_or net.reactions r (0, 0)) → κ ≡ column_from false false (map sign v) p → κ' ≡ opposite_kind κ → κ' ≡ column_kind (get_or (strong_table net) r []) p
+strong_column net r v p κ κ' lt e h g =
+    let s = sides_of net (get_or net.reactions r (0, 0)) in
+    g ∙ ap opposite_kind h ∙ sym (column_turned (map sign v) p)
+    ∙ ap (λ (u : List ℤ). column_kind (map opposite (map sign u)) p) e
+    ∙ ap (λ (l : List Sign). column_kind l p) (sym (signs_turned s.0 s.1) ∙ sym (get_or-map (λ (r : ℕ × ℕ). map sign (minus (sides_of net r).0 (sides_of net r).1)) net.reactions r (0, 0) [] lt))
+
+-- ---- the kinds of all coordinates
+
+pub table_long : (net : Net) (problem : Problem) → length (table_of net problem) ≡ length net.reactions
+table_long net Plain = length-map net.reactions (λ r. map sign (sides_of net r).0)
+table_long net Strong = length-map net.reactions (λ r. map sign (minus (sides_of net r).0 (sides_of net r).1))
+
+pub rows_long : (net : Net) → length (by_species net (vectors net)) ≡ length net.names
+rows_long net = length-map (range_with_len 0 (length net.names)) (column (vectors net)) ∙ length-range_with_len 0 (length net.names)
+
+pub row_chosen : (n s : ℕ) (p : List Sign) → s < n → s < length p → kind_of_sign (get_or p s Zero) ≡ kind_at (row_kinds n p) s
+row_chosen zero s p h g = absurd (omega (arith, h))
+row_chosen (suc n) s [] h g = absurd (omega (arith, g))
+row_chosen (suc n) zero (t ∷ p) h g = refl
+row_chosen (suc n) (suc s) (t ∷ p) h g = row_chosen n s p (omega (arith, h)) (omega (arith, g))
+
+pub row_open : (n s : ℕ) (p : List Sign) → s < n → length p ≤ s → Free ≡ kind_at (row_kinds n p) s
+row_open zero s p h g = absurd (omega (arith, h))
+row_open (suc n) zero [] h g = refl
+row_open (suc n) (suc s) [] h g = row_open n s [] (omega (arith, h)) (omega arith)
+row_open (suc n) zero (t ∷ p) h g = absurd (omega (arith, g))
+row_open (suc n) (suc s) (t ∷ p) h g = row_open n s p (omega (arith, h)) (omega (arith, g))
+
+pub column_at : (m : Mat) (table : List (List Sign)) (p : List Sign) (k : ℕ) → k < length table → column_kind (get_or table k []) p ≡ kind_at (kinds_a_of m table p) k
+column_at m table p k lt =
+    sym (get_or-map (λ signs. column_kind signs p) table k [] Free lt)
+    ∙ sym (get_or_append_left (map (λ signs. column_kind signs p) table) (replicate (length m.rows) ZeroKind) Free k (omega (arith, lt, length-map table (λ signs. column_kind signs p))))
+
+pub zero_at : (m : Mat) (table : List (List Sign)) (p : List Sign) (n k : ℕ) → length table ≡ n → n ≤ k → k < n + length m.rows → ZeroKind ≡ kind_at (kinds_a_of m table p) k
+zero_at m table p n k e le lt =
+    sym (get_or-replicate (length m.rows) (k - n) ZeroKind Free (omega (arith, le, lt)))
+    ∙ sym (get_or-append_right (map (λ signs. column_kind signs p) table) (replicate (length m.rows) ZeroKind) n k Free (length-map table (λ signs. column_kind signs p) ∙ e) le)
+
+pub free_at : (m : Mat) (p : List Sign) (k : ℕ) → k < m.cols → Free ≡ kind_at (kinds_b_of m p) k
+free_at m p k lt =
+    sym (get_or-replicate m.cols k Free Free lt)
+    ∙ sym (get_or_append_left (replicate m.cols Free) (row_kinds (length m.rows) p) Free k (omega (arith, lt, length-replicate m.cols Free)))
+
+pub row_at : (m : Mat) (p : List Sign) (k : ℕ) → m.cols ≤ k → kind_at (row_kinds (length m.rows) p) (k - m.cols) ≡ kind_at (kinds_b_of m p) k
+row_at m p k le = sym (get_or-append_right (replicate m.cols Free) (row_kinds (length m.rows) p) m.cols k Free (length-replicate m.cols Free) le)

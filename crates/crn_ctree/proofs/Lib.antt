@@ -1,0 +1,9 @@
+pub mod CallerLemmas
+mod PathLaws
+mod NodeLaws
+mod KindLaws
+mod TreeEnds
+mod CutLaws
+mod NodeTests
+mod PairLaws
+mod FirstFails

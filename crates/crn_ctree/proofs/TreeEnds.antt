@@ -1,0 +1,43 @@
+-- After nodes that fit one after another, nothing is due if and only if they are those of a valid tree; then the
+-- table is concordant.
+use Rattle.std.proofs.Common.{◌≡◌, ◌≢◌, List, [], ◌∷◌, ◌++◌, refl, sym, subst}
+use Rattle.crn_vec.specs.declared.signs.Sign.{Sign}
+use Rattle.crn_vec.specs.Problems.{Signed}
+use Rattle.crn_vec.specs.Visits.{root}
+use Rattle.crn_cert.specs.Nodes.{Said, Passing, done, then, behind}
+use Rattle.crn_ctree.specs.Gives.{IsTaken}
+use Rattle.crn_ctree.specs.Laws.{CompleteWhereValid, CompleteTreesShowConcordance}
+use Rattle.crn_vec.specs.NetSystems.{reaction_system}
+use Rattle.crn_vec.proofs.CallerLemmas.{tables_are_steady, tables_stand}
+use Rattle.crn_cert.proofs.CallerLemmas.{leaves_nothing}
+use Rattle.crn_ctree.specs.Problem.{problem_of, table_of}
+use Rattle.crn_ctree.proofs.PairLaws.{is_table}
+use Rattle.crn_ctree.proofs.NodeLaws.{passing_then, those_of_trees}
+
+-- before the first node the root is due
+pub passing_none : (w : Signed) → Passing w root [] root
+passing_none w = done
+
+-- and after one more node that is taken, what it leaves
+pub passing_taken : (w : Signed) (begin due after : List (List Sign)) (said : List Said) (node : Said) → due ≢ [] → Passing w begin said due → IsTaken w due node after → Passing w begin (said ++ node ∷ []) after
+passing_taken w begin [] after said node some h t = absurd (some refl)
+passing_taken w begin (p ∷ rest) after said node some h t = passing_then w begin (p ∷ rest) after said (node ∷ []) h (then t.fits (subst (λ (d : List (List Sign)). Passing w d [] after) t.behind_it done))
+
+-- nodes that fit leave one list due
+passing_one : (w : Signed) (due a b : List (List Sign)) (said : List Said) → Passing w due said a → Passing w due said b → a ≡ b
+passing_one w due a b [] done done = refl
+passing_one w due a b (node ∷ said) (then {p} {rest} f g) (then f' g') = passing_one w (behind p rest node) a b said g g'
+
+pub complete_where_valid : CompleteWhereValid
+complete_where_valid w said due h = (
+  λ e. (those_of_trees w).tree said (subst (λ (d : List (List Sign)). Passing w root said d) e h),
+  λ t. passing_one w root due [] said h (subst (λ (s : List Said). Passing w root s []) (sym t.are) ((those_of_trees w).leaves t.tree t.valid)),
+)
+
+pub complete_trees_show_concordance : CompleteTreesShowConcordance
+complete_trees_show_concordance net problem said n h alpha weights d =
+    let m = reaction_system net in
+    let table = table_of net problem in
+    let t = (those_of_trees (problem_of net problem)).tree said h in
+    let s = (tables_stand m table (is_table net n problem)).stands alpha weights d in
+    leaves_nothing (problem_of net problem) (tables_are_steady m table) t.tree [] s.0 t.valid s.1 s.2

@@ -1,0 +1,48 @@
+use Rattle.std.proofs.Common.{◌≡◌, ◌+◌, length, sym, subst, ◌∙◌, arith}
+use Rattle.std.specs.Prelude.{IsTrue}
+use Rattle.std.proofs.lemmas.Bool.{false≢true}
+use Rattle.crn_vec.specs.declared.signs.Kind.{Kind}
+use Rattle.crn_vec.specs.Systems.{MayWeigh, kind_at}
+use Rattle.crn_vec.specs.Vectors.{entry}
+use Rattle.crn_ctree.specs.Inner.Kinds.{kinds_of, weights_of}
+use Rattle.crn_ctree.proofs.CutLaws.{CountsTo, may_next, counts_more, counts_here, counts_last, cut_from, cut_weighs, cut_counts}
+use Rattle.crn_ctree.proofs.cut.rules_out.Goals.{then-counts, else-counts}
+use Rattle.crn_ctree.proofs.cut.rules_out.Goals as goal
+
+pub returns-then-not-may_weigh : goal.returns-then-not-may_weigh
+returns-then-not-may_weigh c =
+    let w = weights_of c.args.net.now c.args.u.now in
+    let k = c.loop-k.k in (
+      λ t. absurd (false≢true t),
+      λ cut.
+          let m = cut_weighs c.args.net.now c.species.ensures.network c.args.problem c.args.part c.args.prefix.now c.args.u.now c.requires.long cut k in
+          absurd (false≢true (sym c.if-not-may_weigh.true ∙ (c.may_weigh.ensures (entry w k) c.weight-sign.ensures).1 (subst (λ (κ : Kind). MayWeigh κ (entry w k)) (sym c.kind-kind.ensures) m))),
+    )
+
+pub loop-k-preserved : goal.loop-k-preserved
+loop-k-preserved c =
+    let kinds = kinds_of c.args.net.now c.args.problem c.args.part c.args.prefix.now in
+    let w = weights_of c.args.net.now c.args.u.now in
+    let k = c.loop-k.k in
+    let weighs : MayWeigh (kind_at kinds k) (entry w k) = subst (λ (κ : Kind). MayWeigh κ (entry w k)) c.kind-kind.ensures ((c.may_weigh.ensures (entry w k) c.weight-sign.ensures).0 c.if-not-may_weigh.false) in
+    let tells = c.counts.ensures (entry w k) c.weight-sign.ensures in (
+      may_next kinds w k c.loop-k.invariant.0 weighs,
+      elim c.if-counts.branch as (λ _. (IsTrue c.if-counts.some → CountsTo kinds w (k + 1)) × (CountsTo kinds w (k + 1) → IsTrue c.if-counts.some)) [
+        | then-counts b ↦
+            let here = tells.0 b.if-counts.true in
+            (λ _. counts_here kinds w k (sym (c.kind-kind.ensures)) here.0 here.1, λ _. b.some-is)
+        | else-counts b ↦ (
+          λ t. counts_more kinds w k (c.loop-k.invariant.1.0 (sym b.some-is ∙ t)),
+          λ h. b.some-is ∙ c.loop-k.invariant.1.1 (counts_last kinds w k (sym c.kind-kind.ensures) h (λ s. absurd (false≢true (sym b.if-counts.false ∙ tells.1 s)))),
+        )
+      ],
+    )
+
+pub returns : goal.returns
+returns c =
+    let net = c.args.net.now in
+    let n = c.loop-k.k in
+    let all : n ≡ length net.reactions + length net.names = omega (arith, c.loop-k-test.false, c.loop-k.auto.k-end, c.reactions.ensures.count, c.species.ensures.count) in (
+      λ t. cut_from net c.species.ensures.network c.args.problem c.args.part c.args.prefix.now c.args.u.now n c.requires.long all c.loop-k.invariant.0 (c.loop-k.invariant.1.0 t),
+      λ cut. c.loop-k.invariant.1.1 (cut_counts net c.species.ensures.network c.args.problem c.args.part c.args.prefix.now c.args.u.now n c.requires.long all cut),
+    )

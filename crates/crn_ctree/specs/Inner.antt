@@ -1,0 +1,4 @@
+-- For the contracts of private functions alone.
+pub mod Kinds
+pub mod Pairs
+pub mod Paths

@@ -1,0 +1,6 @@
+pub mod Due
+pub mod Problem
+pub mod Gives
+pub mod Shared
+pub mod Laws
+pub mod Inner

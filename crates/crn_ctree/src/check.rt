@@ -1,0 +1,104 @@
+ghost use Rattle.std.specs.Prelude.{◌≡◌, ◌≢◌, [], length, IfOk};
+ghost use Rattle.crn_vec.specs.Visits.{root};
+ghost use Rattle.crn_cert.specs.Nodes.{AreNumbersFor};
+ghost use Rattle.crn_ctree.specs.Gives.{FinishGives, NodeGives, SharedGives, said_by};
+ghost use Rattle.crn_ctree.specs.Problem.{problem_of};
+ghost use Rattle.crn_ctree.specs.Shared.{IsPlaceIn, said_by_shared};
+
+use crate::fault::TreeFault;
+use crate::node::{Node, Step, fits};
+use crate::path::Path;
+use crate::problem::Problem;
+use crate::shared::{SharedCut, SharedTable};
+use crn_net::Network;
+use crn_vec::NoMemory;
+use std::alloc::Global;
+use std::marker::Model;
+
+/// A tree that is checked node by node, in preorder. Contracts see the prefixes that are still due.
+#[derive(Drop)]
+pub struct TreeCheck {
+    path: Path,
+    problem: Problem,
+}
+
+impl Model for TreeCheck {
+    ghost use Rattle.crn_ctree.specs.Due.{KeptTree};
+
+    ghost Value = { KeptTree };
+
+    ghost view = { λ s.
+        record { due = s.path.due; choices = s.path.choices; problem = s.problem } };
+}
+
+impl TreeCheck {
+    /// The root of a tree is due. Takes memory for one option of each species of the network.
+    pub fn new(alloc: Global, net: &Network, problem: Problem) -> Result<TreeCheck, NoMemory>
+        ensures due { IfOk result (λ made. made.due ≡ root) }
+        ensures choices { IfOk result (λ made. made.choices ≡ length net.now.names) }
+        ensures problem { IfOk result (λ made. made.problem ≡ problem) }
+    {
+        let path = Path::new(alloc, net.species())?;
+        Ok(TreeCheck { path, problem })
+    }
+
+    /// Tests a node at the prefix that is due, and takes it if it passes. If not, the check is as before.
+    pub fn node(&mut self, net: &Network, node: &Node) -> Result<Step, TreeFault>
+        requires due { self.old.due ≢ [] }
+        requires choices { self.old.choices ≡ length net.now.names }
+        requires numbers { AreNumbersFor (problem_of net.now self.old.problem) (said_by node.now) }
+        ensures gives { NodeGives (problem_of net.now self.old.problem) self.old.due
+            (said_by node.now) self.new.due result }
+        ensures choices { self.new.choices ≡ self.old.choices }
+        ensures problem { self.new.problem ≡ self.old.problem }
+    {
+        if !fits(net, self.problem, self.path.prefix(), node) {
+            return Err(match node {
+                Node::Split | Node::Flat => TreeFault::NodeNotAllowed,
+                Node::CutA(_) | Node::CutB(_) => TreeFault::BadLeaf,
+            });
+        }
+        match node {
+            Node::Split => self.path.open(),
+            _ => self.path.close(),
+        }
+        Ok(if self.path.is_complete() {
+            Step::Complete
+        } else {
+            Step::More
+        })
+    }
+
+    /// Tests a cut with the multipliers of a shared vector, and answers as `node` if it has their number.
+    pub fn shared_node(
+        &mut self,
+        net: &Network,
+        table: &SharedTable,
+        cut: SharedCut,
+    ) -> Result<Step, TreeFault>
+        requires due { self.old.due ≢ [] }
+        requires choices { self.old.choices ≡ length net.now.names }
+        requires place { IsPlaceIn table.now cut }
+        ensures gives { SharedGives (problem_of net.now self.old.problem) self.old.due
+            (said_by_shared table.now cut) self.new.due result }
+        ensures choices { self.new.choices ≡ self.old.choices }
+        ensures problem { self.new.problem ≡ self.old.problem }
+    {
+        let numbers = table.get(cut.place());
+        if numbers.len() != net.species() {
+            return Err(TreeFault::WrongShape);
+        }
+        self.node(net, &cut.node(numbers))
+    }
+
+    /// Ends the check of a tree.
+    pub fn finish(self) -> Result<(), TreeFault>
+        ensures { FinishGives self.due result }
+    {
+        if self.path.is_complete() {
+            Ok(())
+        } else {
+            Err(TreeFault::TreeEndsEarly)
+        }
+    }
+}

@@ -1,0 +1,106 @@
+ghost use Rattle.std.specs.Prelude.{◌≡◌, ◌↔◌, ◌<◌, ◌≤◌, ◌*◌, ◌^◌, ◌*ℤ◌, length, map, unsigned_abs, IsTrue};
+ghost use Rattle.crn_vec.specs.declared.limits.TheConstants.{MAX_AMOUNT, WIDE_SOLUTION};
+ghost use Rattle.crn_vec.specs.Concordance.{IsDiscordant, image, sign};
+ghost use Rattle.crn_vec.specs.NetSystems.{reaction_system};
+ghost use Rattle.crn_vec.specs.Systems.{HasKind};
+ghost use Rattle.crn_vec.specs.Vectors.{entry};
+ghost use Rattle.crn_cert.specs.Ranges.{AreFree};
+ghost use Rattle.crn_ctree.specs.Problem.{table_of};
+ghost use Rattle.crn_ctree.specs.Inner.Pairs.{AreOfColumns};
+
+use crate::kinds::column_kind;
+use crate::node::is_all_zero;
+use crate::problem::Problem;
+use crn_net::Network;
+use crn_vec::{Kind, MAX_SPECIES, Sign, sign_of};
+
+// A product of an entry of a reaction vector and a number of a certificate.
+fn times(x: &i128, y: &i128) -> i128
+    requires x { unsigned_abs x.now ≤ MAX_AMOUNT }
+    requires y { unsigned_abs y.now ≤ WIDE_SOLUTION }
+    ensures value { result ≡ x.now *ℤ y.now }
+    ensures small { unsigned_abs result ≤ MAX_AMOUNT * WIDE_SOLUTION }
+{
+    *x * *y
+}
+
+// The entry at species s of the sum of the reaction vectors with these weights.
+fn sum_at(net: &Network, weights: &[i128], s: usize) -> i128
+    requires weights { AreFree (length net.now.reactions) weights.now }
+    requires species { s < length net.now.names }
+    ensures value { result ≡ entry (image (reaction_system net.now) weights.now) s }
+    ensures small { unsigned_abs result < 2 ^ 127 }
+{
+    let mut sum = 0i128;
+    for r in 0..net.reactions() {
+        sum += times(&net.reaction_vector(r)[s], &weights[r]);
+    }
+    sum
+}
+
+// Its sign.
+fn sign_at(net: &Network, weights: &[i128], s: usize) -> Sign
+    requires weights { AreFree (length net.now.reactions) weights.now }
+    requires species { s < length net.now.names }
+    ensures { result ≡ sign (entry (image (reaction_system net.now) weights.now) s) }
+{
+    sign_of(sum_at(net, weights, s))
+}
+
+// Writes the signs of the sum of the reaction vectors with these weights.
+fn put_signs(net: &Network, weights: &[i128], into: &mut [Sign])
+    requires weights { AreFree (length net.now.reactions) weights.now }
+    requires room { length into.old ≡ length net.now.names }
+    ensures { into.new ≡ map sign (image (reaction_system net.now) weights.now) }
+{
+    for s in 0..net.species() {
+        into[s] = sign_at(net, weights, s);
+    }
+}
+
+// Whether a number is of a kind.
+fn has_kind(kind: Kind, number: &i128) -> bool
+    ensures { IsTrue result ↔ HasKind kind number.now }
+{
+    match kind {
+        Kind::Pos => *number >= 1,
+        Kind::Neg => *number <= -1,
+        Kind::NonNeg => *number >= 0,
+        Kind::Zero => *number == 0,
+        Kind::Free => true,
+    }
+}
+
+// Whether the number of each reaction is of the kind that its column has at the prefix.
+fn all_have_kinds(net: &Network, problem: Problem, alpha: &[i128], prefix: &[Sign]) -> bool
+    requires { length alpha.now ≡ length net.now.reactions }
+    ensures { IsTrue result ↔ AreOfColumns (table_of net.now problem) prefix.now alpha.now }
+{
+    for r in 0..net.reactions() {
+        if !has_kind(column_kind(net, problem, r, prefix), &alpha[r]) {
+            return false;
+        }
+    }
+    true
+}
+
+/// Whether two lists of numbers, one for each reaction, show the table of the problem discordant: alpha combines the
+/// reactions to zero, the weights combine them to changes that are not all zero, and alpha goes with the changes.
+pub fn check_pair(net: &Network, problem: Problem, alpha: &[i128], weights: &[i128]) -> bool
+    requires alpha { AreFree (length net.now.reactions) alpha.now }
+    requires weights { AreFree (length net.now.reactions) weights.now }
+    ensures { IsTrue result ↔ IsDiscordant (reaction_system net.now) (table_of net.now problem)
+        alpha.now weights.now }
+{
+    let mut room = [Sign::Zero; MAX_SPECIES];
+    let (signs, _) = room.split_at_mut(net.species());
+    put_signs(net, alpha, signs);
+    if !is_all_zero(signs) {
+        return false;
+    }
+    put_signs(net, weights, signs);
+    if is_all_zero(signs) {
+        return false;
+    }
+    all_have_kinds(net, problem, alpha, signs)
+}

@@ -1,0 +1,407 @@
+ghost use Rattle.std.specs.Prelude.{◌≡◌, ◌≢◌, ◌≤◌, ◌+◌, [], IsTrue, IfOk, length};
+ghost use Rattle.std.specs.List.{AllByRecursion};
+ghost use Rattle.crn_vec.specs.Network.{is_letter, IsName};
+ghost use Rattle.crn_net.specs.Terms.{IsTerm, IsSide};
+ghost use Rattle.crn_cert.specs.Nodes.{AreNumbersFor};
+ghost use Rattle.crn_cert.specs.Ranges.{AreFree, IsNarrow};
+ghost use Rattle.crn_ctree.specs.Gives.{said_by};
+ghost use Rattle.crn_ctree.specs.Problem.{problem_of};
+ghost use Rattle.crn_ctree.specs.Shared.{IsPlaceIn, IsShared};
+
+use crate::{
+    Node, Problem, SharedCut, SharedTable, Step, TreeCheck, TreeFault, check_pair,
+    complete_trees_show_concordance, complete_where_valid, first_faults_are_those_of_tests,
+    nodes_of_valid_trees,
+};
+use crn_net::{NetBuilder, NetFault, Network, Term, sums_fit};
+use crn_vec::{MAX_AMOUNT, MAX_COORDINATES, MAX_TERMS, WIDE_SOLUTION};
+use std::alloc::{AllocError, Global};
+use std::process::Abort;
+use std::test::Fail;
+
+fn is_letter(b: u8) -> bool
+    ensures { result ≡ is_letter b }
+{
+    (97 <= b && b <= 122) || (65 <= b && b <= 90) || b == 95
+}
+
+fn is_name(name: &[u8]) -> bool
+    ensures { IsTrue result → IsName name.now }
+{
+    match name {
+        [b] => is_letter(*b),
+        _ => false,
+    }
+}
+
+fn is_term(text: &[u8], term: &Term) -> bool
+    ensures term { IsTrue result → IsTerm text.now term.now }
+    ensures number { IsTrue result → term.now.count ≤ MAX_AMOUNT }
+{
+    let end = term.at as usize + term.length as usize;
+    if end > text.len() || term.count < 1 || term.count > MAX_AMOUNT {
+        return false;
+    }
+    let (_, rest) = text.split_at(term.at as usize);
+    let (name, _) = rest.split_at(term.length as usize);
+    is_name(name)
+}
+
+fn are_terms(text: &[u8], terms: &[Term]) -> bool
+    ensures terms { IsTrue result → AllByRecursion (IsTerm text.now) terms.now }
+    ensures numbers { IsTrue result → AllByRecursion (λ t. t.count ≤ MAX_AMOUNT) terms.now }
+{
+    terms.iter().all(|term| is_term(text, term))
+}
+
+fn is_side(alloc: Global, text: &[u8], terms: &[Term]) -> Result<bool, AllocError>
+    ensures { IfOk result (λ is. IsTrue is → IsSide text.now terms.now) }
+{
+    if terms.len() > MAX_TERMS || !are_terms(text, terms) {
+        return Ok(false);
+    }
+    sums_fit(alloc, text, terms)
+}
+
+// Adds a statement, whose names are single letters of the text.
+fn add(
+    rt: &(impl Abort + AllocGlobal),
+    builder: &mut NetBuilder,
+    text: &[u8],
+    left: &[Term],
+    right: &[Term],
+) -> Result<(), NetFault> {
+    assert!(rt; is_side(rt.alloc(), text, left)?);
+    assert!(rt; is_side(rt.alloc(), text, right)?);
+    builder.add(text, left, right)
+}
+
+// Adds the statements of a text such as `2AB>C,>A`, of letters with their numbers.
+fn add_all(
+    rt: &(impl Abort + AllocGlobal),
+    builder: &mut NetBuilder,
+    text: &[u8],
+) -> Result<(), NetFault> {
+    let mut left = Vec::new(rt.alloc());
+    let mut right = Vec::new(rt.alloc());
+    let mut is_right = false;
+    let mut count = 0u32;
+    for at in 0..text.len() {
+        let b = text[at];
+        if b == b'>' {
+            is_right = true;
+        } else if b == b',' {
+            add(rt, builder, text, &left, &right)?;
+            left.clear();
+            right.clear();
+            is_right = false;
+        } else if b <= b'9' {
+            count = count
+                .wrapping_mul(10)
+                .wrapping_add(u32::from(b.wrapping_sub(b'0')));
+        } else {
+            let term = Term {
+                at: at.min(999) as u32,
+                length: 1,
+                count: count.max(1),
+            };
+            count = 0;
+            if is_right {
+                right.push(term)?;
+            } else {
+                left.push(term)?;
+            }
+        }
+    }
+    add(rt, builder, text, &left, &right)
+}
+
+fn network(rt: &(impl Abort + AllocGlobal), text: &[u8]) -> Network {
+    let mut builder = NetBuilder::new(rt.alloc()).expect(rt, "memory");
+    assert!(rt; add_all(rt, &mut builder, text).is_ok());
+    match builder.finish() {
+        Ok(net) => net,
+        Err(_) => panic!(rt; "the network is not built"),
+    }
+}
+
+fn is_narrow(x: &i128) -> bool
+    ensures { IsTrue result → IsNarrow x.now }
+{
+    x.unsigned_abs() < WIDE_SOLUTION
+}
+
+fn are_narrow(numbers: &[i128]) -> bool
+    ensures { IsTrue result → AllByRecursion IsNarrow numbers.now }
+{
+    numbers.iter().all(|x| is_narrow(x))
+}
+
+fn are_free(count: usize, numbers: &[i128]) -> bool
+    ensures { IsTrue result → AreFree count numbers.now }
+{
+    numbers.len() == count && are_narrow(numbers)
+}
+
+fn is_shared(numbers: &[i128]) -> bool
+    ensures { IsTrue result → IsShared numbers.now }
+{
+    1 <= numbers.len() && numbers.len() <= MAX_COORDINATES && are_narrow(numbers)
+}
+
+// Whether a node has the numbers that its part requires.
+fn has_numbers(net: &Network, problem: Problem, node: &Node) -> bool
+    ensures { IsTrue result → AreNumbersFor (problem_of net.now problem) (said_by node.now) }
+{
+    match node {
+        Node::Split | Node::Flat => true,
+        Node::CutA(numbers) => are_free(net.species(), numbers),
+        Node::CutB(numbers) => are_free(net.species(), numbers),
+    }
+}
+
+fn is_place(table: &SharedTable, cut: SharedCut) -> bool
+    ensures { IsTrue result → IsPlaceIn table.now cut }
+{
+    let place = match cut {
+        SharedCut::A(place) => place,
+        SharedCut::B(place) => place,
+    };
+    1 <= place && place as usize <= table.len()
+}
+
+// A table of these vectors.
+fn shared(rt: &(impl Abort + AllocGlobal), vectors: &[&[i128]]) -> Result<SharedTable, Fail> {
+    let mut table = SharedTable::new(rt.alloc())?;
+    for vector in vectors {
+        assert!(rt; is_shared(vector));
+        table.push(vector)?;
+    }
+    Ok(table)
+}
+
+// How many of the first nodes are taken, and the code of the fault, or 0 if they are those of a tree.
+fn checked(
+    rt: &(impl Abort + AllocGlobal),
+    net: &Network,
+    problem: Problem,
+    nodes: &[Node],
+    count: usize,
+) -> Result<(usize, u32), Fail> {
+    let mut check = TreeCheck::new(rt.alloc(), net, problem)?;
+    for at in 0..nodes.len().min(count) {
+        assert!(rt; has_numbers(net, problem, &nodes[at]));
+        match check.node(net, &nodes[at]) {
+            Ok(Step::More) => {}
+            Ok(Step::Complete) => {
+                assert_eq!(rt; check.finish(), Ok(()));
+                return Ok((at + 1, 0));
+            }
+            Err(fault) => return Ok((at, fault.code())),
+        }
+    }
+    match check.finish() {
+        Ok(()) => Ok((count, 0)),
+        Err(fault) => Ok((count, fault.code())),
+    }
+}
+
+// A tree for `A <-> B`, with these leaves at the prefixes zero, plus and plus, plus.
+fn tree<'a>(fourth: Node<'a>, seventh: Node<'a>) -> [Node<'a>; 8] {
+    [
+        Node::Split,
+        Node::Split,
+        Node::Flat,
+        fourth,
+        Node::Split,
+        Node::CutA(&[1, 0]),
+        seventh,
+        Node::CutA(&[1, 0]),
+    ]
+}
+
+// What is checked of the first nodes of that tree for both tables, which are alike.
+fn tree_checked(
+    rt: &(impl Abort + AllocGlobal),
+    net: &Network,
+    fourth: Node,
+    seventh: Node,
+    count: usize,
+) -> Result<(usize, u32), Fail> {
+    let nodes = tree(fourth, seventh);
+    let plain = checked(rt, net, Problem::Plain, &nodes, count)?;
+    let strong = checked(rt, net, Problem::Strong, &nodes, count)?;
+    assert_eq!(rt; plain, strong);
+    Ok(plain)
+}
+
+#[test]
+fn trees_of_a_reversible_reaction_are_checked_node_by_node(rt: HostRuntime) -> Result<(), Fail> {
+    let net = network(&rt, b"A>B,B>A");
+    let a = Node::CutA(&[0, 1]);
+    let b = Node::CutB(&[1, 1]);
+    let cases = [
+        ("a valid tree", a, b, 8, (8, 0)),
+        (
+            "other multipliers",
+            Node::CutA(&[-1, 0]),
+            Node::CutB(&[2, 2]),
+            8,
+            (8, 0),
+        ),
+        ("a cut of the other part", b, b, 8, (8, 0)),
+        (
+            "multipliers with the wrong sign",
+            Node::CutA(&[0, -1]),
+            b,
+            8,
+            (3, 41),
+        ),
+        (
+            "multipliers that are all zero",
+            Node::CutA(&[0, 0]),
+            b,
+            8,
+            (3, 41),
+        ),
+        ("a flat leaf at an open prefix", Node::Flat, b, 8, (3, 42)),
+        ("a split of a full prefix", Node::Split, b, 8, (3, 42)),
+        (
+            "a weight on a free column",
+            a,
+            Node::CutB(&[1, 0]),
+            8,
+            (6, 41),
+        ),
+        ("only five nodes", a, b, 5, (5, 43)),
+        ("no child for minus", a, b, 7, (7, 43)),
+        ("no node", a, b, 0, (0, 43)),
+    ];
+    for (name, fourth, seventh, count, want) in cases {
+        let said = tree_checked(&rt, &net, fourth, seventh, count)?;
+        assert_eq!(rt; said, want, "{name}");
+    }
+    Ok(())
+}
+
+// Whether a shared cut completes the tree, and its fault, after nodes that are taken.
+fn shared_answer(
+    rt: &(impl Abort + AllocGlobal),
+    net: &Network,
+    taken: &[Node],
+    table: &SharedTable,
+    cut: SharedCut,
+) -> Result<Result<Step, TreeFault>, Fail> {
+    let mut check = TreeCheck::new(rt.alloc(), net, Problem::Plain)?;
+    for at in 0..taken.len() {
+        assert!(rt; has_numbers(net, Problem::Plain, &taken[at]));
+        match check.node(net, &taken[at]) {
+            Ok(Step::More) => {}
+            _ => panic!(rt; "the tree is complete, or refused"),
+        }
+    }
+    assert!(rt; is_place(table, cut));
+    Ok(check.shared_node(net, table, cut))
+}
+
+#[test]
+fn shared_cuts_answer_as_their_vectors(rt: HostRuntime) -> Result<(), Fail> {
+    let net = network(&rt, b"A>B,B>A");
+    let nodes = tree(Node::CutA(&[0, 1]), Node::CutB(&[1, 1]));
+    let table = shared(&rt, &[&[0, 1], &[1, 0], &[1, 1], &[1, 0, 0], &[1]])?;
+    let cases = [
+        ("multipliers of part A", 3, SharedCut::A(1), Ok(Step::More)),
+        (
+            "the same for part B",
+            3,
+            SharedCut::B(1),
+            Err(TreeFault::BadLeaf),
+        ),
+        (
+            "other multipliers",
+            3,
+            SharedCut::A(2),
+            Err(TreeFault::BadLeaf),
+        ),
+        (
+            "one number too many",
+            3,
+            SharedCut::A(4),
+            Err(TreeFault::WrongShape),
+        ),
+        (
+            "one number too few",
+            3,
+            SharedCut::B(5),
+            Err(TreeFault::WrongShape),
+        ),
+        ("multipliers of part B", 6, SharedCut::B(3), Ok(Step::More)),
+        ("the last leaf", 7, SharedCut::A(2), Ok(Step::Complete)),
+    ];
+    for (name, count, cut, want) in cases {
+        let (taken, _) = nodes.split_at(count);
+        assert_eq!(rt;
+            shared_answer(&rt, &net, taken, &table, cut)?,
+            want,
+            "{name}"
+        );
+    }
+    Ok(())
+}
+
+fn is_pair(
+    rt: &(impl Abort + AllocGlobal),
+    net: &Network,
+    problem: Problem,
+    alpha: &[i128],
+    weights: &[i128],
+) -> bool {
+    assert!(rt; are_free(net.reactions(), alpha));
+    assert!(rt; are_free(net.reactions(), weights));
+    check_pair(net, problem, alpha, weights)
+}
+
+#[test]
+fn pairs_show_tables_discordant(rt: HostRuntime) {
+    // 2A <-> A + B, A + B <-> 2B: discordant, and strongly concordant
+    let net = network(&rt, b"2A>AB,AB>2A,AB>2B,2B>AB");
+    let cases: [(&str, [i128; 4], [i128; 4], bool); 6] = [
+        ("a discordance", [1, 2, 0, -1], [0, 1, 0, 0], true),
+        ("a multiple of it", [3, 6, 0, -3], [0, 5, 0, 0], true),
+        ("its negative", [-1, -2, 0, 1], [0, -1, 0, 0], true),
+        ("alpha does not balance", [1, 2, 0, 0], [0, 1, 0, 0], false),
+        (
+            "weights that change nothing",
+            [1, 2, 0, -1],
+            [1, 1, 0, 0],
+            false,
+        ),
+        (
+            "alpha has another sign than the changes",
+            [1, 2, 0, -1],
+            [0, -1, 0, 0],
+            false,
+        ),
+    ];
+    for (name, alpha, weights, want) in cases {
+        assert_eq!(rt;
+            is_pair(&rt, &net, Problem::Plain, &alpha, &weights),
+            want,
+            "{name}"
+        );
+        assert!(rt;
+            !is_pair(&rt, &net, Problem::Strong, &alpha, &weights),
+            "{name}"
+        );
+    }
+    let both = network(&rt, b"A>B,B>A");
+    assert!(rt; !is_pair(&rt, &both, Problem::Plain, &[1, 1], &[1, 0]));
+}
+
+#[test]
+fn the_laws_stand() {
+    nodes_of_valid_trees();
+    complete_where_valid();
+    complete_trees_show_concordance();
+    first_faults_are_those_of_tests();
+}

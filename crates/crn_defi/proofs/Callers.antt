@@ -1,0 +1,52 @@
+-- What callers need beside the contracts: verdicts that are true or open, answers that rest on the rank, and right classes.
+use Rattle.std.proofs.Common.{◌≡◌, ℕ, [], length, refl}
+use Rattle.crn_vec.specs.Network.{Net, IsNetwork}
+use Rattle.crn_vec.specs.Linkage.{AreRightLabels}
+use Rattle.crn_cert.specs.declared.answer.Gap.TheVariants.{Rests}
+use Rattle.crn_cert.specs.declared.answer.Verdict.{Verdict}
+use Rattle.crn_cert.specs.declared.answer.Verdict.TheVariants.{Strong, Unknown}
+use Rattle.crn_cert.specs.declared.answer.Proof.TheVariants.{Nothing, Strong as StrongTrees}
+use Rattle.crn_cert.specs.declared.answer.Answer.{Answer}
+use Rattle.crn_cert.specs.Questions.{Earlier, Question, Q2, Q5, Q6, Q9, on, IsOpen}
+use Rattle.crn_cert.specs.Ranges.{IsFrom, AreFrom}
+use Rattle.crn_cert.specs.Says.{AreLinkageClasses, AreStrongClasses}
+use Rattle.crn_cert.specs.ClassTests.{AreNumbered, AreFromTrees, AreToTrees, DoLevelsFall, AreAllExits, zeros_in}
+use Rattle.crn_cert.specs.Formed.{IsForest, IsFormed}
+use Rattle.crn_cert.specs.Valid.{IsValid}
+use Rattle.crn_cert.specs.Licensed.{IsTrueOrLicensed}
+use Rattle.crn_cert.specs.Law.{IsTrueOrOpen}
+use Rattle.crn_cert.proofs.CallerLemmas.{valid_answers_are_true}
+use Rattle.crn_graph.specs.declared.linkage_data.LinkageData.{LinkageData}
+use Rattle.crn_graph.specs.declared.strong_data.StrongData.{StrongData}
+use Rattle.crn_defi.specs.Answered.{IsAnswer}
+
+pub true_or_open : (net : Net) (budget : ℕ) (earlier : Earlier) (q : Question) (v : Verdict) → IsTrueOrLicensed net budget earlier q v → IsTrueOrOpen net q v
+true_or_open net budget earlier q (Unknown gap) h = tt
+true_or_open net budget earlier q v h = h
+
+-- the answer to a question that rests on the rank, if the rank is open
+pub deficiencies_rest : (net : Net) (budget : ℕ) (earlier : Earlier) → IsOpen (on earlier Q5) → IsAnswer net budget earlier Q6 (record { verdict = Unknown (Rests 5); proof = Nothing })
+deficiencies_rest net budget earlier h = record { formed = (refl, refl); valid = tt; answered = (refl, h, tt) }
+
+pub zero_rests : (net : Net) (budget : ℕ) (earlier : Earlier) → IsOpen (on earlier Q5) → IsAnswer net budget earlier Q9 (record { verdict = Unknown (Rests 5); proof = Nothing })
+zero_rests net budget earlier h = record { formed = (refl, refl); valid = tt; answered = (refl, h, tt) }
+
+-- right labels that are numbered, with their count
+pub linkage_right : (net : Net) (classes : LinkageData) → AreFrom (length net.complexes) 1 classes.count classes.label.list → AreRightLabels net.reactions classes.label.list → AreNumbered classes.label.list classes.count
+    → AreLinkageClasses net classes.count classes.label.list
+linkage_right net classes labels right numbered = record { labelled = record { long = labels.long; right = right }; count_is = numbered.count_is }
+
+-- strong classes whose records pass the tests
+pub strong_right : (net : Net) (classes : StrongData) → IsNetwork net → IsFrom 1 (length net.complexes) classes.count → IsFrom 1 classes.count classes.terminal → AreFrom (length net.complexes) 1 classes.count classes.label.list
+    → AreNumbered classes.label.list classes.count → IsForest net classes.from.list classes.from_depth.list → AreFromTrees net classes.label.list classes.from.list classes.from_depth.list → IsForest net classes.to.list classes.to_depth.list
+    → AreToTrees net classes.label.list classes.to.list classes.to_depth.list → AreFrom classes.count 0 (length net.complexes) classes.level.list → DoLevelsFall net classes.label.list classes.level.list
+    → AreFrom classes.count 0 (length net.reactions) classes.exit.list → AreAllExits net classes.label.list classes.exit.list → zeros_in classes.exit.list ≡ classes.terminal
+    → AreStrongClasses net classes.count classes.terminal classes.label.list classes.exit.list
+strong_right net classes n count terminals labels numbered from_forest from_trees to_forest to_trees levels falls exit_numbers exits zeros =
+    let answer : Answer = record {
+      verdict = Strong classes.count classes.terminal classes.label classes.exit;
+      proof = StrongTrees classes.from classes.from_depth classes.to classes.to_depth classes.level;
+    } in
+    let formed : IsFormed net [] Q2 answer = ((count, terminals), (labels, exit_numbers, from_forest, to_forest, levels)) in
+    let valid : IsValid net [] Q2 answer = (numbered, (from_trees, (to_trees, (falls, (exits, (zeros, tt)))))) in
+    valid_answers_are_true Q2 net [] answer n tt tt formed valid

@@ -1,0 +1,12 @@
+mod Weights
+mod Places
+mod Counted
+mod WideGaps
+mod ClassRanks
+mod DeficiencyAnswers
+mod ZeroAnswers
+mod TerminalCounts
+mod OneAnswers
+mod Callers
+mod TestFacts
+pub mod CallerLemmas

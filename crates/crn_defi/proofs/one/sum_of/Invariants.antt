@@ -1,0 +1,9 @@
+use Rattle.std.proofs.Common.{◌≡◌, ◌≤◌, take}
+use Rattle.std.specs.Prelude.{sum}
+use Rattle.crn_defi.proofs.one.sum_of.Given as goal
+
+abbrev pub invariant-loop-deficiency : goal.invariant-loop-deficiency
+invariant-loop-deficiency l = record {
+  is : l.sum ≡ sum (take l.deficiency-index l.deficiencies);
+  few : l.sum ≤ l.deficiency-index;
+}

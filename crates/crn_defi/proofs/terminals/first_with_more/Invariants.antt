@@ -1,0 +1,6 @@
+use Rattle.std.proofs.Common.{length}
+use Rattle.crn_defi.specs.Inner.Terminals.{HaveOneUpTo}
+use Rattle.crn_defi.proofs.terminals.first_with_more.Given as goal
+
+abbrev pub invariant-loop-k : goal.invariant-loop-k
+invariant-loop-k l = HaveOneUpTo l.strong l.exit l.linkage (length l.exit) l.k

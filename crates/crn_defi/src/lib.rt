@@ -1,0 +1,16 @@
+//! The deficiencies of a network and of its linkage classes, and the hypotheses of the two deficiency theorems.
+#![tactic(auto)]
+
+mod class_rank;
+mod classes;
+mod deficiency;
+mod laws;
+mod one;
+mod terminals;
+#[cfg(test)]
+mod tests;
+mod zero;
+
+pub use deficiency::deficiencies;
+pub use one::one_hypotheses;
+pub use zero::zero_hypotheses;
