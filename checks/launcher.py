@@ -250,19 +250,20 @@ def copies(repository, folder):
 
 
 def terminals(repository):
-    for status, hint in [(2, "If your text is refused"), (3, "Rejections"), (4, "crnt report < FILE"), (5, "standard input"),
+    for status, hint in [(1, "Open answers"), (2, "If your text is refused"), (3, "Rejections"), (4, "crnt report < FILE"), (5, "standard input"),
                          (6, "the output"), (7, "memory"), (8, "arguments")]:
         seen = repository.run_on_a_terminal(["report"], STATUS=str(status))
         good = seen[:2] == (status, b"text") and seen[2].count("\n") == 1 and hint in seen[2]
         yield f"explains the status {status} at a terminal in one line", good, seen
         seen = repository.run(["report"], STATUS=str(status))
         yield f"says nothing of the status {status} where there is no terminal", seen == (status, b"text", "", []), seen
-    _, _, shown = repository.run_on_a_terminal(["report"], STATUS="2")
-    found = re.search(r'/(docs/.*), "(.*)"$', shown.strip())
-    yield "names a section that is there", found and f"\n## {found[2]}\n" in (ROOT / found[1]).read_text("utf-8"), shown
-    for status in ["0", "1"]:
-        seen = repository.run_on_a_terminal(["report"], STATUS=status)
-        yield f"says nothing of the status {status} at a terminal", seen == (int(status), b"text", ""), seen
+    for status in ["1", "2", "3"]:
+        _, _, shown = repository.run_on_a_terminal(["report"], STATUS=status)
+        found = re.search(r'/(docs/.*), "(.*)"$', shown.strip())
+        there = found and f"## {found[2]}\n" in (ROOT / found[1]).read_text("utf-8")
+        yield f"names a section that is there for the status {status}", there, shown
+    seen = repository.run_on_a_terminal(["report"], STATUS="0")
+    yield "says nothing of the status 0 at a terminal", seen == (0, b"text", ""), seen
     status, out, shown = repository.run_on_a_terminal([])
     yield "says at a terminal what to type instead of no words", (status, out) == (4, b"usage\n") and "report < FILE" in shown, \
         (status, out, shown)

@@ -4,7 +4,7 @@ use Rattle.std.specs.List.{AllByRecursion}
 use Rattle.crn_vec.specs.Lists.{IsIn}
 use Rattle.crn_cert.specs.declared.answer.Verdict.{Verdict}
 use Rattle.crn_cert.specs.Built.{built}
-use Rattle.crn_cert.specs.Questions.{Earlier, Question, Q1, Q2, Q3, number}
+use Rattle.crn_cert.specs.Questions.{Earlier, Question, Q1, Q2, Q3, Q4, Q5, number}
 use Rattle.crn_check.specs.Facts.{HoldsOn, HoldsNoneFrom}
 use Rattle.crn_check.specs.Check.{IsBuilt, HoldsNeeds}
 
@@ -29,7 +29,15 @@ needs_held es n (inr (inr (inr (inl is)))) before =
     let three : asks es ≡ Q1 ∷ Q2 ∷ Q3 ∷ [] = rw is at before in
     let second : IsIn Q2 (asks es) = rw three (inr (inl refl)) in
     rw is (held es Q2 second, tt)
-needs_held es n (inr (inr (inr (inr none)))) before = absurd none
+needs_held es n (inr (inr (inr (inr (inl is))))) before = rw is tt
+needs_held es n (inr (inr (inr (inr (inr (inl is)))))) before =
+    let five : asks es ≡ Q1 ∷ Q2 ∷ Q3 ∷ Q4 ∷ Q5 ∷ [] = rw is at before in
+    let first : IsIn Q1 (asks es) = rw five (inl refl) in
+    let fifth : IsIn Q5 (asks es) = rw five (inr (inr (inr (inr (inl refl))))) in
+    rw is (held es Q1 first, (held es Q5 fifth, tt))
+needs_held es n (inr (inr (inr (inr (inr (inr (inl is))))))) before = rw is tt
+needs_held es n (inr (inr (inr (inr (inr (inr (inr (inl is)))))))) before = rw is tt
+needs_held es n (inr (inr (inr (inr (inr (inr (inr (inr none)))))))) before = absurd none
 
 pub none_from : (es : Earlier) (n : ℕ) → IsBuilt n → asks es ≡ take (n - 1) built → HoldsNoneFrom n es
 none_from es n is before = below es n (subst (AllByRecursion (λ q. number q < n)) (sym before) (go n is))
@@ -39,4 +47,8 @@ none_from es n is before = below es n (subst (AllByRecursion (λ q. number q < n
     go n (inr (inl is)) = rw is (omega arith, tt)
     go n (inr (inr (inl is))) = rw is (omega arith, (omega arith, tt))
     go n (inr (inr (inr (inl is)))) = rw is (omega arith, (omega arith, (omega arith, tt)))
-    go n (inr (inr (inr (inr none)))) = absurd none
+    go n (inr (inr (inr (inr (inl is))))) = rw is (omega arith, (omega arith, (omega arith, (omega arith, tt))))
+    go n (inr (inr (inr (inr (inr (inl is)))))) = rw is (omega arith, (omega arith, (omega arith, (omega arith, (omega arith, tt)))))
+    go n (inr (inr (inr (inr (inr (inr (inl is))))))) = rw is (omega arith, (omega arith, (omega arith, (omega arith, (omega arith, (omega arith, tt))))))
+    go n (inr (inr (inr (inr (inr (inr (inr (inl is)))))))) = rw is (omega arith, (omega arith, (omega arith, (omega arith, (omega arith, (omega arith, (omega arith, tt)))))))
+    go n (inr (inr (inr (inr (inr (inr (inr (inr none)))))))) = absurd none

@@ -1,74 +1,112 @@
 -- What the form of an answer gives for the tests of its question, and for what is kept of it.
-use Rattle.std.proofs.Common.{◌≡◌, inl, inr, ◌==◌, true, false, ℕ, List, [], ◌∷◌, ◌++◌, length, map, refl, sym, ap, subst, ◌∙◌}
+use Rattle.std.proofs.Common.{◌≡◌, ◌≤◌, ◌⊎◌, inl, inr, ◌==◌, true, false, ℕ, List, [], ◌∷◌, ◌++◌, length, map, refl, sym, ap, subst, ◌∙◌}
 use Rattle.std.specs.List.{AllByRecursion}
 use Rattle.std.proofs.lemmas.Bool.{cases_eq, eq-eqb, ne_eqb}
 use Rattle.std.proofs.lemmas.List.{append-nil, append_assoc}
 use Rattle.crn_vec.specs.Network.{Net}
+use Rattle.crn_vec.specs.Kept.{KeptNums}
 use Rattle.crn_cert.specs.declared.answer.Answer.{Answer}
 use Rattle.crn_cert.specs.declared.answer.Gap.TheVariants.{Wide, Budget, Rests}
 use Rattle.crn_cert.specs.declared.answer.Verdict.{Verdict}
-use Rattle.crn_cert.specs.declared.answer.Verdict.TheVariants.{Classes, Strong, Yes, NoReaction, Unknown}
+use Rattle.crn_cert.specs.declared.answer.Verdict.TheVariants.{Classes, Strong, Unknown}
 use Rattle.crn_cert.specs.declared.answer.Proof.{Proof}
-use Rattle.crn_cert.specs.declared.answer.Proof.TheVariants.{Nothing, Forest, Strong as StrongTrees, Back}
-use Rattle.crn_cert.specs.Questions.{Earlier, Question, Q1, Q2, Q3, Q4, Q5, Q6, Q7, Q8, Q9, Q10, Q11, Q12, Q13, Q14, Q15, number, on, labels_of}
-use Rattle.crn_cert.specs.Valid.{strong}
-use Rattle.crn_cert.specs.Formed.{HeadMayBe, RowsMayBe, RowsLinkage, RowsStrong, RowsReversible, RowsWeak, IsFormed}
+use Rattle.crn_cert.specs.Questions.{Earlier, Question, Q1, Q2, Q3, Q4, Q5, Q6, Q7, Q8, Q9, Q10, Q11, Q12, Q13, Q14, Q15, number, on, labels_of, count_of, IsOpen}
+use Rattle.crn_cert.specs.Valid.{strong, linkage, linkage_count}
+use Rattle.crn_cert.specs.Formed.{HeadMayBe, HeadReversible, HeadDeficiency, RowsLinkage, RowsStrong, RowsReversible, RowsRank, RowsDeficiency, RowsPositive, IsFormed, IsFormedOf}
 use Rattle.crn_cert.specs.FormedVerdicts.{IsFormedVerdict, AreFormedVerdicts}
 use Rattle.crn_cert.specs.Law.{IsTrueOrOpen}
-use Rattle.crn_check.specs.Check.{IsBuilt}
+use Rattle.crn_cert.proofs.CallerLemmas.{formed_answers_have_formed_verdicts}
 use Rattle.crn_check.specs.Verdicts.{tight}
 use Rattle.crn_check.specs.Facts.{KeptFacts, AreFactsOf, asked, HoldsOn}
 use Rattle.crn_check.proofs.Spares.{true_tight}
 
-rows_linkage : (net : Net) (e : Earlier) (v : Verdict) (p : Proof) → HeadMayBe net e Q1 v → RowsMayBe net e Q1 v p → RowsLinkage net v p
-rows_linkage net e (Unknown (Wide system class index basis)) p h r = absurd h
-rows_linkage net e (Unknown (Budget nodes)) p h r = absurd h
-rows_linkage net e (Unknown (Rests question)) p h r = absurd h
-rows_linkage net e v p h r = r
+-- ---- the lists of decided answers
 
-rows_strong : (net : Net) (e : Earlier) (v : Verdict) (p : Proof) → HeadMayBe net e Q2 v → RowsMayBe net e Q2 v p → RowsStrong net v p
-rows_strong net e (Unknown (Wide system class index basis)) p h r = absurd h
-rows_strong net e (Unknown (Budget nodes)) p h r = absurd h
-rows_strong net e (Unknown (Rests question)) p h r = absurd h
-rows_strong net e v p h r = r
+pub rows_linkage : (net : Net) (e : Earlier) (v : Verdict) (p : Proof) → IsFormedOf net e Q1 v p → RowsLinkage net v p
+rows_linkage net e (Unknown (Wide system class index basis)) p f = absurd f.0
+rows_linkage net e (Unknown (Budget nodes)) p f = absurd f.0
+rows_linkage net e (Unknown (Rests question)) p f = absurd f.0
+rows_linkage net e v p f = f.1
 
-rows_reversible : (net : Net) (e : Earlier) (v : Verdict) (p : Proof) → HeadMayBe net e Q3 v → RowsMayBe net e Q3 v p → RowsReversible net v p
-rows_reversible net e (Unknown (Wide system class index basis)) p h r = absurd h
-rows_reversible net e (Unknown (Budget nodes)) p h r = absurd h
-rows_reversible net e (Unknown (Rests question)) p h r = absurd h
-rows_reversible net e v p h r = r
+pub rows_strong : (net : Net) (e : Earlier) (v : Verdict) (p : Proof) → IsFormedOf net e Q2 v p → RowsStrong net v p
+rows_strong net e (Unknown (Wide system class index basis)) p f = absurd f.0
+rows_strong net e (Unknown (Budget nodes)) p f = absurd f.0
+rows_strong net e (Unknown (Rests question)) p f = absurd f.0
+rows_strong net e v p f = f.1
 
-rows_weak : (net : Net) (e : Earlier) (v : Verdict) (p : Proof) → HeadMayBe net e Q4 v → RowsMayBe net e Q4 v p → RowsWeak v p
-rows_weak net e (Unknown (Wide system class index basis)) p h r = absurd h
-rows_weak net e (Unknown (Budget nodes)) p h r = absurd h
-rows_weak net e (Unknown (Rests question)) p h r = absurd h
-rows_weak net e v p h r = r
+pub rows_reversible : (net : Net) (e : Earlier) (v : Verdict) (p : Proof) → IsFormedOf net e Q3 v p → RowsReversible net v p
+rows_reversible net e (Unknown (Wide system class index basis)) p f = absurd f.0
+rows_reversible net e (Unknown (Budget nodes)) p f = absurd f.0
+rows_reversible net e (Unknown (Rests question)) p f = absurd f.0
+rows_reversible net e v p f = f.1
+
+pub head_reversible : (net : Net) (e : Earlier) (v : Verdict) → HeadMayBe net e Q3 v → HeadReversible net v
+head_reversible net e (Unknown (Wide system class index basis)) h = absurd h
+head_reversible net e (Unknown (Budget nodes)) h = absurd h
+head_reversible net e (Unknown (Rests question)) h = absurd h
+head_reversible net e v h = h
+
+pub head_weak : (net : Net) (e : Earlier) (v : Verdict) → HeadMayBe net e Q4 v → HeadReversible net v
+head_weak net e (Unknown (Wide system class index basis)) h = absurd h
+head_weak net e (Unknown (Budget nodes)) h = absurd h
+head_weak net e (Unknown (Rests question)) h = absurd h
+head_weak net e v h = h
+
+pub rows_rank : (net : Net) (e : Earlier) (v : Verdict) (p : Proof) → IsFormedOf net e Q5 v p → IsOpen v ⊎ RowsRank net v p
+rows_rank net e (Unknown gap) p f = inl tt
+rows_rank net e v p f = inr f.1
+
+pub rows_deficiency : (net : Net) (e : Earlier) (v : Verdict) (p : Proof) → IsFormedOf net e Q6 v p → IsOpen v ⊎ (HeadDeficiency net e v × RowsDeficiency net e v p)
+rows_deficiency net e (Unknown gap) p f = inl tt
+rows_deficiency net e v p f = inr f
+
+pub rows_dependence : (net : Net) (e : Earlier) (v : Verdict) (p : Proof) → IsFormedOf net e Q7 v p → IsOpen v ⊎ RowsPositive (length net.reactions) (length net.names) v p
+rows_dependence net e (Unknown gap) p f = inl tt
+rows_dependence net e v p f = inr f.1
+
+pub rows_conservation : (net : Net) (e : Earlier) (v : Verdict) (p : Proof) → IsFormedOf net e Q8 v p → IsOpen v ⊎ RowsPositive (length net.names) (length net.reactions) v p
+rows_conservation net e (Unknown gap) p f = inl tt
+rows_conservation net e v p f = inr f.1
 
 -- ---- what is kept
 
-tight_linkage : (net : Net) (e : Earlier) (v : Verdict) (p : Proof) → HeadMayBe net e Q1 v → RowsLinkage net v p → IsFormedVerdict net e Q1 (tight v)
-tight_linkage net e (Classes count label) (Forest up depth) h r = (h, r.0)
-tight_linkage net e (Classes count label) p h r = absurd r
-tight_linkage net e v p h r = absurd r
-
-tight_strong : (net : Net) (e : Earlier) (v : Verdict) (p : Proof) → HeadMayBe net e Q2 v → RowsStrong net v p → IsFormedVerdict net e Q2 (tight v)
-tight_strong net e (Strong count terminal label exit) (StrongTrees from from_depth to to_depth level) h r = (h, (r.0, r.1))
-tight_strong net e (Strong count terminal label exit) p h r = absurd r
-tight_strong net e v p h r = absurd r
-
-tight_reversible : (net : Net) (e : Earlier) (v : Verdict) (p : Proof) → HeadMayBe net e Q3 v → RowsReversible net v p → IsFormedVerdict net e Q3 (tight v)
-tight_reversible net e Yes (Back back) h r = (h, tt)
-tight_reversible net e Yes p h r = absurd r
-tight_reversible net e (NoReaction n) Nothing h r = (h, tt)
-tight_reversible net e (NoReaction n) p h r = absurd r
-tight_reversible net e v p h r = absurd r
-
-tight_weak : (net : Net) (e : Earlier) (v : Verdict) (p : Proof) → HeadMayBe net e Q4 v → RowsWeak v p → IsFormedVerdict net e Q4 (tight v)
-tight_weak net e Yes Nothing h r = (h, tt)
-tight_weak net e Yes p h r = absurd r
-tight_weak net e (NoReaction n) Nothing h r = (h, tt)
-tight_weak net e (NoReaction n) p h r = absurd r
-tight_weak net e v p h r = absurd r
+-- the verdict is formed without its spares
+verdict_tight : (net : Net) (e : Earlier) (q : Question) (v : Verdict) → IsFormedVerdict net e q v → IsFormedVerdict net e q (tight v)
+verdict_tight net e q (Unknown (Wide system class index basis)) h = gap_tight net e q system class index basis h
+  where
+    gap_tight : (net : Net) (e : Earlier) (q : Question) (system class index : ℕ) (basis : KeptNums) → IsFormedVerdict net e q (Unknown (Wide system class index basis)) → IsFormedVerdict net e q (tight (Unknown (Wide system class index basis)))
+    gap_tight net e Q1 system class index basis h = absurd h.0
+    gap_tight net e Q2 system class index basis h = absurd h.0
+    gap_tight net e Q3 system class index basis h = absurd h.0
+    gap_tight net e Q4 system class index basis h = absurd h.0
+    gap_tight net e Q5 system class index basis h = h
+    gap_tight net e Q6 system class index basis h = h
+    gap_tight net e Q7 system class index basis h = h
+    gap_tight net e Q8 system class index basis h = h
+    gap_tight net e Q9 system class index basis h = absurd h.0
+    gap_tight net e Q10 system class index basis h = absurd h.0
+    gap_tight net e Q11 system class index basis h = absurd h.0
+    gap_tight net e Q12 system class index basis h = h
+    gap_tight net e Q13 system class index basis h = h
+    gap_tight net e Q14 system class index basis h = h
+    gap_tight net e Q15 system class index basis h = h
+verdict_tight net e q (Unknown (Budget nodes)) h = h
+verdict_tight net e q (Unknown (Rests question)) h = h
+verdict_tight net e Q1 v h = h
+verdict_tight net e Q2 v h = h
+verdict_tight net e Q3 v h = h
+verdict_tight net e Q4 v h = h
+verdict_tight net e Q5 v h = h
+verdict_tight net e Q6 v h = h
+verdict_tight net e Q7 v h = h
+verdict_tight net e Q8 v h = h
+verdict_tight net e Q9 v h = h
+verdict_tight net e Q10 v h = h
+verdict_tight net e Q11 v h = h
+verdict_tight net e Q12 v h = h
+verdict_tight net e Q13 v h = h
+verdict_tight net e Q14 v h = h
+verdict_tight net e Q15 v h = h
 
 -- ---- one more verdict
 
@@ -89,27 +127,13 @@ sound_push net (e ∷ es) q v h t = (h.0, sound_push net es q v h.1 t)
 
 -- ---- facts with the verdict of an answer
 
-tight_formed : (net : Net) (e : Earlier) (n : ℕ) (a : Answer) → IsBuilt n → IsFormed net e (asked n) a → IsFormedVerdict net e (asked n) (tight a.verdict)
-tight_formed net e n a (inl is) f =
-    let g : IsFormed net e Q1 a = subst (λ (m : ℕ). IsFormed net e (asked m) a) is f in
-    subst (λ (m : ℕ). IsFormedVerdict net e (asked m) (tight a.verdict)) (sym is) (tight_linkage net e a.verdict a.proof g.0 (rows_linkage net e a.verdict a.proof g.0 g.1))
-tight_formed net e n a (inr (inl is)) f =
-    let g : IsFormed net e Q2 a = subst (λ (m : ℕ). IsFormed net e (asked m) a) is f in
-    subst (λ (m : ℕ). IsFormedVerdict net e (asked m) (tight a.verdict)) (sym is) (tight_strong net e a.verdict a.proof g.0 (rows_strong net e a.verdict a.proof g.0 g.1))
-tight_formed net e n a (inr (inr (inl is))) f =
-    let g : IsFormed net e Q3 a = subst (λ (m : ℕ). IsFormed net e (asked m) a) is f in
-    subst (λ (m : ℕ). IsFormedVerdict net e (asked m) (tight a.verdict)) (sym is) (tight_reversible net e a.verdict a.proof g.0 (rows_reversible net e a.verdict a.proof g.0 g.1))
-tight_formed net e n a (inr (inr (inr (inl is)))) f =
-    let g : IsFormed net e Q4 a = subst (λ (m : ℕ). IsFormed net e (asked m) a) is f in
-    subst (λ (m : ℕ). IsFormedVerdict net e (asked m) (tight a.verdict)) (sym is) (tight_weak net e a.verdict a.proof g.0 (rows_weak net e a.verdict a.proof g.0 g.1))
-tight_formed net e n a (inr (inr (inr (inr none)))) f = absurd none
-
-pub facts_push : (net : Net) (old new : KeptFacts) (n : ℕ) (a : Answer) → IsBuilt n → AreFactsOf net old → IsFormed net old.earlier (asked n) a → new.earlier ≡ old.earlier ++ (asked n, tight a.verdict) ∷ [] → new.room ≡ old.room → IsTrueOrOpen net (asked n) a.verdict → AreFactsOf net new
-facts_push net old new n a built h f e room t = record {
-  room = room ∙ h.room;
-  formed = subst (λ (es : Earlier). AreFormedVerdicts net [] (asks es) (says es)) (sym e) (formed_push net [] old.earlier (asked n) (tight a.verdict) h.formed (tight_formed net old.earlier n a built f));
-  sound = subst (AllByRecursion (λ (e : Question × Verdict). IsTrueOrOpen net e.0 e.1)) (sym e) (sound_push net old.earlier (asked n) (tight a.verdict) h.sound (true_tight net (asked n) a.verdict t));
-}
+pub facts_push : (net : Net) (old new : KeptFacts) (n : ℕ) (a : Answer) → AreFactsOf net old → IsFormed net old.earlier (asked n) a → new.earlier ≡ old.earlier ++ (asked n, tight a.verdict) ∷ [] → IsTrueOrOpen net (asked n) a.verdict → AreFactsOf net new
+facts_push net old new n a h f e t =
+    let formed = verdict_tight net old.earlier (asked n) a.verdict (formed_answers_have_formed_verdicts net old.earlier (asked n) a.verdict a.proof f) in
+    record {
+      formed = subst (λ (es : Earlier). AreFormedVerdicts net [] (asks es) (says es)) (sym e) (formed_push net [] old.earlier (asked n) (tight a.verdict) h.formed formed);
+      sound = subst (AllByRecursion (λ (e : Question × Verdict). IsTrueOrOpen net e.0 e.1)) (sym e) (sound_push net old.earlier (asked n) (tight a.verdict) h.sound (true_tight net (asked n) a.verdict t));
+    }
 
 -- ---- the verdict that facts hold on a question
 
@@ -158,3 +182,14 @@ strong_long net e v h = absurd h.0
 
 pub strong_labelled : (net : Net) (facts : KeptFacts) → AreFactsOf net facts → HoldsOn facts.earlier 2 → length (strong facts.earlier) ≡ length net.complexes
 strong_labelled net facts h held = let f = formed_on net [] facts.earlier Q2 h.formed held in strong_long net f.0 (on facts.earlier Q2) f.1
+
+-- a verdict on linkage classes labels each complex, and has no more classes than complexes
+linkage_long : (net : Net) (e : Earlier) (v : Verdict) → IsFormedVerdict net e Q1 v → (length (labels_of v) ≡ length net.complexes) × (count_of v ≤ length net.complexes)
+linkage_long net e (Classes count label) h = (h.1.long, h.0.1)
+linkage_long net e (Unknown (Wide system class index basis)) h = absurd h.0
+linkage_long net e (Unknown (Budget nodes)) h = absurd h.0
+linkage_long net e (Unknown (Rests question)) h = absurd h.0
+linkage_long net e v h = absurd h.0
+
+pub linkage_labelled : (net : Net) (facts : KeptFacts) → AreFactsOf net facts → HoldsOn facts.earlier 1 → (length (linkage facts.earlier) ≡ length net.complexes) × (linkage_count facts.earlier ≤ length net.complexes)
+linkage_labelled net facts h held = let f = formed_on net [] facts.earlier Q1 h.formed held in linkage_long net f.0 (on facts.earlier Q1) f.1

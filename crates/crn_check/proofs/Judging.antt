@@ -19,3 +19,8 @@ pub judges_go : (ts us : List Test) (r : Result Unit CheckFault) → AllHold ts 
 judges_go [] us r all h = h
 judges_go (t ∷ ts) us (Ok done) all h = (all.0, judges_go ts us (Ok done) all.1 h)
 judges_go (t ∷ ts) us (Err fault) all h = inr (all.0, judges_go ts us (Err fault) all.1 h)
+
+-- the first test holds
+pub judges_pass : (t : Test) (ts : List Test) (r : Result Unit CheckFault) → t.holds → Judges ts r → Judges (t ∷ ts) r
+judges_pass t ts (Ok done) held h = (held, h)
+judges_pass t ts (Err fault) held h = inr (held, h)

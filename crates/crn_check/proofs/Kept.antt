@@ -4,9 +4,8 @@ use Rattle.std.proofs.lemmas.Bool.{eq-eqb, ne_eqb}
 use Rattle.std.proofs.lemmas.List.{drop_more}
 use Rattle.crn_cert.specs.Questions.{Earlier, Question, Q1, Q2, Q3, Q4, Q5, Q6, Q7, Q8, Q9, Q10, Q11, Q12, Q13, Q14, Q15, questions, number, on}
 use Rattle.crn_check.specs.declared.facts.Fact.{Fact}
-use Rattle.crn_vec.specs.Kept.{KeptNums}
 use Rattle.crn_check.specs.Facts.{asked, HoldsOn, HoldsNoneFrom}
-use Rattle.crn_check.specs.Facts.{AreInOrder, IsReserved}
+use Rattle.crn_check.specs.Facts.{AreInOrder}
 
 number_at : (k : ℕ) → k < 15 → number (get_or questions k Q15) ≡ k + 1
 number_at zero lt = refl
@@ -133,31 +132,3 @@ order_push (g ∷ gs) k n f h none lt few is = (h.0, order_push gs g.question n 
 pub few_before : (items : List Fact) (k n : ℕ) → AreInOrder k (numbers_of items) → HoldsNoneFrom n (earlier_of items) → k < n → k + length items < n
 few_before [] k n h none lt = omega (arith, lt)
 few_before (g ∷ gs) k n h none lt = let more = few_before gs g.question n h.1 none.1 (below g gs k n h none) in omega (arith, h.0, more)
-
-pub not_held : (earlier : Earlier) (n : ℕ) → HoldsNoneFrom n earlier → HoldsOn earlier n → ⊥
-not_held [] n none held = absurd held
-not_held (e ∷ es) n none (inl is) = let lt = none.0 in omega (arith, lt, is)
-not_held (e ∷ es) n none (inr later) = not_held es n none.1 later
-
-held_push : (items : List Fact) (f : Fact) (n : ℕ) → HoldsOn (earlier_of items) n → HoldsOn (earlier_of (items ++ f ∷ [])) n
-held_push [] f n held = absurd held
-held_push (g ∷ gs) f n (inl is) = inl is
-held_push (g ∷ gs) f n (inr later) = inr (held_push gs f n later)
-
-held_last : (items : List Fact) (f : Fact) (n : ℕ) → n ≡ number (asked f.question) → HoldsOn (earlier_of (items ++ f ∷ [])) n
-held_last [] f n is = inl is
-held_last (g ∷ gs) f n is = inr (held_last gs f n is)
-
-pub reserved_push : (items : List Fact) (f : Fact) (n room : ℕ) (kept : KeptNums) → IsReserved (earlier_of items) n room kept → IsReserved (earlier_of (items ++ f ∷ [])) n room kept
-reserved_push items f n room kept h none = h (λ held. none (held_push items f n held))
-
-pub reserved_taken : (items : List Fact) (f : Fact) (n room : ℕ) (kept : KeptNums) → n ≡ number (asked f.question) → IsReserved (earlier_of (items ++ f ∷ [])) n room kept
-reserved_taken items f n room kept is none = absurd (none (held_last items f n is))
-
--- ---- lists with no spare
-
-abbrev kept : List ℕ → ℕ → KeptNums
-kept list spare = record { list = list; spare = spare }
-
-pub kept_same : (k : KeptNums) (list : List ℕ) → k.list ≡ list → k.spare ≡ 0 → k ≡ kept list 0
-kept_same k list same none = subst (λ (l : List ℕ). k ≡ kept l 0) same (subst (λ (s : ℕ). k ≡ kept k.list s) none refl)

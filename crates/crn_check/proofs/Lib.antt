@@ -9,3 +9,9 @@ mod Spares
 mod Forms
 mod Truths
 mod Asked
+mod Widths
+mod RankParts
+mod Fits
+mod Outside
+mod ClassRanks
+mod BaseForms

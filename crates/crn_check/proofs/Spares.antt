@@ -1,19 +1,26 @@
 -- The form, the tests and the truth of an answer do not depend on spares of lists.
-use Rattle.std.proofs.Common.{◌≡◌, ◌↔◌, ◌==◌, Bool, true, false, if◌then◌else◌, inl, inr, List, [], ◌∷◌, refl, sym, ap, subst, ◌∙◌}
+use Rattle.std.proofs.Common.{◌≡◌, ◌↔◌, ◌≤◌, ◌==◌, ◌+◌, ◌-◌, Bool, true, false, if◌then◌else◌, inl, inr, ℕ, suc, List, [], ◌∷◌, ◌++◌, length, map, get_or, refl, sym, ap, ap₂, subst, ◌∙◌}
+use Rattle.std.specs.Prelude.{min, filter, Option}
+use Rattle.std.specs.Option.{IsSome, IsSomeAnd}
+use Rattle.std.specs.List.{range_with_len}
+use Rattle.crn_vec.specs.Deficiency.{class_members}
 use Rattle.crn_vec.specs.Lists.{IsIn}
 use Rattle.crn_vec.specs.Network.{Net}
 use Rattle.crn_cert.specs.declared.answer.Gap.TheVariants.{Wide, Budget, Rests}
 use Rattle.crn_cert.specs.declared.answer.Verdict.{Verdict}
-use Rattle.crn_cert.specs.declared.answer.Verdict.TheVariants.{Classes, Strong, Yes, NoReaction, Unknown}
+use Rattle.crn_cert.specs.declared.answer.Verdict.TheVariants.{Classes, Strong, Rank, Deficiency, Yes, YesVec, NoReaction, NoVec, Unknown}
 use Rattle.crn_cert.specs.declared.answer.Proof.{Proof}
-use Rattle.crn_cert.specs.declared.answer.Proof.TheVariants.{Nothing, Forest, Strong as StrongTrees, Back}
+use Rattle.crn_cert.specs.declared.answer.Proof.TheVariants.{Nothing, Forest, Strong as StrongTrees, Back, Rank as RankRows, Ranks, Sides, Ties, One, Two}
+use Rattle.crn_cert.specs.declared.answer.RankProof.{RankProof}
 use Rattle.crn_cert.specs.Built.{built}
-use Rattle.crn_cert.specs.Questions.{Earlier, Question, Q1, Q2, Q3, Q4, Q5, Q6, Q7, Q8, Q9, Q10, Q11, Q12, Q13, Q14, Q15, number, on, labels_of}
-use Rattle.crn_cert.specs.Tests.{Test, AllHold, FailsFirst}
-use Rattle.crn_cert.specs.Formed.{IsFormedOf}
-use Rattle.crn_cert.specs.Valid.{head_tests, row_tests, strong}
+use Rattle.crn_cert.specs.Questions.{Earlier, Question, Q1, Q2, Q3, Q4, Q5, Q6, Q7, Q8, Q9, Q10, Q11, Q12, Q13, Q14, Q15, number, on, labels_of, count_of, rank_of}
+use Rattle.crn_cert.specs.Tests.{Test, test, AllHold, FailsFirst}
+use Rattle.crn_cert.specs.Formed.{IsFormedOf, IsRankProof, IsWideGap, IsBasisOf, AreClassProofs}
+use Rattle.crn_cert.specs.Valid.{head_tests, row_tests, strong, linkage, linkage_count, class_places, IsLeft, IsClassNumber, AreClassNumbers, class_rank_tests}
+use Rattle.crn_cert.specs.RankTests.{rank_tests}
+use Rattle.crn_cert.specs.Ranges.{IsFrom, AreFrom}
 use Rattle.crn_cert.specs.Law.{IsTrueOrOpen}
-use Rattle.crn_check.specs.Verdicts.{tight, tight_proof, all_tight}
+use Rattle.crn_check.specs.Verdicts.{tight, tight_proof, tight_rank, all_tight}
 use Rattle.crn_check.specs.Law.{AreAlike, ChecksSeeNoSpares}
 
 -- ---- earlier verdicts
@@ -33,6 +40,45 @@ labels_tight v = refl
 strong_tight : (es : Earlier) → strong (all_tight es) ≡ strong es
 strong_tight es = ap labels_of (on_tight es Q2) ∙ labels_tight (on es Q2)
 
+count_tight : (v : Verdict) → count_of (tight v) ≡ count_of v
+count_tight (Unknown gap) = refl
+count_tight v = refl
+
+rank_tight : (v : Verdict) → rank_of (tight v) ≡ rank_of v
+rank_tight (Unknown gap) = refl
+rank_tight v = refl
+
+linkage_tight : (es : Earlier) → linkage (all_tight es) ≡ linkage es
+linkage_tight es = ap labels_of (on_tight es Q1) ∙ labels_tight (on es Q1)
+
+linkage_count_tight : (es : Earlier) → linkage_count (all_tight es) ≡ linkage_count es
+linkage_count_tight es = ap count_of (on_tight es Q1) ∙ count_tight (on es Q1)
+
+rank_known_tight : (es : Earlier) → rank_of (on (all_tight es) Q5) ≡ rank_of (on es Q5)
+rank_known_tight es = ap rank_of (on_tight es Q5) ∙ rank_tight (on es Q5)
+
+-- ---- linkage classes by their labels
+
+-- the reactions of class k
+abbrev places : Net → List ℕ → ℕ → List ℕ
+places net labels k = filter (λ r. get_or labels (get_or net.reactions (r - 1) (0, 0)).0 0 == k) (range_with_len 1 (length net.reactions))
+
+places_by : (net : Net) (e f : Earlier) → linkage e ≡ linkage f → (k : ℕ) → class_places net e k ≡ class_places net f k
+places_by net e f same k = ap (λ (labels : List ℕ). places net labels k) same
+
+numbers_by : (net : Net) (e f : Earlier) → linkage e ≡ linkage f → (k : ℕ) (ds : List ℕ) → AreClassNumbers net e k ds ≡ AreClassNumbers net f k ds
+numbers_by net e f same k [] = refl
+numbers_by net e f same k (d ∷ ds) = ap₂ (λ (A B : Type 0). A × B) one (numbers_by net e f same (suc k) ds)
+  where
+    one : IsClassNumber net e k d ≡ IsClassNumber net f k d
+    one = ap (λ (labels : List ℕ). (d + 2 ≤ length (class_members labels k)) × (length (class_members labels k) ≤ d + 1 + min (length net.names) (length (places net labels k)))) same
+
+class_tests_by : (net : Net) (e f : Earlier) → linkage e ≡ linkage f → (part k : ℕ) (list : List RankProof) → class_rank_tests net e part k (map tight_rank list) ≡ class_rank_tests net f part k list
+class_tests_by net e f same part k [] = refl
+class_tests_by net e f same part k (p ∷ ps) =
+    ap₂ (λ (xs ys : List Test). xs ++ ys) (ap (λ (ms : List ℕ). rank_tests net ms part p.base.list p.duals p.combs) (places_by net e f same k))
+    (class_tests_by net e f same (part + 1 + length p.duals + length p.combs) (suc k) ps)
+
 -- ---- heads
 
 heads_3 : (net : Net) (es : Earlier) (v : Verdict) → head_tests net (all_tight es) Q3 (tight v) ≡ head_tests net es Q3 v
@@ -45,12 +91,26 @@ heads_4 net es (NoReaction r) = rw (strong_tight es) refl
 heads_4 net es (Unknown gap) = refl
 heads_4 net es v = refl
 
+heads_6 : (net : Net) (es : Earlier) (v : Verdict) → head_tests net (all_tight es) Q6 (tight v) ≡ head_tests net es Q6 v
+heads_6 net es (Deficiency total classes) =
+    ap₂ (λ (rank : Option ℕ) (P : Type 0). test 0 37 (IsSome rank) ∷ test 0 36 P ∷ []) (rank_known_tight es)
+    (ap₂ (λ (A B : Type 0). A × B) left (numbers_by net (all_tight es) es (linkage_tight es) 1 classes.list))
+  where
+    left : IsLeft net (all_tight es) total (rank_of (on (all_tight es) Q5)) ≡ IsLeft net es total (rank_of (on es Q5))
+    left = ap₂ (λ (count : ℕ) (rank : Option ℕ). IsSomeAnd rank (λ s. total + count + s ≡ length net.complexes)) (linkage_count_tight es) (rank_known_tight es)
+heads_6 net es (Unknown gap) = refl
+heads_6 net es v = refl
+
 pub head_tests_tight : (net : Net) (es : Earlier) (q : Question) (v : Verdict) → IsIn q built → head_tests net (all_tight es) q (tight v) ≡ head_tests net es q v
 head_tests_tight net es q v (inl is) = rw is refl
 head_tests_tight net es q v (inr (inl is)) = rw is refl
 head_tests_tight net es q v (inr (inr (inl is))) = rw is (heads_3 net es v)
 head_tests_tight net es q v (inr (inr (inr (inl is)))) = rw is (heads_4 net es v)
-head_tests_tight net es q v (inr (inr (inr (inr none)))) = absurd none
+head_tests_tight net es q v (inr (inr (inr (inr (inl is))))) = rw is refl
+head_tests_tight net es q v (inr (inr (inr (inr (inr (inl is)))))) = rw is (heads_6 net es v)
+head_tests_tight net es q v (inr (inr (inr (inr (inr (inr (inl is))))))) = rw is refl
+head_tests_tight net es q v (inr (inr (inr (inr (inr (inr (inr (inl is)))))))) = rw is refl
+head_tests_tight net es q v (inr (inr (inr (inr (inr (inr (inr (inr none)))))))) = absurd none
 
 -- ---- records
 
@@ -69,12 +129,34 @@ rows_3 net es Yes (Back back) = refl
 rows_3 net es Yes p = refl
 rows_3 net es v p = refl
 
+rows_5 : (net : Net) (es : Earlier) (v : Verdict) (p : Proof) → row_tests net (all_tight es) Q5 (tight v) (tight_proof p) ≡ row_tests net es Q5 v p
+rows_5 net es (Rank rank base) (RankRows proof) = refl
+rows_5 net es (Rank rank base) p = refl
+rows_5 net es v p = refl
+
+rows_6 : (net : Net) (es : Earlier) (v : Verdict) (p : Proof) → row_tests net (all_tight es) Q6 (tight v) (tight_proof p) ≡ row_tests net es Q6 v p
+rows_6 net es (Deficiency total classes) (Ranks list) = class_tests_by net (all_tight es) es (linkage_tight es) 1 1 list
+rows_6 net es (Deficiency total classes) p = refl
+rows_6 net es v p = refl
+
+rows_7 : (net : Net) (es : Earlier) (v : Verdict) (p : Proof) → row_tests net (all_tight es) Q7 (tight v) (tight_proof p) ≡ row_tests net es Q7 v p
+rows_7 net es (Unknown gap) p = refl
+rows_7 net es v p = refl
+
+rows_8 : (net : Net) (es : Earlier) (v : Verdict) (p : Proof) → row_tests net (all_tight es) Q8 (tight v) (tight_proof p) ≡ row_tests net es Q8 v p
+rows_8 net es (Unknown gap) p = refl
+rows_8 net es v p = refl
+
 pub row_tests_tight : (net : Net) (es : Earlier) (q : Question) (v : Verdict) (p : Proof) → IsIn q built → row_tests net (all_tight es) q (tight v) (tight_proof p) ≡ row_tests net es q v p
 row_tests_tight net es q v p (inl is) = rw is (rows_1 net es v p)
 row_tests_tight net es q v p (inr (inl is)) = rw is (rows_2 net es v p)
 row_tests_tight net es q v p (inr (inr (inl is))) = rw is (rows_3 net es v p)
 row_tests_tight net es q v p (inr (inr (inr (inl is)))) = rw is refl
-row_tests_tight net es q v p (inr (inr (inr (inr none)))) = absurd none
+row_tests_tight net es q v p (inr (inr (inr (inr (inl is))))) = rw is (rows_5 net es v p)
+row_tests_tight net es q v p (inr (inr (inr (inr (inr (inl is)))))) = rw is (rows_6 net es v p)
+row_tests_tight net es q v p (inr (inr (inr (inr (inr (inr (inl is))))))) = rw is (rows_7 net es v p)
+row_tests_tight net es q v p (inr (inr (inr (inr (inr (inr (inr (inl is)))))))) = rw is (rows_8 net es v p)
+row_tests_tight net es q v p (inr (inr (inr (inr (inr (inr (inr (inr none)))))))) = absurd none
 
 -- ---- forms
 
@@ -114,12 +196,107 @@ forms_4 net es (NoReaction r) Nothing = (λ h. h, λ h. h)
 forms_4 net es (NoReaction r) p = (λ h. h, λ h. h)
 forms_4 net es v p = (λ h. h, λ h. h)
 
+nothing : (p : Proof) → tight_proof p ≡ Nothing → p ≡ Nothing
+nothing Nothing e = refl
+nothing (Forest up depth) e = cc
+nothing (StrongTrees from from_depth to to_depth level) e = cc
+nothing (Back back) e = cc
+nothing (RankRows proof) e = cc
+nothing (Ranks list) e = cc
+nothing (Sides sides) e = cc
+nothing (Ties ties) e = cc
+nothing (One tree) e = cc
+nothing (Two tree second) e = cc
+
+rank_of_tight : (net : Net) (members : List ℕ) (rank : ℕ) (p : RankProof) → IsRankProof net members rank (tight_rank p) → IsRankProof net members rank p
+rank_of_tight net members rank p h = record { long = h.long; ascending = h.ascending; from = h.from; duals = h.duals; combs = h.combs }
+
+tight_of_rank : (net : Net) (members : List ℕ) (rank : ℕ) (p : RankProof) → IsRankProof net members rank p → IsRankProof net members rank (tight_rank p)
+tight_of_rank net members rank p h = record { long = h.long; ascending = h.ascending; from = h.from; duals = h.duals; combs = h.combs }
+
+forms_5 : (net : Net) (es : Earlier) (v : Verdict) (p : Proof) → (IsFormedOf net (all_tight es) Q5 (tight v) (tight_proof p) ↔ IsFormedOf net es Q5 v p)
+forms_5 net es (Unknown (Wide system class index basis)) p = (λ h. (h.0, nothing p h.1), λ h. (h.0, ap tight_proof h.1))
+forms_5 net es (Unknown (Budget nodes)) p = (λ h. absurd h.0, λ h. absurd h.0)
+forms_5 net es (Unknown (Rests question)) p = (λ h. absurd h.0, λ h. absurd h.0)
+forms_5 net es (Rank rank base) (RankRows proof) = (
+  λ h. (h.0, (h.1.0, rank_of_tight net (range_with_len 1 (length net.reactions)) rank proof h.1.1)),
+  λ h. (h.0, (h.1.0, tight_of_rank net (range_with_len 1 (length net.reactions)) rank proof h.1.1)),
+)
+forms_5 net es (Rank rank base) p = (λ h. h, λ h. h)
+forms_5 net es v p = (λ h. h, λ h. h)
+
+-- proofs of ranks of classes, by the labels of the classes
+proofs_tight : (net : Net) (e f : Earlier) → linkage e ≡ linkage f → (k : ℕ) (ds : List ℕ) (ps : List RankProof) → AreClassProofs net e k ds ps → AreClassProofs net f k ds (map tight_rank ps)
+proofs_tight net e f same k [] [] h = tt
+proofs_tight net e f same k [] (p ∷ ps) h = absurd h
+proofs_tight net e f same k (d ∷ ds) [] h = absurd h
+proofs_tight net e f same k (d ∷ ds) (p ∷ ps) h = (
+  tight_of_rank net (class_places net f k) (length (class_members (linkage f) k) - 1 - d) p
+      (subst (λ (labels : List ℕ). IsRankProof net (places net labels k) (length (class_members labels k) - 1 - d) p) same h.0),
+  proofs_tight net e f same (suc k) ds ps h.1,
+)
+
+tight_proofs : (net : Net) (e f : Earlier) → linkage e ≡ linkage f → (k : ℕ) (ds : List ℕ) (ps : List RankProof) → AreClassProofs net e k ds (map tight_rank ps) → AreClassProofs net f k ds ps
+tight_proofs net e f same k [] [] h = tt
+tight_proofs net e f same k [] (p ∷ ps) h = absurd h
+tight_proofs net e f same k (d ∷ ds) [] h = absurd h
+tight_proofs net e f same k (d ∷ ds) (p ∷ ps) h = (
+  rank_of_tight net (class_places net f k) (length (class_members (linkage f) k) - 1 - d) p
+      (subst (λ (labels : List ℕ). IsRankProof net (places net labels k) (length (class_members labels k) - 1 - d) (tight_rank p)) same h.0),
+  tight_proofs net e f same (suc k) ds ps h.1,
+)
+
+gap_by : (net : Net) (e f : Earlier) → linkage e ≡ linkage f → linkage_count e ≡ linkage_count f → (system class index : ℕ) (basis : List ℕ) → IsWideGap net e Q6 system class index basis → IsWideGap net f Q6 system class index basis
+gap_by net e f same count system class index basis h = (
+  h.0,
+  subst (λ (n : ℕ). IsFrom 1 n class) count h.1,
+  subst (λ (labels : List ℕ). IsBasisOf (length net.names) (length (places net labels class)) index basis) same h.2,
+)
+
+forms_6 : (net : Net) (es : Earlier) (v : Verdict) (p : Proof) → (IsFormedOf net (all_tight es) Q6 (tight v) (tight_proof p) ↔ IsFormedOf net es Q6 v p)
+forms_6 net es (Unknown (Wide system class index basis)) p = (
+  λ h. (gap_by net (all_tight es) es (linkage_tight es) (linkage_count_tight es) system class index basis.list h.0, nothing p h.1),
+  λ h. (gap_by net es (all_tight es) (sym (linkage_tight es)) (sym (linkage_count_tight es)) system class index basis.list h.0, ap tight_proof h.1),
+)
+forms_6 net es (Unknown (Budget nodes)) p = (λ h. absurd h.0, λ h. absurd h.0)
+forms_6 net es (Unknown (Rests question)) p = (λ h. (h.0, nothing p h.1), λ h. (h.0, ap tight_proof h.1))
+forms_6 net es (Deficiency total classes) (Ranks list) = (
+  λ h. ((h.0.0, subst (λ (n : ℕ). AreFrom n 0 (length net.complexes) classes.list) (linkage_count_tight es) h.0.1), tight_proofs net (all_tight es) es (linkage_tight es) 1 classes.list list h.1),
+  λ h. ((h.0.0, subst (λ (n : ℕ). AreFrom n 0 (length net.complexes) classes.list) (sym (linkage_count_tight es)) h.0.1), proofs_tight net es (all_tight es) (sym (linkage_tight es)) 1 classes.list list h.1),
+)
+forms_6 net es (Deficiency total classes) p = (λ h. absurd h.1, λ h. absurd h.1)
+forms_6 net es v p = (λ h. absurd h.0, λ h. absurd h.0)
+
+forms_7 : (net : Net) (es : Earlier) (v : Verdict) (p : Proof) → (IsFormedOf net (all_tight es) Q7 (tight v) (tight_proof p) ↔ IsFormedOf net es Q7 v p)
+forms_7 net es (Unknown (Wide system class index basis)) p = (λ h. (h.0, nothing p h.1), λ h. (h.0, ap tight_proof h.1))
+forms_7 net es (Unknown (Budget nodes)) p = (λ h. absurd h.0, λ h. absurd h.0)
+forms_7 net es (Unknown (Rests question)) p = (λ h. absurd h.0, λ h. absurd h.0)
+forms_7 net es (YesVec vector) Nothing = (λ h. h, λ h. h)
+forms_7 net es (YesVec vector) p = (λ h. absurd h.1, λ h. absurd h.1)
+forms_7 net es (NoVec multipliers) Nothing = (λ h. h, λ h. h)
+forms_7 net es (NoVec multipliers) p = (λ h. absurd h.1, λ h. absurd h.1)
+forms_7 net es v p = (λ h. absurd h.0, λ h. absurd h.0)
+
+forms_8 : (net : Net) (es : Earlier) (v : Verdict) (p : Proof) → (IsFormedOf net (all_tight es) Q8 (tight v) (tight_proof p) ↔ IsFormedOf net es Q8 v p)
+forms_8 net es (Unknown (Wide system class index basis)) p = (λ h. (h.0, nothing p h.1), λ h. (h.0, ap tight_proof h.1))
+forms_8 net es (Unknown (Budget nodes)) p = (λ h. absurd h.0, λ h. absurd h.0)
+forms_8 net es (Unknown (Rests question)) p = (λ h. absurd h.0, λ h. absurd h.0)
+forms_8 net es (YesVec vector) Nothing = (λ h. h, λ h. h)
+forms_8 net es (YesVec vector) p = (λ h. absurd h.1, λ h. absurd h.1)
+forms_8 net es (NoVec multipliers) Nothing = (λ h. h, λ h. h)
+forms_8 net es (NoVec multipliers) p = (λ h. absurd h.1, λ h. absurd h.1)
+forms_8 net es v p = (λ h. absurd h.0, λ h. absurd h.0)
+
 pub formed_tight : (net : Net) (es : Earlier) (q : Question) (v : Verdict) (p : Proof) → IsIn q built → (IsFormedOf net (all_tight es) q (tight v) (tight_proof p) ↔ IsFormedOf net es q v p)
 formed_tight net es q v p (inl is) = rw is (forms_1 net es v p)
 formed_tight net es q v p (inr (inl is)) = rw is (forms_2 net es v p)
 formed_tight net es q v p (inr (inr (inl is))) = rw is (forms_3 net es v p)
 formed_tight net es q v p (inr (inr (inr (inl is)))) = rw is (forms_4 net es v p)
-formed_tight net es q v p (inr (inr (inr (inr none)))) = absurd none
+formed_tight net es q v p (inr (inr (inr (inr (inl is))))) = rw is (forms_5 net es v p)
+formed_tight net es q v p (inr (inr (inr (inr (inr (inl is)))))) = rw is (forms_6 net es v p)
+formed_tight net es q v p (inr (inr (inr (inr (inr (inr (inl is))))))) = rw is (forms_7 net es v p)
+formed_tight net es q v p (inr (inr (inr (inr (inr (inr (inr (inl is)))))))) = rw is (forms_8 net es v p)
+formed_tight net es q v p (inr (inr (inr (inr (inr (inr (inr (inr none)))))))) = absurd none
 
 -- ---- truth
 
@@ -141,6 +318,25 @@ true_tight net Q12 v h = h
 true_tight net Q13 v h = h
 true_tight net Q14 v h = h
 true_tight net Q15 v h = h
+
+-- a verdict that is true or open without its spares is so with them
+pub true_untight : (net : Net) (q : Question) (v : Verdict) → IsTrueOrOpen net q (tight v) → IsTrueOrOpen net q v
+true_untight net q (Unknown gap) h = tt
+true_untight net Q1 v h = h
+true_untight net Q2 v h = h
+true_untight net Q3 v h = h
+true_untight net Q4 v h = h
+true_untight net Q5 v h = h
+true_untight net Q6 v h = h
+true_untight net Q7 v h = h
+true_untight net Q8 v h = h
+true_untight net Q9 v h = h
+true_untight net Q10 v h = h
+true_untight net Q11 v h = h
+true_untight net Q12 v h = h
+true_untight net Q13 v h = h
+true_untight net Q14 v h = h
+true_untight net Q15 v h = h
 
 -- ---- the law
 

@@ -7,7 +7,7 @@ use Rattle.crn_cert.specs.declared.answer.Answer.{Answer}
 use Rattle.crn_cert.specs.declared.answer.Gap.TheVariants.{Wide, Budget, Rests}
 use Rattle.crn_cert.specs.declared.answer.Verdict.{Verdict}
 use Rattle.crn_cert.specs.declared.answer.Verdict.TheVariants.{Unknown}
-use Rattle.crn_cert.specs.Questions.{Earlier, Question, Q2, number, on}
+use Rattle.crn_cert.specs.Questions.{Earlier, Question, Q1, Q2, Q5, number, on}
 use Rattle.crn_cert.specs.Says.{IsTrueOf}
 use Rattle.crn_cert.specs.Formed.{IsFormed}
 use Rattle.crn_cert.specs.FormedVerdicts.{IsFormedVerdict}
@@ -41,6 +41,18 @@ strong_decided net e (Unknown (Budget nodes)) f h = absurd f.0
 strong_decided net e (Unknown (Rests question)) f h = absurd f.0
 strong_decided net e v f h = h
 
+-- a verdict on linkage classes is not open
+linkage_decided : (net : Net) (e : Earlier) (v : Verdict) → IsFormedVerdict net e Q1 v → IsTrueOrOpen net Q1 v → IsTrueOf net Q1 v
+linkage_decided net e (Unknown (Wide system class index basis)) f h = absurd f.0
+linkage_decided net e (Unknown (Budget nodes)) f h = absurd f.0
+linkage_decided net e (Unknown (Rests question)) f h = absurd f.0
+linkage_decided net e v f h = h
+
+linkage_true : (net : Net) (facts : KeptFacts) → AreFactsOf net facts → HoldsOn facts.earlier 1 → IsTrueOf net Q1 (on facts.earlier Q1)
+linkage_true net facts h held =
+    let f = formed_on net [] facts.earlier Q1 h.formed held in
+    linkage_decided net f.0 (on facts.earlier Q1) f.1 (sound_on net facts.earlier Q1 h.sound held)
+
 strong_true : (net : Net) (facts : KeptFacts) → AreFactsOf net facts → HoldsOn facts.earlier 2 → IsTrueOf net Q2 (on facts.earlier Q2)
 strong_true net facts h held =
     let f = formed_on net [] facts.earlier Q2 h.formed held in
@@ -54,16 +66,28 @@ knows net facts n (inr (inr (inl is))) h needs = rw is tt
 knows net facts n (inr (inr (inr (inl is)))) h needs =
     let held : HoldsNeeds facts.earlier 4 = subst (HoldsNeeds facts.earlier) is needs in
     rw is (strong_true net facts h held.0, tt)
-knows net facts n (inr (inr (inr (inr none)))) h needs = absurd none
+knows net facts n (inr (inr (inr (inr (inl is))))) h needs = rw is tt
+knows net facts n (inr (inr (inr (inr (inr (inl is)))))) h needs =
+    let held : HoldsNeeds facts.earlier 6 = subst (HoldsNeeds facts.earlier) is needs in
+    rw is (linkage_true net facts h held.0, tt)
+knows net facts n (inr (inr (inr (inr (inr (inr (inl is))))))) h needs = rw is tt
+knows net facts n (inr (inr (inr (inr (inr (inr (inr (inl is)))))))) h needs = rw is tt
+knows net facts n (inr (inr (inr (inr (inr (inr (inr (inr none)))))))) h needs = absurd none
 
--- no question that is answered rests on an open one
-rests : (net : Net) (earlier : Earlier) (n : ℕ) → IsBuilt n → AreTrueOrOpen net (rests_for (asked n)) earlier
-rests net earlier n (inl is) = rw is tt
-rests net earlier n (inr (inl is)) = rw is tt
-rests net earlier n (inr (inr (inl is))) = rw is tt
-rests net earlier n (inr (inr (inr (inl is)))) = rw is tt
-rests net earlier n (inr (inr (inr (inr none)))) = absurd none
+-- the facts give what an open question rests on
+rests : (net : Net) (facts : KeptFacts) (n : ℕ) → IsBuilt n → AreFactsOf net facts → HoldsNeeds facts.earlier n → AreTrueOrOpen net (rests_for (asked n)) facts.earlier
+rests net facts n (inl is) h needs = rw is tt
+rests net facts n (inr (inl is)) h needs = rw is tt
+rests net facts n (inr (inr (inl is))) h needs = rw is tt
+rests net facts n (inr (inr (inr (inl is)))) h needs = rw is tt
+rests net facts n (inr (inr (inr (inr (inl is))))) h needs = rw is tt
+rests net facts n (inr (inr (inr (inr (inr (inl is)))))) h needs =
+    let held : HoldsNeeds facts.earlier 6 = subst (HoldsNeeds facts.earlier) is needs in
+    rw is (sound_on net facts.earlier Q5 h.sound held.1.0, tt)
+rests net facts n (inr (inr (inr (inr (inr (inr (inl is))))))) h needs = rw is tt
+rests net facts n (inr (inr (inr (inr (inr (inr (inr (inl is)))))))) h needs = rw is tt
+rests net facts n (inr (inr (inr (inr (inr (inr (inr (inr none)))))))) h needs = absurd none
 
 pub answer_true : (net : Net) (facts : KeptFacts) (n : ℕ) (a : Answer) → IsNetwork net → IsBuilt n → AreFactsOf net facts → HoldsNeeds facts.earlier n → IsFormed net facts.earlier (asked n) a → AllHold (head_tests net facts.earlier (asked n) a.verdict) → AllHold (row_tests net facts.earlier (asked n) a.verdict a.proof) → IsTrueOrOpen net (asked n) a.verdict
 answer_true net facts n a network is h needs f head rows =
-    valid_answers_are_true (asked n) net facts.earlier a network (knows net facts n is h needs) (rests net facts.earlier n is) f (judges_go _ _ (Ok tt) head rows)
+    valid_answers_are_true (asked n) net facts.earlier a network (knows net facts n is h needs) (rests net facts n is h needs) f (judges_go _ _ (Ok tt) head rows)

@@ -2,3 +2,4 @@
 pub mod Trees
 pub mod Facts
 pub mod Tests
+pub mod Bases

@@ -26,8 +26,8 @@ pub record SeesNoSpares (net : Net) (earlier : Earlier) (q : Question) (v : Verd
   pub rows : AreAlike (row_tests net (all_tight earlier) q (tight v) (tight_proof proof))
       (row_tests net earlier q v proof)
 
--- the form and the tests of an answer do not depend on spares of lists, be they in earlier verdicts,
--- in its verdict or in its proof
+-- the form and the tests of an answer do not depend on spares of lists, be they in earlier
+-- verdicts, in its verdict or in its proof
 abbrev pub ChecksSeeNoSpares : Type 0
 ChecksSeeNoSpares = (net : Net) (earlier : Earlier) (q : Question) (v : Verdict) (proof : Proof)
     → IsIn q built → SeesNoSpares net earlier q v proof

@@ -1,4 +1,5 @@
 ghost use Rattle.std.specs.Prelude.{◌≡◌, [], ◌∷◌, ◌++◌, OnOk, OnErr};
+ghost use Rattle.crn_vec.specs.Network.{IsNetwork};
 ghost use Rattle.crn_cert.specs.Formed.{HeadMayBe, IsFormed};
 ghost use Rattle.crn_cert.specs.Law.{IsTrueOrOpen};
 ghost use Rattle.crn_cert.specs.Valid.{head_tests, row_tests, tests_of};
@@ -6,10 +7,13 @@ ghost use Rattle.crn_check.specs.Verdicts.{tight};
 ghost use Rattle.crn_check.specs.Facts.{asked, HoldsNoneFrom, AreFactsOf};
 ghost use Rattle.crn_check.specs.Check.{IsBuilt, HoldsNeeds, Judges};
 
+use crate::deficiency::{check_deficiency, check_deficiency_head};
 use crate::facts::Facts;
 use crate::fault::CheckFault;
 use crate::laws::meets_definition;
 use crate::linkage::check_linkage;
+use crate::positive::{check_conservation, check_dependence};
+use crate::ranks::check_rank;
 use crate::reversible::{check_reverses, check_reversible_head};
 use crate::strong::check_strong;
 use crate::weak::check_weak_head;
@@ -35,6 +39,7 @@ pub fn check_head(
     match question {
         3 => check_reversible_head(net, verdict),
         4 => check_weak_head(net, facts, verdict),
+        6 => check_deficiency_head(net, facts, verdict),
         _ => Ok(()),
     }
 }
@@ -46,7 +51,10 @@ fn check_rows(
     question: u32,
     answer: &Answer,
 ) -> Result<(), CheckFault>
+    requires network { IsNetwork net.now }
     requires built { IsBuilt question }
+    requires facts { AreFactsOf net.now facts.now }
+    requires needs { HoldsNeeds facts.now.earlier question }
     requires formed { IsFormed net.now facts.now.earlier (asked question) answer.now }
     ensures { let now = answer.now in
         Judges (row_tests net.now facts.now.earlier (asked question) now.verdict now.proof) result }
@@ -55,6 +63,10 @@ fn check_rows(
         1 => check_linkage(net, &answer.verdict, &answer.proof),
         2 => check_strong(net, &answer.verdict, &answer.proof),
         3 => check_reverses(net, &answer.verdict, &answer.proof),
+        5 => check_rank(net, &answer.verdict, &answer.proof),
+        6 => check_deficiency(net, facts, &answer.verdict, &answer.proof),
+        7 => check_dependence(net, &answer.verdict, &answer.proof),
+        8 => check_conservation(net, &answer.verdict, &answer.proof),
         _ => Ok(()),
     }
 }

@@ -1,17 +1,19 @@
-ghost use Rattle.std.specs.Prelude.{◌≡◌, ◌≤◌, ◌<◌, [], ◌∷◌, ◌++◌, length, IfOk, vec_len, vec_capacity};
+ghost use Rattle.std.specs.Prelude.{◌≡◌, ◌≤◌, ◌<◌, ◌+◌, [], ◌∷◌, ◌++◌, length, IfOk, vec_len, vec_capacity};
+ghost use Rattle.std.specs.List.{AllByRecursion};
 ghost use Rattle.crn_cert.specs.Questions.{on};
-ghost use Rattle.crn_cert.specs.declared.answer.Verdict.TheVariants.{Classes, Strong};
 ghost use Rattle.crn_cert.specs.Ranges.{IsFrom};
-ghost use Rattle.crn_check.specs.Verdicts.{tight};
-ghost use Rattle.crn_check.specs.Facts.{asked, HoldsOn, HoldsNoneFrom, AreFactsOf};
-ghost use Rattle.crn_check.specs.Inner.Facts.{HasRoom};
+ghost use Rattle.crn_check.specs.Verdicts.{tight, tight_gap};
+ghost use Rattle.crn_check.specs.Facts.{asked, HoldsOn, HoldsNoneFrom, AreFactsOf, IsRoom};
+ghost use Rattle.crn_check.specs.Inner.Facts.{DoesFit, DoesGapFit};
 
-use crn_cert::Verdict;
+use crn_cert::{Gap, Verdict};
 use crn_net::Network;
-use crn_vec::{NoMemory, Nums};
+use crn_vec::{Ints, MAX_REACTIONS, NoMemory, Nums};
 use std::alloc::Global;
 use std::marker::Model;
-use std::mem;
+
+// The most verdicts, one on each question.
+const QUESTIONS: usize = 15;
 
 // An accepted verdict and the number of its question.
 #[derive(Drop)]
@@ -20,12 +22,35 @@ struct Fact {
     verdict: Verdict,
 }
 
-// Memory for the lists of verdicts that are not accepted yet.
+// Memory for the lists of a verdict that is not accepted yet.
 #[derive(Drop)]
-struct Rooms {
-    linkage: Nums,
-    strong: Nums,
-    exit: Nums,
+struct Room {
+    first: Nums,
+    second: Nums,
+    large: Ints,
+}
+
+// Empty lists with memory for the lists of any verdict.
+fn reserved(alloc: Global) -> Result<Room, NoMemory>
+    ensures { IfOk result (λ room. IsRoom room) }
+{
+    Ok(Room {
+        first: Nums::with_room(alloc, MAX_REACTIONS)?,
+        second: Nums::with_room(alloc, MAX_REACTIONS)?,
+        large: Ints::with_room(alloc, MAX_REACTIONS)?,
+    })
+}
+
+// Memory for a verdict on each question.
+fn all_reserved(alloc: Global) -> Result<Vec<Room>, NoMemory>
+    ensures count { IfOk result (λ rooms. length rooms.items ≡ QUESTIONS) }
+    ensures each { IfOk result (λ rooms. AllByRecursion IsRoom rooms.items) }
+{
+    let mut rooms = Vec::with_capacity(alloc, QUESTIONS)?;
+    for k in 0..QUESTIONS {
+        rooms.push(reserved(alloc)?)?;
+    }
+    Ok(rooms)
 }
 
 // The numbers in the memory of an empty list with room for them.
@@ -40,21 +65,93 @@ fn filled(mut list: Nums, values: &[u32]) -> Nums
     Nums::from_vec(list.into_vec())
 }
 
-// The numbers in memory that is taken from this place, which has room for them.
-fn moved(alloc: Global, room: &mut Nums, values: &[u32]) -> Nums
-    requires empty { room.old.list ≡ [] }
-    requires room { length values.now ≤ room.old.spare }
+// The same for whole numbers.
+fn filled_large(mut list: Ints, values: &[i128]) -> Ints
+    requires empty { list.list ≡ [] }
+    requires room { length values.now ≤ list.spare }
     ensures { result ≡ record { list = values.now; spare = 0 } }
 {
-    filled(mem::replace(room, Nums::from_vec(Vec::new(alloc))), values)
+    for value in values {
+        let _ = list.push(*value);
+    }
+    Ints::from_vec(list.into_vec())
+}
+
+// What leaves a question open, with its list in memory that is reserved for it.
+fn kept_gap(room: Room, gap: &Gap) -> Gap
+    requires room { IsRoom room }
+    requires fits { DoesGapFit gap.now }
+    ensures { result ≡ tight_gap gap.now }
+{
+    match gap {
+        Gap::Wide {
+            system,
+            class,
+            index,
+            basis,
+        } => Gap::Wide {
+            system: *system,
+            class: *class,
+            index: *index,
+            basis: filled(room.first, basis.as_slice()),
+        },
+        Gap::Budget { nodes } => Gap::Budget { nodes: *nodes },
+        Gap::Rests { question } => Gap::Rests {
+            question: *question,
+        },
+    }
+}
+
+// A verdict with its lists in memory that is reserved for it.
+fn kept(room: Room, verdict: &Verdict) -> Verdict
+    requires room { IsRoom room }
+    requires fits { DoesFit verdict.now }
+    ensures { result ≡ tight verdict.now }
+{
+    match verdict {
+        Verdict::Classes { count, label } => Verdict::Classes {
+            count: *count,
+            label: filled(room.first, label.as_slice()),
+        },
+        Verdict::Strong {
+            count,
+            terminal,
+            label,
+            exit,
+        } => Verdict::Strong {
+            count: *count,
+            terminal: *terminal,
+            label: filled(room.first, label.as_slice()),
+            exit: filled(room.second, exit.as_slice()),
+        },
+        Verdict::Rank { rank, base } => Verdict::Rank {
+            rank: *rank,
+            base: filled(room.first, base.as_slice()),
+        },
+        Verdict::Deficiency { total, classes } => Verdict::Deficiency {
+            total: *total,
+            classes: filled(room.first, classes.as_slice()),
+        },
+        Verdict::YesVec { vector } => Verdict::YesVec {
+            vector: filled_large(room.large, vector.as_slice()),
+        },
+        Verdict::NoReaction { reaction } => Verdict::NoReaction {
+            reaction: *reaction,
+        },
+        Verdict::NoVec { multipliers } => Verdict::NoVec {
+            multipliers: filled_large(room.large, multipliers.as_slice()),
+        },
+        Verdict::Unknown(gap) => Verdict::Unknown(kept_gap(room, gap)),
+        _ => Verdict::Yes,
+    }
 }
 
 // Adds a fact to a list that has room for it.
 fn add(items: &mut Vec<Fact>, fact: Fact)
-    requires few { length items.old.items < 15 }
-    requires room { 15 ≤ vec_capacity items.old }
+    requires few { length items.old.items < QUESTIONS }
+    requires room { QUESTIONS ≤ vec_capacity items.old }
     ensures items { items.new.items ≡ items.old.items ++ fact ∷ [] }
-    ensures room { 15 ≤ vec_capacity items.new }
+    ensures room { QUESTIONS ≤ vec_capacity items.new }
 {
     let _ = items.push(fact);
 }
@@ -63,26 +160,24 @@ fn add(items: &mut Vec<Fact>, fact: Fact)
 #[derive(Drop)]
 pub struct Facts {
     items: Vec<Fact>,
-    rooms: Rooms,
-    complexes: usize,
+    rooms: Vec<Room>,
 }
 
 impl Model for Facts {
-    ghost use Rattle.std.specs.Prelude.{◌≡◌, ◌≤◌, map, vec_len, vec_capacity};
-    ghost use Rattle.crn_check.specs.Facts.{KeptFacts, asked, AreInOrder, IsReserved};
+    ghost use Rattle.std.specs.Prelude.{◌≡◌, ◌≤◌, ◌+◌, map, length, vec_capacity};
+    ghost use Rattle.std.specs.List.{AllByRecursion};
+    ghost use Rattle.crn_check.specs.Facts.{KeptFacts, asked, AreInOrder, IsRoom};
+    ghost use Rattle.crn_check.specs.declared.facts.TheConstants.{QUESTIONS};
 
     ghost Value = { KeptFacts };
 
     ghost view = { λ s.
-        let earlier = map (λ f. (asked f.question, f.verdict)) s.items.items in
-        record { earlier = earlier; room = s.complexes } };
+        record { earlier = map (λ f. (asked f.question, f.verdict)) s.items.items } };
 
-    ghost invariant = { λ s.
-        let earlier = map (λ f. (asked f.question, f.verdict)) s.items.items in
-        (15 ≤ vec_capacity s.items) × AreInOrder 0 (map (λ f. f.question) s.items.items)
-        × IsReserved earlier 1 s.complexes s.rooms.linkage
-        × IsReserved earlier 2 s.complexes s.rooms.strong
-        × IsReserved earlier 2 s.complexes s.rooms.exit };
+    ghost invariant = { λ s. (QUESTIONS ≤ vec_capacity s.items)
+        × AreInOrder 0 (map (λ f. f.question) s.items.items)
+        × AllByRecursion IsRoom s.rooms.items
+        × (QUESTIONS ≤ length s.items.items + length s.rooms.items) };
 }
 
 impl Facts {
@@ -91,15 +186,10 @@ impl Facts {
         ensures empty { IfOk result (λ made. made.earlier ≡ []) }
         ensures fit { IfOk result (λ made. AreFactsOf net.now made) }
     {
-        let complexes = net.complexes();
+        let _ = net;
         Ok(Facts {
-            items: Vec::with_capacity(alloc, 15)?,
-            rooms: Rooms {
-                linkage: Nums::with_room(alloc, complexes)?,
-                strong: Nums::with_room(alloc, complexes)?,
-                exit: Nums::with_room(alloc, complexes)?,
-            },
-            complexes,
+            items: Vec::with_capacity(alloc, QUESTIONS)?,
+            rooms: all_reserved(alloc)?,
         })
     }
 
@@ -116,77 +206,16 @@ impl Facts {
         &self.items[0].verdict
     }
 
-    // Adds a verdict without lists.
-    fn accept_plain(&mut self, question: u32, verdict: Verdict)
-        requires number { IsFrom 1 15 question }
-        requires later { HoldsNoneFrom question self.old.earlier }
-        ensures kept { self.new.earlier ≡ self.old.earlier ++ (asked question, verdict) ∷ [] }
-        ensures room { self.new.room ≡ self.old.room }
-    {
-        add(&mut self.items, Fact { question, verdict });
-    }
-
-    // Adds the verdict on linkage classes, in the memory that is reserved for it.
-    fn accept_linkage(&mut self, count: u32, label: &Nums)
-        requires later { HoldsNoneFrom 1 self.old.earlier }
-        requires room { length label.now.list ≤ self.old.room }
-        ensures kept { self.new.earlier
-            ≡ self.old.earlier ++ (asked 1, tight (Classes count label.now)) ∷ [] }
-        ensures room { self.new.room ≡ self.old.room }
-    {
-        let alloc = *self.items.allocator();
-        let label = moved(alloc, &mut self.rooms.linkage, label.as_slice());
-        let verdict = Verdict::Classes { count, label };
-        let question = 1;
-        add(&mut self.items, Fact { question, verdict });
-    }
-
-    // Adds the verdict on strong classes, in the memory that is reserved for it.
-    fn accept_strong(&mut self, count: u32, terminal: u32, label: &Nums, exit: &Nums)
-        requires later { HoldsNoneFrom 2 self.old.earlier }
-        requires label { length label.now.list ≤ self.old.room }
-        requires exit { length exit.now.list ≤ self.old.room }
-        ensures kept { let verdict = Strong count terminal label.now exit.now in
-            self.new.earlier ≡ self.old.earlier ++ (asked 2, tight verdict) ∷ [] }
-        ensures room { self.new.room ≡ self.old.room }
-    {
-        let alloc = *self.items.allocator();
-        let label = moved(alloc, &mut self.rooms.strong, label.as_slice());
-        let exit = moved(alloc, &mut self.rooms.exit, exit.as_slice());
-        let verdict = Verdict::Strong {
-            count,
-            terminal,
-            label,
-            exit,
-        };
-        let question = 2;
-        add(&mut self.items, Fact { question, verdict });
-    }
-
     // Adds the accepted verdict on a question, in the memory that is reserved for it.
     pub(crate) fn accept(&mut self, question: u32, verdict: &Verdict)
-        requires number { IsFrom 1 15 question }
+        requires number { IsFrom 1 QUESTIONS question }
         requires later { HoldsNoneFrom question self.old.earlier }
-        requires room { HasRoom self.old.room question verdict.now }
-        ensures kept { self.new.earlier
-            ≡ self.old.earlier ++ (asked question, tight verdict.now) ∷ [] }
-        ensures room { self.new.room ≡ self.old.room }
+        requires fits { DoesFit verdict.now }
+        ensures { self.new.earlier ≡ self.old.earlier ++ (asked question, tight verdict.now) ∷ [] }
     {
-        match verdict {
-            Verdict::Classes { count, label } => self.accept_linkage(*count, label),
-            Verdict::Strong {
-                count,
-                terminal,
-                label,
-                exit,
-            } => self.accept_strong(*count, *terminal, label, exit),
-            Verdict::NoReaction { reaction } => self.accept_plain(
-                question,
-                Verdict::NoReaction {
-                    reaction: *reaction,
-                },
-            ),
-            _ => self.accept_plain(question, Verdict::Yes),
+        if let Some(room) = self.rooms.pop() {
+            let verdict = kept(room, verdict);
+            add(&mut self.items, Fact { question, verdict });
         }
     }
 }

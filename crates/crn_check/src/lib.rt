@@ -2,6 +2,9 @@
 #![tactic(auto)]
 
 mod check;
+mod combs;
+mod deficiency;
+mod duals;
 mod exits;
 mod facts;
 mod fault;
@@ -9,6 +12,9 @@ mod labels;
 mod laws;
 mod levels;
 mod linkage;
+mod members;
+mod positive;
+mod ranks;
 mod reverses;
 mod reversible;
 mod strong;

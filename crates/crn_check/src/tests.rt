@@ -1,16 +1,20 @@
-ghost use Rattle.std.specs.Prelude.{◌≡◌, ◌≤◌, ◌+◌, length, IsTrue, IfOk};
+ghost use Rattle.std.specs.Prelude.{◌≡◌, ◌≤◌, ◌+◌, ℕ, length, IsTrue, IfOk};
 ghost use Rattle.std.specs.List.{AllByRecursion, list_all};
 ghost use Rattle.crn_vec.specs.Network.{is_letter, is_name_byte, IsName};
-ghost use Rattle.crn_cert.specs.Questions.{Earlier, Q1, Q2, Q3, Q4};
-ghost use Rattle.crn_cert.specs.Ranges.{IsFrom, AreFrom};
-ghost use Rattle.crn_cert.specs.Formed.{HeadMayBe, IsFormed, IsForest};
+ghost use Rattle.crn_vec.specs.Lists.{IsIn, IsAscending};
+ghost use Rattle.crn_cert.specs.Questions.{Earlier, Q1, Q2, Q3, Q4, Q5, Q6, Q7, Q8};
+ghost use Rattle.crn_cert.specs.Ranges.{IsFrom, IsNarrow, AreFrom, AreFree, AreFreeRows};
+ghost use Rattle.crn_cert.specs.Formed.{HeadMayBe, IsClassProof, IsFormed, IsForest, IsRankProof};
 ghost use Rattle.crn_check.specs.Facts.{AreFactsOf, HoldsOn, HoldsNoneFrom};
+ghost use Rattle.crn_check.specs.Inner.Bases.{AreLabelled, members_of};
 ghost use Rattle.crn_net.specs.Terms.{name_at, IsTerm, IsSide};
 
+use crate::deficiency::{complexes_in, count_in, of_class};
+use crate::members::Members;
 use crate::{CheckFault, Facts, check_answer, check_head, checks_see_no_spares};
-use crn_cert::{Answer, Proof, Verdict};
+use crn_cert::{Answer, Gap, Proof, RankList, RankProof, Rows, Verdict};
 use crn_net::{NetBuilder, Network, Term, sums_fit};
-use crn_vec::{MAX_AMOUNT, MAX_NAME, MAX_TERMS, Nums};
+use crn_vec::{Ints, MAX_AMOUNT, MAX_NAME, MAX_TERMS, Nums, WIDE_SOLUTION};
 use std::alloc::{AllocError, Global};
 use std::process::Abort;
 use std::test::Fail;
@@ -526,6 +530,713 @@ fn weak_reversibility_is_tested(rt: HostRuntime) -> Result<(), Fail> {
     let row = split(&[1, 2], &[1, 0], &[1, 0], 1);
     assert!(rt; same(stays_place(&rt, &one, &row)?, (37, 0)));
     assert!(rt; same(leaves_place(&rt, &one, &row, 1)?, (0, 0)));
+    Ok(())
+}
+
+// Whether each is a number of a certificate.
+fn are_narrow(values: &[i128]) -> bool
+    ensures { IsTrue result → AllByRecursion IsNarrow values.now }
+{
+    values.iter().all(|x| x.unsigned_abs() < WIDE_SOLUTION)
+}
+
+fn are_free(values: &[i128], count: usize) -> bool
+    ensures { IsTrue result → AreFree count values.now }
+{
+    values.len() == count && are_narrow(values)
+}
+
+// An answer to question 7 by a vector or by multipliers.
+fn dependence_answer(
+    rt: &(impl Abort + AllocGlobal),
+    net: &Network,
+    yes: bool,
+    values: &[i128],
+) -> Result<Answer, Fail>
+    ensures { IfOk result (λ a. (earlier : Earlier) → IsFormed net.now earlier Q7 a) }
+{
+    let proof = Proof::Nothing;
+    let list = Ints::from_slice(rt.alloc(), values)?;
+    if yes {
+        assert!(rt; are_free(values, net.reactions()));
+        let verdict = Verdict::YesVec { vector: list };
+        return Ok(Answer { verdict, proof });
+    }
+    assert!(rt; are_free(values, net.species()));
+    let verdict = Verdict::NoVec { multipliers: list };
+    Ok(Answer { verdict, proof })
+}
+
+// An answer to question 8 by a vector or by multipliers.
+fn conservation_answer(
+    rt: &(impl Abort + AllocGlobal),
+    net: &Network,
+    yes: bool,
+    values: &[i128],
+) -> Result<Answer, Fail>
+    ensures { IfOk result (λ a. (earlier : Earlier) → IsFormed net.now earlier Q8 a) }
+{
+    let proof = Proof::Nothing;
+    let list = Ints::from_slice(rt.alloc(), values)?;
+    if yes {
+        assert!(rt; are_free(values, net.species()));
+        let verdict = Verdict::YesVec { vector: list };
+        return Ok(Answer { verdict, proof });
+    }
+    assert!(rt; are_free(values, net.reactions()));
+    let verdict = Verdict::NoVec { multipliers: list };
+    Ok(Answer { verdict, proof })
+}
+
+// Numbers for an answer to question 7 or 8, and the place of its fault.
+#[derive(Clone, Copy)]
+struct Numbers {
+    reactions: &'static [(u32, u32)],
+    yes: bool,
+    values: &'static [i128],
+    fault: (u32, u32),
+}
+
+fn dependence_place(rt: &(impl Abort + AllocGlobal), row: &Numbers) -> Result<(u32, u32), Fail> {
+    let net = network(rt, row.reactions)?;
+    let answer = dependence_answer(rt, &net, row.yes, row.values)?;
+    let mut facts = Facts::new(rt.alloc(), &net)?;
+    Ok(place(check_answer(&net, &mut facts, 7, &answer)))
+}
+
+fn conservation_place(rt: &(impl Abort + AllocGlobal), row: &Numbers) -> Result<(u32, u32), Fail> {
+    let net = network(rt, row.reactions)?;
+    let answer = conservation_answer(rt, &net, row.yes, row.values)?;
+    let mut facts = Facts::new(rt.alloc(), &net)?;
+    Ok(place(check_answer(&net, &mut facts, 8, &answer)))
+}
+
+// A reaction that only goes on, and one by which a species makes more of itself.
+const ONE: &[(u32, u32)] = &[(0, 1)];
+
+const GROWTH: &[(u32, u32)] = &[(0, 52)];
+
+const DEPENDENCES: [Numbers; 6] = [
+    // a valid vector
+    Numbers {
+        reactions: BOTH,
+        yes: true,
+        values: &[1, 1],
+        fault: (0, 0),
+    },
+    // its sum is not zero
+    Numbers {
+        reactions: BOTH,
+        yes: true,
+        values: &[1, 2],
+        fault: (35, 1),
+    },
+    // its numbers are not positive
+    Numbers {
+        reactions: BOTH,
+        yes: true,
+        values: &[0, 0],
+        fault: (35, 1),
+    },
+    // valid multipliers
+    Numbers {
+        reactions: ONE,
+        yes: false,
+        values: &[1, 0],
+        fault: (0, 0),
+    },
+    // no reaction lowers the weight
+    Numbers {
+        reactions: ONE,
+        yes: false,
+        values: &[0, 0],
+        fault: (35, 1),
+    },
+    // a reaction adds to the weight
+    Numbers {
+        reactions: ONE,
+        yes: false,
+        values: &[0, 1],
+        fault: (35, 1),
+    },
+];
+
+const CONSERVATIONS: [Numbers; 6] = [
+    // a valid vector
+    Numbers {
+        reactions: BOTH,
+        yes: true,
+        values: &[1, 1],
+        fault: (0, 0),
+    },
+    // a reaction changes the weight
+    Numbers {
+        reactions: BOTH,
+        yes: true,
+        values: &[1, 2],
+        fault: (35, 1),
+    },
+    // its numbers are not positive
+    Numbers {
+        reactions: BOTH,
+        yes: true,
+        values: &[0, 0],
+        fault: (35, 1),
+    },
+    // valid multipliers
+    Numbers {
+        reactions: GROWTH,
+        yes: false,
+        values: &[-1],
+        fault: (0, 0),
+    },
+    // no species is decreased
+    Numbers {
+        reactions: GROWTH,
+        yes: false,
+        values: &[0],
+        fault: (35, 1),
+    },
+    // a species is increased
+    Numbers {
+        reactions: GROWTH,
+        yes: false,
+        values: &[1],
+        fault: (35, 1),
+    },
+];
+
+#[test]
+fn positive_dependence_is_tested(rt: HostRuntime) -> Result<(), Fail> {
+    for row in DEPENDENCES {
+        assert!(rt; same(dependence_place(&rt, &row)?, row.fault));
+    }
+    Ok(())
+}
+
+#[test]
+fn conservation_is_tested(rt: HostRuntime) -> Result<(), Fail> {
+    for row in CONSERVATIONS {
+        assert!(rt; same(conservation_place(&rt, &row)?, row.fault));
+    }
+    Ok(())
+}
+
+// Whether at most two numbers ascend.
+fn do_ascend(values: &[u32]) -> bool
+    ensures { IsTrue result → IsAscending values.now }
+{
+    match values {
+        [] => true,
+        [_] => true,
+        [first, second] => first < second,
+        _ => false,
+    }
+}
+
+// Rows of so many numbers each.
+fn rows(
+    rt: &(impl Abort + AllocGlobal),
+    lists: &[&[i128]],
+    count: usize,
+    width: usize,
+) -> Result<Rows, Fail>
+    ensures { IfOk result (λ made. AreFreeRows count width made) }
+{
+    assert!(rt; lists.len() == count);
+    let mut rows = Rows::new(rt.alloc())?;
+    for i in 0..lists.len() {
+        let list = lists[i];
+        assert!(rt; are_free(list, width));
+        rows.push(Ints::from_slice(rt.alloc(), list)?)?;
+    }
+    Ok(rows)
+}
+
+// Whether a number is that of a member.
+fn is_member(net: &Network, members: &Members, r: u32) -> bool
+    requires { AreLabelled net.now members.now }
+    ensures { IsTrue result → IsIn r (members_of net.now members.now) }
+{
+    if r < 1 || r as usize > net.reactions() {
+        return false;
+    }
+    members.has(net, r as usize - 1)
+}
+
+fn are_members(net: &Network, members: &Members, base: &[u32]) -> bool
+    requires { AreLabelled net.now members.now }
+    ensures { IsTrue result
+        → ((r : ℕ) → IsIn r base.now → IsIn r (members_of net.now members.now)) }
+{
+    for i in 0..base.len() {
+        if !is_member(net, members, base[i]) {
+            return false;
+        }
+    }
+    true
+}
+
+// The proof of a rank of members.
+fn rank_proof(
+    rt: &(impl Abort + AllocGlobal),
+    net: &Network,
+    members: &Members,
+    base: &[u32],
+    duals: &[&[i128]],
+    combs: &[&[i128]],
+) -> Result<RankProof, Fail>
+    requires { AreLabelled net.now members.now }
+    ensures base { IfOk result (λ p. p.base.list ≡ base.now) }
+    ensures proof { IfOk result
+        (λ p. IsRankProof net.now (members_of net.now members.now) (length base.now) p) }
+{
+    let (count, rank) = (members.count(net), base.len());
+    assert!(rt; rank <= count);
+    assert!(rt; do_ascend(base));
+    assert!(rt; are_members(net, members, base));
+    Ok(RankProof {
+        base: Nums::from_slice(rt.alloc(), base)?,
+        duals: rows(rt, duals, rank, net.species())?,
+        combs: rows(rt, combs, count - rank, rank + 1)?,
+    })
+}
+
+// An answer to question 5.
+fn rank_answer(
+    rt: &(impl Abort + AllocGlobal),
+    net: &Network,
+    base: &[u32],
+    duals: &[&[i128]],
+    combs: &[&[i128]],
+) -> Result<Answer, Fail>
+    ensures { IfOk result (λ a. (earlier : Earlier) → IsFormed net.now earlier Q5 a) }
+{
+    let rank = base.len();
+    assert!(rt; 1 <= rank);
+    assert!(rt; rank <= net.species());
+    assert!(rt; rank <= net.reactions());
+    let proof = rank_proof(rt, net, &Members::All, base, duals, combs)?;
+    Ok(Answer {
+        verdict: Verdict::Rank {
+            rank: rank as u32,
+            base: Nums::from_slice(rt.alloc(), base)?,
+        },
+        proof: Proof::Rank(proof),
+    })
+}
+
+// A network, an answer to question 5 and the place of its fault.
+#[derive(Clone, Copy)]
+struct Ranked {
+    reactions: &'static [(u32, u32)],
+    base: &'static [u32],
+    duals: &'static [&'static [i128]],
+    combs: &'static [&'static [i128]],
+    fault: (u32, u32),
+}
+
+// The row's answer.
+fn row_answer(rt: &(impl Abort + AllocGlobal), net: &Network, row: &Ranked) -> Result<Answer, Fail>
+    ensures { IfOk result (λ a. (earlier : Earlier) → IsFormed net.now earlier Q5 a) }
+{
+    rank_answer(rt, net, row.base, row.duals, row.combs)
+}
+
+fn rank_place(rt: &(impl Abort + AllocGlobal), row: &Ranked) -> Result<(u32, u32), Fail> {
+    let net = network(rt, row.reactions)?;
+    let answer = row_answer(rt, &net, row)?;
+    let mut facts = Facts::new(rt.alloc(), &net)?;
+    Ok(place(check_answer(&net, &mut facts, 5, &answer)))
+}
+
+// Two reactions of rank 2, and the reverse of the first.
+const CHAIN: &[(u32, u32)] = &[(0, 1), (1, 2), (1, 0)];
+
+const RANKED: [Ranked; 7] = [
+    // valid
+    Ranked {
+        reactions: BOTH,
+        base: &[1],
+        duals: &[&[-1, 0]],
+        combs: &[&[1, -1]],
+        fault: (0, 0),
+    },
+    // the dual is zero on its reaction
+    Ranked {
+        reactions: BOTH,
+        base: &[1],
+        duals: &[&[0, 0]],
+        combs: &[&[1, -1]],
+        fault: (33, 2),
+    },
+    // the combination is another vector
+    Ranked {
+        reactions: BOTH,
+        base: &[1],
+        duals: &[&[-1, 0]],
+        combs: &[&[1, 1]],
+        fault: (34, 3),
+    },
+    // it takes its vector zero times
+    Ranked {
+        reactions: BOTH,
+        base: &[1],
+        duals: &[&[-1, 0]],
+        combs: &[&[0, 0]],
+        fault: (34, 3),
+    },
+    // valid
+    Ranked {
+        reactions: CHAIN,
+        base: &[1, 2],
+        duals: &[&[1, 0, 0], &[1, 1, 0]],
+        combs: &[&[1, -1, 0]],
+        fault: (0, 0),
+    },
+    // the second dual is not zero on the first reaction
+    Ranked {
+        reactions: CHAIN,
+        base: &[1, 2],
+        duals: &[&[1, 0, 0], &[1, 0, 1]],
+        combs: &[&[1, -1, 0]],
+        fault: (33, 3),
+    },
+    // the combination takes the second reaction
+    Ranked {
+        reactions: CHAIN,
+        base: &[1, 2],
+        duals: &[&[1, 0, 0], &[1, 1, 0]],
+        combs: &[&[1, 0, -1]],
+        fault: (34, 4),
+    },
+];
+
+#[test]
+fn duals_and_combinations_are_tested(rt: HostRuntime) -> Result<(), Fail> {
+    for row in RANKED {
+        assert!(rt; same(rank_place(&rt, &row)?, row.fault));
+    }
+    Ok(())
+}
+
+// An answer that leaves question 5 open by a wide vector, with this basis.
+fn open_rank(rt: &(impl Abort + AllocGlobal), net: &Network, basis: &[u32]) -> Result<Answer, Fail>
+    ensures { IfOk result (λ a. (earlier : Earlier) → IsFormed net.now earlier Q5 a) }
+{
+    let (species, reactions) = (net.species(), net.reactions());
+    assert!(rt; are_from(basis, species, 1, species + reactions) && do_ascend(basis));
+    Ok(Answer {
+        verdict: Verdict::Unknown(Gap::Wide {
+            system: 1,
+            class: 0,
+            index: 1,
+            basis: Nums::from_slice(rt.alloc(), basis)?,
+        }),
+        proof: Proof::Nothing,
+    })
+}
+
+// Facts after a valid answer on linkage classes and one on the rank.
+fn rank_known(
+    rt: &(impl Abort + AllocGlobal),
+    net: &Network,
+    linked: &Linked,
+    rank: &Answer,
+) -> Result<Facts, Fail>
+    requires rank { (earlier : Earlier) → IsFormed net.now earlier Q5 rank.now }
+    ensures facts { IfOk result (λ facts. AreFactsOf net.now facts) }
+    ensures linkage { IfOk result (λ facts. HoldsOn facts.earlier 1) }
+    ensures rank { IfOk result (λ facts. HoldsOn facts.earlier 5) }
+    ensures later { IfOk result (λ facts. HoldsNoneFrom 6 facts.earlier) }
+{
+    let answer = linkage_answer(rt, net, linked)?;
+    let mut facts = Facts::new(rt.alloc(), net)?;
+    assert!(rt; check_answer(net, &mut facts, 1, &answer).is_ok());
+    assert!(rt; check_answer(net, &mut facts, 5, rank).is_ok());
+    Ok(facts)
+}
+
+// The proof of the rank of a linkage class.
+#[derive(Clone, Copy)]
+struct ClassRank {
+    d: u32,
+    base: &'static [u32],
+    duals: &'static [&'static [i128]],
+    combs: &'static [&'static [i128]],
+}
+
+fn class_proof(
+    rt: &(impl Abort + AllocGlobal),
+    net: &Network,
+    facts: &Facts,
+    k: usize,
+    row: &ClassRank,
+) -> Result<RankProof, Fail>
+    requires facts { AreFactsOf net.now facts.now }
+    requires held { HoldsOn facts.now.earlier 1 }
+    ensures { IfOk result (λ p. IsClassProof net.now facts.now.earlier k row.now.d p) }
+{
+    let rank = row.base.len();
+    assert!(rt; complexes_in(facts, k) == rank + row.d as usize + 1);
+    let members = of_class(net, facts, k);
+    rank_proof(rt, net, &members, row.base, row.duals, row.combs)
+}
+
+// An answer to question 6 for a network with one linkage class.
+fn one_class(
+    rt: &(impl Abort + AllocGlobal),
+    net: &Network,
+    facts: &Facts,
+    total: u32,
+    row: &ClassRank,
+) -> Result<Answer, Fail>
+    requires facts { AreFactsOf net.now facts.now }
+    requires held { HoldsOn facts.now.earlier 1 }
+    ensures { IfOk result (λ a. IsFormed net.now facts.now.earlier Q6 a) }
+{
+    let count = count_in(facts.verdict(1));
+    assert!(rt; count == 1);
+    assert!(rt; total as usize <= net.complexes());
+    assert!(rt; row.d as usize <= net.complexes());
+    let mut list = RankList::new(rt.alloc())?;
+    list.push(class_proof(rt, net, facts, 1, row)?)?;
+    Ok(Answer {
+        verdict: Verdict::Deficiency {
+            total,
+            classes: Nums::from_slice(rt.alloc(), &[row.d])?,
+        },
+        proof: Proof::Ranks(list),
+    })
+}
+
+// An answer to question 6 for a network with two linkage classes.
+fn two_classes(
+    rt: &(impl Abort + AllocGlobal),
+    net: &Network,
+    facts: &Facts,
+    total: u32,
+    first: &ClassRank,
+    second: &ClassRank,
+) -> Result<Answer, Fail>
+    requires facts { AreFactsOf net.now facts.now }
+    requires held { HoldsOn facts.now.earlier 1 }
+    ensures { IfOk result (λ a. IsFormed net.now facts.now.earlier Q6 a) }
+{
+    let count = count_in(facts.verdict(1));
+    assert!(rt; count == 2);
+    assert!(rt; total as usize <= net.complexes());
+    assert!(rt; first.d as usize <= net.complexes());
+    assert!(rt; second.d as usize <= net.complexes());
+    let mut list = RankList::new(rt.alloc())?;
+    list.push(class_proof(rt, net, facts, 1, first)?)?;
+    list.push(class_proof(rt, net, facts, 2, second)?)?;
+    Ok(Answer {
+        verdict: Verdict::Deficiency {
+            total,
+            classes: Nums::from_slice(rt.alloc(), &[first.d, second.d])?,
+        },
+        proof: Proof::Ranks(list),
+    })
+}
+
+// The place of the fault of an answer to question 6.
+fn deficiency_place(net: &Network, facts: &mut Facts, answer: &Answer) -> (u32, u32)
+    requires facts { AreFactsOf net.now facts.old }
+    requires linkage { HoldsOn facts.old.earlier 1 }
+    requires rank { HoldsOn facts.old.earlier 5 }
+    requires later { HoldsNoneFrom 6 facts.old.earlier }
+    requires formed { IsFormed net.now facts.old.earlier Q6 answer.now }
+{
+    place(check_answer(net, facts, 6, answer))
+}
+
+// An answer that leaves question 6 open because question 5 is.
+fn resting(net: &Network) -> Answer
+    ensures { (earlier : Earlier) → IsFormed net.now earlier Q6 result }
+{
+    let _ = net;
+    Answer {
+        verdict: Verdict::Unknown(Gap::Rests { question: 5 }),
+        proof: Proof::Nothing,
+    }
+}
+
+// An answer to question 6 for a reaction and its reverse, and the place of its fault.
+#[derive(Clone, Copy)]
+struct Paired {
+    total: u32,
+    class: ClassRank,
+    fault: (u32, u32),
+}
+
+fn paired_place(rt: &(impl Abort + AllocGlobal), row: &Paired) -> Result<(u32, u32), Fail> {
+    let net = network(rt, BOTH)?;
+    let rank = row_answer(rt, &net, &RANKED[0])?;
+    let mut facts = rank_known(rt, &net, &LINKED[0], &rank)?;
+    let answer = one_class(rt, &net, &facts, row.total, &row.class)?;
+    Ok(deficiency_place(&net, &mut facts, &answer))
+}
+
+const PAIRED: [Paired; 5] = [
+    // valid
+    Paired {
+        total: 0,
+        class: ClassRank {
+            d: 0,
+            base: &[1],
+            duals: &[&[-1, 0]],
+            combs: &[&[1, -1]],
+        },
+        fault: (0, 0),
+    },
+    // the deficiency of the network is not what is left
+    Paired {
+        total: 1,
+        class: ClassRank {
+            d: 0,
+            base: &[1],
+            duals: &[&[-1, 0]],
+            combs: &[&[1, -1]],
+        },
+        fault: (36, 0),
+    },
+    // the deficiency of the class leaves no rank
+    Paired {
+        total: 0,
+        class: ClassRank {
+            d: 1,
+            base: &[],
+            duals: &[],
+            combs: &[&[1], &[1]],
+        },
+        fault: (36, 0),
+    },
+    // the dual is not one
+    Paired {
+        total: 0,
+        class: ClassRank {
+            d: 0,
+            base: &[1],
+            duals: &[&[1, 1]],
+            combs: &[&[1, -1]],
+        },
+        fault: (33, 2),
+    },
+    // the combination is another vector
+    Paired {
+        total: 0,
+        class: ClassRank {
+            d: 0,
+            base: &[1],
+            duals: &[&[-1, 0]],
+            combs: &[&[1, 1]],
+        },
+        fault: (34, 3),
+    },
+];
+
+#[test]
+fn deficiencies_are_tested(rt: HostRuntime) -> Result<(), Fail> {
+    for row in PAIRED {
+        assert!(rt; same(paired_place(&rt, &row)?, row.fault));
+    }
+    Ok(())
+}
+
+// Facts that leave the rank of a reaction and its reverse open.
+fn open_known(rt: &(impl Abort + AllocGlobal), net: &Network) -> Result<Facts, Fail>
+    ensures facts { IfOk result (λ facts. AreFactsOf net.now facts) }
+    ensures linkage { IfOk result (λ facts. HoldsOn facts.earlier 1) }
+    ensures rank { IfOk result (λ facts. HoldsOn facts.earlier 5) }
+    ensures later { IfOk result (λ facts. HoldsNoneFrom 6 facts.earlier) }
+{
+    let open = open_rank(rt, net, &[1, 3])?;
+    rank_known(rt, net, &LINKED[0], &open)
+}
+
+// Whether the verdict on the rank has this basis.
+fn has_basis(facts: &Facts, numbers: &[u32]) -> bool
+    requires { HoldsOn facts.now.earlier 5 }
+{
+    match facts.verdict(5) {
+        Verdict::Unknown(Gap::Wide { basis, .. }) => basis.as_slice() == numbers,
+        _ => false,
+    }
+}
+
+#[test]
+fn deficiencies_need_a_decided_rank(rt: HostRuntime) -> Result<(), Fail> {
+    let net = network(&rt, BOTH)?;
+    let mut facts = open_known(&rt, &net)?;
+    let decided = one_class(&rt, &net, &facts, 0, &PAIRED[0].class)?;
+    assert!(rt; same(deficiency_place(&net, &mut facts, &decided), (37, 0)));
+    Ok(())
+}
+
+#[test]
+fn deficiencies_may_rest_on_the_rank(rt: HostRuntime) -> Result<(), Fail> {
+    let net = network(&rt, BOTH)?;
+    let mut facts = open_known(&rt, &net)?;
+    assert!(rt; has_basis(&facts, &[1, 3]));
+    assert!(rt; same(deficiency_place(&net, &mut facts, &resting(&net)), (0, 0)));
+    Ok(())
+}
+
+// Two reactions with their reverses, their classes and their rank.
+const TWO_PAIRS: &[(u32, u32)] = &[(0, 1), (1, 0), (2, 3), (3, 2)];
+
+const PAIRS_LINKED: Linked = Linked {
+    count: 2,
+    label: &[1, 1, 2, 2],
+    up: &[0, 1, 0, 3],
+    depth: &[0, 1, 0, 1],
+    fault: (0, 0),
+};
+
+const PAIRS_RANKED: Ranked = Ranked {
+    reactions: TWO_PAIRS,
+    base: &[1, 3],
+    duals: &[&[-1, 0, 0, 0], &[0, 0, -1, 0]],
+    combs: &[&[1, -1, 0], &[1, 0, -1]],
+    fault: (0, 0),
+};
+
+const FIRST_PAIR: ClassRank = ClassRank {
+    d: 0,
+    base: &[1],
+    duals: &[&[-1, 0, 0, 0]],
+    combs: &[&[1, -1]],
+};
+
+const SECOND_PAIR: ClassRank = ClassRank {
+    d: 0,
+    base: &[3],
+    duals: &[&[0, 0, -1, 0]],
+    combs: &[&[1, -1]],
+};
+
+// Its combination is another vector.
+const SECOND_WRONG: ClassRank = ClassRank {
+    d: 0,
+    base: &[3],
+    duals: &[&[0, 0, -1, 0]],
+    combs: &[&[1, 1]],
+};
+
+// The place of the fault of an answer on two linkage classes.
+fn pairs_place(rt: &(impl Abort + AllocGlobal), second: &ClassRank) -> Result<(u32, u32), Fail> {
+    let net = network(rt, TWO_PAIRS)?;
+    let rank = row_answer(rt, &net, &PAIRS_RANKED)?;
+    let mut facts = rank_known(rt, &net, &PAIRS_LINKED, &rank)?;
+    let answer = two_classes(rt, &net, &facts, 0, &FIRST_PAIR, second)?;
+    Ok(deficiency_place(&net, &mut facts, &answer))
+}
+
+#[test]
+fn each_class_is_tested_by_its_reactions(rt: HostRuntime) -> Result<(), Fail> {
+    assert!(rt; same(pairs_place(&rt, &SECOND_PAIR)?, (0, 0)));
+    assert!(rt; same(pairs_place(&rt, &SECOND_WRONG)?, (34, 6)));
     Ok(())
 }
 

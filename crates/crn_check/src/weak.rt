@@ -12,7 +12,7 @@ use crn_cert::Verdict;
 use crn_net::Network;
 
 // The labels of classes in a verdict, and none in a verdict on something else.
-fn labels_in(verdict: &Verdict) -> &[u32]
+pub(crate) fn labels_in(verdict: &Verdict) -> &[u32]
     ensures { result.now ≡ labels_of verdict.now }
 {
     match verdict {

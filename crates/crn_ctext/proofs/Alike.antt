@@ -2,8 +2,8 @@
 use Rattle.std.proofs.Common.{◌≡◌, ◌==◌, ◌++◌, ◌∙◌, Bool, if◌then◌else◌, [], ◌∷◌, map, refl, sym, ap, ap₂, subst, inl, inr}
 use Rattle.std.proofs.lemmas.Bool.{cases_Bool}
 use Rattle.crn_cert.specs.declared.answer.Verdict.{Verdict}
-use Rattle.crn_cert.specs.declared.answer.Verdict.TheVariants.{Classes, Strong}
-use Rattle.crn_cert.specs.Questions.{Earlier, Question, number, on, labels_of}
+use Rattle.crn_cert.specs.declared.answer.Verdict.TheVariants.{Classes, Strong, Rank}
+use Rattle.crn_cert.specs.Questions.{Earlier, Question, number, on, labels_of, count_of, rank_of}
 use Rattle.crn_ctext.specs.Same.{said}
 use Rattle.crn_ctext.specs.Meaning.{Known}
 
@@ -46,3 +46,20 @@ said_labels v = refl
 -- the labels that a question gives
 pub labels_alike : (xs ys : Earlier) (q : Question) → all_said xs ≡ all_said ys → labels_of (on xs q) ≡ labels_of (on ys q)
 labels_alike xs ys q e = sym (said_labels (on xs q)) ∙ ap labels_of (on_alike xs ys q e) ∙ said_labels (on ys q)
+
+said_count : (v : Verdict) → count_of (said v) ≡ count_of v
+said_count (Classes count label) = refl
+said_count (Strong count terminal label exit) = refl
+said_count v = refl
+
+-- the number of classes that it gives
+pub counts_alike : (xs ys : Earlier) (q : Question) → all_said xs ≡ all_said ys → count_of (on xs q) ≡ count_of (on ys q)
+counts_alike xs ys q e = sym (said_count (on xs q)) ∙ ap count_of (on_alike xs ys q e) ∙ said_count (on ys q)
+
+said_rank_of : (v : Verdict) → rank_of (said v) ≡ rank_of v
+said_rank_of (Rank rank base) = refl
+said_rank_of v = refl
+
+-- the rank that it gives, if it is decided
+pub ranks_alike : (xs ys : Earlier) (q : Question) → all_said xs ≡ all_said ys → rank_of (on xs q) ≡ rank_of (on ys q)
+ranks_alike xs ys q e = sym (said_rank_of (on xs q)) ∙ ap rank_of (on_alike xs ys q e) ∙ said_rank_of (on ys q)

@@ -1,7 +1,8 @@
 -- The records of formed answers to the built questions are formed, and their tests are those of the answers.
-use Rattle.std.proofs.Common.{◌≡◌, ◌≤◌, ◌-◌, ◌++◌, ◌∙◌, ℕ, Bool, true, false, List, [], ◌∷◌, length, map, refl, sym, ap, ap₂, subst, inl, inr, arith}
-use Rattle.std.specs.Prelude.{◌≢◌, pos, nat_abs, codes, slice_index}
-use Rattle.std.specs.List.{AllByRecursion}
+use Rattle.std.proofs.Common.{◌≡◌, ◌≤◌, ◌<◌, ◌+◌, ◌-◌, ◌++◌, ◌∙◌, ℕ, zero, suc, Bool, true, false, List, [], ◌∷◌, length, map, refl, sym, ap, ap₂, subst, inl, inr, arith}
+use Rattle.std.specs.Prelude.{◌≢◌, ℤ, Option, pos, nat_abs, min, codes, slice_index}
+use Rattle.std.specs.Option.{IsSome, IsSomeAnd}
+use Rattle.std.specs.List.{AllZip, flat_map, range_with_len}
 use Rattle.std.proofs.lemmas.Int.{ints}
 use Rattle.std.proofs.lemmas.List.{append-nil, length-map}
 use Rattle.crn_vec.specs.Network.{Net}
@@ -9,48 +10,49 @@ use Rattle.crn_vec.specs.Kept.{KeptNums}
 use Rattle.crn_cert.specs.Trees.{Plan}
 use Rattle.crn_cert.specs.declared.answer.Gap.TheVariants.{Wide, Budget, Rests}
 use Rattle.crn_cert.specs.declared.answer.Verdict.{Verdict}
-use Rattle.crn_cert.specs.declared.answer.Verdict.TheVariants.{Classes, Strong, Yes, NoReaction, Unknown}
+use Rattle.crn_cert.specs.declared.answer.Verdict.TheVariants.{Classes, Strong, Rank, Deficiency, Yes, YesVec, NoReaction, NoVec, Unknown}
+use Rattle.crn_cert.specs.declared.answer.RankProof.{RankProof}
 use Rattle.crn_cert.specs.declared.answer.Proof.{Proof}
-use Rattle.crn_cert.specs.declared.answer.Proof.TheVariants.{Nothing, Forest, Strong as StrongTrees, Back}
+use Rattle.crn_cert.specs.declared.answer.Proof.TheVariants.{Nothing, Forest, Strong as StrongTrees, Back, Rank as RankRows, Ranks}
 use Rattle.crn_cert.specs.declared.answer.Answer.{Answer}
-use Rattle.crn_cert.specs.Questions.{Earlier, Question, Q1, Q2, Q3, Q4}
+use Rattle.crn_cert.specs.Questions.{Earlier, Question, Q1, Q2, Q3, Q4, Q5, Q6, Q7, Q8, on, rank_of}
 use Rattle.crn_cert.specs.Tests.{Test, test, AllHold}
 use Rattle.crn_cert.specs.ClassTests.{AreNumbered, AreEven, AreLinkTrees, AreFromTrees, AreToTrees, DoLevelsFall, AreAllExits, zeros_in, AreReverses}
-use Rattle.crn_cert.specs.Formed.{IsFormedOf, AreFormed}
+use Rattle.crn_cert.specs.RankTests.{rank_tests}
+use Rattle.crn_cert.specs.Formed.{IsRankProof, AreClassProofs, IsBasisOf, IsFormedOf, AreFormed}
 use Rattle.crn_cert.specs.Ranges.{AreFrom}
 use Rattle.crn_cert.specs.Says.{IsReactionNumber}
-use Rattle.crn_cert.specs.Valid.{strong, head_tests, row_tests, IsValid, AreValid}
-use Rattle.crn_ctext.specs.Records.{Record, Takes, AreNarrow, AreOf, AreBetween, Fits}
+use Rattle.crn_cert.specs.Valid.{linkage, linkage_count, strong, class_places, class_rank_tests, AreClassNumbers, head_tests, row_tests, IsValid, AreValid}
+use Rattle.crn_ctext.specs.Records.{Record, ClassWide, Takes, AreNarrow, AreOf, AreRising, Fits}
 use Rattle.crn_ctext.specs.Kinds.{small, small_form}
-use Rattle.crn_ctext.specs.Blocks.{Problem, head_claims, row_claims, is_open, unless}
+use Rattle.crn_ctext.specs.Questions.{rank_forms, class_forms, classes as classes_of}
+use Rattle.crn_ctext.specs.Blocks.{Problem, head_claims, row_claims, below, is_open, unless}
 use Rattle.crn_ctext.specs.Documents.{Parts, IsFormed, AreTrees, IsGoodLeaf, IsOneOf, leaf_forms}
 use Rattle.crn_ctext.specs.Documents as documents
-use Rattle.crn_ctext.specs.Answers.{small_record, head_of, records_below, proof_nodes, records, all_records}
-use Rattle.crn_ctext.specs.Meaning.{Known, shapes_of, sizes_of, verdict_of, proof_of, meaning}
+use Rattle.crn_ctext.specs.Answers.{small_record, rank_records, head_of, records_below, proof_nodes, records, all_records}
+use Rattle.crn_ctext.specs.Meaning.{Known, lengths, reactions_by_class, rank_proof, class_proofs, shapes_of, sizes_of, verdict_of, proof_of, meaning}
 use Rattle.crn_cert.specs.Built.{built}
 use Rattle.crn_ctext.specs.Judged.{AreFormedOf}
 use Rattle.crn_ctext.specs.Linked.{records_of}
 use Rattle.crn_ctext.proofs.AnswersApart.{block_apart}
-use Rattle.crn_ctext.specs.Same.{said, shown, AreSame}
-use Rattle.crn_ctext.proofs.Alike.{IsAlike, alike_then, labels_alike}
+use Rattle.crn_ctext.specs.Same.{said, said_rank, shown, AreSame}
+use Rattle.crn_ctext.proofs.Alike.{IsAlike, alike_then, labels_alike, counts_alike, ranks_alike}
+use Rattle.crn_ctext.proofs.MeaningShort.{lists_counted}
+use Rattle.crn_ctext.proofs.RanksLinked.{back_again, between, free_fits, rank_fits, rank_said, places_from, sizes_from, classes_fit, classes_said, said_again, proofs_alike, numbers_alike, tests_alike, basis_alike, places_at, number_then, wide_fits}
 use Rattle.crn_vec.specs.declared.signs.Sign.{Sign}
 
 -- ---- lists
 
-pub back_again : (xs : List ℕ) → map nat_abs (map pos xs) ≡ xs
-back_again [] = refl
-back_again (x ∷ xs) = ap (λ (t : List ℕ). x ∷ t) (back_again xs)
-
-between : (least greatest : ℕ) (xs : List ℕ) → AllByRecursion (λ x. (least ≤ x) × (x ≤ greatest)) xs → AreBetween (pos least) (pos greatest) (map pos xs)
-between least greatest [] p = tt
-between least greatest (x ∷ xs) p = ((omega (arith, ints, p.0.0), omega (arith, ints, p.0.1)), between least greatest xs p.1)
+-- so many small numbers
+several_fit : (count least greatest : ℕ) (xs : List ℕ) → AreFrom count least greatest xs → AreOf (λ field zs. Takes field zs × AreNarrow field zs) (small count least greatest ∷ []) (map pos xs)
+several_fit count least greatest xs p =
+    let long = p.long in
+    let each = p.each in
+    (map pos xs, [], sym (append-nil (map pos xs)), ((length-map xs pos ∙ long, between least greatest xs each), tt), refl)
 
 -- a record of small numbers fits its form
 small_fits : (word : List ℕ) (count least greatest : ℕ) (xs : List ℕ) → AreFrom count least greatest xs → Fits (small_form word count least greatest) (small_record word xs)
-small_fits word count least greatest xs p =
-    let long = p.long in
-    let each = p.each in
-    (refl, (map pos xs, [], sym (append-nil (map pos xs)), ((length-map xs pos ∙ long, between least greatest xs each), tt), refl))
+small_fits word count least greatest xs p = (refl, several_fit count least greatest xs p)
 
 -- ---- an answer and its records
 
@@ -225,6 +227,211 @@ weak_linked known earlier Yes p e f = absurd f.1
 weak_linked known earlier (NoReaction n) p e f = absurd f.1
 weak_linked known earlier v p e f = absurd f.0
 
+-- ---- rank
+
+rank_open : (known : Known) (earlier : Earlier) (index : ℕ) (basis : KeptNums) → IsBasisOf (length known.net.names) (length known.net.reactions) index basis.list → IsLinked known earlier Q5 (answer (Unknown (Wide 1 0 index basis)) Nothing)
+rank_open known earlier index basis b =
+    record {
+      formed = record { head = (_, inr (inl refl), (refl, wide_fits 1 (length known.net.names) (length known.net.reactions) index basis.list b)); rows = tt; trees = refl };
+      heads = refl;
+      rows = refl;
+      says = ap (λ (x : List ℕ). Unknown (Wide 1 0 index (record { list = x; spare = 0 }))) (back_again basis.list);
+      shows = refl;
+    }
+
+-- an answer that is open by this system and class has these numbers and no proof
+open_as : (known : Known) (earlier : Earlier) (q : Question) (system class index : ℕ) (basis : KeptNums) (p : Proof) (s c : ℕ) → system ≡ s → class ≡ c → p ≡ Nothing → IsLinked known earlier q (answer (Unknown (Wide s c index basis)) Nothing)
+    → IsLinked known earlier q (answer (Unknown (Wide system class index basis)) p)
+open_as known earlier q system class index basis p s c a b e l =
+    subst (λ (x : ℕ). IsLinked known earlier q (answer (Unknown (Wide x class index basis)) p)) (sym a) (subst (λ (x : ℕ). IsLinked known earlier q (answer (Unknown (Wide s x index basis)) p)) (sym b)
+    (subst (λ (x : Proof). IsLinked known earlier q (answer (Unknown (Wide s c index basis)) x)) (sym e) l))
+
+rank_linked : (known : Known) (earlier : Earlier) (v : Verdict) (p : Proof) → IsFormedOf known.net earlier Q5 v p → IsLinked known earlier Q5 (answer v p)
+rank_linked known earlier (Rank rank base) (RankRows p) f =
+    let net = known.net in
+    let members = range_with_len 1 (length net.reactions) in
+    let proved : IsRankProof net members rank p = f.1.1 in
+    let d = proved.duals in
+    let duals = d.long in
+    let bare : rank_records p ++ [] ≡ rank_records p = append-nil (rank_records p) in
+    let same : rank_proof rank (rank_records p ++ []) ≡ said_rank p = ap (λ (rs : List Record). rank_proof rank rs) bare ∙ rank_said rank p duals in
+    record {
+      formed = record {
+        head = (_, inl refl, (refl, number_fits (min (length net.names) (length net.reactions)) rank f.0.0 f.0.1));
+        rows = subst (λ (rs : List Record). AllZip Fits (rank_forms (sizes_of known) rank members) rs) (sym bare) (rank_fits known members rank p proved);
+        trees = refl;
+      };
+      heads = refl;
+      rows = ap (λ (r : RankProof). rank_tests net members 1 r.base.list r.duals r.combs) same;
+      says = ap (λ (x : List ℕ). Rank rank (record { list = x; spare = 0 })) (back_again p.base.list ∙ sym f.1.0);
+      shows = ap (λ (r : RankProof). shown (RankRows r)) same;
+    }
+rank_linked known earlier (Unknown (Wide system class index basis)) p f = open_as known earlier Q5 system class index basis p 1 0 f.0.0 f.0.1 f.1 (rank_open known earlier index basis f.0.2)
+rank_linked known earlier (Unknown (Budget nodes)) p f = absurd f.0
+rank_linked known earlier (Unknown (Rests question)) p f = absurd f.0
+rank_linked known earlier (Rank rank base) p f = absurd f.1
+rank_linked known earlier v p f = absurd f.0
+
+-- ---- deficiency
+
+-- the tests of a head, by what they rest on
+abbrev deficiency_tests : Net → ℕ → ℕ → Option ℕ → Type 0 → List {1} Test
+deficiency_tests net total count rank Numbers = test 0 37 (IsSome rank) ∷ test 0 36 (IsSomeAnd rank (λ s. total + count + s ≡ length net.complexes) × Numbers) ∷ []
+
+deficiency_heads : (known : Known) (earlier : Earlier) (total : ℕ) (ds : List ℕ) → IsAlike known earlier → deficiency_tests known.net total (linkage_count known.earlier) (rank_of (on known.earlier Q5)) (AreClassNumbers known.net known.earlier 1 (map nat_abs (map pos ds)))
+    ≡ deficiency_tests known.net total (linkage_count earlier) (rank_of (on earlier Q5)) (AreClassNumbers known.net earlier 1 ds)
+deficiency_heads known earlier total ds e =
+    let net = known.net in
+    let numbers : AreClassNumbers net known.earlier 1 (map nat_abs (map pos ds)) ≡ AreClassNumbers net earlier 1 ds = ap (λ (xs : List ℕ). AreClassNumbers net known.earlier 1 xs) (back_again ds) ∙ numbers_alike net known.earlier earlier (labels_alike known.earlier earlier Q1 e) 1 ds in
+    ap₂ (λ (count : ℕ) (rank : Option ℕ). deficiency_tests net total count rank (AreClassNumbers net known.earlier 1 (map nat_abs (map pos ds)))) (counts_alike known.earlier earlier Q1 e) (ranks_alike known.earlier earlier Q5 e)
+    ∙ ap (λ (A : Type 0). deficiency_tests net total (linkage_count earlier) (rank_of (on earlier Q5)) A) numbers
+
+-- one number for the network and one for each class
+deficiency_fits : (count greatest total : ℕ) (ds : List ℕ) → total ≤ greatest → AreFrom count 0 greatest ds → AreFrom (1 + count) 0 greatest (total ∷ ds)
+deficiency_fits count greatest total ds most p =
+    let long = p.long in
+    let each = p.each in
+    record { long = omega (arith, long); each = ((omega arith, most), each) }
+
+abbrev SmallNumbers : ℕ → ℕ → ℕ → List ℤ → Type 0
+SmallNumbers count least greatest zs = AreOf (λ field zs. Takes field zs × AreNarrow field zs) (small count least greatest ∷ []) zs
+
+deficiencies_linked : (known : Known) (earlier : Earlier) (total : ℕ) (classes : KeptNums) (ps : List RankProof) → IsAlike known earlier → total ≤ length known.net.complexes → AreFrom (linkage_count earlier) 0 (length known.net.complexes) classes.list
+    → AreClassProofs known.net earlier 1 classes.list ps → IsLinked known earlier Q6 (answer (Deficiency total classes) (Ranks ps))
+deficiencies_linked known earlier total classes ps e most each proofs =
+    let net = known.net in
+    let ds = classes.list in
+    let labels : linkage known.earlier ≡ linkage earlier = labels_alike known.earlier earlier Q1 e in
+    let here : AreClassProofs net known.earlier 1 ds ps = proofs_alike net earlier known.earlier (sym labels) 1 ds ps proofs in
+    let long = each.long in
+    let count : length ds ≡ linkage_count known.earlier = long ∙ sym (counts_alike known.earlier earlier Q1 e) in
+    let bare : flat_map rank_records ps ++ [] ≡ flat_map rank_records ps = append-nil (flat_map rank_records ps) in
+    let fits : AllZip Fits (below Q6 (shapes_of known) (head_of Q6 (Deficiency total classes))) (flat_map rank_records ps) = subst (λ (n : ℕ). AllZip Fits (class_forms (sizes_of known) (sizes_from known.earlier 1 n) (places_from net known.earlier 1 n) (map pos ds)) (flat_map rank_records ps)) count (classes_fit known 1 ds ps here) in
+    let said : class_proofs (sizes_from known.earlier 1 (linkage_count known.earlier)) (places_from net known.earlier 1 (linkage_count known.earlier)) (map pos ds) (flat_map rank_records ps ++ []) ≡ map said_rank ps
+    = ap (λ (rs : List Record). class_proofs (sizes_from known.earlier 1 (linkage_count known.earlier)) (places_from net known.earlier 1 (linkage_count known.earlier)) (map pos ds) rs) bare
+    ∙ subst (λ (n : ℕ). class_proofs (sizes_from known.earlier 1 n) (places_from net known.earlier 1 n) (map pos ds) (flat_map rank_records ps) ≡ map said_rank ps) count (classes_said net known.earlier 1 ds ps here) in
+    let numbers : AreFrom (1 + linkage_count known.earlier) 0 (length net.complexes) (total ∷ ds) = subst (λ (n : ℕ). AreFrom (1 + n) 0 (length net.complexes) (total ∷ ds)) (counts_alike earlier known.earlier Q1 (sym e)) (deficiency_fits (linkage_count earlier) (length net.complexes) total ds most each) in
+    let head : SmallNumbers (1 + classes_of (sizes_of known)) 0 (length net.complexes) (map pos (total ∷ ds)) = subst (λ (n : ℕ). SmallNumbers (1 + n) 0 (length net.complexes) (map pos (total ∷ ds))) (sym (lists_counted known)) (several_fit (1 + linkage_count known.earlier) 0 (length net.complexes) (total ∷ ds) numbers) in
+    record {
+      formed = record {
+        head = (_, inl refl, (refl, head));
+        rows = subst (λ (rs : List Record). AllZip Fits (below Q6 (shapes_of known) (head_of Q6 (Deficiency total classes))) rs) (sym bare) fits;
+        trees = refl;
+      };
+      heads = deficiency_heads known earlier total ds e;
+      rows = ap (λ (rs : List RankProof). class_rank_tests net known.earlier 1 1 rs) said ∙ tests_alike net known.earlier earlier labels 1 1 ps;
+      says = ap (λ (x : List ℕ). Deficiency total (record { list = x; spare = 0 })) (back_again ds);
+      shows = ap (λ (rs : List RankProof). shown (Ranks rs)) said ∙ ap (λ (rs : List RankProof). (Ranks rs, [])) (said_again ps);
+    }
+
+-- open by a class's system
+deficiency_wide : (known : Known) (earlier : Earlier) (k index : ℕ) (basis : KeptNums) → IsAlike known earlier → suc k ≤ linkage_count earlier → IsBasisOf (length known.net.names) (length (class_places known.net earlier (suc k))) index basis.list
+    → IsLinked known earlier Q6 (answer (Unknown (Wide 3 (suc k) index basis)) Nothing)
+deficiency_wide known earlier k index basis e few b =
+    let net = known.net in
+    let m = length net.names in
+    let sizes = lengths (reactions_by_class known) in
+    let here : IsBasisOf m (length (class_places net known.earlier (suc k))) index basis.list = basis_alike net earlier known.earlier (sym (labels_alike known.earlier earlier Q1 e)) (suc k) index basis.list b in
+    let count : linkage_count known.earlier ≡ linkage_count earlier = counts_alike known.earlier earlier Q1 e in
+    let lt : k < linkage_count known.earlier = omega (arith, few, count) in
+    let size : slice_index sizes k ≡ length (class_places net known.earlier (suc k)) = places_at net known.earlier 1 (linkage_count known.earlier) k lt ∙ ap (λ (j : ℕ). length (class_places net known.earlier j)) (omega arith) in
+    let that : IsBasisOf m (slice_index sizes k) index basis.list = subst (λ (n : ℕ). IsBasisOf m n index basis.list) (sym size) here in
+    let at = that.coordinate in
+    let members = that.members in
+    let up = that.ascending in
+    let long = members.long in
+    let each = members.each in
+    let rising : AreRising (m + slice_index sizes k) (map pos basis.list) = (basis.list, refl, up, between 1 (m + slice_index sizes k) basis.list each) in
+    record {
+      formed = record {
+        head = (
+          _,
+          inr (inl refl),
+          (
+            refl,
+            number_then 3 3 3 (ClassWide m sizes ∷ []) (map pos (suc k ∷ index ∷ basis.list)) (omega arith) (omega arith)
+                (map pos (suc k ∷ index ∷ basis.list), [], sym (append-nil (map pos (suc k ∷ index ∷ basis.list))), ((k, index, map pos basis.list, refl, omega (arith, lt, lists_counted known), at.0, at.1, length-map basis.list pos ∙ long, rising), tt), refl),
+          ),
+        );
+        rows = tt;
+        trees = refl;
+      };
+      heads = refl;
+      rows = refl;
+      says = ap (λ (x : List ℕ). Unknown (Wide 3 (suc k) index (record { list = x; spare = 0 }))) (back_again basis.list);
+      shows = refl;
+    }
+
+deficiency_open : (known : Known) (earlier : Earlier) (class index : ℕ) (basis : KeptNums) → IsAlike known earlier → (1 ≤ class) × (class ≤ linkage_count earlier) → IsBasisOf (length known.net.names) (length (class_places known.net earlier class)) index basis.list
+    → IsLinked known earlier Q6 (answer (Unknown (Wide 3 class index basis)) Nothing)
+deficiency_open known earlier zero index basis e range b = absurd (omega (arith, range.0))
+deficiency_open known earlier (suc k) index basis e range b = deficiency_wide known earlier k index basis e range.1 b
+
+deficiency_rests : (known : Known) (earlier : Earlier) → IsLinked known earlier Q6 (answer (Unknown (Rests 5)) Nothing)
+deficiency_rests known earlier =
+    record {
+      formed = record { head = (_, inr (inr (inl refl)), (refl, number_then 5 5 5 [] [] (omega arith) (omega arith) refl)); rows = tt; trees = refl };
+      heads = refl;
+      rows = refl;
+      says = refl;
+      shows = refl;
+    }
+
+deficiency_linked : (known : Known) (earlier : Earlier) (v : Verdict) (p : Proof) → IsAlike known earlier → IsFormedOf known.net earlier Q6 v p → IsLinked known earlier Q6 (answer v p)
+deficiency_linked known earlier (Deficiency total classes) (Ranks ps) e f = deficiencies_linked known earlier total classes ps e f.0.0.1 f.0.1 f.1
+deficiency_linked known earlier (Unknown (Wide system class index basis)) p e f = open_as known earlier Q6 system class index basis p 3 class f.0.0 refl f.1 (deficiency_open known earlier class index basis e f.0.1 f.0.2)
+deficiency_linked known earlier (Unknown (Budget nodes)) p e f = absurd f.0
+deficiency_linked known earlier (Unknown (Rests question)) p e f =
+    subst (λ (x : ℕ). IsLinked known earlier Q6 (answer (Unknown (Rests x)) p)) f.0 (subst (λ (x : Proof). IsLinked known earlier Q6 (answer (Unknown (Rests 5)) x)) (sym f.1) (deficiency_rests known earlier))
+deficiency_linked known earlier (Deficiency total classes) p e f = absurd f.1
+deficiency_linked known earlier v p e f = absurd f.0
+
+-- ---- positive vectors
+
+dependence_open : (known : Known) (earlier : Earlier) (index : ℕ) (basis : KeptNums) → IsBasisOf (length known.net.reactions) (length known.net.names) index basis.list → IsLinked known earlier Q7 (answer (Unknown (Wide 2 0 index basis)) Nothing)
+dependence_open known earlier index basis b =
+    record {
+      formed = record { head = (_, inr (inr (inl refl)), (refl, wide_fits 2 (length known.net.reactions) (length known.net.names) index basis.list b)); rows = tt; trees = refl };
+      heads = refl;
+      rows = refl;
+      says = ap (λ (x : List ℕ). Unknown (Wide 2 0 index (record { list = x; spare = 0 }))) (back_again basis.list);
+      shows = refl;
+    }
+
+dependence_linked : (known : Known) (earlier : Earlier) (v : Verdict) (p : Proof) → IsFormedOf known.net earlier Q7 v p → IsLinked known earlier Q7 (answer v p)
+dependence_linked known earlier (YesVec vector) Nothing f =
+    record { formed = record { head = (_, inl refl, (refl, refl)); rows = (free_fits (codes "vec") (length known.net.reactions) vector.list f.1, tt); trees = refl }; heads = refl; rows = refl; says = refl; shows = refl }
+dependence_linked known earlier (NoVec multipliers) Nothing f =
+    record { formed = record { head = (_, inr (inl refl), (refl, refl)); rows = (free_fits (codes "cut") (length known.net.names) multipliers.list f.1, tt); trees = refl }; heads = refl; rows = refl; says = refl; shows = refl }
+dependence_linked known earlier (Unknown (Wide system class index basis)) p f = open_as known earlier Q7 system class index basis p 2 0 f.0.0 f.0.1 f.1 (dependence_open known earlier index basis f.0.2)
+dependence_linked known earlier (Unknown (Budget nodes)) p f = absurd f.0
+dependence_linked known earlier (Unknown (Rests question)) p f = absurd f.0
+dependence_linked known earlier (YesVec vector) p f = absurd f.1
+dependence_linked known earlier (NoVec multipliers) p f = absurd f.1
+dependence_linked known earlier v p f = absurd f.0
+
+conservation_open : (known : Known) (earlier : Earlier) (index : ℕ) (basis : KeptNums) → IsBasisOf (length known.net.names) (length known.net.reactions) index basis.list → IsLinked known earlier Q8 (answer (Unknown (Wide 1 0 index basis)) Nothing)
+conservation_open known earlier index basis b =
+    record {
+      formed = record { head = (_, inr (inr (inl refl)), (refl, wide_fits 1 (length known.net.names) (length known.net.reactions) index basis.list b)); rows = tt; trees = refl };
+      heads = refl;
+      rows = refl;
+      says = ap (λ (x : List ℕ). Unknown (Wide 1 0 index (record { list = x; spare = 0 }))) (back_again basis.list);
+      shows = refl;
+    }
+
+conservation_linked : (known : Known) (earlier : Earlier) (v : Verdict) (p : Proof) → IsFormedOf known.net earlier Q8 v p → IsLinked known earlier Q8 (answer v p)
+conservation_linked known earlier (YesVec vector) Nothing f =
+    record { formed = record { head = (_, inl refl, (refl, refl)); rows = (free_fits (codes "vec") (length known.net.names) vector.list f.1, tt); trees = refl }; heads = refl; rows = refl; says = refl; shows = refl }
+conservation_linked known earlier (NoVec multipliers) Nothing f =
+    record { formed = record { head = (_, inr (inl refl), (refl, refl)); rows = (free_fits (codes "cut") (length known.net.reactions) multipliers.list f.1, tt); trees = refl }; heads = refl; rows = refl; says = refl; shows = refl }
+conservation_linked known earlier (Unknown (Wide system class index basis)) p f = open_as known earlier Q8 system class index basis p 1 0 f.0.0 f.0.1 f.1 (conservation_open known earlier index basis f.0.2)
+conservation_linked known earlier (Unknown (Budget nodes)) p f = absurd f.0
+conservation_linked known earlier (Unknown (Rests question)) p f = absurd f.0
+conservation_linked known earlier (YesVec vector) p f = absurd f.1
+conservation_linked known earlier (NoVec multipliers) p f = absurd f.1
+conservation_linked known earlier v p f = absurd f.0
+
 -- ---- all answers
 
 -- what is known after an answer
@@ -246,7 +453,13 @@ built_linked = (
     (λ known earlier v p e f. strong_linked known earlier v p f),
     (
       (λ known earlier v p e f. reversible_linked known earlier v p f),
-      ((λ known earlier v p e f. weak_linked known earlier v p (labels_alike known.earlier earlier Q2 e) f), tt),
+      (
+        (λ known earlier v p e f. weak_linked known earlier v p (labels_alike known.earlier earlier Q2 e) f),
+        (
+          (λ known earlier v p e f. rank_linked known earlier v p f),
+          (deficiency_linked, ((λ known earlier v p e f. dependence_linked known earlier v p f), ((λ known earlier v p e f. conservation_linked known earlier v p f), tt))),
+        ),
+      ),
     ),
   ),
 )

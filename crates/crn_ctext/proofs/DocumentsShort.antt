@@ -1,17 +1,19 @@
 -- Documents of formed answers to the built questions have few lines, and so they are shorter than the bound.
-use Rattle.std.proofs.Common.{◌≡◌, ◌+◌, ◌*◌, ◌<◌, ◌≤◌, ◌==◌, ◌++◌, ◌∙◌, ℕ, zero, suc, Bool, true, false, cond, if◌then◌else◌, List, [], ◌∷◌, length, map, take, refl, sym, ap, ap₂, subst, arith}
-use Rattle.std.specs.Prelude.{ℤ, codes}
-use Rattle.std.specs.List.{AllByRecursion, AllZip, filter}
+use Rattle.std.proofs.Common.{◌≡◌, ◌+◌, ◌-◌, ◌*◌, ◌<◌, ◌≤◌, ◌==◌, ◌++◌, ◌∙◌, ℕ, zero, suc, Bool, true, false, cond, if◌then◌else◌, List, [], ◌∷◌, length, map, take, refl, sym, ap, ap₂, subst, arith}
+use Rattle.std.specs.Prelude.{ℤ, codes, replicate}
+use Rattle.std.specs.List.{AllByRecursion, AllZip, filter, range_with_len}
 use Rattle.std.specs.Ordering.{int_eq}
 use Rattle.std.specs.Cmp.Lexicographic.{pointwise}
-use Rattle.std.proofs.lemmas.List.{length-append, length-map, append-nil}
+use Rattle.std.proofs.lemmas.List.{length-append, length-map, length-replicate, append-nil}
+use Rattle.std.proofs.lemmas.List.FromFn.{length-range_with_len}
 use Rattle.crn_vec.specs.Lists.{firsts}
 use Rattle.crn_vec.specs.Network.{Net, IsNetwork}
 use Rattle.crn_io.specs.declared.lines.TheConstants.{MAX_DOCUMENT, MAX_SHARED}
 use Rattle.crn_cert.specs.Questions.{Question, Q1, Q2, Q3, Q4, Q5, Q6, Q7, Q8, Q9, Q10, Q11, Q12, Q13, Q14, Q15}
 use Rattle.crn_cert.specs.Built.{built}
 use Rattle.crn_ctext.specs.Records.{Record, Fits, record_text}
-use Rattle.crn_ctext.specs.Questions.{Shapes, heads, rows, opens}
+use Rattle.crn_ctext.specs.Kinds.{free_form}
+use Rattle.crn_ctext.specs.Questions.{Sizes, Shapes, heads, rows, opens, rank_forms, class_forms, class_rank, first_number, later_numbers}
 use Rattle.crn_ctext.specs.Blocks.{sections, below, place_of, ended}
 use Rattle.crn_ctext.specs.Documents.{section, is_cut_leaf, cut_lists, number_in, written, table_records, IsShareable, Share, FitsShare, share_of, one_word, IsNamed, leaf_forms, IsOneOf, document, document2, Parts, IsFormed, AreFormed}
 use Rattle.crn_ctext.specs.Meaning.{Known, sizes_of, shapes_of, meaning}
@@ -26,7 +28,7 @@ use Rattle.crn_ctext.proofs.NetworkLines.{net_line}
 use Rattle.crn_ctext.proofs.DocumentTexts.{parted_first, parted_second, parted_cuts, parted_plain, cuts_append, written_plain, table_plain}
 use Rattle.crn_ctext.proofs.ShortAnswers.{AllPlain, IsShortFor, formed_are_plain, short_both}
 use Rattle.crn_ctext.proofs.ShortLines.{text_lines_are_short}
-use Rattle.crn_ctext.proofs.MeaningShort.{IsSmall, networks_are_small, meaning_short}
+use Rattle.crn_ctext.proofs.MeaningShort.{IsSmall, IsMemberList, class_sizes, class_lists, sizes_small, sizes_counted, lists_small, rank_first, networks_are_small, meaning_short}
 use Rattle.crn_ctext.proofs.DocumentsGood.{no_nodes}
 
 -- ---- lines
@@ -40,7 +42,7 @@ ended_short (l ∷ ls) s =
     omega (arith, more, size, s.0.1)
 
 -- a text of few lines is shorter than the bound
-few_lines : (version : ℕ) (net : Net) (records : List Record) → IsNetwork net → AllByRecursion IsShortLine (text_lines version net records) → length records ≤ 30000 → length (text_of version net records) < MAX_DOCUMENT
+few_lines : (version : ℕ) (net : Net) (records : List Record) → IsNetwork net → AllByRecursion IsShortLine (text_lines version net records) → length records ≤ 70000 → length (text_of version net records) < MAX_DOCUMENT
 few_lines version net records n s few =
     let h = n.partial in
     let limit = h.reactions_limit in
@@ -54,9 +56,14 @@ few_lines version net records n s few =
 
 -- ---- records
 
+-- the most records below a head of the question: those of deficiencies prove the rank of each linkage class
+abbrev most : Question → ℕ
+most Q6 = 40000
+most q = 1000
+
 -- few records below a head, if the sizes are those of a network
 abbrev IsFew : Question → Type 0
-IsFew q = (known : Known) (h : Record) → IsSmall known → IsOneOf (heads q (sizes_of known)) h → length (below q (shapes_of known) h) ≤ 1000
+IsFew q = (known : Known) (h : Record) → IsSmall known → IsOneOf (heads q (sizes_of known)) h → length (below q (shapes_of known) h) ≤ most q
 
 linkage_few : (s : Shapes) (place : ℕ) (n : List ℤ) → length (rows Q1 s place n) ≤ 1000
 linkage_few s zero n = omega arith
@@ -73,12 +80,74 @@ reversible_few s zero n = omega arith
 reversible_few s (suc zero) n = omega arith
 reversible_few s (suc (suc k)) n = omega arith
 
+-- the records of a rank are those of its members and one more, or as many as the rank
+rank_long : (z : Sizes) (rank : ℕ) (members : List ℕ) → length (rank_forms z rank members) ≡ suc (rank + (length members - rank))
+rank_long z rank members =
+    let duals = replicate rank (free_form (codes "dual") z.species) in
+    let combs = replicate (length members - rank) (free_form (codes "comb") (1 + rank)) in
+    let both : length (duals ++ combs) ≡ length duals + length combs = length-append duals combs in
+    let first : length duals ≡ rank = length-replicate rank (free_form (codes "dual") z.species) in
+    let second : length combs ≡ length members - rank = length-replicate (length members - rank) (free_form (codes "comb") (1 + rank)) in
+    ap suc (both ∙ ap₂ (λ (a b : ℕ). a + b) first second)
+
+rank_few : (known : Known) (place : ℕ) (n : List ℤ) → IsSmall known → first_number n ≤ 240 → length (rows Q5 (shapes_of known) place n) ≤ 1000
+rank_few known zero n s a = omega arith
+rank_few known (suc zero) n s a =
+    let c = s.reactions in
+    let members = range_with_len 1 (length known.net.reactions) in
+    omega (arith, a, c, rank_long (sizes_of known) (first_number n) members, length-range_with_len 1 (length known.net.reactions))
+rank_few known (suc (suc k)) n s a = omega arith
+
+classes_few : (z : Sizes) (cs : List ℕ) (ms : List (List ℕ)) (ds : List ℤ) → AllByRecursion (λ c. c ≤ 160) cs → AllByRecursion IsMemberList ms → length (class_forms z cs ms ds) ≤ 241 * length cs
+classes_few z [] ms ds a b = omega arith
+classes_few z (c ∷ cs) [] ds a b = omega arith
+classes_few z (c ∷ cs) (m ∷ ms) [] a b = omega arith
+classes_few z (c ∷ cs) (m ∷ ms) (d ∷ ds) a b =
+    let first = rank_forms z (class_rank c d) m in
+    let more = classes_few z cs ms ds a.1 b.1 in
+    omega (arith, a.0, b.0.0, more, length-append first (class_forms z cs ms ds), rank_long z (class_rank c d) m)
+
+deficiency_few : (known : Known) (place : ℕ) (n : List ℤ) → IsSmall known → length (rows Q6 (shapes_of known) place n) ≤ 40000
+deficiency_few known zero n s = omega arith
+deficiency_few known (suc zero) n s =
+    let count = s.classes in
+    let few = classes_few (sizes_of known) (class_sizes known) (class_lists known) (later_numbers n) (sizes_small known s) (lists_small known s) in
+    omega (arith, count, few, sizes_counted known)
+deficiency_few known (suc (suc k)) n s = omega arith
+
+dependence_few : (s : Shapes) (place : ℕ) (n : List ℤ) → length (rows Q7 s place n) ≤ 1000
+dependence_few s zero n = omega arith
+dependence_few s (suc zero) n = omega arith
+dependence_few s (suc (suc zero)) n = omega arith
+dependence_few s (suc (suc (suc k))) n = omega arith
+
+conservation_few : (s : Shapes) (place : ℕ) (n : List ℤ) → length (rows Q8 s place n) ≤ 1000
+conservation_few s zero n = omega arith
+conservation_few s (suc zero) n = omega arith
+conservation_few s (suc (suc zero)) n = omega arith
+conservation_few s (suc (suc (suc k))) n = omega arith
+
 built_few : AllByRecursion IsFew built
 built_few = (
   (λ known h s o. linkage_few (shapes_of known) (place_of (heads Q1 (sizes_of known)) h.words) h.numbers),
   (
     (λ known h s o. strong_few (shapes_of known) (place_of (heads Q2 (sizes_of known)) h.words) h.numbers),
-    ((λ known h s o. reversible_few (shapes_of known) (place_of (heads Q3 (sizes_of known)) h.words) h.numbers), ((λ known h s o. omega arith), tt)),
+    (
+      (λ known h s o. reversible_few (shapes_of known) (place_of (heads Q3 (sizes_of known)) h.words) h.numbers),
+      (
+        (λ known h s o. omega arith),
+        (
+          (λ known h s o. rank_few known (place_of (heads Q5 (sizes_of known)) h.words) h.numbers s (rank_first known h s o)),
+          (
+            (λ known h s o. deficiency_few known (place_of (heads Q6 (sizes_of known)) h.words) h.numbers s),
+            (
+              (λ known h s o. dependence_few (shapes_of known) (place_of (heads Q7 (sizes_of known)) h.words) h.numbers),
+              ((λ known h s o. conservation_few (shapes_of known) (place_of (heads Q8 (sizes_of known)) h.words) h.numbers), tt),
+            ),
+          ),
+        ),
+      ),
+    ),
   ),
 )
 
@@ -113,27 +182,33 @@ zip_long R [] (y ∷ ys) z = absurd z
 zip_long R (x ∷ xs) [] z = absurd z
 zip_long R (x ∷ xs) (y ∷ ys) z = let more = zip_long R xs ys z.1 in omega (arith, more)
 
-block_few : (q : Question) (known : Known) (rs : List Record) (p : Parts rs) → IsSmall known → IsFew q → IsFormed meaning q known rs p → length rs ≤ 1001
+block_few : (q : Question) (known : Known) (rs : List Record) (p : Parts rs) → IsSmall known → IsFew q → IsFormed meaning q known rs p → length rs ≤ suc (most q)
 block_few q known rs p small few f =
     let none : p.nodes ≡ [] = no_nodes (λ problem prefix r. _) q known p.head p.nodes f.trees in
     let long : length (below q (shapes_of known) p.head) ≡ length p.rows = zip_long Fits (below q (shapes_of known) p.head) p.rows f.rows in
     let size : length rs ≡ suc (length (p.rows ++ p.nodes)) = ap length p.all in
     omega (arith, size, length-append p.rows p.nodes, ap length none, long, few known p.head small f.head)
 
+-- the most records of the blocks of these questions, each with the line of its section
+abbrev most_of : List Question → ℕ
+most_of [] = 0
+most_of (q ∷ qs) = most q + 2 + most_of qs
+
 -- each block has no more records than its bound
-parted_few : (version : ℕ) (qs : List Question) (known : Known) (answers : List (List Record)) → IsSmall known → AllByRecursion IsFew qs → AllByRecursion (IsShortFor meaning IsSmall) qs → AreFormed meaning qs known answers → length (parted version qs answers) ≤ 1002 * length qs
+parted_few : (version : ℕ) (qs : List Question) (known : Known) (answers : List (List Record)) → IsSmall known → AllByRecursion IsFew qs → AllByRecursion (IsShortFor meaning IsSmall) qs → AreFormed meaning qs known answers → length (parted version qs answers) ≤ most_of qs
 unfolding AreFormed
 parted_few version [] known answers small few shorts f = omega arith
 parted_few version (q ∷ qs) known [] small few shorts f = absurd f
 parted_few version (q ∷ qs) known (rs ∷ more) small few shorts f =
     let learns = shorts.0.learn in
-    let later = parted_few version qs (meaning.learn q known f.0.head f.0.rows) more (learns known f.0.head f.0.rows small) few.1 shorts.1 f.2 in
-    omega (arith, later, one_section version q, block_few q known rs f.0 small few.0 f.1, length-append (map section (sections version q)) (rs ++ parted version qs more), length-append rs (parted version qs more))
+    let g = f.1 in
+    let later = parted_few version qs (meaning.learn q known f.0.head f.0.rows) more (learns known f.0.head f.0.rows small g.head g.rows) few.1 shorts.1 f.2 in
+    omega (arith, later, one_section version q, block_few q known rs f.0 small few.0 g, length-append (map section (sections version q)) (rs ++ parted version qs more), length-append rs (parted version qs more))
 
 -- the records of formed answers are few
-all_few : (version : ℕ) (net : Net) (answers : List (List Record)) → IsNetwork net → AreFormedOf net answers → length (parted version built answers) ≤ 20000
+all_few : (version : ℕ) (net : Net) (answers : List (List Record)) → IsNetwork net → AreFormedOf net answers → length (parted version built answers) ≤ 60000
 all_few version net answers n f =
-    let few : length (parted version built answers) ≤ 1002 * length built = parted_few version built (meaning.start net) answers (networks_are_small net n) built_few meaning_short f in
+    let few : length (parted version built answers) ≤ most_of built = parted_few version built (meaning.start net) answers (networks_are_small net n) built_few meaning_short f in
     omega (arith, few)
 
 -- ---- documents

@@ -24,6 +24,8 @@ mod FormKinds
 mod BlocksWritten
 mod DocumentsWritten
 mod TestsDecided
+mod RanksDecided
+mod RanksLinked
 mod MeaningDecided
 mod TreesRead
 mod BlocksRead

@@ -1,20 +1,22 @@
 -- Each test of the built questions is decided, whatever a block holds.
-use Rattle.std.proofs.Common.{ℕ, zero, suc, Bool, true, false, List, [], if◌then◌else◌}
+use Rattle.std.proofs.Common.{ℕ, zero, suc, Bool, true, false, List, [], length, if◌then◌else◌}
 use Rattle.std.specs.Prelude.{ℤ}
+use Rattle.std.specs.List.{range_with_len}
 use Rattle.crn_vec.specs.Network.{Net}
 use Rattle.crn_cert.specs.declared.answer.Gap.{Gap}
 use Rattle.crn_cert.specs.declared.answer.Verdict.TheVariants.{Unknown}
 use Rattle.crn_cert.specs.declared.answer.Proof.TheVariants.{Nothing}
-use Rattle.crn_cert.specs.Questions.{Earlier, Q1, Q2, Q3, Q4}
+use Rattle.crn_cert.specs.Questions.{Earlier, Q1, Q2, Q3, Q4, Q5, Q6, Q7, Q8, on, rank_of}
 use Rattle.crn_cert.specs.ClassTests.{zeros_in}
-use Rattle.crn_cert.specs.Valid.{strong, linkage_rows, strong_rows, reversible_head, reversible_rows, weak_head}
+use Rattle.crn_cert.specs.Valid.{strong, linkage_rows, strong_rows, reversible_head, reversible_rows, weak_head, rank_rows, deficiency_head, deficiency_rows, dependence_rows, conservation_rows}
 use Rattle.crn_ctext.specs.Records.{Record}
-use Rattle.crn_ctext.specs.Questions.{Shapes, heads}
+use Rattle.crn_ctext.specs.Questions.{Shapes, heads, later_numbers}
 use Rattle.crn_ctext.specs.Blocks.{place_of, is_open}
-use Rattle.crn_ctext.specs.Meaning.{shapes_of, sizes_of, number, row, nums, gap_of, verdict_by, proof_by, meaning}
+use Rattle.crn_ctext.specs.Meaning.{shapes_of, sizes_of, number, row, nums, ints, rank_proof, class_proofs, gap_of, verdict_by, proof_by, meaning}
 use Rattle.crn_cert.specs.Built.{built}
 use Rattle.crn_ctext.proofs.Decided.{both_decided, nat_decided}
 use Rattle.crn_ctext.proofs.TestsDecided.{numbered_decided, even_decided, link_trees_decided, from_trees_decided, to_trees_decided, levels_decided, exits_decided, no_reverse_decided, reverses_decided, leaves_decided}
+use Rattle.crn_ctext.proofs.RanksDecided.{rank_decided, class_ranks_decided, some_rank_decided, left_decided, class_numbers_decided, dependence_decided, no_dependence_decided, law_decided, no_law_decided}
 use Rattle.crn_ctext.proofs.Settled.{AllDecided, IsDecidedFor, IsDecidedMeaning}
 
 -- ---- linkage classes
@@ -99,5 +101,73 @@ weak_decided = record {
   trees = λ known h. tt;
 }
 
+-- ---- rank
+
+rank_rows_decided : (net : Net) (s : Shapes) (t : Bool) (g : Gap) (place : ℕ) (n : List ℤ) (rs : List Record) → AllDecided (rank_rows net (if t then Unknown g else verdict_by Q5 place n rs) (if t then Nothing else proof_by Q5 s place n rs))
+rank_rows_decided net s true g place n rs = tt
+rank_rows_decided net s false g zero n rs = tt
+rank_rows_decided net s false g (suc zero) n rs = let p = rank_proof (number n 0) rs in rank_decided net (range_with_len 1 (length net.reactions)) 1 p.base.list p.duals p.combs
+rank_rows_decided net s false g (suc (suc k)) n rs = tt
+
+ranks_decided : IsDecidedFor meaning Q5
+ranks_decided = record {
+  head = λ known h. tt;
+  rows = λ known h rs. rank_rows_decided known.net (shapes_of known) (is_open h) (gap_of h) (place_of (heads Q5 (sizes_of known)) h.words) h.numbers rs;
+  trees = λ known h. tt;
+}
+
+-- ---- deficiency
+
+deficiency_head_decided : (net : Net) (earlier : Earlier) (t : Bool) (g : Gap) (place : ℕ) (n : List ℤ) → AllDecided (deficiency_head net earlier (if t then Unknown g else verdict_by Q6 place n []))
+deficiency_head_decided net earlier true g place n = tt
+deficiency_head_decided net earlier false g zero n = tt
+deficiency_head_decided net earlier false g (suc zero) n =
+    let rank = rank_of (on earlier Q5) in
+    (some_rank_decided rank, (both_decided (left_decided net earlier (number n 0) rank) (class_numbers_decided net earlier 1 (nums (later_numbers n)).list), tt))
+deficiency_head_decided net earlier false g (suc (suc k)) n = tt
+
+deficiency_rows_decided : (net : Net) (earlier : Earlier) (s : Shapes) (t : Bool) (g : Gap) (place : ℕ) (n : List ℤ) (rs : List Record) → AllDecided (deficiency_rows net earlier (if t then Unknown g else verdict_by Q6 place n rs) (if t then Nothing else proof_by Q6 s place n rs))
+deficiency_rows_decided net earlier s true g place n rs = tt
+deficiency_rows_decided net earlier s false g zero n rs = tt
+deficiency_rows_decided net earlier s false g (suc zero) n rs = class_ranks_decided net earlier 1 1 (class_proofs s.class_complexes s.class_members (later_numbers n) rs)
+deficiency_rows_decided net earlier s false g (suc (suc k)) n rs = tt
+
+deficiencies_decided : IsDecidedFor meaning Q6
+deficiencies_decided = record {
+  head = λ known h. deficiency_head_decided known.net known.earlier (is_open h) (gap_of h) (place_of (heads Q6 (sizes_of known)) h.words) h.numbers;
+  rows = λ known h rs. deficiency_rows_decided known.net known.earlier (shapes_of known) (is_open h) (gap_of h) (place_of (heads Q6 (sizes_of known)) h.words) h.numbers rs;
+  trees = λ known h. tt;
+}
+
+-- ---- positive vectors
+
+dependence_rows_decided : (net : Net) (t : Bool) (g : Gap) (place : ℕ) (n : List ℤ) (rs : List Record) → AllDecided (dependence_rows net (if t then Unknown g else verdict_by Q7 place n rs))
+dependence_rows_decided net true g place n rs = tt
+dependence_rows_decided net false g zero n rs = tt
+dependence_rows_decided net false g (suc zero) n rs = (dependence_decided net (ints (row rs 0)).list, tt)
+dependence_rows_decided net false g (suc (suc zero)) n rs = (no_dependence_decided net (ints (row rs 0)).list, tt)
+dependence_rows_decided net false g (suc (suc (suc k))) n rs = tt
+
+positive_decided : IsDecidedFor meaning Q7
+positive_decided = record {
+  head = λ known h. tt;
+  rows = λ known h rs. dependence_rows_decided known.net (is_open h) (gap_of h) (place_of (heads Q7 (sizes_of known)) h.words) h.numbers rs;
+  trees = λ known h. tt;
+}
+
+conservation_rows_decided : (net : Net) (t : Bool) (g : Gap) (place : ℕ) (n : List ℤ) (rs : List Record) → AllDecided (conservation_rows net (if t then Unknown g else verdict_by Q8 place n rs))
+conservation_rows_decided net true g place n rs = tt
+conservation_rows_decided net false g zero n rs = tt
+conservation_rows_decided net false g (suc zero) n rs = (law_decided net (ints (row rs 0)).list, tt)
+conservation_rows_decided net false g (suc (suc zero)) n rs = (no_law_decided net (ints (row rs 0)).list, tt)
+conservation_rows_decided net false g (suc (suc (suc k))) n rs = tt
+
+conservative_decided : IsDecidedFor meaning Q8
+conservative_decided = record {
+  head = λ known h. tt;
+  rows = λ known h rs. conservation_rows_decided known.net (is_open h) (gap_of h) (place_of (heads Q8 (sizes_of known)) h.words) h.numbers rs;
+  trees = λ known h. tt;
+}
+
 pub meaning_decided : IsDecidedMeaning meaning built
-meaning_decided = (linkage_decided, (strong_decided, (reversible_decided, (weak_decided, tt))))
+meaning_decided = (linkage_decided, (strong_decided, (reversible_decided, (weak_decided, (ranks_decided, (deficiencies_decided, (positive_decided, (conservative_decided, tt))))))))

@@ -1,28 +1,47 @@
 -- The forms of the built questions are bounded.
-use Rattle.std.proofs.Common.{◌≡◌, ◌≤◌, ◌-◌, ◌++◌, ◌∙◌, ℕ, zero, suc, Bool, true, false, List, [], ◌∷◌, length, refl, sym, ap, subst, inl, inr, arith}
-use Rattle.std.specs.Prelude.{ℤ, pos, negsuc, codes}
+use Rattle.std.proofs.Common.{◌≡◌, ◌==◌, ◌≤◌, ◌+◌, ◌-◌, ◌++◌, ◌∙◌, ℕ, zero, suc, Bool, true, false, cond, if◌then◌else◌, List, [], ◌∷◌, length, map, refl, sym, ap, subst, inl, inr, arith}
+use Rattle.std.specs.Prelude.{ℤ, pos, negsuc, nat_abs, not, min, codes, replicate, slice_index, slice_index_or}
+use Rattle.std.proofs.Math.Nat.{min-le_right}
+use Rattle.std.proofs.lemmas.Bool.{cases_Bool}
 use Rattle.std.proofs.lemmas.Int.{ints}
-use Rattle.std.specs.List.{AllByRecursion}
+use Rattle.std.proofs.lemmas.List.{length-append, length-map}
+use Rattle.std.proofs.lemmas.List.Filters.{length-filter_both}
+use Rattle.std.proofs.lemmas.List.FromFn.{length-range_with_len}
+use Rattle.std.specs.List.{AllByRecursion, AllZip, filter, range_with_len}
 use Rattle.crn_vec.specs.Network.{Net, IsNetwork}
-use Rattle.crn_vec.specs.declared.limits.TheConstants.{MAX_COMPLEXES, MAX_REACTIONS}
-use Rattle.crn_cert.specs.Questions.{Question, Q1, Q2, Q3, Q4}
+use Rattle.crn_vec.specs.Deficiency.{class_members}
+use Rattle.crn_vec.specs.declared.limits.TheConstants.{MAX_SPECIES, MAX_COMPLEXES, MAX_REACTIONS}
+use Rattle.crn_cert.specs.declared.answer.Gap.{Gap}
+use Rattle.crn_cert.specs.declared.answer.Verdict.{Verdict}
+use Rattle.crn_cert.specs.declared.answer.Verdict.TheVariants.{NotApplicable, Unknown}
+use Rattle.crn_cert.specs.Questions.{Earlier, Question, Q1, Q2, Q3, Q4, Q5, Q6, Q7, Q8, number, on, count_of, labels_of}
+use Rattle.crn_cert.specs.Valid.{linkage, linkage_count, class_places}
 use Rattle.crn_ctext.specs.Records.{Record, Form, CountAndPart, AreBetween, Fits}
-use Rattle.crn_ctext.specs.Questions.{heads, rows, head, yes, no, first_number}
-use Rattle.crn_ctext.specs.Kinds.{small, small_form}
+use Rattle.crn_ctext.specs.Questions.{heads, rows, head, yes, no, wide, open_by, classes, rank_forms, class_forms, class_rank, first_number, later_numbers}
+use Rattle.crn_ctext.specs.Kinds.{small, small_form, free_form}
 use Rattle.crn_ctext.specs.Blocks.{place_of, is_open, unless}
 use Rattle.crn_ctext.specs.Documents.{IsOneOf}
-use Rattle.crn_ctext.specs.Meaning.{Known, shapes_of, sizes_of, meaning}
+use Rattle.crn_ctext.specs.Meaning.{Known, lengths, reactions_by_class, complexes_by_class, shapes_of, sizes_of, gap_of, verdict_by, verdict_of, meaning}
 use Rattle.crn_cert.specs.Built.{built}
 use Rattle.crn_ctext.proofs.Bounded.{IsSlim, IsBounded, words_fit}
 use Rattle.crn_ctext.proofs.ShortAnswers.{IsShortFor, AreFewProblems}
 
--- complexes and reactions are as few as a network's
+-- no more linkage classes, and labels of complexes, than a network has complexes
+abbrev pub AreFewClasses : Verdict → Type 0
+AreFewClasses v = (count_of v ≤ MAX_COMPLEXES) × (length (labels_of v) ≤ MAX_COMPLEXES)
+
+-- species, complexes and reactions are as few as a network's, and so are linkage classes and their labels
 pub record IsSmall (known : Known) : Type 0 where
+  pub species : length known.net.names ≤ MAX_SPECIES
   pub complexes : length known.net.complexes ≤ MAX_COMPLEXES
   pub reactions : length known.net.reactions ≤ MAX_REACTIONS
+  pub classes : linkage_count known.earlier ≤ MAX_COMPLEXES
+  pub labels : length (linkage known.earlier) ≤ MAX_COMPLEXES
 
 pub networks_are_small : (net : Net) → IsNetwork net → IsSmall (record { net = net; earlier = [] })
-networks_are_small net n = let h = n.partial in record { complexes = h.complexes_limit; reactions = h.reactions_limit }
+networks_are_small net n = let h = n.partial in record { species = h.species_limit; complexes = h.complexes_limit; reactions = h.reactions_limit; classes = omega arith; labels = omega arith }
+
+-- ---- numbers
 
 zero_short : IsSlim (pos 0)
 zero_short = omega arith
@@ -64,6 +83,90 @@ strong_first known h (form, inl e, fits) = by (subst (λ (f : Form). Fits f h) e
         let p = f.1 in
         let t = p.3.0 in
         subst (λ (zs : List ℤ). first_number zs ≤ length known.net.complexes) (sym (p.2 ∙ ap (λ (zs : List ℤ). zs ++ p.1) t.2)) t.5
+
+-- the first number of a head that is open by system 1, or that says a rank
+pub rank_first : (known : Known) (h : Record) → IsSmall known → IsOneOf (heads Q5 (sizes_of known)) h → first_number h.numbers ≤ 240
+rank_first known h s (form, inl e, fits) = by (subst (λ (f : Form). Fits f h) e fits)
+  where
+    most : ℕ
+    most = min (length known.net.names) (length known.net.reactions)
+
+    by : Fits (head (codes "q5") 1 [] (small 1 1 (min (length known.net.names) (length known.net.reactions)) ∷ [])) h → first_number h.numbers ≤ 240
+    by f =
+        let p = f.1 in
+        let c = s.reactions in
+        let all : first_number h.numbers ≤ most = subst (λ (zs : List ℤ). first_number zs ≤ most) (sym p.2) (first_between most p.0 p.1 p.3.0.0 p.3.0.1) in
+        omega (arith, all, c, min-le_right (length known.net.names) (length known.net.reactions))
+rank_first known h s (form, inr (inl e), fits) = by (subst (λ (f : Form). Fits f h) e fits)
+  where
+    by : Fits (wide (codes "q5") 2 1 (length known.net.names) (length known.net.reactions)) h → first_number h.numbers ≤ 240
+    by f =
+        let p = f.1 in
+        let one : first_number h.numbers ≤ 1 = subst (λ (zs : List ℤ). first_number zs ≤ 1) (sym p.2) (first_between 1 p.0 p.1 p.3.0.0 p.3.0.1) in
+        omega (arith, one)
+rank_first known h s (form, inr (inr none), fits) = absurd none
+
+-- ---- linkage classes that are known
+
+-- the lists of the classes' reactions, and how many complexes each class has
+abbrev pub class_lists : Known → List (List ℕ)
+class_lists known = reactions_by_class known
+
+abbrev pub class_sizes : Known → List ℕ
+class_sizes known = lengths (complexes_by_class known)
+
+-- no more numbers than there are reactions, each of them short
+abbrev pub IsMemberList : List ℕ → Type 0
+IsMemberList members = (length members ≤ 240) × AllByRecursion (λ n. IsSlim (pos n)) members
+
+each_class : (P : List ℕ → Type 0) (f : ℕ → List ℕ) → ((k : ℕ) → P (f k)) → (a n : ℕ) → AllByRecursion P (map f (range_with_len a n))
+each_class P f p a zero = tt
+each_class P f p a (suc n) = (p a, each_class P f p (a + 1) n)
+
+each_length : (P : ℕ → Type 0) (lists : List (List ℕ)) → AllByRecursion (λ list. P (length list)) lists → AllByRecursion P (lengths lists)
+each_length P [] a = tt
+each_length P (list ∷ lists) a = (a.0, each_length P lists a.1)
+
+filter_few : (p : ℕ → Bool) (xs : List ℕ) → length (filter p xs) ≤ length xs
+filter_few p xs = omega (arith, length-filter_both p (λ (x : ℕ). not (p x)) (λ x. refl) xs)
+
+kept_all : (P : ℕ → Type 0) (p : ℕ → Bool) (xs : List ℕ) → AllByRecursion P xs → AllByRecursion P (filter p xs)
+kept_all P p [] a = tt
+kept_all P p (x ∷ xs) a = by (p x) (kept_all P p xs a.1)
+  where
+    by : (t : Bool) → AllByRecursion P (filter p xs) → AllByRecursion P (cond t (x ∷ filter p xs) (filter p xs))
+    by true more = (a.0, more)
+    by false more = more
+
+range_slim : (a n : ℕ) → a + n ≤ 1000 → AllByRecursion (λ k. IsSlim (pos k)) (range_with_len a n)
+range_slim a zero h = tt
+range_slim a (suc n) h = (few_short a 1000 (omega (arith, h)) (omega arith), range_slim (a + 1) n (omega (arith, h)))
+
+all_members : (known : Known) → IsSmall known → IsMemberList (range_with_len 1 (length known.net.reactions))
+all_members known s = let c = s.reactions in (omega (arith, c, length-range_with_len 1 (length known.net.reactions)), range_slim 1 (length known.net.reactions) (omega (arith, c)))
+
+class_members_few : (known : Known) → IsSmall known → (k : ℕ) → IsMemberList (class_places known.net known.earlier k)
+class_members_few known s k =
+    let all = all_members known s in
+    let few = filter_few (λ (r : ℕ). slice_index (linkage known.earlier) (slice_index_or known.net.reactions (r - 1) (0, 0)).0 == k) (range_with_len 1 (length known.net.reactions)) in
+    (omega (arith, all.0, few), kept_all (λ n. IsSlim (pos n)) (λ (r : ℕ). slice_index (linkage known.earlier) (slice_index_or known.net.reactions (r - 1) (0, 0)).0 == k) (range_with_len 1 (length known.net.reactions)) all.1)
+
+pub lists_small : (known : Known) → IsSmall known → AllByRecursion IsMemberList (class_lists known)
+lists_small known s = each_class IsMemberList (λ k. class_places known.net known.earlier k) (class_members_few known s) 1 (linkage_count known.earlier)
+
+pub sizes_small : (known : Known) → IsSmall known → AllByRecursion (λ c. c ≤ 160) (class_sizes known)
+sizes_small known s =
+    let c = s.labels in
+    each_length (λ c. c ≤ 160) (complexes_by_class known) (each_class (λ list. length list ≤ 160) (λ k. class_members (linkage known.earlier) k) (λ k. omega (arith, c, filter_few (λ (l : ℕ). l == k) (linkage known.earlier))) 1 (linkage_count known.earlier))
+
+-- there is one of each for each class
+pub sizes_counted : (known : Known) → length (class_sizes known) ≡ linkage_count known.earlier
+sizes_counted known = length-map (complexes_by_class known) (λ (list : List ℕ). length list) ∙ length-map (range_with_len 1 (linkage_count known.earlier)) (λ k. class_members (linkage known.earlier) k) ∙ length-range_with_len 1 (linkage_count known.earlier)
+
+pub lists_counted : (known : Known) → classes (sizes_of known) ≡ linkage_count known.earlier
+lists_counted known = length-map (reactions_by_class known) (λ (list : List ℕ). length list) ∙ length-map (range_with_len 1 (linkage_count known.earlier)) (λ k. class_places known.net known.earlier k) ∙ length-range_with_len 1 (linkage_count known.earlier)
+
+-- ---- forms
 
 -- a form of so many small numbers
 small_bounded : (word : List ℕ) (count least greatest : ℕ) → words_fit (word ∷ []) ≡ true → count ≤ 400 → IsSlim (pos least) → IsSlim (pos greatest) → IsBounded (small_form word count least greatest)
@@ -117,6 +220,60 @@ reversible_rows known zero n s = tt
 reversible_rows known (suc zero) n s = (small_bounded (codes "back") (length known.net.reactions) 1 (length known.net.reactions) refl (reactions_few known s) one_short (reactions_short known s), tt)
 reversible_rows known (suc (suc k)) n s = tt
 
+-- a form of so many free numbers
+free_bounded : (word : List ℕ) (count : ℕ) → words_fit (word ∷ []) ≡ true → count ≤ 400 → IsBounded (free_form word count)
+free_bounded word count w few = record { words = w; few = omega (arith, few); fields = (tt, tt) }
+
+each_again : (n : ℕ) (form : Form) → IsBounded form → AllByRecursion IsBounded (replicate n form)
+each_again zero form b = tt
+each_again (suc n) form b = (b, each_again n form b)
+
+all_bounded : (xs ys : List Form) → AllByRecursion IsBounded xs → AllByRecursion IsBounded ys → AllByRecursion IsBounded (xs ++ ys)
+all_bounded [] ys a b = b
+all_bounded (x ∷ xs) ys a b = (a.0, all_bounded xs ys a.1 b)
+
+rank_bounded : (known : Known) → IsSmall known → (rank : ℕ) (members : List ℕ) → rank ≤ 240 → IsMemberList members → AllByRecursion IsBounded (rank_forms (sizes_of known) rank members)
+rank_bounded known s rank members a b =
+    let c = s.species in
+    let duals = replicate rank (free_form (codes "dual") (length known.net.names)) in
+    let combs = replicate (length members - rank) (free_form (codes "comb") (1 + rank)) in (
+      record { words = refl; few = omega (arith, a); fields = (b.1, tt) },
+      all_bounded duals combs (each_again rank (free_form (codes "dual") (length known.net.names)) (free_bounded (codes "dual") (length known.net.names) refl (omega (arith, c))))
+          (each_again (length members - rank) (free_form (codes "comb") (1 + rank)) (free_bounded (codes "comb") (1 + rank) refl (omega (arith, a)))),
+    )
+
+rank_rows : (known : Known) (place : ℕ) (n : List ℤ) → IsSmall known → first_number n ≤ 240 → AllByRecursion IsBounded (rows Q5 (shapes_of known) place n)
+rank_rows known zero n s a = tt
+rank_rows known (suc zero) n s a = rank_bounded known s (first_number n) (range_with_len 1 (length known.net.reactions)) a (all_members known s)
+rank_rows known (suc (suc k)) n s a = tt
+
+classes_bounded : (known : Known) → IsSmall known → (cs : List ℕ) (ms : List (List ℕ)) (ds : List ℤ) → AllByRecursion (λ c. c ≤ 160) cs → AllByRecursion IsMemberList ms → AllByRecursion IsBounded (class_forms (sizes_of known) cs ms ds)
+classes_bounded known s [] ms ds a b = tt
+classes_bounded known s (c ∷ cs) [] ds a b = tt
+classes_bounded known s (c ∷ cs) (m ∷ ms) [] a b = tt
+classes_bounded known s (c ∷ cs) (m ∷ ms) (d ∷ ds) a b =
+    all_bounded (rank_forms (sizes_of known) (class_rank c d) m) (class_forms (sizes_of known) cs ms ds) (rank_bounded known s (class_rank c d) m (omega (arith, a.0)) b.0) (classes_bounded known s cs ms ds a.1 b.1)
+
+deficiency_rows : (known : Known) (place : ℕ) (n : List ℤ) → IsSmall known → AllByRecursion IsBounded (rows Q6 (shapes_of known) place n)
+deficiency_rows known zero n s = tt
+deficiency_rows known (suc zero) n s = classes_bounded known s (class_sizes known) (class_lists known) (later_numbers n) (sizes_small known s) (lists_small known s)
+deficiency_rows known (suc (suc k)) n s = tt
+
+species_few : (known : Known) → IsSmall known → length known.net.names ≤ 400
+species_few known s = let c = s.species in omega (arith, c)
+
+dependence_rows : (known : Known) (place : ℕ) (n : List ℤ) → IsSmall known → AllByRecursion IsBounded (rows Q7 (shapes_of known) place n)
+dependence_rows known zero n s = tt
+dependence_rows known (suc zero) n s = (free_bounded (codes "vec") (length known.net.reactions) refl (reactions_few known s), tt)
+dependence_rows known (suc (suc zero)) n s = (free_bounded (codes "cut") (length known.net.names) refl (species_few known s), tt)
+dependence_rows known (suc (suc (suc k))) n s = tt
+
+conservation_rows : (known : Known) (place : ℕ) (n : List ℤ) → IsSmall known → AllByRecursion IsBounded (rows Q8 (shapes_of known) place n)
+conservation_rows known zero n s = tt
+conservation_rows known (suc zero) n s = (free_bounded (codes "vec") (length known.net.names) refl (species_few known s), tt)
+conservation_rows known (suc (suc zero)) n s = (free_bounded (codes "cut") (length known.net.reactions) refl (reactions_few known s), tt)
+conservation_rows known (suc (suc (suc k))) n s = tt
+
 none_few : (t : Bool) → AreFewProblems (unless t [])
 none_few true = tt
 none_few false = tt
@@ -128,15 +285,50 @@ plain_head place word words w = record { words = w; few = omega arith; fields = 
 number_head : (place : ℕ) (word : List ℕ) (words : List (List ℕ)) (most : ℕ) → words_fit (word ∷ words) ≡ true → IsSlim (pos most) → IsBounded (head word place words (small 1 1 most ∷ []))
 number_head place word words most w a = record { words = w; few = omega arith; fields = ((one_short, a), tt) }
 
-same_net : (q : Question) (known : Known) (h : Record) (rs : List Record) → IsSmall known → IsSmall (meaning.learn q known h rs)
-same_net q known h rs s = record { complexes = s.complexes; reactions = s.reactions }
+-- an open head by a system with so many columns and rows
+wide_head : (word : List ℕ) (place system columns rows : ℕ) → words_fit (word ∷ open_by (codes "wide")) ≡ true → system ≤ 5 → columns ≤ 240 → rows ≤ 240 → IsBounded (wide word place system columns rows)
+wide_head word place system columns rows w a b c =
+    let some = few_short system 1000 (omega (arith, a)) (omega arith) in
+    let all = few_short (columns + rows) 1000 (omega (arith, b, c)) (omega arith) in
+    record { words = w; few = omega (arith, b); fields = ((some, some), ((zero_short, zero_short), ((one_short, all), (all, tt)))) }
+
+-- ---- what is known after a block
+
+-- the verdict on the linkage classes is the first one
+on_more : (P : Verdict → Type 0) (earlier : Earlier) (q : Question) (v : Verdict) → P (on earlier Q1) → P (if number q == 1 then v else NotApplicable) → P (on (earlier ++ (q, v) ∷ []) Q1)
+on_more P [] q v p r = r
+on_more P (e ∷ es) q v p r = elim (cases_Bool (number e.0 == 1)) [
+  | inl here ↦ subst (λ (t : Bool). P (if t then e.1 else on (es ++ (q, v) ∷ []) Q1)) (sym here) (subst (λ (t : Bool). P (if t then e.1 else on es Q1)) here p)
+  | inr later ↦ subst (λ (t : Bool). P (if t then e.1 else on (es ++ (q, v) ∷ []) Q1)) (sym later) (on_more P es q v (subst (λ (t : Bool). P (if t then e.1 else on es Q1)) later p) r)
+]
+
+same_net : (q : Question) (known : Known) (h : Record) (rs : List Record) → IsSmall known → AreFewClasses (if number q == 1 then verdict_of q (sizes_of known) h rs else NotApplicable) → IsSmall (meaning.learn q known h rs)
+same_net q known h rs s r =
+    let few = on_more AreFewClasses known.earlier q (verdict_of q (sizes_of known) h rs) (s.classes, s.labels) r in
+    record { species = s.species; complexes = s.complexes; reactions = s.reactions; classes = few.0; labels = few.1 }
+
+no_classes : AreFewClasses NotApplicable
+no_classes = (omega arith, omega arith)
+
+linkage_learned : (known : Known) (t : Bool) (g : Gap) (place : ℕ) (n : List ℤ) (rs : List Record) → IsSmall known → first_number n ≤ length known.net.complexes → AllZip Fits (rows Q1 (shapes_of known) place n) rs → AreFewClasses (if t then Unknown g else verdict_by Q1 place n rs)
+linkage_learned known true g place n rs s a z = no_classes
+linkage_learned known false g zero n rs s a z = no_classes
+linkage_learned known false g (suc zero) n [] s a z = absurd z
+linkage_learned known false g (suc zero) n (r ∷ rs) s a z =
+    let c = s.complexes in
+    let f = z.0.1 in
+    let all : length r.numbers ≡ length (f.0 ++ f.1) = ap length f.2 in
+    let none : length f.1 ≡ 0 = ap length f.4 in
+    let labels : length (map nat_abs r.numbers) ≡ length r.numbers = length-map r.numbers nat_abs in
+    (omega (arith, a, c), omega (arith, c, all, none, labels, length-append f.0 f.1, f.3.0.0))
+linkage_learned known false g (suc (suc k)) n rs s a z = no_classes
 
 linkage_short : IsShortFor meaning IsSmall Q1
 linkage_short = record {
   head_forms = λ known s. (number_head 1 (codes "q1") [] (length known.net.complexes) refl (complexes_short known s), tt);
   row_forms = λ known h s o. linkage_rows known (place_of (heads Q1 (sizes_of known)) h.words) h.numbers s (linkage_first known h o);
   trees = λ known h s. none_few (is_open h);
-  learn = λ known h rs s. same_net Q1 known h rs s;
+  learn = λ known h rs s o z. same_net Q1 known h rs s (linkage_learned known (is_open h) (gap_of h) (place_of (heads Q1 (sizes_of known)) h.words) h.numbers rs s (linkage_first known h o) z);
 }
 
 strong_short : IsShortFor meaning IsSmall Q2
@@ -144,7 +336,7 @@ strong_short = record {
   head_forms = λ known s. (record { words = refl; few = omega arith; fields = (complexes_short known s, tt) }, tt);
   row_forms = λ known h s o. strong_rows known (place_of (heads Q2 (sizes_of known)) h.words) h.numbers s (strong_first known h o);
   trees = λ known h s. none_few (is_open h);
-  learn = λ known h rs s. same_net Q2 known h rs s;
+  learn = λ known h rs s o z. same_net Q2 known h rs s no_classes;
 }
 
 reversible_short : IsShortFor meaning IsSmall Q3
@@ -152,7 +344,7 @@ reversible_short = record {
   head_forms = λ known s. (plain_head 1 (codes "q3") yes refl, (number_head 2 (codes "q3") no (length known.net.reactions) refl (reactions_short known s), tt));
   row_forms = λ known h s o. reversible_rows known (place_of (heads Q3 (sizes_of known)) h.words) h.numbers s;
   trees = λ known h s. none_few (is_open h);
-  learn = λ known h rs s. same_net Q3 known h rs s;
+  learn = λ known h rs s o z. same_net Q3 known h rs s no_classes;
 }
 
 weak_short : IsShortFor meaning IsSmall Q4
@@ -160,8 +352,72 @@ weak_short = record {
   head_forms = λ known s. (plain_head 1 (codes "q4") yes refl, (number_head 2 (codes "q4") no (length known.net.reactions) refl (reactions_short known s), tt));
   row_forms = λ known h s o. tt;
   trees = λ known h s. none_few (is_open h);
-  learn = λ known h rs s. same_net Q4 known h rs s;
+  learn = λ known h rs s o z. same_net Q4 known h rs s no_classes;
+}
+
+rank_short : IsShortFor meaning IsSmall Q5
+rank_short = record {
+  head_forms = λ known s. (
+      let a = s.species in
+      let c = s.reactions in
+      let m = length known.net.names in
+      let n = length known.net.reactions in
+      (number_head 1 (codes "q5") [] (min m n) refl (few_short (min m n) 1000 (omega (arith, c, min-le_right m n)) (omega arith)), (wide_head (codes "q5") 2 1 m n refl (omega arith) (omega (arith, a)) (omega (arith, c)), tt))
+      );
+  row_forms = λ known h s o. rank_rows known (place_of (heads Q5 (sizes_of known)) h.words) h.numbers s (rank_first known h s o);
+  trees = λ known h s. none_few (is_open h);
+  learn = λ known h rs s o z. same_net Q5 known h rs s no_classes;
+}
+
+deficiency_heads : (known : Known) → IsSmall known → AllByRecursion IsBounded (heads Q6 (sizes_of known))
+deficiency_heads known s =
+    let a = s.species in
+    let c = s.classes in
+    let m = length known.net.names in
+    let count = lists_counted known in
+    let each = each_length (λ r. IsSlim (pos (m + r))) (class_lists known) (every (class_lists known) (lists_small known s)) in (
+      record { words = refl; few = omega (arith, c, count); fields = ((zero_short, complexes_short known s), tt) },
+      (
+        record { words = refl; few = omega (arith, a); fields = ((few_short 3 1000 (omega arith) (omega arith), few_short 3 1000 (omega arith) (omega arith)), ((each, few_short (classes (sizes_of known)) 1000 (omega (arith, c, count)) (omega arith)), tt)) },
+        (record { words = refl; few = omega arith; fields = ((few_short 5 1000 (omega arith) (omega arith), few_short 5 1000 (omega arith) (omega arith)), tt) }, tt),
+      ),
+    )
+  where
+    every : (lists : List (List ℕ)) → AllByRecursion IsMemberList lists → AllByRecursion (λ list. IsSlim (pos (length known.net.names + length list))) lists
+    every [] b = tt
+    every (list ∷ lists) b = (let a = s.species in few_short (length known.net.names + length list) 1000 (omega (arith, a, b.0.0)) (omega arith), every lists b.1)
+
+deficiency_short : IsShortFor meaning IsSmall Q6
+deficiency_short = record {
+  head_forms = deficiency_heads;
+  row_forms = λ known h s o. deficiency_rows known (place_of (heads Q6 (sizes_of known)) h.words) h.numbers s;
+  trees = λ known h s. none_few (is_open h);
+  learn = λ known h rs s o z. same_net Q6 known h rs s no_classes;
+}
+
+dependence_short : IsShortFor meaning IsSmall Q7
+dependence_short = record {
+  head_forms = λ known s. (
+      let a = s.species in
+      let c = s.reactions in
+      (plain_head 1 (codes "q7") yes refl, (plain_head 2 (codes "q7") no refl, (wide_head (codes "q7") 3 2 (length known.net.reactions) (length known.net.names) refl (omega arith) (omega (arith, c)) (omega (arith, a)), tt)))
+      );
+  row_forms = λ known h s o. dependence_rows known (place_of (heads Q7 (sizes_of known)) h.words) h.numbers s;
+  trees = λ known h s. none_few (is_open h);
+  learn = λ known h rs s o z. same_net Q7 known h rs s no_classes;
+}
+
+conservation_short : IsShortFor meaning IsSmall Q8
+conservation_short = record {
+  head_forms = λ known s. (
+      let a = s.species in
+      let c = s.reactions in
+      (plain_head 1 (codes "q8") yes refl, (plain_head 2 (codes "q8") no refl, (wide_head (codes "q8") 3 1 (length known.net.names) (length known.net.reactions) refl (omega arith) (omega (arith, a)) (omega (arith, c)), tt)))
+      );
+  row_forms = λ known h s o. conservation_rows known (place_of (heads Q8 (sizes_of known)) h.words) h.numbers s;
+  trees = λ known h s. none_few (is_open h);
+  learn = λ known h rs s o z. same_net Q8 known h rs s no_classes;
 }
 
 pub meaning_short : AllByRecursion (IsShortFor meaning IsSmall) built
-meaning_short = (linkage_short, (strong_short, (reversible_short, (weak_short, tt))))
+meaning_short = (linkage_short, (strong_short, (reversible_short, (weak_short, (rank_short, (deficiency_short, (dependence_short, (conservation_short, tt))))))))

@@ -1,40 +1,37 @@
 -- Formed records of the built questions are the records of formed answers.
-use Rattle.std.proofs.Common.{◌≡◌, ◌≤◌, ◌-◌, ◌++◌, ◌∙◌, ℕ, List, [], ◌∷◌, length, map, refl, sym, ap, ap₂, subst, inl, inr, arith}
-use Rattle.std.specs.Prelude.{ℤ, pos, negsuc, codes}
-use Rattle.std.specs.List.{AllByRecursion, AllZip}
-use Rattle.std.proofs.lemmas.Int.{ints}
+use Rattle.std.proofs.Common.{◌≡◌, ◌≤◌, ◌<◌, ◌+◌, ◌-◌, ◌++◌, ◌∙◌, ℕ, suc, List, [], ◌∷◌, length, map, refl, sym, ap, ap₂, subst, inl, inr, arith}
+use Rattle.std.specs.Prelude.{ℤ, pos, min, codes, slice_index}
+use Rattle.std.specs.List.{AllByRecursion, AllZip, flat_map, range_with_len}
 use Rattle.std.proofs.lemmas.List.{append-nil, length-map}
-use Rattle.crn_vec.specs.Kept.{KeptNums}
+use Rattle.crn_vec.specs.Kept.{KeptInts, KeptNums}
 use Rattle.crn_vec.specs.Network.{Net}
 use Rattle.crn_vec.specs.declared.signs.Sign.{Sign}
+use Rattle.crn_cert.specs.declared.answer.Gap.TheVariants.{Wide, Rests}
 use Rattle.crn_cert.specs.declared.answer.Verdict.{Verdict}
-use Rattle.crn_cert.specs.declared.answer.Verdict.TheVariants.{Classes, Strong, Yes, NoReaction}
+use Rattle.crn_cert.specs.declared.answer.Verdict.TheVariants.{Classes, Strong, Rank, Deficiency, Yes, YesVec, NoReaction, NoVec, Unknown}
 use Rattle.crn_cert.specs.declared.answer.Proof.{Proof}
-use Rattle.crn_cert.specs.declared.answer.Proof.TheVariants.{Nothing, Forest, Strong as StrongTrees, Back}
+use Rattle.crn_cert.specs.declared.answer.Proof.TheVariants.{Nothing, Forest, Strong as StrongTrees, Back, Rank as RankRows, Ranks}
 use Rattle.crn_cert.specs.declared.answer.Answer.{Answer}
-use Rattle.crn_cert.specs.Questions.{Earlier, Question, Q1, Q2, Q3, Q4}
-use Rattle.crn_cert.specs.Formed.{IsFormedOf, AreFormed}
-use Rattle.crn_cert.specs.Ranges.{AreFrom}
-use Rattle.crn_ctext.specs.Records.{Record, Form, CountAndPart, Takes, AreNarrow, AreOf, AreBetween, Fits}
-use Rattle.crn_ctext.specs.Kinds.{small, small_form}
-use Rattle.crn_ctext.specs.Questions.{heads, head, yes, no}
+use Rattle.crn_cert.specs.Questions.{Earlier, Question, Q1, Q2, Q3, Q4, Q5, Q6, Q7, Q8}
+use Rattle.crn_cert.specs.Formed.{IsBasisOf, IsFormedOf, AreFormed}
+use Rattle.crn_cert.specs.Ranges.{AreFrom, AreFree}
+use Rattle.crn_cert.specs.Valid.{linkage_count, class_places}
+use Rattle.crn_ctext.specs.Records.{Record, Form, CountAndPart, ClassWide, Takes, AreNarrow, AreOf, Fits}
+use Rattle.crn_ctext.specs.Kinds.{small, just, small_form, free_form}
+use Rattle.crn_ctext.specs.Questions.{heads, head, yes, no, wide, rests, open_by, classes, class_forms}
 use Rattle.crn_ctext.specs.Blocks.{Problem, problems, below}
-use Rattle.crn_ctext.specs.Documents.{Parts, IsFormed, AreTrees, IsOneOf, leaf_forms}
+use Rattle.crn_ctext.specs.Documents.{one_word, AreTrees, IsOneOf, leaf_forms}
 use Rattle.crn_ctext.specs.Documents as documents
-use Rattle.crn_ctext.specs.Answers.{small_record, head_with, head_of, records_below, proof_nodes, records, all_records}
-use Rattle.crn_ctext.specs.Meaning.{Known, shapes_of, sizes_of, verdict_of, learn_of, verdicts_said, meaning}
+use Rattle.crn_ctext.specs.Answers.{small_record, rank_records, head_with, open_head, head_of, records_below, proof_nodes, records, all_records}
+use Rattle.crn_ctext.specs.Meaning.{Known, lengths, reactions_by_class, shapes_of, sizes_of, verdict_of, learn_of, verdicts_said, meaning}
+use Rattle.crn_ctext.specs.Same.{said}
 use Rattle.crn_cert.specs.Built.{built}
 use Rattle.crn_cert.specs.Answers.{verdicts_of}
-use Rattle.crn_ctext.proofs.AnswersLinked.{back_again}
+use Rattle.crn_ctext.proofs.Alike.{IsAlike, alike_then, labels_alike, counts_alike}
+use Rattle.crn_ctext.proofs.MeaningShort.{lists_counted}
+use Rattle.crn_ctext.proofs.RanksLinked.{back_again, naturals_back, record_is, free_row, proof_with, rank_back, classes_back, places_from, sizes_from, places_at, proofs_alike, basis_alike, FitFields, number_back, rising_back, wide_back}
 
 -- ---- numbers
-
-naturals_back : (least greatest : ℕ) (zs : List ℤ) → AreBetween (pos least) (pos greatest) zs → (xs : List ℕ) × (zs ≡ map pos xs) × AllByRecursion (λ x. (least ≤ x) × (x ≤ greatest)) xs
-naturals_back least greatest [] b = ([], refl, tt)
-naturals_back least greatest (negsuc n ∷ zs) b = absurd (omega (arith, ints, b.0.0))
-naturals_back least greatest (pos n ∷ zs) b =
-    let more = naturals_back least greatest zs b.1 in
-    (n ∷ more.0, ap (λ (t : List ℤ). pos n ∷ t) more.1, ((omega (arith, ints, b.0.0), omega (arith, ints, b.0.1)), more.2))
 
 -- numbers of one field of small numbers
 small_numbers : (count least greatest : ℕ) (zs : List ℤ) → AreOf (λ field zs. Takes field zs × AreNarrow field zs) (small count least greatest ∷ []) zs → (xs : List ℕ) × (zs ≡ map pos xs) × AreFrom count least greatest xs
@@ -52,9 +49,6 @@ one_number least greatest zs p = by (small_numbers 1 least greatest zs p)
     by (n ∷ [], e, f) = (n, e, (let a = f.each in a.0))
     by (n ∷ m ∷ xs, e, f) = absurd (let l = f.long in omega (arith, l))
 
-record_is : (r : Record) (words : List (List ℕ)) (numbers : List ℤ) → r.words ≡ words → r.numbers ≡ numbers → r ≡ record { words = words; numbers = numbers }
-record_is r words numbers w n = ap₂ (λ (ws : List (List ℕ)) (zs : List ℤ). record { words = ws; numbers = zs }) w n
-
 -- ---- rows
 
 -- the first row is of small numbers
@@ -71,9 +65,9 @@ zip_none (r ∷ rows) z = absurd z
 
 -- ---- an answer for each block
 
--- The parts of a block are those of a formed answer, which has no tree and whose verdict is the one that is read of the block.
+-- The parts of a block are those of an answer that is formed after verdicts that say what is known; it has no tree, and its verdict is the one that is read of the block.
 abbrev pub IsAnswered : Known → Question → Record → List Record → List Record → Type 0
-IsAnswered known q head rows nodes = (v : Verdict) × (p : Proof) × ((earlier : Earlier) → IsFormedOf known.net earlier q v p)
+IsAnswered known q head rows nodes = (v : Verdict) × (p : Proof) × ((earlier : Earlier) → IsAlike known earlier → IsFormedOf known.net earlier q v p)
     × (head ≡ head_of q v) × (rows ≡ records_below (shapes_of known) (record { verdict = v; proof = p })) × (nodes ≡ proof_nodes p)
     × (nodes ≡ []) × (verdict_of q (sizes_of known) head rows ≡ v)
 
@@ -111,7 +105,7 @@ linkage_by known n rows nodes range z t =
     let b = linkage_back (length known.net.complexes) (length known.net.reactions) n rows z in (
       Classes n (kept b.0),
       Forest (kept b.1) (kept b.2),
-      (λ earlier. (range, (b.4.0, record { names_are = b.4.1.0; depth_is = b.4.1.1 }))),
+      (λ earlier e. (range, (b.4.0, record { names_are = b.4.1.0; depth_is = b.4.1.1 }))),
       refl,
       b.3,
       t,
@@ -187,7 +181,7 @@ strong_by known n part rows nodes range z t =
     = a.4 ∙ ap (λ (u : List Record). small_record (codes "label") a.0 ∷ small_record (codes "from") a.1 ∷ small_record (codes "fromdepth") a.2 ∷ u) b.4 in (
       Strong n part (kept a.0) (kept b.3),
       StrongTrees (kept a.1) (kept a.2) (kept b.0) (kept b.1) (kept b.2),
-      (λ earlier. (((some, range.2), (range.0, range.1)), (a.5.0, b.5.1.1.1, record { names_are = a.5.1.0; depth_is = a.5.1.1 }, record { names_are = b.5.0; depth_is = b.5.1.0 }, b.5.1.1.0))),
+      (λ earlier e. (((some, range.2), (range.0, range.1)), (a.5.0, b.5.1.1.1, record { names_are = a.5.1.0; depth_is = a.5.1.1 }, record { names_are = b.5.0; depth_is = b.5.1.0 }, b.5.1.1.0))),
       refl,
       all,
       t,
@@ -209,22 +203,177 @@ reversible_answered known h rows nodes (form, inl e, fits) =
     let f : Fits (head (codes "q3") 1 yes []) h = subst (λ (f : Form). Fits f h) e fits in
     at_head known Q3 h (head_with Q3 yes []) rows nodes (record_is h (codes "q3" ∷ yes) [] f.0 f.1) (λ z t.
     let a = small_cons (codes "back") r 1 r [] rows z in
-    (Yes, Back (kept a.0), (λ earlier. (tt, a.3)), refl, a.2 ∙ ap (λ (t : List Record). small_record (codes "back") a.0 ∷ t) (zip_none a.1 a.4), t, t, refl))
+    (Yes, Back (kept a.0), (λ earlier e. (tt, a.3)), refl, a.2 ∙ ap (λ (t : List Record). small_record (codes "back") a.0 ∷ t) (zip_none a.1 a.4), t, t, refl))
 reversible_answered known h rows nodes (form, inr (inl e), fits) =
     let f : Fits (head (codes "q3") 2 no (small 1 1 (length known.net.reactions) ∷ [])) h = subst (λ (f : Form). Fits f h) e fits in
     let n = one_number 1 (length known.net.reactions) h.numbers f.1 in
-    at_head known Q3 h (head_with Q3 no (pos n.0 ∷ [])) rows nodes (record_is h (codes "q3" ∷ no) (pos n.0 ∷ []) f.0 n.1) (λ z t. (NoReaction n.0, Nothing, (λ earlier. (n.2, tt)), refl, zip_none rows z, t, t, refl))
+    at_head known Q3 h (head_with Q3 no (pos n.0 ∷ [])) rows nodes (record_is h (codes "q3" ∷ no) (pos n.0 ∷ []) f.0 n.1) (λ z t. (NoReaction n.0, Nothing, (λ earlier e. (n.2, tt)), refl, zip_none rows z, t, t, refl))
 reversible_answered known h rows nodes (form, inr (inr none), fits) = absurd none
 
 weak_answered : (known : Known) (h : Record) (rows nodes : List Record) → IsOneOf (heads Q4 (sizes_of known)) h → FromParts known Q4 h rows nodes
 weak_answered known h rows nodes (form, inl e, fits) =
     let f : Fits (head (codes "q4") 1 yes []) h = subst (λ (f : Form). Fits f h) e fits in
-    at_head known Q4 h (head_with Q4 yes []) rows nodes (record_is h (codes "q4" ∷ yes) [] f.0 f.1) (λ z t. (Yes, Nothing, (λ earlier. (tt, tt)), refl, zip_none rows z, t, t, refl))
+    at_head known Q4 h (head_with Q4 yes []) rows nodes (record_is h (codes "q4" ∷ yes) [] f.0 f.1) (λ z t. (Yes, Nothing, (λ earlier e. (tt, tt)), refl, zip_none rows z, t, t, refl))
 weak_answered known h rows nodes (form, inr (inl e), fits) =
     let f : Fits (head (codes "q4") 2 no (small 1 1 (length known.net.reactions) ∷ [])) h = subst (λ (f : Form). Fits f h) e fits in
     let n = one_number 1 (length known.net.reactions) h.numbers f.1 in
-    at_head known Q4 h (head_with Q4 no (pos n.0 ∷ [])) rows nodes (record_is h (codes "q4" ∷ no) (pos n.0 ∷ []) f.0 n.1) (λ z t. (NoReaction n.0, Nothing, (λ earlier. (n.2, tt)), refl, zip_none rows z, t, t, refl))
+    at_head known Q4 h (head_with Q4 no (pos n.0 ∷ [])) rows nodes (record_is h (codes "q4" ∷ no) (pos n.0 ∷ []) f.0 n.1) (λ z t. (NoReaction n.0, Nothing, (λ earlier e. (n.2, tt)), refl, zip_none rows z, t, t, refl))
 weak_answered known h rows nodes (form, inr (inr none), fits) = absurd none
+
+-- ---- rank
+
+-- the verdict of a head that is open by a wide vector
+open_by_wide : (known : Known) (q : Question) (system class index : ℕ) (basis : List ℕ) (rows : List Record) → verdict_of q (sizes_of known) (open_head q (Wide system class index (kept basis))) rows ≡ Unknown (Wide system class index (kept basis))
+unfolding kept
+open_by_wide known q system class index basis rows = ap (λ (xs : List ℕ). Unknown (Wide system class index (kept xs))) (back_again basis)
+
+rank_by : (known : Known) (n : ℕ) (rows nodes : List Record) → (1 ≤ n) × (n ≤ min (length known.net.names) (length known.net.reactions)) → FromParts known Q5 (head_with Q5 [] (pos n ∷ [])) rows nodes
+unfolding kept
+rank_by known n rows nodes range z t =
+    let b = rank_back known (range_with_len 1 (length known.net.reactions)) n rows z in
+    let p = proof_with b.0 b.1 b.2 in
+    let all : rows ≡ rank_records p ++ [] = b.3 ∙ sym (append-nil (rank_records p)) in
+    (Rank n (kept b.0), RankRows p, (λ earlier e. (range, (refl, b.4))), refl, all, t, t, ap (λ (rs : List Record). verdict_of Q5 (sizes_of known) (head_with Q5 [] (pos n ∷ [])) rs) b.3 ∙ ap (λ (xs : List ℕ). Rank n (kept xs)) (back_again b.0))
+
+rank_answered : (known : Known) (h : Record) (rows nodes : List Record) → IsOneOf (heads Q5 (sizes_of known)) h → FromParts known Q5 h rows nodes
+unfolding kept
+rank_answered known h rows nodes (form, inl e, fits) =
+    let most = min (length known.net.names) (length known.net.reactions) in
+    let f : Fits (head (codes "q5") 1 [] (small 1 1 most ∷ [])) h = subst (λ (f : Form). Fits f h) e fits in
+    let n = one_number 1 most h.numbers f.1 in
+    at_head known Q5 h (head_with Q5 [] (pos n.0 ∷ [])) rows nodes (record_is h (codes "q5" ∷ []) (pos n.0 ∷ []) f.0 n.1) (rank_by known n.0 rows nodes n.2)
+rank_answered known h rows nodes (form, inr (inl e), fits) =
+    let f : Fits (wide (codes "q5") 2 1 (length known.net.names) (length known.net.reactions)) h = subst (λ (f : Form). Fits f h) e fits in
+    let b = wide_back 1 (length known.net.names) (length known.net.reactions) h.numbers f.1 in
+    at_head known Q5 h (open_head Q5 (Wide 1 0 b.0 (kept b.1))) rows nodes (record_is h (codes "q5" ∷ open_by (codes "wide")) (map pos (1 ∷ 0 ∷ b.0 ∷ b.1)) f.0 b.2) (λ z t.
+    (Unknown (Wide 1 0 b.0 (kept b.1)), Nothing, (λ earlier e. ((refl, refl, b.3), refl)), refl, zip_none rows z, t, t, open_by_wide known Q5 1 0 b.0 b.1 rows))
+rank_answered known h rows nodes (form, inr (inr none), fits) = absurd none
+
+-- ---- deficiency
+
+-- the numbers of the network and of each class
+deficiency_numbers : (count greatest : ℕ) (zs : List ℤ) → AreOf (λ field zs. Takes field zs × AreNarrow field zs) (small (1 + count) 0 greatest ∷ []) zs → (total : ℕ) × (ds : List ℕ) × (zs ≡ map pos (total ∷ ds)) × (total ≤ greatest) × AreFrom count 0 greatest ds
+deficiency_numbers count greatest zs p = by (small_numbers (1 + count) 0 greatest zs p)
+  where
+    by : ((xs : List ℕ) × (zs ≡ map pos xs) × AreFrom (1 + count) 0 greatest xs) → (total : ℕ) × (ds : List ℕ) × (zs ≡ map pos (total ∷ ds)) × (total ≤ greatest) × AreFrom count 0 greatest ds
+    by ([], e, f) = absurd (let l = f.long in omega (arith, l))
+    by (total ∷ ds, e, f) = let l = f.long in let a = f.each in (total, ds, e, a.0.1, record { long = omega (arith, l); each = a.1 })
+
+deficiency_by : (known : Known) (total : ℕ) (ds : List ℕ) (rows nodes : List Record) → total ≤ length known.net.complexes → AreFrom (linkage_count known.earlier) 0 (length known.net.complexes) ds → FromParts known Q6 (head_with Q6 [] (map pos (total ∷ ds))) rows nodes
+unfolding kept
+deficiency_by known total ds rows nodes most each z t =
+    let net = known.net in
+    let long = each.long in
+    let b = classes_back known 1 ds rows (subst (λ (n : ℕ). AllZip Fits (class_forms (sizes_of known) (sizes_from known.earlier 1 n) (places_from net known.earlier 1 n) (map pos ds)) rows) (sym long) z) in (
+      Deficiency total (kept ds),
+      Ranks b.0,
+      (λ earlier e. (((omega arith, most), subst (λ (n : ℕ). AreFrom n 0 (length net.complexes) ds) (counts_alike known.earlier earlier Q1 e) each), proofs_alike net known.earlier earlier (labels_alike known.earlier earlier Q1 e) 1 ds b.0 b.2)),
+      refl,
+      b.1 ∙ sym (append-nil (flat_map rank_records b.0)),
+      t,
+      t,
+      ap (λ (xs : List ℕ). Deficiency total (kept xs)) (back_again ds),
+    )
+
+-- the numbers of a head that is open by the system of a class
+class_wide_numbers : (species : ℕ) (sizes : List ℕ) (zs : List ℤ) → FitFields (just 3 ∷ ClassWide species sizes ∷ []) zs
+    → (k : ℕ) × (index : ℕ) × (basis : List ℕ) × (zs ≡ map pos (3 ∷ suc k ∷ index ∷ basis)) × (k < length sizes) × IsBasisOf species (slice_index sizes k) index basis
+class_wide_numbers species sizes zs f =
+    let a = number_back 3 3 (ClassWide species sizes ∷ []) zs f in
+    let p = a.4 in
+    let c = p.3.0 in
+    let b = rising_back species (species + slice_index sizes c.0) c.2 (c.7, c.8) in
+    let three : pos a.0 ≡ pos 3 = ap pos (omega (arith, a.3.0, a.3.1)) in
+    let rest : a.1 ≡ map pos (suc c.0 ∷ c.1 ∷ b.0) = p.2 ∙ ap (λ (x : List ℤ). p.0 ++ x) p.4 ∙ append-nil p.0 ∙ c.3 ∙ ap (λ (xs : List ℤ). pos (suc c.0) ∷ pos c.1 ∷ xs) b.1 in
+    (c.0, c.1, b.0, a.2 ∙ ap₂ (λ (x : ℤ) (xs : List ℤ). x ∷ xs) three rest, c.4, record { coordinate = (c.5, c.6); members = b.2; ascending = b.3 })
+
+deficiency_wide_by : (known : Known) (k index : ℕ) (basis : List ℕ) (rows nodes : List Record) → k < linkage_count known.earlier → IsBasisOf (length known.net.names) (length (class_places known.net known.earlier (suc k))) index basis
+    → FromParts known Q6 (open_head Q6 (Wide 3 (suc k) index (kept basis))) rows nodes
+unfolding kept
+deficiency_wide_by known k index basis rows nodes lt b z t = (
+  Unknown (Wide 3 (suc k) index (kept basis)),
+  Nothing,
+  (λ earlier e. ((refl, (omega arith, let count = counts_alike known.earlier earlier Q1 e in omega (arith, lt, count)), basis_alike known.net known.earlier earlier (labels_alike known.earlier earlier Q1 e) (suc k) index basis b), refl)),
+  refl,
+  zip_none rows z,
+  t,
+  t,
+  open_by_wide known Q6 3 (suc k) index basis rows,
+)
+
+deficiency_answered : (known : Known) (h : Record) (rows nodes : List Record) → IsOneOf (heads Q6 (sizes_of known)) h → FromParts known Q6 h rows nodes
+unfolding kept
+deficiency_answered known h rows nodes (form, inl e, fits) =
+    let count = classes (sizes_of known) in
+    let f : Fits (head (codes "q6") 1 [] (small (1 + count) 0 (length known.net.complexes) ∷ [])) h = subst (λ (f : Form). Fits f h) e fits in
+    let n = deficiency_numbers count (length known.net.complexes) h.numbers f.1 in
+    at_head known Q6 h (head_with Q6 [] (map pos (n.0 ∷ n.1))) rows nodes (record_is h (codes "q6" ∷ []) (map pos (n.0 ∷ n.1)) f.0 n.2)
+    (deficiency_by known n.0 n.1 rows nodes n.3 (subst (λ (x : ℕ). AreFrom x 0 (length known.net.complexes) n.1) (lists_counted known) n.4))
+deficiency_answered known h rows nodes (form, inr (inl e), fits) =
+    let net = known.net in
+    let sizes = lengths (reactions_by_class known) in
+    let f : Fits (head (codes "q6") 2 (open_by (codes "wide")) (just 3 ∷ ClassWide (length net.names) sizes ∷ [])) h = subst (λ (f : Form). Fits f h) e fits in
+    let b = class_wide_numbers (length net.names) sizes h.numbers f.1 in
+    let lt : b.0 < linkage_count known.earlier = omega (arith, b.4, lists_counted known) in
+    let size : slice_index sizes b.0 ≡ length (class_places net known.earlier (suc b.0)) = places_at net known.earlier 1 (linkage_count known.earlier) b.0 lt ∙ ap (λ (j : ℕ). length (class_places net known.earlier j)) (omega arith) in
+    at_head known Q6 h (open_head Q6 (Wide 3 (suc b.0) b.1 (kept b.2))) rows nodes (record_is h (codes "q6" ∷ open_by (codes "wide")) (map pos (3 ∷ suc b.0 ∷ b.1 ∷ b.2)) f.0 b.3)
+    (deficiency_wide_by known b.0 b.1 b.2 rows nodes lt (subst (λ (n : ℕ). IsBasisOf (length net.names) n b.1 b.2) size b.5))
+deficiency_answered known h rows nodes (form, inr (inr (inl e)), fits) =
+    let f : Fits (rests (codes "q6") 4 5) h = subst (λ (f : Form). Fits f h) e fits in
+    let n = one_number 5 5 h.numbers f.1 in
+    let five : pos n.0 ∷ [] ≡ pos 5 ∷ [] = ap (λ (x : ℕ). pos x ∷ []) (omega (arith, n.2.0, n.2.1)) in
+    at_head known Q6 h (open_head Q6 (Rests 5)) rows nodes (record_is h (codes "q6" ∷ open_by (codes "rests")) (pos 5 ∷ []) f.0 (n.1 ∙ five)) (λ z t. (Unknown (Rests 5), Nothing, (λ earlier e. (refl, refl)), refl, zip_none rows z, t, t, refl))
+deficiency_answered known h rows nodes (form, inr (inr (inr none)), fits) = absurd none
+
+-- ---- positive vectors
+
+kept_ints : List ℤ → KeptInts
+kept_ints zs = record { list = zs; spare = 0 }
+
+-- the one row is of free numbers
+free_alone : (word : List ℕ) (count : ℕ) (rows : List Record) → AllZip Fits (free_form word count ∷ []) rows → (zs : List ℤ) × (rows ≡ one_word word zs ∷ []) × AreFree count zs
+free_alone word count [] z = absurd z
+free_alone word count (r ∷ rows) z =
+    let b = free_row word count r z.0 in
+    (r.numbers, ap₂ (λ (x : Record) (xs : List Record). x ∷ xs) b.0 (zip_none rows z.1), b.1)
+
+dependence_answered : (known : Known) (h : Record) (rows nodes : List Record) → IsOneOf (heads Q7 (sizes_of known)) h → FromParts known Q7 h rows nodes
+unfolding kept kept_ints
+dependence_answered known h rows nodes (form, inl e, fits) =
+    let f : Fits (head (codes "q7") 1 yes []) h = subst (λ (f : Form). Fits f h) e fits in
+    at_head known Q7 h (head_with Q7 yes []) rows nodes (record_is h (codes "q7" ∷ yes) [] f.0 f.1) (λ z t.
+    let a = free_alone (codes "vec") (length known.net.reactions) rows z in
+    (YesVec (kept_ints a.0), Nothing, (λ earlier e. (tt, a.2)), refl, a.1, t, t, ap (λ (rs : List Record). verdict_of Q7 (sizes_of known) (head_with Q7 yes []) rs) a.1))
+dependence_answered known h rows nodes (form, inr (inl e), fits) =
+    let f : Fits (head (codes "q7") 2 no []) h = subst (λ (f : Form). Fits f h) e fits in
+    at_head known Q7 h (head_with Q7 no []) rows nodes (record_is h (codes "q7" ∷ no) [] f.0 f.1) (λ z t.
+    let a = free_alone (codes "cut") (length known.net.names) rows z in
+    (NoVec (kept_ints a.0), Nothing, (λ earlier e. (tt, a.2)), refl, a.1, t, t, ap (λ (rs : List Record). verdict_of Q7 (sizes_of known) (head_with Q7 no []) rs) a.1))
+dependence_answered known h rows nodes (form, inr (inr (inl e)), fits) =
+    let f : Fits (wide (codes "q7") 3 2 (length known.net.reactions) (length known.net.names)) h = subst (λ (f : Form). Fits f h) e fits in
+    let b = wide_back 2 (length known.net.reactions) (length known.net.names) h.numbers f.1 in
+    at_head known Q7 h (open_head Q7 (Wide 2 0 b.0 (kept b.1))) rows nodes (record_is h (codes "q7" ∷ open_by (codes "wide")) (map pos (2 ∷ 0 ∷ b.0 ∷ b.1)) f.0 b.2) (λ z t.
+    (Unknown (Wide 2 0 b.0 (kept b.1)), Nothing, (λ earlier e. ((refl, refl, b.3), refl)), refl, zip_none rows z, t, t, open_by_wide known Q7 2 0 b.0 b.1 rows))
+dependence_answered known h rows nodes (form, inr (inr (inr none)), fits) = absurd none
+
+conservation_answered : (known : Known) (h : Record) (rows nodes : List Record) → IsOneOf (heads Q8 (sizes_of known)) h → FromParts known Q8 h rows nodes
+unfolding kept kept_ints
+conservation_answered known h rows nodes (form, inl e, fits) =
+    let f : Fits (head (codes "q8") 1 yes []) h = subst (λ (f : Form). Fits f h) e fits in
+    at_head known Q8 h (head_with Q8 yes []) rows nodes (record_is h (codes "q8" ∷ yes) [] f.0 f.1) (λ z t.
+    let a = free_alone (codes "vec") (length known.net.names) rows z in
+    (YesVec (kept_ints a.0), Nothing, (λ earlier e. (tt, a.2)), refl, a.1, t, t, ap (λ (rs : List Record). verdict_of Q8 (sizes_of known) (head_with Q8 yes []) rs) a.1))
+conservation_answered known h rows nodes (form, inr (inl e), fits) =
+    let f : Fits (head (codes "q8") 2 no []) h = subst (λ (f : Form). Fits f h) e fits in
+    at_head known Q8 h (head_with Q8 no []) rows nodes (record_is h (codes "q8" ∷ no) [] f.0 f.1) (λ z t.
+    let a = free_alone (codes "cut") (length known.net.reactions) rows z in
+    (NoVec (kept_ints a.0), Nothing, (λ earlier e. (tt, a.2)), refl, a.1, t, t, ap (λ (rs : List Record). verdict_of Q8 (sizes_of known) (head_with Q8 no []) rs) a.1))
+conservation_answered known h rows nodes (form, inr (inr (inl e)), fits) =
+    let f : Fits (wide (codes "q8") 3 1 (length known.net.names) (length known.net.reactions)) h = subst (λ (f : Form). Fits f h) e fits in
+    let b = wide_back 1 (length known.net.names) (length known.net.reactions) h.numbers f.1 in
+    at_head known Q8 h (open_head Q8 (Wide 1 0 b.0 (kept b.1))) rows nodes (record_is h (codes "q8" ∷ open_by (codes "wide")) (map pos (1 ∷ 0 ∷ b.0 ∷ b.1)) f.0 b.2) (λ z t.
+    (Unknown (Wide 1 0 b.0 (kept b.1)), Nothing, (λ earlier e. ((refl, refl, b.3), refl)), refl, zip_none rows z, t, t, open_by_wide known Q8 1 0 b.0 b.1 rows))
+conservation_answered known h rows nodes (form, inr (inr (inr none)), fits) = absurd none
 
 -- ---- all answers
 
@@ -232,9 +381,9 @@ abbrev pub IsReadable : Question → Type 0
 IsReadable q = (known : Known) (h : Record) (rows nodes : List Record) → IsOneOf (heads q (sizes_of known)) h → FromParts known q h rows nodes
 
 answers_by : (qs : List Question) → AllByRecursion IsReadable qs → (known : Known) (answers : List (List Record)) → documents.AreFormed meaning qs known answers
-    → (given : List Answer) × ((earlier : Earlier) → AreFormed known.net earlier qs given) × (all_records meaning qs known given ≡ answers) × (verdicts_said qs known answers ≡ verdicts_of given)
+    → (given : List Answer) × ((earlier : Earlier) → IsAlike known earlier → AreFormed known.net earlier qs given) × (all_records meaning qs known given ≡ answers) × (verdicts_said qs known answers ≡ verdicts_of given)
 unfolding documents.AreFormed all_records
-answers_by [] r known answers f = ([], (λ earlier. tt), sym f, refl)
+answers_by [] r known answers f = ([], (λ earlier e. tt), sym f, refl)
 answers_by (q ∷ qs) r known [] f = absurd f
 answers_by (q ∷ qs) r known (rs ∷ more) f =
     let p = f.0 in
@@ -246,12 +395,12 @@ answers_by (q ∷ qs) r known (rs ∷ more) f =
     let block : records q (shapes_of known) a ≡ rs = ap₂ (λ (h : Record) (t : List Record). h ∷ t) (sym one.3) (ap₂ (λ (x y : List Record). x ++ y) (sym one.4) (sym one.5)) ∙ sym p.all in
     let later : all_records meaning qs (meaning.learn q known (head_of q a.verdict) (records_below (shapes_of known) a)) rest.0 ≡ more = ap (λ (k : Known). all_records meaning qs k rest.0) learned ∙ rest.2 in
     let bare : p.rows ++ p.nodes ≡ p.rows = ap (λ (t : List Record). p.rows ++ t) one.6 ∙ append-nil p.rows in
-    let said : verdicts_said (q ∷ qs) known (rs ∷ more) ≡ a.verdict ∷ verdicts_of rest.0 = ap (λ (t : List Record). verdicts_said (q ∷ qs) known (t ∷ more)) p.all
+    let told : verdicts_said (q ∷ qs) known (rs ∷ more) ≡ a.verdict ∷ verdicts_of rest.0 = ap (λ (t : List Record). verdicts_said (q ∷ qs) known (t ∷ more)) p.all
     ∙ ap (λ (t : List Record). verdict_of q (sizes_of known) p.head t ∷ verdicts_said qs (learn_of q known p.head t) more) bare
     ∙ ap₂ (λ (v : Verdict) (vs : List Verdict). v ∷ vs) one.7 rest.3 in
-    (a ∷ rest.0, (λ earlier. let g = one.2 in let h = rest.1 in (g earlier, h (earlier ++ (q, a.verdict) ∷ []))), ap₂ (λ (x : List Record) (xs : List (List Record)). x ∷ xs) block later, said)
+    (a ∷ rest.0, (λ earlier e. let g = one.2 in let h = rest.1 in (g earlier e, h (earlier ++ (q, a.verdict) ∷ []) (alike_then known.earlier earlier q (verdict_of q (sizes_of known) p.head p.rows) a.verdict e (ap said one.7)))), ap₂ (λ (x : List Record) (xs : List (List Record)). x ∷ xs) block later, told)
 
 pub records_answered : (net : Net) (answers : List (List Record)) → documents.AreFormed meaning built (meaning.start net) answers → (given : List Answer) × AreFormed net [] built given × (all_records meaning built (meaning.start net) given ≡ answers) × (verdicts_said built (meaning.start net) answers ≡ verdicts_of given)
 records_answered net answers f =
-    let r = answers_by built (linkage_answered, (strong_answered, (reversible_answered, (weak_answered, tt)))) (meaning.start net) answers f in
-    (r.0, (let g = r.1 in g []), r.2, r.3)
+    let r = answers_by built (linkage_answered, (strong_answered, (reversible_answered, (weak_answered, (rank_answered, (deficiency_answered, (dependence_answered, (conservation_answered, tt)))))))) (meaning.start net) answers f in
+    (r.0, (let g = r.1 in g [] refl), r.2, r.3)

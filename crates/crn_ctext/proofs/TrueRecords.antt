@@ -3,7 +3,7 @@ use Rattle.std.proofs.Common.{List, [], ◌∷◌, refl, sym, subst, inl, inr}
 use Rattle.crn_vec.specs.Network.{Net, IsNetwork}
 use Rattle.crn_cert.specs.declared.answer.Verdict.{Verdict}
 use Rattle.crn_cert.specs.declared.answer.Answer.{Answer}
-use Rattle.crn_cert.specs.Questions.{Question, Q1, Q2, Q3}
+use Rattle.crn_cert.specs.Questions.{Question, Q1, Q2, Q3, Q4, Q5}
 use Rattle.crn_cert.specs.Formed.{AreFormed}
 use Rattle.crn_cert.specs.Valid.{AreValid}
 use Rattle.crn_cert.specs.Law.{AllTrueOrOpen, AreBuilt}
@@ -21,11 +21,19 @@ use Rattle.crn_ctext.proofs.RecordsLinked.{records_answered}
 
 -- each question comes after those that its law requires
 built_in_order : AreBuilt [] built
-built_in_order = ((λ j i. i), ((λ j i. absurd i), ((λ j i. absurd i), ((λ j i. by j i), tt))))
+built_in_order = (
+  (λ j i. i),
+  ((λ j i. absurd i), ((λ j i. absurd i), ((λ j i. strong_before j i), ((λ j i. absurd i), ((λ j i. linkage_and_rank_before j i), ((λ j i. absurd i), ((λ j i. absurd i), tt))))))),
+)
   where
-    by : (j : Question) → IsIn j (Q2 ∷ []) → IsIn j (Q1 ∷ Q2 ∷ Q3 ∷ [])
-    by j (inl e) = inr (inl e)
-    by j (inr none) = absurd none
+    strong_before : (j : Question) → IsIn j (Q2 ∷ []) → IsIn j (Q1 ∷ Q2 ∷ Q3 ∷ [])
+    strong_before j (inl e) = inr (inl e)
+    strong_before j (inr none) = absurd none
+
+    linkage_and_rank_before : (j : Question) → IsIn j (Q1 ∷ Q5 ∷ []) → IsIn j (Q1 ∷ Q2 ∷ Q3 ∷ Q4 ∷ Q5 ∷ [])
+    linkage_and_rank_before j (inl e) = inl e
+    linkage_and_rank_before j (inr (inl e)) = inr (inr (inr (inr (inl e))))
+    linkage_and_rank_before j (inr (inr none)) = absurd none
 
 sound_by : (net : Net) (qs : List Question) (answers : List Answer) → AllTrueOrOpen net qs answers → AreSound net qs (verdicts_of answers)
 sound_by net [] [] t = refl

@@ -1,5 +1,5 @@
 -- The answers to the questions that are built, xs documents write them.
-use Rattle.std.proofs.Common.{◌↔◌, ap₂, subst, cond, filter, ◌≤◌, ℤ, if◌then◌else◌, ◌≡◌, ℕ, zero, suc, ◌+◌, ◌<◌, Bool, true, false, List, [], ◌∷◌, ◌++◌, length, map, take, codes, refl, sym, ap, ◌∙◌, append_assoc, arith}
+use Rattle.std.proofs.Common.{◌↔◌, ap₂, subst, cond, filter, ◌≤◌, ℤ, if◌then◌else◌, ◌≡◌, ℕ, zero, suc, ◌+◌, Bool, true, false, List, [], ◌∷◌, ◌++◌, length, map, take, codes, refl, sym, ap, ◌∙◌, append_assoc, arith}
 use Rattle.std.specs.List.{AllByRecursion, AllZip, flat_map}
 use Rattle.std.specs.Ordering.{int_eq}
 use Rattle.std.specs.Cmp.Lexicographic.{pointwise}
@@ -10,14 +10,14 @@ use Rattle.crn_io.specs.declared.lines.TheConstants.{MAX_SHARED, MAX_NUMBERS}
 use Rattle.crn_cert.specs.Ranges as ranges
 use Rattle.crn_cert.specs.Trees.{plan}
 use Rattle.crn_cert.specs.Shares.{Shared, StandsAt, IsShareable, FitsAnswers, cuts_of, cuts_in, all_cuts, number_in, share_of_cuts, share_of}
-use Rattle.crn_cert.specs.declared.tree.Tree.{Tree, Split', CutA, CutB, Flat, Held-Tree-Split-2, None', Some'}
+use Rattle.crn_cert.specs.declared.tree.Tree.{Tree, Split', CutA, CutB, Flat, None', Some'}
 use Rattle.crn_ctext.specs.Documents as documents
 use Rattle.crn_ctext.specs.Shares.{as_share}
 use Rattle.std.proofs.lemmas.List.{append-nil}
 use Rattle.crn_vec.specs.Network.{Net}
 use Rattle.crn_cert.specs.Built.{built}
-use Rattle.crn_cert.specs.Formed.{AreFormed, IsFormed, RowsMayBe, RowsLinkage, RowsStrong, RowsReversible, RowsWeak}
-use Rattle.crn_cert.specs.Questions.{Earlier, Question, Q1, Q2, Q3, Q4, questions}
+use Rattle.crn_cert.specs.Formed.{AreFormed, RowsMayBe, RowsLinkage, RowsStrong, RowsReversible, RowsWeak, RowsRank, RowsDeficiency, RowsPositive}
+use Rattle.crn_cert.specs.Questions.{Earlier, Question, Q1, Q2, Q3, Q4, Q5, Q6, Q7, Q8, questions}
 use Rattle.crn_cert.specs.declared.answer.Verdict.{Verdict}
 use Rattle.crn_cert.specs.declared.answer.Verdict.TheVariants.{Classes, Strong, Rank, Deficiency, Yes, YesWeak, YesVec, YesSignal, No, NoReaction, NoVec, NoNumber, NoTerminal, NoClass, NoSum, NoDependence, NoCycle, NoPair, NotRegular, OnlyZero, Plane, NotApplicable, Unknown}
 use Rattle.crn_cert.specs.declared.answer.Proof.{Proof}
@@ -25,12 +25,11 @@ use Rattle.crn_cert.specs.declared.answer.Proof.TheVariants as proof
 use Rattle.crn_cert.specs.declared.answer.Answer.{Answer}
 use Rattle.crn_ctext.specs.Records.{Record, IsNarrow}
 use Rattle.crn_ctext.specs.Questions.{Shapes, opens}
-use Rattle.crn_ctext.specs.Blocks.{ended}
-use Rattle.crn_ctext.specs.Answers.{records, all_records, head_of, records_below, proof_records, proof_nodes, nodes, nodes_behind}
+use Rattle.crn_ctext.specs.Answers.{records, all_records, head_of, records_below, proof_records, proof_nodes, nodes}
 use Rattle.crn_ctext.specs.Documents.{Share, FitsShare, is_cut_leaf, cut_lists, document, document2, opening, record_lines, table_records, written, in_sections, section}
 use Rattle.crn_ctext.specs.Meaning.{Known, meaning}
 use Rattle.crn_ctext.specs.Linked.{records_of}
-use Rattle.crn_ctext.specs.Inner.Written.{shapes_with, headings, block, blocks}
+use Rattle.crn_ctext.specs.Inner.Written.{shapes_with, blocks}
 use Rattle.crn_ctext.proofs.WrittenLines.{lines_append}
 use Rattle.crn_ctext.proofs.WrittenLeaves.{IsPlain, written_none}
 use Rattle.crn_ctext.proofs.WrittenBlocks.{blocks_short, front_plain}
@@ -214,6 +213,23 @@ no_weak (Plane first second one two) p h = absurd h
 no_weak (NotApplicable) p h = absurd h
 no_weak (Unknown gap) p h = absurd h
 
+no_rank : (net : Net) (v : Verdict) (p : Proof) → RowsRank net v p → IsShort p
+no_rank net (Rank rank base) (proof.Rank r) h = tt
+no_rank net (Rank rank base) p h = absurd h
+no_rank net v p h = absurd h
+
+no_deficiency : (net : Net) (earlier : Earlier) (v : Verdict) (p : Proof) → RowsDeficiency net earlier v p → IsShort p
+no_deficiency net earlier (Deficiency total classes) (proof.Ranks rs) h = tt
+no_deficiency net earlier (Deficiency total classes) p h = absurd h
+no_deficiency net earlier v p h = absurd h
+
+no_positive : (width height : ℕ) (v : Verdict) (p : Proof) → RowsPositive width height v p → IsShort p
+no_positive width height (YesVec vector) (proof.Nothing) h = tt
+no_positive width height (YesVec vector) p h = absurd h
+no_positive width height (NoVec multipliers) (proof.Nothing) h = tt
+no_positive width height (NoVec multipliers) p h = absurd h
+no_positive width height v p h = absurd h
+
 no_nothing : (p : Proof) → p ≡ proof.Nothing → IsShort p
 no_nothing p e = rw e tt
 
@@ -317,19 +333,42 @@ rows_weak net earlier (Plane first second one two) p h = no_weak (Plane first se
 rows_weak net earlier (NotApplicable) p h = no_weak (NotApplicable) p h
 rows_weak net earlier (Unknown gap) p h = no_nothing p h
 
+rows_rank : (net : Net) (earlier : Earlier) (v : Verdict) (p : Proof) → RowsMayBe net earlier Q5 v p → IsShort p
+rows_rank net earlier (Unknown gap) p h = no_nothing p h
+rows_rank net earlier v p h = no_rank net v p h
+
+rows_deficiency : (net : Net) (earlier : Earlier) (v : Verdict) (p : Proof) → RowsMayBe net earlier Q6 v p → IsShort p
+rows_deficiency net earlier (Unknown gap) p h = no_nothing p h
+rows_deficiency net earlier v p h = no_deficiency net earlier v p h
+
+rows_dependence : (net : Net) (earlier : Earlier) (v : Verdict) (p : Proof) → RowsMayBe net earlier Q7 v p → IsShort p
+rows_dependence net earlier (Unknown gap) p h = no_nothing p h
+rows_dependence net earlier v p h = no_positive (length net.reactions) (length net.names) v p h
+
+rows_conservation : (net : Net) (earlier : Earlier) (v : Verdict) (p : Proof) → RowsMayBe net earlier Q8 v p → IsShort p
+rows_conservation net earlier (Unknown gap) p h = no_nothing p h
+rows_conservation net earlier v p h = no_positive (length net.names) (length net.reactions) v p h
+
 -- no answer has sides or trees
 abbrev pub AreShort : List Answer → Type 0
 AreShort xs = AllByRecursion (λ (a : Answer). IsShort a.proof) xs
 
+-- a formed answer to the question has neither
+abbrev IsShortQuestion : Question → Type 0
+IsShortQuestion q = (net : Net) (earlier : Earlier) (v : Verdict) (p : Proof) → RowsMayBe net earlier q v p → IsShort p
+
+short_by : (net : Net) (earlier : Earlier) (qs : List Question) (xs : List Answer) → AllByRecursion IsShortQuestion qs → AreFormed net earlier qs xs → AreShort xs
+short_by net earlier [] [] s h = tt
+short_by net earlier [] (a ∷ xs) s h = absurd h
+short_by net earlier (q ∷ qs) [] s h = absurd h
+short_by net earlier (q ∷ qs) (a ∷ xs) s h = (s.0 net earlier a.verdict a.proof h.0.1, short_by net (earlier ++ (q, a.verdict) ∷ []) qs xs s.1 h.1)
+
+built_short : AllByRecursion IsShortQuestion built
+built_short = (rows_linkage, (rows_strong, (rows_reversible, (rows_weak, (rows_rank, (rows_deficiency, (rows_dependence, (rows_conservation, tt))))))))
+
 -- formed answers to the questions that are built have neither
 pub all_short : (net : Net) (xs : List Answer) → AreFormed net [] built xs → AreShort xs
-all_short net [] h = tt
-all_short net (a ∷ []) h = absurd h.1
-all_short net (a ∷ b ∷ []) h = absurd h.1.1
-all_short net (a ∷ b ∷ c ∷ []) h = absurd h.1.1.1
-all_short net (a ∷ b ∷ c ∷ d ∷ []) h =
-    (rows_linkage net [] a.verdict a.proof h.0.1, (rows_strong net ((Q1, a.verdict) ∷ []) b.verdict b.proof h.1.0.1, (rows_reversible net ((Q1, a.verdict) ∷ (Q2, b.verdict) ∷ []) c.verdict c.proof h.1.1.0.1, (rows_weak net ((Q1, a.verdict) ∷ (Q2, b.verdict) ∷ (Q3, c.verdict) ∷ []) d.verdict d.proof h.1.1.1.0.1, tt))))
-all_short net (a ∷ b ∷ c ∷ d ∷ e ∷ more) h = absurd h.1.1.1.1
+all_short net xs h = short_by net [] built xs built_short h
 
 -- there are xs many answers xs questions
 pub as_many : (net : Net) (earlier : Earlier) (qs : List Question) (xs : List Answer) → AreFormed net earlier qs xs → length xs ≡ length qs

@@ -1,14 +1,15 @@
-ghost use Rattle.std.specs.Prelude.{◌≡◌, ◌≤◌, length, IfOk};
-ghost use Rattle.crn_vec.specs.Network.{Net};
-ghost use Rattle.crn_cert.specs.Formed.{IsFormed};
-ghost use Rattle.crn_cert.specs.Questions.{Earlier, Q1, Q2, Q3, Q4};
+ghost use Rattle.std.specs.Prelude.{◌≡◌, ◌≤◌, ◌∷◌, [], pos, negsuc, length, IfOk};
+ghost use Rattle.crn_vec.specs.Network.{Net, IsNetwork};
+ghost use Rattle.crn_cert.specs.Formed.{IsFormed, AreFormed};
+ghost use Rattle.crn_cert.specs.Built.{built};
+ghost use Rattle.crn_cert.specs.Questions.{Earlier, Q1, Q2, Q3, Q4, Q5, Q6, Q7, Q8, on, count_of, labels_of};
 
 use crate::write::put_answer;
 use crate::{
     built_answers_have_no_cuts, document_length, shares_are_of_records, write_document,
     write_document2,
 };
-use crn_cert::{Answer, Answers, Gap, Proof, RankProof, Rows, Tree, Verdict, share_of};
+use crn_cert::{Answer, Answers, Gap, Proof, RankList, RankProof, Rows, Tree, Verdict, share_of};
 use crn_io::{MemSink, QuietSink};
 use crn_text::read;
 use crn_vec::{Ints, NoMemory, Nums};
@@ -16,18 +17,20 @@ use std::alloc::Global;
 use std::test::Fail;
 
 const BOTH_WAYS: &[u8] =
-    b"crn certificate 1\nnetwork 2\nA -> B\nB -> A\nq1 1\nlabel 1 1\nup 0 1\ndepth 0 1\nq2 1 1\nlabel 1 1\nfrom 0 1\nfromdepth 0 1\nto 0 2\ntodepth 0 1\nlevel 0\nexit 0\nq3 yes\nback 2 1\nq4 yes\nend\n";
+    b"crn certificate 1\nnetwork 2\nA -> B\nB -> A\nq1 1\nlabel 1 1\nup 0 1\ndepth 0 1\nq2 1 1\nlabel 1 1\nfrom 0 1\nfromdepth 0 1\nto 0 2\ntodepth 0 1\nlevel 0\nexit 0\nq3 yes\nback 2 1\nq4 yes\nq5 1\nbase 1\ndual -1 1\ncomb 1 -1\nq6 0 0\nbase 1\ndual -1 1\ncomb 1 -1\nq7 yes\nvec 1 1\nq8 yes\nvec 1 1\nend\n";
 
 const BOTH_WAYS_2: &[u8] =
-    b"crn certificate 2\nnetwork 2\nA -> B\nB -> A\nvectors 0\nsection graph\nq1 1\nlabel 1 1\nup 0 1\ndepth 0 1\nq2 1 1\nlabel 1 1\nfrom 0 1\nfromdepth 0 1\nto 0 2\ntodepth 0 1\nlevel 0\nexit 0\nq3 yes\nback 2 1\nq4 yes\nend\n";
+    b"crn certificate 2\nnetwork 2\nA -> B\nB -> A\nvectors 0\nsection graph\nq1 1\nlabel 1 1\nup 0 1\ndepth 0 1\nq2 1 1\nlabel 1 1\nfrom 0 1\nfromdepth 0 1\nto 0 2\ntodepth 0 1\nlevel 0\nexit 0\nq3 yes\nback 2 1\nq4 yes\nsection rank\nq5 1\nbase 1\ndual -1 1\ncomb 1 -1\nq6 0 0\nbase 1\ndual -1 1\ncomb 1 -1\nsection dependence\nq7 yes\nvec 1 1\nq8 yes\nvec 1 1\nend\n";
 
 const ONE_WAY: &[u8] =
-    b"crn certificate 1\nnetwork 1\nA -> B\nq1 1\nlabel 1 1\nup 0 1\ndepth 0 1\nq2 2 1\nlabel 1 2\nfrom 0 0\nfromdepth 0 0\nto 0 0\ntodepth 0 0\nlevel 1 0\nexit 1 0\nq3 no 1\nq4 no 1\nend\n";
+    b"crn certificate 1\nnetwork 1\nA -> B\nq1 1\nlabel 1 1\nup 0 1\ndepth 0 1\nq2 2 1\nlabel 1 2\nfrom 0 0\nfromdepth 0 0\nto 0 0\ntodepth 0 0\nlevel 1 0\nexit 1 0\nq3 no 1\nq4 no 1\nq5 open wide 1 0 3 1 2\nq6 open rests 5\nq7 no\ncut -1 1\nq8 yes\nvec 1 1\nend\n";
 
 // The one class of two complexes that reaction 1 joins.
 fn one_class(alloc: Global) -> Result<Answer, NoMemory>
-    ensures { (net : Net) (earlier : Earlier) → length net.complexes ≡ 2 → 1 ≤ length net.reactions
-        → IfOk result (λ a. IsFormed net earlier Q1 a) }
+    ensures formed { (net : Net) (earlier : Earlier) → length net.complexes ≡ 2
+        → 1 ≤ length net.reactions → IfOk result (λ a. IsFormed net earlier Q1 a) }
+    ensures count { IfOk result (λ a. count_of a.verdict ≡ 1) }
+    ensures labels { IfOk result (λ a. labels_of a.verdict ≡ 1 ∷ 1 ∷ []) }
 {
     Ok(Answer {
         verdict: Verdict::Classes {
@@ -96,17 +99,72 @@ fn two_reverses(alloc: Global) -> Result<Answer, NoMemory>
     })
 }
 
-#[test]
-fn the_answers_of_both_ways_are_written(rt: HostRuntime) -> Result<(), Fail> {
-    let alloc = rt.alloc();
-    let net = match read(alloc, b"A <-> B") {
-        Ok(net) => net,
-        Err(fault) => panic!(&rt; "{fault}"),
-    };
-    let complexes = net.complexes();
-    let reactions = net.reactions();
-    assert_eq!(rt; complexes, 2);
-    assert_eq!(rt; reactions, 2);
+// The rank of two reactions of which the second is the opposite of the first.
+fn one_rank_proof(alloc: Global) -> Result<RankProof, NoMemory>
+    ensures base { IfOk result (λ p. p.base.list ≡ 1 ∷ []) }
+    ensures duals { IfOk result (λ p. p.duals ≡ (negsuc 0 ∷ pos 1 ∷ []) ∷ []) }
+    ensures combs { IfOk result (λ p. p.combs ≡ (pos 1 ∷ negsuc 0 ∷ []) ∷ []) }
+{
+    Ok(RankProof {
+        base: Nums::from_slice(alloc, &[1])?,
+        duals: row(alloc, &[-1, 1])?,
+        combs: row(alloc, &[1, -1])?,
+    })
+}
+
+// The rank of these reactions.
+fn one_rank(alloc: Global) -> Result<Answer, NoMemory>
+    ensures { (net : Net) (earlier : Earlier) → length net.names ≡ 2 → length net.reactions ≡ 2
+        → IfOk result (λ a. IsFormed net earlier Q5 a) }
+{
+    let proof = one_rank_proof(alloc)?;
+    Ok(Answer {
+        verdict: Verdict::Rank {
+            rank: 1,
+            base: Nums::from_slice(alloc, &[1])?,
+        },
+        proof: Proof::Rank(proof),
+    })
+}
+
+// The deficiencies of their network, which has one linkage class.
+fn one_deficiency(alloc: Global) -> Result<Answer, NoMemory>
+    ensures { (net : Net) (earlier : Earlier) → IsNetwork net → length net.names ≡ 2
+        → length net.complexes ≡ 2 → length net.reactions ≡ 2 → count_of (on earlier Q1) ≡ 1
+        → labels_of (on earlier Q1) ≡ 1 ∷ 1 ∷ [] → IfOk result (λ a. IsFormed net earlier Q6 a) }
+{
+    let proof = one_rank_proof(alloc)?;
+    let mut list = RankList::new(alloc)?;
+    list.push(proof)?;
+    Ok(Answer {
+        verdict: Verdict::Deficiency {
+            total: 0,
+            classes: Nums::from_slice(alloc, &[0])?,
+        },
+        proof: Proof::Ranks(list),
+    })
+}
+
+// One of each reaction, or of each species.
+fn one_of_each(alloc: Global) -> Result<Answer, NoMemory>
+    ensures dependence { (net : Net) (earlier : Earlier) → length net.reactions ≡ 2
+        → IfOk result (λ a. IsFormed net earlier Q7 a) }
+    ensures conservation { (net : Net) (earlier : Earlier) → length net.names ≡ 2
+        → IfOk result (λ a. IsFormed net earlier Q8 a) }
+{
+    Ok(Answer {
+        verdict: Verdict::YesVec {
+            vector: Ints::from_slice(alloc, &[1, 1])?,
+        },
+        proof: Proof::Nothing,
+    })
+}
+
+// The answers of both ways.
+fn answers_of_both_ways(alloc: Global) -> Result<Answers, NoMemory>
+    ensures { (net : Net) → IsNetwork net → length net.names ≡ 2 → length net.complexes ≡ 2
+        → length net.reactions ≡ 2 → IfOk result (λ answers. AreFormed net [] built answers) }
+{
     let mut answers = Answers::new(alloc)?;
     answers.push(one_class(alloc)?);
     answers.push(one_strong_class(alloc)?);
@@ -115,28 +173,73 @@ fn the_answers_of_both_ways_are_written(rt: HostRuntime) -> Result<(), Fail> {
         verdict: Verdict::Yes,
         proof: Proof::Nothing,
     });
+    answers.push(one_rank(alloc)?);
+    answers.push(one_deficiency(alloc)?);
+    answers.push(one_of_each(alloc)?);
+    answers.push(one_of_each(alloc)?);
+    Ok(answers)
+}
+
+#[test]
+fn the_answers_of_both_ways_are_written(rt: HostRuntime) -> Result<(), Fail> {
+    let alloc = rt.alloc();
+    let net = match read(alloc, b"A <-> B") {
+        Ok(net) => net,
+        Err(fault) => panic!(&rt; "{fault}"),
+    };
+    let species = net.species();
+    let complexes = net.complexes();
+    let reactions = net.reactions();
+    assert_eq!(rt; species, 2);
+    assert_eq!(rt; complexes, 2);
+    assert_eq!(rt; reactions, 2);
+    let answers = answers_of_both_ways(alloc)?;
     let mut sink = MemSink::new(alloc, 7, &[])?;
     assert!(rt; write_document(&net, &answers, &mut sink).is_ok());
     assert_eq!(rt; sink.bytes(), BOTH_WAYS);
     assert_eq!(rt; document_length(&net, &answers), BOTH_WAYS.len() as u64);
     let share = share_of(alloc, &answers)?;
-    let mut second = QuietSink::new(alloc, 300)?;
+    let mut second = QuietSink::new(alloc, 400)?;
     assert!(rt; write_document2(&net, &answers, &share, &mut second).is_ok());
     assert_eq!(rt; second.bytes(), BOTH_WAYS_2);
     Ok(())
 }
 
-#[test]
-fn the_answers_of_one_way_are_written(rt: HostRuntime) -> Result<(), Fail> {
-    let alloc = rt.alloc();
-    let net = match read(alloc, b"A -> B") {
-        Ok(net) => net,
-        Err(fault) => panic!(&rt; "{fault}"),
-    };
-    let complexes = net.complexes();
-    let reactions = net.reactions();
-    assert_eq!(rt; complexes, 2);
-    assert_eq!(rt; reactions, 1);
+// The verdict that is open by a wide vector of the system of a rank of two species and a reaction.
+fn wide_rank(alloc: Global) -> Result<Answer, NoMemory>
+    ensures { (net : Net) (earlier : Earlier) → length net.names ≡ 2 → length net.reactions ≡ 1
+        → IfOk result (λ a. IsFormed net earlier Q5 a) }
+{
+    let basis = Nums::from_slice(alloc, &[1, 2])?;
+    Ok(Answer {
+        verdict: Verdict::Unknown(Gap::Wide {
+            system: 1,
+            class: 0,
+            index: 3,
+            basis,
+        }),
+        proof: Proof::Nothing,
+    })
+}
+
+// Multipliers of two species.
+fn one_made(alloc: Global) -> Result<Answer, NoMemory>
+    ensures { (net : Net) (earlier : Earlier) → length net.names ≡ 2
+        → IfOk result (λ a. IsFormed net earlier Q7 a) }
+{
+    Ok(Answer {
+        verdict: Verdict::NoVec {
+            multipliers: Ints::from_slice(alloc, &[-1, 1])?,
+        },
+        proof: Proof::Nothing,
+    })
+}
+
+// The answers of one way.
+fn answers_of_one_way(alloc: Global) -> Result<Answers, NoMemory>
+    ensures { (net : Net) → length net.names ≡ 2 → length net.complexes ≡ 2
+        → length net.reactions ≡ 1 → IfOk result (λ answers. AreFormed net [] built answers) }
+{
     let mut answers = Answers::new(alloc)?;
     answers.push(one_class(alloc)?);
     answers.push(two_strong_classes(alloc)?);
@@ -148,6 +251,30 @@ fn the_answers_of_one_way_are_written(rt: HostRuntime) -> Result<(), Fail> {
         verdict: Verdict::NoReaction { reaction: 1 },
         proof: Proof::Nothing,
     });
+    answers.push(wide_rank(alloc)?);
+    answers.push(Answer {
+        verdict: Verdict::Unknown(Gap::Rests { question: 5 }),
+        proof: Proof::Nothing,
+    });
+    answers.push(one_made(alloc)?);
+    answers.push(one_of_each(alloc)?);
+    Ok(answers)
+}
+
+#[test]
+fn the_answers_of_one_way_are_written(rt: HostRuntime) -> Result<(), Fail> {
+    let alloc = rt.alloc();
+    let net = match read(alloc, b"A -> B") {
+        Ok(net) => net,
+        Err(fault) => panic!(&rt; "{fault}"),
+    };
+    let species = net.species();
+    let complexes = net.complexes();
+    let reactions = net.reactions();
+    assert_eq!(rt; species, 2);
+    assert_eq!(rt; complexes, 2);
+    assert_eq!(rt; reactions, 1);
+    let answers = answers_of_one_way(alloc)?;
     let mut sink = QuietSink::new(alloc, 300)?;
     assert!(rt; write_document(&net, &answers, &mut sink).is_ok());
     assert_eq!(rt; sink.bytes(), ONE_WAY);
@@ -155,7 +282,9 @@ fn the_answers_of_one_way_are_written(rt: HostRuntime) -> Result<(), Fail> {
 }
 
 // A row of numbers.
-fn row(alloc: Global, values: &[i128]) -> Result<Rows, NoMemory> {
+fn row(alloc: Global, values: &[i128]) -> Result<Rows, NoMemory>
+    ensures { IfOk result (λ rows. rows ≡ values.now ∷ []) }
+{
     let mut rows = Rows::new(alloc)?;
     rows.push(Ints::from_slice(alloc, values)?)?;
     Ok(rows)

@@ -1,38 +1,41 @@
 -- The tests of a block, in the words of a document's course, and what is known after it.
-use Rattle.std.proofs.Common.{◌≡◌, ◌≤◌, ◌<◌, ◌+◌, ◌-◌, ◌^◌, ◌++◌, ◌∙◌, ℕ, suc, Bool, false, List, [], ◌∷◌, length, map, refl, sym, subst, ap, ap₂, inl, inr, arith}
-use Rattle.std.specs.Prelude.{ℤ, pos, negsuc}
-use Rattle.std.specs.List.{AllByRecursion, AllZip, range_with_len}
-use Rattle.std.proofs.lemmas.Int.{ints}
+use Rattle.std.proofs.Common.{◌≡◌, ◌≤◌, ◌+◌, ◌-◌, ◌++◌, ◌∙◌, ℕ, zero, suc, Bool, true, false, ◌==◌, ◌&&◌, List, [], ◌∷◌, length, map, take, replicate, refl, sym, subst, ap, ap₂, inl, inr, arith}
+use Rattle.std.specs.Prelude.{ℤ, if◌then◌else◌}
+use Rattle.std.specs.List.{AllByRecursion, AllZip, flat_map}
 use Rattle.std.proofs.lemmas.List.{length-map}
 use Rattle.crn_io.specs.Lines.{Place}
-use Rattle.crn_vec.specs.Network.{Net, IsNetwork}
-use Rattle.crn_vec.specs.declared.limits.TheConstants.{MAX_COMPLEXES, MAX_REACTIONS}
+use Rattle.crn_vec.specs.Network.{Net}
 use Rattle.crn_cert.specs.declared.answer.Verdict.{Verdict}
 use Rattle.crn_cert.specs.declared.answer.Proof.{Proof}
 use Rattle.crn_cert.specs.declared.answer.Answer.{Answer}
-use Rattle.crn_cert.specs.Questions.{Earlier, Question, number}
+use Rattle.crn_cert.specs.Questions.{Earlier, Question}
 use Rattle.crn_cert.specs.Tests.{Test, AllHold, FailsFirst}
-use Rattle.crn_cert.specs.Valid.{head_tests, row_tests, tests_of}
+use Rattle.crn_cert.specs.Valid.{head_tests, linkage, row_tests, tests_of}
 use Rattle.crn_cert.specs.Formed.{IsFormed, IsFormedOf}
-use Rattle.crn_ctext.specs.Records.{Record, Form, Fits, AreBetween}
-use Rattle.crn_ctext.specs.Kinds.{small, small_form}
-use Rattle.crn_ctext.specs.Questions.{later_numbers}
+use Rattle.crn_ctext.specs.Records.{Record, Form, Fits}
+use Rattle.crn_ctext.specs.Questions.{Shapes}
 use Rattle.crn_ctext.specs.Course.{Course, Give, ◌>>=◌, Gives}
 use Rattle.crn_ctext.specs.Course as course
-use Rattle.crn_ctext.specs.Blocks.{Behind, asks_all, asks_trees, claims, has_tree, is_open, unless}
-use Rattle.crn_ctext.specs.Meaning.{Known, lists, sizes_of, shapes_of, verdict_of, verdict_by, proof_of, proof_by}
+use Rattle.crn_ctext.specs.Blocks.{Behind, Problem, asks_all, asks_trees, claims, has_tree, is_open, unless}
+use Rattle.crn_ctext.specs.Meaning.{Known, lists, sizes_of, shapes_of, verdict_of, proof_of}
 use Rattle.crn_ctext.specs.Meaning as said
 use Rattle.crn_ctext.proofs.CallerLemmas.{gives_then, fails_before}
-use Rattle.crn_check.specs.Facts.{asked, HoldsNoneFrom}
+use Rattle.crn_check.specs.Facts.{KeptFacts, asked}
 use Rattle.crn_check.specs.Check.{IsBuilt}
 use Rattle.crn_check.specs.Verdicts.{tight}
-use Rattle.crn_document.specs.Inner.Answer.{AreSmall, AreSmallRows, row_count}
-use Rattle.crn_document.specs.Inner.Records.{AreRows, row_form, rows_below}
+use Rattle.crn_cert.specs.Built.{built}
+use Rattle.crn_document.specs.declared.parts.Part.{Part}
+use Rattle.crn_document.specs.Inner.Answer.{verdict_of_head}
+use Rattle.crn_document.specs.Inner.Answers.{FitAnswer, proof_of_head}
+use Rattle.crn_document.specs.Inner.Parts.{IsKnown, parts_below}
+use Rattle.crn_document.specs.Inner.Records.{AreRows, MayBeRow, fixed_rows, part_rows, row_form, rows_below}
 use Rattle.crn_document.specs.declared.rows.Row.{Row}
-use Rattle.crn_document.specs.declared.rows.Row.TheVariants.{Label, Up, Depth, From, FromDepth, To, ToDepth, Level, Exit, Back}
+use Rattle.crn_document.specs.declared.rows.Row.TheVariants.{Comb, Dual}
 use Rattle.crn_document.specs.Inner.Heads.{IsHead, known_of, class_count}
-use Rattle.crn_document.specs.Inner.Blocks.{HeadHolds, IsAfter, IsBlock, behind_at, end_course, forms_below, head_course, rows_course}
-use Rattle.crn_document.proofs.Heads.{said_facts, part_within, one_field}
+use Rattle.crn_document.specs.Inner.Blocks.{HeadHolds, IsAfter, IsBlock, behind_at, end_course, forms_below, head_course, parts_after, rows_course}
+use Rattle.crn_document.proofs.Fields.{part_within}
+use Rattle.crn_document.proofs.Ranks.{AreRanks, zip_length}
+use Rattle.crn_document.proofs.Heads.{said_facts}
 
 -- ---- claims
 
@@ -58,83 +61,60 @@ fail_after (t ∷ hs) ts part code h (inr f) = fail_after hs ts part code h.1 f.
 
 -- ---- rows
 
-zip_length : (forms : List Form) (rs : List Record) → AllZip Fits forms rs → length rs ≡ length forms
-zip_length [] [] z = refl
-zip_length [] (r ∷ rs) z = absurd z
-zip_length (f ∷ fs) [] z = absurd z
-zip_length (f ∷ fs) (r ∷ rs) z = ap (λ (k : ℕ). suc k) (zip_length fs rs z.1)
+pub block_length : (net : Net) (earlier : Earlier) (n : ℕ) (head : List ℤ) (rows : List (List ℤ)) (h : Record) (rs : List Record) → IsBlock net earlier n head rows h rs → length rows ≡ length rs
+block_length net earlier n head rows h rs b = ap (λ (x : List (List ℤ)). length x) b.rows_are ∙ length-map rs (λ (r : Record). r.numbers)
 
-small_list : (least greatest : ℕ) (zs : List ℤ) → greatest < 2 ^ 32 → AreBetween (pos least) (pos greatest) zs → AreSmall zs
-small_list least greatest [] lt b = tt
-small_list least greatest (negsuc n ∷ zs) lt b = absurd (omega (arith, ints, b.0.0))
-small_list least greatest (pos n ∷ zs) lt b = ((n, refl, omega (arith, ints, lt, b.0.1)), small_list least greatest zs lt b.1)
+pub block_fits : (net : Net) (n : ℕ) (facts : KeptFacts) (head : List ℤ) (rows : List (List ℤ)) (h : Record) (rs : List Record) → IsBuilt n → IsKnown net n facts → HeadHolds net facts.earlier n head → IsBlock net facts.earlier n head rows h rs → FitAnswer (asked n) head (parts_after net facts.earlier n head) rows
+block_fits net n facts head rows h rs built known hold b =
+    let f = said_facts net n facts head h built known b.is_head in
+    subst (λ (x : List (List ℤ)). FitAnswer (asked n) head (parts_after net facts.earlier n head) x) (sym b.rows_are) (let g = f.fit in g rs hold b.fit)
 
-form_small : (word : List ℕ) (count least greatest : ℕ) (r : Record) → greatest < 2 ^ 32 → Fits (small_form word count least greatest) r → AreSmall r.numbers
-form_small word count least greatest r lt f = let p = one_field (small count least greatest) r.numbers f.1 in small_list least greatest r.numbers lt p.0.1
+-- each record below a head has at most as many numbers as a line
 
-row_small : (net : Net) (k : ℕ) (row : Row) (r : Record) → length net.complexes ≤ MAX_COMPLEXES → length net.reactions ≤ MAX_REACTIONS → k ≤ MAX_COMPLEXES → Fits (row_form net k row) r → AreSmall r.numbers
-row_small net k Label r c w few f = form_small _ _ 1 k r (omega (arith, few)) f
-row_small net k Up r c w few f = form_small _ _ 0 (length net.reactions) r (omega (arith, w)) f
-row_small net k Depth r c w few f = form_small _ _ 0 (length net.complexes - 1) r (omega (arith, c)) f
-row_small net k From r c w few f = form_small _ _ 0 (length net.reactions) r (omega (arith, w)) f
-row_small net k FromDepth r c w few f = form_small _ _ 0 (length net.complexes - 1) r (omega (arith, c)) f
-row_small net k To r c w few f = form_small _ _ 0 (length net.reactions) r (omega (arith, w)) f
-row_small net k ToDepth r c w few f = form_small _ _ 0 (length net.complexes - 1) r (omega (arith, c)) f
-row_small net k Level r c w few f = form_small _ _ 0 (length net.complexes) r (omega (arith, c)) f
-row_small net k Exit r c w few f = form_small _ _ 0 (length net.reactions) r (omega (arith, w)) f
-row_small net k Back r c w few f = form_small _ _ 1 (length net.reactions) r (omega (arith, w)) f
+times_may : (row : Row) (k : ℕ) → MayBeRow row → AllByRecursion MayBeRow (replicate k row)
+times_may row zero m = tt
+times_may row (suc k) m = (m, times_may row k m)
 
-rows_small : (net : Net) (k : ℕ) (rows : List Row) (rs : List Record) → length net.complexes ≤ MAX_COMPLEXES → length net.reactions ≤ MAX_REACTIONS → k ≤ MAX_COMPLEXES → AllZip Fits (map (row_form net k) rows) rs → AreSmallRows (lists rs)
-rows_small net k [] [] c w few z = tt
-rows_small net k [] (r ∷ rs) c w few z = absurd z
-rows_small net k (row ∷ rows) [] c w few z = absurd z
-rows_small net k (row ∷ rows) (r ∷ rs) c w few z = (row_small net k row r c w few z.0, rows_small net k rows rs c w few z.1)
+join_may : (xs ys : List Row) → AllByRecursion MayBeRow xs → AllByRecursion MayBeRow ys → AllByRecursion MayBeRow (xs ++ ys)
+join_may [] ys a b = b
+join_may (x ∷ xs) ys a b = (a.0, join_may xs ys a.1 b)
 
-pub block_small : (net : Net) (n : ℕ) (head : List ℤ) (rows : List (List ℤ)) (h : Record) (rs : List Record) → IsNetwork net → IsBuilt n → IsBlock net n head rows h rs → AreSmallRows rows
-block_small net n head rows h rs network built b =
-    let f = said_facts net n head h network built b.is_head in
-    let p = network.partial in
-    subst AreSmallRows (sym b.rows_are) (rows_small net (class_count n head) (rows_below n (said.number head 0)) rs p.complexes_limit p.reactions_limit f.few b.fit)
+parts_may : (parts : List Part) → AreRanks parts → AllByRecursion MayBeRow (flat_map part_rows parts)
+parts_may [] a = tt
+parts_may (p ∷ ps) a = (a.0, join_may (replicate p.rank Dual ++ replicate (p.count - p.rank) (Comb p.rank)) (flat_map part_rows ps) (join_may (replicate p.rank Dual) (replicate (p.count - p.rank) (Comb p.rank)) (times_may Dual p.rank tt) (times_may (Comb p.rank) (p.count - p.rank) a.0)) (parts_may ps a.1))
 
-pub block_length : (net : Net) (n : ℕ) (head : List ℤ) (rows : List (List ℤ)) (h : Record) (rs : List Record) → IsBlock net n head rows h rs → length rows ≡ length rs
-block_length net n head rows h rs b = ap (λ (x : List (List ℤ)). length x) b.rows_are ∙ length-map rs (λ (r : Record). r.numbers)
+if_may : (b : Bool) (xs ys : List Row) → AllByRecursion MayBeRow xs → AllByRecursion MayBeRow ys → AllByRecursion MayBeRow (if b then xs else ys)
+if_may true xs ys a c = a
+if_may false xs ys a c = c
 
-pub block_count : (net : Net) (n : ℕ) (head : List ℤ) (rows : List (List ℤ)) (h : Record) (rs : List Record) → IsNetwork net → IsBuilt n → IsBlock net n head rows h rs → length rows ≡ row_count (asked n) (said.number head 0)
-block_count net n head rows h rs network built b =
-    let f = said_facts net n head h network built b.is_head in
-    block_length net n head rows h rs b ∙ zip_length (forms_below net n head) rs b.fit ∙ length-map (rows_below n (said.number head 0)) (row_form net (class_count n head)) ∙ f.count
+fixed_may : (n place : ℕ) → AllByRecursion MayBeRow (fixed_rows n place)
+fixed_may n place =
+    if_may (n == 1) _ _ (tt, (tt, (tt, tt))) (if_may (n == 2) _ _ (tt, (tt, (tt, (tt, (tt, (tt, (tt, tt))))))) (if_may (n == 3 && place == 1) _ _ (tt, tt) (if_may (n == 7 && place == 1) _ _ (tt, tt) (if_may (n == 7 && place == 2) _ _ (tt, tt) (if_may (n == 8 && place == 1) _ _ (tt, tt) (if_may (n == 8 && place == 2) _ _ (tt, tt) tt))))))
+
+pub rows_may : (n place : ℕ) (parts : List Part) → AreRanks parts → AllByRecursion MayBeRow (rows_below n place parts)
+rows_may n place parts a = join_may (fixed_rows n place) (flat_map part_rows parts) (fixed_may n place) (parts_may parts a)
 
 -- ---- what is known
-
-all_below : (n : ℕ) → IsBuilt n → AllByRecursion (λ (k : ℕ). k < n) (range_with_len 1 (n - 1))
-all_below n (inl e) = subst (λ (m : ℕ). AllByRecursion (λ (k : ℕ). k < m) (range_with_len 1 (m - 1))) (sym e) tt
-all_below n (inr (inl e)) = subst (λ (m : ℕ). AllByRecursion (λ (k : ℕ). k < m) (range_with_len 1 (m - 1))) (sym e) (omega arith, tt)
-all_below n (inr (inr (inl e))) = subst (λ (m : ℕ). AllByRecursion (λ (k : ℕ). k < m) (range_with_len 1 (m - 1))) (sym e) (omega arith, (omega arith, tt))
-all_below n (inr (inr (inr (inl e)))) = subst (λ (m : ℕ). AllByRecursion (λ (k : ℕ). k < m) (range_with_len 1 (m - 1))) (sym e) (omega arith, (omega arith, (omega arith, tt)))
-all_below n (inr (inr (inr (inr none)))) = absurd none
-
-below_numbers : (n : ℕ) (earlier : Earlier) → AllByRecursion (λ (k : ℕ). k < n) (map (λ (e : Question × Verdict). number e.0) earlier) → HoldsNoneFrom n earlier
-below_numbers n [] h = tt
-below_numbers n (e ∷ es) h = (h.0, below_numbers n es h.1)
-
-pub none_from : (n : ℕ) (earlier : Earlier) → IsBuilt n → map (λ (e : Question × Verdict). number e.0) earlier ≡ range_with_len 1 (n - 1) → HoldsNoneFrom n earlier
-none_from n earlier built is = below_numbers n earlier (subst (λ (ks : List ℕ). AllByRecursion (λ (k : ℕ). k < n) ks) (sym is) (all_below n built))
-
-next_range : (n : ℕ) → IsBuilt n → range_with_len 1 (n - 1) ++ number (asked n) ∷ [] ≡ range_with_len 1 (n + 1 - 1)
-next_range n (inl e) = subst (λ (m : ℕ). range_with_len 1 (m - 1) ++ number (asked m) ∷ [] ≡ range_with_len 1 (m + 1 - 1)) (sym e) refl
-next_range n (inr (inl e)) = subst (λ (m : ℕ). range_with_len 1 (m - 1) ++ number (asked m) ∷ [] ≡ range_with_len 1 (m + 1 - 1)) (sym e) refl
-next_range n (inr (inr (inl e))) = subst (λ (m : ℕ). range_with_len 1 (m - 1) ++ number (asked m) ∷ [] ≡ range_with_len 1 (m + 1 - 1)) (sym e) refl
-next_range n (inr (inr (inr (inl e)))) = subst (λ (m : ℕ). range_with_len 1 (m - 1) ++ number (asked m) ∷ [] ≡ range_with_len 1 (m + 1 - 1)) (sym e) refl
-next_range n (inr (inr (inr (inr none)))) = absurd none
 
 map_push : {A B : Type 0} (f : A → B) (xs : List A) (x : A) → map f (xs ++ x ∷ []) ≡ map f xs ++ f x ∷ []
 map_push f [] x = refl
 map_push f (y ∷ ys) x = ap (λ (t : List _). f y ∷ t) (map_push f ys x)
 
-pub so_far_next : (n : ℕ) (old new : Earlier) (v : Verdict) → IsBuilt n → map (λ (e : Question × Verdict). number e.0) old ≡ range_with_len 1 (n - 1) → new ≡ old ++ (asked n, v) ∷ [] → map (λ (e : Question × Verdict). number e.0) new ≡ range_with_len 1 (n + 1 - 1)
-so_far_next n old new v built is same =
-    ap (λ (es : Earlier). map (λ (e : Question × Verdict). number e.0) es) same ∙ map_push (λ (e : Question × Verdict). number e.0) old (asked n, v)
-    ∙ ap (λ (ks : List ℕ). ks ++ number (asked n) ∷ []) is ∙ next_range n built
+next_range : (n : ℕ) → IsBuilt n → take (n - 1) built ++ asked n ∷ [] ≡ take (n + 1 - 1) built
+next_range n (inl e) = subst (λ (m : ℕ). take (m - 1) built ++ asked m ∷ [] ≡ take (m + 1 - 1) built) (sym e) refl
+next_range n (inr (inl e)) = subst (λ (m : ℕ). take (m - 1) built ++ asked m ∷ [] ≡ take (m + 1 - 1) built) (sym e) refl
+next_range n (inr (inr (inl e))) = subst (λ (m : ℕ). take (m - 1) built ++ asked m ∷ [] ≡ take (m + 1 - 1) built) (sym e) refl
+next_range n (inr (inr (inr (inl e)))) = subst (λ (m : ℕ). take (m - 1) built ++ asked m ∷ [] ≡ take (m + 1 - 1) built) (sym e) refl
+next_range n (inr (inr (inr (inr (inl e))))) = subst (λ (m : ℕ). take (m - 1) built ++ asked m ∷ [] ≡ take (m + 1 - 1) built) (sym e) refl
+next_range n (inr (inr (inr (inr (inr (inl e)))))) = subst (λ (m : ℕ). take (m - 1) built ++ asked m ∷ [] ≡ take (m + 1 - 1) built) (sym e) refl
+next_range n (inr (inr (inr (inr (inr (inr (inl e))))))) = subst (λ (m : ℕ). take (m - 1) built ++ asked m ∷ [] ≡ take (m + 1 - 1) built) (sym e) refl
+next_range n (inr (inr (inr (inr (inr (inr (inr (inl e)))))))) = subst (λ (m : ℕ). take (m - 1) built ++ asked m ∷ [] ≡ take (m + 1 - 1) built) (sym e) refl
+next_range n (inr (inr (inr (inr (inr (inr (inr (inr none)))))))) = absurd none
+
+pub so_far_next : (n : ℕ) (old new : Earlier) (v : Verdict) → IsBuilt n → map (λ (e : Question × Verdict). e.0) old ≡ take (n - 1) built → new ≡ old ++ (asked n, v) ∷ [] → map (λ (e : Question × Verdict). e.0) new ≡ take (n + 1 - 1) built
+so_far_next n old new v is so_far same =
+    ap (λ (es : Earlier). map (λ (e : Question × Verdict). e.0) es) same ∙ map_push (λ (e : Question × Verdict). e.0) old (asked n, v)
+    ∙ ap (λ (qs : List Question). qs ++ asked n ∷ []) so_far ∙ next_range n is
 
 pub kept_next : (q : Question) (old new : Earlier) (vs ws : List Verdict) (v : Verdict) → map tight vs ≡ map (λ (e : Question × Verdict). e.1) old → new ≡ old ++ (q, tight v) ∷ [] → ws ≡ vs ++ v ∷ [] → map tight ws ≡ map (λ (e : Question × Verdict). e.1) new
 kept_next q old new vs ws v is same all =
@@ -143,44 +123,56 @@ kept_next q old new vs ws v is same all =
 
 -- ---- after the records of a block
 
--- the same course, by whether the head is open and by verdict and proof
-abbrev end_by : Bool → Verdict → Proof → Net → Earlier → ℕ → List (List Record) → (version : ℕ) → List (List ℤ) → Question → Record → List Record → Course (Behind Known)
-end_by b v p net earlier n blocks version table q h rs =
-    claims n (unless b (row_tests net earlier q v p)) >>= (λ x. asks_trees version table (unless b []) (n + 1 + length rs) >>= (λ line. Give (record { known = known_of net (earlier ++ (q, v) ∷ []); by_tree = has_tree (unless b []); line = line; blocks = blocks ++ (h ∷ rs) ∷ [] })))
+-- the same course, by its tests and trees and by verdict
+abbrev end_by : List {1} Test → List {1} Problem → Verdict → Net → Earlier → ℕ → List (List Record) → (version : ℕ) → List (List ℤ) → Question → Record → List Record → Course (Behind Known)
+end_by ts ps v net earlier n blocks version table q h rs =
+    claims n ts >>= (λ x. asks_trees version table ps (n + 1 + length rs) >>= (λ line. Give (record { known = known_of net (earlier ++ (q, v) ∷ []); by_tree = has_tree ps; line = line; blocks = blocks ++ (h ∷ rs) ∷ [] })))
+
+no_trees : (b : Bool) → unless {A = Problem} b [] ≡ []
+no_trees true = refl
+no_trees false = refl
 
 -- what is said of it with these is said of the course
 as_ends : (P : Course (Behind Known) → Type 0) (v : Verdict) (p : Proof) (net : Net) (earlier : Earlier) (n : ℕ) (blocks : List (List Record)) (version : ℕ) (table : List (List ℤ)) (q : Question) (h : Record) (rs : List Record)
-    → is_open h ≡ false → verdict_of q (sizes_of (known_of net earlier)) h rs ≡ v → proof_of q (shapes_of (known_of net earlier)) h rs ≡ p
-    → P (end_by false v p net earlier n blocks version table q h rs) → P (end_course version table q (behind_at net earlier n blocks) h rs)
-as_ends P v p net earlier n blocks version table q h rs closed verdict proof x =
-    subst (λ (b : Bool). P (end_by b (verdict_of q (sizes_of (known_of net earlier)) h rs) (proof_of q (shapes_of (known_of net earlier)) h rs) net earlier n blocks version table q h rs)) (sym closed)
-    (subst (λ (w : Verdict). P (end_by false w (proof_of q (shapes_of (known_of net earlier)) h rs) net earlier n blocks version table q h rs)) (sym verdict)
-    (subst (λ (w : Proof). P (end_by false v w net earlier n blocks version table q h rs)) (sym proof) x))
+    → verdict_of q (sizes_of (known_of net earlier)) h rs ≡ v → proof_of q (shapes_of (known_of net earlier)) h rs ≡ p
+    → unless (is_open h) (row_tests net earlier q v p) ≡ row_tests net earlier q v p
+    → P (end_by (row_tests net earlier q v p) [] v net earlier n blocks version table q h rs) → P (end_course version table q (behind_at net earlier n blocks) h rs)
+as_ends P v p net earlier n blocks version table q h rs verdict proof tests x =
+    subst (λ (w : Verdict). P (end_by (unless (is_open h) (row_tests net earlier q w (proof_of q (shapes_of (known_of net earlier)) h rs))) (unless (is_open h) []) w net earlier n blocks version table q h rs)) (sym verdict)
+    (subst (λ (w : Proof). P (end_by (unless (is_open h) (row_tests net earlier q v w)) (unless (is_open h) []) v net earlier n blocks version table q h rs)) (sym proof)
+    (subst (λ (ts : List {1} Test). P (end_by ts (unless (is_open h) []) v net earlier n blocks version table q h rs)) (sym tests)
+    (subst (λ (ps : List {1} Problem). P (end_by (row_tests net earlier q v p) ps v net earlier n blocks version table q h rs)) (sym (no_trees (is_open h))) x)))
 
-ends_give : (v : Verdict) (p : Proof) (net : Net) (earlier : Earlier) (n : ℕ) (blocks : List (List Record)) (version : ℕ) (table : List (List ℤ)) (q : Question) (h : Record) (rs : List Record) (place : Place)
-    → AllHold (row_tests net earlier q v p) → Gives (end_by false v p net earlier n blocks version table q h rs) place (behind_at net (earlier ++ (q, v) ∷ []) (n + 1 + length rs) (blocks ++ (h ∷ rs) ∷ [])) place
+ends_give : (ts : List {1} Test) (v : Verdict) (net : Net) (earlier : Earlier) (n : ℕ) (blocks : List (List Record)) (version : ℕ) (table : List (List ℤ)) (q : Question) (h : Record) (rs : List Record) (place : Place)
+    → AllHold ts → Gives (end_by ts [] v net earlier n blocks version table q h rs) place (behind_at net (earlier ++ (q, v) ∷ []) (n + 1 + length rs) (blocks ++ (h ∷ rs) ∷ [])) place
 unfolding asks_trees Gives
-ends_give v p net earlier n blocks version table q h rs place hold =
-    gives_then (claims n (row_tests net earlier q v p)) (λ x. Give (behind_at net (earlier ++ (q, v) ∷ []) (n + 1 + length rs) (blocks ++ (h ∷ rs) ∷ []))) place place place tt _ (claims_hold n (row_tests net earlier q v p) place hold) (refl, refl)
+ends_give ts v net earlier n blocks version table q h rs place hold =
+    gives_then (claims n ts) (λ x. Give (behind_at net (earlier ++ (q, v) ∷ []) (n + 1 + length rs) (blocks ++ (h ∷ rs) ∷ []))) place place place tt _ (claims_hold n ts place hold) (refl, refl)
 
-ends_fail : (v : Verdict) (p : Proof) (net : Net) (earlier : Earlier) (n : ℕ) (blocks : List (List Record)) (version : ℕ) (table : List (List ℤ)) (q : Question) (h : Record) (rs : List Record) (part code : ℕ) (place : Place)
-    → FailsFirst (row_tests net earlier q v p) part code → course.FailsFirst (end_by false v p net earlier n blocks version table q h rs) place (n + part) code
-ends_fail v p net earlier n blocks version table q h rs part code place f =
-    fails_before (claims n (row_tests net earlier q v p)) _ place (n + part) code (claims_fail n (row_tests net earlier q v p) part code place f)
+ends_fail : (ts : List {1} Test) (v : Verdict) (net : Net) (earlier : Earlier) (n : ℕ) (blocks : List (List Record)) (version : ℕ) (table : List (List ℤ)) (q : Question) (h : Record) (rs : List Record) (part code : ℕ) (place : Place)
+    → FailsFirst ts part code → course.FailsFirst (end_by ts [] v net earlier n blocks version table q h rs) place (n + part) code
+ends_fail ts v net earlier n blocks version table q h rs part code place f = fails_before (claims n ts) _ place (n + part) code (claims_fail n ts part code place f)
 
 -- ---- an answer and its block
 
 -- the verdict and the proof that a head with these numbers and these records say
 abbrev pub said_verdict : ℕ → List ℤ → List Record → Verdict
-said_verdict n head rs = verdict_by (asked n) (said.number head 0) (later_numbers head) rs
+said_verdict n head rs = verdict_of_head (asked n) head rs
 
 abbrev pub said_proof : Net → Earlier → ℕ → List ℤ → List Record → Proof
-said_proof net earlier n head rs = proof_by (asked n) (shapes_of (known_of net earlier)) (said.number head 0) (later_numbers head) rs
+said_proof net earlier n head rs = proof_of_head (asked n) (shapes_of (known_of net earlier)) (parts_after net earlier n head) head rs
 
 -- the answer is the one that the block says
 pub record IsAnswerOf (net : Net) (earlier : Earlier) (n : ℕ) (head : List ℤ) (rs : List Record) (a : Answer) : Type 0 where
   pub verdict_is : a.verdict ≡ said_verdict n head rs
   pub proof_is : a.proof ≡ said_proof net earlier n head rs
+
+pub said_answer : (net : Net) (earlier : Earlier) (n : ℕ) (head : List ℤ) (parts : List Part) (rows : List (List ℤ)) (h : Record) (rs : List Record) (a : Answer) → IsBlock net earlier n head rows h rs → parts ≡ parts_after net earlier n head
+    → ((rs : List Record) → lists rs ≡ rows → a.verdict ≡ verdict_of_head (asked n) head rs) → ((rs : List Record) (s : Shapes) → lists rs ≡ rows → a.proof ≡ proof_of_head (asked n) s parts head rs) → IsAnswerOf net earlier n head rs a
+said_answer net earlier n head parts rows h rs a b is verdict proof = record {
+  verdict_is = verdict rs (sym b.rows_are);
+  proof_is = proof rs (shapes_of (known_of net earlier)) (sym b.rows_are) ∙ ap (λ (ps : List Part). proof_of_head (asked n) (shapes_of (known_of net earlier)) ps head rs) is;
+}
 
 same_answer : (P : Verdict → Proof → Type 0) (net : Net) (earlier : Earlier) (n : ℕ) (head : List ℤ) (rs : List Record) (a : Answer) → IsAnswerOf net earlier n head rs a → P (said_verdict n head rs) (said_proof net earlier n head rs) → P a.verdict a.proof
 same_answer P net earlier n head rs a is p =
@@ -190,89 +182,99 @@ other_answer : (P : Verdict → Proof → Type 0) (net : Net) (earlier : Earlier
 other_answer P net earlier n head rs a is p =
     subst (λ (v : Verdict). P v (said_proof net earlier n head rs)) is.verdict_is (subst (λ (w : Proof). P a.verdict w) is.proof_is p)
 
-pub answer_formed : (net : Net) (earlier : Earlier) (n : ℕ) (head : List ℤ) (rows : List (List ℤ)) (h : Record) (rs : List Record) (a : Answer) → IsNetwork net → IsBuilt n → IsBlock net n head rows h rs → IsAnswerOf net earlier n head rs a → IsFormed net earlier (asked n) a
-answer_formed net earlier n head rows h rs a network built b is =
-    let f = said_facts net n head h network built b.is_head in
-    same_answer (λ v p. IsFormedOf net earlier (asked n) v p) net earlier n head rs a is (let g = f.formed in g earlier rs b.fit)
+pub answer_formed : (net : Net) (n : ℕ) (facts : KeptFacts) (head : List ℤ) (rows : List (List ℤ)) (h : Record) (rs : List Record) (a : Answer) → IsBuilt n → IsKnown net n facts → HeadHolds net facts.earlier n head → IsBlock net facts.earlier n head rows h rs → IsAnswerOf net facts.earlier n head rs a → IsFormed net facts.earlier (asked n) a
+answer_formed net n facts head rows h rs a built known hold b is =
+    let f = said_facts net n facts head h built known b.is_head in
+    same_answer (λ v p. IsFormedOf net facts.earlier (asked n) v p) net facts.earlier n head rs a is (let g = f.formed in g rs hold b.fit)
 
 pub answer_holds : (net : Net) (earlier : Earlier) (n : ℕ) (head : List ℤ) (rs : List Record) (a : Answer) → IsAnswerOf net earlier n head rs a → AllHold (tests_of net earlier (asked n) a) → AllHold (row_tests net earlier (asked n) (said_verdict n head rs) (said_proof net earlier n head rs))
 answer_holds net earlier n head rs a is h =
     other_answer (λ v p. AllHold (row_tests net earlier (asked n) v p)) net earlier n head rs a is (hold_after (head_tests net earlier (asked n) a.verdict) (row_tests net earlier (asked n) a.verdict a.proof) h)
 
-pub answer_fails : (net : Net) (earlier : Earlier) (n : ℕ) (head : List ℤ) (rows : List (List ℤ)) (h : Record) (rs : List Record) (a : Answer) (part code : ℕ) → IsNetwork net → IsBuilt n → IsBlock net n head rows h rs → HeadHolds net earlier n head → IsAnswerOf net earlier n head rs a
-    → FailsFirst (tests_of net earlier (asked n) a) part code → FailsFirst (row_tests net earlier (asked n) (said_verdict n head rs) (said_proof net earlier n head rs)) part code
-answer_fails net earlier n head rows h rs a part code network built b heads is f =
-    let facts = said_facts net n head h network built b.is_head in
-    let same : AllHold (head_tests net earlier (asked n) a.verdict) = subst (λ (v : Verdict). AllHold (head_tests net earlier (asked n) v)) (sym is.verdict_is) (let s = facts.heads_same in s earlier rs heads) in
+pub answer_fails : (net : Net) (n : ℕ) (facts : KeptFacts) (head : List ℤ) (rows : List (List ℤ)) (h : Record) (rs : List Record) (a : Answer) (part code : ℕ) → IsBuilt n → IsKnown net n facts → HeadHolds net facts.earlier n head → IsBlock net facts.earlier n head rows h rs → IsAnswerOf net facts.earlier n head rs a
+    → FailsFirst (tests_of net facts.earlier (asked n) a) part code → FailsFirst (row_tests net facts.earlier (asked n) (said_verdict n head rs) (said_proof net facts.earlier n head rs)) part code
+answer_fails net n facts head rows h rs a part code built known hold b is f =
+    let g = said_facts net n facts head h built known b.is_head in
+    let earlier = facts.earlier in
+    let same : AllHold (head_tests net earlier (asked n) a.verdict) = subst (λ (v : Verdict). AllHold (head_tests net earlier (asked n) v)) (sym is.verdict_is) (let s = g.heads_same in s rs hold) in
     other_answer (λ v p. FailsFirst (row_tests net earlier (asked n) v p) part code) net earlier n head rs a is (fail_after (head_tests net earlier (asked n) a.verdict) (row_tests net earlier (asked n) a.verdict a.proof) part code same f)
 
-pub answer_part : (net : Net) (earlier : Earlier) (n : ℕ) (head : List ℤ) (rows : List (List ℤ)) (h : Record) (rs : List Record) (a : Answer) (part code : ℕ) → IsNetwork net → IsBuilt n → IsBlock net n head rows h rs → HeadHolds net earlier n head → IsAnswerOf net earlier n head rs a
-    → FailsFirst (tests_of net earlier (asked n) a) part code → part ≤ 7
-answer_part net earlier n head rows h rs a part code network built b heads is f =
-    let facts = said_facts net n head h network built b.is_head in
-    part_within (row_tests net earlier (asked n) (said_verdict n head rs) (said_proof net earlier n head rs)) part code (let w = facts.row_parts in w earlier rs) (answer_fails net earlier n head rows h rs a part code network built b heads is f)
+pub answer_part : (net : Net) (n : ℕ) (facts : KeptFacts) (head : List ℤ) (rows : List (List ℤ)) (h : Record) (rs : List Record) (a : Answer) (part code : ℕ) → IsBuilt n → IsKnown net n facts → HeadHolds net facts.earlier n head → IsBlock net facts.earlier n head rows h rs → IsAnswerOf net facts.earlier n head rs a
+    → FailsFirst (tests_of net facts.earlier (asked n) a) part code → part ≤ suc (length rows)
+answer_part net n facts head rows h rs a part code built known hold b is f =
+    let g = said_facts net n facts head h built known b.is_head in
+    let l = block_length net facts.earlier n head rows h rs b in
+    let w = part_within (suc (length rs)) (row_tests net facts.earlier (asked n) (said_verdict n head rs) (said_proof net facts.earlier n head rs)) part code (let w = g.row_parts in w rs hold b.fit) (answer_fails net n facts head rows h rs a part code built known hold b is f) in
+    omega (arith, l, w)
 
 -- the course goes on after the block with this verdict
-pub block_ends : (net : Net) (earlier new : Earlier) (n line next : ℕ) (head : List ℤ) (rows : List (List ℤ)) (h : Record) (rs : List Record) (a : Answer) (version : ℕ) (table : List (List ℤ)) (blocks : List (List Record))
-    → IsNetwork net → IsBuilt n → IsBlock net n head rows h rs → IsAnswerOf net earlier n head rs a → AllHold (tests_of net earlier (asked n) a) → new ≡ earlier ++ (asked n, tight a.verdict) ∷ [] → line + 1 + length rows ≡ next
-    → (y : Behind Known) × IsAfter net new next y × ((place : Place) → Gives (end_course version table (asked n) (behind_at net earlier line blocks) h rs) place y place)
-block_ends net earlier new n line next head rows h rs a version table blocks network built b is hold kept ends =
-    let f = said_facts net n head h network built b.is_head in
+pub block_ends : (net : Net) (n : ℕ) (facts : KeptFacts) (head : List ℤ) (rows : List (List ℤ)) (h : Record) (rs : List Record) (a : Answer) (new : Earlier) (line next version : ℕ) (table : List (List ℤ)) (blocks : List (List Record)) → IsBuilt n → IsKnown net n facts → HeadHolds net facts.earlier n head → IsBlock net facts.earlier n head rows h rs → IsAnswerOf net facts.earlier n head rs a
+    → AllHold (tests_of net facts.earlier (asked n) a) → new ≡ facts.earlier ++ (asked n, tight a.verdict) ∷ [] → line + 1 + length rows ≡ next
+    → (y : Behind Known) × IsAfter net new next y × ((place : Place) → Gives (end_course version table (asked n) (behind_at net facts.earlier line blocks) h rs) place y place)
+block_ends net n facts head rows h rs a new line next version table blocks built known hold b is holds kept ends =
+    let earlier = facts.earlier in
+    let f = said_facts net n facts head h built known b.is_head in
     let v = said_verdict n head rs in
+    let p = said_proof net earlier n head rs in
     let y : Behind Known = behind_at net (earlier ++ (asked n, v) ∷ []) (line + 1 + length rs) (blocks ++ (h ∷ rs) ∷ []) in
     let tight_is : v ≡ tight a.verdict = sym (let t = f.tight_is in t rs) ∙ sym (ap tight is.verdict_is) in
     let same : earlier ++ (asked n, v) ∷ [] ≡ new = ap (λ (w : Verdict). earlier ++ (asked n, w) ∷ []) tight_is ∙ sym kept in
-    let at : line + 1 + length rs ≡ next = ap (λ (k : ℕ). line + 1 + k) (sym (block_length net n head rows h rs b)) ∙ ends in (
+    let at : line + 1 + length rs ≡ next = ap (λ (k : ℕ). line + 1 + k) (sym (block_length net earlier n head rows h rs b)) ∙ ends in (
       y,
       (blocks ++ (h ∷ rs) ∷ [], ap₂ (λ (es : Earlier) (k : ℕ). behind_at net es k (blocks ++ (h ∷ rs) ∷ [])) same at),
-      λ place. as_ends (λ d. Gives d place y place) v (said_proof net earlier n head rs) net earlier line blocks version table (asked n) h rs f.closed (let s = f.said in s earlier rs) (let s = f.shown in s earlier rs)
-          (ends_give v (said_proof net earlier n head rs) net earlier line blocks version table (asked n) h rs place (answer_holds net earlier n head rs a is hold)),
+      λ place. as_ends (λ d. Gives d place y place) v p net earlier line blocks version table (asked n) h rs (let s = f.said in s rs) (let s = f.shown in s rs) (let r = f.rows_are in r rs)
+          (ends_give (row_tests net earlier (asked n) v p) v net earlier line blocks version table (asked n) h rs place (answer_holds net earlier n head rs a is holds)),
     )
 
 -- or fails at the first test that the answer fails
-pub block_fails : (net : Net) (earlier : Earlier) (n line : ℕ) (head : List ℤ) (rows : List (List ℤ)) (h : Record) (rs : List Record) (a : Answer) (part code version : ℕ) (table : List (List ℤ)) (blocks : List (List Record))
-    → IsNetwork net → IsBuilt n → IsBlock net n head rows h rs → HeadHolds net earlier n head → IsAnswerOf net earlier n head rs a → FailsFirst (tests_of net earlier (asked n) a) part code
-    → (place : Place) → course.FailsFirst (end_course version table (asked n) (behind_at net earlier line blocks) h rs) place (line + part) code
-block_fails net earlier n line head rows h rs a part code version table blocks network built b heads is fails place =
-    let f = said_facts net n head h network built b.is_head in
-    as_ends (λ d. course.FailsFirst d place (line + part) code) (said_verdict n head rs) (said_proof net earlier n head rs) net earlier line blocks version table (asked n) h rs f.closed (let s = f.said in s earlier rs) (let s = f.shown in s earlier rs)
-    (ends_fail (said_verdict n head rs) (said_proof net earlier n head rs) net earlier line blocks version table (asked n) h rs part code place (answer_fails net earlier n head rows h rs a part code network built b heads is fails))
+pub block_fails : (net : Net) (n : ℕ) (facts : KeptFacts) (head : List ℤ) (rows : List (List ℤ)) (h : Record) (rs : List Record) (a : Answer) (line part code version : ℕ) (table : List (List ℤ)) (blocks : List (List Record)) → IsBuilt n → IsKnown net n facts → HeadHolds net facts.earlier n head → IsBlock net facts.earlier n head rows h rs → IsAnswerOf net facts.earlier n head rs a → FailsFirst (tests_of net facts.earlier (asked n) a) part code
+    → (place : Place) → course.FailsFirst (end_course version table (asked n) (behind_at net facts.earlier line blocks) h rs) place (line + part) code
+block_fails net n facts head rows h rs a line part code version table blocks built known hold b is fails place =
+    let earlier = facts.earlier in
+    let f = said_facts net n facts head h built known b.is_head in
+    let v = said_verdict n head rs in
+    let p = said_proof net earlier n head rs in
+    as_ends (λ d. course.FailsFirst d place (line + part) code) v p net earlier line blocks version table (asked n) h rs (let s = f.said in s rs) (let s = f.shown in s rs) (let r = f.rows_are in r rs)
+    (ends_fail (row_tests net earlier (asked n) v p) v net earlier line blocks version table (asked n) h rs part code place (answer_fails net n facts head rows h rs a part code built known hold b is fails))
 
 -- ---- after a head
 
 -- what is said of the course of these records is said of what is due below the head
-pub rows_course_by : (P : Course (Behind Known) → Type 0) (version : ℕ) (table : List (List ℤ)) (net : Net) (earlier : Earlier) (n m line : ℕ) (head : List ℤ) (h : Record) (blocks : List (List Record)) → IsNetwork net → IsBuilt n → IsHead net n head h → m + 1 ≡ line
-    → P (asks_all version line false (forms_below net n head) >>= (λ rows. end_course version table (asked n) (behind_at net earlier m blocks) h rows)) → P (rows_course version table (asked n) (behind_at net earlier m blocks) h)
-rows_course_by P version table net earlier n m line head h blocks network built said next p =
-    let f = said_facts net n head h network built said in
-    subst (λ (forms : List Form). P (asks_all version (m + 1) false forms >>= (λ rows. end_course version table (asked n) (behind_at net earlier m blocks) h rows))) (sym (let b = f.below_is in b earlier))
-    (subst (λ (k : ℕ). P (asks_all version k false (forms_below net n head) >>= (λ rows. end_course version table (asked n) (behind_at net earlier m blocks) h rows))) (sym next) p)
+pub rows_course_by : (P : Course (Behind Known) → Type 0) (version : ℕ) (table : List (List ℤ)) (net : Net) (facts : KeptFacts) (n m line : ℕ) (head : List ℤ) (h : Record) (blocks : List (List Record)) → IsBuilt n → IsKnown net n facts → IsHead net facts.earlier n head h → m + 1 ≡ line
+    → P (asks_all version line false (forms_below net facts.earlier n head) >>= (λ rows. end_course version table (asked n) (behind_at net facts.earlier m blocks) h rows)) → P (rows_course version table (asked n) (behind_at net facts.earlier m blocks) h)
+rows_course_by P version table net facts n m line head h blocks built known said next p =
+    let earlier = facts.earlier in
+    let f = said_facts net n facts head h built known said in
+    subst (λ (forms : List Form). P (asks_all version (m + 1) false forms >>= (λ rows. end_course version table (asked n) (behind_at net earlier m blocks) h rows))) (sym f.below_is)
+    (subst (λ (k : ℕ). P (asks_all version k false (forms_below net earlier n head) >>= (λ rows. end_course version table (asked n) (behind_at net earlier m blocks) h rows))) (sym next) p)
 
--- the same course, by whether the head is open and by verdict
-abbrev head_by : Bool → Verdict → Net → Earlier → ℕ → List (List Record) → (version : ℕ) → List (List ℤ) → Question → Record → Course (Behind Known)
-head_by b v net earlier n blocks version table q h = claims n (unless b (head_tests net earlier q v)) >>= (λ x. rows_course version table q (behind_at net earlier n blocks) h)
+-- the same course, by its tests
+abbrev head_by : List {1} Test → Net → Earlier → ℕ → List (List Record) → (version : ℕ) → List (List ℤ) → Question → Record → Course (Behind Known)
+head_by ts net earlier n blocks version table q h = claims n ts >>= (λ x. rows_course version table q (behind_at net earlier n blocks) h)
 
-pub head_course_by : (P : Course (Behind Known) → Type 0) (version : ℕ) (table : List (List ℤ)) (net : Net) (earlier : Earlier) (n m : ℕ) (head : List ℤ) (h : Record) (blocks : List (List Record)) → IsNetwork net → IsBuilt n → IsHead net n head h
-    → P (claims m (head_tests net earlier (asked n) (said_verdict n head [])) >>= (λ x. rows_course version table (asked n) (behind_at net earlier m blocks) h)) → P (head_course version table (asked n) (behind_at net earlier m blocks) h)
-head_course_by P version table net earlier n m head h blocks network built said p =
-    let f = said_facts net n head h network built said in
-    subst (λ (b : Bool). P (head_by b (verdict_of (asked n) (sizes_of (known_of net earlier)) h []) net earlier m blocks version table (asked n) h)) (sym f.closed)
-    (subst (λ (v : Verdict). P (head_by false v net earlier m blocks version table (asked n) h)) (sym (let s = f.said in s earlier [])) p)
-
--- the forms of the records below a head, by what was computed of it
-pub forms_are : (net : Net) (n k place : ℕ) (head : List ℤ) (due : List Row) → k ≡ class_count n head → place ≡ said.number head 0 → due ≡ rows_below n place → map (row_form net k) due ≡ forms_below net n head
-forms_are net n k place head due kis pis dis =
-    ap (λ (rows : List Row). map (row_form net k) rows) (dis ∙ ap (λ (p : ℕ). rows_below n p) pis) ∙ ap (λ (j : ℕ). map (row_form net j) (rows_below n (said.number head 0))) kis
+pub head_course_by : (P : Course (Behind Known) → Type 0) (version : ℕ) (table : List (List ℤ)) (net : Net) (facts : KeptFacts) (n m : ℕ) (head : List ℤ) (h : Record) (blocks : List (List Record)) → IsBuilt n → IsKnown net n facts → IsHead net facts.earlier n head h
+    → P (claims m (head_tests net facts.earlier (asked n) (said_verdict n head [])) >>= (λ x. rows_course version table (asked n) (behind_at net facts.earlier m blocks) h)) → P (head_course version table (asked n) (behind_at net facts.earlier m blocks) h)
+head_course_by P version table net facts n m head h blocks built known said p =
+    let earlier = facts.earlier in
+    let f = said_facts net n facts head h built known said in
+    subst (λ (v : Verdict). P (head_by (unless (is_open h) (head_tests net earlier (asked n) v)) net earlier m blocks version table (asked n) h)) (sym (let s = f.said in s []))
+    (subst (λ (ts : List {1} Test). P (head_by ts net earlier m blocks version table (asked n) h)) (sym f.heads_are) p)
 
 -- the records that were read below a head
-pub rows_block : (net : Net) (n k place : ℕ) (head : List ℤ) (due : List Row) (rows old : List (List ℤ)) (h : Record) (rs : List Record) → k ≡ class_count n head → place ≡ said.number head 0 → due ≡ rows_below n place → old ≡ [] → IsHead net n head h
-    → AreRows (map (row_form net k) due) old rows rs → IsBlock net n head rows h rs
-rows_block net n k place head due rows old h rs kis pis dis none said r = record {
+pub rows_block : (net : Net) (earlier : Earlier) (n : ℕ) (head : List ℤ) (forms : List Form) (rows old : List (List ℤ)) (h : Record) (rs : List Record) → forms ≡ forms_below net earlier n head → old ≡ [] → IsHead net earlier n head h → AreRows forms old rows rs → IsBlock net earlier n head rows h rs
+rows_block net earlier n head forms rows old h rs is none said r = record {
   is_head = said;
-  fit = subst (λ (forms : List Form). AllZip Fits forms rs) (forms_are net n k place head due kis pis dis) r.0;
+  fit = subst (λ (fs : List Form). AllZip Fits fs rs) is r.0;
   rows_are = r.1 ∙ ap (λ (x : List (List ℤ)). x ++ lists rs) none;
 }
 
-pub rows_counted : (net : Net) (k : ℕ) (due : List Row) (rows old : List (List ℤ)) (rs : List Record) → old ≡ [] → AreRows (map (row_form net k) due) old rows rs → length rows ≡ length due
-rows_counted net k due rows old rs none r =
-    ap (λ (x : List (List ℤ)). length x) (r.1 ∙ ap (λ (x : List (List ℤ)). x ++ lists rs) none) ∙ length-map rs (λ (r : Record). r.numbers) ∙ zip_length (map (row_form net k) due) rs r.0 ∙ length-map due (row_form net k)
+-- the forms of the records below a head, by what was computed of it
+pub forms_are : (net : Net) (earlier : Earlier) (n : ℕ) (head : List ℤ) (labels : List ℕ) (k place : ℕ) (parts : List Part) (due : List Row) → labels ≡ linkage earlier → k ≡ class_count n head → place ≡ said.number head 0 → parts ≡ parts_below net labels n head → due ≡ rows_below n place parts → map (row_form net labels k) due ≡ forms_below net earlier n head
+forms_are net earlier n head labels k place parts due lis kis pis tis dis =
+    ap (λ (rows : List Row). map (row_form net labels k) rows) (dis ∙ ap (λ (t : List Part). rows_below n place t) tis)
+    ∙ ap (λ (l : List ℕ). map (row_form net l k) (rows_below n place (parts_below net l n head))) lis
+    ∙ ap₂ (λ (j : ℕ) (p : ℕ). map (row_form net (linkage earlier) j) (rows_below n p (parts_after net earlier n head))) kis pis
+
+pub rows_counted : (forms : List Form) (rows old : List (List ℤ)) (rs : List Record) → old ≡ [] → AreRows forms old rows rs → length rows ≡ length forms
+rows_counted forms rows old rs none r =
+    ap (λ (x : List (List ℤ)). length x) (r.1 ∙ ap (λ (x : List (List ℤ)). x ++ lists rs) none) ∙ length-map rs (λ (r : Record). r.numbers) ∙ zip_length forms rs r.0

@@ -5,18 +5,22 @@ use Rattle.crn_io.specs.Device.{SourceSeen}
 use Rattle.crn_io.specs.Lines.{Place, BreaksLine, document_too_long, line_too_long, otherwise, LacksLine, HasMore, early, beginning}
 use Rattle.crn_vec.specs.Network.{Net}
 use Rattle.crn_cert.specs.Built.{built}
-use Rattle.crn_cert.specs.Questions.{Earlier, Question, Q1, Q2, Q3, Q4}
+use Rattle.crn_cert.specs.Questions.{Earlier, Question, Q1, Q2, Q3, Q4, Q5, Q6, Q7, Q8}
 use Rattle.crn_cert.specs.Tests.{Test as Claim}
-use Rattle.crn_cert.specs.Valid.{linkage_rows, reversible_head, reversible_rows, strong_rows, weak_head}
+use Rattle.crn_cert.specs.Valid.{class_rank_tests, conservation_rows, deficiency_head, deficiency_rows, dependence_rows, linkage_rows, rank_rows, reversible_head, reversible_rows, strong_rows, weak_head}
+use Rattle.crn_cert.specs.RankTests.{comb_tests, dual_tests, rank_tests}
+use Rattle.crn_cert.specs.declared.answer.Verdict.{Verdict}
+use Rattle.crn_cert.specs.declared.answer.Proof.{Proof}
+use Rattle.crn_cert.specs.declared.answer.RankProof.{RankProof}
 use Rattle.crn_cert.specs.declared.answer.Gap.{Gap}
-use Rattle.crn_cert.specs.declared.answer.Verdict.TheVariants.{Unknown}
-use Rattle.crn_cert.specs.declared.answer.Proof.TheVariants.{Nothing}
+use Rattle.crn_cert.specs.declared.answer.Verdict.TheVariants.{Deficiency, NoVec, Rank, Unknown, YesVec}
+use Rattle.crn_cert.specs.declared.answer.Proof.TheVariants.{Nothing, Rank as RankRows, Ranks}
 use Rattle.crn_ctext.specs.Records.{Record, Form}
 use Rattle.crn_ctext.specs.Kinds.{end_form, section_form, table_form, vector_form}
 use Rattle.crn_ctext.specs.Questions.{Shapes, first_number, heads}
 use Rattle.crn_ctext.specs.Course.{Course, Give, Line, Test, End, ◌>>=◌, FailsFirst, due, ends, find, test}
 use Rattle.crn_ctext.specs.Blocks.{Behind, IsNetworkOf, asks, asks_all, asks_block, asks_blocks, asks_lines, asks_table, asks_trees, behind_sections, below, claims, either, has_tree, head_claims, is_open, lists_of, place_of, problems, row_claims, sections, unless}
-use Rattle.crn_ctext.specs.Meaning.{Known, gap_of, head_claims_of, meaning, proof_by, row_claims_of, shapes_of, sizes_of, verdict_by}
+use Rattle.crn_ctext.specs.Meaning.{Known, gap_of, head_claims_of, meaning, proof_by, proof_of, row_claims_of, shapes_of, sizes_of, verdict_by, verdict_of}
 use Rattle.crn_document.specs.Check.{CheckGives, HasFaultNumber, IsFaultNumber}
 use Rattle.crn_document.specs.declared.check.Accepted.{Accepted}
 use Rattle.crn_document.specs.declared.stop.CheckStop.{CheckStop}
@@ -175,19 +179,91 @@ weak_numbered net earlier false g (suc zero) n = (of_37, tt)
 weak_numbered net earlier false g (suc (suc zero)) n = (of_37, tt)
 weak_numbered net earlier false g (suc (suc (suc k))) n = tt
 
+numbered_join : (xs ys : List {1} Claim) → AreNumbered xs → AreNumbered ys → AreNumbered (xs ++ ys)
+numbered_join [] ys p q = q
+numbered_join (x ∷ xs) ys p q = (p.0, numbered_join xs ys p.1 q)
+
+duals_numbered : (vs : List (List ℤ)) (part i : ℕ) (duals : List (List ℤ)) → AreNumbered (dual_tests vs part i duals)
+duals_numbered vs part i [] = tt
+duals_numbered vs part i (d ∷ ds) = (from_21 33 (omega arith) (omega arith), duals_numbered vs (suc part) (suc i) ds)
+
+combs_numbered : (net : Net) (vs : List (List ℤ)) (part : ℕ) (rs : List ℕ) (combs : List (List ℤ)) → AreNumbered (comb_tests net vs part rs combs)
+combs_numbered net vs part [] combs = tt
+combs_numbered net vs part (r ∷ rs) [] = (from_21 34 (omega arith) (omega arith), tt)
+combs_numbered net vs part (r ∷ rs) (c ∷ cs) = (from_21 34 (omega arith) (omega arith), combs_numbered net vs (suc part) rs cs)
+
+rank_tests_numbered : (net : Net) (members : List ℕ) (part : ℕ) (base : List ℕ) (duals combs : List (List ℤ)) → AreNumbered (rank_tests net members part base duals combs)
+rank_tests_numbered net members part base duals combs = numbered_join _ _ (duals_numbered _ (part + 1) 0 duals) (combs_numbered net _ (part + 1 + length base) _ combs)
+
+classes_numbered : (net : Net) (earlier : Earlier) (part k : ℕ) (proofs : List RankProof) → AreNumbered (class_rank_tests net earlier part k proofs)
+classes_numbered net earlier part k [] = tt
+classes_numbered net earlier part k (p ∷ ps) = numbered_join _ _ (rank_tests_numbered net _ part p.base.list p.duals p.combs) (classes_numbered net earlier (part + 1 + length p.duals + length p.combs) (suc k) ps)
+
+rank_numbered : (net : Net) (v : Verdict) (p : Proof) → AreNumbered (rank_rows net v p)
+rank_numbered net (Rank rank base) (RankRows proof) = rank_tests_numbered net _ 1 proof.base.list proof.duals proof.combs
+rank_numbered net (Rank rank base) p = tt
+rank_numbered net v p = tt
+
+deficiency_head_numbered : (net : Net) (earlier : Earlier) (v : Verdict) → AreNumbered (deficiency_head net earlier v)
+deficiency_head_numbered net earlier (Deficiency total classes) = (of_37, (from_21 36 (omega arith) (omega arith), tt))
+deficiency_head_numbered net earlier v = tt
+
+deficiency_numbered : (net : Net) (earlier : Earlier) (v : Verdict) (p : Proof) → AreNumbered (deficiency_rows net earlier v p)
+deficiency_numbered net earlier (Deficiency total classes) (Ranks list) = classes_numbered net earlier 1 1 list
+deficiency_numbered net earlier (Deficiency total classes) p = tt
+deficiency_numbered net earlier v p = tt
+
+dependence_numbered : (net : Net) (v : Verdict) → AreNumbered (dependence_rows net v)
+dependence_numbered net (YesVec vector) = (from_21 35 (omega arith) (omega arith), tt)
+dependence_numbered net (NoVec multipliers) = (from_21 35 (omega arith) (omega arith), tt)
+dependence_numbered net v = tt
+
+conservation_numbered : (net : Net) (v : Verdict) → AreNumbered (conservation_rows net v)
+conservation_numbered net (YesVec vector) = (from_21 35 (omega arith) (omega arith), tt)
+conservation_numbered net (NoVec multipliers) = (from_21 35 (omega arith) (omega arith), tt)
+conservation_numbered net v = tt
+
+-- what a block says
+abbrev verdict_in : Question → Known → Record → List Record → Verdict
+verdict_in q known h rs = verdict_of q (sizes_of known) h rs
+
+abbrev proof_in : Question → Known → Record → List Record → Proof
+proof_in q known h rs = proof_of q (shapes_of known) h rs
+
+first_numbered : IsNumberedFor Q1
+first_numbered = record { head = λ known h. tt; rows = λ known h rs. linkage_numbered known.net (shapes_of known) (is_open h) (gap_of h) (place_of (heads Q1 (sizes_of known)) h.words) h.numbers rs }
+
+second_numbered : IsNumberedFor Q2
+second_numbered = record { head = λ known h. tt; rows = λ known h rs. strong_numbered known.net (shapes_of known) (is_open h) (gap_of h) (place_of (heads Q2 (sizes_of known)) h.words) h.numbers rs }
+
+third_numbered : IsNumberedFor Q3
+third_numbered = record {
+  head = λ known h. reversible_head_numbered known.net (is_open h) (gap_of h) (place_of (heads Q3 (sizes_of known)) h.words) h.numbers;
+  rows = λ known h rs. reversible_numbered known.net (shapes_of known) (is_open h) (gap_of h) (place_of (heads Q3 (sizes_of known)) h.words) h.numbers rs;
+}
+
+fourth_numbered : IsNumberedFor Q4
+fourth_numbered = record { head = λ known h. weak_numbered known.net known.earlier (is_open h) (gap_of h) (place_of (heads Q4 (sizes_of known)) h.words) h.numbers; rows = λ known h rs. tt }
+
 built_numbered : AreNumberedFor built
 built_numbered = (
-  record { head = λ known h. tt; rows = λ known h rs. linkage_numbered known.net (shapes_of known) (is_open h) (gap_of h) (place_of (heads Q1 (sizes_of known)) h.words) h.numbers rs },
+  first_numbered,
   (
-    record { head = λ known h. tt; rows = λ known h rs. strong_numbered known.net (shapes_of known) (is_open h) (gap_of h) (place_of (heads Q2 (sizes_of known)) h.words) h.numbers rs },
+    second_numbered,
     (
-      record {
-        head = λ known h. reversible_head_numbered known.net (is_open h) (gap_of h) (place_of (heads Q3 (sizes_of known)) h.words) h.numbers;
-        rows = λ known h rs. reversible_numbered known.net (shapes_of known) (is_open h) (gap_of h) (place_of (heads Q3 (sizes_of known)) h.words) h.numbers rs;
-      },
+      third_numbered,
       (
-        record { head = λ known h. weak_numbered known.net known.earlier (is_open h) (gap_of h) (place_of (heads Q4 (sizes_of known)) h.words) h.numbers; rows = λ known h rs. tt },
-        tt,
+        fourth_numbered,
+        (
+          record { head = λ known h. tt; rows = λ known h rs. rank_numbered known.net (verdict_in Q5 known h rs) (proof_in Q5 known h rs) },
+          (
+            record { head = λ known h. deficiency_head_numbered known.net known.earlier (verdict_in Q6 known h []); rows = λ known h rs. deficiency_numbered known.net known.earlier (verdict_in Q6 known h rs) (proof_in Q6 known h rs) },
+            (
+              record { head = λ known h. tt; rows = λ known h rs. dependence_numbered known.net (verdict_in Q7 known h rs) },
+              (record { head = λ known h. tt; rows = λ known h rs. conservation_numbered known.net (verdict_in Q8 known h rs) }, tt),
+            ),
+          ),
+        ),
       ),
     ),
   ),

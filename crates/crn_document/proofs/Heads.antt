@@ -1,104 +1,100 @@
 -- What the form of a head says of its numbers, of the records below it and of the answer.
-use Rattle.std.proofs.Common.{◌≡◌, ◌≤◌, ◌-◌, ◌++◌, ◌∙◌, ℕ, false, List, [], ◌∷◌, length, map, refl, sym, subst, ap, ap₂, inl, inr, arith}
-use Rattle.std.specs.Prelude.{ℤ, pos, negsuc, codes, nat_abs}
-use Rattle.std.specs.List.{AllByRecursion, AllZip}
+use Rattle.std.proofs.Common.{◌≡◌, ◌≤◌, ◌<◌, ◌+◌, ◌-◌, ◌^◌, ◌++◌, ◌∙◌, ℕ, zero, suc, List, [], ◌∷◌, length, map, refl, sym, subst, ap, ap₂, inl, inr, arith}
+use Rattle.std.specs.Prelude.{ℤ, pos, negsuc, codes, nat_abs, min, slice_index}
+use Rattle.std.specs.List.{AllZip, range_with_len}
 use Rattle.std.proofs.lemmas.Int.{ints}
 use Rattle.std.proofs.lemmas.List.{append-nil, length-map}
+use Rattle.std.proofs.lemmas.List.FromFn.{length-range_with_len, length-map-range_with_len}
+use Rattle.crn_vec.specs.Lists.{IsAscending, IsIn}
+use Rattle.crn_vec.specs.Deficiency.{class_members}
+use Rattle.crn_cert.specs.declared.answer.Gap.TheVariants.{Wide}
+use Rattle.crn_cert.specs.declared.answer.Verdict.TheVariants.{Deficiency, Unknown}
+use Rattle.crn_cert.specs.declared.answer.Proof.TheVariants.{Ranks}
+use Rattle.crn_cert.specs.declared.answer.RankProof.{RankProof}
 use Rattle.crn_vec.specs.Network.{Net, IsNetwork}
 use Rattle.crn_vec.specs.declared.limits.TheConstants.{MAX_COMPLEXES, MAX_REACTIONS}
-use Rattle.crn_cert.specs.Questions.{Earlier}
-use Rattle.crn_cert.specs.Formed.{HeadMayBe, IsFormedOf}
-use Rattle.crn_cert.specs.Tests.{Test, AllHold, FailsFirst}
-use Rattle.crn_cert.specs.Valid.{head_tests, row_tests}
+use Rattle.crn_cert.specs.Questions.{Earlier, Q6}
+use Rattle.crn_cert.specs.Formed.{HeadMayBe, IsFormedOf, IsBasisOf, AreClassProofs}
+use Rattle.crn_cert.specs.Tests.{AllHold}
+use Rattle.crn_cert.specs.Valid.{head_tests, row_tests, linkage, linkage_count, class_places, class_rank_tests}
 use Rattle.crn_check.specs.Verdicts.{tight}
-use Rattle.crn_cert.specs.Ranges.{AreFrom}
-use Rattle.crn_ctext.specs.Records.{Record, Form, Field, Takes, AreNarrow, AreOf, AreBetween, CountAndPart, Fits}
-use Rattle.crn_ctext.specs.Kinds.{small, small_form}
-use Rattle.crn_ctext.specs.Questions.{Sizes, heads, head, yes, no, later_numbers}
-use Rattle.crn_ctext.specs.Blocks.{is_open, below}
+use Rattle.crn_cert.specs.Ranges.{AreFrom, AreFree}
+use Rattle.crn_ctext.specs.Records.{Record, Form, AreRising, CountAndPart, ClassWide, Rising, Fits, AreOf, AreBetween}
+use Rattle.crn_ctext.specs.Kinds.{small, just, small_form, free_form}
+use Rattle.crn_ctext.specs.Questions.{Sizes, heads, head, yes, no, wide, rests, open_by, class_forms, rank_forms}
+use Rattle.crn_ctext.specs.Blocks.{is_open, below, unless}
 use Rattle.crn_ctext.specs.Documents.{IsOneOf}
-use Rattle.crn_ctext.specs.Meaning.{number, row, sizes_of, shapes_of, verdict_of, verdict_by, proof_of, proof_by}
+use Rattle.crn_ctext.specs.Meaning.{lengths, nums, lists, row, sizes_of, shapes_of, verdict_of, proof_of, class_proofs}
 use Rattle.crn_ctext.specs.Expect.{question_of}
-use Rattle.crn_check.specs.Facts.{asked}
+use Rattle.crn_check.specs.Facts.{KeptFacts, asked}
 use Rattle.crn_check.specs.Check.{IsBuilt}
-use Rattle.crn_document.specs.Inner.Answer.{IsHeadOf, row_count}
-use Rattle.crn_document.specs.Inner.Records.{row_form, rows_below}
+use Rattle.crn_document.specs.Inner.Answer.{AreSmall, AreSmallRows, IsHeadOf, verdict_of_head}
+use Rattle.crn_document.specs.Inner.Answers.{FitAnswer, part_proofs, proof_of_head}
+use Rattle.crn_document.specs.Inner.Parts.{IsKnown, class_parts}
+use Rattle.crn_document.specs.Inner.Blocks.{HeadHolds, forms_below, parts_after}
+use Rattle.crn_document.specs.declared.rows.Row.{Row}
+use Rattle.crn_document.specs.Inner.Records.{part_rows, row_form}
 use Rattle.crn_document.specs.Inner.Heads.{known_of, head_forms, tagged, class_count, IsHead}
-
--- ---- the forms of a head rest on the numbers of complexes and of reactions
-
-pub heads_by_sizes : (n : ℕ) → IsBuilt n → (z w : Sizes) → z.complexes ≡ w.complexes → z.reactions ≡ w.reactions → heads (question_of n) z ≡ heads (asked n) w
-heads_by_sizes n (inl e) z w c r = subst (λ (m : ℕ). heads (question_of m) z ≡ heads (asked m) w) (sym e) (ap (λ (k : ℕ). head (codes "q1") 1 [] (small 1 1 k ∷ []) ∷ []) c)
-heads_by_sizes n (inr (inl e)) z w c r = subst (λ (m : ℕ). heads (question_of m) z ≡ heads (asked m) w) (sym e) (ap (λ (k : ℕ). head (codes "q2") 1 [] (CountAndPart k ∷ []) ∷ []) c)
-heads_by_sizes n (inr (inr (inl e))) z w c r = subst (λ (m : ℕ). heads (question_of m) z ≡ heads (asked m) w) (sym e) (ap (λ (k : ℕ). head (codes "q3") 1 yes [] ∷ head (codes "q3") 2 no (small 1 1 k ∷ []) ∷ []) r)
-heads_by_sizes n (inr (inr (inr (inl e)))) z w c r = subst (λ (m : ℕ). heads (question_of m) z ≡ heads (asked m) w) (sym e) (ap (λ (k : ℕ). head (codes "q4") 1 yes [] ∷ head (codes "q4") 2 no (small 1 1 k ∷ []) ∷ []) r)
-heads_by_sizes n (inr (inr (inr (inr none)))) z w c r = absurd none
-
--- and not on the verdicts so far
-pub heads_any : (n : ℕ) → IsBuilt n → (net : Net) (earlier : Earlier) → heads (asked n) (sizes_of (known_of net earlier)) ≡ head_forms net n
-heads_any n built net earlier = sym (heads_by_sizes n built (sizes_of (known_of net earlier)) (sizes_of (known_of net earlier)) refl refl) ∙ heads_by_sizes n built (sizes_of (known_of net earlier)) (sizes_of (known_of net [])) refl refl
-
--- ---- numbers
-
-abbrev pub Holds : Field → List ℤ → Type 0
-Holds field zs = Takes field zs × AreNarrow field zs
-
--- the numbers of one field
-pub one_field : (field : Field) (zs : List ℤ) → AreOf Holds (field ∷ []) zs → Holds field zs
-one_field field zs p = subst (λ (ys : List ℤ). Holds field ys) (sym (p.2 ∙ ap (λ (t : List ℤ). p.0 ++ t) p.4 ∙ append-nil p.0)) p.3
-
-naturals : (least greatest : ℕ) (zs : List ℤ) → AreBetween (pos least) (pos greatest) zs → AllByRecursion (λ x. (least ≤ x) × (x ≤ greatest)) (map nat_abs zs)
-naturals least greatest [] b = tt
-naturals least greatest (negsuc n ∷ zs) b = absurd (omega (arith, ints, b.0.0))
-naturals least greatest (pos n ∷ zs) b = ((omega (arith, ints, b.0.0), omega (arith, ints, b.0.1)), naturals least greatest zs b.1)
-
-pub fits_from : (word : List ℕ) (count least greatest : ℕ) (r : Record) → Fits (small_form word count least greatest) r → AreFrom count least greatest (map nat_abs r.numbers)
-fits_from word count least greatest r f =
-    let p = one_field (small count least greatest) r.numbers f.1 in
-    record { long = length-map r.numbers nat_abs ∙ p.0.0; each = naturals least greatest r.numbers p.0.1 }
-
-one_number : (least greatest : ℕ) (zs : List ℤ) → Holds (small 1 least greatest) zs → (n : ℕ) × (zs ≡ pos n ∷ []) × ((least ≤ n) × (n ≤ greatest))
-one_number least greatest [] p = absurd (let e = p.0.0 in omega (arith, e))
-one_number least greatest (pos n ∷ []) p = (n, refl, (omega (arith, ints, p.0.1.0.0), omega (arith, ints, p.0.1.0.1)))
-one_number least greatest (negsuc n ∷ []) p = absurd (omega (arith, ints, p.0.1.0.0))
-one_number least greatest (y ∷ z ∷ zs) p = absurd (let e = p.0.0 in omega (arith, e))
-
-record_is : (r : Record) (words : List (List ℕ)) (numbers : List ℤ) → r.words ≡ words → r.numbers ≡ numbers → r ≡ record { words = words; numbers = numbers }
-record_is r words numbers w n = ap₂ (λ (ws : List (List ℕ)) (zs : List ℤ). record { words = ws; numbers = zs }) w n
+use Rattle.crn_document.proofs.Fields.{Holds, PartsWithin, fits_from, form_small, naturals, one_field, one_number, record_is, small_list}
+use Rattle.crn_document.proofs.Linkages.{count_few, members_all, members_few, member_few}
+use Rattle.crn_document.proofs.Ranks.{AreRanks, class_fit, class_ranks, class_formed, class_parts_within, class_proofs_are, class_rows_are, forms_from, free_row, members_are, proofs_from, rank_formed, rank_length, rank_parts, rank_rows_are, rank_small, sizes_are, zip_length}
 
 -- ---- what a head says
 
-abbrev Rows : Net → ℕ → List ℤ → List Form
-Rows net n t = map (row_form net (class_count n t)) (rows_below n (number t 0))
-
--- the tests are of the head or of the first seven records
-abbrev pub PartsWithin : List {1} Test → Type 0
-PartsWithin [] = Unit {0}
-PartsWithin (t ∷ ts) = (t.part ≤ 7) × PartsWithin ts
-
-pub part_within : (ts : List {1} Test) (part code : ℕ) → PartsWithin ts → FailsFirst ts part code → part ≤ 7
-part_within [] part code w f = absurd f
-part_within (t ∷ ts) part code w (inl f) = omega (arith, w.0, f.1)
-part_within (t ∷ ts) part code w (inr f) = part_within ts part code w.1 f.1
-
-pub record HeadFacts (net : Net) (n : ℕ) (h : Record) (t : List ℤ) : Type 0 where
-  pub closed : is_open h ≡ false
+pub record HeadFacts (net : Net) (earlier : Earlier) (n : ℕ) (h : Record) (t : List ℤ) : Type 1 where
+  pub small : AreSmall t
+  pub short : length t ≤ 800
   pub is_head : IsHeadOf (asked n) t
   pub few : class_count n t ≤ MAX_COMPLEXES
-  pub may : (earlier : Earlier) → HeadMayBe net earlier (asked n) (verdict_by (asked n) (number t 0) (later_numbers t) [])
-  pub below_is : (earlier : Earlier) → below (asked n) (shapes_of (known_of net earlier)) h ≡ Rows net n t
-  pub said : (earlier : Earlier) (rs : List Record) → verdict_of (asked n) (sizes_of (known_of net earlier)) h rs ≡ verdict_by (asked n) (number t 0) (later_numbers t) rs
-  pub shown : (earlier : Earlier) (rs : List Record) → proof_of (asked n) (shapes_of (known_of net earlier)) h rs ≡ proof_by (asked n) (shapes_of (known_of net earlier)) (number t 0) (later_numbers t) rs
-  pub tight_is : (rs : List Record) → tight (verdict_by (asked n) (number t 0) (later_numbers t) rs) ≡ verdict_by (asked n) (number t 0) (later_numbers t) rs
-  pub head_parts : (earlier : Earlier) → PartsWithin (head_tests net earlier (asked n) (verdict_by (asked n) (number t 0) (later_numbers t) []))
-  pub row_parts : (earlier : Earlier) (rs : List Record) → PartsWithin (row_tests net earlier (asked n) (verdict_by (asked n) (number t 0) (later_numbers t) rs) (proof_by (asked n) (shapes_of (known_of net earlier)) (number t 0) (later_numbers t) rs))
-  pub heads_same : (earlier : Earlier) (rs : List Record) → AllHold (head_tests net earlier (asked n) (verdict_by (asked n) (number t 0) (later_numbers t) [])) → AllHold (head_tests net earlier (asked n) (verdict_by (asked n) (number t 0) (later_numbers t) rs))
-  pub count : length (rows_below n (number t 0)) ≡ row_count (asked n) (number t 0)
-  pub formed : (earlier : Earlier) (rs : List Record) → AllZip Fits (Rows net n t) rs
-      → IsFormedOf net earlier (asked n) (verdict_by (asked n) (number t 0) (later_numbers t) rs) (proof_by (asked n) (shapes_of (known_of net earlier)) (number t 0) (later_numbers t) rs)
+  pub ranks : length (linkage earlier) ≤ MAX_COMPLEXES → AreRanks (parts_after net earlier n t)
+  pub may : HeadMayBe net earlier (asked n) (verdict_of_head (asked n) t [])
+  pub below_is : below (asked n) (shapes_of (known_of net earlier)) h ≡ forms_below net earlier n t
+  pub said : (rs : List Record) → verdict_of (asked n) (sizes_of (known_of net earlier)) h rs ≡ verdict_of_head (asked n) t rs
+  pub shown : (rs : List Record) → proof_of (asked n) (shapes_of (known_of net earlier)) h rs ≡ proof_of_head (asked n) (shapes_of (known_of net earlier)) (parts_after net earlier n t) t rs
+  pub heads_are : unless (is_open h) (head_tests net earlier (asked n) (verdict_of_head (asked n) t [])) ≡ head_tests net earlier (asked n) (verdict_of_head (asked n) t [])
+  pub rows_are : (rs : List Record) → unless (is_open h) (row_tests net earlier (asked n) (verdict_of_head (asked n) t rs) (proof_of_head (asked n) (shapes_of (known_of net earlier)) (parts_after net earlier n t) t rs)) ≡ row_tests net earlier (asked n) (verdict_of_head (asked n) t rs) (proof_of_head (asked n) (shapes_of (known_of net earlier)) (parts_after net earlier n t) t rs)
+  pub tight_is : (rs : List Record) → tight (verdict_of_head (asked n) t rs) ≡ verdict_of_head (asked n) t rs
+  pub head_parts : PartsWithin 7 (head_tests net earlier (asked n) (verdict_of_head (asked n) t []))
+  pub heads_same : (rs : List Record) → AllHold (head_tests net earlier (asked n) (verdict_of_head (asked n) t [])) → AllHold (head_tests net earlier (asked n) (verdict_of_head (asked n) t rs))
+  pub fit : (rs : List Record) → HeadHolds net earlier n t → AllZip Fits (forms_below net earlier n t) rs → FitAnswer (asked n) t (parts_after net earlier n t) (lists rs)
+  pub formed : (rs : List Record) → HeadHolds net earlier n t → AllZip Fits (forms_below net earlier n t) rs
+      → IsFormedOf net earlier (asked n) (verdict_of_head (asked n) t rs) (proof_of_head (asked n) (shapes_of (known_of net earlier)) (parts_after net earlier n t) t rs)
+  pub row_parts : (rs : List Record) → HeadHolds net earlier n t → AllZip Fits (forms_below net earlier n t) rs
+      → PartsWithin (suc (length rs)) (row_tests net earlier (asked n) (verdict_of_head (asked n) t rs) (proof_of_head (asked n) (shapes_of (known_of net earlier)) (parts_after net earlier n t) t rs))
 
 abbrev head_with : List (List ℕ) → List ℤ → Record
 head_with words numbers = record { words = words; numbers = numbers }
+
+-- the facts of a head of these words and numbers
+abbrev Facts : Net → Earlier → ℕ → List (List ℕ) → List ℤ → Type 1
+Facts net earlier n words numbers = HeadFacts net earlier n (head_with words numbers) (tagged net earlier n (head_with words numbers))
+
+-- a number that fits
+one_small : (n : ℕ) → n < 2 ^ 32 → AreSmall (pos n ∷ [])
+one_small n lt = ((n, refl, lt), tt)
+
+-- ---- linkage classes
+
+-- each of these forms is of small numbers
+abbrev AreSmallForms : List Form → Type 0
+AreSmallForms [] = Unit {0}
+AreSmallForms (form ∷ forms) = ((word : List ℕ) × (count least greatest : ℕ) × (form ≡ small_form word count least greatest) × (greatest < 2 ^ 32)) × AreSmallForms forms
+
+small_rows : (forms : List Form) (rs : List Record) → AreSmallForms forms → AllZip Fits forms rs → AreSmallRows (lists rs)
+small_rows [] [] s z = tt
+small_rows [] (r ∷ rs) s z = absurd z
+small_rows (f ∷ fs) [] s z = absurd z
+small_rows (f ∷ fs) (r ∷ rs) s z = let t = s.0 in (form_small t.0 t.1 t.2 t.3 r t.5 (subst (λ (f : Form). Fits f r) t.4 z.0), small_rows fs rs s.1 z.1)
+
+few_rows : (forms : List Form) (rs : List Record) → AllZip Fits forms rs → length (lists rs) ≡ length forms
+few_rows forms rs z = length-map rs (λ (r : Record). r.numbers) ∙ zip_length forms rs z
+
+form_of : (word : List ℕ) (count least greatest : ℕ) → greatest < 2 ^ 32 → (w : List ℕ) × (c l g : ℕ) × (small_form word count least greatest ≡ small_form w c l g) × (g < 2 ^ 32)
+form_of word count least greatest lt = (word, count, least, greatest, refl, lt)
+
+few_none : (rs : List Record) → AllZip Fits [] rs → rs ≡ []
+few_none [] z = refl
+few_none (r ∷ rs) z = absurd z
 
 linkage_rows : (c r k : ℕ) (rs : List Record) → AllZip Fits (small_form (codes "label") c 1 k ∷ small_form (codes "up") c 0 r ∷ small_form (codes "depth") c 0 (c - 1) ∷ []) rs
     → AreFrom c 1 k (map nat_abs (row rs 0)) × (AreFrom c 0 r (map nat_abs (row rs 1)) × AreFrom c 0 (c - 1) (map nat_abs (row rs 2)))
@@ -108,22 +104,34 @@ linkage_rows c r k (x ∷ y ∷ []) z = absurd z.1.1
 linkage_rows c r k (x ∷ y ∷ u ∷ v ∷ rs) z = absurd z.1.1.1
 linkage_rows c r k (x ∷ y ∷ u ∷ []) z = (fits_from (codes "label") c 1 k x z.0, (fits_from (codes "up") c 0 r y z.1.0, fits_from (codes "depth") c 0 (c - 1) u z.1.1.0))
 
-linkage_facts : (net : Net) (k : ℕ) → length net.complexes ≤ MAX_COMPLEXES → (1 ≤ k) × (k ≤ length net.complexes) → HeadFacts net 1 (head_with (codes "q1" ∷ []) (pos k ∷ [])) (tagged net 1 (head_with (codes "q1" ∷ []) (pos k ∷ [])))
-linkage_facts net k few range = record {
-  closed = refl;
-  is_head = (k, refl, omega (arith, few, range.1));
-  few = omega (arith, few, range.1);
-  may = λ earlier. range;
-  below_is = λ earlier. refl;
-  said = λ earlier rs. refl;
-  shown = λ earlier rs. refl;
-  tight_is = λ rs. refl;
-  head_parts = λ earlier. tt;
-  row_parts = λ earlier rs. (omega arith, (omega arith, tt));
-  heads_same = λ earlier rs p. p;
-  count = refl;
-  formed = λ earlier rs z. let f = linkage_rows (length net.complexes) (length net.reactions) k rs z in (range, (f.0, record { names_are = f.1.0; depth_is = f.1.1 }));
-}
+linkage_facts : (net : Net) (earlier : Earlier) (k : ℕ) → IsNetwork net → (1 ≤ k) × (k ≤ length net.complexes) → Facts net earlier 1 (codes "q1" ∷ []) (pos k ∷ [])
+linkage_facts net earlier k network range =
+    let few = network.partial.complexes_limit in
+    let many = network.partial.reactions_limit in
+    let c = length net.complexes in
+    let r = length net.reactions in
+    let forms = small_form (codes "label") c 1 k ∷ small_form (codes "up") c 0 r ∷ small_form (codes "depth") c 0 (c - 1) ∷ [] in
+    let smalls : AreSmallForms forms = (form_of (codes "label") c 1 k (omega (arith, few, range.1)), (form_of (codes "up") c 0 r (omega (arith, many)), (form_of (codes "depth") c 0 (c - 1) (omega (arith, few)), tt))) in record {
+      small = ((1, refl, omega arith), one_small k (omega (arith, few, range.1)));
+      short = omega arith;
+      ranks = λ long. tt;
+      is_head = (k, refl, omega (arith, few, range.1));
+      few = omega (arith, few, range.1);
+      may = range;
+      below_is = refl;
+      said = λ rs. refl;
+      shown = λ rs. refl;
+      heads_are = refl;
+      rows_are = λ rs. refl;
+      tight_is = λ rs. refl;
+      head_parts = tt;
+      heads_same = λ rs p. p;
+      fit = λ rs hold z. (few_rows forms rs z, small_rows forms rs smalls z);
+      formed = λ rs hold z. let f = linkage_rows c r k rs z in (range, (f.0, record { names_are = f.1.0; depth_is = f.1.1 }));
+      row_parts = λ rs hold z. let l = zip_length forms rs z in (omega (arith, l), (omega (arith, l), tt));
+    }
+
+-- ---- strong classes
 
 abbrev strong_row_forms : ℕ → ℕ → ℕ → List Form
 strong_row_forms c r k = small_form (codes "label") c 1 k ∷ small_form (codes "from") c 0 r ∷ small_form (codes "fromdepth") c 0 (c - 1) ∷ small_form (codes "to") c 0 r
@@ -157,145 +165,642 @@ strong_rows c r k (a ∷ b ∷ d ∷ e ∷ f ∷ g ∷ h ∷ []) z = record {
   exits = fits_from (codes "exit") k 0 r h z.1.1.1.1.1.1.0;
 }
 
-strong_facts : (net : Net) (k m : ℕ) → length net.complexes ≤ MAX_COMPLEXES → (1 ≤ m) × (m ≤ k) × (k ≤ length net.complexes) → HeadFacts net 2 (head_with (codes "q2" ∷ []) (pos k ∷ pos m ∷ [])) (tagged net 2 (head_with (codes "q2" ∷ []) (pos k ∷ pos m ∷ [])))
-strong_facts net k m few range = record {
-  closed = refl;
-  is_head = (k, m, refl, omega (arith, few, range.2), omega (arith, few, range.1, range.2));
-  few = omega (arith, few, range.2);
-  may = λ earlier. ((omega (arith, range.0, range.1), range.2), (range.0, range.1));
-  below_is = λ earlier. refl;
-  said = λ earlier rs. refl;
-  shown = λ earlier rs. refl;
-  tight_is = λ rs. refl;
-  head_parts = λ earlier. tt;
-  row_parts = λ earlier rs. (omega arith, (omega arith, (omega arith, (omega arith, (omega arith, (omega arith, tt))))));
-  heads_same = λ earlier rs p. p;
-  count = refl;
-  formed = λ earlier rs z. let f = strong_rows (length net.complexes) (length net.reactions) k rs z in
-      (((omega (arith, range.0, range.1), range.2), (range.0, range.1)), (f.labels, f.exits, record { names_are = f.from; depth_is = f.from_depth }, record { names_are = f.to; depth_is = f.to_depth }, f.levels));
-}
+strong_facts : (net : Net) (earlier : Earlier) (k m : ℕ) → IsNetwork net → (1 ≤ m) × (m ≤ k) × (k ≤ length net.complexes) → Facts net earlier 2 (codes "q2" ∷ []) (pos k ∷ pos m ∷ [])
+strong_facts net earlier k m network range =
+    let few = network.partial.complexes_limit in
+    let many = network.partial.reactions_limit in
+    let c = length net.complexes in
+    let r = length net.reactions in
+    let forms = strong_row_forms c r k in
+    let smalls : AreSmallForms forms = (form_of (codes "label") c 1 k (omega (arith, few, range.2)), (form_of (codes "from") c 0 r (omega (arith, many)), (form_of (codes "fromdepth") c 0 (c - 1) (omega (arith, few)), (form_of (codes "to") c 0 r (omega (arith, many)), (form_of (codes "todepth") c 0 (c - 1) (omega (arith, few)), (form_of (codes "level") k 0 c (omega (arith, few)), (form_of (codes "exit") k 0 r (omega (arith, many)), tt))))))) in record {
+      small = ((1, refl, omega arith), ((k, refl, omega (arith, few, range.2)), one_small m (omega (arith, few, range.1, range.2))));
+      short = omega arith;
+      ranks = λ long. tt;
+      is_head = (k, m, refl, omega (arith, few, range.2), omega (arith, few, range.1, range.2));
+      few = omega (arith, few, range.2);
+      may = ((omega (arith, range.0, range.1), range.2), (range.0, range.1));
+      below_is = refl;
+      said = λ rs. refl;
+      shown = λ rs. refl;
+      heads_are = refl;
+      rows_are = λ rs. refl;
+      tight_is = λ rs. refl;
+      head_parts = tt;
+      heads_same = λ rs p. p;
+      fit = λ rs hold z. (few_rows forms rs z, small_rows forms rs smalls z);
+      formed = λ rs hold z. let f = strong_rows c r k rs z in
+          (((omega (arith, range.0, range.1), range.2), (range.0, range.1)), (f.labels, f.exits, record { names_are = f.from; depth_is = f.from_depth }, record { names_are = f.to; depth_is = f.to_depth }, f.levels));
+      row_parts = λ rs hold z. let l = zip_length forms rs z in (omega (arith, l), (omega (arith, l), (omega (arith, l), (omega (arith, l), (omega (arith, l), (omega (arith, l), tt))))));
+    }
+
+-- ---- reversibility
 
 reverse_rows : (r : ℕ) (rs : List Record) → AllZip Fits (small_form (codes "back") r 1 r ∷ []) rs → AreFrom r 1 r (map nat_abs (row rs 0))
 reverse_rows r [] z = absurd z
 reverse_rows r (x ∷ y ∷ rs) z = absurd z.1
 reverse_rows r (x ∷ []) z = fits_from (codes "back") r 1 r x z.0
 
-reversible_facts : (net : Net) → HeadFacts net 3 (head_with (codes "q3" ∷ yes) []) (tagged net 3 (head_with (codes "q3" ∷ yes) []))
-reversible_facts net = record {
-  closed = refl;
+reversible_facts : (net : Net) (earlier : Earlier) → IsNetwork net → Facts net earlier 3 (codes "q3" ∷ yes) []
+reversible_facts net earlier network = record {
+  small = ((1, refl, omega arith), tt);
+  short = omega arith;
+  ranks = λ long. tt;
   is_head = inl refl;
   few = omega arith;
-  may = λ earlier. tt;
-  below_is = λ earlier. refl;
-  said = λ earlier rs. refl;
-  shown = λ earlier rs. refl;
+  may = tt;
+  below_is = refl;
+  said = λ rs. refl;
+  shown = λ rs. refl;
+  heads_are = refl;
+  rows_are = λ rs. refl;
   tight_is = λ rs. refl;
-  head_parts = λ earlier. tt;
-  row_parts = λ earlier rs. (omega arith, tt);
-  heads_same = λ earlier rs p. p;
-  count = refl;
-  formed = λ earlier rs z. (tt, reverse_rows (length net.reactions) rs z);
+  head_parts = tt;
+  heads_same = λ rs p. p;
+  fit = λ rs hold z. let many = network.partial.reactions_limit in let forms = small_form (codes "back") (length net.reactions) 1 (length net.reactions) ∷ [] in (few_rows forms rs z, small_rows forms rs (form_of (codes "back") (length net.reactions) 1 (length net.reactions) (omega (arith, many)), tt) z);
+  formed = λ rs hold z. (tt, reverse_rows (length net.reactions) rs z);
+  row_parts = λ rs hold z. (omega arith, tt);
 }
 
-irreversible_facts : (net : Net) (k : ℕ) → length net.reactions ≤ MAX_REACTIONS → (1 ≤ k) × (k ≤ length net.reactions) → HeadFacts net 3 (head_with (codes "q3" ∷ no) (pos k ∷ [])) (tagged net 3 (head_with (codes "q3" ∷ no) (pos k ∷ [])))
-irreversible_facts net k few range = record {
-  closed = refl;
-  is_head = inr (k, refl, omega (arith, few, range.1));
+irreversible_facts : (net : Net) (earlier : Earlier) (k : ℕ) → IsNetwork net → (1 ≤ k) × (k ≤ length net.reactions) → Facts net earlier 3 (codes "q3" ∷ no) (pos k ∷ [])
+irreversible_facts net earlier k network range = record {
+  small = ((2, refl, omega arith), one_small k (let few = network.partial.reactions_limit in omega (arith, few, range.1)));
+  short = omega arith;
+  ranks = λ long. tt;
+  is_head = inr (k, refl, (let few = network.partial.reactions_limit in omega (arith, few, range.1)));
   few = omega arith;
-  may = λ earlier. range;
-  below_is = λ earlier. refl;
-  said = λ earlier rs. refl;
-  shown = λ earlier rs. refl;
+  may = range;
+  below_is = refl;
+  said = λ rs. refl;
+  shown = λ rs. refl;
+  heads_are = refl;
+  rows_are = λ rs. refl;
   tight_is = λ rs. refl;
-  head_parts = λ earlier. (omega arith, tt);
-  row_parts = λ earlier rs. tt;
-  heads_same = λ earlier rs p. p;
-  count = refl;
-  formed = λ earlier rs z. (range, tt);
+  head_parts = (omega arith, tt);
+  heads_same = λ rs p. p;
+  fit = λ rs hold z. (few_rows [] rs z, small_rows [] rs tt z);
+  formed = λ rs hold z. (range, tt);
+  row_parts = λ rs hold z. tt;
 }
 
-weak_facts : (net : Net) → HeadFacts net 4 (head_with (codes "q4" ∷ yes) []) (tagged net 4 (head_with (codes "q4" ∷ yes) []))
-weak_facts net = record {
-  closed = refl;
+weak_facts : (net : Net) (earlier : Earlier) → IsNetwork net → Facts net earlier 4 (codes "q4" ∷ yes) []
+weak_facts net earlier network = record {
+  small = ((1, refl, omega arith), tt);
+  short = omega arith;
+  ranks = λ long. tt;
   is_head = inl refl;
   few = omega arith;
-  may = λ earlier. tt;
-  below_is = λ earlier. refl;
-  said = λ earlier rs. refl;
-  shown = λ earlier rs. refl;
+  may = tt;
+  below_is = refl;
+  said = λ rs. refl;
+  shown = λ rs. refl;
+  heads_are = refl;
+  rows_are = λ rs. refl;
   tight_is = λ rs. refl;
-  head_parts = λ earlier. (omega arith, tt);
-  row_parts = λ earlier rs. tt;
-  heads_same = λ earlier rs p. p;
-  count = refl;
-  formed = λ earlier rs z. (tt, tt);
+  head_parts = (omega arith, tt);
+  heads_same = λ rs p. p;
+  fit = λ rs hold z. tt;
+  formed = λ rs hold z. (tt, tt);
+  row_parts = λ rs hold z. tt;
 }
 
-not_weak_facts : (net : Net) (k : ℕ) → length net.reactions ≤ MAX_REACTIONS → (1 ≤ k) × (k ≤ length net.reactions) → HeadFacts net 4 (head_with (codes "q4" ∷ no) (pos k ∷ [])) (tagged net 4 (head_with (codes "q4" ∷ no) (pos k ∷ [])))
-not_weak_facts net k few range = record {
-  closed = refl;
-  is_head = inr (k, refl, omega (arith, few, range.1));
+not_weak_facts : (net : Net) (earlier : Earlier) (k : ℕ) → IsNetwork net → (1 ≤ k) × (k ≤ length net.reactions) → Facts net earlier 4 (codes "q4" ∷ no) (pos k ∷ [])
+not_weak_facts net earlier k network range = record {
+  small = ((2, refl, omega arith), one_small k (let few = network.partial.reactions_limit in omega (arith, few, range.1)));
+  short = omega arith;
+  ranks = λ long. tt;
+  is_head = inr (k, refl, (let few = network.partial.reactions_limit in omega (arith, few, range.1)));
   few = omega arith;
-  may = λ earlier. range;
-  below_is = λ earlier. refl;
-  said = λ earlier rs. refl;
-  shown = λ earlier rs. refl;
+  may = range;
+  below_is = refl;
+  said = λ rs. refl;
+  shown = λ rs. refl;
+  heads_are = refl;
+  rows_are = λ rs. refl;
   tight_is = λ rs. refl;
-  head_parts = λ earlier. (omega arith, tt);
-  row_parts = λ earlier rs. tt;
-  heads_same = λ earlier rs p. p;
-  count = refl;
-  formed = λ earlier rs z. (range, tt);
+  head_parts = (omega arith, tt);
+  heads_same = λ rs p. p;
+  fit = λ rs hold z. tt;
+  formed = λ rs hold z. (range, tt);
+  row_parts = λ rs hold z. tt;
+}
+
+-- ---- wide elementary vectors
+
+rising_small : (greatest : ℕ) (zs : List ℤ) → greatest < 2 ^ 32 → AreRising greatest zs → AreSmall zs
+rising_small greatest zs lt a = small_list 1 greatest zs lt a.3
+
+abs_pos : (ns : List ℕ) → map nat_abs (map pos ns) ≡ ns
+abs_pos [] = refl
+abs_pos (n ∷ ns) = ap (λ (t : List ℕ). n ∷ t) (abs_pos ns)
+
+rising_from : (count greatest : ℕ) (zs : List ℤ) → length zs ≡ count → AreRising greatest zs → AreFrom count 1 greatest (map nat_abs zs)
+rising_from count greatest zs long a = record { long = length-map zs nat_abs ∙ long; each = naturals 1 greatest zs a.3 }
+
+rising_ascends : (greatest : ℕ) (zs : List ℤ) → AreRising greatest zs → IsAscending (map nat_abs zs)
+rising_ascends greatest zs a = subst IsAscending (sym (ap (λ (t : List ℤ). map nat_abs t) a.1 ∙ abs_pos a.0)) a.2
+
+-- the numbers after the words of such a head
+record IsWide (system columns rows : ℕ) (zs : List ℤ) : Type 0 where
+  index : ℕ
+  basis : List ℤ
+  is : zs ≡ pos system ∷ pos 0 ∷ pos index ∷ basis
+  low : 1 ≤ index
+  high : index ≤ columns + rows
+  long : length basis ≡ columns
+  rising : AreRising (columns + rows) basis
+
+wide_numbers : (system columns rows : ℕ) (zs : List ℤ) → AreOf Holds (just system ∷ just 0 ∷ small 1 1 (columns + rows) ∷ Rising columns (columns + rows) ∷ []) zs → IsWide system columns rows zs
+wide_numbers system columns rows zs p =
+    let first = one_number system system p.0 p.3 in
+    let q = p.4 in
+    let second = one_number 0 0 q.0 q.3 in
+    let r = q.4 in
+    let third = one_number 1 (columns + rows) r.0 r.3 in
+    let s = r.4 in
+    let s1 : first.0 ≡ system = (let a = first.2.0 in let b = first.2.1 in omega (arith, a, b)) in
+    let s2 : second.0 ≡ 0 = (let b = second.2.1 in omega (arith, b)) in
+    let one : p.0 ≡ pos system ∷ [] = first.1 ∙ ap (λ (k : ℕ). pos k ∷ []) s1 in
+    let two : q.0 ≡ pos 0 ∷ [] = second.1 ∙ ap (λ (k : ℕ). pos k ∷ []) s2 in
+    let last : r.1 ≡ s.0 = s.2 ∙ ap (λ (t : List ℤ). s.0 ++ t) s.4 ∙ append-nil s.0 in record {
+      index = third.0;
+      basis = s.0;
+      is = p.2 ∙ ap₂ (λ (x y : List ℤ). x ++ y) one (q.2 ∙ ap₂ (λ (x y : List ℤ). x ++ y) two (r.2 ∙ ap₂ (λ (x y : List ℤ). x ++ y) third.1 last));
+      low = third.2.0;
+      high = third.2.1;
+      long = s.3.0.0;
+      rising = s.3.0.1;
+    }
+
+wide_small : (place system index greatest : ℕ) (basis : List ℤ) → place < 2 ^ 32 → system < 2 ^ 32 → index < 2 ^ 32 → greatest < 2 ^ 32 → AreRising greatest basis → AreSmall (pos place ∷ pos system ∷ pos 0 ∷ pos index ∷ basis)
+wide_small place system index greatest basis p s i g r = ((place, refl, p), ((system, refl, s), ((0, refl, omega arith), ((index, refl, i), rising_small greatest basis g r))))
+
+wide_basis : (columns rows index : ℕ) (basis : List ℤ) → 1 ≤ index → index ≤ columns + rows → length basis ≡ columns → AreRising (columns + rows) basis → IsBasisOf columns rows index (map nat_abs basis)
+wide_basis columns rows index basis low high long rising = record {
+  coordinate = (low, high);
+  members = rising_from columns (columns + rows) basis long rising;
+  ascending = rising_ascends (columns + rows) basis rising;
+}
+
+rank_wide_facts : (net : Net) (earlier : Earlier) (index : ℕ) (basis : List ℤ) → IsNetwork net → 1 ≤ index → index ≤ length net.names + length net.reactions → length basis ≡ length net.names → AreRising (length net.names + length net.reactions) basis → Facts net earlier 5 (codes "q5" ∷ open_by (codes "wide")) (pos 1 ∷ pos 0 ∷ pos index ∷ basis)
+rank_wide_facts net earlier index basis network low high long rising = record {
+  small = wide_small 2 1 index (length net.names + length net.reactions) basis (omega arith) (omega arith) (let s0 = network.partial.species_limit in let r0 = network.partial.reactions_limit in omega (arith, high, s0, r0)) (let s0 = network.partial.species_limit in let r0 = network.partial.reactions_limit in omega (arith, s0, r0)) rising;
+  short = (let s0 = network.partial.species_limit in let r0 = network.partial.reactions_limit in omega (arith, long, s0, r0));
+  ranks = λ long. tt;
+  is_head = (_, inr refl);
+  few = omega arith;
+  may = (refl, refl, wide_basis (length net.names) (length net.reactions) index basis low high long rising);
+  below_is = refl;
+  said = λ rs. refl;
+  shown = λ rs. refl;
+  heads_are = refl;
+  rows_are = λ rs. refl;
+  tight_is = λ rs. refl;
+  head_parts = tt;
+  heads_same = λ rs p. p;
+  fit = λ rs hold z. tt;
+  formed = λ rs hold z. ((refl, refl, wide_basis (length net.names) (length net.reactions) index basis low high long rising), refl);
+  row_parts = λ rs hold z. tt;
+}
+
+dependence_wide_facts : (net : Net) (earlier : Earlier) (index : ℕ) (basis : List ℤ) → IsNetwork net → 1 ≤ index → index ≤ length net.reactions + length net.names → length basis ≡ length net.reactions → AreRising (length net.reactions + length net.names) basis → Facts net earlier 7 (codes "q7" ∷ open_by (codes "wide")) (pos 2 ∷ pos 0 ∷ pos index ∷ basis)
+dependence_wide_facts net earlier index basis network low high long rising = record {
+  small = wide_small 3 2 index (length net.reactions + length net.names) basis (omega arith) (omega arith) (let s0 = network.partial.species_limit in let r0 = network.partial.reactions_limit in omega (arith, high, s0, r0)) (let s0 = network.partial.species_limit in let r0 = network.partial.reactions_limit in omega (arith, s0, r0)) rising;
+  short = (let s0 = network.partial.species_limit in let r0 = network.partial.reactions_limit in omega (arith, long, s0, r0));
+  ranks = λ long. tt;
+  is_head = (_, inr (inr refl));
+  few = omega arith;
+  may = (refl, refl, wide_basis (length net.reactions) (length net.names) index basis low high long rising);
+  below_is = refl;
+  said = λ rs. refl;
+  shown = λ rs. refl;
+  heads_are = refl;
+  rows_are = λ rs. refl;
+  tight_is = λ rs. refl;
+  head_parts = tt;
+  heads_same = λ rs p. p;
+  fit = λ rs hold z. tt;
+  formed = λ rs hold z. ((refl, refl, wide_basis (length net.reactions) (length net.names) index basis low high long rising), refl);
+  row_parts = λ rs hold z. tt;
+}
+
+law_wide_facts : (net : Net) (earlier : Earlier) (index : ℕ) (basis : List ℤ) → IsNetwork net → 1 ≤ index → index ≤ length net.names + length net.reactions → length basis ≡ length net.names → AreRising (length net.names + length net.reactions) basis → Facts net earlier 8 (codes "q8" ∷ open_by (codes "wide")) (pos 1 ∷ pos 0 ∷ pos index ∷ basis)
+law_wide_facts net earlier index basis network low high long rising = record {
+  small = wide_small 3 1 index (length net.names + length net.reactions) basis (omega arith) (omega arith) (let s0 = network.partial.species_limit in let r0 = network.partial.reactions_limit in omega (arith, high, s0, r0)) (let s0 = network.partial.species_limit in let r0 = network.partial.reactions_limit in omega (arith, s0, r0)) rising;
+  short = (let s0 = network.partial.species_limit in let r0 = network.partial.reactions_limit in omega (arith, long, s0, r0));
+  ranks = λ long. tt;
+  is_head = (_, inr (inr refl));
+  few = omega arith;
+  may = (refl, refl, wide_basis (length net.names) (length net.reactions) index basis low high long rising);
+  below_is = refl;
+  said = λ rs. refl;
+  shown = λ rs. refl;
+  heads_are = refl;
+  rows_are = λ rs. refl;
+  tight_is = λ rs. refl;
+  head_parts = tt;
+  heads_same = λ rs p. p;
+  fit = λ rs hold z. tt;
+  formed = λ rs hold z. ((refl, refl, wide_basis (length net.names) (length net.reactions) index basis low high long rising), refl);
+  row_parts = λ rs hold z. tt;
+}
+
+-- ---- rank
+
+rank_facts : (net : Net) (earlier : Earlier) (k : ℕ) → IsNetwork net → (1 ≤ k) × (k ≤ min (length net.names) (length net.reactions)) → Facts net earlier 5 (codes "q5" ∷ []) (pos k ∷ [])
+rank_facts net earlier k network range =
+    let many = network.partial.reactions_limit in
+    let labels = linkage earlier in
+    let z : Sizes = sizes_of (known_of net earlier) in
+    let all = range_with_len 1 (length net.reactions) in
+    let forms = rank_forms z k all in
+    let le : k ≤ length net.reactions = omega (arith, range.1) in
+    let count = length-range_with_len 1 (length net.reactions) in
+    let long : length forms ≡ suc (length all) = rank_length z k all (omega (arith, le, count)) in
+    let below_is : forms ≡ forms_below net earlier 5 (pos 1 ∷ pos k ∷ []) = rank_rows_are net labels 0 z (record { class = 0; rank = k; count = length net.reactions }) all refl (sym (members_all net labels)) (sym count) ∙ ap (λ (rows : List Row). map (row_form net labels 0) rows) (sym (append-nil (part_rows (record { class = 0; rank = k; count = length net.reactions })))) in
+    record {
+      small = ((1, refl, omega arith), one_small k (omega (arith, many, le)));
+      short = omega arith;
+      ranks = λ long. (omega (arith, many, le), tt);
+      is_head = (_, inl refl);
+      few = omega arith;
+      may = range;
+      below_is = below_is;
+      said = λ rs. refl;
+      shown = λ rs. refl;
+      heads_are = refl;
+      rows_are = λ rs. refl;
+      tight_is = λ rs. refl;
+      head_parts = tt;
+      heads_same = λ rs p. p;
+      fit = λ rs hold z0. let zz = subst (λ (fs : List Form). AllZip Fits fs rs) (sym below_is) z0 in let l = few_rows forms rs zz in (omega (arith, l, long, count, le), rank_small z k all rs (λ x i. let m = member_few net labels 0 x (subst (λ (xs : List ℕ). IsIn x xs) (sym (members_all net labels)) i) in omega (arith, m, many)) zz);
+      formed = λ rs hold z0. (range, (refl, rank_formed net z k all rs refl (subst (λ (fs : List Form). AllZip Fits fs rs) (sym below_is) z0)));
+      row_parts = λ rs hold z0. let zz = subst (λ (fs : List Form). AllZip Fits fs rs) (sym below_is) z0 in let l = zip_length forms rs zz in rank_parts net all 1 (suc (length rs)) k _ (rank_formed net z k all rs refl zz) (omega (arith, l, long, count, le));
+    }
+
+-- ---- deficiencies
+
+place_at : (net : Net) (earlier : Earlier) (a n i : ℕ) → i < n → slice_index (lengths (map (λ k. class_places net earlier k) (range_with_len a n))) i ≡ length (class_places net earlier (a + i))
+place_at net earlier a zero i lt = absurd (omega (arith, lt))
+place_at net earlier a (suc n) zero lt = ap (λ (m : ℕ). length (class_places net earlier m)) (omega arith)
+place_at net earlier a (suc n) (suc i) lt = place_at net earlier (a + 1) n i (omega (arith, lt)) ∙ ap (λ (m : ℕ). length (class_places net earlier m)) (omega arith)
+
+counts_long : (net : Net) (earlier : Earlier) → length (sizes_of (known_of net earlier)).class_reactions ≡ linkage_count earlier
+counts_long net earlier = length-map (map (λ k. class_places net earlier k) (range_with_len 1 (linkage_count earlier))) (λ (x : List ℕ). length x) ∙ length-map-range_with_len (λ k. class_places net earlier k) 1 (linkage_count earlier)
+
+deficiency_facts : (net : Net) (earlier : Earlier) (total : ℕ) (ds : List ℤ) → IsNetwork net → linkage_count earlier ≤ MAX_COMPLEXES → total ≤ length net.complexes → length ds ≡ linkage_count earlier → AreBetween (pos 0) (pos (length net.complexes)) ds → Facts net earlier 6 (codes "q6" ∷ []) (pos total ∷ ds)
+deficiency_facts net earlier total ds network few within long between =
+    let most = network.partial.complexes_limit in
+    let many = network.partial.reactions_limit in
+    let labels = linkage earlier in
+    let z : Sizes = sizes_of (known_of net earlier) in
+    let s = shapes_of (known_of net earlier) in
+    let forms = forms_from net earlier z 1 ds in
+    let same_forms : class_forms z s.class_complexes s.class_members ds ≡ forms = ap (λ (m : ℕ). class_forms z (lengths (map (λ k. class_members labels k) (range_with_len 1 m))) (map (λ k. class_places net earlier k) (range_with_len 1 m)) ds) (sym long) ∙ ap₂ (λ (x : List ℕ) (y : List (List ℕ)). class_forms z x y ds) (sizes_are earlier 1 (length ds)) (members_are net earlier 1 (length ds)) in
+    let rows_are_forms : forms ≡ forms_below net earlier 6 (pos 1 ∷ pos total ∷ ds) = class_rows_are net earlier 0 z 0 ds refl in
+    let proofs : (rs : List Record) → class_proofs s.class_complexes s.class_members ds rs ≡ part_proofs (class_parts net labels 1 ds) (lists rs) = λ rs. ap (λ (m : ℕ). class_proofs (lengths (map (λ k. class_members labels k) (range_with_len 1 m))) (map (λ k. class_places net earlier k) (range_with_len 1 m)) ds rs) (sym long) ∙ ap₂ (λ (x : List ℕ) (y : List (List ℕ)). class_proofs x y ds rs) (sizes_are earlier 1 (length ds)) (members_are net earlier 1 (length ds)) ∙ sym (class_proofs_are net earlier 0 ds rs) in
+    let admitted : HeadMayBe net earlier Q6 (Deficiency total (nums ds)) = ((omega arith, within), record { long = length-map ds nat_abs ∙ long; each = naturals 0 (length net.complexes) ds between }) in
+    let of_forms : (rs : List Record) → AllZip Fits (forms_below net earlier 6 (pos 1 ∷ pos total ∷ ds)) rs → AllZip Fits forms rs = λ rs zz. subst (λ (fs : List Form). AllZip Fits fs rs) (sym rows_are_forms) zz in
+    record {
+      small = ((1, refl, omega arith), ((total, refl, omega (arith, within, most)), small_list 0 (length net.complexes) ds (omega (arith, most)) between));
+      short = omega (arith, long, few);
+      ranks = λ most. class_ranks net labels 1 ds most;
+      is_head = (_, inl refl);
+      few = omega arith;
+      may = admitted;
+      below_is = same_forms ∙ rows_are_forms;
+      said = λ rs. refl;
+      shown = λ rs. ap (λ (list : List RankProof). Ranks list) (proofs rs);
+      heads_are = refl;
+      rows_are = λ rs. refl;
+      tight_is = λ rs. refl;
+      head_parts = (omega arith, (omega arith, tt));
+      heads_same = λ rs p. p;
+      fit = λ rs hold zz. class_fit net earlier z 0 ds rs many hold.1.0.1 (of_forms rs zz);
+      formed = λ rs hold zz. (admitted, subst (λ (list : List RankProof). AreClassProofs net earlier 1 (map nat_abs ds) list) (sym (class_proofs_are net earlier 0 ds rs)) (class_formed net earlier z 0 ds rs refl hold.1.0.1 (of_forms rs zz)));
+      row_parts = λ rs hold zz. let l = zip_length forms rs (of_forms rs zz) in subst (λ (list : List RankProof). PartsWithin (suc (length rs)) (class_rank_tests net earlier 1 1 list)) (sym (class_proofs_are net earlier 0 ds rs)) (class_parts_within net earlier 1 (suc (length rs)) 0 z ds (proofs_from net earlier 1 ds rs) hold.1.0.1 (class_formed net earlier z 0 ds rs refl hold.1.0.1 (of_forms rs zz)) (omega (arith, l)));
+    }
+
+-- what the numbers of a head say whose class is wide
+record IsClassWide (net : Net) (earlier : Earlier) (zs : List ℤ) : Type 0 where
+  class : ℕ
+  index : ℕ
+  basis : List ℤ
+  is : zs ≡ pos 3 ∷ pos (suc class) ∷ pos index ∷ basis
+  inside : suc class ≤ linkage_count earlier
+  low : 1 ≤ index
+  high : index ≤ length net.names + length (class_places net earlier (suc class))
+  long : length basis ≡ length net.names
+  rising : AreRising (length net.names + length (class_places net earlier (suc class))) basis
+
+class_numbers : (net : Net) (earlier : Earlier) (zs : List ℤ) → AreOf Holds (just 3 ∷ ClassWide (length net.names) (sizes_of (known_of net earlier)).class_reactions ∷ []) zs → IsClassWide net earlier zs
+class_numbers net earlier zs p =
+    let first = one_number 3 3 p.0 p.3 in
+    let s1 : first.0 ≡ 3 = (let a = first.2.0 in let b = first.2.1 in omega (arith, a, b)) in
+    let one : p.0 ≡ pos 3 ∷ [] = first.1 ∙ ap (λ (k : ℕ). pos k ∷ []) s1 in
+    let q = p.4 in
+    let w = q.3.0 in
+    let rest : p.1 ≡ pos (suc w.0) ∷ pos w.1 ∷ w.2 = q.2 ∙ ap (λ (t : List ℤ). q.0 ++ t) q.4 ∙ append-nil q.0 ∙ w.3 in
+    let lt : w.0 < linkage_count earlier = (let l = counts_long net earlier in let k = w.4 in omega (arith, l, k)) in
+    let at : slice_index (sizes_of (known_of net earlier)).class_reactions w.0 ≡ length (class_places net earlier (suc w.0)) = place_at net earlier 1 (linkage_count earlier) w.0 lt ∙ ap (λ (m : ℕ). length (class_places net earlier m)) (omega arith) in record {
+      class = w.0;
+      index = w.1;
+      basis = w.2;
+      is = p.2 ∙ ap₂ (λ (x y : List ℤ). x ++ y) one rest;
+      inside = omega (arith, lt);
+      low = w.5;
+      high = (let h = w.6 in omega (arith, h, at));
+      long = w.7;
+      rising = subst (λ (m : ℕ). AreRising (length net.names + m) w.2) at w.8;
+    }
+
+class_wide_facts : (net : Net) (earlier : Earlier) (k index : ℕ) (basis : List ℤ) → IsNetwork net → linkage_count earlier ≤ MAX_COMPLEXES → suc k ≤ linkage_count earlier → 1 ≤ index → index ≤ length net.names + length (class_places net earlier (suc k)) → length basis ≡ length net.names → AreRising (length net.names + length (class_places net earlier (suc k))) basis
+    → Facts net earlier 6 (codes "q6" ∷ open_by (codes "wide")) (pos 3 ∷ pos (suc k) ∷ pos index ∷ basis)
+class_wide_facts net earlier k index basis network few inside low high long rising =
+    let s0 = network.partial.species_limit in
+    let r0 = network.partial.reactions_limit in
+    let m0 = members_few net (linkage earlier) (suc k) in
+    let columns = length net.names in
+    let rows = length (class_places net earlier (suc k)) in
+    let within : rows ≤ MAX_REACTIONS = omega (arith, m0, r0) in
+    let gap : HeadMayBe net earlier Q6 (Unknown (Wide 3 (suc k) index (nums basis))) = (refl, (omega arith, inside), wide_basis columns rows index basis low high long rising) in record {
+      small = ((2, refl, omega arith), ((3, refl, omega arith), ((suc k, refl, omega (arith, inside, few)), ((index, refl, omega (arith, high, s0, within)), rising_small (columns + rows) basis (omega (arith, s0, within)) rising))));
+      short = omega (arith, long, s0);
+      ranks = λ long. tt;
+      is_head = (_, inr (inl refl));
+      few = omega arith;
+      may = gap;
+      below_is = refl;
+      said = λ rs. refl;
+      shown = λ rs. refl;
+      heads_are = refl;
+      rows_are = λ rs. refl;
+      tight_is = λ rs. refl;
+      head_parts = tt;
+      heads_same = λ rs p. p;
+      fit = λ rs hold z. ap (λ (x : List Record). lists x) (few_none rs z);
+      formed = λ rs hold z. (gap, refl);
+      row_parts = λ rs hold z. tt;
+    }
+
+deficiency_rests_facts : (net : Net) (earlier : Earlier) → Facts net earlier 6 (codes "q6" ∷ open_by (codes "rests")) (pos 5 ∷ [])
+deficiency_rests_facts net earlier = record {
+  small = ((4, refl, omega arith), one_small 5 (omega arith));
+  short = omega arith;
+  ranks = λ long. tt;
+  is_head = (_, inr (inr refl));
+  few = omega arith;
+  may = refl;
+  below_is = refl;
+  said = λ rs. refl;
+  shown = λ rs. refl;
+  heads_are = refl;
+  rows_are = λ rs. refl;
+  tight_is = λ rs. refl;
+  head_parts = tt;
+  heads_same = λ rs p. p;
+  fit = λ rs hold z. ap (λ (x : List Record). lists x) (few_none rs z);
+  formed = λ rs hold z. (refl, refl);
+  row_parts = λ rs hold z. tt;
+}
+
+-- ---- positive vectors
+
+vector_rows : (word : List ℕ) (count : ℕ) (rs : List Record) → AllZip Fits (free_form word count ∷ []) rs → AreFree count (row rs 0)
+vector_rows word count [] z = absurd z
+vector_rows word count (r ∷ []) z = free_row word count r z.0
+vector_rows word count (r ∷ s ∷ rs) z = absurd z.1
+
+dependence_facts : (net : Net) (earlier : Earlier) → Facts net earlier 7 (codes "q7" ∷ yes) []
+dependence_facts net earlier = record {
+  small = ((1, refl, omega arith), tt);
+  short = omega arith;
+  ranks = λ long. tt;
+  is_head = (_, inl refl);
+  few = omega arith;
+  may = tt;
+  below_is = refl;
+  said = λ rs. refl;
+  shown = λ rs. refl;
+  heads_are = refl;
+  rows_are = λ rs. refl;
+  tight_is = λ rs. refl;
+  head_parts = tt;
+  heads_same = λ rs p. p;
+  fit = λ rs hold z. tt;
+  formed = λ rs hold z. (tt, vector_rows (codes "vec") (length net.reactions) rs z);
+  row_parts = λ rs hold z. (omega arith, tt);
+}
+
+no_dependence_facts : (net : Net) (earlier : Earlier) → Facts net earlier 7 (codes "q7" ∷ no) []
+no_dependence_facts net earlier = record {
+  small = ((2, refl, omega arith), tt);
+  short = omega arith;
+  ranks = λ long. tt;
+  is_head = (_, inr (inl refl));
+  few = omega arith;
+  may = tt;
+  below_is = refl;
+  said = λ rs. refl;
+  shown = λ rs. refl;
+  heads_are = refl;
+  rows_are = λ rs. refl;
+  tight_is = λ rs. refl;
+  head_parts = tt;
+  heads_same = λ rs p. p;
+  fit = λ rs hold z. tt;
+  formed = λ rs hold z. (tt, vector_rows (codes "cut") (length net.names) rs z);
+  row_parts = λ rs hold z. (omega arith, tt);
+}
+
+law_facts : (net : Net) (earlier : Earlier) → Facts net earlier 8 (codes "q8" ∷ yes) []
+law_facts net earlier = record {
+  small = ((1, refl, omega arith), tt);
+  short = omega arith;
+  ranks = λ long. tt;
+  is_head = (_, inl refl);
+  few = omega arith;
+  may = tt;
+  below_is = refl;
+  said = λ rs. refl;
+  shown = λ rs. refl;
+  heads_are = refl;
+  rows_are = λ rs. refl;
+  tight_is = λ rs. refl;
+  head_parts = tt;
+  heads_same = λ rs p. p;
+  fit = λ rs hold z. tt;
+  formed = λ rs hold z. (tt, vector_rows (codes "vec") (length net.names) rs z);
+  row_parts = λ rs hold z. (omega arith, tt);
+}
+
+no_law_facts : (net : Net) (earlier : Earlier) → Facts net earlier 8 (codes "q8" ∷ no) []
+no_law_facts net earlier = record {
+  small = ((2, refl, omega arith), tt);
+  short = omega arith;
+  ranks = λ long. tt;
+  is_head = (_, inr (inl refl));
+  few = omega arith;
+  may = tt;
+  below_is = refl;
+  said = λ rs. refl;
+  shown = λ rs. refl;
+  heads_are = refl;
+  rows_are = λ rs. refl;
+  tight_is = λ rs. refl;
+  head_parts = tt;
+  heads_same = λ rs p. p;
+  fit = λ rs hold z. tt;
+  formed = λ rs hold z. (tt, vector_rows (codes "cut") (length net.reactions) rs z);
+  row_parts = λ rs hold z. (omega arith, tt);
 }
 
 -- ---- each head
 
-by_linkage : (net : Net) (h : Record) → length net.complexes ≤ MAX_COMPLEXES → IsOneOf (head_forms net 1) h → HeadFacts net 1 h (tagged net 1 h)
-by_linkage net h few (form, inr none, fits) = absurd none
-by_linkage net h few (form, inl e, fits) =
-    let f : Fits (head (codes "q1") 1 [] (small 1 1 (length net.complexes) ∷ [])) h = subst (λ (f : Form). Fits f h) e fits in
-    let k = one_number 1 (length net.complexes) h.numbers (one_field (small 1 1 (length net.complexes)) h.numbers f.1) in
-    subst (λ (h : Record). HeadFacts net 1 h (tagged net 1 h)) (sym (record_is h (codes "q1" ∷ []) (pos k.0 ∷ []) f.0 k.1)) (linkage_facts net k.0 few k.2)
+abbrev FactsOf : Net → Earlier → ℕ → Record → Type 1
+FactsOf net earlier n h = HeadFacts net earlier n h (tagged net earlier n h)
 
-by_strong : (net : Net) (h : Record) → length net.complexes ≤ MAX_COMPLEXES → IsOneOf (head_forms net 2) h → HeadFacts net 2 h (tagged net 2 h)
-by_strong net h few (form, inr none, fits) = absurd none
-by_strong net h few (form, inl e, fits) =
-    let f : Fits (head (codes "q2") 1 [] (CountAndPart (length net.complexes) ∷ [])) h = subst (λ (f : Form). Fits f h) e fits in
+same_facts : (net : Net) (earlier : Earlier) (n : ℕ) (h : Record) (words : List (List ℕ)) (numbers : List ℤ) → h.words ≡ words → h.numbers ≡ numbers → Facts net earlier n words numbers → FactsOf net earlier n h
+same_facts net earlier n h words numbers w z f = subst (λ (h : Record). FactsOf net earlier n h) (sym (record_is h words numbers w z)) f
+
+as_form : (h : Record) (form other : Form) → form ≡ other → Fits form h → Fits other h
+as_form h form other e fits = subst (λ (f : Form). Fits f h) e fits
+
+abbrev FactsAt : Net → Earlier → Record → ℕ → Type 1
+FactsAt net earlier h n = IsNetwork net → linkage_count earlier ≤ MAX_COMPLEXES → IsOneOf (head_forms net earlier n) h → FactsOf net earlier n h
+
+by_linkage : (net : Net) (earlier : Earlier) (h : Record) → FactsAt net earlier h 1
+by_linkage net earlier h network few (form, inr none, fits) = absurd none
+by_linkage net earlier h network few (form, inl e, fits) =
+    let f = as_form h form (head (codes "q1") 1 [] (small 1 1 (length net.complexes) ∷ [])) e fits in
+    let k = one_number 1 (length net.complexes) h.numbers (one_field (small 1 1 (length net.complexes)) h.numbers f.1) in
+    same_facts net earlier 1 h (codes "q1" ∷ []) (pos k.0 ∷ []) f.0 k.1 (linkage_facts net earlier k.0 network k.2)
+
+by_strong : (net : Net) (earlier : Earlier) (h : Record) → FactsAt net earlier h 2
+by_strong net earlier h network few (form, inr none, fits) = absurd none
+by_strong net earlier h network few (form, inl e, fits) =
+    let f = as_form h form (head (codes "q2") 1 [] (CountAndPart (length net.complexes) ∷ [])) e fits in
     let p = one_field (CountAndPart (length net.complexes)) h.numbers f.1 in
     let t = p.0 in
-    subst (λ (h : Record). HeadFacts net 2 h (tagged net 2 h)) (sym (record_is h (codes "q2" ∷ []) (pos t.0 ∷ pos t.1 ∷ []) f.0 t.2)) (strong_facts net t.0 t.1 few (t.3, t.4, t.5))
+    same_facts net earlier 2 h (codes "q2" ∷ []) (pos t.0 ∷ pos t.1 ∷ []) f.0 t.2 (strong_facts net earlier t.0 t.1 network (t.3, t.4, t.5))
 
-by_reversible : (net : Net) (h : Record) → length net.reactions ≤ MAX_REACTIONS → IsOneOf (head_forms net 3) h → HeadFacts net 3 h (tagged net 3 h)
-by_reversible net h few (form, inr (inr none), fits) = absurd none
-by_reversible net h few (form, inl e, fits) =
-    let f : Fits (head (codes "q3") 1 yes []) h = subst (λ (f : Form). Fits f h) e fits in
-    subst (λ (h : Record). HeadFacts net 3 h (tagged net 3 h)) (sym (record_is h (codes "q3" ∷ yes) [] f.0 f.1)) (reversible_facts net)
-by_reversible net h few (form, inr (inl e), fits) =
-    let f : Fits (head (codes "q3") 2 no (small 1 1 (length net.reactions) ∷ [])) h = subst (λ (f : Form). Fits f h) e fits in
+by_reversible : (net : Net) (earlier : Earlier) (h : Record) → FactsAt net earlier h 3
+by_reversible net earlier h network few (form, inr (inr none), fits) = absurd none
+by_reversible net earlier h network few (form, inl e, fits) =
+    let f = as_form h form (head (codes "q3") 1 yes []) e fits in
+    same_facts net earlier 3 h (codes "q3" ∷ yes) [] f.0 f.1 (reversible_facts net earlier network)
+by_reversible net earlier h network few (form, inr (inl e), fits) =
+    let f = as_form h form (head (codes "q3") 2 no (small 1 1 (length net.reactions) ∷ [])) e fits in
     let k = one_number 1 (length net.reactions) h.numbers (one_field (small 1 1 (length net.reactions)) h.numbers f.1) in
-    subst (λ (h : Record). HeadFacts net 3 h (tagged net 3 h)) (sym (record_is h (codes "q3" ∷ no) (pos k.0 ∷ []) f.0 k.1)) (irreversible_facts net k.0 few k.2)
+    same_facts net earlier 3 h (codes "q3" ∷ no) (pos k.0 ∷ []) f.0 k.1 (irreversible_facts net earlier k.0 network k.2)
 
-by_weak : (net : Net) (h : Record) → length net.reactions ≤ MAX_REACTIONS → IsOneOf (head_forms net 4) h → HeadFacts net 4 h (tagged net 4 h)
-by_weak net h few (form, inr (inr none), fits) = absurd none
-by_weak net h few (form, inl e, fits) =
-    let f : Fits (head (codes "q4") 1 yes []) h = subst (λ (f : Form). Fits f h) e fits in
-    subst (λ (h : Record). HeadFacts net 4 h (tagged net 4 h)) (sym (record_is h (codes "q4" ∷ yes) [] f.0 f.1)) (weak_facts net)
-by_weak net h few (form, inr (inl e), fits) =
-    let f : Fits (head (codes "q4") 2 no (small 1 1 (length net.reactions) ∷ [])) h = subst (λ (f : Form). Fits f h) e fits in
+by_weak : (net : Net) (earlier : Earlier) (h : Record) → FactsAt net earlier h 4
+by_weak net earlier h network few (form, inr (inr none), fits) = absurd none
+by_weak net earlier h network few (form, inl e, fits) =
+    let f = as_form h form (head (codes "q4") 1 yes []) e fits in
+    same_facts net earlier 4 h (codes "q4" ∷ yes) [] f.0 f.1 (weak_facts net earlier network)
+by_weak net earlier h network few (form, inr (inl e), fits) =
+    let f = as_form h form (head (codes "q4") 2 no (small 1 1 (length net.reactions) ∷ [])) e fits in
     let k = one_number 1 (length net.reactions) h.numbers (one_field (small 1 1 (length net.reactions)) h.numbers f.1) in
-    subst (λ (h : Record). HeadFacts net 4 h (tagged net 4 h)) (sym (record_is h (codes "q4" ∷ no) (pos k.0 ∷ []) f.0 k.1)) (not_weak_facts net k.0 few k.2)
+    same_facts net earlier 4 h (codes "q4" ∷ no) (pos k.0 ∷ []) f.0 k.1 (not_weak_facts net earlier k.0 network k.2)
 
-abbrev FactsAt : Net → Record → ℕ → Type 0
-FactsAt net h n = IsOneOf (head_forms net n) h → HeadFacts net n h (tagged net n h)
+by_rank : (net : Net) (earlier : Earlier) (h : Record) → FactsAt net earlier h 5
+by_rank net earlier h network few (form, inr (inr none), fits) = absurd none
+by_rank net earlier h network few (form, inl e, fits) =
+    let most = min (length net.names) (length net.reactions) in
+    let f = as_form h form (head (codes "q5") 1 [] (small 1 1 most ∷ [])) e fits in
+    let k = one_number 1 most h.numbers (one_field (small 1 1 most) h.numbers f.1) in
+    same_facts net earlier 5 h (codes "q5" ∷ []) (pos k.0 ∷ []) f.0 k.1 (rank_facts net earlier k.0 network k.2)
+by_rank net earlier h network few (form, inr (inl e), fits) =
+    let f = as_form h form (wide (codes "q5") 2 1 (length net.names) (length net.reactions)) e fits in
+    let w = wide_numbers 1 (length net.names) (length net.reactions) h.numbers f.1 in
+    same_facts net earlier 5 h (codes "q5" ∷ open_by (codes "wide")) (pos 1 ∷ pos 0 ∷ pos w.index ∷ w.basis) f.0 w.is (rank_wide_facts net earlier w.index w.basis network w.low w.high w.long w.rising)
 
-pub head_facts : (net : Net) (n : ℕ) (h : Record) → IsBuilt n → length net.complexes ≤ MAX_COMPLEXES → length net.reactions ≤ MAX_REACTIONS → IsOneOf (head_forms net n) h → HeadFacts net n h (tagged net n h)
-head_facts net n h (inl e) c r f = subst (FactsAt net h) (sym e) (by_linkage net h c) f
-head_facts net n h (inr (inl e)) c r f = subst (FactsAt net h) (sym e) (by_strong net h c) f
-head_facts net n h (inr (inr (inl e))) c r f = subst (FactsAt net h) (sym e) (by_reversible net h r) f
-head_facts net n h (inr (inr (inr (inl e)))) c r f = subst (FactsAt net h) (sym e) (by_weak net h r) f
-head_facts net n h (inr (inr (inr (inr none)))) c r f = absurd none
+deficiency_numbers : (net : Net) (earlier : Earlier) (zs : List ℤ) → AreOf Holds (small (1 + length (sizes_of (known_of net earlier)).class_reactions) 0 (length net.complexes) ∷ []) zs
+    → (total : ℕ) × (ds : List ℤ) × (zs ≡ pos total ∷ ds) × (total ≤ length net.complexes) × (length ds ≡ linkage_count earlier) × AreBetween (pos 0) (pos (length net.complexes)) ds
+deficiency_numbers net earlier zs p = by zs (one_field (small (1 + length (sizes_of (known_of net earlier)).class_reactions) 0 (length net.complexes)) zs p)
+  where
+    by : (zs : List ℤ) → Holds (small (1 + length (sizes_of (known_of net earlier)).class_reactions) 0 (length net.complexes)) zs → (total : ℕ) × (ds : List ℤ) × (zs ≡ pos total ∷ ds) × (total ≤ length net.complexes) × (length ds ≡ linkage_count earlier) × AreBetween (pos 0) (pos (length net.complexes)) ds
+    by [] p = absurd (let e = p.0.0 in omega (arith, e))
+    by (negsuc n ∷ ds) p = absurd (let b = p.0.1.0.0 in omega (arith, ints, b))
+    by (pos n ∷ ds) p = (n, ds, refl, (let b = p.0.1.0.1 in omega (arith, ints, b)), (let e = p.0.0 in let l = counts_long net earlier in omega (arith, e, l)), p.0.1.1)
 
-pub said_facts : (net : Net) (n : ℕ) (head : List ℤ) (h : Record) → IsNetwork net → IsBuilt n → IsHead net n head h → HeadFacts net n h head
-said_facts net n head h network built said =
-    let p = network.partial in
-    subst (λ (t : List ℤ). HeadFacts net n h t) (sym said.tag) (head_facts net n h built p.complexes_limit p.reactions_limit said.form)
+by_deficiency : (net : Net) (earlier : Earlier) (h : Record) → FactsAt net earlier h 6
+by_deficiency net earlier h network few (form, inr (inr (inr none)), fits) = absurd none
+by_deficiency net earlier h network few (form, inl e, fits) =
+    let f = as_form h form (head (codes "q6") 1 [] (small (1 + length (sizes_of (known_of net earlier)).class_reactions) 0 (length net.complexes) ∷ [])) e fits in
+    let d = deficiency_numbers net earlier h.numbers f.1 in
+    same_facts net earlier 6 h (codes "q6" ∷ []) (pos d.0 ∷ d.1) f.0 d.2 (deficiency_facts net earlier d.0 d.1 network few d.3 d.4 d.5)
+by_deficiency net earlier h network few (form, inr (inl e), fits) =
+    let f = as_form h form (head (codes "q6") 2 (open_by (codes "wide")) (just 3 ∷ ClassWide (length net.names) (sizes_of (known_of net earlier)).class_reactions ∷ [])) e fits in
+    let w = class_numbers net earlier h.numbers f.1 in
+    same_facts net earlier 6 h (codes "q6" ∷ open_by (codes "wide")) (pos 3 ∷ pos (suc w.class) ∷ pos w.index ∷ w.basis) f.0 w.is (class_wide_facts net earlier w.class w.index w.basis network few w.inside w.low w.high w.long w.rising)
+by_deficiency net earlier h network few (form, inr (inr (inl e)), fits) =
+    let f = as_form h form (rests (codes "q6") 4 5) e fits in
+    let k = one_number 5 5 h.numbers (one_field (just 5) h.numbers f.1) in
+    let five : k.0 ≡ 5 = (let a = k.2.0 in let b = k.2.1 in omega (arith, a, b)) in
+    same_facts net earlier 6 h (codes "q6" ∷ open_by (codes "rests")) (pos 5 ∷ []) f.0 (k.1 ∙ ap (λ (m : ℕ). pos m ∷ []) five) (deficiency_rests_facts net earlier)
+
+by_dependence : (net : Net) (earlier : Earlier) (h : Record) → FactsAt net earlier h 7
+by_dependence net earlier h network few (form, inr (inr (inr none)), fits) = absurd none
+by_dependence net earlier h network few (form, inl e, fits) =
+    let f = as_form h form (head (codes "q7") 1 yes []) e fits in
+    same_facts net earlier 7 h (codes "q7" ∷ yes) [] f.0 f.1 (dependence_facts net earlier)
+by_dependence net earlier h network few (form, inr (inl e), fits) =
+    let f = as_form h form (head (codes "q7") 2 no []) e fits in
+    same_facts net earlier 7 h (codes "q7" ∷ no) [] f.0 f.1 (no_dependence_facts net earlier)
+by_dependence net earlier h network few (form, inr (inr (inl e)), fits) =
+    let f = as_form h form (wide (codes "q7") 3 2 (length net.reactions) (length net.names)) e fits in
+    let w = wide_numbers 2 (length net.reactions) (length net.names) h.numbers f.1 in
+    same_facts net earlier 7 h (codes "q7" ∷ open_by (codes "wide")) (pos 2 ∷ pos 0 ∷ pos w.index ∷ w.basis) f.0 w.is (dependence_wide_facts net earlier w.index w.basis network w.low w.high w.long w.rising)
+
+by_law : (net : Net) (earlier : Earlier) (h : Record) → FactsAt net earlier h 8
+by_law net earlier h network few (form, inr (inr (inr none)), fits) = absurd none
+by_law net earlier h network few (form, inl e, fits) =
+    let f = as_form h form (head (codes "q8") 1 yes []) e fits in
+    same_facts net earlier 8 h (codes "q8" ∷ yes) [] f.0 f.1 (law_facts net earlier)
+by_law net earlier h network few (form, inr (inl e), fits) =
+    let f = as_form h form (head (codes "q8") 2 no []) e fits in
+    same_facts net earlier 8 h (codes "q8" ∷ no) [] f.0 f.1 (no_law_facts net earlier)
+by_law net earlier h network few (form, inr (inr (inl e)), fits) =
+    let f = as_form h form (wide (codes "q8") 3 1 (length net.names) (length net.reactions)) e fits in
+    let w = wide_numbers 1 (length net.names) (length net.reactions) h.numbers f.1 in
+    same_facts net earlier 8 h (codes "q8" ∷ open_by (codes "wide")) (pos 1 ∷ pos 0 ∷ pos w.index ∷ w.basis) f.0 w.is (law_wide_facts net earlier w.index w.basis network w.low w.high w.long w.rising)
+
+pub head_facts : (net : Net) (earlier : Earlier) (n : ℕ) (h : Record) → IsBuilt n → FactsAt net earlier h n
+head_facts net earlier n h (inl e) = subst (FactsAt net earlier h) (sym e) (by_linkage net earlier h)
+head_facts net earlier n h (inr (inl e)) = subst (FactsAt net earlier h) (sym e) (by_strong net earlier h)
+head_facts net earlier n h (inr (inr (inl e))) = subst (FactsAt net earlier h) (sym e) (by_reversible net earlier h)
+head_facts net earlier n h (inr (inr (inr (inl e)))) = subst (FactsAt net earlier h) (sym e) (by_weak net earlier h)
+head_facts net earlier n h (inr (inr (inr (inr (inl e))))) = subst (FactsAt net earlier h) (sym e) (by_rank net earlier h)
+head_facts net earlier n h (inr (inr (inr (inr (inr (inl e)))))) = subst (FactsAt net earlier h) (sym e) (by_deficiency net earlier h)
+head_facts net earlier n h (inr (inr (inr (inr (inr (inr (inl e))))))) = subst (FactsAt net earlier h) (sym e) (by_dependence net earlier h)
+head_facts net earlier n h (inr (inr (inr (inr (inr (inr (inr (inl e)))))))) = subst (FactsAt net earlier h) (sym e) (by_law net earlier h)
+head_facts net earlier n h (inr (inr (inr (inr (inr (inr (inr (inr none)))))))) = absurd none
+
+pub said_facts : (net : Net) (n : ℕ) (facts : KeptFacts) (head : List ℤ) (h : Record) → IsBuilt n → IsKnown net n facts → IsHead net facts.earlier n head h → HeadFacts net facts.earlier n h head
+said_facts net n facts head h built known said =
+    subst (λ (t : List ℤ). HeadFacts net facts.earlier n h t) (sym said.tag) (head_facts net facts.earlier n h built known.network (count_few net n facts built known) said.form)
+
+-- ---- the forms of a head rest on the numbers of species, of complexes and of reactions, and on those of each class
+
+pub heads_by_sizes : (n : ℕ) → IsBuilt n → (z w : Sizes) → z.species ≡ w.species → z.complexes ≡ w.complexes → z.reactions ≡ w.reactions → (n ≡ 6 → z.class_reactions ≡ w.class_reactions) → heads (question_of n) z ≡ heads (asked n) w
+heads_by_sizes n (inl e) z w s c r k = subst (λ (m : ℕ). heads (question_of m) z ≡ heads (asked m) w) (sym e) (ap (λ (k : ℕ). head (codes "q1") 1 [] (small 1 1 k ∷ []) ∷ []) c)
+heads_by_sizes n (inr (inl e)) z w s c r k = subst (λ (m : ℕ). heads (question_of m) z ≡ heads (asked m) w) (sym e) (ap (λ (k : ℕ). head (codes "q2") 1 [] (CountAndPart k ∷ []) ∷ []) c)
+heads_by_sizes n (inr (inr (inl e))) z w s c r k = subst (λ (m : ℕ). heads (question_of m) z ≡ heads (asked m) w) (sym e) (ap (λ (k : ℕ). head (codes "q3") 1 yes [] ∷ head (codes "q3") 2 no (small 1 1 k ∷ []) ∷ []) r)
+heads_by_sizes n (inr (inr (inr (inl e)))) z w s c r k = subst (λ (m : ℕ). heads (question_of m) z ≡ heads (asked m) w) (sym e) (ap (λ (k : ℕ). head (codes "q4") 1 yes [] ∷ head (codes "q4") 2 no (small 1 1 k ∷ []) ∷ []) r)
+heads_by_sizes n (inr (inr (inr (inr (inl e))))) z w s c r k = subst (λ (m : ℕ). heads (question_of m) z ≡ heads (asked m) w) (sym e) (ap₂ (λ (i j : ℕ). head (codes "q5") 1 [] (small 1 1 (min i j) ∷ []) ∷ wide (codes "q5") 2 1 i j ∷ []) s r)
+heads_by_sizes n (inr (inr (inr (inr (inr (inl e)))))) z w s c r k = subst (λ (m : ℕ). heads (question_of m) z ≡ heads (asked m) w) (sym e) (ap₂ (λ (i : ℕ × ℕ) (x : List ℕ). head (codes "q6") 1 [] (small (1 + length x) 0 i.0 ∷ []) ∷ head (codes "q6") 2 (open_by (codes "wide")) (just 3 ∷ ClassWide i.1 x ∷ []) ∷ rests (codes "q6") 4 5 ∷ []) (ap₂ (λ (i j : ℕ). (i, j)) c s) (k e))
+heads_by_sizes n (inr (inr (inr (inr (inr (inr (inl e))))))) z w s c r k = subst (λ (m : ℕ). heads (question_of m) z ≡ heads (asked m) w) (sym e) (ap₂ (λ (i j : ℕ). head (codes "q7") 1 yes [] ∷ head (codes "q7") 2 no [] ∷ wide (codes "q7") 3 2 i j ∷ []) r s)
+heads_by_sizes n (inr (inr (inr (inr (inr (inr (inr (inl e)))))))) z w s c r k = subst (λ (m : ℕ). heads (question_of m) z ≡ heads (asked m) w) (sym e) (ap₂ (λ (i j : ℕ). head (codes "q8") 1 yes [] ∷ head (codes "q8") 2 no [] ∷ wide (codes "q8") 3 1 i j ∷ []) s r)
+heads_by_sizes n (inr (inr (inr (inr (inr (inr (inr (inr none)))))))) z w s c r k = absurd none
+
+pub number_of_built : (n : ℕ) → IsBuilt n → (1 ≤ n) × (n ≤ 15)
+number_of_built n (inl e) = (omega (arith, e), omega (arith, e))
+number_of_built n (inr (inl e)) = (omega (arith, e), omega (arith, e))
+number_of_built n (inr (inr (inl e))) = (omega (arith, e), omega (arith, e))
+number_of_built n (inr (inr (inr (inl e)))) = (omega (arith, e), omega (arith, e))
+number_of_built n (inr (inr (inr (inr (inl e))))) = (omega (arith, e), omega (arith, e))
+number_of_built n (inr (inr (inr (inr (inr (inl e)))))) = (omega (arith, e), omega (arith, e))
+number_of_built n (inr (inr (inr (inr (inr (inr (inl e))))))) = (omega (arith, e), omega (arith, e))
+number_of_built n (inr (inr (inr (inr (inr (inr (inr (inl e)))))))) = (omega (arith, e), omega (arith, e))
+number_of_built n (inr (inr (inr (inr (inr (inr (inr (inr none)))))))) = absurd none

@@ -1,6 +1,9 @@
 mod Steps
 mod Records
 mod CanonicalTexts
+mod Linkages
+mod Fields
+mod Ranks
 mod Heads
 mod Blocks
 mod Sections

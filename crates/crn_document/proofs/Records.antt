@@ -9,15 +9,17 @@ use Rattle.crn_io.specs.Lines.{Place}
 use Rattle.crn_ctext.specs.Course.{Course, Give, Gives, due, ◌>>=◌}
 use Rattle.crn_ctext.specs.Blocks.{reads, asks, asks_all}
 use Rattle.crn_ctext.specs.Documents.{IsOneOf}
-use Rattle.crn_ctext.specs.Expect.{forms_of, is_after, misplaced, sizes_of, tag_of}
+use Rattle.crn_ctext.specs.Expect.{AreSizes, MayBeDue, due_forms, forms_of, is_after, misplaced, sizes_of, tag_of}
+use Rattle.crn_ctext.specs.Questions.{Sizes}
+use Rattle.crn_ctext.specs.declared.expect.Due.TheVariants as due_kinds
 use Rattle.crn_ctext.specs.declared.expect.Due.{Due}
 use Rattle.crn_ctext.specs.declared.expect.Expect.{Expect}
-use Rattle.crn_document.specs.Inner.Records.{asks_for, Expects, IsRowDue, IsSaid, IsRow, AreRows}
+use Rattle.crn_document.specs.Inner.Records.{asks_for, Expects, IsBaseDue, IsPartDue, IsRowDue, IsSaid, IsRow, AreRows}
 use Rattle.crn_ctext.specs.Steps.{StepGives}
 use Rattle.crn_ctext.specs.Meaning.{lists}
 use Rattle.crn_document.specs.declared.reading.Reading.{Reading}
 use Rattle.crn_document.specs.declared.stop.CheckStop.{CheckStop}
-use Rattle.crn_document.specs.Inner.Steps.{StepIs}
+use Rattle.crn_document.specs.Inner.Steps.{IsVersion, StepIs}
 use Rattle.crn_document.proofs.Steps.{step_gives, step_then_is, step_map}
 
 abbrev course_by : ℕ → ℕ → Bool → List Form → ℕ → Course Record
@@ -31,9 +33,39 @@ as_expected P e version n forms x p =
     (subst (λ (b : Bool). P (course_by version n b (forms_of e) (misplaced e.due))) x.after
     (subst (λ (v : ℕ). P (course_by v n (is_after e.due e.after_tree) (forms_of e) (misplaced e.due))) x.of_version p)))
 
+-- what a record below a head that is due says
+pub record DueFacts (form : Form) (d : Due) : Type 0 where
+  pub has : (version : ℕ) (z : Sizes) → due_forms d version z ≡ form ∷ []
+  pub may : (version : ℕ) → MayBeDue d version
+  pub after : (b : Bool) → b ≡ false → is_after d b ≡ false
+  pub misplaced : misplaced d ≡ 26
+  pub untagged : (z : Sizes) (r : Record) → tag_of d z r ≡ []
+
+base_facts : (form : Form) (d : Due) → IsBaseDue form d → DueFacts form d
+base_facts form (due_kinds.Base count members) b = record { has = λ v z. ap (λ (f : Form). f ∷ []) b.0; may = b.1; after = λ b e. e; misplaced = refl; untagged = λ z r. refl }
+base_facts form d b = absurd b
+
+part_facts : (form : Form) (d : Due) → IsPartDue form d → DueFacts form d
+part_facts form d p = subst (λ (d : Due). DueFacts form d) (sym p.is) (record { has = λ v z. ap (λ (f : Form). f ∷ []) p.has; may = p.may; after = λ b e. e; misplaced = refl; untagged = λ z r. refl })
+
+due_facts : (form : Form) (d : Due) → IsRowDue form d → DueFacts form d
+due_facts form d (inl b) = base_facts form d b
+due_facts form d (inr p) = part_facts form d p
+
 -- a row has no tag
-pub row_untagged : (form : Form) (d : Due) → IsRowDue form d → (z : _) (r : Record) → tag_of d z r ≡ []
-row_untagged form d i z r = subst (λ (d : Due). tag_of d z r ≡ []) (sym i.is) refl
+pub row_untagged : (form : Form) (d : Due) → IsRowDue form d → (z : Sizes) (r : Record) → tag_of d z r ≡ []
+row_untagged form d i z r = let f = due_facts form d i in let u = f.untagged in u z r
+
+-- the row that is due
+pub row_expects : (version : ℕ) (form : Form) (e : Expect) → IsVersion version → e.version ≡ version → e.after_tree ≡ false → AreSizes (sizes_of e.sizes) → IsRowDue form e.due → Expects e version (form ∷ [])
+row_expects version form e v same none sizes i =
+    let f = due_facts form e.due i in record {
+      may = record { version = subst (λ (k : ℕ). IsVersion k) (sym same) v; sizes = sizes; due = (let m = f.may in m e.version) };
+      of_version = same;
+      after = (let a = f.after in a e.after_tree none);
+      has = (let h = f.has in h e.version (sizes_of e.sizes));
+      misplaced = f.misplaced;
+    }
 
 -- a record that was due where nothing is tagged
 pub row_said : (e : Expect) (version : ℕ) (form : Form) → Expects e version (form ∷ []) → ((r : Record) → tag_of e.due (sizes_of e.sizes) r ≡ []) → (r : Record) (read : List ℤ) → IsSaid e read r → Fits form r × (read ≡ r.numbers)

@@ -20,13 +20,17 @@ use Rattle.crn_document.specs.Inner.Blocks.{behind_at}
 use Rattle.crn_document.specs.Inner.Steps.{StepIs}
 use Rattle.crn_document.proofs.Steps.{step_gives, step_map, stop_first}
 
-pub built_of : (n : ℕ) → 1 ≤ n → n ≤ 4 → IsBuilt n
+pub built_of : (n : ℕ) → 1 ≤ n → n ≤ 8 → IsBuilt n
 built_of zero a b = absurd (omega arith)
 built_of (suc zero) a b = inl refl
 built_of (suc (suc zero)) a b = inr (inl refl)
 built_of (suc (suc (suc zero))) a b = inr (inr (inl refl))
 built_of (suc (suc (suc (suc zero)))) a b = inr (inr (inr (inl refl)))
-built_of (suc (suc (suc (suc (suc n))))) a b = absurd (omega arith)
+built_of (suc (suc (suc (suc (suc zero))))) a b = inr (inr (inr (inr (inl refl))))
+built_of (suc (suc (suc (suc (suc (suc zero)))))) a b = inr (inr (inr (inr (inr (inl refl)))))
+built_of (suc (suc (suc (suc (suc (suc (suc zero))))))) a b = inr (inr (inr (inr (inr (inr (inl refl))))))
+built_of (suc (suc (suc (suc (suc (suc (suc (suc zero)))))))) a b = inr (inr (inr (inr (inr (inr (inr (inl refl)))))))
+built_of (suc (suc (suc (suc (suc (suc (suc (suc (suc n))))))))) a b = absurd (omega arith)
 
 -- ---- sections
 
@@ -34,15 +38,8 @@ if_none : (b : Bool) (x : List (List ℕ)) → x ≡ [] → (if b then x else []
 if_none true x e = e
 if_none false x e = refl
 
-opens_none : (n : ℕ) → IsBuilt n → n ≢ 1 → opens (asked n) ≡ []
-opens_none n (inl e) differs = absurd (differs e)
-opens_none n (inr (inl e)) differs = subst (λ (m : ℕ). opens (asked m) ≡ []) (sym e) refl
-opens_none n (inr (inr (inl e))) differs = subst (λ (m : ℕ). opens (asked m) ≡ []) (sym e) refl
-opens_none n (inr (inr (inr (inl e)))) differs = subst (λ (m : ℕ). opens (asked m) ≡ []) (sym e) refl
-opens_none n (inr (inr (inr (inr none)))) differs = absurd none
-
-pub first_opens : (version n : ℕ) → IsBuilt n → n ≢ 1 → map section_form (sections version (asked n)) ≡ []
-first_opens version n built differs = ap (λ (x : List (List ℕ)). map section_form x) (if_none (version == 2) (opens (asked n)) (opens_none n built differs))
+pub first_opens : (version n : ℕ) → opens (asked n) ≡ [] → map section_form (sections version (asked n)) ≡ []
+first_opens version n none = ap (λ (x : List (List ℕ)). map section_form x) (if_none (version == 2) (opens (asked n)) none)
 
 pub second_opens : (version n : ℕ) → version ≢ 2 → map section_form (sections version (asked n)) ≡ []
 second_opens version n differs = ap (λ (b : Bool). map section_form (if b then opens (asked n) else [])) (ne_eqb version 2 differs)
@@ -67,10 +64,26 @@ drop_built n (inl e) = subst (λ (m : ℕ). drop (m - 1) built ≡ asked m ∷ d
 drop_built n (inr (inl e)) = subst (λ (m : ℕ). drop (m - 1) built ≡ asked m ∷ drop (m + 1 - 1) built) (sym e) refl
 drop_built n (inr (inr (inl e))) = subst (λ (m : ℕ). drop (m - 1) built ≡ asked m ∷ drop (m + 1 - 1) built) (sym e) refl
 drop_built n (inr (inr (inr (inl e)))) = subst (λ (m : ℕ). drop (m - 1) built ≡ asked m ∷ drop (m + 1 - 1) built) (sym e) refl
-drop_built n (inr (inr (inr (inr none)))) = absurd none
+drop_built n (inr (inr (inr (inr (inl e))))) = subst (λ (m : ℕ). drop (m - 1) built ≡ asked m ∷ drop (m + 1 - 1) built) (sym e) refl
+drop_built n (inr (inr (inr (inr (inr (inl e)))))) = subst (λ (m : ℕ). drop (m - 1) built ≡ asked m ∷ drop (m + 1 - 1) built) (sym e) refl
+drop_built n (inr (inr (inr (inr (inr (inr (inl e))))))) = subst (λ (m : ℕ). drop (m - 1) built ≡ asked m ∷ drop (m + 1 - 1) built) (sym e) refl
+drop_built n (inr (inr (inr (inr (inr (inr (inr (inl e)))))))) = subst (λ (m : ℕ). drop (m - 1) built ≡ asked m ∷ drop (m + 1 - 1) built) (sym e) refl
+drop_built n (inr (inr (inr (inr (inr (inr (inr (inr none)))))))) = absurd none
 
-pub none_built : (n : ℕ) → n ≡ 5 → drop (n - 1) built ≡ []
+pub none_built : (n : ℕ) → n ≡ 9 → drop (n - 1) built ≡ []
 none_built n e = subst (λ (m : ℕ). drop (m - 1) built ≡ []) (sym e) refl
+
+-- the number of the section that opens before a question
+pub opened : (n : ℕ) → IsBuilt n → (n ≡ 1 → ⊥) → (n ≡ 5 → ⊥) → (n ≡ 7 → ⊥) → opens (asked n) ≡ []
+opened n (inl e) a b c = absurd (a e)
+opened n (inr (inl e)) a b c = subst (λ (m : ℕ). opens (asked m) ≡ []) (sym e) refl
+opened n (inr (inr (inl e))) a b c = subst (λ (m : ℕ). opens (asked m) ≡ []) (sym e) refl
+opened n (inr (inr (inr (inl e)))) a b c = subst (λ (m : ℕ). opens (asked m) ≡ []) (sym e) refl
+opened n (inr (inr (inr (inr (inl e))))) a b c = absurd (b e)
+opened n (inr (inr (inr (inr (inr (inl e)))))) a b c = subst (λ (m : ℕ). opens (asked m) ≡ []) (sym e) refl
+opened n (inr (inr (inr (inr (inr (inr (inl e))))))) a b c = absurd (c e)
+opened n (inr (inr (inr (inr (inr (inr (inr (inl e)))))))) a b c = subst (λ (m : ℕ). opens (asked m) ≡ []) (sym e) refl
+opened n (inr (inr (inr (inr (inr (inr (inr (inr none)))))))) a b c = absurd none
 
 pub behind_is : (net : Net) (earlier : Earlier) (line : ℕ) (blocks : List (List Record)) (opened : List Record) → behind_sections opened (behind_at net earlier line blocks) ≡ behind_at net earlier (line + length opened) blocks
 behind_is net earlier line blocks [] = ap (λ (k : ℕ). behind_at net earlier k blocks) (omega arith)

@@ -18,7 +18,7 @@ use Rattle.crn_document.specs.Inner.Steps.{IsVersion, StopIs, StepIs}
 use Rattle.crn_document.specs.Inner.Table.{IsCount, MovesBy}
 use Rattle.crn_document.proofs.Steps.{step_gives, step_then_is, step_map, stop_first}
 use Rattle.crn_document.proofs.Records.{rows_after, first_row}
-use Rattle.crn_document.proofs.Heads.{Holds, one_field}
+use Rattle.crn_document.proofs.Fields.{Holds, one_field}
 
 -- the number of shared lists is one small number
 one_count : (zs : List ℤ) → Holds (small 1 0 MAX_SHARED) zs → IsCount zs

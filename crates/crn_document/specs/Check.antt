@@ -41,7 +41,7 @@ pub record Accepts (accepted : Accepted) (old new : SourceSeen) : Type 0 where
   pub gives : IsReadOf text (record { net = accepted.net; blocks = blocks })
   pub verdicts : map tight accepted.verdicts
       ≡ verdicts_said built (meaning.start accepted.net) blocks
-  pub sound : AreSound accepted.net built (map tight accepted.verdicts)
+  pub sound : AreSound accepted.net built accepted.verdicts
 
 -- the first fault of the document is of this kind and at this line
 pub record Rejects (code line : ℕ) (old new : SourceSeen) : Type 0 where

@@ -2,6 +2,8 @@
 pub mod Steps
 pub mod Records
 pub mod Answer
+pub mod Parts
+pub mod Answers
 pub mod Network
 pub mod Heads
 pub mod Blocks

@@ -1,50 +1,27 @@
-ghost use Rattle.std.specs.Prelude.{◌≡◌, ◌<◌, ◌+◌, List, [], length, nat_abs, slice_index_or, IfOk};
-ghost use Rattle.crn_cert.specs.Questions.{Q1, Q2, Q3, Q4};
+ghost use Rattle.std.specs.Prelude.{◌≡◌, ◌<◌, ◌≤◌, ◌+◌, ◌-◌, ◌++◌, List, [], drop, length, slice_index_or, take, IfOk, OnOk};
+ghost use Rattle.crn_cert.specs.declared.answer.Verdict.TheVariants.{Unknown};
+ghost use Rattle.crn_cert.specs.Questions.{Q1, Q2, Q3, Q4, Q5, Q6, Q7, Q8};
 ghost use Rattle.crn_ctext.specs.Records.{Record};
 ghost use Rattle.crn_ctext.specs.Questions.{Shapes, later_numbers};
-ghost use Rattle.crn_ctext.specs.Meaning.{number, nums, lists, verdict_by, proof_by};
+ghost use Rattle.crn_ctext.specs.Meaning.{number, nums, ints, lists, proof_by};
 ghost use Rattle.crn_check.specs.Facts.{asked};
 ghost use Rattle.crn_check.specs.Check.{IsBuilt};
-ghost use Rattle.crn_document.specs.Inner.Answer.{IsSmall, AreSmall, AreSmallRows, IsYesOrReaction, IsHeadOf, row_count};
+ghost use Rattle.crn_document.specs.Inner.Answer.{AreSmall, AreSmallRows, IsHeadOf, IsYesOrReaction, rank_proof_by, row_count, verdict_of_head, wide_gap};
+ghost use Rattle.crn_document.specs.Inner.Answers.{FitAnswer, FitRank, deficiency_proof, part_proofs, proof_of_head};
+ghost use Rattle.crn_document.specs.Inner.Parts.{FitParts};
+ghost use Rattle.crn_cert.specs.declared.answer.Proof.TheVariants.{Nothing};
 
-use crn_cert::{Answer, Proof, Rows, Verdict};
-use crn_vec::{NoMemory, Nums};
+use crate::numbers::{after, ints_of, no_ints, no_nums, number_of, nums_of, small};
+use crate::parts::Part;
+use crn_cert::{Answer, Gap, Proof, RankList, RankProof, Rows, Verdict};
+use crn_vec::{Ints, NoMemory, Nums};
 use std::alloc::Global;
-
-// A small number of a record.
-fn small(value: i128) -> u32
-    requires { IsSmall value }
-    ensures { result ≡ nat_abs value }
-{
-    value as u32
-}
-
-// The numbers of a record, which are small.
-fn nums_of(alloc: Global, row: &[i128]) -> Result<Nums, NoMemory>
-    requires { AreSmall row.now }
-    ensures { IfOk result (λ made. made ≡ nums row.now) }
-{
-    let mut items = Vec::with_capacity(alloc, row.len())?;
-    for value in row {
-        items.push(small(*value))?;
-    }
-    Ok(Nums::from_vec(items))
-}
-
-// A list without numbers. It takes no memory.
-fn no_nums(alloc: Global) -> Nums
-    ensures { result ≡ nums [] }
-{
-    Nums::from_vec(Vec::new(alloc))
-}
 
 // A yes, or a no that names a reaction.
 fn yes_or_reaction(head: &[i128]) -> Verdict
     requires { IsYesOrReaction head.now }
-    ensures third { (rs : List Record)
-        → result ≡ verdict_by Q3 (number head.now 0) (later_numbers head.now) rs }
-    ensures fourth { (rs : List Record)
-        → result ≡ verdict_by Q4 (number head.now 0) (later_numbers head.now) rs }
+    ensures third { (rs : List Record) → result ≡ verdict_of_head Q3 head.now rs }
+    ensures fourth { (rs : List Record) → result ≡ verdict_of_head Q4 head.now rs }
 {
     match head {
         [_, reaction] => Verdict::NoReaction {
@@ -54,31 +31,101 @@ fn yes_or_reaction(head: &[i128]) -> Verdict
     }
 }
 
-/// The verdict with this head, without the lists of later records. It takes no memory.
-pub(crate) fn bare_verdict(alloc: Global, question: u32, head: &[i128]) -> Verdict
+// An open verdict by a wide elementary vector.
+fn wide(alloc: Global, head: &[i128]) -> Result<Verdict, NoMemory>
+    requires small { AreSmall head.now }
+    ensures { IfOk result (λ v. v ≡ Unknown (wide_gap (later_numbers head.now))) }
+{
+    Ok(Verdict::Unknown(Gap::Wide {
+        system: number_of(head, 1),
+        class: number_of(head, 2),
+        index: number_of(head, 3),
+        basis: nums_of(alloc, after(head, 4))?,
+    }))
+}
+
+// The rank with this base, or that it is open.
+fn rank_verdict(alloc: Global, head: &[i128], base: Nums) -> Result<Verdict, NoMemory>
+    requires head { IsHeadOf Q5 head.now }
+    requires small { AreSmall head.now }
+    ensures { (rs : List Record) → base ≡ nums (slice_index_or (lists rs) 0 [])
+        → IfOk result (λ v. v ≡ verdict_of_head Q5 head.now rs) }
+{
+    match number_of(head, 0) {
+        1 => Ok(Verdict::Rank {
+            rank: number_of(head, 1),
+            base,
+        }),
+        _ => wide(alloc, head),
+    }
+}
+
+// The deficiencies, or that they are open.
+fn deficiency_verdict(alloc: Global, head: &[i128]) -> Result<Verdict, NoMemory>
+    requires head { IsHeadOf Q6 head.now }
+    requires small { AreSmall head.now }
+    ensures { (rs : List Record) → IfOk result (λ v. v ≡ verdict_of_head Q6 head.now rs) }
+{
+    match number_of(head, 0) {
+        1 => Ok(Verdict::Deficiency {
+            total: number_of(head, 1),
+            classes: nums_of(alloc, after(head, 2))?,
+        }),
+        2 => wide(alloc, head),
+        _ => Ok(Verdict::Unknown(Gap::Rests {
+            question: number_of(head, 1),
+        })),
+    }
+}
+
+// A yes or a no with these numbers, or that it is open.
+fn vector_verdict(alloc: Global, head: &[i128], numbers: Ints) -> Result<Verdict, NoMemory>
+    requires head { IsHeadOf Q7 head.now }
+    requires small { AreSmall head.now }
+    ensures seventh { (rs : List Record) → numbers ≡ ints (slice_index_or (lists rs) 0 [])
+        → IfOk result (λ v. v ≡ verdict_of_head Q7 head.now rs) }
+    ensures eighth { (rs : List Record) → numbers ≡ ints (slice_index_or (lists rs) 0 [])
+        → IfOk result (λ v. v ≡ verdict_of_head Q8 head.now rs) }
+{
+    match number_of(head, 0) {
+        1 => Ok(Verdict::YesVec { vector: numbers }),
+        2 => Ok(Verdict::NoVec {
+            multipliers: numbers,
+        }),
+        _ => wide(alloc, head),
+    }
+}
+
+/// The verdict with this head, without the lists of later records.
+pub(crate) fn bare_verdict(alloc: Global, question: u32, head: &[i128]) -> Result<Verdict, NoMemory>
     requires built { IsBuilt question }
     requires head { IsHeadOf (asked question) head.now }
-    ensures { result ≡ verdict_by (asked question) (number head.now 0) (later_numbers head.now) [] }
+    requires small { AreSmall head.now }
+    ensures { IfOk result (λ v. v ≡ verdict_of_head (asked question) head.now []) }
 {
     match question {
-        1 => Verdict::Classes {
-            count: small(head[1]),
+        1 => Ok(Verdict::Classes {
+            count: number_of(head, 1),
             label: no_nums(alloc),
-        },
-        2 => Verdict::Strong {
-            count: small(head[1]),
-            terminal: small(head[2]),
+        }),
+        2 => Ok(Verdict::Strong {
+            count: number_of(head, 1),
+            terminal: number_of(head, 2),
             label: no_nums(alloc),
             exit: no_nums(alloc),
-        },
-        _ => yes_or_reaction(head),
+        }),
+        5 => rank_verdict(alloc, head, no_nums(alloc)),
+        6 => deficiency_verdict(alloc, head),
+        7 => vector_verdict(alloc, head, no_ints(alloc)),
+        8 => vector_verdict(alloc, head, no_ints(alloc)),
+        _ => Ok(yes_or_reaction(head)),
     }
 }
 
 // The numbers of record i, counted from 0, which are small.
 fn row_of(alloc: Global, rows: &Rows, i: usize) -> Result<Nums, NoMemory>
     requires inside { i < length rows.now }
-    requires small { AreSmallRows rows.now }
+    requires small { AreSmall (slice_index_or rows.now i []) }
     ensures { IfOk result (λ made. made ≡ nums (slice_index_or rows.now i [])) }
 {
     nums_of(alloc, rows.row(i))
@@ -90,7 +137,7 @@ fn linkage_answer(alloc: Global, head: &[i128], rows: &Rows) -> Result<Answer, N
     requires rows { length rows.now ≡ 3 }
     requires small { AreSmallRows rows.now }
     ensures verdict { (rs : List Record) → lists rs ≡ rows.now → IfOk result
-        (λ a. a.verdict ≡ verdict_by Q1 (number head.now 0) (later_numbers head.now) rs) }
+        (λ a. a.verdict ≡ verdict_of_head Q1 head.now rs) }
     ensures proof { (rs : List Record) (s : Shapes) → lists rs ≡ rows.now → IfOk result
         (λ a. a.proof ≡ proof_by Q1 s (number head.now 0) (later_numbers head.now) rs) }
 {
@@ -112,7 +159,7 @@ fn strong_answer(alloc: Global, head: &[i128], rows: &Rows) -> Result<Answer, No
     requires rows { length rows.now ≡ 7 }
     requires small { AreSmallRows rows.now }
     ensures verdict { (rs : List Record) → lists rs ≡ rows.now → IfOk result
-        (λ a. a.verdict ≡ verdict_by Q2 (number head.now 0) (later_numbers head.now) rs) }
+        (λ a. a.verdict ≡ verdict_of_head Q2 head.now rs) }
     ensures proof { (rs : List Record) (s : Shapes) → lists rs ≡ rows.now → IfOk result
         (λ a. a.proof ≡ proof_by Q2 s (number head.now 0) (later_numbers head.now) rs) }
 {
@@ -139,7 +186,7 @@ fn reversible_answer(alloc: Global, head: &[i128], rows: &Rows) -> Result<Answer
     requires rows { length rows.now ≡ row_count Q3 (number head.now 0) }
     requires small { AreSmallRows rows.now }
     ensures verdict { (rs : List Record) → lists rs ≡ rows.now → IfOk result
-        (λ a. a.verdict ≡ verdict_by Q3 (number head.now 0) (later_numbers head.now) rs) }
+        (λ a. a.verdict ≡ verdict_of_head Q3 head.now rs) }
     ensures proof { (rs : List Record) (s : Shapes) → lists rs ≡ rows.now → IfOk result
         (λ a. a.proof ≡ proof_by Q3 s (number head.now 0) (later_numbers head.now) rs) }
 {
@@ -151,28 +198,184 @@ fn reversible_answer(alloc: Global, head: &[i128], rows: &Rows) -> Result<Answer
     Ok(Answer { verdict, proof })
 }
 
+// Adds the records from record i on and before record end, counted from 0.
+fn push_rows(
+    alloc: Global,
+    rows: &Rows,
+    i: usize,
+    end: usize,
+    into: &mut Rows,
+) -> Result<(), NoMemory>
+    requires order { i ≤ end }
+    requires inside { end ≤ length rows.now }
+    ensures { OnOk result (into.new ≡ into.old ++ take (end - i) (drop i rows.now)) }
+{
+    if i == end {
+        return Ok(());
+    }
+    into.push(Ints::from_slice(alloc, rows.row(i))?)?;
+    push_rows(alloc, rows, i + 1, end, into)
+}
+
+// The records from record i on and before record end, counted from 0.
+fn some_rows(alloc: Global, rows: &Rows, i: usize, end: usize) -> Result<Rows, NoMemory>
+    requires order { i ≤ end }
+    requires inside { end ≤ length rows.now }
+    ensures { IfOk result (λ made. made ≡ take (end - i) (drop i rows.now)) }
+{
+    let mut made = Rows::new(alloc)?;
+    push_rows(alloc, rows, i, end, &mut made)?;
+    Ok(made)
+}
+
+// The proof of a rank by a base, which is record i, and the records after it and before record end, counted from 0.
+fn rank_proof(
+    alloc: Global,
+    rows: &Rows,
+    i: usize,
+    rank: u32,
+    end: usize,
+) -> Result<RankProof, NoMemory>
+    requires rank { i + 1 + rank ≤ end }
+    requires inside { end ≤ length rows.now }
+    requires small { AreSmall (slice_index_or rows.now i []) }
+    ensures { IfOk result
+        (λ made. made ≡ rank_proof_by rank (take (end - i) (drop i rows.now))) }
+{
+    let middle = i + 1 + rank as usize;
+    Ok(RankProof {
+        base: row_of(alloc, rows, i)?,
+        duals: some_rows(alloc, rows, i + 1, middle)?,
+        combs: some_rows(alloc, rows, middle, end)?,
+    })
+}
+
+// The rank and its proof, or that it is open.
+fn rank_answer(alloc: Global, head: &[i128], rows: &Rows) -> Result<Answer, NoMemory>
+    requires head { IsHeadOf Q5 head.now }
+    requires small { AreSmall head.now }
+    requires rows { FitRank (number head.now 0) (number head.now 1) rows.now }
+    ensures verdict { (rs : List Record) → lists rs ≡ rows.now → IfOk result
+        (λ a. a.verdict ≡ verdict_of_head Q5 head.now rs) }
+    ensures proof { (rs : List Record) (s : Shapes) → lists rs ≡ rows.now → IfOk result
+        (λ a. a.proof ≡ proof_by Q5 s (number head.now 0) (later_numbers head.now) rs) }
+{
+    if number_of(head, 0) != 1 {
+        return Ok(Answer {
+            verdict: wide(alloc, head)?,
+            proof: Proof::Nothing,
+        });
+    }
+    let rank = number_of(head, 1);
+    Ok(Answer {
+        verdict: Verdict::Rank {
+            rank,
+            base: row_of(alloc, rows, 0)?,
+        },
+        proof: Proof::Rank(rank_proof(alloc, rows, 0, rank, rows.len())?),
+    })
+}
+
+// Adds the proofs of these ranks by the last so many records.
+fn push_proofs(
+    alloc: Global,
+    rows: &Rows,
+    last: usize,
+    parts: &[Part],
+    into: &mut RankList,
+) -> Result<(), NoMemory>
+    requires inside { last ≤ length rows.now }
+    requires rows { FitParts parts.now (drop (length rows.now - last) rows.now) }
+    ensures { OnOk result (into.new
+        ≡ into.old ++ part_proofs parts.now (drop (length rows.now - last) rows.now)) }
+{
+    match parts.split_first() {
+        None => Ok(()),
+        Some((part, rest)) => {
+            let later = last - 1 - part.count as usize;
+            let i = rows.len() - last;
+            into.push(rank_proof(alloc, rows, i, part.rank, rows.len() - later)?)?;
+            push_proofs(alloc, rows, later, rest, into)
+        }
+    }
+}
+
+// The deficiencies and the proofs of the classes' ranks, or that they are open.
+fn deficiency_answer(
+    alloc: Global,
+    head: &[i128],
+    parts: &[Part],
+    rows: &Rows,
+) -> Result<Answer, NoMemory>
+    requires head { IsHeadOf Q6 head.now }
+    requires small { AreSmall head.now }
+    requires rows { FitParts parts.now rows.now }
+    ensures verdict { (rs : List Record) → IfOk result
+        (λ a. a.verdict ≡ verdict_of_head Q6 head.now rs) }
+    ensures proof { IfOk result
+        (λ a. a.proof ≡ deficiency_proof (number head.now 0) parts.now rows.now) }
+{
+    let verdict = deficiency_verdict(alloc, head)?;
+    if number_of(head, 0) != 1 {
+        return Ok(Answer {
+            verdict,
+            proof: Proof::Nothing,
+        });
+    }
+    let mut list = RankList::new(alloc)?;
+    push_proofs(alloc, rows, rows.len(), parts, &mut list)?;
+    Ok(Answer {
+        verdict,
+        proof: Proof::Ranks(list),
+    })
+}
+
+// A yes or a no with its numbers, or that it is open.
+fn vector_answer(alloc: Global, head: &[i128], rows: &Rows) -> Result<Answer, NoMemory>
+    requires head { IsHeadOf Q7 head.now }
+    requires small { AreSmall head.now }
+    ensures seventh { (rs : List Record) → lists rs ≡ rows.now → IfOk result
+        (λ a. a.verdict ≡ verdict_of_head Q7 head.now rs) }
+    ensures eighth { (rs : List Record) → lists rs ≡ rows.now → IfOk result
+        (λ a. a.verdict ≡ verdict_of_head Q8 head.now rs) }
+    ensures proof { IfOk result (λ a. a.proof ≡ Nothing) }
+{
+    let numbers = if rows.len() == 0 {
+        no_ints(alloc)
+    } else {
+        ints_of(alloc, rows.row(0))?
+    };
+    Ok(Answer {
+        verdict: vector_verdict(alloc, head, numbers)?,
+        proof: Proof::Nothing,
+    })
+}
+
 /// The answer with this head and these records below it.
 pub(crate) fn answer_of(
     alloc: Global,
     question: u32,
     head: &[i128],
+    parts: &[Part],
     rows: &Rows,
 ) -> Result<Answer, NoMemory>
     requires built { IsBuilt question }
     requires head { IsHeadOf (asked question) head.now }
-    requires rows { length rows.now ≡ row_count (asked question) (number head.now 0) }
-    requires small { AreSmallRows rows.now }
+    requires small { AreSmall head.now }
+    requires rows { FitAnswer (asked question) head.now parts.now rows.now }
     ensures verdict { (rs : List Record) → lists rs ≡ rows.now → IfOk result
-        (λ a. a.verdict
-        ≡ verdict_by (asked question) (number head.now 0) (later_numbers head.now) rs) }
+        (λ a. a.verdict ≡ verdict_of_head (asked question) head.now rs) }
     ensures proof { (rs : List Record) (s : Shapes) → lists rs ≡ rows.now → IfOk result
-        (λ a. a.proof
-        ≡ proof_by (asked question) s (number head.now 0) (later_numbers head.now) rs) }
+        (λ a. a.proof ≡ proof_of_head (asked question) s parts.now head.now rs) }
 {
     match question {
         1 => linkage_answer(alloc, head, rows),
         2 => strong_answer(alloc, head, rows),
         3 => reversible_answer(alloc, head, rows),
+        5 => rank_answer(alloc, head, rows),
+        6 => deficiency_answer(alloc, head, parts, rows),
+        7 => vector_answer(alloc, head, rows),
+        8 => vector_answer(alloc, head, rows),
         _ => Ok(Answer {
             verdict: yes_or_reaction(head),
             proof: Proof::Nothing,

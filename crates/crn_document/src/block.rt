@@ -2,24 +2,27 @@ ghost use Rattle.std.specs.Prelude.{◌≡◌, ◌≤◌, ◌+◌, ℕ, ℤ, Lis
 ghost use Rattle.crn_io.specs.Device.{SourceSeen};
 ghost use Rattle.crn_ctext.specs.Records.{Record};
 ghost use Rattle.crn_ctext.specs.Blocks.{asks_block};
-ghost use Rattle.crn_ctext.specs.Meaning.{meaning, number};
+ghost use Rattle.crn_ctext.specs.Meaning.{meaning};
 ghost use Rattle.crn_check.specs.Facts.{asked};
 ghost use Rattle.crn_check.specs.Check.{IsBuilt};
 ghost use Rattle.crn_document.specs.Inner.Steps.{GoesOn, StepIs};
-ghost use Rattle.crn_document.specs.Inner.Answer.{IsHeadOf};
+ghost use Rattle.crn_document.specs.Inner.Answer.{AreSmall};
 ghost use Rattle.crn_document.specs.Inner.Heads.{IsHead, class_count};
-ghost use Rattle.crn_document.specs.Inner.Blocks.{HeadHolds, IsAfter, IsBlock, IsReady, behind_at, end_course, head_course, rows_course};
+ghost use Rattle.crn_document.specs.Inner.Blocks.{HeadHolds, IsAfter, IsBlock, IsReady, behind_at, end_course, head_course, parts_after, rows_course};
 
 use crate::answer::{answer_of, bare_verdict};
 use crate::head::next_head;
+use crate::linkage::linkage_of;
+use crate::numbers::number_of;
+use crate::parts::{Part, parts_of};
 use crate::reading::Reading;
-use crate::rows::{next_rows, rows_below};
+use crate::rows::{Below, next_rows, rows_below};
 use crate::stop::CheckStop;
 use crn_cert::{Answer, Rows, Verdicts};
 use crn_check::{Facts, check_answer, check_head};
 use crn_io::Source;
 use crn_net::Network;
-use crn_vec::Ints;
+use crn_vec::{Ints, Nums};
 
 // The verdicts that were accepted so far: as facts for the tests of later blocks, and in the order of the questions.
 #[derive(Drop)]
@@ -36,6 +39,7 @@ fn accept(
     question: u32,
     line: u32,
     head: &[i128],
+    parts: &[Part],
     rows: &Rows,
 ) -> Result<(), CheckStop>
     requires goes { GoesOn at.now }
@@ -43,18 +47,20 @@ fn accept(
     requires ready { IsReady net.now question checked.old }
     requires line { line + 1 + length rows.now ≡ at.now.line }
     requires heads { HeadHolds net.now checked.old.facts.earlier question head.now }
+    requires parts { parts.now
+        ≡ parts_after net.now checked.old.facts.earlier question head.now }
     requires block { (h : Record) × (rs : List Record)
-        × IsBlock net.now question head.now rows.now h rs }
+        × IsBlock net.now checked.old.facts.earlier question head.now rows.now h rs }
     ensures step { (h : Record) (rs : List Record) (version : ℕ) (table : List (List ℤ))
         (blocks : List (List Record)) (seen : SourceSeen)
-        → IsBlock net.now question head.now rows.now h rs
+        → IsBlock net.now checked.old.facts.earlier question head.now rows.now h rs
         → StepIs (end_course version table (asked question)
         (behind_at net.now checked.old.facts.earlier line blocks) h rs)
         (λ _ y. IsAfter net.now checked.new.facts.earlier at.now.line y)
         result at.now at.now seen seen }
     ensures ready { OnOk result (IsReady net.now (question + 1) checked.new) }
 {
-    let answer = answer_of(at.alloc, question, head, rows)?;
+    let answer = answer_of(at.alloc, question, head, parts, rows)?;
     match check_answer(net, &mut checked.facts, question, &answer) {
         Ok(()) => {
             let Answer { verdict, proof: _ } = answer;
@@ -70,23 +76,13 @@ fn accept(
 
 // The number of classes that a head says.
 fn class_count(question: u32, head: &[i128]) -> u32
-    requires built { IsBuilt question }
-    requires head { IsHeadOf (asked question) head.now }
+    requires { AreSmall head.now }
     ensures { result ≡ class_count question head.now }
 {
     if question == 1 || question == 2 {
-        return head[1] as u32;
+        return number_of(head, 1);
     }
     0
-}
-
-// The place of a head's form.
-fn place_of(question: u32, head: &[i128]) -> u32
-    requires built { IsBuilt question }
-    requires head { IsHeadOf (asked question) head.now }
-    ensures { result ≡ number head.now 0 }
-{
-    head[0] as u32
 }
 
 // The records below a head that was just read, and their tests.
@@ -103,9 +99,10 @@ fn read_rows<S: Source>(
     requires built { IsBuilt question }
     requires ready { IsReady net.now question checked.old }
     requires heads { HeadHolds net.now checked.old.facts.earlier question head.now }
-    requires head { (h : Record) × IsHead net.now question head.now h }
+    requires head { (h : Record)
+        × IsHead net.now checked.old.facts.earlier question head.now h }
     ensures step { (h : Record) (n : ℕ) (table : List (List ℤ)) (blocks : List (List Record))
-        → IsHead net.now question head.now h → n + 1 ≡ at.old.line
+        → IsHead net.now checked.old.facts.earlier question head.now h → n + 1 ≡ at.old.line
         → StepIs (rows_course at.old.version table (asked question)
         (behind_at net.now checked.old.facts.earlier n blocks) h)
         (λ _ y. IsAfter net.now checked.new.facts.earlier at.new.line y)
@@ -115,10 +112,21 @@ fn read_rows<S: Source>(
     ensures ready { OnOk result (IsReady net.now (question + 1) checked.new) }
 {
     let line = at.line - 1;
+    let linkage = linkage_of(net, &checked.facts, question);
+    let labels = linkage.labels;
+    let classes = class_count(question, head);
+    let parts = parts_of(at.alloc, net, labels, question, head)?;
+    let place = number_of(head, 0);
+    let due = rows_below(at.alloc, question, place, &parts)?;
+    let mut members = Nums::with_room(at.alloc, net.reactions())?;
     let mut rows = Rows::new(at.alloc)?;
-    let due = rows_below(question, place_of(question, head));
-    next_rows(source, at, net, class_count(question, head), due, &mut rows)?;
-    accept(at, net, checked, question, line, head, &rows)
+    let below = Below {
+        net,
+        labels,
+        classes,
+    };
+    next_rows(source, at, &below, &due, &mut members, &mut rows)?;
+    accept(at, net, checked, question, line, head, &parts, &rows)
 }
 
 // The tests of the head that was just read, and the records below it.
@@ -133,9 +141,11 @@ fn after_head<S: Source>(
     requires some { 1 ≤ at.old.line }
     requires built { IsBuilt question }
     requires ready { IsReady net.now question checked.old }
-    requires head { (h : Record) × IsHead net.now question at.old.numbers.list h }
+    requires head { (h : Record)
+        × IsHead net.now checked.old.facts.earlier question at.old.numbers.list h }
     ensures step { (h : Record) (n : ℕ) (table : List (List ℤ)) (blocks : List (List Record))
-        → IsHead net.now question at.old.numbers.list h → n + 1 ≡ at.old.line
+        → IsHead net.now checked.old.facts.earlier question at.old.numbers.list h
+        → n + 1 ≡ at.old.line
         → StepIs (head_course at.old.version table (asked question)
         (behind_at net.now checked.old.facts.earlier n blocks) h)
         (λ _ y. IsAfter net.now checked.new.facts.earlier at.new.line y)
@@ -145,7 +155,7 @@ fn after_head<S: Source>(
     ensures ready { OnOk result (IsReady net.now (question + 1) checked.new) }
 {
     let head = Ints::from_slice(at.alloc, at.numbers.as_slice())?;
-    let verdict = bare_verdict(at.alloc, question, head.as_slice());
+    let verdict = bare_verdict(at.alloc, question, head.as_slice())?;
     match check_head(net, &checked.facts, question, &verdict) {
         Ok(()) => read_rows(source, at, net, checked, question, head.as_slice()),
         Err(fault) => Err(CheckStop::Rejected {
@@ -175,6 +185,6 @@ pub(crate) fn next_block<S: Source>(
     ensures version { at.new.version ≡ at.old.version }
     ensures ready { OnOk result (IsReady net.now (question + 1) checked.new) }
 {
-    next_head(source, at, net, question)?;
+    next_head(source, at, net, &checked.facts, question)?;
     after_head(source, at, net, checked, question)
 }

@@ -1,7 +1,9 @@
-ghost use Rattle.std.specs.Prelude.{◌≡◌, ◌≤◌, ◌+◌, ◌-◌, ℕ, ℤ, List, [], ◌∷◌, length, map, drop, false, OnOk};
+ghost use Rattle.std.specs.Prelude.{◌≡◌, ◌≤◌, ◌+◌, ◌-◌, ℕ, ℤ, List, [], ◌∷◌, length, map, drop, slice_index_or, false, OnOk};
 ghost use Rattle.crn_cert.specs.Built.{built};
 ghost use Rattle.crn_ctext.specs.Records.{Record};
 ghost use Rattle.crn_ctext.specs.Kinds.{section_form};
+ghost use Rattle.crn_ctext.specs.Questions.{opens};
+ghost use Rattle.crn_ctext.specs.Expect.{section_names};
 ghost use Rattle.crn_ctext.specs.Blocks.{asks_all, asks_blocks, sections};
 ghost use Rattle.crn_ctext.specs.Meaning.{meaning};
 ghost use Rattle.crn_check.specs.Facts.{asked};
@@ -20,17 +22,35 @@ use crn_io::Source;
 use crn_net::Network;
 
 // The number of the last question that is answered.
-const LAST: u32 = 4;
+const LAST: u32 = 8;
 
-// What is due where a section opens before the first question.
-fn section_expect(net: &Network) -> Expect<'static>
-    ensures { Expects result 2 (map section_form (sections 2 (asked 1))) }
+// The number of the section that opens before a question, and 0 if none does.
+fn section_before(question: u32) -> u32
+    requires { IsBuilt question }
+    ensures none { result ≡ 0 → opens (asked question) ≡ [] }
+    ensures some { 1 ≤ result
+        → opens (asked question) ≡ slice_index_or section_names (result - 1) [] ∷ [] }
+    ensures few { result ≤ 6 }
+{
+    match question {
+        1 => 1,
+        5 => 2,
+        7 => 3,
+        _ => 0,
+    }
+}
+
+// What is due where this section opens before a question.
+fn section_expect(net: &Network, section: u32) -> Expect<'static>
+    requires { (1 ≤ section) × (section ≤ 6) }
+    ensures { Expects result 2
+        (section_form (slice_index_or section_names (section - 1) []) ∷ []) }
 {
     Expect {
-        due: Due::Section(1),
+        due: Due::Section(section),
         version: 2,
         after_tree: false,
-        sizes: sizes_of(net),
+        sizes: sizes_of(net, &[]),
     }
 }
 
@@ -53,10 +73,11 @@ fn next_section<S: Source>(
     if at.version != 2 {
         return Ok(());
     }
-    if question != 1 {
+    let section = section_before(question);
+    if section == 0 {
         return Ok(());
     }
-    let expect = section_expect(net);
+    let expect = section_expect(net, section);
     next_record(source, at, &expect)
 }
 
@@ -70,7 +91,7 @@ pub(crate) fn next_blocks<S: Source>(
 ) -> Result<(), CheckStop>
     requires goes { GoesOn at.old }
     requires first { 1 ≤ question }
-    requires last { question ≤ 5 }
+    requires last { question ≤ 9 }
     requires ready { IsReady net.now question checked.old }
     ensures step { (table : List (List ℤ)) (blocks : List (List Record)) →
         StepIs (asks_blocks meaning at.old.version table (drop (question - 1) built)
@@ -79,7 +100,7 @@ pub(crate) fn next_blocks<S: Source>(
         result at.old at.new (S.seen source.old) (S.seen source.new) }
     ensures goes { OnOk result (GoesOn at.new) }
     ensures version { at.new.version ≡ at.old.version }
-    ensures ready { OnOk result (IsReady net.now 5 checked.new) }
+    ensures ready { OnOk result (IsReady net.now 9 checked.new) }
 {
     if question > LAST {
         return Ok(());

@@ -1,21 +1,26 @@
-ghost use Rattle.std.specs.Prelude.{◌≡◌, ◌≤◌, ◌+◌, [], ◌∷◌, length, map, pos, false, OnOk};
-ghost use Rattle.crn_vec.specs.declared.limits.TheConstants.{MAX_COMPLEXES, MAX_REACTIONS};
+ghost use Rattle.std.specs.Prelude.{◌≡◌, ◌≤◌, ◌+◌, ◌++◌, [], ◌∷◌, length, map, pos, replicate, false, IfOk, OnOk};
+ghost use Rattle.std.specs.List.{AllByRecursion, flat_map};
+ghost use Rattle.crn_vec.specs.declared.limits.TheConstants.{MAX_COMPLEXES};
+ghost use Rattle.crn_io.specs.declared.lines.TheConstants.{MAX_NUMBERS};
 ghost use Rattle.crn_ctext.specs.Records.{Record};
 ghost use Rattle.crn_ctext.specs.Blocks.{asks, asks_all};
 ghost use Rattle.crn_ctext.specs.Expect.{sizes_of, tag_of};
-ghost use Rattle.crn_ctext.specs.declared.expect.Due.TheVariants.{Part};
+ghost use Rattle.crn_ctext.specs.declared.expect.Due.TheVariants.{Part as DuePart};
 ghost use Rattle.crn_document.specs.Inner.Steps.{IsVersion, GoesOn, StepIs};
-ghost use Rattle.crn_document.specs.Inner.Records.{Expects, IsRowDue, IsRow, AreRows, row_form, rows_below};
+ghost use Rattle.crn_document.specs.Inner.Records.{AreMembers, AreRows, Expects, IsRow, IsRowDue, MayBeRow, fixed_rows, part_rows, row_form, rows_below};
 
+use crate::linkage::fill_members;
+use crate::parts::Part;
 use crate::reading::Reading;
 use crate::record::next_record;
 use crate::sizes::sizes_of;
 use crate::stop::CheckStop;
 use crn_cert::Rows;
 use crn_ctext::{Due, Expect, Word};
-use crn_io::Source;
+use crn_io::{NoMemory, Source};
 use crn_net::Network;
-use crn_vec::Ints;
+use crn_vec::{Ints, Nums};
+use std::alloc::Global;
 
 // A record below a head.
 #[derive(Clone, Copy)]
@@ -30,11 +35,21 @@ pub(crate) enum Row {
     Level,
     Exit,
     Back,
+    // So many reactions of a linkage class, or of the network for class 0.
+    Base { class: u32, rank: u32 },
+    Dual,
+    // After a base of so many reactions.
+    Comb { rank: u32 },
+    // A number for each reaction, or for each species.
+    VecOfReactions,
+    VecOfSpecies,
+    CutOfReactions,
+    CutOfSpecies,
 }
 
-// The records below a head, by its question and the place of its form, both counted from 1.
-pub(crate) fn rows_below(question: u32, place: u32) -> &'static [Row]
-    ensures { result.now ≡ rows_below question place }
+// The records below a head that prove no rank, by its question and the place of its form, both counted from 1.
+fn fixed_rows(question: u32, place: u32) -> &'static [Row]
+    ensures { result.now ≡ fixed_rows question place }
 {
     if question == 1 {
         return &[Row::Label, Row::Up, Row::Depth];
@@ -53,13 +68,86 @@ pub(crate) fn rows_below(question: u32, place: u32) -> &'static [Row]
     if question == 3 && place == 1 {
         return &[Row::Back];
     }
+    if question == 7 && place == 1 {
+        return &[Row::VecOfReactions];
+    }
+    if question == 7 && place == 2 {
+        return &[Row::CutOfSpecies];
+    }
+    if question == 8 && place == 1 {
+        return &[Row::VecOfSpecies];
+    }
+    if question == 8 && place == 2 {
+        return &[Row::CutOfReactions];
+    }
     &[]
+}
+
+// Adds the same record so many times.
+fn push_times(into: &mut Vec<Row>, row: Row, count: u32) -> Result<(), NoMemory>
+    ensures { OnOk result (into.new.items ≡ into.old.items ++ replicate count row) }
+{
+    if count == 0 {
+        return Ok(());
+    }
+    into.push(row)?;
+    push_times(into, row, count - 1)
+}
+
+// Adds the records that prove a rank.
+fn push_part(into: &mut Vec<Row>, part: Part) -> Result<(), NoMemory>
+    ensures { OnOk result (into.new.items ≡ into.old.items ++ part_rows part) }
+{
+    let rank = part.rank;
+    into.push(Row::Base {
+        class: part.class,
+        rank,
+    })?;
+    push_times(into, Row::Dual, rank)?;
+    push_times(into, Row::Comb { rank }, part.count.saturating_sub(rank))
+}
+
+// Adds the records that prove these ranks.
+fn push_parts(into: &mut Vec<Row>, parts: &[Part]) -> Result<(), NoMemory>
+    ensures { OnOk result (into.new.items ≡ into.old.items ++ flat_map part_rows parts.now) }
+{
+    match parts.split_first() {
+        None => Ok(()),
+        Some((part, rest)) => {
+            push_part(into, *part)?;
+            push_parts(into, rest)
+        }
+    }
+}
+
+// The records below a head that proves these ranks, by its question and the place of its form, both counted from 1.
+pub(crate) fn rows_below(
+    alloc: Global,
+    question: u32,
+    place: u32,
+    parts: &[Part],
+) -> Result<Vec<Row>, NoMemory>
+    ensures { IfOk result (λ due. due.items ≡ rows_below question place parts.now) }
+{
+    let mut due = Vec::new(alloc);
+    due.extend_from_slice(fixed_rows(question, place))?;
+    push_parts(&mut due, parts)?;
+    Ok(due)
+}
+
+// What the forms of the records below a head rest on: the network, the linkage classes of its complexes, and the number
+// of classes that the head says.
+#[derive(Clone, Copy)]
+pub(crate) struct Below<'a> {
+    pub(crate) net: &'a Network,
+    pub(crate) labels: &'a [u32],
+    pub(crate) classes: u32,
 }
 
 // A record of this word, with so many numbers from the least to the greatest.
 fn part(word: Word, count: usize, least: u32, greatest: u32) -> Due<'static>
-    requires { count ≤ MAX_REACTIONS }
-    ensures { result ≡ Part word count (pos least) (pos greatest) }
+    requires { count ≤ MAX_NUMBERS }
+    ensures { result ≡ DuePart word count (pos least) (pos greatest) }
 {
     Due::Part {
         word,
@@ -69,54 +157,87 @@ fn part(word: Word, count: usize, least: u32, greatest: u32) -> Due<'static>
     }
 }
 
-// The record of this kind below a head of so many classes.
-fn row_due(net: &Network, classes: u32, row: Row) -> Due<'static>
-    requires { classes ≤ MAX_COMPLEXES }
-    ensures { IsRowDue (row_form net.now classes row) result }
+// The record of this kind below a head, with these members for its base.
+fn row_due<'a>(below: &Below, row: Row, members: &'a [u32]) -> Due<'a>
+    requires few { below.now.classes ≤ MAX_COMPLEXES }
+    requires may { MayBeRow row }
+    requires members { AreMembers below.now.net.now below.now.labels.now row members.now }
+    ensures { let b = below.now in
+        IsRowDue (row_form b.net.now b.labels.now b.classes row) result }
 {
-    let c = net.complexes();
-    let r = net.reactions();
+    let c = below.net.complexes();
+    let r = below.net.reactions();
+    let s = below.net.species();
+    let deep = (c as u32).saturating_sub(1);
+    let classes = below.classes;
     match row {
         Row::Label => part(Word::Label, c, 1, classes),
         Row::Up => part(Word::Up, c, 0, r as u32),
-        Row::Depth => part(Word::Depth, c, 0, (c as u32).saturating_sub(1)),
+        Row::Depth => part(Word::Depth, c, 0, deep),
         Row::From => part(Word::From, c, 0, r as u32),
-        Row::FromDepth => part(Word::FromDepth, c, 0, (c as u32).saturating_sub(1)),
+        Row::FromDepth => part(Word::FromDepth, c, 0, deep),
         Row::To => part(Word::To, c, 0, r as u32),
-        Row::ToDepth => part(Word::ToDepth, c, 0, (c as u32).saturating_sub(1)),
+        Row::ToDepth => part(Word::ToDepth, c, 0, deep),
         Row::Level => part(Word::Level, classes as usize, 0, c as u32),
         Row::Exit => part(Word::Exit, classes as usize, 0, r as u32),
         Row::Back => part(Word::Back, r, 1, r as u32),
+        Row::Base { rank, .. } => Due::Base {
+            count: rank,
+            members,
+        },
+        Row::Dual => part(Word::Dual, s, 0, 0),
+        Row::Comb { rank } => part(Word::Comb, 1 + rank as usize, 0, 0),
+        Row::VecOfReactions => part(Word::Vec, r, 0, 0),
+        Row::VecOfSpecies => part(Word::Vec, s, 0, 0),
+        Row::CutOfReactions => part(Word::Cut, r, 0, 0),
+        Row::CutOfSpecies => part(Word::Cut, s, 0, 0),
     }
 }
 
 // What is due where the record of this kind is.
-fn row_expect(version: u32, net: &Network, classes: u32, row: Row) -> Expect<'static>
+fn row_expect<'a>(version: u32, below: &Below, row: Row, members: &'a [u32]) -> Expect<'a>
     requires version { IsVersion version }
-    requires few { classes ≤ MAX_COMPLEXES }
-    ensures due { Expects result version (row_form net.now classes row ∷ []) }
+    requires few { below.now.classes ≤ MAX_COMPLEXES }
+    requires may { MayBeRow row }
+    requires members { AreMembers below.now.net.now below.now.labels.now row members.now }
+    ensures due { Expects result version
+        (row_form below.now.net.now below.now.labels.now below.now.classes row ∷ []) }
     ensures untagged { (r : Record) → tag_of result.due (sizes_of result.sizes) r ≡ [] }
 {
+    let due = row_due(below, row, members);
+    let sizes = sizes_of(below.net, &[]);
     Expect {
-        due: row_due(net, classes, row),
+        due,
         version,
         after_tree: false,
-        sizes: sizes_of(net),
+        sizes,
     }
+}
+
+// Lists the reactions of a record that is a base.
+fn fill_base(below: &Below, row: Row, members: &mut Nums) -> Result<(), NoMemory>
+    ensures { OnOk result (AreMembers below.now.net.now below.now.labels.now row members.new.list) }
+{
+    if let Row::Base { class, .. } = row {
+        return fill_members(below.net, below.labels, class, members);
+    }
+    Ok(())
 }
 
 // The next line, which has to be this record below a head. Its numbers are added to the rows.
 fn next_row<S: Source>(
     source: &mut S,
     at: &mut Reading,
-    net: &Network,
-    classes: u32,
+    below: &Below,
     row: Row,
+    members: &mut Nums,
     into: &mut Rows,
 ) -> Result<(), CheckStop>
     requires goes { GoesOn at.old }
-    requires few { classes ≤ MAX_COMPLEXES }
-    ensures step { let form = row_form net.now classes row in
+    requires few { below.now.classes ≤ MAX_COMPLEXES }
+    requires may { MayBeRow row }
+    ensures step { let b = below.now in
+        let form = row_form b.net.now b.labels.now b.classes row in
         StepIs (asks at.old.version at.old.line false (form ∷ []))
         (λ _ r. IsRow form into.old into.new r)
         result at.old at.new (S.seen source.old) (S.seen source.new) }
@@ -124,7 +245,8 @@ fn next_row<S: Source>(
     ensures line { OnOk result (at.new.line ≡ at.old.line + 1) }
     ensures version { at.new.version ≡ at.old.version }
 {
-    let expect = row_expect(at.version, net, classes, row);
+    fill_base(below, row, members)?;
+    let expect = row_expect(at.version, below, row, members.as_slice());
     next_record(source, at, &expect)?;
     into.push(Ints::from_slice(at.alloc, at.numbers.as_slice())?)?;
     Ok(())
@@ -134,14 +256,16 @@ fn next_row<S: Source>(
 pub(crate) fn next_rows<S: Source>(
     source: &mut S,
     at: &mut Reading,
-    net: &Network,
-    classes: u32,
+    below: &Below,
     rows: &[Row],
+    members: &mut Nums,
     into: &mut Rows,
 ) -> Result<(), CheckStop>
     requires goes { GoesOn at.old }
-    requires few { classes ≤ MAX_COMPLEXES }
-    ensures step { let forms = map (row_form net.now classes) rows.now in
+    requires few { below.now.classes ≤ MAX_COMPLEXES }
+    requires may { AllByRecursion MayBeRow rows.now }
+    ensures step { let b = below.now in
+        let forms = map (row_form b.net.now b.labels.now b.classes) rows.now in
         StepIs (asks_all at.old.version at.old.line false forms)
         (λ _ rs. AreRows forms into.old into.new rs)
         result at.old at.new (S.seen source.old) (S.seen source.new) }
@@ -152,8 +276,8 @@ pub(crate) fn next_rows<S: Source>(
     match rows.split_first() {
         None => Ok(()),
         Some((row, rest)) => {
-            next_row(source, at, net, classes, *row, into)?;
-            next_rows(source, at, net, classes, rest, into)
+            next_row(source, at, below, *row, members, into)?;
+            next_rows(source, at, below, rest, members, into)
         }
     }
 }

@@ -1,5 +1,5 @@
 use crate::{CheckStop, check_document};
-use crn_cert::Verdict;
+use crn_cert::{Gap, Verdict};
 use crn_io::{MemSource, NoMemory};
 use std::alloc::Global;
 use std::test::Fail;
@@ -25,6 +25,18 @@ const BOTH_WAYS: &[&[u8]] = &[
     b"q3 yes",
     b"back 2 1",
     b"q4 yes",
+    b"q5 1",
+    b"base 1",
+    b"dual -1 0",
+    b"comb 1 -1",
+    b"q6 0 0",
+    b"base 1",
+    b"dual -1 0",
+    b"comb 1 -1",
+    b"q7 yes",
+    b"vec 1 1",
+    b"q8 yes",
+    b"vec 1 1",
     b"end",
 ];
 
@@ -51,11 +63,25 @@ const BOTH_WAYS_2: &[&[u8]] = &[
     b"q3 yes",
     b"back 2 1",
     b"q4 yes",
+    b"section rank",
+    b"q5 1",
+    b"base 1",
+    b"dual -1 0",
+    b"comb 1 -1",
+    b"q6 0 0",
+    b"base 1",
+    b"dual -1 0",
+    b"comb 1 -1",
+    b"section dependence",
+    b"q7 yes",
+    b"vec 1 1",
+    b"q8 yes",
+    b"vec 1 1",
     b"end",
 ];
 
 const ONE_WAY: &[u8] =
-    b"crn certificate 1\nnetwork 1\nA -> B\nq1 1\nlabel 1 1\nup 0 1\ndepth 0 1\nq2 2 1\nlabel 1 2\nfrom 0 0\nfromdepth 0 0\nto 0 0\ntodepth 0 0\nlevel 1 0\nexit 1 0\nq3 no 1\nq4 no 1\nend\n";
+    b"crn certificate 1\nnetwork 1\nA -> B\nq1 1\nlabel 1 1\nup 0 1\ndepth 0 1\nq2 2 1\nlabel 1 2\nfrom 0 0\nfromdepth 0 0\nto 0 0\ntodepth 0 0\nlevel 1 0\nexit 1 0\nq3 no 1\nq4 no 1\nq5 1\nbase 1\ndual 1 0\nq6 0 0\nbase 1\ndual 1 0\nq7 no\ncut 1 0\nq8 yes\nvec 2 2\nend\n";
 
 // The lines with their LFs, with these bytes in the place of a line and its LF. Lines count from 1.
 fn edited(alloc: Global, lines: &[&[u8]], at: usize, bytes: &[u8]) -> Result<Vec<u8>, NoMemory> {
@@ -81,10 +107,18 @@ fn stop_of(rt: &HostRuntime, text: &[u8]) -> Result<Option<CheckStop>, Fail> {
     }
 }
 
+// The verdict is a yes with a vector of two ones.
+fn has_ones(verdict: &Verdict) -> bool {
+    match verdict {
+        Verdict::YesVec { vector } => vector.as_slice() == [1, 1].as_slice(),
+        _ => false,
+    }
+}
+
 #[test]
 fn good_documents_give_their_network_and_verdicts(rt: HostRuntime) -> Result<(), Fail> {
-    let first = edited(rt.alloc(), BOTH_WAYS, 20, b"end\n")?;
-    let second = edited(rt.alloc(), BOTH_WAYS_2, 22, b"end\n")?;
+    let first = edited(rt.alloc(), BOTH_WAYS, 32, b"end\n")?;
+    let second = edited(rt.alloc(), BOTH_WAYS_2, 36, b"end\n")?;
     let shared = edited(rt.alloc(), BOTH_WAYS_2, 5, b"vectors 1\nvector 3 -4\n")?;
     let cases = [
         ("version 1", first.as_slice()),
@@ -98,7 +132,7 @@ fn good_documents_give_their_network_and_verdicts(rt: HostRuntime) -> Result<(),
                 assert_eq!(rt; accepted.net.species(), 2, "{name}");
                 assert_eq!(rt; accepted.net.complexes(), 2, "{name}");
                 assert_eq!(rt; accepted.net.reactions(), 2, "{name}");
-                assert_eq!(rt; accepted.verdicts.len(), 4, "{name}");
+                assert_eq!(rt; accepted.verdicts.len(), 8, "{name}");
                 match accepted.verdicts.get(1) {
                     Verdict::Classes { count, label } => {
                         assert_eq!(rt; *count, 1, "{name}");
@@ -122,6 +156,22 @@ fn good_documents_give_their_network_and_verdicts(rt: HostRuntime) -> Result<(),
                 }
                 assert!(rt; matches!(accepted.verdicts.get(3), Verdict::Yes), "{name}");
                 assert!(rt; matches!(accepted.verdicts.get(4), Verdict::Yes), "{name}");
+                match accepted.verdicts.get(5) {
+                    Verdict::Rank { rank, base } => {
+                        assert_eq!(rt; *rank, 1, "{name}");
+                        assert_eq!(rt; base.as_slice(), [1].as_slice(), "{name}");
+                    }
+                    _ => assert!(rt; false, "{name}"),
+                }
+                match accepted.verdicts.get(6) {
+                    Verdict::Deficiency { total, classes } => {
+                        assert_eq!(rt; *total, 0, "{name}");
+                        assert_eq!(rt; classes.as_slice(), [0].as_slice(), "{name}");
+                    }
+                    _ => assert!(rt; false, "{name}"),
+                }
+                assert!(rt; has_ones(accepted.verdicts.get(7)), "{name}");
+                assert!(rt; has_ones(accepted.verdicts.get(8)), "{name}");
             }
             Err(stop) => assert!(rt; false, "{name}: {stop:?}"),
         }
@@ -134,7 +184,7 @@ fn no_verdicts_name_their_reactions(rt: HostRuntime) -> Result<(), Fail> {
     let mut source = MemSource::new(rt.alloc(), ONE_WAY, 1, &[])?;
     match check_document(rt.alloc(), &mut source) {
         Ok(accepted) => {
-            assert_eq!(rt; accepted.verdicts.len(), 4);
+            assert_eq!(rt; accepted.verdicts.len(), 8);
             assert!(rt;
                 matches!(
                     accepted.verdicts.get(3),
@@ -147,6 +197,12 @@ fn no_verdicts_name_their_reactions(rt: HostRuntime) -> Result<(), Fail> {
                     Verdict::NoReaction { reaction: 1 }
                 )
             );
+            match accepted.verdicts.get(7) {
+                Verdict::NoVec { multipliers } => {
+                    assert_eq!(rt; multipliers.as_slice(), [1, 0].as_slice());
+                }
+                _ => assert!(rt; false),
+            }
         }
         Err(stop) => assert!(rt; false, "{stop:?}"),
     }
@@ -183,9 +239,31 @@ fn the_first_fault_is_the_answer(rt: HostRuntime) -> Result<(), Fail> {
             18,
         ),
         ("a no that stays within", 19, b"q4 no 1\n", 37, 19),
-        ("no last line", 20, b"", 27, 20),
-        ("a last line with no LF", 20, b"end", 27, 20),
-        ("a byte after the last line", 20, b"end\nx", 28, 21),
+        ("a rank of 0", 20, b"q5 0\n", 24, 20),
+        ("a rank above the number of species", 20, b"q5 3\n", 24, 20),
+        ("a base of another length", 21, b"base 1 2\n", 24, 21),
+        ("a base of no reaction", 21, b"base 3\n", 24, 21),
+        ("a dual of nothing", 22, b"dual 0 0\n", 33, 22),
+        ("a combination of another vector", 23, b"comb 1 1\n", 34, 23),
+        ("a combination of no multiple", 23, b"comb 0 0\n", 34, 23),
+        ("a dual too many", 23, b"dual 1 0\ncomb 1 -1\n", 26, 23),
+        ("a deficiency that is not left", 24, b"q6 1 0\n", 36, 24),
+        ("a class that has no rank", 24, b"q6 0 1\n", 36, 24),
+        ("a deficiency for no class", 24, b"q6 0 0 0\n", 24, 24),
+        ("a dual of nothing in a class", 26, b"dual 0 0\n", 33, 26),
+        ("another combination in a class", 27, b"comb 1 1\n", 34, 27),
+        ("a vector that is no dependence", 29, b"vec 1 2\n", 35, 29),
+        (
+            "a number of 73 bits",
+            29,
+            b"vec 4722366482869645213696 1\n",
+            25,
+            29,
+        ),
+        ("a vector that is no law", 31, b"vec 1 2\n", 35, 31),
+        ("no last line", 32, b"", 27, 32),
+        ("a last line with no LF", 32, b"end", 27, 32),
+        ("a byte after the last line", 32, b"end\nx", 28, 33),
     ];
     for (name, at, bytes, code, line) in cases {
         let text = edited(rt.alloc(), BOTH_WAYS, at, bytes)?;
@@ -210,11 +288,183 @@ fn the_lines_of_version_2_are_due(rt: HostRuntime) -> Result<(), Fail> {
         ("no section", 6, b"", 26, 6),
         ("another section", 6, b"section rank\n", 24, 6),
         ("a section twice", 7, b"section graph\nq1 1\n", 26, 7),
+        ("no second section", 22, b"", 26, 22),
+        (
+            "a section before its question",
+            27,
+            b"section dependence\nq6 0 0\n",
+            26,
+            27,
+        ),
+        ("no third section", 31, b"", 26, 31),
     ];
     for (name, at, bytes, code, line) in cases {
         let text = edited(rt.alloc(), BOTH_WAYS_2, at, bytes)?;
         let got = stop_of(&rt, &text)?;
         assert_eq!(rt; got, Some(CheckStop::Rejected { code, line }), "{name}");
+    }
+    Ok(())
+}
+
+// The lines up to the third question's records, then these, with their LFs.
+fn after_graph(alloc: Global, more: &[&[u8]]) -> Result<Vec<u8>, NoMemory> {
+    let mut text = Vec::new(alloc);
+    for line in BOTH_WAYS.iter().take(19) {
+        text.extend_from_slice(line)?;
+        text.extend_from_slice(b"\n")?;
+    }
+    for line in more {
+        text.extend_from_slice(line)?;
+        text.extend_from_slice(b"\n")?;
+    }
+    Ok(text)
+}
+
+// Open answers to the questions from the fifth on.
+const OPEN: &[&[u8]] = &[
+    b"q5 open wide 1 0 1 1 2",
+    b"q6 open rests 5",
+    b"q7 open wide 2 0 1 1 2",
+    b"q8 open wide 1 0 1 1 2",
+    b"end",
+];
+
+#[test]
+fn open_answers_say_why(rt: HostRuntime) -> Result<(), Fail> {
+    let text = after_graph(rt.alloc(), OPEN)?;
+    let mut source = MemSource::new(rt.alloc(), &text, 64, &[])?;
+    match check_document(rt.alloc(), &mut source) {
+        Ok(accepted) => {
+            assert_eq!(rt; accepted.verdicts.len(), 8);
+            match accepted.verdicts.get(5) {
+                Verdict::Unknown(
+                    Gap::Wide {
+                        system,
+                        class,
+                        index,
+                        basis,
+                    },
+                ) => {
+                    assert_eq!(rt; *system, 1);
+                    assert_eq!(rt; *class, 0);
+                    assert_eq!(rt; *index, 1);
+                    assert_eq!(rt; basis.as_slice(), [1, 2].as_slice());
+                }
+                _ => assert!(rt; false),
+            }
+            assert!(rt;
+                matches!(
+                    accepted.verdicts.get(6),
+                    Verdict::Unknown(Gap::Rests { question: 5 })
+                )
+            );
+        }
+        Err(stop) => assert!(rt; false, "{stop:?}"),
+    }
+    Ok(())
+}
+
+#[test]
+fn heads_of_open_answers_have_their_forms(rt: HostRuntime) -> Result<(), Fail> {
+    // Each line stands in the place of the head of question 5, 6, 7 or 8, whose number is in front.
+    let cases = [
+        (
+            "another coordinate and basis",
+            5,
+            b"q5 open wide 1 0 4 3 4".as_slice(),
+            None,
+        ),
+        (
+            "another system",
+            5,
+            b"q5 open wide 2 0 1 1 2",
+            Some((24, 20)),
+        ),
+        (
+            "a class of no class",
+            5,
+            b"q5 open wide 1 1 1 1 2",
+            Some((24, 20)),
+        ),
+        (
+            "no coordinate",
+            5,
+            b"q5 open wide 1 0 0 1 2",
+            Some((24, 20)),
+        ),
+        (
+            "a coordinate too great",
+            5,
+            b"q5 open wide 1 0 5 1 2",
+            Some((24, 20)),
+        ),
+        (
+            "a basis that falls",
+            5,
+            b"q5 open wide 1 0 1 2 1",
+            Some((24, 20)),
+        ),
+        (
+            "a basis too short",
+            5,
+            b"q5 open wide 1 0 1 1",
+            Some((24, 20)),
+        ),
+        (
+            "a rank rests on nothing",
+            5,
+            b"q5 open rests 1",
+            Some((24, 20)),
+        ),
+        (
+            "a budget before signals",
+            5,
+            b"q5 open budget 1",
+            Some((24, 20)),
+        ),
+        ("a wide class", 6, b"q6 open wide 3 1 4 2 3", None),
+        (
+            "a class too great",
+            6,
+            b"q6 open wide 3 2 1 1 2",
+            Some((24, 21)),
+        ),
+        ("no class", 6, b"q6 open wide 3 0 1 1 2", Some((24, 21))),
+        ("rests on another", 6, b"q6 open rests 1", Some((24, 21))),
+        (
+            "a decided head over an open rank",
+            6,
+            b"q6 0 0",
+            Some((37, 21)),
+        ),
+        (
+            "system 1 for a dependence",
+            7,
+            b"q7 open wide 1 0 1 1 2",
+            Some((24, 22)),
+        ),
+        (
+            "system 2 for a law",
+            8,
+            b"q8 open wide 2 0 1 1 2",
+            Some((24, 23)),
+        ),
+        (
+            "a record below an open head",
+            8,
+            b"q8 open wide 1 0 1 1 2\nvec 1 1",
+            Some((26, 24)),
+        ),
+    ];
+    for (name, question, line, fault) in cases {
+        let mut lines = Vec::new(rt.alloc());
+        for (i, open) in OPEN.iter().enumerate() {
+            lines.push(if i + 5 == question { line } else { *open })?;
+        }
+        let text = after_graph(rt.alloc(), &lines)?;
+        let got = stop_of(&rt, &text)?;
+        let want = fault.map(|(code, line)| CheckStop::Rejected { code, line });
+        assert_eq!(rt; got, want, "{name}");
     }
     Ok(())
 }

@@ -9,6 +9,7 @@ use Rattle.crn_cert.specs.declared.answer.Verdict.TheVariants.{Classes, Strong, 
 use Rattle.crn_cert.specs.Questions.{Question}
 use Rattle.crn_cert.specs.Built.{built}
 use Rattle.crn_check.specs.Verdicts.{tight}
+use Rattle.crn_check.proofs.CallerLemmas.{true_tight}
 use Rattle.crn_ctext.specs.Records.{Record}
 use Rattle.crn_ctext.specs.Blocks.{ReadOf}
 use Rattle.crn_ctext.specs.Documents as documents
@@ -102,12 +103,19 @@ checked_of text net blocks good net_is blocks_is sound =
     subst (λ (b : List (List Record)). IsCheckOf text (render built net (verdicts_in net b))) blocks_is
     (subst (λ (n : Net). IsCheckOf text (render built n (verdicts_in n good.answers))) net_is own)
 
+-- verdicts that are true or open are so without the memory of their lists
+sound_tight : (net : Net) (qs : List Question) (vs : List Verdict) → AreSound net qs vs → AreSound net qs (map tight vs)
+sound_tight net [] [] h = refl
+sound_tight net [] (v ∷ vs) h = absurd cc
+sound_tight net (q ∷ qs) [] h = absurd h
+sound_tight net (q ∷ qs) (v ∷ vs) h = (true_tight net q v h.0, sound_tight net qs vs h.1)
+
 pub checked : ReadDocumentsAreGood → (text : List ℕ) (net : Net) (blocks : List (List Record)) (vs : List Verdict) → IsReadOf text (record { net = net; blocks = blocks }) → map tight vs ≡ verdicts_in net blocks
-    → AreSound net built (map tight vs) → IsCheckOf text (render built net vs)
+    → AreSound net built vs → IsCheckOf text (render built net vs)
 checked same text net blocks vs is said sound =
     let (good, net_is, blocks_is) = same text (record { net = net; blocks = blocks }) is in
     subst (λ (out : List ℕ). IsCheckOf text out) (ap (λ (ws : List Verdict). render built net ws) (sym said) ∙ render_tight net vs)
-    (checked_of text net blocks good net_is blocks_is (subst (λ (ws : List Verdict). AreSound net built ws) said sound))
+    (checked_of text net blocks good net_is blocks_is (subst (λ (ws : List Verdict). AreSound net built ws) said (sound_tight net built vs sound)))
 
 -- ---- runs
 

@@ -1,12 +1,16 @@
 -- From the answers to a network's questions to what a command writes for its text.
-use Rattle.std.proofs.Common.{◌≡◌, ℕ, List, [], refl, subst, inl, inr}
+use Rattle.std.proofs.Common.{◌≡◌, ℕ, List, [], ◌∷◌, ◌++◌, refl, subst, inl, inr}
 use Rattle.crn_vec.specs.Network.{Net}
 use Rattle.crn_io.specs.Device.{SinkSeen}
 use Rattle.crn_io.specs.Write.{WroteAll, WrotePrefix}
 use Rattle.crn_cert.specs.declared.answer.Verdict.{Verdict}
 use Rattle.crn_cert.specs.Answers.{verdicts_of}
 use Rattle.crn_cert.specs.Built.{built}
+use Rattle.crn_cert.specs.Questions.{Earlier, Question}
+use Rattle.crn_cert.specs.Formed.{AreFormed}
+use Rattle.crn_cert.specs.FormedVerdicts.{AreFormedVerdicts}
 use Rattle.crn_cert.specs.Valid.{AreValid}
+use Rattle.crn_cert.proofs.CallerLemmas.{formed_answers_have_formed_verdicts}
 use Rattle.crn_ctext.specs.Judged.{IsGood}
 use Rattle.crn_render.specs.Report.{render}
 use Rattle.crn_cert.specs.declared.answer.Answer.{Answer}
@@ -15,6 +19,13 @@ use Rattle.crn_run.specs.Inner.Steps.{LineGives, OutputGives}
 use Rattle.crn_run.specs.declared.words.Command.TheVariants.{Report, Certify}
 use Rattle.crn_run.specs.declared.status.Status.{Status}
 use Rattle.crn_run.specs.declared.status.Status.TheVariants.{Done, OpenLeft, Refused, Rejected, Usage, ReadFault, WriteFault, NoMemory}
+
+-- the verdicts of formed answers are formed
+pub answers_formed : (net : Net) (earlier : Earlier) (qs : List Question) (answers : List Answer) → AreFormed net earlier qs answers → AreFormedVerdicts net earlier qs (verdicts_of answers)
+answers_formed net earlier [] [] f = tt
+answers_formed net earlier [] (a ∷ more) f = absurd f
+answers_formed net earlier (q ∷ qs) [] f = absurd f
+answers_formed net earlier (q ∷ qs) (a ∷ more) f = (formed_answers_have_formed_verdicts net earlier q a.verdict a.proof f.0, answers_formed net (earlier ++ (q, a.verdict) ∷ []) qs more f.1)
 
 report_is_output : (budget : ℕ) (whole : Status) (text out : List ℕ) (answers : List Answer) → AreLeftBy whole answers → IsReportOf budget text out answers → IsOutput (Report budget) whole text out
 report_is_output budget Done text out answers left r = (answers, left, r)
@@ -55,6 +66,12 @@ pub report_gives : (budget : ℕ) (whole : Status) (text : List ℕ) (net : Net)
 report_gives budget whole text net answers verdicts old new e says left w =
     let here : WroteAll (render built net (verdicts_of answers)) old new = subst (λ (vs : List Verdict). WroteAll (render built net vs) old new) e w in
     inr (whole, render built net (verdicts_of answers), report_is_output budget whole text (render built net (verdicts_of answers)) answers left (reported budget text net answers says), whole_is_written whole (render built net (verdicts_of answers)) answers old new left here)
+
+pub report_broken : (budget : ℕ) (whole : Status) (text : List ℕ) (net : Net) (answers : List Answer) (verdicts : List Verdict) (old new : SinkSeen) → verdicts ≡ verdicts_of answers
+    → AreAnswersOf budget text net answers → AreLeftBy whole answers → WrotePrefix (render built net verdicts) old new → OutputGives (Report budget) WriteFault text old new
+report_broken budget whole text net answers verdicts old new e says left w =
+    let here : WrotePrefix (render built net (verdicts_of answers)) old new = subst (λ (vs : List Verdict). WrotePrefix (render built net vs) old new) e w in
+    inr (whole, render built net (verdicts_of answers), report_is_output budget whole text (render built net (verdicts_of answers)) answers left (reported budget text net answers says), here)
 
 certified : (budget : ℕ) (text : List ℕ) (net : Net) (answers : List Answer) → AreAnswersOf budget text net answers → AreValid net [] built answers → IsGood (certificate net answers) → IsCertificateOf budget text (certificate net answers) answers
 certified budget text net answers says valid good = record { net = net; says = says; valid = valid; written = refl; good = good }

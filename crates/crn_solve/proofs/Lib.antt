@@ -7,3 +7,4 @@ mod PositiveKinds
 mod PositiveAnswers
 mod Ranks
 mod RankAnswers
+mod Deficiencies

@@ -1,14 +1,13 @@
 -- The answers on positive dependence and conservation that decisions and stops give.
-use Rattle.std.proofs.Common.{◌≡◌, ◌≢◌, ℕ, ◌+◌, ◌<◌, ◌≤◌, inl, inr, List, [], length, get_or, refl, sym, ap, subst, ◌∙◌, arith}
+use Rattle.std.proofs.Common.{◌≡◌, ℕ, ◌<◌, inl, inr, List, [], length, get_or, refl, sym, ap, subst, ◌∙◌, arith}
 use Rattle.std.specs.Prelude.{ℤ, pos, negsuc, ◌≤ℤ◌}
 use Rattle.std.proofs.lemmas.Int.{ints}
-use Rattle.crn_vec.specs.Kept.{KeptInts, KeptNums}
-use Rattle.crn_vec.specs.Lists.{IsIn}
+use Rattle.crn_vec.specs.Kept.{KeptNums}
 use Rattle.crn_vec.specs.Network.{Net, IsNetwork}
-use Rattle.crn_vec.specs.Vectors.{entry, dot, column}
+use Rattle.crn_vec.specs.Vectors.{dot, column}
 use Rattle.crn_vec.specs.Rank.{combination_at}
 use Rattle.crn_vec.specs.Deficiency.{vectors, IsPositiveDependence, IsConservationLaw}
-use Rattle.crn_vec.specs.NetSystems.{by_species, species_system, reaction_system, positive_kinds}
+use Rattle.crn_vec.specs.NetSystems.{species_system, reaction_system, positive_kinds}
 use Rattle.crn_vec.proofs.CallerLemmas.{at_in, dot-comm, lt_or}
 use Rattle.crn_cert.specs.declared.answer.Answer.{Answer}
 use Rattle.crn_cert.specs.Questions.{Earlier, Q7, Q8}
@@ -23,7 +22,7 @@ use Rattle.crn_farkas.specs.declared.fault.Stop.TheVariants.{Wide}
 use Rattle.crn_farkas.specs.Decision.{IsDecision, IsStop}
 use Rattle.crn_solve.specs.Inner.Answered.{IsAnswer}
 use Rattle.crn_solve.specs.Inner.Given.{wide_answer, vector_answer}
-use Rattle.crn_solve.proofs.NetRows.{vectors_count, column_long, row_is, rows_count, column_is, combined_past}
+use Rattle.crn_solve.proofs.NetRows.{vectors_count, row_is, rows_count, column_is, combined_past}
 use Rattle.crn_solve.proofs.WideGaps.{wide_basis}
 use Rattle.crn_solve.proofs.PositiveKinds.{each_from, IsPositiveSolution, positive_solution, IsPositiveCut, positive_cut}
 

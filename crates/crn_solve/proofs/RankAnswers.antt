@@ -1,9 +1,8 @@
 -- The answer on the rank that a proof or a stop gives.
-use Rattle.std.proofs.Common.{◌≡◌, ℕ, zero, suc, ◌+◌, ◌<◌, ◌≤◌, List, [], ◌∷◌, ◌++◌, length, refl, sym, ap, subst, ◌∙◌, arith}
+use Rattle.std.proofs.Common.{◌≡◌, ℕ, zero, suc, ◌+◌, ◌≤◌, List, [], ◌∷◌, ◌++◌, length, refl, sym, ap, subst, ◌∙◌, arith}
 use Rattle.std.specs.Prelude.{ℤ}
 use Rattle.std.specs.List.{range_with_len}
 use Rattle.crn_vec.specs.Kept.{KeptNums}
-use Rattle.crn_vec.specs.Lists.{IsIn}
 use Rattle.crn_vec.specs.Network.{Net, IsNetwork}
 use Rattle.crn_vec.specs.Vectors.{Mat}
 use Rattle.crn_vec.specs.Elementary.{NamesWide}
@@ -18,8 +17,7 @@ use Rattle.crn_cert.specs.declared.answer.Verdict.TheVariants.{Rank}
 use Rattle.crn_cert.specs.declared.answer.Proof.{Proof}
 use Rattle.crn_cert.specs.declared.answer.Proof.TheVariants.{Rank as RankRows}
 use Rattle.crn_cert.specs.Questions.{Earlier, Q5}
-use Rattle.crn_cert.specs.Ranges.{IsFrom}
-use Rattle.crn_cert.specs.Formed.{IsFormed, IsFormedOf, IsWideGap}
+use Rattle.crn_cert.specs.Formed.{IsFormed, IsWideGap}
 use Rattle.crn_cert.specs.Valid.{IsValid}
 use Rattle.crn_cert.proofs.CallerLemmas.{valid_answers_are_true, all_vectors, range_ascending, range_bounds}
 use Rattle.crn_rank.specs.Rank.{AreMembers, ProvesRank, member_matrix}

@@ -1,14 +1,14 @@
 -- The rank of a network is from 1 to the lesser of the numbers of its species and of its reactions.
-use Rattle.std.proofs.Common.{◌≡◌, ℕ, zero, suc, ◌+◌, ◌<◌, ◌≤◌, inl, inr, List, [], ◌∷◌, length, get_or, refl, sym, ap, ap₂, subst, ◌∙◌, arith}
-use Rattle.std.specs.Prelude.{ℤ, pos, ◌*ℤ◌, min}
+use Rattle.std.proofs.Common.{◌≡◌, ℕ, zero, suc, ◌+◌, ◌<◌, ◌≤◌, inl, inr, List, [], ◌∷◌, length, get_or, refl, sym, ap, ap₂, ◌∙◌, arith}
+use Rattle.std.specs.Prelude.{ℤ, pos, min}
 use Rattle.std.proofs.lemmas.Int.{ints}
 use Rattle.std.proofs.lemmas.List.{length-map}
 use Rattle.crn_vec.specs.Lists.{IsIn, IsAbove, IsAscending}
 use Rattle.crn_vec.specs.Network.{Net, IsNetwork, JoinsTwo, minus}
-use Rattle.crn_vec.specs.Vectors.{entry, dot, column, AreOfLength}
-use Rattle.crn_vec.specs.Rank.{IsZero, combination_at, IsIndependent, IsChoice, IsRank, chosen}
+use Rattle.crn_vec.specs.Vectors.{entry, AreOfLength}
+use Rattle.crn_vec.specs.Rank.{IsZero, IsIndependent, IsChoice, IsRank, chosen}
 use Rattle.crn_vec.specs.Deficiency.{vectors}
-use Rattle.crn_vec.proofs.CallerLemmas.{all_at, same_place, vector_long, lt_or, no_zero, is_zero, comb, entry-comb, Zero, Related, too_many}
+use Rattle.crn_vec.proofs.CallerLemmas.{all_at, same_place, vector_long, lt_or, no_zero, is_zero, comb, entry-comb, Zero, too_many}
 use Rattle.crn_cert.specs.Ranges.{IsFrom}
 use Rattle.crn_solve.proofs.NetRows.{vectors_count, vector_at, vector_width}
 

@@ -9,7 +9,10 @@ ghost use Rattle.crn_cert.specs.Valid.{AreValid};
 ghost use Rattle.crn_cert.specs.Licensed.{AllTrueOrLicensed};
 
 use crate::classes::{linkage_answer, strong_answer};
+use crate::deficiency_answer::deficiency_answer;
 use crate::laws::meets_definition;
+use crate::positive::{conservative, positively_dependent};
+use crate::rank_answer::rank_answer;
 use crate::reversible::{reversible, weakly_reversible};
 use crn_cert::Answers;
 use crn_graph::{linkage, strong};
@@ -36,10 +39,18 @@ pub fn solve(alloc: Global, net: &Network, budget: u32) -> Result<Answers, NoMem
     let strong = strong(alloc, net)?;
     let reversible = reversible(alloc, net)?;
     let weakly_reversible = weakly_reversible(net, strong.label.as_slice());
+    let rank = rank_answer(alloc, net)?;
+    let deficiency = deficiency_answer(alloc, net, &linkage, &rank.verdict)?;
+    let dependence = positively_dependent(alloc, net)?;
+    let conservation = conservative(alloc, net)?;
     let mut answers = Answers::new(alloc)?;
     answers.push(linkage_answer(linkage));
     answers.push(strong_answer(strong));
     answers.push(reversible);
     answers.push(weakly_reversible);
+    answers.push(rank);
+    answers.push(deficiency);
+    answers.push(dependence);
+    answers.push(conservation);
     Ok(answers)
 }

@@ -3,6 +3,7 @@
 
 mod answers;
 mod classes;
+mod deficiency_answer;
 mod laws;
 mod open;
 mod positive;

@@ -1,5 +1,5 @@
 ghost use Rattle.std.specs.Prelude.{◌≡◌};
-ghost use Rattle.crn_solve.specs.Inner.Given.{wide_answer};
+ghost use Rattle.crn_solve.specs.Inner.Given.{rests_answer, wide_answer};
 
 use crn_cert::{Answer, Gap, Proof, Verdict};
 use crn_vec::Nums;
@@ -15,6 +15,16 @@ pub(crate) fn wide_answer(system: u32, index: u32, basis: Nums) -> Answer
             index,
             basis,
         }),
+        proof: Proof::Nothing,
+    }
+}
+
+/// The open answer that rests on another question, which is open.
+pub(crate) fn rests_answer(question: u32) -> Answer
+    ensures { result ≡ rests_answer question }
+{
+    Answer {
+        verdict: Verdict::Unknown(Gap::Rests { question }),
         proof: Proof::Nothing,
     }
 }

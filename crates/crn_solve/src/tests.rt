@@ -3,8 +3,6 @@ ghost use Rattle.std.specs.List.{AllByRecursion};
 ghost use Rattle.crn_vec.specs.Network.{is_letter, IsName};
 ghost use Rattle.crn_net.specs.Terms.{IsTerm, IsSide};
 
-use crate::positive::{conservative, positively_dependent};
-use crate::rank_answer::rank_answer;
 use crate::solve;
 use crn_cert::{Answer, Answers, Gap, Proof, Verdict};
 use crn_net::{NetBuilder, NetFault, Network, Term, sums_fit};
@@ -133,6 +131,9 @@ struct Row {
     // the first reaction that leaves its strong class, or 0
     leaving: u32,
     rank: u32,
+    // of the network, and of each linkage class
+    deficiency: u32,
+    deficiencies: &'static [u32],
     dependent: bool,
     conservative: bool,
 }
@@ -156,6 +157,8 @@ const ROWS: [Row; 9] = [
         back: &[],
         leaving: 1,
         rank: 1,
+        deficiency: 0,
+        deficiencies: &[0],
         dependent: false,
         conservative: true,
     },
@@ -170,6 +173,8 @@ const ROWS: [Row; 9] = [
         back: &[2, 1],
         leaving: 0,
         rank: 1,
+        deficiency: 0,
+        deficiencies: &[0],
         dependent: true,
         conservative: true,
     },
@@ -184,6 +189,8 @@ const ROWS: [Row; 9] = [
         back: &[2, 1, 4, 3, 6, 5],
         leaving: 0,
         rank: 2,
+        deficiency: 1,
+        deficiencies: &[0, 0],
         dependent: true,
         conservative: false,
     },
@@ -198,6 +205,8 @@ const ROWS: [Row; 9] = [
         back: &[],
         leaving: 3,
         rank: 2,
+        deficiency: 1,
+        deficiencies: &[0, 0],
         dependent: true,
         conservative: false,
     },
@@ -212,6 +221,8 @@ const ROWS: [Row; 9] = [
         back: &[2, 1, 4, 3],
         leaving: 0,
         rank: 1,
+        deficiency: 1,
+        deficiencies: &[1],
         dependent: true,
         conservative: true,
     },
@@ -226,6 +237,8 @@ const ROWS: [Row; 9] = [
         back: &[],
         leaving: 1,
         rank: 1,
+        deficiency: 1,
+        deficiencies: &[1],
         dependent: true,
         conservative: false,
     },
@@ -240,6 +253,8 @@ const ROWS: [Row; 9] = [
         back: &[],
         leaving: 3,
         rank: 6,
+        deficiency: 2,
+        deficiencies: &[0, 0],
         dependent: true,
         conservative: true,
     },
@@ -254,6 +269,8 @@ const ROWS: [Row; 9] = [
         back: &[],
         leaving: 0,
         rank: 2,
+        deficiency: 0,
+        deficiencies: &[0],
         dependent: true,
         conservative: true,
     },
@@ -270,6 +287,8 @@ const ROWS: [Row; 9] = [
         back: &[],
         leaving: 1,
         rank: 9,
+        deficiency: 0,
+        deficiencies: &[0, 0, 0, 0, 0, 0, 0, 0, 0],
         dependent: false,
         conservative: true,
     },
@@ -320,18 +339,6 @@ fn all_of(rt: &impl AllocGlobal, net: &Network) -> Result<Answers, NoMemory> {
     solve(rt.alloc(), net, DEFAULT_BUDGET)
 }
 
-fn rank_of(rt: &impl AllocGlobal, net: &Network) -> Result<Answer, NoMemory> {
-    rank_answer(rt.alloc(), net)
-}
-
-fn dependence_of(rt: &impl AllocGlobal, net: &Network) -> Result<Answer, NoMemory> {
-    positively_dependent(rt.alloc(), net)
-}
-
-fn conservation_of(rt: &impl AllocGlobal, net: &Network) -> Result<Answer, NoMemory> {
-    conservative(rt.alloc(), net)
-}
-
 // Whether the answer is a yes with a vector. It is decided.
 fn is_yes(rt: &impl Abort, answer: &Answer) -> bool {
     match &answer.verdict {
@@ -341,27 +348,27 @@ fn is_yes(rt: &impl Abort, answer: &Answer) -> bool {
     }
 }
 
-// The rank is that of the row.
-fn rank_is(rt: &(impl Abort + AllocGlobal), net: &Network, row: &Row) -> Result<(), Fail> {
-    let answer = rank_of(rt, net)?;
-    match &answer.verdict {
+// The rank and the deficiencies are those of the row.
+fn numbers_are(rt: &impl Abort, answers: &Answers, row: &Row) {
+    assert!(rt; answers.len() >= 6);
+    match &answers.get(5).verdict {
         Verdict::Rank { rank, .. } => assert_eq!(rt; *rank, row.rank),
         _ => panic!(rt; "the rank is found"),
     }
-    Ok(())
+    match &answers.get(6).verdict {
+        Verdict::Deficiency { total, classes } => {
+            assert_eq!(rt; *total, row.deficiency);
+            assert!(rt; classes.as_slice() == row.deficiencies);
+        }
+        _ => panic!(rt; "the deficiencies are found"),
+    }
 }
 
 // So are the answers on positive vectors.
-fn positive_vectors_are(
-    rt: &(impl Abort + AllocGlobal),
-    net: &Network,
-    row: &Row,
-) -> Result<(), Fail> {
-    let dependent = dependence_of(rt, net)?;
-    assert!(rt; is_yes(rt, &dependent) == row.dependent);
-    let conservative = conservation_of(rt, net)?;
-    assert!(rt; is_yes(rt, &conservative) == row.conservative);
-    Ok(())
+fn positive_vectors_are(rt: &impl Abort, answers: &Answers, row: &Row) {
+    assert_eq!(rt; answers.len(), 8);
+    assert!(rt; is_yes(rt, answers.get(7)) == row.dependent);
+    assert!(rt; is_yes(rt, answers.get(8)) == row.conservative);
 }
 
 // All answers are those of the row.
@@ -370,8 +377,9 @@ fn answers_are(rt: &(impl Abort + AllocGlobal), row: &Row) -> Result<(), Fail> {
     let answers = all_of(rt, &net)?;
     classes_are(rt, &answers, row);
     reverses_are(rt, &answers, row);
-    rank_is(rt, &net, row)?;
-    positive_vectors_are(rt, &net, row)
+    numbers_are(rt, &answers, row);
+    positive_vectors_are(rt, &answers, row);
+    Ok(())
 }
 
 #[test]
@@ -399,20 +407,19 @@ fn weigh_so(first: Option<&i128>, last: Option<&i128>) -> bool {
 
 #[test]
 fn a_long_chain_has_a_law(rt: HostRuntime) -> Result<(), Fail> {
-    let net = network(&rt, NINE);
-    let answer = conservation_of(&rt, &net)?;
-    assert!(rt; weighs_all(&answer.verdict));
+    let answers = all_of(&rt, &network(&rt, NINE))?;
+    assert_eq!(rt; answers.len(), 8);
+    assert!(rt; weighs_all(&answers.get(8).verdict));
     Ok(())
 }
 
 // Every law of eleven such reactions has an entry of 99^11 or more.
 #[test]
 fn a_longer_chain_leaves_conservation_open(rt: HostRuntime) -> Result<(), Fail> {
-    let net = network(&rt, ELEVEN);
-    let dependent = dependence_of(&rt, &net)?;
-    assert!(rt; !is_yes(&rt, &dependent));
-    let conservative = conservation_of(&rt, &net)?;
-    match &conservative.verdict {
+    let answers = all_of(&rt, &network(&rt, ELEVEN))?;
+    assert_eq!(rt; answers.len(), 8);
+    assert!(rt; !is_yes(&rt, answers.get(7)));
+    match &answers.get(8).verdict {
         Verdict::Unknown(Gap::Wide { system, .. }) => assert_eq!(rt; *system, 1),
         _ => panic!(rt; "conservation is open"),
     }
@@ -422,8 +429,28 @@ fn a_longer_chain_leaves_conservation_open(rt: HostRuntime) -> Result<(), Fail> 
 // One row rules conservation out if a species appears from nothing.
 #[test]
 fn one_row_is_enough(rt: HostRuntime) -> Result<(), Fail> {
-    let net = network(&rt, TWELVE);
-    let conservative = conservation_of(&rt, &net)?;
-    assert!(rt; !is_yes(&rt, &conservative));
+    let answers = all_of(&rt, &network(&rt, TWELVE))?;
+    assert_eq!(rt; answers.len(), 8);
+    assert!(rt; !is_yes(&rt, answers.get(8)));
+    Ok(())
+}
+
+// Whether an answer is open because question 5 is.
+fn rests_on_the_rank(answer: &Answer) -> bool {
+    match &answer.verdict {
+        Verdict::Unknown(Gap::Rests { question }) => *question == 5,
+        _ => false,
+    }
+}
+
+// The deficiencies are found if the rank is, and else they rest on it.
+#[test]
+fn deficiencies_rest_on_an_open_rank(rt: HostRuntime) -> Result<(), Fail> {
+    for text in [NINE, ELEVEN, TWELVE] {
+        let answers = all_of(&rt, &network(&rt, text))?;
+        assert_eq!(rt; answers.len(), 8);
+        let is_open = matches!(&answers.get(5).verdict, Verdict::Unknown(_));
+        assert!(rt; rests_on_the_rank(answers.get(6)) == is_open);
+    }
     Ok(())
 }

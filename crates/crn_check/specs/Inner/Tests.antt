@@ -3,7 +3,10 @@
 -- Shapes: labels, classes and reactions count from 1, complexes from 0.
 use Rattle.std.specs.Prelude.{◌≡◌, ◌≢◌, ◌<◌, ◌+◌, ◌⊎◌, ℕ, List, [], ◌∷◌, length, slice_index}
 use Rattle.crn_vec.specs.Network.{Net}
+use Rattle.crn_cert.specs.Questions.{Earlier, Q5, on, rank_of}
 use Rattle.crn_cert.specs.Says.{IsReactionNumber}
+use Rattle.crn_cert.specs.Valid.{IsLeft, AreClassNumbers}
+use Rattle.std.specs.Option.{IsSome}
 use Rattle.crn_cert.specs.Tests.{Test, test}
 use Rattle.crn_cert.specs.ClassTests.{AreNumbered, AreEven, AreLinkTrees, AreFromTrees, AreToTrees, DoLevelsFall, AreAllExits, GoesOut, of_class, zeros_in}
 
@@ -46,3 +49,10 @@ DoExitsLeave net labels exits = (k : ℕ) → k < length exits → slice_index e
 abbrev pub LeavesLabels : Net → List ℕ → ℕ → Type 0
 LeavesLabels net labels r = (y : ℕ) × (z : ℕ) × IsReactionNumber net r y z
     × (slice_index labels y ≢ slice_index labels z)
+
+-- the tests of the numbers of a head on deficiencies
+abbrev pub number_tests : Net → Earlier → ℕ → List ℕ → List Test
+number_tests net earlier total classes =
+    test 0 37 (IsSome (rank_of (on earlier Q5)))
+    ∷ test 0 36 (IsLeft net earlier total (rank_of (on earlier Q5))
+    × AreClassNumbers net earlier 1 classes) ∷ []

@@ -1,20 +1,22 @@
 -- For the contracts of private functions alone.
 -- The parts of the course of a block, and what is known after some blocks.
 -- Source: this project's own format. Shapes: questions count from 1.
-use Rattle.std.specs.Prelude.{◌≡◌, ◌+◌, ◌-◌, ◌++◌, ℕ, ℤ, List, [], ◌∷◌, length, map, false}
-use Rattle.std.specs.List.{AllZip, range_with_len}
-use Rattle.crn_vec.specs.Network.{Net, IsNetwork}
-use Rattle.crn_cert.specs.Questions.{Earlier, Question, number}
+use Rattle.std.specs.Prelude.{◌≡◌, ◌+◌, ◌++◌, ℕ, ℤ, List, [], ◌∷◌, length, map, false}
+use Rattle.std.specs.List.{AllZip}
+use Rattle.crn_vec.specs.Network.{Net}
+use Rattle.crn_cert.specs.Questions.{Earlier, Question}
 use Rattle.crn_cert.specs.Tests.{AllHold}
-use Rattle.crn_cert.specs.Valid.{head_tests}
+use Rattle.crn_cert.specs.Valid.{head_tests, linkage}
 use Rattle.crn_ctext.specs.Records.{Record, Form, Fits}
-use Rattle.crn_ctext.specs.Questions.{later_numbers}
 use Rattle.crn_ctext.specs.Course.{Course, Give, ◌>>=◌}
 use Rattle.crn_ctext.specs.Blocks.{Behind, asks_all, asks_trees, below, claims, has_tree, head_claims, problems, row_claims}
-use Rattle.crn_ctext.specs.Meaning.{Known, lists, meaning, verdict_by}
+use Rattle.crn_ctext.specs.Meaning.{Known, lists, meaning}
 use Rattle.crn_ctext.specs.Meaning as said
-use Rattle.crn_check.specs.Facts.{AreFactsOf, asked}
+use Rattle.crn_check.specs.Facts.{asked}
 use Rattle.crn_check.specs.Verdicts.{tight}
+use Rattle.crn_document.specs.declared.parts.Part.{Part}
+use Rattle.crn_document.specs.Inner.Answer.{verdict_of_head}
+use Rattle.crn_document.specs.Inner.Parts.{IsKnown, parts_below}
 use Rattle.crn_document.specs.Inner.Heads.{IsHead, class_count, known_of}
 use Rattle.crn_document.specs.Inner.Records.{row_form, rows_below}
 use Rattle.crn_document.specs.declared.block.Checked.{Checked}
@@ -58,26 +60,29 @@ abbrev pub head_course : (version : ℕ) → List (List ℤ) → Question → Be
 head_course version table q at h =
     claims at.line (head_claims meaning q at.known h) >>= (λ x. rows_course version table q at h)
 
+-- the ranks that the records below a head prove, after these verdicts
+abbrev pub parts_after : Net → Earlier → (question : ℕ) → List ℤ → List Part
+parts_after net earlier question head = parts_below net (linkage earlier) question head
+
 -- the forms of the records below a head with these numbers
-abbrev pub forms_below : Net → (question : ℕ) → List ℤ → List Form
-forms_below net question head =
-    map (row_form net (class_count question head)) (rows_below question (said.number head 0))
+abbrev pub forms_below : Net → Earlier → (question : ℕ) → List ℤ → List Form
+forms_below net earlier question head =
+    map (row_form net (linkage earlier) (class_count question head))
+    (rows_below question (said.number head 0) (parts_after net earlier question head))
 
 -- the tests of a head with these numbers hold
 abbrev pub HeadHolds : Net → Earlier → (question : ℕ) → List ℤ → Type 0
 HeadHolds net earlier question head = AllHold (head_tests net earlier (asked question)
-    (verdict_by (asked question) (said.number head 0) (later_numbers head) []))
+    (verdict_of_head (asked question) head []))
 
 -- the head and the records below it have these numbers
-pub record IsBlock (net : Net) (question : ℕ) (head : List ℤ) (rows : List (List ℤ)) (h : Record)
-    (rs : List Record) : Type 0 where
-  pub is_head : IsHead net question head h
-  pub fit : AllZip Fits (forms_below net question head) rs
+pub record IsBlock (net : Net) (earlier : Earlier) (question : ℕ) (head : List ℤ)
+    (rows : List (List ℤ)) (h : Record) (rs : List Record) : Type 0 where
+  pub is_head : IsHead net earlier question head h
+  pub fit : AllZip Fits (forms_below net earlier question head) rs
   pub rows_are : rows ≡ lists rs
 
 -- the verdicts on the questions before this one are known, and kept in order
 pub record IsReady (net : Net) (question : ℕ) (checked : Checked) : Type 0 where
-  pub network : IsNetwork net
-  pub facts_of : AreFactsOf net checked.facts
-  pub so_far : map (λ e. number e.0) checked.facts.earlier ≡ range_with_len 1 (question - 1)
+  pub known : IsKnown net question checked.facts
   pub kept : map tight checked.verdicts ≡ map (λ e. e.1) checked.facts.earlier

@@ -10,24 +10,37 @@ use Rattle.crn_ctext.specs.Blocks.{place_of}
 use Rattle.crn_ctext.specs.Documents.{IsOneOf}
 use Rattle.crn_ctext.specs.Meaning.{Known, number, sizes_of}
 use Rattle.crn_check.specs.Facts.{asked}
+use Rattle.crn_document.specs.Inner.Parts.{class_counts}
 
 -- what is known of a network and of the verdicts so far
 abbrev pub known_of : Net → Earlier → Known
 known_of net earlier = record { net = net; earlier = earlier }
 
--- the forms of the head of a question
-abbrev pub head_forms : Net → ℕ → List Form
-head_forms net question = heads (asked question) (sizes_of (known_of net []))
+-- the forms of the head of a question after these verdicts
+abbrev pub head_forms : Net → Earlier → ℕ → List Form
+head_forms net earlier question = heads (asked question) (sizes_of (known_of net earlier))
 
 -- the numbers of a head, after the place of its form
-abbrev pub tagged : Net → ℕ → Record → List ℤ
-tagged net question h = pos (place_of (head_forms net question) h.words) ∷ h.numbers
+abbrev pub tagged : Net → Earlier → ℕ → Record → List ℤ
+tagged net earlier question h =
+    pos (place_of (head_forms net earlier question) h.words) ∷ h.numbers
 
 -- the record is the head of this question, and these are its numbers, after the place of its form
-pub record IsHead (net : Net) (question : ℕ) (numbers : List ℤ) (h : Record) : Type 0 where
-  pub form : IsOneOf (head_forms net question) h
-  pub tag : numbers ≡ tagged net question h
+pub record IsHead (net : Net) (earlier : Earlier) (question : ℕ) (numbers : List ℤ)
+    (h : Record) : Type 0 where
+  pub form : IsOneOf (head_forms net earlier question) h
+  pub tag : numbers ≡ tagged net earlier question h
 
 -- the number of classes that a head says, which the lengths of some records below it are
 abbrev pub class_count : ℕ → List ℤ → ℕ
 class_count question head = if question == 1 || question == 2 then number head 1 else 0
+
+-- how many reactions each linkage class has, if the forms of the head rest on it
+abbrev pub counts_before : Net → List ℕ → (question count : ℕ) → List ℕ
+counts_before net labels question count =
+    if question == 6 then class_counts net labels 1 count else []
+
+-- the numbers of reactions of the linkage classes, if the forms of the head rest on them
+abbrev pub FitsCounts : Net → Earlier → (question : ℕ) → List ℕ → Type 0
+FitsCounts net earlier question counts =
+    question ≡ 6 → counts ≡ (sizes_of (known_of net earlier)).class_reactions

@@ -2,21 +2,24 @@
 -- A record that is due, and the records below a head, by their words.
 -- Source: this project's own format. Shapes: complexes and reactions of a network count from 1 in a
 -- document.
-use Rattle.std.specs.Prelude.{◌≡◌, ◌==◌, ◌&&◌, if◌then◌else◌, ◌-◌, ◌++◌, ℕ, ℤ, List, [], ◌∷◌, length, codes, false}
-use Rattle.std.specs.List.{AllZip}
+use Rattle.std.specs.Prelude.{◌≡◌, ◌==◌, ◌&&◌, if◌then◌else◌, ◌-◌, ◌+◌, ◌≤◌, ◌⊎◌, ◌++◌, replicate, ℕ, ℤ, List, [], ◌∷◌, length, codes, false}
+use Rattle.std.specs.List.{AllZip, flat_map}
 use Rattle.crn_vec.specs.Network.{Net}
-use Rattle.crn_ctext.specs.Records.{Record, Form, Fits}
+use Rattle.crn_vec.specs.declared.limits.TheConstants.{MAX_REACTIONS}
+use Rattle.crn_ctext.specs.Records.{Record, Form, Fits, Members}
 use Rattle.crn_ctext.specs.Meaning.{lists}
-use Rattle.crn_ctext.specs.Kinds.{small_form, record_form}
+use Rattle.crn_ctext.specs.Kinds.{small_form, record_form, free_form}
 use Rattle.crn_ctext.specs.Course.{Course, due, ◌>>=◌}
 use Rattle.crn_ctext.specs.Documents.{IsOneOf}
 use Rattle.crn_ctext.specs.Expect.{IsExpectable, MayBeDue, forms_of, is_after, misplaced, part_field, sizes_of, tag_of, tests_of, text_of}
 use Rattle.crn_ctext.specs.declared.expect.Expect.{Expect}
 use Rattle.crn_ctext.specs.declared.expect.Due.{Due}
-use Rattle.crn_ctext.specs.declared.expect.Due.TheVariants.{Part}
+use Rattle.crn_ctext.specs.declared.expect.Due.TheVariants.{Part, Base as DueBase}
 use Rattle.crn_ctext.specs.declared.word.Word.{Word}
+use Rattle.crn_document.specs.declared.parts.Part.{Part as RankPart}
+use Rattle.crn_document.specs.Inner.Parts.{members_of}
 use Rattle.crn_document.specs.declared.rows.Row.{Row}
-use Rattle.crn_document.specs.declared.rows.Row.TheVariants.{Label, Up, Depth, From, FromDepth, To, ToDepth, Level, Exit, Back}
+use Rattle.crn_document.specs.declared.rows.Row.TheVariants.{Label, Up, Depth, From, FromDepth, To, ToDepth, Level, Exit, Back, Base, Dual, Comb, VecOfReactions, VecOfSpecies, CutOfReactions, CutOfSpecies}
 
 -- the record that is due at a line
 abbrev pub asks_for : Expect → (line : ℕ) → Course Record
@@ -36,31 +39,72 @@ pub record IsSaid (e : Expect) (read : List ℤ) (r : Record) : Type 0 where
   pub form : IsOneOf (forms_of e) r
   pub numbers : read ≡ tag_of e.due (sizes_of e.sizes) r ++ r.numbers
 
--- the form of a record below a head of so many classes
-abbrev pub row_form : Net → ℕ → Row → Form
-row_form net n Label = small_form (codes "label") (length net.complexes) 1 n
-row_form net n Up = small_form (codes "up") (length net.complexes) 0 (length net.reactions)
-row_form net n Depth =
+-- the form of a record below a head of so many classes, where complexes have these labels
+abbrev pub row_form : Net → List ℕ → ℕ → Row → Form
+row_form net labels n Label = small_form (codes "label") (length net.complexes) 1 n
+row_form net labels n Up = small_form (codes "up") (length net.complexes) 0 (length net.reactions)
+row_form net labels n Depth =
     small_form (codes "depth") (length net.complexes) 0 (length net.complexes - 1)
-row_form net n From = small_form (codes "from") (length net.complexes) 0 (length net.reactions)
-row_form net n FromDepth =
+row_form net labels n From =
+    small_form (codes "from") (length net.complexes) 0 (length net.reactions)
+row_form net labels n FromDepth =
     small_form (codes "fromdepth") (length net.complexes) 0 (length net.complexes - 1)
-row_form net n To = small_form (codes "to") (length net.complexes) 0 (length net.reactions)
-row_form net n ToDepth =
+row_form net labels n To = small_form (codes "to") (length net.complexes) 0 (length net.reactions)
+row_form net labels n ToDepth =
     small_form (codes "todepth") (length net.complexes) 0 (length net.complexes - 1)
-row_form net n Level = small_form (codes "level") n 0 (length net.complexes)
-row_form net n Exit = small_form (codes "exit") n 0 (length net.reactions)
-row_form net n Back = small_form (codes "back") (length net.reactions) 1 (length net.reactions)
+row_form net labels n Level = small_form (codes "level") n 0 (length net.complexes)
+row_form net labels n Exit = small_form (codes "exit") n 0 (length net.reactions)
+row_form net labels n Back =
+    small_form (codes "back") (length net.reactions) 1 (length net.reactions)
+row_form net labels n (Base class rank) =
+    record_form (codes "base") (Members rank (members_of net labels class) ∷ [])
+row_form net labels n Dual = free_form (codes "dual") (length net.names)
+row_form net labels n (Comb rank) = free_form (codes "comb") (1 + rank)
+row_form net labels n VecOfReactions = free_form (codes "vec") (length net.reactions)
+row_form net labels n VecOfSpecies = free_form (codes "vec") (length net.names)
+row_form net labels n CutOfReactions = free_form (codes "cut") (length net.reactions)
+row_form net labels n CutOfSpecies = free_form (codes "cut") (length net.names)
 
--- the records below a head, by the number of its question and the place of its form
-abbrev pub rows_below : (question place : ℕ) → List Row
-rows_below question place =
+-- the records below a head that prove no rank, by its question and the place of its form
+abbrev pub fixed_rows : (question place : ℕ) → List Row
+fixed_rows question place =
     if question == 1 then Label ∷ Up ∷ Depth ∷ [] else (
     if question == 2 then Label ∷ From ∷ FromDepth ∷ To ∷ ToDepth ∷ Level ∷ Exit ∷ [] else (
-    if question == 3 && place == 1 then Back ∷ [] else []))
+    if question == 3 && place == 1 then Back ∷ [] else (
+    if question == 7 && place == 1 then VecOfReactions ∷ [] else (
+    if question == 7 && place == 2 then CutOfSpecies ∷ [] else (
+    if question == 8 && place == 1 then VecOfSpecies ∷ [] else (
+    if question == 8 && place == 2 then CutOfReactions ∷ [] else []))))))
+
+-- the records that prove a rank
+abbrev pub part_rows : RankPart → List Row
+part_rows p = Base p.class p.rank
+    ∷ replicate p.rank Dual ++ replicate (p.count - p.rank) (Comb p.rank)
+
+-- the records below a head that proves these ranks
+abbrev pub rows_below : (question place : ℕ) → List RankPart → List Row
+rows_below question place parts = fixed_rows question place ++ flat_map part_rows parts
+
+-- the record has at most as many numbers as a line may have
+abbrev pub MayBeRow : Row → Type 0
+MayBeRow (Base class rank) = rank ≤ MAX_REACTIONS
+MayBeRow (Comb rank) = rank ≤ MAX_REACTIONS
+MayBeRow other = Unit {0}
+
+-- if the record is a base, these are the reactions of its linkage class
+abbrev pub AreMembers : Net → List ℕ → Row → List ℕ → Type 0
+AreMembers net labels (Base class rank) members = members ≡ members_of net labels class
+AreMembers net labels other members = Unit {0}
+
+-- what is due is a base of this form
+abbrev pub IsBaseDue : Form → Due → Type 0
+IsBaseDue form (DueBase count members) =
+    (record_form (codes "base") (Members count members.now ∷ []) ≡ form)
+    × ((version : ℕ) → MayBeDue (DueBase count members) version)
+IsBaseDue form other = ⊥
 
 -- what is due is a record of this form, which has at most as many small numbers as a line may have
-pub record IsRowDue (form : Form) (d : Due) : Type 0 where
+pub record IsPartDue (form : Form) (d : Due) : Type 0 where
   pub word : Word
   pub count : ℕ
   pub least : ℤ
@@ -68,6 +112,10 @@ pub record IsRowDue (form : Form) (d : Due) : Type 0 where
   pub is : d ≡ Part word count least greatest
   pub has : record_form (text_of word) (part_field (text_of word) count least greatest ∷ []) ≡ form
   pub may : (version : ℕ) → MayBeDue (Part word count least greatest) version
+
+-- what is due is a base or another record of this form
+abbrev pub IsRowDue : Form → Due → Type 0
+IsRowDue form d = IsBaseDue form d ⊎ IsPartDue form d
 
 -- the record has this form, and its numbers were added to the rows
 abbrev pub IsRow : Form → (old new : List (List ℤ)) → Record → Type 0

@@ -1,10 +1,13 @@
 -- For the contracts of private functions alone. What the answer to a question is.
 -- Source: this project's own.
 -- Shapes: `earlier` holds the verdicts on earlier questions. Labels and reactions count from 1.
-use Rattle.std.specs.Prelude.{◌≡◌, ◌≢◌, ◌<◌, ℕ, List, slice_index}
+use Rattle.std.specs.Prelude.{◌≡◌, ◌≢◌, ◌<◌, ℕ, List, Some, None, slice_index}
 use Rattle.crn_vec.specs.Network.{Net}
+use Rattle.crn_vec.specs.Rank.{IsRank}
+use Rattle.crn_vec.specs.Deficiency.{vectors}
 use Rattle.crn_cert.specs.declared.answer.Answer.{Answer}
-use Rattle.crn_cert.specs.Questions.{Earlier, Question, IsOpen}
+use Rattle.crn_cert.specs.declared.answer.Verdict.{Verdict}
+use Rattle.crn_cert.specs.Questions.{Earlier, Question, IsOpen, rank_of}
 use Rattle.crn_cert.specs.Ranges.{IsFrom}
 use Rattle.crn_cert.specs.Says.{IsReactionNumber, IsTrueOf}
 use Rattle.crn_cert.specs.Formed.{reactions, IsFormed}
@@ -25,6 +28,11 @@ pub record IsDecidedAnswer (net : Net) (earlier : Earlier) (q : Question)
   pub valid : IsValid net earlier q answer
   pub true_of : IsTrueOf net q answer.verdict
   pub decided : IsOpen answer.verdict → ⊥
+
+-- the verdict is the rank of the reaction vectors, or open
+pub record IsRankOrOpen (net : Net) (verdict : Verdict) : Type 0 where
+  pub rank : (s : ℕ) → rank_of verdict ≡ Some s → IsRank (vectors net) s
+  pub or_open : rank_of verdict ≡ None → IsOpen verdict
 
 -- reaction r joins two complexes of different labels
 abbrev pub JoinsTwoLabels : Net → List ℕ → ℕ → Type 0

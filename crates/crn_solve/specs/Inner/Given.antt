@@ -2,7 +2,7 @@
 -- Source: this project's own.
 use Rattle.std.specs.Prelude.{◌≡◌, ℕ, length}
 use Rattle.crn_vec.specs.Kept.{KeptNums}
-use Rattle.crn_cert.specs.declared.answer.Gap.TheVariants.{Wide}
+use Rattle.crn_cert.specs.declared.answer.Gap.TheVariants.{Wide, Rests}
 use Rattle.crn_cert.specs.declared.answer.Verdict.TheVariants.{Rank, YesVec, NoVec, Unknown}
 use Rattle.crn_cert.specs.declared.answer.Proof.TheVariants.{Nothing, Rank as RankRows}
 use Rattle.crn_cert.specs.declared.answer.RankProof.{RankProof}
@@ -16,6 +16,10 @@ wide_answer system index basis = record {
   verdict = Unknown (Wide system 0 index basis);
   proof = Nothing;
 }
+
+-- open because the question that it rests on is open
+abbrev pub rests_answer : ℕ → Answer
+rests_answer question = record { verdict = Unknown (Rests question); proof = Nothing }
 
 -- yes with a solution, or no with multipliers
 abbrev pub vector_answer : Decision → Answer

@@ -8,3 +8,6 @@ returns-in-2-clause-proof c rs s same = rw c.in-2.is (c.strong_answer.ensures.pr
 
 pub returns-in-3-clause-proof : goal.returns-in-3-clause-proof
 returns-in-3-clause-proof c rs s same = rw c.in-3.is (c.reversible_answer.ensures.proof rs s same)
+
+pub returns-in-5-clause-proof : goal.returns-in-5-clause-proof
+returns-in-5-clause-proof c rs s same = rw c.in-5.is (c.rank_answer.ensures.proof rs s same)

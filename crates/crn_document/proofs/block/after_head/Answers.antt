@@ -9,7 +9,8 @@ use Rattle.crn_ctext.specs.Course.{◌>>=◌}
 use Rattle.crn_ctext.specs.Course as course
 use Rattle.crn_ctext.proofs.CallerLemmas.{fails_before}
 use Rattle.crn_check.specs.Facts.{asked}
-use Rattle.crn_document.specs.Inner.Answer.{IsHeadOf}
+use Rattle.crn_check.proofs.CallerLemmas.{needs_held}
+use Rattle.crn_document.specs.Inner.Answer.{AreSmall, IsHeadOf}
 use Rattle.crn_document.specs.Inner.Heads.{IsHead}
 use Rattle.crn_document.specs.Inner.Blocks.{IsAfter, behind_at, head_course, rows_course}
 use Rattle.crn_document.specs.Inner.Steps.{StepIs}
@@ -18,16 +19,24 @@ use Rattle.crn_document.proofs.Steps.{step_then_is, tests_give, tests_fail}
 use Rattle.crn_document.proofs.Blocks.{claims_fail, claims_hold, head_course_by, said_verdict}
 use Rattle.crn_document.proofs.block.after_head.Goals as goal
 
-pub bare_verdict-verdict-requires-clause-head : goal.bare_verdict-verdict-requires-clause-head
-bare_verdict-verdict-requires-clause-head g c =
-    let f = said_facts c.args.net.now c.args.question c.args.at.now.numbers.list c.requires.head.0 c.requires.ready.network c.requires.built c.requires.head.1 in
+pub bare_verdict-requires-clause-head : goal.bare_verdict-requires-clause-head
+bare_verdict-requires-clause-head g c =
+    let f = said_facts c.args.net.now c.args.question c.args.checked.now.facts c.args.at.now.numbers.list c.requires.head.0 c.requires.built c.requires.ready.known c.requires.head.1 in
     subst (λ (zs : List ℤ). IsHeadOf (asked c.args.question) zs) (sym (c.as_slice-2.ensures ∙ c.in_ok-head.ensures.list ∙ c.as_slice.ensures)) f.is_head
+
+pub bare_verdict-requires-clause-small : goal.bare_verdict-requires-clause-small
+bare_verdict-requires-clause-small g c =
+    let f = said_facts c.args.net.now c.args.question c.args.checked.now.facts c.args.at.now.numbers.list c.requires.head.0 c.requires.built c.requires.ready.known c.requires.head.1 in
+    subst AreSmall (sym (c.as_slice-2.ensures ∙ c.in_ok-head.ensures.list ∙ c.as_slice.ensures)) f.small
+
+pub check_head-requires-clause-needs : goal.check_head-requires-clause-needs
+check_head-requires-clause-needs g c = needs_held c.args.checked.now.facts.earlier c.args.question c.requires.built c.requires.ready.known.so_far
 
 pub check_head-requires-clause-head : goal.check_head-requires-clause-head
 check_head-requires-clause-head g c =
-    let f = said_facts c.args.net.now c.args.question c.args.at.now.numbers.list c.requires.head.0 c.requires.ready.network c.requires.built c.requires.head.1 in
+    let f = said_facts c.args.net.now c.args.question c.args.checked.now.facts c.args.at.now.numbers.list c.requires.head.0 c.requires.built c.requires.ready.known c.requires.head.1 in
     let same = c.as_slice-2.ensures ∙ c.in_ok-head.ensures.list ∙ c.as_slice.ensures in
-    subst (λ (v : Verdict). HeadMayBe c.args.net.now c.args.checked.now.facts.earlier (asked c.args.question) v) (sym (c.bare_verdict-verdict.ensures ∙ ap (λ (zs : List ℤ). said_verdict c.args.question zs []) same)) (let m = f.may in m c.args.checked.now.facts.earlier)
+    subst (λ (v : Verdict). HeadMayBe c.args.net.now c.args.checked.now.facts.earlier (asked c.args.question) v) (sym (c.in_ok-verdict.ensures ∙ ap (λ (zs : List ℤ). said_verdict c.args.question zs []) same)) f.may
 
 pub returns-in-Ok-clause-step : goal.returns-in-Ok-clause-step
 returns-in-Ok-clause-step g c = λ h n table blocks said next.
@@ -41,10 +50,10 @@ returns-in-Ok-clause-step g c = λ h n table blocks said next.
     let now = g.S.Source.seen c.read_rows.new.source in
     let same : c.as_slice-2.result.now ≡ numbers = c.as_slice-2.ensures ∙ c.in_ok-head.ensures.list ∙ c.as_slice.ensures in
     let last : c.as_slice-in-Ok.result.now ≡ numbers = c.as_slice-in-Ok.ensures ∙ c.in_ok-head.ensures.list ∙ c.as_slice.ensures in
-    let verdict : c.bare_verdict-verdict.result ≡ said_verdict q numbers [] = c.bare_verdict-verdict.ensures ∙ ap (λ (zs : List ℤ). said_verdict q zs []) same in
+    let verdict : c.in_ok-verdict.verdict ≡ said_verdict q numbers [] = c.in_ok-verdict.ensures ∙ ap (λ (zs : List ℤ). said_verdict q zs []) same in
     let holds : AllHold (head_tests net earlier (asked q) (said_verdict q numbers [])) = subst (λ (v : Verdict). AllHold (head_tests net earlier (asked q) v)) verdict c.in-Ok.ensures in
-    let rest = let r = c.read_rows.ensures.step in r h n table blocks (subst (λ (zs : List ℤ). IsHead net q zs h) (sym last) said) next in
-    head_course_by (λ d. StepIs d (λ (t : Unit {0}) y. IsAfter net c.read_rows.new.checked.facts.earlier new.line y) c.read_rows.result at new before now) at.version table net earlier q n numbers h blocks c.requires.ready.network c.requires.built said
+    let rest = let r = c.read_rows.ensures.step in r h n table blocks (subst (λ (zs : List ℤ). IsHead net earlier q zs h) (sym last) said) next in
+    head_course_by (λ d. StepIs d (λ (t : Unit {0}) y. IsAfter net c.read_rows.new.checked.facts.earlier new.line y) c.read_rows.result at new before now) at.version table net c.args.checked.now.facts q n numbers h blocks c.requires.built c.requires.ready.known said
     (step_then_is (claims n (head_tests net earlier (asked q) (said_verdict q numbers []))) (λ x. rows_course at.version table (asked q) (behind_at net earlier n blocks) h) tt (λ (t : Unit {0}) y. IsAfter net c.read_rows.new.checked.facts.earlier new.line y) c.read_rows.result at at new before before now
     (tests_give (claims n (head_tests net earlier (asked q) (said_verdict q numbers []))) tt at.line at.lines before.left (λ place. claims_hold n (head_tests net earlier (asked q) (said_verdict q numbers [])) place holds)) refl rest)
 
@@ -59,11 +68,11 @@ returns-clause-step g c = λ h n table blocks said next.
     let part = c.in-Err.fault.part in
     let code = c.in-Err.fault.code in
     let same : c.as_slice-2.result.now ≡ numbers = c.as_slice-2.ensures ∙ c.in_ok-head.ensures.list ∙ c.as_slice.ensures in
-    let verdict : c.bare_verdict-verdict.result ≡ said_verdict q numbers [] = c.bare_verdict-verdict.ensures ∙ ap (λ (zs : List ℤ). said_verdict q zs []) same in
+    let verdict : c.in_ok-verdict.verdict ≡ said_verdict q numbers [] = c.in_ok-verdict.ensures ∙ ap (λ (zs : List ℤ). said_verdict q zs []) same in
     let fails : FailsFirst (head_tests net earlier (asked q) (said_verdict q numbers [])) part code = subst (λ (v : Verdict). FailsFirst (head_tests net earlier (asked q) v) part code) verdict c.in-Err.ensures in
     let line : n + part ≡ at.line - 1 + part = omega (arith, next) in (
       tests_fail (head_course at.version table (asked q) (behind_at net earlier n blocks) h) at.line (at.line - 1 + part) code at before.left c.requires.goes.reads
-          (λ place. head_course_by (λ d. course.FailsFirst d place (at.line - 1 + part) code) at.version table net earlier q n numbers h blocks c.requires.ready.network c.requires.built said
+          (λ place. head_course_by (λ d. course.FailsFirst d place (at.line - 1 + part) code) at.version table net c.args.checked.now.facts q n numbers h blocks c.requires.built c.requires.ready.known said
           (subst (λ (k : ℕ). course.FailsFirst (claims n (head_tests net earlier (asked q) (said_verdict q numbers [])) >>= (λ x. rows_course at.version table (asked q) (behind_at net earlier n blocks) h)) place k code) line
           (fails_before (claims n (head_tests net earlier (asked q) (said_verdict q numbers []))) (λ x. rows_course at.version table (asked q) (behind_at net earlier n blocks) h) place (n + part) code (claims_fail n (head_tests net earlier (asked q) (said_verdict q numbers [])) part code place fails)))),
       refl,

@@ -1,21 +1,13 @@
-use Rattle.std.proofs.Common.{◌≡◌, ◌+◌, List, sym, subst, ℕ}
-use Rattle.std.specs.Prelude.{ℤ, false}
+use Rattle.std.proofs.Common.{◌≡◌, ◌+◌, sym, subst, ℕ}
+use Rattle.std.specs.Prelude.{false}
 use Rattle.std.proofs.lemmas.Result.{err_from_is_err_and}
-use Rattle.crn_ctext.specs.Records.{Form}
-use Rattle.crn_ctext.specs.Course.{Course, ◌>>=◌}
-use Rattle.crn_ctext.specs.Blocks.{Behind, asks}
-use Rattle.crn_cert.specs.Questions.{Question}
-use Rattle.crn_ctext.specs.Meaning.{Known}
+use Rattle.crn_ctext.specs.Blocks.{asks}
 use Rattle.crn_check.specs.Facts.{asked}
 use Rattle.crn_document.specs.Inner.Heads.{head_forms}
 use Rattle.crn_document.specs.Inner.Blocks.{IsAfter, behind_at, head_course}
-use Rattle.crn_document.specs.Inner.Steps.{StepIs, StopIs}
-use Rattle.crn_document.proofs.Heads.{heads_any}
+use Rattle.crn_document.specs.Inner.Steps.{StepIs}
 use Rattle.crn_document.proofs.Steps.{step_exits, step_then_is, stop_first}
 use Rattle.crn_document.proofs.block.next_block.Goals as goal
-
-abbrev asks_by : ℕ → ℕ → List (List ℤ) → Question → Behind Known → List Form → Course (Behind Known)
-asks_by version line table q at forms = asks version line false forms >>= (λ h. head_course version table q at h)
 
 pub after_head-requires-clause-head : goal.after_head-requires-clause-head
 after_head-requires-clause-head g c = let s = c.in_ok-next_head.ensures.step in (s.0, s.1)
@@ -27,8 +19,7 @@ returns-in_err-next_head-clause-step g c = λ table blocks.
     let e = c.in_err-next_head.field-0.0 in
     let q = asked c.args.question in
     step_exits _ _ c.from_residual.result e _ _ _ _ (err_from_is_err_and c.from_residual.result c.from_residual.ensures.1)
-    (subst (λ (fs : List Form). StopIs (asks_by at.version at.line table q (behind_at c.args.net.now earlier at.line blocks) fs) e at (g.S.Source.seen c.args.source.now) (g.S.Source.seen c.next_head.new.source)) (sym (heads_any c.args.question c.requires.built c.args.net.now earlier))
-    (stop_first (asks at.version at.line false (head_forms c.args.net.now c.args.question)) (λ h. head_course at.version table q (behind_at c.args.net.now earlier at.line blocks) h) e at _ _ c.in_err-next_head.ensures.step))
+    (stop_first (asks at.version at.line false (head_forms c.args.net.now c.args.checked.now.facts.earlier c.args.question)) (λ h. head_course at.version table q (behind_at c.args.net.now earlier at.line blocks) h) e at _ _ c.in_err-next_head.ensures.step)
 
 pub returns-clause-step : goal.returns-clause-step
 returns-clause-step g c = λ table blocks.
@@ -40,6 +31,5 @@ returns-clause-step g c = λ table blocks.
     let s = c.in_ok-next_head.ensures.step in
     let next : at.line + 1 ≡ mid.line = sym c.in_ok-next_head.ensures.line in
     let after = let a = c.after_head.ensures.step in a s.0 at.line table blocks s.1 next in
-    subst (λ (fs : List Form). StepIs (asks_by at.version at.line table q (behind_at c.args.net.now earlier at.line blocks) fs) (λ (t : Unit {0}) y. IsAfter c.args.net.now c.after_head.new.checked.facts.earlier new.line y) c.after_head.result at new (g.S.Source.seen c.args.source.now) (g.S.Source.seen c.after_head.new.source)) (sym (heads_any c.args.question c.requires.built c.args.net.now earlier))
-    (step_then_is (asks at.version at.line false (head_forms c.args.net.now c.args.question)) (λ h. head_course at.version table q (behind_at c.args.net.now earlier at.line blocks) h) s.0 (λ (t : Unit {0}) y. IsAfter c.args.net.now c.after_head.new.checked.facts.earlier new.line y) c.after_head.result at mid new (g.S.Source.seen c.args.source.now) (g.S.Source.seen c.next_head.new.source) (g.S.Source.seen c.after_head.new.source) s.2 s.3
-    (subst (λ (v : ℕ). StepIs (head_course v table q (behind_at c.args.net.now earlier at.line blocks) s.0) (λ (t : Unit {0}) y. IsAfter c.args.net.now c.after_head.new.checked.facts.earlier new.line y) c.after_head.result mid new (g.S.Source.seen c.next_head.new.source) (g.S.Source.seen c.after_head.new.source)) c.next_head.ensures.version after))
+    step_then_is (asks at.version at.line false (head_forms c.args.net.now c.args.checked.now.facts.earlier c.args.question)) (λ h. head_course at.version table q (behind_at c.args.net.now earlier at.line blocks) h) s.0 (λ (t : Unit {0}) y. IsAfter c.args.net.now c.after_head.new.checked.facts.earlier new.line y) c.after_head.result at mid new (g.S.Source.seen c.args.source.now) (g.S.Source.seen c.next_head.new.source) (g.S.Source.seen c.after_head.new.source) s.2 s.3
+    (subst (λ (v : ℕ). StepIs (head_course v table q (behind_at c.args.net.now earlier at.line blocks) s.0) (λ (t : Unit {0}) y. IsAfter c.args.net.now c.after_head.new.checked.facts.earlier new.line y) c.after_head.result mid new (g.S.Source.seen c.next_head.new.source) (g.S.Source.seen c.after_head.new.source)) c.next_head.ensures.version after)

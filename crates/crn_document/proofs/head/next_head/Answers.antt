@@ -1,19 +1,44 @@
-use Rattle.std.proofs.Common.{◌++◌, List, ap, subst, ◌∙◌}
+use Rattle.std.proofs.Common.{◌++◌, List, ap, subst, sym, ℕ, ◌∙◌, ◌≤◌, length}
 use Rattle.std.specs.Prelude.{ℤ}
+use Rattle.std.specs.List.{AllByRecursion}
+use Rattle.crn_vec.specs.declared.limits.TheConstants.{MAX_COMPLEXES, MAX_REACTIONS}
 use Rattle.crn_ctext.specs.Records.{Record, Form}
 use Rattle.crn_ctext.specs.Documents.{IsOneOf}
 use Rattle.crn_document.specs.Inner.Records.{asks_for, IsSaid}
 use Rattle.crn_document.specs.Inner.Heads.{IsHead, head_forms}
 use Rattle.crn_document.specs.Inner.Steps.{StepIs}
+use Rattle.crn_document.proofs.Linkages.{before_few, counts_fit}
 use Rattle.crn_document.proofs.Steps.{step_says}
 use Rattle.crn_document.proofs.Records.{as_expected}
 use Rattle.crn_document.proofs.head.next_head.Goals as goal
 
+pub head_expect-expect-requires-clause-few : goal.head_expect-expect-requires-clause-few
+head_expect-expect-requires-clause-few g c =
+    let l = c.linkage_of-linkage.ensures in
+    let b = before_few c.args.net.now c.linkage_of-linkage.result.labels.now c.args.question c.linkage_of-linkage.result.count c.requires.known.network.partial.reactions_limit l.few in
+    subst (λ (x : List ℕ). length x ≤ MAX_COMPLEXES) (sym (c.as_slice.ensures ∙ c.in_ok-counts.ensures)) b.0
+
+pub head_expect-expect-requires-clause-each : goal.head_expect-expect-requires-clause-each
+head_expect-expect-requires-clause-each g c =
+    let l = c.linkage_of-linkage.ensures in
+    let b = before_few c.args.net.now c.linkage_of-linkage.result.labels.now c.args.question c.linkage_of-linkage.result.count c.requires.known.network.partial.reactions_limit l.few in
+    subst (λ (x : List ℕ). AllByRecursion (λ r. r ≤ MAX_REACTIONS) x) (sym (c.as_slice.ensures ∙ c.in_ok-counts.ensures)) b.1
+
+pub next_record-requires-clause-due : goal.next_record-requires-clause-due
+next_record-requires-clause-due g c =
+    let fits = counts_fit c.args.net.now c.args.facts.now.earlier c.args.question c.linkage_of-linkage.result c.as_slice.result.now c.linkage_of-linkage.ensures (c.as_slice.ensures ∙ c.in_ok-counts.ensures) in
+    let due = (let d = c.head_expect-expect.ensures.due in d c.args.facts.now.earlier fits) in due.may
+
 pub returns-clause-step : goal.returns-clause-step
 returns-clause-step g c =
+    let net = c.args.net.now in
+    let earlier = c.args.facts.now.earlier in
+    let q = c.args.question in
     let e = c.head_expect-expect.result in
     let numbers = c.next_record.new.at.numbers.list in
-    let says : (t : Unit {0}) (h : Record) → IsSaid e numbers h → IsHead c.args.net.now c.args.question numbers h
-    = λ t h s. record { form = subst (λ (fs : List Form). IsOneOf fs h) c.head_expect-expect.ensures.due.has s.form; tag = s.numbers ∙ ap (λ (zs : List ℤ). zs ++ h.numbers) (let t = c.head_expect-expect.ensures.tag in t h) } in
-    as_expected (λ d. StepIs d (λ t h. IsHead c.args.net.now c.args.question numbers h) c.next_record.result c.args.at.now c.next_record.new.at (g.S.Source.seen c.args.source.now) (g.S.Source.seen c.next_record.new.source)) e c.args.at.now.version c.args.at.now.line (head_forms c.args.net.now c.args.question) c.head_expect-expect.ensures.due
-    (step_says (asks_for e c.args.at.now.line) (λ t h. IsSaid e numbers h) (λ t h. IsHead c.args.net.now c.args.question numbers h) c.next_record.result c.args.at.now c.next_record.new.at _ _ says c.next_record.ensures.step)
+    let fits = counts_fit net earlier q c.linkage_of-linkage.result c.as_slice.result.now c.linkage_of-linkage.ensures (c.as_slice.ensures ∙ c.in_ok-counts.ensures) in
+    let due = (let d = c.head_expect-expect.ensures.due in d earlier fits) in
+    let says : (t : Unit {0}) (h : Record) → IsSaid e numbers h → IsHead net earlier q numbers h
+    = λ t h s. record { form = subst (λ (fs : List Form). IsOneOf fs h) due.has s.form; tag = s.numbers ∙ ap (λ (zs : List ℤ). zs ++ h.numbers) (let t = c.head_expect-expect.ensures.tag in t earlier h fits) } in
+    as_expected (λ d. StepIs d (λ t h. IsHead net earlier q numbers h) c.next_record.result c.args.at.now c.next_record.new.at (g.S.Source.seen c.args.source.now) (g.S.Source.seen c.next_record.new.source)) e c.args.at.now.version c.args.at.now.line (head_forms net earlier q) due
+    (step_says (asks_for e c.args.at.now.line) (λ t h. IsSaid e numbers h) (λ t h. IsHead net earlier q numbers h) c.next_record.result c.args.at.now c.next_record.new.at _ _ says c.next_record.ensures.step)

@@ -1,4 +1,4 @@
-use Rattle.std.proofs.Common.{◌≡◌, ◌≤◌, ap, ◌∙◌, arith}
+use Rattle.std.proofs.Common.{◌≡◌, ap, ◌∙◌, arith}
 use Rattle.crn_vec.specs.Systems.{signed_count}
 use Rattle.crn_solve.proofs.PositiveKinds.{kinds_signed}
 use Rattle.crn_solve.proofs.positive.decide_positive.Goals as goal

@@ -1,5 +1,4 @@
-use Rattle.std.proofs.Common.{◌≡◌, ◌∙◌, ℕ, List, sym, subst}
-use Rattle.std.specs.List.{range_with_len}
+use Rattle.std.proofs.Common.{◌∙◌, ℕ, List, sym, subst}
 use Rattle.crn_vec.specs.Elementary.{NamesWide}
 use Rattle.crn_cert.specs.declared.answer.Answer.{Answer}
 use Rattle.crn_cert.specs.Questions.{Earlier, Q5}
@@ -8,7 +7,7 @@ use Rattle.crn_rank.specs.Rank.{AreMembers, IsWideStop, ProvesRank, member_matri
 use Rattle.crn_solve.specs.Inner.Answered.{IsAnswer}
 use Rattle.crn_solve.specs.Inner.Given.{IsRankAnswer}
 use Rattle.crn_solve.proofs.Rows.{if_ok}
-use Rattle.crn_solve.proofs.RankAnswers.{all_places, are_members, base_few, rank_given, rank_wide}
+use Rattle.crn_solve.proofs.RankAnswers.{are_members, base_few, rank_given, rank_wide}
 use Rattle.crn_solve.proofs.rank_answer.rank_answer.Goals as goal
 
 pub rank-requires : goal.rank-requires

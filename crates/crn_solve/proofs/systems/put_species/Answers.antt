@@ -1,5 +1,5 @@
-use Rattle.std.proofs.Common.{◌≡◌, ◌++◌, ◌<◌, ◌≤◌, List, [], ◌∷◌, length, take, ap, sym, subst, ◌∙◌, arith, to_z, of_z}
-use Rattle.std.specs.Prelude.{ℤ, pos, slice_index_or}
+use Rattle.std.proofs.Common.{◌≡◌, ◌++◌, ◌<◌, List, [], ◌∷◌, length, take, ap, sym, subst, ◌∙◌, arith, to_z, of_z}
+use Rattle.std.specs.Prelude.{ℤ, pos}
 use Rattle.std.specs.Int.{w128}
 use Rattle.std.proofs.lemmas.List.{take_more, take_all, append_assoc}
 use Rattle.crn_vec.specs.Vectors.{AreWithin, column, entry}

@@ -1,0 +1,107 @@
+-- What the form of a proof of a rank gives for its tests.
+use Rattle.std.proofs.Common.{◌≡◌, inl, inr, Bool, true, false, ℕ, zero, suc, ◌+◌, ◌<◌, ◌≤◌, List, [], ◌∷◌, length, refl, sym, ap, subst, arith}
+use Rattle.std.specs.Prelude.{filter}
+use Rattle.std.specs.List.{range_with_len}
+use Rattle.std.proofs.lemmas.Bool.{cases_Bool}
+use Rattle.std.proofs.lemmas.List.FromFn.{length-range_with_len}
+use Rattle.crn_vec.specs.declared.limits.TheConstants.{MAX_REACTIONS}
+use Rattle.crn_vec.specs.Lists.{IsIn, IsAbove, IsAscending}
+use Rattle.crn_vec.specs.Network.{Net, IsNetwork}
+use Rattle.crn_vec.proofs.CallerLemmas.{all_from, eq_or}
+use Rattle.crn_cert.specs.declared.answer.RankProof.{RankProof}
+use Rattle.crn_cert.specs.Ranges.{IsFrom}
+use Rattle.crn_cert.specs.Formed.{IsRankProof}
+use Rattle.crn_cert.specs.RankTests.{outside}
+use Rattle.crn_cert.proofs.CallerLemmas.{range_ascending, range_bounds}
+use Rattle.crn_check.specs.declared.members.Members.{Members}
+use Rattle.crn_check.specs.declared.members.Members.TheVariants.{All}
+use Rattle.crn_check.specs.Inner.Bases.{IsBase, is_member, members_of}
+use Rattle.crn_check.proofs.Outside.{outside_long, above_less, ascending_rest}
+
+kept : (p : ℕ → Bool) (x : ℕ) (xs : List ℕ) → p x ≡ true → filter p (x ∷ xs) ≡ x ∷ filter p xs
+kept p x xs e = rw e refl
+
+dropped : (p : ℕ → Bool) (x : ℕ) (xs : List ℕ) → p x ≡ false → filter p (x ∷ xs) ≡ filter p xs
+dropped p x xs e = rw e refl
+
+filter_in : (p : ℕ → Bool) (xs : List ℕ) (r : ℕ) → IsIn r (filter p xs) → IsIn r xs
+filter_in p [] r i = i
+filter_in p (x ∷ xs) r i = elim (cases_Bool (p x)) [
+  | inl hit ↦ elim (subst (IsIn r) (kept p x xs hit) i) [ inl e ↦ inl e | inr later ↦ inr (filter_in p xs r later) ]
+  | inr miss ↦ inr (filter_in p xs r (subst (IsIn r) (dropped p x xs miss) i))
+]
+
+filter_few : (p : ℕ → Bool) (xs : List ℕ) → length (filter p xs) ≤ length xs
+filter_few p [] = omega arith
+filter_few p (x ∷ xs) = elim (cases_Bool (p x)) [
+  | inl hit ↦ let e = ap (λ (l : List ℕ). length l) (kept p x xs hit) in omega (arith, e, filter_few p xs)
+  | inr miss ↦ let e = ap (λ (l : List ℕ). length l) (dropped p x xs miss) in omega (arith, e, filter_few p xs)
+]
+
+filter_above : (p : ℕ → Bool) (k : ℕ) (xs : List ℕ) → IsAbove k xs → IsAbove k (filter p xs)
+filter_above p k [] h = tt
+filter_above p k (x ∷ xs) h = elim (cases_Bool (p x)) [
+  | inl hit ↦ subst (IsAbove k) (sym (kept p x xs hit)) (h.0, filter_above p x xs h.1)
+  | inr miss ↦ subst (IsAbove k) (sym (dropped p x xs miss)) (filter_above p k xs (above_less k x xs h.0 h.1))
+]
+
+filter_ascending : (p : ℕ → Bool) (xs : List ℕ) → IsAscending xs → IsAscending (filter p xs)
+filter_ascending p [] h = tt
+filter_ascending p (x ∷ xs) h = elim (cases_Bool (p x)) [
+  | inl hit ↦ subst IsAscending (sym (kept p x xs hit)) (filter_above p x xs h)
+  | inr miss ↦ subst IsAscending (sym (dropped p x xs miss)) (filter_ascending p xs (ascending_rest x xs h))
+]
+
+members_few : (net : Net) (m : Members) → length (members_of net m) ≤ length net.reactions
+members_few net m = let few = filter_few (is_member net m) (range_with_len 1 (length net.reactions)) in omega (arith, few, length-range_with_len 1 (length net.reactions))
+
+members_ascending : (net : Net) (m : Members) → IsAscending (members_of net m)
+members_ascending net m = filter_ascending (is_member net m) (range_with_len 1 (length net.reactions)) (range_ascending 1 (length net.reactions))
+
+-- the members outside the base are all but as many as it has
+pub base_outside : (net : Net) (m : Members) (rank : ℕ) (proof : RankProof) → IsRankProof net (members_of net m) rank proof → length (outside proof.base.list (members_of net m)) + length proof.base.list ≡ length (members_of net m)
+base_outside net m rank proof h = outside_long proof.base.list (members_of net m) h.ascending (members_ascending net m) h.from
+
+pub base_few : (net : Net) (m : Members) (rank : ℕ) (proof : RankProof) → IsNetwork net → IsRankProof net (members_of net m) rank proof → length proof.base.list ≤ MAX_REACTIONS
+base_few net m rank proof n h = omega (arith, base_outside net m rank proof h, members_few net m, n.partial.reactions_limit)
+
+-- there are few combinations
+pub combs_few : (net : Net) (m : Members) (rank : ℕ) (proof : RankProof) → IsNetwork net → IsRankProof net (members_of net m) rank proof → length proof.combs ≤ MAX_REACTIONS
+combs_few net m rank proof n h = omega (arith, h.combs.long, members_few net m, n.partial.reactions_limit)
+
+pub base_is : (net : Net) (m : Members) (rank : ℕ) (proof : RankProof) → IsNetwork net → IsRankProof net (members_of net m) rank proof → IsBase net proof.base.list
+base_is net m rank proof n h = record {
+  network = n;
+  members = all_from (IsFrom 1 (length net.reactions)) proof.base.list (λ r i.
+      let b = range_bounds r 1 (length net.reactions) (filter_in (is_member net m) (range_with_len 1 (length net.reactions)) r (h.from r i)) in
+      (b.0, omega (arith, b.1)));
+  count = base_few net m rank proof n h;
+}
+
+pub duals_few : (net : Net) (m : Members) (rank : ℕ) (proof : RankProof) → IsNetwork net → IsRankProof net (members_of net m) rank proof → length proof.duals ≤ MAX_REACTIONS
+duals_few net m rank proof n h = omega (arith, base_few net m rank proof n h, h.long, h.duals.long)
+
+-- all reactions are members of all
+pub all_members : (net : Net) → members_of net All ≡ range_with_len 1 (length net.reactions)
+all_members net = go (range_with_len 1 (length net.reactions))
+  where
+    go : (rs : List ℕ) → filter (is_member net All) rs ≡ rs
+    go [] = refl
+    go (r ∷ rs) = ap (λ (l : List ℕ). r ∷ l) (go rs)
+
+-- ---- members by their numbers
+
+in_range : (r a n : ℕ) → a ≤ r → r < a + n → IsIn r (range_with_len a n)
+in_range r a zero least less = absurd (omega arith)
+in_range r a (suc n) least less = elim (eq_or r a) [ inl e ↦ inl e | inr ne ↦ inr (in_range r (a + 1) n (omega (arith, least, ne)) (omega (arith, less))) ]
+
+in_filter : (p : ℕ → Bool) (xs : List ℕ) (r : ℕ) → IsIn r xs → p r ≡ true → IsIn r (filter p xs)
+in_filter p [] r i hit = absurd i
+in_filter p (x ∷ xs) r (inl e) hit = subst (IsIn r) (sym (kept p x xs (subst (λ (y : ℕ). p y ≡ true) e hit))) (inl e)
+in_filter p (x ∷ xs) r (inr later) hit = elim (cases_Bool (p x)) [
+  | inl has ↦ subst (IsIn r) (sym (kept p x xs has)) (inr (in_filter p xs r later hit))
+  | inr miss ↦ subst (IsIn r) (sym (dropped p x xs miss)) (in_filter p xs r later hit)
+]
+
+pub member_in : (net : Net) (m : Members) (r : ℕ) → 1 ≤ r → r ≤ length net.reactions → is_member net m r ≡ true → IsIn r (members_of net m)
+member_in net m r one most hit = in_filter (is_member net m) (range_with_len 1 (length net.reactions)) r (in_range r 1 (length net.reactions) one (omega (arith, most))) hit

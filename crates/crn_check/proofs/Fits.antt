@@ -1,0 +1,94 @@
+-- The verdict of a formed answer fits in the memory that is reserved for it.
+use Rattle.std.proofs.Common.{◌≤◌, inl, inr, ℕ, length, subst, arith}
+use Rattle.crn_vec.specs.Network.{Net, IsNetwork}
+use Rattle.crn_cert.specs.declared.answer.Answer.{Answer}
+use Rattle.crn_cert.specs.declared.answer.Gap.TheVariants.{Wide, Budget, Rests}
+use Rattle.crn_cert.specs.declared.answer.Verdict.{Verdict}
+use Rattle.crn_cert.specs.declared.answer.Verdict.TheVariants.{Classes, Strong, Rank, Deficiency, Yes, YesVec, NoReaction, NoVec, Unknown}
+use Rattle.crn_cert.specs.Questions.{Earlier, Q1, Q2, Q3, Q4, Q5, Q6, Q7, Q8}
+use Rattle.crn_cert.specs.Valid.{linkage_count}
+use Rattle.crn_cert.specs.Formed.{IsFormed}
+use Rattle.crn_cert.specs.FormedVerdicts.{IsFormedVerdict}
+use Rattle.crn_cert.proofs.CallerLemmas.{formed_answers_have_formed_verdicts}
+use Rattle.crn_check.specs.Facts.{KeptFacts, AreFactsOf, asked}
+use Rattle.crn_check.specs.Check.{IsBuilt, HoldsNeeds}
+use Rattle.crn_check.specs.Inner.Facts.{DoesFit}
+use Rattle.crn_check.proofs.Forms.{linkage_labelled}
+
+fits_1 : (net : Net) (e : Earlier) (v : Verdict) → IsNetwork net → IsFormedVerdict net e Q1 v → DoesFit v
+fits_1 net e (Classes count label) n f = omega (arith, f.1.long, n.partial.complexes_limit)
+fits_1 net e (Unknown (Wide system class index basis)) n f = absurd f.0
+fits_1 net e (Unknown (Budget nodes)) n f = absurd f.0
+fits_1 net e (Unknown (Rests question)) n f = absurd f.0
+fits_1 net e v n f = absurd f.0
+
+fits_2 : (net : Net) (e : Earlier) (v : Verdict) → IsNetwork net → IsFormedVerdict net e Q2 v → DoesFit v
+fits_2 net e (Strong count terminal label exit) n f = (omega (arith, f.1.0.long, n.partial.complexes_limit), omega (arith, f.1.1.long, f.0.0.1, n.partial.complexes_limit))
+fits_2 net e (Unknown (Wide system class index basis)) n f = absurd f.0
+fits_2 net e (Unknown (Budget nodes)) n f = absurd f.0
+fits_2 net e (Unknown (Rests question)) n f = absurd f.0
+fits_2 net e v n f = absurd f.0
+
+fits_3 : (net : Net) (e : Earlier) (v : Verdict) → IsFormedVerdict net e Q3 v → DoesFit v
+fits_3 net e Yes f = tt
+fits_3 net e (NoReaction reaction) f = tt
+fits_3 net e (Unknown (Wide system class index basis)) f = absurd f.0
+fits_3 net e (Unknown (Budget nodes)) f = absurd f.0
+fits_3 net e (Unknown (Rests question)) f = absurd f.0
+fits_3 net e v f = absurd f.0
+
+fits_4 : (net : Net) (e : Earlier) (v : Verdict) → IsFormedVerdict net e Q4 v → DoesFit v
+fits_4 net e Yes f = tt
+fits_4 net e (NoReaction reaction) f = tt
+fits_4 net e (Unknown (Wide system class index basis)) f = absurd f.0
+fits_4 net e (Unknown (Budget nodes)) f = absurd f.0
+fits_4 net e (Unknown (Rests question)) f = absurd f.0
+fits_4 net e v f = absurd f.0
+
+fits_5 : (net : Net) (e : Earlier) (v : Verdict) → IsNetwork net → IsFormedVerdict net e Q5 v → DoesFit v
+fits_5 net e (Rank rank base) n f = omega (arith, f.1.long, f.0.1, n.partial.reactions_limit)
+fits_5 net e (Unknown (Wide system class index basis)) n f = omega (arith, f.0.2.members.long, n.partial.species_limit)
+fits_5 net e (Unknown (Budget nodes)) n f = absurd f.0
+fits_5 net e (Unknown (Rests question)) n f = absurd f.0
+fits_5 net e v n f = absurd f.0
+
+-- a list of deficiencies has a member for each linkage class
+fits_6 : (net : Net) (e : Earlier) (v : Verdict) → IsNetwork net → linkage_count e ≤ length net.complexes → IsFormedVerdict net e Q6 v → DoesFit v
+fits_6 net e (Deficiency total classes) n few f = omega (arith, f.0.1.long, few, n.partial.complexes_limit)
+fits_6 net e (Unknown (Wide system class index basis)) n few f = omega (arith, f.0.2.members.long, n.partial.species_limit)
+fits_6 net e (Unknown (Budget nodes)) n few f = absurd f.0
+fits_6 net e (Unknown (Rests question)) n few f = tt
+fits_6 net e v n few f = absurd f.0
+
+fits_7 : (net : Net) (e : Earlier) (v : Verdict) → IsNetwork net → IsFormedVerdict net e Q7 v → DoesFit v
+fits_7 net e (YesVec vector) n f = omega (arith, f.1.long, n.partial.reactions_limit)
+fits_7 net e (NoVec multipliers) n f = omega (arith, f.1.long, n.partial.species_limit)
+fits_7 net e (Unknown (Wide system class index basis)) n f = omega (arith, f.0.2.members.long, n.partial.reactions_limit)
+fits_7 net e (Unknown (Budget nodes)) n f = absurd f.0
+fits_7 net e (Unknown (Rests question)) n f = absurd f.0
+fits_7 net e v n f = absurd f.0
+
+fits_8 : (net : Net) (e : Earlier) (v : Verdict) → IsNetwork net → IsFormedVerdict net e Q8 v → DoesFit v
+fits_8 net e (YesVec vector) n f = omega (arith, f.1.long, n.partial.species_limit)
+fits_8 net e (NoVec multipliers) n f = omega (arith, f.1.long, n.partial.reactions_limit)
+fits_8 net e (Unknown (Wide system class index basis)) n f = omega (arith, f.0.2.members.long, n.partial.species_limit)
+fits_8 net e (Unknown (Budget nodes)) n f = absurd f.0
+fits_8 net e (Unknown (Rests question)) n f = absurd f.0
+fits_8 net e v n f = absurd f.0
+
+pub answer_fits : (net : Net) (facts : KeptFacts) (n : ℕ) (a : Answer) → IsNetwork net → IsBuilt n → AreFactsOf net facts → HoldsNeeds facts.earlier n → IsFormed net facts.earlier (asked n) a → DoesFit a.verdict
+answer_fits net facts n a network built h needs formed = go n built needs (formed_answers_have_formed_verdicts net facts.earlier (asked n) a.verdict a.proof formed)
+  where
+    go : (n : ℕ) → IsBuilt n → HoldsNeeds facts.earlier n → IsFormedVerdict net facts.earlier (asked n) a.verdict → DoesFit a.verdict
+    go n (inl is) needs f = let g : IsFormedVerdict net facts.earlier Q1 a.verdict = subst (λ (m : ℕ). IsFormedVerdict net facts.earlier (asked m) a.verdict) is f in fits_1 net facts.earlier a.verdict network g
+    go n (inr (inl is)) needs f = let g : IsFormedVerdict net facts.earlier Q2 a.verdict = subst (λ (m : ℕ). IsFormedVerdict net facts.earlier (asked m) a.verdict) is f in fits_2 net facts.earlier a.verdict network g
+    go n (inr (inr (inl is))) needs f = let g : IsFormedVerdict net facts.earlier Q3 a.verdict = subst (λ (m : ℕ). IsFormedVerdict net facts.earlier (asked m) a.verdict) is f in fits_3 net facts.earlier a.verdict g
+    go n (inr (inr (inr (inl is)))) needs f = let g : IsFormedVerdict net facts.earlier Q4 a.verdict = subst (λ (m : ℕ). IsFormedVerdict net facts.earlier (asked m) a.verdict) is f in fits_4 net facts.earlier a.verdict g
+    go n (inr (inr (inr (inr (inl is))))) needs f = let g : IsFormedVerdict net facts.earlier Q5 a.verdict = subst (λ (m : ℕ). IsFormedVerdict net facts.earlier (asked m) a.verdict) is f in fits_5 net facts.earlier a.verdict network g
+    go n (inr (inr (inr (inr (inr (inl is)))))) needs f =
+        let g : IsFormedVerdict net facts.earlier Q6 a.verdict = subst (λ (m : ℕ). IsFormedVerdict net facts.earlier (asked m) a.verdict) is f in
+        let held : HoldsNeeds facts.earlier 6 = subst (HoldsNeeds facts.earlier) is needs in
+        fits_6 net facts.earlier a.verdict network (linkage_labelled net facts h held.0).1 g
+    go n (inr (inr (inr (inr (inr (inr (inl is))))))) needs f = let g : IsFormedVerdict net facts.earlier Q7 a.verdict = subst (λ (m : ℕ). IsFormedVerdict net facts.earlier (asked m) a.verdict) is f in fits_7 net facts.earlier a.verdict network g
+    go n (inr (inr (inr (inr (inr (inr (inr (inl is)))))))) needs f = let g : IsFormedVerdict net facts.earlier Q8 a.verdict = subst (λ (m : ℕ). IsFormedVerdict net facts.earlier (asked m) a.verdict) is f in fits_8 net facts.earlier a.verdict network g
+    go n (inr (inr (inr (inr (inr (inr (inr (inr none)))))))) needs f = absurd none

@@ -1,0 +1,89 @@
+-- The vectors of reactions have an entry for each species, and combinations of them are zero past these.
+use Rattle.std.proofs.Common.{◌≡◌, inl, inr, ℕ, zero, suc, ◌<◌, ◌≤◌, List, [], ◌∷◌, length, get_or, map, refl, ap, ◌∙◌, arith}
+use Rattle.std.specs.Prelude.{ℤ, pos, ◌*ℤ◌}
+use Rattle.std.specs.List.{AllByRecursion}
+use Rattle.std.proofs.lemmas.Int.{ints}
+use Rattle.crn_vec.specs.Lists.{IsIn}
+use Rattle.crn_vec.specs.Network.{Net, IsNetwork, JoinsTwo, sides_of, reaction_vector}
+use Rattle.crn_vec.specs.Vectors.{entry, column}
+use Rattle.crn_vec.specs.Rank.{combination_at}
+use Rattle.crn_vec.specs.Deficiency.{vectors}
+use Rattle.crn_vec.proofs.CallerLemmas.{all_at, past_end, dot_zero, vector_long, length-minus}
+
+pub vector_width : (net : Net) → IsNetwork net → (r : ℕ) → r < length net.reactions → length (reaction_vector net (get_or net.reactions r (0, 0))) ≡ length net.names
+vector_width net n r lt =
+    let e = get_or net.reactions r (0, 0) in
+    let j : JoinsTwo (length net.complexes) e = all_at (JoinsTwo (length net.complexes)) net.reactions r (0, 0) n.partial.apart lt in
+    length-minus (length net.names) (sides_of net e).1 (sides_of net e).0 (vector_long (length net.names) net.complexes n.partial.vectors e.1 j.2) (vector_long (length net.names) net.complexes n.partial.vectors e.0 j.1)
+
+column_past : (vs : List (List ℤ)) (n s : ℕ) → ((j : ℕ) → j < length vs → length (get_or vs j []) ≡ n) → n ≤ s → (k : ℕ) → entry (column vs s) k ≡ pos 0
+column_past [] n s h le k = refl
+column_past (v ∷ vs) n s h le zero = past_end v s (omega (arith, h 0 (omega arith)))
+column_past (v ∷ vs) n s h le (suc k) = column_past vs n s (λ j lt. h (suc j) (omega (arith, lt))) le k
+
+pub times_none : (x : ℤ) → x *ℤ pos 0 ≡ pos 0
+times_none x = omega (arith, ints)
+
+-- no combination of vectors has an entry past their width
+pub combination_past : (c : List ℤ) (vs : List (List ℤ)) (n s : ℕ) → ((j : ℕ) → j < length vs → length (get_or vs j []) ≡ n) → n ≤ s → combination_at c vs s ≡ pos 0
+combination_past c vs n s h le = dot_zero c (column vs s) (λ i. ap (λ (x : ℤ). entry c i *ℤ x) (column_past vs n s h le i) ∙ times_none (entry c i))
+
+-- ---- all reactions
+
+pub vector_of_all : (net : Net) (r : ℕ) → r < length net.reactions → get_or (vectors net) r [] ≡ reaction_vector net (get_or net.reactions r (0, 0))
+vector_of_all net r lt = go net.reactions r lt
+  where
+    go : (rs : List (ℕ × ℕ)) (r : ℕ) → r < length rs → get_or (map (reaction_vector net) rs) r [] ≡ reaction_vector net (get_or rs r (0, 0))
+    go [] r lt = absurd (omega arith)
+    go (e ∷ rs) zero lt = refl
+    go (e ∷ rs) (suc r) lt = go rs r (omega (arith, lt))
+
+pub count_of_all : (net : Net) → length (vectors net) ≡ length net.reactions
+count_of_all net = go net.reactions
+  where
+    go : (rs : List (ℕ × ℕ)) → length (map (reaction_vector net) rs) ≡ length rs
+    go [] = refl
+    go (e ∷ rs) = omega (arith, go rs)
+
+pub widths_of_all : (net : Net) → IsNetwork net → (j : ℕ) → j < length (vectors net) → length (get_or (vectors net) j []) ≡ length net.names
+widths_of_all net n j lt =
+    let less : j < length net.reactions = omega (arith, lt, count_of_all net) in
+    ap (λ (v : List ℤ). length v) (vector_of_all net j less) ∙ vector_width net n j less
+
+pub all_reactions : (net : Net) (P : List ℤ → Type 0) → ((r : ℕ) → r < length net.reactions → P (reaction_vector net (get_or net.reactions r (0, 0)))) → AllByRecursion P (vectors net)
+all_reactions net P h = go net.reactions h
+  where
+    go : (rs : List (ℕ × ℕ)) → ((r : ℕ) → r < length rs → P (reaction_vector net (get_or rs r (0, 0)))) → AllByRecursion P (map (reaction_vector net) rs)
+    go [] h = tt
+    go (e ∷ rs) h = (h 0 (omega arith), go rs (λ r lt. h (suc r) (omega (arith, lt))))
+
+pub each_reaction : (net : Net) (P : List ℤ → Type 0) → AllByRecursion P (vectors net) → (r : ℕ) → r < length net.reactions → P (reaction_vector net (get_or net.reactions r (0, 0)))
+each_reaction net P h r lt = go net.reactions h r lt
+  where
+    go : (rs : List (ℕ × ℕ)) → AllByRecursion P (map (reaction_vector net) rs) → (r : ℕ) → r < length rs → P (reaction_vector net (get_or rs r (0, 0)))
+    go [] h r lt = absurd (omega arith)
+    go (e ∷ rs) h zero lt = h.0
+    go (e ∷ rs) h (suc r) lt = go rs h.1 r (omega (arith, lt))
+
+pub vector_in : (net : Net) (r : ℕ) → r < length net.reactions → IsIn (reaction_vector net (get_or net.reactions r (0, 0))) (vectors net)
+vector_in net r lt = go net.reactions r lt
+  where
+    go : (rs : List (ℕ × ℕ)) (r : ℕ) → r < length rs → IsIn (reaction_vector net (get_or rs r (0, 0))) (map (reaction_vector net) rs)
+    go [] r lt = absurd (omega arith)
+    go (e ∷ rs) zero lt = inl refl
+    go (e ∷ rs) (suc r) lt = inr (go rs r (omega (arith, lt)))
+
+pub place_of_vector : (net : Net) (v : List ℤ) → IsIn v (vectors net) → (r : ℕ) × (r < length net.reactions) × (v ≡ reaction_vector net (get_or net.reactions r (0, 0)))
+place_of_vector net v h = go net.reactions h
+  where
+    go : (rs : List (ℕ × ℕ)) → IsIn v (map (reaction_vector net) rs) → (r : ℕ) × (r < length rs) × (v ≡ reaction_vector net (get_or rs r (0, 0)))
+    go [] h = absurd h
+    go (e ∷ rs) (inl is) = (0, omega arith, is)
+    go (e ∷ rs) (inr later) = let f = go rs later in (suc f.0, omega (arith, f.1), f.2)
+
+-- ---- lists of numbers
+
+-- what holds of each entry holds of all members
+pub all_entries : (P : ℤ → Type 0) (xs : List ℤ) → ((k : ℕ) → k < length xs → P (entry xs k)) → AllByRecursion P xs
+all_entries P [] h = tt
+all_entries P (x ∷ xs) h = (h 0 (omega arith), all_entries P xs (λ k lt. h (suc k) (omega (arith, lt))))

@@ -1,0 +1,7 @@
+use Rattle.std.proofs.Common.{◌<◌, ℕ, pos}
+use Rattle.std.specs.Prelude.{◌≤ℤ◌}
+use Rattle.crn_vec.specs.Vectors.{entry}
+use Rattle.crn_check.proofs.positive.are_positive.Given as goal
+
+abbrev pub invariant-loop-value : goal.invariant-loop-value
+invariant-loop-value l = (k : ℕ) → k < l.value-index → pos 1 ≤ℤ entry l.values k

@@ -1,0 +1,21 @@
+use Rattle.std.proofs.Common.{◌≡◌, ap, ◌∙◌, arith, of_z}
+use Rattle.std.specs.Prelude.{pos}
+use Rattle.std.specs.Int.{w128}
+use Rattle.crn_vec.specs.Vectors.{dot}
+use Rattle.crn_check.proofs.Decided.{granted, refused}
+use Rattle.crn_check.proofs.Widths.{all_reactions, each_reaction}
+use Rattle.crn_check.proofs.positive.is_conservation.Goals as goal
+
+pub returns-then-weighed-ne0 : goal.returns-then-weighed-ne0
+returns-then-weighed-ne0 c =
+    let net = c.args.net.now in
+    refused (λ h. c.if-weighed-ne0.true (ap (of_z w128) (c.weighed.ensures ∙ each_reaction net (λ v. dot c.args.weights.now v ≡ pos 0) h.kept c.loop-r.r (omega arith))))
+
+pub returns : goal.returns
+returns c =
+    let net = c.args.net.now in
+    granted (record {
+      long = c.requires.long;
+      positive = c.are_positive.ensures.0 c.if-not-are_positive.false;
+      kept = all_reactions net (λ v. dot c.args.weights.now v ≡ pos 0) (λ r lt. c.loop-r.invariant r (omega (arith, lt)));
+    })

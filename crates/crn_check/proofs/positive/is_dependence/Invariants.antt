@@ -1,0 +1,7 @@
+use Rattle.std.proofs.Common.{◌≡◌, ◌<◌, ℕ, pos}
+use Rattle.crn_vec.specs.Rank.{combination_at}
+use Rattle.crn_vec.specs.Deficiency.{vectors}
+use Rattle.crn_check.proofs.positive.is_dependence.Given as goal
+
+abbrev pub invariant-loop-s : goal.invariant-loop-s
+invariant-loop-s l = (k : ℕ) → k < l.s → combination_at l.numbers (vectors l.net) k ≡ pos 0

@@ -1,0 +1,48 @@
+ghost use Rattle.std.specs.Prelude.{◌<◌, ◌^◌, ◌⊎◌, length};
+ghost use Rattle.crn_vec.specs.Network.{IsNetwork};
+ghost use Rattle.crn_cert.specs.Formed.{IsRankProof, RowsRank};
+ghost use Rattle.crn_cert.specs.Questions.{IsOpen};
+ghost use Rattle.crn_cert.specs.RankTests.{rank_tests};
+ghost use Rattle.crn_cert.specs.Valid.{rank_rows};
+ghost use Rattle.crn_check.specs.Check.{Judges};
+ghost use Rattle.crn_check.specs.Inner.Bases.{AreLabelled, members_of};
+
+use crate::combs::check_combs;
+use crate::duals::check_duals;
+use crate::fault::CheckFault;
+use crate::members::Members;
+use crn_cert::{Proof, RankProof, Verdict};
+use crn_net::Network;
+
+// The tests of the rank of the members; the base is record `part`.
+pub(crate) fn check_members(
+    net: &Network,
+    members: &Members,
+    part: u32,
+    proof: &RankProof,
+) -> Result<(), CheckFault>
+    requires network { IsNetwork net.now }
+    requires members { AreLabelled net.now members.now }
+    requires part { part < 2 ^ 30 }
+    requires proof { IsRankProof net.now (members_of net.now members.now)
+        (length proof.now.base.list) proof.now }
+    ensures { Judges (rank_tests net.now (members_of net.now members.now) part proof.now.base.list
+        proof.now.duals proof.now.combs) result }
+{
+    let base = proof.base.as_slice();
+    check_duals(net, base, &proof.duals, part + 1)?;
+    let first = part + 1 + base.len() as u32;
+    check_combs(net, members, base, &proof.combs, first)
+}
+
+// The tests of the records on the rank.
+pub(crate) fn check_rank(net: &Network, verdict: &Verdict, proof: &Proof) -> Result<(), CheckFault>
+    requires network { IsNetwork net.now }
+    requires rows { IsOpen verdict.now ⊎ RowsRank net.now verdict.now proof.now }
+    ensures { Judges (rank_rows net.now verdict.now proof.now) result }
+{
+    match (verdict, proof) {
+        (Verdict::Rank { .. }, Proof::Rank(proof)) => check_members(net, &Members::All, 1, proof),
+        _ => Ok(()),
+    }
+}

@@ -1,0 +1,61 @@
+-- The numbers of a record of one field, and the places of tests.
+use Rattle.std.proofs.Common.{◌≡◌, ◌≤◌, ◌<◌, ◌^◌, ◌++◌, ◌∙◌, ℕ, List, [], ◌∷◌, map, refl, sym, subst, ap, ap₂, inl, inr, arith}
+use Rattle.std.specs.Prelude.{ℤ, pos, negsuc, nat_abs}
+use Rattle.std.specs.List.{AllByRecursion}
+use Rattle.std.proofs.lemmas.Int.{ints}
+use Rattle.std.proofs.lemmas.List.{append-nil, length-map}
+use Rattle.crn_cert.specs.Tests.{Test, FailsFirst}
+use Rattle.crn_cert.specs.Ranges.{AreFrom}
+use Rattle.crn_ctext.specs.Records.{Record, Field, Takes, AreNarrow, AreOf, AreBetween, Fits}
+use Rattle.crn_ctext.specs.Kinds.{small, small_form}
+use Rattle.crn_document.specs.Inner.Answer.{AreSmall}
+
+-- ---- numbers
+
+abbrev pub Holds : Field → List ℤ → Type 0
+Holds field zs = Takes field zs × AreNarrow field zs
+
+-- the numbers of one field
+pub one_field : (field : Field) (zs : List ℤ) → AreOf Holds (field ∷ []) zs → Holds field zs
+one_field field zs p = subst (λ (ys : List ℤ). Holds field ys) (sym (p.2 ∙ ap (λ (t : List ℤ). p.0 ++ t) p.4 ∙ append-nil p.0)) p.3
+
+pub naturals : (least greatest : ℕ) (zs : List ℤ) → AreBetween (pos least) (pos greatest) zs → AllByRecursion (λ x. (least ≤ x) × (x ≤ greatest)) (map nat_abs zs)
+naturals least greatest [] b = tt
+naturals least greatest (negsuc n ∷ zs) b = absurd (omega (arith, ints, b.0.0))
+naturals least greatest (pos n ∷ zs) b = ((omega (arith, ints, b.0.0), omega (arith, ints, b.0.1)), naturals least greatest zs b.1)
+
+pub fits_from : (word : List ℕ) (count least greatest : ℕ) (r : Record) → Fits (small_form word count least greatest) r → AreFrom count least greatest (map nat_abs r.numbers)
+fits_from word count least greatest r f =
+    let p = one_field (small count least greatest) r.numbers f.1 in
+    record { long = length-map r.numbers nat_abs ∙ p.0.0; each = naturals least greatest r.numbers p.0.1 }
+
+pub one_number : (least greatest : ℕ) (zs : List ℤ) → Holds (small 1 least greatest) zs → (n : ℕ) × (zs ≡ pos n ∷ []) × ((least ≤ n) × (n ≤ greatest))
+one_number least greatest [] p = absurd (let e = p.0.0 in omega (arith, e))
+one_number least greatest (pos n ∷ []) p = (n, refl, (omega (arith, ints, p.0.1.0.0), omega (arith, ints, p.0.1.0.1)))
+one_number least greatest (negsuc n ∷ []) p = absurd (omega (arith, ints, p.0.1.0.0))
+one_number least greatest (y ∷ z ∷ zs) p = absurd (let e = p.0.0 in omega (arith, e))
+
+pub record_is : (r : Record) (words : List (List ℕ)) (numbers : List ℤ) → r.words ≡ words → r.numbers ≡ numbers → r ≡ record { words = words; numbers = numbers }
+record_is r words numbers w n = ap₂ (λ (ws : List (List ℕ)) (zs : List ℤ). record { words = ws; numbers = zs }) w n
+
+-- ---- the places of tests
+
+-- the tests are of the head or of so many records
+abbrev pub PartsWithin : ℕ → List {1} Test → Type 0
+PartsWithin k [] = Unit {0}
+PartsWithin k (t ∷ ts) = (t.part ≤ k) × PartsWithin k ts
+
+pub part_within : (k : ℕ) (ts : List {1} Test) (part code : ℕ) → PartsWithin k ts → FailsFirst ts part code → part ≤ k
+part_within k [] part code w f = absurd f
+part_within k (t ∷ ts) part code w (inl f) = omega (arith, w.0, f.1)
+part_within k (t ∷ ts) part code w (inr f) = part_within k ts part code w.1 f.1
+
+-- ---- small numbers
+
+pub small_list : (least greatest : ℕ) (zs : List ℤ) → greatest < 2 ^ 32 → AreBetween (pos least) (pos greatest) zs → AreSmall zs
+small_list least greatest [] lt b = tt
+small_list least greatest (negsuc n ∷ zs) lt b = absurd (omega (arith, ints, b.0.0))
+small_list least greatest (pos n ∷ zs) lt b = ((n, refl, omega (arith, ints, lt, b.0.1)), small_list least greatest zs lt b.1)
+
+pub form_small : (word : List ℕ) (count least greatest : ℕ) (r : Record) → greatest < 2 ^ 32 → Fits (small_form word count least greatest) r → AreSmall r.numbers
+form_small word count least greatest r lt f = let p = one_field (small count least greatest) r.numbers f.1 in small_list least greatest r.numbers lt p.0.1

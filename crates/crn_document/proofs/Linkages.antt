@@ -1,0 +1,225 @@
+-- The linkage classes that are known before a block, by the verdicts on all questions before it.
+use Rattle.std.proofs.Common.{◌≡◌, ◌≤◌, ◌<◌, ◌+◌, ◌-◌, ◌++◌, ◌∙◌, ℕ, zero, suc, Bool, true, false, List, [], ◌∷◌, length, map, take, drop, refl, sym, subst, ap, inl, inr, arith}
+use Rattle.std.specs.Prelude.{codes, filter, if◌then◌else◌}
+use Rattle.std.proofs.Common.{cond, ap₂, append_assoc, ◌==◌, Result, Ok, Err, OnOk, Bor}
+use Rattle.std.specs.List.{AllByRecursion, range_with_len}
+use Rattle.std.proofs.lemmas.List.Elements.{filter-append}
+use Rattle.std.proofs.lemmas.List.FromFn.{length-range_with_len, length-map-range_with_len}
+use Rattle.crn_vec.specs.Lists.{IsIn, IsAbove, IsAscending}
+use Rattle.crn_vec.specs.Network.{Net}
+use Rattle.crn_vec.specs.declared.limits.TheConstants.{MAX_COMPLEXES, MAX_REACTIONS}
+use Rattle.crn_cert.specs.declared.answer.Gap.TheVariants.{Wide, Budget, Rests}
+use Rattle.crn_cert.specs.declared.answer.Verdict.{Verdict}
+use Rattle.crn_cert.specs.declared.answer.Verdict.TheVariants.{Classes, Unknown}
+use Rattle.crn_cert.specs.Built.{built}
+use Rattle.crn_cert.specs.Questions.{Earlier, Question, Q1, number, on, labels_of, count_of}
+use Rattle.crn_cert.specs.FormedVerdicts.{IsFormedVerdict}
+use Rattle.crn_ctext.specs.Records.{Members}
+use Rattle.crn_ctext.specs.Kinds.{record_form}
+use Rattle.crn_ctext.specs.declared.expect.Due.TheVariants.{Base as DueBase}
+use Rattle.crn_check.specs.Facts.{KeptFacts, HoldsOn}
+use Rattle.crn_check.specs.Check.{IsBuilt}
+use Rattle.crn_check.proofs.CallerLemmas.{formed_on}
+use Rattle.crn_document.specs.declared.linkage.Linkage.{Linkage}
+use Rattle.crn_document.specs.Inner.Parts.{IsKnown, IsLinkage, class_counts, is_in_class, members_of}
+use Rattle.crn_document.specs.Inner.Heads.{FitsCounts, counts_before}
+use Rattle.crn_document.specs.Inner.Records.{IsBaseDue}
+use Rattle.crn_cert.specs.Valid.{linkage, linkage_count, class_places}
+use Rattle.crn_ctext.specs.Meaning.{lengths}
+
+-- the number of classes and the labels that a verdict on linkage classes says
+linkage_fits : (net : Net) (e : Earlier) (v : Verdict) → IsFormedVerdict net e Q1 v → (length (labels_of v) ≤ length net.complexes) × (count_of v ≤ length net.complexes)
+linkage_fits net e (Classes count label) h = (let l = h.1.long in omega (arith, l), h.0.1)
+linkage_fits net e (Unknown (Wide system class index basis)) h = absurd h.0
+linkage_fits net e (Unknown (Budget nodes)) h = absurd h.0
+linkage_fits net e (Unknown (Rests question)) h = absurd h.0
+linkage_fits net e v h = absurd h.0
+
+none_yet : (es : Earlier) → map (λ (e : Question × Verdict). e.0) es ≡ [] → es ≡ []
+none_yet [] is = refl
+none_yet (e ∷ es) is = absurd cc
+
+first_of : (es : Earlier) (qs : List Question) → map (λ (e : Question × Verdict). e.0) es ≡ Q1 ∷ qs → HoldsOn es 1
+first_of [] qs is = absurd cc
+first_of (e ∷ es) qs is = let same : e.0 ≡ Q1 = cc in inl (sym (ap number same))
+
+-- the verdict on the first question is held before all later ones
+pub holds_first : (net : Net) (n : ℕ) (facts : KeptFacts) → IsBuilt n → (n ≡ 1 → ⊥) → IsKnown net n facts → HoldsOn facts.earlier 1
+holds_first net n facts (inl e) differs k = absurd (differs e)
+holds_first net n facts (inr (inl e)) differs k = first_of facts.earlier [] (k.so_far ∙ ap (λ (m : ℕ). take (m - 1) built) e)
+holds_first net n facts (inr (inr (inl e))) differs k = first_of facts.earlier _ (k.so_far ∙ ap (λ (m : ℕ). take (m - 1) built) e)
+holds_first net n facts (inr (inr (inr (inl e)))) differs k = first_of facts.earlier _ (k.so_far ∙ ap (λ (m : ℕ). take (m - 1) built) e)
+holds_first net n facts (inr (inr (inr (inr (inl e))))) differs k = first_of facts.earlier _ (k.so_far ∙ ap (λ (m : ℕ). take (m - 1) built) e)
+holds_first net n facts (inr (inr (inr (inr (inr (inl e)))))) differs k = first_of facts.earlier _ (k.so_far ∙ ap (λ (m : ℕ). take (m - 1) built) e)
+holds_first net n facts (inr (inr (inr (inr (inr (inr (inl e))))))) differs k = first_of facts.earlier _ (k.so_far ∙ ap (λ (m : ℕ). take (m - 1) built) e)
+holds_first net n facts (inr (inr (inr (inr (inr (inr (inr (inl e)))))))) differs k = first_of facts.earlier _ (k.so_far ∙ ap (λ (m : ℕ). take (m - 1) built) e)
+holds_first net n facts (inr (inr (inr (inr (inr (inr (inr (inr none)))))))) differs k = absurd none
+
+-- no class is known before the first block
+pub linkage_none : (net : Net) (n : ℕ) (facts : KeptFacts) (l : Linkage) → IsKnown net n facts → n ≡ 1 → l.labels.now ≡ [] → l.count ≡ 0 → IsLinkage facts.earlier l
+linkage_none net n facts l k first labels count =
+    let none : facts.earlier ≡ [] = none_yet facts.earlier (k.so_far ∙ ap (λ (m : ℕ). take (m - 1) built) first) in record {
+      labels_are = labels ∙ sym (ap (λ (es : Earlier). labels_of (on es Q1)) none);
+      count_is = count ∙ sym (ap (λ (es : Earlier). count_of (on es Q1)) none);
+      long = (let e = ap (λ (x : List ℕ). length x) labels in omega (arith, e));
+      few = omega (arith, count);
+    }
+
+-- later the classes are those of the first verdict
+pub linkage_is : (net : Net) (n : ℕ) (facts : KeptFacts) (v : Verdict) (l : Linkage) → IsBuilt n → (n ≡ 1 → ⊥) → IsKnown net n facts → v ≡ on facts.earlier Q1 → l.labels.now ≡ labels_of v → l.count ≡ count_of v → IsLinkage facts.earlier l
+linkage_is net n facts v l built differs k is labels count =
+    let f = formed_on net [] facts.earlier Q1 k.facts_of.formed (holds_first net n facts built differs k) in
+    let fits = linkage_fits net f.0 (on facts.earlier Q1) f.1 in
+    let limit = k.network.partial.complexes_limit in
+    let same = labels ∙ ap (λ (w : Verdict). labels_of w) is in
+    let most = count ∙ ap (λ (w : Verdict). count_of w) is in record {
+      labels_are = same;
+      count_is = most;
+      long = (let e = ap (λ (x : List ℕ). length x) same in let f0 = fits.0 in omega (arith, e, f0, limit));
+      few = (let f1 = fits.1 in omega (arith, most, f1, limit));
+    }
+
+-- ---- the members of a class, one reaction after another
+
+range_more : (a n : ℕ) → range_with_len a (suc n) ≡ range_with_len a n ++ (a + n) ∷ []
+range_more a zero = ap (λ (k : ℕ). k ∷ []) (omega arith)
+range_more a (suc n) = ap (λ (t : List ℕ). a ∷ t) (range_more (a + 1) n ∙ ap (λ (k : ℕ). range_with_len (a + 1) n ++ k ∷ []) (omega arith))
+
+pub filter_step : (net : Net) (labels : List ℕ) (k n : ℕ) → filter (λ r. is_in_class net labels k r) (range_with_len 1 (n + 1)) ≡ filter (λ r. is_in_class net labels k r) (range_with_len 1 n) ++ filter (λ r. is_in_class net labels k r) ((n + 1) ∷ [])
+filter_step net labels k n =
+    let p : ℕ → Bool = λ r. is_in_class net labels k r in
+    let m : n + 1 ≡ suc n = omega arith in
+    let w : 1 + n ≡ n + 1 = omega arith in
+    ap (λ (j : ℕ). filter p (range_with_len 1 j)) m ∙ ap (λ (t : List ℕ). filter p t) (range_more 1 n) ∙ filter-append p (range_with_len 1 n) ((1 + n) ∷ []) ∙ ap (λ (j : ℕ). filter p (range_with_len 1 n) ++ filter p (j ∷ [])) w
+
+le_cons : (b : Bool) (x : ℕ) (xs ys : List ℕ) → length ys ≤ length xs → length (cond b (x ∷ ys) ys) ≤ length (x ∷ xs)
+le_cons true x xs ys l = omega (arith, l)
+le_cons false x xs ys l = omega (arith, l)
+
+filter_le : (p : ℕ → Bool) (xs : List ℕ) → length (filter p xs) ≤ length xs
+filter_le p [] = omega arith
+filter_le p (x ∷ xs) = le_cons (p x) x xs (filter p xs) (filter_le p xs)
+
+pub members_few : (net : Net) (labels : List ℕ) (k : ℕ) → length (members_of net labels k) ≤ length net.reactions
+members_few net labels k = let l = length-range_with_len 1 (length net.reactions) in let f = filter_le (λ r. is_in_class net labels k r) (range_with_len 1 (length net.reactions)) in omega (arith, l, f)
+
+in_cons : (b : Bool) (n x : ℕ) (xs ys : List ℕ) → (IsIn n ys → IsIn n xs) → IsIn n (cond b (x ∷ ys) ys) → IsIn n (x ∷ xs)
+in_cons true n x xs ys f (inl e) = inl e
+in_cons true n x xs ys f (inr i) = inr (f i)
+in_cons false n x xs ys f i = inr (f i)
+
+in_filter : (p : ℕ → Bool) (n : ℕ) (xs : List ℕ) → IsIn n (filter p xs) → IsIn n xs
+in_filter p n [] i = absurd i
+in_filter p n (x ∷ xs) i = in_cons (p x) n x xs (filter p xs) (in_filter p n xs) i
+
+in_range : (n a m : ℕ) → IsIn n (range_with_len a m) → n < a + m
+in_range n a zero i = absurd i
+in_range n a (suc m) (inl e) = omega (arith, e)
+in_range n a (suc m) (inr i) = let l = in_range n (a + 1) m i in omega (arith, l)
+
+-- the members of a class are reactions
+pub member_few : (net : Net) (labels : List ℕ) (k n : ℕ) → IsIn n (members_of net labels k) → n ≤ length net.reactions
+member_few net labels k n i = let l = in_range n 1 (length net.reactions) (in_filter (λ r. is_in_class net labels k r) n (range_with_len 1 (length net.reactions)) i) in omega (arith, l)
+
+lower : (k x : ℕ) (xs : List ℕ) → k < x → IsAbove x xs → IsAbove k xs
+lower k x [] lt a = tt
+lower k x (y ∷ xs) lt a = (omega (arith, lt, a.0), a.1)
+
+kept_above : (p : ℕ → Bool) (k : ℕ) (xs : List ℕ) → IsAbove k xs → IsAbove k (filter p xs)
+kept_above p k [] a = tt
+kept_above p k (x ∷ xs) a = by (p x) (kept_above p x xs a.1) (kept_above p k xs (lower k x xs a.0 a.1))
+  where
+    by : (t : Bool) → IsAbove x (filter p xs) → IsAbove k (filter p xs) → IsAbove k (cond t (x ∷ filter p xs) (filter p xs))
+    by true more rest = (a.0, more)
+    by false more rest = rest
+
+range_above : (k a n : ℕ) → k < a → IsAbove k (range_with_len a n)
+range_above k a zero lt = tt
+range_above k a (suc n) lt = (lt, range_above a (a + 1) n (omega arith))
+
+above_ascending : (k : ℕ) (xs : List ℕ) → IsAbove k xs → IsAscending xs
+above_ascending k [] a = tt
+above_ascending k (x ∷ xs) a = a.1
+
+-- the members of a class are ascending
+pub members_ascending : (net : Net) (labels : List ℕ) (k : ℕ) → IsAscending (members_of net labels k)
+members_ascending net labels k = above_ascending 0 (members_of net labels k) (kept_above (λ r. is_in_class net labels k r) 0 (range_with_len 1 (length net.reactions)) (range_above 0 1 (length net.reactions) (omega arith)))
+
+all_few : (most : ℕ) (xs : List ℕ) → ((n : ℕ) → IsIn n xs → n ≤ most) → AllByRecursion (λ m. m ≤ most) xs
+all_few most [] h = tt
+all_few most (x ∷ xs) h = (h x (inl refl), all_few most xs (λ n i. h n (inr i)))
+
+-- a base of the members of a class may be due
+pub base_due : (net : Net) (labels : List ℕ) (k rank : ℕ) (members : Bor (List ℕ)) → length net.reactions ≤ MAX_REACTIONS → rank ≤ MAX_REACTIONS → members.now ≡ members_of net labels k → IsBaseDue (record_form (codes "base") (Members rank (members_of net labels k) ∷ [])) (DueBase rank members)
+base_due net labels k rank members few le is = (
+  ap (λ (ms : List ℕ). record_form (codes "base") (Members rank ms ∷ [])) is,
+  λ version. (omega (arith, le), subst IsAscending (sym is) (members_ascending net labels k), subst (λ (ms : List ℕ). AllByRecursion (λ m. m ≤ MAX_REACTIONS) ms) (sym is) (all_few MAX_REACTIONS (members_of net labels k) (λ n i. let l = member_few net labels k n i in omega (arith, l, few)))),
+)
+
+-- class 0 has all reactions
+all_pass : (labels : List ℕ) (net : Net) (xs : List ℕ) → filter (λ r. is_in_class net labels 0 r) xs ≡ xs
+all_pass labels net [] = refl
+all_pass labels net (x ∷ xs) = ap (λ (t : List ℕ). x ∷ t) (all_pass labels net xs)
+
+pub members_all : (net : Net) (labels : List ℕ) → members_of net labels 0 ≡ range_with_len 1 (length net.reactions)
+members_all net labels = all_pass labels net (range_with_len 1 (length net.reactions))
+
+-- there are at most as many classes as the limit of complexes
+pub count_few : (net : Net) (n : ℕ) (facts : KeptFacts) → IsBuilt n → IsKnown net n facts → count_of (on facts.earlier Q1) ≤ MAX_COMPLEXES
+count_few net n facts (inl e) k =
+    let none : facts.earlier ≡ [] = none_yet facts.earlier (k.so_far ∙ ap (λ (m : ℕ). take (m - 1) built) e) in
+    let zero_is = ap (λ (es : Earlier). count_of (on es Q1)) none in omega (arith, zero_is)
+count_few net n facts (inr more) k =
+    let f = formed_on net [] facts.earlier Q1 k.facts_of.formed (holds_first net n facts (inr more) (later_than more) k) in
+    let fits = linkage_fits net f.0 (on facts.earlier Q1) f.1 in
+    let f1 = fits.1 in
+    let limit = k.network.partial.complexes_limit in omega (arith, f1, limit)
+  where
+    later_than : IsIn n (map number (drop 1 built)) → n ≡ 1 → ⊥
+    later_than (inl e) d = absurd (omega (arith, d, e))
+    later_than (inr (inl e)) d = absurd (omega (arith, d, e))
+    later_than (inr (inr (inl e))) d = absurd (omega (arith, d, e))
+    later_than (inr (inr (inr (inl e)))) d = absurd (omega (arith, d, e))
+    later_than (inr (inr (inr (inr (inl e))))) d = absurd (omega (arith, d, e))
+    later_than (inr (inr (inr (inr (inr (inl e)))))) d = absurd (omega (arith, d, e))
+    later_than (inr (inr (inr (inr (inr (inr (inl e))))))) d = absurd (omega (arith, d, e))
+    later_than (inr (inr (inr (inr (inr (inr (inr none))))))) d = none
+
+-- ---- how many reactions the classes have
+
+pub on_ok : {T E : Type 0} (r : Result T E) (P Q : Type 0) → (P → Q) → OnOk r P → OnOk r Q
+on_ok (Ok t) P Q f p = f p
+on_ok (Err e) P Q f p = p
+
+counts_next : (net : Net) (labels : List ℕ) (k n : ℕ) → (n ≡ 0 → ⊥) → class_counts net labels k n ≡ length (members_of net labels k) ∷ class_counts net labels (k + 1) (n - 1)
+counts_next net labels k zero some = absurd (some refl)
+counts_next net labels k (suc n) some = let m : n ≡ suc n - 1 = omega arith in ap (λ (j : ℕ). length (members_of net labels k) ∷ class_counts net labels (k + 1) j) m
+
+pub counts_push : (net : Net) (labels : List ℕ) (k n here : ℕ) (old mid new : List ℕ) → (n ≡ 0 → ⊥) → here ≡ length (members_of net labels k) → mid ≡ old ++ here ∷ [] → new ≡ mid ++ class_counts net labels (k + 1) (n - 1) → new ≡ old ++ class_counts net labels k n
+counts_push net labels k n here old mid new some is pushed grown =
+    grown ∙ ap (λ (t : List ℕ). t ++ class_counts net labels (k + 1) (n - 1)) (pushed ∙ ap (λ (x : ℕ). old ++ x ∷ []) is) ∙ append_assoc old (length (members_of net labels k) ∷ []) (class_counts net labels (k + 1) (n - 1)) ∙ ap (λ (t : List ℕ). old ++ t) (sym (counts_next net labels k n some))
+
+each_few : (net : Net) (labels : List ℕ) (ks : List ℕ) → length net.reactions ≤ MAX_REACTIONS → AllByRecursion (λ r. r ≤ MAX_REACTIONS) (map (λ j. length (members_of net labels j)) ks)
+each_few net labels [] few = tt
+each_few net labels (k ∷ ks) few = ((let m = members_few net labels k in omega (arith, m, few)), each_few net labels ks few)
+
+if_few : (b : Bool) (xs : List ℕ) → length xs ≤ MAX_COMPLEXES → AllByRecursion (λ r. r ≤ MAX_REACTIONS) xs → (length (if b then xs else []) ≤ MAX_COMPLEXES) × AllByRecursion (λ r. r ≤ MAX_REACTIONS) (if b then xs else [])
+if_few true xs l e = (l, e)
+if_few false xs l e = (omega arith, tt)
+
+pub before_few : (net : Net) (labels : List ℕ) (n count : ℕ) → length net.reactions ≤ MAX_REACTIONS → count ≤ MAX_COMPLEXES → (length (counts_before net labels n count) ≤ MAX_COMPLEXES) × AllByRecursion (λ r. r ≤ MAX_REACTIONS) (counts_before net labels n count)
+before_few net labels n count few most =
+    let l = length-map-range_with_len (λ j. length (members_of net labels j)) 1 count in
+    if_few (n == 6) (class_counts net labels 1 count) (omega (arith, l, most)) (each_few net labels (range_with_len 1 count) few)
+
+counts_are : (net : Net) (earlier : Earlier) (k n : ℕ) → class_counts net (linkage earlier) (suc k) n ≡ lengths (map (λ j. class_places net earlier j) (range_with_len (suc k) n))
+counts_are net earlier k zero = refl
+counts_are net earlier k (suc n) =
+    let m : suc k + 1 ≡ suc (suc k) = omega arith in
+    ap (λ (t : List ℕ). length (class_places net earlier (suc k)) ∷ t) (ap (λ (j : ℕ). class_counts net (linkage earlier) j n) m ∙ counts_are net earlier (suc k) n ∙ ap (λ (j : ℕ). lengths (map (λ j. class_places net earlier j) (range_with_len j n))) (sym m))
+
+-- the numbers of reactions that are counted are those on which the forms of a head rest
+pub counts_fit : (net : Net) (earlier : Earlier) (n : ℕ) (l : Linkage) (counts : List ℕ) → IsLinkage earlier l → counts ≡ counts_before net l.labels.now n l.count → FitsCounts net earlier n counts
+counts_fit net earlier n l counts k is six =
+    is ∙ ap (λ (m : ℕ). counts_before net l.labels.now m l.count) six
+    ∙ ap₂ (λ (ls : List ℕ) (c : ℕ). class_counts net ls 1 c) k.labels_are k.count_is ∙ counts_are net earlier 0 (linkage_count earlier)

@@ -1,0 +1,26 @@
+use Rattle.std.proofs.Common.{refl, ap, List, [], ◌∷◌, ◌∙◌}
+use Rattle.std.specs.Prelude.{pos}
+use Rattle.crn_ctext.specs.Records.{Form}
+use Rattle.crn_ctext.specs.Blocks.{place_of}
+use Rattle.crn_ctext.specs.Expect.{sizes_of}
+use Rattle.crn_ctext.specs.Meaning.{sizes_of as known_sizes}
+use Rattle.crn_document.specs.Inner.Heads.{known_of}
+use Rattle.crn_document.proofs.Heads.{heads_by_sizes, number_of_built}
+use Rattle.crn_document.proofs.head.head_expect.Goals as goal
+
+pub returns-clause-due : goal.returns-clause-due
+returns-clause-due c = λ earlier fits.
+    let z = c.sizes_of-sizes.ensures in
+    let same = heads_by_sizes c.args.question c.requires.built (sizes_of c.sizes_of-sizes.result) (known_sizes (known_of c.args.net.now earlier)) z.species z.complexes z.reactions (λ six. z.classes ∙ fits six) in record {
+      may = record { version = c.requires.version; sizes = z.within; due = number_of_built c.args.question c.requires.built };
+      of_version = refl;
+      after = refl;
+      has = same;
+      misplaced = refl;
+    }
+
+pub returns-clause-tag : goal.returns-clause-tag
+returns-clause-tag c = λ earlier r fits.
+    let z = c.sizes_of-sizes.ensures in
+    let same = heads_by_sizes c.args.question c.requires.built (sizes_of c.sizes_of-sizes.result) (known_sizes (known_of c.args.net.now earlier)) z.species z.complexes z.reactions (λ six. z.classes ∙ fits six) in
+    ap (λ (fs : List Form). pos (place_of fs r.words) ∷ []) same

@@ -1,0 +1,9 @@
+use Rattle.std.proofs.Common.{◌≡◌}
+use Rattle.std.specs.Prelude.{filter}
+use Rattle.std.specs.List.{range_with_len}
+use Rattle.crn_document.specs.Inner.Parts.{is_in_class}
+use Rattle.crn_document.proofs.linkage.fill_members.Given as goal
+
+-- the list holds the members among the reactions so far
+abbrev pub invariant-loop-r : goal.invariant-loop-r
+invariant-loop-r l = l.into.list ≡ filter (λ r. is_in_class l.fn.net l.fn.labels l.fn.class r) (range_with_len 1 l.r)

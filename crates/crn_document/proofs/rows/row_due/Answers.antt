@@ -1,0 +1,15 @@
+use Rattle.std.proofs.Common.{inl, subst, arith, ◌≤◌, length}
+use Rattle.crn_vec.specs.declared.limits.TheConstants.{MAX_REACTIONS}
+use Rattle.crn_document.specs.declared.rows.Row.{Row}
+use Rattle.crn_document.specs.Inner.Records.{AreMembers, MayBeRow}
+use Rattle.crn_document.proofs.Linkages.{base_due}
+use Rattle.crn_document.proofs.rows.row_due.Goals as goal
+
+pub returns-in-Base : goal.returns-in-Base
+returns-in-Base c =
+    let net = c.args.below.now.net.now in
+    let labels = c.args.below.now.labels.now in
+    let few : length net.reactions ≤ MAX_REACTIONS = (let e = c.reactions-r.ensures.count in let l = c.reactions-r.ensures.limit in omega (arith, e, l)) in
+    let may = subst (λ (row : Row). MayBeRow row) c.in-Base.is c.requires.may in
+    let members = subst (λ (row : Row). AreMembers net labels row c.args.members.now) c.in-Base.is c.requires.members in
+    rw c.in-Base.is (inl (base_due net labels c.in-Base.class c.in-Base.rank c.args.members few may members))

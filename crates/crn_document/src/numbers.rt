@@ -1,0 +1,65 @@
+ghost use Rattle.std.specs.Prelude.{◌≡◌, [], nat_abs, drop, IfOk};
+ghost use Rattle.crn_ctext.specs.Meaning.{number, nums, ints};
+ghost use Rattle.crn_document.specs.Inner.Answer.{IsSmall, AreSmall};
+
+use crn_vec::{Ints, NoMemory, Nums};
+use std::alloc::Global;
+
+// A small number of a record.
+pub(crate) fn small(value: i128) -> u32
+    requires { IsSmall value }
+    ensures { result ≡ nat_abs value }
+{
+    value as u32
+}
+
+// The number at this place of a record of small numbers, counted from 0, and 0 if there is none.
+pub(crate) fn number_of(row: &[i128], i: usize) -> u32
+    requires { AreSmall row.now }
+    ensures { result ≡ number row.now i }
+{
+    match row.get(i) {
+        Some(value) => small(*value),
+        None => 0,
+    }
+}
+
+// The numbers of a record, which are small.
+pub(crate) fn nums_of(alloc: Global, row: &[i128]) -> Result<Nums, NoMemory>
+    requires { AreSmall row.now }
+    ensures { IfOk result (λ made. made ≡ nums row.now) }
+{
+    let mut items = Vec::with_capacity(alloc, row.len())?;
+    for value in row {
+        items.push(small(*value))?;
+    }
+    Ok(Nums::from_vec(items))
+}
+
+// The numbers of a record.
+pub(crate) fn ints_of(alloc: Global, row: &[i128]) -> Result<Ints, NoMemory>
+    ensures { IfOk result (λ made. made ≡ ints row.now) }
+{
+    Ints::from_slice(alloc, row)
+}
+
+// A list without numbers. It takes no memory.
+pub(crate) fn no_nums(alloc: Global) -> Nums
+    ensures { result ≡ nums [] }
+{
+    Nums::from_vec(Vec::new(alloc))
+}
+
+// A list without signed numbers. It takes no memory.
+pub(crate) fn no_ints(alloc: Global) -> Ints
+    ensures { result ≡ ints [] }
+{
+    Ints::from_vec(Vec::new(alloc))
+}
+
+// The numbers of a head after so many.
+pub(crate) fn after(head: &[i128], count: usize) -> &[i128]
+    ensures { result.now ≡ drop count head.now }
+{
+    head.get(count..).unwrap_or(&[])
+}

@@ -1,0 +1,205 @@
+ghost use Rattle.std.specs.Prelude.{◌≡◌, ◌≤◌, ◌<◌, ◌+◌, ◌*◌, ◌^◌, ◌++◌, [], length, IfOk, OnOk};
+ghost use Rattle.crn_vec.specs.Network.{IsNetwork};
+ghost use Rattle.crn_vec.specs.declared.limits.TheConstants.{MAX_COMPLEXES};
+ghost use Rattle.crn_io.specs.declared.lines.TheConstants.{MAX_NUMBERS};
+ghost use Rattle.crn_cert.specs.Questions.{Q5, Q6};
+ghost use Rattle.crn_ctext.specs.Meaning.{number};
+ghost use Rattle.crn_ctext.specs.Questions.{later_numbers};
+ghost use Rattle.crn_check.specs.Check.{IsBuilt};
+ghost use Rattle.crn_document.specs.Inner.Answer.{AreSmall};
+ghost use Rattle.crn_document.specs.Inner.Heads.{counts_before};
+ghost use Rattle.crn_document.specs.Inner.Parts.{class_part, class_parts, class_counts, parts_at, parts_below};
+
+use crate::linkage::{complexes_of, count_members};
+use crate::numbers::{number_of, small};
+use crn_io::NoMemory;
+use crn_net::Network;
+use crn_vec::Nums;
+use std::alloc::Global;
+
+// Some records below a head that prove the rank of a linkage class, or of the network for class 0, and how many
+// reactions it has.
+#[derive(Clone, Copy)]
+pub(crate) struct Part {
+    pub(crate) class: u32,
+    pub(crate) rank: u32,
+    pub(crate) count: u32,
+}
+
+// The records of the linkage class with this deficiency.
+fn class_part(
+    net: &Network,
+    labels: &[u32],
+    class: u32,
+    deficiency: u32,
+    members: &mut Nums,
+) -> Result<Part, NoMemory>
+    requires network { IsNetwork net.now }
+    requires few { length labels.now ≤ MAX_COMPLEXES }
+    ensures { IfOk result (λ part. part ≡ class_part net.now labels.now class deficiency) }
+{
+    let complexes = complexes_of(labels, class);
+    Ok(Part {
+        class,
+        rank: complexes.saturating_sub(1).saturating_sub(deficiency),
+        count: count_members(net, labels, class, members)?,
+    })
+}
+
+// Adds the records of the linkage classes with these deficiencies, the first of which is of this class.
+fn push_classes(
+    net: &Network,
+    labels: &[u32],
+    class: u32,
+    numbers: &[i128],
+    members: &mut Nums,
+    into: &mut Vec<Part>,
+) -> Result<(), NoMemory>
+    requires network { IsNetwork net.now }
+    requires few { length labels.now ≤ MAX_COMPLEXES }
+    requires small { AreSmall numbers.now }
+    requires classes { class + length numbers.now < 2 ^ 31 }
+    ensures { OnOk result (into.new.items
+        ≡ into.old.items ++ class_parts net.now labels.now class numbers.now) }
+{
+    match numbers.split_first() {
+        None => Ok(()),
+        Some((number, rest)) => {
+            into.push(class_part(net, labels, class, small(*number), members)?)?;
+            push_classes(net, labels, class + 1, rest, members, into)
+        }
+    }
+}
+
+// The deficiencies that a head says.
+fn deficiencies_in(head: &[i128]) -> &[i128]
+    ensures { result.now ≡ later_numbers (later_numbers head.now) }
+{
+    match head {
+        [_, _, rest @ ..] => rest,
+        _ => &[],
+    }
+}
+
+// The rank that the records below a decided head of question 5 prove.
+fn rank_parts(alloc: Global, net: &Network, head: &[i128]) -> Result<Vec<Part>, NoMemory>
+    requires small { AreSmall head.now }
+    requires decided { number head.now 0 ≡ 1 }
+    ensures { IfOk result (λ parts. parts.items
+        ≡ parts_at net.now [] Q5 (number head.now 0) (later_numbers head.now)) }
+{
+    let mut parts = Vec::new(alloc);
+    parts.push(Part {
+        class: 0,
+        rank: number_of(head, 1),
+        count: net.reactions() as u32,
+    })?;
+    Ok(parts)
+}
+
+// The ranks that the records below a decided head of question 6 prove.
+fn classes_parts(
+    alloc: Global,
+    net: &Network,
+    labels: &[u32],
+    head: &[i128],
+) -> Result<Vec<Part>, NoMemory>
+    requires network { IsNetwork net.now }
+    requires few { length labels.now ≤ MAX_COMPLEXES }
+    requires small { AreSmall head.now }
+    requires short { length head.now ≤ 2 * MAX_NUMBERS }
+    requires decided { number head.now 0 ≡ 1 }
+    ensures { IfOk result (λ parts. parts.items
+        ≡ parts_at net.now labels.now Q6 (number head.now 0) (later_numbers head.now)) }
+{
+    let mut parts = Vec::new(alloc);
+    let mut members = Nums::with_room(alloc, net.reactions())?;
+    push_classes(
+        net,
+        labels,
+        1,
+        deficiencies_in(head),
+        &mut members,
+        &mut parts,
+    )?;
+    Ok(parts)
+}
+
+// The ranks that the records below a head prove.
+pub(crate) fn parts_of(
+    alloc: Global,
+    net: &Network,
+    labels: &[u32],
+    question: u32,
+    head: &[i128],
+) -> Result<Vec<Part>, NoMemory>
+    requires built { IsBuilt question }
+    requires network { IsNetwork net.now }
+    requires few { length labels.now ≤ MAX_COMPLEXES }
+    requires small { AreSmall head.now }
+    requires short { length head.now ≤ 2 * MAX_NUMBERS }
+    ensures { IfOk result (λ parts. parts.items
+        ≡ parts_below net.now labels.now question head.now) }
+{
+    if number_of(head, 0) != 1 {
+        return Ok(Vec::new(alloc));
+    }
+    match question {
+        5 => rank_parts(alloc, net, head),
+        6 => classes_parts(alloc, net, labels, head),
+        _ => Ok(Vec::new(alloc)),
+    }
+}
+
+// Adds how many reactions each of so many linkage classes has, from this class on.
+fn push_counts(
+    net: &Network,
+    labels: &[u32],
+    class: u32,
+    count: u32,
+    members: &mut Nums,
+    into: &mut Nums,
+) -> Result<(), NoMemory>
+    requires network { IsNetwork net.now }
+    requires few { class + count < 2 ^ 31 }
+    ensures { OnOk result (into.new.list
+        ≡ into.old.list ++ class_counts net.now labels.now class count) }
+{
+    if count == 0 {
+        return Ok(());
+    }
+    let here = count_members(net, labels, class, members)?;
+    into.push(here)?;
+    push_counts(net, labels, class + 1, count - 1, members, into)
+}
+
+// How many reactions each of so many linkage classes has.
+fn counts_of(alloc: Global, net: &Network, labels: &[u32], count: u32) -> Result<Nums, NoMemory>
+    requires network { IsNetwork net.now }
+    requires few { count ≤ MAX_COMPLEXES }
+    ensures { IfOk result (λ made. made.list ≡ class_counts net.now labels.now 1 count) }
+{
+    let mut members = Nums::with_room(alloc, net.reactions())?;
+    let mut counts = Nums::with_room(alloc, count as usize)?;
+    push_counts(net, labels, 1, count, &mut members, &mut counts)?;
+    Ok(counts)
+}
+
+// How many reactions each linkage class has, if the forms of the head of this question rest on it.
+pub(crate) fn counts_before(
+    alloc: Global,
+    net: &Network,
+    labels: &[u32],
+    question: u32,
+    count: u32,
+) -> Result<Nums, NoMemory>
+    requires network { IsNetwork net.now }
+    requires few { count ≤ MAX_COMPLEXES }
+    ensures { IfOk result
+        (λ made. made.list ≡ counts_before net.now labels.now question count) }
+{
+    if question == 6 {
+        return counts_of(alloc, net, labels, count);
+    }
+    Ok(Nums::from_vec(Vec::new(alloc)))
+}

@@ -1,0 +1,41 @@
+-- The answer on the deficiencies is one of the crate of deficiencies, or rests on the rank.
+use Rattle.std.proofs.Common.{◌≡◌, ℕ, List, Some, None, refl, sym, ap, subst, ◌∙◌}
+use Rattle.crn_vec.specs.Network.{Net}
+use Rattle.crn_vec.specs.Rank.{IsRank}
+use Rattle.crn_vec.specs.Deficiency.{vectors}
+use Rattle.crn_cert.specs.declared.answer.Answer.{Answer}
+use Rattle.crn_cert.specs.declared.answer.Verdict.{Verdict}
+use Rattle.crn_cert.specs.declared.answer.Verdict.TheVariants.{Rank, Unknown}
+use Rattle.crn_cert.specs.Questions.{Earlier, Question, Q5, Q6, IsOpen, on, rank_of}
+use Rattle.crn_cert.specs.Formed.{IsFormed}
+use Rattle.crn_cert.specs.Valid.{linkage, linkage_count}
+use Rattle.crn_cert.specs.Licensed.{IsTrueOrLicensed}
+use Rattle.crn_defi.specs.Answered as given
+use Rattle.crn_defi.specs.Given.{GiveRank}
+use Rattle.crn_solve.specs.Inner.Answered.{IsAnswer, IsRankOrOpen}
+use Rattle.crn_solve.specs.Inner.Given.{rests_answer}
+
+same : {a b : ℕ} → Some a ≡ Some b → a ≡ b
+same e = cc
+
+none : {b : ℕ} {A : Type 0} → None ≡ Some b → A
+none e = absurd cc
+
+-- the verdict on the rank is the rank, or open
+pub rank_or_open : (net : Net) (budget : ℕ) (earlier : Earlier) (v : Verdict) → IsTrueOrLicensed net budget earlier Q5 v → IsRankOrOpen net v
+rank_or_open net budget earlier (Rank rank base) h = record { rank = λ s e. subst (IsRank (vectors net)) (same e) h.rank_is; or_open = λ e. none (sym e) }
+rank_or_open net budget earlier (Unknown gap) h = record { rank = λ s e. none e; or_open = λ e. tt }
+rank_or_open net budget earlier v h = absurd h
+
+-- the earlier verdicts give the linkage classes and the rank
+pub gives_rank : (earlier : Earlier) (labels : List ℕ) (count rank : ℕ) (v : Verdict) → rank_of v ≡ Some rank → linkage earlier ≡ labels → linkage_count earlier ≡ count → on earlier Q5 ≡ v → GiveRank earlier labels count rank
+gives_rank earlier labels count rank v r l c is = record { labels_are = l; count_is = c; rank_is = ap rank_of is ∙ r }
+
+pub answer_given : (net : Net) (budget : ℕ) (earlier : Earlier) (q : Question) (answer : Answer) → given.IsAnswer net budget earlier q answer → IsAnswer net budget earlier q answer
+answer_given net budget earlier q answer h = record { formed = h.formed; valid = h.valid; answered = h.answered }
+
+-- an open rank leaves the deficiencies open
+pub rests_given : (net : Net) (budget : ℕ) (earlier : Earlier) (v : Verdict) → IsOpen v → on earlier Q5 ≡ v → IsAnswer net budget earlier Q6 (rests_answer 5)
+rests_given net budget earlier v o is =
+    let formed : IsFormed net earlier Q6 (rests_answer 5) = (refl, refl) in
+    record { formed = formed; valid = tt; answered = (refl, subst IsOpen (sym is) o, tt) }
