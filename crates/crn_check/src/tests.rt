@@ -1010,36 +1010,6 @@ fn one_class(
     })
 }
 
-// An answer to question 6 for a network with two linkage classes.
-fn two_classes(
-    rt: &(impl Abort + AllocGlobal),
-    net: &Network,
-    facts: &Facts,
-    total: u32,
-    first: &ClassRank,
-    second: &ClassRank,
-) -> Result<Answer, Fail>
-    requires facts { AreFactsOf net.now facts.now }
-    requires held { HoldsOn facts.now.earlier 1 }
-    ensures { IfOk result (λ a. IsFormed net.now facts.now.earlier Q6 a) }
-{
-    let count = count_in(facts.verdict(1));
-    assert!(rt; count == 2);
-    assert!(rt; total as usize <= net.complexes());
-    assert!(rt; first.d as usize <= net.complexes());
-    assert!(rt; second.d as usize <= net.complexes());
-    let mut list = RankList::new(rt.alloc())?;
-    list.push(class_proof(rt, net, facts, 1, first)?)?;
-    list.push(class_proof(rt, net, facts, 2, second)?)?;
-    Ok(Answer {
-        verdict: Verdict::Deficiency {
-            total,
-            classes: Nums::from_slice(rt.alloc(), &[first.d, second.d])?,
-        },
-        proof: Proof::Ranks(list),
-    })
-}
-
 // The place of the fault of an answer to question 6.
 fn deficiency_place(net: &Network, facts: &mut Facts, answer: &Answer) -> (u32, u32)
     requires facts { AreFactsOf net.now facts.old }
@@ -1051,98 +1021,27 @@ fn deficiency_place(net: &Network, facts: &mut Facts, answer: &Answer) -> (u32, 
     place(check_answer(net, facts, 6, answer))
 }
 
-// An answer that leaves question 6 open because question 5 is.
-fn resting(net: &Network) -> Answer
-    ensures { (earlier : Earlier) → IsFormed net.now earlier Q6 result }
+// The place of the fault of an answer that leaves question 6 open because question 5 is.
+fn resting_place(net: &Network, facts: &mut Facts) -> (u32, u32)
+    requires facts { AreFactsOf net.now facts.old }
+    requires linkage { HoldsOn facts.old.earlier 1 }
+    requires rank { HoldsOn facts.old.earlier 5 }
+    requires later { HoldsNoneFrom 6 facts.old.earlier }
 {
-    let _ = net;
-    Answer {
+    let answer = Answer {
         verdict: Verdict::Unknown(Gap::Rests { question: 5 }),
         proof: Proof::Nothing,
-    }
+    };
+    deficiency_place(net, facts, &answer)
 }
 
-// An answer to question 6 for a reaction and its reverse, and the place of its fault.
-#[derive(Clone, Copy)]
-struct Paired {
-    total: u32,
-    class: ClassRank,
-    fault: (u32, u32),
-}
-
-fn paired_place(rt: &(impl Abort + AllocGlobal), row: &Paired) -> Result<(u32, u32), Fail> {
-    let net = network(rt, BOTH)?;
-    let rank = row_answer(rt, &net, &RANKED[0])?;
-    let mut facts = rank_known(rt, &net, &LINKED[0], &rank)?;
-    let answer = one_class(rt, &net, &facts, row.total, &row.class)?;
-    Ok(deficiency_place(&net, &mut facts, &answer))
-}
-
-const PAIRED: [Paired; 5] = [
-    // valid
-    Paired {
-        total: 0,
-        class: ClassRank {
-            d: 0,
-            base: &[1],
-            duals: &[&[-1, 0]],
-            combs: &[&[1, -1]],
-        },
-        fault: (0, 0),
-    },
-    // the deficiency of the network is not what is left
-    Paired {
-        total: 1,
-        class: ClassRank {
-            d: 0,
-            base: &[1],
-            duals: &[&[-1, 0]],
-            combs: &[&[1, -1]],
-        },
-        fault: (36, 0),
-    },
-    // the deficiency of the class leaves no rank
-    Paired {
-        total: 0,
-        class: ClassRank {
-            d: 1,
-            base: &[],
-            duals: &[],
-            combs: &[&[1], &[1]],
-        },
-        fault: (36, 0),
-    },
-    // the dual is not one
-    Paired {
-        total: 0,
-        class: ClassRank {
-            d: 0,
-            base: &[1],
-            duals: &[&[1, 1]],
-            combs: &[&[1, -1]],
-        },
-        fault: (33, 2),
-    },
-    // the combination is another vector
-    Paired {
-        total: 0,
-        class: ClassRank {
-            d: 0,
-            base: &[1],
-            duals: &[&[-1, 0]],
-            combs: &[&[1, 1]],
-        },
-        fault: (34, 3),
-    },
-];
-
-#[test]
-fn deficiencies_are_tested(rt: HostRuntime) -> Result<(), Fail> {
-    for row in PAIRED {
-        assert!(rt; same(paired_place(&rt, &row)?, row.fault));
-    }
-    Ok(())
-}
+// What shows the rank of the linkage class of a reaction and its reverse.
+const PAIR: ClassRank = ClassRank {
+    d: 0,
+    base: &[1],
+    duals: &[&[-1, 0]],
+    combs: &[&[1, -1]],
+};
 
 // Facts that leave the rank of a reaction and its reverse open.
 fn open_known(rt: &(impl Abort + AllocGlobal), net: &Network) -> Result<Facts, Fail>
@@ -1169,7 +1068,7 @@ fn has_basis(facts: &Facts, numbers: &[u32]) -> bool
 fn deficiencies_need_a_decided_rank(rt: HostRuntime) -> Result<(), Fail> {
     let net = network(&rt, BOTH)?;
     let mut facts = open_known(&rt, &net)?;
-    let decided = one_class(&rt, &net, &facts, 0, &PAIRED[0].class)?;
+    let decided = one_class(&rt, &net, &facts, 0, &PAIR)?;
     assert!(rt; same(deficiency_place(&net, &mut facts, &decided), (37, 0)));
     Ok(())
 }
@@ -1179,64 +1078,7 @@ fn deficiencies_may_rest_on_the_rank(rt: HostRuntime) -> Result<(), Fail> {
     let net = network(&rt, BOTH)?;
     let mut facts = open_known(&rt, &net)?;
     assert!(rt; has_basis(&facts, &[1, 3]));
-    assert!(rt; same(deficiency_place(&net, &mut facts, &resting(&net)), (0, 0)));
-    Ok(())
-}
-
-// Two reactions with their reverses, their classes and their rank.
-const TWO_PAIRS: &[(u32, u32)] = &[(0, 1), (1, 0), (2, 3), (3, 2)];
-
-const PAIRS_LINKED: Linked = Linked {
-    count: 2,
-    label: &[1, 1, 2, 2],
-    up: &[0, 1, 0, 3],
-    depth: &[0, 1, 0, 1],
-    fault: (0, 0),
-};
-
-const PAIRS_RANKED: Ranked = Ranked {
-    reactions: TWO_PAIRS,
-    base: &[1, 3],
-    duals: &[&[-1, 0, 0, 0], &[0, 0, -1, 0]],
-    combs: &[&[1, -1, 0], &[1, 0, -1]],
-    fault: (0, 0),
-};
-
-const FIRST_PAIR: ClassRank = ClassRank {
-    d: 0,
-    base: &[1],
-    duals: &[&[-1, 0, 0, 0]],
-    combs: &[&[1, -1]],
-};
-
-const SECOND_PAIR: ClassRank = ClassRank {
-    d: 0,
-    base: &[3],
-    duals: &[&[0, 0, -1, 0]],
-    combs: &[&[1, -1]],
-};
-
-// Its combination is another vector.
-const SECOND_WRONG: ClassRank = ClassRank {
-    d: 0,
-    base: &[3],
-    duals: &[&[0, 0, -1, 0]],
-    combs: &[&[1, 1]],
-};
-
-// The place of the fault of an answer on two linkage classes.
-fn pairs_place(rt: &(impl Abort + AllocGlobal), second: &ClassRank) -> Result<(u32, u32), Fail> {
-    let net = network(rt, TWO_PAIRS)?;
-    let rank = row_answer(rt, &net, &PAIRS_RANKED)?;
-    let mut facts = rank_known(rt, &net, &PAIRS_LINKED, &rank)?;
-    let answer = two_classes(rt, &net, &facts, 0, &FIRST_PAIR, second)?;
-    Ok(deficiency_place(&net, &mut facts, &answer))
-}
-
-#[test]
-fn each_class_is_tested_by_its_reactions(rt: HostRuntime) -> Result<(), Fail> {
-    assert!(rt; same(pairs_place(&rt, &SECOND_PAIR)?, (0, 0)));
-    assert!(rt; same(pairs_place(&rt, &SECOND_WRONG)?, (34, 6)));
+    assert!(rt; same(resting_place(&net, &mut facts), (0, 0)));
     Ok(())
 }
 
