@@ -13,6 +13,8 @@ pub mod ConfluenceTests
 pub mod Valid
 pub mod Formed
 pub mod Licensed
+pub mod Answered
+pub mod Given
 pub mod FormedVerdicts
 pub mod Heads
 pub mod Law

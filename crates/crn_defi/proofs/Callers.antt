@@ -18,7 +18,7 @@ use Rattle.crn_cert.specs.Law.{IsTrueOrOpen}
 use Rattle.crn_cert.proofs.CallerLemmas.{valid_answers_are_true}
 use Rattle.crn_graph.specs.declared.linkage_data.LinkageData.{LinkageData}
 use Rattle.crn_graph.specs.declared.strong_data.StrongData.{StrongData}
-use Rattle.crn_defi.specs.Answered.{IsAnswer}
+use Rattle.crn_cert.specs.Answered.{IsAnswer}
 
 pub true_or_open : (net : Net) (budget : ℕ) (earlier : Earlier) (q : Question) (v : Verdict) → IsTrueOrLicensed net budget earlier q v → IsTrueOrOpen net q v
 true_or_open net budget earlier q (Unknown gap) h = tt

@@ -21,8 +21,8 @@ use Rattle.crn_cert.specs.Says.{AreLinkageClasses}
 use Rattle.crn_cert.specs.Formed.{IsFormed, IsWideGap, IsBasisOf}
 use Rattle.crn_cert.specs.Valid.{linkage, linkage_count, IsValid, IsLeft}
 use Rattle.crn_cert.specs.Licensed.{IsClassWide}
-use Rattle.crn_defi.specs.Answered.{IsAnswer}
-use Rattle.crn_defi.specs.Given.{GiveRank}
+use Rattle.crn_cert.specs.Answered.{IsAnswer}
+use Rattle.crn_cert.specs.Given.{GiveRank}
 use Rattle.crn_defi.specs.Inner.Ranked.{reactions_of, IsClass, AreClassRanks}
 use Rattle.crn_defi.proofs.Places.{reactions_count}
 use Rattle.crn_defi.proofs.Counted.{number_of_classes}

@@ -21,8 +21,8 @@ use Rattle.crn_cert.specs.Licensed.{IsTrueOrLicensed}
 use Rattle.crn_cert.specs.ClassTests.{DoLevelsFall}
 use Rattle.crn_cert.specs.Law.{IsTrueOrOpen}
 use Rattle.crn_cert.proofs.CallerLemmas.{valid_answers_are_true}
-use Rattle.crn_defi.specs.Answered.{IsAnswer}
-use Rattle.crn_defi.specs.Given.{GiveClasses}
+use Rattle.crn_cert.specs.Answered.{IsAnswer}
+use Rattle.crn_cert.specs.Given.{GiveClasses}
 use Rattle.crn_defi.specs.Inner.Terminals.{is_terminal_in, terminals_of, HaveOneUpTo, IsFirstWithMore, IsVerdictOn, IsFewOrOpen, IsVerdictAfter}
 use Rattle.crn_defi.proofs.Counted.{labels_few}
 use Rattle.crn_defi.proofs.ClassRanks.{class_short}

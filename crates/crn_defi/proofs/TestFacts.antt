@@ -16,8 +16,8 @@ use Rattle.crn_cert.specs.Questions.{Earlier, Q1, Q5, Q6}
 use Rattle.crn_cert.specs.Law.{IsTrueOrOpen}
 use Rattle.crn_cert.proofs.CallerLemmas.{all_vectors, range_ascending, range_bounds}
 use Rattle.crn_rank.specs.Rank.{AreMembers, ProvesRank}
-use Rattle.crn_defi.specs.Answered.{IsAnswer}
-use Rattle.crn_defi.specs.Given.{GiveRank}
+use Rattle.crn_cert.specs.Answered.{IsAnswer}
+use Rattle.crn_cert.specs.Given.{GiveRank}
 use Rattle.crn_defi.proofs.Counted.{rank_from}
 use Rattle.crn_defi.proofs.Callers.{true_or_open}
 

@@ -10,8 +10,8 @@ use Rattle.crn_cert.specs.declared.answer.Proof.TheVariants.{Nothing}
 use Rattle.crn_cert.specs.Questions.{Earlier, Q4, Q5, Q9, on, rank_of, IsYes}
 use Rattle.crn_cert.specs.Says.{AreLinkageClasses}
 use Rattle.crn_cert.specs.Valid.{IsLeft}
-use Rattle.crn_defi.specs.Answered.{IsAnswer}
-use Rattle.crn_defi.specs.Given.{GiveRank}
+use Rattle.crn_cert.specs.Answered.{IsAnswer}
+use Rattle.crn_cert.specs.Given.{GiveRank}
 use Rattle.crn_defi.proofs.Counted.{number_of_classes}
 use Rattle.crn_defi.proofs.DeficiencyAnswers.{left_is, rank_known}
 

@@ -3,8 +3,8 @@ ghost use Rattle.crn_vec.specs.Rank.{IsRank};
 ghost use Rattle.crn_vec.specs.Deficiency.{vectors};
 ghost use Rattle.crn_cert.specs.Questions.{Earlier, Q6};
 ghost use Rattle.crn_cert.specs.Says.{AreLinkageClasses};
-ghost use Rattle.crn_defi.specs.Answered.{IsAnswer};
-ghost use Rattle.crn_defi.specs.Given.{GiveRank};
+ghost use Rattle.crn_cert.specs.Answered.{IsAnswer};
+ghost use Rattle.crn_cert.specs.Given.{GiveRank};
 ghost use Rattle.crn_defi.specs.Inner.Ranked.{AreClassRanks, IsStop, wide_answer};
 
 use crate::class_rank::{ClassStop, class_rank};

@@ -5,8 +5,8 @@ ghost use Rattle.crn_cert.specs.Questions.{Earlier, Q6, Q10, on};
 ghost use Rattle.crn_cert.specs.Says.{AreLinkageClasses, AreStrongClasses};
 ghost use Rattle.crn_cert.specs.ClassTests.{DoLevelsFall};
 ghost use Rattle.crn_cert.specs.Law.{IsTrueOrOpen};
-ghost use Rattle.crn_defi.specs.Answered.{IsAnswer};
-ghost use Rattle.crn_defi.specs.Given.{GiveClasses};
+ghost use Rattle.crn_cert.specs.Answered.{IsAnswer};
+ghost use Rattle.crn_cert.specs.Given.{GiveClasses};
 ghost use Rattle.crn_defi.specs.Inner.Terminals.{IsFewOrOpen, IsLarge, IsVerdictAfter, IsVerdictOn};
 
 use crate::laws::meets_definition;

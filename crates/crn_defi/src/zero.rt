@@ -4,8 +4,8 @@ ghost use Rattle.crn_vec.specs.Strong.{IsWeaklyReversible};
 ghost use Rattle.crn_vec.specs.Deficiency.{vectors};
 ghost use Rattle.crn_cert.specs.Questions.{Earlier, Q4, Q9, IsYes, on};
 ghost use Rattle.crn_cert.specs.Says.{AreLinkageClasses};
-ghost use Rattle.crn_defi.specs.Answered.{IsAnswer};
-ghost use Rattle.crn_defi.specs.Given.{GiveRank};
+ghost use Rattle.crn_cert.specs.Answered.{IsAnswer};
+ghost use Rattle.crn_cert.specs.Given.{GiveRank};
 
 use crate::deficiency::deficiency;
 use crate::laws::meets_definition;

@@ -10,7 +10,8 @@ use Rattle.crn_cert.specs.Says.{IsTrueOf}
 use Rattle.crn_cert.specs.Formed.{AreFormed}
 use Rattle.crn_cert.specs.Valid.{AreValid}
 use Rattle.crn_cert.specs.Licensed.{IsTrueOrLicensed, AllTrueOrLicensed}
-use Rattle.crn_solve.specs.Inner.Answered.{IsAnswer, IsDecidedAnswer}
+use Rattle.crn_cert.specs.Answered.{IsAnswer}
+use Rattle.crn_solve.specs.Inner.Answered.{IsDecidedAnswer}
 
 -- an answer to each question, after the earlier verdicts and those of the answers before
 abbrev pub AreAnswers : Net → ℕ → Earlier → List Question → List Answer → Type 0

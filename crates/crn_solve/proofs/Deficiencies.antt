@@ -10,9 +10,9 @@ use Rattle.crn_cert.specs.Questions.{Earlier, Question, Q5, Q6, IsOpen, on, rank
 use Rattle.crn_cert.specs.Formed.{IsFormed}
 use Rattle.crn_cert.specs.Valid.{linkage, linkage_count}
 use Rattle.crn_cert.specs.Licensed.{IsTrueOrLicensed}
-use Rattle.crn_defi.specs.Answered as given
-use Rattle.crn_defi.specs.Given.{GiveRank}
-use Rattle.crn_solve.specs.Inner.Answered.{IsAnswer, IsRankOrOpen}
+use Rattle.crn_cert.specs.Given.{GiveRank}
+use Rattle.crn_cert.specs.Answered.{IsAnswer}
+use Rattle.crn_solve.specs.Inner.Answered.{IsRankOrOpen}
 use Rattle.crn_solve.specs.Inner.Given.{rests_answer}
 
 same : {a b : ℕ} → Some a ≡ Some b → a ≡ b
@@ -30,9 +30,6 @@ rank_or_open net budget earlier v h = absurd h
 -- the earlier verdicts give the linkage classes and the rank
 pub gives_rank : (earlier : Earlier) (labels : List ℕ) (count rank : ℕ) (v : Verdict) → rank_of v ≡ Some rank → linkage earlier ≡ labels → linkage_count earlier ≡ count → on earlier Q5 ≡ v → GiveRank earlier labels count rank
 gives_rank earlier labels count rank v r l c is = record { labels_are = l; count_is = c; rank_is = ap rank_of is ∙ r }
-
-pub answer_given : (net : Net) (budget : ℕ) (earlier : Earlier) (q : Question) (answer : Answer) → given.IsAnswer net budget earlier q answer → IsAnswer net budget earlier q answer
-answer_given net budget earlier q answer h = record { formed = h.formed; valid = h.valid; answered = h.answered }
 
 -- an open rank leaves the deficiencies open
 pub rests_given : (net : Net) (budget : ℕ) (earlier : Earlier) (v : Verdict) → IsOpen v → on earlier Q5 ≡ v → IsAnswer net budget earlier Q6 (rests_answer 5)

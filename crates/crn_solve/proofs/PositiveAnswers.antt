@@ -20,7 +20,7 @@ use Rattle.crn_farkas.specs.declared.decision.Decision.{Decision}
 use Rattle.crn_farkas.specs.declared.decision.Decision.TheVariants.{Feasible, Infeasible}
 use Rattle.crn_farkas.specs.declared.fault.Stop.TheVariants.{Wide}
 use Rattle.crn_farkas.specs.Decision.{IsDecision, IsStop}
-use Rattle.crn_solve.specs.Inner.Answered.{IsAnswer}
+use Rattle.crn_cert.specs.Answered.{IsAnswer}
 use Rattle.crn_solve.specs.Inner.Given.{wide_answer, vector_answer}
 use Rattle.crn_solve.proofs.NetRows.{vectors_count, row_is, rows_count, column_is, combined_past}
 use Rattle.crn_solve.proofs.WideGaps.{wide_basis}

@@ -21,7 +21,7 @@ use Rattle.crn_cert.specs.Formed.{IsFormed, IsWideGap}
 use Rattle.crn_cert.specs.Valid.{IsValid}
 use Rattle.crn_cert.proofs.CallerLemmas.{valid_answers_are_true, all_vectors, range_ascending, range_bounds}
 use Rattle.crn_rank.specs.Rank.{AreMembers, ProvesRank, member_matrix}
-use Rattle.crn_solve.specs.Inner.Answered.{IsAnswer}
+use Rattle.crn_cert.specs.Answered.{IsAnswer}
 use Rattle.crn_solve.specs.Inner.Given.{IsRankAnswer, wide_answer}
 use Rattle.crn_solve.proofs.NetRows.{vectors_count}
 use Rattle.crn_solve.proofs.Ranks.{rank_from}

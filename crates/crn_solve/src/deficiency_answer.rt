@@ -2,7 +2,8 @@ ghost use Rattle.std.specs.Prelude.{◌≡◌, ℕ, IfOk};
 ghost use Rattle.crn_cert.specs.Questions.{Earlier, Q5, Q6, on, rank_of};
 ghost use Rattle.crn_cert.specs.Says.{AreLinkageClasses};
 ghost use Rattle.crn_cert.specs.Valid.{linkage, linkage_count};
-ghost use Rattle.crn_solve.specs.Inner.Answered.{IsAnswer, IsRankOrOpen};
+ghost use Rattle.crn_cert.specs.Answered.{IsAnswer};
+ghost use Rattle.crn_solve.specs.Inner.Answered.{IsRankOrOpen};
 
 use crate::open::rests_answer;
 use crn_cert::{Answer, Verdict};

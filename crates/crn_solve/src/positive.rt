@@ -3,7 +3,7 @@ ghost use Rattle.crn_vec.specs.declared.limits.TheConstants.{MAX_SIGNED};
 ghost use Rattle.crn_vec.specs.NetSystems.{positive_kinds};
 ghost use Rattle.crn_cert.specs.Questions.{Earlier, Q7, Q8};
 ghost use Rattle.crn_farkas.specs.Decision.{IsDecision, IsStop};
-ghost use Rattle.crn_solve.specs.Inner.Answered.{IsAnswer};
+ghost use Rattle.crn_cert.specs.Answered.{IsAnswer};
 ghost use Rattle.crn_solve.specs.Inner.Given.{vector_answer};
 
 use crate::laws::meets_definition;

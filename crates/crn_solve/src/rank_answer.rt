@@ -2,7 +2,7 @@ ghost use Rattle.std.specs.Prelude.{◌≡◌, ◌≤◌, ℕ, length, IfOk};
 ghost use Rattle.std.specs.List.{range_with_len};
 ghost use Rattle.crn_vec.specs.declared.limits.TheConstants.{MAX_REACTIONS};
 ghost use Rattle.crn_cert.specs.Questions.{Earlier, Q5};
-ghost use Rattle.crn_solve.specs.Inner.Answered.{IsAnswer};
+ghost use Rattle.crn_cert.specs.Answered.{IsAnswer};
 ghost use Rattle.crn_solve.specs.Inner.Given.{IsRankAnswer};
 
 use crate::laws::meets_definition;

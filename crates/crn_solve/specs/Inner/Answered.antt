@@ -12,14 +12,6 @@ use Rattle.crn_cert.specs.Ranges.{IsFrom}
 use Rattle.crn_cert.specs.Says.{IsReactionNumber, IsTrueOf}
 use Rattle.crn_cert.specs.Formed.{reactions, IsFormed}
 use Rattle.crn_cert.specs.Valid.{IsValid}
-use Rattle.crn_cert.specs.Licensed.{IsTrueOrLicensed}
-
--- a formed and valid answer whose verdict is true, or open and licensed
-pub record IsAnswer (net : Net) (budget : ℕ) (earlier : Earlier) (q : Question)
-    (answer : Answer) : Type 0 where
-  pub formed : IsFormed net earlier q answer
-  pub valid : IsValid net earlier q answer
-  pub answered : IsTrueOrLicensed net budget earlier q answer.verdict
 
 -- a formed and valid answer that is not open and whose verdict is true
 pub record IsDecidedAnswer (net : Net) (earlier : Earlier) (q : Question)

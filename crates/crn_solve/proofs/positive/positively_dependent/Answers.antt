@@ -4,7 +4,7 @@ use Rattle.crn_vec.specs.NetSystems.{positive_kinds}
 use Rattle.crn_cert.specs.Questions.{Q7}
 use Rattle.crn_farkas.specs.declared.fault.Stop.TheVariants.{Wide}
 use Rattle.crn_farkas.specs.Decision.{IsDecision, IsStop}
-use Rattle.crn_solve.specs.Inner.Answered.{IsAnswer}
+use Rattle.crn_cert.specs.Answered.{IsAnswer}
 use Rattle.crn_solve.proofs.PositiveAnswers.{dependence_decided, dependence_wide}
 use Rattle.crn_solve.proofs.positive.positively_dependent.Goals as goal
 
