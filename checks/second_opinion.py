@@ -3,14 +3,22 @@ nothing with it: the network that a text spells, the verdicts by their definitio
 check of a certificate.
 
 It is slow and plain on purpose: classes are found by closing relations, ranks by elimination with fractions, positive
-vectors by the simplex method with fractions and the least index first; tests are made in the order in which FORMATS
-lists them. The end-to-end checks compare it with the program.
+vectors by the simplex method and the least index first, concordance by the visit list (`second_search`); tests are made in
+the order in which FORMATS lists them. The end-to-end checks compare it with the program.
 """
 
+import functools
 import math
 import re
 from fractions import Fraction
 
+import second_search
+from second_search import cleared, independent, kernel, primitive
+
+# the questions that the program answers: all that follows here, in end_to_end.py and in the benches goes by this list
+BUILT = [1, 2, 3, 4, 5, 6, 7, 8]
+
+BUDGET = 20_000  # of a search, where none is said
 MAX_SPECIES, MAX_COMPLEXES, MAX_REACTIONS, MAX_AMOUNT, MAX_NAME = 60, 160, 240, 99, 32
 MAX_LINE, MAX_SHARED, MAX_NUMBERS = 16_384, 4_096, 400
 FREE, WIDE = 2**72, 2**62
@@ -142,30 +150,6 @@ def combined(weights, rows, width):
     return [sum(w * row[i] for w, row in zip(weights, rows)) for i in range(width)]
 
 
-def primitive(row):
-    """The row without the common divisor of its entries."""
-    divisor = math.gcd(*row)
-    return [x // divisor for x in row] if divisor > 1 else row
-
-
-def cleared(row, at, by):
-    """A positive multiple of the row, less one of another that is positive at this place, so that it is 0 there."""
-    return primitive([x * by[at] - row[at] * y for x, y in zip(row, by)]) if row[at] else row
-
-
-def independent(rows):
-    """The places of the rows that do not depend on those before them."""
-    kept, places = [], []
-    for place, row in enumerate(rows):
-        for pivot, other in kept:
-            row = cleared(row, pivot, other)
-        pivot = next((i for i, x in enumerate(row) if x), None)
-        if pivot is not None:
-            kept.append((pivot, row if row[pivot] > 0 else [-x for x in row]))
-            places.append(place)
-    return places
-
-
 def rank(rows):
     return len(independent(rows))
 
@@ -194,36 +178,15 @@ def whole(fractions):
 
 def positive(rows, width):
     """Whether positive numbers have the product 0 with each row: yes and such numbers, or no and multipliers of the rows
-    whose combination has no positive entry and is not zero.
-
-    The first phase of the simplex method looks for b with entries of at least 0 such that 1 + b is such a list. Columns are
-    b, one for each row, and the right side. The goal is the sum of all rows, to be brought to 0. Each line of the table is
-    kept as whole numbers, up to a positive factor.
-    """
+    whose combination has no positive entry and is not zero."""
     places = independent(rows)
-    chosen = [rows[place] for place in places]
-    signs = [1 if sum(row) <= 0 else -1 for row in chosen]
-    table = [
-        [sign * x for x in row] + [int(i == k) for i in range(len(chosen))] + [-sign * sum(row)]
-        for k, (sign, row) in enumerate(zip(signs, chosen))
-    ]
-    basis = [width + k for k in range(len(chosen))]
-    goal = [sum(column) for column in zip(*table)] or [0] * (width + 1)
-    while (enter := next((j for j in range(width) if goal[j] > 0), None)) is not None:
-        *_, leave = min((Fraction(row[-1], row[enter]), basis[k], k) for k, row in enumerate(table) if row[enter] > 0)
-        basis[leave] = enter
-        table = [row if k == leave else cleared(row, enter, table[leave]) for k, row in enumerate(table)]
-        goal = cleared(goal, enter, table[leave])
-    if goal[-1] == 0:
-        found = [Fraction(1)] * width
-        for k, row in zip(basis, table):
-            if k < width:
-                found[k] += Fraction(row[-1], row[k])
-        return True, whole(found)
+    is_yes, numbers = second_search.positive([rows[place] for place in places], width)
+    if is_yes:
+        return True, numbers
     multipliers = [0] * len(rows)
-    for k, place in enumerate(places):
-        multipliers[place] = signs[k] * goal[width + k]
-    return False, primitive(multipliers)
+    for number, place in zip(numbers, places):
+        multipliers[place] = number
+    return False, multipliers
 
 
 def is_positive(rows, x):
@@ -302,28 +265,154 @@ class Verdicts:
         """The first reactions, from 0, on whose vectors all vectors depend."""
         return independent(self.net.vectors)
 
-    def deficiencies(self):
-        """The deficiency, and those of the linkage classes."""
-        count = max(self.linkage)
-        classes = [
-            self.linkage.count(k) - 1 - rank([self.net.vectors[r] for r in self.members(k)]) for k in range(1, count + 1)
-        ]
-        return len(self.linkage) - count - len(self.base()), classes
-
     def of_class(self, k):
         return [self.net.vectors[r] for r in self.members(k)]
 
+    @functools.cached_property
+    def deficiencies(self):
+        """The deficiency, and those of the linkage classes."""
+        count = max(self.linkage)
+        classes = [self.linkage.count(k) - 1 - rank(self.of_class(k)) for k in range(1, count + 1)]
+        return len(self.linkage) - count - len(self.base()), classes
+
+    @functools.cached_property
     def dependent(self):
         return positive(self.net.by_species(), len(self.net.reactions))
 
+    @functools.cached_property
     def conservative(self):
         return positive(self.net.vectors, len(self.net.names))
+
+    def is_weak(self):
+        return not self.leaving
+
+    @functools.cached_property
+    def split(self):
+        """The first linkage class with several terminal classes, and how many, or None."""
+        return first_split(self.linkage, self.strong, self.left)
+
+    @functools.cached_property
+    def pairs(self):
+        """The first reaction, from 0, of each linked pair of complexes within a terminal class."""
+        return terminal_pairs(self.net, self.strong, self.left)
+
+    @functools.cached_property
+    def rounds(self):
+        """For each such reaction whose complexes are no cut pair: the reaction, and a walk round."""
+        found = ((r, walk_round(self.net, *self.net.reactions[r])) for r in self.pairs)
+        return [(r, walk) for r, walk in found if walk]
+
+    @functools.cached_property
+    def confluence(self):
+        """Independent vectors that span the confluence space, and the rows of system 4."""
+        rows = confluence_rows(self.net, self.linkage)
+        return kernel(rows, len(self.linkage)), rows
+
+    @functools.cached_property
+    def confluence_vector(self):
+        """The normal confluence vector, in a regular network whose space is a line."""
+        [g] = self.confluence[0]
+        gathers = gathering(g, self.strong, self.left)
+        turned = next(x for x in g if x) < 0 if self.is_weak() else any(x < 0 for x in gathers)
+        return [-x for x in g] if turned else g
+
+    @functools.cache
+    def searched(self, question, budget):
+        """How the search of question 14 or 15 ends."""
+        return second_search.search(second_search.Concordance(self.net, question == 15), budget)
+
+    def signals(self, turn):
+        """The sign problem of the confluence vector, or of its negative."""
+        return signal_problem(self.net, self.strong, self.left, self.pairs, [turn * x for x in self.confluence_vector])
+
+    @functools.cache
+    def signal(self, budget):
+        """How the search for a signal ends: `found` with the turn, the pattern and the solutions, `refuted` or `spent`."""
+        for turn in (1, -1) if self.is_weak() else (1,):
+            how, _, found = second_search.search(self.signals(turn), budget)
+            if how != "refuted":
+                return how, (turn, *found) if found else None
+        return "refuted", None
+
+
+def first_split(linkage, strong, left):
+    for k in range(1, max(linkage) + 1):
+        terminal = {label for label, of in zip(strong, linkage) if of == k and label not in left}
+        if len(terminal) > 1:
+            return k, len(terminal)
+    return None
+
+
+def terminal_pairs(net, strong, left):
+    """The first reaction, from 0, of each linked pair within a strong class that is not left."""
+    seen, first = set(), []
+    for r, (y, z) in enumerate(net.reactions):
+        if strong[y] == strong[z] and strong[y] not in left and (z, y) not in seen:
+            seen.add((y, z))
+            first.append(r)
+    return first
+
+
+def without(net, y, z):
+    """The links but those between these two complexes, both ways."""
+    links = [pair for pair in net.reactions if set(pair) != {y, z}]
+    return links + [(b, a) for a, b in links]
+
+
+def walk_round(net, y, z):
+    """A walk along links from y to z without a step between the two, or None."""
+    walks, links, due = {y: [y]}, without(net, y, z), [y]
+    for here in due:
+        for a, b in links:
+            if a == here and b not in walks:
+                walks[b] = [*walks[a], b]
+                due.append(b)
+    return walks.get(z)
+
+
+def side_of(net, y, z):
+    """The complexes that links join to z without a step between y and z."""
+    found, grows = {z}, True
+    while grows:
+        more = {b for a, b in without(net, y, z) if a in found} - found
+        found, grows = found | more, bool(more)
+    return found
+
+
+def confluence_rows(net, linkage):
+    """The amounts of each species in the complexes, and then the marks of each linkage class."""
+    amounts = [[amounts[s] for amounts in net.complexes] for s in range(len(net.names))]
+    return amounts + [[int(label == k) for label in linkage] for k in range(1, max(linkage) + 1)]
+
+
+def gathering(g, strong, left):
+    """The sums of g over the strong classes that are not left."""
+    return [sum(x for x, label in zip(g, strong) if label == k) for k in sorted(set(strong) - set(left))]
+
+
+def tops_of(strong, left):
+    """For each complex the number, from 0, of its terminal class, or None."""
+    terminal = sorted(set(strong) - set(left))
+    return [terminal.index(label) if label in terminal else None for label in strong]
+
+
+def signal_problem(net, strong, left, pairs, g, sides=None):
+    """The sign problem of a list g. `pairs` are reactions, from 0; `sides` has marks for each, if they are known."""
+    named = []
+    for i, r in enumerate(pairs):
+        y, z = net.reactions[r]
+        side = [c for c, mark in enumerate(sides[i]) if mark] if sides else side_of(net, y, z)
+        named.append((y, z, sum(g[c] for c in side)))
+    return second_search.Signals(net, tops_of(strong, left), named)
 
 
 TITLES = {
     1: "Q1 linkage classes", 2: "Q2 strong classes", 3: "Q3 reversible", 4: "Q4 weakly reversible", 5: "Q5 rank",
-    6: "Q6 deficiency", 7: "Q7 positively dependent", 8: "Q8 conservative",
+    6: "Q6 deficiency", 7: "Q7 positively dependent", 8: "Q8 conservative", 9: "Q9 deficiency zero theorem",
+    10: "Q10 deficiency one theorem", 11: "Q11 regular", 12: "Q12 confluence vector", 13: "Q13 signal", 14: "Q14 concordant",
+    15: "Q15 strongly concordant",
 }
+SHELVES = {1: "upper", 0: "middle", -1: "lower"}
 POSITIVE = {7: "positive combination", 8: "positive law"}
 
 
@@ -362,6 +451,43 @@ def wide_lines(question, system, of_class, index, basis):
     return answer(question, "open, wide", where, f"index {index}", f"basis: {numbers_text(basis)}")
 
 
+def split_lines(question, k, count):
+    return answer(question, f"{'no, ' if question == 11 else 'hypotheses fail, '}class {k} has {count} terminal classes")
+
+
+def zero_lines(deficiency, is_weak):
+    if deficiency:
+        return answer(9, f"hypotheses fail, deficiency {deficiency}")
+    return answer(9, f"hypotheses hold, {'' if is_weak else 'not '}weakly reversible")
+
+
+def one_lines(total, classes):
+    """For a network in which each linkage class has one terminal class."""
+    large = next(((k, d) for k, d in enumerate(classes, 1) if d > 1), None)
+    if large:
+        return answer(10, f"hypotheses fail, class {large[0]} has deficiency {large[1]}")
+    return answer(10, "hypotheses hold" if sum(classes) == total else f"hypotheses fail, class deficiencies sum to {sum(classes)}")
+
+
+def round_lines(net, r, walk):
+    """The reaction and the complexes count from 0."""
+    sides = "; ".join(net.side(c) for c in walk)
+    return answer(11, "no, a cycle in a terminal class", f"reaction {r + 1}, walk: {sides}")
+
+
+def plane_lines(one, two):
+    return answer(12, "not applicable, two independent vectors", *(f"vector: {numbers_text(g)}" for g in (one, two)))
+
+
+def signal_lines(turn, shelves, mu, m):
+    return answer(13, "yes", f"turn: {turn}", f"shelves: {' '.join(SHELVES[shelf] for shelf in shelves)}",
+                  f"mu: {numbers_text(mu)}", f"m: {m}")
+
+
+def pair_lines(question, change, alpha):
+    return answer(question, "no", f"sigma: {numbers_text(change)}", f"alpha: {numbers_text(alpha)}")
+
+
 def head_lines(net):
     return [
         "crn report 1",
@@ -371,7 +497,7 @@ def head_lines(net):
     ]
 
 
-def own_lines(v, question):
+def own_lines(v, question, budget=BUDGET):
     """The lines of a question as this program answers it; another reaction, base or vector may be as good."""
     net = v.net
     if question == 1:
@@ -385,18 +511,67 @@ def own_lines(v, question):
     if question == 5:
         return answer(5, len(v.base()), f"independent reactions: {numbers_text(r + 1 for r in v.base())}")
     if question == 6:
-        return deficiency_lines(*v.deficiencies())
-    return yes_or_no(question, *(v.dependent() if question == 7 else v.conservative()))
+        return deficiency_lines(*v.deficiencies)
+    if question in (7, 8):
+        return yes_or_no(question, *(v.dependent if question == 7 else v.conservative))
+    if question == 9:
+        return zero_lines(v.deficiencies[0], v.is_weak())
+    if question in (10, 11) and v.split:
+        return split_lines(question, *v.split)
+    if question == 10:
+        return one_lines(*v.deficiencies)
+    if question == 11:
+        return own_regular(v, v.dependent[0])
+    return own_confluence(v) if question == 12 else own_signal(v, budget) if question == 13 else own_pair(v, question, budget)
+
+
+def own_regular(v, is_dependent):
+    if is_dependent:
+        return round_lines(v.net, *v.rounds[0]) if v.rounds else answer(11, "yes")
+    return answer(11, "no, not positively dependent")
+
+
+def is_regular(v):
+    return not v.split and v.dependent[0] and not v.rounds
+
+
+def own_confluence(v):
+    if not is_regular(v):
+        return answer(12, "not applicable, not regular")
+    vectors, _ = v.confluence
+    if len(vectors) > 1:
+        return plane_lines(*vectors[:2])
+    if not vectors:
+        return answer(12, "not applicable, no vector but zero")
+    return answer(12, "yes", f"vector: {numbers_text(v.confluence_vector)}")
+
+
+def own_signal(v, budget):
+    if not is_regular(v) or len(v.confluence[0]) != 1:
+        return answer(13, "not applicable")
+    how, found = v.signal(budget)
+    if how == "found":
+        turn, prefix, (*mu, m), _ = found
+        return signal_lines(turn, prefix[: len(prefix) - len(mu)], mu, m)
+    return answer(13, "no" if how == "refuted" else f"open, budget {budget}")
+
+
+def own_pair(v, question, budget):
+    how, _, found = v.searched(question, budget)
+    if how == "found":
+        _, alpha, weights = found
+        return pair_lines(question, combined(weights, v.net.vectors, len(v.net.names)), alpha)
+    return answer(question, "yes" if how == "refuted" else f"open, budget {budget}")
 
 
 def is_open(lines):
     return lines[0].split(": ")[1].startswith("open")
 
 
-def report_of(net, said=None):
+def report_of(net, said=None, budget=BUDGET):
     """The report; `said` gives the lines of questions whose answer is known."""
     v, said = Verdicts(net), said or {}
-    blocks = [said.get(question) or own_lines(v, question) for question in TITLES]
+    blocks = [said.get(question) or own_lines(v, question, budget) for question in BUILT]
     lines = head_lines(net) + [line for block in blocks for line in block]
     return "".join(f"{line}\n" for line in [*lines, f"open: {sum(map(is_open, blocks))}"])
 
@@ -418,21 +593,48 @@ def wide_of(lines):
     return (int(where[1]), int(where[2] or 0), int(index[1]), basis) if where and index and basis else None
 
 
-def is_licensed(v, question, lines, rank_is_open):
-    """An open answer has its cause: the rank is open, or the basis and the index that it names are those of a wide
-    vector of the question's own system. Of questions 7 and 8 no single row decides it."""
-    if lines[0].endswith(": open, rests on Q5"):
-        return question == 6 and rank_is_open and len(lines) == 1
+def rests_on(v, question, opened):
+    """The open question that leaves this one open, or None."""
+    if question in (6, 9):
+        before, leaves = 5, True
+    elif question in (10, 11):
+        before, leaves = question - 4, not v.split and not (question == 11 and v.rounds)
+    else:
+        before, leaves = {12: 11, 13: 12}.get(question), True
+    return before if before in opened and leaves else None
+
+
+def has_vector(v):
+    return is_regular(v) and len(v.confluence[0]) == 1
+
+
+def system_rows(v, question, system, of_class):
+    """The matrix of a system that may leave the question open, or None."""
+    if question == 6:
+        return v.of_class(of_class) if system == 3 and 1 <= of_class <= max(v.linkage) else None
+    if (question, system) in ((5, 1), (8, 1)) and not of_class:
+        return v.net.vectors
+    if (question, system) in ((7, 2), (14, 2), (15, 2)) or (question, system) == (13, 2) and has_vector(v):
+        return None if of_class else v.net.by_species()
+    if (question, system) == (12, 4) and is_regular(v):
+        return None if of_class else v.confluence[1]
+    return v.signals(1).a.rows if (question, system, of_class) == (13, 5, 0) and has_vector(v) else None
+
+
+def is_licensed(v, question, lines, budget):
+    """An open answer that rests on no other has its cause: the visits of its search exceed the budget, or the basis and the
+    index that it names are those of a wide vector of the question's own system. Of questions 7 and 8 no single row decides
+    it."""
+    if lines[0].endswith(f": open, budget {budget}"):
+        if question == 13:
+            return len(lines) == 1 and has_vector(v) and v.signal(budget)[0] == "spent"
+        return len(lines) == 1 and question in (14, 15) and v.searched(question, budget)[0] == "spent"
     found = wide_of(lines) if lines[0].endswith(": open, wide") else None
     if found is None:
         return False
     system, of_class, index, basis = found
-    rows = {5: v.net.vectors, 7: v.net.by_species(), 8: v.net.vectors}.get(question)
-    if question == 6:
-        if rank_is_open or system != 3 or not 1 <= of_class <= max(v.linkage):
-            return False
-        rows = v.of_class(of_class)
-    elif (system, of_class) != ({5: 1, 7: 2, 8: 1}[question], 0):
+    rows = system_rows(v, question, system, of_class)
+    if rows is None:
         return False
     width = len(rows[0])
     in_range = all(1 <= b <= width + len(rows) for b in [index, *basis]) and sorted(set(basis)) == basis
@@ -440,33 +642,105 @@ def is_licensed(v, question, lines, rank_is_open):
     return in_range and free_of_cuts and names_wide(rows, width, index, basis)
 
 
-def is_right(v, question, lines, rank_is_open):
+def is_right(v, question, lines, opened, budget):
     """The lines of a question are right: as this program has them, with another list that is as good, or open with a
     cause."""
-    net = v.net
+    before = rests_on(v, question, opened)
+    if before:
+        return lines == answer(question, f"open, rests on Q{before}")
     if question > 4 and is_open(lines):
-        return is_licensed(v, question, lines, rank_is_open)
-    own = own_lines(v, question)
-    if question in (1, 2, 6):
-        return lines == own
+        return is_licensed(v, question, lines, budget)
+    own = own_regular(v, True) if question == 11 and 7 in opened and not v.split else own_lines(v, question, budget)
     if lines[0] != own[0] or len(lines) != len(own):
         return False
-    if question in (3, 4):
-        against = v.irreversible if question == 3 else v.leaving
-        return not against or any(lines == no_by_reaction(net, question, r) for r in against)
-    if question == 5:
-        base = numbers_after("independent reactions", lines[1])
-        return base and base == sorted(set(base)) and base[0] >= 1 and base[-1] <= len(net.reactions) \
-            and len(base) == len(v.base()) == rank([net.vectors[r - 1] for r in base])
-    rows = net.by_species() if question == 7 else net.vectors
+    if question < 5:
+        against = {3: v.irreversible, 4: v.leaving}.get(question)
+        return any(lines == no_by_reaction(v.net, question, r) for r in against) if against else lines == own
+    if len(own) == 1:
+        return True
+    shown = {5: is_base, 7: is_dependence, 8: is_conservation, 11: is_round, 12: is_confluence, 13: is_signal}
+    return shown.get(question, is_discordance)(v, question, lines)
+
+
+def is_base(v, question, lines):
+    base = numbers_after("independent reactions", lines[1])
+    return base and base == sorted(set(base)) and base[0] >= 1 and base[-1] <= len(v.net.reactions) \
+        and len(base) == len(v.base()) == rank([v.net.vectors[r - 1] for r in base])
+
+
+def free_list(title, line, length):
+    """The numbers of a line with this title, as many as they have to be and not too great, or None."""
+    numbers = numbers_after(title, line)
+    return numbers if numbers and len(numbers) == length and all(abs(x) < FREE for x in numbers) else None
+
+
+def is_shown(rows, question, lines):
     is_yes = lines[0].endswith(": yes")
-    numbers = numbers_after(POSITIVE[question] if is_yes else "multipliers", lines[1])
-    if not numbers or len(numbers) != len(rows[0] if is_yes else rows) or any(abs(x) >= FREE for x in numbers):
+    numbers = free_list(POSITIVE[question] if is_yes else "multipliers", lines[1], len(rows[0] if is_yes else rows))
+    return numbers and (is_positive(rows, numbers) if is_yes else rules_out(rows, len(rows[0]), numbers))
+
+
+def is_dependence(v, question, lines):
+    return is_shown(v.net.by_species(), question, lines)
+
+
+def is_conservation(v, question, lines):
+    return is_shown(v.net.vectors, question, lines)
+
+
+def is_round(v, question, lines):
+    found = re.fullmatch(r"  reaction ([1-9]\d*), walk: (.*)", lines[1])
+    if not found or int(found[1]) > len(v.net.reactions):
         return False
-    return is_positive(rows, numbers) if is_yes else rules_out(rows, len(rows[0]), numbers)
+    sides = [v.net.side(c) for c in range(len(v.net.complexes))]
+    r, walk = int(found[1]) - 1, found[2].split("; ")
+    return all(side in sides for side in walk) and is_way_round(v.net, v.strong, v.left, r, [sides.index(side) for side in walk])
 
 
-def judged(text, status, out):
+def is_way_round(net, strong, left, r, walk):
+    """The reaction is within a terminal class, and the walk goes from its reactant to its product by links that are not
+    between these two. All count from 0."""
+    y, z = net.reactions[r]
+    steps, links = list(zip(walk, walk[1:])), without(net, y, z)
+    return strong[y] == strong[z] and strong[y] not in left and 2 <= len(walk) <= len(net.complexes) \
+        and (walk[0], walk[-1]) == (y, z) and all(step in links for step in steps)
+
+
+def is_confluence(v, question, lines):
+    vectors = [free_list("vector", line, len(v.linkage)) for line in lines[1:]]
+    if len(vectors) == 1:
+        return vectors[0] == v.confluence_vector
+    return None not in vectors and all(product(row, g) == 0 for row in v.confluence[1] for g in vectors) \
+        and any(a and not b for a, b in zip(*vectors)) and any(b and not a for a, b in zip(*vectors))
+
+
+def is_signal(v, question, lines):
+    turn, shelves = re.fullmatch(r"  turn: (1|-1)", lines[1]), re.fullmatch(r"  shelves: (.*)", lines[2])
+    mu, m = free_list("mu", lines[3], len(v.net.names)), free_list("m", lines[4], 1)
+    if not (turn and shelves and mu and m) or turn[1] == "-1" and not v.is_weak():
+        return False
+    names, problem = {name: shelf for shelf, name in SHELVES.items()}, v.signals(int(turn[1]))
+    shelves = [names.get(word) for word in shelves[1].split(" ")]
+    if None in shelves or len(shelves) != problem.shelves or not any(mu):
+        return False
+    prefix = shelves + [sign_of(x) for x in mu]
+    return second_search.has_kinds(problem.kinds_a(prefix), problem.a.values([*mu, *m])) and problem.is_stoichiometric(mu)
+
+
+def sign_of(x):
+    return (x > 0) - (x < 0)
+
+
+def is_discordance(v, question, lines):
+    """The change is a combination of the vectors, the numbers cancel, and they go together."""
+    net, problem = v.net, second_search.Concordance(v.net, question == 15)
+    change, alpha = numbers_after("sigma", lines[1]), free_list("alpha", lines[2], len(v.net.reactions))
+    if not (change and alpha) or len(change) != len(net.names) or not any(change) or not problem.goes(alpha, change):
+        return False
+    return not any(combined(alpha, net.vectors, len(net.names))) and rank(net.vectors) == rank([*net.vectors, change])
+
+
+def judged(text, status, out, budget=BUDGET):
     """What is wrong with the report of a text that spells a network, and with its status; nothing where all is right."""
     net = read_network(text.decode("latin-1"))
     v, lines = Verdicts(net), out.decode("latin-1").split("\n")
@@ -474,13 +748,13 @@ def judged(text, status, out):
     if lines[: len(head)] != head or lines[-1] != "":
         return ["the head or the end"]
     wrong, at, opened = [], len(head), []
-    for question, title in TITLES.items():
+    for question in BUILT:
         end = at + 1
         while end < len(lines) and lines[end].startswith("  "):
             end += 1
         block, at = lines[at:end], end
-        if not block or not block[0].startswith(f"{title}: ") or not is_right(v, question, block, 5 in opened):
-            wrong.append(title)
+        if not block or not block[0].startswith(f"{TITLES[question]}: ") or not is_right(v, question, block, opened, budget):
+            wrong.append(TITLES[question])
         elif is_open(block):
             opened.append(question)
     if lines[at:] != [f"open: {len(opened)}", ""]:
@@ -502,6 +776,7 @@ class Reading:
 
     def __init__(self, text):
         self.text, self.at, self.number, self.version = text, 0, 0, 0
+        self.shared, self.after_tree = [], False
 
     def due(self, early=27):
         self.number += 1
@@ -515,13 +790,14 @@ class Reading:
 
     def record(self, forms, misplaced=26):
         """The place of the form and the numbers of the next line. A form is a list of words and a test of numbers."""
-        line = self.due(43 if misplaced == 43 else 27)
+        line, after_tree = self.due(43 if misplaced == 43 else 27), self.after_tree
+        self.after_tree = False
         word = line.split(b" ")[0].decode("latin-1")
         known = HEADS + ROWS + TREE[self.version] + (OF_VERSION_2 if self.version == 2 else [])
         if word not in known:
             raise Rejected(23, self.number)
         if all(form[0][0] != word for form in forms):
-            raise Rejected(misplaced, self.number)
+            raise Rejected(44 if after_tree and word in TREE[self.version] else misplaced, self.number)
         fields = line.decode("latin-1").split(" ")
         wide = False
         for place, (words, test) in enumerate(forms):
@@ -652,7 +928,7 @@ def check_strong(at, net, known):
             raise Rejected(31, head + 7)
     if leaves.count(0) != terminal:
         raise Rejected(36, head + 7)
-    known["strong"] = label
+    known["strong"], known["left"] = label, {k for k, r in enumerate(leaves, 1) if r}
 
 
 def check_reversible(at, net, known):
@@ -671,7 +947,7 @@ def check_reversible(at, net, known):
 
 def check_weak(at, net, known):
     place, numbers = at.record([(["q4", "yes"], none), (["q4", "no"], small(1, 1, len(net.reactions)))])
-    leaves = [known["strong"][y] != known["strong"][z] for y, z in net.reactions]
+    leaves, known["weak"] = [known["strong"][y] != known["strong"][z] for y, z in net.reactions], not place
     if not (leaves[numbers[0] - 1] if place else not any(leaves)):
         raise Rejected(37, at.number)
     return no_by_reaction(net, 4, numbers[0] - 1) if place else answer(4, "yes")
@@ -741,6 +1017,7 @@ def check_deficiency(at, net, known):
     for s, reactions in zip(ranks, classes):
         tests += rank_records(at, net, reactions, s)[1]
     hold(tests)
+    known["deficiencies"] = numbers[0], numbers[1:]
     return deficiency_lines(numbers[0], numbers[1:])
 
 
@@ -760,16 +1037,252 @@ def check_positive(at, question, system, rows):
 
 
 def check_dependent(at, net, known):
-    return check_positive(at, 7, 2, net.by_species())
+    lines = check_positive(at, 7, 2, net.by_species())
+    known["dependent"] = None if is_open(lines) else lines[0].endswith(": yes")
+    return lines
 
 
 def check_conservative(at, net, known):
     return check_positive(at, 8, 1, net.vectors)
 
 
+def check_zero(at, net, known):
+    complexes = len(net.complexes)
+    place, numbers = at.record([
+        (["q9", "yes"], small(1, 0, 1)), (["q9", "no"], small(1, 1, complexes)), (["q9", "open", "rests"], small(1, 5, 5)),
+    ])
+    if place == 2:
+        return answer(9, "open, rests on Q5")
+    if "rank" not in known:
+        raise Rejected(37, at.number)
+    deficiency = complexes - max(known["linkage"]) - known["rank"]
+    if place == 0 and (deficiency != 0 or bool(numbers[0]) != known["weak"]):
+        raise Rejected(37, at.number)
+    if place == 1 and numbers[0] != deficiency:
+        raise Rejected(36, at.number)
+    return zero_lines(deficiency, known["weak"])
+
+
+def two_in(first, second):
+    """Two numbers, each in its range."""
+    return lambda ns: [] if len(ns) == 2 and all(a <= n <= b for n, (a, b) in zip(ns, (first, second))) else None
+
+
+def check_one(at, net, known):
+    complexes, count = len(net.complexes), max(known["linkage"])
+    of_class = two_in((1, count), (2, complexes))
+    place, numbers = at.record([
+        (["q10", "yes"], none), (["q10", "no", "terminal"], of_class), (["q10", "no", "class"], of_class),
+        (["q10", "no", "sum"], small(1, 0, complexes)), (["q10", "open", "rests"], small(1, 6, 6)),
+    ])
+    if place == 4:
+        return answer(10, "open, rests on Q6")
+    split = first_split(known["linkage"], known["strong"], known["left"])
+    if place == 1:
+        lines = split_lines(10, *numbers)
+        said = split and lines == split_lines(10, *split)
+    else:
+        lines = [
+            answer(10, "hypotheses hold"), None, answer(10, "hypotheses fail, class {} has deficiency {}".format(*numbers, 0, 0)),
+            answer(10, "hypotheses fail, class deficiencies sum to {}".format(*numbers, 0)),
+        ][place]
+        said = not split and "deficiencies" in known and lines == one_lines(*known["deficiencies"])
+    if not said:
+        raise Rejected(37, at.number)
+    return lines
+
+
+def check_regular(at, net, known):
+    complexes, reactions, count = len(net.complexes), len(net.reactions), max(known["linkage"])
+    place, numbers = at.record([
+        (["q11", "yes"], none), (["q11", "no", "terminal"], two_in((1, count), (2, complexes))),
+        (["q11", "no", "dependence"], none), (["q11", "no", "cycle"], small(1, 1, reactions)),
+        (["q11", "open", "rests"], small(1, 7, 7)),
+    ])
+    known["regular"] = [True, False, False, False, None][place]
+    if place == 4:
+        return answer(11, "open, rests on Q7")
+    strong, left = known["strong"], known["left"]
+    split, dependent = first_split(known["linkage"], strong, left), known["dependent"]
+    if place == 1:
+        holds = split == tuple(numbers)
+    elif place == 3:
+        y, z = net.reactions[numbers[0] - 1]
+        holds = not split and dependent is not False and strong[y] == strong[z] and strong[y] not in left
+    else:
+        holds = not split and dependent is (place == 0)
+    if not holds:
+        raise Rejected(37, at.number)
+    if place == 1:
+        return split_lines(11, *split)
+    if place == 2:
+        return answer(11, "no, not positively dependent")
+    if place == 3:
+        r = numbers[0] - 1
+        _, walk = at.record([(["walk"], lambda ns: [] if small(len(ns), 1, complexes)(ns) == [] and 2 <= len(ns) <= complexes else None)])
+        if not is_way_round(net, strong, left, r, [c - 1 for c in walk]):
+            raise Rejected(32, at.number)
+        return round_lines(net, r, [c - 1 for c in walk])
+    return check_sides(at, net, known)
+
+
+def check_sides(at, net, known):
+    """One record for each linked pair within a terminal class; they are kept for question 13."""
+    pairs, label, tests = terminal_pairs(net, known["strong"], known["left"]), known["linkage"], []
+    known["sides"] = []
+    for r in pairs:
+        _, (_, *marks) = at.record([(["side"], lambda ns, r=r: [] if ns[:1] == [r + 1] and small(len(net.complexes), 0, 1)(ns[1:]) == [] else None)])
+        y, z = net.reactions[r]
+        holds = (marks[y], marks[z]) == (0, 1) and not any(mark for mark, k in zip(marks, label) if k != label[y]) \
+            and all(marks[a] == marks[b] for a, b in net.reactions if {a, b} != {y, z})
+        tests.append((35, at.number, holds))
+        known["sides"].append(marks)
+    hold(tests)
+    return answer(11, "yes")
+
+
+def two_apart(complexes):
+    return lambda ns: [] if len(ns) == 2 and ns[0] != ns[1] and all(1 <= n <= complexes for n in ns) else None
+
+
+def check_confluence(at, net, known):
+    complexes, rows = len(net.complexes), confluence_rows(net, known["linkage"])
+    place, numbers = at.record([
+        (["q12", "yes"], none), (["q12", "none", "regular"], none), (["q12", "none", "zero"], none),
+        (["q12", "none", "plane"], two_apart(complexes)), (["q12", "open", "wide"], wide(4, complexes, len(rows))),
+        (["q12", "open", "rests"], small(1, 11, 11)),
+    ])
+    known["confluence"] = "open" if place > 3 else None
+    if place > 3:
+        return wide_lines(12, 4, 0, numbers[2], numbers[3:]) if place == 4 else answer(12, "open, rests on Q11")
+    if known["regular"] is not (place != 1):
+        raise Rejected(37, at.number)
+    if place == 1:
+        return answer(12, "not applicable, not regular")
+    in_space = lambda g: all(product(row, g) == 0 for row in rows)
+    if place == 3:
+        c, d = numbers[0] - 1, numbers[1] - 1
+        vectors, tests = [], []
+        for one, other in ((c, d), (d, c)):
+            _, g = at.record([(["vec"], free(complexes, complexes))])
+            tests.append((35, at.number, in_space(g) and g[one] != 0 and g[other] == 0))
+            vectors.append(g)
+        hold(tests)
+        return plane_lines(*vectors)
+    g, tests, least = [], [], complexes
+    if place == 0:
+        _, g = at.record([(["vec"], free(complexes, complexes))])
+        least = next((c for c, x in enumerate(g) if x), 0)
+        gathers = all(x >= 0 for x in gathering(g, known["strong"], known["left"]))
+        normal = in_space(g) and math.gcd(*g) == 1 and gathers and not (known["weak"] and g[least] < 0)
+        tests.append((35, at.number, normal))
+    for c in range(complexes):
+        if c == least:
+            continue
+        _, multipliers = at.record([(["tie"], free(len(rows), len(rows)))])
+        ties = combined(multipliers, rows, complexes)
+        tests.append((35, at.number, all((x != 0) == (k == c) for k, x in enumerate(ties) if k != least)))
+    hold(tests)
+    known["confluence"] = g or None
+    return answer(12, "yes", f"vector: {numbers_text(g)}") if g else answer(12, "not applicable, no vector but zero")
+
+
+def check_tree(at, problem):
+    """The nodes of a tree that leaves no full prefix standing, each tested at its line."""
+    due = [[]]
+    species = len(problem.b.rows)
+    forms = [(["split"], none), (["flat"], none), (["cuta"], free(len(problem.a.rows), len(problem.a.rows))),
+             (["cutb"], free(species, species))]
+    if at.version == 2:
+        forms += [([word], small(1, 1, len(at.shared))) for word in ("refa", "refb")]
+    while due:
+        place, numbers = at.record(forms, 43)
+        prefix = due.pop()
+        if place == 0:
+            if len(prefix) == problem.length:
+                raise Rejected(42, at.number)
+            due += reversed(second_search.children(prefix))
+        elif place == 1:
+            if not problem.closed(prefix):
+                raise Rejected(42, at.number)
+        else:
+            is_a = place % 2 == 0
+            part = problem.a if is_a else problem.b
+            numbers = at.shared[numbers[0] - 1] if place > 3 else numbers
+            if len(numbers) != len(part.rows):
+                raise Rejected(46, at.number)
+            if not part.excludes(problem.kinds_a(prefix) if is_a else problem.kinds_b(prefix), numbers):
+                raise Rejected(41, at.number)
+    at.after_tree = True
+
+
+def check_signal(at, net, known):
+    species, reactions, g = len(net.names), len(net.reactions), known["confluence"]
+    has_g = g not in (None, "open")
+    pairs = terminal_pairs(net, known["strong"], known["left"]) if has_g else []
+    fifth = wide(5, species + 1, len(net.complexes) + len(pairs))
+    place, numbers = at.record([
+        (["q13", "yes"], lambda ns: [] if ns in ([1], [-1]) else None), (["q13", "no"], none), (["q13", "none"], none),
+        (["q13", "open", "wide"], wide(2, reactions, species)),
+        (["q13", "open", "wide"], fifth if has_g else lambda ns: None),
+        (["q13", "open", "budget"], small(1, 1, 100_000)), (["q13", "open", "rests"], small(1, 12, 12)),
+    ])
+    if place > 4:
+        return answer(13, f"open, budget {numbers[0]}" if place == 5 else "open, rests on Q12")
+    if place > 2:
+        return wide_lines(13, numbers[0], 0, numbers[2], numbers[3:])
+    if g == "open" or has_g is not (place != 2) or (place == 0 and numbers == [-1] and not known["weak"]):
+        raise Rejected(37, at.number)
+    if place == 2:
+        return answer(13, "not applicable")
+
+    def problem(turn):
+        turned = [turn * x for x in g]
+        return signal_problem(net, known["strong"], known["left"], pairs, turned, known["sides"])
+
+    if place == 1:
+        for turn in (1, -1) if known["weak"] else (1,):
+            check_tree(at, problem(turn))
+        return answer(13, "no")
+    signals = problem(numbers[0])
+    _, shelves = at.record([(["shelves"], small(signals.shelves, -1, 1))])
+    _, mu = at.record([(["mu"], free(species, species))])
+    _, (m,) = at.record([(["m"], free(1, 1))])
+    _, weights = at.record([(["weights"], free(reactions, reactions))])
+    hold([(45, at.number, signals.shows(shelves, mu, m, weights))])
+    return signal_lines(numbers[0], shelves, mu, m)
+
+
+def check_pair(at, net, question):
+    species, reactions, word = len(net.names), len(net.reactions), f"q{question}"
+    place, numbers = at.record([
+        ([word, "yes"], none), ([word, "no"], none), ([word, "open", "wide"], wide(2, reactions, species)),
+        ([word, "open", "budget"], small(1, 1, 100_000)),
+    ])
+    if place > 1:
+        return wide_lines(question, 2, 0, numbers[2], numbers[3:]) if place == 2 else answer(question, f"open, budget {numbers[0]}")
+    problem = second_search.Concordance(net, question == 15)
+    if place == 0:
+        check_tree(at, problem)
+        return answer(question, "yes")
+    _, alpha = at.record([(["alpha"], free(reactions, reactions))])
+    _, weights = at.record([(["weights"], free(reactions, reactions))])
+    hold([(45, at.number, problem.shows(alpha, weights))])
+    return pair_lines(question, combined(weights, net.vectors, species), alpha)
+
+
+def check_concordant(at, net, known):
+    return check_pair(at, net, 14)
+
+
+def check_strongly_concordant(at, net, known):
+    return check_pair(at, net, 15)
+
+
 BLOCKS = [
     (1, check_linkage), (2, check_strong), (3, check_reversible), (4, check_weak), (5, check_rank),
-    (6, check_deficiency), (7, check_dependent), (8, check_conservative),
+    (6, check_deficiency), (7, check_dependent), (8, check_conservative), (9, check_zero), (10, check_one),
+    (11, check_regular), (12, check_confluence), (13, check_signal), (14, check_concordant), (15, check_strongly_concordant),
 ]
 SECTIONS = {1: "graph", 5: "rank", 7: "dependence", 9: "theorems", 11: "confluence", 14: "concordance"}
 
@@ -783,16 +1296,17 @@ def check_document(text):
     second = at.due().decode("latin-1")
     if not re.fullmatch(r"network [1-9][0-9]{0,2}", second) or int(second[8:]) > MAX_REACTIONS:
         raise Rejected(22, 2)
-    lines = b"".join(at.due() + b"\n" for _ in range(int(second[8:]))).decode("latin-1")
+    lines = b"".join([at.due() + b"\n" for _ in range(int(second[8:]))]).decode("latin-1")
     net = read_network(lines)
     if not net or net.canonical() != lines:
         raise Rejected(22, at.number)
     known, said = {}, {}
     if at.version == 2:
         _, (count,) = at.record([(["vectors"], small(1, 0, MAX_SHARED))])
-        for _ in range(count):
-            at.record([(["vector"], free(1, MAX_NUMBERS))])
+        at.shared = [at.record([(["vector"], free(1, MAX_NUMBERS))])[1] for _ in range(count)]
     for question, check in BLOCKS:
+        if question not in BUILT:
+            continue
         if at.version == 2 and question in SECTIONS:
             at.record([(["section", SECTIONS[question]], none)])
         said[question] = check(at, net, known)
@@ -813,6 +1327,7 @@ def check(text):
     return 0, report_of(net, said).encode()
 
 
-def report(text):
+def report(text, budget=BUDGET):
     """A status and bytes with which `report` may answer a text that spells a network."""
-    return 0, report_of(read_network(text.decode("latin-1"))).encode()
+    out = report_of(read_network(text.decode("latin-1")), None, budget).encode()
+    return int(not out.endswith(b"\nopen: 0\n")), out
