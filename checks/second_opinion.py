@@ -1287,6 +1287,49 @@ BLOCKS = [
 SECTIONS = {1: "graph", 5: "rank", 7: "dependence", 9: "theorems", 11: "confluence", 14: "concordance"}
 
 
+def tree_lines(problem):
+    """The nodes of a tree that leaves no full prefix standing. It is there if the search finds none."""
+    due, lines = [[]], []
+    while due:
+        prefix = due.pop()
+        if problem.closed(prefix):
+            lines.append("flat")
+        elif (u := problem.a.multipliers(problem.kinds_a(prefix))) is not None:
+            lines.append(f"cuta {numbers_text(u)}")
+        elif (u := problem.b.multipliers(problem.kinds_b(prefix))) is not None:
+            lines.append(f"cutb {numbers_text(u)}")
+        else:
+            lines.append("split")
+            due += reversed(second_search.children(prefix))
+    return lines
+
+
+def blocks_after(net, first):
+    """The blocks of the built questions from this one on in version 1, as this program shows them; for networks that are not
+    regular, or whose confluence space holds only zero or a signal."""
+    v = Verdicts(net)
+    total, classes = v.deficiencies
+    large = next(((k, d) for k, d in enumerate(classes, 1) if d > 1), None)
+    split = v.split and "no terminal {} {}".format(*v.split)
+    one = "no class {} {}".format(*large) if large else "yes" if sum(classes) == total else f"no sum {sum(classes)}"
+    blocks = {9: [f"q9 no {total}" if total else f"q9 yes {int(v.is_weak())}"], 10: [f"q10 {split or one}"]}
+    if split or not v.dependent[0]:
+        blocks[11] = [f"q11 {split or 'no dependence'}"]
+    elif v.rounds:
+        r, walk = v.rounds[0]
+        blocks[11] = [f"q11 no cycle {r + 1}", f"walk {numbers_text(c + 1 for c in walk)}"]
+    else:
+        sides = [(r + 1, side_of(net, *net.reactions[r])) for r in v.pairs]
+        blocks[11] = ["q11 yes", *(f"side {r} {numbers_text(int(c in side) for c in range(len(v.linkage)))}" for r, side in sides)]
+    blocks[12], blocks[13] = ["q12 none regular"], ["q13 none"]
+    for question in (14, 15):
+        problem = second_search.Concordance(net, question == 15)
+        how, _, found = second_search.search(problem, 100_000)
+        shown = [f"alpha {numbers_text(found[1])}", f"weights {numbers_text(found[2])}"] if found else tree_lines(problem)
+        blocks[question] = [f"q{question} {'no' if found else 'yes'}", *shown]
+    return [line for question in BUILT if question >= first for line in blocks[question]]
+
+
 def check_document(text):
     at = Reading(text)
     titles = {b"crn certificate 1": 1, b"crn certificate 2": 2}

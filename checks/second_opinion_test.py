@@ -7,6 +7,7 @@ import itertools
 import random
 import sys
 
+import ends
 import second_opinion
 import second_search
 from tally import Tally
@@ -99,174 +100,28 @@ def reports():
 
 # ---- certificates
 
-ENDS = """\
-crn certificate 1
-network 2
-A -> B
-B -> A
-q1 1
-label 1 1
-up 0 1
-depth 0 1
-q2 1 1
-label 1 1
-from 0 1
-fromdepth 0 1
-to 0 2
-todepth 0 1
-level 0
-exit 0
-q3 yes
-back 2 1
-q4 yes
-q5 1
-base 1
-dual -1 0
-comb 1 -1
-q6 0 0
-base 1
-dual -1 0
-comb 1 -1
-q7 yes
-vec 1 1
-q8 yes
-vec 1 1
-q9 yes 1
-q10 yes
-q11 yes
-side 1 0 1
-q12 none zero
-tie 1 0 0
-tie 0 1 0
-q13 none
-q14 yes
-split
-split
-flat
-cuta 0 1
-split
-cuta 1 0
-cutb 1 1
-cuta 1 0
-q15 yes
-split
-split
-flat
-cuta 0 1
-split
-cuta 1 0
-cutb 1 1
-cuta 1 0
-end
-""".splitlines()
-
-OPENED = """\
-q5 open wide 1 0 1 1 2
-q6 open rests 5
-q7 open wide 2 0 1 1 2
-q8 open wide 1 0 1 1 2
-q9 open rests 5
-q10 open rests 6
-q11 open rests 7
-q12 open rests 11
-q13 open rests 12
-q14 open budget 1
-q15 open budget 1
-end
-""".splitlines()
-
-BELOW = {1: "graph", 5: "rank", 7: "dependence", 9: "theorems", 11: "confluence", 14: "concordance"}
-
-
-def in_second_version(lines):
-    """The certificate in version 2, with a table of the lists of its tree nodes."""
-    lists = list(dict.fromkeys(line.split(" ", 1)[1] for line in lines if line.startswith("cut") and line[3] in "ab"))
-    made = ["crn certificate 2", *lines[1:4], f"vectors {len(lists)}", *(f"vector {numbers}" for numbers in lists)]
-    for line in lines[4:]:
-        word, _, numbers = line.partition(" ")
-        if word[1:].isdigit() and int(word[1:]) in BELOW:
-            made.append(f"section {BELOW[int(word[1:])]}")
-        made.append(f"ref{word[3]} {lists.index(numbers) + 1}" if word in ("cuta", "cutb") else line)
-    return made
-
-
-def replaced(lines, at, new):
-    """With these lines in the place of line `at`."""
-    return lines[: at - 1] + new + lines[at:]
-
-
-def edits():
-    """What is changed in the first version, the lines, and the code and the line of the fault."""
-    for at, line, code, place in [
-        (1, "crn certificate 2", 26, 5), (3, "A  -> B", 22, 4), (5, "foo", 23, 5), (6, "label 1 01", 24, 6),
-        (7, "up 0 0", 31, 8), (9, "q2 1 2", 24, 9), (16, "exit 1", 31, 16), (18, "back 1 1", 32, 18), (19, "q4 no 1", 37, 19),
-        (22, "dual 0 0", 33, 22), (23, "comb 1 1", 34, 23), (24, "q6 1 0", 36, 24), (29, "vec 1 2", 35, 29),
-        (29, f"vec {2**70} 1", 35, 29), (29, f"vec {2**72} 1", 25, 29), (32, "q9 yes 0", 37, 32), (32, "q9 no 1", 36, 32),
-        (32, "q9 no 0", 24, 32), (32, "q9 yes 2", 24, 32), (33, "q10 no terminal 1 2", 37, 33), (33, "q10 no class 1 2", 37, 33),
-        (33, "q10 no sum 0", 37, 33), (33, "q10 no terminal 2 2", 24, 33), (33, "q10 no class 1 1", 24, 33),
-        (34, "q11 no dependence", 37, 34), (34, "q11 no terminal 1 2", 37, 34), (34, "q11 no cycle 3", 24, 34),
-        (34, "q11 no cycle 1", 26, 35), (35, "side 2 0 1", 24, 35), (35, "side 1 1 0", 35, 35), (35, "side 1 1 1", 35, 35),
-        (35, "side 1 0 2", 24, 35), (36, "q12 none regular", 37, 36), (36, "q12 yes", 26, 37),
-        (36, "q12 none plane 1 1", 24, 36), (36, "q12 none plane 1 2", 26, 37), (37, "tie 0 1 0", 35, 37),
-        (37, "tie 1 0", 24, 37), (38, "tie 0 0 1", 35, 38), (39, "q13 no", 37, 39), (39, "q13 yes 1", 37, 39),
-        (39, "q13 yes 2", 24, 39), (39, "q13 open wide 5 0 1 1 2 3", 24, 39), (44, "cuta 0 -1", 41, 44),
-        (44, "cuta 0 0", 41, 44), (44, "flat", 42, 44), (44, "split", 42, 44), (44, "refa 1", 23, 44),
-        (44, "cuta 0 1 0", 24, 44), (44, f"cuta 0 {2**72}", 25, 44), (44, "tie 1 0 0", 43, 44), (47, "cutb 1 0", 41, 47),
-        (43, "flat 1", 24, 43),
-    ]:
-        yield f"line {at} is {line}", replaced(ENDS, at, [line]), code, place
-    for at, code in [(5, 26), (48, 43)]:
-        yield f"line {at} is removed", replaced(ENDS, at, []), code, at
-    for count, code in [(20, 27), (45, 43), (57, 27)]:
-        yield f"only lines 1 to {count}", ENDS[:count], code, count + 1
-    yield "cuta 1 0 is added after line 48", replaced(ENDS, 48, ["cuta 1 0", "cuta 1 0"]), 44, 49
-    yield "cuta 1 0 is added after line 57", replaced(ENDS, 57, ["cuta 1 0", "cuta 1 0"]), 44, 58
-    yield "flat is added before the end", replaced(ENDS, 58, ["flat", "end"]), 44, 58
-    yield "a split is added after line 39", replaced(ENDS, 39, ["q13 none", "split"]), 26, 40
-    yield "lines 40 to 48 are a wrong pair", ENDS[:39] + ["q14 no", "alpha 1 1", "weights 1 0"] + ENDS[48:], 45, 42
-    yield "end is added", [*ENDS, "end"], 28, 59
-    yield "line 6 has 16,385 bytes", replaced(ENDS, 6, ["label" + " 1" * 8190]), 30, 6
-    yield "question 13 is decided over an open one", ENDS[:35] + ["q12 open rests 11"] + ENDS[38:], 37, 37
-    yield "question 12 is decided over an open one", ENDS[:33] + ["q11 open rests 7"] + ENDS[35:], 37, 35
-    yield "question 10 is decided over an open one", ENDS[:23] + ["q6 open rests 5"] + ENDS[27:], 37, 30
-    yield "question 9 is decided over an open one", ENDS[:19] + OPENED[:2] + ENDS[27:], 37, 26
-
-
-def second_edits():
-    second = in_second_version(ENDS)
-    for at, line, code, place in [
-        (54, "refa 2", 41, 54), (54, "refa 4", 24, 54), (54, "refa 0", 24, 54), (6, "vector 0 1 0", 46, 54),
-        (9, "section rank", 24, 9), (1, "crn certificate 3", 21, 1), (34, "section theorem", 24, 34),
-        (57, "refa 3", 41, 57), (49, "section confluence", 24, 49), (53, "refa 1", 41, 53), (54, "refb 1", 41, 54),
-    ]:
-        yield f"version 2, line {at} is {line}", replaced(second, at, [line]), code, place
-    yield "version 2, line 5 is removed", replaced(second, 5, []), 26, 5
-    yield "version 2, line 58 is removed", replaced(second, 58, []), 43, 58
-    yield "version 2, a reference is added after line 58", replaced(second, 58, ["refa 2", "refa 2"]), 44, 59
-
-
 def checked(lines):
     return second_opinion.check("".join(f"{line}\n" for line in lines).encode())
 
 
 def certificates():
     wanted = 0, second_opinion.report(b"A <-> B\n")[1]
-    second = in_second_version(ENDS)
+    second, _ = ends.second_version(ends.ENDS)
     yield "the lines of version 2", (len(second), second[4:8]) == (68, ["vectors 3", "vector 0 1", "vector 1 0", "vector 1 1"]) \
         and second[49:58] == "q14 yes,split,split,flat,refa 1,split,refa 2,refb 3,refa 2".split(","), second
-    for name, lines in [("version 1", ENDS), ("version 2", second), ("version 2, numbers in a node", replaced(second, 54, ["cuta 0 1"]))]:
+    yield "the report of A <-> B", wanted[1].decode() == ends.REPORT, wanted
+    numbers = ends.replaced(second, 54, 54, ["cuta 0 1"])
+    for name, lines in [("version 1", ends.ENDS), ("version 2", second), ("version 2, numbers in a node", numbers)]:
         yield f"the certificate of A <-> B, {name}", checked(lines) == wanted, checked(lines)
-    for name, lines, code, place in [*edits(), *second_edits()]:
+    for name, lines, code, place in [*ends.edited(), *ends.second_edited(), *ends.opened_edited()]:
         answer = f"rejected {code} {second_opinion.NAMES[code]} at line {place}\n".encode()
-        yield f"A <-> B where {name}", checked(lines) == (3, answer), checked(lines)
-    document = "".join(f"{line}\n" for line in ENDS).encode()
-    for at in range(len(document)):
-        line = document[:at].count(b"\n") + 1
-        code = 43 if 41 <= line <= 48 or 50 <= line <= 57 else 27
-        seen = second_opinion.check(document[:at])
-        yield f"the first {at} bytes", seen == (3, f"rejected {code} {second_opinion.NAMES[code]} at line {line}\n".encode()), seen
-    status, out = checked(ENDS[:19] + OPENED)
-    yield "the open certificate", status == 0 and out.endswith(b"\nopen: 11\n") and b"Q14 concordant: open, budget 1\n" in out, out
+        yield f"A <-> B where {name}", checked(lines) == (3, answer), (checked(lines), code, place)
+    for size, document, code, place in ends.truncated():
+        seen = second_opinion.check(document)
+        yield f"the first {size} bytes", seen == (3, f"rejected {code} {second_opinion.NAMES[code]} at line {place}\n".encode()), seen
+    yield "the open certificate", checked(ends.OPENED) == (0, ends.OPENED_REPORT.encode()), checked(ends.OPENED)
+    for name, lines in ends.opened_others():
+        yield name, checked(lines)[0] == 0, checked(lines)
     yield from of_other_networks()
 
 

@@ -125,8 +125,15 @@ class Part:
             return found
         return self.solved(kinds)
 
+    def multipliers(self, kinds):
+        """Multipliers u that exclude every solution, or None."""
+        self.vector = None
+        return self.vector[self.width :] if self.solved(kinds) is None else None
+
     def solved(self, kinds):
         signed = [i for i, kind in enumerate(kinds) if kind in (POS, NEG)]
+        if not signed:
+            return [0] * self.width
         zeros = [i for i, kind in enumerate(kinds) if kind == ZERO]
         chosen = signed + zeros
         flips = [1 if kinds[i] == POS else -1 for i in signed]
@@ -140,6 +147,9 @@ class Part:
             ups = mask(chosen[at] for at, entry in enumerate(cut) if entry > 0)
             downs = mask(chosen[at] for at, entry in enumerate(cut) if entry < 0)
             self.cuts.append((ups, downs))
+            self.vector = [0] * len(self.lines)
+            for at, entry in zip(chosen, cut):
+                self.vector[at] = entry
             return None
         # an x whose signed coordinates are these numbers, times a positive one, and whose zero coordinates are 0
         target = [flip * number for flip, number in zip(flips, numbers)] + [0] * len(zeros)
