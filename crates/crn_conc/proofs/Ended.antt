@@ -1,0 +1,159 @@
+-- The answers that the end of a search over a table, or its stop, gives.
+use Rattle.std.proofs.Common.{◌≡◌, ℕ, zero, suc, ◌+◌, ◌<◌, ◌≤◌, ◌⊎◌, inl, inr, List, [], ◌∷◌, length, take, refl, sym, ap, subst, ◌∙◌, arith, length-take-le}
+use Rattle.std.specs.Prelude.{ℤ, false, unsigned_abs}
+use Rattle.std.specs.List.{AllByRecursion}
+use Rattle.crn_vec.specs.declared.limits.TheConstants.{MAX_BUDGET, WIDE_SOLUTION}
+use Rattle.crn_vec.specs.declared.signs.Sign.{Sign}
+use Rattle.crn_vec.specs.declared.signs.Kind.{Kind}
+use Rattle.crn_vec.specs.Kept.{KeptInts, KeptNums}
+use Rattle.crn_vec.specs.Network.{Net, IsNetwork}
+use Rattle.crn_vec.specs.NetSystems.{reaction_system}
+use Rattle.crn_vec.specs.Vectors.{Mat, entry}
+use Rattle.crn_vec.specs.Elementary.{NamesWide}
+use Rattle.crn_vec.specs.Concordance.{IsTable, IsDiscordant, concordance}
+use Rattle.crn_vec.specs.Influence.{plain_table, strong_table}
+use Rattle.crn_vec.specs.Visits.{PassesBudget}
+use Rattle.crn_vec.proofs.CallerLemmas.{all_in, networks_have_tables, tables_stand}
+use Rattle.crn_cert.specs.declared.answer.Answer.{Answer}
+use Rattle.crn_cert.specs.declared.tree.Tree.{Tree}
+use Rattle.crn_cert.specs.Questions.{Earlier, Question, Q14, Q15}
+use Rattle.crn_cert.specs.Ranges.{AreFree, IsNarrow}
+use Rattle.crn_cert.specs.Tests.{AllHold}
+use Rattle.crn_cert.specs.Trees.{plan, IsFormedTree}
+use Rattle.crn_cert.specs.Nodes.{Fits}
+use Rattle.crn_cert.specs.TreeTests.{tree_tests}
+use Rattle.crn_cert.specs.Formed.{IsFormed, IsBasisOf}
+use Rattle.crn_cert.specs.Valid.{IsValid}
+use Rattle.crn_cert.specs.Answered.{IsAnswer}
+use Rattle.crn_cert.proofs.CallerLemmas.{valid_answers_are_true, tests_decide_valid_trees}
+use Rattle.crn_farkas.specs.Decision.{IsSmallSolution}
+use Rattle.crn_sign.specs.declared.end.SearchEnd.{SearchEnd}
+use Rattle.crn_sign.specs.declared.end.SearchEnd.TheVariants.{Found, Refuted, Spent}
+use Rattle.crn_sign.specs.declared.fault.SearchStop.{SearchStop}
+use Rattle.crn_sign.specs.declared.fault.SearchStop.TheVariants.{WideA, WideB, NoMemory}
+use Rattle.crn_sign.specs.Search.{IsSearchEnd, IsSearchStop}
+use Rattle.crn_conc.specs.TreeSizes.{HasFewNodes}
+use Rattle.crn_conc.specs.Inner.Answers.{IsStopAnswer, end_answer, wide_answer}
+use Rattle.crn_conc.specs.Inner.Rows.{AreWide}
+use Rattle.crn_conc.proofs.NetRows.{rows_count}
+use Rattle.crn_conc.proofs.WideGaps.{wide_basis}
+use Rattle.crn_conc.proofs.Sizes.{count_places, formed_tree}
+
+-- the question that a table of the network answers
+pub data Asks (net : Net) : List (List Sign) → Question → Type 0 where
+  plain : Asks net (plain_table net) Q14
+  strong : Asks net (strong_table net) Q15
+
+table_fits : {net : Net} {table : List (List Sign)} {q : Question} → IsNetwork net → Asks net table q → IsTable (reaction_system net) table
+table_fits {net} n plain = (networks_have_tables net n).plain
+table_fits {net} n strong = (networks_have_tables net n).strong
+
+-- ---- solutions as numbers of a certificate
+
+narrow_prefix : (n : ℕ) (v : List ℤ) → ((k : ℕ) → unsigned_abs (entry v k) < WIDE_SOLUTION) → AllByRecursion IsNarrow (take n v)
+narrow_prefix zero [] h = tt
+narrow_prefix zero (x ∷ v) h = tt
+narrow_prefix (suc n) [] h = tt
+narrow_prefix (suc n) (x ∷ v) h = (h 0, narrow_prefix n v (λ k. h (suc k)))
+
+solution_free : (a : Mat) (kinds : List Kind) (x : List ℤ) → IsSmallSolution a kinds x → AreFree a.cols x
+solution_free a kinds x s = subst (AreFree a.cols) s.solves.columns (record {
+  long = length-take-le a.cols s.v (omega (arith, s.solves.space.long));
+  each = narrow_prefix a.cols s.v s.small;
+})
+
+-- ---- the answers
+
+yes_answer : {net : Net} {table : List (List Sign)} {q : Question} → Asks net table q → (budget : ℕ) (earlier : Earlier) (tree : Tree) → IsNetwork net → IsFormedTree (length net.names) (length net.names) (length net.names) [] (plan tree)
+    → AllHold (tree_tests (Fits (concordance (reaction_system net) table)) 1 [] (plan tree)) → IsAnswer net budget earlier q (end_answer budget (Refuted tree))
+yes_answer {net} plain budget earlier tree n f t =
+    let answer : Answer = end_answer budget (Refuted tree) in
+    let formed : IsFormed net earlier Q14 answer = (tt, f) in
+    let valid : IsValid net earlier Q14 answer = t in
+    record { formed = formed; valid = valid; answered = valid_answers_are_true Q14 net earlier answer n tt tt formed valid }
+yes_answer {net} strong budget earlier tree n f t =
+    let answer : Answer = end_answer budget (Refuted tree) in
+    let formed : IsFormed net earlier Q15 answer = (tt, f) in
+    let valid : IsValid net earlier Q15 answer = t in
+    record { formed = formed; valid = valid; answered = valid_answers_are_true Q15 net earlier answer n tt tt formed valid }
+
+no_answer : {net : Net} {table : List (List Sign)} {q : Question} → Asks net table q → (budget : ℕ) (earlier : Earlier) (p : List Sign) (a b : KeptInts) → IsNetwork net → AreFree (length net.reactions) a.list → AreFree (length net.reactions) b.list
+    → IsDiscordant (reaction_system net) table a.list b.list → IsAnswer net budget earlier q (end_answer budget (Found p a b))
+no_answer {net} plain budget earlier p a b n f g d =
+    let answer : Answer = end_answer budget (Found p a b) in
+    let formed : IsFormed net earlier Q14 answer = (tt, (f, g)) in
+    let valid : IsValid net earlier Q14 answer = (d, tt) in
+    record { formed = formed; valid = valid; answered = d }
+no_answer {net} strong budget earlier p a b n f g d =
+    let answer : Answer = end_answer budget (Found p a b) in
+    let formed : IsFormed net earlier Q15 answer = (tt, (f, g)) in
+    let valid : IsValid net earlier Q15 answer = (d, tt) in
+    record { formed = formed; valid = valid; answered = d }
+
+spent_answer : {net : Net} {table : List (List Sign)} {q : Question} → Asks net table q → (budget : ℕ) (earlier : Earlier) → 1 ≤ budget → budget ≤ MAX_BUDGET → PassesBudget (concordance (reaction_system net) table) budget → IsAnswer net budget earlier q (end_answer budget Spent)
+spent_answer plain budget earlier low high p = record { formed = ((low, high), refl); valid = tt; answered = (refl, p) }
+spent_answer strong budget earlier low high p = record { formed = ((low, high), refl); valid = tt; answered = (refl, p) }
+
+open_answer : {net : Net} {table : List (List Sign)} {q : Question} → Asks net table q → (budget : ℕ) (earlier : Earlier) (index : ℕ) (basis : KeptNums) → IsBasisOf (length net.reactions) (length net.names) index basis.list → NamesWide (reaction_system net) index basis.list → IsAnswer net budget earlier q (wide_answer index basis)
+open_answer plain budget earlier index basis b w = record { formed = ((refl, refl, b), refl); valid = tt; answered = ((refl, refl, b), w) }
+open_answer strong budget earlier index basis b w = record { formed = ((refl, refl, b), refl); valid = tt; answered = ((refl, refl, b), w) }
+
+-- ---- by the end of the search
+
+pub ended : {net : Net} {table : List (List Sign)} {q : Question} → Asks net table q → (budget : ℕ) (earlier : Earlier) (e : SearchEnd) → IsNetwork net → 1 ≤ budget → budget ≤ MAX_BUDGET
+    → IsSearchEnd (concordance (reaction_system net) table) budget e → IsAnswer net budget earlier q (end_answer budget e)
+ended {net} {table} asks budget earlier (Found p a b) n low high h =
+    let m = reaction_system net in
+    let w = concordance m table in
+    let s = h.0 in
+    let d = (tables_stand m table (table_fits n asks)).named p a.list b.list s.full s.opened (s.part_a.v, s.part_a.solves) (s.part_b.v, s.part_b.solves) in
+    no_answer asks budget earlier p a b n (solution_free m (w.kinds_a p) a.list s.part_a) (solution_free m (w.kinds_b p) b.list s.part_b) d
+ended {net} {table} asks budget earlier (Refuted tree) n low high h =
+    let m = reaction_system net in
+    let w = concordance m table in
+    let formed = formed_tree w [] (plan tree) h.0.valid h.0.narrow in
+    let tests = (tests_decide_valid_trees w (length m.rows) (length m.rows) 1 [] (plan tree) formed).1 h.0.valid in
+    yes_answer asks budget earlier tree n (subst (λ (k : ℕ). IsFormedTree k k k [] (plan tree)) (rows_count net) formed) tests
+ended asks budget earlier Spent n low high h = spent_answer asks budget earlier low high h
+
+pub stopped : {net : Net} {table : List (List Sign)} {q : Question} → Asks net table q → (budget : ℕ) (earlier : Earlier) (s : SearchStop) (answer : Answer) → IsSearchStop (concordance (reaction_system net) table) s → IsStopAnswer s answer → IsAnswer net budget earlier q answer
+stopped {net} {table} {q} asks budget earlier (WideA index basis) answer h e =
+    subst (IsAnswer net budget earlier q) (sym e) (open_answer asks budget earlier index basis (wide_basis (reaction_system net) (length net.reactions) (length net.names) index basis.list refl (rows_count net) h) h)
+stopped {net} {table} {q} asks budget earlier (WideB index basis) answer h e =
+    subst (IsAnswer net budget earlier q) (sym e) (open_answer asks budget earlier index basis (wide_basis (reaction_system net) (length net.reactions) (length net.names) index basis.list refl (rows_count net) h) h)
+stopped asks budget earlier NoMemory answer h e = absurd e
+
+pub few_nodes : (m : Mat) (table : List (List Sign)) (budget : ℕ) (e : SearchEnd) → IsSearchEnd (concordance m table) budget e → HasFewNodes budget (end_answer budget e).proof
+few_nodes m table budget (Found p a b) h = tt
+few_nodes m table budget (Refuted tree) h = omega (arith, h.2, count_places [] (plan tree))
+few_nodes m table budget Spent h = tt
+
+pub few_open : (budget : ℕ) (s : SearchStop) (answer : Answer) → IsStopAnswer s answer → HasFewNodes budget answer.proof
+few_open budget (WideA index basis) answer e = subst (λ (a : Answer). HasFewNodes budget a.proof) (sym e) tt
+few_open budget (WideB index basis) answer e = subst (λ (a : Answer). HasFewNodes budget a.proof) (sym e) tt
+few_open budget NoMemory answer e = absurd e
+
+-- ---- by what the code knows
+
+-- a table of the network fits the matrix that is its system 2
+pub fits : (net : Net) (m : Mat) (table : List (List Sign)) → IsNetwork net → m ≡ reaction_system net → (table ≡ plain_table net) ⊎ (table ≡ strong_table net) → IsTable m table
+fits net m table n e (inl p) = subst (λ (a : Mat). IsTable a table) (sym e) (subst (IsTable (reaction_system net)) (sym p) (networks_have_tables net n).plain)
+fits net m table n e (inr p) = subst (λ (a : Mat). IsTable a table) (sym e) (subst (IsTable (reaction_system net)) (sym p) (networks_have_tables net n).strong)
+
+pub rows_wide : (m : Mat) (table : List (List Sign)) → IsTable m table → AreWide (length m.rows) table
+rows_wide m table t signs i = all_in (λ (row : List Sign). length row ≡ length m.rows) table signs t.species i
+
+pub end_by : {net : Net} {asked : List (List Sign)} {q : Question} → Asks net asked q → (m : Mat) (table : List (List Sign)) (budget : ℕ) (e : SearchEnd) (answer : Answer) → IsNetwork net → 1 ≤ budget → budget ≤ MAX_BUDGET
+    → m ≡ reaction_system net → answer ≡ end_answer budget e → IsSearchEnd (concordance m table) budget e → table ≡ asked → (earlier : Earlier) → IsAnswer net budget earlier q answer
+end_by {net} {asked} {q} asks m table budget e answer n low high me ae h te earlier =
+    let at : IsSearchEnd (concordance (reaction_system net) asked) budget e = subst (λ (t : List (List Sign)). IsSearchEnd (concordance (reaction_system net) t) budget e) te (subst (λ (a : Mat). IsSearchEnd (concordance a table) budget e) me h) in
+    subst (IsAnswer net budget earlier q) (sym ae) (ended asks budget earlier e n low high at)
+
+pub stop_by : {net : Net} {asked : List (List Sign)} {q : Question} → Asks net asked q → (m : Mat) (table : List (List Sign)) (budget : ℕ) (s : SearchStop) (answer : Answer)
+    → m ≡ reaction_system net → IsSearchStop (concordance m table) s → table ≡ asked → IsStopAnswer s answer → (earlier : Earlier) → IsAnswer net budget earlier q answer
+stop_by {net} {asked} asks m table budget s answer me h te a earlier =
+    let at : IsSearchStop (concordance (reaction_system net) asked) s = subst (λ (t : List (List Sign)). IsSearchStop (concordance (reaction_system net) t) s) te (subst (λ (x : Mat). IsSearchStop (concordance x table) s) me h) in
+    stopped asks budget earlier s answer at a
+
+pub few_by : (m : Mat) (table : List (List Sign)) (budget : ℕ) (e : SearchEnd) (answer : Answer) → answer ≡ end_answer budget e → IsSearchEnd (concordance m table) budget e → HasFewNodes budget answer.proof
+few_by m table budget e answer ae h = subst (λ (a : Answer). HasFewNodes budget a.proof) (sym ae) (few_nodes m table budget e h)

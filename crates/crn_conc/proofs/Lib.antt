@@ -1,0 +1,7 @@
+mod Rows
+mod NetRows
+mod WideGaps
+mod KindLists
+mod Signs
+mod Sizes
+mod Ended

@@ -1,0 +1,95 @@
+ghost use Rattle.std.specs.Prelude.{◌≡◌, ◌≤◌, ◌⊎◌, IfOk};
+ghost use Rattle.crn_vec.specs.declared.limits.TheConstants.{MAX_BUDGET};
+ghost use Rattle.crn_vec.specs.Influence.{plain_table, strong_table};
+ghost use Rattle.crn_cert.specs.Answered.{IsAnswer};
+ghost use Rattle.crn_cert.specs.Questions.{Earlier, Q14, Q15};
+ghost use Rattle.crn_conc.specs.TreeSizes.{HasFewNodes};
+ghost use Rattle.crn_conc.specs.Inner.Answers.{IsStopAnswer, end_answer, wide_answer};
+
+use crate::influence::Influence;
+use crate::problem::TableProblem;
+use crate::system::reaction_matrix;
+use crn_cert::{Answer, Gap, Proof, Verdict};
+use crn_net::Network;
+use crn_sign::{SearchEnd, SearchStop, search};
+use crn_vec::{NoMemory, Nums};
+use std::alloc::{AllocError, Global};
+
+// The answer that the end of a search gives.
+fn end_answer(end: SearchEnd, budget: u32) -> Answer
+    ensures { result ≡ end_answer budget end }
+{
+    match end {
+        SearchEnd::Found { a, b, .. } => Answer {
+            verdict: Verdict::NoPair {
+                alpha: a,
+                weights: b,
+            },
+            proof: Proof::Nothing,
+        },
+        SearchEnd::Refuted(tree) => Answer {
+            verdict: Verdict::Yes,
+            proof: Proof::One(tree),
+        },
+        SearchEnd::Spent => Answer {
+            verdict: Verdict::Unknown(Gap::Budget { nodes: budget }),
+            proof: Proof::Nothing,
+        },
+    }
+}
+
+// The open answer that names a wide vector of system 2.
+fn wide_answer(index: u32, basis: Nums) -> Answer
+    ensures { result ≡ wide_answer index basis }
+{
+    Answer {
+        verdict: Verdict::Unknown(Gap::Wide {
+            system: 2,
+            class: 0,
+            index,
+            basis,
+        }),
+        proof: Proof::Nothing,
+    }
+}
+
+// The answer that the stop of a search gives.
+fn stop_answer(stop: SearchStop) -> Result<Answer, NoMemory>
+    ensures { IfOk result (λ answer. IsStopAnswer stop answer) }
+{
+    match stop {
+        SearchStop::WideA { index, basis } => Ok(wide_answer(index, basis)),
+        SearchStop::WideB { index, basis } => Ok(wide_answer(index, basis)),
+        SearchStop::NoMemory => Err(AllocError),
+    }
+}
+
+/// Question 14, whether a network is concordant, by its plain table, or question 15, whether it is
+/// strongly concordant, by its strong table.
+///
+/// A no has a discordance of the table, and a yes a tree that shows that there is none.
+pub fn concordant(
+    alloc: Global,
+    net: &Network,
+    table: &Influence,
+    budget: u32,
+) -> Result<Answer, NoMemory>
+    requires low { 1 ≤ budget }
+    requires high { budget ≤ MAX_BUDGET }
+    requires table { (table.now ≡ plain_table net.now) ⊎ (table.now ≡ strong_table net.now) }
+    ensures plain { table.now ≡ plain_table net.now → IfOk result
+        (λ answer. (earlier : Earlier) → IsAnswer net.now budget earlier Q14 answer) }
+    ensures strong { table.now ≡ strong_table net.now → IfOk result
+        (λ answer. (earlier : Earlier) → IsAnswer net.now budget earlier Q15 answer) }
+    ensures nodes { IfOk result (λ answer. HasFewNodes budget answer.proof) }
+{
+    let _ = net.species();
+    let problem = TableProblem {
+        matrix: reaction_matrix(alloc, net)?,
+        table,
+    };
+    match search(alloc, &problem, budget) {
+        Ok(end) => Ok(end_answer(end, budget)),
+        Err(stop) => stop_answer(stop),
+    }
+}

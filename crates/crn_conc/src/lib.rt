@@ -1,0 +1,12 @@
+//! Concordance and strong concordance of a network: its influence tables, and the search that decides them.
+#![tactic(auto)]
+
+mod answer;
+mod influence;
+mod kinds;
+mod problem;
+mod system;
+
+pub use answer::concordant;
+pub use influence::{Influence, concordance_table, strong_table};
+pub use system::reaction_matrix;
