@@ -1304,9 +1304,39 @@ def tree_lines(problem):
     return lines
 
 
+def confluence_block(v):
+    if not is_regular(v):
+        return ["q12 none regular"]
+    (vectors, rows), count = v.confluence, len(v.linkage)
+    if len(vectors) > 1:
+        one, two = vectors[:2]
+        c = next(k for k in range(count) if one[k] and not two[k])
+        d = next(k for k in range(count) if two[k] and not one[k])
+        return [f"q12 none plane {c + 1} {d + 1}", *(f"vec {numbers_text(g)}" for g in (one, two))]
+    g = v.confluence_vector if vectors else []
+    least, ties = next((c for c, x in enumerate(g) if x), None), []
+    for c in range(count):
+        if c != least:
+            sums = [[row[k] for row in rows] + [-int(k == c)] for k in range(count) if k != least]
+            ties.append(next(tie[:-1] for tie in kernel(sums, len(rows) + 1) if tie[-1]))
+    shown = ["q12 yes", f"vec {numbers_text(g)}"] if g else ["q12 none zero"]
+    return shown + [f"tie {numbers_text(tie)}" for tie in ties]
+
+
+def signal_block(v):
+    if not has_vector(v):
+        return ["q13 none"]
+    how, found = v.signal(100_000)
+    if how == "found":
+        turn, prefix, (*mu, m), weights = found
+        shelves = prefix[: len(prefix) - len(mu)]
+        rows = [("shelves", shelves), ("mu", mu), ("m", [m]), ("weights", weights)]
+        return [f"q13 yes {turn}", *(f"{word} {numbers_text(numbers)}" for word, numbers in rows)]
+    return ["q13 no"] + [line for turn in ((1, -1) if v.is_weak() else (1,)) for line in tree_lines(v.signals(turn))]
+
+
 def blocks_after(net, first):
-    """The blocks of the built questions from this one on in version 1, as this program shows them; for networks that are not
-    regular, or whose confluence space holds only zero or a signal."""
+    """The blocks of the built questions from this one on, from the ninth, in version 1, as this program shows them."""
     v = Verdicts(net)
     total, classes = v.deficiencies
     large = next(((k, d) for k, d in enumerate(classes, 1) if d > 1), None)
@@ -1321,7 +1351,7 @@ def blocks_after(net, first):
     else:
         sides = [(r + 1, side_of(net, *net.reactions[r])) for r in v.pairs]
         blocks[11] = ["q11 yes", *(f"side {r} {numbers_text(int(c in side) for c in range(len(v.linkage)))}" for r, side in sides)]
-    blocks[12], blocks[13] = ["q12 none regular"], ["q13 none"]
+    blocks[12], blocks[13] = confluence_block(v), signal_block(v)
     for question in (14, 15):
         problem = second_search.Concordance(net, question == 15)
         how, _, found = second_search.search(problem, 100_000)

@@ -123,6 +123,24 @@ def certificates():
     for name, lines in ends.opened_others():
         yield name, checked(lines)[0] == 0, checked(lines)
     yield from of_other_networks()
+    yield from own_certificates()
+
+
+def own_certificates():
+    """The blocks that the second program writes itself pass its own check, which shares no more than the systems."""
+    for text, _, _ in worked():
+        net = second_opinion.read_network(text)
+        if len(net.names) > 12 or len(net.reactions) > 40:
+            continue
+        at = second_opinion.Reading("".join(f"{line}\n" for line in second_opinion.blocks_after(net, 9)).encode())
+        at.version, known, wrong = 1, known_of(net), []
+        try:
+            for question, check in second_opinion.BLOCKS:
+                if question > 8 and check(at, net, known) != second_opinion.own_lines(second_opinion.Verdicts(net), question, 100_000):
+                    wrong.append(question)
+        except second_opinion.Rejected as fault:
+            wrong.append((fault.code, fault.line))
+        yield f"its own certificate of {text[:40]!r}", not wrong and at.at == len(at.text), wrong
 
 
 def tree_of(problem, prefix=()):
