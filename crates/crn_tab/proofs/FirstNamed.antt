@@ -1,6 +1,8 @@
 -- At first, row i of a tableau is (-A_i, e_i).
-use Rattle.std.proofs.Common.{◌≡◌, ℕ, zero, suc, ◌+◌, ◌<◌, ◌⊎◌, inl, inr, List, [], ◌∷◌, length, get_or, refl, sym, ap, ◌∙◌, arith, nat_eq}
-use Rattle.std.specs.Prelude.{ℤ, pos, neg_ℤ, slice_index, ◌↔◌}
+use Rattle.std.proofs.Common.{◌≡◌, ℕ, ◌+◌, ◌<◌, ◌⊎◌, inl, inr, List, [], length, get_or, sym, ap, ◌∙◌, arith, nat_eq}
+use Rattle.std.specs.List.{range_with_len}
+use Rattle.std.specs.Prelude.{ℤ, pos, neg_ℤ, ◌↔◌}
+use Rattle.std.proofs.lemmas.List.FromFn.{length-range_with_len, get_or-range_with_len}
 use Rattle.crn_vec.specs.Vectors.{Mat, entry, AreOfLength}
 use Rattle.crn_vec.specs.Lists.{IsIn}
 use Rattle.crn_vec.specs.Elementary.{width, IsNamed}
@@ -14,22 +16,8 @@ use Rattle.crn_tab.proofs.Bases.{spread_primitive}
 use Rattle.crn_tab.proofs.FirstRows.{identity_placed, length-start_row, start_entry, start_last, first_dual, one_primitive}
 use Rattle.crn_tab.proofs.OneVector.{one_vector}
 
--- m numbers from k on
-abbrev numbers : ℕ → ℕ → List ℕ
-numbers k zero = []
-numbers k (suc m) = k ∷ numbers (suc k) m
-
-length-numbers : (k m : ℕ) → length (numbers k m) ≡ m
-length-numbers k zero = refl
-length-numbers k (suc m) = ap suc (length-numbers (suc k) m)
-
-number_at : (k m j : ℕ) → j < m → slice_index (numbers k m) j ≡ k + j
-number_at k zero j h = absurd (omega arith)
-number_at k (suc m) zero h = omega arith
-number_at k (suc m) (suc j) h = omega (arith, number_at (suc k) m j (omega arith))
-
-identity_list : (m : ℕ) → IsIdentity m (numbers 0 m)
-identity_list m = record { long = length-numbers 0 m; is = λ k lt. omega (arith, number_at 0 m k lt) }
+identity_list : (m : ℕ) → IsIdentity m (range_with_len 0 m)
+identity_list m = record { long = length-range_with_len 0 m; is = λ k lt. omega (arith, get_or-range_with_len 0 m k 0 lt) }
 
 entry_is : (a : Mat) (i k : ℕ) → length (get_or a.rows i []) ≡ a.cols → slot_entry a.cols i (start_row (get_or a.rows i [])) k ≡ first_entry a i k
 entry_is a i k long =
@@ -52,7 +40,7 @@ first_named a basis i v wide columns lt named =
     let n = a.cols in
     let r = get_or a.rows i [] in
     let row = start_row r in
-    let at = numbers 0 (width a) in
+    let at = range_with_len 0 (width a) in
     let id = identity_list (width a) in
     let r_long : length r ≡ n = row_count n a.rows i wide lt in
     let w = spread n i row at in
