@@ -6,6 +6,8 @@ mod influence;
 mod kinds;
 mod problem;
 mod system;
+#[cfg(test)]
+mod tests;
 
 pub use answer::concordant;
 pub use influence::{Influence, concordance_table, strong_table};
