@@ -3,9 +3,10 @@
 use crate::graph::{Classes, Forest, Links, Strong, linkage, reverses, strong, strong_tree};
 use crate::linear::{Positive, Rank, Wide};
 use crate::net::Net;
+use crate::theorems::{One, one, zero};
 
 /// How many questions are answered, at most.
-pub const QUESTIONS: u32 = 8;
+pub const QUESTIONS: u32 = 10;
 
 pub enum Gap {
     Wide { system: u32, class: u32, index: u32, basis: Vec<u32> },
@@ -28,6 +29,9 @@ pub struct Verdicts {
     pub deficiency: Option<Answer<(u32, Vec<u32>)>>,
     pub dependent: Option<Answer<Positive>>,
     pub conservative: Option<Answer<Positive>>,
+    /// The deficiency again.
+    pub zero: Option<Answer<u32>>,
+    pub one: Option<Answer<One>>,
 }
 
 impl Verdicts {
@@ -42,6 +46,8 @@ impl Verdicts {
             deficiency: None,
             dependent: None,
             conservative: None,
+            zero: None,
+            one: None,
         }
     }
 
@@ -51,6 +57,8 @@ impl Verdicts {
             matches!(self.deficiency, Some(Err(_))),
             matches!(self.dependent, Some(Err(_))),
             matches!(self.conservative, Some(Err(_))),
+            matches!(self.zero, Some(Err(_))),
+            matches!(self.one, Some(Err(_))),
         ];
         is_open.iter().filter(|open| **open).count() as u32
     }
@@ -104,6 +112,8 @@ pub fn solve(net: &Net, questions: u32) -> (Verdicts, Shown) {
     if questions >= 5 {
         solve_linear(net, questions, &mut verdicts, &mut shown);
     }
+    verdicts.zero = (questions >= 9).then(|| zero(&verdicts));
+    verdicts.one = (questions >= 10).then(|| one(&verdicts));
     (verdicts, shown)
 }
 

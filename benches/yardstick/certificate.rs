@@ -4,6 +4,7 @@ use crate::answers::{Answer, Gap, Shown, Verdicts};
 use crate::graph::Forest;
 use crate::linear::{Positive, Rank};
 use crate::net::{Net, put_number, put_numbers};
+use crate::theorems::One;
 
 fn put<T: Copy + Into<i128>>(out: &mut Vec<u8>, words: &str, numbers: &[T]) {
     out.extend_from_slice(words.as_bytes());
@@ -111,6 +112,20 @@ pub fn certificate(net: &Net, verdicts: &Verdicts, shown: &Shown, out: &mut Vec<
     }
     if let Some(conservative) = &verdicts.conservative {
         put_positive("q8", conservative, out);
+    }
+    match &verdicts.zero {
+        None => {}
+        Some(Err(gap)) => put_gap("section theorems\nq9", gap, out),
+        Some(Ok(0)) => put(out, "section theorems\nq9 yes", &[u32::from(verdicts.weak == Some(None))]),
+        Some(Ok(number)) => put(out, "section theorems\nq9 no", &[*number]),
+    }
+    match &verdicts.one {
+        None => {}
+        Some(Err(gap)) => put_gap("q10", gap, out),
+        Some(Ok(One::Hold)) => put::<u32>(out, "q10 yes", &[]),
+        Some(Ok(One::Terminal(class, count))) => put(out, "q10 no terminal", &[*class, *count]),
+        Some(Ok(One::Class(class, number))) => put(out, "q10 no class", &[*class, *number]),
+        Some(Ok(One::Sum(sum))) => put(out, "q10 no sum", &[*sum]),
     }
     out.extend_from_slice(b"end\n");
 }

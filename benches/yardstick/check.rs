@@ -6,6 +6,7 @@ use crate::graph::Classes;
 use crate::linear::{FREE, Positive};
 use crate::lines::{Lines, Next};
 use crate::net::{MAX_REACTIONS, Net};
+use crate::theorems::{One, first_split, one, zero};
 use std::io::{self, Read};
 
 const WORDS: [&str; 39] = [
@@ -628,6 +629,76 @@ impl<S: Read> Checker<'_, '_, S> {
         Ok(Ok(if is_yes { Positive::Yes(numbers) } else { Positive::No(numbers) }))
     }
 
+    /// Whether an open head that rests on this question is here.
+    fn rests(fields: &mut Fields, question: u32) -> bool {
+        let is_open = fields.word("open");
+        if is_open {
+            fields.is_bad |= !fields.word("rests");
+            fields.small(question, question);
+        }
+        is_open
+    }
+
+    fn zero(&mut self) -> Checked<()> {
+        let complexes = self.net.complexes.len() as u32;
+        let said = self.document.record("q9", |fields| {
+            if Self::rests(fields, 5) {
+                return None;
+            }
+            let is_yes = fields.word("yes");
+            fields.is_bad |= !is_yes && !fields.word("no");
+            Some((is_yes, if is_yes { fields.small(0, 1) } else { fields.small(1, complexes) }))
+        })?;
+        let Some((is_yes, number)) = said else {
+            self.verdicts.zero = Some(Err(Gap::Rests(5)));
+            return Ok(());
+        };
+        let Ok(deficiency) = zero(&self.verdicts) else { return self.document.rejected(37) };
+        if is_yes {
+            let is_weak = self.verdicts.weak == Some(None);
+            self.document.test(37, deficiency == 0 && is_weak == (number == 1));
+        } else {
+            self.document.test(36, deficiency == number);
+        }
+        self.verdicts.zero = Some(Ok(deficiency));
+        self.document.tested()
+    }
+
+    fn one(&mut self) -> Checked<()> {
+        let (complexes, count) = (self.net.complexes.len() as u32, self.verdicts.linkage.count);
+        let said = self.document.record("q10", |fields| {
+            if Self::rests(fields, 6) {
+                return None;
+            }
+            if fields.word("yes") {
+                return Some(One::Hold);
+            }
+            fields.is_bad |= !fields.word("no");
+            if fields.word("terminal") {
+                return Some(One::Terminal(fields.small(1, count), fields.small(2, complexes)));
+            }
+            if fields.word("class") {
+                return Some(One::Class(fields.small(1, count), fields.small(2, complexes)));
+            }
+            fields.is_bad |= !fields.word("sum");
+            Some(One::Sum(fields.small(0, complexes)))
+        })?;
+        let Some(said) = said else {
+            self.verdicts.one = Some(Err(Gap::Rests(6)));
+            return Ok(());
+        };
+        let holds = match (&said, one(&self.verdicts)) {
+            (One::Terminal(class, count), _) => first_split(&self.verdicts) == Some((*class, *count)),
+            (One::Class(class, number), Ok(One::Class(first, own))) => (*class, *number) == (first, own),
+            (One::Sum(sum), Ok(One::Sum(own))) => *sum == own,
+            (One::Hold, Ok(One::Hold)) => true,
+            _ => false,
+        };
+        self.document.test(37, holds);
+        self.verdicts.one = Some(Ok(said));
+        self.document.tested()
+    }
+
     fn question(&mut self, question: u32) -> Checked<()> {
         let (species, reactions) = (self.net.species.len(), self.net.reactions.len());
         match question {
@@ -638,7 +709,9 @@ impl<S: Read> Checker<'_, '_, S> {
             5 => self.rank(),
             6 => self.deficiency(),
             7 => self.positive("q7", 2, reactions, species).map(|answer| self.verdicts.dependent = Some(answer)),
-            _ => self.positive("q8", 1, species, reactions).map(|answer| self.verdicts.conservative = Some(answer)),
+            8 => self.positive("q8", 1, species, reactions).map(|answer| self.verdicts.conservative = Some(answer)),
+            9 => self.zero(),
+            _ => self.one(),
         }
     }
 }
@@ -658,6 +731,7 @@ pub fn check(source: impl Read, questions: u32) -> Checked<(Net, Verdicts)> {
             1 => checker.document.section("graph")?,
             5 => checker.document.section("rank")?,
             7 => checker.document.section("dependence")?,
+            9 => checker.document.section("theorems")?,
             _ => {}
         }
         checker.question(question)?;

@@ -15,6 +15,7 @@ mod lines;
 mod net;
 mod report;
 mod text;
+mod theorems;
 
 use std::io::{self, Read, Write};
 use std::process::ExitCode;

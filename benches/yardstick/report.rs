@@ -3,6 +3,7 @@
 use crate::answers::{Answer, Gap, Verdicts};
 use crate::linear::Positive;
 use crate::net::{Net, put_number, put_numbers};
+use crate::theorems::One;
 
 fn put(out: &mut Vec<u8>, words: &str) {
     out.extend_from_slice(words.as_bytes());
@@ -97,6 +98,23 @@ fn put_positive(title: &str, yes: &str, answer: &Answer<Positive>, out: &mut Vec
     }
 }
 
+fn put_one(one: &Answer<One>, out: &mut Vec<u8>) {
+    put(out, "Q10 deficiency one theorem");
+    match one {
+        Err(gap) => put_gap(gap, out),
+        Ok(One::Hold) => put(out, ": hypotheses hold\n"),
+        Ok(One::Terminal(class, count)) => {
+            put_count(out, ": hypotheses fail, class ", *class, " has ");
+            put_count(out, "", *count, " terminal classes\n");
+        }
+        Ok(One::Class(class, number)) => {
+            put_count(out, ": hypotheses fail, class ", *class, " has deficiency ");
+            put_count(out, "", *number, "\n");
+        }
+        Ok(One::Sum(sum)) => put_count(out, ": hypotheses fail, class deficiencies sum to ", *sum, "\n"),
+    }
+}
+
 pub fn report(net: &Net, verdicts: &Verdicts, out: &mut Vec<u8>) {
     put_count(out, "crn report 1\nspecies ", net.species.len() as u32, ":");
     for name in &net.species {
@@ -146,6 +164,18 @@ pub fn report(net: &Net, verdicts: &Verdicts, out: &mut Vec<u8>) {
     }
     if let Some(conservative) = &verdicts.conservative {
         put_positive("Q8 conservative", "positive law:", conservative, out);
+    }
+    if let Some(zero) = &verdicts.zero {
+        put(out, "Q9 deficiency zero theorem");
+        match zero {
+            Err(gap) => put_gap(gap, out),
+            Ok(0) if verdicts.weak == Some(None) => put(out, ": hypotheses hold, weakly reversible\n"),
+            Ok(0) => put(out, ": hypotheses hold, not weakly reversible\n"),
+            Ok(number) => put_count(out, ": hypotheses fail, deficiency ", *number, "\n"),
+        }
+    }
+    if let Some(one) = &verdicts.one {
+        put_one(one, out);
     }
     put_count(out, "open: ", verdicts.open(), "\n");
 }
