@@ -163,7 +163,7 @@ fn confluence_head<'a>(i: u32, sizes: &Sizes<'a>) -> Option<Form<'a>>
     )
 }
 
-// The open heads behind the first of them.
+// The open heads after the first of them.
 fn signal_open_head<'a>(i: u32, sizes: &Sizes<'a>) -> Option<Form<'a>>
     requires sizes { AreSizes (sizes_of sizes.now) }
     requires open { 3 < i }

@@ -41,7 +41,7 @@ fn product_sign(number: &i128, option: Sign) -> Sign
     product(sign_at(number), option)
 }
 
-// The kind of a column whose signs are those of these numbers, behind species that raised or lowered it.
+// The kind of a column whose signs are those of these numbers, after species that raised or lowered it.
 fn kind_from(raised: bool, lowered: bool, numbers: &[i128], prefix: &[Sign]) -> Kind
     ensures { result ≡ column_from raised lowered (map sign numbers.now) prefix.now }
 {

@@ -29,7 +29,7 @@ impl Model for Path {
         × (s.choices ≤ vec_capacity s.options) };
 }
 
-// Leads the path on to what is due behind it, and tells whether nothing is.
+// Leads the path on to what is due after it, and says whether nothing is.
 fn lead_on(options: &mut Vec<Sign>) -> bool
     ensures due { due_by result options.new.items ≡ due_behind [] options.old.items }
     ensures room { vec_capacity options.new ≡ vec_capacity options.old }

@@ -1,5 +1,5 @@
 -- For the contracts of private functions alone.
--- The path of options to the node that is due, and what is due behind it.
+-- The path of options to the node that is due, and what is due after it.
 -- Source: this project's own.
 -- Shapes: `due` lists the prefixes whose trees are still to come, the next one first.
 use Rattle.std.specs.Prelude.{ℕ, Bool, true, false, if◌then◌else◌, List, [], ◌∷◌, ◌++◌}
@@ -14,7 +14,7 @@ later p Zero =
 later p Plus = if all_zero p then [] else (p ++ Minus ∷ []) ∷ []
 later p Minus = []
 
--- what is due behind the prefix that these options lead to from a prefix
+-- what is due after the prefix that these options lead to from a prefix
 abbrev pub due_behind : List Sign → List Sign → List (List Sign)
 due_behind before [] = []
 due_behind before (s ∷ path) = due_behind (before ++ s ∷ []) path ++ later before s
