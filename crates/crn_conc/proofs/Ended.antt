@@ -1,6 +1,6 @@
 -- The answers that the end of a search over a table, or its stop, gives.
-use Rattle.std.proofs.Common.{◌≡◌, ℕ, zero, suc, ◌+◌, ◌<◌, ◌≤◌, ◌⊎◌, inl, inr, List, [], ◌∷◌, length, take, refl, sym, ap, subst, ◌∙◌, arith, length-take-le}
-use Rattle.std.specs.Prelude.{ℤ, false, unsigned_abs}
+use Rattle.std.proofs.Common.{◌≡◌, ℕ, zero, suc, ◌<◌, ◌≤◌, ◌⊎◌, inl, inr, List, [], ◌∷◌, length, take, refl, sym, subst, arith, length-take-le}
+use Rattle.std.specs.Prelude.{ℤ, unsigned_abs}
 use Rattle.std.specs.List.{AllByRecursion}
 use Rattle.crn_vec.specs.declared.limits.TheConstants.{MAX_BUDGET, WIDE_SOLUTION}
 use Rattle.crn_vec.specs.declared.signs.Sign.{Sign}

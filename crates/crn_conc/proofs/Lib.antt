@@ -1,3 +1,4 @@
+pub mod CallerLemmas
 mod Rows
 mod NetRows
 mod WideGaps

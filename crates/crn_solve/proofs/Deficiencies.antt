@@ -3,10 +3,9 @@ use Rattle.std.proofs.Common.{◌≡◌, ℕ, List, Some, None, refl, sym, ap, s
 use Rattle.crn_vec.specs.Network.{Net}
 use Rattle.crn_vec.specs.Rank.{IsRank}
 use Rattle.crn_vec.specs.Deficiency.{vectors}
-use Rattle.crn_cert.specs.declared.answer.Answer.{Answer}
 use Rattle.crn_cert.specs.declared.answer.Verdict.{Verdict}
 use Rattle.crn_cert.specs.declared.answer.Verdict.TheVariants.{Rank, Unknown}
-use Rattle.crn_cert.specs.Questions.{Earlier, Question, Q5, Q6, IsOpen, on, rank_of}
+use Rattle.crn_cert.specs.Questions.{Earlier, Q5, Q6, IsOpen, on, rank_of}
 use Rattle.crn_cert.specs.Formed.{IsFormed}
 use Rattle.crn_cert.specs.Valid.{linkage, linkage_count}
 use Rattle.crn_cert.specs.Licensed.{IsTrueOrLicensed}

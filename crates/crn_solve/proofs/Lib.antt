@@ -1,8 +1,5 @@
 mod Leaving
 mod AllAnswers
-mod Rows
-mod NetRows
-mod WideGaps
 mod PositiveKinds
 mod PositiveAnswers
 mod Ranks

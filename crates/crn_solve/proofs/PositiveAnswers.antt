@@ -22,8 +22,8 @@ use Rattle.crn_farkas.specs.declared.fault.Stop.TheVariants.{Wide}
 use Rattle.crn_farkas.specs.Decision.{IsDecision, IsStop}
 use Rattle.crn_cert.specs.Answered.{IsAnswer}
 use Rattle.crn_solve.specs.Inner.Given.{wide_answer, vector_answer}
-use Rattle.crn_solve.proofs.NetRows.{vectors_count, row_is, rows_count, column_is, combined_past}
-use Rattle.crn_solve.proofs.WideGaps.{wide_basis}
+use Rattle.crn_conc.proofs.CallerLemmas.{vectors_count, row_is, rows_count, column_is, combined_past}
+use Rattle.crn_conc.proofs.CallerLemmas.{wide_basis}
 use Rattle.crn_solve.proofs.PositiveKinds.{each_from, IsPositiveSolution, positive_solution, IsPositiveCut, positive_cut}
 
 -- ---- positive dependence

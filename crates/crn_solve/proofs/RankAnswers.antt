@@ -23,9 +23,9 @@ use Rattle.crn_cert.proofs.CallerLemmas.{valid_answers_are_true, all_vectors, ra
 use Rattle.crn_rank.specs.Rank.{AreMembers, ProvesRank, member_matrix}
 use Rattle.crn_cert.specs.Answered.{IsAnswer}
 use Rattle.crn_solve.specs.Inner.Given.{IsRankAnswer, wide_answer}
-use Rattle.crn_solve.proofs.NetRows.{vectors_count}
+use Rattle.crn_conc.proofs.CallerLemmas.{vectors_count}
 use Rattle.crn_solve.proofs.Ranks.{rank_from}
-use Rattle.crn_solve.proofs.WideGaps.{wide_basis}
+use Rattle.crn_conc.proofs.CallerLemmas.{wide_basis}
 
 abbrev pub all_places : Net → List ℕ
 all_places net = range_with_len 1 (length net.reactions)

@@ -10,7 +10,7 @@ use Rattle.crn_vec.specs.Rank.{IsZero, IsIndependent, IsChoice, IsRank, chosen}
 use Rattle.crn_vec.specs.Deficiency.{vectors}
 use Rattle.crn_vec.proofs.CallerLemmas.{all_at, same_place, vector_long, lt_or, no_zero, is_zero, comb, entry-comb, Zero, too_many}
 use Rattle.crn_cert.specs.Ranges.{IsFrom}
-use Rattle.crn_solve.proofs.NetRows.{vectors_count, vector_at, vector_width}
+use Rattle.crn_conc.proofs.CallerLemmas.{vectors_count, vector_at, vector_width}
 
 -- ---- ascending numbers below n are at most n
 

@@ -8,8 +8,9 @@ ghost use Rattle.crn_solve.specs.Inner.Given.{vector_answer};
 
 use crate::laws::meets_definition;
 use crate::open::wide_answer;
-use crate::systems::{positive_kinds, reaction_matrix, species_matrix};
+use crate::systems::{positive_kinds, species_matrix};
 use crn_cert::{Answer, Proof, Verdict};
+use crn_conc::reaction_matrix;
 use crn_farkas::{Decision, Stop, System, decide};
 use crn_net::Network;
 use crn_vec::{Matrix, NoMemory};

@@ -1,4 +1,4 @@
-use Rattle.std.proofs.Common.{◌<◌, ℕ, List, [], length, map, get_or, ap, ◌∙◌, arith}
+use Rattle.std.proofs.Common.{ℕ, List, [], map, get_or, ap, ◌∙◌, arith}
 use Rattle.std.specs.Prelude.{ℤ}
 use Rattle.std.proofs.lemmas.List.{take_all, length-map}
 use Rattle.crn_vec.specs.Network.{sides_of}

@@ -1,4 +1,4 @@
-use Rattle.std.proofs.Common.{[], length, get_or, ◌∙◌, ap, arith}
+use Rattle.std.proofs.Common.{[], get_or, ◌∙◌, ap, arith}
 use Rattle.std.proofs.lemmas.List.{length-set}
 use Rattle.crn_vec.specs.declared.signs.Sign.{Sign}
 use Rattle.std.proofs.Common.{List, ℕ}

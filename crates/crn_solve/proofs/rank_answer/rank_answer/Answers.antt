@@ -6,7 +6,7 @@ use Rattle.crn_farkas.specs.declared.fault.Stop.TheVariants.{Wide}
 use Rattle.crn_rank.specs.Rank.{AreMembers, IsWideStop, ProvesRank, member_matrix}
 use Rattle.crn_cert.specs.Answered.{IsAnswer}
 use Rattle.crn_solve.specs.Inner.Given.{IsRankAnswer}
-use Rattle.crn_solve.proofs.Rows.{if_ok}
+use Rattle.crn_conc.proofs.CallerLemmas.{if_ok}
 use Rattle.crn_solve.proofs.RankAnswers.{are_members, base_few, rank_given, rank_wide}
 use Rattle.crn_solve.proofs.rank_answer.rank_answer.Goals as goal
 

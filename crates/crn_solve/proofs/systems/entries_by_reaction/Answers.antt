@@ -6,7 +6,7 @@ use Rattle.crn_vec.specs.Network.{reaction_vector}
 use Rattle.crn_vec.specs.Vectors.{AreWithin}
 use Rattle.crn_vec.specs.declared.limits.TheConstants.{MAX_AMOUNT}
 use Rattle.crn_vec.proofs.CallerLemmas.{flat_map_push}
-use Rattle.crn_solve.proofs.Rows.{within_append}
+use Rattle.crn_conc.proofs.CallerLemmas.{within_append}
 use Rattle.crn_solve.proofs.systems.entries_by_reaction.Goals as goal
 
 pub loop-r-preserved : goal.loop-r-preserved

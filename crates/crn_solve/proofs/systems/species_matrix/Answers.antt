@@ -4,8 +4,8 @@ use Rattle.crn_vec.specs.Network.{reaction_vector}
 use Rattle.crn_vec.specs.Vectors.{Mat}
 use Rattle.crn_vec.specs.Matrices.{mat_of}
 use Rattle.crn_vec.specs.NetSystems.{species_system}
-use Rattle.crn_solve.proofs.Rows.{length-rows_after, rows_after, if_ok}
-use Rattle.crn_solve.proofs.NetRows.{reaction_long, some_species}
+use Rattle.crn_conc.proofs.CallerLemmas.{length-rows_after, rows_after, if_ok}
+use Rattle.crn_conc.proofs.CallerLemmas.{reaction_long, some_species}
 use Rattle.crn_solve.proofs.systems.species_matrix.Goals as goal
 
 pub new-requires-clause-count : goal.new-requires-clause-count
