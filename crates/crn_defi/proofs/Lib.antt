@@ -7,6 +7,7 @@ mod DeficiencyAnswers
 mod ZeroAnswers
 mod TerminalCounts
 mod OneAnswers
+mod Splits
 mod Callers
 mod TestFacts
 pub mod CallerLemmas

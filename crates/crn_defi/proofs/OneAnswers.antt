@@ -38,17 +38,17 @@ terminals_same earlier links count labels exit_list g k =
     let third : terminals_of labels exit_list (linkage earlier) n k ≡ terminals_of labels exit_list links n k = ap (λ (ks : List ℕ). terminals_of labels exit_list ks n k) g.labels_are in
     first ∙ second ∙ third ∙ ap (λ (m : ℕ). terminals_of labels exit_list links m k) g.strong_count
 
-one_earlier : (earlier : Earlier) (links : List ℕ) (count : ℕ) (labels exit_list : List ℕ) → GiveClasses earlier links count labels exit_list → HaveOneUpTo labels exit_list links (length exit_list) count → HaveOneEach earlier
+pub one_earlier : (earlier : Earlier) (links : List ℕ) (count : ℕ) (labels exit_list : List ℕ) → GiveClasses earlier links count labels exit_list → HaveOneUpTo labels exit_list links (length exit_list) count → HaveOneEach earlier
 one_earlier earlier links count labels exit_list g one j from less = terminals_same earlier links count labels exit_list g j ∙ one j from (omega (arith, less, g.count_is))
 
 -- earlier verdicts of the classes, and one on question 6
-abbrev told : ℕ → List ℕ → ℕ → ℕ → List ℕ → List ℕ → Verdict → Earlier
+abbrev pub told : ℕ → List ℕ → ℕ → ℕ → List ℕ → List ℕ → Verdict → Earlier
 told count links strong_count terminal labels exit_list q6 =
     (Q1, Classes count (record { list = links; spare = 0 }))
     ∷ (Q2, Strong strong_count terminal (record { list = labels; spare = 0 }) (record { list = exit_list; spare = 0 }))
     ∷ (Q6, q6) ∷ []
 
-told_gives : (net : Net) (count : ℕ) (links : List ℕ) (strong_count terminal : ℕ) (labels exit_list : List ℕ) (q6 : Verdict) → Known net count links strong_count terminal labels exit_list
+pub told_gives : (net : Net) (count : ℕ) (links : List ℕ) (strong_count terminal : ℕ) (labels exit_list : List ℕ) (q6 : Verdict) → Known net count links strong_count terminal labels exit_list
     → GiveClasses (told count links strong_count terminal labels exit_list q6) links count labels exit_list
 told_gives net count links strong_count terminal labels exit_list q6 known =
     record { labels_are = refl; count_is = refl; strong_are = refl; exits_are = refl; strong_count = sym known.strong_is.classes }

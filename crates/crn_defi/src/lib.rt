@@ -6,6 +6,7 @@ mod classes;
 mod deficiency;
 mod laws;
 mod one;
+mod split;
 mod terminals;
 #[cfg(test)]
 mod tests;
@@ -13,4 +14,5 @@ mod zero;
 
 pub use deficiency::deficiencies;
 pub use one::one_hypotheses;
+pub use split::first_split;
 pub use zero::zero_hypotheses;

@@ -1,0 +1,48 @@
+-- Least reactions of pairs, one reaction after another.
+use Rattle.std.proofs.Common.{◌≡◌, ℕ, ◌+◌, ◌-◌, ◌<◌, ◌&&◌, not, Bool, true, false, List, [], ◌∷◌, ◌++◌, get_or, ap, ◌∙◌, arith}
+use Rattle.std.specs.Prelude.{ℤ, filter}
+use Rattle.std.specs.List.{AllZip, list_any, range_with_len}
+use Rattle.crn_vec.specs.Network.{Net}
+use Rattle.crn_cert.specs.Valid.{ends_at, is_same_pair, is_least_of_pair}
+use Rattle.crn_graph.specs.Pair.{HasSide}
+use Rattle.crn_defi.proofs.CallerLemmas.{in_range, range_more, filter_yes, filter_no, any_has, any_push}
+use Rattle.crn_reg.specs.Inner.Pairs.{is_within, is_pair, pairs_to}
+
+-- reaction j joins the two complexes of reaction r + 1
+abbrev pub joins_same : Net → ℕ → ℕ → Bool
+joins_same net r j = is_same_pair (ends_at net j) (ends_at net (r + 1))
+
+back : (r : ℕ) → r + 1 - 1 ≡ r
+back r = omega arith
+
+ends_back : (net : Net) (r : ℕ) → ends_at net (r + 1) ≡ get_or net.reactions r (0, 0)
+ends_back net r = ap (λ (j : ℕ). get_or net.reactions j (0, 0)) (back r)
+
+same_at : (net : Net) (r q : ℕ) → joins_same net r (q + 1) ≡ is_same_pair (get_or net.reactions q (0, 0)) (get_or net.reactions r (0, 0))
+same_at net r q = ap (λ (e : ℕ × ℕ). is_same_pair e (ends_at net (r + 1))) (ends_back net q) ∙ ap (λ (e : ℕ × ℕ). is_same_pair (get_or net.reactions q (0, 0)) e) (ends_back net r)
+
+pub least_more : (net : Net) (r q : ℕ) → list_any (joins_same net r) (range_with_len 1 q) ≡ false → is_same_pair (get_or net.reactions q (0, 0)) (get_or net.reactions r (0, 0)) ≡ false → list_any (joins_same net r) (range_with_len 1 (q + 1)) ≡ false
+least_more net r q h miss = ap (list_any (joins_same net r)) (range_more 1 q (q + 1) (omega arith)) ∙ any_push (joins_same net r) (range_with_len 1 q) (q + 1) h (same_at net r q ∙ miss)
+
+pub least_hit : (net : Net) (r q : ℕ) → q < r → is_same_pair (get_or net.reactions q (0, 0)) (get_or net.reactions r (0, 0)) ≡ true → is_least_of_pair net (r + 1) ≡ false
+least_hit net r q lt h = ap not (any_has (joins_same net r) (range_with_len 1 (r + 1 - 1)) (q + 1) (in_range (q + 1) 1 (r + 1 - 1) (omega arith) (omega (arith, lt))) (same_at net r q ∙ h))
+
+pub least_none : (net : Net) (r : ℕ) → list_any (joins_same net r) (range_with_len 1 r) ≡ false → is_least_of_pair net (r + 1) ≡ true
+least_none net r h = ap (λ (n : ℕ). not (list_any (joins_same net r) (range_with_len 1 n))) (back r) ∙ ap not h
+
+pub pair_at : (net : Net) (labels exits : List ℕ) (r : ℕ) → is_pair net labels exits (r + 1) ≡ (is_within labels exits (get_or net.reactions r (0, 0)) && is_least_of_pair net (r + 1))
+pair_at net labels exits r = ap (λ (e : ℕ × ℕ). is_within labels exits e && is_least_of_pair net (r + 1)) (ends_back net r)
+
+pub pairs_yes : (net : Net) (labels exits : List ℕ) (r : ℕ) → is_pair net labels exits (r + 1) ≡ true → pairs_to net labels exits (r + 1) ≡ pairs_to net labels exits r ++ (r + 1) ∷ []
+pairs_yes net labels exits r h = ap (filter (is_pair net labels exits)) (range_more 1 r (r + 1) (omega arith)) ∙ filter_yes (is_pair net labels exits) (range_with_len 1 r) (r + 1) h
+
+pub pairs_no : (net : Net) (labels exits : List ℕ) (r : ℕ) → is_pair net labels exits (r + 1) ≡ false → pairs_to net labels exits (r + 1) ≡ pairs_to net labels exits r
+pairs_no net labels exits r h = ap (filter (is_pair net labels exits)) (range_more 1 r (r + 1) (omega arith)) ∙ filter_no (is_pair net labels exits) (range_with_len 1 r) (r + 1) h
+
+-- ---- one side more
+
+pub sides_push : (net : Net) (rs : List ℕ) (sides : List (List ℤ)) (r : ℕ) (marks : List ℤ) → AllZip (HasSide net) rs sides → HasSide net r marks → AllZip (HasSide net) (rs ++ r ∷ []) (sides ++ marks ∷ [])
+sides_push net [] [] r marks h s = (s, tt)
+sides_push net [] (m ∷ sides) r marks h s = absurd h
+sides_push net (q ∷ rs) [] r marks h s = absurd h
+sides_push net (q ∷ rs) (m ∷ sides) r marks h s = (h.0, sides_push net rs sides r marks h.1 s)

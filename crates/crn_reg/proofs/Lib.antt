@@ -1,0 +1,3 @@
+mod FirstPairs
+mod Least
+mod RegularAnswers

@@ -1,0 +1,29 @@
+use Rattle.std.proofs.Common.{◌≡◌, ◌+◌, ◌∷◌, ◌++◌, [], List, ℕ, length, ap, sym, subst, ◌∙◌, arith}
+use Rattle.crn_vec.specs.CutPairs.{ArePairs}
+use Rattle.crn_cert.specs.Says.{from_zero}
+use Rattle.crn_reg.specs.Inner.Pairs.{pairs_to}
+use Rattle.crn_reg.proofs.Least.{pairs_yes, pairs_no}
+use Rattle.crn_reg.proofs.RegularAnswers.{pairs_are}
+use Rattle.crn_reg.proofs.pairs.pairs.Goals as goal
+use Rattle.crn_reg.proofs.pairs.pairs.Goals.{then-is_pair+in_ok-push, else-is_pair}
+
+pub loop-r-preserved : goal.loop-r-preserved
+loop-r-preserved c =
+    let net = c.args.net.now in
+    let labels = c.args.strong.now.label.list in
+    let exits = c.args.strong.now.exit.list in
+    let r = c.loop-r.r in
+    elim c.if-is_pair.branch [
+      | then-is_pair+in_ok-push w ↦
+          rw w.pairs-is (w.in_ok-push.ensures.items ∙ ap (λ (l : List ℕ). l ++ (r + 1) ∷ []) c.loop-r.invariant ∙ sym (pairs_yes net labels exits r (sym c.is_pair.ensures ∙ w.if-is_pair.true)))
+      | else-is_pair w ↦
+          rw w.pairs-is (c.loop-r.invariant ∙ sym (pairs_no net labels exits r (sym c.is_pair.ensures ∙ w.if-is_pair.false)))
+    ]
+
+pub returns-clause-pairs : goal.returns-clause-pairs
+returns-clause-pairs c =
+    let net = c.args.net.now in
+    let s = c.args.strong.now in
+    let n : length net.reactions ≡ c.loop-r.r = omega (arith, c.reactions-r-end.ensures.count, c.loop-r-test.false, c.loop-r.auto.r-end) in
+    let list : c.loop-r.pairs.items ≡ pairs_to net s.label.list s.exit.list (length net.reactions) = c.loop-r.invariant ∙ ap (pairs_to net s.label.list s.exit.list) (sym n) in
+    subst (λ (ps : List ℕ). ArePairs net.reactions (from_zero ps)) (sym list) (pairs_are net s.count s.terminal s.label.list s.exit.list c.meets_definition.ensures c.requires)

@@ -1,0 +1,6 @@
+use Rattle.std.proofs.Common.{◌≡◌}
+use Rattle.crn_reg.specs.Inner.Pairs.{pairs_to}
+use Rattle.crn_reg.proofs.pairs.pairs.Given as goal
+
+abbrev pub invariant-loop-r : goal.invariant-loop-r
+invariant-loop-r l = l.pairs.items ≡ pairs_to l.net l.strong.label.list l.strong.exit.list l.r
