@@ -120,7 +120,7 @@ fn rule_out_b<P: SignProblem>(
 }
 
 // The full prefix, which stands, with solutions of its parts.
-fn found<P: SignProblem>(
+fn found_end<P: SignProblem>(
     alloc: Global,
     problem: &P,
     search: &mut Progress,
@@ -151,7 +151,7 @@ fn found<P: SignProblem>(
 }
 
 // A tree in memory of its own.
-fn boxed(alloc: Global, tree: Tree) -> Result<Box<Tree>, NoMemory>
+fn box_of(alloc: Global, tree: Tree) -> Result<Box<Tree>, NoMemory>
     ensures { IfOk result (λ made. made.value ≡ tree) }
 {
     match Box::new(alloc, tree) {
@@ -201,11 +201,11 @@ fn split<P: SignProblem>(
 {
     let zeros = is_all_zero(&search.prefix);
     let zero = match child(alloc, problem, search, Sign::Zero)? {
-        SearchEnd::Refuted(tree) => boxed(alloc, tree)?,
+        SearchEnd::Refuted(tree) => box_of(alloc, tree)?,
         end => return Ok(end),
     };
     let plus = match child(alloc, problem, search, Sign::Plus)? {
-        SearchEnd::Refuted(tree) => boxed(alloc, tree)?,
+        SearchEnd::Refuted(tree) => box_of(alloc, tree)?,
         end => return Ok(end),
     };
     if zeros {
@@ -216,7 +216,7 @@ fn split<P: SignProblem>(
         }));
     }
     let minus = match child(alloc, problem, search, Sign::Minus)? {
-        SearchEnd::Refuted(tree) => boxed(alloc, tree)?,
+        SearchEnd::Refuted(tree) => box_of(alloc, tree)?,
         end => return Ok(end),
     };
     Ok(SearchEnd::Refuted(Tree::Split {
@@ -255,7 +255,7 @@ pub(crate) fn walk<P: SignProblem>(
         return Ok(SearchEnd::Refuted(Tree::CutA(u)));
     }
     if search.prefix.len() == problem.length() {
-        let end = found(alloc, problem, search)?;
+        let end = found_end(alloc, problem, search)?;
         return Ok(end);
     }
     let end = split(alloc, problem, search)?;
