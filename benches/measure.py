@@ -11,7 +11,8 @@ import time
 
 TIME = "/usr/bin/time"
 # Where an answer leaves a choice, the line that shows it begins with one of these.
-CHOICES = (b"  reaction ", b"  independent reactions: ", b"  positive combination: ", b"  positive law: ", b"  multipliers: ")
+CHOICES = (b"  reaction ", b"  independent reactions: ", b"  positive combination: ", b"  positive law: ", b"  multipliers: ", b"  sigma: ",
+           b"  alpha: ", b"  turn: ", b"  shelves: ", b"  mu: ", b"  m: ")
 
 
 def told():
