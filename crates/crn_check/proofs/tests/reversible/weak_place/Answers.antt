@@ -1,4 +1,4 @@
-use Rattle.crn_check.proofs.tests.weak_place.Goals as goal
+use Rattle.crn_check.proofs.tests.reversible.weak_place.Goals as goal
 
 pub check_head-requires-clause-head : goal.check_head-requires-clause-head
 check_head-requires-clause-head c = c.requires.weak_head c.args.facts.now.earlier

@@ -1,7 +1,7 @@
-use Rattle.std.proofs.Common.{◌≡◌, ◌-◌, ◌+◌, true, ℕ, length, sym, subst, ◌∙◌, arith}
+use Rattle.std.proofs.Common.{◌≡◌, ◌-◌, ◌+◌, true, ℕ, sym, subst, ◌∙◌, arith}
 use Rattle.crn_check.specs.Inner.Bases.{is_member}
 use Rattle.crn_check.proofs.BaseForms.{member_in}
-use Rattle.crn_check.proofs.tests.is_member.Goals as goal
+use Rattle.crn_check.proofs.tests.ranks.is_member.Goals as goal
 
 pub returns : goal.returns
 returns c = λ met. (

@@ -1,16 +1,15 @@
-use Rattle.std.proofs.Common.{rules, ◌≡◌, ◌-◌, ◌+◌, ℕ, suc, List, length, IsTrue, ap, sym, subst, arith}
-use Rattle.std.specs.Prelude.{ℤ}
+use Rattle.std.proofs.Common.{rules, ◌≡◌, ◌+◌, ℕ, suc, List, length, IsTrue, ap, sym, subst, arith}
 use Rattle.std.specs.List.{AllByRecursion}
 use Rattle.crn_vec.specs.Lists.{IsIn, IsAscending}
 use Rattle.crn_cert.specs.Ranges.{AreFree, AreFreeRows}
 use Rattle.crn_check.specs.Inner.Bases.{members_of}
-use Rattle.crn_check.proofs.tests.rank_proof.Goals as goal
+use Rattle.crn_check.proofs.tests.ranks.rank_proof.Goals as goal
 
 pub returns-clause-proof : goal.returns-clause-proof
 returns-clause-proof g c =
     let net = c.args.net.now in
-    let base = c.args.base.now in
-    let same = c.in_ok-from_slice.ensures.list in
+    let base = c.args.row.now.base.now in
+    let same = c.nums.ensures in
     let ms = members_of net c.args.members.now in
     let up : IsAscending base = search rules in
     let met : IsTrue c.are_members.result = search rules in
@@ -20,9 +19,9 @@ returns-clause-proof g c =
       long = ap (λ (l : List ℕ). length l) same;
       ascending = subst IsAscending (sym same) up;
       from = λ r i. from r (subst (IsIn r) same i);
-      duals = subst (λ (w : ℕ). AreFreeRows (length base) w c.in_ok-rows.field-0) c.species.ensures.count c.in_ok-rows.ensures;
+      duals = subst (λ (w : ℕ). AreFreeRows (length base) w c.rows.result) c.species.ensures.count c.rows.ensures;
       combs = record {
-        long = omega (arith, c.in_ok-rows-2.ensures.long, c.count-count.ensures);
-        each = subst (λ (w : ℕ). AllByRecursion (AreFree w) c.in_ok-rows-2.field-0) width c.in_ok-rows-2.ensures.each;
+        long = omega (arith, c.rows-2.ensures.long, c.count-count.ensures);
+        each = subst (λ (w : ℕ). AllByRecursion (AreFree w) c.rows-2.result) width c.rows-2.ensures.each;
       };
     }

@@ -1,7 +1,7 @@
 use Rattle.std.proofs.Common.{◌≡◌, length}
 use Rattle.std.specs.List.{AllByRecursion}
 use Rattle.crn_cert.specs.Ranges.{AreFree}
-use Rattle.crn_check.proofs.tests.rows.Given as goal
+use Rattle.crn_check.proofs.tests.ranks.rows.Given as goal
 
 -- there are so many rows so far
 abbrev pub invariant-loop-i : goal.invariant-loop-i

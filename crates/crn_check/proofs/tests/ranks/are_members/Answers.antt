@@ -2,7 +2,7 @@ use Rattle.std.proofs.Common.{ℕ, inl, inr, slice_index_or, sym, subst, arith}
 use Rattle.crn_vec.specs.Lists.{IsIn}
 use Rattle.crn_vec.proofs.CallerLemmas.{in_at, eq_or}
 use Rattle.crn_check.specs.Inner.Bases.{members_of}
-use Rattle.crn_check.proofs.tests.are_members.Goals as goal
+use Rattle.crn_check.proofs.tests.ranks.are_members.Goals as goal
 
 pub loop-i-preserved : goal.loop-i-preserved
 loop-i-preserved c = λ k lt.

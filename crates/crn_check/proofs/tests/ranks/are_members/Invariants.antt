@@ -1,7 +1,7 @@
 use Rattle.std.proofs.Common.{◌<◌, ℕ, get_or}
 use Rattle.crn_vec.specs.Lists.{IsIn}
 use Rattle.crn_check.specs.Inner.Bases.{members_of}
-use Rattle.crn_check.proofs.tests.are_members.Given as goal
+use Rattle.crn_check.proofs.tests.ranks.are_members.Given as goal
 
 -- the numbers so far are those of members
 abbrev pub invariant-loop-i : goal.invariant-loop-i
