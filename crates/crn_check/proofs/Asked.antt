@@ -4,7 +4,7 @@ use Rattle.std.specs.List.{AllByRecursion}
 use Rattle.crn_vec.specs.Lists.{IsIn}
 use Rattle.crn_cert.specs.declared.answer.Verdict.{Verdict}
 use Rattle.crn_cert.specs.Built.{built}
-use Rattle.crn_cert.specs.Questions.{Earlier, Question, Q1, Q2, Q3, Q4, Q5, number}
+use Rattle.crn_cert.specs.Questions.{Earlier, Question, Q1, Q2, Q3, Q4, Q5, Q6, Q7, Q8, Q9, number}
 use Rattle.crn_check.specs.Facts.{HoldsOn, HoldsNoneFrom}
 use Rattle.crn_check.specs.Check.{IsBuilt, HoldsNeeds}
 
@@ -37,7 +37,19 @@ needs_held es n (inr (inr (inr (inr (inr (inl is)))))) before =
     rw is (held es Q1 first, (held es Q5 fifth, tt))
 needs_held es n (inr (inr (inr (inr (inr (inr (inl is))))))) before = rw is tt
 needs_held es n (inr (inr (inr (inr (inr (inr (inr (inl is)))))))) before = rw is tt
-needs_held es n (inr (inr (inr (inr (inr (inr (inr (inr none)))))))) before = absurd none
+needs_held es n (inr (inr (inr (inr (inr (inr (inr (inr (inl is))))))))) before =
+    let eight : asks es ≡ Q1 ∷ Q2 ∷ Q3 ∷ Q4 ∷ Q5 ∷ Q6 ∷ Q7 ∷ Q8 ∷ [] = rw is at before in
+    let first : IsIn Q1 (asks es) = rw eight (inl refl) in
+    let fourth : IsIn Q4 (asks es) = rw eight (inr (inr (inr (inl refl)))) in
+    let fifth : IsIn Q5 (asks es) = rw eight (inr (inr (inr (inr (inl refl))))) in
+    rw is (held es Q1 first, (held es Q4 fourth, (held es Q5 fifth, tt)))
+needs_held es n (inr (inr (inr (inr (inr (inr (inr (inr (inr (inl is)))))))))) before =
+    let nine : asks es ≡ Q1 ∷ Q2 ∷ Q3 ∷ Q4 ∷ Q5 ∷ Q6 ∷ Q7 ∷ Q8 ∷ Q9 ∷ [] = rw is at before in
+    let first : IsIn Q1 (asks es) = rw nine (inl refl) in
+    let second : IsIn Q2 (asks es) = rw nine (inr (inl refl)) in
+    let sixth : IsIn Q6 (asks es) = rw nine (inr (inr (inr (inr (inr (inl refl)))))) in
+    rw is (held es Q1 first, (held es Q2 second, (held es Q6 sixth, tt)))
+needs_held es n (inr (inr (inr (inr (inr (inr (inr (inr (inr (inr none)))))))))) before = absurd none
 
 pub none_from : (es : Earlier) (n : ℕ) → IsBuilt n → asks es ≡ take (n - 1) built → HoldsNoneFrom n es
 none_from es n is before = below es n (subst (AllByRecursion (λ q. number q < n)) (sym before) (go n is))
@@ -51,4 +63,6 @@ none_from es n is before = below es n (subst (AllByRecursion (λ q. number q < n
     go n (inr (inr (inr (inr (inr (inl is)))))) = rw is (omega arith, (omega arith, (omega arith, (omega arith, (omega arith, tt)))))
     go n (inr (inr (inr (inr (inr (inr (inl is))))))) = rw is (omega arith, (omega arith, (omega arith, (omega arith, (omega arith, (omega arith, tt))))))
     go n (inr (inr (inr (inr (inr (inr (inr (inl is)))))))) = rw is (omega arith, (omega arith, (omega arith, (omega arith, (omega arith, (omega arith, (omega arith, tt)))))))
-    go n (inr (inr (inr (inr (inr (inr (inr (inr none)))))))) = absurd none
+    go n (inr (inr (inr (inr (inr (inr (inr (inr (inl is))))))))) = rw is (omega arith, (omega arith, (omega arith, (omega arith, (omega arith, (omega arith, (omega arith, (omega arith, tt))))))))
+    go n (inr (inr (inr (inr (inr (inr (inr (inr (inr (inl is)))))))))) = rw is (omega arith, (omega arith, (omega arith, (omega arith, (omega arith, (omega arith, (omega arith, (omega arith, (omega arith, tt)))))))))
+    go n (inr (inr (inr (inr (inr (inr (inr (inr (inr (inr none)))))))))) = absurd none

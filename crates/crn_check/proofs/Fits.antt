@@ -4,8 +4,8 @@ use Rattle.crn_vec.specs.Network.{Net, IsNetwork}
 use Rattle.crn_cert.specs.declared.answer.Answer.{Answer}
 use Rattle.crn_cert.specs.declared.answer.Gap.TheVariants.{Wide, Budget, Rests}
 use Rattle.crn_cert.specs.declared.answer.Verdict.{Verdict}
-use Rattle.crn_cert.specs.declared.answer.Verdict.TheVariants.{Classes, Strong, Rank, Deficiency, Yes, YesVec, NoReaction, NoVec, Unknown}
-use Rattle.crn_cert.specs.Questions.{Earlier, Q1, Q2, Q3, Q4, Q5, Q6, Q7, Q8}
+use Rattle.crn_cert.specs.declared.answer.Verdict.TheVariants.{Classes, Strong, Rank, Deficiency, Yes, YesWeak, YesVec, NoReaction, NoVec, NoNumber, NoTerminal, NoClass, NoSum, Unknown}
+use Rattle.crn_cert.specs.Questions.{Earlier, Q1, Q2, Q3, Q4, Q5, Q6, Q7, Q8, Q9, Q10}
 use Rattle.crn_cert.specs.Valid.{linkage_count}
 use Rattle.crn_cert.specs.Formed.{IsFormed}
 use Rattle.crn_cert.specs.FormedVerdicts.{IsFormedVerdict}
@@ -76,6 +76,24 @@ fits_8 net e (Unknown (Budget nodes)) n f = absurd f.0
 fits_8 net e (Unknown (Rests question)) n f = absurd f.0
 fits_8 net e v n f = absurd f.0
 
+fits_9 : (net : Net) (e : Earlier) (v : Verdict) → IsFormedVerdict net e Q9 v → DoesFit v
+fits_9 net e (YesWeak weak) f = tt
+fits_9 net e (NoNumber number) f = tt
+fits_9 net e (Unknown (Wide system class index basis)) f = absurd f.0
+fits_9 net e (Unknown (Budget nodes)) f = absurd f.0
+fits_9 net e (Unknown (Rests question)) f = tt
+fits_9 net e v f = absurd f.0
+
+fits_10 : (net : Net) (e : Earlier) (v : Verdict) → IsFormedVerdict net e Q10 v → DoesFit v
+fits_10 net e Yes f = tt
+fits_10 net e (NoTerminal class count) f = tt
+fits_10 net e (NoClass class number) f = tt
+fits_10 net e (NoSum sum) f = tt
+fits_10 net e (Unknown (Wide system class index basis)) f = absurd f.0
+fits_10 net e (Unknown (Budget nodes)) f = absurd f.0
+fits_10 net e (Unknown (Rests question)) f = tt
+fits_10 net e v f = absurd f.0
+
 pub answer_fits : (net : Net) (facts : KeptFacts) (n : ℕ) (a : Answer) → IsNetwork net → IsBuilt n → AreFactsOf net facts → HoldsNeeds facts.earlier n → IsFormed net facts.earlier (asked n) a → DoesFit a.verdict
 answer_fits net facts n a network built h needs formed = go n built needs (formed_answers_have_formed_verdicts net facts.earlier (asked n) a.verdict a.proof formed)
   where
@@ -91,4 +109,6 @@ answer_fits net facts n a network built h needs formed = go n built needs (forme
         fits_6 net facts.earlier a.verdict network (linkage_labelled net facts h held.0).1 g
     go n (inr (inr (inr (inr (inr (inr (inl is))))))) needs f = let g : IsFormedVerdict net facts.earlier Q7 a.verdict = subst (λ (m : ℕ). IsFormedVerdict net facts.earlier (asked m) a.verdict) is f in fits_7 net facts.earlier a.verdict network g
     go n (inr (inr (inr (inr (inr (inr (inr (inl is)))))))) needs f = let g : IsFormedVerdict net facts.earlier Q8 a.verdict = subst (λ (m : ℕ). IsFormedVerdict net facts.earlier (asked m) a.verdict) is f in fits_8 net facts.earlier a.verdict network g
-    go n (inr (inr (inr (inr (inr (inr (inr (inr none)))))))) needs f = absurd none
+    go n (inr (inr (inr (inr (inr (inr (inr (inr (inl is))))))))) needs f = let g : IsFormedVerdict net facts.earlier Q9 a.verdict = subst (λ (m : ℕ). IsFormedVerdict net facts.earlier (asked m) a.verdict) is f in fits_9 net facts.earlier a.verdict g
+    go n (inr (inr (inr (inr (inr (inr (inr (inr (inr (inl is)))))))))) needs f = let g : IsFormedVerdict net facts.earlier Q10 a.verdict = subst (λ (m : ℕ). IsFormedVerdict net facts.earlier (asked m) a.verdict) is f in fits_10 net facts.earlier a.verdict g
+    go n (inr (inr (inr (inr (inr (inr (inr (inr (inr (inr none)))))))))) needs f = absurd none

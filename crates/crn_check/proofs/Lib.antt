@@ -15,3 +15,5 @@ mod Fits
 mod Outside
 mod ClassRanks
 mod BaseForms
+mod ClassTerminals
+mod Theorems

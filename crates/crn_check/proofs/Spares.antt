@@ -1,22 +1,22 @@
 -- The form, the tests and the truth of an answer do not depend on spares of lists.
-use Rattle.std.proofs.Common.{◌≡◌, ◌↔◌, ◌≤◌, ◌==◌, ◌+◌, ◌-◌, Bool, true, false, if◌then◌else◌, inl, inr, ℕ, suc, List, [], ◌∷◌, ◌++◌, length, map, get_or, refl, sym, ap, ap₂, subst, ◌∙◌}
-use Rattle.std.specs.Prelude.{min, filter, Option}
+use Rattle.std.proofs.Common.{◌≡◌, ◌↔◌, ◌≤◌, ◌==◌, ◌+◌, ◌-◌, ◌<◌, ◌≢◌, Bool, true, false, if◌then◌else◌, inl, inr, ℕ, suc, List, [], ◌∷◌, ◌++◌, length, map, get_or, refl, sym, ap, ap₂, subst, ◌∙◌}
+use Rattle.std.specs.Prelude.{◌&&◌, IsTrue, min, filter, count_by, sum, Option}
 use Rattle.std.specs.Option.{IsSome, IsSomeAnd}
-use Rattle.std.specs.List.{range_with_len}
-use Rattle.crn_vec.specs.Deficiency.{class_members}
+use Rattle.std.specs.List.{list_any, range_with_len}
+use Rattle.crn_vec.specs.Deficiency.{AreAtMostOne, class_members}
 use Rattle.crn_vec.specs.Lists.{IsIn}
 use Rattle.crn_vec.specs.Network.{Net}
 use Rattle.crn_cert.specs.declared.answer.Gap.TheVariants.{Wide, Budget, Rests}
 use Rattle.crn_cert.specs.declared.answer.Verdict.{Verdict}
-use Rattle.crn_cert.specs.declared.answer.Verdict.TheVariants.{Classes, Strong, Rank, Deficiency, Yes, YesVec, NoReaction, NoVec, Unknown}
+use Rattle.crn_cert.specs.declared.answer.Verdict.TheVariants.{Classes, Strong, Rank, Deficiency, Yes, YesWeak, YesVec, NoReaction, NoVec, NoNumber, NoTerminal, NoClass, NoSum, Unknown}
 use Rattle.crn_cert.specs.declared.answer.Proof.{Proof}
 use Rattle.crn_cert.specs.declared.answer.Proof.TheVariants.{Nothing, Forest, Strong as StrongTrees, Back, Rank as RankRows, Ranks, Sides, Ties, One, Two}
 use Rattle.crn_cert.specs.declared.answer.RankProof.{RankProof}
 use Rattle.crn_cert.specs.Built.{built}
-use Rattle.crn_cert.specs.Questions.{Earlier, Question, Q1, Q2, Q3, Q4, Q5, Q6, Q7, Q8, Q9, Q10, Q11, Q12, Q13, Q14, Q15, number, on, labels_of, count_of, rank_of}
+use Rattle.crn_cert.specs.Questions.{Earlier, Question, Q1, Q2, Q3, Q4, Q5, Q6, Q7, Q8, Q9, Q10, Q11, Q12, Q13, Q14, Q15, number, on, labels_of, count_of, exits_of, rank_of, deficiencies_of, IsYes}
 use Rattle.crn_cert.specs.Tests.{Test, test, AllHold, FailsFirst}
 use Rattle.crn_cert.specs.Formed.{IsFormedOf, IsRankProof, IsWideGap, IsBasisOf, AreClassProofs}
-use Rattle.crn_cert.specs.Valid.{head_tests, row_tests, strong, linkage, linkage_count, class_places, IsLeft, IsClassNumber, AreClassNumbers, class_rank_tests}
+use Rattle.crn_cert.specs.Valid.{head_tests, row_tests, strong, linkage, linkage_count, exits, classes_to, HaveOneBefore, HaveOneEach, IsFirstSplit, WithDeficiencies, terminals_in, class_places, IsLeft, IsClassNumber, AreClassNumbers, IsFirstLarge, class_rank_tests}
 use Rattle.crn_cert.specs.RankTests.{rank_tests}
 use Rattle.crn_cert.specs.Ranges.{IsFrom, AreFrom}
 use Rattle.crn_cert.specs.Law.{IsTrueOrOpen}
@@ -91,6 +91,9 @@ heads_4 net es (NoReaction r) = rw (strong_tight es) refl
 heads_4 net es (Unknown gap) = refl
 heads_4 net es v = refl
 
+left_tight : (net : Net) (es : Earlier) (total : ℕ) → IsLeft net (all_tight es) total (rank_of (on (all_tight es) Q5)) ≡ IsLeft net es total (rank_of (on es Q5))
+left_tight net es total = ap₂ (λ (count : ℕ) (rank : Option ℕ). IsSomeAnd rank (λ s. total + count + s ≡ length net.complexes)) (linkage_count_tight es) (rank_known_tight es)
+
 heads_6 : (net : Net) (es : Earlier) (v : Verdict) → head_tests net (all_tight es) Q6 (tight v) ≡ head_tests net es Q6 v
 heads_6 net es (Deficiency total classes) =
     ap₂ (λ (rank : Option ℕ) (P : Type 0). test 0 37 (IsSome rank) ∷ test 0 36 P ∷ []) (rank_known_tight es)
@@ -101,6 +104,65 @@ heads_6 net es (Deficiency total classes) =
 heads_6 net es (Unknown gap) = refl
 heads_6 net es v = refl
 
+exits_tight : (v : Verdict) → exits_of (tight v) ≡ exits_of v
+exits_tight (Unknown gap) = refl
+exits_tight v = refl
+
+deficiencies_tight : (v : Verdict) → deficiencies_of (tight v) ≡ deficiencies_of v
+deficiencies_tight (Unknown gap) = refl
+deficiencies_tight v = refl
+
+yes_tight : (v : Verdict) → IsYes (tight v) ≡ IsYes v
+yes_tight (Unknown gap) = refl
+yes_tight v = refl
+
+-- the number of terminal classes of a linkage class, by lists
+abbrev terminals_by : (exits_are strong_are linkage_are : List ℕ) → (count k : ℕ) → ℕ
+terminals_by exits_are strong_are linkage_are count k =
+    count_by (λ m. (get_or exits_are (m - 1) 0 == 0) && list_any (λ c. (get_or strong_are c 0 == m) && (get_or linkage_are c 0 == k)) (range_with_len 0 (length strong_are))) (classes_to count)
+
+terminals_tight : (es : Earlier) (k : ℕ) → terminals_in (all_tight es) k ≡ terminals_in es k
+terminals_tight es k =
+    ap₂ (λ (a b : List ℕ). terminals_by a b (linkage (all_tight es)) (count_of (on (all_tight es) Q2)) k) (ap exits_of (on_tight es Q2) ∙ exits_tight (on es Q2)) (strong_tight es)
+    ∙ ap₂ (λ (l : List ℕ) (n : ℕ). terminals_by (exits es) (strong es) l n k) (linkage_tight es) (ap count_of (on_tight es Q2) ∙ count_tight (on es Q2))
+
+abbrev OneBefore : (exits_are strong_are linkage_are : List ℕ) → (count k : ℕ) → Type 0
+OneBefore exits_are strong_are linkage_are count k = (j : ℕ) → 1 ≤ j → j < k → terminals_by exits_are strong_are linkage_are count j ≡ 1
+
+before_tight : (es : Earlier) (k : ℕ) → HaveOneBefore (all_tight es) k ≡ HaveOneBefore es k
+before_tight es k =
+    ap₂ (λ (a b : List ℕ). OneBefore a b (linkage (all_tight es)) (count_of (on (all_tight es) Q2)) k) (ap exits_of (on_tight es Q2) ∙ exits_tight (on es Q2)) (strong_tight es)
+    ∙ ap₂ (λ (l : List ℕ) (n : ℕ). OneBefore (exits es) (strong es) l n k) (linkage_tight es) (ap count_of (on_tight es Q2) ∙ count_tight (on es Q2))
+
+each_tight : (es : Earlier) → HaveOneEach (all_tight es) ≡ HaveOneEach es
+each_tight es = before_tight es (suc (linkage_count (all_tight es))) ∙ ap (λ (n : ℕ). HaveOneBefore es (suc n)) (linkage_count_tight es)
+
+heads_9 : (net : Net) (es : Earlier) (v : Verdict) → head_tests net (all_tight es) Q9 (tight v) ≡ head_tests net es Q9 v
+heads_9 net es (YesWeak weak) =
+    ap₂ (λ (rank : Option ℕ) (A : Type 0). test 0 37 (IsSome rank) ∷ test 0 37 A ∷ []) (rank_known_tight es)
+    (ap₂ (λ (A B : Type 0). A × (IsTrue weak ↔ B)) (left_tight net es 0) (ap IsYes (on_tight es Q4) ∙ yes_tight (on es Q4)))
+heads_9 net es (NoNumber d) = ap₂ (λ (rank : Option ℕ) (A : Type 0). test 0 37 (IsSome rank) ∷ test 0 36 A ∷ []) (rank_known_tight es) (left_tight net es d)
+heads_9 net es (Unknown gap) = refl
+heads_9 net es v = refl
+
+-- a test of terminal classes and of deficiencies
+known_tight : (es : Earlier) (Has : ℕ → List ℕ → Type 0) → (HaveOneEach (all_tight es) × WithDeficiencies Has (deficiencies_of (on (all_tight es) Q6))) ≡ (HaveOneEach es × WithDeficiencies Has (deficiencies_of (on es Q6)))
+known_tight es Has = ap₂ (λ (A : Type 0) (known : Option (ℕ × List ℕ)). A × WithDeficiencies Has known) (each_tight es) (ap deficiencies_of (on_tight es Q6) ∙ deficiencies_tight (on es Q6))
+
+split_tight : (es : Earlier) (k count : ℕ) → IsFirstSplit (all_tight es) k count ≡ IsFirstSplit es k count
+split_tight es k count = ap₂ (λ (n : ℕ) (A : Type 0). (n ≡ count) × (2 ≤ count) × A) (terminals_tight es k) (before_tight es k)
+
+abbrev alone : Type 0 → List {1} Test
+alone A = test 0 37 A ∷ []
+
+heads_10 : (net : Net) (es : Earlier) (v : Verdict) → head_tests net (all_tight es) Q10 (tight v) ≡ head_tests net es Q10 v
+heads_10 net es Yes = ap (λ (A : Type 0). alone A) (known_tight es (λ total classes. AreAtMostOne classes × (sum classes ≡ total)))
+heads_10 net es (NoTerminal k count) = ap (λ (A : Type 0). alone A) (split_tight es k count)
+heads_10 net es (NoClass k d) = ap (λ (A : Type 0). alone A) (known_tight es (λ total classes. IsFirstLarge k d classes))
+heads_10 net es (NoSum x) = ap (λ (A : Type 0). alone A) (known_tight es (λ total classes. AreAtMostOne classes × (sum classes ≡ x) × (x ≢ total)))
+heads_10 net es (Unknown gap) = refl
+heads_10 net es v = refl
+
 pub head_tests_tight : (net : Net) (es : Earlier) (q : Question) (v : Verdict) → IsIn q built → head_tests net (all_tight es) q (tight v) ≡ head_tests net es q v
 head_tests_tight net es q v (inl is) = rw is refl
 head_tests_tight net es q v (inr (inl is)) = rw is refl
@@ -110,7 +172,9 @@ head_tests_tight net es q v (inr (inr (inr (inr (inl is))))) = rw is refl
 head_tests_tight net es q v (inr (inr (inr (inr (inr (inl is)))))) = rw is (heads_6 net es v)
 head_tests_tight net es q v (inr (inr (inr (inr (inr (inr (inl is))))))) = rw is refl
 head_tests_tight net es q v (inr (inr (inr (inr (inr (inr (inr (inl is)))))))) = rw is refl
-head_tests_tight net es q v (inr (inr (inr (inr (inr (inr (inr (inr none)))))))) = absurd none
+head_tests_tight net es q v (inr (inr (inr (inr (inr (inr (inr (inr (inl is))))))))) = rw is (heads_9 net es v)
+head_tests_tight net es q v (inr (inr (inr (inr (inr (inr (inr (inr (inr (inl is)))))))))) = rw is (heads_10 net es v)
+head_tests_tight net es q v (inr (inr (inr (inr (inr (inr (inr (inr (inr (inr none)))))))))) = absurd none
 
 -- ---- records
 
@@ -156,7 +220,9 @@ row_tests_tight net es q v p (inr (inr (inr (inr (inl is))))) = rw is (rows_5 ne
 row_tests_tight net es q v p (inr (inr (inr (inr (inr (inl is)))))) = rw is (rows_6 net es v p)
 row_tests_tight net es q v p (inr (inr (inr (inr (inr (inr (inl is))))))) = rw is (rows_7 net es v p)
 row_tests_tight net es q v p (inr (inr (inr (inr (inr (inr (inr (inl is)))))))) = rw is (rows_8 net es v p)
-row_tests_tight net es q v p (inr (inr (inr (inr (inr (inr (inr (inr none)))))))) = absurd none
+row_tests_tight net es q v p (inr (inr (inr (inr (inr (inr (inr (inr (inl is))))))))) = rw is refl
+row_tests_tight net es q v p (inr (inr (inr (inr (inr (inr (inr (inr (inr (inl is)))))))))) = rw is refl
+row_tests_tight net es q v p (inr (inr (inr (inr (inr (inr (inr (inr (inr (inr none)))))))))) = absurd none
 
 -- ---- forms
 
@@ -287,6 +353,36 @@ forms_8 net es (NoVec multipliers) Nothing = (λ h. h, λ h. h)
 forms_8 net es (NoVec multipliers) p = (λ h. absurd h.1, λ h. absurd h.1)
 forms_8 net es v p = (λ h. absurd h.0, λ h. absurd h.0)
 
+forms_9 : (net : Net) (es : Earlier) (v : Verdict) (p : Proof) → (IsFormedOf net (all_tight es) Q9 (tight v) (tight_proof p) ↔ IsFormedOf net es Q9 v p)
+forms_9 net es (Unknown (Wide system class index basis)) p = (λ h. absurd h.0, λ h. absurd h.0)
+forms_9 net es (Unknown (Budget nodes)) p = (λ h. absurd h.0, λ h. absurd h.0)
+forms_9 net es (Unknown (Rests question)) p = (λ h. (h.0, nothing p h.1), λ h. (h.0, ap tight_proof h.1))
+forms_9 net es (YesWeak weak) Nothing = (λ h. h, λ h. h)
+forms_9 net es (YesWeak weak) p = (λ h. absurd h.1, λ h. absurd h.1)
+forms_9 net es (NoNumber d) Nothing = (λ h. h, λ h. h)
+forms_9 net es (NoNumber d) p = (λ h. absurd h.1, λ h. absurd h.1)
+forms_9 net es v p = (λ h. absurd h.0, λ h. absurd h.0)
+
+-- a class of so many, in either list of verdicts
+classes_tight : (es : Earlier) (class : ℕ) → IsFrom 1 (linkage_count (all_tight es)) class ≡ IsFrom 1 (linkage_count es) class
+classes_tight es class = ap (λ (n : ℕ). IsFrom 1 n class) (linkage_count_tight es)
+
+forms_10 : (net : Net) (es : Earlier) (v : Verdict) (p : Proof) → (IsFormedOf net (all_tight es) Q10 (tight v) (tight_proof p) ↔ IsFormedOf net es Q10 v p)
+forms_10 net es (Unknown (Wide system class index basis)) p = (λ h. absurd h.0, λ h. absurd h.0)
+forms_10 net es (Unknown (Budget nodes)) p = (λ h. absurd h.0, λ h. absurd h.0)
+forms_10 net es (Unknown (Rests question)) p = (λ h. (h.0, nothing p h.1), λ h. (h.0, ap tight_proof h.1))
+forms_10 net es Yes Nothing = (λ h. h, λ h. h)
+forms_10 net es Yes p = (λ h. absurd h.1, λ h. absurd h.1)
+forms_10 net es (NoTerminal class count) Nothing =
+    (λ h. ((subst (λ (A : Type 0). A) (classes_tight es class) h.0.0, h.0.1), tt), λ h. ((subst (λ (A : Type 0). A) (sym (classes_tight es class)) h.0.0, h.0.1), tt))
+forms_10 net es (NoTerminal class count) p = (λ h. absurd h.1, λ h. absurd h.1)
+forms_10 net es (NoClass class d) Nothing =
+    (λ h. ((subst (λ (A : Type 0). A) (classes_tight es class) h.0.0, h.0.1), tt), λ h. ((subst (λ (A : Type 0). A) (sym (classes_tight es class)) h.0.0, h.0.1), tt))
+forms_10 net es (NoClass class d) p = (λ h. absurd h.1, λ h. absurd h.1)
+forms_10 net es (NoSum x) Nothing = (λ h. h, λ h. h)
+forms_10 net es (NoSum x) p = (λ h. absurd h.1, λ h. absurd h.1)
+forms_10 net es v p = (λ h. absurd h.0, λ h. absurd h.0)
+
 pub formed_tight : (net : Net) (es : Earlier) (q : Question) (v : Verdict) (p : Proof) → IsIn q built → (IsFormedOf net (all_tight es) q (tight v) (tight_proof p) ↔ IsFormedOf net es q v p)
 formed_tight net es q v p (inl is) = rw is (forms_1 net es v p)
 formed_tight net es q v p (inr (inl is)) = rw is (forms_2 net es v p)
@@ -296,7 +392,9 @@ formed_tight net es q v p (inr (inr (inr (inr (inl is))))) = rw is (forms_5 net 
 formed_tight net es q v p (inr (inr (inr (inr (inr (inl is)))))) = rw is (forms_6 net es v p)
 formed_tight net es q v p (inr (inr (inr (inr (inr (inr (inl is))))))) = rw is (forms_7 net es v p)
 formed_tight net es q v p (inr (inr (inr (inr (inr (inr (inr (inl is)))))))) = rw is (forms_8 net es v p)
-formed_tight net es q v p (inr (inr (inr (inr (inr (inr (inr (inr none)))))))) = absurd none
+formed_tight net es q v p (inr (inr (inr (inr (inr (inr (inr (inr (inl is))))))))) = rw is (forms_9 net es v p)
+formed_tight net es q v p (inr (inr (inr (inr (inr (inr (inr (inr (inr (inl is)))))))))) = rw is (forms_10 net es v p)
+formed_tight net es q v p (inr (inr (inr (inr (inr (inr (inr (inr (inr (inr none)))))))))) = absurd none
 
 -- ---- truth
 

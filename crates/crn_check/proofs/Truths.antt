@@ -7,7 +7,7 @@ use Rattle.crn_cert.specs.declared.answer.Answer.{Answer}
 use Rattle.crn_cert.specs.declared.answer.Gap.TheVariants.{Wide, Budget, Rests}
 use Rattle.crn_cert.specs.declared.answer.Verdict.{Verdict}
 use Rattle.crn_cert.specs.declared.answer.Verdict.TheVariants.{Unknown}
-use Rattle.crn_cert.specs.Questions.{Earlier, Question, Q1, Q2, Q5, number, on}
+use Rattle.crn_cert.specs.Questions.{Earlier, Question, Q1, Q2, Q4, Q5, Q6, number, on}
 use Rattle.crn_cert.specs.Says.{IsTrueOf}
 use Rattle.crn_cert.specs.Formed.{IsFormed}
 use Rattle.crn_cert.specs.FormedVerdicts.{IsFormedVerdict}
@@ -58,6 +58,18 @@ strong_true net facts h held =
     let f = formed_on net [] facts.earlier Q2 h.formed held in
     strong_decided net f.0 (on facts.earlier Q2) f.1 (sound_on net facts.earlier Q2 h.sound held)
 
+-- a verdict on weak reversibility is not open
+weak_decided : (net : Net) (e : Earlier) (v : Verdict) → IsFormedVerdict net e Q4 v → IsTrueOrOpen net Q4 v → IsTrueOf net Q4 v
+weak_decided net e (Unknown (Wide system class index basis)) f h = absurd f.0
+weak_decided net e (Unknown (Budget nodes)) f h = absurd f.0
+weak_decided net e (Unknown (Rests question)) f h = absurd f.0
+weak_decided net e v f h = h
+
+weak_true : (net : Net) (facts : KeptFacts) → AreFactsOf net facts → HoldsOn facts.earlier 4 → IsTrueOf net Q4 (on facts.earlier Q4)
+weak_true net facts h held =
+    let f = formed_on net [] facts.earlier Q4 h.formed held in
+    weak_decided net f.0 (on facts.earlier Q4) f.1 (sound_on net facts.earlier Q4 h.sound held)
+
 -- the facts give what the law of a question requires
 knows : (net : Net) (facts : KeptFacts) (n : ℕ) → IsBuilt n → AreFactsOf net facts → HoldsNeeds facts.earlier n → AreTrue net (known_for (asked n)) facts.earlier
 knows net facts n (inl is) h needs = rw is tt
@@ -72,7 +84,13 @@ knows net facts n (inr (inr (inr (inr (inr (inl is)))))) h needs =
     rw is (linkage_true net facts h held.0, tt)
 knows net facts n (inr (inr (inr (inr (inr (inr (inl is))))))) h needs = rw is tt
 knows net facts n (inr (inr (inr (inr (inr (inr (inr (inl is)))))))) h needs = rw is tt
-knows net facts n (inr (inr (inr (inr (inr (inr (inr (inr none)))))))) h needs = absurd none
+knows net facts n (inr (inr (inr (inr (inr (inr (inr (inr (inl is))))))))) h needs =
+    let held : HoldsNeeds facts.earlier 9 = subst (HoldsNeeds facts.earlier) is needs in
+    rw is (linkage_true net facts h held.0, (weak_true net facts h held.1.0, tt))
+knows net facts n (inr (inr (inr (inr (inr (inr (inr (inr (inr (inl is)))))))))) h needs =
+    let held : HoldsNeeds facts.earlier 10 = subst (HoldsNeeds facts.earlier) is needs in
+    rw is (linkage_true net facts h held.0, (strong_true net facts h held.1.0, tt))
+knows net facts n (inr (inr (inr (inr (inr (inr (inr (inr (inr (inr none)))))))))) h needs = absurd none
 
 -- the facts give what an open question rests on
 rests : (net : Net) (facts : KeptFacts) (n : ℕ) → IsBuilt n → AreFactsOf net facts → HoldsNeeds facts.earlier n → AreTrueOrOpen net (rests_for (asked n)) facts.earlier
@@ -86,7 +104,13 @@ rests net facts n (inr (inr (inr (inr (inr (inl is)))))) h needs =
     rw is (sound_on net facts.earlier Q5 h.sound held.1.0, tt)
 rests net facts n (inr (inr (inr (inr (inr (inr (inl is))))))) h needs = rw is tt
 rests net facts n (inr (inr (inr (inr (inr (inr (inr (inl is)))))))) h needs = rw is tt
-rests net facts n (inr (inr (inr (inr (inr (inr (inr (inr none)))))))) h needs = absurd none
+rests net facts n (inr (inr (inr (inr (inr (inr (inr (inr (inl is))))))))) h needs =
+    let held : HoldsNeeds facts.earlier 9 = subst (HoldsNeeds facts.earlier) is needs in
+    rw is (sound_on net facts.earlier Q5 h.sound held.1.1.0, tt)
+rests net facts n (inr (inr (inr (inr (inr (inr (inr (inr (inr (inl is)))))))))) h needs =
+    let held : HoldsNeeds facts.earlier 10 = subst (HoldsNeeds facts.earlier) is needs in
+    rw is (sound_on net facts.earlier Q6 h.sound held.1.1.0, tt)
+rests net facts n (inr (inr (inr (inr (inr (inr (inr (inr (inr (inr none)))))))))) h needs = absurd none
 
 pub answer_true : (net : Net) (facts : KeptFacts) (n : ℕ) (a : Answer) → IsNetwork net → IsBuilt n → AreFactsOf net facts → HoldsNeeds facts.earlier n → IsFormed net facts.earlier (asked n) a → AllHold (head_tests net facts.earlier (asked n) a.verdict) → AllHold (row_tests net facts.earlier (asked n) a.verdict a.proof) → IsTrueOrOpen net (asked n) a.verdict
 answer_true net facts n a network is h needs f head rows =

@@ -3,3 +3,4 @@ pub mod Trees
 pub mod Facts
 pub mod Tests
 pub mod Bases
+pub mod Terminals

@@ -12,11 +12,13 @@ use crate::facts::Facts;
 use crate::fault::CheckFault;
 use crate::laws::meets_definition;
 use crate::linkage::check_linkage;
+use crate::one::check_one_head;
 use crate::positive::{check_conservation, check_dependence};
 use crate::ranks::check_rank;
 use crate::reversible::{check_reverses, check_reversible_head};
 use crate::strong::check_strong;
 use crate::weak::check_weak_head;
+use crate::zero::check_zero_head;
 use crn_cert::{Answer, Verdict};
 use crn_net::Network;
 
@@ -40,6 +42,8 @@ pub fn check_head(
         3 => check_reversible_head(net, verdict),
         4 => check_weak_head(net, facts, verdict),
         6 => check_deficiency_head(net, facts, verdict),
+        9 => check_zero_head(net, facts, verdict),
+        10 => check_one_head(net, facts, verdict),
         _ => Ok(()),
     }
 }

@@ -19,7 +19,7 @@ use crn_cert::{Proof, RankList, Verdict};
 use crn_net::Network;
 
 // The rank in a verdict, if it is a decided one on the rank.
-fn rank_in(verdict: &Verdict) -> Option<u32>
+pub(crate) fn rank_in(verdict: &Verdict) -> Option<u32>
     ensures { result ≡ rank_of verdict.now }
 {
     match verdict {
@@ -87,7 +87,7 @@ fn are_class_numbers(net: &Network, facts: &Facts, classes: &[u32]) -> bool
 }
 
 // Whether the deficiency of the network is what is left of its complexes.
-fn is_left(net: &Network, facts: &Facts, total: u32, rank: u32) -> bool
+pub(crate) fn is_left(net: &Network, facts: &Facts, total: u32, rank: u32) -> bool
     requires held { HoldsOn facts.now.earlier 1 }
     requires rank { Some rank ≡ rank_of (on facts.now.earlier Q5) }
     ensures { IsTrue result

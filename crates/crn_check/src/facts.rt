@@ -132,6 +132,7 @@ fn kept(room: Room, verdict: &Verdict) -> Verdict
             total: *total,
             classes: filled(room.first, classes.as_slice()),
         },
+        Verdict::YesWeak { weak } => Verdict::YesWeak { weak: *weak },
         Verdict::YesVec { vector } => Verdict::YesVec {
             vector: filled_large(room.large, vector.as_slice()),
         },
@@ -141,6 +142,16 @@ fn kept(room: Room, verdict: &Verdict) -> Verdict
         Verdict::NoVec { multipliers } => Verdict::NoVec {
             multipliers: filled_large(room.large, multipliers.as_slice()),
         },
+        Verdict::NoNumber { number } => Verdict::NoNumber { number: *number },
+        Verdict::NoTerminal { class, count } => Verdict::NoTerminal {
+            class: *class,
+            count: *count,
+        },
+        Verdict::NoClass { class, number } => Verdict::NoClass {
+            class: *class,
+            number: *number,
+        },
+        Verdict::NoSum { sum } => Verdict::NoSum { sum: *sum },
         Verdict::Unknown(gap) => Verdict::Unknown(kept_gap(room, gap)),
         _ => Verdict::Yes,
     }

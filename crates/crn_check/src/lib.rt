@@ -13,15 +13,18 @@ mod laws;
 mod levels;
 mod linkage;
 mod members;
+mod one;
 mod positive;
 mod ranks;
 mod reverses;
 mod reversible;
 mod strong;
+mod terminals;
 #[cfg(test)]
 mod tests;
 mod trees;
 mod weak;
+mod zero;
 
 pub use check::{check_answer, check_head};
 pub use facts::Facts;

@@ -2,8 +2,8 @@
 use Rattle.std.proofs.Common.{◌≡◌, ◌==◌, ◌++◌, ◌∙◌, Bool, if◌then◌else◌, [], ◌∷◌, map, refl, sym, ap, ap₂, subst, inl, inr}
 use Rattle.std.proofs.lemmas.Bool.{cases_Bool}
 use Rattle.crn_cert.specs.declared.answer.Verdict.{Verdict}
-use Rattle.crn_cert.specs.declared.answer.Verdict.TheVariants.{Classes, Strong, Rank}
-use Rattle.crn_cert.specs.Questions.{Earlier, Question, number, on, labels_of, count_of, rank_of}
+use Rattle.crn_cert.specs.declared.answer.Verdict.TheVariants.{Classes, Strong, Rank, Deficiency, Yes, YesVec}
+use Rattle.crn_cert.specs.Questions.{Earlier, Question, number, on, labels_of, count_of, exits_of, rank_of, deficiencies_of, IsYes}
 use Rattle.crn_ctext.specs.Same.{said}
 use Rattle.crn_ctext.specs.Meaning.{Known}
 
@@ -63,3 +63,28 @@ said_rank_of v = refl
 -- the rank that it gives, if it is decided
 pub ranks_alike : (xs ys : Earlier) (q : Question) → all_said xs ≡ all_said ys → rank_of (on xs q) ≡ rank_of (on ys q)
 ranks_alike xs ys q e = sym (said_rank_of (on xs q)) ∙ ap rank_of (on_alike xs ys q e) ∙ said_rank_of (on ys q)
+
+said_exits : (v : Verdict) → exits_of (said v) ≡ exits_of v
+said_exits (Strong count terminal label exit) = refl
+said_exits v = refl
+
+-- the exits that a question gives
+pub exits_alike : (xs ys : Earlier) (q : Question) → all_said xs ≡ all_said ys → exits_of (on xs q) ≡ exits_of (on ys q)
+exits_alike xs ys q e = sym (said_exits (on xs q)) ∙ ap exits_of (on_alike xs ys q e) ∙ said_exits (on ys q)
+
+said_deficiencies : (v : Verdict) → deficiencies_of (said v) ≡ deficiencies_of v
+said_deficiencies (Deficiency total classes) = refl
+said_deficiencies v = refl
+
+-- the deficiencies that it gives, if they are decided
+pub deficiencies_alike : (xs ys : Earlier) (q : Question) → all_said xs ≡ all_said ys → deficiencies_of (on xs q) ≡ deficiencies_of (on ys q)
+deficiencies_alike xs ys q e = sym (said_deficiencies (on xs q)) ∙ ap deficiencies_of (on_alike xs ys q e) ∙ said_deficiencies (on ys q)
+
+said_yes : (v : Verdict) → IsYes (said v) ≡ IsYes v
+said_yes Yes = refl
+said_yes (YesVec vector) = refl
+said_yes v = refl
+
+-- whether it is answered by a yes
+pub yes_alike : (xs ys : Earlier) (q : Question) → all_said xs ≡ all_said ys → IsYes (on xs q) ≡ IsYes (on ys q)
+yes_alike xs ys q e = sym (said_yes (on xs q)) ∙ ap IsYes (on_alike xs ys q e) ∙ said_yes (on ys q)

@@ -1,28 +1,29 @@
 -- The records of formed answers to the built questions are formed, and their tests are those of the answers.
 use Rattle.std.proofs.Common.{◌≡◌, ◌≤◌, ◌<◌, ◌+◌, ◌-◌, ◌++◌, ◌∙◌, ℕ, zero, suc, Bool, true, false, List, [], ◌∷◌, length, map, refl, sym, ap, ap₂, subst, inl, inr, arith}
-use Rattle.std.specs.Prelude.{◌≢◌, ℤ, Option, pos, nat_abs, min, codes, slice_index}
+use Rattle.std.specs.Prelude.{◌≢◌, ℤ, Option, pos, nat_abs, min, sum, codes, slice_index}
 use Rattle.std.specs.Option.{IsSome, IsSomeAnd}
 use Rattle.std.specs.List.{AllZip, flat_map, range_with_len}
 use Rattle.std.proofs.lemmas.Int.{ints}
 use Rattle.std.proofs.lemmas.List.{append-nil, length-map}
 use Rattle.crn_vec.specs.Network.{Net}
+use Rattle.crn_vec.specs.Deficiency.{AreAtMostOne}
 use Rattle.crn_vec.specs.Kept.{KeptNums}
 use Rattle.crn_cert.specs.Trees.{Plan}
 use Rattle.crn_cert.specs.declared.answer.Gap.TheVariants.{Wide, Budget, Rests}
 use Rattle.crn_cert.specs.declared.answer.Verdict.{Verdict}
-use Rattle.crn_cert.specs.declared.answer.Verdict.TheVariants.{Classes, Strong, Rank, Deficiency, Yes, YesVec, NoReaction, NoVec, Unknown}
+use Rattle.crn_cert.specs.declared.answer.Verdict.TheVariants.{Classes, Strong, Rank, Deficiency, Yes, YesWeak, YesVec, NoReaction, NoVec, NoNumber, NoTerminal, NoClass, NoSum, Unknown}
 use Rattle.crn_cert.specs.declared.answer.RankProof.{RankProof}
 use Rattle.crn_cert.specs.declared.answer.Proof.{Proof}
 use Rattle.crn_cert.specs.declared.answer.Proof.TheVariants.{Nothing, Forest, Strong as StrongTrees, Back, Rank as RankRows, Ranks}
 use Rattle.crn_cert.specs.declared.answer.Answer.{Answer}
-use Rattle.crn_cert.specs.Questions.{Earlier, Question, Q1, Q2, Q3, Q4, Q5, Q6, Q7, Q8, on, rank_of}
+use Rattle.crn_cert.specs.Questions.{Earlier, Question, Q1, Q2, Q3, Q4, Q5, Q6, Q7, Q8, Q9, Q10, on, rank_of}
 use Rattle.crn_cert.specs.Tests.{Test, test, AllHold}
 use Rattle.crn_cert.specs.ClassTests.{AreNumbered, AreEven, AreLinkTrees, AreFromTrees, AreToTrees, DoLevelsFall, AreAllExits, zeros_in, AreReverses}
 use Rattle.crn_cert.specs.RankTests.{rank_tests}
 use Rattle.crn_cert.specs.Formed.{IsRankProof, AreClassProofs, IsBasisOf, IsFormedOf, AreFormed}
 use Rattle.crn_cert.specs.Ranges.{AreFrom}
 use Rattle.crn_cert.specs.Says.{IsReactionNumber}
-use Rattle.crn_cert.specs.Valid.{linkage, linkage_count, strong, class_places, class_rank_tests, AreClassNumbers, head_tests, row_tests, IsValid, AreValid}
+use Rattle.crn_cert.specs.Valid.{linkage, linkage_count, strong, class_places, class_rank_tests, AreClassNumbers, IsFirstLarge, head_tests, row_tests, IsValid, AreValid}
 use Rattle.crn_ctext.specs.Records.{Record, ClassWide, Takes, AreNarrow, AreOf, AreRising, Fits}
 use Rattle.crn_ctext.specs.Kinds.{small, small_form}
 use Rattle.crn_ctext.specs.Questions.{rank_forms, class_forms, classes as classes_of}
@@ -37,6 +38,7 @@ use Rattle.crn_ctext.specs.Linked.{records_of}
 use Rattle.crn_ctext.proofs.AnswersApart.{block_apart}
 use Rattle.crn_ctext.specs.Same.{said, said_rank, shown, AreSame}
 use Rattle.crn_ctext.proofs.Alike.{IsAlike, alike_then, labels_alike, counts_alike, ranks_alike}
+use Rattle.crn_ctext.proofs.TestsAlike.{zero_alike, number_alike, one_alike, split_alike}
 use Rattle.crn_ctext.proofs.MeaningShort.{lists_counted}
 use Rattle.crn_ctext.proofs.RanksLinked.{back_again, between, free_fits, rank_fits, rank_said, places_from, sizes_from, classes_fit, classes_said, said_again, proofs_alike, numbers_alike, tests_alike, basis_alike, places_at, number_then, wide_fits}
 use Rattle.crn_vec.specs.declared.signs.Sign.{Sign}
@@ -432,6 +434,115 @@ conservation_linked known earlier (YesVec vector) p f = absurd f.1
 conservation_linked known earlier (NoVec multipliers) p f = absurd f.1
 conservation_linked known earlier v p f = absurd f.0
 
+-- ---- the two deficiency theorems
+
+-- a verdict and what it rests on, if it is open, have no proof
+without_proof : (known : Known) (earlier : Earlier) (q : Question) (v : Verdict) (p : Proof) → p ≡ Nothing → IsLinked known earlier q (answer v Nothing) → IsLinked known earlier q (answer v p)
+without_proof known earlier q v p e l = subst (λ (x : Proof). IsLinked known earlier q (answer v x)) (sym e) l
+
+zero_rests : (known : Known) (earlier : Earlier) → IsLinked known earlier Q9 (answer (Unknown (Rests 5)) Nothing)
+zero_rests known earlier =
+    record {
+      formed = record { head = (_, inr (inr (inl refl)), (refl, number_then 5 5 5 [] [] (omega arith) (omega arith) refl)); rows = tt; trees = refl };
+      heads = refl;
+      rows = refl;
+      says = refl;
+      shows = refl;
+    }
+
+zero_linked : (known : Known) (earlier : Earlier) (v : Verdict) (p : Proof) → IsAlike known earlier → IsFormedOf known.net earlier Q9 v p → IsLinked known earlier Q9 (answer v p)
+zero_linked known earlier (YesWeak true) Nothing e f =
+    record {
+      formed = record { head = (_, inl refl, (refl, number_then 0 1 1 [] [] (omega arith) (omega arith) refl)); rows = tt; trees = refl };
+      heads = zero_alike known.net known.earlier earlier e true;
+      rows = refl;
+      says = refl;
+      shows = refl;
+    }
+zero_linked known earlier (YesWeak false) Nothing e f =
+    record {
+      formed = record { head = (_, inl refl, (refl, number_then 0 1 0 [] [] (omega arith) (omega arith) refl)); rows = tt; trees = refl };
+      heads = zero_alike known.net known.earlier earlier e false;
+      rows = refl;
+      says = refl;
+      shows = refl;
+    }
+zero_linked known earlier (NoNumber d) Nothing e f =
+    record {
+      formed = record { head = (_, inr (inl refl), (refl, number_fits (length known.net.complexes) d f.0.0 f.0.1)); rows = tt; trees = refl };
+      heads = number_alike known.net known.earlier earlier e d;
+      rows = refl;
+      says = refl;
+      shows = refl;
+    }
+zero_linked known earlier (Unknown (Wide system class index basis)) p e f = absurd f.0
+zero_linked known earlier (Unknown (Budget nodes)) p e f = absurd f.0
+zero_linked known earlier (Unknown (Rests question)) p e f =
+    subst (λ (x : ℕ). IsLinked known earlier Q9 (answer (Unknown (Rests x)) p)) f.0 (without_proof known earlier Q9 (Unknown (Rests 5)) p f.1 (zero_rests known earlier))
+zero_linked known earlier (YesWeak weak) p e f = absurd f.1
+zero_linked known earlier (NoNumber d) p e f = absurd f.1
+zero_linked known earlier v p e f = absurd f.0
+
+-- a class, and a number from 2
+class_fits : (known : Known) (earlier : Earlier) (class n : ℕ) → IsAlike known earlier → (1 ≤ class) × (class ≤ linkage_count earlier) → (2 ≤ n) × (n ≤ length known.net.complexes)
+    → AreOf (λ field zs. Takes field zs × AreNarrow field zs) (small 1 1 (classes_of (sizes_of known)) ∷ small 1 2 (length known.net.complexes) ∷ []) (pos class ∷ pos n ∷ [])
+class_fits known earlier class n e a b =
+    number_then 1 (classes_of (sizes_of known)) class (small 1 2 (length known.net.complexes) ∷ []) (pos n ∷ []) a.0 (omega (arith, a.1, lists_counted known, counts_alike known.earlier earlier Q1 e))
+    (number_then 2 (length known.net.complexes) n [] [] b.0 b.1 refl)
+
+one_rests : (known : Known) (earlier : Earlier) → IsLinked known earlier Q10 (answer (Unknown (Rests 6)) Nothing)
+one_rests known earlier =
+    record {
+      formed = record { head = (_, inr (inr (inr (inr (inl refl)))), (refl, number_then 6 6 6 [] [] (omega arith) (omega arith) refl)); rows = tt; trees = refl };
+      heads = refl;
+      rows = refl;
+      says = refl;
+      shows = refl;
+    }
+
+one_linked : (known : Known) (earlier : Earlier) (v : Verdict) (p : Proof) → IsAlike known earlier → IsFormedOf known.net earlier Q10 v p → IsLinked known earlier Q10 (answer v p)
+one_linked known earlier Yes Nothing e f =
+    record {
+      formed = record { head = (_, inl refl, (refl, refl)); rows = tt; trees = refl };
+      heads = one_alike known.earlier earlier e (λ total classes. AreAtMostOne classes × (sum classes ≡ total));
+      rows = refl;
+      says = refl;
+      shows = refl;
+    }
+one_linked known earlier (NoTerminal k count) Nothing e f =
+    record {
+      formed = record { head = (_, inr (inl refl), (refl, class_fits known earlier k count e f.0.0 f.0.1)); rows = tt; trees = refl };
+      heads = split_alike known.earlier earlier e k count;
+      rows = refl;
+      says = refl;
+      shows = refl;
+    }
+one_linked known earlier (NoClass k d) Nothing e f =
+    record {
+      formed = record { head = (_, inr (inr (inl refl)), (refl, class_fits known earlier k d e f.0.0 f.0.1)); rows = tt; trees = refl };
+      heads = one_alike known.earlier earlier e (λ total classes. IsFirstLarge k d classes);
+      rows = refl;
+      says = refl;
+      shows = refl;
+    }
+one_linked known earlier (NoSum x) Nothing e f =
+    record {
+      formed = record { head = (_, inr (inr (inr (inl refl))), (refl, number_then 0 (length known.net.complexes) x [] [] (omega arith) f.0.1 refl)); rows = tt; trees = refl };
+      heads = one_alike known.earlier earlier e (λ total classes. AreAtMostOne classes × (sum classes ≡ x) × (x ≢ total));
+      rows = refl;
+      says = refl;
+      shows = refl;
+    }
+one_linked known earlier (Unknown (Wide system class index basis)) p e f = absurd f.0
+one_linked known earlier (Unknown (Budget nodes)) p e f = absurd f.0
+one_linked known earlier (Unknown (Rests question)) p e f =
+    subst (λ (x : ℕ). IsLinked known earlier Q10 (answer (Unknown (Rests x)) p)) f.0 (without_proof known earlier Q10 (Unknown (Rests 6)) p f.1 (one_rests known earlier))
+one_linked known earlier Yes p e f = absurd f.1
+one_linked known earlier (NoTerminal k count) p e f = absurd f.1
+one_linked known earlier (NoClass k d) p e f = absurd f.1
+one_linked known earlier (NoSum x) p e f = absurd f.1
+one_linked known earlier v p e f = absurd f.0
+
 -- ---- all answers
 
 -- what is known after an answer
@@ -457,7 +568,7 @@ built_linked = (
         (λ known earlier v p e f. weak_linked known earlier v p (labels_alike known.earlier earlier Q2 e) f),
         (
           (λ known earlier v p e f. rank_linked known earlier v p f),
-          (deficiency_linked, ((λ known earlier v p e f. dependence_linked known earlier v p f), ((λ known earlier v p e f. conservation_linked known earlier v p f), tt))),
+          (deficiency_linked, ((λ known earlier v p e f. dependence_linked known earlier v p f), ((λ known earlier v p e f. conservation_linked known earlier v p f), (zero_linked, (one_linked, tt))))),
         ),
       ),
     ),

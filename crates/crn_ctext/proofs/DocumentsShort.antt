@@ -142,7 +142,7 @@ built_few = (
             (λ known h s o. deficiency_few known (place_of (heads Q6 (sizes_of known)) h.words) h.numbers s),
             (
               (λ known h s o. dependence_few (shapes_of known) (place_of (heads Q7 (sizes_of known)) h.words) h.numbers),
-              ((λ known h s o. conservation_few (shapes_of known) (place_of (heads Q8 (sizes_of known)) h.words) h.numbers), tt),
+              ((λ known h s o. conservation_few (shapes_of known) (place_of (heads Q8 (sizes_of known)) h.words) h.numbers), ((λ known h s o. omega arith), ((λ known h s o. omega arith), tt))),
             ),
           ),
         ),

@@ -25,6 +25,7 @@ mod BlocksWritten
 mod DocumentsWritten
 mod TestsDecided
 mod RanksDecided
+mod TheoremsDecided
 mod RanksLinked
 mod MeaningDecided
 mod TreesRead
@@ -42,6 +43,7 @@ mod DocumentsShort
 mod SharesApart
 mod DocumentsOne
 mod Alike
+mod TestsAlike
 mod AnswersLinked
 mod RecordsLinked
 mod TrueRecords

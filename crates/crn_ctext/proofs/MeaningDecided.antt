@@ -1,14 +1,15 @@
 -- Each test of the built questions is decided, whatever a block holds.
-use Rattle.std.proofs.Common.{ℕ, zero, suc, Bool, true, false, List, [], length, if◌then◌else◌}
-use Rattle.std.specs.Prelude.{ℤ}
+use Rattle.std.proofs.Common.{◌≡◌, ◌==◌, ℕ, zero, suc, Bool, true, false, List, [], length, if◌then◌else◌}
+use Rattle.std.specs.Prelude.{◌≢◌, ℤ, sum}
 use Rattle.std.specs.List.{range_with_len}
 use Rattle.crn_vec.specs.Network.{Net}
 use Rattle.crn_cert.specs.declared.answer.Gap.{Gap}
 use Rattle.crn_cert.specs.declared.answer.Verdict.TheVariants.{Unknown}
 use Rattle.crn_cert.specs.declared.answer.Proof.TheVariants.{Nothing}
-use Rattle.crn_cert.specs.Questions.{Earlier, Q1, Q2, Q3, Q4, Q5, Q6, Q7, Q8, on, rank_of}
+use Rattle.crn_cert.specs.Questions.{Earlier, Q1, Q2, Q3, Q4, Q5, Q6, Q7, Q8, Q9, Q10, on, rank_of, deficiencies_of}
+use Rattle.crn_vec.specs.Deficiency.{AreAtMostOne}
 use Rattle.crn_cert.specs.ClassTests.{zeros_in}
-use Rattle.crn_cert.specs.Valid.{strong, linkage_rows, strong_rows, reversible_head, reversible_rows, weak_head, rank_rows, deficiency_head, deficiency_rows, dependence_rows, conservation_rows}
+use Rattle.crn_cert.specs.Valid.{strong, linkage_rows, strong_rows, reversible_head, reversible_rows, weak_head, rank_rows, deficiency_head, deficiency_rows, dependence_rows, conservation_rows, zero_head, one_head, WithDeficiencies, IsFirstLarge}
 use Rattle.crn_ctext.specs.Records.{Record}
 use Rattle.crn_ctext.specs.Questions.{Shapes, heads, later_numbers}
 use Rattle.crn_ctext.specs.Blocks.{place_of, is_open}
@@ -17,6 +18,7 @@ use Rattle.crn_cert.specs.Built.{built}
 use Rattle.crn_ctext.proofs.Decided.{both_decided, nat_decided}
 use Rattle.crn_ctext.proofs.TestsDecided.{numbered_decided, even_decided, link_trees_decided, from_trees_decided, to_trees_decided, levels_decided, exits_decided, no_reverse_decided, reverses_decided, leaves_decided}
 use Rattle.crn_ctext.proofs.RanksDecided.{rank_decided, class_ranks_decided, some_rank_decided, left_decided, class_numbers_decided, dependence_decided, no_dependence_decided, law_decided, no_law_decided}
+use Rattle.crn_ctext.proofs.TheoremsDecided.{case_decided, one_each_decided, first_split_decided, known_decided, additive_decided, other_sum_decided, first_large_decided}
 use Rattle.crn_ctext.proofs.Settled.{AllDecided, IsDecidedFor, IsDecidedMeaning}
 
 -- ---- linkage classes
@@ -169,5 +171,45 @@ conservative_decided = record {
   trees = λ known h. tt;
 }
 
+-- ---- the two deficiency theorems
+
+zero_head_decided : (net : Net) (earlier : Earlier) (t : Bool) (g : Gap) (place : ℕ) (n : List ℤ) → AllDecided (zero_head net earlier (if t then Unknown g else verdict_by Q9 place n []))
+zero_head_decided net earlier true g place n = tt
+zero_head_decided net earlier false g zero n = tt
+zero_head_decided net earlier false g (suc zero) n =
+    let rank = rank_of (on earlier Q5) in
+    (some_rank_decided rank, (both_decided (left_decided net earlier 0 rank) (case_decided (number n 0 == 1) (on earlier Q4)), tt))
+zero_head_decided net earlier false g (suc (suc zero)) n =
+    let rank = rank_of (on earlier Q5) in
+    (some_rank_decided rank, (left_decided net earlier (number n 0) rank, tt))
+zero_head_decided net earlier false g (suc (suc (suc k))) n = tt
+
+zero_decided : IsDecidedFor meaning Q9
+zero_decided = record {
+  head = λ known h. zero_head_decided known.net known.earlier (is_open h) (gap_of h) (place_of (heads Q9 (sizes_of known)) h.words) h.numbers;
+  rows = λ known h rs. tt;
+  trees = λ known h. tt;
+}
+
+one_head_decided : (earlier : Earlier) (t : Bool) (g : Gap) (place : ℕ) (n : List ℤ) → AllDecided (one_head earlier (if t then Unknown g else verdict_by Q10 place n []))
+one_head_decided earlier true g place n = tt
+one_head_decided earlier false g zero n = tt
+one_head_decided earlier false g (suc zero) n =
+    (both_decided (one_each_decided earlier) (known_decided (λ total classes. AreAtMostOne classes × (sum classes ≡ total)) additive_decided (deficiencies_of (on earlier Q6))), tt)
+one_head_decided earlier false g (suc (suc zero)) n = (first_split_decided earlier (number n 0) (number n 1), tt)
+one_head_decided earlier false g (suc (suc (suc zero))) n =
+    (both_decided (one_each_decided earlier) (known_decided (λ total classes. IsFirstLarge (number n 0) (number n 1) classes) (λ total classes. first_large_decided (number n 0) (number n 1) classes) (deficiencies_of (on earlier Q6))), tt)
+one_head_decided earlier false g (suc (suc (suc (suc zero)))) n =
+    let x = number n 0 in
+    (both_decided (one_each_decided earlier) (known_decided (λ total classes. AreAtMostOne classes × (sum classes ≡ x) × (x ≢ total)) (other_sum_decided x) (deficiencies_of (on earlier Q6))), tt)
+one_head_decided earlier false g (suc (suc (suc (suc (suc k))))) n = tt
+
+one_decided : IsDecidedFor meaning Q10
+one_decided = record {
+  head = λ known h. one_head_decided known.earlier (is_open h) (gap_of h) (place_of (heads Q10 (sizes_of known)) h.words) h.numbers;
+  rows = λ known h rs. tt;
+  trees = λ known h. tt;
+}
+
 pub meaning_decided : IsDecidedMeaning meaning built
-meaning_decided = (linkage_decided, (strong_decided, (reversible_decided, (weak_decided, (ranks_decided, (deficiencies_decided, (positive_decided, (conservative_decided, tt))))))))
+meaning_decided = (linkage_decided, (strong_decided, (reversible_decided, (weak_decided, (ranks_decided, (deficiencies_decided, (positive_decided, (conservative_decided, (zero_decided, (one_decided, tt))))))))))

@@ -14,10 +14,10 @@ use Rattle.crn_vec.specs.declared.limits.TheConstants.{MAX_SPECIES, MAX_COMPLEXE
 use Rattle.crn_cert.specs.declared.answer.Gap.{Gap}
 use Rattle.crn_cert.specs.declared.answer.Verdict.{Verdict}
 use Rattle.crn_cert.specs.declared.answer.Verdict.TheVariants.{NotApplicable, Unknown}
-use Rattle.crn_cert.specs.Questions.{Earlier, Question, Q1, Q2, Q3, Q4, Q5, Q6, Q7, Q8, number, on, count_of, labels_of}
+use Rattle.crn_cert.specs.Questions.{Earlier, Question, Q1, Q2, Q3, Q4, Q5, Q6, Q7, Q8, Q9, Q10, number, on, count_of, labels_of}
 use Rattle.crn_cert.specs.Valid.{linkage, linkage_count, class_places}
 use Rattle.crn_ctext.specs.Records.{Record, Form, CountAndPart, AreBetween, Fits}
-use Rattle.crn_ctext.specs.Questions.{heads, rows, head, yes, no, wide, open_by, classes, rank_forms, class_forms, class_rank, first_number, later_numbers}
+use Rattle.crn_ctext.specs.Questions.{heads, rows, head, yes, no, no_by, wide, rests, open_by, classes, rank_forms, class_forms, class_rank, first_number, later_numbers}
 use Rattle.crn_ctext.specs.Kinds.{small, small_form, free_form}
 use Rattle.crn_ctext.specs.Blocks.{place_of, is_open, unless}
 use Rattle.crn_ctext.specs.Documents.{IsOneOf}
@@ -419,5 +419,42 @@ conservation_short = record {
   learn = λ known h rs s o z. same_net Q8 known h rs s no_classes;
 }
 
+-- a head that is open because of this question, and one with a class and a number from 2
+rests_head : (word : List ℕ) (place question : ℕ) → words_fit (word ∷ open_by (codes "rests")) ≡ true → question ≤ 15 → IsBounded (rests word place question)
+rests_head word place question w a = let q = few_short question 1000 (omega (arith, a)) (omega arith) in record { words = w; few = omega arith; fields = ((q, q), tt) }
+
+class_head : (known : Known) (place : ℕ) (word reason : List ℕ) → IsSmall known → words_fit (word ∷ no_by reason) ≡ true → IsBounded (head word place (no_by reason) (small 1 1 (classes (sizes_of known)) ∷ small 1 2 (length known.net.complexes) ∷ []))
+class_head known place word reason s w =
+    let c = s.classes in
+    record { words = w; few = omega arith; fields = ((one_short, few_short (classes (sizes_of known)) 1000 (omega (arith, c, lists_counted known)) (omega arith)), ((few_short 2 1000 (omega arith) (omega arith), complexes_short known s), tt)) }
+
+zero_theorem_short : IsShortFor meaning IsSmall Q9
+zero_theorem_short = record {
+  head_forms = λ known s. (
+    record { words = refl; few = omega arith; fields = ((zero_short, one_short), tt) },
+    (number_head 2 (codes "q9") no (length known.net.complexes) refl (complexes_short known s), (rests_head (codes "q9") 5 5 refl (omega arith), tt)),
+  );
+  row_forms = λ known h s o. tt;
+  trees = λ known h s. none_few (is_open h);
+  learn = λ known h rs s o z. same_net Q9 known h rs s no_classes;
+}
+
+one_theorem_short : IsShortFor meaning IsSmall Q10
+one_theorem_short = record {
+  head_forms = λ known s. (
+    plain_head 1 (codes "q10") yes refl,
+    (
+      class_head known 2 (codes "q10") (codes "terminal") s refl,
+      (
+        class_head known 3 (codes "q10") (codes "class") s refl,
+        (record { words = refl; few = omega arith; fields = ((zero_short, complexes_short known s), tt) }, (rests_head (codes "q10") 7 6 refl (omega arith), tt)),
+      ),
+    ),
+  );
+  row_forms = λ known h s o. tt;
+  trees = λ known h s. none_few (is_open h);
+  learn = λ known h rs s o z. same_net Q10 known h rs s no_classes;
+}
+
 pub meaning_short : AllByRecursion (IsShortFor meaning IsSmall) built
-meaning_short = (linkage_short, (strong_short, (reversible_short, (weak_short, (rank_short, (deficiency_short, (dependence_short, (conservation_short, tt))))))))
+meaning_short = (linkage_short, (strong_short, (reversible_short, (weak_short, (rank_short, (deficiency_short, (dependence_short, (conservation_short, (zero_theorem_short, (one_theorem_short, tt))))))))))

@@ -1,5 +1,5 @@
 -- Formed records of the built questions are the records of formed answers.
-use Rattle.std.proofs.Common.{◌≡◌, ◌≤◌, ◌<◌, ◌+◌, ◌-◌, ◌++◌, ◌∙◌, ℕ, suc, List, [], ◌∷◌, length, map, refl, sym, ap, ap₂, subst, inl, inr, arith}
+use Rattle.std.proofs.Common.{◌≡◌, ◌≤◌, ◌<◌, ◌+◌, ◌-◌, ◌++◌, ◌∙◌, ℕ, zero, suc, true, false, List, [], ◌∷◌, length, map, refl, sym, ap, ap₂, subst, inl, inr, arith}
 use Rattle.std.specs.Prelude.{ℤ, pos, min, codes, slice_index}
 use Rattle.std.specs.List.{AllByRecursion, AllZip, flat_map, range_with_len}
 use Rattle.std.proofs.lemmas.List.{append-nil, length-map}
@@ -8,17 +8,17 @@ use Rattle.crn_vec.specs.Network.{Net}
 use Rattle.crn_vec.specs.declared.signs.Sign.{Sign}
 use Rattle.crn_cert.specs.declared.answer.Gap.TheVariants.{Wide, Rests}
 use Rattle.crn_cert.specs.declared.answer.Verdict.{Verdict}
-use Rattle.crn_cert.specs.declared.answer.Verdict.TheVariants.{Classes, Strong, Rank, Deficiency, Yes, YesVec, NoReaction, NoVec, Unknown}
+use Rattle.crn_cert.specs.declared.answer.Verdict.TheVariants.{Classes, Strong, Rank, Deficiency, Yes, YesWeak, YesVec, NoReaction, NoVec, NoNumber, NoTerminal, NoClass, NoSum, Unknown}
 use Rattle.crn_cert.specs.declared.answer.Proof.{Proof}
 use Rattle.crn_cert.specs.declared.answer.Proof.TheVariants.{Nothing, Forest, Strong as StrongTrees, Back, Rank as RankRows, Ranks}
 use Rattle.crn_cert.specs.declared.answer.Answer.{Answer}
-use Rattle.crn_cert.specs.Questions.{Earlier, Question, Q1, Q2, Q3, Q4, Q5, Q6, Q7, Q8}
+use Rattle.crn_cert.specs.Questions.{Earlier, Question, Q1, Q2, Q3, Q4, Q5, Q6, Q7, Q8, Q9, Q10}
 use Rattle.crn_cert.specs.Formed.{IsBasisOf, IsFormedOf, AreFormed}
 use Rattle.crn_cert.specs.Ranges.{AreFrom, AreFree}
 use Rattle.crn_cert.specs.Valid.{linkage_count, class_places}
 use Rattle.crn_ctext.specs.Records.{Record, Form, CountAndPart, ClassWide, Takes, AreNarrow, AreOf, Fits}
 use Rattle.crn_ctext.specs.Kinds.{small, just, small_form, free_form}
-use Rattle.crn_ctext.specs.Questions.{heads, head, yes, no, wide, rests, open_by, classes, class_forms}
+use Rattle.crn_ctext.specs.Questions.{heads, head, yes, no, no_by, wide, rests, open_by, classes, class_forms}
 use Rattle.crn_ctext.specs.Blocks.{Problem, problems, below}
 use Rattle.crn_ctext.specs.Documents.{one_word, AreTrees, IsOneOf, leaf_forms}
 use Rattle.crn_ctext.specs.Documents as documents
@@ -375,6 +375,69 @@ conservation_answered known h rows nodes (form, inr (inr (inl e)), fits) =
     (Unknown (Wide 1 0 b.0 (kept b.1)), Nothing, (λ earlier e. ((refl, refl, b.3), refl)), refl, zip_none rows z, t, t, open_by_wide known Q8 1 0 b.0 b.1 rows))
 conservation_answered known h rows nodes (form, inr (inr (inr none)), fits) = absurd none
 
+-- ---- the two deficiency theorems
+
+-- the head is open because of this question, and there are no rows
+rests_back : (word : List ℕ) (place question : ℕ) (h : Record) → Fits (rests word place question) h → h ≡ record { words = word ∷ open_by (codes "rests"); numbers = pos question ∷ [] }
+rests_back word place question h f =
+    let n = one_number question question h.numbers f.1 in
+    let same : pos n.0 ∷ [] ≡ pos question ∷ [] = ap (λ (x : ℕ). pos x ∷ []) (omega (arith, n.2.0, n.2.1)) in
+    record_is h (word ∷ open_by (codes "rests")) (pos question ∷ []) f.0 (n.1 ∙ same)
+
+zero_by : (known : Known) (n : ℕ) (rows nodes : List Record) → n ≤ 1 → FromParts known Q9 (head_with Q9 yes (pos n ∷ [])) rows nodes
+zero_by known zero rows nodes le z t = (YesWeak false, Nothing, (λ earlier e. (tt, tt)), refl, zip_none rows z, t, t, refl)
+zero_by known (suc zero) rows nodes le z t = (YesWeak true, Nothing, (λ earlier e. (tt, tt)), refl, zip_none rows z, t, t, refl)
+zero_by known (suc (suc n)) rows nodes le z t = absurd (omega (arith, le))
+
+zero_answered : (known : Known) (h : Record) (rows nodes : List Record) → IsOneOf (heads Q9 (sizes_of known)) h → FromParts known Q9 h rows nodes
+zero_answered known h rows nodes (form, inl e, fits) =
+    let f : Fits (head (codes "q9") 1 yes (small 1 0 1 ∷ [])) h = subst (λ (f : Form). Fits f h) e fits in
+    let n = one_number 0 1 h.numbers f.1 in
+    at_head known Q9 h (head_with Q9 yes (pos n.0 ∷ [])) rows nodes (record_is h (codes "q9" ∷ yes) (pos n.0 ∷ []) f.0 n.1) (zero_by known n.0 rows nodes n.2.1)
+zero_answered known h rows nodes (form, inr (inl e), fits) =
+    let f : Fits (head (codes "q9") 2 no (small 1 1 (length known.net.complexes) ∷ [])) h = subst (λ (f : Form). Fits f h) e fits in
+    let n = one_number 1 (length known.net.complexes) h.numbers f.1 in
+    at_head known Q9 h (head_with Q9 no (pos n.0 ∷ [])) rows nodes (record_is h (codes "q9" ∷ no) (pos n.0 ∷ []) f.0 n.1) (λ z t. (NoNumber n.0, Nothing, (λ earlier e. (n.2, tt)), refl, zip_none rows z, t, t, refl))
+zero_answered known h rows nodes (form, inr (inr (inl e)), fits) =
+    let f : Fits (rests (codes "q9") 5 5) h = subst (λ (f : Form). Fits f h) e fits in
+    at_head known Q9 h (open_head Q9 (Rests 5)) rows nodes (rests_back (codes "q9") 5 5 h f) (λ z t. (Unknown (Rests 5), Nothing, (λ earlier e. (refl, refl)), refl, zip_none rows z, t, t, refl))
+zero_answered known h rows nodes (form, inr (inr (inr none)), fits) = absurd none
+
+-- a class, and a number from 2
+class_numbers : (known : Known) (zs : List ℤ) → FitFields (small 1 1 (classes (sizes_of known)) ∷ small 1 2 (length known.net.complexes) ∷ []) zs
+    → (k : ℕ) × (n : ℕ) × (zs ≡ pos k ∷ pos n ∷ []) × ((1 ≤ k) × (k ≤ linkage_count known.earlier)) × ((2 ≤ n) × (n ≤ length known.net.complexes))
+class_numbers known zs f =
+    let a = number_back 1 (classes (sizes_of known)) (small 1 2 (length known.net.complexes) ∷ []) zs f in
+    let b = one_number 2 (length known.net.complexes) a.1 a.4 in
+    (a.0, b.0, a.2 ∙ ap (λ (t : List ℤ). pos a.0 ∷ t) b.1, (a.3.0, omega (arith, a.3.1, lists_counted known)), b.2)
+
+-- which is a class of verdicts that say the same
+same_class : (known : Known) (earlier : Earlier) (k : ℕ) → IsAlike known earlier → (1 ≤ k) × (k ≤ linkage_count known.earlier) → (1 ≤ k) × (k ≤ linkage_count earlier)
+same_class known earlier k e a = (a.0, omega (arith, a.1, counts_alike known.earlier earlier Q1 e))
+
+one_answered : (known : Known) (h : Record) (rows nodes : List Record) → IsOneOf (heads Q10 (sizes_of known)) h → FromParts known Q10 h rows nodes
+one_answered known h rows nodes (form, inl e, fits) =
+    let f : Fits (head (codes "q10") 1 yes []) h = subst (λ (f : Form). Fits f h) e fits in
+    at_head known Q10 h (head_with Q10 yes []) rows nodes (record_is h (codes "q10" ∷ yes) [] f.0 f.1) (λ z t. (Yes, Nothing, (λ earlier e. (tt, tt)), refl, zip_none rows z, t, t, refl))
+one_answered known h rows nodes (form, inr (inl e), fits) =
+    let f : Fits (head (codes "q10") 2 (no_by (codes "terminal")) (small 1 1 (classes (sizes_of known)) ∷ small 1 2 (length known.net.complexes) ∷ [])) h = subst (λ (f : Form). Fits f h) e fits in
+    let n = class_numbers known h.numbers f.1 in
+    at_head known Q10 h (head_with Q10 (no_by (codes "terminal")) (pos n.0 ∷ pos n.1 ∷ [])) rows nodes (record_is h (codes "q10" ∷ no_by (codes "terminal")) (pos n.0 ∷ pos n.1 ∷ []) f.0 n.2)
+    (λ z t. (NoTerminal n.0 n.1, Nothing, (λ earlier e. ((same_class known earlier n.0 e n.3, n.4), tt)), refl, zip_none rows z, t, t, refl))
+one_answered known h rows nodes (form, inr (inr (inl e)), fits) =
+    let f : Fits (head (codes "q10") 3 (no_by (codes "class")) (small 1 1 (classes (sizes_of known)) ∷ small 1 2 (length known.net.complexes) ∷ [])) h = subst (λ (f : Form). Fits f h) e fits in
+    let n = class_numbers known h.numbers f.1 in
+    at_head known Q10 h (head_with Q10 (no_by (codes "class")) (pos n.0 ∷ pos n.1 ∷ [])) rows nodes (record_is h (codes "q10" ∷ no_by (codes "class")) (pos n.0 ∷ pos n.1 ∷ []) f.0 n.2)
+    (λ z t. (NoClass n.0 n.1, Nothing, (λ earlier e. ((same_class known earlier n.0 e n.3, n.4), tt)), refl, zip_none rows z, t, t, refl))
+one_answered known h rows nodes (form, inr (inr (inr (inl e))), fits) =
+    let f : Fits (head (codes "q10") 4 (no_by (codes "sum")) (small 1 0 (length known.net.complexes) ∷ [])) h = subst (λ (f : Form). Fits f h) e fits in
+    let n = one_number 0 (length known.net.complexes) h.numbers f.1 in
+    at_head known Q10 h (head_with Q10 (no_by (codes "sum")) (pos n.0 ∷ [])) rows nodes (record_is h (codes "q10" ∷ no_by (codes "sum")) (pos n.0 ∷ []) f.0 n.1) (λ z t. (NoSum n.0, Nothing, (λ earlier e. (n.2, tt)), refl, zip_none rows z, t, t, refl))
+one_answered known h rows nodes (form, inr (inr (inr (inr (inl e)))), fits) =
+    let f : Fits (rests (codes "q10") 7 6) h = subst (λ (f : Form). Fits f h) e fits in
+    at_head known Q10 h (open_head Q10 (Rests 6)) rows nodes (rests_back (codes "q10") 7 6 h f) (λ z t. (Unknown (Rests 6), Nothing, (λ earlier e. (refl, refl)), refl, zip_none rows z, t, t, refl))
+one_answered known h rows nodes (form, inr (inr (inr (inr (inr none)))), fits) = absurd none
+
 -- ---- all answers
 
 abbrev pub IsReadable : Question → Type 0
@@ -402,5 +465,5 @@ answers_by (q ∷ qs) r known (rs ∷ more) f =
 
 pub records_answered : (net : Net) (answers : List (List Record)) → documents.AreFormed meaning built (meaning.start net) answers → (given : List Answer) × AreFormed net [] built given × (all_records meaning built (meaning.start net) given ≡ answers) × (verdicts_said built (meaning.start net) answers ≡ verdicts_of given)
 records_answered net answers f =
-    let r = answers_by built (linkage_answered, (strong_answered, (reversible_answered, (weak_answered, (rank_answered, (deficiency_answered, (dependence_answered, (conservation_answered, tt)))))))) (meaning.start net) answers f in
+    let r = answers_by built (linkage_answered, (strong_answered, (reversible_answered, (weak_answered, (rank_answered, (deficiency_answered, (dependence_answered, (conservation_answered, (zero_answered, (one_answered, tt)))))))))) (meaning.start net) answers f in
     (r.0, (let g = r.1 in g [] refl), r.2, r.3)

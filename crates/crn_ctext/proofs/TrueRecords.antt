@@ -3,7 +3,7 @@ use Rattle.std.proofs.Common.{List, [], ◌∷◌, refl, sym, subst, inl, inr}
 use Rattle.crn_vec.specs.Network.{Net, IsNetwork}
 use Rattle.crn_cert.specs.declared.answer.Verdict.{Verdict}
 use Rattle.crn_cert.specs.declared.answer.Answer.{Answer}
-use Rattle.crn_cert.specs.Questions.{Question, Q1, Q2, Q3, Q4, Q5}
+use Rattle.crn_cert.specs.Questions.{Question, Q1, Q2, Q3, Q4, Q5, Q6, Q7, Q8, Q9}
 use Rattle.crn_cert.specs.Formed.{AreFormed}
 use Rattle.crn_cert.specs.Valid.{AreValid}
 use Rattle.crn_cert.specs.Law.{AllTrueOrOpen, AreBuilt}
@@ -23,7 +23,7 @@ use Rattle.crn_ctext.proofs.RecordsLinked.{records_answered}
 built_in_order : AreBuilt [] built
 built_in_order = (
   (λ j i. i),
-  ((λ j i. absurd i), ((λ j i. absurd i), ((λ j i. strong_before j i), ((λ j i. absurd i), ((λ j i. linkage_and_rank_before j i), ((λ j i. absurd i), ((λ j i. absurd i), tt))))))),
+  ((λ j i. absurd i), ((λ j i. absurd i), ((λ j i. strong_before j i), ((λ j i. absurd i), ((λ j i. linkage_and_rank_before j i), ((λ j i. absurd i), ((λ j i. absurd i), ((λ j i. zero_before j i), ((λ j i. one_before j i), tt))))))))),
 )
   where
     strong_before : (j : Question) → IsIn j (Q2 ∷ []) → IsIn j (Q1 ∷ Q2 ∷ Q3 ∷ [])
@@ -34,6 +34,18 @@ built_in_order = (
     linkage_and_rank_before j (inl e) = inl e
     linkage_and_rank_before j (inr (inl e)) = inr (inr (inr (inr (inl e))))
     linkage_and_rank_before j (inr (inr none)) = absurd none
+
+    zero_before : (j : Question) → IsIn j (Q1 ∷ Q4 ∷ Q5 ∷ []) → IsIn j (Q1 ∷ Q2 ∷ Q3 ∷ Q4 ∷ Q5 ∷ Q6 ∷ Q7 ∷ Q8 ∷ [])
+    zero_before j (inl e) = inl e
+    zero_before j (inr (inl e)) = inr (inr (inr (inl e)))
+    zero_before j (inr (inr (inl e))) = inr (inr (inr (inr (inl e))))
+    zero_before j (inr (inr (inr none))) = absurd none
+
+    one_before : (j : Question) → IsIn j (Q1 ∷ Q2 ∷ Q6 ∷ []) → IsIn j (Q1 ∷ Q2 ∷ Q3 ∷ Q4 ∷ Q5 ∷ Q6 ∷ Q7 ∷ Q8 ∷ Q9 ∷ [])
+    one_before j (inl e) = inl e
+    one_before j (inr (inl e)) = inr (inl e)
+    one_before j (inr (inr (inl e))) = inr (inr (inr (inr (inr (inl e)))))
+    one_before j (inr (inr (inr none))) = absurd none
 
 sound_by : (net : Net) (qs : List Question) (answers : List Answer) → AllTrueOrOpen net qs answers → AreSound net qs (verdicts_of answers)
 sound_by net [] [] t = refl

@@ -16,8 +16,8 @@ use Rattle.crn_ctext.specs.Shares.{as_share}
 use Rattle.std.proofs.lemmas.List.{append-nil}
 use Rattle.crn_vec.specs.Network.{Net}
 use Rattle.crn_cert.specs.Built.{built}
-use Rattle.crn_cert.specs.Formed.{AreFormed, RowsMayBe, RowsLinkage, RowsStrong, RowsReversible, RowsWeak, RowsRank, RowsDeficiency, RowsPositive}
-use Rattle.crn_cert.specs.Questions.{Earlier, Question, Q1, Q2, Q3, Q4, Q5, Q6, Q7, Q8, questions}
+use Rattle.crn_cert.specs.Formed.{AreFormed, RowsMayBe, RowsLinkage, RowsStrong, RowsReversible, RowsWeak, RowsRank, RowsDeficiency, RowsPositive, RowsZero, RowsOne}
+use Rattle.crn_cert.specs.Questions.{Earlier, Question, Q1, Q2, Q3, Q4, Q5, Q6, Q7, Q8, Q9, Q10, questions}
 use Rattle.crn_cert.specs.declared.answer.Verdict.{Verdict}
 use Rattle.crn_cert.specs.declared.answer.Verdict.TheVariants.{Classes, Strong, Rank, Deficiency, Yes, YesWeak, YesVec, YesSignal, No, NoReaction, NoVec, NoNumber, NoTerminal, NoClass, NoSum, NoDependence, NoCycle, NoPair, NotRegular, OnlyZero, Plane, NotApplicable, Unknown}
 use Rattle.crn_cert.specs.declared.answer.Proof.{Proof}
@@ -230,6 +230,24 @@ no_positive width height (NoVec multipliers) (proof.Nothing) h = tt
 no_positive width height (NoVec multipliers) p h = absurd h
 no_positive width height v p h = absurd h
 
+no_zero : (v : Verdict) (p : Proof) → RowsZero v p → IsShort p
+no_zero (YesWeak weak) (proof.Nothing) h = tt
+no_zero (YesWeak weak) p h = absurd h
+no_zero (NoNumber number) (proof.Nothing) h = tt
+no_zero (NoNumber number) p h = absurd h
+no_zero v p h = absurd h
+
+no_one : (v : Verdict) (p : Proof) → RowsOne v p → IsShort p
+no_one Yes (proof.Nothing) h = tt
+no_one Yes p h = absurd h
+no_one (NoTerminal class count) (proof.Nothing) h = tt
+no_one (NoTerminal class count) p h = absurd h
+no_one (NoClass class number) (proof.Nothing) h = tt
+no_one (NoClass class number) p h = absurd h
+no_one (NoSum total) (proof.Nothing) h = tt
+no_one (NoSum total) p h = absurd h
+no_one v p h = absurd h
+
 no_nothing : (p : Proof) → p ≡ proof.Nothing → IsShort p
 no_nothing p e = rw e tt
 
@@ -349,6 +367,14 @@ rows_conservation : (net : Net) (earlier : Earlier) (v : Verdict) (p : Proof) �
 rows_conservation net earlier (Unknown gap) p h = no_nothing p h
 rows_conservation net earlier v p h = no_positive (length net.names) (length net.reactions) v p h
 
+rows_zero : (net : Net) (earlier : Earlier) (v : Verdict) (p : Proof) → RowsMayBe net earlier Q9 v p → IsShort p
+rows_zero net earlier (Unknown gap) p h = no_nothing p h
+rows_zero net earlier v p h = no_zero v p h
+
+rows_one : (net : Net) (earlier : Earlier) (v : Verdict) (p : Proof) → RowsMayBe net earlier Q10 v p → IsShort p
+rows_one net earlier (Unknown gap) p h = no_nothing p h
+rows_one net earlier v p h = no_one v p h
+
 -- no answer has sides or trees
 abbrev pub AreShort : List Answer → Type 0
 AreShort xs = AllByRecursion (λ (a : Answer). IsShort a.proof) xs
@@ -364,7 +390,7 @@ short_by net earlier (q ∷ qs) [] s h = absurd h
 short_by net earlier (q ∷ qs) (a ∷ xs) s h = (s.0 net earlier a.verdict a.proof h.0.1, short_by net (earlier ++ (q, a.verdict) ∷ []) qs xs s.1 h.1)
 
 built_short : AllByRecursion IsShortQuestion built
-built_short = (rows_linkage, (rows_strong, (rows_reversible, (rows_weak, (rows_rank, (rows_deficiency, (rows_dependence, (rows_conservation, tt))))))))
+built_short = (rows_linkage, (rows_strong, (rows_reversible, (rows_weak, (rows_rank, (rows_deficiency, (rows_dependence, (rows_conservation, (rows_zero, (rows_one, tt))))))))))
 
 -- formed answers to the questions that are built have neither
 pub all_short : (net : Net) (xs : List Answer) → AreFormed net [] built xs → AreShort xs

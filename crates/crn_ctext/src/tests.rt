@@ -17,13 +17,13 @@ use std::alloc::Global;
 use std::test::Fail;
 
 const BOTH_WAYS: &[u8] =
-    b"crn certificate 1\nnetwork 2\nA -> B\nB -> A\nq1 1\nlabel 1 1\nup 0 1\ndepth 0 1\nq2 1 1\nlabel 1 1\nfrom 0 1\nfromdepth 0 1\nto 0 2\ntodepth 0 1\nlevel 0\nexit 0\nq3 yes\nback 2 1\nq4 yes\nq5 1\nbase 1\ndual -1 1\ncomb 1 -1\nq6 0 0\nbase 1\ndual -1 1\ncomb 1 -1\nq7 yes\nvec 1 1\nq8 yes\nvec 1 1\nend\n";
+    b"crn certificate 1\nnetwork 2\nA -> B\nB -> A\nq1 1\nlabel 1 1\nup 0 1\ndepth 0 1\nq2 1 1\nlabel 1 1\nfrom 0 1\nfromdepth 0 1\nto 0 2\ntodepth 0 1\nlevel 0\nexit 0\nq3 yes\nback 2 1\nq4 yes\nq5 1\nbase 1\ndual -1 1\ncomb 1 -1\nq6 0 0\nbase 1\ndual -1 1\ncomb 1 -1\nq7 yes\nvec 1 1\nq8 yes\nvec 1 1\nq9 yes 1\nq10 yes\nend\n";
 
 const BOTH_WAYS_2: &[u8] =
-    b"crn certificate 2\nnetwork 2\nA -> B\nB -> A\nvectors 0\nsection graph\nq1 1\nlabel 1 1\nup 0 1\ndepth 0 1\nq2 1 1\nlabel 1 1\nfrom 0 1\nfromdepth 0 1\nto 0 2\ntodepth 0 1\nlevel 0\nexit 0\nq3 yes\nback 2 1\nq4 yes\nsection rank\nq5 1\nbase 1\ndual -1 1\ncomb 1 -1\nq6 0 0\nbase 1\ndual -1 1\ncomb 1 -1\nsection dependence\nq7 yes\nvec 1 1\nq8 yes\nvec 1 1\nend\n";
+    b"crn certificate 2\nnetwork 2\nA -> B\nB -> A\nvectors 0\nsection graph\nq1 1\nlabel 1 1\nup 0 1\ndepth 0 1\nq2 1 1\nlabel 1 1\nfrom 0 1\nfromdepth 0 1\nto 0 2\ntodepth 0 1\nlevel 0\nexit 0\nq3 yes\nback 2 1\nq4 yes\nsection rank\nq5 1\nbase 1\ndual -1 1\ncomb 1 -1\nq6 0 0\nbase 1\ndual -1 1\ncomb 1 -1\nsection dependence\nq7 yes\nvec 1 1\nq8 yes\nvec 1 1\nsection theorems\nq9 yes 1\nq10 yes\nend\n";
 
 const ONE_WAY: &[u8] =
-    b"crn certificate 1\nnetwork 1\nA -> B\nq1 1\nlabel 1 1\nup 0 1\ndepth 0 1\nq2 2 1\nlabel 1 2\nfrom 0 0\nfromdepth 0 0\nto 0 0\ntodepth 0 0\nlevel 1 0\nexit 1 0\nq3 no 1\nq4 no 1\nq5 open wide 1 0 3 1 2\nq6 open rests 5\nq7 no\ncut -1 1\nq8 yes\nvec 1 1\nend\n";
+    b"crn certificate 1\nnetwork 1\nA -> B\nq1 1\nlabel 1 1\nup 0 1\ndepth 0 1\nq2 2 1\nlabel 1 2\nfrom 0 0\nfromdepth 0 0\nto 0 0\ntodepth 0 0\nlevel 1 0\nexit 1 0\nq3 no 1\nq4 no 1\nq5 open wide 1 0 3 1 2\nq6 open rests 5\nq7 no\ncut -1 1\nq8 yes\nvec 1 1\nq9 open rests 5\nq10 open rests 6\nend\n";
 
 // The one class of two complexes that reaction 1 joins.
 fn one_class(alloc: Global) -> Result<Answer, NoMemory>
@@ -177,6 +177,14 @@ fn answers_of_both_ways(alloc: Global) -> Result<Answers, NoMemory>
     answers.push(one_deficiency(alloc)?);
     answers.push(one_of_each(alloc)?);
     answers.push(one_of_each(alloc)?);
+    answers.push(Answer {
+        verdict: Verdict::YesWeak { weak: true },
+        proof: Proof::Nothing,
+    });
+    answers.push(Answer {
+        verdict: Verdict::Yes,
+        proof: Proof::Nothing,
+    });
     Ok(answers)
 }
 
@@ -258,6 +266,14 @@ fn answers_of_one_way(alloc: Global) -> Result<Answers, NoMemory>
     });
     answers.push(one_made(alloc)?);
     answers.push(one_of_each(alloc)?);
+    answers.push(Answer {
+        verdict: Verdict::Unknown(Gap::Rests { question: 5 }),
+        proof: Proof::Nothing,
+    });
+    answers.push(Answer {
+        verdict: Verdict::Unknown(Gap::Rests { question: 6 }),
+        proof: Proof::Nothing,
+    });
     Ok(answers)
 }
 

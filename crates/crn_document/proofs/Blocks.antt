@@ -109,7 +109,9 @@ next_range n (inr (inr (inr (inr (inl e))))) = subst (λ (m : ℕ). take (m - 1)
 next_range n (inr (inr (inr (inr (inr (inl e)))))) = subst (λ (m : ℕ). take (m - 1) built ++ asked m ∷ [] ≡ take (m + 1 - 1) built) (sym e) refl
 next_range n (inr (inr (inr (inr (inr (inr (inl e))))))) = subst (λ (m : ℕ). take (m - 1) built ++ asked m ∷ [] ≡ take (m + 1 - 1) built) (sym e) refl
 next_range n (inr (inr (inr (inr (inr (inr (inr (inl e)))))))) = subst (λ (m : ℕ). take (m - 1) built ++ asked m ∷ [] ≡ take (m + 1 - 1) built) (sym e) refl
-next_range n (inr (inr (inr (inr (inr (inr (inr (inr none)))))))) = absurd none
+next_range n (inr (inr (inr (inr (inr (inr (inr (inr (inl e))))))))) = subst (λ (m : ℕ). take (m - 1) built ++ asked m ∷ [] ≡ take (m + 1 - 1) built) (sym e) refl
+next_range n (inr (inr (inr (inr (inr (inr (inr (inr (inr (inl e)))))))))) = subst (λ (m : ℕ). take (m - 1) built ++ asked m ∷ [] ≡ take (m + 1 - 1) built) (sym e) refl
+next_range n (inr (inr (inr (inr (inr (inr (inr (inr (inr (inr none)))))))))) = absurd none
 
 pub so_far_next : (n : ℕ) (old new : Earlier) (v : Verdict) → IsBuilt n → map (λ (e : Question × Verdict). e.0) old ≡ take (n - 1) built → new ≡ old ++ (asked n, v) ∷ [] → map (λ (e : Question × Verdict). e.0) new ≡ take (n + 1 - 1) built
 so_far_next n old new v is so_far same =

@@ -5,15 +5,15 @@ use Rattle.crn_io.specs.Device.{SourceSeen}
 use Rattle.crn_io.specs.Lines.{Place, BreaksLine, document_too_long, line_too_long, otherwise, LacksLine, HasMore, early, beginning}
 use Rattle.crn_vec.specs.Network.{Net}
 use Rattle.crn_cert.specs.Built.{built}
-use Rattle.crn_cert.specs.Questions.{Earlier, Question, Q1, Q2, Q3, Q4, Q5, Q6, Q7, Q8}
+use Rattle.crn_cert.specs.Questions.{Earlier, Question, Q1, Q2, Q3, Q4, Q5, Q6, Q7, Q8, Q9, Q10}
 use Rattle.crn_cert.specs.Tests.{Test as Claim}
-use Rattle.crn_cert.specs.Valid.{class_rank_tests, conservation_rows, deficiency_head, deficiency_rows, dependence_rows, linkage_rows, rank_rows, reversible_head, reversible_rows, strong_rows, weak_head}
+use Rattle.crn_cert.specs.Valid.{class_rank_tests, conservation_rows, deficiency_head, deficiency_rows, dependence_rows, linkage_rows, one_head, rank_rows, reversible_head, reversible_rows, strong_rows, weak_head, zero_head}
 use Rattle.crn_cert.specs.RankTests.{comb_tests, dual_tests, rank_tests}
 use Rattle.crn_cert.specs.declared.answer.Verdict.{Verdict}
 use Rattle.crn_cert.specs.declared.answer.Proof.{Proof}
 use Rattle.crn_cert.specs.declared.answer.RankProof.{RankProof}
 use Rattle.crn_cert.specs.declared.answer.Gap.{Gap}
-use Rattle.crn_cert.specs.declared.answer.Verdict.TheVariants.{Deficiency, NoVec, Rank, Unknown, YesVec}
+use Rattle.crn_cert.specs.declared.answer.Verdict.TheVariants.{Deficiency, NoClass, NoNumber, NoSum, NoTerminal, NoVec, Rank, Unknown, Yes, YesVec, YesWeak}
 use Rattle.crn_cert.specs.declared.answer.Proof.TheVariants.{Nothing, Rank as RankRows, Ranks}
 use Rattle.crn_ctext.specs.Records.{Record, Form}
 use Rattle.crn_ctext.specs.Kinds.{end_form, section_form, table_form, vector_form}
@@ -223,6 +223,18 @@ conservation_numbered net (YesVec vector) = (from_21 35 (omega arith) (omega ari
 conservation_numbered net (NoVec multipliers) = (from_21 35 (omega arith) (omega arith), tt)
 conservation_numbered net v = tt
 
+zero_numbered : (net : Net) (earlier : Earlier) (v : Verdict) → AreNumbered (zero_head net earlier v)
+zero_numbered net earlier (YesWeak weak) = (of_37, (of_37, tt))
+zero_numbered net earlier (NoNumber d) = (of_37, (from_21 36 (omega arith) (omega arith), tt))
+zero_numbered net earlier v = tt
+
+one_numbered : (earlier : Earlier) (v : Verdict) → AreNumbered (one_head earlier v)
+one_numbered earlier Yes = (of_37, tt)
+one_numbered earlier (NoTerminal k count) = (of_37, tt)
+one_numbered earlier (NoClass k d) = (of_37, tt)
+one_numbered earlier (NoSum x) = (of_37, tt)
+one_numbered earlier v = tt
+
 -- what a block says
 abbrev verdict_in : Question → Known → Record → List Record → Verdict
 verdict_in q known h rs = verdict_of q (sizes_of known) h rs
@@ -260,7 +272,7 @@ built_numbered = (
             record { head = λ known h. deficiency_head_numbered known.net known.earlier (verdict_in Q6 known h []); rows = λ known h rs. deficiency_numbered known.net known.earlier (verdict_in Q6 known h rs) (proof_in Q6 known h rs) },
             (
               record { head = λ known h. tt; rows = λ known h rs. dependence_numbered known.net (verdict_in Q7 known h rs) },
-              (record { head = λ known h. tt; rows = λ known h rs. conservation_numbered known.net (verdict_in Q8 known h rs) }, tt),
+              (record { head = λ known h. tt; rows = λ known h rs. conservation_numbered known.net (verdict_in Q8 known h rs) }, (record { head = λ known h. zero_numbered known.net known.earlier (verdict_in Q9 known h []); rows = λ known h rs. tt }, (record { head = λ known h. one_numbered known.earlier (verdict_in Q10 known h []); rows = λ known h rs. tt }, tt))),
             ),
           ),
         ),

@@ -21,7 +21,7 @@ use Rattle.crn_check.specs.Verdicts.{tight}
 use Rattle.crn_cert.specs.Ranges.{AreFrom, AreFree}
 use Rattle.crn_ctext.specs.Records.{Record, Form, AreRising, CountAndPart, ClassWide, Rising, Fits, AreOf, AreBetween}
 use Rattle.crn_ctext.specs.Kinds.{small, just, small_form, free_form}
-use Rattle.crn_ctext.specs.Questions.{Sizes, heads, head, yes, no, wide, rests, open_by, class_forms, rank_forms}
+use Rattle.crn_ctext.specs.Questions.{Sizes, heads, head, yes, no, no_by, wide, rests, open_by, class_forms, rank_forms}
 use Rattle.crn_ctext.specs.Blocks.{is_open, below, unless}
 use Rattle.crn_ctext.specs.Documents.{IsOneOf}
 use Rattle.crn_ctext.specs.Meaning.{lengths, nums, lists, row, sizes_of, shapes_of, verdict_of, proof_of, class_proofs}
@@ -654,6 +654,197 @@ no_law_facts net earlier = record {
   row_parts = λ rs hold z. (omega arith, tt);
 }
 
+-- ---- the two deficiency theorems
+
+zero_yes_facts : (net : Net) (earlier : Earlier) → Facts net earlier 9 (codes "q9" ∷ yes) (pos 1 ∷ [])
+zero_yes_facts net earlier = record {
+  small = ((1, refl, omega arith), one_small 1 (omega arith));
+  short = omega arith;
+  ranks = λ long. tt;
+  is_head = (_, inl refl);
+  few = omega arith;
+  may = tt;
+  below_is = refl;
+  said = λ rs. refl;
+  shown = λ rs. refl;
+  heads_are = refl;
+  rows_are = λ rs. refl;
+  tight_is = λ rs. refl;
+  head_parts = (omega arith, (omega arith, tt));
+  heads_same = λ rs p. p;
+  fit = λ rs hold z. tt;
+  formed = λ rs hold z. (tt, tt);
+  row_parts = λ rs hold z. tt;
+}
+
+zero_other_facts : (net : Net) (earlier : Earlier) → Facts net earlier 9 (codes "q9" ∷ yes) (pos 0 ∷ [])
+zero_other_facts net earlier = record {
+  small = ((1, refl, omega arith), one_small 0 (omega arith));
+  short = omega arith;
+  ranks = λ long. tt;
+  is_head = (_, inl refl);
+  few = omega arith;
+  may = tt;
+  below_is = refl;
+  said = λ rs. refl;
+  shown = λ rs. refl;
+  heads_are = refl;
+  rows_are = λ rs. refl;
+  tight_is = λ rs. refl;
+  head_parts = (omega arith, (omega arith, tt));
+  heads_same = λ rs p. p;
+  fit = λ rs hold z. tt;
+  formed = λ rs hold z. (tt, tt);
+  row_parts = λ rs hold z. tt;
+}
+
+zero_no_facts : (net : Net) (earlier : Earlier) (d : ℕ) → IsNetwork net → (1 ≤ d) × (d ≤ length net.complexes) → Facts net earlier 9 (codes "q9" ∷ no) (pos d ∷ [])
+zero_no_facts net earlier d network range = record {
+  small = ((2, refl, omega arith), one_small d (let few = network.partial.complexes_limit in omega (arith, few, range.1)));
+  short = omega arith;
+  ranks = λ long. tt;
+  is_head = (_, inr (inl refl));
+  few = omega arith;
+  may = range;
+  below_is = refl;
+  said = λ rs. refl;
+  shown = λ rs. refl;
+  heads_are = refl;
+  rows_are = λ rs. refl;
+  tight_is = λ rs. refl;
+  head_parts = (omega arith, (omega arith, tt));
+  heads_same = λ rs p. p;
+  fit = λ rs hold z. tt;
+  formed = λ rs hold z. (range, tt);
+  row_parts = λ rs hold z. tt;
+}
+
+zero_rests_facts : (net : Net) (earlier : Earlier) → Facts net earlier 9 (codes "q9" ∷ open_by (codes "rests")) (pos 5 ∷ [])
+zero_rests_facts net earlier = record {
+  small = ((5, refl, omega arith), one_small 5 (omega arith));
+  short = omega arith;
+  ranks = λ long. tt;
+  is_head = (_, inr (inr refl));
+  few = omega arith;
+  may = refl;
+  below_is = refl;
+  said = λ rs. refl;
+  shown = λ rs. refl;
+  heads_are = refl;
+  rows_are = λ rs. refl;
+  tight_is = λ rs. refl;
+  head_parts = tt;
+  heads_same = λ rs p. p;
+  fit = λ rs hold z. tt;
+  formed = λ rs hold z. (refl, refl);
+  row_parts = λ rs hold z. tt;
+}
+
+one_yes_facts : (net : Net) (earlier : Earlier) → Facts net earlier 10 (codes "q10" ∷ yes) ([])
+one_yes_facts net earlier = record {
+  small = ((1, refl, omega arith), tt);
+  short = omega arith;
+  ranks = λ long. tt;
+  is_head = (_, inl refl);
+  few = omega arith;
+  may = tt;
+  below_is = refl;
+  said = λ rs. refl;
+  shown = λ rs. refl;
+  heads_are = refl;
+  rows_are = λ rs. refl;
+  tight_is = λ rs. refl;
+  head_parts = (omega arith, tt);
+  heads_same = λ rs p. p;
+  fit = λ rs hold z. tt;
+  formed = λ rs hold z. (tt, tt);
+  row_parts = λ rs hold z. tt;
+}
+
+one_split_facts : (net : Net) (earlier : Earlier) (k m : ℕ) → IsNetwork net → linkage_count earlier ≤ MAX_COMPLEXES → (1 ≤ k) × (k ≤ linkage_count earlier) → (2 ≤ m) × (m ≤ length net.complexes) → Facts net earlier 10 (codes "q10" ∷ no_by (codes "terminal")) (pos k ∷ pos m ∷ [])
+one_split_facts net earlier k m network least a b = record {
+  small = ((2, refl, omega arith), ((k, refl, omega (arith, least, a.1)), one_small m (let few = network.partial.complexes_limit in omega (arith, few, b.1))));
+  short = omega arith;
+  ranks = λ long. tt;
+  is_head = (_, inr (inl refl));
+  few = omega arith;
+  may = (a, b);
+  below_is = refl;
+  said = λ rs. refl;
+  shown = λ rs. refl;
+  heads_are = refl;
+  rows_are = λ rs. refl;
+  tight_is = λ rs. refl;
+  head_parts = (omega arith, tt);
+  heads_same = λ rs p. p;
+  fit = λ rs hold z. tt;
+  formed = λ rs hold z. ((a, b), tt);
+  row_parts = λ rs hold z. tt;
+}
+
+one_large_facts : (net : Net) (earlier : Earlier) (k m : ℕ) → IsNetwork net → linkage_count earlier ≤ MAX_COMPLEXES → (1 ≤ k) × (k ≤ linkage_count earlier) → (2 ≤ m) × (m ≤ length net.complexes) → Facts net earlier 10 (codes "q10" ∷ no_by (codes "class")) (pos k ∷ pos m ∷ [])
+one_large_facts net earlier k m network least a b = record {
+  small = ((3, refl, omega arith), ((k, refl, omega (arith, least, a.1)), one_small m (let few = network.partial.complexes_limit in omega (arith, few, b.1))));
+  short = omega arith;
+  ranks = λ long. tt;
+  is_head = (_, inr (inr (inl refl)));
+  few = omega arith;
+  may = (a, b);
+  below_is = refl;
+  said = λ rs. refl;
+  shown = λ rs. refl;
+  heads_are = refl;
+  rows_are = λ rs. refl;
+  tight_is = λ rs. refl;
+  head_parts = (omega arith, tt);
+  heads_same = λ rs p. p;
+  fit = λ rs hold z. tt;
+  formed = λ rs hold z. ((a, b), tt);
+  row_parts = λ rs hold z. tt;
+}
+
+one_sum_facts : (net : Net) (earlier : Earlier) (x : ℕ) → IsNetwork net → (0 ≤ x) × (x ≤ length net.complexes) → Facts net earlier 10 (codes "q10" ∷ no_by (codes "sum")) (pos x ∷ [])
+one_sum_facts net earlier x network range = record {
+  small = ((4, refl, omega arith), one_small x (let few = network.partial.complexes_limit in omega (arith, few, range.1)));
+  short = omega arith;
+  ranks = λ long. tt;
+  is_head = (_, inr (inr (inr (inl refl))));
+  few = omega arith;
+  may = range;
+  below_is = refl;
+  said = λ rs. refl;
+  shown = λ rs. refl;
+  heads_are = refl;
+  rows_are = λ rs. refl;
+  tight_is = λ rs. refl;
+  head_parts = (omega arith, tt);
+  heads_same = λ rs p. p;
+  fit = λ rs hold z. tt;
+  formed = λ rs hold z. (range, tt);
+  row_parts = λ rs hold z. tt;
+}
+
+one_rests_facts : (net : Net) (earlier : Earlier) → Facts net earlier 10 (codes "q10" ∷ open_by (codes "rests")) (pos 6 ∷ [])
+one_rests_facts net earlier = record {
+  small = ((7, refl, omega arith), one_small 6 (omega arith));
+  short = omega arith;
+  ranks = λ long. tt;
+  is_head = (_, inr (inr (inr (inr refl))));
+  few = omega arith;
+  may = refl;
+  below_is = refl;
+  said = λ rs. refl;
+  shown = λ rs. refl;
+  heads_are = refl;
+  rows_are = λ rs. refl;
+  tight_is = λ rs. refl;
+  head_parts = tt;
+  heads_same = λ rs p. p;
+  fit = λ rs hold z. tt;
+  formed = λ rs hold z. (refl, refl);
+  row_parts = λ rs hold z. tt;
+}
+
 -- ---- each head
 
 abbrev FactsOf : Net → Earlier → ℕ → Record → Type 1
@@ -766,6 +957,58 @@ by_law net earlier h network few (form, inr (inr (inl e)), fits) =
     let w = wide_numbers 1 (length net.names) (length net.reactions) h.numbers f.1 in
     same_facts net earlier 8 h (codes "q8" ∷ open_by (codes "wide")) (pos 1 ∷ pos 0 ∷ pos w.index ∷ w.basis) f.0 w.is (law_wide_facts net earlier w.index w.basis network w.low w.high w.long w.rising)
 
+zero_case : (net : Net) (earlier : Earlier) (k : ℕ) → k ≤ 1 → Facts net earlier 9 (codes "q9" ∷ yes) (pos k ∷ [])
+zero_case net earlier zero le = zero_other_facts net earlier
+zero_case net earlier (suc zero) le = zero_yes_facts net earlier
+zero_case net earlier (suc (suc k)) le = absurd (omega (arith, le))
+
+by_zero : (net : Net) (earlier : Earlier) (h : Record) → FactsAt net earlier h 9
+by_zero net earlier h network few (form, inr (inr (inr none)), fits) = absurd none
+by_zero net earlier h network few (form, inl e, fits) =
+    let f = as_form h form (head (codes "q9") 1 yes (small 1 0 1 ∷ [])) e fits in
+    let k = one_number 0 1 h.numbers (one_field (small 1 0 1) h.numbers f.1) in
+    same_facts net earlier 9 h (codes "q9" ∷ yes) (pos k.0 ∷ []) f.0 k.1 (zero_case net earlier k.0 k.2.1)
+by_zero net earlier h network few (form, inr (inl e), fits) =
+    let f = as_form h form (head (codes "q9") 2 no (small 1 1 (length net.complexes) ∷ [])) e fits in
+    let k = one_number 1 (length net.complexes) h.numbers (one_field (small 1 1 (length net.complexes)) h.numbers f.1) in
+    same_facts net earlier 9 h (codes "q9" ∷ no) (pos k.0 ∷ []) f.0 k.1 (zero_no_facts net earlier k.0 network k.2)
+by_zero net earlier h network few (form, inr (inr (inl e)), fits) =
+    let f = as_form h form (rests (codes "q9") 5 5) e fits in
+    let k = one_number 5 5 h.numbers (one_field (just 5) h.numbers f.1) in
+    let five : k.0 ≡ 5 = (let a = k.2.0 in let b = k.2.1 in omega (arith, a, b)) in
+    same_facts net earlier 9 h (codes "q9" ∷ open_by (codes "rests")) (pos 5 ∷ []) f.0 (k.1 ∙ ap (λ (m : ℕ). pos m ∷ []) five) (zero_rests_facts net earlier)
+
+-- a linkage class and a number from 2
+class_and_number : (net : Net) (earlier : Earlier) (zs : List ℤ) → AreOf Holds (small 1 1 (length (sizes_of (known_of net earlier)).class_reactions) ∷ small 1 2 (length net.complexes) ∷ []) zs
+    → (k : ℕ) × (m : ℕ) × (zs ≡ pos k ∷ pos m ∷ []) × ((1 ≤ k) × (k ≤ linkage_count earlier)) × ((2 ≤ m) × (m ≤ length net.complexes))
+class_and_number net earlier zs p =
+    let first = one_number 1 (length (sizes_of (known_of net earlier)).class_reactions) p.0 p.3 in
+    let second = one_number 2 (length net.complexes) p.1 (one_field (small 1 2 (length net.complexes)) p.1 p.4) in
+    (first.0, second.0, p.2 ∙ ap₂ (λ (x y : List ℤ). x ++ y) first.1 second.1, (first.2.0, (let l = counts_long net earlier in let t = first.2.1 in omega (arith, l, t))), second.2)
+
+by_one : (net : Net) (earlier : Earlier) (h : Record) → FactsAt net earlier h 10
+by_one net earlier h network few (form, inr (inr (inr (inr (inr none)))), fits) = absurd none
+by_one net earlier h network few (form, inl e, fits) =
+    let f = as_form h form (head (codes "q10") 1 yes []) e fits in
+    same_facts net earlier 10 h (codes "q10" ∷ yes) [] f.0 f.1 (one_yes_facts net earlier)
+by_one net earlier h network few (form, inr (inl e), fits) =
+    let f = as_form h form (head (codes "q10") 2 (no_by (codes "terminal")) (small 1 1 (length (sizes_of (known_of net earlier)).class_reactions) ∷ small 1 2 (length net.complexes) ∷ [])) e fits in
+    let k = class_and_number net earlier h.numbers f.1 in
+    same_facts net earlier 10 h (codes "q10" ∷ no_by (codes "terminal")) (pos k.0 ∷ pos k.1 ∷ []) f.0 k.2 (one_split_facts net earlier k.0 k.1 network few k.3 k.4)
+by_one net earlier h network few (form, inr (inr (inl e)), fits) =
+    let f = as_form h form (head (codes "q10") 3 (no_by (codes "class")) (small 1 1 (length (sizes_of (known_of net earlier)).class_reactions) ∷ small 1 2 (length net.complexes) ∷ [])) e fits in
+    let k = class_and_number net earlier h.numbers f.1 in
+    same_facts net earlier 10 h (codes "q10" ∷ no_by (codes "class")) (pos k.0 ∷ pos k.1 ∷ []) f.0 k.2 (one_large_facts net earlier k.0 k.1 network few k.3 k.4)
+by_one net earlier h network few (form, inr (inr (inr (inl e))), fits) =
+    let f = as_form h form (head (codes "q10") 4 (no_by (codes "sum")) (small 1 0 (length net.complexes) ∷ [])) e fits in
+    let k = one_number 0 (length net.complexes) h.numbers (one_field (small 1 0 (length net.complexes)) h.numbers f.1) in
+    same_facts net earlier 10 h (codes "q10" ∷ no_by (codes "sum")) (pos k.0 ∷ []) f.0 k.1 (one_sum_facts net earlier k.0 network k.2)
+by_one net earlier h network few (form, inr (inr (inr (inr (inl e)))), fits) =
+    let f = as_form h form (rests (codes "q10") 7 6) e fits in
+    let k = one_number 6 6 h.numbers (one_field (just 6) h.numbers f.1) in
+    let six : k.0 ≡ 6 = (let a = k.2.0 in let b = k.2.1 in omega (arith, a, b)) in
+    same_facts net earlier 10 h (codes "q10" ∷ open_by (codes "rests")) (pos 6 ∷ []) f.0 (k.1 ∙ ap (λ (m : ℕ). pos m ∷ []) six) (one_rests_facts net earlier)
+
 pub head_facts : (net : Net) (earlier : Earlier) (n : ℕ) (h : Record) → IsBuilt n → FactsAt net earlier h n
 head_facts net earlier n h (inl e) = subst (FactsAt net earlier h) (sym e) (by_linkage net earlier h)
 head_facts net earlier n h (inr (inl e)) = subst (FactsAt net earlier h) (sym e) (by_strong net earlier h)
@@ -775,7 +1018,9 @@ head_facts net earlier n h (inr (inr (inr (inr (inl e))))) = subst (FactsAt net 
 head_facts net earlier n h (inr (inr (inr (inr (inr (inl e)))))) = subst (FactsAt net earlier h) (sym e) (by_deficiency net earlier h)
 head_facts net earlier n h (inr (inr (inr (inr (inr (inr (inl e))))))) = subst (FactsAt net earlier h) (sym e) (by_dependence net earlier h)
 head_facts net earlier n h (inr (inr (inr (inr (inr (inr (inr (inl e)))))))) = subst (FactsAt net earlier h) (sym e) (by_law net earlier h)
-head_facts net earlier n h (inr (inr (inr (inr (inr (inr (inr (inr none)))))))) = absurd none
+head_facts net earlier n h (inr (inr (inr (inr (inr (inr (inr (inr (inl e))))))))) = subst (FactsAt net earlier h) (sym e) (by_zero net earlier h)
+head_facts net earlier n h (inr (inr (inr (inr (inr (inr (inr (inr (inr (inl e)))))))))) = subst (FactsAt net earlier h) (sym e) (by_one net earlier h)
+head_facts net earlier n h (inr (inr (inr (inr (inr (inr (inr (inr (inr (inr none)))))))))) = absurd none
 
 pub said_facts : (net : Net) (n : ℕ) (facts : KeptFacts) (head : List ℤ) (h : Record) → IsBuilt n → IsKnown net n facts → IsHead net facts.earlier n head h → HeadFacts net facts.earlier n h head
 said_facts net n facts head h built known said =
@@ -783,16 +1028,18 @@ said_facts net n facts head h built known said =
 
 -- ---- the forms of a head rest on the numbers of species, of complexes and of reactions, and on those of each class
 
-pub heads_by_sizes : (n : ℕ) → IsBuilt n → (z w : Sizes) → z.species ≡ w.species → z.complexes ≡ w.complexes → z.reactions ≡ w.reactions → (n ≡ 6 → z.class_reactions ≡ w.class_reactions) → heads (question_of n) z ≡ heads (asked n) w
+pub heads_by_sizes : (n : ℕ) → IsBuilt n → (z w : Sizes) → z.species ≡ w.species → z.complexes ≡ w.complexes → z.reactions ≡ w.reactions → z.class_reactions ≡ w.class_reactions → heads (question_of n) z ≡ heads (asked n) w
 heads_by_sizes n (inl e) z w s c r k = subst (λ (m : ℕ). heads (question_of m) z ≡ heads (asked m) w) (sym e) (ap (λ (k : ℕ). head (codes "q1") 1 [] (small 1 1 k ∷ []) ∷ []) c)
 heads_by_sizes n (inr (inl e)) z w s c r k = subst (λ (m : ℕ). heads (question_of m) z ≡ heads (asked m) w) (sym e) (ap (λ (k : ℕ). head (codes "q2") 1 [] (CountAndPart k ∷ []) ∷ []) c)
 heads_by_sizes n (inr (inr (inl e))) z w s c r k = subst (λ (m : ℕ). heads (question_of m) z ≡ heads (asked m) w) (sym e) (ap (λ (k : ℕ). head (codes "q3") 1 yes [] ∷ head (codes "q3") 2 no (small 1 1 k ∷ []) ∷ []) r)
 heads_by_sizes n (inr (inr (inr (inl e)))) z w s c r k = subst (λ (m : ℕ). heads (question_of m) z ≡ heads (asked m) w) (sym e) (ap (λ (k : ℕ). head (codes "q4") 1 yes [] ∷ head (codes "q4") 2 no (small 1 1 k ∷ []) ∷ []) r)
 heads_by_sizes n (inr (inr (inr (inr (inl e))))) z w s c r k = subst (λ (m : ℕ). heads (question_of m) z ≡ heads (asked m) w) (sym e) (ap₂ (λ (i j : ℕ). head (codes "q5") 1 [] (small 1 1 (min i j) ∷ []) ∷ wide (codes "q5") 2 1 i j ∷ []) s r)
-heads_by_sizes n (inr (inr (inr (inr (inr (inl e)))))) z w s c r k = subst (λ (m : ℕ). heads (question_of m) z ≡ heads (asked m) w) (sym e) (ap₂ (λ (i : ℕ × ℕ) (x : List ℕ). head (codes "q6") 1 [] (small (1 + length x) 0 i.0 ∷ []) ∷ head (codes "q6") 2 (open_by (codes "wide")) (just 3 ∷ ClassWide i.1 x ∷ []) ∷ rests (codes "q6") 4 5 ∷ []) (ap₂ (λ (i j : ℕ). (i, j)) c s) (k e))
+heads_by_sizes n (inr (inr (inr (inr (inr (inl e)))))) z w s c r k = subst (λ (m : ℕ). heads (question_of m) z ≡ heads (asked m) w) (sym e) (ap₂ (λ (i : ℕ × ℕ) (x : List ℕ). head (codes "q6") 1 [] (small (1 + length x) 0 i.0 ∷ []) ∷ head (codes "q6") 2 (open_by (codes "wide")) (just 3 ∷ ClassWide i.1 x ∷ []) ∷ rests (codes "q6") 4 5 ∷ []) (ap₂ (λ (i j : ℕ). (i, j)) c s) k)
 heads_by_sizes n (inr (inr (inr (inr (inr (inr (inl e))))))) z w s c r k = subst (λ (m : ℕ). heads (question_of m) z ≡ heads (asked m) w) (sym e) (ap₂ (λ (i j : ℕ). head (codes "q7") 1 yes [] ∷ head (codes "q7") 2 no [] ∷ wide (codes "q7") 3 2 i j ∷ []) r s)
 heads_by_sizes n (inr (inr (inr (inr (inr (inr (inr (inl e)))))))) z w s c r k = subst (λ (m : ℕ). heads (question_of m) z ≡ heads (asked m) w) (sym e) (ap₂ (λ (i j : ℕ). head (codes "q8") 1 yes [] ∷ head (codes "q8") 2 no [] ∷ wide (codes "q8") 3 1 i j ∷ []) s r)
-heads_by_sizes n (inr (inr (inr (inr (inr (inr (inr (inr none)))))))) z w s c r k = absurd none
+heads_by_sizes n (inr (inr (inr (inr (inr (inr (inr (inr (inl e))))))))) z w s c r k = subst (λ (m : ℕ). heads (question_of m) z ≡ heads (asked m) w) (sym e) (ap (λ (i : ℕ). head (codes "q9") 1 yes (small 1 0 1 ∷ []) ∷ head (codes "q9") 2 no (small 1 1 i ∷ []) ∷ rests (codes "q9") 5 5 ∷ []) c)
+heads_by_sizes n (inr (inr (inr (inr (inr (inr (inr (inr (inr (inl e)))))))))) z w s c r k = subst (λ (m : ℕ). heads (question_of m) z ≡ heads (asked m) w) (sym e) (ap₂ (λ (i : ℕ) (x : List ℕ). head (codes "q10") 1 yes [] ∷ head (codes "q10") 2 (no_by (codes "terminal")) (small 1 1 (length x) ∷ small 1 2 i ∷ []) ∷ head (codes "q10") 3 (no_by (codes "class")) (small 1 1 (length x) ∷ small 1 2 i ∷ []) ∷ head (codes "q10") 4 (no_by (codes "sum")) (small 1 0 i ∷ []) ∷ rests (codes "q10") 7 6 ∷ []) c k)
+heads_by_sizes n (inr (inr (inr (inr (inr (inr (inr (inr (inr (inr none)))))))))) z w s c r k = absurd none
 
 pub number_of_built : (n : ℕ) → IsBuilt n → (1 ≤ n) × (n ≤ 15)
 number_of_built n (inl e) = (omega (arith, e), omega (arith, e))
@@ -803,4 +1050,6 @@ number_of_built n (inr (inr (inr (inr (inl e))))) = (omega (arith, e), omega (ar
 number_of_built n (inr (inr (inr (inr (inr (inl e)))))) = (omega (arith, e), omega (arith, e))
 number_of_built n (inr (inr (inr (inr (inr (inr (inl e))))))) = (omega (arith, e), omega (arith, e))
 number_of_built n (inr (inr (inr (inr (inr (inr (inr (inl e)))))))) = (omega (arith, e), omega (arith, e))
-number_of_built n (inr (inr (inr (inr (inr (inr (inr (inr none)))))))) = absurd none
+number_of_built n (inr (inr (inr (inr (inr (inr (inr (inr (inl e))))))))) = (omega (arith, e), omega (arith, e))
+number_of_built n (inr (inr (inr (inr (inr (inr (inr (inr (inr (inl e)))))))))) = (omega (arith, e), omega (arith, e))
+number_of_built n (inr (inr (inr (inr (inr (inr (inr (inr (inr (inr none)))))))))) = absurd none

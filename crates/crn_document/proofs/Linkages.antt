@@ -22,7 +22,7 @@ use Rattle.crn_check.specs.Check.{IsBuilt}
 use Rattle.crn_check.proofs.CallerLemmas.{formed_on}
 use Rattle.crn_document.specs.declared.linkage.Linkage.{Linkage}
 use Rattle.crn_document.specs.Inner.Parts.{IsKnown, IsLinkage, class_counts, is_in_class, members_of}
-use Rattle.crn_document.specs.Inner.Heads.{FitsCounts, counts_before}
+use Rattle.crn_document.specs.Inner.Heads.{FitsCounts}
 use Rattle.crn_document.specs.Inner.Records.{IsBaseDue}
 use Rattle.crn_cert.specs.Valid.{linkage, linkage_count, class_places}
 use Rattle.crn_ctext.specs.Meaning.{lengths}
@@ -53,7 +53,9 @@ holds_first net n facts (inr (inr (inr (inr (inl e))))) differs k = first_of fac
 holds_first net n facts (inr (inr (inr (inr (inr (inl e)))))) differs k = first_of facts.earlier _ (k.so_far ∙ ap (λ (m : ℕ). take (m - 1) built) e)
 holds_first net n facts (inr (inr (inr (inr (inr (inr (inl e))))))) differs k = first_of facts.earlier _ (k.so_far ∙ ap (λ (m : ℕ). take (m - 1) built) e)
 holds_first net n facts (inr (inr (inr (inr (inr (inr (inr (inl e)))))))) differs k = first_of facts.earlier _ (k.so_far ∙ ap (λ (m : ℕ). take (m - 1) built) e)
-holds_first net n facts (inr (inr (inr (inr (inr (inr (inr (inr none)))))))) differs k = absurd none
+holds_first net n facts (inr (inr (inr (inr (inr (inr (inr (inr (inl e))))))))) differs k = first_of facts.earlier _ (k.so_far ∙ ap (λ (m : ℕ). take (m - 1) built) e)
+holds_first net n facts (inr (inr (inr (inr (inr (inr (inr (inr (inr (inl e)))))))))) differs k = first_of facts.earlier _ (k.so_far ∙ ap (λ (m : ℕ). take (m - 1) built) e)
+holds_first net n facts (inr (inr (inr (inr (inr (inr (inr (inr (inr (inr none)))))))))) differs k = absurd none
 
 -- no class is known before the first block
 pub linkage_none : (net : Net) (n : ℕ) (facts : KeptFacts) (l : Linkage) → IsKnown net n facts → n ≡ 1 → l.labels.now ≡ [] → l.count ≡ 0 → IsLinkage facts.earlier l
@@ -183,7 +185,9 @@ count_few net n facts (inr more) k =
     later_than (inr (inr (inr (inr (inl e))))) d = absurd (omega (arith, d, e))
     later_than (inr (inr (inr (inr (inr (inl e)))))) d = absurd (omega (arith, d, e))
     later_than (inr (inr (inr (inr (inr (inr (inl e))))))) d = absurd (omega (arith, d, e))
-    later_than (inr (inr (inr (inr (inr (inr (inr none))))))) d = none
+    later_than (inr (inr (inr (inr (inr (inr (inr (inl e)))))))) d = absurd (omega (arith, d, e))
+    later_than (inr (inr (inr (inr (inr (inr (inr (inr (inl e))))))))) d = absurd (omega (arith, d, e))
+    later_than (inr (inr (inr (inr (inr (inr (inr (inr (inr none))))))))) d = none
 
 -- ---- how many reactions the classes have
 
@@ -203,14 +207,10 @@ each_few : (net : Net) (labels : List ℕ) (ks : List ℕ) → length net.reacti
 each_few net labels [] few = tt
 each_few net labels (k ∷ ks) few = ((let m = members_few net labels k in omega (arith, m, few)), each_few net labels ks few)
 
-if_few : (b : Bool) (xs : List ℕ) → length xs ≤ MAX_COMPLEXES → AllByRecursion (λ r. r ≤ MAX_REACTIONS) xs → (length (if b then xs else []) ≤ MAX_COMPLEXES) × AllByRecursion (λ r. r ≤ MAX_REACTIONS) (if b then xs else [])
-if_few true xs l e = (l, e)
-if_few false xs l e = (omega arith, tt)
-
-pub before_few : (net : Net) (labels : List ℕ) (n count : ℕ) → length net.reactions ≤ MAX_REACTIONS → count ≤ MAX_COMPLEXES → (length (counts_before net labels n count) ≤ MAX_COMPLEXES) × AllByRecursion (λ r. r ≤ MAX_REACTIONS) (counts_before net labels n count)
-before_few net labels n count few most =
+pub counts_few : (net : Net) (labels : List ℕ) (count : ℕ) → length net.reactions ≤ MAX_REACTIONS → count ≤ MAX_COMPLEXES → (length (class_counts net labels 1 count) ≤ MAX_COMPLEXES) × AllByRecursion (λ r. r ≤ MAX_REACTIONS) (class_counts net labels 1 count)
+counts_few net labels count few most =
     let l = length-map-range_with_len (λ j. length (members_of net labels j)) 1 count in
-    if_few (n == 6) (class_counts net labels 1 count) (omega (arith, l, most)) (each_few net labels (range_with_len 1 count) few)
+    (omega (arith, l, most), each_few net labels (range_with_len 1 count) few)
 
 counts_are : (net : Net) (earlier : Earlier) (k n : ℕ) → class_counts net (linkage earlier) (suc k) n ≡ lengths (map (λ j. class_places net earlier j) (range_with_len (suc k) n))
 counts_are net earlier k zero = refl
@@ -219,7 +219,5 @@ counts_are net earlier k (suc n) =
     ap (λ (t : List ℕ). length (class_places net earlier (suc k)) ∷ t) (ap (λ (j : ℕ). class_counts net (linkage earlier) j n) m ∙ counts_are net earlier (suc k) n ∙ ap (λ (j : ℕ). lengths (map (λ j. class_places net earlier j) (range_with_len j n))) (sym m))
 
 -- the numbers of reactions that are counted are those on which the forms of a head rest
-pub counts_fit : (net : Net) (earlier : Earlier) (n : ℕ) (l : Linkage) (counts : List ℕ) → IsLinkage earlier l → counts ≡ counts_before net l.labels.now n l.count → FitsCounts net earlier n counts
-counts_fit net earlier n l counts k is six =
-    is ∙ ap (λ (m : ℕ). counts_before net l.labels.now m l.count) six
-    ∙ ap₂ (λ (ls : List ℕ) (c : ℕ). class_counts net ls 1 c) k.labels_are k.count_is ∙ counts_are net earlier 0 (linkage_count earlier)
+pub counts_fit : (net : Net) (earlier : Earlier) (l : Linkage) (counts : List ℕ) → IsLinkage earlier l → counts ≡ class_counts net l.labels.now 1 l.count → FitsCounts net earlier counts
+counts_fit net earlier l counts k is = is ∙ ap₂ (λ (ls : List ℕ) (c : ℕ). class_counts net ls 1 c) k.labels_are k.count_is ∙ counts_are net earlier 0 (linkage_count earlier)

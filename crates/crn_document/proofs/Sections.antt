@@ -20,7 +20,7 @@ use Rattle.crn_document.specs.Inner.Blocks.{behind_at}
 use Rattle.crn_document.specs.Inner.Steps.{StepIs}
 use Rattle.crn_document.proofs.Steps.{step_gives, step_map, stop_first}
 
-pub built_of : (n : ℕ) → 1 ≤ n → n ≤ 8 → IsBuilt n
+pub built_of : (n : ℕ) → 1 ≤ n → n ≤ 10 → IsBuilt n
 built_of zero a b = absurd (omega arith)
 built_of (suc zero) a b = inl refl
 built_of (suc (suc zero)) a b = inr (inl refl)
@@ -30,7 +30,9 @@ built_of (suc (suc (suc (suc (suc zero))))) a b = inr (inr (inr (inr (inl refl))
 built_of (suc (suc (suc (suc (suc (suc zero)))))) a b = inr (inr (inr (inr (inr (inl refl)))))
 built_of (suc (suc (suc (suc (suc (suc (suc zero))))))) a b = inr (inr (inr (inr (inr (inr (inl refl))))))
 built_of (suc (suc (suc (suc (suc (suc (suc (suc zero)))))))) a b = inr (inr (inr (inr (inr (inr (inr (inl refl)))))))
-built_of (suc (suc (suc (suc (suc (suc (suc (suc (suc n))))))))) a b = absurd (omega arith)
+built_of (suc (suc (suc (suc (suc (suc (suc (suc (suc zero))))))))) a b = inr (inr (inr (inr (inr (inr (inr (inr (inl refl))))))))
+built_of (suc (suc (suc (suc (suc (suc (suc (suc (suc (suc zero)))))))))) a b = inr (inr (inr (inr (inr (inr (inr (inr (inr (inl refl)))))))))
+built_of (suc (suc (suc (suc (suc (suc (suc (suc (suc (suc (suc n))))))))))) a b = absurd (omega arith)
 
 -- ---- sections
 
@@ -68,22 +70,26 @@ drop_built n (inr (inr (inr (inr (inl e))))) = subst (λ (m : ℕ). drop (m - 1)
 drop_built n (inr (inr (inr (inr (inr (inl e)))))) = subst (λ (m : ℕ). drop (m - 1) built ≡ asked m ∷ drop (m + 1 - 1) built) (sym e) refl
 drop_built n (inr (inr (inr (inr (inr (inr (inl e))))))) = subst (λ (m : ℕ). drop (m - 1) built ≡ asked m ∷ drop (m + 1 - 1) built) (sym e) refl
 drop_built n (inr (inr (inr (inr (inr (inr (inr (inl e)))))))) = subst (λ (m : ℕ). drop (m - 1) built ≡ asked m ∷ drop (m + 1 - 1) built) (sym e) refl
-drop_built n (inr (inr (inr (inr (inr (inr (inr (inr none)))))))) = absurd none
+drop_built n (inr (inr (inr (inr (inr (inr (inr (inr (inl e))))))))) = subst (λ (m : ℕ). drop (m - 1) built ≡ asked m ∷ drop (m + 1 - 1) built) (sym e) refl
+drop_built n (inr (inr (inr (inr (inr (inr (inr (inr (inr (inl e)))))))))) = subst (λ (m : ℕ). drop (m - 1) built ≡ asked m ∷ drop (m + 1 - 1) built) (sym e) refl
+drop_built n (inr (inr (inr (inr (inr (inr (inr (inr (inr (inr none)))))))))) = absurd none
 
-pub none_built : (n : ℕ) → n ≡ 9 → drop (n - 1) built ≡ []
+pub none_built : (n : ℕ) → n ≡ 11 → drop (n - 1) built ≡ []
 none_built n e = subst (λ (m : ℕ). drop (m - 1) built ≡ []) (sym e) refl
 
 -- the number of the section that opens before a question
-pub opened : (n : ℕ) → IsBuilt n → (n ≡ 1 → ⊥) → (n ≡ 5 → ⊥) → (n ≡ 7 → ⊥) → opens (asked n) ≡ []
-opened n (inl e) a b c = absurd (a e)
-opened n (inr (inl e)) a b c = subst (λ (m : ℕ). opens (asked m) ≡ []) (sym e) refl
-opened n (inr (inr (inl e))) a b c = subst (λ (m : ℕ). opens (asked m) ≡ []) (sym e) refl
-opened n (inr (inr (inr (inl e)))) a b c = subst (λ (m : ℕ). opens (asked m) ≡ []) (sym e) refl
-opened n (inr (inr (inr (inr (inl e))))) a b c = absurd (b e)
-opened n (inr (inr (inr (inr (inr (inl e)))))) a b c = subst (λ (m : ℕ). opens (asked m) ≡ []) (sym e) refl
-opened n (inr (inr (inr (inr (inr (inr (inl e))))))) a b c = absurd (c e)
-opened n (inr (inr (inr (inr (inr (inr (inr (inl e)))))))) a b c = subst (λ (m : ℕ). opens (asked m) ≡ []) (sym e) refl
-opened n (inr (inr (inr (inr (inr (inr (inr (inr none)))))))) a b c = absurd none
+pub opened : (n : ℕ) → IsBuilt n → (n ≡ 1 → ⊥) → (n ≡ 5 → ⊥) → (n ≡ 7 → ⊥) → (n ≡ 9 → ⊥) → opens (asked n) ≡ []
+opened n (inl e) a b c d = absurd (a e)
+opened n (inr (inl e)) a b c d = subst (λ (m : ℕ). opens (asked m) ≡ []) (sym e) refl
+opened n (inr (inr (inl e))) a b c d = subst (λ (m : ℕ). opens (asked m) ≡ []) (sym e) refl
+opened n (inr (inr (inr (inl e)))) a b c d = subst (λ (m : ℕ). opens (asked m) ≡ []) (sym e) refl
+opened n (inr (inr (inr (inr (inl e))))) a b c d = absurd (b e)
+opened n (inr (inr (inr (inr (inr (inl e)))))) a b c d = subst (λ (m : ℕ). opens (asked m) ≡ []) (sym e) refl
+opened n (inr (inr (inr (inr (inr (inr (inl e))))))) a b c d = absurd (c e)
+opened n (inr (inr (inr (inr (inr (inr (inr (inl e)))))))) a b c d = subst (λ (m : ℕ). opens (asked m) ≡ []) (sym e) refl
+opened n (inr (inr (inr (inr (inr (inr (inr (inr (inl e))))))))) a b c d = absurd (d e)
+opened n (inr (inr (inr (inr (inr (inr (inr (inr (inr (inl e)))))))))) a b c d = subst (λ (m : ℕ). opens (asked m) ≡ []) (sym e) refl
+opened n (inr (inr (inr (inr (inr (inr (inr (inr (inr (inr none)))))))))) a b c d = absurd none
 
 pub behind_is : (net : Net) (earlier : Earlier) (line : ℕ) (blocks : List (List Record)) (opened : List Record) → behind_sections opened (behind_at net earlier line blocks) ≡ behind_at net earlier (line + length opened) blocks
 behind_is net earlier line blocks [] = ap (λ (k : ℕ). behind_at net earlier k blocks) (omega arith)

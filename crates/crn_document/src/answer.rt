@@ -1,6 +1,6 @@
 ghost use Rattle.std.specs.Prelude.{◌≡◌, ◌<◌, ◌≤◌, ◌+◌, ◌-◌, ◌++◌, List, [], drop, length, slice_index_or, take, IfOk, OnOk};
 ghost use Rattle.crn_cert.specs.declared.answer.Verdict.TheVariants.{Unknown};
-ghost use Rattle.crn_cert.specs.Questions.{Q1, Q2, Q3, Q4, Q5, Q6, Q7, Q8};
+ghost use Rattle.crn_cert.specs.Questions.{Q1, Q2, Q3, Q4, Q5, Q6, Q7, Q8, Q9, Q10};
 ghost use Rattle.crn_ctext.specs.Records.{Record};
 ghost use Rattle.crn_ctext.specs.Questions.{Shapes, later_numbers};
 ghost use Rattle.crn_ctext.specs.Meaning.{number, nums, ints, lists, proof_by};
@@ -96,6 +96,43 @@ fn vector_verdict(alloc: Global, head: &[i128], numbers: Ints) -> Result<Verdict
     }
 }
 
+// The hypotheses of the Deficiency Zero Theorem, or that they are open.
+fn zero_verdict(head: &[i128]) -> Verdict
+    requires head { IsHeadOf Q9 head.now }
+    requires small { AreSmall head.now }
+    ensures { (rs : List Record) → result ≡ verdict_of_head Q9 head.now rs }
+{
+    let number = number_of(head, 1);
+    match number_of(head, 0) {
+        1 => Verdict::YesWeak { weak: number == 1 },
+        2 => Verdict::NoNumber { number },
+        _ => Verdict::Unknown(Gap::Rests { question: number }),
+    }
+}
+
+// The hypotheses of the Deficiency One Theorem, or that they are open.
+fn one_verdict(head: &[i128]) -> Verdict
+    requires head { IsHeadOf Q10 head.now }
+    requires small { AreSmall head.now }
+    ensures { (rs : List Record) → result ≡ verdict_of_head Q10 head.now rs }
+{
+    let first = number_of(head, 1);
+    let number = number_of(head, 2);
+    match number_of(head, 0) {
+        1 => Verdict::Yes,
+        2 => Verdict::NoTerminal {
+            class: first,
+            count: number,
+        },
+        3 => Verdict::NoClass {
+            class: first,
+            number,
+        },
+        4 => Verdict::NoSum { sum: first },
+        _ => Verdict::Unknown(Gap::Rests { question: first }),
+    }
+}
+
 /// The verdict with this head, without the lists of later records.
 pub(crate) fn bare_verdict(alloc: Global, question: u32, head: &[i128]) -> Result<Verdict, NoMemory>
     requires built { IsBuilt question }
@@ -118,6 +155,8 @@ pub(crate) fn bare_verdict(alloc: Global, question: u32, head: &[i128]) -> Resul
         6 => deficiency_verdict(alloc, head),
         7 => vector_verdict(alloc, head, no_ints(alloc)),
         8 => vector_verdict(alloc, head, no_ints(alloc)),
+        9 => Ok(zero_verdict(head)),
+        10 => Ok(one_verdict(head)),
         _ => Ok(yes_or_reaction(head)),
     }
 }
@@ -376,6 +415,14 @@ pub(crate) fn answer_of(
         6 => deficiency_answer(alloc, head, parts, rows),
         7 => vector_answer(alloc, head, rows),
         8 => vector_answer(alloc, head, rows),
+        9 => Ok(Answer {
+            verdict: zero_verdict(head),
+            proof: Proof::Nothing,
+        }),
+        10 => Ok(Answer {
+            verdict: one_verdict(head),
+            proof: Proof::Nothing,
+        }),
         _ => Ok(Answer {
             verdict: yes_or_reaction(head),
             proof: Proof::Nothing,

@@ -13,7 +13,7 @@ ghost use Rattle.crn_document.specs.Inner.Heads.{FitsCounts, IsHead, head_forms}
 ghost use Rattle.crn_document.specs.Inner.Parts.{IsKnown};
 
 use crate::linkage::linkage_of;
-use crate::parts::counts_before;
+use crate::parts::counts_of;
 use crate::reading::Reading;
 use crate::record::next_record;
 use crate::sizes::sizes_of;
@@ -34,10 +34,10 @@ fn head_expect<'a>(
     requires built { IsBuilt question }
     requires few { length class_reactions.now ≤ MAX_COMPLEXES }
     requires each { AllByRecursion (λ r. r ≤ MAX_REACTIONS) class_reactions.now }
-    ensures due { (earlier : Earlier) → FitsCounts net.now earlier question class_reactions.now
+    ensures due { (earlier : Earlier) → FitsCounts net.now earlier class_reactions.now
         → Expects result version (head_forms net.now earlier question) }
     ensures tag { (earlier : Earlier) (r : Record)
-        → FitsCounts net.now earlier question class_reactions.now
+        → FitsCounts net.now earlier class_reactions.now
         → tag_of result.due (sizes_of result.sizes) r
         ≡ pos (place_of (head_forms net.now earlier question) r.words) ∷ [] }
 {
@@ -70,7 +70,7 @@ pub(crate) fn next_head<S: Source>(
     ensures version { at.new.version ≡ at.old.version }
 {
     let linkage = linkage_of(net, facts, question);
-    let counts = counts_before(at.alloc, net, linkage.labels, question, linkage.count)?;
+    let counts = counts_of(at.alloc, net, linkage.labels, linkage.count)?;
     let expect = head_expect(at.version, net, counts.as_slice(), question);
     next_record(source, at, &expect)
 }

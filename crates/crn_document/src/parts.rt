@@ -7,7 +7,6 @@ ghost use Rattle.crn_ctext.specs.Meaning.{number};
 ghost use Rattle.crn_ctext.specs.Questions.{later_numbers};
 ghost use Rattle.crn_check.specs.Check.{IsBuilt};
 ghost use Rattle.crn_document.specs.Inner.Answer.{AreSmall};
-ghost use Rattle.crn_document.specs.Inner.Heads.{counts_before};
 ghost use Rattle.crn_document.specs.Inner.Parts.{class_part, class_parts, class_counts, parts_at, parts_below};
 
 use crate::linkage::{complexes_of, count_members};
@@ -174,7 +173,12 @@ fn push_counts(
 }
 
 // How many reactions each of so many linkage classes has.
-fn counts_of(alloc: Global, net: &Network, labels: &[u32], count: u32) -> Result<Nums, NoMemory>
+pub(crate) fn counts_of(
+    alloc: Global,
+    net: &Network,
+    labels: &[u32],
+    count: u32,
+) -> Result<Nums, NoMemory>
     requires network { IsNetwork net.now }
     requires few { count ≤ MAX_COMPLEXES }
     ensures { IfOk result (λ made. made.list ≡ class_counts net.now labels.now 1 count) }
@@ -183,23 +187,4 @@ fn counts_of(alloc: Global, net: &Network, labels: &[u32], count: u32) -> Result
     let mut counts = Nums::with_room(alloc, count as usize)?;
     push_counts(net, labels, 1, count, &mut members, &mut counts)?;
     Ok(counts)
-}
-
-// How many reactions each linkage class has, if the forms of the head of this question rest on it.
-pub(crate) fn counts_before(
-    alloc: Global,
-    net: &Network,
-    labels: &[u32],
-    question: u32,
-    count: u32,
-) -> Result<Nums, NoMemory>
-    requires network { IsNetwork net.now }
-    requires few { count ≤ MAX_COMPLEXES }
-    ensures { IfOk result
-        (λ made. made.list ≡ counts_before net.now labels.now question count) }
-{
-    if question == 6 {
-        return counts_of(alloc, net, labels, count);
-    }
-    Ok(Nums::from_vec(Vec::new(alloc)))
 }

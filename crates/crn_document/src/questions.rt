@@ -22,7 +22,7 @@ use crn_io::Source;
 use crn_net::Network;
 
 // The number of the last question that is answered.
-const LAST: u32 = 8;
+const LAST: u32 = 10;
 
 // The number of the section that opens before a question, and 0 if none does.
 fn section_before(question: u32) -> u32
@@ -36,6 +36,7 @@ fn section_before(question: u32) -> u32
         1 => 1,
         5 => 2,
         7 => 3,
+        9 => 4,
         _ => 0,
     }
 }
@@ -91,7 +92,7 @@ pub(crate) fn next_blocks<S: Source>(
 ) -> Result<(), CheckStop>
     requires goes { GoesOn at.old }
     requires first { 1 ≤ question }
-    requires last { question ≤ 9 }
+    requires last { question ≤ 11 }
     requires ready { IsReady net.now question checked.old }
     ensures step { (table : List (List ℤ)) (blocks : List (List Record)) →
         StepIs (asks_blocks meaning at.old.version table (drop (question - 1) built)
@@ -100,7 +101,7 @@ pub(crate) fn next_blocks<S: Source>(
         result at.old at.new (S.seen source.old) (S.seen source.new) }
     ensures goes { OnOk result (GoesOn at.new) }
     ensures version { at.new.version ≡ at.old.version }
-    ensures ready { OnOk result (IsReady net.now 9 checked.new) }
+    ensures ready { OnOk result (IsReady net.now 11 checked.new) }
 {
     if question > LAST {
         return Ok(());

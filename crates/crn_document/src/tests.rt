@@ -37,6 +37,8 @@ const BOTH_WAYS: &[&[u8]] = &[
     b"vec 1 1",
     b"q8 yes",
     b"vec 1 1",
+    b"q9 yes 1",
+    b"q10 yes",
     b"end",
 ];
 
@@ -77,11 +79,14 @@ const BOTH_WAYS_2: &[&[u8]] = &[
     b"vec 1 1",
     b"q8 yes",
     b"vec 1 1",
+    b"section theorems",
+    b"q9 yes 1",
+    b"q10 yes",
     b"end",
 ];
 
 const ONE_WAY: &[u8] =
-    b"crn certificate 1\nnetwork 1\nA -> B\nq1 1\nlabel 1 1\nup 0 1\ndepth 0 1\nq2 2 1\nlabel 1 2\nfrom 0 0\nfromdepth 0 0\nto 0 0\ntodepth 0 0\nlevel 1 0\nexit 1 0\nq3 no 1\nq4 no 1\nq5 1\nbase 1\ndual 1 0\nq6 0 0\nbase 1\ndual 1 0\nq7 no\ncut 1 0\nq8 yes\nvec 2 2\nend\n";
+    b"crn certificate 1\nnetwork 1\nA -> B\nq1 1\nlabel 1 1\nup 0 1\ndepth 0 1\nq2 2 1\nlabel 1 2\nfrom 0 0\nfromdepth 0 0\nto 0 0\ntodepth 0 0\nlevel 1 0\nexit 1 0\nq3 no 1\nq4 no 1\nq5 1\nbase 1\ndual 1 0\nq6 0 0\nbase 1\ndual 1 0\nq7 no\ncut 1 0\nq8 yes\nvec 2 2\nq9 yes 0\nq10 yes\nend\n";
 
 // The lines with their LFs, with these bytes in the place of a line and its LF. Lines count from 1.
 fn edited(alloc: Global, lines: &[&[u8]], at: usize, bytes: &[u8]) -> Result<Vec<u8>, NoMemory> {
@@ -117,8 +122,8 @@ fn has_ones(verdict: &Verdict) -> bool {
 
 #[test]
 fn good_documents_give_their_network_and_verdicts(rt: HostRuntime) -> Result<(), Fail> {
-    let first = edited(rt.alloc(), BOTH_WAYS, 32, b"end\n")?;
-    let second = edited(rt.alloc(), BOTH_WAYS_2, 36, b"end\n")?;
+    let first = edited(rt.alloc(), BOTH_WAYS, 34, b"end\n")?;
+    let second = edited(rt.alloc(), BOTH_WAYS_2, 39, b"end\n")?;
     let shared = edited(rt.alloc(), BOTH_WAYS_2, 5, b"vectors 1\nvector 3 -4\n")?;
     let cases = [
         ("version 1", first.as_slice()),
@@ -132,7 +137,7 @@ fn good_documents_give_their_network_and_verdicts(rt: HostRuntime) -> Result<(),
                 assert_eq!(rt; accepted.net.species(), 2, "{name}");
                 assert_eq!(rt; accepted.net.complexes(), 2, "{name}");
                 assert_eq!(rt; accepted.net.reactions(), 2, "{name}");
-                assert_eq!(rt; accepted.verdicts.len(), 8, "{name}");
+                assert_eq!(rt; accepted.verdicts.len(), 10, "{name}");
                 match accepted.verdicts.get(1) {
                     Verdict::Classes { count, label } => {
                         assert_eq!(rt; *count, 1, "{name}");
@@ -184,7 +189,7 @@ fn no_verdicts_name_their_reactions(rt: HostRuntime) -> Result<(), Fail> {
     let mut source = MemSource::new(rt.alloc(), ONE_WAY, 1, &[])?;
     match check_document(rt.alloc(), &mut source) {
         Ok(accepted) => {
-            assert_eq!(rt; accepted.verdicts.len(), 8);
+            assert_eq!(rt; accepted.verdicts.len(), 10);
             assert!(rt;
                 matches!(
                     accepted.verdicts.get(3),
@@ -261,9 +266,28 @@ fn the_first_fault_is_the_answer(rt: HostRuntime) -> Result<(), Fail> {
             29,
         ),
         ("a vector that is no law", 31, b"vec 1 2\n", 35, 31),
-        ("no last line", 32, b"", 27, 32),
-        ("a last line with no LF", 32, b"end", 27, 32),
-        ("a byte after the last line", 32, b"end\nx", 28, 33),
+        ("the other case", 32, b"q9 yes 0\n", 37, 32),
+        ("a deficiency that is 0", 32, b"q9 no 1\n", 36, 32),
+        ("no such case", 32, b"q9 yes 2\n", 24, 32),
+        ("one terminal class", 33, b"q10 no terminal 1 2\n", 37, 33),
+        (
+            "a terminal class of no class",
+            33,
+            b"q10 no terminal 2 2\n",
+            24,
+            33,
+        ),
+        ("a class of deficiency 0", 33, b"q10 no class 1 2\n", 37, 33),
+        (
+            "a sum that is the deficiency",
+            33,
+            b"q10 no sum 0\n",
+            37,
+            33,
+        ),
+        ("no last line", 34, b"", 27, 34),
+        ("a last line with no LF", 34, b"end", 27, 34),
+        ("a byte after the last line", 34, b"end\nx", 28, 35),
     ];
     for (name, at, bytes, code, line) in cases {
         let text = edited(rt.alloc(), BOTH_WAYS, at, bytes)?;
@@ -297,6 +321,7 @@ fn the_lines_of_version_2_are_due(rt: HostRuntime) -> Result<(), Fail> {
             27,
         ),
         ("no third section", 31, b"", 26, 31),
+        ("no fourth section", 36, b"", 26, 36),
     ];
     for (name, at, bytes, code, line) in cases {
         let text = edited(rt.alloc(), BOTH_WAYS_2, at, bytes)?;
@@ -326,6 +351,8 @@ const OPEN: &[&[u8]] = &[
     b"q6 open rests 5",
     b"q7 open wide 2 0 1 1 2",
     b"q8 open wide 1 0 1 1 2",
+    b"q9 open rests 5",
+    b"q10 open rests 6",
     b"end",
 ];
 
@@ -335,7 +362,7 @@ fn open_answers_say_why(rt: HostRuntime) -> Result<(), Fail> {
     let mut source = MemSource::new(rt.alloc(), &text, 64, &[])?;
     match check_document(rt.alloc(), &mut source) {
         Ok(accepted) => {
-            assert_eq!(rt; accepted.verdicts.len(), 8);
+            assert_eq!(rt; accepted.verdicts.len(), 10);
             match accepted.verdicts.get(5) {
                 Verdict::Unknown(
                     Gap::Wide {
@@ -366,7 +393,7 @@ fn open_answers_say_why(rt: HostRuntime) -> Result<(), Fail> {
 
 #[test]
 fn heads_of_open_answers_have_their_forms(rt: HostRuntime) -> Result<(), Fail> {
-    // Each line stands in the place of the head of question 5, 6, 7 or 8, whose number is in front.
+    // Each line stands in the place of the head of a question from 5 on, whose number is in front.
     let cases = [
         (
             "another coordinate and basis",
@@ -448,6 +475,19 @@ fn heads_of_open_answers_have_their_forms(rt: HostRuntime) -> Result<(), Fail> {
             8,
             b"q8 open wide 2 0 1 1 2",
             Some((24, 23)),
+        ),
+        (
+            "a theorem that rests on another",
+            9,
+            b"q9 open rests 6",
+            Some((24, 24)),
+        ),
+        ("a case over an open rank", 9, b"q9 yes 1", Some((37, 24))),
+        (
+            "a yes over open deficiencies",
+            10,
+            b"q10 yes",
+            Some((37, 25)),
         ),
         (
             "a record below an open head",

@@ -48,6 +48,8 @@ fn verdicts_both_ways(alloc: Global, net: &Network) -> Result<Verdicts, NoMemory
     verdicts.push(Verdict::YesVec {
         vector: Ints::from_slice(alloc, &[1, 1])?,
     });
+    verdicts.push(Verdict::YesWeak { weak: true });
+    verdicts.push(Verdict::Yes);
     Ok(verdicts)
 }
 
@@ -85,6 +87,8 @@ fn verdicts_one_way(alloc: Global, net: &Network) -> Result<Verdicts, NoMemory>
     verdicts.push(Verdict::YesVec {
         vector: Ints::from_slice(alloc, &[1, 1])?,
     });
+    verdicts.push(Verdict::YesWeak { weak: false });
+    verdicts.push(Verdict::Yes);
     Ok(verdicts)
 }
 
@@ -101,7 +105,7 @@ fn open_by(alloc: Global, system: u32) -> Result<Verdict, NoMemory>
     }))
 }
 
-// Verdicts on `A <-> B` of which the last four are open.
+// Verdicts on `A <-> B` of which the last six are open.
 fn verdicts_left_open(alloc: Global, net: &Network) -> Result<Verdicts, NoMemory>
     requires species { length net.now.names ≡ 2 }
     requires complexes { length net.now.complexes ≡ 2 }
@@ -125,6 +129,8 @@ fn verdicts_left_open(alloc: Global, net: &Network) -> Result<Verdicts, NoMemory
     verdicts.push(Verdict::Unknown(Gap::Rests { question: 5 }));
     verdicts.push(open_by(alloc, 2)?);
     verdicts.push(open_by(alloc, 1)?);
+    verdicts.push(Verdict::Unknown(Gap::Rests { question: 5 }));
+    verdicts.push(Verdict::Unknown(Gap::Rests { question: 6 }));
     Ok(verdicts)
 }
 
@@ -139,7 +145,7 @@ fn a_reversible_reaction_has_its_report(rt: HostRuntime) -> Result<(), Fail> {
     let mut sink = QuietSink::new(alloc, 1000)?;
     write_report(&net, &verdicts, &mut sink)?;
     let want: &[u8] =
-        b"crn report 1\nspecies 2: A B\ncomplexes 2: A; B\nreactions 2\nQ1 linkage classes: 1\n  class 1: A; B\nQ2 strong classes: 1, terminal 1\n  strong 1: A; B (terminal)\nQ3 reversible: yes\nQ4 weakly reversible: yes\nQ5 rank: 1\n  independent reactions: 1\nQ6 deficiency: 0, classes 0\nQ7 positively dependent: yes\n  positive combination: 1 1\nQ8 conservative: yes\n  positive law: 1 1\nopen: 0\n";
+        b"crn report 1\nspecies 2: A B\ncomplexes 2: A; B\nreactions 2\nQ1 linkage classes: 1\n  class 1: A; B\nQ2 strong classes: 1, terminal 1\n  strong 1: A; B (terminal)\nQ3 reversible: yes\nQ4 weakly reversible: yes\nQ5 rank: 1\n  independent reactions: 1\nQ6 deficiency: 0, classes 0\nQ7 positively dependent: yes\n  positive combination: 1 1\nQ8 conservative: yes\n  positive law: 1 1\nQ9 deficiency zero theorem: hypotheses hold, weakly reversible\nQ10 deficiency one theorem: hypotheses hold\nopen: 0\n";
     assert_eq!(rt; sink.bytes(), want);
     Ok(())
 }
@@ -155,7 +161,7 @@ fn a_reaction_has_its_report(rt: HostRuntime) -> Result<(), Fail> {
     let mut sink = QuietSink::new(alloc, 1000)?;
     write_report(&net, &verdicts, &mut sink)?;
     let want: &[u8] =
-        b"crn report 1\nspecies 2: A B\ncomplexes 2: A; B\nreactions 1\nQ1 linkage classes: 1\n  class 1: A; B\nQ2 strong classes: 2, terminal 1\n  strong 1: A\n  strong 2: B (terminal)\nQ3 reversible: no\n  reaction 1: A -> B\nQ4 weakly reversible: no\n  reaction 1: A -> B\nQ5 rank: 1\n  independent reactions: 1\nQ6 deficiency: 0, classes 0\nQ7 positively dependent: no\n  multipliers: 1 0\nQ8 conservative: yes\n  positive law: 1 1\nopen: 0\n";
+        b"crn report 1\nspecies 2: A B\ncomplexes 2: A; B\nreactions 1\nQ1 linkage classes: 1\n  class 1: A; B\nQ2 strong classes: 2, terminal 1\n  strong 1: A\n  strong 2: B (terminal)\nQ3 reversible: no\n  reaction 1: A -> B\nQ4 weakly reversible: no\n  reaction 1: A -> B\nQ5 rank: 1\n  independent reactions: 1\nQ6 deficiency: 0, classes 0\nQ7 positively dependent: no\n  multipliers: 1 0\nQ8 conservative: yes\n  positive law: 1 1\nQ9 deficiency zero theorem: hypotheses hold, not weakly reversible\nQ10 deficiency one theorem: hypotheses hold\nopen: 0\n";
     assert_eq!(rt; sink.bytes(), want);
     Ok(())
 }
@@ -171,7 +177,7 @@ fn open_verdicts_have_their_lines(rt: HostRuntime) -> Result<(), Fail> {
     let mut sink = QuietSink::new(alloc, 1000)?;
     write_report(&net, &verdicts, &mut sink)?;
     let want: &[u8] =
-        b"crn report 1\nspecies 2: A B\ncomplexes 2: A; B\nreactions 2\nQ1 linkage classes: 1\n  class 1: A; B\nQ2 strong classes: 1, terminal 1\n  strong 1: A; B (terminal)\nQ3 reversible: yes\nQ4 weakly reversible: yes\nQ5 rank: open, wide\n  system 1\n  index 1\n  basis: 1 2\nQ6 deficiency: open, rests on Q5\nQ7 positively dependent: open, wide\n  system 2\n  index 1\n  basis: 1 2\nQ8 conservative: open, wide\n  system 1\n  index 1\n  basis: 1 2\nopen: 4\n";
+        b"crn report 1\nspecies 2: A B\ncomplexes 2: A; B\nreactions 2\nQ1 linkage classes: 1\n  class 1: A; B\nQ2 strong classes: 1, terminal 1\n  strong 1: A; B (terminal)\nQ3 reversible: yes\nQ4 weakly reversible: yes\nQ5 rank: open, wide\n  system 1\n  index 1\n  basis: 1 2\nQ6 deficiency: open, rests on Q5\nQ7 positively dependent: open, wide\n  system 2\n  index 1\n  basis: 1 2\nQ8 conservative: open, wide\n  system 1\n  index 1\n  basis: 1 2\nQ9 deficiency zero theorem: open, rests on Q5\nQ10 deficiency one theorem: open, rests on Q6\nopen: 6\n";
     assert_eq!(rt; sink.bytes(), want);
     Ok(())
 }

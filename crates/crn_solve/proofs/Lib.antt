@@ -5,3 +5,4 @@ mod PositiveAnswers
 mod Ranks
 mod RankAnswers
 mod Deficiencies
+mod Theorems

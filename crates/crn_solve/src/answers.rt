@@ -14,7 +14,9 @@ use crate::laws::meets_definition;
 use crate::positive::{conservative, positively_dependent};
 use crate::rank_answer::rank_answer;
 use crate::reversible::{reversible, weakly_reversible};
+use crate::theorem_answers::zero_answer;
 use crn_cert::Answers;
+use crn_defi::one_hypotheses;
 use crn_graph::{linkage, strong};
 use crn_net::Network;
 use crn_vec::NoMemory;
@@ -43,6 +45,8 @@ pub fn solve(alloc: Global, net: &Network, budget: u32) -> Result<Answers, NoMem
     let deficiency = deficiency_answer(alloc, net, &linkage, &rank.verdict)?;
     let dependence = positively_dependent(alloc, net)?;
     let conservation = conservative(alloc, net)?;
+    let zero = zero_answer(net, &linkage, &weakly_reversible.verdict, &rank.verdict);
+    let one = one_hypotheses(net, &linkage, &strong, &deficiency.verdict);
     let mut answers = Answers::new(alloc)?;
     answers.push(linkage_answer(linkage));
     answers.push(strong_answer(strong));
@@ -52,5 +56,7 @@ pub fn solve(alloc: Global, net: &Network, budget: u32) -> Result<Answers, NoMem
     answers.push(deficiency);
     answers.push(dependence);
     answers.push(conservation);
+    answers.push(zero);
+    answers.push(one);
     Ok(answers)
 }

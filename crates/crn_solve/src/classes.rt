@@ -1,6 +1,6 @@
 ghost use Rattle.std.specs.Prelude.{◌≡◌};
 ghost use Rattle.crn_vec.specs.Network.{Net, IsNetwork};
-ghost use Rattle.crn_cert.specs.Questions.{Earlier, Q1, Q2, count_of, labels_of};
+ghost use Rattle.crn_cert.specs.Questions.{Earlier, Q1, Q2, count_of, exits_of, labels_of};
 ghost use Rattle.crn_solve.specs.Inner.Answered.{IsDecidedAnswer};
 ghost use Rattle.crn_solve.specs.Inner.ClassData.{AreLinkageData, AreStrongData};
 
@@ -31,6 +31,8 @@ pub(crate) fn strong_answer(classes: StrongData) -> Answer
     ensures answer { (net : Net) (earlier : Earlier) → IsNetwork net → AreStrongData net classes →
         IsDecidedAnswer net earlier Q2 result }
     ensures labels { labels_of result.verdict ≡ classes.label.list }
+    ensures count { count_of result.verdict ≡ classes.count }
+    ensures exits { exits_of result.verdict ≡ classes.exit.list }
 {
     Answer {
         verdict: Verdict::Strong {

@@ -14,7 +14,7 @@ use crn_vec::NoMemory;
 use std::alloc::Global;
 
 // The rank, if it is decided.
-fn rank_of(verdict: &Verdict) -> Option<u32>
+pub(crate) fn rank_of(verdict: &Verdict) -> Option<u32>
     ensures { result ≡ rank_of verdict.now }
 {
     match verdict {

@@ -12,5 +12,6 @@ mod reversible;
 mod systems;
 #[cfg(test)]
 mod tests;
+mod theorem_answers;
 
 pub use answers::solve;

@@ -366,9 +366,25 @@ fn numbers_are(rt: &impl Abort, answers: &Answers, row: &Row) {
 
 // So are the answers on positive vectors.
 fn positive_vectors_are(rt: &impl Abort, answers: &Answers, row: &Row) {
-    assert_eq!(rt; answers.len(), 8);
+    assert_eq!(rt; answers.len(), 10);
     assert!(rt; is_yes(rt, answers.get(7)) == row.dependent);
     assert!(rt; is_yes(rt, answers.get(8)) == row.conservative);
+}
+
+// The case of the Deficiency Zero Theorem is that of the row.
+fn zero_is(answer: &Answer, row: &Row) -> bool {
+    match &answer.verdict {
+        Verdict::YesWeak { weak } => row.deficiency == 0 && *weak == (row.leaving == 0),
+        Verdict::NoNumber { number } => row.deficiency == *number && *number > 0,
+        _ => false,
+    }
+}
+
+// The answers to the two questions on theorems are decided, as those on the deficiencies are.
+fn theorems_are(rt: &impl Abort, answers: &Answers, row: &Row) {
+    assert_eq!(rt; answers.len(), 10);
+    assert!(rt; zero_is(answers.get(9), row));
+    assert!(rt; !matches!(&answers.get(10).verdict, Verdict::Unknown(_)));
 }
 
 // All answers are those of the row.
@@ -379,6 +395,7 @@ fn answers_are(rt: &(impl Abort + AllocGlobal), row: &Row) -> Result<(), Fail> {
     reverses_are(rt, &answers, row);
     numbers_are(rt, &answers, row);
     positive_vectors_are(rt, &answers, row);
+    theorems_are(rt, &answers, row);
     Ok(())
 }
 
@@ -408,7 +425,7 @@ fn weigh_so(first: Option<&i128>, last: Option<&i128>) -> bool {
 #[test]
 fn a_long_chain_has_a_law(rt: HostRuntime) -> Result<(), Fail> {
     let answers = all_of(&rt, &network(&rt, NINE))?;
-    assert_eq!(rt; answers.len(), 8);
+    assert_eq!(rt; answers.len(), 10);
     assert!(rt; weighs_all(&answers.get(8).verdict));
     Ok(())
 }
@@ -417,7 +434,7 @@ fn a_long_chain_has_a_law(rt: HostRuntime) -> Result<(), Fail> {
 #[test]
 fn a_longer_chain_leaves_conservation_open(rt: HostRuntime) -> Result<(), Fail> {
     let answers = all_of(&rt, &network(&rt, ELEVEN))?;
-    assert_eq!(rt; answers.len(), 8);
+    assert_eq!(rt; answers.len(), 10);
     assert!(rt; !is_yes(&rt, answers.get(7)));
     match &answers.get(8).verdict {
         Verdict::Unknown(Gap::Wide { system, .. }) => assert_eq!(rt; *system, 1),
@@ -430,7 +447,7 @@ fn a_longer_chain_leaves_conservation_open(rt: HostRuntime) -> Result<(), Fail> 
 #[test]
 fn one_row_is_enough(rt: HostRuntime) -> Result<(), Fail> {
     let answers = all_of(&rt, &network(&rt, TWELVE))?;
-    assert_eq!(rt; answers.len(), 8);
+    assert_eq!(rt; answers.len(), 10);
     assert!(rt; !is_yes(&rt, answers.get(8)));
     Ok(())
 }
@@ -448,7 +465,7 @@ fn rests_on_the_rank(answer: &Answer) -> bool {
 fn deficiencies_rest_on_an_open_rank(rt: HostRuntime) -> Result<(), Fail> {
     for text in [NINE, ELEVEN, TWELVE] {
         let answers = all_of(&rt, &network(&rt, text))?;
-        assert_eq!(rt; answers.len(), 8);
+        assert_eq!(rt; answers.len(), 10);
         let is_open = matches!(&answers.get(5).verdict, Verdict::Unknown(_));
         assert!(rt; rests_on_the_rank(answers.get(6)) == is_open);
     }

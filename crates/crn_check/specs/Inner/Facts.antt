@@ -6,7 +6,7 @@ use Rattle.crn_vec.specs.Kept.{KeptInts, KeptNums}
 use Rattle.crn_cert.specs.declared.answer.Gap.{Gap}
 use Rattle.crn_cert.specs.declared.answer.Gap.TheVariants.{Wide}
 use Rattle.crn_cert.specs.declared.answer.Verdict.{Verdict}
-use Rattle.crn_cert.specs.declared.answer.Verdict.TheVariants.{Classes, Strong, Rank, Deficiency, Yes, YesVec, NoReaction, NoVec, Unknown}
+use Rattle.crn_cert.specs.declared.answer.Verdict.TheVariants.{Classes, Strong, Rank, Deficiency, Yes, YesWeak, YesVec, NoReaction, NoVec, NoNumber, NoTerminal, NoClass, NoSum, Unknown}
 
 -- the list has no more numbers than there is memory for
 abbrev pub HasFewNums : KeptNums → Type 0
@@ -28,8 +28,13 @@ DoesFit (Strong count terminal label exit) = HasFewNums label × HasFewNums exit
 DoesFit (Rank rank base) = HasFewNums base
 DoesFit (Deficiency total classes) = HasFewNums classes
 DoesFit Yes = Unit {0}
+DoesFit (YesWeak weak) = Unit {0}
 DoesFit (YesVec vector) = HasFewInts vector
 DoesFit (NoReaction reaction) = Unit {0}
 DoesFit (NoVec multipliers) = HasFewInts multipliers
+DoesFit (NoNumber number) = Unit {0}
+DoesFit (NoTerminal class count) = Unit {0}
+DoesFit (NoClass class number) = Unit {0}
+DoesFit (NoSum sum) = Unit {0}
 DoesFit (Unknown gap) = DoesGapFit gap
 DoesFit other = ⊥

@@ -1,11 +1,14 @@
 -- For the contracts of private functions alone.
 -- The tests of the answers to single questions, over plain lists.
 -- Shapes: labels, classes and reactions count from 1, complexes from 0.
-use Rattle.std.specs.Prelude.{◌≡◌, ◌≢◌, ◌<◌, ◌+◌, ◌⊎◌, ℕ, List, [], ◌∷◌, length, slice_index}
+use Rattle.std.specs.Prelude.{◌≡◌, ◌≢◌, ◌≤◌, ◌<◌, ◌+◌, ◌⊎◌, ◌↔◌, Bool, IsTrue, ℕ, List, [], ◌∷◌, length, slice_index, sum}
 use Rattle.crn_vec.specs.Network.{Net}
-use Rattle.crn_cert.specs.Questions.{Earlier, Q5, on, rank_of}
+use Rattle.crn_vec.specs.Deficiency.{AreAtMostOne}
+use Rattle.crn_cert.specs.declared.answer.Verdict.{Verdict}
+use Rattle.crn_cert.specs.declared.answer.Verdict.TheVariants.{Yes, NoClass, NoSum}
+use Rattle.crn_cert.specs.Questions.{Earlier, Q4, Q5, Q6, IsYes, on, rank_of, deficiencies_of}
 use Rattle.crn_cert.specs.Says.{IsReactionNumber}
-use Rattle.crn_cert.specs.Valid.{IsLeft, AreClassNumbers}
+use Rattle.crn_cert.specs.Valid.{IsLeft, AreClassNumbers, HaveOneEach, IsFirstSplit, IsFirstLarge, WithDeficiencies}
 use Rattle.std.specs.Option.{IsSome}
 use Rattle.crn_cert.specs.Tests.{Test, test}
 use Rattle.crn_cert.specs.ClassTests.{AreNumbered, AreEven, AreLinkTrees, AreFromTrees, AreToTrees, DoLevelsFall, AreAllExits, GoesOut, of_class, zeros_in}
@@ -56,3 +59,43 @@ number_tests net earlier total classes =
     test 0 37 (IsSome (rank_of (on earlier Q5)))
     ∷ test 0 36 (IsLeft net earlier total (rank_of (on earlier Q5))
     × AreClassNumbers net earlier 1 classes) ∷ []
+
+-- the tests of a yes on the Deficiency Zero Theorem
+abbrev pub case_tests : Net → Earlier → Bool → List Test
+case_tests net earlier weak =
+    test 0 37 (IsSome (rank_of (on earlier Q5)))
+    ∷ test 0 37 (IsLeft net earlier 0 (rank_of (on earlier Q5))
+    × (IsTrue weak ↔ IsYes (on earlier Q4))) ∷ []
+
+-- the tests of a no on it
+abbrev pub total_tests : Net → Earlier → ℕ → List Test
+total_tests net earlier total =
+    test 0 37 (IsSome (rank_of (on earlier Q5)))
+    ∷ test 0 36 (IsLeft net earlier total (rank_of (on earlier Q5))) ∷ []
+
+-- the deficiencies of the first classes are at most 1
+abbrev pub AreSmallTo : List ℕ → ℕ → Type 0
+AreSmallTo classes last = (j : ℕ) → j < last → slice_index classes j ≤ 1
+
+-- the class that a verdict names counts from 1
+abbrev pub NamesClass : Verdict → Type 0
+NamesClass (NoClass class d) = 1 ≤ class
+NamesClass other = Unit {0}
+
+-- the deficiencies are as the verdict on the Deficiency One Theorem says
+abbrev pub OfDeficiencies : Verdict → ℕ → List ℕ → Type 0
+OfDeficiencies Yes total classes = AreAtMostOne classes × (sum classes ≡ total)
+OfDeficiencies (NoClass k d) total classes = IsFirstLarge k d classes
+OfDeficiencies (NoSum x) total classes = AreAtMostOne classes × (sum classes ≡ x) × (x ≢ total)
+OfDeficiencies other total classes = ⊥
+
+-- the test of a head that speaks of deficiencies
+abbrev pub known_tests : Earlier → Verdict → List Test
+known_tests earlier verdict =
+    test 0 37
+    (HaveOneEach earlier
+    × WithDeficiencies (OfDeficiencies verdict) (deficiencies_of (on earlier Q6))) ∷ []
+
+-- the test of a head that names a class with several terminal classes
+abbrev pub split_tests : Earlier → ℕ → ℕ → List Test
+split_tests earlier k count = test 0 37 (IsFirstSplit earlier k count) ∷ []

@@ -10,7 +10,6 @@ use Rattle.crn_ctext.specs.Blocks.{place_of}
 use Rattle.crn_ctext.specs.Documents.{IsOneOf}
 use Rattle.crn_ctext.specs.Meaning.{Known, number, sizes_of}
 use Rattle.crn_check.specs.Facts.{asked}
-use Rattle.crn_document.specs.Inner.Parts.{class_counts}
 
 -- what is known of a network and of the verdicts so far
 abbrev pub known_of : Net → Earlier → Known
@@ -35,12 +34,6 @@ pub record IsHead (net : Net) (earlier : Earlier) (question : ℕ) (numbers : Li
 abbrev pub class_count : ℕ → List ℤ → ℕ
 class_count question head = if question == 1 || question == 2 then number head 1 else 0
 
--- how many reactions each linkage class has, if the forms of the head rest on it
-abbrev pub counts_before : Net → List ℕ → (question count : ℕ) → List ℕ
-counts_before net labels question count =
-    if question == 6 then class_counts net labels 1 count else []
-
--- the numbers of reactions of the linkage classes, if the forms of the head rest on them
-abbrev pub FitsCounts : Net → Earlier → (question : ℕ) → List ℕ → Type 0
-FitsCounts net earlier question counts =
-    question ≡ 6 → counts ≡ (sizes_of (known_of net earlier)).class_reactions
+-- how many reactions each linkage class has, which some forms of heads rest on
+abbrev pub FitsCounts : Net → Earlier → List ℕ → Type 0
+FitsCounts net earlier counts = counts ≡ (sizes_of (known_of net earlier)).class_reactions

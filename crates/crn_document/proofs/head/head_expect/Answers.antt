@@ -11,7 +11,7 @@ use Rattle.crn_document.proofs.head.head_expect.Goals as goal
 pub returns-clause-due : goal.returns-clause-due
 returns-clause-due c = λ earlier fits.
     let z = c.sizes_of-sizes.ensures in
-    let same = heads_by_sizes c.args.question c.requires.built (sizes_of c.sizes_of-sizes.result) (known_sizes (known_of c.args.net.now earlier)) z.species z.complexes z.reactions (λ six. z.classes ∙ fits six) in record {
+    let same = heads_by_sizes c.args.question c.requires.built (sizes_of c.sizes_of-sizes.result) (known_sizes (known_of c.args.net.now earlier)) z.species z.complexes z.reactions (z.classes ∙ fits) in record {
       may = record { version = c.requires.version; sizes = z.within; due = number_of_built c.args.question c.requires.built };
       of_version = refl;
       after = refl;
@@ -22,5 +22,5 @@ returns-clause-due c = λ earlier fits.
 pub returns-clause-tag : goal.returns-clause-tag
 returns-clause-tag c = λ earlier r fits.
     let z = c.sizes_of-sizes.ensures in
-    let same = heads_by_sizes c.args.question c.requires.built (sizes_of c.sizes_of-sizes.result) (known_sizes (known_of c.args.net.now earlier)) z.species z.complexes z.reactions (λ six. z.classes ∙ fits six) in
+    let same = heads_by_sizes c.args.question c.requires.built (sizes_of c.sizes_of-sizes.result) (known_sizes (known_of c.args.net.now earlier)) z.species z.complexes z.reactions (z.classes ∙ fits) in
     ap (λ (fs : List Form). pos (place_of fs r.words) ∷ []) same

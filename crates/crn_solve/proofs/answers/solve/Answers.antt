@@ -1,7 +1,11 @@
-use Rattle.std.proofs.Common.{◌≡◌, [], ◌∷◌, ◌∙◌, List, sym, refl}
+use Rattle.std.proofs.Common.{◌≡◌, ℕ, [], ◌∷◌, ◌∙◌, List, length, sym, refl}
 use Rattle.crn_cert.specs.declared.answer.Answer.{Answer}
-use Rattle.crn_cert.specs.Questions.{Earlier, Q1, Q2, Q3, Q4, Q5, Q6, Q7, Q8}
+use Rattle.crn_cert.specs.Questions.{Earlier, Q1, Q2, Q3, Q4, Q5, Q6, Q7, Q8, Q9, Q10, on}
+use Rattle.crn_cert.specs.declared.answer.Verdict.TheVariants.{Classes, Strong}
+use Rattle.crn_cert.specs.Says.{AreStrongClasses}
+use Rattle.crn_cert.specs.Given.{GiveClasses}
 use Rattle.crn_cert.specs.Built.{built}
+use Rattle.crn_defi.proofs.CallerLemmas.{true_or_open, strong_right}
 use Rattle.crn_solve.specs.Inner.ClassData.{AreLinkageData, AreStrongData}
 use Rattle.crn_solve.proofs.AllAnswers.{AreAnswers, are_formed, are_valid, are_answered, answer_of}
 use Rattle.crn_solve.proofs.Deficiencies.{rank_or_open}
@@ -17,6 +21,43 @@ deficiency_answer-requires-clause-rank c =
     let a5 = c.in_ok-rank.rank in
     rank_or_open c.args.net.now c.args.budget [] a5.verdict (c.in_ok-rank.ensures c.args.budget []).answered
 
+-- the linkage classes are right, and so are the strong classes
+pub zero_answer-zero-requires-clause-classes : goal.zero_answer-zero-requires-clause-classes
+zero_answer-zero-requires-clause-classes c =
+    let l = c.in_ok-linkage.ensures in
+    record { labelled = record { long = l.labels.long; right = l.right }; count_is = l.numbered.count_is }
+
+pub one_hypotheses-one-requires-clause-classes : goal.one_hypotheses-one-requires-clause-classes
+one_hypotheses-one-requires-clause-classes c =
+    let l = c.in_ok-linkage.ensures in
+    record { labelled = record { long = l.labels.long; right = l.right }; count_is = l.numbered.count_is }
+
+pub one_hypotheses-one-requires-clause-strong_classes : goal.one_hypotheses-one-requires-clause-strong_classes
+one_hypotheses-one-requires-clause-strong_classes c =
+    let s = c.in_ok-strong.ensures in
+    strong_right c.args.net.now c.in_ok-strong.strong c.meets_definition.ensures s.count s.terminal_number s.labels s.numbered s.from_forest s.from_trees s.to_forest s.to_trees s.levels s.falls s.exit_numbers s.exits s.terminal
+
+pub one_hypotheses-one-requires-clause-q6 : goal.one_hypotheses-one-requires-clause-q6
+one_hypotheses-one-requires-clause-q6 c =
+    let l = c.in_ok-linkage.linkage in
+    let a5 = c.in_ok-rank.rank in
+    let a6 = c.in_ok-deficiency.deficiency in
+    let earlier : Earlier = (Q1, Classes l.count l.label) ∷ (Q5, a5.verdict) ∷ [] in
+    true_or_open c.args.net.now c.args.budget earlier Q6 a6.verdict (c.in_ok-deficiency.ensures c.args.budget earlier refl refl refl).answered
+
+pub zero_answer-zero-requires-clause-rank : goal.zero_answer-zero-requires-clause-rank
+zero_answer-zero-requires-clause-rank c =
+    let a5 = c.in_ok-rank.rank in
+    rank_or_open c.args.net.now c.args.budget [] a5.verdict (c.in_ok-rank.ensures c.args.budget []).answered
+
+pub zero_answer-zero-requires-clause-weak : goal.zero_answer-zero-requires-clause-weak
+zero_answer-zero-requires-clause-weak c =
+    let s = c.in_ok-strong.strong in
+    let e = c.in_ok-strong.ensures in
+    let earlier : Earlier = (Q2, Strong s.count s.terminal s.label s.exit) ∷ [] in
+    let right = strong_right c.args.net.now s c.meets_definition.ensures e.count e.terminal_number e.labels e.numbered e.from_forest e.from_trees e.to_forest e.to_trees e.levels e.falls e.exit_numbers e.exits e.terminal in
+    (c.weakly_reversible-weakly_reversible.ensures earlier (sym c.as_slice.ensures) right).true_of
+
 pub returns : goal.returns
 returns c =
     let net = c.args.net.now in
@@ -30,6 +71,8 @@ returns c =
     let a6 = c.in_ok-deficiency.deficiency in
     let a7 = c.in_ok-dependence.dependence in
     let a8 = c.in_ok-conservation.conservation in
+    let a9 = c.zero_answer-zero.result in
+    let a10 = c.one_hypotheses-one.result in
     let after1 : Earlier = (Q1, a1.verdict) ∷ [] in
     let after2 : Earlier = (Q1, a1.verdict) ∷ (Q2, a2.verdict) ∷ [] in
     let after3 : Earlier = (Q1, a1.verdict) ∷ (Q2, a2.verdict) ∷ (Q3, a3.verdict) ∷ [] in
@@ -37,6 +80,8 @@ returns c =
     let after5 : Earlier = (Q1, a1.verdict) ∷ (Q2, a2.verdict) ∷ (Q3, a3.verdict) ∷ (Q4, a4.verdict) ∷ (Q5, a5.verdict) ∷ [] in
     let after6 : Earlier = (Q1, a1.verdict) ∷ (Q2, a2.verdict) ∷ (Q3, a3.verdict) ∷ (Q4, a4.verdict) ∷ (Q5, a5.verdict) ∷ (Q6, a6.verdict) ∷ [] in
     let after7 : Earlier = (Q1, a1.verdict) ∷ (Q2, a2.verdict) ∷ (Q3, a3.verdict) ∷ (Q4, a4.verdict) ∷ (Q5, a5.verdict) ∷ (Q6, a6.verdict) ∷ (Q7, a7.verdict) ∷ [] in
+    let after8 : Earlier = (Q1, a1.verdict) ∷ (Q2, a2.verdict) ∷ (Q3, a3.verdict) ∷ (Q4, a4.verdict) ∷ (Q5, a5.verdict) ∷ (Q6, a6.verdict) ∷ (Q7, a7.verdict) ∷ (Q8, a8.verdict) ∷ [] in
+    let after9 : Earlier = (Q1, a1.verdict) ∷ (Q2, a2.verdict) ∷ (Q3, a3.verdict) ∷ (Q4, a4.verdict) ∷ (Q5, a5.verdict) ∷ (Q6, a6.verdict) ∷ (Q7, a7.verdict) ∷ (Q8, a8.verdict) ∷ (Q9, a9.verdict) ∷ [] in
     let l = c.in_ok-linkage.ensures in
     let linkage : AreLinkageData net c.in_ok-linkage.linkage = record { count = l.count; labels = l.labels; numbered = l.numbered; even = l.even; forest = l.forest; trees = l.trees } in
     let s = c.in_ok-strong.ensures in
@@ -63,10 +108,20 @@ returns c =
     let d6 = c.in_ok-deficiency.ensures budget after5 c.linkage_answer.ensures.labels c.linkage_answer.ensures.count refl in
     let d7 = c.in_ok-dependence.ensures budget after6 in
     let d8 = c.in_ok-conservation.ensures budget after7 in
-    let answers : List Answer = a1 ∷ a2 ∷ a3 ∷ a4 ∷ a5 ∷ a6 ∷ a7 ∷ a8 ∷ [] in
-    let pushed : c.push-8.new.self ≡ answers =
-    rw (c.push-8.ensures, c.push-7.ensures, c.push-6.ensures, c.push-5.ensures, c.push-4.ensures, c.push-3.ensures, c.push-2.ensures, c.push.ensures, c.in_ok-answers.ensures) refl in
-    let later : AreAnswers net budget after4 (Q5 ∷ Q6 ∷ Q7 ∷ Q8 ∷ []) (a5 ∷ a6 ∷ a7 ∷ a8 ∷ []) = (d5, (d6, (d7, (d8, tt)))) in
+    let d9 = c.zero_answer-zero.ensures budget after8 c.linkage_answer.ensures.labels c.linkage_answer.ensures.count refl refl in
+    let exits_long = s.exit_numbers.long in
+    let gives : GiveClasses after9 c.in_ok-linkage.linkage.label.list c.in_ok-linkage.linkage.count c.in_ok-strong.strong.label.list c.in_ok-strong.strong.exit.list = record {
+      labels_are = c.linkage_answer.ensures.labels;
+      count_is = c.linkage_answer.ensures.count;
+      strong_are = c.strong_answer.ensures.labels;
+      exits_are = c.strong_answer.ensures.exits;
+      strong_count = c.strong_answer.ensures.count ∙ sym exits_long;
+    } in
+    let d10 = c.one_hypotheses-one.ensures budget after9 gives refl in
+    let answers : List Answer = a1 ∷ a2 ∷ a3 ∷ a4 ∷ a5 ∷ a6 ∷ a7 ∷ a8 ∷ a9 ∷ a10 ∷ [] in
+    let pushed : c.push-10.new.self ≡ answers =
+    rw (c.push-10.ensures, c.push-9.ensures, c.push-8.ensures, c.push-7.ensures, c.push-6.ensures, c.push-5.ensures, c.push-4.ensures, c.push-3.ensures, c.push-2.ensures, c.push.ensures, c.in_ok-answers.ensures) refl in
+    let later : AreAnswers net budget after4 (Q5 ∷ Q6 ∷ Q7 ∷ Q8 ∷ Q9 ∷ Q10 ∷ []) (a5 ∷ a6 ∷ a7 ∷ a8 ∷ a9 ∷ a10 ∷ []) = (d5, (d6, (d7, (d8, (d9, (d10, tt)))))) in
     let all : AreAnswers net budget [] built answers =
     (answer_of net budget [] Q1 a1 d1, (answer_of net budget after1 Q2 a2 d2, (answer_of net budget after2 Q3 a3 d3, (answer_of net budget after3 Q4 a4 d4, later)))) in
     record {

@@ -1,0 +1,9 @@
+use Rattle.std.proofs.Common.{◌≡◌, ◌≤◌, take}
+use Rattle.std.specs.Prelude.{sum}
+use Rattle.crn_check.proofs.one.sum_of.Given as goal
+
+abbrev pub invariant-loop-d : goal.invariant-loop-d
+invariant-loop-d l = record {
+  is : l.sum ≡ sum (take l.d-index l.classes);
+  few : l.sum ≤ l.d-index;
+}

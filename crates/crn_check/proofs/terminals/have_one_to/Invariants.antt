@@ -1,0 +1,6 @@
+use Rattle.std.proofs.Common.{◌+◌}
+use Rattle.crn_cert.specs.Valid.{HaveOneBefore}
+use Rattle.crn_check.proofs.terminals.have_one_to.Given as goal
+
+abbrev pub invariant-loop-k : goal.invariant-loop-k
+invariant-loop-k l = HaveOneBefore l.facts.earlier (l.k + 1)

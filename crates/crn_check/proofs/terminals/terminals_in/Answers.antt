@@ -1,0 +1,27 @@
+use Rattle.std.proofs.Common.{◌≡◌, ◌∙◌, ℕ, List, length, sym, ap, ap₂}
+use Rattle.crn_cert.specs.declared.answer.Verdict.{Verdict}
+use Rattle.crn_cert.specs.Questions.{Q2, on, count_of, exits_of, labels_of}
+use Rattle.crn_cert.specs.Valid.{linkage, strong, exits}
+use Rattle.crn_check.specs.Inner.Terminals.{terminals_of}
+use Rattle.crn_check.proofs.Forms.{strong_labelled, linkage_labelled}
+use Rattle.crn_check.proofs.ClassTerminals.{exits_counted}
+use Rattle.crn_check.proofs.terminals.terminals_in.Goals as goal
+
+pub terminals_of-requires : goal.terminals_of-requires
+terminals_of-requires c =
+    let net = c.args.net.now in
+    let facts = c.args.facts.now in
+    ap (λ (l : List ℕ). length l) (c.labels_in.ensures ∙ ap (λ (v : Verdict). labels_of v) c.verdict-classes.ensures) ∙ strong_labelled net facts c.requires.facts c.requires.strong
+    ∙ sym (linkage_labelled net facts c.requires.facts c.requires.linkage).0
+    ∙ sym (ap (λ (l : List ℕ). length l) (c.labels_in-linkage.ensures ∙ ap (λ (v : Verdict). labels_of v) c.verdict.ensures))
+
+pub returns : goal.returns
+returns c =
+    let facts = c.args.facts.now in
+    let labels : c.labels_in.result.now ≡ strong facts.earlier = c.labels_in.ensures ∙ ap (λ (v : Verdict). labels_of v) c.verdict-classes.ensures in
+    let out : c.exits_in.result.now ≡ exits facts.earlier = c.exits_in.ensures ∙ ap (λ (v : Verdict). exits_of v) c.verdict-classes.ensures in
+    let links : c.labels_in-linkage.result.now ≡ linkage facts.earlier = c.labels_in-linkage.ensures ∙ ap (λ (v : Verdict). labels_of v) c.verdict.ensures in
+    let long : length (exits facts.earlier) ≡ count_of (on facts.earlier Q2) = exits_counted c.args.net.now facts c.requires.facts c.requires.strong in
+    c.terminals_of.ensures
+    ∙ ap₂ (λ (a b : List ℕ). terminals_of a b c.labels_in-linkage.result.now (length b) c.args.k) labels out
+    ∙ ap₂ (λ (l : List ℕ) (n : ℕ). terminals_of (strong facts.earlier) (exits facts.earlier) l n c.args.k) links long

@@ -1,0 +1,6 @@
+use Rattle.std.proofs.Common.{◌≡◌}
+use Rattle.crn_check.specs.Inner.Terminals.{terminals_of}
+use Rattle.crn_check.proofs.terminals.terminals_of.Given as goal
+
+abbrev pub invariant-loop-m : goal.invariant-loop-m
+invariant-loop-m l = l.count ≡ terminals_of l.strong l.exit l.linkage l.m l.k

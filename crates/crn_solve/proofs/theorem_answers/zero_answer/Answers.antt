@@ -1,0 +1,25 @@
+use Rattle.std.proofs.Common.{◌≡◌, ℕ, sym, subst}
+use Rattle.std.specs.Prelude.{◌↔◌, IsTrue}
+use Rattle.crn_cert.specs.declared.answer.Verdict.{Verdict}
+use Rattle.crn_cert.specs.Questions.{IsYes, Q9}
+use Rattle.crn_cert.specs.Answered.{IsAnswer}
+use Rattle.crn_solve.proofs.Deficiencies.{gives_rank}
+use Rattle.crn_solve.proofs.Theorems.{weak_is, zero_rests_given}
+use Rattle.crn_solve.proofs.theorem_answers.zero_answer.Goals as goal
+
+pub zero_hypotheses-requires-clause-rank : goal.zero_hypotheses-requires-clause-rank
+zero_hypotheses-requires-clause-rank c = c.requires.rank.rank c.in-Some.rank (sym c.in-Some.ensures)
+
+pub zero_hypotheses-requires-clause-weak : goal.zero_hypotheses-requires-clause-weak
+zero_hypotheses-requires-clause-weak c = weak_is c.args.net.now c.args.weak.now c.is_yes.result c.requires.weak c.is_yes.ensures
+
+pub returns-in-Some : goal.returns-in-Some
+returns-in-Some c budget earlier labels count weak is =
+    let classes = c.args.classes.now in
+    c.zero_hypotheses.ensures budget earlier (gives_rank earlier classes.label.list classes.count c.in-Some.rank c.args.rank.now (sym c.in-Some.ensures) labels count is)
+    (subst (λ (v : Verdict). IsTrue c.is_yes.result ↔ IsYes v) (sym weak) c.is_yes.ensures)
+
+pub returns-in-None : goal.returns-in-None
+returns-in-None c budget earlier labels count weak is =
+    let net = c.args.net.now in
+    subst (IsAnswer net budget earlier Q9) (sym c.rests_answer.ensures) (zero_rests_given net budget earlier c.args.rank.now (c.requires.rank.or_open (sym c.in-None.ensures)) is)
