@@ -8,6 +8,7 @@ mod Witnesses
 mod PartSums
 mod Counts
 mod Finals
+mod ColumnSums
 mod Levels
 mod Marks
 mod Witnessing

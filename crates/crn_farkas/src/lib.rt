@@ -2,6 +2,7 @@
 #![tactic(auto)]
 
 mod alternative;
+mod columns;
 mod cut;
 mod decision;
 mod fault;

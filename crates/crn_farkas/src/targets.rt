@@ -1,4 +1,4 @@
-ghost use Rattle.std.specs.Prelude.{◌≡◌, ◌≤◌, ◌<◌, ◌+◌, ℕ, length, slice_index, vec_capacity, MatchResult, MatchOption, IfErr, IfOk, OnOk};
+ghost use Rattle.std.specs.Prelude.{◌≡◌, ◌≤◌, ◌<◌, ◌+◌, ℕ, length, slice_index, take, vec_capacity, MatchResult, MatchOption, IfErr, IfOk, OnOk};
 ghost use Rattle.crn_vec.specs.Lists.{IsIn};
 ghost use Rattle.crn_vec.specs.Elementary.{width};
 ghost use Rattle.crn_vec.specs.Systems.{signed_count};
@@ -8,6 +8,7 @@ ghost use Rattle.crn_farkas.specs.Inner.Views.{AreLevels, IsOrder};
 ghost use Rattle.crn_farkas.specs.Solver.{IsNamedCut, IsNamedDecision, IsNearStop};
 ghost use Rattle.crn_farkas.specs.Inner.Sums.{IsPartSum, AreZeros};
 
+use crate::columns::by_columns;
 use crate::decision::Decision;
 use crate::fault::Stop;
 use crate::goal::{Side, side_of};
@@ -118,24 +119,17 @@ fn put_zeros(sum: &mut [i128])
     sum.fill(0);
 }
 
-// The solution that a sum is.
-fn solution(
-    alloc: Global,
-    tableau: &Tableau,
-    kinds: &[Kind],
-    sum: &[i128],
-) -> Result<Ints, NoMemory>
-    requires kinds { length kinds.now ≡ width tableau.now.matrix }
-    requires few { signed_count kinds.now ≤ MAX_SIGNED }
-    requires sum { IsPartSum tableau.now.matrix kinds.now (length kinds.now) sum.now }
-    ensures { IfOk result (λ x. IsSmallSolution tableau.now.matrix kinds.now x.list) }
+// The part of a sum that the columns have.
+fn columns_of(alloc: Global, tableau: &Tableau, sum: &[i128]) -> Result<Ints, NoMemory>
+    requires { length sum.now ≡ width tableau.now.matrix }
+    ensures { IfOk result (λ x. x.list ≡ take tableau.now.matrix.cols sum.now) }
 {
     let (front, _) = sum.split_at(tableau.cols());
-    let solution = Ints::from_slice(alloc, front)?;
-    Ok(solution)
+    let columns = Ints::from_slice(alloc, front)?;
+    Ok(columns)
 }
 
-// Decides a system by its targets, one after another, from the basis where the last question left the tableau.
+// Decides a system by the sum of the basis's columns or by its targets, one after another, from the basis where the last question left the tableau.
 pub(crate) fn by_targets(
     alloc: Global,
     tableau: &mut Tableau,
@@ -158,6 +152,10 @@ pub(crate) fn by_targets(
     ensures named { IfOk result (λ d. IsNamedDecision tableau.new.matrix tableau.new.basis d) }
     ensures near { IfErr result (λ s. IsNearStop tableau.new.basis s) }
 {
+    put_zeros(sum);
+    if by_columns(tableau, kinds, sum, work) {
+        return Ok(Decision::Feasible(columns_of(alloc, tableau, sum)?));
+    }
     put_order(order, kinds);
     put_levels(order, level);
     put_zeros(sum);
@@ -167,6 +165,6 @@ pub(crate) fn by_targets(
     };
     match targets(alloc, tableau, kinds, &settling, sum, work)? {
         Some(cut) => Ok(Decision::Infeasible(cut)),
-        None => Ok(Decision::Feasible(solution(alloc, tableau, kinds, sum)?)),
+        None => Ok(Decision::Feasible(columns_of(alloc, tableau, sum)?)),
     }
 }

@@ -47,3 +47,8 @@ pub record HasPartSum (a : Mat) (kinds : List Kind) (g : ℕ) (marks : List Bool
 pub record AreZeros (count : ℕ) (v : List ℤ) : Type 0 where
   pub long : length v ≡ count
   pub zero : (k : ℕ) → entry v k ≡ pos 0
+
+-- a vector (x, Ax) of which no entry exceeds so many times the bound of elementary vectors
+pub record IsSumOf (a : Mat) (count : ℕ) (v : List ℤ) : Type 0 where
+  pub space : InRowSpace a v
+  pub small : (k : ℕ) → unsigned_abs (entry v k) ≤ count * WIDE_ENTRY
