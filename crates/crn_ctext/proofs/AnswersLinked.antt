@@ -4,7 +4,7 @@ use Rattle.std.specs.Prelude.{◌≢◌, ℤ, Option, pos, nat_abs, min, sum, co
 use Rattle.std.specs.Option.{IsSome, IsSomeAnd}
 use Rattle.std.specs.List.{AllZip, flat_map, range_with_len}
 use Rattle.std.proofs.lemmas.Int.{ints}
-use Rattle.std.proofs.lemmas.List.{append-nil, length-map}
+use Rattle.std.proofs.lemmas.List.{append-nil, append_cancel_left, length-map}
 use Rattle.crn_vec.specs.Network.{Net}
 use Rattle.crn_vec.specs.Deficiency.{AreAtMostOne}
 use Rattle.crn_vec.specs.Kept.{KeptNums}
@@ -37,6 +37,7 @@ use Rattle.crn_ctext.specs.Judged.{AreFormedOf}
 use Rattle.crn_ctext.specs.Linked.{records_of}
 use Rattle.crn_ctext.proofs.AnswersApart.{block_apart}
 use Rattle.crn_ctext.specs.Same.{said, said_rank, shown, AreSame}
+use Rattle.crn_ctext.proofs.Joined.{parts, IsLinked, answer, open_as, IsLinkedFor, IsJoinedFor, LinkFor, joined, same_valid}
 use Rattle.crn_ctext.proofs.Alike.{IsAlike, alike_then, labels_alike, counts_alike, ranks_alike}
 use Rattle.crn_ctext.proofs.TestsAlike.{zero_alike, number_alike, one_alike, split_alike}
 use Rattle.crn_ctext.proofs.MeaningShort.{lists_counted}
@@ -55,23 +56,6 @@ several_fit count least greatest xs p =
 -- a record of small numbers fits its form
 small_fits : (word : List ℕ) (count least greatest : ℕ) (xs : List ℕ) → AreFrom count least greatest xs → Fits (small_form word count least greatest) (small_record word xs)
 small_fits word count least greatest xs p = (refl, several_fit count least greatest xs p)
-
--- ---- an answer and its records
-
--- the parts of an answer's block
-abbrev pub parts : (q : Question) (known : Known) (a : Answer) → Parts (records q (shapes_of known) a)
-parts q known a = record { head = head_of q a.verdict; rows = records_below (shapes_of known) a; nodes = proof_nodes a.proof; all = refl }
-
--- the records are formed, their tests are those of the answer, and they say its verdict and its proof
-pub record IsLinked (known : Known) (earlier : Earlier) (q : Question) (a : Answer) : Type 1 where
-  pub formed : IsFormed meaning q known (records q (shapes_of known) a) (parts q known a)
-  pub heads : head_claims meaning q known (head_of q a.verdict) ≡ head_tests known.net earlier q a.verdict
-  pub rows : row_claims meaning q known (head_of q a.verdict) (records_below (shapes_of known) a) ≡ row_tests known.net earlier q a.verdict a.proof
-  pub says : said (verdict_of q (sizes_of known) (head_of q a.verdict) (records_below (shapes_of known) a)) ≡ said a.verdict
-  pub shows : shown (proof_of q (shapes_of known) (head_of q a.verdict) (records_below (shapes_of known) a)) ≡ shown a.proof
-
-abbrev answer : Verdict → Proof → Answer
-answer v p = record { verdict = v; proof = p }
 
 -- ---- linkage classes
 
@@ -240,13 +224,6 @@ rank_open known earlier index basis b =
       says = ap (λ (x : List ℕ). Unknown (Wide 1 0 index (record { list = x; spare = 0 }))) (back_again basis.list);
       shows = refl;
     }
-
--- an answer that is open by this system and class has these numbers and no proof
-open_as : (known : Known) (earlier : Earlier) (q : Question) (system class index : ℕ) (basis : KeptNums) (p : Proof) (s c : ℕ) → system ≡ s → class ≡ c → p ≡ Nothing → IsLinked known earlier q (answer (Unknown (Wide s c index basis)) Nothing)
-    → IsLinked known earlier q (answer (Unknown (Wide system class index basis)) p)
-open_as known earlier q system class index basis p s c a b e l =
-    subst (λ (x : ℕ). IsLinked known earlier q (answer (Unknown (Wide x class index basis)) p)) (sym a) (subst (λ (x : ℕ). IsLinked known earlier q (answer (Unknown (Wide s x index basis)) p)) (sym b)
-    (subst (λ (x : Proof). IsLinked known earlier q (answer (Unknown (Wide s c index basis)) x)) (sym e) l))
 
 rank_linked : (known : Known) (earlier : Earlier) (v : Verdict) (p : Proof) → IsFormedOf known.net earlier Q5 v p → IsLinked known earlier Q5 (answer v p)
 rank_linked known earlier (Rank rank base) (RankRows p) f =
@@ -549,13 +526,9 @@ one_linked known earlier v p e f = absurd f.0
 abbrev behind : Question → Known → Answer → Known
 behind q known a = meaning.learn q known (head_of q a.verdict) (records_below (shapes_of known) a)
 
--- each formed answer to the question is linked, if what is known says the same as the earlier verdicts
-abbrev pub IsLinkedFor : Question → Type 1
-IsLinkedFor q = (known : Known) (earlier : Earlier) (v : Verdict) (p : Proof) → IsAlike known earlier → IsFormedOf known.net earlier q v p → IsLinked known earlier q (answer v p)
-
 abbrev pub AreLinkedFor : List Question → Type 1
 AreLinkedFor [] = Unit {1}
-AreLinkedFor (q ∷ qs) = IsLinkedFor q × AreLinkedFor qs
+AreLinkedFor (q ∷ qs) = LinkFor q × AreLinkedFor qs
 
 built_linked : AreLinkedFor built
 built_linked = (
@@ -576,8 +549,8 @@ built_linked = (
 )
 
 -- so they are after an answer
-alike_behind : (q : Question) (known : Known) (earlier : Earlier) (a : Answer) → IsAlike known earlier → IsLinked known earlier q a → IsAlike (behind q known a) (earlier ++ (q, a.verdict) ∷ [])
-alike_behind q known earlier a e l = alike_then known.earlier earlier q (verdict_of q (sizes_of known) (head_of q a.verdict) (records_below (shapes_of known) a)) a.verdict e l.says
+alike_behind : (q : Question) (known : Known) (earlier : Earlier) (a : Answer) → IsAlike known earlier → IsJoinedFor q → IsFormedOf known.net earlier q a.verdict a.proof → IsAlike (behind q known a) (earlier ++ (q, a.verdict) ∷ [])
+alike_behind q known earlier a e j f = let s = j.says in alike_then known.earlier earlier q (verdict_of q (sizes_of known) (head_of q a.verdict) (records_below (shapes_of known) a)) a.verdict e (s known earlier a.verdict a.proof e f)
 
 formed_by : (qs : List Question) → AreLinkedFor qs → (known : Known) (earlier : Earlier) (answers : List Answer) → IsAlike known earlier → AreFormed known.net earlier qs answers → documents.AreFormed meaning qs known (all_records meaning qs known answers)
 unfolding documents.AreFormed all_records
@@ -585,44 +558,14 @@ formed_by [] links known earlier [] e f = refl
 formed_by [] links known earlier (a ∷ answers) e f = absurd f
 formed_by (q ∷ qs) links known earlier [] e f = absurd f
 formed_by (q ∷ qs) links known earlier (a ∷ answers) e f =
-    let l = links.0 known earlier a.verdict a.proof e f.0 in
-    (parts q known a, l.formed, formed_by qs links.1 (behind q known a) (earlier ++ (q, a.verdict) ∷ []) answers (alike_behind q known earlier a e l) f.1)
+    let j = joined q links.0 in
+    let formed = j.formed in
+    (parts q known a, formed known earlier a.verdict a.proof e f.0, formed_by qs links.1 (behind q known a) (earlier ++ (q, a.verdict) ∷ []) answers (alike_behind q known earlier a e j f.0) f.1)
 
 pub answers_formed : (net : Net) (answers : List Answer) → AreFormed net [] built answers → AreFormedOf net (records_of net answers)
 answers_formed net answers f = formed_by built built_linked (meaning.start net) [] answers refl f
 
 -- ---- valid answers
-
-all_front : (xs ys : List Test) → AllHold (xs ++ ys) → AllHold xs × AllHold ys
-all_front [] ys h = (tt, h)
-all_front (x ∷ xs) ys h = let more = all_front xs ys h.1 in ((h.0, more.0), more.1)
-
-all_both : (xs ys : List Test) → AllHold xs → AllHold ys → AllHold (xs ++ ys)
-all_both [] ys p q = q
-all_both (x ∷ xs) ys p q = (p.0, all_both xs ys p.1 q)
-
--- a block without trees that is formed has valid trees
-no_trees : (t : Bool) (rs : List Record) → AreTrees (λ (problem : Problem) (prefix : List Sign) (r : Record). IsOneOf (leaf_forms problem) r) (unless t []) rs → AreTrees IsGoodLeaf (unless t []) rs
-no_trees true rs h = h
-no_trees false rs h = h
-
-there : (known : Known) (earlier : Earlier) (q : Question) (a : Answer) → IsLinked known earlier q a → IsValid known.net earlier q a → documents.IsValid meaning q known (records q (shapes_of known) a) (parts q known a)
-there known earlier q a l v =
-    let hold = all_front (head_tests known.net earlier q a.verdict) (row_tests known.net earlier q a.verdict a.proof) v in
-    let formed = l.formed in
-    record { head = subst AllHold (sym l.heads) hold.0; rows = subst AllHold (sym l.rows) hold.1; trees = no_trees (is_open (head_of q a.verdict)) (proof_nodes a.proof) formed.trees }
-
-back : (known : Known) (earlier : Earlier) (q : Question) (a : Answer) → IsLinked known earlier q a → documents.IsValid meaning q known (records q (shapes_of known) a) (parts q known a) → IsValid known.net earlier q a
-back known earlier q a l v = all_both (head_tests known.net earlier q a.verdict) (row_tests known.net earlier q a.verdict a.proof) (subst AllHold l.heads v.head) (subst AllHold l.rows v.rows)
-
--- what is valid of one cut into parts is valid of the other
-same_valid : (q : Question) (known : Known) (rs : List Record) (p u : Parts rs) → IsFormed meaning q known rs p → IsFormed meaning q known rs u → documents.IsValid meaning q known rs p
-    → documents.IsValid meaning q known rs u × (meaning.learn q known p.head p.rows ≡ meaning.learn q known u.head u.rows)
-same_valid q known rs p u f g v =
-    let same = (block_apart meaning q known rs rs [] [] p u f g refl).1 in
-    let heads = subst (λ (h : Record). AllHold (head_claims meaning q known h)) same.0 v.head in
-    let rows = subst (λ (h : Record). AllHold (row_claims meaning q known h u.rows)) same.0 (subst (λ (r : List Record). AllHold (row_claims meaning q known p.head r)) same.1 v.rows) in
-    (record { head = heads; rows = rows; trees = no_trees (is_open u.head) u.nodes g.trees }, ap₂ (λ (h : Record) (r : List Record). meaning.learn q known h r) same.0 same.1)
 
 abbrev Rest : List Question → Known → Known → List Answer → Type 0
 Rest qs known from answers = documents.AreValid meaning qs known (all_records meaning qs from answers)
@@ -633,8 +576,10 @@ valid_by [] links known earlier [] e f v = refl
 valid_by [] links known earlier (a ∷ answers) e f v = absurd f
 valid_by (q ∷ qs) links known earlier [] e f v = absurd f
 valid_by (q ∷ qs) links known earlier (a ∷ answers) e f v =
-    let l = links.0 known earlier a.verdict a.proof e f.0 in
-    (parts q known a, l.formed, there known earlier q a l v.0, valid_by qs links.1 (behind q known a) (earlier ++ (q, a.verdict) ∷ []) answers (alike_behind q known earlier a e l) f.1 v.1)
+    let j = joined q links.0 in
+    let formed = j.formed in
+    let there = j.there in
+    (parts q known a, formed known earlier a.verdict a.proof e f.0, there known earlier a.verdict a.proof e f.0 v.0, valid_by qs links.1 (behind q known a) (earlier ++ (q, a.verdict) ∷ []) answers (alike_behind q known earlier a e j f.0) f.1 v.1)
 
 pub answers_valid : (net : Net) (answers : List Answer) → AreFormed net [] built answers → AreValid net [] built answers → documents.AreValid meaning built (meaning.start net) (records_of net answers)
 answers_valid net answers f v = valid_by built built_linked (meaning.start net) [] answers refl f v
@@ -645,11 +590,13 @@ back_by [] links known earlier [] e f v = tt
 back_by [] links known earlier (a ∷ answers) e f v = absurd f
 back_by (q ∷ qs) links known earlier [] e f v = absurd f
 back_by (q ∷ qs) links known earlier (a ∷ answers) e f v =
-    let l = links.0 known earlier a.verdict a.proof e f.0 in
+    let j = joined q links.0 in
+    let formed = j.formed in
+    let back = j.back in
     let next = behind q known a in
-    let s = same_valid q known (records q (shapes_of known) a) v.0 (parts q known a) v.1 l.formed v.2 in
+    let s = same_valid q known (records q (shapes_of known) a) v.0 (parts q known a) v.1 (formed known earlier a.verdict a.proof e f.0) v.2 in
     let later : Rest qs next next answers = subst (λ (k : Known). Rest qs k next answers) s.1 v.3 in
-    (back known earlier q a l s.0, back_by qs links.1 next (earlier ++ (q, a.verdict) ∷ []) answers (alike_behind q known earlier a e l) f.1 later)
+    (back known earlier a.verdict a.proof e f.0 s.0, back_by qs links.1 next (earlier ++ (q, a.verdict) ∷ []) answers (alike_behind q known earlier a e j f.0) f.1 later)
 
 pub records_valid : (net : Net) (answers : List Answer) → AreFormed net [] built answers → documents.AreValid meaning built (meaning.start net) (records_of net answers) → AreValid net [] built answers
 records_valid net answers f v = back_by built built_linked (meaning.start net) [] answers refl f v
@@ -666,21 +613,29 @@ same_by [] links known earlier later (a ∷ answers) others d e f g r = absurd f
 same_by (q ∷ qs) links known earlier later [] others d e f g r = absurd f
 same_by (q ∷ qs) links known earlier later (a ∷ answers) [] d e f g r = absurd g
 same_by (q ∷ qs) links known earlier later (a ∷ answers) (b ∷ others) d e f g r =
-    let k = links.0 known earlier a.verdict a.proof d f.0 in
-    let l = links.0 known later b.verdict b.proof e g.0 in
+    let j = joined q links.0 in
+    let formed = j.formed in
+    let says = j.says in
+    let shows = j.shows in
+    let k = formed known earlier a.verdict a.proof d f.0 in
+    let l = formed known later b.verdict b.proof e g.0 in
     let h = first_same (records q (shapes_of known) a) (records q (shapes_of known) b) (all_records meaning qs (behind q known a) answers) (all_records meaning qs (behind q known b) others) r in
     let block : records q (shapes_of known) a ++ [] ≡ records q (shapes_of known) b ++ [] = ap (λ (t : List Record). t ++ []) h.0 in
-    let same = (block_apart meaning q known (records q (shapes_of known) a) (records q (shapes_of known) b) [] [] (parts q known a) (parts q known b) k.formed l.formed block).1 in
-    let verdicts : said a.verdict ≡ said b.verdict = sym k.says ∙ ap₂ (λ (x : Record) (xs : List Record). said (verdict_of q (sizes_of known) x xs)) same.0 same.1 ∙ l.says in
-    let proofs : shown a.proof ≡ shown b.proof = sym k.shows ∙ ap₂ (λ (x : Record) (xs : List Record). shown (proof_of q (shapes_of known) x xs)) same.0 same.1 ∙ l.shows in
+    let same = (block_apart meaning q known (records q (shapes_of known) a) (records q (shapes_of known) b) [] [] (parts q known a) (parts q known b) k l block).1 in
+    let nodes : proof_nodes a.proof ≡ proof_nodes b.proof = same_nodes (head_of q a.verdict) (head_of q b.verdict) (records_below (shapes_of known) a) (records_below (shapes_of known) b) (proof_nodes a.proof) (proof_nodes b.proof) same.1 h.0 in
+    let verdicts : said a.verdict ≡ said b.verdict = sym (says known earlier a.verdict a.proof d f.0) ∙ ap₂ (λ (x : Record) (xs : List Record). said (verdict_of q (sizes_of known) x xs)) same.0 same.1 ∙ says known later b.verdict b.proof e g.0 in
+    let proofs : shown a.proof ≡ shown b.proof = shows known earlier later a.verdict b.verdict a.proof b.proof d e f.0 g.0 same.0 same.1 nodes in
     let next : behind q known a ≡ behind q known b = ap₂ (λ (x : Record) (xs : List Record). meaning.learn q known x xs) same.0 same.1 in
     let rest : all_records meaning qs (behind q known a) answers ≡ all_records meaning qs (behind q known a) others = h.1 ∙ ap (λ (x : Known). all_records meaning qs x others) (sym next) in
-    let alike : IsAlike (behind q known a) (later ++ (q, b.verdict) ∷ []) = subst (λ (x : Known). IsAlike x (later ++ (q, b.verdict) ∷ [])) (sym next) (alike_behind q known later b e l) in
-    let more = same_by qs links.1 (behind q known a) (earlier ++ (q, a.verdict) ∷ []) (later ++ (q, b.verdict) ∷ []) answers others (alike_behind q known earlier a d k) alike f.1 g.1 rest in
+    let alike : IsAlike (behind q known a) (later ++ (q, b.verdict) ∷ []) = subst (λ (x : Known). IsAlike x (later ++ (q, b.verdict) ∷ [])) (sym next) (alike_behind q known later b e j g.0) in
+    let more = same_by qs links.1 (behind q known a) (earlier ++ (q, a.verdict) ∷ []) (later ++ (q, b.verdict) ∷ []) answers others (alike_behind q known earlier a d j f.0) alike f.1 g.1 rest in
     ap₂ (λ (x : Verdict × (Proof × List Plan)) (xs : List (Verdict × (Proof × List Plan))). x ∷ xs) (ap₂ (λ (v : Verdict) (p : Proof × List Plan). (v, p)) verdicts proofs) more
   where
     first_same : (x y : List Record) (xs ys : List (List Record)) → x ∷ xs ≡ y ∷ ys → (x ≡ y) × (xs ≡ ys)
     first_same x y xs ys e = (cc, cc)
+
+    same_nodes : (x y : Record) (rows others ns ms : List Record) → rows ≡ others → x ∷ (rows ++ ns) ≡ y ∷ (others ++ ms) → ns ≡ ms
+    same_nodes x y rows others ns ms e all = let below : rows ++ ns ≡ others ++ ms = cc in append_cancel_left others ns ms (ap (λ (t : List Record). t ++ ns) (sym e) ∙ below)
 
 pub answers_same : (net : Net) (answers others : List Answer) → AreFormed net [] built answers → AreFormed net [] built others → records_of net answers ≡ records_of net others → AreSame answers others
 answers_same net answers others f g r = same_by built built_linked (meaning.start net) [] [] answers others refl refl f g r

@@ -6,24 +6,25 @@ use Rattle.std.proofs.lemmas.List.{append-nil}
 use Rattle.std.specs.Fmt.{digits}
 use Rattle.crn_vec.specs.Lists.{IsIn}
 use Rattle.crn_vec.specs.Network.{Net, IsNetwork}
-use Rattle.crn_vec.specs.declared.signs.Sign.{Sign}
 use Rattle.crn_io.specs.declared.lines.TheConstants.{MAX_DOCUMENT, MAX_SHARED}
 use Rattle.crn_io.specs.Lines.{beginning}
 use Rattle.crn_ctext.specs.Records.{Record}
 use Rattle.crn_ctext.specs.Course.{Gives, IsSettled}
-use Rattle.crn_ctext.specs.Blocks.{Problem, unless, ReadOf, title, problems, is_open, course}
-use Rattle.crn_ctext.specs.Documents.{Share, FitsShare, cut_lists, IsNamed, written, IsShareable, AreFormed, AreValid, AreTrees, IsGoodLeaf, IsDocumentOf, document, document2}
-use Rattle.crn_ctext.specs.Meaning.{Known, meaning, versions}
+use Rattle.crn_ctext.specs.Blocks.{ReadOf, title, course}
+use Rattle.crn_ctext.specs.Documents.{Share, FitsShare, cut_lists, IsNamed, written, IsShareable, AreFormed, AreValid, IsGoodLeaf, IsDocumentOf, document, document2}
+use Rattle.crn_cert.specs.declared.answer.Verdict.{Verdict}
+use Rattle.crn_ctext.specs.Meaning.{Known, sizes_of, verdict_of, learn_of, verdicts_said, meaning, versions}
 use Rattle.crn_cert.specs.Built.{built}
 use Rattle.crn_cert.specs.Questions.{Question}
-use Rattle.crn_ctext.specs.Judged.{IsReadOf, IsGood}
+use Rattle.crn_ctext.specs.Judged.{IsReadOf, IsGood, IsFront, ReadDocumentsAreGood}
 use Rattle.crn_ctext.proofs.Settled.{HaveTitles, course_settled}
 use Rattle.crn_ctext.proofs.MeaningDecided.{meaning_decided}
 use Rattle.crn_ctext.proofs.MeaningShort.{IsSmall, networks_are_small, meaning_short}
 use Rattle.crn_ctext.proofs.ShortAnswers.{AllPlain, valid_are_plain, valid_are_formed, plain_are_short, short_both}
 use Rattle.crn_ctext.proofs.ShortLines.{text_lines_are_short}
 use Rattle.crn_ctext.proofs.Shared.{IsVersion, shared_written, all_texts}
-use Rattle.crn_ctext.proofs.BlocksRead.{AreVersions, IsFrontOf}
+use Rattle.crn_ctext.proofs.FrontsSaid.{front_says}
+use Rattle.crn_ctext.proofs.BlocksRead.{AreVersions, AreFrontsOf}
 use Rattle.crn_ctext.proofs.BlocksWritten.{all_of, parted, table_part}
 use Rattle.crn_ctext.proofs.DocumentsWritten.{IsTable, text_of, document_is_read}
 use Rattle.crn_ctext.proofs.DocumentTexts.{parted_first, parted_second, parted_cuts, parted_plain, written_alone, written_plain, table_plain}
@@ -111,28 +112,31 @@ good_documents_are_read bytes g = by g.document
 
 -- ---- what is read
 
--- no built question has a tree
-no_trees : (q : Question) (known : Known) (h : Record) → problems meaning q known h ≡ []
-no_trees q known h = none (is_open h)
-  where
-    none : (t : Bool) → unless {A = Problem} t [] ≡ []
-    none true = refl
-    none false = refl
+-- the verdicts that the blocks say are those that the answers say
+fronts_say : (qs : List Question) (known : Known) (blocks answers : List (List Record)) → AreFrontsOf meaning qs known blocks answers → verdicts_said qs known answers ≡ verdicts_said qs known blocks
+unfolding AreFrontsOf
+fronts_say [] known blocks answers z = refl
+fronts_say (q ∷ qs) known [] answers z = absurd z
+fronts_say (q ∷ qs) known (block ∷ blocks) [] z = absurd z
+fronts_say (q ∷ qs) known (block ∷ blocks) (rs ∷ more) z =
+    let p = z.0 in
+    let alone : verdict_of q (sizes_of known) p.head (p.rows ++ p.nodes) ≡ verdict_of q (sizes_of known) p.head p.rows = front_says IsGoodLeaf q known p.head p.rows p.nodes z.2 in
+    let learns : learn_of q known p.head (p.rows ++ p.nodes) ≡ learn_of q known p.head p.rows = ap (λ (v : Verdict). record { net = known.net; earlier = known.earlier ++ (q, v) ∷ [] }) alone in
+    ap (λ (t : List Record). verdicts_said (q ∷ qs) known (t ∷ more)) p.all
+    ∙ ap₂ (λ (v : Verdict) (vs : List Verdict). v ∷ vs) alone (ap (λ (k : Known). verdicts_said qs k more) learns ∙ fronts_say qs (learn_of q known p.head p.rows) blocks more z.3)
+    ∙ sym (ap (λ (t : List Record). verdicts_said (q ∷ qs) known (t ∷ blocks)) z.1)
 
--- so no answer has a node
-pub no_nodes : (Leaf : Problem → List Sign → Record → Type 0) (q : Question) (known : Known) (h : Record) (nodes : List Record) → AreTrees Leaf (problems meaning q known h) nodes → nodes ≡ []
-no_nodes Leaf q known h nodes t = subst (λ (ps : List {1} Problem). AreTrees Leaf ps nodes) (no_trees q known h) t
+fronts_are : (qs : List Question) (known : Known) (blocks answers : List (List Record)) → AreFrontsOf meaning qs known blocks answers → AllZip IsFront blocks answers
+unfolding AreFrontsOf
+fronts_are [] known blocks answers z = subst (λ (bs : List (List Record)). AllZip IsFront bs answers) (sym z.0) (subst (λ (xs : List (List Record)). AllZip IsFront [] xs) (sym z.1) tt)
+fronts_are (q ∷ qs) known [] answers z = absurd z
+fronts_are (q ∷ qs) known (block ∷ blocks) [] z = absurd z
+fronts_are (q ∷ qs) known (block ∷ blocks) (rs ∷ more) z =
+    let p = z.0 in
+    ((p.nodes, p.all ∙ ap (λ (t : List Record). t ++ p.nodes) (sym z.1)), fronts_are qs (learn_of q known p.head p.rows) blocks more z.3)
 
--- the blocks that are read are the answers
-fronts_are : (blocks answers : List (List Record)) → AllZip (IsFrontOf meaning) blocks answers → blocks ≡ answers
-fronts_are [] [] z = refl
-fronts_are [] (rs ∷ more) z = absurd z
-fronts_are (b ∷ blocks) [] z = absurd z
-fronts_are (b ∷ blocks) (rs ∷ more) z =
-    let none : z.0.3 ≡ [] = no_nodes IsGoodLeaf z.0.0 z.0.1 z.0.2 z.0.3 z.0.5 in
-    let same : b ≡ rs = sym (append-nil b) ∙ ap (λ (t : List Record). b ++ t) (sym none) ∙ sym z.0.4 in
-    ap₂ (λ (x : List Record) (xs : List (List Record)). x ∷ xs) same (fronts_are blocks more z.1)
-
--- the network and the answers of a document that is read are those that are read
-pub read_is_of : (bytes : List ℕ) (read : ReadOf) → IsReadOf bytes read → (g : IsGood bytes) × (g.net ≡ read.net) × (g.answers ≡ read.blocks)
-read_is_of bytes read p = let g = read_documents_are_good_by bytes read p in (g.0, g.1, sym (fronts_are read.blocks g.0.answers g.2))
+-- the network of a document that is read is the one that is read, and its answers are the blocks that are read but for the nodes of trees
+pub read_is_of : ReadDocumentsAreGood
+read_is_of bytes read p =
+    let g = read_documents_are_good_by bytes read p in
+    (g.0, g.1, fronts_are built (meaning.start read.net) read.blocks g.0.answers g.2, fronts_say built (meaning.start read.net) read.blocks g.0.answers g.2)

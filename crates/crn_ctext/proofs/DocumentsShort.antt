@@ -8,13 +8,14 @@ use Rattle.std.proofs.lemmas.List.{length-append, length-map, length-replicate, 
 use Rattle.std.proofs.lemmas.List.FromFn.{length-range_with_len}
 use Rattle.crn_vec.specs.Lists.{firsts}
 use Rattle.crn_vec.specs.Network.{Net, IsNetwork}
+use Rattle.crn_vec.specs.declared.limits.TheConstants.{MAX_BUDGET}
 use Rattle.crn_io.specs.declared.lines.TheConstants.{MAX_DOCUMENT, MAX_SHARED}
 use Rattle.crn_cert.specs.Questions.{Question, Q1, Q2, Q3, Q4, Q5, Q6, Q7, Q8, Q9, Q10, Q11, Q12, Q13, Q14, Q15}
 use Rattle.crn_cert.specs.Built.{built}
 use Rattle.crn_ctext.specs.Records.{Record, Fits, record_text}
 use Rattle.crn_ctext.specs.Kinds.{free_form}
 use Rattle.crn_ctext.specs.Questions.{Sizes, Shapes, heads, rows, opens, rank_forms, class_forms, class_rank, first_number, later_numbers}
-use Rattle.crn_ctext.specs.Blocks.{sections, below, place_of, ended}
+use Rattle.crn_ctext.specs.Blocks.{sections, below, place_of, ended, title, network_line}
 use Rattle.crn_ctext.specs.Documents.{section, is_cut_leaf, cut_lists, number_in, written, table_records, IsShareable, Share, FitsShare, share_of, one_word, IsNamed, leaf_forms, IsOneOf, document, document2, Parts, IsFormed, AreFormed}
 use Rattle.crn_ctext.specs.Meaning.{Known, sizes_of, shapes_of, meaning}
 use Rattle.crn_ctext.specs.Judged.{AreFormedOf}
@@ -23,13 +24,13 @@ use Rattle.crn_ctext.proofs.LinesRead.{each_of}
 use Rattle.crn_ctext.proofs.FormKinds.{IsRowKind, heads_kinds, below_kinds, fits_no_cut, rows_no_cut}
 use Rattle.crn_ctext.proofs.Shared.{IsWrittenFor, NoCuts, shared_written}
 use Rattle.crn_ctext.proofs.BlocksWritten.{all_of, parted}
-use Rattle.crn_ctext.proofs.DocumentsWritten.{network_lines, text_lines, text_of, text_ended}
+use Rattle.crn_ctext.proofs.DocumentsWritten.{network_lines, text_lines, text_of, text_ended, ended_append}
 use Rattle.crn_ctext.proofs.NetworkLines.{net_line}
 use Rattle.crn_ctext.proofs.DocumentTexts.{parted_first, parted_second, parted_cuts, parted_plain, cuts_append, written_plain, table_plain}
 use Rattle.crn_ctext.proofs.ShortAnswers.{AllPlain, IsShortFor, formed_are_plain, short_both}
-use Rattle.crn_ctext.proofs.ShortLines.{text_lines_are_short}
+use Rattle.crn_ctext.proofs.ShortLines.{record_line_is_small, text_lines_are_short}
 use Rattle.crn_ctext.proofs.MeaningShort.{IsSmall, IsMemberList, class_sizes, class_lists, sizes_small, sizes_counted, lists_small, rank_first, networks_are_small, meaning_short}
-use Rattle.crn_ctext.proofs.DocumentsGood.{no_nodes}
+use Rattle.crn_ctext.proofs.FrontsSaid.{HasNoTrees, none_follow}
 
 -- ---- lines
 
@@ -41,18 +42,32 @@ ended_short (l ∷ ls) s =
     let size : length (ended (l ∷ ls)) ≡ length l + length (10 ∷ ended ls) = ap length (first_ended l ls) ∙ length-append l (10 ∷ ended ls) in
     omega (arith, more, size, s.0.1)
 
--- a text of few lines is shorter than the bound
-few_lines : (version : ℕ) (net : Net) (records : List Record) → IsNetwork net → AllByRecursion IsShortLine (text_lines version net records) → length records ≤ 70000 → length (text_of version net records) < MAX_DOCUMENT
-few_lines version net records n s few =
+-- the lines of plain records are smaller
+records_small : (rs : List Record) → AllPlain rs → length (ended (map record_text rs)) ≤ 9664 * length rs
+records_small [] p = omega arith
+records_small (r ∷ rs) p =
+    let more = records_small rs p.1 in
+    let size : length (ended (map record_text (r ∷ rs))) ≡ length (record_text r) + length (10 ∷ ended (map record_text rs)) = ap length (first_ended (record_text r) (map record_text rs)) ∙ length-append (record_text r) (10 ∷ ended (map record_text rs)) in
+    omega (arith, more, size, record_line_is_small r p.0)
+
+-- a text of few records is shorter than the bound
+few_lines : (version : ℕ) (net : Net) (records : List Record) → IsNetwork net → AllPlain records → AllByRecursion IsShortLine (text_lines version net records) → length records ≤ 300000 → length (text_of version net records) < MAX_DOCUMENT
+few_lines version net records n plain s few =
     let h = n.partial in
     let limit = h.reactions_limit in
     let size : length (text_of version net records) ≡ length (ended (text_lines version net records)) = ap length (text_ended version net records) in
-    let bytes = ended_short (text_lines version net records) s in
-    let tail : length (network_lines net ++ (map record_text records ++ codes "end" ∷ [])) ≡ length (network_lines net) + length (map record_text records ++ codes "end" ∷ []) = length-append (network_lines net) (map record_text records ++ codes "end" ∷ []) in
-    let last : length (map record_text records ++ codes "end" ∷ []) ≡ length (map record_text records) + 1 = length-append (map record_text records) (codes "end" ∷ []) in
+    let first = title version ∷ network_line (length net.reactions) ∷ network_lines net in
+    let said = map record_text records in
+    let parts : length (ended (text_lines version net records)) ≡ length (ended first) + length (ended (said ++ codes "end" ∷ [])) = ap length (ended_append first (said ++ codes "end" ∷ [])) ∙ length-append (ended first) (ended (said ++ codes "end" ∷ [])) in
+    let tail : length (ended (said ++ codes "end" ∷ [])) ≡ length (ended said) + length (ended (codes "end" ∷ [])) = ap length (ended_append said (codes "end" ∷ [])) ∙ length-append (ended said) (ended (codes "end" ∷ [])) in
+    let last : length (ended (codes "end" ∷ [])) ≡ 4 = refl in
+    let opening = ended_short first (front_short first (said ++ codes "end" ∷ []) s) in
     let whole : length (network_lines net) ≡ length net.reactions = length-map net.reactions (net_line net) in
-    let said : length (map record_text records) ≡ length records = length-map records record_text in
-    omega (arith, limit, size, bytes, tail, last, whole, said, few)
+    omega (arith, limit, size, parts, tail, last, opening, whole, records_small records plain, few)
+  where
+    front_short : (xs ys : List (List ℕ)) → AllByRecursion IsShortLine (xs ++ ys) → AllByRecursion IsShortLine xs
+    front_short [] ys a = tt
+    front_short (x ∷ xs) ys a = (a.0, front_short xs ys a.1)
 
 -- ---- records
 
@@ -182,31 +197,76 @@ zip_long R [] (y ∷ ys) z = absurd z
 zip_long R (x ∷ xs) [] z = absurd z
 zip_long R (x ∷ xs) (y ∷ ys) z = let more = zip_long R xs ys z.1 in omega (arith, more)
 
-block_few : (q : Question) (known : Known) (rs : List Record) (p : Parts rs) → IsSmall known → IsFew q → IsFormed meaning q known rs p → length rs ≤ suc (most q)
-block_few q known rs p small few f =
-    let none : p.nodes ≡ [] = no_nodes (λ problem prefix r. _) q known p.head p.nodes f.trees in
+-- the most nodes of the trees of an answer to the question
+abbrev pub node_limit : Question → ℕ
+node_limit Q13 = 2 * MAX_BUDGET
+node_limit Q14 = MAX_BUDGET
+node_limit Q15 = MAX_BUDGET
+node_limit q = 0
+
+-- the records are those of formed answers to these questions, whose trees have no more nodes than a budget
+unfoldable pub AreFewNodes : List Question → Known → List (List Record) → Type 0
+AreFewNodes [] known answers = answers ≡ []
+AreFewNodes (q ∷ qs) known [] = ⊥
+AreFewNodes (q ∷ qs) known (rs ∷ more) = (p : Parts rs) × IsFormed meaning q known rs p × (length p.nodes ≤ node_limit q) × AreFewNodes qs (meaning.learn q known p.head p.rows) more
+
+pub few_are_formed : (qs : List Question) (known : Known) (answers : List (List Record)) → AreFewNodes qs known answers → AreFormed meaning qs known answers
+unfolding AreFewNodes AreFormed
+few_are_formed [] known answers f = f
+few_are_formed (q ∷ qs) known [] f = f
+few_are_formed (q ∷ qs) known (rs ∷ more) f = (f.0, f.1, few_are_formed qs (meaning.learn q known f.0.head f.0.rows) more f.3)
+
+-- answers to questions without trees have few nodes
+none_are_few : (qs : List Question) (known : Known) (answers : List (List Record)) → AllByRecursion HasNoTrees qs → AreFormed meaning qs known answers → AreFewNodes qs known answers
+unfolding AreFewNodes AreFormed
+none_are_few [] known answers none f = f
+none_are_few (q ∷ qs) known [] none f = f
+none_are_few (q ∷ qs) known (rs ∷ more) none f =
+    let p = f.0 in
+    let g = f.1 in
+    let nodes : p.nodes ≡ [] = none.0 known p.head p.nodes g.trees in
+    (p, g, omega (arith, ap length nodes), none_are_few qs (meaning.learn q known p.head p.rows) more none.1 f.2)
+
+block_few : (q : Question) (known : Known) (rs : List Record) (p : Parts rs) → IsSmall known → IsFew q → IsFormed meaning q known rs p → length p.nodes ≤ node_limit q → length rs ≤ suc (most q + node_limit q)
+block_few q known rs p small few f nodes =
     let long : length (below q (shapes_of known) p.head) ≡ length p.rows = zip_long Fits (below q (shapes_of known) p.head) p.rows f.rows in
     let size : length rs ≡ suc (length (p.rows ++ p.nodes)) = ap length p.all in
-    omega (arith, size, length-append p.rows p.nodes, ap length none, long, few known p.head small f.head)
+    omega (arith, size, length-append p.rows p.nodes, nodes, long, few known p.head small f.head)
 
 -- the most records of the blocks of these questions, each with the line of its section
 abbrev most_of : List Question → ℕ
 most_of [] = 0
-most_of (q ∷ qs) = most q + 2 + most_of qs
+most_of (q ∷ qs) = most q + node_limit q + 2 + most_of qs
 
 -- each block has no more records than its bound
-parted_few : (version : ℕ) (qs : List Question) (known : Known) (answers : List (List Record)) → IsSmall known → AllByRecursion IsFew qs → AllByRecursion (IsShortFor meaning IsSmall) qs → AreFormed meaning qs known answers → length (parted version qs answers) ≤ most_of qs
-unfolding AreFormed
+parted_few : (version : ℕ) (qs : List Question) (known : Known) (answers : List (List Record)) → IsSmall known → AllByRecursion IsFew qs → AllByRecursion (IsShortFor meaning IsSmall) qs → AreFewNodes qs known answers → length (parted version qs answers) ≤ most_of qs
+unfolding AreFewNodes
 parted_few version [] known answers small few shorts f = omega arith
 parted_few version (q ∷ qs) known [] small few shorts f = absurd f
 parted_few version (q ∷ qs) known (rs ∷ more) small few shorts f =
     let learns = shorts.0.learn in
     let g = f.1 in
-    let later = parted_few version qs (meaning.learn q known f.0.head f.0.rows) more (learns known f.0.head f.0.rows small g.head g.rows) few.1 shorts.1 f.2 in
-    omega (arith, later, one_section version q, block_few q known rs f.0 small few.0 g, length-append (map section (sections version q)) (rs ++ parted version qs more), length-append rs (parted version qs more))
+    let later = parted_few version qs (meaning.learn q known f.0.head f.0.rows) more (learns known f.0.head f.0.rows small g.head g.rows) few.1 shorts.1 f.3 in
+    omega (arith, later, one_section version q, block_few q known rs f.0 small few.0 g f.2, length-append (map section (sections version q)) (rs ++ parted version qs more), length-append rs (parted version qs more))
 
--- the records of formed answers are few
-all_few : (version : ℕ) (net : Net) (answers : List (List Record)) → IsNetwork net → AreFormedOf net answers → length (parted version built answers) ≤ 60000
+-- no built question has a tree
+built_no_trees : AllByRecursion HasNoTrees built
+built_no_trees = (
+  (λ known h nodes t. none_follow h nodes t),
+  (
+    (λ known h nodes t. none_follow h nodes t),
+    (
+      (λ known h nodes t. none_follow h nodes t),
+      (
+        (λ known h nodes t. none_follow h nodes t),
+        ((λ known h nodes t. none_follow h nodes t), ((λ known h nodes t. none_follow h nodes t), ((λ known h nodes t. none_follow h nodes t), ((λ known h nodes t. none_follow h nodes t), ((λ known h nodes t. none_follow h nodes t), ((λ known h nodes t. none_follow h nodes t), tt)))))),
+      ),
+    ),
+  ),
+)
+
+-- the records of formed answers with few nodes are few
+all_few : (version : ℕ) (net : Net) (answers : List (List Record)) → IsNetwork net → AreFewNodes built (meaning.start net) answers → length (parted version built answers) ≤ 290000
 all_few version net answers n f =
     let few : length (parted version built answers) ≤ most_of built = parted_few version built (meaning.start net) answers (networks_are_small net n) built_few meaning_short f in
     omega (arith, few)
@@ -217,62 +277,35 @@ all_few version net answers n f =
 formed_plain : (net : Net) (answers : List (List Record)) → IsNetwork net → AreFormedOf net answers → AllByRecursion AllPlain answers
 formed_plain net answers n f = formed_are_plain meaning IsSmall built (meaning.start net) answers meaning_short (networks_are_small net n) f
 
-pub first_short : (net : Net) (answers : List (List Record)) → IsNetwork net → AreFormedOf net answers → length (document net answers) < MAX_DOCUMENT
-first_short net answers n f =
+-- a document of formed answers with few nodes is shorter than the bound
+pub first_few : (net : Net) (answers : List (List Record)) → IsNetwork net → AreFewNodes built (meaning.start net) answers → length (document net answers) < MAX_DOCUMENT
+first_few net answers n few_nodes =
+    let f = few_are_formed built (meaning.start net) answers few_nodes in
     let same = parted_first meaning built (meaning.start net) answers f in
     let plain : AllPlain (all_of answers) = subst AllPlain same (parted_plain 1 built answers (formed_plain net answers n f)) in
-    let few = all_few 1 net answers n f in
-    few_lines 1 net (all_of answers) n (text_lines_are_short 1 net (all_of answers) (omega arith) n plain) (omega (arith, few, ap length same))
+    let few = all_few 1 net answers n few_nodes in
+    few_lines 1 net (all_of answers) n plain (text_lines_are_short 1 net (all_of answers) (omega arith) n plain) (omega (arith, few, ap length same))
 
-pub second_short : (net : Net) (answers : List (List Record)) (share : Share) → IsNetwork net → AreFormedOf net answers → FitsShare answers share → length (document2 built net answers share) < MAX_DOCUMENT
-second_short net answers share n f fits =
+pub second_few : (net : Net) (answers : List (List Record)) (share : Share) → IsNetwork net → AreFewNodes built (meaning.start net) answers → FitsShare answers share → length (document2 built net answers share) < MAX_DOCUMENT
+second_few net answers share n few_nodes fits =
+    let f = few_are_formed built (meaning.start net) answers few_nodes in
     let rs = parted 2 built answers in
     let ws = written share.leaf rs in
     let named = subst (λ (us : List (List ℤ)). AllZip (IsNamed share.table) share.leaf us) (sym (parted_cuts 2 meaning built (meaning.start net) answers f)) fits.leaves in
     let for = shared_written share.table share.leaf rs named in
     let plain : AllPlain ws = written_plain share.table ws rs fits.most (parted_plain 2 built answers (formed_plain net answers n f)) for in
     let all = table_records share.table ++ ws in
-    let lines = text_lines_are_short 2 net all (omega arith) n (short_both (table_records share.table) ws (table_plain 2 share.table fits.most fits.lists) plain) in
-    let few = all_few 2 net answers n f in
+    let all_plain : AllPlain all = short_both (table_records share.table) ws (table_plain 2 share.table fits.most fits.lists) plain in
+    let lines = text_lines_are_short 2 net all (omega arith) n all_plain in
+    let few = all_few 2 net answers n few_nodes in
     let table : length (table_records share.table) ≡ suc (length share.table) = ap suc (length-map share.table (one_word (codes "vector"))) in
     let most = fits.most in
-    let short : length (text_of 2 net all) < MAX_DOCUMENT = few_lines 2 net all n lines (omega (arith, few, most, table, zip_long (IsWrittenFor share.table) ws rs for, length-append (table_records share.table) ws)) in
+    let short : length (text_of 2 net all) < MAX_DOCUMENT = few_lines 2 net all n all_plain lines (omega (arith, few, most, table, zip_long (IsWrittenFor share.table) ws rs for, length-append (table_records share.table) ws)) in
     subst (λ (xs : List Record). length (text_of 2 net (table_records share.table ++ written share.leaf xs)) < MAX_DOCUMENT) (parted_second built answers) short
 
--- ---- the share of answers without trees
+-- so are those of answers to the built questions, which have no trees
+pub first_short : (net : Net) (answers : List (List Record)) → IsNetwork net → AreFormedOf net answers → length (document net answers) < MAX_DOCUMENT
+first_short net answers n f = first_few net answers n (none_are_few built (meaning.start net) answers built_no_trees f)
 
--- the lists of cut leaves, by whether the first record is one
-abbrev lists_by : Bool → Record → List Record → List (List ℤ)
-lists_by t r rs = map (λ r. r.numbers) (cond t (r ∷ filter is_cut_leaf rs) (filter is_cut_leaf rs))
-
-none_cut : (rs : List Record) → NoCuts rs → cut_lists rs ≡ []
-none_cut [] n = refl
-none_cut (r ∷ rs) n = subst (λ (t : Bool). lists_by t r rs ≡ []) (sym n.0) (none_cut rs n.1)
-
-no_cuts : (qs : List Question) (known : Known) (answers : List (List Record)) → AreFormed meaning qs known answers → cut_lists (all_of answers) ≡ []
-unfolding AreFormed
-no_cuts [] known answers f = ap (λ (a : List (List Record)). cut_lists (all_of a)) f
-no_cuts (q ∷ qs) known [] f = absurd f
-no_cuts (q ∷ qs) known (rs ∷ more) f =
-    let p = f.0 in
-    let g = f.1 in
-    let z = meaning.shapes known in
-    let none : p.nodes ≡ [] = no_nodes (λ problem prefix r. IsOneOf (leaf_forms problem) r) q known p.head p.nodes g.trees in
-    let front : NoCuts (p.head ∷ p.rows) = (fits_no_cut g.head.0 p.head (each_of IsRowKind (heads q z.sizes) g.head.0 (heads_kinds q z.sizes) g.head.1) g.head.2, rows_no_cut (below q z p.head) p.rows (below_kinds q z p.head) g.rows) in
-    let is : rs ≡ p.head ∷ p.rows = p.all ∙ ap (λ (ns : List Record). p.head ∷ (p.rows ++ ns)) none ∙ ap (λ (xs : List Record). p.head ∷ xs) (append-nil p.rows) in
-    cuts_append rs (all_of more) ∙ ap₂ (λ (a b : List (List ℤ)). a ++ b) (ap cut_lists is ∙ none_cut (p.head ∷ p.rows) front) (no_cuts qs (meaning.learn q known p.head p.rows) more f.2)
-
--- the share by the lists of the cut leaves
-abbrev share_by : List (List ℤ) → Share
-share_by lists = let table = take MAX_SHARED (firsts (pointwise int_eq) lists) in record { table = table; leaf = map (number_in 1 table) lists }
-
-abbrev Fits2 : List (List ℤ) → Share → Type 0
-Fits2 lists share = (length share.table ≤ MAX_SHARED) × AllByRecursion IsShareable share.table × AllZip (IsNamed share.table) share.leaf lists
-
-empty_fits : Fits2 [] (share_by [])
-empty_fits = (omega arith, tt, tt)
-
-pub share_fits : (net : Net) (answers : List (List Record)) → AreFormedOf net answers → FitsShare answers (share_of answers)
-share_fits net answers f =
-    let h : Fits2 (cut_lists (all_of answers)) (share_by (cut_lists (all_of answers))) = subst (λ (us : List (List ℤ)). Fits2 us (share_by us)) (sym (no_cuts built (meaning.start net) answers f)) empty_fits in
-    record { most = h.0; lists = h.1; leaves = h.2 }
+pub second_short : (net : Net) (answers : List (List Record)) (share : Share) → IsNetwork net → AreFormedOf net answers → FitsShare answers share → length (document2 built net answers share) < MAX_DOCUMENT
+second_short net answers share n f fits = second_few net answers share n (none_are_few built (meaning.start net) answers built_no_trees f) fits

@@ -2,6 +2,7 @@
 use Rattle.std.proofs.Common.{◌≡◌, ℕ, List, [], refl, sym, ap, subst, inl, inr, ◌∙◌}
 use Rattle.crn_vec.specs.Network.{Net, IsNetwork}
 use Rattle.crn_cert.specs.declared.answer.Answer.{Answer}
+use Rattle.crn_cert.specs.declared.answer.Verdict.{Verdict}
 use Rattle.crn_cert.specs.Formed.{AreFormed}
 use Rattle.crn_cert.specs.Built.{built}
 use Rattle.crn_ctext.specs.Records.{Record}
@@ -10,10 +11,11 @@ use Rattle.crn_ctext.specs.Documents.{Share, FitsShare, IsDocumentOf, document, 
 use Rattle.crn_ctext.specs.Meaning.{meaning, versions}
 use Rattle.crn_ctext.specs.Judged.{IsGood, AreFormedOf, GoodDocumentsAreOne}
 use Rattle.crn_ctext.specs.Same.{AreSame}
-use Rattle.crn_ctext.specs.Linked.{records_of, AnswersAreOne, SharedAnswersAreOne, ReadDocumentsAreTrue, WrittenDocumentsAreGood, SharedDocumentsAreGood, SharesFit}
+use Rattle.crn_ctext.specs.Linked.{records_of, AreSound, AnswersAreOne, SharedAnswersAreOne, ReadDocumentsAreTrue, WrittenDocumentsAreGood, SharedDocumentsAreGood, SharesFit}
 use Rattle.crn_ctext.proofs.ShortAnswers.{valid_are_formed}
 use Rattle.crn_ctext.proofs.DocumentsGood.{read_is_of}
-use Rattle.crn_ctext.proofs.DocumentsShort.{first_short, second_short, share_fits}
+use Rattle.crn_ctext.proofs.DocumentsShort.{first_short, second_short}
+use Rattle.crn_ctext.proofs.WrittenAnswers.{share_fits}
 use Rattle.crn_ctext.proofs.DocumentsOne.{document_one, second_document_one, versions_apart}
 use Rattle.crn_ctext.proofs.AnswersLinked.{answers_formed, answers_valid, answers_same}
 use Rattle.crn_ctext.proofs.TrueRecords.{records_true}
@@ -31,7 +33,7 @@ shared_good net answers share n f v fits =
     (record { short = second_short net rs share n (answers_formed net answers f) fits; net = net; network = n; answers = rs; valid = answers_valid net answers f v; document = inr (inr (inl refl), (share, fits, refl)) }, refl, refl)
 
 pub shares_fit : SharesFit
-shares_fit net answers f = share_fits net (records_of net answers) (answers_formed net answers f)
+shares_fit net answers n f = share_fits net answers n f
 
 -- ---- what is good
 
@@ -67,8 +69,8 @@ shared_answers_one net other answers others share another n k f g fits gits e =
 
 -- what is read of a document is true or open
 pub read_true : ReadDocumentsAreTrue
-read_true bytes read p =
+read_true alloc bytes read p =
     let g = read_is_of bytes read p in
     let n : IsNetwork read.net = subst IsNetwork g.1 g.0.network in
     let valid = subst (λ (net : Net). documents.AreValid meaning built (meaning.start net) g.0.answers) g.1 g.0.valid in
-    (n, records_true read.net read.blocks n (subst (λ (answers : List (List Record)). documents.AreValid meaning built (meaning.start read.net) answers) g.2 valid))
+    (n, subst (λ (vs : List Verdict). AreSound read.net built vs) g.3 (records_true alloc read.net g.0.answers n valid))

@@ -2,6 +2,7 @@ mod Pieces
 mod WrittenLines
 mod WrittenLeaves
 mod WrittenBlocks
+mod CutLists
 mod WrittenAnswers
 mod Counted
 pub mod CallerLemmas
@@ -24,6 +25,8 @@ mod FormKinds
 mod BlocksWritten
 mod DocumentsWritten
 mod TestsDecided
+mod TablesDecided
+mod TreeRecords
 mod RanksDecided
 mod TheoremsDecided
 mod RanksLinked
@@ -44,7 +47,10 @@ mod SharesApart
 mod DocumentsOne
 mod Alike
 mod TestsAlike
+mod Joined
+mod TablesLinked
 mod AnswersLinked
+mod FrontsSaid
 mod RecordsLinked
 mod TrueRecords
 mod GoodLaws

@@ -1,33 +1,37 @@
 -- Formed records of the built questions are the records of formed answers.
-use Rattle.std.proofs.Common.{◌≡◌, ◌≤◌, ◌<◌, ◌+◌, ◌-◌, ◌++◌, ◌∙◌, ℕ, zero, suc, true, false, List, [], ◌∷◌, length, map, refl, sym, ap, ap₂, subst, inl, inr, arith}
+use Rattle.std.proofs.Common.{◌≡◌, ◌≤◌, ◌<◌, ◌+◌, ◌-◌, ◌++◌, ◌∙◌, ℕ, zero, suc, true, false, List, [], ◌∷◌, length, map, refl, sym, ap, ap₂, subst, inl, inr, arith, Global}
 use Rattle.std.specs.Prelude.{ℤ, pos, min, codes, slice_index}
 use Rattle.std.specs.List.{AllByRecursion, AllZip, flat_map, range_with_len}
 use Rattle.std.proofs.lemmas.List.{append-nil, length-map}
 use Rattle.crn_vec.specs.Kept.{KeptInts, KeptNums}
 use Rattle.crn_vec.specs.Network.{Net}
 use Rattle.crn_vec.specs.declared.signs.Sign.{Sign}
-use Rattle.crn_cert.specs.declared.answer.Gap.TheVariants.{Wide, Rests}
+use Rattle.crn_vec.specs.declared.limits.TheConstants.{MAX_BUDGET}
+use Rattle.crn_vec.specs.Influence.{plain_table, strong_table}
+use Rattle.crn_cert.specs.declared.answer.Gap.TheVariants.{Wide, Budget, Rests}
 use Rattle.crn_cert.specs.declared.answer.Verdict.{Verdict}
-use Rattle.crn_cert.specs.declared.answer.Verdict.TheVariants.{Classes, Strong, Rank, Deficiency, Yes, YesWeak, YesVec, NoReaction, NoVec, NoNumber, NoTerminal, NoClass, NoSum, Unknown}
+use Rattle.crn_cert.specs.declared.answer.Verdict.TheVariants.{Classes, Strong, Rank, Deficiency, Yes, YesWeak, YesVec, NoReaction, NoVec, NoNumber, NoTerminal, NoClass, NoSum, Unknown, NoPair}
 use Rattle.crn_cert.specs.declared.answer.Proof.{Proof}
-use Rattle.crn_cert.specs.declared.answer.Proof.TheVariants.{Nothing, Forest, Strong as StrongTrees, Back, Rank as RankRows, Ranks}
+use Rattle.crn_cert.specs.declared.answer.Proof.TheVariants.{Nothing, Forest, Strong as StrongTrees, Back, Rank as RankRows, Ranks, One}
 use Rattle.crn_cert.specs.declared.answer.Answer.{Answer}
-use Rattle.crn_cert.specs.Questions.{Earlier, Question, Q1, Q2, Q3, Q4, Q5, Q6, Q7, Q8, Q9, Q10}
+use Rattle.crn_cert.specs.Questions.{Earlier, Question, Q1, Q2, Q3, Q4, Q5, Q6, Q7, Q8, Q9, Q10, Q11, Q12, Q13, Q14, Q15}
 use Rattle.crn_cert.specs.Formed.{IsBasisOf, IsFormedOf, AreFormed}
 use Rattle.crn_cert.specs.Ranges.{AreFrom, AreFree}
 use Rattle.crn_cert.specs.Valid.{linkage_count, class_places}
 use Rattle.crn_ctext.specs.Records.{Record, Form, CountAndPart, ClassWide, Takes, AreNarrow, AreOf, Fits}
 use Rattle.crn_ctext.specs.Kinds.{small, just, small_form, free_form}
-use Rattle.crn_ctext.specs.Questions.{heads, head, yes, no, no_by, wide, rests, open_by, classes, class_forms}
+use Rattle.crn_ctext.specs.Questions.{heads, head, yes, no, no_by, wide, rests, open_by, classes, class_forms, spent}
 use Rattle.crn_ctext.specs.Blocks.{Problem, problems, below}
 use Rattle.crn_ctext.specs.Documents.{one_word, AreTrees, IsOneOf, leaf_forms}
 use Rattle.crn_ctext.specs.Documents as documents
 use Rattle.crn_ctext.specs.Answers.{small_record, rank_records, head_with, open_head, head_of, records_below, proof_nodes, records, all_records}
-use Rattle.crn_ctext.specs.Meaning.{Known, lengths, reactions_by_class, shapes_of, sizes_of, verdict_of, learn_of, verdicts_said, meaning}
+use Rattle.crn_ctext.specs.Meaning.{Known, lengths, reactions_by_class, shapes_of, sizes_of, verdict_of, learn_of, verdicts_said, table_problem, meaning}
 use Rattle.crn_ctext.specs.Same.{said}
 use Rattle.crn_cert.specs.Built.{built}
 use Rattle.crn_cert.specs.Answers.{verdicts_of}
 use Rattle.crn_ctext.proofs.Alike.{IsAlike, alike_then, labels_alike, counts_alike}
+use Rattle.crn_ctext.proofs.FrontsSaid.{front_says}
+use Rattle.crn_ctext.proofs.TreeRecords.{tree_of}
 use Rattle.crn_ctext.proofs.MeaningShort.{lists_counted}
 use Rattle.crn_ctext.proofs.RanksLinked.{back_again, naturals_back, record_is, free_row, proof_with, rank_back, classes_back, places_from, sizes_from, places_at, proofs_alike, basis_alike, FitFields, number_back, rising_back, wide_back}
 
@@ -438,32 +442,134 @@ one_answered known h rows nodes (form, inr (inr (inr (inr (inl e)))), fits) =
     at_head known Q10 h (open_head Q10 (Rests 6)) rows nodes (rests_back (codes "q10") 7 6 h f) (λ z t. (Unknown (Rests 6), Nothing, (λ earlier e. (refl, refl)), refl, zip_none rows z, t, t, refl))
 one_answered known h rows nodes (form, inr (inr (inr (inr (inr none)))), fits) = absurd none
 
+-- ---- answers with trees
+
+-- The parts of a block are those of an answer that is formed after verdicts that say what is known, and its verdict is the one that is read of the block.
+abbrev pub IsTold : Known → Question → Record → List Record → List Record → Type 0
+IsTold known q head rows nodes = (v : Verdict) × (p : Proof) × ((earlier : Earlier) → IsAlike known earlier → IsFormedOf known.net earlier q v p)
+    × (head ≡ head_of q v) × (rows ≡ records_below (shapes_of known) (record { verdict = v; proof = p })) × (nodes ≡ proof_nodes p)
+    × (verdict_of q (sizes_of known) head rows ≡ v)
+
+abbrev TellParts : Known → Question → Record → List Record → List Record → Type 0
+TellParts known q head rows nodes = AllZip Fits (below q (shapes_of known) head) rows → AreTrees Leaf (problems meaning q known head) nodes → IsTold known q head rows nodes
+
+told_at : (known : Known) (q : Question) (head other : Record) (rows nodes : List Record) → head ≡ other → TellParts known q other rows nodes → TellParts known q head rows nodes
+told_at known q head other rows nodes e f = subst (λ (h : Record). TellParts known q h rows nodes) (sym e) f
+
+-- two rows of free numbers
+free_pair : (first second : List ℕ) (count : ℕ) (rows : List Record) → AllZip Fits (free_form first count ∷ free_form second count ∷ []) rows
+    → (xs : List ℤ) × (ys : List ℤ) × (rows ≡ one_word first xs ∷ one_word second ys ∷ []) × (AreFree count xs × AreFree count ys)
+free_pair first second count [] z = absurd z
+free_pair first second count (r ∷ rows) z =
+    let a = free_row first count r z.0 in
+    let b = free_alone second count rows z.1 in
+    (r.numbers, b.0, ap₂ (λ (x : Record) (xs : List Record). x ∷ xs) a.0 b.1, (a.1, b.2))
+
+concordance_answered : Global → (known : Known) (h : Record) (rows nodes : List Record) → IsOneOf (heads Q14 (sizes_of known)) h → TellParts known Q14 h rows nodes
+unfolding kept kept_ints
+concordance_answered alloc known h rows nodes (form, inl e, fits) =
+    let net = known.net in
+    let f : Fits (head (codes "q14") 1 yes []) h = subst (λ (f : Form). Fits f h) e fits in
+    told_at known Q14 h (head_with Q14 yes []) rows nodes (record_is h (codes "q14" ∷ yes) [] f.0 f.1) (λ z t.
+    let tree = tree_of alloc net (table_problem net (plain_table net)) (length net.names) [] t.0 (omega arith) t.3 in
+    (Yes, One tree.0, (λ earlier e. (tt, tree.2)), refl, zip_none rows z, t.2 ∙ ap (λ (x : List Record). t.0 ++ x) t.4 ∙ append-nil t.0 ∙ tree.1, refl))
+concordance_answered alloc known h rows nodes (form, inr (inl e), fits) =
+    let f : Fits (head (codes "q14") 2 no []) h = subst (λ (f : Form). Fits f h) e fits in
+    told_at known Q14 h (head_with Q14 no []) rows nodes (record_is h (codes "q14" ∷ no) [] f.0 f.1) (λ z t.
+    let a = free_pair (codes "alpha") (codes "weights") (length known.net.reactions) rows z in
+    (NoPair (kept_ints a.0) (kept_ints a.1), Nothing, (λ earlier e. (tt, (a.3.0, a.3.1))), refl, a.2, t, ap (λ (rs : List Record). verdict_of Q14 (sizes_of known) (head_with Q14 no []) rs) a.2))
+concordance_answered alloc known h rows nodes (form, inr (inr (inl e)), fits) =
+    let f : Fits (wide (codes "q14") 3 2 (length known.net.reactions) (length known.net.names)) h = subst (λ (f : Form). Fits f h) e fits in
+    let b = wide_back 2 (length known.net.reactions) (length known.net.names) h.numbers f.1 in
+    told_at known Q14 h (open_head Q14 (Wide 2 0 b.0 (kept b.1))) rows nodes (record_is h (codes "q14" ∷ open_by (codes "wide")) (map pos (2 ∷ 0 ∷ b.0 ∷ b.1)) f.0 b.2) (λ z t.
+    (Unknown (Wide 2 0 b.0 (kept b.1)), Nothing, (λ earlier e. ((refl, refl, b.3), refl)), refl, zip_none rows z, t, open_by_wide known Q14 2 0 b.0 b.1 rows))
+concordance_answered alloc known h rows nodes (form, inr (inr (inr (inl e))), fits) =
+    let f : Fits (spent (codes "q14") 4) h = subst (λ (f : Form). Fits f h) e fits in
+    let n = one_number 1 MAX_BUDGET h.numbers f.1 in
+    told_at known Q14 h (open_head Q14 (Budget n.0)) rows nodes (record_is h (codes "q14" ∷ open_by (codes "budget")) (pos n.0 ∷ []) f.0 n.1) (λ z t.
+    (Unknown (Budget n.0), Nothing, (λ earlier e. (n.2, refl)), refl, zip_none rows z, t, refl))
+concordance_answered alloc known h rows nodes (form, inr (inr (inr (inr none))), fits) = absurd none
+
+strong_concordance_answered : Global → (known : Known) (h : Record) (rows nodes : List Record) → IsOneOf (heads Q15 (sizes_of known)) h → TellParts known Q15 h rows nodes
+unfolding kept kept_ints
+strong_concordance_answered alloc known h rows nodes (form, inl e, fits) =
+    let net = known.net in
+    let f : Fits (head (codes "q15") 1 yes []) h = subst (λ (f : Form). Fits f h) e fits in
+    told_at known Q15 h (head_with Q15 yes []) rows nodes (record_is h (codes "q15" ∷ yes) [] f.0 f.1) (λ z t.
+    let tree = tree_of alloc net (table_problem net (strong_table net)) (length net.names) [] t.0 (omega arith) t.3 in
+    (Yes, One tree.0, (λ earlier e. (tt, tree.2)), refl, zip_none rows z, t.2 ∙ ap (λ (x : List Record). t.0 ++ x) t.4 ∙ append-nil t.0 ∙ tree.1, refl))
+strong_concordance_answered alloc known h rows nodes (form, inr (inl e), fits) =
+    let f : Fits (head (codes "q15") 2 no []) h = subst (λ (f : Form). Fits f h) e fits in
+    told_at known Q15 h (head_with Q15 no []) rows nodes (record_is h (codes "q15" ∷ no) [] f.0 f.1) (λ z t.
+    let a = free_pair (codes "alpha") (codes "weights") (length known.net.reactions) rows z in
+    (NoPair (kept_ints a.0) (kept_ints a.1), Nothing, (λ earlier e. (tt, (a.3.0, a.3.1))), refl, a.2, t, ap (λ (rs : List Record). verdict_of Q15 (sizes_of known) (head_with Q15 no []) rs) a.2))
+strong_concordance_answered alloc known h rows nodes (form, inr (inr (inl e)), fits) =
+    let f : Fits (wide (codes "q15") 3 2 (length known.net.reactions) (length known.net.names)) h = subst (λ (f : Form). Fits f h) e fits in
+    let b = wide_back 2 (length known.net.reactions) (length known.net.names) h.numbers f.1 in
+    told_at known Q15 h (open_head Q15 (Wide 2 0 b.0 (kept b.1))) rows nodes (record_is h (codes "q15" ∷ open_by (codes "wide")) (map pos (2 ∷ 0 ∷ b.0 ∷ b.1)) f.0 b.2) (λ z t.
+    (Unknown (Wide 2 0 b.0 (kept b.1)), Nothing, (λ earlier e. ((refl, refl, b.3), refl)), refl, zip_none rows z, t, open_by_wide known Q15 2 0 b.0 b.1 rows))
+strong_concordance_answered alloc known h rows nodes (form, inr (inr (inr (inl e))), fits) =
+    let f : Fits (spent (codes "q15") 4) h = subst (λ (f : Form). Fits f h) e fits in
+    let n = one_number 1 MAX_BUDGET h.numbers f.1 in
+    told_at known Q15 h (open_head Q15 (Budget n.0)) rows nodes (record_is h (codes "q15" ∷ open_by (codes "budget")) (pos n.0 ∷ []) f.0 n.1) (λ z t.
+    (Unknown (Budget n.0), Nothing, (λ earlier e. (n.2, refl)), refl, zip_none rows z, t, refl))
+strong_concordance_answered alloc known h rows nodes (form, inr (inr (inr (inr none))), fits) = absurd none
+
 -- ---- all answers
 
 abbrev pub IsReadable : Question → Type 0
 IsReadable q = (known : Known) (h : Record) (rows nodes : List Record) → IsOneOf (heads q (sizes_of known)) h → FromParts known q h rows nodes
 
-answers_by : (qs : List Question) → AllByRecursion IsReadable qs → (known : Known) (answers : List (List Record)) → documents.AreFormed meaning qs known answers
+-- the same of a question whose answers may have trees, which lie in the memory of an allocator
+abbrev pub IsTellable : Question → Type 0
+IsTellable q = Global → (known : Known) (h : Record) (rows nodes : List Record) → IsOneOf (heads q (sizes_of known)) h → TellParts known q h rows nodes
+
+abbrev pub ReadFor : Question → Type 0
+ReadFor Q14 = IsTellable Q14
+ReadFor Q15 = IsTellable Q15
+ReadFor q = IsReadable q
+
+tellable : (q : Question) → IsReadable q → IsTellable q
+tellable q r alloc known h rows nodes o z t = let a = r known h rows nodes o z t in (a.0, a.1, a.2, a.3, a.4, a.5, a.7)
+
+told : (q : Question) → ReadFor q → IsTellable q
+told Q1 r = tellable Q1 r
+told Q2 r = tellable Q2 r
+told Q3 r = tellable Q3 r
+told Q4 r = tellable Q4 r
+told Q5 r = tellable Q5 r
+told Q6 r = tellable Q6 r
+told Q7 r = tellable Q7 r
+told Q8 r = tellable Q8 r
+told Q9 r = tellable Q9 r
+told Q10 r = tellable Q10 r
+told Q11 r = tellable Q11 r
+told Q12 r = tellable Q12 r
+told Q13 r = tellable Q13 r
+told Q14 r = r
+told Q15 r = r
+
+answers_by : Global → (qs : List Question) → AllByRecursion ReadFor qs → (known : Known) (answers : List (List Record)) → documents.AreFormed meaning qs known answers
     → (given : List Answer) × ((earlier : Earlier) → IsAlike known earlier → AreFormed known.net earlier qs given) × (all_records meaning qs known given ≡ answers) × (verdicts_said qs known answers ≡ verdicts_of given)
 unfolding documents.AreFormed all_records
-answers_by [] r known answers f = ([], (λ earlier e. tt), sym f, refl)
-answers_by (q ∷ qs) r known [] f = absurd f
-answers_by (q ∷ qs) r known (rs ∷ more) f =
+answers_by alloc [] r known answers f = ([], (λ earlier e. tt), sym f, refl)
+answers_by alloc (q ∷ qs) r known [] f = absurd f
+answers_by alloc (q ∷ qs) r known (rs ∷ more) f =
     let p = f.0 in
     let formed = f.1 in
-    let one = r.0 known p.head p.rows p.nodes formed.head formed.rows formed.trees in
+    let one = told q r.0 alloc known p.head p.rows p.nodes formed.head formed.rows formed.trees in
     let a : Answer = record { verdict = one.0; proof = one.1 } in
-    let rest = answers_by qs r.1 (meaning.learn q known p.head p.rows) more f.2 in
+    let rest = answers_by alloc qs r.1 (meaning.learn q known p.head p.rows) more f.2 in
     let learned : meaning.learn q known (head_of q a.verdict) (records_below (shapes_of known) a) ≡ meaning.learn q known p.head p.rows = ap₂ (λ (h : Record) (rows : List Record). meaning.learn q known h rows) (sym one.3) (sym one.4) in
     let block : records q (shapes_of known) a ≡ rs = ap₂ (λ (h : Record) (t : List Record). h ∷ t) (sym one.3) (ap₂ (λ (x y : List Record). x ++ y) (sym one.4) (sym one.5)) ∙ sym p.all in
     let later : all_records meaning qs (meaning.learn q known (head_of q a.verdict) (records_below (shapes_of known) a)) rest.0 ≡ more = ap (λ (k : Known). all_records meaning qs k rest.0) learned ∙ rest.2 in
-    let bare : p.rows ++ p.nodes ≡ p.rows = ap (λ (t : List Record). p.rows ++ t) one.6 ∙ append-nil p.rows in
-    let told : verdicts_said (q ∷ qs) known (rs ∷ more) ≡ a.verdict ∷ verdicts_of rest.0 = ap (λ (t : List Record). verdicts_said (q ∷ qs) known (t ∷ more)) p.all
-    ∙ ap (λ (t : List Record). verdict_of q (sizes_of known) p.head t ∷ verdicts_said qs (learn_of q known p.head t) more) bare
-    ∙ ap₂ (λ (v : Verdict) (vs : List Verdict). v ∷ vs) one.7 rest.3 in
-    (a ∷ rest.0, (λ earlier e. let g = one.2 in let h = rest.1 in (g earlier e, h (earlier ++ (q, a.verdict) ∷ []) (alike_then known.earlier earlier q (verdict_of q (sizes_of known) p.head p.rows) a.verdict e (ap said one.7)))), ap₂ (λ (x : List Record) (xs : List (List Record)). x ∷ xs) block later, told)
+    let alone : verdict_of q (sizes_of known) p.head (p.rows ++ p.nodes) ≡ verdict_of q (sizes_of known) p.head p.rows = front_says Leaf q known p.head p.rows p.nodes formed.trees in
+    let learns : learn_of q known p.head (p.rows ++ p.nodes) ≡ learn_of q known p.head p.rows = ap (λ (v : Verdict). record { net = known.net; earlier = known.earlier ++ (q, v) ∷ [] }) alone in
+    let said_all : verdicts_said (q ∷ qs) known (rs ∷ more) ≡ a.verdict ∷ verdicts_of rest.0 = ap (λ (t : List Record). verdicts_said (q ∷ qs) known (t ∷ more)) p.all
+    ∙ ap₂ (λ (v : Verdict) (vs : List Verdict). v ∷ vs) (alone ∙ one.6) (ap (λ (k : Known). verdicts_said qs k more) learns ∙ rest.3) in
+    (a ∷ rest.0, (λ earlier e. let g = one.2 in let h = rest.1 in (g earlier e, h (earlier ++ (q, a.verdict) ∷ []) (alike_then known.earlier earlier q (verdict_of q (sizes_of known) p.head p.rows) a.verdict e (ap said one.6)))), ap₂ (λ (x : List Record) (xs : List (List Record)). x ∷ xs) block later, said_all)
 
-pub records_answered : (net : Net) (answers : List (List Record)) → documents.AreFormed meaning built (meaning.start net) answers → (given : List Answer) × AreFormed net [] built given × (all_records meaning built (meaning.start net) given ≡ answers) × (verdicts_said built (meaning.start net) answers ≡ verdicts_of given)
-records_answered net answers f =
-    let r = answers_by built (linkage_answered, (strong_answered, (reversible_answered, (weak_answered, (rank_answered, (deficiency_answered, (dependence_answered, (conservation_answered, (zero_answered, (one_answered, tt)))))))))) (meaning.start net) answers f in
+pub records_answered : Global → (net : Net) (answers : List (List Record)) → documents.AreFormed meaning built (meaning.start net) answers → (given : List Answer) × AreFormed net [] built given × (all_records meaning built (meaning.start net) given ≡ answers) × (verdicts_said built (meaning.start net) answers ≡ verdicts_of given)
+records_answered alloc net answers f =
+    let r = answers_by alloc built (linkage_answered, (strong_answered, (reversible_answered, (weak_answered, (rank_answered, (deficiency_answered, (dependence_answered, (conservation_answered, (zero_answered, (one_answered, tt)))))))))) (meaning.start net) answers f in
     (r.0, (let g = r.1 in g [] refl), r.2, r.3)

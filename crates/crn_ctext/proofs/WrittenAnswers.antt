@@ -1,5 +1,5 @@
 -- The answers to the questions that are built, xs documents write them.
-use Rattle.std.proofs.Common.{◌↔◌, ap₂, subst, cond, filter, ◌≤◌, ℤ, if◌then◌else◌, ◌≡◌, ℕ, zero, suc, ◌+◌, Bool, true, false, List, [], ◌∷◌, ◌++◌, length, map, take, codes, refl, sym, ap, ◌∙◌, append_assoc, arith}
+use Rattle.std.proofs.Common.{◌↔◌, ap₂, subst, cond, filter, ◌≤◌, ℤ, if◌then◌else◌, ◌≡◌, ℕ, zero, suc, ◌+◌, Bool, true, false, List, [], ◌∷◌, ◌++◌, length, map, take, codes, refl, sym, ap, ◌∙◌, append_assoc, inl, inr, arith}
 use Rattle.std.specs.List.{AllByRecursion, AllZip, flat_map}
 use Rattle.std.specs.Ordering.{int_eq}
 use Rattle.std.specs.Cmp.Lexicographic.{pointwise}
@@ -14,10 +14,13 @@ use Rattle.crn_cert.specs.declared.tree.Tree.{Tree, Split', CutA, CutB, Flat, No
 use Rattle.crn_ctext.specs.Documents as documents
 use Rattle.crn_ctext.specs.Shares.{as_share}
 use Rattle.std.proofs.lemmas.List.{append-nil}
-use Rattle.crn_vec.specs.Network.{Net}
+use Rattle.crn_vec.specs.Network.{Net, IsNetwork}
+use Rattle.crn_cert.proofs.CallerLemmas.{shares_fit as cut_shares_fit}
+use Rattle.crn_ctext.proofs.TablesLinked.{TableRows, IsTreeOrNone, tree_or_none}
+use Rattle.crn_ctext.proofs.CutLists.{some_species, few_species, one_tree_cuts}
 use Rattle.crn_cert.specs.Built.{built}
 use Rattle.crn_cert.specs.Formed.{AreFormed, RowsMayBe, RowsLinkage, RowsStrong, RowsReversible, RowsWeak, RowsRank, RowsDeficiency, RowsPositive, RowsZero, RowsOne}
-use Rattle.crn_cert.specs.Questions.{Earlier, Question, Q1, Q2, Q3, Q4, Q5, Q6, Q7, Q8, Q9, Q10, questions}
+use Rattle.crn_cert.specs.Questions.{Earlier, Question, Q1, Q2, Q3, Q4, Q5, Q6, Q7, Q8, Q9, Q10, questions, Q11, Q12, Q13, Q14, Q15}
 use Rattle.crn_cert.specs.declared.answer.Verdict.{Verdict}
 use Rattle.crn_cert.specs.declared.answer.Verdict.TheVariants.{Classes, Strong, Rank, Deficiency, Yes, YesWeak, YesVec, YesSignal, No, NoReaction, NoVec, NoNumber, NoTerminal, NoClass, NoSum, NoDependence, NoCycle, NoPair, NotRegular, OnlyZero, Plane, NotApplicable, Unknown}
 use Rattle.crn_cert.specs.declared.answer.Proof.{Proof}
@@ -41,8 +44,25 @@ IsShort (proof.One tree) = ⊥
 IsShort (proof.Two tree second) = ⊥
 IsShort p = Unit {0}
 
--- an answer without them has the same records, whatever the pairs
-same_rows : (s other : Shapes) (p : Proof) → IsShort p → proof_records s p ≡ proof_records other p
+-- the proof has no sides of pairs
+abbrev pub SeesNoPairs : Proof → Type 0
+SeesNoPairs (proof.Sides rows) = ⊥
+SeesNoPairs p = Unit {0}
+
+short_sees : (p : Proof) → IsShort p → SeesNoPairs p
+short_sees proof.Nothing h = tt
+short_sees (proof.Forest up depth) h = tt
+short_sees (proof.Strong from from_depth to to_depth level) h = tt
+short_sees (proof.Back back) h = tt
+short_sees (proof.Rank p) h = tt
+short_sees (proof.Ranks ps) h = tt
+short_sees (proof.Sides rows) h = h
+short_sees (proof.Ties rows) h = tt
+short_sees (proof.One tree) h = tt
+short_sees (proof.Two tree second) h = tt
+
+-- an answer without sides has the same records, whatever the pairs
+same_rows : (s other : Shapes) (p : Proof) → SeesNoPairs p → proof_records s p ≡ proof_records other p
 same_rows s other proof.Nothing h = refl
 same_rows s other (proof.Forest up depth) h = refl
 same_rows s other (proof.Strong from from_depth to to_depth level) h = refl
@@ -54,7 +74,7 @@ same_rows s other (proof.Ties rows) h = refl
 same_rows s other (proof.One tree) h = refl
 same_rows s other (proof.Two tree second) h = refl
 
-same_records : (q : Question) (s other : Shapes) (a : Answer) → IsShort a.proof → records q s a ≡ records q other a
+same_records : (q : Question) (s other : Shapes) (a : Answer) → SeesNoPairs a.proof → records q s a ≡ records q other a
 same_records q s other a h = rw (same_rows s other a.proof h) refl
 
 -- ---- formed answers to the questions that are built have neither
@@ -375,26 +395,117 @@ rows_one : (net : Net) (earlier : Earlier) (v : Verdict) (p : Proof) → RowsMay
 rows_one net earlier (Unknown gap) p h = no_nothing p h
 rows_one net earlier v p h = no_one v p h
 
--- no answer has sides or trees
+-- no answer has sides
 abbrev pub AreShort : List Answer → Type 0
-AreShort xs = AllByRecursion (λ (a : Answer). IsShort a.proof) xs
+AreShort xs = AllByRecursion (λ (a : Answer). SeesNoPairs a.proof) xs
 
--- a formed answer to the question has neither
+-- a formed answer to the question has neither sides nor trees
 abbrev IsShortQuestion : Question → Type 0
 IsShortQuestion q = (net : Net) (earlier : Earlier) (v : Verdict) (p : Proof) → RowsMayBe net earlier q v p → IsShort p
 
-short_by : (net : Net) (earlier : Earlier) (qs : List Question) (xs : List Answer) → AllByRecursion IsShortQuestion qs → AreFormed net earlier qs xs → AreShort xs
+-- the same of each question but those on concordance, whose answers may have a tree
+abbrev ShortFor : Question → Type 0
+ShortFor Q14 = Unit {0}
+ShortFor Q15 = Unit {0}
+ShortFor q = IsShortQuestion q
+
+-- a formed answer to the question has no sides, and its cuts may be shared
+record IsPlainFor (q : Question) : Type 0 where
+  sees : (net : Net) (earlier : Earlier) (v : Verdict) (p : Proof) → RowsMayBe net earlier q v p → SeesNoPairs p
+  cuts : (net : Net) (earlier : Earlier) (v : Verdict) (p : Proof) → 1 ≤ length net.names → length net.names ≤ MAX_NUMBERS → RowsMayBe net earlier q v p → AllByRecursion (IsShareable MAX_NUMBERS) (cuts_in p)
+
+-- a proof without trees has no cuts
+no_cuts : (p : Proof) → IsShort p → cuts_in p ≡ []
+no_cuts proof.Nothing h = refl
+no_cuts (proof.Forest up depth) h = refl
+no_cuts (proof.Strong from from_depth to to_depth level) h = refl
+no_cuts (proof.Back back) h = refl
+no_cuts (proof.Rank p) h = refl
+no_cuts (proof.Ranks ps) h = refl
+no_cuts (proof.Sides rows) h = absurd h
+no_cuts (proof.Ties rows) h = refl
+no_cuts (proof.One tree) h = absurd h
+no_cuts (proof.Two tree second) h = absurd h
+
+short_plain : (q : Question) → IsShortQuestion q → IsPlainFor q
+short_plain q s = record {
+  sees = λ net earlier v p h. short_sees p (s net earlier v p h);
+  cuts = λ net earlier v p some few h. subst (AllByRecursion (IsShareable MAX_NUMBERS)) (sym (no_cuts p (s net earlier v p h))) tt;
+}
+
+tree_sees : (net : Net) (p : Proof) → IsTreeOrNone net p → SeesNoPairs p
+tree_sees net p (inl none) = subst SeesNoPairs (sym none) tt
+tree_sees net p (inr t) = subst SeesNoPairs (sym t.1) tt
+
+concordant_rows : (net : Net) (earlier : Earlier) (v : Verdict) (p : Proof) → RowsMayBe net earlier Q14 v p → TableRows net v p
+concordant_rows net earlier (Unknown gap) p h = h
+concordant_rows net earlier v p h = h
+
+strongly_rows : (net : Net) (earlier : Earlier) (v : Verdict) (p : Proof) → RowsMayBe net earlier Q15 v p → TableRows net v p
+strongly_rows net earlier (Unknown gap) p h = h
+strongly_rows net earlier v p h = h
+
+concordant_plain : IsPlainFor Q14
+concordant_plain = record {
+  sees = λ net earlier v p h. tree_sees net p (tree_or_none net v p (concordant_rows net earlier v p h));
+  cuts = λ net earlier v p some few h. one_tree_cuts net p some few (tree_or_none net v p (concordant_rows net earlier v p h));
+}
+
+strongly_plain : IsPlainFor Q15
+strongly_plain = record {
+  sees = λ net earlier v p h. tree_sees net p (tree_or_none net v p (strongly_rows net earlier v p h));
+  cuts = λ net earlier v p some few h. one_tree_cuts net p some few (tree_or_none net v p (strongly_rows net earlier v p h));
+}
+
+plain_for : (q : Question) → ShortFor q → IsPlainFor q
+plain_for Q1 s = short_plain Q1 s
+plain_for Q2 s = short_plain Q2 s
+plain_for Q3 s = short_plain Q3 s
+plain_for Q4 s = short_plain Q4 s
+plain_for Q5 s = short_plain Q5 s
+plain_for Q6 s = short_plain Q6 s
+plain_for Q7 s = short_plain Q7 s
+plain_for Q8 s = short_plain Q8 s
+plain_for Q9 s = short_plain Q9 s
+plain_for Q10 s = short_plain Q10 s
+plain_for Q11 s = short_plain Q11 s
+plain_for Q12 s = short_plain Q12 s
+plain_for Q13 s = short_plain Q13 s
+plain_for Q14 s = concordant_plain
+plain_for Q15 s = strongly_plain
+
+short_by : (net : Net) (earlier : Earlier) (qs : List Question) (xs : List Answer) → AllByRecursion ShortFor qs → AreFormed net earlier qs xs → AreShort xs
 short_by net earlier [] [] s h = tt
 short_by net earlier [] (a ∷ xs) s h = absurd h
 short_by net earlier (q ∷ qs) [] s h = absurd h
-short_by net earlier (q ∷ qs) (a ∷ xs) s h = (s.0 net earlier a.verdict a.proof h.0.1, short_by net (earlier ++ (q, a.verdict) ∷ []) qs xs s.1 h.1)
+short_by net earlier (q ∷ qs) (a ∷ xs) s h =
+    let p = plain_for q s.0 in
+    let sees = p.sees in
+    (sees net earlier a.verdict a.proof h.0.1, short_by net (earlier ++ (q, a.verdict) ∷ []) qs xs s.1 h.1)
 
-built_short : AllByRecursion IsShortQuestion built
+both_all : (P : List ℤ → Type 0) (xs ys : List (List ℤ)) → AllByRecursion P xs → AllByRecursion P ys → AllByRecursion P (xs ++ ys)
+both_all P [] ys a b = b
+both_all P (x ∷ xs) ys a b = (a.0, both_all P xs ys a.1 b)
+
+cuts_by : (net : Net) (earlier : Earlier) (qs : List Question) (xs : List Answer) → 1 ≤ length net.names → length net.names ≤ MAX_NUMBERS → AllByRecursion ShortFor qs → AreFormed net earlier qs xs → AllByRecursion (IsShareable MAX_NUMBERS) (all_cuts xs)
+cuts_by net earlier [] [] some few s h = tt
+cuts_by net earlier [] (a ∷ xs) some few s h = absurd h
+cuts_by net earlier (q ∷ qs) [] some few s h = absurd h
+cuts_by net earlier (q ∷ qs) (a ∷ xs) some few s h =
+    let p = plain_for q s.0 in
+    let cuts = p.cuts in
+    both_all (IsShareable MAX_NUMBERS) (cuts_in a.proof) (all_cuts xs) (cuts net earlier a.verdict a.proof some few h.0.1) (cuts_by net (earlier ++ (q, a.verdict) ∷ []) qs xs some few s.1 h.1)
+
+built_short : AllByRecursion ShortFor built
 built_short = (rows_linkage, (rows_strong, (rows_reversible, (rows_weak, (rows_rank, (rows_deficiency, (rows_dependence, (rows_conservation, (rows_zero, (rows_one, tt))))))))))
 
--- formed answers to the questions that are built have neither
+-- formed answers to the questions that are built have no sides
 pub all_short : (net : Net) (xs : List Answer) → AreFormed net [] built xs → AreShort xs
 all_short net xs h = short_by net [] built xs built_short h
+
+-- the cuts of formed answers of a network may be shared
+pub cuts_shareable : (net : Net) (xs : List Answer) → IsNetwork net → AreFormed net [] built xs → AllByRecursion (IsShareable MAX_NUMBERS) (all_cuts xs)
+cuts_shareable net xs n h = cuts_by net [] built xs (some_species net n) (few_species net n) built_short h
 
 -- there are xs many answers xs questions
 pub as_many : (net : Net) (earlier : Earlier) (qs : List Question) (xs : List Answer) → AreFormed net earlier qs xs → length xs ≡ length qs
@@ -453,26 +564,15 @@ document2_lines net xs share h =
 
 -- ---- cut leaves
 
--- a proof without trees has no cuts
-no_cuts : (p : Proof) → IsShort p → cuts_in p ≡ []
-no_cuts proof.Nothing h = refl
-no_cuts (proof.Forest up depth) h = refl
-no_cuts (proof.Strong from from_depth to to_depth level) h = refl
-no_cuts (proof.Back back) h = refl
-no_cuts (proof.Rank p) h = refl
-no_cuts (proof.Ranks ps) h = refl
-no_cuts (proof.Sides rows) h = absurd h
-no_cuts (proof.Ties rows) h = refl
-no_cuts (proof.One tree) h = absurd h
-no_cuts (proof.Two tree second) h = absurd h
-
-none_of_all : (xs : List Answer) → AreShort xs → all_cuts xs ≡ []
-none_of_all [] h = refl
-none_of_all (a ∷ xs) h = ap (λ (t : List (List ℤ)). t ++ all_cuts xs) (no_cuts a.proof h.0) ∙ none_of_all xs h.1
+none_of_all : (net : Net) (earlier : Earlier) (qs : List Question) (xs : List Answer) → AllByRecursion IsShortQuestion qs → AreFormed net earlier qs xs → all_cuts xs ≡ []
+none_of_all net earlier [] [] s h = refl
+none_of_all net earlier [] (a ∷ xs) s h = absurd h
+none_of_all net earlier (q ∷ qs) [] s h = absurd h
+none_of_all net earlier (q ∷ qs) (a ∷ xs) s h = ap (λ (t : List (List ℤ)). t ++ all_cuts xs) (no_cuts a.proof (s.0 net earlier a.verdict a.proof h.0.1)) ∙ none_of_all net (earlier ++ (q, a.verdict) ∷ []) qs xs s.1 h.1
 
 -- formed answers to the questions that are built have no cuts
 pub built_cuts : (net : Net) (xs : List Answer) → AreFormed net [] built xs → all_cuts xs ≡ []
-built_cuts net xs h = none_of_all xs (all_short net xs h)
+built_cuts net xs h = none_of_all net [] built xs built_short h
 
 -- the lists of the cut leaves of records are those of the trees' cuts
 cuts_append : (xs ys : List Record) → cut_lists (xs ++ ys) ≡ cut_lists xs ++ cut_lists ys
@@ -580,3 +680,9 @@ shares_fit_both net xs share h =
       (λ f. record { most = f.few; lists = l.0 f.lists; leaves = subst (λ (us : List (List ℤ)). AllZip (documents.IsNamed share.table) share.leaf us) (sym e) (z.0 f.leaves) }),
       (λ f. record { few = f.most; lists = l.1 f.lists; leaves = z.1 (subst (λ (us : List (List ℤ)). AllZip (documents.IsNamed share.table) share.leaf us) e f.leaves) }),
     )
+
+-- the share of formed answers of a network fits their records
+pub share_fits : (net : Net) (xs : List Answer) → IsNetwork net → AreFormed net [] built xs → FitsShare (records_of net xs) (documents.share_of (records_of net xs))
+share_fits net xs n h =
+    let fits : FitsAnswers MAX_SHARED MAX_NUMBERS xs (share_of MAX_SHARED xs) = cut_shares_fit MAX_SHARED MAX_NUMBERS (all_cuts xs) (cuts_shareable net xs n h) in
+    subst (FitsShare (records_of net xs)) (sym (shares_are_one net xs h)) ((shares_fit_both net xs (share_of MAX_SHARED xs) h).0 fits)

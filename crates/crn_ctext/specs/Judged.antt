@@ -1,14 +1,15 @@
 -- What is read of a document, to its end, and its first fault: with the questions and the versions
 -- that are built.
 -- Source: this project's own format.
-use Rattle.std.specs.Prelude.{◌≡◌, ℕ, List}
+use Rattle.std.specs.Prelude.{◌≡◌, ℕ, List, ◌++◌}
+use Rattle.std.specs.List.{AllZip}
 use Rattle.crn_vec.specs.Network.{Net, IsNetwork}
 use Rattle.crn_io.specs.Lines.{Place, beginning}
 use Rattle.crn_ctext.specs.Course.{Gives}
 use Rattle.crn_ctext.specs.Blocks.{ReadOf, course}
 use Rattle.crn_ctext.specs.Documents.{AreFormed, Good, DocFault, Share, FitsShare, document, document2}
 use Rattle.crn_ctext.specs.Records.{Record}
-use Rattle.crn_ctext.specs.Meaning.{meaning, versions}
+use Rattle.crn_ctext.specs.Meaning.{meaning, verdicts_said, versions}
 use Rattle.crn_cert.specs.Built.{built}
 
 -- this is read of the document, to its end
@@ -63,7 +64,20 @@ abbrev pub GoodDocumentsAreOne : Type 0
 GoodDocumentsAreOne = (bytes : List ℕ) (good other : IsGood bytes)
     → (good.net ≡ other.net) × (good.answers ≡ other.answers)
 
--- what is read of a document are the network and the answers of the good document that it is
+-- the block is the records of the answer, but for the nodes of its trees
+abbrev pub IsFront : List Record → List Record → Type 0
+IsFront block rs = (nodes : List Record) × (rs ≡ block ++ nodes)
+
+-- the bytes are a good document of this network; these blocks are its answers but for the nodes of
+-- trees, and say the same verdicts
+abbrev pub IsGoodRead : Net → List (List Record) → List ℕ → Type 0
+IsGoodRead net blocks bytes =
+    (good : IsGood bytes) × (good.net ≡ net) × AllZip IsFront blocks good.answers
+    × (verdicts_said built (meaning.start net) good.answers
+    ≡ verdicts_said built (meaning.start net) blocks)
+
+-- what is read of a document are the network and the answers of the good document that it is, but
+-- for the nodes of trees
 abbrev pub ReadDocumentsAreGood : Type 0
 ReadDocumentsAreGood = (bytes : List ℕ) (read : ReadOf) → IsReadOf bytes read
-    → IsGoodOf read.net read.blocks bytes
+    → IsGoodRead read.net read.blocks bytes

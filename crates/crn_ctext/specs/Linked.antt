@@ -1,6 +1,7 @@
 -- Answers and their records: what is asked of the one is asked of the other.
 -- Source: this project's own.
 use Rattle.std.specs.Prelude.{◌≡◌, ◌↔◌, ℕ, List, [], ◌∷◌}
+use Rattle.std.specs.Global.{Global}
 use Rattle.crn_vec.specs.Network.{Net, IsNetwork}
 use Rattle.crn_cert.specs.declared.answer.Verdict.{Verdict}
 use Rattle.crn_cert.specs.declared.answer.Answer.{Answer}
@@ -36,9 +37,11 @@ ValidAnswersHaveValidRecords =
     → AreValid net [] built answers
     ↔ documents.AreValid meaning built (meaning.start net) (records_of net answers)
 
--- formed records are those of formed answers, whose verdicts are the ones that the records say
+-- formed records are those of formed answers, whose verdicts are the ones that the records say; the
+-- trees of answers lie in the memory of an allocator
 abbrev pub FormedRecordsAreOfAnswers : Type 0
-FormedRecordsAreOfAnswers = (net : Net) (answers : List (List Record)) → AreFormedOf net answers
+FormedRecordsAreOfAnswers = Global → (net : Net) (answers : List (List Record))
+    → AreFormedOf net answers
     → (given : List Answer) × AreFormed net [] built given × (records_of net given ≡ answers)
     × (verdicts_said built (meaning.start net) answers ≡ verdicts_of given)
 
@@ -51,14 +54,14 @@ AreSound net (q ∷ qs) (v ∷ vs) = IsTrueOrOpen net q v × AreSound net qs vs
 -- what valid records say is true or open
 abbrev pub ValidRecordsAreTrue : Type 0
 ValidRecordsAreTrue =
-    (net : Net) (answers : List (List Record)) → IsNetwork net
+    Global → (net : Net) (answers : List (List Record)) → IsNetwork net
     → documents.AreValid meaning built (meaning.start net) answers
     → AreSound net built (verdicts_said built (meaning.start net) answers)
 
 -- what is read of a document is a network, and verdicts that are true of it or open
 abbrev pub ReadDocumentsAreTrue : Type 0
-ReadDocumentsAreTrue = (bytes : List ℕ) (read : ReadOf) → IsReadOf bytes read → IsNetwork read.net
-    × AreSound read.net built (verdicts_said built (meaning.start read.net) read.blocks)
+ReadDocumentsAreTrue = Global → (bytes : List ℕ) (read : ReadOf) → IsReadOf bytes read
+    → IsNetwork read.net × AreSound read.net built (verdicts_said built (meaning.start read.net) read.blocks)
 
 -- the document of a network and of valid answers is a good one
 abbrev pub WrittenDocumentsAreGood : Type 0
@@ -75,9 +78,9 @@ SharedDocumentsAreGood =
     → FitsShare (records_of net answers) share
     → IsGoodOf net (records_of net answers) (document2 built net (records_of net answers) share)
 
--- the share that `certify` writes fits formed answers
+-- the share that `certify` writes fits formed answers of a network
 abbrev pub SharesFit : Type 0
-SharesFit = (net : Net) (answers : List Answer) → AreFormed net [] built answers
+SharesFit = (net : Net) (answers : List Answer) → IsNetwork net → AreFormed net [] built answers
     → FitsShare (records_of net answers) (share_of (records_of net answers))
 
 -- if documents of formed answers are equal, so are their networks, and the answers are the same

@@ -6,20 +6,26 @@ use Rattle.std.specs.Prelude.{ℕ, zero, suc, ℤ, pos, ◌==◌, Bool, true, fa
 use Rattle.std.specs.Str.{bytes_eq}
 use Rattle.crn_vec.specs.Kept.{KeptInts, KeptNums}
 use Rattle.crn_vec.specs.Network.{Net}
+use Rattle.crn_vec.specs.declared.signs.Sign.{Sign}
 use Rattle.crn_vec.specs.Deficiency.{class_members}
+use Rattle.crn_vec.specs.NetSystems.{reaction_system}
+use Rattle.crn_vec.specs.Problems.{Signed}
+use Rattle.crn_vec.specs.Concordance.{concordance}
+use Rattle.crn_vec.specs.Influence.{plain_table, strong_table}
 use Rattle.crn_cert.specs.declared.answer.Gap.{Gap}
 use Rattle.crn_cert.specs.declared.answer.Gap.TheVariants.{Wide, Budget, Rests}
 use Rattle.crn_cert.specs.declared.answer.Verdict.{Verdict}
-use Rattle.crn_cert.specs.declared.answer.Verdict.TheVariants.{Classes, Strong, Rank, Deficiency, Yes, YesWeak, YesVec, NoReaction, NoVec, NoNumber, NoTerminal, NoClass, NoSum, NoDependence, NoCycle, NotRegular, OnlyZero, Plane, NotApplicable, Unknown}
+use Rattle.crn_cert.specs.declared.answer.Verdict.TheVariants.{Classes, Strong, Rank, Deficiency, Yes, YesWeak, YesVec, NoReaction, NoVec, NoNumber, NoTerminal, NoClass, NoSum, NoDependence, NoCycle, NoPair, NotRegular, OnlyZero, Plane, NotApplicable, Unknown}
 use Rattle.crn_cert.specs.declared.answer.RankProof.{RankProof}
 use Rattle.crn_cert.specs.declared.answer.Proof.{Proof}
 use Rattle.crn_cert.specs.declared.answer.Proof.TheVariants.{Nothing, Forest, Strong as StrongTrees, Back, Rank as RankRows, Ranks, Sides, Ties}
-use Rattle.crn_cert.specs.Questions.{Earlier, Question, Q1, Q2, Q3, Q4, Q5, Q6, Q7, Q8, Q9, Q10, Q11, Q12, on, count_of, terminal_of}
+use Rattle.crn_cert.specs.Questions.{Earlier, Question, Q1, Q2, Q3, Q4, Q5, Q6, Q7, Q8, Q9, Q10, Q11, Q12, Q14, Q15, on, count_of, terminal_of}
 use Rattle.crn_cert.specs.Tests.{Test as Claim}
+use Rattle.crn_cert.specs.Nodes.{Fits, Flats, CutsA, CutsB}
 use Rattle.crn_cert.specs.Valid.{linkage, linkage_count, classes_to, class_places, pair_places, head_tests, row_tests}
 use Rattle.crn_ctext.specs.Records.{Record}
 use Rattle.crn_ctext.specs.Questions.{Sizes, Shapes, heads, class_rank, later_numbers}
-use Rattle.crn_ctext.specs.Blocks.{Meaning, place_of, is_open}
+use Rattle.crn_ctext.specs.Blocks.{Meaning, Problem, place_of, is_open}
 
 -- what is known before a block: the network, and the verdicts of the blocks before it
 pub record Known : Type 0 where
@@ -142,6 +148,10 @@ verdict_by Q12 (suc (suc zero)) n rs = NotRegular
 verdict_by Q12 (suc (suc (suc zero))) n rs = OnlyZero
 verdict_by Q12 (suc (suc (suc (suc zero)))) n rs =
     Plane (number n 0) (number n 1) (ints (row rs 0)) (ints (row rs 1))
+verdict_by Q14 (suc zero) n rs = Yes
+verdict_by Q14 (suc (suc zero)) n rs = NoPair (ints (row rs 0)) (ints (row rs 1))
+verdict_by Q15 (suc zero) n rs = Yes
+verdict_by Q15 (suc (suc zero)) n rs = NoPair (ints (row rs 0)) (ints (row rs 1))
 verdict_by q place n rs = NotApplicable
 
 -- the verdict of a block
@@ -168,7 +178,7 @@ class_proofs (complexes ∷ more) (reactions ∷ others) (d ∷ ds) rs =
     ∷ class_proofs more others ds (drop (suc (length reactions)) rs)
 class_proofs complexes reactions ds rs = []
 
--- the decided verdict's proof
+-- the decided verdict's proof, but for its trees
 abbrev pub proof_by : Question → Shapes → ℕ → List ℤ → List Record → Proof
 proof_by Q1 s (suc zero) n rs = Forest (nums (row rs 1)) (nums (row rs 2))
 proof_by Q2 s (suc zero) n rs =
@@ -183,11 +193,39 @@ proof_by Q12 s (suc zero) n rs = Ties (drop 1 (lists rs))
 proof_by Q12 s (suc (suc (suc zero))) n rs = Ties (lists rs)
 proof_by q s place n rs = Nothing
 
--- the proof of a block
+-- the proof of a block, but for its trees
 abbrev pub proof_of : Question → Shapes → Record → List Record → Proof
 proof_of q s h rs =
     if is_open h then Nothing
     else proof_by q s (place_of (heads q s.sizes) h.words) h.numbers rs
+
+-- ---- trees
+
+-- a sign problem over the species of the network, with a multiplier of each part for each species
+abbrev pub problem_over : Net → Signed → Problem
+problem_over net w = record {
+  choices = length net.names;
+  count_a = length net.names;
+  count_b = length net.names;
+  RulesOutA = λ prefix u. Fits w prefix (CutsA u);
+  RulesOutB = λ prefix u. Fits w prefix (CutsB u);
+  IsClosed = λ prefix. Fits w prefix Flats;
+}
+
+-- the sign problem of an influence table of the network
+abbrev pub table_problem : Net → List (List Sign) → Signed
+table_problem net table = concordance (reaction_system net) table
+
+-- the trees that follow the records below a head, by the place of its form: a yes on concordance
+-- has one
+abbrev pub problems_by : Question → Net → ℕ → List {1} Problem
+problems_by Q14 net (suc zero) = problem_over net (table_problem net (plain_table net)) ∷ []
+problems_by Q15 net (suc zero) = problem_over net (table_problem net (strong_table net)) ∷ []
+problems_by q net place = []
+
+-- the trees of a block
+abbrev pub problems_of : Question → Known → Record → List {1} Problem
+problems_of q known h = problems_by q known.net (place_of (heads q (sizes_of known)) h.words)
 
 -- ---- the meaning
 
@@ -209,14 +247,14 @@ learn_of q known h rs =
       earlier = known.earlier ++ (q, verdict_of q (sizes_of known) h rs) ∷ [];
     }
 
--- What the questions mean. Trees of the questions on signals and concordance are left out.
+-- What the questions mean. Trees of the question on signals are left out.
 abbrev pub meaning : Meaning Known
 meaning = record {
   start = λ net. record { net = net; earlier = [] };
   shapes = shapes_of;
   head_claims = head_claims_of;
   row_claims = row_claims_of;
-  problems = λ q known h. [];
+  problems = problems_of;
   learn = learn_of;
 }
 

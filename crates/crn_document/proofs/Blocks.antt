@@ -16,8 +16,8 @@ use Rattle.crn_ctext.specs.Records.{Record, Form, Fits}
 use Rattle.crn_ctext.specs.Questions.{Shapes}
 use Rattle.crn_ctext.specs.Course.{Course, Give, ◌>>=◌, Gives}
 use Rattle.crn_ctext.specs.Course as course
-use Rattle.crn_ctext.specs.Blocks.{Behind, Problem, asks_all, asks_trees, claims, has_tree, is_open, unless}
-use Rattle.crn_ctext.specs.Meaning.{Known, lists, sizes_of, shapes_of, verdict_of, proof_of}
+use Rattle.crn_ctext.specs.Blocks.{Behind, Problem, asks_all, asks_trees, claims, has_tree, is_open, problems, unless}
+use Rattle.crn_ctext.specs.Meaning.{Known, lists, sizes_of, shapes_of, verdict_of, proof_of, meaning}
 use Rattle.crn_ctext.specs.Meaning as said
 use Rattle.crn_ctext.proofs.CallerLemmas.{gives_then, fails_before}
 use Rattle.crn_check.specs.Facts.{KeptFacts, asked}
@@ -134,16 +134,32 @@ no_trees : (b : Bool) → unless {A = Problem} b [] ≡ []
 no_trees true = refl
 no_trees false = refl
 
+-- no tree follows the records of a question that is answered
+no_trees_at : (n : ℕ) → IsBuilt n → (known : Known) (h : Record) → problems meaning (asked n) known h ≡ []
+no_trees_at n (inl e) known h = subst (λ (m : ℕ). problems meaning (asked m) known h ≡ []) (sym e) (no_trees (is_open h))
+no_trees_at n (inr (inl e)) known h = subst (λ (m : ℕ). problems meaning (asked m) known h ≡ []) (sym e) (no_trees (is_open h))
+no_trees_at n (inr (inr (inl e))) known h = subst (λ (m : ℕ). problems meaning (asked m) known h ≡ []) (sym e) (no_trees (is_open h))
+no_trees_at n (inr (inr (inr (inl e)))) known h = subst (λ (m : ℕ). problems meaning (asked m) known h ≡ []) (sym e) (no_trees (is_open h))
+no_trees_at n (inr (inr (inr (inr (inl e))))) known h = subst (λ (m : ℕ). problems meaning (asked m) known h ≡ []) (sym e) (no_trees (is_open h))
+no_trees_at n (inr (inr (inr (inr (inr (inl e)))))) known h = subst (λ (m : ℕ). problems meaning (asked m) known h ≡ []) (sym e) (no_trees (is_open h))
+no_trees_at n (inr (inr (inr (inr (inr (inr (inl e))))))) known h = subst (λ (m : ℕ). problems meaning (asked m) known h ≡ []) (sym e) (no_trees (is_open h))
+no_trees_at n (inr (inr (inr (inr (inr (inr (inr (inl e)))))))) known h = subst (λ (m : ℕ). problems meaning (asked m) known h ≡ []) (sym e) (no_trees (is_open h))
+no_trees_at n (inr (inr (inr (inr (inr (inr (inr (inr (inl e))))))))) known h = subst (λ (m : ℕ). problems meaning (asked m) known h ≡ []) (sym e) (no_trees (is_open h))
+no_trees_at n (inr (inr (inr (inr (inr (inr (inr (inr (inr (inl e)))))))))) known h = subst (λ (m : ℕ). problems meaning (asked m) known h ≡ []) (sym e) (no_trees (is_open h))
+no_trees_at n (inr (inr (inr (inr (inr (inr (inr (inr (inr (inr none)))))))))) known h = absurd none
+
 -- what is said of it with these is said of the course
 as_ends : (P : Course (Behind Known) → Type 0) (v : Verdict) (p : Proof) (net : Net) (earlier : Earlier) (n : ℕ) (blocks : List (List Record)) (version : ℕ) (table : List (List ℤ)) (q : Question) (h : Record) (rs : List Record)
     → verdict_of q (sizes_of (known_of net earlier)) h rs ≡ v → proof_of q (shapes_of (known_of net earlier)) h rs ≡ p
     → unless (is_open h) (row_tests net earlier q v p) ≡ row_tests net earlier q v p
+    → problems meaning q (known_of net earlier) h ≡ []
     → P (end_by (row_tests net earlier q v p) [] v net earlier n blocks version table q h rs) → P (end_course version table q (behind_at net earlier n blocks) h rs)
-as_ends P v p net earlier n blocks version table q h rs verdict proof tests x =
-    subst (λ (w : Verdict). P (end_by (unless (is_open h) (row_tests net earlier q w (proof_of q (shapes_of (known_of net earlier)) h rs))) (unless (is_open h) []) w net earlier n blocks version table q h rs)) (sym verdict)
-    (subst (λ (w : Proof). P (end_by (unless (is_open h) (row_tests net earlier q v w)) (unless (is_open h) []) v net earlier n blocks version table q h rs)) (sym proof)
-    (subst (λ (ts : List {1} Test). P (end_by ts (unless (is_open h) []) v net earlier n blocks version table q h rs)) (sym tests)
-    (subst (λ (ps : List {1} Problem). P (end_by (row_tests net earlier q v p) ps v net earlier n blocks version table q h rs)) (sym (no_trees (is_open h))) x)))
+as_ends P v p net earlier n blocks version table q h rs verdict proof tests none x =
+    let due : List {1} Problem = problems meaning q (known_of net earlier) h in
+    subst (λ (w : Verdict). P (end_by (unless (is_open h) (row_tests net earlier q w (proof_of q (shapes_of (known_of net earlier)) h rs))) due w net earlier n blocks version table q h rs)) (sym verdict)
+    (subst (λ (w : Proof). P (end_by (unless (is_open h) (row_tests net earlier q v w)) due v net earlier n blocks version table q h rs)) (sym proof)
+    (subst (λ (ts : List {1} Test). P (end_by ts due v net earlier n blocks version table q h rs)) (sym tests)
+    (subst (λ (ps : List {1} Problem). P (end_by (row_tests net earlier q v p) ps v net earlier n blocks version table q h rs)) (sym none) x)))
 
 ends_give : (ts : List {1} Test) (v : Verdict) (net : Net) (earlier : Earlier) (n : ℕ) (blocks : List (List Record)) (version : ℕ) (table : List (List ℤ)) (q : Question) (h : Record) (rs : List Record) (place : Place)
     → AllHold ts → Gives (end_by ts [] v net earlier n blocks version table q h rs) place (behind_at net (earlier ++ (q, v) ∷ []) (n + 1 + length rs) (blocks ++ (h ∷ rs) ∷ [])) place
@@ -224,7 +240,7 @@ block_ends net n facts head rows h rs a new line next version table blocks built
     let at : line + 1 + length rs ≡ next = ap (λ (k : ℕ). line + 1 + k) (sym (block_length net earlier n head rows h rs b)) ∙ ends in (
       y,
       (blocks ++ (h ∷ rs) ∷ [], ap₂ (λ (es : Earlier) (k : ℕ). behind_at net es k (blocks ++ (h ∷ rs) ∷ [])) same at),
-      λ place. as_ends (λ d. Gives d place y place) v p net earlier line blocks version table (asked n) h rs (let s = f.said in s rs) (let s = f.shown in s rs) (let r = f.rows_are in r rs)
+      λ place. as_ends (λ d. Gives d place y place) v p net earlier line blocks version table (asked n) h rs (let s = f.said in s rs) (let s = f.shown in s rs) (let r = f.rows_are in r rs) (no_trees_at n built (known_of net earlier) h)
           (ends_give (row_tests net earlier (asked n) v p) v net earlier line blocks version table (asked n) h rs place (answer_holds net earlier n head rs a is holds)),
     )
 
@@ -236,7 +252,7 @@ block_fails net n facts head rows h rs a line part code version table blocks bui
     let f = said_facts net n facts head h built known b.is_head in
     let v = said_verdict n head rs in
     let p = said_proof net earlier n head rs in
-    as_ends (λ d. course.FailsFirst d place (line + part) code) v p net earlier line blocks version table (asked n) h rs (let s = f.said in s rs) (let s = f.shown in s rs) (let r = f.rows_are in r rs)
+    as_ends (λ d. course.FailsFirst d place (line + part) code) v p net earlier line blocks version table (asked n) h rs (let s = f.said in s rs) (let s = f.shown in s rs) (let r = f.rows_are in r rs) (no_trees_at n built (known_of net earlier) h)
     (ends_fail (row_tests net earlier (asked n) v p) v net earlier line blocks version table (asked n) h rs part code place (answer_fails net n facts head rows h rs a part code built known hold b is fails))
 
 -- ---- after a head

@@ -1,5 +1,5 @@
 -- The codes under which the tests of a document fail are numbers of kinds of faults.
-use Rattle.std.proofs.Common.{◌≤◌, ◌+◌, ◌++◌, ℕ, zero, suc, Bool, true, false, ◌==◌, List, [], ◌∷◌, length, map, sym, subst, inl, inr, arith, Result, Ok, Err}
+use Rattle.std.proofs.Common.{◌≡◌, ◌≤◌, ◌+◌, ◌++◌, ℕ, zero, suc, Bool, true, false, ◌==◌, List, [], ◌∷◌, length, map, sym, subst, inl, inr, arith, Result, Ok, Err}
 use Rattle.std.specs.Prelude.{ℤ, replicate, if◌then◌else◌}
 use Rattle.crn_io.specs.Device.{SourceSeen}
 use Rattle.crn_io.specs.Lines.{Place, BreaksLine, document_too_long, line_too_long, otherwise, LacksLine, HasMore, early, beginning}
@@ -16,9 +16,12 @@ use Rattle.crn_cert.specs.declared.answer.Gap.{Gap}
 use Rattle.crn_cert.specs.declared.answer.Verdict.TheVariants.{Deficiency, NoClass, NoNumber, NoSum, NoTerminal, NoVec, Rank, Unknown, Yes, YesVec, YesWeak}
 use Rattle.crn_cert.specs.declared.answer.Proof.TheVariants.{Nothing, Rank as RankRows, Ranks}
 use Rattle.crn_ctext.specs.Records.{Record, Form}
-use Rattle.crn_ctext.specs.Kinds.{end_form, section_form, table_form, vector_form}
+use Rattle.crn_ctext.specs.Kinds.{end_form, node_forms, section_form, table_form, vector_form}
 use Rattle.crn_ctext.specs.Questions.{Shapes, first_number, heads}
 use Rattle.crn_ctext.specs.Course.{Course, Give, Line, Test, End, ◌>>=◌, FailsFirst, due, ends, find, test}
+use Rattle.crn_vec.specs.declared.signs.Sign.{Sign}
+use Rattle.crn_vec.specs.declared.signs.Sign.TheVariants.{Zero, Plus, Minus}
+use Rattle.crn_ctext.specs.Blocks.{Node, Split, Flat, CutA, CutB, Problem, node_of, leaf, asks_node, asks_leaf, goes_on, if_signed, is_all_zero, asks_tree}
 use Rattle.crn_ctext.specs.Blocks.{Behind, IsNetworkOf, asks, asks_all, asks_block, asks_blocks, asks_lines, asks_table, asks_trees, behind_sections, below, claims, either, has_tree, head_claims, is_open, lists_of, place_of, problems, row_claims, sections, unless}
 use Rattle.crn_ctext.specs.Meaning.{Known, gap_of, head_claims_of, meaning, proof_by, proof_of, row_claims_of, shapes_of, sizes_of, verdict_by, verdict_of}
 use Rattle.crn_document.specs.Check.{CheckGives, HasFaultNumber, IsFaultNumber}
@@ -283,11 +286,66 @@ built_numbered = (
 
 -- ---- blocks
 
--- no question has trees
-no_trees : (version : ℕ) (table : List (List ℤ)) (t : Bool) (n : ℕ) → IsNumbered (asks_trees version table (unless t []) n)
+leaf_numbered : (p : Problem) (prefix : List Sign) (n : ℕ) (node : Node) → IsNumbered (leaf p prefix n node)
+leaf_numbered p prefix n Split = find_numbered n 42 (Unit {0}) (λ x. ⊥) (from_41 42 (omega arith) (omega arith))
+leaf_numbered p prefix n Flat = find_numbered n 42 (Unit {0}) (λ x. p.IsClosed prefix) (from_41 42 (omega arith) (omega arith))
+leaf_numbered p prefix n (CutA shared u) = numbered_then (test n 46 (shared ≡ true → length u ≡ p.count_a)) (λ x. test n 41 (p.RulesOutA prefix u))
+    (find_numbered n 46 (Unit {0}) (λ x. shared ≡ true → length u ≡ p.count_a) (from_41 46 (omega arith) (omega arith))) (λ x. find_numbered n 41 (Unit {0}) (λ y. p.RulesOutA prefix u) (from_41 41 (omega arith) (omega arith)))
+leaf_numbered p prefix n (CutB shared u) = numbered_then (test n 46 (shared ≡ true → length u ≡ p.count_b)) (λ x. test n 41 (p.RulesOutB prefix u))
+    (find_numbered n 46 (Unit {0}) (λ x. shared ≡ true → length u ≡ p.count_b) (from_41 46 (omega arith) (omega arith))) (λ x. find_numbered n 41 (Unit {0}) (λ y. p.RulesOutB prefix u) (from_41 41 (omega arith) (omega arith)))
+
+node_numbered : (version n : ℕ) (forms : List Form) → IsNumbered (asks_node version n forms)
+unfolding IsNumbered
+node_numbered version n forms = λ line. (
+  from_21 23 (omega arith) (omega arith),
+  λ word. (
+    from_41 44 (omega arith) (omega arith),
+    λ x. (
+      from_41 43 (omega arith) (omega arith),
+      λ y. (
+        from_21 24 (omega arith) (omega arith),
+        λ z. (from_21 25 (omega arith) (omega arith), λ r. tt),
+      ),
+    ),
+  ),
+)
+
+asked_numbered : (version : ℕ) (table : List (List ℤ)) (p : Problem) (n : ℕ) → IsNumbered (asks_leaf version table p n)
+asked_numbered version table p n =
+    numbered_then (asks_node version n (node_forms version p.count_a p.count_b (length table))) (λ r. Give (node_of table r)) (node_numbered version n (node_forms version p.count_a p.count_b (length table))) (λ r. give_numbered (node_of table r))
+
+leaf_then : (p : Problem) (prefix : List Sign) (n : ℕ) (node : Node) → IsNumbered (leaf p prefix n node >>= (λ x. Give (n + 1)))
+leaf_then p prefix n node = numbered_then (leaf p prefix n node) (λ x. Give (n + 1)) (leaf_numbered p prefix n node) (λ x. give_numbered (n + 1))
+
+goes_numbered : (p : Problem) (prefix : List Sign) (n : ℕ) (node : Node) (children : Course ℕ) → IsNumbered children → IsNumbered (goes_on p prefix n node children)
+goes_numbered p prefix n Split children c = c
+goes_numbered p prefix n Flat children c = leaf_then p prefix n Flat
+goes_numbered p prefix n (CutA shared u) children c = leaf_then p prefix n (CutA shared u)
+goes_numbered p prefix n (CutB shared u) children c = leaf_then p prefix n (CutB shared u)
+
+either_numbered : {A : Type 0} (t : Bool) (this that : Course A) → IsNumbered this → IsNumbered that → IsNumbered (either t this that)
+either_numbered true this that p q = p
+either_numbered false this that p q = q
+
+tree_numbered : (version : ℕ) (table : List (List ℤ)) (p : Problem) (more : ℕ) (prefix : List Sign) (n : ℕ) → IsNumbered (asks_tree version table p more prefix n)
+unfolding asks_tree
+tree_numbered version table p zero prefix n = numbered_then (asks_leaf version table p n) (λ node. leaf p prefix n node >>= (λ x. Give (n + 1))) (asked_numbered version table p n) (λ node. leaf_then p prefix n node)
+tree_numbered version table p (suc more) prefix n =
+    numbered_then (asks_leaf version table p n) (λ node. goes_on p prefix n node (children n)) (asked_numbered version table p n) (λ node. goes_numbered p prefix n node (children n)
+    (numbered_then (asks_tree version table p more (prefix ++ Zero ∷ []) (n + 1)) (λ k. asks_tree version table p more (prefix ++ Plus ∷ []) k >>= (λ m. last m)) (tree_numbered version table p more (prefix ++ Zero ∷ []) (n + 1))
+    (λ k. numbered_then (asks_tree version table p more (prefix ++ Plus ∷ []) k) (λ m. last m) (tree_numbered version table p more (prefix ++ Plus ∷ []) k)
+    (λ m. either_numbered (is_all_zero prefix) (Give m) (asks_tree version table p more (prefix ++ Minus ∷ []) m) (give_numbered m) (tree_numbered version table p more (prefix ++ Minus ∷ []) m)))))
+  where
+    last : ℕ → Course ℕ
+    last m = if_signed prefix m (asks_tree version table p more (prefix ++ Minus ∷ []) m)
+
+    children : ℕ → Course ℕ
+    children n = asks_tree version table p more (prefix ++ Zero ∷ []) (n + 1) >>= (λ k. asks_tree version table p more (prefix ++ Plus ∷ []) k >>= (λ m. last m))
+
+trees_numbered : (version : ℕ) (table : List (List ℤ)) (ps : List {1} Problem) (n : ℕ) → IsNumbered (asks_trees version table ps n)
 unfolding asks_trees
-no_trees version table true n = give_numbered n
-no_trees version table false n = give_numbered n
+trees_numbered version table [] n = give_numbered n
+trees_numbered version table (p ∷ ps) n = numbered_then (asks_tree version table p p.choices [] n) (λ m. asks_trees version table ps m) (tree_numbered version table p p.choices [] n) (λ m. trees_numbered version table ps m)
 
 block_numbered : (version : ℕ) (table : List (List ℤ)) (q : Question) (at : Behind Known) → IsNumberedFor q → IsNumbered (asks_block meaning version table q at)
 block_numbered version table q at p =
@@ -295,7 +353,7 @@ block_numbered version table q at p =
     (λ h. numbered_then (claims at.line (head_claims meaning q at.known h)) (λ x. after_claims h) (claims_numbered at.line (head_claims meaning q at.known h) (unless_numbered (is_open h) (head_claims_of q at.known h) (let f = p.head in f at.known h)))
     (λ x. numbered_then (asks_all version (at.line + 1) false (below q (shapes_of at.known) h)) (after_rows h) (all_numbered version (at.line + 1) false (below q (shapes_of at.known) h))
     (λ rs. numbered_then (claims at.line (row_claims meaning q at.known h rs)) (λ y. after_tests h rs) (claims_numbered at.line (row_claims meaning q at.known h rs) (unless_numbered (is_open h) (row_claims_of q at.known h rs) (let f = p.rows in f at.known h rs)))
-    (λ y. numbered_then (asks_trees version table (problems meaning q at.known h) (at.line + 1 + length rs)) (λ line. Give (given h rs line)) (no_trees version table (is_open h) (at.line + 1 + length rs)) (λ line. give_numbered (given h rs line))))))
+    (λ y. numbered_then (asks_trees version table (problems meaning q at.known h) (at.line + 1 + length rs)) (λ line. Give (given h rs line)) (trees_numbered version table (problems meaning q at.known h) (at.line + 1 + length rs)) (λ line. give_numbered (given h rs line))))))
   where
     given : Record → List Record → ℕ → Behind Known
     given h rs line = record { known = meaning.learn q at.known h rs; by_tree = has_tree (problems meaning q at.known h); line = line; blocks = at.blocks ++ (h ∷ rs) ∷ [] }
@@ -327,10 +385,6 @@ lines_numbered : (n : ℕ) → IsNumbered (asks_lines n)
 unfolding asks_lines
 lines_numbered zero = give_numbered []
 lines_numbered (suc n) = numbered_then (due false) (λ line. asks_lines n >>= (λ lines. Give (line ∷ lines))) (due_numbered false) (λ line. numbered_then (asks_lines n) (λ lines. Give (line ∷ lines)) (lines_numbered n) (λ lines. give_numbered (line ∷ lines)))
-
-either_numbered : {A : Type 0} (t : Bool) (this that : Course A) → IsNumbered this → IsNumbered that → IsNumbered (either t this that)
-either_numbered true this that p q = p
-either_numbered false this that p q = q
 
 table_numbered : (version n : ℕ) → IsNumbered (asks_table version n)
 table_numbered version n = either_numbered (version == 2) _ (Give [])

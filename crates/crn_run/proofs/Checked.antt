@@ -95,12 +95,12 @@ render_tight net vs = ap₂ (λ (lines : List ℕ) (count : ℕ). head net ++ li
 
 -- ---- an accepted document
 
-checked_of : (text : List ℕ) (net : Net) (blocks : List (List Record)) (good : IsGood text) → good.net ≡ net → good.answers ≡ blocks → AreSound net built (verdicts_in net blocks) → IsCheckOf text (render built net (verdicts_in net blocks))
-checked_of text net blocks good net_is blocks_is sound =
+checked_of : (text : List ℕ) (net : Net) (blocks : List (List Record)) (good : IsGood text) → good.net ≡ net → verdicts_in net good.answers ≡ verdicts_in net blocks → AreSound net built (verdicts_in net blocks) → IsCheckOf text (render built net (verdicts_in net blocks))
+checked_of text net blocks good net_is says sound =
     let here : AreSound good.net built (verdicts_in good.net good.answers) =
-    subst (λ (n : Net). AreSound n built (verdicts_in n good.answers)) (sym net_is) (subst (λ (b : List (List Record)). AreSound net built (verdicts_in net b)) (sym blocks_is) sound) in
+    subst (λ (n : Net). AreSound n built (verdicts_in n good.answers)) (sym net_is) (subst (λ (vs : List Verdict). AreSound net built vs) (sym says) sound) in
     let own : IsCheckOf text (render built good.net (verdicts_in good.net good.answers)) = record { good = good; sound = here; written = refl } in
-    subst (λ (b : List (List Record)). IsCheckOf text (render built net (verdicts_in net b))) blocks_is
+    subst (λ (vs : List Verdict). IsCheckOf text (render built net vs)) says
     (subst (λ (n : Net). IsCheckOf text (render built n (verdicts_in n good.answers))) net_is own)
 
 -- verdicts that are true or open are so without the memory of their lists
@@ -113,9 +113,9 @@ sound_tight net (q ∷ qs) (v ∷ vs) h = (true_tight net q v h.0, sound_tight n
 pub checked : ReadDocumentsAreGood → (text : List ℕ) (net : Net) (blocks : List (List Record)) (vs : List Verdict) → IsReadOf text (record { net = net; blocks = blocks }) → map tight vs ≡ verdicts_in net blocks
     → AreSound net built vs → IsCheckOf text (render built net vs)
 checked same text net blocks vs is said sound =
-    let (good, net_is, blocks_is) = same text (record { net = net; blocks = blocks }) is in
+    let (good, net_is, fronts, says) = same text (record { net = net; blocks = blocks }) is in
     subst (λ (out : List ℕ). IsCheckOf text out) (ap (λ (ws : List Verdict). render built net ws) (sym said) ∙ render_tight net vs)
-    (checked_of text net blocks good net_is blocks_is (subst (λ (ws : List Verdict). AreSound net built ws) said (sound_tight net built vs sound)))
+    (checked_of text net blocks good net_is says (subst (λ (ws : List Verdict). AreSound net built ws) said (sound_tight net built vs sound)))
 
 -- ---- runs
 
@@ -153,7 +153,9 @@ valid_formed [] known answers v = v
 valid_formed (q ∷ qs) known [] v = v
 valid_formed (q ∷ qs) known (rs ∷ more) (p, formed, valid, rest) = (p, formed, valid_formed qs (meaning.learn q known p.head p.rows) more rest)
 
-pub read_formed : ReadDocumentsAreGood → (text : List ℕ) (net : Net) (blocks : List (List Record)) → IsReadOf text (record { net = net; blocks = blocks }) → AreFormedOf net blocks
+-- the verdicts that are read are those of formed records
+pub read_formed : ReadDocumentsAreGood → (text : List ℕ) (net : Net) (blocks : List (List Record)) → IsReadOf text (record { net = net; blocks = blocks })
+    → (answers : List (List Record)) × AreFormedOf net answers × (verdicts_in net answers ≡ verdicts_in net blocks)
 read_formed same text net blocks is =
-    let (good, net_is, blocks_is) = same text (record { net = net; blocks = blocks }) is in
-    subst (λ (n : Net). AreFormedOf n blocks) net_is (subst (λ (b : List (List Record)). AreFormedOf good.net b) blocks_is (valid_formed built (meaning.start good.net) good.answers good.valid))
+    let (good, net_is, fronts, says) = same text (record { net = net; blocks = blocks }) is in
+    (good.answers, subst (λ (n : Net). AreFormedOf n good.answers) net_is (valid_formed built (meaning.start good.net) good.answers good.valid), says)

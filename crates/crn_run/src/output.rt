@@ -5,7 +5,10 @@ ghost use Rattle.crn_cert.specs.Built.{built};
 ghost use Rattle.crn_cert.specs.Formed.{AreFormed};
 ghost use Rattle.crn_cert.specs.Questions.{IsOpen};
 ghost use Rattle.crn_cert.specs.Valid.{AreValid};
+ghost use Rattle.crn_cert.specs.Shares.{share_of as share_of_answers};
+ghost use Rattle.crn_io.specs.declared.lines.TheConstants.{MAX_SHARED};
 ghost use Rattle.crn_ctext.specs.Documents.{share_of};
+ghost use Rattle.crn_ctext.specs.Shares.{as_share};
 ghost use Rattle.crn_ctext.specs.Judged.{IsGood};
 ghost use Rattle.crn_ctext.specs.Linked.{records_of};
 ghost use Rattle.crn_cert.specs.FormedVerdicts.{AreFormedVerdicts};
@@ -17,17 +20,14 @@ ghost use Rattle.crn_run.specs.declared.words.Command.TheVariants.{Report, Certi
 ghost use Rattle.crn_run.specs.declared.status.Status.TheVariants.{Done, Refused, Rejected, Usage};
 
 use crate::status::Status;
-use crn_cert::{Answers, Rows, Share, Verdict};
-use crn_ctext::{
-    built_answers_have_no_cuts, shares_are_of_records, write_document2, written_documents_are_good,
-};
+use crn_cert::{Answers, Verdict, share_of};
+use crn_ctext::{shares_are_of_records, write_document2, written_documents_are_good};
 use crn_document::Accepted;
 use crn_io::Sink;
 use crn_net::Network;
 use crn_render::{Printed, write_fault, write_report};
 use crn_solve::solve;
 use crn_text::TextCode;
-use crn_vec::{NoMemory, Nums};
 use std::alloc::Global;
 
 /// Writes how the program is used. Takes no memory.
@@ -127,33 +127,22 @@ pub(crate) fn report<K: Sink>(alloc: Global, net: &Network, budget: u32, sink: &
     }
 }
 
-// The share of answers that have no cuts: no list is written once.
-fn empty_share(alloc: Global) -> Result<Share, NoMemory>
-    ensures table { IfOk result (λ share. share.table ≡ []) }
-    ensures leaf { IfOk result (λ share. share.leaf.list ≡ []) }
-{
-    Ok(Share {
-        table: Rows::new(alloc)?,
-        leaf: Nums::from_vec(Vec::new(alloc)),
-    })
-}
-
-// What is written for a network and valid answers to its questions is a good document.
+// What is written for a network and valid answers to its questions, with the share of the answers, is a good document.
 fn certificate_is_good(net: &Network, answers: &Answers)
     requires formed { AreFormed net.now [] built answers.now }
     requires valid { AreValid net.now [] built answers.now }
-    ensures share { share_of (records_of net.now answers.now) ≡ record { table = []; leaf = [] } }
+    ensures share { share_of (records_of net.now answers.now)
+        ≡ as_share (share_of_answers MAX_SHARED answers.now) }
     ensures good { IsGood (certificate net.now answers.now) }
 {
     let _ = net.species();
-    built_answers_have_no_cuts();
     shares_are_of_records();
     written_documents_are_good();
 }
 
 /// Answers the questions on a network, and writes the document of the answers. Takes memory, before it writes.
 ///
-/// The answers to the questions that are built have no cuts, so the document shares no lists.
+/// The lists of equal cuts are written once.
 pub(crate) fn certify<K: Sink>(alloc: Global, net: &Network, budget: u32, sink: &mut K) -> Status
     requires some { 1 ≤ budget }
     requires most { budget ≤ MAX_BUDGET }
@@ -164,7 +153,7 @@ pub(crate) fn certify<K: Sink>(alloc: Global, net: &Network, budget: u32, sink: 
         Err(_) => return Status::NoMemory,
     };
     let whole = status_of(&answers);
-    let share = match empty_share(alloc) {
+    let share = match share_of(alloc, &answers) {
         Ok(share) => share,
         Err(_) => return Status::NoMemory,
     };

@@ -1,8 +1,8 @@
-use Rattle.crn_run.proofs.Certificates.{certificate_good, empty_share}
+use Rattle.crn_run.proofs.Certificates.{certificate_good}
 use Rattle.crn_run.proofs.output.certificate_is_good.Goals as goal
 
 pub returns : goal.returns
 returns c = record {
-  share = empty_share c.shares_are_of_records.ensures.one c.built_answers_have_no_cuts.ensures c.args.net.now c.args.answers.now c.requires.formed;
+  share = c.shares_are_of_records.ensures.one c.args.net.now c.args.answers.now c.requires.formed;
   good = certificate_good c.written_documents_are_good.ensures.second c.written_documents_are_good.ensures.share c.args.net.now c.args.answers.now c.species.ensures.network c.requires.formed c.requires.valid;
 }

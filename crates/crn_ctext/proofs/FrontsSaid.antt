@@ -1,0 +1,78 @@
+-- The verdict that a block says depends on no node of its trees.
+use Rattle.std.proofs.Common.{◌≡◌, ◌++◌, ◌∙◌, ℕ, zero, suc, Bool, true, false, if◌then◌else◌, List, [], refl, ap}
+use Rattle.std.specs.Prelude.{ℤ}
+use Rattle.std.proofs.lemmas.List.{append-nil}
+use Rattle.crn_vec.specs.Network.{Net}
+use Rattle.crn_vec.specs.declared.signs.Sign.{Sign}
+use Rattle.crn_cert.specs.declared.answer.Gap.{Gap}
+use Rattle.crn_cert.specs.declared.answer.Verdict.{Verdict}
+use Rattle.crn_cert.specs.declared.answer.Verdict.TheVariants.{Unknown}
+use Rattle.crn_cert.specs.Questions.{Question, Q1, Q2, Q3, Q4, Q5, Q6, Q7, Q8, Q9, Q10, Q11, Q12, Q13, Q14, Q15}
+use Rattle.crn_ctext.specs.Records.{Record}
+use Rattle.crn_ctext.specs.Questions.{heads}
+use Rattle.crn_ctext.specs.Blocks.{Problem, problems, place_of, is_open, unless}
+use Rattle.crn_ctext.specs.Documents.{AreTrees, IsOneOf, leaf_forms}
+use Rattle.crn_ctext.specs.Meaning.{Known, sizes_of, gap_of, verdict_by, verdict_of, problems_by, meaning}
+
+-- trees of these leaves
+abbrev pub Trees : (Problem → List Sign → Record → Type 0) → List {1} Problem → List Record → Type 0
+Trees Leaf ps nodes = AreTrees Leaf ps nodes
+
+-- no trees have no nodes
+none_are : (Leaf : Problem → List Sign → Record → Type 0) (t : Bool) (nodes : List Record) → Trees Leaf (unless t []) nodes → nodes ≡ []
+none_are Leaf true nodes h = h
+none_are Leaf false nodes h = h
+
+without : (says : List Record → Verdict) (rows nodes : List Record) → nodes ≡ [] → says (rows ++ nodes) ≡ says rows
+without says rows nodes none = ap (λ (ns : List Record). says (rows ++ ns)) none ∙ ap says (append-nil rows)
+
+concordant_says : (Leaf : Problem → List Sign → Record → Type 0) (net : Net) (t : Bool) (g : Gap) (place : ℕ) (n : List ℤ) (rows nodes : List Record) → Trees Leaf (unless t (problems_by Q14 net place)) nodes
+    → (if t then Unknown g else verdict_by Q14 place n (rows ++ nodes)) ≡ (if t then Unknown g else verdict_by Q14 place n rows)
+concordant_says Leaf net true g place n rows nodes h = refl
+concordant_says Leaf net false g zero n rows nodes h = refl
+concordant_says Leaf net false g (suc zero) n rows nodes h = refl
+concordant_says Leaf net false g (suc (suc zero)) n rows nodes h = without (verdict_by Q14 (suc (suc zero)) n) rows nodes h
+concordant_says Leaf net false g (suc (suc (suc k))) n rows nodes h = refl
+
+strongly_says : (Leaf : Problem → List Sign → Record → Type 0) (net : Net) (t : Bool) (g : Gap) (place : ℕ) (n : List ℤ) (rows nodes : List Record) → Trees Leaf (unless t (problems_by Q15 net place)) nodes
+    → (if t then Unknown g else verdict_by Q15 place n (rows ++ nodes)) ≡ (if t then Unknown g else verdict_by Q15 place n rows)
+strongly_says Leaf net true g place n rows nodes h = refl
+strongly_says Leaf net false g zero n rows nodes h = refl
+strongly_says Leaf net false g (suc zero) n rows nodes h = refl
+strongly_says Leaf net false g (suc (suc zero)) n rows nodes h = without (verdict_by Q15 (suc (suc zero)) n) rows nodes h
+strongly_says Leaf net false g (suc (suc (suc k))) n rows nodes h = refl
+
+abbrev SaysAlone : (Problem → List Sign → Record → Type 0) → Question → Type 0
+SaysAlone Leaf q = (known : Known) (h : Record) (rows nodes : List Record) → Trees Leaf (problems meaning q known h) nodes → verdict_of q (sizes_of known) h (rows ++ nodes) ≡ verdict_of q (sizes_of known) h rows
+
+plain : (Leaf : Problem → List Sign → Record → Type 0) (q : Question) (known : Known) (h : Record) (rows nodes : List Record) → Trees Leaf (unless (is_open h) []) nodes → verdict_of q (sizes_of known) h (rows ++ nodes) ≡ verdict_of q (sizes_of known) h rows
+plain Leaf q known h rows nodes t = without (verdict_of q (sizes_of known) h) rows nodes (none_are Leaf (is_open h) nodes t)
+
+pub front_says : (Leaf : Problem → List Sign → Record → Type 0) (q : Question) → SaysAlone Leaf q
+front_says Leaf Q1 = plain Leaf Q1
+front_says Leaf Q2 = plain Leaf Q2
+front_says Leaf Q3 = plain Leaf Q3
+front_says Leaf Q4 = plain Leaf Q4
+front_says Leaf Q5 = plain Leaf Q5
+front_says Leaf Q6 = plain Leaf Q6
+front_says Leaf Q7 = plain Leaf Q7
+front_says Leaf Q8 = plain Leaf Q8
+front_says Leaf Q9 = plain Leaf Q9
+front_says Leaf Q10 = plain Leaf Q10
+front_says Leaf Q11 = plain Leaf Q11
+front_says Leaf Q12 = plain Leaf Q12
+front_says Leaf Q13 = plain Leaf Q13
+front_says Leaf Q14 = λ known h rows nodes t. concordant_says Leaf known.net (is_open h) (gap_of h) (place_of (heads Q14 (sizes_of known)) h.words) h.numbers rows nodes t
+front_says Leaf Q15 = λ known h rows nodes t. strongly_says Leaf known.net (is_open h) (gap_of h) (place_of (heads Q15 (sizes_of known)) h.words) h.numbers rows nodes t
+
+-- ---- questions whose answers have no trees
+
+abbrev Formed : Problem → List Sign → Record → Type 0
+Formed problem prefix r = IsOneOf (leaf_forms problem) r
+
+-- no tree follows the records below a head of the question
+abbrev pub HasNoTrees : Question → Type 0
+HasNoTrees q = (known : Known) (h : Record) (nodes : List Record) → Trees Formed (problems meaning q known h) nodes → nodes ≡ []
+
+pub none_follow : (h : Record) (nodes : List Record) → Trees Formed (unless (is_open h) []) nodes → nodes ≡ []
+none_follow h nodes t = none_are Formed (is_open h) nodes t

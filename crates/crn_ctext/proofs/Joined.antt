@@ -1,0 +1,150 @@
+-- An answer and its records, in one or the other of two ways: by equations, if no tree follows them, or by what each gives for the other.
+use Rattle.std.proofs.Common.{◌≡◌, ◌++◌, ◌∙◌, ℕ, Bool, true, false, List, [], ◌∷◌, refl, sym, ap, ap₂, subst}
+use Rattle.std.proofs.lemmas.List.{append_cancel_left}
+use Rattle.crn_vec.specs.Kept.{KeptNums}
+use Rattle.crn_vec.specs.declared.signs.Sign.{Sign}
+use Rattle.crn_cert.specs.Trees.{Plan}
+use Rattle.crn_cert.specs.declared.answer.Gap.TheVariants.{Wide}
+use Rattle.crn_cert.specs.declared.answer.Verdict.{Verdict}
+use Rattle.crn_cert.specs.declared.answer.Verdict.TheVariants.{Unknown}
+use Rattle.crn_cert.specs.declared.answer.Proof.{Proof}
+use Rattle.crn_cert.specs.declared.answer.Proof.TheVariants.{Nothing}
+use Rattle.crn_cert.specs.declared.answer.Answer.{Answer}
+use Rattle.crn_cert.specs.Questions.{Earlier, Question, Q1, Q2, Q3, Q4, Q5, Q6, Q7, Q8, Q9, Q10, Q11, Q12, Q13, Q14, Q15}
+use Rattle.crn_cert.specs.Tests.{Test, AllHold}
+use Rattle.crn_cert.specs.Formed.{IsFormedOf}
+use Rattle.crn_cert.specs.Valid.{head_tests, row_tests, IsValid}
+use Rattle.crn_ctext.specs.Records.{Record}
+use Rattle.crn_ctext.specs.Blocks.{Problem, head_claims, row_claims, problems, is_open, unless}
+use Rattle.crn_ctext.specs.Documents.{Parts, IsFormed, AreTrees, IsGoodLeaf, IsOneOf, leaf_forms}
+use Rattle.crn_ctext.specs.Documents as documents
+use Rattle.crn_ctext.specs.Answers.{head_of, records_below, proof_nodes, records}
+use Rattle.crn_ctext.specs.Meaning.{Known, shapes_of, sizes_of, verdict_of, proof_of, meaning}
+use Rattle.crn_ctext.specs.Same.{said, shown}
+use Rattle.crn_ctext.proofs.Alike.{IsAlike}
+use Rattle.crn_ctext.proofs.AnswersApart.{block_apart}
+
+-- ---- an answer and its records
+
+-- the parts of an answer's block
+abbrev pub parts : (q : Question) (known : Known) (a : Answer) → Parts (records q (shapes_of known) a)
+parts q known a = record { head = head_of q a.verdict; rows = records_below (shapes_of known) a; nodes = proof_nodes a.proof; all = refl }
+
+-- the records are formed, their tests are those of the answer, and they say its verdict and its proof
+pub record IsLinked (known : Known) (earlier : Earlier) (q : Question) (a : Answer) : Type 1 where
+  pub formed : IsFormed meaning q known (records q (shapes_of known) a) (parts q known a)
+  pub heads : head_claims meaning q known (head_of q a.verdict) ≡ head_tests known.net earlier q a.verdict
+  pub rows : row_claims meaning q known (head_of q a.verdict) (records_below (shapes_of known) a) ≡ row_tests known.net earlier q a.verdict a.proof
+  pub says : said (verdict_of q (sizes_of known) (head_of q a.verdict) (records_below (shapes_of known) a)) ≡ said a.verdict
+  pub shows : shown (proof_of q (shapes_of known) (head_of q a.verdict) (records_below (shapes_of known) a)) ≡ shown a.proof
+
+abbrev pub answer : Verdict → Proof → Answer
+answer v p = record { verdict = v; proof = p }
+
+-- ---- open answers
+
+-- an answer that is open by this system and class has these numbers and no proof
+pub open_as : (known : Known) (earlier : Earlier) (q : Question) (system class index : ℕ) (basis : KeptNums) (p : Proof) (s c : ℕ) → system ≡ s → class ≡ c → p ≡ Nothing → IsLinked known earlier q (answer (Unknown (Wide s c index basis)) Nothing)
+    → IsLinked known earlier q (answer (Unknown (Wide system class index basis)) p)
+open_as known earlier q system class index basis p s c a b e l =
+    subst (λ (x : ℕ). IsLinked known earlier q (answer (Unknown (Wide x class index basis)) p)) (sym a) (subst (λ (x : ℕ). IsLinked known earlier q (answer (Unknown (Wide s x index basis)) p)) (sym b)
+    (subst (λ (x : Proof). IsLinked known earlier q (answer (Unknown (Wide s c index basis)) x)) (sym e) l))
+
+-- ---- tests
+
+pub all_front : (xs ys : List Test) → AllHold (xs ++ ys) → AllHold xs × AllHold ys
+all_front [] ys h = (tt, h)
+all_front (x ∷ xs) ys h = let more = all_front xs ys h.1 in ((h.0, more.0), more.1)
+
+pub all_both : (xs ys : List Test) → AllHold xs → AllHold ys → AllHold (xs ++ ys)
+all_both [] ys p q = q
+all_both (x ∷ xs) ys p q = (p.0, all_both xs ys p.1 q)
+
+-- each formed answer to the question is linked, if what is known says the same as the earlier verdicts
+abbrev pub IsLinkedFor : Question → Type 1
+IsLinkedFor q = (known : Known) (earlier : Earlier) (v : Verdict) (p : Proof) → IsAlike known earlier → IsFormedOf known.net earlier q v p → IsLinked known earlier q (answer v p)
+
+-- ---- an answer by what it gives for its records and they for it
+
+-- the records of each formed answer to the question are formed, and valid if and only if it is; they say its verdict, and answers with the same records are the same
+pub record IsJoinedFor (q : Question) : Type 1 where
+  pub formed : (known : Known) (earlier : Earlier) (v : Verdict) (p : Proof) → IsAlike known earlier → IsFormedOf known.net earlier q v p → IsFormed meaning q known (records q (shapes_of known) (answer v p)) (parts q known (answer v p))
+  pub there : (known : Known) (earlier : Earlier) (v : Verdict) (p : Proof) → IsAlike known earlier → IsFormedOf known.net earlier q v p → IsValid known.net earlier q (answer v p)
+      → documents.IsValid meaning q known (records q (shapes_of known) (answer v p)) (parts q known (answer v p))
+  pub back : (known : Known) (earlier : Earlier) (v : Verdict) (p : Proof) → IsAlike known earlier → IsFormedOf known.net earlier q v p
+      → documents.IsValid meaning q known (records q (shapes_of known) (answer v p)) (parts q known (answer v p)) → IsValid known.net earlier q (answer v p)
+  pub says : (known : Known) (earlier : Earlier) (v : Verdict) (p : Proof) → IsAlike known earlier → IsFormedOf known.net earlier q v p
+      → said (verdict_of q (sizes_of known) (head_of q v) (records_below (shapes_of known) (answer v p))) ≡ said v
+  pub shows : (known : Known) (earlier later : Earlier) (v w : Verdict) (p r : Proof) → IsAlike known earlier → IsAlike known later → IsFormedOf known.net earlier q v p → IsFormedOf known.net later q w r
+      → head_of q v ≡ head_of q w → records_below (shapes_of known) (answer v p) ≡ records_below (shapes_of known) (answer w r) → proof_nodes p ≡ proof_nodes r → shown p ≡ shown r
+
+-- formed trees of no problems are valid
+none_good : (ps : List {1} Problem) (rs : List Record) → ps ≡ [] → AreTrees (λ (problem : Problem) (prefix : List Sign) (r : Record). IsOneOf (leaf_forms problem) r) ps rs → AreTrees IsGoodLeaf ps rs
+none_good ps rs none t = subst (λ (xs : List {1} Problem). AreTrees IsGoodLeaf xs rs) (sym none) (subst (λ (xs : List {1} Problem). AreTrees (λ (problem : Problem) (prefix : List Sign) (r : Record). IsOneOf (leaf_forms problem) r) xs rs) none t)
+
+pub linked_there : (known : Known) (earlier : Earlier) (q : Question) (a : Answer) → problems meaning q known (head_of q a.verdict) ≡ [] → IsLinked known earlier q a → IsValid known.net earlier q a → documents.IsValid meaning q known (records q (shapes_of known) a) (parts q known a)
+linked_there known earlier q a none l v =
+    let hold = all_front (head_tests known.net earlier q a.verdict) (row_tests known.net earlier q a.verdict a.proof) v in
+    let formed = l.formed in
+    record { head = subst AllHold (sym l.heads) hold.0; rows = subst AllHold (sym l.rows) hold.1; trees = none_good (problems meaning q known (head_of q a.verdict)) (proof_nodes a.proof) none formed.trees }
+
+pub linked_back : (known : Known) (earlier : Earlier) (q : Question) (a : Answer) → IsLinked known earlier q a → documents.IsValid meaning q known (records q (shapes_of known) a) (parts q known a) → IsValid known.net earlier q a
+linked_back known earlier q a l v = all_both (head_tests known.net earlier q a.verdict) (row_tests known.net earlier q a.verdict a.proof) (subst AllHold l.heads v.head) (subst AllHold l.rows v.rows)
+
+linked_joins : (q : Question) → ((known : Known) (h : Record) → problems meaning q known h ≡ []) → IsLinkedFor q → IsJoinedFor q
+linked_joins q none link = record {
+  formed = λ known earlier v p e f. let l = link known earlier v p e f in l.formed;
+  there = λ known earlier v p e f valid. linked_there known earlier q (answer v p) (none known (head_of q v)) (link known earlier v p e f) valid;
+  back = λ known earlier v p e f valid. linked_back known earlier q (answer v p) (link known earlier v p e f) valid;
+  says = λ known earlier v p e f. let l = link known earlier v p e f in l.says;
+  shows = λ known earlier later v w p r d e f g head rows nodes.
+      let k = link known earlier v p d f in
+      let l = link known later w r e g in
+      sym k.shows ∙ ap₂ (λ (x : Record) (xs : List Record). shown (proof_of q (shapes_of known) x xs)) head rows ∙ l.shows;
+}
+
+-- ---- each question
+
+-- how formed answers to a question are related to their records: those on concordance may have trees
+abbrev pub LinkFor : Question → Type 1
+LinkFor Q14 = IsJoinedFor Q14
+LinkFor Q15 = IsJoinedFor Q15
+LinkFor q = IsLinkedFor q
+
+none_due : (t : Bool) → unless {A = Problem} t [] ≡ []
+none_due true = refl
+none_due false = refl
+
+pub joined : (q : Question) → LinkFor q → IsJoinedFor q
+joined Q1 l = linked_joins Q1 (λ known h. none_due (is_open h)) l
+joined Q2 l = linked_joins Q2 (λ known h. none_due (is_open h)) l
+joined Q3 l = linked_joins Q3 (λ known h. none_due (is_open h)) l
+joined Q4 l = linked_joins Q4 (λ known h. none_due (is_open h)) l
+joined Q5 l = linked_joins Q5 (λ known h. none_due (is_open h)) l
+joined Q6 l = linked_joins Q6 (λ known h. none_due (is_open h)) l
+joined Q7 l = linked_joins Q7 (λ known h. none_due (is_open h)) l
+joined Q8 l = linked_joins Q8 (λ known h. none_due (is_open h)) l
+joined Q9 l = linked_joins Q9 (λ known h. none_due (is_open h)) l
+joined Q10 l = linked_joins Q10 (λ known h. none_due (is_open h)) l
+joined Q11 l = linked_joins Q11 (λ known h. none_due (is_open h)) l
+joined Q12 l = linked_joins Q12 (λ known h. none_due (is_open h)) l
+joined Q13 l = linked_joins Q13 (λ known h. none_due (is_open h)) l
+joined Q14 l = l
+joined Q15 l = l
+
+-- ---- the parts of one block
+
+rest_same : (x y : Record) (xs ys : List Record) → x ∷ xs ≡ y ∷ ys → xs ≡ ys
+rest_same x y xs ys e = cc
+
+-- what is valid of one cut into parts is valid of the other
+pub same_valid : (q : Question) (known : Known) (rs : List Record) (p u : Parts rs) → IsFormed meaning q known rs p → IsFormed meaning q known rs u → documents.IsValid meaning q known rs p
+    → documents.IsValid meaning q known rs u × (meaning.learn q known p.head p.rows ≡ meaning.learn q known u.head u.rows)
+same_valid q known rs p u f g v =
+    let same = (block_apart meaning q known rs rs [] [] p u f g refl).1 in
+    let heads = subst (λ (h : Record). AllHold (head_claims meaning q known h)) same.0 v.head in
+    let rows = subst (λ (h : Record). AllHold (row_claims meaning q known h u.rows)) same.0 (subst (λ (r : List Record). AllHold (row_claims meaning q known p.head r)) same.1 v.rows) in
+    let below : p.rows ++ p.nodes ≡ u.rows ++ u.nodes = rest_same p.head u.head (p.rows ++ p.nodes) (u.rows ++ u.nodes) (sym p.all ∙ u.all) in
+    let nodes : p.nodes ≡ u.nodes = append_cancel_left u.rows p.nodes u.nodes (ap (λ (t : List Record). t ++ p.nodes) (sym same.1) ∙ below) in
+    let trees = subst (λ (h : Record). AreTrees IsGoodLeaf (problems meaning q known h) u.nodes) same.0 (subst (λ (ns : List Record). AreTrees IsGoodLeaf (problems meaning q known p.head) ns) nodes v.trees) in
+    (record { head = heads; rows = rows; trees = trees }, ap₂ (λ (h : Record) (r : List Record). meaning.learn q known h r) same.0 same.1)

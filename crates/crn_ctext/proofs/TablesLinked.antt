@@ -1,0 +1,264 @@
+-- Answers on concordance and their records: a tree, or two lists that show the table discordant.
+use Rattle.std.proofs.Common.{◌≡◌, ◌⊎◌, ◌≤◌, ◌+◌, ◌++◌, ◌∙◌, ℕ, List, [], ◌∷◌, length, map, refl, sym, ap, subst, inl, inr, arith}
+use Rattle.std.specs.Prelude.{ℤ, pos, codes}
+use Rattle.std.specs.List.{range_with_len}
+use Rattle.std.proofs.lemmas.List.{append-nil, length-map}
+use Rattle.std.proofs.lemmas.List.FromFn.{length-range_with_len}
+use Rattle.crn_vec.specs.Kept.{KeptNums}
+use Rattle.crn_vec.specs.Network.{Net}
+use Rattle.crn_vec.specs.Vectors.{column}
+use Rattle.crn_vec.specs.Deficiency.{vectors}
+use Rattle.crn_vec.specs.NetSystems.{reaction_system}
+use Rattle.crn_vec.specs.Problems.{Signed}
+use Rattle.crn_vec.specs.Influence.{plain_table, strong_table}
+use Rattle.crn_vec.specs.declared.signs.Sign.{Sign}
+use Rattle.crn_vec.specs.declared.limits.TheConstants.{MAX_BUDGET}
+use Rattle.crn_cert.specs.declared.answer.Gap.TheVariants.{Wide, Budget, Rests}
+use Rattle.crn_cert.specs.declared.answer.Verdict.{Verdict}
+use Rattle.crn_cert.specs.declared.answer.Verdict.TheVariants.{Yes, NoPair, Unknown}
+use Rattle.crn_cert.specs.declared.answer.Proof.{Proof}
+use Rattle.crn_cert.specs.declared.answer.Proof.TheVariants.{Nothing, One}
+use Rattle.crn_cert.specs.declared.tree.Tree.{Tree, Split', CutA, CutB, Flat}
+use Rattle.crn_cert.specs.Questions.{Earlier, Q14, Q15}
+use Rattle.crn_cert.specs.Tests.{AllHold}
+use Rattle.crn_cert.specs.Trees.{plan, IsFormedTree, IsValid as IsValidTree}
+use Rattle.crn_cert.specs.Nodes.{Fits as FitsNode}
+use Rattle.crn_cert.specs.TreeTests.{tree_tests}
+use Rattle.crn_cert.specs.Formed.{IsBasisOf, IsFormedOf, RowsMayBe, RowsConcordant}
+use Rattle.crn_cert.specs.Valid.{IsValid}
+use Rattle.crn_cert.proofs.CallerLemmas.{tests_decide_valid_trees}
+use Rattle.crn_ctext.specs.Records.{Record}
+use Rattle.crn_ctext.specs.Blocks.{problems}
+use Rattle.crn_ctext.specs.Documents.{IsFormed, IsTree, AreTrees, IsGoodLeaf}
+use Rattle.crn_ctext.specs.Documents as documents
+use Rattle.crn_ctext.specs.Answers.{head_of, records_below, proof_nodes, records, nodes}
+use Rattle.crn_ctext.specs.Meaning.{Known, shapes_of, sizes_of, verdict_of, problem_over, table_problem, meaning}
+use Rattle.crn_ctext.specs.Same.{said, shown}
+use Rattle.crn_ctext.proofs.Alike.{IsAlike}
+use Rattle.crn_ctext.proofs.RanksLinked.{back_again, free_fits, number_then, wide_fits}
+use Rattle.crn_ctext.proofs.Joined.{parts, IsLinked, answer, open_as, linked_there, linked_back, IsJoinedFor}
+use Rattle.crn_ctext.proofs.TreeRecords.{FormedAt, tree_formed, tree_good, tree_valid, plans_one}
+
+-- ---- trees
+
+-- the problem has a choice for each species
+pub rows_counted : (net : Net) → length (reaction_system net).rows ≡ length net.names
+rows_counted net = length-map (range_with_len 0 (length net.names)) (column (vectors net)) ∙ length-range_with_len 0 (length net.names)
+
+-- the records are the one tree of this problem
+abbrev OneTree : Net → Signed → List Record → Type 0
+OneTree net w rs = AreTrees IsGoodLeaf (problem_over net w ∷ []) rs
+
+abbrev TreeTestsHold : Net → List (List Sign) → Tree → Type 0
+TreeTestsHold net table tree = AllHold (tree_tests (FitsNode (table_problem net table)) 1 [] (plan tree))
+
+by_choices : (net : Net) (table : List (List Sign)) (tree : Tree) → FormedAt net [] (plan tree) → IsFormedTree (length (reaction_system net).rows) (length net.names) (length net.names) [] (plan tree)
+by_choices net table tree f = subst (λ (c : ℕ). IsFormedTree c (length net.names) (length net.names) [] (plan tree)) (sym (rows_counted net)) f
+
+tests_good : (net : Net) (table : List (List Sign)) (tree : Tree) → FormedAt net [] (plan tree) → TreeTestsHold net table tree → OneTree net (table_problem net table) (nodes tree)
+tests_good net table tree f hold =
+    let w : Signed = table_problem net table in
+    let both = tests_decide_valid_trees w (length net.names) (length net.names) 1 [] (plan tree) (by_choices net table tree f) in
+    (nodes tree, [], sym (append-nil (nodes tree)), tree_good net w (length net.names) [] tree (omega arith) f (both.0 hold), refl)
+
+good_tests : (net : Net) (table : List (List Sign)) (tree : Tree) → FormedAt net [] (plan tree) → OneTree net (table_problem net table) (nodes tree) → TreeTestsHold net table tree
+good_tests net table tree f t =
+    let w : Signed = table_problem net table in
+    let both = tests_decide_valid_trees w (length net.names) (length net.names) 1 [] (plan tree) (by_choices net table tree f) in
+    let all : t.0 ≡ nodes tree = sym (t.2 ∙ ap (λ (x : List Record). t.0 ++ x) t.4 ∙ append-nil t.0) in
+    let good : IsTree (IsGoodLeaf (problem_over net w)) (length net.names) [] (nodes tree) = subst (λ (rs : List Record). IsTree (IsGoodLeaf (problem_over net w)) (length net.names) [] rs) all t.3 in
+    both.1 (tree_valid net w (length net.names) [] tree (rows_counted net) (omega arith) f good)
+
+some_nodes : (tree : Tree) → nodes tree ≡ [] → ⊥
+some_nodes (Split' a zeros b pluses held) e = cc
+some_nodes (CutA u) e = cc
+some_nodes (CutB u) e = cc
+some_nodes Flat e = cc
+
+-- ---- the two kinds of proofs
+
+-- the lists of a verdict on concordance and of its proof
+abbrev pub TableRows : Net → Verdict → Proof → Type 0
+TableRows net (Unknown gap) p = p ≡ Nothing
+TableRows net v p = RowsConcordant net v p
+
+abbrev pub IsTreeOrNone : Net → Proof → Type 0
+IsTreeOrNone net p = (p ≡ Nothing) ⊎ ((tree : Tree) × (p ≡ One tree) × FormedAt net [] (plan tree))
+
+pub tree_or_none : (net : Net) (v : Verdict) (p : Proof) → TableRows net v p → IsTreeOrNone net p
+tree_or_none net Yes (One tree) h = inr (tree, refl, h)
+tree_or_none net Yes p h = absurd h
+tree_or_none net (NoPair alpha weights) Nothing h = inl refl
+tree_or_none net (NoPair alpha weights) p h = absurd h
+tree_or_none net (Unknown gap) p h = inl h
+tree_or_none net v p h = absurd h
+
+shown_by : (net : Net) (w : Signed) (p r : Proof) → IsTreeOrNone net p → IsTreeOrNone net r → proof_nodes p ≡ proof_nodes r → shown p ≡ shown r
+shown_by net w p r (inl a) (inl b) n = ap shown (a ∙ sym b)
+shown_by net w p r (inl a) (inr b) n = absurd (some_nodes b.0 (sym (ap proof_nodes b.1) ∙ sym n ∙ ap proof_nodes a))
+shown_by net w p r (inr a) (inl b) n = absurd (some_nodes a.0 (sym (ap proof_nodes a.1) ∙ n ∙ ap proof_nodes b))
+shown_by net w p r (inr a) (inr b) n =
+    let same : nodes a.0 ≡ nodes b.0 = sym (ap proof_nodes a.1) ∙ n ∙ ap proof_nodes b.1 in
+    ap shown a.1 ∙ ap (λ t. (Nothing, t ∷ [])) (plans_one net w (length net.names) [] a.0 b.0 (omega arith) a.2 b.2 same) ∙ sym (ap shown b.1)
+
+-- ---- concordant
+
+plain_open : (known : Known) (earlier : Earlier) (index : ℕ) (basis : KeptNums) → IsBasisOf (length known.net.reactions) (length known.net.names) index basis.list → IsLinked known earlier Q14 (answer (Unknown (Wide 2 0 index basis)) Nothing)
+plain_open known earlier index basis b =
+    record {
+      formed = record { head = (_, inr (inr (inl refl)), (refl, wide_fits 2 (length known.net.reactions) (length known.net.names) index basis.list b)); rows = tt; trees = refl };
+      heads = refl;
+      rows = refl;
+      says = ap (λ (x : List ℕ). Unknown (Wide 2 0 index (record { list = x; spare = 0 }))) (back_again basis.list);
+      shows = refl;
+    }
+
+plain_spent : (known : Known) (earlier : Earlier) (budget : ℕ) → 1 ≤ budget → budget ≤ MAX_BUDGET → IsLinked known earlier Q14 (answer (Unknown (Budget budget)) Nothing)
+plain_spent known earlier budget some most =
+    record {
+      formed = record { head = (_, inr (inr (inr (inl refl))), (refl, number_then 1 MAX_BUDGET budget [] [] some most refl)); rows = tt; trees = refl };
+      heads = refl;
+      rows = refl;
+      says = refl;
+      shows = refl;
+    }
+
+-- an answer without a tree
+plain_linked : (known : Known) (earlier : Earlier) (v : Verdict) (p : Proof) → IsFormedOf known.net earlier Q14 v p → (v ≡ Yes → ⊥) → IsLinked known earlier Q14 (answer v p)
+plain_linked known earlier Yes p f other = absurd (other refl)
+plain_linked known earlier (NoPair alpha weights) Nothing f other =
+    let r = length known.net.reactions in
+    record { formed = record { head = (_, inr (inl refl), (refl, refl)); rows = (free_fits (codes "alpha") r alpha.list f.1.0, (free_fits (codes "weights") r weights.list f.1.1, tt)); trees = refl }; heads = refl; rows = refl; says = refl; shows = refl }
+plain_linked known earlier (NoPair alpha weights) p f other = absurd f.1
+plain_linked known earlier (Unknown (Wide system class index basis)) p f other = open_as known earlier Q14 system class index basis p 2 0 f.0.0 f.0.1 f.1 (plain_open known earlier index basis f.0.2)
+plain_linked known earlier (Unknown (Budget budget)) p f other = subst (λ (x : Proof). IsLinked known earlier Q14 (answer (Unknown (Budget budget)) x)) (sym f.1) (plain_spent known earlier budget f.0.0 f.0.1)
+plain_linked known earlier (Unknown (Rests question)) p f other = absurd f.0
+plain_linked known earlier v p f other = absurd f.0
+
+plain_formed : (known : Known) (earlier : Earlier) (v : Verdict) (p : Proof) → IsFormedOf known.net earlier Q14 v p → IsFormed meaning Q14 known (records Q14 (shapes_of known) (answer v p)) (parts Q14 known (answer v p))
+plain_formed known earlier Yes (One tree) f =
+    let net = known.net in
+    record { head = (_, inl refl, (refl, refl)); rows = tt; trees = (nodes tree, [], sym (append-nil (nodes tree)), tree_formed net (table_problem net (plain_table net)) (length net.names) [] tree (omega arith) f.1, refl) }
+plain_formed known earlier Yes p f = absurd f.1
+plain_formed known earlier (NoPair alpha weights) p f = let l = plain_linked known earlier (NoPair alpha weights) p f (λ e. absurd cc) in l.formed
+plain_formed known earlier (Unknown gap) p f = let l = plain_linked known earlier (Unknown gap) p f (λ e. absurd cc) in l.formed
+plain_formed known earlier v p f = absurd f.0
+
+plain_there : (known : Known) (earlier : Earlier) (v : Verdict) (p : Proof) → IsFormedOf known.net earlier Q14 v p → IsValid known.net earlier Q14 (answer v p) → documents.IsValid meaning Q14 known (records Q14 (shapes_of known) (answer v p)) (parts Q14 known (answer v p))
+plain_there known earlier Yes (One tree) f v = record { head = tt; rows = tt; trees = tests_good known.net (plain_table known.net) tree f.1 v }
+plain_there known earlier Yes p f v = absurd f.1
+plain_there known earlier (NoPair alpha weights) p f v = linked_there known earlier Q14 (answer (NoPair alpha weights) p) refl (plain_linked known earlier (NoPair alpha weights) p f (λ e. absurd cc)) v
+plain_there known earlier (Unknown (Wide system class index basis)) p f v = linked_there known earlier Q14 (answer (Unknown (Wide system class index basis)) p) refl (plain_linked known earlier (Unknown (Wide system class index basis)) p f (λ e. absurd cc)) v
+plain_there known earlier (Unknown (Budget budget)) p f v = linked_there known earlier Q14 (answer (Unknown (Budget budget)) p) refl (plain_linked known earlier (Unknown (Budget budget)) p f (λ e. absurd cc)) v
+plain_there known earlier (Unknown (Rests question)) p f v = absurd f.0
+plain_there known earlier v p f valid = absurd f.0
+
+plain_back : (known : Known) (earlier : Earlier) (v : Verdict) (p : Proof) → IsFormedOf known.net earlier Q14 v p → documents.IsValid meaning Q14 known (records Q14 (shapes_of known) (answer v p)) (parts Q14 known (answer v p)) → IsValid known.net earlier Q14 (answer v p)
+plain_back known earlier Yes (One tree) f v = good_tests known.net (plain_table known.net) tree f.1 v.trees
+plain_back known earlier Yes p f v = absurd f.1
+plain_back known earlier (NoPair alpha weights) p f v = linked_back known earlier Q14 (answer (NoPair alpha weights) p) (plain_linked known earlier (NoPair alpha weights) p f (λ e. absurd cc)) v
+plain_back known earlier (Unknown gap) p f v = linked_back known earlier Q14 (answer (Unknown gap) p) (plain_linked known earlier (Unknown gap) p f (λ e. absurd cc)) v
+plain_back known earlier v p f valid = absurd f.0
+
+plain_says : (known : Known) (earlier : Earlier) (v : Verdict) (p : Proof) → IsFormedOf known.net earlier Q14 v p → said (verdict_of Q14 (sizes_of known) (head_of Q14 v) (records_below (shapes_of known) (answer v p))) ≡ said v
+plain_says known earlier Yes p f = refl
+plain_says known earlier (NoPair alpha weights) p f = let l = plain_linked known earlier (NoPair alpha weights) p f (λ e. absurd cc) in l.says
+plain_says known earlier (Unknown gap) p f = let l = plain_linked known earlier (Unknown gap) p f (λ e. absurd cc) in l.says
+plain_says known earlier v p f = absurd f.0
+
+plain_rows : (net : Net) (earlier : Earlier) (v : Verdict) (p : Proof) → IsFormedOf net earlier Q14 v p → TableRows net v p
+plain_rows net earlier Yes p f = f.1
+plain_rows net earlier (NoPair alpha weights) p f = f.1
+plain_rows net earlier (Unknown gap) p f = f.1
+plain_rows net earlier v p f = absurd f.0
+
+pub plain_joined : IsJoinedFor Q14
+plain_joined = record {
+  formed = λ known earlier v p e f. plain_formed known earlier v p f;
+  there = λ known earlier v p e f valid. plain_there known earlier v p f valid;
+  back = λ known earlier v p e f valid. plain_back known earlier v p f valid;
+  says = λ known earlier v p e f. plain_says known earlier v p f;
+  shows = λ known earlier later v w p r d e f g head rows nodes.
+      shown_by known.net (table_problem known.net (plain_table known.net)) p r (tree_or_none known.net v p (plain_rows known.net earlier v p f)) (tree_or_none known.net w r (plain_rows known.net later w r g)) nodes;
+}
+
+-- ---- strongly concordant
+
+strong_open : (known : Known) (earlier : Earlier) (index : ℕ) (basis : KeptNums) → IsBasisOf (length known.net.reactions) (length known.net.names) index basis.list → IsLinked known earlier Q15 (answer (Unknown (Wide 2 0 index basis)) Nothing)
+strong_open known earlier index basis b =
+    record {
+      formed = record { head = (_, inr (inr (inl refl)), (refl, wide_fits 2 (length known.net.reactions) (length known.net.names) index basis.list b)); rows = tt; trees = refl };
+      heads = refl;
+      rows = refl;
+      says = ap (λ (x : List ℕ). Unknown (Wide 2 0 index (record { list = x; spare = 0 }))) (back_again basis.list);
+      shows = refl;
+    }
+
+strong_spent : (known : Known) (earlier : Earlier) (budget : ℕ) → 1 ≤ budget → budget ≤ MAX_BUDGET → IsLinked known earlier Q15 (answer (Unknown (Budget budget)) Nothing)
+strong_spent known earlier budget some most =
+    record {
+      formed = record { head = (_, inr (inr (inr (inl refl))), (refl, number_then 1 MAX_BUDGET budget [] [] some most refl)); rows = tt; trees = refl };
+      heads = refl;
+      rows = refl;
+      says = refl;
+      shows = refl;
+    }
+
+-- an answer without a tree
+strong_linked : (known : Known) (earlier : Earlier) (v : Verdict) (p : Proof) → IsFormedOf known.net earlier Q15 v p → (v ≡ Yes → ⊥) → IsLinked known earlier Q15 (answer v p)
+strong_linked known earlier Yes p f other = absurd (other refl)
+strong_linked known earlier (NoPair alpha weights) Nothing f other =
+    let r = length known.net.reactions in
+    record { formed = record { head = (_, inr (inl refl), (refl, refl)); rows = (free_fits (codes "alpha") r alpha.list f.1.0, (free_fits (codes "weights") r weights.list f.1.1, tt)); trees = refl }; heads = refl; rows = refl; says = refl; shows = refl }
+strong_linked known earlier (NoPair alpha weights) p f other = absurd f.1
+strong_linked known earlier (Unknown (Wide system class index basis)) p f other = open_as known earlier Q15 system class index basis p 2 0 f.0.0 f.0.1 f.1 (strong_open known earlier index basis f.0.2)
+strong_linked known earlier (Unknown (Budget budget)) p f other = subst (λ (x : Proof). IsLinked known earlier Q15 (answer (Unknown (Budget budget)) x)) (sym f.1) (strong_spent known earlier budget f.0.0 f.0.1)
+strong_linked known earlier (Unknown (Rests question)) p f other = absurd f.0
+strong_linked known earlier v p f other = absurd f.0
+
+strong_formed : (known : Known) (earlier : Earlier) (v : Verdict) (p : Proof) → IsFormedOf known.net earlier Q15 v p → IsFormed meaning Q15 known (records Q15 (shapes_of known) (answer v p)) (parts Q15 known (answer v p))
+strong_formed known earlier Yes (One tree) f =
+    let net = known.net in
+    record { head = (_, inl refl, (refl, refl)); rows = tt; trees = (nodes tree, [], sym (append-nil (nodes tree)), tree_formed net (table_problem net (strong_table net)) (length net.names) [] tree (omega arith) f.1, refl) }
+strong_formed known earlier Yes p f = absurd f.1
+strong_formed known earlier (NoPair alpha weights) p f = let l = strong_linked known earlier (NoPair alpha weights) p f (λ e. absurd cc) in l.formed
+strong_formed known earlier (Unknown gap) p f = let l = strong_linked known earlier (Unknown gap) p f (λ e. absurd cc) in l.formed
+strong_formed known earlier v p f = absurd f.0
+
+strong_there : (known : Known) (earlier : Earlier) (v : Verdict) (p : Proof) → IsFormedOf known.net earlier Q15 v p → IsValid known.net earlier Q15 (answer v p) → documents.IsValid meaning Q15 known (records Q15 (shapes_of known) (answer v p)) (parts Q15 known (answer v p))
+strong_there known earlier Yes (One tree) f v = record { head = tt; rows = tt; trees = tests_good known.net (strong_table known.net) tree f.1 v }
+strong_there known earlier Yes p f v = absurd f.1
+strong_there known earlier (NoPair alpha weights) p f v = linked_there known earlier Q15 (answer (NoPair alpha weights) p) refl (strong_linked known earlier (NoPair alpha weights) p f (λ e. absurd cc)) v
+strong_there known earlier (Unknown (Wide system class index basis)) p f v = linked_there known earlier Q15 (answer (Unknown (Wide system class index basis)) p) refl (strong_linked known earlier (Unknown (Wide system class index basis)) p f (λ e. absurd cc)) v
+strong_there known earlier (Unknown (Budget budget)) p f v = linked_there known earlier Q15 (answer (Unknown (Budget budget)) p) refl (strong_linked known earlier (Unknown (Budget budget)) p f (λ e. absurd cc)) v
+strong_there known earlier (Unknown (Rests question)) p f v = absurd f.0
+strong_there known earlier v p f valid = absurd f.0
+
+strong_back : (known : Known) (earlier : Earlier) (v : Verdict) (p : Proof) → IsFormedOf known.net earlier Q15 v p → documents.IsValid meaning Q15 known (records Q15 (shapes_of known) (answer v p)) (parts Q15 known (answer v p)) → IsValid known.net earlier Q15 (answer v p)
+strong_back known earlier Yes (One tree) f v = good_tests known.net (strong_table known.net) tree f.1 v.trees
+strong_back known earlier Yes p f v = absurd f.1
+strong_back known earlier (NoPair alpha weights) p f v = linked_back known earlier Q15 (answer (NoPair alpha weights) p) (strong_linked known earlier (NoPair alpha weights) p f (λ e. absurd cc)) v
+strong_back known earlier (Unknown gap) p f v = linked_back known earlier Q15 (answer (Unknown gap) p) (strong_linked known earlier (Unknown gap) p f (λ e. absurd cc)) v
+strong_back known earlier v p f valid = absurd f.0
+
+strong_says : (known : Known) (earlier : Earlier) (v : Verdict) (p : Proof) → IsFormedOf known.net earlier Q15 v p → said (verdict_of Q15 (sizes_of known) (head_of Q15 v) (records_below (shapes_of known) (answer v p))) ≡ said v
+strong_says known earlier Yes p f = refl
+strong_says known earlier (NoPair alpha weights) p f = let l = strong_linked known earlier (NoPair alpha weights) p f (λ e. absurd cc) in l.says
+strong_says known earlier (Unknown gap) p f = let l = strong_linked known earlier (Unknown gap) p f (λ e. absurd cc) in l.says
+strong_says known earlier v p f = absurd f.0
+
+strong_rows : (net : Net) (earlier : Earlier) (v : Verdict) (p : Proof) → IsFormedOf net earlier Q15 v p → TableRows net v p
+strong_rows net earlier Yes p f = f.1
+strong_rows net earlier (NoPair alpha weights) p f = f.1
+strong_rows net earlier (Unknown gap) p f = f.1
+strong_rows net earlier v p f = absurd f.0
+
+pub strong_joined : IsJoinedFor Q15
+strong_joined = record {
+  formed = λ known earlier v p e f. strong_formed known earlier v p f;
+  there = λ known earlier v p e f valid. strong_there known earlier v p f valid;
+  back = λ known earlier v p e f valid. strong_back known earlier v p f valid;
+  says = λ known earlier v p e f. strong_says known earlier v p f;
+  shows = λ known earlier later v w p r d e f g head rows nodes.
+      shown_by known.net (table_problem known.net (strong_table known.net)) p r (tree_or_none known.net v p (strong_rows known.net earlier v p f)) (tree_or_none known.net w r (strong_rows known.net later w r g)) nodes;
+}
