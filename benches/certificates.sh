@@ -21,7 +21,7 @@ trap 'rm -rf "$work"' EXIT
 yardstick=
 if command -v rustc >/dev/null; then
     yardstick=$work/yardstick
-    rustc --edition 2024 -O -C panic=abort -C codegen-units=1 -o "$yardstick" benches/yardstick/main.rs
+    benches/yardstick/build "$yardstick"
 fi
 
 python3 - "${CRNT_PROGRAM:-crates/crnt/out/crnt}" "$yardstick" "${1:-20}" "${2:-}" <<'PYTHON'
@@ -31,14 +31,13 @@ import sys
 
 sys.path.insert(0, "benches")
 import texts
-from measure import answer, differ, instructions, least_seconds, megabytes, put_heads, put_row, questions, ratio, same, source_of, told
+from measure import ASKED, answer, differ, instructions, least_seconds, megabytes, put_heads, put_row, ratio, same, source_of, told
 
 program, yardstick, runs, word = sys.argv[1], sys.argv[2], int(sys.argv[3]), sys.argv[4]
-asked = str(questions(program))
 
 
 def commands(name):
-    return [[program, name]] + ([[yardstick, name, asked]] if yardstick else [])
+    return [[program, name]] + ([[yardstick, name, ASKED]] if yardstick else [])
 
 
 def agree(name, text, answers, is_same=same):
@@ -71,8 +70,7 @@ if yardstick and not word:
         certificates += cross_check(f"random network {seed}", texts.random_network(seed).encode())
     print(f"{len(certificates)} certificates of random networks are accepted by both, with the report of their writer")
     short = [document for document in certificates if len(document) < 4000]
-    first = [document.replace(b"certificate 2", b"certificate 1").replace(b"vectors 0\n", b"") for document in short]
-    first = [b"".join(line for line in document.splitlines(True) if not line.startswith(b"section")) for document in first]
+    first = [texts.first_version(document) for document in short]
     dice, statuses = random.Random(1), []
     for number in range(3000):
         document = texts.damaged(dice.choice(dice.choice([short, first])), dice)
@@ -80,7 +78,7 @@ if yardstick and not word:
         statuses.append(agree(f"damaged certificate {number}", document, answers, is_same=lambda x, y: x == y))
     print(f"{len(statuses)} damaged ones have the same answer from both, {statuses.count(3)} of them a rejection\n")
 
-print(f"{asked} questions, {runs} runs each, {told()}\n")
+print(f"questions {ASKED}, {runs} runs each, {told()}\n")
 
 
 def measured(name, command, inputs, piped=False):

@@ -9,6 +9,11 @@ import sys
 import tempfile
 import time
 
+sys.path.insert(0, os.path.join(os.path.dirname(os.path.abspath(__file__)), "..", "checks"))
+from second_opinion import BUILT
+
+# The questions that the program answers, for the other one.
+ASKED = ",".join(map(str, BUILT))
 TIME = "/usr/bin/time"
 # Where an answer leaves a choice, the line that shows it begins with one of these.
 CHOICES = (b"  reaction ", b"  independent reactions: ", b"  positive combination: ", b"  positive law: ", b"  multipliers: ", b"  sigma: ",
@@ -23,11 +28,6 @@ def answer(command, text):
     """The status of a run, and what it wrote."""
     done = subprocess.run(command, input=text, stdout=subprocess.PIPE)
     return done.returncode, done.stdout
-
-
-def questions(program):
-    """How many questions the program answers, from the first on."""
-    return len(re.findall(rb"^Q", answer([program, "report"], b"A -> B\n")[1], re.MULTILINE))
 
 
 def fixed(done):

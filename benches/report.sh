@@ -21,7 +21,7 @@ trap 'rm -rf "$work"' EXIT
 yardstick=
 if command -v rustc >/dev/null; then
     yardstick=$work/yardstick
-    rustc --edition 2024 -O -C panic=abort -C codegen-units=1 -o "$yardstick" benches/yardstick/main.rs
+    benches/yardstick/build "$yardstick"
 fi
 
 python3 - "${CRNT_PROGRAM:-crates/crnt/out/crnt}" "$yardstick" "${1:-10}" "${2:-}" "${COUNT:-}" <<'PYTHON'
@@ -29,11 +29,10 @@ import sys
 
 sys.path.insert(0, "benches")
 import texts
-from measure import answer, differ, instructions, least_seconds, megabytes, put_heads, put_row, questions, ratio, same, source_of, told
+from measure import ASKED, answer, differ, instructions, least_seconds, megabytes, put_heads, put_row, ratio, same, source_of, told
 
 program, yardstick, runs, word, counts = sys.argv[1], sys.argv[2], int(sys.argv[3]), sys.argv[4], sys.argv[5]
-asked = str(questions(program))
-commands = [[program, "report"]] + ([[yardstick, "report", asked]] if yardstick else [])
+commands = [[program, "report"]] + ([[yardstick, "report", ASKED]] if yardstick else [])
 
 
 def agree(name, text):
@@ -48,7 +47,7 @@ if yardstick and not word:
     statuses += [agree(f"random network {seed}", texts.random_network(seed).encode()) for seed in range(300)]
     print(f"{len(statuses)} random texts have the same answer from both, {len(statuses) - statuses.count(2)} of them a report\n")
 
-print(f"{asked} questions, {runs} runs each, {told()}\n")
+print(f"questions {ASKED}, {runs} runs each, {told()}\n")
 heads = ["text", "bytes", "status", "least time, ms", "most memory, MB"]
 if yardstick:
     heads += ["yardstick, ms", "ratio", "yardstick, MB"]

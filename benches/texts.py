@@ -111,6 +111,40 @@ def futile(sites):
     return "".join(lines)
 
 
+def futile_by_steps(sites):
+    """The same cycle, all steps of the kinase first, and then those of the phosphatase from the last site down."""
+    ups = [f"S{i} + K <-> KS{i}\nKS{i} -> S{i + 1} + K\n" for i in range(sites)]
+    downs = [f"S{i} + F <-> FS{i}\nFS{i} -> S{i - 1} + F\n" for i in range(sites, 0, -1)]
+    return "".join(ups + downs)
+
+
+def dense(species=34, reactions=67, seed=1):
+    """Reactions between random sides of two species with amounts up to 3: exchanges of their matrix meet large entries."""
+    dice = random.Random(seed)
+
+    def side():
+        return " + ".join(f"{dice.randint(1, 3)}S{s}" for s in sorted(dice.sample(range(species), 2)))
+
+    return "".join(f"{side()} -> {side()}\n" for _ in range(reactions))
+
+
+def copies(count):
+    """So many copies of a network of two chains, line by line, so that a search takes their species in turns."""
+    lines = ["A{0} + B{0} <-> C{0}\n", "C{0} <-> D{0}\n", "D{0} <-> A{0}\n"]
+    return "".join(line.format(copy) for line in lines for copy in range(count))
+
+
+def searches():
+    """Triples of a name, a text that spells a network whose searches are long, and whether it is certified."""
+    return [
+        ("futile6", futile_by_steps(6), False),
+        ("futile9", futile_by_steps(9), False),
+        ("rand40", random_reversible(), False),
+        ("dense", dense(), False),
+        ("copies4", copies(4), True),
+    ]
+
+
 def networks():
     """Pairs of a name and a text that spells a network, to certify."""
     pairs = [f"X{i} -> X{j}\n" for i in range(12) for j in range(12) if i != j]
@@ -126,6 +160,20 @@ def networks():
         ("random network of 40 species without reverses", random_directed()),
         ("240 reactions near all limits", near_limits()),
     ]
+
+
+def first_version(document):
+    """A certificate of version 2 as one of version 1."""
+    lists, lines = [], []
+    for line in document.splitlines(True):
+        word, _, rest = line.partition(b" ")
+        if word == b"vector":
+            lists.append(rest)
+        elif word in (b"refa", b"refb"):
+            lines.append(word.replace(b"ref", b"cut") + b" " + lists[int(rest) - 1])
+        elif word not in (b"vectors", b"section"):
+            lines.append(line)
+    return b"".join(lines).replace(b"crn certificate 2", b"crn certificate 1", 1)
 
 
 def with_lists(document, lists):
@@ -200,6 +248,22 @@ def random_network(seed):
     arrows = ["->", "->", "<->", "<-"] if reactions < 200 else ["->"]
     lines = ["{} {arrow} {}\n".format(*dice.sample(sides, 2), arrow=dice.choice(arrows)) for _ in range(reactions)]
     return "".join(lines)
+
+
+def small_network(seed):
+    """A text of a network of a few species, small enough for a slow search; some texts spell none."""
+    dice = random.Random(seed)
+    count, most = dice.choice([2, 3, 3, 4, 5]), dice.choice([1, 1, 2, 3])
+
+    def side():
+        names = dice.sample(range(count), min(count, dice.choice([0, 1, 1, 2, 2])))
+        return " + ".join(f"{dice.randint(1, most)}S{s}" for s in names) or "0"
+
+    sides = list(dict.fromkeys(side() for _ in range(dice.choice([2, 3, 4, 6])))) + ["Z"]
+    if dice.random() < 0.4:
+        return "".join(f"{left} <-> {right}\n" for left, right in zip(sides, sides[1:]))
+    arrows = ["->", "->", "<->"]
+    return "".join("{} {arrow} {}\n".format(*dice.sample(sides, 2), arrow=dice.choice(arrows)) for _ in range(dice.choice([1, 2, 3, 4, 6])))
 
 
 def random_text(seed):

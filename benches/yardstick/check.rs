@@ -1,326 +1,28 @@
 //! Checks a certificate of either version, line by line.
 
-use crate::answers::{Gap, Verdicts, class_members};
-use crate::canonical::Canonical;
+use crate::answers::{Asked, Gap, QUESTIONS, Verdicts, class_members};
+use crate::document::{Checked, Document, Fields};
 use crate::graph::Classes;
-use crate::linear::{FREE, Positive};
-use crate::lines::{Lines, Next};
-use crate::net::{MAX_REACTIONS, Net};
+use crate::linear::Positive;
+use crate::net::Net;
 use crate::theorems::{One, first_split, one, zero};
-use std::io::{self, Read};
+use std::io::Read;
 
-const WORDS: [&str; 39] = [
-    "label",
-    "up",
-    "depth",
-    "from",
-    "to",
-    "fromdepth",
-    "todepth",
-    "level",
-    "exit",
-    "back",
-    "base",
-    "dual",
-    "comb",
-    "vec",
-    "cut",
-    "side",
-    "walk",
-    "tie",
-    "shelves",
-    "mu",
-    "m",
-    "weights",
-    "alpha",
-    "split",
-    "flat",
-    "cuta",
-    "cutb",
-    "end",
-    "q1",
-    "q2",
-    "q3",
-    "q4",
-    "q5",
-    "q6",
-    "q7",
-    "q8",
-    "q9",
-    "q10",
-    "q11",
-];
-const MORE_WORDS: [&str; 4] = ["q12", "q13", "q14", "q15"];
-const WORDS_OF_VERSION_2: [&str; 5] = ["vectors", "vector", "section", "refa", "refb"];
-const MAX_SHARED: u32 = 4_096;
-const MAX_NUMBERS: usize = 400;
-
-pub const CODES: [(u32, &str); 17] = [
-    (21, "BadHeader"),
-    (22, "BadNetwork"),
-    (23, "UnknownWord"),
-    (24, "BadField"),
-    (25, "NumberWide"),
-    (26, "WrongOrder"),
-    (27, "EndsEarly"),
-    (28, "AfterEnd"),
-    (29, "DocumentTooLong"),
-    (30, "LineTooLong"),
-    (31, "WrongClasses"),
-    (32, "WrongWalk"),
-    (33, "NotIndependent"),
-    (34, "NotSpanned"),
-    (35, "BadVector"),
-    (36, "WrongNumber"),
-    (37, "WrongVerdict"),
-];
-
-pub enum Stop {
-    /// A code and a line.
-    Rejected(u32, u32),
-    Failed(io::Error),
+/// A system that an open head may name: how many columns it has, and for each class it may name how many rows, or how
+/// many it has where it names none.
+#[derive(Clone, Copy)]
+pub struct System<'r> {
+    pub number: u32,
+    pub columns: usize,
+    pub rows: &'r [usize],
 }
 
-type Checked<T> = Result<T, Stop>;
-
-/// The fields of a record behind its word. A field that is wrong stays so.
-struct Fields<'l> {
-    rest: &'l [u8],
-    is_bad: bool,
-    is_wide: bool,
-}
-
-impl Fields<'_> {
-    /// Takes a word, if it stands here.
-    fn word(&mut self, word: &str) -> bool {
-        let rest = self.rest.strip_prefix(b" ").and_then(|rest| rest.strip_prefix(word.as_bytes()));
-        match rest {
-            Some(rest) if matches!(rest.first(), None | Some(b' ')) => {
-                self.rest = rest;
-                true
-            }
-            _ => false,
-        }
-    }
-
-    /// A number: its value, or some value that is too great, and whether it has a sign.
-    fn number(&mut self) -> (u128, bool) {
-        let [b' ', rest @ ..] = self.rest else {
-            self.is_bad = true;
-            return (0, false);
-        };
-        let (digits, is_negative) = rest.strip_prefix(b"-").map_or((rest, false), |rest| (rest, true));
-        let (value, length) = leading_number(digits);
-        self.is_bad |= length == 0 || (digits[0] == b'0' && (length > 1 || is_negative));
-        self.rest = &digits[length..];
-        (value, is_negative)
-    }
-
-    fn small(&mut self, least: u32, greatest: u32) -> u32 {
-        let (number, is_negative) = self.number();
-        self.is_bad |= is_negative || number < u128::from(least) || number > u128::from(greatest);
-        if self.is_bad { least } else { number as u32 }
-    }
-
-    fn smalls(&mut self, count: usize, least: u32, greatest: u32, into: &mut Vec<u32>) {
-        into.clear();
-        for _ in 0..count {
-            let number = self.small(least, greatest);
-            into.push(number);
-            if self.is_bad {
-                into.resize(count, least);
-                return;
-            }
-        }
-    }
-
-    fn ascending(&mut self, count: usize, least: u32, greatest: u32, into: &mut Vec<u32>) {
-        self.smalls(count, least, greatest, into);
-        self.is_bad |= into.windows(2).any(|pair| pair[0] >= pair[1]);
-    }
-
-    fn free(&mut self) -> i128 {
-        let (number, is_negative) = self.number();
-        self.is_wide |= number >= FREE;
-        if is_negative { -(number as i128) } else { number as i128 }
-    }
-
-    fn frees(&mut self, count: usize, into: &mut Vec<i128>) {
-        into.clear();
-        while into.len() < count && !self.is_bad {
-            let number = self.free();
-            into.push(number);
-        }
-        into.resize(count, 0);
-    }
-}
-
-/// The number that the digits at the start spell, or some number of 2^72 or more, and how many digits these are.
-fn leading_number(bytes: &[u8]) -> (u128, usize) {
-    let (mut value, mut length) = (0u64, 0);
-    while let Some(digit) = bytes.get(length).map(|byte| byte.wrapping_sub(b'0')).filter(|digit| *digit <= 9) {
-        if length == 6 {
-            return long_number(bytes);
-        }
-        value = value * 10 + u64::from(digit);
-        length += 1;
-    }
-    (u128::from(value), length)
-}
-
-/// The same, with eight digits at once.
-fn long_number(bytes: &[u8]) -> (u128, usize) {
-    const ONES: u64 = 0x0101_0101_0101_0101;
-    let (mut value, mut length) = (0u128, 0);
-    while let Some(Ok(eight)) = bytes.get(length..length + 8).map(<[u8; 8]>::try_from) {
-        let eight = u64::from_le_bytes(eight);
-        // Each byte is from 0x30 to 0x3f, and still is where 6 is added.
-        let more = eight.wrapping_add(6 * ONES);
-        if eight & (0xf0 * ONES) | (more & (0xf0 * ONES)) >> 4 != 0x33 * ONES {
-            break;
-        }
-        let pairs = (eight & (0x0f * ONES)).wrapping_mul(10 * 256 + 1) >> 8;
-        let fours = (pairs & 0x00ff_00ff_00ff_00ff).wrapping_mul(100 * 65_536 + 1) >> 16;
-        let number = (fours & 0x0000_ffff_0000_ffff).wrapping_mul(10_000 * 4_294_967_296 + 1) >> 32;
-        value = value * 100_000_000 + u128::from(number);
-        length += 8;
-        if length > 24 {
-            // Too great, whatever follows.
-            length += bytes[length..].iter().position(|byte| !byte.is_ascii_digit()).unwrap_or(bytes.len() - length);
-            return (u128::MAX >> 2, length);
-        }
-    }
-    let (mut tail, mut scale) = (0u64, 1u64);
-    while let Some(digit) = bytes.get(length).map(|byte| byte.wrapping_sub(b'0')).filter(|digit| *digit <= 9) {
-        tail = tail * 10 + u64::from(digit);
-        scale *= 10;
-        length += 1;
-    }
-    (value * u128::from(scale) + u128::from(tail), length)
-}
-
-struct Document<S: Read> {
-    lines: Lines<S>,
-    line: u32,
-    version: u32,
-    /// The first fault of meaning in the block that is read. Its lines pass the tests of text first.
-    fault: Option<(u32, u32)>,
-}
-
-impl<S: Read> Document<S> {
-    fn rejected<T>(&self, code: u32) -> Checked<T> {
-        Err(Stop::Rejected(code, self.line))
-    }
-
-    /// The next line, which is due.
-    fn due(&mut self) -> Checked<(usize, usize)> {
-        self.line += 1;
-        match self.lines.next().map_err(Stop::Failed)? {
-            Next::Line(from, to) => Ok((from, to)),
-            Next::Last | Next::End => self.rejected(27),
-            Next::LineTooLong => self.rejected(30),
-            Next::DocumentTooLong => self.rejected(29),
-        }
-    }
-
-    fn is_word(&self, word: &[u8]) -> bool {
-        let is = |known: &&str| known.as_bytes() == word;
-        WORDS.iter().chain(&MORE_WORDS).any(|known| is(known))
-            || self.version == 2 && WORDS_OF_VERSION_2.iter().any(|known| is(known))
-    }
-
-    /// Reads a line that begins with this word.
-    fn record<T>(&mut self, word: &str, read: impl FnOnce(&mut Fields) -> T) -> Checked<T> {
-        let (from, to) = self.due()?;
-        let bytes = self.lines.bytes(from, to);
-        let rest = bytes.strip_prefix(word.as_bytes()).filter(|rest| matches!(rest.first(), None | Some(b' ')));
-        let Some(rest) = rest else {
-            let length = bytes.iter().position(|byte| *byte == b' ').unwrap_or(bytes.len());
-            return self.rejected(if self.is_word(&bytes[..length]) { 26 } else { 23 });
-        };
-        let mut fields = Fields { rest, is_bad: false, is_wide: false };
-        let read = read(&mut fields);
-        if fields.is_bad || !fields.rest.is_empty() {
-            return self.rejected(24);
-        }
-        if fields.is_wide { self.rejected(25) } else { Ok(read) }
-    }
-
-    /// Notes a test of meaning of the line that was read last.
-    fn test(&mut self, code: u32, holds: bool) {
-        if !holds && self.fault.is_none() {
-            self.fault = Some((code, self.line));
-        }
-    }
-
-    /// The end of a block, or of a head.
-    fn tested(&mut self) -> Checked<()> {
-        self.fault.take().map_or(Ok(()), |(code, line)| Err(Stop::Rejected(code, line)))
-    }
-
-    fn head(&mut self) -> Checked<()> {
-        let (from, to) = self.due()?;
-        self.version = match self.lines.bytes(from, to) {
-            b"crn certificate 1" => 1,
-            b"crn certificate 2" => 2,
-            _ => return self.rejected(21),
-        };
-        Ok(())
-    }
-
-    fn network(&mut self) -> Checked<Net> {
-        let (from, to) = self.due()?;
-        let digits = self.lines.bytes(from, to).strip_prefix(b"network ");
-        let count = digits.filter(|digits| digits.len() < 4 && digits.iter().all(u8::is_ascii_digit));
-        let number = |digits: &[u8]| digits.iter().fold(0, |number, digit| number * 10 + usize::from(digit - b'0'));
-        let Some(count) = count
-            .filter(|digits| digits.first() != Some(&b'0'))
-            .map(number)
-            .filter(|count| (1..=MAX_REACTIONS).contains(count))
-        else {
-            return self.rejected(22);
-        };
-        let mut net = Some(Canonical::new());
-        for _ in 0..count {
-            let (from, to) = self.due()?;
-            let line = self.lines.bytes(from, to);
-            net = net.and_then(|net| net.with(line));
-        }
-        net.map_or_else(|| self.rejected(22), |net| Ok(net.finish()))
-    }
-
-    fn vectors(&mut self) -> Checked<()> {
-        let count = self.record("vectors", |fields| fields.small(0, MAX_SHARED))?;
-        for _ in 0..count {
-            self.record("vector", |fields| {
-                let mut numbers = 0;
-                while !fields.is_bad && !fields.rest.is_empty() && numbers <= MAX_NUMBERS {
-                    fields.free();
-                    numbers += 1;
-                }
-                fields.is_bad |= !(1..=MAX_NUMBERS).contains(&numbers);
-            })?;
-        }
-        Ok(())
-    }
-
-    fn section(&mut self, name: &str) -> Checked<()> {
-        if self.version == 2 {
-            self.record("section", |fields| fields.is_bad |= !fields.word(name))?;
-        }
-        Ok(())
-    }
-
-    fn end(&mut self) -> Checked<()> {
-        self.record("end", |_| ())?;
-        self.line += 1;
-        match self.lines.next().map_err(Stop::Failed)? {
-            Next::End => Ok(()),
-            Next::Line(..) | Next::Last => self.rejected(28),
-            Next::LineTooLong => self.rejected(30),
-            Next::DocumentTooLong => self.rejected(29),
-        }
-    }
+/// Why a question may be open.
+#[derive(Default)]
+pub struct May<'r> {
+    pub be_wide: &'r [System<'r>],
+    pub be_spent: bool,
+    pub rest: Option<u32>,
 }
 
 /// Whether labels are numbered by first appearance up to the count.
@@ -346,16 +48,24 @@ fn is_forest(classes: &Classes, up: &[u32], depth: &[u32], parent: impl Fn(usize
     })
 }
 
-struct Checker<'d, 'n, S: Read> {
-    document: &'d mut Document<S>,
-    net: &'n Net,
-    verdicts: Verdicts,
+pub struct Checker<'d, 'n, S: Read> {
+    pub document: &'d mut Document<S>,
+    pub net: &'n Net,
+    pub verdicts: Verdicts,
     names: Vec<u32>,
     depth: Vec<u32>,
-    numbers: Vec<i128>,
+    pub numbers: Vec<i128>,
+    /// The pairs of a regular network, and the marks of their sides.
+    pub pairs: Vec<u32>,
+    pub sides: Vec<Vec<u8>>,
 }
 
-impl<S: Read> Checker<'_, '_, S> {
+impl<'d, 'n, S: Read> Checker<'d, 'n, S> {
+    fn new(document: &'d mut Document<S>, net: &'n Net) -> Checker<'d, 'n, S> {
+        let (names, depth, numbers, pairs, sides) = (Vec::new(), Vec::new(), Vec::new(), Vec::new(), Vec::new());
+        Checker { document, net, verdicts: Verdicts::new(), names, depth, numbers, pairs, sides }
+    }
+
     fn linkage(&mut self) -> Checked<()> {
         let (complexes, reactions) = (self.net.complexes.len(), self.net.reactions.len() as u32);
         let most = complexes as u32;
@@ -460,18 +170,25 @@ impl<S: Read> Checker<'_, '_, S> {
         self.document.tested()
     }
 
-    /// What an open head says behind its word, where it is one of these systems. A system is its number, how many
-    /// columns it has, and for each class it may name how many rows, for class 0 where it names none.
-    fn gap(fields: &mut Fields, system: u32, columns: usize, rows: &[usize], rests: Option<u32>) -> Option<Gap> {
+    /// What an open head says behind its word, where this is open.
+    pub fn gap(fields: &mut Fields, may: &May) -> Option<Gap> {
         if !fields.word("open") {
             return None;
         }
-        if let Some(question) = rests.filter(|_| fields.word("rests")) {
+        if let Some(question) = may.rest.filter(|_| fields.word("rests")) {
             fields.small(question, question);
             return Some(Gap::Rests(question));
         }
+        if may.be_spent && fields.word("budget") {
+            return Some(Gap::Budget(fields.small(1, 100_000)));
+        }
         fields.is_bad |= !fields.word("wide");
-        fields.small(system, system);
+        let number = fields.small(1, 5);
+        let system = may.be_wide.iter().find(|system| system.number == number);
+        let Some(System { number: system, columns, rows }) = system.copied() else {
+            fields.is_bad = true;
+            return Some(Gap::Rests(0));
+        };
         let (least, greatest) = if system == 3 { (1, rows.len() as u32) } else { (0, 0) };
         let class = fields.small(least, greatest);
         let most = (columns + rows[(class - least) as usize]) as u32;
@@ -521,7 +238,8 @@ impl<S: Read> Checker<'_, '_, S> {
     fn rank(&mut self) -> Checked<()> {
         let (species, reactions) = (self.net.species.len(), self.net.reactions.len());
         let rank = self.document.record("q5", |fields| {
-            let gap = Self::gap(fields, 1, species, &[reactions], None);
+            let system = System { number: 1, columns: species, rows: &[reactions] };
+            let gap = Self::gap(fields, &May { be_wide: &[system], ..May::default() });
             gap.map_or_else(|| Ok(fields.small(1, species.min(reactions) as u32)), Err)
         })?;
         self.verdicts.rank = Some(match rank {
@@ -542,7 +260,8 @@ impl<S: Read> Checker<'_, '_, S> {
         let rows: Vec<usize> = members.iter().map(Vec::len).collect();
         let mut numbers = Vec::new();
         let total = self.document.record("q6", |fields| {
-            let gap = Self::gap(fields, 3, species, &rows, Some(5));
+            let system = System { number: 3, columns: species, rows: &rows };
+            let gap = Self::gap(fields, &May { be_wide: &[system], rest: Some(5), ..May::default() });
             gap.map_or_else(
                 || {
                     let total = fields.small(0, complexes);
@@ -574,29 +293,11 @@ impl<S: Read> Checker<'_, '_, S> {
         self.document.tested()
     }
 
-    /// The product of the numbers with each complex.
-    fn products(&self) -> Vec<i128> {
-        let product = |row: &[u8; 60]| self.numbers.iter().zip(row).map(|(x, amount)| x * i128::from(*amount)).sum();
-        self.net.complexes.iter().map(product).collect()
-    }
-
-    /// The combination of the reaction vectors with the numbers, by species.
-    fn combination(&self) -> Vec<i128> {
-        let mut flows = vec![0i128; self.net.complexes.len()];
-        for ((y, z), x) in self.net.reactions.iter().zip(&self.numbers) {
-            flows[*y as usize] -= x;
-            flows[*z as usize] += x;
-        }
-        let mut sums = vec![0i128; self.net.species.len()];
-        for (row, flow) in self.net.complexes.iter().zip(&flows).filter(|(_, flow)| **flow != 0) {
-            sums.iter_mut().zip(row).for_each(|(sum, amount)| *sum += flow * i128::from(*amount));
-        }
-        sums
-    }
-
     /// The answer to question 7 or 8: a head, and a list of so many numbers.
     fn positive(&mut self, word: &str, system: u32, columns: usize, rows: usize) -> Checked<Result<Positive, Gap>> {
-        let is_yes = self.document.record(word, |fields| match Self::gap(fields, system, columns, &[rows], None) {
+        let may = System { number: system, columns, rows: &[rows] };
+        let may = May { be_wide: &[may], ..May::default() };
+        let is_yes = self.document.record(word, |fields| match Self::gap(fields, &may) {
             Some(gap) => Err(gap),
             None => {
                 let is_yes = fields.word("yes");
@@ -613,10 +314,10 @@ impl<S: Read> Checker<'_, '_, S> {
         // The numbers belong to species, or else to reactions.
         let is_by_species = is_yes == (system == 1);
         let products = if is_by_species {
-            let products = self.products();
+            let products = self.net.products(&self.numbers);
             self.net.reactions.iter().map(|(y, z)| products[*z as usize] - products[*y as usize]).collect()
         } else {
-            self.combination()
+            self.net.combination(&self.numbers)
         };
         let holds = if is_yes {
             self.numbers.iter().all(|number| *number > 0) && products.iter().all(|product| *product == 0)
@@ -630,7 +331,7 @@ impl<S: Read> Checker<'_, '_, S> {
     }
 
     /// Whether an open head that rests on this question is here.
-    fn rests(fields: &mut Fields, question: u32) -> bool {
+    pub fn rests(fields: &mut Fields, question: u32) -> bool {
         let is_open = fields.word("open");
         if is_open {
             fields.is_bad |= !fields.word("rests");
@@ -711,28 +412,31 @@ impl<S: Read> Checker<'_, '_, S> {
             7 => self.positive("q7", 2, reactions, species).map(|answer| self.verdicts.dependent = Some(answer)),
             8 => self.positive("q8", 1, species, reactions).map(|answer| self.verdicts.conservative = Some(answer)),
             9 => self.zero(),
-            _ => self.one(),
+            10 => self.one(),
+            11 => self.regular(),
+            12 => self.confluence(),
+            13 => self.signal(),
+            _ => self.concordant(question == 15),
         }
     }
 }
 
+/// The sections, by the question that begins each.
+const SECTIONS: [(u32, &str); 6] =
+    [(1, "graph"), (5, "rank"), (7, "dependence"), (9, "theorems"), (11, "confluence"), (14, "concordance")];
+
 /// Reads a document to its end or to its first fault.
-pub fn check(source: impl Read, questions: u32) -> Checked<(Net, Verdicts)> {
-    let mut document = Document { lines: Lines::new(source), line: 0, version: 0, fault: None };
+pub fn check(source: impl Read, asked: Asked) -> Checked<(Net, Verdicts)> {
+    let mut document = Document::new(source);
     document.head()?;
     let net = document.network()?;
     if document.version == 2 {
         document.vectors()?;
     }
-    let (names, depth, numbers) = (Vec::new(), Vec::new(), Vec::new());
-    let mut checker = Checker { document: &mut document, net: &net, verdicts: Verdicts::new(), names, depth, numbers };
-    for question in 1..=questions {
-        match question {
-            1 => checker.document.section("graph")?,
-            5 => checker.document.section("rank")?,
-            7 => checker.document.section("dependence")?,
-            9 => checker.document.section("theorems")?,
-            _ => {}
+    let mut checker = Checker::new(&mut document, &net);
+    for question in (1..=QUESTIONS).filter(|question| asked.has(*question)) {
+        if let Some((_, name)) = SECTIONS.iter().find(|(first, _)| *first == question) {
+            checker.document.section(name)?;
         }
         checker.question(question)?;
     }

@@ -1,16 +1,26 @@
-//! Exact linear algebra: a dictionary of a matrix whose rows are kept as primitive integers of 64 bits, exchanged
-//! without fractions. Products are taken in 128 bits where 64 do not hold them.
+//! Exact linear algebra: a dictionary of a matrix whose rows are kept as integers of 64 bits, exchanged without
+//! fractions. Products are taken in 128 bits where 64 do not hold them.
 
 use crate::net::{Net, gcd, gcd_wide};
 
 /// Entries stay below this in absolute value.
-const LIMIT: u128 = 1 << 62;
+pub const LIMIT: u128 = 1 << 62;
+/// A row whose numbers stay below this may have a common divisor.
+const NEAR: u128 = 1 << 40;
 /// Numbers of a certificate stay below this in absolute value.
 pub const FREE: u128 = 1 << 72;
 
 /// The least common multiple, where it is below the limit.
 fn lcm(x: u128, y: u128, limit: u128) -> Option<u128> {
     if y == 1 { Some(x) } else { (x / gcd_wide(x, y)).checked_mul(y).filter(|z| *z < limit) }
+}
+
+/// Divides numbers by one that divides them all: by shifts, and by the inverse of what is odd.
+fn divide(numbers: &mut [i64], divisor: u64) {
+    let (shift, odd) = (divisor.trailing_zeros(), divisor >> divisor.trailing_zeros());
+    // Each step doubles the bits that are right; three are at first.
+    let inverse = (0..5).fold(odd, |x, _| x.wrapping_mul(2u64.wrapping_sub(odd.wrapping_mul(x))));
+    numbers.iter_mut().for_each(|number| *number = (*number >> shift).wrapping_mul(inverse as i64));
 }
 
 /// A basis in which the row of a coordinate outside it has an entry of 2^62 or more, or another number of 2^72 or more.
@@ -26,100 +36,149 @@ pub enum Positive {
     No(Vec<i128>),
 }
 
-/// Each row says `den * y = n1 * x1 + .. + nk * xk`, with a positive `den` and without a common divisor. The basis is
-/// what stands on the right. Coordinates count from 0, the columns of the matrix first and then its rows.
+/// Each row says `den * y = n1 * x1 + .. + nk * xk`, with a positive `den`. The basis is what stands on the right. Coordinates count from 0, the columns of the matrix first and then its rows.
 pub struct Dictionary {
-    columns: usize,
-    width: usize,
-    basis: Vec<u32>,
-    rows: Vec<u32>,
-    den: Vec<i64>,
+    pub columns: usize,
+    pub width: usize,
+    pub basis: Vec<u32>,
+    pub rows: Vec<u32>,
+    pub den: Vec<i64>,
     /// At least the absolute value of each entry of the row, `den` too.
     most: Vec<u64>,
+    /// Whether the row is known to have no common divisor.
+    is_primitive: Vec<bool>,
     entries: Vec<i64>,
+    /// The leading row of an exchange, and the places where it is not zero.
+    lead: Vec<i64>,
+    nonzero: Vec<u32>,
 }
 
 impl Dictionary {
-    fn new(columns: usize, basis: Vec<u32>, room: usize) -> Dictionary {
+    pub fn new(columns: usize, basis: Vec<u32>, room: usize) -> Dictionary {
         let width = basis.len();
         let (rows, den, most) = (Vec::with_capacity(room), Vec::with_capacity(room), Vec::with_capacity(room));
-        Dictionary { columns, width, basis, rows, den, most, entries: Vec::with_capacity(room * width) }
+        let (entries, is_primitive) = (Vec::with_capacity(room * width), Vec::with_capacity(room));
+        let (lead, nonzero) = (Vec::new(), Vec::new());
+        Dictionary { columns, width, basis, rows, den, most, is_primitive, entries, lead, nonzero }
     }
 
-    fn row(&self, i: usize) -> &[i64] {
+    /// Adds a row `den * y = entries * x`, without the common divisor of these numbers.
+    pub fn push(&mut self, coordinate: u32, den: i64, entries: impl Iterator<Item = i64>) {
+        let start = self.entries.len();
+        self.entries.extend(entries);
+        let row = &mut self.entries[start..];
+        let divisor = row.iter().fold(den.unsigned_abs(), |divisor, entry| gcd(divisor, entry.unsigned_abs()));
+        row.iter_mut().for_each(|entry| *entry /= divisor as i64);
+        let den = den / divisor as i64;
+        self.most.push(row.iter().fold(den.unsigned_abs(), |most, entry| most.max(entry.unsigned_abs())));
+        self.rows.push(coordinate);
+        self.den.push(den);
+        self.is_primitive.push(true);
+    }
+
+    pub fn row(&self, i: usize) -> &[i64] {
         &self.entries[i * self.width..(i + 1) * self.width]
     }
 
-    fn is_column(&self, coordinate: u32) -> bool {
+    pub fn entry(&self, i: usize, place: usize) -> i64 {
+        self.entries[i * self.width + place]
+    }
+
+    pub fn is_column(&self, coordinate: u32) -> bool {
         (coordinate as usize) < self.columns
     }
 
-    fn wide(&self, index: u32) -> Wide {
+    pub fn wide(&self, index: u32) -> Wide {
         let mut basis = self.basis.clone();
         basis.sort_unstable();
         Wide { index, basis }
     }
 
     /// Exchanges the coordinate of a row with one of the basis.
-    fn exchange(&mut self, p: usize, q: usize) -> Result<(), Wide> {
+    pub fn exchange(&mut self, p: usize, q: usize) -> Result<(), Wide> {
         let width = self.width;
-        let mut lead = self.row(p).to_vec();
-        let (own, den) = (lead[q], self.den[p]);
-        for entry in &mut lead {
-            *entry = if own > 0 { -*entry } else { *entry };
-        }
+        let (own, den) = (self.entry(p, q), self.den[p]);
+        let mut lead = std::mem::take(&mut self.lead);
+        lead.clear();
+        lead.extend(self.row(p).iter().map(|entry| if own > 0 { -*entry } else { *entry }));
         lead[q] = if own > 0 { den } else { -den };
         let own = own.abs();
         self.entries[p * width..(p + 1) * width].copy_from_slice(&lead);
         self.den[p] = own;
         std::mem::swap(&mut self.rows[p], &mut self.basis[q]);
+        self.nonzero.clear();
+        self.nonzero.extend((0..width as u32).filter(|place| lead[*place as usize] != 0));
         for i in 0..self.rows.len() {
             let factor = self.entries[i * width + q];
             if i != p && factor != 0 {
                 let shared = gcd(own.unsigned_abs(), factor.unsigned_abs()) as i64;
-                self.add(i, q, own / shared, factor / shared, &lead, self.most[p])?;
+                self.add(i, [p, q], own / shared, factor / shared, &lead)?;
             }
         }
+        self.lead = lead;
         Ok(())
     }
 
-    /// Makes row i `times` of itself, without its entry at q, and `factor` of the leading row.
-    fn add(&mut self, i: usize, q: usize, times: i64, factor: i64, lead: &[i64], most: u64) -> Result<(), Wide> {
+    /// Makes row i `times` of itself, without its entry at q, and `factor` of the leading row p. A common divisor is left
+    /// in it until the numbers may be large.
+    fn add(&mut self, i: usize, [p, q]: [usize; 2], times: i64, factor: i64, lead: &[i64]) -> Result<(), Wide> {
         let row = &mut self.entries[i * self.width..(i + 1) * self.width];
         row[q] = 0;
         let bound = u128::from(self.most[i]) * u128::from(times.unsigned_abs())
-            + u128::from(most) * u128::from(factor.unsigned_abs());
-        if bound < LIMIT {
-            let den = self.den[i] * times;
-            let (mut bits, mut divisor) = (den.unsigned_abs(), den.unsigned_abs());
-            for (entry, other) in row.iter_mut().zip(lead) {
-                *entry = *entry * times + other * factor;
-                bits |= entry.unsigned_abs();
-            }
-            for entry in row.iter() {
-                if divisor == 1 {
-                    break;
-                }
-                divisor = gcd(divisor, entry.unsigned_abs());
-            }
-            if divisor > 1 {
-                row.iter_mut().for_each(|entry| *entry /= divisor as i64);
-                bits /= divisor;
-            }
-            self.den[i] = den / divisor as i64;
-            // All bits up to the highest: at least each entry.
-            self.most[i] = u64::MAX >> bits.leading_zeros();
+            + u128::from(self.most[p]) * u128::from(factor.unsigned_abs());
+        // The two multiples have no common divisor, so of primitive rows only what divides both old denominators can
+        // divide the new one.
+        let are_primitive = self.is_primitive[i] && self.is_primitive[p];
+        let shared = || are_primitive.then(|| gcd(self.den[i].unsigned_abs(), lead[q].unsigned_abs()));
+        self.is_primitive[i] = bound >= NEAR;
+        if bound >= LIMIT {
+            let shared = shared();
+            return self.add_wide(i, times, factor, lead, shared);
+        }
+        if times != 1 {
+            row.iter_mut().for_each(|entry| *entry *= times);
+        }
+        for place in &self.nonzero {
+            row[*place as usize] += lead[*place as usize] * factor;
+        }
+        let den = self.den[i] * times;
+        if bound < NEAR {
+            (self.den[i], self.most[i]) = (den, bound as u64);
             return Ok(());
         }
+        let mut divisor = shared().unwrap_or(den as u64);
+        for entry in row.iter() {
+            if divisor == 1 {
+                break;
+            }
+            let rest = entry.unsigned_abs() % divisor;
+            divisor = if rest == 0 { divisor } else { gcd(divisor, rest) };
+        }
+        if divisor > 1 {
+            divide(row, divisor);
+        }
+        self.den[i] = den / divisor as i64;
+        self.most[i] = row.iter().fold(self.den[i] as u64, |most, entry| most.max(entry.unsigned_abs()));
+        Ok(())
+    }
+
+    fn add_wide(&mut self, i: usize, times: i64, factor: i64, lead: &[i64], shared: Option<u64>) -> Result<(), Wide> {
+        let row = &mut self.entries[i * self.width..(i + 1) * self.width];
         let den = i128::from(self.den[i]) * i128::from(times);
         let sum = |(entry, other): (&i64, &i64)| {
             i128::from(*entry) * i128::from(times) + i128::from(*other) * i128::from(factor)
         };
-        let sums: Vec<i128> = row.iter().zip(lead).map(sum).collect();
-        let divisor = sums.iter().fold(den.unsigned_abs(), |divisor, sum| gcd_wide(divisor, sum.unsigned_abs()));
+        let mut divisor = shared.map_or(den.unsigned_abs(), u128::from);
+        for sum in row.iter().zip(lead).map(sum) {
+            if divisor == 1 {
+                break;
+            }
+            divisor = gcd_wide(divisor, sum.unsigned_abs());
+        }
         let mut most = den.unsigned_abs() / divisor;
-        for (entry, sum) in row.iter_mut().zip(&sums) {
-            let reduced = sum / divisor as i128;
+        for (entry, other) in row.iter_mut().zip(lead) {
+            let sum = sum((entry, other));
+            let reduced = if divisor == 1 { sum } else { sum / divisor as i128 };
             most = most.max(reduced.unsigned_abs());
             *entry = reduced as i64;
         }
@@ -130,6 +189,47 @@ impl Dictionary {
         self.most[i] = most as u64;
         Ok(())
     }
+
+    /// The vector of the space for a place of the basis: the primitive list of positive `own` at its coordinate, and of
+    /// the numbers that it gives the rows.
+    pub fn column(&self, place: usize) -> Result<(i128, Vec<i128>), Wide> {
+        let wide = || self.wide(self.basis[place]);
+        let mut common = 1u128;
+        for (i, den) in self.den.iter().enumerate() {
+            let own = den.unsigned_abs() / gcd(den.unsigned_abs(), self.entry(i, place).unsigned_abs());
+            common = lcm(common, own.into(), LIMIT).ok_or_else(wide)?;
+        }
+        let mut numbers = Vec::with_capacity(self.rows.len());
+        for (i, den) in self.den.iter().enumerate() {
+            let entry = self.entry(i, place);
+            let shared = gcd(den.unsigned_abs(), entry.unsigned_abs()) as i64;
+            numbers.push(common as i128 / i128::from(den / shared) * i128::from(entry / shared));
+            if numbers[i].unsigned_abs() >= LIMIT {
+                return Err(wide());
+            }
+        }
+        Ok((common as i128, numbers))
+    }
+
+    /// Takes as many columns as possible out of the basis, for rows that are not columns.
+    pub fn eliminate(&mut self) -> Result<(), Wide> {
+        for i in 0..self.rows.len() {
+            // The least entry keeps numbers small.
+            let mut least = (i64::MAX, 0);
+            for (place, entry) in self.row(i).iter().enumerate() {
+                if *entry != 0 && entry.abs() < least.0 && self.is_column(self.basis[place]) {
+                    least = (entry.abs(), place);
+                    if least.0 == 1 {
+                        break;
+                    }
+                }
+            }
+            if least.0 < i64::MAX {
+                self.exchange(i, least.1)?;
+            }
+        }
+        Ok(())
+    }
 }
 
 /// The dictionary of some reactions' vectors as columns, with species as rows, after as many columns as possible have
@@ -138,38 +238,24 @@ pub fn eliminated(net: &Net, members: &[u32]) -> Result<Dictionary, Wide> {
     let (columns, species) = (members.len(), net.species.len());
     let mut made = Dictionary::new(columns, (0..columns as u32).collect(), species);
     made.rows = (columns as u32..(columns + species) as u32).collect();
-    (made.den, made.most) = (vec![1; species], vec![127; species]);
+    (made.den, made.most, made.is_primitive) = (vec![1; species], vec![127; species], vec![true; species]);
     made.entries = vec![0; columns * species];
     for (column, r) in members.iter().enumerate() {
         for (s, entry) in net.vector(*r as usize).enumerate() {
             made.entries[s * columns + column] = entry;
         }
     }
-    for i in 0..species {
-        // The least entry keeps numbers small.
-        let mut least = (i64::MAX, 0);
-        for (column, entry) in made.row(i).iter().enumerate() {
-            if *entry != 0 && entry.abs() < least.0 && made.is_column(made.basis[column]) {
-                least = (entry.abs(), column);
-                if least.0 == 1 {
-                    break;
-                }
-            }
-        }
-        if least.0 < i64::MAX {
-            made.exchange(i, least.1)?;
-        }
-    }
+    made.eliminate()?;
     Ok(made)
 }
 
 /// A base of some vectors, and the dictionary that shows it.
 pub struct Rank {
     /// Places among the members, ascending, each with its row.
-    base: Vec<(u32, usize)>,
-    dictionary: Dictionary,
+    pub base: Vec<(u32, usize)>,
+    pub dictionary: Dictionary,
     members: Vec<u32>,
-    species: usize,
+    pub species: usize,
 }
 
 impl Rank {
@@ -199,6 +285,8 @@ impl Rank {
                 into[*coordinate as usize - self.dictionary.columns] = *entry;
             }
         }
+        let divisor = into.iter().fold(0, |divisor, entry| gcd(divisor, entry.unsigned_abs()));
+        into.iter_mut().for_each(|entry| *entry /= divisor as i64);
     }
 
     /// The members outside the base, ascending, each with its place in the basis.
@@ -255,6 +343,7 @@ impl Rank {
             made.rows.push(old.rows[*i]);
             made.den.push(old.den[*i]);
             made.most.push(old.most[*i]);
+            made.is_primitive.push(false);
             made.entries.extend_from_slice(old.row(*i));
         }
         made.positive(self.species)
@@ -291,6 +380,7 @@ impl Rank {
             made.rows.push(turned(*coordinate));
             made.den.push(common as i64);
             made.most.push(most);
+            made.is_primitive.push(true);
         }
         made.positive(members)
     }
@@ -337,6 +427,8 @@ impl Dictionary {
                 multipliers[*coordinate as usize - self.columns] = -i128::from(*entry);
             }
         }
+        let divisor = multipliers.iter().fold(0, |divisor, number| gcd_wide(divisor, number.unsigned_abs()));
+        multipliers.iter_mut().for_each(|number| *number /= divisor as i128);
         multipliers
     }
 

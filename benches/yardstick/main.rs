@@ -1,26 +1,42 @@
-//! Answers as `crnt` does, with nothing proved: the yardstick of `benches/report.sh` and `benches/certificates.sh`.
+//! Answers as `crnt` does, with nothing proved: the yardstick of `benches/report.sh`, `benches/certificates.sh` and
+//! `benches/search.sh`.
 //!
-//!     yardstick report|certify|check [QUESTIONS]
+//!     yardstick report|certify|visits [--budget N] [QUESTIONS]
+//!     yardstick check [QUESTIONS]
 //!
-//! It is written for speed, with the questions from 1 to QUESTIONS, or all that it knows. Where an answer leaves a
-//! choice, as for a base, it may choose other than `crnt`.
+//! `visits` writes how many prefixes the searches look at. It is written for speed. QUESTIONS are numbers joined by commas, with those that they need, or else all fifteen.
+//! Where an answer leaves a choice, as for a base, it may choose other than `crnt`.
 
 mod answers;
 mod canonical;
 mod certificate;
 mod check;
+mod check_signs;
+mod concordance;
+mod document;
+mod frame;
 mod graph;
 mod linear;
 mod lines;
 mod net;
+mod regular;
 mod report;
+mod search;
+mod signals;
+mod signs;
+mod space;
 mod text;
 mod theorems;
+mod trees;
 
+use crate::answers::{Asked, Settings};
 use std::io::{self, Read, Write};
 use std::process::ExitCode;
 
 const USAGE: &str = "usage: crnt report | certify | check | sample K, with --budget N except for check\n";
+
+/// Of a search, where none is said.
+const BUDGET: u32 = 20_000;
 
 /// What is written, and the status.
 type Told = (Vec<u8>, u8);
@@ -29,7 +45,15 @@ fn told(words: &str, code: u32, name: &str, line: u32, status: u8) -> Told {
     (format!("{words} {code} {name} at line {line}\n").into_bytes(), status)
 }
 
-fn read_and_solve(questions: u32, certifies: bool) -> io::Result<Told> {
+/// What is written of a network.
+#[derive(Clone, Copy, PartialEq, Eq)]
+enum Form {
+    Report,
+    Certificate,
+    Visits,
+}
+
+fn read_and_solve(form: Form, asked: Asked, budget: u32) -> io::Result<Told> {
     let mut text = Vec::new();
     io::stdin().lock().take(text::MAX_TEXT as u64 + 1).read_to_end(&mut text)?;
     let net = match text::read(&text) {
@@ -39,21 +63,22 @@ fn read_and_solve(questions: u32, certifies: bool) -> io::Result<Told> {
             return Ok(told("refused", number, name, line, 2));
         }
     };
-    let (verdicts, shown) = answers::solve(&net, questions);
+    let shows = form == Form::Certificate;
+    let (verdicts, shown) = answers::solve(&net, Settings { asked, budget, shows });
     let mut out = Vec::with_capacity(4096);
-    if certifies {
-        certificate::certificate(&net, &verdicts, &shown, &mut out);
-    } else {
-        report::report(&net, &verdicts, &mut out);
+    match form {
+        Form::Report => report::report(&net, &verdicts, &mut out),
+        Form::Certificate => certificate::certificate(&net, &verdicts, &shown, &mut out),
+        Form::Visits => writeln!(out, "{}", shown.visits)?,
     }
     Ok((out, u8::from(verdicts.open() > 0)))
 }
 
-fn check(questions: u32) -> io::Result<Told> {
-    match check::check(io::stdin().lock(), questions) {
-        Err(check::Stop::Failed(error)) => Err(error),
-        Err(check::Stop::Rejected(code, line)) => {
-            let name = check::CODES.iter().find(|(number, _)| *number == code).unwrap().1;
+fn check(asked: Asked) -> io::Result<Told> {
+    match check::check(io::stdin().lock(), asked) {
+        Err(document::Stop::Failed(error)) => Err(error),
+        Err(document::Stop::Rejected(code, line)) => {
+            let name = document::CODES.iter().find(|(number, _)| *number == code).unwrap().1;
             Ok(told("rejected", code, name, line, 3))
         }
         Ok((net, verdicts)) => {
@@ -64,17 +89,32 @@ fn check(questions: u32) -> io::Result<Told> {
     }
 }
 
-fn main() -> ExitCode {
-    let mut words = std::env::args().skip(1);
-    let (command, count, rest) = (words.next(), words.next(), words.next());
-    let questions = count.map_or(Some(answers::QUESTIONS), |count| count.parse().ok());
-    let questions = questions.filter(|count| (1..=answers::QUESTIONS).contains(count) && rest.is_none());
-    let answer = match (command.as_deref(), questions) {
-        (Some("report"), Some(questions)) => read_and_solve(questions, false),
-        (Some("certify"), Some(questions)) => read_and_solve(questions, true),
-        (Some("check"), Some(questions)) => check(questions),
-        _ => Ok((USAGE.into(), 4)),
+/// What the words ask for, or nothing where they are no call.
+fn answer(words: &[String]) -> Option<io::Result<Told>> {
+    let (command, rest) = words.split_first()?;
+    let (budget, rest) = match rest {
+        [option, number, rest @ ..] if option == "--budget" => (Some(number.parse().ok()?), rest),
+        _ => (None, rest),
     };
+    let asked = match rest {
+        [] => Asked::ALL,
+        [questions] => Asked::parse(questions)?,
+        _ => return None,
+    };
+    let form = match command.as_str() {
+        "report" => Form::Report,
+        "certify" => Form::Certificate,
+        "visits" => Form::Visits,
+        "check" if budget.is_none() => return Some(check(asked)),
+        _ => return None,
+    };
+    let budget = budget.unwrap_or(BUDGET);
+    (1..=100_000).contains(&budget).then(|| read_and_solve(form, asked, budget))
+}
+
+fn main() -> ExitCode {
+    let words: Vec<String> = std::env::args().skip(1).collect();
+    let answer = answer(&words).unwrap_or_else(|| Ok((USAGE.into(), 4)));
     let Ok((out, status)) = answer else { return ExitCode::from(5) };
     match io::stdout().lock().write_all(&out) {
         Ok(()) => ExitCode::from(status),

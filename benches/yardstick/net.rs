@@ -124,6 +124,26 @@ impl Net {
         let (y, z) = (&self.complexes[y as usize], &self.complexes[z as usize]);
         y.iter().zip(z).map(|(y, z)| i64::from(*z) - i64::from(*y)).take(self.species.len())
     }
+
+    /// The product of numbers of the species with each complex.
+    pub fn products(&self, numbers: &[i128]) -> Vec<i128> {
+        let product = |row: &Row| numbers.iter().zip(row).map(|(x, amount)| x * i128::from(*amount)).sum();
+        self.complexes.iter().map(product).collect()
+    }
+
+    /// The combination of the reaction vectors with the numbers, by species.
+    pub fn combination(&self, numbers: &[i128]) -> Vec<i128> {
+        let mut flows = vec![0i128; self.complexes.len()];
+        for ((y, z), x) in self.reactions.iter().zip(numbers) {
+            flows[*y as usize] -= x;
+            flows[*z as usize] += x;
+        }
+        let mut sums = vec![0i128; self.species.len()];
+        for (row, flow) in self.complexes.iter().zip(&flows).filter(|(_, flow)| **flow != 0) {
+            sums.iter_mut().zip(row).for_each(|(sum, amount)| *sum += flow * i128::from(*amount));
+        }
+        sums
+    }
 }
 
 pub fn put_number(out: &mut Vec<u8>, number: i128) {

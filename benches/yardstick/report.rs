@@ -1,8 +1,11 @@
 //! Writes the report of a network and its verdicts.
 
 use crate::answers::{Answer, Gap, Verdicts};
+use crate::concordance::Pair;
 use crate::linear::Positive;
 use crate::net::{Net, put_number, put_numbers};
+use crate::regular::{Confluence, Regular};
+use crate::signals::Signal;
 use crate::theorems::One;
 
 fn put(out: &mut Vec<u8>, words: &str) {
@@ -71,6 +74,7 @@ fn put_reaction_shown(net: &Net, title: &str, shown: Option<u32>, out: &mut Vec<
 fn put_gap(gap: &Gap, out: &mut Vec<u8>) {
     match gap {
         Gap::Rests(question) => put_count(out, ": open, rests on Q", *question, "\n"),
+        Gap::Budget(nodes) => put_count(out, ": open, budget ", *nodes, "\n"),
         Gap::Wide { system, class, index, basis } => {
             put_count(out, ": open, wide\n  system ", *system, "");
             if *class > 0 {
@@ -112,6 +116,71 @@ fn put_one(one: &Answer<One>, out: &mut Vec<u8>) {
             put_count(out, "", *number, "\n");
         }
         Ok(One::Sum(sum)) => put_count(out, ": hypotheses fail, class deficiencies sum to ", *sum, "\n"),
+    }
+}
+
+fn put_list<T: Copy + Into<i128>>(title: &str, numbers: &[T], out: &mut Vec<u8>) {
+    put(out, title);
+    put_numbers(out, numbers);
+}
+
+fn put_regular(net: &Net, regular: &Answer<Regular>, out: &mut Vec<u8>) {
+    put(out, "Q11 regular");
+    match regular {
+        Err(gap) => put_gap(gap, out),
+        Ok(Regular::Yes) => put(out, ": yes\n"),
+        Ok(Regular::Terminal(class, count)) => {
+            put_count(out, ": no, class ", *class, " has ");
+            put_count(out, "", *count, " terminal classes\n");
+        }
+        Ok(Regular::Dependence) => put(out, ": no, not positively dependent\n"),
+        Ok(Regular::Cycle(r, walk)) => {
+            put_count(out, ": no, a cycle in a terminal class\n  reaction ", *r, ", walk: ");
+            put_complexes(net, walk.iter().map(|c| *c as usize - 1), out);
+            out.push(b'\n');
+        }
+    }
+}
+
+fn put_confluence(confluence: &Answer<Confluence>, out: &mut Vec<u8>) {
+    put(out, "Q12 confluence vector");
+    match confluence {
+        Err(gap) => put_gap(gap, out),
+        Ok(Confluence::Vector(vector)) => put_list(": yes\n  vector:", vector, out),
+        Ok(Confluence::NotRegular) => put(out, ": not applicable, not regular\n"),
+        Ok(Confluence::OnlyZero) => put(out, ": not applicable, no vector but zero\n"),
+        Ok(Confluence::Plane(_, [one, two])) => {
+            put_list(": not applicable, two independent vectors\n  vector:", one, out);
+            put_list("  vector:", two, out);
+        }
+    }
+}
+
+fn put_signal(signal: &Answer<Signal>, out: &mut Vec<u8>) {
+    put(out, "Q13 signal");
+    match signal {
+        Err(gap) => put_gap(gap, out),
+        Ok(Signal::No) => put(out, ": no\n"),
+        Ok(Signal::NotApplicable) => put(out, ": not applicable\n"),
+        Ok(Signal::Yes { turn, shelves, mu, m, .. }) => {
+            put_list(": yes\n  turn:", &[*turn], out);
+            put(out, "  shelves:");
+            shelves.iter().for_each(|shelf| put(out, [" lower", " middle", " upper"][(shelf + 1) as usize]));
+            put_list("\n  mu:", mu, out);
+            put_list("  m:", &[*m], out);
+        }
+    }
+}
+
+fn put_concordant(net: &Net, title: &str, answer: &Answer<Option<Pair>>, out: &mut Vec<u8>) {
+    put(out, title);
+    match answer {
+        Err(gap) => put_gap(gap, out),
+        Ok(None) => put(out, ": yes\n"),
+        Ok(Some(Pair { alpha, weights })) => {
+            put_list(": no\n  sigma:", &net.combination(weights), out);
+            put_list("  alpha:", alpha, out);
+        }
     }
 }
 
@@ -176,6 +245,20 @@ pub fn report(net: &Net, verdicts: &Verdicts, out: &mut Vec<u8>) {
     }
     if let Some(one) = &verdicts.one {
         put_one(one, out);
+    }
+    if let Some(regular) = &verdicts.regular {
+        put_regular(net, regular, out);
+    }
+    if let Some(confluence) = &verdicts.confluence {
+        put_confluence(confluence, out);
+    }
+    if let Some(signal) = &verdicts.signal {
+        put_signal(signal, out);
+    }
+    for (title, answer) in ["Q14 concordant", "Q15 strongly concordant"].iter().zip(&verdicts.concordant) {
+        if let Some(answer) = answer {
+            put_concordant(net, title, answer, out);
+        }
     }
     put_count(out, "open: ", verdicts.open(), "\n");
 }

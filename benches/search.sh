@@ -1,0 +1,84 @@
+#!/usr/bin/env bash
+# Measures the searches of questions 13 to 15 at the greatest budget beside a plain Rust program that does the same with
+# nothing proved: the least time of several runs, counts of instructions by valgrind, which are the same whatever else
+# the machine does, how many prefixes are visited, and the most memory; `check` reads from a pipe. The start of the
+# process is in all of these. First it has each of the two check what the other certifies. While the program does not
+# answer question 14 the other one is measured alone, on all fifteen questions.
+# Not part of the checks: times depend on the machine.
+#
+#     benches/search.sh [RUNS [WORD]]       WORD: only networks with this word in their name
+#     CRNT_PROGRAM=FILE benches/search.sh   measures this program, and builds none
+set -eu
+cd "$(dirname "$0")/.."
+is_built=$(cd checks && python3 -c 'import second_opinion; print(14 in second_opinion.BUILT)')
+if [ "$is_built" = True ] && [ -z "${CRNT_PROGRAM:-}" ]; then
+    status=0
+    ./crnt </dev/null >/dev/null || status=$?
+    [ $status -eq 4 ] || exit 1
+fi
+
+work=$(mktemp -d)
+trap 'rm -rf "$work"' EXIT
+benches/yardstick/build "$work/yardstick"
+
+python3 - "${CRNT_PROGRAM:-crates/crnt/out/crnt}" "$work/yardstick" "${1:-5}" "${2:-}" <<'PYTHON'
+import sys
+
+sys.path.insert(0, "benches")
+import texts
+from measure import ASKED, BUILT, answer, differ, instructions, least_seconds, megabytes, put_heads, put_row, ratio, same, source_of, told
+
+program, yardstick, runs, word = sys.argv[1], sys.argv[2], int(sys.argv[3]), sys.argv[4]
+is_built = 14 in BUILT
+asked = ASKED if is_built else ",".join(map(str, range(1, 16)))
+BUDGET = ["--budget", "100000"]
+
+
+def commands(name):
+    options = [] if name == "check" else BUDGET
+    return ([[program, name, *options]] if is_built else []) + [[yardstick, name, *options, asked]]
+
+
+def agree(name, text):
+    """The answers to one text, which are the same but for what is free."""
+    answers = [answer(command, text) for command in commands("report")]
+    certificates = [answer(command, text)[1] for command in commands("certify")]
+    if not same(answers[0], answers[-1]):
+        differ(name, text, answers)
+    for (_, report), certificate in zip(answers, certificates):
+        for command in commands("check"):
+            checked = answer(command, certificate)
+            if checked != (0, report):
+                differ(name, certificate, [checked, (0, report)])
+    return certificates[0]
+
+
+def measured(name, command, text, visits, piped=False):
+    both = commands(command)
+    with source_of(text) as source:
+        seconds = least_seconds(both, source, runs)
+        counts = [instructions(words, source) for words in both]
+        memory = [megabytes(words, source, piped) for words in both]
+    row = [name, command, f"{len(text):,}", visits]
+    for values, form in ((seconds, lambda x: f"{x:.4f}"), (counts, lambda x: f"{x / 1e6:,.1f}" if x else "?")):
+        row += [form(value) for value in values] + ([ratio(*values)] if is_built else [])
+    put_row(row + memory)
+
+
+print(f"questions {asked}, budget 100,000, {runs} runs each, {told()}\n")
+pair = ["yardstick", "ratio"] if is_built else []
+heads = ["network", "command", "bytes", "visits", "least time, s", *pair, "million instructions", *pair, "most memory, MB"]
+put_heads(heads + pair[:1], words=2)
+if not word:
+    measured("nothing: the start alone", "report", b"", "0")
+for name, text, is_certified in texts.searches():
+    if word in name:
+        text = text.encode()
+        certificate = agree(name, text)
+        visits = f"{int(answer([yardstick, 'visits', *BUDGET, asked], text)[1]):,}"
+        measured(name, "report", text, visits)
+        if is_certified:
+            measured(name, "certify", text, visits)
+            measured(name, "check", certificate, visits, piped=True)
+            measured(f"{name}, version 1", "check", texts.first_version(certificate), visits, piped=True)
+PYTHON
