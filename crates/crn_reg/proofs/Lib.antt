@@ -1,3 +1,9 @@
+mod ConfluenceAnswers
 mod FirstPairs
 mod Least
+mod Named
 mod RegularAnswers
+mod Rows
+mod Solutions
+mod TestFacts
+mod Turns

@@ -1,12 +1,19 @@
-//! Whether a network is regular.
+//! Whether a network is regular, and its confluence vector.
 #![tactic(auto)]
 
+mod columns;
+mod confluence_vector;
 mod laws;
+mod matrix;
 mod pairs;
 mod regularity;
 mod sides;
+mod space;
 #[cfg(test)]
 mod tests;
+mod ties;
+mod turn;
 
+pub use confluence_vector::confluence;
 pub use laws::reversible_networks_are_weakly_reversible;
 pub use regularity::regular;

@@ -1,14 +1,22 @@
-ghost use Rattle.std.specs.Prelude.{◌≡◌, ◌≤◌, ◌+◌, IsTrue, IfOk};
+ghost use Rattle.std.specs.Prelude.{◌≡◌, ◌≤◌, ◌<◌, ◌+◌, ◌↔◌, ◌≤ℤ◌, ℕ, pos, unsigned_abs, [], length, slice_index_or, IsTrue, IfOk};
 ghost use Rattle.std.specs.List.{AllByRecursion};
+ghost use Rattle.crn_vec.specs.declared.limits.TheConstants.{WIDE_SOLUTION};
 ghost use Rattle.crn_vec.specs.Network.{is_letter, IsName};
+ghost use Rattle.crn_vec.specs.Vectors.{dot};
+ghost use Rattle.crn_vec.specs.Strong.{AreRightStrongLabels, IsWeaklyReversible};
+ghost use Rattle.crn_vec.specs.Deficiency.{IsPositive, IsPositiveDependence};
+ghost use Rattle.crn_vec.specs.Confluence.{IsRegular};
+ghost use Rattle.crn_cert.specs.Says.{AreLinkageClasses, AreStrongClasses};
+ghost use Rattle.crn_cert.specs.ClassTests.{DoLevelsFall};
 ghost use Rattle.crn_net.specs.Terms.{IsTerm, IsSide};
 
 use crate::laws::meets_definition;
-use crate::regular;
-use crn_cert::{Answer, Gap, Verdict};
-use crn_graph::{linkage, strong};
+use crate::{confluence, regular};
+use crn_cert::{Answer, Gap, Proof, Verdict};
+use crn_conc::reaction_matrix;
+use crn_graph::{LinkageData, StrongData, linkage, strong};
 use crn_net::{NetBuilder, NetFault, Network, Term, sums_fit};
-use crn_vec::{MAX_AMOUNT, MAX_TERMS, NoMemory};
+use crn_vec::{Ints, MAX_AMOUNT, MAX_TERMS, Matrix, NoMemory, dot};
 use std::alloc::{AllocError, Global};
 use std::process::Abort;
 use std::test::Fail;
@@ -181,6 +189,196 @@ fn the_walk_of_a_cycle_goes_round(rt: HostRuntime) -> Result<(), Fail> {
     match &answer.verdict {
         Verdict::NoCycle { walk, .. } => assert!(rt; walk.as_slice() == [1, 3, 2].as_slice()),
         _ => panic!(rt; "a cycle"),
+    }
+    Ok(())
+}
+
+// Whether a number is from 1 to 99.
+fn is_small(x: &i128) -> bool
+    ensures positive { IsTrue result → pos 1 ≤ℤ x.now }
+    ensures within { IsTrue result → unsigned_abs x.now ≤ WIDE_SOLUTION }
+{
+    1 <= *x && *x <= 99
+}
+
+// Whether each number is from 1 to 99.
+fn are_small(numbers: &[i128]) -> bool
+    ensures positive { IsTrue result → IsPositive numbers.now }
+    ensures within { IsTrue result
+        → AllByRecursion (λ x. unsigned_abs x ≤ WIDE_SOLUTION) numbers.now }
+{
+    numbers.iter().all(|x| is_small(x))
+}
+
+// Whether each row times the numbers is zero.
+fn are_orthogonal(matrix: &Matrix, numbers: &[i128]) -> bool
+    requires long { length numbers.now ≡ matrix.now.cols }
+    requires within { AllByRecursion (λ x. unsigned_abs x ≤ WIDE_SOLUTION) numbers.now }
+    ensures { IsTrue result → (s : ℕ) → s < length matrix.now.rows
+        → dot numbers.now (slice_index_or matrix.now.rows s []) ≡ pos 0 }
+{
+    for s in 0..matrix.rows() {
+        if dot(numbers, matrix.row(s)) != 0 {
+            return false;
+        }
+    }
+    true
+}
+
+// Whether these numbers are a positive dependence of the network.
+fn is_dependence(alloc: Global, net: &Network, numbers: &[i128]) -> Result<bool, NoMemory>
+    ensures { IfOk result (λ is. IsTrue is → IsPositiveDependence net.now numbers.now) }
+{
+    meets_definition(net);
+    let matrix = reaction_matrix(alloc, net)?;
+    if numbers.len() != matrix.cols() || !are_small(numbers) {
+        return Ok(false);
+    }
+    Ok(are_orthogonal(&matrix, numbers))
+}
+
+// Whether the complexes of each reaction have one label.
+fn is_weak(net: &Network, label: &[u32]) -> bool
+    requires labels { AreRightStrongLabels net.now.reactions label.now }
+    requires places { length label.now ≡ length net.now.complexes }
+    ensures { IsTrue result ↔ IsWeaklyReversible net.now.reactions }
+{
+    meets_definition(net);
+    for r in 0..net.reactions() {
+        if label[net.reactant(r)] != label[net.product(r)] {
+            return false;
+        }
+    }
+    true
+}
+
+// Whether the network is regular, if these numbers are a positive dependence of it.
+fn is_regular(
+    alloc: Global,
+    net: &Network,
+    linkage: &LinkageData,
+    strong: &StrongData,
+    numbers: &[i128],
+) -> Result<bool, NoMemory>
+    requires classes { AreLinkageClasses net.now linkage.now.count linkage.now.label.list }
+    requires strong_classes { AreStrongClasses net.now strong.now.count strong.now.terminal
+        strong.now.label.list strong.now.exit.list }
+    requires levels { DoLevelsFall net.now strong.now.label.list strong.now.level.list }
+    ensures { IfOk result (λ is. IsTrue is → IsRegular net.now) }
+{
+    if !is_dependence(alloc, net, numbers)? {
+        return Ok(false);
+    }
+    let q7 = Verdict::YesVec {
+        vector: Ints::from_slice(alloc, numbers)?,
+    };
+    let answer = regular(alloc, net, linkage, strong, &q7)?;
+    match answer.verdict {
+        Verdict::Yes => Ok(true),
+        _ => Ok(false),
+    }
+}
+
+// The answer to question 12, if these numbers are a positive dependence of the network and it is regular.
+fn confluence_of(
+    alloc: Global,
+    net: &Network,
+    numbers: &[i128],
+) -> Result<Option<Answer>, NoMemory> {
+    meets_definition(net);
+    let linkage = linkage(alloc, net)?;
+    let strong = strong(alloc, net)?;
+    if !is_regular(alloc, net, &linkage, &strong, numbers)? {
+        return Ok(None);
+    }
+    let weak = is_weak(net, strong.label.as_slice());
+    Ok(Some(confluence(alloc, net, &linkage, &strong, weak)?))
+}
+
+fn ties_in(proof: &Proof) -> usize {
+    match proof {
+        Proof::Ties(ties) => ties.len(),
+        _ => 0,
+    }
+}
+
+// Whether an answer has so many ties and this vector, none if it is no yes, and no ties if it names two vectors.
+fn is_answer(answer: &Answer, row: &Row) -> bool {
+    if ties_in(&answer.proof) != row.ties {
+        return false;
+    }
+    match &answer.verdict {
+        Verdict::YesVec { vector } => vector.as_slice() == row.vector,
+        Verdict::OnlyZero => row.ties > 0 && row.vector.is_empty(),
+        Verdict::Plane { .. } => row.ties == 0 && row.vector.is_empty(),
+        _ => false,
+    }
+}
+
+fn row_holds(alloc: Global, net: &Network, row: &Row) -> bool {
+    match confluence_of(alloc, net, row.numbers) {
+        Ok(Some(answer)) => is_answer(&answer, row),
+        _ => false,
+    }
+}
+
+// A regular network, a positive dependence of it, and the ties and the vector of the answer to question 12.
+struct Row {
+    text: &'static [u8],
+    numbers: &'static [i128],
+    ties: usize,
+    vector: &'static [i128],
+}
+
+const SPACES: [Row; 6] = [
+    // Edelstein's network
+    Row {
+        text: b"A>2A,2A>A,AB>C,C>AB,C>B,B>C",
+        numbers: &[1, 1, 1, 1, 1, 1],
+        ties: 4,
+        vector: &[1, -1, 1, 0, -1],
+    },
+    // the Brusselator
+    Row {
+        text: b">A,A>,A>B,2AB>3A",
+        numbers: &[1, 1, 1, 1],
+        ties: 4,
+        vector: &[0, -1, 1, -1, 1],
+    },
+    // three complexes in a row, reversible
+    Row {
+        text: b"2A>AB,AB>2A,AB>2B,2B>AB",
+        numbers: &[1, 1, 1, 1],
+        ties: 2,
+        vector: &[1, -2, 1],
+    },
+    // two sites, phosphorylated one after the other and back: two independent vectors
+    Row {
+        text: b"AK>X,X>AK,X>BK,BK>Y,Y>BK,Y>CK,CF>Z,Z>CF,Z>BF,BF>W,W>BF,W>AF",
+        numbers: &[2, 1, 1, 2, 1, 1, 2, 1, 1, 2, 1, 1],
+        ties: 0,
+        vector: &[],
+    },
+    // one pair, and two
+    Row {
+        text: b"A>B,B>A",
+        numbers: &[1, 1],
+        ties: 2,
+        vector: &[],
+    },
+    Row {
+        text: b"A>B,B>A,C>2C,2C>C",
+        numbers: &[1, 1, 1, 1],
+        ties: 4,
+        vector: &[],
+    },
+];
+
+#[test]
+fn confluence_vectors_are_found(rt: HostRuntime) -> Result<(), Fail> {
+    for row in &SPACES {
+        let net = network(&rt, row.text);
+        assert!(rt; row_holds(rt.alloc(), &net, row));
     }
     Ok(())
 }

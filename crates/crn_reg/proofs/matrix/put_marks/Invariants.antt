@@ -1,0 +1,11 @@
+use Rattle.std.proofs.Common.{◌≡◌, ◌++◌, take}
+use Rattle.crn_vec.specs.Vectors.{AreWithin}
+use Rattle.crn_vec.specs.Sums.{label_marks}
+use Rattle.crn_vec.specs.declared.limits.TheConstants.{MAX_AMOUNT}
+use Rattle.crn_reg.proofs.matrix.put_marks.Given as goal
+
+abbrev pub invariant-loop-c : goal.invariant-loop-c
+invariant-loop-c l = record {
+  value : l.entries.items ≡ l.initial.entries.items ++ label_marks (take l.c l.labels) l.class;
+  small : AreWithin MAX_AMOUNT l.entries.items;
+}

@@ -1,0 +1,10 @@
+use Rattle.std.proofs.Common.{◌≡◌, ◌++◌, take}
+use Rattle.crn_vec.specs.Vectors.{AreWithin, column}
+use Rattle.crn_vec.specs.declared.limits.TheConstants.{MAX_AMOUNT}
+use Rattle.crn_reg.proofs.matrix.put_species.Given as goal
+
+abbrev pub invariant-loop-c : goal.invariant-loop-c
+invariant-loop-c l = record {
+  value : l.entries.items ≡ l.initial.entries.items ++ take l.c (column l.net.complexes l.s);
+  small : AreWithin MAX_AMOUNT l.entries.items;
+}
