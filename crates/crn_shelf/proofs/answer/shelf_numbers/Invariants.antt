@@ -1,0 +1,6 @@
+use Rattle.std.proofs.Common.{◌≡◌, map, take}
+use Rattle.crn_shelf.specs.Inner.Answers.{shelf_number}
+use Rattle.crn_shelf.proofs.answer.shelf_numbers.Given as goal
+
+abbrev pub invariant-loop-k : goal.invariant-loop-k
+invariant-loop-k l = l.numbers.list ≡ take l.k (map shelf_number l.shelves)

@@ -1,0 +1,56 @@
+use Rattle.std.proofs.Common.{◌≡◌, true, inl, inr, length, refl, sym, subst, ◌∙◌, arith}
+use Rattle.std.specs.Prelude.{pos}
+use Rattle.std.proofs.lemmas.Bool.{false≢true}
+use Rattle.std.proofs.lemmas.Int.{ints}
+use Rattle.crn_cert.specs.declared.answer.Answer.{Answer}
+use Rattle.crn_cert.specs.Questions.{Earlier, Q13}
+use Rattle.crn_cert.specs.Answered.{IsAnswer}
+use Rattle.crn_conc.specs.TreeSizes.{HasFewNodes}
+use Rattle.crn_conc.proofs.CallerLemmas.{if_ok}
+use Rattle.crn_shelf.specs.Given.{GiveVector}
+use Rattle.crn_shelf.specs.Inner.Shapes.{EndsFor}
+use Rattle.crn_shelf.specs.Inner.Answers.{IsFoundAnswer, IsStopAnswer}
+use Rattle.crn_shelf.proofs.Answered.{found_is, one_is, spent_is, stopped, few_one}
+use Rattle.crn_shelf.proofs.answer.signal.Goals as goal
+
+pub by_negative-requires-clause-weak : goal.by_negative-requires-clause-weak
+by_negative-requires-clause-weak c = c.requires.weak.0 c.if-weak.true
+
+pub returns-in-Ok-Found-clause-answer : goal.returns-in-Ok-Found-clause-answer
+returns-in-Ok-Found-clause-answer c =
+    let net = c.args.net.now in
+    let g = c.args.g.now in
+    let s = c.args.strong.now in
+    let f = c.in-Ok-Found in
+    if_ok (IsFoundAnswer (pos 1) s.terminal (length net.names) c.as_slice.result.now f.a.list f.b.list)
+    (λ (answer : Answer). (earlier : Earlier) → GiveVector net earlier g c.args.weak → IsAnswer net c.args.budget earlier Q13 answer) c.found_answer.result
+    (λ answer h earlier v. found_is net earlier g c.args.weak (pos 1) c.args.budget s.count s.terminal s.label.list s.exit.list c.as_slice.result.now f.pattern f.a f.b answer c.species.ensures.network c.requires.regular c.requires.line c.requires.vector c.requires.strong
+    (inl refl) (λ t. absurd (omega (arith, ints, t))) c.requires.vector.confluence v c.as_slice.ensures (subst (EndsFor net g c.args.budget) f.field-0-is f.ensures) h)
+    c.found_answer.ensures
+
+pub returns-then-weak-clause-answer : goal.returns-then-weak-clause-answer
+returns-then-weak-clause-answer c =
+    let net = c.args.net.now in
+    let g = c.args.g.now in
+    if_ok (λ (answer : Answer). (earlier : Earlier) → GiveVector net earlier g true → IsAnswer net c.args.budget earlier Q13 answer)
+    (λ (answer : Answer). (earlier : Earlier) → GiveVector net earlier g c.args.weak → IsAnswer net c.args.budget earlier Q13 answer) c.by_negative.result
+    (λ answer h earlier v. h earlier (subst (GiveVector net earlier g) c.if-weak.true v)) c.by_negative.ensures.answer
+
+pub returns-else-weak-clause-answer : goal.returns-else-weak-clause-answer
+returns-else-weak-clause-answer c =
+    let net = c.args.net.now in
+    λ earlier v. subst (IsAnswer net c.args.budget earlier Q13) (sym c.one_answer.ensures)
+    (one_is net earlier c.args.g.now c.args.weak c.args.budget c.in-Ok-Refuted.tree c.species.ensures.network c.requires.regular c.requires.line c.requires.vector c.requires.weak.1 (λ t. false≢true (sym c.if-weak.false ∙ t)) v (subst (EndsFor c.args.net.now c.args.g.now c.args.budget) c.in-Ok-Refuted.field-0-is c.in-Ok-Refuted.ensures))
+
+pub returns-else-weak-clause-nodes : goal.returns-else-weak-clause-nodes
+returns-else-weak-clause-nodes c =
+    subst (λ (a : Answer). HasFewNodes c.args.budget a.proof) (sym c.one_answer.ensures)
+    (few_one c.args.net.now c.args.g.now c.args.budget c.in-Ok-Refuted.tree (subst (EndsFor c.args.net.now c.args.g.now c.args.budget) c.in-Ok-Refuted.field-0-is c.in-Ok-Refuted.ensures))
+
+pub returns-in-Err-clause-answer : goal.returns-in-Err-clause-answer
+returns-in-Err-clause-answer c =
+    let net = c.args.net.now in
+    let g = c.args.g.now in
+    let stop = c.in-Err.stop in
+    if_ok (IsStopAnswer stop) (λ (answer : Answer). (earlier : Earlier) → GiveVector net earlier g c.args.weak → IsAnswer net c.args.budget earlier Q13 answer) c.stop_answer.result
+    (λ answer e earlier v. stopped net earlier g c.args.weak c.args.budget stop answer c.species.ensures.network c.requires.vector.confluence.space.long v c.in-Err.ensures e) c.stop_answer.ensures

@@ -1,0 +1,18 @@
+use Rattle.std.proofs.Common.{[], sym, ap, ◌∙◌, subst, arith, ◌++◌, ◌∷◌, take, List, get_or}
+use Rattle.std.specs.Prelude.{ℤ}
+use Rattle.std.specs.List.{AllZip}
+use Rattle.std.proofs.lemmas.List.{take_more}
+use Rattle.crn_vec.proofs.CallerLemmas.{all_at}
+use Rattle.crn_shelf.specs.Inner.Pairs.{IsPairFor, IsSide}
+use Rattle.crn_shelf.proofs.PairSides.{zip_push}
+use Rattle.crn_shelf.proofs.pairs.linked_pairs.Goals as goal
+
+pub loop-i-preserved : goal.loop-i-preserved
+loop-i-preserved c =
+    let for = IsPairFor c.args.net.now c.args.g.now c.args.tops.now.of.items in
+    let sides = c.args.sides.now in
+    let i = c.loop-i.i in
+    subst (λ (l : List (List ℤ)). AllZip for l c.push.new.self.items) (sym (take_more sides i [] (omega (arith, c.loop-i-test.true, c.len-i-end.ensures))))
+    (subst (λ ps. AllZip for (take i sides ++ get_or sides i [] ∷ []) ps) (sym c.in_ok-push.ensures.items)
+    (zip_push for (take i sides) c.loop-i.pairs.items (get_or sides i []) c.linked_pair.result c.loop-i.invariant
+    (subst (λ (m : List ℤ). for m c.linked_pair.result) c.row.ensures c.linked_pair.ensures)))

@@ -1,0 +1,11 @@
+//! Signals of a confluence vector: the sign problem of a network's shape, and the searches that decide it.
+#![tactic(auto)]
+
+mod answer;
+mod kinds;
+mod pairs;
+mod problem;
+mod system;
+mod tops;
+
+pub use answer::signal;
