@@ -14,13 +14,12 @@ use Rattle.crn_shelf.specs.Sides.{IsSideOf, AreSides}
 use Rattle.crn_shelf.specs.declared.pairs.LinkedPair.{LinkedPair}
 use Rattle.crn_shelf.specs.Inner.Pairs.{IsSide, pair_of, IsPairFor}
 use Rattle.crn_vec.specs.Vectors.{Mat}
-use Rattle.crn_vec.specs.Elementary.{NamesWide}
 use Rattle.crn_vec.specs.NetSystems.{reaction_system}
 use Rattle.crn_sign.specs.declared.end.SearchEnd.{SearchEnd}
 use Rattle.crn_sign.specs.declared.fault.SearchStop.{SearchStop}
 use Rattle.crn_sign.specs.declared.fault.SearchStop.TheVariants.{WideA, WideB, NoMemory}
 use Rattle.crn_sign.specs.Search.{IsSearchEnd, IsSearchStop}
-use Rattle.crn_shelf.specs.Inner.Shapes.{shape_of, EndsFor, StopsFor}
+use Rattle.crn_shelf.specs.Inner.Shapes.{shape_of, StopsFor}
 use Rattle.crn_shelf.proofs.FewPairs.{few_pairs}
 
 sides_by : (net : Net) (places : List ℕ) (sides : List (List ℤ)) → ((r : ℕ) → IsIn r places → IsFirstOfPair net.reactions r) → AllZip (IsSideOf net) places sides → AllByRecursion (IsSide net) sides
@@ -87,10 +86,13 @@ pub matched : {T E : Type 0} (P Q : T → Type 0) (R S : E → Type 0) (r : Resu
 matched P Q R S (Ok x) f g h = f x h
 matched P Q R S (Err e) f g h = g e h
 
-pub ends_for : (net : Net) (g : List ℤ) (s : Shape) (m : Mat) (budget : ℕ) (e : SearchEnd) → IsShapeOf net g s → m ≡ reaction_system net → IsSearchEnd (signals s m) budget e → EndsFor net g budget e
-ends_for net g s m budget e sh same h = (s, sh, subst (λ (a : Mat). IsSearchEnd (signals s a) budget e) same h)
+pub end_by : (net : Net) (s : Shape) (m : Mat) (budget : ℕ) (e : SearchEnd) → m ≡ reaction_system net → IsSearchEnd (signals s m) budget e → IsSearchEnd (signals s (reaction_system net)) budget e
+end_by net s m budget e same h = subst (λ (a : Mat). IsSearchEnd (signals s a) budget e) same h
 
-pub stops_for : (net : Net) (g : List ℤ) (s : Shape) (m : Mat) (stop : SearchStop) → IsShapeOf net g s → m ≡ reaction_system net → IsSearchStop (signals s m) stop → StopsFor net g stop
-stops_for net g s m (WideA index basis) sh same h = (s, sh, h)
-stops_for net g s m (WideB index basis) sh same h = subst (λ (a : Mat). NamesWide a index basis.list) same h
-stops_for net g s m NoMemory sh same h = tt
+pub stop_by : (net : Net) (s : Shape) (m : Mat) (stop : SearchStop) → m ≡ reaction_system net → IsSearchStop (signals s m) stop → IsSearchStop (signals s (reaction_system net)) stop
+stop_by net s m stop same h = subst (λ (a : Mat). IsSearchStop (signals s a) stop) same h
+
+pub stops_for : (net : Net) (g : List ℤ) (s : Shape) (stop : SearchStop) → IsShapeOf net g s → IsSearchStop (signals s (reaction_system net)) stop → StopsFor net g stop
+stops_for net g s (WideA index basis) sh h = (s, sh, h)
+stops_for net g s (WideB index basis) sh h = h
+stops_for net g s NoMemory sh h = tt

@@ -6,6 +6,8 @@ mod kinds;
 mod pairs;
 mod problem;
 mod system;
+#[cfg(test)]
+mod tests;
 mod tops;
 
 pub use answer::signal;

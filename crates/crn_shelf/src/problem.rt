@@ -3,7 +3,8 @@ ghost use Rattle.std.specs.List.{AllByRecursion};
 ghost use Rattle.crn_vec.specs.declared.limits.TheConstants.{MAX_BUDGET, MAX_COMPLEXES};
 ghost use Rattle.crn_vec.specs.Confluence.{IsRegular};
 ghost use Rattle.crn_vec.specs.NetSystems.{reaction_system};
-ghost use Rattle.crn_vec.specs.Signals.{shelf_matrix};
+ghost use Rattle.crn_vec.specs.Signals.{shelf_matrix, signals};
+ghost use Rattle.crn_sign.specs.Search.{IsSearchEnd, IsSearchStop};
 ghost use Rattle.crn_cert.specs.Ranges.{IsNarrow};
 ghost use Rattle.crn_cert.specs.Says.{AreStrongClasses};
 ghost use Rattle.crn_shelf.specs.Sides.{AreSides};
@@ -41,7 +42,8 @@ impl SignProblem for ShelfProblem<'_> {
     ghost use Rattle.crn_vec.specs.Signals.{signals};
     ghost use Rattle.crn_shelf.specs.Inner.Shapes.{shape_of};
 
-    ghost signed = { λ p. signals (shape_of p.net.now p.tops.of.items p.tops.count p.pairs.items) p.matrix };
+    ghost signed = { λ p.
+        signals (shape_of p.net.now p.tops.of.items p.tops.count p.pairs.items) p.matrix };
 
     fn length(&self) -> usize {
         self.tops.count + self.net.species()
@@ -80,6 +82,36 @@ impl SignProblem for ShelfProblem<'_> {
     }
 }
 
+/// Searches for a signal over the shape with these terminal classes and linked pairs.
+pub(crate) fn search_over(
+    alloc: Global,
+    net: &Network,
+    tops: Tops,
+    pairs: Vec<LinkedPair>,
+    budget: u32,
+) -> Result<SearchEnd, SearchStop>
+    requires low { 1 ≤ budget }
+    requires high { budget ≤ MAX_BUDGET }
+    requires inside { AllByRecursion (λ p. p.reaction < length net.now.reactions) pairs.items }
+    requires few_pairs { length pairs.items < length net.now.complexes }
+    requires long { length tops.of.items ≡ length net.now.complexes }
+    requires few { tops.count ≤ MAX_COMPLEXES }
+    ensures { let w = signals (shape_of net.now tops.of.items tops.count pairs.items)
+        (reaction_system net.now) in
+        MatchResult result (IsSearchEnd w budget) (IsSearchStop w) }
+{
+    let system = shelf_matrix(alloc, net, &pairs)?;
+    let matrix = reaction_matrix(alloc, net)?;
+    let problem = ShelfProblem {
+        net,
+        tops,
+        pairs,
+        system,
+        matrix,
+    };
+    search(alloc, &problem, budget)
+}
+
 /// Searches for a signal of g.
 pub(crate) fn search_for(
     alloc: Global,
@@ -102,14 +134,5 @@ pub(crate) fn search_for(
     let _ = net.species();
     let tops = terminal_classes(alloc, net, strong)?;
     let pairs = linked_pairs(alloc, net, &tops, sides, g)?;
-    let system = shelf_matrix(alloc, net, &tops, &pairs)?;
-    let matrix = reaction_matrix(alloc, net)?;
-    let problem = ShelfProblem {
-        net,
-        tops,
-        pairs,
-        system,
-        matrix,
-    };
-    search(alloc, &problem, budget)
+    search_over(alloc, net, tops, pairs, budget)
 }

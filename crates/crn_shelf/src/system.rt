@@ -1,4 +1,4 @@
-ghost use Rattle.std.specs.Prelude.{◌≡◌, ◌≤◌, ◌<◌, ◌++◌, [], ◌∷◌, length, unsigned_abs, IfOk, OnOk};
+ghost use Rattle.std.specs.Prelude.{◌≡◌, ◌≤◌, ◌<◌, ◌++◌, [], ◌∷◌, ℕ, List, Option, length, unsigned_abs, IfOk, OnOk};
 ghost use Rattle.std.specs.List.{AllByRecursion, flat_map};
 ghost use Rattle.crn_vec.specs.declared.limits.TheConstants.{MAX_AMOUNT};
 ghost use Rattle.crn_vec.specs.Vectors.{AreWithin};
@@ -6,7 +6,6 @@ ghost use Rattle.crn_vec.specs.Signals.{complex_row, shelf_matrix};
 ghost use Rattle.crn_shelf.specs.Inner.Shapes.{linked_row, shape_of};
 
 use crate::pairs::LinkedPair;
-use crate::tops::Tops;
 use crn_net::Network;
 use crn_vec::{MAX_AMOUNT, Matrix, NoMemory};
 use std::alloc::Global;
@@ -59,12 +58,12 @@ fn put_pairs(entries: &mut Vec<i128>, net: &Network, pairs: &[LinkedPair]) -> Re
 pub(crate) fn shelf_matrix(
     alloc: Global,
     net: &Network,
-    _tops: &Tops,
     pairs: &[LinkedPair],
 ) -> Result<Matrix, NoMemory>
     requires inside { AllByRecursion (λ p. p.reaction < length net.now.reactions) pairs.now }
     requires few { length pairs.now < length net.now.complexes }
-    ensures { IfOk result (λ made. made ≡ shelf_matrix (shape_of net.now _tops.now.of.items _tops.now.count pairs.now)) }
+    ensures { IfOk result (λ made. (tops : List (Option ℕ)) (count : ℕ) →
+        made ≡ shelf_matrix (shape_of net.now tops count pairs.now)) }
 {
     let rows = net.complexes() + pairs.len();
     let cols = net.species() + 1;

@@ -1,5 +1,5 @@
 use Rattle.std.proofs.Common.{◌≡◌, ◌+◌, ◌*◌, ◌++◌, [], ℕ, List, length, ap, ap₂, sym, ◌∙◌}
-use Rattle.std.specs.Prelude.{ℤ}
+use Rattle.std.specs.Prelude.{ℤ, Option}
 use Rattle.std.specs.List.{flat_map}
 use Rattle.crn_vec.specs.Vectors.{Mat}
 use Rattle.crn_vec.specs.Matrices.{mat_of}
@@ -25,8 +25,8 @@ returns c =
     let one = c.in_ok-put_complexes.ensures.value ∙ ap (λ (l : List ℤ). l ++ flat_map complex_row net.complexes) c.in_ok-entries.ensures.items in
     let entries = c.deref.ensures.value ∙ c.in_ok-put_pairs.ensures.value ∙ ap (λ (l : List ℤ). l ++ flat_map (linked_row net) pairs) one in
     let made = mat_of (c.complexes.result + length pairs) (c.species-cols.result + 1) c.deref.result.now in
-    let same : made ≡ shelf_matrix (shape_of net c.args._tops.now.of.items c.args._tops.now.count pairs) =
+    let same : (tops : List (Option ℕ)) (count : ℕ) → made ≡ shelf_matrix (shape_of net tops count pairs) = λ tops count.
     ap₂ (λ (m n : ℕ). mat_of (m + length pairs) (n + 1) c.deref.result.now) c.complexes.ensures.count c.species-cols.ensures.count
     ∙ ap (λ (l : List ℤ). mat_of (length net.complexes + length pairs) (length net.names + 1) l) entries
-    ∙ matrix_is net c.args._tops.now.of.items c.args._tops.now.count pairs c.species-cols.ensures.network c.requires.inside in
-    if_ok (λ (a : Mat). a ≡ made) (λ (a : Mat). a ≡ shelf_matrix (shape_of net c.args._tops.now.of.items c.args._tops.now.count pairs)) c.new.result (λ a e. e ∙ same) c.new.ensures
+    ∙ matrix_is net tops count pairs c.species-cols.ensures.network c.requires.inside in
+    if_ok (λ (a : Mat). a ≡ made) (λ (a : Mat). (tops : List (Option ℕ)) (count : ℕ) → a ≡ shelf_matrix (shape_of net tops count pairs)) c.new.result (λ a e tops count. e ∙ same tops count) c.new.ensures
