@@ -1,6 +1,6 @@
 -- The answers that the ends of the searches for signals, or their stops, give.
-use Rattle.std.proofs.Common.{◌≡◌, ◌⊎◌, ℕ, zero, suc, ◌+◌, ◌<◌, ◌≤◌, Bool, true, inl, inr, List, [], ◌∷◌, ◌++◌, length, map, take, refl, sym, ap, ap₂, subst, ◌∙◌, arith, length-take-le}
-use Rattle.std.specs.Prelude.{ℤ, pos, negsuc, Some, Option, IsTrue}
+use Rattle.std.proofs.Common.{◌≡◌, ◌⊎◌, ℕ, zero, suc, ◌+◌, ◌≤◌, Bool, true, inl, inr, List, [], ◌∷◌, ◌++◌, length, map, take, refl, sym, ap, ap₂, subst, ◌∙◌, arith, length-take-le}
+use Rattle.std.specs.Prelude.{ℤ, pos, negsuc, Option, IsTrue}
 use Rattle.std.specs.Option.{IsSome, IsSomeAnd}
 use Rattle.std.specs.List.{AllByRecursion}
 use Rattle.std.proofs.lemmas.Int.{ints}
@@ -14,36 +14,30 @@ use Rattle.crn_vec.specs.Vectors.{Mat, entry}
 use Rattle.crn_vec.specs.Elementary.{NamesWide}
 use Rattle.crn_vec.specs.Strong.{SameStrong, IsTerminal, IsWeaklyReversible}
 use Rattle.crn_vec.specs.Deficiency.{IsComplex}
-use Rattle.crn_vec.specs.Confluence.{IsRegular, HasConfluenceLine, InConfluenceSpace, IsConfluenceVector, IsNormalVector, negative}
+use Rattle.crn_vec.specs.Confluence.{IsRegular, HasConfluenceLine, IsConfluenceVector, IsNormalVector, negative}
 use Rattle.crn_vec.specs.NetSystems.{reaction_system}
 use Rattle.crn_vec.specs.Problems.{Signed}
-use Rattle.crn_vec.specs.Visits.{PassesBudget}
 use Rattle.crn_vec.specs.Concordance.{sign}
 use Rattle.crn_vec.specs.Signals.{Pair, Shape, complex_row, pair_row, shelf_matrix, signals}
 use Rattle.crn_vec.specs.NetSignals.{IsSignalOf, HasNoSignal, IsShapeOf, opposite_pair, opposite_shape}
 use Rattle.crn_vec.proofs.CallerLemmas.{all_at, length-scale, number_is_one, strong_back, strong_then, confluence_vectors_are_one, signals_are_steady, shapes_are_one, multiples_share_signals, signals_stand, signals_are_of_shape, negatives_have_opposite_shapes}
 use Rattle.crn_cert.specs.declared.answer.Answer.{Answer}
-use Rattle.crn_cert.specs.declared.answer.Verdict.{Verdict}
-use Rattle.crn_cert.specs.declared.answer.Verdict.TheVariants.{YesSignal, No, Unknown}
-use Rattle.crn_cert.specs.declared.answer.Proof.TheVariants.{Nothing, One, Two}
-use Rattle.crn_cert.specs.declared.answer.Gap.TheVariants.{Wide, Budget}
+use Rattle.crn_cert.specs.declared.answer.Verdict.TheVariants.{YesSignal}
+use Rattle.crn_cert.specs.declared.answer.Proof.TheVariants.{Nothing}
 use Rattle.crn_cert.specs.declared.tree.Tree.{Tree}
-use Rattle.crn_cert.specs.Questions.{Earlier, Q2, Q4, Q12, Q13, on, vector_given, terminal_of, IsYes}
+use Rattle.crn_cert.specs.Questions.{Earlier, Q2, Q12, Q13, on, vector_given, terminal_of}
 use Rattle.crn_cert.specs.Ranges.{AreFree, IsNarrow}
 use Rattle.crn_cert.specs.Says.{IsTrueOf, AreStrongClasses, IsTurn, IsShelf, by_turn, HasNoSignals}
 use Rattle.crn_cert.specs.Tests.{Test, AllHold}
-use Rattle.crn_cert.specs.Trees.{Plan, Both, Three, RulesA, RulesB, Level, plan, node_count, IsValid, IsFormedTree}
+use Rattle.crn_cert.specs.Trees.{Plan, Both, Three, RulesA, RulesB, Level, plan, node_count, IsFormedTree}
 use Rattle.crn_cert.specs.Nodes.{Said, Fits}
 use Rattle.crn_cert.specs.TreeTests.{tree_tests}
-use Rattle.crn_cert.specs.Formed.{IsFormed, IsBasisOf, IsSignalTree, IsWideGap, AreSignalRows, AreShelves}
-use Rattle.crn_cert.specs.Valid.{IsSignalNode, IsNodeOf, OfVector, HasVector, pair_places}
-use Rattle.crn_cert.specs.Licensed.{IsSignalWide, PassForSignals, IsLicensedWide, IsLicensedBudget}
+use Rattle.crn_cert.specs.Formed.{IsSignalTree, IsWideGap, AreSignalRows}
+use Rattle.crn_cert.specs.Valid.{IsSignalNode, IsNodeOf, HasVector, pair_places}
+use Rattle.crn_cert.specs.Licensed.{IsSignalWide, PassForSignals}
 use Rattle.crn_cert.specs.Answered.{IsAnswer}
-use Rattle.crn_cert.specs.Law.{HasShape}
 use Rattle.crn_cert.proofs.CallerLemmas.{tests_decide_valid_trees, leaves_nothing, shapes_exist, tops_are_counted}
-use Rattle.crn_farkas.specs.Decision.{IsSmallSolution}
-use Rattle.crn_sign.specs.declared.end.SearchEnd.{SearchEnd}
-use Rattle.crn_sign.specs.declared.end.SearchEnd.TheVariants.{Found, Refuted, Spent}
+use Rattle.crn_sign.specs.declared.end.SearchEnd.TheVariants.{Found, Refuted}
 use Rattle.crn_sign.specs.declared.fault.SearchStop.{SearchStop}
 use Rattle.crn_sign.specs.declared.fault.SearchStop.TheVariants.{WideA, WideB, NoMemory}
 use Rattle.crn_conc.specs.TreeSizes.{HasFewNodes}

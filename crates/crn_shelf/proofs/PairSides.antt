@@ -1,6 +1,6 @@
 -- The pair of a side, found as the first reaction that joins complexes of different marks.
 use Rattle.std.proofs.Common.{◌≡◌, ℕ, ◌<◌, ◌≤◌, List, [], ◌∷◌, ◌++◌, length, refl, sym, ap, subst, ◌∙◌, inl, inr, arith}
-use Rattle.std.specs.Prelude.{ℤ, pos, Option, Some, None, unsigned_abs}
+use Rattle.std.specs.Prelude.{ℤ, Option, Some, None, unsigned_abs}
 use Rattle.std.specs.List.{AllByRecursion, AllZip}
 use Rattle.std.proofs.lemmas.Int.{ints}
 use Rattle.crn_vec.specs.declared.limits.TheConstants.{WIDE_SOLUTION, MAX_AMOUNT}
@@ -11,12 +11,12 @@ use Rattle.crn_vec.specs.Strong.{IsReaction, IsTerminal}
 use Rattle.crn_vec.specs.CutPairs.{IsBetween, IsFreeStep, IsOnSide, IsTerminalPair, IsFirstOfPair}
 use Rattle.crn_vec.specs.Sums.{AreMarks}
 use Rattle.crn_vec.specs.Confluence.{IsRegular}
-use Rattle.crn_vec.specs.NetSignals.{top_at, AreTops, IsPairOf}
+use Rattle.crn_vec.specs.NetSignals.{top_at, AreTops}
 use Rattle.crn_vec.proofs.CallerLemmas.{lt_or, within_from, dot-comm, inside_at, reaction_in, leads_here, leads_back}
 use Rattle.crn_cert.specs.Ranges.{IsNarrow}
 use Rattle.crn_shelf.specs.Sides.{IsSideOf}
 use Rattle.crn_shelf.specs.declared.pairs.LinkedPair.{LinkedPair}
-use Rattle.crn_shelf.specs.Inner.Pairs.{ends_of, GoesAcross, IsFirstAcross, IsSide, pair_of, IsPairFor}
+use Rattle.crn_shelf.specs.Inner.Pairs.{ends_of, IsFirstAcross, IsSide, IsPairFor}
 use Rattle.crn_shelf.proofs.FewPairs.{mark_yes, mark_no, other_step, free_back}
 
 -- ---- the two complexes of the pair

@@ -2,12 +2,12 @@
 -- The pairs of a shape, found from the marks of their sides.
 -- Source: this project's own.
 -- Shapes: complexes and reactions count from 0.
-use Rattle.std.specs.Prelude.{◌≡◌, ◌≢◌, ◌<◌, ℕ, ℤ, Option, List, length, slice_index_or}
+use Rattle.std.specs.Prelude.{◌≢◌, ◌<◌, ℕ, ℤ, Option, List, length, slice_index_or}
 use Rattle.crn_vec.specs.Network.{Net}
 use Rattle.crn_vec.specs.Vectors.{entry}
 use Rattle.crn_vec.specs.CutPairs.{IsFirstOfPair}
 use Rattle.crn_vec.specs.Signals.{Pair}
-use Rattle.crn_vec.specs.NetSignals.{AreTops, IsPairOf}
+use Rattle.crn_vec.specs.NetSignals.{IsPairOf}
 use Rattle.crn_shelf.specs.Sides.{IsSideOf}
 use Rattle.crn_shelf.specs.declared.pairs.LinkedPair.{LinkedPair}
 

@@ -1,7 +1,6 @@
-use Rattle.std.proofs.Common.{◌≡◌, true, inl, inr, List, length, refl, sym, ap, subst, ◌∙◌}
+use Rattle.std.proofs.Common.{true, inr, List, length, refl, sym, ap, subst, ◌∙◌}
 use Rattle.std.specs.Prelude.{ℤ, negsuc}
 use Rattle.std.specs.List.{AllByRecursion}
-use Rattle.crn_vec.specs.Confluence.{negative}
 use Rattle.crn_vec.proofs.CallerLemmas.{length-scale}
 use Rattle.crn_cert.specs.declared.answer.Answer.{Answer}
 use Rattle.crn_cert.specs.Ranges.{IsNarrow}

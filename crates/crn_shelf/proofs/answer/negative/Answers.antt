@@ -1,10 +1,9 @@
-use Rattle.std.proofs.Common.{◌≡◌, ◌++◌, [], ◌∷◌, length, take, sym, ap, ap₂, ◌∙◌, arith, List}
-use Rattle.std.specs.Prelude.{ℤ, pos, negsuc, ◌*ℤ◌}
+use Rattle.std.proofs.Common.{◌≡◌, ◌++◌, [], ◌∷◌, length, sym, ap₂, ◌∙◌, arith, List}
+use Rattle.std.specs.Prelude.{ℤ, pos, negsuc}
 use Rattle.std.proofs.lemmas.List.{take_more, take_all}
 use Rattle.std.specs.Int.{w128}
 use Rattle.std.proofs.lemmas.Int.{to_z-of_z}
 use Rattle.crn_vec.specs.Confluence.{negative}
-use Rattle.crn_vec.specs.Vectors.{entry}
 use Rattle.crn_vec.proofs.CallerLemmas.{length-scale, entry-scale}
 use Rattle.crn_shelf.proofs.answer.negative.Goals as goal
 

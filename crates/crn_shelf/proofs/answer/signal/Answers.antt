@@ -1,4 +1,4 @@
-use Rattle.std.proofs.Common.{◌≡◌, true, inl, inr, length, refl, sym, subst, ◌∙◌, arith}
+use Rattle.std.proofs.Common.{true, inl, length, refl, sym, subst, ◌∙◌, arith}
 use Rattle.std.specs.Prelude.{pos}
 use Rattle.std.proofs.lemmas.Bool.{false≢true}
 use Rattle.std.proofs.lemmas.Int.{ints}
@@ -10,7 +10,7 @@ use Rattle.crn_conc.proofs.CallerLemmas.{if_ok}
 use Rattle.crn_shelf.specs.Given.{GiveVector}
 use Rattle.crn_shelf.specs.Inner.Shapes.{EndsFor}
 use Rattle.crn_shelf.specs.Inner.Answers.{IsFoundAnswer, IsStopAnswer}
-use Rattle.crn_shelf.proofs.Answered.{found_is, one_is, spent_is, stopped, few_one}
+use Rattle.crn_shelf.proofs.Answered.{found_is, one_is, stopped, few_one}
 use Rattle.crn_shelf.proofs.answer.signal.Goals as goal
 
 pub by_negative-requires-clause-weak : goal.by_negative-requires-clause-weak

@@ -1,6 +1,5 @@
-use Rattle.std.proofs.Common.{ℕ, length, map, get_or, sym, ap, ◌∙◌, arith}
+use Rattle.std.proofs.Common.{ℕ, map, get_or, sym, ap, ◌∙◌, arith}
 use Rattle.std.proofs.lemmas.List.{length-set, get_or-map, length-map}
-use Rattle.crn_vec.specs.Network.{Net}
 use Rattle.crn_vec.specs.Signals.{Pair, pair_kind}
 use Rattle.crn_shelf.proofs.KindLists.{filled}
 use Rattle.crn_shelf.specs.Inner.Pairs.{pair_of}

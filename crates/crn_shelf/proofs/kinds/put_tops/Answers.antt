@@ -1,4 +1,4 @@
-use Rattle.std.proofs.Common.{ℕ, length, get_or, ◌∙◌, arith}
+use Rattle.std.proofs.Common.{ℕ, get_or, ◌∙◌, arith}
 use Rattle.std.specs.Prelude.{None}
 use Rattle.std.proofs.lemmas.List.{length-set}
 use Rattle.crn_vec.specs.Signals.{top_kind}

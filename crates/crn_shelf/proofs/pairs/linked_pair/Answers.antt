@@ -1,5 +1,5 @@
 use Rattle.std.proofs.Common.{◌≡◌, sym, ap, ◌∙◌, ℕ, subst}
-use Rattle.std.specs.Prelude.{Some, ℤ}
+use Rattle.std.specs.Prelude.{Some}
 use Rattle.std.specs.Int.{w128}
 use Rattle.std.proofs.lemmas.Int.{to_z-of_z}
 use Rattle.crn_vec.specs.NetSignals.{top_at}

@@ -1,9 +1,8 @@
-use Rattle.std.proofs.Common.{[], sym, ap, ◌∙◌, subst, arith, ◌++◌, ◌∷◌, take, List, get_or}
+use Rattle.std.proofs.Common.{[], sym, subst, arith, ◌++◌, ◌∷◌, take, List, get_or}
 use Rattle.std.specs.Prelude.{ℤ}
 use Rattle.std.specs.List.{AllZip}
 use Rattle.std.proofs.lemmas.List.{take_more}
-use Rattle.crn_vec.proofs.CallerLemmas.{all_at}
-use Rattle.crn_shelf.specs.Inner.Pairs.{IsPairFor, IsSide}
+use Rattle.crn_shelf.specs.Inner.Pairs.{IsPairFor}
 use Rattle.crn_shelf.proofs.PairSides.{zip_push}
 use Rattle.crn_shelf.proofs.pairs.linked_pairs.Goals as goal
 

@@ -1,4 +1,3 @@
-use Rattle.std.proofs.Common.{◌<◌, length}
 use Rattle.crn_vec.specs.NetSystems.{reaction_system}
 use Rattle.crn_vec.specs.Signals.{signals}
 use Rattle.crn_sign.specs.Search.{IsSearchEnd, IsSearchStop}

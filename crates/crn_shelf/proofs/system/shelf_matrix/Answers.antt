@@ -1,4 +1,4 @@
-use Rattle.std.proofs.Common.{◌≡◌, ◌+◌, ◌*◌, ◌++◌, [], ℕ, List, length, ap, ap₂, sym, ◌∙◌}
+use Rattle.std.proofs.Common.{◌≡◌, ◌+◌, ◌*◌, ◌++◌, ℕ, List, length, ap, ap₂, sym, ◌∙◌}
 use Rattle.std.specs.Prelude.{ℤ, Option}
 use Rattle.std.specs.List.{flat_map}
 use Rattle.crn_vec.specs.Vectors.{Mat}

@@ -1,6 +1,4 @@
-use Rattle.std.proofs.Common.{◌≡◌, List, ℕ, length, map, sym, ap, ap₂, subst, ◌∙◌, arith}
-use Rattle.std.specs.Prelude.{Option}
-use Rattle.crn_vec.specs.NetSignals.{AreTops}
+use Rattle.std.proofs.Common.{List, ℕ, length, map, ap, ap₂, ◌∙◌, arith}
 use Rattle.crn_shelf.specs.Inner.Tops.{top_for, zeros_below}
 use Rattle.crn_shelf.proofs.TopNumbers.{tops_by, tops_few}
 use Rattle.crn_shelf.proofs.tops.terminal_classes.Goals as goal

@@ -1,4 +1,4 @@
-use Rattle.std.proofs.Common.{length, sym, ap, ◌∙◌, arith}
+use Rattle.std.proofs.Common.{length, ap, ◌∙◌, arith}
 use Rattle.std.proofs.lemmas.List.{length-map}
 use Rattle.crn_vec.specs.Vectors.{Mat}
 use Rattle.crn_vec.proofs.CallerLemmas.{signals_are_lawful}
