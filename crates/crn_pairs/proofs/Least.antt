@@ -1,0 +1,101 @@
+-- Least reactions of pairs, one reaction after another.
+use Rattle.std.proofs.Common.{◌≡◌, ℕ, zero, suc, ◌+◌, ◌-◌, ◌<◌, ◌==◌, ◌&&◌, ◌||◌, not, inl, inr, Bool, true, false, List, [], ◌∷◌, ◌++◌, get_or, refl, sym, ap, ◌∙◌, arith}
+use Rattle.std.specs.Prelude.{filter}
+use Rattle.std.specs.List.{list_any, range_with_len}
+use Rattle.std.proofs.lemmas.Bool.{cases_Bool, eqb-true, eqb-false}
+use Rattle.crn_vec.specs.Network.{Net}
+use Rattle.crn_cert.specs.Valid.{ends_at, is_same_pair, is_least_of_pair}
+use Rattle.crn_pairs.specs.Pairs.{is_within, is_pair, pairs_to}
+
+-- ---- ranges and filters with one more member at the end
+
+range_more : (a n j : ℕ) → a + n ≡ j → range_with_len a (n + 1) ≡ range_with_len a n ++ j ∷ []
+range_more a zero j e = ap (λ (k : ℕ). k ∷ []) (let f : a ≡ j = omega (arith, e) in f)
+range_more a (suc n) j e =
+    let same : suc n + 1 ≡ suc (n + 1) = omega arith in
+    let more : range_with_len a (suc n + 1) ≡ range_with_len a (suc (n + 1)) = ap (range_with_len a) same in
+    more ∙ ap (λ (l : List ℕ). a ∷ l) (range_more (a + 1) n j (omega (arith, e)))
+
+kept : (p : ℕ → Bool) (x : ℕ) (xs : List ℕ) → p x ≡ true → filter p (x ∷ xs) ≡ x ∷ filter p xs
+kept p x xs h = rw h refl
+
+gone : (p : ℕ → Bool) (x : ℕ) (xs : List ℕ) → p x ≡ false → filter p (x ∷ xs) ≡ filter p xs
+gone p x xs h = rw h refl
+
+filter_yes : (p : ℕ → Bool) (xs : List ℕ) (x : ℕ) → p x ≡ true → filter p (xs ++ x ∷ []) ≡ filter p xs ++ x ∷ []
+filter_yes p [] x hit = kept p x [] hit
+filter_yes p (y ∷ xs) x hit = elim (cases_Bool (p y)) as (λ _. filter p (y ∷ (xs ++ x ∷ [])) ≡ filter p (y ∷ xs) ++ x ∷ []) [
+  | inl here ↦ kept p y (xs ++ x ∷ []) here ∙ ap (λ (l : List ℕ). y ∷ l) (filter_yes p xs x hit) ∙ ap (λ (l : List ℕ). l ++ x ∷ []) (sym (kept p y xs here))
+  | inr out ↦ gone p y (xs ++ x ∷ []) out ∙ filter_yes p xs x hit ∙ ap (λ (l : List ℕ). l ++ x ∷ []) (sym (gone p y xs out))
+]
+
+filter_no : (p : ℕ → Bool) (xs : List ℕ) (x : ℕ) → p x ≡ false → filter p (xs ++ x ∷ []) ≡ filter p xs
+filter_no p [] x miss = gone p x [] miss
+filter_no p (y ∷ xs) x miss = elim (cases_Bool (p y)) as (λ _. filter p (y ∷ (xs ++ x ∷ [])) ≡ filter p (y ∷ xs)) [
+  | inl here ↦ kept p y (xs ++ x ∷ []) here ∙ ap (λ (l : List ℕ). y ∷ l) (filter_no p xs x miss) ∙ sym (kept p y xs here)
+  | inr out ↦ gone p y (xs ++ x ∷ []) out ∙ filter_no p xs x miss ∙ sym (gone p y xs out)
+]
+
+any_append : (p : ℕ → Bool) (xs : List ℕ) (x : ℕ) → list_any p (xs ++ x ∷ []) ≡ (list_any p xs || p x)
+any_append p [] x = last (p x)
+  where
+    last : (b : Bool) → (b || false) ≡ b
+    last true = refl
+    last false = refl
+any_append p (y ∷ ys) x = ap (λ (b : Bool). p y || b) (any_append p ys x) ∙ again (p y) (list_any p ys) (p x)
+  where
+    again : (a b c : Bool) → (a || (b || c)) ≡ ((a || b) || c)
+    again true b c = refl
+    again false b c = refl
+
+or_true : (a b : Bool) → b ≡ true → (a || b) ≡ true
+or_true true b e = refl
+or_true false b e = e
+
+-- ---- the reactions before one
+
+-- reaction j joins the two complexes of reaction r + 1
+abbrev pub joins_same : Net → ℕ → ℕ → Bool
+joins_same net r j = is_same_pair (ends_at net j) (ends_at net (r + 1))
+
+back : (r : ℕ) → r + 1 - 1 ≡ r
+back r = omega arith
+
+ends_back : (net : Net) (r : ℕ) → ends_at net (r + 1) ≡ get_or net.reactions r (0, 0)
+ends_back net r = ap (λ (j : ℕ). get_or net.reactions j (0, 0)) (back r)
+
+same_at : (net : Net) (r q : ℕ) → joins_same net r (q + 1) ≡ is_same_pair (get_or net.reactions q (0, 0)) (get_or net.reactions r (0, 0))
+same_at net r q = ap (λ (e : ℕ × ℕ). is_same_pair e (ends_at net (r + 1))) (ends_back net q) ∙ ap (λ (e : ℕ × ℕ). is_same_pair (get_or net.reactions q (0, 0)) e) (ends_back net r)
+
+pub least_more : (net : Net) (r q : ℕ) → list_any (joins_same net r) (range_with_len 1 q) ≡ false → is_same_pair (get_or net.reactions q (0, 0)) (get_or net.reactions r (0, 0)) ≡ false → list_any (joins_same net r) (range_with_len 1 (q + 1)) ≡ false
+least_more net r q h miss =
+    ap (list_any (joins_same net r)) (range_more 1 q (q + 1) (omega arith)) ∙ any_append (joins_same net r) (range_with_len 1 q) (q + 1)
+    ∙ ap (λ (b : Bool). b || joins_same net r (q + 1)) h ∙ same_at net r q ∙ miss
+
+-- a test that holds for a number holds in each range that has it
+any_within : (p : ℕ → Bool) (q n : ℕ) → q < n → p (q + 1) ≡ true → list_any p (range_with_len 1 n) ≡ true
+any_within p q zero lt h = absurd (omega (arith, lt))
+any_within p q (suc n) lt h =
+    let more : list_any p (range_with_len 1 (suc n)) ≡ (list_any p (range_with_len 1 n) || p (n + 1)) =
+    ap (λ (k : ℕ). list_any p (range_with_len 1 k)) (let s : suc n ≡ n + 1 = omega arith in s) ∙ ap (list_any p) (range_more 1 n (n + 1) (omega arith)) ∙ any_append p (range_with_len 1 n) (n + 1) in
+    elim (cases_Bool (q == n)) as (λ _. list_any p (range_with_len 1 (suc n)) ≡ true) [
+      | inl e ↦ more ∙ or_true (list_any p (range_with_len 1 n)) (p (n + 1)) (ap (λ (k : ℕ). p (k + 1)) (sym (eqb-true q n e)) ∙ h)
+      | inr e ↦ more ∙ ap (λ (b : Bool). b || p (n + 1)) (any_within p q n (let ne = eqb-false q n e in omega (arith, lt, ne)) h)
+    ]
+
+pub least_hit : (net : Net) (r q : ℕ) → q < r → is_same_pair (get_or net.reactions q (0, 0)) (get_or net.reactions r (0, 0)) ≡ true → is_least_of_pair net (r + 1) ≡ false
+least_hit net r q lt h = ap not (any_within (joins_same net r) q (r + 1 - 1) (omega (arith, lt)) (same_at net r q ∙ h))
+
+pub least_none : (net : Net) (r : ℕ) → list_any (joins_same net r) (range_with_len 1 r) ≡ false → is_least_of_pair net (r + 1) ≡ true
+least_none net r h = ap (λ (n : ℕ). not (list_any (joins_same net r) (range_with_len 1 n))) (back r) ∙ ap not h
+
+pub pair_at : (net : Net) (labels exits : List ℕ) (r : ℕ) → is_pair net labels exits (r + 1) ≡ (is_within labels exits (get_or net.reactions r (0, 0)) && is_least_of_pair net (r + 1))
+pair_at net labels exits r = ap (λ (e : ℕ × ℕ). is_within labels exits e && is_least_of_pair net (r + 1)) (ends_back net r)
+
+-- ---- the pairs among the first reactions
+
+pub pairs_yes : (net : Net) (labels exits : List ℕ) (r : ℕ) → is_pair net labels exits (r + 1) ≡ true → pairs_to net labels exits (r + 1) ≡ pairs_to net labels exits r ++ (r + 1) ∷ []
+pairs_yes net labels exits r h = ap (filter (is_pair net labels exits)) (range_more 1 r (r + 1) (omega arith)) ∙ filter_yes (is_pair net labels exits) (range_with_len 1 r) (r + 1) h
+
+pub pairs_no : (net : Net) (labels exits : List ℕ) (r : ℕ) → is_pair net labels exits (r + 1) ≡ false → pairs_to net labels exits (r + 1) ≡ pairs_to net labels exits r
+pairs_no net labels exits r h = ap (filter (is_pair net labels exits)) (range_more 1 r (r + 1) (omega arith)) ∙ filter_no (is_pair net labels exits) (range_with_len 1 r) (r + 1) h

@@ -1,0 +1,69 @@
+ghost use Rattle.std.specs.Prelude.{◌≡◌, ◌+◌, ◌-◌, ◌<◌, length, slice_index, slice_index_or};
+ghost use Rattle.crn_cert.specs.ClassTests.{of_class};
+ghost use Rattle.crn_cert.specs.Valid.{is_same_pair, is_least_of_pair};
+ghost use Rattle.crn_pairs.specs.Pairs.{is_within, is_pair};
+
+use crn_net::Network;
+
+// The number at this place of a list, or 0 after its end.
+fn number_at(list: &[u32], place: usize) -> u32
+    ensures { result ≡ slice_index list.now place }
+{
+    match list.get(place) {
+        Some(number) => *number,
+        None => 0,
+    }
+}
+
+// The exit of the class of complex c.
+fn exit_of(labels: &[u32], exits: &[u32], c: usize) -> u32
+    ensures { result ≡ of_class labels.now exits.now c }
+{
+    let class = number_at(labels, c) as usize;
+    number_at(exits, class.saturating_sub(1))
+}
+
+// Whether a reaction, counted from 0, joins two complexes of one terminal strong class.
+fn is_within(net: &Network, labels: &[u32], exits: &[u32], r: usize) -> bool
+    requires { r < length net.now.reactions }
+    ensures { result
+        ≡ is_within labels.now exits.now (slice_index_or net.now.reactions r (0, 0)) }
+{
+    let (y, z) = (net.reactant(r), net.product(r));
+    number_at(labels, y) == number_at(labels, z) && exit_of(labels, exits, y) == 0
+}
+
+// Whether two reactions, counted from 0, join the same two complexes.
+fn is_same_pair(net: &Network, q: usize, r: usize) -> bool
+    requires one { q < length net.now.reactions }
+    requires two { r < length net.now.reactions }
+    ensures { result
+        ≡ is_same_pair (slice_index_or net.now.reactions q (0, 0))
+        (slice_index_or net.now.reactions r (0, 0)) }
+{
+    let (a, b) = (net.reactant(q), net.product(q));
+    let (y, z) = (net.reactant(r), net.product(r));
+    (a == y && b == z) || (a == z && b == y)
+}
+
+// Whether no reaction before this one, counted from 0, joins the same two complexes.
+fn is_least_of_pair(net: &Network, r: usize) -> bool
+    requires { r < length net.now.reactions }
+    ensures { result ≡ is_least_of_pair net.now (r + 1) }
+{
+    for q in 0..r {
+        if is_same_pair(net, q, r) {
+            return false;
+        }
+    }
+    true
+}
+
+/// Whether a reaction, counted from 0, is the least that joins some linked pair of complexes within a terminal strong
+/// class. `labels` has the strong class of each complex, `exits` an exit of each class, 0 for a terminal one.
+pub fn is_pair(net: &Network, labels: &[u32], exits: &[u32], r: usize) -> bool
+    requires { r < length net.now.reactions }
+    ensures { result ≡ is_pair net.now labels.now exits.now (r + 1) }
+{
+    is_within(net, labels, exits, r) && is_least_of_pair(net, r)
+}
