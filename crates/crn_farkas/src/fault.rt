@@ -6,7 +6,7 @@ use std::alloc::AllocError;
 /// Why a system is not decided.
 #[derive(Drop)]
 pub enum Stop {
-    /// A coordinate and a basis of the matrix name a vector past the bound.
+    /// A coordinate and a basis of the matrix name a vector that exceeds the bound.
     Wide {
         /// The coordinate, counted from 1.
         index: u32,

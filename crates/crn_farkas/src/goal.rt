@@ -4,7 +4,7 @@ ghost use Rattle.crn_vec.specs.Elementary.{width};
 ghost use Rattle.crn_vec.specs.Systems.{HasKind, kind_at, is_signed};
 ghost use Rattle.crn_vec.specs.Vectors.{HasSign};
 ghost use Rattle.crn_farkas.specs.Solver.{IsCutBy, IsRefusedStop};
-ghost use Rattle.crn_farkas.specs.Inner.Sums.{IsGoalStop, IsSide};
+ghost use Rattle.crn_farkas.specs.Inner.Sums.{IsGoalStop, IsPart};
 ghost use Rattle.crn_farkas.specs.Inner.Views.{IsView, IsOrder, IsRightEverywhere};
 ghost use Rattle.crn_tab.specs.Tableau.{IsRefused};
 
@@ -17,9 +17,9 @@ use crn_tab::{Refused, Tableau};
 use crn_vec::{Ints, Kind, sign_asked};
 use std::alloc::Global;
 
-/// Which side of the alternative holds at the goal: the one coordinate that has to be positive or negative for which a vector is sought.
+/// Which part of the alternative holds at the goal: the one coordinate that has to be positive or negative for which a vector is sought.
 #[derive(Drop)]
-pub(crate) enum Side {
+pub(crate) enum Part {
     /// Multipliers that rule the system out.
     Cut(Ints),
     /// The lent list has a vector (x, Ax), or minus it if it does not stay, that is right everywhere and not 0 at the coordinate.
@@ -33,7 +33,7 @@ fn witness(
     work: &mut [i128],
     b: usize,
     g: usize,
-) -> Result<Side, Stop>
+) -> Result<Part, Stop>
     requires kinds { length kinds.now ≡ width tableau.now.matrix }
     requires goal { g < width tableau.now.matrix }
     requires asked { is_signed (kind_at kinds.now g) ≡ true }
@@ -42,8 +42,8 @@ fn witness(
         kinds.now }
     requires work { length work.old ≡ width tableau.now.matrix }
     ensures work { OnOk result (length work.new ≡ length work.old) }
-    ensures side { MatchResult result
-        (λ side. IsSide tableau.now.matrix tableau.now.basis kinds.now g work.new side)
+    ensures part { MatchResult result
+        (λ part. IsPart tableau.now.matrix tableau.now.basis kinds.now g work.new part)
         (λ s. IsGoalStop tableau.now.matrix tableau.now.basis s) }
 {
     tableau.names_rows();
@@ -54,7 +54,7 @@ fn witness(
         });
     }
     let stays = stays(&work[g], sign_asked(kinds[g]));
-    Ok(Side::Witness { stays })
+    Ok(Part::Witness { stays })
 }
 
 // Settles the whole order for one coordinate that has to be positive or negative, and gives the view that is settled.
@@ -113,15 +113,15 @@ pub(crate) fn settled_cut(_tableau: &Tableau, kinds: &[Kind], g: usize) -> Cut
     }
 }
 
-// Which side of the alternative holds at one coordinate that has to be positive or negative.
-pub(crate) fn side_of(
+// Which part of the alternative holds at one coordinate that has to be positive or negative.
+pub(crate) fn part_of(
     alloc: Global,
     tableau: &mut Tableau,
     kinds: &[Kind],
     order: &Order,
     work: &mut [i128],
     g: usize,
-) -> Result<Side, Stop>
+) -> Result<Part, Stop>
     requires kinds { length kinds.now ≡ width tableau.old.matrix }
     requires goal { g < width tableau.old.matrix }
     requires asked { is_signed (kind_at kinds.now g) ≡ true }
@@ -129,14 +129,14 @@ pub(crate) fn side_of(
     requires work { length work.old ≡ width tableau.old.matrix }
     ensures matrix { tableau.new.matrix ≡ tableau.old.matrix }
     ensures work { OnOk result (length work.new ≡ length work.old) }
-    ensures side { MatchResult result
-        (λ side. IsSide tableau.new.matrix tableau.new.basis kinds.now g work.new side)
+    ensures part { MatchResult result
+        (λ part. IsPart tableau.new.matrix tableau.new.basis kinds.now g work.new part)
         (λ s. IsGoalStop tableau.new.matrix tableau.new.basis s) }
 {
     match settled_view(tableau, kinds, order, g)? {
         View::Row => {
             let cut = settled_cut(tableau, kinds, g);
-            Ok(Side::Cut(multipliers(alloc, tableau, kinds, work, &cut)?))
+            Ok(Part::Cut(multipliers(alloc, tableau, kinds, work, &cut)?))
         }
         View::Column(b) => witness(tableau, kinds, work, b, g),
     }

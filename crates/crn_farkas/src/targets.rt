@@ -11,7 +11,7 @@ ghost use Rattle.crn_farkas.specs.Inner.Sums.{IsPartSum, AreZeros};
 use crate::columns::by_columns;
 use crate::decision::Decision;
 use crate::fault::Stop;
-use crate::goal::{Side, side_of};
+use crate::goal::{Part, part_of};
 use crate::level::{Order, push_level};
 use crate::sum::add;
 use crn_tab::Tableau;
@@ -49,9 +49,9 @@ fn target(
     if sum[g] != 0 {
         return Ok(None);
     }
-    match side_of(alloc, tableau, kinds, order, work, g)? {
-        Side::Cut(cut) => Ok(Some(cut)),
-        Side::Witness { stays } => {
+    match part_of(alloc, tableau, kinds, order, work, g)? {
+        Part::Cut(cut) => Ok(Some(cut)),
+        Part::Witness { stays } => {
             add(sum, work, stays);
             Ok(None)
         }

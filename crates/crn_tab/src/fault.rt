@@ -9,7 +9,7 @@ pub struct Wide {
     pub index: u32,
 }
 
-/// An exchange that was not made, as it would name a vector past the bound of what a tableau keeps.
+/// An exchange that was not made, as it would name a vector that exceeds the bound of what a tableau keeps.
 #[derive(Clone, Copy, Debug, PartialEq, Eq)]
 pub struct Refused {
     /// The member of the basis that was to leave.

@@ -2,8 +2,8 @@
 use Rattle.std.specs.Prelude.{Bool, IsTrue, List, false, length, negsuc, pos, slice_index_or, take, true, unsigned_abs, ℕ, ℤ, ◌*◌, ◌<◌, ◌≡◌, ◌≢◌, ◌≤◌, ◌⊎◌}
 use Rattle.crn_farkas.specs.Decision.{factor}
 use Rattle.crn_farkas.specs.Solver.{IsNamedCut, IsNear}
-use Rattle.crn_farkas.specs.declared.goal.Side.{Side}
-use Rattle.crn_farkas.specs.declared.goal.Side.TheVariants.{Cut as SideCut, Witness as SideWitness}
+use Rattle.crn_farkas.specs.declared.goal.Part.{Part}
+use Rattle.crn_farkas.specs.declared.goal.Part.TheVariants.{Cut as PartCut, Witness as PartWitness}
 use Rattle.crn_farkas.specs.declared.fault.Stop.{Stop}
 use Rattle.crn_farkas.specs.declared.fault.Stop.TheVariants.{NoMemory, Wide}
 use Rattle.crn_vec.specs.Elementary.{InRowSpace, NamesWide}
@@ -24,10 +24,10 @@ abbrev pub IsGoalStop : Mat → List ℕ → Stop → Type 0
 IsGoalStop a basis (Wide index numbers) = NamesWide a index numbers.list × IsNear basis numbers.list
 IsGoalStop a basis NoMemory = Unit {0}
 
--- one side of the alternative at g: multipliers, or a list that was lent has a witness or minus one
-abbrev pub IsSide : Mat → List ℕ → List Kind → ℕ → List ℤ → Side → Type 0
-IsSide a basis kinds g work (SideCut u) = IsNamedCut a basis kinds u.list
-IsSide a basis kinds g work (SideWitness stays) = IsWitness a kinds g (scale (factor stays) work)
+-- one part of the alternative at g: multipliers, or a list that was lent has a witness or minus one
+abbrev pub IsPart : Mat → List ℕ → List Kind → ℕ → List ℤ → Part → Type 0
+IsPart a basis kinds g work (PartCut u) = IsNamedCut a basis kinds u.list
+IsPart a basis kinds g work (PartWitness stays) = IsWitness a kinds g (scale (factor stays) work)
 
 -- a sum of vectors (x, Ax) that is right everywhere, and not 0 at the coordinates before g that have to be positive or negative
 pub record IsPartSum (a : Mat) (kinds : List Kind) (g : ℕ) (v : List ℤ) : Type 0 where

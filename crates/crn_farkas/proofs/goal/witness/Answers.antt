@@ -9,8 +9,8 @@ use Rattle.crn_farkas.proofs.Steps.{any_default}
 use Rattle.crn_farkas.proofs.Witnesses.{as_column, witness_from, wide_here, near_here}
 use Rattle.crn_farkas.proofs.goal.witness.Goals as goal
 
-pub returns-in-Err-clause-side : goal.returns-in-Err-clause-side
-returns-in-Err-clause-side c =
+pub returns-in-Err-clause-part : goal.returns-in-Err-clause-part
+returns-in-Err-clause-part c =
     let a = c.args.tableau.now.matrix in
     let basis = c.args.tableau.now.basis in
     let b = c.args.b in
@@ -26,8 +26,8 @@ returns-clause-work c =
     let a = c.args.tableau.now.matrix in
     (as_column a c.args.tableau.now.basis c.args.b c.put_column.new.into c.requires.view.1.member c.in_default.ensures.named).space.long ∙ sym c.requires.work
 
-pub returns-clause-side : goal.returns-clause-side
-returns-clause-side c =
+pub returns-clause-part : goal.returns-clause-part
+returns-clause-part c =
     let a = c.args.tableau.now.matrix in
     let basis = c.args.tableau.now.basis in
     let kinds = c.args.kinds.now in

@@ -9,8 +9,8 @@ use Rattle.crn_vec.specs.Elementary.{width}
 use Rattle.std.specs.Prelude.{◌+ℤ◌}
 use Rattle.crn_farkas.proofs.Ruling.{unscaled_small}
 use Rattle.crn_farkas.specs.Decision.{factor}
-use Rattle.crn_farkas.specs.declared.goal.Side.{Side}
-use Rattle.crn_farkas.specs.Inner.Sums.{IsPartSum, IsSide}
+use Rattle.crn_farkas.specs.declared.goal.Part.{Part}
+use Rattle.crn_farkas.specs.Inner.Sums.{IsPartSum, IsPart}
 use Rattle.std.specs.Int.{w128}
 use Rattle.crn_farkas.proofs.Steps.{any_default}
 use Rattle.crn_farkas.proofs.PartSums.{part_more, part_added, part_bound}
@@ -33,29 +33,29 @@ add-requires-clause-sum c = λ k. omega (arith, part_bound c.args.tableau.now.ma
 
 pub add-requires-clause-same : goal.add-requires-clause-same
 add-requires-clause-same c =
-    let S : Side → Type 0 = λ v. IsSide c.side_of.new.tableau.matrix c.side_of.new.tableau.basis c.args.kinds.now c.args.g c.side_of.new.work v in
-    let w = subst S c.in-Witness.is c.in_ok-cut.ensures.side in
-    sym (length-scale (factor c.in-Witness.stays) c.side_of.new.work) ∙ w.space.long ∙ ap width c.in_ok-cut.ensures.matrix ∙ sym c.requires.sum.space.long
+    let S : Part → Type 0 = λ v. IsPart c.part_of.new.tableau.matrix c.part_of.new.tableau.basis c.args.kinds.now c.args.g c.part_of.new.work v in
+    let w = subst S c.in-Witness.is c.in_ok-cut.ensures.part in
+    sym (length-scale (factor c.in-Witness.stays) c.part_of.new.work) ∙ w.space.long ∙ ap width c.in_ok-cut.ensures.matrix ∙ sym c.requires.sum.space.long
 
 pub add-requires-clause-vector : goal.add-requires-clause-vector
 add-requires-clause-vector c =
-    let S : Side → Type 0 = λ v. IsSide c.side_of.new.tableau.matrix c.side_of.new.tableau.basis c.args.kinds.now c.args.g c.side_of.new.work v in
-    let w = subst S c.in-Witness.is c.in_ok-cut.ensures.side in
-    unscaled_small c.in-Witness.stays c.side_of.new.work (WIDE_ENTRY) w.small
+    let S : Part → Type 0 = λ v. IsPart c.part_of.new.tableau.matrix c.part_of.new.tableau.basis c.args.kinds.now c.args.g c.part_of.new.work v in
+    let w = subst S c.in-Witness.is c.in_ok-cut.ensures.part in
+    unscaled_small c.in-Witness.stays c.part_of.new.work (WIDE_ENTRY) w.small
 
 pub returns-in-Witness-clause-end : goal.returns-in-Witness-clause-end
 returns-in-Witness-clause-end c =
-    let a = c.side_of.new.tableau.matrix in
+    let a = c.part_of.new.tableau.matrix in
     let kinds = c.args.kinds.now in
     let g = c.args.g in
     let lt = c.requires.goal in
     let g_lt : g < length kinds = omega (arith, lt, c.requires.kinds) in
-    let S : Side → Type 0 = λ v. IsSide a c.side_of.new.tableau.basis kinds g c.side_of.new.work v in
+    let S : Part → Type 0 = λ v. IsPart a c.part_of.new.tableau.basis kinds g c.part_of.new.work v in
     let P : Mat → Type 0 = λ m. IsPartSum m kinds g c.args.sum.now in
     let asked : is_signed (kind_at kinds g) ≡ true = ap is_signed (any_default Free Pos kinds g g_lt) ∙ sym c.is_asked.ensures ∙ c.if-not-is_asked.false in
     let q = factor c.in-Witness.stays in
-    let v = c.side_of.new.work in
+    let v = c.part_of.new.work in
     let sum = c.args.sum.now in
     part_added a kinds g sum (scale q v) c.add.new.sum g_lt asked (subst P (sym c.in_ok-cut.ensures.matrix) c.requires.sum)
-    (subst S c.in-Witness.is c.in_ok-cut.ensures.side) c.add.ensures.count
+    (subst S c.in-Witness.is c.in_ok-cut.ensures.part) c.add.ensures.count
     (λ k. c.add.ensures.values k ∙ ap (λ (x : ℤ). entry sum k +ℤ x) (sym (entry-scale q v k)))
