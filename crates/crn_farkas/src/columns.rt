@@ -1,11 +1,11 @@
-ghost use Rattle.std.specs.Prelude.{◌≡◌, IsTrue, length, take};
+ghost use Rattle.std.specs.Prelude.{◌≡◌, IsTrue, IfOk, length, take};
 ghost use Rattle.crn_vec.specs.Elementary.{width};
 ghost use Rattle.crn_farkas.specs.Decision.{IsSmallSolution};
 ghost use Rattle.crn_farkas.specs.Inner.Sums.{AreZeros, IsSumOf};
 
 use crate::sum::add;
 use crn_tab::Tableau;
-use crn_vec::{Kind, agrees};
+use crn_vec::{Kind, NoMemory, agrees};
 
 // Adds the vectors that the basis names by columns of the matrix, each positive at its column. False if one is too wide.
 fn add_columns(tableau: &Tableau, sum: &mut [i128], work: &mut [i128]) -> bool
@@ -25,25 +25,26 @@ fn add_columns(tableau: &Tableau, sum: &mut [i128], work: &mut [i128]) -> bool
     true
 }
 
-/// Whether the vectors that the basis names by columns add up to a solution, once the rows are in the basis as far as they can be.
+/// Whether the vectors that a basis names by columns add up to a solution, where the rows are in it as far as they can be.
 ///
-/// It adds to zeros. This decides a system whose solution is in plain view without a search for it, and else costs one look at each column.
+/// It adds to zeros. The exchanges are those of a copy, so a search that begins where no solution is in plain view has
+/// the basis that it had before.
 pub(crate) fn by_columns(
-    tableau: &mut Tableau,
+    tableau: &Tableau,
     kinds: &[Kind],
     sum: &mut [i128],
     work: &mut [i128],
-) -> bool
-    requires kinds { length kinds.now ≡ width tableau.old.matrix }
+) -> Result<bool, NoMemory>
+    requires kinds { length kinds.now ≡ width tableau.now.matrix }
     requires sum { AreZeros (length kinds.now) sum.old }
     requires work { length work.old ≡ length kinds.now }
-    ensures matrix { tableau.new.matrix ≡ tableau.old.matrix }
-    ensures solves { IsTrue result → IsSmallSolution tableau.new.matrix kinds.now
-        (take tableau.new.matrix.cols sum.new) }
+    ensures { IfOk result (λ yes. IsTrue yes → IsSmallSolution tableau.now.matrix kinds.now
+        (take tableau.now.matrix.cols sum.new)) }
 {
-    if tableau.enter_rows(tableau.cols()).is_err() {
-        return false;
+    let mut trial = tableau.copy()?;
+    if trial.enter_rows(trial.cols()).is_err() {
+        return Ok(false);
     }
-    tableau.names_rows();
-    add_columns(tableau, sum, work) && agrees(kinds, sum)
+    trial.names_rows();
+    Ok(add_columns(&trial, sum, work) && agrees(kinds, sum))
 }

@@ -96,7 +96,7 @@ impl Solver {
     /// Decides the system of the kept matrix and these kinds, from the basis where the last question ended.
     ///
     /// A vector of this basis that rules the system out is found at once, and then the basis stays.
-    /// Memory is taken for the answer, and to name a wide vector.
+    /// Memory is taken for the answer, to name a wide vector, and for a copy of the tableau.
     pub fn decide(&mut self, kinds: &[Kind]) -> Result<Decision, Stop>
         requires kinds { length kinds.now ≡ width self.old.matrix }
         requires few { signed_count kinds.now ≤ MAX_SIGNED }

@@ -153,7 +153,7 @@ pub(crate) fn by_targets(
     ensures near { IfErr result (λ s. IsNearStop tableau.new.basis s) }
 {
     put_zeros(sum);
-    if by_columns(tableau, kinds, sum, work) {
+    if by_columns(tableau, kinds, sum, work)? {
         return Ok(Decision::Feasible(columns_of(alloc, tableau, sum)?));
     }
     put_order(order, kinds);
