@@ -1,5 +1,5 @@
 -- For the contracts of private functions alone. The sum of witnesses that a decision builds, coordinate by coordinate, and what it ends with at one of them.
-use Rattle.std.specs.Prelude.{Bool, IsTrue, List, false, length, negsuc, pos, slice_index_or, take, true, unsigned_abs, ℕ, ℤ, ◌*◌, ◌<◌, ◌≡◌, ◌≢◌, ◌≤◌, ◌⊎◌}
+use Rattle.std.specs.Prelude.{Bool, IsTrue, List, false, length, pos, slice_index_or, take, true, unsigned_abs, ℕ, ℤ, ◌*◌, ◌<◌, ◌≡◌, ◌≢◌, ◌≤◌, ◌⊎◌}
 use Rattle.crn_farkas.specs.Decision.{factor}
 use Rattle.crn_farkas.specs.Solver.{IsNamedCut, IsNear}
 use Rattle.crn_farkas.specs.declared.goal.Part.{Part}

@@ -1,9 +1,7 @@
-use Rattle.std.proofs.Common.{◌≡◌, ℕ, ◌<◌, ◌+◌, ◌≤◌, List, sym, subst, ◌∙◌, arith, length}
+use Rattle.std.proofs.Common.{◌+◌, List, sym, subst, ◌∙◌}
 use Rattle.std.specs.Prelude.{ℤ}
-use Rattle.crn_vec.specs.declared.limits.TheConstants.{WIDE_SOLUTION, MAX_COORDINATES}
-use Rattle.crn_vec.specs.Elementary.{width}
 use Rattle.crn_farkas.specs.Inner.Sums.{IsSumOf}
-use Rattle.crn_farkas.proofs.ColumnSums.{sum_more, sum_same, sum_bound}
+use Rattle.crn_farkas.proofs.ColumnSums.{sum_more, sum_same}
 use Rattle.crn_farkas.proofs.columns.add_columns.Goals as goal
 use Rattle.crn_farkas.proofs.columns.add_columns.Goals.{then-is_basic+in-Ok, else-is_basic}
 

@@ -1,9 +1,7 @@
-use Rattle.std.proofs.Common.{◌≡◌, ◌<◌, sym, subst, ◌∙◌, ap, arith, length}
+use Rattle.std.proofs.Common.{◌≡◌, sym, ◌∙◌, ap}
 use Rattle.crn_vec.specs.Elementary.{width}
-use Rattle.crn_vec.specs.Vectors.{Mat}
 use Rattle.crn_tab.specs.Tableau.{KeptTableau}
-use Rattle.crn_farkas.specs.Inner.Sums.{AreZeros, IsSumOf}
-use Rattle.crn_farkas.proofs.ColumnSums.{sum_none, sum_solves}
+use Rattle.crn_farkas.proofs.ColumnSums.{sum_none}
 use Rattle.crn_farkas.proofs.columns.by_columns.Goals as goal
 
 pub add_columns-requires-clause-sum : goal.add_columns-requires-clause-sum
