@@ -16,3 +16,4 @@ mod Places
 mod Sums
 mod Narrow
 mod BucketSums
+mod SameRows

@@ -1,4 +1,4 @@
-ghost use Rattle.std.specs.Prelude.{◌≡◌, ◌<◌, pos, ◌+ℤ◌, ◌≤ℤ◌, replicate, slice_index_or, slice_set};
+ghost use Rattle.std.specs.Prelude.{◌≡◌, ◌<◌, pos, ◌+ℤ◌, ◌≤ℤ◌, replicate, slice_index_or, slice_set, nat_eq};
 ghost use Rattle.std.specs.Ordering.{int_eq};
 ghost use Rattle.std.proofs.Common.{ap};
 ghost use Rattle.std.specs.Cmp.{partial_equiv_from_equiv, int_eq_equiv};
@@ -81,13 +81,24 @@ impl Amounts {
     }
 }
 
+// Whether two rows are the same. All places are looked at, also after a difference, so that many are compared at a time.
+fn are_same(a: &[u8; MAX_SPECIES], b: &[u8; MAX_SPECIES]) -> bool
+    ensures { result ≡ pointwise nat_eq a.now b.now }
+{
+    let mut same = true;
+    for s in 0..MAX_SPECIES {
+        same &= a[s] == b[s];
+    }
+    same
+}
+
 impl PartialEq for Amounts {
     ghost eq = { pointwise int_eq };
 
     ghost laws = { partial_equiv_from_equiv (lists_equiv int_eq_equiv) };
 
     fn eq(&self, other: &Amounts) -> bool {
-        self.row == other.row
+        are_same(&self.row, &other.row)
     }
 }
 
