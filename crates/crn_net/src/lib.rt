@@ -9,6 +9,7 @@ mod laws;
 mod name;
 mod network;
 mod row;
+mod same;
 mod sides;
 mod tables;
 mod term;

@@ -1,4 +1,4 @@
-ghost use Rattle.std.specs.Prelude.{◌≡◌, ◌<◌, pos, ◌+ℤ◌, ◌≤ℤ◌, replicate, slice_index_or, slice_set, nat_eq};
+ghost use Rattle.std.specs.Prelude.{◌≡◌, ◌<◌, pos, ◌+ℤ◌, ◌≤ℤ◌, replicate, slice_index_or, slice_set};
 ghost use Rattle.std.specs.Ordering.{int_eq};
 ghost use Rattle.std.proofs.Common.{ap};
 ghost use Rattle.std.specs.Cmp.{partial_equiv_from_equiv, int_eq_equiv};
@@ -6,6 +6,7 @@ ghost use Rattle.std.specs.Cmp.Lexicographic.{pointwise, lists_equiv};
 ghost use Rattle.std.specs.Cmp.Rules.{signed_items};
 ghost use Rattle.crn_net.specs.Inner.Rows.{fed_by};
 
+use crate::same::are_same;
 use crn_vec::{MAX_AMOUNT, MAX_SPECIES};
 use indexmap::IndexSet;
 use std::hash::{Hash, Hasher};
@@ -79,17 +80,6 @@ impl Amounts {
         }
         row
     }
-}
-
-// Whether two rows are the same. All places are looked at, also after a difference, so that many are compared at a time.
-fn are_same(a: &[u8; MAX_SPECIES], b: &[u8; MAX_SPECIES]) -> bool
-    ensures { result ≡ pointwise nat_eq a.now b.now }
-{
-    let mut same = true;
-    for s in 0..MAX_SPECIES {
-        same &= a[s] == b[s];
-    }
-    same
 }
 
 impl PartialEq for Amounts {

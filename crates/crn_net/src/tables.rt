@@ -10,6 +10,7 @@ use crate::fault::NetFault;
 use crate::guesses::{Guesses, TableGuesses};
 use crate::name::{Name, Names};
 use crate::row::{Amounts, Complexes, Row};
+use crate::same::are_same;
 use crate::sides::{name_of, says_same};
 use crate::term::Term;
 use crn_vec::{MAX_COMPLEXES, MAX_NAME, MAX_REACTIONS, MAX_SPECIES};
@@ -20,7 +21,7 @@ fn is_name_at(names: &Names, place: usize, name: &[u8]) -> bool
     ensures { let stands = slice_index_or names.now.keys place [] ≡ name.now in
         IsTrue result → (place < length names.now.keys) × stands }
 {
-    place < names.len() && names.as_slice()[place].as_slice() == name
+    place < names.len() && are_same(names.as_slice()[place].as_slice(), name)
 }
 
 // The place of a name, which is added if it is new. A name above the limit is added too, and the answer is an error.

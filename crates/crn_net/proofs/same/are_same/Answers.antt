@@ -3,15 +3,15 @@ use Rattle.std.specs.Prelude.{◌&&◌, nat_eq}
 use Rattle.std.specs.Cmp.Lexicographic.{pointwise}
 use Rattle.std.proofs.lemmas.List.{take_more, length-take-le}
 use Rattle.crn_net.proofs.SameRows.{pointwise-snoc}
-use Rattle.crn_net.proofs.row.are_same.Goals as goal
+use Rattle.crn_net.proofs.same.are_same.Goals as goal
 
-pub loop-s-preserved : goal.loop-s-preserved
-loop-s-preserved c =
-    let s = c.loop-s.s in
+pub loop-i-preserved : goal.loop-i-preserved
+loop-i-preserved c =
+    let s = c.loop-i.i in
     let a = c.args.a.now in
     let b = c.args.b.now in
-    let a_lt : s < length a = let t = c.told-a in omega (arith, t) in
-    let b_lt : s < length b = let t = c.told-b in omega (arith, t) in
-    ap (λ (t : Bool). t && nat_eq (get_or a s 0) (get_or b s 0)) c.loop-s.invariant
+    let a_lt : s < length a = omega arith in
+    let b_lt : s < length b = omega arith in
+    ap (λ (t : Bool). t && nat_eq (get_or a s 0) (get_or b s 0)) c.loop-i.invariant
     ∙ pointwise-snoc (get_or a s 0) (get_or b s 0) (take s a) (take s b) (omega (arith, length-take-le s a (omega arith), length-take-le s b (omega arith)))
     ∙ sym (ap₂ (pointwise nat_eq) (take_more a s 0 a_lt) (take_more b s 0 b_lt))
