@@ -1,5 +1,5 @@
 -- One line of a text after another.
-use Rattle.std.proofs.Common.{◌≡◌, ℕ, zero, suc, ◌+◌, ◌<◌, ◌≤◌, Bool, true, false, List, [], ◌∷◌, ◌++◌, length, take, drop, get_or, Option, Some, None, Result, Ok, Err, Bor, refl, sym, ap, subst, ◌∙◌, append_assoc, inl, inr, below_more, arith}
+use Rattle.std.proofs.Common.{◌≡◌, ℕ, zero, suc, ◌+◌, ◌<◌, ◌≤◌, Bool, true, false, List, [], ◌∷◌, ◌++◌, length, take, drop, get_or, Option, Some, None, Result, Ok, Err, Bor, refl, sym, ap, subst, ◌∙◌, inl, inr, below_more, arith}
 use Rattle.crn_vec.proofs.CallerLemmas.{flat_map_push}
 use Rattle.std.specs.Prelude.{map, ◌⊎◌}
 use Rattle.std.specs.List.{AllByRecursion, list_all}

@@ -9,7 +9,7 @@ use crate::arrow::split_side;
 use crate::fault::TextCode;
 use crate::side::{is_single_zero, read_term};
 use crate::split::split_at_byte;
-use crate::token::next_token;
+use crate::token::{from_first_mark, next_token};
 use crn_vec::{MAX_NAME, MAX_TEXT};
 
 /// What is wrong with a place for a term, or with a side by one of its places, in the order of the tests.
@@ -42,12 +42,12 @@ impl Flaw {
 fn has_stray(text: &[u8]) -> bool
     ensures { result ≡ list_any is_stray (tokens text.now) }
 {
-    let mut left = text;
+    let mut left = from_first_mark(text);
     'tokens: while let Some((token, rest)) = next_token(left) {
         if token.is_stray() {
             return true;
         }
-        left = rest;
+        left = from_first_mark(rest);
     }
     false
 }
