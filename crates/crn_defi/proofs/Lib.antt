@@ -8,6 +8,8 @@ mod ZeroAnswers
 mod TerminalCounts
 mod OneAnswers
 mod Splits
+mod Parts
+mod ClassSums
 mod Callers
 mod TestFacts
 pub mod CallerLemmas

@@ -13,6 +13,7 @@ mod tests;
 mod zero;
 
 pub use deficiency::deficiencies;
+pub use laws::class_deficiencies_sum_to_at_most_the_deficiency;
 pub use one::one_hypotheses;
 pub use split::first_split;
 pub use zero::zero_hypotheses;
