@@ -7,3 +7,9 @@ pub use Rattle.crn_defi.proofs.Callers.{linkage_right, strong_right}
 -- Ranges and filters with one more member at the end, and tests that find no member.
 pub use Rattle.crn_defi.proofs.Places.{in_range, filter_of, range_more, filter_yes, filter_no}
 pub use Rattle.crn_defi.proofs.TerminalCounts.{and_true, and_no, any_has, any_push}
+-- Independent vectors of the confluence space: no more than the deficiency says, and as many.
+pub use Rattle.crn_defi.proofs.SpaceFew.{space_few}
+pub use Rattle.crn_defi.proofs.SpaceSome.{SpaceBase, space_some}
+-- Lists of coefficients that are zero, and a vector that is not zero.
+pub use Rattle.crn_defi.proofs.Parts.{zero_more}
+pub use Rattle.crn_defi.proofs.Counted.{one_independent}

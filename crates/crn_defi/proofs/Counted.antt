@@ -16,7 +16,7 @@ use Rattle.crn_vec.proofs.CallerLemmas.{all_in, all_from, same_place, vector_lon
 use Rattle.crn_cert.specs.Ranges.{IsFrom}
 use Rattle.crn_cert.specs.Says.{AreLinkageClasses}
 use Rattle.crn_defi.specs.Inner.Ranked.{IsClass}
-use Rattle.crn_defi.proofs.Weights.{few_together}
+use Rattle.crn_defi.proofs.Weights.{zero_from, few_together}
 use Rattle.crn_defi.proofs.Places.{in_range, range_distinct, filter_distinct, complexes_at, size_is, in_class, one_label, class_reaction, taken, taken_vectors, taken_in}
 
 -- ---- one complex of each class
@@ -142,11 +142,7 @@ ascending_few (x ∷ xs) n a h = let r = above_few xs x n a (λ y i. h y (inr i)
 
 -- ---- independent vectors of n entries are at most n
 
-zero_from : (c : List ℤ) → IsZero c → Zero c
-zero_from [] h = tt
-zero_from (x ∷ c) h = (h 0, zero_from c (λ k. h (suc k)))
-
-zero_entry : (c : List ℤ) → Zero c → (k : ℕ) → entry c k ≡ pos 0
+pub zero_entry : (c : List ℤ) → Zero c → (k : ℕ) → entry c k ≡ pos 0
 zero_entry [] h k = refl
 zero_entry (x ∷ c) h zero = h.0
 zero_entry (x ∷ c) h (suc k) = zero_entry c h.1 k
@@ -174,7 +170,7 @@ vector_nonzero net q n j h =
     let long : length to ≡ length from = vector_long (length net.names) net.complexes n.partial.vectors q.1 j.2 ∙ sym (vector_long (length net.names) net.complexes n.partial.vectors q.0 j.1) in
     j.0 (same_place net.complexes q.0 q.1 [] n.partial.complexes j.1 j.2 (sym (same_if_none to from long h)))
 
-one_independent : (v : List ℤ) → (((k : ℕ) → entry v k ≡ pos 0) → ⊥) → IsIndependent (v ∷ [])
+pub one_independent : (v : List ℤ) → (((k : ℕ) → entry v k ≡ pos 0) → ⊥) → IsIndependent (v ∷ [])
 one_independent v some [] long none = absurd (omega (arith, long))
 one_independent v some (x ∷ y ∷ c) long none = absurd (omega (arith, long))
 one_independent v some (x ∷ []) long none = by_first (elim (is_zero x) as (λ _. x ≡ pos 0) [

@@ -10,6 +10,10 @@ mod OneAnswers
 mod Splits
 mod Parts
 mod ClassSums
+mod Rooted
+mod SpaceFew
+mod Kernels
+mod SpaceSome
 mod Callers
 mod TestFacts
 pub mod CallerLemmas

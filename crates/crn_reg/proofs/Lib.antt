@@ -1,4 +1,5 @@
 mod ConfluenceAnswers
+mod Dimension
 mod FirstPairs
 mod Least
 mod Named

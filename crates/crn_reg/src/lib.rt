@@ -15,5 +15,8 @@ mod ties;
 mod turn;
 
 pub use confluence_vector::confluence;
-pub use laws::reversible_networks_are_weakly_reversible;
+pub use laws::{
+    confluence_dimension_is_the_deficiency, deficiency_one_leaves_a_line,
+    deficiency_zero_leaves_only_zero, reversible_networks_are_weakly_reversible,
+};
 pub use regularity::regular;
