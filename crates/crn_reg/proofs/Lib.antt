@@ -1,10 +1,10 @@
 mod ConfluenceAnswers
 mod Dimension
 mod FirstPairs
-mod Least
 mod Named
 mod RegularAnswers
 mod Rows
+mod SidesMore
 mod Solutions
 mod TestFacts
 mod Turns

@@ -26,7 +26,7 @@ use Rattle.crn_cert.specs.Given.{GiveClasses}
 use Rattle.crn_cert.proofs.CallerLemmas.{pair_places_are_pairs, range_bounds}
 use Rattle.crn_graph.specs.Pair.{HasSide, HasWayRound}
 use Rattle.crn_defi.proofs.CallerLemmas.{filter_of}
-use Rattle.crn_reg.specs.Inner.Pairs.{pairs_to, is_pair}
+use Rattle.crn_pairs.specs.Pairs.{pairs_to, is_pair}
 use Rattle.crn_reg.specs.Inner.Verdicts.{plain, by_dependence}
 use Rattle.crn_reg.proofs.FirstPairs.{all_cut_pairs}
 

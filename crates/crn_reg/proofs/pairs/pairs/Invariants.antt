@@ -1,5 +1,5 @@
 use Rattle.std.proofs.Common.{◌≡◌}
-use Rattle.crn_reg.specs.Inner.Pairs.{pairs_to}
+use Rattle.crn_pairs.specs.Pairs.{pairs_to}
 use Rattle.crn_reg.proofs.pairs.pairs.Given as goal
 
 abbrev pub invariant-loop-r : goal.invariant-loop-r

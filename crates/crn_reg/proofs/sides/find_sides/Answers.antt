@@ -4,7 +4,7 @@ use Rattle.std.specs.List.{AllZip}
 use Rattle.std.proofs.lemmas.List.{take_more}
 use Rattle.crn_vec.proofs.CallerLemmas.{at_in}
 use Rattle.crn_graph.specs.Pair.{HasSide, GivesCutPair}
-use Rattle.crn_reg.proofs.Least.{sides_push}
+use Rattle.crn_reg.proofs.SidesMore.{sides_push}
 use Rattle.crn_reg.proofs.sides.find_sides.Goals as goal
 
 pub returns-in-Walk : goal.returns-in-Walk

@@ -1,7 +1,0 @@
-use Rattle.std.proofs.Common.{◌≡◌, false}
-use Rattle.std.specs.List.{list_any, range_with_len}
-use Rattle.crn_reg.proofs.Least.{joins_same}
-use Rattle.crn_reg.proofs.pairs.is_least_of_pair.Given as goal
-
-abbrev pub invariant-loop-q : goal.invariant-loop-q
-invariant-loop-q l = list_any (joins_same l.net l.r) (range_with_len 1 l.q) ≡ false
