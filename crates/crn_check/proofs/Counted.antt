@@ -1,10 +1,10 @@
 -- Reactions by their numbers.
-use Rattle.std.proofs.Common.{◌≡◌, ℕ, ◌+◌, ◌-◌, ◌<◌, ◌≤◌, List, length, get_or, refl, sym, subst, ◌∙◌, arith}
+use Rattle.std.proofs.Common.{◌≡◌, inl, inr, ℕ, ◌+◌, ◌-◌, ◌<◌, ◌≤◌, List, length, get_or, refl, sym, subst, ◌∙◌, arith}
 use Rattle.std.proofs.lemmas.Grind.{common_steps}
 use Rattle.crn_vec.specs.Lists.{IsIn}
 use Rattle.crn_vec.specs.Network.{Net}
 use Rattle.crn_vec.specs.Strong.{ReactsTo, IsReaction}
-use Rattle.crn_vec.proofs.CallerLemmas.{in_at, at_in}
+use Rattle.crn_vec.proofs.CallerLemmas.{in_at, at_in, lt_or}
 use Rattle.crn_cert.specs.Ranges.{AreFrom}
 use Rattle.crn_cert.specs.Says.{HasNoReverse}
 use Rattle.crn_cert.specs.ClassTests.{IsReverse}
@@ -19,6 +19,16 @@ between_place net r y z h = subst (λ (p : ℕ × ℕ). IsIn p net.reactions) h.
 -- the reaction at a place
 pub reaction_at : (net : Net) (r y z : ℕ) → r < length net.reactions → y ≡ (get_or net.reactions r (0, 0)).0 → z ≡ (get_or net.reactions r (0, 0)).1 → IsReaction net.reactions r y z
 reaction_at net r y z lt p q = (lt, rw (p, q) refl)
+
+-- what holds of each reaction so far, and of one more
+pub one_more : (net : Net) (P : ℕ → ℕ → Type 0) (r y z : ℕ) → ((q a b : ℕ) → q < r → IsReaction net.reactions q a b → P a b) → IsReaction net.reactions r y z → P y z → (q a b : ℕ) → q < r + 1 → IsReaction net.reactions q a b → P a b
+one_more net P r y z before goes here q a b lt at = elim (lt_or q r) [
+  | inl early ↦ before q a b early at
+  | inr late ↦
+      let e : q ≡ r = omega (arith, lt, late) in
+      let same : (y, z) ≡ (a, b) = sym goes.1 ∙ (subst (λ (k : ℕ). IsReaction net.reactions k a b) e at).1 in
+      subst (λ (p : ℕ × ℕ). P p.0 p.1) same here
+]
 
 -- a reaction with a reverse
 pub has_reverse : (net : Net) (r b : ℕ) → IsReverse net (r - 1) b → HasNoReverse net r → ⊥

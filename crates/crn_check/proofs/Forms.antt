@@ -10,9 +10,10 @@ use Rattle.crn_cert.specs.declared.answer.Gap.TheVariants.{Wide, Budget, Rests}
 use Rattle.crn_cert.specs.declared.answer.Verdict.{Verdict}
 use Rattle.crn_cert.specs.declared.answer.Verdict.TheVariants.{Classes, Strong, Unknown}
 use Rattle.crn_cert.specs.declared.answer.Proof.{Proof}
-use Rattle.crn_cert.specs.Questions.{Earlier, Question, Q1, Q2, Q3, Q4, Q5, Q6, Q7, Q8, Q9, Q10, Q11, Q12, Q13, Q14, Q15, number, on, labels_of, count_of, IsOpen}
-use Rattle.crn_cert.specs.Valid.{strong, linkage, linkage_count}
-use Rattle.crn_cert.specs.Formed.{HeadMayBe, HeadReversible, HeadDeficiency, RowsLinkage, RowsStrong, RowsReversible, RowsRank, RowsDeficiency, RowsPositive, IsFormed, IsFormedOf}
+use Rattle.crn_cert.specs.Questions.{Earlier, Question, Q1, Q2, Q3, Q4, Q5, Q6, Q7, Q8, Q9, Q10, Q11, Q12, Q13, Q14, Q15, number, on, labels_of, count_of, exits_of, IsOpen}
+use Rattle.crn_cert.specs.Ranges.{AreFrom}
+use Rattle.crn_cert.specs.Valid.{strong, exits, linkage, linkage_count}
+use Rattle.crn_cert.specs.Formed.{HeadMayBe, HeadReversible, HeadDeficiency, RowsLinkage, RowsStrong, RowsReversible, RowsRank, RowsDeficiency, RowsPositive, HeadRegular, RowsRegular, HeadConfluence, RowsConfluence, IsFormed, IsFormedOf}
 use Rattle.crn_cert.specs.FormedVerdicts.{IsFormedVerdict, AreFormedVerdicts}
 use Rattle.crn_cert.specs.Law.{IsTrueOrOpen}
 use Rattle.crn_cert.proofs.CallerLemmas.{formed_answers_have_formed_verdicts}
@@ -67,6 +68,18 @@ rows_dependence net e v p f = inr f.1
 pub rows_conservation : (net : Net) (e : Earlier) (v : Verdict) (p : Proof) → IsFormedOf net e Q8 v p → IsOpen v ⊎ RowsPositive (length net.names) (length net.reactions) v p
 rows_conservation net e (Unknown gap) p f = inl tt
 rows_conservation net e v p f = inr f.1
+
+pub head_regular : (net : Net) (e : Earlier) (v : Verdict) → HeadMayBe net e Q11 v → IsOpen v ⊎ HeadRegular net e v
+head_regular net e (Unknown gap) h = inl tt
+head_regular net e v h = inr h
+
+pub rows_regular : (net : Net) (e : Earlier) (v : Verdict) (p : Proof) → IsFormedOf net e Q11 v p → IsOpen v ⊎ (HeadRegular net e v × RowsRegular net e v p)
+rows_regular net e (Unknown gap) p f = inl tt
+rows_regular net e v p f = inr f
+
+pub rows_confluence : (net : Net) (e : Earlier) (v : Verdict) (p : Proof) → IsFormedOf net e Q12 v p → IsOpen v ⊎ (HeadConfluence net v × RowsConfluence net e v p)
+rows_confluence net e (Unknown gap) p f = inl tt
+rows_confluence net e v p f = inr f
 
 -- ---- what is kept
 
@@ -193,3 +206,24 @@ linkage_long net e v h = absurd h.0
 
 pub linkage_labelled : (net : Net) (facts : KeptFacts) → AreFactsOf net facts → HoldsOn facts.earlier 1 → (length (linkage facts.earlier) ≡ length net.complexes) × (linkage_count facts.earlier ≤ length net.complexes)
 linkage_labelled net facts h held = let f = formed_on net [] facts.earlier Q1 h.formed held in linkage_long net f.0 (on facts.earlier Q1) f.1
+
+-- the labels of both kinds of classes are from 1 to their number
+linkage_ranged : (net : Net) (e : Earlier) (v : Verdict) → IsFormedVerdict net e Q1 v → AreFrom (length net.complexes) 1 (count_of v) (labels_of v)
+linkage_ranged net e (Classes count label) h = h.1
+linkage_ranged net e (Unknown (Wide system class index basis)) h = absurd h.0
+linkage_ranged net e (Unknown (Budget nodes)) h = absurd h.0
+linkage_ranged net e (Unknown (Rests question)) h = absurd h.0
+linkage_ranged net e v h = absurd h.0
+
+pub linkage_from : (net : Net) (facts : KeptFacts) → AreFactsOf net facts → HoldsOn facts.earlier 1 → AreFrom (length net.complexes) 1 (linkage_count facts.earlier) (linkage facts.earlier)
+linkage_from net facts h held = let f = formed_on net [] facts.earlier Q1 h.formed held in linkage_ranged net f.0 (on facts.earlier Q1) f.1
+
+strong_ranged : (net : Net) (e : Earlier) (v : Verdict) → IsFormedVerdict net e Q2 v → AreFrom (length net.complexes) 1 (length (exits_of v)) (labels_of v)
+strong_ranged net e (Strong count terminal label exit) h = subst (λ (n : ℕ). AreFrom (length net.complexes) 1 n label.list) (sym h.1.1.long) h.1.0
+strong_ranged net e (Unknown (Wide system class index basis)) h = absurd h.0
+strong_ranged net e (Unknown (Budget nodes)) h = absurd h.0
+strong_ranged net e (Unknown (Rests question)) h = absurd h.0
+strong_ranged net e v h = absurd h.0
+
+pub strong_from : (net : Net) (facts : KeptFacts) → AreFactsOf net facts → HoldsOn facts.earlier 2 → AreFrom (length net.complexes) 1 (length (exits facts.earlier)) (strong facts.earlier)
+strong_from net facts h held = let f = formed_on net [] facts.earlier Q2 h.formed held in strong_ranged net f.0 (on facts.earlier Q2) f.1

@@ -17,3 +17,9 @@ mod ClassRanks
 mod BaseForms
 mod ClassTerminals
 mod Theorems
+mod InOrder
+mod Rounds
+mod SideMarks
+mod Spaces
+mod Leading
+mod TieRows

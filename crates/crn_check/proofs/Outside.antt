@@ -95,10 +95,10 @@ left_all net m = ap (λ (n : ℕ). filter (is_member net m) (range_with_len 1 n)
 pub left_none : (net : Net) (m : Members) → left net m (length net.reactions) ≡ []
 left_none net m = ap (λ (n : ℕ). filter (is_member net m) (range_with_len (length net.reactions + 1) n)) (let e : length net.reactions - length net.reactions ≡ 0 = omega arith in e)
 
-filter_yes : (p : ℕ → Bool) (a n : ℕ) → p a ≡ true → filter p (range_with_len a (suc n)) ≡ a ∷ filter p (range_with_len (a + 1) n)
+pub filter_yes : (p : ℕ → Bool) (a n : ℕ) → p a ≡ true → filter p (range_with_len a (suc n)) ≡ a ∷ filter p (range_with_len (a + 1) n)
 filter_yes p a n e = rw e refl
 
-filter_no : (p : ℕ → Bool) (a n : ℕ) → p a ≡ false → filter p (range_with_len a (suc n)) ≡ filter p (range_with_len (a + 1) n)
+pub filter_no : (p : ℕ → Bool) (a n : ℕ) → p a ≡ false → filter p (range_with_len a (suc n)) ≡ filter p (range_with_len (a + 1) n)
 filter_no p a n e = rw e refl
 
 pub left_yes : (net : Net) (m : Members) (r : ℕ) → r < length net.reactions → is_member net m (r + 1) ≡ true → left net m r ≡ (r + 1) ∷ left net m (r + 1)

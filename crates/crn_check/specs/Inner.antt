@@ -4,3 +4,5 @@ pub mod Facts
 pub mod Tests
 pub mod Bases
 pub mod Terminals
+pub mod Ordered
+pub mod Spaces

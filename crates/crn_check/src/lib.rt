@@ -3,26 +3,34 @@
 
 mod check;
 mod combs;
+mod confluence;
 mod deficiency;
 mod duals;
 mod exits;
 mod facts;
 mod fault;
+mod kinds;
 mod labels;
 mod laws;
 mod levels;
 mod linkage;
 mod members;
+mod normal;
 mod one;
 mod positive;
 mod ranks;
+mod regular;
 mod reverses;
 mod reversible;
+mod sides;
+mod space;
 mod strong;
 mod terminals;
 #[cfg(test)]
 mod tests;
+mod ties;
 mod trees;
+mod ways;
 mod weak;
 mod zero;
 

@@ -8,19 +8,9 @@ ghost use Rattle.crn_check.specs.Inner.Tests.{case_tests, total_tests};
 use crate::deficiency::{is_left, rank_in};
 use crate::facts::Facts;
 use crate::fault::CheckFault;
+use crate::kinds::is_yes;
 use crn_cert::Verdict;
 use crn_net::Network;
-
-// Whether a verdict on weak reversibility is a yes.
-fn is_yes(verdict: &Verdict) -> bool
-    ensures { IsTrue result ↔ IsYes verdict.now }
-{
-    match verdict {
-        Verdict::Yes => true,
-        Verdict::YesVec { .. } => true,
-        _ => false,
-    }
-}
 
 // Whether the case of a yes is that of the network.
 fn is_case(facts: &Facts, weak: bool) -> bool

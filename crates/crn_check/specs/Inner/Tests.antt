@@ -1,17 +1,19 @@
 -- For the contracts of private functions alone.
 -- The tests of the answers to single questions, over plain lists.
 -- Shapes: labels, classes and reactions count from 1, complexes from 0.
-use Rattle.std.specs.Prelude.{◌≡◌, ◌≢◌, ◌≤◌, ◌<◌, ◌+◌, ◌⊎◌, ◌↔◌, Bool, IsTrue, ℕ, List, [], ◌∷◌, length, slice_index, sum}
+use Rattle.std.specs.Prelude.{◌≡◌, ◌≢◌, ◌≤◌, ◌<◌, ◌+◌, ◌⊎◌, ◌↔◌, Bool, IsTrue, ℕ, ℤ, List, [], ◌∷◌, ◌++◌, length, slice_index, sum}
+use Rattle.std.specs.List.{range_with_len}
 use Rattle.crn_vec.specs.Network.{Net}
 use Rattle.crn_vec.specs.Deficiency.{AreAtMostOne}
 use Rattle.crn_cert.specs.declared.answer.Verdict.{Verdict}
-use Rattle.crn_cert.specs.declared.answer.Verdict.TheVariants.{Yes, NoClass, NoSum}
-use Rattle.crn_cert.specs.Questions.{Earlier, Q4, Q5, Q6, IsYes, on, rank_of, deficiencies_of}
+use Rattle.crn_cert.specs.declared.answer.Verdict.TheVariants.{Yes, NoClass, NoSum, NoDependence, NoCycle}
+use Rattle.crn_cert.specs.Questions.{Earlier, Q4, Q5, Q6, Q7, IsNo, IsOpen, IsYes, on, rank_of, deficiencies_of}
 use Rattle.crn_cert.specs.Says.{IsReactionNumber}
-use Rattle.crn_cert.specs.Valid.{IsLeft, AreClassNumbers, HaveOneEach, IsFirstSplit, IsFirstLarge, WithDeficiencies}
+use Rattle.crn_cert.specs.Valid.{IsLeft, AreClassNumbers, HaveOneEach, IsFirstSplit, IsFirstLarge, WithDeficiencies, linkage, linkage_count, IsWithinTerminal, IsNormal, IsApartAt}
 use Rattle.std.specs.Option.{IsSome}
 use Rattle.crn_cert.specs.Tests.{Test, test}
-use Rattle.crn_cert.specs.ClassTests.{AreNumbered, AreEven, AreLinkTrees, AreFromTrees, AreToTrees, DoLevelsFall, AreAllExits, GoesOut, of_class, zeros_in}
+use Rattle.crn_cert.specs.ClassTests.{AreNumbered, AreEven, AreLinkTrees, AreFromTrees, AreToTrees, DoLevelsFall, AreAllExits, GoesOut, of_class, zeros_in, IsWayRound}
+use Rattle.crn_cert.specs.ConfluenceTests.{least_from, others_than, tie_tests}
 
 -- the tests of linkage classes
 abbrev pub link_tests : Net → ℕ → List ℕ → List ℕ → List ℕ → List Test
@@ -99,3 +101,42 @@ known_tests earlier verdict =
 -- the test of a head that names a class with several terminal classes
 abbrev pub split_tests : Earlier → ℕ → ℕ → List Test
 split_tests earlier k count = test 0 37 (IsFirstSplit earlier k count) ∷ []
+
+-- what a head on regularity needs of positive dependence, and of the reaction that it names
+abbrev pub IsAllowed : Net → Earlier → Verdict → Type 0
+IsAllowed net earlier Yes = IsYes (on earlier Q7)
+IsAllowed net earlier NoDependence = IsNo (on earlier Q7)
+IsAllowed net earlier (NoCycle r walk) = (IsYes (on earlier Q7) ⊎ IsOpen (on earlier Q7))
+    × IsWithinTerminal net earlier r
+IsAllowed net earlier other = ⊥
+
+-- the test of a head on regularity that needs one terminal class in each linkage class
+abbrev pub allowed_tests : Net → Earlier → Verdict → List Test
+allowed_tests net earlier verdict =
+    test 0 37 (HaveOneEach earlier × IsAllowed net earlier verdict) ∷ []
+
+-- the test of the walk round a linked pair
+abbrev pub walk_tests : Net → ℕ → List ℕ → List Test
+walk_tests net r walk = test 1 32 (IsWayRound net r walk) ∷ []
+
+-- the tests of a confluence vector and of its ties
+abbrev pub vector_tests : Net → Earlier → List ℤ → List (List ℤ) → List Test
+vector_tests net earlier g ties =
+    test 1 35 (IsNormal net earlier g)
+    ∷ tie_tests net (linkage earlier) (linkage_count earlier) (λ d. d ≡ least_from 0 g) 2
+    (others_than net (least_from 0 g)) ties
+
+-- the tests of the ties of all complexes
+abbrev pub zero_tests : Net → Earlier → List (List ℤ) → List Test
+zero_tests net earlier ties =
+    tie_tests net (linkage earlier) (linkage_count earlier) (λ d. ⊥) 1
+    (range_with_len 0 (length net.complexes)) ties
+
+-- the test of one of the two vectors of a plane
+abbrev pub apart_tests : Net → Earlier → ℕ → ℕ → ℕ → List ℤ → List Test
+apart_tests net earlier part own other g = test part 35 (IsApartAt net earlier own other g) ∷ []
+
+-- the tests of the two vectors of a plane
+abbrev pub plane_tests : Net → Earlier → ℕ → ℕ → List ℤ → List ℤ → List Test
+plane_tests net earlier first second one two =
+    apart_tests net earlier 1 first second one ++ apart_tests net earlier 2 second first two

@@ -1,0 +1,10 @@
+use Rattle.std.proofs.Common.{◌≡◌, ◌≤◌, ◌*◌, take}
+use Rattle.std.specs.Prelude.{unsigned_abs}
+use Rattle.crn_vec.specs.Vectors.{dot, column}
+use Rattle.crn_vec.specs.declared.limits.TheConstants.{MAX_AMOUNT, WIDE_SOLUTION}
+use Rattle.crn_check.proofs.space.amount_in.Given as goal
+
+-- the sum over the complexes so far, and its bound
+abbrev pub invariant-loop-c : goal.invariant-loop-c
+invariant-loop-c l = (l.sum ≡ dot (take l.c l.numbers) (take l.c (column l.net.complexes l.s)))
+    × (unsigned_abs l.sum ≤ l.c * (MAX_AMOUNT * WIDE_SOLUTION))

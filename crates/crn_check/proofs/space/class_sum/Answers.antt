@@ -1,0 +1,35 @@
+use Rattle.std.proofs.Common.{◌≡◌, ◌≤◌, ◌*◌, ◌+◌, ◌<◌, ◌∙◌, length, take, ap, ap₂, sym, arith, to_z, take_all}
+use Rattle.std.specs.Prelude.{ℤ, ◌+ℤ◌, ◌*ℤ◌, unsigned_abs}
+use Rattle.std.specs.Int.{w128}
+use Rattle.crn_vec.specs.Vectors.{dot, entry}
+use Rattle.crn_vec.specs.Sums.{label_marks}
+use Rattle.crn_vec.specs.declared.limits.TheConstants.{WIDE_SOLUTION}
+use Rattle.crn_vec.proofs.CallerLemmas.{held, sum_within, dot_step}
+use Rattle.crn_check.proofs.Spaces.{length-label_marks, label_mark}
+use Rattle.crn_check.proofs.space.class_sum.Goals as goal
+
+next_sum : {s p d e : ℤ} → s ≡ d → p ≡ e → d +ℤ e ≡ s +ℤ p
+next_sum f g = ap₂ (λ (x y : ℤ). x +ℤ y) (sym f) (sym g)
+
+pub loop-c-preserved : goal.loop-c-preserved
+loop-c-preserved c =
+    let s = to_z w128 c.loop-c.sum-bits in
+    let p = c.counted-sum.result in
+    let labels = c.args.labels.now in
+    let class = c.args.class in
+    let v = c.args.numbers.now in
+    let marks = label_marks labels class in
+    let k = c.loop-c.c in
+    let lt : k < length labels = omega (arith, c.loop-c-test.true, c.complexes-c-end.ensures.count, c.requires.labelled) in
+    let mark = label_mark labels class k lt in
+    let small = c.counted-sum.ensures.small in
+    let is : p ≡ entry marks k *ℤ entry v k = c.counted-sum.ensures.value ∙ ap (λ (x : ℤ). x *ℤ entry v k) (sym mark) in
+    let bound : unsigned_abs (s +ℤ p) ≤ k * WIDE_SOLUTION + WIDE_SOLUTION = sum_within s p (k * WIDE_SOLUTION) WIDE_SOLUTION c.loop-c.invariant.small small in
+    let next : dot (take (k + 1) marks) (take (k + 1) v) ≡ s +ℤ p = dot_step marks v k (omega (arith, lt, length-label_marks labels class)) (omega (arith, lt, c.requires.labelled, c.requires.numbers.long)) ∙ next_sum c.loop-c.invariant.value is in
+    rw (held p (omega (arith, small)), held (s +ℤ p) (omega (arith, bound, c.loop-c-test.true, c.complexes-c-end.ensures.limit))) (record { value = sym next; small = omega (arith, bound) })
+
+pub returns : goal.returns
+returns c =
+    let labels = c.args.labels.now in
+    let marks = label_marks labels c.args.class in
+    rw (take_all c.loop-c.c marks (omega (arith, length-label_marks labels c.args.class, c.requires.labelled, c.complexes-c-end.ensures.count)), take_all c.loop-c.c c.args.numbers.now (omega (arith, c.requires.numbers.long, c.complexes-c-end.ensures.count))) at c.loop-c.invariant.value

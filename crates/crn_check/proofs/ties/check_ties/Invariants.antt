@@ -1,0 +1,9 @@
+use Rattle.std.proofs.Common.{length}
+use Rattle.crn_cert.specs.ConfluenceTests.{IsTie}
+use Rattle.crn_check.specs.Inner.Ordered.{IsSpared, is_tied}
+use Rattle.crn_check.proofs.InOrder.{AreDone}
+use Rattle.crn_check.proofs.ties.check_ties.Given as goal
+
+-- the ties so far pass
+abbrev pub invariant-loop-c : goal.invariant-loop-c
+invariant-loop-c l = AreDone (IsTie l.net l.labels l.count (IsSpared l.spared)) (is_tied l.spared) 0 (length l.net.complexes) l.first l.ties l.c l.done
