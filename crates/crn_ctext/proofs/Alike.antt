@@ -2,8 +2,8 @@
 use Rattle.std.proofs.Common.{◌≡◌, ◌==◌, ◌++◌, ◌∙◌, Bool, if◌then◌else◌, [], ◌∷◌, map, refl, sym, ap, ap₂, subst, inl, inr}
 use Rattle.std.proofs.lemmas.Bool.{cases_Bool}
 use Rattle.crn_cert.specs.declared.answer.Verdict.{Verdict}
-use Rattle.crn_cert.specs.declared.answer.Verdict.TheVariants.{Classes, Strong, Rank, Deficiency, Yes, YesVec}
-use Rattle.crn_cert.specs.Questions.{Earlier, Question, number, on, labels_of, count_of, exits_of, rank_of, deficiencies_of, IsYes}
+use Rattle.crn_cert.specs.declared.answer.Verdict.TheVariants.{Classes, Strong, Rank, Deficiency, Yes, YesVec, NoVec, NoTerminal, NoDependence, NoCycle, Unknown}
+use Rattle.crn_cert.specs.Questions.{Earlier, Question, number, on, labels_of, count_of, exits_of, rank_of, deficiencies_of, IsYes, IsNo, IsOpen}
 use Rattle.crn_ctext.specs.Same.{said}
 use Rattle.crn_ctext.specs.Meaning.{Known}
 
@@ -35,7 +35,8 @@ said_on (e ∷ es) q = elim (cases_Bool (number e.0 == number q)) [
   | inr later ↦ subst (λ (t : Bool). said (if t then e.1 else on es q) ≡ (if t then said e.1 else on (all_said es) q)) (sym later) (said_on es q)
 ]
 
-on_alike : (xs ys : Earlier) (q : Question) → all_said xs ≡ all_said ys → said (on xs q) ≡ said (on ys q)
+-- so do the verdicts on a question
+pub on_alike : (xs ys : Earlier) (q : Question) → all_said xs ≡ all_said ys → said (on xs q) ≡ said (on ys q)
 on_alike xs ys q e = said_on xs q ∙ ap (λ (t : Earlier). on t q) e ∙ sym (said_on ys q)
 
 said_labels : (v : Verdict) → labels_of (said v) ≡ labels_of v
@@ -88,3 +89,22 @@ said_yes v = refl
 -- whether it is answered by a yes
 pub yes_alike : (xs ys : Earlier) (q : Question) → all_said xs ≡ all_said ys → IsYes (on xs q) ≡ IsYes (on ys q)
 yes_alike xs ys q e = sym (said_yes (on xs q)) ∙ ap IsYes (on_alike xs ys q e) ∙ said_yes (on ys q)
+
+said_no : (v : Verdict) → IsNo (said v) ≡ IsNo v
+said_no (NoVec multipliers) = refl
+said_no (NoTerminal class count) = refl
+said_no NoDependence = refl
+said_no (NoCycle reaction walk) = refl
+said_no v = refl
+
+-- whether it is answered by a no
+pub no_alike : (xs ys : Earlier) (q : Question) → all_said xs ≡ all_said ys → IsNo (on xs q) ≡ IsNo (on ys q)
+no_alike xs ys q e = sym (said_no (on xs q)) ∙ ap IsNo (on_alike xs ys q e) ∙ said_no (on ys q)
+
+said_open : (v : Verdict) → IsOpen (said v) ≡ IsOpen v
+said_open (Unknown gap) = refl
+said_open v = refl
+
+-- whether it is open
+pub open_alike : (xs ys : Earlier) (q : Question) → all_said xs ≡ all_said ys → IsOpen (on xs q) ≡ IsOpen (on ys q)
+open_alike xs ys q e = sym (said_open (on xs q)) ∙ ap IsOpen (on_alike xs ys q e) ∙ said_open (on ys q)

@@ -16,7 +16,7 @@ use Rattle.crn_cert.specs.declared.answer.RankProof.{RankProof}
 use Rattle.crn_cert.specs.declared.answer.Proof.{Proof}
 use Rattle.crn_cert.specs.declared.answer.Proof.TheVariants.{Nothing, Forest, Strong as StrongTrees, Back, Rank as RankRows, Ranks}
 use Rattle.crn_cert.specs.declared.answer.Answer.{Answer}
-use Rattle.crn_cert.specs.Questions.{Earlier, Question, Q1, Q2, Q3, Q4, Q5, Q6, Q7, Q8, Q9, Q10, on, rank_of}
+use Rattle.crn_cert.specs.Questions.{Earlier, Question, Q1, Q2, Q3, Q4, Q5, Q6, Q7, Q8, Q9, Q10, Q11, on, rank_of}
 use Rattle.crn_cert.specs.Tests.{Test, test, AllHold}
 use Rattle.crn_cert.specs.ClassTests.{AreNumbered, AreEven, AreLinkTrees, AreFromTrees, AreToTrees, DoLevelsFall, AreAllExits, zeros_in, AreReverses}
 use Rattle.crn_cert.specs.RankTests.{rank_tests}
@@ -25,37 +25,27 @@ use Rattle.crn_cert.specs.Ranges.{AreFrom}
 use Rattle.crn_cert.specs.Says.{IsReactionNumber}
 use Rattle.crn_cert.specs.Valid.{linkage, linkage_count, strong, class_places, class_rank_tests, AreClassNumbers, IsFirstLarge, head_tests, row_tests, IsValid, AreValid}
 use Rattle.crn_ctext.specs.Records.{Record, ClassWide, Takes, AreNarrow, AreOf, AreRising, Fits}
-use Rattle.crn_ctext.specs.Kinds.{small, small_form}
+use Rattle.crn_ctext.specs.Kinds.{small}
 use Rattle.crn_ctext.specs.Questions.{rank_forms, class_forms, classes as classes_of}
 use Rattle.crn_ctext.specs.Blocks.{Problem, head_claims, row_claims, below, is_open, unless}
 use Rattle.crn_ctext.specs.Documents.{Parts, IsFormed, AreTrees, IsGoodLeaf, IsOneOf, leaf_forms}
 use Rattle.crn_ctext.specs.Documents as documents
-use Rattle.crn_ctext.specs.Answers.{small_record, rank_records, head_of, records_below, proof_nodes, records, all_records}
+use Rattle.crn_ctext.specs.Answers.{rank_records, head_of, records_below, proof_nodes, records, all_records}
 use Rattle.crn_ctext.specs.Meaning.{Known, lengths, reactions_by_class, rank_proof, class_proofs, shapes_of, sizes_of, verdict_of, proof_of, meaning}
 use Rattle.crn_cert.specs.Built.{built}
 use Rattle.crn_ctext.specs.Judged.{AreFormedOf}
 use Rattle.crn_ctext.specs.Linked.{records_of}
 use Rattle.crn_ctext.proofs.AnswersApart.{block_apart}
 use Rattle.crn_ctext.specs.Same.{said, said_rank, shown, AreSame}
-use Rattle.crn_ctext.proofs.Joined.{parts, IsLinked, answer, open_as, IsLinkedFor, IsJoinedFor, LinkFor, joined, same_valid}
+use Rattle.crn_ctext.proofs.Joined.{parts, IsLinked, answer, open_as, tied, IsJoinedFor, LinkFor, joined, same_valid}
+use Rattle.crn_ctext.proofs.KnownBefore.{AreKnown, after, formed_right, said_right, known_then}
+use Rattle.crn_ctext.proofs.Linking.{several_fit, small_fits, number_fits, class_fits, without_proof}
+use Rattle.crn_ctext.proofs.ConfluenceLinked.{regular_linked, confluence_tied}
 use Rattle.crn_ctext.proofs.Alike.{IsAlike, alike_then, labels_alike, counts_alike, ranks_alike}
 use Rattle.crn_ctext.proofs.TestsAlike.{zero_alike, number_alike, one_alike, split_alike}
 use Rattle.crn_ctext.proofs.MeaningShort.{lists_counted}
 use Rattle.crn_ctext.proofs.RanksLinked.{back_again, between, free_fits, rank_fits, rank_said, places_from, sizes_from, classes_fit, classes_said, said_again, proofs_alike, numbers_alike, tests_alike, basis_alike, places_at, number_then, wide_fits}
 use Rattle.crn_vec.specs.declared.signs.Sign.{Sign}
-
--- ---- lists
-
--- so many small numbers
-several_fit : (count least greatest : ℕ) (xs : List ℕ) → AreFrom count least greatest xs → AreOf (λ field zs. Takes field zs × AreNarrow field zs) (small count least greatest ∷ []) (map pos xs)
-several_fit count least greatest xs p =
-    let long = p.long in
-    let each = p.each in
-    (map pos xs, [], sym (append-nil (map pos xs)), ((length-map xs pos ∙ long, between least greatest xs each), tt), refl)
-
--- a record of small numbers fits its form
-small_fits : (word : List ℕ) (count least greatest : ℕ) (xs : List ℕ) → AreFrom count least greatest xs → Fits (small_form word count least greatest) (small_record word xs)
-small_fits word count least greatest xs p = (refl, several_fit count least greatest xs p)
 
 -- ---- linkage classes
 
@@ -149,10 +139,6 @@ strong_linked known earlier v p f = absurd f.0
 
 reverse_tests : Net → List ℕ → List Test
 reverse_tests net back = test 1 32 (AreReverses net back) ∷ []
-
--- one number from 1
-number_fits : (most n : ℕ) → 1 ≤ n → n ≤ most → AreOf (λ field zs. Takes field zs × AreNarrow field zs) (small 1 1 most ∷ []) (pos n ∷ [])
-number_fits most n a b = (pos n ∷ [], [], refl, ((refl, ((omega (arith, ints, a), omega (arith, ints, b)), tt)), tt), refl)
 
 reversible_linked : (known : Known) (earlier : Earlier) (v : Verdict) (p : Proof) → IsFormedOf known.net earlier Q3 v p → IsLinked known earlier Q3 (answer v p)
 unfolding reverse_tests
@@ -413,10 +399,6 @@ conservation_linked known earlier v p f = absurd f.0
 
 -- ---- the two deficiency theorems
 
--- a verdict and what it rests on, if it is open, have no proof
-without_proof : (known : Known) (earlier : Earlier) (q : Question) (v : Verdict) (p : Proof) → p ≡ Nothing → IsLinked known earlier q (answer v Nothing) → IsLinked known earlier q (answer v p)
-without_proof known earlier q v p e l = subst (λ (x : Proof). IsLinked known earlier q (answer v x)) (sym e) l
-
 zero_rests : (known : Known) (earlier : Earlier) → IsLinked known earlier Q9 (answer (Unknown (Rests 5)) Nothing)
 zero_rests known earlier =
     record {
@@ -459,13 +441,6 @@ zero_linked known earlier (Unknown (Rests question)) p e f =
 zero_linked known earlier (YesWeak weak) p e f = absurd f.1
 zero_linked known earlier (NoNumber d) p e f = absurd f.1
 zero_linked known earlier v p e f = absurd f.0
-
--- a class, and a number from 2
-class_fits : (known : Known) (earlier : Earlier) (class n : ℕ) → IsAlike known earlier → (1 ≤ class) × (class ≤ linkage_count earlier) → (2 ≤ n) × (n ≤ length known.net.complexes)
-    → AreOf (λ field zs. Takes field zs × AreNarrow field zs) (small 1 1 (classes_of (sizes_of known)) ∷ small 1 2 (length known.net.complexes) ∷ []) (pos class ∷ pos n ∷ [])
-class_fits known earlier class n e a b =
-    number_then 1 (classes_of (sizes_of known)) class (small 1 2 (length known.net.complexes) ∷ []) (pos n ∷ []) a.0 (omega (arith, a.1, lists_counted known, counts_alike known.earlier earlier Q1 e))
-    (number_then 2 (length known.net.complexes) n [] [] b.0 b.1 refl)
 
 one_rests : (known : Known) (earlier : Earlier) → IsLinked known earlier Q10 (answer (Unknown (Rests 6)) Nothing)
 one_rests known earlier =
@@ -526,11 +501,11 @@ one_linked known earlier v p e f = absurd f.0
 abbrev behind : Question → Known → Answer → Known
 behind q known a = meaning.learn q known (head_of q a.verdict) (records_below (shapes_of known) a)
 
-abbrev pub AreLinkedFor : List Question → Type 1
-AreLinkedFor [] = Unit {1}
-AreLinkedFor (q ∷ qs) = LinkFor q × AreLinkedFor qs
+abbrev pub AreLinkedFor : Bool → List Question → Type 1
+AreLinkedFor b [] = Unit {1}
+AreLinkedFor b (q ∷ qs) = LinkFor b q × AreLinkedFor (after b q) qs
 
-built_linked : AreLinkedFor built
+built_linked : AreLinkedFor false built
 built_linked = (
   (λ known earlier v p e f. linkage_linked known earlier v p f),
   (
@@ -549,86 +524,105 @@ built_linked = (
 )
 
 -- so they are after an answer
-alike_behind : (q : Question) (known : Known) (earlier : Earlier) (a : Answer) → IsAlike known earlier → IsJoinedFor q → IsFormedOf known.net earlier q a.verdict a.proof → IsAlike (behind q known a) (earlier ++ (q, a.verdict) ∷ [])
-alike_behind q known earlier a e j f = let s = j.says in alike_then known.earlier earlier q (verdict_of q (sizes_of known) (head_of q a.verdict) (records_below (shapes_of known) a)) a.verdict e (s known earlier a.verdict a.proof e f)
+alike_behind : (b : Bool) (q : Question) (known : Known) (earlier : Earlier) (a : Answer) → AreKnown b known.earlier → IsAlike known earlier → IsJoinedFor b q → IsFormedOf known.net earlier q a.verdict a.proof → IsAlike (behind q known a) (earlier ++ (q, a.verdict) ∷ [])
+alike_behind b q known earlier a n e j f = let s = j.says in alike_then known.earlier earlier q (verdict_of q (sizes_of known) (head_of q a.verdict) (records_below (shapes_of known) a)) a.verdict e (s known earlier a.verdict a.proof n e f)
 
-formed_by : (qs : List Question) → AreLinkedFor qs → (known : Known) (earlier : Earlier) (answers : List Answer) → IsAlike known earlier → AreFormed known.net earlier qs answers → documents.AreFormed meaning qs known (all_records meaning qs known answers)
+-- and the strong classes are known after question 2
+known_next : (b : Bool) (q : Question) (known : Known) (earlier : Earlier) (a : Answer) → AreKnown b known.earlier → IsAlike known earlier → IsJoinedFor b q → IsFormedOf known.net earlier q a.verdict a.proof → AreKnown (after b q) (behind q known a).earlier
+known_next b q known earlier a n e j f =
+    let s = j.says in
+    let v = verdict_of q (sizes_of known) (head_of q a.verdict) (records_below (shapes_of known) a) in
+    known_then b q known.earlier v n (said_right q v a.verdict (s known earlier a.verdict a.proof n e f) (formed_right known.net earlier q a.verdict a.proof f))
+
+-- verdicts that say the same do so after an answer to question 1
+pub linkage_next : (known : Known) (earlier : Earlier) (a : Answer) → IsAlike known earlier → IsFormedOf known.net earlier Q1 a.verdict a.proof → IsAlike (behind Q1 known a) (earlier ++ (Q1, a.verdict) ∷ [])
+linkage_next known earlier a e f =
+    let l = linkage_linked known earlier a.verdict a.proof f in
+    alike_then known.earlier earlier Q1 (verdict_of Q1 (sizes_of known) (head_of Q1 a.verdict) (records_below (shapes_of known) a)) a.verdict e l.says
+
+-- and to question 2
+pub strong_next : (known : Known) (earlier : Earlier) (a : Answer) → IsAlike known earlier → IsFormedOf known.net earlier Q2 a.verdict a.proof → IsAlike (behind Q2 known a) (earlier ++ (Q2, a.verdict) ∷ [])
+strong_next known earlier a e f =
+    let l = strong_linked known earlier a.verdict a.proof f in
+    alike_then known.earlier earlier Q2 (verdict_of Q2 (sizes_of known) (head_of Q2 a.verdict) (records_below (shapes_of known) a)) a.verdict e l.says
+
+formed_by : (b : Bool) (qs : List Question) → AreLinkedFor b qs → (known : Known) (earlier : Earlier) (answers : List Answer) → AreKnown b known.earlier → IsAlike known earlier → AreFormed known.net earlier qs answers → documents.AreFormed meaning qs known (all_records meaning qs known answers)
 unfolding documents.AreFormed all_records
-formed_by [] links known earlier [] e f = refl
-formed_by [] links known earlier (a ∷ answers) e f = absurd f
-formed_by (q ∷ qs) links known earlier [] e f = absurd f
-formed_by (q ∷ qs) links known earlier (a ∷ answers) e f =
-    let j = joined q links.0 in
+formed_by b [] links known earlier [] n e f = refl
+formed_by b [] links known earlier (a ∷ answers) n e f = absurd f
+formed_by b (q ∷ qs) links known earlier [] n e f = absurd f
+formed_by b (q ∷ qs) links known earlier (a ∷ answers) n e f =
+    let j = joined b q links.0 in
     let formed = j.formed in
-    (parts q known a, formed known earlier a.verdict a.proof e f.0, formed_by qs links.1 (behind q known a) (earlier ++ (q, a.verdict) ∷ []) answers (alike_behind q known earlier a e j f.0) f.1)
+    (parts q known a, formed known earlier a.verdict a.proof n e f.0, formed_by (after b q) qs links.1 (behind q known a) (earlier ++ (q, a.verdict) ∷ []) answers (known_next b q known earlier a n e j f.0) (alike_behind b q known earlier a n e j f.0) f.1)
 
 pub answers_formed : (net : Net) (answers : List Answer) → AreFormed net [] built answers → AreFormedOf net (records_of net answers)
-answers_formed net answers f = formed_by built built_linked (meaning.start net) [] answers refl f
+answers_formed net answers f = formed_by false built built_linked (meaning.start net) [] answers tt refl f
 
 -- ---- valid answers
 
 abbrev Rest : List Question → Known → Known → List Answer → Type 0
 Rest qs known from answers = documents.AreValid meaning qs known (all_records meaning qs from answers)
 
-valid_by : (qs : List Question) → AreLinkedFor qs → (known : Known) (earlier : Earlier) (answers : List Answer) → IsAlike known earlier → AreFormed known.net earlier qs answers → AreValid known.net earlier qs answers → Rest qs known known answers
+valid_by : (b : Bool) (qs : List Question) → AreLinkedFor b qs → (known : Known) (earlier : Earlier) (answers : List Answer) → AreKnown b known.earlier → IsAlike known earlier → AreFormed known.net earlier qs answers → AreValid known.net earlier qs answers → Rest qs known known answers
 unfolding documents.AreValid all_records
-valid_by [] links known earlier [] e f v = refl
-valid_by [] links known earlier (a ∷ answers) e f v = absurd f
-valid_by (q ∷ qs) links known earlier [] e f v = absurd f
-valid_by (q ∷ qs) links known earlier (a ∷ answers) e f v =
-    let j = joined q links.0 in
+valid_by b [] links known earlier [] n e f v = refl
+valid_by b [] links known earlier (a ∷ answers) n e f v = absurd f
+valid_by b (q ∷ qs) links known earlier [] n e f v = absurd f
+valid_by b (q ∷ qs) links known earlier (a ∷ answers) n e f v =
+    let j = joined b q links.0 in
     let formed = j.formed in
     let there = j.there in
-    (parts q known a, formed known earlier a.verdict a.proof e f.0, there known earlier a.verdict a.proof e f.0 v.0, valid_by qs links.1 (behind q known a) (earlier ++ (q, a.verdict) ∷ []) answers (alike_behind q known earlier a e j f.0) f.1 v.1)
+    (parts q known a, formed known earlier a.verdict a.proof n e f.0, there known earlier a.verdict a.proof n e f.0 v.0, valid_by (after b q) qs links.1 (behind q known a) (earlier ++ (q, a.verdict) ∷ []) answers (known_next b q known earlier a n e j f.0) (alike_behind b q known earlier a n e j f.0) f.1 v.1)
 
 pub answers_valid : (net : Net) (answers : List Answer) → AreFormed net [] built answers → AreValid net [] built answers → documents.AreValid meaning built (meaning.start net) (records_of net answers)
-answers_valid net answers f v = valid_by built built_linked (meaning.start net) [] answers refl f v
+answers_valid net answers f v = valid_by false built built_linked (meaning.start net) [] answers tt refl f v
 
-back_by : (qs : List Question) → AreLinkedFor qs → (known : Known) (earlier : Earlier) (answers : List Answer) → IsAlike known earlier → AreFormed known.net earlier qs answers → Rest qs known known answers → AreValid known.net earlier qs answers
+back_by : (b : Bool) (qs : List Question) → AreLinkedFor b qs → (known : Known) (earlier : Earlier) (answers : List Answer) → AreKnown b known.earlier → IsAlike known earlier → AreFormed known.net earlier qs answers → Rest qs known known answers → AreValid known.net earlier qs answers
 unfolding documents.AreValid all_records
-back_by [] links known earlier [] e f v = tt
-back_by [] links known earlier (a ∷ answers) e f v = absurd f
-back_by (q ∷ qs) links known earlier [] e f v = absurd f
-back_by (q ∷ qs) links known earlier (a ∷ answers) e f v =
-    let j = joined q links.0 in
+back_by b [] links known earlier [] n e f v = tt
+back_by b [] links known earlier (a ∷ answers) n e f v = absurd f
+back_by b (q ∷ qs) links known earlier [] n e f v = absurd f
+back_by b (q ∷ qs) links known earlier (a ∷ answers) n e f v =
+    let j = joined b q links.0 in
     let formed = j.formed in
     let back = j.back in
     let next = behind q known a in
-    let s = same_valid q known (records q (shapes_of known) a) v.0 (parts q known a) v.1 (formed known earlier a.verdict a.proof e f.0) v.2 in
+    let s = same_valid q known (records q (shapes_of known) a) v.0 (parts q known a) v.1 (formed known earlier a.verdict a.proof n e f.0) v.2 in
     let later : Rest qs next next answers = subst (λ (k : Known). Rest qs k next answers) s.1 v.3 in
-    (back known earlier a.verdict a.proof e f.0 s.0, back_by qs links.1 next (earlier ++ (q, a.verdict) ∷ []) answers (alike_behind q known earlier a e j f.0) f.1 later)
+    (back known earlier a.verdict a.proof n e f.0 s.0, back_by (after b q) qs links.1 next (earlier ++ (q, a.verdict) ∷ []) answers (known_next b q known earlier a n e j f.0) (alike_behind b q known earlier a n e j f.0) f.1 later)
 
 pub records_valid : (net : Net) (answers : List Answer) → AreFormed net [] built answers → documents.AreValid meaning built (meaning.start net) (records_of net answers) → AreValid net [] built answers
-records_valid net answers f v = back_by built built_linked (meaning.start net) [] answers refl f v
+records_valid net answers f v = back_by false built built_linked (meaning.start net) [] answers tt refl f v
 
 -- ---- answers with the same records
 
 -- equal records are of answers that are the same
-same_by : (qs : List Question) → AreLinkedFor qs → (known : Known) (earlier later : Earlier) (answers others : List Answer) → IsAlike known earlier → IsAlike known later → AreFormed known.net earlier qs answers → AreFormed known.net later qs others
+same_by : (b : Bool) (qs : List Question) → AreLinkedFor b qs → (known : Known) (earlier later : Earlier) (answers others : List Answer) → AreKnown b known.earlier → IsAlike known earlier → IsAlike known later → AreFormed known.net earlier qs answers → AreFormed known.net later qs others
     → all_records meaning qs known answers ≡ all_records meaning qs known others → AreSame answers others
 unfolding all_records
-same_by [] links known earlier later [] [] d e f g r = refl
-same_by [] links known earlier later [] (b ∷ others) d e f g r = absurd g
-same_by [] links known earlier later (a ∷ answers) others d e f g r = absurd f
-same_by (q ∷ qs) links known earlier later [] others d e f g r = absurd f
-same_by (q ∷ qs) links known earlier later (a ∷ answers) [] d e f g r = absurd g
-same_by (q ∷ qs) links known earlier later (a ∷ answers) (b ∷ others) d e f g r =
-    let j = joined q links.0 in
+same_by b [] links known earlier later [] [] n d e f g r = refl
+same_by b [] links known earlier later [] (c ∷ others) n d e f g r = absurd g
+same_by b [] links known earlier later (a ∷ answers) others n d e f g r = absurd f
+same_by b (q ∷ qs) links known earlier later [] others n d e f g r = absurd f
+same_by b (q ∷ qs) links known earlier later (a ∷ answers) [] n d e f g r = absurd g
+same_by b (q ∷ qs) links known earlier later (a ∷ answers) (c ∷ others) n d e f g r =
+    let j = joined b q links.0 in
     let formed = j.formed in
     let says = j.says in
     let shows = j.shows in
-    let k = formed known earlier a.verdict a.proof d f.0 in
-    let l = formed known later b.verdict b.proof e g.0 in
-    let h = first_same (records q (shapes_of known) a) (records q (shapes_of known) b) (all_records meaning qs (behind q known a) answers) (all_records meaning qs (behind q known b) others) r in
-    let block : records q (shapes_of known) a ++ [] ≡ records q (shapes_of known) b ++ [] = ap (λ (t : List Record). t ++ []) h.0 in
-    let same = (block_apart meaning q known (records q (shapes_of known) a) (records q (shapes_of known) b) [] [] (parts q known a) (parts q known b) k l block).1 in
-    let nodes : proof_nodes a.proof ≡ proof_nodes b.proof = same_nodes (head_of q a.verdict) (head_of q b.verdict) (records_below (shapes_of known) a) (records_below (shapes_of known) b) (proof_nodes a.proof) (proof_nodes b.proof) same.1 h.0 in
-    let verdicts : said a.verdict ≡ said b.verdict = sym (says known earlier a.verdict a.proof d f.0) ∙ ap₂ (λ (x : Record) (xs : List Record). said (verdict_of q (sizes_of known) x xs)) same.0 same.1 ∙ says known later b.verdict b.proof e g.0 in
-    let proofs : shown a.proof ≡ shown b.proof = shows known earlier later a.verdict b.verdict a.proof b.proof d e f.0 g.0 same.0 same.1 nodes in
-    let next : behind q known a ≡ behind q known b = ap₂ (λ (x : Record) (xs : List Record). meaning.learn q known x xs) same.0 same.1 in
+    let k = formed known earlier a.verdict a.proof n d f.0 in
+    let l = formed known later c.verdict c.proof n e g.0 in
+    let h = first_same (records q (shapes_of known) a) (records q (shapes_of known) c) (all_records meaning qs (behind q known a) answers) (all_records meaning qs (behind q known c) others) r in
+    let block : records q (shapes_of known) a ++ [] ≡ records q (shapes_of known) c ++ [] = ap (λ (t : List Record). t ++ []) h.0 in
+    let same = (block_apart meaning q known (records q (shapes_of known) a) (records q (shapes_of known) c) [] [] (parts q known a) (parts q known c) k l block).1 in
+    let nodes : proof_nodes a.proof ≡ proof_nodes c.proof = same_nodes (head_of q a.verdict) (head_of q c.verdict) (records_below (shapes_of known) a) (records_below (shapes_of known) c) (proof_nodes a.proof) (proof_nodes c.proof) same.1 h.0 in
+    let verdicts : said a.verdict ≡ said c.verdict = sym (says known earlier a.verdict a.proof n d f.0) ∙ ap₂ (λ (x : Record) (xs : List Record). said (verdict_of q (sizes_of known) x xs)) same.0 same.1 ∙ says known later c.verdict c.proof n e g.0 in
+    let proofs : shown a.proof ≡ shown c.proof = shows known earlier later a.verdict c.verdict a.proof c.proof n d e f.0 g.0 same.0 same.1 nodes in
+    let next : behind q known a ≡ behind q known c = ap₂ (λ (x : Record) (xs : List Record). meaning.learn q known x xs) same.0 same.1 in
     let rest : all_records meaning qs (behind q known a) answers ≡ all_records meaning qs (behind q known a) others = h.1 ∙ ap (λ (x : Known). all_records meaning qs x others) (sym next) in
-    let alike : IsAlike (behind q known a) (later ++ (q, b.verdict) ∷ []) = subst (λ (x : Known). IsAlike x (later ++ (q, b.verdict) ∷ [])) (sym next) (alike_behind q known later b e j g.0) in
-    let more = same_by qs links.1 (behind q known a) (earlier ++ (q, a.verdict) ∷ []) (later ++ (q, b.verdict) ∷ []) answers others (alike_behind q known earlier a d j f.0) alike f.1 g.1 rest in
+    let alike : IsAlike (behind q known a) (later ++ (q, c.verdict) ∷ []) = subst (λ (x : Known). IsAlike x (later ++ (q, c.verdict) ∷ [])) (sym next) (alike_behind b q known later c n e j g.0) in
+    let more = same_by (after b q) qs links.1 (behind q known a) (earlier ++ (q, a.verdict) ∷ []) (later ++ (q, c.verdict) ∷ []) answers others (known_next b q known earlier a n d j f.0) (alike_behind b q known earlier a n d j f.0) alike f.1 g.1 rest in
     ap₂ (λ (x : Verdict × (Proof × List Plan)) (xs : List (Verdict × (Proof × List Plan))). x ∷ xs) (ap₂ (λ (v : Verdict) (p : Proof × List Plan). (v, p)) verdicts proofs) more
   where
     first_same : (x y : List Record) (xs ys : List (List Record)) → x ∷ xs ≡ y ∷ ys → (x ≡ y) × (xs ≡ ys)
@@ -638,4 +632,4 @@ same_by (q ∷ qs) links known earlier later (a ∷ answers) (b ∷ others) d e 
     same_nodes x y rows others ns ms e all = let below : rows ++ ns ≡ others ++ ms = cc in append_cancel_left others ns ms (ap (λ (t : List Record). t ++ ns) (sym e) ∙ below)
 
 pub answers_same : (net : Net) (answers others : List Answer) → AreFormed net [] built answers → AreFormed net [] built others → records_of net answers ≡ records_of net others → AreSame answers others
-answers_same net answers others f g r = same_by built built_linked (meaning.start net) [] [] answers others refl refl f g r
+answers_same net answers others f g r = same_by false built built_linked (meaning.start net) [] [] answers others tt refl refl f g r

@@ -14,10 +14,10 @@ use Rattle.crn_cert.specs.Questions.{Question, Q1, Q2, Q3, Q4, Q5, Q6, Q7, Q8, Q
 use Rattle.crn_cert.specs.Built.{built}
 use Rattle.crn_ctext.specs.Records.{Record, Fits, record_text}
 use Rattle.crn_ctext.specs.Kinds.{free_form}
-use Rattle.crn_ctext.specs.Questions.{Sizes, Shapes, heads, rows, opens, rank_forms, class_forms, class_rank, first_number, later_numbers}
+use Rattle.crn_ctext.specs.Questions.{Sizes, Shapes, heads, rows, opens, rank_forms, class_forms, class_rank, side_form, classes as classes_of, first_number, later_numbers}
 use Rattle.crn_ctext.specs.Blocks.{sections, below, place_of, ended, title, network_line}
 use Rattle.crn_ctext.specs.Documents.{section, is_cut_leaf, cut_lists, number_in, written, table_records, IsShareable, Share, FitsShare, share_of, one_word, IsNamed, leaf_forms, IsOneOf, document, document2, Parts, IsFormed, AreFormed}
-use Rattle.crn_ctext.specs.Meaning.{Known, sizes_of, shapes_of, meaning}
+use Rattle.crn_ctext.specs.Meaning.{Known, pairs_of, sizes_of, shapes_of, meaning}
 use Rattle.crn_ctext.specs.Judged.{AreFormedOf}
 use Rattle.crn_ctext.proofs.Written.{IsShortLine, first_ended}
 use Rattle.crn_ctext.proofs.LinesRead.{each_of}
@@ -29,7 +29,7 @@ use Rattle.crn_ctext.proofs.NetworkLines.{net_line}
 use Rattle.crn_ctext.proofs.DocumentTexts.{parted_first, parted_second, parted_cuts, parted_plain, cuts_append, written_plain, table_plain}
 use Rattle.crn_ctext.proofs.ShortAnswers.{AllPlain, IsShortFor, formed_are_plain, short_both}
 use Rattle.crn_ctext.proofs.ShortLines.{record_line_is_small, text_lines_are_short}
-use Rattle.crn_ctext.proofs.MeaningShort.{IsSmall, IsMemberList, class_sizes, class_lists, sizes_small, sizes_counted, lists_small, rank_first, networks_are_small, meaning_short}
+use Rattle.crn_ctext.proofs.MeaningShort.{IsSmall, IsMemberList, class_sizes, class_lists, sizes_small, sizes_counted, lists_small, pairs_few, rank_first, networks_are_small, meaning_short}
 use Rattle.crn_ctext.proofs.FrontsSaid.{HasNoTrees, none_follow}
 
 -- ---- lines
@@ -141,6 +141,26 @@ conservation_few s zero n = omega arith
 conservation_few s (suc zero) n = omega arith
 conservation_few s (suc (suc zero)) n = omega arith
 conservation_few s (suc (suc (suc k))) n = omega arith
+
+regular_few : (known : Known) (place : ℕ) (n : List ℤ) → IsSmall known → length (rows Q11 (shapes_of known) place n) ≤ 1000
+regular_few known zero n s = omega arith
+regular_few known (suc zero) n s = omega (arith, (pairs_few known s).0, length-map (pairs_of known) (side_form (sizes_of known)))
+regular_few known (suc (suc zero)) n s = omega arith
+regular_few known (suc (suc (suc zero))) n s = omega arith
+regular_few known (suc (suc (suc (suc zero)))) n s = omega arith
+regular_few known (suc (suc (suc (suc (suc k))))) n s = omega arith
+
+confluence_few : (known : Known) (place : ℕ) (n : List ℤ) → IsSmall known → length (rows Q12 (shapes_of known) place n) ≤ 1000
+confluence_few known zero n s = omega arith
+confluence_few known (suc zero) n s =
+    let c = s.complexes in
+    omega (arith, c, length-replicate (length known.net.complexes - 1) (free_form (codes "tie") (length known.net.names + classes_of (sizes_of known))))
+confluence_few known (suc (suc zero)) n s = omega arith
+confluence_few known (suc (suc (suc zero))) n s =
+    let c = s.complexes in
+    omega (arith, c, length-replicate (length known.net.complexes) (free_form (codes "tie") (length known.net.names + classes_of (sizes_of known))))
+confluence_few known (suc (suc (suc (suc zero)))) n s = omega arith
+confluence_few known (suc (suc (suc (suc (suc k))))) n s = omega arith
 
 built_few : AllByRecursion IsFew built
 built_few = (

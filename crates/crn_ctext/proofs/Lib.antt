@@ -29,6 +29,7 @@ mod TablesDecided
 mod TreeRecords
 mod RanksDecided
 mod TheoremsDecided
+mod ConfluenceDecided
 mod RanksLinked
 mod MeaningDecided
 mod TreesRead
@@ -47,8 +48,11 @@ mod SharesApart
 mod DocumentsOne
 mod Alike
 mod TestsAlike
+mod KnownBefore
 mod Joined
 mod TablesLinked
+mod Linking
+mod ConfluenceLinked
 mod AnswersLinked
 mod FrontsSaid
 mod RecordsLinked

@@ -1,24 +1,26 @@
 -- Each test of the built questions is decided, whatever a block holds.
-use Rattle.std.proofs.Common.{◌≡◌, ◌==◌, ℕ, zero, suc, Bool, true, false, List, [], length, if◌then◌else◌}
+use Rattle.std.proofs.Common.{inr, ◌≡◌, ◌==◌, ℕ, zero, suc, Bool, true, false, List, [], length, map, drop, if◌then◌else◌}
 use Rattle.std.specs.Prelude.{◌≢◌, ℤ, sum}
 use Rattle.std.specs.List.{range_with_len}
 use Rattle.crn_vec.specs.Network.{Net}
 use Rattle.crn_cert.specs.declared.answer.Gap.{Gap}
 use Rattle.crn_cert.specs.declared.answer.Verdict.TheVariants.{Unknown}
 use Rattle.crn_cert.specs.declared.answer.Proof.TheVariants.{Nothing}
-use Rattle.crn_cert.specs.Questions.{Earlier, Q1, Q2, Q3, Q4, Q5, Q6, Q7, Q8, Q9, Q10, on, rank_of, deficiencies_of}
+use Rattle.crn_cert.specs.Questions.{Earlier, Q1, Q2, Q3, Q4, Q5, Q6, Q7, Q8, Q9, Q10, Q11, Q12, on, rank_of, deficiencies_of}
 use Rattle.crn_vec.specs.Deficiency.{AreAtMostOne}
 use Rattle.crn_cert.specs.ClassTests.{zeros_in}
-use Rattle.crn_cert.specs.Valid.{strong, linkage_rows, strong_rows, reversible_head, reversible_rows, weak_head, rank_rows, deficiency_head, deficiency_rows, dependence_rows, conservation_rows, zero_head, one_head, WithDeficiencies, IsFirstLarge}
+use Rattle.crn_cert.specs.Valid.{strong, linkage_rows, strong_rows, reversible_head, reversible_rows, weak_head, rank_rows, deficiency_head, deficiency_rows, dependence_rows, conservation_rows, zero_head, one_head, WithDeficiencies, IsFirstLarge, linkage, linkage_count, pair_places, regular_head, regular_rows, confluence_head, confluence_rows}
+use Rattle.crn_cert.specs.ConfluenceTests.{least_from, others_than}
 use Rattle.crn_ctext.specs.Records.{Record}
 use Rattle.crn_ctext.specs.Questions.{Shapes, heads, later_numbers}
 use Rattle.crn_ctext.specs.Blocks.{place_of, is_open}
-use Rattle.crn_ctext.specs.Meaning.{shapes_of, sizes_of, number, row, nums, ints, rank_proof, class_proofs, gap_of, verdict_by, proof_by, meaning}
+use Rattle.crn_ctext.specs.Meaning.{shapes_of, sizes_of, number, row, nums, ints, lists, rank_proof, class_proofs, gap_of, verdict_by, proof_by, meaning}
 use Rattle.crn_cert.specs.Built.{built}
-use Rattle.crn_ctext.proofs.Decided.{both_decided, nat_decided}
+use Rattle.crn_ctext.proofs.Decided.{both_decided, one_decided as either_decided, nat_decided}
 use Rattle.crn_ctext.proofs.TestsDecided.{numbered_decided, even_decided, link_trees_decided, from_trees_decided, to_trees_decided, levels_decided, exits_decided, no_reverse_decided, reverses_decided, leaves_decided}
 use Rattle.crn_ctext.proofs.RanksDecided.{rank_decided, class_ranks_decided, some_rank_decided, left_decided, class_numbers_decided, dependence_decided, no_dependence_decided, law_decided, no_law_decided}
-use Rattle.crn_ctext.proofs.TheoremsDecided.{case_decided, one_each_decided, first_split_decided, known_decided, additive_decided, other_sum_decided, first_large_decided}
+use Rattle.crn_ctext.proofs.ConfluenceDecided.{no_decided, open_decided, within_decided, sides_decided, way_decided, normal_decided, apart_decided, ties_decided}
+use Rattle.crn_ctext.proofs.TheoremsDecided.{three_decided, yes_decided, case_decided, one_each_decided, first_split_decided, known_decided, additive_decided, other_sum_decided, first_large_decided}
 use Rattle.crn_ctext.proofs.Settled.{AllDecided, IsDecidedFor, IsDecidedMeaning}
 
 -- ---- linkage classes
@@ -208,6 +210,65 @@ one_decided : IsDecidedFor meaning Q10
 one_decided = record {
   head = λ known h. one_head_decided known.earlier (is_open h) (gap_of h) (place_of (heads Q10 (sizes_of known)) h.words) h.numbers;
   rows = λ known h rs. tt;
+  trees = λ known h. tt;
+}
+
+-- ---- regularity
+
+regular_head_decided : (net : Net) (earlier : Earlier) (t : Bool) (g : Gap) (place : ℕ) (n : List ℤ) → AllDecided (regular_head net earlier (if t then Unknown g else verdict_by Q11 place n []))
+regular_head_decided net earlier true g place n = tt
+regular_head_decided net earlier false g zero n = tt
+regular_head_decided net earlier false g (suc zero) n = (both_decided (one_each_decided earlier) (yes_decided (on earlier Q7)), tt)
+regular_head_decided net earlier false g (suc (suc zero)) n = (first_split_decided earlier (number n 0) (number n 1), tt)
+regular_head_decided net earlier false g (suc (suc (suc zero))) n = (both_decided (one_each_decided earlier) (no_decided (on earlier Q7)), tt)
+regular_head_decided net earlier false g (suc (suc (suc (suc zero)))) n =
+    (three_decided (one_each_decided earlier) (either_decided (yes_decided (on earlier Q7)) (open_decided (on earlier Q7))) (within_decided net earlier (number n 0)), tt)
+regular_head_decided net earlier false g (suc (suc (suc (suc (suc k))))) n = tt
+
+regular_rows_decided : (net : Net) (earlier : Earlier) (s : Shapes) (t : Bool) (g : Gap) (place : ℕ) (n : List ℤ) (rs : List Record)
+    → AllDecided (regular_rows net earlier (if t then Unknown g else verdict_by Q11 place n rs) (if t then Nothing else proof_by Q11 s place n rs))
+regular_rows_decided net earlier s true g place n rs = tt
+regular_rows_decided net earlier s false g zero n rs = tt
+regular_rows_decided net earlier s false g (suc zero) n rs = sides_decided net earlier 1 (pair_places net earlier) (map later_numbers (lists rs))
+regular_rows_decided net earlier s false g (suc (suc zero)) n rs = tt
+regular_rows_decided net earlier s false g (suc (suc (suc zero))) n rs = tt
+regular_rows_decided net earlier s false g (suc (suc (suc (suc zero)))) n rs = (way_decided net (number n 0) (nums (row rs 0)).list, tt)
+regular_rows_decided net earlier s false g (suc (suc (suc (suc (suc k))))) n rs = tt
+
+regular_decided : IsDecidedFor meaning Q11
+regular_decided = record {
+  head = λ known h. regular_head_decided known.net known.earlier (is_open h) (gap_of h) (place_of (heads Q11 (sizes_of known)) h.words) h.numbers;
+  rows = λ known h rs. regular_rows_decided known.net known.earlier (shapes_of known) (is_open h) (gap_of h) (place_of (heads Q11 (sizes_of known)) h.words) h.numbers rs;
+  trees = λ known h. tt;
+}
+
+-- ---- confluence vectors
+
+confluence_head_decided : (earlier : Earlier) (t : Bool) (g : Gap) (place : ℕ) (n : List ℤ) → AllDecided (confluence_head earlier (if t then Unknown g else verdict_by Q12 place n []))
+confluence_head_decided earlier true g place n = tt
+confluence_head_decided earlier false g zero n = tt
+confluence_head_decided earlier false g (suc zero) n = (yes_decided (on earlier Q11), tt)
+confluence_head_decided earlier false g (suc (suc zero)) n = (no_decided (on earlier Q11), tt)
+confluence_head_decided earlier false g (suc (suc (suc zero))) n = (yes_decided (on earlier Q11), tt)
+confluence_head_decided earlier false g (suc (suc (suc (suc zero)))) n = (yes_decided (on earlier Q11), tt)
+confluence_head_decided earlier false g (suc (suc (suc (suc (suc k))))) n = tt
+
+confluence_rows_decided : (net : Net) (earlier : Earlier) (s : Shapes) (t : Bool) (g : Gap) (place : ℕ) (n : List ℤ) (rs : List Record)
+    → AllDecided (confluence_rows net earlier (if t then Unknown g else verdict_by Q12 place n rs) (if t then Nothing else proof_by Q12 s place n rs))
+confluence_rows_decided net earlier s true g place n rs = tt
+confluence_rows_decided net earlier s false g zero n rs = tt
+confluence_rows_decided net earlier s false g (suc zero) n rs =
+    let v = (ints (row rs 0)).list in
+    (normal_decided net earlier v, ties_decided net (linkage earlier) (linkage_count earlier) (λ d. d ≡ least_from 0 v) (λ d. nat_decided d (least_from 0 v)) 2 (others_than net (least_from 0 v)) (drop 1 (lists rs)))
+confluence_rows_decided net earlier s false g (suc (suc zero)) n rs = tt
+confluence_rows_decided net earlier s false g (suc (suc (suc zero))) n rs = ties_decided net (linkage earlier) (linkage_count earlier) (λ d. ⊥) (λ d. inr (λ h. h)) 1 (range_with_len 0 (length net.complexes)) (lists rs)
+confluence_rows_decided net earlier s false g (suc (suc (suc (suc zero)))) n rs = (apart_decided net earlier (number n 0) (number n 1) (ints (row rs 0)).list, (apart_decided net earlier (number n 1) (number n 0) (ints (row rs 1)).list, tt))
+confluence_rows_decided net earlier s false g (suc (suc (suc (suc (suc k))))) n rs = tt
+
+confluence_decided : IsDecidedFor meaning Q12
+confluence_decided = record {
+  head = λ known h. confluence_head_decided known.earlier (is_open h) (gap_of h) (place_of (heads Q12 (sizes_of known)) h.words) h.numbers;
+  rows = λ known h rs. confluence_rows_decided known.net known.earlier (shapes_of known) (is_open h) (gap_of h) (place_of (heads Q12 (sizes_of known)) h.words) h.numbers rs;
   trees = λ known h. tt;
 }
 

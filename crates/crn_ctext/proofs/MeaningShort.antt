@@ -1,6 +1,6 @@
 -- The forms of the built questions are bounded.
 use Rattle.std.proofs.Common.{◌≡◌, ◌==◌, ◌≤◌, ◌+◌, ◌-◌, ◌++◌, ◌∙◌, ℕ, zero, suc, Bool, true, false, cond, if◌then◌else◌, List, [], ◌∷◌, length, map, refl, sym, ap, subst, inl, inr, arith}
-use Rattle.std.specs.Prelude.{ℤ, pos, negsuc, nat_abs, not, min, codes, replicate, slice_index, slice_index_or}
+use Rattle.std.specs.Prelude.{ℤ, pos, negsuc, nat_abs, not, ◌&&◌, min, codes, replicate, slice_index, slice_index_or}
 use Rattle.std.proofs.Math.Nat.{min-le_right}
 use Rattle.std.proofs.lemmas.Bool.{cases_Bool}
 use Rattle.std.proofs.lemmas.Int.{ints}
@@ -13,15 +13,15 @@ use Rattle.crn_vec.specs.Deficiency.{class_members}
 use Rattle.crn_vec.specs.declared.limits.TheConstants.{MAX_SPECIES, MAX_COMPLEXES, MAX_REACTIONS}
 use Rattle.crn_cert.specs.declared.answer.Gap.{Gap}
 use Rattle.crn_cert.specs.declared.answer.Verdict.{Verdict}
-use Rattle.crn_cert.specs.declared.answer.Verdict.TheVariants.{NotApplicable, Unknown}
-use Rattle.crn_cert.specs.Questions.{Earlier, Question, Q1, Q2, Q3, Q4, Q5, Q6, Q7, Q8, Q9, Q10, number, on, count_of, labels_of}
-use Rattle.crn_cert.specs.Valid.{linkage, linkage_count, class_places}
+use Rattle.crn_cert.specs.declared.answer.Verdict.TheVariants.{NotApplicable, Unknown, Strong}
+use Rattle.crn_cert.specs.Questions.{Earlier, Question, Q1, Q2, Q3, Q4, Q5, Q6, Q7, Q8, Q9, Q10, Q11, Q12, number, on, count_of, labels_of}
+use Rattle.crn_cert.specs.Valid.{linkage, linkage_count, class_places, ends_at, is_within_terminal, is_least_of_pair}
 use Rattle.crn_ctext.specs.Records.{Record, Form, CountAndPart, AreBetween, Fits}
-use Rattle.crn_ctext.specs.Questions.{heads, rows, head, yes, no, no_by, wide, rests, open_by, classes, rank_forms, class_forms, class_rank, first_number, later_numbers}
+use Rattle.crn_ctext.specs.Questions.{heads, rows, head, yes, no, no_by, none_by, wide, rests, open_by, classes, rank_forms, class_forms, class_rank, side_form, first_number, later_numbers}
 use Rattle.crn_ctext.specs.Kinds.{small, small_form, free_form}
 use Rattle.crn_ctext.specs.Blocks.{place_of, is_open, unless}
 use Rattle.crn_ctext.specs.Documents.{IsOneOf}
-use Rattle.crn_ctext.specs.Meaning.{Known, lengths, reactions_by_class, complexes_by_class, shapes_of, sizes_of, gap_of, verdict_by, verdict_of, meaning}
+use Rattle.crn_ctext.specs.Meaning.{Known, pairs_by, pairs_of, lengths, reactions_by_class, complexes_by_class, shapes_of, sizes_of, gap_of, verdict_by, verdict_of, meaning}
 use Rattle.crn_cert.specs.Built.{built}
 use Rattle.crn_ctext.proofs.Bounded.{IsSlim, IsBounded, words_fit}
 use Rattle.crn_ctext.proofs.ShortAnswers.{IsShortFor, AreFewProblems}
@@ -151,6 +151,21 @@ class_members_few known s k =
     let few = filter_few (λ (r : ℕ). slice_index (linkage known.earlier) (slice_index_or known.net.reactions (r - 1) (0, 0)).0 == k) (range_with_len 1 (length known.net.reactions)) in
     (omega (arith, all.0, few), kept_all (λ n. IsSlim (pos n)) (λ (r : ℕ). slice_index (linkage known.earlier) (slice_index_or known.net.reactions (r - 1) (0, 0)).0 == k) (range_with_len 1 (length known.net.reactions)) all.1)
 
+-- so are the reactions with any property
+members_with : (known : Known) → IsSmall known → (p : ℕ → Bool) → IsMemberList (filter p (range_with_len 1 (length known.net.reactions)))
+members_with known s p =
+    let all = all_members known s in
+    let few = filter_few p (range_with_len 1 (length known.net.reactions)) in
+    (omega (arith, all.0, few), kept_all (λ n. IsSlim (pos n)) p (range_with_len 1 (length known.net.reactions)) all.1)
+
+-- and the linked pairs within terminal classes
+pub pairs_few : (known : Known) → IsSmall known → IsMemberList (pairs_of known)
+pairs_few known s = by (on known.earlier Q2)
+  where
+    by : (v : Verdict) → IsMemberList (pairs_by known v)
+    by (Strong count terminal label exit) = members_with known s (λ r. is_within_terminal known.earlier (ends_at known.net r) && is_least_of_pair known.net r)
+    by v = (omega arith, tt)
+
 pub lists_small : (known : Known) → IsSmall known → AllByRecursion IsMemberList (class_lists known)
 lists_small known s = each_class IsMemberList (λ k. class_places known.net known.earlier k) (class_members_few known s) 1 (linkage_count known.earlier)
 
@@ -273,6 +288,38 @@ conservation_rows known zero n s = tt
 conservation_rows known (suc zero) n s = (free_bounded (codes "vec") (length known.net.names) refl (species_few known s), tt)
 conservation_rows known (suc (suc zero)) n s = (free_bounded (codes "cut") (length known.net.reactions) refl (reactions_few known s), tt)
 conservation_rows known (suc (suc (suc k))) n s = tt
+
+-- a side of each pair, after the pair's reaction
+sides_bounded : (known : Known) → IsSmall known → (rs : List ℕ) → AllByRecursion (λ n. IsSlim (pos n)) rs → AllByRecursion IsBounded (map (side_form (sizes_of known)) rs)
+sides_bounded known s [] a = tt
+sides_bounded known s (r ∷ rs) a = (let c = s.complexes in record { words = refl; few = omega (arith, c); fields = ((a.0, a.0), ((zero_short, one_short), tt)) }, sides_bounded known s rs a.1)
+
+regular_rows : (known : Known) (place : ℕ) (n : List ℤ) → IsSmall known → AllByRecursion IsBounded (rows Q11 (shapes_of known) place n)
+regular_rows known zero n s = tt
+regular_rows known (suc zero) n s = sides_bounded known s (pairs_of known) (pairs_few known s).1
+regular_rows known (suc (suc zero)) n s = tt
+regular_rows known (suc (suc (suc zero))) n s = tt
+regular_rows known (suc (suc (suc (suc zero)))) n s = (let c = s.complexes in record { words = refl; few = omega (arith, c); fields = ((one_short, complexes_short known s), tt) }, tt)
+regular_rows known (suc (suc (suc (suc (suc k))))) n s = tt
+
+-- a tie has a number for each species and each linkage class
+tie_bounded : (known : Known) → IsSmall known → IsBounded (free_form (codes "tie") (length known.net.names + classes (sizes_of known)))
+tie_bounded known s =
+    let m = s.species in
+    let c = s.classes in
+    free_bounded (codes "tie") (length known.net.names + classes (sizes_of known)) refl (omega (arith, m, c, lists_counted known))
+
+confluence_rows : (known : Known) (place : ℕ) (n : List ℤ) → IsSmall known → AllByRecursion IsBounded (rows Q12 (shapes_of known) place n)
+confluence_rows known zero n s = tt
+confluence_rows known (suc zero) n s =
+    let c = length known.net.complexes in
+    (free_bounded (codes "vec") c refl (complexes_few known s), each_again (c - 1) (free_form (codes "tie") (length known.net.names + classes (sizes_of known))) (tie_bounded known s))
+confluence_rows known (suc (suc zero)) n s = tt
+confluence_rows known (suc (suc (suc zero))) n s = each_again (length known.net.complexes) (free_form (codes "tie") (length known.net.names + classes (sizes_of known))) (tie_bounded known s)
+confluence_rows known (suc (suc (suc (suc zero)))) n s =
+    let one = free_bounded (codes "vec") (length known.net.complexes) refl (complexes_few known s) in
+    (one, (one, tt))
+confluence_rows known (suc (suc (suc (suc (suc k))))) n s = tt
 
 none_few : (t : Bool) → AreFewProblems (unless t [])
 none_few true = tt
@@ -454,6 +501,52 @@ one_theorem_short = record {
   row_forms = λ known h s o. tt;
   trees = λ known h s. none_few (is_open h);
   learn = λ known h rs s o z. same_net Q10 known h rs s no_classes;
+}
+
+regular_short : IsShortFor meaning IsSmall Q11
+regular_short = record {
+  head_forms = λ known s. (
+    plain_head 1 (codes "q11") yes refl,
+    (
+      class_head known 2 (codes "q11") (codes "terminal") s refl,
+      (
+        plain_head 3 (codes "q11") (no_by (codes "dependence")) refl,
+        (number_head 4 (codes "q11") (no_by (codes "cycle")) (length known.net.reactions) refl (reactions_short known s), (rests_head (codes "q11") 7 7 refl (omega arith), tt)),
+      ),
+    ),
+  );
+  row_forms = λ known h s o. regular_rows known (place_of (heads Q11 (sizes_of known)) h.words) h.numbers s;
+  trees = λ known h s. none_few (is_open h);
+  learn = λ known h rs s o z. same_net Q11 known h rs s no_classes;
+}
+
+confluence_heads : (known : Known) → IsSmall known → AllByRecursion IsBounded (heads Q12 (sizes_of known))
+confluence_heads known s =
+    let m = s.species in
+    let c = s.complexes in
+    let k = s.classes in (
+      plain_head 1 (codes "q12") yes refl,
+      (
+        plain_head 2 (codes "q12") (none_by (codes "regular")) refl,
+        (
+          plain_head 3 (codes "q12") (none_by (codes "zero")) refl,
+          (
+            record { words = refl; few = omega arith; fields = (complexes_short known s, tt) },
+            (
+              wide_head (codes "q12") 5 4 (length known.net.complexes) (length known.net.names + classes (sizes_of known)) refl (omega arith) (omega (arith, c)) (omega (arith, m, k, lists_counted known)),
+              (rests_head (codes "q12") 7 11 refl (omega arith), tt),
+            ),
+          ),
+        ),
+      ),
+    )
+
+confluence_short : IsShortFor meaning IsSmall Q12
+confluence_short = record {
+  head_forms = confluence_heads;
+  row_forms = λ known h s o. confluence_rows known (place_of (heads Q12 (sizes_of known)) h.words) h.numbers s;
+  trees = λ known h s. none_few (is_open h);
+  learn = λ known h rs s o z. same_net Q12 known h rs s no_classes;
 }
 
 pub meaning_short : AllByRecursion (IsShortFor meaning IsSmall) built

@@ -22,7 +22,7 @@ use Rattle.crn_ctext.proofs.Settled.{AllDecided}
 -- ---- places past the ends of vectors
 
 -- as many places as the vectors have together
-abbrev places : List (List ℤ) → ℕ
+abbrev pub places : List (List ℤ) → ℕ
 places [] = 0
 places (v ∷ vs) = length v + places vs
 
@@ -35,15 +35,15 @@ times_none : (x y : ℤ) → y ≡ pos 0 → x *ℤ y ≡ pos 0
 times_none x y e = rw e (omega (arith, ints))
 
 -- past the ends of all vectors each combination is zero
-past_places : (vs : List (List ℤ)) (c : List ℤ) (s : ℕ) → places vs ≤ s → combination_at c vs s ≡ pos 0
+pub past_places : (vs : List (List ℤ)) (c : List ℤ) (s : ℕ) → places vs ≤ s → combination_at c vs s ≡ pos 0
 past_places vs c s h = dot_zero c (column vs s) (λ i. times_none (entry c i) (entry (column vs s) i) (column_past vs s i h))
 
 -- each number, if those from a bound on have the property
-each_number : (P : ℕ → Type 0) → ((k : ℕ) → IsDecided (P k)) → (n : ℕ) → ((k : ℕ) → n ≤ k → P k) → IsDecided ((k : ℕ) → P k)
+pub each_number : (P : ℕ → Type 0) → ((k : ℕ) → IsDecided (P k)) → (n : ℕ) → ((k : ℕ) → n ≤ k → P k) → IsDecided ((k : ℕ) → P k)
 each_number P each n past = moved (λ h k. elim (cases_lt k n) [ inl less ↦ h k less | inr more ↦ past k more ]) (λ h k less. h k) (each_below P each n)
 
 -- some number, if those from a bound on have not
-some_number : (P : ℕ → Type 0) → ((k : ℕ) → IsDecided (P k)) → (n : ℕ) → ((k : ℕ) → n ≤ k → P k → ⊥) → IsDecided ((k : ℕ) × P k)
+pub some_number : (P : ℕ → Type 0) → ((k : ℕ) → IsDecided (P k)) → (n : ℕ) → ((k : ℕ) → n ≤ k → P k → ⊥) → IsDecided ((k : ℕ) × P k)
 some_number P each n past = moved (λ h. (h.0, h.2)) (λ h. elim (cases_lt h.0 n) [ inl less ↦ (h.0, less, h.1) | inr more ↦ absurd (past h.0 more h.1) ]) (some_below P each n)
 
 -- ---- ranks

@@ -129,13 +129,13 @@ rows_fit : (word : List ℕ) (width : ℕ) (rows : List (List ℤ)) → AllByRec
 rows_fit word width [] a = tt
 rows_fit word width (r ∷ rs) a = (free_fits word width r a.0, rows_fit word width rs a.1)
 
-free_rows_fit : (word : List ℕ) (count width : ℕ) (rows : List (List ℤ)) → AreFreeRows count width rows → AllZip Fits (replicate count (free_form word width)) (map (one_word word) rows)
+pub free_rows_fit : (word : List ℕ) (count width : ℕ) (rows : List (List ℤ)) → AreFreeRows count width rows → AllZip Fits (replicate count (free_form word width)) (map (one_word word) rows)
 free_rows_fit word count width rows a =
     let long = a.long in
     let each = a.each in
     subst (λ (n : ℕ). AllZip Fits (replicate n (free_form word width)) (map (one_word word) rows)) long (rows_fit word width rows each)
 
-free_rows_back : (word : List ℕ) (count width : ℕ) (rows : List Record) → AllZip Fits (replicate count (free_form word width)) rows → (vs : List (List ℤ)) × (rows ≡ map (one_word word) vs) × AreFreeRows count width vs
+pub free_rows_back : (word : List ℕ) (count width : ℕ) (rows : List Record) → AllZip Fits (replicate count (free_form word width)) rows → (vs : List (List ℤ)) × (rows ≡ map (one_word word) vs) × AreFreeRows count width vs
 free_rows_back word zero width [] z = ([], refl, record { long = refl; each = tt })
 free_rows_back word zero width (r ∷ rows) z = absurd z
 free_rows_back word (suc n) width [] z = absurd z

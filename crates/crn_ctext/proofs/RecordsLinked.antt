@@ -1,6 +1,7 @@
 -- Formed records of the built questions are the records of formed answers.
-use Rattle.std.proofs.Common.{◌≡◌, ◌≤◌, ◌<◌, ◌+◌, ◌-◌, ◌++◌, ◌∙◌, ℕ, zero, suc, true, false, List, [], ◌∷◌, length, map, refl, sym, ap, ap₂, subst, inl, inr, arith, Global}
-use Rattle.std.specs.Prelude.{ℤ, pos, min, codes, slice_index}
+use Rattle.std.proofs.Common.{◌≡◌, ◌≤◌, ◌<◌, ◌+◌, ◌-◌, ◌++◌, ◌∙◌, ℕ, zero, suc, Bool, true, false, List, [], ◌∷◌, length, map, refl, sym, ap, ap₂, subst, inl, inr, arith, Global}
+use Rattle.std.specs.Prelude.{◌≢◌, ◌⊎◌, ℤ, pos, negsuc, min, codes, replicate, slice_index}
+use Rattle.std.proofs.lemmas.Int.{ints}
 use Rattle.std.specs.List.{AllByRecursion, AllZip, flat_map, range_with_len}
 use Rattle.std.proofs.lemmas.List.{append-nil, length-map}
 use Rattle.crn_vec.specs.Kept.{KeptInts, KeptNums}
@@ -10,30 +11,33 @@ use Rattle.crn_vec.specs.declared.limits.TheConstants.{MAX_BUDGET}
 use Rattle.crn_vec.specs.Influence.{plain_table, strong_table}
 use Rattle.crn_cert.specs.declared.answer.Gap.TheVariants.{Wide, Budget, Rests}
 use Rattle.crn_cert.specs.declared.answer.Verdict.{Verdict}
-use Rattle.crn_cert.specs.declared.answer.Verdict.TheVariants.{Classes, Strong, Rank, Deficiency, Yes, YesWeak, YesVec, NoReaction, NoVec, NoNumber, NoTerminal, NoClass, NoSum, Unknown, NoPair}
+use Rattle.crn_cert.specs.declared.answer.Verdict.TheVariants.{Classes, Strong, Rank, Deficiency, Yes, YesWeak, YesVec, NoReaction, NoVec, NoNumber, NoTerminal, NoClass, NoSum, NoDependence, NoCycle, NotRegular, OnlyZero, Plane, Unknown, NoPair}
 use Rattle.crn_cert.specs.declared.answer.Proof.{Proof}
-use Rattle.crn_cert.specs.declared.answer.Proof.TheVariants.{Nothing, Forest, Strong as StrongTrees, Back, Rank as RankRows, Ranks, One}
+use Rattle.crn_cert.specs.declared.answer.Proof.TheVariants.{Nothing, Forest, Strong as StrongTrees, Back, Rank as RankRows, Ranks, Sides, Ties, One}
 use Rattle.crn_cert.specs.declared.answer.Answer.{Answer}
-use Rattle.crn_cert.specs.Questions.{Earlier, Question, Q1, Q2, Q3, Q4, Q5, Q6, Q7, Q8, Q9, Q10, Q11, Q12, Q13, Q14, Q15}
+use Rattle.crn_cert.specs.Questions.{Earlier, Question, Q1, Q2, Q3, Q4, Q5, Q6, Q7, Q8, Q9, Q10, Q11, Q12, Q13, Q14, Q15, on}
 use Rattle.crn_cert.specs.Formed.{IsBasisOf, IsFormedOf, AreFormed}
-use Rattle.crn_cert.specs.Ranges.{AreFrom, AreFree}
+use Rattle.crn_cert.specs.Ranges.{IsFrom, AreFrom, AreBits, AreFree, AreFreeRows}
 use Rattle.crn_cert.specs.Valid.{linkage_count, class_places}
-use Rattle.crn_ctext.specs.Records.{Record, Form, CountAndPart, ClassWide, Takes, AreNarrow, AreOf, Fits}
-use Rattle.crn_ctext.specs.Kinds.{small, just, small_form, free_form}
-use Rattle.crn_ctext.specs.Questions.{heads, head, yes, no, no_by, wide, rests, open_by, classes, class_forms, spent}
+use Rattle.crn_ctext.specs.Records.{Record, Form, CountAndPart, Several, TwoOf, ClassWide, Takes, AreNarrow, AreOf, AreBetween, Fits}
+use Rattle.crn_ctext.specs.Kinds.{small, just, record_form, small_form, free_form}
+use Rattle.crn_ctext.specs.Questions.{Sizes, heads, head, yes, no, no_by, none_by, wide, rests, open_by, classes, class_forms, side_form, spent}
 use Rattle.crn_ctext.specs.Blocks.{Problem, problems, below}
 use Rattle.crn_ctext.specs.Documents.{one_word, AreTrees, IsOneOf, leaf_forms}
 use Rattle.crn_ctext.specs.Documents as documents
-use Rattle.crn_ctext.specs.Answers.{small_record, rank_records, head_with, open_head, head_of, records_below, proof_nodes, records, all_records}
-use Rattle.crn_ctext.specs.Meaning.{Known, lengths, reactions_by_class, shapes_of, sizes_of, verdict_of, learn_of, verdicts_said, table_problem, meaning}
+use Rattle.crn_ctext.specs.Answers.{small_record, rank_records, side_records, head_with, open_head, head_of, records_below, proof_nodes, records, all_records}
+use Rattle.crn_ctext.specs.Meaning.{Known, pairs_of, lengths, reactions_by_class, shapes_of, sizes_of, verdict_of, learn_of, verdicts_said, table_problem, meaning}
 use Rattle.crn_ctext.specs.Same.{said}
 use Rattle.crn_cert.specs.Built.{built}
 use Rattle.crn_cert.specs.Answers.{verdicts_of}
 use Rattle.crn_ctext.proofs.Alike.{IsAlike, alike_then, labels_alike, counts_alike}
+use Rattle.crn_ctext.proofs.TestsAlike.{pairs_alike}
+use Rattle.crn_ctext.proofs.KnownBefore.{IsStrong, AreKnown, IsRight, after, formed_right, known_then, pairs_known}
+use Rattle.crn_ctext.proofs.ConfluenceLinked.{tie_width}
 use Rattle.crn_ctext.proofs.FrontsSaid.{front_says}
 use Rattle.crn_ctext.proofs.TreeRecords.{tree_of}
 use Rattle.crn_ctext.proofs.MeaningShort.{lists_counted}
-use Rattle.crn_ctext.proofs.RanksLinked.{back_again, naturals_back, record_is, free_row, proof_with, rank_back, classes_back, places_from, sizes_from, places_at, proofs_alike, basis_alike, FitFields, number_back, rising_back, wide_back}
+use Rattle.crn_ctext.proofs.RanksLinked.{back_again, naturals_back, record_is, free_row, free_rows_back, proof_with, rank_back, classes_back, places_from, sizes_from, places_at, proofs_alike, basis_alike, FitFields, number_back, rising_back, wide_back}
 
 -- ---- numbers
 
@@ -442,6 +446,194 @@ one_answered known h rows nodes (form, inr (inr (inr (inr (inl e)))), fits) =
     at_head known Q10 h (open_head Q10 (Rests 6)) rows nodes (rests_back (codes "q10") 7 6 h f) (λ z t. (Unknown (Rests 6), Nothing, (λ earlier e. (refl, refl)), refl, zip_none rows z, t, t, refl))
 one_answered known h rows nodes (form, inr (inr (inr (inr (inr none)))), fits) = absurd none
 
+-- ---- regularity
+
+between_bits : (marks : List ℤ) → AreBetween (pos 0) (pos 1) marks → AllByRecursion (λ x. (x ≡ pos 0) ⊎ (x ≡ pos 1)) marks
+between_bits [] b = tt
+between_bits (pos zero ∷ zs) b = (inl refl, between_bits zs b.1)
+between_bits (pos (suc zero) ∷ zs) b = (inr refl, between_bits zs b.1)
+between_bits (pos (suc (suc n)) ∷ zs) b = absurd (omega (arith, ints, b.0.1))
+between_bits (negsuc n ∷ zs) b = absurd (omega (arith, ints, b.0.0))
+
+-- a row is of a side, after the reaction of its pair
+side_back : (z : Sizes) (pair : ℕ) (r : Record) → Fits (side_form z pair) r → (marks : List ℤ) × (r ≡ one_word (codes "side") (pos pair ∷ marks)) × AreBits z.complexes marks
+side_back z pair r f =
+    let a = number_back pair pair (small z.complexes 0 1 ∷ []) r.numbers f.1 in
+    let b = a.4 in
+    let marks : a.1 ≡ b.0 = b.2 ∙ ap (λ (t : List ℤ). b.0 ++ t) b.4 ∙ append-nil b.0 in
+    let same : pos a.0 ≡ pos pair = ap pos (omega (arith, a.3.0, a.3.1)) in
+    (b.0, record_is r (codes "side" ∷ []) (pos pair ∷ b.0) f.0 (a.2 ∙ ap₂ (λ (x : ℤ) (xs : List ℤ). x ∷ xs) same marks), record { long = b.3.0.0; each = between_bits b.0 b.3.0.1 })
+
+-- the rows are of the sides of these pairs
+sides_back : (z : Sizes) (pairs : List ℕ) (rows : List Record) → AllZip Fits (map (side_form z) pairs) rows
+    → (sides : List (List ℤ)) × (rows ≡ side_records pairs sides) × (length sides ≡ length pairs) × AllByRecursion (AreBits z.complexes) sides
+sides_back z [] [] a = ([], refl, refl, tt)
+sides_back z [] (r ∷ rows) a = absurd a
+sides_back z (p ∷ ps) [] a = absurd a
+sides_back z (p ∷ ps) (r ∷ rows) a =
+    let one = side_back z p r a.0 in
+    let more = sides_back z ps rows a.1 in
+    (one.0 ∷ more.0, ap₂ (λ (x : Record) (xs : List Record). x ∷ xs) one.1 more.1, ap suc more.2, (one.2, more.3))
+
+-- the one row is of a walk
+walk_back : (c : ℕ) (rows : List Record) → AllZip Fits (record_form (codes "walk") (Several 2 c (pos 1) (pos c) ∷ []) ∷ []) rows
+    → (xs : List ℕ) × (rows ≡ small_record (codes "walk") xs ∷ []) × ((2 ≤ length xs) × (length xs ≤ c) × AllByRecursion (IsFrom 1 c) xs)
+walk_back c [] z = absurd z
+walk_back c (r ∷ rows) z =
+    let p = z.0.1 in
+    let t = p.3.0 in
+    let all : r.numbers ≡ p.0 = p.2 ∙ ap (λ (t : List ℤ). p.0 ++ t) p.4 ∙ append-nil p.0 in
+    let back = naturals_back 1 c p.0 t.2 in
+    let long : length p.0 ≡ length back.0 = ap length back.1 ∙ length-map back.0 pos in
+    (back.0, ap₂ (λ (x : Record) (xs : List Record). x ∷ xs) (record_is r (codes "walk" ∷ []) (map pos back.0) z.0.0 (all ∙ back.1)) (zip_none rows z.1), (omega (arith, t.0, long), omega (arith, t.1, long), back.2))
+
+regular_by : (known : Known) (rows nodes : List Record) → IsStrong (on known.earlier Q2) → FromParts known Q11 (head_with Q11 yes []) rows nodes
+regular_by known rows nodes k z t =
+    let pairs = pairs_of known in
+    let b = sides_back (sizes_of known) pairs rows z in (
+      Yes,
+      Sides b.0,
+      (λ earlier e. (tt, record { long = b.2 ∙ ap (λ (t : List ℕ). length t) (pairs_known known k ∙ pairs_alike known.net known.earlier earlier e); each = b.3 })),
+      refl,
+      b.1 ∙ sym (append-nil (side_records pairs b.0)),
+      t,
+      t,
+      refl,
+    )
+
+cycle_by : (known : Known) (n : ℕ) (rows nodes : List Record) → (1 ≤ n) × (n ≤ length known.net.reactions) → FromParts known Q11 (head_with Q11 (no_by (codes "cycle")) (pos n ∷ [])) rows nodes
+unfolding kept
+cycle_by known n rows nodes range z t =
+    let b = walk_back (length known.net.complexes) rows z in (
+      NoCycle n (kept b.0),
+      Nothing,
+      (λ earlier e. (range, record { some = b.2.0; few = b.2.1; each = b.2.2 })),
+      refl,
+      b.1,
+      t,
+      t,
+      ap (λ (rs : List Record). verdict_of Q11 (sizes_of known) (head_with Q11 (no_by (codes "cycle")) (pos n ∷ [])) rs) b.1 ∙ ap (λ (xs : List ℕ). NoCycle n (kept xs)) (back_again b.0),
+    )
+
+regular_answered : (known : Known) (h : Record) (rows nodes : List Record) → IsStrong (on known.earlier Q2) → IsOneOf (heads Q11 (sizes_of known)) h → FromParts known Q11 h rows nodes
+regular_answered known h rows nodes k (form, inl e, fits) =
+    let f : Fits (head (codes "q11") 1 yes []) h = subst (λ (f : Form). Fits f h) e fits in
+    at_head known Q11 h (head_with Q11 yes []) rows nodes (record_is h (codes "q11" ∷ yes) [] f.0 f.1) (regular_by known rows nodes k)
+regular_answered known h rows nodes k (form, inr (inl e), fits) =
+    let f : Fits (head (codes "q11") 2 (no_by (codes "terminal")) (small 1 1 (classes (sizes_of known)) ∷ small 1 2 (length known.net.complexes) ∷ [])) h = subst (λ (f : Form). Fits f h) e fits in
+    let n = class_numbers known h.numbers f.1 in
+    at_head known Q11 h (head_with Q11 (no_by (codes "terminal")) (pos n.0 ∷ pos n.1 ∷ [])) rows nodes (record_is h (codes "q11" ∷ no_by (codes "terminal")) (pos n.0 ∷ pos n.1 ∷ []) f.0 n.2)
+    (λ z t. (NoTerminal n.0 n.1, Nothing, (λ earlier e. ((same_class known earlier n.0 e n.3, n.4), tt)), refl, zip_none rows z, t, t, refl))
+regular_answered known h rows nodes k (form, inr (inr (inl e)), fits) =
+    let f : Fits (head (codes "q11") 3 (no_by (codes "dependence")) []) h = subst (λ (f : Form). Fits f h) e fits in
+    at_head known Q11 h (head_with Q11 (no_by (codes "dependence")) []) rows nodes (record_is h (codes "q11" ∷ no_by (codes "dependence")) [] f.0 f.1) (λ z t. (NoDependence, Nothing, (λ earlier e. (tt, tt)), refl, zip_none rows z, t, t, refl))
+regular_answered known h rows nodes k (form, inr (inr (inr (inl e))), fits) =
+    let f : Fits (head (codes "q11") 4 (no_by (codes "cycle")) (small 1 1 (length known.net.reactions) ∷ [])) h = subst (λ (f : Form). Fits f h) e fits in
+    let n = one_number 1 (length known.net.reactions) h.numbers f.1 in
+    at_head known Q11 h (head_with Q11 (no_by (codes "cycle")) (pos n.0 ∷ [])) rows nodes (record_is h (codes "q11" ∷ no_by (codes "cycle")) (pos n.0 ∷ []) f.0 n.1) (cycle_by known n.0 rows nodes n.2)
+regular_answered known h rows nodes k (form, inr (inr (inr (inr (inl e)))), fits) =
+    let f : Fits (rests (codes "q11") 7 7) h = subst (λ (f : Form). Fits f h) e fits in
+    at_head known Q11 h (open_head Q11 (Rests 7)) rows nodes (rests_back (codes "q11") 7 7 h f) (λ z t. (Unknown (Rests 7), Nothing, (λ earlier e. (refl, refl)), refl, zip_none rows z, t, t, refl))
+regular_answered known h rows nodes k (form, inr (inr (inr (inr (inr none)))), fits) = absurd none
+
+-- ---- confluence vectors
+
+-- two rows of free numbers
+free_pair : (first second : List ℕ) (count : ℕ) (rows : List Record) → AllZip Fits (free_form first count ∷ free_form second count ∷ []) rows
+    → (xs : List ℤ) × (ys : List ℤ) × (rows ≡ one_word first xs ∷ one_word second ys ∷ []) × (AreFree count xs × AreFree count ys)
+free_pair first second count [] z = absurd z
+free_pair first second count (r ∷ rows) z =
+    let a = free_row first count r z.0 in
+    let b = free_alone second count rows z.1 in
+    (r.numbers, b.0, ap₂ (λ (x : Record) (xs : List Record). x ∷ xs) a.0 b.1, (a.1, b.2))
+
+-- a row of free numbers, and then ties
+vector_back : (c count width : ℕ) (rows : List Record) → AllZip Fits (free_form (codes "vec") c ∷ replicate count (free_form (codes "tie") width)) rows
+    → (zs : List ℤ) × (ties : List (List ℤ)) × (rows ≡ one_word (codes "vec") zs ∷ map (one_word (codes "tie")) ties) × (AreFree c zs × AreFreeRows count width ties)
+vector_back c count width [] z = absurd z
+vector_back c count width (r ∷ rows) z =
+    let a = free_row (codes "vec") c r z.0 in
+    let b = free_rows_back (codes "tie") count width rows z.1 in
+    (r.numbers, b.0, ap₂ (λ (x : Record) (xs : List Record). x ∷ xs) a.0 b.1, (a.1, b.2))
+
+vector_by : (known : Known) (rows nodes : List Record) → FromParts known Q12 (head_with Q12 yes []) rows nodes
+unfolding kept_ints
+vector_by known rows nodes z t =
+    let c = length known.net.complexes in
+    let b = vector_back c (c - 1) (length known.net.names + classes (sizes_of known)) rows z in (
+      YesVec (kept_ints b.0),
+      Ties b.1,
+      (λ earlier e. (tt, (b.3.0, subst (λ (w : ℕ). AreFreeRows (c - 1) w b.1) (sym (tie_width known earlier e)) b.3.1))),
+      refl,
+      b.2 ∙ ap (λ (rs : List Record). one_word (codes "vec") b.0 ∷ rs) (sym (append-nil (map (one_word (codes "tie")) b.1))),
+      t,
+      t,
+      ap (λ (rs : List Record). verdict_of Q12 (sizes_of known) (head_with Q12 yes []) rs) b.2,
+    )
+
+zeros_by : (known : Known) (rows nodes : List Record) → FromParts known Q12 (head_with Q12 (none_by (codes "zero")) []) rows nodes
+zeros_by known rows nodes z t =
+    let c = length known.net.complexes in
+    let b = free_rows_back (codes "tie") c (length known.net.names + classes (sizes_of known)) rows z in (
+      OnlyZero,
+      Ties b.0,
+      (λ earlier e. (tt, subst (λ (w : ℕ). AreFreeRows c w b.0) (sym (tie_width known earlier e)) b.2)),
+      refl,
+      b.1 ∙ sym (append-nil (map (one_word (codes "tie")) b.0)),
+      t,
+      t,
+      refl,
+    )
+
+-- two different numbers
+two_numbers : (c : ℕ) (zs : List ℤ) → FitFields (TwoOf c ∷ []) zs → (a : ℕ) × (b : ℕ) × (zs ≡ pos a ∷ pos b ∷ []) × (IsFrom 1 c a × IsFrom 1 c b × (a ≢ b))
+two_numbers c zs p =
+    let t = p.3.0 in
+    let each : AreBetween (pos 1) (pos c) (pos t.0 ∷ pos t.1 ∷ []) = subst (λ (x : List ℤ). AreBetween (pos 1) (pos c) x) t.2 t.4 in
+    let all : zs ≡ p.0 = p.2 ∙ ap (λ (x : List ℤ). p.0 ++ x) p.4 ∙ append-nil p.0 in
+    (t.0, t.1, all ∙ t.2, ((omega (arith, ints, each.0.0), omega (arith, ints, each.0.1)), (omega (arith, ints, each.1.0.0), omega (arith, ints, each.1.0.1)), t.3))
+
+plane_by : (known : Known) (a b : ℕ) (rows nodes : List Record) → IsFrom 1 (length known.net.complexes) a × IsFrom 1 (length known.net.complexes) b × (a ≢ b) → FromParts known Q12 (head_with Q12 (none_by (codes "plane")) (pos a ∷ pos b ∷ [])) rows nodes
+unfolding kept_ints
+plane_by known a b rows nodes range z t =
+    let v = free_pair (codes "vec") (codes "vec") (length known.net.complexes) rows z in (
+      Plane a b (kept_ints v.0) (kept_ints v.1),
+      Nothing,
+      (λ earlier e. (range, (v.3.0, v.3.1))),
+      refl,
+      v.2,
+      t,
+      t,
+      ap (λ (rs : List Record). verdict_of Q12 (sizes_of known) (head_with Q12 (none_by (codes "plane")) (pos a ∷ pos b ∷ [])) rs) v.2,
+    )
+
+confluence_answered : (known : Known) (h : Record) (rows nodes : List Record) → IsOneOf (heads Q12 (sizes_of known)) h → FromParts known Q12 h rows nodes
+unfolding kept
+confluence_answered known h rows nodes (form, inl e, fits) =
+    let f : Fits (head (codes "q12") 1 yes []) h = subst (λ (f : Form). Fits f h) e fits in
+    at_head known Q12 h (head_with Q12 yes []) rows nodes (record_is h (codes "q12" ∷ yes) [] f.0 f.1) (vector_by known rows nodes)
+confluence_answered known h rows nodes (form, inr (inl e), fits) =
+    let f : Fits (head (codes "q12") 2 (none_by (codes "regular")) []) h = subst (λ (f : Form). Fits f h) e fits in
+    at_head known Q12 h (head_with Q12 (none_by (codes "regular")) []) rows nodes (record_is h (codes "q12" ∷ none_by (codes "regular")) [] f.0 f.1) (λ z t. (NotRegular, Nothing, (λ earlier e. (tt, tt)), refl, zip_none rows z, t, t, refl))
+confluence_answered known h rows nodes (form, inr (inr (inl e)), fits) =
+    let f : Fits (head (codes "q12") 3 (none_by (codes "zero")) []) h = subst (λ (f : Form). Fits f h) e fits in
+    at_head known Q12 h (head_with Q12 (none_by (codes "zero")) []) rows nodes (record_is h (codes "q12" ∷ none_by (codes "zero")) [] f.0 f.1) (zeros_by known rows nodes)
+confluence_answered known h rows nodes (form, inr (inr (inr (inl e))), fits) =
+    let f : Fits (head (codes "q12") 4 (none_by (codes "plane")) (TwoOf (length known.net.complexes) ∷ [])) h = subst (λ (f : Form). Fits f h) e fits in
+    let n = two_numbers (length known.net.complexes) h.numbers f.1 in
+    at_head known Q12 h (head_with Q12 (none_by (codes "plane")) (pos n.0 ∷ pos n.1 ∷ [])) rows nodes (record_is h (codes "q12" ∷ none_by (codes "plane")) (pos n.0 ∷ pos n.1 ∷ []) f.0 n.2) (plane_by known n.0 n.1 rows nodes n.3)
+confluence_answered known h rows nodes (form, inr (inr (inr (inr (inl e)))), fits) =
+    let c = length known.net.complexes in
+    let width = length known.net.names + classes (sizes_of known) in
+    let f : Fits (wide (codes "q12") 5 4 c width) h = subst (λ (f : Form). Fits f h) e fits in
+    let b = wide_back 4 c width h.numbers f.1 in
+    at_head known Q12 h (open_head Q12 (Wide 4 0 b.0 (kept b.1))) rows nodes (record_is h (codes "q12" ∷ open_by (codes "wide")) (map pos (4 ∷ 0 ∷ b.0 ∷ b.1)) f.0 b.2) (λ z t.
+    (Unknown (Wide 4 0 b.0 (kept b.1)), Nothing, (λ earlier e. ((refl, refl, subst (λ (w : ℕ). IsBasisOf c w b.0 b.1) (sym (tie_width known earlier e)) b.3), refl)), refl, zip_none rows z, t, t, open_by_wide known Q12 4 0 b.0 b.1 rows))
+confluence_answered known h rows nodes (form, inr (inr (inr (inr (inr (inl e))))), fits) =
+    let f : Fits (rests (codes "q12") 7 11) h = subst (λ (f : Form). Fits f h) e fits in
+    at_head known Q12 h (open_head Q12 (Rests 11)) rows nodes (rests_back (codes "q12") 7 11 h f) (λ z t. (Unknown (Rests 11), Nothing, (λ earlier e. (refl, refl)), refl, zip_none rows z, t, t, refl))
+confluence_answered known h rows nodes (form, inr (inr (inr (inr (inr (inr none))))), fits) = absurd none
+
 -- ---- answers with trees
 
 -- The parts of a block are those of an answer that is formed after verdicts that say what is known, and its verdict is the one that is read of the block.
@@ -455,15 +647,6 @@ TellParts known q head rows nodes = AllZip Fits (below q (shapes_of known) head)
 
 told_at : (known : Known) (q : Question) (head other : Record) (rows nodes : List Record) → head ≡ other → TellParts known q other rows nodes → TellParts known q head rows nodes
 told_at known q head other rows nodes e f = subst (λ (h : Record). TellParts known q h rows nodes) (sym e) f
-
--- two rows of free numbers
-free_pair : (first second : List ℕ) (count : ℕ) (rows : List Record) → AllZip Fits (free_form first count ∷ free_form second count ∷ []) rows
-    → (xs : List ℤ) × (ys : List ℤ) × (rows ≡ one_word first xs ∷ one_word second ys ∷ []) × (AreFree count xs × AreFree count ys)
-free_pair first second count [] z = absurd z
-free_pair first second count (r ∷ rows) z =
-    let a = free_row first count r z.0 in
-    let b = free_alone second count rows z.1 in
-    (r.numbers, b.0, ap₂ (λ (x : Record) (xs : List Record). x ∷ xs) a.0 b.1, (a.1, b.2))
 
 concordance_answered : Global → (known : Known) (h : Record) (rows nodes : List Record) → IsOneOf (heads Q14 (sizes_of known)) h → TellParts known Q14 h rows nodes
 unfolding kept kept_ints
@@ -524,42 +707,60 @@ IsReadable q = (known : Known) (h : Record) (rows nodes : List Record) → IsOne
 abbrev pub IsTellable : Question → Type 0
 IsTellable q = Global → (known : Known) (h : Record) (rows nodes : List Record) → IsOneOf (heads q (sizes_of known)) h → TellParts known q h rows nodes
 
-abbrev pub ReadFor : Question → Type 0
-ReadFor Q14 = IsTellable Q14
-ReadFor Q15 = IsTellable Q15
-ReadFor q = IsReadable q
+-- the same of a question that rests on the strong classes
+abbrev pub IsReadableAfter : Bool → Question → Type 0
+IsReadableAfter b q = (known : Known) (h : Record) (rows nodes : List Record) → AreKnown b known.earlier → IsOneOf (heads q (sizes_of known)) h → FromParts known q h rows nodes
 
-tellable : (q : Question) → IsReadable q → IsTellable q
-tellable q r alloc known h rows nodes o z t = let a = r known h rows nodes o z t in (a.0, a.1, a.2, a.3, a.4, a.5, a.7)
+abbrev pub ReadFor : Bool → Question → Type 0
+ReadFor b Q11 = IsReadableAfter b Q11
+ReadFor b Q14 = IsTellable Q14
+ReadFor b Q15 = IsTellable Q15
+ReadFor b q = IsReadable q
 
-told : (q : Question) → ReadFor q → IsTellable q
-told Q1 r = tellable Q1 r
-told Q2 r = tellable Q2 r
-told Q3 r = tellable Q3 r
-told Q4 r = tellable Q4 r
-told Q5 r = tellable Q5 r
-told Q6 r = tellable Q6 r
-told Q7 r = tellable Q7 r
-told Q8 r = tellable Q8 r
-told Q9 r = tellable Q9 r
-told Q10 r = tellable Q10 r
-told Q11 r = tellable Q11 r
-told Q12 r = tellable Q12 r
-told Q13 r = tellable Q13 r
-told Q14 r = r
-told Q15 r = r
+-- each block of these questions is read, if the strong classes are known where they are said to be
+abbrev pub AreReadFor : Bool → List Question → Type 0
+AreReadFor b [] = Unit {0}
+AreReadFor b (q ∷ qs) = ReadFor b q × AreReadFor (after b q) qs
 
-answers_by : Global → (qs : List Question) → AllByRecursion ReadFor qs → (known : Known) (answers : List (List Record)) → documents.AreFormed meaning qs known answers
+abbrev IsGivenAfter : Bool → Question → Type 0
+IsGivenAfter b q = Global → (known : Known) (h : Record) (rows nodes : List Record) → AreKnown b known.earlier → IsOneOf (heads q (sizes_of known)) h → TellParts known q h rows nodes
+
+read_after : (b : Bool) (q : Question) → IsReadableAfter b q → IsGivenAfter b q
+read_after b q r alloc known h rows nodes k o z t = let a = r known h rows nodes k o z t in (a.0, a.1, a.2, a.3, a.4, a.5, a.7)
+
+tellable : (b : Bool) (q : Question) → IsReadable q → IsGivenAfter b q
+tellable b q r = read_after b q (λ known h rows nodes k o. r known h rows nodes o)
+
+told : (b : Bool) (q : Question) → ReadFor b q → IsGivenAfter b q
+told b Q1 r = tellable b Q1 r
+told b Q2 r = tellable b Q2 r
+told b Q3 r = tellable b Q3 r
+told b Q4 r = tellable b Q4 r
+told b Q5 r = tellable b Q5 r
+told b Q6 r = tellable b Q6 r
+told b Q7 r = tellable b Q7 r
+told b Q8 r = tellable b Q8 r
+told b Q9 r = tellable b Q9 r
+told b Q10 r = tellable b Q10 r
+told b Q11 r = read_after b Q11 r
+told b Q12 r = tellable b Q12 r
+told b Q13 r = tellable b Q13 r
+told b Q14 r = λ alloc known h rows nodes k o. r alloc known h rows nodes o
+told b Q15 r = λ alloc known h rows nodes k o. r alloc known h rows nodes o
+
+answers_by : Global → (b : Bool) (qs : List Question) → AreReadFor b qs → (known : Known) (answers : List (List Record)) → AreKnown b known.earlier → documents.AreFormed meaning qs known answers
     → (given : List Answer) × ((earlier : Earlier) → IsAlike known earlier → AreFormed known.net earlier qs given) × (all_records meaning qs known given ≡ answers) × (verdicts_said qs known answers ≡ verdicts_of given)
 unfolding documents.AreFormed all_records
-answers_by alloc [] r known answers f = ([], (λ earlier e. tt), sym f, refl)
-answers_by alloc (q ∷ qs) r known [] f = absurd f
-answers_by alloc (q ∷ qs) r known (rs ∷ more) f =
+answers_by alloc b [] r known answers k f = ([], (λ earlier e. tt), sym f, refl)
+answers_by alloc b (q ∷ qs) r known [] k f = absurd f
+answers_by alloc b (q ∷ qs) r known (rs ∷ more) k f =
     let p = f.0 in
     let formed = f.1 in
-    let one = told q r.0 alloc known p.head p.rows p.nodes formed.head formed.rows formed.trees in
+    let one = told b q r.0 alloc known p.head p.rows p.nodes k formed.head formed.rows formed.trees in
     let a : Answer = record { verdict = one.0; proof = one.1 } in
-    let rest = answers_by alloc qs r.1 (meaning.learn q known p.head p.rows) more f.2 in
+    let here : IsFormedOf known.net known.earlier q one.0 one.1 = let g = one.2 in g known.earlier refl in
+    let right : IsRight q (verdict_of q (sizes_of known) p.head p.rows) = subst (IsRight q) (sym one.6) (formed_right known.net known.earlier q one.0 one.1 here) in
+    let rest = answers_by alloc (after b q) qs r.1 (meaning.learn q known p.head p.rows) more (known_then b q known.earlier (verdict_of q (sizes_of known) p.head p.rows) k right) f.2 in
     let learned : meaning.learn q known (head_of q a.verdict) (records_below (shapes_of known) a) ≡ meaning.learn q known p.head p.rows = ap₂ (λ (h : Record) (rows : List Record). meaning.learn q known h rows) (sym one.3) (sym one.4) in
     let block : records q (shapes_of known) a ≡ rs = ap₂ (λ (h : Record) (t : List Record). h ∷ t) (sym one.3) (ap₂ (λ (x y : List Record). x ++ y) (sym one.4) (sym one.5)) ∙ sym p.all in
     let later : all_records meaning qs (meaning.learn q known (head_of q a.verdict) (records_below (shapes_of known) a)) rest.0 ≡ more = ap (λ (k : Known). all_records meaning qs k rest.0) learned ∙ rest.2 in
@@ -571,5 +772,5 @@ answers_by alloc (q ∷ qs) r known (rs ∷ more) f =
 
 pub records_answered : Global → (net : Net) (answers : List (List Record)) → documents.AreFormed meaning built (meaning.start net) answers → (given : List Answer) × AreFormed net [] built given × (all_records meaning built (meaning.start net) given ≡ answers) × (verdicts_said built (meaning.start net) answers ≡ verdicts_of given)
 records_answered alloc net answers f =
-    let r = answers_by alloc built (linkage_answered, (strong_answered, (reversible_answered, (weak_answered, (rank_answered, (deficiency_answered, (dependence_answered, (conservation_answered, (zero_answered, (one_answered, tt)))))))))) (meaning.start net) answers f in
+    let r = answers_by alloc false built (linkage_answered, (strong_answered, (reversible_answered, (weak_answered, (rank_answered, (deficiency_answered, (dependence_answered, (conservation_answered, (zero_answered, (one_answered, tt)))))))))) (meaning.start net) answers tt f in
     (r.0, (let g = r.1 in g [] refl), r.2, r.3)

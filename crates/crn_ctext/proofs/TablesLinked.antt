@@ -1,5 +1,5 @@
 -- Answers on concordance and their records: a tree, or two lists that show the table discordant.
-use Rattle.std.proofs.Common.{◌≡◌, ◌⊎◌, ◌≤◌, ◌+◌, ◌++◌, ◌∙◌, ℕ, List, [], ◌∷◌, length, map, refl, sym, ap, subst, inl, inr, arith}
+use Rattle.std.proofs.Common.{◌≡◌, ◌⊎◌, ◌≤◌, ◌+◌, ◌++◌, ◌∙◌, ℕ, Bool, List, [], ◌∷◌, length, map, refl, sym, ap, subst, inl, inr, arith}
 use Rattle.std.specs.Prelude.{ℤ, pos, codes}
 use Rattle.std.specs.List.{range_with_len}
 use Rattle.std.proofs.lemmas.List.{append-nil, length-map}
@@ -172,13 +172,13 @@ plain_rows net earlier (NoPair alpha weights) p f = f.1
 plain_rows net earlier (Unknown gap) p f = f.1
 plain_rows net earlier v p f = absurd f.0
 
-pub plain_joined : IsJoinedFor Q14
-plain_joined = record {
-  formed = λ known earlier v p e f. plain_formed known earlier v p f;
-  there = λ known earlier v p e f valid. plain_there known earlier v p f valid;
-  back = λ known earlier v p e f valid. plain_back known earlier v p f valid;
-  says = λ known earlier v p e f. plain_says known earlier v p f;
-  shows = λ known earlier later v w p r d e f g head rows nodes.
+pub plain_joined : (b : Bool) → IsJoinedFor b Q14
+plain_joined b = record {
+  formed = λ known earlier v p k e f. plain_formed known earlier v p f;
+  there = λ known earlier v p k e f valid. plain_there known earlier v p f valid;
+  back = λ known earlier v p k e f valid. plain_back known earlier v p f valid;
+  says = λ known earlier v p k e f. plain_says known earlier v p f;
+  shows = λ known earlier later v w p r k d e f g head rows nodes.
       shown_by known.net (table_problem known.net (plain_table known.net)) p r (tree_or_none known.net v p (plain_rows known.net earlier v p f)) (tree_or_none known.net w r (plain_rows known.net later w r g)) nodes;
 }
 
@@ -253,12 +253,12 @@ strong_rows net earlier (NoPair alpha weights) p f = f.1
 strong_rows net earlier (Unknown gap) p f = f.1
 strong_rows net earlier v p f = absurd f.0
 
-pub strong_joined : IsJoinedFor Q15
-strong_joined = record {
-  formed = λ known earlier v p e f. strong_formed known earlier v p f;
-  there = λ known earlier v p e f valid. strong_there known earlier v p f valid;
-  back = λ known earlier v p e f valid. strong_back known earlier v p f valid;
-  says = λ known earlier v p e f. strong_says known earlier v p f;
-  shows = λ known earlier later v w p r d e f g head rows nodes.
+pub strong_joined : (b : Bool) → IsJoinedFor b Q15
+strong_joined b = record {
+  formed = λ known earlier v p k e f. strong_formed known earlier v p f;
+  there = λ known earlier v p k e f valid. strong_there known earlier v p f valid;
+  back = λ known earlier v p k e f valid. strong_back known earlier v p f valid;
+  says = λ known earlier v p k e f. strong_says known earlier v p f;
+  shows = λ known earlier later v w p r k d e f g head rows nodes.
       shown_by known.net (table_problem known.net (strong_table known.net)) p r (tree_or_none known.net v p (strong_rows known.net earlier v p f)) (tree_or_none known.net w r (strong_rows known.net later w r g)) nodes;
 }

@@ -26,7 +26,7 @@ pub one_each_decided : (earlier : Earlier) → IsDecided (HaveOneEach earlier)
 one_each_decided earlier = one_before_decided earlier (suc (linkage_count earlier))
 
 -- three facts
-three_decided : {P Q R : Type 0} → IsDecided P → IsDecided Q → IsDecided R → IsDecided (P × Q × R)
+pub three_decided : {P Q R : Type 0} → IsDecided P → IsDecided Q → IsDecided R → IsDecided (P × Q × R)
 three_decided a b c = moved (λ h. (h.0, h.1.0, h.1.1)) (λ h. (h.0, (h.1, h.2))) (both_decided a (both_decided b c))
 
 pub first_split_decided : (earlier : Earlier) (k count : ℕ) → IsDecided (IsFirstSplit earlier k count)

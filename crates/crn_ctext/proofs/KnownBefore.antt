@@ -1,0 +1,112 @@
+-- The strong classes are known after question 2, and so are the linked pairs within terminal classes.
+use Rattle.std.proofs.Common.{◌≡◌, ◌==◌, ◌++◌, ◌∙◌, Bool, true, false, if◌then◌else◌, [], ◌∷◌, refl, sym, ap, subst, inl, inr}
+use Rattle.std.specs.Prelude.{◌||◌}
+use Rattle.std.specs.List.{AllByRecursion}
+use Rattle.std.proofs.lemmas.Bool.{cases_Bool}
+use Rattle.crn_vec.specs.Network.{Net}
+use Rattle.crn_cert.specs.declared.answer.Gap.TheVariants.{Wide, Budget, Rests}
+use Rattle.crn_cert.specs.declared.answer.Verdict.{Verdict}
+use Rattle.crn_cert.specs.declared.answer.Verdict.TheVariants.{Strong, Unknown}
+use Rattle.crn_cert.specs.declared.answer.Proof.{Proof}
+use Rattle.crn_cert.specs.Questions.{Earlier, Question, Q2, number, on, labels_of, exits_of}
+use Rattle.crn_cert.specs.Formed.{IsFormedOf}
+use Rattle.crn_cert.specs.Valid.{pair_places}
+use Rattle.crn_ctext.specs.Meaning.{Known, pairs_by, pairs_of}
+use Rattle.crn_ctext.specs.Same.{said}
+use Rattle.crn_ctext.proofs.Alike.{IsAlike, on_alike}
+use Rattle.crn_ctext.proofs.TestsAlike.{pairs_by_lists}
+
+-- the verdict gives strong classes
+abbrev pub IsStrong : Verdict → Type 0
+IsStrong (Strong count terminal label exit) = Unit {0}
+IsStrong v = ⊥
+
+-- none of these verdicts is on question 2
+abbrev pub HaveNone : Earlier → Type 0
+HaveNone earlier = AllByRecursion (λ (e : Question × Verdict). (number e.0 == 2) ≡ false) earlier
+
+-- the verdict on question 2 gives strong classes, or there is none yet
+abbrev pub AreKnown : Bool → Earlier → Type 0
+AreKnown true earlier = IsStrong (on earlier Q2)
+AreKnown false earlier = HaveNone earlier
+
+abbrev is_second : Question → Bool
+is_second Q2 = true
+is_second q = false
+
+-- whether there is one after this question
+abbrev pub after : Bool → Question → Bool
+after b q = b || is_second q
+
+-- the verdict on question 2 gives strong classes
+abbrev pub IsRight : Question → Verdict → Type 0
+IsRight Q2 v = IsStrong v
+IsRight q v = Unit {0}
+
+-- ---- verdicts of formed answers
+
+pub formed_right : (net : Net) (earlier : Earlier) (q : Question) (v : Verdict) (p : Proof) → IsFormedOf net earlier q v p → IsRight q v
+formed_right net earlier Q2 (Strong count terminal label exit) p f = tt
+formed_right net earlier Q2 (Unknown (Wide system class index basis)) p f = absurd f.0
+formed_right net earlier Q2 (Unknown (Budget nodes)) p f = absurd f.0
+formed_right net earlier Q2 (Unknown (Rests question)) p f = absurd f.0
+formed_right net earlier Q2 v p f = absurd f.0
+formed_right net earlier q v p f = tt
+
+said_strong : (v : Verdict) → IsStrong (said v) ≡ IsStrong v
+said_strong (Strong count terminal label exit) = refl
+said_strong v = refl
+
+strong_moves : (v w : Verdict) → said v ≡ said w → IsStrong w → IsStrong v
+strong_moves v w e s = subst (λ (A : Type 0). A) (sym (said_strong w) ∙ ap IsStrong (sym e) ∙ said_strong v) s
+
+-- so it is if verdicts that say the same give them
+pub alike_strong : (known : Known) (earlier : Earlier) → IsAlike known earlier → IsStrong (on earlier Q2) → IsStrong (on known.earlier Q2)
+alike_strong known earlier e s = strong_moves (on known.earlier Q2) (on earlier Q2) (on_alike known.earlier earlier Q2 e) s
+
+-- so it is for a verdict that says the same
+pub said_right : (q : Question) (v w : Verdict) → said v ≡ said w → IsRight q w → IsRight q v
+said_right Q2 v w e r = strong_moves v w e r
+said_right q v w e r = tt
+
+-- ---- one more verdict
+
+-- a verdict on question 2 that gives strong classes is found before later ones
+pub on_stays : (es more : Earlier) → IsStrong (on es Q2) → on (es ++ more) Q2 ≡ on es Q2
+on_stays [] more s = absurd s
+on_stays (e ∷ es) more s = elim (cases_Bool (number e.0 == 2)) [
+  | inl here ↦ subst (λ (t : Bool). (if t then e.1 else on (es ++ more) Q2) ≡ (if t then e.1 else on es Q2)) (sym here) refl
+  | inr later ↦ subst (λ (t : Bool). (if t then e.1 else on (es ++ more) Q2) ≡ (if t then e.1 else on es Q2)) (sym later) (on_stays es more (subst (λ (t : Bool). IsStrong (if t then e.1 else on es Q2)) later s))
+]
+
+pub strong_stays : (es more : Earlier) → IsStrong (on es Q2) → IsStrong (on (es ++ more) Q2)
+strong_stays es more s = subst IsStrong (sym (on_stays es more s)) s
+
+on_new : (es : Earlier) (v : Verdict) → HaveNone es → on (es ++ (Q2, v) ∷ []) Q2 ≡ v
+on_new [] v none = refl
+on_new (e ∷ es) v none = subst (λ (t : Bool). (if t then e.1 else on (es ++ (Q2, v) ∷ []) Q2) ≡ v) (sym none.0) (on_new es v none.1)
+
+none_then : (es : Earlier) (q : Question) (v : Verdict) → HaveNone es → (number q == 2) ≡ false → HaveNone (es ++ (q, v) ∷ [])
+none_then [] q v none other = (other, tt)
+none_then (e ∷ es) q v none other = (none.0, none_then es q v none.1 other)
+
+pub known_then : (b : Bool) (q : Question) (earlier : Earlier) (v : Verdict) → AreKnown b earlier → IsRight q v → AreKnown (after b q) (earlier ++ (q, v) ∷ [])
+known_then true q earlier v k r = strong_stays earlier ((q, v) ∷ []) k
+known_then false Q2 earlier v k r = subst IsStrong (sym (on_new earlier v k)) r
+known_then false q earlier v k r = none_then earlier q v k refl
+
+-- ---- the pairs
+
+pairs_by_strong : (known : Known) (v : Verdict) → IsStrong v → pairs_by known v ≡ pair_places known.net known.earlier
+pairs_by_strong known (Strong count terminal label exit) s = refl
+pairs_by_strong known v s = absurd s
+
+-- the pairs that are known are those of the earlier verdicts
+pub pairs_known : (known : Known) → IsStrong (on known.earlier Q2) → pairs_of known ≡ pair_places known.net known.earlier
+pairs_known known s = pairs_by_strong known (on known.earlier Q2) s
+
+-- they stay the same after later questions
+pub pairs_stay : (known : Known) (more : Earlier) → IsStrong (on known.earlier Q2) → pairs_of (record { net = known.net; earlier = known.earlier ++ more }) ≡ pairs_of known
+pairs_stay known more s =
+    let later : Known = record { net = known.net; earlier = known.earlier ++ more } in
+    pairs_known later (strong_stays known.earlier more s) ∙ ap (λ (v : Verdict). pairs_by_lists known.net (labels_of v) (exits_of v)) (on_stays known.earlier more s) ∙ sym (pairs_known known s)
