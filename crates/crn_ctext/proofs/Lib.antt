@@ -4,6 +4,7 @@ mod WrittenLeaves
 mod WrittenBlocks
 mod CutLists
 mod WrittenAnswers
+mod PairsWritten
 mod Counted
 pub mod CallerLemmas
 mod Courses

@@ -16,11 +16,12 @@ use Rattle.crn_ctext.specs.Shares.{as_share}
 use Rattle.std.proofs.lemmas.List.{append-nil}
 use Rattle.crn_vec.specs.Network.{Net, IsNetwork}
 use Rattle.crn_cert.proofs.CallerLemmas.{shares_fit as cut_shares_fit}
-use Rattle.crn_ctext.proofs.TablesLinked.{TableRows, IsTreeOrNone, tree_or_none}
+use Rattle.crn_ctext.proofs.TablesLinked.{TableRows, tree_or_none}
 use Rattle.crn_ctext.proofs.CutLists.{some_species, few_species, one_tree_cuts}
 use Rattle.crn_cert.specs.Built.{built}
-use Rattle.crn_cert.specs.Formed.{AreFormed, RowsMayBe, RowsLinkage, RowsStrong, RowsReversible, RowsWeak, RowsRank, RowsDeficiency, RowsPositive, RowsZero, RowsOne}
-use Rattle.crn_cert.specs.Questions.{Earlier, Question, Q1, Q2, Q3, Q4, Q5, Q6, Q7, Q8, Q9, Q10, questions, Q11, Q12, Q13, Q14, Q15}
+use Rattle.crn_cert.specs.Formed.{AreFormed, RowsMayBe, RowsLinkage, RowsStrong, RowsReversible, RowsWeak, RowsRank, RowsDeficiency, RowsPositive, RowsZero, RowsOne, RowsRegular, RowsConfluence, IsFormed as IsFormedAnswer}
+use Rattle.crn_cert.specs.Questions.{Earlier, Question, Q1, Q2, Q3, Q4, Q5, Q6, Q7, Q8, Q9, Q10, questions, Q11, Q12, Q13, Q14, Q15, on}
+use Rattle.crn_cert.specs.Valid.{pair_places}
 use Rattle.crn_cert.specs.declared.answer.Verdict.{Verdict}
 use Rattle.crn_cert.specs.declared.answer.Verdict.TheVariants.{Classes, Strong, Rank, Deficiency, Yes, YesWeak, YesVec, YesSignal, No, NoReaction, NoVec, NoNumber, NoTerminal, NoClass, NoSum, NoDependence, NoCycle, NoPair, NotRegular, OnlyZero, Plane, NotApplicable, Unknown}
 use Rattle.crn_cert.specs.declared.answer.Proof.{Proof}
@@ -28,18 +29,21 @@ use Rattle.crn_cert.specs.declared.answer.Proof.TheVariants as proof
 use Rattle.crn_cert.specs.declared.answer.Answer.{Answer}
 use Rattle.crn_ctext.specs.Records.{Record, IsNarrow}
 use Rattle.crn_ctext.specs.Questions.{Shapes, opens}
-use Rattle.crn_ctext.specs.Answers.{records, all_records, head_of, records_below, proof_records, proof_nodes, nodes}
+use Rattle.crn_ctext.specs.Answers.{records, all_records, head_of, verdict_records, later_records, side_records, records_below, proof_records, proof_nodes, nodes}
 use Rattle.crn_ctext.specs.Documents.{Share, FitsShare, is_cut_leaf, cut_lists, document, document2, opening, record_lines, table_records, written, in_sections, section}
-use Rattle.crn_ctext.specs.Meaning.{Known, meaning}
+use Rattle.crn_ctext.specs.Meaning.{Known, pairs_of, shapes_of, sizes_of, verdict_of, meaning}
 use Rattle.crn_ctext.specs.Linked.{records_of}
-use Rattle.crn_ctext.specs.Inner.Written.{shapes_with, blocks}
+use Rattle.crn_ctext.specs.Inner.Written.{shapes_with, blocks, strong_pairs, pairs_in}
+use Rattle.crn_ctext.proofs.Alike.{IsAlike}
+use Rattle.crn_ctext.proofs.TestsAlike.{pairs_alike}
+use Rattle.crn_ctext.proofs.KnownBefore.{IsStrong, formed_right, strong_stays, alike_strong, pairs_known, pairs_stay}
+use Rattle.crn_ctext.proofs.AnswersLinked.{linkage_next, strong_next}
 use Rattle.crn_ctext.proofs.WrittenLines.{lines_append}
 use Rattle.crn_ctext.proofs.WrittenLeaves.{IsPlain, written_none}
 use Rattle.crn_ctext.proofs.WrittenBlocks.{blocks_short, front_plain}
 
--- the proof has no sides of pairs and no trees
+-- the proof has no trees
 abbrev pub IsShort : Proof → Type 0
-IsShort (proof.Sides rows) = ⊥
 IsShort (proof.One tree) = ⊥
 IsShort (proof.Two tree second) = ⊥
 IsShort p = Unit {0}
@@ -49,19 +53,7 @@ abbrev pub SeesNoPairs : Proof → Type 0
 SeesNoPairs (proof.Sides rows) = ⊥
 SeesNoPairs p = Unit {0}
 
-short_sees : (p : Proof) → IsShort p → SeesNoPairs p
-short_sees proof.Nothing h = tt
-short_sees (proof.Forest up depth) h = tt
-short_sees (proof.Strong from from_depth to to_depth level) h = tt
-short_sees (proof.Back back) h = tt
-short_sees (proof.Rank p) h = tt
-short_sees (proof.Ranks ps) h = tt
-short_sees (proof.Sides rows) h = h
-short_sees (proof.Ties rows) h = tt
-short_sees (proof.One tree) h = tt
-short_sees (proof.Two tree second) h = tt
-
--- an answer without sides has the same records, whatever the pairs
+-- without sides the records of a proof are the same, whatever the pairs
 same_rows : (s other : Shapes) (p : Proof) → SeesNoPairs p → proof_records s p ≡ proof_records other p
 same_rows s other proof.Nothing h = refl
 same_rows s other (proof.Forest up depth) h = refl
@@ -74,10 +66,23 @@ same_rows s other (proof.Ties rows) h = refl
 same_rows s other (proof.One tree) h = refl
 same_rows s other (proof.Two tree second) h = refl
 
-same_records : (q : Question) (s other : Shapes) (a : Answer) → SeesNoPairs a.proof → records q s a ≡ records q other a
-same_records q s other a h = rw (same_rows s other a.proof h) refl
+-- so they are with the same pairs
+rows_by_pairs : (s other : Shapes) (p : Proof) → s.pair_reactions ≡ other.pair_reactions → proof_records s p ≡ proof_records other p
+rows_by_pairs s other proof.Nothing e = refl
+rows_by_pairs s other (proof.Forest up depth) e = refl
+rows_by_pairs s other (proof.Strong from from_depth to to_depth level) e = refl
+rows_by_pairs s other (proof.Back back) e = refl
+rows_by_pairs s other (proof.Rank p) e = refl
+rows_by_pairs s other (proof.Ranks ps) e = refl
+rows_by_pairs s other (proof.Sides rows) e = ap (λ (pairs : List ℕ). side_records pairs rows) e
+rows_by_pairs s other (proof.Ties rows) e = refl
+rows_by_pairs s other (proof.One tree) e = refl
+rows_by_pairs s other (proof.Two tree second) e = refl
 
--- ---- formed answers to the questions that are built have neither
+same_records : (q : Question) (s other : Shapes) (a : Answer) → proof_records s a.proof ≡ proof_records other a.proof → records q s a ≡ records q other a
+same_records q s other a e = ap (λ (rs : List Record). head_of q a.verdict ∷ (verdict_records a.verdict ++ rs ++ later_records a.verdict) ++ proof_nodes a.proof) e
+
+-- ---- formed answers to the questions that are built have no trees
 
 no_linkage : (net : Net) (v : Verdict) (p : Proof) → RowsLinkage net v p → IsShort p
 no_linkage net (Classes count label) (proof.Nothing) h = absurd h
@@ -395,11 +400,60 @@ rows_one : (net : Net) (earlier : Earlier) (v : Verdict) (p : Proof) → RowsMay
 rows_one net earlier (Unknown gap) p h = no_nothing p h
 rows_one net earlier v p h = no_one v p h
 
--- no answer has sides
-abbrev pub AreShort : List Answer → Type 0
-AreShort xs = AllByRecursion (λ (a : Answer). SeesNoPairs a.proof) xs
+no_regular : (net : Net) (earlier : Earlier) (v : Verdict) (p : Proof) → RowsRegular net earlier v p → IsShort p
+no_regular net earlier Yes (proof.Sides rows) h = tt
+no_regular net earlier Yes p h = absurd h
+no_regular net earlier (NoTerminal class count) (proof.Nothing) h = tt
+no_regular net earlier (NoTerminal class count) p h = absurd h
+no_regular net earlier NoDependence (proof.Nothing) h = tt
+no_regular net earlier NoDependence p h = absurd h
+no_regular net earlier (NoCycle reaction walk) (proof.Nothing) h = tt
+no_regular net earlier (NoCycle reaction walk) p h = absurd h
+no_regular net earlier v p h = absurd h
 
--- a formed answer to the question has neither sides nor trees
+no_confluence : (net : Net) (earlier : Earlier) (v : Verdict) (p : Proof) → RowsConfluence net earlier v p → IsShort p
+no_confluence net earlier (YesVec vector) (proof.Ties ties) h = tt
+no_confluence net earlier (YesVec vector) p h = absurd h
+no_confluence net earlier NotRegular (proof.Nothing) h = tt
+no_confluence net earlier NotRegular p h = absurd h
+no_confluence net earlier OnlyZero (proof.Ties ties) h = tt
+no_confluence net earlier OnlyZero p h = absurd h
+no_confluence net earlier (Plane first second one two) (proof.Nothing) h = tt
+no_confluence net earlier (Plane first second one two) p h = absurd h
+no_confluence net earlier v p h = absurd h
+
+rows_regular : (net : Net) (earlier : Earlier) (v : Verdict) (p : Proof) → RowsMayBe net earlier Q11 v p → IsShort p
+rows_regular net earlier (Unknown gap) p h = no_nothing p h
+rows_regular net earlier v p h = no_regular net earlier v p h
+
+rows_confluence : (net : Net) (earlier : Earlier) (v : Verdict) (p : Proof) → RowsMayBe net earlier Q12 v p → IsShort p
+rows_confluence net earlier (Unknown gap) p h = no_nothing p h
+rows_confluence net earlier v p h = no_confluence net earlier v p h
+
+-- ---- formed answers to the first two questions have no sides
+
+sees_nothing : (p : Proof) → p ≡ proof.Nothing → SeesNoPairs p
+sees_nothing p e = rw e tt
+
+sees_linkage : (net : Net) (v : Verdict) (p : Proof) → RowsLinkage net v p → SeesNoPairs p
+sees_linkage net (Classes count label) (proof.Forest up depth) h = tt
+sees_linkage net (Classes count label) p h = absurd h
+sees_linkage net v p h = absurd h
+
+sees_first : (net : Net) (earlier : Earlier) (v : Verdict) (p : Proof) → RowsMayBe net earlier Q1 v p → SeesNoPairs p
+sees_first net earlier (Unknown gap) p h = sees_nothing p h
+sees_first net earlier v p h = sees_linkage net v p h
+
+sees_strong : (net : Net) (v : Verdict) (p : Proof) → RowsStrong net v p → SeesNoPairs p
+sees_strong net (Strong count terminal label exit) (proof.Strong from from_depth to to_depth level) h = tt
+sees_strong net (Strong count terminal label exit) p h = absurd h
+sees_strong net v p h = absurd h
+
+sees_second : (net : Net) (earlier : Earlier) (v : Verdict) (p : Proof) → RowsMayBe net earlier Q2 v p → SeesNoPairs p
+sees_second net earlier (Unknown gap) p h = sees_nothing p h
+sees_second net earlier v p h = sees_strong net v p h
+
+-- a formed answer to the question has no trees
 abbrev IsShortQuestion : Question → Type 0
 IsShortQuestion q = (net : Net) (earlier : Earlier) (v : Verdict) (p : Proof) → RowsMayBe net earlier q v p → IsShort p
 
@@ -409,9 +463,8 @@ ShortFor Q14 = Unit {0}
 ShortFor Q15 = Unit {0}
 ShortFor q = IsShortQuestion q
 
--- a formed answer to the question has no sides, and its cuts may be shared
+-- the cuts of a formed answer to the question may be shared
 record IsPlainFor (q : Question) : Type 0 where
-  sees : (net : Net) (earlier : Earlier) (v : Verdict) (p : Proof) → RowsMayBe net earlier q v p → SeesNoPairs p
   cuts : (net : Net) (earlier : Earlier) (v : Verdict) (p : Proof) → 1 ≤ length net.names → length net.names ≤ MAX_NUMBERS → RowsMayBe net earlier q v p → AllByRecursion (IsShareable MAX_NUMBERS) (cuts_in p)
 
 -- a proof without trees has no cuts
@@ -422,20 +475,15 @@ no_cuts (proof.Strong from from_depth to to_depth level) h = refl
 no_cuts (proof.Back back) h = refl
 no_cuts (proof.Rank p) h = refl
 no_cuts (proof.Ranks ps) h = refl
-no_cuts (proof.Sides rows) h = absurd h
+no_cuts (proof.Sides rows) h = refl
 no_cuts (proof.Ties rows) h = refl
 no_cuts (proof.One tree) h = absurd h
 no_cuts (proof.Two tree second) h = absurd h
 
 short_plain : (q : Question) → IsShortQuestion q → IsPlainFor q
 short_plain q s = record {
-  sees = λ net earlier v p h. short_sees p (s net earlier v p h);
   cuts = λ net earlier v p some few h. subst (AllByRecursion (IsShareable MAX_NUMBERS)) (sym (no_cuts p (s net earlier v p h))) tt;
 }
-
-tree_sees : (net : Net) (p : Proof) → IsTreeOrNone net p → SeesNoPairs p
-tree_sees net p (inl none) = subst SeesNoPairs (sym none) tt
-tree_sees net p (inr t) = subst SeesNoPairs (sym t.1) tt
 
 concordant_rows : (net : Net) (earlier : Earlier) (v : Verdict) (p : Proof) → RowsMayBe net earlier Q14 v p → TableRows net v p
 concordant_rows net earlier (Unknown gap) p h = h
@@ -447,13 +495,11 @@ strongly_rows net earlier v p h = h
 
 concordant_plain : IsPlainFor Q14
 concordant_plain = record {
-  sees = λ net earlier v p h. tree_sees net p (tree_or_none net v p (concordant_rows net earlier v p h));
   cuts = λ net earlier v p some few h. one_tree_cuts net p some few (tree_or_none net v p (concordant_rows net earlier v p h));
 }
 
 strongly_plain : IsPlainFor Q15
 strongly_plain = record {
-  sees = λ net earlier v p h. tree_sees net p (tree_or_none net v p (strongly_rows net earlier v p h));
   cuts = λ net earlier v p some few h. one_tree_cuts net p some few (tree_or_none net v p (strongly_rows net earlier v p h));
 }
 
@@ -474,15 +520,6 @@ plain_for Q13 s = short_plain Q13 s
 plain_for Q14 s = concordant_plain
 plain_for Q15 s = strongly_plain
 
-short_by : (net : Net) (earlier : Earlier) (qs : List Question) (xs : List Answer) → AllByRecursion ShortFor qs → AreFormed net earlier qs xs → AreShort xs
-short_by net earlier [] [] s h = tt
-short_by net earlier [] (a ∷ xs) s h = absurd h
-short_by net earlier (q ∷ qs) [] s h = absurd h
-short_by net earlier (q ∷ qs) (a ∷ xs) s h =
-    let p = plain_for q s.0 in
-    let sees = p.sees in
-    (sees net earlier a.verdict a.proof h.0.1, short_by net (earlier ++ (q, a.verdict) ∷ []) qs xs s.1 h.1)
-
 both_all : (P : List ℤ → Type 0) (xs ys : List (List ℤ)) → AllByRecursion P xs → AllByRecursion P ys → AllByRecursion P (xs ++ ys)
 both_all P [] ys a b = b
 both_all P (x ∷ xs) ys a b = (a.0, both_all P xs ys a.1 b)
@@ -499,10 +536,6 @@ cuts_by net earlier (q ∷ qs) (a ∷ xs) some few s h =
 built_short : AllByRecursion ShortFor built
 built_short = (rows_linkage, (rows_strong, (rows_reversible, (rows_weak, (rows_rank, (rows_deficiency, (rows_dependence, (rows_conservation, (rows_zero, (rows_one, tt))))))))))
 
--- formed answers to the questions that are built have no sides
-pub all_short : (net : Net) (xs : List Answer) → AreFormed net [] built xs → AreShort xs
-all_short net xs h = short_by net [] built xs built_short h
-
 -- the cuts of formed answers of a network may be shared
 pub cuts_shareable : (net : Net) (xs : List Answer) → IsNetwork net → AreFormed net [] built xs → AllByRecursion (IsShareable MAX_NUMBERS) (all_cuts xs)
 cuts_shareable net xs n h = cuts_by net [] built xs (some_species net n) (few_species net n) built_short h
@@ -516,51 +549,104 @@ as_many net earlier (q ∷ qs) (a ∷ xs) h = ap suc (as_many net _ qs xs h.1)
 
 -- ---- blocks
 
-flat_blocks : (qs : List Question) (known : Known) (xs : List Answer) → AreShort xs → flat_map (λ (rs : List Record). rs) (all_records meaning qs known xs) ≡ blocks false qs xs
-unfolding all_records
-flat_blocks [] known xs h = refl
-flat_blocks (q ∷ qs) known [] h = refl
-flat_blocks (q ∷ qs) known (a ∷ xs) h =
-    ap (λ (t : List Record). t ++ flat_map (λ (rs : List Record). rs) (all_records meaning qs (meaning.learn q known (head_of q a.verdict) (records_below (meaning.shapes known) a)) xs)) (same_records q (meaning.shapes known) (shapes_with []) a h.0)
-    ∙ ap (λ (t : List Record). records q (shapes_with []) a ++ t) (flat_blocks qs (meaning.learn q known (head_of q a.verdict) (records_below (meaning.shapes known) a)) xs h.1)
+-- what is known after an answer
+abbrev after_answer : Question → Known → Answer → Known
+after_answer q known a = meaning.learn q known (head_of q a.verdict) (records_below (meaning.shapes known) a)
 
-headed_blocks : (qs : List Question) (known : Known) (xs : List Answer) → AreShort xs → in_sections qs (all_records meaning qs known xs) ≡ blocks true qs xs
-unfolding all_records
-headed_blocks [] known xs h = refl
-headed_blocks (q ∷ qs) known [] h = refl
-headed_blocks (q ∷ qs) known (a ∷ xs) h =
-    ap (λ (t : List Record). (map section (opens q) ++ t) ++ in_sections qs (all_records meaning qs (meaning.learn q known (head_of q a.verdict) (records_below (meaning.shapes known) a)) xs)) (same_records q (meaning.shapes known) (shapes_with []) a h.0)
-    ∙ ap (λ (t : List Record). (map section (opens q) ++ records q (shapes_with []) a) ++ t) (headed_blocks qs (meaning.learn q known (head_of q a.verdict) (records_below (meaning.shapes known) a)) xs h.1)
+-- the records of each answer are those with these pairs
+abbrev AreWritten : List ℕ → List Question → Known → List Answer → Type 0
+AreWritten pairs [] known xs = Unit {0}
+AreWritten pairs (q ∷ qs) known [] = Unit {0}
+AreWritten pairs (q ∷ qs) known (a ∷ xs) = (proof_records (shapes_of known) a.proof ≡ proof_records (shapes_with pairs) a.proof) × AreWritten pairs qs (after_answer q known a) xs
 
-built_blocks : (sections : Bool) (xs : List Answer) → length xs ≡ length built → blocks sections built xs ≡ blocks sections questions xs
-built_blocks sections xs e = ap (λ (n : ℕ). blocks sections (take n questions) xs) (sym e) ∙ blocks_short sections questions xs
+-- so they are for all questions after the second
+written_after : (pairs : List ℕ) (qs : List Question) (known : Known) (xs : List Answer) → IsStrong (on known.earlier Q2) → pairs_of known ≡ pairs → AreWritten pairs qs known xs
+written_after pairs [] known xs s e = tt
+written_after pairs (q ∷ qs) known [] s e = tt
+written_after pairs (q ∷ qs) known (a ∷ xs) s e =
+    let more = (q, verdict_of q (sizes_of known) (head_of q a.verdict) (records_below (shapes_of known) a)) ∷ [] in
+    (rows_by_pairs (shapes_of known) (shapes_with pairs) a.proof e, written_after pairs qs (after_answer q known a) xs (strong_stays known.earlier more s) (pairs_stay known more s ∙ e))
+
+pairs_of_strong : (net : Net) (v w : Verdict) → IsStrong w → pair_places net ((Q1, v) ∷ (Q2, w) ∷ []) ≡ strong_pairs net w
+pairs_of_strong net v (Strong count terminal label exit) s = refl
+pairs_of_strong net v w s = absurd s
+
+-- the pairs that are known after the first two answers are those of their verdicts
+pairs_then : (net : Net) (a b : Answer) → IsFormedAnswer net [] Q1 a → IsFormedAnswer net ((Q1, a.verdict) ∷ []) Q2 b
+    → (let known = after_answer Q2 (after_answer Q1 (meaning.start net) a) b in IsStrong (on known.earlier Q2) × (pairs_of known ≡ strong_pairs net b.verdict))
+pairs_then net a b f g =
+    let start : Known = meaning.start net in
+    let one = after_answer Q1 start a in
+    let known = after_answer Q2 one b in
+    let first : IsAlike one ((Q1, a.verdict) ∷ []) = linkage_next start [] a refl f in
+    let second : IsAlike known ((Q1, a.verdict) ∷ (Q2, b.verdict) ∷ []) = strong_next one ((Q1, a.verdict) ∷ []) b first g in
+    let right : IsStrong b.verdict = formed_right net ((Q1, a.verdict) ∷ []) Q2 b.verdict b.proof g in
+    let strong : IsStrong (on known.earlier Q2) = alike_strong known ((Q1, a.verdict) ∷ (Q2, b.verdict) ∷ []) second right in
+    (strong, pairs_known known strong ∙ pairs_alike net known.earlier ((Q1, a.verdict) ∷ (Q2, b.verdict) ∷ []) second ∙ pairs_of_strong net a.verdict b.verdict right)
+
+-- the records of formed answers are those with the pairs of their verdicts
+all_written : (net : Net) (xs : List Answer) → AreFormed net [] built xs → AreWritten (pairs_in net xs) built (meaning.start net) xs
+all_written net [] h = absurd h
+all_written net (a ∷ []) h = absurd h.1
+all_written net (a ∷ b ∷ xs) h =
+    let start : Known = meaning.start net in
+    let pairs = strong_pairs net b.verdict in
+    let p = pairs_then net a b h.0 h.1.0 in (
+      same_rows (shapes_of start) (shapes_with pairs) a.proof (sees_first net [] a.verdict a.proof h.0.1),
+      (
+        same_rows (shapes_of (after_answer Q1 start a)) (shapes_with pairs) b.proof (sees_second net ((Q1, a.verdict) ∷ []) b.verdict b.proof h.1.0.1),
+        written_after pairs (Q3 ∷ Q4 ∷ Q5 ∷ Q6 ∷ Q7 ∷ Q8 ∷ Q9 ∷ Q10 ∷ []) (after_answer Q2 (after_answer Q1 start a) b) xs p.0 p.1,
+      ),
+    )
+
+flat_blocks : (pairs : List ℕ) (qs : List Question) (known : Known) (xs : List Answer) → AreWritten pairs qs known xs → flat_map (λ (rs : List Record). rs) (all_records meaning qs known xs) ≡ blocks false pairs qs xs
+unfolding all_records
+flat_blocks pairs [] known xs h = refl
+flat_blocks pairs (q ∷ qs) known [] h = refl
+flat_blocks pairs (q ∷ qs) known (a ∷ xs) h =
+    ap (λ (t : List Record). t ++ flat_map (λ (rs : List Record). rs) (all_records meaning qs (after_answer q known a) xs)) (same_records q (shapes_of known) (shapes_with pairs) a h.0)
+    ∙ ap (λ (t : List Record). records q (shapes_with pairs) a ++ t) (flat_blocks pairs qs (after_answer q known a) xs h.1)
+
+headed_blocks : (pairs : List ℕ) (qs : List Question) (known : Known) (xs : List Answer) → AreWritten pairs qs known xs → in_sections qs (all_records meaning qs known xs) ≡ blocks true pairs qs xs
+unfolding all_records
+headed_blocks pairs [] known xs h = refl
+headed_blocks pairs (q ∷ qs) known [] h = refl
+headed_blocks pairs (q ∷ qs) known (a ∷ xs) h =
+    ap (λ (t : List Record). (map section (opens q) ++ t) ++ in_sections qs (all_records meaning qs (after_answer q known a) xs)) (same_records q (shapes_of known) (shapes_with pairs) a h.0)
+    ∙ ap (λ (t : List Record). (map section (opens q) ++ records q (shapes_with pairs) a) ++ t) (headed_blocks pairs qs (after_answer q known a) xs h.1)
+
+built_blocks : (sections : Bool) (pairs : List ℕ) (xs : List Answer) → length xs ≡ length built → blocks sections pairs built xs ≡ blocks sections pairs questions xs
+built_blocks sections pairs xs e = ap (λ (n : ℕ). blocks sections pairs (take n questions) xs) (sym e) ∙ blocks_short sections pairs questions xs
 
 -- the records of a document in version 1 are those of the blocks
-pub records_are : (net : Net) (xs : List Answer) → AreFormed net [] built xs → flat_map (λ (rs : List Record). rs) (records_of net xs) ≡ blocks false questions xs
-records_are net xs h = flat_blocks built (meaning.start net) xs (all_short net xs h) ∙ built_blocks false xs (as_many net [] built xs h)
+pub records_are : (net : Net) (xs : List Answer) → AreFormed net [] built xs → flat_map (λ (rs : List Record). rs) (records_of net xs) ≡ blocks false (pairs_in net xs) questions xs
+records_are net xs h = flat_blocks (pairs_in net xs) built (meaning.start net) xs (all_written net xs h) ∙ built_blocks false (pairs_in net xs) xs (as_many net [] built xs h)
 
 -- and in version 2
-pub headed_are : (net : Net) (xs : List Answer) → AreFormed net [] built xs → in_sections built (records_of net xs) ≡ blocks true questions xs
-headed_are net xs h = headed_blocks built (meaning.start net) xs (all_short net xs h) ∙ built_blocks true xs (as_many net [] built xs h)
+pub headed_are : (net : Net) (xs : List Answer) → AreFormed net [] built xs → in_sections built (records_of net xs) ≡ blocks true (pairs_in net xs) questions xs
+headed_are net xs h = headed_blocks (pairs_in net xs) built (meaning.start net) xs (all_written net xs h) ∙ built_blocks true (pairs_in net xs) xs (as_many net [] built xs h)
 
 -- ---- documents
 
--- a document: its opening, the lines of its blocks, and its last line
-pub document_lines : (net : Net) (xs : List Answer) → AreFormed net [] built xs
-    → document net (records_of net xs) ≡ (opening 1 net ++ record_lines (written [] (blocks false questions xs))) ++ codes "end\n"
-document_lines net xs h =
-    ap (λ (t : List Record). (opening 1 net ++ record_lines t) ++ codes "end\n") (records_are net xs h ∙ sym (written_none (blocks false questions xs)))
+-- a document with these pairs: its opening, the lines of its blocks, and its last line
+pub document_lines : (net : Net) (xs : List Answer) (pairs : List ℕ) → AreFormed net [] built xs → pairs ≡ pairs_in net xs
+    → document net (records_of net xs) ≡ (opening 1 net ++ record_lines (written [] (blocks false pairs questions xs))) ++ codes "end\n"
+document_lines net xs pairs h e =
+    ap (λ (t : List Record). (opening 1 net ++ record_lines t) ++ codes "end\n") (records_are net xs h ∙ sym (written_none (blocks false (pairs_in net xs) questions xs)))
+    ∙ ap (λ (ps : List ℕ). (opening 1 net ++ record_lines (written [] (blocks false ps questions xs))) ++ codes "end\n") (sym e)
 
 four : (a b c d : List ℕ) → (a ++ (b ++ c)) ++ d ≡ ((a ++ b) ++ c) ++ d
 four a b c d = simp append_assoc
 
 -- in version 2 with the lines of its table
-pub document2_lines : (net : Net) (xs : List Answer) (share : Share) → AreFormed net [] built xs
-    → document2 built net (records_of net xs) share ≡ ((opening 2 net ++ record_lines (table_records share.table)) ++ record_lines (written share.leaf (blocks true questions xs))) ++ codes "end\n"
-document2_lines net xs share h =
+pub document2_lines : (net : Net) (xs : List Answer) (pairs : List ℕ) (share : Share) → AreFormed net [] built xs → pairs ≡ pairs_in net xs
+    → document2 built net (records_of net xs) share ≡ ((opening 2 net ++ record_lines (table_records share.table)) ++ record_lines (written share.leaf (blocks true pairs questions xs))) ++ codes "end\n"
+document2_lines net xs pairs share h e =
+    let all = blocks true (pairs_in net xs) questions xs in
     ap (λ (t : List Record). (opening 2 net ++ record_lines (table_records share.table ++ written share.leaf t)) ++ codes "end\n") (headed_are net xs h)
-    ∙ ap (λ (t : List ℕ). (opening 2 net ++ t) ++ codes "end\n") (lines_append (table_records share.table) (written share.leaf (blocks true questions xs)))
-    ∙ four (opening 2 net) (record_lines (table_records share.table)) (record_lines (written share.leaf (blocks true questions xs))) (codes "end\n")
+    ∙ ap (λ (t : List ℕ). (opening 2 net ++ t) ++ codes "end\n") (lines_append (table_records share.table) (written share.leaf all))
+    ∙ four (opening 2 net) (record_lines (table_records share.table)) (record_lines (written share.leaf all)) (codes "end\n")
+    ∙ ap (λ (ps : List ℕ). ((opening 2 net ++ record_lines (table_records share.table)) ++ record_lines (written share.leaf (blocks true ps questions xs))) ++ codes "end\n") (sym e)
 
 -- ---- cut leaves
 
@@ -616,18 +702,18 @@ answer_cuts q s a =
     cuts_append (head_of q a.verdict ∷ records_below s a) (proof_nodes a.proof)
     ∙ ap (λ (t : List (List ℤ)). t ++ cut_lists (proof_nodes a.proof)) (plain_cuts (head_of q a.verdict ∷ records_below s a) (front_plain q s a)) ∙ proof_cuts a.proof
 
-blocks_cuts : (qs : List Question) (xs : List Answer) → length xs ≤ length qs → cut_lists (blocks false qs xs) ≡ all_cuts xs
-blocks_cuts [] [] h = refl
-blocks_cuts [] (a ∷ xs) h = absurd (omega arith)
-blocks_cuts (q ∷ qs) [] h = refl
-blocks_cuts (q ∷ qs) (a ∷ xs) h =
-    cuts_append (records q (shapes_with []) a) (blocks false qs xs)
-    ∙ ap (λ (t : List (List ℤ)). t ++ cut_lists (blocks false qs xs)) (answer_cuts q (shapes_with []) a) ∙ ap (λ (t : List (List ℤ)). cuts_in a.proof ++ t) (blocks_cuts qs xs (omega arith))
+blocks_cuts : (pairs : List ℕ) (qs : List Question) (xs : List Answer) → length xs ≤ length qs → cut_lists (blocks false pairs qs xs) ≡ all_cuts xs
+blocks_cuts pairs [] [] h = refl
+blocks_cuts pairs [] (a ∷ xs) h = absurd (omega arith)
+blocks_cuts pairs (q ∷ qs) [] h = refl
+blocks_cuts pairs (q ∷ qs) (a ∷ xs) h =
+    cuts_append (records q (shapes_with pairs) a) (blocks false pairs qs xs)
+    ∙ ap (λ (t : List (List ℤ)). t ++ cut_lists (blocks false pairs qs xs)) (answer_cuts q (shapes_with pairs) a) ∙ ap (λ (t : List (List ℤ)). cuts_in a.proof ++ t) (blocks_cuts pairs qs xs (omega arith))
 
 -- the lists of the cut leaves of formed answers' records are those of the answers' cuts
 pub records_cuts : (net : Net) (xs : List Answer) → AreFormed net [] built xs → cut_lists (flat_map (λ (rs : List Record). rs) (records_of net xs)) ≡ all_cuts xs
 records_cuts net xs h =
-    ap cut_lists (records_are net xs h) ∙ blocks_cuts questions xs (let e = as_many net [] built xs h in omega (arith, e))
+    ap cut_lists (records_are net xs h) ∙ blocks_cuts (pairs_in net xs) questions xs (let e = as_many net [] built xs h in omega (arith, e))
 
 -- ---- shares
 

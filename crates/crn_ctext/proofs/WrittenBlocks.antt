@@ -178,60 +178,60 @@ answer_leaves leaf q s a = leaves_then leaf (head_of q a.verdict ∷ records_bel
 -- ---- blocks
 
 -- the lines of a block, and the numbers of the leaves after it
-pub block_lines : (leaf : List ℕ) (sections : Bool) (q : Question) (a : Answer) → record_lines (written leaf (block sections q a)) ≡ record_lines (headings sections q) ++ record_lines (written leaf (records q (shapes_with []) a))
-block_lines leaf sections q a = plain_then leaf (headings sections q) (records q (shapes_with []) a) (plain_headings sections q)
+pub block_lines : (leaf : List ℕ) (sections : Bool) (pairs : List ℕ) (q : Question) (a : Answer) → record_lines (written leaf (block sections pairs q a)) ≡ record_lines (headings sections q) ++ record_lines (written leaf (records q (shapes_with pairs) a))
+block_lines leaf sections pairs q a = plain_then leaf (headings sections q) (records q (shapes_with pairs) a) (plain_headings sections q)
 
-pub block_leaves : (leaf : List ℕ) (sections : Bool) (q : Question) (a : Answer) → leaves_after (block sections q a) leaf ≡ leaves_after (records q (shapes_with []) a) leaf
-block_leaves leaf sections q a = leaves_then leaf (headings sections q) (records q (shapes_with []) a) (plain_headings sections q)
+pub block_leaves : (leaf : List ℕ) (sections : Bool) (pairs : List ℕ) (q : Question) (a : Answer) → leaves_after (block sections pairs q a) leaf ≡ leaves_after (records q (shapes_with pairs) a) leaf
+block_leaves leaf sections pairs q a = leaves_then leaf (headings sections q) (records q (shapes_with pairs) a) (plain_headings sections q)
 
-blocks_next : (sections : Bool) (qs : List Question) (xs : List Answer) (k : ℕ) (q : Question) (a : Answer) → k < length qs → k < length xs
-    → blocks sections (take (suc k) qs) (take (suc k) xs) ≡ blocks sections (take k qs) (take k xs) ++ block sections (get_or qs k q) (get_or xs k a)
-blocks_next sections [] xs k q a lt lt' = absurd (omega arith)
-blocks_next sections (x ∷ qs) [] k q a lt lt' = absurd (omega arith)
-blocks_next sections (x ∷ qs) (y ∷ xs) zero q a lt lt' = append-nil (block sections x y)
-blocks_next sections (x ∷ qs) (y ∷ xs) (suc k) q a lt lt' =
-    ap (λ (t : List Record). block sections x y ++ t) (blocks_next sections qs xs k q a (omega arith) (omega arith)) ∙ sym (append_assoc (block sections x y) _ _)
+blocks_next : (sections : Bool) (pairs : List ℕ) (qs : List Question) (xs : List Answer) (k : ℕ) (q : Question) (a : Answer) → k < length qs → k < length xs
+    → blocks sections pairs (take (suc k) qs) (take (suc k) xs) ≡ blocks sections pairs (take k qs) (take k xs) ++ block sections pairs (get_or qs k q) (get_or xs k a)
+blocks_next sections pairs [] xs k q a lt lt' = absurd (omega arith)
+blocks_next sections pairs (x ∷ qs) [] k q a lt lt' = absurd (omega arith)
+blocks_next sections pairs (x ∷ qs) (y ∷ xs) zero q a lt lt' = append-nil (block sections pairs x y)
+blocks_next sections pairs (x ∷ qs) (y ∷ xs) (suc k) q a lt lt' =
+    ap (λ (t : List Record). block sections pairs x y ++ t) (blocks_next sections pairs qs xs k q a (omega arith) (omega arith)) ∙ sym (append_assoc (block sections pairs x y) _ _)
 
 -- one block more
-pub blocks_step : (leaf : List ℕ) (sections : Bool) (qs : List Question) (xs : List Answer) (k : ℕ) (q : Question) (a : Answer) → k < length qs → k < length xs
-    → record_lines (written leaf (blocks sections (take (k + 1) qs) (take (k + 1) xs)))
-    ≡ record_lines (written leaf (blocks sections (take k qs) (take k xs))) ++ record_lines (written (leaves_after (blocks sections (take k qs) (take k xs)) leaf) (block sections (get_or qs k q) (get_or xs k a)))
-blocks_step leaf sections qs xs k q a lt lt' =
-    rw add-one (ap (λ (t : List Record). record_lines (written leaf t)) (blocks_next sections qs xs k q a lt lt') ∙ written_lines leaf (blocks sections (take k qs) (take k xs)) (block sections (get_or qs k q) (get_or xs k a)))
+pub blocks_step : (leaf : List ℕ) (sections : Bool) (pairs : List ℕ) (qs : List Question) (xs : List Answer) (k : ℕ) (q : Question) (a : Answer) → k < length qs → k < length xs
+    → record_lines (written leaf (blocks sections pairs (take (k + 1) qs) (take (k + 1) xs)))
+    ≡ record_lines (written leaf (blocks sections pairs (take k qs) (take k xs))) ++ record_lines (written (leaves_after (blocks sections pairs (take k qs) (take k xs)) leaf) (block sections pairs (get_or qs k q) (get_or xs k a)))
+blocks_step leaf sections pairs qs xs k q a lt lt' =
+    rw add-one (ap (λ (t : List Record). record_lines (written leaf t)) (blocks_next sections pairs qs xs k q a lt lt') ∙ written_lines leaf (blocks sections pairs (take k qs) (take k xs)) (block sections pairs (get_or qs k q) (get_or xs k a)))
 
-pub leaves_step : (leaf : List ℕ) (sections : Bool) (qs : List Question) (xs : List Answer) (k : ℕ) (q : Question) (a : Answer) → k < length qs → k < length xs
-    → leaves_after (blocks sections (take (k + 1) qs) (take (k + 1) xs)) leaf ≡ leaves_after (block sections (get_or qs k q) (get_or xs k a)) (leaves_after (blocks sections (take k qs) (take k xs)) leaf)
-leaves_step leaf sections qs xs k q a lt lt' =
-    rw add-one (ap (λ (t : List Record). leaves_after t leaf) (blocks_next sections qs xs k q a lt lt') ∙ leaves_append leaf (blocks sections (take k qs) (take k xs)) (block sections (get_or qs k q) (get_or xs k a)))
+pub leaves_step : (leaf : List ℕ) (sections : Bool) (pairs : List ℕ) (qs : List Question) (xs : List Answer) (k : ℕ) (q : Question) (a : Answer) → k < length qs → k < length xs
+    → leaves_after (blocks sections pairs (take (k + 1) qs) (take (k + 1) xs)) leaf ≡ leaves_after (block sections pairs (get_or qs k q) (get_or xs k a)) (leaves_after (blocks sections pairs (take k qs) (take k xs)) leaf)
+leaves_step leaf sections pairs qs xs k q a lt lt' =
+    rw add-one (ap (λ (t : List Record). leaves_after t leaf) (blocks_next sections pairs qs xs k q a lt lt') ∙ leaves_append leaf (blocks sections pairs (take k qs) (take k xs)) (block sections pairs (get_or qs k q) (get_or xs k a)))
 
 regroup : (a b c d : List Record) → a ++ ((b ++ c) ++ d) ≡ ((a ++ b) ++ c) ++ d
 regroup a b c d = simp append_assoc
 
-blocks_whole : (sections : Bool) (qs : List Question) (xs : List Answer) (k : ℕ) (q : Question) (a : Answer) → k < length qs → k < length xs
-    → (rest : List Record) × (blocks sections qs xs ≡ (blocks sections (take k qs) (take k xs) ++ block sections (get_or qs k q) (get_or xs k a)) ++ rest)
-blocks_whole sections [] xs k q a lt lt' = absurd (omega arith)
-blocks_whole sections (x ∷ qs) [] k q a lt lt' = absurd (omega arith)
-blocks_whole sections (x ∷ qs) (y ∷ xs) zero q a lt lt' = (blocks sections qs xs, refl)
-blocks_whole sections (x ∷ qs) (y ∷ xs) (suc k) q a lt lt' =
-    let h = blocks_whole sections qs xs k q a (omega arith) (omega arith) in
-    (h.0, ap (λ (t : List Record). block sections x y ++ t) h.1 ∙ regroup (block sections x y) _ _ h.0)
+blocks_whole : (sections : Bool) (pairs : List ℕ) (qs : List Question) (xs : List Answer) (k : ℕ) (q : Question) (a : Answer) → k < length qs → k < length xs
+    → (rest : List Record) × (blocks sections pairs qs xs ≡ (blocks sections pairs (take k qs) (take k xs) ++ block sections pairs (get_or qs k q) (get_or xs k a)) ++ rest)
+blocks_whole sections pairs [] xs k q a lt lt' = absurd (omega arith)
+blocks_whole sections pairs (x ∷ qs) [] k q a lt lt' = absurd (omega arith)
+blocks_whole sections pairs (x ∷ qs) (y ∷ xs) zero q a lt lt' = (blocks sections pairs qs xs, refl)
+blocks_whole sections pairs (x ∷ qs) (y ∷ xs) (suc k) q a lt lt' =
+    let h = blocks_whole sections pairs qs xs k q a (omega arith) (omega arith) in
+    (h.0, ap (λ (t : List Record). block sections pairs x y ++ t) h.1 ∙ regroup (block sections pairs x y) _ _ h.0)
 
 -- the lines of the blocks before one, its own, and more
-pub blocks_lines : (leaf : List ℕ) (sections : Bool) (qs : List Question) (xs : List Answer) (k : ℕ) (q : Question) (a : Answer) → k < length qs → k < length xs
-    → (rest : List ℕ) × (record_lines (written leaf (blocks sections qs xs))
-    ≡ (record_lines (written leaf (blocks sections (take k qs) (take k xs))) ++ record_lines (written (leaves_after (blocks sections (take k qs) (take k xs)) leaf) (block sections (get_or qs k q) (get_or xs k a)))) ++ rest)
-blocks_lines leaf sections qs xs k q a lt lt' =
-    let h = blocks_whole sections qs xs k q a lt lt' in
-    let done = blocks sections (take k qs) (take k xs) in
-    let here = block sections (get_or qs k q) (get_or xs k a) in
+pub blocks_lines : (leaf : List ℕ) (sections : Bool) (pairs : List ℕ) (qs : List Question) (xs : List Answer) (k : ℕ) (q : Question) (a : Answer) → k < length qs → k < length xs
+    → (rest : List ℕ) × (record_lines (written leaf (blocks sections pairs qs xs))
+    ≡ (record_lines (written leaf (blocks sections pairs (take k qs) (take k xs))) ++ record_lines (written (leaves_after (blocks sections pairs (take k qs) (take k xs)) leaf) (block sections pairs (get_or qs k q) (get_or xs k a)))) ++ rest)
+blocks_lines leaf sections pairs qs xs k q a lt lt' =
+    let h = blocks_whole sections pairs qs xs k q a lt lt' in
+    let done = blocks sections pairs (take k qs) (take k xs) in
+    let here = block sections pairs (get_or qs k q) (get_or xs k a) in
     (record_lines (written (leaves_after (done ++ here) leaf) h.0), ap (λ (t : List Record). record_lines (written leaf t)) h.1 ∙ written_lines leaf (done ++ here) h.0 ∙ ap (λ (t : List ℕ). t ++ record_lines (written (leaves_after (done ++ here) leaf) h.0)) (written_lines leaf done here))
 
 -- further questions have no answers
-pub blocks_short : (sections : Bool) (qs : List Question) (xs : List Answer) → blocks sections (take (length xs) qs) xs ≡ blocks sections qs xs
-blocks_short sections [] [] = refl
-blocks_short sections [] (a ∷ xs) = refl
-blocks_short sections (q ∷ qs) [] = refl
-blocks_short sections (q ∷ qs) (a ∷ xs) = ap (λ (t : List Record). block sections q a ++ t) (blocks_short sections qs xs)
+pub blocks_short : (sections : Bool) (pairs : List ℕ) (qs : List Question) (xs : List Answer) → blocks sections pairs (take (length xs) qs) xs ≡ blocks sections pairs qs xs
+blocks_short sections pairs [] [] = refl
+blocks_short sections pairs [] (a ∷ xs) = refl
+blocks_short sections pairs (q ∷ qs) [] = refl
+blocks_short sections pairs (q ∷ qs) (a ∷ xs) = ap (λ (t : List Record). block sections pairs q a ++ t) (blocks_short sections pairs qs xs)
 
 -- ---- one round of the loop over answers
 
@@ -245,42 +245,42 @@ at_answer : (xs : List Answer) (k : ℕ) (a : Answer) → slice_get xs (k + 1 - 
 at_answer xs k a e = element_at xs k a (ap (λ (j : ℕ). slice_get xs j) (sym (before_one k)) ∙ e)
 
 -- what is written of the answers, one block more
-pub one_more : (leaf rest : List ℕ) (sections : Bool) (xs : List Answer) (k : ℕ) (a : Answer) → k < 15 → slice_get xs (k + 1 - 1) ≡ Some a → rest ≡ leaves_after (blocks sections (take k questions) (take k xs)) leaf
-    → record_lines (written leaf (blocks sections (take (k + 1) questions) (take (k + 1) xs))) ≡ record_lines (written leaf (blocks sections (take k questions) (take k xs))) ++ record_lines (written rest (block sections (question_at (k + 1)) a))
-one_more leaf rest sections xs k a few e f =
+pub one_more : (leaf rest : List ℕ) (sections : Bool) (pairs : List ℕ) (xs : List Answer) (k : ℕ) (a : Answer) → k < 15 → slice_get xs (k + 1 - 1) ≡ Some a → rest ≡ leaves_after (blocks sections pairs (take k questions) (take k xs)) leaf
+    → record_lines (written leaf (blocks sections pairs (take (k + 1) questions) (take (k + 1) xs))) ≡ record_lines (written leaf (blocks sections pairs (take k questions) (take k xs))) ++ record_lines (written rest (block sections pairs (question_at (k + 1)) a))
+one_more leaf rest sections pairs xs k a few e f =
     let at = at_answer xs k a e in
-    let done = record_lines (written leaf (blocks sections (take k questions) (take k xs))) in
-    blocks_step leaf sections questions xs k Q1 a few at.0
-    ∙ ap (λ (r : List ℕ). done ++ record_lines (written r (block sections (get_or questions k Q1) (get_or xs k a)))) (sym f)
-    ∙ ap (λ (q : Question). done ++ record_lines (written rest (block sections q (get_or xs k a)))) (sym (at_question k))
-    ∙ ap (λ (x : Answer). done ++ record_lines (written rest (block sections (question_at (k + 1)) x))) at.1
+    let done = record_lines (written leaf (blocks sections pairs (take k questions) (take k xs))) in
+    blocks_step leaf sections pairs questions xs k Q1 a few at.0
+    ∙ ap (λ (r : List ℕ). done ++ record_lines (written r (block sections pairs (get_or questions k Q1) (get_or xs k a)))) (sym f)
+    ∙ ap (λ (q : Question). done ++ record_lines (written rest (block sections pairs q (get_or xs k a)))) (sym (at_question k))
+    ∙ ap (λ (x : Answer). done ++ record_lines (written rest (block sections pairs (question_at (k + 1)) x))) at.1
 
 -- the numbers of the leaves after it
-pub leaves_more : (leaf rest : List ℕ) (sections : Bool) (xs : List Answer) (k : ℕ) (a : Answer) → k < 15 → slice_get xs (k + 1 - 1) ≡ Some a → rest ≡ leaves_after (blocks sections (take k questions) (take k xs)) leaf
-    → leaves_after (block sections (question_at (k + 1)) a) rest ≡ leaves_after (blocks sections (take (k + 1) questions) (take (k + 1) xs)) leaf
-leaves_more leaf rest sections xs k a few e f =
+pub leaves_more : (leaf rest : List ℕ) (sections : Bool) (pairs : List ℕ) (xs : List Answer) (k : ℕ) (a : Answer) → k < 15 → slice_get xs (k + 1 - 1) ≡ Some a → rest ≡ leaves_after (blocks sections pairs (take k questions) (take k xs)) leaf
+    → leaves_after (block sections pairs (question_at (k + 1)) a) rest ≡ leaves_after (blocks sections pairs (take (k + 1) questions) (take (k + 1) xs)) leaf
+leaves_more leaf rest sections pairs xs k a few e f =
     let at = at_answer xs k a e in
-    sym (leaves_step leaf sections questions xs k Q1 a few at.0
-    ∙ ap (λ (r : List ℕ). leaves_after (block sections (get_or questions k Q1) (get_or xs k a)) r) (sym f)
-    ∙ ap (λ (q : Question). leaves_after (block sections q (get_or xs k a)) rest) (sym (at_question k))
-    ∙ ap (λ (x : Answer). leaves_after (block sections (question_at (k + 1)) x) rest) at.1)
+    sym (leaves_step leaf sections pairs questions xs k Q1 a few at.0
+    ∙ ap (λ (r : List ℕ). leaves_after (block sections pairs (get_or questions k Q1) (get_or xs k a)) r) (sym f)
+    ∙ ap (λ (q : Question). leaves_after (block sections pairs q (get_or xs k a)) rest) (sym (at_question k))
+    ∙ ap (λ (x : Answer). leaves_after (block sections pairs (question_at (k + 1)) x) rest) at.1)
 
 -- and what is left to write
-pub one_of : (leaf rest : List ℕ) (sections : Bool) (xs : List Answer) (k : ℕ) (a : Answer) → k < 15 → slice_get xs (k + 1 - 1) ≡ Some a → rest ≡ leaves_after (blocks sections (take k questions) (take k xs)) leaf
-    → (more : List ℕ) × (record_lines (written leaf (blocks sections questions xs)) ≡ (record_lines (written leaf (blocks sections (take k questions) (take k xs))) ++ record_lines (written rest (block sections (question_at (k + 1)) a))) ++ more)
-one_of leaf rest sections xs k a few e f =
+pub one_of : (leaf rest : List ℕ) (sections : Bool) (pairs : List ℕ) (xs : List Answer) (k : ℕ) (a : Answer) → k < 15 → slice_get xs (k + 1 - 1) ≡ Some a → rest ≡ leaves_after (blocks sections pairs (take k questions) (take k xs)) leaf
+    → (more : List ℕ) × (record_lines (written leaf (blocks sections pairs questions xs)) ≡ (record_lines (written leaf (blocks sections pairs (take k questions) (take k xs))) ++ record_lines (written rest (block sections pairs (question_at (k + 1)) a))) ++ more)
+one_of leaf rest sections pairs xs k a few e f =
     let at = at_answer xs k a e in
-    let done = record_lines (written leaf (blocks sections (take k questions) (take k xs))) in
-    let h = blocks_lines leaf sections questions xs k Q1 a few at.0 in (
+    let done = record_lines (written leaf (blocks sections pairs (take k questions) (take k xs))) in
+    let h = blocks_lines leaf sections pairs questions xs k Q1 a few at.0 in (
       h.0,
       h.1
-          ∙ ap (λ (r : List ℕ). (done ++ record_lines (written r (block sections (get_or questions k Q1) (get_or xs k a)))) ++ h.0) (sym f)
-          ∙ ap (λ (q : Question). (done ++ record_lines (written rest (block sections q (get_or xs k a)))) ++ h.0) (sym (at_question k))
-          ∙ ap (λ (x : Answer). (done ++ record_lines (written rest (block sections (question_at (k + 1)) x))) ++ h.0) at.1,
+          ∙ ap (λ (r : List ℕ). (done ++ record_lines (written r (block sections pairs (get_or questions k Q1) (get_or xs k a)))) ++ h.0) (sym f)
+          ∙ ap (λ (q : Question). (done ++ record_lines (written rest (block sections pairs q (get_or xs k a)))) ++ h.0) (sym (at_question k))
+          ∙ ap (λ (x : Answer). (done ++ record_lines (written rest (block sections pairs (question_at (k + 1)) x))) ++ h.0) at.1,
     )
 
 -- all answers
-pub all_done : (leaf : List ℕ) (sections : Bool) (xs : List Answer) (k : ℕ) → k ≡ length xs
-    → record_lines (written leaf (blocks sections questions xs)) ≡ record_lines (written leaf (blocks sections (take k questions) (take k xs)))
-all_done leaf sections xs k e =
-    ap (λ (t : List Record). record_lines (written leaf t)) (sym (blocks_short sections questions xs) ∙ ap (λ (t : List Answer). blocks sections (take (length xs) questions) t) (sym (take_all (length xs) xs (omega arith))) ∙ ap (λ (n : ℕ). blocks sections (take n questions) (take n xs)) (sym e))
+pub all_done : (leaf : List ℕ) (sections : Bool) (pairs : List ℕ) (xs : List Answer) (k : ℕ) → k ≡ length xs
+    → record_lines (written leaf (blocks sections pairs questions xs)) ≡ record_lines (written leaf (blocks sections pairs (take k questions) (take k xs)))
+all_done leaf sections pairs xs k e =
+    ap (λ (t : List Record). record_lines (written leaf t)) (sym (blocks_short sections pairs questions xs) ∙ ap (λ (t : List Answer). blocks sections pairs (take (length xs) questions) t) (sym (take_all (length xs) xs (omega arith))) ∙ ap (λ (n : ℕ). blocks sections pairs (take n questions) (take n xs)) (sym e))

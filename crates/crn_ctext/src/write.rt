@@ -9,12 +9,14 @@ ghost use Rattle.crn_ctext.specs.Linked.{records_of};
 ghost use Rattle.crn_ctext.specs.Inner.Written.{question_at, headings, shapes_with, blocks, block, leaves_after};
 
 use crate::write_head::{put_head, put_section};
+use crate::write_pairs::find_pairs;
 use crate::write_record::put_rows;
 use crate::write_rows::{put_exits, put_proof, put_verdict};
 use crate::write_tree::put_trees;
 use crn_cert::{Answer, Answers, Rows, Share};
 use crn_io::{Sink, WriteFault, put_all, put_parts};
 use crn_net::Network;
+use crn_vec::MAX_REACTIONS;
 use itoa::Buffer;
 
 // The title, the number of the network's lines, and these lines.
@@ -89,33 +91,35 @@ fn put_block<'a, K: Sink>(
     sink: &mut K,
     sections: bool,
     question: usize,
+    pairs: &[u32],
     answer: &Answer,
     leaf: &'a [u32],
 ) -> Result<&'a [u32], WriteFault>
     requires some { 1 ≤ question }
     requires few { question ≤ 15 }
-    ensures wrote { let rs = block sections (question_at question) answer.now in
+    ensures wrote { let rs = block sections pairs.now (question_at question) answer.now in
         Wrote (record_lines (written leaf.now rs)) (K.seen sink.old) (K.seen sink.new) result }
-    ensures rest { let rs = block sections (question_at question) answer.now in
+    ensures rest { let rs = block sections pairs.now (question_at question) answer.now in
         IfOk result (λ rest. rest.now ≡ leaves_after rs leaf.now) }
 {
     put_heading(sink, sections, question)?;
-    put_answer(sink, question, &[], answer, leaf)
+    put_answer(sink, question, pairs, answer, leaf)
 }
 
-// The blocks of all answers.
+// The blocks of all answers. `pairs` has the least reactions of the pairs whose sides they may hold.
 fn put_answers<K: Sink>(
     sink: &mut K,
     sections: bool,
+    pairs: &[u32],
     answers: &Answers,
     leaf: &[u32],
 ) -> Result<(), WriteFault>
-    ensures { Wrote (record_lines (written leaf.now (blocks sections questions answers.now)))
-        (K.seen sink.old) (K.seen sink.new) result }
+    ensures { let rs = blocks sections pairs.now questions answers.now in
+        Wrote (record_lines (written leaf.now rs)) (K.seen sink.old) (K.seen sink.new) result }
 {
     let mut rest = leaf;
     for k in 0..answers.len() {
-        rest = put_block(sink, sections, k + 1, answers.get(k + 1), rest)?;
+        rest = put_block(sink, sections, k + 1, pairs, answers.get(k + 1), rest)?;
     }
     Ok(())
 }
@@ -130,8 +134,10 @@ pub fn write_document<K: Sink>(
     ensures { Wrote (document net.now (records_of net.now answers.now))
         (K.seen sink.old) (K.seen sink.new) result }
 {
+    let mut pairs = [0; MAX_REACTIONS];
+    let count = find_pairs(net, answers, &mut pairs);
     put_opening(sink, 1, net)?;
-    put_answers(sink, false, answers, &[])?;
+    put_answers(sink, false, &pairs[..count], answers, &[])?;
     put_all(sink, b"end\n")
 }
 
@@ -149,8 +155,10 @@ pub fn write_document2<K: Sink>(
         Wrote (document2 built net.now (records_of net.now answers.now) said)
         (K.seen sink.old) (K.seen sink.new) result }
 {
+    let mut pairs = [0; MAX_REACTIONS];
+    let count = find_pairs(net, answers, &mut pairs);
     put_opening(sink, 2, net)?;
     put_table(sink, &share.table)?;
-    put_answers(sink, true, answers, share.leaf.as_slice())?;
+    put_answers(sink, true, &pairs[..count], answers, share.leaf.as_slice())?;
     put_all(sink, b"end\n")
 }

@@ -2,11 +2,14 @@
 -- How a document is written piece by piece.
 -- Source: this project's own. Shapes: questions are numbered from 1. `leaf` has for each cut leaf
 -- that is still to be written the number of its list, or 0; beyond its end each is 0.
-use Rattle.std.specs.Prelude.{ℕ, ℤ, pos, ◌-◌, ◌^◌, Option, Some, None, Bool, true, false, if◌then◌else◌, List, [], ◌∷◌, ◌++◌, map, take, drop, codes, slice_index_or}
+use Rattle.std.specs.Prelude.{ℕ, ℤ, pos, ◌-◌, ◌^◌, Option, Some, None, Bool, true, false, if◌then◌else◌, List, [], ◌∷◌, ◌++◌, length, map, take, drop, codes, slice_index_or}
 use Rattle.std.specs.List.{flat_map}
 use Rattle.std.specs.Fmt.{signed_decimal}
 use Rattle.crn_io.specs.Device.{SinkSeen}
+use Rattle.crn_vec.specs.Network.{Net}
 use Rattle.crn_cert.specs.Questions.{Question, Q1, questions}
+use Rattle.crn_cert.specs.declared.answer.Verdict.TheVariants.{Strong}
+use Rattle.crn_pairs.specs.Pairs.{pairs_to}
 use Rattle.crn_cert.specs.declared.answer.Verdict.{Verdict}
 use Rattle.crn_cert.specs.declared.answer.Gap.{Gap}
 use Rattle.crn_cert.specs.declared.answer.Answer.{Answer}
@@ -80,15 +83,28 @@ abbrev pub headings : Bool → Question → List Record
 headings true q = map section (opens q)
 headings false q = []
 
--- the records of an answer, without pairs, after the line that opens its section
-abbrev pub block : Bool → Question → Answer → List Record
-block sections q a = headings sections q ++ records q (shapes_with []) a
+-- the records of an answer with these linked pairs, after the line that opens its section
+abbrev pub block : Bool → List ℕ → Question → Answer → List Record
+block sections pairs q a = headings sections q ++ records q (shapes_with pairs) a
 
 -- the blocks of answers to these questions
-abbrev pub blocks : Bool → List Question → List Answer → List Record
-blocks sections (q ∷ qs) (a ∷ more) = block sections q a ++ blocks sections qs more
-blocks sections [] answers = []
-blocks sections (q ∷ qs) [] = []
+abbrev pub blocks : Bool → List ℕ → List Question → List Answer → List Record
+blocks sections pairs (q ∷ qs) (a ∷ more) =
+    block sections pairs q a ++ blocks sections pairs qs more
+blocks sections pairs [] answers = []
+blocks sections pairs (q ∷ qs) [] = []
+
+-- the linked pairs within terminal classes, each by its least reaction, by a verdict on strong
+-- classes
+abbrev pub strong_pairs : Net → Verdict → List ℕ
+strong_pairs net (Strong count terminal label exit) =
+    pairs_to net label.list exit.list (length net.reactions)
+strong_pairs net verdict = []
+
+-- the same, by the verdict of the second answer
+abbrev pub pairs_in : Net → List Answer → List ℕ
+pairs_in net (a ∷ b ∷ more) = strong_pairs net b.verdict
+pairs_in net answers = []
 
 -- the least reaction of pair i, counted from 0, or nothing if there is none
 abbrev pub pair_at : List ℕ → ℕ → List ℕ

@@ -10,13 +10,17 @@ use Rattle.crn_ctext.proofs.write.write_document.Goals as goal
 
 pub returns-in_err-put_opening : goal.returns-in_err-put_opening
 returns-in_err-put_opening g c =
+    let pairs = take c.find_pairs-count.result c.find_pairs-count.new.pairs in
     let p = err_from_is_err_and c.from_residual.result c.from_residual.ensures.1 in
-    wrote_as (document_lines c.args.net.now c.args.answers.now c.requires.formed) (Wrote-prefix p.1 (WrotePrefix-more (codes "end\n") (WrotePrefix-more (record_lines (written [] (blocks false questions c.args.answers.now))) c.in_err-put_opening.ensures.prefix)))
+    wrote_as (document_lines c.args.net.now c.args.answers.now pairs c.requires.formed c.find_pairs-count.ensures.listed) (Wrote-prefix p.1 (WrotePrefix-more (codes "end\n") (WrotePrefix-more (record_lines (written [] (blocks false pairs questions c.args.answers.now))) c.in_err-put_opening.ensures.prefix)))
 
 pub returns-in_err-put_answers : goal.returns-in_err-put_answers
 returns-in_err-put_answers g c =
+    let pairs = take c.find_pairs-count.result c.find_pairs-count.new.pairs in
     let p = err_from_is_err_and c.from_residual-in_err-put_answers.result c.from_residual-in_err-put_answers.ensures.1 in
-    wrote_as (document_lines c.args.net.now c.args.answers.now c.requires.formed) (Wrote-prefix p.1 (WrotePrefix-more (codes "end\n") (WrotePrefix-then c.in_ok-put_opening.ensures.all c.in_err-put_answers.ensures.prefix)))
+    wrote_as (document_lines c.args.net.now c.args.answers.now pairs c.requires.formed c.find_pairs-count.ensures.listed) (Wrote-prefix p.1 (WrotePrefix-more (codes "end\n") (WrotePrefix-then c.in_ok-put_opening.ensures.all c.in_err-put_answers.ensures.prefix)))
 
 pub returns : goal.returns
-returns g c = ends_with (document_lines c.args.net.now c.args.answers.now c.requires.formed) (WroteAll-then c.in_ok-put_opening.ensures.all c.in_ok-put_answers.ensures.all) c.put_all.ensures.writes
+returns g c =
+    let pairs = take c.find_pairs-count.result c.find_pairs-count.new.pairs in
+    ends_with (document_lines c.args.net.now c.args.answers.now pairs c.requires.formed c.find_pairs-count.ensures.listed) (WroteAll-then c.in_ok-put_opening.ensures.all c.in_ok-put_answers.ensures.all) c.put_all.ensures.writes
