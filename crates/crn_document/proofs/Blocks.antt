@@ -5,12 +5,14 @@ use Rattle.std.specs.List.{AllByRecursion, AllZip, flat_map}
 use Rattle.std.proofs.lemmas.List.{length-map}
 use Rattle.crn_io.specs.Lines.{Place}
 use Rattle.crn_vec.specs.Network.{Net}
+use Rattle.crn_vec.specs.declared.limits.TheConstants.{MAX_COMPLEXES}
 use Rattle.crn_cert.specs.declared.answer.Verdict.{Verdict}
 use Rattle.crn_cert.specs.declared.answer.Proof.{Proof}
 use Rattle.crn_cert.specs.declared.answer.Answer.{Answer}
 use Rattle.crn_cert.specs.Questions.{Earlier, Question}
 use Rattle.crn_cert.specs.Tests.{Test, AllHold, FailsFirst}
-use Rattle.crn_cert.specs.Valid.{head_tests, linkage, row_tests, tests_of}
+use Rattle.crn_cert.specs.Valid.{exits, head_tests, linkage, linkage_count, row_tests, strong, tests_of}
+use Rattle.crn_pairs.specs.Pairs.{pairs_to}
 use Rattle.crn_cert.specs.Formed.{IsFormed, IsFormedOf}
 use Rattle.crn_ctext.specs.Records.{Record, Form, Fits}
 use Rattle.crn_ctext.specs.Questions.{Shapes}
@@ -28,11 +30,11 @@ use Rattle.crn_document.specs.declared.parts.Part.{Part}
 use Rattle.crn_document.specs.Inner.Answer.{verdict_of_head}
 use Rattle.crn_document.specs.Inner.Answers.{FitAnswer, proof_of_head}
 use Rattle.crn_document.specs.Inner.Parts.{IsKnown, parts_below}
-use Rattle.crn_document.specs.Inner.Records.{AreRows, MayBeRow, fixed_rows, part_rows, row_form, rows_below}
+use Rattle.crn_document.specs.Inner.Records.{AreRows, MayBeRow, fixed_rows, many_rows, part_rows, row_form, rows_below}
 use Rattle.crn_document.specs.declared.rows.Row.{Row}
-use Rattle.crn_document.specs.declared.rows.Row.TheVariants.{Comb, Dual}
+use Rattle.crn_document.specs.declared.rows.Row.TheVariants.{Comb, Dual, Side, Tie}
 use Rattle.crn_document.specs.Inner.Heads.{IsHead, known_of, class_count}
-use Rattle.crn_document.specs.Inner.Blocks.{HeadHolds, IsAfter, IsBlock, behind_at, end_course, forms_below, head_course, parts_after, rows_course}
+use Rattle.crn_document.specs.Inner.Blocks.{HeadHolds, IsAfter, IsBlock, behind_at, end_course, forms_below, head_course, many_after, parts_after, rows_course}
 use Rattle.crn_document.proofs.Fields.{part_within}
 use Rattle.crn_document.proofs.Ranks.{AreRanks, zip_length}
 use Rattle.crn_document.proofs.Heads.{said_facts}
@@ -89,10 +91,21 @@ if_may false xs ys a c = c
 
 fixed_may : (n place : ℕ) → AllByRecursion MayBeRow (fixed_rows n place)
 fixed_may n place =
-    if_may (n == 1) _ _ (tt, (tt, (tt, tt))) (if_may (n == 2) _ _ (tt, (tt, (tt, (tt, (tt, (tt, (tt, tt))))))) (if_may (n == 3 && place == 1) _ _ (tt, tt) (if_may (n == 7 && place == 1) _ _ (tt, tt) (if_may (n == 7 && place == 2) _ _ (tt, tt) (if_may (n == 8 && place == 1) _ _ (tt, tt) (if_may (n == 8 && place == 2) _ _ (tt, tt) tt))))))
+    if_may (n == 1) _ _ (tt, (tt, (tt, tt))) (if_may (n == 2) _ _ (tt, (tt, (tt, (tt, (tt, (tt, (tt, tt))))))) (if_may (n == 3 && place == 1) _ _ (tt, tt) (if_may (n == 7 && place == 1) _ _ (tt, tt) (if_may (n == 7 && place == 2) _ _ (tt, tt) (if_may (n == 8 && place == 1) _ _ (tt, tt) (if_may (n == 8 && place == 2) _ _ (tt, tt) (if_may (n == 11 && place == 4) _ _ (tt, tt) (if_may (n == 12 && place == 1) _ _ (tt, tt) (if_may (n == 12 && place == 4) _ _ (tt, (tt, tt)) tt)))))))))
 
-pub rows_may : (n place : ℕ) (parts : List Part) → AreRanks parts → AllByRecursion MayBeRow (rows_below n place parts)
-rows_may n place parts a = join_may (fixed_rows n place) (flat_map part_rows parts) (fixed_may n place) (parts_may parts a)
+sides_may : (pairs : List ℕ) → AllByRecursion MayBeRow (map (λ (r : ℕ). Side r) pairs)
+sides_may [] = tt
+sides_may (r ∷ rs) = (tt, sides_may rs)
+
+many_may : (net : Net) (labels exits : List ℕ) (classes n place : ℕ) → classes ≤ MAX_COMPLEXES → AllByRecursion MayBeRow (many_rows net labels exits classes n place)
+many_may net labels exits classes n place few =
+    if_may (n == 11 && place == 1) _ _ (sides_may (pairs_to net labels exits (length net.reactions)))
+    (if_may (n == 12 && place == 1) _ _ (times_may (Tie classes) (length net.complexes - 1) few) (if_may (n == 12 && place == 3) _ _ (times_may (Tie classes) (length net.complexes) few) tt))
+
+pub rows_may : (net : Net) (labels exits : List ℕ) (classes n place : ℕ) (parts : List Part) → classes ≤ MAX_COMPLEXES → AreRanks parts → AllByRecursion MayBeRow (rows_below n place (many_rows net labels exits classes n place) parts)
+rows_may net labels exits classes n place parts few a =
+    let many = many_rows net labels exits classes n place in
+    join_may (fixed_rows n place) (many ++ flat_map part_rows parts) (fixed_may n place) (join_may many (flat_map part_rows parts) (many_may net labels exits classes n place few) (parts_may parts a))
 
 -- ---- what is known
 
@@ -287,11 +300,11 @@ rows_block net earlier n head forms rows old h rs is none said r = record {
 }
 
 -- the forms of the records below a head, by what was computed of it
-pub forms_are : (net : Net) (earlier : Earlier) (n : ℕ) (head : List ℤ) (labels : List ℕ) (k place : ℕ) (parts : List Part) (due : List Row) → labels ≡ linkage earlier → k ≡ class_count n head → place ≡ said.number head 0 → parts ≡ parts_below net labels n head → due ≡ rows_below n place parts → map (row_form net labels k) due ≡ forms_below net earlier n head
-forms_are net earlier n head labels k place parts due lis kis pis tis dis =
-    ap (λ (rows : List Row). map (row_form net labels k) rows) (dis ∙ ap (λ (t : List Part). rows_below n place t) tis)
-    ∙ ap (λ (l : List ℕ). map (row_form net l k) (rows_below n place (parts_below net l n head))) lis
-    ∙ ap₂ (λ (j : ℕ) (p : ℕ). map (row_form net (linkage earlier) j) (rows_below n p (parts_after net earlier n head))) kis pis
+pub forms_are : (net : Net) (earlier : Earlier) (n : ℕ) (head : List ℤ) (labels : List ℕ) (count k place : ℕ) (parts : List Part) (due : List Row) → labels ≡ linkage earlier → count ≡ linkage_count earlier → k ≡ class_count n head → place ≡ said.number head 0 → parts ≡ parts_below net labels n head → due ≡ rows_below n place (many_rows net (strong earlier) (exits earlier) count n place) parts → map (row_form net labels k) due ≡ forms_below net earlier n head
+forms_are net earlier n head labels count k place parts due lis cis kis pis tis dis =
+    ap (λ (rows : List Row). map (row_form net labels k) rows) (dis ∙ ap₂ (λ (t : List Part) (c : ℕ). rows_below n place (many_rows net (strong earlier) (exits earlier) c n place) t) tis cis)
+    ∙ ap (λ (l : List ℕ). map (row_form net l k) (rows_below n place (many_after net earlier n place) (parts_below net l n head))) lis
+    ∙ ap₂ (λ (j : ℕ) (p : ℕ). map (row_form net (linkage earlier) j) (rows_below n p (many_after net earlier n p) (parts_after net earlier n head))) kis pis
 
 pub rows_counted : (forms : List Form) (rows old : List (List ℤ)) (rs : List Record) → old ≡ [] → AreRows forms old rows rs → length rows ≡ length forms
 rows_counted forms rows old rs none r =

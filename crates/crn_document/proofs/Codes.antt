@@ -7,14 +7,15 @@ use Rattle.crn_vec.specs.Network.{Net}
 use Rattle.crn_cert.specs.Built.{built}
 use Rattle.crn_cert.specs.Questions.{Earlier, Question, Q1, Q2, Q3, Q4, Q5, Q6, Q7, Q8, Q9, Q10}
 use Rattle.crn_cert.specs.Tests.{Test as Claim}
-use Rattle.crn_cert.specs.Valid.{class_rank_tests, conservation_rows, deficiency_head, deficiency_rows, dependence_rows, linkage_rows, one_head, rank_rows, reversible_head, reversible_rows, strong_rows, weak_head, zero_head}
+use Rattle.crn_cert.specs.Valid.{class_rank_tests, confluence_head, confluence_rows, conservation_rows, deficiency_head, deficiency_rows, dependence_rows, linkage_rows, one_head, rank_rows, regular_head, regular_rows, reversible_head, reversible_rows, side_tests, strong_rows, weak_head, zero_head}
+use Rattle.crn_cert.specs.ConfluenceTests.{tie_tests}
 use Rattle.crn_cert.specs.RankTests.{comb_tests, dual_tests, rank_tests}
 use Rattle.crn_cert.specs.declared.answer.Verdict.{Verdict}
 use Rattle.crn_cert.specs.declared.answer.Proof.{Proof}
 use Rattle.crn_cert.specs.declared.answer.RankProof.{RankProof}
 use Rattle.crn_cert.specs.declared.answer.Gap.{Gap}
-use Rattle.crn_cert.specs.declared.answer.Verdict.TheVariants.{Deficiency, NoClass, NoNumber, NoSum, NoTerminal, NoVec, Rank, Unknown, Yes, YesVec, YesWeak}
-use Rattle.crn_cert.specs.declared.answer.Proof.TheVariants.{Nothing, Rank as RankRows, Ranks}
+use Rattle.crn_cert.specs.declared.answer.Verdict.TheVariants.{Deficiency, NoClass, NoCycle, NoDependence, NoNumber, NoSum, NoTerminal, NoVec, NotRegular, OnlyZero, Plane, Rank, Unknown, Yes, YesVec, YesWeak}
+use Rattle.crn_cert.specs.declared.answer.Proof.TheVariants.{Nothing, Rank as RankRows, Ranks, Sides, Ties}
 use Rattle.crn_ctext.specs.Records.{Record, Form}
 use Rattle.crn_ctext.specs.Kinds.{end_form, node_forms, section_form, table_form, vector_form}
 use Rattle.crn_ctext.specs.Questions.{Shapes, first_number, heads}
@@ -146,6 +147,9 @@ AreNumberedFor (q ∷ qs) = IsNumberedFor q × AreNumberedFor qs
 of_31 : IsFaultNumber 31
 of_31 = from_21 31 (omega arith) (omega arith)
 
+of_35 : IsFaultNumber 35
+of_35 = from_21 35 (omega arith) (omega arith)
+
 of_37 : IsFaultNumber 37
 of_37 = from_21 37 (omega arith) (omega arith)
 
@@ -237,6 +241,44 @@ one_numbered earlier (NoTerminal k count) = (of_37, tt)
 one_numbered earlier (NoClass k d) = (of_37, tt)
 one_numbered earlier (NoSum x) = (of_37, tt)
 one_numbered earlier v = tt
+
+sides_numbered : (net : Net) (earlier : Earlier) (part : ℕ) (rs : List ℕ) (sides : List (List ℤ)) → AreNumbered (side_tests net earlier part rs sides)
+sides_numbered net earlier part [] sides = tt
+sides_numbered net earlier part (r ∷ rs) [] = (of_35, tt)
+sides_numbered net earlier part (r ∷ rs) (s ∷ ss) = (of_35, sides_numbered net earlier (suc part) rs ss)
+
+regular_head_numbered : (net : Net) (earlier : Earlier) (v : Verdict) → AreNumbered (regular_head net earlier v)
+regular_head_numbered net earlier Yes = (of_37, tt)
+regular_head_numbered net earlier (NoTerminal k count) = (of_37, tt)
+regular_head_numbered net earlier NoDependence = (of_37, tt)
+regular_head_numbered net earlier (NoCycle r walk) = (of_37, tt)
+regular_head_numbered net earlier v = tt
+
+regular_numbered : (net : Net) (earlier : Earlier) (v : Verdict) (p : Proof) → AreNumbered (regular_rows net earlier v p)
+regular_numbered net earlier Yes (Sides sides) = sides_numbered net earlier 1 _ sides
+regular_numbered net earlier Yes p = tt
+regular_numbered net earlier (NoCycle r walk) p = (from_21 32 (omega arith) (omega arith), tt)
+regular_numbered net earlier v p = tt
+
+ties_numbered : (net : Net) (labels : List ℕ) (count : ℕ) (spared : ℕ → Type 0) (part : ℕ) (cs : List ℕ) (ties : List (List ℤ)) → AreNumbered (tie_tests net labels count spared part cs ties)
+ties_numbered net labels count spared part [] ties = tt
+ties_numbered net labels count spared part (c ∷ cs) [] = (of_35, tt)
+ties_numbered net labels count spared part (c ∷ cs) (t ∷ ts) = (of_35, ties_numbered net labels count spared (suc part) cs ts)
+
+confluence_head_numbered : (earlier : Earlier) (v : Verdict) → AreNumbered (confluence_head earlier v)
+confluence_head_numbered earlier (YesVec vector) = (of_37, tt)
+confluence_head_numbered earlier NotRegular = (of_37, tt)
+confluence_head_numbered earlier OnlyZero = (of_37, tt)
+confluence_head_numbered earlier (Plane first second one two) = (of_37, tt)
+confluence_head_numbered earlier v = tt
+
+confluence_numbered : (net : Net) (earlier : Earlier) (v : Verdict) (p : Proof) → AreNumbered (confluence_rows net earlier v p)
+confluence_numbered net earlier (YesVec vector) (Ties ties) = (of_35, ties_numbered net _ _ _ 2 _ ties)
+confluence_numbered net earlier (YesVec vector) p = tt
+confluence_numbered net earlier OnlyZero (Ties ties) = ties_numbered net _ _ _ 1 _ ties
+confluence_numbered net earlier OnlyZero p = tt
+confluence_numbered net earlier (Plane first second one two) p = (of_35, (of_35, tt))
+confluence_numbered net earlier v p = tt
 
 -- what a block says
 abbrev verdict_in : Question → Known → Record → List Record → Verdict

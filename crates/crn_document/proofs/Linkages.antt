@@ -1,7 +1,7 @@
 -- The linkage classes that are known before a block, by the verdicts on all questions before it.
 use Rattle.std.proofs.Common.{◌≡◌, ◌≤◌, ◌<◌, ◌+◌, ◌-◌, ◌++◌, ◌∙◌, ℕ, zero, suc, Bool, true, false, List, [], ◌∷◌, length, map, take, drop, refl, sym, subst, ap, inl, inr, arith}
-use Rattle.std.specs.Prelude.{codes, filter, if◌then◌else◌}
-use Rattle.std.proofs.Common.{cond, ap₂, append_assoc, ◌==◌, Result, Ok, Err, OnOk, Bor}
+use Rattle.std.specs.Prelude.{codes, filter}
+use Rattle.std.proofs.Common.{cond, ap₂, append_assoc, Result, Ok, Err, OnOk, Bor}
 use Rattle.std.specs.List.{AllByRecursion, range_with_len}
 use Rattle.std.proofs.lemmas.List.Elements.{filter-append}
 use Rattle.std.proofs.lemmas.List.FromFn.{length-range_with_len, length-map-range_with_len}
@@ -10,9 +10,9 @@ use Rattle.crn_vec.specs.Network.{Net}
 use Rattle.crn_vec.specs.declared.limits.TheConstants.{MAX_COMPLEXES, MAX_REACTIONS}
 use Rattle.crn_cert.specs.declared.answer.Gap.TheVariants.{Wide, Budget, Rests}
 use Rattle.crn_cert.specs.declared.answer.Verdict.{Verdict}
-use Rattle.crn_cert.specs.declared.answer.Verdict.TheVariants.{Classes, Unknown}
+use Rattle.crn_cert.specs.declared.answer.Verdict.TheVariants.{Classes, Strong, Unknown}
 use Rattle.crn_cert.specs.Built.{built}
-use Rattle.crn_cert.specs.Questions.{Earlier, Question, Q1, number, on, labels_of, count_of}
+use Rattle.crn_cert.specs.Questions.{Earlier, Question, Q1, Q2, number, on, labels_of, count_of}
 use Rattle.crn_cert.specs.FormedVerdicts.{IsFormedVerdict}
 use Rattle.crn_ctext.specs.Records.{Members}
 use Rattle.crn_ctext.specs.Kinds.{record_form}
@@ -22,10 +22,10 @@ use Rattle.crn_check.specs.Check.{IsBuilt}
 use Rattle.crn_check.proofs.CallerLemmas.{formed_on}
 use Rattle.crn_document.specs.declared.linkage.Linkage.{Linkage}
 use Rattle.crn_document.specs.Inner.Parts.{IsKnown, IsLinkage, class_counts, is_in_class, members_of}
-use Rattle.crn_document.specs.Inner.Heads.{FitsCounts}
-use Rattle.crn_document.specs.Inner.Records.{IsBaseDue}
-use Rattle.crn_cert.specs.Valid.{linkage, linkage_count, class_places}
-use Rattle.crn_ctext.specs.Meaning.{lengths}
+use Rattle.crn_document.specs.Inner.Heads.{FitsCounts, known_of}
+use Rattle.crn_document.specs.Inner.Records.{IsOwnDue}
+use Rattle.crn_cert.specs.Valid.{linkage, linkage_count, class_places, pair_places}
+use Rattle.crn_ctext.specs.Meaning.{Known, lengths, pairs_by, pairs_of}
 
 -- the number of classes and the labels that a verdict on linkage classes says
 linkage_fits : (net : Net) (e : Earlier) (v : Verdict) → IsFormedVerdict net e Q1 v → (length (labels_of v) ≤ length net.complexes) × (count_of v ≤ length net.complexes)
@@ -80,6 +80,30 @@ linkage_is net n facts v l built differs k is labels count =
       long = (let e = ap (λ (x : List ℕ). length x) same in let f0 = fits.0 in omega (arith, e, f0, limit));
       few = (let f1 = fits.1 in omega (arith, most, f1, limit));
     }
+
+-- ---- the strong classes
+
+second_of : (es : Earlier) (qs : List Question) → map (λ (e : Question × Verdict). e.0) es ≡ Q1 ∷ Q2 ∷ qs → HoldsOn es 2
+second_of [] qs is = absurd cc
+second_of (e ∷ []) qs is = absurd cc
+second_of (e ∷ f ∷ es) qs is = let same : f.0 ≡ Q2 = cc in inr (inl (sym (ap number same)))
+
+-- the verdict on the second question is held before question 11
+pub holds_second : (net : Net) (n : ℕ) (facts : KeptFacts) → n ≡ 11 → IsKnown net n facts → HoldsOn facts.earlier 2
+holds_second net n facts e k = second_of facts.earlier _ (k.so_far ∙ ap (λ (m : ℕ). take (m - 1) built) e)
+
+strong_pairs : (net : Net) (e : Earlier) (known : Known) (v : Verdict) → IsFormedVerdict net e Q2 v → pairs_by known v ≡ pair_places known.net known.earlier
+strong_pairs net e known (Strong count terminal label exit) h = refl
+strong_pairs net e known (Unknown (Wide system class index basis)) h = absurd h.0
+strong_pairs net e known (Unknown (Budget nodes)) h = absurd h.0
+strong_pairs net e known (Unknown (Rests question)) h = absurd h.0
+strong_pairs net e known v h = absurd h.0
+
+-- before question 11 the strong classes are known, and so are the linked pairs within terminal ones
+pub pairs_known : (net : Net) (n : ℕ) (facts : KeptFacts) → IsKnown net n facts → n ≡ 11 → pairs_of (known_of net facts.earlier) ≡ pair_places net facts.earlier
+pairs_known net n facts k e =
+    let f = formed_on net [] facts.earlier Q2 k.facts_of.formed (holds_second net n facts e k) in
+    strong_pairs net f.0 (known_of net facts.earlier) (on facts.earlier Q2) f.1
 
 -- ---- the members of a class, one reaction after another
 
@@ -152,8 +176,8 @@ all_few most [] h = tt
 all_few most (x ∷ xs) h = (h x (inl refl), all_few most xs (λ n i. h n (inr i)))
 
 -- a base of the members of a class may be due
-pub base_due : (net : Net) (labels : List ℕ) (k rank : ℕ) (members : Bor (List ℕ)) → length net.reactions ≤ MAX_REACTIONS → rank ≤ MAX_REACTIONS → members.now ≡ members_of net labels k → IsBaseDue (record_form (codes "base") (Members rank (members_of net labels k) ∷ [])) (DueBase rank members)
-base_due net labels k rank members few le is = (
+pub base_due : (net : Net) (labels : List ℕ) (c k rank : ℕ) (members : Bor (List ℕ)) → length net.reactions ≤ MAX_REACTIONS → rank ≤ MAX_REACTIONS → members.now ≡ members_of net labels k → IsOwnDue c (record_form (codes "base") (Members rank (members_of net labels k) ∷ [])) (DueBase rank members)
+base_due net labels c k rank members few le is = (
   ap (λ (ms : List ℕ). record_form (codes "base") (Members rank ms ∷ [])) is,
   λ version. (omega (arith, le), subst IsAscending (sym is) (members_ascending net labels k), subst (λ (ms : List ℕ). AllByRecursion (λ m. m ≤ MAX_REACTIONS) ms) (sym is) (all_few MAX_REACTIONS (members_of net labels k) (λ n i. let l = member_few net labels k n i in omega (arith, l, few)))),
 )

@@ -61,7 +61,7 @@ lists_drop zero (r ∷ rs) = refl
 lists_drop (suc n) [] = refl
 lists_drop (suc n) (r ∷ rs) = lists_drop n rs
 
-map_replicate : {A B : Type 0} (f : A → B) (n : ℕ) (x : A) → map f (replicate n x) ≡ replicate n (f x)
+pub map_replicate : {A B : Type 0} (f : A → B) (n : ℕ) (x : A) → map f (replicate n x) ≡ replicate n (f x)
 map_replicate f zero x = refl
 map_replicate f (suc n) x = ap (λ (t : List _). f x ∷ t) (map_replicate f n x)
 
@@ -76,7 +76,7 @@ pub times_push : {A : Type 0} (n : ℕ) (x : A) (old mid new : List A) → (n �
 times_push n x old mid new some m e =
     e ∙ ap (λ (t : List _). t ++ replicate (n - 1) x) m ∙ append_assoc old (x ∷ []) (replicate (n - 1) x) ∙ ap (λ (t : List _). old ++ t) (sym (replicate_next n x some))
 
-drop_none : {A : Type 0} (xs : List A) → drop 0 xs ≡ xs
+pub drop_none : {A : Type 0} (xs : List A) → drop 0 xs ≡ xs
 drop_none [] = refl
 drop_none (x ∷ xs) = refl
 
@@ -136,7 +136,7 @@ rank_pieces rows i rank middle stop made mid le inside base duals combs =
 pub free_row : (word : List ℕ) (count : ℕ) (r : Record) → Fits (free_form word count) r → AreFree count r.numbers
 free_row word count r f = let p = one_field (Free count) r.numbers f.1 in record { long = p.0; each = p.1 }
 
-free_rows : (word : List ℕ) (count n : ℕ) (rs : List Record) → AllZip Fits (replicate n (free_form word count)) rs → AreFreeRows n count (lists rs)
+pub free_rows : (word : List ℕ) (count n : ℕ) (rs : List Record) → AllZip Fits (replicate n (free_form word count)) rs → AreFreeRows n count (lists rs)
 free_rows word count zero [] z = record { long = refl; each = tt }
 free_rows word count zero (r ∷ rs) z = absurd z
 free_rows word count (suc n) [] z = absurd z

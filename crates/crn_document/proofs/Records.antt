@@ -2,9 +2,10 @@
 use Rattle.std.proofs.Common.{◌≡◌, ◌+◌, ◌++◌, ◌∙◌, ℕ, Bool, false, List, [], ◌∷◌, refl, sym, subst, ap, inl, inr, Result, Ok, append_assoc}
 use Rattle.std.proofs.lemmas.List.{append-nil}
 use Rattle.std.specs.List.{AllZip}
-use Rattle.std.specs.Prelude.{ℤ}
+use Rattle.std.specs.Prelude.{ℤ, pos, codes}
 use Rattle.crn_io.specs.Device.{SourceSeen}
-use Rattle.crn_ctext.specs.Records.{Record, Form, Fits}
+use Rattle.crn_ctext.specs.Records.{Record, Form, Fits, Several}
+use Rattle.crn_ctext.specs.Kinds.{just, record_form, small}
 use Rattle.crn_io.specs.Lines.{Place}
 use Rattle.crn_ctext.specs.Course.{Course, Give, Gives, due, ◌>>=◌}
 use Rattle.crn_ctext.specs.Blocks.{reads, asks, asks_all}
@@ -14,7 +15,7 @@ use Rattle.crn_ctext.specs.Questions.{Sizes}
 use Rattle.crn_ctext.specs.declared.expect.Due.TheVariants as due_kinds
 use Rattle.crn_ctext.specs.declared.expect.Due.{Due}
 use Rattle.crn_ctext.specs.declared.expect.Expect.{Expect}
-use Rattle.crn_document.specs.Inner.Records.{asks_for, Expects, IsBaseDue, IsPartDue, IsRowDue, IsSaid, IsRow, AreRows}
+use Rattle.crn_document.specs.Inner.Records.{asks_for, Expects, IsOwnDue, IsPartDue, IsRowDue, IsSaid, IsRow, AreRows}
 use Rattle.crn_ctext.specs.Steps.{StepGives}
 use Rattle.crn_ctext.specs.Meaning.{lists}
 use Rattle.crn_document.specs.declared.reading.Reading.{Reading}
@@ -33,37 +34,51 @@ as_expected P e version n forms x p =
     (subst (λ (b : Bool). P (course_by version n b (forms_of e) (misplaced e.due))) x.after
     (subst (λ (v : ℕ). P (course_by v n (is_after e.due e.after_tree) (forms_of e) (misplaced e.due))) x.of_version p)))
 
--- what a record below a head that is due says
-pub record DueFacts (form : Form) (d : Due) : Type 0 where
-  pub has : (version : ℕ) (z : Sizes) → due_forms d version z ≡ form ∷ []
+-- what a record below a head that is due says, where there are so many complexes
+pub record DueFacts (complexes : ℕ) (form : Form) (d : Due) : Type 0 where
+  pub has : (version : ℕ) (z : Sizes) → z.complexes ≡ complexes → due_forms d version z ≡ form ∷ []
   pub may : (version : ℕ) → MayBeDue d version
   pub after : (b : Bool) → b ≡ false → is_after d b ≡ false
   pub misplaced : misplaced d ≡ 26
   pub untagged : (z : Sizes) (r : Record) → tag_of d z r ≡ []
 
-base_facts : (form : Form) (d : Due) → IsBaseDue form d → DueFacts form d
-base_facts form (due_kinds.Base count members) b = record { has = λ v z. ap (λ (f : Form). f ∷ []) b.0; may = b.1; after = λ b e. e; misplaced = refl; untagged = λ z r. refl }
-base_facts form d b = absurd b
+own_facts : (c : ℕ) (form : Form) (d : Due) → IsOwnDue c form d → DueFacts c form d
+own_facts c form (due_kinds.Base count members) b = record { has = λ v z e. ap (λ (f : Form). f ∷ []) b.0; may = b.1; after = λ b e. e; misplaced = refl; untagged = λ z r. refl }
+own_facts c form (due_kinds.Side reaction) b = record {
+  has = λ v z e. ap (λ (k : ℕ). record_form (codes "side") (just reaction ∷ small k 0 1 ∷ []) ∷ []) e ∙ ap (λ (f : Form). f ∷ []) b;
+  may = λ v. tt;
+  after = λ b e. e;
+  misplaced = refl;
+  untagged = λ z r. refl;
+}
+own_facts c form due_kinds.Walk b = record {
+  has = λ v z e. ap (λ (k : ℕ). record_form (codes "walk") (Several 2 k (pos 1) (pos k) ∷ []) ∷ []) e ∙ ap (λ (f : Form). f ∷ []) b;
+  may = λ v. tt;
+  after = λ b e. e;
+  misplaced = refl;
+  untagged = λ z r. refl;
+}
+own_facts c form d b = absurd b
 
-part_facts : (form : Form) (d : Due) → IsPartDue form d → DueFacts form d
-part_facts form d p = subst (λ (d : Due). DueFacts form d) (sym p.is) (record { has = λ v z. ap (λ (f : Form). f ∷ []) p.has; may = p.may; after = λ b e. e; misplaced = refl; untagged = λ z r. refl })
+part_facts : (c : ℕ) (form : Form) (d : Due) → IsPartDue form d → DueFacts c form d
+part_facts c form d p = subst (λ (d : Due). DueFacts c form d) (sym p.is) (record { has = λ v z e. ap (λ (f : Form). f ∷ []) p.has; may = p.may; after = λ b e. e; misplaced = refl; untagged = λ z r. refl })
 
-due_facts : (form : Form) (d : Due) → IsRowDue form d → DueFacts form d
-due_facts form d (inl b) = base_facts form d b
-due_facts form d (inr p) = part_facts form d p
+due_facts : (c : ℕ) (form : Form) (d : Due) → IsRowDue c form d → DueFacts c form d
+due_facts c form d (inl b) = own_facts c form d b
+due_facts c form d (inr p) = part_facts c form d p
 
 -- a row has no tag
-pub row_untagged : (form : Form) (d : Due) → IsRowDue form d → (z : Sizes) (r : Record) → tag_of d z r ≡ []
-row_untagged form d i z r = let f = due_facts form d i in let u = f.untagged in u z r
+pub row_untagged : (c : ℕ) (form : Form) (d : Due) → IsRowDue c form d → (z : Sizes) (r : Record) → tag_of d z r ≡ []
+row_untagged c form d i z r = let f = due_facts c form d i in let u = f.untagged in u z r
 
 -- the row that is due
-pub row_expects : (version : ℕ) (form : Form) (e : Expect) → IsVersion version → e.version ≡ version → e.after_tree ≡ false → AreSizes (sizes_of e.sizes) → IsRowDue form e.due → Expects e version (form ∷ [])
-row_expects version form e v same none sizes i =
-    let f = due_facts form e.due i in record {
+pub row_expects : (version c : ℕ) (form : Form) (e : Expect) → IsVersion version → e.version ≡ version → e.after_tree ≡ false → AreSizes (sizes_of e.sizes) → (sizes_of e.sizes).complexes ≡ c → IsRowDue c form e.due → Expects e version (form ∷ [])
+row_expects version c form e v same none sizes many i =
+    let f = due_facts c form e.due i in record {
       may = record { version = subst (λ (k : ℕ). IsVersion k) (sym same) v; sizes = sizes; due = (let m = f.may in m e.version) };
       of_version = same;
       after = (let a = f.after in a e.after_tree none);
-      has = (let h = f.has in h e.version (sizes_of e.sizes));
+      has = (let h = f.has in h e.version (sizes_of e.sizes) many);
       misplaced = f.misplaced;
     }
 

@@ -77,20 +77,6 @@ drop_built n (inr (inr (inr (inr (inr (inr (inr (inr (inr (inr none)))))))))) = 
 pub none_built : (n : ℕ) → n ≡ 11 → drop (n - 1) built ≡ []
 none_built n e = subst (λ (m : ℕ). drop (m - 1) built ≡ []) (sym e) refl
 
--- the number of the section that opens before a question
-pub opened : (n : ℕ) → IsBuilt n → (n ≡ 1 → ⊥) → (n ≡ 5 → ⊥) → (n ≡ 7 → ⊥) → (n ≡ 9 → ⊥) → opens (asked n) ≡ []
-opened n (inl e) a b c d = absurd (a e)
-opened n (inr (inl e)) a b c d = subst (λ (m : ℕ). opens (asked m) ≡ []) (sym e) refl
-opened n (inr (inr (inl e))) a b c d = subst (λ (m : ℕ). opens (asked m) ≡ []) (sym e) refl
-opened n (inr (inr (inr (inl e)))) a b c d = subst (λ (m : ℕ). opens (asked m) ≡ []) (sym e) refl
-opened n (inr (inr (inr (inr (inl e))))) a b c d = absurd (b e)
-opened n (inr (inr (inr (inr (inr (inl e)))))) a b c d = subst (λ (m : ℕ). opens (asked m) ≡ []) (sym e) refl
-opened n (inr (inr (inr (inr (inr (inr (inl e))))))) a b c d = absurd (c e)
-opened n (inr (inr (inr (inr (inr (inr (inr (inl e)))))))) a b c d = subst (λ (m : ℕ). opens (asked m) ≡ []) (sym e) refl
-opened n (inr (inr (inr (inr (inr (inr (inr (inr (inl e))))))))) a b c d = absurd (d e)
-opened n (inr (inr (inr (inr (inr (inr (inr (inr (inr (inl e)))))))))) a b c d = subst (λ (m : ℕ). opens (asked m) ≡ []) (sym e) refl
-opened n (inr (inr (inr (inr (inr (inr (inr (inr (inr (inr none)))))))))) a b c d = absurd none
-
 pub behind_is : (net : Net) (earlier : Earlier) (line : ℕ) (blocks : List (List Record)) (opened : List Record) → behind_sections opened (behind_at net earlier line blocks) ≡ behind_at net earlier (line + length opened) blocks
 behind_is net earlier line blocks [] = ap (λ (k : ℕ). behind_at net earlier k blocks) (omega arith)
 behind_is net earlier line blocks (r ∷ rs) = refl

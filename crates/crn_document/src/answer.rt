@@ -11,6 +11,7 @@ ghost use Rattle.crn_document.specs.Inner.Answers.{FitAnswer, FitRank, deficienc
 ghost use Rattle.crn_document.specs.Inner.Parts.{FitParts};
 ghost use Rattle.crn_cert.specs.declared.answer.Proof.TheVariants.{Nothing};
 
+use crate::confluence::{confluence_answer, confluence_verdict, regular_answer, regular_verdict};
 use crate::numbers::{after, ints_of, no_ints, no_nums, number_of, nums_of, small};
 use crate::parts::Part;
 use crn_cert::{Answer, Gap, Proof, RankList, RankProof, Rows, Verdict};
@@ -32,7 +33,7 @@ fn yes_or_reaction(head: &[i128]) -> Verdict
 }
 
 // An open verdict by a wide elementary vector.
-fn wide(alloc: Global, head: &[i128]) -> Result<Verdict, NoMemory>
+pub(crate) fn wide(alloc: Global, head: &[i128]) -> Result<Verdict, NoMemory>
     requires small { AreSmall head.now }
     ensures { IfOk result (λ v. v ≡ Unknown (wide_gap (later_numbers head.now))) }
 {
@@ -157,12 +158,14 @@ pub(crate) fn bare_verdict(alloc: Global, question: u32, head: &[i128]) -> Resul
         8 => vector_verdict(alloc, head, no_ints(alloc)),
         9 => Ok(zero_verdict(head)),
         10 => Ok(one_verdict(head)),
+        11 => Ok(regular_verdict(head, no_nums(alloc))),
+        12 => confluence_verdict(alloc, head, no_ints(alloc), no_ints(alloc)),
         _ => Ok(yes_or_reaction(head)),
     }
 }
 
 // The numbers of record i, counted from 0, which are small.
-fn row_of(alloc: Global, rows: &Rows, i: usize) -> Result<Nums, NoMemory>
+pub(crate) fn row_of(alloc: Global, rows: &Rows, i: usize) -> Result<Nums, NoMemory>
     requires inside { i < length rows.now }
     requires small { AreSmall (slice_index_or rows.now i []) }
     ensures { IfOk result (λ made. made ≡ nums (slice_index_or rows.now i [])) }
@@ -257,7 +260,7 @@ fn push_rows(
 }
 
 // The records from record i on and before record end, counted from 0.
-fn some_rows(alloc: Global, rows: &Rows, i: usize, end: usize) -> Result<Rows, NoMemory>
+pub(crate) fn some_rows(alloc: Global, rows: &Rows, i: usize, end: usize) -> Result<Rows, NoMemory>
     requires order { i ≤ end }
     requires inside { end ≤ length rows.now }
     ensures { IfOk result (λ made. made ≡ take (end - i) (drop i rows.now)) }
@@ -423,6 +426,8 @@ pub(crate) fn answer_of(
             verdict: one_verdict(head),
             proof: Proof::Nothing,
         }),
+        11 => regular_answer(alloc, head, rows),
+        12 => confluence_answer(alloc, head, rows),
         _ => Ok(Answer {
             verdict: yes_or_reaction(head),
             proof: Proof::Nothing,

@@ -117,7 +117,15 @@ fn read_rows<S: Source>(
     let classes = class_count(question, head);
     let parts = parts_of(at.alloc, net, labels, question, head)?;
     let place = number_of(head, 0);
-    let due = rows_below(at.alloc, question, place, &parts)?;
+    let due = rows_below(
+        at.alloc,
+        net,
+        &checked.facts,
+        linkage.count,
+        question,
+        place,
+        &parts,
+    )?;
     let mut members = Nums::with_room(at.alloc, net.reactions())?;
     let mut rows = Rows::new(at.alloc)?;
     let below = Below {

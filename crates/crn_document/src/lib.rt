@@ -5,6 +5,7 @@ mod answer;
 mod block;
 mod body;
 mod check;
+mod confluence;
 mod document;
 mod ending;
 mod head;
@@ -20,6 +21,7 @@ mod record;
 mod rows;
 mod sizes;
 mod stop;
+mod strong;
 mod table;
 #[cfg(test)]
 mod tests;

@@ -7,7 +7,11 @@ ghost use Rattle.crn_ctext.specs.Blocks.{asks, asks_all};
 ghost use Rattle.crn_ctext.specs.Expect.{sizes_of, tag_of};
 ghost use Rattle.crn_ctext.specs.declared.expect.Due.TheVariants.{Part as DuePart};
 ghost use Rattle.crn_document.specs.Inner.Steps.{IsVersion, GoesOn, StepIs};
-ghost use Rattle.crn_document.specs.Inner.Records.{AreMembers, AreRows, Expects, IsRow, IsRowDue, MayBeRow, fixed_rows, part_rows, row_form, rows_below};
+ghost use Rattle.crn_document.specs.Inner.Records.{AreMembers, AreRows, Expects, IsRow, IsRowDue, MayBeRow, fixed_rows, many_rows, part_rows, row_form, rows_below};
+ghost use Rattle.crn_document.specs.Inner.Parts.{IsKnown};
+ghost use Rattle.crn_document.specs.declared.rows.Row.TheVariants.{Side};
+ghost use Rattle.crn_cert.specs.Valid.{strong, exits};
+ghost use Rattle.crn_check.specs.Check.{IsBuilt};
 
 use crate::linkage::fill_members;
 use crate::parts::Part;
@@ -15,7 +19,9 @@ use crate::reading::Reading;
 use crate::record::next_record;
 use crate::sizes::sizes_of;
 use crate::stop::CheckStop;
+use crate::strong::{pairs_in, strong_of};
 use crn_cert::Rows;
+use crn_check::Facts;
 use crn_ctext::{Due, Expect, Word};
 use crn_io::{NoMemory, Source};
 use crn_net::Network;
@@ -45,9 +51,16 @@ pub(crate) enum Row {
     VecOfSpecies,
     CutOfReactions,
     CutOfSpecies,
+    // A number for each complex.
+    VecOfComplexes,
+    // The side of the product of a reaction.
+    Side { reaction: u32 },
+    Walk,
+    // A number for each species and for each of so many linkage classes.
+    Tie { classes: u32 },
 }
 
-// The records below a head that prove no rank, by its question and the place of its form, both counted from 1.
+// The records below a head but for ranks, sides and ties, by its question and the place of its form, both counted from 1.
 fn fixed_rows(question: u32, place: u32) -> &'static [Row]
     ensures { result.now ≡ fixed_rows question place }
 {
@@ -79,6 +92,15 @@ fn fixed_rows(question: u32, place: u32) -> &'static [Row]
     }
     if question == 8 && place == 2 {
         return &[Row::CutOfReactions];
+    }
+    if question == 11 && place == 4 {
+        return &[Row::Walk];
+    }
+    if question == 12 && place == 1 {
+        return &[Row::VecOfComplexes];
+    }
+    if question == 12 && place == 4 {
+        return &[Row::VecOfComplexes, Row::VecOfComplexes];
     }
     &[]
 }
@@ -120,17 +142,69 @@ fn push_parts(into: &mut Vec<Row>, parts: &[Part]) -> Result<(), NoMemory>
     }
 }
 
+// Adds the sides of these pairs, each by its least reaction.
+fn push_sides(into: &mut Vec<Row>, pairs: &[u32]) -> Result<(), NoMemory>
+    ensures { OnOk result (into.new.items ≡ into.old.items ++ map (λ r. Side r) pairs.now) }
+{
+    match pairs.split_first() {
+        None => Ok(()),
+        Some((reaction, rest)) => {
+            into.push(Row::Side {
+                reaction: *reaction,
+            })?;
+            push_sides(into, rest)
+        }
+    }
+}
+
+// Adds the sides and ties below a head, by its question and the place of its form, both counted from 1.
+fn push_many(
+    alloc: Global,
+    net: &Network,
+    facts: &Facts,
+    classes: u32,
+    question: u32,
+    place: u32,
+    into: &mut Vec<Row>,
+) -> Result<(), NoMemory>
+    requires built { IsBuilt question }
+    requires known { IsKnown net.now question facts.now }
+    ensures { let earlier = facts.now.earlier in OnOk result (into.new.items ≡ into.old.items
+        ++ many_rows net.now (strong earlier) (exits earlier) classes question place) }
+{
+    if question == 11 && place == 1 {
+        let pairs = pairs_in(alloc, net, &strong_of(facts))?;
+        return push_sides(into, pairs.as_slice());
+    }
+    let complexes = net.complexes() as u32;
+    if question == 12 && place == 1 {
+        return push_times(into, Row::Tie { classes }, complexes.saturating_sub(1));
+    }
+    if question == 12 && place == 3 {
+        return push_times(into, Row::Tie { classes }, complexes);
+    }
+    Ok(())
+}
+
 // The records below a head that proves these ranks, by its question and the place of its form, both counted from 1.
 pub(crate) fn rows_below(
     alloc: Global,
+    net: &Network,
+    facts: &Facts,
+    classes: u32,
     question: u32,
     place: u32,
     parts: &[Part],
 ) -> Result<Vec<Row>, NoMemory>
-    ensures { IfOk result (λ due. due.items ≡ rows_below question place parts.now) }
+    requires built { IsBuilt question }
+    requires known { IsKnown net.now question facts.now }
+    ensures { let earlier = facts.now.earlier in
+        let many = many_rows net.now (strong earlier) (exits earlier) classes question place in
+        IfOk result (λ due. due.items ≡ rows_below question place many parts.now) }
 {
     let mut due = Vec::new(alloc);
     due.extend_from_slice(fixed_rows(question, place))?;
+    push_many(alloc, net, facts, classes, question, place, &mut due)?;
     push_parts(&mut due, parts)?;
     Ok(due)
 }
@@ -163,7 +237,8 @@ fn row_due<'a>(below: &Below, row: Row, members: &'a [u32]) -> Due<'a>
     requires may { MayBeRow row }
     requires members { AreMembers below.now.net.now below.now.labels.now row members.now }
     ensures { let b = below.now in
-        IsRowDue (row_form b.net.now b.labels.now b.classes row) result }
+        IsRowDue (length b.net.now.complexes)
+        (row_form b.net.now b.labels.now b.classes row) result }
 {
     let c = below.net.complexes();
     let r = below.net.reactions();
@@ -191,6 +266,10 @@ fn row_due<'a>(below: &Below, row: Row, members: &'a [u32]) -> Due<'a>
         Row::VecOfSpecies => part(Word::Vec, s, 0, 0),
         Row::CutOfReactions => part(Word::Cut, r, 0, 0),
         Row::CutOfSpecies => part(Word::Cut, s, 0, 0),
+        Row::VecOfComplexes => part(Word::Vec, c, 0, 0),
+        Row::Side { reaction } => Due::Side { reaction },
+        Row::Walk => Due::Walk,
+        Row::Tie { classes } => part(Word::Tie, s + classes as usize, 0, 0),
     }
 }
 

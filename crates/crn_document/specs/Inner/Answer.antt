@@ -7,7 +7,7 @@ use Rattle.crn_cert.specs.declared.answer.Gap.TheVariants.{Wide, Rests}
 use Rattle.crn_cert.specs.declared.answer.Verdict.{Verdict}
 use Rattle.crn_cert.specs.declared.answer.Verdict.TheVariants.{Unknown}
 use Rattle.crn_cert.specs.declared.answer.RankProof.{RankProof}
-use Rattle.crn_cert.specs.Questions.{Question, Q1, Q2, Q3, Q4, Q5, Q6, Q7, Q8, Q9, Q10}
+use Rattle.crn_cert.specs.Questions.{Question, Q1, Q2, Q3, Q4, Q5, Q6, Q7, Q8, Q9, Q10, Q11, Q12}
 use Rattle.crn_ctext.specs.Records.{Record}
 use Rattle.crn_ctext.specs.Meaning.{number, nums, verdict_by}
 use Rattle.crn_ctext.specs.Questions.{later_numbers}
@@ -40,6 +40,9 @@ verdict_at Q7 (suc (suc (suc zero))) n rs = Unknown (wide_gap n)
 verdict_at Q8 (suc (suc (suc zero))) n rs = Unknown (wide_gap n)
 verdict_at Q9 (suc (suc (suc (suc (suc zero))))) n rs = Unknown (Rests (number n 0))
 verdict_at Q10 (suc (suc (suc (suc (suc (suc (suc zero))))))) n rs = Unknown (Rests (number n 0))
+verdict_at Q11 (suc (suc (suc (suc (suc (suc (suc zero))))))) n rs = Unknown (Rests (number n 0))
+verdict_at Q12 (suc (suc (suc (suc (suc zero))))) n rs = Unknown (wide_gap n)
+verdict_at Q12 (suc (suc (suc (suc (suc (suc (suc zero))))))) n rs = Unknown (Rests (number n 0))
 verdict_at q place n rs = verdict_by q place n rs
 
 -- the same, by the numbers after the place of the form
@@ -70,6 +73,12 @@ IsHeadOf Q9 head = (zs : List ℤ)
 IsHeadOf Q10 head = (zs : List ℤ)
     × ((head ≡ pos 1 ∷ zs) ⊎ ((head ≡ pos 2 ∷ zs) ⊎ ((head ≡ pos 3 ∷ zs)
     ⊎ ((head ≡ pos 4 ∷ zs) ⊎ (head ≡ pos 7 ∷ zs)))))
+IsHeadOf Q11 head = (zs : List ℤ)
+    × ((head ≡ pos 1 ∷ zs) ⊎ ((head ≡ pos 2 ∷ zs) ⊎ ((head ≡ pos 3 ∷ zs)
+    ⊎ ((head ≡ pos 4 ∷ zs) ⊎ (head ≡ pos 7 ∷ zs)))))
+IsHeadOf Q12 head = (zs : List ℤ)
+    × ((head ≡ pos 1 ∷ zs) ⊎ ((head ≡ pos 2 ∷ zs) ⊎ ((head ≡ pos 3 ∷ zs)
+    ⊎ ((head ≡ pos 4 ∷ zs) ⊎ ((head ≡ pos 5 ∷ zs) ⊎ (head ≡ pos 7 ∷ zs))))))
 IsHeadOf q head = ⊥
 
 -- ---- the records below

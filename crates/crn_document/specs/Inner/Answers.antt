@@ -5,7 +5,7 @@ use Rattle.std.specs.Prelude.{◌≡◌, ◌≤◌, ℕ, zero, suc, ℤ, List, [
 use Rattle.crn_cert.specs.declared.answer.Proof.{Proof}
 use Rattle.crn_cert.specs.declared.answer.Proof.TheVariants.{Nothing, Ranks}
 use Rattle.crn_cert.specs.declared.answer.RankProof.{RankProof}
-use Rattle.crn_cert.specs.Questions.{Question, Q1, Q2, Q3, Q5, Q6}
+use Rattle.crn_cert.specs.Questions.{Question, Q1, Q2, Q3, Q5, Q6, Q11}
 use Rattle.crn_ctext.specs.Records.{Record}
 use Rattle.crn_ctext.specs.Questions.{Shapes, later_numbers}
 use Rattle.crn_ctext.specs.Meaning.{lists, number, proof_by}
@@ -18,6 +18,11 @@ abbrev pub FitRank : (place rank : ℕ) → List (List ℤ) → Type 0
 FitRank (suc zero) rank rows = (suc rank ≤ length rows) × AreSmall (slice_index_or rows 0 [])
 FitRank place rank rows = Unit {0}
 
+-- a walk of small numbers, if the head names the reaction that it goes round
+abbrev pub FitWalk : (place : ℕ) → List (List ℤ) → Type 0
+FitWalk (suc (suc (suc (suc zero)))) rows = AreSmall (slice_index_or rows 0 [])
+FitWalk place rows = Unit {0}
+
 -- of the records below a head, those that an answer keeps as small numbers are small, and those of
 -- ranks come one after another
 abbrev pub FitAnswer : Question → List ℤ → List Part → List (List ℤ) → Type 0
@@ -26,6 +31,7 @@ FitAnswer Q2 head parts rows = (length rows ≡ 7) × AreSmallRows rows
 FitAnswer Q3 head parts rows = (length rows ≡ row_count Q3 (number head 0)) × AreSmallRows rows
 FitAnswer Q5 head parts rows = FitRank (number head 0) (number head 1) rows
 FitAnswer Q6 head parts rows = FitParts parts rows
+FitAnswer Q11 head parts rows = FitWalk (number head 0) rows
 FitAnswer q head parts rows = Unit {0}
 
 -- the proofs of these ranks, by the records one after another

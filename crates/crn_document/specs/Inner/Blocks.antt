@@ -6,7 +6,7 @@ use Rattle.std.specs.List.{AllZip}
 use Rattle.crn_vec.specs.Network.{Net}
 use Rattle.crn_cert.specs.Questions.{Earlier, Question}
 use Rattle.crn_cert.specs.Tests.{AllHold}
-use Rattle.crn_cert.specs.Valid.{head_tests, linkage}
+use Rattle.crn_cert.specs.Valid.{exits, head_tests, linkage, linkage_count, strong}
 use Rattle.crn_ctext.specs.Records.{Record, Form, Fits}
 use Rattle.crn_ctext.specs.Course.{Course, Give, ◌>>=◌}
 use Rattle.crn_ctext.specs.Blocks.{Behind, asks_all, asks_trees, below, claims, has_tree, head_claims, problems, row_claims}
@@ -15,10 +15,11 @@ use Rattle.crn_ctext.specs.Meaning as said
 use Rattle.crn_check.specs.Facts.{asked}
 use Rattle.crn_check.specs.Verdicts.{tight}
 use Rattle.crn_document.specs.declared.parts.Part.{Part}
+use Rattle.crn_document.specs.declared.rows.Row.{Row}
 use Rattle.crn_document.specs.Inner.Answer.{verdict_of_head}
 use Rattle.crn_document.specs.Inner.Parts.{IsKnown, parts_below}
 use Rattle.crn_document.specs.Inner.Heads.{IsHead, class_count, known_of}
-use Rattle.crn_document.specs.Inner.Records.{row_form, rows_below}
+use Rattle.crn_document.specs.Inner.Records.{many_rows, row_form, rows_below}
 use Rattle.crn_document.specs.declared.block.Checked.{Checked}
 
 -- after these verdicts and these blocks, at this line, which follows no tree
@@ -64,11 +65,18 @@ head_course version table q at h =
 abbrev pub parts_after : Net → Earlier → (question : ℕ) → List ℤ → List Part
 parts_after net earlier question head = parts_below net (linkage earlier) question head
 
+-- the sides and ties below a head with this place of its form, after these verdicts
+abbrev pub many_after : Net → Earlier → (question place : ℕ) → List Row
+many_after net earlier question place =
+    many_rows net (strong earlier) (exits earlier) (linkage_count earlier) question place
+
 -- the forms of the records below a head with these numbers
 abbrev pub forms_below : Net → Earlier → (question : ℕ) → List ℤ → List Form
 forms_below net earlier question head =
     map (row_form net (linkage earlier) (class_count question head))
-    (rows_below question (said.number head 0) (parts_after net earlier question head))
+    (rows_below question (said.number head 0)
+    (many_after net earlier question (said.number head 0))
+    (parts_after net earlier question head))
 
 -- the tests of a head with these numbers hold
 abbrev pub HeadHolds : Net → Earlier → (question : ℕ) → List ℤ → Type 0

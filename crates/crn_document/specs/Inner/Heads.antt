@@ -1,7 +1,7 @@
 -- For the contracts of private functions alone.
 -- The head of a question, and what the records below it rest on.
 -- Source: this project's own format. Shapes: questions and the places of forms count from 1.
-use Rattle.std.specs.Prelude.{◌≡◌, ◌==◌, ◌||◌, if◌then◌else◌, ℕ, ℤ, pos, List, [], ◌∷◌}
+use Rattle.std.specs.Prelude.{◌≡◌, ◌==◌, ◌||◌, if◌then◌else◌, ℕ, ℤ, pos, List, ◌∷◌}
 use Rattle.crn_vec.specs.Network.{Net}
 use Rattle.crn_cert.specs.Questions.{Earlier}
 use Rattle.crn_ctext.specs.Records.{Record, Form}

@@ -2,24 +2,25 @@
 -- A record that is due, and the records below a head, by their words.
 -- Source: this project's own format. Shapes: complexes and reactions of a network count from 1 in a
 -- document.
-use Rattle.std.specs.Prelude.{◌≡◌, ◌==◌, ◌&&◌, if◌then◌else◌, ◌-◌, ◌+◌, ◌≤◌, ◌⊎◌, ◌++◌, replicate, ℕ, ℤ, List, [], ◌∷◌, length, codes, false}
+use Rattle.std.specs.Prelude.{◌≡◌, ◌==◌, ◌&&◌, if◌then◌else◌, ◌-◌, ◌+◌, ◌≤◌, ◌⊎◌, ◌++◌, replicate, ℕ, ℤ, pos, List, [], ◌∷◌, length, map, codes, false}
 use Rattle.std.specs.List.{AllZip, flat_map}
 use Rattle.crn_vec.specs.Network.{Net}
-use Rattle.crn_vec.specs.declared.limits.TheConstants.{MAX_REACTIONS}
-use Rattle.crn_ctext.specs.Records.{Record, Form, Fits, Members}
+use Rattle.crn_vec.specs.declared.limits.TheConstants.{MAX_COMPLEXES, MAX_REACTIONS}
+use Rattle.crn_pairs.specs.Pairs.{pairs_to}
+use Rattle.crn_ctext.specs.Records.{Record, Form, Fits, Members, Several}
 use Rattle.crn_ctext.specs.Meaning.{lists}
-use Rattle.crn_ctext.specs.Kinds.{small_form, record_form, free_form}
+use Rattle.crn_ctext.specs.Kinds.{just, small, small_form, record_form, free_form}
 use Rattle.crn_ctext.specs.Course.{Course, due, ◌>>=◌}
 use Rattle.crn_ctext.specs.Documents.{IsOneOf}
 use Rattle.crn_ctext.specs.Expect.{IsExpectable, MayBeDue, forms_of, is_after, misplaced, part_field, sizes_of, tag_of, tests_of, text_of}
 use Rattle.crn_ctext.specs.declared.expect.Expect.{Expect}
 use Rattle.crn_ctext.specs.declared.expect.Due.{Due}
-use Rattle.crn_ctext.specs.declared.expect.Due.TheVariants.{Part, Base as DueBase}
+use Rattle.crn_ctext.specs.declared.expect.Due.TheVariants.{Part, Base as DueBase, Side as DueSide, Walk as DueWalk}
 use Rattle.crn_ctext.specs.declared.word.Word.{Word}
 use Rattle.crn_document.specs.declared.parts.Part.{Part as RankPart}
 use Rattle.crn_document.specs.Inner.Parts.{members_of}
 use Rattle.crn_document.specs.declared.rows.Row.{Row}
-use Rattle.crn_document.specs.declared.rows.Row.TheVariants.{Label, Up, Depth, From, FromDepth, To, ToDepth, Level, Exit, Back, Base, Dual, Comb, VecOfReactions, VecOfSpecies, CutOfReactions, CutOfSpecies}
+use Rattle.crn_document.specs.declared.rows.Row.TheVariants.{Label, Up, Depth, From, FromDepth, To, ToDepth, Level, Exit, Back, Base, Dual, Comb, VecOfReactions, VecOfSpecies, CutOfReactions, CutOfSpecies, VecOfComplexes, Side, Walk, Tie}
 
 -- the record that is due at a line
 abbrev pub asks_for : Expect → (line : ℕ) → Course Record
@@ -64,8 +65,15 @@ row_form net labels n VecOfReactions = free_form (codes "vec") (length net.react
 row_form net labels n VecOfSpecies = free_form (codes "vec") (length net.names)
 row_form net labels n CutOfReactions = free_form (codes "cut") (length net.reactions)
 row_form net labels n CutOfSpecies = free_form (codes "cut") (length net.names)
+row_form net labels n VecOfComplexes = free_form (codes "vec") (length net.complexes)
+row_form net labels n (Side reaction) =
+    record_form (codes "side") (just reaction ∷ small (length net.complexes) 0 1 ∷ [])
+row_form net labels n Walk =
+    record_form (codes "walk")
+    (Several 2 (length net.complexes) (pos 1) (pos (length net.complexes)) ∷ [])
+row_form net labels n (Tie classes) = free_form (codes "tie") (length net.names + classes)
 
--- the records below a head that prove no rank, by its question and the place of its form
+-- the records below a head but for ranks, sides and ties, by its question and the place of its form
 abbrev pub fixed_rows : (question place : ℕ) → List Row
 fixed_rows question place =
     if question == 1 then Label ∷ Up ∷ Depth ∷ [] else (
@@ -74,21 +82,36 @@ fixed_rows question place =
     if question == 7 && place == 1 then VecOfReactions ∷ [] else (
     if question == 7 && place == 2 then CutOfSpecies ∷ [] else (
     if question == 8 && place == 1 then VecOfSpecies ∷ [] else (
-    if question == 8 && place == 2 then CutOfReactions ∷ [] else []))))))
+    if question == 8 && place == 2 then CutOfReactions ∷ [] else (
+    if question == 11 && place == 4 then Walk ∷ [] else (
+    if question == 12 && place == 1 then VecOfComplexes ∷ [] else (
+    if question == 12 && place == 4 then VecOfComplexes ∷ VecOfComplexes ∷ [] else [])))))))))
+
+-- the sides and ties below a head, by its question and the place of its form, where complexes have
+-- these labels of strong classes, and these have these exits, and there are so many linkage classes
+abbrev pub many_rows : Net → (labels exits : List ℕ) → (classes question place : ℕ) → List Row
+many_rows net labels exits classes question place =
+    if question == 11 && place == 1
+    then map (λ r. Side r) (pairs_to net labels exits (length net.reactions)) else (
+    if question == 12 && place == 1
+    then replicate (length net.complexes - 1) (Tie classes) else (
+    if question == 12 && place == 3 then replicate (length net.complexes) (Tie classes) else []))
 
 -- the records that prove a rank
 abbrev pub part_rows : RankPart → List Row
 part_rows p = Base p.class p.rank
     ∷ replicate p.rank Dual ++ replicate (p.count - p.rank) (Comb p.rank)
 
--- the records below a head that proves these ranks
-abbrev pub rows_below : (question place : ℕ) → List RankPart → List Row
-rows_below question place parts = fixed_rows question place ++ flat_map part_rows parts
+-- the records below a head, with these sides and ties, that proves these ranks
+abbrev pub rows_below : (question place : ℕ) → List Row → List RankPart → List Row
+rows_below question place many parts =
+    fixed_rows question place ++ (many ++ flat_map part_rows parts)
 
 -- the record has at most as many numbers as a line may have
 abbrev pub MayBeRow : Row → Type 0
 MayBeRow (Base class rank) = rank ≤ MAX_REACTIONS
 MayBeRow (Comb rank) = rank ≤ MAX_REACTIONS
+MayBeRow (Tie classes) = classes ≤ MAX_COMPLEXES
 MayBeRow other = Unit {0}
 
 -- if the record is a base, these are the reactions of its linkage class
@@ -96,12 +119,16 @@ abbrev pub AreMembers : Net → List ℕ → Row → List ℕ → Type 0
 AreMembers net labels (Base class rank) members = members ≡ members_of net labels class
 AreMembers net labels other members = Unit {0}
 
--- what is due is a base of this form
-abbrev pub IsBaseDue : Form → Due → Type 0
-IsBaseDue form (DueBase count members) =
+-- what is due is a base, a side or a walk of this form, where there are so many complexes
+abbrev pub IsOwnDue : (complexes : ℕ) → Form → Due → Type 0
+IsOwnDue complexes form (DueBase count members) =
     (record_form (codes "base") (Members count members.now ∷ []) ≡ form)
     × ((version : ℕ) → MayBeDue (DueBase count members) version)
-IsBaseDue form other = ⊥
+IsOwnDue complexes form (DueSide reaction) =
+    record_form (codes "side") (just reaction ∷ small complexes 0 1 ∷ []) ≡ form
+IsOwnDue complexes form DueWalk =
+    record_form (codes "walk") (Several 2 complexes (pos 1) (pos complexes) ∷ []) ≡ form
+IsOwnDue complexes form other = ⊥
 
 -- what is due is a record of this form, which has at most as many small numbers as a line may have
 pub record IsPartDue (form : Form) (d : Due) : Type 0 where
@@ -113,9 +140,9 @@ pub record IsPartDue (form : Form) (d : Due) : Type 0 where
   pub has : record_form (text_of word) (part_field (text_of word) count least greatest ∷ []) ≡ form
   pub may : (version : ℕ) → MayBeDue (Part word count least greatest) version
 
--- what is due is a base or another record of this form
-abbrev pub IsRowDue : Form → Due → Type 0
-IsRowDue form d = IsBaseDue form d ⊎ IsPartDue form d
+-- what is due is a record of this form, where there are so many complexes
+abbrev pub IsRowDue : (complexes : ℕ) → Form → Due → Type 0
+IsRowDue complexes form d = IsOwnDue complexes form d ⊎ IsPartDue form d
 
 -- the record has this form, and its numbers were added to the rows
 abbrev pub IsRow : Form → (old new : List (List ℤ)) → Record → Type 0

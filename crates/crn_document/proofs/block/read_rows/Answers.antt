@@ -6,7 +6,7 @@ use Rattle.std.proofs.lemmas.List.{length-map}
 use Rattle.crn_ctext.specs.Records.{Form}
 use Rattle.crn_ctext.specs.Blocks.{asks_all}
 use Rattle.crn_ctext.specs.Steps.{StepGives}
-use Rattle.crn_cert.specs.Valid.{linkage}
+use Rattle.crn_cert.specs.Valid.{exits, linkage, strong}
 use Rattle.crn_vec.specs.declared.limits.TheConstants.{MAX_COMPLEXES}
 use Rattle.crn_check.specs.Facts.{asked}
 use Rattle.crn_document.specs.declared.rows.Row.{Row}
@@ -43,7 +43,7 @@ next_rows-requires-clause-may g c =
     let labels = l.labels_are in
     let long : length (linkage c.args.checked.now.facts.earlier) ≤ MAX_COMPLEXES = (let e = ap (λ (x : List ℕ). length x) labels in let m = l.long in omega (arith, e, m)) in
     let parts : c.deref.result.now ≡ parts_after c.args.net.now c.args.checked.now.facts.earlier c.args.question c.args.head.now = c.deref.ensures.value ∙ c.in_ok-parts.ensures ∙ ap (λ (ls : List ℕ). parts_below c.args.net.now ls c.args.question c.args.head.now) labels in
-    subst (λ (due : List Row). AllByRecursion MayBeRow due) (sym (c.deref-2.ensures.value ∙ c.in_ok-due.ensures)) (rows_may c.args.question c.number_of-place.result c.deref.result.now (subst AreRanks (sym parts) (let r = f.ranks in r long)))
+    subst (λ (due : List Row). AllByRecursion MayBeRow due) (sym (c.deref-2.ensures.value ∙ c.in_ok-due.ensures)) (rows_may c.args.net.now (strong c.args.checked.now.facts.earlier) (exits c.args.checked.now.facts.earlier) c.linkage_of-linkage.result.count c.args.question c.number_of-place.result c.deref.result.now (let l = c.linkage_of-linkage.ensures in l.few) (subst AreRanks (sym parts) (let r = f.ranks in r long)))
 
 pub accept-requires-clause-line : goal.accept-requires-clause-line
 accept-requires-clause-line g c =
@@ -60,7 +60,7 @@ pub accept-requires-clause-block : goal.accept-requires-clause-block
 accept-requires-clause-block g c =
     let s = c.in_ok-next_rows.ensures.step in
     let forms = map (row_form c.args.net.now c.linkage_of-linkage.result.labels.now c.class_count-classes.result) c.deref-2.result.now in
-    let same = forms_are c.args.net.now c.args.checked.now.facts.earlier c.args.question c.args.head.now c.linkage_of-linkage.result.labels.now c.class_count-classes.result c.number_of-place.result c.deref.result.now c.deref-2.result.now (let l = c.linkage_of-linkage.ensures in l.labels_are) c.class_count-classes.ensures c.number_of-place.ensures (c.deref.ensures.value ∙ c.in_ok-parts.ensures) (c.deref-2.ensures.value ∙ c.in_ok-due.ensures) in
+    let same = forms_are c.args.net.now c.args.checked.now.facts.earlier c.args.question c.args.head.now c.linkage_of-linkage.result.labels.now c.linkage_of-linkage.result.count c.class_count-classes.result c.number_of-place.result c.deref.result.now c.deref-2.result.now (let l = c.linkage_of-linkage.ensures in l.labels_are) (let l = c.linkage_of-linkage.ensures in l.count_is) c.class_count-classes.ensures c.number_of-place.ensures (c.deref.ensures.value ∙ c.in_ok-parts.ensures) (c.deref-2.ensures.value ∙ c.in_ok-due.ensures) in
     (c.requires.head.0, s.0, rows_block c.args.net.now c.args.checked.now.facts.earlier c.args.question c.args.head.now forms c.next_rows.new.into c.in_ok-rows.rows c.requires.head.0 s.0 same c.in_ok-rows.ensures c.requires.head.1 s.1)
 
 pub returns-in_err-members-clause-step : goal.returns-in_err-members-clause-step
@@ -72,7 +72,7 @@ returns-in_err-next_rows-clause-step g c = λ h n table blocks said next.
     let at = c.args.at.now in
     let earlier = c.args.checked.now.facts.earlier in
     let e = c.in_err-next_rows.field-0.0 in
-    let same = forms_are c.args.net.now earlier c.args.question c.args.head.now c.linkage_of-linkage.result.labels.now c.class_count-classes.result c.number_of-place.result c.deref.result.now c.deref-2.result.now (let l = c.linkage_of-linkage.ensures in l.labels_are) c.class_count-classes.ensures c.number_of-place.ensures (c.deref.ensures.value ∙ c.in_ok-parts.ensures) (c.deref-2.ensures.value ∙ c.in_ok-due.ensures) in
+    let same = forms_are c.args.net.now earlier c.args.question c.args.head.now c.linkage_of-linkage.result.labels.now c.linkage_of-linkage.result.count c.class_count-classes.result c.number_of-place.result c.deref.result.now c.deref-2.result.now (let l = c.linkage_of-linkage.ensures in l.labels_are) (let l = c.linkage_of-linkage.ensures in l.count_is) c.class_count-classes.ensures c.number_of-place.ensures (c.deref.ensures.value ∙ c.in_ok-parts.ensures) (c.deref-2.ensures.value ∙ c.in_ok-due.ensures) in
     step_exits _ _ _ e _ _ _ _ (err_from_is_err_and _ c.from_residual-in_err-next_rows.ensures.1)
     (rows_course_by (λ d. StopIs d e at (g.S.Source.seen c.args.source.now) (g.S.Source.seen c.next_rows.new.source)) at.version table c.args.net.now c.args.checked.now.facts c.args.question n at.line c.args.head.now h blocks c.requires.built c.requires.ready.known said next
     (stop_first (asks_all at.version at.line false (forms_below c.args.net.now earlier c.args.question c.args.head.now)) (λ rows. end_course at.version table (asked c.args.question) (behind_at c.args.net.now earlier n blocks) h rows) e at _ _
@@ -85,7 +85,7 @@ returns-clause-step g c = λ h n table blocks said next.
     let earlier = c.args.checked.now.facts.earlier in
     let s = c.in_ok-next_rows.ensures.step in
     let forms = map (row_form c.args.net.now c.linkage_of-linkage.result.labels.now c.class_count-classes.result) c.deref-2.result.now in
-    let same = forms_are c.args.net.now earlier c.args.question c.args.head.now c.linkage_of-linkage.result.labels.now c.class_count-classes.result c.number_of-place.result c.deref.result.now c.deref-2.result.now (let l = c.linkage_of-linkage.ensures in l.labels_are) c.class_count-classes.ensures c.number_of-place.ensures (c.deref.ensures.value ∙ c.in_ok-parts.ensures) (c.deref-2.ensures.value ∙ c.in_ok-due.ensures) in
+    let same = forms_are c.args.net.now earlier c.args.question c.args.head.now c.linkage_of-linkage.result.labels.now c.linkage_of-linkage.result.count c.class_count-classes.result c.number_of-place.result c.deref.result.now c.deref-2.result.now (let l = c.linkage_of-linkage.ensures in l.labels_are) (let l = c.linkage_of-linkage.ensures in l.count_is) c.class_count-classes.ensures c.number_of-place.ensures (c.deref.ensures.value ∙ c.in_ok-parts.ensures) (c.deref-2.ensures.value ∙ c.in_ok-due.ensures) in
     let block = rows_block c.args.net.now earlier c.args.question c.args.head.now forms c.next_rows.new.into c.in_ok-rows.rows h s.0 same c.in_ok-rows.ensures said s.1 in
     let line : at.line - 1 ≡ n = omega (arith, next) in
     let ends = let a = c.accept.ensures.step in a h s.0 at.version table blocks (g.S.Source.seen c.next_rows.new.source) block in

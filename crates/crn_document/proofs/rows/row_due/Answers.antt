@@ -1,4 +1,4 @@
-use Rattle.std.proofs.Common.{inl, subst, arith, ◌≤◌, length}
+use Rattle.std.proofs.Common.{inl, refl, subst, arith, ◌≤◌, length}
 use Rattle.crn_vec.specs.declared.limits.TheConstants.{MAX_REACTIONS}
 use Rattle.crn_document.specs.declared.rows.Row.{Row}
 use Rattle.crn_document.specs.Inner.Records.{AreMembers, MayBeRow}
@@ -12,4 +12,10 @@ returns-in-Base c =
     let few : length net.reactions ≤ MAX_REACTIONS = (let e = c.reactions-r.ensures.count in let l = c.reactions-r.ensures.limit in omega (arith, e, l)) in
     let may = subst (λ (row : Row). MayBeRow row) c.in-Base.is c.requires.may in
     let members = subst (λ (row : Row). AreMembers net labels row c.args.members.now) c.in-Base.is c.requires.members in
-    rw c.in-Base.is (inl (base_due net labels c.in-Base.class c.in-Base.rank c.args.members few may members))
+    rw c.in-Base.is (inl (base_due net labels (length net.complexes) c.in-Base.class c.in-Base.rank c.args.members few may members))
+
+pub returns-in-Side : goal.returns-in-Side
+returns-in-Side c = rw c.in-Side.is (inl refl)
+
+pub returns-in-Walk : goal.returns-in-Walk
+returns-in-Walk c = rw c.in-Walk.is (inl refl)
