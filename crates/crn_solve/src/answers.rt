@@ -8,13 +8,14 @@ ghost use Rattle.crn_cert.specs.Formed.{AreFormed};
 ghost use Rattle.crn_cert.specs.Valid.{AreValid};
 ghost use Rattle.crn_cert.specs.Licensed.{AllTrueOrLicensed};
 
-use crate::classes::{linkage_answer, strong_answer};
 use crate::deficiency_answer::deficiency_answer;
 use crate::laws::meets_definition;
+use crate::linkage_answer::linkage_answer;
 use crate::positive::{conservative, positively_dependent};
 use crate::rank_answer::rank_answer;
 use crate::reversible::{reversible, weakly_reversible};
-use crate::theorem_answers::zero_answer;
+use crate::strong_answer::strong_answer;
+use crate::zero_answer::zero_answer;
 use crn_cert::Answers;
 use crn_defi::one_hypotheses;
 use crn_graph::{linkage, strong};

@@ -1,27 +1,18 @@
 ghost use Rattle.std.specs.Prelude.{◌≡◌, ℕ, IfOk};
-ghost use Rattle.crn_cert.specs.Questions.{Earlier, Q5, Q6, on, rank_of};
+ghost use Rattle.crn_cert.specs.Questions.{Earlier, Q5, Q6, on};
 ghost use Rattle.crn_cert.specs.Says.{AreLinkageClasses};
 ghost use Rattle.crn_cert.specs.Valid.{linkage, linkage_count};
 ghost use Rattle.crn_cert.specs.Answered.{IsAnswer};
 ghost use Rattle.crn_solve.specs.Inner.Answered.{IsRankOrOpen};
 
 use crate::open::rests_answer;
+use crate::parts::rank_of;
 use crn_cert::{Answer, Verdict};
 use crn_defi::deficiencies;
 use crn_graph::LinkageData;
 use crn_net::Network;
 use crn_vec::NoMemory;
 use std::alloc::Global;
-
-// The rank, if it is decided.
-pub(crate) fn rank_of(verdict: &Verdict) -> Option<u32>
-    ensures { result ≡ rank_of verdict.now }
-{
-    match verdict {
-        Verdict::Rank { rank, .. } => Some(*rank),
-        _ => None,
-    }
-}
 
 /// Question 6: the deficiencies of the network and of its linkage classes, which rest on the rank.
 pub(crate) fn deficiency_answer(

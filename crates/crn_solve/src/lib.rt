@@ -2,16 +2,18 @@
 #![tactic(auto)]
 
 mod answers;
-mod classes;
 mod deficiency_answer;
 mod laws;
+mod linkage_answer;
 mod open;
+mod parts;
 mod positive;
 mod rank_answer;
 mod reversible;
+mod strong_answer;
 mod systems;
 #[cfg(test)]
 mod tests;
-mod theorem_answers;
+mod zero_answer;
 
 pub use answers::solve;

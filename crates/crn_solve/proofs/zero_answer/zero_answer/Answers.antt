@@ -5,7 +5,7 @@ use Rattle.crn_cert.specs.Questions.{IsYes, Q9}
 use Rattle.crn_cert.specs.Answered.{IsAnswer}
 use Rattle.crn_solve.proofs.Deficiencies.{gives_rank}
 use Rattle.crn_solve.proofs.Theorems.{weak_is, zero_rests_given}
-use Rattle.crn_solve.proofs.theorem_answers.zero_answer.Goals as goal
+use Rattle.crn_solve.proofs.zero_answer.zero_answer.Goals as goal
 
 pub zero_hypotheses-requires-clause-rank : goal.zero_hypotheses-requires-clause-rank
 zero_hypotheses-requires-clause-rank c = c.requires.rank.rank c.in-Some.rank (sym c.in-Some.ensures)

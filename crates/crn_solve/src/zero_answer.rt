@@ -1,27 +1,16 @@
-ghost use Rattle.std.specs.Prelude.{◌≡◌, ◌↔◌, ℕ, IsTrue};
-ghost use Rattle.crn_cert.specs.Questions.{Earlier, IsYes, Q4, Q5, Q9, on};
+ghost use Rattle.std.specs.Prelude.{◌≡◌, ℕ};
+ghost use Rattle.crn_cert.specs.Questions.{Earlier, Q4, Q5, Q9, on};
 ghost use Rattle.crn_cert.specs.Says.{AreLinkageClasses, IsTrueOf};
 ghost use Rattle.crn_cert.specs.Valid.{linkage, linkage_count};
 ghost use Rattle.crn_cert.specs.Answered.{IsAnswer};
 ghost use Rattle.crn_solve.specs.Inner.Answered.{IsRankOrOpen};
 
-use crate::deficiency_answer::rank_of;
 use crate::open::rests_answer;
+use crate::parts::{is_yes, rank_of};
 use crn_cert::{Answer, Verdict};
 use crn_defi::zero_hypotheses;
 use crn_graph::LinkageData;
 use crn_net::Network;
-
-// Whether the verdict on weak reversibility is a yes.
-fn is_yes(verdict: &Verdict) -> bool
-    ensures { IsTrue result ↔ IsYes verdict.now }
-{
-    match verdict {
-        Verdict::Yes => true,
-        Verdict::YesVec { .. } => true,
-        _ => false,
-    }
-}
 
 /// Question 9: the hypotheses of the Deficiency Zero Theorem, which rest on the rank.
 pub(crate) fn zero_answer(

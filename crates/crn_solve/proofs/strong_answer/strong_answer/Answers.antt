@@ -5,7 +5,7 @@ use Rattle.crn_cert.specs.Questions.{Q2}
 use Rattle.crn_cert.specs.Formed.{IsFormed}
 use Rattle.crn_cert.specs.Valid.{IsValid}
 use Rattle.crn_cert.proofs.CallerLemmas.{valid_answers_are_true}
-use Rattle.crn_solve.proofs.classes.strong_answer.Goals as goal
+use Rattle.crn_solve.proofs.strong_answer.strong_answer.Goals as goal
 
 pub returns-clause-answer : goal.returns-clause-answer
 returns-clause-answer c net earlier n d =
