@@ -1,8 +1,6 @@
 //! The top call of the program: it reads words and a text, and writes a report, a document, or why a text is refused or rejected.
 #![tactic(auto)]
 
-#[cfg(test)]
-mod edit_tests;
 mod laws;
 mod network;
 mod output;
