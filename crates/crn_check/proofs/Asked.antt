@@ -4,7 +4,7 @@ use Rattle.std.specs.List.{AllByRecursion}
 use Rattle.crn_vec.specs.Lists.{IsIn}
 use Rattle.crn_cert.specs.declared.answer.Verdict.{Verdict}
 use Rattle.crn_cert.specs.Built.{built}
-use Rattle.crn_cert.specs.Questions.{Earlier, Question, Q1, Q2, Q3, Q4, Q5, Q6, Q7, Q8, Q9, number}
+use Rattle.crn_cert.specs.Questions.{Earlier, Question, Q1, Q2, Q3, Q4, Q5, Q6, Q7, Q8, Q9, Q10, Q11, number}
 use Rattle.crn_check.specs.Facts.{HoldsOn, HoldsNoneFrom}
 use Rattle.crn_check.specs.Check.{IsBuilt, HoldsNeeds}
 
@@ -49,7 +49,20 @@ needs_held es n (inr (inr (inr (inr (inr (inr (inr (inr (inr (inl is)))))))))) b
     let second : IsIn Q2 (asks es) = rw nine (inr (inl refl)) in
     let sixth : IsIn Q6 (asks es) = rw nine (inr (inr (inr (inr (inr (inl refl)))))) in
     rw is (held es Q1 first, (held es Q2 second, (held es Q6 sixth, tt)))
-needs_held es n (inr (inr (inr (inr (inr (inr (inr (inr (inr (inr none)))))))))) before = absurd none
+needs_held es n (inr (inr (inr (inr (inr (inr (inr (inr (inr (inr (inl is))))))))))) before =
+    let ten : asks es ≡ Q1 ∷ Q2 ∷ Q3 ∷ Q4 ∷ Q5 ∷ Q6 ∷ Q7 ∷ Q8 ∷ Q9 ∷ Q10 ∷ [] = rw is at before in
+    let first : IsIn Q1 (asks es) = rw ten (inl refl) in
+    let second : IsIn Q2 (asks es) = rw ten (inr (inl refl)) in
+    let seventh : IsIn Q7 (asks es) = rw ten (inr (inr (inr (inr (inr (inr (inl refl))))))) in
+    rw is (held es Q1 first, (held es Q2 second, (held es Q7 seventh, tt)))
+needs_held es n (inr (inr (inr (inr (inr (inr (inr (inr (inr (inr (inr (inl is)))))))))))) before =
+    let eleven : asks es ≡ Q1 ∷ Q2 ∷ Q3 ∷ Q4 ∷ Q5 ∷ Q6 ∷ Q7 ∷ Q8 ∷ Q9 ∷ Q10 ∷ Q11 ∷ [] = rw is at before in
+    let first : IsIn Q1 (asks es) = rw eleven (inl refl) in
+    let second : IsIn Q2 (asks es) = rw eleven (inr (inl refl)) in
+    let fourth : IsIn Q4 (asks es) = rw eleven (inr (inr (inr (inl refl)))) in
+    let last : IsIn Q11 (asks es) = rw eleven (inr (inr (inr (inr (inr (inr (inr (inr (inr (inr (inl refl))))))))))) in
+    rw is (held es Q1 first, (held es Q2 second, (held es Q4 fourth, (held es Q11 last, tt))))
+needs_held es n (inr (inr (inr (inr (inr (inr (inr (inr (inr (inr (inr (inr none)))))))))))) before = absurd none
 
 pub none_from : (es : Earlier) (n : ℕ) → IsBuilt n → asks es ≡ take (n - 1) built → HoldsNoneFrom n es
 none_from es n is before = below es n (subst (AllByRecursion (λ q. number q < n)) (sym before) (go n is))
@@ -65,4 +78,6 @@ none_from es n is before = below es n (subst (AllByRecursion (λ q. number q < n
     go n (inr (inr (inr (inr (inr (inr (inr (inl is)))))))) = rw is (omega arith, (omega arith, (omega arith, (omega arith, (omega arith, (omega arith, (omega arith, tt)))))))
     go n (inr (inr (inr (inr (inr (inr (inr (inr (inl is))))))))) = rw is (omega arith, (omega arith, (omega arith, (omega arith, (omega arith, (omega arith, (omega arith, (omega arith, tt))))))))
     go n (inr (inr (inr (inr (inr (inr (inr (inr (inr (inl is)))))))))) = rw is (omega arith, (omega arith, (omega arith, (omega arith, (omega arith, (omega arith, (omega arith, (omega arith, (omega arith, tt)))))))))
-    go n (inr (inr (inr (inr (inr (inr (inr (inr (inr (inr none)))))))))) = absurd none
+    go n (inr (inr (inr (inr (inr (inr (inr (inr (inr (inr (inl is))))))))))) = rw is (omega arith, (omega arith, (omega arith, (omega arith, (omega arith, (omega arith, (omega arith, (omega arith, (omega arith, (omega arith, tt))))))))))
+    go n (inr (inr (inr (inr (inr (inr (inr (inr (inr (inr (inr (inl is)))))))))))) = rw is (omega arith, (omega arith, (omega arith, (omega arith, (omega arith, (omega arith, (omega arith, (omega arith, (omega arith, (omega arith, (omega arith, tt)))))))))))
+    go n (inr (inr (inr (inr (inr (inr (inr (inr (inr (inr (inr (inr none)))))))))))) = absurd none

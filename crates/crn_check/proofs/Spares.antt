@@ -1,6 +1,6 @@
 -- The form, the tests and the truth of an answer do not depend on spares of lists.
-use Rattle.std.proofs.Common.{◌≡◌, ◌↔◌, ◌≤◌, ◌==◌, ◌+◌, ◌-◌, ◌<◌, ◌≢◌, Bool, true, false, if◌then◌else◌, inl, inr, ℕ, suc, List, [], ◌∷◌, ◌++◌, length, map, get_or, refl, sym, ap, ap₂, subst, ◌∙◌}
-use Rattle.std.specs.Prelude.{◌&&◌, IsTrue, min, filter, count_by, sum, Option}
+use Rattle.std.proofs.Common.{◌≡◌, ◌↔◌, ◌≤◌, ◌==◌, ◌+◌, ◌-◌, ◌<◌, ◌≢◌, ◌⊎◌, Bool, true, false, if◌then◌else◌, inl, inr, ℕ, suc, List, [], ◌∷◌, ◌++◌, length, map, get_or, refl, sym, ap, ap₂, subst, ◌∙◌}
+use Rattle.std.specs.Prelude.{◌&&◌, IsTrue, ℤ, pos, min, filter, count_by, sum, Option}
 use Rattle.std.specs.Option.{IsSome, IsSomeAnd}
 use Rattle.std.specs.List.{list_any, range_with_len}
 use Rattle.crn_vec.specs.Deficiency.{AreAtMostOne, class_members}
@@ -8,17 +8,19 @@ use Rattle.crn_vec.specs.Lists.{IsIn}
 use Rattle.crn_vec.specs.Network.{Net}
 use Rattle.crn_cert.specs.declared.answer.Gap.TheVariants.{Wide, Budget, Rests}
 use Rattle.crn_cert.specs.declared.answer.Verdict.{Verdict}
-use Rattle.crn_cert.specs.declared.answer.Verdict.TheVariants.{Classes, Strong, Rank, Deficiency, Yes, YesWeak, YesVec, NoReaction, NoVec, NoNumber, NoTerminal, NoClass, NoSum, Unknown}
+use Rattle.crn_cert.specs.declared.answer.Verdict.TheVariants.{Classes, Strong, Rank, Deficiency, Yes, YesWeak, YesVec, NoReaction, NoVec, NoNumber, NoTerminal, NoClass, NoSum, NoDependence, NoCycle, NotRegular, OnlyZero, Plane, Unknown}
 use Rattle.crn_cert.specs.declared.answer.Proof.{Proof}
 use Rattle.crn_cert.specs.declared.answer.Proof.TheVariants.{Nothing, Forest, Strong as StrongTrees, Back, Rank as RankRows, Ranks, Sides, Ties, One, Two}
 use Rattle.crn_cert.specs.declared.answer.RankProof.{RankProof}
 use Rattle.crn_cert.specs.Built.{built}
-use Rattle.crn_cert.specs.Questions.{Earlier, Question, Q1, Q2, Q3, Q4, Q5, Q6, Q7, Q8, Q9, Q10, Q11, Q12, Q13, Q14, Q15, number, on, labels_of, count_of, exits_of, rank_of, deficiencies_of, IsYes}
+use Rattle.crn_cert.specs.Questions.{Earlier, Question, Q1, Q2, Q3, Q4, Q5, Q6, Q7, Q8, Q9, Q10, Q11, Q12, Q13, Q14, Q15, number, on, labels_of, count_of, exits_of, rank_of, deficiencies_of, IsNo, IsOpen, IsYes}
 use Rattle.crn_cert.specs.Tests.{Test, test, AllHold, FailsFirst}
-use Rattle.crn_cert.specs.Formed.{IsFormedOf, IsRankProof, IsWideGap, IsBasisOf, AreClassProofs}
-use Rattle.crn_cert.specs.Valid.{head_tests, row_tests, strong, linkage, linkage_count, exits, classes_to, HaveOneBefore, HaveOneEach, IsFirstSplit, WithDeficiencies, terminals_in, class_places, IsLeft, IsClassNumber, AreClassNumbers, IsFirstLarge, class_rank_tests}
+use Rattle.crn_cert.specs.Formed.{IsFormedOf, IsRankProof, IsWideGap, IsBasisOf, AreClassProofs, AreSides}
+use Rattle.crn_cert.specs.ClassTests.{AreSideMarks}
+use Rattle.crn_cert.specs.ConfluenceTests.{IsInSpace, DoTerminalsGather, least_from, others_than, tie_tests}
+use Rattle.crn_cert.specs.Valid.{head_tests, row_tests, strong, linkage, linkage_count, exits, classes_to, HaveOneBefore, HaveOneEach, IsFirstSplit, WithDeficiencies, terminals_in, class_places, IsLeft, IsClassNumber, AreClassNumbers, IsFirstLarge, class_rank_tests, IsWithinTerminal, is_least_of_pair, pair_places, side_tests, IsNormal, IsApartAt}
 use Rattle.crn_cert.specs.RankTests.{rank_tests}
-use Rattle.crn_cert.specs.Ranges.{IsFrom, AreFrom}
+use Rattle.crn_cert.specs.Ranges.{IsFrom, AreFrom, AreFreeRows}
 use Rattle.crn_cert.specs.Law.{IsTrueOrOpen}
 use Rattle.crn_check.specs.Verdicts.{tight, tight_proof, tight_rank, all_tight}
 use Rattle.crn_check.specs.Law.{AreAlike, ChecksSeeNoSpares}
@@ -163,6 +165,53 @@ heads_10 net es (NoSum x) = ap (λ (A : Type 0). alone A) (known_tight es (λ to
 heads_10 net es (Unknown gap) = refl
 heads_10 net es v = refl
 
+-- ---- heads on regularity and on the confluence vector
+
+exits_known_tight : (es : Earlier) → exits (all_tight es) ≡ exits es
+exits_known_tight es = ap exits_of (on_tight es Q2) ∙ exits_tight (on es Q2)
+
+no_tight : (v : Verdict) → IsNo (tight v) ≡ IsNo v
+no_tight (Unknown gap) = refl
+no_tight v = refl
+
+open_tight : (v : Verdict) → IsOpen (tight v) ≡ IsOpen v
+open_tight (Unknown gap) = refl
+open_tight v = refl
+
+yes_on : (es : Earlier) (q : Question) → IsYes (on (all_tight es) q) ≡ IsYes (on es q)
+yes_on es q = ap IsYes (on_tight es q) ∙ yes_tight (on es q)
+
+no_on : (es : Earlier) (q : Question) → IsNo (on (all_tight es) q) ≡ IsNo (on es q)
+no_on es q = ap IsNo (on_tight es q) ∙ no_tight (on es q)
+
+open_on : (es : Earlier) (q : Question) → IsOpen (on (all_tight es) q) ≡ IsOpen (on es q)
+open_on es q = ap IsOpen (on_tight es q) ∙ open_tight (on es q)
+
+-- two complexes are in one strong class without an exit, by lists
+abbrev within_by : (labels out : List ℕ) → ℕ × ℕ → Bool
+within_by labels out e = (get_or labels e.0 0 == get_or labels e.1 0) && (get_or out (get_or labels e.0 0 - 1) 0 == 0)
+
+within_tight : (net : Net) (es : Earlier) (r : ℕ) → IsWithinTerminal net (all_tight es) r ≡ IsWithinTerminal net es r
+within_tight net es r = ap₂ (λ (labels out : List ℕ). (1 ≤ r) × (r ≤ length net.reactions) × IsTrue (within_by labels out (get_or net.reactions (r - 1) (0, 0)))) (strong_tight es) (exits_known_tight es)
+
+heads_11 : (net : Net) (es : Earlier) (v : Verdict) → head_tests net (all_tight es) Q11 (tight v) ≡ head_tests net es Q11 v
+heads_11 net es Yes = ap₂ (λ (A B : Type 0). alone (A × B)) (each_tight es) (yes_on es Q7)
+heads_11 net es (NoTerminal k count) = ap (λ (A : Type 0). alone A) (split_tight es k count)
+heads_11 net es NoDependence = ap₂ (λ (A B : Type 0). alone (A × B)) (each_tight es) (no_on es Q7)
+heads_11 net es (NoCycle r walk) =
+    ap₂ (λ (A B : Type 0). alone (A × (B ⊎ IsOpen (on (all_tight es) Q7)) × IsWithinTerminal net (all_tight es) r)) (each_tight es) (yes_on es Q7)
+    ∙ ap₂ (λ (A B : Type 0). alone (HaveOneEach es × (IsYes (on es Q7) ⊎ A) × B)) (open_on es Q7) (within_tight net es r)
+heads_11 net es (Unknown gap) = refl
+heads_11 net es v = refl
+
+heads_12 : (net : Net) (es : Earlier) (v : Verdict) → head_tests net (all_tight es) Q12 (tight v) ≡ head_tests net es Q12 v
+heads_12 net es (YesVec vector) = ap (λ (A : Type 0). alone A) (yes_on es Q11)
+heads_12 net es NotRegular = ap (λ (A : Type 0). alone A) (no_on es Q11)
+heads_12 net es OnlyZero = ap (λ (A : Type 0). alone A) (yes_on es Q11)
+heads_12 net es (Plane first second one two) = ap (λ (A : Type 0). alone A) (yes_on es Q11)
+heads_12 net es (Unknown gap) = refl
+heads_12 net es v = refl
+
 pub head_tests_tight : (net : Net) (es : Earlier) (q : Question) (v : Verdict) → IsIn q built → head_tests net (all_tight es) q (tight v) ≡ head_tests net es q v
 head_tests_tight net es q v (inl is) = rw is refl
 head_tests_tight net es q v (inr (inl is)) = rw is refl
@@ -174,7 +223,9 @@ head_tests_tight net es q v (inr (inr (inr (inr (inr (inr (inl is))))))) = rw is
 head_tests_tight net es q v (inr (inr (inr (inr (inr (inr (inr (inl is)))))))) = rw is refl
 head_tests_tight net es q v (inr (inr (inr (inr (inr (inr (inr (inr (inl is))))))))) = rw is (heads_9 net es v)
 head_tests_tight net es q v (inr (inr (inr (inr (inr (inr (inr (inr (inr (inl is)))))))))) = rw is (heads_10 net es v)
-head_tests_tight net es q v (inr (inr (inr (inr (inr (inr (inr (inr (inr (inr none)))))))))) = absurd none
+head_tests_tight net es q v (inr (inr (inr (inr (inr (inr (inr (inr (inr (inr (inl is))))))))))) = rw is (heads_11 net es v)
+head_tests_tight net es q v (inr (inr (inr (inr (inr (inr (inr (inr (inr (inr (inr (inl is)))))))))))) = rw is (heads_12 net es v)
+head_tests_tight net es q v (inr (inr (inr (inr (inr (inr (inr (inr (inr (inr (inr (inr none)))))))))))) = absurd none
 
 -- ---- records
 
@@ -211,18 +262,89 @@ rows_8 : (net : Net) (es : Earlier) (v : Verdict) (p : Proof) → row_tests net 
 rows_8 net es (Unknown gap) p = refl
 rows_8 net es v p = refl
 
-pub row_tests_tight : (net : Net) (es : Earlier) (q : Question) (v : Verdict) (p : Proof) → IsIn q built → row_tests net (all_tight es) q (tight v) (tight_proof p) ≡ row_tests net es q v p
-row_tests_tight net es q v p (inl is) = rw is (rows_1 net es v p)
-row_tests_tight net es q v p (inr (inl is)) = rw is (rows_2 net es v p)
-row_tests_tight net es q v p (inr (inr (inl is))) = rw is (rows_3 net es v p)
-row_tests_tight net es q v p (inr (inr (inr (inl is)))) = rw is refl
-row_tests_tight net es q v p (inr (inr (inr (inr (inl is))))) = rw is (rows_5 net es v p)
-row_tests_tight net es q v p (inr (inr (inr (inr (inr (inl is)))))) = rw is (rows_6 net es v p)
-row_tests_tight net es q v p (inr (inr (inr (inr (inr (inr (inl is))))))) = rw is (rows_7 net es v p)
-row_tests_tight net es q v p (inr (inr (inr (inr (inr (inr (inr (inl is)))))))) = rw is (rows_8 net es v p)
-row_tests_tight net es q v p (inr (inr (inr (inr (inr (inr (inr (inr (inl is))))))))) = rw is refl
-row_tests_tight net es q v p (inr (inr (inr (inr (inr (inr (inr (inr (inr (inl is)))))))))) = rw is refl
-row_tests_tight net es q v p (inr (inr (inr (inr (inr (inr (inr (inr (inr (inr none)))))))))) = absurd none
+-- the linked pairs within terminal classes, by lists
+abbrev pairs_of : Net → List ℕ → List ℕ → List ℕ
+pairs_of net labels out = filter (λ r. within_by labels out (get_or net.reactions (r - 1) (0, 0)) && is_least_of_pair net r) (range_with_len 1 (length net.reactions))
+
+pairs_tight : (net : Net) (es : Earlier) → pair_places net (all_tight es) ≡ pair_places net es
+pairs_tight net es = ap₂ (λ (labels out : List ℕ). pairs_of net labels out) (strong_tight es) (exits_known_tight es)
+
+sides_tight : (net : Net) (es : Earlier) (part : ℕ) (rs : List ℕ) (sides : List (List ℤ)) → side_tests net (all_tight es) part rs sides ≡ side_tests net es part rs sides
+sides_tight net es part [] sides = refl
+sides_tight net es part (r ∷ rs) [] = refl
+sides_tight net es part (r ∷ rs) (marks ∷ sides) = ap₂ (λ (labels : List ℕ) (ts : List Test). test part 35 (AreSideMarks net labels r marks) ∷ ts) (linkage_tight es) (sides_tight net es (suc part) rs sides)
+
+rows_11 : (net : Net) (es : Earlier) (v : Verdict) (p : Proof) → row_tests net (all_tight es) Q11 (tight v) (tight_proof p) ≡ row_tests net es Q11 v p
+rows_11 net es Yes (Sides sides) = ap (λ (rs : List ℕ). side_tests net (all_tight es) 1 rs sides) (pairs_tight net es) ∙ sides_tight net es 1 (pair_places net es) sides
+rows_11 net es Yes p = refl
+rows_11 net es (NoCycle r walk) p = refl
+rows_11 net es (Unknown gap) p = refl
+rows_11 net es v p = refl
+
+-- ---- lists of tests that hold together
+
+alike : (one two : List Test) → one ≡ two → AreAlike one two
+alike one two e = record {
+  hold = (λ h. subst AllHold e h, λ h. subst AllHold (sym e) h);
+  fails = λ part code. (λ h. subst (λ (ts : List Test). FailsFirst ts part code) e h, λ h. subst (λ (ts : List Test). FailsFirst ts part code) (sym e) h);
+}
+
+alike_first : (A B : Type 0) (part code : ℕ) (one two : List Test) → (A ↔ B) → one ≡ two → AreAlike (test part code A ∷ one) (test part code B ∷ two)
+alike_first A B part code one two by e = record {
+  hold = (λ h. (by.0 h.0, subst AllHold e h.1), λ h. (by.1 h.0, subst AllHold (sym e) h.1));
+  fails = λ p k. (
+    λ h. elim h [ inl here ↦ inl (λ b. here.0 (by.1 b), here.1, here.2) | inr later ↦ inr (by.0 later.0, subst (λ (ts : List Test). FailsFirst ts p k) e later.1) ],
+    λ h. elim h [ inl here ↦ inl (λ a. here.0 (by.0 a), here.1, here.2) | inr later ↦ inr (by.1 later.0, subst (λ (ts : List Test). FailsFirst ts p k) (sym e) later.1) ],
+  );
+}
+
+-- a normal vector, by what earlier verdicts give
+normal_by : (net : Net) (e f : Earlier) (g : List ℤ) → linkage e ≡ linkage f → linkage_count e ≡ linkage_count f → strong e ≡ strong f → exits e ≡ exits f → IsYes (on e Q4) ≡ IsYes (on f Q4) → IsNormal net e g → IsNormal net f g
+normal_by net e f g links count classes out weak h = record {
+  space = subst (λ (n : ℕ). IsInSpace net (linkage f) n g) count (subst (λ (labels : List ℕ). IsInSpace net labels (linkage_count e) g) links h.space);
+  some = h.some;
+  gathers = subst (λ (xs : List ℕ). DoTerminalsGather (strong f) xs g) out (subst (λ (labels : List ℕ). DoTerminalsGather labels (exits e) g) classes h.gathers);
+  primitive = h.primitive;
+  leads = λ yes. h.leads (subst (λ (A : Type 0). A) (sym weak) yes);
+}
+
+normal_tight : (net : Net) (es : Earlier) (g : List ℤ) → IsNormal net (all_tight es) g ↔ IsNormal net es g
+normal_tight net es g = (
+  normal_by net (all_tight es) es g (linkage_tight es) (linkage_count_tight es) (strong_tight es) (exits_known_tight es) (yes_on es Q4),
+  normal_by net es (all_tight es) g (sym (linkage_tight es)) (sym (linkage_count_tight es)) (sym (strong_tight es)) (sym (exits_known_tight es)) (sym (yes_on es Q4)),
+)
+
+ties_tight : (net : Net) (es : Earlier) (spared : ℕ → Type 0) (part : ℕ) (cs : List ℕ) (ties : List (List ℤ)) → tie_tests net (linkage (all_tight es)) (linkage_count (all_tight es)) spared part cs ties ≡ tie_tests net (linkage es) (linkage_count es) spared part cs ties
+ties_tight net es spared part cs ties = ap₂ (λ (labels : List ℕ) (count : ℕ). tie_tests net labels count spared part cs ties) (linkage_tight es) (linkage_count_tight es)
+
+apart_tight : (net : Net) (es : Earlier) (c d : ℕ) (g : List ℤ) → IsApartAt net (all_tight es) c d g ≡ IsApartAt net es c d g
+apart_tight net es c d g = ap₂ (λ (labels : List ℕ) (count : ℕ). IsInSpace net labels count g × (get_or g (c - 1) (pos 0) ≢ pos 0) × (get_or g (d - 1) (pos 0) ≡ pos 0)) (linkage_tight es) (linkage_count_tight es)
+
+rows_12 : (net : Net) (es : Earlier) (v : Verdict) (p : Proof) → AreAlike (row_tests net (all_tight es) Q12 (tight v) (tight_proof p)) (row_tests net es Q12 v p)
+rows_12 net es (YesVec vector) (Ties ties) =
+    let g = vector.list in
+    alike_first (IsNormal net (all_tight es) g) (IsNormal net es g) 1 35 _ _ (normal_tight net es g) (ties_tight net es (λ d. d ≡ least_from 0 g) 2 (others_than net (least_from 0 g)) ties)
+rows_12 net es (YesVec vector) p = alike _ _ refl
+rows_12 net es OnlyZero (Ties ties) = alike _ _ (ties_tight net es (λ d. ⊥) 1 (range_with_len 0 (length net.complexes)) ties)
+rows_12 net es OnlyZero p = alike _ _ refl
+rows_12 net es (Plane first second one two) p = alike _ _ (ap₂ (λ (A B : Type 0). test 1 35 A ∷ test 2 35 B ∷ []) (apart_tight net es first second one.list) (apart_tight net es second first two.list))
+rows_12 net es (Unknown gap) p = alike _ _ refl
+rows_12 net es v p = alike _ _ refl
+
+pub row_tests_tight : (net : Net) (es : Earlier) (q : Question) (v : Verdict) (p : Proof) → IsIn q built → AreAlike (row_tests net (all_tight es) q (tight v) (tight_proof p)) (row_tests net es q v p)
+row_tests_tight net es q v p (inl is) = rw is (alike _ _ (rows_1 net es v p))
+row_tests_tight net es q v p (inr (inl is)) = rw is (alike _ _ (rows_2 net es v p))
+row_tests_tight net es q v p (inr (inr (inl is))) = rw is (alike _ _ (rows_3 net es v p))
+row_tests_tight net es q v p (inr (inr (inr (inl is)))) = rw is (alike _ _ refl)
+row_tests_tight net es q v p (inr (inr (inr (inr (inl is))))) = rw is (alike _ _ (rows_5 net es v p))
+row_tests_tight net es q v p (inr (inr (inr (inr (inr (inl is)))))) = rw is (alike _ _ (rows_6 net es v p))
+row_tests_tight net es q v p (inr (inr (inr (inr (inr (inr (inl is))))))) = rw is (alike _ _ (rows_7 net es v p))
+row_tests_tight net es q v p (inr (inr (inr (inr (inr (inr (inr (inl is)))))))) = rw is (alike _ _ (rows_8 net es v p))
+row_tests_tight net es q v p (inr (inr (inr (inr (inr (inr (inr (inr (inl is))))))))) = rw is (alike _ _ refl)
+row_tests_tight net es q v p (inr (inr (inr (inr (inr (inr (inr (inr (inr (inl is)))))))))) = rw is (alike _ _ refl)
+row_tests_tight net es q v p (inr (inr (inr (inr (inr (inr (inr (inr (inr (inr (inl is))))))))))) = rw is (alike _ _ (rows_11 net es v p))
+row_tests_tight net es q v p (inr (inr (inr (inr (inr (inr (inr (inr (inr (inr (inr (inl is)))))))))))) = rw is (rows_12 net es v p)
+row_tests_tight net es q v p (inr (inr (inr (inr (inr (inr (inr (inr (inr (inr (inr (inr none)))))))))))) = absurd none
 
 -- ---- forms
 
@@ -383,6 +505,54 @@ forms_10 net es (NoSum x) Nothing = (λ h. h, λ h. h)
 forms_10 net es (NoSum x) p = (λ h. absurd h.1, λ h. absurd h.1)
 forms_10 net es v p = (λ h. absurd h.0, λ h. absurd h.0)
 
+forms_11 : (net : Net) (es : Earlier) (v : Verdict) (p : Proof) → (IsFormedOf net (all_tight es) Q11 (tight v) (tight_proof p) ↔ IsFormedOf net es Q11 v p)
+forms_11 net es (Unknown (Wide system class index basis)) p = (λ h. absurd h.0, λ h. absurd h.0)
+forms_11 net es (Unknown (Budget nodes)) p = (λ h. absurd h.0, λ h. absurd h.0)
+forms_11 net es (Unknown (Rests question)) p = (λ h. (h.0, nothing p h.1), λ h. (h.0, ap tight_proof h.1))
+forms_11 net es Yes (Sides sides) = (
+  λ h. (h.0, subst (λ (rs : List ℕ). AreSides net rs sides) (pairs_tight net es) h.1),
+  λ h. (h.0, subst (λ (rs : List ℕ). AreSides net rs sides) (sym (pairs_tight net es)) h.1),
+)
+forms_11 net es Yes p = (λ h. absurd h.1, λ h. absurd h.1)
+forms_11 net es (NoTerminal class count) Nothing =
+    (λ h. ((subst (λ (A : Type 0). A) (classes_tight es class) h.0.0, h.0.1), tt), λ h. ((subst (λ (A : Type 0). A) (sym (classes_tight es class)) h.0.0, h.0.1), tt))
+forms_11 net es (NoTerminal class count) p = (λ h. absurd h.1, λ h. absurd h.1)
+forms_11 net es NoDependence Nothing = (λ h. h, λ h. h)
+forms_11 net es NoDependence p = (λ h. absurd h.1, λ h. absurd h.1)
+forms_11 net es (NoCycle reaction walk) Nothing = (λ h. h, λ h. h)
+forms_11 net es (NoCycle reaction walk) p = (λ h. absurd h.1, λ h. absurd h.1)
+forms_11 net es v p = (λ h. absurd h.0, λ h. absurd h.0)
+
+-- rows of multipliers, by the number of linkage classes
+free_by : (net : Net) (m n count : ℕ) (ties : List (List ℤ)) → m ≡ n → AreFreeRows count (length net.names + m) ties → AreFreeRows count (length net.names + n) ties
+free_by net m n count ties e h = subst (λ (k : ℕ). AreFreeRows count (length net.names + k) ties) e h
+
+wide_by : (net : Net) (e f : Earlier) → linkage_count e ≡ linkage_count f → (system class index : ℕ) (basis : List ℕ) → IsWideGap net e Q12 system class index basis → IsWideGap net f Q12 system class index basis
+wide_by net e f count system class index basis h = (h.0, h.1, subst (λ (n : ℕ). IsBasisOf (length net.complexes) (length net.names + n) index basis) count h.2)
+
+forms_12 : (net : Net) (es : Earlier) (v : Verdict) (p : Proof) → (IsFormedOf net (all_tight es) Q12 (tight v) (tight_proof p) ↔ IsFormedOf net es Q12 v p)
+forms_12 net es (Unknown (Wide system class index basis)) p = (
+  λ h. (wide_by net (all_tight es) es (linkage_count_tight es) system class index basis.list h.0, nothing p h.1),
+  λ h. (wide_by net es (all_tight es) (sym (linkage_count_tight es)) system class index basis.list h.0, ap tight_proof h.1),
+)
+forms_12 net es (Unknown (Budget nodes)) p = (λ h. absurd h.0, λ h. absurd h.0)
+forms_12 net es (Unknown (Rests question)) p = (λ h. (h.0, nothing p h.1), λ h. (h.0, ap tight_proof h.1))
+forms_12 net es (YesVec vector) (Ties ties) = (
+  λ h. (h.0, (h.1.0, free_by net (linkage_count (all_tight es)) (linkage_count es) (length net.complexes - 1) ties (linkage_count_tight es) h.1.1)),
+  λ h. (h.0, (h.1.0, free_by net (linkage_count es) (linkage_count (all_tight es)) (length net.complexes - 1) ties (sym (linkage_count_tight es)) h.1.1)),
+)
+forms_12 net es (YesVec vector) p = (λ h. absurd h.1, λ h. absurd h.1)
+forms_12 net es NotRegular Nothing = (λ h. h, λ h. h)
+forms_12 net es NotRegular p = (λ h. absurd h.1, λ h. absurd h.1)
+forms_12 net es OnlyZero (Ties ties) = (
+  λ h. (h.0, free_by net (linkage_count (all_tight es)) (linkage_count es) (length net.complexes) ties (linkage_count_tight es) h.1),
+  λ h. (h.0, free_by net (linkage_count es) (linkage_count (all_tight es)) (length net.complexes) ties (sym (linkage_count_tight es)) h.1),
+)
+forms_12 net es OnlyZero p = (λ h. absurd h.1, λ h. absurd h.1)
+forms_12 net es (Plane first second one two) Nothing = (λ h. h, λ h. h)
+forms_12 net es (Plane first second one two) p = (λ h. absurd h.1, λ h. absurd h.1)
+forms_12 net es v p = (λ h. absurd h.0, λ h. absurd h.0)
+
 pub formed_tight : (net : Net) (es : Earlier) (q : Question) (v : Verdict) (p : Proof) → IsIn q built → (IsFormedOf net (all_tight es) q (tight v) (tight_proof p) ↔ IsFormedOf net es q v p)
 formed_tight net es q v p (inl is) = rw is (forms_1 net es v p)
 formed_tight net es q v p (inr (inl is)) = rw is (forms_2 net es v p)
@@ -394,7 +564,9 @@ formed_tight net es q v p (inr (inr (inr (inr (inr (inr (inl is))))))) = rw is (
 formed_tight net es q v p (inr (inr (inr (inr (inr (inr (inr (inl is)))))))) = rw is (forms_8 net es v p)
 formed_tight net es q v p (inr (inr (inr (inr (inr (inr (inr (inr (inl is))))))))) = rw is (forms_9 net es v p)
 formed_tight net es q v p (inr (inr (inr (inr (inr (inr (inr (inr (inr (inl is)))))))))) = rw is (forms_10 net es v p)
-formed_tight net es q v p (inr (inr (inr (inr (inr (inr (inr (inr (inr (inr none)))))))))) = absurd none
+formed_tight net es q v p (inr (inr (inr (inr (inr (inr (inr (inr (inr (inr (inl is))))))))))) = rw is (forms_11 net es v p)
+formed_tight net es q v p (inr (inr (inr (inr (inr (inr (inr (inr (inr (inr (inr (inl is)))))))))))) = rw is (forms_12 net es v p)
+formed_tight net es q v p (inr (inr (inr (inr (inr (inr (inr (inr (inr (inr (inr (inr none)))))))))))) = absurd none
 
 -- ---- truth
 
@@ -438,15 +610,9 @@ true_untight net Q15 v h = h
 
 -- ---- the law
 
-alike : (one two : List Test) → one ≡ two → AreAlike one two
-alike one two e = record {
-  hold = (λ h. subst AllHold e h, λ h. subst AllHold (sym e) h);
-  fails = λ part code. (λ h. subst (λ (ts : List Test). FailsFirst ts part code) e h, λ h. subst (λ (ts : List Test). FailsFirst ts part code) (sym e) h);
-}
-
 pub checks_see_no_spares : ChecksSeeNoSpares
 checks_see_no_spares net es q v p is = record {
   form = formed_tight net es q v p is;
   head = alike _ _ (head_tests_tight net es q v is);
-  rows = alike _ _ (row_tests_tight net es q v p is);
+  rows = row_tests_tight net es q v p is;
 }

@@ -7,7 +7,7 @@ use Rattle.crn_cert.specs.declared.answer.Answer.{Answer}
 use Rattle.crn_cert.specs.declared.answer.Gap.TheVariants.{Wide, Budget, Rests}
 use Rattle.crn_cert.specs.declared.answer.Verdict.{Verdict}
 use Rattle.crn_cert.specs.declared.answer.Verdict.TheVariants.{Unknown}
-use Rattle.crn_cert.specs.Questions.{Earlier, Question, Q1, Q2, Q4, Q5, Q6, number, on}
+use Rattle.crn_cert.specs.Questions.{Earlier, Question, Q1, Q2, Q4, Q5, Q6, Q7, Q11, number, on}
 use Rattle.crn_cert.specs.Says.{IsTrueOf}
 use Rattle.crn_cert.specs.Formed.{IsFormed}
 use Rattle.crn_cert.specs.FormedVerdicts.{IsFormedVerdict}
@@ -90,7 +90,13 @@ knows net facts n (inr (inr (inr (inr (inr (inr (inr (inr (inl is))))))))) h nee
 knows net facts n (inr (inr (inr (inr (inr (inr (inr (inr (inr (inl is)))))))))) h needs =
     let held : HoldsNeeds facts.earlier 10 = subst (HoldsNeeds facts.earlier) is needs in
     rw is (linkage_true net facts h held.0, (strong_true net facts h held.1.0, tt))
-knows net facts n (inr (inr (inr (inr (inr (inr (inr (inr (inr (inr none)))))))))) h needs = absurd none
+knows net facts n (inr (inr (inr (inr (inr (inr (inr (inr (inr (inr (inl is))))))))))) h needs =
+    let held : HoldsNeeds facts.earlier 11 = subst (HoldsNeeds facts.earlier) is needs in
+    rw is (linkage_true net facts h held.0, (strong_true net facts h held.1.0, tt))
+knows net facts n (inr (inr (inr (inr (inr (inr (inr (inr (inr (inr (inr (inl is)))))))))))) h needs =
+    let held : HoldsNeeds facts.earlier 12 = subst (HoldsNeeds facts.earlier) is needs in
+    rw is (linkage_true net facts h held.0, (strong_true net facts h held.1.0, (weak_true net facts h held.1.1.0, tt)))
+knows net facts n (inr (inr (inr (inr (inr (inr (inr (inr (inr (inr (inr (inr none)))))))))))) h needs = absurd none
 
 -- the facts give what an open question rests on
 rests : (net : Net) (facts : KeptFacts) (n : ℕ) → IsBuilt n → AreFactsOf net facts → HoldsNeeds facts.earlier n → AreTrueOrOpen net (rests_for (asked n)) facts.earlier
@@ -110,7 +116,13 @@ rests net facts n (inr (inr (inr (inr (inr (inr (inr (inr (inl is))))))))) h nee
 rests net facts n (inr (inr (inr (inr (inr (inr (inr (inr (inr (inl is)))))))))) h needs =
     let held : HoldsNeeds facts.earlier 10 = subst (HoldsNeeds facts.earlier) is needs in
     rw is (sound_on net facts.earlier Q6 h.sound held.1.1.0, tt)
-rests net facts n (inr (inr (inr (inr (inr (inr (inr (inr (inr (inr none)))))))))) h needs = absurd none
+rests net facts n (inr (inr (inr (inr (inr (inr (inr (inr (inr (inr (inl is))))))))))) h needs =
+    let held : HoldsNeeds facts.earlier 11 = subst (HoldsNeeds facts.earlier) is needs in
+    rw is (sound_on net facts.earlier Q7 h.sound held.1.1.0, tt)
+rests net facts n (inr (inr (inr (inr (inr (inr (inr (inr (inr (inr (inr (inl is)))))))))))) h needs =
+    let held : HoldsNeeds facts.earlier 12 = subst (HoldsNeeds facts.earlier) is needs in
+    rw is (sound_on net facts.earlier Q11 h.sound held.1.1.1.0, tt)
+rests net facts n (inr (inr (inr (inr (inr (inr (inr (inr (inr (inr (inr (inr none)))))))))))) h needs = absurd none
 
 pub answer_true : (net : Net) (facts : KeptFacts) (n : ℕ) (a : Answer) → IsNetwork net → IsBuilt n → AreFactsOf net facts → HoldsNeeds facts.earlier n → IsFormed net facts.earlier (asked n) a → AllHold (head_tests net facts.earlier (asked n) a.verdict) → AllHold (row_tests net facts.earlier (asked n) a.verdict a.proof) → IsTrueOrOpen net (asked n) a.verdict
 answer_true net facts n a network is h needs f head rows =

@@ -46,3 +46,5 @@ pub record IsRoom (room : Room) : Type 0 where
   pub second_room : MAX_REACTIONS ≤ room.second.spare
   pub large_empty : room.large.list ≡ []
   pub large_room : MAX_REACTIONS ≤ room.large.spare
+  pub other_empty : room.other.list ≡ []
+  pub other_room : MAX_REACTIONS ≤ room.other.spare

@@ -7,6 +7,7 @@ ghost use Rattle.crn_check.specs.Verdicts.{tight};
 ghost use Rattle.crn_check.specs.Facts.{asked, HoldsNoneFrom, AreFactsOf};
 ghost use Rattle.crn_check.specs.Check.{IsBuilt, HoldsNeeds, Judges};
 
+use crate::confluence::{check_confluence, check_confluence_head};
 use crate::deficiency::{check_deficiency, check_deficiency_head};
 use crate::facts::Facts;
 use crate::fault::CheckFault;
@@ -15,6 +16,7 @@ use crate::linkage::check_linkage;
 use crate::one::check_one_head;
 use crate::positive::{check_conservation, check_dependence};
 use crate::ranks::check_rank;
+use crate::regular::{check_regular, check_regular_head};
 use crate::reversible::{check_reverses, check_reversible_head};
 use crate::strong::check_strong;
 use crate::weak::check_weak_head;
@@ -44,6 +46,8 @@ pub fn check_head(
         6 => check_deficiency_head(net, facts, verdict),
         9 => check_zero_head(net, facts, verdict),
         10 => check_one_head(net, facts, verdict),
+        11 => check_regular_head(net, facts, verdict),
+        12 => check_confluence_head(facts, verdict),
         _ => Ok(()),
     }
 }
@@ -71,6 +75,8 @@ fn check_rows(
         6 => check_deficiency(net, facts, &answer.verdict, &answer.proof),
         7 => check_dependence(net, &answer.verdict, &answer.proof),
         8 => check_conservation(net, &answer.verdict, &answer.proof),
+        11 => check_regular(net, facts, &answer.verdict, &answer.proof),
+        12 => check_confluence(net, facts, &answer.verdict, &answer.proof),
         _ => Ok(()),
     }
 }

@@ -28,6 +28,7 @@ struct Room {
     first: Nums,
     second: Nums,
     large: Ints,
+    other: Ints,
 }
 
 // Empty lists with memory for the lists of any verdict.
@@ -38,6 +39,7 @@ fn reserved(alloc: Global) -> Result<Room, NoMemory>
         first: Nums::with_room(alloc, MAX_REACTIONS)?,
         second: Nums::with_room(alloc, MAX_REACTIONS)?,
         large: Ints::with_room(alloc, MAX_REACTIONS)?,
+        other: Ints::with_room(alloc, MAX_REACTIONS)?,
     })
 }
 
@@ -152,6 +154,24 @@ fn kept(room: Room, verdict: &Verdict) -> Verdict
             number: *number,
         },
         Verdict::NoSum { sum } => Verdict::NoSum { sum: *sum },
+        Verdict::NoDependence => Verdict::NoDependence,
+        Verdict::NoCycle { reaction, walk } => Verdict::NoCycle {
+            reaction: *reaction,
+            walk: filled(room.first, walk.as_slice()),
+        },
+        Verdict::NotRegular => Verdict::NotRegular,
+        Verdict::OnlyZero => Verdict::OnlyZero,
+        Verdict::Plane {
+            first,
+            second,
+            one,
+            two,
+        } => Verdict::Plane {
+            first: *first,
+            second: *second,
+            one: filled_large(room.large, one.as_slice()),
+            two: filled_large(room.other, two.as_slice()),
+        },
         Verdict::Unknown(gap) => Verdict::Unknown(kept_gap(room, gap)),
         _ => Verdict::Yes,
     }

@@ -516,7 +516,7 @@ built_linked = (
         (λ known earlier v p e f. weak_linked known earlier v p (labels_alike known.earlier earlier Q2 e) f),
         (
           (λ known earlier v p e f. rank_linked known earlier v p f),
-          (deficiency_linked, ((λ known earlier v p e f. dependence_linked known earlier v p f), ((λ known earlier v p e f. conservation_linked known earlier v p f), (zero_linked, (one_linked, tt))))),
+          (deficiency_linked, ((λ known earlier v p e f. dependence_linked known earlier v p f), ((λ known earlier v p e f. conservation_linked known earlier v p f), (zero_linked, (one_linked, ((λ known earlier v p k e f. tied known earlier Q11 (answer v p) (regular_linked known earlier v p k e f)), ((λ known earlier v p k e f. confluence_tied known earlier v p e f), tt))))))),
         ),
       ),
     ),

@@ -273,4 +273,4 @@ confluence_decided = record {
 }
 
 pub meaning_decided : IsDecidedMeaning meaning built
-meaning_decided = (linkage_decided, (strong_decided, (reversible_decided, (weak_decided, (ranks_decided, (deficiencies_decided, (positive_decided, (conservative_decided, (zero_decided, (one_decided, tt))))))))))
+meaning_decided = (linkage_decided, (strong_decided, (reversible_decided, (weak_decided, (ranks_decided, (deficiencies_decided, (positive_decided, (conservative_decided, (zero_decided, (one_decided, (regular_decided, (confluence_decided, tt))))))))))))

@@ -3,7 +3,7 @@ use Rattle.std.proofs.Common.{List, [], ◌∷◌, refl, sym, subst, inl, inr, G
 use Rattle.crn_vec.specs.Network.{Net, IsNetwork}
 use Rattle.crn_cert.specs.declared.answer.Verdict.{Verdict}
 use Rattle.crn_cert.specs.declared.answer.Answer.{Answer}
-use Rattle.crn_cert.specs.Questions.{Question, Q1, Q2, Q3, Q4, Q5, Q6, Q7, Q8, Q9}
+use Rattle.crn_cert.specs.Questions.{Question, Q1, Q2, Q3, Q4, Q5, Q6, Q7, Q8, Q9, Q10, Q11}
 use Rattle.crn_cert.specs.Formed.{AreFormed}
 use Rattle.crn_cert.specs.Valid.{AreValid}
 use Rattle.crn_cert.specs.Law.{AllTrueOrOpen, AreBuilt}
@@ -23,7 +23,7 @@ use Rattle.crn_ctext.proofs.RecordsLinked.{records_answered}
 built_in_order : AreBuilt [] built
 built_in_order = (
   (λ j i. i),
-  ((λ j i. absurd i), ((λ j i. absurd i), ((λ j i. strong_before j i), ((λ j i. absurd i), ((λ j i. linkage_and_rank_before j i), ((λ j i. absurd i), ((λ j i. absurd i), ((λ j i. zero_before j i), ((λ j i. one_before j i), tt))))))))),
+  ((λ j i. absurd i), ((λ j i. absurd i), ((λ j i. strong_before j i), ((λ j i. absurd i), ((λ j i. linkage_and_rank_before j i), ((λ j i. absurd i), ((λ j i. absurd i), ((λ j i. zero_before j i), ((λ j i. one_before j i), ((λ j i. regular_before j i), ((λ j i. confluence_before j i), tt))))))))))),
 )
   where
     strong_before : (j : Question) → IsIn j (Q2 ∷ []) → IsIn j (Q1 ∷ Q2 ∷ Q3 ∷ [])
@@ -46,6 +46,19 @@ built_in_order = (
     one_before j (inr (inl e)) = inr (inl e)
     one_before j (inr (inr (inl e))) = inr (inr (inr (inr (inr (inl e)))))
     one_before j (inr (inr (inr none))) = absurd none
+
+    regular_before : (j : Question) → IsIn j (Q1 ∷ Q2 ∷ Q7 ∷ []) → IsIn j (Q1 ∷ Q2 ∷ Q3 ∷ Q4 ∷ Q5 ∷ Q6 ∷ Q7 ∷ Q8 ∷ Q9 ∷ Q10 ∷ [])
+    regular_before j (inl e) = inl e
+    regular_before j (inr (inl e)) = inr (inl e)
+    regular_before j (inr (inr (inl e))) = inr (inr (inr (inr (inr (inr (inl e))))))
+    regular_before j (inr (inr (inr none))) = absurd none
+
+    confluence_before : (j : Question) → IsIn j (Q1 ∷ Q2 ∷ Q4 ∷ Q11 ∷ []) → IsIn j (Q1 ∷ Q2 ∷ Q3 ∷ Q4 ∷ Q5 ∷ Q6 ∷ Q7 ∷ Q8 ∷ Q9 ∷ Q10 ∷ Q11 ∷ [])
+    confluence_before j (inl e) = inl e
+    confluence_before j (inr (inl e)) = inr (inl e)
+    confluence_before j (inr (inr (inl e))) = inr (inr (inr (inl e)))
+    confluence_before j (inr (inr (inr (inl e)))) = inr (inr (inr (inr (inr (inr (inr (inr (inr (inr (inl e))))))))))
+    confluence_before j (inr (inr (inr (inr none)))) = absurd none
 
 sound_by : (net : Net) (qs : List Question) (answers : List Answer) → AllTrueOrOpen net qs answers → AreSound net qs (verdicts_of answers)
 sound_by net [] [] t = refl

@@ -145,6 +145,41 @@ fn the_head_of_question_2(rt: HostRuntime) -> Result<(), Fail> {
 }
 
 #[test]
+fn the_head_of_question_12(rt: HostRuntime) -> Result<(), Fail> {
+    let expect = expect!(Due::Head(12), 1, false);
+    for (line, expected) in [
+        (b"q12 yes".as_slice(), 0),
+        (b"q12 none regular".as_slice(), 0),
+        (b"q12 none plane 2 1".as_slice(), 0),
+        (b"q12 none plane 2 2".as_slice(), 24),
+        (b"q12 none plane 0 1".as_slice(), 24),
+        (b"q12 no".as_slice(), 24),
+        (b"q12 open rests 11".as_slice(), 0),
+        (b"q12 open rests 7".as_slice(), 24),
+        (b"q11 yes".as_slice(), 26),
+    ] {
+        assert_eq!(rt; code(rt.alloc(), &expect, line)?, expected);
+    }
+    Ok(())
+}
+
+#[test]
+fn the_side_of_a_pair(rt: HostRuntime) -> Result<(), Fail> {
+    let expect = expect!(Due::Side { reaction: 2 }, 1, false);
+    for (line, expected) in [
+        (b"side 2 0 1".as_slice(), 0),
+        (b"side 1 0 1".as_slice(), 24),
+        (b"side 2 0 2".as_slice(), 24),
+        (b"side 2 0".as_slice(), 24),
+        (b"side 0 1".as_slice(), 24),
+        (b"walk 1 2".as_slice(), 26),
+    ] {
+        assert_eq!(rt; code(rt.alloc(), &expect, line)?, expected);
+    }
+    Ok(())
+}
+
+#[test]
 fn a_node(rt: HostRuntime) -> Result<(), Fail> {
     let expect = expect!(
         Due::Node {

@@ -2,7 +2,7 @@ ghost use Rattle.std.specs.Prelude.{◌≡◌, ◌≤◌, ◌∷◌, [], pos, ne
 ghost use Rattle.crn_vec.specs.Network.{Net, IsNetwork};
 ghost use Rattle.crn_cert.specs.Formed.{IsFormed, AreFormed};
 ghost use Rattle.crn_cert.specs.Built.{built};
-ghost use Rattle.crn_cert.specs.Questions.{Earlier, Q1, Q2, Q3, Q4, Q5, Q6, Q7, Q8, on, count_of, labels_of};
+ghost use Rattle.crn_cert.specs.Questions.{Earlier, Q1, Q2, Q3, Q4, Q5, Q6, Q7, Q8, Q11, Q12, on, count_of, labels_of, exits_of};
 
 use crate::write::put_answer;
 use crate::{
@@ -17,13 +17,13 @@ use std::alloc::Global;
 use std::test::Fail;
 
 const BOTH_WAYS: &[u8] =
-    b"crn certificate 1\nnetwork 2\nA -> B\nB -> A\nq1 1\nlabel 1 1\nup 0 1\ndepth 0 1\nq2 1 1\nlabel 1 1\nfrom 0 1\nfromdepth 0 1\nto 0 2\ntodepth 0 1\nlevel 0\nexit 0\nq3 yes\nback 2 1\nq4 yes\nq5 1\nbase 1\ndual -1 1\ncomb 1 -1\nq6 0 0\nbase 1\ndual -1 1\ncomb 1 -1\nq7 yes\nvec 1 1\nq8 yes\nvec 1 1\nq9 yes 1\nq10 yes\nend\n";
+    b"crn certificate 1\nnetwork 2\nA -> B\nB -> A\nq1 1\nlabel 1 1\nup 0 1\ndepth 0 1\nq2 1 1\nlabel 1 1\nfrom 0 1\nfromdepth 0 1\nto 0 2\ntodepth 0 1\nlevel 0\nexit 0\nq3 yes\nback 2 1\nq4 yes\nq5 1\nbase 1\ndual -1 1\ncomb 1 -1\nq6 0 0\nbase 1\ndual -1 1\ncomb 1 -1\nq7 yes\nvec 1 1\nq8 yes\nvec 1 1\nq9 yes 1\nq10 yes\nq11 yes\nside 1 0 1\nq12 none zero\ntie 1 0 0\ntie 0 1 0\nend\n";
 
 const BOTH_WAYS_2: &[u8] =
-    b"crn certificate 2\nnetwork 2\nA -> B\nB -> A\nvectors 0\nsection graph\nq1 1\nlabel 1 1\nup 0 1\ndepth 0 1\nq2 1 1\nlabel 1 1\nfrom 0 1\nfromdepth 0 1\nto 0 2\ntodepth 0 1\nlevel 0\nexit 0\nq3 yes\nback 2 1\nq4 yes\nsection rank\nq5 1\nbase 1\ndual -1 1\ncomb 1 -1\nq6 0 0\nbase 1\ndual -1 1\ncomb 1 -1\nsection dependence\nq7 yes\nvec 1 1\nq8 yes\nvec 1 1\nsection theorems\nq9 yes 1\nq10 yes\nend\n";
+    b"crn certificate 2\nnetwork 2\nA -> B\nB -> A\nvectors 0\nsection graph\nq1 1\nlabel 1 1\nup 0 1\ndepth 0 1\nq2 1 1\nlabel 1 1\nfrom 0 1\nfromdepth 0 1\nto 0 2\ntodepth 0 1\nlevel 0\nexit 0\nq3 yes\nback 2 1\nq4 yes\nsection rank\nq5 1\nbase 1\ndual -1 1\ncomb 1 -1\nq6 0 0\nbase 1\ndual -1 1\ncomb 1 -1\nsection dependence\nq7 yes\nvec 1 1\nq8 yes\nvec 1 1\nsection theorems\nq9 yes 1\nq10 yes\nsection confluence\nq11 yes\nside 1 0 1\nq12 none zero\ntie 1 0 0\ntie 0 1 0\nend\n";
 
 const ONE_WAY: &[u8] =
-    b"crn certificate 1\nnetwork 1\nA -> B\nq1 1\nlabel 1 1\nup 0 1\ndepth 0 1\nq2 2 1\nlabel 1 2\nfrom 0 0\nfromdepth 0 0\nto 0 0\ntodepth 0 0\nlevel 1 0\nexit 1 0\nq3 no 1\nq4 no 1\nq5 open wide 1 0 3 1 2\nq6 open rests 5\nq7 no\ncut -1 1\nq8 yes\nvec 1 1\nq9 open rests 5\nq10 open rests 6\nend\n";
+    b"crn certificate 1\nnetwork 1\nA -> B\nq1 1\nlabel 1 1\nup 0 1\ndepth 0 1\nq2 2 1\nlabel 1 2\nfrom 0 0\nfromdepth 0 0\nto 0 0\ntodepth 0 0\nlevel 1 0\nexit 1 0\nq3 no 1\nq4 no 1\nq5 open wide 1 0 3 1 2\nq6 open rests 5\nq7 no\ncut -1 1\nq8 yes\nvec 1 1\nq9 open rests 5\nq10 open rests 6\nq11 no dependence\nq12 none regular\nend\n";
 
 // The one class of two complexes that reaction 1 joins.
 fn one_class(alloc: Global) -> Result<Answer, NoMemory>
@@ -46,8 +46,10 @@ fn one_class(alloc: Global) -> Result<Answer, NoMemory>
 
 // The one strong class of two complexes, with reactions 1 and 2 between them.
 fn one_strong_class(alloc: Global) -> Result<Answer, NoMemory>
-    ensures { (net : Net) (earlier : Earlier) → length net.complexes ≡ 2 → length net.reactions ≡ 2
-        → IfOk result (λ a. IsFormed net earlier Q2 a) }
+    ensures formed { (net : Net) (earlier : Earlier) → length net.complexes ≡ 2
+        → length net.reactions ≡ 2 → IfOk result (λ a. IsFormed net earlier Q2 a) }
+    ensures labels { IfOk result (λ a. labels_of a.verdict ≡ 1 ∷ 1 ∷ []) }
+    ensures exits { IfOk result (λ a. exits_of a.verdict ≡ 0 ∷ []) }
 {
     Ok(Answer {
         verdict: Verdict::Strong {
@@ -160,6 +162,31 @@ fn one_of_each(alloc: Global) -> Result<Answer, NoMemory>
     })
 }
 
+// The side of the product, for the one pair of both ways.
+fn one_side(alloc: Global) -> Result<Answer, NoMemory>
+    ensures { (net : Net) (earlier : Earlier) → IsNetwork net → length net.complexes ≡ 2
+        → length net.reactions ≡ 2 → labels_of (on earlier Q2) ≡ 1 ∷ 1 ∷ []
+        → exits_of (on earlier Q2) ≡ 0 ∷ [] → IfOk result (λ a. IsFormed net earlier Q11 a) }
+{
+    Ok(Answer {
+        verdict: Verdict::Yes,
+        proof: Proof::Sides(row(alloc, &[0, 1])?),
+    })
+}
+
+// A tie of each of two complexes, over two species and one linkage class.
+fn two_ties(alloc: Global) -> Result<Answer, NoMemory>
+    ensures { (net : Net) (earlier : Earlier) → length net.names ≡ 2 → length net.complexes ≡ 2
+        → count_of (on earlier Q1) ≡ 1 → IfOk result (λ a. IsFormed net earlier Q12 a) }
+{
+    let mut ties = row(alloc, &[1, 0, 0])?;
+    ties.push(Ints::from_slice(alloc, &[0, 1, 0])?)?;
+    Ok(Answer {
+        verdict: Verdict::OnlyZero,
+        proof: Proof::Ties(ties),
+    })
+}
+
 // The answers of both ways.
 fn answers_of_both_ways(alloc: Global) -> Result<Answers, NoMemory>
     ensures { (net : Net) → IsNetwork net → length net.names ≡ 2 → length net.complexes ≡ 2
@@ -185,6 +212,8 @@ fn answers_of_both_ways(alloc: Global) -> Result<Answers, NoMemory>
         verdict: Verdict::Yes,
         proof: Proof::Nothing,
     });
+    answers.push(one_side(alloc)?);
+    answers.push(two_ties(alloc)?);
     Ok(answers)
 }
 
@@ -207,7 +236,7 @@ fn the_answers_of_both_ways_are_written(rt: HostRuntime) -> Result<(), Fail> {
     assert_eq!(rt; sink.bytes(), BOTH_WAYS);
     assert_eq!(rt; document_length(&net, &answers), BOTH_WAYS.len() as u64);
     let share = share_of(alloc, &answers)?;
-    let mut second = QuietSink::new(alloc, 400)?;
+    let mut second = QuietSink::new(alloc, 500)?;
     assert!(rt; write_document2(&net, &answers, &share, &mut second).is_ok());
     assert_eq!(rt; second.bytes(), BOTH_WAYS_2);
     Ok(())
@@ -274,6 +303,14 @@ fn answers_of_one_way(alloc: Global) -> Result<Answers, NoMemory>
         verdict: Verdict::Unknown(Gap::Rests { question: 6 }),
         proof: Proof::Nothing,
     });
+    answers.push(Answer {
+        verdict: Verdict::NoDependence,
+        proof: Proof::Nothing,
+    });
+    answers.push(Answer {
+        verdict: Verdict::NotRegular,
+        proof: Proof::Nothing,
+    });
     Ok(answers)
 }
 
@@ -291,7 +328,7 @@ fn the_answers_of_one_way_are_written(rt: HostRuntime) -> Result<(), Fail> {
     assert_eq!(rt; complexes, 2);
     assert_eq!(rt; reactions, 1);
     let answers = answers_of_one_way(alloc)?;
-    let mut sink = QuietSink::new(alloc, 300)?;
+    let mut sink = QuietSink::new(alloc, 400)?;
     assert!(rt; write_document(&net, &answers, &mut sink).is_ok());
     assert_eq!(rt; sink.bytes(), ONE_WAY);
     Ok(())

@@ -124,7 +124,9 @@ next_range n (inr (inr (inr (inr (inr (inr (inl e))))))) = subst (λ (m : ℕ). 
 next_range n (inr (inr (inr (inr (inr (inr (inr (inl e)))))))) = subst (λ (m : ℕ). take (m - 1) built ++ asked m ∷ [] ≡ take (m + 1 - 1) built) (sym e) refl
 next_range n (inr (inr (inr (inr (inr (inr (inr (inr (inl e))))))))) = subst (λ (m : ℕ). take (m - 1) built ++ asked m ∷ [] ≡ take (m + 1 - 1) built) (sym e) refl
 next_range n (inr (inr (inr (inr (inr (inr (inr (inr (inr (inl e)))))))))) = subst (λ (m : ℕ). take (m - 1) built ++ asked m ∷ [] ≡ take (m + 1 - 1) built) (sym e) refl
-next_range n (inr (inr (inr (inr (inr (inr (inr (inr (inr (inr none)))))))))) = absurd none
+next_range n (inr (inr (inr (inr (inr (inr (inr (inr (inr (inr (inl e))))))))))) = subst (λ (m : ℕ). take (m - 1) built ++ asked m ∷ [] ≡ take (m + 1 - 1) built) (sym e) refl
+next_range n (inr (inr (inr (inr (inr (inr (inr (inr (inr (inr (inr (inl e)))))))))))) = subst (λ (m : ℕ). take (m - 1) built ++ asked m ∷ [] ≡ take (m + 1 - 1) built) (sym e) refl
+next_range n (inr (inr (inr (inr (inr (inr (inr (inr (inr (inr (inr (inr none)))))))))))) = absurd none
 
 pub so_far_next : (n : ℕ) (old new : Earlier) (v : Verdict) → IsBuilt n → map (λ (e : Question × Verdict). e.0) old ≡ take (n - 1) built → new ≡ old ++ (asked n, v) ∷ [] → map (λ (e : Question × Verdict). e.0) new ≡ take (n + 1 - 1) built
 so_far_next n old new v is so_far same =
@@ -159,7 +161,9 @@ no_trees_at n (inr (inr (inr (inr (inr (inr (inl e))))))) known h = subst (λ (m
 no_trees_at n (inr (inr (inr (inr (inr (inr (inr (inl e)))))))) known h = subst (λ (m : ℕ). problems meaning (asked m) known h ≡ []) (sym e) (no_trees (is_open h))
 no_trees_at n (inr (inr (inr (inr (inr (inr (inr (inr (inl e))))))))) known h = subst (λ (m : ℕ). problems meaning (asked m) known h ≡ []) (sym e) (no_trees (is_open h))
 no_trees_at n (inr (inr (inr (inr (inr (inr (inr (inr (inr (inl e)))))))))) known h = subst (λ (m : ℕ). problems meaning (asked m) known h ≡ []) (sym e) (no_trees (is_open h))
-no_trees_at n (inr (inr (inr (inr (inr (inr (inr (inr (inr (inr none)))))))))) known h = absurd none
+no_trees_at n (inr (inr (inr (inr (inr (inr (inr (inr (inr (inr (inl e))))))))))) known h = subst (λ (m : ℕ). problems meaning (asked m) known h ≡ []) (sym e) (no_trees (is_open h))
+no_trees_at n (inr (inr (inr (inr (inr (inr (inr (inr (inr (inr (inr (inl e)))))))))))) known h = subst (λ (m : ℕ). problems meaning (asked m) known h ≡ []) (sym e) (no_trees (is_open h))
+no_trees_at n (inr (inr (inr (inr (inr (inr (inr (inr (inr (inr (inr (inr none)))))))))))) known h = absurd none
 
 -- what is said of it with these is said of the course
 as_ends : (P : Course (Behind Known) → Type 0) (v : Verdict) (p : Proof) (net : Net) (earlier : Earlier) (n : ℕ) (blocks : List (List Record)) (version : ℕ) (table : List (List ℤ)) (q : Question) (h : Record) (rs : List Record)

@@ -5,7 +5,7 @@ use Rattle.crn_io.specs.Device.{SourceSeen}
 use Rattle.crn_io.specs.Lines.{Place, BreaksLine, document_too_long, line_too_long, otherwise, LacksLine, HasMore, early, beginning}
 use Rattle.crn_vec.specs.Network.{Net}
 use Rattle.crn_cert.specs.Built.{built}
-use Rattle.crn_cert.specs.Questions.{Earlier, Question, Q1, Q2, Q3, Q4, Q5, Q6, Q7, Q8, Q9, Q10}
+use Rattle.crn_cert.specs.Questions.{Earlier, Question, Q1, Q2, Q3, Q4, Q5, Q6, Q7, Q8, Q9, Q10, Q11, Q12}
 use Rattle.crn_cert.specs.Tests.{Test as Claim}
 use Rattle.crn_cert.specs.Valid.{class_rank_tests, confluence_head, confluence_rows, conservation_rows, deficiency_head, deficiency_rows, dependence_rows, linkage_rows, one_head, rank_rows, regular_head, regular_rows, reversible_head, reversible_rows, side_tests, strong_rows, weak_head, zero_head}
 use Rattle.crn_cert.specs.ConfluenceTests.{tie_tests}
@@ -317,7 +317,7 @@ built_numbered = (
             record { head = λ known h. deficiency_head_numbered known.net known.earlier (verdict_in Q6 known h []); rows = λ known h rs. deficiency_numbered known.net known.earlier (verdict_in Q6 known h rs) (proof_in Q6 known h rs) },
             (
               record { head = λ known h. tt; rows = λ known h rs. dependence_numbered known.net (verdict_in Q7 known h rs) },
-              (record { head = λ known h. tt; rows = λ known h rs. conservation_numbered known.net (verdict_in Q8 known h rs) }, (record { head = λ known h. zero_numbered known.net known.earlier (verdict_in Q9 known h []); rows = λ known h rs. tt }, (record { head = λ known h. one_numbered known.earlier (verdict_in Q10 known h []); rows = λ known h rs. tt }, tt))),
+              (record { head = λ known h. tt; rows = λ known h rs. conservation_numbered known.net (verdict_in Q8 known h rs) }, (record { head = λ known h. zero_numbered known.net known.earlier (verdict_in Q9 known h []); rows = λ known h rs. tt }, (record { head = λ known h. one_numbered known.earlier (verdict_in Q10 known h []); rows = λ known h rs. tt }, (record { head = λ known h. regular_head_numbered known.net known.earlier (verdict_in Q11 known h []); rows = λ known h rs. regular_numbered known.net known.earlier (verdict_in Q11 known h rs) (proof_in Q11 known h rs) }, (record { head = λ known h. confluence_head_numbered known.earlier (verdict_in Q12 known h []); rows = λ known h rs. confluence_numbered known.net known.earlier (verdict_in Q12 known h rs) (proof_in Q12 known h rs) }, tt))))),
             ),
           ),
         ),

@@ -1421,7 +1421,9 @@ head_facts net earlier n h (inr (inr (inr (inr (inr (inr (inl e))))))) = subst (
 head_facts net earlier n h (inr (inr (inr (inr (inr (inr (inr (inl e)))))))) = subst (FactsAt net earlier h) (sym e) (by_law net earlier h)
 head_facts net earlier n h (inr (inr (inr (inr (inr (inr (inr (inr (inl e))))))))) = subst (FactsAt net earlier h) (sym e) (by_zero net earlier h)
 head_facts net earlier n h (inr (inr (inr (inr (inr (inr (inr (inr (inr (inl e)))))))))) = subst (FactsAt net earlier h) (sym e) (by_one net earlier h)
-head_facts net earlier n h (inr (inr (inr (inr (inr (inr (inr (inr (inr (inr none)))))))))) = absurd none
+head_facts net earlier n h (inr (inr (inr (inr (inr (inr (inr (inr (inr (inr (inl e))))))))))) = subst (FactsAt net earlier h) (sym e) (by_regular net earlier h)
+head_facts net earlier n h (inr (inr (inr (inr (inr (inr (inr (inr (inr (inr (inr (inl e)))))))))))) = subst (FactsAt net earlier h) (sym e) (by_confluence net earlier h)
+head_facts net earlier n h (inr (inr (inr (inr (inr (inr (inr (inr (inr (inr (inr (inr none)))))))))))) = absurd none
 
 pub said_facts : (net : Net) (n : ℕ) (facts : KeptFacts) (head : List ℤ) (h : Record) → IsBuilt n → IsKnown net n facts → IsHead net facts.earlier n head h → HeadFacts net facts.earlier n h head
 said_facts net n facts head h built known said =
@@ -1440,7 +1442,9 @@ heads_by_sizes n (inr (inr (inr (inr (inr (inr (inl e))))))) z w s c r k = subst
 heads_by_sizes n (inr (inr (inr (inr (inr (inr (inr (inl e)))))))) z w s c r k = subst (λ (m : ℕ). heads (question_of m) z ≡ heads (asked m) w) (sym e) (ap₂ (λ (i j : ℕ). head (codes "q8") 1 yes [] ∷ head (codes "q8") 2 no [] ∷ wide (codes "q8") 3 1 i j ∷ []) s r)
 heads_by_sizes n (inr (inr (inr (inr (inr (inr (inr (inr (inl e))))))))) z w s c r k = subst (λ (m : ℕ). heads (question_of m) z ≡ heads (asked m) w) (sym e) (ap (λ (i : ℕ). head (codes "q9") 1 yes (small 1 0 1 ∷ []) ∷ head (codes "q9") 2 no (small 1 1 i ∷ []) ∷ rests (codes "q9") 5 5 ∷ []) c)
 heads_by_sizes n (inr (inr (inr (inr (inr (inr (inr (inr (inr (inl e)))))))))) z w s c r k = subst (λ (m : ℕ). heads (question_of m) z ≡ heads (asked m) w) (sym e) (ap₂ (λ (i : ℕ) (x : List ℕ). head (codes "q10") 1 yes [] ∷ head (codes "q10") 2 (no_by (codes "terminal")) (small 1 1 (length x) ∷ small 1 2 i ∷ []) ∷ head (codes "q10") 3 (no_by (codes "class")) (small 1 1 (length x) ∷ small 1 2 i ∷ []) ∷ head (codes "q10") 4 (no_by (codes "sum")) (small 1 0 i ∷ []) ∷ rests (codes "q10") 7 6 ∷ []) c k)
-heads_by_sizes n (inr (inr (inr (inr (inr (inr (inr (inr (inr (inr none)))))))))) z w s c r k = absurd none
+heads_by_sizes n (inr (inr (inr (inr (inr (inr (inr (inr (inr (inr (inl e))))))))))) z w s c r k = subst (λ (m : ℕ). heads (question_of m) z ≡ heads (asked m) w) (sym e) (ap₂ (λ (i : ℕ × ℕ) (x : List ℕ). head (codes "q11") 1 yes [] ∷ head (codes "q11") 2 (no_by (codes "terminal")) (small 1 1 (length x) ∷ small 1 2 i.0 ∷ []) ∷ head (codes "q11") 3 (no_by (codes "dependence")) [] ∷ head (codes "q11") 4 (no_by (codes "cycle")) (small 1 1 i.1 ∷ []) ∷ rests (codes "q11") 7 7 ∷ []) (ap₂ (λ (i j : ℕ). (i, j)) c r) k)
+heads_by_sizes n (inr (inr (inr (inr (inr (inr (inr (inr (inr (inr (inr (inl e)))))))))))) z w s c r k = subst (λ (m : ℕ). heads (question_of m) z ≡ heads (asked m) w) (sym e) (ap₂ (λ (i : ℕ × ℕ) (x : List ℕ). head (codes "q12") 1 yes [] ∷ head (codes "q12") 2 (none_by (codes "regular")) [] ∷ head (codes "q12") 3 (none_by (codes "zero")) [] ∷ head (codes "q12") 4 (none_by (codes "plane")) (TwoOf i.0 ∷ []) ∷ wide (codes "q12") 5 4 i.0 (i.1 + length x) ∷ rests (codes "q12") 7 11 ∷ []) (ap₂ (λ (i j : ℕ). (i, j)) c s) k)
+heads_by_sizes n (inr (inr (inr (inr (inr (inr (inr (inr (inr (inr (inr (inr none)))))))))))) z w s c r k = absurd none
 
 pub number_of_built : (n : ℕ) → IsBuilt n → (1 ≤ n) × (n ≤ 15)
 number_of_built n (inl e) = (omega (arith, e), omega (arith, e))
@@ -1453,4 +1457,6 @@ number_of_built n (inr (inr (inr (inr (inr (inr (inl e))))))) = (omega (arith, e
 number_of_built n (inr (inr (inr (inr (inr (inr (inr (inl e)))))))) = (omega (arith, e), omega (arith, e))
 number_of_built n (inr (inr (inr (inr (inr (inr (inr (inr (inl e))))))))) = (omega (arith, e), omega (arith, e))
 number_of_built n (inr (inr (inr (inr (inr (inr (inr (inr (inr (inl e)))))))))) = (omega (arith, e), omega (arith, e))
-number_of_built n (inr (inr (inr (inr (inr (inr (inr (inr (inr (inr none)))))))))) = absurd none
+number_of_built n (inr (inr (inr (inr (inr (inr (inr (inr (inr (inr (inl e))))))))))) = (omega (arith, e), omega (arith, e))
+number_of_built n (inr (inr (inr (inr (inr (inr (inr (inr (inr (inr (inr (inl e)))))))))))) = (omega (arith, e), omega (arith, e))
+number_of_built n (inr (inr (inr (inr (inr (inr (inr (inr (inr (inr (inr (inr none)))))))))))) = absurd none

@@ -55,7 +55,9 @@ holds_first net n facts (inr (inr (inr (inr (inr (inr (inl e))))))) differs k = 
 holds_first net n facts (inr (inr (inr (inr (inr (inr (inr (inl e)))))))) differs k = first_of facts.earlier _ (k.so_far ∙ ap (λ (m : ℕ). take (m - 1) built) e)
 holds_first net n facts (inr (inr (inr (inr (inr (inr (inr (inr (inl e))))))))) differs k = first_of facts.earlier _ (k.so_far ∙ ap (λ (m : ℕ). take (m - 1) built) e)
 holds_first net n facts (inr (inr (inr (inr (inr (inr (inr (inr (inr (inl e)))))))))) differs k = first_of facts.earlier _ (k.so_far ∙ ap (λ (m : ℕ). take (m - 1) built) e)
-holds_first net n facts (inr (inr (inr (inr (inr (inr (inr (inr (inr (inr none)))))))))) differs k = absurd none
+holds_first net n facts (inr (inr (inr (inr (inr (inr (inr (inr (inr (inr (inl e))))))))))) differs k = first_of facts.earlier _ (k.so_far ∙ ap (λ (m : ℕ). take (m - 1) built) e)
+holds_first net n facts (inr (inr (inr (inr (inr (inr (inr (inr (inr (inr (inr (inl e)))))))))))) differs k = first_of facts.earlier _ (k.so_far ∙ ap (λ (m : ℕ). take (m - 1) built) e)
+holds_first net n facts (inr (inr (inr (inr (inr (inr (inr (inr (inr (inr (inr (inr none)))))))))))) differs k = absurd none
 
 -- no class is known before the first block
 pub linkage_none : (net : Net) (n : ℕ) (facts : KeptFacts) (l : Linkage) → IsKnown net n facts → n ≡ 1 → l.labels.now ≡ [] → l.count ≡ 0 → IsLinkage facts.earlier l
@@ -211,7 +213,9 @@ count_few net n facts (inr more) k =
     later_than (inr (inr (inr (inr (inr (inr (inl e))))))) d = absurd (omega (arith, d, e))
     later_than (inr (inr (inr (inr (inr (inr (inr (inl e)))))))) d = absurd (omega (arith, d, e))
     later_than (inr (inr (inr (inr (inr (inr (inr (inr (inl e))))))))) d = absurd (omega (arith, d, e))
-    later_than (inr (inr (inr (inr (inr (inr (inr (inr (inr none))))))))) d = none
+    later_than (inr (inr (inr (inr (inr (inr (inr (inr (inr (inl e)))))))))) d = absurd (omega (arith, d, e))
+    later_than (inr (inr (inr (inr (inr (inr (inr (inr (inr (inr (inl e))))))))))) d = absurd (omega (arith, d, e))
+    later_than (inr (inr (inr (inr (inr (inr (inr (inr (inr (inr (inr none))))))))))) d = none
 
 -- ---- how many reactions the classes have
 

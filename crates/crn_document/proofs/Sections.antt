@@ -20,7 +20,7 @@ use Rattle.crn_document.specs.Inner.Blocks.{behind_at}
 use Rattle.crn_document.specs.Inner.Steps.{StepIs}
 use Rattle.crn_document.proofs.Steps.{step_gives, step_map, stop_first}
 
-pub built_of : (n : ℕ) → 1 ≤ n → n ≤ 10 → IsBuilt n
+pub built_of : (n : ℕ) → 1 ≤ n → n ≤ 12 → IsBuilt n
 built_of zero a b = absurd (omega arith)
 built_of (suc zero) a b = inl refl
 built_of (suc (suc zero)) a b = inr (inl refl)
@@ -32,7 +32,9 @@ built_of (suc (suc (suc (suc (suc (suc (suc zero))))))) a b = inr (inr (inr (inr
 built_of (suc (suc (suc (suc (suc (suc (suc (suc zero)))))))) a b = inr (inr (inr (inr (inr (inr (inr (inl refl)))))))
 built_of (suc (suc (suc (suc (suc (suc (suc (suc (suc zero))))))))) a b = inr (inr (inr (inr (inr (inr (inr (inr (inl refl))))))))
 built_of (suc (suc (suc (suc (suc (suc (suc (suc (suc (suc zero)))))))))) a b = inr (inr (inr (inr (inr (inr (inr (inr (inr (inl refl)))))))))
-built_of (suc (suc (suc (suc (suc (suc (suc (suc (suc (suc (suc n))))))))))) a b = absurd (omega arith)
+built_of (suc (suc (suc (suc (suc (suc (suc (suc (suc (suc (suc zero))))))))))) a b = inr (inr (inr (inr (inr (inr (inr (inr (inr (inr (inl refl))))))))))
+built_of (suc (suc (suc (suc (suc (suc (suc (suc (suc (suc (suc (suc zero)))))))))))) a b = inr (inr (inr (inr (inr (inr (inr (inr (inr (inr (inr (inl refl)))))))))))
+built_of (suc (suc (suc (suc (suc (suc (suc (suc (suc (suc (suc (suc (suc n))))))))))))) a b = absurd (omega arith)
 
 -- ---- sections
 
@@ -72,9 +74,11 @@ drop_built n (inr (inr (inr (inr (inr (inr (inl e))))))) = subst (λ (m : ℕ). 
 drop_built n (inr (inr (inr (inr (inr (inr (inr (inl e)))))))) = subst (λ (m : ℕ). drop (m - 1) built ≡ asked m ∷ drop (m + 1 - 1) built) (sym e) refl
 drop_built n (inr (inr (inr (inr (inr (inr (inr (inr (inl e))))))))) = subst (λ (m : ℕ). drop (m - 1) built ≡ asked m ∷ drop (m + 1 - 1) built) (sym e) refl
 drop_built n (inr (inr (inr (inr (inr (inr (inr (inr (inr (inl e)))))))))) = subst (λ (m : ℕ). drop (m - 1) built ≡ asked m ∷ drop (m + 1 - 1) built) (sym e) refl
-drop_built n (inr (inr (inr (inr (inr (inr (inr (inr (inr (inr none)))))))))) = absurd none
+drop_built n (inr (inr (inr (inr (inr (inr (inr (inr (inr (inr (inl e))))))))))) = subst (λ (m : ℕ). drop (m - 1) built ≡ asked m ∷ drop (m + 1 - 1) built) (sym e) refl
+drop_built n (inr (inr (inr (inr (inr (inr (inr (inr (inr (inr (inr (inl e)))))))))))) = subst (λ (m : ℕ). drop (m - 1) built ≡ asked m ∷ drop (m + 1 - 1) built) (sym e) refl
+drop_built n (inr (inr (inr (inr (inr (inr (inr (inr (inr (inr (inr (inr none)))))))))))) = absurd none
 
-pub none_built : (n : ℕ) → n ≡ 11 → drop (n - 1) built ≡ []
+pub none_built : (n : ℕ) → n ≡ 13 → drop (n - 1) built ≡ []
 none_built n e = subst (λ (m : ℕ). drop (m - 1) built ≡ []) (sym e) refl
 
 pub behind_is : (net : Net) (earlier : Earlier) (line : ℕ) (blocks : List (List Record)) (opened : List Record) → behind_sections opened (behind_at net earlier line blocks) ≡ behind_at net earlier (line + length opened) blocks

@@ -22,7 +22,7 @@ use crn_io::Source;
 use crn_net::Network;
 
 // The number of the last question that is answered.
-const LAST: u32 = 10;
+const LAST: u32 = 12;
 
 // The number of the section that opens before a question, and 0 if none does.
 fn section_before(question: u32) -> u32
@@ -37,6 +37,7 @@ fn section_before(question: u32) -> u32
         5 => 2,
         7 => 3,
         9 => 4,
+        11 => 5,
         _ => 0,
     }
 }
@@ -92,7 +93,7 @@ pub(crate) fn next_blocks<S: Source>(
 ) -> Result<(), CheckStop>
     requires goes { GoesOn at.old }
     requires first { 1 ≤ question }
-    requires last { question ≤ 11 }
+    requires last { question ≤ 13 }
     requires ready { IsReady net.now question checked.old }
     ensures step { (table : List (List ℤ)) (blocks : List (List Record)) →
         StepIs (asks_blocks meaning at.old.version table (drop (question - 1) built)
@@ -101,7 +102,7 @@ pub(crate) fn next_blocks<S: Source>(
         result at.old at.new (S.seen source.old) (S.seen source.new) }
     ensures goes { OnOk result (GoesOn at.new) }
     ensures version { at.new.version ≡ at.old.version }
-    ensures ready { OnOk result (IsReady net.now 11 checked.new) }
+    ensures ready { OnOk result (IsReady net.now 13 checked.new) }
 {
     if question > LAST {
         return Ok(());

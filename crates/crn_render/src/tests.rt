@@ -61,6 +61,8 @@ fn verdicts_both_ways(rt: &(impl Abort + AllocGlobal), net: &Network) -> Verdict
     });
     verdicts.push(Verdict::YesWeak { weak: true });
     verdicts.push(Verdict::Yes);
+    verdicts.push(Verdict::Yes);
+    verdicts.push(Verdict::OnlyZero);
     verdicts
 }
 
@@ -100,6 +102,8 @@ fn verdicts_one_way(rt: &(impl Abort + AllocGlobal), net: &Network) -> Verdicts
     });
     verdicts.push(Verdict::YesWeak { weak: false });
     verdicts.push(Verdict::Yes);
+    verdicts.push(Verdict::NoDependence);
+    verdicts.push(Verdict::NotRegular);
     verdicts
 }
 
@@ -116,7 +120,7 @@ fn open_by(rt: &(impl Abort + AllocGlobal), system: u32) -> Verdict
     })
 }
 
-// Verdicts on `A <-> B` of which the last six are open.
+// Verdicts on `A <-> B` of which the last eight are open.
 fn verdicts_left_open(rt: &(impl Abort + AllocGlobal), net: &Network) -> Verdicts
     requires species { length net.now.names ≡ 2 }
     requires complexes { length net.now.complexes ≡ 2 }
@@ -142,6 +146,8 @@ fn verdicts_left_open(rt: &(impl Abort + AllocGlobal), net: &Network) -> Verdict
     verdicts.push(open_by(rt, 1));
     verdicts.push(Verdict::Unknown(Gap::Rests { question: 5 }));
     verdicts.push(Verdict::Unknown(Gap::Rests { question: 6 }));
+    verdicts.push(Verdict::Unknown(Gap::Rests { question: 7 }));
+    verdicts.push(Verdict::Unknown(Gap::Rests { question: 11 }));
     verdicts
 }
 
@@ -159,7 +165,7 @@ fn is_report(
 }
 
 const BOTH_WAYS: &[u8] =
-    b"crn report 1\nspecies 2: A B\ncomplexes 2: A; B\nreactions 2\nQ1 linkage classes: 1\n  class 1: A; B\nQ2 strong classes: 1, terminal 1\n  strong 1: A; B (terminal)\nQ3 reversible: yes\nQ4 weakly reversible: yes\nQ5 rank: 1\n  independent reactions: 1\nQ6 deficiency: 0, classes 0\nQ7 positively dependent: yes\n  positive combination: 1 1\nQ8 conservative: yes\n  positive law: 1 1\nQ9 deficiency zero theorem: hypotheses hold, weakly reversible\nQ10 deficiency one theorem: hypotheses hold\nopen: 0\n";
+    b"crn report 1\nspecies 2: A B\ncomplexes 2: A; B\nreactions 2\nQ1 linkage classes: 1\n  class 1: A; B\nQ2 strong classes: 1, terminal 1\n  strong 1: A; B (terminal)\nQ3 reversible: yes\nQ4 weakly reversible: yes\nQ5 rank: 1\n  independent reactions: 1\nQ6 deficiency: 0, classes 0\nQ7 positively dependent: yes\n  positive combination: 1 1\nQ8 conservative: yes\n  positive law: 1 1\nQ9 deficiency zero theorem: hypotheses hold, weakly reversible\nQ10 deficiency one theorem: hypotheses hold\nQ11 regular: yes\nQ12 confluence vector: not applicable, no vector but zero\nopen: 0\n";
 
 #[test]
 fn a_reversible_reaction_has_its_report(rt: HostRuntime) {
@@ -172,7 +178,7 @@ fn a_reversible_reaction_has_its_report(rt: HostRuntime) {
 }
 
 const ONE_WAY: &[u8] =
-    b"crn report 1\nspecies 2: A B\ncomplexes 2: A; B\nreactions 1\nQ1 linkage classes: 1\n  class 1: A; B\nQ2 strong classes: 2, terminal 1\n  strong 1: A\n  strong 2: B (terminal)\nQ3 reversible: no\n  reaction 1: A -> B\nQ4 weakly reversible: no\n  reaction 1: A -> B\nQ5 rank: 1\n  independent reactions: 1\nQ6 deficiency: 0, classes 0\nQ7 positively dependent: no\n  multipliers: 1 0\nQ8 conservative: yes\n  positive law: 1 1\nQ9 deficiency zero theorem: hypotheses hold, not weakly reversible\nQ10 deficiency one theorem: hypotheses hold\nopen: 0\n";
+    b"crn report 1\nspecies 2: A B\ncomplexes 2: A; B\nreactions 1\nQ1 linkage classes: 1\n  class 1: A; B\nQ2 strong classes: 2, terminal 1\n  strong 1: A\n  strong 2: B (terminal)\nQ3 reversible: no\n  reaction 1: A -> B\nQ4 weakly reversible: no\n  reaction 1: A -> B\nQ5 rank: 1\n  independent reactions: 1\nQ6 deficiency: 0, classes 0\nQ7 positively dependent: no\n  multipliers: 1 0\nQ8 conservative: yes\n  positive law: 1 1\nQ9 deficiency zero theorem: hypotheses hold, not weakly reversible\nQ10 deficiency one theorem: hypotheses hold\nQ11 regular: no, not positively dependent\nQ12 confluence vector: not applicable, not regular\nopen: 0\n";
 
 #[test]
 fn a_reaction_has_its_report(rt: HostRuntime) {
@@ -185,7 +191,7 @@ fn a_reaction_has_its_report(rt: HostRuntime) {
 }
 
 const LEFT_OPEN: &[u8] =
-    b"crn report 1\nspecies 2: A B\ncomplexes 2: A; B\nreactions 2\nQ1 linkage classes: 1\n  class 1: A; B\nQ2 strong classes: 1, terminal 1\n  strong 1: A; B (terminal)\nQ3 reversible: yes\nQ4 weakly reversible: yes\nQ5 rank: open, wide\n  system 1\n  index 1\n  basis: 1 2\nQ6 deficiency: open, rests on Q5\nQ7 positively dependent: open, wide\n  system 2\n  index 1\n  basis: 1 2\nQ8 conservative: open, wide\n  system 1\n  index 1\n  basis: 1 2\nQ9 deficiency zero theorem: open, rests on Q5\nQ10 deficiency one theorem: open, rests on Q6\nopen: 6\n";
+    b"crn report 1\nspecies 2: A B\ncomplexes 2: A; B\nreactions 2\nQ1 linkage classes: 1\n  class 1: A; B\nQ2 strong classes: 1, terminal 1\n  strong 1: A; B (terminal)\nQ3 reversible: yes\nQ4 weakly reversible: yes\nQ5 rank: open, wide\n  system 1\n  index 1\n  basis: 1 2\nQ6 deficiency: open, rests on Q5\nQ7 positively dependent: open, wide\n  system 2\n  index 1\n  basis: 1 2\nQ8 conservative: open, wide\n  system 1\n  index 1\n  basis: 1 2\nQ9 deficiency zero theorem: open, rests on Q5\nQ10 deficiency one theorem: open, rests on Q6\nQ11 regular: open, rests on Q7\nQ12 confluence vector: open, rests on Q11\nopen: 8\n";
 
 #[test]
 fn open_verdicts_have_their_lines(rt: HostRuntime) {

@@ -6,3 +6,4 @@ mod Ranks
 mod RankAnswers
 mod Deficiencies
 mod Theorems
+mod Regularity

@@ -8,6 +8,7 @@ ghost use Rattle.crn_cert.specs.Formed.{AreFormed};
 ghost use Rattle.crn_cert.specs.Valid.{AreValid};
 ghost use Rattle.crn_cert.specs.Licensed.{AllTrueOrLicensed};
 
+use crate::confluence_answer::confluence_answer;
 use crate::deficiency_answer::deficiency_answer;
 use crate::laws::meets_definition;
 use crate::linkage_answer::linkage_answer;
@@ -20,6 +21,7 @@ use crn_cert::Answers;
 use crn_defi::one_hypotheses;
 use crn_graph::{linkage, strong};
 use crn_net::Network;
+use crn_reg::regular;
 use crn_vec::NoMemory;
 use std::alloc::Global;
 
@@ -48,6 +50,15 @@ pub fn solve(alloc: Global, net: &Network, budget: u32) -> Result<Answers, NoMem
     let conservation = conservative(alloc, net)?;
     let zero = zero_answer(net, &linkage, &weakly_reversible.verdict, &rank.verdict);
     let one = one_hypotheses(net, &linkage, &strong, &deficiency.verdict);
+    let regular = regular(alloc, net, &linkage, &strong, &dependence.verdict)?;
+    let confluence = confluence_answer(
+        alloc,
+        net,
+        &linkage,
+        &strong,
+        &weakly_reversible.verdict,
+        &regular.verdict,
+    )?;
     let mut answers = Answers::new(alloc)?;
     answers.push(linkage_answer(linkage));
     answers.push(strong_answer(strong));
@@ -59,5 +70,7 @@ pub fn solve(alloc: Global, net: &Network, budget: u32) -> Result<Answers, NoMem
     answers.push(conservation);
     answers.push(zero);
     answers.push(one);
+    answers.push(regular);
+    answers.push(confluence);
     Ok(answers)
 }

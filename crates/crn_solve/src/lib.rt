@@ -2,6 +2,7 @@
 #![tactic(auto)]
 
 mod answers;
+mod confluence_answer;
 mod deficiency_answer;
 mod laws;
 mod linkage_answer;

@@ -1,5 +1,5 @@
 ghost use Rattle.std.specs.Prelude.{◌≡◌, ◌↔◌, IsTrue};
-ghost use Rattle.crn_cert.specs.Questions.{IsYes, rank_of};
+ghost use Rattle.crn_cert.specs.Questions.{IsOpen, IsYes, rank_of};
 
 use crn_cert::Verdict;
 
@@ -20,6 +20,16 @@ pub(crate) fn is_yes(verdict: &Verdict) -> bool
     match verdict {
         Verdict::Yes => true,
         Verdict::YesVec { .. } => true,
+        _ => false,
+    }
+}
+
+/// Whether the verdict is open.
+pub(crate) fn is_open(verdict: &Verdict) -> bool
+    ensures { IsTrue result ↔ IsOpen verdict.now }
+{
+    match verdict {
+        Verdict::Unknown(_) => true,
         _ => false,
     }
 }

@@ -6,10 +6,9 @@ ghost use Rattle.crn_net.specs.Terms.{IsTerm, IsSide};
 use crate::solve;
 use crn_cert::{Answer, Answers, Gap, Proof, Verdict};
 use crn_net::{NetBuilder, NetFault, Network, Term, sums_fit};
-use crn_vec::{DEFAULT_BUDGET, MAX_AMOUNT, MAX_TERMS, NoMemory};
+use crn_vec::{DEFAULT_BUDGET, MAX_AMOUNT, MAX_TERMS};
 use std::alloc::{AllocError, Global};
 use std::process::Abort;
-use std::test::Fail;
 
 fn is_letter(b: u8) -> bool
     ensures { result ≡ is_letter b }
@@ -117,6 +116,24 @@ fn network(rt: &(impl Abort + AllocGlobal), text: &[u8]) -> Network {
     }
 }
 
+// Whether a network is regular, and else why not.
+#[derive(Clone, Copy)]
+enum Regular {
+    Yes,
+    Split { class: u32, count: u32 },
+    Independent,
+    Cycle { reaction: u32, walk: &'static [u32] },
+}
+
+// The confluence vector of a network, or why there is none.
+#[derive(Clone, Copy)]
+enum Confluence {
+    Vector(&'static [i128]),
+    Irregular,
+    OnlyZero,
+    Plane,
+}
+
 // A network, and what its answers say.
 #[derive(Clone, Copy)]
 struct Row {
@@ -136,6 +153,8 @@ struct Row {
     deficiencies: &'static [u32],
     dependent: bool,
     conservative: bool,
+    regular: Regular,
+    confluence: Confluence,
 }
 
 // Chains in which a molecule becomes 99 of the next species.
@@ -144,6 +163,9 @@ const NINE: &[u8] = b"A>99B,B>99C,C>99D,D>99E,E>99F,F>99G,G>99H,H>99I,I>99J";
 const ELEVEN: &[u8] = b"A>99B,B>99C,C>99D,D>99E,E>99F,F>99G,G>99H,H>99I,I>99J,J>99K,K>99L";
 
 const TWELVE: &[u8] = b"A>99B,B>99C,C>99D,D>99E,E>99F,F>99G,G>99H,H>99I,I>99J,J>99K,K>99L,>M";
+
+// A chain of ten such steps between a source and a sink.
+const THROUGH: &[u8] = b">A,A>99B,B>99C,C>99D,D>99E,E>99F,F>99G,G>99H,H>99I,I>99J,J>99K,K>";
 
 const ROWS: [Row; 9] = [
     // one reaction
@@ -161,6 +183,8 @@ const ROWS: [Row; 9] = [
         deficiencies: &[0],
         dependent: false,
         conservative: true,
+        regular: Regular::Independent,
+        confluence: Confluence::Irregular,
     },
     // a reaction and its reverse
     Row {
@@ -177,6 +201,8 @@ const ROWS: [Row; 9] = [
         deficiencies: &[0],
         dependent: true,
         conservative: true,
+        regular: Regular::Yes,
+        confluence: Confluence::OnlyZero,
     },
     // Edelstein's network
     Row {
@@ -193,6 +219,8 @@ const ROWS: [Row; 9] = [
         deficiencies: &[0, 0],
         dependent: true,
         conservative: false,
+        regular: Regular::Yes,
+        confluence: Confluence::Vector(&[1, -1, 1, 0, -1]),
     },
     // the Brusselator
     Row {
@@ -209,6 +237,8 @@ const ROWS: [Row; 9] = [
         deficiencies: &[0, 0],
         dependent: true,
         conservative: false,
+        regular: Regular::Yes,
+        confluence: Confluence::Vector(&[0, -1, 1, -1, 1]),
     },
     // three complexes in a row, reversible
     Row {
@@ -225,6 +255,8 @@ const ROWS: [Row; 9] = [
         deficiencies: &[1],
         dependent: true,
         conservative: true,
+        regular: Regular::Yes,
+        confluence: Confluence::Vector(&[1, -2, 1]),
     },
     // two terminal classes in one linkage class
     Row {
@@ -241,6 +273,8 @@ const ROWS: [Row; 9] = [
         deficiencies: &[1],
         dependent: true,
         conservative: false,
+        regular: Regular::Split { class: 1, count: 2 },
+        confluence: Confluence::Irregular,
     },
     // the two-site futile cycle
     Row {
@@ -257,6 +291,8 @@ const ROWS: [Row; 9] = [
         deficiencies: &[0, 0],
         dependent: true,
         conservative: true,
+        regular: Regular::Yes,
+        confluence: Confluence::Plane,
     },
     // a cycle of three reactions
     Row {
@@ -273,6 +309,11 @@ const ROWS: [Row; 9] = [
         deficiencies: &[0],
         dependent: true,
         conservative: true,
+        regular: Regular::Cycle {
+            reaction: 1,
+            walk: &[1, 3, 2],
+        },
+        confluence: Confluence::Irregular,
     },
     // nine reactions, each a class
     Row {
@@ -291,6 +332,8 @@ const ROWS: [Row; 9] = [
         deficiencies: &[0, 0, 0, 0, 0, 0, 0, 0, 0],
         dependent: false,
         conservative: true,
+        regular: Regular::Independent,
+        confluence: Confluence::Irregular,
     },
 ];
 
@@ -335,8 +378,9 @@ fn reverses_are(rt: &impl Abort, answers: &Answers, row: &Row) {
 }
 
 // The answers as they are given, so that no proof of a test looks into what is promised of them.
-fn all_of(rt: &impl AllocGlobal, net: &Network) -> Result<Answers, NoMemory> {
-    solve(rt.alloc(), net, DEFAULT_BUDGET)
+fn all_of(rt: &(impl Abort + AllocGlobal), text: &[u8]) -> Answers {
+    let net = network(rt, text);
+    solve(rt.alloc(), &net, DEFAULT_BUDGET).expect(rt, "memory")
 }
 
 // Whether the answer is a yes with a vector. It is decided.
@@ -366,7 +410,7 @@ fn numbers_are(rt: &impl Abort, answers: &Answers, row: &Row) {
 
 // So are the answers on positive vectors.
 fn positive_vectors_are(rt: &impl Abort, answers: &Answers, row: &Row) {
-    assert_eq!(rt; answers.len(), 10);
+    assert_eq!(rt; answers.len(), 12);
     assert!(rt; is_yes(rt, answers.get(7)) == row.dependent);
     assert!(rt; is_yes(rt, answers.get(8)) == row.conservative);
 }
@@ -382,29 +426,64 @@ fn zero_is(answer: &Answer, row: &Row) -> bool {
 
 // The answers to the two questions on theorems are decided, as those on the deficiencies are.
 fn theorems_are(rt: &impl Abort, answers: &Answers, row: &Row) {
-    assert_eq!(rt; answers.len(), 10);
+    assert_eq!(rt; answers.len(), 12);
     assert!(rt; zero_is(answers.get(9), row));
     assert!(rt; !matches!(&answers.get(10).verdict, Verdict::Unknown(_)));
 }
 
+// Whether the answer on regularity is this one.
+fn is_regular(answer: &Answer, want: &Regular) -> bool {
+    match (&answer.verdict, want) {
+        (Verdict::Yes, Regular::Yes) => true,
+        (Verdict::NoDependence, Regular::Independent) => true,
+        (Verdict::NoTerminal { class, count }, Regular::Split { class: k, count: n }) => {
+            *class == *k && *count == *n
+        }
+        (
+            Verdict::NoCycle { reaction, walk },
+            Regular::Cycle {
+                reaction: r,
+                walk: w,
+            },
+        ) => { *reaction == *r && walk.as_slice() == *w }
+        _ => false,
+    }
+}
+
+// Whether the answer on confluence vectors is this one.
+fn is_confluence(answer: &Answer, want: &Confluence) -> bool {
+    match (&answer.verdict, want) {
+        (Verdict::YesVec { vector }, Confluence::Vector(g)) => vector.as_slice() == *g,
+        (Verdict::NotRegular, Confluence::Irregular) => true,
+        (Verdict::OnlyZero, Confluence::OnlyZero) => true,
+        (Verdict::Plane { .. }, Confluence::Plane) => true,
+        _ => false,
+    }
+}
+
+// So are the answers on regularity and on confluence vectors.
+fn confluences_are(rt: &impl Abort, answers: &Answers, row: &Row) {
+    assert_eq!(rt; answers.len(), 12);
+    assert!(rt; is_regular(answers.get(11), &row.regular));
+    assert!(rt; is_confluence(answers.get(12), &row.confluence));
+}
+
 // All answers are those of the row.
-fn answers_are(rt: &(impl Abort + AllocGlobal), row: &Row) -> Result<(), Fail> {
-    let net = network(rt, row.text);
-    let answers = all_of(rt, &net)?;
+fn answers_are(rt: &(impl Abort + AllocGlobal), row: &Row) {
+    let answers = all_of(rt, row.text);
     classes_are(rt, &answers, row);
     reverses_are(rt, &answers, row);
     numbers_are(rt, &answers, row);
     positive_vectors_are(rt, &answers, row);
     theorems_are(rt, &answers, row);
-    Ok(())
+    confluences_are(rt, &answers, row);
 }
 
 #[test]
-fn worked_networks_have_their_answers(rt: HostRuntime) -> Result<(), Fail> {
+fn worked_networks_have_their_answers(rt: HostRuntime) {
     for row in ROWS {
-        answers_are(&rt, &row)?;
+        answers_are(&rt, &row);
     }
-    Ok(())
 }
 
 // Whether a yes has a law by which A weighs 99^9 times as much as J.
@@ -423,51 +502,65 @@ fn weigh_so(first: Option<&i128>, last: Option<&i128>) -> bool {
 }
 
 #[test]
-fn a_long_chain_has_a_law(rt: HostRuntime) -> Result<(), Fail> {
-    let answers = all_of(&rt, &network(&rt, NINE))?;
-    assert_eq!(rt; answers.len(), 10);
+fn a_long_chain_has_a_law(rt: HostRuntime) {
+    let answers = all_of(&rt, NINE);
+    assert_eq!(rt; answers.len(), 12);
     assert!(rt; weighs_all(&answers.get(8).verdict));
-    Ok(())
+}
+
+// Whether an answer is open because a vector of this system is wide.
+fn is_wide(answer: &Answer, by: u32) -> bool {
+    match &answer.verdict {
+        Verdict::Unknown(Gap::Wide { system, .. }) => *system == by,
+        _ => false,
+    }
 }
 
 // Every law of eleven such reactions has an entry of 99^11 or more.
 #[test]
-fn a_longer_chain_leaves_conservation_open(rt: HostRuntime) -> Result<(), Fail> {
-    let answers = all_of(&rt, &network(&rt, ELEVEN))?;
-    assert_eq!(rt; answers.len(), 10);
+fn a_longer_chain_leaves_conservation_open(rt: HostRuntime) {
+    let answers = all_of(&rt, ELEVEN);
+    assert_eq!(rt; answers.len(), 12);
     assert!(rt; !is_yes(&rt, answers.get(7)));
-    match &answers.get(8).verdict {
-        Verdict::Unknown(Gap::Wide { system, .. }) => assert_eq!(rt; *system, 1),
-        _ => panic!(rt; "conservation is open"),
-    }
-    Ok(())
+    assert!(rt; is_wide(answers.get(8), 1));
+    assert!(rt; is_regular(answers.get(11), &Regular::Independent));
+    assert!(rt; is_confluence(answers.get(12), &Confluence::Irregular));
 }
 
 // One row rules conservation out if a species appears from nothing.
 #[test]
-fn one_row_is_enough(rt: HostRuntime) -> Result<(), Fail> {
-    let answers = all_of(&rt, &network(&rt, TWELVE))?;
-    assert_eq!(rt; answers.len(), 10);
+fn one_row_is_enough(rt: HostRuntime) {
+    let answers = all_of(&rt, TWELVE);
+    assert_eq!(rt; answers.len(), 12);
     assert!(rt; !is_yes(&rt, answers.get(8)));
-    Ok(())
 }
 
-// Whether an answer is open because question 5 is.
-fn rests_on_the_rank(answer: &Answer) -> bool {
+// Whether an answer is open because this question is.
+fn rests(answer: &Answer, on: u32) -> bool {
     match &answer.verdict {
-        Verdict::Unknown(Gap::Rests { question }) => *question == 5,
+        Verdict::Unknown(Gap::Rests { question }) => *question == on,
         _ => false,
     }
 }
 
 // The deficiencies are found if the rank is, and else they rest on it.
 #[test]
-fn deficiencies_rest_on_an_open_rank(rt: HostRuntime) -> Result<(), Fail> {
+fn deficiencies_rest_on_an_open_rank(rt: HostRuntime) {
     for text in [NINE, ELEVEN, TWELVE] {
-        let answers = all_of(&rt, &network(&rt, text))?;
-        assert_eq!(rt; answers.len(), 10);
+        let answers = all_of(&rt, text);
+        assert_eq!(rt; answers.len(), 12);
         let is_open = matches!(&answers.get(5).verdict, Verdict::Unknown(_));
-        assert!(rt; rests_on_the_rank(answers.get(6)) == is_open);
+        assert!(rt; rests(answers.get(6), 5) == is_open);
     }
-    Ok(())
+}
+
+// In every positive dependence the last reaction has 99^10 times what the first has, and no complex of a terminal class
+// is linked to another, so nothing else decides whether the network is regular.
+#[test]
+fn confluence_rests_on_an_open_dependence(rt: HostRuntime) {
+    let answers = all_of(&rt, THROUGH);
+    assert_eq!(rt; answers.len(), 12);
+    assert!(rt; is_wide(answers.get(7), 2));
+    assert!(rt; rests(answers.get(11), 7));
+    assert!(rt; rests(answers.get(12), 11));
 }

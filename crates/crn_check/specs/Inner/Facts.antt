@@ -6,7 +6,7 @@ use Rattle.crn_vec.specs.Kept.{KeptInts, KeptNums}
 use Rattle.crn_cert.specs.declared.answer.Gap.{Gap}
 use Rattle.crn_cert.specs.declared.answer.Gap.TheVariants.{Wide}
 use Rattle.crn_cert.specs.declared.answer.Verdict.{Verdict}
-use Rattle.crn_cert.specs.declared.answer.Verdict.TheVariants.{Classes, Strong, Rank, Deficiency, Yes, YesWeak, YesVec, NoReaction, NoVec, NoNumber, NoTerminal, NoClass, NoSum, Unknown}
+use Rattle.crn_cert.specs.declared.answer.Verdict.TheVariants.{Classes, Strong, Rank, Deficiency, Yes, YesWeak, YesVec, NoReaction, NoVec, NoNumber, NoTerminal, NoClass, NoSum, NoDependence, NoCycle, NotRegular, OnlyZero, Plane, Unknown}
 
 -- the list has no more numbers than there is memory for
 abbrev pub HasFewNums : KeptNums → Type 0
@@ -36,5 +36,10 @@ DoesFit (NoNumber number) = Unit {0}
 DoesFit (NoTerminal class count) = Unit {0}
 DoesFit (NoClass class number) = Unit {0}
 DoesFit (NoSum sum) = Unit {0}
+DoesFit NoDependence = Unit {0}
+DoesFit (NoCycle reaction walk) = HasFewNums walk
+DoesFit NotRegular = Unit {0}
+DoesFit OnlyZero = Unit {0}
+DoesFit (Plane first second one two) = HasFewInts one × HasFewInts two
 DoesFit (Unknown gap) = DoesGapFit gap
 DoesFit other = ⊥

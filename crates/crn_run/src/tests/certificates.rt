@@ -1,6 +1,6 @@
 // Certificates, and what `check` says of them.
-use super::reports::{ELEVEN, NINE, TWELVE};
-use super::runs::{ends_so, run_on};
+use super::reports::{ELEVEN, NINE, THROUGH, TWELVE};
+use super::runs::{ends_so, has_in_turn, run_on};
 use crate::Status;
 use std::process::Abort;
 
@@ -15,6 +15,7 @@ const STARTS: &[(&str, &str, &str, &[&str])] = &[
             "\nq6 0 0\nbase ",
             "\nsection dependence\nq7 yes\nvec ",
             "\nq8 yes\nvec ",
+            "\nsection theorems\nq9 yes 1\nq10 yes\nsection confluence\nq11 yes\nside 1 0 1\nq12 none zero\ntie ",
         ],
     ),
     (
@@ -26,6 +27,7 @@ const STARTS: &[(&str, &str, &str, &[&str])] = &[
             "\nq6 0 0\nbase 1\ndual ",
             "\nsection dependence\nq7 no\ncut ",
             "\nq8 yes\nvec ",
+            "\nsection theorems\nq9 yes 0\nq10 yes\nsection confluence\nq11 no dependence\nq12 none regular\nend\n",
         ],
     ),
     (
@@ -37,21 +39,19 @@ const STARTS: &[(&str, &str, &str, &[&str])] = &[
             "\nq6 0 0\nbase ",
             "\nsection dependence\nq7 yes\nvec ",
             "\nq8 no\ncut ",
+            "\nsection theorems\nq9 yes 1\nq10 yes\nsection confluence\nq11 yes\nside 1 0 1\nq12 none zero\ntie ",
+        ],
+    ),
+    (
+        "a confluence vector",
+        "2A <-> A + B\nA + B <-> 2B\n",
+        "crn certificate 2\nnetwork 4\n2A -> A + B\nA + B -> 2A\nA + B -> 2B\n2B -> A + B\nvectors 0\n",
+        &[
+            "\nsection confluence\nq11 yes\nside 1 0 1 1\nside 3 0 0 1\nq12 yes\nvec 1 -2 1\ntie ",
+            "\ntie ",
         ],
     ),
 ];
-
-// Whether a text has these parts, one after another.
-fn has_in_turn(text: &str, parts: &[&str]) -> bool {
-    let mut rest = text;
-    for part in parts {
-        match rest.split_once(*part) {
-            Some((_, after)) => rest = after,
-            None => return false,
-        }
-    }
-    true
-}
 
 // Whether the certificate of a network starts so and has these parts.
 fn is_certified(rt: &(impl Abort + AllocGlobal), text: &str, start: &str, parts: &[&str]) -> bool {
@@ -87,6 +87,8 @@ const ROUNDS: &[&str] = &[
     NINE,
     ELEVEN,
     TWELVE,
+    THROUGH,
+    "A -> B\nB -> A\nC -> 2C\n2C -> C\n",
     "  3X+2Y<->  0 # x",
     "S0 + K <-> KS0\nKS0 -> S1 + K\nS1 + K <-> KS1\nKS1 -> S2 + K\nS2 + F <-> FS2\nFS2 -> S1 + F\nS1 + F <-> FS1\nFS1 -> S0 + F\n",
 ];

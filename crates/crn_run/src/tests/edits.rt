@@ -3,7 +3,7 @@ use super::runs::{ends_so, push};
 use crate::Status;
 use std::process::Abort;
 
-// The lines of a good document of `A <-> B` in version 1, up to question 8.
+// The lines of a good document of `A <-> B` in version 1, up to question 12.
 const BOTH_WAYS: &[&str] = &[
     "crn certificate 1",
     "network 2",
@@ -36,6 +36,13 @@ const BOTH_WAYS: &[&str] = &[
     "vec 1 1",
     "q8 yes",
     "vec 1 1",
+    "q9 yes 1",
+    "q10 yes",
+    "q11 yes",
+    "side 1 0 1",
+    "q12 none zero",
+    "tie 1 0 0",
+    "tie 0 1 0",
 ];
 
 // A line with its LF at the end of a text.
@@ -105,11 +112,54 @@ const EDITS: &[(usize, &str, usize, &str)] = &[
         "25 NumberWide at line 29",
     ),
     (30, "vec 1 2\n", 31, "35 BadVector at line 31"),
+    (31, "q9 yes 0\n", 32, "37 WrongVerdict at line 32"),
+    (31, "q9 no 1\n", 32, "36 WrongNumber at line 32"),
+    (32, "q10 no sum 1\n", 33, "37 WrongVerdict at line 33"),
+    (33, "q11 no dependence\n", 35, "37 WrongVerdict at line 34"),
+    (
+        33,
+        "q11 no cycle 1\nwalk 1 2\n",
+        35,
+        "32 WrongWalk at line 35",
+    ),
+    (34, "side 1 1 0\n", 35, "35 BadVector at line 35"),
+    (34, "side 2 1 0\n", 35, "24 BadField at line 35"),
+    (34, "", 35, "26 WrongOrder at line 35"),
+    (35, "q12 none regular\n", 38, "37 WrongVerdict at line 36"),
+    (
+        35,
+        "q12 yes\nvec 1 -1\ntie 0 1 0\n",
+        38,
+        "35 BadVector at line 37",
+    ),
+    (
+        35,
+        "q12 none plane 1 2\nvec 1 0\nvec 0 1\n",
+        38,
+        "35 BadVector at line 37",
+    ),
+    (35, "q12 none plane 3 1\n", 38, "24 BadField at line 36"),
+    (
+        35,
+        "q12 open wide 4 0 6 1 2\n",
+        38,
+        "24 BadField at line 36",
+    ),
+    (
+        35,
+        "q12 open wide 2 0 1 1 2\n",
+        38,
+        "24 BadField at line 36",
+    ),
+    (36, "tie 0 0 0\n", 37, "35 BadVector at line 37"),
+    (37, "tie 0 0 1\n", 38, "35 BadVector at line 38"),
+    (37, "tie 0 1\n", 38, "24 BadField at line 38"),
     // the lines of a block pass the tests of their text before the first test of what they mean
     (21, "dual 0 0\ncomb 1\n", 23, "24 BadField at line 23"),
-    // only the first 6, and only the first 20
+    // only the first 6, only the first 20, and only the first 36
     (6, "", END, "27 EndsEarly at line 7"),
     (20, "", END, "27 EndsEarly at line 21"),
+    (36, "", END, "27 EndsEarly at line 37"),
 ];
 
 #[test]

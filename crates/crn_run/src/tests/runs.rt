@@ -54,18 +54,34 @@ pub fn edited(rt: &(impl Abort + AllocGlobal), text: &str, old: &str, new: &str)
     made
 }
 
-// Whether a line gives a base, multipliers or a positive vector, of which several would do.
+// Whether a text has these parts, one after another.
+pub fn has_in_turn(text: &str, parts: &[&str]) -> bool {
+    let mut rest = text;
+    for part in parts {
+        match rest.split_once(*part) {
+            Some((_, after)) => rest = after,
+            None => return false,
+        }
+    }
+    true
+}
+
+// Whether a line gives a base, multipliers, a positive vector or a walk, of which several would do.
 fn is_one_of_several(line: &str) -> bool {
     line.starts_with("  independent reactions: ")
         || line.starts_with("  multipliers: ")
         || line.starts_with("  positive ")
+        || line.contains(", walk: ")
 }
 
 // The lines of a report that the network alone decides.
 fn decided_lines(rt: &(impl Abort + AllocGlobal), report: &[u8]) -> String {
     let mut kept = String::new(rt.alloc());
+    let mut is_plane = false;
     for line in std::str::from_utf8(report).unwrap_or("").lines() {
-        if !is_one_of_several(line) {
+        let is_of_plane = is_plane && line.starts_with("  vector: ");
+        is_plane = is_of_plane || line.ends_with(": not applicable, two independent vectors");
+        if !is_of_plane && !is_one_of_several(line) {
             push(rt, &mut kept, line);
             push(rt, &mut kept, "\n");
         }

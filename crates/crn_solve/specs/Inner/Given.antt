@@ -3,7 +3,7 @@
 use Rattle.std.specs.Prelude.{◌≡◌, ℕ, length}
 use Rattle.crn_vec.specs.Kept.{KeptNums}
 use Rattle.crn_cert.specs.declared.answer.Gap.TheVariants.{Wide, Rests}
-use Rattle.crn_cert.specs.declared.answer.Verdict.TheVariants.{Rank, YesVec, NoVec, Unknown}
+use Rattle.crn_cert.specs.declared.answer.Verdict.TheVariants.{Rank, YesVec, NoVec, NotRegular, Unknown}
 use Rattle.crn_cert.specs.declared.answer.Proof.TheVariants.{Nothing, Rank as RankRows}
 use Rattle.crn_cert.specs.declared.answer.RankProof.{RankProof}
 use Rattle.crn_cert.specs.declared.answer.Answer.{Answer}
@@ -20,6 +20,10 @@ wide_answer system index basis = record {
 -- open because the question that it rests on is open
 abbrev pub rests_answer : ℕ → Answer
 rests_answer question = record { verdict = Unknown (Rests question); proof = Nothing }
+
+-- no confluence vector is defined, as the network is not regular
+abbrev pub irregular_answer : Answer
+irregular_answer = record { verdict = NotRegular; proof = Nothing }
 
 -- yes with a solution, or no with multipliers
 abbrev pub vector_answer : Decision → Answer

@@ -1,0 +1,5 @@
+use Rattle.crn_document.proofs.Linkages.{holds_second}
+use Rattle.crn_document.proofs.rows.push_many.Goals as goal
+
+pub strong_of-requires : goal.strong_of-requires
+strong_of-requires c = holds_second c.args.net.now c.args.question c.args.facts.now c.if-question-eq11.true c.requires.known

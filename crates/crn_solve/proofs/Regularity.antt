@@ -1,0 +1,49 @@
+-- The answer on confluence vectors is one of the crate of regularity, rests on an open verdict, or says that the network is not regular.
+use Rattle.std.proofs.Common.{◌≡◌, ℕ, [], ◌∷◌, refl, sym, subst}
+use Rattle.crn_vec.specs.Network.{Net, IsNetwork}
+use Rattle.crn_vec.specs.Confluence.{IsRegular}
+use Rattle.crn_cert.specs.declared.answer.Verdict.{Verdict}
+use Rattle.crn_cert.specs.declared.answer.Verdict.TheVariants.{Classes, Strong, Yes, YesVec, NoTerminal, NoDependence, NoCycle, Unknown}
+use Rattle.crn_cert.specs.Questions.{Earlier, Q1, Q2, Q4, Q11, Q12, IsNo, IsOpen, IsYes, on}
+use Rattle.crn_cert.specs.Says.{AreLinkageClasses, AreStrongClasses, IsTrueOf}
+use Rattle.crn_cert.specs.Valid.{IsValid}
+use Rattle.crn_cert.specs.Law.{IsTrueOrOpen}
+use Rattle.crn_cert.specs.Answered.{IsAnswer}
+use Rattle.crn_cert.proofs.CallerLemmas.{valid_answers_are_true}
+use Rattle.crn_graph.specs.declared.linkage_data.LinkageData.{LinkageData}
+use Rattle.crn_graph.specs.declared.strong_data.StrongData.{StrongData}
+use Rattle.crn_solve.specs.Inner.Given.{irregular_answer, rests_answer}
+
+-- a true yes says that the network is regular
+pub regular_yes : (net : Net) (v : Verdict) → IsTrueOrOpen net Q11 v → IsYes v → IsRegular net
+regular_yes net Yes h y = h
+regular_yes net (YesVec x) h y = absurd h
+regular_yes net v h y = absurd y
+
+-- a verdict that is neither a yes nor open is a no
+regular_no : (net : Net) (v : Verdict) → IsTrueOrOpen net Q11 v → (IsYes v → ⊥) → (IsOpen v → ⊥) → IsNo v
+regular_no net Yes h not_yes not_open = absurd (not_yes tt)
+regular_no net (Unknown gap) h not_yes not_open = absurd (not_open tt)
+regular_no net (NoTerminal k count) h not_yes not_open = tt
+regular_no net NoDependence h not_yes not_open = tt
+regular_no net (NoCycle r walk) h not_yes not_open = tt
+regular_no net v h not_yes not_open = absurd h
+
+-- a true no says that it is not
+irregular : (net : Net) (linkage : LinkageData) (strong : StrongData) (weak v : Verdict) → IsNetwork net → AreLinkageClasses net linkage.count linkage.label.list → AreStrongClasses net strong.count strong.terminal strong.label.list strong.exit.list
+    → IsTrueOf net Q4 weak → IsTrueOrOpen net Q11 v → IsNo v → IsRegular net → ⊥
+irregular net linkage strong weak v n l s w h says_no =
+    let own : Earlier = (Q1, Classes linkage.count linkage.label) ∷ (Q2, Strong strong.count strong.terminal strong.label strong.exit) ∷ (Q4, weak) ∷ (Q11, v) ∷ [] in
+    let valid : IsValid net own Q12 irregular_answer = (says_no, tt) in
+    valid_answers_are_true Q12 net own irregular_answer n (l, (s, (w, tt))) (h, tt) (tt, tt) valid
+
+-- a network that is not regular has no confluence vector
+pub irregular_given : (net : Net) (budget : ℕ) (earlier : Earlier) (linkage : LinkageData) (strong : StrongData) (weak v : Verdict) → IsNetwork net → AreLinkageClasses net linkage.count linkage.label.list
+    → AreStrongClasses net strong.count strong.terminal strong.label.list strong.exit.list → IsTrueOf net Q4 weak → IsTrueOrOpen net Q11 v → (IsYes v → ⊥) → (IsOpen v → ⊥) → on earlier Q11 ≡ v → IsAnswer net budget earlier Q12 irregular_answer
+irregular_given net budget earlier linkage strong weak v n l s w h not_yes not_open is =
+    let says_no = regular_no net v h not_yes not_open in
+    record { formed = (tt, tt); valid = (subst IsNo (sym is) says_no, tt); answered = irregular net linkage strong weak v n l s w h says_no }
+
+-- an open verdict on regularity leaves the confluence vector open
+pub confluence_rests : (net : Net) (budget : ℕ) (earlier : Earlier) (v : Verdict) → IsOpen v → on earlier Q11 ≡ v → IsAnswer net budget earlier Q12 (rests_answer 11)
+confluence_rests net budget earlier v o is = record { formed = (refl, refl); valid = tt; answered = (refl, subst IsOpen (sym is) o, tt) }
