@@ -33,10 +33,10 @@ pub record HasSide (net : Net) (labels : List ℕ) (y z : ℕ) (marks : List ℤ
 
 pub marks_side : (net : Net) (labels : List ℕ) (r y z : ℕ) (marks : List ℤ) → length labels ≡ length net.complexes → IsReaction net.reactions r y z → AreSideMarks net labels (r + 1) marks → HasSide net labels y z marks
 marks_side net labels r y z marks long goes h =
+    let side : HasSide net labels h.y h.z marks = record { from = h.from; to = h.to; outside = λ c lt ne. h.outside c (omega (arith, lt, long)) ne; equal = h.equal } in
     let back : r + 1 - 1 ≡ r = omega arith in
     let at = subst (λ (q : ℕ). IsReaction net.reactions q h.y h.z) back h.goes.1 in
     let same : (h.y, h.z) ≡ (y, z) = sym at.1 ∙ goes.1 in
-    let side : HasSide net labels h.y h.z marks = record { from = h.from; to = h.to; outside = λ c lt ne. h.outside c (omega (arith, lt, long)) ne; equal = h.equal } in
     subst (λ (p : ℕ × ℕ). HasSide net labels p.0 p.1 marks) same side
 
 -- ---- tests in order
