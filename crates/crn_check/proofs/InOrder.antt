@@ -13,10 +13,10 @@ use Rattle.crn_check.proofs.Outside.{filter_yes, filter_no}
 abbrev pub rest : (ℕ → Bool) → ℕ → ℕ → ℕ → List ℕ
 rest p a n i = filter p (range_with_len (a + i) (n - i))
 
-rest_all : (p : ℕ → Bool) (a n : ℕ) → rest p a n 0 ≡ filter p (range_with_len a n)
+pub rest_all : (p : ℕ → Bool) (a n : ℕ) → rest p a n 0 ≡ filter p (range_with_len a n)
 rest_all p a n = ap₂ (λ (b k : ℕ). filter p (range_with_len b k)) (let e : a + 0 ≡ a = omega arith in e) (let e : n - 0 ≡ n = omega arith in e)
 
-rest_none : (p : ℕ → Bool) (a n : ℕ) → rest p a n n ≡ []
+pub rest_none : (p : ℕ → Bool) (a n : ℕ) → rest p a n n ≡ []
 rest_none p a n = ap (λ (k : ℕ). filter p (range_with_len (a + n) k)) (let e : n - n ≡ 0 = omega arith in e)
 
 rest_from : (p : ℕ → Bool) (a n i m : ℕ) → i < n → m ≡ a + i → rest p a n i ≡ filter p (range_with_len m (suc (n - (i + 1))))
@@ -25,10 +25,10 @@ rest_from p a n i m lt is = ap₂ (λ (b k : ℕ). filter p (range_with_len b k)
 rest_next : (p : ℕ → Bool) (a n i m : ℕ) → m ≡ a + i → filter p (range_with_len (m + 1) (n - (i + 1))) ≡ rest p a n (i + 1)
 rest_next p a n i m is = ap (λ (b : ℕ). filter p (range_with_len b (n - (i + 1)))) (let e : m + 1 ≡ a + (i + 1) = omega (arith, is) in e)
 
-rest_yes : (p : ℕ → Bool) (a n i m : ℕ) → i < n → m ≡ a + i → p m ≡ true → rest p a n i ≡ m ∷ rest p a n (i + 1)
+pub rest_yes : (p : ℕ → Bool) (a n i m : ℕ) → i < n → m ≡ a + i → p m ≡ true → rest p a n i ≡ m ∷ rest p a n (i + 1)
 rest_yes p a n i m lt is hit = rest_from p a n i m lt is ∙ filter_yes p m (n - (i + 1)) hit ∙ ap (λ (l : List ℕ). m ∷ l) (rest_next p a n i m is)
 
-rest_no : (p : ℕ → Bool) (a n i m : ℕ) → i < n → m ≡ a + i → p m ≡ false → rest p a n i ≡ rest p a n (i + 1)
+pub rest_no : (p : ℕ → Bool) (a n i m : ℕ) → i < n → m ≡ a + i → p m ≡ false → rest p a n i ≡ rest p a n (i + 1)
 rest_no p a n i m lt is miss = rest_from p a n i m lt is ∙ filter_no p m (n - (i + 1)) miss ∙ rest_next p a n i m is
 
 -- the rows of the members before place i pass, and there are so many

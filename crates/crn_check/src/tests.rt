@@ -1,7 +1,9 @@
 mod classes;
+mod known;
 mod networks;
 mod positive;
 mod ranks;
+mod regular;
 mod reversible;
 
 use crate::checks_see_no_spares;

@@ -115,12 +115,12 @@ fn linkage_classes_are_tested(rt: HostRuntime) {
 // An answer on strong classes.
 #[derive(Clone, Copy)]
 pub struct Strong {
-    count: u32,
-    terminal: u32,
+    pub count: u32,
+    pub terminal: u32,
     pub label: &'static [u32],
-    trees: [&'static [u32]; 4],
-    level: &'static [u32],
-    exit: &'static [u32],
+    pub trees: [&'static [u32]; 4],
+    pub level: &'static [u32],
+    pub exit: &'static [u32],
 }
 
 // The row's answer.

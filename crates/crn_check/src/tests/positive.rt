@@ -10,7 +10,7 @@ use crn_net::Network;
 use std::process::Abort;
 
 // An answer to question 7 by a vector or by multipliers.
-fn dependence_answer(
+pub fn dependence_answer(
     rt: &(impl Abort + AllocGlobal),
     net: &Network,
     yes: bool,
