@@ -13,11 +13,12 @@ loop-r-preserved c =
     let labels = c.args.strong.now.label.list in
     let exits = c.args.strong.now.exit.list in
     let r = c.loop-r.r in
+    let says = rw (c.as_slice-labels.ensures, c.as_slice-exits.ensures) at c.is_pair.ensures in
     elim c.if-is_pair.branch [
       | then-is_pair+in_ok-push w ↦
-          rw w.pairs-is (w.in_ok-push.ensures.items ∙ ap (λ (l : List ℕ). l ++ (r + 1) ∷ []) c.loop-r.invariant ∙ sym (pairs_yes net labels exits r (sym c.is_pair.ensures ∙ w.if-is_pair.true)))
+          rw w.pairs-is (w.in_ok-push.ensures.items ∙ ap (λ (l : List ℕ). l ++ (r + 1) ∷ []) c.loop-r.invariant ∙ sym (pairs_yes net labels exits r (sym says ∙ w.if-is_pair.true)))
       | else-is_pair w ↦
-          rw w.pairs-is (c.loop-r.invariant ∙ sym (pairs_no net labels exits r (sym c.is_pair.ensures ∙ w.if-is_pair.false)))
+          rw w.pairs-is (c.loop-r.invariant ∙ sym (pairs_no net labels exits r (sym says ∙ w.if-is_pair.false)))
     ]
 
 pub returns-clause-pairs : goal.returns-clause-pairs
