@@ -113,7 +113,8 @@ for name, inputs in rows:
         documents = [answer(commands("certify")[0], text)[1] for text in inputs]
         measured(name, "certify", inputs)
         measured(name, "check", documents, piped=True)
-plain = answer(commands("certify")[0], b"A <-> 2A\nA + B <-> C\nC <-> B\n")[1].decode()
+# neither concordant nor strongly concordant, so no list is shared
+plain = answer(commands("certify")[0], texts.futile(2).encode())[1].decode()
 for name, document in texts.documents(plain):
     if word in name:
         agree(name, document.encode(), [answer(command, document.encode()) for command in commands("check")])

@@ -70,15 +70,31 @@ def least_seconds(commands, source, runs):
     return least
 
 
-def instructions(command, source):
+def instructions(command, source, profile="/dev/null"):
     """How many instructions a run takes, the start of the process included, or None without valgrind."""
     if not shutil.which("valgrind"):
         return None
     source.seek(0)
-    words = ["valgrind", "--tool=callgrind", "--callgrind-out-file=/dev/null", *command]
+    words = ["valgrind", "--tool=callgrind", f"--callgrind-out-file={profile}", *command]
     done = subprocess.run(words, stdin=source, stdout=subprocess.DEVNULL, stderr=subprocess.PIPE)
     count = re.search(rb"Collected : (\d+)", done.stderr)
     return int(count[1]) if count else None
+
+
+def instructions_and_calls(command, source):
+    """The instructions of a run, and how often each function is called that the compiler has not inlined."""
+    with tempfile.NamedTemporaryFile("r") as profile:
+        count = instructions(command, source, profile.name)
+        names, calls, called = {}, {}, None
+        for line in profile:
+            named = re.match(r"(c?)fn=(\(\d+\))(?: (.*))?", line)
+            if named:
+                names.setdefault(named[2], named[3])
+                # callgrind tells the inner calls of a recursive function apart by a number
+                called = names[named[2]].split("'")[0] if named[1] else None
+            elif called and line.startswith("calls="):
+                calls[called] = calls.get(called, 0) + int(line[6:].split()[0])
+        return count, calls
 
 
 def megabytes(command, source, piped=False):

@@ -4,6 +4,10 @@
 # the machine does, how many prefixes are visited, and the most memory; `check` reads from a pipe. The start of the
 # process is in all of these. First it has each of the two check what the other certifies. While the program does not
 # answer question 14 the other one is measured alone, on all fifteen questions.
+# Then, for each report, what the searches do: visits of prefixes, decisions (vectors of given signs for which a solver is
+# asked), pool hits (what was found before served again) and exchanges. The yardstick counts these itself; of the
+# program, valgrind counts the calls of the functions that do them. It counts exchanges of all questions, and as pool
+# hits the questions to a part that no solver is asked.
 # Not part of the checks: times depend on the machine.
 #
 #     benches/search.sh [RUNS [WORD]]       WORD: only networks with this word in their name
@@ -26,7 +30,7 @@ import sys
 
 sys.path.insert(0, "benches")
 import texts
-from measure import ASKED, BUILT, answer, differ, instructions, least_seconds, megabytes, put_heads, put_row, ratio, same, source_of, told
+from measure import ASKED, BUILT, answer, differ, instructions, instructions_and_calls, least_seconds, megabytes, put_heads, put_row, ratio, same, source_of, told
 
 program, yardstick, runs, word = sys.argv[1], sys.argv[2], int(sys.argv[3]), sys.argv[4]
 is_built = 14 in BUILT
@@ -53,6 +57,20 @@ def agree(name, text):
     return certificates[0]
 
 
+def work_of_yardstick(text):
+    """Visits, decisions, pool hits and exchanges, as it counts them."""
+    return [int(count) for count in answer([yardstick, "work", *BUDGET, asked], text)[1].split()]
+
+
+def work_of_program(text, visits):
+    """The same by calls. The visits are those of any program: the problem alone decides them."""
+    with source_of(text) as source:
+        _, calls = instructions_and_calls(commands("report")[0], source)
+    count = lambda name: calls.get(name, 0)
+    hits = count("crn_sign::part::Part::ruled_out") - count("crn_farkas::cut::kept_cut")
+    return [visits, count("crn_farkas::goal::settled_view"), hits, count("crn_tab::tableau::Tableau::pivot")]
+
+
 def measured(name, command, text, visits, piped=False):
     both = commands(command)
     with source_of(text) as source:
@@ -71,14 +89,22 @@ heads = ["network", "command", "bytes", "visits", "least time, s", *pair, "milli
 put_heads(heads + pair[:1], words=2)
 if not word:
     measured("nothing: the start alone", "report", b"", "0")
+works = []
 for name, text, is_certified in texts.searches():
     if word in name:
         text = text.encode()
         certificate = agree(name, text)
-        visits = f"{int(answer([yardstick, 'visits', *BUDGET, asked], text)[1]):,}"
+        work = work_of_yardstick(text)
+        visits = f"{work[0]:,}"
+        works += [(name, "program", work_of_program(text, work[0]))] if is_built else []
+        works.append((name, "yardstick", work))
         measured(name, "report", text, visits)
         if is_certified:
             measured(name, "certify", text, visits)
             measured(name, "check", certificate, visits, piped=True)
             measured(f"{name}, version 1", "check", texts.first_version(certificate), visits, piped=True)
+print()
+put_heads(["network", "by", "visits", "decisions", "pool hits", "exchanges"], words=2)
+for name, by, counts in works:
+    put_row([name, by, *(f"{count:,}" for count in counts)])
 PYTHON

@@ -6,7 +6,7 @@ use crate::graph::{Classes, Forest, Links, Strong, linkage, reverses, strong, st
 use crate::linear::{Positive, Rank, Wide};
 use crate::net::Net;
 use crate::regular::{Confluence, Regular, Rooted, confluence, regular, terminal_pairs};
-use crate::search::Tree;
+use crate::search::{Tree, Work};
 use crate::signals::{Linear, Sides, Signal, signal};
 use crate::theorems::{One, one, zero};
 
@@ -136,8 +136,7 @@ pub struct Shown {
     pub ties: Vec<Vec<i128>>,
     /// The trees of questions 13 to 15.
     pub trees: [Vec<Tree>; 3],
-    /// How many prefixes the searches looked at.
-    pub visits: u32,
+    pub work: Work,
 }
 
 impl Shown {
@@ -171,7 +170,7 @@ pub fn solve(net: &Net, settings: Settings) -> (Verdicts, Shown) {
     verdicts.linkage = classes;
     let (levels, back, ranks, ties, trees) = (Vec::new(), Vec::new(), Vec::new(), Vec::new(), Default::default());
     let (pairs, sides) = (Vec::new(), Vec::new());
-    let mut shown = Shown { links, forest, levels, back, rank: None, ranks, pairs, sides, ties, trees, visits: 0 };
+    let mut shown = Shown { links, forest, levels, back, rank: None, ranks, pairs, sides, ties, trees, work: Work::default() };
     if asked.has(2) {
         let Strong { classes, exits, levels } = strong(net, &shown.links);
         (verdicts.strong, verdicts.exits, shown.levels) = (Some(classes), exits, levels);
@@ -234,16 +233,16 @@ fn solve_signs(net: &Net, settings: Settings, rank: Result<&Rank, &Wide>, verdic
     let linear = || based.as_ref().map(|(rank, base)| Linear { rank, base }).map_err(Gap::clone);
     if asked.has(13) {
         let sides = Sides { pairs: &shown.pairs, marks: &shown.sides };
-        let (answer, trees, visits) = signal(net, verdicts, linear(), &sides, budget, shows);
-        (verdicts.signal, shown.trees[0], shown.visits) = (Some(answer), trees, visits);
+        let (answer, trees, work) = signal(net, verdicts, linear(), &sides, budget, shows);
+        (verdicts.signal, shown.trees[0], shown.work) = (Some(answer), trees, work);
     }
     for (place, question) in [14, 15].into_iter().enumerate().filter(|(_, question)| asked.has(*question)) {
-        let (answer, tree, visits) = match linear() {
+        let (answer, tree, work) = match linear() {
             Ok(Linear { rank, base }) => concordant(net, rank, base, question == 15, budget, shows),
-            Err(gap) => (Err(gap), None, 0),
+            Err(gap) => (Err(gap), None, Work::default()),
         };
         (verdicts.concordant[place], shown.trees[place + 1]) = (Some(answer), tree.into_iter().collect());
-        shown.visits += visits;
+        shown.work += work;
     }
 }
 

@@ -4,7 +4,7 @@ use crate::answers::{Answer, Gap};
 use crate::frame::{Base, Frame};
 use crate::linear::{Dictionary, Rank};
 use crate::net::Net;
-use crate::search::{End, Problem, Search, Tree, WideIn};
+use crate::search::{End, Problem, Search, Tree, WideIn, Work};
 use crate::signs::{Kinds, Mask, Signs};
 use crate::space::Part;
 
@@ -131,21 +131,21 @@ pub fn changes(rank: &Rank) -> Dictionary {
     made
 }
 
-/// An answer, the tree that shows it, and how many prefixes were looked at.
-type Found = (Answer<Option<Pair>>, Option<Tree>, u32);
+/// An answer, the tree that shows it, and what the search did.
+type Found = (Answer<Option<Pair>>, Option<Tree>, Work);
 
 fn search<const W: usize>(rank: &Rank, base: &Base, problem: &Concordance, budget: u32, shows: bool) -> Found {
     let reactions = problem.up.len();
     let a = Part::new(cancelling(rank), Frame::Reactions(base), Problem::<W>::settled_a(problem));
     let b = Part::new(changes(rank), Frame::Species(base), Problem::<W>::settled_b(problem));
-    let mut search = Search { problem, a, b, columns: (reactions, reactions), shows, visits: 0 };
+    let mut search = Search::new(problem, a, b, (reactions, reactions), shows);
     let (answer, tree) = match search.run(budget) {
         Err(WideIn { index, basis, .. }) => (Err(Gap::Wide { system: 2, class: 0, index, basis }), None),
         Ok(End::Spent) => (Err(Gap::Budget(budget)), None),
         Ok(End::Refuted(tree)) => (Ok(None), Some(tree)),
         Ok(End::Found(_, alpha, weights)) => (Ok(Some(Pair { alpha, weights })), None),
     };
-    (answer, tree, search.visits)
+    (answer, tree, search.work())
 }
 
 /// The pair that shows the table discordant, or none and the tree that shows that there is none.

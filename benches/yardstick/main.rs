@@ -1,10 +1,11 @@
 //! Answers as `crnt` does, with nothing proved: the yardstick of `benches/report.sh`, `benches/certificates.sh` and
 //! `benches/search.sh`.
 //!
-//!     yardstick report|certify|visits [--budget N] [QUESTIONS]
+//!     yardstick report|certify|work [--budget N] [QUESTIONS]
 //!     yardstick check [QUESTIONS]
 //!
-//! `visits` writes how many prefixes the searches look at. It is written for speed. QUESTIONS are numbers joined by commas, with those that they need, or else all fifteen.
+//! `work` writes what the searches did: visits of prefixes, decisions, finds of what was known, and exchanges.
+//! It is written for speed. QUESTIONS are numbers joined by commas, with those that they need, or else all fifteen.
 //! Where an answer leaves a choice, as for a base, it may choose other than `crnt`.
 
 mod answers;
@@ -30,6 +31,7 @@ mod theorems;
 mod trees;
 
 use crate::answers::{Asked, Settings};
+use crate::search::Work;
 use std::io::{self, Read, Write};
 use std::process::ExitCode;
 
@@ -50,7 +52,7 @@ fn told(words: &str, code: u32, name: &str, line: u32, status: u8) -> Told {
 enum Form {
     Report,
     Certificate,
-    Visits,
+    Work,
 }
 
 fn read_and_solve(form: Form, asked: Asked, budget: u32) -> io::Result<Told> {
@@ -69,7 +71,10 @@ fn read_and_solve(form: Form, asked: Asked, budget: u32) -> io::Result<Told> {
     match form {
         Form::Report => report::report(&net, &verdicts, &mut out),
         Form::Certificate => certificate::certificate(&net, &verdicts, &shown, &mut out),
-        Form::Visits => writeln!(out, "{}", shown.visits)?,
+        Form::Work => {
+            let Work { visits, decisions, hits, exchanges } = shown.work;
+            writeln!(out, "{visits} {decisions} {hits} {exchanges}")?;
+        }
     }
     Ok((out, u8::from(verdicts.open() > 0)))
 }
@@ -104,7 +109,7 @@ fn answer(words: &[String]) -> Option<io::Result<Told>> {
     let form = match command.as_str() {
         "report" => Form::Report,
         "certify" => Form::Certificate,
-        "visits" => Form::Visits,
+        "work" => Form::Work,
         "check" if budget.is_none() => return Some(check(asked)),
         _ => return None,
     };

@@ -4,6 +4,7 @@ use crate::net::Net;
 use crate::signs::{Kinds, Mask, Signs};
 use crate::space::{Named, Part};
 use std::mem;
+use std::ops::AddAssign;
 
 /// A sign problem: what the last choice of a prefix settles. The signs of the species are those of part B.
 pub trait Problem<const W: usize> {
@@ -74,6 +75,27 @@ pub struct WideIn {
     pub basis: Vec<u32>,
 }
 
+/// What searches did.
+#[derive(Clone, Copy, Default)]
+pub struct Work {
+    /// Prefixes that were looked at.
+    pub visits: u64,
+    /// Vectors with a given sign at a coordinate, or cuts, that a dictionary was exchanged for.
+    pub decisions: u64,
+    /// Vectors and cuts that were known.
+    pub hits: u64,
+    pub exchanges: u64,
+}
+
+impl AddAssign for Work {
+    fn add_assign(&mut self, more: Work) {
+        self.visits += more.visits;
+        self.decisions += more.decisions;
+        self.hits += more.hits;
+        self.exchanges += more.exchanges;
+    }
+}
+
 pub struct Search<'s, P: Problem<W>, const W: usize> {
     pub problem: &'s P,
     pub a: Part<'s, W>,
@@ -82,8 +104,7 @@ pub struct Search<'s, P: Problem<W>, const W: usize> {
     pub columns: (usize, usize),
     /// Whether the nodes are kept.
     pub shows: bool,
-    /// How many prefixes were looked at.
-    pub visits: u32,
+    visits: u32,
 }
 
 /// A prefix, with what its parents still owe.
@@ -129,7 +150,17 @@ impl Walk {
     }
 }
 
-impl<P: Problem<W>, const W: usize> Search<'_, P, W> {
+impl<'s, P: Problem<W>, const W: usize> Search<'s, P, W> {
+    pub fn new(problem: &'s P, a: Part<'s, W>, b: Part<'s, 1>, columns: (usize, usize), shows: bool) -> Self {
+        Search { problem, a, b, columns, shows, visits: 0 }
+    }
+
+    pub fn work(&self) -> Work {
+        let mut work = Work { visits: self.visits.into(), ..self.a.work };
+        work += self.b.work;
+        work
+    }
+
     /// What is at the prefix: a split where it stands.
     fn look(&mut self, prefix: &[i8]) -> Result<Node, WideIn> {
         let level = prefix.len();

@@ -6,7 +6,7 @@ use crate::frame::{Base, Frame};
 use crate::linear::{Dictionary, Rank};
 use crate::net::Net;
 use crate::regular::Confluence;
-use crate::search::{End, Problem, Search, Tree, WideIn};
+use crate::search::{End, Problem, Search, Tree, WideIn, Work};
 use crate::signs::{Kinds, Mask, Signs};
 use crate::space::Part;
 
@@ -161,18 +161,18 @@ impl<const W: usize> Problem<W> for Signals {
     }
 }
 
-/// How a search ended, and how many prefixes were looked at.
-type Ended = (Result<End, Gap>, u32);
+/// How a search ended, and what it did.
+type Ended = (Result<End, Gap>, Work);
 
 fn search<const W: usize>(net: &Net, linear: Linear, problem: &Signals, budget: u32, shows: bool) -> Ended {
     let Linear { rank, base } = linear;
     let columns = (problem.species + 1, net.reactions.len());
     let a = Part::new(problem.dictionary(net), Frame::All(columns.0), Problem::<W>::settled_a(problem));
     let b = Part::new(changes(rank), Frame::Species(base), Problem::<W>::settled_b(problem));
-    let mut search = Search { problem, a, b, columns, shows, visits: 0 };
+    let mut search = Search::new(problem, a, b, columns, shows);
     let end = search.run(budget);
     let open = |WideIn { is_a, index, basis }| Gap::Wide { system: if is_a { 5 } else { 2 }, class: 0, index, basis };
-    (end.map_err(open), search.visits)
+    (end.map_err(open), search.work())
 }
 
 /// The rank of a network and its base.
@@ -188,8 +188,8 @@ pub struct Sides<'s> {
     pub marks: &'s [Vec<u8>],
 }
 
-/// An answer, the trees that show it, and how many prefixes were looked at.
-type Found = (Answer<Signal>, Vec<Tree>, u32);
+/// An answer, the trees that show it, and what the searches did.
+type Found = (Answer<Signal>, Vec<Tree>, Work);
 
 pub fn signal(
     net: &Net,
@@ -201,15 +201,15 @@ pub fn signal(
 ) -> Found {
     let g = match &verdicts.confluence {
         Some(Ok(Confluence::Vector(g))) => g,
-        Some(Ok(_)) => return (Ok(Signal::NotApplicable), Vec::new(), 0),
-        _ => return (Err(Gap::Rests(12)), Vec::new(), 0),
+        Some(Ok(_)) => return (Ok(Signal::NotApplicable), Vec::new(), Work::default()),
+        _ => return (Err(Gap::Rests(12)), Vec::new(), Work::default()),
     };
     let linear = match linear {
         Ok(linear) => linear,
-        Err(gap) => return (Err(gap), Vec::new(), 0),
+        Err(gap) => return (Err(gap), Vec::new(), Work::default()),
     };
     let turns: &[i128] = if verdicts.weak == Some(None) { &[1, -1] } else { &[1] };
-    let (mut trees, mut visits) = (Vec::new(), 0);
+    let (mut trees, mut work) = (Vec::new(), Work::default());
     for turn in turns {
         let problem = Signals::new(net, verdicts, sides.pairs, sides.marks, g, *turn);
         let (end, more) = match problem.coordinates() {
@@ -218,18 +218,18 @@ pub fn signal(
             ..=256 => search::<4>(net, linear, &problem, budget, shows),
             _ => search::<6>(net, linear, &problem, budget, shows),
         };
-        visits += more;
+        work += more;
         match end {
-            Err(gap) => return (Err(gap), Vec::new(), visits),
-            Ok(End::Spent) => return (Err(Gap::Budget(budget)), Vec::new(), visits),
+            Err(gap) => return (Err(gap), Vec::new(), work),
+            Ok(End::Spent) => return (Err(Gap::Budget(budget)), Vec::new(), work),
             Ok(End::Refuted(tree)) => trees.push(tree),
             Ok(End::Found(mut prefix, mut mu, weights)) => {
                 prefix.truncate(problem.shelves);
                 let m = mu.pop().unwrap();
                 let answer = Signal::Yes { turn: *turn, shelves: prefix, mu, m, weights };
-                return (Ok(answer), Vec::new(), visits);
+                return (Ok(answer), Vec::new(), work);
             }
         }
     }
-    (Ok(Signal::No), trees, visits)
+    (Ok(Signal::No), trees, work)
 }

@@ -4,6 +4,7 @@
 use crate::frame::Frame;
 use crate::linear::Dictionary;
 use crate::net::gcd;
+use crate::search::Work;
 use crate::signs::{Kind, Kinds, Mask, Signs};
 
 #[derive(Clone, Copy)]
@@ -46,6 +47,7 @@ pub struct Part<'b, const W: usize> {
     rays: Vec<[Vec<Signs<W>>; 2]>,
     /// The multipliers of each cut.
     pub lists: Vec<Vec<i128>>,
+    pub work: Work,
 }
 
 /// A cut of a part: its name, and whether it is negated.
@@ -67,7 +69,7 @@ impl<'b, const W: usize> Part<'b, W> {
         let (kind, kinds, lists) = (vec![Kind::Free; count], vec![Kinds::FREE; levels], Vec::new());
         let (cuts, full) = ((0..levels).map(|_| Vec::new()).collect(), vec![Signs::NONE; levels]);
         let rays = (0..count).map(|_| [Vec::new(), Vec::new()]).collect();
-        Part { dictionary, place, kind, frame, settled, last, kinds, full, cuts, rays, lists }
+        Part { dictionary, place, kind, frame, settled, last, kinds, full, cuts, rays, lists, work: Work::default() }
     }
 
     /// Whether a level settles anything.
@@ -97,6 +99,7 @@ impl<'b, const W: usize> Part<'b, W> {
             if is_negated || kinds.are_excluded_by(&dual) {
                 let name = bucket[at].name;
                 bucket.swap(at, at / 2);
+                self.work.hits += 1;
                 return Some((name, is_negated));
             }
         }
@@ -166,9 +169,11 @@ impl<'b, const W: usize> Part<'b, W> {
         let known = &mut self.rays[c][usize::from(sign < 0)];
         if let Some(at) = known.iter().position(|ray| kinds.admit(ray)) {
             known.swap(at, at / 2);
+            self.work.hits += 1;
             return Ok(Ok(known[at / 2]));
         }
         self.prepare(kinds);
+        self.work.decisions += 1;
         match self.aim(c, sign)? {
             Aimed::Cut(p) => Ok(Err(p)),
             Aimed::Ray(q, step) => {
@@ -184,6 +189,7 @@ impl<'b, const W: usize> Part<'b, W> {
     }
 
     fn exchange(&mut self, p: usize, q: usize) -> Result<(), Stop> {
+        self.work.exchanges += 1;
         let (leaves, enters) = (self.dictionary.rows[p], self.dictionary.basis[q]);
         self.dictionary.exchange(p, q).map_err(|wide| self.frame.named(wide))?;
         (self.place[leaves as usize], self.place[enters as usize]) = (Place::Basis(q), Place::Row(p));
