@@ -8,7 +8,7 @@ ghost use Rattle.crn_farkas.specs.Inner.Views.{AreLevels, IsOrder};
 ghost use Rattle.crn_farkas.specs.Solver.{IsNamedCut, IsNamedDecision, IsNearStop};
 ghost use Rattle.crn_farkas.specs.Inner.Sums.{IsPartSum, AreZeros};
 
-use crate::columns::by_columns;
+use crate::columns::in_view;
 use crate::decision::Decision;
 use crate::fault::Stop;
 use crate::goal::{Part, part_of};
@@ -113,14 +113,14 @@ pub(crate) fn put_levels(order: &[usize], level: &mut [usize])
 }
 
 // Puts a zero at each place.
-fn put_zeros(sum: &mut [i128])
+pub(crate) fn put_zeros(sum: &mut [i128])
     ensures { AreZeros (length sum.old) sum.new }
 {
     sum.fill(0);
 }
 
 // The part of a sum that the columns have.
-fn columns_of(alloc: Global, tableau: &Tableau, sum: &[i128]) -> Result<Ints, NoMemory>
+pub(crate) fn columns_of(alloc: Global, tableau: &Tableau, sum: &[i128]) -> Result<Ints, NoMemory>
     requires { length sum.now ≡ width tableau.now.matrix }
     ensures { IfOk result (λ x. x.list ≡ take tableau.now.matrix.cols sum.now) }
 {
@@ -129,7 +129,7 @@ fn columns_of(alloc: Global, tableau: &Tableau, sum: &[i128]) -> Result<Ints, No
     Ok(columns)
 }
 
-// Decides a system by the sum of the basis's columns or by its targets, one after another, from the basis where the last question left the tableau.
+// Decides a system by what a basis shows or by its targets, one after another, from the basis where the last question left the tableau.
 pub(crate) fn by_targets(
     alloc: Global,
     tableau: &mut Tableau,
@@ -152,9 +152,8 @@ pub(crate) fn by_targets(
     ensures named { IfOk result (λ d. IsNamedDecision tableau.new.matrix tableau.new.basis d) }
     ensures near { IfErr result (λ s. IsNearStop tableau.new.basis s) }
 {
-    put_zeros(sum);
-    if by_columns(tableau, kinds, sum, work)? {
-        return Ok(Decision::Feasible(columns_of(alloc, tableau, sum)?));
+    if let Some(decision) = in_view(alloc, tableau, kinds, sum, work)? {
+        return Ok(decision);
     }
     put_order(order, kinds);
     put_levels(order, level);

@@ -10,8 +10,6 @@ mod pair;
 mod reverses;
 mod search;
 mod strong_data;
-#[cfg(test)]
-mod tests;
 
 pub use laws::right_labels_are_one;
 pub use linkage_data::{LinkageData, linkage};

@@ -13,8 +13,6 @@ mod same;
 mod sides;
 mod tables;
 mod term;
-#[cfg(test)]
-mod tests;
 
 pub use builder::NetBuilder;
 pub use fault::NetFault;

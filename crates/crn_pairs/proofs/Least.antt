@@ -4,37 +4,11 @@ use Rattle.std.specs.Prelude.{filter}
 use Rattle.std.specs.List.{list_any, range_with_len}
 use Rattle.std.proofs.lemmas.Bool.{cases_Bool, eqb-true, eqb-false}
 use Rattle.crn_vec.specs.Network.{Net}
+use Rattle.crn_vec.proofs.CallerLemmas.{range_more, filter_yes, filter_no, or_right}
 use Rattle.crn_cert.specs.Valid.{ends_at, is_same_pair, is_least_of_pair}
 use Rattle.crn_pairs.specs.Pairs.{is_within, is_pair, pairs_to}
 
 -- ---- ranges and filters with one more member at the end
-
-range_more : (a n j : ℕ) → a + n ≡ j → range_with_len a (n + 1) ≡ range_with_len a n ++ j ∷ []
-range_more a zero j e = ap (λ (k : ℕ). k ∷ []) (let f : a ≡ j = omega (arith, e) in f)
-range_more a (suc n) j e =
-    let same : suc n + 1 ≡ suc (n + 1) = omega arith in
-    let more : range_with_len a (suc n + 1) ≡ range_with_len a (suc (n + 1)) = ap (range_with_len a) same in
-    more ∙ ap (λ (l : List ℕ). a ∷ l) (range_more (a + 1) n j (omega (arith, e)))
-
-kept : (p : ℕ → Bool) (x : ℕ) (xs : List ℕ) → p x ≡ true → filter p (x ∷ xs) ≡ x ∷ filter p xs
-kept p x xs h = rw h refl
-
-gone : (p : ℕ → Bool) (x : ℕ) (xs : List ℕ) → p x ≡ false → filter p (x ∷ xs) ≡ filter p xs
-gone p x xs h = rw h refl
-
-filter_yes : (p : ℕ → Bool) (xs : List ℕ) (x : ℕ) → p x ≡ true → filter p (xs ++ x ∷ []) ≡ filter p xs ++ x ∷ []
-filter_yes p [] x hit = kept p x [] hit
-filter_yes p (y ∷ xs) x hit = elim (cases_Bool (p y)) as (λ _. filter p (y ∷ (xs ++ x ∷ [])) ≡ filter p (y ∷ xs) ++ x ∷ []) [
-  | inl here ↦ kept p y (xs ++ x ∷ []) here ∙ ap (λ (l : List ℕ). y ∷ l) (filter_yes p xs x hit) ∙ ap (λ (l : List ℕ). l ++ x ∷ []) (sym (kept p y xs here))
-  | inr out ↦ gone p y (xs ++ x ∷ []) out ∙ filter_yes p xs x hit ∙ ap (λ (l : List ℕ). l ++ x ∷ []) (sym (gone p y xs out))
-]
-
-filter_no : (p : ℕ → Bool) (xs : List ℕ) (x : ℕ) → p x ≡ false → filter p (xs ++ x ∷ []) ≡ filter p xs
-filter_no p [] x miss = gone p x [] miss
-filter_no p (y ∷ xs) x miss = elim (cases_Bool (p y)) as (λ _. filter p (y ∷ (xs ++ x ∷ [])) ≡ filter p (y ∷ xs)) [
-  | inl here ↦ kept p y (xs ++ x ∷ []) here ∙ ap (λ (l : List ℕ). y ∷ l) (filter_no p xs x miss) ∙ sym (kept p y xs here)
-  | inr out ↦ gone p y (xs ++ x ∷ []) out ∙ filter_no p xs x miss ∙ sym (gone p y xs out)
-]
 
 any_append : (p : ℕ → Bool) (xs : List ℕ) (x : ℕ) → list_any p (xs ++ x ∷ []) ≡ (list_any p xs || p x)
 any_append p [] x = last (p x)
@@ -47,10 +21,6 @@ any_append p (y ∷ ys) x = ap (λ (b : Bool). p y || b) (any_append p ys x) ∙
     again : (a b c : Bool) → (a || (b || c)) ≡ ((a || b) || c)
     again true b c = refl
     again false b c = refl
-
-or_true : (a b : Bool) → b ≡ true → (a || b) ≡ true
-or_true true b e = refl
-or_true false b e = e
 
 -- ---- the reactions before one
 
@@ -79,7 +49,7 @@ any_within p q (suc n) lt h =
     let more : list_any p (range_with_len 1 (suc n)) ≡ (list_any p (range_with_len 1 n) || p (n + 1)) =
     ap (λ (k : ℕ). list_any p (range_with_len 1 k)) (let s : suc n ≡ n + 1 = omega arith in s) ∙ ap (list_any p) (range_more 1 n (n + 1) (omega arith)) ∙ any_append p (range_with_len 1 n) (n + 1) in
     elim (cases_Bool (q == n)) as (λ _. list_any p (range_with_len 1 (suc n)) ≡ true) [
-      | inl e ↦ more ∙ or_true (list_any p (range_with_len 1 n)) (p (n + 1)) (ap (λ (k : ℕ). p (k + 1)) (sym (eqb-true q n e)) ∙ h)
+      | inl e ↦ more ∙ or_right (list_any p (range_with_len 1 n)) (p (n + 1)) (ap (λ (k : ℕ). p (k + 1)) (sym (eqb-true q n e)) ∙ h)
       | inr e ↦ more ∙ ap (λ (b : Bool). b || p (n + 1)) (any_within p q n (let ne = eqb-false q n e in omega (arith, lt, ne)) h)
     ]
 

@@ -1,3 +1,4 @@
+pub mod CallerLemmas
 mod PickedRows
 mod MemberRows
 mod DualTests

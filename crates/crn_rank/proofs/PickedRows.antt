@@ -8,7 +8,7 @@ use Rattle.std.proofs.lemmas.List.{length-append, map-append}
 use Rattle.std.proofs.lemmas.List.Elements.{filter_more}
 use Rattle.crn_vec.specs.Lists.{IsIn, IsAbove, IsAscending, AreDistinct}
 use Rattle.crn_vec.specs.Vectors.{Mat}
-use Rattle.crn_vec.proofs.CallerLemmas.{in_left, in_right, in_push, in_map, map_in, same_place, eq_or, any_is, any_true, any_false}
+use Rattle.crn_vec.proofs.CallerLemmas.{in_left, in_right, in_push, in_map, map_in, same_place, eq_or, any_is, any_true, any_false, above_ascending, above_in}
 use Rattle.crn_cert.specs.RankTests.{outside}
 use Rattle.crn_rank.specs.Inner.Rows.{picked, is_inside}
 
@@ -103,19 +103,10 @@ zip_no P p ls k miss h = subst (λ (ks : List ℕ). AllZip P ks ls) (sym (picked
 
 -- ---- members at places
 
-above_in : (k q : ℕ) (xs : List ℕ) → IsAbove k xs → IsIn q xs → k < q
-above_in k q [] h i = absurd i
-above_in k q (x ∷ xs) h (inl e) = omega (arith, h.0, e)
-above_in k q (x ∷ xs) h (inr i) = omega (arith, h.0, above_in x q xs h.1 i)
-
-tail_ascending : (x : ℕ) (xs : List ℕ) → IsAbove x xs → IsAscending xs
-tail_ascending x [] h = tt
-tail_ascending x (y ∷ ys) h = h.1
-
 -- an ascending list has no repeat
 pub ascending_distinct : (xs : List ℕ) → IsAscending xs → AreDistinct xs
 ascending_distinct [] h = tt
-ascending_distinct (x ∷ xs) h = (λ i. let l = above_in x x xs h i in omega (arith, l), ascending_distinct xs (tail_ascending x xs h))
+ascending_distinct (x ∷ xs) h = (λ i. let l = above_in x xs h x i in omega (arith, l), ascending_distinct xs (above_ascending x xs h))
 
 take_whole : (xs : List ℕ) → take (length xs) xs ≡ xs
 take_whole [] = refl

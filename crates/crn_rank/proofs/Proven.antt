@@ -1,5 +1,5 @@
 -- A base with its duals and combinations, as a basis shows them after the rows have entered it, is a proof of the rank.
-use Rattle.std.proofs.Common.{◌≡◌, ℕ, zero, suc, ◌+◌, ◌<◌, inl, inr, Bool, true, false, not, List, [], ◌∷◌, ◌++◌, length, get_or, map, refl, sym, ap, subst, ◌∙◌, arith}
+use Rattle.std.proofs.Common.{◌≡◌, ℕ, zero, suc, ◌+◌, ◌<◌, inl, inr, Bool, true, false, not, List, [], ◌∷◌, length, get_or, map, refl, sym, ap, subst, ◌∙◌, arith}
 use Rattle.std.specs.Prelude.{ℤ}
 use Rattle.std.specs.List.{AllZip, AllByRecursion}
 use Rattle.std.proofs.lemmas.List.{get_or-map, length-map}
@@ -9,19 +9,16 @@ use Rattle.crn_vec.specs.Network.{Net}
 use Rattle.crn_vec.specs.Rank.{IsRank, chosen}
 use Rattle.crn_vec.proofs.CallerLemmas.{in_map, at_in, zip_long}
 use Rattle.crn_cert.specs.declared.answer.RankProof.{RankProof}
-use Rattle.crn_cert.specs.Tests.{Test, AllHold}
+use Rattle.crn_cert.specs.Tests.{AllHold}
 use Rattle.crn_cert.specs.Ranges.{AreFree}
 use Rattle.crn_cert.specs.RankTests.{vector_of, vectors_of, outside, IsComb, dual_tests, comb_tests}
+use Rattle.crn_cert.proofs.CallerLemmas.{hold_append}
 use Rattle.crn_tab.specs.Tableau.{NamesRows, AreEntered, ArePlacesOfRows, EnteredRowsGiveTheRank}
 use Rattle.crn_rank.specs.Rank.{AreMembers, member_matrix, ProvesRank}
 use Rattle.crn_rank.specs.Inner.Rows.{is_inside, is_outside, rows_inside, rows_outside, IsDualOf, IsCombOf}
 use Rattle.crn_rank.proofs.PickedRows.{at, picked_below, picked_has, picked_ascending, picked_count, ascending_distinct, outside_picked, inside_yes, inside_in}
 use Rattle.crn_rank.proofs.DualTests.{AreInside, duals_hold, duals_free}
 use Rattle.crn_rank.proofs.CombTests.{is_comb, combs_free, combs_hold, zip_map}
-
-hold_both : (ss ts : List Test) → AllHold ss → AllHold ts → AllHold (ss ++ ts)
-hold_both [] ts h g = g
-hold_both (s ∷ ss) ts h g = (h.0, hold_both ss ts h.1 g)
 
 above_in : (k q : ℕ) (xs : List ℕ) → IsAscending (k ∷ xs) → IsIn q xs → k < q
 above_in k q [] h i = absurd i
@@ -102,7 +99,7 @@ proves net members basis proof h t entered law shown =
           let D : List (List ℤ) → Type 0 = λ ws. AllHold (dual_tests ws (part + 1) 0 proof.duals) in
           let C : List (List ℤ) → Type 0 = λ ws. AllHold (comb_tests net ws (part + 1 + length base) (outside base members) proof.combs) in
           let rest : outside base members ≡ map (at members) others = ap (λ (b : List ℕ). outside b members) shown.base ∙ outside_picked p members h.ascending in
-          hold_both (dual_tests (vectors_of net base) (part + 1) 0 proof.duals) (comb_tests net (vectors_of net base) (part + 1 + length base) (outside base members) proof.combs)
+          hold_append (dual_tests (vectors_of net base) (part + 1) 0 proof.duals) (comb_tests net (vectors_of net base) (part + 1 + length base) (outside base members) proof.combs)
           (subst D (sym vs) (duals_hold a basis places proof.duals (part + 1) inside (ascending_distinct places (picked_ascending p m)) shown.duals))
           (subst C (sym vs) (subst (λ (rs : List ℕ). AllHold (comb_tests net (chosen places a.rows) (part + 1 + length base) rs proof.combs)) (sym rest)
           (combs_hold net (chosen places a.rows) members (part + 1 + length base) others proof.combs combs)));

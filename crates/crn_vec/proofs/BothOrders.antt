@@ -23,8 +23,8 @@ use Rattle.crn_vec.specs.Signals.{Pair, Shape, shelf_at, shelf_of, HasPairSign, 
 use Rattle.crn_vec.specs.NetSignals.{top_at, complex_of, IsSignalOf, IsPairOf, IsShapeOf, SignalsAreOfShape}
 use Rattle.crn_vec.proofs.Sums.{plus, dot-plus, length-plus, entry-plus}
 use Rattle.crn_vec.proofs.SumLaws.{sums_one}
-use Rattle.crn_vec.proofs.SideLaws.{is_between}
-use Rattle.crn_vec.proofs.WalkLaws.{leads_then, leads_here, leads_step, leads_back, leads_keeps, linked_back, class_then, class_link, strong_back}
+use Rattle.crn_vec.proofs.SideLaws.{is_between, free_back}
+use Rattle.crn_vec.proofs.WalkLaws.{leads_then, leads_here, leads_step, leads_back, leads_keeps, class_then, class_link, strong_back}
 use Rattle.crn_vec.proofs.Reached.{reaction_in, inside_at}
 use Rattle.crn_vec.proofs.NetTables.{networks_have_tables}
 use Rattle.crn_vec.proofs.NetSignalLaws.{signal_of_shape, sign_at, some_is}
@@ -38,9 +38,6 @@ between_back a b y z (inr e) = inl e
 
 free_other : (rs : List (ℕ × ℕ)) (a b y z : ℕ) → IsFreeStep rs a b y z → IsFreeStep rs b a y z
 free_other rs a b y z f = (f.0, λ h. f.1 (between_back b a y z h))
-
-pub free_back : (rs : List (ℕ × ℕ)) (a b y z : ℕ) → IsFreeStep rs a b y z → IsFreeStep rs a b z y
-free_back rs a b y z f = (linked_back rs y z f.0, λ h. f.1 (elim h as (λ _. IsBetween a b y z) [ inl e ↦ inr (e.1, e.0) | inr e ↦ inl (e.1, e.0) ]))
 
 -- what is joined without the step is in the class
 side_class : (rs : List (ℕ × ℕ)) (a b x c : ℕ) → LeadsTo (IsFreeStep rs a b) x c → SameClass rs x c

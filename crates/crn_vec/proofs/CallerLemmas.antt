@@ -6,7 +6,13 @@ pub use Rattle.crn_vec.proofs.Lists.{distinct_push, map_distinct, map_same, map_
 pub use Rattle.crn_vec.proofs.Lists.{all_in, all_from, all_at, all_push, all_map}
 pub use Rattle.crn_vec.proofs.Lists.{distinct_of_map, apart_of, all_append, flat_map_push, in_flat_map, of_flat_map}
 -- Tests that decide: whether two agree, and whether one finds a member.
-pub use Rattle.crn_vec.proofs.Lists.{same_test, any_is, any_true, any_false}
+pub use Rattle.crn_vec.proofs.Lists.{same_test, any_is, any_true, any_false, and_true, or_right}
+-- What holds of an answer that is there.
+pub use Rattle.crn_vec.proofs.Lists.{if_ok}
+-- Ascending lists of numbers, ranges, and the members of a list that pass a test.
+pub use Rattle.crn_vec.proofs.Ascending.{above_in, above_ascending, above_lower, ascending_tail, ascending_at, above_suc, ascending_suc, above_zero}
+pub use Rattle.crn_vec.proofs.Ascending.{range_above, range_ascending, range_bounds, in_range, range_more}
+pub use Rattle.crn_vec.proofs.Filters.{filter_from, filter_has, filter_distinct, filter_yes, filter_no, filter_above, filter_ascending}
 -- The members of a list, each once, in order of first appearance.
 pub use Rattle.crn_vec.proofs.Firsts.{firsts_from, firsts_has, firsts_distinct, firsts_all, firsts_known, firsts_new}
 pub use Rattle.crn_vec.proofs.Firsts.{firsts_firsts, firsts_front, firsts_length, firsts_map}
@@ -14,13 +20,15 @@ pub use Rattle.crn_vec.proofs.Firsts.{firsts_firsts, firsts_front, firsts_length
 pub use Rattle.crn_vec.proofs.Statements.{name_decides, row_decides, sides_decide, reaction_decides}
 pub use Rattle.crn_vec.proofs.Statements.{none_said, has_name, amounts_same}
 -- Lists by their entries: which places are inside, and lists related place by place.
-pub use Rattle.crn_vec.proofs.Entries.{past_end, inside_or, lt_or, eq_or, zip_from, zip_at, zip_long, within_from, dot_step}
+pub use Rattle.crn_vec.proofs.Entries.{past_end, inside_or, lt_or, eq_or, zip_from, zip_at, zip_long, within_from, dot_step, zip_push, map_more}
 -- The rows of a list that holds them one after another, and bounds of their entries.
 pub use Rattle.crn_vec.proofs.RowLists.{length-rows_of, row_at, row_inside, rows_of_length, within_at, within_drop, within_take, within_rows}
+pub use Rattle.crn_vec.proofs.RowLists.{within_append, amounts_within, drop_seam, length-rows_after, rows_after}
 -- Numbers that 128 bits hold, and bounds of sums and products.
 pub use Rattle.crn_vec.proofs.Held.{held, product_within, sum_within}
 -- Ring laws and signs of whole numbers.
 pub use Rattle.crn_vec.proofs.Ring.{distrib, distrib-right, assoc, left-comm, mul-neg, mul-sub, no_zero, pos_pos, is_zero, one_ne_zero}
+pub use Rattle.crn_vec.proofs.Ring.{neg-mul, cancel_right, swap_factors, ratios_cross}
 -- Dot products, sums and multiples of vectors, and combinations of rows.
 pub use Rattle.crn_vec.proofs.Sums.{dot-comm, dot_none, dot_zero, dot_split, dot-scale, dot-plus, zeros-dot, transposed}
 pub use Rattle.crn_vec.proofs.Sums.{plus, zeros, comb, dots, length-scale, length-plus, length-zeros, length-comb, length-dots}
@@ -38,7 +46,7 @@ pub use Rattle.crn_vec.proofs.Orthogonal.{listed, length-listed, entry-listed, l
 pub use Rattle.crn_vec.proofs.KindLaws.{Quiet, quiet_part, agree, dual_after, row_after, settled_dual, settled_row, take_zero, weigh_zero}
 pub use Rattle.crn_vec.proofs.KindLaws.{kind_takes, kind_from, kind_weighs, take_sum, sum_some, product_some, up_up, down_down}
 -- A system with a cut has no solution, and the weights decide whether there is a cut.
-pub use Rattle.crn_vec.proofs.Cuts.{kinds_at, dual_one, cuts_exclude_solutions, weights_tell_cuts}
+pub use Rattle.crn_vec.proofs.Cuts.{kinds_at, dual_one, cut_long, cuts_exclude_solutions, weights_tell_cuts}
 -- Numbering by first appearance, read from left to right.
 pub use Rattle.crn_vec.proofs.Appearance.{IsNumberedInOrder, appears_in_order, in_order_appears}
 -- The ends of the reactions of a network.
@@ -52,7 +60,7 @@ pub use Rattle.crn_vec.proofs.WalkLaws.{weakly_reversible_by_reactions}
 pub use Rattle.crn_vec.proofs.Reached.{inside_at, place_of, reaction_in, marks_for, reached_marks, terminal_marks}
 pub use Rattle.crn_vec.proofs.Reached.{terminal_by_reactions}
 -- Marks of sides, and cut pairs.
-pub use Rattle.crn_vec.proofs.SideLaws.{is_between, marking_is_cut, marks_are_sides}
+pub use Rattle.crn_vec.proofs.SideLaws.{is_between, marking_is_cut, marks_are_sides, free_back, along_map, cut_back}
 -- Unit vectors, and what walks gain of a vector over the complexes.
 pub use Rattle.crn_vec.proofs.Flows.{unit, dot_unit, gain, flow, flow_sum, gain_kept, gain_raised, none_gained}
 -- Sums over the complexes with a property, and over the complexes of a label.
@@ -72,12 +80,20 @@ pub use Rattle.crn_vec.proofs.VisitsReached.{are_reached}
 pub use Rattle.crn_vec.proofs.Few.{visits_few, passes_few}
 -- The sign problems of the influence tables of a network.
 pub use Rattle.crn_vec.proofs.NetTables.{networks_have_tables, length-minus}
-pub use Rattle.crn_vec.proofs.TableLawful.{tables_are_lawful, tables_are_steady}
+-- The rows and the columns of the systems of a network, and what they have past the species.
+pub use Rattle.crn_vec.proofs.NetTables.{vector_at, column_long, row_is, rows_count}
+pub use Rattle.crn_vec.proofs.NetRows.{reaction_long, vectors_count, vector_width, some_species, column_is, combined_past}
+-- The kinds of the rows at a prefix, and the signs of numbers.
+pub use Rattle.crn_vec.proofs.TableKinds.{length-rows}
+pub use Rattle.crn_vec.proofs.PrefixKinds.{row_chosen, row_open, rows_are, kinds_more, sign_is}
+-- Labels of strong classes, reaction by reaction.
+pub use Rattle.crn_vec.proofs.EvenLabels.{IsEvenAt, even_at, weak_if_even, uneven_not_weak}
+pub use Rattle.crn_vec.proofs.TableLawful.{tables_are_lawful, tables_are_steady, dot-neg, entry-neg}
 pub use Rattle.crn_vec.proofs.Discordance.{tables_stand}
 -- The sign problem of the signals of a network, and the shape that it uses.
-pub use Rattle.crn_vec.proofs.NetSignalLaws.{top_inside, some_is, shapes_are_one, multiples_share_signals, signals_stand}
+pub use Rattle.crn_vec.proofs.NetSignalLaws.{top_inside, some_is, none_some, option_or, shapes_are_one, multiples_share_signals, signals_stand}
 pub use Rattle.crn_vec.proofs.BothOrders.{signals_are_of_shape}
 pub use Rattle.crn_vec.proofs.OppositeShapes.{negatives_have_opposite_shapes}
-pub use Rattle.crn_vec.proofs.FewPairs.{networks_are_lawful}
+pub use Rattle.crn_vec.proofs.FewPairs.{networks_are_lawful, few_pairs, mark_yes, mark_no, other_step}
 pub use Rattle.crn_vec.proofs.SignalLawful.{signals_are_lawful, signals_are_steady}
 pub use Rattle.crn_vec.proofs.Shelves.{shelves_stand}

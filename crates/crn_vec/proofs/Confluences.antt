@@ -14,7 +14,7 @@ use Rattle.crn_vec.specs.Strong.{Reaches, SameStrong, IsTerminal, StaysStrong, I
 use Rattle.crn_vec.specs.Sums.{AreMarks, SumsTo}
 use Rattle.crn_vec.specs.Deficiency.{IsComplex, IsPositiveDependence}
 use Rattle.crn_vec.specs.Confluence.{IsRegular, InConfluenceSpace, HasConfluenceLine, IsNonzero, GathersAt, IsConfluenceVector, ArePositiveMultiples, negative, ConfluenceVectorsAreOne}
-use Rattle.crn_vec.proofs.Ring.{no_zero, mul-neg, is_zero}
+use Rattle.crn_vec.proofs.Ring.{no_zero, mul-neg, is_zero, neg-mul}
 use Rattle.crn_vec.proofs.KindLaws.{up_up}
 use Rattle.crn_vec.proofs.Orthogonal.{length-listed}
 use Rattle.crn_vec.proofs.Sums.{dot-comm, dot-scale, dot_zero, entry-scale, length-scale}
@@ -307,9 +307,6 @@ negative_entry h k = entry-scale (neg_ℤ (pos 1)) h k ∙ minus_one (entry h k)
 
 neg_neg : (x : ℤ) → neg_ℤ (neg_ℤ x) ≡ x
 neg_neg x = omega (arith, ints)
-
-neg-mul : (a b : ℤ) → neg_ℤ a *ℤ b ≡ neg_ℤ (a *ℤ b)
-neg-mul a b = *ℤ_comm (neg_ℤ a) b ∙ mul-neg b a ∙ ap neg_ℤ (*ℤ_comm b a)
 
 two_vectors : (net : Net) (s : Setting net) (g h : List ℤ) → IsConfluenceVector net g → IsConfluenceVector net h → ArePositiveMultiples g h ⊎ (ArePositiveMultiples g (negative h) × IsWeaklyReversible net.reactions)
 two_vectors net s g h c d =

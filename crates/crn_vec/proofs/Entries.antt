@@ -1,8 +1,9 @@
 -- Lists by their entries: which places are inside, lists related place by place, and dot products of one entry more.
-use Rattle.std.proofs.Common.{◌≡◌, ◌≢◌, ℕ, zero, suc, ◌+◌, ◌<◌, ◌≤◌, ◌⊎◌, inl, inr, List, [], ◌∷◌, length, get_or, take, refl, ap, add-one, arith}
+use Rattle.std.proofs.Common.{◌≡◌, ◌≢◌, ℕ, zero, suc, ◌+◌, ◌<◌, ◌≤◌, ◌⊎◌, inl, inr, List, [], ◌∷◌, ◌++◌, length, map, get_or, take, refl, sym, ap, ap₂, ◌∙◌, add-one, arith}
 use Rattle.std.specs.Prelude.{ℤ, pos, ◌+ℤ◌, ◌*ℤ◌, unsigned_abs}
 use Rattle.std.specs.List.{AllZip}
 use Rattle.std.proofs.lemmas.Int.{ints}
+use Rattle.std.proofs.lemmas.List.{get_or-map, length-map, take_more}
 use Rattle.crn_vec.specs.Vectors.{entry, dot, AreWithin}
 
 pub past_end : (v : List ℤ) (k : ℕ) → length v ≤ k → entry v k ≡ pos 0
@@ -60,3 +61,16 @@ dot_suc (x ∷ v) (y ∷ w) (suc k) h g = omega (arith, ints, dot_suc v w k (ome
 -- the dot product of the first entries, with one more
 pub dot_step : (v w : List ℤ) (k : ℕ) → k < length v → k < length w → dot (take (k + 1) v) (take (k + 1) w) ≡ dot (take k v) (take k w) +ℤ (entry v k *ℤ entry w k)
 dot_step v w k h g = rw add-one (dot_suc v w k h g)
+
+-- ---- one place more
+
+pub zip_push : {A B : Type 0} (R : A → B → Type 0) (xs : List A) (ys : List B) (x : A) (y : B) → AllZip R xs ys → R x y → AllZip R (xs ++ x ∷ []) (ys ++ y ∷ [])
+zip_push R [] [] x y h r = (r, tt)
+zip_push R [] (b ∷ ys) x y h r = absurd h
+zip_push R (a ∷ xs) [] x y h r = absurd h
+zip_push R (a ∷ xs) (b ∷ ys) x y h r = (h.0, zip_push R xs ys x y h.1 r)
+
+-- one place more of a list that is map_more
+pub map_more : {X Y : Type 0} (f : X → Y) (xs : List X) (i : ℕ) (d : X) (done next : List Y) (y : Y) → i < length xs → done ≡ take i (map f xs) → next ≡ done ++ y ∷ [] → y ≡ f (get_or xs i d) → next ≡ take (i + 1) (map f xs)
+map_more f xs i d done next y lt h n e =
+    n ∙ ap₂ (λ l z. l ++ z ∷ []) h (e ∙ sym (get_or-map f xs i d (f d) lt)) ∙ sym (take_more (map f xs) i (f d) (omega (arith, lt, length-map xs f)))

@@ -4,7 +4,6 @@ use Rattle.std.specs.Prelude.{ℤ, pos, ◌+ℤ◌, ◌-ℤ◌, ◌*ℤ◌, Opti
 use Rattle.std.proofs.lemmas.Int.{ints}
 use Rattle.std.proofs.lemmas.List.{get_or-map, length-map}
 use lib.IntN.{*ℤ-zero, zero-*ℤ}
-use Rattle.crn_vec.specs.Lists.{IsIn, IsAscending}
 use Rattle.crn_vec.specs.Vectors.{dot, entry, AreOfLength}
 use Rattle.crn_vec.specs.Network.{Net, IsNetwork, minus}
 use Rattle.crn_vec.specs.Linkage.{IsLinked}
@@ -15,6 +14,7 @@ use Rattle.crn_vec.specs.Confluence.{IsRegular}
 use Rattle.crn_vec.specs.NetSystems.{reaction_system}
 use Rattle.crn_vec.specs.Signals.{Pair, Shape}
 use Rattle.crn_vec.specs.NetSignals.{IsPairOf, IsShapeOf, NetworksAreLawful}
+use Rattle.crn_vec.proofs.Lists.{at_in}
 use Rattle.crn_vec.proofs.Entries.{lt_or, past_end, zip_at, zip_long}
 use Rattle.crn_vec.proofs.Sums.{comb, dots, dot-comm, dot_zero, transposed, entry-dots, length-dots}
 use Rattle.crn_vec.proofs.Null.{Zero, dot-zero}
@@ -25,8 +25,8 @@ use Rattle.crn_vec.proofs.WalkLaws.{leads_then, leads_here, leads_step, leads_ba
 use Rattle.crn_vec.proofs.Reached.{reaction_in, inside_at}
 use Rattle.crn_vec.proofs.Level.{minus-dot, all_at}
 use Rattle.crn_vec.proofs.NetTables.{networks_have_tables, length-minus}
-use Rattle.crn_vec.proofs.NetSignalLaws.{above_in, above_ascends}
-use Rattle.crn_vec.proofs.BothOrders.{free_back}
+use Rattle.crn_vec.proofs.Ascending.{ascending_at}
+use Rattle.crn_vec.proofs.SideLaws.{free_back}
 use Rattle.crn_vec.proofs.SignalLawful.{signals_are_lawful}
 
 -- ---- vectors of pairs
@@ -79,17 +79,6 @@ zero_from (x ∷ c) h = (h 0, zero_from c (λ i. h (suc i)))
 abbrev none : Pair
 none = record { low = 0; high = 0; top = 0; sum = pos 0 }
 
-in_at : (xs : List ℕ) (k : ℕ) → k < length xs → IsIn (get_or xs k 0) xs
-in_at [] k lt = absurd (omega (arith, lt))
-in_at (x ∷ xs) zero lt = inl refl
-in_at (x ∷ xs) (suc k) lt = inr (in_at xs k (omega (arith, lt)))
-
-ascending_at : (xs : List ℕ) (i j : ℕ) → IsAscending xs → i < j → j < length xs → get_or xs i 0 < get_or xs j 0
-ascending_at [] i j a lt inside = absurd (omega (arith, inside))
-ascending_at (x ∷ xs) i zero a lt inside = absurd (omega (arith, lt))
-ascending_at (x ∷ xs) zero (suc j) a lt inside = above_in x xs a (get_or xs j 0) (in_at xs j (omega (arith, inside)))
-ascending_at (x ∷ xs) (suc i) (suc j) a lt inside = ascending_at xs i j (above_ascends x xs a) (omega (arith, lt)) (omega (arith, inside))
-
 -- a pair of a regular network: a cut pair, of its least reaction
 record Cut (net : Net) (r : ℕ) (pair : Pair) : Type 0 where
   goes : IsReaction net.reactions r pair.low pair.high
@@ -106,14 +95,14 @@ cut_of net g tops r pair regular f p =
       first = subst (λ (w : ℕ × ℕ). (q y z : ℕ) → q < r → IsReaction net.reactions q y z → IsBetween w.0 w.1 y z → ⊥) ends f.first;
     }
 
-abbrev Mark : Type 0 → ℤ → Type 0
+abbrev pub Mark : Type 0 → ℤ → Type 0
 Mark P x = (P × (x ≡ pos 1)) ⊎ ((P → ⊥) × (x ≡ pos 0))
 
-mark_yes : (P : Type 0) (x : ℤ) → P → Mark P x → x ≡ pos 1
+pub mark_yes : (P : Type 0) (x : ℤ) → P → Mark P x → x ≡ pos 1
 mark_yes P x p (inl h) = h.1
 mark_yes P x p (inr h) = absurd (h.0 p)
 
-mark_no : (P : Type 0) (x : ℤ) → (P → ⊥) → Mark P x → x ≡ pos 0
+pub mark_no : (P : Type 0) (x : ℤ) → (P → ⊥) → Mark P x → x ≡ pos 0
 mark_no P x n (inl h) = absurd (n h.0)
 mark_no P x n (inr h) = h.1
 
@@ -133,7 +122,7 @@ own_step net r pair m c marks ll lh =
     omega (arith, ints, high, low)
 
 -- and are equal over any other step
-other_step : (rs : List (ℕ × ℕ)) (a b y z : ℕ) (m : List ℤ) → AreMarks (IsOnSide rs a b) m → y < length m → z < length m → IsFreeStep rs a b y z → entry m z -ℤ entry m y ≡ pos 0
+pub other_step : (rs : List (ℕ × ℕ)) (a b y z : ℕ) (m : List ℤ) → AreMarks (IsOnSide rs a b) m → y < length m → z < length m → IsFreeStep rs a b y z → entry m z -ℤ entry m y ≡ pos 0
 other_step rs a b y z m marks ly lz f =
     let S = IsFreeStep rs a b in
     let same = mark_same (IsOnSide rs a b y) (IsOnSide rs a b z) (entry m y) (entry m z) (λ s. leads_then S b y z s (leads_step S y z f)) (λ s. leads_then S b z y s (leads_step S z y (free_back rs a b y z f))) (marks y ly) (marks z lz) in
@@ -165,7 +154,7 @@ known_at net g s n regular sh j lt =
     let l : j < length sh.places = omega (arith, lt, zip_long (IsPairOf net g s.tops) sh.places s.pairs sh.pairs) in
     let pair : IsPairOf net g s.tops r u = zip_at (IsPairOf net g s.tops) 0 none sh.places s.pairs sh.pairs j l in
     let inside = inside_at (length net.complexes) net.reactions n.partial.apart u.low u.high (reaction_in net.reactions r (u.low, u.high) pair.goes.0 pair.goes.1) in
-    record { cut = cut_of net g s.tops r u regular ((sh.places_are.each r).0 (in_at sh.places j l)) pair; pair = pair; low = inside.0; high = inside.1 }
+    record { cut = cut_of net g s.tops r u regular ((sh.places_are.each r).0 (at_in sh.places j 0 l)) pair; pair = pair; low = inside.0; high = inside.1 }
 
 edge_at : (n : ℕ) (pairs : List Pair) (x : List ℤ) (j : ℕ) → length x ≡ n → j < length pairs → entry (dots (map (edge n) pairs) x) j ≡ entry x (get_or pairs j none).high -ℤ entry x (get_or pairs j none).low
 edge_at n pairs x j e lt =

@@ -6,43 +6,9 @@ use Rattle.std.proofs.lemmas.Bool.{cases_Bool}
 use Rattle.std.proofs.lemmas.List.{append-nil, length-append}
 use Rattle.std.proofs.lemmas.List.Elements.{filter-append}
 use Rattle.crn_vec.specs.Lists.{IsIn, AreDistinct, firsts}
+use Rattle.crn_vec.proofs.Filters.{filter_from, filter_has, filter_distinct}
 
 -- ---- filter
-
-filter_from : {A : Type 0} (p : A → Bool) (xs : List A) (y : A) → IsIn y (filter p xs) → IsIn y xs × (p y ≡ true)
-filter_from p [] y h = absurd h
-filter_from {A} p (x ∷ xs) y h =
-    elim (cases_Bool (p x)) [
-      | inl hit ↦
-          let step : filter p (x ∷ xs) ≡ x ∷ filter p xs = rw hit refl in
-          elim (subst (λ (t : List A). IsIn y t) step h) [
-            | inl e ↦ (inl e, ap p e ∙ hit)
-            | inr i ↦ let r = filter_from p xs y i in (inr r.0, r.1)
-          ]
-      | inr miss ↦
-          let step : filter p (x ∷ xs) ≡ filter p xs = rw miss refl in
-          let r = filter_from p xs y (subst (λ (t : List A). IsIn y t) step h) in (inr r.0, r.1)
-    ]
-
-filter_has : {A : Type 0} (p : A → Bool) (xs : List A) (y : A) → IsIn y xs → p y ≡ true → IsIn y (filter p xs)
-filter_has p [] y h t = absurd h
-filter_has {A} p (x ∷ xs) y h t =
-    elim (cases_Bool (p x)) [
-      | inl hit ↦
-          let step : filter p (x ∷ xs) ≡ x ∷ filter p xs = rw hit refl in
-          subst (λ (z : List A). IsIn y z) (sym step) (elim h [ inl e ↦ inl e | inr i ↦ inr (filter_has p xs y i t) ])
-      | inr miss ↦
-          let step : filter p (x ∷ xs) ≡ filter p xs = rw miss refl in
-          subst (λ (z : List A). IsIn y z) (sym step) (elim h [ inl e ↦ absurd (let q = ap p e in cc) | inr i ↦ filter_has p xs y i t ])
-    ]
-
-filter_distinct : {A : Type 0} (p : A → Bool) (xs : List A) → AreDistinct xs → AreDistinct (filter p xs)
-filter_distinct p [] h = tt
-filter_distinct {A} p (x ∷ xs) h =
-    elim (cases_Bool (p x)) [
-      | inl hit ↦ rw hit (λ i. h.0 (filter_from p xs x i).0, filter_distinct p xs h.1)
-      | inr miss ↦ rw miss (filter_distinct p xs h.1)
-    ]
 
 filter_all : {A : Type 0} (p : A → Bool) (xs : List A) → ((y : A) → IsIn y xs → p y ≡ true) → filter p xs ≡ xs
 filter_all p [] h = refl

@@ -1,6 +1,6 @@
 -- Lists of any kind: members, distinct members, facts of all members, lists with a member put at the end, and pairs.
 use Rattle.std.proofs.Common.{◌≡◌, ◌⊎◌, ℕ, Bool, true, false, zero, suc, ◌<◌, List, [], ◌∷◌, ◌++◌, length, get_or, map, refl, sym, ap, subst, ◌∙◌, inl, inr, arith}
-use Rattle.std.specs.Prelude.{◌&&◌}
+use Rattle.std.specs.Prelude.{◌&&◌, ◌||◌, Result, Ok, Err, IfOk}
 use Rattle.std.specs.List.{AllByRecursion, list_any, flat_map}
 use Rattle.std.specs.Bool.{Decides}
 use Rattle.std.proofs.lemmas.Bool.{cases_Bool}
@@ -114,6 +114,14 @@ pub and_cases : (a b : Bool) → ((a && b) ≡ true) → (a ≡ true) × (b ≡ 
 and_cases true b h = (refl, h)
 and_cases false b h = absurd cc
 
+pub and_true : (a b : Bool) → a ≡ true → b ≡ true → (a && b) ≡ true
+and_true true b h g = g
+and_true false b h g = h
+
+pub or_right : (a b : Bool) → b ≡ true → (a || b) ≡ true
+or_right true b h = refl
+or_right false b h = h
+
 -- a list is distinct if its map is
 pub distinct_of_map : {A B : Type 0} (f : A → B) (xs : List A) → AreDistinct (map f xs) → AreDistinct xs
 distinct_of_map f [] h = tt
@@ -169,3 +177,8 @@ any_true p x d xs h = elim (any_is p x d xs) [ inl a ↦ a.1 | inr b ↦ absurd 
 
 pub any_false : {A : Type 0} (p : A → Bool) (x : A) (d : (y : A) → Decides (p y) (y ≡ x)) (xs : List A) → list_any p xs ≡ false → IsIn x xs → ⊥
 any_false p x d xs h = elim (any_is p x d xs) [ inl a ↦ absurd (let e = a.0 in cc) | inr b ↦ b.1 ]
+
+-- what holds of an answer that is there, by what is known of it
+pub if_ok : {T E : Type 0} (P Q : T → Type 0) (r : Result T E) → ((x : T) → P x → Q x) → IfOk r P → IfOk r Q
+if_ok P Q (Ok x) f h = f x h
+if_ok P Q (Err e) f h = tt

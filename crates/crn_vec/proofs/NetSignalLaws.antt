@@ -7,7 +7,7 @@ use Rattle.std.proofs.lemmas.List.{get_or-map, length-map, ext_get_or}
 use lib.IntN.{*ℤ_comm, zero-*ℤ}
 use Rattle.crn_vec.specs.declared.signs.Sign.{Sign}
 use Rattle.crn_vec.specs.declared.signs.Sign.TheVariants.{Zero, Plus, Minus}
-use Rattle.crn_vec.specs.Lists.{IsIn, IsAbove, IsAscending}
+use Rattle.crn_vec.specs.Lists.{IsIn, IsAscending}
 use Rattle.crn_vec.specs.Vectors.{dot, entry, HasSign}
 use Rattle.crn_vec.specs.Network.{Net, IsNetwork}
 use Rattle.crn_vec.specs.Strong.{SameStrong}
@@ -21,6 +21,7 @@ use Rattle.crn_vec.specs.Concordance.{sign, image}
 use Rattle.crn_vec.specs.Signals.{Pair, Shape, complex_at, shelf_at, shelf_of, HasPairSign, IsSignal}
 use Rattle.crn_vec.specs.NetSignals.{top_at, AreTops, complex_of, IsSignalOver, IsSignalOf, IsPairOf, IsShapeOf, MultiplesShareSignals, SignalsStand, ShapesAreOne}
 use Rattle.crn_vec.proofs.Entries.{lt_or}
+use Rattle.crn_vec.proofs.Ascending.{above_in, above_ascending}
 use Rattle.crn_vec.proofs.Ring.{pos_pos}
 use Rattle.crn_vec.proofs.SumLaws.{sums_one, sum_by, dot_ratio}
 use Rattle.crn_vec.proofs.WalkLaws.{terminal_on}
@@ -30,14 +31,14 @@ use Rattle.crn_vec.proofs.Shelves.{stands_by}
 
 -- ---- terminal classes are numbered in one way
 
-option_or : (o : Option ℕ) → (o ≡ None) ⊎ ((k : ℕ) × (o ≡ Some k))
+pub option_or : (o : Option ℕ) → (o ≡ None) ⊎ ((k : ℕ) × (o ≡ Some k))
 option_or None = inl refl
 option_or (Some k) = inr (k, refl)
 
 pub some_is : (k l : ℕ) → Some k ≡ Some l → k ≡ l
 some_is k l e = cc
 
-none_some : (o : Option ℕ) (k : ℕ) → o ≡ None → o ≡ Some k → ⊥
+pub none_some : (o : Option ℕ) (k : ℕ) → o ≡ None → o ≡ Some k → ⊥
 none_some o k e f = cc
 
 -- what is numbered is a complex
@@ -190,15 +191,6 @@ signals_stand net g s n regular sh shelves mu level weights sg =
 
 -- ---- the shape is one
 
-pub above_in : (k : ℕ) (xs : List ℕ) → IsAbove k xs → (x : ℕ) → IsIn x xs → k < x
-above_in k [] a x i = absurd i
-above_in k (y ∷ ys) a x (inl e) = omega (arith, e, a.0)
-above_in k (y ∷ ys) a x (inr i) = let h = above_in y ys a.1 x i in omega (arith, h, a.0)
-
-pub above_ascends : (k : ℕ) (xs : List ℕ) → IsAbove k xs → IsAscending xs
-above_ascends k [] a = tt
-above_ascends k (x ∷ xs) a = a.1
-
 places_one : (xs ys : List ℕ) → IsAscending xs → IsAscending ys → ((x : ℕ) → IsIn x xs → IsIn x ys) → ((x : ℕ) → IsIn x ys → IsIn x xs) → xs ≡ ys
 places_one [] [] a b to back = refl
 places_one [] (y ∷ ys) a b to back = absurd (back y (inl refl))
@@ -211,7 +203,7 @@ places_one (x ∷ xs) (y ∷ ys) a b to back =
         | inr j ↦ absurd (omega (arith, above_in y ys b x i, above_in x xs a y j))
       ]
     ] in
-    let rest : xs ≡ ys = places_one xs ys (above_ascends x xs a) (above_ascends y ys b)
+    let rest : xs ≡ ys = places_one xs ys (above_ascending x xs a) (above_ascending y ys b)
     (λ z i. elim (to z (inr i)) as (λ _. IsIn z ys) [ inl e ↦ absurd (omega (arith, above_in x xs a z i, e, same)) | inr j ↦ j ])
     (λ z i. elim (back z (inr i)) as (λ _. IsIn z xs) [ inl e ↦ absurd (omega (arith, above_in y ys b z i, e, same)) | inr j ↦ j ]) in
     ap (λ (w : ℕ). w ∷ xs) same ∙ ap (λ (ws : List ℕ). y ∷ ws) rest

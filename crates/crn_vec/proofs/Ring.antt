@@ -1,5 +1,5 @@
 -- Ring laws and signs of whole numbers.
-use Rattle.std.proofs.Common.{◌≡◌, ◌+◌, ◌*◌, arith, ap, refl, suc, zero, ℤ, pos, negsuc, ◌+ℤ◌, ◌-ℤ◌, ◌*ℤ◌, ◌<ℤ◌, neg_ℤ, ◌⊎◌, inl, inr}
+use Rattle.std.proofs.Common.{◌≡◌, ◌≢◌, ◌∙◌, sym, ◌+◌, ◌*◌, arith, ap, refl, suc, zero, ℤ, pos, negsuc, ◌+ℤ◌, ◌-ℤ◌, ◌*ℤ◌, ◌<ℤ◌, neg_ℤ, ◌⊎◌, inl, inr}
 use Rattle.std.proofs.lemmas.Int.{ints}
 use borrow.Author.Differences.{up, down, sum_is_lem, product_is, neg_is}
 use lib.IntN.{*ℤ_comm}
@@ -65,3 +65,25 @@ is_zero (negsuc n) = inr (λ e. omega (arith, ints, e))
 
 pub one_ne_zero : ¬ (pos 1 ≡ pos 0)
 one_ne_zero e = omega (arith, ints, e)
+
+pub cancel_right : (a x y : ℤ) → a ≢ pos 0 → x *ℤ a ≡ y *ℤ a → x ≡ y
+cancel_right a x y ne e =
+    let none : a *ℤ (x -ℤ y) ≡ pos 0 = omega (arith, ints, mul-sub a x y, *ℤ_comm a x, *ℤ_comm a y, e) in
+    omega (arith, ints, no_zero a (x -ℤ y) none ne)
+
+pub swap_factors : (x y z : ℤ) → (x *ℤ y) *ℤ z ≡ (x *ℤ z) *ℤ y
+swap_factors x y z = assoc x y z ∙ ap (λ (t : ℤ). x *ℤ t) (*ℤ_comm y z) ∙ sym (assoc x z y)
+
+-- entries of two vectors that are both in one ratio to a third are in one ratio
+pub ratios_cross : (g0 gi gk hi hk h0 ei ek e0 : ℤ) → g0 ≢ pos 0 → hi *ℤ g0 ≡ gi *ℤ h0 → hk *ℤ g0 ≡ gk *ℤ h0 → ei *ℤ g0 ≡ gi *ℤ e0 → ek *ℤ g0 ≡ gk *ℤ e0 → hi *ℤ ek ≡ hk *ℤ ei
+ratios_cross g0 gi gk hi hk h0 ei ek e0 ne a b c d =
+    let left : (hi *ℤ gk) *ℤ g0 ≡ (gi *ℤ h0) *ℤ gk = swap_factors hi gk g0 ∙ ap (λ (t : ℤ). t *ℤ gk) a in
+    let right : (hk *ℤ gi) *ℤ g0 ≡ (gk *ℤ h0) *ℤ gi = swap_factors hk gi g0 ∙ ap (λ (t : ℤ). t *ℤ gi) b in
+    let moved : (gi *ℤ h0) *ℤ gk ≡ (gk *ℤ h0) *ℤ gi = assoc gi h0 gk ∙ *ℤ_comm gi (h0 *ℤ gk) ∙ ap (λ (t : ℤ). t *ℤ gi) (*ℤ_comm h0 gk) in
+    let first : hi *ℤ gk ≡ hk *ℤ gi = cancel_right g0 (hi *ℤ gk) (hk *ℤ gi) ne (left ∙ moved ∙ sym right) in
+    let up : (hi *ℤ ek) *ℤ g0 ≡ (hi *ℤ gk) *ℤ e0 = assoc hi ek g0 ∙ ap (λ (t : ℤ). hi *ℤ t) d ∙ sym (assoc hi gk e0) in
+    let down : (hk *ℤ ei) *ℤ g0 ≡ (hk *ℤ gi) *ℤ e0 = assoc hk ei g0 ∙ ap (λ (t : ℤ). hk *ℤ t) c ∙ sym (assoc hk gi e0) in
+    cancel_right g0 (hi *ℤ ek) (hk *ℤ ei) ne (up ∙ ap (λ (t : ℤ). t *ℤ e0) first ∙ sym down)
+
+pub neg-mul : (a b : ℤ) → neg_ℤ a *ℤ b ≡ neg_ℤ (a *ℤ b)
+neg-mul a b = *ℤ_comm (neg_ℤ a) b ∙ mul-neg b a ∙ ap neg_ℤ (*ℤ_comm b a)

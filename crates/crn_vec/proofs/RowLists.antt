@@ -1,8 +1,14 @@
 -- Rows of a list that holds them one after another.
-use Rattle.std.proofs.Common.{◌≡◌, ℕ, zero, suc, ◌+◌, ◌*◌, ◌<◌, ◌≤◌, List, [], ◌∷◌, length, get_or, take, drop, refl, ap, ◌∙◌, arith}
-use Rattle.std.specs.Prelude.{ℤ, unsigned_abs}
-use Rattle.std.proofs.lemmas.List.{drop-drop, length-drop, length-take-le}
+use Rattle.std.proofs.Common.{◌≡◌, ℕ, zero, suc, ◌+◌, ◌*◌, ◌<◌, ◌≤◌, inl, inr, List, [], ◌∷◌, ◌++◌, length, map, get_or, take, drop, refl, sym, ap, ap₂, ◌∙◌, arith}
+use Rattle.std.specs.Prelude.{ℤ, pos, negsuc, unsigned_abs}
+use Rattle.std.specs.List.{AllByRecursion, flat_map}
+use Rattle.std.proofs.lemmas.Int.{ints}
+use Rattle.std.proofs.Math.Seq.{take-append_seam}
+use Rattle.std.proofs.lemmas.List.{length-append, drop-drop, length-drop, length-take-le}
 use Rattle.std.proofs.Math.Nat.{suc-mul, mul-le-mul_right}
+use Rattle.crn_vec.specs.declared.limits.TheConstants.{MAX_AMOUNT}
+use Rattle.crn_vec.specs.Lists.{IsIn}
+use Rattle.crn_vec.specs.Network.{IsAmount}
 use Rattle.crn_vec.specs.Vectors.{rows_of, entry, AreWithin, AreOfLength}
 
 pub length-rows_of : (m n : ℕ) (xs : List ℤ) → length (rows_of m n xs) ≡ m
@@ -43,3 +49,32 @@ pub within_rows : (b m n : ℕ) (xs : List ℤ) (i : ℕ) → AreWithin b xs →
 within_rows b zero n xs i h = tt
 within_rows b (suc m) n xs zero h = within_take b n xs h
 within_rows b (suc m) n xs (suc i) h = within_rows b m n (drop n xs) i (within_drop b n xs h)
+
+pub within_append : (m : ℕ) (xs ys : List ℤ) → AreWithin m xs → AreWithin m ys → AreWithin m (xs ++ ys)
+within_append m [] ys h g = g
+within_append m (x ∷ xs) ys h g = (h.0, within_append m xs ys h.1 g)
+
+-- amounts are within the limit of amounts
+pub amounts_within : (v : List ℤ) → AllByRecursion IsAmount v → AreWithin MAX_AMOUNT v
+amounts_within [] h = tt
+amounts_within (pos n ∷ v) h = (omega (arith, ints, h.0.1), amounts_within v h.1)
+amounts_within (negsuc n ∷ v) h = absurd (omega (arith, ints, h.0.0))
+
+-- ---- lists of equal lengths one after another
+
+pub drop_seam : (xs ys : List ℤ) → drop (length xs) (xs ++ ys) ≡ ys
+drop_seam [] ys = refl
+drop_seam (x ∷ xs) ys = drop_seam xs ys
+
+pub length-rows_after : {A : Type 0} (n : ℕ) (f : A → List ℤ) (rs : List A) → ((r : A) → IsIn r rs → length (f r) ≡ n) → length (flat_map f rs) ≡ length rs * n
+length-rows_after n f [] h = omega arith
+length-rows_after n f (r ∷ rs) h = omega (arith, length-append (f r) (flat_map f rs), h r (inl refl), length-rows_after n f rs (λ q i. h q (inr i)), suc-mul (length rs) n)
+
+-- the rows of lists one after another are these lists
+pub rows_after : {A : Type 0} (n : ℕ) (f : A → List ℤ) (rs : List A) → ((r : A) → IsIn r rs → length (f r) ≡ n) → rows_of (length rs) n (flat_map f rs) ≡ map f rs
+rows_after n f [] h = refl
+rows_after n f (r ∷ rs) h =
+    let long = h r (inl refl) in
+    let first : take n (f r ++ flat_map f rs) ≡ f r = ap (λ (k : ℕ). take k (f r ++ flat_map f rs)) (sym long) ∙ take-append_seam (f r) (flat_map f rs) in
+    let rest : drop n (f r ++ flat_map f rs) ≡ flat_map f rs = ap (λ (k : ℕ). drop k (f r ++ flat_map f rs)) (sym long) ∙ drop_seam (f r) (flat_map f rs) in
+    ap₂ (λ (x : List ℤ) (t : List (List ℤ)). x ∷ t) first (ap (rows_of (length rs) n) rest ∙ rows_after n f rs (λ q i. h q (inr i)))

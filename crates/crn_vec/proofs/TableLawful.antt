@@ -19,12 +19,12 @@ use Rattle.crn_vec.proofs.Mirrors.{length-mirror}
 use Rattle.crn_vec.specs.Concordance.{IsTable, concordance, column_kind, row_kinds, kinds_a_of, kinds_b_of}
 use Rattle.crn_vec.proofs.TableKinds.{zip_append, Refines, all_refined, refines_same, columns_longer, rows_longer, Mirrored, columns_opposite, rows_opposite, zeros_opposite, frees_opposite, all_opposite, length-rows, length-columns, count_at_most, count-append, count_none}
 
-dot-neg : (r v : List ℤ) → dot r (map neg_ℤ v) ≡ neg_ℤ (dot r v)
+pub dot-neg : (r v : List ℤ) → dot r (map neg_ℤ v) ≡ neg_ℤ (dot r v)
 dot-neg [] v = refl
 dot-neg (x ∷ r) [] = refl
 dot-neg (x ∷ r) (y ∷ v) = omega (arith, ints, dot-neg r v, mul-neg x y)
 
-entry-neg : (v : List ℤ) (k : ℕ) → entry (map neg_ℤ v) k ≡ neg_ℤ (entry v k)
+pub entry-neg : (v : List ℤ) (k : ℕ) → entry (map neg_ℤ v) k ≡ neg_ℤ (entry v k)
 entry-neg [] k = refl
 entry-neg (x ∷ v) zero = refl
 entry-neg (x ∷ v) (suc k) = entry-neg v k

@@ -9,8 +9,6 @@ mod limits;
 mod matrix;
 mod nums;
 mod signs;
-#[cfg(test)]
-mod tests;
 mod vectors;
 
 pub use fault::NoMemory;

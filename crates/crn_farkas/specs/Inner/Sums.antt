@@ -1,7 +1,9 @@
 -- For the contracts of private functions alone. The sum of witnesses that a decision builds, coordinate by coordinate, and what it ends with at one of them.
 use Rattle.std.specs.Prelude.{Bool, IsTrue, List, false, length, pos, slice_index_or, take, true, unsigned_abs, ℕ, ℤ, ◌*◌, ◌<◌, ◌≡◌, ◌≢◌, ◌≤◌, ◌⊎◌}
-use Rattle.crn_farkas.specs.Decision.{factor}
-use Rattle.crn_farkas.specs.Solver.{IsNamedCut, IsNear}
+use Rattle.crn_farkas.specs.Decision.{IsSmallSolution, factor}
+use Rattle.crn_farkas.specs.Solver.{IsCutBy, IsNamedCut, IsNear}
+use Rattle.crn_farkas.specs.declared.columns.Shown.{Shown}
+use Rattle.crn_farkas.specs.declared.columns.Shown.TheVariants.{Cut as ShownCut, Nothing, Solution}
 use Rattle.crn_farkas.specs.declared.goal.Part.{Part}
 use Rattle.crn_farkas.specs.declared.goal.Part.TheVariants.{Cut as PartCut, Witness as PartWitness}
 use Rattle.crn_farkas.specs.declared.fault.Stop.{Stop}
@@ -52,3 +54,9 @@ pub record AreZeros (count : ℕ) (v : List ℤ) : Type 0 where
 pub record IsSumOf (a : Mat) (count : ℕ) (v : List ℤ) : Type 0 where
   pub space : InRowSpace a v
   pub small : (k : ℕ) → unsigned_abs (entry v k) ≤ count * WIDE_ENTRY
+
+-- what a basis shows: the columns of a sum are a solution, or a vector that it names rules the system out, or nothing
+abbrev pub IsShown : Mat → List ℕ → List Kind → List ℤ → Shown → Type 0
+IsShown a basis kinds sum Solution = IsSmallSolution a kinds (take a.cols sum)
+IsShown a basis kinds sum (ShownCut cut) = IsCutBy a basis kinds cut.row cut.sign
+IsShown a basis kinds sum Nothing = Unit {0}

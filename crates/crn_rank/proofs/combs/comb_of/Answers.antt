@@ -1,7 +1,7 @@
 use Rattle.std.proofs.Common.{◌≡◌}
 use Rattle.crn_vec.specs.Kept.{KeptInts}
+use Rattle.crn_vec.proofs.CallerLemmas.{if_ok}
 use Rattle.crn_rank.specs.Inner.Rows.{numbers_of, IsCombOf}
-use Rattle.crn_rank.proofs.MemberRows.{if_ok}
 use Rattle.crn_rank.proofs.CombTests.{comb_by}
 use Rattle.crn_rank.proofs.combs.comb_of.Goals as goal
 

@@ -4,9 +4,9 @@ use Rattle.std.specs.List.{flat_map}
 use Rattle.std.proofs.lemmas.List.{take_more}
 use Rattle.crn_vec.specs.Vectors.{AreWithin}
 use Rattle.crn_vec.specs.declared.limits.TheConstants.{MAX_AMOUNT, MAX_REACTIONS}
-use Rattle.crn_vec.proofs.CallerLemmas.{at_in, flat_map_push}
+use Rattle.crn_vec.proofs.CallerLemmas.{at_in, flat_map_push, within_append}
 use Rattle.crn_cert.specs.RankTests.{vector_of}
-use Rattle.crn_rank.proofs.MemberRows.{entries_few, within_append}
+use Rattle.crn_rank.proofs.MemberRows.{entries_few}
 use Rattle.crn_rank.proofs.matrix.entries.Goals as goal
 
 pub overflow_mul-members : goal.overflow_mul-members

@@ -1,0 +1,550 @@
+ghost use Rattle.std.specs.Prelude.{◌≡◌, ◌≤◌, ◌<◌, ◌+◌, length, unsigned_abs, vec_len};
+ghost use Rattle.crn_vec.specs.Vectors.{AreWithin};
+
+use crn_frac::{Frac, gcd, gcd_of, lcm_below};
+use crn_tab::{ColumnStop, Refused, Tableau, Wide};
+use crn_vec::{Ints, Kind, MAX_AMOUNT, Matrix, Sign};
+use std::alloc::Global;
+use std::process::Abort;
+
+// Exchanges two coordinates, after each condition was tested.
+fn exchange(
+    rt: &impl Abort,
+    matrix: &Matrix,
+    t: &mut Tableau,
+    leave: usize,
+    enter: usize,
+) -> Result<(), Wide>
+    requires { t.old.matrix ≡ matrix.now }
+    ensures { t.new.matrix ≡ matrix.now }
+{
+    let size = matrix.cols() + matrix.rows();
+    assert!(rt; leave < size);
+    assert!(rt; enter < size);
+    assert!(rt; t.is_basic(leave));
+    assert!(rt; !t.is_basic(enter));
+    assert!(rt; t.entry(enter, leave).num() != 0);
+    t.pivot(leave, enter)
+}
+
+fn row(rt: &impl Abort, matrix: &Matrix, t: &Tableau, k: usize) -> Ints
+    requires { t.now.matrix ≡ matrix.now }
+{
+    assert!(rt; k < matrix.cols() + matrix.rows());
+    assert!(rt; !t.is_basic(k));
+    t.row(k).expect(rt, "memory")
+}
+
+fn column(rt: &impl Abort, matrix: &Matrix, t: &Tableau, k: usize) -> Result<Ints, ColumnStop>
+    requires { t.now.matrix ≡ matrix.now }
+{
+    assert!(rt; k < matrix.cols() + matrix.rows());
+    assert!(rt; t.is_basic(k));
+    t.column(k)
+}
+
+// The vector of a coordinate, into a list that is lent.
+fn put_vector(rt: &impl Abort, matrix: &Matrix, t: &Tableau, k: usize, into: &mut [i128]) -> bool
+    requires { t.now.matrix ≡ matrix.now }
+{
+    let size = matrix.cols() + matrix.rows();
+    assert!(rt; k < size);
+    assert!(rt; into.len() == size);
+    if t.is_basic(k) {
+        return t.put_column(k, into).is_ok();
+    }
+    t.put_row(k, into);
+    true
+}
+
+// Whether the list is the wanted one or its negative.
+fn is_up_to_sign(made: &[i128], want: &[i128]) -> bool {
+    let mut same = made.len() == want.len();
+    let mut negatives = same;
+    for (x, y) in made.iter().zip(want) {
+        same = same && x == y;
+        negatives = negatives && x.checked_neg() == Some(*y);
+    }
+    same || negatives
+}
+
+#[test]
+fn calls_worked_by_hand(rt: HostRuntime) {
+    assert_eq!(rt; lcm_below(6, 4, 12), None);
+    assert_eq!(rt; lcm_below(6, 4, 13), Some(12));
+    assert_eq!(rt; gcd(-12, 18), 6);
+    let half = Frac::new(6, -4);
+    assert_eq!(rt; (half.num(), half.den()), (-3, 2));
+    let zero = Frac::new(0, -5);
+    assert_eq!(rt; (zero.num(), zero.den()), (0, 1));
+
+    let matrix = Matrix::new(rt.alloc(), 1, 2, &[-1, 1]).expect(&rt, "memory");
+    let mut t = Tableau::new(rt.alloc(), &matrix).expect(&rt, "memory");
+    assert!(rt; is_up_to_sign(row(&rt, &matrix, &t, 2).as_slice(), &[1, -1, 1]));
+    assert!(rt; exchange(&rt, &matrix, &mut t, 0, 2).is_ok());
+    assert!(rt; is_up_to_sign(row(&rt, &matrix, &t, 0).as_slice(), &[1, -1, 1]));
+    let column = column(&rt, &matrix, &t, 1)
+        .map_err(|_| "wide")
+        .expect(&rt, "column");
+    assert!(rt; is_up_to_sign(column.as_slice(), &[1, 1, 0]));
+    let basis = t.basis().expect(&rt, "memory");
+    assert_eq!(rt; basis.as_slice(), [1, 2].as_slice());
+    let mut into = [7i128; 3];
+    assert!(rt; put_vector(&rt, &matrix, &t, 0, &mut into));
+    assert!(rt; is_up_to_sign(&into, &[1, -1, 1]));
+    assert!(rt; put_vector(&rt, &matrix, &t, 1, &mut into));
+    assert!(rt; is_up_to_sign(&into, &[1, 1, 0]));
+}
+
+#[test]
+fn rows_enter_as_far_as_they_can(rt: HostRuntime) {
+    // The second row depends on the first.
+    let matrix = Matrix::new(rt.alloc(), 3, 2, &[1, 2, 2, 4, 0, 1]).expect(&rt, "memory");
+    let mut t = Tableau::new(rt.alloc(), &matrix).expect(&rt, "memory");
+    assert!(rt; 3 < matrix.cols() + matrix.rows());
+    let next = t.basis_after(0, 3).expect(&rt, "memory");
+    assert_eq!(rt; next.as_slice(), [2, 4].as_slice());
+    let same = t.basis_after(1, 1).expect(&rt, "memory");
+    assert_eq!(rt; same.as_slice(), [1, 2].as_slice());
+    assert!(rt; t.enter_rows(2).is_ok());
+    let basis = t.basis().expect(&rt, "memory");
+    assert_eq!(rt; basis.as_slice(), [2, 4].as_slice());
+    assert!(rt; is_up_to_sign(row(&rt, &matrix, &t, 3).as_slice(), &[0, 0, -2, 1, 0]));
+}
+
+// The least level of a wrong coordinate, in the row or the column of a coordinate.
+fn wrong(
+    rt: &impl Abort,
+    matrix: &Matrix,
+    t: &Tableau,
+    k: usize,
+    sign: Sign,
+    kinds: &[Kind],
+    from: usize,
+) -> usize
+    requires { t.now.matrix ≡ matrix.now }
+{
+    let level = [0, 1, 2];
+    let size = matrix.cols() + matrix.rows();
+    assert!(rt; k < size);
+    assert!(rt; kinds.len() == size);
+    assert!(rt; level.len() == size);
+    assert!(rt; from <= 3);
+    if t.is_basic(k) {
+        return t.wrong_in_column(k, sign, kinds, &level, from, 3);
+    }
+    t.wrong_in_row(k, sign, kinds, &level, from, 3)
+}
+
+// The sign with which the vectors of a coordinate rule a system out.
+fn cuts(rt: &impl Abort, matrix: &Matrix, t: &Tableau, k: usize, kinds: &[Kind]) -> Option<Sign>
+    requires { t.now.matrix ≡ matrix.now }
+{
+    let size = matrix.cols() + matrix.rows();
+    assert!(rt; k < size);
+    assert!(rt; kinds.len() == size);
+    assert!(rt; !t.is_basic(k));
+    t.row_cuts(k, kinds)
+}
+
+#[test]
+fn rows_and_columns_are_passed_by_their_slots(rt: HostRuntime) {
+    // The vectors (1, -1, 1) of the row, (1, 0, -1) and (0, 1, 1) of the columns.
+    let matrix = Matrix::new(rt.alloc(), 1, 2, &[-1, 1]).expect(&rt, "memory");
+    let t = Tableau::new(rt.alloc(), &matrix).expect(&rt, "memory");
+    let (pos, neg, zero) = (Kind::Pos, Kind::Neg, Kind::Zero);
+    let asked = [pos, pos, zero];
+    let cases = [
+        ("minus one where it may not be", 2, Sign::Plus, 0, 1),
+        ("the other sign", 2, Sign::Minus, 0, 0),
+        ("behind the first", 2, Sign::Minus, 1, 3),
+        ("not zero where it has to be", 0, Sign::Plus, 0, 2),
+        ("its own sign", 0, Sign::Minus, 0, 0),
+        ("not zero again", 1, Sign::Plus, 1, 2),
+    ];
+    for (name, k, sign, from, want) in cases {
+        assert_eq!(rt;
+            wrong(&rt, &matrix, &t, k, sign, &asked, from),
+            want,
+            "{name}"
+        );
+    }
+    let mixed = [pos, pos, zero];
+    let plain = [pos, neg, zero];
+    let negatives = [neg, pos, zero];
+    let none = [zero, zero, zero];
+    let free = [pos, neg, Kind::Free];
+    let cases = [
+        ("a weight of each sign", mixed.as_slice(), None),
+        ("as it stands", plain.as_slice(), Some(Sign::Plus)),
+        ("its negative", negatives.as_slice(), Some(Sign::Minus)),
+        ("nothing is asked", none.as_slice(), None),
+        ("no weight where it may have none", free.as_slice(), None),
+    ];
+    for (name, kinds, want) in cases {
+        assert_eq!(rt; cuts(&rt, &matrix, &t, 2, kinds), want, "{name}");
+    }
+}
+
+fn at(rows: &[i128], place: usize) -> i128 {
+    match rows.get(place) {
+        Some(x) => *x,
+        None => 0,
+    }
+}
+
+// The rows (-A_i, e_i), one after another.
+fn plain_rows(rt: &impl Abort, alloc: Global, matrix: &Matrix) -> Vec<i128> {
+    let mut rows = Vec::new(alloc);
+    for i in 0..matrix.rows() {
+        for j in 0..matrix.cols() {
+            rows.push(-matrix.entry(i, j)).expect(rt, "memory");
+        }
+        for k in 0..matrix.rows() {
+            rows.push(if k == i { 1 } else { 0 }).expect(rt, "memory");
+        }
+    }
+    rows
+}
+
+// Takes a coordinate out of every row but one, without any division.
+fn eliminate(rows: &mut [i128], size: usize, row: usize, coordinate: usize) {
+    let from = row.wrapping_mul(size);
+    let p = at(rows, from.wrapping_add(coordinate));
+    for place in 0..rows.len() {
+        if size != 0 && place / size != row && place % size == 0 {
+            let q = at(rows, place.wrapping_add(coordinate));
+            for k in 0..size {
+                let difference = p
+                    .wrapping_mul(at(rows, place.wrapping_add(k)))
+                    .wrapping_sub(q.wrapping_mul(at(rows, from.wrapping_add(k))));
+                if let Some(entry) = rows.get_mut(place.wrapping_add(k)) {
+                    *entry = difference;
+                }
+            }
+        }
+    }
+}
+
+// Whether the greatest common divisor of the entries is 1.
+fn is_primitive(made: &[i128]) -> bool {
+    let mut divisor = 0;
+    for x in made {
+        divisor = gcd_of(divisor, x.unsigned_abs());
+    }
+    divisor == 1
+}
+
+// Whether a row of plain elimination is a multiple of the vector, and not 0.
+fn is_multiple(made: &[i128], rows: &[i128], from: usize) -> bool {
+    let mut all = true;
+    let mut some = false;
+    for (j, x) in made.iter().enumerate() {
+        some = some || at(rows, from.wrapping_add(j)) != 0;
+        for (k, y) in made.iter().enumerate() {
+            let left = x.wrapping_mul(at(rows, from.wrapping_add(k)));
+            all = all && left == y.wrapping_mul(at(rows, from.wrapping_add(j)));
+        }
+    }
+    all && some
+}
+
+// Whether the products with a row of plain elimination add up to 0.
+fn is_orthogonal(made: &[i128], rows: &[i128], from: usize) -> bool {
+    let mut sum = 0i128;
+    for (k, x) in made.iter().enumerate() {
+        sum = sum.wrapping_add(x.wrapping_mul(at(rows, from.wrapping_add(k))));
+    }
+    sum == 0
+}
+
+// Compares the rows, which the coordinates in `own` name in this order, with those of plain elimination.
+fn compare_rows(rt: &impl Abort, matrix: &Matrix, t: &Tableau, own: &[usize], plain: &[i128])
+    requires { t.now.matrix ≡ matrix.now }
+{
+    let size = matrix.cols() + matrix.rows();
+    for (i, k) in own.iter().enumerate() {
+        let made = row(rt, matrix, t, *k);
+        assert!(rt; is_primitive(made.as_slice()), "row {k}");
+        assert!(rt;
+            is_multiple(made.as_slice(), plain, i.wrapping_mul(size)),
+            "row {k}"
+        );
+    }
+}
+
+// Whether a column is orthogonal to each row of plain elimination, and 0 on the rest of the basis.
+fn compare_column(
+    rt: &impl Abort,
+    matrix: &Matrix,
+    t: &Tableau,
+    own: &[usize],
+    plain: &[i128],
+    k: usize,
+)
+    requires { t.now.matrix ≡ matrix.now }
+{
+    let size = matrix.cols() + matrix.rows();
+    let made = column(rt, matrix, t, k)
+        .map_err(|_| "wide")
+        .expect(rt, "column");
+    assert!(rt; is_primitive(made.as_slice()), "column {k}");
+    for i in 0..own.len() {
+        assert!(rt;
+            is_orthogonal(made.as_slice(), plain, i.wrapping_mul(size)),
+            "column {k}"
+        );
+    }
+    for other in 0..size {
+        let rest = other != k && !own.contains(&other);
+        assert!(rt; !rest || at(made.as_slice(), other) == 0, "column {k}");
+    }
+}
+
+// Exchanges two coordinates, of the tableau and by plain elimination, and compares all vectors.
+fn step(
+    rt: &impl Abort,
+    matrix: &Matrix,
+    t: &mut Tableau,
+    plain: &mut [i128],
+    own: &mut [usize],
+    leave: usize,
+    enter: usize,
+)
+    requires { t.old.matrix ≡ matrix.now }
+    ensures { t.new.matrix ≡ matrix.now }
+{
+    let size = matrix.cols() + matrix.rows();
+    let r = own
+        .iter()
+        .position(|k| *k == enter)
+        .expect(rt, "a coordinate outside the basis");
+    eliminate(plain, size, r, leave);
+    if let Some(k) = own.get_mut(r) {
+        *k = leave;
+    }
+    assert!(rt; exchange(rt, matrix, t, leave, enter).is_ok());
+    compare_rows(rt, matrix, t, own, plain);
+    for k in 0..size {
+        if !own.contains(&k) {
+            compare_column(rt, matrix, t, own, plain, k);
+        }
+    }
+}
+
+// The coordinates outside the first basis.
+fn rows_of(rt: &impl Abort, alloc: Global, matrix: &Matrix) -> Vec<usize> {
+    let mut own = Vec::new(alloc);
+    for i in 0..matrix.rows() {
+        own.push(matrix.cols() + i).expect(rt, "memory");
+    }
+    own
+}
+
+// Exchanges these coordinates one after another, and compares all vectors each time.
+fn compare(rt: &impl Abort, alloc: Global, matrix: &Matrix, exchanges: &[(usize, usize)]) {
+    let mut t = Tableau::new(alloc, matrix).expect(rt, "memory");
+    let mut plain = plain_rows(rt, alloc, matrix);
+    let mut own = rows_of(rt, alloc, matrix);
+    for (leave, enter) in exchanges {
+        step(rt, matrix, &mut t, &mut plain, &mut own, *leave, *enter);
+    }
+}
+
+// Whether the two may be exchanged.
+fn may_exchange(rt: &impl Abort, matrix: &Matrix, t: &Tableau, leave: usize, enter: usize) -> bool
+    requires { t.now.matrix ≡ matrix.now }
+{
+    let size = matrix.cols() + matrix.rows();
+    assert!(rt; leave < size);
+    assert!(rt; enter < size);
+    if !t.is_basic(leave) || t.is_basic(enter) {
+        return false;
+    }
+    t.entry(enter, leave).num() != 0
+}
+
+// Goes over all pairs of coordinates, exchanges those that may be exchanged, and compares all vectors each time.
+fn compare_all(rt: &impl Abort, alloc: Global, matrix: &Matrix) {
+    let mut t = Tableau::new(alloc, matrix).expect(rt, "memory");
+    let mut plain = plain_rows(rt, alloc, matrix);
+    let mut own = rows_of(rt, alloc, matrix);
+    let size = matrix.cols() + matrix.rows();
+    for leave in 0..size {
+        for enter in 0..size {
+            if may_exchange(rt, matrix, &t, leave, enter) {
+                step(rt, matrix, &mut t, &mut plain, &mut own, leave, enter);
+            }
+        }
+    }
+}
+
+#[test]
+fn vectors_are_those_of_plain_elimination(rt: HostRuntime) {
+    let alloc = rt.alloc();
+    let dense = Matrix::new(alloc, 3, 3, &[2, 3, 5, 7, 11, 13, 17, 19, 23]).expect(&rt, "memory");
+    compare(&rt, alloc, &dense, &[(0, 3), (1, 4), (2, 5), (3, 1)]);
+    let flat = Matrix::new(alloc, 2, 3, &[1, -2, 3, -4, 5, -6]).expect(&rt, "memory");
+    compare(&rt, alloc, &flat, &[(1, 3), (2, 4), (3, 2), (0, 3)]);
+    let tall = Matrix::new(alloc, 3, 2, &[99, -99, -98, 97, 1, 0]).expect(&rt, "memory");
+    compare(&rt, alloc, &tall, &[(0, 2), (1, 3), (2, 4), (3, 1)]);
+    let zero = Matrix::new(alloc, 2, 2, &[0, 0, 6, -4]).expect(&rt, "memory");
+    compare(&rt, alloc, &zero, &[(1, 3)]);
+}
+
+// The number from -2 to 2 that the last digit to the base 5 means.
+fn digit(code: u32) -> i128
+    ensures { unsigned_abs result ≤ MAX_AMOUNT }
+{
+    small(i128::from(code % 5) - 2)
+}
+
+// All matrices of two rows and two columns, of one row and two columns, and of two rows and one column, with
+// entries from -2 to 2.
+#[test]
+fn vectors_of_small_matrices_are_those_of_plain_elimination(rt: HostRuntime) {
+    let alloc = rt.alloc();
+    for code in 0..625u32 {
+        let entries = [
+            digit(code),
+            digit(code / 5),
+            digit(code / 25),
+            digit(code / 125),
+        ];
+        let square = Matrix::new(alloc, 2, 2, &entries).expect(&rt, "memory");
+        compare_all(&rt, alloc, &square);
+        if code < 25 {
+            let pair = [digit(code), digit(code / 5)];
+            let flat = Matrix::new(alloc, 1, 2, &pair).expect(&rt, "memory");
+            compare_all(&rt, alloc, &flat);
+            let tall = Matrix::new(alloc, 2, 1, &pair).expect(&rt, "memory");
+            compare_all(&rt, alloc, &tall);
+        }
+    }
+}
+
+// A small number, as a matrix may hold it.
+fn small(x: i128) -> i128
+    ensures { unsigned_abs result ≤ MAX_AMOUNT }
+{
+    if -99 <= x && x <= 99 { x } else { 0 }
+}
+
+// Adds a row that has one number on its diagonal and one in the column beside it or in the last.
+fn push_row(
+    rt: &impl Abort,
+    entries: &mut Vec<i128>,
+    cols: usize,
+    i: usize,
+    own: i128,
+    beside: (usize, i128),
+)
+    requires { AreWithin MAX_AMOUNT entries.old.items }
+    ensures within { AreWithin MAX_AMOUNT entries.new.items }
+    ensures count { vec_len entries.new ≡ vec_len entries.old + cols }
+{
+    for j in 0..cols {
+        let x = if j == i {
+            own
+        } else if j == beside.0 {
+            beside.1
+        } else {
+            0
+        };
+        entries.push(small(x)).expect(rt, "memory");
+    }
+}
+
+// The rows own x_i + 99 x_(i + 1).
+fn chain(rt: &impl Abort, alloc: Global, count: usize) -> Matrix
+    requires { count < 20 }
+    ensures { result.cols ≡ count + 1 }
+{
+    let mut entries = Vec::new(alloc);
+    for i in 0..count {
+        push_row(rt, &mut entries, count + 1, i, -1, (i + 1, 99));
+    }
+    Matrix::new(alloc, count, count + 1, &entries).expect(rt, "memory")
+}
+
+// The rows p x_i - x_last, for each p.
+fn fan(rt: &impl Abort, alloc: Global, numbers: &[i128]) -> Matrix
+    requires { length numbers.now < 20 }
+    ensures { result.cols ≡ length numbers.now + 1 }
+{
+    let count = numbers.len();
+    let mut entries = Vec::new(alloc);
+    for (i, p) in numbers.iter().enumerate() {
+        push_row(rt, &mut entries, count + 1, i, *p, (count, -1));
+    }
+    Matrix::new(alloc, count, count + 1, &entries).expect(rt, "memory")
+}
+
+// Exchanges each of the first columns with the row of the same number.
+fn exchange_diagonal(rt: &impl Abort, matrix: &Matrix, t: &mut Tableau, count: usize)
+    requires { t.old.matrix ≡ matrix.now }
+    ensures { t.new.matrix ≡ matrix.now }
+{
+    assert!(rt; count <= matrix.rows());
+    for i in 0..count {
+        let done = exchange(rt, matrix, t, i, matrix.cols() + i);
+        assert!(rt; done.is_ok());
+    }
+}
+
+#[test]
+fn the_tenth_factor_of_99_is_wide(rt: HostRuntime) {
+    let matrix = chain(&rt, rt.alloc(), 11);
+    let mut t = Tableau::new(rt.alloc(), &matrix).expect(&rt, "memory");
+    exchange_diagonal(&rt, &matrix, &mut t, 9);
+    let made = row(&rt, &matrix, &t, 0);
+    assert_eq!(rt; at(made.as_slice(), 0).unsigned_abs(), 1);
+    assert_eq!(rt; at(made.as_slice(), 9).unsigned_abs(), 913517247483640899);
+    assert_eq!(rt;
+        exchange(&rt, &matrix, &mut t, 9, 21),
+        Err(Wide { index: 1 })
+    );
+    let again = row(&rt, &matrix, &t, 0);
+    assert_eq!(rt; again.as_slice(), made.as_slice());
+}
+
+#[test]
+fn rows_enter_until_a_vector_is_wide(rt: HostRuntime) {
+    let matrix = chain(&rt, rt.alloc(), 11);
+    let mut t = Tableau::new(rt.alloc(), &matrix).expect(&rt, "memory");
+    let refused = Refused {
+        leave: 9,
+        enter: 21,
+        index: 1,
+    };
+    assert_eq!(rt; t.enter_rows(12), Err(refused));
+    assert!(rt; 21 < matrix.cols() + matrix.rows());
+    let next = t.basis_after(9, 21).expect(&rt, "memory");
+    let want = [11, 12, 13, 14, 15, 16, 17, 18, 19, 20, 21, 22];
+    assert_eq!(rt; next.as_slice(), want.as_slice());
+}
+
+// The column of the last coordinate, once each other one depends on it.
+fn last_of_fan(rt: &impl Abort, alloc: Global, numbers: &[i128]) -> Result<Ints, ColumnStop>
+    requires { length numbers.now < 20 }
+{
+    let matrix = fan(rt, alloc, numbers);
+    let mut t = Tableau::new(alloc, &matrix).expect(rt, "memory");
+    exchange_diagonal(rt, &matrix, &mut t, numbers.len());
+    column(rt, &matrix, &t, numbers.len())
+}
+
+#[test]
+fn a_column_is_wide_by_its_common_multiple(rt: HostRuntime) {
+    let primes = [97, 89, 83, 79, 73, 71, 67, 61, 59, 53, 47];
+    let made = last_of_fan(&rt, rt.alloc(), &primes[..10])
+        .map_err(|_| "wide")
+        .expect(&rt, "column");
+    assert_eq!(rt; at(made.as_slice(), 10).unsigned_abs(), 3749562977351496827);
+    assert_eq!(rt;
+        at(made.as_slice(), 0).unsigned_abs(),
+        3749562977351496827 / 97
+    );
+    let stop = last_of_fan(&rt, rt.alloc(), &primes).err();
+    assert_eq!(rt; stop, Some(ColumnStop::Wide));
+}

@@ -1,0 +1,77 @@
+-- Ascending lists of numbers, and ranges.
+use Rattle.std.proofs.Common.{◌≡◌, ℕ, zero, suc, ◌+◌, ◌<◌, ◌≤◌, List, [], ◌∷◌, ◌++◌, length, get_or, map, inl, inr, refl, ap, ◌∙◌, arith}
+use Rattle.std.specs.List.{range_with_len}
+use Rattle.crn_vec.specs.Lists.{IsIn, IsAbove, IsAscending}
+use Rattle.crn_vec.proofs.Lists.{at_in}
+use Rattle.crn_vec.proofs.Entries.{eq_or}
+
+pub above_in : (k : ℕ) (xs : List ℕ) → IsAbove k xs → (x : ℕ) → IsIn x xs → k < x
+above_in k [] a x i = absurd i
+above_in k (y ∷ ys) a x (inl e) = omega (arith, e, a.0)
+above_in k (y ∷ ys) a x (inr i) = let h = above_in y ys a.1 x i in omega (arith, h, a.0)
+
+pub above_ascending : (k : ℕ) (xs : List ℕ) → IsAbove k xs → IsAscending xs
+above_ascending k [] a = tt
+above_ascending k (x ∷ xs) a = a.1
+
+-- a bound below a bound is one
+pub above_lower : (k x : ℕ) (xs : List ℕ) → k < x → IsAbove x xs → IsAbove k xs
+above_lower k x [] lt a = tt
+above_lower k x (y ∷ ys) lt a = (omega (arith, lt, a.0), a.1)
+
+pub ascending_tail : (x : ℕ) (xs : List ℕ) → IsAscending (x ∷ xs) → IsAscending xs
+ascending_tail x [] a = tt
+ascending_tail x (y ∷ ys) a = a.1
+
+-- a member at a later place is greater
+pub ascending_at : (xs : List ℕ) (i j : ℕ) → IsAscending xs → i < j → j < length xs → get_or xs i 0 < get_or xs j 0
+ascending_at [] i j a lt inside = absurd (omega (arith, inside))
+ascending_at (x ∷ xs) i zero a lt inside = absurd (omega (arith, lt))
+ascending_at (x ∷ xs) zero (suc j) a lt inside = above_in x xs a (get_or xs j 0) (at_in xs j 0 (omega (arith, inside)))
+ascending_at (x ∷ xs) (suc i) (suc j) a lt inside = ascending_at xs i j (above_ascending x xs a) (omega (arith, lt)) (omega (arith, inside))
+
+-- ---- numbers counted from 1
+
+pub above_suc : (k : ℕ) (xs : List ℕ) → IsAbove k xs → IsAbove (suc k) (map suc xs)
+above_suc k [] h = tt
+above_suc k (x ∷ xs) h = (omega (arith, h.0), above_suc x xs h.1)
+
+pub ascending_suc : (xs : List ℕ) → IsAscending xs → IsAscending (map suc xs)
+ascending_suc [] h = tt
+ascending_suc (x ∷ xs) h = above_suc x xs h
+
+pub above_zero : (xs : List ℕ) → IsAscending xs → IsAbove 0 (map suc xs)
+above_zero [] h = tt
+above_zero (x ∷ xs) h = (omega arith, above_suc x xs h)
+
+-- ---- ranges
+
+pub range_above : (k a n : ℕ) → k < a → IsAbove k (range_with_len a n)
+range_above k a zero lt = tt
+range_above k a (suc n) lt = (lt, range_above a (a + 1) n (omega arith))
+
+pub range_ascending : (a n : ℕ) → IsAscending (range_with_len a n)
+range_ascending a zero = tt
+range_ascending a (suc n) = range_above a (a + 1) n (omega arith)
+
+pub range_bounds : (r a n : ℕ) → IsIn r (range_with_len a n) → (a ≤ r) × (r < a + n)
+range_bounds r a zero i = absurd i
+range_bounds r a (suc n) (inl e) = (omega (arith, e), omega (arith, e))
+range_bounds r a (suc n) (inr i) = let h = range_bounds r (a + 1) n i in (omega (arith, h.0), omega (arith, h.1))
+
+pub in_range : (x a n : ℕ) → a ≤ x → x < a + n → IsIn x (range_with_len a n)
+in_range x a zero l m = absurd (omega (arith, l, m))
+in_range x a (suc n) l m = elim (eq_or x a) [ inl e ↦ inl e | inr ne ↦ inr (in_range x (a + 1) n (after x a l ne) (omega (arith, m))) ]
+  where
+    after : (x a : ℕ) → a ≤ x → (x ≡ a → ⊥) → a + 1 ≤ x
+    after zero zero l ne = absurd (ne refl)
+    after (suc x) zero l ne = omega arith
+    after zero (suc a) l ne = absurd (omega (arith, l))
+    after (suc x) (suc a) l ne = let h = after x a (omega (arith, l)) (λ e. ne (ap suc e)) in omega (arith, h)
+
+pub range_more : (a n j : ℕ) → a + n ≡ j → range_with_len a (n + 1) ≡ range_with_len a n ++ j ∷ []
+range_more a zero j e = ap (λ (k : ℕ). k ∷ []) (let f : a ≡ j = omega (arith, e) in f)
+range_more a (suc n) j e =
+    let same : suc n + 1 ≡ suc (n + 1) = omega arith in
+    let more : range_with_len a (suc n + 1) ≡ range_with_len a (suc (n + 1)) = ap (range_with_len a) same in
+    more ∙ ap (λ (l : List ℕ). a ∷ l) (range_more (a + 1) n j (omega (arith, e)))
