@@ -13,7 +13,7 @@ use Rattle.crn_vec.specs.Elementary.{NamesWide}
 use Rattle.crn_vec.specs.Concordance.{IsTable, IsDiscordant, concordance}
 use Rattle.crn_vec.specs.Influence.{plain_table, strong_table}
 use Rattle.crn_vec.specs.Visits.{PassesBudget}
-use Rattle.crn_vec.proofs.CallerLemmas.{all_in, networks_have_tables, tables_stand}
+use Rattle.crn_vec.proofs.CallerLemmas.{all_in, networks_have_tables, tables_stand, rows_count}
 use Rattle.crn_cert.specs.declared.answer.Answer.{Answer}
 use Rattle.crn_cert.specs.declared.tree.Tree.{Tree}
 use Rattle.crn_cert.specs.Questions.{Earlier, Question, Q14, Q15}
@@ -25,19 +25,16 @@ use Rattle.crn_cert.specs.TreeTests.{tree_tests}
 use Rattle.crn_cert.specs.Formed.{IsFormed, IsBasisOf}
 use Rattle.crn_cert.specs.Valid.{IsValid}
 use Rattle.crn_cert.specs.Answered.{IsAnswer}
-use Rattle.crn_cert.proofs.CallerLemmas.{valid_answers_are_true, tests_decide_valid_trees}
+use Rattle.crn_cert.proofs.CallerLemmas.{valid_answers_are_true, tests_decide_valid_trees, wide_basis, count_places, formed_tree}
 use Rattle.crn_farkas.specs.Decision.{IsSmallSolution}
 use Rattle.crn_sign.specs.declared.end.SearchEnd.{SearchEnd}
 use Rattle.crn_sign.specs.declared.end.SearchEnd.TheVariants.{Found, Refuted, Spent}
 use Rattle.crn_sign.specs.declared.fault.SearchStop.{SearchStop}
 use Rattle.crn_sign.specs.declared.fault.SearchStop.TheVariants.{WideA, WideB, NoMemory}
 use Rattle.crn_sign.specs.Search.{IsSearchEnd, IsSearchStop}
-use Rattle.crn_conc.specs.TreeSizes.{HasFewNodes}
+use Rattle.crn_cert.specs.TreeSizes.{HasFewNodes}
 use Rattle.crn_conc.specs.Inner.Answers.{IsStopAnswer, end_answer, wide_answer}
 use Rattle.crn_conc.specs.Inner.Rows.{AreWide}
-use Rattle.crn_conc.proofs.NetRows.{rows_count}
-use Rattle.crn_conc.proofs.WideGaps.{wide_basis}
-use Rattle.crn_conc.proofs.Sizes.{count_places, formed_tree}
 
 -- the question that a table of the network answers
 pub data Asks (net : Net) : List (List Sign) → Question → Type 0 where
@@ -56,7 +53,7 @@ narrow_prefix zero (x ∷ v) h = tt
 narrow_prefix (suc n) [] h = tt
 narrow_prefix (suc n) (x ∷ v) h = (h 0, narrow_prefix n v (λ k. h (suc k)))
 
-solution_free : (a : Mat) (kinds : List Kind) (x : List ℤ) → IsSmallSolution a kinds x → AreFree a.cols x
+pub solution_free : (a : Mat) (kinds : List Kind) (x : List ℤ) → IsSmallSolution a kinds x → AreFree a.cols x
 solution_free a kinds x s = subst (AreFree a.cols) s.solves.columns (record {
   long = length-take-le a.cols s.v (omega (arith, s.solves.space.long));
   each = narrow_prefix a.cols s.v s.small;

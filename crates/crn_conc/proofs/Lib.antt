@@ -1,8 +1,4 @@
 pub mod CallerLemmas
-mod Rows
-mod NetRows
-mod WideGaps
 mod KindLists
 mod Signs
-mod Sizes
 mod Ended

@@ -3,7 +3,7 @@ ghost use Rattle.crn_vec.specs.declared.limits.TheConstants.{MAX_BUDGET};
 ghost use Rattle.crn_vec.specs.Influence.{plain_table, strong_table};
 ghost use Rattle.crn_cert.specs.Answered.{IsAnswer};
 ghost use Rattle.crn_cert.specs.Questions.{Earlier, Q14, Q15};
-ghost use Rattle.crn_conc.specs.TreeSizes.{HasFewNodes};
+ghost use Rattle.crn_cert.specs.TreeSizes.{HasFewNodes};
 ghost use Rattle.crn_conc.specs.Inner.Answers.{IsStopAnswer, end_answer, wide_answer};
 
 use crate::influence::Influence;

@@ -14,14 +14,14 @@ use Rattle.crn_vec.specs.Vectors.{AreWithin, dot, entry, column}
 use Rattle.crn_vec.specs.Elementary.{InDualSpace}
 use Rattle.crn_vec.specs.Systems.{AreRuling, IsCut, MayWeigh, is_signed, kind_at}
 use Rattle.crn_vec.specs.Concordance.{column_kind, row_kinds}
-use Rattle.crn_vec.proofs.CallerLemmas.{zip_from, kinds_at, weights_tell_cuts, networks_have_tables, lt_or, past_end}
+use Rattle.crn_vec.proofs.CallerLemmas.{zip_from, kinds_at, weights_tell_cuts, networks_have_tables, lt_or, past_end, rows_count, length-rows}
 use Rattle.crn_cert.specs.Ranges.{IsNarrow}
 use Rattle.crn_ctree.specs.Problem.{table_of}
 use Rattle.crn_ctree.specs.declared.problem.Problem.{Problem}
 use Rattle.crn_ctree.specs.declared.cut.Part.{Part}
 use Rattle.crn_ctree.specs.declared.cut.Part.TheVariants.{A, B}
 use Rattle.crn_ctree.specs.Inner.Kinds.{kinds_of, weights_of}
-use Rattle.crn_ctree.proofs.KindLaws.{table_long, rows_long}
+use Rattle.crn_ctree.proofs.KindLaws.{table_long}
 
 pub within_narrow : (u : List ℤ) → AllByRecursion IsNarrow u → AreWithin WIDE_SOLUTION u
 within_narrow [] h = tt
@@ -46,18 +46,18 @@ weight_right net u k le = sym (get_or-append_right (map (λ v. neg_ℤ (dot u v)
 weights_long : (net : Net) (u : List ℤ) → length u ≡ length net.names → length (weights_of net u) ≡ length net.reactions + length net.names
 weights_long net u e = omega (arith, e, columns_long net u, length-append (map (λ v. neg_ℤ (dot u v)) (vectors net)) u)
 
-drop_front : {A : Type 0} (xs ys : List A) (n : ℕ) → length xs ≡ n → drop n (xs ++ ys) ≡ ys
-drop_front [] ys zero e = refl
-drop_front [] ys (suc n) e = absurd (omega (arith, e))
-drop_front (x ∷ xs) ys zero e = absurd (omega (arith, e))
-drop_front (x ∷ xs) ys (suc n) e = drop_front xs ys n (omega (arith, e))
+drop_first : {A : Type 0} (xs ys : List A) (n : ℕ) → length xs ≡ n → drop n (xs ++ ys) ≡ ys
+drop_first [] ys zero e = refl
+drop_first [] ys (suc n) e = absurd (omega (arith, e))
+drop_first (x ∷ xs) ys zero e = absurd (omega (arith, e))
+drop_first (x ∷ xs) ys (suc n) e = drop_first xs ys n (omega (arith, e))
 
 pub weights_end : (net : Net) (u : List ℤ) → drop (length net.reactions) (weights_of net u) ≡ u
-weights_end net u = drop_front (map (λ v. neg_ℤ (dot u v)) (vectors net)) u (length net.reactions) (columns_long net u)
+weights_end net u = drop_first (map (λ v. neg_ℤ (dot u v)) (vectors net)) u (length net.reactions) (columns_long net u)
 
 pub weights_dual : (net : Net) → IsNetwork net → (u : List ℤ) → length u ≡ length net.names → InDualSpace (reaction_system net) (weights_of net u)
 weights_dual net n u e = record {
-  long = omega (arith, weights_long net u e, rows_long net);
+  long = omega (arith, weights_long net u e, rows_count net);
   is = λ j lt.
       sym (weight_left net u j lt)
       ∙ ap (λ (v : List ℤ). neg_ℤ (dot u v)) (sym ((networks_have_tables net n).columns.columns j lt))
@@ -66,19 +66,14 @@ weights_dual net n u e = record {
 
 -- ---- the coordinates, one after another
 
-rows_kinds_long : (n : ℕ) (p : List Sign) → length (row_kinds n p) ≡ n
-rows_kinds_long zero p = refl
-rows_kinds_long (suc n) [] = ap suc (rows_kinds_long n [])
-rows_kinds_long (suc n) (s ∷ p) = ap suc (rows_kinds_long n p)
-
 pub kinds_long : (net : Net) (problem : Problem) (part : Part) (p : List Sign) → length (kinds_of net problem part p) ≡ length net.reactions + length net.names
 kinds_long net problem A p =
     let m = reaction_system net in
     let table = table_of net problem in
-    omega (arith, rows_long net, table_long net problem, length-map table (λ signs. column_kind signs p), length-append (map (λ signs. column_kind signs p) table) (replicate (length m.rows) ZeroKind), length-replicate (length m.rows) ZeroKind)
+    omega (arith, rows_count net, table_long net problem, length-map table (λ signs. column_kind signs p), length-append (map (λ signs. column_kind signs p) table) (replicate (length m.rows) ZeroKind), length-replicate (length m.rows) ZeroKind)
 kinds_long net problem B p =
     let m = reaction_system net in
-    omega (arith, rows_long net, length-append (replicate m.cols Free) (row_kinds (length m.rows) p), length-replicate m.cols Free, rows_kinds_long (length m.rows) p)
+    omega (arith, rows_count net, length-append (replicate m.cols Free) (row_kinds (length m.rows) p), length-replicate m.cols Free, length-rows (length m.rows) p)
 
 -- each of the first n coordinates may have its weight
 abbrev pub MayWeighTo : List Kind → List ℤ → ℕ → Type 0

@@ -8,6 +8,7 @@ use Rattle.crn_cert.specs.Trees.{Plan, Both, Three, RulesA, RulesB, Level, IsFor
 use Rattle.crn_cert.specs.Nodes.{Said, Splits, Flats, CutsA, CutsB, nodes, Fits, behind, Passing, done, then}
 use Rattle.crn_cert.specs.Tests.{Test, test, AllHold, FailsFirst}
 use Rattle.crn_cert.specs.TreeTests.{tree_tests}
+use Rattle.crn_cert.proofs.CallerLemmas.{hold_append}
 use Rattle.crn_ctree.specs.Due.{first}
 use Rattle.crn_ctree.specs.Laws.{code_at, FirstFaultsAreThoseOfTests}
 use Rattle.crn_ctree.proofs.NodeLaws.{children_zero, children_some}
@@ -23,76 +24,72 @@ fails_right : (xs ys : List Test) (part code : ℕ) → AllHold xs → FailsFirs
 fails_right [] ys part code a h = h
 fails_right (t ∷ xs) ys part code a h = inr (a.0, fails_right xs ys part code a.1 h)
 
-hold_both : (xs ys : List Test) → AllHold xs → AllHold ys → AllHold (xs ++ ys)
-hold_both [] ys a b = b
-hold_both (t ∷ xs) ys a b = (a.0, hold_both xs ys a.1 b)
-
 -- ---- nodes that fit, against a tree
 
 -- the nodes end within the tree, and if the next one fails, so does its test
 abbrev Within : Signed → List Test → ℕ → List Said → List (List Sign) → Type 0
 Within w tests part tail due = (node : Said) (more : List Said) → tail ≡ node ∷ more → (Fits w (first due) node → ⊥) → FailsFirst tests part (code_at node)
 
--- the tree's nodes are among them, all its tests hold, and the others fit behind it
-pub record Past (w : Signed) (tests : List Test) (count : ℕ) (rest : List (List Sign)) (front tail after : List Said) (due : List (List Sign)) : Type 0 where
+-- the tree's nodes are among them, all its tests hold, and the others fit after it
+pub record Past (w : Signed) (tests : List Test) (count : ℕ) (rest : List (List Sign)) (start tail after : List Said) (due : List (List Sign)) : Type 0 where
   pub others : List Said
-  pub count_is : length front ≡ count + length others
+  pub count_is : length start ≡ count + length others
   pub hold : AllHold tests
   pub passes : Passing w rest others due
   pub are : after ≡ others ++ tail
 
 abbrev Ends : Signed → List Test → ℕ → ℕ → List (List Sign) → List Said → List Said → List Said → List (List Sign) → Type 0
-Ends w tests part count rest front tail after due = Within w tests (part + length front) tail due ⊎ Past w tests count rest front tail after due
+Ends w tests part count rest start tail after due = Within w tests (part + length start) tail due ⊎ Past w tests count rest start tail after due
 
-recount : (w : Signed) (tests : List Test) (part a b : ℕ) (rest : List (List Sign)) (front tail after : List Said) (due : List (List Sign)) → a ≡ b → Ends w tests part a rest front tail after due → Ends w tests part b rest front tail after due
-recount w tests part a b rest front tail after due e h = subst (λ (n : ℕ). Ends w tests part n rest front tail after due) e h
+recount : (w : Signed) (tests : List Test) (part a b : ℕ) (rest : List (List Sign)) (start tail after : List Said) (due : List (List Sign)) → a ≡ b → Ends w tests part a rest start tail after due → Ends w tests part b rest start tail after due
+recount w tests part a b rest start tail after due e h = subst (λ (n : ℕ). Ends w tests part n rest start tail after due) e h
 
-repart : (w : Signed) (tests : List Test) (a b count : ℕ) (rest : List (List Sign)) (front tail after : List Said) (due : List (List Sign)) → a ≡ b → Ends w tests a count rest front tail after due → Ends w tests b count rest front tail after due
-repart w tests a b count rest front tail after due e h = subst (λ (n : ℕ). Ends w tests n count rest front tail after due) e h
+repart : (w : Signed) (tests : List Test) (a b count : ℕ) (rest : List (List Sign)) (start tail after : List Said) (due : List (List Sign)) → a ≡ b → Ends w tests a count rest start tail after due → Ends w tests b count rest start tail after due
+repart w tests a b count rest start tail after due e h = subst (λ (n : ℕ). Ends w tests n count rest start tail after due) e h
 
 -- one node
-one_node : (w : Signed) (part : ℕ) (p : List Sign) (rest : List (List Sign)) (node : Said) (front tail after : List Said) (due : List (List Sign)) → node ∷ after ≡ front ++ tail → Passing w (p ∷ rest) front due
-    → Ends w (test part (code_at node) (Fits w p node) ∷ []) part 1 (behind p rest node) front tail after due
+one_node : (w : Signed) (part : ℕ) (p : List Sign) (rest : List (List Sign)) (node : Said) (start tail after : List Said) (due : List (List Sign)) → node ∷ after ≡ start ++ tail → Passing w (p ∷ rest) start due
+    → Ends w (test part (code_at node) (Fits w p node) ∷ []) part 1 (behind p rest node) start tail after due
 one_node w part p rest node [] tail after due h done = inl (λ n more g bad.
     let e : node ≡ n = cc in
     inl ((λ t. bad (subst (λ (s : Said). Fits w p s) e t)), omega arith, ap code_at e))
-one_node w part p rest node (x ∷ front) tail after due h (then fits g) =
+one_node w part p rest node (x ∷ start) tail after due h (then fits g) =
     let e : x ≡ node = cc in
-    let t : after ≡ front ++ tail = cc in
-    inr (record { others = front; count_is = omega arith; hold = (subst (λ (s : Said). Fits w p s) e fits, tt); passes = subst (λ (s : Said). Passing w (behind p rest s) front due) e g; are = t })
+    let t : after ≡ start ++ tail = cc in
+    inr (record { others = start; count_is = omega arith; hold = (subst (λ (s : Said). Fits w p s) e fits, tt); passes = subst (λ (s : Said). Passing w (behind p rest s) start due) e g; are = t })
 
 -- some nodes, and then others
-then_ends : (w : Signed) (one two : List Test) (part a b : ℕ) (mid rest : List (List Sign)) (front tail between after : List Said) (due : List (List Sign)) → Ends w one part a mid front tail between due
-    → ((others : List Said) → Passing w mid others due → between ≡ others ++ tail → Ends w two (part + a) b rest others tail after due) → Ends w (one ++ two) part (a + b) rest front tail after due
-then_ends w one two part a b mid rest front tail between after due (inl within) next = inl (λ n more g bad. fails_left one two (part + length front) (code_at n) (within n more g bad))
-then_ends w one two part a b mid rest front tail between after due (inr past) next = elim (next past.others past.passes past.are) as (λ _. Ends w (one ++ two) part (a + b) rest front tail after due) [
+then_ends : (w : Signed) (one two : List Test) (part a b : ℕ) (mid rest : List (List Sign)) (start tail between after : List Said) (due : List (List Sign)) → Ends w one part a mid start tail between due
+    → ((others : List Said) → Passing w mid others due → between ≡ others ++ tail → Ends w two (part + a) b rest others tail after due) → Ends w (one ++ two) part (a + b) rest start tail after due
+then_ends w one two part a b mid rest start tail between after due (inl within) next = inl (λ n more g bad. fails_left one two (part + length start) (code_at n) (within n more g bad))
+then_ends w one two part a b mid rest start tail between after due (inr past) next = elim (next past.others past.passes past.are) as (λ _. Ends w (one ++ two) part (a + b) rest start tail after due) [
   | inl within ↦ inl (λ n more g bad.
-      let e : part + a + length past.others ≡ part + length front = omega (arith, past.count_is) in
-      fails_right one two (part + length front) (code_at n) past.hold (subst (λ (k : ℕ). FailsFirst two k (code_at n)) e (within n more g bad)))
-  | inr more ↦ inr (record { others = more.others; count_is = omega (arith, past.count_is, more.count_is); hold = hold_both one two past.hold more.hold; passes = more.passes; are = more.are })
+      let e : part + a + length past.others ≡ part + length start = omega (arith, past.count_is) in
+      fails_right one two (part + length start) (code_at n) past.hold (subst (λ (k : ℕ). FailsFirst two k (code_at n)) e (within n more g bad)))
+  | inr more ↦ inr (record { others = more.others; count_is = omega (arith, past.count_is, more.count_is); hold = hold_append one two past.hold more.hold; passes = more.passes; are = more.are })
 ]
 
-ends : (w : Signed) (ra rb part : ℕ) (tree : Plan) (p : List Sign) (rest : List (List Sign)) (front tail after : List Said) (due : List (List Sign)) → IsFormedTree w.choices ra rb p tree → nodes tree ++ after ≡ front ++ tail → Passing w (p ∷ rest) front due
-    → Ends w (tree_tests (Fits w) part p tree) part (node_count tree) rest front tail after due
-ends w ra rb part (RulesA u) p rest front tail after due f h g = one_node w part p rest (CutsA u) front tail after due h g
-ends w ra rb part (RulesB u) p rest front tail after due f h g = one_node w part p rest (CutsB u) front tail after due h g
-ends w ra rb part Level p rest front tail after due f h g = one_node w part p rest Flats front tail after due h g
-ends w ra rb part (Both z q) p rest front tail after due f h g =
+ends : (w : Signed) (ra rb part : ℕ) (tree : Plan) (p : List Sign) (rest : List (List Sign)) (start tail after : List Said) (due : List (List Sign)) → IsFormedTree w.choices ra rb p tree → nodes tree ++ after ≡ start ++ tail → Passing w (p ∷ rest) start due
+    → Ends w (tree_tests (Fits w) part p tree) part (node_count tree) rest start tail after due
+ends w ra rb part (RulesA u) p rest start tail after due f h g = one_node w part p rest (CutsA u) start tail after due h g
+ends w ra rb part (RulesB u) p rest start tail after due f h g = one_node w part p rest (CutsB u) start tail after due h g
+ends w ra rb part Level p rest start tail after due f h g = one_node w part p rest Flats start tail after due h g
+ends w ra rb part (Both z q) p rest start tail after due f h g =
     let zs = tree_tests (Fits w) (part + 1) (p ++ Zero ∷ []) z in
     let qs = tree_tests (Fits w) (part + 1 + node_count z) (p ++ Plus ∷ []) q in
-    recount w (tree_tests (Fits w) part p (Both z q)) part (1 + (node_count z + node_count q)) (node_count (Both z q)) rest front tail after due (omega arith)
-    (then_ends w (test part 42 (Fits w p Splits) ∷ []) (zs ++ qs) part 1 (node_count z + node_count q) (behind p rest Splits) rest front tail ((nodes z ++ nodes q) ++ after) after due (one_node w part p rest Splits front tail ((nodes z ++ nodes q) ++ after) due h g)
+    recount w (tree_tests (Fits w) part p (Both z q)) part (1 + (node_count z + node_count q)) (node_count (Both z q)) rest start tail after due (omega arith)
+    (then_ends w (test part 42 (Fits w p Splits) ∷ []) (zs ++ qs) part 1 (node_count z + node_count q) (behind p rest Splits) rest start tail ((nodes z ++ nodes q) ++ after) after due (one_node w part p rest Splits start tail ((nodes z ++ nodes q) ++ after) due h g)
     (λ others go e. then_ends w zs qs (part + 1) (node_count z) (node_count q) ((p ++ Plus ∷ []) ∷ rest) rest others tail (nodes q ++ after) after due
     (ends w ra rb (part + 1) z (p ++ Zero ∷ []) ((p ++ Plus ∷ []) ∷ rest) others tail (nodes q ++ after) due f.2 (sym (append_assoc (nodes z) (nodes q) after) ∙ e) (subst (λ (d : List (List Sign)). Passing w d others due) (children_zero p rest f.1) go))
     (λ others' go' e'. ends w ra rb (part + 1 + node_count z) q (p ++ Plus ∷ []) rest others' tail after due f.3 e' go')))
-ends w ra rb part (Three z q m) p rest front tail after due f h g =
+ends w ra rb part (Three z q m) p rest start tail after due f h g =
     let zs = tree_tests (Fits w) (part + 1) (p ++ Zero ∷ []) z in
     let qs = tree_tests (Fits w) (part + 1 + node_count z) (p ++ Plus ∷ []) q in
     let ms = tree_tests (Fits w) (part + 1 + node_count z + node_count q) (p ++ Minus ∷ []) m in
     let two = node_count z + node_count q in
     let between = (nodes z ++ nodes q ++ nodes m) ++ after in
-    recount w (tree_tests (Fits w) part p (Three z q m)) part (1 + (two + node_count m)) (node_count (Three z q m)) rest front tail after due (omega arith)
-    (then_ends w (test part 42 (Fits w p Splits) ∷ []) ((zs ++ qs) ++ ms) part 1 (two + node_count m) (behind p rest Splits) rest front tail between after due (one_node w part p rest Splits front tail between due h g)
+    recount w (tree_tests (Fits w) part p (Three z q m)) part (1 + (two + node_count m)) (node_count (Three z q m)) rest start tail after due (omega arith)
+    (then_ends w (test part 42 (Fits w p Splits) ∷ []) ((zs ++ qs) ++ ms) part 1 (two + node_count m) (behind p rest Splits) rest start tail between after due (one_node w part p rest Splits start tail between due h g)
     (λ others go e. then_ends w (zs ++ qs) ms (part + 1) two (node_count m) ((p ++ Minus ∷ []) ∷ rest) rest others tail (nodes m ++ after) after due
     (then_ends w zs qs (part + 1) (node_count z) (node_count q) ((p ++ Plus ∷ []) ∷ (p ++ Minus ∷ []) ∷ rest) ((p ++ Minus ∷ []) ∷ rest) others tail (nodes q ++ (nodes m ++ after)) (nodes m ++ after) due
     (ends w ra rb (part + 1) z (p ++ Zero ∷ []) ((p ++ Plus ∷ []) ∷ (p ++ Minus ∷ []) ∷ rest) others tail (nodes q ++ (nodes m ++ after)) due f.2
@@ -106,7 +103,7 @@ no_rest [] node more e = absurd cc
 no_rest (x ∷ others) node more e = absurd cc
 
 pub first_faults : FirstFaultsAreThoseOfTests
-first_faults w ra rb part tree front more node due formed are passes bad = elim (ends w ra rb part tree [] [] front (node ∷ more) [] due formed (append-nil (nodes tree) ∙ are) passes) as (λ _. FailsFirst (tree_tests (Fits w) part [] tree) (part + length front) (code_at node)) [
+first_faults w ra rb part tree start more node due formed are passes bad = elim (ends w ra rb part tree [] [] start (node ∷ more) [] due formed (append-nil (nodes tree) ∙ are) passes) as (λ _. FailsFirst (tree_tests (Fits w) part [] tree) (part + length start) (code_at node)) [
   | inl within ↦ within node more refl bad
   | inr past ↦ absurd (no_rest past.others node more past.are)
 ]

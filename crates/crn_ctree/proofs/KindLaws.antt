@@ -9,31 +9,18 @@ use Rattle.crn_vec.specs.declared.signs.Kind.{Kind}
 use Rattle.crn_vec.specs.declared.signs.Kind.TheVariants.{Free, Zero as ZeroKind}
 use Rattle.crn_vec.specs.Network.{Net, minus, sides_of, reaction_vector}
 use Rattle.crn_vec.specs.Vectors.{Mat, HasSign, column}
-use Rattle.std.specs.List.{range_with_len}
-use Rattle.std.proofs.lemmas.List.FromFn.{length-range_with_len}
 use Rattle.crn_vec.specs.Systems.{kind_at}
 use Rattle.crn_vec.specs.Problems.{opposite, all_zero}
-use Rattle.crn_vec.specs.Concordance.{sign, product, products, is_plus, is_minus, some_sign, kind_of_sum, column_kind, kind_of_sign, row_kinds, kinds_a_of, kinds_b_of}
+use Rattle.crn_vec.specs.Concordance.{sign, product, products, is_plus, is_minus, some_sign, kind_of_sum, column_kind, row_kinds, kinds_a_of, kinds_b_of}
 use Rattle.crn_vec.specs.Deficiency.{vectors}
 use Rattle.crn_vec.specs.Influence.{strong_table}
-use Rattle.crn_vec.specs.NetSystems.{by_species}
+use Rattle.crn_vec.proofs.CallerLemmas.{sign_is}
 use Rattle.crn_ctree.specs.Problem.{table_of}
 use Rattle.crn_ctree.specs.declared.problem.Problem.{Problem}
 use Rattle.crn_ctree.specs.declared.problem.Problem.TheVariants.{Plain, Strong}
 use Rattle.crn_ctree.specs.Inner.Kinds.{column_from, opposite_kind}
 
 -- ---- signs
-
-pub sign_is : (s : Sign) (x : ℤ) → HasSign s x → s ≡ sign x
-sign_is Zero (pos zero) h = refl
-sign_is Zero (pos (suc n)) h = absurd (omega (arith, ints, h))
-sign_is Zero (negsuc n) h = absurd (omega (arith, ints, h))
-sign_is Plus (pos zero) h = absurd (omega (arith, ints, h))
-sign_is Plus (pos (suc n)) h = refl
-sign_is Plus (negsuc n) h = absurd (omega (arith, ints, h))
-sign_is Minus (pos zero) h = absurd (omega (arith, ints, h))
-sign_is Minus (pos (suc n)) h = absurd (omega (arith, ints, h))
-sign_is Minus (negsuc n) h = refl
 
 -- a number of each sign
 abbrev number_of : Sign → ℤ
@@ -87,14 +74,14 @@ column_lowered raised lowered s t ss p e =
     ap (λ (u : Sign). cond (all_zero (drop (length p) ss)) (kind_of_sum (raised || cond (is_plus u) true (some_sign is_plus (products ss p))) (lowered || cond (is_minus u) true (some_sign is_minus (products ss p)))) Free) e
     ∙ ap (λ (b : Bool). cond (all_zero (drop (length p) ss)) (kind_of_sum (raised || some_sign is_plus (products ss p)) b) Free) (or_true lowered)
 
-behind_first : {A : Type 0} (x : A) (xs : List A) → take (length (x ∷ xs) - 1) xs ≡ xs
-behind_first x xs = let e : length (x ∷ xs) - 1 ≡ length xs = omega arith in rw e (take_all (length xs) xs (omega arith))
+after_first : {A : Type 0} (x : A) (xs : List A) → take (length (x ∷ xs) - 1) xs ≡ xs
+after_first x xs = let e : length (x ∷ xs) - 1 ≡ length xs = omega arith in rw e (take_all (length xs) xs (omega arith))
 
 pub first_open : (raised lowered : Bool) (xs : List ℤ) (p : List Sign) (κ : Kind) → 1 ≤ length xs → length p < 1 → get_or xs 0 (pos 0) ≡ pos 0 → κ ≡ column_from raised lowered (map sign (take (length xs - 1) (drop 1 xs))) p → κ ≡ column_from raised lowered (map sign xs) p
 first_open raised lowered [] p κ l g z h = absurd (omega (arith, l))
 first_open raised lowered (x ∷ xs) (t ∷ p) κ l g z h = absurd (omega (arith, g))
 first_open raised lowered (x ∷ xs) [] κ l g z h =
-    h ∙ ap (λ (ys : List ℤ). column_from raised lowered (map sign ys) []) (behind_first x xs)
+    h ∙ ap (λ (ys : List ℤ). column_from raised lowered (map sign ys) []) (after_first x xs)
     ∙ sym (column_closed raised lowered (map sign xs))
     ∙ ap (λ (y : ℤ). column_from raised lowered (sign y ∷ map sign xs) []) (sym z)
 
@@ -102,17 +89,17 @@ first_open raised lowered (x ∷ xs) [] κ l g z h =
 pub first_none : (raised lowered : Bool) (xs : List ℤ) (p : List Sign) (r : Sign) (κ : Kind) → 1 ≤ length xs → 1 ≤ length p → r ≡ product (sign (get_or xs 0 (pos 0))) (get_or p 0 Zero) → r ≡ Zero → κ ≡ column_from raised lowered (map sign (take (length xs - 1) (drop 1 xs))) (take (length p - 1) (drop 1 p)) → κ ≡ column_from raised lowered (map sign xs) p
 first_none raised lowered [] p r κ l g e z h = absurd (omega (arith, l))
 first_none raised lowered (x ∷ xs) [] r κ l g e z h = absurd (omega (arith, g))
-first_none raised lowered (x ∷ xs) (t ∷ p) r κ l g e z h = h ∙ ap₂ (λ (ys : List ℤ) (q : List Sign). column_from raised lowered (map sign ys) q) (behind_first x xs) (behind_first t p) ∙ sym (column_more raised lowered (sign x) t (map sign xs) p (sym e ∙ z))
+first_none raised lowered (x ∷ xs) (t ∷ p) r κ l g e z h = h ∙ ap₂ (λ (ys : List ℤ) (q : List Sign). column_from raised lowered (map sign ys) q) (after_first x xs) (after_first t p) ∙ sym (column_more raised lowered (sign x) t (map sign xs) p (sym e ∙ z))
 
 pub first_raises : (raised lowered : Bool) (xs : List ℤ) (p : List Sign) (r : Sign) (κ : Kind) → 1 ≤ length xs → 1 ≤ length p → r ≡ product (sign (get_or xs 0 (pos 0))) (get_or p 0 Zero) → r ≡ Plus → κ ≡ column_from true lowered (map sign (take (length xs - 1) (drop 1 xs))) (take (length p - 1) (drop 1 p)) → κ ≡ column_from raised lowered (map sign xs) p
 first_raises raised lowered [] p r κ l g e z h = absurd (omega (arith, l))
 first_raises raised lowered (x ∷ xs) [] r κ l g e z h = absurd (omega (arith, g))
-first_raises raised lowered (x ∷ xs) (t ∷ p) r κ l g e z h = h ∙ ap₂ (λ (ys : List ℤ) (q : List Sign). column_from true lowered (map sign ys) q) (behind_first x xs) (behind_first t p) ∙ sym (column_raised raised lowered (sign x) t (map sign xs) p (sym e ∙ z))
+first_raises raised lowered (x ∷ xs) (t ∷ p) r κ l g e z h = h ∙ ap₂ (λ (ys : List ℤ) (q : List Sign). column_from true lowered (map sign ys) q) (after_first x xs) (after_first t p) ∙ sym (column_raised raised lowered (sign x) t (map sign xs) p (sym e ∙ z))
 
 pub first_lowers : (raised lowered : Bool) (xs : List ℤ) (p : List Sign) (r : Sign) (κ : Kind) → 1 ≤ length xs → 1 ≤ length p → r ≡ product (sign (get_or xs 0 (pos 0))) (get_or p 0 Zero) → r ≡ Minus → κ ≡ column_from raised true (map sign (take (length xs - 1) (drop 1 xs))) (take (length p - 1) (drop 1 p)) → κ ≡ column_from raised lowered (map sign xs) p
 first_lowers raised lowered [] p r κ l g e z h = absurd (omega (arith, l))
 first_lowers raised lowered (x ∷ xs) [] r κ l g e z h = absurd (omega (arith, g))
-first_lowers raised lowered (x ∷ xs) (t ∷ p) r κ l g e z h = h ∙ ap₂ (λ (ys : List ℤ) (q : List Sign). column_from raised true (map sign ys) q) (behind_first x xs) (behind_first t p) ∙ sym (column_lowered raised lowered (sign x) t (map sign xs) p (sym e ∙ z))
+first_lowers raised lowered (x ∷ xs) (t ∷ p) r κ l g e z h = h ∙ ap₂ (λ (ys : List ℤ) (q : List Sign). column_from raised true (map sign ys) q) (after_first x xs) (after_first t p) ∙ sym (column_lowered raised lowered (sign x) t (map sign xs) p (sym e ∙ z))
 
 -- ---- the strong table has the signs opposite to the reaction vectors
 
@@ -191,22 +178,6 @@ strong_column net r v p κ κ' lt e h g =
 pub table_long : (net : Net) (problem : Problem) → length (table_of net problem) ≡ length net.reactions
 table_long net Plain = length-map net.reactions (λ r. map sign (sides_of net r).0)
 table_long net Strong = length-map net.reactions (λ r. map sign (minus (sides_of net r).0 (sides_of net r).1))
-
-pub rows_long : (net : Net) → length (by_species net (vectors net)) ≡ length net.names
-rows_long net = length-map (range_with_len 0 (length net.names)) (column (vectors net)) ∙ length-range_with_len 0 (length net.names)
-
-pub row_chosen : (n s : ℕ) (p : List Sign) → s < n → s < length p → kind_of_sign (get_or p s Zero) ≡ kind_at (row_kinds n p) s
-row_chosen zero s p h g = absurd (omega (arith, h))
-row_chosen (suc n) s [] h g = absurd (omega (arith, g))
-row_chosen (suc n) zero (t ∷ p) h g = refl
-row_chosen (suc n) (suc s) (t ∷ p) h g = row_chosen n s p (omega (arith, h)) (omega (arith, g))
-
-pub row_open : (n s : ℕ) (p : List Sign) → s < n → length p ≤ s → Free ≡ kind_at (row_kinds n p) s
-row_open zero s p h g = absurd (omega (arith, h))
-row_open (suc n) zero [] h g = refl
-row_open (suc n) (suc s) [] h g = row_open n s [] (omega (arith, h)) (omega arith)
-row_open (suc n) zero (t ∷ p) h g = absurd (omega (arith, g))
-row_open (suc n) (suc s) (t ∷ p) h g = row_open n s p (omega (arith, h)) (omega (arith, g))
 
 pub column_at : (m : Mat) (table : List (List Sign)) (p : List Sign) (k : ℕ) → k < length table → column_kind (get_or table k []) p ≡ kind_at (kinds_a_of m table p) k
 column_at m table p k lt =

@@ -17,7 +17,7 @@ children_zero p rest e = ap (λ (b : Bool). map (λ s. p ++ s ∷ []) (options_b
 pub children_some : (p : List Sign) (rest : List (List Sign)) → all_zero p ≡ false → children p ++ rest ≡ (p ++ Zero ∷ []) ∷ (p ++ Plus ∷ []) ∷ (p ++ Minus ∷ []) ∷ rest
 children_some p rest e = ap (λ (b : Bool). map (λ s. p ++ s ∷ []) (options_below b) ++ rest) e
 
--- a valid tree's nodes pass, and leave what was due behind it
+-- a valid tree's nodes pass, and leave what was due after it
 pub valid_passes : (w : Signed) (tree : Plan) (p : List Sign) (rest : List (List Sign)) → IsValid w p tree → Passing w (p ∷ rest) (nodes tree) rest
 valid_passes w (RulesA u) p rest v = then v done
 valid_passes w (RulesB u) p rest v = then v done
@@ -35,7 +35,7 @@ valid_passes w (Three z q m) p rest v =
 
 -- ---- the other way: nodes that pass until nothing is due are those of one valid tree after another
 
--- the nodes of the first prefix that is due, and those behind them
+-- the nodes of the first prefix that is due, and those after them
 pub record FirstTree (w : Signed) (p : List Sign) (rest : List (List Sign)) (said : List Said) : Type 0 where
   pub tree : Plan
   pub more : List Said

@@ -17,17 +17,13 @@ use Rattle.crn_vec.specs.Vectors.{dot, entry, column}
 use Rattle.crn_vec.specs.Systems.{HasKind}
 use Rattle.crn_vec.specs.Problems.{all_zero}
 use Rattle.crn_vec.specs.Concordance.{IsDiscordant, GoesWith, IsNought, HasPositive, HasNegative, image, shares, signed_by, sign, product, products, is_plus, is_minus, some_sign, kind_of_sum, column_kind, IsTable}
-use Rattle.crn_vec.proofs.CallerLemmas.{entry-column, length-column, networks_have_tables}
+use Rattle.crn_vec.proofs.CallerLemmas.{entry-column, networks_have_tables, rows_count}
 use Rattle.crn_ctree.specs.Inner.Pairs.{AreOfColumns}
 use Rattle.crn_ctree.specs.Problem.{table_of}
 use Rattle.crn_ctree.specs.declared.problem.Problem.{Problem}
 use Rattle.crn_ctree.specs.declared.problem.Problem.TheVariants.{Plain, Strong}
-use Rattle.crn_ctree.proofs.KindLaws.{rows_long}
 
 -- ---- the sum of the reaction vectors
-
-pub vectors_count : (net : Net) (s : ℕ) → length (column (vectors net) s) ≡ length net.reactions
-vectors_count net s = length-column (vectors net) s ∙ length-map net.reactions (reaction_vector net)
 
 pub vector_entry : (net : Net) (s r : ℕ) → r < length net.reactions → entry (column (vectors net) s) r ≡ entry (reaction_vector net (get_or net.reactions r (0, 0))) s
 vector_entry net s r lt = entry-column (vectors net) s r ∙ ap (λ (v : List ℤ). entry v s) (get_or-map (reaction_vector net) net.reactions r (0, 0) [] lt)
@@ -36,10 +32,10 @@ vector_entry net s r lt = entry-column (vectors net) s r ∙ ap (λ (v : List �
 pub image_entry : (net : Net) (z : List ℤ) (s : ℕ) → s < length net.names → dot (column (vectors net) s) z ≡ entry (image (reaction_system net) z) s
 image_entry net z s lt =
     ap (λ (row : List ℤ). dot row z) (sym (get_or-map-range_with_len (column (vectors net)) 0 (length net.names) s s [] lt (omega arith)))
-    ∙ sym (get_or-map (λ row. dot row z) (by_species net (vectors net)) s [] (pos 0) (omega (arith, lt, rows_long net)))
+    ∙ sym (get_or-map (λ row. dot row z) (by_species net (vectors net)) s [] (pos 0) (omega (arith, lt, rows_count net)))
 
 pub image_long : (net : Net) (z : List ℤ) → length (image (reaction_system net) z) ≡ length net.names
-image_long net z = length-map (by_species net (vectors net)) (λ row. dot row z) ∙ rows_long net
+image_long net z = length-map (by_species net (vectors net)) (λ row. dot row z) ∙ rows_count net
 
 -- a list of its signs at all species
 pub signs_are : (net : Net) (z : List ℤ) (signs : List Sign) → length signs ≡ length net.names → ((s : ℕ) → s < length net.names → get_or signs s Zero ≡ sign (entry (image (reaction_system net) z) s)) → signs ≡ map sign (image (reaction_system net) z)
@@ -197,7 +193,7 @@ is_table net n Plain = (networks_have_tables net n).plain
 is_table net n Strong = (networks_have_tables net n).strong
 
 rows_as_long : (net : Net) → IsNetwork net → (problem : Problem) (z : List ℤ) → AllByRecursion (λ ss. length ss ≡ length (image (reaction_system net) z)) (table_of net problem)
-rows_as_long net n problem z = subst (λ (k : ℕ). AllByRecursion (λ (ss : List Sign). length ss ≡ k) (table_of net problem)) (rows_long net ∙ sym (image_long net z)) (is_table net n problem).species
+rows_as_long net n problem z = subst (λ (k : ℕ). AllByRecursion (λ (ss : List Sign). length ss ≡ k) (table_of net problem)) (rows_count net ∙ sym (image_long net z)) (is_table net n problem).species
 
 pub shown : (net : Net) → IsNetwork net → (problem : Problem) (alpha weights : List ℤ) → length alpha ≡ length net.reactions → length weights ≡ length net.reactions
     → all_zero (map sign (image (reaction_system net) alpha)) ≡ true → all_zero (map sign (image (reaction_system net) weights)) ≡ false → AreOfColumns (table_of net problem) (map sign (image (reaction_system net) weights)) alpha

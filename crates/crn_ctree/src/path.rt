@@ -2,7 +2,7 @@ ghost use Rattle.std.specs.Prelude.{◌≡◌, ◌≢◌, ◌<◌, ◌≤◌, �
 ghost use Rattle.crn_vec.specs.Problems.{children};
 ghost use Rattle.crn_vec.specs.Visits.{root};
 ghost use Rattle.crn_ctree.specs.Due.{first, rest};
-ghost use Rattle.crn_ctree.specs.Inner.Paths.{due_behind, due_by};
+ghost use Rattle.crn_ctree.specs.Inner.Paths.{due_after, due_by};
 
 use crate::node::is_all_zero;
 use crn_vec::{NoMemory, Sign};
@@ -31,7 +31,7 @@ impl Model for Path {
 
 // Leads the path on to what is due after it, and says whether nothing is.
 fn lead_on(options: &mut Vec<Sign>) -> bool
-    ensures due { due_by result options.new.items ≡ due_behind [] options.old.items }
+    ensures due { due_by result options.new.items ≡ due_after [] options.old.items }
     ensures room { vec_capacity options.new ≡ vec_capacity options.old }
     ensures length { vec_len options.new ≤ vec_len options.old }
 {

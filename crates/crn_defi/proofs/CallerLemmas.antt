@@ -4,9 +4,9 @@
 pub use Rattle.crn_defi.proofs.Callers.{true_or_open, deficiencies_rest, zero_rests}
 -- The data of strong classes that pass their tests are right.
 pub use Rattle.crn_defi.proofs.Callers.{linkage_right, strong_right}
--- Ranges and filters with one more member at the end, and tests that find no member.
-pub use Rattle.crn_defi.proofs.Places.{in_range, filter_of, range_more, filter_yes, filter_no}
-pub use Rattle.crn_defi.proofs.TerminalCounts.{and_true, and_no, any_has, any_push}
+-- Ranges and filters with one more member at the end, and tests that find a member, or none.
+pub use Rattle.crn_vec.proofs.CallerLemmas.{in_range, filter_from as filter_of, range_more, filter_yes, filter_no, and_true}
+pub use Rattle.crn_defi.proofs.TerminalCounts.{and_no, any_has, any_push}
 -- Independent vectors of the confluence space: no more than the deficiency says, and as many.
 pub use Rattle.crn_defi.proofs.SpaceFew.{space_few}
 pub use Rattle.crn_defi.proofs.SpaceSome.{SpaceBase, space_some}

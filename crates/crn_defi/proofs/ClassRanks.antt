@@ -9,7 +9,7 @@ use Rattle.crn_vec.specs.Deficiency.{IsLabelled, class_reactions, class_vectors,
 use Rattle.crn_cert.specs.declared.answer.RankProof.{RankProof}
 use Rattle.crn_cert.specs.Questions.{Earlier}
 use Rattle.crn_cert.specs.Ranges.{IsFrom}
-use Rattle.crn_cert.specs.Tests.{Test, AllHold}
+use Rattle.crn_cert.specs.Tests.{AllHold}
 use Rattle.crn_cert.specs.RankTests.{rank_tests}
 use Rattle.crn_vec.specs.Vectors.{Mat}
 use Rattle.crn_vec.specs.Elementary.{NamesWide}
@@ -17,7 +17,8 @@ use Rattle.crn_vec.specs.NetSystems.{class_system}
 use Rattle.crn_rank.specs.Rank.{AreMembers, member_matrix, ProvesRank}
 use Rattle.crn_cert.specs.Formed.{IsRankProof, IsClassProof, AreClassProofs}
 use Rattle.crn_cert.specs.Valid.{linkage, class_places, IsClassNumber, AreClassNumbers, class_rank_tests}
-use Rattle.crn_defi.specs.Inner.Ranked.{reactions_of, IsClass, IsClassRank, AreClassRanks}
+use Rattle.crn_cert.proofs.CallerLemmas.{hold_append}
+use Rattle.crn_defi.specs.Inner.ClassRanks.{reactions_of, IsClass, IsClassRank, AreClassRanks}
 use Rattle.crn_defi.proofs.Places.{class_reaction, class_some, vectors_are, reactions_count, reactions_ascend, reactions_inside}
 use Rattle.crn_defi.proofs.Counted.{rank_from, class_rank_leaves}
 
@@ -79,17 +80,13 @@ class_numbers net earlier k (d ∷ ds) (q ∷ proofs) n l c h = (
   class_numbers net earlier (suc k) ds proofs n l (λ j from below. c j (omega (arith, from)) (omega (arith, below))) h.1,
 )
 
-hold_both : (ss ts : List Test) → AllHold ss → AllHold ts → AllHold (ss ++ ts)
-hold_both [] ts h g = g
-hold_both (s ∷ ss) ts h g = (h.0, hold_both ss ts h.1 g)
-
 pub class_tests : (net : Net) (earlier : Earlier) (part k : ℕ) (ds : List ℕ) (proofs : List RankProof) → AreClassRanks net (linkage earlier) k ds proofs → AllHold (class_rank_tests net earlier part k proofs)
 class_tests net earlier part k [] [] h = tt
 class_tests net earlier part k [] (q ∷ proofs) h = absurd h
 class_tests net earlier part k (d ∷ ds) [] h = absurd h
 class_tests net earlier part k (d ∷ ds) (q ∷ proofs) h =
     let later = part + 1 + length q.duals + length q.combs in
-    hold_both (rank_tests net (class_places net earlier k) part q.base.list q.duals q.combs) (class_rank_tests net earlier later (suc k) proofs) (h.0.proves.holds part) (class_tests net earlier later (suc k) ds proofs h.1)
+    hold_append (rank_tests net (class_places net earlier k) part q.base.list q.duals q.combs) (class_rank_tests net earlier later (suc k) proofs) (h.0.proves.holds part) (class_tests net earlier later (suc k) ds proofs h.1)
 
 pub class_each : (net : Net) (labels : List ℕ) (j : ℕ) (ds : List ℕ) (proofs : List RankProof) → AreClassRanks net labels j ds proofs → (k : ℕ) → k < length ds → IsClassDeficiency net labels (j + k) (get_or ds k 0)
 class_each net labels j [] proofs h k lt = absurd (omega (arith, lt))

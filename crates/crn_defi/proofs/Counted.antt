@@ -12,12 +12,13 @@ use Rattle.crn_vec.specs.Walks.{AreApart, IsNumberOf}
 use Rattle.crn_vec.specs.Vectors.{entry, AreOfLength}
 use Rattle.crn_vec.specs.Rank.{IsZero, IsIndependent, IsChoice, IsRank}
 use Rattle.crn_vec.specs.Deficiency.{vectors, IsComplex, IsLabelled, class_reactions, class_vectors, class_members}
-use Rattle.crn_vec.proofs.CallerLemmas.{all_in, all_from, same_place, vector_long, length-minus, lt_or, no_zero, is_zero, comb, entry-comb, Zero, too_many}
+use Rattle.crn_vec.proofs.CallerLemmas.{all_in, all_from, same_place, vector_long, length-minus, lt_or, no_zero, is_zero, comb, entry-comb, Zero, too_many, in_range}
+use Rattle.crn_vec.proofs.CallerLemmas.{filter_distinct}
 use Rattle.crn_cert.specs.Ranges.{IsFrom}
 use Rattle.crn_cert.specs.Says.{AreLinkageClasses}
-use Rattle.crn_defi.specs.Inner.Ranked.{IsClass}
+use Rattle.crn_defi.specs.Inner.ClassRanks.{IsClass}
 use Rattle.crn_defi.proofs.Weights.{zero_from, few_together}
-use Rattle.crn_defi.proofs.Places.{in_range, range_distinct, filter_distinct, complexes_at, size_is, in_class, one_label, class_reaction, taken, taken_vectors, taken_in}
+use Rattle.crn_defi.proofs.Places.{range_distinct, complexes_at, size_is, in_class, one_label, class_reaction, taken, taken_vectors, taken_in}
 
 -- ---- one complex of each class
 

@@ -23,10 +23,10 @@ use Rattle.crn_cert.specs.Valid.{linkage, linkage_count, IsValid, IsLeft}
 use Rattle.crn_cert.specs.Licensed.{IsClassWide}
 use Rattle.crn_cert.specs.Answered.{IsAnswer}
 use Rattle.crn_cert.specs.Given.{GiveRank}
-use Rattle.crn_defi.specs.Inner.Ranked.{reactions_of, IsClass, AreClassRanks}
+use Rattle.crn_cert.proofs.CallerLemmas.{wide_basis}
+use Rattle.crn_defi.specs.Inner.ClassRanks.{reactions_of, IsClass, AreClassRanks}
 use Rattle.crn_defi.proofs.Places.{reactions_count}
 use Rattle.crn_defi.proofs.Counted.{number_of_classes}
-use Rattle.crn_defi.proofs.WideGaps.{wide_basis}
 use Rattle.crn_defi.proofs.ClassRanks.{class_proofs, class_numbers, class_tests, class_each, class_bounds}
 
 -- what is left of the complexes, by the rank that earlier verdicts give

@@ -9,7 +9,7 @@ use Rattle.crn_vec.specs.Lists.{IsIn}
 use Rattle.crn_vec.specs.Vectors.{entry, dot, column, AreOfLength}
 use Rattle.crn_vec.specs.Rank.{IsZero, combination_at, IsIndependent}
 use Rattle.crn_vec.proofs.CallerLemmas.{lt_or, past_end, length-column, no_zero, dot-comm, dot-zero, dots, comb, length-comb, entry-comb, transposed, Zero, Solves, null, Related}
-use Rattle.crn_defi.proofs.Places.{in_range}
+use Rattle.crn_vec.proofs.CallerLemmas.{in_range}
 use Rattle.crn_defi.proofs.Counted.{zero_entry}
 use Rattle.crn_defi.proofs.Weights.{zero_from}
 use Rattle.crn_defi.proofs.Parts.{IsPart, part_later, zero_more, spread}

@@ -1,7 +1,6 @@
 mod Weights
 mod Places
 mod Counted
-mod WideGaps
 mod ClassRanks
 mod DeficiencyAnswers
 mod ZeroAnswers

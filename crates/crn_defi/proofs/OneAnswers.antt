@@ -42,22 +42,22 @@ pub one_earlier : (earlier : Earlier) (links : List ℕ) (count : ℕ) (labels e
 one_earlier earlier links count labels exit_list g one j from less = terminals_same earlier links count labels exit_list g j ∙ one j from (omega (arith, less, g.count_is))
 
 -- earlier verdicts of the classes, and one on question 6
-abbrev pub told : ℕ → List ℕ → ℕ → ℕ → List ℕ → List ℕ → Verdict → Earlier
-told count links strong_count terminal labels exit_list q6 =
+abbrev pub earlier_of : ℕ → List ℕ → ℕ → ℕ → List ℕ → List ℕ → Verdict → Earlier
+earlier_of count links strong_count terminal labels exit_list q6 =
     (Q1, Classes count (record { list = links; spare = 0 }))
     ∷ (Q2, Strong strong_count terminal (record { list = labels; spare = 0 }) (record { list = exit_list; spare = 0 }))
     ∷ (Q6, q6) ∷ []
 
-pub told_gives : (net : Net) (count : ℕ) (links : List ℕ) (strong_count terminal : ℕ) (labels exit_list : List ℕ) (q6 : Verdict) → Known net count links strong_count terminal labels exit_list
-    → GiveClasses (told count links strong_count terminal labels exit_list q6) links count labels exit_list
-told_gives net count links strong_count terminal labels exit_list q6 known =
+pub earlier_gives : (net : Net) (count : ℕ) (links : List ℕ) (strong_count terminal : ℕ) (labels exit_list : List ℕ) (q6 : Verdict) → Known net count links strong_count terminal labels exit_list
+    → GiveClasses (earlier_of count links strong_count terminal labels exit_list q6) links count labels exit_list
+earlier_gives net count links strong_count terminal labels exit_list q6 known =
     record { labels_are = refl; count_is = refl; strong_are = refl; exits_are = refl; strong_count = sym known.strong_is.classes }
 
 -- a formed and valid answer after those verdicts is true or open
-told_true : (net : Net) (count : ℕ) (links : List ℕ) (strong_count terminal : ℕ) (labels exit_list : List ℕ) (q6 : Verdict) (answer : Answer) → Known net count links strong_count terminal labels exit_list → IsTrueOrOpen net Q6 q6
-    → IsFormed net (told count links strong_count terminal labels exit_list q6) Q10 answer → IsValid net (told count links strong_count terminal labels exit_list q6) Q10 answer → IsTrueOrOpen net Q10 answer.verdict
-told_true net count links strong_count terminal labels exit_list q6 answer known six formed valid =
-    valid_answers_are_true Q10 net (told count links strong_count terminal labels exit_list q6) answer known.network (known.linkage_is, (known.strong_is, tt)) (six, tt) formed valid
+earlier_true : (net : Net) (count : ℕ) (links : List ℕ) (strong_count terminal : ℕ) (labels exit_list : List ℕ) (q6 : Verdict) (answer : Answer) → Known net count links strong_count terminal labels exit_list → IsTrueOrOpen net Q6 q6
+    → IsFormed net (earlier_of count links strong_count terminal labels exit_list q6) Q10 answer → IsValid net (earlier_of count links strong_count terminal labels exit_list q6) Q10 answer → IsTrueOrOpen net Q10 answer.verdict
+earlier_true net count links strong_count terminal labels exit_list q6 answer known six formed valid =
+    valid_answers_are_true Q10 net (earlier_of count links strong_count terminal labels exit_list q6) answer known.network (known.linkage_is, (known.strong_is, tt)) (six, tt) formed valid
 
 -- ---- a linkage class with several terminal strong classes
 
@@ -87,9 +87,9 @@ pub split_given : (net : Net) (budget : ℕ) (earlier : Earlier) (count : ℕ) (
     → DoLevelsFall net labels levels → IsTrueOrOpen net Q6 q6 → GiveClasses earlier links count labels exit_list → IsFirstWithMore labels exit_list links (length exit_list) count k n → IsAnswer net budget earlier Q10 (split_answer k n)
 split_given net budget earlier count links strong_count terminal labels exit_list levels q6 k n known falls six g h =
     let ready = split_ready net earlier count links strong_count terminal labels exit_list levels k n known falls g h in
-    let own = told count links strong_count terminal labels exit_list q6 in
-    let again = split_ready net own count links strong_count terminal labels exit_list levels k n known falls (told_gives net count links strong_count terminal labels exit_list q6 known) h in
-    record { formed = ready.0; valid = ready.1; answered = told_true net count links strong_count terminal labels exit_list q6 (split_answer k n) known six again.0 again.1 }
+    let own = earlier_of count links strong_count terminal labels exit_list q6 in
+    let again = split_ready net own count links strong_count terminal labels exit_list levels k n known falls (earlier_gives net count links strong_count terminal labels exit_list q6 known) h in
+    record { formed = ready.0; valid = ready.1; answered = earlier_true net count links strong_count terminal labels exit_list q6 (split_answer k n) known six again.0 again.1 }
 
 -- ---- deficiencies
 
@@ -144,12 +144,12 @@ pub after_given : (net : Net) (budget : ℕ) (earlier : Earlier) (count : ℕ) (
 after_given net budget earlier count links strong_count terminal labels exit_list (Deficiency total ds) v known one six g e h =
     let q6 = Deficiency total ds in
     let ready = after_ready net earlier count links strong_count terminal labels exit_list total ds v known one six g e h in
-    let own = told count links strong_count terminal labels exit_list q6 in
-    let again = after_ready net own count links strong_count terminal labels exit_list total ds v known one six (told_gives net count links strong_count terminal labels exit_list q6 known) refl h in
+    let own = earlier_of count links strong_count terminal labels exit_list q6 in
+    let again = after_ready net own count links strong_count terminal labels exit_list total ds v known one six (earlier_gives net count links strong_count terminal labels exit_list q6 known) refl h in
     record {
       formed = ready.0;
       valid = ready.1;
-      answered = after_answered net budget earlier total ds.list v h (told_true net count links strong_count terminal labels exit_list q6 (plain v) known six again.0 again.1);
+      answered = after_answered net budget earlier total ds.list v h (earlier_true net count links strong_count terminal labels exit_list q6 (plain v) known six again.0 again.1);
     }
 after_given net budget earlier count links strong_count terminal labels exit_list (Unknown gap) v known one six g e h =
     let open_six : IsOpen (on earlier Q6) = subst IsOpen (sym e) tt in

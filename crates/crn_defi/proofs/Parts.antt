@@ -8,7 +8,7 @@ use lib.IntN.{zero-*ℤ}
 use Rattle.crn_vec.specs.Lists.{IsIn, IsAbove, IsAscending}
 use Rattle.crn_vec.specs.Vectors.{entry, column}
 use Rattle.crn_vec.specs.Rank.{IsZero, combination_at, IsIndependent, IsChoice, chosen, IsRank}
-use Rattle.crn_vec.proofs.CallerLemmas.{in_map, map_twice, lt_or, eq_or, zeros, length-zeros, zeros-dot}
+use Rattle.crn_vec.proofs.CallerLemmas.{in_map, map_twice, lt_or, eq_or, zeros, length-zeros, zeros-dot, ascending_suc, above_zero}
 
 -- the first list is the second with members left out
 abbrev pub IsPart : {A : Type 0} → List A → List A → Type 0
@@ -135,18 +135,6 @@ part_independent us vs h free c l none =
     r.none (free r.b r.long (λ k. r.same k ∙ none k))
 
 -- ---- a part by its places
-
-above_suc : (k : ℕ) (xs : List ℕ) → IsAbove k xs → IsAbove (suc k) (map suc xs)
-above_suc k [] h = tt
-above_suc k (x ∷ xs) h = (omega (arith, h.0), above_suc x xs h.1)
-
-ascending_suc : (xs : List ℕ) → IsAscending xs → IsAscending (map suc xs)
-ascending_suc [] h = tt
-ascending_suc (x ∷ xs) h = above_suc x xs h
-
-above_zero : (xs : List ℕ) → IsAscending xs → IsAbove 0 (map suc xs)
-above_zero [] h = tt
-above_zero (x ∷ xs) h = (omega arith, above_suc x xs h)
 
 record Placed (us vs : List (List ℤ)) : Type 0 where
   places : List ℕ

@@ -1,32 +1,23 @@
--- Ranges, filters, and the complexes and reactions of a linkage class.
+-- The complexes and reactions of a linkage class.
 use Rattle.std.proofs.Common.{◌≡◌, ◌≢◌, ◌⊎◌, ℕ, zero, suc, ◌+◌, ◌-◌, ◌<◌, ◌≤◌, ◌==◌, inl, inr, Bool, true, false, List, [], ◌∷◌, ◌++◌, length, get_or, map, refl, sym, ap, subst, ◌∙◌, arith}
 use Rattle.std.specs.Prelude.{ℤ, filter}
 use Rattle.std.specs.List.{range_with_len}
 use Rattle.std.proofs.lemmas.Bool.{cases_Bool, eqb-true, eq-eqb, ne_eqb}
 use Rattle.std.proofs.lemmas.List.{get_or-map, length-map}
 use Rattle.crn_vec.specs.Kept.{KeptNums}
-use Rattle.crn_vec.specs.Lists.{IsIn, AreDistinct, IsAbove, IsAscending}
+use Rattle.crn_vec.specs.Lists.{IsIn, AreDistinct, IsAscending}
 use Rattle.crn_vec.specs.Network.{Net, IsNetwork, reaction_vector, ends}
 use Rattle.crn_vec.specs.Rank.{chosen}
 use Rattle.crn_vec.specs.Deficiency.{IsLabelled, class_reactions, class_vectors, class_members}
-use Rattle.crn_vec.proofs.CallerLemmas.{eq_or, at_in, inside_at, class_link}
+use Rattle.crn_vec.proofs.CallerLemmas.{at_in, inside_at, class_link, in_range, filter_has, filter_from, above_lower, filter_ascending, range_more}
+use Rattle.crn_vec.proofs.CallerLemmas.{filter_yes, filter_no, range_ascending, range_bounds}
 use Rattle.crn_cert.specs.declared.answer.Verdict.TheVariants.{Classes}
 use Rattle.crn_cert.specs.Questions.{Earlier, Q1}
 use Rattle.crn_cert.specs.RankTests.{vector_of, vectors_of}
-use Rattle.crn_cert.proofs.CallerLemmas.{class_vectors_are, range_ascending, range_bounds}
-use Rattle.crn_defi.specs.Inner.Ranked.{reactions_of, IsClass}
+use Rattle.crn_cert.proofs.CallerLemmas.{class_vectors_are}
+use Rattle.crn_defi.specs.Inner.ClassRanks.{reactions_of, IsClass}
 
 -- ---- ranges and filters
-
-pub in_range : (x a n : ℕ) → a ≤ x → x < a + n → IsIn x (range_with_len a n)
-in_range x a zero l m = absurd (omega (arith, l, m))
-in_range x a (suc n) l m = elim (eq_or x a) [ inl e ↦ inl e | inr ne ↦ inr (in_range x (a + 1) n (after x a l ne) (omega (arith, m))) ]
-  where
-    after : (x a : ℕ) → a ≤ x → (x ≡ a → ⊥) → a + 1 ≤ x
-    after zero zero l ne = absurd (ne refl)
-    after (suc x) zero l ne = omega arith
-    after zero (suc a) l ne = absurd (omega (arith, l))
-    after (suc x) (suc a) l ne = let h = after x a (omega (arith, l)) (λ e. ne (ap suc e)) in omega (arith, h)
 
 pub range_distinct : (a n : ℕ) → AreDistinct (range_with_len a n)
 range_distinct a zero = tt
@@ -38,53 +29,6 @@ kept p x xs h = rw h refl
 
 gone : {A : Type 0} (p : A → Bool) (x : A) (xs : List A) → p x ≡ false → filter p (x ∷ xs) ≡ filter p xs
 gone p x xs h = rw h refl
-
--- what passes a test and is in the list, and the other way round
-pub filter_has : {A : Type 0} (p : A → Bool) (xs : List A) (y : A) → IsIn y xs → p y ≡ true → IsIn y (filter p xs)
-filter_has p [] y h t = absurd h
-filter_has {A} p (x ∷ xs) y h t = elim (cases_Bool (p x)) as (λ _. IsIn y (filter p (x ∷ xs))) [
-  | inl hit ↦ subst (λ (l : List A). IsIn y l) (sym (kept p x xs hit)) (elim h [ inl e ↦ inl e | inr i ↦ inr (filter_has p xs y i t) ])
-  | inr miss ↦ subst (λ (l : List A). IsIn y l) (sym (gone p x xs miss)) (elim h [ inl e ↦ absurd (let q = ap p e in cc) | inr i ↦ filter_has p xs y i t ])
-]
-
-pub filter_of : {A : Type 0} (p : A → Bool) (xs : List A) (y : A) → IsIn y (filter p xs) → IsIn y xs × (p y ≡ true)
-filter_of p [] y h = absurd h
-filter_of {A} p (x ∷ xs) y h = elim (cases_Bool (p x)) as (λ _. IsIn y (x ∷ xs) × (p y ≡ true)) [
-  | inl hit ↦ elim (subst (λ (l : List A). IsIn y l) (kept p x xs hit) h) as (λ _. IsIn y (x ∷ xs) × (p y ≡ true)) [
-    | inl e ↦ (inl e, ap p e ∙ hit)
-    | inr i ↦ let r = filter_of p xs y i in (inr r.0, r.1)
-  ]
-  | inr miss ↦ let r = filter_of p xs y (subst (λ (l : List A). IsIn y l) (gone p x xs miss) h) in (inr r.0, r.1)
-]
-
-pub filter_distinct : {A : Type 0} (p : A → Bool) (xs : List A) → AreDistinct xs → AreDistinct (filter p xs)
-filter_distinct p [] d = tt
-filter_distinct {A} p (x ∷ xs) d = elim (cases_Bool (p x)) as (λ _. AreDistinct (filter p (x ∷ xs))) [
-  | inl hit ↦ subst (λ (l : List A). AreDistinct l) (sym (kept p x xs hit)) (λ i. d.0 (filter_of p xs x i).0, filter_distinct p xs d.1)
-  | inr miss ↦ subst (λ (l : List A). AreDistinct l) (sym (gone p x xs miss)) (filter_distinct p xs d.1)
-]
-
-lower : (k x : ℕ) (xs : List ℕ) → k < x → IsAbove x xs → IsAbove k xs
-lower k x [] lt a = tt
-lower k x (y ∷ ys) lt a = (omega (arith, lt, a.0), a.1)
-
-filter_above : (p : ℕ → Bool) (k : ℕ) (xs : List ℕ) → IsAbove k xs → IsAbove k (filter p xs)
-filter_above p k [] a = tt
-filter_above p k (x ∷ xs) a = elim (cases_Bool (p x)) as (λ _. IsAbove k (filter p (x ∷ xs))) [
-  | inl hit ↦ subst (IsAbove k) (sym (kept p x xs hit)) (a.0, filter_above p x xs a.1)
-  | inr miss ↦ subst (IsAbove k) (sym (gone p x xs miss)) (filter_above p k xs (lower k x xs a.0 a.1))
-]
-
-pub filter_ascending : (p : ℕ → Bool) (xs : List ℕ) → IsAscending xs → IsAscending (filter p xs)
-filter_ascending p [] a = tt
-filter_ascending p (x ∷ xs) a = elim (cases_Bool (p x)) as (λ _. IsAscending (filter p (x ∷ xs))) [
-  | inl hit ↦ subst IsAscending (sym (kept p x xs hit)) (filter_above p x xs a)
-  | inr miss ↦ subst IsAscending (sym (gone p x xs miss)) (filter_ascending p xs (rest x xs a))
-]
-  where
-    rest : (x : ℕ) (xs : List ℕ) → IsAbove x xs → IsAscending xs
-    rest x [] a = tt
-    rest x (y ∷ ys) a = a.1
 
 -- ---- the complexes of a class
 
@@ -120,7 +64,7 @@ one_label net labels n l y z i =
     l.right.together y z (omega (arith, at.0, l.long)) (omega (arith, at.1, l.long)) (class_link net.reactions y z (inl i))
 
 pub class_reaction : (net : Net) (labels : List ℕ) (k : ℕ) (r : ℕ × ℕ) → IsIn r (class_reactions net labels k) → IsIn r net.reactions × (get_or labels r.0 0 ≡ k)
-class_reaction net labels k r i = let f = filter_of (λ r. get_or labels r.0 0 == k) net.reactions r i in (f.0, eqb-true (get_or labels r.0 0) k f.1)
+class_reaction net labels k r i = let f = filter_from (λ r. get_or labels r.0 0 == k) net.reactions r i in (f.0, eqb-true (get_or labels r.0 0) k f.1)
 
 end_of : (rs : List (ℕ × ℕ)) (c : ℕ) → IsIn c (ends rs) → (r : ℕ × ℕ) × IsIn r rs × ((c ≡ r.0) ⊎ (c ≡ r.1))
 end_of [] c i = absurd i
@@ -159,7 +103,7 @@ reactions_ascend net labels k = filter_ascending (λ r. get_or labels (get_or ne
 
 pub reactions_inside : (net : Net) (labels : List ℕ) (k r : ℕ) → IsIn r (reactions_of net labels k) → (1 ≤ r) × (r ≤ length net.reactions)
 reactions_inside net labels k r i =
-    let f = filter_of (λ r. get_or labels (get_or net.reactions (r - 1) (0, 0)).0 0 == k) (range_with_len 1 (length net.reactions)) r i in
+    let f = filter_from (λ r. get_or labels (get_or net.reactions (r - 1) (0, 0)).0 0 == k) (range_with_len 1 (length net.reactions)) r i in
     let b = range_bounds r 1 (length net.reactions) f.0 in
     (b.0, omega (arith, b.1))
 
@@ -180,27 +124,6 @@ taken_in qs (p ∷ places) below r (inl e) = subst (λ (q : ℕ × ℕ). IsIn q 
 taken_in qs (p ∷ places) below r (inr i) = taken_in qs places (λ k j. below k (inr j)) r i
 
 -- ---- one more at the end
-
-pub range_more : (a n j : ℕ) → a + n ≡ j → range_with_len a (n + 1) ≡ range_with_len a n ++ j ∷ []
-range_more a zero j e = ap (λ (k : ℕ). k ∷ []) (let f : a ≡ j = omega (arith, e) in f)
-range_more a (suc n) j e =
-    let same : suc n + 1 ≡ suc (n + 1) = omega arith in
-    let more : range_with_len a (suc n + 1) ≡ range_with_len a (suc (n + 1)) = ap (range_with_len a) same in
-    more ∙ ap (λ (l : List ℕ). a ∷ l) (range_more (a + 1) n j (omega (arith, e)))
-
-pub filter_yes : (p : ℕ → Bool) (xs : List ℕ) (x : ℕ) → p x ≡ true → filter p (xs ++ x ∷ []) ≡ filter p xs ++ x ∷ []
-filter_yes p [] x hit = kept p x [] hit
-filter_yes p (y ∷ xs) x hit = elim (cases_Bool (p y)) as (λ _. filter p (y ∷ (xs ++ x ∷ [])) ≡ filter p (y ∷ xs) ++ x ∷ []) [
-  | inl here ↦ kept p y (xs ++ x ∷ []) here ∙ ap (λ (l : List ℕ). y ∷ l) (filter_yes p xs x hit) ∙ ap (λ (l : List ℕ). l ++ x ∷ []) (sym (kept p y xs here))
-  | inr out ↦ gone p y (xs ++ x ∷ []) out ∙ filter_yes p xs x hit ∙ ap (λ (l : List ℕ). l ++ x ∷ []) (sym (gone p y xs out))
-]
-
-pub filter_no : (p : ℕ → Bool) (xs : List ℕ) (x : ℕ) → p x ≡ false → filter p (xs ++ x ∷ []) ≡ filter p xs
-filter_no p [] x miss = gone p x [] miss
-filter_no p (y ∷ xs) x miss = elim (cases_Bool (p y)) as (λ _. filter p (y ∷ (xs ++ x ∷ [])) ≡ filter p (y ∷ xs)) [
-  | inl here ↦ kept p y (xs ++ x ∷ []) here ∙ ap (λ (l : List ℕ). y ∷ l) (filter_no p xs x miss) ∙ sym (kept p y xs here)
-  | inr out ↦ gone p y (xs ++ x ∷ []) out ∙ filter_no p xs x miss ∙ sym (gone p y xs out)
-]
 
 -- the reactions of a class among the first of the network
 abbrev pub before : Net → List ℕ → ℕ → ℕ → List ℕ

@@ -13,7 +13,8 @@ use Rattle.crn_vec.specs.Rank.{IsZero, combination_at, IsIndependent}
 use Rattle.crn_vec.specs.Deficiency.{IsDeficiency}
 use Rattle.crn_vec.specs.Confluence.{InConfluenceSpace}
 use Rattle.crn_vec.proofs.CallerLemmas.{all_in, all_from, lt_or, past_end, length-column, dot-comm, dot-zero, dots, comb, transposed, Zero, Related, too_many, unit, gain, gain_kept, gain_made, class_link}
-use Rattle.crn_defi.proofs.Places.{in_range, range_distinct, taken, taken_vectors, taken_in}
+use Rattle.crn_vec.proofs.CallerLemmas.{in_range}
+use Rattle.crn_defi.proofs.Places.{range_distinct, taken, taken_vectors, taken_in}
 use Rattle.crn_defi.proofs.Weights.{unit_here, unit_other, marks, one_marked, AreWithinList, rows, rows_wide, rows_count, rows_weighed, of_label, none_left, zero_both, zero_from}
 use Rattle.crn_defi.proofs.Rooted.{Rooted, rooted}
 
@@ -122,7 +123,7 @@ few_three net roots rs gs network root from free space apart = elim (lt_or (leng
       let long : length c ≡ j + (k + length roots) = r.long ∙ some in
       let own = take j c in
       let rest = drop j c in
-      let front = take k rest in
+      let prefix = take k rest in
       let back = drop k rest in
       let rest_long : length rest ≡ k + length roots = omega (arith, long, length-drop j c) in
       let joins : (q : ℕ × ℕ) → IsIn q rs → JoinsTwo n q = λ q i. all_in (JoinsTwo n) net.reactions q network.partial.apart (from q i) in
@@ -130,7 +131,7 @@ few_three net roots rs gs network root from free space apart = elim (lt_or (leng
       let b = joins (y, z) i in
       (in_range y 0 n (omega arith) (omega (arith, b.1)), in_range z 0 n (omega arith) (omega (arith, b.2))) in
       let roots_in : (t : ℕ) → IsIn t roots → IsIn t xs = λ t i. in_range t 0 n (omega arith) (omega (arith, root.inside t i)) in
-      let none : (m : ℕ → ℤ) → dot own (dots gs (weights n m)) +ℤ (gain rs front m +ℤ dot back (map m roots)) ≡ pos 0 = λ m.
+      let none : (m : ℕ → ℤ) → dot own (dots gs (weights n m)) +ℤ (gain rs prefix m +ℤ dot back (map m roots)) ≡ pos 0 = λ m.
       let total : dot c (dots (gs ++ os) (weights n m)) ≡ pos 0 = transposed n c (weights n m) (gs ++ os) wide ∙ dot-comm (comb n c (gs ++ os)) (weights n m) ∙ dot-zero (weights n m) (comb n c (gs ++ os)) r.none in
       omega (
         arith,
@@ -140,7 +141,7 @@ few_three net roots rs gs network root from free space apart = elim (lt_or (leng
         rows_weighed xs rs roots rest m (range_distinct 0 n) within roots_in rest_long,
       ) in
       let back_long : length back ≡ length roots = omega (arith, rest_long, length-drop k rest) in
-      let front_long : length front ≡ k = omega (arith, rest_long, length-take k rest) in
+      let prefix_long : length prefix ≡ k = omega (arith, rest_long, length-take k rest) in
       let own_long : length own ≡ j = omega (arith, long, length-take j c) in
       let even : (y z : ℕ) → IsIn (y, z) rs → get_or root.labels y 0 ≡ get_or root.labels z 0 = λ y z i.
       let b = joins (y, z) i in
@@ -148,26 +149,26 @@ few_three net roots rs gs network root from free space apart = elim (lt_or (leng
       let back_zero : Zero back = none_left root.labels roots back back_long root.apart (λ t i.
       let l = get_or root.labels t 0 in
       let m = of_label root.labels l in
-      let kept : gain rs front m ≡ pos 0 = gain_kept rs front m (λ y z q. ap (unit l) (even y z q)) in
+      let kept : gain rs prefix m ≡ pos 0 = gain_kept rs prefix m (λ y z q. ap (unit l) (even y z q)) in
       let gone : dot own (dots gs (weights n m)) ≡ pos 0 = dots_none gs (weights n m) own (λ g q. class_none net roots root g t (space g q) i) in
       omega (arith, ints, none m, kept, gone)) in
       let back_none : (m : ℕ → ℤ) → dot back (map m roots) ≡ pos 0 = λ m. dot-comm back (map m roots) ∙ dot-zero (map m roots) back back_zero in
-      let still : (s : ℕ) → combination_at front (map (reaction_vector net) rs) s ≡ pos 0 = λ s.
+      let still : (s : ℕ) → combination_at prefix (map (reaction_vector net) rs) s ≡ pos 0 = λ s.
       let m = entry (column net.complexes s) in
       let gone : dot own (dots gs (weights n m)) ≡ pos 0 = dots_none gs (weights n m) own (λ g q. species_none net g s (space g q) (length-column net.complexes s)) in
-      omega (arith, ints, none m, gone, back_none m, gain_made net (length net.names) rs front s network.partial.vectors (all_from (JoinsTwo n) rs joins)) in
-      let front_is_zero : IsZero front = free front (omega (arith, front_long, length-map rs (reaction_vector net))) still in
-      let front_zero : Zero front = zero_from front front_is_zero in
+      omega (arith, ints, none m, gone, back_none m, gain_made net (length net.names) rs prefix s network.partial.vectors (all_from (JoinsTwo n) rs joins)) in
+      let prefix_is_zero : IsZero prefix = free prefix (omega (arith, prefix_long, length-map rs (reaction_vector net))) still in
+      let prefix_zero : Zero prefix = zero_from prefix prefix_is_zero in
       let own_still : (y : ℕ) → combination_at own gs y ≡ pos 0 = λ y.
       elim (lt_or y n) as (λ _. combination_at own gs y ≡ pos 0) [
         | inl lt ↦
             let read : dot own (dots gs (weights n (unit y))) ≡ dot own (column gs y) = ap (λ (w : List ℤ). dot own w) (dots_read gs (weights n (unit y)) y (λ g q. one_read n g y (space g q).long lt)) in
-            let kept : gain rs front (unit y) ≡ pos 0 = gain_none rs front (unit y) front_zero in
+            let kept : gain rs prefix (unit y) ≡ pos 0 = gain_none rs prefix (unit y) prefix_zero in
             omega (arith, ints, none (unit y), back_none (unit y), kept, read)
         | inr le ↦ column_none gs y own (λ g q. past_end g y (omega (arith, (space g q).long, le)))
       ] in
       let own_zero : Zero own = zero_from own (apart own own_long own_still) in
-      absurd (r.nonzero (zero_both c j own_zero (zero_both rest k front_zero back_zero)))
+      absurd (r.nonzero (zero_both c j own_zero (zero_both rest k prefix_zero back_zero)))
 ]
 
 -- independent vectors of the confluence space are at most the deficiency

@@ -13,7 +13,8 @@ use Rattle.crn_vec.specs.Rank.{IsZero, combination_at, IsIndependent}
 use Rattle.crn_vec.specs.Deficiency.{IsDeficiency, vectors}
 use Rattle.crn_vec.specs.Confluence.{InConfluenceSpace}
 use Rattle.crn_vec.proofs.CallerLemmas.{in_map, map_in, in_left, in_right, all_in, all_from, eq_or, lt_or, past_end, length-column, vector_long, length-minus, dot-comm, dots, comb, length-comb, entry-comb, transposed, null, unit, gain, gain_kept, gain_made, class_link, leads_keeps}
-use Rattle.crn_defi.proofs.Places.{in_range, range_distinct}
+use Rattle.crn_vec.proofs.CallerLemmas.{in_range}
+use Rattle.crn_defi.proofs.Places.{range_distinct}
 use Rattle.crn_defi.proofs.Weights.{unit_here, unit_other, marks, step, one_marked, step_marked, rows, rows_wide, rows_count, of_label, zero_from}
 use Rattle.crn_defi.proofs.Rooted.{Rooted, rooted}
 use Rattle.crn_defi.proofs.Parts.{in_part, part_then, part_map, part_few, mapped}

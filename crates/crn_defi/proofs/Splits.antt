@@ -12,7 +12,7 @@ use Rattle.crn_cert.specs.ClassTests.{DoLevelsFall}
 use Rattle.crn_cert.specs.Given.{GiveClasses}
 use Rattle.crn_defi.specs.Inner.Terminals.{HaveOneUpTo, IsFirstWithMore}
 use Rattle.crn_defi.proofs.TerminalCounts.{Known, one_terminal_each}
-use Rattle.crn_defi.proofs.OneAnswers.{one_earlier, told, told_gives, split_given}
+use Rattle.crn_defi.proofs.OneAnswers.{one_earlier, earlier_of, earlier_gives, split_given}
 
 -- what the search over the linkage classes finds
 abbrev pub Finds : List ℕ → List ℕ → List ℕ → ℕ → Option (ℕ × ℕ) → Type 0
@@ -22,15 +22,15 @@ pub split_of : (net : Net) (count : ℕ) (links : List ℕ) (strong_count termin
     → Finds labels exits links count found → MatchOption found (HasOneTerminalEach net) (λ f. IsFirstSplitClass net f.0 f.1)
 split_of net count links strong_count terminal labels exits levels None known falls h = one_terminal_each net count links strong_count terminal labels exits known h
 split_of net count links strong_count terminal labels exits levels (Some f) known falls h =
-    let own = told count links strong_count terminal labels exits (Unknown (Rests 5)) in
-    (split_given net 1 own count links strong_count terminal labels exits levels (Unknown (Rests 5)) f.0 f.1 known falls tt (told_gives net count links strong_count terminal labels exits (Unknown (Rests 5)) known) h).answered
+    let own = earlier_of count links strong_count terminal labels exits (Unknown (Rests 5)) in
+    (split_given net 1 own count links strong_count terminal labels exits levels (Unknown (Rests 5)) f.0 f.1 known falls tt (earlier_gives net count links strong_count terminal labels exits (Unknown (Rests 5)) known) h).answered
 
 pub number_of : (net : Net) (count : ℕ) (links : List ℕ) (strong_count terminal : ℕ) (labels exits levels : List ℕ) (found : Option (ℕ × ℕ)) → Known net count links strong_count terminal labels exits → DoLevelsFall net labels levels
     → Finds labels exits links count found → IfSome found (λ f. IsFrom 2 (length net.complexes) f.1)
 number_of net count links strong_count terminal labels exits levels None known falls h = tt
 number_of net count links strong_count terminal labels exits levels (Some f) known falls h =
-    let own = told count links strong_count terminal labels exits (Unknown (Rests 5)) in
-    (split_given net 1 own count links strong_count terminal labels exits levels (Unknown (Rests 5)) f.0 f.1 known falls tt (told_gives net count links strong_count terminal labels exits (Unknown (Rests 5)) known) h).formed.0.1
+    let own = earlier_of count links strong_count terminal labels exits (Unknown (Rests 5)) in
+    (split_given net 1 own count links strong_count terminal labels exits levels (Unknown (Rests 5)) f.0 f.1 known falls tt (earlier_gives net count links strong_count terminal labels exits (Unknown (Rests 5)) known) h).formed.0.1
 
 pub tests_of : (net : Net) (earlier : Earlier) (count : ℕ) (links : List ℕ) (strong_count terminal : ℕ) (labels exits levels : List ℕ) (found : Option (ℕ × ℕ)) → Known net count links strong_count terminal labels exits → DoLevelsFall net labels levels
     → GiveClasses earlier links count labels exits → Finds labels exits links count found → MatchOption found (HaveOneEach earlier) (λ f. IsFirstSplit earlier f.0 f.1)

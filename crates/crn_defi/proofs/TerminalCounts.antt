@@ -11,24 +11,14 @@ use Rattle.crn_vec.specs.Network.{Net, IsNetwork}
 use Rattle.crn_vec.specs.Linkage.{SameClass}
 use Rattle.crn_vec.specs.Strong.{ReactsTo, Reaches, SameStrong, IsTerminal, LeavesClass}
 use Rattle.crn_vec.specs.Deficiency.{IsComplex, IsLabelled, HasTerminalClasses, HasOneTerminalEach}
-use Rattle.crn_vec.proofs.CallerLemmas.{leads_keeps, reaction_in, inside_at}
+use Rattle.crn_vec.proofs.CallerLemmas.{leads_keeps, reaction_in, inside_at, in_range, filter_has, filter_from, range_more, filter_yes, filter_no, and_cases, and_true}
+use Rattle.crn_vec.proofs.CallerLemmas.{range_bounds}
 use Rattle.crn_cert.specs.Says.{AreLinkageClasses, AreStrongClasses}
 use Rattle.crn_cert.specs.ClassTests.{of_class, DoLevelsFall}
-use Rattle.crn_cert.proofs.CallerLemmas.{range_bounds}
 use Rattle.crn_defi.specs.Inner.Terminals.{is_in_both, is_terminal_in, terminals_of, HaveOneUpTo}
-use Rattle.crn_defi.proofs.Places.{in_range, range_more, filter_has, filter_of, filter_yes, filter_no, one_label}
+use Rattle.crn_defi.proofs.Places.{one_label}
 
 -- ---- tests of lists
-
-both : (a b : Bool) → (a && b) ≡ true → (a ≡ true) × (b ≡ true)
-both true true e = (refl, refl)
-both true false e = cc
-both false b e = cc
-
-pub and_true : (a b : Bool) → a ≡ true → b ≡ true → (a && b) ≡ true
-and_true true true e f = refl
-and_true true false e f = cc
-and_true false b e f = cc
 
 any_some : (p : ℕ → Bool) (xs : List ℕ) → list_any p xs ≡ true → (x : ℕ) × IsIn x xs × (p x ≡ true)
 any_some p [] e = cc
@@ -79,7 +69,7 @@ only_one (x ∷ []) a b e (inr i) j = absurd i
 counted_some : (p : ℕ → Bool) (xs : List ℕ) → 1 ≤ count_by p xs → (x : ℕ) × IsIn x xs × (p x ≡ true)
 counted_some p xs h =
     let f = first_in (filter p xs) (omega (arith, h, length-filter p xs)) in
-    let r = filter_of p xs f.0 f.1 in
+    let r = filter_from p xs f.0 f.1 in
     (f.0, r.0, r.1)
 
 some_counted : (p : ℕ → Bool) (xs : List ℕ) (x : ℕ) → IsIn x xs → p x ≡ true → 1 ≤ count_by p xs
@@ -108,9 +98,9 @@ record Passing (labels exits links : List ℕ) (k m : ℕ) : Type 0 where
 
 passes_by : (labels exits links : List ℕ) (k m : ℕ) → is_terminal_in labels exits links k m ≡ true → Passing labels exits links k m
 passes_by labels exits links k m h =
-    let b = both (get_or exits (m - 1) 0 == 0) (list_any (is_in_both labels links m k) (range_with_len 0 (length labels))) h in
+    let b = and_cases (get_or exits (m - 1) 0 == 0) (list_any (is_in_both labels links m k) (range_with_len 0 (length labels))) h in
     let f = any_some (is_in_both labels links m k) (range_with_len 0 (length labels)) b.1 in
-    let g = both (get_or labels f.0 0 == m) (get_or links f.0 0 == k) f.2 in
+    let g = and_cases (get_or labels f.0 0 == m) (get_or links f.0 0 == k) f.2 in
     let same : get_or labels f.0 0 ≡ m = eqb-true (get_or labels f.0 0) m g.0 in
     let zero_exit : get_or exits (m - 1) 0 ≡ 0 = eqb-true (get_or exits (m - 1) 0) 0 b.0 in
     record {

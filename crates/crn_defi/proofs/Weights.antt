@@ -146,20 +146,20 @@ few_together net labels xs ts rs network d within even inside apart joins free =
       let r : Related n (rows xs rs ts) = too_many n (rows xs rs ts) (rows_wide xs rs ts) (omega (arith, rows_count xs rs ts, more)) in
       let c = r.c in
       let long : length c ≡ k + length ts = r.long ∙ rows_count xs rs ts in
-      let front = take k c in
+      let prefix = take k c in
       let back = drop k c in
-      let none : (m : ℕ → ℤ) → gain rs front m +ℤ dot back (map m ts) ≡ pos 0 = λ m.
+      let none : (m : ℕ → ℤ) → gain rs prefix m +ℤ dot back (map m ts) ≡ pos 0 = λ m.
       sym (rows_weighed xs rs ts c m d within inside long) ∙ transposed n c (map m xs) (rows xs rs ts) (rows_wide xs rs ts) ∙ dot-comm (comb n c (rows xs rs ts)) (map m xs) ∙ dot-zero (map m xs) (comb n c (rows xs rs ts)) r.none in
       let back_long : length back ≡ length ts = omega (arith, long, length-drop k c) in
-      let front_long : length front ≡ k = omega (arith, long, length-take k c) in
+      let prefix_long : length prefix ≡ k = omega (arith, long, length-take k c) in
       let back_zero : Zero back = none_left labels ts back back_long apart (λ t i.
       let l = get_or labels t 0 in
-      let kept : gain rs front (of_label labels l) ≡ pos 0 = gain_kept rs front (of_label labels l) (λ y z i. ap (unit l) (even y z i)) in
+      let kept : gain rs prefix (of_label labels l) ≡ pos 0 = gain_kept rs prefix (of_label labels l) (λ y z i. ap (unit l) (even y z i)) in
       omega (arith, ints, none (of_label labels l), kept)) in
-      let still : (s : ℕ) → combination_at front (map (reaction_vector net) rs) s ≡ pos 0 = λ s.
+      let still : (s : ℕ) → combination_at prefix (map (reaction_vector net) rs) s ≡ pos 0 = λ s.
       let m = entry (column net.complexes s) in
       let gone : dot back (map m ts) ≡ pos 0 = dot-comm back (map m ts) ∙ dot-zero (map m ts) back back_zero in
-      omega (arith, ints, none m, gone, gain_made net (length net.names) rs front s network.partial.vectors joins) in
-      let front_zero : Zero front = zero_from front (free front (omega (arith, front_long, length-map rs (reaction_vector net))) still) in
-      absurd (r.nonzero (zero_both c k front_zero back_zero))
+      omega (arith, ints, none m, gone, gain_made net (length net.names) rs prefix s network.partial.vectors joins) in
+      let prefix_zero : Zero prefix = zero_from prefix (free prefix (omega (arith, prefix_long, length-map rs (reaction_vector net))) still) in
+      absurd (r.nonzero (zero_both c k prefix_zero back_zero))
 ]

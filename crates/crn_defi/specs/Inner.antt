@@ -1,3 +1,3 @@
 -- For the contracts of private functions alone.
-pub mod Ranked
+pub mod ClassRanks
 pub mod Terminals

@@ -1,7 +1,7 @@
 ghost use Rattle.std.specs.Prelude.{◌≡◌, IfOk, IfErr};
 ghost use Rattle.crn_vec.specs.Deficiency.{IsLabelled};
 ghost use Rattle.crn_rank.specs.Rank.{ProvesRank};
-ghost use Rattle.crn_defi.specs.Inner.Ranked.{IsClass, IsClassRank, IsClassStop, reactions_of};
+ghost use Rattle.crn_defi.specs.Inner.ClassRanks.{IsClass, IsClassRank, IsClassStop, reactions_of};
 
 use crate::classes::{complexes_of, reactions_of};
 use crate::laws::meets_definition;
@@ -15,7 +15,7 @@ use std::alloc::{AllocError, Global};
 /// Why the rank of a linkage class is not found.
 #[derive(Drop)]
 pub(crate) enum ClassStop {
-    /// A coordinate and a basis of the class's system name a vector past the bound.
+    /// A coordinate and a basis of the class's system name a wide vector.
     Wide { class: u32, index: u32, basis: Nums },
     NoMemory,
 }
@@ -37,8 +37,8 @@ pub(crate) struct ClassRank {
     pub(crate) proof: RankProof,
 }
 
-// The deficiency that a proof of the rank of a class gives.
-fn ranked(_net: &Network, label: &[u32], class: u32, proof: RankProof) -> ClassRank
+// The deficiency and the rank of a class, by a proof of the rank.
+fn class_rank_by(_net: &Network, label: &[u32], class: u32, proof: RankProof) -> ClassRank
     requires labelled { IsLabelled _net.now label.now }
     requires class { IsClass label.now class }
     requires proves { ProvesRank _net.now (reactions_of _net.now label.now class) proof }
@@ -67,7 +67,7 @@ pub(crate) fn class_rank(
 {
     let members = reactions_of(alloc, net, label, class)?;
     match rank(alloc, net, &members) {
-        Ok(proof) => Ok(ranked(net, label, class, proof)),
+        Ok(proof) => Ok(class_rank_by(net, label, class, proof)),
         Err(Stop::Wide { index, basis }) => Err(ClassStop::Wide {
             class,
             index,

@@ -1,7 +1,7 @@
 ghost use Rattle.std.specs.Prelude.{◌≡◌, ◌≤◌, length, IfOk};
 ghost use Rattle.crn_vec.specs.declared.limits.TheConstants.{MAX_COMPLEXES};
 ghost use Rattle.crn_vec.specs.Deficiency.{class_members};
-ghost use Rattle.crn_defi.specs.Inner.Ranked.{reactions_of};
+ghost use Rattle.crn_defi.specs.Inner.ClassRanks.{reactions_of};
 
 use crn_net::Network;
 use crn_vec::NoMemory;

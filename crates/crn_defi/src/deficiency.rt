@@ -5,7 +5,7 @@ ghost use Rattle.crn_cert.specs.Questions.{Earlier, Q6};
 ghost use Rattle.crn_cert.specs.Says.{AreLinkageClasses};
 ghost use Rattle.crn_cert.specs.Answered.{IsAnswer};
 ghost use Rattle.crn_cert.specs.Given.{GiveRank};
-ghost use Rattle.crn_defi.specs.Inner.Ranked.{AreClassRanks, IsStop, wide_answer};
+ghost use Rattle.crn_defi.specs.Inner.ClassRanks.{AreClassRanks, IsStop, wide_answer};
 
 use crate::class_rank::{ClassStop, class_rank};
 use crate::laws::meets_definition;

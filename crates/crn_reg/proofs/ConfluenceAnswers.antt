@@ -13,7 +13,7 @@ use Rattle.crn_vec.specs.Elementary.{NamesWide}
 use Rattle.crn_vec.specs.Strong.{IsWeaklyReversible}
 use Rattle.crn_vec.specs.NetSystems.{confluence_system}
 use Rattle.crn_vec.specs.Confluence.{IsRegular, IsNonzero, HasConfluenceLine, LeadsPositive}
-use Rattle.crn_vec.proofs.CallerLemmas.{eq_or, in_at, all_from, zip_long, no_zero}
+use Rattle.crn_vec.proofs.CallerLemmas.{eq_or, in_at, all_from, zip_long, no_zero, range_more}
 use Rattle.crn_cert.specs.declared.answer.Verdict.TheVariants.{YesVec, OnlyZero, Plane}
 use Rattle.crn_cert.specs.declared.answer.Proof.TheVariants.{Nothing, Ties}
 use Rattle.crn_cert.specs.Questions.{Earlier, Q4, Q11, Q12, on, IsYes}
@@ -25,8 +25,7 @@ use Rattle.crn_cert.specs.Formed.{IsBasisOf}
 use Rattle.crn_cert.specs.Valid.{linkage, linkage_count, strong, exits}
 use Rattle.crn_cert.specs.Answered.{IsAnswer}
 use Rattle.crn_cert.specs.Given.{GiveClasses}
-use Rattle.crn_conc.proofs.CallerLemmas.{wide_basis}
-use Rattle.crn_defi.proofs.CallerLemmas.{range_more}
+use Rattle.crn_cert.proofs.CallerLemmas.{wide_basis}
 use Rattle.crn_tab.specs.Tableau.{AreSmall}
 use Rattle.crn_reg.specs.Inner.Spaces.{IsSolution, IsFirstPlace, IsTieOf, AreTies, numbers_but, IsLine, ArePlane, IsOnlyZero}
 use Rattle.crn_reg.specs.Inner.Turned.{IsTurned, GathersFirst}

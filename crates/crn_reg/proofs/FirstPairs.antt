@@ -4,31 +4,14 @@ use Rattle.std.specs.Prelude.{ℤ}
 use Rattle.std.specs.List.{AllZip}
 use Rattle.crn_vec.specs.Lists.{IsIn}
 use Rattle.crn_vec.specs.Network.{Net}
-use Rattle.crn_vec.specs.Walks.{IsAlong, LeadsTo}
 use Rattle.crn_vec.specs.Strong.{IsReaction}
-use Rattle.crn_vec.specs.CutPairs.{IsBetween, IsFreeStep, IsCutPair, IsTerminalPair, IsFirstOfPair, ArePairs}
-use Rattle.crn_vec.proofs.CallerLemmas.{eq_or, is_between, linked_back, leads_back, place_of, strong_back, terminal_on}
+use Rattle.crn_vec.specs.CutPairs.{IsBetween, IsCutPair, IsTerminalPair, IsFirstOfPair, ArePairs}
+use Rattle.crn_vec.proofs.CallerLemmas.{eq_or, is_between, linked_back, place_of, strong_back, terminal_on, cut_back}
 use Rattle.crn_cert.specs.Says.{from_zero}
 use Rattle.crn_cert.specs.Licensed.{AreAllCutPairs}
 use Rattle.crn_graph.specs.Pair.{HasSide}
 
 -- ---- a pair in either order
-
-free_back : (rs : List (ℕ × ℕ)) (a b y z : ℕ) → IsFreeStep rs a b y z → IsFreeStep rs a b z y
-free_back rs a b y z h = (linked_back rs y z h.0, λ t. h.1 (elim t [ inl p ↦ inr (p.1, p.0) | inr p ↦ inl (p.1, p.0) ]))
-
-along_map : (S T : ℕ → ℕ → Type 0) → ((y z : ℕ) → S y z → T y z) → (x z : ℕ) (steps : List ℕ) → IsAlong S x steps z → IsAlong T x steps z
-along_map S T on x z [] h = h
-along_map S T on x z (v ∷ steps) h = (on x v h.0, along_map S T on v z steps h.1)
-
-cut_back : (rs : List (ℕ × ℕ)) (a b : ℕ) → IsCutPair rs a b → IsCutPair rs b a
-cut_back rs a b c =
-    record {
-      linked = linked_back rs a b c.linked;
-      cut = λ h.
-          let same : LeadsTo (IsFreeStep rs a b) b a = (h.0, along_map (IsFreeStep rs b a) (IsFreeStep rs a b) (λ y z s. (s.0, λ t. s.1 (elim t [ inl p ↦ inr p | inr p ↦ inl p ]))) b a h.0 h.1) in
-          c.cut (leads_back (IsFreeStep rs a b) (free_back rs a b) b a same);
-    }
 
 cut_between : (rs : List (ℕ × ℕ)) (y z a b : ℕ) → IsBetween y z a b → IsCutPair rs a b → IsCutPair rs y z
 cut_between rs y z a b (inl p) c = subst (λ (v : ℕ). IsCutPair rs v z) p.0 (subst (λ (v : ℕ). IsCutPair rs a v) p.1 c)

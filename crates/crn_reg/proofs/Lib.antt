@@ -6,5 +6,4 @@ mod RegularAnswers
 mod Rows
 mod SidesMore
 mod Solutions
-mod TestFacts
 mod Turns

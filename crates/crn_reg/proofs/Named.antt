@@ -13,11 +13,11 @@ use Rattle.crn_vec.specs.declared.limits.TheConstants.{WIDE_ENTRY}
 use Rattle.crn_vec.specs.Vectors.{Mat, entry, dot, column}
 use Rattle.crn_vec.specs.Lists.{IsIn}
 use Rattle.crn_vec.specs.Rank.{IsZero}
-use Rattle.crn_vec.specs.Elementary.{width, InRowSpace, IsNamed, IsNamedColumn, IsPrimitive, NamesWide, WideAt, AreProportional}
-use Rattle.crn_vec.proofs.CallerLemmas.{eq_or, lt_or, past_end, in_at, at_in, no_zero, assoc, orthogonal, zeros, length-zeros, entry-zeros}
-use Rattle.crn_tab.specs.Tableau.{AreSmall, NamesRows, AreEntered, IsNumbered}
-use Rattle.crn_tab.proofs.CallerLemmas.{isIn_or, same_members, one_row, one_column, as_row, dot_single, cancel_left}
-use Rattle.crn_defi.proofs.CallerLemmas.{range_more, filter_yes, filter_no}
+use Rattle.crn_vec.specs.Elementary.{width, InRowSpace, IsNamed, IsNamedColumn, IsPrimitive, AreProportional}
+use Rattle.crn_vec.proofs.CallerLemmas.{eq_or, lt_or, past_end, in_at, at_in, no_zero, orthogonal, zeros, length-zeros, entry-zeros, zip_push}
+use Rattle.crn_vec.proofs.CallerLemmas.{swap_factors, ratios_cross, range_more, filter_yes, filter_no}
+use Rattle.crn_tab.specs.Tableau.{AreSmall, NamesRows, AreEntered}
+use Rattle.crn_tab.proofs.CallerLemmas.{isIn_or, one_row, one_column, as_row, dot_single}
 use Rattle.crn_reg.specs.Inner.Spaces.{IsSolution, IsTieOf, numbers_but, HasNoColumn, IsFirstColumn, HasNoOther, IsColumnPart}
 
 -- ---- entries that are not zero
@@ -47,22 +47,6 @@ own_row a basis e w t lt out n none =
     no_zero (entry r.w e) (entry w j)
     (one_row a basis e w r.w t.wide t.basis_is (as_row a basis e w out n) (as_row a basis e r.w out r.named) j ∙ ap (λ (x : ℤ). x *ℤ entry r.w j) none ∙ zero-*ℤ (entry r.w j))
     (λ z. omega (arith, ints, z, r.positive)))
-
--- ---- the name of a wide column
-
--- a member in place of itself leaves the basis as it is
-pub wide_column : (a : Mat) (basis : List ℕ) (b index : ℕ) (numbers : List ℕ) → NamesRows a basis → IsIn b basis → index ≡ b + 1 → WideAt a basis b → IsNumbered basis b b numbers → NamesWide a index numbers
-wide_column a basis b index numbers t i e wide n =
-    let same : n.next ≡ basis =
-    same_members n.next basis n.exchanged.ascending t.basis_is.ascending
-    (λ k m. elim ((n.exchanged.members k).0 m) as (λ _. IsIn k basis) [ inl h ↦ h.0 | inr f ↦ subst (λ (j : ℕ). IsIn j basis) (sym f) i ])
-    (λ k m. (n.exchanged.members k).1 (elim (eq_or k b) as (λ _. (IsIn k basis × (k ≢ b)) ⊎ (k ≡ b)) [ inl f ↦ inr f | inr ne ↦ inl (m, ne) ])) in
-    record {
-      from_zero = n.next;
-      numbered = n.numbered;
-      counted = omega (arith, e);
-      wide = subst (λ (l : List ℕ). WideAt a l (index - 1)) (sym same) (subst (λ (k : ℕ). WideAt a basis k) (let f : b ≡ index - 1 = omega (arith, e) in f) wide);
-    }
 
 -- ---- a column
 
@@ -152,12 +136,6 @@ no_other basis end c first none d lt ne i = elim (lt_or d c) as (λ _. ⊥) [
 
 -- ---- ties one after another
 
-zip_push : {A B : Type 0} (R : A → B → Type 0) (xs : List A) (ys : List B) (x : A) (y : B) → AllZip R xs ys → R x y → AllZip R (xs ++ x ∷ []) (ys ++ y ∷ [])
-zip_push R [] [] x y h r = (r, tt)
-zip_push R [] (b ∷ ys) x y h r = absurd h
-zip_push R (a ∷ xs) [] x y h r = absurd h
-zip_push R (a ∷ xs) (b ∷ ys) x y h r = (h.0, zip_push R xs ys x y h.1 r)
-
 abbrev is_other : ℕ → ℕ → Bool
 is_other spared d = not (d == spared)
 
@@ -176,44 +154,25 @@ ties_more a spared k ties tie ne h t =
 pub ties_same : (a : Mat) (spared k : ℕ) (ties : List (List ℤ)) → k ≡ spared → AllZip (IsTieOf a spared) (numbers_but spared k) ties → AllZip (IsTieOf a spared) (numbers_but spared (k + 1)) ties
 ties_same a spared k ties e h = subst (λ (ks : List ℕ). AllZip (IsTieOf a spared) ks ties) (sym (but_no spared k e)) h
 
--- ---- entries in one ratio
-
-cancel_right : (a x y : ℤ) → a ≢ pos 0 → x *ℤ a ≡ y *ℤ a → x ≡ y
-cancel_right a x y ne e = cancel_left a x y ne (*ℤ_comm a x ∙ e ∙ *ℤ_comm y a)
-
-swapped : (x y z : ℤ) → (x *ℤ y) *ℤ z ≡ (x *ℤ z) *ℤ y
-swapped x y z = assoc x y z ∙ ap (λ (t : ℤ). x *ℤ t) (*ℤ_comm y z) ∙ sym (assoc x z y)
-
--- entries of two vectors that are both in one ratio to a third are in one ratio
-crossed : (g0 gi gk hi hk h0 ei ek e0 : ℤ) → g0 ≢ pos 0 → hi *ℤ g0 ≡ gi *ℤ h0 → hk *ℤ g0 ≡ gk *ℤ h0 → ei *ℤ g0 ≡ gi *ℤ e0 → ek *ℤ g0 ≡ gk *ℤ e0 → hi *ℤ ek ≡ hk *ℤ ei
-crossed g0 gi gk hi hk h0 ei ek e0 ne a b c d =
-    let left : (hi *ℤ gk) *ℤ g0 ≡ (gi *ℤ h0) *ℤ gk = swapped hi gk g0 ∙ ap (λ (t : ℤ). t *ℤ gk) a in
-    let right : (hk *ℤ gi) *ℤ g0 ≡ (gk *ℤ h0) *ℤ gi = swapped hk gi g0 ∙ ap (λ (t : ℤ). t *ℤ gi) b in
-    let moved : (gi *ℤ h0) *ℤ gk ≡ (gk *ℤ h0) *ℤ gi = assoc gi h0 gk ∙ *ℤ_comm gi (h0 *ℤ gk) ∙ ap (λ (t : ℤ). t *ℤ gi) (*ℤ_comm h0 gk) in
-    let first : hi *ℤ gk ≡ hk *ℤ gi = cancel_right g0 (hi *ℤ gk) (hk *ℤ gi) ne (left ∙ moved ∙ sym right) in
-    let up : (hi *ℤ ek) *ℤ g0 ≡ (hi *ℤ gk) *ℤ e0 = assoc hi ek g0 ∙ ap (λ (t : ℤ). hi *ℤ t) d ∙ sym (assoc hi gk e0) in
-    let down : (hk *ℤ ei) *ℤ g0 ≡ (hk *ℤ gi) *ℤ e0 = assoc hk ei g0 ∙ ap (λ (t : ℤ). hk *ℤ t) c ∙ sym (assoc hk gi e0) in
-    cancel_right g0 (hi *ℤ ek) (hk *ℤ ei) ne (up ∙ ap (λ (t : ℤ). t *ℤ e0) first ∙ sym down)
-
 -- ---- solutions by a basis
 
 -- a solution, and a zero for each row
 abbrev padded : Mat → List ℤ → List ℤ
 padded a g = g ++ zeros (length a.rows)
 
-padded_front : (a : Mat) (g : List ℤ) (k : ℕ) → IsSolution a g → k < a.cols → entry (padded a g) k ≡ entry g k
-padded_front a g k s lt = get_or_append_left g (zeros (length a.rows)) (pos 0) k (omega (arith, lt, s.long))
+padded_inside : (a : Mat) (g : List ℤ) (k : ℕ) → IsSolution a g → k < a.cols → entry (padded a g) k ≡ entry g k
+padded_inside a g k s lt = get_or_append_left g (zeros (length a.rows)) (pos 0) k (omega (arith, lt, s.long))
 
-padded_back : (a : Mat) (g : List ℤ) (k : ℕ) → IsSolution a g → a.cols ≤ k → entry (padded a g) k ≡ pos 0
-padded_back a g k s ge =
+padded_past : (a : Mat) (g : List ℤ) (k : ℕ) → IsSolution a g → a.cols ≤ k → entry (padded a g) k ≡ pos 0
+padded_past a g k s ge =
     let i = k - a.cols in
     let back : length g + i ≡ k = omega (arith, s.long, ge) in
     ap (entry (padded a g)) (sym back) ∙ get_or-append-add g (zeros (length a.rows)) i (pos 0) ∙ entry-zeros (length a.rows) i
 
 padded_same : (a : Mat) (g : List ℤ) (k : ℕ) → IsSolution a g → entry (padded a g) k ≡ entry g k
 padded_same a g k s = elim (lt_or k a.cols) as (λ _. entry (padded a g) k ≡ entry g k) [
-  | inl lt ↦ padded_front a g k s lt
-  | inr ge ↦ padded_back a g k s ge ∙ sym (past_end g k (omega (arith, ge, s.long)))
+  | inl lt ↦ padded_inside a g k s lt
+  | inr ge ↦ padded_past a g k s ge ∙ sym (past_end g k (omega (arith, ge, s.long)))
 ]
 
 padded_in : (a : Mat) (g : List ℤ) → IsSolution a g → InRowSpace a (padded a g)
@@ -223,7 +182,7 @@ padded_in a g s =
       long = let l : length (padded a g) ≡ width a = omega (arith, length-append g (zeros (length a.rows)), length-zeros (length a.rows), s.long) in l;
       is = λ i lt.
           let row = get_or a.rows i [] in
-          padded_back a g (a.cols + i) s (omega arith) ∙ sym (ap (dot row) front ∙ s.zero row (at_in a.rows i [] lt));
+          padded_past a g (a.cols + i) s (omega arith) ∙ sym (ap (dot row) front ∙ s.zero row (at_in a.rows i [] lt));
     }
 
 -- if no column is in the basis, only zero is a solution
@@ -231,7 +190,7 @@ pub none_by : (a : Mat) (basis : List ℕ) (g : List ℤ) → NamesRows a basis 
 none_by a basis g t none s k =
     sym (padded_same a g k s) ∙ t.basis_is.free (padded a g) (padded_in a g s) (λ j m. elim (lt_or j a.cols) as (λ _. entry (padded a g) j ≡ pos 0) [
       | inl lt ↦ absurd (none j lt m)
-      | inr ge ↦ padded_back a g j s ge
+      | inr ge ↦ padded_past a g j s ge
     ]) k
 
 -- if one column is in the basis, every solution is named by it
@@ -242,7 +201,7 @@ named_by a basis c g i none s =
       space = padded_in a g s;
       zero_on_rest = λ k m ne. elim (lt_or k a.cols) as (λ _. entry (padded a g) k ≡ pos 0) [
         | inl lt ↦ absurd (none k lt ne m)
-        | inr ge ↦ padded_back a g k s ge
+        | inr ge ↦ padded_past a g k s ge
       ];
     }
 
@@ -254,4 +213,4 @@ one_by a basis c x g h t i none some sx sg sh j k =
     let e = one_column a basis c (padded a y) (padded a x) t.basis_is (named y s) (named x sx) m in
     let f : entry x c *ℤ entry y m ≡ entry y c *ℤ entry x m = ap₂ (λ (p q : ℤ). p *ℤ q) (sym (padded_same a x c sx)) (sym (padded_same a y m s)) ∙ e ∙ ap₂ (λ (p q : ℤ). p *ℤ q) (padded_same a y c s) (padded_same a x m sx) in
     *ℤ_comm (entry y m) (entry x c) ∙ f ∙ *ℤ_comm (entry y c) (entry x m) in
-    crossed (entry x c) (entry x j) (entry x k) (entry g j) (entry g k) (entry g c) (entry h j) (entry h k) (entry h c) some (at g j sg) (at g k sg) (at h j sh) (at h k sh)
+    ratios_cross (entry x c) (entry x j) (entry x k) (entry g j) (entry g k) (entry g c) (entry h j) (entry h k) (entry h c) some (at g j sg) (at g k sg) (at h j sh) (at h k sh)

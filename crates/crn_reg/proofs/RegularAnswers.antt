@@ -7,7 +7,7 @@ use Rattle.crn_vec.specs.Lists.{IsIn}
 use Rattle.crn_vec.specs.Network.{Net, IsNetwork}
 use Rattle.crn_vec.specs.CutPairs.{IsTerminalPair, IsCutPair, ArePairs}
 use Rattle.crn_vec.specs.Deficiency.{IsLabelled, HasOneTerminalEach, IsPositivelyDependent, IsFirstSplitClass}
-use Rattle.crn_vec.proofs.CallerLemmas.{and_cases, all_from, zip_long, map_in}
+use Rattle.crn_vec.proofs.CallerLemmas.{and_cases, all_from, zip_long, map_in, filter_from}
 use Rattle.crn_cert.specs.declared.answer.Gap.{Gap}
 use Rattle.crn_cert.specs.declared.answer.Gap.TheVariants.{Rests}
 use Rattle.crn_cert.specs.declared.answer.Verdict.{Verdict}
@@ -25,7 +25,6 @@ use Rattle.crn_cert.specs.Answered.{IsAnswer}
 use Rattle.crn_cert.specs.Given.{GiveClasses}
 use Rattle.crn_cert.proofs.CallerLemmas.{pair_places_are_pairs, range_bounds}
 use Rattle.crn_graph.specs.Pair.{HasSide, HasWayRound}
-use Rattle.crn_defi.proofs.CallerLemmas.{filter_of}
 use Rattle.crn_pairs.specs.Pairs.{pairs_to, is_pair}
 use Rattle.crn_reg.specs.Inner.Verdicts.{plain, by_dependence}
 use Rattle.crn_reg.proofs.FirstPairs.{all_cut_pairs}
@@ -50,7 +49,7 @@ places_same net earlier links count labels exit_list g =
 -- each reaction of the pairs is one of the network
 pub pairs_inside : (net : Net) (labels exit_list : List ℕ) (r : ℕ) → IsIn r (pairs_to net labels exit_list (length net.reactions)) → IsFrom 1 (length net.reactions) r
 pairs_inside net labels exit_list r i =
-    let b = range_bounds r 1 (length net.reactions) (filter_of (is_pair net labels exit_list) (range_with_len 1 (length net.reactions)) r i).0 in
+    let b = range_bounds r 1 (length net.reactions) (filter_from (is_pair net labels exit_list) (range_with_len 1 (length net.reactions)) r i).0 in
     (b.0, omega (arith, b.1))
 
 pub pairs_from : (net : Net) (labels exit_list pairs : List ℕ) → pairs ≡ pairs_to net labels exit_list (length net.reactions) → AllByRecursion (IsFrom 1 (length net.reactions)) pairs
@@ -143,7 +142,7 @@ pub cycle_answer : (net : Net) (budget : ℕ) (earlier : Earlier) (links labels 
 cycle_answer net budget earlier links labels exit_list pairs count q7 r walk k nay i h =
     let e = pair_list net earlier links labels exit_list pairs count q7 k in
     let place : IsIn r (pair_places net earlier) = subst (λ (rs : List ℕ). IsIn r rs) (sym e) i in
-    let f = filter_of (λ r. is_within_terminal earlier (ends_at net r) && is_least_of_pair net r) (range_with_len 1 (length net.reactions)) r place in
+    let f = filter_from (λ r. is_within_terminal earlier (ends_at net r) && is_least_of_pair net r) (range_with_len 1 (length net.reactions)) r place in
     let b = range_bounds r 1 (length net.reactions) f.0 in
     let most : r ≤ length net.reactions = omega (arith, b.1) in
     let within = (and_cases (is_within_terminal earlier (ends_at net r)) (is_least_of_pair net r) f.1).0 in

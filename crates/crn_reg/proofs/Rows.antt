@@ -1,22 +1,15 @@
 -- The rows of the confluence system one after another in a list.
 use Rattle.std.proofs.Common.{◌≡◌, ℕ, suc, ◌+◌, ◌*◌, ◌<◌, ◌≤◌, ◌==◌, get_or, inl, inr, List, [], ◌∷◌, ◌++◌, length, map, take, drop, append_assoc, refl, sym, ap, ap₂, ◌∙◌, arith}
-use Rattle.std.specs.Prelude.{ℤ, pos, negsuc, if◌then◌else◌}
-use Rattle.std.specs.List.{AllByRecursion, flat_map, range_with_len}
-use Rattle.std.proofs.lemmas.Int.{ints}
+use Rattle.std.specs.Prelude.{ℤ, pos, if◌then◌else◌}
+use Rattle.std.specs.List.{flat_map, range_with_len}
 use Rattle.std.proofs.lemmas.List.{length-append, length-map}
 use Rattle.std.proofs.lemmas.List.FromFn.{length-range_with_len}
 use Rattle.std.proofs.Math.Seq.{take-append_seam}
 use Rattle.crn_vec.specs.Lists.{IsIn}
-use Rattle.crn_conc.proofs.CallerLemmas.{length-rows_after}
-use Rattle.crn_vec.specs.Network.{Net, IsNetwork, IsAmount}
+use Rattle.crn_vec.specs.Network.{Net, IsNetwork}
 use Rattle.crn_vec.specs.Sums.{label_marks}
-use Rattle.crn_vec.proofs.CallerLemmas.{length-column, inside_at, reaction_in}
-use Rattle.crn_vec.specs.Vectors.{AreWithin, rows_of, column}
-use Rattle.crn_vec.specs.declared.limits.TheConstants.{MAX_AMOUNT}
-
-drop_seam : (xs ys : List ℤ) → drop (length xs) (xs ++ ys) ≡ ys
-drop_seam [] ys = refl
-drop_seam (x ∷ xs) ys = drop_seam xs ys
+use Rattle.crn_vec.proofs.CallerLemmas.{length-column, inside_at, reaction_in, drop_seam, length-rows_after}
+use Rattle.crn_vec.specs.Vectors.{rows_of, column}
 
 -- the rows of lists one after another, and then of others, are these lists and then those of the others
 pub rows_then : (n m : ℕ) (f : ℕ → List ℤ) (rs : List ℕ) (ys : List ℤ) → ((r : ℕ) → IsIn r rs → length (f r) ≡ n) → rows_of (length rs + m) n (flat_map f rs ++ ys) ≡ map f rs ++ rows_of m n ys
@@ -31,12 +24,6 @@ rows_then n m f (r ∷ rs) ys h =
     ap (λ (k : ℕ). rows_of k n ((f r ++ flat_map f rs) ++ ys)) count
     ∙ ap (rows_of (suc (length rs + m)) n) joined
     ∙ ap₂ (λ (x : List ℤ) (t : List (List ℤ)). x ∷ t) first (ap (rows_of (length rs + m) n) rest ∙ rows_then n m f rs ys (λ q i. h q (inr i)))
-
--- amounts are within the limit of amounts
-pub amounts_within : (v : List ℤ) → AllByRecursion IsAmount v → AreWithin MAX_AMOUNT v
-amounts_within [] h = tt
-amounts_within (pos n ∷ v) h = (omega (arith, ints, h.0.1), amounts_within v h.1)
-amounts_within (negsuc n ∷ v) h = absurd (omega (arith, ints, h.0.0))
 
 -- ---- the rows of the confluence system
 

@@ -18,10 +18,10 @@ use Rattle.crn_vec.specs.Sums.{SumsTo, label_marks}
 use Rattle.crn_vec.specs.NetSystems.{by_species, confluence_system}
 use Rattle.crn_vec.specs.Confluence.{IsRegular, InConfluenceSpace, IsNonzero, HasConfluenceLine, IsConfluenceVector, AreConfluencesOne, negative}
 use Rattle.crn_vec.proofs.CallerLemmas.{lt_or, past_end, in_left, in_right, in_cases, in_map, map_in, vector_long, entry-column, length-column, dot-comm, dot_zero, dot_ratio, dot-scale, no_zero, mul-neg, pos_pos, label_sum, label_sum_is, confluence_vectors_are_one}
+use Rattle.crn_vec.proofs.CallerLemmas.{neg-mul, up_up, in_range}
 use Rattle.crn_cert.specs.Says.{AreLinkageClasses, AreStrongClasses}
 use Rattle.crn_cert.specs.ConfluenceTests.{IsInSpace, DoTerminalsGather}
 use Rattle.crn_cert.proofs.CallerLemmas.{range_bounds}
-use Rattle.crn_defi.proofs.CallerLemmas.{in_range}
 use Rattle.crn_reg.specs.Inner.Spaces.{IsSolution}
 use Rattle.crn_reg.specs.Inner.Turned.{class_sum, AreZeroBefore, GathersFirst}
 
@@ -172,32 +172,20 @@ is_up (pos zero) h = inl refl
 is_up (pos (suc n)) h = inr (omega (arith, ints))
 is_up (negsuc n) h = absurd (omega (arith, ints, h))
 
-product_up : (t b : ℤ) → pos 0 ≤ℤ t → pos 0 ≤ℤ b → pos 0 ≤ℤ (t *ℤ b)
-product_up t b tp bp = elim (is_up t tp) as (λ _. pos 0 ≤ℤ (t *ℤ b)) [
-  | inl z ↦ (let e : t *ℤ b ≡ pos 0 *ℤ b = ap (λ (x : ℤ). x *ℤ b) z in omega (arith, ints, e, zero-*ℤ b))
-  | inr p ↦ elim (is_up b bp) as (λ _. pos 0 ≤ℤ (t *ℤ b)) [
-    | inl z ↦ (let e : t *ℤ b ≡ t *ℤ pos 0 = ap (λ (x : ℤ). t *ℤ x) z in omega (arith, ints, e, *ℤ-zero t))
-    | inr q ↦ (let r = pos_pos t b p q in omega (arith, ints, r))
-  ]
-]
-
 -- the sign of a number that is in one ratio to one that is not negative
-up_up : (s t a b : ℤ) → pos 0 <ℤ a → pos 0 ≤ℤ b → pos 0 ≤ℤ t → s *ℤ a ≡ t *ℤ b → pos 0 ≤ℤ s
-up_up (pos s) t a b ap' bp tp e = omega (arith, ints)
-up_up (negsuc s) t a b ap' bp tp e =
+up_by_ratio : (s t a b : ℤ) → pos 0 <ℤ a → pos 0 ≤ℤ b → pos 0 ≤ℤ t → s *ℤ a ≡ t *ℤ b → pos 0 ≤ℤ s
+up_by_ratio (pos s) t a b ap' bp tp e = omega (arith, ints)
+up_by_ratio (negsuc s) t a b ap' bp tp e =
     let x : ℤ = pos (suc s) in
     let down : pos 0 <ℤ (a *ℤ x) = pos_pos a x ap' (omega (arith, ints)) in
     let neg : a *ℤ negsuc s ≡ neg_ℤ (a *ℤ x) = mul-neg a x in
-    let up : pos 0 ≤ℤ (t *ℤ b) = product_up t b tp bp in
+    let up : pos 0 ≤ℤ (t *ℤ b) = up_up t b tp bp in
     absurd (omega (arith, ints, down, neg, up, e, *ℤ_comm (negsuc s) a))
 
 sides : (x : ℤ) → x ≢ pos 0 → (pos 0 <ℤ x) ⊎ (pos 0 <ℤ neg_ℤ x)
 sides (pos zero) ne = absurd (ne refl)
 sides (pos (suc n)) ne = inl (omega (arith, ints))
 sides (negsuc n) ne = inr (omega (arith, ints))
-
-neg-left : (s a : ℤ) → neg_ℤ s *ℤ a ≡ neg_ℤ (s *ℤ a)
-neg-left s a = *ℤ_comm (neg_ℤ s) a ∙ mul-neg a s ∙ ap neg_ℤ (*ℤ_comm a s)
 
 -- numbers in one ratio to numbers that are not negative have one sign, or are 0
 abbrev AreUp : ℤ → ℤ → Type 0
@@ -209,12 +197,12 @@ AreDown a b = (s t : ℤ) → pos 0 ≤ℤ t → s *ℤ a ≡ t *ℤ b → s ≤
 one_side : (a b : ℤ) → a ≢ pos 0 → b ≢ pos 0 → AreUp a b ⊎ AreDown a b
 one_side a b na nb = elim (sides a na) as (λ _. AreUp a b ⊎ AreDown a b) [
   | inl ap' ↦ elim (sides b nb) as (λ _. AreUp a b ⊎ AreDown a b) [
-    | inl bp ↦ inl (λ s t tp e. up_up s t a b ap' (omega (arith, ints, bp)) tp e)
-    | inr bn ↦ inr (λ s t tp e. (let r = up_up (neg_ℤ s) t a (neg_ℤ b) ap' (omega (arith, ints, bn)) tp (neg-left s a ∙ ap neg_ℤ e ∙ sym (mul-neg t b)) in omega (arith, ints, r)))
+    | inl bp ↦ inl (λ s t tp e. up_by_ratio s t a b ap' (omega (arith, ints, bp)) tp e)
+    | inr bn ↦ inr (λ s t tp e. (let r = up_by_ratio (neg_ℤ s) t a (neg_ℤ b) ap' (omega (arith, ints, bn)) tp (neg-mul s a ∙ ap neg_ℤ e ∙ sym (mul-neg t b)) in omega (arith, ints, r)))
   ]
   | inr an ↦ elim (sides b nb) as (λ _. AreUp a b ⊎ AreDown a b) [
-    | inl bp ↦ inr (λ s t tp e. (let r = up_up (neg_ℤ s) t (neg_ℤ a) b an (omega (arith, ints, bp)) tp (neg-left s (neg_ℤ a) ∙ ap neg_ℤ (mul-neg s a) ∙ (let d : neg_ℤ (neg_ℤ (s *ℤ a)) ≡ s *ℤ a = omega (arith, ints) in d) ∙ e) in omega (arith, ints, r)))
-    | inr bn ↦ inl (λ s t tp e. up_up s t (neg_ℤ a) (neg_ℤ b) an (omega (arith, ints, bn)) tp (mul-neg s a ∙ ap neg_ℤ e ∙ sym (mul-neg t b)))
+    | inl bp ↦ inr (λ s t tp e. (let r = up_by_ratio (neg_ℤ s) t (neg_ℤ a) b an (omega (arith, ints, bp)) tp (neg-mul s (neg_ℤ a) ∙ ap neg_ℤ (mul-neg s a) ∙ (let d : neg_ℤ (neg_ℤ (s *ℤ a)) ≡ s *ℤ a = omega (arith, ints) in d) ∙ e) in omega (arith, ints, r)))
+    | inr bn ↦ inl (λ s t tp e. up_by_ratio s t (neg_ℤ a) (neg_ℤ b) an (omega (arith, ints, bn)) tp (mul-neg s a ∙ ap neg_ℤ e ∙ sym (mul-neg t b)))
   ]
 ]
 

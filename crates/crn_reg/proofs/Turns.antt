@@ -3,30 +3,19 @@ use Rattle.std.proofs.Common.{◌≡◌, ◌≢◌, ℕ, zero, suc, ◌<◌, ◌
 use Rattle.std.specs.Prelude.{ℤ, pos, negsuc, neg_ℤ, ◌≤ℤ◌, unsigned_abs}
 use Rattle.std.specs.Int.{◌∣◌}
 use Rattle.std.proofs.lemmas.Int.{ints}
-use Rattle.std.proofs.lemmas.List.{get_or-map, length-map, ext_get_or}
+use Rattle.std.proofs.lemmas.List.{length-map, ext_get_or}
 use Rattle.crn_vec.specs.declared.limits.TheConstants.{WIDE_ENTRY}
 use Rattle.crn_vec.specs.Vectors.{Mat, entry, dot}
 use Rattle.crn_vec.specs.Sums.{label_marks}
 use Rattle.crn_vec.specs.Confluence.{IsNonzero, LeadsPositive}
-use Rattle.crn_vec.proofs.CallerLemmas.{lt_or, past_end, mul-neg}
+use Rattle.crn_vec.proofs.CallerLemmas.{lt_or, entry-neg, dot-neg}
 use Rattle.crn_reg.specs.Inner.Spaces.{IsKeptSolution, IsFirstPlace}
 use Rattle.crn_reg.specs.Inner.Turned.{IsTurned, class_sum, AreZeroBefore, IsFirstSum, GathersFirst, IsFirstEntry}
 
 -- ---- the negative of a list
 
-pub entry-negated : (g : List ℤ) (k : ℕ) → entry (map neg_ℤ g) k ≡ neg_ℤ (entry g k)
-entry-negated g k = elim (lt_or k (length g)) as (λ _. entry (map neg_ℤ g) k ≡ neg_ℤ (entry g k)) [
-  | inl lt ↦ get_or-map neg_ℤ g k (pos 0) (pos 0) lt
-  | inr ge ↦ past_end (map neg_ℤ g) k (omega (arith, ge, length-map g neg_ℤ)) ∙ sym (ap neg_ℤ (past_end g k ge))
-]
-
-pub dot-negated : (m g : List ℤ) → dot m (map neg_ℤ g) ≡ neg_ℤ (dot m g)
-dot-negated [] g = refl
-dot-negated (k ∷ m) [] = refl
-dot-negated (k ∷ m) (x ∷ g) = omega (arith, ints, mul-neg k x, dot-negated m g)
-
 pub sum-negated : (labels : List ℕ) (g : List ℤ) (m : ℕ) → class_sum labels (map neg_ℤ g) m ≡ neg_ℤ (class_sum labels g m)
-sum-negated labels g m = dot-negated (label_marks labels m) g
+sum-negated labels g m = dot-neg (label_marks labels m) g
 
 negated_size : (z : ℤ) → unsigned_abs (neg_ℤ z) ≡ unsigned_abs z
 negated_size z = omega (arith, ints)
@@ -35,7 +24,7 @@ negated_size z = omega (arith, ints)
 
 turned_entry : (g t : List ℤ) (k : ℕ) → IsTurned g t → (entry t k ≡ entry g k) ⊎ (entry t k ≡ neg_ℤ (entry g k))
 turned_entry g t k (inl e) = inl (ap (λ (l : List ℤ). entry l k) e)
-turned_entry g t k (inr e) = inr (ap (λ (l : List ℤ). entry l k) e ∙ entry-negated g k)
+turned_entry g t k (inr e) = inr (ap (λ (l : List ℤ). entry l k) e ∙ entry-neg g k)
 
 turned_size : (g t : List ℤ) (k : ℕ) → IsTurned g t → unsigned_abs (entry t k) ≡ unsigned_abs (entry g k)
 turned_size g t k h = elim (turned_entry g t k h) as (λ _. unsigned_abs (entry t k) ≡ unsigned_abs (entry g k)) [
@@ -57,7 +46,7 @@ turned_some g t k h ne z = elim (turned_entry g t k h) as (λ _. ⊥) [
 
 turned_dot : (g t m : List ℤ) → IsTurned g t → dot m g ≡ pos 0 → dot m t ≡ pos 0
 turned_dot g t m (inl e) z = ap (dot m) e ∙ z
-turned_dot g t m (inr e) z = ap (dot m) e ∙ dot-negated m g ∙ ap neg_ℤ z
+turned_dot g t m (inr e) z = ap (dot m) e ∙ dot-neg m g ∙ ap neg_ℤ z
 
 turned_long : (g t : List ℤ) → IsTurned g t → length t ≡ length g
 turned_long g t (inl e) = ap length e
@@ -129,12 +118,12 @@ leads_kept g x some h le =
 pub leads_negated : (g : List ℤ) (x : ℤ) → IsNonzero g → IsFirstEntry g x → x ≤ℤ pos 0 → LeadsPositive (map neg_ℤ g)
 leads_negated g x some h le =
     let p = least_place g some.0 some.1 in
-    let at = entry-negated g p.0 in
+    let at = entry-neg g p.0 in
     elim (h p.0 p.1.before) as (λ _. LeadsPositive (map neg_ℤ g)) [
-      | inl e ↦ (p.0, omega (arith, ints, e, le, p.1.some, at), λ k lt. entry-negated g k ∙ ap neg_ℤ (p.1.before k lt))
+      | inl e ↦ (p.0, omega (arith, ints, e, le, p.1.some, at), λ k lt. entry-neg g k ∙ ap neg_ℤ (p.1.before k lt))
       | inr e ↦ absurd (p.1.some e)
     ]
 
 -- a list by its entries
 pub negated_by : (g t : List ℤ) → length t ≡ length g → ((k : ℕ) → k < length g → entry t k ≡ neg_ℤ (entry g k)) → t ≡ map neg_ℤ g
-negated_by g t l h = ext_get_or (pos 0) t (map neg_ℤ g) (l ∙ sym (length-map g neg_ℤ)) (λ k lt. h k (omega (arith, lt, l)) ∙ sym (entry-negated g k))
+negated_by g t l h = ext_get_or (pos 0) t (map neg_ℤ g) (l ∙ sym (length-map g neg_ℤ)) (λ k lt. h k (omega (arith, lt, l)) ∙ sym (entry-neg g k))

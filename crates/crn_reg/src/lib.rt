@@ -9,8 +9,6 @@ mod pairs;
 mod regularity;
 mod sides;
 mod space;
-#[cfg(test)]
-mod tests;
 mod ties;
 mod turn;
 

@@ -8,7 +8,7 @@ use crate::space::first_place;
 use crn_vec::Ints;
 
 // The number if the label is that of the class, else 0.
-fn counted(label: u32, class: u32, x: &i128) -> i128
+fn class_term(label: u32, class: u32, x: &i128) -> i128
     requires { unsigned_abs x.now < WIDE_ENTRY }
     ensures value { result ≡ (if label == class then pos 1 else pos 0) *ℤ x.now }
     ensures small { unsigned_abs result ≤ WIDE_ENTRY }
@@ -25,7 +25,7 @@ fn class_sum(labels: &[u32], vector: &[i128], class: u32) -> i128
 {
     let mut sum = 0;
     for c in 0..labels.len() {
-        sum += counted(labels[c], class, &vector[c]);
+        sum += class_term(labels[c], class, &vector[c]);
     }
     sum
 }
@@ -75,7 +75,7 @@ fn negate(vector: Ints) -> Ints
 }
 
 // The first entry that is not zero if the network is weakly reversible, and else the first sum.
-fn leading(vector: &[i128], labels: &[u32], exits: &[u32], weak: bool) -> i128
+fn leading_number(vector: &[i128], labels: &[u32], exits: &[u32], weak: bool) -> i128
     requires long { length vector.now ≡ length labels.now }
     requires few { length labels.now ≤ MAX_COMPLEXES }
     requires exits { length exits.now ≤ MAX_COMPLEXES }
@@ -93,7 +93,7 @@ fn leading(vector: &[i128], labels: &[u32], exits: &[u32], weak: bool) -> i128
 
 /// The vector, or its negative: of a weakly reversible network the one whose first entry that is not zero is positive,
 /// and of any other the one whose first sum over a terminal class that is not zero is positive, if there is one.
-pub(crate) fn turned(vector: Ints, labels: &[u32], exits: &[u32], weak: bool) -> Ints
+pub(crate) fn turned_vector(vector: Ints, labels: &[u32], exits: &[u32], weak: bool) -> Ints
     requires long { length vector.list ≡ length labels.now }
     requires few { length labels.now ≤ MAX_COMPLEXES }
     requires exits { length exits.now ≤ MAX_COMPLEXES }
@@ -103,6 +103,6 @@ pub(crate) fn turned(vector: Ints, labels: &[u32], exits: &[u32], weak: bool) ->
     ensures leads { IsTrue weak → LeadsPositive result.list }
     ensures gathers { weak ≡ false → GathersFirst labels.now exits.now result.list }
 {
-    let first = leading(vector.as_slice(), labels, exits, weak);
+    let first = leading_number(vector.as_slice(), labels, exits, weak);
     if first < 0 { negate(vector) } else { vector }
 }

@@ -21,6 +21,7 @@ use Rattle.crn_vec.specs.Concordance.{sign}
 use Rattle.crn_vec.specs.Signals.{Pair, Shape, complex_row, pair_row, shelf_matrix, signals}
 use Rattle.crn_vec.specs.NetSignals.{IsSignalOf, HasNoSignal, IsShapeOf, opposite_pair, opposite_shape}
 use Rattle.crn_vec.proofs.CallerLemmas.{all_at, length-scale, number_is_one, strong_back, strong_then, confluence_vectors_are_one, signals_are_steady, shapes_are_one, multiples_share_signals, signals_stand, signals_are_of_shape, negatives_have_opposite_shapes}
+use Rattle.crn_vec.proofs.CallerLemmas.{rows_count}
 use Rattle.crn_cert.specs.declared.answer.Answer.{Answer}
 use Rattle.crn_cert.specs.declared.answer.Verdict.TheVariants.{YesSignal}
 use Rattle.crn_cert.specs.declared.answer.Proof.TheVariants.{Nothing}
@@ -28,7 +29,7 @@ use Rattle.crn_cert.specs.declared.tree.Tree.{Tree}
 use Rattle.crn_cert.specs.Questions.{Earlier, Q2, Q12, Q13, on, vector_given, terminal_of}
 use Rattle.crn_cert.specs.Ranges.{AreFree, IsNarrow}
 use Rattle.crn_cert.specs.Says.{IsTrueOf, AreStrongClasses, IsTurn, IsShelf, by_turn, HasNoSignals}
-use Rattle.crn_cert.specs.Tests.{Test, AllHold}
+use Rattle.crn_cert.specs.Tests.{AllHold}
 use Rattle.crn_cert.specs.Trees.{Plan, Both, Three, RulesA, RulesB, Level, plan, node_count, IsFormedTree}
 use Rattle.crn_cert.specs.Nodes.{Said, Fits}
 use Rattle.crn_cert.specs.TreeTests.{tree_tests}
@@ -36,42 +37,34 @@ use Rattle.crn_cert.specs.Formed.{IsSignalTree, IsWideGap, AreSignalRows}
 use Rattle.crn_cert.specs.Valid.{IsSignalNode, IsNodeOf, HasVector, pair_places}
 use Rattle.crn_cert.specs.Licensed.{IsSignalWide, PassForSignals}
 use Rattle.crn_cert.specs.Answered.{IsAnswer}
-use Rattle.crn_cert.proofs.CallerLemmas.{tests_decide_valid_trees, leaves_nothing, shapes_exist, tops_are_counted}
+use Rattle.crn_cert.proofs.CallerLemmas.{tests_decide_valid_trees, leaves_nothing, shapes_exist, tops_are_counted, hold_append, hold_parts, count_places, formed_tree}
+use Rattle.crn_cert.proofs.CallerLemmas.{wide_basis}
 use Rattle.crn_sign.specs.declared.end.SearchEnd.TheVariants.{Found, Refuted}
 use Rattle.crn_sign.specs.declared.fault.SearchStop.{SearchStop}
 use Rattle.crn_sign.specs.declared.fault.SearchStop.TheVariants.{WideA, WideB, NoMemory}
-use Rattle.crn_conc.specs.TreeSizes.{HasFewNodes}
-use Rattle.crn_conc.proofs.CallerLemmas.{rows_count, wide_basis}
-use Rattle.crn_shelf.proofs.Sizes.{count_places, formed_tree, solution_free}
+use Rattle.crn_cert.specs.TreeSizes.{HasFewNodes}
 use Rattle.crn_shelf.specs.Given.{GiveVector}
 use Rattle.crn_shelf.specs.Inner.Shapes.{EndsFor, StopsFor}
 use Rattle.crn_shelf.specs.Inner.Answers.{shelf_number, IsFoundAnswer, spent_answer, wide_answer, one_answer, two_answer, IsStopAnswer}
+use Rattle.crn_conc.proofs.CallerLemmas.{solution_free}
 
 -- ---- tests of trees
-
-both_hold : (xs ys : List Test) → AllHold xs → AllHold ys → AllHold (xs ++ ys)
-both_hold [] ys h k = k
-both_hold (x ∷ xs) ys h k = (h.0, both_hold xs ys h.1 k)
-
-hold_both : (xs ys : List Test) → AllHold (xs ++ ys) → AllHold xs × AllHold ys
-hold_both [] ys h = (tt, h)
-hold_both (x ∷ xs) ys h = let r = hold_both xs ys h.1 in ((h.0, r.0), r.1)
 
 -- tests of nodes that follow from others hold with them
 holds_too : (H K : List Sign → Said → Type 0) → ((p : List Sign) (said : Said) → H p said → K p said) → (part : ℕ) (p : List Sign) (t : Plan) → AllHold (tree_tests H part p t) → AllHold (tree_tests K part p t)
 holds_too H K f part p (Both z q) h =
-    let s = hold_both (tree_tests H (part + 1) (p ++ Zero ∷ []) z) (tree_tests H (part + 1 + node_count z) (p ++ Plus ∷ []) q) h.1 in (
+    let s = hold_parts (tree_tests H (part + 1) (p ++ Zero ∷ []) z) (tree_tests H (part + 1 + node_count z) (p ++ Plus ∷ []) q) h.1 in (
       f p _ h.0,
-      both_hold (tree_tests K (part + 1) (p ++ Zero ∷ []) z) (tree_tests K (part + 1 + node_count z) (p ++ Plus ∷ []) q)
+      hold_append (tree_tests K (part + 1) (p ++ Zero ∷ []) z) (tree_tests K (part + 1 + node_count z) (p ++ Plus ∷ []) q)
           (holds_too H K f (part + 1) (p ++ Zero ∷ []) z s.0) (holds_too H K f (part + 1 + node_count z) (p ++ Plus ∷ []) q s.1),
     )
 holds_too H K f part p (Three z q m) h =
     let last = part + 1 + node_count z + node_count q in
-    let s = hold_both (tree_tests H (part + 1) (p ++ Zero ∷ []) z ++ tree_tests H (part + 1 + node_count z) (p ++ Plus ∷ []) q) (tree_tests H last (p ++ Minus ∷ []) m) h.1 in
-    let r = hold_both (tree_tests H (part + 1) (p ++ Zero ∷ []) z) (tree_tests H (part + 1 + node_count z) (p ++ Plus ∷ []) q) s.0 in (
+    let s = hold_parts (tree_tests H (part + 1) (p ++ Zero ∷ []) z ++ tree_tests H (part + 1 + node_count z) (p ++ Plus ∷ []) q) (tree_tests H last (p ++ Minus ∷ []) m) h.1 in
+    let r = hold_parts (tree_tests H (part + 1) (p ++ Zero ∷ []) z) (tree_tests H (part + 1 + node_count z) (p ++ Plus ∷ []) q) s.0 in (
       f p _ h.0,
-      both_hold (tree_tests K (part + 1) (p ++ Zero ∷ []) z ++ tree_tests K (part + 1 + node_count z) (p ++ Plus ∷ []) q) (tree_tests K last (p ++ Minus ∷ []) m)
-          (both_hold (tree_tests K (part + 1) (p ++ Zero ∷ []) z) (tree_tests K (part + 1 + node_count z) (p ++ Plus ∷ []) q)
+      hold_append (tree_tests K (part + 1) (p ++ Zero ∷ []) z ++ tree_tests K (part + 1 + node_count z) (p ++ Plus ∷ []) q) (tree_tests K last (p ++ Minus ∷ []) m)
+          (hold_append (tree_tests K (part + 1) (p ++ Zero ∷ []) z) (tree_tests K (part + 1 + node_count z) (p ++ Plus ∷ []) q)
           (holds_too H K f (part + 1) (p ++ Zero ∷ []) z r.0) (holds_too H K f (part + 1 + node_count z) (p ++ Plus ∷ []) q r.1))
           (holds_too H K f last (p ++ Minus ∷ []) m s.1),
     )
@@ -173,7 +166,7 @@ two_is net earlier g budget tree second n regular line normal v e f =
       formed = (tt, (v.weak_is.1 refl, t.formed, u.formed));
       valid = (
         has_vector net earlier g true v,
-        both_hold (tree_tests (IsNodeOf net earlier (pos 1)) 1 [] (plan tree)) (tree_tests (IsNodeOf net earlier (negsuc 0)) last [] (plan second))
+        hold_append (tree_tests (IsNodeOf net earlier (pos 1)) 1 [] (plan tree)) (tree_tests (IsNodeOf net earlier (negsuc 0)) last [] (plan second))
             (nodes_of net earlier g true (pos 1) 1 (plan tree) v (t.tests 1)) (nodes_of net earlier g true (negsuc 0) last (plan second) v (u.tests last)),
       );
       answered = (regular, line, none_at_all net g n regular line normal.confluence (no_signal net g budget tree n regular e) (λ w. no_signal net (negative g) budget second n regular f));

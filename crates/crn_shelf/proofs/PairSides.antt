@@ -1,7 +1,7 @@
 -- The pair of a side, found as the first reaction that joins complexes of different marks.
-use Rattle.std.proofs.Common.{◌≡◌, ℕ, ◌<◌, ◌≤◌, List, [], ◌∷◌, ◌++◌, length, refl, sym, ap, subst, ◌∙◌, inl, inr, arith}
+use Rattle.std.proofs.Common.{◌≡◌, ℕ, ◌<◌, ◌≤◌, List, [], ◌∷◌, length, refl, sym, ap, subst, ◌∙◌, inl, inr, arith}
 use Rattle.std.specs.Prelude.{ℤ, Option, Some, None, unsigned_abs}
-use Rattle.std.specs.List.{AllByRecursion, AllZip}
+use Rattle.std.specs.List.{AllByRecursion}
 use Rattle.std.proofs.lemmas.Int.{ints}
 use Rattle.crn_vec.specs.declared.limits.TheConstants.{WIDE_SOLUTION, MAX_AMOUNT}
 use Rattle.crn_vec.specs.Network.{Net, IsNetwork}
@@ -12,12 +12,11 @@ use Rattle.crn_vec.specs.CutPairs.{IsBetween, IsFreeStep, IsOnSide, IsTerminalPa
 use Rattle.crn_vec.specs.Sums.{AreMarks}
 use Rattle.crn_vec.specs.Confluence.{IsRegular}
 use Rattle.crn_vec.specs.NetSignals.{top_at, AreTops}
-use Rattle.crn_vec.proofs.CallerLemmas.{lt_or, within_from, dot-comm, inside_at, reaction_in, leads_here, leads_back}
+use Rattle.crn_vec.proofs.CallerLemmas.{lt_or, within_from, dot-comm, inside_at, reaction_in, leads_here, leads_back, mark_yes, mark_no, other_step, free_back}
 use Rattle.crn_cert.specs.Ranges.{IsNarrow}
 use Rattle.crn_shelf.specs.Sides.{IsSideOf}
 use Rattle.crn_shelf.specs.declared.pairs.LinkedPair.{LinkedPair}
 use Rattle.crn_shelf.specs.Inner.Pairs.{ends_of, IsFirstAcross, IsSide, IsPairFor}
-use Rattle.crn_shelf.proofs.FewPairs.{mark_yes, mark_no, other_step, free_back}
 
 -- ---- the two complexes of the pair
 
@@ -117,11 +116,3 @@ marks_within net marks side = within_from MAX_AMOUNT marks (λ k lt. elim (side.
   | inl h ↦ omega (arith, ints, ap unsigned_abs h.1)
   | inr h ↦ omega (arith, ints, ap unsigned_abs h.1)
 ])
-
--- ---- all pairs
-
-pub zip_push : {A B : Type 0} (R : A → B → Type 0) (xs : List A) (ys : List B) (x : A) (y : B) → AllZip R xs ys → R x y → AllZip R (xs ++ x ∷ []) (ys ++ y ∷ [])
-zip_push R [] [] x y h r = (r, tt)
-zip_push R [] (b ∷ ys) x y h r = absurd h
-zip_push R (a ∷ xs) [] x y h r = absurd h
-zip_push R (a ∷ xs) (b ∷ ys) x y h r = (h.0, zip_push R xs ys x y h.1 r)

@@ -9,7 +9,7 @@ use Rattle.crn_vec.specs.CutPairs.{IsFirstOfPair}
 use Rattle.crn_vec.specs.Confluence.{IsRegular}
 use Rattle.crn_vec.specs.Signals.{Pair, Shape, signals}
 use Rattle.crn_vec.specs.NetSignals.{top_at, AreTops, IsPairOf, IsShapeOf}
-use Rattle.crn_vec.proofs.CallerLemmas.{inside_at, reaction_in}
+use Rattle.crn_vec.proofs.CallerLemmas.{inside_at, reaction_in, few_pairs}
 use Rattle.crn_shelf.specs.Sides.{IsSideOf, AreSides}
 use Rattle.crn_shelf.specs.declared.pairs.LinkedPair.{LinkedPair}
 use Rattle.crn_shelf.specs.Inner.Pairs.{IsSide, pair_of, IsPairFor}
@@ -20,7 +20,6 @@ use Rattle.crn_sign.specs.declared.fault.SearchStop.{SearchStop}
 use Rattle.crn_sign.specs.declared.fault.SearchStop.TheVariants.{WideA, WideB, NoMemory}
 use Rattle.crn_sign.specs.Search.{IsSearchEnd, IsSearchStop}
 use Rattle.crn_shelf.specs.Inner.Shapes.{shape_of, StopsFor}
-use Rattle.crn_shelf.proofs.FewPairs.{few_pairs}
 
 sides_by : (net : Net) (places : List ℕ) (sides : List (List ℤ)) → ((r : ℕ) → IsIn r places → IsFirstOfPair net.reactions r) → AllZip (IsSideOf net) places sides → AllByRecursion (IsSide net) sides
 sides_by net [] [] first h = tt

@@ -2,23 +2,16 @@
 use Rattle.std.proofs.Common.{◌≡◌, ℕ, ◌+◌, ◌*◌, ◌<◌, inl, inr, List, [], ◌∷◌, ◌++◌, length, map, refl, sym, ap, ap₂, ◌∙◌, arith}
 use Rattle.std.specs.Prelude.{ℤ, pos, negsuc, Option}
 use Rattle.std.specs.List.{AllByRecursion, flat_map}
-use Rattle.std.proofs.lemmas.Int.{ints}
 use Rattle.std.proofs.lemmas.List.{length-append, length-map, append_assoc}
-use Rattle.crn_vec.specs.declared.limits.TheConstants.{MAX_AMOUNT}
 use Rattle.crn_vec.specs.Lists.{IsIn}
-use Rattle.crn_vec.specs.Network.{Net, IsNetwork, IsAmount, IsVector, reaction_vector}
-use Rattle.crn_vec.specs.Vectors.{Mat, AreWithin, rows_of}
+use Rattle.crn_vec.specs.Network.{Net, IsNetwork, IsVector, reaction_vector}
+use Rattle.crn_vec.specs.Vectors.{Mat, rows_of}
 use Rattle.crn_vec.specs.Matrices.{mat_of}
 use Rattle.crn_vec.specs.Signals.{complex_row, pair_row, shelf_matrix}
-use Rattle.crn_vec.proofs.CallerLemmas.{all_in, at_in, in_cases, in_map}
-use Rattle.crn_conc.proofs.CallerLemmas.{length-rows_after, rows_after, reaction_long}
+use Rattle.crn_vec.proofs.CallerLemmas.{all_in, at_in, in_cases, in_map, length-rows_after, rows_after, reaction_long}
 use Rattle.crn_shelf.specs.declared.pairs.LinkedPair.{LinkedPair}
 use Rattle.crn_shelf.specs.Inner.Pairs.{ends_of, pair_of}
 use Rattle.crn_shelf.specs.Inner.Shapes.{shape_of, linked_row}
-
-pub amounts_within : (v : List ℤ) → AllByRecursion IsAmount v → AreWithin MAX_AMOUNT v
-amounts_within [] h = tt
-amounts_within (x ∷ v) h = (omega (arith, ints, h.0.0, h.0.1), amounts_within v h.1)
 
 abbrev itself : List ℤ → List ℤ
 itself r = r

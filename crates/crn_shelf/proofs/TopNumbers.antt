@@ -6,7 +6,7 @@ use Rattle.std.proofs.lemmas.List.{get_or-map, length-map}
 use Rattle.crn_vec.specs.Network.{Net}
 use Rattle.crn_vec.specs.Linkage.{IsLabelCount}
 use Rattle.crn_vec.specs.NetSignals.{top_at, AreTops}
-use Rattle.crn_vec.proofs.CallerLemmas.{lt_or, eq_or, top_inside, some_is}
+use Rattle.crn_vec.proofs.CallerLemmas.{lt_or, eq_or, top_inside, some_is, none_some}
 use Rattle.crn_cert.specs.Says.{AreStrongClasses}
 use Rattle.crn_shelf.specs.Inner.Tops.{zeros_below, top_for}
 
@@ -56,13 +56,10 @@ top_yes es l e = ap (λ (b : Bool). cond b (Some (zeros_below es (l - 1))) None)
 top_no : (es : List ℕ) (l : ℕ) → (get_or es (l - 1) 0 == 0) ≡ false → top_for es l ≡ None
 top_no es l e = ap (λ (b : Bool). cond b (Some (zeros_below es (l - 1))) None) e
 
-clash : (o : Option ℕ) (k : ℕ) → o ≡ None → o ≡ Some k → ⊥
-clash o k e f = cc
-
 top_is : (es : List ℕ) (l k : ℕ) → top_for es l ≡ Some k → (get_or es (l - 1) 0 ≡ 0) × (zeros_below es (l - 1) ≡ k)
 top_is es l k e = elim (cases_Bool (get_or es (l - 1) 0 == 0)) as (λ _. (get_or es (l - 1) 0 ≡ 0) × (zeros_below es (l - 1) ≡ k)) [
   | inl hit ↦ let z : get_or es (l - 1) 0 ≡ 0 = eqb-true (get_or es (l - 1) 0) 0 hit in (z, some_is (zeros_below es (l - 1)) k (sym (top_yes es l z) ∙ e))
-  | inr miss ↦ absurd (clash (top_for es l) k (top_no es l miss) e)
+  | inr miss ↦ absurd (none_some (top_for es l) k (top_no es l miss) e)
 ]
 
 abbrev tops_of : List ℕ → List ℕ → List (Option ℕ)
@@ -110,7 +107,7 @@ tops_are net count terminal labels es s =
       inside = λ y k e. let t = top_known labels es y k e in (s.exits_are.terminal y t.inside).0 t.exit;
       outside = λ y ly e terminal.
           let lt : y < length labels = omega (arith, ly, s.places) in
-          clash (top_at (tops_of labels es) y) (zeros_below es (get_or labels y 0 - 1)) e (at_label labels es y lt ∙ top_yes es (get_or labels y 0) ((s.exits_are.terminal y lt).1 terminal));
+          none_some (top_at (tops_of labels es) y) (zeros_below es (get_or labels y 0 - 1)) e (at_label labels es y lt ∙ top_yes es (get_or labels y 0) ((s.exits_are.terminal y lt).1 terminal));
       same = λ y z k e f.
           let t = top_known labels es y k e in
           let u = top_known labels es z k f in

@@ -7,7 +7,7 @@ ghost use Rattle.crn_cert.specs.Ranges.{IsNarrow};
 ghost use Rattle.crn_cert.specs.Says.{AreStrongClasses};
 ghost use Rattle.crn_cert.specs.Questions.{Earlier, Q13};
 ghost use Rattle.crn_cert.specs.Answered.{IsAnswer};
-ghost use Rattle.crn_conc.specs.TreeSizes.{HasFewNodes};
+ghost use Rattle.crn_cert.specs.TreeSizes.{HasFewNodes};
 ghost use Rattle.crn_shelf.specs.Sides.{AreSides};
 ghost use Rattle.crn_shelf.specs.Given.{GiveVector};
 ghost use Rattle.crn_shelf.specs.Inner.Shapes.{EndsFor};

@@ -15,15 +15,15 @@ later p Plus = if all_zero p then [] else (p ++ Minus ∷ []) ∷ []
 later p Minus = []
 
 -- what is due after the prefix that these options lead to from a prefix
-abbrev pub due_behind : List Sign → List Sign → List (List Sign)
-due_behind before [] = []
-due_behind before (s ∷ path) = due_behind (before ++ s ∷ []) path ++ later before s
+abbrev pub due_after : List Sign → List Sign → List (List Sign)
+due_after before [] = []
+due_after before (s ∷ path) = due_after (before ++ s ∷ []) path ++ later before s
 
 -- a path stands for its prefix and the later children on the way to it, the deepest first; a
 -- complete tree has nothing due
 abbrev pub due_by : Bool → List Sign → List (List Sign)
 due_by true path = []
-due_by false path = path ∷ due_behind [] path
+due_by false path = path ∷ due_after [] path
 
 -- what contracts see of a path: the prefixes that are due, and how many choices there are
 pub record KeptPath : Type 0 where

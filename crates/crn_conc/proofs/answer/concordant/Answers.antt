@@ -2,9 +2,9 @@ use Rattle.crn_cert.specs.declared.answer.Answer.{Answer}
 use Rattle.crn_cert.specs.Questions.{Earlier, Q14, Q15}
 use Rattle.crn_cert.specs.Answered.{IsAnswer}
 use Rattle.crn_conc.specs.Inner.Answers.{IsStopAnswer}
-use Rattle.crn_conc.proofs.Rows.{if_ok}
 use Rattle.crn_conc.proofs.Ended.{plain, strong, fits, rows_wide, end_by, stop_by, few_by}
 use Rattle.crn_conc.proofs.answer.concordant.Goals as goal
+use Rattle.crn_vec.proofs.CallerLemmas.{if_ok}
 
 pub invariant_of-problem : goal.invariant_of-problem
 invariant_of-problem c =

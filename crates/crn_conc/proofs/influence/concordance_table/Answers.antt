@@ -4,13 +4,13 @@ use Rattle.std.proofs.lemmas.List.{take_all, length-map}
 use Rattle.crn_vec.specs.Network.{sides_of}
 use Rattle.crn_vec.specs.Concordance.{sign}
 use Rattle.crn_vec.specs.Influence.{plain_table}
-use Rattle.crn_conc.proofs.Signs.{mapped}
+use Rattle.crn_vec.proofs.CallerLemmas.{map_more}
 use Rattle.crn_conc.proofs.influence.concordance_table.Goals as goal
 
 pub loop-r-preserved : goal.loop-r-preserved
 loop-r-preserved c =
     let net = c.args.net.now in
-    mapped (λ r. map sign (sides_of net r).0) net.reactions c.loop-r.r (0, 0) c.loop-r.rows.items c.push.new.self.items c.in_ok-signs_of.field-0
+    map_more (λ r. map sign (sides_of net r).0) net.reactions c.loop-r.r (0, 0) c.loop-r.rows.items c.push.new.self.items c.in_ok-signs_of.field-0
     (omega (arith, c.loop-r-test.true, c.reactions-r-end.ensures.count)) c.loop-r.invariant c.in_ok-push.ensures.items
     (c.in_ok-signs_of.ensures ∙ ap (λ (v : List ℤ). map sign v) (c.vector.ensures.value ∙ ap (λ (k : ℕ). get_or net.complexes k []) c.reactant.ensures.value))
 

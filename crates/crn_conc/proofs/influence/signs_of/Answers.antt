@@ -2,11 +2,11 @@ use Rattle.std.proofs.Common.{map, ◌∙◌, arith}
 use Rattle.std.specs.Prelude.{pos}
 use Rattle.std.proofs.lemmas.List.{take_all, length-map}
 use Rattle.crn_vec.specs.Concordance.{sign}
-use Rattle.crn_conc.proofs.Signs.{mapped}
+use Rattle.crn_vec.proofs.CallerLemmas.{map_more}
 use Rattle.crn_conc.proofs.influence.signs_of.Goals as goal
 
 pub loop-s-preserved : goal.loop-s-preserved
-loop-s-preserved c = mapped sign c.args.numbers.now c.loop-s.s (pos 0) c.loop-s.signs.items c.push.new.self.items c.sign_at.result c.loop-s-test.true c.loop-s.invariant c.in_ok-push.ensures.items c.sign_at.ensures
+loop-s-preserved c = map_more sign c.args.numbers.now c.loop-s.s (pos 0) c.loop-s.signs.items c.push.new.self.items c.sign_at.result c.loop-s-test.true c.loop-s.invariant c.in_ok-push.ensures.items c.sign_at.ensures
 
 pub returns : goal.returns
 returns c = c.loop-s.invariant ∙ take_all c.loop-s.s (map sign c.args.numbers.now) (omega (arith, c.loop-s-test.false, length-map c.args.numbers.now sign))

@@ -4,7 +4,7 @@ use Rattle.std.proofs.lemmas.List.{take_all, length-map}
 use Rattle.crn_vec.specs.Network.{minus, sides_of}
 use Rattle.crn_vec.specs.Concordance.{sign}
 use Rattle.crn_vec.specs.Influence.{strong_table}
-use Rattle.crn_conc.proofs.Signs.{mapped}
+use Rattle.crn_vec.proofs.CallerLemmas.{map_more}
 use Rattle.crn_conc.proofs.influence.strong_table.Goals as goal
 
 pub loop-r-preserved : goal.loop-r-preserved
@@ -13,7 +13,7 @@ loop-r-preserved c =
     let at = get_or net.reactions c.loop-r.r (0, 0) in
     let left : c.vector-reactant.result.now ≡ (sides_of net at).0 = c.vector-reactant.ensures.value ∙ ap (λ (k : ℕ). get_or net.complexes k []) c.reactant.ensures.value in
     let right : c.vector-product.result.now ≡ (sides_of net at).1 = c.vector-product.ensures.value ∙ ap (λ (k : ℕ). get_or net.complexes k []) c.product.ensures.value in
-    mapped (λ r. map sign (minus (sides_of net r).0 (sides_of net r).1)) net.reactions c.loop-r.r (0, 0) c.loop-r.rows.items c.push.new.self.items c.in_ok-signs_of_differences.field-0
+    map_more (λ r. map sign (minus (sides_of net r).0 (sides_of net r).1)) net.reactions c.loop-r.r (0, 0) c.loop-r.rows.items c.push.new.self.items c.in_ok-signs_of_differences.field-0
     (omega (arith, c.loop-r-test.true, c.reactions-r-end.ensures.count)) c.loop-r.invariant c.in_ok-push.ensures.items
     (c.in_ok-signs_of_differences.ensures ∙ ap₂ (λ (v w : List ℤ). map sign (minus v w)) left right)
 

@@ -3,7 +3,8 @@ use Rattle.std.proofs.lemmas.List.{length-set}
 use Rattle.crn_vec.specs.declared.signs.Sign.{Sign}
 use Rattle.std.proofs.Common.{List, ℕ}
 use Rattle.crn_vec.specs.Concordance.{column_kind}
-use Rattle.crn_conc.proofs.KindLists.{columns_are, filled}
+use Rattle.crn_vec.proofs.CallerLemmas.{kinds_more}
+use Rattle.crn_conc.proofs.KindLists.{columns_are}
 use Rattle.crn_conc.proofs.kinds.put_columns.Goals as goal
 
 pub loop-r-preserved : goal.loop-r-preserved
@@ -14,7 +15,7 @@ loop-r-preserved c =
     let r = c.loop-r.r in
     record {
       long = length-set into r c.column.result ∙ c.loop-r.invariant.long;
-      each = filled (λ (j : ℕ). column_kind (get_or table j []) p) into r c.column.result (omega (arith, c.loop-r-test.true, c.reactions-r-end.ensures, c.loop-r.invariant.long)) c.loop-r.invariant.each
+      each = kinds_more (λ (j : ℕ). column_kind (get_or table j []) p) into r c.column.result (omega (arith, c.loop-r-test.true, c.reactions-r-end.ensures, c.loop-r.invariant.long)) c.loop-r.invariant.each
           (c.column.ensures ∙ ap (λ (signs : List Sign). column_kind signs p) c.row.ensures);
     }
 

@@ -5,9 +5,7 @@ use Rattle.std.proofs.lemmas.List.{take_more, take_all, append_assoc}
 use Rattle.crn_vec.specs.Vectors.{AreWithin, column, entry}
 use Rattle.crn_vec.specs.Deficiency.{vectors}
 use Rattle.crn_vec.specs.declared.limits.TheConstants.{MAX_AMOUNT}
-use Rattle.crn_vec.proofs.CallerLemmas.{entry-column, within_at, held}
-use Rattle.crn_conc.proofs.NetRows.{column_long, vector_at}
-use Rattle.crn_conc.proofs.Rows.{within_append}
+use Rattle.crn_vec.proofs.CallerLemmas.{entry-column, within_at, held, within_append, vector_at, column_long}
 use Rattle.crn_conc.proofs.system.put_species.Goals as goal
 
 pub loop-r-preserved : goal.loop-r-preserved

@@ -6,8 +6,7 @@ use Rattle.crn_vec.specs.Vectors.{Mat, column}
 use Rattle.crn_vec.specs.Matrices.{mat_of}
 use Rattle.crn_vec.specs.Deficiency.{vectors}
 use Rattle.crn_vec.specs.NetSystems.{reaction_system}
-use Rattle.crn_conc.proofs.Rows.{length-rows_after, rows_after, if_ok}
-use Rattle.crn_conc.proofs.NetRows.{column_long}
+use Rattle.crn_vec.proofs.CallerLemmas.{length-rows_after, rows_after, if_ok, column_long}
 use Rattle.crn_conc.proofs.system.reaction_matrix.Goals as goal
 
 pub new-requires-clause-count : goal.new-requires-clause-count

@@ -1,8 +1,7 @@
 use Rattle.std.proofs.Common.{ap, subst, ◌∙◌}
 use Rattle.crn_vec.specs.Vectors.{HasSign}
 use Rattle.crn_vec.specs.Concordance.{sign}
-use Rattle.crn_vec.proofs.CallerLemmas.{held}
-use Rattle.crn_ctree.proofs.KindLaws.{sign_is}
+use Rattle.crn_vec.proofs.CallerLemmas.{held, sign_is}
 use Rattle.crn_ctree.proofs.pair.sign_at.Goals as goal
 
 pub returns : goal.returns

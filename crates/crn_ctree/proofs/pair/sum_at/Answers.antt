@@ -4,9 +4,9 @@ use Rattle.std.specs.Int.{w128}
 use Rattle.crn_vec.specs.Vectors.{dot, column, entry}
 use Rattle.crn_vec.specs.Deficiency.{vectors}
 use Rattle.crn_vec.specs.declared.limits.TheConstants.{MAX_AMOUNT, WIDE_SOLUTION}
-use Rattle.crn_vec.proofs.CallerLemmas.{held, sum_within, dot_step, within_at, all_at}
+use Rattle.crn_vec.proofs.CallerLemmas.{held, sum_within, dot_step, within_at, all_at, column_long}
 use Rattle.crn_cert.specs.Ranges.{IsNarrow}
-use Rattle.crn_ctree.proofs.PairLaws.{vectors_count, vector_entry, image_entry}
+use Rattle.crn_ctree.proofs.PairLaws.{vector_entry, image_entry}
 use Rattle.crn_ctree.proofs.pair.sum_at.Goals as goal
 
 pub times-sum-requires-clause-x : goal.times-sum-requires-clause-x
@@ -31,7 +31,7 @@ loop-r-preserved c =
     let w = c.args.weights.now in
     let r = c.loop-r.r in
     let in_reactions : r < length net.reactions = omega arith in
-    let in_col : r < length col = omega (arith, vectors_count net c.args.s) in
+    let in_col : r < length col = omega (arith, column_long net c.args.s) in
     let in_w : r < length w = omega (arith, c.requires.weights.long) in
     let bound : unsigned_abs (s +ℤ p) ≤ r * (MAX_AMOUNT * WIDE_SOLUTION) + MAX_AMOUNT * WIDE_SOLUTION =
     sum_within s p (r * (MAX_AMOUNT * WIDE_SOLUTION)) (MAX_AMOUNT * WIDE_SOLUTION) c.loop-r.invariant.1 c.times-sum.ensures.small in
@@ -47,4 +47,4 @@ pub returns-clause-value : goal.returns-clause-value
 returns-clause-value c =
     let net = c.args.net.now in
     let col = column (vectors net) c.args.s in
-    (rw (take_all c.loop-r.r col (omega (arith, vectors_count net c.args.s)), take_all c.loop-r.r c.args.weights.now (omega (arith, c.requires.weights.long))) at c.loop-r.invariant.0) ∙ image_entry net c.args.weights.now c.args.s c.requires.species
+    (rw (take_all c.loop-r.r col (omega (arith, column_long net c.args.s)), take_all c.loop-r.r c.args.weights.now (omega (arith, c.requires.weights.long))) at c.loop-r.invariant.0) ∙ image_entry net c.args.weights.now c.args.s c.requires.species

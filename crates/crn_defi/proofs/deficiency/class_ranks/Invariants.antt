@@ -1,5 +1,5 @@
 use Rattle.std.proofs.Common.{◌≡◌, length}
-use Rattle.crn_defi.specs.Inner.Ranked.{AreClassRanks}
+use Rattle.crn_defi.specs.Inner.ClassRanks.{AreClassRanks}
 use Rattle.crn_defi.proofs.deficiency.class_ranks.Given as goal
 
 abbrev pub invariant-loop-k : goal.invariant-loop-k

@@ -1,7 +1,7 @@
 use Rattle.std.proofs.Common.{◌≡◌, ◌++◌, ◌+◌, ◌∷◌, [], ℕ, List, sym, ap, ◌∙◌, arith}
 use Rattle.std.specs.List.{range_with_len}
-use Rattle.crn_defi.proofs.Places.{range_more}
 use Rattle.crn_defi.proofs.tests.all_reactions.Goals as goal
+use Rattle.crn_vec.proofs.CallerLemmas.{range_more}
 
 pub loop-r-preserved : goal.loop-r-preserved
 loop-r-preserved c =

@@ -1,6 +1,6 @@
 use Rattle.std.proofs.Common.{◌≡◌, ◌<◌, ◌+◌, ℕ, true, false, refl, sym, subst, below_more, arith}
-use Rattle.crn_defi.proofs.TestFacts.{IsEvenAt, even_at, weak_if_even, uneven_not_weak}
 use Rattle.crn_defi.proofs.tests.is_weak.Goals as goal
+use Rattle.crn_vec.proofs.CallerLemmas.{IsEvenAt, even_at, weak_if_even, uneven_not_weak}
 
 pub loop-r-preserved : goal.loop-r-preserved
 loop-r-preserved c =

@@ -6,7 +6,7 @@ use Rattle.crn_vec.specs.Vectors.{Mat, column}
 use Rattle.crn_vec.specs.Matrices.{mat_of}
 use Rattle.crn_vec.specs.Sums.{label_marks}
 use Rattle.crn_vec.specs.NetSystems.{confluence_system}
-use Rattle.crn_conc.proofs.CallerLemmas.{rows_after, if_ok}
+use Rattle.crn_vec.proofs.CallerLemmas.{if_ok, rows_after}
 use Rattle.crn_reg.proofs.Rows.{rows_then, system_long, amounts_long, marks_long, some_complex}
 use Rattle.crn_reg.proofs.matrix.confluence_matrix.Goals as goal
 

@@ -5,8 +5,7 @@ use Rattle.std.proofs.lemmas.List.{take_more, take_all, append_assoc, map-append
 use Rattle.crn_vec.specs.Vectors.{AreWithin}
 use Rattle.crn_vec.specs.Sums.{label_marks}
 use Rattle.crn_vec.specs.declared.limits.TheConstants.{MAX_AMOUNT}
-use Rattle.crn_vec.proofs.CallerLemmas.{held}
-use Rattle.crn_conc.proofs.CallerLemmas.{within_append}
+use Rattle.crn_vec.proofs.CallerLemmas.{held, within_append}
 use Rattle.crn_reg.proofs.matrix.put_marks.Goals as goal
 
 pub loop-c-preserved : goal.loop-c-preserved

@@ -4,9 +4,7 @@ use Rattle.std.specs.Int.{w128}
 use Rattle.std.proofs.lemmas.List.{take_more, take_all, append_assoc}
 use Rattle.crn_vec.specs.Vectors.{AreWithin, column, entry}
 use Rattle.crn_vec.specs.declared.limits.TheConstants.{MAX_AMOUNT}
-use Rattle.crn_vec.proofs.CallerLemmas.{entry-column, length-column, within_at, held}
-use Rattle.crn_conc.proofs.CallerLemmas.{within_append}
-use Rattle.crn_reg.proofs.Rows.{amounts_within}
+use Rattle.crn_vec.proofs.CallerLemmas.{entry-column, length-column, within_at, held, amounts_within, within_append}
 use Rattle.crn_reg.proofs.matrix.put_species.Goals as goal
 
 pub loop-c-preserved : goal.loop-c-preserved

@@ -1,14 +1,13 @@
 use Rattle.std.proofs.Common.{true, inr, List, length, refl, sym, ap, subst, ◌∙◌}
 use Rattle.std.specs.Prelude.{ℤ, negsuc}
 use Rattle.std.specs.List.{AllByRecursion}
-use Rattle.crn_vec.proofs.CallerLemmas.{length-scale}
+use Rattle.crn_vec.proofs.CallerLemmas.{length-scale, if_ok}
 use Rattle.crn_cert.specs.declared.answer.Answer.{Answer}
 use Rattle.crn_cert.specs.Ranges.{IsNarrow}
 use Rattle.crn_cert.specs.Questions.{Earlier, Q13}
 use Rattle.crn_cert.specs.Answered.{IsAnswer}
 use Rattle.crn_sign.specs.declared.end.SearchEnd.TheVariants.{Found, Refuted, Spent}
-use Rattle.crn_conc.specs.TreeSizes.{HasFewNodes}
-use Rattle.crn_conc.proofs.CallerLemmas.{if_ok}
+use Rattle.crn_cert.specs.TreeSizes.{HasFewNodes}
 use Rattle.crn_shelf.specs.Given.{GiveVector}
 use Rattle.crn_shelf.specs.Inner.Shapes.{EndsFor, StopsFor}
 use Rattle.crn_shelf.specs.Inner.Answers.{IsFoundAnswer, IsStopAnswer}

@@ -2,10 +2,10 @@ use Rattle.std.proofs.Common.{arith, ◌∙◌}
 use Rattle.std.specs.Int.{w128}
 use Rattle.std.proofs.lemmas.Int.{to_z-of_z}
 use Rattle.crn_vec.specs.declared.signs.Sign.TheVariants.{Zero}
+use Rattle.crn_vec.proofs.CallerLemmas.{map_more}
 use Rattle.crn_shelf.specs.Inner.Answers.{shelf_number}
-use Rattle.crn_shelf.proofs.KindLists.{mapped}
 use Rattle.crn_shelf.proofs.answer.shelf_numbers.Goals as goal
 
 pub loop-k-preserved : goal.loop-k-preserved
 loop-k-preserved c =
-    mapped shelf_number c.args.shelves.now c.loop-k.k Zero c.loop-k.numbers.list c.push.new.self.list _ (omega (arith, c.loop-k-test.true)) c.loop-k.invariant c.in_ok-push.ensures.ok (to_z-of_z w128 c.shelf_number.result (record { sfits = c.shelf_number.type_inv }) ∙ c.shelf_number.ensures)
+    map_more shelf_number c.args.shelves.now c.loop-k.k Zero c.loop-k.numbers.list c.push.new.self.list _ (omega (arith, c.loop-k-test.true)) c.loop-k.invariant c.in_ok-push.ensures.ok (to_z-of_z w128 c.shelf_number.result (record { sfits = c.shelf_number.type_inv }) ∙ c.shelf_number.ensures)

@@ -5,13 +5,13 @@ use Rattle.std.proofs.lemmas.Int.{ints}
 use Rattle.crn_cert.specs.declared.answer.Answer.{Answer}
 use Rattle.crn_cert.specs.Questions.{Earlier, Q13}
 use Rattle.crn_cert.specs.Answered.{IsAnswer}
-use Rattle.crn_conc.specs.TreeSizes.{HasFewNodes}
-use Rattle.crn_conc.proofs.CallerLemmas.{if_ok}
+use Rattle.crn_cert.specs.TreeSizes.{HasFewNodes}
 use Rattle.crn_shelf.specs.Given.{GiveVector}
 use Rattle.crn_shelf.specs.Inner.Shapes.{EndsFor}
 use Rattle.crn_shelf.specs.Inner.Answers.{IsFoundAnswer, IsStopAnswer}
 use Rattle.crn_shelf.proofs.Answered.{found_is, one_is, stopped, few_one}
 use Rattle.crn_shelf.proofs.answer.signal.Goals as goal
+use Rattle.crn_vec.proofs.CallerLemmas.{if_ok}
 
 pub by_negative-requires-clause-weak : goal.by_negative-requires-clause-weak
 by_negative-requires-clause-weak c = c.requires.weak.0 c.if-weak.true

@@ -2,7 +2,7 @@ use Rattle.std.proofs.Common.{ℕ, length, ◌∙◌, arith}
 use Rattle.std.proofs.lemmas.List.{length-set}
 use Rattle.crn_vec.specs.Concordance.{row_kinds}
 use Rattle.crn_vec.specs.Systems.{kind_at}
-use Rattle.crn_shelf.proofs.KindLists.{rows_are, filled}
+use Rattle.crn_vec.proofs.CallerLemmas.{rows_are, kinds_more}
 use Rattle.crn_shelf.proofs.kinds.put_rows.Goals as goal
 
 pub loop-s-preserved : goal.loop-s-preserved
@@ -13,7 +13,7 @@ loop-s-preserved c =
     let s = c.loop-s.s in
     record {
       long = length-set into s c.row_kind.result ∙ c.loop-s.invariant.long;
-      each = filled (λ (j : ℕ). kind_at (row_kinds n p) j) into s c.row_kind.result (omega (arith, c.loop-s-test.true, c.loop-s.invariant.long)) c.loop-s.invariant.each
+      each = kinds_more (λ (j : ℕ). kind_at (row_kinds n p) j) into s c.row_kind.result (omega (arith, c.loop-s-test.true, c.loop-s.invariant.long)) c.loop-s.invariant.each
           (c.row_kind.ensures n c.loop-s-test.true);
     }
 

@@ -2,7 +2,7 @@ use Rattle.std.proofs.Common.{ℕ, get_or, ◌∙◌, arith}
 use Rattle.std.specs.Prelude.{None}
 use Rattle.std.proofs.lemmas.List.{length-set}
 use Rattle.crn_vec.specs.Signals.{top_kind}
-use Rattle.crn_shelf.proofs.KindLists.{filled}
+use Rattle.crn_vec.proofs.CallerLemmas.{kinds_more}
 use Rattle.crn_shelf.proofs.KindLists.{kinds_are}
 use Rattle.crn_shelf.proofs.kinds.put_tops.Goals as goal
 
@@ -14,7 +14,7 @@ loop-c-preserved c =
     let i = c.loop-c.c in
     record {
       long = length-set into i c.top_kind.result ∙ c.loop-c.invariant.long;
-      each = filled (λ (j : ℕ). top_kind shelves (get_or tops j None)) into i c.top_kind.result (omega (arith, c.loop-c-test.true, c.loop-c.invariant.long)) c.loop-c.invariant.each
+      each = kinds_more (λ (j : ℕ). top_kind shelves (get_or tops j None)) into i c.top_kind.result (omega (arith, c.loop-c-test.true, c.loop-c.invariant.long)) c.loop-c.invariant.each
           c.top_kind.ensures;
     }
 

@@ -3,8 +3,8 @@ use Rattle.std.specs.Prelude.{ℤ}
 use Rattle.std.specs.List.{AllZip}
 use Rattle.std.proofs.lemmas.List.{take_more}
 use Rattle.crn_shelf.specs.Inner.Pairs.{IsPairFor}
-use Rattle.crn_shelf.proofs.PairSides.{zip_push}
 use Rattle.crn_shelf.proofs.pairs.linked_pairs.Goals as goal
+use Rattle.crn_vec.proofs.CallerLemmas.{zip_push}
 
 pub loop-i-preserved : goal.loop-i-preserved
 loop-i-preserved c =

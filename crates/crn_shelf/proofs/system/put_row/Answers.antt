@@ -4,8 +4,7 @@ use Rattle.std.specs.Int.{w128}
 use Rattle.std.proofs.lemmas.List.{take_more, take_all, append_assoc}
 use Rattle.crn_vec.specs.Vectors.{AreWithin, entry}
 use Rattle.crn_vec.specs.declared.limits.TheConstants.{MAX_AMOUNT}
-use Rattle.crn_vec.proofs.CallerLemmas.{within_at, held}
-use Rattle.crn_conc.proofs.CallerLemmas.{within_append}
+use Rattle.crn_vec.proofs.CallerLemmas.{within_at, held, within_append}
 use Rattle.crn_shelf.proofs.system.put_row.Goals as goal
 
 pub loop-s-preserved : goal.loop-s-preserved

@@ -4,8 +4,8 @@ use Rattle.std.specs.List.{flat_map}
 use Rattle.crn_vec.specs.Vectors.{Mat}
 use Rattle.crn_vec.specs.Matrices.{mat_of}
 use Rattle.crn_vec.specs.Signals.{complex_row, shelf_matrix}
+use Rattle.crn_vec.proofs.CallerLemmas.{if_ok}
 use Rattle.crn_shelf.specs.Inner.Shapes.{shape_of, linked_row}
-use Rattle.crn_conc.proofs.CallerLemmas.{if_ok}
 use Rattle.crn_shelf.proofs.SystemRows.{entries_long, matrix_is}
 use Rattle.crn_shelf.proofs.system.shelf_matrix.Goals as goal
 

@@ -1,8 +1,7 @@
 use Rattle.std.proofs.Common.{length, ap, ◌∙◌, arith}
 use Rattle.std.proofs.lemmas.List.{length-map}
 use Rattle.crn_vec.specs.Vectors.{Mat}
-use Rattle.crn_vec.proofs.CallerLemmas.{signals_are_lawful}
-use Rattle.crn_conc.proofs.CallerLemmas.{rows_count}
+use Rattle.crn_vec.proofs.CallerLemmas.{signals_are_lawful, rows_count}
 use Rattle.crn_shelf.specs.Inner.Pairs.{pair_of}
 use Rattle.crn_shelf.specs.Inner.Shapes.{shape_of}
 use Rattle.crn_shelf.proofs.problem.ShelfProblemSignProblem.length.Goals as goal
