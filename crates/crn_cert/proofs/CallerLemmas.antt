@@ -16,5 +16,17 @@ pub use Rattle.crn_cert.proofs.TreesDecided.{tests_decide_valid_trees}
 pub use Rattle.crn_cert.proofs.CutShares.{shares_fit}
 -- The count of the terminal classes of a shape is their number.
 pub use Rattle.crn_cert.proofs.TopsCounted.{tops_are_counted}
--- The vectors of all reactions and of a linkage class by their numbers, and ranges of numbers.
-pub use Rattle.crn_cert.proofs.RankLaws.{all_vectors, class_vectors_are, range_ascending, range_bounds}
+-- The vectors of all reactions and of a linkage class by their numbers.
+pub use Rattle.crn_cert.proofs.RankLaws.{all_vectors, class_vectors_are}
+-- Ranges of numbers.
+pub use Rattle.crn_vec.proofs.CallerLemmas.{range_ascending, range_bounds}
+-- The number of each question, and the question of a number.
+pub use Rattle.crn_cert.proofs.Places.{numbered, some_number, few_numbers}
+-- Formed answers to questions 1 to 12 have no trees, and so each of their trees has few nodes, as it has for a greater bound.
+pub use Rattle.crn_cert.proofs.Treeless.{IsTreeless, rows_linkage, rows_strong, rows_reversible, rows_weak, rows_rank, rows_deficiency, rows_dependence, rows_conservation, rows_zero, rows_one, rows_regular, rows_confluence, treeless_few, have_more}
+-- Tests that hold, one list after another.
+pub use Rattle.crn_cert.proofs.TestLists.{hold_append, hold_parts}
+-- A basis and an index that name a wide vector have the form that an open answer requires.
+pub use Rattle.crn_cert.proofs.WideGaps.{wide_basis}
+-- Trees by their prefixes.
+pub use Rattle.crn_cert.proofs.TreeSizes.{count_places, formed_tree}

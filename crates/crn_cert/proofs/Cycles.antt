@@ -5,12 +5,12 @@ use Rattle.std.proofs.lemmas.Int.{ints}
 use Rattle.std.proofs.lemmas.Bool.{cases_eq}
 use Rattle.crn_vec.specs.Network.{Net, IsNetwork}
 use Rattle.crn_vec.specs.Linkage.{SameClass}
-use Rattle.crn_vec.specs.Walks.{IsAlong, LeadsTo}
+use Rattle.crn_vec.specs.Walks.{LeadsTo}
 use Rattle.crn_vec.specs.Strong.{AreRightStrongLabels, AreExits}
 use Rattle.crn_vec.specs.CutPairs.{IsFreeStep, IsCutPair, IsMarking}
 use Rattle.crn_vec.specs.Deficiency.{IsLabelled}
 use Rattle.crn_vec.proofs.CallerLemmas.{lt_or, past_end}
-use Rattle.crn_vec.proofs.CallerLemmas.{class_then, class_link, linked_back, leads_back}
+use Rattle.crn_vec.proofs.CallerLemmas.{class_then, class_link}
 use Rattle.crn_vec.proofs.CallerLemmas.{marking_is_cut, marks_are_sides}
 use Rattle.crn_cert.specs.Says.{WalkLeads, IsCycle, from_zero}
 use Rattle.crn_cert.specs.ClassTests.{of_class, AreSideMarks, IsWayRound}
@@ -44,23 +44,6 @@ marking_by_tests net network labels r marks labelled long m =
 pub cut_by_tests : (net : Net) → IsNetwork net → (labels : List ℕ) (r : ℕ) (marks : List ℤ) → IsLabelled net labels → length marks ≡ length net.complexes → (m : AreSideMarks net labels r marks) → IsCutPair net.reactions m.y m.z
 cut_by_tests net network labels r marks labelled long m =
     marking_is_cut net.reactions m.y m.z marks (marking_by_tests net network labels r marks labelled long m) (inl (named_in net r m.y m.z m.goes))
-
--- a cut pair is one in either order
-free_back : (rs : List (ℕ × ℕ)) (a b y z : ℕ) → IsFreeStep rs a b y z → IsFreeStep rs a b z y
-free_back rs a b y z h = (linked_back rs y z h.0, λ t. h.1 (elim t [ inl p ↦ inr (p.1, p.0) | inr p ↦ inl (p.1, p.0) ]))
-
-along_map : (S T : ℕ → ℕ → Type 0) → ((y z : ℕ) → S y z → T y z) → (x z : ℕ) (steps : List ℕ) → IsAlong S x steps z → IsAlong T x steps z
-along_map S T on x z [] h = h
-along_map S T on x z (v ∷ steps) h = (on x v h.0, along_map S T on v z steps h.1)
-
-pub cut_back : (rs : List (ℕ × ℕ)) (a b : ℕ) → IsCutPair rs a b → IsCutPair rs b a
-cut_back rs a b c =
-    record {
-      linked = linked_back rs a b c.linked;
-      cut = λ h.
-          let same : LeadsTo (IsFreeStep rs a b) b a = (h.0, along_map (IsFreeStep rs b a) (IsFreeStep rs a b) (λ y z s. (s.0, λ t. s.1 (elim t [ inl p ↦ inr p | inr p ↦ inl p ]))) b a h.0 h.1) in
-          c.cut (leads_back (IsFreeStep rs a b) (free_back rs a b) b a same);
-    }
 
 walk_free : (S : ℕ → ℕ → Type 0) (y z : ℕ) (walk : List ℕ) → WalkLeads S y walk z → LeadsTo S y z
 walk_free S y z [] h = absurd h

@@ -1,5 +1,5 @@
 -- The tests of confluence vectors and ties, against the definitions.
-use Rattle.std.proofs.Common.{◌≡◌, ◌≢◌, ℕ, zero, suc, ◌+◌, ◌-◌, ◌<◌, ◌≤◌, List, [], ◌∷◌, ◌++◌, length, get_or, map, refl, sym, ap, subst, ◌∙◌, inl, inr, arith}
+use Rattle.std.proofs.Common.{◌≡◌, ◌≢◌, ℕ, zero, suc, ◌+◌, ◌-◌, ◌<◌, ◌≤◌, List, [], ◌∷◌, length, get_or, map, refl, sym, ap, subst, ◌∙◌, inl, inr, arith}
 use Rattle.std.specs.Prelude.{ℤ, pos, ◌≤ℤ◌}
 use Rattle.std.specs.List.{AllByRecursion, range_with_len}
 use Rattle.crn_vec.specs.Network.{Net}
@@ -12,15 +12,11 @@ use Rattle.crn_vec.specs.Confluence.{InConfluenceSpace, HasConfluenceLine, HasNo
 use Rattle.crn_vec.specs.NetSystems.{confluence_system, by_species}
 use Rattle.crn_vec.proofs.CallerLemmas.{lt_or, past_end}
 use Rattle.crn_vec.proofs.CallerLemmas.{dot-comm, dots}
-use Rattle.crn_vec.proofs.CallerLemmas.{label_sum, label_sum_is}
+use Rattle.crn_vec.proofs.CallerLemmas.{label_sum, label_sum_is, all_append}
 use Rattle.crn_cert.specs.ConfluenceTests.{IsInSpace, DoTerminalsGather, IsTie}
 use Rattle.crn_cert.proofs.Ties.{IsKept, AreTied, zero_by_tie, one_line}
 
 -- ---- lists
-
-all_join : {A : Type 0} (P : A → Type 0) (xs ys : List A) → AllByRecursion P xs → AllByRecursion P ys → AllByRecursion P (xs ++ ys)
-all_join P [] ys p q = q
-all_join P (x ∷ xs) ys p q = (p.0, all_join P xs ys p.1 q)
 
 all_range : {A : Type 0} (P : A → Type 0) (f : ℕ → A) (a n : ℕ) → ((k : ℕ) → a ≤ k → k < a + n → P (f k)) → AllByRecursion P (map f (range_with_len a n))
 all_range P f a zero h = tt
@@ -38,7 +34,7 @@ pub kept_by_tests : (net : Net) (linkage : List ℕ) (count : ℕ) (g : List ℤ
 kept_by_tests net linkage count g l t = (
   l,
   dots_none (confluence_system net linkage count).rows g
-      (all_join (λ r. dot r g ≡ pos 0) (by_species net net.complexes) (map (label_marks linkage) (range_with_len 1 count))
+      (all_append (λ r. dot r g ≡ pos 0) (by_species net net.complexes) (map (label_marks linkage) (range_with_len 1 count))
       (all_range (λ r. dot r g ≡ pos 0) (column net.complexes) 0 (length net.names) (λ k a b. dot-comm (column net.complexes k) g ∙ t.balance k))
       (all_range (λ r. dot r g ≡ pos 0) (label_marks linkage) 1 count (λ k a b. t.classes k a (omega (arith, b))))),
 )

@@ -28,3 +28,8 @@ mod TreesDecided
 mod CutShares
 mod TopsCounted
 mod ShareTables
+mod Places
+mod Treeless
+mod TestLists
+mod WideGaps
+mod TreeSizes

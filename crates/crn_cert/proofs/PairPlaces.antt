@@ -6,26 +6,22 @@ use Rattle.crn_vec.specs.Lists.{IsIn, IsAscending}
 use Rattle.crn_vec.specs.Network.{Net, IsNetwork}
 use Rattle.crn_vec.specs.CutPairs.{IsBetween, IsFirstOfPair}
 use Rattle.crn_vec.proofs.CallerLemmas.{eq_or}
-use Rattle.crn_vec.proofs.CallerLemmas.{reaction_in, inside_at}
+use Rattle.crn_vec.proofs.CallerLemmas.{reaction_in, inside_at, in_range, filter_has, range_above, range_bounds, filter_above, above_ascending, and_cases, and_true}
+use Rattle.crn_vec.proofs.CallerLemmas.{or_right}
 use Rattle.crn_cert.specs.Questions.{Earlier, Q2, on, count_of}
 use Rattle.crn_cert.specs.Says.{from_zero}
 use Rattle.crn_cert.specs.ClassTests.{of_class}
 use Rattle.crn_cert.specs.Valid.{strong, exits, ends_at, is_within_terminal, is_same_pair, is_least_of_pair, pair_places}
 use Rattle.crn_cert.specs.Law.{PairPlacesArePairs}
-use Rattle.crn_cert.proofs.Filters.{in_range, filter_has, some_place}
-use Rattle.crn_cert.proofs.StrongRight.{both, and_both}
+use Rattle.crn_cert.proofs.Filters.{some_place}
 use Rattle.crn_cert.proofs.Known.{StrongKnown, strong_known}
-use Rattle.crn_cert.proofs.RankLaws.{range_bounds, range_above, filter_above, above_ascending, from_zero_ascending}
+use Rattle.crn_cert.proofs.RankLaws.{from_zero_ascending}
 
 -- ---- lists
 
 or_left : (a b : Bool) → a ≡ true → (a || b) ≡ true
 or_left true b e = refl
 or_left false b e = cc
-
-or_right : (a b : Bool) → b ≡ true → (a || b) ≡ true
-or_right true b e = refl
-or_right false b e = e
 
 or_either : (a b : Bool) → (a || b) ≡ true → (a ≡ true) ⊎ (b ≡ true)
 or_either true b e = inl refl
@@ -76,13 +72,13 @@ out_of_zero (r ∷ rs) k h (inr i) = inr (out_of_zero rs k (λ q j. h q (inr j))
 -- ---- the two tests
 
 pub same_pair : (q r : ℕ × ℕ) → IsBetween r.0 r.1 q.0 q.1 → is_same_pair q r ≡ true
-same_pair q r (inl e) = or_left ((q.0 == r.0) && (q.1 == r.1)) ((q.0 == r.1) && (q.1 == r.0)) (and_both (q.0 == r.0) (q.1 == r.1) (eq-eqb q.0 r.0 e.0) (eq-eqb q.1 r.1 e.1))
-same_pair q r (inr e) = or_right ((q.0 == r.0) && (q.1 == r.1)) ((q.0 == r.1) && (q.1 == r.0)) (and_both (q.0 == r.1) (q.1 == r.0) (eq-eqb q.0 r.1 e.0) (eq-eqb q.1 r.0 e.1))
+same_pair q r (inl e) = or_left ((q.0 == r.0) && (q.1 == r.1)) ((q.0 == r.1) && (q.1 == r.0)) (and_true (q.0 == r.0) (q.1 == r.1) (eq-eqb q.0 r.0 e.0) (eq-eqb q.1 r.1 e.1))
+same_pair q r (inr e) = or_right ((q.0 == r.0) && (q.1 == r.1)) ((q.0 == r.1) && (q.1 == r.0)) (and_true (q.0 == r.1) (q.1 == r.0) (eq-eqb q.0 r.1 e.0) (eq-eqb q.1 r.0 e.1))
 
 pub pair_same : (q r : ℕ × ℕ) → is_same_pair q r ≡ true → IsBetween r.0 r.1 q.0 q.1
 pair_same q r e = elim (or_either ((q.0 == r.0) && (q.1 == r.1)) ((q.0 == r.1) && (q.1 == r.0)) e) as (λ _. IsBetween r.0 r.1 q.0 q.1) [
-  | inl h ↦ let p = both (q.0 == r.0) (q.1 == r.1) h in inl (eqb-true q.0 r.0 p.0, eqb-true q.1 r.1 p.1)
-  | inr h ↦ let p = both (q.0 == r.1) (q.1 == r.0) h in inr (eqb-true q.0 r.1 p.0, eqb-true q.1 r.0 p.1)
+  | inl h ↦ let p = and_cases (q.0 == r.0) (q.1 == r.1) h in inl (eqb-true q.0 r.0 p.0, eqb-true q.1 r.1 p.1)
+  | inr h ↦ let p = and_cases (q.0 == r.1) (q.1 == r.0) h in inr (eqb-true q.0 r.1 p.0, eqb-true q.1 r.0 p.1)
 ]
 
 -- ---- the law
@@ -101,9 +97,9 @@ first_of net earlier n known k i =
     let lt : k < length rs = let b = range_bounds (k + 1) 1 (length rs) f.0 in omega (arith, b.1) in
     let p : ℕ × ℕ = get_or rs k (0, 0) in
     let at : ends_at net (k + 1) ≡ p = ap (λ (j : ℕ). get_or rs j (0, 0)) (omega arith) in
-    let t = both (is_within_terminal earlier (ends_at net (k + 1))) (is_least_of_pair net (k + 1)) f.1 in
+    let t = and_cases (is_within_terminal earlier (ends_at net (k + 1))) (is_least_of_pair net (k + 1)) f.1 in
     let w : is_within_terminal earlier p ≡ true = ap (is_within_terminal earlier) (sym at) ∙ t.0 in
-    let u = both (get_or (strong earlier) p.0 0 == get_or (strong earlier) p.1 0) (of_class (strong earlier) (exits earlier) p.0 == 0) w in
+    let u = and_cases (get_or (strong earlier) p.0 0 == get_or (strong earlier) p.1 0) (of_class (strong earlier) (exits earlier) p.0 == 0) w in
     let ends = inside_at (length net.complexes) rs n.partial.apart p.0 p.1 (reaction_in rs k p lt refl) in
     let l0 : p.0 < length (strong earlier) = omega (arith, ends.0, s.places) in
     let l1 : p.1 < length (strong earlier) = omega (arith, ends.1, s.places) in
@@ -132,7 +128,7 @@ place_of_first net earlier n known k f =
     let la : f.a < length (strong earlier) = omega (arith, ends.0, s.places) in
     let lb : f.b < length (strong earlier) = omega (arith, ends.1, s.places) in
     let within : is_within_terminal earlier (ends_at net (k + 1)) ≡ true = ap (is_within_terminal earlier) at
-    ∙ and_both (get_or (strong earlier) f.a 0 == get_or (strong earlier) f.b 0) (of_class (strong earlier) (exits earlier) f.a == 0)
+    ∙ and_true (get_or (strong earlier) f.a 0 == get_or (strong earlier) f.b 0) (of_class (strong earlier) (exits earlier) f.a == 0)
     (eq-eqb (get_or (strong earlier) f.a 0) (get_or (strong earlier) f.b 0) (s.right.together f.a f.b la lb f.pair.within))
     (eq-eqb (of_class (strong earlier) (exits earlier) f.a) 0 ((s.exits_are.terminal f.a la).1 f.pair.terminal)) in
     let least : is_least_of_pair net (k + 1) ≡ true = elim (cases_Bool (list_any (λ j. is_same_pair (ends_at net j) (ends_at net (k + 1))) (range_with_len 1 (k + 1 - 1)))) as (λ _. is_least_of_pair net (k + 1) ≡ true) [
@@ -144,7 +140,7 @@ place_of_first net earlier n known k f =
           absurd (f.first (q.0 - 1) (ends_at net q.0).0 (ends_at net q.0).1 less (omega (arith, less, f.goes.0), refl) between)
     ] in
     filter_has (tests net earlier) (range_with_len 1 (length rs)) (k + 1) (in_range (k + 1) 1 (length rs) (omega arith) (let lt = f.goes.0 in omega (arith, lt)))
-    (and_both (is_within_terminal earlier (ends_at net (k + 1))) (is_least_of_pair net (k + 1)) within least)
+    (and_true (is_within_terminal earlier (ends_at net (k + 1))) (is_least_of_pair net (k + 1)) within least)
 
 pub pair_places_are_pairs : PairPlacesArePairs
 pair_places_are_pairs net earlier n h =

@@ -6,15 +6,14 @@ use Rattle.std.proofs.lemmas.Bool.{eq-eqb, eqb-true}
 use Rattle.crn_vec.specs.Lists.{IsIn}
 use Rattle.crn_vec.specs.Network.{Net, IsNetwork}
 use Rattle.crn_vec.specs.CutPairs.{IsCutPair, IsTerminalPair}
-use Rattle.crn_vec.proofs.CallerLemmas.{place_of, inside_at}
+use Rattle.crn_vec.proofs.CallerLemmas.{place_of, inside_at, in_range, filter_has, cut_back, and_cases, and_true}
 use Rattle.crn_cert.specs.Tests.{AllHold}
 use Rattle.crn_cert.specs.ClassTests.{of_class, AreSideMarks}
 use Rattle.crn_cert.specs.Ranges.{AreBits}
 use Rattle.crn_cert.specs.Valid.{linkage, strong, exits, ends_at, is_within_terminal, is_same_pair, is_least_of_pair, pair_places, side_tests}
-use Rattle.crn_cert.proofs.Filters.{in_range, filter_has, some_place}
-use Rattle.crn_cert.proofs.StrongRight.{both, and_both}
+use Rattle.crn_cert.proofs.Filters.{some_place}
 use Rattle.crn_cert.proofs.Known.{ClassesKnown}
-use Rattle.crn_cert.proofs.Cycles.{cut_by_tests, cut_back}
+use Rattle.crn_cert.proofs.Cycles.{cut_by_tests}
 use Rattle.crn_cert.specs.Questions.{Earlier}
 
 -- the reaction joins y and z, in one order or the other
@@ -28,7 +27,7 @@ either false b e = inr e
 -- a reaction with the same pair joins the same two
 same_joins : (q r : ℕ × ℕ) (y z : ℕ) → is_same_pair q r ≡ true → Joins r y z → Joins q y z
 same_joins q r y z e j =
-    let pair : (a b c d : ℕ) → ((a == c) && (b == d)) ≡ true → (a ≡ c) × (b ≡ d) = λ a b c d h. let p = both (a == c) (b == d) h in (eqb-true a c p.0, eqb-true b d p.1) in
+    let pair : (a b c d : ℕ) → ((a == c) && (b == d)) ≡ true → (a ≡ c) × (b ≡ d) = λ a b c d h. let p = and_cases (a == c) (b == d) h in (eqb-true a c p.0, eqb-true b d p.1) in
     elim (either ((q.0 == r.0) && (q.1 == r.1)) ((q.0 == r.1) && (q.1 == r.0)) e) [
       | inl h ↦ let p = pair q.0 q.1 r.0 r.1 h in
           let same : q ≡ r = pair_is q r p.0 p.1 in
@@ -101,15 +100,15 @@ pairs_cut net network earlier sides known tests bits y z pair =
     let same : get_or (strong earlier) y 0 ≡ get_or (strong earlier) z 0 = s.right.together y z ly lz pair.within in
     let none : of_class (strong earlier) (exits earlier) y ≡ 0 = (s.exits_are.terminal y ly).1 pair.terminal in
     let none_z : of_class (strong earlier) (exits earlier) z ≡ 0 = subst (λ (m : ℕ). get_or (exits earlier) (m - 1) 0 ≡ 0) same none in
-    let straight : is_within_terminal earlier (y, z) ≡ true = and_both (get_or (strong earlier) y 0 == get_or (strong earlier) z 0) (of_class (strong earlier) (exits earlier) y == 0) (eq-eqb (get_or (strong earlier) y 0) (get_or (strong earlier) z 0) same) (eq-eqb (of_class (strong earlier) (exits earlier) y) 0 none) in
-    let other_way : is_within_terminal earlier (z, y) ≡ true = and_both (get_or (strong earlier) z 0 == get_or (strong earlier) y 0) (of_class (strong earlier) (exits earlier) z == 0) (eq-eqb (get_or (strong earlier) z 0) (get_or (strong earlier) y 0) (sym same)) (eq-eqb (of_class (strong earlier) (exits earlier) z) 0 none_z) in
+    let straight : is_within_terminal earlier (y, z) ≡ true = and_true (get_or (strong earlier) y 0 == get_or (strong earlier) z 0) (of_class (strong earlier) (exits earlier) y == 0) (eq-eqb (get_or (strong earlier) y 0) (get_or (strong earlier) z 0) same) (eq-eqb (of_class (strong earlier) (exits earlier) y) 0 none) in
+    let other_way : is_within_terminal earlier (z, y) ≡ true = and_true (get_or (strong earlier) z 0 == get_or (strong earlier) y 0) (of_class (strong earlier) (exits earlier) z == 0) (eq-eqb (get_or (strong earlier) z 0) (get_or (strong earlier) y 0) (sym same)) (eq-eqb (of_class (strong earlier) (exits earlier) z) 0 none_z) in
     let within : is_within_terminal earlier (ends_at net l.r) ≡ true = elim l.joins [
       | inl e ↦ same_within earlier (ends_at net l.r) (y, z) e straight
       | inr e ↦ same_within earlier (ends_at net l.r) (z, y) e other_way
     ] in
     let place : IsIn l.r (pair_places net earlier) = filter_has (λ r. is_within_terminal earlier (ends_at net r) && is_least_of_pair net r) (range_with_len 1 (length rs)) l.r
     (in_range l.r 1 (length rs) l.some (omega (arith, l.most)))
-    (and_both (is_within_terminal earlier (ends_at net l.r)) (is_least_of_pair net l.r) within l.least) in
+    (and_true (is_within_terminal earlier (ends_at net l.r)) (is_least_of_pair net l.r) within l.least) in
     let t = tested net earlier 1 (pair_places net earlier) sides tests bits l.r place in
     let m = t.1 in
     cut_either net (ends_at net l.r) m.y m.z y z m.goes.1.1 l.joins (cut_by_tests net network (linkage earlier) l.r t.0 known.linkage_is.labelled t.2 m)

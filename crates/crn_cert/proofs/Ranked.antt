@@ -1,5 +1,5 @@
 -- Duals and combinations that pass the tests give the rank.
-use Rattle.std.proofs.Common.{◌≡◌, ◌⊎◌, ℕ, zero, suc, ◌+◌, ◌<◌, Bool, true, false, List, [], ◌∷◌, ◌++◌, length, get_or, map, drop, refl, sym, ap, subst, ◌∙◌, inl, inr, arith, ◌==◌, ◌||◌, not, ne_eqb}
+use Rattle.std.proofs.Common.{◌≡◌, ◌⊎◌, ℕ, zero, suc, ◌+◌, ◌<◌, Bool, true, false, List, [], ◌∷◌, length, get_or, map, drop, refl, sym, ap, subst, ◌∙◌, inl, inr, arith, ◌==◌, ◌||◌, not, ne_eqb}
 use Rattle.std.specs.Prelude.{ℤ, pos}
 use Rattle.std.specs.List.{AllByRecursion, list_any}
 use Rattle.std.proofs.lemmas.Int.{ints}
@@ -13,18 +13,12 @@ use Rattle.crn_vec.proofs.CallerLemmas.{listed, length-listed}
 use Rattle.crn_vec.proofs.CallerLemmas.{unit, dot_unit}
 use Rattle.crn_vec.proofs.CallerLemmas.{entry-column, length-column}
 use Rattle.crn_vec.proofs.CallerLemmas.{base_gives_rank}
-use Rattle.crn_vec.proofs.CallerLemmas.{eq_or}
-use Rattle.crn_cert.specs.Tests.{Test, AllHold}
+use Rattle.crn_vec.proofs.CallerLemmas.{eq_or, filter_has, ascending_suc, above_zero, ascending_tail}
+use Rattle.crn_cert.specs.Tests.{AllHold}
 use Rattle.crn_cert.specs.Ranges.{AreFree}
 use Rattle.crn_cert.specs.RankTests.{vector_of, vectors_of, IsDual, IsComb, outside, dual_tests, comb_tests, rank_tests}
 use Rattle.crn_cert.proofs.Multipliers.{duals_independent}
-use Rattle.crn_cert.proofs.Filters.{filter_has}
-
--- ---- tests of two lists
-
-pub hold_both : (ss ts : List Test) → AllHold (ss ++ ts) → AllHold ss × AllHold ts
-hold_both [] ts h = (tt, h)
-hold_both (s ∷ ss) ts h = let r = hold_both ss ts h.1 in ((h.0, r.0), r.1)
+use Rattle.crn_cert.proofs.TestLists.{hold_parts}
 
 -- ---- duals
 
@@ -89,7 +83,7 @@ pub ranked_by : (net : Net) (members base : List ℕ) (part : ℕ) (duals combs 
 ranked_by net members base part duals combs l w h =
     let vs = vectors_of net base in
     let many : length vs ≡ length base = length-map base (vector_of net) in
-    let split = hold_both (dual_tests vs (part + 1) 0 duals) (comb_tests net vs (part + 1 + length base) (outside base members) combs) h in
+    let split = hold_parts (dual_tests vs (part + 1) 0 duals) (comb_tests net vs (part + 1 + length base) (outside base members) combs) h in
     record {
       independent = independent_by vs (part + 1) duals (l ∙ sym many) split.0;
       depends = λ r i. elim (in_or r base) [
@@ -114,18 +108,6 @@ above_less k x [] a i = absurd i
 above_less k x (y ∷ ys) a (inl e) = omega (arith, a.0, e)
 above_less k x (y ∷ ys) a (inr i) = let h = above_less y x ys a.1 i in omega (arith, h, a.0)
 
-above_suc : (k : ℕ) (xs : List ℕ) → IsAbove k xs → IsAbove (suc k) (map suc xs)
-above_suc k [] a = tt
-above_suc k (x ∷ xs) a = (omega (arith, a.0), above_suc x xs a.1)
-
-ascending_suc : (xs : List ℕ) → IsAscending xs → IsAscending (map suc xs)
-ascending_suc [] a = tt
-ascending_suc (x ∷ xs) a = above_suc x xs a
-
-above_zero : (xs : List ℕ) → IsAscending xs → IsAbove 0 (map suc xs)
-above_zero [] a = tt
-above_zero (x ∷ xs) a = (omega arith, above_suc x xs a)
-
 in_suc : (p : ℕ) (xs : List ℕ) (n : ℕ) → ((q : ℕ) → IsIn q xs → q < n) → IsIn p (map suc xs) → p < suc n
 in_suc p [] n h i = absurd i
 in_suc p (x ∷ xs) n h (inl e) = let l = h x (inl refl) in omega (arith, l, e)
@@ -134,10 +116,6 @@ in_suc p (x ∷ xs) n h (inr i) = in_suc p xs n (λ q j. h q (inr j)) i
 chosen_suc : (v : List ℤ) (vs : List (List ℤ)) (ps : List ℕ) → chosen (map suc ps) (v ∷ vs) ≡ chosen ps vs
 chosen_suc v vs [] = refl
 chosen_suc v vs (p ∷ ps) = ap (λ (t : List (List ℤ)). get_or vs p [] ∷ t) (chosen_suc v vs ps)
-
-ascending_tail : (x : ℕ) (xs : List ℕ) → IsAscending (x ∷ xs) → IsAscending xs
-ascending_tail x [] a = tt
-ascending_tail x (y ∷ ys) a = a.1
 
 placed : (base members : List ℕ) → IsAscending base → IsAscending members → ((r : ℕ) → IsIn r base → IsIn r members) → Placed base members
 placed [] members a m i = record { places = []; ascending = tt; below = λ p h. absurd h; long = refl; same = λ f. refl }

@@ -18,7 +18,7 @@ use Rattle.crn_vec.proofs.CallerLemmas.{lt_or, eq_or}
 use Rattle.crn_vec.proofs.CallerLemmas.{sum_by}
 use Rattle.crn_vec.proofs.CallerLemmas.{leads_then, leads_here, leads_step, leads_keeps}
 use Rattle.crn_vec.proofs.CallerLemmas.{reached_marks, marks_for, reaction_in, inside_at}
-use Rattle.crn_vec.proofs.CallerLemmas.{top_inside, some_is, number_is_one, strong_back, strong_then}
+use Rattle.crn_vec.proofs.CallerLemmas.{top_inside, some_is, number_is_one, strong_back, strong_then, none_some}
 use Rattle.crn_cert.proofs.TopsCounted.{tops_are_counted}
 use Rattle.crn_cert.specs.Questions.{Earlier, Q2, on, count_of, terminal_of}
 use Rattle.crn_cert.specs.Says.{from_zero}
@@ -88,13 +88,10 @@ top_no : (es : List ℕ) (l : ℕ) → (get_or es (l - 1) 0 == 0) ≡ false → 
 unfolding top_for
 top_no es l e = ap (λ (b : Bool). cond b (Some (zeros_below es (l - 1))) None) e
 
-clash : (o : Option ℕ) (k : ℕ) → o ≡ None → o ≡ Some k → ⊥
-clash o k e f = cc
-
 top_is : (es : List ℕ) (l k : ℕ) → top_for es l ≡ Some k → (get_or es (l - 1) 0 ≡ 0) × (zeros_below es (l - 1) ≡ k)
 top_is es l k e = elim (cases_Bool (get_or es (l - 1) 0 == 0)) as (λ _. (get_or es (l - 1) 0 ≡ 0) × (zeros_below es (l - 1) ≡ k)) [
   | inl hit ↦ let z : get_or es (l - 1) 0 ≡ 0 = eqb-true (get_or es (l - 1) 0) 0 hit in (z, some_is (zeros_below es (l - 1)) k (sym (top_yes es l z) ∙ e))
-  | inr miss ↦ absurd (clash (top_for es l) k (top_no es l miss) e)
+  | inr miss ↦ absurd (none_some (top_for es l) k (top_no es l miss) e)
 ]
 
 -- ---- terminal classes
@@ -147,7 +144,7 @@ tops_are net earlier known =
       inside = λ y k e. let t = top_known earlier y k e in (s.exits_are.terminal y t.inside).0 t.exit;
       outside = λ y ly e terminal.
           let lt : y < length labels = omega (arith, ly, s.places) in
-          clash (top_at (tops_of earlier) y) (zeros_below es (get_or labels y 0 - 1)) e (at_label earlier y lt ∙ top_yes es (get_or labels y 0) ((s.exits_are.terminal y lt).1 terminal));
+          none_some (top_at (tops_of earlier) y) (zeros_below es (get_or labels y 0 - 1)) e (at_label earlier y lt ∙ top_yes es (get_or labels y 0) ((s.exits_are.terminal y lt).1 terminal));
       same = λ y z k e f.
           let t = top_known earlier y k e in
           let u = top_known earlier z k f in

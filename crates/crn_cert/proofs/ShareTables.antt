@@ -1,6 +1,6 @@
 -- The tables of shares: the first distinct lists, one cut after another, and the numbers of lists.
-use Rattle.std.proofs.Common.{Bor, Option, ◌≡◌, ◌⊎◌, ◌≤◌, ◌<◌, inl, inr, ℕ, zero, suc, ◌+◌, ◌-◌, Bool, true, false, ◌||◌, cond, if◌then◌else◌, min, List, [], ◌∷◌, ◌++◌, length, map, take, get_or, slice_get, Some, None, refl, sym, ap, subst, ◌∙◌, take_all, append_assoc, add-one, arith}
-use Rattle.std.specs.Prelude.{ℤ, ◌≢◌}
+use Rattle.std.proofs.Common.{Bor, ◌≡◌, ◌⊎◌, ◌≤◌, ◌<◌, inl, inr, ℕ, zero, suc, ◌+◌, ◌-◌, Bool, true, false, ◌||◌, if◌then◌else◌, List, [], ◌∷◌, ◌++◌, length, map, take, get_or, slice_get, Some, refl, sym, ap, ◌∙◌, take_all, append_assoc, add-one, arith}
+use Rattle.std.specs.Prelude.{ℤ}
 use Rattle.std.specs.List.{list_any, position}
 use Rattle.std.proofs.lemmas.List.Quantifiers.{position-Some}
 use Rattle.std.specs.Ordering.{int_eq}

@@ -28,10 +28,10 @@ use Rattle.crn_cert.specs.TreeTests.{tree_tests}
 use Rattle.crn_cert.specs.Formed.{IsFormedOf}
 use Rattle.crn_cert.specs.Valid.{IsSignalNode, OfVector, signal_head, signal_rows}
 use Rattle.crn_cert.specs.Law.{IsTrueOrOpen, ValidIsTrue}
-use Rattle.crn_cert.proofs.Ranked.{hold_both}
 use Rattle.crn_cert.proofs.Known.{weak_yes, weak_no}
 use Rattle.crn_cert.proofs.TreeLaws.{leaves_nothing}
 use Rattle.crn_cert.proofs.TreesRight.{tree_right}
+use Rattle.crn_cert.proofs.TestLists.{hold_parts}
 
 -- what question 12 says where it gives a vector with the property
 record VectorKnown (net : Net) (Has : List ℤ → Type 0) : Type 0 where
@@ -123,7 +123,7 @@ signal_law net earlier n weak conf No (One tree) f t =
 signal_law net earlier n weak conf No (Two tree second) f t =
     let v = on earlier Q12 in
     let last = 1 + node_count (plan tree) in
-    let split = hold_both (tree_tests (λ p said. OfVector earlier (pos 1) (λ g. IsSignalNode net g p said)) 1 [] (plan tree)) (tree_tests (λ p said. OfVector earlier (negsuc 0) (λ g. IsSignalNode net g p said)) last [] (plan second)) t.1 in
+    let split = hold_parts (tree_tests (λ p said. OfVector earlier (pos 1) (λ g. IsSignalNode net g p said)) 1 [] (plan tree)) (tree_tests (λ p said. OfVector earlier (negsuc 0) (λ g. IsSignalNode net g p said)) last [] (plan second)) t.1 in
     let k = vector_known net v (λ g. AllHold (tree_tests (IsSignalNode net g) 1 [] (plan tree)) × AllHold (tree_tests (IsSignalNode net (negative g)) last [] (plan second))) conf
     (both_given v (λ g. AllHold (tree_tests (IsSignalNode net g) 1 [] (plan tree))) (λ g. AllHold (tree_tests (IsSignalNode net (negative g)) last [] (plan second))) (nodes_given v (pos 1) net 1 (plan tree) t.0 split.0) (nodes_given v (negsuc 0) net last (plan second) t.0 split.1)) in
     let none = no_signal_by net k.g n k.regular _ _ _ 1 (plan tree) f.1.1 k.has.0 in

@@ -9,21 +9,11 @@ use Rattle.crn_vec.specs.Linkage.{SameClass, IsLabelCount}
 use Rattle.crn_vec.specs.Walks.{IsNumberOf}
 use Rattle.crn_vec.specs.Strong.{SameStrong, IsTerminal, AreRightStrongLabels, AreExits}
 use Rattle.crn_vec.specs.Deficiency.{IsComplex, IsLabelled, HasTerminalClasses}
-use Rattle.crn_vec.proofs.CallerLemmas.{strong_class, class_then}
+use Rattle.crn_vec.proofs.CallerLemmas.{strong_class, class_then, and_cases, and_true}
 use Rattle.crn_cert.specs.Says.{AreStrongClasses}
 use Rattle.crn_cert.specs.ClassTests.{AreNumbered, AreFromTrees, AreToTrees, DoLevelsFall, AreAllExits, zeros_in}
 use Rattle.crn_cert.proofs.ClassesRight.{strong_labels_right, exits_right}
 use Rattle.crn_cert.proofs.Counts.{classes_counted, zeros_by_places}
-
-pub both : (a b : Bool) → (a && b) ≡ true → (a ≡ true) × (b ≡ true)
-both true true e = (refl, refl)
-both true false e = cc
-both false b e = cc
-
-pub and_both : (a b : Bool) → a ≡ true → b ≡ true → (a && b) ≡ true
-and_both true true e f = refl
-and_both true false e f = cc
-and_both false b e f = cc
 
 -- ---- all terminal classes
 
@@ -76,11 +66,11 @@ class_terminals net linkage strong exits y labelled long right counted out ly =
     classes_counted (SameStrong rs) (λ z. IsComplex net z × SameClass rs y z × IsTerminal rs z) strong (length exits) (lies_terminal linkage strong exits k) right counted
     (λ z lz e.
     let m = get_or strong z 0 in
-    let parts = both (get_or exits (m - 1) 0 == 0) (list_any (λ c. (get_or strong c 0 == m) && (get_or linkage c 0 == k)) (range_with_len 0 (length strong))) e in
+    let parts = and_cases (get_or exits (m - 1) 0 == 0) (list_any (λ c. (get_or strong c 0 == m) && (get_or linkage c 0 == k)) (range_with_len 0 (length strong))) e in
     let at = some_place (λ c. (get_or strong c 0 == m) && (get_or linkage c 0 == k)) 0 (length strong) parts.1 in
     let c = at.0 in
     let lc : c < length strong = omega (arith, at.1) in
-    let same = both (get_or strong c 0 == m) (get_or linkage c 0 == k) at.2 in
+    let same = and_cases (get_or strong c 0 == m) (get_or linkage c 0 == k) at.2 in
     let to_z : SameClass rs c z = strong_class rs c z (right.same c z lc lz (eqb-true (get_or strong c 0) m same.0)) in
     let to_c : SameClass rs y c = labelled.right.same y c (in_linkage y ly) (omega (arith, lc, long, labelled.long)) (sym (eqb-true (get_or linkage c 0) k same.1)) in
     (omega (arith, lz, long), class_then rs y c z to_c to_z, (out.terminal z lz).0 (eqb-true (get_or exits (m - 1) 0) 0 parts.0)))
@@ -88,11 +78,11 @@ class_terminals net linkage strong exits y labelled long right counted out ly =
     let lz : z < length strong = omega (arith, has.0, long) in
     let m = get_or strong z 0 in
     let there : ((get_or strong z 0 == m) && (get_or linkage z 0 == k)) ≡ true =
-    and_both (get_or strong z 0 == m) (get_or linkage z 0 == k) (eq-eqb m m refl) (eq-eqb (get_or linkage z 0) k (sym (labelled.right.together y z (in_linkage y ly) (in_linkage z has.0) has.1))) in
+    and_true (get_or strong z 0 == m) (get_or linkage z 0 == k) (eq-eqb m m refl) (eq-eqb (get_or linkage z 0) k (sym (labelled.right.together y z (in_linkage y ly) (in_linkage z has.0) has.1))) in
     let at : get_or (range_with_len 0 (length strong)) z 0 ≡ z = get_or-range_with_len 0 (length strong) z 0 lz ∙ omega arith in
     let test : ℕ → Bool = λ c. (get_or strong c 0 == m) && (get_or linkage c 0 == k) in (
       lz,
-      and_both (get_or exits (m - 1) 0 == 0) (list_any test (range_with_len 0 (length strong)))
+      and_true (get_or exits (m - 1) 0 == 0) (list_any test (range_with_len 0 (length strong)))
           (eq-eqb (get_or exits (m - 1) 0) 0 ((out.terminal z lz).1 has.2))
           (list_any_at test (range_with_len 0 (length strong)) z 0 (omega (arith, lz, length-range_with_len 0 (length strong))) (ap test at ∙ there)),
     ))

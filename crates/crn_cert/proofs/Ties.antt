@@ -10,7 +10,7 @@ use Rattle.crn_vec.specs.NetSystems.{confluence_system}
 use Rattle.crn_vec.proofs.CallerLemmas.{no_zero, assoc, left-comm, mul-sub}
 use Rattle.crn_vec.proofs.CallerLemmas.{eq_or, past_end, lt_or}
 use Rattle.crn_vec.proofs.CallerLemmas.{listed, length-listed, entry-listed, across}
-use Rattle.crn_vec.proofs.CallerLemmas.{dots, dot_zero}
+use Rattle.crn_vec.proofs.CallerLemmas.{dots, dot_zero, ratios_cross}
 use Rattle.crn_cert.specs.ConfluenceTests.{IsTie, tie_at}
 
 -- ---- sums with one or two places
@@ -111,25 +111,6 @@ eliminated t u g g0 h h0 ne eg eh =
     ) in
     omega (arith, ints, no_zero t ((h *ℤ g0) -ℤ (g *ℤ h0)) none ne)
 
-cancel_right : (a x y : ℤ) → a ≢ pos 0 → x *ℤ a ≡ y *ℤ a → x ≡ y
-cancel_right a x y ne e =
-    let none : a *ℤ (x -ℤ y) ≡ pos 0 = omega (arith, ints, mul-sub a x y, *ℤ_comm a x, *ℤ_comm a y, e) in
-    omega (arith, ints, no_zero a (x -ℤ y) none ne)
-
-swapped : (x y z : ℤ) → (x *ℤ y) *ℤ z ≡ (x *ℤ z) *ℤ y
-swapped x y z = assoc x y z ∙ ap (λ (t : ℤ). x *ℤ t) (*ℤ_comm y z) ∙ sym (assoc x z y)
-
--- entries of two vectors that are both in one ratio to a third are in one ratio
-crossed : (g0 gi gk hi hk h0 ei ek e0 : ℤ) → g0 ≢ pos 0 → hi *ℤ g0 ≡ gi *ℤ h0 → hk *ℤ g0 ≡ gk *ℤ h0 → ei *ℤ g0 ≡ gi *ℤ e0 → ek *ℤ g0 ≡ gk *ℤ e0 → hi *ℤ ek ≡ hk *ℤ ei
-crossed g0 gi gk hi hk h0 ei ek e0 ne a b c d =
-    let left : (hi *ℤ gk) *ℤ g0 ≡ (gi *ℤ h0) *ℤ gk = swapped hi gk g0 ∙ ap (λ (t : ℤ). t *ℤ gk) a in
-    let right : (hk *ℤ gi) *ℤ g0 ≡ (gk *ℤ h0) *ℤ gi = swapped hk gi g0 ∙ ap (λ (t : ℤ). t *ℤ gi) b in
-    let moved : (gi *ℤ h0) *ℤ gk ≡ (gk *ℤ h0) *ℤ gi = assoc gi h0 gk ∙ *ℤ_comm gi (h0 *ℤ gk) ∙ ap (λ (t : ℤ). t *ℤ gi) (*ℤ_comm h0 gk) in
-    let first : hi *ℤ gk ≡ hk *ℤ gi = cancel_right g0 (hi *ℤ gk) (hk *ℤ gi) ne (left ∙ moved ∙ sym right) in
-    let up : (hi *ℤ ek) *ℤ g0 ≡ (hi *ℤ gk) *ℤ e0 = assoc hi ek g0 ∙ ap (λ (t : ℤ). hi *ℤ t) d ∙ sym (assoc hi gk e0) in
-    let down : (hk *ℤ ei) *ℤ g0 ≡ (hk *ℤ gi) *ℤ e0 = assoc hk ei g0 ∙ ap (λ (t : ℤ). hk *ℤ t) c ∙ sym (assoc hk gi e0) in
-    cancel_right g0 (hi *ℤ ek) (hk *ℤ ei) ne (up ∙ ap (λ (t : ℤ). t *ℤ e0) first ∙ sym down)
-
 -- a tie for each complex but one
 abbrev pub AreTied : Net → List ℕ → ℕ → ℕ → Type 0
 AreTied net linkage count c0 = (c : ℕ) → c < length net.complexes → c ≢ c0 → (tie : List ℤ) × IsTie net linkage count (λ d. d ≡ c0) c tie
@@ -152,7 +133,7 @@ to_one net linkage count c0 g h lt0 tied_all kg kh i = elim (lt_or i (length net
 pub one_line : (net : Net) (linkage : List ℕ) (count c0 : ℕ) (g h e : List ℤ) → c0 < length net.complexes → entry g c0 ≢ pos 0 → AreTied net linkage count c0
     → IsKept net linkage count g → IsKept net linkage count h → IsKept net linkage count e → AreProportional h e
 one_line net linkage count c0 g h e lt0 some tied_all kg kh ke i k =
-    crossed (entry g c0) (entry g i) (entry g k) (entry h i) (entry h k) (entry h c0) (entry e i) (entry e k) (entry e c0) some
+    ratios_cross (entry g c0) (entry g i) (entry g k) (entry h i) (entry h k) (entry h c0) (entry e i) (entry e k) (entry e c0) some
     (to_one net linkage count c0 g h lt0 tied_all kg kh i)
     (to_one net linkage count c0 g h lt0 tied_all kg kh k)
     (to_one net linkage count c0 g e lt0 tied_all kg ke i)

@@ -3,31 +3,24 @@ use Rattle.std.proofs.Common.{ℕ, ◌+◌, List, [], ◌∷◌, ◌++◌}
 use Rattle.crn_vec.specs.declared.signs.Sign.{Sign}
 use Rattle.crn_vec.specs.declared.signs.Sign.TheVariants.{Zero, Plus, Minus}
 use Rattle.crn_vec.specs.Problems.{Signed}
-use Rattle.crn_cert.specs.Tests.{Test, AllHold}
+use Rattle.crn_cert.specs.Tests.{AllHold}
 use Rattle.crn_cert.specs.Trees.{Plan, Both, Three, RulesA, RulesB, Level, node_count, IsFormedTree, IsValid}
 use Rattle.crn_cert.specs.Nodes.{Fits}
 use Rattle.crn_cert.specs.TreeTests.{tree_tests}
 use Rattle.crn_cert.specs.TreeLaw.{TestsDecideValidTrees}
-
-both_hold : (xs ys : List Test) → AllHold xs → AllHold ys → AllHold (xs ++ ys)
-both_hold [] ys h k = k
-both_hold (x ∷ xs) ys h k = (h.0, both_hold xs ys h.1 k)
-
-hold_both : (xs ys : List Test) → AllHold (xs ++ ys) → AllHold xs × AllHold ys
-hold_both [] ys h = (tt, h)
-hold_both (x ∷ xs) ys h = let r = hold_both xs ys h.1 in ((h.0, r.0), r.1)
+use Rattle.crn_cert.proofs.TestLists.{hold_append, hold_parts}
 
 valid_tests : (w : Signed) (part : ℕ) (p : List Sign) (t : Plan) → IsValid w p t → AllHold (tree_tests (Fits w) part p t)
 valid_tests w part p (Both z q) v = (
   v.0,
-  both_hold (tree_tests (Fits w) (part + 1) (p ++ Zero ∷ []) z) (tree_tests (Fits w) (part + 1 + node_count z) (p ++ Plus ∷ []) q)
+  hold_append (tree_tests (Fits w) (part + 1) (p ++ Zero ∷ []) z) (tree_tests (Fits w) (part + 1 + node_count z) (p ++ Plus ∷ []) q)
       (valid_tests w (part + 1) (p ++ Zero ∷ []) z v.2) (valid_tests w (part + 1 + node_count z) (p ++ Plus ∷ []) q v.3),
 )
 valid_tests w part p (Three z q m) v =
     let last = part + 1 + node_count z + node_count q in (
       v.0,
-      both_hold (tree_tests (Fits w) (part + 1) (p ++ Zero ∷ []) z ++ tree_tests (Fits w) (part + 1 + node_count z) (p ++ Plus ∷ []) q) (tree_tests (Fits w) last (p ++ Minus ∷ []) m)
-          (both_hold (tree_tests (Fits w) (part + 1) (p ++ Zero ∷ []) z) (tree_tests (Fits w) (part + 1 + node_count z) (p ++ Plus ∷ []) q)
+      hold_append (tree_tests (Fits w) (part + 1) (p ++ Zero ∷ []) z ++ tree_tests (Fits w) (part + 1 + node_count z) (p ++ Plus ∷ []) q) (tree_tests (Fits w) last (p ++ Minus ∷ []) m)
+          (hold_append (tree_tests (Fits w) (part + 1) (p ++ Zero ∷ []) z) (tree_tests (Fits w) (part + 1 + node_count z) (p ++ Plus ∷ []) q)
           (valid_tests w (part + 1) (p ++ Zero ∷ []) z v.2) (valid_tests w (part + 1 + node_count z) (p ++ Plus ∷ []) q v.3))
           (valid_tests w last (p ++ Minus ∷ []) m v.4),
     )
@@ -37,12 +30,12 @@ valid_tests w part p Level v = (v, tt)
 
 tests_valid : (w : Signed) (a b part : ℕ) (p : List Sign) (t : Plan) → IsFormedTree w.choices a b p t → AllHold (tree_tests (Fits w) part p t) → IsValid w p t
 tests_valid w a b part p (Both z q) f t =
-    let s = hold_both (tree_tests (Fits w) (part + 1) (p ++ Zero ∷ []) z) (tree_tests (Fits w) (part + 1 + node_count z) (p ++ Plus ∷ []) q) t.1 in
+    let s = hold_parts (tree_tests (Fits w) (part + 1) (p ++ Zero ∷ []) z) (tree_tests (Fits w) (part + 1 + node_count z) (p ++ Plus ∷ []) q) t.1 in
     (t.0, f.1, tests_valid w a b (part + 1) (p ++ Zero ∷ []) z f.2 s.0, tests_valid w a b (part + 1 + node_count z) (p ++ Plus ∷ []) q f.3 s.1)
 tests_valid w a b part p (Three z q m) f t =
     let last = part + 1 + node_count z + node_count q in
-    let s = hold_both (tree_tests (Fits w) (part + 1) (p ++ Zero ∷ []) z ++ tree_tests (Fits w) (part + 1 + node_count z) (p ++ Plus ∷ []) q) (tree_tests (Fits w) last (p ++ Minus ∷ []) m) t.1 in
-    let r = hold_both (tree_tests (Fits w) (part + 1) (p ++ Zero ∷ []) z) (tree_tests (Fits w) (part + 1 + node_count z) (p ++ Plus ∷ []) q) s.0 in
+    let s = hold_parts (tree_tests (Fits w) (part + 1) (p ++ Zero ∷ []) z ++ tree_tests (Fits w) (part + 1 + node_count z) (p ++ Plus ∷ []) q) (tree_tests (Fits w) last (p ++ Minus ∷ []) m) t.1 in
+    let r = hold_parts (tree_tests (Fits w) (part + 1) (p ++ Zero ∷ []) z) (tree_tests (Fits w) (part + 1 + node_count z) (p ++ Plus ∷ []) q) s.0 in
     (t.0, f.1, tests_valid w a b (part + 1) (p ++ Zero ∷ []) z f.2 r.0, tests_valid w a b (part + 1 + node_count z) (p ++ Plus ∷ []) q f.3 r.1, tests_valid w a b last (p ++ Minus ∷ []) m f.4 s.1)
 tests_valid w a b part p (RulesA u) f t = t.0
 tests_valid w a b part p (RulesB u) f t = t.0

@@ -22,19 +22,19 @@ use Rattle.crn_cert.specs.TreeTests.{tree_tests}
 use Rattle.crn_cert.specs.Formed.{IsFormedOf}
 use Rattle.crn_cert.specs.Valid.{table_rows}
 use Rattle.crn_cert.specs.Law.{IsTrueOrOpen, ValidIsTrue}
-use Rattle.crn_cert.proofs.Ranked.{hold_both}
 use Rattle.crn_cert.proofs.TreeLaws.{leaves_nothing}
+use Rattle.crn_cert.proofs.TestLists.{hold_parts}
 
 -- where what holds of each node gives its test in a problem
 pub tree_right : (w : Signed) (Holds : List Sign → Said → Type 0) → ((p : List Sign) (said : Said) → Holds p said → Fits w p said)
     → (choices rows_a rows_b part : ℕ) (p : List Sign) (tree : Plan) → IsFormedTree choices rows_a rows_b p tree → AllHold (tree_tests Holds part p tree) → IsValid w p tree
 tree_right w Holds fits choices rows_a rows_b part p (Both zero plus) f t =
-    let split = hold_both (tree_tests Holds (part + 1) (p ++ Zero ∷ []) zero) (tree_tests Holds (part + 1 + node_count zero) (p ++ Plus ∷ []) plus) t.1 in
+    let split = hold_parts (tree_tests Holds (part + 1) (p ++ Zero ∷ []) zero) (tree_tests Holds (part + 1 + node_count zero) (p ++ Plus ∷ []) plus) t.1 in
     (fits p _ t.0, f.1, tree_right w Holds fits choices rows_a rows_b (part + 1) (p ++ Zero ∷ []) zero f.2 split.0, tree_right w Holds fits choices rows_a rows_b (part + 1 + node_count zero) (p ++ Plus ∷ []) plus f.3 split.1)
 tree_right w Holds fits choices rows_a rows_b part p (Three zero plus minus) f t =
     let last = part + 1 + node_count zero + node_count plus in
-    let split = hold_both (tree_tests Holds (part + 1) (p ++ Zero ∷ []) zero ++ tree_tests Holds (part + 1 + node_count zero) (p ++ Plus ∷ []) plus) (tree_tests Holds last (p ++ Minus ∷ []) minus) t.1 in
-    let more = hold_both (tree_tests Holds (part + 1) (p ++ Zero ∷ []) zero) (tree_tests Holds (part + 1 + node_count zero) (p ++ Plus ∷ []) plus) split.0 in (
+    let split = hold_parts (tree_tests Holds (part + 1) (p ++ Zero ∷ []) zero ++ tree_tests Holds (part + 1 + node_count zero) (p ++ Plus ∷ []) plus) (tree_tests Holds last (p ++ Minus ∷ []) minus) t.1 in
+    let more = hold_parts (tree_tests Holds (part + 1) (p ++ Zero ∷ []) zero) (tree_tests Holds (part + 1 + node_count zero) (p ++ Plus ∷ []) plus) split.0 in (
       fits p _ t.0,
       f.1,
       tree_right w Holds fits choices rows_a rows_b (part + 1) (p ++ Zero ∷ []) zero f.2 more.0,

@@ -16,7 +16,7 @@ use Rattle.crn_vec.specs.Deficiency.{IsComplex, IsDeficiency, AreDeficiencies, A
 use Rattle.crn_vec.specs.Confluence.{InConfluenceSpace}
 use Rattle.crn_vec.proofs.CallerLemmas.{no_zero}
 use Rattle.crn_vec.proofs.CallerLemmas.{place_of, inside_at}
-use Rattle.crn_vec.proofs.CallerLemmas.{vector_long}
+use Rattle.crn_vec.proofs.CallerLemmas.{vector_long, in_range, filter_has, and_cases}
 use Rattle.crn_cert.specs.declared.answer.Verdict.{Verdict}
 use Rattle.crn_cert.specs.declared.answer.Verdict.TheVariants.{Classes, Strong, Rank, Deficiency, Yes, YesWeak, YesVec, NoReaction, NoVec, NoNumber, NoTerminal, NoClass, NoSum, NoDependence, NoCycle, NotRegular, OnlyZero, Plane, Unknown}
 use Rattle.crn_cert.specs.declared.answer.Proof.{Proof}
@@ -30,14 +30,13 @@ use Rattle.crn_cert.specs.Valid.{is_within_terminal, linkage, linkage_count, str
 use Rattle.crn_cert.specs.Law.{IsTrueOrOpen, ValidIsTrue}
 use Rattle.crn_cert.proofs.ClassesRight.{linkage_right, named_in, named_inside}
 use Rattle.crn_cert.specs.ClassTests.{of_class}
-use Rattle.crn_cert.proofs.StrongRight.{both, strong_right}
+use Rattle.crn_cert.proofs.StrongRight.{strong_right}
 use Rattle.crn_cert.proofs.Multipliers.{no_dependence, no_conservation}
 use Rattle.crn_cert.proofs.Cycles.{cycle_by_tests}
 use Rattle.crn_cert.proofs.Counts.{classes_counted, tally, tally_is}
 use Rattle.crn_cert.proofs.Kept.{AreKnown, space_by_tests, line_by_ties, zero_by_ties, vector_by_tests}
 use Rattle.crn_cert.proofs.Known.{ClassesKnown, StrongKnown, linkage_known, strong_known, classes_known, one_each, first_split, dependent_yes, dependent_no, regular_yes, regular_no, weak_yes, weak_no}
 use Rattle.crn_cert.proofs.Pairs.{pairs_cut}
-use Rattle.crn_cert.proofs.Filters.{in_range, filter_has}
 
 -- ---- linkage and strong classes
 
@@ -131,7 +130,7 @@ regular_law net earlier network k dep (NoCycle r walk) Nothing f t =
     let w = t.1.0 in
     let s = k.strong_is.is in
     let here : is_within_terminal earlier (w.y, w.z) ≡ true = ap (is_within_terminal earlier) (sym w.goes.1.1) ∙ t.0.2.2 in
-    let parts = both (get_or (strong earlier) w.y 0 == get_or (strong earlier) w.z 0) (of_class (strong earlier) (exits earlier) w.y == 0) here in
+    let parts = and_cases (get_or (strong earlier) w.y 0 == get_or (strong earlier) w.z 0) (of_class (strong earlier) (exits earlier) w.y == 0) here in
     let within = eqb-true (get_or (strong earlier) w.y 0) (get_or (strong earlier) w.z 0) parts.0 in
     let terminal = eqb-true (of_class (strong earlier) (exits earlier) w.y) 0 parts.1 in
     (one_each net earlier k t.0.0, cycle_by_tests net network (strong earlier) (exits earlier) r walk.list s.places s.right s.exits_are w within terminal)

@@ -1,6 +1,7 @@
 pub mod Ranges
 pub mod Trees
 pub mod Nodes
+pub mod TreeSizes
 pub mod TreeLaw
 pub mod Questions
 pub mod Built

@@ -4,11 +4,10 @@
 mod answer;
 mod answers;
 mod laws;
+mod place;
 mod rank_list;
 mod rows;
 mod share;
-#[cfg(test)]
-mod tests;
 mod tree;
 mod verdicts;
 
@@ -19,6 +18,7 @@ pub use laws::{
     shapes_exist, shares_fit, tested_marks_are_sides, tests_decide_valid_trees,
     valid_answers_are_true, valid_documents_are_true, valid_trees_leave_nothing,
 };
+pub use place::question_number;
 pub use rank_list::RankList;
 pub use rows::Rows;
 pub use share::{Share, share_of};

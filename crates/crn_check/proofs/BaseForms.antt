@@ -18,8 +18,8 @@ use Rattle.crn_check.specs.declared.members.Members.TheVariants.{All}
 use Rattle.crn_check.specs.Inner.Bases.{IsBase, is_member, members_of}
 use Rattle.crn_check.proofs.Outside.{outside_long, above_less, ascending_rest}
 
-kept : (p : ℕ → Bool) (x : ℕ) (xs : List ℕ) → p x ≡ true → filter p (x ∷ xs) ≡ x ∷ filter p xs
-kept p x xs e = rw e refl
+filter_keeps : (p : ℕ → Bool) (x : ℕ) (xs : List ℕ) → p x ≡ true → filter p (x ∷ xs) ≡ x ∷ filter p xs
+filter_keeps p x xs e = rw e refl
 
 dropped : (p : ℕ → Bool) (x : ℕ) (xs : List ℕ) → p x ≡ false → filter p (x ∷ xs) ≡ filter p xs
 dropped p x xs e = rw e refl
@@ -27,28 +27,28 @@ dropped p x xs e = rw e refl
 filter_in : (p : ℕ → Bool) (xs : List ℕ) (r : ℕ) → IsIn r (filter p xs) → IsIn r xs
 filter_in p [] r i = i
 filter_in p (x ∷ xs) r i = elim (cases_Bool (p x)) [
-  | inl hit ↦ elim (subst (IsIn r) (kept p x xs hit) i) [ inl e ↦ inl e | inr later ↦ inr (filter_in p xs r later) ]
+  | inl hit ↦ elim (subst (IsIn r) (filter_keeps p x xs hit) i) [ inl e ↦ inl e | inr later ↦ inr (filter_in p xs r later) ]
   | inr miss ↦ inr (filter_in p xs r (subst (IsIn r) (dropped p x xs miss) i))
 ]
 
 filter_few : (p : ℕ → Bool) (xs : List ℕ) → length (filter p xs) ≤ length xs
 filter_few p [] = omega arith
 filter_few p (x ∷ xs) = elim (cases_Bool (p x)) [
-  | inl hit ↦ let e = ap (λ (l : List ℕ). length l) (kept p x xs hit) in omega (arith, e, filter_few p xs)
+  | inl hit ↦ let e = ap (λ (l : List ℕ). length l) (filter_keeps p x xs hit) in omega (arith, e, filter_few p xs)
   | inr miss ↦ let e = ap (λ (l : List ℕ). length l) (dropped p x xs miss) in omega (arith, e, filter_few p xs)
 ]
 
 filter_above : (p : ℕ → Bool) (k : ℕ) (xs : List ℕ) → IsAbove k xs → IsAbove k (filter p xs)
 filter_above p k [] h = tt
 filter_above p k (x ∷ xs) h = elim (cases_Bool (p x)) [
-  | inl hit ↦ subst (IsAbove k) (sym (kept p x xs hit)) (h.0, filter_above p x xs h.1)
+  | inl hit ↦ subst (IsAbove k) (sym (filter_keeps p x xs hit)) (h.0, filter_above p x xs h.1)
   | inr miss ↦ subst (IsAbove k) (sym (dropped p x xs miss)) (filter_above p k xs (above_less k x xs h.0 h.1))
 ]
 
 filter_ascending : (p : ℕ → Bool) (xs : List ℕ) → IsAscending xs → IsAscending (filter p xs)
 filter_ascending p [] h = tt
 filter_ascending p (x ∷ xs) h = elim (cases_Bool (p x)) [
-  | inl hit ↦ subst IsAscending (sym (kept p x xs hit)) (filter_above p x xs h)
+  | inl hit ↦ subst IsAscending (sym (filter_keeps p x xs hit)) (filter_above p x xs h)
   | inr miss ↦ subst IsAscending (sym (dropped p x xs miss)) (filter_ascending p xs (ascending_rest x xs h))
 ]
 
@@ -97,9 +97,9 @@ in_range r a (suc n) least less = elim (eq_or r a) [ inl e ↦ inl e | inr ne �
 
 in_filter : (p : ℕ → Bool) (xs : List ℕ) (r : ℕ) → IsIn r xs → p r ≡ true → IsIn r (filter p xs)
 in_filter p [] r i hit = absurd i
-in_filter p (x ∷ xs) r (inl e) hit = subst (IsIn r) (sym (kept p x xs (subst (λ (y : ℕ). p y ≡ true) e hit))) (inl e)
+in_filter p (x ∷ xs) r (inl e) hit = subst (IsIn r) (sym (filter_keeps p x xs (subst (λ (y : ℕ). p y ≡ true) e hit))) (inl e)
 in_filter p (x ∷ xs) r (inr later) hit = elim (cases_Bool (p x)) [
-  | inl has ↦ subst (IsIn r) (sym (kept p x xs has)) (inr (in_filter p xs r later hit))
+  | inl has ↦ subst (IsIn r) (sym (filter_keeps p x xs has)) (inr (in_filter p xs r later hit))
   | inr miss ↦ subst (IsIn r) (sym (dropped p x xs miss)) (in_filter p xs r later hit)
 ]
 

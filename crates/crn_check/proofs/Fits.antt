@@ -4,8 +4,8 @@ use Rattle.crn_vec.specs.Network.{Net, IsNetwork}
 use Rattle.crn_cert.specs.declared.answer.Answer.{Answer}
 use Rattle.crn_cert.specs.declared.answer.Gap.TheVariants.{Wide, Budget, Rests}
 use Rattle.crn_cert.specs.declared.answer.Verdict.{Verdict}
-use Rattle.crn_cert.specs.declared.answer.Verdict.TheVariants.{Classes, Strong, Rank, Deficiency, Yes, YesWeak, YesVec, NoReaction, NoVec, NoNumber, NoTerminal, NoClass, NoSum, NoDependence, NoCycle, NotRegular, OnlyZero, Plane, Unknown}
-use Rattle.crn_cert.specs.Questions.{Earlier, Q1, Q2, Q3, Q4, Q5, Q6, Q7, Q8, Q9, Q10, Q11, Q12}
+use Rattle.crn_cert.specs.declared.answer.Verdict.TheVariants.{Classes, Strong, Rank, Deficiency, Yes, YesWeak, YesVec, NoReaction, NoVec, NoNumber, NoTerminal, NoClass, NoSum, NoDependence, NoCycle, NoPair, NotRegular, OnlyZero, Plane, Unknown}
+use Rattle.crn_cert.specs.Questions.{Earlier, Q1, Q2, Q3, Q4, Q5, Q6, Q7, Q8, Q9, Q10, Q11, Q12, Q14, Q15}
 use Rattle.crn_cert.specs.Valid.{linkage_count}
 use Rattle.crn_cert.specs.Formed.{IsFormed}
 use Rattle.crn_cert.specs.FormedVerdicts.{IsFormedVerdict}
@@ -114,6 +114,22 @@ fits_12 net e (Unknown (Budget nodes)) n f = absurd f.0
 fits_12 net e (Unknown (Rests question)) n f = tt
 fits_12 net e v n f = absurd f.0
 
+fits_14 : (net : Net) (e : Earlier) (v : Verdict) → IsNetwork net → IsFormedVerdict net e Q14 v → DoesFit v
+fits_14 net e Yes n f = tt
+fits_14 net e (NoPair alpha weights) n f = (omega (arith, f.1.0.long, n.partial.reactions_limit), omega (arith, f.1.1.long, n.partial.reactions_limit))
+fits_14 net e (Unknown (Wide system class index basis)) n f = omega (arith, f.0.2.members.long, n.partial.reactions_limit)
+fits_14 net e (Unknown (Budget nodes)) n f = tt
+fits_14 net e (Unknown (Rests question)) n f = absurd f.0
+fits_14 net e v n f = absurd f.0
+
+fits_15 : (net : Net) (e : Earlier) (v : Verdict) → IsNetwork net → IsFormedVerdict net e Q15 v → DoesFit v
+fits_15 net e Yes n f = tt
+fits_15 net e (NoPair alpha weights) n f = (omega (arith, f.1.0.long, n.partial.reactions_limit), omega (arith, f.1.1.long, n.partial.reactions_limit))
+fits_15 net e (Unknown (Wide system class index basis)) n f = omega (arith, f.0.2.members.long, n.partial.reactions_limit)
+fits_15 net e (Unknown (Budget nodes)) n f = tt
+fits_15 net e (Unknown (Rests question)) n f = absurd f.0
+fits_15 net e v n f = absurd f.0
+
 pub answer_fits : (net : Net) (facts : KeptFacts) (n : ℕ) (a : Answer) → IsNetwork net → IsBuilt n → AreFactsOf net facts → HoldsNeeds facts.earlier n → IsFormed net facts.earlier (asked n) a → DoesFit a.verdict
 answer_fits net facts n a network built h needs formed = go n built needs (formed_answers_have_formed_verdicts net facts.earlier (asked n) a.verdict a.proof formed)
   where
@@ -133,4 +149,6 @@ answer_fits net facts n a network built h needs formed = go n built needs (forme
     go n (inr (inr (inr (inr (inr (inr (inr (inr (inr (inl is)))))))))) needs f = let g : IsFormedVerdict net facts.earlier Q10 a.verdict = subst (λ (m : ℕ). IsFormedVerdict net facts.earlier (asked m) a.verdict) is f in fits_10 net facts.earlier a.verdict g
     go n (inr (inr (inr (inr (inr (inr (inr (inr (inr (inr (inl is))))))))))) needs f = let g : IsFormedVerdict net facts.earlier Q11 a.verdict = subst (λ (m : ℕ). IsFormedVerdict net facts.earlier (asked m) a.verdict) is f in fits_11 net facts.earlier a.verdict network g
     go n (inr (inr (inr (inr (inr (inr (inr (inr (inr (inr (inr (inl is)))))))))))) needs f = let g : IsFormedVerdict net facts.earlier Q12 a.verdict = subst (λ (m : ℕ). IsFormedVerdict net facts.earlier (asked m) a.verdict) is f in fits_12 net facts.earlier a.verdict network g
-    go n (inr (inr (inr (inr (inr (inr (inr (inr (inr (inr (inr (inr none)))))))))))) needs f = absurd none
+    go n (inr (inr (inr (inr (inr (inr (inr (inr (inr (inr (inr (inr (inl is))))))))))))) needs f = let g : IsFormedVerdict net facts.earlier Q14 a.verdict = subst (λ (m : ℕ). IsFormedVerdict net facts.earlier (asked m) a.verdict) is f in fits_14 net facts.earlier a.verdict network g
+    go n (inr (inr (inr (inr (inr (inr (inr (inr (inr (inr (inr (inr (inr (inl is)))))))))))))) needs f = let g : IsFormedVerdict net facts.earlier Q15 a.verdict = subst (λ (m : ℕ). IsFormedVerdict net facts.earlier (asked m) a.verdict) is f in fits_15 net facts.earlier a.verdict network g
+    go n (inr (inr (inr (inr (inr (inr (inr (inr (inr (inr (inr (inr (inr (inr none)))))))))))))) needs f = absurd none

@@ -8,16 +8,17 @@ use Rattle.crn_vec.specs.Kept.{KeptNums}
 use Rattle.crn_cert.specs.declared.answer.Answer.{Answer}
 use Rattle.crn_cert.specs.declared.answer.Gap.TheVariants.{Wide, Budget, Rests}
 use Rattle.crn_cert.specs.declared.answer.Verdict.{Verdict}
-use Rattle.crn_cert.specs.declared.answer.Verdict.TheVariants.{Classes, Strong, Unknown}
+use Rattle.crn_cert.specs.declared.answer.Verdict.TheVariants.{Classes, Strong, Yes, Unknown}
 use Rattle.crn_cert.specs.declared.answer.Proof.{Proof}
 use Rattle.crn_cert.specs.Questions.{Earlier, Question, Q1, Q2, Q3, Q4, Q5, Q6, Q7, Q8, Q9, Q10, Q11, Q12, Q13, Q14, Q15, number, on, labels_of, count_of, exits_of, IsOpen}
 use Rattle.crn_cert.specs.Ranges.{AreFrom}
 use Rattle.crn_cert.specs.Valid.{strong, exits, linkage, linkage_count}
-use Rattle.crn_cert.specs.Formed.{HeadMayBe, HeadReversible, HeadDeficiency, RowsLinkage, RowsStrong, RowsReversible, RowsRank, RowsDeficiency, RowsPositive, HeadRegular, RowsRegular, HeadConfluence, RowsConfluence, IsFormed, IsFormedOf}
+use Rattle.crn_cert.specs.Formed.{HeadMayBe, HeadReversible, HeadDeficiency, RowsLinkage, RowsStrong, RowsReversible, RowsRank, RowsDeficiency, RowsPositive, HeadRegular, RowsRegular, HeadConfluence, RowsConfluence, RowsConcordant, IsFormed, IsFormedOf}
 use Rattle.crn_cert.specs.FormedVerdicts.{IsFormedVerdict, AreFormedVerdicts}
 use Rattle.crn_cert.specs.Law.{IsTrueOrOpen}
 use Rattle.crn_cert.proofs.CallerLemmas.{formed_answers_have_formed_verdicts}
 use Rattle.crn_check.specs.Verdicts.{tight}
+use Rattle.crn_check.specs.Check.{AsksForTree}
 use Rattle.crn_check.specs.Facts.{KeptFacts, AreFactsOf, asked, HoldsOn}
 use Rattle.crn_check.proofs.Spares.{true_tight}
 
@@ -81,6 +82,14 @@ pub rows_confluence : (net : Net) (e : Earlier) (v : Verdict) (p : Proof) → Is
 rows_confluence net e (Unknown gap) p f = inl tt
 rows_confluence net e v p f = inr f
 
+pub rows_concordant : (net : Net) (e : Earlier) (v : Verdict) (p : Proof) → IsFormedOf net e Q14 v p → IsOpen v ⊎ RowsConcordant net v p
+rows_concordant net e (Unknown gap) p f = inl tt
+rows_concordant net e v p f = inr f.1
+
+pub rows_strongly : (net : Net) (e : Earlier) (v : Verdict) (p : Proof) → IsFormedOf net e Q15 v p → IsOpen v ⊎ RowsConcordant net v p
+rows_strongly net e (Unknown gap) p f = inl tt
+rows_strongly net e v p f = inr f.1
+
 -- ---- what is kept
 
 -- the verdict is formed without its spares
@@ -140,13 +149,21 @@ sound_push net (e ∷ es) q v h t = (h.0, sound_push net es q v h.1 t)
 
 -- ---- facts with the verdict of an answer
 
-pub facts_push : (net : Net) (old new : KeptFacts) (n : ℕ) (a : Answer) → AreFactsOf net old → IsFormed net old.earlier (asked n) a → new.earlier ≡ old.earlier ++ (asked n, tight a.verdict) ∷ [] → IsTrueOrOpen net (asked n) a.verdict → AreFactsOf net new
-facts_push net old new n a h f e t =
-    let formed = verdict_tight net old.earlier (asked n) a.verdict (formed_answers_have_formed_verdicts net old.earlier (asked n) a.verdict a.proof f) in
+pub facts_add : (net : Net) (old new : KeptFacts) (n : ℕ) (v : Verdict) → AreFactsOf net old → IsFormedVerdict net old.earlier (asked n) v → new.earlier ≡ old.earlier ++ (asked n, tight v) ∷ [] → IsTrueOrOpen net (asked n) v → AreFactsOf net new
+facts_add net old new n v h f e t =
+    let formed = verdict_tight net old.earlier (asked n) v f in
     record {
-      formed = subst (λ (es : Earlier). AreFormedVerdicts net [] (asks es) (says es)) (sym e) (formed_push net [] old.earlier (asked n) (tight a.verdict) h.formed formed);
-      sound = subst (AllByRecursion (λ (e : Question × Verdict). IsTrueOrOpen net e.0 e.1)) (sym e) (sound_push net old.earlier (asked n) (tight a.verdict) h.sound (true_tight net (asked n) a.verdict t));
+      formed = subst (λ (es : Earlier). AreFormedVerdicts net [] (asks es) (says es)) (sym e) (formed_push net [] old.earlier (asked n) (tight v) h.formed formed);
+      sound = subst (AllByRecursion (λ (e : Question × Verdict). IsTrueOrOpen net e.0 e.1)) (sym e) (sound_push net old.earlier (asked n) (tight v) h.sound (true_tight net (asked n) v t));
     }
+
+pub facts_push : (net : Net) (old new : KeptFacts) (n : ℕ) (a : Answer) → AreFactsOf net old → IsFormed net old.earlier (asked n) a → new.earlier ≡ old.earlier ++ (asked n, tight a.verdict) ∷ [] → IsTrueOrOpen net (asked n) a.verdict → AreFactsOf net new
+facts_push net old new n a h f e t = facts_add net old new n a.verdict h (formed_answers_have_formed_verdicts net old.earlier (asked n) a.verdict a.proof f) e t
+
+-- a yes to a question whose yes a tree shows has a form that the question admits
+pub yes_formed : (net : Net) (e : Earlier) (n : ℕ) → AsksForTree n → IsFormedVerdict net e (asked n) Yes
+yes_formed net e n (inl is) = rw is (tt, tt)
+yes_formed net e n (inr is) = rw is (tt, tt)
 
 -- ---- the verdict that facts hold on a question
 

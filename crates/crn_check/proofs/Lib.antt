@@ -23,3 +23,4 @@ mod SideMarks
 mod Spaces
 mod Leading
 mod TieRows
+mod NoTrees

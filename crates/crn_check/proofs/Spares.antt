@@ -6,9 +6,11 @@ use Rattle.std.specs.List.{list_any, range_with_len}
 use Rattle.crn_vec.specs.Deficiency.{AreAtMostOne, class_members}
 use Rattle.crn_vec.specs.Lists.{IsIn}
 use Rattle.crn_vec.specs.Network.{Net}
+use Rattle.crn_vec.specs.Influence.{plain_table, strong_table}
+use Rattle.crn_vec.specs.declared.signs.Sign.{Sign}
 use Rattle.crn_cert.specs.declared.answer.Gap.TheVariants.{Wide, Budget, Rests}
 use Rattle.crn_cert.specs.declared.answer.Verdict.{Verdict}
-use Rattle.crn_cert.specs.declared.answer.Verdict.TheVariants.{Classes, Strong, Rank, Deficiency, Yes, YesWeak, YesVec, NoReaction, NoVec, NoNumber, NoTerminal, NoClass, NoSum, NoDependence, NoCycle, NotRegular, OnlyZero, Plane, Unknown}
+use Rattle.crn_cert.specs.declared.answer.Verdict.TheVariants.{Classes, Strong, Rank, Deficiency, Yes, YesWeak, YesVec, NoReaction, NoVec, NoNumber, NoTerminal, NoClass, NoSum, NoDependence, NoCycle, NoPair, NotRegular, OnlyZero, Plane, Unknown}
 use Rattle.crn_cert.specs.declared.answer.Proof.{Proof}
 use Rattle.crn_cert.specs.declared.answer.Proof.TheVariants.{Nothing, Forest, Strong as StrongTrees, Back, Rank as RankRows, Ranks, Sides, Ties, One, Two}
 use Rattle.crn_cert.specs.declared.answer.RankProof.{RankProof}
@@ -18,7 +20,7 @@ use Rattle.crn_cert.specs.Tests.{Test, test, AllHold, FailsFirst}
 use Rattle.crn_cert.specs.Formed.{IsFormedOf, IsRankProof, IsWideGap, IsBasisOf, AreClassProofs, AreSides}
 use Rattle.crn_cert.specs.ClassTests.{AreSideMarks}
 use Rattle.crn_cert.specs.ConfluenceTests.{IsInSpace, DoTerminalsGather, least_from, others_than, tie_tests}
-use Rattle.crn_cert.specs.Valid.{head_tests, row_tests, strong, linkage, linkage_count, exits, classes_to, HaveOneBefore, HaveOneEach, IsFirstSplit, WithDeficiencies, terminals_in, class_places, IsLeft, IsClassNumber, AreClassNumbers, IsFirstLarge, class_rank_tests, IsWithinTerminal, is_least_of_pair, pair_places, side_tests, IsNormal, IsApartAt}
+use Rattle.crn_cert.specs.Valid.{head_tests, row_tests, strong, linkage, linkage_count, exits, classes_to, HaveOneBefore, HaveOneEach, IsFirstSplit, WithDeficiencies, terminals_in, class_places, IsLeft, IsClassNumber, AreClassNumbers, IsFirstLarge, class_rank_tests, IsWithinTerminal, is_least_of_pair, pair_places, side_tests, IsNormal, IsApartAt, table_rows}
 use Rattle.crn_cert.specs.RankTests.{rank_tests}
 use Rattle.crn_cert.specs.Ranges.{IsFrom, AreFrom, AreFreeRows}
 use Rattle.crn_cert.specs.Law.{IsTrueOrOpen}
@@ -225,7 +227,9 @@ head_tests_tight net es q v (inr (inr (inr (inr (inr (inr (inr (inr (inl is)))))
 head_tests_tight net es q v (inr (inr (inr (inr (inr (inr (inr (inr (inr (inl is)))))))))) = rw is (heads_10 net es v)
 head_tests_tight net es q v (inr (inr (inr (inr (inr (inr (inr (inr (inr (inr (inl is))))))))))) = rw is (heads_11 net es v)
 head_tests_tight net es q v (inr (inr (inr (inr (inr (inr (inr (inr (inr (inr (inr (inl is)))))))))))) = rw is (heads_12 net es v)
-head_tests_tight net es q v (inr (inr (inr (inr (inr (inr (inr (inr (inr (inr (inr (inr none)))))))))))) = absurd none
+head_tests_tight net es q v (inr (inr (inr (inr (inr (inr (inr (inr (inr (inr (inr (inr (inl is))))))))))))) = rw is refl
+head_tests_tight net es q v (inr (inr (inr (inr (inr (inr (inr (inr (inr (inr (inr (inr (inr (inl is)))))))))))))) = rw is refl
+head_tests_tight net es q v (inr (inr (inr (inr (inr (inr (inr (inr (inr (inr (inr (inr (inr (inr none)))))))))))))) = absurd none
 
 -- ---- records
 
@@ -331,6 +335,13 @@ rows_12 net es (Plane first second one two) p = alike _ _ (ap₂ (λ (A B : Type
 rows_12 net es (Unknown gap) p = alike _ _ refl
 rows_12 net es v p = alike _ _ refl
 
+rows_table : (net : Net) (table : List (List Sign)) (v : Verdict) (p : Proof) → table_rows net table (tight v) (tight_proof p) ≡ table_rows net table v p
+rows_table net table Yes (One tree) = refl
+rows_table net table Yes p = refl
+rows_table net table (NoPair alpha weights) p = refl
+rows_table net table (Unknown gap) p = refl
+rows_table net table v p = refl
+
 pub row_tests_tight : (net : Net) (es : Earlier) (q : Question) (v : Verdict) (p : Proof) → IsIn q built → AreAlike (row_tests net (all_tight es) q (tight v) (tight_proof p)) (row_tests net es q v p)
 row_tests_tight net es q v p (inl is) = rw is (alike _ _ (rows_1 net es v p))
 row_tests_tight net es q v p (inr (inl is)) = rw is (alike _ _ (rows_2 net es v p))
@@ -344,7 +355,9 @@ row_tests_tight net es q v p (inr (inr (inr (inr (inr (inr (inr (inr (inl is))))
 row_tests_tight net es q v p (inr (inr (inr (inr (inr (inr (inr (inr (inr (inl is)))))))))) = rw is (alike _ _ refl)
 row_tests_tight net es q v p (inr (inr (inr (inr (inr (inr (inr (inr (inr (inr (inl is))))))))))) = rw is (alike _ _ (rows_11 net es v p))
 row_tests_tight net es q v p (inr (inr (inr (inr (inr (inr (inr (inr (inr (inr (inr (inl is)))))))))))) = rw is (rows_12 net es v p)
-row_tests_tight net es q v p (inr (inr (inr (inr (inr (inr (inr (inr (inr (inr (inr (inr none)))))))))))) = absurd none
+row_tests_tight net es q v p (inr (inr (inr (inr (inr (inr (inr (inr (inr (inr (inr (inr (inl is))))))))))))) = rw is (alike _ _ (rows_table net (plain_table net) v p))
+row_tests_tight net es q v p (inr (inr (inr (inr (inr (inr (inr (inr (inr (inr (inr (inr (inr (inl is)))))))))))))) = rw is (alike _ _ (rows_table net (strong_table net) v p))
+row_tests_tight net es q v p (inr (inr (inr (inr (inr (inr (inr (inr (inr (inr (inr (inr (inr (inr none)))))))))))))) = absurd none
 
 -- ---- forms
 
@@ -553,6 +566,26 @@ forms_12 net es (Plane first second one two) Nothing = (λ h. h, λ h. h)
 forms_12 net es (Plane first second one two) p = (λ h. absurd h.1, λ h. absurd h.1)
 forms_12 net es v p = (λ h. absurd h.0, λ h. absurd h.0)
 
+forms_14 : (net : Net) (es : Earlier) (v : Verdict) (p : Proof) → (IsFormedOf net (all_tight es) Q14 (tight v) (tight_proof p) ↔ IsFormedOf net es Q14 v p)
+forms_14 net es (Unknown (Wide system class index basis)) p = (λ h. (h.0, nothing p h.1), λ h. (h.0, ap tight_proof h.1))
+forms_14 net es (Unknown (Budget nodes)) p = (λ h. (h.0, nothing p h.1), λ h. (h.0, ap tight_proof h.1))
+forms_14 net es (Unknown (Rests question)) p = (λ h. absurd h.0, λ h. absurd h.0)
+forms_14 net es Yes (One tree) = (λ h. h, λ h. h)
+forms_14 net es Yes p = (λ h. absurd h.1, λ h. absurd h.1)
+forms_14 net es (NoPair alpha weights) Nothing = (λ h. h, λ h. h)
+forms_14 net es (NoPair alpha weights) p = (λ h. absurd h.1, λ h. absurd h.1)
+forms_14 net es v p = (λ h. absurd h.0, λ h. absurd h.0)
+
+forms_15 : (net : Net) (es : Earlier) (v : Verdict) (p : Proof) → (IsFormedOf net (all_tight es) Q15 (tight v) (tight_proof p) ↔ IsFormedOf net es Q15 v p)
+forms_15 net es (Unknown (Wide system class index basis)) p = (λ h. (h.0, nothing p h.1), λ h. (h.0, ap tight_proof h.1))
+forms_15 net es (Unknown (Budget nodes)) p = (λ h. (h.0, nothing p h.1), λ h. (h.0, ap tight_proof h.1))
+forms_15 net es (Unknown (Rests question)) p = (λ h. absurd h.0, λ h. absurd h.0)
+forms_15 net es Yes (One tree) = (λ h. h, λ h. h)
+forms_15 net es Yes p = (λ h. absurd h.1, λ h. absurd h.1)
+forms_15 net es (NoPair alpha weights) Nothing = (λ h. h, λ h. h)
+forms_15 net es (NoPair alpha weights) p = (λ h. absurd h.1, λ h. absurd h.1)
+forms_15 net es v p = (λ h. absurd h.0, λ h. absurd h.0)
+
 pub formed_tight : (net : Net) (es : Earlier) (q : Question) (v : Verdict) (p : Proof) → IsIn q built → (IsFormedOf net (all_tight es) q (tight v) (tight_proof p) ↔ IsFormedOf net es q v p)
 formed_tight net es q v p (inl is) = rw is (forms_1 net es v p)
 formed_tight net es q v p (inr (inl is)) = rw is (forms_2 net es v p)
@@ -566,7 +599,9 @@ formed_tight net es q v p (inr (inr (inr (inr (inr (inr (inr (inr (inl is)))))))
 formed_tight net es q v p (inr (inr (inr (inr (inr (inr (inr (inr (inr (inl is)))))))))) = rw is (forms_10 net es v p)
 formed_tight net es q v p (inr (inr (inr (inr (inr (inr (inr (inr (inr (inr (inl is))))))))))) = rw is (forms_11 net es v p)
 formed_tight net es q v p (inr (inr (inr (inr (inr (inr (inr (inr (inr (inr (inr (inl is)))))))))))) = rw is (forms_12 net es v p)
-formed_tight net es q v p (inr (inr (inr (inr (inr (inr (inr (inr (inr (inr (inr (inr none)))))))))))) = absurd none
+formed_tight net es q v p (inr (inr (inr (inr (inr (inr (inr (inr (inr (inr (inr (inr (inl is))))))))))))) = rw is (forms_14 net es v p)
+formed_tight net es q v p (inr (inr (inr (inr (inr (inr (inr (inr (inr (inr (inr (inr (inr (inl is)))))))))))))) = rw is (forms_15 net es v p)
+formed_tight net es q v p (inr (inr (inr (inr (inr (inr (inr (inr (inr (inr (inr (inr (inr (inr none)))))))))))))) = absurd none
 
 -- ---- truth
 

@@ -96,7 +96,9 @@ knows net facts n (inr (inr (inr (inr (inr (inr (inr (inr (inr (inr (inl is)))))
 knows net facts n (inr (inr (inr (inr (inr (inr (inr (inr (inr (inr (inr (inl is)))))))))))) h needs =
     let held : HoldsNeeds facts.earlier 12 = subst (HoldsNeeds facts.earlier) is needs in
     rw is (linkage_true net facts h held.0, (strong_true net facts h held.1.0, (weak_true net facts h held.1.1.0, tt)))
-knows net facts n (inr (inr (inr (inr (inr (inr (inr (inr (inr (inr (inr (inr none)))))))))))) h needs = absurd none
+knows net facts n (inr (inr (inr (inr (inr (inr (inr (inr (inr (inr (inr (inr (inl is))))))))))))) h needs = rw is tt
+knows net facts n (inr (inr (inr (inr (inr (inr (inr (inr (inr (inr (inr (inr (inr (inl is)))))))))))))) h needs = rw is tt
+knows net facts n (inr (inr (inr (inr (inr (inr (inr (inr (inr (inr (inr (inr (inr (inr none)))))))))))))) h needs = absurd none
 
 -- the facts give what an open question rests on
 rests : (net : Net) (facts : KeptFacts) (n : ℕ) → IsBuilt n → AreFactsOf net facts → HoldsNeeds facts.earlier n → AreTrueOrOpen net (rests_for (asked n)) facts.earlier
@@ -122,7 +124,9 @@ rests net facts n (inr (inr (inr (inr (inr (inr (inr (inr (inr (inr (inl is)))))
 rests net facts n (inr (inr (inr (inr (inr (inr (inr (inr (inr (inr (inr (inl is)))))))))))) h needs =
     let held : HoldsNeeds facts.earlier 12 = subst (HoldsNeeds facts.earlier) is needs in
     rw is (sound_on net facts.earlier Q11 h.sound held.1.1.1.0, tt)
-rests net facts n (inr (inr (inr (inr (inr (inr (inr (inr (inr (inr (inr (inr none)))))))))))) h needs = absurd none
+rests net facts n (inr (inr (inr (inr (inr (inr (inr (inr (inr (inr (inr (inr (inl is))))))))))))) h needs = rw is tt
+rests net facts n (inr (inr (inr (inr (inr (inr (inr (inr (inr (inr (inr (inr (inr (inl is)))))))))))))) h needs = rw is tt
+rests net facts n (inr (inr (inr (inr (inr (inr (inr (inr (inr (inr (inr (inr (inr (inr none)))))))))))))) h needs = absurd none
 
 pub answer_true : (net : Net) (facts : KeptFacts) (n : ℕ) (a : Answer) → IsNetwork net → IsBuilt n → AreFactsOf net facts → HoldsNeeds facts.earlier n → IsFormed net facts.earlier (asked n) a → AllHold (head_tests net facts.earlier (asked n) a.verdict) → AllHold (row_tests net facts.earlier (asked n) a.verdict a.proof) → IsTrueOrOpen net (asked n) a.verdict
 answer_true net facts n a network is h needs f head rows =

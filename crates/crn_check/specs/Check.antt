@@ -1,9 +1,11 @@
 -- What the check of an answer says: all its tests hold, or the first that fails.
 -- Source: this project's own.
 -- Shapes: questions and parts count from 1; part 0 is the head.
-use Rattle.std.specs.Prelude.{ℕ, List, [], ◌∷◌, map, Result, Ok, Err}
+use Rattle.std.specs.Prelude.{◌≡◌, ◌⊎◌, ℕ, List, [], ◌∷◌, map, Result, Ok, Err}
 use Rattle.std.specs.List.{AllByRecursion}
 use Rattle.crn_vec.specs.Lists.{IsIn}
+use Rattle.crn_cert.specs.declared.answer.Proof.{Proof}
+use Rattle.crn_cert.specs.declared.answer.Proof.TheVariants.{One, Two}
 use Rattle.crn_cert.specs.Built.{built}
 use Rattle.crn_cert.specs.Questions.{Earlier, Question, Q1, Q2, Q4, Q5, Q6, Q7, Q9, Q10, Q11, Q12, Q13, number}
 use Rattle.crn_cert.specs.Tests.{Test, AllHold, FailsFirst}
@@ -25,9 +27,19 @@ needs Q12 = Q1 ∷ Q2 ∷ Q4 ∷ Q11 ∷ []
 needs Q13 = Q2 ∷ Q4 ∷ Q12 ∷ []
 needs q = []
 
+-- a tree shows a yes to the question of this number
+abbrev pub AsksForTree : ℕ → Type 0
+AsksForTree n = (n ≡ 14) ⊎ (n ≡ 15)
+
 -- there is a verdict on each question at whose verdict an answer to this one looks
 abbrev pub HoldsNeeds : Earlier → ℕ → Type 0
 HoldsNeeds earlier n = AllByRecursion (λ q. HoldsOn earlier (number q)) (needs (asked n))
+
+-- the proof holds no tree
+abbrev pub HoldsNoTree : Proof → Type 0
+HoldsNoTree (One tree) = ⊥
+HoldsNoTree (Two tree second) = ⊥
+HoldsNoTree other = Unit {0}
 
 -- all tests hold, or the fault names the first that fails
 abbrev pub Judges : List Test → Result Unit CheckFault → Type 0

@@ -2,11 +2,14 @@ ghost use Rattle.std.specs.Prelude.{◌≡◌, [], ◌∷◌, ◌++◌, OnOk, On
 ghost use Rattle.crn_vec.specs.Network.{IsNetwork};
 ghost use Rattle.crn_cert.specs.Formed.{HeadMayBe, IsFormed};
 ghost use Rattle.crn_cert.specs.Law.{IsTrueOrOpen};
+ghost use Rattle.crn_cert.specs.Says.{IsTrueOf};
+ghost use Rattle.crn_cert.specs.declared.answer.Verdict.TheVariants.{Yes};
 ghost use Rattle.crn_cert.specs.Valid.{head_tests, row_tests, tests_of};
 ghost use Rattle.crn_check.specs.Verdicts.{tight};
 ghost use Rattle.crn_check.specs.Facts.{asked, HoldsNoneFrom, AreFactsOf};
-ghost use Rattle.crn_check.specs.Check.{IsBuilt, HoldsNeeds, Judges};
+ghost use Rattle.crn_check.specs.Check.{AsksForTree, IsBuilt, HoldsNeeds, HoldsNoTree, Judges};
 
+use crate::concordance::check_concordance;
 use crate::confluence::{check_confluence, check_confluence_head};
 use crate::deficiency::{check_deficiency, check_deficiency_head};
 use crate::facts::Facts;
@@ -22,6 +25,7 @@ use crate::strong::check_strong;
 use crate::weak::check_weak_head;
 use crate::zero::check_zero_head;
 use crn_cert::{Answer, Verdict};
+use crn_ctree::Problem;
 use crn_net::Network;
 
 /// The tests of the head of a verdict, before the lists of its later records are read. It takes no memory.
@@ -64,6 +68,7 @@ fn check_rows(
     requires facts { AreFactsOf net.now facts.now }
     requires needs { HoldsNeeds facts.now.earlier question }
     requires formed { IsFormed net.now facts.now.earlier (asked question) answer.now }
+    requires treeless { AsksForTree question → HoldsNoTree answer.now.proof }
     ensures { let now = answer.now in
         Judges (row_tests net.now facts.now.earlier (asked question) now.verdict now.proof) result }
 {
@@ -77,6 +82,8 @@ fn check_rows(
         8 => check_conservation(net, &answer.verdict, &answer.proof),
         11 => check_regular(net, facts, &answer.verdict, &answer.proof),
         12 => check_confluence(net, facts, &answer.verdict, &answer.proof),
+        14 => check_concordance(net, Problem::Plain, &answer.verdict, &answer.proof),
+        15 => check_concordance(net, Problem::Strong, &answer.verdict, &answer.proof),
         _ => Ok(()),
     }
 }
@@ -84,7 +91,8 @@ fn check_rows(
 /// Whether the answer to a question is valid. If it is, its verdict is true of the network or open, and the facts hold
 /// it. It takes no memory.
 ///
-/// Questions are counted from 1. The facts hold verdicts accepted for this network, on earlier questions only. The fault
+/// Questions are counted from 1. The facts hold verdicts accepted for this network, on earlier questions only. An answer
+/// that holds a tree is not for this call: a tree is checked node by node, and then `accept_tree` is for it. The fault
 /// names the first test that fails, the tests of the head first.
 pub fn check_answer(
     net: &Network,
@@ -97,6 +105,7 @@ pub fn check_answer(
     requires needs { HoldsNeeds facts.old.earlier question }
     requires later { HoldsNoneFrom question facts.old.earlier }
     requires formed { IsFormed net.now facts.old.earlier (asked question) answer.now }
+    requires treeless { AsksForTree question → HoldsNoTree answer.now.proof }
     ensures judged { let earlier = facts.old.earlier in
         Judges (tests_of net.now earlier (asked question) answer.now) result }
     ensures sound { OnOk result (IsTrueOrOpen net.now (asked question) answer.now.verdict) }
@@ -110,4 +119,19 @@ pub fn check_answer(
     check_rows(net, facts, question, answer)?;
     facts.accept(question, &answer.verdict);
     Ok(())
+}
+
+/// Makes a yes that a tree shows one of the facts, as `check_answer` does with other answers. It takes no memory.
+///
+/// Questions are counted from 1. The facts hold verdicts accepted for this network, on earlier questions only.
+pub fn accept_tree(net: &Network, facts: &mut Facts, question: u32)
+    requires tree { AsksForTree question }
+    requires facts { AreFactsOf net.now facts.old }
+    requires later { HoldsNoneFrom question facts.old.earlier }
+    requires shown { IsTrueOf net.now (asked question) Yes }
+    ensures kept { facts.new.earlier ≡ facts.old.earlier ++ (asked question, Yes) ∷ [] }
+    ensures facts { AreFactsOf net.now facts.new }
+{
+    let _ = net;
+    facts.accept(question, &Verdict::Yes);
 }

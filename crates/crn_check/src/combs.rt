@@ -24,7 +24,7 @@ pub(crate) fn times(x: &i128, y: &i128) -> i128
 }
 
 // The entry at a species of the combination of the base with the numbers after the first.
-fn combined(net: &Network, base: &[u32], comb: &[i128], s: usize) -> i128
+fn combination(net: &Network, base: &[u32], comb: &[i128], s: usize) -> i128
     requires base { IsBase net.now base.now }
     requires comb { AreFree (suc (length base.now)) comb.now }
     requires species { s < length net.now.names }
@@ -51,7 +51,7 @@ fn is_comb(net: &Network, base: &[u32], reaction: u32, comb: &[i128]) -> bool
     }
     let vector = vector_of(net, reaction);
     for s in 0..vector.len() {
-        if times(&comb[0], &vector[s]) != combined(net, base, comb, s) {
+        if times(&comb[0], &vector[s]) != combination(net, base, comb, s) {
             return false;
         }
     }

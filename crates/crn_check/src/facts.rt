@@ -4,7 +4,7 @@ ghost use Rattle.crn_cert.specs.Questions.{on};
 ghost use Rattle.crn_cert.specs.Ranges.{IsFrom};
 ghost use Rattle.crn_check.specs.Verdicts.{tight, tight_gap};
 ghost use Rattle.crn_check.specs.Facts.{asked, HoldsOn, HoldsNoneFrom, AreFactsOf, IsRoom};
-ghost use Rattle.crn_check.specs.Inner.Facts.{DoesFit, DoesGapFit};
+ghost use Rattle.crn_check.specs.Inner.Facts.{DoesFit, DoesGapFit, DoesLargeFit, HoldsNoList};
 
 use crn_cert::{Gap, Verdict};
 use crn_net::Network;
@@ -32,7 +32,7 @@ struct Room {
 }
 
 // Empty lists with memory for the lists of any verdict.
-fn reserved(alloc: Global) -> Result<Room, NoMemory>
+fn new_room(alloc: Global) -> Result<Room, NoMemory>
     ensures { IfOk result (λ room. IsRoom room) }
 {
     Ok(Room {
@@ -44,19 +44,19 @@ fn reserved(alloc: Global) -> Result<Room, NoMemory>
 }
 
 // Memory for a verdict on each question.
-fn all_reserved(alloc: Global) -> Result<Vec<Room>, NoMemory>
+fn new_rooms(alloc: Global) -> Result<Vec<Room>, NoMemory>
     ensures count { IfOk result (λ rooms. length rooms.items ≡ QUESTIONS) }
     ensures each { IfOk result (λ rooms. AllByRecursion IsRoom rooms.items) }
 {
     let mut rooms = Vec::with_capacity(alloc, QUESTIONS)?;
     for k in 0..QUESTIONS {
-        rooms.push(reserved(alloc)?)?;
+        rooms.push(new_room(alloc)?)?;
     }
     Ok(rooms)
 }
 
 // The numbers in the memory of an empty list with room for them.
-fn filled(mut list: Nums, values: &[u32]) -> Nums
+fn fill(mut list: Nums, values: &[u32]) -> Nums
     requires empty { list.list ≡ [] }
     requires room { length values.now ≤ list.spare }
     ensures { result ≡ record { list = values.now; spare = 0 } }
@@ -68,7 +68,7 @@ fn filled(mut list: Nums, values: &[u32]) -> Nums
 }
 
 // The same for whole numbers.
-fn filled_large(mut list: Ints, values: &[i128]) -> Ints
+fn fill_large(mut list: Ints, values: &[i128]) -> Ints
     requires empty { list.list ≡ [] }
     requires room { length values.now ≤ list.spare }
     ensures { result ≡ record { list = values.now; spare = 0 } }
@@ -80,7 +80,7 @@ fn filled_large(mut list: Ints, values: &[i128]) -> Ints
 }
 
 // What leaves a question open, with its list in memory that is reserved for it.
-fn kept_gap(room: Room, gap: &Gap) -> Gap
+fn keep_gap(room: Room, gap: &Gap) -> Gap
     requires room { IsRoom room }
     requires fits { DoesGapFit gap.now }
     ensures { result ≡ tight_gap gap.now }
@@ -95,7 +95,7 @@ fn kept_gap(room: Room, gap: &Gap) -> Gap
             system: *system,
             class: *class,
             index: *index,
-            basis: filled(room.first, basis.as_slice()),
+            basis: fill(room.first, basis.as_slice()),
         },
         Gap::Budget { nodes } => Gap::Budget { nodes: *nodes },
         Gap::Rests { question } => Gap::Rests {
@@ -104,45 +104,15 @@ fn kept_gap(room: Room, gap: &Gap) -> Gap
     }
 }
 
-// A verdict with its lists in memory that is reserved for it.
-fn kept(room: Room, verdict: &Verdict) -> Verdict
-    requires room { IsRoom room }
-    requires fits { DoesFit verdict.now }
+// A verdict that holds no list.
+fn copy(verdict: &Verdict) -> Verdict
+    requires { HoldsNoList verdict.now }
     ensures { result ≡ tight verdict.now }
 {
     match verdict {
-        Verdict::Classes { count, label } => Verdict::Classes {
-            count: *count,
-            label: filled(room.first, label.as_slice()),
-        },
-        Verdict::Strong {
-            count,
-            terminal,
-            label,
-            exit,
-        } => Verdict::Strong {
-            count: *count,
-            terminal: *terminal,
-            label: filled(room.first, label.as_slice()),
-            exit: filled(room.second, exit.as_slice()),
-        },
-        Verdict::Rank { rank, base } => Verdict::Rank {
-            rank: *rank,
-            base: filled(room.first, base.as_slice()),
-        },
-        Verdict::Deficiency { total, classes } => Verdict::Deficiency {
-            total: *total,
-            classes: filled(room.first, classes.as_slice()),
-        },
         Verdict::YesWeak { weak } => Verdict::YesWeak { weak: *weak },
-        Verdict::YesVec { vector } => Verdict::YesVec {
-            vector: filled_large(room.large, vector.as_slice()),
-        },
         Verdict::NoReaction { reaction } => Verdict::NoReaction {
             reaction: *reaction,
-        },
-        Verdict::NoVec { multipliers } => Verdict::NoVec {
-            multipliers: filled_large(room.large, multipliers.as_slice()),
         },
         Verdict::NoNumber { number } => Verdict::NoNumber { number: *number },
         Verdict::NoTerminal { class, count } => Verdict::NoTerminal {
@@ -155,12 +125,29 @@ fn kept(room: Room, verdict: &Verdict) -> Verdict
         },
         Verdict::NoSum { sum } => Verdict::NoSum { sum: *sum },
         Verdict::NoDependence => Verdict::NoDependence,
-        Verdict::NoCycle { reaction, walk } => Verdict::NoCycle {
-            reaction: *reaction,
-            walk: filled(room.first, walk.as_slice()),
-        },
         Verdict::NotRegular => Verdict::NotRegular,
         Verdict::OnlyZero => Verdict::OnlyZero,
+        _ => Verdict::Yes,
+    }
+}
+
+// A verdict that holds no list of small numbers, with its lists in memory that is reserved for it.
+fn keep_large(room: Room, verdict: &Verdict) -> Verdict
+    requires room { IsRoom room }
+    requires fits { DoesLargeFit verdict.now }
+    ensures { result ≡ tight verdict.now }
+{
+    match verdict {
+        Verdict::YesVec { vector } => Verdict::YesVec {
+            vector: fill_large(room.large, vector.as_slice()),
+        },
+        Verdict::NoVec { multipliers } => Verdict::NoVec {
+            multipliers: fill_large(room.large, multipliers.as_slice()),
+        },
+        Verdict::NoPair { alpha, weights } => Verdict::NoPair {
+            alpha: fill_large(room.large, alpha.as_slice()),
+            weights: fill_large(room.other, weights.as_slice()),
+        },
         Verdict::Plane {
             first,
             second,
@@ -169,11 +156,49 @@ fn kept(room: Room, verdict: &Verdict) -> Verdict
         } => Verdict::Plane {
             first: *first,
             second: *second,
-            one: filled_large(room.large, one.as_slice()),
-            two: filled_large(room.other, two.as_slice()),
+            one: fill_large(room.large, one.as_slice()),
+            two: fill_large(room.other, two.as_slice()),
         },
-        Verdict::Unknown(gap) => Verdict::Unknown(kept_gap(room, gap)),
-        _ => Verdict::Yes,
+        _ => copy(verdict),
+    }
+}
+
+// A verdict with its lists in memory that is reserved for it.
+fn keep(room: Room, verdict: &Verdict) -> Verdict
+    requires room { IsRoom room }
+    requires fits { DoesFit verdict.now }
+    ensures { result ≡ tight verdict.now }
+{
+    match verdict {
+        Verdict::Classes { count, label } => Verdict::Classes {
+            count: *count,
+            label: fill(room.first, label.as_slice()),
+        },
+        Verdict::Strong {
+            count,
+            terminal,
+            label,
+            exit,
+        } => Verdict::Strong {
+            count: *count,
+            terminal: *terminal,
+            label: fill(room.first, label.as_slice()),
+            exit: fill(room.second, exit.as_slice()),
+        },
+        Verdict::Rank { rank, base } => Verdict::Rank {
+            rank: *rank,
+            base: fill(room.first, base.as_slice()),
+        },
+        Verdict::Deficiency { total, classes } => Verdict::Deficiency {
+            total: *total,
+            classes: fill(room.first, classes.as_slice()),
+        },
+        Verdict::NoCycle { reaction, walk } => Verdict::NoCycle {
+            reaction: *reaction,
+            walk: fill(room.first, walk.as_slice()),
+        },
+        Verdict::Unknown(gap) => Verdict::Unknown(keep_gap(room, gap)),
+        _ => keep_large(room, verdict),
     }
 }
 
@@ -220,7 +245,7 @@ impl Facts {
         let _ = net;
         Ok(Facts {
             items: Vec::with_capacity(alloc, QUESTIONS)?,
-            rooms: all_reserved(alloc)?,
+            rooms: new_rooms(alloc)?,
         })
     }
 
@@ -245,7 +270,7 @@ impl Facts {
         ensures { self.new.earlier ≡ self.old.earlier ++ (asked question, tight verdict.now) ∷ [] }
     {
         if let Some(room) = self.rooms.pop() {
-            let verdict = kept(room, verdict);
+            let verdict = keep(room, verdict);
             add(&mut self.items, Fact { question, verdict });
         }
     }

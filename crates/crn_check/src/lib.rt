@@ -3,6 +3,7 @@
 
 mod check;
 mod combs;
+mod concordance;
 mod confluence;
 mod deficiency;
 mod duals;
@@ -34,7 +35,7 @@ mod ways;
 mod weak;
 mod zero;
 
-pub use check::{check_answer, check_head};
+pub use check::{accept_tree, check_answer, check_head};
 pub use facts::Facts;
 pub use fault::CheckFault;
 pub use laws::checks_see_no_spares;

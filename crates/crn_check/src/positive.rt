@@ -29,7 +29,7 @@ fn are_positive(values: &[i128]) -> bool
 }
 
 // The entry at a species of the combination of all reactions with these numbers.
-fn gained(net: &Network, numbers: &[i128], s: usize) -> i128
+fn amount_change(net: &Network, numbers: &[i128], s: usize) -> i128
     requires numbers { AreFree (length net.now.reactions) numbers.now }
     requires species { s < length net.now.names }
     ensures { result ≡ combination_at numbers.now (vectors net.now) s }
@@ -42,7 +42,7 @@ fn gained(net: &Network, numbers: &[i128], s: usize) -> i128
 }
 
 // The weight that a reaction, counted from 0, adds.
-fn weighed(net: &Network, weights: &[i128], r: usize) -> i128
+fn weight_change(net: &Network, weights: &[i128], r: usize) -> i128
     requires weights { AreFree (length net.now.names) weights.now }
     requires inside { r < length net.now.reactions }
     ensures { let ends = slice_index_or net.now.reactions r (0, 0) in
@@ -61,7 +61,7 @@ fn is_dependence(net: &Network, numbers: &[i128]) -> bool
         return false;
     }
     for s in 0..net.species() {
-        if gained(net, numbers, s) != 0 {
+        if amount_change(net, numbers, s) != 0 {
             return false;
         }
     }
@@ -77,7 +77,7 @@ fn is_conservation(net: &Network, weights: &[i128]) -> bool
         return false;
     }
     for r in 0..net.reactions() {
-        if weighed(net, weights, r) != 0 {
+        if weight_change(net, weights, r) != 0 {
             return false;
         }
     }
@@ -91,7 +91,7 @@ fn rules_out_dependence(net: &Network, weights: &[i128]) -> bool
 {
     let mut lowers = false;
     for r in 0..net.reactions() {
-        let gain = weighed(net, weights, r);
+        let gain = weight_change(net, weights, r);
         if gain > 0 {
             return false;
         }
@@ -109,7 +109,7 @@ fn rules_out_conservation(net: &Network, numbers: &[i128]) -> bool
 {
     let mut lowers = false;
     for s in 0..net.species() {
-        let gain = gained(net, numbers, s);
+        let gain = amount_change(net, numbers, s);
         if gain > 0 {
             return false;
         }

@@ -24,7 +24,7 @@ fn amount_in(net: &Network, numbers: &[i128], s: usize) -> i128
 }
 
 // The number if the label is that of the class, else 0.
-fn counted(label: u32, class: usize, x: &i128) -> i128
+fn class_term(label: u32, class: usize, x: &i128) -> i128
     requires { unsigned_abs x.now < WIDE_SOLUTION }
     ensures value { result ≡ (if label == class then pos 1 else pos 0) *ℤ x.now }
     ensures small { unsigned_abs result ≤ WIDE_SOLUTION }
@@ -40,7 +40,7 @@ pub(crate) fn class_sum(net: &Network, labels: &[u32], class: usize, numbers: &[
 {
     let mut sum = 0;
     for c in 0..net.complexes() {
-        sum += counted(labels[c], class, &numbers[c]);
+        sum += class_term(labels[c], class, &numbers[c]);
     }
     sum
 }

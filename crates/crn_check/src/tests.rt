@@ -1,10 +1,14 @@
 mod classes;
+mod concordance;
+mod confluence;
 mod known;
 mod networks;
 mod positive;
 mod ranks;
 mod regular;
 mod reversible;
+mod steps;
+mod theorems;
 
 use crate::checks_see_no_spares;
 

@@ -17,21 +17,20 @@ use Rattle.crn_cert.specs.declared.answer.Proof.{Proof}
 use Rattle.crn_cert.specs.declared.answer.Proof.TheVariants.{Nothing, Forest, Strong as StrongTrees, Back, Rank as RankRows, Ranks}
 use Rattle.crn_cert.specs.declared.answer.Answer.{Answer}
 use Rattle.crn_cert.specs.Questions.{Earlier, Question, Q1, Q2, Q3, Q4, Q5, Q6, Q7, Q8, Q9, Q10, Q11, on, rank_of}
-use Rattle.crn_cert.specs.Tests.{Test, test, AllHold}
+use Rattle.crn_cert.specs.Tests.{Test, test}
 use Rattle.crn_cert.specs.ClassTests.{AreNumbered, AreEven, AreLinkTrees, AreFromTrees, AreToTrees, DoLevelsFall, AreAllExits, zeros_in, AreReverses}
 use Rattle.crn_cert.specs.RankTests.{rank_tests}
 use Rattle.crn_cert.specs.Formed.{IsRankProof, AreClassProofs, IsBasisOf, IsFormedOf, AreFormed}
 use Rattle.crn_cert.specs.Ranges.{AreFrom}
 use Rattle.crn_cert.specs.Says.{IsReactionNumber}
-use Rattle.crn_cert.specs.Valid.{linkage, linkage_count, strong, class_places, class_rank_tests, AreClassNumbers, IsFirstLarge, head_tests, row_tests, IsValid, AreValid}
+use Rattle.crn_cert.specs.Valid.{linkage, linkage_count, strong, class_places, class_rank_tests, AreClassNumbers, IsFirstLarge, AreValid}
 use Rattle.crn_ctext.specs.Records.{Record, ClassWide, Takes, AreNarrow, AreOf, AreRising, Fits}
 use Rattle.crn_ctext.specs.Kinds.{small}
 use Rattle.crn_ctext.specs.Questions.{rank_forms, class_forms, classes as classes_of}
-use Rattle.crn_ctext.specs.Blocks.{Problem, head_claims, row_claims, below, is_open, unless}
-use Rattle.crn_ctext.specs.Documents.{Parts, IsFormed, AreTrees, IsGoodLeaf, IsOneOf, leaf_forms}
+use Rattle.crn_ctext.specs.Blocks.{below}
 use Rattle.crn_ctext.specs.Documents as documents
 use Rattle.crn_ctext.specs.Answers.{rank_records, head_of, records_below, proof_nodes, records, all_records}
-use Rattle.crn_ctext.specs.Meaning.{Known, lengths, reactions_by_class, rank_proof, class_proofs, shapes_of, sizes_of, verdict_of, proof_of, meaning}
+use Rattle.crn_ctext.specs.Meaning.{Known, lengths, reactions_by_class, rank_proof, class_proofs, shapes_of, sizes_of, verdict_of, meaning}
 use Rattle.crn_cert.specs.Built.{built}
 use Rattle.crn_ctext.specs.Judged.{AreFormedOf}
 use Rattle.crn_ctext.specs.Linked.{records_of}
@@ -40,12 +39,12 @@ use Rattle.crn_ctext.specs.Same.{said, said_rank, shown, AreSame}
 use Rattle.crn_ctext.proofs.Joined.{parts, IsLinked, answer, open_as, tied, IsJoinedFor, LinkFor, joined, same_valid}
 use Rattle.crn_ctext.proofs.KnownBefore.{AreKnown, after, formed_right, said_right, known_then}
 use Rattle.crn_ctext.proofs.Linking.{several_fit, small_fits, number_fits, class_fits, without_proof}
+use Rattle.crn_ctext.proofs.TablesLinked.{plain_joined, strong_joined}
 use Rattle.crn_ctext.proofs.ConfluenceLinked.{regular_linked, confluence_tied}
 use Rattle.crn_ctext.proofs.Alike.{IsAlike, alike_then, labels_alike, counts_alike, ranks_alike}
 use Rattle.crn_ctext.proofs.TestsAlike.{zero_alike, number_alike, one_alike, split_alike}
 use Rattle.crn_ctext.proofs.MeaningShort.{lists_counted}
 use Rattle.crn_ctext.proofs.RanksLinked.{back_again, between, free_fits, rank_fits, rank_said, places_from, sizes_from, classes_fit, classes_said, said_again, proofs_alike, numbers_alike, tests_alike, basis_alike, places_at, number_then, wide_fits}
-use Rattle.crn_vec.specs.declared.signs.Sign.{Sign}
 
 -- ---- linkage classes
 
@@ -498,14 +497,14 @@ one_linked known earlier v p e f = absurd f.0
 -- ---- all answers
 
 -- what is known after an answer
-abbrev behind : Question → Known → Answer → Known
+abbrev pub behind : Question → Known → Answer → Known
 behind q known a = meaning.learn q known (head_of q a.verdict) (records_below (shapes_of known) a)
 
 abbrev pub AreLinkedFor : Bool → List Question → Type 1
 AreLinkedFor b [] = Unit {1}
 AreLinkedFor b (q ∷ qs) = LinkFor b q × AreLinkedFor (after b q) qs
 
-built_linked : AreLinkedFor false built
+pub built_linked : AreLinkedFor false built
 built_linked = (
   (λ known earlier v p e f. linkage_linked known earlier v p f),
   (
@@ -516,7 +515,7 @@ built_linked = (
         (λ known earlier v p e f. weak_linked known earlier v p (labels_alike known.earlier earlier Q2 e) f),
         (
           (λ known earlier v p e f. rank_linked known earlier v p f),
-          (deficiency_linked, ((λ known earlier v p e f. dependence_linked known earlier v p f), ((λ known earlier v p e f. conservation_linked known earlier v p f), (zero_linked, (one_linked, ((λ known earlier v p k e f. tied known earlier Q11 (answer v p) (regular_linked known earlier v p k e f)), ((λ known earlier v p k e f. confluence_tied known earlier v p e f), tt))))))),
+          (deficiency_linked, ((λ known earlier v p e f. dependence_linked known earlier v p f), ((λ known earlier v p e f. conservation_linked known earlier v p f), (zero_linked, (one_linked, ((λ known earlier v p k e f. tied known earlier Q11 (answer v p) (regular_linked known earlier v p k e f)), ((λ known earlier v p k e f. confluence_tied known earlier v p e f), (plain_joined true, (strong_joined true, tt))))))))),
         ),
       ),
     ),
@@ -524,11 +523,11 @@ built_linked = (
 )
 
 -- so they are after an answer
-alike_behind : (b : Bool) (q : Question) (known : Known) (earlier : Earlier) (a : Answer) → AreKnown b known.earlier → IsAlike known earlier → IsJoinedFor b q → IsFormedOf known.net earlier q a.verdict a.proof → IsAlike (behind q known a) (earlier ++ (q, a.verdict) ∷ [])
+pub alike_behind : (b : Bool) (q : Question) (known : Known) (earlier : Earlier) (a : Answer) → AreKnown b known.earlier → IsAlike known earlier → IsJoinedFor b q → IsFormedOf known.net earlier q a.verdict a.proof → IsAlike (behind q known a) (earlier ++ (q, a.verdict) ∷ [])
 alike_behind b q known earlier a n e j f = let s = j.says in alike_then known.earlier earlier q (verdict_of q (sizes_of known) (head_of q a.verdict) (records_below (shapes_of known) a)) a.verdict e (s known earlier a.verdict a.proof n e f)
 
 -- and the strong classes are known after question 2
-known_next : (b : Bool) (q : Question) (known : Known) (earlier : Earlier) (a : Answer) → AreKnown b known.earlier → IsAlike known earlier → IsJoinedFor b q → IsFormedOf known.net earlier q a.verdict a.proof → AreKnown (after b q) (behind q known a).earlier
+pub known_next : (b : Bool) (q : Question) (known : Known) (earlier : Earlier) (a : Answer) → AreKnown b known.earlier → IsAlike known earlier → IsJoinedFor b q → IsFormedOf known.net earlier q a.verdict a.proof → AreKnown (after b q) (behind q known a).earlier
 known_next b q known earlier a n e j f =
     let s = j.says in
     let v = verdict_of q (sizes_of known) (head_of q a.verdict) (records_below (shapes_of known) a) in

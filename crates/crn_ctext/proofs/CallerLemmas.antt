@@ -25,5 +25,5 @@ pub use Rattle.crn_ctext.proofs.DocumentsOne.{document_one, second_document_one,
 pub use Rattle.crn_ctext.proofs.Texts.{AreShort, text_says, says_text}
 -- The records of formed answers are plain: few short words and numbers.
 pub use Rattle.crn_ctext.proofs.ShortAnswers.{AllPlain, formed_are_plain, plain_are_short}
--- Documents of formed answers are shorter than the bound.
-pub use Rattle.crn_ctext.proofs.DocumentsShort.{first_short, second_short}
+-- Documents of formed answers whose trees have few nodes are shorter than the bound.
+pub use Rattle.crn_ctext.proofs.FewNodes.{document_short, document2_short}

@@ -1,36 +1,30 @@
 -- Documents of formed answers to the built questions have few lines, and so they are shorter than the bound.
-use Rattle.std.proofs.Common.{◌≡◌, ◌+◌, ◌-◌, ◌*◌, ◌<◌, ◌≤◌, ◌==◌, ◌++◌, ◌∙◌, ℕ, zero, suc, Bool, true, false, cond, if◌then◌else◌, List, [], ◌∷◌, length, map, take, refl, sym, ap, ap₂, subst, arith}
+use Rattle.std.proofs.Common.{◌≡◌, ◌+◌, ◌-◌, ◌*◌, ◌<◌, ◌≤◌, ◌==◌, ◌++◌, ◌∙◌, ℕ, zero, suc, Bool, true, false, if◌then◌else◌, List, [], ◌∷◌, length, map, refl, sym, ap, ap₂, subst, arith}
 use Rattle.std.specs.Prelude.{ℤ, codes, replicate}
-use Rattle.std.specs.List.{AllByRecursion, AllZip, filter, range_with_len}
-use Rattle.std.specs.Ordering.{int_eq}
-use Rattle.std.specs.Cmp.Lexicographic.{pointwise}
-use Rattle.std.proofs.lemmas.List.{length-append, length-map, length-replicate, append-nil}
+use Rattle.std.specs.List.{AllByRecursion, AllZip, range_with_len}
+use Rattle.std.proofs.lemmas.List.{length-append, length-map, length-replicate}
 use Rattle.std.proofs.lemmas.List.FromFn.{length-range_with_len}
-use Rattle.crn_vec.specs.Lists.{firsts}
 use Rattle.crn_vec.specs.Network.{Net, IsNetwork}
 use Rattle.crn_vec.specs.declared.limits.TheConstants.{MAX_BUDGET}
-use Rattle.crn_io.specs.declared.lines.TheConstants.{MAX_DOCUMENT, MAX_SHARED}
+use Rattle.crn_io.specs.declared.lines.TheConstants.{MAX_DOCUMENT}
 use Rattle.crn_cert.specs.Questions.{Question, Q1, Q2, Q3, Q4, Q5, Q6, Q7, Q8, Q9, Q10, Q11, Q12, Q13, Q14, Q15}
 use Rattle.crn_cert.specs.Built.{built}
 use Rattle.crn_ctext.specs.Records.{Record, Fits, record_text}
 use Rattle.crn_ctext.specs.Kinds.{free_form}
 use Rattle.crn_ctext.specs.Questions.{Sizes, Shapes, heads, rows, opens, rank_forms, class_forms, class_rank, side_form, classes as classes_of, first_number, later_numbers}
 use Rattle.crn_ctext.specs.Blocks.{sections, below, place_of, ended, title, network_line}
-use Rattle.crn_ctext.specs.Documents.{section, is_cut_leaf, cut_lists, number_in, written, table_records, IsShareable, Share, FitsShare, share_of, one_word, IsNamed, leaf_forms, IsOneOf, document, document2, Parts, IsFormed, AreFormed}
+use Rattle.crn_ctext.specs.Documents.{section, written, table_records, Share, FitsShare, one_word, IsNamed, IsOneOf, document, document2, Parts, IsFormed, AreFormed}
 use Rattle.crn_ctext.specs.Meaning.{Known, pairs_of, sizes_of, shapes_of, meaning}
 use Rattle.crn_ctext.specs.Judged.{AreFormedOf}
 use Rattle.crn_ctext.proofs.Written.{IsShortLine, first_ended}
-use Rattle.crn_ctext.proofs.LinesRead.{each_of}
-use Rattle.crn_ctext.proofs.FormKinds.{IsRowKind, heads_kinds, below_kinds, fits_no_cut, rows_no_cut}
-use Rattle.crn_ctext.proofs.Shared.{IsWrittenFor, NoCuts, shared_written}
+use Rattle.crn_ctext.proofs.Shared.{IsWrittenFor, shared_written}
 use Rattle.crn_ctext.proofs.BlocksWritten.{all_of, parted}
 use Rattle.crn_ctext.proofs.DocumentsWritten.{network_lines, text_lines, text_of, text_ended, ended_append}
 use Rattle.crn_ctext.proofs.NetworkLines.{net_line}
-use Rattle.crn_ctext.proofs.DocumentTexts.{parted_first, parted_second, parted_cuts, parted_plain, cuts_append, written_plain, table_plain}
+use Rattle.crn_ctext.proofs.DocumentTexts.{parted_first, parted_second, parted_cuts, parted_plain, written_plain, table_plain}
 use Rattle.crn_ctext.proofs.ShortAnswers.{AllPlain, IsShortFor, formed_are_plain, short_both}
 use Rattle.crn_ctext.proofs.ShortLines.{record_line_is_small, text_lines_are_short}
 use Rattle.crn_ctext.proofs.MeaningShort.{IsSmall, IsMemberList, class_sizes, class_lists, sizes_small, sizes_counted, lists_small, pairs_few, rank_first, networks_are_small, meaning_short}
-use Rattle.crn_ctext.proofs.FrontsSaid.{HasNoTrees, none_follow}
 
 -- ---- lines
 
@@ -162,6 +156,24 @@ confluence_few known (suc (suc (suc zero))) n s =
 confluence_few known (suc (suc (suc (suc zero)))) n s = omega arith
 confluence_few known (suc (suc (suc (suc (suc k))))) n s = omega arith
 
+concordant_few : (s : Shapes) (place : ℕ) (n : List ℤ) → length (rows Q14 s place n) ≤ 1000
+concordant_few s zero n = omega arith
+concordant_few s (suc zero) n = omega arith
+concordant_few s (suc (suc zero)) n = omega arith
+concordant_few s (suc (suc (suc k))) n = omega arith
+
+pub concordant_is_few : IsFew Q14
+concordant_is_few known h s o = concordant_few (shapes_of known) (place_of (heads Q14 (sizes_of known)) h.words) h.numbers
+
+strongly_few : (s : Shapes) (place : ℕ) (n : List ℤ) → length (rows Q15 s place n) ≤ 1000
+strongly_few s zero n = omega arith
+strongly_few s (suc zero) n = omega arith
+strongly_few s (suc (suc zero)) n = omega arith
+strongly_few s (suc (suc (suc k))) n = omega arith
+
+pub strongly_is_few : IsFew Q15
+strongly_is_few known h s o = strongly_few (shapes_of known) (place_of (heads Q15 (sizes_of known)) h.words) h.numbers
+
 built_few : AllByRecursion IsFew built
 built_few = (
   (λ known h s o. linkage_few (shapes_of known) (place_of (heads Q1 (sizes_of known)) h.words) h.numbers),
@@ -177,7 +189,7 @@ built_few = (
             (λ known h s o. deficiency_few known (place_of (heads Q6 (sizes_of known)) h.words) h.numbers s),
             (
               (λ known h s o. dependence_few (shapes_of known) (place_of (heads Q7 (sizes_of known)) h.words) h.numbers),
-              ((λ known h s o. conservation_few (shapes_of known) (place_of (heads Q8 (sizes_of known)) h.words) h.numbers), ((λ known h s o. omega arith), ((λ known h s o. omega arith), ((λ known h s o. regular_few known (place_of (heads Q11 (sizes_of known)) h.words) h.numbers s), ((λ known h s o. confluence_few known (place_of (heads Q12 (sizes_of known)) h.words) h.numbers s), tt))))),
+              ((λ known h s o. conservation_few (shapes_of known) (place_of (heads Q8 (sizes_of known)) h.words) h.numbers), ((λ known h s o. omega arith), ((λ known h s o. omega arith), ((λ known h s o. regular_few known (place_of (heads Q11 (sizes_of known)) h.words) h.numbers s), ((λ known h s o. confluence_few known (place_of (heads Q12 (sizes_of known)) h.words) h.numbers s), (concordant_is_few, (strongly_is_few, tt))))))),
             ),
           ),
         ),
@@ -236,17 +248,6 @@ few_are_formed [] known answers f = f
 few_are_formed (q ∷ qs) known [] f = f
 few_are_formed (q ∷ qs) known (rs ∷ more) f = (f.0, f.1, few_are_formed qs (meaning.learn q known f.0.head f.0.rows) more f.3)
 
--- answers to questions without trees have few nodes
-none_are_few : (qs : List Question) (known : Known) (answers : List (List Record)) → AllByRecursion HasNoTrees qs → AreFormed meaning qs known answers → AreFewNodes qs known answers
-unfolding AreFewNodes AreFormed
-none_are_few [] known answers none f = f
-none_are_few (q ∷ qs) known [] none f = f
-none_are_few (q ∷ qs) known (rs ∷ more) none f =
-    let p = f.0 in
-    let g = f.1 in
-    let nodes : p.nodes ≡ [] = none.0 known p.head p.nodes g.trees in
-    (p, g, omega (arith, ap length nodes), none_are_few qs (meaning.learn q known p.head p.rows) more none.1 f.2)
-
 block_few : (q : Question) (known : Known) (rs : List Record) (p : Parts rs) → IsSmall known → IsFew q → IsFormed meaning q known rs p → length p.nodes ≤ node_limit q → length rs ≤ suc (most q + node_limit q)
 block_few q known rs p small few f nodes =
     let long : length (below q (shapes_of known) p.head) ≡ length p.rows = zip_long Fits (below q (shapes_of known) p.head) p.rows f.rows in
@@ -268,22 +269,6 @@ parted_few version (q ∷ qs) known (rs ∷ more) small few shorts f =
     let g = f.1 in
     let later = parted_few version qs (meaning.learn q known f.0.head f.0.rows) more (learns known f.0.head f.0.rows small g.head g.rows) few.1 shorts.1 f.3 in
     omega (arith, later, one_section version q, block_few q known rs f.0 small few.0 g f.2, length-append (map section (sections version q)) (rs ++ parted version qs more), length-append rs (parted version qs more))
-
--- no built question has a tree
-built_no_trees : AllByRecursion HasNoTrees built
-built_no_trees = (
-  (λ known h nodes t. none_follow h nodes t),
-  (
-    (λ known h nodes t. none_follow h nodes t),
-    (
-      (λ known h nodes t. none_follow h nodes t),
-      (
-        (λ known h nodes t. none_follow h nodes t),
-        ((λ known h nodes t. none_follow h nodes t), ((λ known h nodes t. none_follow h nodes t), ((λ known h nodes t. none_follow h nodes t), ((λ known h nodes t. none_follow h nodes t), ((λ known h nodes t. none_follow h nodes t), ((λ known h nodes t. none_follow h nodes t), ((λ known h nodes t. none_follow h nodes t), ((λ known h nodes t. none_follow h nodes t), tt)))))))),
-      ),
-    ),
-  ),
-)
 
 -- the records of formed answers with few nodes are few
 all_few : (version : ℕ) (net : Net) (answers : List (List Record)) → IsNetwork net → AreFewNodes built (meaning.start net) answers → length (parted version built answers) ≤ 290000
@@ -322,10 +307,3 @@ second_few net answers share n few_nodes fits =
     let most = fits.most in
     let short : length (text_of 2 net all) < MAX_DOCUMENT = few_lines 2 net all n all_plain lines (omega (arith, few, most, table, zip_long (IsWrittenFor share.table) ws rs for, length-append (table_records share.table) ws)) in
     subst (λ (xs : List Record). length (text_of 2 net (table_records share.table ++ written share.leaf xs)) < MAX_DOCUMENT) (parted_second built answers) short
-
--- so are those of answers to the built questions, which have no trees
-pub first_short : (net : Net) (answers : List (List Record)) → IsNetwork net → AreFormedOf net answers → length (document net answers) < MAX_DOCUMENT
-first_short net answers n f = first_few net answers n (none_are_few built (meaning.start net) answers built_no_trees f)
-
-pub second_short : (net : Net) (answers : List (List Record)) (share : Share) → IsNetwork net → AreFormedOf net answers → FitsShare answers share → length (document2 built net answers share) < MAX_DOCUMENT
-second_short net answers share n f fits = second_few net answers share n (none_are_few built (meaning.start net) answers built_no_trees f) fits

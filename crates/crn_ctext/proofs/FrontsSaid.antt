@@ -11,7 +11,7 @@ use Rattle.crn_cert.specs.Questions.{Question, Q1, Q2, Q3, Q4, Q5, Q6, Q7, Q8, Q
 use Rattle.crn_ctext.specs.Records.{Record}
 use Rattle.crn_ctext.specs.Questions.{heads}
 use Rattle.crn_ctext.specs.Blocks.{Problem, problems, place_of, is_open, unless}
-use Rattle.crn_ctext.specs.Documents.{AreTrees, IsOneOf, leaf_forms}
+use Rattle.crn_ctext.specs.Documents.{AreTrees}
 use Rattle.crn_ctext.specs.Meaning.{Known, sizes_of, gap_of, verdict_by, verdict_of, problems_by, meaning}
 
 -- trees of these leaves
@@ -64,15 +64,3 @@ front_says Leaf Q12 = plain Leaf Q12
 front_says Leaf Q13 = plain Leaf Q13
 front_says Leaf Q14 = λ known h rows nodes t. concordant_says Leaf known.net (is_open h) (gap_of h) (place_of (heads Q14 (sizes_of known)) h.words) h.numbers rows nodes t
 front_says Leaf Q15 = λ known h rows nodes t. strongly_says Leaf known.net (is_open h) (gap_of h) (place_of (heads Q15 (sizes_of known)) h.words) h.numbers rows nodes t
-
--- ---- questions whose answers have no trees
-
-abbrev Formed : Problem → List Sign → Record → Type 0
-Formed problem prefix r = IsOneOf (leaf_forms problem) r
-
--- no tree follows the records below a head of the question
-abbrev pub HasNoTrees : Question → Type 0
-HasNoTrees q = (known : Known) (h : Record) (nodes : List Record) → Trees Formed (problems meaning q known h) nodes → nodes ≡ []
-
-pub none_follow : (h : Record) (nodes : List Record) → Trees Formed (unless (is_open h) []) nodes → nodes ≡ []
-none_follow h nodes t = none_are Formed (is_open h) nodes t

@@ -5,17 +5,16 @@ use Rattle.crn_cert.specs.declared.answer.Answer.{Answer}
 use Rattle.crn_cert.specs.declared.answer.Verdict.{Verdict}
 use Rattle.crn_cert.specs.Formed.{AreFormed}
 use Rattle.crn_cert.specs.Built.{built}
-use Rattle.crn_ctext.specs.Records.{Record}
 use Rattle.crn_ctext.specs.Documents as documents
-use Rattle.crn_ctext.specs.Documents.{Share, FitsShare, IsDocumentOf, document, document2}
+use Rattle.crn_ctext.specs.Documents.{IsDocumentOf, document}
 use Rattle.crn_ctext.specs.Meaning.{meaning, versions}
 use Rattle.crn_ctext.specs.Judged.{IsGood, AreFormedOf, GoodDocumentsAreOne}
 use Rattle.crn_ctext.specs.Same.{AreSame}
 use Rattle.crn_ctext.specs.Linked.{records_of, AreSound, AnswersAreOne, SharedAnswersAreOne, ReadDocumentsAreTrue, WrittenDocumentsAreGood, SharedDocumentsAreGood, SharesFit}
 use Rattle.crn_ctext.proofs.ShortAnswers.{valid_are_formed}
 use Rattle.crn_ctext.proofs.DocumentsGood.{read_is_of}
-use Rattle.crn_ctext.proofs.DocumentsShort.{first_short, second_short}
 use Rattle.crn_ctext.proofs.WrittenAnswers.{share_fits}
+use Rattle.crn_ctext.proofs.FewNodes.{document_short, document2_short}
 use Rattle.crn_ctext.proofs.DocumentsOne.{document_one, second_document_one, versions_apart}
 use Rattle.crn_ctext.proofs.AnswersLinked.{answers_formed, answers_valid, answers_same}
 use Rattle.crn_ctext.proofs.TrueRecords.{records_true}
@@ -23,14 +22,14 @@ use Rattle.crn_ctext.proofs.TrueRecords.{records_true}
 -- ---- what is written
 
 pub written_good : WrittenDocumentsAreGood
-written_good net answers n f v =
+written_good net answers n f v few =
     let rs = records_of net answers in
-    (record { short = first_short net rs n (answers_formed net answers f); net = net; network = n; answers = rs; valid = answers_valid net answers f v; document = inl (inl refl, refl) }, refl, refl)
+    (record { short = document_short net answers n f few; net = net; network = n; answers = rs; valid = answers_valid net answers f v; document = inl (inl refl, refl) }, refl, refl)
 
 pub shared_good : SharedDocumentsAreGood
-shared_good net answers share n f v fits =
+shared_good net answers share n f v few fits =
     let rs = records_of net answers in
-    (record { short = second_short net rs share n (answers_formed net answers f) fits; net = net; network = n; answers = rs; valid = answers_valid net answers f v; document = inr (inr (inl refl), (share, fits, refl)) }, refl, refl)
+    (record { short = document2_short net answers share n f few fits; net = net; network = n; answers = rs; valid = answers_valid net answers f v; document = inr (inr (inl refl), (share, fits, refl)) }, refl, refl)
 
 pub shares_fit : SharesFit
 shares_fit net answers n f = share_fits net answers n f

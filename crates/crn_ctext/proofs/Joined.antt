@@ -14,6 +14,7 @@ use Rattle.crn_cert.specs.Questions.{Earlier, Question, Q1, Q2, Q3, Q4, Q5, Q6, 
 use Rattle.crn_cert.specs.Tests.{Test, AllHold}
 use Rattle.crn_cert.specs.Formed.{IsFormedOf}
 use Rattle.crn_cert.specs.Valid.{head_tests, row_tests, IsValid}
+use Rattle.crn_cert.proofs.CallerLemmas.{hold_append, hold_parts}
 use Rattle.crn_ctext.specs.Records.{Record}
 use Rattle.crn_ctext.specs.Blocks.{Problem, head_claims, row_claims, problems, is_open, unless}
 use Rattle.crn_ctext.specs.Documents.{Parts, IsFormed, AreTrees, IsGoodLeaf, IsOneOf, leaf_forms}
@@ -52,14 +53,6 @@ open_as known earlier q system class index basis p s c a b e l =
     (subst (λ (x : Proof). IsLinked known earlier q (answer (Unknown (Wide s c index basis)) x)) (sym e) l))
 
 -- ---- tests
-
-pub all_front : (xs ys : List Test) → AllHold (xs ++ ys) → AllHold xs × AllHold ys
-all_front [] ys h = (tt, h)
-all_front (x ∷ xs) ys h = let more = all_front xs ys h.1 in ((h.0, more.0), more.1)
-
-pub all_both : (xs ys : List Test) → AllHold xs → AllHold ys → AllHold (xs ++ ys)
-all_both [] ys p q = q
-all_both (x ∷ xs) ys p q = (p.0, all_both xs ys p.1 q)
 
 -- each formed answer to the question is linked, if what is known says the same as the earlier verdicts
 abbrev pub IsLinkedFor : Question → Type 1
@@ -109,7 +102,7 @@ none_good ps rs none t = subst (λ (xs : List {1} Problem). AreTrees IsGoodLeaf 
 
 tied_there : (known : Known) (earlier : Earlier) (q : Question) (a : Answer) → problems meaning q known (head_of q a.verdict) ≡ [] → IsTied known earlier q a → IsValid known.net earlier q a → documents.IsValid meaning q known (records q (shapes_of known) a) (parts q known a)
 tied_there known earlier q a none l v =
-    let hold = all_front (head_tests known.net earlier q a.verdict) (row_tests known.net earlier q a.verdict a.proof) v in
+    let hold = hold_parts (head_tests known.net earlier q a.verdict) (row_tests known.net earlier q a.verdict a.proof) v in
     let formed = l.formed in
     let heads = l.heads in
     let rows = l.rows in
@@ -119,7 +112,7 @@ tied_back : (known : Known) (earlier : Earlier) (q : Question) (a : Answer) → 
 tied_back known earlier q a l v =
     let heads = l.heads in
     let rows = l.rows in
-    all_both (head_tests known.net earlier q a.verdict) (row_tests known.net earlier q a.verdict a.proof) (heads.0 v.head) (rows.0 v.rows)
+    hold_append (head_tests known.net earlier q a.verdict) (row_tests known.net earlier q a.verdict a.proof) (heads.0 v.head) (rows.0 v.rows)
 
 pub linked_there : (known : Known) (earlier : Earlier) (q : Question) (a : Answer) → problems meaning q known (head_of q a.verdict) ≡ [] → IsLinked known earlier q a → IsValid known.net earlier q a → documents.IsValid meaning q known (records q (shapes_of known) a) (parts q known a)
 linked_there known earlier q a none l v = tied_there known earlier q a none (tied known earlier q a l) v

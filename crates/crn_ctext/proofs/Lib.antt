@@ -58,6 +58,7 @@ mod AnswersLinked
 mod FrontsSaid
 mod RecordsLinked
 mod TrueRecords
+mod FewNodes
 mod GoodLaws
 mod DueSteps
 mod WordsApart

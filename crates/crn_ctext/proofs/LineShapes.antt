@@ -6,6 +6,7 @@ use Rattle.std.proofs.lemmas.Bool.{cases_lt}
 use Rattle.std.specs.List.{AllByRecursion}
 use Rattle.std.proofs.lemmas.Int.{ints}
 use Rattle.crn_vec.specs.Lists.{IsIn, IsAbove, IsAscending}
+use Rattle.crn_vec.proofs.CallerLemmas.{above_ascending, ascending_tail, above_in}
 use Rattle.crn_ctext.specs.Records.{Field, Rising, ClassWide, Takes, AreOf, AreBetween, AreRising}
 use Rattle.crn_ctext.specs.Kinds.{small, just}
 use Rattle.crn_ctext.specs.Inner.Shapes.{AreMembers}
@@ -48,18 +49,6 @@ rises_high k greatest z zs lt h = omega (arith, ints, lt, h.3.0.1)
 
 -- ---- ascending members
 
-in_above : (k n : ℕ) (ms : List ℕ) → IsAbove k ms → IsIn n ms → k < n
-in_above k n [] a i = absurd i
-in_above k n (m ∷ ms) a (inl same) = omega (arith, a.0, same)
-in_above k n (m ∷ ms) a (inr later) = let h = in_above m n ms a.1 later in omega (arith, a.0, h)
-
-tail_ascending : (k : ℕ) (ms : List ℕ) → IsAbove k ms → IsAscending ms
-tail_ascending k [] a = tt
-tail_ascending k (m ∷ ms) a = a.1
-
-pub ascending_rest : (m : ℕ) (ms : List ℕ) → IsAscending (m ∷ ms) → IsAscending ms
-ascending_rest m ms a = tail_ascending m ms a
-
 weaker : (m : ℕ) (ms ns : List ℕ) → AllByRecursion (λ n. IsIn n ms) ns → AllByRecursion (λ n. IsIn n (m ∷ ms)) ns
 weaker m ms [] h = tt
 weaker m ms (n ∷ ns) h = (inr h.0, weaker m ms ns h.1)
@@ -71,7 +60,7 @@ stronger k m ms (n ∷ ns) le a h = (elim h.0 [ inl same ↦ absurd (omega (arit
 
 ascending_above : (k : ℕ) (ns ms : List ℕ) → IsAbove k ms → IsAscending ns → AllByRecursion (λ n. IsIn n ms) ns → IsAbove k ns
 ascending_above k [] ms a b h = tt
-ascending_above k (n ∷ ns) ms a b h = (in_above k n ms a h.0, b)
+ascending_above k (n ∷ ns) ms a b h = (above_in k ms a n h.0, b)
 
 pub member_met : (m : ℕ) (ms : List ℕ) (z : ℤ) (zs : List ℤ) → IsAscending (m ∷ ms) → z ≡ pos m → AreMembers ms zs ↔ AreMembers (m ∷ ms) (z ∷ zs)
 member_met m ms z zs a is = (
@@ -81,7 +70,7 @@ member_met m ms z zs a is = (
   where
     back : (ns : List ℕ) → z ∷ zs ≡ map pos ns → IsAscending ns → AllByRecursion (λ n. IsIn n (m ∷ ms)) ns → AreMembers ms zs
     back [] e b h = absurd cc
-    back (n ∷ ns) e b h = let same : n ≡ m = let k : z ≡ pos n = cc in cc in (ns, cc, tail_ascending n ns b, stronger n m ms ns (omega (arith, same)) b h.1)
+    back (n ∷ ns) e b h = let same : n ≡ m = let k : z ≡ pos n = cc in cc in (ns, cc, above_ascending n ns b, stronger n m ms ns (omega (arith, same)) b h.1)
 
 -- the first of the numbers is not this
 abbrev pub BeginsNot : ℤ → List ℤ → Type 0
@@ -99,7 +88,7 @@ member_passed m ms zs a ne = (
     back (n ∷ ns) [] e ne b h = absurd cc
     back (n ∷ ns) (z ∷ zs) e ne b h = elim h.0 [
       | inl same ↦ absurd (ne (let k : z ≡ pos n = cc in k ∙ ap pos same))
-      | inr later ↦ (later, stronger n m ms ns (let lt = in_above m n ms a later in omega (arith, lt)) b h.1)
+      | inr later ↦ (later, stronger n m ms ns (let lt = above_in m ms a n later in omega (arith, lt)) b h.1)
     ]
 
 pub no_members : (zs : List ℤ) → AreMembers [] zs → length zs ≡ 0
@@ -114,7 +103,7 @@ members_of_none members [] e = ([], refl, tt, tt)
 members_of_none members (z ∷ zs) e = absurd (omega (arith, e))
 
 pub rest_ascends : (members : List ℕ) (i : ℕ) → i < length members → IsAscending (drop i members) → IsAscending (drop (i + 1) members)
-rest_ascends members i lt a = ascending_rest (get_or members i 0) (drop (i + 1) members) (rw (drop_more members i 0 lt) at a)
+rest_ascends members i lt a = ascending_tail (get_or members i 0) (drop (i + 1) members) (rw (drop_more members i 0 lt) at a)
 
 pub members_met : (members : List ℕ) (numbers : List ℤ) (i j : ℕ) → i < length members → j < length numbers → IsAscending (drop i members) → get_or numbers j (pos 0) ≡ pos (get_or members i 0)
     → AreMembers (drop (i + 1) members) (drop (j + 1) numbers) ↔ AreMembers (drop i members) (drop j numbers)

@@ -7,6 +7,7 @@ use Rattle.std.proofs.lemmas.List.{take_more, take_all}
 use Rattle.std.proofs.lemmas.Slice.Eq.{bytes_eq-Decides}
 use Rattle.crn_vec.specs.Lists.{IsIn}
 use Rattle.crn_vec.specs.Kept.{KeptInts}
+use Rattle.crn_vec.proofs.CallerLemmas.{in_left, and_cases}
 use Rattle.crn_io.specs.Lines.{Place}
 use Rattle.crn_cert.specs.Questions.{Question, Q1, Q2, Q3, Q4, Q5, Q6, Q7, Q8, Q9, Q10, Q11, Q12, Q13, Q14, Q15}
 use Rattle.crn_ctext.specs.Records.{Record, Form, Field, Says, BeginsWith, IsWord, IsShaped, Fits, Takes, AreNarrow, AreOf, kind_of}
@@ -34,18 +35,9 @@ in_push x y [] (inr i) = absurd i
 in_push x y (z ∷ xs) (inl e) = inl (inl e)
 in_push x y (z ∷ xs) (inr i) = elim (in_push x y xs i) [ inl h ↦ inl (inr h) | inr e ↦ inr e ]
 
-in_before : {A : Type 0} (x : A) (xs ys : List A) → IsIn x xs → IsIn x (xs ++ ys)
-in_before x [] ys i = absurd i
-in_before x (z ∷ xs) ys (inl e) = inl e
-in_before x (z ∷ xs) ys (inr i) = inr (in_before x xs ys i)
-
 in_last : {A : Type 0} (y : A) (xs ys : List A) → IsIn y (xs ++ y ∷ ys)
 in_last y [] ys = inl refl
 in_last y (z ∷ xs) ys = inr (in_last y xs ys)
-
-in_after : {A : Type 0} (x : A) (xs ys : List A) → IsIn x ys → IsIn x (xs ++ ys)
-in_after x [] ys i = i
-in_after x (z ∷ xs) ys i = inr (in_after x xs ys i)
 
 pub nth_in : (forms : List Form) (i : ℕ) → i < length forms → IsIn (slice_index_or forms i no_form) forms
 nth_in [] i lt = absurd (omega (arith, lt))
@@ -74,15 +66,15 @@ more_tried tried.OtherWord tried.Misfit place forms form line read ne h t =
 more_tried tried.OtherWord tried.TooWide place forms form line read ne h t =
     ((form, in_last form forms [], t.0), (form, in_last form forms [], t.1), each_push (IsNotFit line) forms form (λ f i. not_fit line f (h f i).1) t.2)
 more_tried tried.Misfit tried.OtherWord place forms form line read ne h t =
-    ((h.0.0, in_before h.0.0 forms (form ∷ []) h.0.1, h.0.2), each_push (IsNotShaped line) forms form h.1 t.1)
+    ((h.0.0, in_left h.0.0 forms (form ∷ []) h.0.1, h.0.2), each_push (IsNotShaped line) forms form h.1 t.1)
 more_tried tried.Misfit tried.Misfit place forms form line read ne h t =
     ((form, in_last form forms [], t.0), each_push (IsNotShaped line) forms form h.1 t.1)
 more_tried tried.Misfit tried.TooWide place forms form line read ne h t =
     ((form, in_last form forms [], t.0), (form, in_last form forms [], t.1), each_push (IsNotFit line) forms form (λ f i. not_fit line f (h.1 f i)) t.2)
 more_tried tried.TooWide tried.OtherWord place forms form line read ne h t =
-    ((h.0.0, in_before h.0.0 forms (form ∷ []) h.0.1, h.0.2), (h.1.0, in_before h.1.0 forms (form ∷ []) h.1.1, h.1.2), each_push (IsNotFit line) forms form h.2 (not_fit line form t.1))
+    ((h.0.0, in_left h.0.0 forms (form ∷ []) h.0.1, h.0.2), (h.1.0, in_left h.1.0 forms (form ∷ []) h.1.1, h.1.2), each_push (IsNotFit line) forms form h.2 (not_fit line form t.1))
 more_tried tried.TooWide tried.Misfit place forms form line read ne h t =
-    ((h.0.0, in_before h.0.0 forms (form ∷ []) h.0.1, h.0.2), (h.1.0, in_before h.1.0 forms (form ∷ []) h.1.1, h.1.2), each_push (IsNotFit line) forms form h.2 (not_fit line form t.1))
+    ((h.0.0, in_left h.0.0 forms (form ∷ []) h.0.1, h.0.2), (h.1.0, in_left h.1.0 forms (form ∷ []) h.1.1, h.1.2), each_push (IsNotFit line) forms form h.2 (not_fit line form t.1))
 more_tried tried.TooWide tried.TooWide place forms form line read ne h t =
     ((form, in_last form forms [], t.0), (form, in_last form forms [], t.1), each_push (IsNotFit line) forms form h.2 t.2)
 
@@ -123,24 +115,20 @@ all_ordinary : ℕ → List Form → Bool
 all_ordinary v [] = true
 all_ordinary v (form ∷ forms) = is_ordinary v (kind_of form) && all_ordinary v forms
 
-both : (a b : Bool) → (a && b) ≡ true → (a ≡ true) × (b ≡ true)
-both true b e = (refl, e)
-both false b e = absurd cc
-
 abbrev IsOrdinary : ℕ → List ℕ → Type 0
 IsOrdinary v w = IsIn w (known_words v) × (IsIn w (tree_words v) → ⊥)
 
 ordinary_is : (v : ℕ) (w : List ℕ) → is_ordinary v w ≡ true → IsOrdinary v w
 unfolding is_ordinary
 ordinary_is v w e =
-    let p = both (is_among w (known_words v)) (not (is_among w (tree_words v))) e in
+    let p = and_cases (is_among w (known_words v)) (not (is_among w (tree_words v))) e in
     (among_in w (known_words v) p.0, λ i. let f : not true ≡ true = subst (λ (t : Bool). not t ≡ true) (in_among w (tree_words v) i) p.1 in cc)
 
 ordinary_in : (v : ℕ) (forms : List Form) (form : Form) → all_ordinary v forms ≡ true → IsIn form forms → IsOrdinary v (kind_of form)
 unfolding all_ordinary
 ordinary_in v [] form e i = absurd i
-ordinary_in v (f ∷ forms) form e (inl same) = subst (λ k. IsOrdinary v (kind_of k)) (sym same) (ordinary_is v (kind_of f) (both (is_ordinary v (kind_of f)) (all_ordinary v forms) e).0)
-ordinary_in v (f ∷ forms) form e (inr later) = ordinary_in v forms form (both (is_ordinary v (kind_of f)) (all_ordinary v forms) e).1 later
+ordinary_in v (f ∷ forms) form e (inl same) = subst (λ k. IsOrdinary v (kind_of k)) (sym same) (ordinary_is v (kind_of f) (and_cases (is_ordinary v (kind_of f)) (all_ordinary v forms) e).0)
+ordinary_in v (f ∷ forms) form e (inr later) = ordinary_in v forms form (and_cases (is_ordinary v (kind_of f)) (all_ordinary v forms) e).1 later
 
 heads_ordinary_1 : (q : Question) (z : Sizes) → all_ordinary 1 (heads q z) ≡ true
 unfolding all_ordinary is_ordinary is_among
@@ -186,8 +174,8 @@ rows_ordinary v (w ∷ ws) = is_ordinary v w && rows_ordinary v ws
 row_in : (v : ℕ) (ws : List (List ℕ)) (w : List ℕ) → rows_ordinary v ws ≡ true → IsIn w ws → IsOrdinary v w
 unfolding rows_ordinary
 row_in v [] w e i = absurd i
-row_in v (x ∷ ws) w e (inl same) = subst (IsOrdinary v) (sym same) (ordinary_is v x (both (is_ordinary v x) (rows_ordinary v ws) e).0)
-row_in v (x ∷ ws) w e (inr later) = row_in v ws w (both (is_ordinary v x) (rows_ordinary v ws) e).1 later
+row_in v (x ∷ ws) w e (inl same) = subst (IsOrdinary v) (sym same) (ordinary_is v x (and_cases (is_ordinary v x) (rows_ordinary v ws) e).0)
+row_in v (x ∷ ws) w e (inr later) = row_in v ws w (and_cases (is_ordinary v x) (rows_ordinary v ws) e).1 later
 
 rows_1 : rows_ordinary 1 row_words ≡ true
 unfolding rows_ordinary is_ordinary is_among
@@ -208,8 +196,8 @@ all_known v (form ∷ forms) = is_among (kind_of form) (known_words v) && all_kn
 known_in : (v : ℕ) (forms : List Form) (form : Form) → all_known v forms ≡ true → IsIn form forms → IsIn (kind_of form) (known_words v)
 unfolding all_known
 known_in v [] form e i = absurd i
-known_in v (f ∷ forms) form e (inl same) = subst (λ k. IsIn (kind_of k) (known_words v)) (sym same) (among_in (kind_of f) (known_words v) (both (is_among (kind_of f) (known_words v)) (all_known v forms) e).0)
-known_in v (f ∷ forms) form e (inr later) = known_in v forms form (both (is_among (kind_of f) (known_words v)) (all_known v forms) e).1 later
+known_in v (f ∷ forms) form e (inl same) = subst (λ k. IsIn (kind_of k) (known_words v)) (sym same) (among_in (kind_of f) (known_words v) (and_cases (is_among (kind_of f) (known_words v)) (all_known v forms) e).0)
+known_in v (f ∷ forms) form e (inr later) = known_in v forms form (and_cases (is_among (kind_of f) (known_words v)) (all_known v forms) e).1 later
 
 -- a form that is due may be there: its word is known, and no word of a tree after one
 abbrev MayBe : Due → ℕ → Bool → List ℕ → Type 0

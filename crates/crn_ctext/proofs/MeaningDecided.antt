@@ -3,25 +3,29 @@ use Rattle.std.proofs.Common.{inr, ◌≡◌, ◌==◌, ℕ, zero, suc, Bool, tr
 use Rattle.std.specs.Prelude.{◌≢◌, ℤ, sum}
 use Rattle.std.specs.List.{range_with_len}
 use Rattle.crn_vec.specs.Network.{Net}
+use Rattle.crn_vec.specs.NetSystems.{reaction_system}
+use Rattle.crn_vec.specs.Problems.{Signed}
+use Rattle.crn_vec.specs.Influence.{plain_table, strong_table}
 use Rattle.crn_cert.specs.declared.answer.Gap.{Gap}
 use Rattle.crn_cert.specs.declared.answer.Verdict.TheVariants.{Unknown}
 use Rattle.crn_cert.specs.declared.answer.Proof.TheVariants.{Nothing}
-use Rattle.crn_cert.specs.Questions.{Earlier, Q1, Q2, Q3, Q4, Q5, Q6, Q7, Q8, Q9, Q10, Q11, Q12, on, rank_of, deficiencies_of}
+use Rattle.crn_cert.specs.Questions.{Earlier, Q1, Q2, Q3, Q4, Q5, Q6, Q7, Q8, Q9, Q10, Q11, Q12, Q14, Q15, on, rank_of, deficiencies_of}
 use Rattle.crn_vec.specs.Deficiency.{AreAtMostOne}
 use Rattle.crn_cert.specs.ClassTests.{zeros_in}
-use Rattle.crn_cert.specs.Valid.{strong, linkage_rows, strong_rows, reversible_head, reversible_rows, weak_head, rank_rows, deficiency_head, deficiency_rows, dependence_rows, conservation_rows, zero_head, one_head, WithDeficiencies, IsFirstLarge, linkage, linkage_count, pair_places, regular_head, regular_rows, confluence_head, confluence_rows}
+use Rattle.crn_cert.specs.Valid.{strong, linkage_rows, strong_rows, reversible_head, reversible_rows, weak_head, rank_rows, deficiency_head, deficiency_rows, dependence_rows, conservation_rows, zero_head, one_head, IsFirstLarge, linkage, linkage_count, pair_places, regular_head, regular_rows, confluence_head, confluence_rows, table_rows}
 use Rattle.crn_cert.specs.ConfluenceTests.{least_from, others_than}
 use Rattle.crn_ctext.specs.Records.{Record}
 use Rattle.crn_ctext.specs.Questions.{Shapes, heads, later_numbers}
 use Rattle.crn_ctext.specs.Blocks.{place_of, is_open}
-use Rattle.crn_ctext.specs.Meaning.{shapes_of, sizes_of, number, row, nums, ints, lists, rank_proof, class_proofs, gap_of, verdict_by, proof_by, meaning}
+use Rattle.crn_ctext.specs.Meaning.{shapes_of, sizes_of, number, row, nums, ints, lists, rank_proof, class_proofs, gap_of, verdict_by, proof_by, problem_over, table_problem, problems_by, meaning}
 use Rattle.crn_cert.specs.Built.{built}
-use Rattle.crn_ctext.proofs.Decided.{both_decided, one_decided as either_decided, nat_decided}
+use Rattle.crn_ctext.proofs.Decided.{both_decided, one_decided as either_decided, nat_decided, bool_decided}
 use Rattle.crn_ctext.proofs.TestsDecided.{numbered_decided, even_decided, link_trees_decided, from_trees_decided, to_trees_decided, levels_decided, exits_decided, no_reverse_decided, reverses_decided, leaves_decided}
 use Rattle.crn_ctext.proofs.RanksDecided.{rank_decided, class_ranks_decided, some_rank_decided, left_decided, class_numbers_decided, dependence_decided, no_dependence_decided, law_decided, no_law_decided}
 use Rattle.crn_ctext.proofs.ConfluenceDecided.{no_decided, open_decided, within_decided, sides_decided, way_decided, normal_decided, apart_decided, ties_decided}
 use Rattle.crn_ctext.proofs.TheoremsDecided.{three_decided, yes_decided, case_decided, one_each_decided, first_split_decided, known_decided, additive_decided, other_sum_decided, first_large_decided}
-use Rattle.crn_ctext.proofs.Settled.{AllDecided, IsDecidedFor, IsDecidedMeaning}
+use Rattle.crn_ctext.proofs.TablesDecided.{cut_decided, discordant_decided}
+use Rattle.crn_ctext.proofs.Settled.{AllDecided, IsDecidedProblem, AreDecidedProblems, IsDecidedFor, IsDecidedMeaning}
 
 -- ---- linkage classes
 
@@ -272,5 +276,55 @@ confluence_decided = record {
   trees = λ known h. tt;
 }
 
+-- ---- concordance
+
+-- the tests of the leaves of a tree
+pub problem_decided : (net : Net) (w : Signed) → IsDecidedProblem (problem_over net w)
+problem_decided net w = record {
+  part_a = λ prefix u. cut_decided w.matrix_a (w.kinds_a prefix) u;
+  part_b = λ prefix u. cut_decided w.matrix_b (w.kinds_b prefix) u;
+  closed = λ prefix. bool_decided (w.closed prefix) true;
+}
+
+concordant_rows_decided : (net : Net) (s : Shapes) (t : Bool) (g : Gap) (place : ℕ) (n : List ℤ) (rs : List Record)
+    → AllDecided (table_rows net (plain_table net) (if t then Unknown g else verdict_by Q14 place n rs) (if t then Nothing else proof_by Q14 s place n rs))
+concordant_rows_decided net s true g place n rs = tt
+concordant_rows_decided net s false g zero n rs = tt
+concordant_rows_decided net s false g (suc zero) n rs = tt
+concordant_rows_decided net s false g (suc (suc zero)) n rs = (discordant_decided (reaction_system net) (plain_table net) (ints (row rs 0)).list (ints (row rs 1)).list, tt)
+concordant_rows_decided net s false g (suc (suc (suc k))) n rs = tt
+
+concordant_trees_decided : (net : Net) (place : ℕ) → AreDecidedProblems (problems_by Q14 net place)
+concordant_trees_decided net zero = tt
+concordant_trees_decided net (suc zero) = (problem_decided net (table_problem net (plain_table net)), tt)
+concordant_trees_decided net (suc (suc k)) = tt
+
+pub concordant_decided : IsDecidedFor meaning Q14
+concordant_decided = record {
+  head = λ known h. tt;
+  rows = λ known h rs. concordant_rows_decided known.net (shapes_of known) (is_open h) (gap_of h) (place_of (heads Q14 (sizes_of known)) h.words) h.numbers rs;
+  trees = λ known h. concordant_trees_decided known.net (place_of (heads Q14 (sizes_of known)) h.words);
+}
+
+strongly_rows_decided : (net : Net) (s : Shapes) (t : Bool) (g : Gap) (place : ℕ) (n : List ℤ) (rs : List Record)
+    → AllDecided (table_rows net (strong_table net) (if t then Unknown g else verdict_by Q15 place n rs) (if t then Nothing else proof_by Q15 s place n rs))
+strongly_rows_decided net s true g place n rs = tt
+strongly_rows_decided net s false g zero n rs = tt
+strongly_rows_decided net s false g (suc zero) n rs = tt
+strongly_rows_decided net s false g (suc (suc zero)) n rs = (discordant_decided (reaction_system net) (strong_table net) (ints (row rs 0)).list (ints (row rs 1)).list, tt)
+strongly_rows_decided net s false g (suc (suc (suc k))) n rs = tt
+
+strongly_trees_decided : (net : Net) (place : ℕ) → AreDecidedProblems (problems_by Q15 net place)
+strongly_trees_decided net zero = tt
+strongly_trees_decided net (suc zero) = (problem_decided net (table_problem net (strong_table net)), tt)
+strongly_trees_decided net (suc (suc k)) = tt
+
+pub strongly_decided : IsDecidedFor meaning Q15
+strongly_decided = record {
+  head = λ known h. tt;
+  rows = λ known h rs. strongly_rows_decided known.net (shapes_of known) (is_open h) (gap_of h) (place_of (heads Q15 (sizes_of known)) h.words) h.numbers rs;
+  trees = λ known h. strongly_trees_decided known.net (place_of (heads Q15 (sizes_of known)) h.words);
+}
+
 pub meaning_decided : IsDecidedMeaning meaning built
-meaning_decided = (linkage_decided, (strong_decided, (reversible_decided, (weak_decided, (ranks_decided, (deficiencies_decided, (positive_decided, (conservative_decided, (zero_decided, (one_decided, (regular_decided, (confluence_decided, tt))))))))))))
+meaning_decided = (linkage_decided, (strong_decided, (reversible_decided, (weak_decided, (ranks_decided, (deficiencies_decided, (positive_decided, (conservative_decided, (zero_decided, (one_decided, (regular_decided, (confluence_decided, (concordant_decided, (strongly_decided, tt))))))))))))))

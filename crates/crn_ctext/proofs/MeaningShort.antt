@@ -14,14 +14,14 @@ use Rattle.crn_vec.specs.declared.limits.TheConstants.{MAX_SPECIES, MAX_COMPLEXE
 use Rattle.crn_cert.specs.declared.answer.Gap.{Gap}
 use Rattle.crn_cert.specs.declared.answer.Verdict.{Verdict}
 use Rattle.crn_cert.specs.declared.answer.Verdict.TheVariants.{NotApplicable, Unknown, Strong}
-use Rattle.crn_cert.specs.Questions.{Earlier, Question, Q1, Q2, Q3, Q4, Q5, Q6, Q7, Q8, Q9, Q10, Q11, Q12, number, on, count_of, labels_of}
+use Rattle.crn_cert.specs.Questions.{Earlier, Question, Q1, Q2, Q3, Q4, Q5, Q6, Q7, Q8, Q9, Q10, Q11, Q12, Q14, Q15, number, on, count_of, labels_of}
 use Rattle.crn_cert.specs.Valid.{linkage, linkage_count, class_places, ends_at, is_within_terminal, is_least_of_pair}
 use Rattle.crn_ctext.specs.Records.{Record, Form, CountAndPart, AreBetween, Fits}
-use Rattle.crn_ctext.specs.Questions.{heads, rows, head, yes, no, no_by, none_by, wide, rests, open_by, classes, rank_forms, class_forms, class_rank, side_form, first_number, later_numbers}
+use Rattle.crn_ctext.specs.Questions.{heads, rows, head, yes, no, no_by, none_by, wide, spent, rests, open_by, classes, rank_forms, class_forms, class_rank, side_form, first_number, later_numbers}
 use Rattle.crn_ctext.specs.Kinds.{small, small_form, free_form}
 use Rattle.crn_ctext.specs.Blocks.{place_of, is_open, unless}
 use Rattle.crn_ctext.specs.Documents.{IsOneOf}
-use Rattle.crn_ctext.specs.Meaning.{Known, pairs_by, pairs_of, lengths, reactions_by_class, complexes_by_class, shapes_of, sizes_of, gap_of, verdict_by, verdict_of, meaning}
+use Rattle.crn_ctext.specs.Meaning.{Known, pairs_by, pairs_of, lengths, reactions_by_class, complexes_by_class, shapes_of, sizes_of, gap_of, verdict_by, verdict_of, problems_by, meaning}
 use Rattle.crn_cert.specs.Built.{built}
 use Rattle.crn_ctext.proofs.Bounded.{IsSlim, IsBounded, words_fit}
 use Rattle.crn_ctext.proofs.ShortAnswers.{IsShortFor, AreFewProblems}
@@ -549,5 +549,59 @@ confluence_short = record {
   learn = λ known h rs s o z. same_net Q12 known h rs s no_classes;
 }
 
+-- ---- concordance
+
+-- a head that is open because a budget is spent
+spent_head : (word : List ℕ) (place : ℕ) → words_fit (word ∷ open_by (codes "budget")) ≡ true → IsBounded (spent word place)
+spent_head word place w = record { words = w; few = omega arith; fields = ((one_short, omega arith), tt) }
+
+concordant_rows : (known : Known) (place : ℕ) (n : List ℤ) → IsSmall known → AllByRecursion IsBounded (rows Q14 (shapes_of known) place n)
+concordant_rows known zero n s = tt
+concordant_rows known (suc zero) n s = tt
+concordant_rows known (suc (suc zero)) n s = (free_bounded (codes "alpha") (length known.net.reactions) refl (reactions_few known s), (free_bounded (codes "weights") (length known.net.reactions) refl (reactions_few known s), tt))
+concordant_rows known (suc (suc (suc k))) n s = tt
+
+concordant_trees : (known : Known) (t : Bool) (place : ℕ) → IsSmall known → AreFewProblems (unless t (problems_by Q14 known.net place))
+concordant_trees known true place s = tt
+concordant_trees known false zero s = tt
+concordant_trees known false (suc zero) s = ((species_few known s, species_few known s), tt)
+concordant_trees known false (suc (suc k)) s = tt
+
+pub concordant_short : IsShortFor meaning IsSmall Q14
+concordant_short = record {
+  head_forms = λ known s. (
+      let a = s.species in
+      let c = s.reactions in
+      (plain_head 1 (codes "q14") yes refl, (plain_head 2 (codes "q14") no refl, (wide_head (codes "q14") 3 2 (length known.net.reactions) (length known.net.names) refl (omega arith) (omega (arith, c)) (omega (arith, a)), (spent_head (codes "q14") 4 refl, tt))))
+      );
+  row_forms = λ known h s o. concordant_rows known (place_of (heads Q14 (sizes_of known)) h.words) h.numbers s;
+  trees = λ known h s. concordant_trees known (is_open h) (place_of (heads Q14 (sizes_of known)) h.words) s;
+  learn = λ known h rs s o z. same_net Q14 known h rs s no_classes;
+}
+
+strongly_rows : (known : Known) (place : ℕ) (n : List ℤ) → IsSmall known → AllByRecursion IsBounded (rows Q15 (shapes_of known) place n)
+strongly_rows known zero n s = tt
+strongly_rows known (suc zero) n s = tt
+strongly_rows known (suc (suc zero)) n s = (free_bounded (codes "alpha") (length known.net.reactions) refl (reactions_few known s), (free_bounded (codes "weights") (length known.net.reactions) refl (reactions_few known s), tt))
+strongly_rows known (suc (suc (suc k))) n s = tt
+
+strongly_trees : (known : Known) (t : Bool) (place : ℕ) → IsSmall known → AreFewProblems (unless t (problems_by Q15 known.net place))
+strongly_trees known true place s = tt
+strongly_trees known false zero s = tt
+strongly_trees known false (suc zero) s = ((species_few known s, species_few known s), tt)
+strongly_trees known false (suc (suc k)) s = tt
+
+pub strongly_short : IsShortFor meaning IsSmall Q15
+strongly_short = record {
+  head_forms = λ known s. (
+      let a = s.species in
+      let c = s.reactions in
+      (plain_head 1 (codes "q15") yes refl, (plain_head 2 (codes "q15") no refl, (wide_head (codes "q15") 3 2 (length known.net.reactions) (length known.net.names) refl (omega arith) (omega (arith, c)) (omega (arith, a)), (spent_head (codes "q15") 4 refl, tt))))
+      );
+  row_forms = λ known h s o. strongly_rows known (place_of (heads Q15 (sizes_of known)) h.words) h.numbers s;
+  trees = λ known h s. strongly_trees known (is_open h) (place_of (heads Q15 (sizes_of known)) h.words) s;
+  learn = λ known h rs s o z. same_net Q15 known h rs s no_classes;
+}
+
 pub meaning_short : AllByRecursion (IsShortFor meaning IsSmall) built
-meaning_short = (linkage_short, (strong_short, (reversible_short, (weak_short, (rank_short, (deficiency_short, (dependence_short, (conservation_short, (zero_theorem_short, (one_theorem_short, (regular_short, (confluence_short, tt))))))))))))
+meaning_short = (linkage_short, (strong_short, (reversible_short, (weak_short, (rank_short, (deficiency_short, (dependence_short, (conservation_short, (zero_theorem_short, (one_theorem_short, (regular_short, (confluence_short, (concordant_short, (strongly_short, tt))))))))))))))

@@ -1,14 +1,14 @@
 -- Ranks as records: those of a formed proof fit its forms, say the proof, and are told by the forms; so for each linkage class.
-use Rattle.std.proofs.Common.{◌≡◌, ◌≢◌, ◌≤◌, ◌<◌, ◌+◌, ◌-◌, ◌==◌, ◌++◌, ◌∙◌, ℕ, zero, suc, Bool, true, false, cond, List, [], ◌∷◌, length, map, take, drop, refl, sym, ap, ap₂, subst, inl, inr, arith}
+use Rattle.std.proofs.Common.{◌≡◌, ◌≢◌, ◌≤◌, ◌<◌, ◌+◌, ◌-◌, ◌==◌, ◌++◌, ◌∙◌, ℕ, zero, suc, List, [], ◌∷◌, length, map, take, drop, refl, sym, ap, ap₂, subst, inl, inr, arith}
 use Rattle.std.specs.Prelude.{ℤ, pos, negsuc, nat_abs, min, codes, replicate, slice_index, slice_index_or}
 use Rattle.std.specs.List.{AllByRecursion, AllZip, filter, flat_map, range_with_len}
 use Rattle.std.proofs.lemmas.Int.{ints}
 use Rattle.std.proofs.lemmas.List.{append-nil, length-append, length-map, take_at, drop_at}
 use Rattle.std.proofs.Math.Numerals.{add-one}
-use Rattle.crn_vec.specs.Lists.{IsIn, IsAbove, IsAscending}
+use Rattle.crn_vec.specs.Lists.{IsIn, IsAscending}
 use Rattle.crn_vec.specs.Network.{Net}
 use Rattle.crn_vec.specs.Deficiency.{class_members}
-use Rattle.crn_vec.proofs.CallerLemmas.{eq_or}
+use Rattle.crn_vec.proofs.CallerLemmas.{eq_or, above_in, above_ascending, above_lower, filter_above, filter_ascending, all_from}
 use Rattle.crn_cert.specs.declared.answer.RankProof.{RankProof}
 use Rattle.crn_cert.specs.Questions.{Earlier}
 use Rattle.crn_cert.specs.Tests.{Test}
@@ -47,64 +47,31 @@ record_is r words numbers w n = ap₂ (λ (ws : List (List ℕ)) (zs : List ℤ)
 
 -- ---- members
 
-above_all : (k : ℕ) (xs : List ℕ) → IsAbove k xs → (r : ℕ) → IsIn r xs → k < r
-above_all k [] a r i = absurd i
-above_all k (x ∷ xs) a r (inl e) = omega (arith, a.0, e)
-above_all k (x ∷ xs) a r (inr i) = omega (arith, a.0, above_all x xs a.1 r i)
-
-later_ascending : (x : ℕ) (xs : List ℕ) → IsAbove x xs → IsAscending xs
-later_ascending x [] a = tt
-later_ascending x (y ∷ xs) a = a.1
-
 -- ascending members of an ascending list are no more than its own
 no_more : (xs ys : List ℕ) → IsAscending xs → IsAscending ys → ((r : ℕ) → IsIn r xs → IsIn r ys) → length xs ≤ length ys
 no_more [] ys a b h = omega arith
 no_more (x ∷ xs) [] a b h = absurd (h x (inl refl))
 no_more (x ∷ xs) (y ∷ ys) a b h = elim (eq_or x y) [
-  | inl same ↦ let more = no_more xs ys (later_ascending x xs a) (later_ascending y ys b) (λ r i. later r (inr i) (let lt = above_all x xs a r i in omega (arith, same, lt))) in omega (arith, more)
-  | inr other ↦ let more = no_more (x ∷ xs) ys a (later_ascending y ys b) (λ r i. later r i (past other r i)) in omega (arith, more)
+  | inl same ↦ let more = no_more xs ys (above_ascending x xs a) (above_ascending y ys b) (λ r i. later r (inr i) (let lt = above_in x xs a r i in omega (arith, same, lt))) in omega (arith, more)
+  | inr other ↦ let more = no_more (x ∷ xs) ys a (above_ascending y ys b) (λ r i. later r i (past other r i)) in omega (arith, more)
 ]
   where
     later : (r : ℕ) → IsIn r (x ∷ xs) → y < r → IsIn r ys
     later r i lt = elim (h r i) [ inl e ↦ absurd (omega (arith, lt, e)) | inr j ↦ j ]
 
     first : x ≢ y → y < x
-    first other = elim (h x (inl refl)) [ inl e ↦ absurd (other e) | inr j ↦ above_all y ys b x j ]
+    first other = elim (h x (inl refl)) [ inl e ↦ absurd (other e) | inr j ↦ above_in y ys b x j ]
 
     past : x ≢ y → (r : ℕ) → IsIn r (x ∷ xs) → y < r
     past other r (inl e) = omega (arith, e, first other)
-    past other r (inr i) = omega (arith, first other, above_all x xs a r i)
-
-lower : (k x : ℕ) (xs : List ℕ) → k < x → IsAbove x xs → IsAbove k xs
-lower k x [] lt a = tt
-lower k x (y ∷ xs) lt a = (omega (arith, lt, a.0), a.1)
-
-kept_above : (p : ℕ → Bool) (k : ℕ) (xs : List ℕ) → IsAbove k xs → IsAbove k (filter p xs)
-kept_above p k [] a = tt
-kept_above p k (x ∷ xs) a = by (p x) (kept_above p x xs a.1) (kept_above p k xs (lower k x xs a.0 a.1))
-  where
-    by : (t : Bool) → IsAbove x (filter p xs) → IsAbove k (filter p xs) → IsAbove k (cond t (x ∷ filter p xs) (filter p xs))
-    by true more rest = (a.0, more)
-    by false more rest = rest
-
-kept_ascending : (p : ℕ → Bool) (xs : List ℕ) → IsAscending xs → IsAscending (filter p xs)
-kept_ascending p [] a = tt
-kept_ascending p (x ∷ xs) a = by (p x) (kept_ascending p xs (later_ascending x xs a))
-  where
-    by : (t : Bool) → IsAscending (filter p xs) → IsAscending (cond t (x ∷ filter p xs) (filter p xs))
-    by true more = kept_above p x xs a
-    by false more = more
+    past other r (inr i) = omega (arith, first other, above_in x xs a r i)
 
 -- the reactions of a class by labels
 abbrev places_by : Net → List ℕ → ℕ → List ℕ
 places_by net labels k = filter (λ r. slice_index labels (slice_index_or net.reactions (r - 1) (0, 0)).0 == k) (range_with_len 1 (length net.reactions))
 
 places_ascending : (net : Net) (earlier : Earlier) (k : ℕ) → IsAscending (class_places net earlier k)
-places_ascending net earlier k = kept_ascending (λ r. slice_index (linkage earlier) (slice_index_or net.reactions (r - 1) (0, 0)).0 == k) (range_with_len 1 (length net.reactions)) (range_ascending 1 (length net.reactions))
-
-all_in : (P : ℕ → Type 0) (xs : List ℕ) → ((r : ℕ) → IsIn r xs → P r) → AllByRecursion P xs
-all_in P [] h = tt
-all_in P (x ∷ xs) h = (h x (inl refl), all_in P xs (λ r i. h r (inr i)))
+places_ascending net earlier k = filter_ascending (λ r. slice_index (linkage earlier) (slice_index_or net.reactions (r - 1) (0, 0)).0 == k) (range_with_len 1 (length net.reactions)) (range_ascending 1 (length net.reactions))
 
 each_in : (P : ℕ → Type 0) (xs : List ℕ) → AllByRecursion P xs → (r : ℕ) → IsIn r xs → P r
 each_in P [] a r i = absurd i
@@ -168,7 +135,7 @@ abbrev pub proof_with : List ℕ → List (List ℤ) → List (List ℤ) → Ran
 proof_with base duals combs = record { base = record { list = base; spare = 0 }; duals = duals; combs = combs }
 
 base_fits : (rank : ℕ) (members base : List ℕ) → length base ≡ rank → IsAscending base → ((r : ℕ) → IsIn r base → IsIn r members) → Fits (record_form (codes "base") (Members rank members ∷ [])) (small_record (codes "base") base)
-base_fits rank members base long up from = (refl, (map pos base, [], sym (append-nil (map pos base)), ((base, refl, long, up, all_in (λ r. IsIn r members) base from), tt), refl))
+base_fits rank members base long up from = (refl, (map pos base, [], sym (append-nil (map pos base)), ((base, refl, long, up, all_from (λ r. IsIn r members) base from), tt), refl))
 
 base_row : (rank : ℕ) (members : List ℕ) (r : Record) → Fits (record_form (codes "base") (Members rank members ∷ [])) r
     → (base : List ℕ) × (r ≡ small_record (codes "base") base) × (length base ≡ rank) × IsAscending base × ((k : ℕ) → IsIn k base → IsIn k members)

@@ -1,5 +1,5 @@
 -- The lines of a document of plain records are short, and no byte ends one.
-use Rattle.std.proofs.Common.{◌≡◌, ◌+◌, ◌*◌, ◌<◌, ◌≤◌, ◌==◌, ◌^◌, ◌++◌, ◌&&◌, ℕ, zero, suc, Bool, true, false, if◌then◌else◌, List, [], ◌∷◌, length, map, get_or, refl, ap, subst, inl, inr, arith}
+use Rattle.std.proofs.Common.{◌≡◌, ◌+◌, ◌*◌, ◌<◌, ◌≤◌, ◌==◌, ◌^◌, ◌++◌, ℕ, zero, suc, Bool, true, false, if◌then◌else◌, List, [], ◌∷◌, length, map, get_or, refl, ap, subst, inl, inr, arith}
 use Rattle.std.specs.Prelude.{ℤ, pos, negsuc, codes, decimal, nat_le}
 use Rattle.std.specs.List.{AllByRecursion, list_all, join_with_byte}
 use Rattle.std.specs.Fmt.{signed_decimal}
@@ -9,7 +9,7 @@ use Rattle.std.proofs.lemmas.Bool.{cases_Bool}
 use Rattle.std.proofs.lemmas.Bool.Decides.{nat_tests}
 use Rattle.std.proofs.lemmas.Fmt.{length-decimal-le_wide}
 use Rattle.crn_vec.specs.Network.{Net, IsNetwork, IsPartialNetwork, IsVector, JoinsTwo}
-use Rattle.crn_vec.proofs.CallerLemmas.{all_at}
+use Rattle.crn_vec.proofs.CallerLemmas.{all_at, and_cases}
 use Rattle.crn_text.proofs.CallerLemmas.{side_text}
 use Rattle.crn_text.proofs.CallerLemmas.{held}
 use Rattle.crn_text.proofs.CallerLemmas.{good_terms, side_length, held_length}
@@ -24,10 +24,6 @@ use Rattle.crn_ctext.proofs.ShortAnswers.{AllPlain}
 
 -- ---- bytes
 
-both : (a b : Bool) → (a && b) ≡ true → (a ≡ true) × (b ≡ true)
-both true b e = (refl, e)
-both false b e = absurd cc
-
 line_cons : (b : ℕ) (bs : List ℕ) → (b == 10) ≡ false → IsLine bs → IsLine (b ∷ bs)
 line_cons b bs e p zero d lt = e
 line_cons b bs e p (suc k) d lt = p k d (omega (arith, lt))
@@ -41,7 +37,7 @@ Plain bs = list_all is_plain bs ≡ true
 
 plain_is_line : (bs : List ℕ) → Plain bs → IsLine bs
 plain_is_line [] e = All-nil (λ b. (b == 10) ≡ false)
-plain_is_line (b ∷ bs) e = let p = both (is_plain b) (list_all is_plain bs) e in line_cons b bs (no_end b p.0) (plain_is_line bs p.1)
+plain_is_line (b ∷ bs) e = let p = and_cases (is_plain b) (list_all is_plain bs) e in line_cons b bs (no_end b p.0) (plain_is_line bs p.1)
 
 none_is_line : (bs : List ℕ) → ends_in bs ≡ 0 → IsLine bs
 none_is_line [] e = All-nil (λ b. (b == 10) ≡ false)
@@ -52,14 +48,14 @@ none_is_line (b ∷ bs) e = elim (cases_Bool (b == 10)) [
 
 plain_append : (xs ys : List ℕ) → Plain xs → Plain ys → Plain (xs ++ ys)
 plain_append [] ys p q = q
-plain_append (x ∷ xs) ys p q = let h = both (is_plain x) (list_all is_plain xs) p in rw (h.0, plain_append xs ys h.1 q) refl
+plain_append (x ∷ xs) ys p q = let h = and_cases (is_plain x) (list_all is_plain xs) p in rw (h.0, plain_append xs ys h.1 q) refl
 
 digit_is_plain : (b : ℕ) → is_digit b ≡ true → is_plain b ≡ true
 digit_is_plain b e = grind (arith, nat_tests)
 
 digits_are_plain : (bs : List ℕ) → list_all is_digit bs ≡ true → Plain bs
 digits_are_plain [] e = refl
-digits_are_plain (b ∷ bs) e = let p = both (is_digit b) (list_all is_digit bs) e in rw (digit_is_plain b p.0, digits_are_plain bs p.1) refl
+digits_are_plain (b ∷ bs) e = let p = and_cases (is_digit b) (list_all is_digit bs) e in rw (digit_is_plain b p.0, digits_are_plain bs p.1) refl
 
 -- ---- numbers
 
@@ -104,7 +100,7 @@ joined_length (x ∷ y ∷ xs) = omega (arith, length-append x (32 ∷ join_with
 
 words_plain : (ws : List (List ℕ)) → list_all word_fits ws ≡ true → AllByRecursion Plain ws
 words_plain [] e = tt
-words_plain (w ∷ ws) e = let p = both (word_fits w) (list_all word_fits ws) e in let q = both (list_all is_plain w) (nat_le (length w) 20) p.0 in (q.0, words_plain ws p.1)
+words_plain (w ∷ ws) e = let p = and_cases (word_fits w) (list_all word_fits ws) e in let q = and_cases (list_all is_plain w) (nat_le (length w) 20) p.0 in (q.0, words_plain ws p.1)
 
 within : (n most : ℕ) → nat_le n most ≡ true → n ≤ most
 within n most e = grind (arith, nat_tests)
@@ -112,8 +108,8 @@ within n most e = grind (arith, nat_tests)
 words_length : (ws : List (List ℕ)) → list_all word_fits ws ≡ true → total ws ≤ 21 * length ws
 words_length [] e = omega arith
 words_length (w ∷ ws) e =
-    let p = both (word_fits w) (list_all word_fits ws) e in
-    let q = both (list_all is_plain w) (nat_le (length w) 20) p.0 in
+    let p = and_cases (word_fits w) (list_all word_fits ws) e in
+    let q = and_cases (list_all is_plain w) (nat_le (length w) 20) p.0 in
     omega (arith, within (length w) 20 q.1, words_length ws p.1)
 
 numbers_plain : (zs : List ℤ) → AreSlim zs → AllByRecursion Plain (map signed_decimal zs)
@@ -126,7 +122,7 @@ numbers_length (z ∷ zs) s = omega (arith, signed_length z s.0, numbers_length 
 
 pub record_line_is_short : (r : Record) → IsPlain r → IsShortLine (record_text r)
 record_line_is_short r p =
-    let w = both (list_all word_fits r.words) (nat_le (length r.words) 3) p.words in
+    let w = and_cases (list_all word_fits r.words) (nat_le (length r.words) 3) p.words in
     let few = p.few in
     let parts = r.words ++ map signed_decimal r.numbers in (
       plain_is_line (join_with_byte 32 parts) (joined_plain parts (all_append r.words (map signed_decimal r.numbers) (words_plain r.words w.0) (numbers_plain r.numbers p.numbers))),
@@ -136,7 +132,7 @@ record_line_is_short r p =
 -- it has room for its words and for 400 numbers
 pub record_line_is_small : (r : Record) → IsPlain r → length (record_text r) ≤ 9663
 record_line_is_small r p =
-    let w = both (list_all word_fits r.words) (nat_le (length r.words) 3) p.words in
+    let w = and_cases (list_all word_fits r.words) (nat_le (length r.words) 3) p.words in
     let few = p.few in
     let parts = r.words ++ map signed_decimal r.numbers in
     omega (arith, joined_length parts, total_append r.words (map signed_decimal r.numbers), words_length r.words w.0, within (length r.words) 3 w.1, numbers_length r.numbers p.numbers, few)

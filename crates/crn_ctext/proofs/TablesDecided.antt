@@ -4,7 +4,7 @@ use Rattle.std.specs.Prelude.{ℤ, pos, negsuc, ◌≤ℤ◌, ◌≢◌, neg_ℤ
 use Rattle.std.specs.List.{AllZip}
 use Rattle.std.proofs.lemmas.Bool.{cases_lt}
 use Rattle.std.proofs.lemmas.Int.{ints}
-use Rattle.std.proofs.lemmas.List.{length-append, length-drop, drop_at}
+use Rattle.std.proofs.lemmas.List.{length-append, drop_at}
 use Rattle.crn_vec.specs.Vectors.{Mat, entry, dot, column}
 use Rattle.crn_vec.specs.Elementary.{InDualSpace}
 use Rattle.crn_vec.specs.declared.signs.Sign.{Sign}
@@ -12,7 +12,7 @@ use Rattle.crn_vec.specs.declared.signs.Kind.{Kind}
 use Rattle.crn_vec.specs.declared.signs.Kind.TheVariants.{Pos, Neg, NonNeg, Zero, Free}
 use Rattle.crn_vec.specs.Systems.{MayWeigh, HasWeight, AreRuling, IsCut, is_signed, kind_at}
 use Rattle.crn_vec.specs.Concordance.{HasPositive, HasNegative, IsNought, GoesWith, IsDiscordant, shares, image}
-use Rattle.crn_vec.proofs.CallerLemmas.{listed, length-listed, entry-listed, weights_tell_cuts}
+use Rattle.crn_vec.proofs.CallerLemmas.{listed, length-listed, entry-listed, weights_tell_cuts, cut_long}
 use Rattle.crn_ctext.proofs.Decided.{IsDecided, both_decided, one_decided, not_decided, if_decided, moved, nat_decided, bool_decided, int_decided, int_le_decided, all_decided}
 use Rattle.crn_ctext.proofs.TestsDecided.{some_below}
 
@@ -74,15 +74,6 @@ weights_dual a u long =
       long = omega (arith, long, front, length-append (listed a.cols f) u);
       is = λ j less. entry_front (listed a.cols f) u j (omega (arith, less, front)) ∙ entry-listed a.cols f j less ∙ sym (ap (λ (v : List ℤ). neg_ℤ (dot v (column a.rows j))) (rows_are a u));
     }
-
--- a cut has a multiplier for each row
-cut_long : (a : Mat) (kinds : List Kind) (u : List ℤ) → IsCut a kinds u → length u ≡ length a.rows
-cut_long a kinds u cut =
-    let r = cut.1 in
-    let space = r.space in
-    let long = space.long in
-    let rows = r.rows in
-    omega (arith, ap length rows, long, length-drop a.cols cut.0)
 
 pub cut_decided : (a : Mat) (kinds : List Kind) (u : List ℤ) → IsDecided (IsCut a kinds u)
 cut_decided a kinds u = elim (nat_decided (length u) (length a.rows)) [

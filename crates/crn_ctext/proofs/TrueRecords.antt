@@ -23,7 +23,7 @@ use Rattle.crn_ctext.proofs.RecordsLinked.{records_answered}
 built_in_order : AreBuilt [] built
 built_in_order = (
   (λ j i. i),
-  ((λ j i. absurd i), ((λ j i. absurd i), ((λ j i. strong_before j i), ((λ j i. absurd i), ((λ j i. linkage_and_rank_before j i), ((λ j i. absurd i), ((λ j i. absurd i), ((λ j i. zero_before j i), ((λ j i. one_before j i), ((λ j i. regular_before j i), ((λ j i. confluence_before j i), tt))))))))))),
+  ((λ j i. absurd i), ((λ j i. absurd i), ((λ j i. strong_before j i), ((λ j i. absurd i), ((λ j i. linkage_and_rank_before j i), ((λ j i. absurd i), ((λ j i. absurd i), ((λ j i. zero_before j i), ((λ j i. one_before j i), ((λ j i. regular_before j i), ((λ j i. confluence_before j i), ((λ j i. absurd i), ((λ j i. absurd i), tt))))))))))))),
 )
   where
     strong_before : (j : Question) → IsIn j (Q2 ∷ []) → IsIn j (Q1 ∷ Q2 ∷ Q3 ∷ [])

@@ -1,5 +1,5 @@
--- The answers to the questions that are built, xs documents write them.
-use Rattle.std.proofs.Common.{◌↔◌, ap₂, subst, cond, filter, ◌≤◌, ℤ, if◌then◌else◌, ◌≡◌, ℕ, zero, suc, ◌+◌, Bool, true, false, List, [], ◌∷◌, ◌++◌, length, map, take, codes, refl, sym, ap, ◌∙◌, append_assoc, inl, inr, arith}
+-- The answers to the questions that are built, as documents write them.
+use Rattle.std.proofs.Common.{◌↔◌, ap₂, subst, cond, filter, ◌≤◌, ℤ, if◌then◌else◌, ◌≡◌, ℕ, zero, suc, ◌+◌, Bool, true, false, List, [], ◌∷◌, ◌++◌, length, map, take, codes, refl, sym, ap, ◌∙◌, append_assoc, arith}
 use Rattle.std.specs.List.{AllByRecursion, AllZip, flat_map}
 use Rattle.std.specs.Ordering.{int_eq}
 use Rattle.std.specs.Cmp.Lexicographic.{pointwise}
@@ -15,15 +15,16 @@ use Rattle.crn_ctext.specs.Documents as documents
 use Rattle.crn_ctext.specs.Shares.{as_share}
 use Rattle.std.proofs.lemmas.List.{append-nil}
 use Rattle.crn_vec.specs.Network.{Net, IsNetwork}
-use Rattle.crn_cert.proofs.CallerLemmas.{shares_fit as cut_shares_fit}
+use Rattle.crn_vec.proofs.CallerLemmas.{some_species}
+use Rattle.crn_cert.proofs.CallerLemmas.{shares_fit as cut_shares_fit, IsTreeless, rows_linkage, rows_strong, rows_reversible, rows_weak, rows_rank, rows_deficiency, rows_dependence, rows_conservation, rows_zero, rows_one, rows_regular, rows_confluence}
 use Rattle.crn_ctext.proofs.TablesLinked.{TableRows, tree_or_none}
-use Rattle.crn_ctext.proofs.CutLists.{some_species, few_species, one_tree_cuts}
+use Rattle.crn_ctext.proofs.CutLists.{few_species, one_tree_cuts}
 use Rattle.crn_cert.specs.Built.{built}
-use Rattle.crn_cert.specs.Formed.{AreFormed, RowsMayBe, RowsLinkage, RowsStrong, RowsReversible, RowsWeak, RowsRank, RowsDeficiency, RowsPositive, RowsZero, RowsOne, RowsRegular, RowsConfluence, IsFormed as IsFormedAnswer}
+use Rattle.crn_cert.specs.Formed.{AreFormed, RowsMayBe, RowsLinkage, RowsStrong, IsFormed as IsFormedAnswer}
 use Rattle.crn_cert.specs.Questions.{Earlier, Question, Q1, Q2, Q3, Q4, Q5, Q6, Q7, Q8, Q9, Q10, questions, Q11, Q12, Q13, Q14, Q15, on}
 use Rattle.crn_cert.specs.Valid.{pair_places}
 use Rattle.crn_cert.specs.declared.answer.Verdict.{Verdict}
-use Rattle.crn_cert.specs.declared.answer.Verdict.TheVariants.{Classes, Strong, Rank, Deficiency, Yes, YesWeak, YesVec, YesSignal, No, NoReaction, NoVec, NoNumber, NoTerminal, NoClass, NoSum, NoDependence, NoCycle, NoPair, NotRegular, OnlyZero, Plane, NotApplicable, Unknown}
+use Rattle.crn_cert.specs.declared.answer.Verdict.TheVariants.{Classes, Strong, Rank, Unknown}
 use Rattle.crn_cert.specs.declared.answer.Proof.{Proof}
 use Rattle.crn_cert.specs.declared.answer.Proof.TheVariants as proof
 use Rattle.crn_cert.specs.declared.answer.Answer.{Answer}
@@ -40,13 +41,7 @@ use Rattle.crn_ctext.proofs.KnownBefore.{IsStrong, formed_right, strong_stays, a
 use Rattle.crn_ctext.proofs.AnswersLinked.{linkage_next, strong_next}
 use Rattle.crn_ctext.proofs.WrittenLines.{lines_append}
 use Rattle.crn_ctext.proofs.WrittenLeaves.{IsPlain, written_none}
-use Rattle.crn_ctext.proofs.WrittenBlocks.{blocks_short, front_plain}
-
--- the proof has no trees
-abbrev pub IsShort : Proof → Type 0
-IsShort (proof.One tree) = ⊥
-IsShort (proof.Two tree second) = ⊥
-IsShort p = Unit {0}
+use Rattle.crn_ctext.proofs.WrittenBlocks.{front_plain}
 
 -- the proof has no sides of pairs
 abbrev pub SeesNoPairs : Proof → Type 0
@@ -82,354 +77,6 @@ rows_by_pairs s other (proof.Two tree second) e = refl
 same_records : (q : Question) (s other : Shapes) (a : Answer) → proof_records s a.proof ≡ proof_records other a.proof → records q s a ≡ records q other a
 same_records q s other a e = ap (λ (rs : List Record). head_of q a.verdict ∷ (verdict_records a.verdict ++ rs ++ later_records a.verdict) ++ proof_nodes a.proof) e
 
--- ---- formed answers to the questions that are built have no trees
-
-no_linkage : (net : Net) (v : Verdict) (p : Proof) → RowsLinkage net v p → IsShort p
-no_linkage net (Classes count label) (proof.Nothing) h = absurd h
-no_linkage net (Classes count label) (proof.Forest up depth) h = tt
-no_linkage net (Classes count label) (proof.Strong from from_depth to to_depth level) h = absurd h
-no_linkage net (Classes count label) (proof.Back back) h = absurd h
-no_linkage net (Classes count label) (proof.Rank r) h = absurd h
-no_linkage net (Classes count label) (proof.Ranks rs) h = absurd h
-no_linkage net (Classes count label) (proof.Sides rows) h = absurd h
-no_linkage net (Classes count label) (proof.Ties rows) h = absurd h
-no_linkage net (Classes count label) (proof.One tree) h = absurd h
-no_linkage net (Classes count label) (proof.Two tree second) h = absurd h
-no_linkage net (Strong count terminal label exit) p h = absurd h
-no_linkage net (Rank rank base) p h = absurd h
-no_linkage net (Deficiency total classes) p h = absurd h
-no_linkage net (Yes) p h = absurd h
-no_linkage net (YesWeak weak) p h = absurd h
-no_linkage net (YesVec vector) p h = absurd h
-no_linkage net (YesSignal turn shelves mu m weights) p h = absurd h
-no_linkage net (No) p h = absurd h
-no_linkage net (NoReaction reaction) p h = absurd h
-no_linkage net (NoVec multipliers) p h = absurd h
-no_linkage net (NoNumber number) p h = absurd h
-no_linkage net (NoTerminal class count) p h = absurd h
-no_linkage net (NoClass class number) p h = absurd h
-no_linkage net (NoSum total) p h = absurd h
-no_linkage net (NoDependence) p h = absurd h
-no_linkage net (NoCycle reaction walk) p h = absurd h
-no_linkage net (NoPair alpha weights) p h = absurd h
-no_linkage net (NotRegular) p h = absurd h
-no_linkage net (OnlyZero) p h = absurd h
-no_linkage net (Plane first second one two) p h = absurd h
-no_linkage net (NotApplicable) p h = absurd h
-no_linkage net (Unknown gap) p h = absurd h
-
-no_strong : (net : Net) (v : Verdict) (p : Proof) → RowsStrong net v p → IsShort p
-no_strong net (Classes count label) p h = absurd h
-no_strong net (Strong count terminal label exit) (proof.Nothing) h = absurd h
-no_strong net (Strong count terminal label exit) (proof.Forest up depth) h = absurd h
-no_strong net (Strong count terminal label exit) (proof.Strong from from_depth to to_depth level) h = tt
-no_strong net (Strong count terminal label exit) (proof.Back back) h = absurd h
-no_strong net (Strong count terminal label exit) (proof.Rank r) h = absurd h
-no_strong net (Strong count terminal label exit) (proof.Ranks rs) h = absurd h
-no_strong net (Strong count terminal label exit) (proof.Sides rows) h = absurd h
-no_strong net (Strong count terminal label exit) (proof.Ties rows) h = absurd h
-no_strong net (Strong count terminal label exit) (proof.One tree) h = absurd h
-no_strong net (Strong count terminal label exit) (proof.Two tree second) h = absurd h
-no_strong net (Rank rank base) p h = absurd h
-no_strong net (Deficiency total classes) p h = absurd h
-no_strong net (Yes) p h = absurd h
-no_strong net (YesWeak weak) p h = absurd h
-no_strong net (YesVec vector) p h = absurd h
-no_strong net (YesSignal turn shelves mu m weights) p h = absurd h
-no_strong net (No) p h = absurd h
-no_strong net (NoReaction reaction) p h = absurd h
-no_strong net (NoVec multipliers) p h = absurd h
-no_strong net (NoNumber number) p h = absurd h
-no_strong net (NoTerminal class count) p h = absurd h
-no_strong net (NoClass class number) p h = absurd h
-no_strong net (NoSum total) p h = absurd h
-no_strong net (NoDependence) p h = absurd h
-no_strong net (NoCycle reaction walk) p h = absurd h
-no_strong net (NoPair alpha weights) p h = absurd h
-no_strong net (NotRegular) p h = absurd h
-no_strong net (OnlyZero) p h = absurd h
-no_strong net (Plane first second one two) p h = absurd h
-no_strong net (NotApplicable) p h = absurd h
-no_strong net (Unknown gap) p h = absurd h
-
-no_reversible : (net : Net) (v : Verdict) (p : Proof) → RowsReversible net v p → IsShort p
-no_reversible net (Classes count label) p h = absurd h
-no_reversible net (Strong count terminal label exit) p h = absurd h
-no_reversible net (Rank rank base) p h = absurd h
-no_reversible net (Deficiency total classes) p h = absurd h
-no_reversible net (Yes) (proof.Nothing) h = absurd h
-no_reversible net (Yes) (proof.Forest up depth) h = absurd h
-no_reversible net (Yes) (proof.Strong from from_depth to to_depth level) h = absurd h
-no_reversible net (Yes) (proof.Back back) h = tt
-no_reversible net (Yes) (proof.Rank r) h = absurd h
-no_reversible net (Yes) (proof.Ranks rs) h = absurd h
-no_reversible net (Yes) (proof.Sides rows) h = absurd h
-no_reversible net (Yes) (proof.Ties rows) h = absurd h
-no_reversible net (Yes) (proof.One tree) h = absurd h
-no_reversible net (Yes) (proof.Two tree second) h = absurd h
-no_reversible net (YesWeak weak) p h = absurd h
-no_reversible net (YesVec vector) p h = absurd h
-no_reversible net (YesSignal turn shelves mu m weights) p h = absurd h
-no_reversible net (No) p h = absurd h
-no_reversible net (NoReaction reaction) (proof.Nothing) h = tt
-no_reversible net (NoReaction reaction) (proof.Forest up depth) h = absurd h
-no_reversible net (NoReaction reaction) (proof.Strong from from_depth to to_depth level) h = absurd h
-no_reversible net (NoReaction reaction) (proof.Back back) h = absurd h
-no_reversible net (NoReaction reaction) (proof.Rank r) h = absurd h
-no_reversible net (NoReaction reaction) (proof.Ranks rs) h = absurd h
-no_reversible net (NoReaction reaction) (proof.Sides rows) h = absurd h
-no_reversible net (NoReaction reaction) (proof.Ties rows) h = absurd h
-no_reversible net (NoReaction reaction) (proof.One tree) h = absurd h
-no_reversible net (NoReaction reaction) (proof.Two tree second) h = absurd h
-no_reversible net (NoVec multipliers) p h = absurd h
-no_reversible net (NoNumber number) p h = absurd h
-no_reversible net (NoTerminal class count) p h = absurd h
-no_reversible net (NoClass class number) p h = absurd h
-no_reversible net (NoSum total) p h = absurd h
-no_reversible net (NoDependence) p h = absurd h
-no_reversible net (NoCycle reaction walk) p h = absurd h
-no_reversible net (NoPair alpha weights) p h = absurd h
-no_reversible net (NotRegular) p h = absurd h
-no_reversible net (OnlyZero) p h = absurd h
-no_reversible net (Plane first second one two) p h = absurd h
-no_reversible net (NotApplicable) p h = absurd h
-no_reversible net (Unknown gap) p h = absurd h
-
-no_weak : (v : Verdict) (p : Proof) → RowsWeak v p → IsShort p
-no_weak (Classes count label) p h = absurd h
-no_weak (Strong count terminal label exit) p h = absurd h
-no_weak (Rank rank base) p h = absurd h
-no_weak (Deficiency total classes) p h = absurd h
-no_weak (Yes) (proof.Nothing) h = tt
-no_weak (Yes) (proof.Forest up depth) h = absurd h
-no_weak (Yes) (proof.Strong from from_depth to to_depth level) h = absurd h
-no_weak (Yes) (proof.Back back) h = absurd h
-no_weak (Yes) (proof.Rank r) h = absurd h
-no_weak (Yes) (proof.Ranks rs) h = absurd h
-no_weak (Yes) (proof.Sides rows) h = absurd h
-no_weak (Yes) (proof.Ties rows) h = absurd h
-no_weak (Yes) (proof.One tree) h = absurd h
-no_weak (Yes) (proof.Two tree second) h = absurd h
-no_weak (YesWeak weak) p h = absurd h
-no_weak (YesVec vector) p h = absurd h
-no_weak (YesSignal turn shelves mu m weights) p h = absurd h
-no_weak (No) p h = absurd h
-no_weak (NoReaction reaction) (proof.Nothing) h = tt
-no_weak (NoReaction reaction) (proof.Forest up depth) h = absurd h
-no_weak (NoReaction reaction) (proof.Strong from from_depth to to_depth level) h = absurd h
-no_weak (NoReaction reaction) (proof.Back back) h = absurd h
-no_weak (NoReaction reaction) (proof.Rank r) h = absurd h
-no_weak (NoReaction reaction) (proof.Ranks rs) h = absurd h
-no_weak (NoReaction reaction) (proof.Sides rows) h = absurd h
-no_weak (NoReaction reaction) (proof.Ties rows) h = absurd h
-no_weak (NoReaction reaction) (proof.One tree) h = absurd h
-no_weak (NoReaction reaction) (proof.Two tree second) h = absurd h
-no_weak (NoVec multipliers) p h = absurd h
-no_weak (NoNumber number) p h = absurd h
-no_weak (NoTerminal class count) p h = absurd h
-no_weak (NoClass class number) p h = absurd h
-no_weak (NoSum total) p h = absurd h
-no_weak (NoDependence) p h = absurd h
-no_weak (NoCycle reaction walk) p h = absurd h
-no_weak (NoPair alpha weights) p h = absurd h
-no_weak (NotRegular) p h = absurd h
-no_weak (OnlyZero) p h = absurd h
-no_weak (Plane first second one two) p h = absurd h
-no_weak (NotApplicable) p h = absurd h
-no_weak (Unknown gap) p h = absurd h
-
-no_rank : (net : Net) (v : Verdict) (p : Proof) → RowsRank net v p → IsShort p
-no_rank net (Rank rank base) (proof.Rank r) h = tt
-no_rank net (Rank rank base) p h = absurd h
-no_rank net v p h = absurd h
-
-no_deficiency : (net : Net) (earlier : Earlier) (v : Verdict) (p : Proof) → RowsDeficiency net earlier v p → IsShort p
-no_deficiency net earlier (Deficiency total classes) (proof.Ranks rs) h = tt
-no_deficiency net earlier (Deficiency total classes) p h = absurd h
-no_deficiency net earlier v p h = absurd h
-
-no_positive : (width height : ℕ) (v : Verdict) (p : Proof) → RowsPositive width height v p → IsShort p
-no_positive width height (YesVec vector) (proof.Nothing) h = tt
-no_positive width height (YesVec vector) p h = absurd h
-no_positive width height (NoVec multipliers) (proof.Nothing) h = tt
-no_positive width height (NoVec multipliers) p h = absurd h
-no_positive width height v p h = absurd h
-
-no_zero : (v : Verdict) (p : Proof) → RowsZero v p → IsShort p
-no_zero (YesWeak weak) (proof.Nothing) h = tt
-no_zero (YesWeak weak) p h = absurd h
-no_zero (NoNumber number) (proof.Nothing) h = tt
-no_zero (NoNumber number) p h = absurd h
-no_zero v p h = absurd h
-
-no_one : (v : Verdict) (p : Proof) → RowsOne v p → IsShort p
-no_one Yes (proof.Nothing) h = tt
-no_one Yes p h = absurd h
-no_one (NoTerminal class count) (proof.Nothing) h = tt
-no_one (NoTerminal class count) p h = absurd h
-no_one (NoClass class number) (proof.Nothing) h = tt
-no_one (NoClass class number) p h = absurd h
-no_one (NoSum total) (proof.Nothing) h = tt
-no_one (NoSum total) p h = absurd h
-no_one v p h = absurd h
-
-no_nothing : (p : Proof) → p ≡ proof.Nothing → IsShort p
-no_nothing p e = rw e tt
-
-rows_linkage : (net : Net) (earlier : Earlier) (v : Verdict) (p : Proof) → RowsMayBe net earlier Q1 v p → IsShort p
-rows_linkage net earlier (Classes count label) p h = no_linkage net (Classes count label) p h
-rows_linkage net earlier (Strong count terminal label exit) p h = no_linkage net (Strong count terminal label exit) p h
-rows_linkage net earlier (Rank rank base) p h = no_linkage net (Rank rank base) p h
-rows_linkage net earlier (Deficiency total classes) p h = no_linkage net (Deficiency total classes) p h
-rows_linkage net earlier (Yes) p h = no_linkage net (Yes) p h
-rows_linkage net earlier (YesWeak weak) p h = no_linkage net (YesWeak weak) p h
-rows_linkage net earlier (YesVec vector) p h = no_linkage net (YesVec vector) p h
-rows_linkage net earlier (YesSignal turn shelves mu m weights) p h = no_linkage net (YesSignal turn shelves mu m weights) p h
-rows_linkage net earlier (No) p h = no_linkage net (No) p h
-rows_linkage net earlier (NoReaction reaction) p h = no_linkage net (NoReaction reaction) p h
-rows_linkage net earlier (NoVec multipliers) p h = no_linkage net (NoVec multipliers) p h
-rows_linkage net earlier (NoNumber number) p h = no_linkage net (NoNumber number) p h
-rows_linkage net earlier (NoTerminal class count) p h = no_linkage net (NoTerminal class count) p h
-rows_linkage net earlier (NoClass class number) p h = no_linkage net (NoClass class number) p h
-rows_linkage net earlier (NoSum total) p h = no_linkage net (NoSum total) p h
-rows_linkage net earlier (NoDependence) p h = no_linkage net (NoDependence) p h
-rows_linkage net earlier (NoCycle reaction walk) p h = no_linkage net (NoCycle reaction walk) p h
-rows_linkage net earlier (NoPair alpha weights) p h = no_linkage net (NoPair alpha weights) p h
-rows_linkage net earlier (NotRegular) p h = no_linkage net (NotRegular) p h
-rows_linkage net earlier (OnlyZero) p h = no_linkage net (OnlyZero) p h
-rows_linkage net earlier (Plane first second one two) p h = no_linkage net (Plane first second one two) p h
-rows_linkage net earlier (NotApplicable) p h = no_linkage net (NotApplicable) p h
-rows_linkage net earlier (Unknown gap) p h = no_nothing p h
-
-rows_strong : (net : Net) (earlier : Earlier) (v : Verdict) (p : Proof) → RowsMayBe net earlier Q2 v p → IsShort p
-rows_strong net earlier (Classes count label) p h = no_strong net (Classes count label) p h
-rows_strong net earlier (Strong count terminal label exit) p h = no_strong net (Strong count terminal label exit) p h
-rows_strong net earlier (Rank rank base) p h = no_strong net (Rank rank base) p h
-rows_strong net earlier (Deficiency total classes) p h = no_strong net (Deficiency total classes) p h
-rows_strong net earlier (Yes) p h = no_strong net (Yes) p h
-rows_strong net earlier (YesWeak weak) p h = no_strong net (YesWeak weak) p h
-rows_strong net earlier (YesVec vector) p h = no_strong net (YesVec vector) p h
-rows_strong net earlier (YesSignal turn shelves mu m weights) p h = no_strong net (YesSignal turn shelves mu m weights) p h
-rows_strong net earlier (No) p h = no_strong net (No) p h
-rows_strong net earlier (NoReaction reaction) p h = no_strong net (NoReaction reaction) p h
-rows_strong net earlier (NoVec multipliers) p h = no_strong net (NoVec multipliers) p h
-rows_strong net earlier (NoNumber number) p h = no_strong net (NoNumber number) p h
-rows_strong net earlier (NoTerminal class count) p h = no_strong net (NoTerminal class count) p h
-rows_strong net earlier (NoClass class number) p h = no_strong net (NoClass class number) p h
-rows_strong net earlier (NoSum total) p h = no_strong net (NoSum total) p h
-rows_strong net earlier (NoDependence) p h = no_strong net (NoDependence) p h
-rows_strong net earlier (NoCycle reaction walk) p h = no_strong net (NoCycle reaction walk) p h
-rows_strong net earlier (NoPair alpha weights) p h = no_strong net (NoPair alpha weights) p h
-rows_strong net earlier (NotRegular) p h = no_strong net (NotRegular) p h
-rows_strong net earlier (OnlyZero) p h = no_strong net (OnlyZero) p h
-rows_strong net earlier (Plane first second one two) p h = no_strong net (Plane first second one two) p h
-rows_strong net earlier (NotApplicable) p h = no_strong net (NotApplicable) p h
-rows_strong net earlier (Unknown gap) p h = no_nothing p h
-
-rows_reversible : (net : Net) (earlier : Earlier) (v : Verdict) (p : Proof) → RowsMayBe net earlier Q3 v p → IsShort p
-rows_reversible net earlier (Classes count label) p h = no_reversible net (Classes count label) p h
-rows_reversible net earlier (Strong count terminal label exit) p h = no_reversible net (Strong count terminal label exit) p h
-rows_reversible net earlier (Rank rank base) p h = no_reversible net (Rank rank base) p h
-rows_reversible net earlier (Deficiency total classes) p h = no_reversible net (Deficiency total classes) p h
-rows_reversible net earlier (Yes) p h = no_reversible net (Yes) p h
-rows_reversible net earlier (YesWeak weak) p h = no_reversible net (YesWeak weak) p h
-rows_reversible net earlier (YesVec vector) p h = no_reversible net (YesVec vector) p h
-rows_reversible net earlier (YesSignal turn shelves mu m weights) p h = no_reversible net (YesSignal turn shelves mu m weights) p h
-rows_reversible net earlier (No) p h = no_reversible net (No) p h
-rows_reversible net earlier (NoReaction reaction) p h = no_reversible net (NoReaction reaction) p h
-rows_reversible net earlier (NoVec multipliers) p h = no_reversible net (NoVec multipliers) p h
-rows_reversible net earlier (NoNumber number) p h = no_reversible net (NoNumber number) p h
-rows_reversible net earlier (NoTerminal class count) p h = no_reversible net (NoTerminal class count) p h
-rows_reversible net earlier (NoClass class number) p h = no_reversible net (NoClass class number) p h
-rows_reversible net earlier (NoSum total) p h = no_reversible net (NoSum total) p h
-rows_reversible net earlier (NoDependence) p h = no_reversible net (NoDependence) p h
-rows_reversible net earlier (NoCycle reaction walk) p h = no_reversible net (NoCycle reaction walk) p h
-rows_reversible net earlier (NoPair alpha weights) p h = no_reversible net (NoPair alpha weights) p h
-rows_reversible net earlier (NotRegular) p h = no_reversible net (NotRegular) p h
-rows_reversible net earlier (OnlyZero) p h = no_reversible net (OnlyZero) p h
-rows_reversible net earlier (Plane first second one two) p h = no_reversible net (Plane first second one two) p h
-rows_reversible net earlier (NotApplicable) p h = no_reversible net (NotApplicable) p h
-rows_reversible net earlier (Unknown gap) p h = no_nothing p h
-
-rows_weak : (net : Net) (earlier : Earlier) (v : Verdict) (p : Proof) → RowsMayBe net earlier Q4 v p → IsShort p
-rows_weak net earlier (Classes count label) p h = no_weak (Classes count label) p h
-rows_weak net earlier (Strong count terminal label exit) p h = no_weak (Strong count terminal label exit) p h
-rows_weak net earlier (Rank rank base) p h = no_weak (Rank rank base) p h
-rows_weak net earlier (Deficiency total classes) p h = no_weak (Deficiency total classes) p h
-rows_weak net earlier (Yes) p h = no_weak (Yes) p h
-rows_weak net earlier (YesWeak weak) p h = no_weak (YesWeak weak) p h
-rows_weak net earlier (YesVec vector) p h = no_weak (YesVec vector) p h
-rows_weak net earlier (YesSignal turn shelves mu m weights) p h = no_weak (YesSignal turn shelves mu m weights) p h
-rows_weak net earlier (No) p h = no_weak (No) p h
-rows_weak net earlier (NoReaction reaction) p h = no_weak (NoReaction reaction) p h
-rows_weak net earlier (NoVec multipliers) p h = no_weak (NoVec multipliers) p h
-rows_weak net earlier (NoNumber number) p h = no_weak (NoNumber number) p h
-rows_weak net earlier (NoTerminal class count) p h = no_weak (NoTerminal class count) p h
-rows_weak net earlier (NoClass class number) p h = no_weak (NoClass class number) p h
-rows_weak net earlier (NoSum total) p h = no_weak (NoSum total) p h
-rows_weak net earlier (NoDependence) p h = no_weak (NoDependence) p h
-rows_weak net earlier (NoCycle reaction walk) p h = no_weak (NoCycle reaction walk) p h
-rows_weak net earlier (NoPair alpha weights) p h = no_weak (NoPair alpha weights) p h
-rows_weak net earlier (NotRegular) p h = no_weak (NotRegular) p h
-rows_weak net earlier (OnlyZero) p h = no_weak (OnlyZero) p h
-rows_weak net earlier (Plane first second one two) p h = no_weak (Plane first second one two) p h
-rows_weak net earlier (NotApplicable) p h = no_weak (NotApplicable) p h
-rows_weak net earlier (Unknown gap) p h = no_nothing p h
-
-rows_rank : (net : Net) (earlier : Earlier) (v : Verdict) (p : Proof) → RowsMayBe net earlier Q5 v p → IsShort p
-rows_rank net earlier (Unknown gap) p h = no_nothing p h
-rows_rank net earlier v p h = no_rank net v p h
-
-rows_deficiency : (net : Net) (earlier : Earlier) (v : Verdict) (p : Proof) → RowsMayBe net earlier Q6 v p → IsShort p
-rows_deficiency net earlier (Unknown gap) p h = no_nothing p h
-rows_deficiency net earlier v p h = no_deficiency net earlier v p h
-
-rows_dependence : (net : Net) (earlier : Earlier) (v : Verdict) (p : Proof) → RowsMayBe net earlier Q7 v p → IsShort p
-rows_dependence net earlier (Unknown gap) p h = no_nothing p h
-rows_dependence net earlier v p h = no_positive (length net.reactions) (length net.names) v p h
-
-rows_conservation : (net : Net) (earlier : Earlier) (v : Verdict) (p : Proof) → RowsMayBe net earlier Q8 v p → IsShort p
-rows_conservation net earlier (Unknown gap) p h = no_nothing p h
-rows_conservation net earlier v p h = no_positive (length net.names) (length net.reactions) v p h
-
-rows_zero : (net : Net) (earlier : Earlier) (v : Verdict) (p : Proof) → RowsMayBe net earlier Q9 v p → IsShort p
-rows_zero net earlier (Unknown gap) p h = no_nothing p h
-rows_zero net earlier v p h = no_zero v p h
-
-rows_one : (net : Net) (earlier : Earlier) (v : Verdict) (p : Proof) → RowsMayBe net earlier Q10 v p → IsShort p
-rows_one net earlier (Unknown gap) p h = no_nothing p h
-rows_one net earlier v p h = no_one v p h
-
-no_regular : (net : Net) (earlier : Earlier) (v : Verdict) (p : Proof) → RowsRegular net earlier v p → IsShort p
-no_regular net earlier Yes (proof.Sides rows) h = tt
-no_regular net earlier Yes p h = absurd h
-no_regular net earlier (NoTerminal class count) (proof.Nothing) h = tt
-no_regular net earlier (NoTerminal class count) p h = absurd h
-no_regular net earlier NoDependence (proof.Nothing) h = tt
-no_regular net earlier NoDependence p h = absurd h
-no_regular net earlier (NoCycle reaction walk) (proof.Nothing) h = tt
-no_regular net earlier (NoCycle reaction walk) p h = absurd h
-no_regular net earlier v p h = absurd h
-
-no_confluence : (net : Net) (earlier : Earlier) (v : Verdict) (p : Proof) → RowsConfluence net earlier v p → IsShort p
-no_confluence net earlier (YesVec vector) (proof.Ties ties) h = tt
-no_confluence net earlier (YesVec vector) p h = absurd h
-no_confluence net earlier NotRegular (proof.Nothing) h = tt
-no_confluence net earlier NotRegular p h = absurd h
-no_confluence net earlier OnlyZero (proof.Ties ties) h = tt
-no_confluence net earlier OnlyZero p h = absurd h
-no_confluence net earlier (Plane first second one two) (proof.Nothing) h = tt
-no_confluence net earlier (Plane first second one two) p h = absurd h
-no_confluence net earlier v p h = absurd h
-
-rows_regular : (net : Net) (earlier : Earlier) (v : Verdict) (p : Proof) → RowsMayBe net earlier Q11 v p → IsShort p
-rows_regular net earlier (Unknown gap) p h = no_nothing p h
-rows_regular net earlier v p h = no_regular net earlier v p h
-
-rows_confluence : (net : Net) (earlier : Earlier) (v : Verdict) (p : Proof) → RowsMayBe net earlier Q12 v p → IsShort p
-rows_confluence net earlier (Unknown gap) p h = no_nothing p h
-rows_confluence net earlier v p h = no_confluence net earlier v p h
-
 -- ---- formed answers to the first two questions have no sides
 
 sees_nothing : (p : Proof) → p ≡ proof.Nothing → SeesNoPairs p
@@ -454,11 +101,11 @@ sees_second net earlier (Unknown gap) p h = sees_nothing p h
 sees_second net earlier v p h = sees_strong net v p h
 
 -- a formed answer to the question has no trees
-abbrev IsShortQuestion : Question → Type 0
-IsShortQuestion q = (net : Net) (earlier : Earlier) (v : Verdict) (p : Proof) → RowsMayBe net earlier q v p → IsShort p
+abbrev pub IsShortQuestion : Question → Type 0
+IsShortQuestion q = (net : Net) (earlier : Earlier) (v : Verdict) (p : Proof) → RowsMayBe net earlier q v p → IsTreeless p
 
 -- the same of each question but those on concordance, whose answers may have a tree
-abbrev ShortFor : Question → Type 0
+abbrev pub ShortFor : Question → Type 0
 ShortFor Q14 = Unit {0}
 ShortFor Q15 = Unit {0}
 ShortFor q = IsShortQuestion q
@@ -468,7 +115,7 @@ record IsPlainFor (q : Question) : Type 0 where
   cuts : (net : Net) (earlier : Earlier) (v : Verdict) (p : Proof) → 1 ≤ length net.names → length net.names ≤ MAX_NUMBERS → RowsMayBe net earlier q v p → AllByRecursion (IsShareable MAX_NUMBERS) (cuts_in p)
 
 -- a proof without trees has no cuts
-no_cuts : (p : Proof) → IsShort p → cuts_in p ≡ []
+no_cuts : (p : Proof) → IsTreeless p → cuts_in p ≡ []
 no_cuts proof.Nothing h = refl
 no_cuts (proof.Forest up depth) h = refl
 no_cuts (proof.Strong from from_depth to to_depth level) h = refl
@@ -485,11 +132,11 @@ short_plain q s = record {
   cuts = λ net earlier v p some few h. subst (AllByRecursion (IsShareable MAX_NUMBERS)) (sym (no_cuts p (s net earlier v p h))) tt;
 }
 
-concordant_rows : (net : Net) (earlier : Earlier) (v : Verdict) (p : Proof) → RowsMayBe net earlier Q14 v p → TableRows net v p
+pub concordant_rows : (net : Net) (earlier : Earlier) (v : Verdict) (p : Proof) → RowsMayBe net earlier Q14 v p → TableRows net v p
 concordant_rows net earlier (Unknown gap) p h = h
 concordant_rows net earlier v p h = h
 
-strongly_rows : (net : Net) (earlier : Earlier) (v : Verdict) (p : Proof) → RowsMayBe net earlier Q15 v p → TableRows net v p
+pub strongly_rows : (net : Net) (earlier : Earlier) (v : Verdict) (p : Proof) → RowsMayBe net earlier Q15 v p → TableRows net v p
 strongly_rows net earlier (Unknown gap) p h = h
 strongly_rows net earlier v p h = h
 
@@ -533,14 +180,14 @@ cuts_by net earlier (q ∷ qs) (a ∷ xs) some few s h =
     let cuts = p.cuts in
     both_all (IsShareable MAX_NUMBERS) (cuts_in a.proof) (all_cuts xs) (cuts net earlier a.verdict a.proof some few h.0.1) (cuts_by net (earlier ++ (q, a.verdict) ∷ []) qs xs some few s.1 h.1)
 
-built_short : AllByRecursion ShortFor built
-built_short = (rows_linkage, (rows_strong, (rows_reversible, (rows_weak, (rows_rank, (rows_deficiency, (rows_dependence, (rows_conservation, (rows_zero, (rows_one, (rows_regular, (rows_confluence, tt))))))))))))
+pub built_short : AllByRecursion ShortFor built
+built_short = (rows_linkage, (rows_strong, (rows_reversible, (rows_weak, (rows_rank, (rows_deficiency, (rows_dependence, (rows_conservation, (rows_zero, (rows_one, (rows_regular, (rows_confluence, (tt, (tt, tt))))))))))))))
 
 -- the cuts of formed answers of a network may be shared
 pub cuts_shareable : (net : Net) (xs : List Answer) → IsNetwork net → AreFormed net [] built xs → AllByRecursion (IsShareable MAX_NUMBERS) (all_cuts xs)
 cuts_shareable net xs n h = cuts_by net [] built xs (some_species net n) (few_species net n) built_short h
 
--- there are xs many answers xs questions
+-- there are as many answers as questions
 pub as_many : (net : Net) (earlier : Earlier) (qs : List Question) (xs : List Answer) → AreFormed net earlier qs xs → length xs ≡ length qs
 as_many net earlier [] [] h = refl
 as_many net earlier [] (a ∷ xs) h = absurd h
@@ -595,7 +242,7 @@ all_written net (a ∷ b ∷ xs) h =
       same_rows (shapes_of start) (shapes_with pairs) a.proof (sees_first net [] a.verdict a.proof h.0.1),
       (
         same_rows (shapes_of (after_answer Q1 start a)) (shapes_with pairs) b.proof (sees_second net ((Q1, a.verdict) ∷ []) b.verdict b.proof h.1.0.1),
-        written_after pairs (Q3 ∷ Q4 ∷ Q5 ∷ Q6 ∷ Q7 ∷ Q8 ∷ Q9 ∷ Q10 ∷ Q11 ∷ Q12 ∷ []) (after_answer Q2 (after_answer Q1 start a) b) xs p.0 p.1,
+        written_after pairs (Q3 ∷ Q4 ∷ Q5 ∷ Q6 ∷ Q7 ∷ Q8 ∷ Q9 ∷ Q10 ∷ Q11 ∷ Q12 ∷ Q14 ∷ Q15 ∷ []) (after_answer Q2 (after_answer Q1 start a) b) xs p.0 p.1,
       ),
     )
 
@@ -615,50 +262,37 @@ headed_blocks pairs (q ∷ qs) known (a ∷ xs) h =
     ap (λ (t : List Record). (map section (opens q) ++ t) ++ in_sections qs (all_records meaning qs (after_answer q known a) xs)) (same_records q (shapes_of known) (shapes_with pairs) a h.0)
     ∙ ap (λ (t : List Record). (map section (opens q) ++ records q (shapes_with pairs) a) ++ t) (headed_blocks pairs qs (after_answer q known a) xs h.1)
 
-built_blocks : (sections : Bool) (pairs : List ℕ) (xs : List Answer) → length xs ≡ length built → blocks sections pairs built xs ≡ blocks sections pairs questions xs
-built_blocks sections pairs xs e = ap (λ (n : ℕ). blocks sections pairs (take n questions) xs) (sym e) ∙ blocks_short sections pairs questions xs
-
 -- the records of a document in version 1 are those of the blocks
-pub records_are : (net : Net) (xs : List Answer) → AreFormed net [] built xs → flat_map (λ (rs : List Record). rs) (records_of net xs) ≡ blocks false (pairs_in net xs) questions xs
-records_are net xs h = flat_blocks (pairs_in net xs) built (meaning.start net) xs (all_written net xs h) ∙ built_blocks false (pairs_in net xs) xs (as_many net [] built xs h)
+pub records_are : (net : Net) (xs : List Answer) → AreFormed net [] built xs → flat_map (λ (rs : List Record). rs) (records_of net xs) ≡ blocks false (pairs_in net xs) built xs
+records_are net xs h = flat_blocks (pairs_in net xs) built (meaning.start net) xs (all_written net xs h)
 
 -- and in version 2
-pub headed_are : (net : Net) (xs : List Answer) → AreFormed net [] built xs → in_sections built (records_of net xs) ≡ blocks true (pairs_in net xs) questions xs
-headed_are net xs h = headed_blocks (pairs_in net xs) built (meaning.start net) xs (all_written net xs h) ∙ built_blocks true (pairs_in net xs) xs (as_many net [] built xs h)
+pub headed_are : (net : Net) (xs : List Answer) → AreFormed net [] built xs → in_sections built (records_of net xs) ≡ blocks true (pairs_in net xs) built xs
+headed_are net xs h = headed_blocks (pairs_in net xs) built (meaning.start net) xs (all_written net xs h)
 
 -- ---- documents
 
 -- a document with these pairs: its opening, the lines of its blocks, and its last line
 pub document_lines : (net : Net) (xs : List Answer) (pairs : List ℕ) → AreFormed net [] built xs → pairs ≡ pairs_in net xs
-    → document net (records_of net xs) ≡ (opening 1 net ++ record_lines (written [] (blocks false pairs questions xs))) ++ codes "end\n"
+    → document net (records_of net xs) ≡ (opening 1 net ++ record_lines (written [] (blocks false pairs built xs))) ++ codes "end\n"
 document_lines net xs pairs h e =
-    ap (λ (t : List Record). (opening 1 net ++ record_lines t) ++ codes "end\n") (records_are net xs h ∙ sym (written_none (blocks false (pairs_in net xs) questions xs)))
-    ∙ ap (λ (ps : List ℕ). (opening 1 net ++ record_lines (written [] (blocks false ps questions xs))) ++ codes "end\n") (sym e)
+    ap (λ (t : List Record). (opening 1 net ++ record_lines t) ++ codes "end\n") (records_are net xs h ∙ sym (written_none (blocks false (pairs_in net xs) built xs)))
+    ∙ ap (λ (ps : List ℕ). (opening 1 net ++ record_lines (written [] (blocks false ps built xs))) ++ codes "end\n") (sym e)
 
 four : (a b c d : List ℕ) → (a ++ (b ++ c)) ++ d ≡ ((a ++ b) ++ c) ++ d
 four a b c d = simp append_assoc
 
 -- in version 2 with the lines of its table
 pub document2_lines : (net : Net) (xs : List Answer) (pairs : List ℕ) (share : Share) → AreFormed net [] built xs → pairs ≡ pairs_in net xs
-    → document2 built net (records_of net xs) share ≡ ((opening 2 net ++ record_lines (table_records share.table)) ++ record_lines (written share.leaf (blocks true pairs questions xs))) ++ codes "end\n"
+    → document2 built net (records_of net xs) share ≡ ((opening 2 net ++ record_lines (table_records share.table)) ++ record_lines (written share.leaf (blocks true pairs built xs))) ++ codes "end\n"
 document2_lines net xs pairs share h e =
-    let all = blocks true (pairs_in net xs) questions xs in
+    let all = blocks true (pairs_in net xs) built xs in
     ap (λ (t : List Record). (opening 2 net ++ record_lines (table_records share.table ++ written share.leaf t)) ++ codes "end\n") (headed_are net xs h)
     ∙ ap (λ (t : List ℕ). (opening 2 net ++ t) ++ codes "end\n") (lines_append (table_records share.table) (written share.leaf all))
     ∙ four (opening 2 net) (record_lines (table_records share.table)) (record_lines (written share.leaf all)) (codes "end\n")
-    ∙ ap (λ (ps : List ℕ). ((opening 2 net ++ record_lines (table_records share.table)) ++ record_lines (written share.leaf (blocks true ps questions xs))) ++ codes "end\n") (sym e)
+    ∙ ap (λ (ps : List ℕ). ((opening 2 net ++ record_lines (table_records share.table)) ++ record_lines (written share.leaf (blocks true ps built xs))) ++ codes "end\n") (sym e)
 
 -- ---- cut leaves
-
-none_of_all : (net : Net) (earlier : Earlier) (qs : List Question) (xs : List Answer) → AllByRecursion IsShortQuestion qs → AreFormed net earlier qs xs → all_cuts xs ≡ []
-none_of_all net earlier [] [] s h = refl
-none_of_all net earlier [] (a ∷ xs) s h = absurd h
-none_of_all net earlier (q ∷ qs) [] s h = absurd h
-none_of_all net earlier (q ∷ qs) (a ∷ xs) s h = ap (λ (t : List (List ℤ)). t ++ all_cuts xs) (no_cuts a.proof (s.0 net earlier a.verdict a.proof h.0.1)) ∙ none_of_all net (earlier ++ (q, a.verdict) ∷ []) qs xs s.1 h.1
-
--- formed answers to the questions that are built have no cuts
-pub built_cuts : (net : Net) (xs : List Answer) → AreFormed net [] built xs → all_cuts xs ≡ []
-built_cuts net xs h = none_of_all net [] built xs built_short h
 
 -- the lists of the cut leaves of records are those of the trees' cuts
 cuts_append : (xs ys : List Record) → cut_lists (xs ++ ys) ≡ cut_lists xs ++ cut_lists ys
@@ -713,7 +347,7 @@ blocks_cuts pairs (q ∷ qs) (a ∷ xs) h =
 -- the lists of the cut leaves of formed answers' records are those of the answers' cuts
 pub records_cuts : (net : Net) (xs : List Answer) → AreFormed net [] built xs → cut_lists (flat_map (λ (rs : List Record). rs) (records_of net xs)) ≡ all_cuts xs
 records_cuts net xs h =
-    ap cut_lists (records_are net xs h) ∙ blocks_cuts (pairs_in net xs) questions xs (let e = as_many net [] built xs h in omega (arith, e))
+    ap cut_lists (records_are net xs h) ∙ blocks_cuts (pairs_in net xs) built xs (let e = as_many net [] built xs h in omega (arith, e))
 
 -- ---- shares
 

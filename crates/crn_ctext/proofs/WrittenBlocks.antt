@@ -1,8 +1,10 @@
 -- The records of answers, block by block: which of them are no cut leaves, and how they are written one after another.
-use Rattle.std.proofs.Common.{Some, slice_get, take_all, ◌≡◌, ◌≢◌, ℕ, zero, suc, ◌+◌, ◌-◌, ◌<◌, ◌≤◌, ℤ, pos, Bool, true, false, List, [], ◌∷◌, ◌++◌, length, map, take, drop, get_or, codes, refl, sym, ap, ◌∙◌, append_assoc, add-one, arith}
+use Rattle.std.proofs.Common.{Some, slice_get, take_all, ◌≡◌, ℕ, zero, suc, ◌+◌, ◌-◌, ◌<◌, ◌≤◌, ℤ, Bool, true, false, List, [], ◌∷◌, ◌++◌, length, map, take, get_or, codes, refl, sym, ap, ◌∙◌, append_assoc, add-one, arith}
 use Rattle.std.specs.List.{AllByRecursion, flat_map}
 use Rattle.std.proofs.lemmas.List.{append-nil}
-use Rattle.crn_cert.specs.Questions.{Question, Q1, Q2, Q3, Q4, Q5, Q6, Q7, Q8, Q9, Q10, Q11, Q12, Q13, Q14, Q15, questions}
+use Rattle.crn_cert.specs.Questions.{Question, Q1, Q2, Q3, Q4, Q5, Q6, Q7, Q8, Q9, Q10, Q11, Q12, Q13, Q14, Q15, number}
+use Rattle.crn_cert.specs.Built.{built}
+use Rattle.crn_cert.proofs.CallerLemmas.{numbered, some_number, few_numbers}
 use Rattle.crn_cert.specs.declared.answer.Verdict.{Verdict}
 use Rattle.crn_cert.specs.declared.answer.Verdict.TheVariants.{Classes, Strong, Rank, Deficiency, Yes, YesWeak, YesVec, YesSignal, No, NoReaction, NoVec, NoNumber, NoTerminal, NoClass, NoSum, NoDependence, NoCycle, NoPair, NotRegular, OnlyZero, Plane, NotApplicable, Unknown}
 use Rattle.crn_cert.specs.declared.answer.RankProof.{RankProof}
@@ -15,7 +17,7 @@ use Rattle.crn_ctext.specs.Answers.{head_of, head_with, verdict_records, later_r
 use Rattle.crn_ctext.specs.Documents.{record_lines, written, one_word}
 use Rattle.crn_ctext.specs.Inner.Written.{shapes_with, leaves_after, headings, block, blocks, question_at, head_words, head_numbers}
 use Rattle.crn_ctext.proofs.WrittenLines.{head_is, lines_append, element_at}
-use Rattle.crn_ctext.proofs.WrittenLeaves.{IsPlain, written_append, leaves_append, written_lines, plain_written, plain_leaves}
+use Rattle.crn_ctext.proofs.WrittenLeaves.{IsPlain, leaves_append, written_lines, plain_written, plain_leaves}
 
 -- ---- records that are no cut leaves
 
@@ -238,49 +240,57 @@ blocks_short sections pairs (q ∷ qs) (a ∷ xs) = ap (λ (t : List Record). bl
 before_one : (k : ℕ) → k + 1 - 1 ≡ k
 before_one k = omega arith
 
-at_question : (k : ℕ) → question_at (k + 1) ≡ get_or questions k Q1
-at_question k = ap (λ (j : ℕ). get_or questions j Q1) (before_one k)
+-- the question of the number at a place
+pub at_question : (k n : ℕ) → n ≡ number (get_or built (k + 1 - 1) Q1) → question_at n ≡ get_or built k Q1
+at_question k n e = ap question_at e ∙ numbered (get_or built (k + 1 - 1) Q1) ∙ ap (λ (j : ℕ). get_or built j Q1) (before_one k)
+
+-- a number of a question is from 1 to 15
+pub number_some : (q : Question) (n : ℕ) → n ≡ number q → 1 ≤ n
+number_some q n e = omega (arith, e, some_number q)
+
+pub number_few : (q : Question) (n : ℕ) → n ≡ number q → n ≤ 15
+number_few q n e = omega (arith, e, few_numbers q)
 
 at_answer : (xs : List Answer) (k : ℕ) (a : Answer) → slice_get xs (k + 1 - 1) ≡ Some a → (k < length xs) × (get_or xs k a ≡ a)
 at_answer xs k a e = element_at xs k a (ap (λ (j : ℕ). slice_get xs j) (sym (before_one k)) ∙ e)
 
 -- what is written of the answers, one block more
-pub one_more : (leaf rest : List ℕ) (sections : Bool) (pairs : List ℕ) (xs : List Answer) (k : ℕ) (a : Answer) → k < 15 → slice_get xs (k + 1 - 1) ≡ Some a → rest ≡ leaves_after (blocks sections pairs (take k questions) (take k xs)) leaf
-    → record_lines (written leaf (blocks sections pairs (take (k + 1) questions) (take (k + 1) xs))) ≡ record_lines (written leaf (blocks sections pairs (take k questions) (take k xs))) ++ record_lines (written rest (block sections pairs (question_at (k + 1)) a))
-one_more leaf rest sections pairs xs k a few e f =
+pub one_more : (leaf rest : List ℕ) (sections : Bool) (pairs : List ℕ) (qs : List Question) (xs : List Answer) (k : ℕ) (q : Question) (a : Answer) → k < length qs → q ≡ get_or qs k Q1 → slice_get xs (k + 1 - 1) ≡ Some a → rest ≡ leaves_after (blocks sections pairs (take k qs) (take k xs)) leaf
+    → record_lines (written leaf (blocks sections pairs (take (k + 1) qs) (take (k + 1) xs))) ≡ record_lines (written leaf (blocks sections pairs (take k qs) (take k xs))) ++ record_lines (written rest (block sections pairs q a))
+one_more leaf rest sections pairs qs xs k q a few here e f =
     let at = at_answer xs k a e in
-    let done = record_lines (written leaf (blocks sections pairs (take k questions) (take k xs))) in
-    blocks_step leaf sections pairs questions xs k Q1 a few at.0
-    ∙ ap (λ (r : List ℕ). done ++ record_lines (written r (block sections pairs (get_or questions k Q1) (get_or xs k a)))) (sym f)
-    ∙ ap (λ (q : Question). done ++ record_lines (written rest (block sections pairs q (get_or xs k a)))) (sym (at_question k))
-    ∙ ap (λ (x : Answer). done ++ record_lines (written rest (block sections pairs (question_at (k + 1)) x))) at.1
+    let done = record_lines (written leaf (blocks sections pairs (take k qs) (take k xs))) in
+    blocks_step leaf sections pairs qs xs k Q1 a few at.0
+    ∙ ap (λ (r : List ℕ). done ++ record_lines (written r (block sections pairs (get_or qs k Q1) (get_or xs k a)))) (sym f)
+    ∙ ap (λ (o : Question). done ++ record_lines (written rest (block sections pairs o (get_or xs k a)))) (sym here)
+    ∙ ap (λ (x : Answer). done ++ record_lines (written rest (block sections pairs q x))) at.1
 
 -- the numbers of the leaves after it
-pub leaves_more : (leaf rest : List ℕ) (sections : Bool) (pairs : List ℕ) (xs : List Answer) (k : ℕ) (a : Answer) → k < 15 → slice_get xs (k + 1 - 1) ≡ Some a → rest ≡ leaves_after (blocks sections pairs (take k questions) (take k xs)) leaf
-    → leaves_after (block sections pairs (question_at (k + 1)) a) rest ≡ leaves_after (blocks sections pairs (take (k + 1) questions) (take (k + 1) xs)) leaf
-leaves_more leaf rest sections pairs xs k a few e f =
+pub leaves_more : (leaf rest : List ℕ) (sections : Bool) (pairs : List ℕ) (qs : List Question) (xs : List Answer) (k : ℕ) (q : Question) (a : Answer) → k < length qs → q ≡ get_or qs k Q1 → slice_get xs (k + 1 - 1) ≡ Some a → rest ≡ leaves_after (blocks sections pairs (take k qs) (take k xs)) leaf
+    → leaves_after (block sections pairs q a) rest ≡ leaves_after (blocks sections pairs (take (k + 1) qs) (take (k + 1) xs)) leaf
+leaves_more leaf rest sections pairs qs xs k q a few here e f =
     let at = at_answer xs k a e in
-    sym (leaves_step leaf sections pairs questions xs k Q1 a few at.0
-    ∙ ap (λ (r : List ℕ). leaves_after (block sections pairs (get_or questions k Q1) (get_or xs k a)) r) (sym f)
-    ∙ ap (λ (q : Question). leaves_after (block sections pairs q (get_or xs k a)) rest) (sym (at_question k))
-    ∙ ap (λ (x : Answer). leaves_after (block sections pairs (question_at (k + 1)) x) rest) at.1)
+    sym (leaves_step leaf sections pairs qs xs k Q1 a few at.0
+    ∙ ap (λ (r : List ℕ). leaves_after (block sections pairs (get_or qs k Q1) (get_or xs k a)) r) (sym f)
+    ∙ ap (λ (o : Question). leaves_after (block sections pairs o (get_or xs k a)) rest) (sym here)
+    ∙ ap (λ (x : Answer). leaves_after (block sections pairs q x) rest) at.1)
 
 -- and what is left to write
-pub one_of : (leaf rest : List ℕ) (sections : Bool) (pairs : List ℕ) (xs : List Answer) (k : ℕ) (a : Answer) → k < 15 → slice_get xs (k + 1 - 1) ≡ Some a → rest ≡ leaves_after (blocks sections pairs (take k questions) (take k xs)) leaf
-    → (more : List ℕ) × (record_lines (written leaf (blocks sections pairs questions xs)) ≡ (record_lines (written leaf (blocks sections pairs (take k questions) (take k xs))) ++ record_lines (written rest (block sections pairs (question_at (k + 1)) a))) ++ more)
-one_of leaf rest sections pairs xs k a few e f =
+pub one_of : (leaf rest : List ℕ) (sections : Bool) (pairs : List ℕ) (qs : List Question) (xs : List Answer) (k : ℕ) (q : Question) (a : Answer) → k < length qs → q ≡ get_or qs k Q1 → slice_get xs (k + 1 - 1) ≡ Some a → rest ≡ leaves_after (blocks sections pairs (take k qs) (take k xs)) leaf
+    → (more : List ℕ) × (record_lines (written leaf (blocks sections pairs qs xs)) ≡ (record_lines (written leaf (blocks sections pairs (take k qs) (take k xs))) ++ record_lines (written rest (block sections pairs q a))) ++ more)
+one_of leaf rest sections pairs qs xs k q a few here e f =
     let at = at_answer xs k a e in
-    let done = record_lines (written leaf (blocks sections pairs (take k questions) (take k xs))) in
-    let h = blocks_lines leaf sections pairs questions xs k Q1 a few at.0 in (
+    let done = record_lines (written leaf (blocks sections pairs (take k qs) (take k xs))) in
+    let h = blocks_lines leaf sections pairs qs xs k Q1 a few at.0 in (
       h.0,
       h.1
-          ∙ ap (λ (r : List ℕ). (done ++ record_lines (written r (block sections pairs (get_or questions k Q1) (get_or xs k a)))) ++ h.0) (sym f)
-          ∙ ap (λ (q : Question). (done ++ record_lines (written rest (block sections pairs q (get_or xs k a)))) ++ h.0) (sym (at_question k))
-          ∙ ap (λ (x : Answer). (done ++ record_lines (written rest (block sections pairs (question_at (k + 1)) x))) ++ h.0) at.1,
+          ∙ ap (λ (r : List ℕ). (done ++ record_lines (written r (block sections pairs (get_or qs k Q1) (get_or xs k a)))) ++ h.0) (sym f)
+          ∙ ap (λ (o : Question). (done ++ record_lines (written rest (block sections pairs o (get_or xs k a)))) ++ h.0) (sym here)
+          ∙ ap (λ (x : Answer). (done ++ record_lines (written rest (block sections pairs q x))) ++ h.0) at.1,
     )
 
 -- all answers
-pub all_done : (leaf : List ℕ) (sections : Bool) (pairs : List ℕ) (xs : List Answer) (k : ℕ) → k ≡ length xs
-    → record_lines (written leaf (blocks sections pairs questions xs)) ≡ record_lines (written leaf (blocks sections pairs (take k questions) (take k xs)))
-all_done leaf sections pairs xs k e =
-    ap (λ (t : List Record). record_lines (written leaf t)) (sym (blocks_short sections pairs questions xs) ∙ ap (λ (t : List Answer). blocks sections pairs (take (length xs) questions) t) (sym (take_all (length xs) xs (omega arith))) ∙ ap (λ (n : ℕ). blocks sections pairs (take n questions) (take n xs)) (sym e))
+pub all_done : (leaf : List ℕ) (sections : Bool) (pairs : List ℕ) (qs : List Question) (xs : List Answer) (k : ℕ) → k ≡ length xs
+    → record_lines (written leaf (blocks sections pairs qs xs)) ≡ record_lines (written leaf (blocks sections pairs (take k qs) (take k xs)))
+all_done leaf sections pairs qs xs k e =
+    ap (λ (t : List Record). record_lines (written leaf t)) (sym (blocks_short sections pairs qs xs) ∙ ap (λ (t : List Answer). blocks sections pairs (take (length xs) qs) t) (sym (take_all (length xs) xs (omega arith))) ∙ ap (λ (n : ℕ). blocks sections pairs (take n qs) (take n xs)) (sym e))

@@ -3,12 +3,14 @@
 use Rattle.std.specs.Prelude.{◌≡◌, ◌↔◌, ℕ, List, [], ◌∷◌}
 use Rattle.std.specs.Global.{Global}
 use Rattle.crn_vec.specs.Network.{Net, IsNetwork}
+use Rattle.crn_vec.specs.declared.limits.TheConstants.{MAX_BUDGET}
 use Rattle.crn_cert.specs.declared.answer.Verdict.{Verdict}
 use Rattle.crn_cert.specs.declared.answer.Answer.{Answer}
 use Rattle.crn_cert.specs.Questions.{Question}
 use Rattle.crn_cert.specs.Answers.{verdicts_of}
 use Rattle.crn_cert.specs.Law.{IsTrueOrOpen}
 use Rattle.crn_cert.specs.Formed.{AreFormed}
+use Rattle.crn_cert.specs.TreeSizes.{HaveFewNodes}
 use Rattle.crn_cert.specs.Valid.{AreValid}
 use Rattle.crn_ctext.specs.Records.{Record}
 use Rattle.crn_ctext.specs.Documents as documents
@@ -63,11 +65,12 @@ abbrev pub ReadDocumentsAreTrue : Type 0
 ReadDocumentsAreTrue = Global → (bytes : List ℕ) (read : ReadOf) → IsReadOf bytes read
     → IsNetwork read.net × AreSound read.net built (verdicts_said built (meaning.start read.net) read.blocks)
 
--- the document of a network and of valid answers is a good one
+-- the document of a network and of valid answers, whose trees have no more nodes than a budget may
+-- allow, is a good one
 abbrev pub WrittenDocumentsAreGood : Type 0
 WrittenDocumentsAreGood =
     (net : Net) (answers : List Answer) → IsNetwork net → AreFormed net [] built answers
-    → AreValid net [] built answers
+    → AreValid net [] built answers → HaveFewNodes MAX_BUDGET answers
     → IsGoodOf net (records_of net answers) (document net (records_of net answers))
 
 -- so it is with each share that fits the answers
@@ -75,7 +78,7 @@ abbrev pub SharedDocumentsAreGood : Type 0
 SharedDocumentsAreGood =
     (net : Net) (answers : List Answer) (share : Share) → IsNetwork net
     → AreFormed net [] built answers → AreValid net [] built answers
-    → FitsShare (records_of net answers) share
+    → HaveFewNodes MAX_BUDGET answers → FitsShare (records_of net answers) share
     → IsGoodOf net (records_of net answers) (document2 built net (records_of net answers) share)
 
 -- the share that `certify` writes fits formed answers of a network

@@ -7,7 +7,7 @@ use Rattle.crn_io.specs.declared.lines.TheConstants.{MAX_SHARED, MAX_NUMBERS}
 use Rattle.crn_cert.specs.declared.answer.Answer.{Answer}
 use Rattle.crn_cert.specs.Built.{built}
 use Rattle.crn_cert.specs.Formed.{AreFormed}
-use Rattle.crn_cert.specs.Shares.{Shared, FitsAnswers, all_cuts, share_of}
+use Rattle.crn_cert.specs.Shares.{Shared, FitsAnswers, share_of}
 use Rattle.crn_ctext.specs.Documents as documents
 use Rattle.crn_ctext.specs.Documents.{Share, FitsShare}
 use Rattle.crn_ctext.specs.Linked.{records_of}
@@ -27,8 +27,3 @@ SharesFitRecords = (net : Net) (answers : List Answer) (share : Shared)
     → AreFormed net [] built answers
     → FitsAnswers MAX_SHARED MAX_NUMBERS answers share
     ↔ FitsShare (records_of net answers) (as_share share)
-
--- formed answers to the questions that are answered so far have no cuts
-abbrev pub BuiltAnswersHaveNoCuts : Type 0
-BuiltAnswersHaveNoCuts = (net : Net) (answers : List Answer) → AreFormed net [] built answers
-    → all_cuts answers ≡ []

@@ -1,6 +1,8 @@
 ghost use Rattle.std.specs.Prelude.{◌≡◌, ◌<◌, ◌^◌, [], length};
 ghost use Rattle.crn_cert.specs.Built.{built};
 ghost use Rattle.crn_cert.specs.Formed.{AreFormed};
+ghost use Rattle.crn_cert.specs.TreeSizes.{HaveFewNodes};
+ghost use Rattle.crn_vec.specs.declared.limits.TheConstants.{MAX_BUDGET};
 ghost use Rattle.crn_io.specs.Push.{PushGives};
 ghost use Rattle.crn_ctext.specs.Documents.{document, document2, Share as Said, FitsShare};
 ghost use Rattle.crn_ctext.specs.Linked.{records_of};
@@ -40,6 +42,7 @@ impl Sink for Counter {
 /// The number of bytes of the document in version 1. Takes no memory.
 pub fn document_length(net: &Network, answers: &Answers) -> u64
     requires formed { AreFormed net.now [] built answers.now }
+    requires few { HaveFewNodes MAX_BUDGET answers.now }
     ensures { result ≡ length (document net.now (records_of net.now answers.now)) }
 {
     // It is called for what it says of the network: no network is larger than its limits.
@@ -55,6 +58,7 @@ pub fn document_length(net: &Network, answers: &Answers) -> u64
 /// The number of bytes of the document in version 2 with this share. Takes no memory.
 pub fn document2_length(net: &Network, answers: &Answers, share: &Share) -> u64
     requires formed { AreFormed net.now [] built answers.now }
+    requires few { HaveFewNodes MAX_BUDGET answers.now }
     requires fits { let said : Said = record { table = share.now.table; leaf = share.now.leaf.list }
         in FitsShare (records_of net.now answers.now) said }
     ensures { let said : Said = record { table = share.now.table; leaf = share.now.leaf.list } in

@@ -1,7 +1,6 @@
 ghost use Rattle.std.specs.Prelude.{◌≡◌, ◌≤◌, [], IfOk, length};
 ghost use Rattle.crn_cert.specs.Built.{built};
 ghost use Rattle.crn_cert.specs.Formed.{AreFormed};
-ghost use Rattle.crn_cert.specs.Questions.{questions};
 ghost use Rattle.crn_io.specs.Write.{Wrote};
 ghost use Rattle.crn_ctext.specs.Answers.{records};
 ghost use Rattle.crn_ctext.specs.Documents.{document, document2, opening, record_lines, table_records, written, Share as Said};
@@ -13,7 +12,7 @@ use crate::write_pairs::find_pairs;
 use crate::write_record::put_rows;
 use crate::write_rows::{put_exits, put_proof, put_verdict};
 use crate::write_tree::put_trees;
-use crn_cert::{Answer, Answers, Rows, Share};
+use crn_cert::{Answer, Answers, Rows, Share, question_number};
 use crn_io::{Sink, WriteFault, put_all, put_parts};
 use crn_net::Network;
 use crn_vec::MAX_REACTIONS;
@@ -106,7 +105,7 @@ fn put_block<'a, K: Sink>(
     put_answer(sink, question, pairs, answer, leaf)
 }
 
-// The blocks of all answers. `pairs` has the least reactions of the pairs whose sides they may hold.
+// The blocks of answers to the built questions, in their order. `pairs` has the least reactions of the pairs whose sides they may hold.
 fn put_answers<K: Sink>(
     sink: &mut K,
     sections: bool,
@@ -114,12 +113,14 @@ fn put_answers<K: Sink>(
     answers: &Answers,
     leaf: &[u32],
 ) -> Result<(), WriteFault>
-    ensures { let rs = blocks sections pairs.now questions answers.now in
+    requires { length answers.now ≤ length built }
+    ensures { let rs = blocks sections pairs.now built answers.now in
         Wrote (record_lines (written leaf.now rs)) (K.seen sink.old) (K.seen sink.new) result }
 {
     let mut rest = leaf;
     for k in 0..answers.len() {
-        rest = put_block(sink, sections, k + 1, pairs, answers.get(k + 1), rest)?;
+        let question = question_number(k + 1);
+        rest = put_block(sink, sections, question, pairs, answers.get(k + 1), rest)?;
     }
     Ok(())
 }

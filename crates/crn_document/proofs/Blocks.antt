@@ -1,5 +1,5 @@
 -- The tests of a block, in the words of a document's course, and what is known after it.
-use Rattle.std.proofs.Common.{◌≡◌, ◌≤◌, ◌+◌, ◌-◌, ◌++◌, ◌∙◌, ℕ, zero, suc, Bool, true, false, ◌==◌, ◌&&◌, List, [], ◌∷◌, length, map, take, replicate, refl, sym, subst, ap, ap₂, inl, inr, arith}
+use Rattle.std.proofs.Common.{◌≡◌, ◌≤◌, ◌+◌, ◌-◌, ◌++◌, ◌∙◌, ℕ, zero, suc, Bool, true, false, ◌==◌, ◌&&◌, List, [], ◌∷◌, length, map, replicate, refl, sym, subst, ap, ap₂, inl, inr, arith, Result}
 use Rattle.std.specs.Prelude.{ℤ, if◌then◌else◌}
 use Rattle.std.specs.List.{AllByRecursion, AllZip, flat_map}
 use Rattle.std.proofs.lemmas.List.{length-map}
@@ -7,34 +7,40 @@ use Rattle.crn_io.specs.Lines.{Place}
 use Rattle.crn_vec.specs.Network.{Net}
 use Rattle.crn_vec.specs.declared.limits.TheConstants.{MAX_COMPLEXES}
 use Rattle.crn_cert.specs.declared.answer.Verdict.{Verdict}
+use Rattle.crn_cert.specs.declared.answer.Verdict.TheVariants.{Yes}
 use Rattle.crn_cert.specs.declared.answer.Proof.{Proof}
+use Rattle.crn_cert.specs.declared.answer.Proof.TheVariants.{Nothing}
 use Rattle.crn_cert.specs.declared.answer.Answer.{Answer}
-use Rattle.crn_cert.specs.Questions.{Earlier, Question}
+use Rattle.crn_cert.specs.Questions.{Earlier, Question, Q14, Q15}
 use Rattle.crn_cert.specs.Tests.{Test, AllHold, FailsFirst}
 use Rattle.crn_cert.specs.Valid.{exits, head_tests, linkage, linkage_count, row_tests, strong, tests_of}
 use Rattle.crn_pairs.specs.Pairs.{pairs_to}
 use Rattle.crn_cert.specs.Formed.{IsFormed, IsFormedOf}
 use Rattle.crn_ctext.specs.Records.{Record, Form, Fits}
-use Rattle.crn_ctext.specs.Questions.{Shapes}
+use Rattle.crn_ctext.specs.Questions.{Shapes, later_numbers}
 use Rattle.crn_ctext.specs.Course.{Course, Give, ◌>>=◌, Gives}
 use Rattle.crn_ctext.specs.Course as course
 use Rattle.crn_ctext.specs.Blocks.{Behind, Problem, asks_all, asks_trees, claims, has_tree, is_open, problems, unless}
-use Rattle.crn_ctext.specs.Meaning.{Known, lists, sizes_of, shapes_of, verdict_of, proof_of, meaning}
+use Rattle.crn_ctext.specs.Steps.{StepGives}
+use Rattle.crn_io.specs.Device.{SourceSeen}
+use Rattle.crn_document.specs.declared.reading.Reading.{Reading}
+use Rattle.crn_document.specs.declared.stop.CheckStop.{CheckStop}
+use Rattle.crn_document.specs.Inner.Steps.{StepIs}
+use Rattle.crn_document.proofs.Steps.{step_map, step_then_is}
+use Rattle.crn_ctext.specs.Meaning.{Known, lists, problems_by, sizes_of, shapes_of, verdict_of, proof_of, meaning}
 use Rattle.crn_ctext.specs.Meaning as said
-use Rattle.crn_ctext.proofs.CallerLemmas.{gives_then, fails_before}
 use Rattle.crn_check.specs.Facts.{KeptFacts, asked}
-use Rattle.crn_check.specs.Check.{IsBuilt}
+use Rattle.crn_check.specs.Check.{AsksForTree, IsBuilt}
 use Rattle.crn_check.specs.Verdicts.{tight}
-use Rattle.crn_cert.specs.Built.{built}
 use Rattle.crn_document.specs.declared.parts.Part.{Part}
-use Rattle.crn_document.specs.Inner.Answer.{verdict_of_head}
+use Rattle.crn_document.specs.Inner.Answer.{IsHeadOf, verdict_at, verdict_of_head}
 use Rattle.crn_document.specs.Inner.Answers.{FitAnswer, proof_of_head}
-use Rattle.crn_document.specs.Inner.Parts.{IsKnown, parts_below}
+use Rattle.crn_document.specs.Inner.Parts.{IsKnown, before, parts_below}
 use Rattle.crn_document.specs.Inner.Records.{AreRows, MayBeRow, fixed_rows, many_rows, part_rows, row_form, rows_below}
 use Rattle.crn_document.specs.declared.rows.Row.{Row}
 use Rattle.crn_document.specs.declared.rows.Row.TheVariants.{Comb, Dual, Side, Tie}
 use Rattle.crn_document.specs.Inner.Heads.{IsHead, known_of, class_count}
-use Rattle.crn_document.specs.Inner.Blocks.{HeadHolds, IsAfter, IsBlock, behind_at, end_course, forms_below, head_course, many_after, parts_after, rows_course}
+use Rattle.crn_document.specs.Inner.Blocks.{HeadHolds, IsAfter, IsBlock, Learns, behind_at, behind_by, end_course, forms_below, head_course, many_after, parts_after, rows_course, tests_course}
 use Rattle.crn_document.proofs.Fields.{part_within}
 use Rattle.crn_document.proofs.Ranks.{AreRanks, zip_length}
 use Rattle.crn_document.proofs.Heads.{said_facts}
@@ -66,7 +72,7 @@ fail_after (t ∷ hs) ts part code h (inr f) = fail_after hs ts part code h.1 f.
 pub block_length : (net : Net) (earlier : Earlier) (n : ℕ) (head : List ℤ) (rows : List (List ℤ)) (h : Record) (rs : List Record) → IsBlock net earlier n head rows h rs → length rows ≡ length rs
 block_length net earlier n head rows h rs b = ap (λ (x : List (List ℤ)). length x) b.rows_are ∙ length-map rs (λ (r : Record). r.numbers)
 
-pub block_fits : (net : Net) (n : ℕ) (facts : KeptFacts) (head : List ℤ) (rows : List (List ℤ)) (h : Record) (rs : List Record) → IsBuilt n → IsKnown net n facts → HeadHolds net facts.earlier n head → IsBlock net facts.earlier n head rows h rs → FitAnswer (asked n) head (parts_after net facts.earlier n head) rows
+pub block_fits : (net : Net) (n : ℕ) (facts : KeptFacts) (head : List ℤ) (rows : List (List ℤ)) (h : Record) (rs : List Record) → IsBuilt n → IsKnown net (before n) facts → HeadHolds net facts.earlier n head → IsBlock net facts.earlier n head rows h rs → FitAnswer (asked n) head (parts_after net facts.earlier n head) rows
 block_fits net n facts head rows h rs built known hold b =
     let f = said_facts net n facts head h built known b.is_head in
     subst (λ (x : List (List ℤ)). FitAnswer (asked n) head (parts_after net facts.earlier n head) x) (sym b.rows_are) (let g = f.fit in g rs hold b.fit)
@@ -91,7 +97,7 @@ if_may false xs ys a c = c
 
 fixed_may : (n place : ℕ) → AllByRecursion MayBeRow (fixed_rows n place)
 fixed_may n place =
-    if_may (n == 1) _ _ (tt, (tt, (tt, tt))) (if_may (n == 2) _ _ (tt, (tt, (tt, (tt, (tt, (tt, (tt, tt))))))) (if_may (n == 3 && place == 1) _ _ (tt, tt) (if_may (n == 7 && place == 1) _ _ (tt, tt) (if_may (n == 7 && place == 2) _ _ (tt, tt) (if_may (n == 8 && place == 1) _ _ (tt, tt) (if_may (n == 8 && place == 2) _ _ (tt, tt) (if_may (n == 11 && place == 4) _ _ (tt, tt) (if_may (n == 12 && place == 1) _ _ (tt, tt) (if_may (n == 12 && place == 4) _ _ (tt, (tt, tt)) tt)))))))))
+    if_may (n == 1) _ _ (tt, (tt, (tt, tt))) (if_may (n == 2) _ _ (tt, (tt, (tt, (tt, (tt, (tt, (tt, tt))))))) (if_may (n == 3 && place == 1) _ _ (tt, tt) (if_may (n == 7 && place == 1) _ _ (tt, tt) (if_may (n == 7 && place == 2) _ _ (tt, tt) (if_may (n == 8 && place == 1) _ _ (tt, tt) (if_may (n == 8 && place == 2) _ _ (tt, tt) (if_may (n == 11 && place == 4) _ _ (tt, tt) (if_may (n == 12 && place == 1) _ _ (tt, tt) (if_may (n == 12 && place == 4) _ _ (tt, (tt, tt)) (if_may (n == 14 && place == 2) _ _ (tt, (tt, tt)) (if_may (n == 15 && place == 2) _ _ (tt, (tt, tt)) tt)))))))))))
 
 sides_may : (pairs : List ℕ) → AllByRecursion MayBeRow (map (λ (r : ℕ). Side r) pairs)
 sides_may [] = tt
@@ -113,25 +119,10 @@ map_push : {A B : Type 0} (f : A → B) (xs : List A) (x : A) → map f (xs ++ x
 map_push f [] x = refl
 map_push f (y ∷ ys) x = ap (λ (t : List _). f y ∷ t) (map_push f ys x)
 
-next_range : (n : ℕ) → IsBuilt n → take (n - 1) built ++ asked n ∷ [] ≡ take (n + 1 - 1) built
-next_range n (inl e) = subst (λ (m : ℕ). take (m - 1) built ++ asked m ∷ [] ≡ take (m + 1 - 1) built) (sym e) refl
-next_range n (inr (inl e)) = subst (λ (m : ℕ). take (m - 1) built ++ asked m ∷ [] ≡ take (m + 1 - 1) built) (sym e) refl
-next_range n (inr (inr (inl e))) = subst (λ (m : ℕ). take (m - 1) built ++ asked m ∷ [] ≡ take (m + 1 - 1) built) (sym e) refl
-next_range n (inr (inr (inr (inl e)))) = subst (λ (m : ℕ). take (m - 1) built ++ asked m ∷ [] ≡ take (m + 1 - 1) built) (sym e) refl
-next_range n (inr (inr (inr (inr (inl e))))) = subst (λ (m : ℕ). take (m - 1) built ++ asked m ∷ [] ≡ take (m + 1 - 1) built) (sym e) refl
-next_range n (inr (inr (inr (inr (inr (inl e)))))) = subst (λ (m : ℕ). take (m - 1) built ++ asked m ∷ [] ≡ take (m + 1 - 1) built) (sym e) refl
-next_range n (inr (inr (inr (inr (inr (inr (inl e))))))) = subst (λ (m : ℕ). take (m - 1) built ++ asked m ∷ [] ≡ take (m + 1 - 1) built) (sym e) refl
-next_range n (inr (inr (inr (inr (inr (inr (inr (inl e)))))))) = subst (λ (m : ℕ). take (m - 1) built ++ asked m ∷ [] ≡ take (m + 1 - 1) built) (sym e) refl
-next_range n (inr (inr (inr (inr (inr (inr (inr (inr (inl e))))))))) = subst (λ (m : ℕ). take (m - 1) built ++ asked m ∷ [] ≡ take (m + 1 - 1) built) (sym e) refl
-next_range n (inr (inr (inr (inr (inr (inr (inr (inr (inr (inl e)))))))))) = subst (λ (m : ℕ). take (m - 1) built ++ asked m ∷ [] ≡ take (m + 1 - 1) built) (sym e) refl
-next_range n (inr (inr (inr (inr (inr (inr (inr (inr (inr (inr (inl e))))))))))) = subst (λ (m : ℕ). take (m - 1) built ++ asked m ∷ [] ≡ take (m + 1 - 1) built) (sym e) refl
-next_range n (inr (inr (inr (inr (inr (inr (inr (inr (inr (inr (inr (inl e)))))))))))) = subst (λ (m : ℕ). take (m - 1) built ++ asked m ∷ [] ≡ take (m + 1 - 1) built) (sym e) refl
-next_range n (inr (inr (inr (inr (inr (inr (inr (inr (inr (inr (inr (inr none)))))))))))) = absurd none
-
-pub so_far_next : (n : ℕ) (old new : Earlier) (v : Verdict) → IsBuilt n → map (λ (e : Question × Verdict). e.0) old ≡ take (n - 1) built → new ≡ old ++ (asked n, v) ∷ [] → map (λ (e : Question × Verdict). e.0) new ≡ take (n + 1 - 1) built
-so_far_next n old new v is so_far same =
-    ap (λ (es : Earlier). map (λ (e : Question × Verdict). e.0) es) same ∙ map_push (λ (e : Question × Verdict). e.0) old (asked n, v)
-    ∙ ap (λ (qs : List Question). qs ++ asked n ∷ []) so_far ∙ next_range n is
+pub so_far_next : (qs : List Question) (q : Question) (old new : Earlier) (v : Verdict) → map (λ (e : Question × Verdict). e.0) old ≡ qs → new ≡ old ++ (q, v) ∷ [] → map (λ (e : Question × Verdict). e.0) new ≡ qs ++ q ∷ []
+so_far_next qs q old new v so_far same =
+    ap (λ (es : Earlier). map (λ (e : Question × Verdict). e.0) es) same ∙ map_push (λ (e : Question × Verdict). e.0) old (q, v)
+    ∙ ap (λ (xs : List Question). xs ++ q ∷ []) so_far
 
 pub kept_next : (q : Question) (old new : Earlier) (vs ws : List Verdict) (v : Verdict) → map tight vs ≡ map (λ (e : Question × Verdict). e.1) old → new ≡ old ++ (q, tight v) ∷ [] → ws ≡ vs ++ v ∷ [] → map tight ws ≡ map (λ (e : Question × Verdict). e.1) new
 kept_next q old new vs ws v is same all =
@@ -140,53 +131,15 @@ kept_next q old new vs ws v is same all =
 
 -- ---- after the records of a block
 
--- the same course, by its tests and trees and by verdict
-abbrev end_by : List {1} Test → List {1} Problem → Verdict → Net → Earlier → ℕ → List (List Record) → (version : ℕ) → List (List ℤ) → Question → Record → List Record → Course (Behind Known)
-end_by ts ps v net earlier n blocks version table q h rs =
-    claims n ts >>= (λ x. asks_trees version table ps (n + 1 + length rs) >>= (λ line. Give (record { known = known_of net (earlier ++ (q, v) ∷ []); by_tree = has_tree ps; line = line; blocks = blocks ++ (h ∷ rs) ∷ [] })))
-
-no_trees : (b : Bool) → unless {A = Problem} b [] ≡ []
-no_trees true = refl
-no_trees false = refl
-
--- no tree follows the records of a question that is answered
-no_trees_at : (n : ℕ) → IsBuilt n → (known : Known) (h : Record) → problems meaning (asked n) known h ≡ []
-no_trees_at n (inl e) known h = subst (λ (m : ℕ). problems meaning (asked m) known h ≡ []) (sym e) (no_trees (is_open h))
-no_trees_at n (inr (inl e)) known h = subst (λ (m : ℕ). problems meaning (asked m) known h ≡ []) (sym e) (no_trees (is_open h))
-no_trees_at n (inr (inr (inl e))) known h = subst (λ (m : ℕ). problems meaning (asked m) known h ≡ []) (sym e) (no_trees (is_open h))
-no_trees_at n (inr (inr (inr (inl e)))) known h = subst (λ (m : ℕ). problems meaning (asked m) known h ≡ []) (sym e) (no_trees (is_open h))
-no_trees_at n (inr (inr (inr (inr (inl e))))) known h = subst (λ (m : ℕ). problems meaning (asked m) known h ≡ []) (sym e) (no_trees (is_open h))
-no_trees_at n (inr (inr (inr (inr (inr (inl e)))))) known h = subst (λ (m : ℕ). problems meaning (asked m) known h ≡ []) (sym e) (no_trees (is_open h))
-no_trees_at n (inr (inr (inr (inr (inr (inr (inl e))))))) known h = subst (λ (m : ℕ). problems meaning (asked m) known h ≡ []) (sym e) (no_trees (is_open h))
-no_trees_at n (inr (inr (inr (inr (inr (inr (inr (inl e)))))))) known h = subst (λ (m : ℕ). problems meaning (asked m) known h ≡ []) (sym e) (no_trees (is_open h))
-no_trees_at n (inr (inr (inr (inr (inr (inr (inr (inr (inl e))))))))) known h = subst (λ (m : ℕ). problems meaning (asked m) known h ≡ []) (sym e) (no_trees (is_open h))
-no_trees_at n (inr (inr (inr (inr (inr (inr (inr (inr (inr (inl e)))))))))) known h = subst (λ (m : ℕ). problems meaning (asked m) known h ≡ []) (sym e) (no_trees (is_open h))
-no_trees_at n (inr (inr (inr (inr (inr (inr (inr (inr (inr (inr (inl e))))))))))) known h = subst (λ (m : ℕ). problems meaning (asked m) known h ≡ []) (sym e) (no_trees (is_open h))
-no_trees_at n (inr (inr (inr (inr (inr (inr (inr (inr (inr (inr (inr (inl e)))))))))))) known h = subst (λ (m : ℕ). problems meaning (asked m) known h ≡ []) (sym e) (no_trees (is_open h))
-no_trees_at n (inr (inr (inr (inr (inr (inr (inr (inr (inr (inr (inr (inr none)))))))))))) known h = absurd none
-
--- what is said of it with these is said of the course
-as_ends : (P : Course (Behind Known) → Type 0) (v : Verdict) (p : Proof) (net : Net) (earlier : Earlier) (n : ℕ) (blocks : List (List Record)) (version : ℕ) (table : List (List ℤ)) (q : Question) (h : Record) (rs : List Record)
-    → verdict_of q (sizes_of (known_of net earlier)) h rs ≡ v → proof_of q (shapes_of (known_of net earlier)) h rs ≡ p
-    → unless (is_open h) (row_tests net earlier q v p) ≡ row_tests net earlier q v p
-    → problems meaning q (known_of net earlier) h ≡ []
-    → P (end_by (row_tests net earlier q v p) [] v net earlier n blocks version table q h rs) → P (end_course version table q (behind_at net earlier n blocks) h rs)
-as_ends P v p net earlier n blocks version table q h rs verdict proof tests none x =
-    let due : List {1} Problem = problems meaning q (known_of net earlier) h in
-    subst (λ (w : Verdict). P (end_by (unless (is_open h) (row_tests net earlier q w (proof_of q (shapes_of (known_of net earlier)) h rs))) due w net earlier n blocks version table q h rs)) (sym verdict)
-    (subst (λ (w : Proof). P (end_by (unless (is_open h) (row_tests net earlier q v w)) due v net earlier n blocks version table q h rs)) (sym proof)
-    (subst (λ (ts : List {1} Test). P (end_by ts due v net earlier n blocks version table q h rs)) (sym tests)
-    (subst (λ (ps : List {1} Problem). P (end_by (row_tests net earlier q v p) ps v net earlier n blocks version table q h rs)) (sym none) x)))
-
-ends_give : (ts : List {1} Test) (v : Verdict) (net : Net) (earlier : Earlier) (n : ℕ) (blocks : List (List Record)) (version : ℕ) (table : List (List ℤ)) (q : Question) (h : Record) (rs : List Record) (place : Place)
-    → AllHold ts → Gives (end_by ts [] v net earlier n blocks version table q h rs) place (behind_at net (earlier ++ (q, v) ∷ []) (n + 1 + length rs) (blocks ++ (h ∷ rs) ∷ [])) place
-unfolding asks_trees Gives
-ends_give ts v net earlier n blocks version table q h rs place hold =
-    gives_then (claims n ts) (λ x. Give (behind_at net (earlier ++ (q, v) ∷ []) (n + 1 + length rs) (blocks ++ (h ∷ rs) ∷ []))) place place place tt _ (claims_hold n ts place hold) (refl, refl)
-
-ends_fail : (ts : List {1} Test) (v : Verdict) (net : Net) (earlier : Earlier) (n : ℕ) (blocks : List (List Record)) (version : ℕ) (table : List (List ℤ)) (q : Question) (h : Record) (rs : List Record) (part code : ℕ) (place : Place)
-    → FailsFirst ts part code → course.FailsFirst (end_by ts [] v net earlier n blocks version table q h rs) place (n + part) code
-ends_fail ts v net earlier n blocks version table q h rs part code place f = fails_before (claims n ts) _ place (n + part) code (claims_fail n ts part code place f)
+-- what is said of these tests is said of the course of the tests
+as_tests : (P : Course (Unit {0}) → Type 0) (v : Verdict) (p : Proof) (net : Net) (earlier : Earlier) (n line : ℕ) (h : Record) (rs : List Record)
+    → verdict_of (asked n) (sizes_of (known_of net earlier)) h rs ≡ v → proof_of (asked n) (shapes_of (known_of net earlier)) h rs ≡ p
+    → unless (is_open h) (row_tests net earlier (asked n) v p) ≡ row_tests net earlier (asked n) v p
+    → P (claims line (row_tests net earlier (asked n) v p)) → P (tests_course net earlier n line h rs)
+as_tests P v p net earlier n line h rs verdict proof tests x =
+    subst (λ (w : Verdict). P (claims line (unless (is_open h) (row_tests net earlier (asked n) w (proof_of (asked n) (shapes_of (known_of net earlier)) h rs))))) (sym verdict)
+    (subst (λ (w : Proof). P (claims line (unless (is_open h) (row_tests net earlier (asked n) v w)))) (sym proof)
+    (subst (λ (ts : List {1} Test). P (claims line ts)) (sym tests) x))
 
 -- ---- an answer and its block
 
@@ -217,16 +170,16 @@ other_answer : (P : Verdict → Proof → Type 0) (net : Net) (earlier : Earlier
 other_answer P net earlier n head rs a is p =
     subst (λ (v : Verdict). P v (said_proof net earlier n head rs)) is.verdict_is (subst (λ (w : Proof). P a.verdict w) is.proof_is p)
 
-pub answer_formed : (net : Net) (n : ℕ) (facts : KeptFacts) (head : List ℤ) (rows : List (List ℤ)) (h : Record) (rs : List Record) (a : Answer) → IsBuilt n → IsKnown net n facts → HeadHolds net facts.earlier n head → IsBlock net facts.earlier n head rows h rs → IsAnswerOf net facts.earlier n head rs a → IsFormed net facts.earlier (asked n) a
-answer_formed net n facts head rows h rs a built known hold b is =
+pub answer_formed : (net : Net) (n : ℕ) (facts : KeptFacts) (head : List ℤ) (rows : List (List ℤ)) (h : Record) (rs : List Record) (a : Answer) → (AsksForTree n → said.number head 0 ≡ 1 → ⊥) → IsBuilt n → IsKnown net (before n) facts → HeadHolds net facts.earlier n head → IsBlock net facts.earlier n head rows h rs → IsAnswerOf net facts.earlier n head rs a → IsFormed net facts.earlier (asked n) a
+answer_formed net n facts head rows h rs a other built known hold b is =
     let f = said_facts net n facts head h built known b.is_head in
-    same_answer (λ v p. IsFormedOf net facts.earlier (asked n) v p) net facts.earlier n head rs a is (let g = f.formed in g rs hold b.fit)
+    same_answer (λ v p. IsFormedOf net facts.earlier (asked n) v p) net facts.earlier n head rs a is (let g = f.formed in g rs other hold b.fit)
 
 pub answer_holds : (net : Net) (earlier : Earlier) (n : ℕ) (head : List ℤ) (rs : List Record) (a : Answer) → IsAnswerOf net earlier n head rs a → AllHold (tests_of net earlier (asked n) a) → AllHold (row_tests net earlier (asked n) (said_verdict n head rs) (said_proof net earlier n head rs))
 answer_holds net earlier n head rs a is h =
     other_answer (λ v p. AllHold (row_tests net earlier (asked n) v p)) net earlier n head rs a is (hold_after (head_tests net earlier (asked n) a.verdict) (row_tests net earlier (asked n) a.verdict a.proof) h)
 
-pub answer_fails : (net : Net) (n : ℕ) (facts : KeptFacts) (head : List ℤ) (rows : List (List ℤ)) (h : Record) (rs : List Record) (a : Answer) (part code : ℕ) → IsBuilt n → IsKnown net n facts → HeadHolds net facts.earlier n head → IsBlock net facts.earlier n head rows h rs → IsAnswerOf net facts.earlier n head rs a
+pub answer_fails : (net : Net) (n : ℕ) (facts : KeptFacts) (head : List ℤ) (rows : List (List ℤ)) (h : Record) (rs : List Record) (a : Answer) (part code : ℕ) → IsBuilt n → IsKnown net (before n) facts → HeadHolds net facts.earlier n head → IsBlock net facts.earlier n head rows h rs → IsAnswerOf net facts.earlier n head rs a
     → FailsFirst (tests_of net facts.earlier (asked n) a) part code → FailsFirst (row_tests net facts.earlier (asked n) (said_verdict n head rs) (said_proof net facts.earlier n head rs)) part code
 answer_fails net n facts head rows h rs a part code built known hold b is f =
     let g = said_facts net n facts head h built known b.is_head in
@@ -234,7 +187,7 @@ answer_fails net n facts head rows h rs a part code built known hold b is f =
     let same : AllHold (head_tests net earlier (asked n) a.verdict) = subst (λ (v : Verdict). AllHold (head_tests net earlier (asked n) v)) (sym is.verdict_is) (let s = g.heads_same in s rs hold) in
     other_answer (λ v p. FailsFirst (row_tests net earlier (asked n) v p) part code) net earlier n head rs a is (fail_after (head_tests net earlier (asked n) a.verdict) (row_tests net earlier (asked n) a.verdict a.proof) part code same f)
 
-pub answer_part : (net : Net) (n : ℕ) (facts : KeptFacts) (head : List ℤ) (rows : List (List ℤ)) (h : Record) (rs : List Record) (a : Answer) (part code : ℕ) → IsBuilt n → IsKnown net n facts → HeadHolds net facts.earlier n head → IsBlock net facts.earlier n head rows h rs → IsAnswerOf net facts.earlier n head rs a
+pub answer_part : (net : Net) (n : ℕ) (facts : KeptFacts) (head : List ℤ) (rows : List (List ℤ)) (h : Record) (rs : List Record) (a : Answer) (part code : ℕ) → IsBuilt n → IsKnown net (before n) facts → HeadHolds net facts.earlier n head → IsBlock net facts.earlier n head rows h rs → IsAnswerOf net facts.earlier n head rs a
     → FailsFirst (tests_of net facts.earlier (asked n) a) part code → part ≤ suc (length rows)
 answer_part net n facts head rows h rs a part code built known hold b is f =
     let g = said_facts net n facts head h built known b.is_head in
@@ -242,40 +195,115 @@ answer_part net n facts head rows h rs a part code built known hold b is f =
     let w = part_within (suc (length rs)) (row_tests net facts.earlier (asked n) (said_verdict n head rs) (said_proof net facts.earlier n head rs)) part code (let w = g.row_parts in w rs hold b.fit) (answer_fails net n facts head rows h rs a part code built known hold b is f) in
     omega (arith, l, w)
 
--- the course goes on after the block with this verdict
-pub block_ends : (net : Net) (n : ℕ) (facts : KeptFacts) (head : List ℤ) (rows : List (List ℤ)) (h : Record) (rs : List Record) (a : Answer) (new : Earlier) (line next version : ℕ) (table : List (List ℤ)) (blocks : List (List Record)) → IsBuilt n → IsKnown net n facts → HeadHolds net facts.earlier n head → IsBlock net facts.earlier n head rows h rs → IsAnswerOf net facts.earlier n head rs a
-    → AllHold (tests_of net facts.earlier (asked n) a) → new ≡ facts.earlier ++ (asked n, tight a.verdict) ∷ [] → line + 1 + length rows ≡ next
-    → (y : Behind Known) × IsAfter net new next y × ((place : Place) → Gives (end_course version table (asked n) (behind_at net facts.earlier line blocks) h rs) place y place)
-block_ends net n facts head rows h rs a new line next version table blocks built known hold b is holds kept ends =
+-- the tests of the records hold, and this is known after the block
+pub block_learns : (net : Net) (n : ℕ) (facts : KeptFacts) (head : List ℤ) (rows : List (List ℤ)) (h : Record) (rs : List Record) (a : Answer) (new : Earlier) (line : ℕ) → IsBuilt n → IsKnown net (before n) facts → HeadHolds net facts.earlier n head → IsBlock net facts.earlier n head rows h rs → IsAnswerOf net facts.earlier n head rs a
+    → AllHold (tests_of net facts.earlier (asked n) a) → new ≡ facts.earlier ++ (asked n, tight a.verdict) ∷ []
+    → Learns net facts.earlier n new h rs × ((place : Place) → Gives (tests_course net facts.earlier n line h rs) place tt place)
+block_learns net n facts head rows h rs a new line built known hold b is holds kept =
     let earlier = facts.earlier in
     let f = said_facts net n facts head h built known b.is_head in
     let v = said_verdict n head rs in
     let p = said_proof net earlier n head rs in
-    let y : Behind Known = behind_at net (earlier ++ (asked n, v) ∷ []) (line + 1 + length rs) (blocks ++ (h ∷ rs) ∷ []) in
+    let said_is : verdict_of (asked n) (sizes_of (known_of net earlier)) h rs ≡ v = (let s = f.said in s rs) in
     let tight_is : v ≡ tight a.verdict = sym (let t = f.tight_is in t rs) ∙ sym (ap tight is.verdict_is) in
-    let same : earlier ++ (asked n, v) ∷ [] ≡ new = ap (λ (w : Verdict). earlier ++ (asked n, w) ∷ []) tight_is ∙ sym kept in
-    let at : line + 1 + length rs ≡ next = ap (λ (k : ℕ). line + 1 + k) (sym (block_length net earlier n head rows h rs b)) ∙ ends in (
-      y,
-      (blocks ++ (h ∷ rs) ∷ [], ap₂ (λ (es : Earlier) (k : ℕ). behind_at net es k (blocks ++ (h ∷ rs) ∷ [])) same at),
-      λ place. as_ends (λ d. Gives d place y place) v p net earlier line blocks version table (asked n) h rs (let s = f.said in s rs) (let s = f.shown in s rs) (let r = f.rows_are in r rs) (no_trees_at n built (known_of net earlier) h)
-          (ends_give (row_tests net earlier (asked n) v p) v net earlier line blocks version table (asked n) h rs place (answer_holds net earlier n head rs a is holds)),
+    let same : new ≡ earlier ++ (asked n, verdict_of (asked n) (sizes_of (known_of net earlier)) h rs) ∷ [] = kept ∙ ap (λ (w : Verdict). earlier ++ (asked n, w) ∷ []) (sym (said_is ∙ tight_is)) in (
+      ap (λ (es : Earlier). known_of net es) same,
+      λ place. as_tests (λ d. Gives d place tt place) v p net earlier n line h rs said_is (let s = f.shown in s rs) (let r = f.rows_are in r rs) (claims_hold line (row_tests net earlier (asked n) v p) place (answer_holds net earlier n head rs a is holds)),
     )
 
--- or fails at the first test that the answer fails
-pub block_fails : (net : Net) (n : ℕ) (facts : KeptFacts) (head : List ℤ) (rows : List (List ℤ)) (h : Record) (rs : List Record) (a : Answer) (line part code version : ℕ) (table : List (List ℤ)) (blocks : List (List Record)) → IsBuilt n → IsKnown net n facts → HeadHolds net facts.earlier n head → IsBlock net facts.earlier n head rows h rs → IsAnswerOf net facts.earlier n head rs a → FailsFirst (tests_of net facts.earlier (asked n) a) part code
-    → (place : Place) → course.FailsFirst (end_course version table (asked n) (behind_at net facts.earlier line blocks) h rs) place (line + part) code
-block_fails net n facts head rows h rs a line part code version table blocks built known hold b is fails place =
+-- or the first test that the answer fails is that of the records
+pub block_fails : (net : Net) (n : ℕ) (facts : KeptFacts) (head : List ℤ) (rows : List (List ℤ)) (h : Record) (rs : List Record) (a : Answer) (line part code : ℕ) → IsBuilt n → IsKnown net (before n) facts → HeadHolds net facts.earlier n head → IsBlock net facts.earlier n head rows h rs → IsAnswerOf net facts.earlier n head rs a → FailsFirst (tests_of net facts.earlier (asked n) a) part code
+    → (place : Place) → course.FailsFirst (tests_course net facts.earlier n line h rs) place (line + part) code
+block_fails net n facts head rows h rs a line part code built known hold b is fails place =
     let earlier = facts.earlier in
     let f = said_facts net n facts head h built known b.is_head in
     let v = said_verdict n head rs in
     let p = said_proof net earlier n head rs in
-    as_ends (λ d. course.FailsFirst d place (line + part) code) v p net earlier line blocks version table (asked n) h rs (let s = f.said in s rs) (let s = f.shown in s rs) (let r = f.rows_are in r rs) (no_trees_at n built (known_of net earlier) h)
-    (ends_fail (row_tests net earlier (asked n) v p) v net earlier line blocks version table (asked n) h rs part code place (answer_fails net n facts head rows h rs a part code built known hold b is fails))
+    as_tests (λ d. course.FailsFirst d place (line + part) code) v p net earlier n line h rs (let s = f.said in s rs) (let s = f.shown in s rs) (let r = f.rows_are in r rs)
+    (claims_fail line (row_tests net earlier (asked n) v p) part code place (answer_fails net n facts head rows h rs a part code built known hold b is fails))
+
+-- ---- a yes that a tree shows
+
+first_plain : (head : List ℤ) (rs : List Record) → IsHeadOf Q14 head → verdict_of_head Q14 head rs ≡ Yes → said.number head 0 ≡ 1
+first_plain head rs (zs, inl e) y = ap (λ (x : List ℤ). said.number x 0) e
+first_plain head rs (zs, inr (inl e)) y = let f = subst (λ (x : List ℤ). verdict_of_head Q14 x rs ≡ Yes) e y in absurd cc
+first_plain head rs (zs, inr (inr (inl e))) y = let f = subst (λ (x : List ℤ). verdict_of_head Q14 x rs ≡ Yes) e y in absurd cc
+first_plain head rs (zs, inr (inr (inr e))) y = let f = subst (λ (x : List ℤ). verdict_of_head Q14 x rs ≡ Yes) e y in absurd cc
+
+first_strong : (head : List ℤ) (rs : List Record) → IsHeadOf Q15 head → verdict_of_head Q15 head rs ≡ Yes → said.number head 0 ≡ 1
+first_strong head rs (zs, inl e) y = ap (λ (x : List ℤ). said.number x 0) e
+first_strong head rs (zs, inr (inl e)) y = let f = subst (λ (x : List ℤ). verdict_of_head Q15 x rs ≡ Yes) e y in absurd cc
+first_strong head rs (zs, inr (inr (inl e))) y = let f = subst (λ (x : List ℤ). verdict_of_head Q15 x rs ≡ Yes) e y in absurd cc
+first_strong head rs (zs, inr (inr (inr e))) y = let f = subst (λ (x : List ℤ). verdict_of_head Q15 x rs ≡ Yes) e y in absurd cc
+
+-- the head of a yes is of the first form
+pub yes_first : (n : ℕ) (head : List ℤ) (rs : List Record) → AsksForTree n → IsHeadOf (asked n) head → said_verdict n head rs ≡ Yes → said.number head 0 ≡ 1
+yes_first n head rs (inl e) is y = first_plain head rs (subst (λ (m : ℕ). IsHeadOf (asked m) head) e is) (subst (λ (m : ℕ). said_verdict m head rs ≡ Yes) e y)
+yes_first n head rs (inr e) is y = first_strong head rs (subst (λ (m : ℕ). IsHeadOf (asked m) head) e is) (subst (λ (m : ℕ). said_verdict m head rs ≡ Yes) e y)
+
+-- that form says yes
+yes_said : (n : ℕ) (head : List ℤ) (rs : List Record) → AsksForTree n → said.number head 0 ≡ 1 → said_verdict n head rs ≡ Yes
+yes_said n head rs (inl e) one = subst (λ (m : ℕ). said_verdict m head rs ≡ Yes) (sym e) (subst (λ (k : ℕ). verdict_at Q14 k (later_numbers head) rs ≡ Yes) (sym one) refl)
+yes_said n head rs (inr e) one = subst (λ (m : ℕ). said_verdict m head rs ≡ Yes) (sym e) (subst (λ (k : ℕ). verdict_at Q15 k (later_numbers head) rs ≡ Yes) (sym one) refl)
+
+-- and the records below it have no tests but those of the tree
+yes_tests : (net : Net) (earlier : Earlier) (n : ℕ) (head : List ℤ) (rs : List Record) → AsksForTree n → said.number head 0 ≡ 1 → row_tests net earlier (asked n) (said_verdict n head rs) (said_proof net earlier n head rs) ≡ []
+yes_tests net earlier n head rs (inl e) one = subst (λ (m : ℕ). row_tests net earlier (asked m) (said_verdict m head rs) (said_proof net earlier m head rs) ≡ []) (sym e) (subst (λ (k : ℕ). row_tests net earlier Q14 (verdict_at Q14 k (later_numbers head) rs) Nothing ≡ []) (sym one) refl)
+yes_tests net earlier n head rs (inr e) one = subst (λ (m : ℕ). row_tests net earlier (asked m) (said_verdict m head rs) (said_proof net earlier m head rs) ≡ []) (sym e) (subst (λ (k : ℕ). row_tests net earlier Q15 (verdict_at Q15 k (later_numbers head) rs) Nothing ≡ []) (sym one) refl)
+
+-- no test of the records fails, and this is known after the block
+pub block_yes : (net : Net) (n : ℕ) (facts : KeptFacts) (head : List ℤ) (rows : List (List ℤ)) (h : Record) (rs : List Record) (new : Earlier) (line : ℕ) → IsBuilt n → IsKnown net (before n) facts → IsBlock net facts.earlier n head rows h rs → AsksForTree n → said.number head 0 ≡ 1 → new ≡ facts.earlier ++ (asked n, Yes) ∷ []
+    → Learns net facts.earlier n new h rs × ((place : Place) → Gives (tests_course net facts.earlier n line h rs) place tt place)
+block_yes net n facts head rows h rs new line built known b tree one kept =
+    let earlier = facts.earlier in
+    let f = said_facts net n facts head h built known b.is_head in
+    let v = said_verdict n head rs in
+    let p = said_proof net earlier n head rs in
+    let said_is : verdict_of (asked n) (sizes_of (known_of net earlier)) h rs ≡ v = (let s = f.said in s rs) in
+    let same : new ≡ earlier ++ (asked n, verdict_of (asked n) (sizes_of (known_of net earlier)) h rs) ∷ [] = kept ∙ ap (λ (w : Verdict). earlier ++ (asked n, w) ∷ []) (sym (said_is ∙ yes_said n head rs tree one)) in (
+      ap (λ (es : Earlier). known_of net es) same,
+      λ place. as_tests (λ d. Gives d place tt place) v p net earlier n line h rs said_is (let s = f.shown in s rs) (let r = f.rows_are in r rs)
+          (subst (λ (ts : List {1} Test). Gives (claims line ts) place tt place) (sym (yes_tests net earlier n head rs tree one)) (claims_hold line [] place tt)),
+    )
+
+-- the trees that are due after the records are those of the form of the head
+pub trees_due : (net : Net) (n : ℕ) (facts : KeptFacts) (head : List ℤ) (rows : List (List ℤ)) (h : Record) (rs : List Record) → IsBuilt n → IsKnown net (before n) facts → IsBlock net facts.earlier n head rows h rs → problems_by (asked n) net (said.number head 0) ≡ problems meaning (asked n) (known_of net facts.earlier) h
+trees_due net n facts head rows h rs built known b = let f = said_facts net n facts head h built known b.is_head in f.trees_are
+
+-- the tests of the records, and then the trees
+pub block_then : (net : Net) (earlier new : Earlier) (n line version place : ℕ) (table : List (List ℤ)) (h : Record) (rs : List Record) (blocks : List (List Record)) (result : Result (Unit {0}) CheckStop) (mid last : Reading) (between now : SourceSeen)
+    → problems_by (asked n) net place ≡ problems meaning (asked n) (known_of net earlier) h → Learns net earlier n new h rs → line + 1 + length rs ≡ mid.line → mid.version ≡ version
+    → StepGives (tests_course net earlier n line h rs) tt mid.line mid.line mid.lines mid.lines between.left between.left
+    → StepIs (asks_trees mid.version table (problems_by (asked n) net place) mid.line) (λ t l. l ≡ last.line) result mid last between now
+    → StepIs (end_course version table (asked n) (behind_at net earlier line blocks) h rs) (λ t y. IsAfter net new (has_tree (problems_by (asked n) net place)) last.line y) result mid last between now
+block_then net earlier new n line version place table h rs blocks result mid last between now trees learnt at v s q =
+    step_then_is (tests_course net earlier n line h rs) (λ x. asks_trees version table due (line + 1 + length rs) >>= (λ l. Give (behind l))) tt (λ t y. IsAfter net new by_tree last.line y) result mid mid last between between now s refl
+    (step_map (asks_trees version table due (line + 1 + length rs)) behind (λ t l. l ≡ last.line) (λ t y. IsAfter net new by_tree last.line y) result mid last between now more
+    (subst (λ (ps : List {1} Problem). StepIs (asks_trees version table ps (line + 1 + length rs)) (λ t l. l ≡ last.line) result mid last between now) trees
+    (subst (λ (k : ℕ). StepIs (asks_trees version table (problems_by (asked n) net place) k) (λ t l. l ≡ last.line) result mid last between now) (sym at)
+    (subst (λ (k : ℕ). StepIs (asks_trees k table (problems_by (asked n) net place) mid.line) (λ t l. l ≡ last.line) result mid last between now) v q))))
+  where
+    due : List {1} Problem
+    due = problems meaning (asked n) (known_of net earlier) h
+
+    behind : ℕ → Behind Known
+    behind l = record { known = meaning.learn (asked n) (known_of net earlier) h rs; by_tree = has_tree due; line = l; blocks = blocks ++ (h ∷ rs) ∷ [] }
+
+    by_tree : Bool
+    by_tree = has_tree (problems_by (asked n) net place)
+
+    more : (t : Unit {0}) (l : ℕ) → l ≡ last.line → IsAfter net new by_tree last.line (behind l)
+    more t l e = (
+      blocks ++ (h ∷ rs) ∷ [],
+      ap (λ (ps : List {1} Problem). record { known = meaning.learn (asked n) (known_of net earlier) h rs; by_tree = has_tree ps; line = l; blocks = blocks ++ (h ∷ rs) ∷ [] }) (sym trees)
+          ∙ ap (λ (k : Known). record { known = k; by_tree = by_tree; line = l; blocks = blocks ++ (h ∷ rs) ∷ [] }) (sym learnt)
+          ∙ ap (λ (k : ℕ). behind_by net new by_tree k (blocks ++ (h ∷ rs) ∷ [])) e,
+    )
 
 -- ---- after a head
 
 -- what is said of the course of these records is said of what is due below the head
-pub rows_course_by : (P : Course (Behind Known) → Type 0) (version : ℕ) (table : List (List ℤ)) (net : Net) (facts : KeptFacts) (n m line : ℕ) (head : List ℤ) (h : Record) (blocks : List (List Record)) → IsBuilt n → IsKnown net n facts → IsHead net facts.earlier n head h → m + 1 ≡ line
+pub rows_course_by : (P : Course (Behind Known) → Type 0) (version : ℕ) (table : List (List ℤ)) (net : Net) (facts : KeptFacts) (n m line : ℕ) (head : List ℤ) (h : Record) (blocks : List (List Record)) → IsBuilt n → IsKnown net (before n) facts → IsHead net facts.earlier n head h → m + 1 ≡ line
     → P (asks_all version line false (forms_below net facts.earlier n head) >>= (λ rows. end_course version table (asked n) (behind_at net facts.earlier m blocks) h rows)) → P (rows_course version table (asked n) (behind_at net facts.earlier m blocks) h)
 rows_course_by P version table net facts n m line head h blocks built known said next p =
     let earlier = facts.earlier in
@@ -287,7 +315,7 @@ rows_course_by P version table net facts n m line head h blocks built known said
 abbrev head_by : List {1} Test → Net → Earlier → ℕ → List (List Record) → (version : ℕ) → List (List ℤ) → Question → Record → Course (Behind Known)
 head_by ts net earlier n blocks version table q h = claims n ts >>= (λ x. rows_course version table q (behind_at net earlier n blocks) h)
 
-pub head_course_by : (P : Course (Behind Known) → Type 0) (version : ℕ) (table : List (List ℤ)) (net : Net) (facts : KeptFacts) (n m : ℕ) (head : List ℤ) (h : Record) (blocks : List (List Record)) → IsBuilt n → IsKnown net n facts → IsHead net facts.earlier n head h
+pub head_course_by : (P : Course (Behind Known) → Type 0) (version : ℕ) (table : List (List ℤ)) (net : Net) (facts : KeptFacts) (n m : ℕ) (head : List ℤ) (h : Record) (blocks : List (List Record)) → IsBuilt n → IsKnown net (before n) facts → IsHead net facts.earlier n head h
     → P (claims m (head_tests net facts.earlier (asked n) (said_verdict n head [])) >>= (λ x. rows_course version table (asked n) (behind_at net facts.earlier m blocks) h)) → P (head_course version table (asked n) (behind_at net facts.earlier m blocks) h)
 head_course_by P version table net facts n m head h blocks built known said p =
     let earlier = facts.earlier in

@@ -4,10 +4,11 @@ use Rattle.std.specs.Prelude.{ℤ, replicate, if◌then◌else◌}
 use Rattle.crn_io.specs.Device.{SourceSeen}
 use Rattle.crn_io.specs.Lines.{Place, BreaksLine, document_too_long, line_too_long, otherwise, LacksLine, HasMore, early, beginning}
 use Rattle.crn_vec.specs.Network.{Net}
+use Rattle.crn_vec.specs.Influence.{plain_table, strong_table}
 use Rattle.crn_cert.specs.Built.{built}
-use Rattle.crn_cert.specs.Questions.{Earlier, Question, Q1, Q2, Q3, Q4, Q5, Q6, Q7, Q8, Q9, Q10, Q11, Q12}
+use Rattle.crn_cert.specs.Questions.{Earlier, Question, Q1, Q2, Q3, Q4, Q5, Q6, Q7, Q8, Q9, Q10, Q11, Q12, Q14, Q15}
 use Rattle.crn_cert.specs.Tests.{Test as Claim}
-use Rattle.crn_cert.specs.Valid.{class_rank_tests, confluence_head, confluence_rows, conservation_rows, deficiency_head, deficiency_rows, dependence_rows, linkage_rows, one_head, rank_rows, regular_head, regular_rows, reversible_head, reversible_rows, side_tests, strong_rows, weak_head, zero_head}
+use Rattle.crn_cert.specs.Valid.{class_rank_tests, confluence_head, confluence_rows, conservation_rows, deficiency_head, deficiency_rows, dependence_rows, linkage_rows, one_head, rank_rows, regular_head, regular_rows, reversible_head, reversible_rows, side_tests, strong_rows, table_rows, weak_head, zero_head}
 use Rattle.crn_cert.specs.ConfluenceTests.{tie_tests}
 use Rattle.crn_cert.specs.RankTests.{comb_tests, dual_tests, rank_tests}
 use Rattle.crn_cert.specs.declared.answer.Verdict.{Verdict}
@@ -280,6 +281,20 @@ confluence_numbered net earlier OnlyZero p = tt
 confluence_numbered net earlier (Plane first second one two) p = (of_35, (of_35, tt))
 confluence_numbered net earlier v p = tt
 
+plain_numbered : (net : Net) (s : Shapes) (t : Bool) (g : Gap) (place : ℕ) (n : List ℤ) (rs : List Record) → AreNumbered (table_rows net (plain_table net) (if t then Unknown g else verdict_by Q14 place n rs) (if t then Nothing else proof_by Q14 s place n rs))
+plain_numbered net s true g place n rs = tt
+plain_numbered net s false g zero n rs = tt
+plain_numbered net s false g (suc zero) n rs = tt
+plain_numbered net s false g (suc (suc zero)) n rs = (from_41 45 (omega arith) (omega arith), tt)
+plain_numbered net s false g (suc (suc (suc k))) n rs = tt
+
+strongly_numbered : (net : Net) (s : Shapes) (t : Bool) (g : Gap) (place : ℕ) (n : List ℤ) (rs : List Record) → AreNumbered (table_rows net (strong_table net) (if t then Unknown g else verdict_by Q15 place n rs) (if t then Nothing else proof_by Q15 s place n rs))
+strongly_numbered net s true g place n rs = tt
+strongly_numbered net s false g zero n rs = tt
+strongly_numbered net s false g (suc zero) n rs = tt
+strongly_numbered net s false g (suc (suc zero)) n rs = (from_41 45 (omega arith) (omega arith), tt)
+strongly_numbered net s false g (suc (suc (suc k))) n rs = tt
+
 -- what a block says
 abbrev verdict_in : Question → Known → Record → List Record → Verdict
 verdict_in q known h rs = verdict_of q (sizes_of known) h rs
@@ -302,6 +317,12 @@ third_numbered = record {
 fourth_numbered : IsNumberedFor Q4
 fourth_numbered = record { head = λ known h. weak_numbered known.net known.earlier (is_open h) (gap_of h) (place_of (heads Q4 (sizes_of known)) h.words) h.numbers; rows = λ known h rs. tt }
 
+concordance_numbered : IsNumberedFor Q14
+concordance_numbered = record { head = λ known h. tt; rows = λ known h rs. plain_numbered known.net (shapes_of known) (is_open h) (gap_of h) (place_of (heads Q14 (sizes_of known)) h.words) h.numbers rs }
+
+strong_concordance_numbered : IsNumberedFor Q15
+strong_concordance_numbered = record { head = λ known h. tt; rows = λ known h rs. strongly_numbered known.net (shapes_of known) (is_open h) (gap_of h) (place_of (heads Q15 (sizes_of known)) h.words) h.numbers rs }
+
 built_numbered : AreNumberedFor built
 built_numbered = (
   first_numbered,
@@ -317,7 +338,7 @@ built_numbered = (
             record { head = λ known h. deficiency_head_numbered known.net known.earlier (verdict_in Q6 known h []); rows = λ known h rs. deficiency_numbered known.net known.earlier (verdict_in Q6 known h rs) (proof_in Q6 known h rs) },
             (
               record { head = λ known h. tt; rows = λ known h rs. dependence_numbered known.net (verdict_in Q7 known h rs) },
-              (record { head = λ known h. tt; rows = λ known h rs. conservation_numbered known.net (verdict_in Q8 known h rs) }, (record { head = λ known h. zero_numbered known.net known.earlier (verdict_in Q9 known h []); rows = λ known h rs. tt }, (record { head = λ known h. one_numbered known.earlier (verdict_in Q10 known h []); rows = λ known h rs. tt }, (record { head = λ known h. regular_head_numbered known.net known.earlier (verdict_in Q11 known h []); rows = λ known h rs. regular_numbered known.net known.earlier (verdict_in Q11 known h rs) (proof_in Q11 known h rs) }, (record { head = λ known h. confluence_head_numbered known.earlier (verdict_in Q12 known h []); rows = λ known h rs. confluence_numbered known.net known.earlier (verdict_in Q12 known h rs) (proof_in Q12 known h rs) }, tt))))),
+              (record { head = λ known h. tt; rows = λ known h rs. conservation_numbered known.net (verdict_in Q8 known h rs) }, (record { head = λ known h. zero_numbered known.net known.earlier (verdict_in Q9 known h []); rows = λ known h rs. tt }, (record { head = λ known h. one_numbered known.earlier (verdict_in Q10 known h []); rows = λ known h rs. tt }, (record { head = λ known h. regular_head_numbered known.net known.earlier (verdict_in Q11 known h []); rows = λ known h rs. regular_numbered known.net known.earlier (verdict_in Q11 known h rs) (proof_in Q11 known h rs) }, (record { head = λ known h. confluence_head_numbered known.earlier (verdict_in Q12 known h []); rows = λ known h rs. confluence_numbered known.net known.earlier (verdict_in Q12 known h rs) (proof_in Q12 known h rs) }, (concordance_numbered, (strong_concordance_numbered, tt))))))),
             ),
           ),
         ),

@@ -12,7 +12,7 @@ use Rattle.crn_cert.specs.declared.answer.Verdict.TheVariants.{Deficiency, Unkno
 use Rattle.crn_cert.specs.declared.answer.Proof.TheVariants.{Ranks}
 use Rattle.crn_cert.specs.declared.answer.RankProof.{RankProof}
 use Rattle.crn_vec.specs.Network.{Net, IsNetwork}
-use Rattle.crn_vec.specs.declared.limits.TheConstants.{MAX_COMPLEXES, MAX_REACTIONS}
+use Rattle.crn_vec.specs.declared.limits.TheConstants.{MAX_BUDGET, MAX_COMPLEXES, MAX_REACTIONS}
 use Rattle.crn_cert.specs.Questions.{Earlier, Q6}
 use Rattle.crn_cert.specs.Formed.{HeadMayBe, IsFormedOf, IsBasisOf, IsWalkList, AreClassProofs}
 use Rattle.crn_cert.specs.Tests.{AllHold}
@@ -22,16 +22,16 @@ use Rattle.crn_check.specs.Verdicts.{tight}
 use Rattle.crn_cert.specs.Ranges.{AreFrom, AreFree, AreFreeRows, AreBits}
 use Rattle.crn_ctext.specs.Records.{Record, Form, AreRising, CountAndPart, ClassWide, Rising, Several, TwoOf, Fits, AreOf, AreBetween}
 use Rattle.crn_ctext.specs.Kinds.{small, just, record_form, small_form, free_form}
-use Rattle.crn_ctext.specs.Questions.{Sizes, heads, head, yes, no, no_by, none_by, wide, rests, open_by, class_forms, rank_forms, side_form, later_numbers}
-use Rattle.crn_ctext.specs.Blocks.{is_open, below, unless}
+use Rattle.crn_ctext.specs.Questions.{Sizes, heads, head, yes, no, no_by, none_by, wide, rests, spent, open_by, class_forms, rank_forms, side_form, later_numbers}
+use Rattle.crn_ctext.specs.Blocks.{is_open, below, problems, unless}
 use Rattle.crn_ctext.specs.Documents.{IsOneOf}
-use Rattle.crn_ctext.specs.Meaning.{lengths, nums, lists, pairs_of, row, sizes_of, shapes_of, verdict_of, proof_of, class_proofs}
+use Rattle.crn_ctext.specs.Meaning.{lengths, meaning, number, nums, lists, pairs_of, problems_by, row, sizes_of, shapes_of, verdict_of, proof_of, class_proofs}
 use Rattle.crn_ctext.specs.Expect.{question_of}
 use Rattle.crn_check.specs.Facts.{KeptFacts, asked}
-use Rattle.crn_check.specs.Check.{IsBuilt}
+use Rattle.crn_check.specs.Check.{AsksForTree, IsBuilt}
 use Rattle.crn_document.specs.Inner.Answer.{AreSmall, AreSmallRows, IsHeadOf, verdict_of_head}
 use Rattle.crn_document.specs.Inner.Answers.{FitAnswer, part_proofs, proof_of_head}
-use Rattle.crn_document.specs.Inner.Parts.{IsKnown, class_parts}
+use Rattle.crn_document.specs.Inner.Parts.{IsKnown, before, class_parts}
 use Rattle.crn_document.specs.Inner.Blocks.{HeadHolds, forms_below, parts_after}
 use Rattle.crn_document.specs.declared.rows.Row.{Row}
 use Rattle.crn_document.specs.declared.rows.Row.TheVariants.{Side, Tie}
@@ -55,11 +55,12 @@ pub record HeadFacts (net : Net) (earlier : Earlier) (n : ℕ) (h : Record) (t :
   pub shown : (rs : List Record) → proof_of (asked n) (shapes_of (known_of net earlier)) h rs ≡ proof_of_head (asked n) (shapes_of (known_of net earlier)) (parts_after net earlier n t) t rs
   pub heads_are : unless (is_open h) (head_tests net earlier (asked n) (verdict_of_head (asked n) t [])) ≡ head_tests net earlier (asked n) (verdict_of_head (asked n) t [])
   pub rows_are : (rs : List Record) → unless (is_open h) (row_tests net earlier (asked n) (verdict_of_head (asked n) t rs) (proof_of_head (asked n) (shapes_of (known_of net earlier)) (parts_after net earlier n t) t rs)) ≡ row_tests net earlier (asked n) (verdict_of_head (asked n) t rs) (proof_of_head (asked n) (shapes_of (known_of net earlier)) (parts_after net earlier n t) t rs)
+  pub trees_are : problems_by (asked n) net (number t 0) ≡ problems meaning (asked n) (known_of net earlier) h
   pub tight_is : (rs : List Record) → tight (verdict_of_head (asked n) t rs) ≡ verdict_of_head (asked n) t rs
   pub head_parts : PartsWithin 7 (head_tests net earlier (asked n) (verdict_of_head (asked n) t []))
   pub heads_same : (rs : List Record) → AllHold (head_tests net earlier (asked n) (verdict_of_head (asked n) t [])) → AllHold (head_tests net earlier (asked n) (verdict_of_head (asked n) t rs))
   pub fit : (rs : List Record) → HeadHolds net earlier n t → AllZip Fits (forms_below net earlier n t) rs → FitAnswer (asked n) t (parts_after net earlier n t) (lists rs)
-  pub formed : (rs : List Record) → HeadHolds net earlier n t → AllZip Fits (forms_below net earlier n t) rs
+  pub formed : (rs : List Record) → (AsksForTree n → number t 0 ≡ 1 → ⊥) → HeadHolds net earlier n t → AllZip Fits (forms_below net earlier n t) rs
       → IsFormedOf net earlier (asked n) (verdict_of_head (asked n) t rs) (proof_of_head (asked n) (shapes_of (known_of net earlier)) (parts_after net earlier n t) t rs)
   pub row_parts : (rs : List Record) → HeadHolds net earlier n t → AllZip Fits (forms_below net earlier n t) rs
       → PartsWithin (suc (length rs)) (row_tests net earlier (asked n) (verdict_of_head (asked n) t rs) (proof_of_head (asked n) (shapes_of (known_of net earlier)) (parts_after net earlier n t) t rs))
@@ -125,11 +126,12 @@ linkage_facts net earlier k network range =
       shown = λ rs. refl;
       heads_are = refl;
       rows_are = λ rs. refl;
+      trees_are = refl;
       tight_is = λ rs. refl;
       head_parts = tt;
       heads_same = λ rs p. p;
       fit = λ rs hold z. (few_rows forms rs z, small_rows forms rs smalls z);
-      formed = λ rs hold z. let f = linkage_rows c r k rs z in (range, (f.0, record { names_are = f.1.0; depth_is = f.1.1 }));
+      formed = λ rs other hold z. let f = linkage_rows c r k rs z in (range, (f.0, record { names_are = f.1.0; depth_is = f.1.1 }));
       row_parts = λ rs hold z. let l = zip_length forms rs z in (omega (arith, l), (omega (arith, l), tt));
     }
 
@@ -186,11 +188,12 @@ strong_facts net earlier k m network range =
       shown = λ rs. refl;
       heads_are = refl;
       rows_are = λ rs. refl;
+      trees_are = refl;
       tight_is = λ rs. refl;
       head_parts = tt;
       heads_same = λ rs p. p;
       fit = λ rs hold z. (few_rows forms rs z, small_rows forms rs smalls z);
-      formed = λ rs hold z. let f = strong_rows c r k rs z in
+      formed = λ rs other hold z. let f = strong_rows c r k rs z in
           (((omega (arith, range.0, range.1), range.2), (range.0, range.1)), (f.labels, f.exits, record { names_are = f.from; depth_is = f.from_depth }, record { names_are = f.to; depth_is = f.to_depth }, f.levels));
       row_parts = λ rs hold z. let l = zip_length forms rs z in (omega (arith, l), (omega (arith, l), (omega (arith, l), (omega (arith, l), (omega (arith, l), (omega (arith, l), tt))))));
     }
@@ -215,11 +218,12 @@ reversible_facts net earlier network = record {
   shown = λ rs. refl;
   heads_are = refl;
   rows_are = λ rs. refl;
+  trees_are = refl;
   tight_is = λ rs. refl;
   head_parts = tt;
   heads_same = λ rs p. p;
   fit = λ rs hold z. let many = network.partial.reactions_limit in let forms = small_form (codes "back") (length net.reactions) 1 (length net.reactions) ∷ [] in (few_rows forms rs z, small_rows forms rs (form_of (codes "back") (length net.reactions) 1 (length net.reactions) (omega (arith, many)), tt) z);
-  formed = λ rs hold z. (tt, reverse_rows (length net.reactions) rs z);
+  formed = λ rs other hold z. (tt, reverse_rows (length net.reactions) rs z);
   row_parts = λ rs hold z. (omega arith, tt);
 }
 
@@ -236,11 +240,12 @@ irreversible_facts net earlier k network range = record {
   shown = λ rs. refl;
   heads_are = refl;
   rows_are = λ rs. refl;
+  trees_are = refl;
   tight_is = λ rs. refl;
   head_parts = (omega arith, tt);
   heads_same = λ rs p. p;
   fit = λ rs hold z. (few_rows [] rs z, small_rows [] rs tt z);
-  formed = λ rs hold z. (range, tt);
+  formed = λ rs other hold z. (range, tt);
   row_parts = λ rs hold z. tt;
 }
 
@@ -257,11 +262,12 @@ weak_facts net earlier network = record {
   shown = λ rs. refl;
   heads_are = refl;
   rows_are = λ rs. refl;
+  trees_are = refl;
   tight_is = λ rs. refl;
   head_parts = (omega arith, tt);
   heads_same = λ rs p. p;
   fit = λ rs hold z. tt;
-  formed = λ rs hold z. (tt, tt);
+  formed = λ rs other hold z. (tt, tt);
   row_parts = λ rs hold z. tt;
 }
 
@@ -278,11 +284,12 @@ not_weak_facts net earlier k network range = record {
   shown = λ rs. refl;
   heads_are = refl;
   rows_are = λ rs. refl;
+  trees_are = refl;
   tight_is = λ rs. refl;
   head_parts = (omega arith, tt);
   heads_same = λ rs p. p;
   fit = λ rs hold z. tt;
-  formed = λ rs hold z. (range, tt);
+  formed = λ rs other hold z. (range, tt);
   row_parts = λ rs hold z. tt;
 }
 
@@ -356,11 +363,12 @@ rank_wide_facts net earlier index basis network low high long rising = record {
   shown = λ rs. refl;
   heads_are = refl;
   rows_are = λ rs. refl;
+  trees_are = refl;
   tight_is = λ rs. refl;
   head_parts = tt;
   heads_same = λ rs p. p;
   fit = λ rs hold z. tt;
-  formed = λ rs hold z. ((refl, refl, wide_basis (length net.names) (length net.reactions) index basis low high long rising), refl);
+  formed = λ rs other hold z. ((refl, refl, wide_basis (length net.names) (length net.reactions) index basis low high long rising), refl);
   row_parts = λ rs hold z. tt;
 }
 
@@ -377,11 +385,12 @@ dependence_wide_facts net earlier index basis network low high long rising = rec
   shown = λ rs. refl;
   heads_are = refl;
   rows_are = λ rs. refl;
+  trees_are = refl;
   tight_is = λ rs. refl;
   head_parts = tt;
   heads_same = λ rs p. p;
   fit = λ rs hold z. tt;
-  formed = λ rs hold z. ((refl, refl, wide_basis (length net.reactions) (length net.names) index basis low high long rising), refl);
+  formed = λ rs other hold z. ((refl, refl, wide_basis (length net.reactions) (length net.names) index basis low high long rising), refl);
   row_parts = λ rs hold z. tt;
 }
 
@@ -398,11 +407,12 @@ law_wide_facts net earlier index basis network low high long rising = record {
   shown = λ rs. refl;
   heads_are = refl;
   rows_are = λ rs. refl;
+  trees_are = refl;
   tight_is = λ rs. refl;
   head_parts = tt;
   heads_same = λ rs p. p;
   fit = λ rs hold z. tt;
-  formed = λ rs hold z. ((refl, refl, wide_basis (length net.names) (length net.reactions) index basis low high long rising), refl);
+  formed = λ rs other hold z. ((refl, refl, wide_basis (length net.names) (length net.reactions) index basis low high long rising), refl);
   row_parts = λ rs hold z. tt;
 }
 
@@ -431,11 +441,12 @@ rank_facts net earlier k network range =
       shown = λ rs. refl;
       heads_are = refl;
       rows_are = λ rs. refl;
+      trees_are = refl;
       tight_is = λ rs. refl;
       head_parts = tt;
       heads_same = λ rs p. p;
       fit = λ rs hold z0. let zz = subst (λ (fs : List Form). AllZip Fits fs rs) (sym below_is) z0 in let l = few_rows forms rs zz in (omega (arith, l, long, count, le), rank_small z k all rs (λ x i. let m = member_few net labels 0 x (subst (λ (xs : List ℕ). IsIn x xs) (sym (members_all net labels)) i) in omega (arith, m, many)) zz);
-      formed = λ rs hold z0. (range, (refl, rank_formed net z k all rs refl (subst (λ (fs : List Form). AllZip Fits fs rs) (sym below_is) z0)));
+      formed = λ rs other hold z0. (range, (refl, rank_formed net z k all rs refl (subst (λ (fs : List Form). AllZip Fits fs rs) (sym below_is) z0)));
       row_parts = λ rs hold z0. let zz = subst (λ (fs : List Form). AllZip Fits fs rs) (sym below_is) z0 in let l = zip_length forms rs zz in rank_parts net all 1 (suc (length rs)) k _ (rank_formed net z k all rs refl zz) (omega (arith, l, long, count, le));
     }
 
@@ -474,11 +485,12 @@ deficiency_facts net earlier total ds network few within long between =
       shown = λ rs. ap (λ (list : List RankProof). Ranks list) (proofs rs);
       heads_are = refl;
       rows_are = λ rs. refl;
+      trees_are = refl;
       tight_is = λ rs. refl;
       head_parts = (omega arith, (omega arith, tt));
       heads_same = λ rs p. p;
       fit = λ rs hold zz. class_fit net earlier z 0 ds rs many hold.1.0.1 (of_forms rs zz);
-      formed = λ rs hold zz. (admitted, subst (λ (list : List RankProof). AreClassProofs net earlier 1 (map nat_abs ds) list) (sym (class_proofs_are net earlier 0 ds rs)) (class_formed net earlier z 0 ds rs refl hold.1.0.1 (of_forms rs zz)));
+      formed = λ rs other hold zz. (admitted, subst (λ (list : List RankProof). AreClassProofs net earlier 1 (map nat_abs ds) list) (sym (class_proofs_are net earlier 0 ds rs)) (class_formed net earlier z 0 ds rs refl hold.1.0.1 (of_forms rs zz)));
       row_parts = λ rs hold zz. let l = zip_length forms rs (of_forms rs zz) in subst (λ (list : List RankProof). PartsWithin (suc (length rs)) (class_rank_tests net earlier 1 1 list)) (sym (class_proofs_are net earlier 0 ds rs)) (class_parts_within net earlier 1 (suc (length rs)) 0 z ds (proofs_from net earlier 1 ds rs) hold.1.0.1 (class_formed net earlier z 0 ds rs refl hold.1.0.1 (of_forms rs zz)) (omega (arith, l)));
     }
 
@@ -536,11 +548,12 @@ class_wide_facts net earlier k index basis network few inside low high long risi
       shown = λ rs. refl;
       heads_are = refl;
       rows_are = λ rs. refl;
+      trees_are = refl;
       tight_is = λ rs. refl;
       head_parts = tt;
       heads_same = λ rs p. p;
       fit = λ rs hold z. ap (λ (x : List Record). lists x) (few_none rs z);
-      formed = λ rs hold z. (gap, refl);
+      formed = λ rs other hold z. (gap, refl);
       row_parts = λ rs hold z. tt;
     }
 
@@ -557,11 +570,12 @@ deficiency_rests_facts net earlier = record {
   shown = λ rs. refl;
   heads_are = refl;
   rows_are = λ rs. refl;
+  trees_are = refl;
   tight_is = λ rs. refl;
   head_parts = tt;
   heads_same = λ rs p. p;
   fit = λ rs hold z. ap (λ (x : List Record). lists x) (few_none rs z);
-  formed = λ rs hold z. (refl, refl);
+  formed = λ rs other hold z. (refl, refl);
   row_parts = λ rs hold z. tt;
 }
 
@@ -585,11 +599,12 @@ dependence_facts net earlier = record {
   shown = λ rs. refl;
   heads_are = refl;
   rows_are = λ rs. refl;
+  trees_are = refl;
   tight_is = λ rs. refl;
   head_parts = tt;
   heads_same = λ rs p. p;
   fit = λ rs hold z. tt;
-  formed = λ rs hold z. (tt, vector_rows (codes "vec") (length net.reactions) rs z);
+  formed = λ rs other hold z. (tt, vector_rows (codes "vec") (length net.reactions) rs z);
   row_parts = λ rs hold z. (omega arith, tt);
 }
 
@@ -606,11 +621,12 @@ no_dependence_facts net earlier = record {
   shown = λ rs. refl;
   heads_are = refl;
   rows_are = λ rs. refl;
+  trees_are = refl;
   tight_is = λ rs. refl;
   head_parts = tt;
   heads_same = λ rs p. p;
   fit = λ rs hold z. tt;
-  formed = λ rs hold z. (tt, vector_rows (codes "cut") (length net.names) rs z);
+  formed = λ rs other hold z. (tt, vector_rows (codes "cut") (length net.names) rs z);
   row_parts = λ rs hold z. (omega arith, tt);
 }
 
@@ -627,11 +643,12 @@ law_facts net earlier = record {
   shown = λ rs. refl;
   heads_are = refl;
   rows_are = λ rs. refl;
+  trees_are = refl;
   tight_is = λ rs. refl;
   head_parts = tt;
   heads_same = λ rs p. p;
   fit = λ rs hold z. tt;
-  formed = λ rs hold z. (tt, vector_rows (codes "vec") (length net.names) rs z);
+  formed = λ rs other hold z. (tt, vector_rows (codes "vec") (length net.names) rs z);
   row_parts = λ rs hold z. (omega arith, tt);
 }
 
@@ -648,11 +665,12 @@ no_law_facts net earlier = record {
   shown = λ rs. refl;
   heads_are = refl;
   rows_are = λ rs. refl;
+  trees_are = refl;
   tight_is = λ rs. refl;
   head_parts = tt;
   heads_same = λ rs p. p;
   fit = λ rs hold z. tt;
-  formed = λ rs hold z. (tt, vector_rows (codes "cut") (length net.reactions) rs z);
+  formed = λ rs other hold z. (tt, vector_rows (codes "cut") (length net.reactions) rs z);
   row_parts = λ rs hold z. (omega arith, tt);
 }
 
@@ -671,11 +689,12 @@ zero_yes_facts net earlier = record {
   shown = λ rs. refl;
   heads_are = refl;
   rows_are = λ rs. refl;
+  trees_are = refl;
   tight_is = λ rs. refl;
   head_parts = (omega arith, (omega arith, tt));
   heads_same = λ rs p. p;
   fit = λ rs hold z. tt;
-  formed = λ rs hold z. (tt, tt);
+  formed = λ rs other hold z. (tt, tt);
   row_parts = λ rs hold z. tt;
 }
 
@@ -692,11 +711,12 @@ zero_other_facts net earlier = record {
   shown = λ rs. refl;
   heads_are = refl;
   rows_are = λ rs. refl;
+  trees_are = refl;
   tight_is = λ rs. refl;
   head_parts = (omega arith, (omega arith, tt));
   heads_same = λ rs p. p;
   fit = λ rs hold z. tt;
-  formed = λ rs hold z. (tt, tt);
+  formed = λ rs other hold z. (tt, tt);
   row_parts = λ rs hold z. tt;
 }
 
@@ -713,11 +733,12 @@ zero_no_facts net earlier d network range = record {
   shown = λ rs. refl;
   heads_are = refl;
   rows_are = λ rs. refl;
+  trees_are = refl;
   tight_is = λ rs. refl;
   head_parts = (omega arith, (omega arith, tt));
   heads_same = λ rs p. p;
   fit = λ rs hold z. tt;
-  formed = λ rs hold z. (range, tt);
+  formed = λ rs other hold z. (range, tt);
   row_parts = λ rs hold z. tt;
 }
 
@@ -734,11 +755,12 @@ zero_rests_facts net earlier = record {
   shown = λ rs. refl;
   heads_are = refl;
   rows_are = λ rs. refl;
+  trees_are = refl;
   tight_is = λ rs. refl;
   head_parts = tt;
   heads_same = λ rs p. p;
   fit = λ rs hold z. tt;
-  formed = λ rs hold z. (refl, refl);
+  formed = λ rs other hold z. (refl, refl);
   row_parts = λ rs hold z. tt;
 }
 
@@ -755,11 +777,12 @@ one_yes_facts net earlier = record {
   shown = λ rs. refl;
   heads_are = refl;
   rows_are = λ rs. refl;
+  trees_are = refl;
   tight_is = λ rs. refl;
   head_parts = (omega arith, tt);
   heads_same = λ rs p. p;
   fit = λ rs hold z. tt;
-  formed = λ rs hold z. (tt, tt);
+  formed = λ rs other hold z. (tt, tt);
   row_parts = λ rs hold z. tt;
 }
 
@@ -776,11 +799,12 @@ one_split_facts net earlier k m network least a b = record {
   shown = λ rs. refl;
   heads_are = refl;
   rows_are = λ rs. refl;
+  trees_are = refl;
   tight_is = λ rs. refl;
   head_parts = (omega arith, tt);
   heads_same = λ rs p. p;
   fit = λ rs hold z. tt;
-  formed = λ rs hold z. ((a, b), tt);
+  formed = λ rs other hold z. ((a, b), tt);
   row_parts = λ rs hold z. tt;
 }
 
@@ -797,11 +821,12 @@ one_large_facts net earlier k m network least a b = record {
   shown = λ rs. refl;
   heads_are = refl;
   rows_are = λ rs. refl;
+  trees_are = refl;
   tight_is = λ rs. refl;
   head_parts = (omega arith, tt);
   heads_same = λ rs p. p;
   fit = λ rs hold z. tt;
-  formed = λ rs hold z. ((a, b), tt);
+  formed = λ rs other hold z. ((a, b), tt);
   row_parts = λ rs hold z. tt;
 }
 
@@ -818,11 +843,12 @@ one_sum_facts net earlier x network range = record {
   shown = λ rs. refl;
   heads_are = refl;
   rows_are = λ rs. refl;
+  trees_are = refl;
   tight_is = λ rs. refl;
   head_parts = (omega arith, tt);
   heads_same = λ rs p. p;
   fit = λ rs hold z. tt;
-  formed = λ rs hold z. (range, tt);
+  formed = λ rs other hold z. (range, tt);
   row_parts = λ rs hold z. tt;
 }
 
@@ -839,11 +865,12 @@ one_rests_facts net earlier = record {
   shown = λ rs. refl;
   heads_are = refl;
   rows_are = λ rs. refl;
+  trees_are = refl;
   tight_is = λ rs. refl;
   head_parts = tt;
   heads_same = λ rs p. p;
   fit = λ rs hold z. tt;
-  formed = λ rs hold z. (refl, refl);
+  formed = λ rs other hold z. (refl, refl);
   row_parts = λ rs hold z. tt;
 }
 
@@ -904,11 +931,12 @@ regular_facts net earlier pairs =
       shown = λ rs. refl;
       heads_are = refl;
       rows_are = λ rs. refl;
+      trees_are = refl;
       tight_is = λ rs. refl;
       head_parts = (omega arith, tt);
       heads_same = λ rs p. p;
       fit = λ rs hold zz. tt;
-      formed = λ rs hold zz. (tt, record { long = long rs zz; each = side_rows z ps rs (of_forms rs zz) });
+      formed = λ rs other hold zz. (tt, record { long = long rs zz; each = side_rows z ps rs (of_forms rs zz) });
       row_parts = λ rs hold zz. let l = long rs zz in let m = zip_length forms rs (of_forms rs zz) in let n = length-map ps (side_form z) in side_parts net earlier 1 (suc (length rs)) ps (map later_numbers (lists rs)) (omega (arith, l, m, n));
     }
 
@@ -925,11 +953,12 @@ regular_split_facts net earlier k m network least a b = record {
   shown = λ rs. refl;
   heads_are = refl;
   rows_are = λ rs. refl;
+  trees_are = refl;
   tight_is = λ rs. refl;
   head_parts = (omega arith, tt);
   heads_same = λ rs p. p;
   fit = λ rs hold z. tt;
-  formed = λ rs hold z. ((a, b), tt);
+  formed = λ rs other hold z. ((a, b), tt);
   row_parts = λ rs hold z. tt;
 }
 
@@ -946,11 +975,12 @@ regular_dependence_facts net earlier = record {
   shown = λ rs. refl;
   heads_are = refl;
   rows_are = λ rs. refl;
+  trees_are = refl;
   tight_is = λ rs. refl;
   head_parts = (omega arith, tt);
   heads_same = λ rs p. p;
   fit = λ rs hold z. tt;
-  formed = λ rs hold z. (tt, tt);
+  formed = λ rs other hold z. (tt, tt);
   row_parts = λ rs hold z. tt;
 }
 
@@ -984,11 +1014,12 @@ regular_cycle_facts net earlier k network range = record {
   shown = λ rs. refl;
   heads_are = refl;
   rows_are = λ rs. refl;
+  trees_are = refl;
   tight_is = λ rs. refl;
   head_parts = (omega arith, tt);
   heads_same = λ rs p. p;
   fit = λ rs hold z. walk_small (length net.complexes) rs (let few = network.partial.complexes_limit in omega (arith, few)) z;
-  formed = λ rs hold z. (range, walk_list net rs z);
+  formed = λ rs other hold z. (range, walk_list net rs z);
   row_parts = λ rs hold z. (omega arith, tt);
 }
 
@@ -1005,11 +1036,12 @@ regular_rests_facts net earlier = record {
   shown = λ rs. refl;
   heads_are = refl;
   rows_are = λ rs. refl;
+  trees_are = refl;
   tight_is = λ rs. refl;
   head_parts = tt;
   heads_same = λ rs p. p;
   fit = λ rs hold z. tt;
-  formed = λ rs hold z. (refl, refl);
+  formed = λ rs other hold z. (refl, refl);
   row_parts = λ rs hold z. tt;
 }
 
@@ -1059,11 +1091,12 @@ confluence_facts net earlier =
       shown = λ rs. refl;
       heads_are = refl;
       rows_are = λ rs. refl;
+      trees_are = refl;
       tight_is = λ rs. refl;
       head_parts = (omega arith, tt);
       heads_same = λ rs p. p;
       fit = λ rs hold zz. tt;
-      formed = λ rs hold zz. (tt, vector_ties net earlier c n rs (of_forms rs zz));
+      formed = λ rs other hold zz. (tt, vector_ties net earlier c n rs (of_forms rs zz));
       row_parts = λ rs hold zz.
           let l = zip_length forms rs (of_forms rs zz) in
           let r = length-replicate n (free_form (codes "tie") (length net.names + linkage_count earlier)) in
@@ -1084,11 +1117,12 @@ irregular_facts net earlier = record {
   shown = λ rs. refl;
   heads_are = refl;
   rows_are = λ rs. refl;
+  trees_are = refl;
   tight_is = λ rs. refl;
   head_parts = (omega arith, tt);
   heads_same = λ rs p. p;
   fit = λ rs hold z. tt;
-  formed = λ rs hold z. (tt, tt);
+  formed = λ rs other hold z. (tt, tt);
   row_parts = λ rs hold z. tt;
 }
 
@@ -1111,11 +1145,12 @@ only_zero_facts net earlier =
       shown = λ rs. refl;
       heads_are = refl;
       rows_are = λ rs. refl;
+      trees_are = refl;
       tight_is = λ rs. refl;
       head_parts = (omega arith, tt);
       heads_same = λ rs p. p;
       fit = λ rs hold zz. tt;
-      formed = λ rs hold zz. (tt, free_rows (codes "tie") width c rs (of_forms rs zz));
+      formed = λ rs other hold zz. (tt, free_rows (codes "tie") width c rs (of_forms rs zz));
       row_parts = λ rs hold zz.
           let l = length-map rs (λ (r : Record). r.numbers) in
           tie_parts net (linkage earlier) (linkage_count earlier) _ 1 (suc (length rs)) _ (lists rs) (omega (arith, l));
@@ -1140,11 +1175,12 @@ plane_facts net earlier a b network first second differ = record {
   shown = λ rs. refl;
   heads_are = refl;
   rows_are = λ rs. refl;
+  trees_are = refl;
   tight_is = λ rs. refl;
   head_parts = (omega arith, tt);
   heads_same = λ rs p. p;
   fit = λ rs hold z. tt;
-  formed = λ rs hold z. ((first, second, differ), plane_rows (length net.complexes) rs z);
+  formed = λ rs other hold z. ((first, second, differ), plane_rows (length net.complexes) rs z);
   row_parts = λ rs hold z. let l = zip_length (free_form (codes "vec") (length net.complexes) ∷ free_form (codes "vec") (length net.complexes) ∷ []) rs z in (omega arith, (omega (arith, l), tt));
 }
 
@@ -1166,11 +1202,12 @@ confluence_wide_facts net earlier index basis network least low high long rising
       shown = λ rs. refl;
       heads_are = refl;
       rows_are = λ rs. refl;
+      trees_are = refl;
       tight_is = λ rs. refl;
       head_parts = tt;
       heads_same = λ rs p. p;
       fit = λ rs hold z. tt;
-      formed = λ rs hold z. ((refl, refl, wide_basis columns rows index basis low high long rising), refl);
+      formed = λ rs other hold z. ((refl, refl, wide_basis columns rows index basis low high long rising), refl);
       row_parts = λ rs hold z. tt;
     }
 
@@ -1187,11 +1224,200 @@ confluence_rests_facts net earlier = record {
   shown = λ rs. refl;
   heads_are = refl;
   rows_are = λ rs. refl;
+  trees_are = refl;
   tight_is = λ rs. refl;
   head_parts = tt;
   heads_same = λ rs p. p;
   fit = λ rs hold z. tt;
-  formed = λ rs hold z. (refl, refl);
+  formed = λ rs other hold z. (refl, refl);
+  row_parts = λ rs hold z. tt;
+}
+
+-- ---- concordance
+
+-- the two lists of a no
+abbrev pair_forms : ℕ → List Form
+pair_forms r = free_form (codes "alpha") r ∷ free_form (codes "weights") r ∷ []
+
+pair_lists : (r : ℕ) (rs : List Record) → AllZip Fits (pair_forms r) rs → AreFree r (row rs 0) × AreFree r (row rs 1)
+pair_lists r [] f = absurd f
+pair_lists r (x ∷ []) f = absurd f.1
+pair_lists r (x ∷ y ∷ z ∷ rs) f = absurd f.1.1
+pair_lists r (x ∷ y ∷ []) f = (free_row (codes "alpha") r x f.0, free_row (codes "weights") r y f.1.0)
+
+concordance_facts : (net : Net) (earlier : Earlier) → Facts net earlier 14 (codes "q14" ∷ yes) []
+concordance_facts net earlier = record {
+  small = ((1, refl, omega arith), tt);
+  short = omega arith;
+  ranks = λ long. tt;
+  is_head = (_, inl refl);
+  few = omega arith;
+  may = tt;
+  below_is = refl;
+  said = λ rs. refl;
+  shown = λ rs. refl;
+  heads_are = refl;
+  rows_are = λ rs. refl;
+  trees_are = refl;
+  tight_is = λ rs. refl;
+  head_parts = tt;
+  heads_same = λ rs p. p;
+  fit = λ rs hold z. tt;
+  formed = λ rs other hold z. absurd (other (inl refl) refl);
+  row_parts = λ rs hold z. tt;
+}
+
+no_concordance_facts : (net : Net) (earlier : Earlier) → Facts net earlier 14 (codes "q14" ∷ no) []
+no_concordance_facts net earlier = record {
+  small = ((2, refl, omega arith), tt);
+  short = omega arith;
+  ranks = λ long. tt;
+  is_head = (_, inr (inl refl));
+  few = omega arith;
+  may = tt;
+  below_is = refl;
+  said = λ rs. refl;
+  shown = λ rs. refl;
+  heads_are = refl;
+  rows_are = λ rs. refl;
+  trees_are = refl;
+  tight_is = λ rs. refl;
+  head_parts = tt;
+  heads_same = λ rs p. p;
+  fit = λ rs hold z. tt;
+  formed = λ rs other hold z. (tt, pair_lists (length net.reactions) rs z);
+  row_parts = λ rs hold z. let l = zip_length (pair_forms (length net.reactions)) rs z in (omega (arith, l), tt);
+}
+
+concordance_wide_facts : (net : Net) (earlier : Earlier) (index : ℕ) (basis : List ℤ) → IsNetwork net → 1 ≤ index → index ≤ length net.reactions + length net.names → length basis ≡ length net.reactions → AreRising (length net.reactions + length net.names) basis → Facts net earlier 14 (codes "q14" ∷ open_by (codes "wide")) (pos 2 ∷ pos 0 ∷ pos index ∷ basis)
+concordance_wide_facts net earlier index basis network low high long rising = record {
+  small = wide_small 3 2 index (length net.reactions + length net.names) basis (omega arith) (omega arith) (let s0 = network.partial.species_limit in let r0 = network.partial.reactions_limit in omega (arith, high, s0, r0)) (let s0 = network.partial.species_limit in let r0 = network.partial.reactions_limit in omega (arith, s0, r0)) rising;
+  short = (let s0 = network.partial.species_limit in let r0 = network.partial.reactions_limit in omega (arith, long, s0, r0));
+  ranks = λ long. tt;
+  is_head = (_, inr (inr (inl refl)));
+  few = omega arith;
+  may = (refl, refl, wide_basis (length net.reactions) (length net.names) index basis low high long rising);
+  below_is = refl;
+  said = λ rs. refl;
+  shown = λ rs. refl;
+  heads_are = refl;
+  rows_are = λ rs. refl;
+  trees_are = refl;
+  tight_is = λ rs. refl;
+  head_parts = tt;
+  heads_same = λ rs p. p;
+  fit = λ rs hold z. tt;
+  formed = λ rs other hold z. ((refl, refl, wide_basis (length net.reactions) (length net.names) index basis low high long rising), refl);
+  row_parts = λ rs hold z. tt;
+}
+
+concordance_spent_facts : (net : Net) (earlier : Earlier) (k : ℕ) → (1 ≤ k) × (k ≤ MAX_BUDGET) → Facts net earlier 14 (codes "q14" ∷ open_by (codes "budget")) (pos k ∷ [])
+concordance_spent_facts net earlier k range = record {
+  small = ((4, refl, omega arith), one_small k (omega (arith, range.1)));
+  short = omega arith;
+  ranks = λ long. tt;
+  is_head = (_, inr (inr (inr refl)));
+  few = omega arith;
+  may = range;
+  below_is = refl;
+  said = λ rs. refl;
+  shown = λ rs. refl;
+  heads_are = refl;
+  rows_are = λ rs. refl;
+  trees_are = refl;
+  tight_is = λ rs. refl;
+  head_parts = tt;
+  heads_same = λ rs p. p;
+  fit = λ rs hold z. tt;
+  formed = λ rs other hold z. (range, refl);
+  row_parts = λ rs hold z. tt;
+}
+
+strongly_facts : (net : Net) (earlier : Earlier) → Facts net earlier 15 (codes "q15" ∷ yes) []
+strongly_facts net earlier = record {
+  small = ((1, refl, omega arith), tt);
+  short = omega arith;
+  ranks = λ long. tt;
+  is_head = (_, inl refl);
+  few = omega arith;
+  may = tt;
+  below_is = refl;
+  said = λ rs. refl;
+  shown = λ rs. refl;
+  heads_are = refl;
+  rows_are = λ rs. refl;
+  trees_are = refl;
+  tight_is = λ rs. refl;
+  head_parts = tt;
+  heads_same = λ rs p. p;
+  fit = λ rs hold z. tt;
+  formed = λ rs other hold z. absurd (other (inr refl) refl);
+  row_parts = λ rs hold z. tt;
+}
+
+no_strongly_facts : (net : Net) (earlier : Earlier) → Facts net earlier 15 (codes "q15" ∷ no) []
+no_strongly_facts net earlier = record {
+  small = ((2, refl, omega arith), tt);
+  short = omega arith;
+  ranks = λ long. tt;
+  is_head = (_, inr (inl refl));
+  few = omega arith;
+  may = tt;
+  below_is = refl;
+  said = λ rs. refl;
+  shown = λ rs. refl;
+  heads_are = refl;
+  rows_are = λ rs. refl;
+  trees_are = refl;
+  tight_is = λ rs. refl;
+  head_parts = tt;
+  heads_same = λ rs p. p;
+  fit = λ rs hold z. tt;
+  formed = λ rs other hold z. (tt, pair_lists (length net.reactions) rs z);
+  row_parts = λ rs hold z. let l = zip_length (pair_forms (length net.reactions)) rs z in (omega (arith, l), tt);
+}
+
+strongly_wide_facts : (net : Net) (earlier : Earlier) (index : ℕ) (basis : List ℤ) → IsNetwork net → 1 ≤ index → index ≤ length net.reactions + length net.names → length basis ≡ length net.reactions → AreRising (length net.reactions + length net.names) basis → Facts net earlier 15 (codes "q15" ∷ open_by (codes "wide")) (pos 2 ∷ pos 0 ∷ pos index ∷ basis)
+strongly_wide_facts net earlier index basis network low high long rising = record {
+  small = wide_small 3 2 index (length net.reactions + length net.names) basis (omega arith) (omega arith) (let s0 = network.partial.species_limit in let r0 = network.partial.reactions_limit in omega (arith, high, s0, r0)) (let s0 = network.partial.species_limit in let r0 = network.partial.reactions_limit in omega (arith, s0, r0)) rising;
+  short = (let s0 = network.partial.species_limit in let r0 = network.partial.reactions_limit in omega (arith, long, s0, r0));
+  ranks = λ long. tt;
+  is_head = (_, inr (inr (inl refl)));
+  few = omega arith;
+  may = (refl, refl, wide_basis (length net.reactions) (length net.names) index basis low high long rising);
+  below_is = refl;
+  said = λ rs. refl;
+  shown = λ rs. refl;
+  heads_are = refl;
+  rows_are = λ rs. refl;
+  trees_are = refl;
+  tight_is = λ rs. refl;
+  head_parts = tt;
+  heads_same = λ rs p. p;
+  fit = λ rs hold z. tt;
+  formed = λ rs other hold z. ((refl, refl, wide_basis (length net.reactions) (length net.names) index basis low high long rising), refl);
+  row_parts = λ rs hold z. tt;
+}
+
+strongly_spent_facts : (net : Net) (earlier : Earlier) (k : ℕ) → (1 ≤ k) × (k ≤ MAX_BUDGET) → Facts net earlier 15 (codes "q15" ∷ open_by (codes "budget")) (pos k ∷ [])
+strongly_spent_facts net earlier k range = record {
+  small = ((4, refl, omega arith), one_small k (omega (arith, range.1)));
+  short = omega arith;
+  ranks = λ long. tt;
+  is_head = (_, inr (inr (inr refl)));
+  few = omega arith;
+  may = range;
+  below_is = refl;
+  said = λ rs. refl;
+  shown = λ rs. refl;
+  heads_are = refl;
+  rows_are = λ rs. refl;
+  trees_are = refl;
+  tight_is = λ rs. refl;
+  head_parts = tt;
+  heads_same = λ rs p. p;
+  fit = λ rs hold z. tt;
+  formed = λ rs other hold z. (range, refl);
   row_parts = λ rs hold z. tt;
 }
 
@@ -1410,6 +1636,40 @@ by_confluence net earlier h network few pairs (form, inr (inr (inr (inr (inr (in
     let same : k.0 ≡ 11 = (let a = k.2.0 in let b = k.2.1 in omega (arith, a, b)) in
     same_facts net earlier 12 h (codes "q12" ∷ open_by (codes "rests")) (pos 11 ∷ []) f.0 (k.1 ∙ ap (λ (m : ℕ). pos m ∷ []) same) (confluence_rests_facts net earlier)
 
+by_concordance : (net : Net) (earlier : Earlier) (h : Record) → FactsAt net earlier h 14
+by_concordance net earlier h network few pairs (form, inr (inr (inr (inr none))), fits) = absurd none
+by_concordance net earlier h network few pairs (form, inl e, fits) =
+    let f = as_form h form (head (codes "q14") 1 yes []) e fits in
+    same_facts net earlier 14 h (codes "q14" ∷ yes) [] f.0 f.1 (concordance_facts net earlier)
+by_concordance net earlier h network few pairs (form, inr (inl e), fits) =
+    let f = as_form h form (head (codes "q14") 2 no []) e fits in
+    same_facts net earlier 14 h (codes "q14" ∷ no) [] f.0 f.1 (no_concordance_facts net earlier)
+by_concordance net earlier h network few pairs (form, inr (inr (inl e)), fits) =
+    let f = as_form h form (wide (codes "q14") 3 2 (length net.reactions) (length net.names)) e fits in
+    let w = wide_numbers 2 (length net.reactions) (length net.names) h.numbers f.1 in
+    same_facts net earlier 14 h (codes "q14" ∷ open_by (codes "wide")) (pos 2 ∷ pos 0 ∷ pos w.index ∷ w.basis) f.0 w.is (concordance_wide_facts net earlier w.index w.basis network w.low w.high w.long w.rising)
+by_concordance net earlier h network few pairs (form, inr (inr (inr (inl e))), fits) =
+    let f = as_form h form (spent (codes "q14") 4) e fits in
+    let k = one_number 1 MAX_BUDGET h.numbers (one_field (small 1 1 MAX_BUDGET) h.numbers f.1) in
+    same_facts net earlier 14 h (codes "q14" ∷ open_by (codes "budget")) (pos k.0 ∷ []) f.0 k.1 (concordance_spent_facts net earlier k.0 k.2)
+
+by_strongly : (net : Net) (earlier : Earlier) (h : Record) → FactsAt net earlier h 15
+by_strongly net earlier h network few pairs (form, inr (inr (inr (inr none))), fits) = absurd none
+by_strongly net earlier h network few pairs (form, inl e, fits) =
+    let f = as_form h form (head (codes "q15") 1 yes []) e fits in
+    same_facts net earlier 15 h (codes "q15" ∷ yes) [] f.0 f.1 (strongly_facts net earlier)
+by_strongly net earlier h network few pairs (form, inr (inl e), fits) =
+    let f = as_form h form (head (codes "q15") 2 no []) e fits in
+    same_facts net earlier 15 h (codes "q15" ∷ no) [] f.0 f.1 (no_strongly_facts net earlier)
+by_strongly net earlier h network few pairs (form, inr (inr (inl e)), fits) =
+    let f = as_form h form (wide (codes "q15") 3 2 (length net.reactions) (length net.names)) e fits in
+    let w = wide_numbers 2 (length net.reactions) (length net.names) h.numbers f.1 in
+    same_facts net earlier 15 h (codes "q15" ∷ open_by (codes "wide")) (pos 2 ∷ pos 0 ∷ pos w.index ∷ w.basis) f.0 w.is (strongly_wide_facts net earlier w.index w.basis network w.low w.high w.long w.rising)
+by_strongly net earlier h network few pairs (form, inr (inr (inr (inl e))), fits) =
+    let f = as_form h form (spent (codes "q15") 4) e fits in
+    let k = one_number 1 MAX_BUDGET h.numbers (one_field (small 1 1 MAX_BUDGET) h.numbers f.1) in
+    same_facts net earlier 15 h (codes "q15" ∷ open_by (codes "budget")) (pos k.0 ∷ []) f.0 k.1 (strongly_spent_facts net earlier k.0 k.2)
+
 pub head_facts : (net : Net) (earlier : Earlier) (n : ℕ) (h : Record) → IsBuilt n → FactsAt net earlier h n
 head_facts net earlier n h (inl e) = subst (FactsAt net earlier h) (sym e) (by_linkage net earlier h)
 head_facts net earlier n h (inr (inl e)) = subst (FactsAt net earlier h) (sym e) (by_strong net earlier h)
@@ -1423,9 +1683,11 @@ head_facts net earlier n h (inr (inr (inr (inr (inr (inr (inr (inr (inl e)))))))
 head_facts net earlier n h (inr (inr (inr (inr (inr (inr (inr (inr (inr (inl e)))))))))) = subst (FactsAt net earlier h) (sym e) (by_one net earlier h)
 head_facts net earlier n h (inr (inr (inr (inr (inr (inr (inr (inr (inr (inr (inl e))))))))))) = subst (FactsAt net earlier h) (sym e) (by_regular net earlier h)
 head_facts net earlier n h (inr (inr (inr (inr (inr (inr (inr (inr (inr (inr (inr (inl e)))))))))))) = subst (FactsAt net earlier h) (sym e) (by_confluence net earlier h)
-head_facts net earlier n h (inr (inr (inr (inr (inr (inr (inr (inr (inr (inr (inr (inr none)))))))))))) = absurd none
+head_facts net earlier n h (inr (inr (inr (inr (inr (inr (inr (inr (inr (inr (inr (inr (inl e))))))))))))) = subst (FactsAt net earlier h) (sym e) (by_concordance net earlier h)
+head_facts net earlier n h (inr (inr (inr (inr (inr (inr (inr (inr (inr (inr (inr (inr (inr (inl e)))))))))))))) = subst (FactsAt net earlier h) (sym e) (by_strongly net earlier h)
+head_facts net earlier n h (inr (inr (inr (inr (inr (inr (inr (inr (inr (inr (inr (inr (inr (inr none)))))))))))))) = absurd none
 
-pub said_facts : (net : Net) (n : ℕ) (facts : KeptFacts) (head : List ℤ) (h : Record) → IsBuilt n → IsKnown net n facts → IsHead net facts.earlier n head h → HeadFacts net facts.earlier n h head
+pub said_facts : (net : Net) (n : ℕ) (facts : KeptFacts) (head : List ℤ) (h : Record) → IsBuilt n → IsKnown net (before n) facts → IsHead net facts.earlier n head h → HeadFacts net facts.earlier n h head
 said_facts net n facts head h built known said =
     subst (λ (t : List ℤ). HeadFacts net facts.earlier n h t) (sym said.tag) (head_facts net facts.earlier n h built known.network (count_few net n facts built known) (pairs_known net n facts known) said.form)
 
@@ -1444,7 +1706,9 @@ heads_by_sizes n (inr (inr (inr (inr (inr (inr (inr (inr (inl e))))))))) z w s c
 heads_by_sizes n (inr (inr (inr (inr (inr (inr (inr (inr (inr (inl e)))))))))) z w s c r k = subst (λ (m : ℕ). heads (question_of m) z ≡ heads (asked m) w) (sym e) (ap₂ (λ (i : ℕ) (x : List ℕ). head (codes "q10") 1 yes [] ∷ head (codes "q10") 2 (no_by (codes "terminal")) (small 1 1 (length x) ∷ small 1 2 i ∷ []) ∷ head (codes "q10") 3 (no_by (codes "class")) (small 1 1 (length x) ∷ small 1 2 i ∷ []) ∷ head (codes "q10") 4 (no_by (codes "sum")) (small 1 0 i ∷ []) ∷ rests (codes "q10") 7 6 ∷ []) c k)
 heads_by_sizes n (inr (inr (inr (inr (inr (inr (inr (inr (inr (inr (inl e))))))))))) z w s c r k = subst (λ (m : ℕ). heads (question_of m) z ≡ heads (asked m) w) (sym e) (ap₂ (λ (i : ℕ × ℕ) (x : List ℕ). head (codes "q11") 1 yes [] ∷ head (codes "q11") 2 (no_by (codes "terminal")) (small 1 1 (length x) ∷ small 1 2 i.0 ∷ []) ∷ head (codes "q11") 3 (no_by (codes "dependence")) [] ∷ head (codes "q11") 4 (no_by (codes "cycle")) (small 1 1 i.1 ∷ []) ∷ rests (codes "q11") 7 7 ∷ []) (ap₂ (λ (i j : ℕ). (i, j)) c r) k)
 heads_by_sizes n (inr (inr (inr (inr (inr (inr (inr (inr (inr (inr (inr (inl e)))))))))))) z w s c r k = subst (λ (m : ℕ). heads (question_of m) z ≡ heads (asked m) w) (sym e) (ap₂ (λ (i : ℕ × ℕ) (x : List ℕ). head (codes "q12") 1 yes [] ∷ head (codes "q12") 2 (none_by (codes "regular")) [] ∷ head (codes "q12") 3 (none_by (codes "zero")) [] ∷ head (codes "q12") 4 (none_by (codes "plane")) (TwoOf i.0 ∷ []) ∷ wide (codes "q12") 5 4 i.0 (i.1 + length x) ∷ rests (codes "q12") 7 11 ∷ []) (ap₂ (λ (i j : ℕ). (i, j)) c s) k)
-heads_by_sizes n (inr (inr (inr (inr (inr (inr (inr (inr (inr (inr (inr (inr none)))))))))))) z w s c r k = absurd none
+heads_by_sizes n (inr (inr (inr (inr (inr (inr (inr (inr (inr (inr (inr (inr (inl e))))))))))))) z w s c r k = subst (λ (m : ℕ). heads (question_of m) z ≡ heads (asked m) w) (sym e) (ap₂ (λ (i j : ℕ). head (codes "q14") 1 yes [] ∷ head (codes "q14") 2 no [] ∷ wide (codes "q14") 3 2 i j ∷ spent (codes "q14") 4 ∷ []) r s)
+heads_by_sizes n (inr (inr (inr (inr (inr (inr (inr (inr (inr (inr (inr (inr (inr (inl e)))))))))))))) z w s c r k = subst (λ (m : ℕ). heads (question_of m) z ≡ heads (asked m) w) (sym e) (ap₂ (λ (i j : ℕ). head (codes "q15") 1 yes [] ∷ head (codes "q15") 2 no [] ∷ wide (codes "q15") 3 2 i j ∷ spent (codes "q15") 4 ∷ []) r s)
+heads_by_sizes n (inr (inr (inr (inr (inr (inr (inr (inr (inr (inr (inr (inr (inr (inr none)))))))))))))) z w s c r k = absurd none
 
 pub number_of_built : (n : ℕ) → IsBuilt n → (1 ≤ n) × (n ≤ 15)
 number_of_built n (inl e) = (omega (arith, e), omega (arith, e))
@@ -1459,4 +1723,6 @@ number_of_built n (inr (inr (inr (inr (inr (inr (inr (inr (inl e))))))))) = (ome
 number_of_built n (inr (inr (inr (inr (inr (inr (inr (inr (inr (inl e)))))))))) = (omega (arith, e), omega (arith, e))
 number_of_built n (inr (inr (inr (inr (inr (inr (inr (inr (inr (inr (inl e))))))))))) = (omega (arith, e), omega (arith, e))
 number_of_built n (inr (inr (inr (inr (inr (inr (inr (inr (inr (inr (inr (inl e)))))))))))) = (omega (arith, e), omega (arith, e))
-number_of_built n (inr (inr (inr (inr (inr (inr (inr (inr (inr (inr (inr (inr none)))))))))))) = absurd none
+number_of_built n (inr (inr (inr (inr (inr (inr (inr (inr (inr (inr (inr (inr (inl e))))))))))))) = (omega (arith, e), omega (arith, e))
+number_of_built n (inr (inr (inr (inr (inr (inr (inr (inr (inr (inr (inr (inr (inr (inl e)))))))))))))) = (omega (arith, e), omega (arith, e))
+number_of_built n (inr (inr (inr (inr (inr (inr (inr (inr (inr (inr (inr (inr (inr (inr none)))))))))))))) = absurd none

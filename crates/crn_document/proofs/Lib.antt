@@ -7,6 +7,7 @@ mod Ranks
 mod Heads
 mod Blocks
 mod Sections
+mod Places
 mod Titles
 mod FoundLines
 mod NetworkLines
@@ -17,3 +18,8 @@ mod Said
 mod Bodies
 mod Documents
 mod Codes
+mod CoursesFollowed
+mod DueTrees
+mod NodeRecords
+mod NodeWords
+mod TreesBelow

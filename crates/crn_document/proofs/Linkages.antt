@@ -1,5 +1,5 @@
 -- The linkage classes that are known before a block, by the verdicts on all questions before it.
-use Rattle.std.proofs.Common.{◌≡◌, ◌≤◌, ◌<◌, ◌+◌, ◌-◌, ◌++◌, ◌∙◌, ℕ, zero, suc, Bool, true, false, List, [], ◌∷◌, length, map, take, drop, refl, sym, subst, ap, inl, inr, arith}
+use Rattle.std.proofs.Common.{◌≡◌, ◌≤◌, ◌<◌, ◌+◌, ◌-◌, ◌++◌, ◌∙◌, ℕ, zero, suc, Bool, true, false, List, [], ◌∷◌, length, map, drop, refl, sym, subst, ap, inl, inr, arith}
 use Rattle.std.specs.Prelude.{codes, filter}
 use Rattle.std.proofs.Common.{cond, ap₂, append_assoc, Result, Ok, Err, OnOk, Bor}
 use Rattle.std.specs.List.{AllByRecursion, range_with_len}
@@ -21,7 +21,7 @@ use Rattle.crn_check.specs.Facts.{KeptFacts, HoldsOn}
 use Rattle.crn_check.specs.Check.{IsBuilt}
 use Rattle.crn_check.proofs.CallerLemmas.{formed_on}
 use Rattle.crn_document.specs.declared.linkage.Linkage.{Linkage}
-use Rattle.crn_document.specs.Inner.Parts.{IsKnown, IsLinkage, class_counts, is_in_class, members_of}
+use Rattle.crn_document.specs.Inner.Parts.{IsKnown, IsLinkage, before, class_counts, is_in_class, members_of}
 use Rattle.crn_document.specs.Inner.Heads.{FitsCounts, known_of}
 use Rattle.crn_document.specs.Inner.Records.{IsOwnDue}
 use Rattle.crn_cert.specs.Valid.{linkage, linkage_count, class_places, pair_places}
@@ -44,25 +44,27 @@ first_of [] qs is = absurd cc
 first_of (e ∷ es) qs is = let same : e.0 ≡ Q1 = cc in inl (sym (ap number same))
 
 -- the verdict on the first question is held before all later ones
-pub holds_first : (net : Net) (n : ℕ) (facts : KeptFacts) → IsBuilt n → (n ≡ 1 → ⊥) → IsKnown net n facts → HoldsOn facts.earlier 1
+pub holds_first : (net : Net) (n : ℕ) (facts : KeptFacts) → IsBuilt n → (n ≡ 1 → ⊥) → IsKnown net (before n) facts → HoldsOn facts.earlier 1
 holds_first net n facts (inl e) differs k = absurd (differs e)
-holds_first net n facts (inr (inl e)) differs k = first_of facts.earlier [] (k.so_far ∙ ap (λ (m : ℕ). take (m - 1) built) e)
-holds_first net n facts (inr (inr (inl e))) differs k = first_of facts.earlier _ (k.so_far ∙ ap (λ (m : ℕ). take (m - 1) built) e)
-holds_first net n facts (inr (inr (inr (inl e)))) differs k = first_of facts.earlier _ (k.so_far ∙ ap (λ (m : ℕ). take (m - 1) built) e)
-holds_first net n facts (inr (inr (inr (inr (inl e))))) differs k = first_of facts.earlier _ (k.so_far ∙ ap (λ (m : ℕ). take (m - 1) built) e)
-holds_first net n facts (inr (inr (inr (inr (inr (inl e)))))) differs k = first_of facts.earlier _ (k.so_far ∙ ap (λ (m : ℕ). take (m - 1) built) e)
-holds_first net n facts (inr (inr (inr (inr (inr (inr (inl e))))))) differs k = first_of facts.earlier _ (k.so_far ∙ ap (λ (m : ℕ). take (m - 1) built) e)
-holds_first net n facts (inr (inr (inr (inr (inr (inr (inr (inl e)))))))) differs k = first_of facts.earlier _ (k.so_far ∙ ap (λ (m : ℕ). take (m - 1) built) e)
-holds_first net n facts (inr (inr (inr (inr (inr (inr (inr (inr (inl e))))))))) differs k = first_of facts.earlier _ (k.so_far ∙ ap (λ (m : ℕ). take (m - 1) built) e)
-holds_first net n facts (inr (inr (inr (inr (inr (inr (inr (inr (inr (inl e)))))))))) differs k = first_of facts.earlier _ (k.so_far ∙ ap (λ (m : ℕ). take (m - 1) built) e)
-holds_first net n facts (inr (inr (inr (inr (inr (inr (inr (inr (inr (inr (inl e))))))))))) differs k = first_of facts.earlier _ (k.so_far ∙ ap (λ (m : ℕ). take (m - 1) built) e)
-holds_first net n facts (inr (inr (inr (inr (inr (inr (inr (inr (inr (inr (inr (inl e)))))))))))) differs k = first_of facts.earlier _ (k.so_far ∙ ap (λ (m : ℕ). take (m - 1) built) e)
-holds_first net n facts (inr (inr (inr (inr (inr (inr (inr (inr (inr (inr (inr (inr none)))))))))))) differs k = absurd none
+holds_first net n facts (inr (inl e)) differs k = first_of facts.earlier [] (k.so_far ∙ ap (λ (m : ℕ). before m) e)
+holds_first net n facts (inr (inr (inl e))) differs k = first_of facts.earlier _ (k.so_far ∙ ap (λ (m : ℕ). before m) e)
+holds_first net n facts (inr (inr (inr (inl e)))) differs k = first_of facts.earlier _ (k.so_far ∙ ap (λ (m : ℕ). before m) e)
+holds_first net n facts (inr (inr (inr (inr (inl e))))) differs k = first_of facts.earlier _ (k.so_far ∙ ap (λ (m : ℕ). before m) e)
+holds_first net n facts (inr (inr (inr (inr (inr (inl e)))))) differs k = first_of facts.earlier _ (k.so_far ∙ ap (λ (m : ℕ). before m) e)
+holds_first net n facts (inr (inr (inr (inr (inr (inr (inl e))))))) differs k = first_of facts.earlier _ (k.so_far ∙ ap (λ (m : ℕ). before m) e)
+holds_first net n facts (inr (inr (inr (inr (inr (inr (inr (inl e)))))))) differs k = first_of facts.earlier _ (k.so_far ∙ ap (λ (m : ℕ). before m) e)
+holds_first net n facts (inr (inr (inr (inr (inr (inr (inr (inr (inl e))))))))) differs k = first_of facts.earlier _ (k.so_far ∙ ap (λ (m : ℕ). before m) e)
+holds_first net n facts (inr (inr (inr (inr (inr (inr (inr (inr (inr (inl e)))))))))) differs k = first_of facts.earlier _ (k.so_far ∙ ap (λ (m : ℕ). before m) e)
+holds_first net n facts (inr (inr (inr (inr (inr (inr (inr (inr (inr (inr (inl e))))))))))) differs k = first_of facts.earlier _ (k.so_far ∙ ap (λ (m : ℕ). before m) e)
+holds_first net n facts (inr (inr (inr (inr (inr (inr (inr (inr (inr (inr (inr (inl e)))))))))))) differs k = first_of facts.earlier _ (k.so_far ∙ ap (λ (m : ℕ). before m) e)
+holds_first net n facts (inr (inr (inr (inr (inr (inr (inr (inr (inr (inr (inr (inr (inl e))))))))))))) differs k = first_of facts.earlier _ (k.so_far ∙ ap (λ (m : ℕ). before m) e)
+holds_first net n facts (inr (inr (inr (inr (inr (inr (inr (inr (inr (inr (inr (inr (inr (inl e)))))))))))))) differs k = first_of facts.earlier _ (k.so_far ∙ ap (λ (m : ℕ). before m) e)
+holds_first net n facts (inr (inr (inr (inr (inr (inr (inr (inr (inr (inr (inr (inr (inr (inr none)))))))))))))) differs k = absurd none
 
 -- no class is known before the first block
-pub linkage_none : (net : Net) (n : ℕ) (facts : KeptFacts) (l : Linkage) → IsKnown net n facts → n ≡ 1 → l.labels.now ≡ [] → l.count ≡ 0 → IsLinkage facts.earlier l
+pub linkage_none : (net : Net) (n : ℕ) (facts : KeptFacts) (l : Linkage) → IsKnown net (before n) facts → n ≡ 1 → l.labels.now ≡ [] → l.count ≡ 0 → IsLinkage facts.earlier l
 linkage_none net n facts l k first labels count =
-    let none : facts.earlier ≡ [] = none_yet facts.earlier (k.so_far ∙ ap (λ (m : ℕ). take (m - 1) built) first) in record {
+    let none : facts.earlier ≡ [] = none_yet facts.earlier (k.so_far ∙ ap (λ (m : ℕ). before m) first) in record {
       labels_are = labels ∙ sym (ap (λ (es : Earlier). labels_of (on es Q1)) none);
       count_is = count ∙ sym (ap (λ (es : Earlier). count_of (on es Q1)) none);
       long = (let e = ap (λ (x : List ℕ). length x) labels in omega (arith, e));
@@ -70,7 +72,7 @@ linkage_none net n facts l k first labels count =
     }
 
 -- later the classes are those of the first verdict
-pub linkage_is : (net : Net) (n : ℕ) (facts : KeptFacts) (v : Verdict) (l : Linkage) → IsBuilt n → (n ≡ 1 → ⊥) → IsKnown net n facts → v ≡ on facts.earlier Q1 → l.labels.now ≡ labels_of v → l.count ≡ count_of v → IsLinkage facts.earlier l
+pub linkage_is : (net : Net) (n : ℕ) (facts : KeptFacts) (v : Verdict) (l : Linkage) → IsBuilt n → (n ≡ 1 → ⊥) → IsKnown net (before n) facts → v ≡ on facts.earlier Q1 → l.labels.now ≡ labels_of v → l.count ≡ count_of v → IsLinkage facts.earlier l
 linkage_is net n facts v l built differs k is labels count =
     let f = formed_on net [] facts.earlier Q1 k.facts_of.formed (holds_first net n facts built differs k) in
     let fits = linkage_fits net f.0 (on facts.earlier Q1) f.1 in
@@ -91,8 +93,8 @@ second_of (e ∷ []) qs is = absurd cc
 second_of (e ∷ f ∷ es) qs is = let same : f.0 ≡ Q2 = cc in inr (inl (sym (ap number same)))
 
 -- the verdict on the second question is held before question 11
-pub holds_second : (net : Net) (n : ℕ) (facts : KeptFacts) → n ≡ 11 → IsKnown net n facts → HoldsOn facts.earlier 2
-holds_second net n facts e k = second_of facts.earlier _ (k.so_far ∙ ap (λ (m : ℕ). take (m - 1) built) e)
+pub holds_second : (net : Net) (n : ℕ) (facts : KeptFacts) → n ≡ 11 → IsKnown net (before n) facts → HoldsOn facts.earlier 2
+holds_second net n facts e k = second_of facts.earlier _ (k.so_far ∙ ap (λ (m : ℕ). before m) e)
 
 strong_pairs : (net : Net) (e : Earlier) (known : Known) (v : Verdict) → IsFormedVerdict net e Q2 v → pairs_by known v ≡ pair_places known.net known.earlier
 strong_pairs net e known (Strong count terminal label exit) h = refl
@@ -102,7 +104,7 @@ strong_pairs net e known (Unknown (Rests question)) h = absurd h.0
 strong_pairs net e known v h = absurd h.0
 
 -- before question 11 the strong classes are known, and so are the linked pairs within terminal ones
-pub pairs_known : (net : Net) (n : ℕ) (facts : KeptFacts) → IsKnown net n facts → n ≡ 11 → pairs_of (known_of net facts.earlier) ≡ pair_places net facts.earlier
+pub pairs_known : (net : Net) (n : ℕ) (facts : KeptFacts) → IsKnown net (before n) facts → n ≡ 11 → pairs_of (known_of net facts.earlier) ≡ pair_places net facts.earlier
 pairs_known net n facts k e =
     let f = formed_on net [] facts.earlier Q2 k.facts_of.formed (holds_second net n facts e k) in
     strong_pairs net f.0 (known_of net facts.earlier) (on facts.earlier Q2) f.1
@@ -193,9 +195,9 @@ pub members_all : (net : Net) (labels : List ℕ) → members_of net labels 0 �
 members_all net labels = all_pass labels net (range_with_len 1 (length net.reactions))
 
 -- there are at most as many classes as the limit of complexes
-pub count_few : (net : Net) (n : ℕ) (facts : KeptFacts) → IsBuilt n → IsKnown net n facts → count_of (on facts.earlier Q1) ≤ MAX_COMPLEXES
+pub count_few : (net : Net) (n : ℕ) (facts : KeptFacts) → IsBuilt n → IsKnown net (before n) facts → count_of (on facts.earlier Q1) ≤ MAX_COMPLEXES
 count_few net n facts (inl e) k =
-    let none : facts.earlier ≡ [] = none_yet facts.earlier (k.so_far ∙ ap (λ (m : ℕ). take (m - 1) built) e) in
+    let none : facts.earlier ≡ [] = none_yet facts.earlier (k.so_far ∙ ap (λ (m : ℕ). before m) e) in
     let zero_is = ap (λ (es : Earlier). count_of (on es Q1)) none in omega (arith, zero_is)
 count_few net n facts (inr more) k =
     let f = formed_on net [] facts.earlier Q1 k.facts_of.formed (holds_first net n facts (inr more) (later_than more) k) in
@@ -215,7 +217,9 @@ count_few net n facts (inr more) k =
     later_than (inr (inr (inr (inr (inr (inr (inr (inr (inl e))))))))) d = absurd (omega (arith, d, e))
     later_than (inr (inr (inr (inr (inr (inr (inr (inr (inr (inl e)))))))))) d = absurd (omega (arith, d, e))
     later_than (inr (inr (inr (inr (inr (inr (inr (inr (inr (inr (inl e))))))))))) d = absurd (omega (arith, d, e))
-    later_than (inr (inr (inr (inr (inr (inr (inr (inr (inr (inr (inr none))))))))))) d = none
+    later_than (inr (inr (inr (inr (inr (inr (inr (inr (inr (inr (inr (inl e)))))))))))) d = absurd (omega (arith, d, e))
+    later_than (inr (inr (inr (inr (inr (inr (inr (inr (inr (inr (inr (inr (inl e))))))))))))) d = absurd (omega (arith, d, e))
+    later_than (inr (inr (inr (inr (inr (inr (inr (inr (inr (inr (inr (inr (inr none))))))))))))) d = none
 
 -- ---- how many reactions the classes have
 

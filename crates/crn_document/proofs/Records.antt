@@ -27,11 +27,11 @@ abbrev course_by : ℕ → ℕ → Bool → List Form → ℕ → Course Record
 course_by version n after forms mis = due false >>= (λ line. reads version n after forms mis line)
 
 -- what is said of the record that is due is said of the record of these forms
-pub as_expected : (P : Course Record → Type 0) (e : Expect) (version n : ℕ) (forms : List Form) → Expects e version forms → P (asks_for e n) → P (asks version n false forms)
-as_expected P e version n forms x p =
-    subst (λ (m : ℕ). P (course_by version n false forms m)) x.misplaced
-    (subst (λ (fs : List Form). P (course_by version n false fs (misplaced e.due))) x.has
-    (subst (λ (b : Bool). P (course_by version n b (forms_of e) (misplaced e.due))) x.after
+pub as_expected : (P : Course Record → Type 0) (e : Expect) (version n : ℕ) (after : Bool) (forms : List Form) → Expects e version after forms → P (asks_for e n) → P (asks version n after forms)
+as_expected P e version n after forms x p =
+    subst (λ (m : ℕ). P (course_by version n after forms m)) x.misplaced
+    (subst (λ (fs : List Form). P (course_by version n after fs (misplaced e.due))) x.has
+    (subst (λ (b : Bool). P (course_by version n b (forms_of e) (misplaced e.due))) x.by_tree
     (subst (λ (v : ℕ). P (course_by v n (is_after e.due e.after_tree) (forms_of e) (misplaced e.due))) x.of_version p)))
 
 -- what a record below a head that is due says, where there are so many complexes
@@ -72,19 +72,19 @@ pub row_untagged : (c : ℕ) (form : Form) (d : Due) → IsRowDue c form d → (
 row_untagged c form d i z r = let f = due_facts c form d i in let u = f.untagged in u z r
 
 -- the row that is due
-pub row_expects : (version c : ℕ) (form : Form) (e : Expect) → IsVersion version → e.version ≡ version → e.after_tree ≡ false → AreSizes (sizes_of e.sizes) → (sizes_of e.sizes).complexes ≡ c → IsRowDue c form e.due → Expects e version (form ∷ [])
+pub row_expects : (version c : ℕ) (form : Form) (e : Expect) → IsVersion version → e.version ≡ version → e.after_tree ≡ false → AreSizes (sizes_of e.sizes) → (sizes_of e.sizes).complexes ≡ c → IsRowDue c form e.due → Expects e version false (form ∷ [])
 row_expects version c form e v same none sizes many i =
     let f = due_facts c form e.due i in record {
       may = record { version = subst (λ (k : ℕ). IsVersion k) (sym same) v; sizes = sizes; due = (let m = f.may in m e.version) };
       of_version = same;
-      after = (let a = f.after in a e.after_tree none);
+      by_tree = (let a = f.after in a e.after_tree none);
       has = (let h = f.has in h e.version (sizes_of e.sizes) many);
       misplaced = f.misplaced;
     }
 
 -- a record that was due where nothing is tagged
-pub row_said : (e : Expect) (version : ℕ) (form : Form) → Expects e version (form ∷ []) → ((r : Record) → tag_of e.due (sizes_of e.sizes) r ≡ []) → (r : Record) (read : List ℤ) → IsSaid e read r → Fits form r × (read ≡ r.numbers)
-row_said e version form x none r read said =
+pub row_said : (e : Expect) (version : ℕ) (after : Bool) (form : Form) → Expects e version after (form ∷ []) → ((r : Record) → tag_of e.due (sizes_of e.sizes) r ≡ []) → (r : Record) (read : List ℤ) → IsSaid e read r → Fits form r × (read ≡ r.numbers)
+row_said e version after form x none r read said =
     (only (subst (λ (fs : List Form). IsOneOf fs r) x.has said.form), said.numbers ∙ ap (λ (zs : List ℤ). zs ++ r.numbers) (none r))
   where
     only : IsOneOf (form ∷ []) r → Fits form r

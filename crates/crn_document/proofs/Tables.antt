@@ -1,10 +1,13 @@
 -- Records that are read and not kept: the shared lists of a document, and the lines that open sections.
-use Rattle.std.proofs.Common.{◌≡◌, ◌+◌, ℕ, suc, false, List, [], ◌∷◌, replicate, refl, sym, subst, ap, inl, inr, arith, Result, Ok}
+use Rattle.std.proofs.Common.{◌≡◌, ◌+◌, ◌++◌, ◌∙◌, ℕ, suc, false, List, [], ◌∷◌, replicate, refl, sym, subst, ap, inl, inr, arith, append_assoc, Result, Ok}
+use Rattle.std.proofs.lemmas.List.{append-nil}
 use Rattle.std.specs.Prelude.{ℤ, pos, negsuc}
 use Rattle.std.proofs.lemmas.Int.{ints}
-use Rattle.crn_io.specs.declared.lines.TheConstants.{MAX_SHARED}
+use Rattle.crn_io.specs.declared.lines.TheConstants.{MAX_NUMBERS, MAX_SHARED}
 use Rattle.crn_io.specs.Device.{SourceSeen}
-use Rattle.crn_ctext.specs.Records.{Record, Form}
+use Rattle.crn_ctext.specs.Records.{Record, Form, FreeSeveral}
+use Rattle.crn_ctext.specs.Meaning.{lists}
+use Rattle.crn_ctree.specs.Shared.{IsShared}
 use Rattle.crn_ctext.specs.Kinds.{small, table_form, vector_form}
 use Rattle.crn_ctext.specs.Questions.{first_number}
 use Rattle.crn_ctext.specs.Course.{Course, Give, ◌>>=◌}
@@ -12,10 +15,10 @@ use Rattle.crn_ctext.specs.Blocks.{asks, asks_all, asks_table}
 use Rattle.crn_ctext.specs.Steps.{StepGives}
 use Rattle.crn_document.specs.declared.reading.Reading.{Reading}
 use Rattle.crn_document.specs.declared.stop.CheckStop.{CheckStop}
-use Rattle.crn_document.specs.declared.plain.Plain.TheVariants.{Table}
+use Rattle.crn_document.specs.declared.plain.Plain.TheVariants.{Table, Vector}
 use Rattle.crn_document.specs.Inner.Plain.{IsPlain}
 use Rattle.crn_document.specs.Inner.Steps.{IsVersion, StopIs, StepIs}
-use Rattle.crn_document.specs.Inner.Table.{IsCount, MovesBy}
+use Rattle.crn_document.specs.Inner.Table.{AreKept, IsCount, IsTable, MovesBy}
 use Rattle.crn_document.proofs.Steps.{step_gives, step_then_is, step_map, stop_first}
 use Rattle.crn_document.proofs.Records.{rows_after, first_row}
 use Rattle.crn_document.proofs.Fields.{Holds, one_field}
@@ -35,23 +38,29 @@ pub is_second : (version : ℕ) → IsVersion version → (version ≡ 1 → ⊥
 is_second version (inl e) other = absurd (other e)
 is_second version (inr e) other = e
 
+-- a shared list has at least one number, and no more than a line
+pub shared_is : (numbers : List ℤ) (r : Record) → IsPlain Vector numbers r → IsShared numbers
+shared_is numbers r p =
+    let h = one_field (FreeSeveral 1 MAX_NUMBERS) r.numbers p.0.1 in
+    subst IsShared (sym p.1) (record { some = h.0.0; few = (let e = h.0.1 in omega (arith, e)); narrow = h.1 })
+
 -- ---- records one after another
 
 -- one record, and then the others
-pub moves_then : (version : ℕ) (form : Form) (forms all : List Form) (r : Record) (result : Result (Unit {0}) CheckStop) (old mid new : Reading) (before between now : SourceSeen)
-    → all ≡ form ∷ forms → mid.version ≡ version → mid.line ≡ old.line + 1
+pub kept_then : (version : ℕ) (form : Form) (forms all : List Form) (r : Record) (a b k : List (List ℤ)) (result : Result (Unit {0}) CheckStop) (old mid new : Reading) (before between now : SourceSeen)
+    → all ≡ form ∷ forms → mid.version ≡ version → mid.line ≡ old.line + 1 → b ≡ a ++ r.numbers ∷ []
     → StepGives (asks version old.line false (form ∷ [])) r old.line mid.line old.lines mid.lines before.left between.left → between.faults ≡ before.faults
-    → StepIs (asks_all mid.version mid.line false forms) (λ t rs. MovesBy mid new rs) result mid new between now
-    → StepIs (asks_all version old.line false all) (λ t rs. MovesBy old new rs) result old new before now
-moves_then version form forms all r result old mid new before between now is v l p same q =
-    first_row (λ d. StepIs d (λ t rs. MovesBy old new rs) result old new before now) version old.line form forms all is
-    (step_then_is (asks version old.line false (form ∷ [])) (rows_after version old.line forms) r (λ t rs. MovesBy old new rs) result old mid new before between now p same
-    (step_map (asks_all version (old.line + 1) false forms) (λ rs. r ∷ rs) (λ t rs. MovesBy mid new rs) (λ t rs. MovesBy old new rs) result mid new between now more
-    (subst (λ (k : ℕ). StepIs (asks_all version k false forms) (λ t rs. MovesBy mid new rs) result mid new between now) l
-    (subst (λ (k : ℕ). StepIs (asks_all k mid.line false forms) (λ t rs. MovesBy mid new rs) result mid new between now) v q))))
+    → StepIs (asks_all mid.version mid.line false forms) (λ t rs. AreKept mid new b k rs) result mid new between now
+    → StepIs (asks_all version old.line false all) (λ t rs. AreKept old new a k rs) result old new before now
+kept_then version form forms all r a b k result old mid new before between now is v l row p same q =
+    first_row (λ d. StepIs d (λ t rs. AreKept old new a k rs) result old new before now) version old.line form forms all is
+    (step_then_is (asks version old.line false (form ∷ [])) (rows_after version old.line forms) r (λ t rs. AreKept old new a k rs) result old mid new before between now p same
+    (step_map (asks_all version (old.line + 1) false forms) (λ rs. r ∷ rs) (λ t rs. AreKept mid new b k rs) (λ t rs. AreKept old new a k rs) result mid new between now more
+    (subst (λ (j : ℕ). StepIs (asks_all version j false forms) (λ t rs. AreKept mid new b k rs) result mid new between now) l
+    (subst (λ (j : ℕ). StepIs (asks_all j mid.line false forms) (λ t rs. AreKept mid new b k rs) result mid new between now) v q))))
   where
-    more : (t : Unit {0}) (rs : List Record) → MovesBy mid new rs → MovesBy old new (r ∷ rs)
-    more t rs h = omega (arith, h, l)
+    more : (t : Unit {0}) (rs : List Record) → AreKept mid new b k rs → AreKept old new a k (r ∷ rs)
+    more t rs h = (let m = h.0 in omega (arith, m, l), h.1 ∙ ap (λ (x : List (List ℤ)). x ++ lists rs) row ∙ append_assoc a (r.numbers ∷ []) (lists rs))
 
 -- what stops the first record stops all
 pub stops_first : (version n : ℕ) (form : Form) (forms all : List Form) (e : CheckStop) (old : Reading) (before now : SourceSeen) → all ≡ form ∷ forms → StopIs (asks version n false (form ∷ [])) e old before now
@@ -60,11 +69,11 @@ stops_first version n form forms all e old before now is p =
     first_row (λ d. StopIs d e old before now) version n form forms all is (stop_first (asks version n false (form ∷ [])) (rows_after version n forms) e old before now p)
 
 -- no records
-pub moves_none : (version n : ℕ) (all : List Form) (at : Reading) (seen : SourceSeen) → all ≡ [] → StepIs (asks_all version n false all) (λ (t : Unit {0}) rs. MovesBy at at rs) (Ok tt) at at seen seen
+pub kept_none : (version n : ℕ) (all : List Form) (kept : List (List ℤ)) (at : Reading) (seen : SourceSeen) → all ≡ [] → StepIs (asks_all version n false all) (λ (t : Unit {0}) rs. AreKept at at kept kept rs) (Ok tt) at at seen seen
 unfolding asks_all
-moves_none version n all at seen none =
-    subst (λ (fs : List Form). StepIs (asks_all version n false fs) (λ (t : Unit {0}) rs. MovesBy at at rs) (Ok tt) at at seen seen) (sym none)
-    (step_gives [] (λ (t : Unit {0}) (rs : List Record). MovesBy at at rs) tt at seen (omega arith))
+kept_none version n all kept at seen none =
+    subst (λ (fs : List Form). StepIs (asks_all version n false fs) (λ (t : Unit {0}) rs. AreKept at at kept kept rs) (Ok tt) at at seen seen) (sym none)
+    (step_gives [] (λ (t : Unit {0}) (rs : List Record). AreKept at at kept kept rs) tt at seen (omega arith, sym (append-nil kept)))
 
 -- ---- shared lists
 
@@ -77,29 +86,31 @@ pub as_table : (P : Course (List Record) → Type 0) (version n : ℕ) → versi
 as_table P version n e p = subst (λ (v : ℕ). P (asks_table v n)) (sym e) (subst (λ (v : ℕ). P (asks v n false (table_form ∷ []) >>= table_rest v n)) e p)
 
 -- the number of shared lists, and then these
-pub table_then : (head : Record) (count : ℕ) (result : Result (Unit {0}) CheckStop) (old mid new : Reading) (before between now : SourceSeen)
-    → old.version ≡ 2 → mid.version ≡ old.version → mid.line ≡ old.line + 1 → count ≡ first_number head.numbers
+pub table_then : {T : Type 0} (head : Record) (count : ℕ) (Mid Says : T → List Record → Type 0) (result : Result T CheckStop) (old mid new : Reading) (before between now : SourceSeen)
+    → old.version ≡ 2 → mid.version ≡ old.version → mid.line ≡ old.line + 1 → count ≡ first_number head.numbers → ((t : T) (rs : List Record) → Mid t rs → Says t (head ∷ rs))
     → StepGives (asks old.version old.line false (table_form ∷ [])) head old.line mid.line old.lines mid.lines before.left between.left → between.faults ≡ before.faults
-    → StepIs (asks_all mid.version mid.line false (replicate count vector_form)) (λ t rs. MovesBy mid new rs) result mid new between now
-    → StepIs (asks_table old.version old.line) (λ t rs. MovesBy old new rs) result old new before now
-table_then head count result old mid new before between now second v l number p same q =
-    as_table (λ d. StepIs d (λ t rs. MovesBy old new rs) result old new before now) old.version old.line second
-    (step_then_is (asks old.version old.line false (table_form ∷ [])) (table_rest old.version old.line) head (λ t rs. MovesBy old new rs) result old mid new before between now p same
-    (step_map (asks_all old.version (old.line + 1) false (replicate (first_number head.numbers) vector_form)) (λ rs. head ∷ rs) (λ t rs. MovesBy mid new rs) (λ t rs. MovesBy old new rs) result mid new between now more
-    (subst (λ (k : ℕ). StepIs (asks_all old.version (old.line + 1) false (replicate k vector_form)) (λ t rs. MovesBy mid new rs) result mid new between now) number
-    (subst (λ (k : ℕ). StepIs (asks_all old.version k false (replicate count vector_form)) (λ t rs. MovesBy mid new rs) result mid new between now) l
-    (subst (λ (k : ℕ). StepIs (asks_all k mid.line false (replicate count vector_form)) (λ t rs. MovesBy mid new rs) result mid new between now) v q)))))
-  where
-    more : (t : Unit {0}) (rs : List Record) → MovesBy mid new rs → MovesBy old new (head ∷ rs)
-    more t rs h = omega (arith, h, l)
+    → StepIs (asks_all mid.version mid.line false (replicate count vector_form)) Mid result mid new between now
+    → StepIs (asks_table old.version old.line) Says result old new before now
+table_then head count Mid Says result old mid new before between now second v l number more p same q =
+    as_table (λ d. StepIs d Says result old new before now) old.version old.line second
+    (step_then_is (asks old.version old.line false (table_form ∷ [])) (table_rest old.version old.line) head Says result old mid new before between now p same
+    (step_map (asks_all old.version (old.line + 1) false (replicate (first_number head.numbers) vector_form)) (λ rs. head ∷ rs) Mid Says result mid new between now more
+    (subst (λ (k : ℕ). StepIs (asks_all old.version (old.line + 1) false (replicate k vector_form)) Mid result mid new between now) number
+    (subst (λ (k : ℕ). StepIs (asks_all old.version k false (replicate count vector_form)) Mid result mid new between now) l
+    (subst (λ (k : ℕ). StepIs (asks_all k mid.line false (replicate count vector_form)) Mid result mid new between now) v q)))))
 
 pub table_stops : (e : CheckStop) (old : Reading) (before now : SourceSeen) → old.version ≡ 2 → StopIs (asks old.version old.line false (table_form ∷ [])) e old before now → StopIs (asks_table old.version old.line) e old before now
 table_stops e old before now second p = as_table (λ d. StopIs d e old before now) old.version old.line second (stop_first (asks old.version old.line false (table_form ∷ [])) (table_rest old.version old.line) e old before now p)
 
+-- the lists after their number are the table
+pub table_is : (old mid new : Reading) (kept : List (List ℤ)) (head : Record) (all rs : List Record) → rs ≡ all → MovesBy mid new all → kept ≡ lists all → mid.line ≡ old.line + 1 → IsTable old new kept (head ∷ rs)
+table_is old mid new kept head all rs same moves is l =
+    subst (λ (xs : List Record). IsTable old new kept (head ∷ xs)) (sym same) (omega (arith, moves, l), is)
+
 -- version 1 has none
-pub no_table : (at : Reading) (seen : SourceSeen) → at.version ≡ 1 → StepIs (asks_table at.version at.line) (λ (t : Unit {0}) rs. MovesBy at at rs) (Ok tt) at at seen seen
-no_table at seen first = subst (λ (v : ℕ). StepIs (asks_table v at.line) (λ (t : Unit {0}) rs. MovesBy at at rs) (Ok tt) at at seen seen) (sym first)
-    (step_gives [] (λ (t : Unit {0}) (rs : List Record). MovesBy at at rs) tt at seen (omega arith))
+pub no_table : {T : Type 0} (Says : T → List Record → Type 0) (t : T) (at : Reading) (seen : SourceSeen) → at.version ≡ 1 → Says t [] → StepIs (asks_table at.version at.line) Says (Ok t) at at seen seen
+no_table Says t at seen first says = subst (λ (v : ℕ). StepIs (asks_table v at.line) Says (Ok t) at at seen seen) (sym first)
+    (step_gives [] Says t at seen says)
 
 -- so many of one form, of which the first is split off
 pub replicate_first : (form : Form) (k m : ℕ) → k ≡ suc m → replicate k form ≡ form ∷ replicate m form

@@ -12,3 +12,4 @@ pub mod Plain
 pub mod Table
 pub mod Ending
 pub mod Opening
+pub mod Trees

@@ -11,6 +11,7 @@ ghost use Rattle.crn_document.specs.Inner.Answers.{FitAnswer, FitRank, deficienc
 ghost use Rattle.crn_document.specs.Inner.Parts.{FitParts};
 ghost use Rattle.crn_cert.specs.declared.answer.Proof.TheVariants.{Nothing};
 
+use crate::concordance::{concordance_answer, concordance_verdict};
 use crate::confluence::{confluence_answer, confluence_verdict, regular_answer, regular_verdict};
 use crate::numbers::{after, ints_of, no_ints, no_nums, number_of, nums_of, small};
 use crate::parts::Part;
@@ -160,6 +161,8 @@ pub(crate) fn bare_verdict(alloc: Global, question: u32, head: &[i128]) -> Resul
         10 => Ok(one_verdict(head)),
         11 => Ok(regular_verdict(head, no_nums(alloc))),
         12 => confluence_verdict(alloc, head, no_ints(alloc), no_ints(alloc)),
+        14 => concordance_verdict(alloc, head, no_ints(alloc), no_ints(alloc)),
+        15 => concordance_verdict(alloc, head, no_ints(alloc), no_ints(alloc)),
         _ => Ok(yes_or_reaction(head)),
     }
 }
@@ -428,6 +431,8 @@ pub(crate) fn answer_of(
         }),
         11 => regular_answer(alloc, head, rows),
         12 => confluence_answer(alloc, head, rows),
+        14 => concordance_answer(alloc, head, rows),
+        15 => concordance_answer(alloc, head, rows),
         _ => Ok(Answer {
             verdict: yes_or_reaction(head),
             proof: Proof::Nothing,

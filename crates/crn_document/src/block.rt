@@ -1,14 +1,17 @@
-ghost use Rattle.std.specs.Prelude.{◌≡◌, ◌≤◌, ◌+◌, ℕ, ℤ, List, length, OnOk};
+ghost use Rattle.std.specs.Prelude.{◌≡◌, ◌≤◌, ◌+◌, ◌++◌, ℕ, List, [], ◌∷◌, length, OnOk};
 ghost use Rattle.crn_io.specs.Device.{SourceSeen};
+ghost use Rattle.crn_io.specs.declared.lines.TheConstants.{MAX_SHARED};
 ghost use Rattle.crn_ctext.specs.Records.{Record};
-ghost use Rattle.crn_ctext.specs.Blocks.{asks_block};
-ghost use Rattle.crn_ctext.specs.Meaning.{meaning};
+ghost use Rattle.crn_cert.specs.declared.answer.Verdict.TheVariants.{Yes};
+ghost use Rattle.crn_ctext.specs.Blocks.{asks_block, asks_trees};
+ghost use Rattle.crn_ctext.specs.Meaning.{meaning, number, problems_by};
 ghost use Rattle.crn_check.specs.Facts.{asked};
-ghost use Rattle.crn_check.specs.Check.{IsBuilt};
+ghost use Rattle.crn_check.specs.Check.{AsksForTree, IsBuilt};
+ghost use Rattle.crn_document.specs.Inner.Parts.{before, up_to};
 ghost use Rattle.crn_document.specs.Inner.Steps.{GoesOn, StepIs};
 ghost use Rattle.crn_document.specs.Inner.Answer.{AreSmall};
 ghost use Rattle.crn_document.specs.Inner.Heads.{IsHead, class_count};
-ghost use Rattle.crn_document.specs.Inner.Blocks.{HeadHolds, IsAfter, IsBlock, IsReady, behind_at, end_course, head_course, parts_after, rows_course};
+ghost use Rattle.crn_document.specs.Inner.Blocks.{HeadHolds, IsAfter, IsBlock, IsReady, Learns, behind_at, behind_by, end_course, head_course, parts_after, rows_course, tests_course};
 
 use crate::answer::{answer_of, bare_verdict};
 use crate::head::next_head;
@@ -18,20 +21,24 @@ use crate::parts::{Part, parts_of};
 use crate::reading::Reading;
 use crate::rows::{Below, next_rows, rows_below};
 use crate::stop::CheckStop;
-use crn_cert::{Answer, Rows, Verdicts};
-use crn_check::{Facts, check_answer, check_head};
+use crate::tree::{ends_in_tree, next_yes};
+use crn_cert::{Answer, Rows, Verdict, Verdicts};
+use crn_check::{Facts, accept_tree, check_answer, check_head};
+use crn_ctree::SharedTable;
 use crn_io::Source;
 use crn_net::Network;
 use crn_vec::{Ints, Nums};
 
-// The verdicts that were accepted so far: as facts for the tests of later blocks, and in the order of the questions.
+// The verdicts that were accepted so far: as facts for the tests of later blocks, and in the order of the questions;
+// and whether the last block ended in a tree.
 #[derive(Drop)]
 pub(crate) struct Checked {
     pub(crate) facts: Facts,
     pub(crate) verdicts: Verdicts,
+    pub(crate) by_tree: bool,
 }
 
-// Tests the records of a block, whose head is at this line, and keeps the verdict.
+// Tests the records of a block without a tree, whose head is at this line, and keeps the verdict.
 fn accept(
     at: &Reading,
     net: &Network,
@@ -44,21 +51,21 @@ fn accept(
 ) -> Result<(), CheckStop>
     requires goes { GoesOn at.now }
     requires built { IsBuilt question }
-    requires ready { IsReady net.now question checked.old }
+    requires ready { IsReady net.now (before question) checked.old }
     requires line { line + 1 + length rows.now ≡ at.now.line }
     requires heads { HeadHolds net.now checked.old.facts.earlier question head.now }
+    requires treeless { AsksForTree question → number head.now 0 ≡ 1 → ⊥ }
     requires parts { parts.now
         ≡ parts_after net.now checked.old.facts.earlier question head.now }
     requires block { (h : Record) × (rs : List Record)
         × IsBlock net.now checked.old.facts.earlier question head.now rows.now h rs }
-    ensures step { (h : Record) (rs : List Record) (version : ℕ) (table : List (List ℤ))
-        (blocks : List (List Record)) (seen : SourceSeen)
+    ensures step { (h : Record) (rs : List Record) (seen : SourceSeen)
         → IsBlock net.now checked.old.facts.earlier question head.now rows.now h rs
-        → StepIs (end_course version table (asked question)
-        (behind_at net.now checked.old.facts.earlier line blocks) h rs)
-        (λ _ y. IsAfter net.now checked.new.facts.earlier at.now.line y)
+        → StepIs (tests_course net.now checked.old.facts.earlier question line h rs)
+        (λ _ _. Learns net.now checked.old.facts.earlier question
+        checked.new.facts.earlier h rs)
         result at.now at.now seen seen }
-    ensures ready { OnOk result (IsReady net.now (question + 1) checked.new) }
+    ensures ready { OnOk result (IsReady net.now (up_to question) checked.new) }
 {
     let answer = answer_of(at.alloc, question, head, parts, rows)?;
     match check_answer(net, &mut checked.facts, question, &answer) {
@@ -74,6 +81,79 @@ fn accept(
     }
 }
 
+// Reads the tree that shows a yes to this question, and keeps the yes.
+fn accept_yes<S: Source>(
+    source: &mut S,
+    at: &mut Reading,
+    net: &Network,
+    table: &SharedTable,
+    checked: &mut Checked,
+    question: u32,
+) -> Result<(), CheckStop>
+    requires goes { GoesOn at.old }
+    requires few { length table.now ≤ MAX_SHARED }
+    requires tree { AsksForTree question }
+    requires built { IsBuilt question }
+    requires ready { IsReady net.now (before question) checked.old }
+    ensures step { let due = problems_by (asked question) net.now 1 in
+        StepIs (asks_trees at.old.version table.now due at.old.line)
+        (λ _ line. line ≡ at.new.line)
+        result at.old at.new (S.seen source.old) (S.seen source.new) }
+    ensures kept { OnOk result (checked.new.facts.earlier
+        ≡ checked.old.facts.earlier ++ (asked question, Yes) ∷ []) }
+    ensures goes { OnOk result (GoesOn at.new) }
+    ensures version { at.new.version ≡ at.old.version }
+    ensures ready { OnOk result (IsReady net.now (up_to question) checked.new) }
+{
+    next_yes(source, at, net, table, question)?;
+    accept_tree(net, &mut checked.facts, question);
+    checked.verdicts.push(Verdict::Yes);
+    Ok(())
+}
+
+// What is left of a block, whose head is at this line, after its records: their tests, or the tree of a yes.
+fn end_block<S: Source>(
+    source: &mut S,
+    at: &mut Reading,
+    net: &Network,
+    table: &SharedTable,
+    checked: &mut Checked,
+    question: u32,
+    line: u32,
+    head: &[i128],
+    parts: &[Part],
+    rows: &Rows,
+) -> Result<(), CheckStop>
+    requires goes { GoesOn at.old }
+    requires few { length table.now ≤ MAX_SHARED }
+    requires built { IsBuilt question }
+    requires ready { IsReady net.now (before question) checked.old }
+    requires line { line + 1 + length rows.now ≡ at.old.line }
+    requires heads { HeadHolds net.now checked.old.facts.earlier question head.now }
+    requires parts { parts.now
+        ≡ parts_after net.now checked.old.facts.earlier question head.now }
+    requires block { (h : Record) × (rs : List Record)
+        × IsBlock net.now checked.old.facts.earlier question head.now rows.now h rs }
+    ensures step { (h : Record) (rs : List Record) (blocks : List (List Record))
+        → IsBlock net.now checked.old.facts.earlier question head.now rows.now h rs
+        → StepIs (end_course at.old.version table.now (asked question)
+        (behind_at net.now checked.old.facts.earlier line blocks) h rs)
+        (λ _ y. IsAfter net.now checked.new.facts.earlier checked.new.by_tree at.new.line y)
+        result at.old at.new (S.seen source.old) (S.seen source.new) }
+    ensures goes { OnOk result (GoesOn at.new) }
+    ensures version { at.new.version ≡ at.old.version }
+    ensures ready { OnOk result (IsReady net.now (up_to question) checked.new) }
+{
+    if ends_in_tree(question, number_of(head, 0)) {
+        accept_yes(source, at, net, table, checked, question)?;
+        checked.by_tree = true;
+        return Ok(());
+    }
+    accept(at, net, checked, question, line, head, parts, rows)?;
+    checked.by_tree = false;
+    Ok(())
+}
+
 // The number of classes that a head says.
 fn class_count(question: u32, head: &[i128]) -> u32
     requires { AreSmall head.now }
@@ -85,31 +165,33 @@ fn class_count(question: u32, head: &[i128]) -> u32
     0
 }
 
-// The records below a head that was just read, and their tests.
+// The records below a head that was just read, and what follows them.
 fn read_rows<S: Source>(
     source: &mut S,
     at: &mut Reading,
     net: &Network,
+    table: &SharedTable,
     checked: &mut Checked,
     question: u32,
     head: &[i128],
 ) -> Result<(), CheckStop>
     requires goes { GoesOn at.old }
+    requires few { length table.now ≤ MAX_SHARED }
     requires some { 1 ≤ at.old.line }
     requires built { IsBuilt question }
-    requires ready { IsReady net.now question checked.old }
+    requires ready { IsReady net.now (before question) checked.old }
     requires heads { HeadHolds net.now checked.old.facts.earlier question head.now }
     requires head { (h : Record)
         × IsHead net.now checked.old.facts.earlier question head.now h }
-    ensures step { (h : Record) (n : ℕ) (table : List (List ℤ)) (blocks : List (List Record))
+    ensures step { (h : Record) (n : ℕ) (blocks : List (List Record))
         → IsHead net.now checked.old.facts.earlier question head.now h → n + 1 ≡ at.old.line
-        → StepIs (rows_course at.old.version table (asked question)
+        → StepIs (rows_course at.old.version table.now (asked question)
         (behind_at net.now checked.old.facts.earlier n blocks) h)
-        (λ _ y. IsAfter net.now checked.new.facts.earlier at.new.line y)
+        (λ _ y. IsAfter net.now checked.new.facts.earlier checked.new.by_tree at.new.line y)
         result at.old at.new (S.seen source.old) (S.seen source.new) }
     ensures goes { OnOk result (GoesOn at.new) }
     ensures version { at.new.version ≡ at.old.version }
-    ensures ready { OnOk result (IsReady net.now (question + 1) checked.new) }
+    ensures ready { OnOk result (IsReady net.now (up_to question) checked.new) }
 {
     let line = at.line - 1;
     let linkage = linkage_of(net, &checked.facts, question);
@@ -134,7 +216,9 @@ fn read_rows<S: Source>(
         classes,
     };
     next_rows(source, at, &below, &due, &mut members, &mut rows)?;
-    accept(at, net, checked, question, line, head, &parts, &rows)
+    end_block(
+        source, at, net, table, checked, question, line, head, &parts, &rows,
+    )
 }
 
 // The tests of the head that was just read, and the records below it.
@@ -142,30 +226,32 @@ fn after_head<S: Source>(
     source: &mut S,
     at: &mut Reading,
     net: &Network,
+    table: &SharedTable,
     checked: &mut Checked,
     question: u32,
 ) -> Result<(), CheckStop>
     requires goes { GoesOn at.old }
+    requires few { length table.now ≤ MAX_SHARED }
     requires some { 1 ≤ at.old.line }
     requires built { IsBuilt question }
-    requires ready { IsReady net.now question checked.old }
+    requires ready { IsReady net.now (before question) checked.old }
     requires head { (h : Record)
         × IsHead net.now checked.old.facts.earlier question at.old.numbers.list h }
-    ensures step { (h : Record) (n : ℕ) (table : List (List ℤ)) (blocks : List (List Record))
+    ensures step { (h : Record) (n : ℕ) (blocks : List (List Record))
         → IsHead net.now checked.old.facts.earlier question at.old.numbers.list h
         → n + 1 ≡ at.old.line
-        → StepIs (head_course at.old.version table (asked question)
+        → StepIs (head_course at.old.version table.now (asked question)
         (behind_at net.now checked.old.facts.earlier n blocks) h)
-        (λ _ y. IsAfter net.now checked.new.facts.earlier at.new.line y)
+        (λ _ y. IsAfter net.now checked.new.facts.earlier checked.new.by_tree at.new.line y)
         result at.old at.new (S.seen source.old) (S.seen source.new) }
     ensures goes { OnOk result (GoesOn at.new) }
     ensures version { at.new.version ≡ at.old.version }
-    ensures ready { OnOk result (IsReady net.now (question + 1) checked.new) }
+    ensures ready { OnOk result (IsReady net.now (up_to question) checked.new) }
 {
     let head = Ints::from_slice(at.alloc, at.numbers.as_slice())?;
     let verdict = bare_verdict(at.alloc, question, head.as_slice())?;
     match check_head(net, &checked.facts, question, &verdict) {
-        Ok(()) => read_rows(source, at, net, checked, question, head.as_slice()),
+        Ok(()) => read_rows(source, at, net, table, checked, question, head.as_slice()),
         Err(fault) => Err(CheckStop::Rejected {
             code: fault.code,
             line: at.line - 1 + fault.part,
@@ -173,26 +259,29 @@ fn after_head<S: Source>(
     }
 }
 
-// The block of a question.
+// The block of a question, after a tree or not.
 pub(crate) fn next_block<S: Source>(
     source: &mut S,
     at: &mut Reading,
     net: &Network,
+    table: &SharedTable,
     checked: &mut Checked,
     question: u32,
+    after_tree: bool,
 ) -> Result<(), CheckStop>
     requires goes { GoesOn at.old }
+    requires few { length table.now ≤ MAX_SHARED }
     requires built { IsBuilt question }
-    requires ready { IsReady net.now question checked.old }
-    ensures step { (table : List (List ℤ)) (blocks : List (List Record)) →
-        StepIs (asks_block meaning at.old.version table (asked question)
-        (behind_at net.now checked.old.facts.earlier at.old.line blocks))
-        (λ _ y. IsAfter net.now checked.new.facts.earlier at.new.line y)
+    requires ready { IsReady net.now (before question) checked.old }
+    ensures step { (blocks : List (List Record)) →
+        StepIs (asks_block meaning at.old.version table.now (asked question)
+        (behind_by net.now checked.old.facts.earlier after_tree at.old.line blocks))
+        (λ _ y. IsAfter net.now checked.new.facts.earlier checked.new.by_tree at.new.line y)
         result at.old at.new (S.seen source.old) (S.seen source.new) }
     ensures goes { OnOk result (GoesOn at.new) }
     ensures version { at.new.version ≡ at.old.version }
-    ensures ready { OnOk result (IsReady net.now (question + 1) checked.new) }
+    ensures ready { OnOk result (IsReady net.now (up_to question) checked.new) }
 {
-    next_head(source, at, net, &checked.facts, question)?;
-    after_head(source, at, net, checked, question)
+    next_head(source, at, net, &checked.facts, question, after_tree)?;
+    after_head(source, at, net, table, checked, question)
 }

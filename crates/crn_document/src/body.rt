@@ -1,4 +1,4 @@
-ghost use Rattle.std.specs.Prelude.{◌≡◌, [], IfOk};
+ghost use Rattle.std.specs.Prelude.{◌≡◌, [], false, IfOk};
 ghost use Rattle.crn_vec.specs.Network.{IsNetwork};
 ghost use Rattle.crn_document.specs.Inner.Steps.{GoesOn};
 ghost use Rattle.crn_document.specs.Inner.Blocks.{IsReady};
@@ -20,12 +20,14 @@ use std::alloc::Global;
 // No verdicts, with memory for those on this network.
 fn none_checked(alloc: Global, net: &Network) -> Result<Checked, NoMemory>
     requires network { IsNetwork net.now }
-    ensures ready { IfOk result (λ made. IsReady net.now 1 made) }
+    ensures ready { IfOk result (λ made. IsReady net.now [] made) }
     ensures empty { IfOk result (λ made. made.facts.earlier ≡ []) }
+    ensures first { IfOk result (λ made. made.by_tree ≡ false) }
 {
     Ok(Checked {
         facts: Facts::new(alloc, net)?,
         verdicts: Verdicts::new(alloc)?,
+        by_tree: false,
     })
 }
 
@@ -37,15 +39,16 @@ fn next_parts<S: Source>(
     checked: &mut Checked,
 ) -> Result<(), CheckStop>
     requires goes { GoesOn at.old }
-    requires ready { IsReady net.now 1 checked.old }
+    requires ready { IsReady net.now [] checked.old }
     requires empty { checked.old.facts.earlier ≡ [] }
+    requires first { checked.old.by_tree ≡ false }
     ensures step { LastIs (body_course at.old.version at.old.line net.now)
         (λ _ read. IsSaidIn net.now checked.new.verdicts read)
         result at.old (S.seen source.old) (S.seen source.new) }
 {
-    next_table(source, at)?;
-    next_blocks(source, at, net, checked, 1)?;
-    next_end(source, at)
+    let table = next_table(source, at)?;
+    next_blocks(source, at, net, &table, checked, 1)?;
+    next_end(source, at, checked.by_tree)
 }
 
 // What follows the network of a document, to its end, and the verdicts that its blocks say.
@@ -62,6 +65,10 @@ pub(crate) fn next_body<S: Source>(
 {
     let mut checked = none_checked(at.alloc, net)?;
     next_parts(source, at, net, &mut checked)?;
-    let Checked { facts: _, verdicts } = checked;
+    let Checked {
+        facts: _,
+        verdicts,
+        by_tree: _,
+    } = checked;
     Ok(verdicts)
 }

@@ -16,8 +16,8 @@ pub struct Accepted {
 
 /// Reads a document to its end and checks it, or says its first fault.
 ///
-/// It holds one line, the network and one block of the document at a time, so the memory that it takes does not grow
-/// with the document.
+/// It holds one line, the network, the shared lists and one block of the document at a time, and of a tree the prefix
+/// that is due, so the memory that it takes does not grow with the document.
 pub fn check_document<S: Source>(alloc: Global, source: &mut S) -> Result<Accepted, CheckStop>
     ensures gives { CheckGives result (S.seen source.old) (S.seen source.new) }
     ensures numbered { HasFaultNumber result }

@@ -127,7 +127,7 @@ pub(crate) fn regular_answer(alloc: Global, head: &[i128], rows: &Rows) -> Resul
 }
 
 // The numbers of record i, counted from 0, and none if there is no such record.
-fn ints_at(alloc: Global, rows: &Rows, i: usize) -> Result<Ints, NoMemory>
+pub(crate) fn ints_at(alloc: Global, rows: &Rows, i: usize) -> Result<Ints, NoMemory>
     ensures { IfOk result (λ made. made ≡ ints (slice_index_or rows.now i [])) }
 {
     if i < rows.len() {

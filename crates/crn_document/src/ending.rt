@@ -25,11 +25,16 @@ fn no_more<S: Source>(source: &mut S, at: &mut Reading) -> Result<(), CheckStop>
 }
 
 // The last line, after which nothing is left of the document.
-pub(crate) fn next_end<S: Source>(source: &mut S, at: &mut Reading) -> Result<(), CheckStop>
+pub(crate) fn next_end<S: Source>(
+    source: &mut S,
+    at: &mut Reading,
+    after_tree: bool,
+) -> Result<(), CheckStop>
     requires goes { GoesOn at.old }
-    ensures step { (read : ReadOf) → EndStepIs (asks_end at.old.version at.old.line read) read
+    ensures step { (read : ReadOf) →
+        EndStepIs (asks_end at.old.version at.old.line after_tree read) read
         result at.old (S.seen source.old) (S.seen source.new) }
 {
-    next_plain(source, at, Plain::Finish)?;
+    next_plain(source, at, Plain::Finish, after_tree)?;
     no_more(source, at)
 }

@@ -5,12 +5,14 @@ mod answer;
 mod block;
 mod body;
 mod check;
+mod concordance;
 mod confluence;
 mod document;
 mod ending;
 mod head;
 mod linkage;
 mod network;
+mod node;
 mod numbers;
 mod opening;
 mod parts;
@@ -25,6 +27,7 @@ mod strong;
 mod table;
 #[cfg(test)]
 mod tests;
+mod tree;
 
 pub use check::{Accepted, check_document};
 pub use stop::CheckStop;

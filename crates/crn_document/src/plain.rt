@@ -1,4 +1,4 @@
-ghost use Rattle.std.specs.Prelude.{◌≡◌, ◌+◌, [], ◌∷◌, false, OnOk};
+ghost use Rattle.std.specs.Prelude.{◌≡◌, ◌+◌, [], ◌∷◌, OnOk};
 ghost use Rattle.crn_ctext.specs.Records.{Record};
 ghost use Rattle.crn_ctext.specs.Blocks.{asks};
 ghost use Rattle.crn_ctext.specs.Expect.{AreSizes, sizes_of, tag_of};
@@ -48,35 +48,36 @@ fn no_sizes() -> Sizes<'static>
 }
 
 // What is due in a document of this version where the record of this kind is.
-fn plain_expect(version: u32, plain: Plain) -> Expect<'static>
+fn plain_expect(version: u32, after_tree: bool, plain: Plain) -> Expect<'static>
     requires version { IsVersion version }
     requires may { MayBeIn plain version }
-    ensures due { Expects result version (plain_form plain ∷ []) }
+    ensures due { Expects result version after_tree (plain_form plain ∷ []) }
     ensures untagged { (r : Record) → tag_of result.due (sizes_of result.sizes) r ≡ [] }
 {
     Expect {
         due: plain_due(plain),
         version,
-        after_tree: false,
+        after_tree,
         sizes: no_sizes(),
     }
 }
 
-// The next line, which has to be the record of this kind.
+// The next line, which has to be the record of this kind, after a tree or not.
 pub(crate) fn next_plain<S: Source>(
     source: &mut S,
     at: &mut Reading,
     plain: Plain,
+    after_tree: bool,
 ) -> Result<(), CheckStop>
     requires goes { GoesOn at.old }
     requires may { MayBeIn plain at.old.version }
-    ensures step { StepIs (asks at.old.version at.old.line false (plain_form plain ∷ []))
+    ensures step { StepIs (asks at.old.version at.old.line after_tree (plain_form plain ∷ []))
         (λ _ r. IsPlain plain at.new.numbers.list r)
         result at.old at.new (S.seen source.old) (S.seen source.new) }
     ensures goes { OnOk result (GoesOn at.new) }
     ensures line { OnOk result (at.new.line ≡ at.old.line + 1) }
     ensures version { at.new.version ≡ at.old.version }
 {
-    let expect = plain_expect(at.version, plain);
+    let expect = plain_expect(at.version, after_tree, plain);
     next_record(source, at, &expect)
 }

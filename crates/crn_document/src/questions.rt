@@ -1,4 +1,5 @@
-ghost use Rattle.std.specs.Prelude.{◌≡◌, ◌≤◌, ◌+◌, ◌-◌, ℕ, ℤ, List, [], ◌∷◌, length, map, drop, slice_index_or, false, OnOk};
+ghost use Rattle.std.specs.Prelude.{◌≡◌, ◌≤◌, ◌+◌, ◌-◌, List, [], ◌∷◌, length, map, drop, take, slice_index_or, false, OnOk};
+ghost use Rattle.crn_io.specs.declared.lines.TheConstants.{MAX_SHARED};
 ghost use Rattle.crn_cert.specs.Built.{built};
 ghost use Rattle.crn_ctext.specs.Records.{Record};
 ghost use Rattle.crn_ctext.specs.Kinds.{section_form};
@@ -10,19 +11,30 @@ ghost use Rattle.crn_check.specs.Facts.{asked};
 ghost use Rattle.crn_check.specs.Check.{IsBuilt};
 ghost use Rattle.crn_document.specs.Inner.Steps.{GoesOn, StepIs};
 ghost use Rattle.crn_document.specs.Inner.Records.{Expects};
-ghost use Rattle.crn_document.specs.Inner.Blocks.{IsAfter, IsReady, behind_at};
+ghost use Rattle.crn_document.specs.Inner.Blocks.{IsAfter, IsAt, IsOpened, IsReady, behind_by};
 
 use crate::block::{Checked, next_block};
 use crate::reading::Reading;
 use crate::record::next_record;
 use crate::sizes::sizes_of;
 use crate::stop::CheckStop;
+use crn_cert::question_number;
 use crn_ctext::{Due, Expect};
+use crn_ctree::SharedTable;
 use crn_io::Source;
 use crn_net::Network;
 
-// The number of the last question that is answered.
-const LAST: u32 = 12;
+// The place of the last question among those that are answered, counted from 1.
+const LAST: u32 = 14;
+
+// The number of the question that is answered at this place, counted from 1.
+fn question_at(place: u32) -> u32
+    requires first { 1 ≤ place }
+    requires last { place ≤ length built }
+    ensures { IsAt place result }
+{
+    question_number(place as usize) as u32
+}
 
 // The number of the section that opens before a question, and 0 if none does.
 fn section_before(question: u32) -> u32
@@ -38,76 +50,83 @@ fn section_before(question: u32) -> u32
         7 => 3,
         9 => 4,
         11 => 5,
+        14 => 6,
         _ => 0,
     }
 }
 
 // What is due where this section opens before a question.
-fn section_expect(net: &Network, section: u32) -> Expect<'static>
+fn section_expect(net: &Network, section: u32, after_tree: bool) -> Expect<'static>
     requires { (1 ≤ section) × (section ≤ 6) }
-    ensures { Expects result 2
+    ensures { Expects result 2 after_tree
         (section_form (slice_index_or section_names (section - 1) []) ∷ []) }
 {
     Expect {
         due: Due::Section(section),
         version: 2,
-        after_tree: false,
+        after_tree,
         sizes: sizes_of(net, &[]),
     }
 }
 
-// The line that opens a section before this question, if it opens one.
+// The line that opens a section before this question, if it opens one, after a tree or not. Tells whether the line
+// before the next one ended a tree.
 fn next_section<S: Source>(
     source: &mut S,
     at: &mut Reading,
     net: &Network,
     question: u32,
-) -> Result<(), CheckStop>
+    after_tree: bool,
+) -> Result<bool, CheckStop>
     requires goes { GoesOn at.old }
     requires built { IsBuilt question }
     ensures step { let forms = map section_form (sections at.old.version (asked question)) in
-        StepIs (asks_all at.old.version at.old.line false forms)
-        (λ _ rs. at.new.line ≡ at.old.line + length rs)
+        StepIs (asks_all at.old.version at.old.line after_tree forms)
+        (λ still rs. IsOpened at.old at.new after_tree still rs)
         result at.old at.new (S.seen source.old) (S.seen source.new) }
     ensures goes { OnOk result (GoesOn at.new) }
     ensures version { at.new.version ≡ at.old.version }
 {
     if at.version != 2 {
-        return Ok(());
+        return Ok(after_tree);
     }
     let section = section_before(question);
     if section == 0 {
-        return Ok(());
+        return Ok(after_tree);
     }
-    let expect = section_expect(net, section);
-    next_record(source, at, &expect)
+    let expect = section_expect(net, section, after_tree);
+    next_record(source, at, &expect)?;
+    Ok(false)
 }
 
-// The blocks of this question and of those after it.
+// The blocks of the question at this place among those that are answered, counted from 1, and of those after it.
 pub(crate) fn next_blocks<S: Source>(
     source: &mut S,
     at: &mut Reading,
     net: &Network,
+    table: &SharedTable,
     checked: &mut Checked,
-    question: u32,
+    place: u32,
 ) -> Result<(), CheckStop>
     requires goes { GoesOn at.old }
-    requires first { 1 ≤ question }
-    requires last { question ≤ 13 }
-    requires ready { IsReady net.now question checked.old }
-    ensures step { (table : List (List ℤ)) (blocks : List (List Record)) →
-        StepIs (asks_blocks meaning at.old.version table (drop (question - 1) built)
-        (behind_at net.now checked.old.facts.earlier at.old.line blocks))
-        (λ _ y. IsAfter net.now checked.new.facts.earlier at.new.line y)
+    requires few { length table.now ≤ MAX_SHARED }
+    requires first { 1 ≤ place }
+    requires last { place ≤ length built + 1 }
+    requires ready { IsReady net.now (take (place - 1) built) checked.old }
+    ensures step { (blocks : List (List Record)) →
+        StepIs (asks_blocks meaning at.old.version table.now (drop (place - 1) built)
+        (behind_by net.now checked.old.facts.earlier checked.old.by_tree at.old.line blocks))
+        (λ _ y. IsAfter net.now checked.new.facts.earlier checked.new.by_tree at.new.line y)
         result at.old at.new (S.seen source.old) (S.seen source.new) }
     ensures goes { OnOk result (GoesOn at.new) }
     ensures version { at.new.version ≡ at.old.version }
-    ensures ready { OnOk result (IsReady net.now 13 checked.new) }
+    ensures ready { OnOk result (IsReady net.now built checked.new) }
 {
-    if question > LAST {
+    if place > LAST {
         return Ok(());
     }
-    next_section(source, at, net, question)?;
-    next_block(source, at, net, checked, question)?;
-    next_blocks(source, at, net, checked, question + 1)
+    let question = question_at(place);
+    let after_tree = next_section(source, at, net, question, checked.by_tree)?;
+    next_block(source, at, net, table, checked, question, after_tree)?;
+    next_blocks(source, at, net, table, checked, place + 1)
 }

@@ -7,8 +7,8 @@ ghost use Rattle.crn_ctext.specs.Blocks.{asks, asks_all};
 ghost use Rattle.crn_ctext.specs.Expect.{sizes_of, tag_of};
 ghost use Rattle.crn_ctext.specs.declared.expect.Due.TheVariants.{Part as DuePart};
 ghost use Rattle.crn_document.specs.Inner.Steps.{IsVersion, GoesOn, StepIs};
-ghost use Rattle.crn_document.specs.Inner.Records.{AreMembers, AreRows, Expects, IsRow, IsRowDue, MayBeRow, fixed_rows, many_rows, part_rows, row_form, rows_below};
-ghost use Rattle.crn_document.specs.Inner.Parts.{IsKnown};
+ghost use Rattle.crn_document.specs.Inner.Records.{AreMembers, AreRows, Expects, IsRow, IsRowDue, MayBeRow, fixed_rows, many_rows, pair_rows, part_rows, row_form, rows_below};
+ghost use Rattle.crn_document.specs.Inner.Parts.{IsKnown, before};
 ghost use Rattle.crn_document.specs.declared.rows.Row.TheVariants.{Side};
 ghost use Rattle.crn_cert.specs.Valid.{strong, exits};
 ghost use Rattle.crn_check.specs.Check.{IsBuilt};
@@ -58,6 +58,22 @@ pub(crate) enum Row {
     Walk,
     // A number for each species and for each of so many linkage classes.
     Tie { classes: u32 },
+    // The two lists of a no on concordance, of a number for each reaction.
+    Alpha,
+    Weights,
+}
+
+// The two lists of a no on concordance, by the question and the place of the head's form.
+fn pair_rows(question: u32, place: u32) -> &'static [Row]
+    ensures { result.now ≡ pair_rows question place }
+{
+    if question == 14 && place == 2 {
+        return &[Row::Alpha, Row::Weights];
+    }
+    if question == 15 && place == 2 {
+        return &[Row::Alpha, Row::Weights];
+    }
+    &[]
 }
 
 // The records below a head but for ranks, sides and ties, by its question and the place of its form, both counted from 1.
@@ -102,7 +118,7 @@ fn fixed_rows(question: u32, place: u32) -> &'static [Row]
     if question == 12 && place == 4 {
         return &[Row::VecOfComplexes, Row::VecOfComplexes];
     }
-    &[]
+    pair_rows(question, place)
 }
 
 // Adds the same record so many times.
@@ -168,7 +184,7 @@ fn push_many(
     into: &mut Vec<Row>,
 ) -> Result<(), NoMemory>
     requires built { IsBuilt question }
-    requires known { IsKnown net.now question facts.now }
+    requires known { IsKnown net.now (before question) facts.now }
     ensures { let earlier = facts.now.earlier in OnOk result (into.new.items ≡ into.old.items
         ++ many_rows net.now (strong earlier) (exits earlier) classes question place) }
 {
@@ -197,7 +213,7 @@ pub(crate) fn rows_below(
     parts: &[Part],
 ) -> Result<Vec<Row>, NoMemory>
     requires built { IsBuilt question }
-    requires known { IsKnown net.now question facts.now }
+    requires known { IsKnown net.now (before question) facts.now }
     ensures { let earlier = facts.now.earlier in
         let many = many_rows net.now (strong earlier) (exits earlier) classes question place in
         IfOk result (λ due. due.items ≡ rows_below question place many parts.now) }
@@ -270,6 +286,8 @@ fn row_due<'a>(below: &Below, row: Row, members: &'a [u32]) -> Due<'a>
         Row::Side { reaction } => Due::Side { reaction },
         Row::Walk => Due::Walk,
         Row::Tie { classes } => part(Word::Tie, s + classes as usize, 0, 0),
+        Row::Alpha => part(Word::Alpha, r, 0, 0),
+        Row::Weights => part(Word::Weights, r, 0, 0),
     }
 }
 
@@ -279,7 +297,7 @@ fn row_expect<'a>(version: u32, below: &Below, row: Row, members: &'a [u32]) -> 
     requires few { below.now.classes ≤ MAX_COMPLEXES }
     requires may { MayBeRow row }
     requires members { AreMembers below.now.net.now below.now.labels.now row members.now }
-    ensures due { Expects result version
+    ensures due { Expects result version false
         (row_form below.now.net.now below.now.labels.now below.now.classes row ∷ []) }
     ensures untagged { (r : Record) → tag_of result.due (sizes_of result.sizes) r ≡ [] }
 {

@@ -1,3 +1,6 @@
+mod concordance;
+mod trees;
+
 use crate::{CheckStop, check_document};
 use crn_cert::{Gap, Verdict};
 use crn_io::{MemSource, NoMemory};
@@ -44,6 +47,8 @@ const BOTH_WAYS: &[&[u8]] = &[
     b"q12 none zero",
     b"tie 1 0 0",
     b"tie 0 1 0",
+    b"q14 open budget 1",
+    b"q15 open budget 1",
     b"end",
 ];
 
@@ -93,11 +98,14 @@ const BOTH_WAYS_2: &[&[u8]] = &[
     b"q12 none zero",
     b"tie 1 0 0",
     b"tie 0 1 0",
+    b"section concordance",
+    b"q14 open budget 1",
+    b"q15 open budget 1",
     b"end",
 ];
 
 const ONE_WAY: &[u8] =
-    b"crn certificate 1\nnetwork 1\nA -> B\nq1 1\nlabel 1 1\nup 0 1\ndepth 0 1\nq2 2 1\nlabel 1 2\nfrom 0 0\nfromdepth 0 0\nto 0 0\ntodepth 0 0\nlevel 1 0\nexit 1 0\nq3 no 1\nq4 no 1\nq5 1\nbase 1\ndual 1 0\nq6 0 0\nbase 1\ndual 1 0\nq7 no\ncut 1 0\nq8 yes\nvec 2 2\nq9 yes 0\nq10 yes\nq11 no dependence\nq12 none regular\nend\n";
+    b"crn certificate 1\nnetwork 1\nA -> B\nq1 1\nlabel 1 1\nup 0 1\ndepth 0 1\nq2 2 1\nlabel 1 2\nfrom 0 0\nfromdepth 0 0\nto 0 0\ntodepth 0 0\nlevel 1 0\nexit 1 0\nq3 no 1\nq4 no 1\nq5 1\nbase 1\ndual 1 0\nq6 0 0\nbase 1\ndual 1 0\nq7 no\ncut 1 0\nq8 yes\nvec 2 2\nq9 yes 0\nq10 yes\nq11 no dependence\nq12 none regular\nq14 open budget 1\nq15 open budget 1\nend\n";
 
 // A good document of `A -> B`, `2B -> 2A`, whose terminal classes have no links.
 const CROSSING: &[&[u8]] = &[
@@ -140,6 +148,8 @@ const CROSSING: &[&[u8]] = &[
     b"tie 0 0 1 0",
     b"tie 0 1 -1 0",
     b"tie 1 0 0 0",
+    b"q14 open budget 1",
+    b"q15 open budget 1",
     b"end",
 ];
 
@@ -197,6 +207,8 @@ const CHAIN: &[&[u8]] = &[
     b"q12 none plane 1 4",
     b"vec 1 -2 1 0",
     b"vec 0 1 -2 1",
+    b"q14 open budget 1",
+    b"q15 open budget 1",
     b"end",
 ];
 
@@ -240,6 +252,8 @@ const ROUND: &[&[u8]] = &[
     b"q11 no cycle 1",
     b"walk 1 3 2",
     b"q12 none regular",
+    b"q14 open budget 1",
+    b"q15 open budget 1",
     b"end",
 ];
 
@@ -277,8 +291,8 @@ fn has_ones(verdict: &Verdict) -> bool {
 
 #[test]
 fn good_documents_give_their_network_and_verdicts(rt: HostRuntime) -> Result<(), Fail> {
-    let first = edited(rt.alloc(), BOTH_WAYS, 39, b"end\n")?;
-    let second = edited(rt.alloc(), BOTH_WAYS_2, 45, b"end\n")?;
+    let first = edited(rt.alloc(), BOTH_WAYS, 41, b"end\n")?;
+    let second = edited(rt.alloc(), BOTH_WAYS_2, 48, b"end\n")?;
     let shared = edited(rt.alloc(), BOTH_WAYS_2, 5, b"vectors 1\nvector 3 -4\n")?;
     let cases = [
         ("version 1", first.as_slice()),
@@ -292,7 +306,7 @@ fn good_documents_give_their_network_and_verdicts(rt: HostRuntime) -> Result<(),
                 assert_eq!(rt; accepted.net.species(), 2, "{name}");
                 assert_eq!(rt; accepted.net.complexes(), 2, "{name}");
                 assert_eq!(rt; accepted.net.reactions(), 2, "{name}");
-                assert_eq!(rt; accepted.verdicts.len(), 12, "{name}");
+                assert_eq!(rt; accepted.verdicts.len(), 14, "{name}");
                 match accepted.verdicts.get(1) {
                     Verdict::Classes { count, label } => {
                         assert_eq!(rt; *count, 1, "{name}");
@@ -344,7 +358,7 @@ fn no_verdicts_name_their_reactions(rt: HostRuntime) -> Result<(), Fail> {
     let mut source = MemSource::new(rt.alloc(), ONE_WAY, 1, &[])?;
     match check_document(rt.alloc(), &mut source) {
         Ok(accepted) => {
-            assert_eq!(rt; accepted.verdicts.len(), 12);
+            assert_eq!(rt; accepted.verdicts.len(), 14);
             assert!(rt;
                 matches!(
                     accepted.verdicts.get(3),
@@ -458,9 +472,9 @@ fn the_first_fault_is_the_answer(rt: HostRuntime) -> Result<(), Fail> {
         ("a tie of the other complex", 37, b"tie 0 1 0\n", 35, 37),
         ("a tie of too few numbers", 37, b"tie 1 0\n", 24, 37),
         ("a tie that is missing", 38, b"", 26, 38),
-        ("no last line", 39, b"", 27, 39),
-        ("a last line with no LF", 39, b"end", 27, 39),
-        ("a byte after the last line", 39, b"end\nx", 28, 40),
+        ("no last line", 41, b"", 27, 41),
+        ("a last line with no LF", 41, b"end", 27, 41),
+        ("a byte after the last line", 41, b"end\nx", 28, 42),
     ];
     for (name, at, bytes, code, line) in cases {
         let text = edited(rt.alloc(), BOTH_WAYS, at, bytes)?;
@@ -496,6 +510,7 @@ fn the_lines_of_version_2_are_due(rt: HostRuntime) -> Result<(), Fail> {
         ("no third section", 31, b"", 26, 31),
         ("no fourth section", 36, b"", 26, 36),
         ("no fifth section", 39, b"", 26, 39),
+        ("no sixth section", 45, b"", 26, 45),
     ];
     for (name, at, bytes, code, line) in cases {
         let text = edited(rt.alloc(), BOTH_WAYS_2, at, bytes)?;
@@ -529,6 +544,8 @@ const OPEN: &[&[u8]] = &[
     b"q10 open rests 6",
     b"q11 open rests 7",
     b"q12 open rests 11",
+    b"q14 open budget 1",
+    b"q15 open budget 1",
     b"end",
 ];
 
@@ -538,7 +555,7 @@ fn open_answers_say_why(rt: HostRuntime) -> Result<(), Fail> {
     let mut source = MemSource::new(rt.alloc(), &text, 64, &[])?;
     match check_document(rt.alloc(), &mut source) {
         Ok(accepted) => {
-            assert_eq!(rt; accepted.verdicts.len(), 12);
+            assert_eq!(rt; accepted.verdicts.len(), 14);
             match accepted.verdicts.get(5) {
                 Verdict::Unknown(
                     Gap::Wide {
@@ -724,6 +741,7 @@ fn section_at(line: &[u8]) -> &'static [u8] {
         (b"q7 ", b"section dependence\n"),
         (b"q9 ", b"section theorems\n"),
         (b"q11 ", b"section confluence\n"),
+        (b"q14 ", b"section concordance\n"),
     ];
     for (head, opening) in openings {
         if line.starts_with(head) {
@@ -778,7 +796,7 @@ fn ends_with(
     let mut source = MemSource::new(rt.alloc(), text, 512, &[])?;
     match check_document(rt.alloc(), &mut source) {
         Ok(accepted) => {
-            if accepted.verdicts.len() != 12 {
+            if accepted.verdicts.len() != 14 {
                 return Ok(false);
             }
             Ok(

@@ -1,16 +1,16 @@
 -- What a report reads of formed verdicts is inside their lists and the network.
-use Rattle.std.proofs.Common.{◌≡◌, ◌≤◌, ◌<◌, ◌+◌, ◌-◌, ℕ, zero, suc, List, [], ◌∷◌, ◌++◌, length, get_or, ap, ap₂, arith, ◌∙◌, refl, take, drop, take_all, add-one, lit≤, Some}
+use Rattle.std.proofs.Common.{◌≡◌, ◌≤◌, ◌<◌, ◌+◌, ◌-◌, ℕ, zero, suc, List, [], ◌∷◌, ◌++◌, length, get_or, sym, ap, ap₂, arith, ◌∙◌, refl, take, drop, take_all, add-one, lit≤, Some}
 use Rattle.std.specs.Prelude.{slice_get}
 use Rattle.std.proofs.lemmas.Option.{get_or_from_slice_get}
 use Rattle.std.specs.List.{flat_map, zip}
-use Rattle.std.proofs.lemmas.List.{get_or-take}
 use Rattle.std.proofs.lemmas.Slice.Zip.{get_or-zip, length-zip}
 use Rattle.crn_io.proofs.CallerLemmas.{flat_map_step, flat_map_whole}
 use Rattle.crn_vec.specs.Kept.{KeptInts, KeptNums}
 use Rattle.crn_vec.specs.Network.{Net}
 use Rattle.crn_cert.specs.Built.{built}
 use Rattle.crn_cert.specs.FormedVerdicts.{IsFormedVerdict, AreFormedVerdicts}
-use Rattle.crn_cert.specs.Questions.{Earlier, Question, questions, Q1, Q2, Q3, Q4, Q11, Q14, Q15}
+use Rattle.crn_cert.proofs.CallerLemmas.{numbered}
+use Rattle.crn_cert.specs.Questions.{Earlier, Question, number, Q1, Q2, Q3, Q4, Q11, Q14, Q15}
 use Rattle.crn_cert.specs.declared.answer.Verdict.{Verdict}
 use Rattle.crn_cert.specs.declared.answer.Verdict.TheVariants.{Classes, Strong, NoReaction, NoCycle, NoPair, NotApplicable, Unknown}
 use Rattle.crn_render.specs.Inner.Reading.{question_at, IsReadable}
@@ -74,35 +74,31 @@ got_here vs place v e =
 
 -- ---- the questions
 
--- the built questions are the first ones
-built_prefix : built ≡ take (length built) questions
-built_prefix = refl
-
-pub built_few : length built ≤ 15
-built_few = lit≤ tt
-
-question_is : (place : ℕ) → place < length built → get_or built place Q1 ≡ question_at place
-question_is place lt = ap (λ (qs : List Question). get_or qs place Q1) built_prefix ∙ get_or-take (length built) questions place Q1 lt
+-- the question of the number at a place
+question_is : (place asked : ℕ) → asked ≡ number (get_or built (place + 1 - 1) Q1) - 1 → get_or built place Q1 ≡ question_at asked
+question_is place asked e =
+    let back : place + 1 - 1 ≡ place = omega arith in
+    sym (ap question_at e ∙ numbered (get_or built (place + 1 - 1) Q1) ∙ ap (λ (j : ℕ). get_or built j Q1) back)
 
 -- a verdict that is got, with its question
-asked_at : (vs : List Verdict) (place : ℕ) (v : Verdict) → place < length built → length vs ≡ length built → get_or vs place NotApplicable ≡ v → get_or (zip built vs) place (Q1, NotApplicable) ≡ (question_at place, v)
-asked_at vs place v lt same is = get_or-zip built vs place (Q1, NotApplicable) lt (omega (arith, same)) ∙ ap₂ (λ (q : Question) (x : Verdict). (q, x)) (question_is place lt) is
+asked_at : (vs : List Verdict) (place asked : ℕ) (v : Verdict) → asked ≡ number (get_or built (place + 1 - 1) Q1) - 1 → place < length built → length vs ≡ length built → get_or vs place NotApplicable ≡ v → get_or (zip built vs) place (Q1, NotApplicable) ≡ (question_at asked, v)
+asked_at vs place asked v e lt same is = get_or-zip built vs place (Q1, NotApplicable) lt (omega (arith, same)) ∙ ap₂ (λ (q : Question) (x : Verdict). (q, x)) (question_is place asked e) is
 
 zip_count : (vs : List Verdict) → length vs ≡ length built → length (zip built vs) ≡ length built
 zip_count vs same = omega (arith, length-zip built vs)
 
 -- the lines of one question more
-pub questions_step : (net : Net) (vs : List Verdict) (place : ℕ) (v : Verdict) → place < length built → length vs ≡ length built → get_or vs place NotApplicable ≡ v
-    → flat_map (question_lines net) (take (place + 1) (zip built vs)) ≡ flat_map (question_lines net) (take place (zip built vs)) ++ question_lines net (question_at place, v)
-questions_step net vs place v lt same is =
-    flat_map_step (question_lines net) (zip built vs) place (Q1, NotApplicable) (omega (arith, zip_count vs same)) ∙ ap (λ (a : Question × Verdict). flat_map (question_lines net) (take place (zip built vs)) ++ question_lines net a) (asked_at vs place v lt same is)
+pub questions_step : (net : Net) (vs : List Verdict) (place asked : ℕ) (v : Verdict) → asked ≡ number (get_or built (place + 1 - 1) Q1) - 1 → place < length built → length vs ≡ length built → get_or vs place NotApplicable ≡ v
+    → flat_map (question_lines net) (take (place + 1) (zip built vs)) ≡ flat_map (question_lines net) (take place (zip built vs)) ++ question_lines net (question_at asked, v)
+questions_step net vs place asked v e lt same is =
+    flat_map_step (question_lines net) (zip built vs) place (Q1, NotApplicable) (omega (arith, zip_count vs same)) ∙ ap (λ (a : Question × Verdict). flat_map (question_lines net) (take place (zip built vs)) ++ question_lines net a) (asked_at vs place asked v e lt same is)
 
 -- the lines of the questions before one, of that one, and of those after it
-pub questions_whole : (net : Net) (vs : List Verdict) (place : ℕ) (v : Verdict) → place < length built → length vs ≡ length built → get_or vs place NotApplicable ≡ v
-    → all_lines net built vs ≡ (flat_map (question_lines net) (take place (zip built vs)) ++ question_lines net (question_at place, v)) ++ flat_map (question_lines net) (drop (suc place) (zip built vs))
-questions_whole net vs place v lt same is =
+pub questions_whole : (net : Net) (vs : List Verdict) (place asked : ℕ) (v : Verdict) → asked ≡ number (get_or built (place + 1 - 1) Q1) - 1 → place < length built → length vs ≡ length built → get_or vs place NotApplicable ≡ v
+    → all_lines net built vs ≡ (flat_map (question_lines net) (take place (zip built vs)) ++ question_lines net (question_at asked, v)) ++ flat_map (question_lines net) (drop (suc place) (zip built vs))
+questions_whole net vs place asked v e lt same is =
     flat_map_whole (question_lines net) (zip built vs) place (Q1, NotApplicable) (omega (arith, zip_count vs same))
-    ∙ ap (λ (a : Question × Verdict). (flat_map (question_lines net) (take place (zip built vs)) ++ question_lines net a) ++ flat_map (question_lines net) (drop (suc place) (zip built vs))) (asked_at vs place v lt same is)
+    ∙ ap (λ (a : Question × Verdict). (flat_map (question_lines net) (take place (zip built vs)) ++ question_lines net a) ++ flat_map (question_lines net) (drop (suc place) (zip built vs))) (asked_at vs place asked v e lt same is)
 
 -- the lines of all questions
 pub questions_all : (vs : List Verdict) (place : ℕ) → length vs ≡ length built → length built ≤ place → take place (zip built vs) ≡ zip built vs

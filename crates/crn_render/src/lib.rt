@@ -8,8 +8,6 @@ mod laws;
 mod parts;
 mod report;
 mod sigma;
-#[cfg(test)]
-mod tests;
 mod words;
 
 pub use fault::{Printed, write_fault};

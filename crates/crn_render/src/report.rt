@@ -10,7 +10,7 @@ ghost use Rattle.crn_render.specs.Inner.Reading.{question_at, IsReadable};
 use crate::details::put_details;
 use crate::parts::{put_complexes, put_number};
 use crate::words::put_question_line;
-use crn_cert::{Verdict, Verdicts};
+use crn_cert::{Verdict, Verdicts, question_number};
 use crn_io::{Sink, WriteFault, put_all, put_between};
 use crn_net::Network;
 
@@ -90,7 +90,8 @@ fn put_questions<K: Sink>(
         (K.seen sink.old) (K.seen sink.new) result }
 {
     for place in 0..verdicts.len() {
-        put_question(sink, net, place, verdicts.get(place + 1))?;
+        let asked = question_number(place + 1) - 1;
+        put_question(sink, net, asked, verdicts.get(place + 1))?;
     }
     Ok(())
 }

@@ -6,6 +6,7 @@ ghost use Rattle.crn_cert.specs.Formed.{AreFormed};
 ghost use Rattle.crn_cert.specs.Questions.{IsOpen};
 ghost use Rattle.crn_cert.specs.Valid.{AreValid};
 ghost use Rattle.crn_cert.specs.Shares.{share_of as share_of_answers};
+ghost use Rattle.crn_cert.specs.TreeSizes.{HaveFewNodes};
 ghost use Rattle.crn_io.specs.declared.lines.TheConstants.{MAX_SHARED};
 ghost use Rattle.crn_ctext.specs.Documents.{share_of};
 ghost use Rattle.crn_ctext.specs.Shares.{as_share};
@@ -127,10 +128,12 @@ pub(crate) fn report<K: Sink>(alloc: Global, net: &Network, budget: u32, sink: &
     }
 }
 
-// What is written for a network and valid answers to its questions, with the share of the answers, is a good document.
+// What is written for a network and valid answers to its questions, with the share of the answers, is a good document
+// if no tree of theirs has more nodes than a budget may allow.
 fn certificate_is_good(net: &Network, answers: &Answers)
     requires formed { AreFormed net.now [] built answers.now }
     requires valid { AreValid net.now [] built answers.now }
+    requires few { HaveFewNodes MAX_BUDGET answers.now }
     ensures share { share_of (records_of net.now answers.now)
         ≡ as_share (share_of_answers MAX_SHARED answers.now) }
     ensures good { IsGood (certificate net.now answers.now) }

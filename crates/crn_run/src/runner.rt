@@ -43,7 +43,7 @@ pub fn run<S: Source, K: Sink>(
 }
 
 // Ends a run that read no network.
-fn stopped<K: Sink>(stop: Stop, sink: &mut K) -> Status
+fn end_without_network<K: Sink>(stop: Stop, sink: &mut K) -> Status
     ensures { StopGives stop result (K.seen sink.old) (K.seen sink.new) }
 {
     match stop {
@@ -63,7 +63,7 @@ fn report<S: Source, K: Sink>(alloc: Global, budget: u32, source: &mut S, sink: 
 {
     match read_network(alloc, source) {
         Ok(net) => output::report(alloc, &net, budget, sink),
-        Err(stop) => stopped(stop, sink),
+        Err(stop) => end_without_network(stop, sink),
     }
 }
 
@@ -77,7 +77,7 @@ fn certify<S: Source, K: Sink>(alloc: Global, budget: u32, source: &mut S, sink:
 {
     match read_network(alloc, source) {
         Ok(net) => output::certify(alloc, &net, budget, sink),
-        Err(stop) => stopped(stop, sink),
+        Err(stop) => end_without_network(stop, sink),
     }
 }
 

@@ -1,5 +1,6 @@
 mod Leaving
 mod AllAnswers
+mod FewNodes
 mod PositiveKinds
 mod PositiveAnswers
 mod Ranks

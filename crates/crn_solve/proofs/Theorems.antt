@@ -1,5 +1,5 @@
 -- The answer on the Deficiency Zero Theorem is one of the crate of deficiencies, or rests on the rank; what the answer on the Deficiency One Theorem rests on.
-use Rattle.std.proofs.Common.{◌≡◌, ◌↔◌, ℕ, ◌-◌, List, [], ◌∷◌, length, refl, sym, subst}
+use Rattle.std.proofs.Common.{◌≡◌, ◌↔◌, ℕ, ◌-◌, sym, subst}
 use Rattle.std.specs.Prelude.{IsTrue, Bool}
 use Rattle.crn_vec.specs.Network.{Net}
 use Rattle.crn_vec.specs.Strong.{IsWeaklyReversible}

@@ -7,7 +7,9 @@ ghost use Rattle.crn_cert.specs.Built.{built};
 ghost use Rattle.crn_cert.specs.Formed.{AreFormed};
 ghost use Rattle.crn_cert.specs.Valid.{AreValid};
 ghost use Rattle.crn_cert.specs.Licensed.{AllTrueOrLicensed};
+ghost use Rattle.crn_cert.specs.TreeSizes.{HaveFewNodes};
 
+use crate::concordance::{concordant, strongly_concordant};
 use crate::confluence_answer::confluence_answer;
 use crate::deficiency_answer::deficiency_answer;
 use crate::laws::meets_definition;
@@ -28,7 +30,7 @@ use std::alloc::Global;
 /// The answers to the questions that are built, in order. The budget is the most prefixes that a search may visit.
 ///
 /// Each answer is formed and valid, and its verdict is true of the network, or open and licensed with this budget.
-/// The first four are never open.
+/// The first four are never open. Each tree has at most as many nodes as the budget.
 pub fn solve(alloc: Global, net: &Network, budget: u32) -> Result<Answers, NoMemory>
     requires some { 1 ≤ budget }
     requires most { budget ≤ MAX_BUDGET }
@@ -38,6 +40,7 @@ pub fn solve(alloc: Global, net: &Network, budget: u32) -> Result<Answers, NoMem
         AllTrueOrLicensed net.now budget [] built (verdicts_of answers)) }
     ensures decided { IfOk result (λ answers.
         AllByRecursion (λ v. IsOpen v → ⊥) (take 4 (verdicts_of answers))) }
+    ensures nodes { IfOk result (λ answers. HaveFewNodes budget answers) }
 {
     meets_definition(net);
     let linkage = linkage(alloc, net)?;
@@ -59,6 +62,8 @@ pub fn solve(alloc: Global, net: &Network, budget: u32) -> Result<Answers, NoMem
         &weakly_reversible.verdict,
         &regular.verdict,
     )?;
+    let concordant = concordant(alloc, net, budget)?;
+    let strongly_concordant = strongly_concordant(alloc, net, budget)?;
     let mut answers = Answers::new(alloc)?;
     answers.push(linkage_answer(linkage));
     answers.push(strong_answer(strong));
@@ -72,5 +77,7 @@ pub fn solve(alloc: Global, net: &Network, budget: u32) -> Result<Answers, NoMem
     answers.push(one);
     answers.push(regular);
     answers.push(confluence);
+    answers.push(concordant);
+    answers.push(strongly_concordant);
     Ok(answers)
 }

@@ -2,6 +2,7 @@
 #![tactic(auto)]
 
 mod answers;
+mod concordance;
 mod confluence_answer;
 mod deficiency_answer;
 mod laws;

@@ -155,6 +155,8 @@ struct Row {
     conservative: bool,
     regular: Regular,
     confluence: Confluence,
+    concordant: bool,
+    strongly_concordant: bool,
 }
 
 // Chains in which a molecule becomes 99 of the next species.
@@ -185,6 +187,8 @@ const ROWS: [Row; 9] = [
         conservative: true,
         regular: Regular::Independent,
         confluence: Confluence::Irregular,
+        concordant: true,
+        strongly_concordant: true,
     },
     // a reaction and its reverse
     Row {
@@ -203,6 +207,8 @@ const ROWS: [Row; 9] = [
         conservative: true,
         regular: Regular::Yes,
         confluence: Confluence::OnlyZero,
+        concordant: true,
+        strongly_concordant: true,
     },
     // Edelstein's network
     Row {
@@ -221,6 +227,8 @@ const ROWS: [Row; 9] = [
         conservative: false,
         regular: Regular::Yes,
         confluence: Confluence::Vector(&[1, -1, 1, 0, -1]),
+        concordant: false,
+        strongly_concordant: true,
     },
     // the Brusselator
     Row {
@@ -239,6 +247,8 @@ const ROWS: [Row; 9] = [
         conservative: false,
         regular: Regular::Yes,
         confluence: Confluence::Vector(&[0, -1, 1, -1, 1]),
+        concordant: true,
+        strongly_concordant: true,
     },
     // three complexes in a row, reversible
     Row {
@@ -257,6 +267,8 @@ const ROWS: [Row; 9] = [
         conservative: true,
         regular: Regular::Yes,
         confluence: Confluence::Vector(&[1, -2, 1]),
+        concordant: false,
+        strongly_concordant: true,
     },
     // two terminal classes in one linkage class
     Row {
@@ -275,6 +287,8 @@ const ROWS: [Row; 9] = [
         conservative: false,
         regular: Regular::Split { class: 1, count: 2 },
         confluence: Confluence::Irregular,
+        concordant: false,
+        strongly_concordant: true,
     },
     // the two-site futile cycle
     Row {
@@ -293,6 +307,8 @@ const ROWS: [Row; 9] = [
         conservative: true,
         regular: Regular::Yes,
         confluence: Confluence::Plane,
+        concordant: false,
+        strongly_concordant: false,
     },
     // a cycle of three reactions
     Row {
@@ -314,6 +330,8 @@ const ROWS: [Row; 9] = [
             walk: &[1, 3, 2],
         },
         confluence: Confluence::Irregular,
+        concordant: true,
+        strongly_concordant: true,
     },
     // nine reactions, each a class
     Row {
@@ -334,6 +352,8 @@ const ROWS: [Row; 9] = [
         conservative: true,
         regular: Regular::Independent,
         confluence: Confluence::Irregular,
+        concordant: true,
+        strongly_concordant: true,
     },
 ];
 
@@ -410,7 +430,7 @@ fn numbers_are(rt: &impl Abort, answers: &Answers, row: &Row) {
 
 // So are the answers on positive vectors.
 fn positive_vectors_are(rt: &impl Abort, answers: &Answers, row: &Row) {
-    assert_eq!(rt; answers.len(), 12);
+    assert_eq!(rt; answers.len(), 14);
     assert!(rt; is_yes(rt, answers.get(7)) == row.dependent);
     assert!(rt; is_yes(rt, answers.get(8)) == row.conservative);
 }
@@ -426,7 +446,7 @@ fn zero_is(answer: &Answer, row: &Row) -> bool {
 
 // The answers to the two questions on theorems are decided, as those on the deficiencies are.
 fn theorems_are(rt: &impl Abort, answers: &Answers, row: &Row) {
-    assert_eq!(rt; answers.len(), 12);
+    assert_eq!(rt; answers.len(), 14);
     assert!(rt; zero_is(answers.get(9), row));
     assert!(rt; !matches!(&answers.get(10).verdict, Verdict::Unknown(_)));
 }
@@ -463,9 +483,25 @@ fn is_confluence(answer: &Answer, want: &Confluence) -> bool {
 
 // So are the answers on regularity and on confluence vectors.
 fn confluences_are(rt: &impl Abort, answers: &Answers, row: &Row) {
-    assert_eq!(rt; answers.len(), 12);
+    assert_eq!(rt; answers.len(), 14);
     assert!(rt; is_regular(answers.get(11), &row.regular));
     assert!(rt; is_confluence(answers.get(12), &row.confluence));
+}
+
+// Whether the answer is a yes with a tree. It is decided.
+fn is_concordant(rt: &impl Abort, answer: &Answer) -> bool {
+    match (&answer.verdict, &answer.proof) {
+        (Verdict::Yes, Proof::One(_)) => true,
+        (Verdict::NoPair { .. }, Proof::Nothing) => false,
+        _ => panic!(rt; "the question is decided"),
+    }
+}
+
+// So are the answers on concordance.
+fn concordances_are(rt: &impl Abort, answers: &Answers, row: &Row) {
+    assert_eq!(rt; answers.len(), 14);
+    assert!(rt; is_concordant(rt, answers.get(13)) == row.concordant);
+    assert!(rt; is_concordant(rt, answers.get(14)) == row.strongly_concordant);
 }
 
 // All answers are those of the row.
@@ -477,6 +513,7 @@ fn answers_are(rt: &(impl Abort + AllocGlobal), row: &Row) {
     positive_vectors_are(rt, &answers, row);
     theorems_are(rt, &answers, row);
     confluences_are(rt, &answers, row);
+    concordances_are(rt, &answers, row);
 }
 
 #[test]
@@ -504,7 +541,7 @@ fn weigh_so(first: Option<&i128>, last: Option<&i128>) -> bool {
 #[test]
 fn a_long_chain_has_a_law(rt: HostRuntime) {
     let answers = all_of(&rt, NINE);
-    assert_eq!(rt; answers.len(), 12);
+    assert_eq!(rt; answers.len(), 14);
     assert!(rt; weighs_all(&answers.get(8).verdict));
 }
 
@@ -520,7 +557,7 @@ fn is_wide(answer: &Answer, by: u32) -> bool {
 #[test]
 fn a_longer_chain_leaves_conservation_open(rt: HostRuntime) {
     let answers = all_of(&rt, ELEVEN);
-    assert_eq!(rt; answers.len(), 12);
+    assert_eq!(rt; answers.len(), 14);
     assert!(rt; !is_yes(&rt, answers.get(7)));
     assert!(rt; is_wide(answers.get(8), 1));
     assert!(rt; is_regular(answers.get(11), &Regular::Independent));
@@ -531,7 +568,7 @@ fn a_longer_chain_leaves_conservation_open(rt: HostRuntime) {
 #[test]
 fn one_row_is_enough(rt: HostRuntime) {
     let answers = all_of(&rt, TWELVE);
-    assert_eq!(rt; answers.len(), 12);
+    assert_eq!(rt; answers.len(), 14);
     assert!(rt; !is_yes(&rt, answers.get(8)));
 }
 
@@ -548,7 +585,7 @@ fn rests(answer: &Answer, on: u32) -> bool {
 fn deficiencies_rest_on_an_open_rank(rt: HostRuntime) {
     for text in [NINE, ELEVEN, TWELVE] {
         let answers = all_of(&rt, text);
-        assert_eq!(rt; answers.len(), 12);
+        assert_eq!(rt; answers.len(), 14);
         let is_open = matches!(&answers.get(5).verdict, Verdict::Unknown(_));
         assert!(rt; rests(answers.get(6), 5) == is_open);
     }
@@ -559,8 +596,26 @@ fn deficiencies_rest_on_an_open_rank(rt: HostRuntime) {
 #[test]
 fn confluence_rests_on_an_open_dependence(rt: HostRuntime) {
     let answers = all_of(&rt, THROUGH);
-    assert_eq!(rt; answers.len(), 12);
+    assert_eq!(rt; answers.len(), 14);
     assert!(rt; is_wide(answers.get(7), 2));
     assert!(rt; rests(answers.get(11), 7));
     assert!(rt; rests(answers.get(12), 11));
+}
+
+// Whether an answer is open because a search may visit no more than so many prefixes.
+fn is_spent(answer: &Answer, budget: u32) -> bool {
+    match &answer.verdict {
+        Verdict::Unknown(Gap::Budget { nodes }) => *nodes == budget,
+        _ => false,
+    }
+}
+
+#[test]
+fn a_small_budget_leaves_concordance_open(rt: HostRuntime) {
+    let net = network(&rt, b"A>B,B>A");
+    let answers = solve(rt.alloc(), &net, 1).expect(&rt, "memory");
+    assert_eq!(rt; answers.len(), 14);
+    assert!(rt; is_spent(answers.get(13), 1));
+    assert!(rt; is_spent(answers.get(14), 1));
+    assert!(rt; is_regular(answers.get(11), &Regular::Yes));
 }

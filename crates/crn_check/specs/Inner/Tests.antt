@@ -4,6 +4,9 @@
 use Rattle.std.specs.Prelude.{◌≡◌, ◌≢◌, ◌≤◌, ◌<◌, ◌+◌, ◌⊎◌, ◌↔◌, Bool, IsTrue, ℕ, ℤ, List, [], ◌∷◌, ◌++◌, length, slice_index, sum}
 use Rattle.std.specs.List.{range_with_len}
 use Rattle.crn_vec.specs.Network.{Net}
+use Rattle.crn_vec.specs.NetSystems.{reaction_system}
+use Rattle.crn_vec.specs.Concordance.{IsDiscordant}
+use Rattle.crn_vec.specs.declared.signs.Sign.{Sign}
 use Rattle.crn_vec.specs.Deficiency.{AreAtMostOne}
 use Rattle.crn_cert.specs.declared.answer.Verdict.{Verdict}
 use Rattle.crn_cert.specs.declared.answer.Verdict.TheVariants.{Yes, NoClass, NoSum, NoDependence, NoCycle}
@@ -140,3 +143,8 @@ apart_tests net earlier part own other g = test part 35 (IsApartAt net earlier o
 abbrev pub plane_tests : Net → Earlier → ℕ → ℕ → List ℤ → List ℤ → List Test
 plane_tests net earlier first second one two =
     apart_tests net earlier 1 first second one ++ apart_tests net earlier 2 second first two
+
+-- the test of two lists that show a table discordant
+abbrev pub pair_tests : Net → List (List Sign) → List ℤ → List ℤ → List Test
+pair_tests net table alpha weights =
+    test 2 45 (IsDiscordant (reaction_system net) table alpha weights) ∷ []

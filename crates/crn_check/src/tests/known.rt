@@ -171,3 +171,32 @@ pub const ROW: Known = Known {
     dependent: true,
     numbers: &[1, 1, 1, 1],
 };
+
+// The same with four: the space is a plane.
+pub const LONG: Known = Known {
+    reactions: &[
+        (0, 52),
+        (52, 0),
+        (52, 104),
+        (104, 52),
+        (104, 156),
+        (156, 104),
+    ],
+    linked: Linked {
+        count: 1,
+        label: &[1, 1, 1, 1],
+        up: &[0, 1, 3, 5],
+        depth: &[0, 1, 2, 3],
+        fault: (0, 0),
+    },
+    strong: Strong {
+        count: 1,
+        terminal: 1,
+        label: &[1, 1, 1, 1],
+        trees: [&[0, 1, 3, 5], &[0, 1, 2, 3], &[0, 2, 4, 6], &[0, 1, 2, 3]],
+        level: &[0],
+        exit: &[0],
+    },
+    dependent: true,
+    numbers: &[1, 1, 1, 1, 1, 1],
+};

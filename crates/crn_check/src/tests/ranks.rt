@@ -29,7 +29,7 @@ fn do_ascend(values: &[u32]) -> bool
 }
 
 // Rows of so many numbers each.
-fn rows(rt: &(impl Abort + AllocGlobal), lists: &[&[i128]], count: usize, width: usize) -> Rows
+pub fn rows(rt: &(impl Abort + AllocGlobal), lists: &[&[i128]], count: usize, width: usize) -> Rows
     ensures { AreFreeRows count width result }
 {
     assert!(rt; lists.len() == count);
@@ -67,10 +67,10 @@ fn are_members(net: &Network, members: &Members, base: &[u32]) -> bool
 }
 
 // What shows a rank: a base, its duals, and the combinations of the other members.
-struct Shown {
-    base: &'static [u32],
-    duals: &'static [&'static [i128]],
-    combs: &'static [&'static [i128]],
+pub struct Shown {
+    pub base: &'static [u32],
+    pub duals: &'static [&'static [i128]],
+    pub combs: &'static [&'static [i128]],
 }
 
 // The proof of a rank of members.
@@ -97,7 +97,7 @@ fn rank_proof(
 }
 
 // An answer to question 5.
-fn rank_answer(rt: &(impl Abort + AllocGlobal), net: &Network, row: &Shown) -> Answer
+pub fn rank_answer(rt: &(impl Abort + AllocGlobal), net: &Network, row: &Shown) -> Answer
     ensures { (earlier : Earlier) → IsFormed net.now earlier Q5 result }
 {
     let rank = row.base.len();
@@ -244,7 +244,7 @@ fn open_known(rt: &(impl Abort + AllocGlobal), net: &Network) -> Facts
 }
 
 // The proof of the rank of linkage class k, whose deficiency is d.
-fn class_proof(
+pub fn class_proof(
     rt: &(impl Abort + AllocGlobal),
     net: &Network,
     facts: &Facts,
@@ -262,7 +262,7 @@ fn class_proof(
 }
 
 // An answer to question 6 for a network with one linkage class.
-fn one_class(
+pub fn one_class(
     rt: &(impl Abort + AllocGlobal),
     net: &Network,
     facts: &Facts,

@@ -61,7 +61,7 @@ fn marks(rt: &(impl Abort + AllocGlobal), lists: &[&[i128]], width: usize) -> Ro
 }
 
 // A yes with these sides.
-fn yes_answer(
+pub fn yes_answer(
     rt: &(impl Abort + AllocGlobal),
     net: &Network,
     facts: &Facts,

@@ -25,7 +25,7 @@ fn yes_answer(rt: &(impl Abort + AllocGlobal), net: &Network, back: &[u32]) -> A
 }
 
 // A no to question 3 or 4 by a reaction.
-fn no_answer(net: &Network, reaction: u32) -> Answer
+pub fn no_answer(net: &Network, reaction: u32) -> Answer
     requires { IsFrom 1 (length net.now.reactions) reaction }
     ensures reversible { (earlier : Earlier) → IsFormed net.now earlier Q3 result }
     ensures reversible_head { (earlier : Earlier) → HeadMayBe net.now earlier Q3 result.verdict }
@@ -100,7 +100,7 @@ fn classes_known(rt: &(impl Abort + AllocGlobal), net: &Network, row: &Strong) -
 }
 
 // A yes to question 4.
-fn weak_answer(net: &Network) -> Answer
+pub fn weak_answer(net: &Network) -> Answer
     ensures weak { (earlier : Earlier) → IsFormed net.now earlier Q4 result }
     ensures weak_head { (earlier : Earlier) → HeadMayBe net.now earlier Q4 result.verdict }
 {

@@ -3,11 +3,11 @@
 use Rattle.std.specs.Prelude.{◌≡◌, ◌<◌, ◌^◌, ◌⊎◌, ◌==◌, if◌then◌else◌, ℕ, zero, suc, ℤ, pos, List, [], ◌∷◌, drop, slice_index_or, take}
 use Rattle.std.specs.List.{AllByRecursion}
 use Rattle.crn_cert.specs.declared.answer.Gap.{Gap}
-use Rattle.crn_cert.specs.declared.answer.Gap.TheVariants.{Wide, Rests}
+use Rattle.crn_cert.specs.declared.answer.Gap.TheVariants.{Wide, Budget, Rests}
 use Rattle.crn_cert.specs.declared.answer.Verdict.{Verdict}
 use Rattle.crn_cert.specs.declared.answer.Verdict.TheVariants.{Unknown}
 use Rattle.crn_cert.specs.declared.answer.RankProof.{RankProof}
-use Rattle.crn_cert.specs.Questions.{Question, Q1, Q2, Q3, Q4, Q5, Q6, Q7, Q8, Q9, Q10, Q11, Q12}
+use Rattle.crn_cert.specs.Questions.{Question, Q1, Q2, Q3, Q4, Q5, Q6, Q7, Q8, Q9, Q10, Q11, Q12, Q14, Q15}
 use Rattle.crn_ctext.specs.Records.{Record}
 use Rattle.crn_ctext.specs.Meaning.{number, nums, verdict_by}
 use Rattle.crn_ctext.specs.Questions.{later_numbers}
@@ -43,6 +43,10 @@ verdict_at Q10 (suc (suc (suc (suc (suc (suc (suc zero))))))) n rs = Unknown (Re
 verdict_at Q11 (suc (suc (suc (suc (suc (suc (suc zero))))))) n rs = Unknown (Rests (number n 0))
 verdict_at Q12 (suc (suc (suc (suc (suc zero))))) n rs = Unknown (wide_gap n)
 verdict_at Q12 (suc (suc (suc (suc (suc (suc (suc zero))))))) n rs = Unknown (Rests (number n 0))
+verdict_at Q14 (suc (suc (suc zero))) n rs = Unknown (wide_gap n)
+verdict_at Q14 (suc (suc (suc (suc zero)))) n rs = Unknown (Budget (number n 0))
+verdict_at Q15 (suc (suc (suc zero))) n rs = Unknown (wide_gap n)
+verdict_at Q15 (suc (suc (suc (suc zero)))) n rs = Unknown (Budget (number n 0))
 verdict_at q place n rs = verdict_by q place n rs
 
 -- the same, by the numbers after the place of the form
@@ -54,6 +58,11 @@ verdict_of_head q head rs = verdict_at q (number head 0) (later_numbers head) rs
 -- a yes, or a no that names a reaction
 abbrev pub IsYesOrReaction : List ℤ → Type 0
 IsYesOrReaction head = (head ≡ pos 1 ∷ []) ⊎ ((r : ℕ) × (head ≡ pos 2 ∷ pos r ∷ []) × (r < 2 ^ 32))
+
+-- a yes, a no, or open for one of two reasons
+abbrev pub IsOnConcordance : List ℤ → Type 0
+IsOnConcordance head = (zs : List ℤ)
+    × ((head ≡ pos 1 ∷ zs) ⊎ ((head ≡ pos 2 ∷ zs) ⊎ ((head ≡ pos 3 ∷ zs) ⊎ (head ≡ pos 4 ∷ zs))))
 
 -- the place of the form and the numbers of a head of this question
 abbrev pub IsHeadOf : Question → List ℤ → Type 0
@@ -79,6 +88,8 @@ IsHeadOf Q11 head = (zs : List ℤ)
 IsHeadOf Q12 head = (zs : List ℤ)
     × ((head ≡ pos 1 ∷ zs) ⊎ ((head ≡ pos 2 ∷ zs) ⊎ ((head ≡ pos 3 ∷ zs)
     ⊎ ((head ≡ pos 4 ∷ zs) ⊎ ((head ≡ pos 5 ∷ zs) ⊎ (head ≡ pos 7 ∷ zs))))))
+IsHeadOf Q14 head = IsOnConcordance head
+IsHeadOf Q15 head = IsOnConcordance head
 IsHeadOf q head = ⊥
 
 -- ---- the records below

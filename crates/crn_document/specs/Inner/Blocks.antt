@@ -1,9 +1,10 @@
 -- For the contracts of private functions alone.
 -- The parts of the course of a block, and what is known after some blocks.
 -- Source: this project's own format. Shapes: questions count from 1.
-use Rattle.std.specs.Prelude.{◌≡◌, ◌+◌, ◌++◌, ℕ, ℤ, List, [], ◌∷◌, length, map, false}
+use Rattle.std.specs.Prelude.{◌≡◌, ◌+◌, ◌-◌, ◌++◌, ℕ, ℤ, Bool, List, [], ◌∷◌, length, map, drop, take, false}
 use Rattle.std.specs.List.{AllZip}
 use Rattle.crn_vec.specs.Network.{Net}
+use Rattle.crn_cert.specs.Built.{built}
 use Rattle.crn_cert.specs.Questions.{Earlier, Question}
 use Rattle.crn_cert.specs.Tests.{AllHold}
 use Rattle.crn_cert.specs.Valid.{exits, head_tests, linkage, linkage_count, strong}
@@ -13,16 +14,28 @@ use Rattle.crn_ctext.specs.Blocks.{Behind, asks_all, asks_trees, below, claims, 
 use Rattle.crn_ctext.specs.Meaning.{Known, lists, meaning}
 use Rattle.crn_ctext.specs.Meaning as said
 use Rattle.crn_check.specs.Facts.{asked}
+use Rattle.crn_check.specs.Check.{IsBuilt}
 use Rattle.crn_check.specs.Verdicts.{tight}
 use Rattle.crn_document.specs.declared.parts.Part.{Part}
 use Rattle.crn_document.specs.declared.rows.Row.{Row}
 use Rattle.crn_document.specs.Inner.Answer.{verdict_of_head}
-use Rattle.crn_document.specs.Inner.Parts.{IsKnown, parts_below}
+use Rattle.crn_document.specs.Inner.Parts.{IsKnown, before, parts_below, up_to}
 use Rattle.crn_document.specs.Inner.Heads.{IsHead, class_count, known_of}
 use Rattle.crn_document.specs.Inner.Records.{many_rows, row_form, rows_below}
 use Rattle.crn_document.specs.declared.block.Checked.{Checked}
+use Rattle.crn_document.specs.declared.reading.Reading.{Reading}
 
--- after these verdicts and these blocks, at this line, which follows no tree
+-- after these verdicts and these blocks, at this line, which follows a tree or not
+abbrev pub behind_by : Net → Earlier → (by_tree : Bool) → (line : ℕ) → List (List Record)
+    → Behind Known
+behind_by net earlier by_tree line blocks = record {
+  known = known_of net earlier;
+  by_tree = by_tree;
+  line = line;
+  blocks = blocks;
+}
+
+-- the same at a line that follows no tree
 abbrev pub behind_at : Net → Earlier → (line : ℕ) → List (List Record) → Behind Known
 behind_at net earlier line blocks = record {
   known = known_of net earlier;
@@ -31,9 +44,33 @@ behind_at net earlier line blocks = record {
   blocks = blocks;
 }
 
--- it is after these verdicts, at this line
-abbrev pub IsAfter : Net → Earlier → (line : ℕ) → Behind Known → Type 0
-IsAfter net earlier line y = (blocks : List (List Record)) × (y ≡ behind_at net earlier line blocks)
+-- it is after these verdicts, at this line, which follows a tree or not
+abbrev pub IsAfter : Net → Earlier → (by_tree : Bool) → (line : ℕ) → Behind Known → Type 0
+IsAfter net earlier by_tree line y =
+    (blocks : List (List Record)) × (y ≡ behind_by net earlier by_tree line blocks)
+
+-- after the lines that open sections the line before is no tree's, unless there are none
+abbrev pub still_by_tree : List Record → Bool → Bool
+still_by_tree [] by_tree = by_tree
+still_by_tree (r ∷ rs) by_tree = false
+
+-- the verdict of a block is learnt, after which these are known
+abbrev pub Learns : Net → Earlier → (question : ℕ) → (after : Earlier) → Record → List Record
+    → Type 0
+Learns net earlier question after h rs =
+    known_of net after ≡ meaning.learn (asked question) (known_of net earlier) h rs
+
+-- the tests of the records below a head, whose block begins at this line
+abbrev pub tests_course : Net → Earlier → (question line : ℕ) → Record → List Record
+    → Course (Unit {0})
+tests_course net earlier question line h rs =
+    claims line (row_claims meaning (asked question) (known_of net earlier) h rs)
+
+-- lines that open sections were read, after a tree or not, and this says whether the next line
+-- still follows it
+abbrev pub IsOpened : Reading → Reading → (by_tree still : Bool) → List Record → Type 0
+IsOpened old new by_tree still rs =
+    (new.line ≡ old.line + length rs) × (still ≡ still_by_tree rs by_tree)
 
 -- what follows the records below a head
 abbrev pub end_course : (version : ℕ) → List (List ℤ) → Question → Behind Known → Record
@@ -90,7 +127,14 @@ pub record IsBlock (net : Net) (earlier : Earlier) (question : ℕ) (head : List
   pub fit : AllZip Fits (forms_below net earlier question head) rs
   pub rows_are : rows ≡ lists rs
 
--- the verdicts on the questions before this one are known, and kept in order
-pub record IsReady (net : Net) (question : ℕ) (checked : Checked) : Type 0 where
-  pub known : IsKnown net question checked.facts
+-- of the questions that are answered, this one is at this place, counted from 1
+pub record IsAt (place question : ℕ) : Type 0 where
+  pub answered : IsBuilt question
+  pub earlier : take (place - 1) built ≡ before question
+  pub later : drop (place - 1) built ≡ asked question ∷ drop place built
+  pub with_it : up_to question ≡ take place built
+
+-- the verdicts on these questions are known, and kept in order
+pub record IsReady (net : Net) (qs : List Question) (checked : Checked) : Type 0 where
+  pub known : IsKnown net qs checked.facts
   pub kept : map tight checked.verdicts ≡ map (λ e. e.1) checked.facts.earlier

@@ -1,6 +1,6 @@
 -- For the contracts of private functions alone. The end of a document, and what the step to it did.
 -- Source: this project's own format. Shapes: lines of a document count from 1.
-use Rattle.std.specs.Prelude.{◌≡◌, ℕ, [], ◌∷◌, false, Result, Ok, Err}
+use Rattle.std.specs.Prelude.{◌≡◌, ℕ, Bool, [], ◌∷◌, Result, Ok, Err}
 use Rattle.crn_io.specs.Device.{SourceSeen}
 use Rattle.crn_io.specs.Next.{KeptLines}
 use Rattle.crn_io.specs.Pull.{HasNoneLeft}
@@ -16,9 +16,10 @@ use Rattle.crn_document.specs.Inner.Steps.{StopIs}
 abbrev pub ends_with : ReadOf → Course ReadOf
 ends_with read = ends >>= (λ x. Give read)
 
--- the last line is due, then nothing is left, and this was read
-abbrev pub asks_end : (version line : ℕ) → ReadOf → Course ReadOf
-asks_end version n read = asks version n false (end_form ∷ []) >>= (λ last. ends_with read)
+-- the last line is due, after a tree or not, then nothing is left, and this was read
+abbrev pub asks_end : (version line : ℕ) → (after : Bool) → ReadOf → Course ReadOf
+asks_end version n after read =
+    asks version n after (end_form ∷ []) >>= (λ last. ends_with read)
 
 -- The course gives this and ends where the source does, or the answer says why not. What is kept of
 -- the lines then is not looked at any more.

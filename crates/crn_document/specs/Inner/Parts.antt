@@ -2,13 +2,13 @@
 -- and the ranks that the records below a head prove.
 -- Source: this project's own format. Shapes: classes and reactions count from 1. Class 0 stands for
 -- the network.
-use Rattle.std.specs.Prelude.{◌≡◌, ◌≤◌, ◌-◌, ◌==◌, ℕ, zero, suc, ℤ, nat_abs, Bool, true, List, [], ◌∷◌, length, map, filter, drop, take, slice_index, slice_index_or}
+use Rattle.std.specs.Prelude.{◌≡◌, ◌≤◌, ◌-◌, ◌==◌, ◌++◌, ℕ, zero, suc, ℤ, nat_abs, nat_lt, Bool, true, List, [], ◌∷◌, length, map, filter, drop, slice_index, slice_index_or}
 use Rattle.std.specs.List.{range_with_len}
 use Rattle.crn_vec.specs.Network.{Net, IsNetwork}
 use Rattle.crn_vec.specs.Deficiency.{class_members}
 use Rattle.crn_vec.specs.declared.limits.TheConstants.{MAX_COMPLEXES}
 use Rattle.crn_cert.specs.Built.{built}
-use Rattle.crn_cert.specs.Questions.{Earlier, Question, Q5, Q6}
+use Rattle.crn_cert.specs.Questions.{Earlier, Question, Q5, Q6, number as number_of}
 use Rattle.crn_cert.specs.Valid.{linkage, linkage_count}
 use Rattle.crn_ctext.specs.Questions.{first_number, later_numbers}
 use Rattle.crn_ctext.specs.Meaning.{number}
@@ -17,11 +17,19 @@ use Rattle.crn_document.specs.declared.linkage.Linkage.{Linkage}
 use Rattle.crn_document.specs.declared.parts.Part.{Part}
 use Rattle.crn_document.specs.Inner.Answer.{AreSmall}
 
--- the verdicts on all questions before this one are known
-pub record IsKnown (net : Net) (question : ℕ) (facts : KeptFacts) : Type 0 where
+-- the questions that are answered before this one
+abbrev pub before : (question : ℕ) → List Question
+before question = filter (λ q. nat_lt (number_of q) question) built
+
+-- the same, and this one
+abbrev pub up_to : (question : ℕ) → List Question
+up_to question = before question ++ asked question ∷ []
+
+-- the verdicts on these questions are known
+pub record IsKnown (net : Net) (qs : List Question) (facts : KeptFacts) : Type 0 where
   pub network : IsNetwork net
   pub facts_of : AreFactsOf net facts
-  pub so_far : map (λ e. e.0) facts.earlier ≡ take (question - 1) built
+  pub so_far : map (λ e. e.0) facts.earlier ≡ qs
 
 -- the linkage classes that these verdicts say, within the limits of networks
 pub record IsLinkage (earlier : Earlier) (l : Linkage) : Type 0 where

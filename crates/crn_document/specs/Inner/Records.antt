@@ -2,7 +2,7 @@
 -- A record that is due, and the records below a head, by their words.
 -- Source: this project's own format. Shapes: complexes and reactions of a network count from 1 in a
 -- document.
-use Rattle.std.specs.Prelude.{◌≡◌, ◌==◌, ◌&&◌, if◌then◌else◌, ◌-◌, ◌+◌, ◌≤◌, ◌⊎◌, ◌++◌, replicate, ℕ, ℤ, pos, List, [], ◌∷◌, length, map, codes, false}
+use Rattle.std.specs.Prelude.{◌≡◌, ◌==◌, ◌&&◌, if◌then◌else◌, ◌-◌, ◌+◌, ◌≤◌, ◌⊎◌, ◌++◌, replicate, ℕ, ℤ, pos, List, [], ◌∷◌, length, map, codes, Bool, false}
 use Rattle.std.specs.List.{AllZip, flat_map}
 use Rattle.crn_vec.specs.Network.{Net}
 use Rattle.crn_vec.specs.declared.limits.TheConstants.{MAX_COMPLEXES, MAX_REACTIONS}
@@ -20,17 +20,18 @@ use Rattle.crn_ctext.specs.declared.word.Word.{Word}
 use Rattle.crn_document.specs.declared.parts.Part.{Part as RankPart}
 use Rattle.crn_document.specs.Inner.Parts.{members_of}
 use Rattle.crn_document.specs.declared.rows.Row.{Row}
-use Rattle.crn_document.specs.declared.rows.Row.TheVariants.{Label, Up, Depth, From, FromDepth, To, ToDepth, Level, Exit, Back, Base, Dual, Comb, VecOfReactions, VecOfSpecies, CutOfReactions, CutOfSpecies, VecOfComplexes, Side, Walk, Tie}
+use Rattle.crn_document.specs.declared.rows.Row.TheVariants.{Label, Up, Depth, From, FromDepth, To, ToDepth, Level, Exit, Back, Base, Dual, Comb, VecOfReactions, VecOfSpecies, CutOfReactions, CutOfSpecies, VecOfComplexes, Side, Walk, Tie, Alpha, Weights}
 
 -- the record that is due at a line
 abbrev pub asks_for : Expect → (line : ℕ) → Course Record
 asks_for e n = due false >>= (λ line. tests_of e n line)
 
--- these records may be due, none of them a tree's node, and the line before ended no tree
-pub record Expects (e : Expect) (version : ℕ) (forms : List Form) : Type 0 where
+-- these records may be due, none of them a tree's node; `after` says that the line before ended a
+-- tree
+pub record Expects (e : Expect) (version : ℕ) (after : Bool) (forms : List Form) : Type 0 where
   pub may : IsExpectable e
   pub of_version : e.version ≡ version
-  pub after : is_after e.due e.after_tree ≡ false
+  pub by_tree : is_after e.due e.after_tree ≡ after
   pub has : forms_of e ≡ forms
   pub misplaced : misplaced e.due ≡ 26
 
@@ -72,6 +73,14 @@ row_form net labels n Walk =
     record_form (codes "walk")
     (Several 2 (length net.complexes) (pos 1) (pos (length net.complexes)) ∷ [])
 row_form net labels n (Tie classes) = free_form (codes "tie") (length net.names + classes)
+row_form net labels n Alpha = free_form (codes "alpha") (length net.reactions)
+row_form net labels n Weights = free_form (codes "weights") (length net.reactions)
+
+-- two lists of a no on concordance
+abbrev pub pair_rows : (question place : ℕ) → List Row
+pair_rows question place =
+    if question == 14 && place == 2 then Alpha ∷ Weights ∷ [] else (
+    if question == 15 && place == 2 then Alpha ∷ Weights ∷ [] else [])
 
 -- the records below a head but for ranks, sides and ties, by its question and the place of its form
 abbrev pub fixed_rows : (question place : ℕ) → List Row
@@ -85,7 +94,8 @@ fixed_rows question place =
     if question == 8 && place == 2 then CutOfReactions ∷ [] else (
     if question == 11 && place == 4 then Walk ∷ [] else (
     if question == 12 && place == 1 then VecOfComplexes ∷ [] else (
-    if question == 12 && place == 4 then VecOfComplexes ∷ VecOfComplexes ∷ [] else [])))))))))
+    if question == 12 && place == 4 then VecOfComplexes ∷ VecOfComplexes ∷ []
+    else pair_rows question place)))))))))
 
 -- the sides and ties below a head, by its question and the place of its form, where complexes have
 -- these labels of strong classes, and these have these exits, and there are so many linkage classes

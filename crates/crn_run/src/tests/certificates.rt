@@ -9,46 +9,57 @@ const STARTS: &[(&str, &str, &str, &[&str])] = &[
     (
         "both ways",
         "A <-> B",
-        "crn certificate 2\nnetwork 2\nA -> B\nB -> A\nvectors 0\nsection graph\nq1 1\nlabel 1 1\nup 0 ",
+        "crn certificate 2\nnetwork 2\nA -> B\nB -> A\nvectors ",
         &[
+            "\nsection graph\nq1 1\nlabel 1 1\nup 0 ",
             "\nexit 0\nq3 yes\nback 2 1\nq4 yes\nsection rank\nq5 1\nbase ",
             "\nq6 0 0\nbase ",
             "\nsection dependence\nq7 yes\nvec ",
             "\nq8 yes\nvec ",
             "\nsection theorems\nq9 yes 1\nq10 yes\nsection confluence\nq11 yes\nside 1 0 1\nq12 none zero\ntie ",
+            "\nsection concordance\nq14 yes\nsplit\nsplit\nflat\nref",
+            "\nq15 yes\nsplit\nsplit\nflat\nref",
         ],
     ),
     (
         "one reaction",
         "A -> B",
-        "crn certificate 2\nnetwork 1\nA -> B\nvectors 0\nsection graph\nq1 1\nlabel 1 1\nup 0 1\ndepth 0 1\nq2 2 1\nlabel 1 2\nfrom 0 0\nfromdepth 0 0\nto 0 0\ntodepth 0 0\nlevel ",
+        "crn certificate 2\nnetwork 1\nA -> B\nvectors ",
         &[
+            "\nsection graph\nq1 1\nlabel 1 1\nup 0 1\ndepth 0 1\nq2 2 1\nlabel 1 2\nfrom 0 0\nfromdepth 0 0\nto 0 0\ntodepth 0 0\nlevel ",
             "\nexit 1 0\nq3 no 1\nq4 no 1\nsection rank\nq5 1\nbase 1\ndual ",
             "\nq6 0 0\nbase 1\ndual ",
             "\nsection dependence\nq7 no\ncut ",
             "\nq8 yes\nvec ",
-            "\nsection theorems\nq9 yes 0\nq10 yes\nsection confluence\nq11 no dependence\nq12 none regular\nend\n",
+            "\nsection theorems\nq9 yes 0\nq10 yes\nsection confluence\nq11 no dependence\nq12 none regular\nsection concordance\nq14 yes\nsplit\nsplit\nflat\nref",
+            "\nq15 yes\nsplit\nsplit\nflat\nref",
         ],
     ),
     (
         "amounts and the zero complex",
         "  3X+2Y<->  0 # x",
-        "crn certificate 2\nnetwork 2\n3X + 2Y -> 0\n0 -> 3X + 2Y\nvectors 0\nsection graph\nq1 1\n",
+        "crn certificate 2\nnetwork 2\n3X + 2Y -> 0\n0 -> 3X + 2Y\nvectors ",
         &[
+            "\nsection graph\nq1 1\n",
             "\nexit 0\nq3 yes\nback 2 1\nq4 yes\nsection rank\nq5 1\nbase ",
             "\nq6 0 0\nbase ",
             "\nsection dependence\nq7 yes\nvec ",
             "\nq8 no\ncut ",
             "\nsection theorems\nq9 yes 1\nq10 yes\nsection confluence\nq11 yes\nside 1 0 1\nq12 none zero\ntie ",
+            "\nsection concordance\nq14 yes\nsplit\nsplit\nflat\nref",
+            "\nq15 yes\nsplit\nsplit\nflat\nref",
         ],
     ),
     (
         "a confluence vector",
         "2A <-> A + B\nA + B <-> 2B\n",
-        "crn certificate 2\nnetwork 4\n2A -> A + B\nA + B -> 2A\nA + B -> 2B\n2B -> A + B\nvectors 0\n",
+        "crn certificate 2\nnetwork 4\n2A -> A + B\nA + B -> 2A\nA + B -> 2B\n2B -> A + B\nvectors ",
         &[
             "\nsection confluence\nq11 yes\nside 1 0 1 1\nside 3 0 0 1\nq12 yes\nvec 1 -2 1\ntie ",
             "\ntie ",
+            "\nsection concordance\nq14 no\nalpha ",
+            "\nweights ",
+            "\nq15 yes\nsplit\nsplit\nflat\nref",
         ],
     ),
 ];
@@ -110,5 +121,48 @@ fn comes_round(rt: &(impl Abort + AllocGlobal), text: &str) -> bool {
 fn what_is_certified_is_accepted_with_its_report(rt: HostRuntime) {
     for text in ROUNDS {
         assert!(rt; comes_round(&rt, text), "{text}");
+    }
+}
+
+// Each row: a text, its answers to questions 14 and 15 in place of those of its certificate, and the end of the report.
+// The pairs were worked out by hand.
+const OTHER_ANSWERS: &[(&str, &str, &str)] = &[
+    (
+        "A <-> 2A\nA + B <-> C\nC <-> B\n",
+        "q14 no\nalpha 3 1 3 1 1 -1\nweights 1 0 0 0 0 1\nq15 open budget 1\nend\n",
+        "\nQ14 concordant: no\n  sigma: 1 -1 1\n  alpha: 3 1 3 1 1 -1\nQ15 strongly concordant: open, budget 1\nopen: 1\n",
+    ),
+    (
+        "A -> 2A\nA -> 0\n",
+        "q14 no\nalpha 1 1\nweights 1 0\nq15 open budget 100000\nend\n",
+        "\nQ14 concordant: no\n  sigma: 1\n  alpha: 1 1\nQ15 strongly concordant: open, budget 100000\nopen: 1\n",
+    ),
+    (
+        "S0 + K <-> KS0\nKS0 -> S1 + K\nS1 + K <-> KS1\nKS1 -> S2 + K\nS2 + F <-> FS2\nFS2 -> S1 + F\nS1 + F <-> FS1\nFS1 -> S0 + F\n",
+        "q14 open budget 1\nq15 open budget 1\nend\n",
+        "\nQ14 concordant: open, budget 1\nQ15 strongly concordant: open, budget 1\nopen: 2\n",
+    ),
+];
+
+// The certificate of a network up to question 14, and this end.
+fn with_end(rt: &(impl Abort + AllocGlobal), text: &str, end: &str) -> String {
+    let (_, sink) = run_on(rt, "crnt certify", text.as_bytes(), 65_536);
+    let certificate = std::str::from_utf8(sink.bytes()).unwrap_or("");
+    let (before, _) = certificate.split_once("\nq14 ").unwrap_or(("", ""));
+    format!(in rt.alloc(); "{before}\n{end}").expect(rt, "memory")
+}
+
+// Whether a document is accepted, and its report has this end.
+fn is_accepted(rt: &(impl Abort + AllocGlobal), document: &str, end: &str) -> bool {
+    let (status, sink) = run_on(rt, "crnt check", document.as_bytes(), 65_536);
+    let report = std::str::from_utf8(sink.bytes()).unwrap_or("");
+    status == Status::Done && report.ends_with(end)
+}
+
+#[test]
+fn other_answers_on_concordance_are_accepted(rt: HostRuntime) {
+    for (text, end, last) in OTHER_ANSWERS {
+        let document = with_end(&rt, text, end);
+        assert!(rt; is_accepted(&rt, document.as_str(), last), "{end}");
     }
 }

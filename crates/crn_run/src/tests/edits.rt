@@ -1,9 +1,9 @@
-// Edits of a document of `A <-> B`.
+// Edits of a document of `A <-> B`, in both versions.
 use super::runs::{ends_so, push};
 use crate::Status;
 use std::process::Abort;
 
-// The lines of a good document of `A <-> B` in version 1, up to question 12.
+// The lines of a good document of `A <-> B` in version 1.
 const BOTH_WAYS: &[&str] = &[
     "crn certificate 1",
     "network 2",
@@ -43,7 +43,101 @@ const BOTH_WAYS: &[&str] = &[
     "q12 none zero",
     "tie 1 0 0",
     "tie 0 1 0",
+    "q14 yes",
+    "split",
+    "split",
+    "flat",
+    "cuta 0 1",
+    "split",
+    "cuta 1 0",
+    "cutb 1 1",
+    "cuta 1 0",
+    "q15 yes",
+    "split",
+    "split",
+    "flat",
+    "cuta 0 1",
+    "split",
+    "cuta 1 0",
+    "cutb 1 1",
+    "cuta 1 0",
+    "end",
 ];
+
+// The same in version 2, in which the lists of the cuts are shared.
+const SHARED: &[&str] = &[
+    "crn certificate 2",
+    "network 2",
+    "A -> B",
+    "B -> A",
+    "vectors 3",
+    "vector 0 1",
+    "vector 1 0",
+    "vector 1 1",
+    "section graph",
+    "q1 1",
+    "label 1 1",
+    "up 0 1",
+    "depth 0 1",
+    "q2 1 1",
+    "label 1 1",
+    "from 0 1",
+    "fromdepth 0 1",
+    "to 0 2",
+    "todepth 0 1",
+    "level 0",
+    "exit 0",
+    "q3 yes",
+    "back 2 1",
+    "q4 yes",
+    "section rank",
+    "q5 1",
+    "base 1",
+    "dual -1 0",
+    "comb 1 -1",
+    "q6 0 0",
+    "base 1",
+    "dual -1 0",
+    "comb 1 -1",
+    "section dependence",
+    "q7 yes",
+    "vec 1 1",
+    "q8 yes",
+    "vec 1 1",
+    "section theorems",
+    "q9 yes 1",
+    "q10 yes",
+    "section confluence",
+    "q11 yes",
+    "side 1 0 1",
+    "q12 none zero",
+    "tie 1 0 0",
+    "tie 0 1 0",
+    "section concordance",
+    "q14 yes",
+    "split",
+    "split",
+    "flat",
+    "refa 1",
+    "split",
+    "refa 2",
+    "refb 3",
+    "refa 2",
+    "q15 yes",
+    "split",
+    "split",
+    "flat",
+    "refa 1",
+    "split",
+    "refa 2",
+    "refb 3",
+    "refa 2",
+    "end",
+];
+
+// The report of both, with the base, the combination and the law that they name.
+const REPORT: &[u8] =
+    b"crn report 1\nspecies 2: A B\ncomplexes 2: A; B\nreactions 2\nQ1 linkage classes: 1\n  class 1: A; B\nQ2 strong classes: 1, terminal 1\n  strong 1: A; B (terminal)\nQ3 reversible: yes\nQ4 weakly reversible: yes\nQ5 rank: 1\n  independent reactions: 1\nQ6 deficiency: 0, classes 0\nQ7 positively dependent: yes\n  positive combination: 1 1\nQ8 conservative: yes\n  positive law: 1 1\nQ9 deficiency zero theorem: hypotheses hold, weakly reversible\nQ10 deficiency one theorem: hypotheses hold\nQ11 regular: yes\nQ12 confluence vector: not applicable, no vector but zero\nQ14 concordant: yes\nQ15 strongly concordant: yes\nopen: 0\n";
 
 // A line with its LF at the end of a text.
 fn push_line(rt: &impl Abort, text: &mut String, line: &str) {
@@ -52,13 +146,19 @@ fn push_line(rt: &impl Abort, text: &mut String, line: &str) {
 }
 
 // The lines up to the first place, then this text, and then the lines from the second place on.
-fn edited(rt: &(impl Abort + AllocGlobal), before: usize, text: &str, after: usize) -> String {
+fn edited(
+    rt: &(impl Abort + AllocGlobal),
+    lines: &[&str],
+    before: usize,
+    text: &str,
+    after: usize,
+) -> String {
     let mut made = String::new(rt.alloc());
-    for line in BOTH_WAYS.iter().take(before) {
+    for line in lines.iter().take(before) {
         push_line(rt, &mut made, line);
     }
     push(rt, &mut made, text);
-    for line in BOTH_WAYS.iter().skip(after) {
+    for line in lines.iter().skip(after) {
         push_line(rt, &mut made, line);
     }
     made
@@ -76,11 +176,16 @@ fn is_rejected(rt: &(impl Abort + AllocGlobal), document: &str, fault: &str) -> 
     )
 }
 
-// The number of lines.
+// Whether a document is accepted with the report of the network.
+fn is_accepted(rt: &(impl Abort + AllocGlobal), document: &str) -> bool {
+    ends_so(rt, "crnt check", document.as_bytes(), Status::Done, REPORT)
+}
+
+// The number of lines of version 1.
 const END: usize = BOTH_WAYS.len();
 
-// Each row: how many lines come before the edit, the edit, the lines that it takes the place of are up to this one, and
-// the fault. What follows the last line of the document is of no account, as each fault comes before it.
+// Each row: how many lines of version 1 come before the edit, the edit, the lines that it takes the place of are up to
+// this one, and the fault.
 const EDITS: &[(usize, &str, usize, &str)] = &[
     (0, "crn certificate 2\n", 1, "26 WrongOrder at line 5"),
     (0, "crn certificate 3\n", 1, "21 BadHeader at line 1"),
@@ -160,12 +265,172 @@ const EDITS: &[(usize, &str, usize, &str)] = &[
     (6, "", END, "27 EndsEarly at line 7"),
     (20, "", END, "27 EndsEarly at line 21"),
     (36, "", END, "27 EndsEarly at line 37"),
+    // a word of version 2
+    (42, "refa 1\n", 43, "23 UnknownWord at line 43"),
 ];
 
 #[test]
 fn edits_of_a_document_are_rejected_where_they_are(rt: HostRuntime) {
     for (before, text, after, fault) in EDITS {
-        let document = edited(&rt, *before, text, *after);
+        let document = edited(&rt, BOTH_WAYS, *before, text, *after);
         assert!(rt; is_rejected(&rt, document.as_str(), fault), "{text:?}");
+    }
+}
+
+// The lines that version 2 has more than version 1 before question 14.
+const MORE: usize = 10;
+
+// Each row: how many lines of version 1 come before the edit, the edit, the lines that it takes the place of are up to
+// this one, and the fault and its line in version 1. All are from question 14 on, in words of both versions.
+const TREE_EDITS: &[(usize, &str, usize, &str, usize)] = &[
+    (39, "flat\n", 40, "42 NodeNotAllowed", 40),
+    (39, "cutb 1 1\n", 40, "41 BadLeaf", 40),
+    (42, "cuta 0 -1\n", 43, "41 BadLeaf", 43),
+    (42, "cuta 0 0\n", 43, "41 BadLeaf", 43),
+    (42, "flat\n", 43, "42 NodeNotAllowed", 43),
+    (42, "split\n", 43, "42 NodeNotAllowed", 43),
+    (42, "cuta 0\n", 43, "24 BadField", 43),
+    (42, "split 1\n", 43, "24 BadField", 43),
+    // 2^72
+    (
+        42,
+        "cuta 0 4722366482869645213696\n",
+        43,
+        "25 NumberWide",
+        43,
+    ),
+    (42, "tie 1 0 0\n", 43, "43 TreeEndsEarly", 43),
+    (42, "foo\n", 43, "23 UnknownWord", 43),
+    // only the lines before the children of the prefix plus
+    (44, "", END, "43 TreeEndsEarly", 45),
+    // not zero on a free column
+    (45, "cutb 1 0\n", 46, "41 BadLeaf", 46),
+    // the last node of the tree is removed, or one is added
+    (46, "", 47, "43 TreeEndsEarly", 47),
+    (47, "cuta 1 0\n", 47, "44 TreeGoesOn", 48),
+    // a pair that shows nothing
+    (
+        38,
+        "q14 no\nalpha 1 1\nweights 1 0\n",
+        47,
+        "45 BadEvidence",
+        41,
+    ),
+    (
+        38,
+        "q14 no\nalpha 0 0\nweights 1 1\n",
+        47,
+        "45 BadEvidence",
+        41,
+    ),
+    (
+        38,
+        "q14 no\nweights 1 0\nalpha 1 1\n",
+        47,
+        "26 WrongOrder",
+        40,
+    ),
+    // the same for the strong table
+    (51, "cuta 0 -1\n", 52, "41 BadLeaf", 52),
+    (54, "cutb 1 0\n", 55, "41 BadLeaf", 55),
+    (55, "", 56, "43 TreeEndsEarly", 56),
+    (56, "cuta 1 0\n", 56, "44 TreeGoesOn", 57),
+    (
+        47,
+        "q15 no\nalpha 1 1\nweights 1 0\n",
+        56,
+        "45 BadEvidence",
+        50,
+    ),
+    // the end is removed, stands twice, or has no LF
+    (56, "", 57, "27 EndsEarly", 57),
+    (57, "end\n", 57, "28 AfterEnd", 58),
+    (56, "end", 57, "27 EndsEarly", 57),
+];
+
+// Whether an edit of these lines, which come so many lines later than in version 1, is rejected where it is.
+fn is_rejected_in(
+    rt: &(impl Abort + AllocGlobal),
+    lines: &[&str],
+    more: usize,
+    row: &(usize, &str, usize, &str, usize),
+) -> bool {
+    let (before, text, after, name, at) = row;
+    let document = edited(
+        rt,
+        lines,
+        before.wrapping_add(more),
+        text,
+        after.wrapping_add(more),
+    );
+    let fault = format!(in rt.alloc(); "{name} at line {}", at.wrapping_add(more)).expect(
+        rt, "memory",
+    );
+    is_rejected(rt, document.as_str(), fault.as_str())
+}
+
+#[test]
+fn edits_of_trees_and_pairs_are_rejected_in_both_versions(rt: HostRuntime) {
+    for row in TREE_EDITS {
+        assert!(rt;
+            is_rejected_in(&rt, BOTH_WAYS, 0, row),
+            "{:?} in version 1",
+            row.1
+        );
+        assert!(rt;
+            is_rejected_in(&rt, SHARED, MORE, row),
+            "{:?} in version 2",
+            row.1
+        );
+    }
+}
+
+// Each row is as above, of lines of version 2.
+const SHARED_EDITS: &[(usize, &str, usize, &str)] = &[
+    (0, "crn certificate 3\n", 1, "21 BadHeader at line 1"),
+    (4, "", 5, "26 WrongOrder at line 5"),
+    (5, "vector\n", 6, "24 BadField at line 6"),
+    (8, "section rank\n", 9, "24 BadField at line 9"),
+    (47, "", 48, "26 WrongOrder at line 48"),
+    (47, "section confluence\n", 48, "24 BadField at line 48"),
+    (52, "refa 2\n", 53, "41 BadLeaf at line 53"),
+    (52, "refb 1\n", 53, "41 BadLeaf at line 53"),
+    (52, "refa 0\n", 53, "24 BadField at line 53"),
+    (52, "refa 4\n", 53, "24 BadField at line 53"),
+    (52, "refa 1 1\n", 53, "24 BadField at line 53"),
+    // a list that is shared has another length than the cut that names it
+    (5, "vector 0 1 0\n", 6, "46 WrongShape at line 53"),
+    (55, "refa 3\n", 56, "41 BadLeaf at line 56"),
+    (56, "", 57, "43 TreeEndsEarly at line 57"),
+];
+
+#[test]
+fn edits_of_shared_lists_are_rejected_where_they_are(rt: HostRuntime) {
+    for (before, text, after, fault) in SHARED_EDITS {
+        let document = edited(&rt, SHARED, *before, text, *after);
+        assert!(rt; is_rejected(&rt, document.as_str(), fault), "{text:?}");
+    }
+}
+
+// Each row: what it shows, the lines, how many of them come before an edit, the edit, and those that it takes the place
+// of are up to this one.
+const GOOD: &[(&str, &[&str], usize, &str, usize)] = &[
+    ("version 1", BOTH_WAYS, 0, "", 0),
+    ("version 2", SHARED, 0, "", 0),
+    ("a cut with its own numbers", SHARED, 52, "cuta 0 1\n", 53),
+    (
+        "another cut of the same prefix",
+        BOTH_WAYS,
+        42,
+        "cuta -3 4\n",
+        43,
+    ),
+];
+
+#[test]
+fn the_document_is_accepted_with_its_report(rt: HostRuntime) {
+    for (name, lines, before, text, after) in GOOD {
+        let document = edited(&rt, lines, *before, text, *after);
+        assert!(rt; is_accepted(&rt, document.as_str()), "{name}");
     }
 }

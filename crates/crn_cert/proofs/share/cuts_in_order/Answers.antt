@@ -1,4 +1,4 @@
-use Rattle.std.proofs.Common.{◌≡◌, ◌∙◌, ◌++◌, List, ap, sym, take_all, arith}
+use Rattle.std.proofs.Common.{◌∙◌, ◌++◌, List, ap, sym, take_all, arith}
 use Rattle.std.specs.Prelude.{ℤ}
 use Rattle.crn_cert.specs.Shares.{cuts_in}
 use Rattle.crn_cert.proofs.ShareTables.{cuts_step}

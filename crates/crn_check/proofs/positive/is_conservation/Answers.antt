@@ -6,10 +6,10 @@ use Rattle.crn_check.proofs.Decided.{granted, refused}
 use Rattle.crn_check.proofs.Widths.{all_reactions, each_reaction}
 use Rattle.crn_check.proofs.positive.is_conservation.Goals as goal
 
-pub returns-then-weighed-ne0 : goal.returns-then-weighed-ne0
-returns-then-weighed-ne0 c =
+pub returns-then-weight_change-ne0 : goal.returns-then-weight_change-ne0
+returns-then-weight_change-ne0 c =
     let net = c.args.net.now in
-    refused (λ h. c.if-weighed-ne0.true (ap (of_z w128) (c.weighed.ensures ∙ each_reaction net (λ v. dot c.args.weights.now v ≡ pos 0) h.kept c.loop-r.r (omega arith))))
+    refused (λ h. c.if-weight_change-ne0.true (ap (of_z w128) (c.weight_change.ensures ∙ each_reaction net (λ v. dot c.args.weights.now v ≡ pos 0) h.kept c.loop-r.r (omega arith))))
 
 pub returns : goal.returns
 returns c =

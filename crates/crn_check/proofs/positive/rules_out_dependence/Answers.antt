@@ -13,7 +13,7 @@ returns-then-gain-gt0 c =
     let net = c.args.net.now in
     refused (λ h.
     let low = each_reaction net (λ v. dot c.args.weights.now v ≤ℤ pos 0) h.falls c.loop-r.r (omega arith) in
-    omega (arith, ints, low, c.weighed-gain.ensures, c.if-gain-gt0.true))
+    omega (arith, ints, low, c.weight_change-gain.ensures, c.if-gain-gt0.true))
 
 pub returns : goal.returns
 returns c =

@@ -14,7 +14,7 @@ next_sum f g = ap₂ (λ (x y : ℤ). x +ℤ y) (sym f) (sym g)
 pub loop-c-preserved : goal.loop-c-preserved
 loop-c-preserved c =
     let s = to_z w128 c.loop-c.sum-bits in
-    let p = c.counted-sum.result in
+    let p = c.class_term-sum.result in
     let labels = c.args.labels.now in
     let class = c.args.class in
     let v = c.args.numbers.now in
@@ -22,8 +22,8 @@ loop-c-preserved c =
     let k = c.loop-c.c in
     let lt : k < length labels = omega (arith, c.loop-c-test.true, c.complexes-c-end.ensures.count, c.requires.labelled) in
     let mark = label_mark labels class k lt in
-    let small = c.counted-sum.ensures.small in
-    let is : p ≡ entry marks k *ℤ entry v k = c.counted-sum.ensures.value ∙ ap (λ (x : ℤ). x *ℤ entry v k) (sym mark) in
+    let small = c.class_term-sum.ensures.small in
+    let is : p ≡ entry marks k *ℤ entry v k = c.class_term-sum.ensures.value ∙ ap (λ (x : ℤ). x *ℤ entry v k) (sym mark) in
     let bound : unsigned_abs (s +ℤ p) ≤ k * WIDE_SOLUTION + WIDE_SOLUTION = sum_within s p (k * WIDE_SOLUTION) WIDE_SOLUTION c.loop-c.invariant.small small in
     let next : dot (take (k + 1) marks) (take (k + 1) v) ≡ s +ℤ p = dot_step marks v k (omega (arith, lt, length-label_marks labels class)) (omega (arith, lt, c.requires.labelled, c.requires.numbers.long)) ∙ next_sum c.loop-c.invariant.value is in
     rw (held p (omega (arith, small)), held (s +ℤ p) (omega (arith, bound, c.loop-c-test.true, c.complexes-c-end.ensures.limit))) (record { value = sym next; small = omega (arith, bound) })

@@ -1,9 +1,8 @@
-use Rattle.std.proofs.Common.{◌≡◌, ◌∙◌, sym, refl, ap, take, [], arith, ◌<◌}
 use Rattle.std.proofs.lemmas.Result.{err_from_is_err_and}
-use Rattle.crn_io.proofs.CallerLemmas.{WroteAll-none, WroteAll-then, WroteAll-step, WrotePrefix-then, WrotePrefix-more, Wrote-all, Wrote-prefix}
-use Rattle.crn_ctext.proofs.Pieces.{stops_first, stops_later, ends_with, wrote_as}
+use Rattle.crn_io.proofs.CallerLemmas.{WroteAll-then, WrotePrefix-then, WrotePrefix-more, Wrote-prefix}
+use Rattle.crn_ctext.proofs.Pieces.{ends_with, wrote_as}
 use Rattle.crn_ctext.specs.Inner.Written.{question_at, shapes_with}
-use Rattle.crn_ctext.specs.Answers.{head_of, verdict_records, later_records, proof_records, proof_nodes}
+use Rattle.crn_ctext.specs.Answers.{verdict_records, later_records, proof_records, proof_nodes}
 use Rattle.crn_ctext.specs.Documents.{record_lines, written}
 use Rattle.crn_ctext.proofs.WrittenBlocks.{answer_lines, answer_leaves}
 use Rattle.crn_ctext.proofs.write.put_answer.Goals as goal

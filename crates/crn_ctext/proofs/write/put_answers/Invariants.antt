@@ -1,5 +1,5 @@
 use Rattle.std.proofs.Common.{◌≡◌, take}
-use Rattle.crn_cert.specs.Questions.{questions}
+use Rattle.crn_cert.specs.Built.{built}
 use Rattle.crn_io.specs.Write.{WroteAll}
 use Rattle.crn_ctext.specs.Documents.{record_lines, written}
 use Rattle.crn_ctext.specs.Inner.Written.{blocks, leaves_after}
@@ -7,5 +7,5 @@ use Rattle.crn_ctext.proofs.write.put_answers.Given as goal
 
 abbrev pub invariant-loop-k : goal.invariant-loop-k
 invariant-loop-k g l =
-    let done = blocks l.sections l.pairs (take l.k questions) (take l.k l.answers) in
+    let done = blocks l.sections l.pairs (take l.k built) (take l.k l.answers) in
     WroteAll (record_lines (written l.leaf done)) (g.K.Sink.seen l.initial.sink) (g.K.Sink.seen l.sink) × (l.rest ≡ leaves_after done l.leaf)

@@ -1,7 +1,5 @@
-use Rattle.std.proofs.Common.{◌≡◌, ◌∙◌, sym, refl, ap, take, [], arith, ◌<◌}
 use Rattle.std.proofs.lemmas.Result.{err_from_is_err_and}
-use Rattle.crn_io.proofs.CallerLemmas.{WroteAll-none, WroteAll-then, WroteAll-step, WrotePrefix-then, WrotePrefix-more, Wrote-all, Wrote-prefix}
-use Rattle.crn_ctext.proofs.Pieces.{stops_first, stops_later, ends_with, wrote_as}
+use Rattle.crn_ctext.proofs.Pieces.{stops_first, ends_with}
 use Rattle.crn_ctext.specs.Inner.Written.{question_at}
 use Rattle.crn_ctext.proofs.WrittenBlocks.{block_lines, block_leaves}
 use Rattle.crn_ctext.proofs.write.put_block.Goals as goal

@@ -9,12 +9,12 @@ use Rattle.crn_ctext.specs.Course.{◌>>=◌}
 use Rattle.crn_ctext.specs.Course as course
 use Rattle.crn_ctext.proofs.CallerLemmas.{fails_before}
 use Rattle.crn_check.specs.Facts.{asked}
-use Rattle.crn_check.proofs.CallerLemmas.{needs_held}
 use Rattle.crn_document.specs.Inner.Answer.{AreSmall, IsHeadOf}
 use Rattle.crn_document.specs.Inner.Heads.{IsHead}
 use Rattle.crn_document.specs.Inner.Blocks.{IsAfter, behind_at, head_course, rows_course}
 use Rattle.crn_document.specs.Inner.Steps.{StepIs}
 use Rattle.crn_document.proofs.Heads.{said_facts}
+use Rattle.crn_document.proofs.Places.{needs_at}
 use Rattle.crn_document.proofs.Steps.{step_then_is, tests_give, tests_fail}
 use Rattle.crn_document.proofs.Blocks.{claims_fail, claims_hold, head_course_by, said_verdict}
 use Rattle.crn_document.proofs.block.after_head.Goals as goal
@@ -30,7 +30,7 @@ bare_verdict-requires-clause-small g c =
     subst AreSmall (sym (c.as_slice-2.ensures ∙ c.in_ok-head.ensures.list ∙ c.as_slice.ensures)) f.small
 
 pub check_head-requires-clause-needs : goal.check_head-requires-clause-needs
-check_head-requires-clause-needs g c = needs_held c.args.checked.now.facts.earlier c.args.question c.requires.built c.requires.ready.known.so_far
+check_head-requires-clause-needs g c = needs_at c.args.checked.now.facts.earlier c.args.question c.requires.built c.requires.ready.known.so_far
 
 pub check_head-requires-clause-head : goal.check_head-requires-clause-head
 check_head-requires-clause-head g c =
@@ -39,7 +39,8 @@ check_head-requires-clause-head g c =
     subst (λ (v : Verdict). HeadMayBe c.args.net.now c.args.checked.now.facts.earlier (asked c.args.question) v) (sym (c.in_ok-verdict.ensures ∙ ap (λ (zs : List ℤ). said_verdict c.args.question zs []) same)) f.may
 
 pub returns-in-Ok-clause-step : goal.returns-in-Ok-clause-step
-returns-in-Ok-clause-step g c = λ h n table blocks said next.
+returns-in-Ok-clause-step g c = λ h n blocks said next.
+    let table = c.args.table.now in
     let at = c.args.at.now in
     let new = c.read_rows.new.at in
     let net = c.args.net.now in
@@ -52,13 +53,14 @@ returns-in-Ok-clause-step g c = λ h n table blocks said next.
     let last : c.as_slice-in-Ok.result.now ≡ numbers = c.as_slice-in-Ok.ensures ∙ c.in_ok-head.ensures.list ∙ c.as_slice.ensures in
     let verdict : c.in_ok-verdict.verdict ≡ said_verdict q numbers [] = c.in_ok-verdict.ensures ∙ ap (λ (zs : List ℤ). said_verdict q zs []) same in
     let holds : AllHold (head_tests net earlier (asked q) (said_verdict q numbers [])) = subst (λ (v : Verdict). AllHold (head_tests net earlier (asked q) v)) verdict c.in-Ok.ensures in
-    let rest = let r = c.read_rows.ensures.step in r h n table blocks (subst (λ (zs : List ℤ). IsHead net earlier q zs h) (sym last) said) next in
-    head_course_by (λ d. StepIs d (λ (t : Unit {0}) y. IsAfter net c.read_rows.new.checked.facts.earlier new.line y) c.read_rows.result at new before now) at.version table net c.args.checked.now.facts q n numbers h blocks c.requires.built c.requires.ready.known said
-    (step_then_is (claims n (head_tests net earlier (asked q) (said_verdict q numbers []))) (λ x. rows_course at.version table (asked q) (behind_at net earlier n blocks) h) tt (λ (t : Unit {0}) y. IsAfter net c.read_rows.new.checked.facts.earlier new.line y) c.read_rows.result at at new before before now
+    let rest = let r = c.read_rows.ensures.step in r h n blocks (subst (λ (zs : List ℤ). IsHead net earlier q zs h) (sym last) said) next in
+    head_course_by (λ d. StepIs d (λ (t : Unit {0}) y. IsAfter net c.read_rows.new.checked.facts.earlier c.read_rows.new.checked.by_tree new.line y) c.read_rows.result at new before now) at.version table net c.args.checked.now.facts q n numbers h blocks c.requires.built c.requires.ready.known said
+    (step_then_is (claims n (head_tests net earlier (asked q) (said_verdict q numbers []))) (λ x. rows_course at.version table (asked q) (behind_at net earlier n blocks) h) tt (λ (t : Unit {0}) y. IsAfter net c.read_rows.new.checked.facts.earlier c.read_rows.new.checked.by_tree new.line y) c.read_rows.result at at new before before now
     (tests_give (claims n (head_tests net earlier (asked q) (said_verdict q numbers []))) tt at.line at.lines before.left (λ place. claims_hold n (head_tests net earlier (asked q) (said_verdict q numbers [])) place holds)) refl rest)
 
 pub returns-clause-step : goal.returns-clause-step
-returns-clause-step g c = λ h n table blocks said next.
+returns-clause-step g c = λ h n blocks said next.
+    let table = c.args.table.now in
     let at = c.args.at.now in
     let net = c.args.net.now in
     let earlier = c.args.checked.now.facts.earlier in

@@ -4,7 +4,8 @@ use Rattle.std.specs.List.{AllByRecursion}
 use Rattle.std.proofs.lemmas.Result.{err_from_is_err_and}
 use Rattle.std.proofs.lemmas.List.{length-map}
 use Rattle.crn_ctext.specs.Records.{Form}
-use Rattle.crn_ctext.specs.Blocks.{asks_all}
+use Rattle.crn_ctext.specs.Blocks.{Behind, asks_all}
+use Rattle.crn_ctext.specs.Meaning.{Known}
 use Rattle.crn_ctext.specs.Steps.{StepGives}
 use Rattle.crn_cert.specs.Valid.{exits, linkage, strong}
 use Rattle.crn_vec.specs.declared.limits.TheConstants.{MAX_COMPLEXES}
@@ -45,30 +46,40 @@ next_rows-requires-clause-may g c =
     let parts : c.deref.result.now ≡ parts_after c.args.net.now c.args.checked.now.facts.earlier c.args.question c.args.head.now = c.deref.ensures.value ∙ c.in_ok-parts.ensures ∙ ap (λ (ls : List ℕ). parts_below c.args.net.now ls c.args.question c.args.head.now) labels in
     subst (λ (due : List Row). AllByRecursion MayBeRow due) (sym (c.deref-2.ensures.value ∙ c.in_ok-due.ensures)) (rows_may c.args.net.now (strong c.args.checked.now.facts.earlier) (exits c.args.checked.now.facts.earlier) c.linkage_of-linkage.result.count c.args.question c.number_of-place.result c.deref.result.now (let l = c.linkage_of-linkage.ensures in l.few) (subst AreRanks (sym parts) (let r = f.ranks in r long)))
 
-pub accept-requires-clause-line : goal.accept-requires-clause-line
-accept-requires-clause-line g c =
+pub end_block-requires-clause-line : goal.end_block-requires-clause-line
+end_block-requires-clause-line g c =
     let s = c.in_ok-next_rows.ensures.step in
     let forms = map (row_form c.args.net.now c.linkage_of-linkage.result.labels.now c.class_count-classes.result) c.deref-2.result.now in
     let counted = rows_counted forms c.next_rows.new.into c.in_ok-rows.rows s.0 c.in_ok-rows.ensures s.1 in
     let long = length-map c.deref-2.result.now (row_form c.args.net.now c.linkage_of-linkage.result.labels.now c.class_count-classes.result) in
     omega (arith, counted, long, c.in_ok-next_rows.ensures.line, c.requires.some)
 
-pub accept-requires-clause-parts : goal.accept-requires-clause-parts
-accept-requires-clause-parts g c = c.deref-3.ensures.value ∙ c.in_ok-parts.ensures ∙ ap (λ (ls : List ℕ). parts_below c.args.net.now ls c.args.question c.args.head.now) (let l = c.linkage_of-linkage.ensures in l.labels_are)
+pub end_block-requires-clause-parts : goal.end_block-requires-clause-parts
+end_block-requires-clause-parts g c = c.deref-3.ensures.value ∙ c.in_ok-parts.ensures ∙ ap (λ (ls : List ℕ). parts_below c.args.net.now ls c.args.question c.args.head.now) (let l = c.linkage_of-linkage.ensures in l.labels_are)
 
-pub accept-requires-clause-block : goal.accept-requires-clause-block
-accept-requires-clause-block g c =
+pub end_block-requires-clause-block : goal.end_block-requires-clause-block
+end_block-requires-clause-block g c =
     let s = c.in_ok-next_rows.ensures.step in
     let forms = map (row_form c.args.net.now c.linkage_of-linkage.result.labels.now c.class_count-classes.result) c.deref-2.result.now in
     let same = forms_are c.args.net.now c.args.checked.now.facts.earlier c.args.question c.args.head.now c.linkage_of-linkage.result.labels.now c.linkage_of-linkage.result.count c.class_count-classes.result c.number_of-place.result c.deref.result.now c.deref-2.result.now (let l = c.linkage_of-linkage.ensures in l.labels_are) (let l = c.linkage_of-linkage.ensures in l.count_is) c.class_count-classes.ensures c.number_of-place.ensures (c.deref.ensures.value ∙ c.in_ok-parts.ensures) (c.deref-2.ensures.value ∙ c.in_ok-due.ensures) in
     (c.requires.head.0, s.0, rows_block c.args.net.now c.args.checked.now.facts.earlier c.args.question c.args.head.now forms c.next_rows.new.into c.in_ok-rows.rows c.requires.head.0 s.0 same c.in_ok-rows.ensures c.requires.head.1 s.1)
 
+pub returns-in_err-parts-clause-step : goal.returns-in_err-parts-clause-step
+returns-in_err-parts-clause-step g c = λ h n blocks said next.
+    step_exits _ _ c.from_residual.result stop.NoMemory _ _ _ _ (err_from_is_err_and c.from_residual.result c.from_residual.ensures.1) (stops_here c.args.at.now _ c.requires.goes.reads, refl)
+
+pub returns-in_err-due-clause-step : goal.returns-in_err-due-clause-step
+returns-in_err-due-clause-step g c = λ h n blocks said next.
+    step_exits _ _ _ stop.NoMemory _ _ _ _ (err_from_is_err_and _ c.from_residual-in_err-due.ensures.1) (stops_here c.args.at.now _ c.requires.goes.reads, refl)
+
 pub returns-in_err-members-clause-step : goal.returns-in_err-members-clause-step
-returns-in_err-members-clause-step g c = λ h n table blocks said next.
+returns-in_err-members-clause-step g c = λ h n blocks said next.
+    let table = c.args.table.now in
     step_exits _ _ _ stop.NoMemory _ _ _ _ (err_from_is_err_and _ c.from_residual-in_err-members.ensures.1) (stops_here c.args.at.now _ c.requires.goes.reads, refl)
 
 pub returns-in_err-next_rows-clause-step : goal.returns-in_err-next_rows-clause-step
-returns-in_err-next_rows-clause-step g c = λ h n table blocks said next.
+returns-in_err-next_rows-clause-step g c = λ h n blocks said next.
+    let table = c.args.table.now in
     let at = c.args.at.now in
     let earlier = c.args.checked.now.facts.earlier in
     let e = c.in_err-next_rows.field-0.0 in
@@ -79,17 +90,26 @@ returns-in_err-next_rows-clause-step g c = λ h n table blocks said next.
     (subst (λ (fs : List Form). StopIs (asks_all at.version at.line false fs) e at (g.S.Source.seen c.args.source.now) (g.S.Source.seen c.next_rows.new.source)) same c.in_err-next_rows.ensures.step)))
 
 pub returns-clause-step : goal.returns-clause-step
-returns-clause-step g c = λ h n table blocks said next.
+returns-clause-step g c = λ h n blocks said next.
+    let table = c.args.table.now in
     let at = c.args.at.now in
     let mid = c.next_rows.new.at in
+    let last = c.end_block.new.at in
+    let net = c.args.net.now in
     let earlier = c.args.checked.now.facts.earlier in
+    let q = asked c.args.question in
+    let before = g.S.Source.seen c.args.source.now in
+    let between = g.S.Source.seen c.next_rows.new.source in
+    let now = g.S.Source.seen c.end_block.new.source in
     let s = c.in_ok-next_rows.ensures.step in
-    let forms = map (row_form c.args.net.now c.linkage_of-linkage.result.labels.now c.class_count-classes.result) c.deref-2.result.now in
-    let same = forms_are c.args.net.now earlier c.args.question c.args.head.now c.linkage_of-linkage.result.labels.now c.linkage_of-linkage.result.count c.class_count-classes.result c.number_of-place.result c.deref.result.now c.deref-2.result.now (let l = c.linkage_of-linkage.ensures in l.labels_are) (let l = c.linkage_of-linkage.ensures in l.count_is) c.class_count-classes.ensures c.number_of-place.ensures (c.deref.ensures.value ∙ c.in_ok-parts.ensures) (c.deref-2.ensures.value ∙ c.in_ok-due.ensures) in
-    let block = rows_block c.args.net.now earlier c.args.question c.args.head.now forms c.next_rows.new.into c.in_ok-rows.rows h s.0 same c.in_ok-rows.ensures said s.1 in
+    let forms = map (row_form net c.linkage_of-linkage.result.labels.now c.class_count-classes.result) c.deref-2.result.now in
+    let same = forms_are net earlier c.args.question c.args.head.now c.linkage_of-linkage.result.labels.now c.linkage_of-linkage.result.count c.class_count-classes.result c.number_of-place.result c.deref.result.now c.deref-2.result.now (let l = c.linkage_of-linkage.ensures in l.labels_are) (let l = c.linkage_of-linkage.ensures in l.count_is) c.class_count-classes.ensures c.number_of-place.ensures (c.deref.ensures.value ∙ c.in_ok-parts.ensures) (c.deref-2.ensures.value ∙ c.in_ok-due.ensures) in
+    let block = rows_block net earlier c.args.question c.args.head.now forms c.next_rows.new.into c.in_ok-rows.rows h s.0 same c.in_ok-rows.ensures said s.1 in
     let line : at.line - 1 ≡ n = omega (arith, next) in
-    let ends = let a = c.accept.ensures.step in a h s.0 at.version table blocks (g.S.Source.seen c.next_rows.new.source) block in
-    rows_course_by (λ d. StepIs d (λ (t : Unit {0}) y. IsAfter c.args.net.now c.accept.new.checked.facts.earlier mid.line y) c.accept.result at mid (g.S.Source.seen c.args.source.now) (g.S.Source.seen c.next_rows.new.source)) at.version table c.args.net.now c.args.checked.now.facts c.args.question n at.line c.args.head.now h blocks c.requires.built c.requires.ready.known said next
-    (step_then_is (asks_all at.version at.line false (forms_below c.args.net.now earlier c.args.question c.args.head.now)) (λ rows. end_course at.version table (asked c.args.question) (behind_at c.args.net.now earlier n blocks) h rows) s.0 (λ (t : Unit {0}) y. IsAfter c.args.net.now c.accept.new.checked.facts.earlier mid.line y) c.accept.result at mid mid (g.S.Source.seen c.args.source.now) (g.S.Source.seen c.next_rows.new.source) (g.S.Source.seen c.next_rows.new.source)
-    (subst (λ (fs : List Form). StepGives (asks_all at.version at.line false fs) s.0 at.line mid.line at.lines mid.lines (g.S.Source.seen c.args.source.now).left (g.S.Source.seen c.next_rows.new.source).left) same s.2) s.3
-    (subst (λ (k : ℕ). StepIs (end_course at.version table (asked c.args.question) (behind_at c.args.net.now earlier k blocks) h s.0) (λ (t : Unit {0}) y. IsAfter c.args.net.now c.accept.new.checked.facts.earlier mid.line y) c.accept.result mid mid (g.S.Source.seen c.next_rows.new.source) (g.S.Source.seen c.next_rows.new.source)) line ends))
+    let Says : Unit {0} → Behind Known → Type 0 = λ t y. IsAfter net c.end_block.new.checked.facts.earlier c.end_block.new.checked.by_tree last.line y in
+    let rest : StepIs (end_course mid.version table q (behind_at net earlier (at.line - 1) blocks) h s.0) Says c.end_block.result mid last between now = let e = c.end_block.ensures.step in e h s.0 blocks block in
+    rows_course_by (λ d. StepIs d Says c.end_block.result at last before now) at.version table net c.args.checked.now.facts c.args.question n at.line c.args.head.now h blocks c.requires.built c.requires.ready.known said next
+    (step_then_is (asks_all at.version at.line false (forms_below net earlier c.args.question c.args.head.now)) (λ rows. end_course at.version table q (behind_at net earlier n blocks) h rows) s.0 Says c.end_block.result at mid last before between now
+    (subst (λ (fs : List Form). StepGives (asks_all at.version at.line false fs) s.0 at.line mid.line at.lines mid.lines before.left between.left) same s.2) s.3
+    (subst (λ (v : ℕ). StepIs (end_course v table q (behind_at net earlier n blocks) h s.0) Says c.end_block.result mid last between now) c.next_rows.ensures.version
+    (subst (λ (k : ℕ). StepIs (end_course mid.version table q (behind_at net earlier k blocks) h s.0) Says c.end_block.result mid last between now) line rest)))

@@ -14,7 +14,7 @@ returns-clause-due c = λ earlier fits.
     let same = heads_by_sizes c.args.question c.requires.built (sizes_of c.sizes_of-sizes.result) (known_sizes (known_of c.args.net.now earlier)) z.species z.complexes z.reactions (z.classes ∙ fits) in record {
       may = record { version = c.requires.version; sizes = z.within; due = number_of_built c.args.question c.requires.built };
       of_version = refl;
-      after = refl;
+      by_tree = refl;
       has = same;
       misplaced = refl;
     }

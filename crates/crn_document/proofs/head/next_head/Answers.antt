@@ -40,5 +40,5 @@ returns-clause-step g c =
     let due = (let d = c.head_expect-expect.ensures.due in d earlier fits) in
     let says : (t : Unit {0}) (h : Record) → IsSaid e numbers h → IsHead net earlier q numbers h
     = λ t h s. record { form = subst (λ (fs : List Form). IsOneOf fs h) due.has s.form; tag = s.numbers ∙ ap (λ (zs : List ℤ). zs ++ h.numbers) (let t = c.head_expect-expect.ensures.tag in t earlier h fits) } in
-    as_expected (λ d. StepIs d (λ t h. IsHead net earlier q numbers h) c.next_record.result c.args.at.now c.next_record.new.at (g.S.Source.seen c.args.source.now) (g.S.Source.seen c.next_record.new.source)) e c.args.at.now.version c.args.at.now.line (head_forms net earlier q) due
+    as_expected (λ d. StepIs d (λ t h. IsHead net earlier q numbers h) c.next_record.result c.args.at.now c.next_record.new.at (g.S.Source.seen c.args.source.now) (g.S.Source.seen c.next_record.new.source)) e c.args.at.now.version c.args.at.now.line c.args.after_tree (head_forms net earlier q) due
     (step_says (asks_for e c.args.at.now.line) (λ t h. IsSaid e numbers h) (λ t h. IsHead net earlier q numbers h) c.next_record.result c.args.at.now c.next_record.new.at _ _ says c.next_record.ensures.step)

@@ -1,6 +1,12 @@
+use Rattle.crn_vec.specs.declared.limits.TheConstants.{MAX_BUDGET}
+use Rattle.crn_cert.proofs.CallerLemmas.{have_more}
 use Rattle.crn_run.proofs.Certificates.{same_document}
 use Rattle.crn_run.proofs.Outputs.{certificate_gives, certificate_broken}
 use Rattle.crn_run.proofs.output.certify.Goals as goal
+
+-- no tree has more nodes than the budget, and so none has more than the greatest budget
+pub certificate_is_good-requires-clause-few : goal.certificate_is_good-requires-clause-few
+certificate_is_good-requires-clause-few g c = have_more c.args.budget MAX_BUDGET c.in-Ok.answers c.requires.most c.in-Ok.ensures.nodes
 
 pub returns-in-Ok-write_document2 : goal.returns-in-Ok-write_document2
 returns-in-Ok-write_document2 g c = λ text spells.

@@ -1,14 +1,14 @@
-use Rattle.std.proofs.Common.{◌≡◌, ℕ, [], ◌∷◌, ◌∙◌, List, length, sym, refl}
+use Rattle.std.proofs.Common.{◌≡◌, [], ◌∷◌, ◌∙◌, List, sym, refl}
 use Rattle.crn_cert.specs.declared.answer.Answer.{Answer}
-use Rattle.crn_cert.specs.Questions.{Earlier, Q1, Q2, Q3, Q4, Q5, Q6, Q7, Q8, Q9, Q10, Q11, Q12, on}
+use Rattle.crn_cert.specs.Questions.{Earlier, Q1, Q2, Q3, Q4, Q5, Q6, Q7, Q8, Q9, Q10, Q11, Q12, Q14, Q15}
 use Rattle.crn_cert.specs.declared.answer.Verdict.TheVariants.{Classes, Strong}
-use Rattle.crn_cert.specs.Says.{AreStrongClasses}
 use Rattle.crn_cert.specs.Given.{GiveClasses}
 use Rattle.crn_cert.specs.Built.{built}
 use Rattle.crn_defi.proofs.CallerLemmas.{true_or_open, strong_right}
 use Rattle.crn_solve.specs.Inner.ClassData.{AreLinkageData, AreStrongData}
 use Rattle.crn_solve.proofs.AllAnswers.{AreAnswers, are_formed, are_valid, are_answered, answer_of}
 use Rattle.crn_solve.proofs.Deficiencies.{rank_or_open}
+use Rattle.crn_solve.proofs.FewNodes.{solved_few}
 use Rattle.crn_solve.proofs.answers.solve.Goals as goal
 
 pub deficiency_answer-requires-clause-classes : goal.deficiency_answer-requires-clause-classes
@@ -118,6 +118,8 @@ returns c =
     let a10 = c.one_hypotheses-one.result in
     let a11 = c.in_ok-regular.regular in
     let a12 = c.in_ok-confluence.confluence in
+    let a14 = c.in_ok-concordant.concordant in
+    let a15 = c.in_ok-strongly_concordant.strongly_concordant in
     let after1 : Earlier = (Q1, a1.verdict) ∷ [] in
     let after2 : Earlier = (Q1, a1.verdict) ∷ (Q2, a2.verdict) ∷ [] in
     let after3 : Earlier = (Q1, a1.verdict) ∷ (Q2, a2.verdict) ∷ (Q3, a3.verdict) ∷ [] in
@@ -129,6 +131,8 @@ returns c =
     let after9 : Earlier = (Q1, a1.verdict) ∷ (Q2, a2.verdict) ∷ (Q3, a3.verdict) ∷ (Q4, a4.verdict) ∷ (Q5, a5.verdict) ∷ (Q6, a6.verdict) ∷ (Q7, a7.verdict) ∷ (Q8, a8.verdict) ∷ (Q9, a9.verdict) ∷ [] in
     let after10 : Earlier = (Q1, a1.verdict) ∷ (Q2, a2.verdict) ∷ (Q3, a3.verdict) ∷ (Q4, a4.verdict) ∷ (Q5, a5.verdict) ∷ (Q6, a6.verdict) ∷ (Q7, a7.verdict) ∷ (Q8, a8.verdict) ∷ (Q9, a9.verdict) ∷ (Q10, a10.verdict) ∷ [] in
     let after11 : Earlier = (Q1, a1.verdict) ∷ (Q2, a2.verdict) ∷ (Q3, a3.verdict) ∷ (Q4, a4.verdict) ∷ (Q5, a5.verdict) ∷ (Q6, a6.verdict) ∷ (Q7, a7.verdict) ∷ (Q8, a8.verdict) ∷ (Q9, a9.verdict) ∷ (Q10, a10.verdict) ∷ (Q11, a11.verdict) ∷ [] in
+    let after12 : Earlier = (Q1, a1.verdict) ∷ (Q2, a2.verdict) ∷ (Q3, a3.verdict) ∷ (Q4, a4.verdict) ∷ (Q5, a5.verdict) ∷ (Q6, a6.verdict) ∷ (Q7, a7.verdict) ∷ (Q8, a8.verdict) ∷ (Q9, a9.verdict) ∷ (Q10, a10.verdict) ∷ (Q11, a11.verdict) ∷ (Q12, a12.verdict) ∷ [] in
+    let after14 : Earlier = (Q1, a1.verdict) ∷ (Q2, a2.verdict) ∷ (Q3, a3.verdict) ∷ (Q4, a4.verdict) ∷ (Q5, a5.verdict) ∷ (Q6, a6.verdict) ∷ (Q7, a7.verdict) ∷ (Q8, a8.verdict) ∷ (Q9, a9.verdict) ∷ (Q10, a10.verdict) ∷ (Q11, a11.verdict) ∷ (Q12, a12.verdict) ∷ (Q14, a14.verdict) ∷ [] in
     let l = c.in_ok-linkage.ensures in
     let linkage : AreLinkageData net c.in_ok-linkage.linkage = record { count = l.count; labels = l.labels; numbered = l.numbered; even = l.even; forest = l.forest; trees = l.trees } in
     let s = c.in_ok-strong.ensures in
@@ -181,10 +185,13 @@ returns c =
     let d10 = c.one_hypotheses-one.ensures budget after9 gives9 refl in
     let d11 = c.in_ok-regular.ensures budget after10 gives10 refl in
     let d12 = c.in_ok-confluence.ensures budget after11 gives11 refl refl in
-    let answers : List Answer = a1 ∷ a2 ∷ a3 ∷ a4 ∷ a5 ∷ a6 ∷ a7 ∷ a8 ∷ a9 ∷ a10 ∷ a11 ∷ a12 ∷ [] in
-    let pushed : c.push-12.new.self ≡ answers =
-    rw (c.push-12.ensures, c.push-11.ensures, c.push-10.ensures, c.push-9.ensures, c.push-8.ensures, c.push-7.ensures, c.push-6.ensures, c.push-5.ensures, c.push-4.ensures, c.push-3.ensures, c.push-2.ensures, c.push.ensures, c.in_ok-answers.ensures) refl in
-    let later : AreAnswers net budget after4 (Q5 ∷ Q6 ∷ Q7 ∷ Q8 ∷ Q9 ∷ Q10 ∷ Q11 ∷ Q12 ∷ []) (a5 ∷ a6 ∷ a7 ∷ a8 ∷ a9 ∷ a10 ∷ a11 ∷ a12 ∷ []) = (d5, (d6, (d7, (d8, (d9, (d10, (d11, (d12, tt)))))))) in
+    let d14 = c.in_ok-concordant.ensures.answer after12 in
+    let d15 = c.in_ok-strongly_concordant.ensures.answer after14 in
+    let answers : List Answer = a1 ∷ a2 ∷ a3 ∷ a4 ∷ a5 ∷ a6 ∷ a7 ∷ a8 ∷ a9 ∷ a10 ∷ a11 ∷ a12 ∷ a14 ∷ a15 ∷ [] in
+    let pushed : c.push-14.new.self ≡ answers =
+    rw (c.push-14.ensures, c.push-13.ensures, c.push-12.ensures, c.push-11.ensures, c.push-10.ensures, c.push-9.ensures, c.push-8.ensures, c.push-7.ensures, c.push-6.ensures, c.push-5.ensures, c.push-4.ensures, c.push-3.ensures, c.push-2.ensures, c.push.ensures, c.in_ok-answers.ensures) refl in
+    let later : AreAnswers net budget after4 (Q5 ∷ Q6 ∷ Q7 ∷ Q8 ∷ Q9 ∷ Q10 ∷ Q11 ∷ Q12 ∷ Q14 ∷ Q15 ∷ []) (a5 ∷ a6 ∷ a7 ∷ a8 ∷ a9 ∷ a10 ∷ a11 ∷ a12 ∷ a14 ∷ a15 ∷ []) =
+    (d5, (d6, (d7, (d8, (d9, (d10, (d11, (d12, (d14, (d15, tt)))))))))) in
     let all : AreAnswers net budget [] built answers =
     (answer_of net budget [] Q1 a1 d1, (answer_of net budget after1 Q2 a2 d2, (answer_of net budget after2 Q3 a3 d3, (answer_of net budget after3 Q4 a4 d4, later)))) in
     record {
@@ -192,4 +199,5 @@ returns c =
       valid = rw pushed (are_valid net budget [] built answers all);
       answered = rw pushed (are_answered net budget [] built answers all);
       decided = rw pushed (d1.decided, (d2.decided, (d3.decided, (d4.decided, tt))));
+      nodes = rw pushed (solved_few net budget a1 a2 a3 a4 a5 a6 a7 a8 a9 a10 a11 a12 a14 a15 all c.in_ok-concordant.ensures.nodes c.in_ok-strongly_concordant.ensures.nodes);
     }

@@ -23,7 +23,7 @@ invariant_of-self c =
     let new = c.pop.new.self.items in
     let is : earlier_of items ≡ c.args.self.now.earlier = ap (λ (k : KeptFacts). k.earlier) c.self.view_is in
     let later : HoldsNoneFrom c.args.question (earlier_of items) = subst (HoldsNoneFrom c.args.question) (sym is) c.requires.later in
-    let fact : Fact = record { question = c.args.question; verdict = c.kept-verdict.result } in
+    let fact : Fact = record { question = c.args.question; verdict = c.keep-verdict.result } in
     let more : length c.add.new.items.items ≡ length (items ++ fact ∷ []) = ap (λ (l : List Fact). length l) c.add.ensures.items in
     let parts : old ≡ new ++ c.in-Some.room ∷ [] = c.in-Some.ensures.items in
     let less = ap (λ (l : List Room). length l) parts in (

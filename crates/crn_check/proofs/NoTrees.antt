@@ -1,0 +1,34 @@
+-- A formed answer to a question whose yes a tree shows holds no tree, if it is no yes.
+use Rattle.std.proofs.Common.{◌≡◌, inl, inr, ℕ, refl, sym, subst}
+use Rattle.crn_vec.specs.Network.{Net}
+use Rattle.crn_cert.specs.declared.answer.Answer.{Answer}
+use Rattle.crn_cert.specs.declared.answer.Proof.{Proof}
+use Rattle.crn_cert.specs.declared.answer.Proof.TheVariants.{Nothing}
+use Rattle.crn_cert.specs.declared.answer.Verdict.{Verdict}
+use Rattle.crn_cert.specs.declared.answer.Verdict.TheVariants.{Yes, NoPair, Unknown}
+use Rattle.crn_cert.specs.Formed.{IsFormed, RowsMayBe}
+use Rattle.crn_cert.specs.Questions.{Earlier, Q14, Q15}
+use Rattle.crn_check.specs.Facts.{asked}
+use Rattle.crn_check.specs.Check.{AsksForTree, HoldsNoTree}
+
+none_plain : (net : Net) (e : Earlier) (v : Verdict) (p : Proof) → RowsMayBe net e Q14 v p → (v ≡ Yes → ⊥) → HoldsNoTree p
+none_plain net e Yes p h differs = absurd (differs refl)
+none_plain net e (NoPair alpha weights) Nothing h differs = tt
+none_plain net e (NoPair alpha weights) p h differs = absurd h
+none_plain net e (Unknown gap) p h differs = subst HoldsNoTree (sym h) tt
+none_plain net e v p h differs = absurd h
+
+none_strong : (net : Net) (e : Earlier) (v : Verdict) (p : Proof) → RowsMayBe net e Q15 v p → (v ≡ Yes → ⊥) → HoldsNoTree p
+none_strong net e Yes p h differs = absurd (differs refl)
+none_strong net e (NoPair alpha weights) Nothing h differs = tt
+none_strong net e (NoPair alpha weights) p h differs = absurd h
+none_strong net e (Unknown gap) p h differs = subst HoldsNoTree (sym h) tt
+none_strong net e v p h differs = absurd h
+
+pub answer_treeless : (net : Net) (e : Earlier) (n : ℕ) (a : Answer) → (AsksForTree n → a.verdict ≡ Yes → ⊥) → IsFormed net e (asked n) a → AsksForTree n → HoldsNoTree a.proof
+answer_treeless net e n a differs formed (inl is) =
+    let rows : RowsMayBe net e Q14 a.verdict a.proof = subst (λ (m : ℕ). RowsMayBe net e (asked m) a.verdict a.proof) is formed.1 in
+    none_plain net e a.verdict a.proof rows (differs (inl is))
+answer_treeless net e n a differs formed (inr is) =
+    let rows : RowsMayBe net e Q15 a.verdict a.proof = subst (λ (m : ℕ). RowsMayBe net e (asked m) a.verdict a.proof) is formed.1 in
+    none_strong net e a.verdict a.proof rows (differs (inr is))

@@ -1,8 +1,0 @@
-use Rattle.std.proofs.Common.{◌≡◌, length}
-use Rattle.std.specs.List.{AllByRecursion}
-use Rattle.crn_check.specs.Facts.{IsRoom}
-use Rattle.crn_check.proofs.facts.all_reserved.Given as goal
-
--- there are so many rooms so far
-abbrev pub invariant-loop-k : goal.invariant-loop-k
-invariant-loop-k l = record { count : length l.rooms.items ≡ l.k; each : AllByRecursion IsRoom l.rooms.items }

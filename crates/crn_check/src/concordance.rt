@@ -1,0 +1,50 @@
+ghost use Rattle.std.specs.Prelude.{◌⊎◌, length};
+ghost use Rattle.crn_cert.specs.Formed.{RowsConcordant};
+ghost use Rattle.crn_cert.specs.Questions.{IsOpen};
+ghost use Rattle.crn_cert.specs.Ranges.{AreFree};
+ghost use Rattle.crn_cert.specs.Valid.{table_rows};
+ghost use Rattle.crn_ctree.specs.Problem.{table_of};
+ghost use Rattle.crn_check.specs.Check.{HoldsNoTree, Judges};
+ghost use Rattle.crn_check.specs.Inner.Tests.{pair_tests};
+
+use crate::fault::CheckFault;
+use crn_cert::{Proof, Verdict};
+use crn_ctree::{Problem, check_pair};
+use crn_net::Network;
+
+// The test of two lists that show a table discordant.
+fn check_lists(
+    net: &Network,
+    problem: Problem,
+    alpha: &[i128],
+    weights: &[i128],
+) -> Result<(), CheckFault>
+    requires alpha { AreFree (length net.now.reactions) alpha.now }
+    requires weights { AreFree (length net.now.reactions) weights.now }
+    ensures { Judges (pair_tests net.now (table_of net.now problem) alpha.now weights.now) result }
+{
+    if !check_pair(net, problem, alpha, weights) {
+        return Err(CheckFault { code: 45, part: 2 });
+    }
+    Ok(())
+}
+
+// The tests of the records on concordance that are no tree: two lists.
+pub(crate) fn check_concordance(
+    net: &Network,
+    problem: Problem,
+    verdict: &Verdict,
+    proof: &Proof,
+) -> Result<(), CheckFault>
+    requires rows { IsOpen verdict.now ⊎ RowsConcordant net.now verdict.now proof.now }
+    requires treeless { HoldsNoTree proof.now }
+    ensures { Judges (table_rows net.now (table_of net.now problem) verdict.now proof.now) result }
+{
+    let _ = proof;
+    match verdict {
+        Verdict::NoPair { alpha, weights } => {
+            check_lists(net, problem, alpha.as_slice(), weights.as_slice())
+        }
+        _ => Ok(()),
+    }
+}

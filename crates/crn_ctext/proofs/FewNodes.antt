@@ -1,0 +1,122 @@
+-- The records of formed answers whose trees have few nodes are few.
+use Rattle.std.proofs.Common.{◌≡◌, ◌≤◌, ◌<◌, ◌+◌, ◌++◌, ℕ, Bool, false, List, [], ◌∷◌, length, refl, sym, subst, inl, inr, arith}
+use Rattle.std.specs.List.{AllByRecursion}
+use Rattle.std.proofs.lemmas.List.{length-append}
+use Rattle.crn_vec.specs.Network.{Net, IsNetwork}
+use Rattle.crn_io.specs.declared.lines.TheConstants.{MAX_DOCUMENT}
+use Rattle.crn_vec.specs.declared.limits.TheConstants.{MAX_BUDGET}
+use Rattle.crn_cert.specs.declared.answer.Verdict.{Verdict}
+use Rattle.crn_cert.specs.declared.answer.Proof.{Proof}
+use Rattle.crn_cert.specs.declared.answer.Proof.TheVariants as proof
+use Rattle.crn_cert.specs.declared.answer.Answer.{Answer}
+use Rattle.crn_cert.specs.declared.tree.Tree.{Tree, Split', CutA, CutB, Flat, None', Some'}
+use Rattle.crn_cert.specs.Questions.{Earlier, Question, Q1, Q2, Q3, Q4, Q5, Q6, Q7, Q8, Q9, Q10, Q11, Q12, Q13, Q14, Q15}
+use Rattle.crn_cert.specs.Built.{built}
+use Rattle.crn_cert.specs.Formed.{RowsMayBe, AreFormed}
+use Rattle.crn_cert.specs.Trees.{plan, node_count}
+use Rattle.crn_cert.specs.TreeSizes.{HasFewNodes, HaveFewNodes}
+use Rattle.crn_cert.proofs.CallerLemmas.{IsTreeless}
+use Rattle.crn_ctext.specs.Answers.{nodes, proof_nodes, all_records}
+use Rattle.crn_ctext.specs.Documents.{Share, FitsShare, document, document2}
+use Rattle.crn_ctext.specs.Linked.{records_of}
+use Rattle.crn_ctext.specs.Meaning.{Known, meaning}
+use Rattle.crn_ctext.proofs.Alike.{IsAlike}
+use Rattle.crn_ctext.proofs.Joined.{parts, joined}
+use Rattle.crn_ctext.proofs.KnownBefore.{AreKnown, after}
+use Rattle.crn_ctext.proofs.AnswersLinked.{AreLinkedFor, behind, built_linked, alike_behind, known_next}
+use Rattle.crn_ctext.proofs.TablesLinked.{IsTreeOrNone, tree_or_none}
+use Rattle.crn_ctext.proofs.WrittenAnswers.{IsShortQuestion, ShortFor, built_short, concordant_rows, strongly_rows}
+use Rattle.crn_ctext.proofs.DocumentsShort.{node_limit, AreFewNodes, first_few, second_few}
+
+-- ---- one answer
+
+-- a tree has as many records as nodes
+nodes_counted : (tree : Tree) → length (nodes tree) ≡ node_count (plan tree)
+nodes_counted (Split' a zeros b pluses None') = omega (arith, nodes_counted zeros, nodes_counted pluses, length-append (nodes zeros ++ nodes pluses) [], length-append (nodes zeros) (nodes pluses))
+nodes_counted (Split' a zeros b pluses (Some' c minuses)) = omega (arith, nodes_counted zeros, nodes_counted pluses, nodes_counted minuses, length-append (nodes zeros ++ nodes pluses) (nodes minuses), length-append (nodes zeros) (nodes pluses))
+nodes_counted (CutA u) = refl
+nodes_counted (CutB u) = refl
+nodes_counted Flat = refl
+
+-- a proof without trees has no nodes
+no_nodes : (p : Proof) → IsTreeless p → length (proof_nodes p) ≡ 0
+no_nodes proof.Nothing h = refl
+no_nodes (proof.Forest up depth) h = refl
+no_nodes (proof.Strong from from_depth to to_depth level) h = refl
+no_nodes (proof.Back back) h = refl
+no_nodes (proof.Rank p) h = refl
+no_nodes (proof.Ranks ps) h = refl
+no_nodes (proof.Sides rows) h = refl
+no_nodes (proof.Ties rows) h = refl
+no_nodes (proof.One tree) h = absurd h
+no_nodes (proof.Two tree second) h = absurd h
+
+-- the one tree, if there is one
+one_few : (most : ℕ) (net : Net) (p : Proof) → IsTreeOrNone net p → HasFewNodes most p → length (proof_nodes p) ≤ most
+one_few most net p (inl none) h = subst (λ (x : Proof). length (proof_nodes x) ≤ most) (sym none) (omega arith)
+one_few most net p (inr t) h =
+    let few : node_count (plan t.0) ≤ most = subst (HasFewNodes most) t.1 h in
+    subst (λ (x : Proof). length (proof_nodes x) ≤ most) (sym t.1) (omega (arith, few, nodes_counted t.0))
+
+-- an answer to the question has no more nodes than its bound, if each of its trees has no more than a budget
+record IsFewFor (q : Question) : Type 0 where
+  few : (net : Net) (earlier : Earlier) (v : Verdict) (p : Proof) → RowsMayBe net earlier q v p → HasFewNodes MAX_BUDGET p → length (proof_nodes p) ≤ node_limit q
+
+short_few : (q : Question) → IsShortQuestion q → IsFewFor q
+short_few q s = record {
+  few = λ net earlier v p h few. omega (arith, no_nodes p (s net earlier v p h));
+}
+
+few_for : (q : Question) → ShortFor q → IsFewFor q
+few_for Q1 s = short_few Q1 s
+few_for Q2 s = short_few Q2 s
+few_for Q3 s = short_few Q3 s
+few_for Q4 s = short_few Q4 s
+few_for Q5 s = short_few Q5 s
+few_for Q6 s = short_few Q6 s
+few_for Q7 s = short_few Q7 s
+few_for Q8 s = short_few Q8 s
+few_for Q9 s = short_few Q9 s
+few_for Q10 s = short_few Q10 s
+few_for Q11 s = short_few Q11 s
+few_for Q12 s = short_few Q12 s
+few_for Q13 s = short_few Q13 s
+few_for Q14 s = record {
+  few = λ net earlier v p h few. one_few MAX_BUDGET net p (tree_or_none net v p (concordant_rows net earlier v p h)) few;
+}
+few_for Q15 s = record {
+  few = λ net earlier v p h few. one_few MAX_BUDGET net p (tree_or_none net v p (strongly_rows net earlier v p h)) few;
+}
+
+-- ---- all answers
+
+few_by : (b : Bool) (qs : List Question) → AreLinkedFor b qs → AllByRecursion ShortFor qs → (known : Known) (earlier : Earlier) (answers : List Answer) → AreKnown b known.earlier → IsAlike known earlier → AreFormed known.net earlier qs answers → HaveFewNodes MAX_BUDGET answers
+    → AreFewNodes qs known (all_records meaning qs known answers)
+unfolding AreFewNodes all_records
+few_by b [] links shorts known earlier [] n e f few = refl
+few_by b [] links shorts known earlier (a ∷ answers) n e f few = absurd f
+few_by b (q ∷ qs) links shorts known earlier [] n e f few = absurd f
+few_by b (q ∷ qs) links shorts known earlier (a ∷ answers) n e f few =
+    let j = joined b q links.0 in
+    let formed = j.formed in
+    let bound = few_for q shorts.0 in
+    let nodes = bound.few in (
+      parts q known a,
+      formed known earlier a.verdict a.proof n e f.0,
+      nodes known.net earlier a.verdict a.proof f.0.1 few.0,
+      few_by (after b q) qs links.1 shorts.1 (behind q known a) (earlier ++ (q, a.verdict) ∷ []) answers (known_next b q known earlier a n e j f.0) (alike_behind b q known earlier a n e j f.0) f.1 few.1,
+    )
+
+-- the records of formed answers whose trees have few nodes
+answers_few : (net : Net) (answers : List Answer) → AreFormed net [] built answers → HaveFewNodes MAX_BUDGET answers → AreFewNodes built (meaning.start net) (records_of net answers)
+answers_few net answers f few = few_by false built built_linked built_short (meaning.start net) [] answers tt refl f few
+
+-- ---- documents
+
+-- the document of formed answers whose trees have few nodes is shorter than the bound
+pub document_short : (net : Net) (answers : List Answer) → IsNetwork net → AreFormed net [] built answers → HaveFewNodes MAX_BUDGET answers → length (document net (records_of net answers)) < MAX_DOCUMENT
+document_short net answers n f few = first_few net (records_of net answers) n (answers_few net answers f few)
+
+-- so it is with each share that fits
+pub document2_short : (net : Net) (answers : List Answer) (share : Share) → IsNetwork net → AreFormed net [] built answers → HaveFewNodes MAX_BUDGET answers → FitsShare (records_of net answers) share → length (document2 built net (records_of net answers) share) < MAX_DOCUMENT
+document2_short net answers share n f few fits = second_few net (records_of net answers) share n (answers_few net answers f few) fits

@@ -1,0 +1,65 @@
+-- The questions that are answered, by their places among them.
+use Rattle.std.proofs.Common.{◌≡◌, ◌≤◌, ◌<◌, ◌-◌, ◌∙◌, ℕ, zero, suc, [], length, map, take, drop, refl, sym, subst, ap, inl, inr, arith}
+use Rattle.std.specs.Prelude.{slice_index_or}
+use Rattle.crn_cert.specs.declared.answer.Verdict.{Verdict}
+use Rattle.crn_cert.specs.Built.{built}
+use Rattle.crn_cert.specs.Questions.{Earlier, Question, Q1, number}
+use Rattle.crn_check.specs.Facts.{HoldsNoneFrom}
+use Rattle.crn_check.specs.Check.{HoldsNeeds, IsBuilt}
+use Rattle.crn_check.proofs.CallerLemmas.{built_at, needs_held, none_from}
+use Rattle.crn_document.specs.Inner.Parts.{before}
+use Rattle.crn_document.specs.Inner.Blocks.{IsAt}
+
+-- the question at each place
+pub at_place : (place : ℕ) → 1 ≤ place → place ≤ 14 → IsAt place (number (slice_index_or built (place - 1) Q1))
+at_place zero low high = absurd (omega (arith, low))
+at_place (suc zero) low high = record { answered = inl refl; earlier = refl; later = refl; with_it = refl }
+at_place (suc (suc zero)) low high = record { answered = inr (inl refl); earlier = refl; later = refl; with_it = refl }
+at_place (suc (suc (suc zero))) low high = record { answered = inr (inr (inl refl)); earlier = refl; later = refl; with_it = refl }
+at_place (suc (suc (suc (suc zero)))) low high = record { answered = inr (inr (inr (inl refl))); earlier = refl; later = refl; with_it = refl }
+at_place (suc (suc (suc (suc (suc zero))))) low high = record { answered = inr (inr (inr (inr (inl refl)))); earlier = refl; later = refl; with_it = refl }
+at_place (suc (suc (suc (suc (suc (suc zero)))))) low high = record { answered = inr (inr (inr (inr (inr (inl refl))))); earlier = refl; later = refl; with_it = refl }
+at_place (suc (suc (suc (suc (suc (suc (suc zero))))))) low high = record { answered = inr (inr (inr (inr (inr (inr (inl refl)))))); earlier = refl; later = refl; with_it = refl }
+at_place (suc (suc (suc (suc (suc (suc (suc (suc zero)))))))) low high = record { answered = inr (inr (inr (inr (inr (inr (inr (inl refl))))))); earlier = refl; later = refl; with_it = refl }
+at_place (suc (suc (suc (suc (suc (suc (suc (suc (suc zero))))))))) low high = record { answered = inr (inr (inr (inr (inr (inr (inr (inr (inl refl)))))))); earlier = refl; later = refl; with_it = refl }
+at_place (suc (suc (suc (suc (suc (suc (suc (suc (suc (suc zero)))))))))) low high = record { answered = inr (inr (inr (inr (inr (inr (inr (inr (inr (inl refl))))))))); earlier = refl; later = refl; with_it = refl }
+at_place (suc (suc (suc (suc (suc (suc (suc (suc (suc (suc (suc zero))))))))))) low high = record { answered = inr (inr (inr (inr (inr (inr (inr (inr (inr (inr (inl refl)))))))))); earlier = refl; later = refl; with_it = refl }
+at_place (suc (suc (suc (suc (suc (suc (suc (suc (suc (suc (suc (suc zero)))))))))))) low high = record { answered = inr (inr (inr (inr (inr (inr (inr (inr (inr (inr (inr (inl refl))))))))))); earlier = refl; later = refl; with_it = refl }
+at_place (suc (suc (suc (suc (suc (suc (suc (suc (suc (suc (suc (suc (suc zero))))))))))))) low high = record { answered = inr (inr (inr (inr (inr (inr (inr (inr (inr (inr (inr (inr (inl refl)))))))))))); earlier = refl; later = refl; with_it = refl }
+at_place (suc (suc (suc (suc (suc (suc (suc (suc (suc (suc (suc (suc (suc (suc zero)))))))))))))) low high = record { answered = inr (inr (inr (inr (inr (inr (inr (inr (inr (inr (inr (inr (inr (inl refl))))))))))))); earlier = refl; later = refl; with_it = refl }
+at_place (suc (suc (suc (suc (suc (suc (suc (suc (suc (suc (suc (suc (suc (suc (suc n))))))))))))))) low high = absurd (omega (arith, high))
+
+-- none is left after the last
+pub none_left : (place : ℕ) → place ≡ 15 → drop (place - 1) built ≡ []
+none_left place e = subst (λ (k : ℕ). drop (k - 1) built ≡ []) (sym e) refl
+
+pub all_taken : (place : ℕ) → place ≡ 15 → take (place - 1) built ≡ built
+all_taken place e = subst (λ (k : ℕ). take (k - 1) built ≡ built) (sym e) refl
+
+few : (k : ℕ) → k < 14 → k < length built
+few k lt = lt
+
+-- the place of a question, counted from 0
+place_of_built : (n : ℕ) → IsBuilt n → (k : ℕ) × (k < length built) × (before n ≡ take k built) × (built_at k ≡ n)
+place_of_built n (inl e) = (0, few 0 (omega arith), ap (λ (m : ℕ). before m) e, sym e)
+place_of_built n (inr (inl e)) = (1, few 1 (omega arith), ap (λ (m : ℕ). before m) e, sym e)
+place_of_built n (inr (inr (inl e))) = (2, few 2 (omega arith), ap (λ (m : ℕ). before m) e, sym e)
+place_of_built n (inr (inr (inr (inl e)))) = (3, few 3 (omega arith), ap (λ (m : ℕ). before m) e, sym e)
+place_of_built n (inr (inr (inr (inr (inl e))))) = (4, few 4 (omega arith), ap (λ (m : ℕ). before m) e, sym e)
+place_of_built n (inr (inr (inr (inr (inr (inl e)))))) = (5, few 5 (omega arith), ap (λ (m : ℕ). before m) e, sym e)
+place_of_built n (inr (inr (inr (inr (inr (inr (inl e))))))) = (6, few 6 (omega arith), ap (λ (m : ℕ). before m) e, sym e)
+place_of_built n (inr (inr (inr (inr (inr (inr (inr (inl e)))))))) = (7, few 7 (omega arith), ap (λ (m : ℕ). before m) e, sym e)
+place_of_built n (inr (inr (inr (inr (inr (inr (inr (inr (inl e))))))))) = (8, few 8 (omega arith), ap (λ (m : ℕ). before m) e, sym e)
+place_of_built n (inr (inr (inr (inr (inr (inr (inr (inr (inr (inl e)))))))))) = (9, few 9 (omega arith), ap (λ (m : ℕ). before m) e, sym e)
+place_of_built n (inr (inr (inr (inr (inr (inr (inr (inr (inr (inr (inl e))))))))))) = (10, few 10 (omega arith), ap (λ (m : ℕ). before m) e, sym e)
+place_of_built n (inr (inr (inr (inr (inr (inr (inr (inr (inr (inr (inr (inl e)))))))))))) = (11, few 11 (omega arith), ap (λ (m : ℕ). before m) e, sym e)
+place_of_built n (inr (inr (inr (inr (inr (inr (inr (inr (inr (inr (inr (inr (inl e))))))))))))) = (12, few 12 (omega arith), ap (λ (m : ℕ). before m) e, sym e)
+place_of_built n (inr (inr (inr (inr (inr (inr (inr (inr (inr (inr (inr (inr (inr (inl e)))))))))))))) = (13, few 13 (omega arith), ap (λ (m : ℕ). before m) e, sym e)
+place_of_built n (inr (inr (inr (inr (inr (inr (inr (inr (inr (inr (inr (inr (inr (inr none)))))))))))))) = absurd none
+
+-- the verdicts on the questions before one are those that its tests look at, and on none later
+pub needs_at : (es : Earlier) (n : ℕ) → IsBuilt n → map (λ (e : Question × Verdict). e.0) es ≡ before n → HoldsNeeds es n
+needs_at es n is before_it = let p = place_of_built n is in subst (λ (m : ℕ). HoldsNeeds es m) p.3 (needs_held es p.0 p.1 (before_it ∙ p.2))
+
+pub none_later : (es : Earlier) (n : ℕ) → IsBuilt n → map (λ (e : Question × Verdict). e.0) es ≡ before n → HoldsNoneFrom n es
+none_later es n is before_it = let p = place_of_built n is in subst (λ (m : ℕ). HoldsNoneFrom m es) p.3 (none_from es p.0 p.1 (before_it ∙ p.2))

@@ -1,0 +1,116 @@
+use Rattle.std.proofs.Common.{◌≡◌, ◌≢◌, ◌++◌, ◌∙◌, List, [], ◌∷◌, length, refl, sym, ap, subst, Ok}
+use Rattle.std.proofs.lemmas.Result.{err_from_is_err_and}
+use Rattle.crn_vec.specs.declared.signs.Sign.{Sign}
+use Rattle.crn_vec.specs.Visits.{root}
+use Rattle.crn_ctext.specs.Blocks.{asks_tree}
+use Rattle.crn_ctext.specs.Steps.{StepGives}
+use Rattle.crn_ctree.specs.Due.{first}
+use Rattle.crn_ctree.specs.declared.node.Step.{Step}
+use Rattle.crn_ctree.specs.declared.problem.Problem.{Problem}
+use Rattle.crn_document.specs.Inner.Steps.{StepIs, StopIs}
+use Rattle.crn_document.specs.Inner.Trees.{Leaves, asks_due, asks_one, problem_in}
+use Rattle.crn_document.proofs.Steps.{step_exits}
+use Rattle.crn_vec.specs.Problems.{Signed}
+use Rattle.crn_cert.specs.Nodes.{Said, Passing}
+use Rattle.crn_ctree.specs.Problem.{problem_of}
+use Rattle.crn_ctree.proofs.CallerLemmas.{complete_trees_show_concordance, passing_none, passing_taken}
+use Rattle.crn_document.specs.Inner.Trees.{TakesSome}
+use Rattle.crn_document.proofs.DueTrees.{due_then, due_stops, none_due, root_tree}
+use Rattle.crn_document.proofs.CoursesFollowed.{step_follows}
+use Rattle.crn_document.proofs.tree.next_tree.Goals as goal
+
+-- one more node
+passes_on : (v w : Signed) (due after : List (List Sign)) (said : List Said) → v ≡ w → due ≢ [] → Passing w root said due → TakesSome v due after → (more : List Said) × Passing w root more after
+passes_on v w due after said same some passing taken =
+    let t = subst (λ (x : Signed). TakesSome x due after) same taken in
+    (said ++ t.0 ∷ [], passing_taken w root due after said t.0 some passing t.1)
+
+pub nodes-init : goal.nodes-init
+nodes-init g c =
+    let at = c.args.at.now in
+    let net = c.args.net.now in
+    let table = c.args.table.now in
+    let p = problem_in net c.args.problem in
+    record {
+      goes = c.requires.goes;
+      version = refl;
+      some = λ none. let e : root ≡ [] = sym c.in_ok-check.ensures.due ∙ none in absurd cc;
+      choices = c.in_ok-check.ensures.choices;
+      problem = c.in_ok-check.ensures.problem;
+      passing = ([], subst (λ (d : List (List Sign)). Passing (problem_of net c.args.problem) root [] d) (sym c.in_ok-check.ensures.due) (passing_none (problem_of net c.args.problem)));
+      whole = λ result new now q. step_follows (asks_due at.version table p root at.line) (asks_tree at.version table p (length net.names) [] at.line) (λ t line. line ≡ new.line) result at new (g.S.Source.seen c.args.source.now) now (root_tree at.version table p at.line)
+          (subst (λ (d : List (List Sign)). StepIs (asks_due at.version table p d at.line) (λ t line. line ≡ new.line) result at new (g.S.Source.seen c.args.source.now) now) c.in_ok-check.ensures.due q);
+    }
+
+pub returns-in_err-next_node-clause-step : goal.returns-in_err-next_node-clause-step
+returns-in_err-next_node-clause-step g c =
+    let h = c.nodes.invariant in
+    let whole = h.whole in
+    let net = c.args.net.now in
+    let table = c.args.table.now in
+    let at = c.nodes.at in
+    let tree = c.nodes.check in
+    let e = c.in_err-next_node.field-0.0 in
+    let before = g.S.Source.seen c.nodes.source in
+    let now = g.S.Source.seen c.next_node.new.source in
+    whole c.from_residual-in_err-next_node.result c.next_node.new.at now
+    (step_exits _ _ c.from_residual-in_err-next_node.result _ _ _ _ _ (err_from_is_err_and c.from_residual-in_err-next_node.result c.from_residual-in_err-next_node.ensures.1)
+    (due_stops at.version at.line table (problem_in net c.args.problem) tree.due e at before now h.some
+    (subst (λ (k : Problem). StopIs (asks_one at.version table (problem_in net k) (first tree.due) at.line) e at before now) h.problem c.in_err-next_node.ensures.step)))
+
+pub nodes-preserved : goal.nodes-preserved
+nodes-preserved g c =
+    let h = c.nodes.invariant in
+    let whole = h.whole in
+    let net = c.args.net.now in
+    let table = c.args.table.now in
+    let at = c.nodes.at in
+    let tree = c.nodes.check in
+    let mid = c.next_node.new.at in
+    let after = c.next_node.new.check in
+    let before = g.S.Source.seen c.nodes.source in
+    let between = g.S.Source.seen c.next_node.new.source in
+    let s = c.in_ok-next_node.ensures.step in
+    let p = problem_in net c.args.problem in
+    record {
+      goes = c.in_ok-next_node.ensures.goes;
+      version = c.next_node.ensures.version ∙ h.version;
+      some = subst (λ (step : Step). Leaves step after.due) c.in-More.is c.in_ok-next_node.ensures.leaves;
+      choices = c.next_node.ensures.choices ∙ h.choices;
+      problem = c.next_node.ensures.problem ∙ h.problem;
+      passing = passes_on (problem_of net tree.problem) (problem_of net c.args.problem) tree.due after.due h.passing.0 (ap (problem_of net) h.problem) h.some h.passing.1 c.in_ok-next_node.ensures.taken;
+      whole = λ result new now q. whole result new now
+          (due_then at.version at.line table p tree.due after.due s.0 (λ t line. line ≡ new.line) result at mid new before between now h.some c.next_node.ensures.version c.in_ok-next_node.ensures.line s.1
+          (subst (λ (k : Problem). StepGives (asks_one at.version table (problem_in net k) (first tree.due) at.line) s.0 at.line mid.line at.lines mid.lines before.left between.left) h.problem s.2) s.3 q);
+    }
+
+pub returns-in-Complete-clause-step : goal.returns-in-Complete-clause-step
+returns-in-Complete-clause-step g c =
+    let h = c.nodes.invariant in
+    let whole = h.whole in
+    let net = c.args.net.now in
+    let table = c.args.table.now in
+    let at = c.nodes.at in
+    let tree = c.nodes.check in
+    let mid = c.next_node.new.at in
+    let after = c.next_node.new.check in
+    let before = g.S.Source.seen c.nodes.source in
+    let between = g.S.Source.seen c.next_node.new.source in
+    let s = c.in_ok-next_node.ensures.step in
+    let p = problem_in net c.args.problem in
+    let none : after.due ≡ [] = subst (λ (step : Step). Leaves step after.due) c.in-Complete.is c.in_ok-next_node.ensures.leaves in
+    whole (Ok tt) mid between
+    (due_then at.version at.line table p tree.due after.due s.0 (λ (t : Unit {0}) line. line ≡ mid.line) (Ok tt) at mid mid before between between h.some c.next_node.ensures.version c.in_ok-next_node.ensures.line s.1
+    (subst (λ (k : Problem). StepGives (asks_one at.version table (problem_in net k) (first tree.due) at.line) s.0 at.line mid.line at.lines mid.lines before.left between.left) h.problem s.2) s.3
+    (none_due mid.version table p after.due mid between none))
+
+pub returns-in-Complete-clause-shown : goal.returns-in-Complete-clause-shown
+returns-in-Complete-clause-shown g c =
+    let h = c.nodes.invariant in
+    let net = c.args.net.now in
+    let w = problem_of net c.args.problem in
+    let tree = c.nodes.check in
+    let after = c.next_node.new.check in
+    let none : after.due ≡ [] = subst (λ (step : Step). Leaves step after.due) c.in-Complete.is c.in_ok-next_node.ensures.leaves in
+    let all = passes_on (problem_of net tree.problem) w tree.due after.due h.passing.0 (ap (problem_of net) h.problem) h.some h.passing.1 c.in_ok-next_node.ensures.taken in
+    complete_trees_show_concordance net c.args.problem all.0 c.requires.network (subst (λ (d : List (List Sign)). Passing w root all.0 d) none all.1)
