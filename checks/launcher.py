@@ -8,14 +8,17 @@ import os
 import pty
 import re
 import shutil
+import signal
 import subprocess
 import sys
 import tempfile
+import time
 from pathlib import Path
 
 from tally import Tally
 
 ROOT = Path(__file__).resolve().parent.parent
+LIMITS = ROOT / "crates" / "crn_vec" / "src" / "limits.rt"
 SECONDS = 60
 
 RT = """#!/bin/sh
@@ -27,6 +30,7 @@ if [ "$1" = run ]; then mkdir -p out; cp "$PROGRAM" out/crnt; shift 2; exec out/
 """
 
 PROGRAM = """#!/bin/sh
+if [ "$STATUS" = slow ]; then sleep 2; exit; fi
 if [ "$1" != report ]; then echo usage; exit 4; fi
 cat
 if [ "$STATUS" = killed ]; then kill -9 $$; fi
@@ -97,16 +101,19 @@ class Repository:
                               env={**self.environment, **changes}, cwd=where or self.root, timeout=SECONDS)
         return done.returncode, done.stdout, done.stderr.decode(), self.called()
 
-    def run_on_a_terminal(self, words, typed=None, **changes):
+    def run_on_a_terminal(self, words, typed=None, interrupt=None, **changes):
         """The status, standard output and what the terminal shows, where standard error is a terminal. It is standard
-        input too where something is typed."""
+        input too where something is typed. After so many seconds all that runs is interrupted, as by Ctrl-C."""
         ours, theirs = pty.openpty()
         stdin = subprocess.PIPE if typed is None else theirs
         child = subprocess.Popen(self.command(words, None), stdin=stdin, stdout=subprocess.PIPE, stderr=theirs,
-                                 env={**self.environment, **changes}, cwd=self.root)
+                                 env={**self.environment, **changes}, cwd=self.root, start_new_session=True)
         os.close(theirs)
         if typed is not None:
             os.write(ours, typed)
+        if interrupt is not None:
+            time.sleep(interrupt)
+            os.killpg(child.pid, signal.SIGINT)
         out, _ = child.communicate(None if typed is not None else b"text", timeout=SECONDS)
         shown = b""
         try:
@@ -277,6 +284,8 @@ def terminals(repository):
         _, _, shown = repository.run_on_a_terminal(words, typed=b"\x04")
         yield f"says nothing of typing where nothing is read: {words}", "Ctrl-D" not in shown, shown
 
+    yield from searches(repository)
+
     environment = {**repository.environment, "STATUS": "number"}
     with subprocess.Popen(repository.command(["report"], None), stdin=subprocess.DEVNULL, stdout=subprocess.PIPE,
                           stderr=subprocess.PIPE, env=environment) as child:
@@ -287,6 +296,24 @@ def terminals(repository):
     repository.source("low").write_text("changed for the terminal")
     status, out, shown = repository.run_on_a_terminal(["report"])
     yield "builds at a terminal too", (status, out, repository.called()) == (3, b"text", BUILD), (status, out, shown)
+
+
+def searches(repository):
+    """What is said while a search goes on."""
+    [default] = re.findall(r"DEFAULT_BUDGET: u32 = ([\d_]+);", LIMITS.read_text("utf-8"))
+    for words, budget in [(["report"], default.replace("_", "")), (["certify", "--budget", "7"], "7"), (["--budget=30", "report"], "30")]:
+        status, out, shown = repository.run_on_a_terminal(words, STATUS="slow")
+        told = f"crnt: still at work; each search makes at most {budget} visits (another number: --budget N)\n"
+        yield f"says at a terminal that a search goes on: {words}", (status, out, shown) == (0, b"", told), shown
+    for words in [["check"], ["report", "file"]]:
+        _, _, shown = repository.run_on_a_terminal(words, STATUS="slow")
+        yield f"says of no budget where there is none: {words}", "still at work" not in shown, shown
+    _, _, shown = repository.run_on_a_terminal(["report"], typed=b"", STATUS="slow")
+    yield "says of no budget where a text is typed", "still at work" not in shown, shown
+    seen = repository.run(["report"], STATUS="slow")
+    yield "says nothing of a search where there is no terminal", seen == (0, b"", "", []), seen
+    seen = repository.run_on_a_terminal(["report"], interrupt=0.5, STATUS="slow")
+    yield "says nothing of a search that is interrupted", (seen[0], seen[2]) == (-2, ""), seen
 
 
 def failures(repository, folder):

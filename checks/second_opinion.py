@@ -16,7 +16,7 @@ import second_search
 from second_search import cleared, independent, kernel, primitive
 
 # the questions that the program answers: all that follows here, in end_to_end.py and in the benches goes by this list
-BUILT = [1, 2, 3, 4, 5, 6, 7, 8, 9, 10, 11, 12]
+BUILT = [1, 2, 3, 4, 5, 6, 7, 8, 9, 10, 11, 12, 14, 15]
 
 BUDGET = 20_000  # of a search, where none is said
 MAX_SPECIES, MAX_COMPLEXES, MAX_REACTIONS, MAX_AMOUNT, MAX_NAME = 60, 160, 240, 99, 32
