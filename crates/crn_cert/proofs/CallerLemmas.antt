@@ -1,13 +1,15 @@
 -- What other crates may cite of this crate's proofs.
 -- The law of each question, and of all answers to questions that are built one after another.
 pub use Rattle.crn_cert.proofs.AllLaws.{valid_answers_are_true, valid_documents_are_true}
+-- Formed and valid strong classes are true, whatever the reactions join.
+pub use Rattle.crn_cert.proofs.ValidLaws.{strong_law}
 -- A tree that is valid at the empty prefix leaves no full standing prefix.
 pub use Rattle.crn_cert.proofs.TreeLaws.{leaves_nothing}
 -- Marks that pass the test of a side, and the linked pairs within terminal classes.
 pub use Rattle.crn_cert.proofs.Cycles.{tested_marks_are_sides}
 pub use Rattle.crn_cert.proofs.PairPlaces.{pair_places_are_pairs}
--- A shape of the network for each vector over its complexes.
-pub use Rattle.crn_cert.proofs.ShapesExist.{shapes_exist}
+-- A shape of the network for each vector over its complexes, and for each list with given terminal classes and pairs.
+pub use Rattle.crn_cert.proofs.ShapesExist.{shapes_exist, side_marks, side_inside, side_sum, shape_with, shape_count}
 -- Heads of verdicts do not depend on the lists of later records.
 pub use Rattle.crn_cert.proofs.Heads.{tests_by_heads, forms_by_heads, heads_depend_on_no_lists}
 -- The verdict of a formed answer is formed; tests of trees; the share of cuts fits them.

@@ -1,10 +1,10 @@
 -- Labels, trees, levels and exits that pass the tests are right.
-use Rattle.std.proofs.Common.{◌≡◌, ◌⊎◌, ℕ, zero, suc, ◌+◌, ◌-◌, ◌<◌, ◌≤◌, List, length, get_or, refl, sym, subst, ◌∙◌, inl, inr, arith}
+use Rattle.std.proofs.Common.{◌≡◌, ◌⊎◌, ℕ, zero, suc, ◌+◌, ◌-◌, ◌<◌, ◌≤◌, List, [], ◌∷◌, length, get_or, refl, sym, subst, ◌∙◌, inl, inr, arith}
 use Rattle.std.proofs.lemmas.Bool.{cases_lt, cases_eq}
 use Rattle.crn_vec.specs.Lists.{IsIn}
 use Rattle.crn_vec.specs.Network.{Net, IsNetwork}
 use Rattle.crn_vec.specs.Linkage.{IsLinked, SameClass}
-use Rattle.crn_vec.specs.Strong.{ReactsTo, Reaches, IsTerminal, LeavesClass, AreRightStrongLabels, AreExits}
+use Rattle.crn_vec.specs.Strong.{ReactsTo, Reaches, SameStrong, IsTerminal, LeavesClass, AreRightStrongLabels, AreExits}
 use Rattle.crn_vec.proofs.CallerLemmas.{leads_keeps, leads_here, class_then, class_back, class_link, reaches_then, reaches_step}
 use Rattle.crn_vec.proofs.CallerLemmas.{inside_at, reaction_in, place_of}
 use Rattle.crn_cert.specs.Says.{IsReactionNumber, AreLinkageClasses}
@@ -97,18 +97,35 @@ linkage_right net network count labels up depth long numbered even tree =
 
 -- ---- strong classes
 
-from_parent : (net : Net) → IsNetwork net → (labels from depth : List ℕ) → AreFromTrees net labels from depth → (c : ℕ) → c < length net.complexes → IsFirst labels c ⊎ Parent net labels depth (λ x y. Reaches net.reactions y x) c
-from_parent net network labels from depth tree c lt = elim (tree c lt) [
+-- a complex with a label is inside the list of labels
+label_inside : (labels : List ℕ) (y : ℕ) → 1 ≤ get_or labels y 0 → y < length labels
+label_inside [] y some = absurd (omega (arith, some))
+label_inside (l ∷ labels) zero some = omega arith
+label_inside (l ∷ labels) (suc y) some = let h = label_inside labels y some in omega (arith, h)
+
+-- each complex has a label
+abbrev AreLabelled : Net → List ℕ → Type 0
+AreLabelled net labels = (length labels ≡ length net.complexes) × ((y : ℕ) → y < length labels → 1 ≤ get_or labels y 0)
+
+-- so has a complex with the label of another
+same_inside : (net : Net) (labels : List ℕ) (d c : ℕ) → AreLabelled net labels → c < length net.complexes → get_or labels d 0 ≡ get_or labels c 0 → d < length net.complexes
+same_inside net labels d c labelled lt e =
+    let some = labelled.1 c (omega (arith, lt, labelled.0)) in
+    let inside = label_inside labels d (omega (arith, some, e)) in
+    omega (arith, inside, labelled.0)
+
+from_parent : (net : Net) (labels from depth : List ℕ) → AreLabelled net labels → AreFromTrees net labels from depth → (c : ℕ) → c < length net.complexes → IsFirst labels c ⊎ Parent net labels depth (λ x y. Reaches net.reactions y x) c
+from_parent net labels from depth labelled tree c lt = elim (tree c lt) [
   | inl first ↦ inl first.0
   | inr hangs ↦ let h = hangs.1 in
-      inr (record { d = h.d; inside = (named_inside net network (get_or from c 0) h.d c h.goes).0; same = h.class; deeper = h.deeper; joined = reaches_step net.reactions h.d c (named_in net (get_or from c 0) h.d c h.goes) })
+      inr (record { d = h.d; inside = same_inside net labels h.d c labelled lt h.class; same = h.class; deeper = h.deeper; joined = reaches_step net.reactions h.d c (named_in net (get_or from c 0) h.d c h.goes) })
 ]
 
-to_parent : (net : Net) → IsNetwork net → (labels to depth : List ℕ) → AreToTrees net labels to depth → (c : ℕ) → c < length net.complexes → IsFirst labels c ⊎ Parent net labels depth (Reaches net.reactions) c
-to_parent net network labels to depth tree c lt = elim (tree c lt) [
+to_parent : (net : Net) (labels to depth : List ℕ) → AreLabelled net labels → AreToTrees net labels to depth → (c : ℕ) → c < length net.complexes → IsFirst labels c ⊎ Parent net labels depth (Reaches net.reactions) c
+to_parent net labels to depth labelled tree c lt = elim (tree c lt) [
   | inl first ↦ inl first.0
   | inr hangs ↦ let h = hangs.1 in
-      inr (record { d = h.d; inside = (named_inside net network (get_or to c 0) c h.d h.goes).1; same = h.class; deeper = h.deeper; joined = reaches_step net.reactions c h.d (named_in net (get_or to c 0) c h.d h.goes) })
+      inr (record { d = h.d; inside = same_inside net labels h.d c labelled lt h.class; same = h.class; deeper = h.deeper; joined = reaches_step net.reactions c h.d (named_in net (get_or to c 0) c h.d h.goes) })
 ]
 
 -- along reactions the label stays or the level falls
@@ -121,61 +138,66 @@ falls_on labels level y v w (inl e) (inr g) = inr (subst (λ (k : ℕ). of_class
 falls_on labels level y v w (inr e) (inl f) = inr (subst (λ (k : ℕ). get_or level (k - 1) 0 < of_class labels level y) f e)
 falls_on labels level y v w (inr e) (inr g) = inr (omega (arith, e, g))
 
-pub strong_labels_right : (net : Net) → IsNetwork net → (count : ℕ) (labels from from_depth to to_depth level : List ℕ) → length labels ≡ length net.complexes → AreNumbered labels count
+-- complexes of one strong class have one label
+labels_together : (net : Net) (labels level : List ℕ) → DoLevelsFall net labels level → (y z : ℕ) → SameStrong net.reactions y z → get_or labels y 0 ≡ get_or labels z 0
+labels_together net labels level falls y z s = elim (along y z s.0) [
+  | inl e ↦ e
+  | inr lt ↦ elim (along z y s.1) [ inl e ↦ sym e | inr lt' ↦ absurd (omega (arith, lt, lt')) ]
+]
+  where
+    along : (y z : ℕ) → Reaches net.reactions y z → Falls labels level y z
+    along y z h = leads_keeps (ReactsTo net.reactions) (Falls labels level y) (λ v w i p. falls_on labels level y v w p (falls v w i)) y z h (inl refl)
+
+pub strong_labels_right : (net : Net) (count : ℕ) (labels from from_depth to to_depth level : List ℕ) → length labels ≡ length net.complexes → AreNumbered labels count
     → AreFromTrees net labels from from_depth → AreToTrees net labels to to_depth → DoLevelsFall net labels level → AreRightStrongLabels net.reactions labels
-strong_labels_right net network count labels from from_depth to to_depth level long numbered from_tree to_tree falls =
+strong_labels_right net count labels from from_depth to to_depth level long numbered from_tree to_tree falls =
     let rs = net.reactions in
+    let labelled : AreLabelled net labels = (long, numbered.positive) in
     let source : (c : ℕ) → c < length labels → Root labels (λ x y. Reaches rs y x) c = λ c lt.
-    root_at net labels from_depth (λ x y. Reaches rs y x) (leads_here (ReactsTo rs)) (λ x y z p q. reaches_then rs z y x q p) (from_parent net network labels from from_depth from_tree) (get_or from_depth c 0) c (omega (arith, long, lt)) (omega arith) in
+    root_at net labels from_depth (λ x y. Reaches rs y x) (leads_here (ReactsTo rs)) (λ x y z p q. reaches_then rs z y x q p) (from_parent net labels from from_depth labelled from_tree) (get_or from_depth c 0) c (omega (arith, long, lt)) (omega arith) in
     let sink : (c : ℕ) → c < length labels → Root labels (Reaches rs) c = λ c lt.
-    root_at net labels to_depth (Reaches rs) (leads_here (ReactsTo rs)) (reaches_then rs) (to_parent net network labels to to_depth to_tree) (get_or to_depth c 0) c (omega (arith, long, lt)) (omega arith) in
+    root_at net labels to_depth (Reaches rs) (leads_here (ReactsTo rs)) (reaches_then rs) (to_parent net labels to to_depth labelled to_tree) (get_or to_depth c 0) c (omega (arith, long, lt)) (omega arith) in
     let across : (y z : ℕ) → y < length labels → z < length labels → get_or labels y 0 ≡ get_or labels z 0 → Reaches rs y z = λ y z ly lz e.
     let a = sink y ly in
     let b = source z lz in
     let f : a.f ≡ b.f = one_first labels a.f b.f a.first b.first (a.same ∙ e ∙ sym b.same) in
     reaches_then rs y a.f z a.joined (subst (λ (x : ℕ). Reaches rs x z) (sym f) b.joined) in
-    let along : (y z : ℕ) → Reaches rs y z → Falls labels level y z = λ y z h.
-    leads_keeps (ReactsTo rs) (Falls labels level y) (λ v w i p. falls_on labels level y v w p (falls v w i)) y z h (inl refl) in
     record {
       same = λ y z ly lz e. (across y z ly lz e, across z y lz ly (sym e));
-      together = λ y z ly lz s. elim (along y z s.0) [
-        | inl e ↦ e
-        | inr lt ↦ elim (along z y s.1) [ inl e ↦ sym e | inr lt' ↦ absurd (omega (arith, lt, lt')) ]
-      ];
+      together = λ y z ly lz s. labels_together net labels level falls y z s;
       positive = numbered.positive;
       numbered = numbered.numbered;
     }
 
 -- ---- exits
 
-pub exits_right : (net : Net) → IsNetwork net → (labels exits : List ℕ) → length labels ≡ length net.complexes → AreRightStrongLabels net.reactions labels
+pub exits_right : (net : Net) (labels exits level : List ℕ) → length labels ≡ length net.complexes → AreRightStrongLabels net.reactions labels → DoLevelsFall net labels level
     → ((y : ℕ) → y < length labels → get_or labels y 0 ≤ length exits) → AreAllExits net labels exits → AreExits net.reactions labels exits
-exits_right net network labels exits long right few tests =
+exits_right net labels exits level long right falls few tests =
     let rs = net.reactions in
-    let inside = network.partial.apart in
     let exit_at : (y : ℕ) → y < length labels → IsExit net labels (get_or labels y 0) (get_or exits (get_or labels y 0 - 1) 0) = λ y ly.
     let some = right.positive y ly in
     let back : suc (get_or labels y 0 - 1) ≡ get_or labels y 0 = omega (arith, some) in
     subst (λ (k : ℕ). IsExit net labels k (get_or exits (get_or labels y 0 - 1) 0)) back (tests (get_or labels y 0 - 1) (omega (arith, some, few y ly))) in
+    let same_label : (y w : ℕ) → y < length labels → get_or labels w 0 ≡ get_or labels y 0 → w < length labels = λ y w ly e.
+    let some = right.positive y ly in
+    label_inside labels w (omega (arith, some, e)) in
     let closed : (y : ℕ) → y < length labels → ((r : ℕ) → GoesOut net labels (get_or labels y 0) r → ⊥) → IsTerminal rs y = λ y ly none z h.
     let stays : (get_or labels z 0 ≡ get_or labels y 0) × (z < length labels) =
     leads_keeps (ReactsTo rs) (λ v. (get_or labels v 0 ≡ get_or labels y 0) × (v < length labels)) (λ v w i p.
-    let at = inside_at (length net.complexes) rs inside v w i in
-    let lw : w < length labels = omega (arith, at.1, long) in
     elim (cases_eq (get_or labels w 0) (get_or labels y 0)) [
-      | inl e ↦ (e, lw)
+      | inl e ↦ (e, same_label y w ly e)
       | inr ne ↦ let k = place_of (v, w) rs i in
           absurd (none (k.0 + 1) (record { y = v; z = w; goes = (omega arith, (omega (arith, k.1), subst (λ (j : ℕ). get_or rs j (0, 0) ≡ (v, w)) (omega arith) k.2)); from = p.0; other = ne }))
     ]) y z h (refl, ly) in
     (right.same z y stays.1 ly stays.0).0 in
     let leaving : (y r : ℕ) → y < length labels → GoesOut net labels (get_or labels y 0) r → (LeavesClass rs y (r - 1)) = λ y r ly g.
-    let at = named_inside net network r g.y g.z g.goes in
     record {
       reactant = g.y;
       product = g.z;
       goes = g.goes.1;
-      from = right.same y g.y ly (omega (arith, at.0, long)) (sym g.from);
-      outside = λ s. g.other (sym (right.together y g.z ly (omega (arith, at.1, long)) s));
+      from = right.same y g.y ly (same_label y g.y ly g.from) (sym g.from);
+      outside = λ s. g.other (sym (labels_together net labels level falls y g.z s));
     } in
     let never : (y r : ℕ) → y < length labels → GoesOut net labels (get_or labels y 0) r → IsTerminal rs y → ⊥ = λ y r ly g term.
     let l = leaving y r ly g in

@@ -5,23 +5,23 @@ use Rattle.std.specs.List.{AllZip, AllByRecursion}
 use Rattle.std.proofs.lemmas.Bool.{cases_Bool, eq-eqb, eqb-true, false≢true}
 use Rattle.std.proofs.lemmas.List.{get_or-map, length-map}
 use Rattle.crn_vec.specs.Lists.{IsIn}
-use Rattle.crn_vec.specs.Vectors.{dot}
+use Rattle.crn_vec.specs.Vectors.{dot, entry}
 use Rattle.crn_vec.specs.Network.{Net, IsNetwork, IsVector, JoinsTwo}
 use Rattle.crn_vec.specs.Linkage.{IsLinked, IsLabelCount}
 use Rattle.crn_vec.specs.Deficiency.{IsComplex}
 use Rattle.crn_vec.specs.Strong.{ReactsTo, Reaches, SameStrong, IsTerminal}
-use Rattle.crn_vec.specs.CutPairs.{IsBetween, IsFreeStep, IsOnSide, IsFirstOfPair}
-use Rattle.crn_vec.specs.Sums.{AreMarks}
+use Rattle.crn_vec.specs.CutPairs.{IsBetween, IsFreeStep, IsOnSide, IsFirstOfPair, ArePairs}
+use Rattle.crn_vec.specs.Sums.{AreMarks, SumsTo}
 use Rattle.crn_vec.specs.Signals.{Pair, Shape}
-use Rattle.crn_vec.specs.NetSignals.{top_at, AreTops, IsPairOf}
+use Rattle.crn_vec.specs.NetSignals.{top_at, AreTops, IsPairOf, IsShapeOf}
 use Rattle.crn_vec.proofs.CallerLemmas.{lt_or, eq_or}
-use Rattle.crn_vec.proofs.CallerLemmas.{sum_by}
+use Rattle.crn_vec.proofs.CallerLemmas.{sum_by, past_end, listed, length-listed, entry-listed}
 use Rattle.crn_vec.proofs.CallerLemmas.{leads_then, leads_here, leads_step, leads_keeps}
 use Rattle.crn_vec.proofs.CallerLemmas.{reached_marks, marks_for, reaction_in, inside_at}
 use Rattle.crn_vec.proofs.CallerLemmas.{top_inside, some_is, number_is_one, strong_back, strong_then, none_some}
 use Rattle.crn_cert.proofs.TopsCounted.{tops_are_counted}
 use Rattle.crn_cert.specs.Questions.{Earlier, Q2, on, count_of, terminal_of}
-use Rattle.crn_cert.specs.Says.{from_zero}
+use Rattle.crn_cert.specs.Says.{IsTrueOf, from_zero}
 use Rattle.crn_cert.specs.Valid.{strong, exits, is_same_pair, pair_places}
 use Rattle.crn_cert.specs.Law.{ShapesExist}
 use Rattle.crn_cert.proofs.Known.{StrongKnown, strong_known, terminal_known}
@@ -248,13 +248,31 @@ free_joins n a b (p ∷ rs) h = elim (cases_Bool (is_same_pair p (a, b))) as (λ
   | inr miss ↦ subst (AllByRecursion (JoinsTwo n)) (sym (taken a b p rs miss)) (h.0, ((λ e. h.0.0 (sym e), h.0.2, h.0.1), free_joins n a b rs h.1))
 ]
 
-side_marks : (n a b : ℕ) (rs : List (ℕ × ℕ)) → AllByRecursion (JoinsTwo n) rs → b < n → (marks : List ℤ) × (length marks ≡ n) × AreMarks (IsOnSide rs a b) marks
+pub side_marks : (n a b : ℕ) (rs : List (ℕ × ℕ)) → AllByRecursion (JoinsTwo n) rs → b < n → (marks : List ℤ) × (length marks ≡ n) × AreMarks (IsOnSide rs a b) marks
 side_marks n a b rs h lt =
     let fs = free_links a b rs in
     let m = reached_marks n fs b (free_joins n a b rs h) lt in
     let to : (c : ℕ) → Reaches fs b c → IsOnSide rs a b c = λ c w. leads_keeps (ReactsTo fs) (IsOnSide rs a b) (λ y z i k. leads_then (IsFreeStep rs a b) b y z k (leads_step (IsFreeStep rs a b) y z (free_in a b rs y z i))) b c w (leads_here (IsFreeStep rs a b) b) in
     let back : (c : ℕ) → IsOnSide rs a b c → Reaches fs b c = λ c w. leads_keeps (IsFreeStep rs a b) (Reaches fs b) (λ y z f k. leads_then (ReactsTo fs) b y z k (leads_step (ReactsTo fs) y z (free_has a b rs y z f.0 f.1))) b c w (leads_here (ReactsTo fs) b) in
     (m.0, m.1, marks_for (Reaches fs b) (IsOnSide rs a b) m.0 to back m.2)
+
+-- the side of b holds complexes alone
+pub side_inside : (n a b : ℕ) (rs : List (ℕ × ℕ)) → AllByRecursion (JoinsTwo n) rs → b < n → (c : ℕ) → IsOnSide rs a b c → c < n
+side_inside n a b rs h lt c w = leads_keeps (IsFreeStep rs a b) (λ v. v < n) (λ v u f l. elim f.0 [ inl i ↦ (inside_at n rs h v u i).1 | inr i ↦ (inside_at n rs h u v i).0 ]) b c w lt
+
+-- each list has a sum over the side of b, whatever its length
+pub side_sum : (n a b : ℕ) (rs : List (ℕ × ℕ)) (g : List ℤ) → AllByRecursion (JoinsTwo n) rs → b < n → (x : ℤ) × SumsTo g (IsOnSide rs a b) x
+side_sum n a b rs g h lt =
+    let m = side_marks n a b rs h lt in
+    let marks = listed (length g) (entry m.0) in (
+      dot marks g,
+      sum_by g (IsOnSide rs a b) marks (length-listed (length g) (entry m.0)) (λ y l.
+          let same : entry marks y ≡ entry m.0 y = entry-listed (length g) (entry m.0) y (omega (arith, l, length-listed (length g) (entry m.0))) in
+          elim (lt_or y n) [
+            | inl less ↦ elim (m.2 y (omega (arith, less, m.1))) [ inl p ↦ inl (p.0, same ∙ p.1) | inr p ↦ inr (p.0, same ∙ p.1) ]
+            | inr more ↦ inr (λ w. let inside = side_inside n a b rs h lt y w in omega (arith, inside, more), same ∙ past_end m.0 y (omega (arith, more, m.1)))
+          ]),
+    )
 
 -- ---- the shape
 
@@ -271,19 +289,19 @@ some_top net tops count y t lt terminal = by (top_at tops y) refl
     by None e = absurd (t.outside y lt e terminal)
     by (Some k) e = (k, e)
 
-build : (net : Net) (g : List ℤ) (tops : List (Option ℕ)) (count : ℕ) → IsNetwork net → length g ≡ length net.complexes → AreTops net tops count → (places : List ℕ) → ((r : ℕ) → IsIn r places → IsFirstOfPair net.reactions r) → Built net g tops count places
-build net g tops count n even t [] h = record { pairs = []; long = refl; are = tt; below = tt }
-build net g tops count n even t (r ∷ places) h =
+build : (net : Net) (g : List ℤ) (tops : List (Option ℕ)) (count : ℕ) → IsNetwork net → AreTops net tops count → (places : List ℕ) → ((r : ℕ) → IsIn r places → IsFirstOfPair net.reactions r) → Built net g tops count places
+build net g tops count n t [] h = record { pairs = []; long = refl; are = tt; below = tt }
+build net g tops count n t (r ∷ places) h =
     let f = h r (inl refl) in
     let ends = inside_at (length net.complexes) net.reactions n.partial.apart f.a f.b (reaction_in net.reactions r (f.a, f.b) f.goes.0 f.goes.1) in
     let top = some_top net tops count f.a t ends.0 f.pair.terminal in
-    let m = side_marks (length net.complexes) f.a f.b net.reactions n.partial.apart ends.1 in
-    let pair : Pair = record { low = f.a; high = f.b; top = top.0; sum = dot m.0 g } in
-    let rest = build net g tops count n even t places (λ q i. h q (inr i)) in
+    let sum = side_sum (length net.complexes) f.a f.b net.reactions g n.partial.apart ends.1 in
+    let pair : Pair = record { low = f.a; high = f.b; top = top.0; sum = sum.0 } in
+    let rest = build net g tops count n t places (λ q i. h q (inr i)) in
     record {
       pairs = pair ∷ rest.pairs;
       long = ap suc rest.long;
-      are = (record { goes = f.goes; top = top.1; sum = sum_by g (IsOnSide net.reactions f.a f.b) m.0 (m.1 ∙ sym even) m.2 }, rest.are);
+      are = (record { goes = f.goes; top = top.1; sum = sum.1 }, rest.are);
       below = ((t.below f.a top.0 top.1, ends.0, ends.1), rest.below);
     }
 
@@ -298,23 +316,40 @@ tops_below net tops count t = from tops (λ y k e. t.below y k e)
     from [] h = tt
     from (o ∷ ts) h = (λ k e. h 0 k e, from ts (λ y k e. h (suc y) k e))
 
+-- a shape with these terminal classes and pairs
+pub record ShapeWith (net : Net) (g : List ℤ) (tops : List (Option ℕ)) (count pairs : ℕ) : Type 0 where
+  pub shape : Shape
+  pub is : IsShapeOf net g shape
+  pub tops_are : shape.tops ≡ tops
+  pub count_is : shape.count ≡ count
+  pub pairs_are : length shape.pairs ≡ pairs
+
+-- the network has one for each list
+pub shape_with : (net : Net) (g : List ℤ) (tops : List (Option ℕ)) (count : ℕ) (places : List ℕ) → IsNetwork net → AreTops net tops count → ArePairs net.reactions places → ShapeWith net g tops count (length places)
+shape_with net g tops count places n t are =
+    let b = build net g tops count n t places (λ r i. (are.each r).0 i) in
+    record {
+      shape = record { species = length net.names; complexes = net.complexes; tops = tops; count = count; pairs = b.pairs };
+      is = record {
+        shape = record { species = refl; complexes = refl; widths = widths (length net.names) net.complexes n.partial.vectors; tops = t.long; tops_below = tops_below net tops count t; pairs_below = b.below };
+        tops = t;
+        places = places;
+        places_are = are;
+        pairs = b.are;
+      };
+      tops_are = refl;
+      count_is = refl;
+      pairs_are = b.long;
+    }
+
+-- the count of terminal classes of a shape is that of true strong classes
+pub shape_count : (net : Net) (earlier : Earlier) (g : List ℤ) (s : Shape) → IsTrueOf net Q2 (on earlier Q2) → IsShapeOf net g s → s.count ≡ terminal_of (on earlier Q2)
+shape_count net earlier g s h is =
+    number_is_one (λ y. IsComplex net y × IsTerminal net.reactions y) (SameStrong net.reactions) (strong_back net.reactions) (strong_then net.reactions) s.count (terminal_of (on earlier Q2)) (tops_are_counted net s.tops s.count is.tops) (terminal_known net (on earlier Q2) h)
+
 pub shapes_exist : ShapesExist
 shapes_exist net earlier g n h even =
     let known = strong_known net (on earlier Q2) h in
     let count = zeros_below (exits earlier) (length (exits earlier)) in
-    let t = tops_are net earlier known in
-    let places = pair_places_are_pairs net earlier n h in
-    let b = build net g (tops_of earlier) count n even t (from_zero (pair_places net earlier)) (λ r i. (places.each r).0 i) in
-    let shape : Shape = record { species = length net.names; complexes = net.complexes; tops = tops_of earlier; count = count; pairs = b.pairs } in
-    record {
-      shape = shape;
-      is = record {
-        shape = record { species = refl; complexes = refl; widths = widths (length net.names) net.complexes n.partial.vectors; tops = t.long; tops_below = tops_below net (tops_of earlier) count t; pairs_below = b.below };
-        tops = t;
-        places = from_zero (pair_places net earlier);
-        places_are = places;
-        pairs = b.are;
-      };
-      count = number_is_one (λ y. IsComplex net y × IsTerminal net.reactions y) (SameStrong net.reactions) (strong_back net.reactions) (strong_then net.reactions) count (terminal_of (on earlier Q2)) (tops_are_counted net (tops_of earlier) count t) (terminal_known net (on earlier Q2) h);
-      pairs = b.long ∙ length-map (pair_places net earlier) (λ r. r - 1);
-    }
+    let w = shape_with net g (tops_of earlier) count (from_zero (pair_places net earlier)) n (tops_are net earlier known) (pair_places_are_pairs net earlier n h) in
+    record { shape = w.shape; is = w.is; count = shape_count net earlier g w.shape h w.is; pairs = w.pairs_are ∙ length-map (pair_places net earlier) (λ r. r - 1) }

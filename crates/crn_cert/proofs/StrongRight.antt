@@ -4,7 +4,7 @@ use Rattle.std.specs.List.{range_with_len, count_by, list_any}
 use Rattle.std.proofs.lemmas.Bool.{eq-eqb, eqb-true}
 use Rattle.std.proofs.lemmas.List.Folds.{list_any_at}
 use Rattle.std.proofs.lemmas.List.FromFn.{length-range_with_len, get_or-range_with_len}
-use Rattle.crn_vec.specs.Network.{Net, IsNetwork}
+use Rattle.crn_vec.specs.Network.{Net}
 use Rattle.crn_vec.specs.Linkage.{SameClass, IsLabelCount}
 use Rattle.crn_vec.specs.Walks.{IsNumberOf}
 use Rattle.crn_vec.specs.Strong.{SameStrong, IsTerminal, AreRightStrongLabels, AreExits}
@@ -26,13 +26,13 @@ terminal_count net strong exits long right counted out =
     let ly : y < length strong = omega (arith, has.0, long) in
     (ly, eq-eqb (get_or exits (get_or strong y 0 - 1) 0) 0 ((out.terminal y ly).1 has.1)))
 
-pub strong_right : (net : Net) → IsNetwork net → (count terminal : ℕ) (labels exits from from_depth to to_depth level : List ℕ) → length labels ≡ length net.complexes → length exits ≡ count
+pub strong_right : (net : Net) (count terminal : ℕ) (labels exits from from_depth to to_depth level : List ℕ) → length labels ≡ length net.complexes → length exits ≡ count
     → AreNumbered labels count → AreFromTrees net labels from from_depth → AreToTrees net labels to to_depth → DoLevelsFall net labels level → AreAllExits net labels exits → zeros_in exits ≡ terminal
     → AreStrongClasses net count terminal labels exits
-strong_right net network count terminal labels exits from from_depth to to_depth level long classes numbered from_tree to_tree falls out zeros =
-    let right = strong_labels_right net network count labels from from_depth to to_depth level long numbered from_tree to_tree falls in
+strong_right net count terminal labels exits from from_depth to to_depth level long classes numbered from_tree to_tree falls out zeros =
+    let right = strong_labels_right net count labels from from_depth to to_depth level long numbered from_tree to_tree falls in
     let counted : IsLabelCount labels (length exits) = subst (IsLabelCount labels) (sym classes) numbered.count_is in
-    let exits_are = exits_right net network labels exits long right counted.most out in
+    let exits_are = exits_right net labels exits level long right falls counted.most out in
     record {
       places = long;
       right = right;

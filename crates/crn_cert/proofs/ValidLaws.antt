@@ -48,14 +48,15 @@ linkage_law net earlier network v p f t = absurd f.1
 pub linkage_valid : ValidIsTrue [] [] Q1
 linkage_valid net earlier answer network known rests f t = linkage_law net earlier network answer.verdict answer.proof f t
 
-strong_law : (net : Net) (earlier : Earlier) → IsNetwork net → (v : Verdict) (p : Proof) → IsFormedOf net earlier Q2 v p → AllHold (strong_rows net v p) → IsTrueOrOpen net Q2 v
-strong_law net earlier network (Unknown gap) p f t = tt
-strong_law net earlier network (Strong count terminal label exit) (StrongTrees from from_depth to to_depth level) f t =
-    strong_right net network count terminal label.list exit.list from.list from_depth.list to.list to_depth.list level.list f.1.0.long f.1.1.long t.0 t.1.0 t.1.1.0 t.1.1.1.0 t.1.1.1.1.0 t.1.1.1.1.1.0
-strong_law net earlier network v p f t = absurd f.1
+-- whatever the reactions join
+pub strong_law : (net : Net) (earlier : Earlier) (v : Verdict) (p : Proof) → IsFormedOf net earlier Q2 v p → AllHold (strong_rows net v p) → IsTrueOrOpen net Q2 v
+strong_law net earlier (Unknown gap) p f t = tt
+strong_law net earlier (Strong count terminal label exit) (StrongTrees from from_depth to to_depth level) f t =
+    strong_right net count terminal label.list exit.list from.list from_depth.list to.list to_depth.list level.list f.1.0.long f.1.1.long t.0 t.1.0 t.1.1.0 t.1.1.1.0 t.1.1.1.1.0 t.1.1.1.1.1.0
+strong_law net earlier v p f t = absurd f.1
 
 pub strong_valid : ValidIsTrue [] [] Q2
-strong_valid net earlier answer network known rests f t = strong_law net earlier network answer.verdict answer.proof f t
+strong_valid net earlier answer network known rests f t = strong_law net earlier answer.verdict answer.proof f t
 
 -- ---- reversibility
 
