@@ -3,7 +3,7 @@ use Rattle.std.proofs.Common.{◌≡◌, ◌==◌, ◌++◌, ◌∙◌, Bool, if
 use Rattle.std.proofs.lemmas.Bool.{cases_Bool}
 use Rattle.crn_cert.specs.declared.answer.Verdict.{Verdict}
 use Rattle.crn_cert.specs.declared.answer.Verdict.TheVariants.{Classes, Strong, Rank, Deficiency, Yes, YesVec, NoVec, NoTerminal, NoDependence, NoCycle, Unknown}
-use Rattle.crn_cert.specs.Questions.{Earlier, Question, number, on, labels_of, count_of, exits_of, rank_of, deficiencies_of, IsYes, IsNo, IsOpen}
+use Rattle.crn_cert.specs.Questions.{Earlier, Question, number, on, labels_of, count_of, exits_of, terminal_of, rank_of, deficiencies_of, vector_given, IsYes, IsNo, IsOpen}
 use Rattle.crn_ctext.specs.Same.{said}
 use Rattle.crn_ctext.specs.Meaning.{Known}
 
@@ -108,3 +108,19 @@ said_open v = refl
 -- whether it is open
 pub open_alike : (xs ys : Earlier) (q : Question) → all_said xs ≡ all_said ys → IsOpen (on xs q) ≡ IsOpen (on ys q)
 open_alike xs ys q e = sym (said_open (on xs q)) ∙ ap IsOpen (on_alike xs ys q e) ∙ said_open (on ys q)
+
+said_vector : (v : Verdict) → vector_given (said v) ≡ vector_given v
+said_vector (YesVec vector) = refl
+said_vector v = refl
+
+-- the vector that a question gives, if it gives one
+pub vectors_alike : (xs ys : Earlier) (q : Question) → all_said xs ≡ all_said ys → vector_given (on xs q) ≡ vector_given (on ys q)
+vectors_alike xs ys q e = sym (said_vector (on xs q)) ∙ ap vector_given (on_alike xs ys q e) ∙ said_vector (on ys q)
+
+said_terminal : (v : Verdict) → terminal_of (said v) ≡ terminal_of v
+said_terminal (Strong count terminal label exit) = refl
+said_terminal v = refl
+
+-- the number of terminal classes that a question gives
+pub terminal_alike : (xs ys : Earlier) (q : Question) → all_said xs ≡ all_said ys → terminal_of (on xs q) ≡ terminal_of (on ys q)
+terminal_alike xs ys q e = sym (said_terminal (on xs q)) ∙ ap terminal_of (on_alike xs ys q e) ∙ said_terminal (on ys q)

@@ -37,7 +37,7 @@ use Rattle.crn_ctext.specs.Linked.{records_of}
 use Rattle.crn_ctext.proofs.AnswersApart.{block_apart}
 use Rattle.crn_ctext.specs.Same.{said, said_rank, shown, AreSame}
 use Rattle.crn_ctext.proofs.Joined.{parts, IsLinked, answer, open_as, tied, IsJoinedFor, LinkFor, joined, same_valid}
-use Rattle.crn_ctext.proofs.KnownBefore.{AreKnown, after, formed_right, said_right, known_then}
+use Rattle.crn_ctext.proofs.KnownBefore.{AreKnown, IsStrongTrue, after, formed_right, said_right, known_then, valid_is_true, true_moves, true_then}
 use Rattle.crn_ctext.proofs.Linking.{several_fit, small_fits, number_fits, class_fits, without_proof}
 use Rattle.crn_ctext.proofs.TablesLinked.{plain_joined, strong_joined}
 use Rattle.crn_ctext.proofs.ConfluenceLinked.{regular_linked, confluence_tied}
@@ -577,22 +577,26 @@ valid_by b (q ∷ qs) links known earlier (a ∷ answers) n e f v =
 pub answers_valid : (net : Net) (answers : List Answer) → AreFormed net [] built answers → AreValid net [] built answers → documents.AreValid meaning built (meaning.start net) (records_of net answers)
 answers_valid net answers f v = valid_by false built built_linked (meaning.start net) [] answers tt refl f v
 
-back_by : (b : Bool) (qs : List Question) → AreLinkedFor b qs → (known : Known) (earlier : Earlier) (answers : List Answer) → AreKnown b known.earlier → IsAlike known earlier → AreFormed known.net earlier qs answers → Rest qs known known answers → AreValid known.net earlier qs answers
+back_by : (b : Bool) (qs : List Question) → AreLinkedFor b qs → (known : Known) (earlier : Earlier) (answers : List Answer) → AreKnown b known.earlier → IsStrongTrue b known → IsAlike known earlier → AreFormed known.net earlier qs answers → Rest qs known known answers → AreValid known.net earlier qs answers
 unfolding documents.AreValid all_records
-back_by b [] links known earlier [] n e f v = tt
-back_by b [] links known earlier (a ∷ answers) n e f v = absurd f
-back_by b (q ∷ qs) links known earlier [] n e f v = absurd f
-back_by b (q ∷ qs) links known earlier (a ∷ answers) n e f v =
+back_by b [] links known earlier [] n t e f v = tt
+back_by b [] links known earlier (a ∷ answers) n t e f v = absurd f
+back_by b (q ∷ qs) links known earlier [] n t e f v = absurd f
+back_by b (q ∷ qs) links known earlier (a ∷ answers) n t e f v =
     let j = joined b q links.0 in
     let formed = j.formed in
     let back = j.back in
+    let says = j.says in
     let next = behind q known a in
     let s = same_valid q known (records q (shapes_of known) a) v.0 (parts q known a) v.1 (formed known earlier a.verdict a.proof n e f.0) v.2 in
     let later : Rest qs next next answers = subst (λ (k : Known). Rest qs k next answers) s.1 v.3 in
-    (back known earlier a.verdict a.proof n e f.0 s.0, back_by (after b q) qs links.1 next (earlier ++ (q, a.verdict) ∷ []) answers (known_next b q known earlier a n e j f.0) (alike_behind b q known earlier a n e j f.0) f.1 later)
+    let valid = back known earlier a.verdict a.proof n t e f.0 s.0 in
+    let said_then = verdict_of q (sizes_of known) (head_of q a.verdict) (records_below (shapes_of known) a) in
+    let true_next : IsStrongTrue (after b q) next = true_then b q known said_then n t (true_moves q known.net said_then a.verdict (says known earlier a.verdict a.proof n e f.0) (valid_is_true known.net earlier q a.verdict a.proof f.0 valid)) in
+    (valid, back_by (after b q) qs links.1 next (earlier ++ (q, a.verdict) ∷ []) answers (known_next b q known earlier a n e j f.0) true_next (alike_behind b q known earlier a n e j f.0) f.1 later)
 
 pub records_valid : (net : Net) (answers : List Answer) → AreFormed net [] built answers → documents.AreValid meaning built (meaning.start net) (records_of net answers) → AreValid net [] built answers
-records_valid net answers f v = back_by false built built_linked (meaning.start net) [] answers tt refl f v
+records_valid net answers f v = back_by false built built_linked (meaning.start net) [] answers tt tt refl f v
 
 -- ---- answers with the same records
 

@@ -101,7 +101,7 @@ space_decided net labels count g = moved
     (each_number (λ s. combination_at g net.complexes s ≡ pos 0) (λ s. int_decided (combination_at g net.complexes s) (pos 0)) (places net.complexes) (past_places net.complexes g))
     (each_below (λ k. 1 ≤ k → dot (label_marks labels k) g ≡ pos 0) (λ k. if_decided (le_decided 1 k) (int_decided (dot (label_marks labels k) g) (pos 0))) (suc count)))
 
-nonzero_decided : (g : List ℤ) → IsDecided (IsNonzero g)
+pub nonzero_decided : (g : List ℤ) → IsDecided (IsNonzero g)
 nonzero_decided g = some_number (λ k. entry g k ≢ pos 0) (λ k. not_decided (int_decided (entry g k) (pos 0))) (length g) (λ k h other. other (past_end g k h))
 
 gathers_decided : (labels exits_are : List ℕ) (g : List ℤ) → IsDecided (DoTerminalsGather labels exits_are g)

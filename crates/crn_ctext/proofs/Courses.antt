@@ -101,6 +101,28 @@ settled_then (Line node next) f s t = λ line. settled_then (next line) f (s lin
 settled_then (Test n c X P next) f s t = (s.0, s.1, λ x p. settled_then (next x) f (s.2 x p) t)
 settled_then (End next) f s t = settled_then next f s t
 
+-- whatever the lines hold, it gives values with this property alone
+unfoldable pub GivesOnly : {A : Type 0} → (A → Type 0) → Course A → Type 0
+GivesOnly Has (Give x) = Has x
+GivesOnly Has (Line node next) = (line : List ℕ) → GivesOnly Has (next line)
+GivesOnly {A} Has (Test n c X P next) = (x : X) → P x → GivesOnly Has (next x)
+GivesOnly Has (End next) = GivesOnly Has next
+
+pub settled_with : {A B : Type 0} (Has : A → Type 0) (c : Course A) (f : A → Course B) → IsSettled c → GivesOnly Has c → ((x : A) → Has x → IsSettled (f x)) → IsSettled (c >>= f)
+unfolding IsSettled GivesOnly
+settled_with Has (Give x) f s g t = t x g
+settled_with Has (Line node next) f s g t = λ line. settled_with Has (next line) f (s line) (g line) t
+settled_with Has (Test n c X P next) f s g t = (s.0, s.1, λ x p. settled_with Has (next x) f (s.2 x p) (g x p) t)
+settled_with Has (End next) f s g t = settled_with Has next f s g t
+
+-- so does the second after the first
+pub gives_only_then : {A B : Type 0} (Has : B → Type 0) (c : Course A) (f : A → Course B) → ((x : A) → GivesOnly Has (f x)) → GivesOnly Has (c >>= f)
+unfolding GivesOnly
+gives_only_then Has (Give x) f t = t x
+gives_only_then Has (Line node next) f t = λ line. gives_only_then Has (next line) f t
+gives_only_then Has (Test n c X P next) f t = λ x p. gives_only_then Has (next x) f t
+gives_only_then Has (End next) f t = gives_only_then Has next f t
+
 -- it gives what the second gives after the first
 pub gives_then : {A B : Type 0} (c : Course A) (f : A → Course B) (at mid behind : Place) (x : A) (y : B) → Gives c at x mid → Gives (f x) mid y behind → Gives (c >>= f) at y behind
 unfolding Gives

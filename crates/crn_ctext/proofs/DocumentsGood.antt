@@ -18,7 +18,7 @@ use Rattle.crn_cert.specs.Built.{built}
 use Rattle.crn_cert.specs.Questions.{Question}
 use Rattle.crn_ctext.specs.Judged.{IsReadOf, IsGood, IsFront, ReadDocumentsAreGood}
 use Rattle.crn_ctext.proofs.Settled.{HaveTitles, course_settled}
-use Rattle.crn_ctext.proofs.MeaningDecided.{meaning_decided}
+use Rattle.crn_ctext.proofs.MeaningDecided.{OfNetwork, meaning_decided}
 use Rattle.crn_ctext.proofs.MeaningShort.{IsSmall, networks_are_small, meaning_short}
 use Rattle.crn_ctext.proofs.ShortAnswers.{AllPlain, valid_are_plain, valid_are_formed, plain_are_short, short_both}
 use Rattle.crn_ctext.proofs.ShortLines.{text_lines_are_short}
@@ -53,7 +53,7 @@ one_title v w (inr (inl a)) (inr (inr none)) e = absurd none
 one_title v w (inr (inr none)) b e = absurd none
 
 pub settled : IsSettled (course meaning versions built)
-settled = course_settled meaning versions built meaning_decided one_title
+settled = course_settled meaning OfNetwork versions built (λ net n. n) meaning_decided one_title
 
 pub read_documents_are_good_by : (bytes : List ℕ) (read : ReadOf) → IsReadOf bytes read → IsGoodBy meaning versions built bytes read
 read_documents_are_good_by bytes read p = read_is_good meaning IsSmall versions built are_versions meaning_short networks_are_small bytes read p.0 p.1

@@ -2,7 +2,6 @@
 use Rattle.std.proofs.Common.{◌≡◌, ◌++◌, ◌∙◌, ℕ, zero, suc, Bool, true, false, if◌then◌else◌, List, [], refl, ap}
 use Rattle.std.specs.Prelude.{ℤ}
 use Rattle.std.proofs.lemmas.List.{append-nil}
-use Rattle.crn_vec.specs.Network.{Net}
 use Rattle.crn_vec.specs.declared.signs.Sign.{Sign}
 use Rattle.crn_cert.specs.declared.answer.Gap.{Gap}
 use Rattle.crn_cert.specs.declared.answer.Verdict.{Verdict}
@@ -26,21 +25,29 @@ none_are Leaf false nodes h = h
 without : (says : List Record → Verdict) (rows nodes : List Record) → nodes ≡ [] → says (rows ++ nodes) ≡ says rows
 without says rows nodes none = ap (λ (ns : List Record). says (rows ++ ns)) none ∙ ap says (append-nil rows)
 
-concordant_says : (Leaf : Problem → List Sign → Record → Type 0) (net : Net) (t : Bool) (g : Gap) (place : ℕ) (n : List ℤ) (rows nodes : List Record) → Trees Leaf (unless t (problems_by Q14 net place)) nodes
-    → (if t then Unknown g else verdict_by Q14 place n (rows ++ nodes)) ≡ (if t then Unknown g else verdict_by Q14 place n rows)
-concordant_says Leaf net true g place n rows nodes h = refl
-concordant_says Leaf net false g zero n rows nodes h = refl
-concordant_says Leaf net false g (suc zero) n rows nodes h = refl
-concordant_says Leaf net false g (suc (suc zero)) n rows nodes h = without (verdict_by Q14 (suc (suc zero)) n) rows nodes h
-concordant_says Leaf net false g (suc (suc (suc k))) n rows nodes h = refl
+signal_says : (Leaf : Problem → List Sign → Record → Type 0) (known : Known) (t : Bool) (g : Gap) (place : ℕ) (n : List ℤ) (rows nodes : List Record) → Trees Leaf (unless t (problems_by Q13 known place)) nodes
+    → (if t then Unknown g else verdict_by Q13 place n (rows ++ nodes)) ≡ (if t then Unknown g else verdict_by Q13 place n rows)
+signal_says Leaf known true g place n rows nodes h = refl
+signal_says Leaf known false g zero n rows nodes h = refl
+signal_says Leaf known false g (suc zero) n rows nodes h = without (verdict_by Q13 (suc zero) n) rows nodes h
+signal_says Leaf known false g (suc (suc zero)) n rows nodes h = refl
+signal_says Leaf known false g (suc (suc (suc k))) n rows nodes h = refl
 
-strongly_says : (Leaf : Problem → List Sign → Record → Type 0) (net : Net) (t : Bool) (g : Gap) (place : ℕ) (n : List ℤ) (rows nodes : List Record) → Trees Leaf (unless t (problems_by Q15 net place)) nodes
+concordant_says : (Leaf : Problem → List Sign → Record → Type 0) (known : Known) (t : Bool) (g : Gap) (place : ℕ) (n : List ℤ) (rows nodes : List Record) → Trees Leaf (unless t (problems_by Q14 known place)) nodes
+    → (if t then Unknown g else verdict_by Q14 place n (rows ++ nodes)) ≡ (if t then Unknown g else verdict_by Q14 place n rows)
+concordant_says Leaf known true g place n rows nodes h = refl
+concordant_says Leaf known false g zero n rows nodes h = refl
+concordant_says Leaf known false g (suc zero) n rows nodes h = refl
+concordant_says Leaf known false g (suc (suc zero)) n rows nodes h = without (verdict_by Q14 (suc (suc zero)) n) rows nodes h
+concordant_says Leaf known false g (suc (suc (suc k))) n rows nodes h = refl
+
+strongly_says : (Leaf : Problem → List Sign → Record → Type 0) (known : Known) (t : Bool) (g : Gap) (place : ℕ) (n : List ℤ) (rows nodes : List Record) → Trees Leaf (unless t (problems_by Q15 known place)) nodes
     → (if t then Unknown g else verdict_by Q15 place n (rows ++ nodes)) ≡ (if t then Unknown g else verdict_by Q15 place n rows)
-strongly_says Leaf net true g place n rows nodes h = refl
-strongly_says Leaf net false g zero n rows nodes h = refl
-strongly_says Leaf net false g (suc zero) n rows nodes h = refl
-strongly_says Leaf net false g (suc (suc zero)) n rows nodes h = without (verdict_by Q15 (suc (suc zero)) n) rows nodes h
-strongly_says Leaf net false g (suc (suc (suc k))) n rows nodes h = refl
+strongly_says Leaf known true g place n rows nodes h = refl
+strongly_says Leaf known false g zero n rows nodes h = refl
+strongly_says Leaf known false g (suc zero) n rows nodes h = refl
+strongly_says Leaf known false g (suc (suc zero)) n rows nodes h = without (verdict_by Q15 (suc (suc zero)) n) rows nodes h
+strongly_says Leaf known false g (suc (suc (suc k))) n rows nodes h = refl
 
 abbrev SaysAlone : (Problem → List Sign → Record → Type 0) → Question → Type 0
 SaysAlone Leaf q = (known : Known) (h : Record) (rows nodes : List Record) → Trees Leaf (problems meaning q known h) nodes → verdict_of q (sizes_of known) h (rows ++ nodes) ≡ verdict_of q (sizes_of known) h rows
@@ -61,6 +68,6 @@ front_says Leaf Q9 = plain Leaf Q9
 front_says Leaf Q10 = plain Leaf Q10
 front_says Leaf Q11 = plain Leaf Q11
 front_says Leaf Q12 = plain Leaf Q12
-front_says Leaf Q13 = plain Leaf Q13
-front_says Leaf Q14 = λ known h rows nodes t. concordant_says Leaf known.net (is_open h) (gap_of h) (place_of (heads Q14 (sizes_of known)) h.words) h.numbers rows nodes t
-front_says Leaf Q15 = λ known h rows nodes t. strongly_says Leaf known.net (is_open h) (gap_of h) (place_of (heads Q15 (sizes_of known)) h.words) h.numbers rows nodes t
+front_says Leaf Q13 = λ known h rows nodes t. signal_says Leaf known (is_open h) (gap_of h) (place_of (heads Q13 (sizes_of known)) h.words) h.numbers rows nodes t
+front_says Leaf Q14 = λ known h rows nodes t. concordant_says Leaf known (is_open h) (gap_of h) (place_of (heads Q14 (sizes_of known)) h.words) h.numbers rows nodes t
+front_says Leaf Q15 = λ known h rows nodes t. strongly_says Leaf known (is_open h) (gap_of h) (place_of (heads Q15 (sizes_of known)) h.words) h.numbers rows nodes t

@@ -23,7 +23,7 @@ use Rattle.crn_ctext.specs.Answers.{head_of, records_below, proof_nodes, records
 use Rattle.crn_ctext.specs.Meaning.{Known, shapes_of, sizes_of, verdict_of, proof_of, meaning}
 use Rattle.crn_ctext.specs.Same.{said, shown}
 use Rattle.crn_ctext.proofs.Alike.{IsAlike}
-use Rattle.crn_ctext.proofs.KnownBefore.{AreKnown}
+use Rattle.crn_ctext.proofs.KnownBefore.{AreKnown, IsStrongTrue}
 use Rattle.crn_ctext.proofs.AnswersApart.{block_apart}
 
 -- ---- an answer and its records
@@ -84,12 +84,12 @@ IsTiedFor b q = (known : Known) (earlier : Earlier) (v : Verdict) (p : Proof) �
 
 -- ---- an answer by what it gives for its records and they for it
 
--- the records of each formed answer to the question are formed, and valid if and only if it is; they say its verdict, and answers with the same records are the same
+-- the records of each formed answer to the question are formed, and valid if and only if it is, where the verdict on strong classes is true; they say its verdict, and answers with the same records are the same
 pub record IsJoinedFor (b : Bool) (q : Question) : Type 1 where
   pub formed : (known : Known) (earlier : Earlier) (v : Verdict) (p : Proof) → AreKnown b known.earlier → IsAlike known earlier → IsFormedOf known.net earlier q v p → IsFormed meaning q known (records q (shapes_of known) (answer v p)) (parts q known (answer v p))
   pub there : (known : Known) (earlier : Earlier) (v : Verdict) (p : Proof) → AreKnown b known.earlier → IsAlike known earlier → IsFormedOf known.net earlier q v p → IsValid known.net earlier q (answer v p)
       → documents.IsValid meaning q known (records q (shapes_of known) (answer v p)) (parts q known (answer v p))
-  pub back : (known : Known) (earlier : Earlier) (v : Verdict) (p : Proof) → AreKnown b known.earlier → IsAlike known earlier → IsFormedOf known.net earlier q v p
+  pub back : (known : Known) (earlier : Earlier) (v : Verdict) (p : Proof) → AreKnown b known.earlier → IsStrongTrue b known → IsAlike known earlier → IsFormedOf known.net earlier q v p
       → documents.IsValid meaning q known (records q (shapes_of known) (answer v p)) (parts q known (answer v p)) → IsValid known.net earlier q (answer v p)
   pub says : (known : Known) (earlier : Earlier) (v : Verdict) (p : Proof) → AreKnown b known.earlier → IsAlike known earlier → IsFormedOf known.net earlier q v p
       → said (verdict_of q (sizes_of known) (head_of q v) (records_below (shapes_of known) (answer v p))) ≡ said v
@@ -124,7 +124,7 @@ tied_joins : (b : Bool) (q : Question) → ((known : Known) (h : Record) → pro
 tied_joins b q none tie = record {
   formed = λ known earlier v p k e f. let l = tie known earlier v p k e f in l.formed;
   there = λ known earlier v p k e f valid. tied_there known earlier q (answer v p) (none known (head_of q v)) (tie known earlier v p k e f) valid;
-  back = λ known earlier v p k e f valid. tied_back known earlier q (answer v p) (tie known earlier v p k e f) valid;
+  back = λ known earlier v p k t e f valid. tied_back known earlier q (answer v p) (tie known earlier v p k e f) valid;
   says = λ known earlier v p k e f. let l = tie known earlier v p k e f in l.says;
   shows = λ known earlier later v w p r n d e f g head rows nodes.
       let k = tie known earlier v p n d f in
@@ -137,10 +137,11 @@ linked_joins b q none link = tied_joins b q none (λ known earlier v p k e f. ti
 
 -- ---- each question
 
--- how formed answers to a question are related to their records: those on regularity rest on the strong classes, and those on concordance may have trees
+-- how formed answers to a question are related to their records: those on regularity rest on the strong classes, and those on signals and on concordance may have trees
 abbrev pub LinkFor : Bool → Question → Type 1
 LinkFor b Q11 = IsTiedFor b Q11
 LinkFor b Q12 = IsTiedFor b Q12
+LinkFor b Q13 = IsJoinedFor b Q13
 LinkFor b Q14 = IsJoinedFor b Q14
 LinkFor b Q15 = IsJoinedFor b Q15
 LinkFor b q = IsLinkedFor q
@@ -162,7 +163,7 @@ joined b Q9 l = linked_joins b Q9 (λ known h. none_due (is_open h)) l
 joined b Q10 l = linked_joins b Q10 (λ known h. none_due (is_open h)) l
 joined b Q11 l = tied_joins b Q11 (λ known h. none_due (is_open h)) l
 joined b Q12 l = tied_joins b Q12 (λ known h. none_due (is_open h)) l
-joined b Q13 l = linked_joins b Q13 (λ known h. none_due (is_open h)) l
+joined b Q13 l = l
 joined b Q14 l = l
 joined b Q15 l = l
 

@@ -10,7 +10,10 @@ use Rattle.crn_cert.specs.declared.answer.Verdict.TheVariants.{Strong, Unknown}
 use Rattle.crn_cert.specs.declared.answer.Proof.{Proof}
 use Rattle.crn_cert.specs.Questions.{Earlier, Question, Q2, number, on, labels_of, exits_of}
 use Rattle.crn_cert.specs.Formed.{IsFormedOf}
-use Rattle.crn_cert.specs.Valid.{pair_places}
+use Rattle.crn_cert.specs.Says.{IsTrueOf}
+use Rattle.crn_cert.specs.Law.{IsTrueOrOpen}
+use Rattle.crn_cert.specs.Valid.{pair_places, IsValid}
+use Rattle.crn_cert.proofs.CallerLemmas.{strong_law}
 use Rattle.crn_ctext.specs.Meaning.{Known, pairs_by, pairs_of}
 use Rattle.crn_ctext.specs.Same.{said}
 use Rattle.crn_ctext.proofs.Alike.{IsAlike, on_alike}
@@ -94,6 +97,42 @@ pub known_then : (b : Bool) (q : Question) (earlier : Earlier) (v : Verdict) →
 known_then true q earlier v k r = strong_stays earlier ((q, v) ∷ []) k
 known_then false Q2 earlier v k r = subst IsStrong (sym (on_new earlier v k)) r
 known_then false q earlier v k r = none_then earlier q v k refl
+
+-- ---- the truth of the verdict
+
+-- the verdict on question 2 is true of the network, if there is one
+abbrev pub IsStrongTrue : Bool → Known → Type 0
+IsStrongTrue true known = IsTrueOf known.net Q2 (on known.earlier Q2)
+IsStrongTrue false known = Unit {0}
+
+-- a verdict on question 2 is true
+abbrev pub IsTrueIfStrong : Question → Net → Verdict → Type 0
+IsTrueIfStrong Q2 net v = IsTrueOf net Q2 v
+IsTrueIfStrong q net v = Unit {0}
+
+true_strong : (net : Net) (v : Verdict) → IsStrong v → IsTrueOrOpen net Q2 v → IsTrueOf net Q2 v
+true_strong net (Strong count terminal label exit) s t = t
+true_strong net v s t = absurd s
+
+-- that of a formed and valid answer is
+pub valid_is_true : (net : Net) (earlier : Earlier) (q : Question) (v : Verdict) (p : Proof) → IsFormedOf net earlier q v p → IsValid net earlier q (record { verdict = v; proof = p }) → IsTrueIfStrong q net v
+valid_is_true net earlier Q2 v p f valid = true_strong net v (formed_right net earlier Q2 v p f) (strong_law net earlier v p f valid)
+valid_is_true net earlier q v p f valid = tt
+
+said_is_true : (net : Net) (v : Verdict) → IsTrueOf net Q2 (said v) ≡ IsTrueOf net Q2 v
+said_is_true net (Strong count terminal label exit) = refl
+said_is_true net v = refl
+
+-- so is one that says the same
+pub true_moves : (q : Question) (net : Net) (v w : Verdict) → said v ≡ said w → IsTrueIfStrong q net w → IsTrueIfStrong q net v
+true_moves Q2 net v w e t = subst (λ (A : Type 0). A) (sym (said_is_true net w) ∙ ap (IsTrueOf net Q2) (sym e) ∙ said_is_true net v) t
+true_moves q net v w e t = tt
+
+-- it stays true after one more verdict
+pub true_then : (b : Bool) (q : Question) (known : Known) (v : Verdict) → AreKnown b known.earlier → IsStrongTrue b known → IsTrueIfStrong q known.net v → IsStrongTrue (after b q) (record { net = known.net; earlier = known.earlier ++ (q, v) ∷ [] })
+true_then true q known v k s t = subst (IsTrueOf known.net Q2) (sym (on_stays known.earlier ((q, v) ∷ []) k)) s
+true_then false Q2 known v k s t = subst (IsTrueOf known.net Q2) (sym (on_new known.earlier v k)) t
+true_then false q known v k s t = tt
 
 -- ---- the pairs
 

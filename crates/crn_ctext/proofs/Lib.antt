@@ -27,6 +27,8 @@ mod BlocksWritten
 mod DocumentsWritten
 mod TestsDecided
 mod TablesDecided
+mod ReachDecided
+mod SignalsDecided
 mod TreeRecords
 mod RanksDecided
 mod TheoremsDecided

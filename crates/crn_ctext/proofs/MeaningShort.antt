@@ -561,7 +561,7 @@ concordant_rows known (suc zero) n s = tt
 concordant_rows known (suc (suc zero)) n s = (free_bounded (codes "alpha") (length known.net.reactions) refl (reactions_few known s), (free_bounded (codes "weights") (length known.net.reactions) refl (reactions_few known s), tt))
 concordant_rows known (suc (suc (suc k))) n s = tt
 
-concordant_trees : (known : Known) (t : Bool) (place : ℕ) → IsSmall known → AreFewProblems (unless t (problems_by Q14 known.net place))
+concordant_trees : (known : Known) (t : Bool) (place : ℕ) → IsSmall known → AreFewProblems (unless t (problems_by Q14 known place))
 concordant_trees known true place s = tt
 concordant_trees known false zero s = tt
 concordant_trees known false (suc zero) s = ((species_few known s, species_few known s), tt)
@@ -585,7 +585,7 @@ strongly_rows known (suc zero) n s = tt
 strongly_rows known (suc (suc zero)) n s = (free_bounded (codes "alpha") (length known.net.reactions) refl (reactions_few known s), (free_bounded (codes "weights") (length known.net.reactions) refl (reactions_few known s), tt))
 strongly_rows known (suc (suc (suc k))) n s = tt
 
-strongly_trees : (known : Known) (t : Bool) (place : ℕ) → IsSmall known → AreFewProblems (unless t (problems_by Q15 known.net place))
+strongly_trees : (known : Known) (t : Bool) (place : ℕ) → IsSmall known → AreFewProblems (unless t (problems_by Q15 known place))
 strongly_trees known true place s = tt
 strongly_trees known false zero s = tt
 strongly_trees known false (suc zero) s = ((species_few known s, species_few known s), tt)

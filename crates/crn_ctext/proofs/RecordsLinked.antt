@@ -26,7 +26,7 @@ use Rattle.crn_ctext.specs.Blocks.{Problem, problems, below}
 use Rattle.crn_ctext.specs.Documents.{one_word, AreTrees, IsOneOf, leaf_forms}
 use Rattle.crn_ctext.specs.Documents as documents
 use Rattle.crn_ctext.specs.Answers.{small_record, rank_records, side_records, head_with, open_head, head_of, records_below, proof_nodes, records, all_records}
-use Rattle.crn_ctext.specs.Meaning.{Known, pairs_of, lengths, reactions_by_class, shapes_of, sizes_of, verdict_of, learn_of, verdicts_said, table_problem, meaning}
+use Rattle.crn_ctext.specs.Meaning.{Known, pairs_of, lengths, reactions_by_class, shapes_of, sizes_of, verdict_of, learn_of, verdicts_said, meaning}
 use Rattle.crn_ctext.specs.Same.{said}
 use Rattle.crn_cert.specs.Built.{built}
 use Rattle.crn_cert.specs.Answers.{verdicts_of}
@@ -36,6 +36,7 @@ use Rattle.crn_ctext.proofs.KnownBefore.{IsStrong, AreKnown, IsRight, after, for
 use Rattle.crn_ctext.proofs.ConfluenceLinked.{tie_width}
 use Rattle.crn_ctext.proofs.FrontsSaid.{front_says}
 use Rattle.crn_ctext.proofs.TreeRecords.{tree_of}
+use Rattle.crn_ctext.proofs.TablesLinked.{table_of, at_root}
 use Rattle.crn_ctext.proofs.MeaningShort.{lists_counted}
 use Rattle.crn_ctext.proofs.RanksLinked.{back_again, naturals_back, record_is, free_row, free_rows_back, proof_with, rank_back, classes_back, places_from, sizes_from, places_at, proofs_alike, basis_alike, FitFields, number_back, rising_back, wide_back}
 
@@ -654,7 +655,7 @@ concordance_answered alloc known h rows nodes (form, inl e, fits) =
     let net = known.net in
     let f : Fits (head (codes "q14") 1 yes []) h = subst (λ (f : Form). Fits f h) e fits in
     told_at known Q14 h (head_with Q14 yes []) rows nodes (record_is h (codes "q14" ∷ yes) [] f.0 f.1) (λ z t.
-    let tree = tree_of alloc net (table_problem net (plain_table net)) (length net.names) [] t.0 (omega arith) t.3 in
+    let tree = tree_of alloc (table_of net (plain_table net)) (length net.names) [] t.0 (at_root (length net.names)) t.3 in
     (Yes, One tree.0, (λ earlier e. (tt, tree.2)), refl, zip_none rows z, t.2 ∙ ap (λ (x : List Record). t.0 ++ x) t.4 ∙ append-nil t.0 ∙ tree.1, refl))
 concordance_answered alloc known h rows nodes (form, inr (inl e), fits) =
     let f : Fits (head (codes "q14") 2 no []) h = subst (λ (f : Form). Fits f h) e fits in
@@ -679,7 +680,7 @@ strong_concordance_answered alloc known h rows nodes (form, inl e, fits) =
     let net = known.net in
     let f : Fits (head (codes "q15") 1 yes []) h = subst (λ (f : Form). Fits f h) e fits in
     told_at known Q15 h (head_with Q15 yes []) rows nodes (record_is h (codes "q15" ∷ yes) [] f.0 f.1) (λ z t.
-    let tree = tree_of alloc net (table_problem net (strong_table net)) (length net.names) [] t.0 (omega arith) t.3 in
+    let tree = tree_of alloc (table_of net (strong_table net)) (length net.names) [] t.0 (at_root (length net.names)) t.3 in
     (Yes, One tree.0, (λ earlier e. (tt, tree.2)), refl, zip_none rows z, t.2 ∙ ap (λ (x : List Record). t.0 ++ x) t.4 ∙ append-nil t.0 ∙ tree.1, refl))
 strong_concordance_answered alloc known h rows nodes (form, inr (inl e), fits) =
     let f : Fits (head (codes "q15") 2 no []) h = subst (λ (f : Form). Fits f h) e fits in

@@ -4,7 +4,7 @@ use Rattle.std.specs.Prelude.{ℤ, replicate, codes, decimal}
 use Rattle.std.proofs.lemmas.List.{append_cancel_left}
 use Rattle.std.proofs.lemmas.Fmt.{decimal_injective}
 use Rattle.crn_vec.specs.Lists.{IsIn}
-use Rattle.crn_vec.specs.Network.{Net}
+use Rattle.crn_vec.specs.Network.{Net, IsNetwork}
 use Rattle.crn_vec.specs.declared.signs.Sign.{Sign}
 use Rattle.crn_vec.specs.declared.signs.Sign.TheVariants.{Zero, Plus, Minus}
 use Rattle.crn_vec.specs.declared.limits.TheConstants.{MAX_REACTIONS}
@@ -22,7 +22,7 @@ use Rattle.crn_ctext.specs.Course.{Course, Give, ◌>>=◌, due, find, test, end
 use Rattle.crn_cert.specs.Tests.{Test as Claim}
 use Rattle.crn_ctext.specs.Blocks.{Problem, Meaning, head_claims, row_claims, problems, is_open, unless, either, asks, asks_node, asks_all, claims, Node, Split, Flat, CutA, CutB, node_of, leaf, asks_leaf, goes_on, if_signed, is_all_zero, asks_tree, asks_trees, sections, below, has_tree, Behind, asks_block, behind_sections, asks_blocks, asks_table, lists_of, asks_lines, title, network_line, ended, IsNetworkOf, ReadOf, course}
 use Rattle.crn_ctext.proofs.Decided.{IsDecided, if_decided, nat_decided, bool_decided, bytes_decided, some_decided}
-use Rattle.crn_ctext.proofs.Courses.{settled_then}
+use Rattle.crn_ctext.proofs.Courses.{settled_then, settled_with, GivesOnly, gives_only_then}
 use Rattle.crn_ctext.proofs.LinesRead.{HaveWords, reads_settled}
 use Rattle.crn_ctext.proofs.FormWords.{heads_have, below_have, nodes_have, sections_have, table_has, vectors_have, end_has}
 
@@ -43,16 +43,17 @@ abbrev pub AreDecidedProblems : List {1} Problem → Type 0
 AreDecidedProblems [] = Unit {0}
 AreDecidedProblems (p ∷ ps) = IsDecidedProblem p × AreDecidedProblems ps
 
--- each test of meaning of a question is decided
-pub record IsDecidedFor {Known : Type 0} (m : Meaning Known) (q : Question) : Type 0 where
-  pub head : (known : Known) (h : Record) → AllDecided (m.head_claims q known h)
-  pub rows : (known : Known) (h : Record) (rs : List Record) → AllDecided (m.row_claims q known h rs)
-  pub trees : (known : Known) (h : Record) → AreDecidedProblems (m.problems q known h)
+-- each test of meaning of a question is decided if what is known has this property, which it keeps
+pub record IsDecidedFor {Known : Type 0} (m : Meaning Known) (Ok : Known → Type 0) (q : Question) : Type 0 where
+  pub head : (known : Known) (h : Record) → Ok known → AllDecided (m.head_claims q known h)
+  pub rows : (known : Known) (h : Record) (rs : List Record) → Ok known → AllDecided (m.row_claims q known h rs)
+  pub trees : (known : Known) (h : Record) → Ok known → AreDecidedProblems (m.problems q known h)
+  pub learn : (known : Known) (h : Record) (rs : List Record) → Ok known → Ok (m.learn q known h rs)
 
 -- each test of meaning of these questions is decided
-abbrev pub IsDecidedMeaning : {Known : Type 0} → Meaning Known → List Question → Type 0
-IsDecidedMeaning m [] = Unit {0}
-IsDecidedMeaning m (q ∷ qs) = IsDecidedFor m q × IsDecidedMeaning m qs
+abbrev pub IsDecidedMeaning : {Known : Type 0} → Meaning Known → (Known → Type 0) → List Question → Type 0
+IsDecidedMeaning m Ok [] = Unit {0}
+IsDecidedMeaning m Ok (q ∷ qs) = IsDecidedFor m Ok q × IsDecidedMeaning m Ok qs
 
 unless_decided : (t : Bool) (cs : List {1} Claim) → AllDecided cs → AllDecided (unless t cs)
 unless_decided true cs d = tt
@@ -151,38 +152,56 @@ trees_settled version table (p ∷ ps) n d = settled_then (asks_tree version tab
 
 -- ---- blocks
 
-block_settled : {Known : Type 0} (m : Meaning Known) (version : ℕ) (table : List (List ℤ)) (q : Question) (at : Behind Known) → IsDecidedFor m q → IsSettled (asks_block m version table q at)
-block_settled {Known} m version table q at d =
-    settled_then (asks version at.line at.by_tree (heads q (m.shapes at.known).sizes)) (λ head. behind_head head) (asks_settled version at.line at.by_tree (heads q (m.shapes at.known).sizes) (heads_have q (m.shapes at.known).sizes))
-    (λ head. settled_then (claims at.line (head_claims m q at.known head)) (λ x. behind_claims head) (claims_settled at.line (head_claims m q at.known head) (unless_decided (is_open head) (m.head_claims q at.known head) (let g = d.head in g at.known head)))
-    (λ x. settled_then (asks_all version (at.line + 1) false (below q (m.shapes at.known) head)) (λ rows. behind_rows head rows) (all_settled version (at.line + 1) false (below q (m.shapes at.known) head) (below_have q (m.shapes at.known) head))
-    (λ rows. settled_then (claims at.line (row_claims m q at.known head rows)) (λ y. behind_meaning head rows) (claims_settled at.line (row_claims m q at.known head rows) (unless_decided (is_open head) (m.row_claims q at.known head rows) (let g = d.rows in g at.known head rows)))
-    (λ y. settled_then (asks_trees version table (problems m q at.known head) (at.line + 1 + length rows)) (λ line. Give (given head rows line)) (trees_settled version table (problems m q at.known head) (at.line + 1 + length rows) (unless_problems (is_open head) (m.problems q at.known head) (let g = d.trees in g at.known head)))
-    (λ line. give_settled (given head rows line))))))
-  where
-    given : Record → List Record → ℕ → Behind Known
-    given head rows line = record { known = m.learn q at.known head rows; by_tree = has_tree (problems m q at.known head); line = line; blocks = at.blocks ++ (head ∷ rows) ∷ [] }
+-- what is after a block
+abbrev given : {Known : Type 0} → Meaning Known → Question → Behind Known → Record → List Record → ℕ → Behind Known
+given m q at head rows line = record { known = m.learn q at.known head rows; by_tree = has_tree (problems m q at.known head); line = line; blocks = at.blocks ++ (head ∷ rows) ∷ [] }
 
-    behind_meaning : Record → List Record → Course (Behind Known)
-    behind_meaning head rows = asks_trees version table (problems m q at.known head) (at.line + 1 + length rows) >>= (λ line. Give (given head rows line))
+-- the course of a block from its trees on, from the tests of its rows on, from its rows on, and from the tests of its head on
+abbrev from_trees : {Known : Type 0} → Meaning Known → (version : ℕ) → List (List ℤ) → Question → Behind Known → Record → List Record → Course (Behind Known)
+from_trees m version table q at head rows = asks_trees version table (problems m q at.known head) (at.line + 1 + length rows) >>= (λ line. Give (given m q at head rows line))
 
-    behind_rows : Record → List Record → Course (Behind Known)
-    behind_rows head rows = claims at.line (row_claims m q at.known head rows) >>= (λ y. behind_meaning head rows)
+abbrev from_row_claims : {Known : Type 0} → Meaning Known → (version : ℕ) → List (List ℤ) → Question → Behind Known → Record → List Record → Course (Behind Known)
+from_row_claims m version table q at head rows = claims at.line (row_claims m q at.known head rows) >>= (λ y. from_trees m version table q at head rows)
 
-    behind_claims : Record → Course (Behind Known)
-    behind_claims head = asks_all version (at.line + 1) false (below q (m.shapes at.known) head) >>= (λ rows. behind_rows head rows)
+abbrev from_rows : {Known : Type 0} → Meaning Known → (version : ℕ) → List (List ℤ) → Question → Behind Known → Record → Course (Behind Known)
+from_rows m version table q at head = asks_all version (at.line + 1) false (below q (m.shapes at.known) head) >>= (λ rows. from_row_claims m version table q at head rows)
 
-    behind_head : Record → Course (Behind Known)
-    behind_head head = claims at.line (head_claims m q at.known head) >>= (λ x. behind_claims head)
+abbrev from_claims : {Known : Type 0} → Meaning Known → (version : ℕ) → List (List ℤ) → Question → Behind Known → Record → Course (Behind Known)
+from_claims m version table q at head = claims at.line (head_claims m q at.known head) >>= (λ x. from_rows m version table q at head)
 
-pub blocks_settled : {Known : Type 0} (m : Meaning Known) (version : ℕ) (table : List (List ℤ)) (built : List Question) (at : Behind Known) → IsDecidedMeaning m built → IsSettled (asks_blocks m version table built at)
+block_settled : {Known : Type 0} (m : Meaning Known) (Ok : Known → Type 0) (version : ℕ) (table : List (List ℤ)) (q : Question) (at : Behind Known) → IsDecidedFor m Ok q → Ok at.known → IsSettled (asks_block m version table q at)
+block_settled m Ok version table q at d ok =
+    settled_then (asks version at.line at.by_tree (heads q (m.shapes at.known).sizes)) (λ head. from_claims m version table q at head) (asks_settled version at.line at.by_tree (heads q (m.shapes at.known).sizes) (heads_have q (m.shapes at.known).sizes))
+    (λ head. settled_then (claims at.line (head_claims m q at.known head)) (λ x. from_rows m version table q at head) (claims_settled at.line (head_claims m q at.known head) (unless_decided (is_open head) (m.head_claims q at.known head) (let g = d.head in g at.known head ok)))
+    (λ x. settled_then (asks_all version (at.line + 1) false (below q (m.shapes at.known) head)) (λ rows. from_row_claims m version table q at head rows) (all_settled version (at.line + 1) false (below q (m.shapes at.known) head) (below_have q (m.shapes at.known) head))
+    (λ rows. settled_then (claims at.line (row_claims m q at.known head rows)) (λ y. from_trees m version table q at head rows) (claims_settled at.line (row_claims m q at.known head rows) (unless_decided (is_open head) (m.row_claims q at.known head rows) (let g = d.rows in g at.known head rows ok)))
+    (λ y. settled_then (asks_trees version table (problems m q at.known head) (at.line + 1 + length rows)) (λ line. Give (given m q at head rows line)) (trees_settled version table (problems m q at.known head) (at.line + 1 + length rows) (unless_problems (is_open head) (m.problems q at.known head) (let g = d.trees in g at.known head ok)))
+    (λ line. give_settled (given m q at head rows line))))))
+
+-- what is known after a block has the property
+block_keeps : {Known : Type 0} (m : Meaning Known) (Ok : Known → Type 0) (version : ℕ) (table : List (List ℤ)) (q : Question) (at : Behind Known) → IsDecidedFor m Ok q → Ok at.known → GivesOnly (λ (behind : Behind Known). Ok behind.known) (asks_block m version table q at)
+unfolding GivesOnly
+block_keeps {Known} m Ok version table q at d ok =
+    let Has : Behind Known → Type 0 = λ behind. Ok behind.known in
+    gives_only_then Has (asks version at.line at.by_tree (heads q (m.shapes at.known).sizes)) (λ head. from_claims m version table q at head) (λ head.
+    gives_only_then Has (claims at.line (head_claims m q at.known head)) (λ x. from_rows m version table q at head) (λ x.
+    gives_only_then Has (asks_all version (at.line + 1) false (below q (m.shapes at.known) head)) (λ rows. from_row_claims m version table q at head rows) (λ rows.
+    gives_only_then Has (claims at.line (row_claims m q at.known head rows)) (λ y. from_trees m version table q at head rows) (λ y.
+    gives_only_then Has (asks_trees version table (problems m q at.known head) (at.line + 1 + length rows)) (λ line. Give (given m q at head rows line)) (λ line. let g = d.learn in g at.known head rows ok)))))
+
+sections_keep : {Known : Type 0} (Ok : Known → Type 0) (opened : List Record) (at : Behind Known) → Ok at.known → Ok (behind_sections opened at).known
+sections_keep Ok [] at ok = ok
+sections_keep Ok (r ∷ rs) at ok = ok
+
+pub blocks_settled : {Known : Type 0} (m : Meaning Known) (Ok : Known → Type 0) (version : ℕ) (table : List (List ℤ)) (built : List Question) (at : Behind Known) → IsDecidedMeaning m Ok built → Ok at.known → IsSettled (asks_blocks m version table built at)
 unfolding asks_blocks
-blocks_settled m version table [] at d = give_settled at
-blocks_settled m version table (q ∷ qs) at d =
+blocks_settled m Ok version table [] at d ok = give_settled at
+blocks_settled {Known} m Ok version table (q ∷ qs) at d ok =
     settled_then (asks_all version at.line at.by_tree (map section_form (sections version q))) (λ opened. asks_block m version table q (behind_sections opened at) >>= (λ behind. asks_blocks m version table qs behind))
     (all_settled version at.line at.by_tree (map section_form (sections version q)) (sections_have version q))
-    (λ opened. settled_then (asks_block m version table q (behind_sections opened at)) (λ behind. asks_blocks m version table qs behind) (block_settled m version table q (behind_sections opened at) d.0)
-    (λ behind. blocks_settled m version table qs behind d.1))
+    (λ opened. settled_with (λ (behind : Behind Known). Ok behind.known) (asks_block m version table q (behind_sections opened at)) (λ behind. asks_blocks m version table qs behind)
+    (block_settled m Ok version table q (behind_sections opened at) d.0 (sections_keep Ok opened at ok)) (block_keeps m Ok version table q (behind_sections opened at) d.0 (sections_keep Ok opened at ok))
+    (λ behind kept. blocks_settled m Ok version table qs behind d.1 kept))
 
 -- ---- the opening
 
@@ -246,16 +265,21 @@ ends_settled = tt
 
 -- ---- the document
 
-pub course_settled : {Known : Type 0} (m : Meaning Known) (versions : List ℕ) (built : List Question) → IsDecidedMeaning m built → HaveTitles versions → IsSettled (course m versions built)
-course_settled {Known} m versions built d t =
+-- the network of these lines is one
+network_found : (n : ℕ) (lines : List (List ℕ)) → GivesOnly IsNetwork (find n 22 Net (IsNetworkOf lines))
+unfolding GivesOnly
+network_found n lines = λ net p. p.0
+
+pub course_settled : {Known : Type 0} (m : Meaning Known) (Ok : Known → Type 0) (versions : List ℕ) (built : List Question) → ((net : Net) → IsNetwork net → Ok (m.start net)) → IsDecidedMeaning m Ok built → HaveTitles versions → IsSettled (course m versions built)
+course_settled {Known} m Ok versions built starts d t =
     settled_then (due false) (λ first. c1 first) (due_settled false) (λ first.
     settled_then (find 1 21 ℕ (λ version. IsIn version versions × (first ≡ title version))) (λ version. c2 version) (version_settled versions first t) (λ version.
     settled_then (due false) (λ second. c3 version second) (due_settled false) (λ second.
     settled_then (find 2 22 ℕ (λ count. (1 ≤ count) × (count ≤ MAX_REACTIONS) × (second ≡ network_line count))) (λ count. c4 version count) (count_settled second) (λ count.
     settled_then (asks_lines count) (λ lines. c5 version count lines) (lines_settled count) (λ lines.
-    settled_then (find (2 + count) 22 Net (IsNetworkOf lines)) (λ net. c6 version count net) (network_settled (2 + count) lines) (λ net.
+    settled_with IsNetwork (find (2 + count) 22 Net (IsNetworkOf lines)) (λ net. c6 version count net) (network_settled (2 + count) lines) (network_found (2 + count) lines) (λ net is.
     settled_then (asks_table version (3 + count)) (λ table. c7 version count net table) (table_settled version (3 + count)) (λ table.
-    settled_then (asks_blocks m version (lists_of table) built (start count net table)) (λ behind. c8 version net behind) (blocks_settled m version (lists_of table) built (start count net table) d) (λ behind.
+    settled_then (asks_blocks m version (lists_of table) built (start count net table)) (λ behind. c8 version net behind) (blocks_settled m Ok version (lists_of table) built (start count net table) d (starts net is)) (λ behind.
     settled_then (asks version behind.line behind.by_tree (end_form ∷ [])) (λ last. c9 net behind) (asks_settled version behind.line behind.by_tree (end_form ∷ []) end_has) (λ last.
     settled_then ends (λ x. Give (read net behind)) ends_settled (λ x. give_settled (read net behind)))))))))))
   where

@@ -18,7 +18,7 @@ use Rattle.crn_ctext.proofs.TestsDecided.{some_below}
 
 -- ---- lists that are related place by place
 
-zip_decided : {A B : Type 0} (R : A → B → Type 0) → ((x : A) (y : B) → IsDecided (R x y)) → (xs : List A) (ys : List B) → IsDecided (AllZip R xs ys)
+pub zip_decided : {A B : Type 0} (R : A → B → Type 0) → ((x : A) (y : B) → IsDecided (R x y)) → (xs : List A) (ys : List B) → IsDecided (AllZip R xs ys)
 zip_decided R each [] [] = inl tt
 zip_decided R each [] (y ∷ ys) = inr (λ h. h)
 zip_decided R each (x ∷ xs) [] = inr (λ h. h)

@@ -1,5 +1,5 @@
 -- Answers on concordance and their records: a tree, or two lists that show the table discordant.
-use Rattle.std.proofs.Common.{◌≡◌, ◌⊎◌, ◌≤◌, ◌+◌, ◌++◌, ◌∙◌, ℕ, Bool, List, [], ◌∷◌, length, map, refl, sym, ap, subst, inl, inr, arith}
+use Rattle.std.proofs.Common.{◌≡◌, ◌⊎◌, ◌≤◌, ◌<◌, ◌+◌, ◌++◌, ◌∙◌, ℕ, Bool, List, [], ◌∷◌, length, map, refl, sym, ap, subst, inl, inr, arith}
 use Rattle.std.specs.Prelude.{ℤ, pos, codes}
 use Rattle.std.specs.List.{range_with_len}
 use Rattle.std.proofs.lemmas.List.{append-nil, length-map}
@@ -21,14 +21,13 @@ use Rattle.crn_cert.specs.declared.answer.Proof.TheVariants.{Nothing, One}
 use Rattle.crn_cert.specs.declared.tree.Tree.{Tree, Split', CutA, CutB, Flat}
 use Rattle.crn_cert.specs.Questions.{Earlier, Q14, Q15}
 use Rattle.crn_cert.specs.Tests.{AllHold}
-use Rattle.crn_cert.specs.Trees.{plan, IsFormedTree, IsValid as IsValidTree}
+use Rattle.crn_cert.specs.Trees.{plan, IsFormedTree}
 use Rattle.crn_cert.specs.Nodes.{Fits as FitsNode}
 use Rattle.crn_cert.specs.TreeTests.{tree_tests}
 use Rattle.crn_cert.specs.Formed.{IsBasisOf, IsFormedOf, RowsMayBe, RowsConcordant}
 use Rattle.crn_cert.specs.Valid.{IsValid}
-use Rattle.crn_cert.proofs.CallerLemmas.{tests_decide_valid_trees}
 use Rattle.crn_ctext.specs.Records.{Record}
-use Rattle.crn_ctext.specs.Blocks.{problems}
+use Rattle.crn_ctext.specs.Blocks.{Problem, problems}
 use Rattle.crn_ctext.specs.Documents.{IsFormed, IsTree, AreTrees, IsGoodLeaf}
 use Rattle.crn_ctext.specs.Documents as documents
 use Rattle.crn_ctext.specs.Answers.{head_of, records_below, proof_nodes, records, nodes}
@@ -37,7 +36,7 @@ use Rattle.crn_ctext.specs.Same.{said, shown}
 use Rattle.crn_ctext.proofs.Alike.{IsAlike}
 use Rattle.crn_ctext.proofs.RanksLinked.{back_again, free_fits, number_then, wide_fits}
 use Rattle.crn_ctext.proofs.Joined.{parts, IsLinked, answer, open_as, linked_there, linked_back, IsJoinedFor}
-use Rattle.crn_ctext.proofs.TreeRecords.{FormedAt, tree_formed, tree_good, tree_valid, plans_one}
+use Rattle.crn_ctext.proofs.TreeRecords.{AreLeafTests, tree_formed, tree_good, tree_true, tests_true, true_tests, plans_one}
 
 -- ---- trees
 
@@ -45,31 +44,40 @@ use Rattle.crn_ctext.proofs.TreeRecords.{FormedAt, tree_formed, tree_good, tree_
 pub rows_counted : (net : Net) → length (reaction_system net).rows ≡ length net.names
 rows_counted net = length-map (range_with_len 0 (length net.names)) (column (vectors net)) ∙ length-range_with_len 0 (length net.names)
 
+-- the sign problem of a table
+abbrev pub table_of : Net → List (List Sign) → Problem
+table_of net table = problem_over net (table_problem net table)
+
+-- no choice is made at the root
+pub at_root : (n : ℕ) → n + length {A = Sign} [] ≡ n
+at_root n = omega arith
+
 -- the records are the one tree of this problem
-abbrev OneTree : Net → Signed → List Record → Type 0
-OneTree net w rs = AreTrees IsGoodLeaf (problem_over net w ∷ []) rs
+abbrev OneTree : Net → List (List Sign) → List Record → Type 0
+OneTree net table rs = AreTrees IsGoodLeaf (table_of net table ∷ []) rs
 
 abbrev TreeTestsHold : Net → List (List Sign) → Tree → Type 0
 TreeTestsHold net table tree = AllHold (tree_tests (FitsNode (table_problem net table)) 1 [] (plan tree))
 
-by_choices : (net : Net) (table : List (List Sign)) (tree : Tree) → FormedAt net [] (plan tree) → IsFormedTree (length (reaction_system net).rows) (length net.names) (length net.names) [] (plan tree)
-by_choices net table tree f = subst (λ (c : ℕ). IsFormedTree c (length net.names) (length net.names) [] (plan tree)) (sym (rows_counted net)) f
+-- a tree over the species
+abbrev pub IsOverSpecies : Net → Tree → Type 0
+IsOverSpecies net tree = IsFormedTree (length net.names) (length net.names) (length net.names) [] (plan tree)
 
-tests_good : (net : Net) (table : List (List Sign)) (tree : Tree) → FormedAt net [] (plan tree) → TreeTestsHold net table tree → OneTree net (table_problem net table) (nodes tree)
+leaf_tests : (net : Net) (table : List (List Sign)) → AreLeafTests (table_of net table) (FitsNode (table_problem net table))
+leaf_tests net table = record { part_a = λ p u. ((λ h. h), (λ h. h)); part_b = λ p u. ((λ h. h), (λ h. h)); closed = λ p. ((λ h. h), (λ h. h)) }
+
+tests_good : (net : Net) (table : List (List Sign)) (tree : Tree) → IsOverSpecies net tree → TreeTestsHold net table tree → OneTree net table (nodes tree)
 tests_good net table tree f hold =
-    let w : Signed = table_problem net table in
-    let both = tests_decide_valid_trees w (length net.names) (length net.names) 1 [] (plan tree) (by_choices net table tree f) in
-    (nodes tree, [], sym (append-nil (nodes tree)), tree_good net w (length net.names) [] tree (omega arith) f (both.0 hold), refl)
+    (nodes tree, [], sym (append-nil (nodes tree)), tree_good (table_of net table) (length net.names) [] tree (at_root (length net.names)) f (tests_true (table_of net table) (FitsNode (table_problem net table)) (leaf_tests net table) 1 [] (plan tree) hold), refl)
 
-good_tests : (net : Net) (table : List (List Sign)) (tree : Tree) → FormedAt net [] (plan tree) → OneTree net (table_problem net table) (nodes tree) → TreeTestsHold net table tree
+good_tests : (net : Net) (table : List (List Sign)) (tree : Tree) → IsOverSpecies net tree → OneTree net table (nodes tree) → TreeTestsHold net table tree
 good_tests net table tree f t =
     let w : Signed = table_problem net table in
-    let both = tests_decide_valid_trees w (length net.names) (length net.names) 1 [] (plan tree) (by_choices net table tree f) in
     let all : t.0 ≡ nodes tree = sym (t.2 ∙ ap (λ (x : List Record). t.0 ++ x) t.4 ∙ append-nil t.0) in
-    let good : IsTree (IsGoodLeaf (problem_over net w)) (length net.names) [] (nodes tree) = subst (λ (rs : List Record). IsTree (IsGoodLeaf (problem_over net w)) (length net.names) [] rs) all t.3 in
-    both.1 (tree_valid net w (length net.names) [] tree (rows_counted net) (omega arith) f good)
+    let good : IsTree (IsGoodLeaf (table_of net table)) (length net.names) [] (nodes tree) = subst (λ (rs : List Record). IsTree (IsGoodLeaf (table_of net table)) (length net.names) [] rs) all t.3 in
+    true_tests (table_of net table) (FitsNode w) (leaf_tests net table) (λ p less. subst (λ (c : ℕ). length p < c) (sym (rows_counted net)) less) 1 [] (plan tree) f (tree_true (table_of net table) (length net.names) [] tree (at_root (length net.names)) f good)
 
-some_nodes : (tree : Tree) → nodes tree ≡ [] → ⊥
+pub some_nodes : (tree : Tree) → nodes tree ≡ [] → ⊥
 some_nodes (Split' a zeros b pluses held) e = cc
 some_nodes (CutA u) e = cc
 some_nodes (CutB u) e = cc
@@ -83,7 +91,7 @@ TableRows net (Unknown gap) p = p ≡ Nothing
 TableRows net v p = RowsConcordant net v p
 
 abbrev pub IsTreeOrNone : Net → Proof → Type 0
-IsTreeOrNone net p = (p ≡ Nothing) ⊎ ((tree : Tree) × (p ≡ One tree) × FormedAt net [] (plan tree))
+IsTreeOrNone net p = (p ≡ Nothing) ⊎ ((tree : Tree) × (p ≡ One tree) × IsOverSpecies net tree)
 
 pub tree_or_none : (net : Net) (v : Verdict) (p : Proof) → TableRows net v p → IsTreeOrNone net p
 tree_or_none net Yes (One tree) h = inr (tree, refl, h)
@@ -93,13 +101,13 @@ tree_or_none net (NoPair alpha weights) p h = absurd h
 tree_or_none net (Unknown gap) p h = inl h
 tree_or_none net v p h = absurd h
 
-shown_by : (net : Net) (w : Signed) (p r : Proof) → IsTreeOrNone net p → IsTreeOrNone net r → proof_nodes p ≡ proof_nodes r → shown p ≡ shown r
-shown_by net w p r (inl a) (inl b) n = ap shown (a ∙ sym b)
-shown_by net w p r (inl a) (inr b) n = absurd (some_nodes b.0 (sym (ap proof_nodes b.1) ∙ sym n ∙ ap proof_nodes a))
-shown_by net w p r (inr a) (inl b) n = absurd (some_nodes a.0 (sym (ap proof_nodes a.1) ∙ n ∙ ap proof_nodes b))
-shown_by net w p r (inr a) (inr b) n =
+shown_by : (net : Net) (table : List (List Sign)) (p r : Proof) → IsTreeOrNone net p → IsTreeOrNone net r → proof_nodes p ≡ proof_nodes r → shown p ≡ shown r
+shown_by net table p r (inl a) (inl b) n = ap shown (a ∙ sym b)
+shown_by net table p r (inl a) (inr b) n = absurd (some_nodes b.0 (sym (ap proof_nodes b.1) ∙ sym n ∙ ap proof_nodes a))
+shown_by net table p r (inr a) (inl b) n = absurd (some_nodes a.0 (sym (ap proof_nodes a.1) ∙ n ∙ ap proof_nodes b))
+shown_by net table p r (inr a) (inr b) n =
     let same : nodes a.0 ≡ nodes b.0 = sym (ap proof_nodes a.1) ∙ n ∙ ap proof_nodes b.1 in
-    ap shown a.1 ∙ ap (λ t. (Nothing, t ∷ [])) (plans_one net w (length net.names) [] a.0 b.0 (omega arith) a.2 b.2 same) ∙ sym (ap shown b.1)
+    ap shown a.1 ∙ ap (λ t. (Nothing, t ∷ [])) (plans_one (table_of net table) (length net.names) [] a.0 b.0 (at_root (length net.names)) a.2 b.2 same) ∙ sym (ap shown b.1)
 
 -- ---- concordant
 
@@ -138,7 +146,7 @@ plain_linked known earlier v p f other = absurd f.0
 plain_formed : (known : Known) (earlier : Earlier) (v : Verdict) (p : Proof) → IsFormedOf known.net earlier Q14 v p → IsFormed meaning Q14 known (records Q14 (shapes_of known) (answer v p)) (parts Q14 known (answer v p))
 plain_formed known earlier Yes (One tree) f =
     let net = known.net in
-    record { head = (_, inl refl, (refl, refl)); rows = tt; trees = (nodes tree, [], sym (append-nil (nodes tree)), tree_formed net (table_problem net (plain_table net)) (length net.names) [] tree (omega arith) f.1, refl) }
+    record { head = (_, inl refl, (refl, refl)); rows = tt; trees = (nodes tree, [], sym (append-nil (nodes tree)), tree_formed (table_of net (plain_table net)) (length net.names) [] tree (at_root (length net.names)) f.1, refl) }
 plain_formed known earlier Yes p f = absurd f.1
 plain_formed known earlier (NoPair alpha weights) p f = let l = plain_linked known earlier (NoPair alpha weights) p f (λ e. absurd cc) in l.formed
 plain_formed known earlier (Unknown gap) p f = let l = plain_linked known earlier (Unknown gap) p f (λ e. absurd cc) in l.formed
@@ -176,10 +184,10 @@ pub plain_joined : (b : Bool) → IsJoinedFor b Q14
 plain_joined b = record {
   formed = λ known earlier v p k e f. plain_formed known earlier v p f;
   there = λ known earlier v p k e f valid. plain_there known earlier v p f valid;
-  back = λ known earlier v p k e f valid. plain_back known earlier v p f valid;
+  back = λ known earlier v p k s e f valid. plain_back known earlier v p f valid;
   says = λ known earlier v p k e f. plain_says known earlier v p f;
   shows = λ known earlier later v w p r k d e f g head rows nodes.
-      shown_by known.net (table_problem known.net (plain_table known.net)) p r (tree_or_none known.net v p (plain_rows known.net earlier v p f)) (tree_or_none known.net w r (plain_rows known.net later w r g)) nodes;
+      shown_by known.net (plain_table known.net) p r (tree_or_none known.net v p (plain_rows known.net earlier v p f)) (tree_or_none known.net w r (plain_rows known.net later w r g)) nodes;
 }
 
 -- ---- strongly concordant
@@ -219,7 +227,7 @@ strong_linked known earlier v p f other = absurd f.0
 strong_formed : (known : Known) (earlier : Earlier) (v : Verdict) (p : Proof) → IsFormedOf known.net earlier Q15 v p → IsFormed meaning Q15 known (records Q15 (shapes_of known) (answer v p)) (parts Q15 known (answer v p))
 strong_formed known earlier Yes (One tree) f =
     let net = known.net in
-    record { head = (_, inl refl, (refl, refl)); rows = tt; trees = (nodes tree, [], sym (append-nil (nodes tree)), tree_formed net (table_problem net (strong_table net)) (length net.names) [] tree (omega arith) f.1, refl) }
+    record { head = (_, inl refl, (refl, refl)); rows = tt; trees = (nodes tree, [], sym (append-nil (nodes tree)), tree_formed (table_of net (strong_table net)) (length net.names) [] tree (at_root (length net.names)) f.1, refl) }
 strong_formed known earlier Yes p f = absurd f.1
 strong_formed known earlier (NoPair alpha weights) p f = let l = strong_linked known earlier (NoPair alpha weights) p f (λ e. absurd cc) in l.formed
 strong_formed known earlier (Unknown gap) p f = let l = strong_linked known earlier (Unknown gap) p f (λ e. absurd cc) in l.formed
@@ -257,8 +265,8 @@ pub strong_joined : (b : Bool) → IsJoinedFor b Q15
 strong_joined b = record {
   formed = λ known earlier v p k e f. strong_formed known earlier v p f;
   there = λ known earlier v p k e f valid. strong_there known earlier v p f valid;
-  back = λ known earlier v p k e f valid. strong_back known earlier v p f valid;
+  back = λ known earlier v p k s e f valid. strong_back known earlier v p f valid;
   says = λ known earlier v p k e f. strong_says known earlier v p f;
   shows = λ known earlier later v w p r k d e f g head rows nodes.
-      shown_by known.net (table_problem known.net (strong_table known.net)) p r (tree_or_none known.net v p (strong_rows known.net earlier v p f)) (tree_or_none known.net w r (strong_rows known.net later w r g)) nodes;
+      shown_by known.net (strong_table known.net) p r (tree_or_none known.net v p (strong_rows known.net earlier v p f)) (tree_or_none known.net w r (strong_rows known.net later w r g)) nodes;
 }

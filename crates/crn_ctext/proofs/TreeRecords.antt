@@ -1,22 +1,24 @@
--- Trees over the species as records: those of a formed tree are formed, they are valid if and only if the tree is, and formed records are those of a formed tree.
-use Rattle.std.proofs.Common.{◌≡◌, ◌⊎◌, ◌≤◌, ◌<◌, ◌+◌, ◌++◌, ◌∙◌, ℕ, zero, suc, Bool, true, false, List, [], ◌∷◌, length, refl, sym, ap, ap₂, subst, inl, inr, arith, append_assoc, Box, Global}
+-- Trees of a sign problem as records: those of a formed tree are formed, they are valid if and only if its leaves are true, and formed records are those of a formed tree.
+use Rattle.std.proofs.Common.{◌↔◌, ◌≡◌, ◌⊎◌, ◌≤◌, ◌<◌, ◌+◌, ◌++◌, ◌∙◌, ℕ, zero, suc, Bool, true, false, List, [], ◌∷◌, length, refl, sym, ap, ap₂, subst, inl, inr, arith, append_assoc, Box, Global}
 use Rattle.std.specs.Prelude.{ℤ, codes, slice_index, slice_index_or}
 use Rattle.std.proofs.lemmas.List.{append-nil, length-append}
 use denote.RawPtr.{null_ptr}
 use Rattle.crn_vec.specs.Kept.{KeptInts}
-use Rattle.crn_vec.specs.Network.{Net}
 use Rattle.crn_vec.specs.declared.signs.Sign.{Sign}
 use Rattle.crn_vec.specs.declared.signs.Sign.TheVariants.{Zero, Plus, Minus}
-use Rattle.crn_vec.specs.Problems.{Signed, all_zero}
+use Rattle.crn_vec.specs.Problems.{all_zero}
 use Rattle.crn_cert.specs.Ranges.{AreFree}
 use Rattle.crn_cert.specs.declared.tree.Tree.{Tree, Split', CutA, CutB, Flat, Held-Tree-Split-2, None', Some'}
-use Rattle.crn_cert.specs.Trees.{Plan, Both, Three, RulesA, RulesB, Level, plan, plan_behind, with_minus, IsFormedTree, IsValid}
+use Rattle.crn_cert.specs.Trees.{Plan, Both, Three, RulesA, RulesB, Level, plan, plan_behind, with_minus, node_count, IsFormedTree}
+use Rattle.crn_cert.specs.Nodes.{Said, Splits, Flats, CutsA, CutsB}
+use Rattle.crn_cert.specs.Tests.{AllHold}
+use Rattle.crn_cert.specs.TreeTests.{tree_tests}
+use Rattle.crn_cert.proofs.CallerLemmas.{hold_append, hold_parts}
 use Rattle.crn_ctext.specs.Records.{Record, Form, Fits}
 use Rattle.crn_ctext.specs.Kinds.{record_form, free_form}
 use Rattle.crn_ctext.specs.Blocks.{Problem, is_all_zero, node_of, word_of}
 use Rattle.crn_ctext.specs.Documents.{one_word, leaf_forms, IsOneOf, IsTree, IsGoodLeaf, IsTrueAt}
 use Rattle.crn_ctext.specs.Answers.{nodes, nodes_behind}
-use Rattle.crn_ctext.specs.Meaning.{problem_over}
 use Rattle.crn_ctext.proofs.RanksLinked.{free_fits, free_row, record_is}
 use Rattle.crn_ctext.proofs.AnswersApart.{tree_apart, leaf_no_split}
 use Rattle.crn_ctext.proofs.TreesRead.{valid_tree_is_formed}
@@ -56,104 +58,112 @@ one_leaf Leaf (suc more) p r l = inl (r, refl, l)
 -- ---- records of a tree
 
 -- what is asked of the leaves of a tree for its records to be a tree with these leaves
-record LeavesGive (net : Net) (Leaf : List Sign → Record → Type 0) (Ok : List Sign → Plan → Type 0) : Type 0 where
+record LeavesGive (w : Problem) (Leaf : List Sign → Record → Type 0) (Ok : List Sign → Plan → Type 0) : Type 0 where
   flat : (p : List Sign) → Ok p Level → Leaf p (one_word (codes "flat") [])
-  cut_a : (p : List Sign) (u : List ℤ) → AreFree (length net.names) u → Ok p (RulesA u) → Leaf p (one_word (codes "cuta") u)
-  cut_b : (p : List Sign) (u : List ℤ) → AreFree (length net.names) u → Ok p (RulesB u) → Leaf p (one_word (codes "cutb") u)
+  cut_a : (p : List Sign) (u : List ℤ) → AreFree w.count_a u → Ok p (RulesA u) → Leaf p (one_word (codes "cuta") u)
+  cut_b : (p : List Sign) (u : List ℤ) → AreFree w.count_b u → Ok p (RulesB u) → Leaf p (one_word (codes "cutb") u)
   both : (p : List Sign) (z q : Plan) → Ok p (Both z q) → Ok (p ++ Zero ∷ []) z × Ok (p ++ Plus ∷ []) q
   three : (p : List Sign) (z q m : Plan) → Ok p (Three z q m) → Ok (p ++ Zero ∷ []) z × (Ok (p ++ Plus ∷ []) q × Ok (p ++ Minus ∷ []) m)
 
-abbrev pub FormedAt : Net → List Sign → Plan → Type 0
-FormedAt net p t = IsFormedTree (length net.names) (length net.names) (length net.names) p t
+abbrev pub FormedAt : Problem → List Sign → Plan → Type 0
+FormedAt w p t = IsFormedTree w.choices w.count_a w.count_b p t
 
-tree_is : (net : Net) (Leaf : List Sign → Record → Type 0) (Ok : List Sign → Plan → Type 0) → LeavesGive net Leaf Ok → (more : ℕ) (p : List Sign) (tree : Tree) → more + length p ≡ length net.names → FormedAt net p (plan tree) → Ok p (plan tree) → IsTree Leaf more p (nodes tree)
-tree_is net Leaf Ok g zero p (Split' a zeros b pluses None') e f o = absurd (none_left (length net.names) p e f.0)
-tree_is net Leaf Ok g zero p (Split' a zeros b pluses (Some' c minuses)) e f o = absurd (none_left (length net.names) p e f.0)
-tree_is net Leaf Ok g (suc more) p (Split' a zeros b pluses None') e f o =
+tree_is : (w : Problem) (Leaf : List Sign → Record → Type 0) (Ok : List Sign → Plan → Type 0) → LeavesGive w Leaf Ok → (more : ℕ) (p : List Sign) (tree : Tree) → more + length p ≡ w.choices → FormedAt w p (plan tree) → Ok p (plan tree) → IsTree Leaf more p (nodes tree)
+tree_is w Leaf Ok g zero p (Split' a zeros b pluses None') e f o = absurd (none_left w.choices p e f.0)
+tree_is w Leaf Ok g zero p (Split' a zeros b pluses (Some' c minuses)) e f o = absurd (none_left w.choices p e f.0)
+tree_is w Leaf Ok g (suc more) p (Split' a zeros b pluses None') e f o =
     let h = g.both in
     let k = h p (plan zeros) (plan pluses) o in
-    split_both Leaf more p (nodes zeros) (nodes pluses) f.1 (tree_is net Leaf Ok g more (p ++ Zero ∷ []) zeros (next_choice (length net.names) more p Zero e) f.2 k.0) (tree_is net Leaf Ok g more (p ++ Plus ∷ []) pluses (next_choice (length net.names) more p Plus e) f.3 k.1)
-tree_is net Leaf Ok g (suc more) p (Split' a zeros b pluses (Some' c minuses)) e f o =
+    split_both Leaf more p (nodes zeros) (nodes pluses) f.1 (tree_is w Leaf Ok g more (p ++ Zero ∷ []) zeros (next_choice w.choices more p Zero e) f.2 k.0) (tree_is w Leaf Ok g more (p ++ Plus ∷ []) pluses (next_choice w.choices more p Plus e) f.3 k.1)
+tree_is w Leaf Ok g (suc more) p (Split' a zeros b pluses (Some' c minuses)) e f o =
     let h = g.three in
     let k = h p (plan zeros) (plan pluses) (plan minuses) o in
-    split_three Leaf more p (nodes zeros) (nodes pluses) (nodes minuses) f.1 (tree_is net Leaf Ok g more (p ++ Zero ∷ []) zeros (next_choice (length net.names) more p Zero e) f.2 k.0)
-    (tree_is net Leaf Ok g more (p ++ Plus ∷ []) pluses (next_choice (length net.names) more p Plus e) f.3 k.1.0) (tree_is net Leaf Ok g more (p ++ Minus ∷ []) minuses (next_choice (length net.names) more p Minus e) f.4 k.1.1)
-tree_is net Leaf Ok g more p (CutA u) e f o = let h = g.cut_a in one_leaf Leaf more p (one_word (codes "cuta") u.list) (h p u.list f o)
-tree_is net Leaf Ok g more p (CutB u) e f o = let h = g.cut_b in one_leaf Leaf more p (one_word (codes "cutb") u.list) (h p u.list f o)
-tree_is net Leaf Ok g more p Flat e f o = let h = g.flat in one_leaf Leaf more p (one_word (codes "flat") []) (h p o)
+    split_three Leaf more p (nodes zeros) (nodes pluses) (nodes minuses) f.1 (tree_is w Leaf Ok g more (p ++ Zero ∷ []) zeros (next_choice w.choices more p Zero e) f.2 k.0)
+    (tree_is w Leaf Ok g more (p ++ Plus ∷ []) pluses (next_choice w.choices more p Plus e) f.3 k.1.0) (tree_is w Leaf Ok g more (p ++ Minus ∷ []) minuses (next_choice w.choices more p Minus e) f.4 k.1.1)
+tree_is w Leaf Ok g more p (CutA u) e f o = let h = g.cut_a in one_leaf Leaf more p (one_word (codes "cuta") u.list) (h p u.list f o)
+tree_is w Leaf Ok g more p (CutB u) e f o = let h = g.cut_b in one_leaf Leaf more p (one_word (codes "cutb") u.list) (h p u.list f o)
+tree_is w Leaf Ok g more p Flat e f o = let h = g.flat in one_leaf Leaf more p (one_word (codes "flat") []) (h p o)
 
-abbrev pub Leaf : Net → Signed → List Sign → Record → Type 0
-Leaf net w p r = IsOneOf (leaf_forms (problem_over net w)) r
+abbrev pub Leaf : Problem → List Sign → Record → Type 0
+Leaf w p r = IsOneOf (leaf_forms w) r
 
-flat_fits : (net : Net) (w : Signed) → IsOneOf (leaf_forms (problem_over net w)) (one_word (codes "flat") [])
-flat_fits net w = (record_form (codes "flat") [], inl refl, (refl, refl))
+flat_fits : (w : Problem) → IsOneOf (leaf_forms w) (one_word (codes "flat") [])
+flat_fits w = (record_form (codes "flat") [], inl refl, (refl, refl))
 
-cut_a_fits : (net : Net) (w : Signed) (u : List ℤ) → AreFree (length net.names) u → IsOneOf (leaf_forms (problem_over net w)) (one_word (codes "cuta") u)
-cut_a_fits net w u f = (free_form (codes "cuta") (length net.names), inr (inl refl), free_fits (codes "cuta") (length net.names) u f)
+cut_a_fits : (w : Problem) (u : List ℤ) → AreFree w.count_a u → IsOneOf (leaf_forms w) (one_word (codes "cuta") u)
+cut_a_fits w u f = (free_form (codes "cuta") w.count_a, inr (inl refl), free_fits (codes "cuta") w.count_a u f)
 
-cut_b_fits : (net : Net) (w : Signed) (u : List ℤ) → AreFree (length net.names) u → IsOneOf (leaf_forms (problem_over net w)) (one_word (codes "cutb") u)
-cut_b_fits net w u f = (free_form (codes "cutb") (length net.names), inr (inr (inl refl)), free_fits (codes "cutb") (length net.names) u f)
+cut_b_fits : (w : Problem) (u : List ℤ) → AreFree w.count_b u → IsOneOf (leaf_forms w) (one_word (codes "cutb") u)
+cut_b_fits w u f = (free_form (codes "cutb") w.count_b, inr (inr (inl refl)), free_fits (codes "cutb") w.count_b u f)
 
-leaves_formed : (net : Net) (w : Signed) → LeavesGive net (Leaf net w) (λ p t. Unit {0})
-leaves_formed net w = record {
-  flat = λ p o. flat_fits net w;
-  cut_a = λ p u f o. cut_a_fits net w u f;
-  cut_b = λ p u f o. cut_b_fits net w u f;
+leaves_formed : (w : Problem) → LeavesGive w (Leaf w) (λ p t. Unit {0})
+leaves_formed w = record {
+  flat = λ p o. flat_fits w;
+  cut_a = λ p u f o. cut_a_fits w u f;
+  cut_b = λ p u f o. cut_b_fits w u f;
   both = λ p z q o. (tt, tt);
   three = λ p z q m o. (tt, (tt, tt));
 }
 
-leaves_valid : (net : Net) (w : Signed) → LeavesGive net (IsGoodLeaf (problem_over net w)) (IsValid w)
-leaves_valid net w = record {
-  flat = λ p o. (flat_fits net w, o);
-  cut_a = λ p u f o. (cut_a_fits net w u f, o);
-  cut_b = λ p u f o. (cut_b_fits net w u f, o);
-  both = λ p z q o. (o.2, o.3);
-  three = λ p z q m o. (o.2, (o.3, o.4));
+-- each leaf of a tree is true at its prefix
+abbrev pub HaveTrueLeaves : Problem → List Sign → Plan → Type 0
+HaveTrueLeaves w p (Both z q) = HaveTrueLeaves w (p ++ Zero ∷ []) z × HaveTrueLeaves w (p ++ Plus ∷ []) q
+HaveTrueLeaves w p (Three z q m) = HaveTrueLeaves w (p ++ Zero ∷ []) z × (HaveTrueLeaves w (p ++ Plus ∷ []) q × HaveTrueLeaves w (p ++ Minus ∷ []) m)
+HaveTrueLeaves w p (RulesA u) = w.RulesOutA p u
+HaveTrueLeaves w p (RulesB u) = w.RulesOutB p u
+HaveTrueLeaves w p Level = w.IsClosed p
+
+leaves_valid : (w : Problem) → LeavesGive w (IsGoodLeaf w) (HaveTrueLeaves w)
+leaves_valid w = record {
+  flat = λ p o. (flat_fits w, o);
+  cut_a = λ p u f o. (cut_a_fits w u f, o);
+  cut_b = λ p u f o. (cut_b_fits w u f, o);
+  both = λ p z q o. o;
+  three = λ p z q m o. o;
 }
 
 -- the records of a formed tree are formed
-pub tree_formed : (net : Net) (w : Signed) (more : ℕ) (p : List Sign) (tree : Tree) → more + length p ≡ length net.names → FormedAt net p (plan tree) → IsTree (Leaf net w) more p (nodes tree)
-tree_formed net w more p tree e f = tree_is net (Leaf net w) (λ p t. Unit {0}) (leaves_formed net w) more p tree e f tt
+pub tree_formed : (w : Problem) (more : ℕ) (p : List Sign) (tree : Tree) → more + length p ≡ w.choices → FormedAt w p (plan tree) → IsTree (Leaf w) more p (nodes tree)
+tree_formed w more p tree e f = tree_is w (Leaf w) (λ p t. Unit {0}) (leaves_formed w) more p tree e f tt
 
--- those of a valid one are valid
-pub tree_good : (net : Net) (w : Signed) (more : ℕ) (p : List Sign) (tree : Tree) → more + length p ≡ length net.names → FormedAt net p (plan tree) → IsValid w p (plan tree) → IsTree (IsGoodLeaf (problem_over net w)) more p (nodes tree)
-tree_good net w more p tree e f v = tree_is net (IsGoodLeaf (problem_over net w)) (IsValid w) (leaves_valid net w) more p tree e f v
+-- those of one with true leaves are valid
+pub tree_good : (w : Problem) (more : ℕ) (p : List Sign) (tree : Tree) → more + length p ≡ w.choices → FormedAt w p (plan tree) → HaveTrueLeaves w p (plan tree) → IsTree (IsGoodLeaf w) more p (nodes tree)
+tree_good w more p tree e f v = tree_is w (IsGoodLeaf w) (HaveTrueLeaves w) (leaves_valid w) more p tree e f v
 
--- ---- a tree of valid records is valid
+-- ---- a tree of valid records has true leaves
 
 first_same : (x y : Record) (xs ys : List Record) → x ∷ xs ≡ y ∷ ys → (x ≡ y) × (xs ≡ ys)
 first_same x y xs ys e = (cc, cc)
 
 -- the one record is a leaf
-leaf_back : (net : Net) (w : Signed) (more : ℕ) (p : List Sign) (r : Record) → (r ≡ split_record → ⊥) → IsTree (IsGoodLeaf (problem_over net w)) more p (r ∷ []) → IsGoodLeaf (problem_over net w) p r
+leaf_back : (w : Problem) (more : ℕ) (p : List Sign) (r : Record) → (r ≡ split_record → ⊥) → IsTree (IsGoodLeaf w) more p (r ∷ []) → IsGoodLeaf w p r
 unfolding IsTree
-leaf_back net w zero p r other t = subst (IsGoodLeaf (problem_over net w) p) (sym (first_same r t.0 [] [] t.1).0) t.2
-leaf_back net w (suc more) p r other (inl t) = subst (IsGoodLeaf (problem_over net w) p) (sym (first_same r t.0 [] [] t.1).0) t.2
-leaf_back net w (suc more) p r other (inr t) = absurd (other (first_same r split_record [] (t.0 ++ (t.1 ++ t.2)) t.3).0)
+leaf_back w zero p r other t = subst (IsGoodLeaf w p) (sym (first_same r t.0 [] [] t.1).0) t.2
+leaf_back w (suc more) p r other (inl t) = subst (IsGoodLeaf w p) (sym (first_same r t.0 [] [] t.1).0) t.2
+leaf_back w (suc more) p r other (inr t) = absurd (other (first_same r split_record [] (t.0 ++ (t.1 ++ t.2)) t.3).0)
 
 -- what is below a split
 abbrev Below : (List Sign → Record → Type 0) → ℕ → List Sign → List Record → Type 0
 Below Leaf more p rest = (zeros : List Record) × (pluses : List Record) × (minuses : List Record) × (rest ≡ zeros ++ (pluses ++ minuses)) × IsTree Leaf more (p ++ Zero ∷ []) zeros × IsTree Leaf more (p ++ Plus ∷ []) pluses
     × (((is_all_zero p ≡ true) × (minuses ≡ [])) ⊎ ((is_all_zero p ≡ false) × IsTree Leaf more (p ++ Minus ∷ []) minuses))
 
-split_back : (net : Net) (w : Signed) (Fine : List Sign → Record → Type 0) → ((p : List Sign) (r : Record) → Fine p r → Leaf net w p r) → (more : ℕ) (p : List Sign) (rest : List Record) → IsTree Fine (suc more) p (split_record ∷ rest) → Below Fine more p rest
+split_back : (w : Problem) (Fine : List Sign → Record → Type 0) → ((p : List Sign) (r : Record) → Fine p r → Leaf w p r) → (more : ℕ) (p : List Sign) (rest : List Record) → IsTree Fine (suc more) p (split_record ∷ rest) → Below Fine more p rest
 unfolding IsTree
-split_back net w Fine leaf more p rest (inl t) = absurd (leaf_no_split (problem_over net w) t.0 (leaf p t.0 t.2) (sym (first_same split_record t.0 rest [] t.1).0))
-split_back net w Fine leaf more p rest (inr t) = (t.0, t.1, t.2, (first_same split_record split_record rest (t.0 ++ (t.1 ++ t.2)) t.3).1, t.4, t.5, t.6)
+split_back w Fine leaf more p rest (inl t) = absurd (leaf_no_split w t.0 (leaf p t.0 t.2) (sym (first_same split_record t.0 rest [] t.1).0))
+split_back w Fine leaf more p rest (inr t) = (t.0, t.1, t.2, (first_same split_record split_record rest (t.0 ++ (t.1 ++ t.2)) t.3).1, t.4, t.5, t.6)
 
-abbrev Good : Net → Signed → List Sign → Record → Type 0
-Good net w p r = IsGoodLeaf (problem_over net w) p r
+abbrev Good : Problem → List Sign → Record → Type 0
+Good w p r = IsGoodLeaf w p r
 
-formed_of : (net : Net) (w : Signed) (more : ℕ) (p : List Sign) (rs : List Record) → IsTree (Good net w) more p rs → IsTree (Leaf net w) more p rs
-formed_of net w more p rs t = valid_tree_is_formed (problem_over net w) more p rs t
+formed_of : (w : Problem) (more : ℕ) (p : List Sign) (rs : List Record) → IsTree (Good w) more p rs → IsTree (Leaf w) more p rs
+formed_of w more p rs t = valid_tree_is_formed w more p rs t
 
 -- two lists of records below a split are of the same trees
-pub same_below : (net : Net) (w : Signed) (more : ℕ) (p : List Sign) (z q m z2 q2 m2 : List Record) → IsTree (Leaf net w) more (p ++ Zero ∷ []) z → IsTree (Leaf net w) more (p ++ Zero ∷ []) z2 → IsTree (Leaf net w) more (p ++ Plus ∷ []) q → IsTree (Leaf net w) more (p ++ Plus ∷ []) q2
+pub same_below : (w : Problem) (more : ℕ) (p : List Sign) (z q m z2 q2 m2 : List Record) → IsTree (Leaf w) more (p ++ Zero ∷ []) z → IsTree (Leaf w) more (p ++ Zero ∷ []) z2 → IsTree (Leaf w) more (p ++ Plus ∷ []) q → IsTree (Leaf w) more (p ++ Plus ∷ []) q2
     → z ++ (q ++ m) ≡ z2 ++ (q2 ++ m2) → (z ≡ z2) × ((q ≡ q2) × (m ≡ m2))
-same_below net w more p z q m z2 q2 m2 a b c d e =
-    let one = tree_apart (problem_over net w) more (p ++ Zero ∷ []) z z2 (q ++ m) (q2 ++ m2) a b e in
-    let two = tree_apart (problem_over net w) more (p ++ Plus ∷ []) q q2 m m2 c d one.1 in
+same_below w more p z q m z2 q2 m2 a b c d e =
+    let one = tree_apart w more (p ++ Zero ∷ []) z z2 (q ++ m) (q2 ++ m2) a b e in
+    let two = tree_apart w more (p ++ Plus ∷ []) q q2 m m2 c d one.1 in
     (one.0, (two.0, two.1))
 
 no_split : (word : List ℕ) (u : List ℤ) → (word ≡ codes "split" → ⊥) → one_word word u ≡ split_record → ⊥
@@ -168,36 +178,34 @@ cut_b_no_split e = let h : 99 ≡ 115 = ap (λ (t : List ℕ). slice_index t 0) 
 flat_no_split : codes "flat" ≡ codes "split" → ⊥
 flat_no_split e = let h : 102 ≡ 115 = ap (λ (t : List ℕ). slice_index t 0) e in omega (arith, h)
 
-pub tree_valid : (net : Net) (w : Signed) (more : ℕ) (p : List Sign) (tree : Tree) → w.choices ≡ length net.names → more + length p ≡ length net.names → FormedAt net p (plan tree) → IsTree (Good net w) more p (nodes tree) → IsValid w p (plan tree)
-tree_valid net w zero p (Split' a zeros b pluses None') n e f t = absurd (none_left (length net.names) p e f.0)
-tree_valid net w zero p (Split' a zeros b pluses (Some' c minuses)) n e f t = absurd (none_left (length net.names) p e f.0)
-tree_valid net w (suc more) p (Split' a zeros b pluses None') n e f t =
-    let k = split_back net w (Good net w) (λ p r g. g.0) more p ((nodes zeros ++ nodes pluses) ++ []) t in
-    let ez = next_choice (length net.names) more p Zero e in
-    let eq = next_choice (length net.names) more p Plus e in
-    let s = same_below net w more p (nodes zeros) (nodes pluses) [] k.0 k.1 k.2 (tree_formed net w more (p ++ Zero ∷ []) zeros ez f.2) (formed_of net w more (p ++ Zero ∷ []) k.0 k.4) (tree_formed net w more (p ++ Plus ∷ []) pluses eq f.3) (formed_of net w more (p ++ Plus ∷ []) k.1 k.5)
+pub tree_true : (w : Problem) (more : ℕ) (p : List Sign) (tree : Tree) → more + length p ≡ w.choices → FormedAt w p (plan tree) → IsTree (Good w) more p (nodes tree) → HaveTrueLeaves w p (plan tree)
+tree_true w zero p (Split' a zeros b pluses None') e f t = absurd (none_left w.choices p e f.0)
+tree_true w zero p (Split' a zeros b pluses (Some' c minuses)) e f t = absurd (none_left w.choices p e f.0)
+tree_true w (suc more) p (Split' a zeros b pluses None') e f t =
+    let k = split_back w (Good w) (λ p r g. g.0) more p ((nodes zeros ++ nodes pluses) ++ []) t in
+    let ez = next_choice w.choices more p Zero e in
+    let eq = next_choice w.choices more p Plus e in
+    let s = same_below w more p (nodes zeros) (nodes pluses) [] k.0 k.1 k.2 (tree_formed w more (p ++ Zero ∷ []) zeros ez f.2) (formed_of w more (p ++ Zero ∷ []) k.0 k.4) (tree_formed w more (p ++ Plus ∷ []) pluses eq f.3) (formed_of w more (p ++ Plus ∷ []) k.1 k.5)
     (sym (append_assoc (nodes zeros) (nodes pluses) []) ∙ k.3) in (
-      omega (arith, n, f.0),
-      f.1,
-      tree_valid net w more (p ++ Zero ∷ []) zeros n ez f.2 (subst (IsTree (Good net w) more (p ++ Zero ∷ [])) (sym s.0) k.4),
-      tree_valid net w more (p ++ Plus ∷ []) pluses n eq f.3 (subst (IsTree (Good net w) more (p ++ Plus ∷ [])) (sym s.1.0) k.5),
+      tree_true w more (p ++ Zero ∷ []) zeros ez f.2 (subst (IsTree (Good w) more (p ++ Zero ∷ [])) (sym s.0) k.4),
+      tree_true w more (p ++ Plus ∷ []) pluses eq f.3 (subst (IsTree (Good w) more (p ++ Plus ∷ [])) (sym s.1.0) k.5),
     )
-tree_valid net w (suc more) p (Split' a zeros b pluses (Some' c minuses)) n e f t =
-    let k = split_back net w (Good net w) (λ p r g. g.0) more p ((nodes zeros ++ nodes pluses) ++ nodes minuses) t in
-    let ez = next_choice (length net.names) more p Zero e in
-    let eq = next_choice (length net.names) more p Plus e in
-    let s = same_below net w more p (nodes zeros) (nodes pluses) (nodes minuses) k.0 k.1 k.2 (tree_formed net w more (p ++ Zero ∷ []) zeros ez f.2) (formed_of net w more (p ++ Zero ∷ []) k.0 k.4) (tree_formed net w more (p ++ Plus ∷ []) pluses eq f.3) (formed_of net w more (p ++ Plus ∷ []) k.1 k.5)
+tree_true w (suc more) p (Split' a zeros b pluses (Some' c minuses)) e f t =
+    let k = split_back w (Good w) (λ p r g. g.0) more p ((nodes zeros ++ nodes pluses) ++ nodes minuses) t in
+    let ez = next_choice w.choices more p Zero e in
+    let eq = next_choice w.choices more p Plus e in
+    let s = same_below w more p (nodes zeros) (nodes pluses) (nodes minuses) k.0 k.1 k.2 (tree_formed w more (p ++ Zero ∷ []) zeros ez f.2) (formed_of w more (p ++ Zero ∷ []) k.0 k.4) (tree_formed w more (p ++ Plus ∷ []) pluses eq f.3) (formed_of w more (p ++ Plus ∷ []) k.1 k.5)
     (sym (append_assoc (nodes zeros) (nodes pluses) (nodes minuses)) ∙ k.3) in
-    let last : IsTree (Good net w) more (p ++ Minus ∷ []) k.2 = elim k.6 [ inl z ↦ absurd (let h : true ≡ false = sym z.0 ∙ zeros_are p ∙ f.1 in cc) | inr m ↦ m.1 ] in (
-      omega (arith, n, f.0),
-      f.1,
-      tree_valid net w more (p ++ Zero ∷ []) zeros n ez f.2 (subst (IsTree (Good net w) more (p ++ Zero ∷ [])) (sym s.0) k.4),
-      tree_valid net w more (p ++ Plus ∷ []) pluses n eq f.3 (subst (IsTree (Good net w) more (p ++ Plus ∷ [])) (sym s.1.0) k.5),
-      tree_valid net w more (p ++ Minus ∷ []) minuses n (next_choice (length net.names) more p Minus e) f.4 (subst (IsTree (Good net w) more (p ++ Minus ∷ [])) (sym s.1.1) last),
+    let last : IsTree (Good w) more (p ++ Minus ∷ []) k.2 = elim k.6 [ inl z ↦ absurd (let h : true ≡ false = sym z.0 ∙ zeros_are p ∙ f.1 in cc) | inr m ↦ m.1 ] in (
+      tree_true w more (p ++ Zero ∷ []) zeros ez f.2 (subst (IsTree (Good w) more (p ++ Zero ∷ [])) (sym s.0) k.4),
+      (
+        tree_true w more (p ++ Plus ∷ []) pluses eq f.3 (subst (IsTree (Good w) more (p ++ Plus ∷ [])) (sym s.1.0) k.5),
+        tree_true w more (p ++ Minus ∷ []) minuses (next_choice w.choices more p Minus e) f.4 (subst (IsTree (Good w) more (p ++ Minus ∷ [])) (sym s.1.1) last),
+      ),
     )
-tree_valid net w more p (CutA u) n e f t = (leaf_back net w more p (one_word (codes "cuta") u.list) (no_split (codes "cuta") u.list cut_a_no_split) t).1
-tree_valid net w more p (CutB u) n e f t = (leaf_back net w more p (one_word (codes "cutb") u.list) (no_split (codes "cutb") u.list cut_b_no_split) t).1
-tree_valid net w more p Flat n e f t = (leaf_back net w more p (one_word (codes "flat") []) (no_split (codes "flat") [] flat_no_split) t).1
+tree_true w more p (CutA u) e f t = (leaf_back w more p (one_word (codes "cuta") u.list) (no_split (codes "cuta") u.list cut_a_no_split) t).1
+tree_true w more p (CutB u) e f t = (leaf_back w more p (one_word (codes "cutb") u.list) (no_split (codes "cutb") u.list cut_b_no_split) t).1
+tree_true w more p Flat e f t = (leaf_back w more p (one_word (codes "flat") []) (no_split (codes "flat") [] flat_no_split) t).1
 
 -- ---- a tree of formed records
 
@@ -209,43 +217,43 @@ kept : List ℤ → KeptInts
 kept u = record { list = u; spare = 0 }
 
 -- the records are those of a formed tree
-abbrev pub IsTreeOf : Net → List Sign → List Record → Type 0
-IsTreeOf net p rs = (tree : Tree) × (rs ≡ nodes tree) × FormedAt net p (plan tree)
+abbrev pub IsTreeOf : Problem → List Sign → List Record → Type 0
+IsTreeOf w p rs = (tree : Tree) × (rs ≡ nodes tree) × FormedAt w p (plan tree)
 
-leaf_of : (net : Net) (w : Signed) (p : List Sign) (rs : List Record) (r : Record) → rs ≡ r ∷ [] → Leaf net w p r → IsTreeOf net p rs
+leaf_of : (w : Problem) (p : List Sign) (rs : List Record) (r : Record) → rs ≡ r ∷ [] → Leaf w p r → IsTreeOf w p rs
 unfolding kept
-leaf_of net w p rs r e (form, inl i, f) =
+leaf_of w p rs r e (form, inl i, f) =
     let g : Fits (record_form (codes "flat") []) r = subst (λ (x : Form). Fits x r) i f in
     (Flat, e ∙ ap (λ (x : Record). x ∷ []) (record_is r (codes "flat" ∷ []) [] g.0 g.1), tt)
-leaf_of net w p rs r e (form, inr (inl i), f) =
-    let g = free_row (codes "cuta") (length net.names) r (subst (λ (x : Form). Fits x r) i f) in
+leaf_of w p rs r e (form, inr (inl i), f) =
+    let g = free_row (codes "cuta") w.count_a r (subst (λ (x : Form). Fits x r) i f) in
     (CutA (kept r.numbers), e ∙ ap (λ (x : Record). x ∷ []) g.0, g.1)
-leaf_of net w p rs r e (form, inr (inr (inl i)), f) =
-    let g = free_row (codes "cutb") (length net.names) r (subst (λ (x : Form). Fits x r) i f) in
+leaf_of w p rs r e (form, inr (inr (inl i)), f) =
+    let g = free_row (codes "cutb") w.count_b r (subst (λ (x : Form). Fits x r) i f) in
     (CutB (kept r.numbers), e ∙ ap (λ (x : Record). x ∷ []) g.0, g.1)
-leaf_of net w p rs r e (form, inr (inr (inr none)), f) = absurd none
+leaf_of w p rs r e (form, inr (inr (inr none)), f) = absurd none
 
 -- the last child of a split
-abbrev IsLastOf : Net → List Sign → List Record → Type 0
-IsLastOf net p ms = ((is_all_zero p ≡ true) × (ms ≡ [])) ⊎ ((is_all_zero p ≡ false) × IsTreeOf net (p ++ Minus ∷ []) ms)
+abbrev IsLastOf : Problem → List Sign → List Record → Type 0
+IsLastOf w p ms = ((is_all_zero p ≡ true) × (ms ≡ [])) ⊎ ((is_all_zero p ≡ false) × IsTreeOf w (p ++ Minus ∷ []) ms)
 
-split_of : Global → (net : Net) (p : List Sign) (rs zs qs ms : List Record) → length p < length net.names → rs ≡ split_record ∷ (zs ++ (qs ++ ms)) → IsTreeOf net (p ++ Zero ∷ []) zs → IsTreeOf net (p ++ Plus ∷ []) qs → IsLastOf net p ms → IsTreeOf net p rs
-split_of alloc net p rs zs qs ms room e zeros pluses last = by last
+split_of : Global → (w : Problem) (p : List Sign) (rs zs qs ms : List Record) → length p < w.choices → rs ≡ split_record ∷ (zs ++ (qs ++ ms)) → IsTreeOf w (p ++ Zero ∷ []) zs → IsTreeOf w (p ++ Plus ∷ []) qs → IsLastOf w p ms → IsTreeOf w p rs
+split_of alloc w p rs zs qs ms room e zeros pluses last = by last
   where
     all : (last : List Record) → ms ≡ last → rs ≡ split_record ∷ ((nodes zeros.0 ++ nodes pluses.0) ++ last)
     all last m = e ∙ ap (λ (x : List Record). split_record ∷ x) (ap₂ (λ (x y : List Record). x ++ y) zeros.1 (ap₂ (λ (x y : List Record). x ++ y) pluses.1 m) ∙ sym (append_assoc (nodes zeros.0) (nodes pluses.0) last))
 
-    by : IsLastOf net p ms → IsTreeOf net p rs
+    by : IsLastOf w p ms → IsTreeOf w p rs
     by (inl z) = (Split' (place alloc) zeros.0 (place alloc) pluses.0 None', all [] z.1, (room, sym (zeros_are p) ∙ z.0, zeros.2, pluses.2))
     by (inr m) = (Split' (place alloc) zeros.0 (place alloc) pluses.0 (Some' (place alloc) m.1.0), all (nodes m.1.0) m.1.1, (room, sym (zeros_are p) ∙ m.0, zeros.2, pluses.2, m.1.2))
 
-pub tree_of : Global → (net : Net) (w : Signed) (more : ℕ) (p : List Sign) (rs : List Record) → more + length p ≡ length net.names → IsTree (Leaf net w) more p rs → IsTreeOf net p rs
+pub tree_of : Global → (w : Problem) (more : ℕ) (p : List Sign) (rs : List Record) → more + length p ≡ w.choices → IsTree (Leaf w) more p rs → IsTreeOf w p rs
 unfolding IsTree
-tree_of alloc net w zero p rs e t = leaf_of net w p rs t.0 t.1 t.2
-tree_of alloc net w (suc more) p rs e (inl t) = leaf_of net w p rs t.0 t.1 t.2
-tree_of alloc net w (suc more) p rs e (inr t) =
-    split_of alloc net p rs t.0 t.1 t.2 (omega (arith, e)) t.3 (tree_of alloc net w more (p ++ Zero ∷ []) t.0 (next_choice (length net.names) more p Zero e) t.4) (tree_of alloc net w more (p ++ Plus ∷ []) t.1 (next_choice (length net.names) more p Plus e) t.5)
-    (elim t.6 [ inl z ↦ inl z | inr m ↦ inr (m.0, tree_of alloc net w more (p ++ Minus ∷ []) t.2 (next_choice (length net.names) more p Minus e) m.1) ])
+tree_of alloc w zero p rs e t = leaf_of w p rs t.0 t.1 t.2
+tree_of alloc w (suc more) p rs e (inl t) = leaf_of w p rs t.0 t.1 t.2
+tree_of alloc w (suc more) p rs e (inr t) =
+    split_of alloc w p rs t.0 t.1 t.2 (omega (arith, e)) t.3 (tree_of alloc w more (p ++ Zero ∷ []) t.0 (next_choice w.choices more p Zero e) t.4) (tree_of alloc w more (p ++ Plus ∷ []) t.1 (next_choice w.choices more p Plus e) t.5)
+    (elim t.6 [ inl z ↦ inl z | inr m ↦ inr (m.0, tree_of alloc w more (p ++ Minus ∷ []) t.2 (next_choice w.choices more p Minus e) m.1) ])
 
 -- ---- trees with the same records
 
@@ -261,38 +269,87 @@ words_apart v w a b rs ss i less same =
     let h : slice_index v i ≡ slice_index w i = ap (λ (ws : List (List ℕ)). slice_index (slice_index_or ws 0 []) i) (same_words (one_word v a) (one_word w b) rs ss same) in
     omega (arith, h, less)
 
-pub plans_one : (net : Net) (w : Signed) (more : ℕ) (p : List Sign) (tree other : Tree) → more + length p ≡ length net.names → FormedAt net p (plan tree) → FormedAt net p (plan other) → nodes tree ≡ nodes other → plan tree ≡ plan other
-plans_one net w zero p (Split' a zeros b pluses None') other e f g same = absurd (none_left (length net.names) p e f.0)
-plans_one net w zero p (Split' a zeros b pluses (Some' c minuses)) other e f g same = absurd (none_left (length net.names) p e f.0)
-plans_one net w (suc more) p (Split' a zeros b pluses None') (Split' a2 zeros2 b2 pluses2 None') e f g same =
-    let ez = next_choice (length net.names) more p Zero e in
-    let eq = next_choice (length net.names) more p Plus e in
+pub plans_one : (w : Problem) (more : ℕ) (p : List Sign) (tree other : Tree) → more + length p ≡ w.choices → FormedAt w p (plan tree) → FormedAt w p (plan other) → nodes tree ≡ nodes other → plan tree ≡ plan other
+plans_one w zero p (Split' a zeros b pluses None') other e f g same = absurd (none_left w.choices p e f.0)
+plans_one w zero p (Split' a zeros b pluses (Some' c minuses)) other e f g same = absurd (none_left w.choices p e f.0)
+plans_one w (suc more) p (Split' a zeros b pluses None') (Split' a2 zeros2 b2 pluses2 None') e f g same =
+    let ez = next_choice w.choices more p Zero e in
+    let eq = next_choice w.choices more p Plus e in
     let below = (first_same split_record split_record ((nodes zeros ++ nodes pluses) ++ []) ((nodes zeros2 ++ nodes pluses2) ++ []) same).1 in
-    let s = same_below net w more p (nodes zeros) (nodes pluses) [] (nodes zeros2) (nodes pluses2) [] (tree_formed net w more (p ++ Zero ∷ []) zeros ez f.2) (tree_formed net w more (p ++ Zero ∷ []) zeros2 ez g.2) (tree_formed net w more (p ++ Plus ∷ []) pluses eq f.3) (tree_formed net w more (p ++ Plus ∷ []) pluses2 eq g.3)
+    let s = same_below w more p (nodes zeros) (nodes pluses) [] (nodes zeros2) (nodes pluses2) [] (tree_formed w more (p ++ Zero ∷ []) zeros ez f.2) (tree_formed w more (p ++ Zero ∷ []) zeros2 ez g.2) (tree_formed w more (p ++ Plus ∷ []) pluses eq f.3) (tree_formed w more (p ++ Plus ∷ []) pluses2 eq g.3)
     (sym (append_assoc (nodes zeros) (nodes pluses) []) ∙ below ∙ append_assoc (nodes zeros2) (nodes pluses2) []) in
-    ap₂ (λ (x y : Plan). Both x y) (plans_one net w more (p ++ Zero ∷ []) zeros zeros2 ez f.2 g.2 s.0) (plans_one net w more (p ++ Plus ∷ []) pluses pluses2 eq f.3 g.3 s.1.0)
-plans_one net w (suc more) p (Split' a zeros b pluses (Some' c minuses)) (Split' a2 zeros2 b2 pluses2 (Some' c2 minuses2)) e f g same =
-    let ez = next_choice (length net.names) more p Zero e in
-    let eq = next_choice (length net.names) more p Plus e in
-    let em = next_choice (length net.names) more p Minus e in
+    ap₂ (λ (x y : Plan). Both x y) (plans_one w more (p ++ Zero ∷ []) zeros zeros2 ez f.2 g.2 s.0) (plans_one w more (p ++ Plus ∷ []) pluses pluses2 eq f.3 g.3 s.1.0)
+plans_one w (suc more) p (Split' a zeros b pluses (Some' c minuses)) (Split' a2 zeros2 b2 pluses2 (Some' c2 minuses2)) e f g same =
+    let ez = next_choice w.choices more p Zero e in
+    let eq = next_choice w.choices more p Plus e in
+    let em = next_choice w.choices more p Minus e in
     let below = (first_same split_record split_record ((nodes zeros ++ nodes pluses) ++ nodes minuses) ((nodes zeros2 ++ nodes pluses2) ++ nodes minuses2) same).1 in
-    let s = same_below net w more p (nodes zeros) (nodes pluses) (nodes minuses) (nodes zeros2) (nodes pluses2) (nodes minuses2) (tree_formed net w more (p ++ Zero ∷ []) zeros ez f.2) (tree_formed net w more (p ++ Zero ∷ []) zeros2 ez g.2) (tree_formed net w more (p ++ Plus ∷ []) pluses eq f.3) (tree_formed net w more (p ++ Plus ∷ []) pluses2 eq g.3)
+    let s = same_below w more p (nodes zeros) (nodes pluses) (nodes minuses) (nodes zeros2) (nodes pluses2) (nodes minuses2) (tree_formed w more (p ++ Zero ∷ []) zeros ez f.2) (tree_formed w more (p ++ Zero ∷ []) zeros2 ez g.2) (tree_formed w more (p ++ Plus ∷ []) pluses eq f.3) (tree_formed w more (p ++ Plus ∷ []) pluses2 eq g.3)
     (sym (append_assoc (nodes zeros) (nodes pluses) (nodes minuses)) ∙ below ∙ append_assoc (nodes zeros2) (nodes pluses2) (nodes minuses2)) in
-    ap₂ (λ (x : Plan × Plan) (y : Plan). Three x.0 x.1 y) (ap₂ (λ (x y : Plan). (x, y)) (plans_one net w more (p ++ Zero ∷ []) zeros zeros2 ez f.2 g.2 s.0) (plans_one net w more (p ++ Plus ∷ []) pluses pluses2 eq f.3 g.3 s.1.0)) (plans_one net w more (p ++ Minus ∷ []) minuses minuses2 em f.4 g.4 s.1.1)
-plans_one net w more p (Split' a zeros b pluses None') (Split' a2 zeros2 b2 pluses2 (Some' c2 minuses2)) e f g same = absurd (let h : true ≡ false = sym f.1 ∙ g.1 in cc)
-plans_one net w more p (Split' a zeros b pluses (Some' c minuses)) (Split' a2 zeros2 b2 pluses2 None') e f g same = absurd (let h : true ≡ false = sym g.1 ∙ f.1 in cc)
-plans_one net w more p (Split' a zeros b pluses held) (CutA v) e f g same = absurd (words_apart (codes "cuta") (codes "split") v.list [] [] ((nodes zeros ++ nodes pluses) ++ nodes_behind held) 0 (omega arith) (sym same))
-plans_one net w more p (Split' a zeros b pluses held) (CutB v) e f g same = absurd (words_apart (codes "cutb") (codes "split") v.list [] [] ((nodes zeros ++ nodes pluses) ++ nodes_behind held) 0 (omega arith) (sym same))
-plans_one net w more p (Split' a zeros b pluses held) Flat e f g same = absurd (words_apart (codes "flat") (codes "split") [] [] [] ((nodes zeros ++ nodes pluses) ++ nodes_behind held) 0 (omega arith) (sym same))
-plans_one net w more p (CutA u) (Split' a zeros b pluses held) e f g same = absurd (words_apart (codes "cuta") (codes "split") u.list [] [] ((nodes zeros ++ nodes pluses) ++ nodes_behind held) 0 (omega arith) same)
-plans_one net w more p (CutA u) (CutA v) e f g same = ap RulesA (same_numbers (codes "cuta") u.list v.list [] [] same)
-plans_one net w more p (CutA u) (CutB v) e f g same = absurd (words_apart (codes "cuta") (codes "cutb") u.list v.list [] [] 3 (omega arith) same)
-plans_one net w more p (CutA u) Flat e f g same = absurd (words_apart (codes "cuta") (codes "flat") u.list [] [] [] 0 (omega arith) same)
-plans_one net w more p (CutB u) (Split' a zeros b pluses held) e f g same = absurd (words_apart (codes "cutb") (codes "split") u.list [] [] ((nodes zeros ++ nodes pluses) ++ nodes_behind held) 0 (omega arith) same)
-plans_one net w more p (CutB u) (CutA v) e f g same = absurd (words_apart (codes "cuta") (codes "cutb") v.list u.list [] [] 3 (omega arith) (sym same))
-plans_one net w more p (CutB u) (CutB v) e f g same = ap RulesB (same_numbers (codes "cutb") u.list v.list [] [] same)
-plans_one net w more p (CutB u) Flat e f g same = absurd (words_apart (codes "cutb") (codes "flat") u.list [] [] [] 0 (omega arith) same)
-plans_one net w more p Flat (Split' a zeros b pluses held) e f g same = absurd (words_apart (codes "flat") (codes "split") [] [] [] ((nodes zeros ++ nodes pluses) ++ nodes_behind held) 0 (omega arith) same)
-plans_one net w more p Flat (CutA v) e f g same = absurd (words_apart (codes "cuta") (codes "flat") v.list [] [] [] 0 (omega arith) (sym same))
-plans_one net w more p Flat (CutB v) e f g same = absurd (words_apart (codes "cutb") (codes "flat") v.list [] [] [] 0 (omega arith) (sym same))
-plans_one net w more p Flat Flat e f g same = refl
+    ap₂ (λ (x : Plan × Plan) (y : Plan). Three x.0 x.1 y) (ap₂ (λ (x y : Plan). (x, y)) (plans_one w more (p ++ Zero ∷ []) zeros zeros2 ez f.2 g.2 s.0) (plans_one w more (p ++ Plus ∷ []) pluses pluses2 eq f.3 g.3 s.1.0)) (plans_one w more (p ++ Minus ∷ []) minuses minuses2 em f.4 g.4 s.1.1)
+plans_one w more p (Split' a zeros b pluses None') (Split' a2 zeros2 b2 pluses2 (Some' c2 minuses2)) e f g same = absurd (let h : true ≡ false = sym f.1 ∙ g.1 in cc)
+plans_one w more p (Split' a zeros b pluses (Some' c minuses)) (Split' a2 zeros2 b2 pluses2 None') e f g same = absurd (let h : true ≡ false = sym g.1 ∙ f.1 in cc)
+plans_one w more p (Split' a zeros b pluses held) (CutA v) e f g same = absurd (words_apart (codes "cuta") (codes "split") v.list [] [] ((nodes zeros ++ nodes pluses) ++ nodes_behind held) 0 (omega arith) (sym same))
+plans_one w more p (Split' a zeros b pluses held) (CutB v) e f g same = absurd (words_apart (codes "cutb") (codes "split") v.list [] [] ((nodes zeros ++ nodes pluses) ++ nodes_behind held) 0 (omega arith) (sym same))
+plans_one w more p (Split' a zeros b pluses held) Flat e f g same = absurd (words_apart (codes "flat") (codes "split") [] [] [] ((nodes zeros ++ nodes pluses) ++ nodes_behind held) 0 (omega arith) (sym same))
+plans_one w more p (CutA u) (Split' a zeros b pluses held) e f g same = absurd (words_apart (codes "cuta") (codes "split") u.list [] [] ((nodes zeros ++ nodes pluses) ++ nodes_behind held) 0 (omega arith) same)
+plans_one w more p (CutA u) (CutA v) e f g same = ap RulesA (same_numbers (codes "cuta") u.list v.list [] [] same)
+plans_one w more p (CutA u) (CutB v) e f g same = absurd (words_apart (codes "cuta") (codes "cutb") u.list v.list [] [] 3 (omega arith) same)
+plans_one w more p (CutA u) Flat e f g same = absurd (words_apart (codes "cuta") (codes "flat") u.list [] [] [] 0 (omega arith) same)
+plans_one w more p (CutB u) (Split' a zeros b pluses held) e f g same = absurd (words_apart (codes "cutb") (codes "split") u.list [] [] ((nodes zeros ++ nodes pluses) ++ nodes_behind held) 0 (omega arith) same)
+plans_one w more p (CutB u) (CutA v) e f g same = absurd (words_apart (codes "cuta") (codes "cutb") v.list u.list [] [] 3 (omega arith) (sym same))
+plans_one w more p (CutB u) (CutB v) e f g same = ap RulesB (same_numbers (codes "cutb") u.list v.list [] [] same)
+plans_one w more p (CutB u) Flat e f g same = absurd (words_apart (codes "cutb") (codes "flat") u.list [] [] [] 0 (omega arith) same)
+plans_one w more p Flat (Split' a zeros b pluses held) e f g same = absurd (words_apart (codes "flat") (codes "split") [] [] [] ((nodes zeros ++ nodes pluses) ++ nodes_behind held) 0 (omega arith) same)
+plans_one w more p Flat (CutA v) e f g same = absurd (words_apart (codes "cuta") (codes "flat") v.list [] [] [] 0 (omega arith) (sym same))
+plans_one w more p Flat (CutB v) e f g same = absurd (words_apart (codes "cutb") (codes "flat") v.list [] [] [] 0 (omega arith) (sym same))
+plans_one w more p Flat Flat e f g same = refl
+
+-- ---- the tests of a tree
+
+-- what is tested of a leaf is what the problem requires of it
+pub record AreLeafTests (w : Problem) (Holds : List Sign → Said → Type 0) : Type 0 where
+  pub part_a : (p : List Sign) (u : List ℤ) → Holds p (CutsA u) ↔ w.RulesOutA p u
+  pub part_b : (p : List Sign) (u : List ℤ) → Holds p (CutsB u) ↔ w.RulesOutB p u
+  pub closed : (p : List Sign) → Holds p Flats ↔ w.IsClosed p
+
+-- if the tests of a tree hold, its leaves are true
+pub tests_true : (w : Problem) (Holds : List Sign → Said → Type 0) → AreLeafTests w Holds → (part : ℕ) (p : List Sign) (t : Plan) → AllHold (tree_tests Holds part p t) → HaveTrueLeaves w p t
+tests_true w Holds l part p (Both z q) h =
+    let s = hold_parts (tree_tests Holds (part + 1) (p ++ Zero ∷ []) z) (tree_tests Holds (part + 1 + node_count z) (p ++ Plus ∷ []) q) h.1 in
+    (tests_true w Holds l (part + 1) (p ++ Zero ∷ []) z s.0, tests_true w Holds l (part + 1 + node_count z) (p ++ Plus ∷ []) q s.1)
+tests_true w Holds l part p (Three z q m) h =
+    let last = part + 1 + node_count z + node_count q in
+    let s = hold_parts (tree_tests Holds (part + 1) (p ++ Zero ∷ []) z ++ tree_tests Holds (part + 1 + node_count z) (p ++ Plus ∷ []) q) (tree_tests Holds last (p ++ Minus ∷ []) m) h.1 in
+    let r = hold_parts (tree_tests Holds (part + 1) (p ++ Zero ∷ []) z) (tree_tests Holds (part + 1 + node_count z) (p ++ Plus ∷ []) q) s.0 in
+    (tests_true w Holds l (part + 1) (p ++ Zero ∷ []) z r.0, (tests_true w Holds l (part + 1 + node_count z) (p ++ Plus ∷ []) q r.1, tests_true w Holds l last (p ++ Minus ∷ []) m s.1))
+tests_true w Holds l part p (RulesA u) h = let f = l.part_a in (f p u).0 h.0
+tests_true w Holds l part p (RulesB u) h = let f = l.part_b in (f p u).0 h.0
+tests_true w Holds l part p Level h = let f = l.closed in (f p).0 h.0
+
+-- and conversely, if the test of a split holds at each prefix that is not full
+pub true_tests : (w : Problem) (Holds : List Sign → Said → Type 0) → AreLeafTests w Holds → ((p : List Sign) → length p < w.choices → Holds p Splits) → (part : ℕ) (p : List Sign) (t : Plan) → FormedAt w p t → HaveTrueLeaves w p t → AllHold (tree_tests Holds part p t)
+true_tests w Holds l splits part p (Both z q) f h = (
+  splits p f.0,
+  hold_append (tree_tests Holds (part + 1) (p ++ Zero ∷ []) z) (tree_tests Holds (part + 1 + node_count z) (p ++ Plus ∷ []) q)
+      (true_tests w Holds l splits (part + 1) (p ++ Zero ∷ []) z f.2 h.0) (true_tests w Holds l splits (part + 1 + node_count z) (p ++ Plus ∷ []) q f.3 h.1),
+)
+true_tests w Holds l splits part p (Three z q m) f h =
+    let last = part + 1 + node_count z + node_count q in (
+      splits p f.0,
+      hold_append (tree_tests Holds (part + 1) (p ++ Zero ∷ []) z ++ tree_tests Holds (part + 1 + node_count z) (p ++ Plus ∷ []) q) (tree_tests Holds last (p ++ Minus ∷ []) m)
+          (hold_append (tree_tests Holds (part + 1) (p ++ Zero ∷ []) z) (tree_tests Holds (part + 1 + node_count z) (p ++ Plus ∷ []) q)
+          (true_tests w Holds l splits (part + 1) (p ++ Zero ∷ []) z f.2 h.0) (true_tests w Holds l splits (part + 1 + node_count z) (p ++ Plus ∷ []) q f.3 h.1.0))
+          (true_tests w Holds l splits last (p ++ Minus ∷ []) m f.4 h.1.1),
+    )
+true_tests w Holds l splits part p (RulesA u) f h = (let g = l.part_a in (g p u).1 h, tt)
+true_tests w Holds l splits part p (RulesB u) f h = (let g = l.part_b in (g p u).1 h, tt)
+true_tests w Holds l splits part p Level f h = (let g = l.closed in (g p).1 h, tt)
+
+-- what each true leaf gives, a tree gives
+pub from_some_leaf : (X : Type 0) (w : Problem) → ((p : List Sign) (u : List ℤ) → w.RulesOutA p u → X) → ((p : List Sign) (u : List ℤ) → w.RulesOutB p u → X) → ((p : List Sign) → w.IsClosed p → X) → (p : List Sign) (t : Plan) → HaveTrueLeaves w p t → X
+from_some_leaf X w a b c p (Both z q) h = from_some_leaf X w a b c (p ++ Zero ∷ []) z h.0
+from_some_leaf X w a b c p (Three z q m) h = from_some_leaf X w a b c (p ++ Zero ∷ []) z h.0
+from_some_leaf X w a b c p (RulesA u) h = a p u h
+from_some_leaf X w a b c p (RulesB u) h = b p u h
+from_some_leaf X w a b c p Level h = c p h

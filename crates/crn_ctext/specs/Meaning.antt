@@ -2,7 +2,7 @@
 -- of these.
 -- Source: this project's own.
 -- Shapes: a block is a head and the records below it; verdicts come in the order of the questions.
-use Rattle.std.specs.Prelude.{ℕ, zero, suc, ℤ, pos, ◌==◌, Bool, true, false, if◌then◌else◌, nat_abs, List, [], ◌∷◌, ◌++◌, length, map, take, drop, codes, slice_index_or}
+use Rattle.std.specs.Prelude.{ℕ, zero, suc, ℤ, pos, negsuc, ◌+◌, ◌==◌, Bool, true, false, if◌then◌else◌, nat_abs, List, [], ◌∷◌, ◌++◌, length, map, take, drop, codes, slice_index_or}
 use Rattle.std.specs.Str.{bytes_eq}
 use Rattle.crn_vec.specs.Kept.{KeptInts, KeptNums}
 use Rattle.crn_vec.specs.Network.{Net}
@@ -15,14 +15,14 @@ use Rattle.crn_vec.specs.Influence.{plain_table, strong_table}
 use Rattle.crn_cert.specs.declared.answer.Gap.{Gap}
 use Rattle.crn_cert.specs.declared.answer.Gap.TheVariants.{Wide, Budget, Rests}
 use Rattle.crn_cert.specs.declared.answer.Verdict.{Verdict}
-use Rattle.crn_cert.specs.declared.answer.Verdict.TheVariants.{Classes, Strong, Rank, Deficiency, Yes, YesWeak, YesVec, NoReaction, NoVec, NoNumber, NoTerminal, NoClass, NoSum, NoDependence, NoCycle, NoPair, NotRegular, OnlyZero, Plane, NotApplicable, Unknown}
+use Rattle.crn_cert.specs.declared.answer.Verdict.TheVariants.{Classes, Strong, Rank, Deficiency, Yes, YesWeak, YesVec, YesSignal, No, NoReaction, NoVec, NoNumber, NoTerminal, NoClass, NoSum, NoDependence, NoCycle, NoPair, NotRegular, OnlyZero, Plane, NotApplicable, Unknown}
 use Rattle.crn_cert.specs.declared.answer.RankProof.{RankProof}
 use Rattle.crn_cert.specs.declared.answer.Proof.{Proof}
 use Rattle.crn_cert.specs.declared.answer.Proof.TheVariants.{Nothing, Forest, Strong as StrongTrees, Back, Rank as RankRows, Ranks, Sides, Ties}
-use Rattle.crn_cert.specs.Questions.{Earlier, Question, Q1, Q2, Q3, Q4, Q5, Q6, Q7, Q8, Q9, Q10, Q11, Q12, Q14, Q15, on, count_of, terminal_of}
+use Rattle.crn_cert.specs.Questions.{Earlier, Question, Q1, Q2, Q3, Q4, Q5, Q6, Q7, Q8, Q9, Q10, Q11, Q12, Q13, Q14, Q15, on, count_of, terminal_of}
 use Rattle.crn_cert.specs.Tests.{Test as Claim}
-use Rattle.crn_cert.specs.Nodes.{Fits, Flats, CutsA, CutsB}
-use Rattle.crn_cert.specs.Valid.{linkage, linkage_count, classes_to, class_places, pair_places, head_tests, row_tests}
+use Rattle.crn_cert.specs.Nodes.{Said, Fits, Flats, CutsA, CutsB}
+use Rattle.crn_cert.specs.Valid.{linkage, linkage_count, classes_to, class_places, pair_places, IsNodeOf, head_tests, row_tests}
 use Rattle.crn_ctext.specs.Records.{Record}
 use Rattle.crn_ctext.specs.Questions.{Sizes, Shapes, heads, class_rank, later_numbers}
 use Rattle.crn_ctext.specs.Blocks.{Meaning, Problem, place_of, is_open}
@@ -33,6 +33,12 @@ pub record Known : Type 0 where
   pub earlier : Earlier
 
 -- ---- the sizes of forms
+
+-- a yes of question 4, 7 or 11
+abbrev pub is_yes : Verdict → Bool
+is_yes Yes = true
+is_yes (YesVec vector) = true
+is_yes verdict = false
 
 -- a vector of the confluence space is given
 abbrev pub has_vector : Verdict → Bool
@@ -148,6 +154,10 @@ verdict_by Q12 (suc (suc zero)) n rs = NotRegular
 verdict_by Q12 (suc (suc (suc zero))) n rs = OnlyZero
 verdict_by Q12 (suc (suc (suc (suc zero)))) n rs =
     Plane (number n 0) (number n 1) (ints (row rs 0)) (ints (row rs 1))
+verdict_by Q13 (suc zero) n rs =
+    YesSignal (slice_index_or n 0 (pos 0)) (ints (row rs 0)) (ints (row rs 1))
+    (slice_index_or (row rs 2) 0 (pos 0)) (ints (row rs 3))
+verdict_by Q13 (suc (suc zero)) n rs = No
 verdict_by Q14 (suc zero) n rs = Yes
 verdict_by Q14 (suc (suc zero)) n rs = NoPair (ints (row rs 0)) (ints (row rs 1))
 verdict_by Q15 (suc zero) n rs = Yes
@@ -201,31 +211,53 @@ proof_of q s h rs =
 
 -- ---- trees
 
+-- a sign problem with these choices and numbers of multipliers of each part, whose leaves have this
+-- test
+abbrev pub problem_with : (choices count_a count_b : ℕ) → (List Sign → Said → Type 0) → Problem
+problem_with choices count_a count_b Holds = record {
+  choices = choices;
+  count_a = count_a;
+  count_b = count_b;
+  RulesOutA = λ prefix u. Holds prefix (CutsA u);
+  RulesOutB = λ prefix u. Holds prefix (CutsB u);
+  IsClosed = λ prefix. Holds prefix Flats;
+}
+
 -- a sign problem over the species of the network, with a multiplier of each part for each species
 abbrev pub problem_over : Net → Signed → Problem
-problem_over net w = record {
-  choices = length net.names;
-  count_a = length net.names;
-  count_b = length net.names;
-  RulesOutA = λ prefix u. Fits w prefix (CutsA u);
-  RulesOutB = λ prefix u. Fits w prefix (CutsB u);
-  IsClosed = λ prefix. Fits w prefix Flats;
-}
+problem_over net w =
+    problem_with (length net.names) (length net.names) (length net.names) (Fits w)
 
 -- the sign problem of an influence table of the network
 abbrev pub table_problem : Net → List (List Sign) → Signed
 table_problem net table = concordance (reaction_system net) table
 
--- the trees that follow the records below a head, by the place of its form: a yes on concordance
--- has one
-abbrev pub problems_by : Question → Net → ℕ → List {1} Problem
-problems_by Q14 net (suc zero) = problem_over net (table_problem net (plain_table net)) ∷ []
-problems_by Q15 net (suc zero) = problem_over net (table_problem net (strong_table net)) ∷ []
-problems_by q net place = []
+-- the sign problem of signals for the vector of question 12 with a turn: over the shelves of the
+-- terminal classes and the species, with a multiplier of part A for each complex and each pair
+abbrev pub signal_problem : Known → ℤ → Problem
+signal_problem known turn =
+    problem_with (terminal_of (on known.earlier Q2) + length known.net.names)
+    (length known.net.complexes + length (pairs_of known)) (length known.net.names)
+    (IsNodeOf known.net known.earlier turn)
+
+-- that for the vector and, if the network is weakly reversible, that for its negative
+abbrev pub signal_problems : Known → Bool → List {1} Problem
+signal_problems known false = signal_problem known (pos 1) ∷ []
+signal_problems known true = signal_problem known (pos 1) ∷ signal_problem known (negsuc 0) ∷ []
+
+-- the trees that follow the records below a head, by the place of its form: a no on signals has one
+-- or two, and a yes on concordance has one
+abbrev pub problems_by : Question → Known → ℕ → List {1} Problem
+problems_by Q13 known (suc (suc zero)) = signal_problems known (is_yes (on known.earlier Q4))
+problems_by Q14 known (suc zero) =
+    problem_over known.net (table_problem known.net (plain_table known.net)) ∷ []
+problems_by Q15 known (suc zero) =
+    problem_over known.net (table_problem known.net (strong_table known.net)) ∷ []
+problems_by q known place = []
 
 -- the trees of a block
 abbrev pub problems_of : Question → Known → Record → List {1} Problem
-problems_of q known h = problems_by q known.net (place_of (heads q (sizes_of known)) h.words)
+problems_of q known h = problems_by q known (place_of (heads q (sizes_of known)) h.words)
 
 -- ---- the meaning
 
@@ -247,7 +279,7 @@ learn_of q known h rs =
       earlier = known.earlier ++ (q, verdict_of q (sizes_of known) h rs) ∷ [];
     }
 
--- What the questions mean. Trees of the question on signals are left out.
+-- what the questions mean
 abbrev pub meaning : Meaning Known
 meaning = record {
   start = λ net. record { net = net; earlier = [] };
