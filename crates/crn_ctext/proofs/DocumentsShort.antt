@@ -1,20 +1,23 @@
 -- Documents of formed answers to the built questions have few lines, and so they are shorter than the bound.
-use Rattle.std.proofs.Common.{◌≡◌, ◌+◌, ◌-◌, ◌*◌, ◌<◌, ◌≤◌, ◌==◌, ◌++◌, ◌∙◌, ℕ, zero, suc, Bool, true, false, if◌then◌else◌, List, [], ◌∷◌, length, map, refl, sym, ap, ap₂, subst, arith}
+use Rattle.std.proofs.Common.{◌≡◌, ◌+◌, ◌-◌, ◌*◌, ◌<◌, ◌≤◌, ◌==◌, ◌++◌, ◌∙◌, ℕ, zero, suc, Bool, true, false, if◌then◌else◌, List, [], ◌∷◌, length, map, refl, sym, ap, ap₂, subst, inl, inr, arith}
 use Rattle.std.specs.Prelude.{ℤ, codes, replicate}
 use Rattle.std.specs.List.{AllByRecursion, AllZip, range_with_len}
-use Rattle.std.proofs.lemmas.List.{length-append, length-map, length-replicate}
+use Rattle.std.proofs.lemmas.List.{append-nil, length-append, length-map, length-replicate, map-append}
 use Rattle.std.proofs.lemmas.List.FromFn.{length-range_with_len}
 use Rattle.crn_vec.specs.Network.{Net, IsNetwork}
 use Rattle.crn_vec.specs.declared.limits.TheConstants.{MAX_BUDGET}
 use Rattle.crn_io.specs.declared.lines.TheConstants.{MAX_DOCUMENT}
 use Rattle.crn_cert.specs.Questions.{Question, Q1, Q2, Q3, Q4, Q5, Q6, Q7, Q8, Q9, Q10, Q11, Q12, Q13, Q14, Q15}
 use Rattle.crn_cert.specs.Built.{built}
-use Rattle.crn_ctext.specs.Records.{Record, Fits, record_text}
-use Rattle.crn_ctext.specs.Kinds.{free_form}
+use Rattle.crn_vec.specs.declared.signs.Sign.{Sign}
+use Rattle.crn_vec.specs.declared.signs.Sign.TheVariants.{Zero, Plus, Minus}
+use Rattle.crn_vec.specs.Influence.{plain_table, strong_table}
+use Rattle.crn_ctext.specs.Records.{Record, Form, Fits, record_text}
+use Rattle.crn_ctext.specs.Kinds.{record_form, free_form}
 use Rattle.crn_ctext.specs.Questions.{Sizes, Shapes, heads, rows, opens, rank_forms, class_forms, class_rank, side_form, classes as classes_of, first_number, later_numbers}
-use Rattle.crn_ctext.specs.Blocks.{sections, below, place_of, ended, title, network_line}
-use Rattle.crn_ctext.specs.Documents.{section, written, table_records, Share, FitsShare, one_word, IsNamed, IsOneOf, document, document2, Parts, IsFormed, AreFormed}
-use Rattle.crn_ctext.specs.Meaning.{Known, pairs_of, sizes_of, shapes_of, meaning}
+use Rattle.crn_ctext.specs.Blocks.{Problem, problems, is_open, unless, sections, below, place_of, ended, title, network_line}
+use Rattle.crn_ctext.specs.Documents.{section, written, table_records, Share, FitsShare, one_word, IsNamed, IsOneOf, IsTree, AreTrees, leaf_forms, document, document2, Parts, IsFormed, AreFormed}
+use Rattle.crn_ctext.specs.Meaning.{Known, pairs_of, sizes_of, shapes_of, problem_over, table_problem, problems_by, meaning}
 use Rattle.crn_ctext.specs.Judged.{AreFormedOf}
 use Rattle.crn_ctext.proofs.Written.{IsShortLine, first_ended}
 use Rattle.crn_ctext.proofs.Shared.{IsWrittenFor, shared_written}
@@ -23,7 +26,8 @@ use Rattle.crn_ctext.proofs.DocumentsWritten.{network_lines, text_lines, text_of
 use Rattle.crn_ctext.proofs.NetworkLines.{net_line}
 use Rattle.crn_ctext.proofs.DocumentTexts.{parted_first, parted_second, parted_cuts, parted_plain, written_plain, table_plain}
 use Rattle.crn_ctext.proofs.ShortAnswers.{AllPlain, IsShortFor, formed_are_plain, short_both}
-use Rattle.crn_ctext.proofs.ShortLines.{record_line_is_small, text_lines_are_short}
+use Rattle.crn_ctext.proofs.ShortLines.{record_line_length, text_lines_are_short}
+use Rattle.crn_ctext.proofs.RanksLinked.{free_row}
 use Rattle.crn_ctext.proofs.MeaningShort.{IsSmall, IsMemberList, class_sizes, class_lists, sizes_small, sizes_counted, lists_small, pairs_few, rank_first, networks_are_small, meaning_short}
 
 -- ---- lines
@@ -36,17 +40,42 @@ ended_short (l ∷ ls) s =
     let size : length (ended (l ∷ ls)) ≡ length l + length (10 ∷ ended ls) = ap length (first_ended l ls) ∙ length-append l (10 ∷ ended ls) in
     omega (arith, more, size, s.0.1)
 
--- the lines of plain records are smaller
-records_small : (rs : List Record) → AllPlain rs → length (ended (map record_text rs)) ≤ 9664 * length rs
-records_small [] p = omega arith
-records_small (r ∷ rs) p =
-    let more = records_small rs p.1 in
-    let size : length (ended (map record_text (r ∷ rs))) ≡ length (record_text r) + length (10 ∷ ended (map record_text rs)) = ap length (first_ended (record_text r) (map record_text rs)) ∙ length-append (record_text r) (10 ∷ ended (map record_text rs)) in
-    omega (arith, more, size, record_line_is_small r p.0)
+-- the most bytes of the lines of these records: a shared list's number may stand in the place of a cut's numbers
+abbrev weight : List Record → ℕ
+weight [] = 0
+weight (r ∷ rs) = 88 + 24 * length r.numbers + weight rs
 
--- a text of few records is shorter than the bound
-few_lines : (version : ℕ) (net : Net) (records : List Record) → IsNetwork net → AllPlain records → AllByRecursion IsShortLine (text_lines version net records) → length records ≤ 300000 → length (text_of version net records) < MAX_DOCUMENT
-few_lines version net records n plain s few =
+weight_append : (xs ys : List Record) → weight (xs ++ ys) ≡ weight xs + weight ys
+weight_append [] ys = omega arith
+weight_append (x ∷ xs) ys = omega (arith, weight_append xs ys)
+
+-- plain records have no more than 400 numbers each
+plain_weight : (rs : List Record) → AllPlain rs → weight rs ≤ 9688 * length rs
+plain_weight [] p = omega arith
+plain_weight (r ∷ rs) p = let few = p.0.few in omega (arith, few, plain_weight rs p.1)
+
+-- what is written in the place of a record has no more than one number more
+numbers_for : (table : List (List ℤ)) (w r : Record) → IsWrittenFor table w r → length w.numbers ≤ 1 + length r.numbers
+numbers_for table w r (inl e) = let same : length w.numbers ≡ length r.numbers = ap (λ (x : Record). length x.numbers) e in omega (arith, same)
+numbers_for table w r (inr h) = let one : length w.numbers ≡ 1 = ap (λ (x : Record). length x.numbers) h.3 in omega (arith, one)
+
+-- the lines of plain records
+lines_weigh : (table : List (List ℤ)) (ws rs : List Record) → AllPlain ws → AllZip (IsWrittenFor table) ws rs → length (ended (map record_text ws)) ≤ weight rs
+lines_weigh table [] [] p z = omega arith
+lines_weigh table [] (r ∷ rs) p z = absurd z
+lines_weigh table (w ∷ ws) [] p z = absurd z
+lines_weigh table (w ∷ ws) (r ∷ rs) p z =
+    let more = lines_weigh table ws rs p.1 z.1 in
+    let size : length (ended (map record_text (w ∷ ws))) ≡ length (record_text w) + length (10 ∷ ended (map record_text ws)) = ap length (first_ended (record_text w) (map record_text ws)) ∙ length-append (record_text w) (10 ∷ ended (map record_text ws)) in
+    omega (arith, more, size, record_line_length w p.0, numbers_for table w r z.0)
+
+same_for : (rs : List Record) → AllZip (IsWrittenFor []) rs rs
+same_for [] = tt
+same_for (r ∷ rs) = (inl refl, same_for rs)
+
+-- a text is shorter than the bound, if the lines of its records are
+few_lines : (version : ℕ) (net : Net) (records : List Record) → IsNetwork net → AllByRecursion IsShortLine (text_lines version net records) → length (ended (map record_text records)) ≤ 4200000000 → length (text_of version net records) < MAX_DOCUMENT
+few_lines version net records n s few =
     let h = n.partial in
     let limit = h.reactions_limit in
     let size : length (text_of version net records) ≡ length (ended (text_lines version net records)) = ap length (text_ended version net records) in
@@ -57,7 +86,7 @@ few_lines version net records n plain s few =
     let last : length (ended (codes "end" ∷ [])) ≡ 4 = refl in
     let opening = ended_short first (front_short first (said ++ codes "end" ∷ []) s) in
     let whole : length (network_lines net) ≡ length net.reactions = length-map net.reactions (net_line net) in
-    omega (arith, limit, size, parts, tail, last, opening, whole, records_small records plain, few)
+    omega (arith, limit, size, parts, tail, last, opening, whole, few)
   where
     front_short : (xs ys : List (List ℕ)) → AllByRecursion IsShortLine (xs ++ ys) → AllByRecursion IsShortLine xs
     front_short [] ys a = tt
@@ -156,6 +185,14 @@ confluence_few known (suc (suc (suc zero))) n s =
 confluence_few known (suc (suc (suc (suc zero)))) n s = omega arith
 confluence_few known (suc (suc (suc (suc (suc k))))) n s = omega arith
 
+signal_few : (s : Shapes) (place : ℕ) (n : List ℤ) → length (rows Q13 s place n) ≤ 1000
+signal_few s zero n = omega arith
+signal_few s (suc zero) n = omega arith
+signal_few s (suc (suc k)) n = omega arith
+
+pub signal_is_few : IsFew Q13
+signal_is_few known h s o = signal_few (shapes_of known) (place_of (heads Q13 (sizes_of known)) h.words) h.numbers
+
 concordant_few : (s : Shapes) (place : ℕ) (n : List ℤ) → length (rows Q14 s place n) ≤ 1000
 concordant_few s zero n = omega arith
 concordant_few s (suc zero) n = omega arith
@@ -198,11 +235,11 @@ built_few = (
   ),
 )
 
--- a question opens no more than one section
-one_section : (version : ℕ) (q : Question) → length (map section (sections version q)) ≤ 1
-one_section version q = by (version == 2)
+-- a question opens no more than one section, whose line has no numbers
+section_light : (version : ℕ) (q : Question) → weight (map section (sections version q)) ≤ 88
+section_light version q = by (version == 2)
   where
-    opened : (q : Question) → length (map section (opens q)) ≤ 1
+    opened : (q : Question) → weight (map section (opens q)) ≤ 88
     opened Q1 = omega arith
     opened Q2 = omega arith
     opened Q3 = omega arith
@@ -219,7 +256,7 @@ one_section version q = by (version == 2)
     opened Q14 = omega arith
     opened Q15 = omega arith
 
-    by : (t : Bool) → length (map section (if t then opens q else [])) ≤ 1
+    by : (t : Bool) → weight (map section (if t then opens q else [])) ≤ 88
     by true = opened q
     by false = omega arith
 
@@ -248,33 +285,130 @@ few_are_formed [] known answers f = f
 few_are_formed (q ∷ qs) known [] f = f
 few_are_formed (q ∷ qs) known (rs ∷ more) f = (f.0, f.1, few_are_formed qs (meaning.learn q known f.0.head f.0.rows) more f.3)
 
-block_few : (q : Question) (known : Known) (rs : List Record) (p : Parts rs) → IsSmall known → IsFew q → IsFormed meaning q known rs p → length p.nodes ≤ node_limit q → length rs ≤ suc (most q + node_limit q)
-block_few q known rs p small few f nodes =
-    let long : length (below q (shapes_of known) p.head) ≡ length p.rows = zip_long Fits (below q (shapes_of known) p.head) p.rows f.rows in
-    let size : length rs ≡ suc (length (p.rows ++ p.nodes)) = ap length p.all in
-    omega (arith, size, length-append p.rows p.nodes, nodes, long, few known p.head small f.head)
+-- ---- nodes
 
--- the most records of the blocks of these questions, each with the line of its section
+abbrev AnyLeaf : Problem → List Sign → Record → Type 0
+AnyLeaf p prefix r = IsOneOf (leaf_forms p) r
+
+-- a leaf has no more numbers than its cut
+leaf_numbers : (p : Problem) (r : Record) → (p.count_a ≤ 60) × (p.count_b ≤ 60) → IsOneOf (leaf_forms p) r → length r.numbers ≤ 60
+leaf_numbers p r few (form, inl e, fits) =
+    let f : Fits (record_form (codes "flat") []) r = subst (λ (x : Form). Fits x r) e fits in
+    let none : length r.numbers ≡ 0 = ap length f.1 in
+    omega (arith, none)
+leaf_numbers p r few (form, inr (inl e), fits) =
+    let f = free_row (codes "cuta") p.count_a r (subst (λ (x : Form). Fits x r) e fits) in
+    let long = f.1.long in
+    omega (arith, long, few.0)
+leaf_numbers p r few (form, inr (inr (inl e)), fits) =
+    let f = free_row (codes "cutb") p.count_b r (subst (λ (x : Form). Fits x r) e fits) in
+    let long = f.1.long in
+    omega (arith, long, few.1)
+leaf_numbers p r few (form, inr (inr (inr none)), fits) = absurd none
+
+one_light : (p : Problem) (r : Record) (rs : List Record) → (p.count_a ≤ 60) × (p.count_b ≤ 60) → IsOneOf (leaf_forms p) r → rs ≡ r ∷ [] → weight rs ≤ 1528 * length rs
+one_light p r rs few o e = subst (λ (xs : List Record). weight xs ≤ 1528 * length xs) (sym e) (omega (arith, leaf_numbers p r few o))
+
+-- the nodes of a tree whose cuts have no more than 60 numbers
+tree_light : (p : Problem) (more : ℕ) (prefix : List Sign) (rs : List Record) → (p.count_a ≤ 60) × (p.count_b ≤ 60) → IsTree (AnyLeaf p) more prefix rs → weight rs ≤ 1528 * length rs
+unfolding IsTree
+tree_light p zero prefix rs few t = one_light p t.0 rs few t.2 t.1
+tree_light p (suc more) prefix rs few (inl t) = one_light p t.0 rs few t.2 t.1
+tree_light p (suc more) prefix rs few (inr t) =
+    let zeros = tree_light p more (prefix ++ Zero ∷ []) t.0 few t.4 in
+    let pluses = tree_light p more (prefix ++ Plus ∷ []) t.1 few t.5 in
+    let minuses : weight t.2 ≤ 1528 * length t.2 = elim t.6 [
+      | inl z ↦ subst (λ (xs : List Record). weight xs ≤ 1528 * length xs) (sym z.1) (omega arith)
+      | inr m ↦ tree_light p more (prefix ++ Minus ∷ []) t.2 few m.1
+    ] in
+    subst (λ (xs : List Record). weight xs ≤ 1528 * length xs) (sym t.3)
+    (omega (arith, zeros, pluses, minuses, weight_append t.0 (t.1 ++ t.2), weight_append t.1 t.2, length-append t.0 (t.1 ++ t.2), length-append t.1 t.2))
+
+-- the nodes of the one tree
+alone_light : (p : Problem) (rs : List Record) → (p.count_a ≤ 60) × (p.count_b ≤ 60) → AreTrees AnyLeaf (p ∷ []) rs → weight rs ≤ 1528 * length rs
+alone_light p rs few t =
+    let all : rs ≡ t.0 = t.2 ∙ ap (λ (x : List Record). t.0 ++ x) t.4 ∙ append-nil t.0 in
+    subst (λ (xs : List Record). weight xs ≤ 1528 * length xs) (sym all) (tree_light p p.choices [] t.0 few t.3)
+
+none_light : (rs : List Record) → rs ≡ [] → weight rs ≤ 1528 * length rs
+none_light rs e = subst (λ (xs : List Record). weight xs ≤ 1528 * length xs) (sym e) (omega arith)
+
+concordant_light : (known : Known) (t : Bool) (place : ℕ) (rs : List Record) → IsSmall known → AreTrees AnyLeaf (unless t (problems_by Q14 known place)) rs → weight rs ≤ 1528 * length rs
+concordant_light known true place rs s h = none_light rs h
+concordant_light known false zero rs s h = none_light rs h
+concordant_light known false (suc zero) rs s h = let c = s.species in alone_light (problem_over known.net (table_problem known.net (plain_table known.net))) rs (omega (arith, c), omega (arith, c)) h
+concordant_light known false (suc (suc k)) rs s h = none_light rs h
+
+strongly_light : (known : Known) (t : Bool) (place : ℕ) (rs : List Record) → IsSmall known → AreTrees AnyLeaf (unless t (problems_by Q15 known place)) rs → weight rs ≤ 1528 * length rs
+strongly_light known true place rs s h = none_light rs h
+strongly_light known false zero rs s h = none_light rs h
+strongly_light known false (suc zero) rs s h = let c = s.species in alone_light (problem_over known.net (table_problem known.net (strong_table known.net))) rs (omega (arith, c), omega (arith, c)) h
+strongly_light known false (suc (suc k)) rs s h = none_light rs h
+
+-- the most bytes of the nodes of an answer to the question
+abbrev node_weight : Question → ℕ
+node_weight Q13 = 9688 * (2 * MAX_BUDGET)
+node_weight Q14 = 1528 * MAX_BUDGET
+node_weight Q15 = 1528 * MAX_BUDGET
+node_weight q = 0
+
+-- the nodes of a formed answer to the question have no more
+abbrev IsLight : Question → Type 0
+IsLight q = (known : Known) (h : Record) (rs : List Record) → IsSmall known → AreTrees AnyLeaf (problems meaning q known h) rs → AllPlain rs → length rs ≤ node_limit q → weight rs ≤ node_weight q
+
+each_light : (q : Question) → IsLight q
+each_light Q1 known h rs s t p few = omega (arith, few, plain_weight rs p)
+each_light Q2 known h rs s t p few = omega (arith, few, plain_weight rs p)
+each_light Q3 known h rs s t p few = omega (arith, few, plain_weight rs p)
+each_light Q4 known h rs s t p few = omega (arith, few, plain_weight rs p)
+each_light Q5 known h rs s t p few = omega (arith, few, plain_weight rs p)
+each_light Q6 known h rs s t p few = omega (arith, few, plain_weight rs p)
+each_light Q7 known h rs s t p few = omega (arith, few, plain_weight rs p)
+each_light Q8 known h rs s t p few = omega (arith, few, plain_weight rs p)
+each_light Q9 known h rs s t p few = omega (arith, few, plain_weight rs p)
+each_light Q10 known h rs s t p few = omega (arith, few, plain_weight rs p)
+each_light Q11 known h rs s t p few = omega (arith, few, plain_weight rs p)
+each_light Q12 known h rs s t p few = omega (arith, few, plain_weight rs p)
+each_light Q13 known h rs s t p few = omega (arith, few, plain_weight rs p)
+each_light Q14 known h rs s t p few = omega (arith, few, concordant_light known (is_open h) (place_of (heads Q14 (sizes_of known)) h.words) rs s t)
+each_light Q15 known h rs s t p few = omega (arith, few, strongly_light known (is_open h) (place_of (heads Q15 (sizes_of known)) h.words) rs s t)
+
+-- ---- blocks
+
+plain_parts : (xs ys : List Record) → AllPlain (xs ++ ys) → AllPlain xs × AllPlain ys
+plain_parts [] ys p = (tt, p)
+plain_parts (x ∷ xs) ys p = let more = plain_parts xs ys p.1 in ((p.0, more.0), more.1)
+
+block_light : (q : Question) (known : Known) (rs : List Record) (p : Parts rs) → IsSmall known → IsFew q → IsFormed meaning q known rs p → length p.nodes ≤ node_limit q → AllPlain rs → weight rs ≤ 9688 * suc (most q) + node_weight q
+block_light q known rs p small few f nodes plain =
+    let long : length (below q (shapes_of known) p.head) ≡ length p.rows = zip_long Fits (below q (shapes_of known) p.head) p.rows f.rows in
+    let size : weight rs ≡ weight ((p.head ∷ p.rows) ++ p.nodes) = ap weight p.all in
+    let parts = plain_parts (p.head ∷ p.rows) p.nodes (subst AllPlain p.all plain) in
+    let front = plain_weight (p.head ∷ p.rows) parts.0 in
+    let back = each_light q known p.head p.nodes small f.trees parts.1 nodes in
+    omega (arith, size, weight_append (p.head ∷ p.rows) p.nodes, front, back, long, few known p.head small f.head)
+
+-- the most bytes of the blocks of these questions, each with the line of its section
 abbrev most_of : List Question → ℕ
 most_of [] = 0
-most_of (q ∷ qs) = most q + node_limit q + 2 + most_of qs
+most_of (q ∷ qs) = 9688 * suc (most q) + node_weight q + 88 + most_of qs
 
--- each block has no more records than its bound
-parted_few : (version : ℕ) (qs : List Question) (known : Known) (answers : List (List Record)) → IsSmall known → AllByRecursion IsFew qs → AllByRecursion (IsShortFor meaning IsSmall) qs → AreFewNodes qs known answers → length (parted version qs answers) ≤ most_of qs
+-- each block has no more than its bound
+parted_light : (version : ℕ) (qs : List Question) (known : Known) (answers : List (List Record)) → IsSmall known → AllByRecursion IsFew qs → AllByRecursion (IsShortFor meaning IsSmall) qs → AreFewNodes qs known answers → AllByRecursion AllPlain answers → weight (parted version qs answers) ≤ most_of qs
 unfolding AreFewNodes
-parted_few version [] known answers small few shorts f = omega arith
-parted_few version (q ∷ qs) known [] small few shorts f = absurd f
-parted_few version (q ∷ qs) known (rs ∷ more) small few shorts f =
+parted_light version [] known answers small few shorts f plain = omega arith
+parted_light version (q ∷ qs) known [] small few shorts f plain = absurd f
+parted_light version (q ∷ qs) known (rs ∷ more) small few shorts f plain =
     let learns = shorts.0.learn in
     let g = f.1 in
-    let later = parted_few version qs (meaning.learn q known f.0.head f.0.rows) more (learns known f.0.head f.0.rows small g.head g.rows) few.1 shorts.1 f.3 in
-    omega (arith, later, one_section version q, block_few q known rs f.0 small few.0 g f.2, length-append (map section (sections version q)) (rs ++ parted version qs more), length-append rs (parted version qs more))
+    let later = parted_light version qs (meaning.learn q known f.0.head f.0.rows) more (learns known f.0.head f.0.rows small g.head g.rows) few.1 shorts.1 f.3 plain.1 in
+    omega (arith, later, section_light version q, block_light q known rs f.0 small few.0 g f.2 plain.0, weight_append (map section (sections version q)) (rs ++ parted version qs more), weight_append rs (parted version qs more))
 
--- the records of formed answers with few nodes are few
-all_few : (version : ℕ) (net : Net) (answers : List (List Record)) → IsNetwork net → AreFewNodes built (meaning.start net) answers → length (parted version built answers) ≤ 290000
-all_few version net answers n f =
-    let few : length (parted version built answers) ≤ most_of built = parted_few version built (meaning.start net) answers (networks_are_small net n) built_few meaning_short f in
-    omega (arith, few)
+-- the records of formed answers with few nodes have few bytes
+all_light : (version : ℕ) (net : Net) (answers : List (List Record)) → IsNetwork net → AreFewNodes built (meaning.start net) answers → AllByRecursion AllPlain answers → weight (parted version built answers) ≤ 3000000000
+all_light version net answers n f plain =
+    let light : weight (parted version built answers) ≤ most_of built = parted_light version built (meaning.start net) answers (networks_are_small net n) built_few meaning_short f plain in
+    omega (arith, light)
 
 -- ---- documents
 
@@ -287,9 +421,10 @@ pub first_few : (net : Net) (answers : List (List Record)) → IsNetwork net →
 first_few net answers n few_nodes =
     let f = few_are_formed built (meaning.start net) answers few_nodes in
     let same = parted_first meaning built (meaning.start net) answers f in
-    let plain : AllPlain (all_of answers) = subst AllPlain same (parted_plain 1 built answers (formed_plain net answers n f)) in
-    let few = all_few 1 net answers n few_nodes in
-    few_lines 1 net (all_of answers) n plain (text_lines_are_short 1 net (all_of answers) (omega arith) n plain) (omega (arith, few, ap length same))
+    let plains = formed_plain net answers n f in
+    let plain : AllPlain (all_of answers) = subst AllPlain same (parted_plain 1 built answers plains) in
+    let light = all_light 1 net answers n few_nodes plains in
+    few_lines 1 net (all_of answers) n (text_lines_are_short 1 net (all_of answers) (omega arith) n plain) (omega (arith, light, ap weight same, lines_weigh [] (all_of answers) (all_of answers) plain (same_for (all_of answers))))
 
 pub second_few : (net : Net) (answers : List (List Record)) (share : Share) → IsNetwork net → AreFewNodes built (meaning.start net) answers → FitsShare answers share → length (document2 built net answers share) < MAX_DOCUMENT
 second_few net answers share n few_nodes fits =
@@ -298,12 +433,19 @@ second_few net answers share n few_nodes fits =
     let ws = written share.leaf rs in
     let named = subst (λ (us : List (List ℤ)). AllZip (IsNamed share.table) share.leaf us) (sym (parted_cuts 2 meaning built (meaning.start net) answers f)) fits.leaves in
     let for = shared_written share.table share.leaf rs named in
-    let plain : AllPlain ws = written_plain share.table ws rs fits.most (parted_plain 2 built answers (formed_plain net answers n f)) for in
-    let all = table_records share.table ++ ws in
-    let all_plain : AllPlain all = short_both (table_records share.table) ws (table_plain 2 share.table fits.most fits.lists) plain in
+    let plains = formed_plain net answers n f in
+    let plain : AllPlain ws = written_plain share.table ws rs fits.most (parted_plain 2 built answers plains) for in
+    let ts = table_records share.table in
+    let ts_plain : AllPlain ts = table_plain 2 share.table fits.most fits.lists in
+    let all = ts ++ ws in
+    let all_plain : AllPlain all = short_both ts ws ts_plain plain in
     let lines = text_lines_are_short 2 net all (omega arith) n all_plain in
-    let few = all_few 2 net answers n few_nodes in
-    let table : length (table_records share.table) ≡ suc (length share.table) = ap suc (length-map share.table (one_word (codes "vector"))) in
+    let light = all_light 2 net answers n few_nodes plains in
+    let table : length ts ≡ suc (length share.table) = ap suc (length-map share.table (one_word (codes "vector"))) in
     let most = fits.most in
-    let short : length (text_of 2 net all) < MAX_DOCUMENT = few_lines 2 net all n all_plain lines (omega (arith, few, most, table, zip_long (IsWrittenFor share.table) ws rs for, length-append (table_records share.table) ws)) in
+    let size : length (ended (map record_text all)) ≡ length (ended (map record_text ts)) + length (ended (map record_text ws))
+    = ap (λ (ls : List (List ℕ)). length (ended ls)) (map-append record_text ts ws) ∙ ap length (ended_append (map record_text ts) (map record_text ws)) ∙ length-append (ended (map record_text ts)) (ended (map record_text ws)) in
+    let first = lines_weigh [] ts ts ts_plain (same_for ts) in
+    let second = lines_weigh share.table ws rs plain for in
+    let short : length (text_of 2 net all) < MAX_DOCUMENT = few_lines 2 net all n lines (omega (arith, light, most, table, size, first, second, plain_weight ts ts_plain)) in
     subst (λ (xs : List Record). length (text_of 2 net (table_records share.table ++ written share.leaf xs)) < MAX_DOCUMENT) (parted_second built answers) short

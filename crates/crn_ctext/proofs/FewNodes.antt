@@ -1,5 +1,5 @@
 -- The records of formed answers whose trees have few nodes are few.
-use Rattle.std.proofs.Common.{◌≡◌, ◌≤◌, ◌<◌, ◌+◌, ◌++◌, ℕ, Bool, false, List, [], ◌∷◌, length, refl, sym, subst, inl, inr, arith}
+use Rattle.std.proofs.Common.{◌≡◌, ◌≤◌, ◌<◌, ◌+◌, ◌*◌, ◌++◌, ℕ, Bool, false, List, [], ◌∷◌, length, refl, sym, subst, inl, inr, arith}
 use Rattle.std.specs.List.{AllByRecursion}
 use Rattle.std.proofs.lemmas.List.{length-append}
 use Rattle.crn_vec.specs.Network.{Net, IsNetwork}
@@ -25,6 +25,7 @@ use Rattle.crn_ctext.proofs.Joined.{parts, joined}
 use Rattle.crn_ctext.proofs.KnownBefore.{AreKnown, after}
 use Rattle.crn_ctext.proofs.AnswersLinked.{AreLinkedFor, behind, built_linked, alike_behind, known_next}
 use Rattle.crn_ctext.proofs.TablesLinked.{IsTreeOrNone, tree_or_none}
+use Rattle.crn_ctext.proofs.SignalLinked.{HasSignalTrees, signal_trees}
 use Rattle.crn_ctext.proofs.WrittenAnswers.{IsShortQuestion, ShortFor, built_short, concordant_rows, strongly_rows}
 use Rattle.crn_ctext.proofs.DocumentsShort.{node_limit, AreFewNodes, first_few, second_few}
 
@@ -58,6 +59,16 @@ one_few most net p (inr t) h =
     let few : node_count (plan t.0) ≤ most = subst (HasFewNodes most) t.1 h in
     subst (λ (x : Proof). length (proof_nodes x) ≤ most) (sym t.1) (omega (arith, few, nodes_counted t.0))
 
+-- the trees of an answer on signals
+signals_few : (net : Net) (earlier : Earlier) (p : Proof) → HasSignalTrees net earlier p → HasFewNodes MAX_BUDGET p → length (proof_nodes p) ≤ 2 * MAX_BUDGET
+signals_few net earlier p (inl none) h = subst (λ (x : Proof). length (proof_nodes x) ≤ 2 * MAX_BUDGET) (sym none) (omega arith)
+signals_few net earlier p (inr (inl t)) h =
+    let few : node_count (plan t.0) ≤ MAX_BUDGET = subst (HasFewNodes MAX_BUDGET) t.1 h in
+    subst (λ (x : Proof). length (proof_nodes x) ≤ 2 * MAX_BUDGET) (sym t.1) (omega (arith, few, nodes_counted t.0))
+signals_few net earlier p (inr (inr t)) h =
+    let few : (node_count (plan t.0) ≤ MAX_BUDGET) × (node_count (plan t.1) ≤ MAX_BUDGET) = subst (HasFewNodes MAX_BUDGET) t.2 h in
+    subst (λ (x : Proof). length (proof_nodes x) ≤ 2 * MAX_BUDGET) (sym t.2) (omega (arith, few.0, few.1, nodes_counted t.0, nodes_counted t.1, length-append (nodes t.0) (nodes t.1)))
+
 -- an answer to the question has no more nodes than its bound, if each of its trees has no more than a budget
 record IsFewFor (q : Question) : Type 0 where
   few : (net : Net) (earlier : Earlier) (v : Verdict) (p : Proof) → RowsMayBe net earlier q v p → HasFewNodes MAX_BUDGET p → length (proof_nodes p) ≤ node_limit q
@@ -80,7 +91,9 @@ few_for Q9 s = short_few Q9 s
 few_for Q10 s = short_few Q10 s
 few_for Q11 s = short_few Q11 s
 few_for Q12 s = short_few Q12 s
-few_for Q13 s = short_few Q13 s
+few_for Q13 s = record {
+  few = λ net earlier v p h few. signals_few net earlier p (signal_trees net earlier v p h) few;
+}
 few_for Q14 s = record {
   few = λ net earlier v p h few. one_few MAX_BUDGET net p (tree_or_none net v p (concordant_rows net earlier v p h)) few;
 }

@@ -54,6 +54,7 @@ mod TestsAlike
 mod KnownBefore
 mod Joined
 mod TablesLinked
+mod SignalLinked
 mod Linking
 mod ConfluenceLinked
 mod AnswersLinked

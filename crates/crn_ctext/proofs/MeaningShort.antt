@@ -4,7 +4,7 @@ use Rattle.std.specs.Prelude.{ℤ, pos, negsuc, nat_abs, not, ◌&&◌, min, cod
 use Rattle.std.proofs.Math.Nat.{min-le_right}
 use Rattle.std.proofs.lemmas.Bool.{cases_Bool}
 use Rattle.std.proofs.lemmas.Int.{ints}
-use Rattle.std.proofs.lemmas.List.{length-append, length-map}
+use Rattle.std.proofs.lemmas.List.{append-nil, length-append, length-map}
 use Rattle.std.proofs.lemmas.List.Filters.{length-filter_both}
 use Rattle.std.proofs.lemmas.List.FromFn.{length-range_with_len}
 use Rattle.std.specs.List.{AllByRecursion, AllZip, filter, range_with_len}
@@ -14,14 +14,14 @@ use Rattle.crn_vec.specs.declared.limits.TheConstants.{MAX_SPECIES, MAX_COMPLEXE
 use Rattle.crn_cert.specs.declared.answer.Gap.{Gap}
 use Rattle.crn_cert.specs.declared.answer.Verdict.{Verdict}
 use Rattle.crn_cert.specs.declared.answer.Verdict.TheVariants.{NotApplicable, Unknown, Strong}
-use Rattle.crn_cert.specs.Questions.{Earlier, Question, Q1, Q2, Q3, Q4, Q5, Q6, Q7, Q8, Q9, Q10, Q11, Q12, Q14, Q15, number, on, count_of, labels_of}
+use Rattle.crn_cert.specs.Questions.{Earlier, Question, Q1, Q2, Q3, Q4, Q5, Q6, Q7, Q8, Q9, Q10, Q11, Q12, Q13, Q14, Q15, number, on, count_of, terminal_of, labels_of}
 use Rattle.crn_cert.specs.Valid.{linkage, linkage_count, class_places, ends_at, is_within_terminal, is_least_of_pair}
 use Rattle.crn_ctext.specs.Records.{Record, Form, CountAndPart, AreBetween, Fits}
-use Rattle.crn_ctext.specs.Questions.{heads, rows, head, yes, no, no_by, none_by, wide, spent, rests, open_by, classes, rank_forms, class_forms, class_rank, side_form, first_number, later_numbers}
+use Rattle.crn_ctext.specs.Questions.{heads, rows, head, yes, no, no_by, none_by, wide, wide_signal, spent, rests, open_by, classes, rank_forms, class_forms, class_rank, side_form, first_number, later_numbers}
 use Rattle.crn_ctext.specs.Kinds.{small, small_form, free_form}
 use Rattle.crn_ctext.specs.Blocks.{place_of, is_open, unless}
 use Rattle.crn_ctext.specs.Documents.{IsOneOf}
-use Rattle.crn_ctext.specs.Meaning.{Known, pairs_by, pairs_of, lengths, reactions_by_class, complexes_by_class, shapes_of, sizes_of, gap_of, verdict_by, verdict_of, problems_by, meaning}
+use Rattle.crn_ctext.specs.Meaning.{Known, number as said_number, is_yes, has_vector, signal_problems, pairs_by, pairs_of, lengths, reactions_by_class, complexes_by_class, shapes_of, sizes_of, gap_of, verdict_by, verdict_of, problems_by, meaning}
 use Rattle.crn_cert.specs.Built.{built}
 use Rattle.crn_ctext.proofs.Bounded.{IsSlim, IsBounded, words_fit}
 use Rattle.crn_ctext.proofs.ShortAnswers.{IsShortFor, AreFewProblems}
@@ -30,16 +30,17 @@ use Rattle.crn_ctext.proofs.ShortAnswers.{IsShortFor, AreFewProblems}
 abbrev pub AreFewClasses : Verdict → Type 0
 AreFewClasses v = (count_of v ≤ MAX_COMPLEXES) × (length (labels_of v) ≤ MAX_COMPLEXES)
 
--- species, complexes and reactions are as few as a network's, and so are linkage classes and their labels
+-- species, complexes and reactions are as few as a network's, and so are linkage classes, their labels and terminal classes
 pub record IsSmall (known : Known) : Type 0 where
   pub species : length known.net.names ≤ MAX_SPECIES
   pub complexes : length known.net.complexes ≤ MAX_COMPLEXES
   pub reactions : length known.net.reactions ≤ MAX_REACTIONS
   pub classes : linkage_count known.earlier ≤ MAX_COMPLEXES
   pub labels : length (linkage known.earlier) ≤ MAX_COMPLEXES
+  pub terminal : terminal_of (on known.earlier Q2) ≤ MAX_COMPLEXES
 
 pub networks_are_small : (net : Net) → IsNetwork net → IsSmall (record { net = net; earlier = [] })
-networks_are_small net n = let h = n.partial in record { species = h.species_limit; complexes = h.complexes_limit; reactions = h.reactions_limit; classes = omega arith; labels = omega arith }
+networks_are_small net n = let h = n.partial in record { species = h.species_limit; complexes = h.complexes_limit; reactions = h.reactions_limit; classes = omega arith; labels = omega arith; terminal = omega arith }
 
 -- ---- numbers
 
@@ -127,7 +128,7 @@ each_length : (P : ℕ → Type 0) (lists : List (List ℕ)) → AllByRecursion 
 each_length P [] a = tt
 each_length P (list ∷ lists) a = (a.0, each_length P lists a.1)
 
-filter_few : (p : ℕ → Bool) (xs : List ℕ) → length (filter p xs) ≤ length xs
+pub filter_few : (p : ℕ → Bool) (xs : List ℕ) → length (filter p xs) ≤ length xs
 filter_few p xs = omega (arith, length-filter_both p (λ (x : ℕ). not (p x)) (λ x. refl) xs)
 
 kept_all : (P : ℕ → Type 0) (p : ℕ → Bool) (xs : List ℕ) → AllByRecursion P xs → AllByRecursion P (filter p xs)
@@ -333,7 +334,7 @@ number_head : (place : ℕ) (word : List ℕ) (words : List (List ℕ)) (most : 
 number_head place word words most w a = record { words = w; few = omega arith; fields = ((one_short, a), tt) }
 
 -- an open head by a system with so many columns and rows
-wide_head : (word : List ℕ) (place system columns rows : ℕ) → words_fit (word ∷ open_by (codes "wide")) ≡ true → system ≤ 5 → columns ≤ 240 → rows ≤ 240 → IsBounded (wide word place system columns rows)
+wide_head : (word : List ℕ) (place system columns rows : ℕ) → words_fit (word ∷ open_by (codes "wide")) ≡ true → system ≤ 5 → columns ≤ 240 → rows ≤ 400 → IsBounded (wide word place system columns rows)
 wide_head word place system columns rows w a b c =
     let some = few_short system 1000 (omega (arith, a)) (omega arith) in
     let all = few_short (columns + rows) 1000 (omega (arith, b, c)) (omega arith) in
@@ -341,18 +342,27 @@ wide_head word place system columns rows w a b c =
 
 -- ---- what is known after a block
 
--- the verdict on the linkage classes is the first one
-on_more : (P : Verdict → Type 0) (earlier : Earlier) (q : Question) (v : Verdict) → P (on earlier Q1) → P (if number q == 1 then v else NotApplicable) → P (on (earlier ++ (q, v) ∷ []) Q1)
-on_more P [] q v p r = r
-on_more P (e ∷ es) q v p r = elim (cases_Bool (number e.0 == 1)) [
-  | inl here ↦ subst (λ (t : Bool). P (if t then e.1 else on (es ++ (q, v) ∷ []) Q1)) (sym here) (subst (λ (t : Bool). P (if t then e.1 else on es Q1)) here p)
-  | inr later ↦ subst (λ (t : Bool). P (if t then e.1 else on (es ++ (q, v) ∷ []) Q1)) (sym later) (on_more P es q v (subst (λ (t : Bool). P (if t then e.1 else on es Q1)) later p) r)
+-- the verdict on a question is the first one
+on_more : (P : Verdict → Type 0) (asked : Question) (earlier : Earlier) (q : Question) (v : Verdict) → P (on earlier asked) → P (if number q == number asked then v else NotApplicable) → P (on (earlier ++ (q, v) ∷ []) asked)
+on_more P asked [] q v p r = r
+on_more P asked (e ∷ es) q v p r = elim (cases_Bool (number e.0 == number asked)) [
+  | inl here ↦ subst (λ (t : Bool). P (if t then e.1 else on (es ++ (q, v) ∷ []) asked)) (sym here) (subst (λ (t : Bool). P (if t then e.1 else on es asked)) here p)
+  | inr later ↦ subst (λ (t : Bool). P (if t then e.1 else on (es ++ (q, v) ∷ []) asked)) (sym later) (on_more P asked es q v (subst (λ (t : Bool). P (if t then e.1 else on es asked)) later p) r)
 ]
 
-same_net : (q : Question) (known : Known) (h : Record) (rs : List Record) → IsSmall known → AreFewClasses (if number q == 1 then verdict_of q (sizes_of known) h rs else NotApplicable) → IsSmall (meaning.learn q known h rs)
-same_net q known h rs s r =
-    let few = on_more AreFewClasses known.earlier q (verdict_of q (sizes_of known) h rs) (s.classes, s.labels) r in
-    record { species = s.species; complexes = s.complexes; reactions = s.reactions; classes = few.0; labels = few.1 }
+-- no more terminal classes than a network has complexes
+abbrev HasFewTerminal : Verdict → Type 0
+HasFewTerminal v = terminal_of v ≤ MAX_COMPLEXES
+
+same_net : (q : Question) (known : Known) (h : Record) (rs : List Record) → IsSmall known → AreFewClasses (if number q == 1 then verdict_of q (sizes_of known) h rs else NotApplicable)
+    → HasFewTerminal (if number q == 2 then verdict_of q (sizes_of known) h rs else NotApplicable) → IsSmall (meaning.learn q known h rs)
+same_net q known h rs s r t =
+    let few = on_more AreFewClasses Q1 known.earlier q (verdict_of q (sizes_of known) h rs) (s.classes, s.labels) r in
+    let terminal = on_more HasFewTerminal Q2 known.earlier q (verdict_of q (sizes_of known) h rs) s.terminal t in
+    record { species = s.species; complexes = s.complexes; reactions = s.reactions; classes = few.0; labels = few.1; terminal = terminal }
+
+no_terminal : HasFewTerminal NotApplicable
+no_terminal = omega arith
 
 no_classes : AreFewClasses NotApplicable
 no_classes = (omega arith, omega arith)
@@ -375,15 +385,33 @@ linkage_short = record {
   head_forms = λ known s. (number_head 1 (codes "q1") [] (length known.net.complexes) refl (complexes_short known s), tt);
   row_forms = λ known h s o. linkage_rows known (place_of (heads Q1 (sizes_of known)) h.words) h.numbers s (linkage_first known h o);
   trees = λ known h s. none_few (is_open h);
-  learn = λ known h rs s o z. same_net Q1 known h rs s (linkage_learned known (is_open h) (gap_of h) (place_of (heads Q1 (sizes_of known)) h.words) h.numbers rs s (linkage_first known h o) z);
+  learn = λ known h rs s o z. same_net Q1 known h rs s (linkage_learned known (is_open h) (gap_of h) (place_of (heads Q1 (sizes_of known)) h.words) h.numbers rs s (linkage_first known h o) z) no_terminal;
 }
+
+-- the number of terminal classes that a head says
+strong_second : (known : Known) (h : Record) → IsOneOf (heads Q2 (sizes_of known)) h → said_number h.numbers 1 ≤ length known.net.complexes
+strong_second known h (form, inr none, fits) = absurd none
+strong_second known h (form, inl e, fits) = by (subst (λ (f : Form). Fits f h) e fits)
+  where
+    by : Fits (head (codes "q2") 1 [] (CountAndPart (length known.net.complexes) ∷ [])) h → said_number h.numbers 1 ≤ length known.net.complexes
+    by f =
+        let p = f.1 in
+        let t = p.3.0 in
+        let all : h.numbers ≡ pos t.0 ∷ pos t.1 ∷ [] = p.2 ∙ ap (λ (x : List ℤ). p.0 ++ x) p.4 ∙ append-nil p.0 ∙ t.2 in
+        subst (λ (zs : List ℤ). said_number zs 1 ≤ length known.net.complexes) (sym all) (omega (arith, t.4, t.5))
+
+strong_learned : (known : Known) (t : Bool) (g : Gap) (place : ℕ) (n : List ℤ) (rs : List Record) → IsSmall known → said_number n 1 ≤ length known.net.complexes → HasFewTerminal (if t then Unknown g else verdict_by Q2 place n rs)
+strong_learned known true g place n rs s a = no_terminal
+strong_learned known false g zero n rs s a = no_terminal
+strong_learned known false g (suc zero) n rs s a = let c = s.complexes in omega (arith, a, c)
+strong_learned known false g (suc (suc k)) n rs s a = no_terminal
 
 strong_short : IsShortFor meaning IsSmall Q2
 strong_short = record {
   head_forms = λ known s. (record { words = refl; few = omega arith; fields = (complexes_short known s, tt) }, tt);
   row_forms = λ known h s o. strong_rows known (place_of (heads Q2 (sizes_of known)) h.words) h.numbers s (strong_first known h o);
   trees = λ known h s. none_few (is_open h);
-  learn = λ known h rs s o z. same_net Q2 known h rs s no_classes;
+  learn = λ known h rs s o z. same_net Q2 known h rs s no_classes (strong_learned known (is_open h) (gap_of h) (place_of (heads Q2 (sizes_of known)) h.words) h.numbers rs s (strong_second known h o));
 }
 
 reversible_short : IsShortFor meaning IsSmall Q3
@@ -391,7 +419,7 @@ reversible_short = record {
   head_forms = λ known s. (plain_head 1 (codes "q3") yes refl, (number_head 2 (codes "q3") no (length known.net.reactions) refl (reactions_short known s), tt));
   row_forms = λ known h s o. reversible_rows known (place_of (heads Q3 (sizes_of known)) h.words) h.numbers s;
   trees = λ known h s. none_few (is_open h);
-  learn = λ known h rs s o z. same_net Q3 known h rs s no_classes;
+  learn = λ known h rs s o z. same_net Q3 known h rs s no_classes no_terminal;
 }
 
 weak_short : IsShortFor meaning IsSmall Q4
@@ -399,7 +427,7 @@ weak_short = record {
   head_forms = λ known s. (plain_head 1 (codes "q4") yes refl, (number_head 2 (codes "q4") no (length known.net.reactions) refl (reactions_short known s), tt));
   row_forms = λ known h s o. tt;
   trees = λ known h s. none_few (is_open h);
-  learn = λ known h rs s o z. same_net Q4 known h rs s no_classes;
+  learn = λ known h rs s o z. same_net Q4 known h rs s no_classes no_terminal;
 }
 
 rank_short : IsShortFor meaning IsSmall Q5
@@ -413,7 +441,7 @@ rank_short = record {
       );
   row_forms = λ known h s o. rank_rows known (place_of (heads Q5 (sizes_of known)) h.words) h.numbers s (rank_first known h s o);
   trees = λ known h s. none_few (is_open h);
-  learn = λ known h rs s o z. same_net Q5 known h rs s no_classes;
+  learn = λ known h rs s o z. same_net Q5 known h rs s no_classes no_terminal;
 }
 
 deficiency_heads : (known : Known) → IsSmall known → AllByRecursion IsBounded (heads Q6 (sizes_of known))
@@ -439,7 +467,7 @@ deficiency_short = record {
   head_forms = deficiency_heads;
   row_forms = λ known h s o. deficiency_rows known (place_of (heads Q6 (sizes_of known)) h.words) h.numbers s;
   trees = λ known h s. none_few (is_open h);
-  learn = λ known h rs s o z. same_net Q6 known h rs s no_classes;
+  learn = λ known h rs s o z. same_net Q6 known h rs s no_classes no_terminal;
 }
 
 dependence_short : IsShortFor meaning IsSmall Q7
@@ -451,7 +479,7 @@ dependence_short = record {
       );
   row_forms = λ known h s o. dependence_rows known (place_of (heads Q7 (sizes_of known)) h.words) h.numbers s;
   trees = λ known h s. none_few (is_open h);
-  learn = λ known h rs s o z. same_net Q7 known h rs s no_classes;
+  learn = λ known h rs s o z. same_net Q7 known h rs s no_classes no_terminal;
 }
 
 conservation_short : IsShortFor meaning IsSmall Q8
@@ -463,7 +491,7 @@ conservation_short = record {
       );
   row_forms = λ known h s o. conservation_rows known (place_of (heads Q8 (sizes_of known)) h.words) h.numbers s;
   trees = λ known h s. none_few (is_open h);
-  learn = λ known h rs s o z. same_net Q8 known h rs s no_classes;
+  learn = λ known h rs s o z. same_net Q8 known h rs s no_classes no_terminal;
 }
 
 -- a head that is open because of this question, and one with a class and a number from 2
@@ -483,7 +511,7 @@ zero_theorem_short = record {
   );
   row_forms = λ known h s o. tt;
   trees = λ known h s. none_few (is_open h);
-  learn = λ known h rs s o z. same_net Q9 known h rs s no_classes;
+  learn = λ known h rs s o z. same_net Q9 known h rs s no_classes no_terminal;
 }
 
 one_theorem_short : IsShortFor meaning IsSmall Q10
@@ -500,7 +528,7 @@ one_theorem_short = record {
   );
   row_forms = λ known h s o. tt;
   trees = λ known h s. none_few (is_open h);
-  learn = λ known h rs s o z. same_net Q10 known h rs s no_classes;
+  learn = λ known h rs s o z. same_net Q10 known h rs s no_classes no_terminal;
 }
 
 regular_short : IsShortFor meaning IsSmall Q11
@@ -517,7 +545,7 @@ regular_short = record {
   );
   row_forms = λ known h s o. regular_rows known (place_of (heads Q11 (sizes_of known)) h.words) h.numbers s;
   trees = λ known h s. none_few (is_open h);
-  learn = λ known h rs s o z. same_net Q11 known h rs s no_classes;
+  learn = λ known h rs s o z. same_net Q11 known h rs s no_classes no_terminal;
 }
 
 confluence_heads : (known : Known) → IsSmall known → AllByRecursion IsBounded (heads Q12 (sizes_of known))
@@ -546,14 +574,73 @@ confluence_short = record {
   head_forms = confluence_heads;
   row_forms = λ known h s o. confluence_rows known (place_of (heads Q12 (sizes_of known)) h.words) h.numbers s;
   trees = λ known h s. none_few (is_open h);
-  learn = λ known h rs s o z. same_net Q12 known h rs s no_classes;
+  learn = λ known h rs s o z. same_net Q12 known h rs s no_classes no_terminal;
 }
-
--- ---- concordance
 
 -- a head that is open because a budget is spent
 spent_head : (word : List ℕ) (place : ℕ) → words_fit (word ∷ open_by (codes "budget")) ≡ true → IsBounded (spent word place)
 spent_head word place w = record { words = w; few = omega arith; fields = ((one_short, omega arith), tt) }
+
+-- ---- signals
+
+-- as many rows as complexes and pairs
+shelf_rows : (known : Known) → IsSmall known → length known.net.complexes + length (pairs_of known) ≤ 400
+shelf_rows known s = let c = s.complexes in omega (arith, c, (pairs_few known s).0)
+
+signal_last : (known : Known) → IsSmall known → (b : Bool) → AllByRecursion IsBounded (wide_signal b (sizes_of known) ++ spent (codes "q13") 5 ∷ rests (codes "q13") 6 12 ∷ [])
+signal_last known s false = (spent_head (codes "q13") 5 refl, (rests_head (codes "q13") 6 12 refl (omega arith), tt))
+signal_last known s true =
+    let a = s.species in (
+      wide_head (codes "q13") 4 5 (length known.net.names + 1) (length known.net.complexes + length (pairs_of known)) refl (omega arith) (omega (arith, a)) (shelf_rows known s),
+      (spent_head (codes "q13") 5 refl, (rests_head (codes "q13") 6 12 refl (omega arith), tt)),
+    )
+
+signal_heads : (known : Known) → IsSmall known → AllByRecursion IsBounded (heads Q13 (sizes_of known))
+signal_heads known s =
+    let a = s.species in
+    let c = s.reactions in (
+      record { words = refl; few = omega arith; fields = (tt, tt) },
+      (
+        plain_head 2 (codes "q13") no refl,
+        (
+          plain_head 3 (codes "q13") (codes "none" ∷ []) refl,
+          (wide_head (codes "q13") 4 2 (length known.net.reactions) (length known.net.names) refl (omega arith) (omega (arith, c)) (omega (arith, a)), signal_last known s (has_vector (on known.earlier Q12))),
+        ),
+      ),
+    )
+
+signal_rows : (known : Known) (place : ℕ) (n : List ℤ) → IsSmall known → AllByRecursion IsBounded (rows Q13 (shapes_of known) place n)
+signal_rows known zero n s = tt
+signal_rows known (suc zero) n s =
+    let t = s.terminal in (
+      record { words = refl; few = omega (arith, t); fields = ((one_short, one_short), tt) },
+      (
+        free_bounded (codes "mu") (length known.net.names) refl (species_few known s),
+        (free_bounded (codes "m") 1 refl (omega arith), (free_bounded (codes "weights") (length known.net.reactions) refl (reactions_few known s), tt)),
+      ),
+    )
+signal_rows known (suc (suc k)) n s = tt
+
+signal_trees_few : (known : Known) (b : Bool) → IsSmall known → AreFewProblems (signal_problems known b)
+signal_trees_few known false s = ((shelf_rows known s, species_few known s), tt)
+signal_trees_few known true s = ((shelf_rows known s, species_few known s), ((shelf_rows known s, species_few known s), tt))
+
+signal_trees : (known : Known) (t : Bool) (place : ℕ) → IsSmall known → AreFewProblems (unless t (problems_by Q13 known place))
+signal_trees known true place s = tt
+signal_trees known false zero s = tt
+signal_trees known false (suc zero) s = tt
+signal_trees known false (suc (suc zero)) s = signal_trees_few known (is_yes (on known.earlier Q4)) s
+signal_trees known false (suc (suc (suc k))) s = tt
+
+pub signal_short : IsShortFor meaning IsSmall Q13
+signal_short = record {
+  head_forms = signal_heads;
+  row_forms = λ known h s o. signal_rows known (place_of (heads Q13 (sizes_of known)) h.words) h.numbers s;
+  trees = λ known h s. signal_trees known (is_open h) (place_of (heads Q13 (sizes_of known)) h.words) s;
+  learn = λ known h rs s o z. same_net Q13 known h rs s no_classes no_terminal;
+}
+
+-- ---- concordance
 
 concordant_rows : (known : Known) (place : ℕ) (n : List ℤ) → IsSmall known → AllByRecursion IsBounded (rows Q14 (shapes_of known) place n)
 concordant_rows known zero n s = tt
@@ -576,7 +663,7 @@ concordant_short = record {
       );
   row_forms = λ known h s o. concordant_rows known (place_of (heads Q14 (sizes_of known)) h.words) h.numbers s;
   trees = λ known h s. concordant_trees known (is_open h) (place_of (heads Q14 (sizes_of known)) h.words) s;
-  learn = λ known h rs s o z. same_net Q14 known h rs s no_classes;
+  learn = λ known h rs s o z. same_net Q14 known h rs s no_classes no_terminal;
 }
 
 strongly_rows : (known : Known) (place : ℕ) (n : List ℤ) → IsSmall known → AllByRecursion IsBounded (rows Q15 (shapes_of known) place n)
@@ -600,7 +687,7 @@ strongly_short = record {
       );
   row_forms = λ known h s o. strongly_rows known (place_of (heads Q15 (sizes_of known)) h.words) h.numbers s;
   trees = λ known h s. strongly_trees known (is_open h) (place_of (heads Q15 (sizes_of known)) h.words) s;
-  learn = λ known h rs s o z. same_net Q15 known h rs s no_classes;
+  learn = λ known h rs s o z. same_net Q15 known h rs s no_classes no_terminal;
 }
 
 pub meaning_short : AllByRecursion (IsShortFor meaning IsSmall) built

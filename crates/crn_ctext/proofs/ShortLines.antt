@@ -129,13 +129,12 @@ record_line_is_short r p =
       omega (arith, joined_length parts, total_append r.words (map signed_decimal r.numbers), words_length r.words w.0, within (length r.words) 3 w.1, numbers_length r.numbers p.numbers, few),
     )
 
--- it has room for its words and for 400 numbers
-pub record_line_is_small : (r : Record) → IsPlain r → length (record_text r) ≤ 9663
-record_line_is_small r p =
+-- it has room for its words and for its numbers
+pub record_line_length : (r : Record) → IsPlain r → length (record_text r) ≤ 63 + 24 * length r.numbers
+record_line_length r p =
     let w = and_cases (list_all word_fits r.words) (nat_le (length r.words) 3) p.words in
-    let few = p.few in
     let parts = r.words ++ map signed_decimal r.numbers in
-    omega (arith, joined_length parts, total_append r.words (map signed_decimal r.numbers), words_length r.words w.0, within (length r.words) 3 w.1, numbers_length r.numbers p.numbers, few)
+    omega (arith, joined_length parts, total_append r.words (map signed_decimal r.numbers), words_length r.words w.0, within (length r.words) 3 w.1, numbers_length r.numbers p.numbers)
 
 -- ---- a network's lines
 

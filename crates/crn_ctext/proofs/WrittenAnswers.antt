@@ -15,10 +15,10 @@ use Rattle.crn_ctext.specs.Documents as documents
 use Rattle.crn_ctext.specs.Shares.{as_share}
 use Rattle.std.proofs.lemmas.List.{append-nil}
 use Rattle.crn_vec.specs.Network.{Net, IsNetwork}
-use Rattle.crn_vec.proofs.CallerLemmas.{some_species}
 use Rattle.crn_cert.proofs.CallerLemmas.{shares_fit as cut_shares_fit, IsTreeless, rows_linkage, rows_strong, rows_reversible, rows_weak, rows_rank, rows_deficiency, rows_dependence, rows_conservation, rows_zero, rows_one, rows_regular, rows_confluence}
 use Rattle.crn_ctext.proofs.TablesLinked.{TableRows, tree_or_none}
-use Rattle.crn_ctext.proofs.CutLists.{few_species, one_tree_cuts}
+use Rattle.crn_ctext.proofs.SignalLinked.{signal_trees}
+use Rattle.crn_ctext.proofs.CutLists.{one_tree_cuts, signal_cuts}
 use Rattle.crn_cert.specs.Built.{built}
 use Rattle.crn_cert.specs.Formed.{AreFormed, RowsMayBe, RowsLinkage, RowsStrong, IsFormed as IsFormedAnswer}
 use Rattle.crn_cert.specs.Questions.{Earlier, Question, Q1, Q2, Q3, Q4, Q5, Q6, Q7, Q8, Q9, Q10, questions, Q11, Q12, Q13, Q14, Q15, on}
@@ -104,15 +104,16 @@ sees_second net earlier v p h = sees_strong net v p h
 abbrev pub IsShortQuestion : Question → Type 0
 IsShortQuestion q = (net : Net) (earlier : Earlier) (v : Verdict) (p : Proof) → RowsMayBe net earlier q v p → IsTreeless p
 
--- the same of each question but those on concordance, whose answers may have a tree
+-- the same of each question but those on signals and on concordance, whose answers may have trees
 abbrev pub ShortFor : Question → Type 0
+ShortFor Q13 = Unit {0}
 ShortFor Q14 = Unit {0}
 ShortFor Q15 = Unit {0}
 ShortFor q = IsShortQuestion q
 
 -- the cuts of a formed answer to the question may be shared
 record IsPlainFor (q : Question) : Type 0 where
-  cuts : (net : Net) (earlier : Earlier) (v : Verdict) (p : Proof) → 1 ≤ length net.names → length net.names ≤ MAX_NUMBERS → RowsMayBe net earlier q v p → AllByRecursion (IsShareable MAX_NUMBERS) (cuts_in p)
+  cuts : (net : Net) (earlier : Earlier) (v : Verdict) (p : Proof) → IsNetwork net → RowsMayBe net earlier q v p → AllByRecursion (IsShareable MAX_NUMBERS) (cuts_in p)
 
 -- a proof without trees has no cuts
 no_cuts : (p : Proof) → IsTreeless p → cuts_in p ≡ []
@@ -129,7 +130,7 @@ no_cuts (proof.Two tree second) h = absurd h
 
 short_plain : (q : Question) → IsShortQuestion q → IsPlainFor q
 short_plain q s = record {
-  cuts = λ net earlier v p some few h. subst (AllByRecursion (IsShareable MAX_NUMBERS)) (sym (no_cuts p (s net earlier v p h))) tt;
+  cuts = λ net earlier v p n h. subst (AllByRecursion (IsShareable MAX_NUMBERS)) (sym (no_cuts p (s net earlier v p h))) tt;
 }
 
 pub concordant_rows : (net : Net) (earlier : Earlier) (v : Verdict) (p : Proof) → RowsMayBe net earlier Q14 v p → TableRows net v p
@@ -140,14 +141,19 @@ pub strongly_rows : (net : Net) (earlier : Earlier) (v : Verdict) (p : Proof) �
 strongly_rows net earlier (Unknown gap) p h = h
 strongly_rows net earlier v p h = h
 
+signal_plain : IsPlainFor Q13
+signal_plain = record {
+  cuts = λ net earlier v p n h. signal_cuts net earlier p n (signal_trees net earlier v p h);
+}
+
 concordant_plain : IsPlainFor Q14
 concordant_plain = record {
-  cuts = λ net earlier v p some few h. one_tree_cuts net p some few (tree_or_none net v p (concordant_rows net earlier v p h));
+  cuts = λ net earlier v p n h. one_tree_cuts net p n (tree_or_none net v p (concordant_rows net earlier v p h));
 }
 
 strongly_plain : IsPlainFor Q15
 strongly_plain = record {
-  cuts = λ net earlier v p some few h. one_tree_cuts net p some few (tree_or_none net v p (strongly_rows net earlier v p h));
+  cuts = λ net earlier v p n h. one_tree_cuts net p n (tree_or_none net v p (strongly_rows net earlier v p h));
 }
 
 plain_for : (q : Question) → ShortFor q → IsPlainFor q
@@ -163,7 +169,7 @@ plain_for Q9 s = short_plain Q9 s
 plain_for Q10 s = short_plain Q10 s
 plain_for Q11 s = short_plain Q11 s
 plain_for Q12 s = short_plain Q12 s
-plain_for Q13 s = short_plain Q13 s
+plain_for Q13 s = signal_plain
 plain_for Q14 s = concordant_plain
 plain_for Q15 s = strongly_plain
 
@@ -171,21 +177,21 @@ both_all : (P : List ℤ → Type 0) (xs ys : List (List ℤ)) → AllByRecursio
 both_all P [] ys a b = b
 both_all P (x ∷ xs) ys a b = (a.0, both_all P xs ys a.1 b)
 
-cuts_by : (net : Net) (earlier : Earlier) (qs : List Question) (xs : List Answer) → 1 ≤ length net.names → length net.names ≤ MAX_NUMBERS → AllByRecursion ShortFor qs → AreFormed net earlier qs xs → AllByRecursion (IsShareable MAX_NUMBERS) (all_cuts xs)
-cuts_by net earlier [] [] some few s h = tt
-cuts_by net earlier [] (a ∷ xs) some few s h = absurd h
-cuts_by net earlier (q ∷ qs) [] some few s h = absurd h
-cuts_by net earlier (q ∷ qs) (a ∷ xs) some few s h =
+cuts_by : (net : Net) (earlier : Earlier) (qs : List Question) (xs : List Answer) → IsNetwork net → AllByRecursion ShortFor qs → AreFormed net earlier qs xs → AllByRecursion (IsShareable MAX_NUMBERS) (all_cuts xs)
+cuts_by net earlier [] [] n s h = tt
+cuts_by net earlier [] (a ∷ xs) n s h = absurd h
+cuts_by net earlier (q ∷ qs) [] n s h = absurd h
+cuts_by net earlier (q ∷ qs) (a ∷ xs) n s h =
     let p = plain_for q s.0 in
     let cuts = p.cuts in
-    both_all (IsShareable MAX_NUMBERS) (cuts_in a.proof) (all_cuts xs) (cuts net earlier a.verdict a.proof some few h.0.1) (cuts_by net (earlier ++ (q, a.verdict) ∷ []) qs xs some few s.1 h.1)
+    both_all (IsShareable MAX_NUMBERS) (cuts_in a.proof) (all_cuts xs) (cuts net earlier a.verdict a.proof n h.0.1) (cuts_by net (earlier ++ (q, a.verdict) ∷ []) qs xs n s.1 h.1)
 
 pub built_short : AllByRecursion ShortFor built
 built_short = (rows_linkage, (rows_strong, (rows_reversible, (rows_weak, (rows_rank, (rows_deficiency, (rows_dependence, (rows_conservation, (rows_zero, (rows_one, (rows_regular, (rows_confluence, (tt, (tt, tt))))))))))))))
 
 -- the cuts of formed answers of a network may be shared
 pub cuts_shareable : (net : Net) (xs : List Answer) → IsNetwork net → AreFormed net [] built xs → AllByRecursion (IsShareable MAX_NUMBERS) (all_cuts xs)
-cuts_shareable net xs n h = cuts_by net [] built xs (some_species net n) (few_species net n) built_short h
+cuts_shareable net xs n h = cuts_by net [] built xs n built_short h
 
 -- there are as many answers as questions
 pub as_many : (net : Net) (earlier : Earlier) (qs : List Question) (xs : List Answer) → AreFormed net earlier qs xs → length xs ≡ length qs
