@@ -8,6 +8,6 @@ pub fn question_number(place: usize) -> usize
     requires built { place ≤ length built }
     ensures { result ≡ number (slice_index_or built (place - 1) Q1) }
 {
-    // Question 13 is not built.
-    if place <= 12 { place } else { place + 1 }
+    // All questions are built.
+    place
 }

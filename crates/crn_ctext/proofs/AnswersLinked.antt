@@ -40,6 +40,7 @@ use Rattle.crn_ctext.proofs.Joined.{parts, IsLinked, answer, open_as, tied, IsJo
 use Rattle.crn_ctext.proofs.KnownBefore.{AreKnown, IsStrongTrue, after, formed_right, said_right, known_then, valid_is_true, true_moves, true_then}
 use Rattle.crn_ctext.proofs.Linking.{several_fit, small_fits, number_fits, class_fits, without_proof}
 use Rattle.crn_ctext.proofs.TablesLinked.{plain_joined, strong_joined}
+use Rattle.crn_ctext.proofs.SignalLinked.{signal_joined}
 use Rattle.crn_ctext.proofs.ConfluenceLinked.{regular_linked, confluence_tied}
 use Rattle.crn_ctext.proofs.Alike.{IsAlike, alike_then, labels_alike, counts_alike, ranks_alike}
 use Rattle.crn_ctext.proofs.TestsAlike.{zero_alike, number_alike, one_alike, split_alike}
@@ -515,7 +516,7 @@ built_linked = (
         (λ known earlier v p e f. weak_linked known earlier v p (labels_alike known.earlier earlier Q2 e) f),
         (
           (λ known earlier v p e f. rank_linked known earlier v p f),
-          (deficiency_linked, ((λ known earlier v p e f. dependence_linked known earlier v p f), ((λ known earlier v p e f. conservation_linked known earlier v p f), (zero_linked, (one_linked, ((λ known earlier v p k e f. tied known earlier Q11 (answer v p) (regular_linked known earlier v p k e f)), ((λ known earlier v p k e f. confluence_tied known earlier v p e f), (plain_joined true, (strong_joined true, tt))))))))),
+          (deficiency_linked, ((λ known earlier v p e f. dependence_linked known earlier v p f), ((λ known earlier v p e f. conservation_linked known earlier v p f), (zero_linked, (one_linked, ((λ known earlier v p k e f. tied known earlier Q11 (answer v p) (regular_linked known earlier v p k e f)), ((λ known earlier v p k e f. confluence_tied known earlier v p e f), (signal_joined, (plain_joined true, (strong_joined true, tt)))))))))),
         ),
       ),
     ),

@@ -226,7 +226,7 @@ built_few = (
             (λ known h s o. deficiency_few known (place_of (heads Q6 (sizes_of known)) h.words) h.numbers s),
             (
               (λ known h s o. dependence_few (shapes_of known) (place_of (heads Q7 (sizes_of known)) h.words) h.numbers),
-              ((λ known h s o. conservation_few (shapes_of known) (place_of (heads Q8 (sizes_of known)) h.words) h.numbers), ((λ known h s o. omega arith), ((λ known h s o. omega arith), ((λ known h s o. regular_few known (place_of (heads Q11 (sizes_of known)) h.words) h.numbers s), ((λ known h s o. confluence_few known (place_of (heads Q12 (sizes_of known)) h.words) h.numbers s), (concordant_is_few, (strongly_is_few, tt))))))),
+              ((λ known h s o. conservation_few (shapes_of known) (place_of (heads Q8 (sizes_of known)) h.words) h.numbers), ((λ known h s o. omega arith), ((λ known h s o. omega arith), ((λ known h s o. regular_few known (place_of (heads Q11 (sizes_of known)) h.words) h.numbers s), ((λ known h s o. confluence_few known (place_of (heads Q12 (sizes_of known)) h.words) h.numbers s), (signal_is_few, (concordant_is_few, (strongly_is_few, tt)))))))),
             ),
           ),
         ),

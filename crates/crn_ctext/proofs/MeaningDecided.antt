@@ -403,4 +403,4 @@ strongly_decided = record {
 }
 
 pub meaning_decided : IsDecidedMeaning meaning OfNetwork built
-meaning_decided = (linkage_decided, (strong_decided, (reversible_decided, (weak_decided, (ranks_decided, (deficiencies_decided, (positive_decided, (conservative_decided, (zero_decided, (one_decided, (regular_decided, (confluence_decided, (concordant_decided, (strongly_decided, tt))))))))))))))
+meaning_decided = (linkage_decided, (strong_decided, (reversible_decided, (weak_decided, (ranks_decided, (deficiencies_decided, (positive_decided, (conservative_decided, (zero_decided, (one_decided, (regular_decided, (confluence_decided, (signals_decided, (concordant_decided, (strongly_decided, tt)))))))))))))))

@@ -691,4 +691,4 @@ strongly_short = record {
 }
 
 pub meaning_short : AllByRecursion (IsShortFor meaning IsSmall) built
-meaning_short = (linkage_short, (strong_short, (reversible_short, (weak_short, (rank_short, (deficiency_short, (dependence_short, (conservation_short, (zero_theorem_short, (one_theorem_short, (regular_short, (confluence_short, (concordant_short, (strongly_short, tt))))))))))))))
+meaning_short = (linkage_short, (strong_short, (reversible_short, (weak_short, (rank_short, (deficiency_short, (dependence_short, (conservation_short, (zero_theorem_short, (one_theorem_short, (regular_short, (confluence_short, (signal_short, (concordant_short, (strongly_short, tt)))))))))))))))

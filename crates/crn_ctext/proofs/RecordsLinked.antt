@@ -938,5 +938,5 @@ answers_by alloc b (q ∷ qs) r known (rs ∷ more) k f =
 
 pub records_answered : Global → (net : Net) (answers : List (List Record)) → documents.AreFormed meaning built (meaning.start net) answers → (given : List Answer) × AreFormed net [] built given × (all_records meaning built (meaning.start net) given ≡ answers) × (verdicts_said built (meaning.start net) answers ≡ verdicts_of given)
 records_answered alloc net answers f =
-    let r = answers_by alloc false built (linkage_answered, (strong_answered, (reversible_answered, (weak_answered, (rank_answered, (deficiency_answered, (dependence_answered, (conservation_answered, (zero_answered, (one_answered, (regular_answered, (confluence_answered, (concordance_answered, (strong_concordance_answered, tt)))))))))))))) (meaning.start net) answers tt f in
+    let r = answers_by alloc false built (linkage_answered, (strong_answered, (reversible_answered, (weak_answered, (rank_answered, (deficiency_answered, (dependence_answered, (conservation_answered, (zero_answered, (one_answered, (regular_answered, (confluence_answered, ((λ alloc known h rows nodes k o. signal_answered alloc known h rows nodes k o), (concordance_answered, (strong_concordance_answered, tt))))))))))))))) (meaning.start net) answers tt f in
     (r.0, (let g = r.1 in g [] refl), r.2, r.3)

@@ -3,7 +3,7 @@ use Rattle.std.proofs.Common.{List, [], ◌∷◌, refl, sym, subst, inl, inr, G
 use Rattle.crn_vec.specs.Network.{Net, IsNetwork}
 use Rattle.crn_cert.specs.declared.answer.Verdict.{Verdict}
 use Rattle.crn_cert.specs.declared.answer.Answer.{Answer}
-use Rattle.crn_cert.specs.Questions.{Question, Q1, Q2, Q3, Q4, Q5, Q6, Q7, Q8, Q9, Q10, Q11}
+use Rattle.crn_cert.specs.Questions.{Question, Q1, Q2, Q3, Q4, Q5, Q6, Q7, Q8, Q9, Q10, Q11, Q12}
 use Rattle.crn_cert.specs.Formed.{AreFormed}
 use Rattle.crn_cert.specs.Valid.{AreValid}
 use Rattle.crn_cert.specs.Law.{AllTrueOrOpen, AreBuilt}
@@ -23,7 +23,7 @@ use Rattle.crn_ctext.proofs.RecordsLinked.{records_answered}
 built_in_order : AreBuilt [] built
 built_in_order = (
   (λ j i. i),
-  ((λ j i. absurd i), ((λ j i. absurd i), ((λ j i. strong_before j i), ((λ j i. absurd i), ((λ j i. linkage_and_rank_before j i), ((λ j i. absurd i), ((λ j i. absurd i), ((λ j i. zero_before j i), ((λ j i. one_before j i), ((λ j i. regular_before j i), ((λ j i. confluence_before j i), ((λ j i. absurd i), ((λ j i. absurd i), tt))))))))))))),
+  ((λ j i. absurd i), ((λ j i. absurd i), ((λ j i. strong_before j i), ((λ j i. absurd i), ((λ j i. linkage_and_rank_before j i), ((λ j i. absurd i), ((λ j i. absurd i), ((λ j i. zero_before j i), ((λ j i. one_before j i), ((λ j i. regular_before j i), ((λ j i. confluence_before j i), ((λ j i. signal_before j i), ((λ j i. absurd i), ((λ j i. absurd i), tt)))))))))))))),
 )
   where
     strong_before : (j : Question) → IsIn j (Q2 ∷ []) → IsIn j (Q1 ∷ Q2 ∷ Q3 ∷ [])
@@ -59,6 +59,11 @@ built_in_order = (
     confluence_before j (inr (inr (inl e))) = inr (inr (inr (inl e)))
     confluence_before j (inr (inr (inr (inl e)))) = inr (inr (inr (inr (inr (inr (inr (inr (inr (inr (inl e))))))))))
     confluence_before j (inr (inr (inr (inr none)))) = absurd none
+
+    signal_before : (j : Question) → IsIn j (Q4 ∷ Q12 ∷ []) → IsIn j (Q1 ∷ Q2 ∷ Q3 ∷ Q4 ∷ Q5 ∷ Q6 ∷ Q7 ∷ Q8 ∷ Q9 ∷ Q10 ∷ Q11 ∷ Q12 ∷ [])
+    signal_before j (inl e) = inr (inr (inr (inl e)))
+    signal_before j (inr (inl e)) = inr (inr (inr (inr (inr (inr (inr (inr (inr (inr (inr (inl e)))))))))))
+    signal_before j (inr (inr none)) = absurd none
 
 sound_by : (net : Net) (qs : List Question) (answers : List Answer) → AllTrueOrOpen net qs answers → AreSound net qs (verdicts_of answers)
 sound_by net [] [] t = refl

@@ -187,7 +187,7 @@ cuts_by net earlier (q ∷ qs) (a ∷ xs) n s h =
     both_all (IsShareable MAX_NUMBERS) (cuts_in a.proof) (all_cuts xs) (cuts net earlier a.verdict a.proof n h.0.1) (cuts_by net (earlier ++ (q, a.verdict) ∷ []) qs xs n s.1 h.1)
 
 pub built_short : AllByRecursion ShortFor built
-built_short = (rows_linkage, (rows_strong, (rows_reversible, (rows_weak, (rows_rank, (rows_deficiency, (rows_dependence, (rows_conservation, (rows_zero, (rows_one, (rows_regular, (rows_confluence, (tt, (tt, tt))))))))))))))
+built_short = (rows_linkage, (rows_strong, (rows_reversible, (rows_weak, (rows_rank, (rows_deficiency, (rows_dependence, (rows_conservation, (rows_zero, (rows_one, (rows_regular, (rows_confluence, (tt, (tt, (tt, tt)))))))))))))))
 
 -- the cuts of formed answers of a network may be shared
 pub cuts_shareable : (net : Net) (xs : List Answer) → IsNetwork net → AreFormed net [] built xs → AllByRecursion (IsShareable MAX_NUMBERS) (all_cuts xs)
@@ -248,7 +248,7 @@ all_written net (a ∷ b ∷ xs) h =
       same_rows (shapes_of start) (shapes_with pairs) a.proof (sees_first net [] a.verdict a.proof h.0.1),
       (
         same_rows (shapes_of (after_answer Q1 start a)) (shapes_with pairs) b.proof (sees_second net ((Q1, a.verdict) ∷ []) b.verdict b.proof h.1.0.1),
-        written_after pairs (Q3 ∷ Q4 ∷ Q5 ∷ Q6 ∷ Q7 ∷ Q8 ∷ Q9 ∷ Q10 ∷ Q11 ∷ Q12 ∷ Q14 ∷ Q15 ∷ []) (after_answer Q2 (after_answer Q1 start a) b) xs p.0 p.1,
+        written_after pairs (Q3 ∷ Q4 ∷ Q5 ∷ Q6 ∷ Q7 ∷ Q8 ∷ Q9 ∷ Q10 ∷ Q11 ∷ Q12 ∷ Q13 ∷ Q14 ∷ Q15 ∷ []) (after_answer Q2 (after_answer Q1 start a) b) xs p.0 p.1,
       ),
     )
 
