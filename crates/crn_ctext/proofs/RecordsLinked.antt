@@ -758,9 +758,14 @@ shelves_back net count (r ∷ s ∷ rows) z =
     let p = z.0.1 in
     let all : r.numbers ≡ p.0 = p.2 ∙ ap (λ (t : List ℤ). p.0 ++ t) p.4 ∙ append-nil p.0 in
     let b = free_row (codes "mu") (length net.names) s z.1.0 in
-    let c = weights_back net rows z.1.1 in
-    (p.0, s.numbers, c.0, c.1, ap₂ (λ (x : Record) (xs : List Record). x ∷ xs) (record_is r (codes "shelves" ∷ []) p.0 z.0.0 all) (ap₂ (λ (x : Record) (xs : List Record). x ∷ xs) b.0 c.2),
-      (record { long = p.3.0.0; each = between_shelves p.0 p.3.0.1 }, (b.1, c.3)))
+    let c = weights_back net rows z.1.1 in (
+      p.0,
+      s.numbers,
+      c.0,
+      c.1,
+      ap₂ (λ (x : Record) (xs : List Record). x ∷ xs) (record_is r (codes "shelves" ∷ []) p.0 z.0.0 all) (ap₂ (λ (x : Record) (xs : List Record). x ∷ xs) b.0 c.2),
+      (record { long = p.3.0.0; each = between_shelves p.0 p.3.0.1 }, (b.1, c.3)),
+    )
 
 signal_by : (known : Known) (turn : ℤ) (rows nodes : List Record) → IsTurn turn → TellParts known Q13 (head_with Q13 yes (turn ∷ [])) rows nodes
 unfolding kept_ints
@@ -825,8 +830,15 @@ shelf_wide_by known h rows nodes k given f =
     told_at known Q13 h (open_head Q13 (Wide 5 0 b.0 (kept b.1))) rows nodes (record_is h (codes "q13" ∷ open_by (codes "wide")) (map pos (5 ∷ 0 ∷ b.0 ∷ b.1)) f.0 b.2) (λ z t. (
       Unknown (Wide 5 0 b.0 (kept b.1)),
       Nothing,
-      (λ earlier e. (inr (refl, refl, subst (λ (o : Option (List ℤ)). IsSome o) (vectors_alike known.earlier earlier Q12 e) (vector_then (on known.earlier Q12) given),
-          subst (λ (ps : List ℕ). IsBasisOf m (length net.complexes + length ps) b.0 b.1) (same_pairs known earlier k e) b.3), refl)),
+      (λ earlier e. (
+        inr (
+          refl,
+          refl,
+          subst (λ (o : Option (List ℤ)). IsSome o) (vectors_alike known.earlier earlier Q12 e) (vector_then (on known.earlier Q12) given),
+          subst (λ (ps : List ℕ). IsBasisOf m (length net.complexes + length ps) b.0 b.1) (same_pairs known earlier k e) b.3,
+        ),
+        refl,
+      )),
       refl,
       zip_none rows z,
       t,

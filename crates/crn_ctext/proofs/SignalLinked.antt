@@ -1,5 +1,5 @@
 -- Answers on signals and their records: a signal, one tree or two, or none.
-use Rattle.std.proofs.Common.{◌↔◌, ◌≡◌, ◌⊎◌, ◌≤◌, ◌<◌, ◌+◌, ◌++◌, ◌∙◌, ℕ, Bool, true, false, List, [], ◌∷◌, length, map, refl, sym, ap, ap₂, subst, inl, inr, arith}
+use Rattle.std.proofs.Common.{◌≡◌, ◌⊎◌, ◌≤◌, ◌<◌, ◌+◌, ◌++◌, ◌∙◌, ℕ, Bool, true, false, List, [], ◌∷◌, length, map, refl, sym, ap, ap₂, subst, inl, inr, arith}
 use Rattle.std.specs.Prelude.{ℤ, pos, negsuc, Option, Some, None, codes}
 use Rattle.std.specs.Option.{IsSome, IsSomeAnd}
 use Rattle.std.specs.List.{AllByRecursion, AllZip}
@@ -24,29 +24,27 @@ use Rattle.crn_cert.specs.Tests.{Test, test, AllHold}
 use Rattle.crn_cert.specs.Trees.{Plan, plan, node_count, IsFormedTree}
 use Rattle.crn_cert.specs.Nodes.{Said, Splits, Flats, CutsA, CutsB, Fits as FitsNode}
 use Rattle.crn_cert.specs.TreeTests.{tree_tests}
-use Rattle.crn_cert.specs.Ranges.{IsFrom}
 use Rattle.crn_cert.specs.Says.{IsTrueOf, by_turn, IsTurn, IsShelf}
-use Rattle.crn_cert.specs.Formed.{IsBasisOf, AreShelves, AreSignalRows, IsSignalTree, IsFormedOf, RowsMayBe, RowsSignal}
+use Rattle.crn_cert.specs.Formed.{IsBasisOf, AreSignalRows, IsSignalTree, IsFormedOf, RowsMayBe}
 use Rattle.crn_cert.specs.Valid.{pair_places, HasVector, IsSignalNode, IsNodeOf, IsValid}
 use Rattle.crn_cert.proofs.CallerLemmas.{shape_count, hold_append, hold_parts}
-use Rattle.crn_ctext.specs.Records.{Record, Form, Turn, AreBetween, Takes, AreNarrow, AreOf, Fits}
-use Rattle.crn_ctext.specs.Kinds.{free_form}
+use Rattle.crn_ctext.specs.Records.{Record, Form, Turn, AreBetween, Takes, Fits}
 use Rattle.crn_ctext.specs.Questions.{Sizes, wide, wide_signal, spent, rests, rows, heads, open_by}
-use Rattle.crn_ctext.specs.Blocks.{Problem, problems, below, place_of, unless}
-use Rattle.crn_ctext.specs.Documents.{one_word, IsFormed, IsTree, AreTrees, IsGoodLeaf, IsOneOf, leaf_forms}
+use Rattle.crn_ctext.specs.Blocks.{Problem, below, place_of}
+use Rattle.crn_ctext.specs.Documents.{IsFormed, IsTree, AreTrees, IsGoodLeaf, IsOneOf, leaf_forms}
 use Rattle.crn_ctext.specs.Documents as documents
 use Rattle.crn_ctext.specs.Answers.{head_of, records_below, proof_nodes, records, nodes}
 use Rattle.crn_vec.specs.Lists.{IsIn}
 use Rattle.crn_ctext.specs.Meaning.{Known, pairs_of, is_yes, has_vector, shapes_of, sizes_of, verdict_of, signal_problem, signal_problems, meaning}
 use Rattle.crn_ctext.specs.Same.{said, shown}
 use Rattle.crn_ctext.proofs.Alike.{all_said, IsAlike, vectors_alike, terminal_alike, yes_alike, open_alike}
-use Rattle.crn_ctext.proofs.TestsAlike.{rest_tests, pairs_alike}
+use Rattle.crn_ctext.proofs.TestsAlike.{pairs_alike}
 use Rattle.crn_ctext.proofs.KnownBefore.{IsStrong, pairs_known}
-use Rattle.crn_ctext.proofs.RanksLinked.{back_again, free_fits, number_then, wide_fits, FitFields}
+use Rattle.crn_ctext.proofs.RanksLinked.{back_again, free_fits, number_then, wide_fits}
 use Rattle.crn_ctext.proofs.Joined.{parts, IsLinked, answer, open_as, linked_there, linked_back, IsJoinedFor}
 use Rattle.crn_ctext.proofs.TreesRead.{valid_tree_is_formed}
 use Rattle.crn_ctext.proofs.AnswersApart.{tree_apart}
-use Rattle.crn_ctext.proofs.TreeRecords.{Leaf, FormedAt, AreLeafTests, tree_formed, tree_good, tree_true, tests_true, true_tests, from_some_leaf, plans_one}
+use Rattle.crn_ctext.proofs.TreeRecords.{FormedAt, AreLeafTests, tree_formed, tree_good, tree_true, tests_true, true_tests, from_some_leaf, plans_one}
 use Rattle.crn_ctext.proofs.TablesLinked.{at_root, some_nodes}
 
 -- ---- yes and vectors

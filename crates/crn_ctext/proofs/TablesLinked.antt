@@ -1,6 +1,6 @@
 -- Answers on concordance and their records: a tree, or two lists that show the table discordant.
-use Rattle.std.proofs.Common.{◌≡◌, ◌⊎◌, ◌≤◌, ◌<◌, ◌+◌, ◌++◌, ◌∙◌, ℕ, Bool, List, [], ◌∷◌, length, map, refl, sym, ap, subst, inl, inr, arith}
-use Rattle.std.specs.Prelude.{ℤ, pos, codes}
+use Rattle.std.proofs.Common.{◌≡◌, ◌⊎◌, ◌≤◌, ◌<◌, ◌+◌, ◌++◌, ◌∙◌, ℕ, Bool, List, [], ◌∷◌, length, refl, sym, ap, subst, inl, inr, arith}
+use Rattle.std.specs.Prelude.{codes}
 use Rattle.std.specs.List.{range_with_len}
 use Rattle.std.proofs.lemmas.List.{append-nil, length-map}
 use Rattle.std.proofs.lemmas.List.FromFn.{length-range_with_len}
@@ -24,16 +24,15 @@ use Rattle.crn_cert.specs.Tests.{AllHold}
 use Rattle.crn_cert.specs.Trees.{plan, IsFormedTree}
 use Rattle.crn_cert.specs.Nodes.{Fits as FitsNode}
 use Rattle.crn_cert.specs.TreeTests.{tree_tests}
-use Rattle.crn_cert.specs.Formed.{IsBasisOf, IsFormedOf, RowsMayBe, RowsConcordant}
+use Rattle.crn_cert.specs.Formed.{IsBasisOf, IsFormedOf, RowsConcordant}
 use Rattle.crn_cert.specs.Valid.{IsValid}
 use Rattle.crn_ctext.specs.Records.{Record}
-use Rattle.crn_ctext.specs.Blocks.{Problem, problems}
+use Rattle.crn_ctext.specs.Blocks.{Problem}
 use Rattle.crn_ctext.specs.Documents.{IsFormed, IsTree, AreTrees, IsGoodLeaf}
 use Rattle.crn_ctext.specs.Documents as documents
 use Rattle.crn_ctext.specs.Answers.{head_of, records_below, proof_nodes, records, nodes}
 use Rattle.crn_ctext.specs.Meaning.{Known, shapes_of, sizes_of, verdict_of, problem_over, table_problem, meaning}
 use Rattle.crn_ctext.specs.Same.{said, shown}
-use Rattle.crn_ctext.proofs.Alike.{IsAlike}
 use Rattle.crn_ctext.proofs.RanksLinked.{back_again, free_fits, number_then, wide_fits}
 use Rattle.crn_ctext.proofs.Joined.{parts, IsLinked, answer, open_as, linked_there, linked_back, IsJoinedFor}
 use Rattle.crn_ctext.proofs.TreeRecords.{AreLeafTests, tree_formed, tree_good, tree_true, tests_true, true_tests, plans_one}

@@ -1,23 +1,23 @@
 -- Trees of a sign problem as records: those of a formed tree are formed, they are valid if and only if its leaves are true, and formed records are those of a formed tree.
-use Rattle.std.proofs.Common.{◌↔◌, ◌≡◌, ◌⊎◌, ◌≤◌, ◌<◌, ◌+◌, ◌++◌, ◌∙◌, ℕ, zero, suc, Bool, true, false, List, [], ◌∷◌, length, refl, sym, ap, ap₂, subst, inl, inr, arith, append_assoc, Box, Global}
+use Rattle.std.proofs.Common.{◌↔◌, ◌≡◌, ◌⊎◌, ◌<◌, ◌+◌, ◌++◌, ◌∙◌, ℕ, zero, suc, true, false, List, [], ◌∷◌, length, refl, sym, ap, ap₂, subst, inl, inr, arith, append_assoc, Box, Global}
 use Rattle.std.specs.Prelude.{ℤ, codes, slice_index, slice_index_or}
-use Rattle.std.proofs.lemmas.List.{append-nil, length-append}
+use Rattle.std.proofs.lemmas.List.{length-append}
 use denote.RawPtr.{null_ptr}
 use Rattle.crn_vec.specs.Kept.{KeptInts}
 use Rattle.crn_vec.specs.declared.signs.Sign.{Sign}
 use Rattle.crn_vec.specs.declared.signs.Sign.TheVariants.{Zero, Plus, Minus}
 use Rattle.crn_vec.specs.Problems.{all_zero}
 use Rattle.crn_cert.specs.Ranges.{AreFree}
-use Rattle.crn_cert.specs.declared.tree.Tree.{Tree, Split', CutA, CutB, Flat, Held-Tree-Split-2, None', Some'}
-use Rattle.crn_cert.specs.Trees.{Plan, Both, Three, RulesA, RulesB, Level, plan, plan_behind, with_minus, node_count, IsFormedTree}
+use Rattle.crn_cert.specs.declared.tree.Tree.{Tree, Split', CutA, CutB, Flat, None', Some'}
+use Rattle.crn_cert.specs.Trees.{Plan, Both, Three, RulesA, RulesB, Level, plan, node_count, IsFormedTree}
 use Rattle.crn_cert.specs.Nodes.{Said, Splits, Flats, CutsA, CutsB}
 use Rattle.crn_cert.specs.Tests.{AllHold}
 use Rattle.crn_cert.specs.TreeTests.{tree_tests}
 use Rattle.crn_cert.proofs.CallerLemmas.{hold_append, hold_parts}
 use Rattle.crn_ctext.specs.Records.{Record, Form, Fits}
 use Rattle.crn_ctext.specs.Kinds.{record_form, free_form}
-use Rattle.crn_ctext.specs.Blocks.{Problem, is_all_zero, node_of, word_of}
-use Rattle.crn_ctext.specs.Documents.{one_word, leaf_forms, IsOneOf, IsTree, IsGoodLeaf, IsTrueAt}
+use Rattle.crn_ctext.specs.Blocks.{Problem, is_all_zero, word_of}
+use Rattle.crn_ctext.specs.Documents.{one_word, leaf_forms, IsOneOf, IsTree, IsGoodLeaf}
 use Rattle.crn_ctext.specs.Answers.{nodes, nodes_behind}
 use Rattle.crn_ctext.proofs.RanksLinked.{free_fits, free_row, record_is}
 use Rattle.crn_ctext.proofs.AnswersApart.{tree_apart, leaf_no_split}
