@@ -27,3 +27,5 @@ pub use Rattle.crn_ctext.proofs.Texts.{AreShort, text_says, says_text}
 pub use Rattle.crn_ctext.proofs.ShortAnswers.{AllPlain, formed_are_plain, plain_are_short}
 -- Documents of formed answers whose trees have few nodes are shorter than the bound.
 pub use Rattle.crn_ctext.proofs.FewNodes.{document_short, document2_short}
+-- The trees of two sign problems whose leaves have tests that hold together give the same and fail first in the same place, and so do steps by their courses.
+pub use Rattle.crn_ctext.proofs.TreesAlike.{IsLike, HoldTogether, like_itself, like_then, trees_like, step_gives_like, step_fails_like}

@@ -35,6 +35,7 @@ mod TheoremsDecided
 mod ConfluenceDecided
 mod RanksLinked
 mod MeaningDecided
+mod TreesAlike
 mod TreesRead
 mod BlocksRead
 mod Bounded

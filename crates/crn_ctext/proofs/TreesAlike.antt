@@ -1,0 +1,168 @@
+-- Two sign problems whose leaves have tests that hold together have trees that give the same and fail first in the same place.
+use Rattle.std.proofs.Common.{◌≡◌, ◌⊎◌, ◌+◌, ◌++◌, ℕ, zero, suc, Bool, true, false, List, [], ◌∷◌, length, refl, inl, inr}
+use Rattle.std.specs.Prelude.{◌↔◌, ℤ, Option}
+use Rattle.crn_io.specs.Lines.{Place}
+use Rattle.crn_io.specs.Next.{KeptLines, place}
+use Rattle.crn_vec.specs.declared.signs.Sign.{Sign}
+use Rattle.crn_vec.specs.declared.signs.Sign.TheVariants.{Zero, Plus, Minus}
+use Rattle.crn_cert.specs.Nodes.{Said, Flats, CutsA, CutsB}
+use Rattle.crn_ctext.specs.Course.{Course, Give, Line, Test, End, ◌>>=◌, ◌>>◌, test, Gives, FailsFirst}
+use Rattle.crn_ctext.specs.Steps.{IsRest, StepGives, StepFails}
+use Rattle.crn_ctext.specs.Blocks.{Problem, Node, Split, Flat, CutA, CutB, leaf, asks_leaf, goes_on, if_signed, either, is_all_zero, asks_tree}
+use Rattle.crn_ctext.specs.Meaning.{problem_with}
+use Rattle.crn_ctext.proofs.Courses.{gives_then, fails_before, fails_then}
+
+-- what the first gives the second gives, and it fails first where the first does
+pub record IsLike {A : Type 0} (c d : Course A) : Type 0 where
+  pub gives : (at behind : Place) (y : A) → Gives c at y behind → Gives d at y behind
+  pub fails : (at : Place) (n code : ℕ) → FailsFirst c at n code → FailsFirst d at n code
+
+-- ---- courses
+
+-- a course and itself
+pub like_itself : {A : Type 0} (c : Course A) → IsLike c c
+like_itself c = record { gives = λ at behind y p. p; fails = λ at n code p. p }
+
+-- what both give, in two parts
+gives_parts : {A B : Type 0} (c : Course A) (f : A → Course B) (at behind : Place) (y : B) → Gives (c >>= f) at y behind → (x : A) × (mid : Place) × Gives c at x mid × Gives (f x) mid y behind
+unfolding Gives
+gives_parts (Give x) f at behind y p = (x, at, (refl, refl), p)
+gives_parts (Line node next) f at behind y p = let q = gives_parts (next p.0) f p.1 behind y p.3 in (q.0, q.1, (p.0, p.1, p.2, q.2), q.3)
+gives_parts (Test n c X P next) f at behind y p = let q = gives_parts (next p.0) f at behind y p.2 in (q.0, q.1, (p.0, p.1, q.2), q.3)
+gives_parts (End next) f at behind y p = let q = gives_parts next f at behind y p.1 in (q.0, q.1, (p.0, q.2), q.3)
+
+-- what fails in both, in the first or behind it
+abbrev FailsIn : {A B : Type 0} → Course A → (A → Course B) → Place → (n code : ℕ) → Type 0
+FailsIn {A} c f at n code = FailsFirst c at n code ⊎ ((x : A) × (mid : Place) × Gives c at x mid × FailsFirst (f x) mid n code)
+
+fails_parts : {A B : Type 0} (c : Course A) (f : A → Course B) (at : Place) (n code : ℕ) → FailsFirst (c >>= f) at n code → FailsIn c f at n code
+unfolding Gives FailsFirst
+fails_parts (Give x) f at n code p = inr (x, at, (refl, refl), p)
+fails_parts (Line node next) f at n code (inl p) = inl (inl p)
+fails_parts (Line node next) f at n code (inr p) = elim (fails_parts (next p.0) f p.1 n code p.3) [
+  | inl q ↦ inl (inr (p.0, p.1, p.2, q))
+  | inr q ↦ inr (q.0, q.1, (p.0, p.1, p.2, q.2), q.3)
+]
+fails_parts (Test m c X P next) f at n code (inl p) = inl (inl p)
+fails_parts (Test m c X P next) f at n code (inr p) = elim (fails_parts (next p.0) f at n code p.2) [
+  | inl q ↦ inl (inr (p.0, p.1, q))
+  | inr q ↦ inr (q.0, q.1, (p.0, p.1, q.2), q.3)
+]
+fails_parts (End next) f at n code (inl p) = inl (inl p)
+fails_parts (End next) f at n code (inr p) = elim (fails_parts next f at n code p.1) [
+  | inl q ↦ inl (inr (p.0, q))
+  | inr q ↦ inr (q.0, q.1, (p.0, q.2), q.3)
+]
+
+-- one course behind another
+gives_both : {A B : Type 0} (c d : Course A) (f g : A → Course B) → IsLike c d → ((x : A) → IsLike (f x) (g x)) → (at behind : Place) (y : B) → Gives (c >>= f) at y behind → Gives (d >>= g) at y behind
+gives_both c d f g first second at behind y p =
+    let q = gives_parts c f at behind y p in
+    let s = second q.0 in
+    gives_then d g at q.1 behind q.0 y (let h = first.gives in h at q.1 q.0 q.2) (let h = s.gives in h q.1 behind y q.3)
+
+fails_both : {A B : Type 0} (c d : Course A) (f g : A → Course B) → IsLike c d → ((x : A) → IsLike (f x) (g x)) → (at : Place) (n code : ℕ) → FailsIn c f at n code → FailsFirst (d >>= g) at n code
+fails_both c d f g first second at n code (inl q) = fails_before d g at n code (let h = first.fails in h at n code q)
+fails_both c d f g first second at n code (inr q) =
+    let s = second q.0 in
+    fails_then d g at q.1 q.0 n code (let h = first.gives in h at q.1 q.0 q.2) (let h = s.fails in h q.1 n code q.3)
+
+pub like_then : {A B : Type 0} (c d : Course A) (f g : A → Course B) → IsLike c d → ((x : A) → IsLike (f x) (g x)) → IsLike (c >>= f) (d >>= g)
+like_then c d f g first second = record {
+  gives = λ at behind y p. gives_both c d f g first second at behind y p;
+  fails = λ at n code p. fails_both c d f g first second at n code (fails_parts c f at n code p);
+}
+
+-- two tests that hold together
+pub like_test : (n code : ℕ) (P Q : Type 0) → P ↔ Q → IsLike (test n code P) (test n code Q)
+unfolding Gives FailsFirst
+like_test n code P Q same = record {
+  gives = λ at behind y p. (p.0, same.0 p.1, p.2);
+  fails = λ at m d p. elim p [
+    | inl none ↦ inl (none.0, none.1, λ x q. none.2 x (same.1 q))
+    | inr more ↦ absurd more.2
+  ];
+}
+
+-- one of two courses
+like_either : {A : Type 0} (t : Bool) (this c d : Course A) → IsLike c d → IsLike (either t this c) (either t this d)
+like_either true this c d like = like_itself this
+like_either false this c d like = like
+
+-- ---- trees
+
+-- leaves have these tests, which hold together
+abbrev pub HoldTogether : (H K : List Sign → Said → Type 0) → Type 0
+HoldTogether H K = (prefix : List Sign) (said : Said) → H prefix said ↔ K prefix said
+
+leaf_like : (c a b : ℕ) (H K : List Sign → Said → Type 0) → HoldTogether H K → (prefix : List Sign) (n : ℕ) (node : Node)
+    → IsLike (leaf (problem_with c a b H) prefix n node) (leaf (problem_with c a b K) prefix n node)
+leaf_like c a b H K same prefix n Split = like_itself (test n 42 ⊥)
+leaf_like c a b H K same prefix n Flat = like_test n 42 (H prefix Flats) (K prefix Flats) (same prefix Flats)
+leaf_like c a b H K same prefix n (CutA shared u) =
+    like_then (test n 46 (shared ≡ true → length u ≡ a)) (test n 46 (shared ≡ true → length u ≡ a)) (λ x. test n 41 (H prefix (CutsA u))) (λ x. test n 41 (K prefix (CutsA u)))
+      (like_itself (test n 46 (shared ≡ true → length u ≡ a))) (λ x. like_test n 41 (H prefix (CutsA u)) (K prefix (CutsA u)) (same prefix (CutsA u)))
+leaf_like c a b H K same prefix n (CutB shared u) =
+    like_then (test n 46 (shared ≡ true → length u ≡ b)) (test n 46 (shared ≡ true → length u ≡ b)) (λ x. test n 41 (H prefix (CutsB u))) (λ x. test n 41 (K prefix (CutsB u)))
+      (like_itself (test n 46 (shared ≡ true → length u ≡ b))) (λ x. like_test n 41 (H prefix (CutsB u)) (K prefix (CutsB u)) (same prefix (CutsB u)))
+
+-- a leaf, and then the line behind it
+leaf_then : (c a b : ℕ) (H K : List Sign → Said → Type 0) → HoldTogether H K → (prefix : List Sign) (n : ℕ) (node : Node)
+    → IsLike (leaf (problem_with c a b H) prefix n node >> Give (n + 1)) (leaf (problem_with c a b K) prefix n node >> Give (n + 1))
+leaf_then c a b H K same prefix n node =
+    like_then (leaf (problem_with c a b H) prefix n node) (leaf (problem_with c a b K) prefix n node) (λ x. Give (n + 1)) (λ x. Give (n + 1))
+      (leaf_like c a b H K same prefix n node) (λ x. like_itself (Give (n + 1)))
+
+-- a node, and its children if it is a split
+node_then : (c a b : ℕ) (H K : List Sign → Said → Type 0) → HoldTogether H K → (prefix : List Sign) (n : ℕ) (children others : Course ℕ) → IsLike children others → (node : Node)
+    → IsLike (goes_on (problem_with c a b H) prefix n node children) (goes_on (problem_with c a b K) prefix n node others)
+node_then c a b H K same prefix n children others like Split = like
+node_then c a b H K same prefix n children others like Flat = leaf_then c a b H K same prefix n Flat
+node_then c a b H K same prefix n children others like (CutA shared u) = leaf_then c a b H K same prefix n (CutA shared u)
+node_then c a b H K same prefix n children others like (CutB shared u) = leaf_then c a b H K same prefix n (CutB shared u)
+
+-- the children of a node, whose trees these are
+abbrev children_of : List Sign → (n : ℕ) → (tree : Sign → ℕ → Course ℕ) → Course ℕ
+children_of prefix n tree = tree Zero (n + 1) >>= (λ k. tree Plus k >>= (λ m. if_signed prefix m (tree Minus m)))
+
+children_like : (prefix : List Sign) (n : ℕ) (tree other : Sign → ℕ → Course ℕ) → ((s : Sign) (k : ℕ) → IsLike (tree s k) (other s k)) → IsLike (children_of prefix n tree) (children_of prefix n other)
+children_like prefix n tree other like =
+    like_then (tree Zero (n + 1)) (other Zero (n + 1)) (λ k. tree Plus k >>= (λ m. if_signed prefix m (tree Minus m))) (λ k. other Plus k >>= (λ m. if_signed prefix m (other Minus m)))
+      (like Zero (n + 1)) (λ k. like_then (tree Plus k) (other Plus k) (λ m. if_signed prefix m (tree Minus m)) (λ m. if_signed prefix m (other Minus m))
+        (like Plus k) (λ m. like_either (is_all_zero prefix) (Give m) (tree Minus m) (other Minus m) (like Minus m)))
+
+-- the trees of two problems with these choices and numbers of multipliers
+pub trees_like : (version : ℕ) (table : List (List ℤ)) (c a b : ℕ) (H K : List Sign → Said → Type 0) → HoldTogether H K → (more : ℕ) (prefix : List Sign) (n : ℕ)
+    → IsLike (asks_tree version table (problem_with c a b H) more prefix n) (asks_tree version table (problem_with c a b K) more prefix n)
+unfolding asks_tree
+trees_like version table c a b H K same zero prefix n =
+    like_then (asks_leaf version table (problem_with c a b H) n) (asks_leaf version table (problem_with c a b K) n)
+      (λ node. leaf (problem_with c a b H) prefix n node >> Give (n + 1)) (λ node. leaf (problem_with c a b K) prefix n node >> Give (n + 1))
+      (like_itself (asks_leaf version table (problem_with c a b H) n)) (λ node. leaf_then c a b H K same prefix n node)
+trees_like version table c a b H K same (suc more) prefix n =
+    let tree : Sign → ℕ → Course ℕ = λ s k. asks_tree version table (problem_with c a b H) more (prefix ++ s ∷ []) k in
+    let other : Sign → ℕ → Course ℕ = λ s k. asks_tree version table (problem_with c a b K) more (prefix ++ s ∷ []) k in
+    like_then (asks_leaf version table (problem_with c a b H) n) (asks_leaf version table (problem_with c a b K) n)
+      (λ node. goes_on (problem_with c a b H) prefix n node (children_of prefix n tree)) (λ node. goes_on (problem_with c a b K) prefix n node (children_of prefix n other))
+      (like_itself (asks_leaf version table (problem_with c a b H) n))
+      (λ node. node_then c a b H K same prefix n (children_of prefix n tree) (children_of prefix n other)
+        (children_like prefix n tree other (λ s k. trees_like version table c a b H K same more (prefix ++ s ∷ []) k)) node)
+
+-- ---- steps
+
+-- what a step gives by one course it gives by the other
+pub step_gives_like : {A : Type 0} (c d : Course A) → IsLike c d → (y : A) (n m : ℕ) (old new : KeptLines) (left after : Option (List ℕ)) → StepGives c y n m old new left after → StepGives d y n m old new left after
+step_gives_like c d like y n m old new left after p = record {
+  pulled = p.pulled;
+  off = p.off;
+  gives = λ rest. let h = like.gives in h (place n old (p.pulled ++ rest)) (place m new rest) y (let g = p.gives in g rest);
+}
+
+-- and so it fails
+pub step_fails_like : {A : Type 0} (c d : Course A) → IsLike c d → (n : ℕ) (old : KeptLines) (left after : Option (List ℕ)) (line code : ℕ) → StepFails c n old left after line code → StepFails d n old left after line code
+step_fails_like c d like n old left after line code p = record {
+  pulled = p.pulled;
+  off = p.off;
+  bound = p.bound;
+  fails = λ rest ends. let h = like.fails in h (place n old (p.pulled ++ rest)) line code (let g = p.fails in g rest ends);
+}
