@@ -1,0 +1,8 @@
+-- What other crates may cite of this crate's proofs.
+pub mod CallerLemmas
+mod TopNumbers
+mod PairSides
+mod ShapeMade
+mod ShapeKinds
+mod Opposites
+mod ShapeWidths

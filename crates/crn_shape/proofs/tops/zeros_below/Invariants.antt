@@ -1,0 +1,9 @@
+use Rattle.std.proofs.Common.{◌≡◌, ◌≤◌}
+use Rattle.crn_shape.specs.Inner.Tops.{zeros_below}
+use Rattle.crn_shape.proofs.tops.zeros_below.Given as goal
+
+abbrev pub invariant-loop-k : goal.invariant-loop-k
+invariant-loop-k l = record {
+  count : l.count ≡ zeros_below l.exits l.k;
+  few : l.count ≤ l.k;
+}

@@ -1,0 +1,13 @@
+//! The shape of a network and of a vector over its complexes, and the kinds that the sign problem of signals gives.
+#![tactic(auto)]
+
+mod kinds;
+mod pairs;
+mod rows;
+mod shape;
+mod tops;
+
+pub use kinds::{is_all_zero, row_kind, shelves};
+pub use pairs::LinkedPair;
+pub use shape::Shape;
+pub use tops::Tops;
