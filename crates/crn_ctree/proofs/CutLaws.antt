@@ -1,27 +1,29 @@
--- The weights of multipliers at the coordinates of system 2, and when they rule a part of a prefix out.
+-- The weights of multipliers at the coordinates of a part, and when they rule the part of a prefix out.
 use Rattle.std.proofs.Common.{◌≡◌, ◌≢◌, ℕ, zero, suc, ◌+◌, ◌-◌, ◌<◌, ◌≤◌, inl, inr, List, [], ◌∷◌, ◌++◌, length, map, get_or, drop, replicate, true, refl, sym, ap, subst, ◌∙◌, arith}
 use Rattle.std.specs.Prelude.{ℤ, pos, neg_ℤ, ◌↔◌}
-use Rattle.std.specs.List.{AllByRecursion}
+use Rattle.std.specs.List.{AllByRecursion, range_with_len}
 use Rattle.std.proofs.lemmas.List.{get_or-map, get_or_append_left, get_or-append_right, length-map, length-append, length-replicate}
+use Rattle.std.proofs.lemmas.List.FromFn.{get_or-map-range_with_len, length-range_with_len}
 use Rattle.crn_vec.specs.declared.limits.TheConstants.{WIDE_SOLUTION}
 use Rattle.crn_vec.specs.declared.signs.Sign.{Sign}
 use Rattle.crn_vec.specs.declared.signs.Kind.{Kind}
 use Rattle.crn_vec.specs.declared.signs.Kind.TheVariants.{Free, Zero as ZeroKind}
 use Rattle.crn_vec.specs.Network.{Net, IsNetwork, reaction_vector}
 use Rattle.crn_vec.specs.NetSystems.{reaction_system}
-use Rattle.crn_vec.specs.Deficiency.{vectors}
-use Rattle.crn_vec.specs.Vectors.{AreWithin, dot, entry, column}
-use Rattle.crn_vec.specs.Elementary.{InDualSpace}
+use Rattle.crn_vec.specs.Vectors.{Mat, AreWithin, dot, entry, column}
+use Rattle.crn_vec.specs.Elementary.{InDualSpace, width}
 use Rattle.crn_vec.specs.Systems.{AreRuling, IsCut, MayWeigh, is_signed, kind_at}
-use Rattle.crn_vec.specs.Concordance.{column_kind, row_kinds}
+use Rattle.crn_vec.specs.Concordance.{column_kind, row_kinds, kinds_a_of, kinds_b_of}
 use Rattle.crn_vec.proofs.CallerLemmas.{zip_from, kinds_at, weights_tell_cuts, networks_have_tables, lt_or, past_end, rows_count, length-rows}
-use Rattle.crn_cert.specs.Ranges.{IsNarrow}
-use Rattle.crn_ctree.specs.Problem.{table_of}
+use Rattle.crn_cert.specs.Ranges.{AreFree, IsNarrow}
+use Rattle.crn_ctree.specs.Problem.{problem_of, table_of}
+use Rattle.crn_ctree.specs.declared.problem.InfluenceTable.{InfluenceTable}
 use Rattle.crn_ctree.specs.declared.problem.Problem.{Problem}
+use Rattle.crn_ctree.specs.declared.problem.Problem.TheVariants.{Concordance, Signals}
 use Rattle.crn_ctree.specs.declared.cut.Part.{Part}
 use Rattle.crn_ctree.specs.declared.cut.Part.TheVariants.{A, B}
-use Rattle.crn_ctree.specs.Inner.Kinds.{kinds_of, weights_of}
-use Rattle.crn_ctree.proofs.KindLaws.{table_long}
+use Rattle.crn_ctree.specs.Inner.Kinds.{kinds_of, matrix_of, weights_of}
+use Rattle.crn_ctree.proofs.KindLaws.{part_b_is, table_long}
 
 pub within_narrow : (u : List ℤ) → AllByRecursion IsNarrow u → AreWithin WIDE_SOLUTION u
 within_narrow [] h = tt
@@ -29,22 +31,25 @@ within_narrow (x ∷ u) h = (omega (arith, h.0), within_narrow u h.1)
 
 -- ---- the weights
 
-columns_long : (net : Net) (u : List ℤ) → length (map (λ v. neg_ℤ (dot u v)) (vectors net)) ≡ length net.reactions
-columns_long net u = length-map (vectors net) (λ v. neg_ℤ (dot u v)) ∙ length-map net.reactions (reaction_vector net)
+-- the weight at a column
+abbrev column_weight : Mat → List ℤ → ℕ → ℤ
+column_weight a u j = neg_ℤ (dot u (column a.rows j))
 
-pub weight_left : (net : Net) (u : List ℤ) (k : ℕ) → k < length net.reactions → neg_ℤ (dot u (reaction_vector net (get_or net.reactions k (0, 0)))) ≡ entry (weights_of net u) k
-weight_left net u k lt =
-    ap (λ (v : List ℤ). neg_ℤ (dot u v)) (sym (get_or-map (reaction_vector net) net.reactions k (0, 0) [] lt))
-    ∙ sym (get_or-map (λ v. neg_ℤ (dot u v)) (vectors net) k [] (pos 0) (omega (arith, lt, length-map net.reactions (reaction_vector net))))
-    ∙ sym (get_or_append_left (map (λ v. neg_ℤ (dot u v)) (vectors net)) u (pos 0) k (omega (arith, lt, columns_long net u)))
+columns_long : (a : Mat) (u : List ℤ) → length (map (column_weight a u) (range_with_len 0 a.cols)) ≡ a.cols
+columns_long a u = length-map (range_with_len 0 a.cols) (column_weight a u) ∙ length-range_with_len 0 a.cols
 
-pub weight_right : (net : Net) (u : List ℤ) (k : ℕ) → length net.reactions ≤ k → entry u (k - length net.reactions) ≡ entry (weights_of net u) k
-weight_right net u k le = sym (get_or-append_right (map (λ v. neg_ℤ (dot u v)) (vectors net)) u (length net.reactions) k (pos 0) (columns_long net u) le)
+pub weight_left : (a : Mat) (u : List ℤ) (k : ℕ) → k < a.cols → neg_ℤ (dot u (column a.rows k)) ≡ entry (weights_of a u) k
+weight_left a u k lt =
+    sym (get_or-map-range_with_len (column_weight a u) 0 a.cols k k (pos 0) lt (omega arith))
+    ∙ sym (get_or_append_left (map (column_weight a u) (range_with_len 0 a.cols)) u (pos 0) k (omega (arith, lt, columns_long a u)))
 
--- ---- they are (-uA, u) of system 2
+pub weight_right : (a : Mat) (u : List ℤ) (k : ℕ) → a.cols ≤ k → entry u (k - a.cols) ≡ entry (weights_of a u) k
+weight_right a u k le = sym (get_or-append_right (map (column_weight a u) (range_with_len 0 a.cols)) u a.cols k (pos 0) (columns_long a u) le)
 
-weights_long : (net : Net) (u : List ℤ) → length u ≡ length net.names → length (weights_of net u) ≡ length net.reactions + length net.names
-weights_long net u e = omega (arith, e, columns_long net u, length-append (map (λ v. neg_ℤ (dot u v)) (vectors net)) u)
+-- ---- they are (-uA, u)
+
+weights_long : (a : Mat) (u : List ℤ) → length u ≡ length a.rows → length (weights_of a u) ≡ width a
+weights_long a u e = omega (arith, e, columns_long a u, length-append (map (column_weight a u) (range_with_len 0 a.cols)) u)
 
 drop_first : {A : Type 0} (xs ys : List A) (n : ℕ) → length xs ≡ n → drop n (xs ++ ys) ≡ ys
 drop_first [] ys zero e = refl
@@ -52,28 +57,68 @@ drop_first [] ys (suc n) e = absurd (omega (arith, e))
 drop_first (x ∷ xs) ys zero e = absurd (omega (arith, e))
 drop_first (x ∷ xs) ys (suc n) e = drop_first xs ys n (omega (arith, e))
 
-pub weights_end : (net : Net) (u : List ℤ) → drop (length net.reactions) (weights_of net u) ≡ u
-weights_end net u = drop_first (map (λ v. neg_ℤ (dot u v)) (vectors net)) u (length net.reactions) (columns_long net u)
+weights_end : (a : Mat) (u : List ℤ) → drop a.cols (weights_of a u) ≡ u
+weights_end a u = drop_first (map (column_weight a u) (range_with_len 0 a.cols)) u a.cols (columns_long a u)
 
-pub weights_dual : (net : Net) → IsNetwork net → (u : List ℤ) → length u ≡ length net.names → InDualSpace (reaction_system net) (weights_of net u)
-weights_dual net n u e = record {
-  long = omega (arith, weights_long net u e, rows_count net);
-  is = λ j lt.
-      sym (weight_left net u j lt)
-      ∙ ap (λ (v : List ℤ). neg_ℤ (dot u v)) (sym ((networks_have_tables net n).columns.columns j lt))
-      ∙ ap (λ (l : List ℤ). neg_ℤ (dot l (column (reaction_system net).rows j))) (sym (weights_end net u));
+weights_dual : (a : Mat) (u : List ℤ) → length u ≡ length a.rows → InDualSpace a (weights_of a u)
+weights_dual a u e = record {
+  long = weights_long a u e;
+  is = λ j lt. sym (weight_left a u j lt) ∙ ap (λ (v : List ℤ). neg_ℤ (dot v (column a.rows j))) (sym (weights_end a u));
 }
 
--- ---- the coordinates, one after another
+-- ---- the columns of system 2
 
-pub kinds_long : (net : Net) (problem : Problem) (part : Part) (p : List Sign) → length (kinds_of net problem part p) ≡ length net.reactions + length net.names
-kinds_long net problem A p =
+pub reaction_column : (net : Net) → IsNetwork net → (r : ℕ) → r < length net.reactions → reaction_vector net (get_or net.reactions r (0, 0)) ≡ column (reaction_system net).rows r
+reaction_column net n r lt =
+    let s = (networks_have_tables net n).columns in
+    sym (s.columns r (omega (arith, lt, s.reactions)))
+
+-- ---- there is a kind for each coordinate
+
+pub table_kinds_long : (net : Net) (table : InfluenceTable) (p : List Sign) → length (kinds_a_of (reaction_system net) (table_of net table) p) ≡ width (reaction_system net)
+table_kinds_long net table p =
     let m = reaction_system net in
-    let table = table_of net problem in
-    omega (arith, rows_count net, table_long net problem, length-map table (λ signs. column_kind signs p), length-append (map (λ signs. column_kind signs p) table) (replicate (length m.rows) ZeroKind), length-replicate (length m.rows) ZeroKind)
-kinds_long net problem B p =
-    let m = reaction_system net in
-    omega (arith, rows_count net, length-append (replicate m.cols Free) (row_kinds (length m.rows) p), length-replicate m.cols Free, length-rows (length m.rows) p)
+    let signs = table_of net table in
+    omega (arith, rows_count net, table_long net table, length-map signs (λ ss. column_kind ss p), length-append (map (λ ss. column_kind ss p) signs) (replicate (length m.rows) ZeroKind), length-replicate (length m.rows) ZeroKind)
+
+pub row_kinds_long : (m : Mat) (p : List Sign) → length (kinds_b_of m p) ≡ width m
+row_kinds_long m p = omega (arith, length-append (replicate m.cols Free) (row_kinds (length m.rows) p), length-replicate m.cols Free, length-rows (length m.rows) p)
+
+-- ---- the system of a part
+
+-- the two cases of a part
+part_cases : (net : Net) (problem : Problem) (part : Part) → part ≡ B → matrix_of net problem part ≡ reaction_system net
+part_cases net problem part e = ap (λ (q : Part). matrix_of net problem q) e ∙ part_b_is net problem
+
+of_table : (net : Net) (table : InfluenceTable) (part : Part) → reaction_system net ≡ matrix_of net (Concordance table) part
+of_table net table A = refl
+of_table net table B = refl
+
+table_kinds_of : (net : Net) (table : InfluenceTable) (part : Part) (p : List Sign) → length (kinds_of net (Concordance table) part p) ≡ width (reaction_system net)
+table_kinds_of net table A p = table_kinds_long net table p
+table_kinds_of net table B p = row_kinds_long (reaction_system net) p
+
+pub table_system : (net : Net) (problem : Problem) (part : Part) {table : InfluenceTable} → problem ≡ Concordance table → reaction_system net ≡ matrix_of net problem part
+table_system net problem part {table} e = of_table net table part ∙ ap (λ (q : Problem). matrix_of net q part) (sym e)
+
+pub table_kinds : (net : Net) (problem : Problem) (part : Part) (p : List Sign) {table : InfluenceTable} → problem ≡ Concordance table → length (kinds_of net problem part p) ≡ width (reaction_system net)
+table_kinds net problem part p {table} e = ap (λ (q : Problem). length (kinds_of net q part p)) e ∙ table_kinds_of net table part p
+
+pub part_system_b : (net : Net) (problem : Problem) (part : Part) → part ≡ B → reaction_system net ≡ matrix_of net problem part
+part_system_b net problem part e = sym (part_cases net problem part e)
+
+b_kinds : (net : Net) (problem : Problem) (p : List Sign) → length ((problem_of net problem).kinds_b p) ≡ width (reaction_system net)
+b_kinds net (Concordance table) p = row_kinds_long (reaction_system net) p
+b_kinds net (Signals shape) p = row_kinds_long (reaction_system net) (drop shape.now.count p)
+
+pub kinds_b : (net : Net) (problem : Problem) (part : Part) (p : List Sign) → part ≡ B → length (kinds_of net problem part p) ≡ width (reaction_system net)
+kinds_b net problem part p e = ap (λ (q : Part). length (kinds_of net problem q p)) e ∙ b_kinds net problem p
+
+-- multipliers of system 2
+pub free_by : (net : Net) (u : List ℤ) → AreFree (length (reaction_system net).rows) u → AreFree (length net.names) u
+free_by net u h = record { long = h.long ∙ rows_count net; each = h.each }
+
+-- ---- coordinate by coordinate
 
 -- each of the first n coordinates may have its weight
 abbrev pub MayWeighTo : List Kind → List ℤ → ℕ → Type 0
@@ -107,26 +152,20 @@ counts_last kinds w n same h not = elim (lt_or h.0 n) as (λ _. CountsTo kinds w
 
 -- ---- cuts
 
-cut_tells : (net : Net) → IsNetwork net → (kinds : List Kind) (u : List ℤ) → length u ≡ length net.names → IsCut (reaction_system net) kinds u ↔ AreRuling kinds (weights_of net u)
-cut_tells net n kinds u e = weights_tell_cuts (reaction_system net) kinds u (weights_of net u) (weights_dual net n u e) (weights_end net u)
+cut_tells : (a : Mat) (kinds : List Kind) (u : List ℤ) → length u ≡ length a.rows → IsCut a kinds u ↔ AreRuling kinds (weights_of a u)
+cut_tells a kinds u e = weights_tell_cuts a kinds u (weights_of a u) (weights_dual a u e) (weights_end a u)
 
-pub cut_from : (net : Net) → IsNetwork net → (problem : Problem) (part : Part) (p : List Sign) (u : List ℤ) (n : ℕ) → length u ≡ length net.names → n ≡ length net.reactions + length net.names
-    → MayWeighTo (kinds_of net problem part p) (weights_of net u) n → CountsTo (kinds_of net problem part p) (weights_of net u) n → IsCut (reaction_system net) (kinds_of net problem part p) u
-cut_from net is problem part p u n e f h some =
-    let kinds = kinds_of net problem part p in
-    let w = weights_of net u in
-    let long = kinds_long net problem part p in
-    (cut_tells net is kinds u e).1 (zip_from MayWeigh Free (pos 0) kinds w (weights_long net u e ∙ sym long) (λ k lt. h k (omega (arith, lt, long, f))), (some.0, some.2, some.3))
+pub cut_from : (a : Mat) (kinds : List Kind) (u : List ℤ) (n : ℕ) → length u ≡ length a.rows → length kinds ≡ width a → n ≡ width a → MayWeighTo kinds (weights_of a u) n → CountsTo kinds (weights_of a u) n → IsCut a kinds u
+cut_from a kinds u n e long f h some =
+    (cut_tells a kinds u e).1 (zip_from MayWeigh Free (pos 0) kinds (weights_of a u) (weights_long a u e ∙ sym long) (λ k lt. h k (omega (arith, lt, long, f))), (some.0, some.2, some.3))
 
-pub cut_weighs : (net : Net) → IsNetwork net → (problem : Problem) (part : Part) (p : List Sign) (u : List ℤ) → length u ≡ length net.names → IsCut (reaction_system net) (kinds_of net problem part p) u
-    → (k : ℕ) → MayWeigh (kind_at (kinds_of net problem part p) k) (entry (weights_of net u) k)
-cut_weighs net is problem part p u e cut = kinds_at MayWeigh (kinds_of net problem part p) (weights_of net u) refl ((cut_tells net is (kinds_of net problem part p) u e).0 cut).0
+pub cut_weighs : (a : Mat) (kinds : List Kind) (u : List ℤ) → length u ≡ length a.rows → IsCut a kinds u → (k : ℕ) → MayWeigh (kind_at kinds k) (entry (weights_of a u) k)
+cut_weighs a kinds u e cut = kinds_at MayWeigh kinds (weights_of a u) refl ((cut_tells a kinds u e).0 cut).0
 
-pub cut_counts : (net : Net) → IsNetwork net → (problem : Problem) (part : Part) (p : List Sign) (u : List ℤ) (n : ℕ) → length u ≡ length net.names → n ≡ length net.reactions + length net.names
-    → IsCut (reaction_system net) (kinds_of net problem part p) u → CountsTo (kinds_of net problem part p) (weights_of net u) n
-cut_counts net is problem part p u n e f cut =
-    let some = ((cut_tells net is (kinds_of net problem part p) u e).0 cut).1 in
-    elim (lt_or some.0 n) as (λ _. CountsTo (kinds_of net problem part p) (weights_of net u) n) [
+pub cut_counts : (a : Mat) (kinds : List Kind) (u : List ℤ) (n : ℕ) → length u ≡ length a.rows → n ≡ width a → IsCut a kinds u → CountsTo kinds (weights_of a u) n
+cut_counts a kinds u n e f cut =
+    let some = ((cut_tells a kinds u e).0 cut).1 in
+    elim (lt_or some.0 n) as (λ _. CountsTo kinds (weights_of a u) n) [
       | inl below ↦ (some.0, below, some.1, some.2)
-      | inr above ↦ absurd (some.2 (past_end (weights_of net u) some.0 (omega (arith, above, f, weights_long net u e))))
+      | inr above ↦ absurd (some.2 (past_end (weights_of a u) some.0 (omega (arith, above, f, weights_long a u e))))
     ]

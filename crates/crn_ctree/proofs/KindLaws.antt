@@ -15,9 +15,12 @@ use Rattle.crn_vec.specs.Concordance.{sign, product, products, is_plus, is_minus
 use Rattle.crn_vec.specs.Deficiency.{vectors}
 use Rattle.crn_vec.specs.Influence.{strong_table}
 use Rattle.crn_vec.proofs.CallerLemmas.{sign_is}
-use Rattle.crn_ctree.specs.Problem.{table_of}
+use Rattle.crn_vec.specs.NetSystems.{reaction_system}
+use Rattle.crn_ctree.specs.Problem.{problem_of, table_of}
 use Rattle.crn_ctree.specs.declared.problem.Problem.{Problem}
-use Rattle.crn_ctree.specs.declared.problem.Problem.TheVariants.{Plain, Strong}
+use Rattle.crn_ctree.specs.declared.problem.Problem.TheVariants.{Concordance, Signals}
+use Rattle.crn_ctree.specs.declared.problem.InfluenceTable.{InfluenceTable}
+use Rattle.crn_ctree.specs.declared.problem.InfluenceTable.TheVariants.{Plain, Strong}
 use Rattle.crn_ctree.specs.Inner.Kinds.{column_from, opposite_kind}
 
 -- ---- signs
@@ -175,7 +178,7 @@ strong_column net r v p κ κ' lt e h g =
 
 -- ---- the kinds of all coordinates
 
-pub table_long : (net : Net) (problem : Problem) → length (table_of net problem) ≡ length net.reactions
+pub table_long : (net : Net) (table : InfluenceTable) → length (table_of net table) ≡ length net.reactions
 table_long net Plain = length-map net.reactions (λ r. map sign (sides_of net r).0)
 table_long net Strong = length-map net.reactions (λ r. map sign (minus (sides_of net r).0 (sides_of net r).1))
 
@@ -196,3 +199,8 @@ free_at m p k lt =
 
 pub row_at : (m : Mat) (p : List Sign) (k : ℕ) → m.cols ≤ k → kind_at (row_kinds (length m.rows) p) (k - m.cols) ≡ kind_at (kinds_b_of m p) k
 row_at m p k le = sym (get_or-append_right (replicate m.cols Free) (row_kinds (length m.rows) p) m.cols k Free (length-replicate m.cols Free) le)
+
+-- part B is over system 2 in each problem
+pub part_b_is : (net : Net) (problem : Problem) → (problem_of net problem).matrix_b ≡ reaction_system net
+part_b_is net (Concordance table) = refl
+part_b_is net (Signals shape) = refl

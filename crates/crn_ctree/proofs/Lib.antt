@@ -7,3 +7,5 @@ mod CutLaws
 mod NodeTests
 mod PairLaws
 mod FirstFails
+mod SignalTrees
+mod SignalLaws

@@ -20,8 +20,8 @@ use Rattle.crn_vec.specs.Concordance.{IsDiscordant, GoesWith, IsNought, HasPosit
 use Rattle.crn_vec.proofs.CallerLemmas.{entry-column, networks_have_tables, rows_count}
 use Rattle.crn_ctree.specs.Inner.Pairs.{AreOfColumns}
 use Rattle.crn_ctree.specs.Problem.{table_of}
-use Rattle.crn_ctree.specs.declared.problem.Problem.{Problem}
-use Rattle.crn_ctree.specs.declared.problem.Problem.TheVariants.{Plain, Strong}
+use Rattle.crn_ctree.specs.declared.problem.InfluenceTable.{InfluenceTable}
+use Rattle.crn_ctree.specs.declared.problem.InfluenceTable.TheVariants.{Plain, Strong}
 
 -- ---- the sum of the reaction vectors
 
@@ -188,29 +188,29 @@ columns_go (ss ∷ table) (x ∷ alpha) xs l h = (kind_goes (shares ss xs) x (su
 
 -- ---- the two lists
 
-pub is_table : (net : Net) → IsNetwork net → (problem : Problem) → IsTable (reaction_system net) (table_of net problem)
+pub is_table : (net : Net) → IsNetwork net → (table : InfluenceTable) → IsTable (reaction_system net) (table_of net table)
 is_table net n Plain = (networks_have_tables net n).plain
 is_table net n Strong = (networks_have_tables net n).strong
 
-rows_as_long : (net : Net) → IsNetwork net → (problem : Problem) (z : List ℤ) → AllByRecursion (λ ss. length ss ≡ length (image (reaction_system net) z)) (table_of net problem)
-rows_as_long net n problem z = subst (λ (k : ℕ). AllByRecursion (λ (ss : List Sign). length ss ≡ k) (table_of net problem)) (rows_count net ∙ sym (image_long net z)) (is_table net n problem).species
+rows_as_long : (net : Net) → IsNetwork net → (table : InfluenceTable) (z : List ℤ) → AllByRecursion (λ ss. length ss ≡ length (image (reaction_system net) z)) (table_of net table)
+rows_as_long net n table z = subst (λ (k : ℕ). AllByRecursion (λ (ss : List Sign). length ss ≡ k) (table_of net table)) (rows_count net ∙ sym (image_long net z)) (is_table net n table).species
 
-pub shown : (net : Net) → IsNetwork net → (problem : Problem) (alpha weights : List ℤ) → length alpha ≡ length net.reactions → length weights ≡ length net.reactions
-    → all_zero (map sign (image (reaction_system net) alpha)) ≡ true → all_zero (map sign (image (reaction_system net) weights)) ≡ false → AreOfColumns (table_of net problem) (map sign (image (reaction_system net) weights)) alpha
-    → IsDiscordant (reaction_system net) (table_of net problem) alpha weights
-shown net n problem alpha weights la lw z s h = record {
+pub shown : (net : Net) → IsNetwork net → (table : InfluenceTable) (alpha weights : List ℤ) → length alpha ≡ length net.reactions → length weights ≡ length net.reactions
+    → all_zero (map sign (image (reaction_system net) alpha)) ≡ true → all_zero (map sign (image (reaction_system net) weights)) ≡ false → AreOfColumns (table_of net table) (map sign (image (reaction_system net) weights)) alpha
+    → IsDiscordant (reaction_system net) (table_of net table) alpha weights
+shown net n table alpha weights la lw z s h = record {
   long_alpha = la;
   long_weights = lw;
   balanced = zero_noughts (image (reaction_system net) alpha) z;
   some = not_zero_some (image (reaction_system net) weights) s;
-  goes = columns_go (table_of net problem) alpha (image (reaction_system net) weights) (rows_as_long net n problem weights) h;
+  goes = columns_go (table_of net table) alpha (image (reaction_system net) weights) (rows_as_long net n table weights) h;
 }
 
-pub balanced_zero : (net : Net) (problem : Problem) (alpha weights : List ℤ) → IsDiscordant (reaction_system net) (table_of net problem) alpha weights → all_zero (map sign (image (reaction_system net) alpha)) ≡ true
-balanced_zero net problem alpha weights d = noughts_zero (image (reaction_system net) alpha) d.balanced
+pub balanced_zero : (net : Net) (table : InfluenceTable) (alpha weights : List ℤ) → IsDiscordant (reaction_system net) (table_of net table) alpha weights → all_zero (map sign (image (reaction_system net) alpha)) ≡ true
+balanced_zero net table alpha weights d = noughts_zero (image (reaction_system net) alpha) d.balanced
 
-pub some_change : (net : Net) (problem : Problem) (alpha weights : List ℤ) → IsDiscordant (reaction_system net) (table_of net problem) alpha weights → all_zero (map sign (image (reaction_system net) weights)) ≡ false
-some_change net problem alpha weights d = some_not_zero (image (reaction_system net) weights) d.some
+pub some_change : (net : Net) (table : InfluenceTable) (alpha weights : List ℤ) → IsDiscordant (reaction_system net) (table_of net table) alpha weights → all_zero (map sign (image (reaction_system net) weights)) ≡ false
+some_change net table alpha weights d = some_not_zero (image (reaction_system net) weights) d.some
 
-pub all_of_kinds : (net : Net) → IsNetwork net → (problem : Problem) (alpha weights : List ℤ) → IsDiscordant (reaction_system net) (table_of net problem) alpha weights → AreOfColumns (table_of net problem) (map sign (image (reaction_system net) weights)) alpha
-all_of_kinds net n problem alpha weights d = columns_have (table_of net problem) alpha (image (reaction_system net) weights) (rows_as_long net n problem weights) d.goes
+pub all_of_kinds : (net : Net) → IsNetwork net → (table : InfluenceTable) (alpha weights : List ℤ) → IsDiscordant (reaction_system net) (table_of net table) alpha weights → AreOfColumns (table_of net table) (map sign (image (reaction_system net) weights)) alpha
+all_of_kinds net n table alpha weights d = columns_have (table_of net table) alpha (image (reaction_system net) weights) (rows_as_long net n table weights) d.goes

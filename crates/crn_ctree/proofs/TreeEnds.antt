@@ -1,16 +1,24 @@
 -- After nodes that fit one after another, nothing is due if and only if they are those of a valid tree; then the
--- table is concordant.
+-- table is concordant, or the vector of the shape has no signal.
 use Rattle.std.proofs.Common.{◌≡◌, ◌≢◌, List, [], ◌∷◌, ◌++◌, refl, sym, subst}
 use Rattle.crn_vec.specs.declared.signs.Sign.{Sign}
 use Rattle.crn_vec.specs.Problems.{Signed}
 use Rattle.crn_vec.specs.Visits.{root}
 use Rattle.crn_cert.specs.Nodes.{Said, Passing, done, then, behind}
 use Rattle.crn_ctree.specs.Gives.{IsTaken}
-use Rattle.crn_ctree.specs.Laws.{CompleteWhereValid, CompleteTreesShowConcordance}
+use Rattle.crn_ctree.specs.Laws.{CompleteWhereValid, CompleteTreesShow}
 use Rattle.crn_vec.specs.NetSystems.{reaction_system}
-use Rattle.crn_vec.proofs.CallerLemmas.{tables_are_steady, tables_stand}
+use Rattle.std.specs.Prelude.{ℤ}
+use Rattle.crn_vec.specs.Network.{Net, IsNetwork}
+use Rattle.crn_vec.specs.Concordance.{IsConcordant, concordance}
+use Rattle.crn_vec.specs.Confluence.{IsRegular}
+use Rattle.crn_vec.specs.Signals.{Shape, signals}
+use Rattle.crn_vec.specs.NetSignals.{IsShapeOf, HasNoSignal}
+use Rattle.crn_vec.proofs.CallerLemmas.{tables_are_steady, tables_stand, signals_are_steady, signals_stand}
 use Rattle.crn_cert.proofs.CallerLemmas.{leaves_nothing}
 use Rattle.crn_ctree.specs.Problem.{problem_of, table_of}
+use Rattle.crn_ctree.specs.declared.problem.InfluenceTable.{InfluenceTable}
+use Rattle.crn_ctree.specs.declared.problem.Problem.TheVariants.{Concordance, Signals}
 use Rattle.crn_ctree.proofs.PairLaws.{is_table}
 use Rattle.crn_ctree.proofs.NodeLaws.{passing_then, those_of_trees}
 
@@ -34,10 +42,21 @@ complete_where_valid w said due h = (
   λ t. passing_one w root due [] said h (subst (λ (s : List Said). Passing w root s []) (sym t.are) ((those_of_trees w).leaves t.tree t.valid)),
 )
 
-pub complete_trees_show_concordance : CompleteTreesShowConcordance
-complete_trees_show_concordance net problem said n h alpha weights d =
+table_shown : (net : Net) (table : InfluenceTable) (said : List Said) → IsNetwork net → Passing (problem_of net (Concordance table)) root said [] → IsConcordant (reaction_system net) (table_of net table)
+table_shown net table said n h alpha weights d =
     let m = reaction_system net in
-    let table = table_of net problem in
-    let t = (those_of_trees (problem_of net problem)).tree said h in
-    let s = (tables_stand m table (is_table net n problem)).stands alpha weights d in
-    leaves_nothing (problem_of net problem) (tables_are_steady m table) t.tree [] s.0 t.valid s.1 s.2
+    let signs = table_of net table in
+    let t = (those_of_trees (concordance m signs)).tree said h in
+    let s = (tables_stand m signs (is_table net n table)).stands alpha weights d in
+    leaves_nothing (concordance m signs) (tables_are_steady m signs) t.tree [] s.0 t.valid s.1 s.2
+
+no_signal : (net : Net) (s : Shape) (said : List Said) → IsNetwork net → Passing (signals s (reaction_system net)) root said [] → (g : List ℤ) → IsRegular net → IsShapeOf net g s → HasNoSignal net g
+no_signal net s said n h g regular sh shelves mu level weights sg =
+    let m = reaction_system net in
+    let t = (those_of_trees (signals s m)).tree said h in
+    let at = signals_stand net g s n regular sh shelves mu level weights sg in
+    leaves_nothing (signals s m) (signals_are_steady s m) t.tree [] at.0 t.valid at.1 at.2
+
+pub complete_trees_show : CompleteTreesShow
+complete_trees_show net (Concordance table) said n h = table_shown net table said n h
+complete_trees_show net (Signals shape) said n h = no_signal net shape.now said n h

@@ -2,3 +2,4 @@
 pub mod Kinds
 pub mod Pairs
 pub mod Paths
+pub mod Signals

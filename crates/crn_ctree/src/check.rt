@@ -4,9 +4,11 @@ ghost use Rattle.crn_cert.specs.Nodes.{AreNumbersFor};
 ghost use Rattle.crn_ctree.specs.Gives.{FinishGives, NodeGives, SharedGives, said_by};
 ghost use Rattle.crn_ctree.specs.Problem.{problem_of};
 ghost use Rattle.crn_ctree.specs.Shared.{IsPlaceIn, said_by_shared};
+ghost use Rattle.crn_ctree.specs.Inner.Kinds.{matrix_of, part_of};
 
+use crate::cut::{rows, system_of};
 use crate::fault::TreeFault;
-use crate::node::{Node, Step, fits};
+use crate::node::{Node, Step, choices, fits};
 use crate::path::Path;
 use crate::problem::Problem;
 use crate::shared::{SharedCut, SharedTable};
@@ -17,12 +19,12 @@ use std::marker::Model;
 
 /// A tree that is checked node by node, in preorder. Contracts see the prefixes that are still due.
 #[derive(Drop)]
-pub struct TreeCheck {
+pub struct TreeCheck<'a> {
     path: Path,
-    problem: Problem,
+    problem: Problem<'a>,
 }
 
-impl Model for TreeCheck {
+impl<'a> Model for TreeCheck<'a> {
     ghost use Rattle.crn_ctree.specs.Due.{KeptTree};
 
     ghost Value = { KeptTree };
@@ -31,21 +33,27 @@ impl Model for TreeCheck {
         record { due = s.path.due; choices = s.path.choices; problem = s.problem } };
 }
 
-impl TreeCheck {
-    /// The root of a tree is due. Takes memory for one option of each species of the network.
-    pub fn new(alloc: Global, net: &Network, problem: Problem) -> Result<TreeCheck, NoMemory>
+impl<'a> TreeCheck<'a> {
+    /// The root of a tree is due. Takes memory for one option of each choice.
+    pub fn new(
+        alloc: Global,
+        net: &Network,
+        problem: Problem<'a>,
+    ) -> Result<TreeCheck<'a>, NoMemory>
         ensures due { IfOk result (λ made. made.due ≡ root) }
-        ensures choices { IfOk result (λ made. made.choices ≡ length net.now.names) }
-        ensures problem { IfOk result (λ made. made.problem ≡ problem) }
+        ensures choices { IfOk result (λ made.
+            made.choices ≡ (problem_of net.now problem.entry).choices) }
+        ensures problem { IfOk result (λ made. made.problem ≡ problem.entry) }
     {
-        let path = Path::new(alloc, net.species())?;
+        let path = Path::new(alloc, choices(net, problem))?;
         Ok(TreeCheck { path, problem })
     }
 
     /// Tests a node at the prefix that is due, and takes it if it passes. If not, the check is as before.
     pub fn node(&mut self, net: &Network, node: &Node) -> Result<Step, TreeFault>
         requires due { self.old.due ≢ [] }
-        requires choices { self.old.choices ≡ length net.now.names }
+        requires choices { self.old.choices
+            ≡ (problem_of net.now self.old.problem).choices }
         requires numbers { AreNumbersFor (problem_of net.now self.old.problem) (said_by node.now) }
         ensures gives { NodeGives (problem_of net.now self.old.problem) self.old.due
             (said_by node.now) self.new.due result }
@@ -69,6 +77,13 @@ impl TreeCheck {
         })
     }
 
+    // The number of rows of the part that a cut rules out.
+    fn row_count(&self, net: &Network, cut: SharedCut) -> usize
+        ensures { result ≡ length (matrix_of net.now self.now.problem (part_of cut)).rows }
+    {
+        rows(net, system_of(self.problem, cut.part()))
+    }
+
     /// Tests a cut with the multipliers of a shared vector, and answers as `node` if it has their number.
     pub fn shared_node(
         &mut self,
@@ -77,7 +92,8 @@ impl TreeCheck {
         cut: SharedCut,
     ) -> Result<Step, TreeFault>
         requires due { self.old.due ≢ [] }
-        requires choices { self.old.choices ≡ length net.now.names }
+        requires choices { self.old.choices
+            ≡ (problem_of net.now self.old.problem).choices }
         requires place { IsPlaceIn table.now cut }
         ensures gives { SharedGives (problem_of net.now self.old.problem) self.old.due
             (said_by_shared table.now cut) self.new.due result }
@@ -85,7 +101,7 @@ impl TreeCheck {
         ensures problem { self.new.problem ≡ self.old.problem }
     {
         let numbers = table.get(cut.place());
-        if numbers.len() != net.species() {
+        if numbers.len() != self.row_count(net, cut) {
             return Err(TreeFault::WrongShape);
         }
         self.node(net, &cut.node(numbers))
@@ -93,7 +109,7 @@ impl TreeCheck {
 
     /// Ends the check of a tree.
     pub fn finish(self) -> Result<(), TreeFault>
-        ensures { FinishGives self.due result }
+        ensures { FinishGives self.entry.due result }
     {
         if self.path.is_complete() {
             Ok(())

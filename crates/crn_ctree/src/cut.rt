@@ -1,13 +1,20 @@
-ghost use Rattle.std.specs.Prelude.{◌↔◌, ◌<◌, ◌+◌, length, IsTrue};
+ghost use Rattle.std.specs.Prelude.{◌≡◌, ◌↔◌, ◌<◌, ◌≤◌, List, length, IsTrue};
+ghost use Rattle.crn_vec.specs.declared.limits.TheConstants.{MAX_COORDINATES};
+ghost use Rattle.crn_vec.specs.declared.signs.Sign.{Sign};
+ghost use Rattle.crn_vec.specs.Elementary.{width};
 ghost use Rattle.crn_vec.specs.NetSystems.{reaction_system};
+ghost use Rattle.crn_vec.specs.Network.{Net};
+ghost use Rattle.crn_vec.specs.Signals.{shelf_matrix};
 ghost use Rattle.crn_vec.specs.Systems.{IsCut};
-ghost use Rattle.crn_vec.specs.Vectors.{HasSign, entry};
+ghost use Rattle.crn_vec.specs.Vectors.{HasSign, column, dot, entry};
 ghost use Rattle.crn_cert.specs.Ranges.{AreFree};
-ghost use Rattle.crn_ctree.specs.Inner.Kinds.{kinds_of, weights_of};
+ghost use Rattle.crn_ctree.specs.Inner.Kinds.{kinds_of, matrix_by, matrix_of, weights_of};
 
 use crate::kinds::kind;
+use crate::pair::times;
 use crate::problem::Problem;
 use crn_net::Network;
+use crn_shape::Shape;
 use crn_vec::{Sign, counts, dot, may_weigh, opposite, sign_of};
 
 // A part of a prefix.
@@ -17,18 +24,99 @@ pub(crate) enum Part {
     B,
 }
 
-// The sign that (-uA, u) has at a coordinate.
-fn weight(net: &Network, u: &[i128], k: usize) -> Sign
-    requires numbers { AreFree (length net.now.names) u.now }
-    requires place { k < length net.now.reactions + length net.now.names }
-    ensures { HasSign result (entry (weights_of net.now u.now) k) }
+// The system of a part: that of the reaction vectors, or that of the shelves.
+#[derive(Clone, Copy)]
+pub(crate) enum System<'a> {
+    Reactions,
+    Shelves(&'a Shape<'a>),
+}
+
+/// The system of a part of a problem.
+pub(crate) fn system_of<'a>(problem: Problem<'a>, part: Part) -> System<'a>
+    ensures matrix { (net : Net) → matrix_by net result ≡ matrix_of net problem.entry part }
+    ensures kinds { (net : Net) (p : List Sign) → length (kinds_of net problem.entry part p)
+        ≡ width (matrix_by net result) }
 {
-    let reactions = net.reactions();
+    match problem {
+        Problem::Concordance(_) => System::Reactions,
+        Problem::Signals(shape) => {
+            let _ = shape.complexes();
+            match part {
+                Part::A => System::Shelves(shape),
+                Part::B => System::Reactions,
+            }
+        }
+    }
+}
+
+/// The number of rows of a system.
+pub(crate) fn rows(net: &Network, system: System) -> usize
+    ensures count { result ≡ length (matrix_by net.now system.entry).rows }
+    ensures limit { result ≤ MAX_COORDINATES }
+{
+    match system {
+        System::Reactions => net.species(),
+        System::Shelves(shape) => shape.rows(),
+    }
+}
+
+// The number of columns of a system.
+fn columns(net: &Network, system: System) -> usize
+    ensures count { result ≡ (matrix_by net.now system.entry).cols }
+    ensures limit { result ≤ MAX_COORDINATES }
+{
+    match system {
+        System::Reactions => net.reactions(),
+        System::Shelves(shape) => shape.species() + 1,
+    }
+}
+
+// The sum of the products of multipliers and the entries of a reaction's vector.
+fn reaction_sum(net: &Network, u: &[i128], r: usize) -> i128
+    requires numbers { AreFree (length net.now.names) u.now }
+    requires reaction { r < length net.now.reactions }
+    ensures { result ≡ dot u.now (column (reaction_system net.now).rows r) }
+{
     let _few = net.species();
-    if k < reactions {
-        opposite(sign_of(dot(u, net.reaction_vector(k))))
+    dot(u, net.reaction_vector(r))
+}
+
+// The sum of the products of multipliers and the entries of a column of system 5.
+fn shape_sum(shape: &Shape, u: &[i128], j: usize) -> i128
+    requires numbers { AreFree (length (shelf_matrix shape.now).rows) u.now }
+    requires place { j ≤ shape.now.species }
+    ensures { result ≡ dot u.now (column (shelf_matrix shape.now).rows j) }
+{
+    let mut sum = 0i128;
+    for row in 0..shape.rows() {
+        sum += times(&shape.entry(row, j), &u[row]);
+    }
+    sum
+}
+
+// The sum of the products of multipliers and the entries of a column of a system.
+fn column_sum(net: &Network, system: System, u: &[i128], j: usize) -> i128
+    requires numbers { AreFree (length (matrix_by net.now system).rows) u.now }
+    requires place { j < (matrix_by net.now system).cols }
+    ensures { result ≡ dot u.now (column (matrix_by net.now system.entry).rows j) }
+{
+    match system {
+        System::Reactions => reaction_sum(net, u, j),
+        System::Shelves(shape) => shape_sum(shape, u, j),
+    }
+}
+
+// The sign that (-uA, u) has at a coordinate.
+fn weight(net: &Network, system: System, u: &[i128], k: usize) -> Sign
+    requires numbers { AreFree (length (matrix_by net.now system).rows) u.now }
+    requires place { k < width (matrix_by net.now system) }
+    ensures { HasSign result (entry (weights_of (matrix_by net.now system.entry) u.now) k) }
+{
+    let columns = columns(net, system);
+    if k < columns {
+        opposite(sign_of(column_sum(net, system, u, k)))
     } else {
-        sign_of(u[k - reactions])
+        sign_of(u[k - columns])
     }
 }
 
@@ -40,14 +128,15 @@ pub(crate) fn rules_out(
     prefix: &[Sign],
     u: &[i128],
 ) -> bool
-    requires { AreFree (length net.now.names) u.now }
+    requires { AreFree (length (matrix_of net.now problem part).rows) u.now }
     ensures { IsTrue result
-        ↔ IsCut (reaction_system net.now) (kinds_of net.now problem part prefix.now) u.now }
+        ↔ IsCut (matrix_of net.now problem.entry part) (kinds_of net.now problem.entry part prefix.now) u.now }
 {
+    let system = system_of(problem, part);
     let mut some = false;
-    for k in 0..net.reactions() + net.species() {
+    for k in 0..columns(net, system) + rows(net, system) {
         let kind = kind(net, problem, part, prefix, k);
-        let sign = weight(net, u, k);
+        let sign = weight(net, system, u, k);
         if !may_weigh(kind, sign) {
             return false;
         }

@@ -1,13 +1,17 @@
-ghost use Rattle.std.specs.Prelude.{◌≡◌, ◌<◌, ◌+◌, ◌↔◌, IsTrue, ℕ, pos, [], length, map, slice_index_or};
-ghost use Rattle.crn_vec.specs.Concordance.{column_kind as kind_of_column, kind_of_sign, kind_of_sum, product as product_of, row_kinds, sign};
+ghost use Rattle.std.specs.Prelude.{◌≡◌, ◌<◌, ◌+◌, ◌↔◌, IsTrue, pos, [], length, map, slice_index_or};
+ghost use Rattle.crn_vec.specs.Concordance.{column_kind as kind_of_column, kind_of_sum, kinds_a_of, kinds_b_of, product as product_of, sign};
+ghost use Rattle.crn_vec.specs.Elementary.{width};
+ghost use Rattle.crn_vec.specs.Network.{Net};
+ghost use Rattle.crn_vec.specs.NetSystems.{reaction_system};
 ghost use Rattle.crn_vec.specs.Systems.{kind_at};
 ghost use Rattle.crn_vec.specs.Vectors.{HasSign};
-ghost use Rattle.crn_ctree.specs.Problem.{table_of};
-ghost use Rattle.crn_ctree.specs.Inner.Kinds.{column_from, opposite_kind, kinds_of};
+ghost use Rattle.crn_ctree.specs.Problem.{problem_of, table_of};
+ghost use Rattle.crn_ctree.specs.Inner.Kinds.{column_from, kinds_of, matrix_of, opposite_kind};
 
 use crate::cut::Part;
-use crate::problem::Problem;
+use crate::problem::{InfluenceTable, Problem};
 use crn_net::Network;
+use crn_shape::row_kind;
 use crn_vec::{Kind, Sign, product, sign_of};
 
 // The kind of a sum with or without positive members, and with or without negative ones.
@@ -22,7 +26,7 @@ fn sum_kind(raised: bool, lowered: bool) -> Kind
     }
 }
 
-fn sign_at(number: &i128) -> Sign
+pub(crate) fn sign_at(number: &i128) -> Sign
     ensures { HasSign result number.now }
 {
     sign_of(*number)
@@ -75,58 +79,76 @@ fn opposite_kind(kind: Kind) -> Kind
 }
 
 // The kind of a reaction's column in part A. The strong table has the signs opposite to the reaction's vector.
-pub(crate) fn column_kind(net: &Network, problem: Problem, r: usize, prefix: &[Sign]) -> Kind
+pub(crate) fn column_kind(net: &Network, table: InfluenceTable, r: usize, prefix: &[Sign]) -> Kind
     requires { r < length net.now.reactions }
-    ensures { result ≡ kind_of_column (slice_index_or (table_of net.now problem) r []) prefix.now }
+    ensures { result ≡ kind_of_column (slice_index_or (table_of net.now table) r []) prefix.now }
 {
-    match problem {
-        Problem::Plain => kind_from(false, false, net.vector(net.reactant(r)), prefix),
-        Problem::Strong => opposite_kind(kind_from(false, false, net.reaction_vector(r), prefix)),
+    match table {
+        InfluenceTable::Plain => kind_from(false, false, net.vector(net.reactant(r)), prefix),
+        InfluenceTable::Strong => opposite_kind(kind_from(
+            false,
+            false,
+            net.reaction_vector(r),
+            prefix,
+        )),
     }
 }
 
-// The kind that an option asks.
-fn option_kind(option: Sign) -> Kind
-    ensures { result ≡ kind_of_sign option }
-{
-    match option {
-        Sign::Zero => Kind::Zero,
-        Sign::Plus => Kind::Pos,
-        Sign::Minus => Kind::Neg,
-    }
-}
-
-// The kind of a species' row in part B.
-fn row_kind(prefix: &[Sign], s: usize) -> Kind
-    ensures { (n : ℕ) → s < n → result ≡ kind_at (row_kinds n prefix.now) s }
-{
-    if s < prefix.len() {
-        option_kind(prefix[s])
-    } else {
-        Kind::Free
-    }
-}
-
-/// The kind of a coordinate of a part at a prefix: the reactions' columns first, and then the species' rows.
-pub(crate) fn kind(net: &Network, problem: Problem, part: Part, prefix: &[Sign], k: usize) -> Kind
+// The kind of a coordinate of part A of a table: the reactions' columns first, and then the species' rows.
+fn kind_of_table(net: &Network, table: InfluenceTable, prefix: &[Sign], k: usize) -> Kind
     requires { k < length net.now.reactions + length net.now.names }
-    ensures { result ≡ kind_at (kinds_of net.now problem part prefix.now) k }
+    ensures { result
+        ≡ kind_at (kinds_a_of (reaction_system net.now) (table_of net.now table) prefix.now) k }
+{
+    if k < net.reactions() {
+        column_kind(net, table, k, prefix)
+    } else {
+        Kind::Zero
+    }
+}
+
+// The kind of a coordinate of part B, in which these signs of species are chosen.
+fn kind_of_signs(net: &Network, signs: &[Sign], k: usize) -> Kind
+    requires { k < length net.now.reactions + length net.now.names }
+    ensures { result ≡ kind_at (kinds_b_of (reaction_system net.now) signs.now) k }
 {
     let reactions = net.reactions();
+    if k < reactions {
+        Kind::Free
+    } else {
+        row_kind(signs, k - reactions)
+    }
+}
+
+// The kind of a coordinate of part A at a prefix.
+fn kind_a(net: &Network, problem: Problem, prefix: &[Sign], k: usize) -> Kind
+    requires { k < width (problem_of net.now problem).matrix_a }
+    ensures { result ≡ kind_at ((problem_of net.now problem.entry).kinds_a prefix.now) k }
+{
+    match problem {
+        Problem::Concordance(table) => kind_of_table(net, table, prefix, k),
+        Problem::Signals(shape) => shape.kind(prefix, k),
+    }
+}
+
+// The options of a prefix that are signs of species.
+fn species_signs<'p>(problem: Problem, prefix: &'p [Sign]) -> &'p [Sign]
+    ensures { (net : Net) → kinds_b_of (reaction_system net) result.now
+        ≡ (problem_of net problem.entry).kinds_b prefix.now }
+{
+    match problem {
+        Problem::Concordance(_) => prefix,
+        Problem::Signals(shape) => shape.signs(prefix),
+    }
+}
+
+/// The kind of a coordinate of a part at a prefix: the columns first, and then the rows.
+pub(crate) fn kind(net: &Network, problem: Problem, part: Part, prefix: &[Sign], k: usize) -> Kind
+    requires { k < width (matrix_of net.now problem part) }
+    ensures { result ≡ kind_at (kinds_of net.now problem.entry part prefix.now) k }
+{
     match part {
-        Part::A => {
-            if k < reactions {
-                column_kind(net, problem, k, prefix)
-            } else {
-                Kind::Zero
-            }
-        }
-        Part::B => {
-            if k < reactions {
-                Kind::Free
-            } else {
-                row_kind(prefix, k - reactions)
-            }
-        }
+        Part::A => kind_a(net, problem, prefix, k),
+        Part::B => kind_of_signs(net, species_signs(problem, prefix), k),
     }
 }

@@ -1,4 +1,4 @@
-//! Trees of certificates checked node by node, and pairs that show a table discordant.
+//! Trees of certificates checked node by node, pairs that show a table discordant, and signals.
 #![tactic(auto)]
 
 mod check;
@@ -11,16 +11,18 @@ mod pair;
 mod path;
 mod problem;
 mod shared;
+mod signal;
 #[cfg(test)]
 mod tests;
 
 pub use check::TreeCheck;
 pub use fault::TreeFault;
 pub use laws::{
-    complete_trees_show_concordance, complete_where_valid, first_faults_are_those_of_tests,
-    nodes_of_valid_trees,
+    complete_trees_show, complete_where_valid, first_faults_are_those_of_tests,
+    first_signal_faults_are_those_of_tests, nodes_of_valid_trees, signal_nodes_are_of_shape,
 };
 pub use node::{Node, Step};
 pub use pair::check_pair;
-pub use problem::Problem;
+pub use problem::{InfluenceTable, Problem};
 pub use shared::{SharedCut, SharedTable};
+pub use signal::check_signal;

@@ -1,4 +1,4 @@
-ghost use Rattle.std.specs.Prelude.{◌≡◌, ◌≤◌, ◌<◌, length, true, IsTrue, ◌↔◌};
+ghost use Rattle.std.specs.Prelude.{◌≡◌, ◌<◌, length, true, IsTrue, ◌↔◌};
 ghost use Rattle.crn_vec.specs.Problems.{all_zero};
 ghost use Rattle.crn_cert.specs.Nodes.{AreNumbersFor, Fits};
 ghost use Rattle.crn_ctree.specs.Gives.{said_by};
@@ -7,6 +7,7 @@ ghost use Rattle.crn_ctree.specs.Problem.{problem_of};
 use crate::cut::{Part, rules_out};
 use crate::problem::Problem;
 use crn_net::Network;
+use crn_shape::is_all_zero;
 use crn_vec::Sign;
 
 /// A node of a tree, as a line says it.
@@ -31,42 +32,49 @@ pub enum Step {
     Complete,
 }
 
-// Whether every option is zero.
-pub(crate) fn is_all_zero(options: &[Sign]) -> bool
-    ensures { result ≡ all_zero options.now }
+// The number of choices of a problem.
+pub(crate) fn choices(net: &Network, problem: Problem) -> usize
+    ensures { result ≡ (problem_of net.now problem.entry).choices }
 {
-    for option in options {
-        if *option != Sign::Zero {
-            return false;
-        }
+    match problem {
+        Problem::Concordance(_) => net.species(),
+        Problem::Signals(shape) => shape.choices(),
     }
-    true
 }
 
-// Whether the prefix is not full.
-fn is_not_full(net: &Network, prefix: &[Sign]) -> bool
-    ensures { IsTrue result ↔ (length prefix.now < length net.now.names) }
+// Whether a prefix is not full.
+fn is_not_full(net: &Network, problem: Problem, prefix: &[Sign]) -> bool
+    ensures { IsTrue result ↔ (length prefix.now < (problem_of net.now problem.entry).choices) }
 {
-    prefix.len() < net.species()
+    prefix.len() < choices(net, problem)
 }
 
-// Whether the prefix is closed: full and of zeros only.
-fn is_closed(net: &Network, prefix: &[Sign]) -> bool
+// Whether a prefix of all species is of zeros only.
+fn is_all_nought(net: &Network, prefix: &[Sign]) -> bool
     ensures { IsTrue result
         ↔ ((length prefix.now ≡ length net.now.names) × (all_zero prefix.now ≡ true)) }
 {
     prefix.len() == net.species() && is_all_zero(prefix)
 }
 
+// Whether a prefix is closed.
+fn is_closed(net: &Network, problem: Problem, prefix: &[Sign]) -> bool
+    ensures { IsTrue result ↔ IsTrue ((problem_of net.now problem.entry).closed prefix.now) }
+{
+    match problem {
+        Problem::Concordance(_) => is_all_nought(net, prefix),
+        Problem::Signals(shape) => shape.is_closed(prefix),
+    }
+}
+
 // Whether a node passes its test at a prefix.
 pub(crate) fn fits(net: &Network, problem: Problem, prefix: &[Sign], node: &Node) -> bool
-    requires prefix { length prefix.now ≤ length net.now.names }
-    requires numbers { AreNumbersFor (problem_of net.now problem) (said_by node.now) }
-    ensures { IsTrue result ↔ Fits (problem_of net.now problem) prefix.now (said_by node.now) }
+    requires { AreNumbersFor (problem_of net.now problem) (said_by node.now) }
+    ensures { IsTrue result ↔ Fits (problem_of net.now problem.entry) prefix.now (said_by node.now) }
 {
     match node {
-        Node::Split => is_not_full(net, prefix),
-        Node::Flat => is_closed(net, prefix),
+        Node::Split => is_not_full(net, problem, prefix),
+        Node::Flat => is_closed(net, problem, prefix),
         Node::CutA(multipliers) => rules_out(net, problem, Part::A, prefix, multipliers),
         Node::CutB(multipliers) => rules_out(net, problem, Part::B, prefix, multipliers),
     }

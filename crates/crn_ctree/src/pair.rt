@@ -9,13 +9,13 @@ ghost use Rattle.crn_ctree.specs.Problem.{table_of};
 ghost use Rattle.crn_ctree.specs.Inner.Pairs.{AreOfColumns};
 
 use crate::kinds::column_kind;
-use crate::node::is_all_zero;
-use crate::problem::Problem;
+use crate::problem::InfluenceTable;
 use crn_net::Network;
+use crn_shape::is_all_zero;
 use crn_vec::{Kind, MAX_SPECIES, Sign, sign_of};
 
 // A product of an entry of a reaction vector and a number of a certificate.
-fn times(x: &i128, y: &i128) -> i128
+pub(crate) fn times(x: &i128, y: &i128) -> i128
     requires x { unsigned_abs x.now ≤ MAX_AMOUNT }
     requires y { unsigned_abs y.now ≤ WIDE_SOLUTION }
     ensures value { result ≡ x.now *ℤ y.now }
@@ -39,7 +39,7 @@ fn sum_at(net: &Network, weights: &[i128], s: usize) -> i128
 }
 
 // Its sign.
-fn sign_at(net: &Network, weights: &[i128], s: usize) -> Sign
+pub(crate) fn change_sign(net: &Network, weights: &[i128], s: usize) -> Sign
     requires weights { AreFree (length net.now.reactions) weights.now }
     requires species { s < length net.now.names }
     ensures { result ≡ sign (entry (image (reaction_system net.now) weights.now) s) }
@@ -54,12 +54,12 @@ fn put_signs(net: &Network, weights: &[i128], into: &mut [Sign])
     ensures { into.new ≡ map sign (image (reaction_system net.now) weights.now) }
 {
     for s in 0..net.species() {
-        into[s] = sign_at(net, weights, s);
+        into[s] = change_sign(net, weights, s);
     }
 }
 
 // Whether a number is of a kind.
-fn has_kind(kind: Kind, number: &i128) -> bool
+pub(crate) fn has_kind(kind: Kind, number: &i128) -> bool
     ensures { IsTrue result ↔ HasKind kind number.now }
 {
     match kind {
@@ -72,24 +72,24 @@ fn has_kind(kind: Kind, number: &i128) -> bool
 }
 
 // Whether the number of each reaction is of the kind that its column has at the prefix.
-fn all_have_kinds(net: &Network, problem: Problem, alpha: &[i128], prefix: &[Sign]) -> bool
+fn all_have_kinds(net: &Network, table: InfluenceTable, alpha: &[i128], prefix: &[Sign]) -> bool
     requires { length alpha.now ≡ length net.now.reactions }
-    ensures { IsTrue result ↔ AreOfColumns (table_of net.now problem) prefix.now alpha.now }
+    ensures { IsTrue result ↔ AreOfColumns (table_of net.now table) prefix.now alpha.now }
 {
     for r in 0..net.reactions() {
-        if !has_kind(column_kind(net, problem, r, prefix), &alpha[r]) {
+        if !has_kind(column_kind(net, table, r, prefix), &alpha[r]) {
             return false;
         }
     }
     true
 }
 
-/// Whether two lists of numbers, one for each reaction, show the table of the problem discordant: alpha combines the
+/// Whether two lists of numbers, one for each reaction, show the table discordant: alpha combines the
 /// reactions to zero, the weights combine them to changes that are not all zero, and alpha goes with the changes.
-pub fn check_pair(net: &Network, problem: Problem, alpha: &[i128], weights: &[i128]) -> bool
+pub fn check_pair(net: &Network, table: InfluenceTable, alpha: &[i128], weights: &[i128]) -> bool
     requires alpha { AreFree (length net.now.reactions) alpha.now }
     requires weights { AreFree (length net.now.reactions) weights.now }
-    ensures { IsTrue result ↔ IsDiscordant (reaction_system net.now) (table_of net.now problem)
+    ensures { IsTrue result ↔ IsDiscordant (reaction_system net.now) (table_of net.now table)
         alpha.now weights.now }
 {
     let mut room = [Sign::Zero; MAX_SPECIES];
@@ -102,5 +102,5 @@ pub fn check_pair(net: &Network, problem: Problem, alpha: &[i128], weights: &[i1
     if is_all_zero(signs) {
         return false;
     }
-    all_have_kinds(net, problem, alpha, signs)
+    all_have_kinds(net, table, alpha, signs)
 }

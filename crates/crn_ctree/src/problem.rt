@@ -1,8 +1,19 @@
-/// The sign problem of a tree.
+use crn_shape::Shape;
+
+/// An influence table of a network.
 #[derive(Clone, Copy, Debug, PartialEq, Eq)]
-pub enum Problem {
-    /// Of the plain influence table: the tree shows concordance.
+pub enum InfluenceTable {
+    /// The plain one: a tree shows concordance.
     Plain,
-    /// Of the strong influence table: the tree shows strong concordance.
+    /// The strong one: a tree shows strong concordance.
     Strong,
+}
+
+/// The sign problem of a tree.
+#[derive(Clone, Copy)]
+pub enum Problem<'a> {
+    /// Of an influence table.
+    Concordance(InfluenceTable),
+    /// Of the signals over a shape: a tree shows that there is none.
+    Signals(&'a Shape<'a>),
 }

@@ -1,7 +1,9 @@
 ghost use Rattle.std.specs.Prelude.{◌≡◌, ◌≤◌, ◌-◌, [], ◌∷◌, ◌++◌, length, slice_index_or, OnOk, OnErr, IfOk};
 ghost use Rattle.crn_ctree.specs.Shared.{IsShared, place_of, said_with};
 ghost use Rattle.crn_ctree.specs.Gives.{said_by};
+ghost use Rattle.crn_ctree.specs.Inner.Kinds.{part_of};
 
+use crate::cut::Part;
 use crate::node::Node;
 use crn_vec::{Ints, NoMemory};
 use std::alloc::Global;
@@ -23,6 +25,16 @@ impl SharedCut {
     {
         match self {
             SharedCut::A(place) | SharedCut::B(place) => place,
+        }
+    }
+
+    // The part that the cut rules out.
+    pub(crate) fn part(self) -> Part
+        ensures { result ≡ part_of self }
+    {
+        match self {
+            SharedCut::A(_) => Part::A,
+            SharedCut::B(_) => Part::B,
         }
     }
 

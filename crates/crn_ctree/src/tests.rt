@@ -4,17 +4,20 @@ ghost use Rattle.crn_vec.specs.Network.{is_letter, IsName};
 ghost use Rattle.crn_net.specs.Terms.{IsTerm, IsSide};
 ghost use Rattle.crn_cert.specs.Nodes.{AreNumbersFor};
 ghost use Rattle.crn_cert.specs.Ranges.{AreFree, IsNarrow};
+ghost use Rattle.crn_shape.specs.Shapes.{AreForShape, IsPairIn};
 ghost use Rattle.crn_ctree.specs.Gives.{said_by};
 ghost use Rattle.crn_ctree.specs.Problem.{problem_of};
 ghost use Rattle.crn_ctree.specs.Shared.{IsPlaceIn, IsShared};
 
+use crate::cut::{Part, rows, system_of};
 use crate::{
-    Node, Problem, SharedCut, SharedTable, Step, TreeCheck, TreeFault, check_pair,
-    complete_trees_show_concordance, complete_where_valid, first_faults_are_those_of_tests,
-    nodes_of_valid_trees,
+    InfluenceTable, Node, Problem, SharedCut, SharedTable, Step, TreeCheck, TreeFault, check_pair,
+    complete_trees_show, complete_where_valid, first_faults_are_those_of_tests,
+    first_signal_faults_are_those_of_tests, nodes_of_valid_trees, signal_nodes_are_of_shape,
 };
 use crn_net::{NetBuilder, NetFault, Network, Term, sums_fit};
-use crn_vec::{MAX_AMOUNT, MAX_COORDINATES, MAX_TERMS, WIDE_SOLUTION};
+use crn_shape::{LinkedPair, Shape, Tops};
+use crn_vec::{MAX_AMOUNT, MAX_COMPLEXES, MAX_COORDINATES, MAX_TERMS, WIDE_SOLUTION};
 use std::alloc::{AllocError, Global};
 use std::process::Abort;
 use std::test::Fail;
@@ -155,8 +158,8 @@ fn has_numbers(net: &Network, problem: Problem, node: &Node) -> bool
 {
     match node {
         Node::Split | Node::Flat => true,
-        Node::CutA(numbers) => are_free(net.species(), numbers),
-        Node::CutB(numbers) => are_free(net.species(), numbers),
+        Node::CutA(numbers) => are_free(rows(net, system_of(problem, Part::A)), numbers),
+        Node::CutB(numbers) => are_free(rows(net, system_of(problem, Part::B)), numbers),
     }
 }
 
@@ -179,6 +182,10 @@ fn shared(rt: &(impl Abort + AllocGlobal), vectors: &[&[i128]]) -> Result<Shared
     }
     Ok(table)
 }
+
+const PLAIN: Problem<'static> = Problem::Concordance(InfluenceTable::Plain);
+
+const STRONG: Problem<'static> = Problem::Concordance(InfluenceTable::Strong);
 
 // How many of the first nodes are taken, and the code of the fault, or 0 if they are those of a tree.
 fn checked(
@@ -229,8 +236,8 @@ fn tree_checked(
     count: usize,
 ) -> Result<(usize, u32), Fail> {
     let nodes = tree(fourth, seventh);
-    let plain = checked(rt, net, Problem::Plain, &nodes, count)?;
-    let strong = checked(rt, net, Problem::Strong, &nodes, count)?;
+    let plain = checked(rt, net, PLAIN, &nodes, count)?;
+    let strong = checked(rt, net, STRONG, &nodes, count)?;
     assert_eq!(rt; plain, strong);
     Ok(plain)
 }
@@ -292,9 +299,9 @@ fn shared_answer(
     table: &SharedTable,
     cut: SharedCut,
 ) -> Result<Result<Step, TreeFault>, Fail> {
-    let mut check = TreeCheck::new(rt.alloc(), net, Problem::Plain)?;
+    let mut check = TreeCheck::new(rt.alloc(), net, PLAIN)?;
     for at in 0..taken.len() {
-        assert!(rt; has_numbers(net, Problem::Plain, &taken[at]));
+        assert!(rt; has_numbers(net, PLAIN, &taken[at]));
         match check.node(net, &taken[at]) {
             Ok(Step::More) => {}
             _ => panic!(rt; "the tree is complete, or refused"),
@@ -352,13 +359,13 @@ fn shared_cuts_answer_as_their_vectors(rt: HostRuntime) -> Result<(), Fail> {
 fn is_pair(
     rt: &(impl Abort + AllocGlobal),
     net: &Network,
-    problem: Problem,
+    table: InfluenceTable,
     alpha: &[i128],
     weights: &[i128],
 ) -> bool {
     assert!(rt; are_free(net.reactions(), alpha));
     assert!(rt; are_free(net.reactions(), weights));
-    check_pair(net, problem, alpha, weights)
+    check_pair(net, table, alpha, weights)
 }
 
 #[test]
@@ -385,23 +392,106 @@ fn pairs_show_tables_discordant(rt: HostRuntime) {
     ];
     for (name, alpha, weights, want) in cases {
         assert_eq!(rt;
-            is_pair(&rt, &net, Problem::Plain, &alpha, &weights),
+            is_pair(&rt, &net, InfluenceTable::Plain, &alpha, &weights),
             want,
             "{name}"
         );
         assert!(rt;
-            !is_pair(&rt, &net, Problem::Strong, &alpha, &weights),
+            !is_pair(&rt, &net, InfluenceTable::Strong, &alpha, &weights),
             "{name}"
         );
     }
     let both = network(&rt, b"A>B,B>A");
-    assert!(rt; !is_pair(&rt, &both, Problem::Plain, &[1, 1], &[1, 0]));
+    assert!(rt; !is_pair(&rt, &both, InfluenceTable::Plain, &[1, 1], &[1, 0]));
+}
+
+fn is_in(net: &Network, pair: &LinkedPair) -> bool
+    ensures { IsTrue result → IsPairIn net.now pair.now }
+{
+    pair.reaction < net.reactions() && -9 <= pair.sum && pair.sum <= 9
+}
+
+// Whether these are terminal classes and linked pairs of the network.
+fn fits(net: &Network, tops: &Tops, pairs: &[LinkedPair]) -> bool
+    ensures { IsTrue result → AreForShape net.now tops.now.of.items tops.now.count pairs.now }
+{
+    if tops.of.len() != net.complexes()
+        || pairs.len() >= net.complexes()
+        || tops.count > MAX_COMPLEXES
+    {
+        return false;
+    }
+    pairs.iter().all(|pair| is_in(net, pair))
+}
+
+// The shape of a network with the terminal class of each complex, so many classes, and the reaction, the class and the
+// sum of each linked pair.
+fn shape<'a>(
+    rt: &(impl Abort + AllocGlobal),
+    net: &'a Network,
+    classes: &[usize],
+    count: usize,
+    rows: &[(usize, usize, i128)],
+) -> Result<Shape<'a>, Fail> {
+    let mut of = Vec::new(rt.alloc());
+    for class in classes {
+        of.push(Some(*class))?;
+    }
+    let mut pairs = Vec::new(rt.alloc());
+    for row in rows {
+        pairs.push(LinkedPair {
+            reaction: row.0,
+            top: row.1,
+            sum: row.2,
+        })?;
+    }
+    let tops = Tops { of, count };
+    assert!(rt; fits(net, &tops, &pairs));
+    Ok(Shape::from_parts(net, tops, pairs))
+}
+
+// By hand: upper, both pairs have the same row, and one has to rise and the other to fall.
+#[test]
+fn trees_of_signals_are_checked_node_by_node(rt: HostRuntime) -> Result<(), Fail> {
+    let net = network(&rt, b"2A>AB,AB>2A,AB>2B,2B>AB");
+    let mut shape = shape(&rt, &net, &[0, 0, 0], 1, &[(0, 0, -1), (2, 0, 1)])?;
+    let rise = [Node::Split, Node::Flat, Node::CutA(&[0, 0, 0, -1, 1])];
+    let fall = [Node::Split, Node::Flat, Node::CutA(&[0, 0, 0, 1, -1])];
+    assert_eq!(rt;
+        checked(&rt, &net, Problem::Signals(&shape), &rise, 3)?,
+        (3, 0)
+    );
+    assert_eq!(rt;
+        checked(&rt, &net, Problem::Signals(&shape), &fall, 3)?,
+        (2, 41)
+    );
+    assert_eq!(rt;
+        checked(&rt, &net, Problem::Signals(&shape), &rise, 2)?,
+        (2, 43)
+    );
+    shape.negate();
+    assert_eq!(rt;
+        checked(&rt, &net, Problem::Signals(&shape), &fall, 3)?,
+        (3, 0)
+    );
+    assert_eq!(rt;
+        checked(&rt, &net, Problem::Signals(&shape), &rise, 3)?,
+        (2, 41)
+    );
+    let open = [Node::Split, Node::Flat, Node::Flat];
+    assert_eq!(rt;
+        checked(&rt, &net, Problem::Signals(&shape), &open, 3)?,
+        (2, 42)
+    );
+    Ok(())
 }
 
 #[test]
 fn the_laws_stand() {
     nodes_of_valid_trees();
     complete_where_valid();
-    complete_trees_show_concordance();
+    complete_trees_show();
     first_faults_are_those_of_tests();
+    signal_nodes_are_of_shape();
+    first_signal_faults_are_those_of_tests();
 }

@@ -1,31 +1,54 @@
-use Rattle.std.proofs.Common.{◌≡◌, ◌+◌, length, sym, subst, ◌∙◌, arith}
+use Rattle.std.proofs.Common.{◌≡◌, ◌+◌, length, sym, ap, subst, ◌∙◌, arith}
 use Rattle.std.specs.Prelude.{IsTrue}
 use Rattle.std.proofs.lemmas.Bool.{false≢true}
 use Rattle.crn_vec.specs.declared.signs.Kind.{Kind}
+use Rattle.crn_vec.specs.Elementary.{width}
 use Rattle.crn_vec.specs.Systems.{MayWeigh, kind_at}
-use Rattle.crn_vec.specs.Vectors.{entry}
-use Rattle.crn_ctree.specs.Inner.Kinds.{kinds_of, weights_of}
+use Rattle.crn_vec.specs.Vectors.{HasSign, Mat, entry}
+use Rattle.crn_cert.specs.Ranges.{AreFree}
+use Rattle.crn_ctree.specs.Inner.Kinds.{kinds_of, matrix_of, weights_of}
 use Rattle.crn_ctree.proofs.CutLaws.{CountsTo, may_next, counts_more, counts_here, counts_last, cut_from, cut_weighs, cut_counts}
 use Rattle.crn_ctree.proofs.cut.rules_out.Goals.{then-counts, else-counts}
 use Rattle.crn_ctree.proofs.cut.rules_out.Goals as goal
 
+pub kind-kind-requires : goal.kind-kind-requires
+kind-kind-requires c =
+    let e = ap (λ (a : Mat). width a) (c.system_of-system.ensures.matrix c.args.net.now) in
+    omega (arith, e, c.loop-k-test.true, c.loop-k.auto.k-end, c.columns.ensures.count, c.rows.ensures.count)
+
+pub weight-sign-requires-clause-numbers : goal.weight-sign-requires-clause-numbers
+weight-sign-requires-clause-numbers c =
+    subst (λ (a : Mat). AreFree (length a.rows) c.args.u.now) (sym (c.system_of-system.ensures.matrix c.args.net.now)) c.requires
+
+pub weight-sign-requires-clause-place : goal.weight-sign-requires-clause-place
+weight-sign-requires-clause-place c = omega (arith, c.loop-k-test.true, c.loop-k.auto.k-end, c.columns.ensures.count, c.rows.ensures.count)
+
 pub returns-then-not-may_weigh : goal.returns-then-not-may_weigh
 returns-then-not-may_weigh c =
-    let w = weights_of c.args.net.now c.args.u.now in
-    let k = c.loop-k.k in (
+    let net = c.args.net.now in
+    let u = c.args.u.now in
+    let a = matrix_of net c.args.problem c.args.part in
+    let kinds = kinds_of net c.args.problem c.args.part c.args.prefix.now in
+    let w = weights_of a u in
+    let k = c.loop-k.k in
+    let sign = subst (λ (b : Mat). HasSign c.weight-sign.result (entry (weights_of b u) k)) (c.system_of-system.ensures.matrix net) c.weight-sign.ensures in (
       λ t. absurd (false≢true t),
       λ cut.
-          let m = cut_weighs c.args.net.now c.species.ensures.network c.args.problem c.args.part c.args.prefix.now c.args.u.now c.requires.long cut k in
-          absurd (false≢true (sym c.if-not-may_weigh.true ∙ (c.may_weigh.ensures (entry w k) c.weight-sign.ensures).1 (subst (λ (κ : Kind). MayWeigh κ (entry w k)) (sym c.kind-kind.ensures) m))),
+          let m = cut_weighs a kinds u c.requires.long cut k in
+          absurd (false≢true (sym c.if-not-may_weigh.true ∙ (c.may_weigh.ensures (entry w k) sign).1 (subst (λ (κ : Kind). MayWeigh κ (entry w k)) (sym c.kind-kind.ensures) m))),
     )
 
 pub loop-k-preserved : goal.loop-k-preserved
 loop-k-preserved c =
-    let kinds = kinds_of c.args.net.now c.args.problem c.args.part c.args.prefix.now in
-    let w = weights_of c.args.net.now c.args.u.now in
+    let net = c.args.net.now in
+    let u = c.args.u.now in
+    let a = matrix_of net c.args.problem c.args.part in
+    let kinds = kinds_of net c.args.problem c.args.part c.args.prefix.now in
+    let w = weights_of a u in
     let k = c.loop-k.k in
-    let weighs : MayWeigh (kind_at kinds k) (entry w k) = subst (λ (κ : Kind). MayWeigh κ (entry w k)) c.kind-kind.ensures ((c.may_weigh.ensures (entry w k) c.weight-sign.ensures).0 c.if-not-may_weigh.false) in
-    let tells = c.counts.ensures (entry w k) c.weight-sign.ensures in (
+    let sign = subst (λ (b : Mat). HasSign c.weight-sign.result (entry (weights_of b u) k)) (c.system_of-system.ensures.matrix net) c.weight-sign.ensures in
+    let weighs : MayWeigh (kind_at kinds k) (entry w k) = subst (λ (κ : Kind). MayWeigh κ (entry w k)) c.kind-kind.ensures ((c.may_weigh.ensures (entry w k) sign).0 c.if-not-may_weigh.false) in
+    let tells = c.counts.ensures (entry w k) sign in (
       may_next kinds w k c.loop-k.invariant.0 weighs,
       elim c.if-counts.branch as (λ _. (IsTrue c.if-counts.some → CountsTo kinds w (k + 1)) × (CountsTo kinds w (k + 1) → IsTrue c.if-counts.some)) [
         | then-counts b ↦
@@ -41,8 +64,14 @@ loop-k-preserved c =
 pub returns : goal.returns
 returns c =
     let net = c.args.net.now in
+    let u = c.args.u.now in
+    let a = matrix_of net c.args.problem c.args.part in
+    let kinds = kinds_of net c.args.problem c.args.part c.args.prefix.now in
     let n = c.loop-k.k in
-    let all : n ≡ length net.reactions + length net.names = omega (arith, c.loop-k-test.false, c.loop-k.auto.k-end, c.reactions.ensures.count, c.species.ensures.count) in (
-      λ t. cut_from net c.species.ensures.network c.args.problem c.args.part c.args.prefix.now c.args.u.now n c.requires.long all c.loop-k.invariant.0 (c.loop-k.invariant.1.0 t),
-      λ cut. c.loop-k.invariant.1.1 (cut_counts net c.species.ensures.network c.args.problem c.args.part c.args.prefix.now c.args.u.now n c.requires.long all cut),
+    let e = c.system_of-system.ensures.matrix net in
+    let same = ap (λ (b : Mat). width b) e in
+    let long : length kinds ≡ width a = c.system_of-system.ensures.kinds net c.args.prefix.now ∙ same in
+    let all : n ≡ width a = omega (arith, same, c.loop-k-test.false, c.loop-k.auto.k-end, c.columns.ensures.count, c.rows.ensures.count) in (
+      λ t. cut_from a kinds u n c.requires.long long all c.loop-k.invariant.0 (c.loop-k.invariant.1.0 t),
+      λ cut. c.loop-k.invariant.1.1 (cut_counts a kinds u n c.requires.long all cut),
     )

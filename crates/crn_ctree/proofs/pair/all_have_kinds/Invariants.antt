@@ -6,4 +6,4 @@ use Rattle.crn_ctree.specs.Problem.{table_of}
 use Rattle.crn_ctree.proofs.pair.all_have_kinds.Given as goal
 
 abbrev pub invariant-loop-r : goal.invariant-loop-r
-invariant-loop-r l = (j : ℕ) → j < l.r → HasKind (column_kind (get_or (table_of l.net l.problem) j []) l.prefix) (entry l.alpha j)
+invariant-loop-r l = (j : ℕ) → j < l.r → HasKind (column_kind (get_or (table_of l.net l.table) j []) l.prefix) (entry l.alpha j)

@@ -1,5 +1,6 @@
-use Rattle.std.proofs.Common.{◌≡◌, ◌≢◌, [], length}
+use Rattle.std.proofs.Common.{◌≡◌, ◌≢◌, []}
+use Rattle.crn_ctree.specs.Problem.{problem_of}
 use Rattle.crn_ctree.proofs.tests.checked.Given as goal
 
 abbrev pub invariant-loop-at : goal.invariant-loop-at
-invariant-loop-at g l = (l.check.due ≢ []) × (l.check.choices ≡ length l.net.names) × (l.check.problem ≡ l.problem)
+invariant-loop-at g l = (l.check.due ≢ []) × (l.check.choices ≡ (problem_of l.net l.problem).choices) × (l.check.problem ≡ l.problem)

@@ -1,16 +1,22 @@
-use Rattle.std.proofs.Common.{sym, subst, ◌∙◌}
+use Rattle.std.proofs.Common.{length, sym, subst, ◌∙◌}
+use Rattle.crn_vec.specs.Vectors.{Mat}
 use Rattle.crn_cert.specs.Nodes.{AreNumbersFor}
 use Rattle.crn_cert.specs.Ranges.{AreFree}
 use Rattle.crn_ctree.specs.Gives.{said_by}
 use Rattle.crn_ctree.specs.Problem.{problem_of}
 use Rattle.crn_ctree.specs.declared.node.Node.{Node}
-use Rattle.crn_ctree.proofs.NodeTests.{free_a, free_b}
 use Rattle.crn_ctree.proofs.tests.has_numbers.Goals as goal
 
 pub returns-in-CutA : goal.returns-in-CutA
-returns-in-CutA c = λ t. subst (λ (node : Node). AreNumbersFor (problem_of c.args.net.now c.args.problem) (said_by node)) (sym c.in-CutA.is)
-    (free_a c.args.net.now c.args.problem c.in-CutA.numbers.now (subst (λ n. AreFree n c.in-CutA.numbers.now) c.species.ensures.count (c.are_free.ensures t)))
+returns-in-CutA c = λ t.
+    let net = c.args.net.now in
+    let u = c.in-CutA.numbers.now in
+    subst (λ (node : Node). AreNumbersFor (problem_of net c.args.problem) (said_by node)) (sym c.in-CutA.is)
+    (subst (λ (a : Mat). AreFree (length a.rows) u) (c.system_of.ensures.matrix net) (subst (λ n. AreFree n u) c.rows.ensures.count (c.are_free.ensures t)))
 
 pub returns-in-CutB : goal.returns-in-CutB
-returns-in-CutB c = λ t. subst (λ (node : Node). AreNumbersFor (problem_of c.args.net.now c.args.problem) (said_by node)) (sym c.in-CutB.is)
-    (free_b c.args.net.now c.args.problem c.in-CutB.numbers.now (subst (λ n. AreFree n c.in-CutB.numbers.now) c.species-in-CutB.ensures.count (c.are_free-in-CutB.ensures t)))
+returns-in-CutB c = λ t.
+    let net = c.args.net.now in
+    let u = c.in-CutB.numbers.now in
+    subst (λ (node : Node). AreNumbersFor (problem_of net c.args.problem) (said_by node)) (sym c.in-CutB.is)
+    (subst (λ (a : Mat). AreFree (length a.rows) u) (c.system_of-in-CutB.ensures.matrix net) (subst (λ n. AreFree n u) c.rows-in-CutB.ensures.count (c.are_free-in-CutB.ensures t)))

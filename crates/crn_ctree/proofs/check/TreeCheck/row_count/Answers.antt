@@ -1,0 +1,14 @@
+use Rattle.std.proofs.Common.{length, ap, ◌∙◌}
+use Rattle.crn_vec.specs.Vectors.{Mat}
+use Rattle.crn_ctree.specs.Due.{KeptTree}
+use Rattle.crn_ctree.specs.Inner.Kinds.{matrix_of, part_of}
+use Rattle.crn_ctree.specs.declared.cut.Part.{Part}
+use Rattle.crn_ctree.proofs.check.TreeCheck.row_count.Goals as goal
+
+pub returns : goal.returns
+returns c =
+    let net = c.args.net.now in
+    c.rows.ensures.count
+    ∙ ap (λ (a : Mat). length a.rows) (c.system_of.ensures.matrix net)
+    ∙ ap (λ (p : Part). length (matrix_of net c.self.inside.problem p).rows) c.part.ensures
+    ∙ ap (λ (k : KeptTree). length (matrix_of net k.problem (part_of c.args.cut)).rows) c.self.view_is

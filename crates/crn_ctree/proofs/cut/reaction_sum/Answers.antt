@@ -1,0 +1,14 @@
+use Rattle.std.proofs.Common.{ap, ◌∙◌}
+use Rattle.std.specs.Int.{w128}
+use Rattle.std.proofs.lemmas.Int.{to_z-of_z}
+use Rattle.crn_vec.specs.Vectors.{dot}
+use Rattle.crn_ctree.proofs.CutLaws.{within_narrow, reaction_column}
+use Rattle.crn_ctree.proofs.cut.reaction_sum.Goals as goal
+
+pub dot-requires-clause-a : goal.dot-requires-clause-a
+dot-requires-clause-a c = within_narrow c.args.u.now c.requires.numbers.each
+
+pub returns : goal.returns
+returns c =
+    to_z-of_z w128 c.dot.result (record { sfits = c.dot.type_inv })
+    ∙ c.dot.ensures ∙ ap (dot c.args.u.now) (c.reaction_vector.ensures.value ∙ reaction_column c.args.net.now c.species-few.ensures.network c.args.r c.requires.reaction)

@@ -1,0 +1,9 @@
+use Rattle.std.proofs.Common.{ℕ, ◌<◌, [], get_or}
+use Rattle.std.specs.Prelude.{◌-ℤ◌, None}
+use Rattle.crn_vec.specs.Signals.{complex_at, top_kind}
+use Rattle.crn_vec.specs.Systems.{HasKind}
+use Rattle.crn_vec.specs.Vectors.{dot}
+use Rattle.crn_ctree.proofs.signal.are_on_shelves.Given as goal
+
+abbrev pub invariant-loop-c : goal.invariant-loop-c
+invariant-loop-c l = (j : ℕ) → j < l.c → HasKind (top_kind l.shelves (get_or l.shape.tops j None)) (dot (complex_at l.shape j) l.mu -ℤ l.level)

@@ -1,0 +1,29 @@
+use Rattle.std.proofs.Common.{◌≡◌, ◌<◌, ◌^◌, ◌∙◌, ap, arith, to_z, of_z}
+use Rattle.std.specs.Prelude.{ℤ, ◌-ℤ◌, unsigned_abs}
+use Rattle.std.specs.Int.{w128}
+use Rattle.std.proofs.lemmas.Int.{to_z-of_z}
+use Rattle.crn_vec.specs.Vectors.{dot}
+use Rattle.crn_vec.proofs.CallerLemmas.{dot-comm}
+use Rattle.crn_ctree.proofs.CutLaws.{within_narrow}
+use Rattle.crn_ctree.proofs.SignalLaws.{dot_small}
+use Rattle.crn_ctree.proofs.signal.height.Goals as goal
+
+pub dot-requires-clause-a : goal.dot-requires-clause-a
+dot-requires-clause-a c = within_narrow c.args.mu.now c.requires.mu.each
+
+pub minus-requires-clause-sum : goal.minus-requires-clause-sum
+minus-requires-clause-sum c =
+    let mu = c.args.mu.now in
+    let y = c.complex.result.now in
+    let small : unsigned_abs (dot mu y) < 2 ^ 126 = dot_small mu y (omega (arith, c.requires.mu.long, c.species-few.ensures.count, c.species-few.ensures.limit)) c.requires.mu.each c.complex.ensures.small in
+    let same : to_z w128 (of_z w128 c.dot.result) ≡ dot mu y = to_z-of_z w128 c.dot.result (record { sfits = c.dot.type_inv }) ∙ c.dot.ensures in
+    rw same small
+
+pub returns : goal.returns
+returns c =
+    let mu = c.args.mu.now in
+    let y = c.complex.result.now in
+    let same : to_z w128 (of_z w128 c.dot.result) ≡ dot mu y = to_z-of_z w128 c.dot.result (record { sfits = c.dot.type_inv }) ∙ c.dot.ensures in
+    to_z-of_z w128 c.minus.result (record { sfits = c.minus.type_inv })
+    ∙ c.minus.ensures
+    ∙ ap (λ (x : ℤ). x -ℤ c.args.level.now) (same ∙ dot-comm mu y ∙ ap (λ v. dot v mu) c.complex.ensures.value)

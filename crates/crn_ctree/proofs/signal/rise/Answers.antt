@@ -1,0 +1,23 @@
+use Rattle.std.proofs.Common.{◌≤◌, ◌∙◌, get_or, length, ap, arith}
+use Rattle.std.specs.Int.{w128}
+use Rattle.std.proofs.lemmas.Int.{to_z-of_z}
+use Rattle.crn_vec.specs.Network.{minus}
+use Rattle.crn_vec.specs.Vectors.{dot}
+use Rattle.crn_vec.specs.Signals.{complex_at}
+use Rattle.crn_shape.specs.Shapes.{no_pair}
+use Rattle.crn_ctree.proofs.CutLaws.{within_narrow}
+use Rattle.crn_ctree.proofs.SignalLaws.{dot-minus}
+use Rattle.crn_ctree.proofs.signal.rise.Goals as goal
+
+pub dot-requires-clause-a : goal.dot-requires-clause-a
+dot-requires-clause-a c = within_narrow c.args.mu.now c.requires.mu.each
+
+pub returns : goal.returns
+returns c =
+    let s = c.args.shape.now in
+    let mu = c.args.mu.now in
+    let pair = get_or s.pairs c.args.i no_pair in
+    let a = complex_at s pair.high in
+    let b = complex_at s pair.low in
+    let long : length mu ≤ length (minus a b) = omega (arith, c.requires.mu.long, c.difference.ensures.long, ap length c.difference.ensures.value) in
+    to_z-of_z w128 c.dot.result (record { sfits = c.dot.type_inv }) ∙ c.dot.ensures ∙ ap (dot mu) c.difference.ensures.value ∙ dot-minus mu a b long
