@@ -43,6 +43,8 @@ use Rattle.crn_sign.specs.declared.end.SearchEnd.TheVariants.{Found, Refuted}
 use Rattle.crn_sign.specs.declared.fault.SearchStop.{SearchStop}
 use Rattle.crn_sign.specs.declared.fault.SearchStop.TheVariants.{WideA, WideB, NoMemory}
 use Rattle.crn_cert.specs.TreeSizes.{HasFewNodes}
+use Rattle.crn_sign.specs.Search.{IsSearchStop}
+use Rattle.crn_shape.specs.Sides.{AreClassesBy}
 use Rattle.crn_shelf.specs.Given.{GiveVector}
 use Rattle.crn_shelf.specs.Inner.Shapes.{EndsFor, StopsFor}
 use Rattle.crn_shelf.specs.Inner.Answers.{shelf_number, IsFoundAnswer, spent_answer, wide_answer, one_answer, two_answer, IsStopAnswer}
@@ -307,8 +309,13 @@ few_one net g budget tree e = omega (arith, e.2.2, count_places [] (plan tree))
 pub few_two : (net : Net) (g h : List ℤ) (budget : ℕ) (tree second : Tree) → EndsFor net g budget (Refuted tree) → EndsFor net h budget (Refuted second) → HasFewNodes budget (two_answer tree second).proof
 few_two net g h budget tree second e f = (few_one net g budget tree e, few_one net h budget second f)
 
--- ---- the negative
+-- ---- the shape
 
-pub negative_narrow : (g : List ℤ) → AllByRecursion IsNarrow g → AllByRecursion IsNarrow (negative g)
-negative_narrow [] h = tt
-negative_narrow (x ∷ g) h = (omega (arith, ints, h.0), negative_narrow g h.1)
+pub stops_for : (net : Net) (g : List ℤ) (s : Shape) (stop : SearchStop) → IsShapeOf net g s → IsSearchStop (signals s (reaction_system net)) stop → StopsFor net g stop
+stops_for net g s (WideA index basis) sh h = (s, sh, h)
+stops_for net g s (WideB index basis) sh h = h
+stops_for net g s NoMemory sh h = tt
+
+pub classes_by : (net : Net) (count terminal : ℕ) (labels exits ls es : List ℕ) → ls ≡ labels → es ≡ exits → AreStrongClasses net count terminal labels exits → AreClassesBy net ls es
+classes_by net count terminal labels exits ls es e f s =
+    (count, terminal, subst (λ (l : List ℕ). AreStrongClasses net count terminal l es) (sym e) (subst (λ (l : List ℕ). AreStrongClasses net count terminal labels l) (sym f) s))

@@ -1,7 +1,5 @@
+-- What other crates may cite of this crate's proofs.
 pub mod CallerLemmas
-mod TopNumbers
-mod KindLists
-mod PairSides
 mod SystemRows
-mod ShapeMade
+mod Searched
 mod Answered

@@ -1,3 +1,2 @@
-pub mod Sides
 pub mod Given
 pub mod Inner

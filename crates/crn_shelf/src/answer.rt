@@ -1,24 +1,25 @@
-ghost use Rattle.std.specs.Prelude.{◌≡◌, ◌≤◌, ◌<◌, ◌↔◌, ◌*ℤ◌, IsTrue, length, map, negsuc, true, IfOk};
+ghost use Rattle.std.specs.Prelude.{◌≡◌, ◌≤◌, ◌<◌, ◌↔◌, IsTrue, length, map, true, IfOk};
 ghost use Rattle.std.specs.List.{AllByRecursion};
 ghost use Rattle.crn_vec.specs.declared.limits.TheConstants.{MAX_BUDGET};
-ghost use Rattle.crn_vec.specs.Confluence.{HasConfluenceLine, IsNormalVector, IsRegular, negative};
+ghost use Rattle.crn_vec.specs.Confluence.{HasConfluenceLine, IsNormalVector, IsRegular};
+ghost use Rattle.crn_vec.specs.NetSignals.{IsShapeOf};
 ghost use Rattle.crn_vec.specs.Strong.{IsWeaklyReversible};
 ghost use Rattle.crn_cert.specs.Ranges.{IsNarrow};
 ghost use Rattle.crn_cert.specs.Says.{AreStrongClasses};
 ghost use Rattle.crn_cert.specs.Questions.{Earlier, Q13};
 ghost use Rattle.crn_cert.specs.Answered.{IsAnswer};
 ghost use Rattle.crn_cert.specs.TreeSizes.{HasFewNodes};
-ghost use Rattle.crn_shelf.specs.Sides.{AreSides};
+ghost use Rattle.crn_shape.specs.Sides.{AreSides};
 ghost use Rattle.crn_shelf.specs.Given.{GiveVector};
 ghost use Rattle.crn_shelf.specs.Inner.Shapes.{EndsFor};
 ghost use Rattle.crn_sign.specs.declared.end.SearchEnd.{SearchEnd};
 ghost use Rattle.crn_shelf.specs.Inner.Answers.{IsFoundAnswer, IsStopAnswer, one_answer, shelf_number, spent_answer, two_answer, wide_answer};
 
-use crate::kinds::shelves;
-use crate::problem::search_for;
+use crate::problem::search_over;
 use crn_cert::{Answer, Gap, Proof, Rows, Tree, Verdict};
 use crn_graph::StrongData;
 use crn_net::Network;
+use crn_shape::{Shape, shelves};
 use crn_sign::{SearchEnd, SearchStop};
 use crn_vec::{Ints, NoMemory, Nums, Sign};
 use std::alloc::{AllocError, Global};
@@ -129,32 +130,12 @@ fn two_answer(tree: Tree, second: Tree) -> Answer
     }
 }
 
-// The negative of a number.
-fn negative_of(number: &i128) -> i128
-    requires { IsNarrow number.now }
-    ensures { result ≡ negsuc 0 *ℤ number.now }
-{
-    -*number
-}
-
-// The negative of a list.
-fn negative(alloc: Global, list: &[i128]) -> Result<Ints, NoMemory>
-    requires { AllByRecursion IsNarrow list.now }
-    ensures { IfOk result (λ made. made.list ≡ negative list.now) }
-{
-    let mut made = Ints::with_room(alloc, list.len())?;
-    for k in 0..list.len() {
-        made.push(negative_of(&list[k]))?;
-    }
-    Ok(made)
-}
-
 // The answer of a weakly reversible network in which g has no signal: that of the search for -g.
 fn by_negative(
     alloc: Global,
     net: &Network,
     strong: &StrongData,
-    sides: &Rows,
+    mut shape: Shape,
     g: &[i128],
     budget: u32,
     tree: Tree,
@@ -165,9 +146,8 @@ fn by_negative(
     requires line { HasConfluenceLine net.now }
     requires strong { AreStrongClasses net.now strong.now.count strong.now.terminal
         strong.now.label.list strong.now.exit.list }
-    requires sides { AreSides net.now sides.now }
+    requires shape { IsShapeOf net.now g.now shape }
     requires vector { IsNormalVector net.now g.now }
-    requires narrow { AllByRecursion IsNarrow g.now }
     requires weak { IsWeaklyReversible net.now.reactions }
     requires tree { EndsFor net.now g.now budget (SearchEnd.Refuted tree) }
     ensures answer { IfOk result (λ answer. (earlier : Earlier) →
@@ -175,8 +155,9 @@ fn by_negative(
     ensures nodes { IfOk result (λ answer. HasFewNodes budget answer.proof) }
 {
     let _ = net.species();
-    let opposite = negative(alloc, g)?;
-    match search_for(alloc, net, strong, sides, opposite.as_slice(), budget) {
+    let _ = g;
+    shape.negate();
+    match search_over(alloc, net, &shape, budget) {
         Ok(SearchEnd::Found { pattern, a, b }) => {
             found_answer(alloc, net, strong, -1, pattern.as_slice(), &a, b)
         }
@@ -215,13 +196,16 @@ pub fn signal(
     ensures nodes { IfOk result (λ answer. HasFewNodes budget answer.proof) }
 {
     let _ = net.species();
-    match search_for(alloc, net, strong, sides, g, budget) {
+    let labels = strong.label.as_slice();
+    let exits = strong.exit.as_slice();
+    let shape = Shape::new(alloc, net, labels, exits, sides, g)?;
+    match search_over(alloc, net, &shape, budget) {
         Ok(SearchEnd::Found { pattern, a, b }) => {
             found_answer(alloc, net, strong, 1, pattern.as_slice(), &a, b)
         }
         Ok(SearchEnd::Refuted(tree)) => {
             if weak {
-                by_negative(alloc, net, strong, sides, g, budget, tree)
+                by_negative(alloc, net, strong, shape, g, budget, tree)
             } else {
                 Ok(one_answer(tree))
             }

@@ -3,11 +3,9 @@
 
 mod answer;
 mod kinds;
-mod pairs;
 mod problem;
 mod system;
 #[cfg(test)]
 mod tests;
-mod tops;
 
 pub use answer::signal;

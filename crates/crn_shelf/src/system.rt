@@ -1,12 +1,10 @@
-ghost use Rattle.std.specs.Prelude.{◌≡◌, ◌≤◌, ◌<◌, ◌++◌, [], ◌∷◌, ℕ, List, Option, length, unsigned_abs, IfOk, OnOk};
-ghost use Rattle.std.specs.List.{AllByRecursion, flat_map};
+ghost use Rattle.std.specs.Prelude.{◌≡◌, ◌≤◌, ◌++◌, [], ◌∷◌, unsigned_abs, IfOk, OnOk};
+ghost use Rattle.std.specs.List.{flat_map};
 ghost use Rattle.crn_vec.specs.declared.limits.TheConstants.{MAX_AMOUNT};
 ghost use Rattle.crn_vec.specs.Vectors.{AreWithin};
-ghost use Rattle.crn_vec.specs.Signals.{complex_row, shelf_matrix};
-ghost use Rattle.crn_shelf.specs.Inner.Shapes.{linked_row, shape_of};
+ghost use Rattle.crn_vec.specs.Signals.{complex_row, pair_row, shelf_matrix};
 
-use crate::pairs::LinkedPair;
-use crn_net::Network;
+use crn_shape::Shape;
 use crn_vec::{MAX_AMOUNT, Matrix, NoMemory};
 use std::alloc::Global;
 
@@ -27,48 +25,41 @@ fn put_row(entries: &mut Vec<i128>, row: &[i128], last: i128) -> Result<(), NoMe
 }
 
 // Puts the rows of the complexes at the end.
-fn put_complexes(entries: &mut Vec<i128>, net: &Network) -> Result<(), NoMemory>
+fn put_complexes(entries: &mut Vec<i128>, shape: &Shape) -> Result<(), NoMemory>
     requires { AreWithin MAX_AMOUNT entries.old.items }
     ensures value { OnOk result
-        (entries.new.items ≡ entries.old.items ++ flat_map complex_row net.now.complexes) }
+        (entries.new.items ≡ entries.old.items ++ flat_map complex_row shape.now.complexes) }
     ensures small { OnOk result (AreWithin MAX_AMOUNT entries.new.items) }
 {
-    for c in 0..net.complexes() {
-        put_row(entries, net.vector(c), -1)?;
+    for c in 0..shape.complexes() {
+        put_row(entries, shape.complex(c), -1)?;
     }
     Ok(())
 }
 
 // Puts the rows of the linked pairs at the end.
-fn put_pairs(entries: &mut Vec<i128>, net: &Network, pairs: &[LinkedPair]) -> Result<(), NoMemory>
-    requires old { AreWithin MAX_AMOUNT entries.old.items }
-    requires inside { AllByRecursion (λ p. p.reaction < length net.now.reactions) pairs.now }
+fn put_pairs(entries: &mut Vec<i128>, shape: &Shape) -> Result<(), NoMemory>
+    requires { AreWithin MAX_AMOUNT entries.old.items }
     ensures value { OnOk result
-        (entries.new.items ≡ entries.old.items ++ flat_map (linked_row net.now) pairs.now) }
+        (entries.new.items
+        ≡ entries.old.items ++ flat_map (pair_row shape.now) shape.now.pairs) }
     ensures small { OnOk result (AreWithin MAX_AMOUNT entries.new.items) }
 {
-    for i in 0..pairs.len() {
-        put_row(entries, net.reaction_vector(pairs[i].reaction), 0)?;
+    for i in 0..shape.pairs() {
+        put_row(entries, shape.difference(i), 0)?;
     }
     Ok(())
 }
 
 /// The matrix of system 5: a column for each species and one for the level, a row for each complex and
 /// for each linked pair.
-pub(crate) fn shelf_matrix(
-    alloc: Global,
-    net: &Network,
-    pairs: &[LinkedPair],
-) -> Result<Matrix, NoMemory>
-    requires inside { AllByRecursion (λ p. p.reaction < length net.now.reactions) pairs.now }
-    requires few { length pairs.now < length net.now.complexes }
-    ensures { IfOk result (λ made. (tops : List (Option ℕ)) (count : ℕ) →
-        made ≡ shelf_matrix (shape_of net.now tops count pairs.now)) }
+pub(crate) fn shelf_matrix(alloc: Global, shape: &Shape) -> Result<Matrix, NoMemory>
+    ensures { IfOk result (λ made. made ≡ shelf_matrix shape.now) }
 {
-    let rows = net.complexes() + pairs.len();
-    let cols = net.species() + 1;
+    let rows = shape.rows();
+    let cols = shape.species() + 1;
     let mut entries = Vec::with_capacity(alloc, rows * cols)?;
-    put_complexes(&mut entries, net)?;
-    put_pairs(&mut entries, net, pairs)?;
+    put_complexes(&mut entries, shape)?;
+    put_pairs(&mut entries, shape)?;
     Matrix::new(alloc, rows, cols, &entries)
 }

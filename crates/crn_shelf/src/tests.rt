@@ -1,13 +1,12 @@
-ghost use Rattle.std.specs.Prelude.{◌≡◌, ◌≤◌, ◌<◌, IsTrue, IfOk, length};
+ghost use Rattle.std.specs.Prelude.{◌≡◌, ◌≤◌, IsTrue, IfOk};
 ghost use Rattle.std.specs.List.{AllByRecursion};
 ghost use Rattle.crn_vec.specs.Network.{is_letter, IsName};
-ghost use Rattle.crn_vec.specs.declared.limits.TheConstants.{MAX_COMPLEXES};
 ghost use Rattle.crn_net.specs.Terms.{IsTerm, IsSide};
+ghost use Rattle.crn_shape.specs.Shapes.{AreForShape, IsPairIn};
 
-use crate::pairs::LinkedPair;
 use crate::problem::search_over;
-use crate::tops::Tops;
 use crn_net::{NetBuilder, NetFault, Network, Term, sums_fit};
+use crn_shape::{LinkedPair, Shape, Tops};
 use crn_sign::SearchEnd;
 use crn_vec::{MAX_AMOUNT, MAX_COMPLEXES, MAX_TERMS, Sign};
 use std::alloc::{AllocError, Global};
@@ -160,19 +159,15 @@ fn pairs_of(rt: &(impl Abort + AllocGlobal), row: &ShapeRow) -> Vec<LinkedPair> 
     pairs
 }
 
-fn is_inside(net: &Network, pair: &LinkedPair) -> bool
-    ensures { IsTrue result → pair.now.reaction < length net.now.reactions }
+fn is_in(net: &Network, pair: &LinkedPair) -> bool
+    ensures { IsTrue result → IsPairIn net.now pair.now }
 {
-    pair.reaction < net.reactions()
+    pair.reaction < net.reactions() && -9 <= pair.sum && pair.sum <= 9
 }
 
 // Whether the shape has the sizes of the network.
 fn fits(net: &Network, tops: &Tops, pairs: &[LinkedPair]) -> bool
-    ensures inside { IsTrue result
-        → AllByRecursion (λ p. p.reaction < length net.now.reactions) pairs.now }
-    ensures few { IsTrue result → length pairs.now < length net.now.complexes }
-    ensures long { IsTrue result → length tops.now.of.items ≡ length net.now.complexes }
-    ensures count { IsTrue result → tops.now.count ≤ MAX_COMPLEXES }
+    ensures { IsTrue result → AreForShape net.now tops.now.of.items tops.now.count pairs.now }
 {
     if tops.of.len() != net.complexes()
         || pairs.len() >= net.complexes()
@@ -180,7 +175,7 @@ fn fits(net: &Network, tops: &Tops, pairs: &[LinkedPair]) -> bool
     {
         return false;
     }
-    pairs.iter().all(|pair| is_inside(net, pair))
+    pairs.iter().all(|pair| is_in(net, pair))
 }
 
 fn byte_of(sign: Sign) -> u8 {
@@ -217,7 +212,8 @@ fn is_found(rt: &(impl Abort + AllocGlobal), text: &[u8], row: &ShapeRow, expect
     let tops = tops_of(rt, row);
     let pairs = pairs_of(rt, row);
     assert!(rt; fits(&net, &tops, &pairs));
-    match search_over(rt.alloc(), &net, tops, pairs, 20_000) {
+    let shape = Shape::from_parts(&net, tops, pairs);
+    match search_over(rt.alloc(), &net, &shape, 20_000) {
         Ok(end) => ends_with(&end, expected),
         Err(_) => false,
     }

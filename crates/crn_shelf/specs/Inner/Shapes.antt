@@ -1,9 +1,8 @@
 -- For the contracts of private functions alone.
--- The shape of a network by its tops and pairs, and the rows of its system 5.
+-- What the searches over the shape of a network and of a vector give.
 -- Source: this project's own.
--- Shapes: complexes and reactions count from 0.
-use Rattle.std.specs.Prelude.{◌++◌, ℕ, ℤ, Option, List, [], ◌∷◌, length, map, pos}
-use Rattle.crn_vec.specs.Network.{Net, reaction_vector}
+use Rattle.std.specs.Prelude.{ℕ, ℤ, List}
+use Rattle.crn_vec.specs.Network.{Net}
 use Rattle.crn_vec.specs.NetSystems.{reaction_system}
 use Rattle.crn_vec.specs.Elementary.{NamesWide}
 use Rattle.crn_vec.specs.Signals.{Shape, shelf_matrix, signals}
@@ -12,22 +11,6 @@ use Rattle.crn_sign.specs.declared.end.SearchEnd.{SearchEnd}
 use Rattle.crn_sign.specs.declared.fault.SearchStop.{SearchStop}
 use Rattle.crn_sign.specs.declared.fault.SearchStop.TheVariants.{WideA, WideB, NoMemory}
 use Rattle.crn_sign.specs.Search.{IsSearchEnd}
-use Rattle.crn_shelf.specs.declared.pairs.LinkedPair.{LinkedPair}
-use Rattle.crn_shelf.specs.Inner.Pairs.{ends_of, pair_of}
-
--- the shape of a network with these terminal classes and linked pairs
-abbrev pub shape_of : Net → List (Option ℕ) → ℕ → List LinkedPair → Shape
-shape_of net tops count pairs = record {
-  species = length net.names;
-  complexes = net.complexes;
-  tops = tops;
-  count = count;
-  pairs = map (pair_of net) pairs;
-}
-
--- the row of a linked pair in system 5: the vector of its reaction, then 0
-abbrev pub linked_row : Net → LinkedPair → List ℤ
-linked_row net p = reaction_vector net (ends_of net p.reaction) ++ pos 0 ∷ []
 
 -- the end of a search over the signals of g
 abbrev pub EndsFor : Net → List ℤ → ℕ → SearchEnd → Type 0

@@ -2,6 +2,10 @@ use Rattle.std.proofs.Common.{true, inl, length, refl, sym, subst, ◌∙◌, ar
 use Rattle.std.specs.Prelude.{pos}
 use Rattle.std.proofs.lemmas.Bool.{false≢true}
 use Rattle.std.proofs.lemmas.Int.{ints}
+use Rattle.crn_vec.specs.NetSystems.{reaction_system}
+use Rattle.crn_vec.specs.Signals.{Shape, signals}
+use Rattle.crn_sign.specs.Search.{IsSearchEnd}
+use Rattle.crn_sign.specs.declared.end.SearchEnd.TheVariants.{Spent}
 use Rattle.crn_cert.specs.declared.answer.Answer.{Answer}
 use Rattle.crn_cert.specs.Questions.{Earlier, Q13}
 use Rattle.crn_cert.specs.Answered.{IsAnswer}
@@ -9,9 +13,23 @@ use Rattle.crn_cert.specs.TreeSizes.{HasFewNodes}
 use Rattle.crn_shelf.specs.Given.{GiveVector}
 use Rattle.crn_shelf.specs.Inner.Shapes.{EndsFor}
 use Rattle.crn_shelf.specs.Inner.Answers.{IsFoundAnswer, IsStopAnswer}
-use Rattle.crn_shelf.proofs.Answered.{found_is, one_is, stopped, few_one}
+use Rattle.crn_shelf.proofs.Answered.{found_is, one_is, spent_is, stopped, stops_for, few_one, classes_by}
 use Rattle.crn_shelf.proofs.answer.signal.Goals as goal
 use Rattle.crn_vec.proofs.CallerLemmas.{if_ok}
+
+pub new-requires-clause-classes : goal.new-requires-clause-classes
+new-requires-clause-classes c =
+    let s = c.args.strong.now in
+    classes_by c.args.net.now s.count s.terminal s.label.list s.exit.list c.as_slice-labels.result.now c.as_slice-exits.result.now c.as_slice-labels.ensures c.as_slice-exits.ensures c.requires.strong
+
+pub search_over-requires-clause-species : goal.search_over-requires-clause-species
+search_over-requires-clause-species c = c.in_ok-shape.ensures.shape.species
+
+pub by_negative-requires-clause-tree : goal.by_negative-requires-clause-tree
+by_negative-requires-clause-tree c =
+    let net = c.args.net.now in
+    let u : Shape = c.in_ok-shape.shape in
+    (u, c.in_ok-shape.ensures, subst (IsSearchEnd (signals u (reaction_system net)) c.args.budget) c.in-Ok-Refuted.field-0-is c.in-Ok-Refuted.ensures)
 
 pub by_negative-requires-clause-weak : goal.by_negative-requires-clause-weak
 by_negative-requires-clause-weak c = c.requires.weak.0 c.if-weak.true
@@ -25,7 +43,7 @@ returns-in-Ok-Found-clause-answer c =
     if_ok (IsFoundAnswer (pos 1) s.terminal (length net.names) c.as_slice.result.now f.a.list f.b.list)
     (λ (answer : Answer). (earlier : Earlier) → GiveVector net earlier g c.args.weak → IsAnswer net c.args.budget earlier Q13 answer) c.found_answer.result
     (λ answer h earlier v. found_is net earlier g c.args.weak (pos 1) c.args.budget s.count s.terminal s.label.list s.exit.list c.as_slice.result.now f.pattern f.a f.b answer c.species.ensures.network c.requires.regular c.requires.line c.requires.vector c.requires.strong
-    (inl refl) (λ t. absurd (omega (arith, ints, t))) c.requires.vector.confluence v c.as_slice.ensures (subst (EndsFor net g c.args.budget) f.field-0-is f.ensures) h)
+    (inl refl) (λ t. absurd (omega (arith, ints, t))) c.requires.vector.confluence v c.as_slice.ensures (c.in_ok-shape.shape, c.in_ok-shape.ensures, subst (IsSearchEnd (signals c.in_ok-shape.shape (reaction_system net)) c.args.budget) f.field-0-is f.ensures) h)
     c.found_answer.ensures
 
 pub returns-then-weak-clause-answer : goal.returns-then-weak-clause-answer
@@ -40,12 +58,12 @@ pub returns-else-weak-clause-answer : goal.returns-else-weak-clause-answer
 returns-else-weak-clause-answer c =
     let net = c.args.net.now in
     λ earlier v. subst (IsAnswer net c.args.budget earlier Q13) (sym c.one_answer.ensures)
-    (one_is net earlier c.args.g.now c.args.weak c.args.budget c.in-Ok-Refuted.tree c.species.ensures.network c.requires.regular c.requires.line c.requires.vector c.requires.weak.1 (λ t. false≢true (sym c.if-weak.false ∙ t)) v (subst (EndsFor c.args.net.now c.args.g.now c.args.budget) c.in-Ok-Refuted.field-0-is c.in-Ok-Refuted.ensures))
+    (one_is net earlier c.args.g.now c.args.weak c.args.budget c.in-Ok-Refuted.tree c.species.ensures.network c.requires.regular c.requires.line c.requires.vector c.requires.weak.1 (λ t. false≢true (sym c.if-weak.false ∙ t)) v (c.in_ok-shape.shape, c.in_ok-shape.ensures, subst (IsSearchEnd (signals c.in_ok-shape.shape (reaction_system c.args.net.now)) c.args.budget) c.in-Ok-Refuted.field-0-is c.in-Ok-Refuted.ensures))
 
 pub returns-else-weak-clause-nodes : goal.returns-else-weak-clause-nodes
 returns-else-weak-clause-nodes c =
     subst (λ (a : Answer). HasFewNodes c.args.budget a.proof) (sym c.one_answer.ensures)
-    (few_one c.args.net.now c.args.g.now c.args.budget c.in-Ok-Refuted.tree (subst (EndsFor c.args.net.now c.args.g.now c.args.budget) c.in-Ok-Refuted.field-0-is c.in-Ok-Refuted.ensures))
+    (few_one c.args.net.now c.args.g.now c.args.budget c.in-Ok-Refuted.tree (c.in_ok-shape.shape, c.in_ok-shape.ensures, subst (IsSearchEnd (signals c.in_ok-shape.shape (reaction_system c.args.net.now)) c.args.budget) c.in-Ok-Refuted.field-0-is c.in-Ok-Refuted.ensures))
 
 pub returns-in-Err-clause-answer : goal.returns-in-Err-clause-answer
 returns-in-Err-clause-answer c =
@@ -53,4 +71,13 @@ returns-in-Err-clause-answer c =
     let g = c.args.g.now in
     let stop = c.in-Err.stop in
     if_ok (IsStopAnswer stop) (λ (answer : Answer). (earlier : Earlier) → GiveVector net earlier g c.args.weak → IsAnswer net c.args.budget earlier Q13 answer) c.stop_answer.result
-    (λ answer e earlier v. stopped net earlier g c.args.weak c.args.budget stop answer c.species.ensures.network c.requires.vector.confluence.space.long v c.in-Err.ensures e) c.stop_answer.ensures
+    (λ answer e earlier v. stopped net earlier g c.args.weak c.args.budget stop answer c.species.ensures.network c.requires.vector.confluence.space.long v (stops_for net g c.in_ok-shape.shape stop c.in_ok-shape.ensures c.in-Err.ensures) e) c.stop_answer.ensures
+
+pub returns-in-Ok-Spent-clause-answer : goal.returns-in-Ok-Spent-clause-answer
+returns-in-Ok-Spent-clause-answer c =
+    let net = c.args.net.now in
+    let g = c.args.g.now in
+    let u : Shape = c.in_ok-shape.shape in
+    let e : EndsFor net g c.args.budget Spent = (u, c.in_ok-shape.ensures, subst (IsSearchEnd (signals u (reaction_system net)) c.args.budget) c.in-Ok-Spent.field-0-is c.in-Ok-Spent.ensures) in
+    λ earlier v. subst (IsAnswer net c.args.budget earlier Q13) (sym c.spent_answer.ensures)
+    (spent_is net earlier g c.args.weak c.args.budget c.requires.low c.requires.high v (inl e))

@@ -7,6 +7,6 @@ use Rattle.crn_shelf.proofs.system.put_complexes.Given as goal
 
 abbrev pub invariant-loop-c : goal.invariant-loop-c
 invariant-loop-c l = record {
-  value : l.entries.items ≡ l.initial.entries.items ++ flat_map complex_row (take l.c l.net.complexes);
+  value : l.entries.items ≡ l.initial.entries.items ++ flat_map complex_row (take l.c l.shape.complexes);
   small : AreWithin MAX_AMOUNT l.entries.items;
 }

@@ -1,6 +1,0 @@
-use Rattle.std.proofs.Common.{ℕ, ◌<◌}
-use Rattle.crn_shelf.specs.Inner.Pairs.{GoesAcross}
-use Rattle.crn_shelf.proofs.pairs.first_across.Given as goal
-
-abbrev pub invariant-loop-r : goal.invariant-loop-r
-invariant-loop-r l = (q : ℕ) → q < l.r → GoesAcross l.net l.marks q → ⊥

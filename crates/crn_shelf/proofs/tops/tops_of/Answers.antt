@@ -1,8 +1,0 @@
-use Rattle.std.proofs.Common.{arith}
-use Rattle.crn_shelf.specs.Inner.Tops.{top_for}
-use Rattle.crn_shelf.proofs.tops.tops_of.Goals as goal
-use Rattle.crn_vec.proofs.CallerLemmas.{map_more}
-
-pub loop-c-preserved : goal.loop-c-preserved
-loop-c-preserved c =
-    map_more (top_for c.args.exits.now) c.args.labels.now c.loop-c.c 0 c.loop-c.tops.items c.push.new.self.items c.top_for.result (omega (arith, c.loop-c-test.true)) c.loop-c.invariant c.in_ok-push.ensures.items c.top_for.ensures

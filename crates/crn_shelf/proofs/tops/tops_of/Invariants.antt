@@ -1,6 +1,0 @@
-use Rattle.std.proofs.Common.{◌≡◌, map, take}
-use Rattle.crn_shelf.specs.Inner.Tops.{top_for}
-use Rattle.crn_shelf.proofs.tops.tops_of.Given as goal
-
-abbrev pub invariant-loop-c : goal.invariant-loop-c
-invariant-loop-c l = l.tops.items ≡ take l.c (map (top_for l.exits) l.labels)
