@@ -25,7 +25,7 @@ use crate::strong::check_strong;
 use crate::weak::check_weak_head;
 use crate::zero::check_zero_head;
 use crn_cert::{Answer, Verdict};
-use crn_ctree::Problem;
+use crn_ctree::InfluenceTable;
 use crn_net::Network;
 
 /// The tests of the head of a verdict, before the lists of its later records are read. It takes no memory.
@@ -82,8 +82,8 @@ fn check_rows(
         8 => check_conservation(net, &answer.verdict, &answer.proof),
         11 => check_regular(net, facts, &answer.verdict, &answer.proof),
         12 => check_confluence(net, facts, &answer.verdict, &answer.proof),
-        14 => check_concordance(net, Problem::Plain, &answer.verdict, &answer.proof),
-        15 => check_concordance(net, Problem::Strong, &answer.verdict, &answer.proof),
+        14 => check_concordance(net, InfluenceTable::Plain, &answer.verdict, &answer.proof),
+        15 => check_concordance(net, InfluenceTable::Strong, &answer.verdict, &answer.proof),
         _ => Ok(()),
     }
 }
