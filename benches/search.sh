@@ -7,7 +7,7 @@
 # Then, for each report, what the searches do: visits of prefixes, decisions (vectors of given signs for which a solver is
 # asked), pool hits (what was found before served again) and exchanges. The yardstick counts these itself; of the
 # program, valgrind counts the calls of the functions that do them. It counts exchanges of all questions, and as pool
-# hits the questions to a part that no solver is asked.
+# hits the coordinates for which no solver is asked, as a vector of the pool covers them.
 # Not part of the checks: times depend on the machine.
 #
 #     benches/search.sh [RUNS [WORD]]       WORD: only networks with this word in their name
@@ -67,7 +67,7 @@ def work_of_program(text, visits):
     with source_of(text) as source:
         _, calls = instructions_and_calls(commands("report")[0], source)
     count = lambda name: calls.get(name, 0)
-    hits = count("crn_sign::part::Part::ruled_out") - count("crn_farkas::cut::kept_cut")
+    hits = count("crn_sign::part::Part::cover_at") - count("crn_sign::part::Part::ask")
     return [visits, count("crn_farkas::goal::settled_view"), hits, count("crn_tab::tableau::Tableau::pivot")]
 
 

@@ -1,3 +1,4 @@
+mod CoverLaws
 mod Exchange
 mod PastLaws
 mod Walks

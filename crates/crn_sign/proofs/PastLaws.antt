@@ -100,17 +100,17 @@ weigh_in kinds stays w [] k a h i = absurd i
 weigh_in kinds stays w (p ∷ ps) k a h (inl e) = subst (λ (j : ℕ). MayWeigh (kind_at kinds j) (factor stays *ℤ entry w j)) (sym e) (a.0 (entry w p.0) h.0)
 weigh_in kinds stays w (p ∷ ps) k a h (inr i) = weigh_in kinds stays w ps k a.1 h.1 i
 
-sign_in : (w : List ℤ) (ps : List (ℕ × Sign)) (p : ℕ × Sign) → AllByRecursion (λ p. HasSign p.1 (entry w p.0)) ps → IsIn p ps → HasSign p.1 (entry w p.0)
+pub sign_in : (w : List ℤ) (ps : List (ℕ × Sign)) (p : ℕ × Sign) → AllByRecursion (λ p. HasSign p.1 (entry w p.0)) ps → IsIn p ps → HasSign p.1 (entry w p.0)
 sign_in w [] p h i = absurd i
 sign_in w (x ∷ ps) p h (inl e) = subst (λ (y : ℕ × Sign). HasSign y.1 (entry w y.0)) (sym e) h.0
 sign_in w (x ∷ ps) p h (inr i) = sign_in w ps p h.1 i
 
-some_sign : (s : Sign) (x : ℤ) → s ≢ Zero → HasSign s x → x ≢ pos 0
+pub some_sign : (s : Sign) (x : ℤ) → s ≢ Zero → HasSign s x → x ≢ pos 0
 some_sign Zero x n h e = n refl
 some_sign Plus x n h e = omega (arith, ints, h, e)
 some_sign Minus x n h e = omega (arith, ints, h, e)
 
-turned_some : (s : Bool) (x : ℤ) → x ≢ pos 0 → factor s *ℤ x ≢ pos 0
+pub turned_some : (s : Bool) (x : ℤ) → x ≢ pos 0 → factor s *ℤ x ≢ pos 0
 turned_some true (pos zero) n e = n refl
 turned_some true (pos (suc k)) n e = omega (arith, ints, e)
 turned_some true (negsuc k) n e = omega (arith, ints, e)

@@ -1,4 +1,6 @@
 pub mod Walk
 pub mod Ready
+pub mod Covers
+pub mod Pools
 pub mod Parts
 pub mod Past

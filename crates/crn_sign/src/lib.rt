@@ -5,6 +5,7 @@ mod end;
 mod fault;
 mod part;
 mod past;
+mod pool;
 mod problem;
 mod signs;
 #[cfg(test)]

@@ -29,8 +29,8 @@ fn opposite(sign: Sign) -> Sign
     }
 }
 
-// The sign of a number, or of its negative.
-fn sign_of_multiple(sign: Sign, stays: bool) -> Sign
+/// The sign of a number, or of its negative.
+pub(crate) fn sign_of_multiple(sign: Sign, stays: bool) -> Sign
     ensures { (x : ℤ) → HasSign sign x → HasSign result (factor stays *ℤ x) }
 {
     if stays { sign } else { opposite(sign) }
@@ -120,8 +120,8 @@ fn sign_at(alloc: Global, matrix: &Matrix, u: &[i128], c: usize) -> Result<Sign,
     Ok(sign_of(u[c - cols]))
 }
 
-// Adds a place with its sign, unless the sign is zero.
-fn note(places: &mut Vec<(usize, Sign)>, c: usize, sign: Sign) -> Result<(), NoMemory>
+/// Adds a place with its sign, unless the sign is zero.
+pub(crate) fn note(places: &mut Vec<(usize, Sign)>, c: usize, sign: Sign) -> Result<(), NoMemory>
     ensures signs { OnOk result ((w : List ℤ) → SignsBefore c places.old.items w
         → HasSign sign (entry w c) → SignsBefore (c + 1) places.new.items w) }
     ensures inside { OnOk result ((n : ℕ) → AreInside n places.old.items → c < n

@@ -139,11 +139,11 @@ fn found_end<P: SignProblem>(
         (λ s. IsSearchStop (P.signed problem.now) s) }
 {
     let pattern = Signs::from_slice(alloc, &search.prefix)?;
-    let a = match search.a.solution(&search.kinds_a) {
+    let a = match search.a.solution(problem.matrix_a(), &search.kinds_a) {
         Ok(a) => a,
         Err(stop) => return Err(wide_a(stop)),
     };
-    let b = match search.b.solution(&search.kinds_b) {
+    let b = match search.b.solution(problem.matrix_b(), &search.kinds_b) {
         Ok(b) => b,
         Err(stop) => return Err(wide_b(stop)),
     };
@@ -278,8 +278,8 @@ pub(crate) fn start<P: SignProblem>(
     let matrix_a = problem.matrix_a();
     let matrix_b = problem.matrix_b();
     Ok(Progress {
-        a: Part::new(alloc, matrix_a, choices)?,
-        b: Part::new(alloc, matrix_b, choices)?,
+        a: Part::new(alloc, matrix_a)?,
+        b: Part::new(alloc, matrix_b)?,
         kinds_a: vec![in alloc; Kind::Free; matrix_a.cols() + matrix_a.rows()]?,
         kinds_b: vec![in alloc; Kind::Free; matrix_b.cols() + matrix_b.rows()]?,
         prefix: Vec::with_capacity(alloc, choices)?,
@@ -291,7 +291,7 @@ pub(crate) fn start<P: SignProblem>(
 ///
 /// Its answer is the first full standing prefix of the visit list, or a tree with one node for each
 /// visit, in their order, or `Spent`. It keeps one solver for each part, and before it asks them it
-/// tries the multipliers that they gave at prefixes of the same length, of which it keeps a list.
+/// tries what they gave at other prefixes: multipliers, and vectors that add up to solutions.
 pub fn search<P: SignProblem>(
     alloc: Global,
     problem: &P,

@@ -4,14 +4,13 @@ use Rattle.std.specs.Prelude.{◌≡◌, ◌≤◌, length, vec_capacity}
 use Rattle.crn_vec.specs.Elementary.{width}
 use Rattle.crn_vec.specs.Problems.{Signed, IsPrefix, IsLawful}
 use Rattle.crn_sign.specs.declared.walk.Progress.{Progress}
+use Rattle.crn_sign.specs.Inner.Parts.{IsPart}
 
 -- the parts have the problem's matrices, and the lists have room for each prefix and its kinds
 pub record IsReady (w : Signed) (s : Progress) : Type 0 where
   pub lawful : IsLawful w
-  pub matrix_a : s.a.matrix ≡ w.matrix_a
-  pub matrix_b : s.b.matrix ≡ w.matrix_b
-  pub depths_a : w.choices ≤ s.a.depths
-  pub depths_b : w.choices ≤ s.b.depths
+  pub part_a : IsPart w.matrix_a s.a
+  pub part_b : IsPart w.matrix_b s.b
   pub room_a : length s.kinds_a.items ≡ width w.matrix_a
   pub room_b : length s.kinds_b.items ≡ width w.matrix_b
   pub prefix : IsPrefix w s.prefix.items
