@@ -1,4 +1,5 @@
 pub mod CallerLemmas
 mod KindLists
+mod Pairs
 mod Signs
 mod Ended

@@ -1,7 +1,8 @@
-ghost use Rattle.std.specs.Prelude.{◌≡◌, ◌<◌, ℕ, drop, length, map};
-ghost use Rattle.crn_vec.specs.Concordance.{column_kind, is_minus, is_plus, kind_of_sign, kind_of_sum, product, products, row_kinds, some_sign};
+ghost use Rattle.std.specs.Prelude.{◌≡◌, ◌<◌, ℕ, List, length, map};
+ghost use Rattle.crn_vec.specs.Concordance.{column_kind, is_minus, is_plus, kind_of_sign, kind_of_sum, product, row_kinds};
 ghost use Rattle.crn_vec.specs.Problems.{all_zero, is_zero, opposite};
 ghost use Rattle.crn_vec.specs.Systems.{kind_at};
+ghost use Rattle.crn_conc.specs.Inner.Rows.{kind_after, pairs_from};
 
 use crate::influence::Influence;
 use crn_vec::{Kind, Sign};
@@ -53,42 +54,6 @@ fn is_zero_sign(sign: Sign) -> bool
     }
 }
 
-// Whether some species with its option raises the number of the reaction.
-fn some_plus(signs: &[Sign], prefix: &[Sign]) -> bool
-    ensures { result ≡ some_sign is_plus (products signs.now prefix.now) }
-{
-    match signs {
-        [] => false,
-        [s, signs @ ..] => match prefix {
-            [] => false,
-            [t, prefix @ ..] => {
-                if is_plus_sign(product_sign(*s, *t)) {
-                    return true;
-                }
-                some_plus(signs, prefix)
-            }
-        },
-    }
-}
-
-// Whether some species with its option lowers the number of the reaction.
-fn some_minus(signs: &[Sign], prefix: &[Sign]) -> bool
-    ensures { result ≡ some_sign is_minus (products signs.now prefix.now) }
-{
-    match signs {
-        [] => false,
-        [s, signs @ ..] => match prefix {
-            [] => false,
-            [t, prefix @ ..] => {
-                if is_minus_sign(product_sign(*s, *t)) {
-                    return true;
-                }
-                some_minus(signs, prefix)
-            }
-        },
-    }
-}
-
 /// Whether each sign is zero.
 pub(crate) fn are_zeros(signs: &[Sign]) -> bool
     ensures { result ≡ all_zero signs.now }
@@ -104,19 +69,6 @@ pub(crate) fn are_zeros(signs: &[Sign]) -> bool
     }
 }
 
-// The signs of the species that are not chosen yet.
-fn not_chosen<'a>(signs: &'a [Sign], prefix: &[Sign]) -> &'a [Sign]
-    ensures { result.now ≡ drop (length prefix.now) signs.now }
-{
-    match prefix {
-        [] => signs,
-        [_, prefix @ ..] => match signs {
-            [] => signs,
-            [_, signs @ ..] => not_chosen(signs, prefix),
-        },
-    }
-}
-
 // The kind of a sum with or without positive members, and with or without negative ones.
 fn sum_kind(plus: bool, minus: bool) -> Kind
     ensures { result ≡ kind_of_sum plus minus }
@@ -129,15 +81,31 @@ fn sum_kind(plus: bool, minus: bool) -> Kind
     }
 }
 
-// The kind of a reaction's column in part A: free until each species with a sign there is chosen.
-fn column(signs: &[Sign], prefix: &[Sign]) -> Kind
-    ensures { result ≡ column_kind signs.now prefix.now }
+// The kind of a reaction's column in part A, where the species before these pairs have, or have not,
+// raised and lowered its number: free if one of these is not chosen yet.
+fn column_after(pairs: &[(usize, Sign)], prefix: &[Sign], plus: bool, minus: bool) -> Kind
+    ensures { result ≡ kind_after pairs.now prefix.now plus minus }
 {
-    if are_zeros(not_chosen(signs, prefix)) {
-        sum_kind(some_plus(signs, prefix), some_minus(signs, prefix))
-    } else {
-        Kind::Free
+    match pairs {
+        [] => sum_kind(plus, minus),
+        [p, rest @ ..] => {
+            if p.0 >= prefix.len() {
+                return Kind::Free;
+            }
+            let share = product_sign(p.1, prefix[p.0]);
+            let plus = plus || is_plus_sign(share);
+            let minus = minus || is_minus_sign(share);
+            column_after(rest, prefix, plus, minus)
+        }
     }
+}
+
+// The kind of a reaction's column in part A: free until each species with a sign there is chosen.
+fn column(pairs: &[(usize, Sign)], prefix: &[Sign]) -> Kind
+    ensures { (signs : List Sign) → pairs.now ≡ pairs_from 0 signs
+        → result ≡ column_kind signs prefix.now }
+{
+    column_after(pairs, prefix, false, false)
 }
 
 // The kind that an option asks of a species' row.
@@ -157,7 +125,7 @@ pub(crate) fn put_columns(table: &Influence, prefix: &[Sign], into: &mut [Kind])
     ensures { into.new ≡ map (λ signs. column_kind signs prefix.now) table.now }
 {
     for r in 0..table.reactions() {
-        into[r] = column(table.row(r), prefix);
+        into[r] = column(table.pairs(r), prefix);
     }
 }
 

@@ -1,7 +1,6 @@
-use Rattle.std.proofs.Common.{[], get_or, ◌∙◌, ap, arith}
+use Rattle.std.proofs.Common.{[], get_or, ◌∙◌, arith}
 use Rattle.std.proofs.lemmas.List.{length-set}
-use Rattle.crn_vec.specs.declared.signs.Sign.{Sign}
-use Rattle.std.proofs.Common.{List, ℕ}
+use Rattle.std.proofs.Common.{ℕ}
 use Rattle.crn_vec.specs.Concordance.{column_kind}
 use Rattle.crn_vec.proofs.CallerLemmas.{kinds_more}
 use Rattle.crn_conc.proofs.KindLists.{columns_are}
@@ -16,7 +15,7 @@ loop-r-preserved c =
     record {
       long = length-set into r c.column.result ∙ c.loop-r.invariant.long;
       each = kinds_more (λ (j : ℕ). column_kind (get_or table j []) p) into r c.column.result (omega (arith, c.loop-r-test.true, c.reactions-r-end.ensures, c.loop-r.invariant.long)) c.loop-r.invariant.each
-          (c.column.ensures ∙ ap (λ (signs : List Sign). column_kind signs p) c.row.ensures);
+          (c.column.ensures (get_or table r []) c.pairs.ensures);
     }
 
 pub returns : goal.returns
