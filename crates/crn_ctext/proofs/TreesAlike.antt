@@ -101,17 +101,17 @@ leaf_like c a b H K same prefix n Split = like_itself (test n 42 ⊥)
 leaf_like c a b H K same prefix n Flat = like_test n 42 (H prefix Flats) (K prefix Flats) (same prefix Flats)
 leaf_like c a b H K same prefix n (CutA shared u) =
     like_then (test n 46 (shared ≡ true → length u ≡ a)) (test n 46 (shared ≡ true → length u ≡ a)) (λ x. test n 41 (H prefix (CutsA u))) (λ x. test n 41 (K prefix (CutsA u)))
-      (like_itself (test n 46 (shared ≡ true → length u ≡ a))) (λ x. like_test n 41 (H prefix (CutsA u)) (K prefix (CutsA u)) (same prefix (CutsA u)))
+    (like_itself (test n 46 (shared ≡ true → length u ≡ a))) (λ x. like_test n 41 (H prefix (CutsA u)) (K prefix (CutsA u)) (same prefix (CutsA u)))
 leaf_like c a b H K same prefix n (CutB shared u) =
     like_then (test n 46 (shared ≡ true → length u ≡ b)) (test n 46 (shared ≡ true → length u ≡ b)) (λ x. test n 41 (H prefix (CutsB u))) (λ x. test n 41 (K prefix (CutsB u)))
-      (like_itself (test n 46 (shared ≡ true → length u ≡ b))) (λ x. like_test n 41 (H prefix (CutsB u)) (K prefix (CutsB u)) (same prefix (CutsB u)))
+    (like_itself (test n 46 (shared ≡ true → length u ≡ b))) (λ x. like_test n 41 (H prefix (CutsB u)) (K prefix (CutsB u)) (same prefix (CutsB u)))
 
 -- a leaf, and then the line behind it
 leaf_then : (c a b : ℕ) (H K : List Sign → Said → Type 0) → HoldTogether H K → (prefix : List Sign) (n : ℕ) (node : Node)
     → IsLike (leaf (problem_with c a b H) prefix n node >> Give (n + 1)) (leaf (problem_with c a b K) prefix n node >> Give (n + 1))
 leaf_then c a b H K same prefix n node =
     like_then (leaf (problem_with c a b H) prefix n node) (leaf (problem_with c a b K) prefix n node) (λ x. Give (n + 1)) (λ x. Give (n + 1))
-      (leaf_like c a b H K same prefix n node) (λ x. like_itself (Give (n + 1)))
+    (leaf_like c a b H K same prefix n node) (λ x. like_itself (Give (n + 1)))
 
 -- a node, and its children if it is a split
 node_then : (c a b : ℕ) (H K : List Sign → Said → Type 0) → HoldTogether H K → (prefix : List Sign) (n : ℕ) (children others : Course ℕ) → IsLike children others → (node : Node)
@@ -128,8 +128,8 @@ children_of prefix n tree = tree Zero (n + 1) >>= (λ k. tree Plus k >>= (λ m. 
 children_like : (prefix : List Sign) (n : ℕ) (tree other : Sign → ℕ → Course ℕ) → ((s : Sign) (k : ℕ) → IsLike (tree s k) (other s k)) → IsLike (children_of prefix n tree) (children_of prefix n other)
 children_like prefix n tree other like =
     like_then (tree Zero (n + 1)) (other Zero (n + 1)) (λ k. tree Plus k >>= (λ m. if_signed prefix m (tree Minus m))) (λ k. other Plus k >>= (λ m. if_signed prefix m (other Minus m)))
-      (like Zero (n + 1)) (λ k. like_then (tree Plus k) (other Plus k) (λ m. if_signed prefix m (tree Minus m)) (λ m. if_signed prefix m (other Minus m))
-        (like Plus k) (λ m. like_either (is_all_zero prefix) (Give m) (tree Minus m) (other Minus m) (like Minus m)))
+    (like Zero (n + 1)) (λ k. like_then (tree Plus k) (other Plus k) (λ m. if_signed prefix m (tree Minus m)) (λ m. if_signed prefix m (other Minus m))
+    (like Plus k) (λ m. like_either (is_all_zero prefix) (Give m) (tree Minus m) (other Minus m) (like Minus m)))
 
 -- the trees of two problems with these choices and numbers of multipliers
 pub trees_like : (version : ℕ) (table : List (List ℤ)) (c a b : ℕ) (H K : List Sign → Said → Type 0) → HoldTogether H K → (more : ℕ) (prefix : List Sign) (n : ℕ)
@@ -137,16 +137,16 @@ pub trees_like : (version : ℕ) (table : List (List ℤ)) (c a b : ℕ) (H K : 
 unfolding asks_tree
 trees_like version table c a b H K same zero prefix n =
     like_then (asks_leaf version table (problem_with c a b H) n) (asks_leaf version table (problem_with c a b K) n)
-      (λ node. leaf (problem_with c a b H) prefix n node >> Give (n + 1)) (λ node. leaf (problem_with c a b K) prefix n node >> Give (n + 1))
-      (like_itself (asks_leaf version table (problem_with c a b H) n)) (λ node. leaf_then c a b H K same prefix n node)
+    (λ node. leaf (problem_with c a b H) prefix n node >> Give (n + 1)) (λ node. leaf (problem_with c a b K) prefix n node >> Give (n + 1))
+    (like_itself (asks_leaf version table (problem_with c a b H) n)) (λ node. leaf_then c a b H K same prefix n node)
 trees_like version table c a b H K same (suc more) prefix n =
     let tree : Sign → ℕ → Course ℕ = λ s k. asks_tree version table (problem_with c a b H) more (prefix ++ s ∷ []) k in
     let other : Sign → ℕ → Course ℕ = λ s k. asks_tree version table (problem_with c a b K) more (prefix ++ s ∷ []) k in
     like_then (asks_leaf version table (problem_with c a b H) n) (asks_leaf version table (problem_with c a b K) n)
-      (λ node. goes_on (problem_with c a b H) prefix n node (children_of prefix n tree)) (λ node. goes_on (problem_with c a b K) prefix n node (children_of prefix n other))
-      (like_itself (asks_leaf version table (problem_with c a b H) n))
-      (λ node. node_then c a b H K same prefix n (children_of prefix n tree) (children_of prefix n other)
-        (children_like prefix n tree other (λ s k. trees_like version table c a b H K same more (prefix ++ s ∷ []) k)) node)
+    (λ node. goes_on (problem_with c a b H) prefix n node (children_of prefix n tree)) (λ node. goes_on (problem_with c a b K) prefix n node (children_of prefix n other))
+    (like_itself (asks_leaf version table (problem_with c a b H) n))
+    (λ node. node_then c a b H K same prefix n (children_of prefix n tree) (children_of prefix n other)
+    (children_like prefix n tree other (λ s k. trees_like version table c a b H K same more (prefix ++ s ∷ []) k)) node)
 
 -- ---- steps
 

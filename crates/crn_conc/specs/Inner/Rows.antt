@@ -29,4 +29,4 @@ kind_after (q ∷ qs) p plus minus =
     if nat_le (length p) q.0
     then Free
     else kind_after qs p (plus || is_plus (product q.1 (slice_index_or p q.0 Zero)))
-        (minus || is_minus (product q.1 (slice_index_or p q.0 Zero)))
+    (minus || is_minus (product q.1 (slice_index_or p q.0 Zero)))
