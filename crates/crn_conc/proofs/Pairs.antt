@@ -53,7 +53,7 @@ drop_here (suc c) (s ∷ p) t q e = let h = drop_here c p t q e in record { insi
 -- ---- the kind
 
 -- the kind of a column, where positive and negative members were added before these signs, or not
-value : List Sign → List Sign → Bool → Bool → Kind
+abbrev value : List Sign → List Sign → Bool → Bool → Kind
 value signs q plus minus = if all_zero (drop (length q) signs) then kind_of_sum (plus || some_sign is_plus (products signs q)) (minus || some_sign is_minus (products signs q)) else Free
 
 or_false : (b : Bool) → b ≡ (b || false)

@@ -18,7 +18,7 @@ struct SignRow {
 }
 
 impl Model for SignRow {
-    ghost use Rattle.std.specs.Prelude.{List};
+    ghost use Rattle.std.specs.Prelude.{◌≡◌, List};
     ghost use Rattle.crn_vec.specs.declared.signs.Sign.{Sign};
     ghost use Rattle.crn_conc.specs.Inner.Rows.{pairs_from};
 
