@@ -1,5 +1,5 @@
 -- What past multipliers rule out, by signs at the places where the list (-uA, u) is not 0.
-use Rattle.std.proofs.Common.{◌≡◌, ◌≢◌, ℕ, zero, suc, ◌+◌, ◌-◌, ◌≤◌, ◌<◌, ◌⊎◌, inl, inr, List, [], ◌∷◌, ◌++◌, length, get_or, map, take, drop, Bool, true, false, refl, sym, ap, subst, ◌∙◌, add-one, arith, lit≤, ◌^◌}
+use Rattle.std.proofs.Common.{◌≡◌, ◌≢◌, ℕ, zero, suc, ◌+◌, ◌-◌, ◌≤◌, ◌<◌, ◌⊎◌, inl, inr, List, [], ◌∷◌, ◌++◌, length, get_or, map, take, drop, set, Bool, true, false, refl, sym, ap, subst, ◌∙◌, add-one, arith, lit≤, ◌^◌}
 use Rattle.std.specs.Prelude.{ℤ, pos, negsuc, neg_ℤ, ◌*ℤ◌, unsigned_abs}
 use Rattle.std.specs.List.{AllByRecursion}
 use Rattle.std.proofs.lemmas.Int.{ints}
@@ -151,3 +151,12 @@ pub all_at : {X : Type 0} (P : X → Type 0) (xs : List X) (d : X) (k : ℕ) →
 all_at P [] d k lt h = absurd (omega (arith, lt))
 all_at P (x ∷ xs) d zero lt h = h.0
 all_at P (x ∷ xs) d (suc k) lt h = all_at P xs d k (omega (arith, lt)) h.1
+
+pub all_set : {X : Type 0} (P : X → Type 0) (xs : List X) (k : ℕ) (x : X) → AllByRecursion P xs → P x → AllByRecursion P (set xs k x)
+all_set P [] k x h p = tt
+all_set P (y ∷ xs) zero x h p = (p, h.1)
+all_set P (y ∷ xs) (suc k) x h p = (h.0, all_set P xs k x h.1 p)
+
+pub all_push : {X : Type 0} (P : X → Type 0) (xs : List X) (x : X) → AllByRecursion P xs → P x → AllByRecursion P (xs ++ x ∷ [])
+all_push P [] x h p = (p, tt)
+all_push P (y ∷ xs) x h p = (h.0, all_push P xs x h.1 p)

@@ -8,7 +8,7 @@ ghost use Rattle.crn_farkas.specs.Solver.{IsCutBy};
 ghost use Rattle.crn_sign.specs.Inner.Covers.{AreRowSigns, IsCovered};
 ghost use Rattle.crn_sign.specs.Inner.Parts.{IsPart, IsRuling};
 
-use crate::past::Past;
+use crate::past::{Past, PastCuts, empty_cuts, first_again, keep_cut};
 use crate::pool::{Pool, are_marked, cover_by, places_of_signs};
 use crn_farkas::{Alternative, Cut, Decision, Solver, Standing, Stop, witnesses_make_solutions};
 use crn_vec::{Ints, Kind, Matrix, NoMemory, Sign, cuts_exclude_solutions, is_asked};
@@ -21,21 +21,21 @@ use std::alloc::Global;
 #[derive(Drop)]
 pub(crate) struct Part {
     pub solver: Solver,
-    pub past: Vec<Past>,
+    pub past: Vec<PastCuts>,
     pub pool: Pool,
     pub marks: Vec<bool>,
     pub signs: Vec<Sign>,
 }
 
 impl Part {
-    /// A part with nothing found before.
-    pub fn new(alloc: Global, matrix: &Matrix) -> Result<Part, NoMemory>
+    /// A part with nothing found before, for prefixes of at most so many choices.
+    pub fn new(alloc: Global, matrix: &Matrix, choices: usize) -> Result<Part, NoMemory>
         ensures { IfOk result (λ made. IsPart matrix.now made) }
     {
         let count = matrix.cols() + matrix.rows();
         Ok(Part {
             solver: Solver::new(alloc, matrix)?,
-            past: Vec::new(alloc),
+            past: empty_cuts(alloc, matrix, choices)?,
             pool: Pool::new(alloc, matrix)?,
             marks: vec![in alloc; false; count]?,
             signs: vec![in alloc; Sign::Zero; count]?,
@@ -43,7 +43,7 @@ impl Part {
     }
 
     // Multipliers that ruled out a system of a prefix of this length, or their negatives, if they
-    // rule this system out.
+    // rule this system out. A prefix's length alone says which of its coordinates are settled.
     fn past_cut(
         &self,
         alloc: Global,
@@ -56,12 +56,8 @@ impl Part {
         ensures { IfOk result (λ o. MatchOption o (Unit {0})
             (λ u. IsSmallCut matrix.now kinds.now u.list)) }
     {
-        for past in &self.past {
-            if past.depth == depth {
-                if let Some(u) = past.again(alloc, matrix, kinds)? {
-                    return Ok(Some(u));
-                }
-            }
+        if depth < self.past.len() {
+            return first_again(alloc, matrix, kinds, &self.past[depth].items);
         }
         Ok(None)
     }
@@ -83,7 +79,8 @@ impl Part {
         ensures cut { IfOk result (λ u. IsSmallCut matrix.now kinds.now u.list) }
     {
         let u = self.solver.multipliers(kinds, cut)?;
-        self.past.push(Past::new(alloc, matrix, kinds, &u, depth)?)?;
+        let past = Past::new(alloc, matrix, kinds, &u)?;
+        keep_cut(&mut self.past, matrix, past, depth)?;
         Ok(u)
     }
 

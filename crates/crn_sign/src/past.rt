@@ -5,17 +5,22 @@ ghost use Rattle.crn_vec.specs.Systems.{MayWeigh, is_signed};
 ghost use Rattle.crn_vec.specs.declared.limits.TheConstants.{MAX_AMOUNT, WIDE_ENTRY};
 ghost use Rattle.crn_farkas.specs.Decision.{IsSmallCut, factor};
 ghost use Rattle.crn_sign.specs.Inner.Past.{AllWeigh, AreInside, IsPast, SignsBefore, SomeCounts};
+ghost use Rattle.crn_sign.specs.Inner.PastCuts.{AreAllPast, ArePastCuts};
 
 use crn_vec::{Ints, Kind, Matrix, NoMemory, Sign, dot, sign_of};
 use std::alloc::Global;
 
-/// Multipliers u that ruled a system out, with the places and signs of the list (-uA, u), and the
-/// length of the prefix.
+/// Multipliers u that ruled a system out, with the places and signs of the list (-uA, u).
 #[derive(Drop)]
 pub(crate) struct Past {
     pub multipliers: Ints,
     pub places: Vec<(usize, Sign)>,
-    pub depth: usize,
+}
+
+/// What ruled systems of prefixes of one length out.
+#[derive(Drop)]
+pub(crate) struct PastCuts {
+    pub items: Vec<Past>,
 }
 
 // The sign of minus a number.
@@ -174,20 +179,13 @@ fn multiple(alloc: Global, list: &[i128], stays: bool) -> Result<Ints, NoMemory>
 
 impl Past {
     /// Keeps multipliers that rule a system of the matrix out.
-    pub fn new(
-        alloc: Global,
-        matrix: &Matrix,
-        kinds: &[Kind],
-        u: &Ints,
-        depth: usize,
-    ) -> Result<Past, NoMemory>
+    pub fn new(alloc: Global, matrix: &Matrix, kinds: &[Kind], u: &Ints) -> Result<Past, NoMemory>
         requires { IsSmallCut matrix.now kinds.now u.now.list }
         ensures { IfOk result (λ made. IsPast matrix.now made.multipliers.list made.places.items) }
     {
         Ok(Past {
             multipliers: u.copy()?,
             places: places_of(alloc, matrix, u.as_slice())?,
-            depth,
         })
     }
 
@@ -222,4 +220,61 @@ impl Past {
         }
         Ok(None)
     }
+}
+
+/// Lists for prefixes with no choice, with one, and so on, to all of them.
+pub(crate) fn empty_cuts(
+    alloc: Global,
+    _matrix: &Matrix,
+    choices: usize,
+) -> Result<Vec<PastCuts>, NoMemory>
+    ensures { IfOk result (λ made. ArePastCuts _matrix.now made.items) }
+{
+    let mut made = Vec::new(alloc);
+    for _ in 0..choices {
+        made.push(PastCuts {
+            items: Vec::new(alloc),
+        })?;
+    }
+    made.push(PastCuts {
+        items: Vec::new(alloc),
+    })?;
+    Ok(made)
+}
+
+/// Keeps what ruled a system of a prefix of this length out.
+pub(crate) fn keep_cut(
+    past: &mut [PastCuts],
+    _matrix: &Matrix,
+    cut: Past,
+    depth: usize,
+) -> Result<(), NoMemory>
+    requires past { ArePastCuts _matrix.now past.old }
+    requires cut { IsPast _matrix.now cut.multipliers.list cut.places.items }
+    ensures { OnOk result (ArePastCuts _matrix.now past.new) }
+{
+    if depth < past.len() {
+        past[depth].items.push(cut)?;
+    }
+    Ok(())
+}
+
+/// The first of these multipliers, or of their negatives, that rule the system of these kinds out.
+pub(crate) fn first_again(
+    alloc: Global,
+    matrix: &Matrix,
+    kinds: &[Kind],
+    past: &[Past],
+) -> Result<Option<Ints>, NoMemory>
+    requires past { AreAllPast matrix.now past.now }
+    requires kinds { length kinds.now ≡ width matrix.now }
+    ensures { IfOk result (λ o. MatchOption o (Unit {0})
+        (λ u. IsSmallCut matrix.now kinds.now u.list)) }
+{
+    for cut in past {
+        if let Some(u) = cut.again(alloc, matrix, kinds)? {
+            return Ok(Some(u));
+        }
+    }
+    Ok(None)
 }

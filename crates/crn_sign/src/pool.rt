@@ -11,7 +11,7 @@ use crn_vec::{Kind, Matrix, NoMemory, Sign, is_asked, may_take};
 use std::alloc::Global;
 
 /// The most vectors that a pool keeps.
-const MAX_KEPT: usize = 512;
+const MAX_KEPT: usize = 4096;
 
 /// A vector (x, Ax), by the places and signs of its entries that are not 0.
 #[derive(Drop)]
@@ -19,10 +19,19 @@ pub(crate) struct RowVector {
     pub places: Vec<(usize, Sign)>,
 }
 
-/// The numbers of the vectors that are not 0 at one coordinate, that which served last first.
+/// A vector of the pool that is not 0 at a coordinate: its number, its sign there, and the index of
+/// the place that refused it last.
+#[derive(Clone, Copy)]
+pub(crate) struct Server {
+    pub number: usize,
+    pub sign: Sign,
+    pub refused: usize,
+}
+
+/// The vectors that are not 0 at one coordinate, that which served last first.
 #[derive(Drop)]
 pub(crate) struct Servers {
-    pub numbers: Vec<usize>,
+    pub items: Vec<Server>,
 }
 
 /// Vectors (x, Ax) that were found, which add up to solutions, and for each coordinate a list of
@@ -137,12 +146,41 @@ pub(crate) fn cover_by(
     cover_as(matrix, kinds, places, marks, false)
 }
 
-// Marks the places of the vector of this number, if it may be taken everywhere or its negative may.
-fn cover_by_number(
+// Whether a vector has to stay as it is, and not to be negated, so that its sign at a coordinate is
+// that which the kind there asks.
+fn stays_for(goal: Kind, sign: Sign) -> bool {
+    match goal {
+        Kind::Neg => sign == Sign::Minus,
+        _ => sign == Sign::Plus,
+    }
+}
+
+// Whether a number of this sign, or its negative, may not be taken at a place.
+fn is_refused(kinds: &[Kind], place: &(usize, Sign), stays: bool) -> bool {
+    if place.0 < kinds.len() {
+        return !may_take(kinds[place.0], sign_of_multiple(place.1, stays));
+    }
+    false
+}
+
+// The index of the first place where a vector, or its negative, may not be taken.
+fn first_refused(kinds: &[Kind], places: &[(usize, Sign)], stays: bool) -> usize {
+    for i in 0..places.len() {
+        if is_refused(kinds, &places[i], stays) {
+            return i;
+        }
+    }
+    0
+}
+
+// Marks the places of a vector that is not 0 at a coordinate of this kind, if it may be taken
+// everywhere with the sign that is asked there. The place that refused it last is asked first.
+fn cover_by_server(
     matrix: &Matrix,
     kinds: &[Kind],
     vectors: &[RowVector],
-    number: usize,
+    server: &mut Server,
+    goal: Kind,
     marks: &mut [bool],
 ) -> bool
     requires kinds { length kinds.now ≡ width matrix.now }
@@ -152,19 +190,31 @@ fn cover_by_number(
     ensures count { length marks.new ≡ length marks.old }
     ensures covered { IsCovered matrix.now kinds.now marks.new }
 {
-    if number < vectors.len() {
-        return cover_by(matrix, kinds, &vectors[number].places, marks);
+    if server.number >= vectors.len() {
+        return false;
     }
+    let places = &vectors[server.number].places;
+    let stays = stays_for(goal, server.sign);
+    if server.refused < places.len() {
+        if is_refused(kinds, &places[server.refused], stays) {
+            return false;
+        }
+    }
+    if cover_as(matrix, kinds, places, marks, stays) {
+        return true;
+    }
+    server.refused = first_refused(kinds, places, stays);
     false
 }
 
-// Marks the places of the first of the numbered vectors that may be taken everywhere, or whose
-// negative may, and answers its place in the list; if there is none, the length of the list.
+// Marks the places of the first of these vectors that may be taken everywhere, and answers its place
+// in the list; if there is none, the length of the list.
 fn first_cover(
     matrix: &Matrix,
     kinds: &[Kind],
     vectors: &[RowVector],
-    numbers: &[usize],
+    servers: &mut [Server],
+    goal: Kind,
     marks: &mut [bool],
 ) -> usize
     requires kinds { length kinds.now ≡ width matrix.now }
@@ -174,18 +224,18 @@ fn first_cover(
     ensures count { length marks.new ≡ length marks.old }
     ensures covered { IsCovered matrix.now kinds.now marks.new }
 {
-    for i in 0..numbers.len() {
-        if cover_by_number(matrix, kinds, vectors, numbers[i], marks) {
+    for i in 0..servers.len() {
+        if cover_by_server(matrix, kinds, vectors, &mut servers[i], goal, marks) {
             return i;
         }
     }
-    numbers.len()
+    servers.len()
 }
 
-// Brings the number at a place of the list to its head.
-fn bring_to_head(numbers: &mut [usize], i: usize) {
-    if i < numbers.len() {
-        numbers.swap(0, i);
+// Brings the vector at a place of the list to its head.
+fn bring_to_head(servers: &mut [Server], i: usize) {
+    if i < servers.len() {
+        servers.swap(0, i);
     }
 }
 
@@ -196,7 +246,7 @@ fn empty_lists(alloc: Global, count: usize) -> Result<Vec<Servers>, NoMemory>
     let mut servers = Vec::with_capacity(alloc, count)?;
     for _ in 0..count {
         servers.push(Servers {
-            numbers: Vec::new(alloc),
+            items: Vec::new(alloc),
         })?;
     }
     Ok(servers)
@@ -210,7 +260,11 @@ fn enter(servers: &mut [Servers], places: &[(usize, Sign)], number: usize) -> Re
     match places {
         [] => Ok(()),
         [p, rest @ ..] => {
-            servers[p.0].numbers.push(number)?;
+            servers[p.0].items.push(Server {
+                number,
+                sign: p.1,
+                refused: 0,
+            })?;
             enter(servers, rest, number)
         }
     }
@@ -239,9 +293,9 @@ impl Pool {
         ensures count { length marks.new ≡ length marks.old }
         ensures covered { IsCovered matrix.now kinds.now marks.new }
     {
-        let numbers = &self.servers[g].numbers;
-        let i = first_cover(matrix, kinds, &self.vectors, numbers, marks);
-        bring_to_head(&mut self.servers[g].numbers, i);
+        let servers = &mut self.servers[g].items;
+        let i = first_cover(matrix, kinds, &self.vectors, servers, kinds[g], marks);
+        bring_to_head(servers, i);
     }
 
     /// Keeps a vector, if there is room for one more.

@@ -278,8 +278,8 @@ pub(crate) fn start<P: SignProblem>(
     let matrix_a = problem.matrix_a();
     let matrix_b = problem.matrix_b();
     Ok(Progress {
-        a: Part::new(alloc, matrix_a)?,
-        b: Part::new(alloc, matrix_b)?,
+        a: Part::new(alloc, matrix_a, choices)?,
+        b: Part::new(alloc, matrix_b, choices)?,
         kinds_a: vec![in alloc; Kind::Free; matrix_a.cols() + matrix_a.rows()]?,
         kinds_b: vec![in alloc; Kind::Free; matrix_b.cols() + matrix_b.rows()]?,
         prefix: Vec::with_capacity(alloc, choices)?,

@@ -1,7 +1,6 @@
 -- For the contracts of private functions alone.
 -- What a part of a search keeps, and what it answers.
 use Rattle.std.specs.Prelude.{◌≡◌, ℤ, List, Option, Some, None, length}
-use Rattle.std.specs.List.{AllByRecursion}
 use Rattle.crn_vec.specs.declared.signs.Kind.{Kind}
 use Rattle.crn_vec.specs.Kept.{KeptInts}
 use Rattle.crn_vec.specs.Vectors.{Mat}
@@ -9,13 +8,13 @@ use Rattle.crn_vec.specs.Elementary.{width}
 use Rattle.crn_vec.specs.Systems.{IsSolution}
 use Rattle.crn_farkas.specs.Decision.{IsSmallCut}
 use Rattle.crn_sign.specs.declared.part.Part.{Part}
-use Rattle.crn_sign.specs.Inner.Past.{IsPast}
+use Rattle.crn_sign.specs.Inner.PastCuts.{ArePastCuts}
 use Rattle.crn_sign.specs.Inner.Pools.{IsPool}
 
 -- the solver and what was found are of this matrix, and the lists have room for its coordinates
 pub record IsPart (a : Mat) (p : Part) : Type 0 where
   pub matrix : p.solver.matrix ≡ a
-  pub past : AllByRecursion (λ q. IsPast a q.multipliers.list q.places.items) p.past.items
+  pub past : ArePastCuts a p.past.items
   pub pool : IsPool a p.pool
   pub marks : length p.marks.items ≡ width a
   pub signs : length p.signs.items ≡ width a

@@ -5,6 +5,7 @@ use Rattle.crn_sign.proofs.pool.first_cover.Given as goal
 
 abbrev pub invariant-loop-i : goal.invariant-loop-i
 invariant-loop-i l = record {
+  servers : length l.servers ≡ length l.fn.servers;
   count : length l.marks ≡ length l.fn.marks;
   covered : IsCovered l.matrix l.kinds l.marks;
 }
