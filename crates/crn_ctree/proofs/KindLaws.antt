@@ -8,11 +8,10 @@ use Rattle.crn_vec.specs.declared.signs.Sign.TheVariants.{Zero, Plus, Minus}
 use Rattle.crn_vec.specs.declared.signs.Kind.{Kind}
 use Rattle.crn_vec.specs.declared.signs.Kind.TheVariants.{Free, Zero as ZeroKind}
 use Rattle.crn_vec.specs.Network.{Net, minus, sides_of, reaction_vector}
-use Rattle.crn_vec.specs.Vectors.{Mat, HasSign, column}
+use Rattle.crn_vec.specs.Vectors.{Mat, HasSign}
 use Rattle.crn_vec.specs.Systems.{kind_at}
 use Rattle.crn_vec.specs.Problems.{opposite, all_zero}
 use Rattle.crn_vec.specs.Concordance.{sign, product, products, is_plus, is_minus, some_sign, kind_of_sum, column_kind, row_kinds, kinds_a_of, kinds_b_of}
-use Rattle.crn_vec.specs.Deficiency.{vectors}
 use Rattle.crn_vec.specs.Influence.{strong_table}
 use Rattle.crn_vec.proofs.CallerLemmas.{sign_is}
 use Rattle.crn_vec.specs.NetSystems.{reaction_system}

@@ -1,5 +1,5 @@
 -- When a shelving, numbers of the species, a level and weights are a signal over a shape, row by row.
-use Rattle.std.proofs.Common.{inl, inr, ◌≡◌, ◌≢◌, ℕ, zero, suc, ◌+◌, ◌*◌, ◌<◌, ◌≤◌, ◌^◌, List, [], ◌∷◌, length, map, get_or, slice_set, cond, Bool, refl, sym, ap, subst, ◌∙◌, arith}
+use Rattle.std.proofs.Common.{inl, inr, ◌≡◌, ◌≢◌, ℕ, suc, ◌+◌, ◌*◌, ◌<◌, ◌≤◌, ◌^◌, List, [], ◌∷◌, length, map, get_or, slice_set, cond, Bool, refl, sym, ap, subst, ◌∙◌, arith}
 use Rattle.std.specs.Prelude.{ℤ, pos, ◌*ℤ◌, ◌-ℤ◌, Option, Some, None, nat_lt, unsigned_abs}
 use Rattle.std.specs.List.{AllZip, AllByRecursion}
 use lib.IntN.{*ℤ_comm}
@@ -19,7 +19,7 @@ use Rattle.crn_vec.specs.Problems.{opposite}
 use Rattle.crn_vec.specs.Concordance.{image, kind_of_sign, sign}
 use Rattle.crn_vec.specs.Signals.{Pair, Shape, complex_at, shelf_at, shelf_of, HasPairSign, IsSignal, IsShape, top_kind, pair_kind, pair_kind_by}
 use Rattle.crn_vec.proofs.CallerLemmas.{dot_none, mul-sub, product_within, sum_within, past_end, lt_or, eq_or}
-use Rattle.crn_cert.specs.Ranges.{AreFree, IsNarrow}
+use Rattle.crn_cert.specs.Ranges.{IsNarrow}
 use Rattle.crn_ctree.specs.Inner.Signals.{AreOnShelves, DoTurn}
 use Rattle.crn_ctree.proofs.CutLaws.{within_narrow}
 

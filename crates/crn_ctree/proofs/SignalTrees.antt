@@ -1,6 +1,6 @@
 -- The tests of the trees of question 13 are those by the shape of the network and of the vector of question 12.
-use Rattle.std.proofs.Common.{◌≡◌, ◌⊎◌, ℕ, ◌+◌, inl, inr, List, [], ◌∷◌, ◌++◌, refl, sym, ap, subst, ◌∙◌}
-use Rattle.std.specs.Prelude.{ℤ, Option, Some, ◌↔◌}
+use Rattle.std.proofs.Common.{◌≡◌, ℕ, ◌+◌, inl, inr, List, [], ◌∷◌, ◌++◌, refl, sym, subst, ◌∙◌}
+use Rattle.std.specs.Prelude.{ℤ, Option, ◌↔◌}
 use Rattle.std.specs.Option.{IsSomeAnd}
 use Rattle.crn_vec.specs.declared.signs.Sign.{Sign}
 use Rattle.crn_vec.specs.declared.signs.Sign.TheVariants.{Zero, Plus, Minus}
@@ -9,7 +9,6 @@ use Rattle.crn_vec.specs.NetSystems.{reaction_system}
 use Rattle.crn_vec.specs.Signals.{Shape, signals}
 use Rattle.crn_vec.specs.NetSignals.{IsShapeOf}
 use Rattle.crn_vec.proofs.CallerLemmas.{shapes_are_one}
-use Rattle.crn_cert.specs.Questions.{Earlier, Q12, on, vector_given}
 use Rattle.crn_cert.specs.Says.{by_turn}
 use Rattle.crn_cert.specs.Tests.{Test, FailsFirst}
 use Rattle.crn_cert.specs.Trees.{Plan, Both, Three, RulesA, RulesB, Level, node_count}

@@ -130,7 +130,8 @@ pub(crate) fn rules_out(
 ) -> bool
     requires { AreFree (length (matrix_of net.now problem part).rows) u.now }
     ensures { IsTrue result
-        ↔ IsCut (matrix_of net.now problem.entry part) (kinds_of net.now problem.entry part prefix.now) u.now }
+        ↔ IsCut (matrix_of net.now problem.entry part)
+        (kinds_of net.now problem.entry part prefix.now) u.now }
 {
     let system = system_of(problem, part);
     let mut some = false;

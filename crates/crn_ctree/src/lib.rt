@@ -12,8 +12,6 @@ mod path;
 mod problem;
 mod shared;
 mod signal;
-#[cfg(test)]
-mod tests;
 
 pub use check::TreeCheck;
 pub use fault::TreeFault;

@@ -70,7 +70,8 @@ fn is_closed(net: &Network, problem: Problem, prefix: &[Sign]) -> bool
 // Whether a node passes its test at a prefix.
 pub(crate) fn fits(net: &Network, problem: Problem, prefix: &[Sign], node: &Node) -> bool
     requires { AreNumbersFor (problem_of net.now problem) (said_by node.now) }
-    ensures { IsTrue result ↔ Fits (problem_of net.now problem.entry) prefix.now (said_by node.now) }
+    ensures { IsTrue result
+        ↔ Fits (problem_of net.now problem.entry) prefix.now (said_by node.now) }
 {
     match node {
         Node::Split => is_not_full(net, problem, prefix),

@@ -1,11 +1,11 @@
 -- Each row of system 5 has an entry for each species and one for the level.
-use Rattle.std.proofs.Common.{◌≡◌, ◌+◌, ◌<◌, ℕ, inl, inr, List, [], ◌∷◌, ◌++◌, length, map, ap, ◌∙◌, arith}
+use Rattle.std.proofs.Common.{◌≡◌, ◌+◌, ℕ, List, [], ◌∷◌, length, map, ap, ◌∙◌, arith}
 use Rattle.std.specs.Prelude.{ℤ, pos, negsuc, Option}
 use Rattle.std.specs.List.{AllByRecursion}
 use Rattle.std.proofs.lemmas.List.{length-append}
 use Rattle.crn_vec.specs.Lists.{IsIn}
 use Rattle.crn_vec.specs.Network.{Net, IsNetwork, IsVector, reaction_vector}
-use Rattle.crn_vec.specs.Signals.{Pair, Shape, complex_row, pair_row, shelf_matrix}
+use Rattle.crn_vec.specs.Signals.{Pair, complex_row, pair_row, shelf_matrix}
 use Rattle.crn_vec.proofs.CallerLemmas.{all_append, all_in, all_map, at_in, in_map, reaction_long}
 use Rattle.crn_shape.specs.declared.pairs.LinkedPair.{LinkedPair}
 use Rattle.crn_shape.specs.Shapes.{AreForShape, IsPairIn, ends_of, pair_of, shape_of}

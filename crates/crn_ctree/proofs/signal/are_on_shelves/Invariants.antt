@@ -1,4 +1,4 @@
-use Rattle.std.proofs.Common.{ℕ, ◌<◌, [], get_or}
+use Rattle.std.proofs.Common.{ℕ, ◌<◌, get_or}
 use Rattle.std.specs.Prelude.{◌-ℤ◌, None}
 use Rattle.crn_vec.specs.Signals.{complex_at, top_kind}
 use Rattle.crn_vec.specs.Systems.{HasKind}

@@ -65,8 +65,8 @@ returns-in-Ok-Spent-clause-answer c =
     λ earlier v. subst (IsAnswer net c.args.budget earlier Q13) (sym c.spent_answer.ensures)
     (spent_is net earlier g true c.args.budget c.requires.low c.requires.high v (inr (c.requires.weak, no_signal net g c.args.budget c.args.tree c.species.ensures.network c.requires.regular c.requires.tree, e)))
 
-pub returns-in-Err-clause-answer : goal.returns-in-Err-clause-answer
-returns-in-Err-clause-answer c =
+pub returns-clause-answer : goal.returns-clause-answer
+returns-clause-answer c =
     let net = c.args.net.now in
     let g = c.args.g.now in
     let n = c.species.ensures.network in
