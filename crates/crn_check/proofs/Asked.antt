@@ -4,7 +4,7 @@ use Rattle.std.specs.List.{AllByRecursion}
 use Rattle.crn_vec.specs.Lists.{IsIn}
 use Rattle.crn_cert.specs.declared.answer.Verdict.{Verdict}
 use Rattle.crn_cert.specs.Built.{built}
-use Rattle.crn_cert.specs.Questions.{Earlier, Question, Q1, Q2, Q4, Q5, Q6, Q7, Q11, number}
+use Rattle.crn_cert.specs.Questions.{Earlier, Question, Q1, Q2, Q4, Q5, Q6, Q7, Q11, Q12, number}
 use Rattle.crn_check.specs.Facts.{HoldsOn, HoldsNoneFrom}
 use Rattle.crn_check.specs.Check.{HoldsNeeds}
 
@@ -60,9 +60,14 @@ needs_held es (suc (suc (suc (suc (suc (suc (suc (suc (suc (suc (suc zero)))))))
     let fourth : IsIn Q4 (asks es) = rw before (inr (inr (inr (inl refl)))) in
     let eleventh : IsIn Q11 (asks es) = rw before (inr (inr (inr (inr (inr (inr (inr (inr (inr (inr (inl refl))))))))))) in
     (held es Q1 first, (held es Q2 second, (held es Q4 fourth, (held es Q11 eleventh, tt))))
-needs_held es (suc (suc (suc (suc (suc (suc (suc (suc (suc (suc (suc (suc zero)))))))))))) lt before = tt
+needs_held es (suc (suc (suc (suc (suc (suc (suc (suc (suc (suc (suc (suc zero)))))))))))) lt before =
+    let second : IsIn Q2 (asks es) = rw before (inr (inl refl)) in
+    let fourth : IsIn Q4 (asks es) = rw before (inr (inr (inr (inl refl)))) in
+    let twelfth : IsIn Q12 (asks es) = rw before (inr (inr (inr (inr (inr (inr (inr (inr (inr (inr (inr (inl refl)))))))))))) in
+    (held es Q2 second, (held es Q4 fourth, (held es Q12 twelfth, tt)))
 needs_held es (suc (suc (suc (suc (suc (suc (suc (suc (suc (suc (suc (suc (suc zero))))))))))))) lt before = tt
-needs_held es (suc (suc (suc (suc (suc (suc (suc (suc (suc (suc (suc (suc (suc (suc k)))))))))))))) lt before = let few : suc (suc (suc (suc (suc (suc (suc (suc (suc (suc (suc (suc (suc (suc k))))))))))))) < 14 = lt in absurd (omega (arith, few))
+needs_held es (suc (suc (suc (suc (suc (suc (suc (suc (suc (suc (suc (suc (suc (suc zero)))))))))))))) lt before = tt
+needs_held es (suc (suc (suc (suc (suc (suc (suc (suc (suc (suc (suc (suc (suc (suc (suc k))))))))))))))) lt before = let few : suc (suc (suc (suc (suc (suc (suc (suc (suc (suc (suc (suc (suc (suc (suc k)))))))))))))) < 15 = lt in absurd (omega (arith, few))
 
 pub none_from : (es : Earlier) (k : ℕ) → k < length built → asks es ≡ take k built → HoldsNoneFrom (built_at k) es
 none_from es k lt before = below es (built_at k) (subst (AllByRecursion (λ q. number q < built_at k)) (sym before) (go k lt))
@@ -80,6 +85,7 @@ none_from es k lt before = below es (built_at k) (subst (AllByRecursion (λ q. n
     go (suc (suc (suc (suc (suc (suc (suc (suc (suc zero))))))))) lt = let h : AllByRecursion (λ q. number q < 10) (take 9 built) = (omega arith, (omega arith, (omega arith, (omega arith, (omega arith, (omega arith, (omega arith, (omega arith, (omega arith, tt))))))))) in h
     go (suc (suc (suc (suc (suc (suc (suc (suc (suc (suc zero)))))))))) lt = let h : AllByRecursion (λ q. number q < 11) (take 10 built) = (omega arith, (omega arith, (omega arith, (omega arith, (omega arith, (omega arith, (omega arith, (omega arith, (omega arith, (omega arith, tt)))))))))) in h
     go (suc (suc (suc (suc (suc (suc (suc (suc (suc (suc (suc zero))))))))))) lt = let h : AllByRecursion (λ q. number q < 12) (take 11 built) = (omega arith, (omega arith, (omega arith, (omega arith, (omega arith, (omega arith, (omega arith, (omega arith, (omega arith, (omega arith, (omega arith, tt))))))))))) in h
-    go (suc (suc (suc (suc (suc (suc (suc (suc (suc (suc (suc (suc zero)))))))))))) lt = let h : AllByRecursion (λ q. number q < 14) (take 12 built) = (omega arith, (omega arith, (omega arith, (omega arith, (omega arith, (omega arith, (omega arith, (omega arith, (omega arith, (omega arith, (omega arith, (omega arith, tt)))))))))))) in h
-    go (suc (suc (suc (suc (suc (suc (suc (suc (suc (suc (suc (suc (suc zero))))))))))))) lt = let h : AllByRecursion (λ q. number q < 15) (take 13 built) = (omega arith, (omega arith, (omega arith, (omega arith, (omega arith, (omega arith, (omega arith, (omega arith, (omega arith, (omega arith, (omega arith, (omega arith, (omega arith, tt))))))))))))) in h
-    go (suc (suc (suc (suc (suc (suc (suc (suc (suc (suc (suc (suc (suc (suc k)))))))))))))) lt = let few : suc (suc (suc (suc (suc (suc (suc (suc (suc (suc (suc (suc (suc (suc k))))))))))))) < 14 = lt in absurd (omega (arith, few))
+    go (suc (suc (suc (suc (suc (suc (suc (suc (suc (suc (suc (suc zero)))))))))))) lt = let h : AllByRecursion (λ q. number q < 13) (take 12 built) = (omega arith, (omega arith, (omega arith, (omega arith, (omega arith, (omega arith, (omega arith, (omega arith, (omega arith, (omega arith, (omega arith, (omega arith, tt)))))))))))) in h
+    go (suc (suc (suc (suc (suc (suc (suc (suc (suc (suc (suc (suc (suc zero))))))))))))) lt = let h : AllByRecursion (λ q. number q < 14) (take 13 built) = (omega arith, (omega arith, (omega arith, (omega arith, (omega arith, (omega arith, (omega arith, (omega arith, (omega arith, (omega arith, (omega arith, (omega arith, (omega arith, tt))))))))))))) in h
+    go (suc (suc (suc (suc (suc (suc (suc (suc (suc (suc (suc (suc (suc (suc zero)))))))))))))) lt = let h : AllByRecursion (λ q. number q < 15) (take 14 built) = (omega arith, (omega arith, (omega arith, (omega arith, (omega arith, (omega arith, (omega arith, (omega arith, (omega arith, (omega arith, (omega arith, (omega arith, (omega arith, (omega arith, tt)))))))))))))) in h
+    go (suc (suc (suc (suc (suc (suc (suc (suc (suc (suc (suc (suc (suc (suc (suc k))))))))))))))) lt = let few : suc (suc (suc (suc (suc (suc (suc (suc (suc (suc (suc (suc (suc (suc (suc k)))))))))))))) < 15 = lt in absurd (omega (arith, few))

@@ -5,8 +5,14 @@ pub use Rattle.crn_check.proofs.Spares.{head_tests_tight, row_tests_tight, forme
 pub use Rattle.crn_check.proofs.Spares.{true_tight, true_untight}
 -- Facts on the built questions before one hold what its checks look at, and no verdict on a later one.
 pub use Rattle.crn_check.proofs.Asked.{built_at, needs_held, none_from}
--- Formed answers that are no yes by a tree hold no tree.
+-- Formed answers whose verdict is not the one that trees show hold no tree.
 pub use Rattle.crn_check.proofs.NoTrees.{answer_treeless}
 -- Tests in two parts, and the verdict that facts hold on a question.
 pub use Rattle.crn_check.proofs.Judging.{judges_stop, judges_go}
-pub use Rattle.crn_check.proofs.Forms.{formed_on, strong_labelled}
+pub use Rattle.crn_check.proofs.Forms.{formed_on, strong_labelled, shown_formed, shown_tight}
+-- The verdict that facts hold on a question is true or open, and on the first two questions and the fourth it is true.
+pub use Rattle.crn_check.proofs.Truths.{sound_on, linkage_true, strong_true, weak_true}
+-- The sides of a valid yes to question 11.
+pub use Rattle.crn_check.proofs.SidesAccepted.{sides_accepted, sides_of_answer}
+-- For the shape of the network and of the vector of question 12: what the facts hold on the strong classes and on the vector.
+pub use Rattle.crn_check.proofs.VectorKnown.{IsVectorOf, classes_known, vector_known, of_vector}

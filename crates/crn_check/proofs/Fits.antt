@@ -4,16 +4,16 @@ use Rattle.crn_vec.specs.Network.{Net, IsNetwork}
 use Rattle.crn_cert.specs.declared.answer.Answer.{Answer}
 use Rattle.crn_cert.specs.declared.answer.Gap.TheVariants.{Wide, Budget, Rests}
 use Rattle.crn_cert.specs.declared.answer.Verdict.{Verdict}
-use Rattle.crn_cert.specs.declared.answer.Verdict.TheVariants.{Classes, Strong, Rank, Deficiency, Yes, YesWeak, YesVec, NoReaction, NoVec, NoNumber, NoTerminal, NoClass, NoSum, NoDependence, NoCycle, NoPair, NotRegular, OnlyZero, Plane, Unknown}
-use Rattle.crn_cert.specs.Questions.{Earlier, Q1, Q2, Q3, Q4, Q5, Q6, Q7, Q8, Q9, Q10, Q11, Q12, Q14, Q15}
+use Rattle.crn_cert.specs.declared.answer.Verdict.TheVariants.{Classes, Strong, Rank, Deficiency, Yes, YesWeak, YesVec, YesSignal, No, NoReaction, NoVec, NoNumber, NoTerminal, NoClass, NoSum, NoDependence, NoCycle, NoPair, NotRegular, OnlyZero, Plane, NotApplicable, Unknown}
+use Rattle.crn_cert.specs.Questions.{Earlier, Q1, Q2, Q3, Q4, Q5, Q6, Q7, Q8, Q9, Q10, Q11, Q12, Q13, Q14, Q15, on, terminal_of}
 use Rattle.crn_cert.specs.Valid.{linkage_count}
 use Rattle.crn_cert.specs.Formed.{IsFormed}
 use Rattle.crn_cert.specs.FormedVerdicts.{IsFormedVerdict}
 use Rattle.crn_cert.proofs.CallerLemmas.{formed_answers_have_formed_verdicts}
 use Rattle.crn_check.specs.Facts.{KeptFacts, AreFactsOf, asked}
-use Rattle.crn_check.specs.Check.{IsBuilt, HoldsNeeds}
+use Rattle.crn_check.specs.Check.{AsksForTree, IsBuilt, HoldsNeeds, shown_by_tree}
 use Rattle.crn_check.specs.Inner.Facts.{DoesFit}
-use Rattle.crn_check.proofs.Forms.{linkage_labelled}
+use Rattle.crn_check.proofs.Forms.{linkage_labelled, strong_few}
 
 fits_1 : (net : Net) (e : Earlier) (v : Verdict) → IsNetwork net → IsFormedVerdict net e Q1 v → DoesFit v
 fits_1 net e (Classes count label) n f = omega (arith, f.1.long, n.partial.complexes_limit)
@@ -114,6 +114,23 @@ fits_12 net e (Unknown (Budget nodes)) n f = absurd f.0
 fits_12 net e (Unknown (Rests question)) n f = tt
 fits_12 net e v n f = absurd f.0
 
+-- a signal has a shelf for each terminal class
+fits_13 : (net : Net) (e : Earlier) (v : Verdict) → IsNetwork net → terminal_of (on e Q2) ≤ length net.complexes → IsFormedVerdict net e Q13 v → DoesFit v
+fits_13 net e (YesSignal turn shelves mu level weights) n few f = (
+  omega (arith, f.1.shelves_are.long, few, n.partial.complexes_limit),
+  omega (arith, f.1.mu_is.long, n.partial.species_limit),
+  omega (arith, f.1.weights_are.long, n.partial.reactions_limit),
+)
+fits_13 net e No n few f = tt
+fits_13 net e NotApplicable n few f = tt
+fits_13 net e (Unknown (Wide system class index basis)) n few f = elim f.0 as (λ _. length basis.list ≤ 240) [
+  | inl h ↦ omega (arith, h.2.members.long, n.partial.reactions_limit)
+  | inr h ↦ omega (arith, h.3.members.long, n.partial.species_limit)
+]
+fits_13 net e (Unknown (Budget nodes)) n few f = tt
+fits_13 net e (Unknown (Rests question)) n few f = tt
+fits_13 net e v n few f = absurd f.0
+
 fits_14 : (net : Net) (e : Earlier) (v : Verdict) → IsNetwork net → IsFormedVerdict net e Q14 v → DoesFit v
 fits_14 net e Yes n f = tt
 fits_14 net e (NoPair alpha weights) n f = (omega (arith, f.1.0.long, n.partial.reactions_limit), omega (arith, f.1.1.long, n.partial.reactions_limit))
@@ -149,6 +166,16 @@ answer_fits net facts n a network built h needs formed = go n built needs (forme
     go n (inr (inr (inr (inr (inr (inr (inr (inr (inr (inl is)))))))))) needs f = let g : IsFormedVerdict net facts.earlier Q10 a.verdict = subst (λ (m : ℕ). IsFormedVerdict net facts.earlier (asked m) a.verdict) is f in fits_10 net facts.earlier a.verdict g
     go n (inr (inr (inr (inr (inr (inr (inr (inr (inr (inr (inl is))))))))))) needs f = let g : IsFormedVerdict net facts.earlier Q11 a.verdict = subst (λ (m : ℕ). IsFormedVerdict net facts.earlier (asked m) a.verdict) is f in fits_11 net facts.earlier a.verdict network g
     go n (inr (inr (inr (inr (inr (inr (inr (inr (inr (inr (inr (inl is)))))))))))) needs f = let g : IsFormedVerdict net facts.earlier Q12 a.verdict = subst (λ (m : ℕ). IsFormedVerdict net facts.earlier (asked m) a.verdict) is f in fits_12 net facts.earlier a.verdict network g
-    go n (inr (inr (inr (inr (inr (inr (inr (inr (inr (inr (inr (inr (inl is))))))))))))) needs f = let g : IsFormedVerdict net facts.earlier Q14 a.verdict = subst (λ (m : ℕ). IsFormedVerdict net facts.earlier (asked m) a.verdict) is f in fits_14 net facts.earlier a.verdict network g
-    go n (inr (inr (inr (inr (inr (inr (inr (inr (inr (inr (inr (inr (inr (inl is)))))))))))))) needs f = let g : IsFormedVerdict net facts.earlier Q15 a.verdict = subst (λ (m : ℕ). IsFormedVerdict net facts.earlier (asked m) a.verdict) is f in fits_15 net facts.earlier a.verdict network g
-    go n (inr (inr (inr (inr (inr (inr (inr (inr (inr (inr (inr (inr (inr (inr none)))))))))))))) needs f = absurd none
+    go n (inr (inr (inr (inr (inr (inr (inr (inr (inr (inr (inr (inr (inl is))))))))))))) needs f =
+        let g : IsFormedVerdict net facts.earlier Q13 a.verdict = subst (λ (m : ℕ). IsFormedVerdict net facts.earlier (asked m) a.verdict) is f in
+        let held : HoldsNeeds facts.earlier 13 = subst (HoldsNeeds facts.earlier) is needs in
+        fits_13 net facts.earlier a.verdict network (strong_few net facts h held.0) g
+    go n (inr (inr (inr (inr (inr (inr (inr (inr (inr (inr (inr (inr (inr (inl is)))))))))))))) needs f = let g : IsFormedVerdict net facts.earlier Q14 a.verdict = subst (λ (m : ℕ). IsFormedVerdict net facts.earlier (asked m) a.verdict) is f in fits_14 net facts.earlier a.verdict network g
+    go n (inr (inr (inr (inr (inr (inr (inr (inr (inr (inr (inr (inr (inr (inr (inl is))))))))))))))) needs f = let g : IsFormedVerdict net facts.earlier Q15 a.verdict = subst (λ (m : ℕ). IsFormedVerdict net facts.earlier (asked m) a.verdict) is f in fits_15 net facts.earlier a.verdict network g
+    go n (inr (inr (inr (inr (inr (inr (inr (inr (inr (inr (inr (inr (inr (inr (inr none))))))))))))))) needs f = absurd none
+
+-- the verdict that trees show fits
+pub shown_fits : (n : ℕ) → AsksForTree n → DoesFit (shown_by_tree (asked n))
+shown_fits n (inl is) = rw is tt
+shown_fits n (inr (inl is)) = rw is tt
+shown_fits n (inr (inr is)) = rw is tt

@@ -1,5 +1,5 @@
 -- What the form of an answer gives for the tests of its question, and for what is kept of it.
-use Rattle.std.proofs.Common.{◌≡◌, ◌≤◌, ◌⊎◌, inl, inr, ◌==◌, true, false, ℕ, List, [], ◌∷◌, ◌++◌, length, map, refl, sym, ap, subst, ◌∙◌}
+use Rattle.std.proofs.Common.{◌≡◌, ◌≤◌, ◌⊎◌, inl, inr, ◌==◌, true, false, ℕ, List, [], ◌∷◌, ◌++◌, length, map, refl, sym, ap, subst, ◌∙◌, arith}
 use Rattle.std.specs.List.{AllByRecursion}
 use Rattle.std.proofs.lemmas.Bool.{cases_eq, eq-eqb, ne_eqb}
 use Rattle.std.proofs.lemmas.List.{append-nil, append_assoc}
@@ -10,15 +10,16 @@ use Rattle.crn_cert.specs.declared.answer.Gap.TheVariants.{Wide, Budget, Rests}
 use Rattle.crn_cert.specs.declared.answer.Verdict.{Verdict}
 use Rattle.crn_cert.specs.declared.answer.Verdict.TheVariants.{Classes, Strong, Yes, Unknown}
 use Rattle.crn_cert.specs.declared.answer.Proof.{Proof}
-use Rattle.crn_cert.specs.Questions.{Earlier, Question, Q1, Q2, Q3, Q4, Q5, Q6, Q7, Q8, Q9, Q10, Q11, Q12, Q13, Q14, Q15, number, on, labels_of, count_of, exits_of, IsOpen}
+use Rattle.crn_cert.specs.Questions.{Earlier, Question, Q1, Q2, Q3, Q4, Q5, Q6, Q7, Q8, Q9, Q10, Q11, Q12, Q13, Q14, Q15, number, on, labels_of, count_of, exits_of, terminal_of, IsOpen}
 use Rattle.crn_cert.specs.Ranges.{AreFrom}
 use Rattle.crn_cert.specs.Valid.{strong, exits, linkage, linkage_count}
 use Rattle.crn_cert.specs.Formed.{HeadMayBe, HeadReversible, HeadDeficiency, RowsLinkage, RowsStrong, RowsReversible, RowsRank, RowsDeficiency, RowsPositive, HeadRegular, RowsRegular, HeadConfluence, RowsConfluence, RowsConcordant, IsFormed, IsFormedOf}
 use Rattle.crn_cert.specs.FormedVerdicts.{IsFormedVerdict, AreFormedVerdicts}
+use Rattle.crn_cert.specs.Says.{IsTrueOf}
 use Rattle.crn_cert.specs.Law.{IsTrueOrOpen}
 use Rattle.crn_cert.proofs.CallerLemmas.{formed_answers_have_formed_verdicts}
 use Rattle.crn_check.specs.Verdicts.{tight}
-use Rattle.crn_check.specs.Check.{AsksForTree}
+use Rattle.crn_check.specs.Check.{AsksForTree, shown_by_tree}
 use Rattle.crn_check.specs.Facts.{KeptFacts, AreFactsOf, asked, HoldsOn}
 use Rattle.crn_check.proofs.Spares.{true_tight}
 
@@ -160,10 +161,22 @@ facts_add net old new n v h f e t =
 pub facts_push : (net : Net) (old new : KeptFacts) (n : ℕ) (a : Answer) → AreFactsOf net old → IsFormed net old.earlier (asked n) a → new.earlier ≡ old.earlier ++ (asked n, tight a.verdict) ∷ [] → IsTrueOrOpen net (asked n) a.verdict → AreFactsOf net new
 facts_push net old new n a h f e t = facts_add net old new n a.verdict h (formed_answers_have_formed_verdicts net old.earlier (asked n) a.verdict a.proof f) e t
 
--- a yes to a question whose yes a tree shows has a form that the question admits
-pub yes_formed : (net : Net) (e : Earlier) (n : ℕ) → AsksForTree n → IsFormedVerdict net e (asked n) Yes
-yes_formed net e n (inl is) = rw is (tt, tt)
-yes_formed net e n (inr is) = rw is (tt, tt)
+-- the verdict that trees show has a form that its question admits
+pub shown_formed : (net : Net) (e : Earlier) (n : ℕ) → AsksForTree n → IsFormedVerdict net e (asked n) (shown_by_tree (asked n))
+shown_formed net e n (inl is) = rw is (tt, tt)
+shown_formed net e n (inr (inl is)) = rw is (tt, tt)
+shown_formed net e n (inr (inr is)) = rw is (tt, tt)
+
+-- it has no list
+pub shown_tight : (n : ℕ) → AsksForTree n → tight (shown_by_tree (asked n)) ≡ shown_by_tree (asked n)
+shown_tight n (inl is) = rw is refl
+shown_tight n (inr (inl is)) = rw is refl
+shown_tight n (inr (inr is)) = rw is refl
+
+pub shown_true : (net : Net) (n : ℕ) → AsksForTree n → IsTrueOf net (asked n) (shown_by_tree (asked n)) → IsTrueOrOpen net (asked n) (shown_by_tree (asked n))
+shown_true net n (inl is) h = subst (λ (m : ℕ). IsTrueOf net (asked m) (shown_by_tree (asked m)) → IsTrueOrOpen net (asked m) (shown_by_tree (asked m))) (sym is) (λ k. k) h
+shown_true net n (inr (inl is)) h = subst (λ (m : ℕ). IsTrueOf net (asked m) (shown_by_tree (asked m)) → IsTrueOrOpen net (asked m) (shown_by_tree (asked m))) (sym is) (λ k. k) h
+shown_true net n (inr (inr is)) h = subst (λ (m : ℕ). IsTrueOf net (asked m) (shown_by_tree (asked m)) → IsTrueOrOpen net (asked m) (shown_by_tree (asked m))) (sym is) (λ k. k) h
 
 -- ---- the verdict that facts hold on a question
 
@@ -212,6 +225,17 @@ strong_long net e v h = absurd h.0
 
 pub strong_labelled : (net : Net) (facts : KeptFacts) → AreFactsOf net facts → HoldsOn facts.earlier 2 → length (strong facts.earlier) ≡ length net.complexes
 strong_labelled net facts h held = let f = formed_on net [] facts.earlier Q2 h.formed held in strong_long net f.0 (on facts.earlier Q2) f.1
+
+-- a verdict on strong classes has no more terminal classes than there are complexes
+terminal_few : (net : Net) (e : Earlier) (v : Verdict) → IsFormedVerdict net e Q2 v → terminal_of v ≤ length net.complexes
+terminal_few net e (Strong count terminal label exit) h = omega (arith, h.0.0.1, h.0.1.1)
+terminal_few net e (Unknown (Wide system class index basis)) h = absurd h.0
+terminal_few net e (Unknown (Budget nodes)) h = absurd h.0
+terminal_few net e (Unknown (Rests question)) h = absurd h.0
+terminal_few net e v h = absurd h.0
+
+pub strong_few : (net : Net) (facts : KeptFacts) → AreFactsOf net facts → HoldsOn facts.earlier 2 → terminal_of (on facts.earlier Q2) ≤ length net.complexes
+strong_few net facts h held = let f = formed_on net [] facts.earlier Q2 h.formed held in terminal_few net f.0 (on facts.earlier Q2) f.1
 
 -- a verdict on linkage classes labels each complex, and has no more classes than complexes
 linkage_long : (net : Net) (e : Earlier) (v : Verdict) → IsFormedVerdict net e Q1 v → (length (labels_of v) ≡ length net.complexes) × (count_of v ≤ length net.complexes)

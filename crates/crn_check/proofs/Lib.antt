@@ -24,3 +24,6 @@ mod Spaces
 mod Leading
 mod TieRows
 mod NoTrees
+mod SignalRows
+mod SidesAccepted
+mod VectorKnown

@@ -1,26 +1,31 @@
 -- The form, the tests and the truth of an answer do not depend on spares of lists.
 use Rattle.std.proofs.Common.{◌≡◌, ◌↔◌, ◌≤◌, ◌==◌, ◌+◌, ◌-◌, ◌<◌, ◌≢◌, ◌⊎◌, Bool, true, false, if◌then◌else◌, inl, inr, ℕ, suc, List, [], ◌∷◌, ◌++◌, length, map, get_or, refl, sym, ap, ap₂, subst, ◌∙◌}
-use Rattle.std.specs.Prelude.{◌&&◌, IsTrue, ℤ, pos, min, filter, count_by, sum, Option}
+use Rattle.std.specs.Prelude.{◌&&◌, IsTrue, ℤ, pos, negsuc, min, filter, count_by, sum, Option}
 use Rattle.std.specs.Option.{IsSome, IsSomeAnd}
 use Rattle.std.specs.List.{list_any, range_with_len}
 use Rattle.crn_vec.specs.Deficiency.{AreAtMostOne, class_members}
 use Rattle.crn_vec.specs.Lists.{IsIn}
 use Rattle.crn_vec.specs.Network.{Net}
 use Rattle.crn_vec.specs.Influence.{plain_table, strong_table}
+use Rattle.crn_vec.specs.Concordance.{sign}
+use Rattle.crn_vec.specs.NetSignals.{IsSignalOf}
 use Rattle.crn_vec.specs.declared.signs.Sign.{Sign}
 use Rattle.crn_cert.specs.declared.answer.Gap.TheVariants.{Wide, Budget, Rests}
 use Rattle.crn_cert.specs.declared.answer.Verdict.{Verdict}
-use Rattle.crn_cert.specs.declared.answer.Verdict.TheVariants.{Classes, Strong, Rank, Deficiency, Yes, YesWeak, YesVec, NoReaction, NoVec, NoNumber, NoTerminal, NoClass, NoSum, NoDependence, NoCycle, NoPair, NotRegular, OnlyZero, Plane, Unknown}
+use Rattle.crn_cert.specs.declared.answer.Verdict.TheVariants.{Classes, Strong, Rank, Deficiency, Yes, YesWeak, YesVec, YesSignal, No, NoReaction, NoVec, NoNumber, NoTerminal, NoClass, NoSum, NoDependence, NoCycle, NoPair, NotRegular, OnlyZero, Plane, NotApplicable, Unknown}
 use Rattle.crn_cert.specs.declared.answer.Proof.{Proof}
 use Rattle.crn_cert.specs.declared.answer.Proof.TheVariants.{Nothing, Forest, Strong as StrongTrees, Back, Rank as RankRows, Ranks, Sides, Ties, One, Two}
 use Rattle.crn_cert.specs.declared.answer.RankProof.{RankProof}
 use Rattle.crn_cert.specs.Built.{built}
-use Rattle.crn_cert.specs.Questions.{Earlier, Question, Q1, Q2, Q3, Q4, Q5, Q6, Q7, Q8, Q9, Q10, Q11, Q12, Q13, Q14, Q15, number, on, labels_of, count_of, exits_of, rank_of, deficiencies_of, IsNo, IsOpen, IsYes}
+use Rattle.crn_cert.specs.Questions.{Earlier, Question, Q1, Q2, Q3, Q4, Q5, Q6, Q7, Q8, Q9, Q10, Q11, Q12, Q13, Q14, Q15, number, on, labels_of, count_of, exits_of, terminal_of, rank_of, deficiencies_of, vector_given, IsNo, IsOpen, IsYes}
 use Rattle.crn_cert.specs.Tests.{Test, test, AllHold, FailsFirst}
-use Rattle.crn_cert.specs.Formed.{IsFormedOf, IsRankProof, IsWideGap, IsBasisOf, AreClassProofs, AreSides}
+use Rattle.crn_cert.specs.Formed.{IsFormedOf, IsRankProof, IsWideGap, IsBasisOf, AreClassProofs, AreSides, IsSignalGap, AreShelves, AreSignalRows, IsSignalTree, AreSignalTrees}
 use Rattle.crn_cert.specs.ClassTests.{AreSideMarks}
 use Rattle.crn_cert.specs.ConfluenceTests.{IsInSpace, DoTerminalsGather, least_from, others_than, tie_tests}
-use Rattle.crn_cert.specs.Valid.{head_tests, row_tests, strong, linkage, linkage_count, exits, classes_to, HaveOneBefore, HaveOneEach, IsFirstSplit, WithDeficiencies, terminals_in, class_places, IsLeft, IsClassNumber, AreClassNumbers, IsFirstLarge, class_rank_tests, IsWithinTerminal, is_least_of_pair, pair_places, side_tests, IsNormal, IsApartAt, table_rows}
+use Rattle.crn_cert.specs.Valid.{head_tests, row_tests, strong, linkage, linkage_count, exits, classes_to, HaveOneBefore, HaveOneEach, IsFirstSplit, WithDeficiencies, terminals_in, class_places, IsLeft, IsClassNumber, AreClassNumbers, IsFirstLarge, class_rank_tests, IsWithinTerminal, is_least_of_pair, pair_places, side_tests, IsNormal, IsApartAt, IsSignalNode, table_rows}
+use Rattle.crn_cert.specs.Says.{by_turn}
+use Rattle.crn_cert.specs.Trees.{Plan, plan, node_count, IsFormedTree}
+use Rattle.crn_cert.specs.TreeTests.{tree_tests}
 use Rattle.crn_cert.specs.RankTests.{rank_tests}
 use Rattle.crn_cert.specs.Ranges.{IsFrom, AreFrom, AreFreeRows}
 use Rattle.crn_cert.specs.Law.{IsTrueOrOpen}
@@ -214,6 +219,22 @@ heads_12 net es (Plane first second one two) = ap (λ (A : Type 0). alone A) (ye
 heads_12 net es (Unknown gap) = refl
 heads_12 net es v = refl
 
+-- ---- heads on signals
+
+vector_tight : (v : Verdict) → vector_given (tight v) ≡ vector_given v
+vector_tight (Unknown gap) = refl
+vector_tight v = refl
+
+vector_known_tight : (es : Earlier) → vector_given (on (all_tight es) Q12) ≡ vector_given (on es Q12)
+vector_known_tight es = ap vector_given (on_tight es Q12) ∙ vector_tight (on es Q12)
+
+heads_13 : (net : Net) (es : Earlier) (v : Verdict) → head_tests net (all_tight es) Q13 (tight v) ≡ head_tests net es Q13 v
+heads_13 net es (YesSignal turn shelves mu level weights) = ap₂ (λ (known : Option (List ℤ)) (A : Type 0). alone (IsSome known × (turn ≡ negsuc 0 → A))) (vector_known_tight es) (yes_on es Q4)
+heads_13 net es No = ap (λ (known : Option (List ℤ)). alone (IsSome known)) (vector_known_tight es)
+heads_13 net es NotApplicable = ap₂ (λ (known : Option (List ℤ)) (A : Type 0). alone ((IsSome known → ⊥) × (A → ⊥))) (vector_known_tight es) (open_on es Q12)
+heads_13 net es (Unknown gap) = refl
+heads_13 net es v = refl
+
 pub head_tests_tight : (net : Net) (es : Earlier) (q : Question) (v : Verdict) → IsIn q built → head_tests net (all_tight es) q (tight v) ≡ head_tests net es q v
 head_tests_tight net es q v (inl is) = rw is refl
 head_tests_tight net es q v (inr (inl is)) = rw is refl
@@ -227,9 +248,10 @@ head_tests_tight net es q v (inr (inr (inr (inr (inr (inr (inr (inr (inl is)))))
 head_tests_tight net es q v (inr (inr (inr (inr (inr (inr (inr (inr (inr (inl is)))))))))) = rw is (heads_10 net es v)
 head_tests_tight net es q v (inr (inr (inr (inr (inr (inr (inr (inr (inr (inr (inl is))))))))))) = rw is (heads_11 net es v)
 head_tests_tight net es q v (inr (inr (inr (inr (inr (inr (inr (inr (inr (inr (inr (inl is)))))))))))) = rw is (heads_12 net es v)
-head_tests_tight net es q v (inr (inr (inr (inr (inr (inr (inr (inr (inr (inr (inr (inr (inl is))))))))))))) = rw is refl
+head_tests_tight net es q v (inr (inr (inr (inr (inr (inr (inr (inr (inr (inr (inr (inr (inl is))))))))))))) = rw is (heads_13 net es v)
 head_tests_tight net es q v (inr (inr (inr (inr (inr (inr (inr (inr (inr (inr (inr (inr (inr (inl is)))))))))))))) = rw is refl
-head_tests_tight net es q v (inr (inr (inr (inr (inr (inr (inr (inr (inr (inr (inr (inr (inr (inr none)))))))))))))) = absurd none
+head_tests_tight net es q v (inr (inr (inr (inr (inr (inr (inr (inr (inr (inr (inr (inr (inr (inr (inl is))))))))))))))) = rw is refl
+head_tests_tight net es q v (inr (inr (inr (inr (inr (inr (inr (inr (inr (inr (inr (inr (inr (inr (inr none))))))))))))))) = absurd none
 
 -- ---- records
 
@@ -335,6 +357,20 @@ rows_12 net es (Plane first second one two) p = alike _ _ (ap₂ (λ (A B : Type
 rows_12 net es (Unknown gap) p = alike _ _ refl
 rows_12 net es v p = alike _ _ refl
 
+-- the tests of a tree for the vector that is known, if one is, with a turn
+abbrev turned_tests : Net → ℤ → ℕ → Plan → Option (List ℤ) → List {1} Test
+turned_tests net turn part tree known = tree_tests (λ p said. IsSomeAnd known (λ g. IsSignalNode net (by_turn turn g) p said)) part [] tree
+
+rows_13 : (net : Net) (es : Earlier) (v : Verdict) (p : Proof) → row_tests net (all_tight es) Q13 (tight v) (tight_proof p) ≡ row_tests net es Q13 v p
+rows_13 net es (YesSignal turn shelves mu level weights) p =
+    ap (λ (known : Option (List ℤ)). test 4 45 (IsSomeAnd known (λ g. IsSignalOf net (by_turn turn g) (map sign shelves.list) mu.list level weights.list)) ∷ []) (vector_known_tight es)
+rows_13 net es No (One tree) = ap (turned_tests net (pos 1) 1 (plan tree)) (vector_known_tight es)
+rows_13 net es No (Two tree second) =
+    ap (λ (known : Option (List ℤ)). turned_tests net (pos 1) 1 (plan tree) known ++ turned_tests net (negsuc 0) (1 + node_count (plan tree)) (plan second) known) (vector_known_tight es)
+rows_13 net es No p = refl
+rows_13 net es (Unknown gap) p = refl
+rows_13 net es v p = refl
+
 rows_table : (net : Net) (table : List (List Sign)) (v : Verdict) (p : Proof) → table_rows net table (tight v) (tight_proof p) ≡ table_rows net table v p
 rows_table net table Yes (One tree) = refl
 rows_table net table Yes p = refl
@@ -355,9 +391,10 @@ row_tests_tight net es q v p (inr (inr (inr (inr (inr (inr (inr (inr (inl is))))
 row_tests_tight net es q v p (inr (inr (inr (inr (inr (inr (inr (inr (inr (inl is)))))))))) = rw is (alike _ _ refl)
 row_tests_tight net es q v p (inr (inr (inr (inr (inr (inr (inr (inr (inr (inr (inl is))))))))))) = rw is (alike _ _ (rows_11 net es v p))
 row_tests_tight net es q v p (inr (inr (inr (inr (inr (inr (inr (inr (inr (inr (inr (inl is)))))))))))) = rw is (rows_12 net es v p)
-row_tests_tight net es q v p (inr (inr (inr (inr (inr (inr (inr (inr (inr (inr (inr (inr (inl is))))))))))))) = rw is (alike _ _ (rows_table net (plain_table net) v p))
-row_tests_tight net es q v p (inr (inr (inr (inr (inr (inr (inr (inr (inr (inr (inr (inr (inr (inl is)))))))))))))) = rw is (alike _ _ (rows_table net (strong_table net) v p))
-row_tests_tight net es q v p (inr (inr (inr (inr (inr (inr (inr (inr (inr (inr (inr (inr (inr (inr none)))))))))))))) = absurd none
+row_tests_tight net es q v p (inr (inr (inr (inr (inr (inr (inr (inr (inr (inr (inr (inr (inl is))))))))))))) = rw is (alike _ _ (rows_13 net es v p))
+row_tests_tight net es q v p (inr (inr (inr (inr (inr (inr (inr (inr (inr (inr (inr (inr (inr (inl is)))))))))))))) = rw is (alike _ _ (rows_table net (plain_table net) v p))
+row_tests_tight net es q v p (inr (inr (inr (inr (inr (inr (inr (inr (inr (inr (inr (inr (inr (inr (inl is))))))))))))))) = rw is (alike _ _ (rows_table net (strong_table net) v p))
+row_tests_tight net es q v p (inr (inr (inr (inr (inr (inr (inr (inr (inr (inr (inr (inr (inr (inr (inr none))))))))))))))) = absurd none
 
 -- ---- forms
 
@@ -566,6 +603,67 @@ forms_12 net es (Plane first second one two) Nothing = (λ h. h, λ h. h)
 forms_12 net es (Plane first second one two) p = (λ h. absurd h.1, λ h. absurd h.1)
 forms_12 net es v p = (λ h. absurd h.0, λ h. absurd h.0)
 
+-- the number of terminal classes, in either list of verdicts
+terminal_tight : (v : Verdict) → terminal_of (tight v) ≡ terminal_of v
+terminal_tight (Unknown gap) = refl
+terminal_tight v = refl
+
+terminal_known_tight : (es : Earlier) → terminal_of (on (all_tight es) Q2) ≡ terminal_of (on es Q2)
+terminal_known_tight es = ap terminal_of (on_tight es Q2) ∙ terminal_tight (on es Q2)
+
+signal_gap_by : (net : Net) (e f : Earlier) → vector_given (on e Q12) ≡ vector_given (on f Q12) → pair_places net e ≡ pair_places net f → (system class index : ℕ) (basis : List ℕ) → IsSignalGap net e system class index basis → IsSignalGap net f system class index basis
+signal_gap_by net e f vector pairs system class index basis (inl h) = inl h
+signal_gap_by net e f vector pairs system class index basis (inr h) = inr (
+  h.0,
+  h.1,
+  subst (λ (known : Option (List ℤ)). IsSome known) vector h.2,
+  subst (λ (rs : List ℕ). IsBasisOf (length net.names + 1) (length net.complexes + length rs) index basis) pairs h.3,
+)
+
+signal_rows_by : (net : Net) (e f : Earlier) (shelves mu : List ℤ) (level : ℤ) (weights : List ℤ) → terminal_of (on e Q2) ≡ terminal_of (on f Q2) → AreSignalRows net e shelves mu level weights → AreSignalRows net f shelves mu level weights
+signal_rows_by net e f shelves mu level weights same h = record {
+  shelves_are = subst (λ (n : ℕ). AreShelves n shelves) same h.shelves_are;
+  mu_is = h.mu_is;
+  level_is = h.level_is;
+  weights_are = h.weights_are;
+}
+
+signal_tree_tight : (net : Net) (es : Earlier) (tree : Plan) → IsSignalTree net (all_tight es) tree ≡ IsSignalTree net es tree
+signal_tree_tight net es tree = ap₂ (λ (n : ℕ) (rs : List ℕ). IsFormedTree (n + length net.names) (length net.complexes + length rs) (length net.names) [] tree) (terminal_known_tight es) (pairs_tight net es)
+
+one_tree_tight : (net : Net) (es : Earlier) (tree : Plan) → AreSignalTrees net (all_tight es) (tree ∷ []) ≡ AreSignalTrees net es (tree ∷ [])
+one_tree_tight net es tree = ap₂ (λ (A B : Type 0). (A → ⊥) × B) (yes_on es Q4) (signal_tree_tight net es tree)
+
+two_trees_tight : (net : Net) (es : Earlier) (tree second : Plan) → AreSignalTrees net (all_tight es) (tree ∷ second ∷ []) ≡ AreSignalTrees net es (tree ∷ second ∷ [])
+two_trees_tight net es tree second =
+    ap₂ (λ (A B : Type 0). A × B × IsSignalTree net (all_tight es) second) (yes_on es Q4) (signal_tree_tight net es tree)
+    ∙ ap (λ (C : Type 0). IsYes (on es Q4) × IsSignalTree net es tree × C) (signal_tree_tight net es second)
+
+forms_13 : (net : Net) (es : Earlier) (v : Verdict) (p : Proof) → (IsFormedOf net (all_tight es) Q13 (tight v) (tight_proof p) ↔ IsFormedOf net es Q13 v p)
+forms_13 net es (Unknown (Wide system class index basis)) p = (
+  λ h. (signal_gap_by net (all_tight es) es (vector_known_tight es) (pairs_tight net es) system class index basis.list h.0, nothing p h.1),
+  λ h. (signal_gap_by net es (all_tight es) (sym (vector_known_tight es)) (sym (pairs_tight net es)) system class index basis.list h.0, ap tight_proof h.1),
+)
+forms_13 net es (Unknown (Budget nodes)) p = (λ h. (h.0, nothing p h.1), λ h. (h.0, ap tight_proof h.1))
+forms_13 net es (Unknown (Rests question)) p = (λ h. (h.0, nothing p h.1), λ h. (h.0, ap tight_proof h.1))
+forms_13 net es (YesSignal turn shelves mu level weights) Nothing = (
+  λ h. (h.0, signal_rows_by net (all_tight es) es shelves.list mu.list level weights.list (terminal_known_tight es) h.1),
+  λ h. (h.0, signal_rows_by net es (all_tight es) shelves.list mu.list level weights.list (sym (terminal_known_tight es)) h.1),
+)
+forms_13 net es (YesSignal turn shelves mu level weights) p = (λ h. absurd h.1, λ h. absurd h.1)
+forms_13 net es No (One tree) = (
+  λ h. (h.0, subst (λ (A : Type 0). A) (one_tree_tight net es (plan tree)) h.1),
+  λ h. (h.0, subst (λ (A : Type 0). A) (sym (one_tree_tight net es (plan tree))) h.1),
+)
+forms_13 net es No (Two tree second) = (
+  λ h. (h.0, subst (λ (A : Type 0). A) (two_trees_tight net es (plan tree) (plan second)) h.1),
+  λ h. (h.0, subst (λ (A : Type 0). A) (sym (two_trees_tight net es (plan tree) (plan second))) h.1),
+)
+forms_13 net es No p = (λ h. absurd h.1, λ h. absurd h.1)
+forms_13 net es NotApplicable Nothing = (λ h. h, λ h. h)
+forms_13 net es NotApplicable p = (λ h. absurd h.1, λ h. absurd h.1)
+forms_13 net es v p = (λ h. absurd h.0, λ h. absurd h.0)
+
 forms_14 : (net : Net) (es : Earlier) (v : Verdict) (p : Proof) → (IsFormedOf net (all_tight es) Q14 (tight v) (tight_proof p) ↔ IsFormedOf net es Q14 v p)
 forms_14 net es (Unknown (Wide system class index basis)) p = (λ h. (h.0, nothing p h.1), λ h. (h.0, ap tight_proof h.1))
 forms_14 net es (Unknown (Budget nodes)) p = (λ h. (h.0, nothing p h.1), λ h. (h.0, ap tight_proof h.1))
@@ -599,9 +697,10 @@ formed_tight net es q v p (inr (inr (inr (inr (inr (inr (inr (inr (inl is)))))))
 formed_tight net es q v p (inr (inr (inr (inr (inr (inr (inr (inr (inr (inl is)))))))))) = rw is (forms_10 net es v p)
 formed_tight net es q v p (inr (inr (inr (inr (inr (inr (inr (inr (inr (inr (inl is))))))))))) = rw is (forms_11 net es v p)
 formed_tight net es q v p (inr (inr (inr (inr (inr (inr (inr (inr (inr (inr (inr (inl is)))))))))))) = rw is (forms_12 net es v p)
-formed_tight net es q v p (inr (inr (inr (inr (inr (inr (inr (inr (inr (inr (inr (inr (inl is))))))))))))) = rw is (forms_14 net es v p)
-formed_tight net es q v p (inr (inr (inr (inr (inr (inr (inr (inr (inr (inr (inr (inr (inr (inl is)))))))))))))) = rw is (forms_15 net es v p)
-formed_tight net es q v p (inr (inr (inr (inr (inr (inr (inr (inr (inr (inr (inr (inr (inr (inr none)))))))))))))) = absurd none
+formed_tight net es q v p (inr (inr (inr (inr (inr (inr (inr (inr (inr (inr (inr (inr (inl is))))))))))))) = rw is (forms_13 net es v p)
+formed_tight net es q v p (inr (inr (inr (inr (inr (inr (inr (inr (inr (inr (inr (inr (inr (inl is)))))))))))))) = rw is (forms_14 net es v p)
+formed_tight net es q v p (inr (inr (inr (inr (inr (inr (inr (inr (inr (inr (inr (inr (inr (inr (inl is))))))))))))))) = rw is (forms_15 net es v p)
+formed_tight net es q v p (inr (inr (inr (inr (inr (inr (inr (inr (inr (inr (inr (inr (inr (inr (inr none))))))))))))))) = absurd none
 
 -- ---- truth
 

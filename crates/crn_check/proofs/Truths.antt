@@ -7,11 +7,11 @@ use Rattle.crn_cert.specs.declared.answer.Answer.{Answer}
 use Rattle.crn_cert.specs.declared.answer.Gap.TheVariants.{Wide, Budget, Rests}
 use Rattle.crn_cert.specs.declared.answer.Verdict.{Verdict}
 use Rattle.crn_cert.specs.declared.answer.Verdict.TheVariants.{Unknown}
-use Rattle.crn_cert.specs.Questions.{Earlier, Question, Q1, Q2, Q4, Q5, Q6, Q7, Q11, number, on}
+use Rattle.crn_cert.specs.Questions.{Earlier, Question, Q1, Q2, Q4, Q5, Q6, Q7, Q11, Q12, number, on}
 use Rattle.crn_cert.specs.Says.{IsTrueOf}
 use Rattle.crn_cert.specs.Formed.{IsFormed}
 use Rattle.crn_cert.specs.FormedVerdicts.{IsFormedVerdict}
-use Rattle.crn_cert.specs.Valid.{head_tests, row_tests}
+use Rattle.crn_cert.specs.Valid.{head_tests, row_tests, tests_of}
 use Rattle.crn_cert.specs.Tests.{AllHold}
 use Rattle.crn_cert.specs.Law.{IsTrueOrOpen, AreTrue, AreTrueOrOpen, known_for, rests_for}
 use Rattle.crn_cert.proofs.CallerLemmas.{valid_answers_are_true}
@@ -21,7 +21,7 @@ use Rattle.crn_check.proofs.Judging.{judges_go}
 use Rattle.crn_check.proofs.Forms.{formed_on, same_question}
 
 -- a verdict that is held is true of its question or open
-sound_on : (net : Net) (es : Earlier) (q : Question) → AllByRecursion (λ (e : Question × Verdict). IsTrueOrOpen net e.0 e.1) es → HoldsOn es (number q) → IsTrueOrOpen net q (on es q)
+pub sound_on : (net : Net) (es : Earlier) (q : Question) → AllByRecursion (λ (e : Question × Verdict). IsTrueOrOpen net e.0 e.1) es → HoldsOn es (number q) → IsTrueOrOpen net q (on es q)
 sound_on net [] q h held = absurd held
 sound_on net (e ∷ es) q h held = elim (cases_eq (number e.0) (number q)) [
   | inl is ↦
@@ -48,12 +48,12 @@ linkage_decided net e (Unknown (Budget nodes)) f h = absurd f.0
 linkage_decided net e (Unknown (Rests question)) f h = absurd f.0
 linkage_decided net e v f h = h
 
-linkage_true : (net : Net) (facts : KeptFacts) → AreFactsOf net facts → HoldsOn facts.earlier 1 → IsTrueOf net Q1 (on facts.earlier Q1)
+pub linkage_true : (net : Net) (facts : KeptFacts) → AreFactsOf net facts → HoldsOn facts.earlier 1 → IsTrueOf net Q1 (on facts.earlier Q1)
 linkage_true net facts h held =
     let f = formed_on net [] facts.earlier Q1 h.formed held in
     linkage_decided net f.0 (on facts.earlier Q1) f.1 (sound_on net facts.earlier Q1 h.sound held)
 
-strong_true : (net : Net) (facts : KeptFacts) → AreFactsOf net facts → HoldsOn facts.earlier 2 → IsTrueOf net Q2 (on facts.earlier Q2)
+pub strong_true : (net : Net) (facts : KeptFacts) → AreFactsOf net facts → HoldsOn facts.earlier 2 → IsTrueOf net Q2 (on facts.earlier Q2)
 strong_true net facts h held =
     let f = formed_on net [] facts.earlier Q2 h.formed held in
     strong_decided net f.0 (on facts.earlier Q2) f.1 (sound_on net facts.earlier Q2 h.sound held)
@@ -65,7 +65,7 @@ weak_decided net e (Unknown (Budget nodes)) f h = absurd f.0
 weak_decided net e (Unknown (Rests question)) f h = absurd f.0
 weak_decided net e v f h = h
 
-weak_true : (net : Net) (facts : KeptFacts) → AreFactsOf net facts → HoldsOn facts.earlier 4 → IsTrueOf net Q4 (on facts.earlier Q4)
+pub weak_true : (net : Net) (facts : KeptFacts) → AreFactsOf net facts → HoldsOn facts.earlier 4 → IsTrueOf net Q4 (on facts.earlier Q4)
 weak_true net facts h held =
     let f = formed_on net [] facts.earlier Q4 h.formed held in
     weak_decided net f.0 (on facts.earlier Q4) f.1 (sound_on net facts.earlier Q4 h.sound held)
@@ -96,9 +96,12 @@ knows net facts n (inr (inr (inr (inr (inr (inr (inr (inr (inr (inr (inl is)))))
 knows net facts n (inr (inr (inr (inr (inr (inr (inr (inr (inr (inr (inr (inl is)))))))))))) h needs =
     let held : HoldsNeeds facts.earlier 12 = subst (HoldsNeeds facts.earlier) is needs in
     rw is (linkage_true net facts h held.0, (strong_true net facts h held.1.0, (weak_true net facts h held.1.1.0, tt)))
-knows net facts n (inr (inr (inr (inr (inr (inr (inr (inr (inr (inr (inr (inr (inl is))))))))))))) h needs = rw is tt
+knows net facts n (inr (inr (inr (inr (inr (inr (inr (inr (inr (inr (inr (inr (inl is))))))))))))) h needs =
+    let held : HoldsNeeds facts.earlier 13 = subst (HoldsNeeds facts.earlier) is needs in
+    rw is (weak_true net facts h held.1.0, tt)
 knows net facts n (inr (inr (inr (inr (inr (inr (inr (inr (inr (inr (inr (inr (inr (inl is)))))))))))))) h needs = rw is tt
-knows net facts n (inr (inr (inr (inr (inr (inr (inr (inr (inr (inr (inr (inr (inr (inr none)))))))))))))) h needs = absurd none
+knows net facts n (inr (inr (inr (inr (inr (inr (inr (inr (inr (inr (inr (inr (inr (inr (inl is))))))))))))))) h needs = rw is tt
+knows net facts n (inr (inr (inr (inr (inr (inr (inr (inr (inr (inr (inr (inr (inr (inr (inr none))))))))))))))) h needs = absurd none
 
 -- the facts give what an open question rests on
 rests : (net : Net) (facts : KeptFacts) (n : ℕ) → IsBuilt n → AreFactsOf net facts → HoldsNeeds facts.earlier n → AreTrueOrOpen net (rests_for (asked n)) facts.earlier
@@ -124,10 +127,15 @@ rests net facts n (inr (inr (inr (inr (inr (inr (inr (inr (inr (inr (inl is)))))
 rests net facts n (inr (inr (inr (inr (inr (inr (inr (inr (inr (inr (inr (inl is)))))))))))) h needs =
     let held : HoldsNeeds facts.earlier 12 = subst (HoldsNeeds facts.earlier) is needs in
     rw is (sound_on net facts.earlier Q11 h.sound held.1.1.1.0, tt)
-rests net facts n (inr (inr (inr (inr (inr (inr (inr (inr (inr (inr (inr (inr (inl is))))))))))))) h needs = rw is tt
+rests net facts n (inr (inr (inr (inr (inr (inr (inr (inr (inr (inr (inr (inr (inl is))))))))))))) h needs =
+    let held : HoldsNeeds facts.earlier 13 = subst (HoldsNeeds facts.earlier) is needs in
+    rw is (sound_on net facts.earlier Q12 h.sound held.1.1.0, tt)
 rests net facts n (inr (inr (inr (inr (inr (inr (inr (inr (inr (inr (inr (inr (inr (inl is)))))))))))))) h needs = rw is tt
-rests net facts n (inr (inr (inr (inr (inr (inr (inr (inr (inr (inr (inr (inr (inr (inr none)))))))))))))) h needs = absurd none
+rests net facts n (inr (inr (inr (inr (inr (inr (inr (inr (inr (inr (inr (inr (inr (inr (inl is))))))))))))))) h needs = rw is tt
+rests net facts n (inr (inr (inr (inr (inr (inr (inr (inr (inr (inr (inr (inr (inr (inr (inr none))))))))))))))) h needs = absurd none
+
+pub answer_valid : (net : Net) (facts : KeptFacts) (n : ℕ) (a : Answer) → IsNetwork net → IsBuilt n → AreFactsOf net facts → HoldsNeeds facts.earlier n → IsFormed net facts.earlier (asked n) a → AllHold (tests_of net facts.earlier (asked n) a) → IsTrueOrOpen net (asked n) a.verdict
+answer_valid net facts n a network is h needs f valid = valid_answers_are_true (asked n) net facts.earlier a network (knows net facts n is h needs) (rests net facts n is h needs) f valid
 
 pub answer_true : (net : Net) (facts : KeptFacts) (n : ℕ) (a : Answer) → IsNetwork net → IsBuilt n → AreFactsOf net facts → HoldsNeeds facts.earlier n → IsFormed net facts.earlier (asked n) a → AllHold (head_tests net facts.earlier (asked n) a.verdict) → AllHold (row_tests net facts.earlier (asked n) a.verdict a.proof) → IsTrueOrOpen net (asked n) a.verdict
-answer_true net facts n a network is h needs f head rows =
-    valid_answers_are_true (asked n) net facts.earlier a network (knows net facts n is h needs) (rests net facts n is h needs) f (judges_go _ _ (Ok tt) head rows)
+answer_true net facts n a network is h needs f head rows = answer_valid net facts n a network is h needs f (judges_go _ _ (Ok tt) head rows)

@@ -48,3 +48,5 @@ pub record IsRoom (room : Room) : Type 0 where
   pub large_room : MAX_REACTIONS ≤ room.large.spare
   pub other_empty : room.other.list ≡ []
   pub other_room : MAX_REACTIONS ≤ room.other.spare
+  pub third_empty : room.third.list ≡ []
+  pub third_room : MAX_REACTIONS ≤ room.third.spare

@@ -2,12 +2,12 @@ ghost use Rattle.std.specs.Prelude.{◌≡◌, [], ◌∷◌, ◌++◌, OnOk, On
 ghost use Rattle.crn_vec.specs.Network.{IsNetwork};
 ghost use Rattle.crn_cert.specs.Formed.{HeadMayBe, IsFormed};
 ghost use Rattle.crn_cert.specs.Law.{IsTrueOrOpen};
+ghost use Rattle.crn_cert.specs.Questions.{Q13};
 ghost use Rattle.crn_cert.specs.Says.{IsTrueOf};
-ghost use Rattle.crn_cert.specs.declared.answer.Verdict.TheVariants.{Yes};
 ghost use Rattle.crn_cert.specs.Valid.{head_tests, row_tests, tests_of};
 ghost use Rattle.crn_check.specs.Verdicts.{tight};
 ghost use Rattle.crn_check.specs.Facts.{asked, HoldsNoneFrom, AreFactsOf};
-ghost use Rattle.crn_check.specs.Check.{AsksForTree, IsBuilt, HoldsNeeds, HoldsNoTree, Judges};
+ghost use Rattle.crn_check.specs.Check.{AsksForTree, IsBuilt, HoldsNeeds, HoldsNoSignal, HoldsNoTree, IsShapeFor, Judges, shown_by_tree};
 
 use crate::concordance::check_concordance;
 use crate::confluence::{check_confluence, check_confluence_head};
@@ -21,12 +21,14 @@ use crate::positive::{check_conservation, check_dependence};
 use crate::ranks::check_rank;
 use crate::regular::{check_regular, check_regular_head};
 use crate::reversible::{check_reverses, check_reversible_head};
+use crate::signal::{check_signal_head, check_signal_rows};
 use crate::strong::check_strong;
 use crate::weak::check_weak_head;
 use crate::zero::check_zero_head;
 use crn_cert::{Answer, Verdict};
 use crn_ctree::InfluenceTable;
 use crn_net::Network;
+use crn_shape::Shape;
 
 /// The tests of the head of a verdict, before the lists of its later records are read. It takes no memory.
 ///
@@ -52,11 +54,12 @@ pub fn check_head(
         10 => check_one_head(net, facts, verdict),
         11 => check_regular_head(net, facts, verdict),
         12 => check_confluence_head(facts, verdict),
+        13 => check_signal_head(facts, verdict),
         _ => Ok(()),
     }
 }
 
-// The tests of the records below a head.
+// The tests of the records below a head that are no tree and no signal.
 fn check_rows(
     net: &Network,
     facts: &Facts,
@@ -69,6 +72,7 @@ fn check_rows(
     requires needs { HoldsNeeds facts.now.earlier question }
     requires formed { IsFormed net.now facts.now.earlier (asked question) answer.now }
     requires treeless { AsksForTree question → HoldsNoTree answer.now.proof }
+    requires unsigned { question ≡ 13 → HoldsNoSignal answer.now.verdict }
     ensures { let now = answer.now in
         Judges (row_tests net.now facts.now.earlier (asked question) now.verdict now.proof) result }
 {
@@ -92,8 +96,8 @@ fn check_rows(
 /// it. It takes no memory.
 ///
 /// Questions are counted from 1. The facts hold verdicts accepted for this network, on earlier questions only. An answer
-/// that holds a tree is not for this call: a tree is checked node by node, and then `accept_tree` is for it. The fault
-/// names the first test that fails, the tests of the head first.
+/// that holds a tree is not for this call: a tree is checked node by node, and then `accept_tree` is for it. Nor is a
+/// signal: `check_signal_answer` is for it. The fault names the first test that fails, the tests of the head first.
 pub fn check_answer(
     net: &Network,
     facts: &mut Facts,
@@ -106,6 +110,7 @@ pub fn check_answer(
     requires later { HoldsNoneFrom question facts.old.earlier }
     requires formed { IsFormed net.now facts.old.earlier (asked question) answer.now }
     requires treeless { AsksForTree question → HoldsNoTree answer.now.proof }
+    requires unsigned { question ≡ 13 → HoldsNoSignal answer.now.verdict }
     ensures judged { let earlier = facts.old.earlier in
         Judges (tests_of net.now earlier (asked question) answer.now) result }
     ensures sound { OnOk result (IsTrueOrOpen net.now (asked question) answer.now.verdict) }
@@ -121,17 +126,59 @@ pub fn check_answer(
     Ok(())
 }
 
-/// Makes a yes that a tree shows one of the facts, as `check_answer` does with other answers. It takes no memory.
+/// The same as `check_answer` for an answer to question 13 that holds a signal, by the shape of the network and of the
+/// vector of question 12, or of its negative if that is the turn of the signal. It takes no memory.
+///
+/// The facts hold verdicts accepted for this network, on earlier questions only.
+pub fn check_signal_answer(
+    net: &Network,
+    shape: &Shape,
+    facts: &mut Facts,
+    answer: &Answer,
+) -> Result<(), CheckFault>
+    requires facts { AreFactsOf net.now facts.old }
+    requires needs { HoldsNeeds facts.old.earlier 13 }
+    requires later { HoldsNoneFrom 13 facts.old.earlier }
+    requires formed { IsFormed net.now facts.old.earlier Q13 answer.now }
+    requires shape { IsShapeFor net.now facts.old.earlier answer.now.verdict shape.now }
+    ensures judged { Judges (tests_of net.now facts.old.earlier Q13 answer.now) result }
+    ensures sound { OnOk result (IsTrueOrOpen net.now Q13 answer.now.verdict) }
+    ensures kept { OnOk result (facts.new.earlier
+        ≡ facts.old.earlier ++ (Q13, tight answer.now.verdict) ∷ []) }
+    ensures same { OnErr result (facts.new ≡ facts.old) }
+    ensures facts { AreFactsOf net.now facts.new }
+{
+    meets_definition(net);
+    check_head(net, facts, 13, &answer.verdict)?;
+    check_signal_rows(net, shape, &answer.verdict)?;
+    facts.accept(13, &answer.verdict);
+    Ok(())
+}
+
+// The verdict that trees show on a question.
+fn shown_verdict(question: u32) -> Verdict
+    requires { AsksForTree question }
+    ensures { result ≡ shown_by_tree (asked question) }
+{
+    match question {
+        13 => Verdict::No,
+        _ => Verdict::Yes,
+    }
+}
+
+/// Makes a verdict that trees show one of the facts, as `check_answer` does with other answers: a no to question 13, a
+/// yes to question 14 or 15. It takes no memory.
 ///
 /// Questions are counted from 1. The facts hold verdicts accepted for this network, on earlier questions only.
 pub fn accept_tree(net: &Network, facts: &mut Facts, question: u32)
     requires tree { AsksForTree question }
     requires facts { AreFactsOf net.now facts.old }
     requires later { HoldsNoneFrom question facts.old.earlier }
-    requires shown { IsTrueOf net.now (asked question) Yes }
-    ensures kept { facts.new.earlier ≡ facts.old.earlier ++ (asked question, Yes) ∷ [] }
+    requires shown { IsTrueOf net.now (asked question) (shown_by_tree (asked question)) }
+    ensures kept { let q = asked question in
+        facts.new.earlier ≡ facts.old.earlier ++ (q, shown_by_tree q) ∷ [] }
     ensures facts { AreFactsOf net.now facts.new }
 {
     let _ = net;
-    facts.accept(question, &Verdict::Yes);
+    facts.accept(question, &shown_verdict(question));
 }

@@ -29,6 +29,7 @@ struct Room {
     second: Nums,
     large: Ints,
     other: Ints,
+    third: Ints,
 }
 
 // Empty lists with memory for the lists of any verdict.
@@ -40,6 +41,7 @@ fn new_room(alloc: Global) -> Result<Room, NoMemory>
         second: Nums::with_room(alloc, MAX_REACTIONS)?,
         large: Ints::with_room(alloc, MAX_REACTIONS)?,
         other: Ints::with_room(alloc, MAX_REACTIONS)?,
+        third: Ints::with_room(alloc, MAX_REACTIONS)?,
     })
 }
 
@@ -125,6 +127,8 @@ fn copy(verdict: &Verdict) -> Verdict
         },
         Verdict::NoSum { sum } => Verdict::NoSum { sum: *sum },
         Verdict::NoDependence => Verdict::NoDependence,
+        Verdict::No => Verdict::No,
+        Verdict::NotApplicable => Verdict::NotApplicable,
         Verdict::NotRegular => Verdict::NotRegular,
         Verdict::OnlyZero => Verdict::OnlyZero,
         _ => Verdict::Yes,
@@ -140,6 +144,19 @@ fn keep_large(room: Room, verdict: &Verdict) -> Verdict
     match verdict {
         Verdict::YesVec { vector } => Verdict::YesVec {
             vector: fill_large(room.large, vector.as_slice()),
+        },
+        Verdict::YesSignal {
+            turn,
+            shelves,
+            mu,
+            m,
+            weights,
+        } => Verdict::YesSignal {
+            turn: *turn,
+            shelves: fill_large(room.large, shelves.as_slice()),
+            mu: fill_large(room.other, mu.as_slice()),
+            m: *m,
+            weights: fill_large(room.third, weights.as_slice()),
         },
         Verdict::NoVec { multipliers } => Verdict::NoVec {
             multipliers: fill_large(room.large, multipliers.as_slice()),

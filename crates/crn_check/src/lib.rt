@@ -24,6 +24,7 @@ mod regular;
 mod reverses;
 mod reversible;
 mod sides;
+mod signal;
 mod space;
 mod strong;
 mod terminals;
@@ -35,7 +36,7 @@ mod ways;
 mod weak;
 mod zero;
 
-pub use check::{accept_tree, check_answer, check_head};
+pub use check::{accept_tree, check_answer, check_head, check_signal_answer};
 pub use facts::Facts;
 pub use fault::CheckFault;
 pub use laws::checks_see_no_spares;

@@ -7,6 +7,7 @@ mod positive;
 mod ranks;
 mod regular;
 mod reversible;
+mod signals;
 mod steps;
 mod theorems;
 

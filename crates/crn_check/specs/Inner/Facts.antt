@@ -6,7 +6,7 @@ use Rattle.crn_vec.specs.Kept.{KeptInts, KeptNums}
 use Rattle.crn_cert.specs.declared.answer.Gap.{Gap}
 use Rattle.crn_cert.specs.declared.answer.Gap.TheVariants.{Wide}
 use Rattle.crn_cert.specs.declared.answer.Verdict.{Verdict}
-use Rattle.crn_cert.specs.declared.answer.Verdict.TheVariants.{Classes, Strong, Rank, Deficiency, Yes, YesWeak, YesVec, NoReaction, NoVec, NoNumber, NoTerminal, NoClass, NoSum, NoDependence, NoCycle, NoPair, NotRegular, OnlyZero, Plane, Unknown}
+use Rattle.crn_cert.specs.declared.answer.Verdict.TheVariants.{Classes, Strong, Rank, Deficiency, Yes, YesWeak, YesVec, YesSignal, No, NoReaction, NoVec, NoNumber, NoTerminal, NoClass, NoSum, NoDependence, NoCycle, NoPair, NotRegular, OnlyZero, Plane, NotApplicable, Unknown}
 
 -- the list has no more numbers than there is memory for
 abbrev pub HasFewNums : KeptNums → Type 0
@@ -31,6 +31,8 @@ HoldsNoList (NoTerminal class count) = Unit {0}
 HoldsNoList (NoClass class number) = Unit {0}
 HoldsNoList (NoSum sum) = Unit {0}
 HoldsNoList NoDependence = Unit {0}
+HoldsNoList No = Unit {0}
+HoldsNoList NotApplicable = Unit {0}
 HoldsNoList NotRegular = Unit {0}
 HoldsNoList OnlyZero = Unit {0}
 HoldsNoList other = ⊥
@@ -38,6 +40,8 @@ HoldsNoList other = ⊥
 -- the verdict is of a variant that is kept, and its lists are of large numbers and fit
 abbrev pub DoesLargeFit : Verdict → Type 0
 DoesLargeFit (YesVec vector) = HasFewInts vector
+DoesLargeFit (YesSignal turn shelves mu level weights) = HasFewInts shelves × HasFewInts mu
+    × HasFewInts weights
 DoesLargeFit (NoVec multipliers) = HasFewInts multipliers
 DoesLargeFit (NoPair alpha weights) = HasFewInts alpha × HasFewInts weights
 DoesLargeFit (Plane first second one two) = HasFewInts one × HasFewInts two

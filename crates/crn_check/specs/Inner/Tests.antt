@@ -1,19 +1,21 @@
 -- For the contracts of private functions alone.
 -- The tests of the answers to single questions, over plain lists.
 -- Shapes: labels, classes and reactions count from 1, complexes from 0.
-use Rattle.std.specs.Prelude.{◌≡◌, ◌≢◌, ◌≤◌, ◌<◌, ◌+◌, ◌⊎◌, ◌↔◌, Bool, IsTrue, ℕ, ℤ, List, [], ◌∷◌, ◌++◌, length, slice_index, sum}
+use Rattle.std.specs.Prelude.{◌≡◌, ◌≢◌, ◌≤◌, ◌<◌, ◌+◌, ◌⊎◌, ◌↔◌, Bool, IsTrue, ℕ, ℤ, List, [], ◌∷◌, ◌++◌, length, map, slice_index, sum}
 use Rattle.std.specs.List.{range_with_len}
 use Rattle.crn_vec.specs.Network.{Net}
 use Rattle.crn_vec.specs.NetSystems.{reaction_system}
-use Rattle.crn_vec.specs.Concordance.{IsDiscordant}
+use Rattle.crn_vec.specs.Concordance.{sign, IsDiscordant}
+use Rattle.crn_vec.specs.Signals.{Shape, IsShape, IsSignal}
 use Rattle.crn_vec.specs.declared.signs.Sign.{Sign}
 use Rattle.crn_vec.specs.Deficiency.{AreAtMostOne}
 use Rattle.crn_cert.specs.declared.answer.Verdict.{Verdict}
-use Rattle.crn_cert.specs.declared.answer.Verdict.TheVariants.{Yes, NoClass, NoSum, NoDependence, NoCycle}
+use Rattle.crn_cert.specs.declared.answer.Verdict.TheVariants.{Yes, NoClass, NoSum, NoDependence, NoCycle, YesSignal}
 use Rattle.crn_cert.specs.Questions.{Earlier, Q4, Q5, Q6, Q7, IsNo, IsOpen, IsYes, on, rank_of, deficiencies_of}
 use Rattle.crn_cert.specs.Says.{IsReactionNumber}
 use Rattle.crn_cert.specs.Valid.{IsLeft, AreClassNumbers, HaveOneEach, IsFirstSplit, IsFirstLarge, WithDeficiencies, linkage, linkage_count, IsWithinTerminal, IsNormal, IsApartAt}
 use Rattle.std.specs.Option.{IsSome}
+use Rattle.crn_cert.specs.Ranges.{AreFree, IsNarrow}
 use Rattle.crn_cert.specs.Tests.{Test, test}
 use Rattle.crn_cert.specs.ClassTests.{AreNumbered, AreEven, AreLinkTrees, AreFromTrees, AreToTrees, DoLevelsFall, AreAllExits, GoesOut, of_class, zeros_in, IsWayRound}
 use Rattle.crn_cert.specs.ConfluenceTests.{least_from, others_than, tie_tests}
@@ -148,3 +150,17 @@ plane_tests net earlier first second one two =
 abbrev pub pair_tests : Net → List (List Sign) → List ℤ → List ℤ → List Test
 pair_tests net table alpha weights =
     test 2 45 (IsDiscordant (reaction_system net) table alpha weights) ∷ []
+
+-- the verdict is a signal, and its lists have the lengths and ranges of one over the shape
+abbrev pub DoListsFit : Net → Shape → Verdict → Type 0
+DoListsFit net shape (YesSignal turn shelves mu level weights) = IsShape net shape
+    × (length shelves.list ≡ shape.count) × AreFree (length net.names) mu.list × IsNarrow level
+    × AreFree (length net.reactions) weights.list
+DoListsFit net shape other = ⊥
+
+-- the test of the lists of a signal, over a shape
+abbrev pub shape_tests : Net → Shape → Verdict → List Test
+shape_tests net shape (YesSignal turn shelves mu level weights) =
+    test 4 45 (IsSignal shape (reaction_system net) (map sign shelves.list) mu.list level
+    weights.list) ∷ []
+shape_tests net shape other = []

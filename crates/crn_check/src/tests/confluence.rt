@@ -2,6 +2,8 @@
 ghost use Rattle.std.specs.Prelude.{◌≡◌};
 ghost use Rattle.crn_cert.specs.Questions.{Q12};
 ghost use Rattle.crn_cert.specs.Formed.{IsFormed};
+ghost use Rattle.crn_cert.specs.declared.answer.Proof.TheVariants.{Sides};
+ghost use Rattle.crn_shape.specs.Sides.{AreSides};
 ghost use Rattle.crn_check.specs.Facts.{AreFactsOf, HoldsOn, HoldsNoneFrom};
 
 use super::known::{Known, LONG, PAIR, ROW};
@@ -11,13 +13,19 @@ use super::ranks::rows;
 use super::regular::yes_answer;
 use super::steps::{know, weak_known};
 use crate::deficiency::count_in;
+use crate::laws::meets_definition;
 use crate::{Facts, check_answer};
-use crn_cert::{Answer, Proof, Verdict};
+use crn_cert::{Answer, Gap, Proof, Rows, Verdict};
 use crn_net::Network;
 use std::process::Abort;
 
-// The facts before an answer on regularity, of a network whose every reaction has a reverse.
-fn dependence_known(rt: &(impl Abort + AllocGlobal), net: &Network, row: &Known) -> Facts
+// The facts before an answer on regularity; reaction `leaving` leaves its strong class, and none does if it is 0.
+fn dependence_known(
+    rt: &(impl Abort + AllocGlobal),
+    net: &Network,
+    row: &Known,
+    leaving: u32,
+) -> Facts
     ensures facts { AreFactsOf net.now result }
     ensures linkage { HoldsOn result.earlier 1 }
     ensures strong { HoldsOn result.earlier 2 }
@@ -25,37 +33,61 @@ fn dependence_known(rt: &(impl Abort + AllocGlobal), net: &Network, row: &Known)
     ensures dependence { HoldsOn result.earlier 7 }
     ensures later { HoldsNoneFrom 11 result.earlier }
 {
-    let mut facts = weak_known(rt, net, row, 0);
+    let mut facts = weak_known(rt, net, row, leaving);
     let answer = dependence_answer(rt, net, row.dependent, row.numbers);
     know(rt, net, &mut facts, 7, &answer);
     facts
 }
 
-// The facts of a regular network whose every reaction has a reverse.
-fn confluence_known(
-    rt: &(impl Abort + AllocGlobal),
-    net: &Network,
-    row: &Known,
-    sides: &[&[i128]],
-) -> Facts
-    ensures facts { AreFactsOf net.now result }
-    ensures linkage { HoldsOn result.earlier 1 }
-    ensures strong { HoldsOn result.earlier 2 }
-    ensures weak { HoldsOn result.earlier 4 }
-    ensures regular { HoldsOn result.earlier 11 }
-    ensures later { HoldsNoneFrom 12 result.earlier }
+// The sides of an answer.
+fn sides_in(rt: &(impl Abort + AllocGlobal), answer: Answer) -> Rows
+    ensures { answer.proof ≡ Sides result }
 {
-    let mut facts = dependence_known(rt, net, row);
-    let answer = yes_answer(rt, net, &facts, sides);
+    let Answer { proof, .. } = answer;
+    match proof {
+        Proof::Sides(sides) => sides,
+        _other => panic!(rt; "no sides"),
+    }
+}
+
+// The facts of a regular network, and the sides of its linked pairs within terminal classes.
+#[derive(Drop)]
+pub struct Sided {
+    pub facts: Facts,
+    pub sides: Rows,
+}
+
+fn sides_known(rt: &(impl Abort + AllocGlobal), net: &Network, case: &Case) -> Sided
+    ensures facts { AreFactsOf net.now result.facts }
+    ensures linkage { HoldsOn result.facts.earlier 1 }
+    ensures strong { HoldsOn result.facts.earlier 2 }
+    ensures weak { HoldsOn result.facts.earlier 4 }
+    ensures regular { HoldsOn result.facts.earlier 11 }
+    ensures later { HoldsNoneFrom 12 result.facts.earlier }
+    ensures sides { AreSides net.now result.sides }
+{
+    meets_definition(net);
+    let mut facts = dependence_known(rt, net, case.known, case.leaving);
+    let answer = yes_answer(rt, net, &facts, case.sides);
     know(rt, net, &mut facts, 11, &answer);
-    facts
+    let sides = sides_in(rt, answer);
+    Sided { facts, sides }
 }
 
 // What an answer says.
-enum Said {
+pub enum Said {
     Line(&'static [i128], &'static [&'static [i128]]),
     Zero(&'static [&'static [i128]]),
     Plane(u32, u32, &'static [i128], &'static [i128]),
+    Open,
+}
+
+// A regular network with the sides of its pairs, and its answer to question 12.
+pub struct Case {
+    pub known: &'static Known,
+    pub leaving: u32,
+    pub sides: &'static [&'static [i128]],
+    pub said: Said,
 }
 
 // A vector with its ties.
@@ -139,141 +171,197 @@ fn confluence_answer(
         Said::Plane(first, second, one, two) => {
             plane_answer(rt, net, facts, (*first, *second), (one, two))
         }
+        Said::Open => Answer {
+            verdict: Verdict::Unknown(Gap::Rests { question: 11 }),
+            proof: Proof::Nothing,
+        },
     }
 }
 
-// A regular network with the sides of its pairs, an answer and the place of its fault.
-struct Row {
-    known: &'static Known,
-    sides: &'static [&'static [i128]],
-    said: Said,
-    fault: (u32, u32),
-}
-
-fn confluence_place(rt: &(impl Abort + AllocGlobal), row: &Row) -> (u32, u32) {
-    let net = network(rt, row.known.reactions);
-    let mut facts = confluence_known(rt, &net, row.known, row.sides);
-    let answer = confluence_answer(rt, &net, &facts, &row.said);
+fn confluence_place(rt: &(impl Abort + AllocGlobal), case: &Case) -> (u32, u32) {
+    let net = network(rt, case.known.reactions);
+    let mut facts = sides_known(rt, &net, case).facts;
+    let answer = confluence_answer(rt, &net, &facts, &case.said);
     place(check_answer(&net, &mut facts, 12, &answer))
 }
 
-const PAIR_SIDES: &[&[i128]] = &[&[0, 1]];
+// The facts with the answer to question 12.
+pub fn case_known(rt: &(impl Abort + AllocGlobal), net: &Network, case: &Case) -> Sided
+    ensures facts { AreFactsOf net.now result.facts }
+    ensures strong { HoldsOn result.facts.earlier 2 }
+    ensures weak { HoldsOn result.facts.earlier 4 }
+    ensures confluence { HoldsOn result.facts.earlier 12 }
+    ensures later { HoldsNoneFrom 13 result.facts.earlier }
+    ensures sides { AreSides net.now result.sides }
+{
+    let mut sided = sides_known(rt, net, case);
+    let answer = confluence_answer(rt, net, &sided.facts, &case.said);
+    know(rt, net, &mut sided.facts, 12, &answer);
+    sided
+}
 
-const ROW_SIDES: &[&[i128]] = &[&[0, 1, 1], &[0, 0, 1]];
+pub const PAIR_SIDES: &[&[i128]] = &[&[0, 1]];
 
-const LONG_SIDES: &[&[i128]] = &[&[0, 1, 1, 1], &[0, 0, 1, 1], &[0, 0, 0, 1]];
+pub const ROW_SIDES: &[&[i128]] = &[&[0, 1, 1], &[0, 0, 1]];
 
-const ROWS: &[Row] = &[
+pub const LONG_SIDES: &[&[i128]] = &[&[0, 1, 1, 1], &[0, 0, 1, 1], &[0, 0, 0, 1]];
+
+const ROWS: &[(Case, (u32, u32))] = &[
     // a vector, and the ties of the other two complexes
-    Row {
-        known: &ROW,
-        sides: ROW_SIDES,
-        said: Said::Line(&[1, -2, 1], &[&[1, -3], &[1, -2]]),
-        fault: (0, 0),
-    },
+    (
+        Case {
+            known: &ROW,
+            leaving: 0,
+            sides: ROW_SIDES,
+            said: Said::Line(&[1, -2, 1], &[&[1, -3], &[1, -2]]),
+        },
+        (0, 0),
+    ),
     // twice the vector
-    Row {
-        known: &ROW,
-        sides: ROW_SIDES,
-        said: Said::Line(&[2, -4, 2], &[&[1, -3], &[1, -2]]),
-        fault: (35, 1),
-    },
+    (
+        Case {
+            known: &ROW,
+            leaving: 0,
+            sides: ROW_SIDES,
+            said: Said::Line(&[2, -4, 2], &[&[1, -3], &[1, -2]]),
+        },
+        (35, 1),
+    ),
     // its negative
-    Row {
-        known: &ROW,
-        sides: ROW_SIDES,
-        said: Said::Line(&[-1, 2, -1], &[&[1, -3], &[1, -2]]),
-        fault: (35, 1),
-    },
+    (
+        Case {
+            known: &ROW,
+            leaving: 0,
+            sides: ROW_SIDES,
+            said: Said::Line(&[-1, 2, -1], &[&[1, -3], &[1, -2]]),
+        },
+        (35, 1),
+    ),
     // zero
-    Row {
-        known: &ROW,
-        sides: ROW_SIDES,
-        said: Said::Line(&[0, 0, 0], &[&[1, -3], &[1, -2]]),
-        fault: (35, 1),
-    },
+    (
+        Case {
+            known: &ROW,
+            leaving: 0,
+            sides: ROW_SIDES,
+            said: Said::Line(&[0, 0, 0], &[&[1, -3], &[1, -2]]),
+        },
+        (35, 1),
+    ),
     // its amounts are not zero
-    Row {
-        known: &ROW,
-        sides: ROW_SIDES,
-        said: Said::Line(&[1, -1, 0], &[&[1, -3], &[1, -2]]),
-        fault: (35, 1),
-    },
+    (
+        Case {
+            known: &ROW,
+            leaving: 0,
+            sides: ROW_SIDES,
+            said: Said::Line(&[1, -1, 0], &[&[1, -3], &[1, -2]]),
+        },
+        (35, 1),
+    ),
     // its sum is not zero
-    Row {
-        known: &ROW,
-        sides: ROW_SIDES,
-        said: Said::Line(&[1, 1, -1], &[&[1, -3], &[1, -2]]),
-        fault: (35, 1),
-    },
+    (
+        Case {
+            known: &ROW,
+            leaving: 0,
+            sides: ROW_SIDES,
+            said: Said::Line(&[1, 1, -1], &[&[1, -3], &[1, -2]]),
+        },
+        (35, 1),
+    ),
     // the first tie is zero at its complex
-    Row {
-        known: &ROW,
-        sides: ROW_SIDES,
-        said: Said::Line(&[1, -2, 1], &[&[1, -2], &[1, -2]]),
-        fault: (35, 2),
-    },
+    (
+        Case {
+            known: &ROW,
+            leaving: 0,
+            sides: ROW_SIDES,
+            said: Said::Line(&[1, -2, 1], &[&[1, -2], &[1, -2]]),
+        },
+        (35, 2),
+    ),
     // the second is
-    Row {
-        known: &ROW,
-        sides: ROW_SIDES,
-        said: Said::Line(&[1, -2, 1], &[&[1, -3], &[1, -3]]),
-        fault: (35, 3),
-    },
+    (
+        Case {
+            known: &ROW,
+            leaving: 0,
+            sides: ROW_SIDES,
+            said: Said::Line(&[1, -2, 1], &[&[1, -3], &[1, -3]]),
+        },
+        (35, 3),
+    ),
     // a tie of each complex
-    Row {
-        known: &PAIR,
-        sides: PAIR_SIDES,
-        said: Said::Zero(&[&[1, 0, 0], &[0, 1, 0]]),
-        fault: (0, 0),
-    },
+    (
+        Case {
+            known: &PAIR,
+            leaving: 0,
+            sides: PAIR_SIDES,
+            said: Said::Zero(&[&[1, 0, 0], &[0, 1, 0]]),
+        },
+        (0, 0),
+    ),
     // the mark of the class is not zero at the other complex
-    Row {
-        known: &PAIR,
-        sides: PAIR_SIDES,
-        said: Said::Zero(&[&[0, 0, 1], &[0, 1, 0]]),
-        fault: (35, 1),
-    },
+    (
+        Case {
+            known: &PAIR,
+            leaving: 0,
+            sides: PAIR_SIDES,
+            said: Said::Zero(&[&[0, 0, 1], &[0, 1, 0]]),
+        },
+        (35, 1),
+    ),
     // the second tie is that of the first complex
-    Row {
-        known: &PAIR,
-        sides: PAIR_SIDES,
-        said: Said::Zero(&[&[1, 0, 0], &[1, 0, 0]]),
-        fault: (35, 2),
-    },
+    (
+        Case {
+            known: &PAIR,
+            leaving: 0,
+            sides: PAIR_SIDES,
+            said: Said::Zero(&[&[1, 0, 0], &[1, 0, 0]]),
+        },
+        (35, 2),
+    ),
     // the vector 1, -2, 1 has no tie of the first complex
-    Row {
-        known: &ROW,
-        sides: ROW_SIDES,
-        said: Said::Zero(&[&[1, -3], &[1, -3], &[1, -2]]),
-        fault: (35, 1),
-    },
+    (
+        Case {
+            known: &ROW,
+            leaving: 0,
+            sides: ROW_SIDES,
+            said: Said::Zero(&[&[1, -3], &[1, -3], &[1, -2]]),
+        },
+        (35, 1),
+    ),
     // two vectors that two complexes tell apart
-    Row {
-        known: &LONG,
-        sides: LONG_SIDES,
-        said: Said::Plane(1, 4, &[1, -2, 1, 0], &[0, 1, -2, 1]),
-        fault: (0, 0),
-    },
+    (
+        Case {
+            known: &LONG,
+            leaving: 0,
+            sides: LONG_SIDES,
+            said: Said::Plane(1, 4, &[1, -2, 1, 0], &[0, 1, -2, 1]),
+        },
+        (0, 0),
+    ),
     // the second is a multiple of the first
-    Row {
-        known: &LONG,
-        sides: LONG_SIDES,
-        said: Said::Plane(1, 4, &[1, -2, 1, 0], &[-1, 2, -1, 0]),
-        fault: (35, 2),
-    },
+    (
+        Case {
+            known: &LONG,
+            leaving: 0,
+            sides: LONG_SIDES,
+            said: Said::Plane(1, 4, &[1, -2, 1, 0], &[-1, 2, -1, 0]),
+        },
+        (35, 2),
+    ),
     // the first is not zero at the second complex
-    Row {
-        known: &LONG,
-        sides: LONG_SIDES,
-        said: Said::Plane(1, 4, &[1, -1, -1, 1], &[0, 1, -2, 1]),
-        fault: (35, 1),
-    },
+    (
+        Case {
+            known: &LONG,
+            leaving: 0,
+            sides: LONG_SIDES,
+            said: Said::Plane(1, 4, &[1, -1, -1, 1], &[0, 1, -2, 1]),
+        },
+        (35, 1),
+    ),
 ];
 
 #[test]
 fn confluence_vectors_are_tested(rt: HostRuntime) {
-    for row in ROWS {
-        assert!(rt; same(confluence_place(&rt, row), row.fault));
+    for (case, fault) in ROWS {
+        assert!(rt; same(confluence_place(&rt, case), *fault));
     }
 }

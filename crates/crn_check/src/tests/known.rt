@@ -200,3 +200,53 @@ pub const LONG: Known = Known {
     dependent: true,
     numbers: &[1, 1, 1, 1, 1, 1],
 };
+
+// One and two of a species, and three and four of it, each reaction with its reverse.
+pub const STACK: Known = Known {
+    reactions: &[(0, 52), (52, 0), (104, 156), (156, 104)],
+    linked: Linked {
+        count: 2,
+        label: &[1, 1, 2, 2],
+        up: &[0, 1, 0, 3],
+        depth: &[0, 1, 0, 1],
+        fault: (0, 0),
+    },
+    strong: Strong {
+        count: 2,
+        terminal: 2,
+        label: &[1, 1, 2, 2],
+        trees: [&[0, 1, 0, 3], &[0, 1, 0, 1], &[0, 2, 0, 4], &[0, 1, 0, 1]],
+        level: &[0, 0],
+        exit: &[0, 0],
+    },
+    dependent: true,
+    numbers: &[1, 1, 1, 1],
+};
+
+// The same with the two linkage classes in the other order.
+pub const TURNED: Known = Known {
+    reactions: &[(104, 156), (156, 104), (0, 52), (52, 0)],
+    ..STACK
+};
+
+// The same as the first without the reaction from two to one.
+pub const RISING: Known = Known {
+    reactions: &[(0, 52), (104, 156), (156, 104)],
+    linked: Linked {
+        count: 2,
+        label: &[1, 1, 2, 2],
+        up: &[0, 1, 0, 2],
+        depth: &[0, 1, 0, 1],
+        fault: (0, 0),
+    },
+    strong: Strong {
+        count: 3,
+        terminal: 2,
+        label: &[1, 2, 3, 3],
+        trees: [&[0, 0, 0, 2], &[0, 0, 0, 1], &[0, 0, 0, 3], &[0, 0, 0, 1]],
+        level: &[1, 0, 0],
+        exit: &[1, 0, 0],
+    },
+    dependent: true,
+    numbers: &[1, 1, 2],
+};

@@ -5,6 +5,7 @@ ghost use Rattle.crn_cert.specs.Questions.{Earlier, Q11};
 ghost use Rattle.crn_cert.specs.Ranges.{AreBits};
 ghost use Rattle.crn_cert.specs.Formed.{IsFormed, IsWalkList};
 ghost use Rattle.crn_cert.specs.Valid.{pair_places};
+ghost use Rattle.crn_cert.specs.declared.answer.Verdict.TheVariants.{Yes};
 ghost use Rattle.crn_check.specs.Facts.{AreFactsOf, HoldsOn};
 
 use super::known::{FORK, Known, LEFT, PAIR, ROW, STEP, TRIANGLE, regular_known};
@@ -68,7 +69,8 @@ pub fn yes_answer(
     sides: &[&[i128]],
 ) -> Answer
     requires { HoldsOn facts.now.earlier 2 }
-    ensures { IsFormed net.now facts.now.earlier Q11 result }
+    ensures yes { result.verdict ≡ Yes }
+    ensures formed { IsFormed net.now facts.now.earlier Q11 result }
 {
     assert!(rt; sides.len() == pairs(net, facts));
     Answer {

@@ -2,7 +2,9 @@
 ghost use Rattle.std.specs.Prelude.{◌≡◌, ◌<◌, ℕ, [], ◌∷◌, ◌++◌};
 ghost use Rattle.crn_cert.specs.Questions.{Earlier, Q4, number};
 ghost use Rattle.crn_cert.specs.Formed.{IsFormed};
-ghost use Rattle.crn_check.specs.Check.{AsksForTree, HoldsNeeds, HoldsNoTree, IsBuilt};
+ghost use Rattle.crn_cert.specs.Tests.{AllHold};
+ghost use Rattle.crn_cert.specs.Valid.{tests_of};
+ghost use Rattle.crn_check.specs.Check.{AsksForTree, HoldsNeeds, HoldsNoSignal, HoldsNoTree, IsBuilt};
 ghost use Rattle.crn_check.specs.Facts.{AreFactsOf, HoldsOn, HoldsNoneFrom, asked};
 ghost use Rattle.crn_check.specs.Verdicts.{tight};
 
@@ -29,6 +31,8 @@ fn accept(
     requires later { HoldsNoneFrom question facts.old.earlier }
     requires formed { IsFormed net.now facts.old.earlier (asked question) answer.now }
     requires treeless { AsksForTree question → HoldsNoTree answer.now.proof }
+    requires unsigned { question ≡ 13 → HoldsNoSignal answer.now.verdict }
+    ensures valid { AllHold (tests_of net.now facts.old.earlier (asked question) answer.now) }
     ensures kept { facts.new.earlier
         ≡ facts.old.earlier ++ (asked question, tight answer.now.verdict) ∷ [] }
     ensures facts { AreFactsOf net.now facts.new }
@@ -51,6 +55,8 @@ pub fn know(
     requires later { HoldsNoneFrom question facts.old.earlier }
     requires formed { IsFormed net.now facts.old.earlier (asked question) answer.now }
     requires treeless { AsksForTree question → HoldsNoTree answer.now.proof }
+    requires unsigned { question ≡ 13 → HoldsNoSignal answer.now.verdict }
+    ensures valid { AllHold (tests_of net.now facts.old.earlier (asked question) answer.now) }
     ensures facts { AreFactsOf net.now facts.new }
     ensures held { HoldsOn facts.new.earlier question }
     ensures stays { (n : ℕ) → HoldsOn facts.old.earlier n → HoldsOn facts.new.earlier n }

@@ -1,0 +1,97 @@
+-- The test of a signal is that of its lists over the shape of the network and of the vector of question 12 with its turn.
+use Rattle.std.proofs.Common.{◌≡◌, ◌∙◌, inl, inr, List, [], ◌∷◌, Result, Ok, Err, length, map, refl, ap, sym, subst}
+use Rattle.std.specs.Prelude.{ℤ, pos, negsuc, neg_ℤ, ◌*ℤ◌, ◌↔◌, Option, Some}
+use Rattle.std.specs.Option.{IsSomeAnd}
+use Rattle.crn_vec.specs.Network.{Net, IsNetwork}
+use Rattle.crn_vec.specs.Vectors.{column}
+use Rattle.crn_vec.specs.Linkage.{SameClass}
+use Rattle.crn_vec.specs.Confluence.{IsRegular, InConfluenceSpace, negative}
+use Rattle.crn_vec.specs.Concordance.{sign}
+use Rattle.crn_vec.specs.NetSystems.{reaction_system}
+use Rattle.crn_vec.specs.Signals.{Shape, IsSignal}
+use Rattle.crn_vec.specs.NetSignals.{IsShapeOf, IsSignalOf}
+use Rattle.crn_vec.proofs.CallerLemmas.{dot-scale, length-scale, negative_sum, signals_are_of_shape}
+use Rattle.crn_cert.specs.declared.answer.Answer.{Answer}
+use Rattle.crn_cert.specs.declared.answer.Verdict.{Verdict}
+use Rattle.crn_cert.specs.declared.answer.Verdict.TheVariants.{YesVec, YesSignal, Unknown}
+use Rattle.crn_cert.specs.declared.answer.Proof.{Proof}
+use Rattle.crn_cert.specs.Questions.{Earlier, Q2, Q12, Q13, on, vector_given}
+use Rattle.crn_cert.specs.Says.{IsTrueOf, by_turn}
+use Rattle.crn_cert.specs.FormedVerdicts.{IsFormedVerdict}
+use Rattle.crn_cert.specs.Tests.{AllHold, FailsFirst}
+use Rattle.crn_cert.specs.Law.{IsTrueOrOpen}
+use Rattle.crn_cert.specs.Valid.{head_tests, row_tests, tests_of}
+use Rattle.crn_cert.proofs.CallerLemmas.{shape_count}
+use Rattle.crn_check.specs.declared.fault.CheckFault.{CheckFault}
+use Rattle.crn_check.specs.Check.{IsShapeFor, Judges}
+use Rattle.crn_check.specs.Inner.Tests.{DoListsFit, shape_tests}
+use Rattle.crn_check.proofs.Judging.{judges_go}
+
+-- ---- the vector of question 12 with a turn
+
+negative_space : (net : Net) (g : List ℤ) → InConfluenceSpace net g → InConfluenceSpace net (negative g)
+negative_space net g s = record {
+  long = length-scale (neg_ℤ (pos 1)) g ∙ s.long;
+  balance = λ k. dot-scale (neg_ℤ (pos 1)) g (column net.complexes k) ∙ ap (λ (z : ℤ). neg_ℤ (pos 1) *ℤ z) (s.balance k);
+  classes = λ y lt. negative_sum g (SameClass net.reactions y) (pos 0) (s.classes y lt);
+}
+
+turned_space : (net : Net) (g : List ℤ) (turn : ℤ) → InConfluenceSpace net g → InConfluenceSpace net (by_turn turn g)
+turned_space net g (pos n) s = s
+turned_space net g (negsuc n) s = negative_space net g s
+
+-- the vector of question 12, of which this shape is that with the turn
+record VectorOf (net : Net) (v : Verdict) (turn : ℤ) (s : Shape) : Type 0 where
+  g : List ℤ
+  given : vector_given v ≡ Some g
+  regular : IsRegular net
+  space : InConfluenceSpace net (by_turn turn g)
+  shape : IsShapeOf net (by_turn turn g) s
+
+vector_of : (net : Net) (v : Verdict) (turn : ℤ) (s : Shape) → IsTrueOrOpen net Q12 v → IsSomeAnd (vector_given v) (λ g. IsShapeOf net (by_turn turn g) s) → VectorOf net v turn s
+vector_of net (YesVec vector) turn s h sh = record {
+  g = vector.list;
+  given = refl;
+  regular = h.0;
+  space = turned_space net vector.list turn h.2.confluence.space;
+  shape = sh;
+}
+vector_of net v turn s h sh = absurd sh
+
+-- ---- the lists over the shape
+
+pub lists_fit : (net : Net) (e : Earlier) (v : Verdict) (s : Shape) → IsTrueOf net Q2 (on e Q2) → IsTrueOrOpen net Q12 (on e Q12) → IsFormedVerdict net e Q13 v → IsShapeFor net e v s → DoListsFit net s v
+lists_fit net e (YesSignal turn shelves mu level weights) s classes conf f sh =
+    let k = vector_of net (on e Q12) turn s conf sh in (
+      k.shape.shape,
+      f.1.shelves_are.long ∙ sym (shape_count net e (by_turn turn k.g) s classes k.shape),
+      f.1.mu_is,
+      f.1.level_is,
+      f.1.weights_are,
+    )
+lists_fit net e v s classes conf f sh = absurd sh
+
+signal_by_shape : (net : Net) (e : Earlier) (s : Shape) (turn : ℤ) (shelves mu : List ℤ) (level : ℤ) (weights : List ℤ) → IsNetwork net → VectorOf net (on e Q12) turn s
+    → IsSignal s (reaction_system net) (map sign shelves) mu level weights ↔ IsSomeAnd (vector_given (on e Q12)) (λ g. IsSignalOf net (by_turn turn g) (map sign shelves) mu level weights)
+signal_by_shape net e s turn shelves mu level weights n k =
+    let of = signals_are_of_shape net (by_turn turn k.g) s n k.regular k.space k.shape in
+    subst (λ (o : Option (List ℤ)). IsSignal s (reaction_system net) (map sign shelves) mu level weights ↔ IsSomeAnd o (λ g. IsSignalOf net (by_turn turn g) (map sign shelves) mu level weights)) (sym k.given)
+    (of.of (map sign shelves) mu level weights, of.over (map sign shelves) mu level weights)
+
+pub rows_by_shape : (net : Net) (e : Earlier) (v : Verdict) (p : Proof) (s : Shape) (r : Result Unit CheckFault) → IsNetwork net → IsTrueOrOpen net Q12 (on e Q12) → IsShapeFor net e v s → Judges (shape_tests net s v) r → Judges (row_tests net e Q13 v p) r
+rows_by_shape net e (YesSignal turn shelves mu level weights) p s (Ok done) n conf sh h =
+    ((signal_by_shape net e s turn shelves.list mu.list level weights.list n (vector_of net (on e Q12) turn s conf sh)).0 h.0, tt)
+rows_by_shape net e (YesSignal turn shelves mu level weights) p s (Err fault) n conf sh h =
+    let by = signal_by_shape net e s turn shelves.list mu.list level weights.list n (vector_of net (on e Q12) turn s conf sh) in
+    elim h [ inl here ↦ inl ((λ is. here.0 (by.1 is)), here.1, here.2) | inr later ↦ absurd later.1 ]
+rows_by_shape net e v p s r n conf sh h = absurd sh
+
+-- all tests of the answer, where those of its head hold
+rows_judge : (net : Net) (e : Earlier) (a : Answer) (s : Shape) (r : Result Unit CheckFault) → IsNetwork net → IsTrueOrOpen net Q12 (on e Q12) → IsShapeFor net e a.verdict s → AllHold (head_tests net e Q13 a.verdict) → Judges (shape_tests net s a.verdict) r → Judges (tests_of net e Q13 a) r
+rows_judge net e a s r n conf sh heads h = judges_go (head_tests net e Q13 a.verdict) (row_tests net e Q13 a.verdict a.proof) r heads (rows_by_shape net e a.verdict a.proof s r n conf sh h)
+
+pub rows_hold : (net : Net) (e : Earlier) (a : Answer) (s : Shape) → IsNetwork net → IsTrueOrOpen net Q12 (on e Q12) → IsShapeFor net e a.verdict s → AllHold (head_tests net e Q13 a.verdict) → AllHold (shape_tests net s a.verdict) → AllHold (tests_of net e Q13 a)
+rows_hold net e a s n conf sh heads h = rows_judge net e a s (Ok tt) n conf sh heads h
+
+pub rows_stop : (net : Net) (e : Earlier) (a : Answer) (s : Shape) (r : Result Unit CheckFault) (f g : CheckFault) → IsNetwork net → IsTrueOrOpen net Q12 (on e Q12) → IsShapeFor net e a.verdict s → r ≡ Err f → f ≡ g → AllHold (head_tests net e Q13 a.verdict) → FailsFirst (shape_tests net s a.verdict) g.part g.code → Judges (tests_of net e Q13 a) r
+rows_stop net e a s r f g n conf sh is same heads h = subst (Judges (tests_of net e Q13 a)) (sym (is ∙ ap Err same)) (rows_judge net e a s (Err g) n conf sh heads h)
