@@ -2,18 +2,19 @@
 use Rattle.std.proofs.Common.{◌≡◌, ◌≤◌, ◌+◌, ◌-◌, ◌++◌, ◌∙◌, ℕ, zero, suc, Bool, true, false, ◌==◌, ◌&&◌, List, [], ◌∷◌, length, map, replicate, refl, sym, subst, ap, ap₂, inl, inr, arith, Result}
 use Rattle.std.specs.Prelude.{ℤ, if◌then◌else◌}
 use Rattle.std.specs.List.{AllByRecursion, AllZip, flat_map}
+use Rattle.std.proofs.lemmas.Bool.{eqb-true}
 use Rattle.std.proofs.lemmas.List.{length-map}
 use Rattle.crn_io.specs.Lines.{Place}
 use Rattle.crn_vec.specs.Network.{Net}
 use Rattle.crn_vec.specs.declared.limits.TheConstants.{MAX_COMPLEXES}
 use Rattle.crn_cert.specs.declared.answer.Verdict.{Verdict}
-use Rattle.crn_cert.specs.declared.answer.Verdict.TheVariants.{Yes}
+use Rattle.crn_cert.specs.declared.answer.Verdict.TheVariants.{No, Yes}
 use Rattle.crn_cert.specs.declared.answer.Proof.{Proof}
 use Rattle.crn_cert.specs.declared.answer.Proof.TheVariants.{Nothing}
 use Rattle.crn_cert.specs.declared.answer.Answer.{Answer}
-use Rattle.crn_cert.specs.Questions.{Earlier, Question, Q14, Q15}
+use Rattle.crn_cert.specs.Questions.{Earlier, Question, Q2, Q13, Q14, Q15, on, terminal_of}
 use Rattle.crn_cert.specs.Tests.{Test, AllHold, FailsFirst}
-use Rattle.crn_cert.specs.Valid.{exits, head_tests, linkage, linkage_count, row_tests, strong, tests_of}
+use Rattle.crn_cert.specs.Valid.{HasVector, exits, head_tests, linkage, linkage_count, row_tests, strong, tests_of}
 use Rattle.crn_pairs.specs.Pairs.{pairs_to}
 use Rattle.crn_cert.specs.Formed.{IsFormed, IsFormedOf}
 use Rattle.crn_ctext.specs.Records.{Record, Form, Fits}
@@ -30,7 +31,7 @@ use Rattle.crn_document.proofs.Steps.{step_map, step_then_is}
 use Rattle.crn_ctext.specs.Meaning.{Known, lists, problems_by, sizes_of, shapes_of, verdict_of, proof_of, meaning}
 use Rattle.crn_ctext.specs.Meaning as said
 use Rattle.crn_check.specs.Facts.{KeptFacts, asked}
-use Rattle.crn_check.specs.Check.{AsksForTree, IsBuilt}
+use Rattle.crn_check.specs.Check.{AsksForTree, IsBuilt, shown_by_tree, tree_place}
 use Rattle.crn_check.specs.Verdicts.{tight}
 use Rattle.crn_document.specs.declared.parts.Part.{Part}
 use Rattle.crn_document.specs.Inner.Answer.{IsHeadOf, verdict_at, verdict_of_head}
@@ -38,9 +39,9 @@ use Rattle.crn_document.specs.Inner.Answers.{FitAnswer, proof_of_head}
 use Rattle.crn_document.specs.Inner.Parts.{IsKnown, before, parts_below}
 use Rattle.crn_document.specs.Inner.Records.{AreRows, MayBeRow, fixed_rows, many_rows, part_rows, row_form, rows_below}
 use Rattle.crn_document.specs.declared.rows.Row.{Row}
-use Rattle.crn_document.specs.declared.rows.Row.TheVariants.{Comb, Dual, Side, Tie}
+use Rattle.crn_document.specs.declared.rows.Row.TheVariants.{Comb, Dual, M, Mu, Shelves, Side, Tie, Weights}
 use Rattle.crn_document.specs.Inner.Heads.{IsHead, known_of, class_count}
-use Rattle.crn_document.specs.Inner.Blocks.{HeadHolds, IsAfter, IsBlock, Learns, behind_at, behind_by, end_course, forms_below, head_course, many_after, parts_after, rows_course, tests_course}
+use Rattle.crn_document.specs.Inner.Blocks.{HeadHolds, IsAfter, IsBlock, Learns, after_at, after_by, end_course, forms_below, head_course, many_after, parts_after, rows_course, tests_course}
 use Rattle.crn_document.proofs.Fields.{part_within}
 use Rattle.crn_document.proofs.Ranks.{AreRanks, zip_length}
 use Rattle.crn_document.proofs.Heads.{said_facts}
@@ -103,15 +104,23 @@ sides_may : (pairs : List ℕ) → AllByRecursion MayBeRow (map (λ (r : ℕ). S
 sides_may [] = tt
 sides_may (r ∷ rs) = (tt, sides_may rs)
 
-many_may : (net : Net) (labels exits : List ℕ) (classes n place : ℕ) → classes ≤ MAX_COMPLEXES → AllByRecursion MayBeRow (many_rows net labels exits classes n place)
-many_may net labels exits classes n place few =
-    if_may (n == 11 && place == 1) _ _ (sides_may (pairs_to net labels exits (length net.reactions)))
-    (if_may (n == 12 && place == 1) _ _ (times_may (Tie classes) (length net.complexes - 1) few) (if_may (n == 12 && place == 3) _ _ (times_may (Tie classes) (length net.complexes) few) tt))
+and_cases : (a b : Bool) → (a && b) ≡ true → a ≡ true
+and_cases true b e = refl
+and_cases false b e = absurd cc
 
-pub rows_may : (net : Net) (labels exits : List ℕ) (classes n place : ℕ) (parts : List Part) → classes ≤ MAX_COMPLEXES → AreRanks parts → AllByRecursion MayBeRow (rows_below n place (many_rows net labels exits classes n place) parts)
-rows_may net labels exits classes n place parts few a =
-    let many = many_rows net labels exits classes n place in
-    join_may (fixed_rows n place) (many ++ flat_map part_rows parts) (fixed_may n place) (join_may many (flat_map part_rows parts) (many_may net labels exits classes n place few) (parts_may parts a))
+signal_may : (b : Bool) (terminal : ℕ) → (b ≡ true → terminal ≤ MAX_COMPLEXES) → AllByRecursion MayBeRow (if b then Shelves terminal ∷ Mu ∷ M ∷ Weights ∷ [] else [])
+signal_may true terminal few = (few refl, (tt, (tt, (tt, tt))))
+signal_may false terminal few = tt
+
+many_may : (net : Net) (labels exits : List ℕ) (terminal classes n place : ℕ) → (n ≡ 13 → terminal ≤ MAX_COMPLEXES) → classes ≤ MAX_COMPLEXES → AllByRecursion MayBeRow (many_rows net labels exits terminal classes n place)
+many_may net labels exits terminal classes n place most few =
+    if_may (n == 11 && place == 1) _ _ (sides_may (pairs_to net labels exits (length net.reactions)))
+    (if_may (n == 12 && place == 1) _ _ (times_may (Tie classes) (length net.complexes - 1) few) (if_may (n == 12 && place == 3) _ _ (times_may (Tie classes) (length net.complexes) few) (signal_may (n == 13 && place == 1) terminal (λ e. most (eqb-true n 13 (and_cases (n == 13) (place == 1) e))))))
+
+pub rows_may : (net : Net) (labels exits : List ℕ) (terminal classes n place : ℕ) (parts : List Part) → (n ≡ 13 → terminal ≤ MAX_COMPLEXES) → classes ≤ MAX_COMPLEXES → AreRanks parts → AllByRecursion MayBeRow (rows_below n place (many_rows net labels exits terminal classes n place) parts)
+rows_may net labels exits terminal classes n place parts most few a =
+    let many = many_rows net labels exits terminal classes n place in
+    join_may (fixed_rows n place) (many ++ flat_map part_rows parts) (fixed_may n place) (join_may many (flat_map part_rows parts) (many_may net labels exits terminal classes n place most few) (parts_may parts a))
 
 -- ---- what is known
 
@@ -170,7 +179,7 @@ other_answer : (P : Verdict → Proof → Type 0) (net : Net) (earlier : Earlier
 other_answer P net earlier n head rs a is p =
     subst (λ (v : Verdict). P v (said_proof net earlier n head rs)) is.verdict_is (subst (λ (w : Proof). P a.verdict w) is.proof_is p)
 
-pub answer_formed : (net : Net) (n : ℕ) (facts : KeptFacts) (head : List ℤ) (rows : List (List ℤ)) (h : Record) (rs : List Record) (a : Answer) → (AsksForTree n → said.number head 0 ≡ 1 → ⊥) → IsBuilt n → IsKnown net (before n) facts → HeadHolds net facts.earlier n head → IsBlock net facts.earlier n head rows h rs → IsAnswerOf net facts.earlier n head rs a → IsFormed net facts.earlier (asked n) a
+pub answer_formed : (net : Net) (n : ℕ) (facts : KeptFacts) (head : List ℤ) (rows : List (List ℤ)) (h : Record) (rs : List Record) (a : Answer) → (AsksForTree n → said.number head 0 ≡ tree_place n → ⊥) → IsBuilt n → IsKnown net (before n) facts → HeadHolds net facts.earlier n head → IsBlock net facts.earlier n head rows h rs → IsAnswerOf net facts.earlier n head rs a → IsFormed net facts.earlier (asked n) a
 answer_formed net n facts head rows h rs a other built known hold b is =
     let f = said_facts net n facts head h built known b.is_head in
     same_answer (λ v p. IsFormedOf net facts.earlier (asked n) v p) net facts.earlier n head rs a is (let g = f.formed in g rs other hold b.fit)
@@ -179,12 +188,24 @@ pub answer_holds : (net : Net) (earlier : Earlier) (n : ℕ) (head : List ℤ) (
 answer_holds net earlier n head rs a is h =
     other_answer (λ v p. AllHold (row_tests net earlier (asked n) v p)) net earlier n head rs a is (hold_after (head_tests net earlier (asked n) a.verdict) (row_tests net earlier (asked n) a.verdict a.proof) h)
 
+-- the tests of its head hold
+pub answer_heads : (net : Net) (n : ℕ) (facts : KeptFacts) (head : List ℤ) (rows : List (List ℤ)) (h : Record) (rs : List Record) (a : Answer) → IsBuilt n → IsKnown net (before n) facts → HeadHolds net facts.earlier n head → IsBlock net facts.earlier n head rows h rs → IsAnswerOf net facts.earlier n head rs a
+    → AllHold (head_tests net facts.earlier (asked n) a.verdict)
+answer_heads net n facts head rows h rs a built known hold b is =
+    let g = said_facts net n facts head h built known b.is_head in
+    subst (λ (v : Verdict). AllHold (head_tests net facts.earlier (asked n) v)) (sym is.verdict_is) (let s = g.heads_same in s rs hold)
+
+-- its verdict is as it is kept
+pub answer_tight : (net : Net) (n : ℕ) (facts : KeptFacts) (head : List ℤ) (rows : List (List ℤ)) (h : Record) (rs : List Record) (a : Answer) → IsBuilt n → IsKnown net (before n) facts → IsBlock net facts.earlier n head rows h rs → IsAnswerOf net facts.earlier n head rs a → tight a.verdict ≡ a.verdict
+answer_tight net n facts head rows h rs a built known b is =
+    let g = said_facts net n facts head h built known b.is_head in
+    ap tight is.verdict_is ∙ (let t = g.tight_is in t rs) ∙ sym is.verdict_is
+
 pub answer_fails : (net : Net) (n : ℕ) (facts : KeptFacts) (head : List ℤ) (rows : List (List ℤ)) (h : Record) (rs : List Record) (a : Answer) (part code : ℕ) → IsBuilt n → IsKnown net (before n) facts → HeadHolds net facts.earlier n head → IsBlock net facts.earlier n head rows h rs → IsAnswerOf net facts.earlier n head rs a
     → FailsFirst (tests_of net facts.earlier (asked n) a) part code → FailsFirst (row_tests net facts.earlier (asked n) (said_verdict n head rs) (said_proof net facts.earlier n head rs)) part code
 answer_fails net n facts head rows h rs a part code built known hold b is f =
-    let g = said_facts net n facts head h built known b.is_head in
     let earlier = facts.earlier in
-    let same : AllHold (head_tests net earlier (asked n) a.verdict) = subst (λ (v : Verdict). AllHold (head_tests net earlier (asked n) v)) (sym is.verdict_is) (let s = g.heads_same in s rs hold) in
+    let same = answer_heads net n facts head rows h rs a built known hold b is in
     other_answer (λ v p. FailsFirst (row_tests net earlier (asked n) v p) part code) net earlier n head rs a is (fail_after (head_tests net earlier (asked n) a.verdict) (row_tests net earlier (asked n) a.verdict a.proof) part code same f)
 
 pub answer_part : (net : Net) (n : ℕ) (facts : KeptFacts) (head : List ℤ) (rows : List (List ℤ)) (h : Record) (rs : List Record) (a : Answer) (part code : ℕ) → IsBuilt n → IsKnown net (before n) facts → HeadHolds net facts.earlier n head → IsBlock net facts.earlier n head rows h rs → IsAnswerOf net facts.earlier n head rs a
@@ -222,7 +243,16 @@ block_fails net n facts head rows h rs a line part code built known hold b is fa
     as_tests (λ d. course.FailsFirst d place (line + part) code) v p net earlier n line h rs (let s = f.said in s rs) (let s = f.shown in s rs) (let r = f.rows_are in r rs)
     (claims_fail line (row_tests net earlier (asked n) v p) part code place (answer_fails net n facts head rows h rs a part code built known hold b is fails))
 
--- ---- a yes that a tree shows
+-- ---- a verdict that trees show
+
+first_signal : (head : List ℤ) (rs : List Record) → IsHeadOf Q13 head → verdict_of_head Q13 head rs ≡ No → said.number head 0 ≡ 2
+first_signal head rs (zs, inl e) y = let f = subst (λ (x : List ℤ). verdict_of_head Q13 x rs ≡ No) e y in absurd cc
+first_signal head rs (zs, inr (inl e)) y = let f = subst (λ (x : List ℤ). verdict_of_head Q13 x rs ≡ No) e y in absurd cc
+first_signal head rs (zs, inr (inr (inl e))) y = ap (λ (x : List ℤ). said.number x 0) e
+first_signal head rs (zs, inr (inr (inr (inl e)))) y = let f = subst (λ (x : List ℤ). verdict_of_head Q13 x rs ≡ No) e y in absurd cc
+first_signal head rs (zs, inr (inr (inr (inr (inl e))))) y = let f = subst (λ (x : List ℤ). verdict_of_head Q13 x rs ≡ No) e y in absurd cc
+first_signal head rs (zs, inr (inr (inr (inr (inr (inl e)))))) y = let f = subst (λ (x : List ℤ). verdict_of_head Q13 x rs ≡ No) e y in absurd cc
+first_signal head rs (zs, inr (inr (inr (inr (inr (inr e)))))) y = let f = subst (λ (x : List ℤ). verdict_of_head Q13 x rs ≡ No) e y in absurd cc
 
 first_plain : (head : List ℤ) (rs : List Record) → IsHeadOf Q14 head → verdict_of_head Q14 head rs ≡ Yes → said.number head 0 ≡ 1
 first_plain head rs (zs, inl e) y = ap (λ (x : List ℤ). said.number x 0) e
@@ -236,87 +266,111 @@ first_strong head rs (zs, inr (inl e)) y = let f = subst (λ (x : List ℤ). ver
 first_strong head rs (zs, inr (inr (inl e))) y = let f = subst (λ (x : List ℤ). verdict_of_head Q15 x rs ≡ Yes) e y in absurd cc
 first_strong head rs (zs, inr (inr (inr e))) y = let f = subst (λ (x : List ℤ). verdict_of_head Q15 x rs ≡ Yes) e y in absurd cc
 
--- the head of a yes is of the first form
-pub yes_first : (n : ℕ) (head : List ℤ) (rs : List Record) → AsksForTree n → IsHeadOf (asked n) head → said_verdict n head rs ≡ Yes → said.number head 0 ≡ 1
-yes_first n head rs (inl e) is y = first_plain head rs (subst (λ (m : ℕ). IsHeadOf (asked m) head) e is) (subst (λ (m : ℕ). said_verdict m head rs ≡ Yes) e y)
-yes_first n head rs (inr e) is y = first_strong head rs (subst (λ (m : ℕ). IsHeadOf (asked m) head) e is) (subst (λ (m : ℕ). said_verdict m head rs ≡ Yes) e y)
+-- the head of such a verdict is of the form below which trees follow
+pub shown_first : (n : ℕ) (head : List ℤ) (rs : List Record) → AsksForTree n → IsHeadOf (asked n) head → said_verdict n head rs ≡ shown_by_tree (asked n) → said.number head 0 ≡ tree_place n
+shown_first n head rs (inl e) is y = first_signal head rs (subst (λ (m : ℕ). IsHeadOf (asked m) head) e is) (subst (λ (m : ℕ). said_verdict m head rs ≡ shown_by_tree (asked m)) e y) ∙ ap (λ (m : ℕ). tree_place m) (sym e)
+shown_first n head rs (inr (inl e)) is y = first_plain head rs (subst (λ (m : ℕ). IsHeadOf (asked m) head) e is) (subst (λ (m : ℕ). said_verdict m head rs ≡ shown_by_tree (asked m)) e y) ∙ ap (λ (m : ℕ). tree_place m) (sym e)
+shown_first n head rs (inr (inr e)) is y = first_strong head rs (subst (λ (m : ℕ). IsHeadOf (asked m) head) e is) (subst (λ (m : ℕ). said_verdict m head rs ≡ shown_by_tree (asked m)) e y) ∙ ap (λ (m : ℕ). tree_place m) (sym e)
 
--- that form says yes
-yes_said : (n : ℕ) (head : List ℤ) (rs : List Record) → AsksForTree n → said.number head 0 ≡ 1 → said_verdict n head rs ≡ Yes
-yes_said n head rs (inl e) one = subst (λ (m : ℕ). said_verdict m head rs ≡ Yes) (sym e) (subst (λ (k : ℕ). verdict_at Q14 k (later_numbers head) rs ≡ Yes) (sym one) refl)
-yes_said n head rs (inr e) one = subst (λ (m : ℕ). said_verdict m head rs ≡ Yes) (sym e) (subst (λ (k : ℕ). verdict_at Q15 k (later_numbers head) rs ≡ Yes) (sym one) refl)
+-- that form says the verdict, and the records below it have no tests but those of the trees
+record IsShownSaid (net : Net) (earlier : Earlier) (n : ℕ) (head : List ℤ) (rs : List Record) : Type 1 where
+  verdict : said_verdict n head rs ≡ shown_by_tree (asked n)
+  tests : row_tests net earlier (asked n) (said_verdict n head rs) (said_proof net earlier n head rs) ≡ []
 
--- and the records below it have no tests but those of the tree
-yes_tests : (net : Net) (earlier : Earlier) (n : ℕ) (head : List ℤ) (rs : List Record) → AsksForTree n → said.number head 0 ≡ 1 → row_tests net earlier (asked n) (said_verdict n head rs) (said_proof net earlier n head rs) ≡ []
-yes_tests net earlier n head rs (inl e) one = subst (λ (m : ℕ). row_tests net earlier (asked m) (said_verdict m head rs) (said_proof net earlier m head rs) ≡ []) (sym e) (subst (λ (k : ℕ). row_tests net earlier Q14 (verdict_at Q14 k (later_numbers head) rs) Nothing ≡ []) (sym one) refl)
-yes_tests net earlier n head rs (inr e) one = subst (λ (m : ℕ). row_tests net earlier (asked m) (said_verdict m head rs) (said_proof net earlier m head rs) ≡ []) (sym e) (subst (λ (k : ℕ). row_tests net earlier Q15 (verdict_at Q15 k (later_numbers head) rs) Nothing ≡ []) (sym one) refl)
+shown_said : (net : Net) (earlier : Earlier) (n : ℕ) (head : List ℤ) (rs : List Record) → AsksForTree n → said.number head 0 ≡ tree_place n → IsShownSaid net earlier n head rs
+shown_said net earlier n head rs (inl e) place =
+    let two : said.number head 0 ≡ 2 = place ∙ ap (λ (m : ℕ). tree_place m) e in
+    subst (λ (m : ℕ). IsShownSaid net earlier m head rs) (sym e) (record {
+      verdict = subst (λ (k : ℕ). verdict_at Q13 k (later_numbers head) rs ≡ No) (sym two) refl;
+      tests = subst (λ (k : ℕ). row_tests net earlier Q13 (verdict_at Q13 k (later_numbers head) rs) Nothing ≡ []) (sym two) refl;
+    })
+shown_said net earlier n head rs (inr (inl e)) place =
+    let one : said.number head 0 ≡ 1 = place ∙ ap (λ (m : ℕ). tree_place m) e in
+    subst (λ (m : ℕ). IsShownSaid net earlier m head rs) (sym e) (record {
+      verdict = subst (λ (k : ℕ). verdict_at Q14 k (later_numbers head) rs ≡ Yes) (sym one) refl;
+      tests = subst (λ (k : ℕ). row_tests net earlier Q14 (verdict_at Q14 k (later_numbers head) rs) Nothing ≡ []) (sym one) refl;
+    })
+shown_said net earlier n head rs (inr (inr e)) place =
+    let one : said.number head 0 ≡ 1 = place ∙ ap (λ (m : ℕ). tree_place m) e in
+    subst (λ (m : ℕ). IsShownSaid net earlier m head rs) (sym e) (record {
+      verdict = subst (λ (k : ℕ). verdict_at Q15 k (later_numbers head) rs ≡ Yes) (sym one) refl;
+      tests = subst (λ (k : ℕ). row_tests net earlier Q15 (verdict_at Q15 k (later_numbers head) rs) Nothing ≡ []) (sym one) refl;
+    })
+
+-- a no to question 13 whose head passes its tests stands over a vector
+pub vector_shown : (net : Net) (earlier : Earlier) (n : ℕ) (head : List ℤ) → n ≡ 13 → said.number head 0 ≡ tree_place n → HeadHolds net earlier n head → HasVector earlier
+vector_shown net earlier n head e place hold =
+    let two : said.number head 0 ≡ 2 = place ∙ ap (λ (m : ℕ). tree_place m) e in
+    let h : HeadHolds net earlier 13 head = subst (λ (m : ℕ). HeadHolds net earlier m head) e hold in
+    (subst (λ (k : ℕ). AllHold (head_tests net earlier Q13 (verdict_at Q13 k (later_numbers head) []))) two h).0
 
 -- no test of the records fails, and this is known after the block
-pub block_yes : (net : Net) (n : ℕ) (facts : KeptFacts) (head : List ℤ) (rows : List (List ℤ)) (h : Record) (rs : List Record) (new : Earlier) (line : ℕ) → IsBuilt n → IsKnown net (before n) facts → IsBlock net facts.earlier n head rows h rs → AsksForTree n → said.number head 0 ≡ 1 → new ≡ facts.earlier ++ (asked n, Yes) ∷ []
+pub block_shown : (net : Net) (n : ℕ) (facts : KeptFacts) (head : List ℤ) (rows : List (List ℤ)) (h : Record) (rs : List Record) (new : Earlier) (line : ℕ) → IsBuilt n → IsKnown net (before n) facts → IsBlock net facts.earlier n head rows h rs → AsksForTree n → said.number head 0 ≡ tree_place n → new ≡ facts.earlier ++ (asked n, shown_by_tree (asked n)) ∷ []
     → Learns net facts.earlier n new h rs × ((place : Place) → Gives (tests_course net facts.earlier n line h rs) place tt place)
-block_yes net n facts head rows h rs new line built known b tree one kept =
+block_shown net n facts head rows h rs new line built known b tree place kept =
     let earlier = facts.earlier in
     let f = said_facts net n facts head h built known b.is_head in
     let v = said_verdict n head rs in
     let p = said_proof net earlier n head rs in
+    let t = shown_said net earlier n head rs tree place in
     let said_is : verdict_of (asked n) (sizes_of (known_of net earlier)) h rs ≡ v = (let s = f.said in s rs) in
-    let same : new ≡ earlier ++ (asked n, verdict_of (asked n) (sizes_of (known_of net earlier)) h rs) ∷ [] = kept ∙ ap (λ (w : Verdict). earlier ++ (asked n, w) ∷ []) (sym (said_is ∙ yes_said n head rs tree one)) in (
+    let same : new ≡ earlier ++ (asked n, verdict_of (asked n) (sizes_of (known_of net earlier)) h rs) ∷ [] = kept ∙ ap (λ (w : Verdict). earlier ++ (asked n, w) ∷ []) (sym (said_is ∙ t.verdict)) in (
       ap (λ (es : Earlier). known_of net es) same,
       λ place. as_tests (λ d. Gives d place tt place) v p net earlier n line h rs said_is (let s = f.shown in s rs) (let r = f.rows_are in r rs)
-          (subst (λ (ts : List {1} Test). Gives (claims line ts) place tt place) (sym (yes_tests net earlier n head rs tree one)) (claims_hold line [] place tt)),
+          (subst (λ (ts : List {1} Test). Gives (claims line ts) place tt place) (sym t.tests) (claims_hold line [] place tt)),
     )
 
 -- the trees that are due after the records are those of the form of the head
-pub trees_due : (net : Net) (n : ℕ) (facts : KeptFacts) (head : List ℤ) (rows : List (List ℤ)) (h : Record) (rs : List Record) → IsBuilt n → IsKnown net (before n) facts → IsBlock net facts.earlier n head rows h rs → problems_by (asked n) net (said.number head 0) ≡ problems meaning (asked n) (known_of net facts.earlier) h
+pub trees_due : (net : Net) (n : ℕ) (facts : KeptFacts) (head : List ℤ) (rows : List (List ℤ)) (h : Record) (rs : List Record) → IsBuilt n → IsKnown net (before n) facts → IsBlock net facts.earlier n head rows h rs → problems_by (asked n) (known_of net facts.earlier) (said.number head 0) ≡ problems meaning (asked n) (known_of net facts.earlier) h
 trees_due net n facts head rows h rs built known b = let f = said_facts net n facts head h built known b.is_head in f.trees_are
 
 -- the tests of the records, and then the trees
 pub block_then : (net : Net) (earlier new : Earlier) (n line version place : ℕ) (table : List (List ℤ)) (h : Record) (rs : List Record) (blocks : List (List Record)) (result : Result (Unit {0}) CheckStop) (mid last : Reading) (between now : SourceSeen)
-    → problems_by (asked n) net place ≡ problems meaning (asked n) (known_of net earlier) h → Learns net earlier n new h rs → line + 1 + length rs ≡ mid.line → mid.version ≡ version
+    → problems_by (asked n) (known_of net earlier) place ≡ problems meaning (asked n) (known_of net earlier) h → Learns net earlier n new h rs → line + 1 + length rs ≡ mid.line → mid.version ≡ version
     → StepGives (tests_course net earlier n line h rs) tt mid.line mid.line mid.lines mid.lines between.left between.left
-    → StepIs (asks_trees mid.version table (problems_by (asked n) net place) mid.line) (λ t l. l ≡ last.line) result mid last between now
-    → StepIs (end_course version table (asked n) (behind_at net earlier line blocks) h rs) (λ t y. IsAfter net new (has_tree (problems_by (asked n) net place)) last.line y) result mid last between now
+    → StepIs (asks_trees mid.version table (problems_by (asked n) (known_of net earlier) place) mid.line) (λ t l. l ≡ last.line) result mid last between now
+    → StepIs (end_course version table (asked n) (after_at net earlier line blocks) h rs) (λ t y. IsAfter net new (has_tree (problems_by (asked n) (known_of net earlier) place)) last.line y) result mid last between now
 block_then net earlier new n line version place table h rs blocks result mid last between now trees learnt at v s q =
-    step_then_is (tests_course net earlier n line h rs) (λ x. asks_trees version table due (line + 1 + length rs) >>= (λ l. Give (behind l))) tt (λ t y. IsAfter net new by_tree last.line y) result mid mid last between between now s refl
-    (step_map (asks_trees version table due (line + 1 + length rs)) behind (λ t l. l ≡ last.line) (λ t y. IsAfter net new by_tree last.line y) result mid last between now more
+    step_then_is (tests_course net earlier n line h rs) (λ x. asks_trees version table due (line + 1 + length rs) >>= (λ l. Give (after l))) tt (λ t y. IsAfter net new by_tree last.line y) result mid mid last between between now s refl
+    (step_map (asks_trees version table due (line + 1 + length rs)) after (λ t l. l ≡ last.line) (λ t y. IsAfter net new by_tree last.line y) result mid last between now more
     (subst (λ (ps : List {1} Problem). StepIs (asks_trees version table ps (line + 1 + length rs)) (λ t l. l ≡ last.line) result mid last between now) trees
-    (subst (λ (k : ℕ). StepIs (asks_trees version table (problems_by (asked n) net place) k) (λ t l. l ≡ last.line) result mid last between now) (sym at)
-    (subst (λ (k : ℕ). StepIs (asks_trees k table (problems_by (asked n) net place) mid.line) (λ t l. l ≡ last.line) result mid last between now) v q))))
+    (subst (λ (k : ℕ). StepIs (asks_trees version table (problems_by (asked n) (known_of net earlier) place) k) (λ t l. l ≡ last.line) result mid last between now) (sym at)
+    (subst (λ (k : ℕ). StepIs (asks_trees k table (problems_by (asked n) (known_of net earlier) place) mid.line) (λ t l. l ≡ last.line) result mid last between now) v q))))
   where
     due : List {1} Problem
     due = problems meaning (asked n) (known_of net earlier) h
 
-    behind : ℕ → Behind Known
-    behind l = record { known = meaning.learn (asked n) (known_of net earlier) h rs; by_tree = has_tree due; line = l; blocks = blocks ++ (h ∷ rs) ∷ [] }
+    after : ℕ → Behind Known
+    after l = record { known = meaning.learn (asked n) (known_of net earlier) h rs; by_tree = has_tree due; line = l; blocks = blocks ++ (h ∷ rs) ∷ [] }
 
     by_tree : Bool
-    by_tree = has_tree (problems_by (asked n) net place)
+    by_tree = has_tree (problems_by (asked n) (known_of net earlier) place)
 
-    more : (t : Unit {0}) (l : ℕ) → l ≡ last.line → IsAfter net new by_tree last.line (behind l)
+    more : (t : Unit {0}) (l : ℕ) → l ≡ last.line → IsAfter net new by_tree last.line (after l)
     more t l e = (
       blocks ++ (h ∷ rs) ∷ [],
       ap (λ (ps : List {1} Problem). record { known = meaning.learn (asked n) (known_of net earlier) h rs; by_tree = has_tree ps; line = l; blocks = blocks ++ (h ∷ rs) ∷ [] }) (sym trees)
           ∙ ap (λ (k : Known). record { known = k; by_tree = by_tree; line = l; blocks = blocks ++ (h ∷ rs) ∷ [] }) (sym learnt)
-          ∙ ap (λ (k : ℕ). behind_by net new by_tree k (blocks ++ (h ∷ rs) ∷ [])) e,
+          ∙ ap (λ (k : ℕ). after_by net new by_tree k (blocks ++ (h ∷ rs) ∷ [])) e,
     )
 
 -- ---- after a head
 
 -- what is said of the course of these records is said of what is due below the head
 pub rows_course_by : (P : Course (Behind Known) → Type 0) (version : ℕ) (table : List (List ℤ)) (net : Net) (facts : KeptFacts) (n m line : ℕ) (head : List ℤ) (h : Record) (blocks : List (List Record)) → IsBuilt n → IsKnown net (before n) facts → IsHead net facts.earlier n head h → m + 1 ≡ line
-    → P (asks_all version line false (forms_below net facts.earlier n head) >>= (λ rows. end_course version table (asked n) (behind_at net facts.earlier m blocks) h rows)) → P (rows_course version table (asked n) (behind_at net facts.earlier m blocks) h)
+    → P (asks_all version line false (forms_below net facts.earlier n head) >>= (λ rows. end_course version table (asked n) (after_at net facts.earlier m blocks) h rows)) → P (rows_course version table (asked n) (after_at net facts.earlier m blocks) h)
 rows_course_by P version table net facts n m line head h blocks built known said next p =
     let earlier = facts.earlier in
     let f = said_facts net n facts head h built known said in
-    subst (λ (forms : List Form). P (asks_all version (m + 1) false forms >>= (λ rows. end_course version table (asked n) (behind_at net earlier m blocks) h rows))) (sym f.below_is)
-    (subst (λ (k : ℕ). P (asks_all version k false (forms_below net earlier n head) >>= (λ rows. end_course version table (asked n) (behind_at net earlier m blocks) h rows))) (sym next) p)
+    subst (λ (forms : List Form). P (asks_all version (m + 1) false forms >>= (λ rows. end_course version table (asked n) (after_at net earlier m blocks) h rows))) (sym f.below_is)
+    (subst (λ (k : ℕ). P (asks_all version k false (forms_below net earlier n head) >>= (λ rows. end_course version table (asked n) (after_at net earlier m blocks) h rows))) (sym next) p)
 
 -- the same course, by its tests
 abbrev head_by : List {1} Test → Net → Earlier → ℕ → List (List Record) → (version : ℕ) → List (List ℤ) → Question → Record → Course (Behind Known)
-head_by ts net earlier n blocks version table q h = claims n ts >>= (λ x. rows_course version table q (behind_at net earlier n blocks) h)
+head_by ts net earlier n blocks version table q h = claims n ts >>= (λ x. rows_course version table q (after_at net earlier n blocks) h)
 
 pub head_course_by : (P : Course (Behind Known) → Type 0) (version : ℕ) (table : List (List ℤ)) (net : Net) (facts : KeptFacts) (n m : ℕ) (head : List ℤ) (h : Record) (blocks : List (List Record)) → IsBuilt n → IsKnown net (before n) facts → IsHead net facts.earlier n head h
-    → P (claims m (head_tests net facts.earlier (asked n) (said_verdict n head [])) >>= (λ x. rows_course version table (asked n) (behind_at net facts.earlier m blocks) h)) → P (head_course version table (asked n) (behind_at net facts.earlier m blocks) h)
+    → P (claims m (head_tests net facts.earlier (asked n) (said_verdict n head [])) >>= (λ x. rows_course version table (asked n) (after_at net facts.earlier m blocks) h)) → P (head_course version table (asked n) (after_at net facts.earlier m blocks) h)
 head_course_by P version table net facts n m head h blocks built known said p =
     let earlier = facts.earlier in
     let f = said_facts net n facts head h built known said in
@@ -332,9 +386,9 @@ rows_block net earlier n head forms rows old h rs is none said r = record {
 }
 
 -- the forms of the records below a head, by what was computed of it
-pub forms_are : (net : Net) (earlier : Earlier) (n : ℕ) (head : List ℤ) (labels : List ℕ) (count k place : ℕ) (parts : List Part) (due : List Row) → labels ≡ linkage earlier → count ≡ linkage_count earlier → k ≡ class_count n head → place ≡ said.number head 0 → parts ≡ parts_below net labels n head → due ≡ rows_below n place (many_rows net (strong earlier) (exits earlier) count n place) parts → map (row_form net labels k) due ≡ forms_below net earlier n head
+pub forms_are : (net : Net) (earlier : Earlier) (n : ℕ) (head : List ℤ) (labels : List ℕ) (count k place : ℕ) (parts : List Part) (due : List Row) → labels ≡ linkage earlier → count ≡ linkage_count earlier → k ≡ class_count n head → place ≡ said.number head 0 → parts ≡ parts_below net labels n head → due ≡ rows_below n place (many_rows net (strong earlier) (exits earlier) (terminal_of (on earlier Q2)) count n place) parts → map (row_form net labels k) due ≡ forms_below net earlier n head
 forms_are net earlier n head labels count k place parts due lis cis kis pis tis dis =
-    ap (λ (rows : List Row). map (row_form net labels k) rows) (dis ∙ ap₂ (λ (t : List Part) (c : ℕ). rows_below n place (many_rows net (strong earlier) (exits earlier) c n place) t) tis cis)
+    ap (λ (rows : List Row). map (row_form net labels k) rows) (dis ∙ ap₂ (λ (t : List Part) (c : ℕ). rows_below n place (many_rows net (strong earlier) (exits earlier) (terminal_of (on earlier Q2)) c n place) t) tis cis)
     ∙ ap (λ (l : List ℕ). map (row_form net l k) (rows_below n place (many_after net earlier n place) (parts_below net l n head))) lis
     ∙ ap₂ (λ (j : ℕ) (p : ℕ). map (row_form net (linkage earlier) j) (rows_below n p (many_after net earlier n p) (parts_after net earlier n head))) kis pis
 

@@ -15,7 +15,7 @@ use Rattle.crn_ctext.specs.Meaning.{Known, meaning, verdicts_said}
 use Rattle.crn_ctext.specs.Steps.{StepGives}
 use Rattle.crn_document.specs.declared.reading.Reading.{Reading}
 use Rattle.crn_document.specs.declared.stop.CheckStop.{CheckStop}
-use Rattle.crn_document.specs.Inner.Blocks.{IsAfter, behind_at, behind_by}
+use Rattle.crn_document.specs.Inner.Blocks.{IsAfter, after_at, after_by}
 use Rattle.crn_document.specs.Inner.Courses.{IsSaidIn, body_course, last_course}
 use Rattle.crn_document.specs.Inner.Ending.{EndStepIs, LastIs, asks_end}
 use Rattle.crn_document.specs.Inner.Steps.{StopIs}
@@ -55,17 +55,17 @@ last_is c y Says (Err e) old before now says p = p
 
 -- what follows the shared lists
 abbrev pub after_table : (version line : ℕ) → Net → List Record → Course ReadOf
-after_table version line net table = asks_blocks meaning version (lists_of table) built (behind_at net [] (line + length table) []) >>= (λ behind.
+after_table version line net table = asks_blocks meaning version (lists_of table) built (after_at net [] (line + length table) []) >>= (λ behind.
     last_course version net behind)
 
 -- the blocks begin where nothing is known but the network
 pub blocks_begin : (P : Course (Behind Known) → Type 0) (version v line l : ℕ) (table : List (List ℤ)) (net : Net) (earlier : Earlier) (by_tree : Bool) → v ≡ version → l ≡ line → earlier ≡ [] → by_tree ≡ false
-    → P (asks_blocks meaning v table built (behind_by net earlier by_tree l [])) → P (asks_blocks meaning version table built (behind_at net [] line []))
+    → P (asks_blocks meaning v table built (after_by net earlier by_tree l [])) → P (asks_blocks meaning version table built (after_at net [] line []))
 blocks_begin P version v line l table net earlier by_tree same here none first p =
-    subst (λ (w : ℕ). P (asks_blocks meaning w table built (behind_at net [] line []))) same
-    (subst (λ (k : ℕ). P (asks_blocks meaning v table built (behind_at net [] k []))) here
-    (subst (λ (e : Earlier). P (asks_blocks meaning v table built (behind_at net e l []))) none
-    (subst (λ (b : Bool). P (asks_blocks meaning v table built (behind_by net earlier b l []))) first p)))
+    subst (λ (w : ℕ). P (asks_blocks meaning w table built (after_at net [] line []))) same
+    (subst (λ (k : ℕ). P (asks_blocks meaning v table built (after_at net [] k []))) here
+    (subst (λ (e : Earlier). P (asks_blocks meaning v table built (after_at net e l []))) none
+    (subst (λ (b : Bool). P (asks_blocks meaning v table built (after_by net earlier b l []))) first p)))
 
 -- what follows the blocks
 end_after : (version : ℕ) (net : Net) (earlier : Earlier) (by_tree : Bool) (verdicts : List Verdict) (y : Behind Known) (result : Result (Unit {0}) CheckStop) (last : Reading) (more now : SourceSeen)
@@ -85,7 +85,7 @@ pub parts_end : (net : Net) (earlier : Earlier) (by_tree : Bool) (verdicts : Lis
     → last.version ≡ old.version → map tight verdicts ≡ map (λ e. e.1) earlier
     → StepGives (asks_table old.version old.line) rs old.line mid.line old.lines mid.lines before.left between.left → between.faults ≡ before.faults
     → IsAfter net earlier by_tree last.line y
-    → StepGives (asks_blocks meaning old.version (lists_of rs) built (behind_at net [] (old.line + length rs) [])) y mid.line last.line mid.lines last.lines between.left more.left → more.faults ≡ between.faults
+    → StepGives (asks_blocks meaning old.version (lists_of rs) built (after_at net [] (old.line + length rs) [])) y mid.line last.line mid.lines last.lines between.left more.left → more.faults ≡ between.faults
     → ((read : ReadOf) → EndStepIs (asks_end last.version last.line by_tree read) read result last more now)
     → LastIs (body_course old.version old.line net) (λ t read. IsSaidIn net verdicts read) result old before now
 parts_end net earlier by_tree verdicts rs y result old mid last before between more now version kept p same after b quiet ends =
@@ -93,5 +93,5 @@ parts_end net earlier by_tree verdicts rs y result old mid last before between m
     let said : map (λ e. e.1) y.known.earlier ≡ verdicts_said built (meaning.start net) y.blocks = blocks_said (let g = b.gives in g []) in
     let all : map tight verdicts ≡ verdicts_said built (meaning.start net) y.blocks = kept ∙ ap (λ (z : Behind Known). map (λ e. e.1) z.known.earlier) (sym after.1) ∙ said in
     last_then (asks_table old.version old.line) (after_table old.version old.line net) rs (λ t read. IsSaidIn net verdicts read) result old mid before between now p same
-    (last_then (asks_blocks meaning old.version (lists_of rs) built (behind_at net [] (old.line + length rs) [])) (λ behind. last_course old.version net behind) y (λ t read. IsSaidIn net verdicts read) result mid last between more now b quiet
+    (last_then (asks_blocks meaning old.version (lists_of rs) built (after_at net [] (old.line + length rs) [])) (λ behind. last_course old.version net behind) y (λ t read. IsSaidIn net verdicts read) result mid last between more now b quiet
     (end_after old.version net earlier by_tree verdicts y result last more now version after all ends))

@@ -6,16 +6,16 @@ use Rattle.crn_io.specs.Lines.{Place, BreaksLine, document_too_long, line_too_lo
 use Rattle.crn_vec.specs.Network.{Net}
 use Rattle.crn_vec.specs.Influence.{plain_table, strong_table}
 use Rattle.crn_cert.specs.Built.{built}
-use Rattle.crn_cert.specs.Questions.{Earlier, Question, Q1, Q2, Q3, Q4, Q5, Q6, Q7, Q8, Q9, Q10, Q11, Q12, Q14, Q15}
+use Rattle.crn_cert.specs.Questions.{Earlier, Question, Q1, Q2, Q3, Q4, Q5, Q6, Q7, Q8, Q9, Q10, Q11, Q12, Q13, Q14, Q15}
 use Rattle.crn_cert.specs.Tests.{Test as Claim}
-use Rattle.crn_cert.specs.Valid.{class_rank_tests, confluence_head, confluence_rows, conservation_rows, deficiency_head, deficiency_rows, dependence_rows, linkage_rows, one_head, rank_rows, regular_head, regular_rows, reversible_head, reversible_rows, side_tests, strong_rows, table_rows, weak_head, zero_head}
+use Rattle.crn_cert.specs.Valid.{class_rank_tests, confluence_head, confluence_rows, conservation_rows, deficiency_head, deficiency_rows, dependence_rows, linkage_rows, one_head, rank_rows, regular_head, regular_rows, reversible_head, reversible_rows, side_tests, signal_head, signal_rows, strong_rows, table_rows, weak_head, zero_head}
 use Rattle.crn_cert.specs.ConfluenceTests.{tie_tests}
 use Rattle.crn_cert.specs.RankTests.{comb_tests, dual_tests, rank_tests}
 use Rattle.crn_cert.specs.declared.answer.Verdict.{Verdict}
 use Rattle.crn_cert.specs.declared.answer.Proof.{Proof}
 use Rattle.crn_cert.specs.declared.answer.RankProof.{RankProof}
 use Rattle.crn_cert.specs.declared.answer.Gap.{Gap}
-use Rattle.crn_cert.specs.declared.answer.Verdict.TheVariants.{Deficiency, NoClass, NoCycle, NoDependence, NoNumber, NoSum, NoTerminal, NoVec, NotRegular, OnlyZero, Plane, Rank, Unknown, Yes, YesVec, YesWeak}
+use Rattle.crn_cert.specs.declared.answer.Verdict.TheVariants.{Deficiency, NoClass, NoCycle, NoDependence, NoNumber, NoSum, NoTerminal, No, NoVec, NotApplicable, NotRegular, OnlyZero, Plane, Rank, Unknown, Yes, YesSignal, YesVec, YesWeak}
 use Rattle.crn_cert.specs.declared.answer.Proof.TheVariants.{Nothing, Rank as RankRows, Ranks, Sides, Ties}
 use Rattle.crn_ctext.specs.Records.{Record, Form}
 use Rattle.crn_ctext.specs.Kinds.{end_form, node_forms, section_form, table_form, vector_form}
@@ -30,7 +30,7 @@ use Rattle.crn_document.specs.Check.{CheckGives, HasFaultNumber, IsFaultNumber}
 use Rattle.crn_document.specs.declared.check.Accepted.{Accepted}
 use Rattle.crn_document.specs.declared.stop.CheckStop.{CheckStop}
 use Rattle.crn_document.specs.declared.stop.CheckStop.TheVariants as stop
-use Rattle.crn_document.specs.Inner.Blocks.{behind_at}
+use Rattle.crn_document.specs.Inner.Blocks.{after_at}
 use Rattle.crn_document.specs.Inner.Courses.{last_course, whole_course}
 use Rattle.crn_document.specs.Inner.Ending.{ends_with}
 use Rattle.crn_document.specs.Inner.Opening.{IsTitleOf, SaysCount, count_course, title_course}
@@ -295,6 +295,19 @@ strongly_numbered net s false g (suc zero) n rs = tt
 strongly_numbered net s false g (suc (suc zero)) n rs = (from_41 45 (omega arith) (omega arith), tt)
 strongly_numbered net s false g (suc (suc (suc k))) n rs = tt
 
+signal_head_numbered : (earlier : Earlier) (v : Verdict) → AreNumbered (signal_head earlier v)
+signal_head_numbered earlier (YesSignal turn shelves mu level weights) = (of_37, tt)
+signal_head_numbered earlier No = (of_37, tt)
+signal_head_numbered earlier NotApplicable = (of_37, tt)
+signal_head_numbered earlier v = tt
+
+signal_numbered : (net : Net) (earlier : Earlier) (s : Shapes) (t : Bool) (g : Gap) (place : ℕ) (n : List ℤ) (rs : List Record) → AreNumbered (signal_rows net earlier (if t then Unknown g else verdict_by Q13 place n rs) (if t then Nothing else proof_by Q13 s place n rs))
+signal_numbered net earlier s true g place n rs = tt
+signal_numbered net earlier s false g zero n rs = tt
+signal_numbered net earlier s false g (suc zero) n rs = (from_41 45 (omega arith) (omega arith), tt)
+signal_numbered net earlier s false g (suc (suc zero)) n rs = tt
+signal_numbered net earlier s false g (suc (suc (suc k))) n rs = tt
+
 -- what a block says
 abbrev verdict_in : Question → Known → Record → List Record → Verdict
 verdict_in q known h rs = verdict_of q (sizes_of known) h rs
@@ -317,6 +330,12 @@ third_numbered = record {
 fourth_numbered : IsNumberedFor Q4
 fourth_numbered = record { head = λ known h. weak_numbered known.net known.earlier (is_open h) (gap_of h) (place_of (heads Q4 (sizes_of known)) h.words) h.numbers; rows = λ known h rs. tt }
 
+signals_numbered : IsNumberedFor Q13
+signals_numbered = record {
+  head = λ known h. signal_head_numbered known.earlier (verdict_in Q13 known h []);
+  rows = λ known h rs. signal_numbered known.net known.earlier (shapes_of known) (is_open h) (gap_of h) (place_of (heads Q13 (sizes_of known)) h.words) h.numbers rs;
+}
+
 concordance_numbered : IsNumberedFor Q14
 concordance_numbered = record { head = λ known h. tt; rows = λ known h rs. plain_numbered known.net (shapes_of known) (is_open h) (gap_of h) (place_of (heads Q14 (sizes_of known)) h.words) h.numbers rs }
 
@@ -338,7 +357,7 @@ built_numbered = (
             record { head = λ known h. deficiency_head_numbered known.net known.earlier (verdict_in Q6 known h []); rows = λ known h rs. deficiency_numbered known.net known.earlier (verdict_in Q6 known h rs) (proof_in Q6 known h rs) },
             (
               record { head = λ known h. tt; rows = λ known h rs. dependence_numbered known.net (verdict_in Q7 known h rs) },
-              (record { head = λ known h. tt; rows = λ known h rs. conservation_numbered known.net (verdict_in Q8 known h rs) }, (record { head = λ known h. zero_numbered known.net known.earlier (verdict_in Q9 known h []); rows = λ known h rs. tt }, (record { head = λ known h. one_numbered known.earlier (verdict_in Q10 known h []); rows = λ known h rs. tt }, (record { head = λ known h. regular_head_numbered known.net known.earlier (verdict_in Q11 known h []); rows = λ known h rs. regular_numbered known.net known.earlier (verdict_in Q11 known h rs) (proof_in Q11 known h rs) }, (record { head = λ known h. confluence_head_numbered known.earlier (verdict_in Q12 known h []); rows = λ known h rs. confluence_numbered known.net known.earlier (verdict_in Q12 known h rs) (proof_in Q12 known h rs) }, (concordance_numbered, (strong_concordance_numbered, tt))))))),
+              (record { head = λ known h. tt; rows = λ known h rs. conservation_numbered known.net (verdict_in Q8 known h rs) }, (record { head = λ known h. zero_numbered known.net known.earlier (verdict_in Q9 known h []); rows = λ known h rs. tt }, (record { head = λ known h. one_numbered known.earlier (verdict_in Q10 known h []); rows = λ known h rs. tt }, (record { head = λ known h. regular_head_numbered known.net known.earlier (verdict_in Q11 known h []); rows = λ known h rs. regular_numbered known.net known.earlier (verdict_in Q11 known h rs) (proof_in Q11 known h rs) }, (record { head = λ known h. confluence_head_numbered known.earlier (verdict_in Q12 known h []); rows = λ known h rs. confluence_numbered known.net known.earlier (verdict_in Q12 known h rs) (proof_in Q12 known h rs) }, (signals_numbered, (concordance_numbered, (strong_concordance_numbered, tt)))))))),
             ),
           ),
         ),
@@ -465,7 +484,7 @@ whole_numbered =
     numbered_then (asks_lines count) (λ lines. find (2 + count) 22 Net (IsNetworkOf lines) >>= (λ net. after_network version count net)) (lines_numbered count) (λ lines.
     numbered_then (find (2 + count) 22 Net (IsNetworkOf lines)) (after_network version count) (find_numbered (2 + count) 22 Net (IsNetworkOf lines) of_22) (λ net.
     numbered_then (asks_table version (3 + count)) (after_table version (3 + count) net) (table_numbered version (3 + count)) (λ table.
-    numbered_then (asks_blocks meaning version (lists_of table) built (behind_at net [] (3 + count + length table) [])) (λ behind. last_course version net behind) (blocks_numbered version (lists_of table) built (behind_at net [] (3 + count + length table) []) built_numbered) (λ behind.
+    numbered_then (asks_blocks meaning version (lists_of table) built (after_at net [] (3 + count + length table) [])) (λ behind. last_course version net behind) (blocks_numbered version (lists_of table) built (after_at net [] (3 + count + length table) []) built_numbered) (λ behind.
     numbered_then (asks version behind.line behind.by_tree (end_form ∷ [])) (λ last. ends_with (record { net = net; blocks = behind.blocks })) (asks_numbered version behind.line behind.by_tree (end_form ∷ [])) (λ last.
     numbered_then ends (λ x. Give (record { net = net; blocks = behind.blocks })) ends_numbered (λ x. give_numbered (record { net = net; blocks = behind.blocks })))))))))
   where

@@ -55,7 +55,7 @@ part_within k (t ∷ ts) part code w (inr f) = part_within k ts part code w.1 f.
 pub small_list : (least greatest : ℕ) (zs : List ℤ) → greatest < 2 ^ 32 → AreBetween (pos least) (pos greatest) zs → AreSmall zs
 small_list least greatest [] lt b = tt
 small_list least greatest (negsuc n ∷ zs) lt b = absurd (omega (arith, ints, b.0.0))
-small_list least greatest (pos n ∷ zs) lt b = ((n, refl, omega (arith, ints, lt, b.0.1)), small_list least greatest zs lt b.1)
+small_list least greatest (pos n ∷ zs) lt b = (omega (arith, ints, lt, b.0.1), small_list least greatest zs lt b.1)
 
 pub form_small : (word : List ℕ) (count least greatest : ℕ) (r : Record) → greatest < 2 ^ 32 → Fits (small_form word count least greatest) r → AreSmall r.numbers
 form_small word count least greatest r lt f = let p = one_field (small count least greatest) r.numbers f.1 in small_list least greatest r.numbers lt p.0.1

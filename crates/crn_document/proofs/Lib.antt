@@ -4,6 +4,14 @@ mod CanonicalTexts
 mod Linkages
 mod Fields
 mod Ranks
+mod HeadFacts
+mod HeadsOfClasses
+mod HeadsOfRanks
+mod HeadsOfVectors
+mod HeadsOfTheorems
+mod HeadsOfConfluence
+mod HeadsOfSignals
+mod HeadsOfConcordance
 mod Heads
 mod Blocks
 mod Sections
@@ -23,3 +31,7 @@ mod DueTrees
 mod NodeRecords
 mod NodeWords
 mod TreesBelow
+mod SignalsKnown
+mod SignalTrees
+mod Kept
+mod SignalSaid

@@ -1,6 +1,6 @@
 -- The linkage classes that are known before a block, by the verdicts on all questions before it.
 use Rattle.std.proofs.Common.{◌≡◌, ◌≤◌, ◌<◌, ◌+◌, ◌-◌, ◌++◌, ◌∙◌, ℕ, zero, suc, Bool, true, false, List, [], ◌∷◌, length, map, drop, refl, sym, subst, ap, inl, inr, arith}
-use Rattle.std.specs.Prelude.{codes, filter}
+use Rattle.std.specs.Prelude.{codes, filter, ◌&&◌, ◌⊎◌}
 use Rattle.std.proofs.Common.{cond, ap₂, append_assoc, Result, Ok, Err, OnOk, Bor}
 use Rattle.std.specs.List.{AllByRecursion, range_with_len}
 use Rattle.std.proofs.lemmas.List.Elements.{filter-append}
@@ -12,7 +12,7 @@ use Rattle.crn_cert.specs.declared.answer.Gap.TheVariants.{Wide, Budget, Rests}
 use Rattle.crn_cert.specs.declared.answer.Verdict.{Verdict}
 use Rattle.crn_cert.specs.declared.answer.Verdict.TheVariants.{Classes, Strong, Unknown}
 use Rattle.crn_cert.specs.Built.{built}
-use Rattle.crn_cert.specs.Questions.{Earlier, Question, Q1, Q2, number, on, labels_of, count_of}
+use Rattle.crn_cert.specs.Questions.{Earlier, Question, Q1, Q2, number, on, labels_of, count_of, terminal_of}
 use Rattle.crn_cert.specs.FormedVerdicts.{IsFormedVerdict}
 use Rattle.crn_ctext.specs.Records.{Members}
 use Rattle.crn_ctext.specs.Kinds.{record_form}
@@ -24,7 +24,7 @@ use Rattle.crn_document.specs.declared.linkage.Linkage.{Linkage}
 use Rattle.crn_document.specs.Inner.Parts.{IsKnown, IsLinkage, before, class_counts, is_in_class, members_of}
 use Rattle.crn_document.specs.Inner.Heads.{FitsCounts, known_of}
 use Rattle.crn_document.specs.Inner.Records.{IsOwnDue}
-use Rattle.crn_cert.specs.Valid.{linkage, linkage_count, class_places, pair_places}
+use Rattle.crn_cert.specs.Valid.{ends_at, is_least_of_pair, is_within_terminal, linkage, linkage_count, class_places, pair_places}
 use Rattle.crn_ctext.specs.Meaning.{Known, lengths, pairs_by, pairs_of}
 
 -- the number of classes and the labels that a verdict on linkage classes says
@@ -59,7 +59,8 @@ holds_first net n facts (inr (inr (inr (inr (inr (inr (inr (inr (inr (inr (inl e
 holds_first net n facts (inr (inr (inr (inr (inr (inr (inr (inr (inr (inr (inr (inl e)))))))))))) differs k = first_of facts.earlier _ (k.so_far ∙ ap (λ (m : ℕ). before m) e)
 holds_first net n facts (inr (inr (inr (inr (inr (inr (inr (inr (inr (inr (inr (inr (inl e))))))))))))) differs k = first_of facts.earlier _ (k.so_far ∙ ap (λ (m : ℕ). before m) e)
 holds_first net n facts (inr (inr (inr (inr (inr (inr (inr (inr (inr (inr (inr (inr (inr (inl e)))))))))))))) differs k = first_of facts.earlier _ (k.so_far ∙ ap (λ (m : ℕ). before m) e)
-holds_first net n facts (inr (inr (inr (inr (inr (inr (inr (inr (inr (inr (inr (inr (inr (inr none)))))))))))))) differs k = absurd none
+holds_first net n facts (inr (inr (inr (inr (inr (inr (inr (inr (inr (inr (inr (inr (inr (inr (inl e))))))))))))))) differs k = first_of facts.earlier _ (k.so_far ∙ ap (λ (m : ℕ). before m) e)
+holds_first net n facts (inr (inr (inr (inr (inr (inr (inr (inr (inr (inr (inr (inr (inr (inr (inr (none)))))))))))))))) differs k = absurd none
 
 -- no class is known before the first block
 pub linkage_none : (net : Net) (n : ℕ) (facts : KeptFacts) (l : Linkage) → IsKnown net (before n) facts → n ≡ 1 → l.labels.now ≡ [] → l.count ≡ 0 → IsLinkage facts.earlier l
@@ -92,9 +93,10 @@ second_of [] qs is = absurd cc
 second_of (e ∷ []) qs is = absurd cc
 second_of (e ∷ f ∷ es) qs is = let same : f.0 ≡ Q2 = cc in inr (inl (sym (ap number same)))
 
--- the verdict on the second question is held before question 11
-pub holds_second : (net : Net) (n : ℕ) (facts : KeptFacts) → n ≡ 11 → IsKnown net (before n) facts → HoldsOn facts.earlier 2
-holds_second net n facts e k = second_of facts.earlier _ (k.so_far ∙ ap (λ (m : ℕ). before m) e)
+-- the verdict on the second question is held before questions 11 and 13
+pub holds_second : (net : Net) (n : ℕ) (facts : KeptFacts) → (n ≡ 11) ⊎ (n ≡ 13) → IsKnown net (before n) facts → HoldsOn facts.earlier 2
+holds_second net n facts (inl e) k = second_of facts.earlier _ (k.so_far ∙ ap (λ (m : ℕ). before m) e)
+holds_second net n facts (inr e) k = second_of facts.earlier _ (k.so_far ∙ ap (λ (m : ℕ). before m) e)
 
 strong_pairs : (net : Net) (e : Earlier) (known : Known) (v : Verdict) → IsFormedVerdict net e Q2 v → pairs_by known v ≡ pair_places known.net known.earlier
 strong_pairs net e known (Strong count terminal label exit) h = refl
@@ -103,11 +105,25 @@ strong_pairs net e known (Unknown (Budget nodes)) h = absurd h.0
 strong_pairs net e known (Unknown (Rests question)) h = absurd h.0
 strong_pairs net e known v h = absurd h.0
 
--- before question 11 the strong classes are known, and so are the linked pairs within terminal ones
-pub pairs_known : (net : Net) (n : ℕ) (facts : KeptFacts) → IsKnown net (before n) facts → n ≡ 11 → pairs_of (known_of net facts.earlier) ≡ pair_places net facts.earlier
+-- before questions 11 and 13 the strong classes are known, and so are the linked pairs within terminal ones
+pub pairs_known : (net : Net) (n : ℕ) (facts : KeptFacts) → IsKnown net (before n) facts → (n ≡ 11) ⊎ (n ≡ 13) → pairs_of (known_of net facts.earlier) ≡ pair_places net facts.earlier
 pairs_known net n facts k e =
     let f = formed_on net [] facts.earlier Q2 k.facts_of.formed (holds_second net n facts e k) in
     strong_pairs net f.0 (known_of net facts.earlier) (on facts.earlier Q2) f.1
+
+terminal_fits : (net : Net) (e : Earlier) (v : Verdict) → IsFormedVerdict net e Q2 v → terminal_of v ≤ length net.complexes
+terminal_fits net e (Strong count terminal label exit) h = (let a = h.0.0.1 in let b = h.0.1.1 in omega (arith, a, b))
+terminal_fits net e (Unknown (Wide system class index basis)) h = absurd h.0
+terminal_fits net e (Unknown (Budget nodes)) h = absurd h.0
+terminal_fits net e (Unknown (Rests question)) h = absurd h.0
+terminal_fits net e v h = absurd h.0
+
+-- and there are few terminal classes
+pub terminal_few : (net : Net) (n : ℕ) (facts : KeptFacts) → IsKnown net (before n) facts → n ≡ 13 → terminal_of (on facts.earlier Q2) ≤ MAX_COMPLEXES
+terminal_few net n facts k e =
+    let f = formed_on net [] facts.earlier Q2 k.facts_of.formed (holds_second net n facts (inr e) k) in
+    let t = terminal_fits net f.0 (on facts.earlier Q2) f.1 in
+    let limit = k.network.partial.complexes_limit in omega (arith, t, limit)
 
 -- ---- the members of a class, one reaction after another
 
@@ -129,6 +145,12 @@ le_cons false x xs ys l = omega (arith, l)
 filter_le : (p : ℕ → Bool) (xs : List ℕ) → length (filter p xs) ≤ length xs
 filter_le p [] = omega arith
 filter_le p (x ∷ xs) = le_cons (p x) x xs (filter p xs) (filter_le p xs)
+
+-- the linked pairs within terminal classes are some of the reactions
+pub pairs_few : (net : Net) (earlier : Earlier) → length (pair_places net earlier) ≤ length net.reactions
+pairs_few net earlier =
+    let l = length-range_with_len 1 (length net.reactions) in
+    let f = filter_le (λ r. is_within_terminal earlier (ends_at net r) && is_least_of_pair net r) (range_with_len 1 (length net.reactions)) in omega (arith, l, f)
 
 pub members_few : (net : Net) (labels : List ℕ) (k : ℕ) → length (members_of net labels k) ≤ length net.reactions
 members_few net labels k = let l = length-range_with_len 1 (length net.reactions) in let f = filter_le (λ r. is_in_class net labels k r) (range_with_len 1 (length net.reactions)) in omega (arith, l, f)
@@ -219,7 +241,8 @@ count_few net n facts (inr more) k =
     later_than (inr (inr (inr (inr (inr (inr (inr (inr (inr (inr (inl e))))))))))) d = absurd (omega (arith, d, e))
     later_than (inr (inr (inr (inr (inr (inr (inr (inr (inr (inr (inr (inl e)))))))))))) d = absurd (omega (arith, d, e))
     later_than (inr (inr (inr (inr (inr (inr (inr (inr (inr (inr (inr (inr (inl e))))))))))))) d = absurd (omega (arith, d, e))
-    later_than (inr (inr (inr (inr (inr (inr (inr (inr (inr (inr (inr (inr (inr none))))))))))))) d = none
+    later_than (inr (inr (inr (inr (inr (inr (inr (inr (inr (inr (inr (inr (inr (inl e)))))))))))))) d = absurd (omega (arith, d, e))
+    later_than (inr (inr (inr (inr (inr (inr (inr (inr (inr (inr (inr (inr (inr (inr (none))))))))))))))) d = none
 
 -- ---- how many reactions the classes have
 

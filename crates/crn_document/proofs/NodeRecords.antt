@@ -1,17 +1,16 @@
 -- Records of nodes, and the tests of nodes.
-use Rattle.std.proofs.Common.{◌≡◌, ◌++◌, ◌∙◌, ℕ, Bool, true, false, List, length, refl, sym, ap, subst, inl, inr, arith, Ok, Err, Option}
+use Rattle.std.proofs.Common.{◌≡◌, ◌++◌, ◌∙◌, ℕ, Bool, true, false, List, length, map, refl, sym, ap, subst, inl, inr, arith, Ok, Err, Option}
 use Rattle.std.specs.Prelude.{ℤ}
-use Rattle.std.proofs.lemmas.List.{length-map}
-use Rattle.std.proofs.lemmas.List.FromFn.{length-range_with_len}
-use Rattle.std.specs.List.{range_with_len}
+use Rattle.std.proofs.lemmas.List.{length-append, length-map}
 use Rattle.crn_vec.specs.declared.signs.Sign.{Sign}
 use Rattle.crn_vec.specs.Network.{Net}
-use Rattle.crn_vec.specs.NetSystems.{by_species}
-use Rattle.crn_vec.specs.Deficiency.{vectors}
-use Rattle.crn_vec.specs.Vectors.{column}
+use Rattle.crn_vec.specs.Signals.{complex_row, pair_row}
+use Rattle.crn_vec.proofs.CallerLemmas.{rows_count}
 use Rattle.crn_io.specs.Lines.{Place}
 use Rattle.crn_io.specs.Next.{KeptLines}
-use Rattle.crn_cert.specs.Nodes.{Splits, Flats, CutsA, CutsB}
+use Rattle.crn_cert.specs.Nodes.{AreNumbersFor, Splits, Flats, CutsA, CutsB}
+use Rattle.crn_cert.specs.Ranges.{AreFree}
+use Rattle.crn_ctree.proofs.CallerLemmas.{free_a, free_shape}
 use Rattle.crn_ctext.specs.Records.{Record, Form}
 use Rattle.crn_ctext.specs.Kinds.{node_forms}
 use Rattle.crn_ctext.specs.Course.{Course, Give, ◌>>=◌, due, Gives, FailsFirst}
@@ -27,6 +26,7 @@ use Rattle.crn_ctree.specs.Gives.{IsTaken, NodeGives, code_of}
 use Rattle.crn_ctree.specs.Due.{first, rest}
 use Rattle.crn_ctree.specs.Problem.{problem_of}
 use Rattle.crn_ctree.specs.declared.problem.Problem.{Problem as TreeProblem}
+use Rattle.crn_ctree.specs.declared.problem.Problem.TheVariants.{Concordance, Signals}
 use Rattle.crn_ctree.specs.declared.node.Step.{Step}
 use Rattle.crn_ctree.specs.declared.node.Step.TheVariants.{More, Complete}
 use Rattle.crn_ctree.specs.declared.fault.TreeFault.{TreeFault}
@@ -35,7 +35,7 @@ use Rattle.crn_io.specs.Device.{SourceSeen}
 use Rattle.crn_document.specs.declared.reading.Reading.{Reading}
 use Rattle.crn_document.specs.declared.stop.CheckStop.{CheckStop}
 use Rattle.crn_document.specs.Inner.Steps.{CanRead, StopIs}
-use Rattle.crn_document.specs.Inner.Trees.{ExpectsNode, IsNode, IsSaidAs, JudgeGives, Leaves, TakesSome, after_node, asks_node_for, asks_one, node_test, problem_in}
+use Rattle.crn_document.specs.Inner.Trees.{ExpectsNode, IsNode, IsSaidAs, JudgeGives, Leaves, TakesSome, after_node, asks_node_for, asks_one, choices_in, count_a, node_test, problem_in}
 use Rattle.crn_document.proofs.Steps.{stop_first, tests_fail, tests_give}
 
 -- ---- the node that is due
@@ -44,23 +44,40 @@ abbrev node_by : ℕ → ℕ → Bool → List Form → ℕ → Course Record
 node_by version n after forms mis = due true >>= (λ line. reads version n after forms mis line)
 
 -- what is said of the node that is due is said of the node of these forms
-pub as_node : (P : Course Record → Type 0) (e : Expect) (version n species shared : ℕ) → ExpectsNode e version species shared → P (asks_node_for e n) → P (asks_node version n (node_forms version species species shared))
-as_node P e version n species shared x p =
-    subst (λ (v : ℕ). P (node_by v n false (node_forms v species species shared) 43)) x.of_version
+pub as_node : (P : Course Record → Type 0) (e : Expect) (version n count species shared : ℕ) → ExpectsNode e version count species shared → P (asks_node_for e n) → P (asks_node version n (node_forms version count species shared))
+as_node P e version n count species shared x p =
+    subst (λ (v : ℕ). P (node_by v n false (node_forms v count species shared) 43)) x.of_version
     (subst (λ (d : Due). P (node_by e.version n (is_after d e.after_tree) (due_forms d e.version (sizes_of e.sizes)) (misplaced d))) x.due p)
 
 -- a node that was read
-pub node_said : (e : Expect) (version species shared : ℕ) (word : Word) (read : List ℤ) (r : Record) → ExpectsNode e version species shared → IsSaidAs e word read r → IsNode version species shared word read r
-node_said e version species shared word read r x s = record {
-  form = subst (λ (v : ℕ). IsOneOf (node_forms v species species shared) r) x.of_version (subst (λ (d : Due). IsOneOf (due_forms d e.version (sizes_of e.sizes)) r) x.due s.said.form);
+pub node_said : (e : Expect) (version count species shared : ℕ) (word : Word) (read : List ℤ) (r : Record) → ExpectsNode e version count species shared → IsSaidAs e word read r → IsNode version count species shared word read r
+node_said e version count species shared word read r x s = record {
+  form = subst (λ (v : ℕ). IsOneOf (node_forms v count species shared) r) x.of_version (subst (λ (d : Due). IsOneOf (due_forms d e.version (sizes_of e.sizes)) r) x.due s.said.form);
   kind = s.kind;
   numbers_are = s.said.numbers ∙ ap (λ (d : Due). tag_of d (sizes_of e.sizes) r ++ r.numbers) x.due;
 }
 
 -- ---- the test of a node
 
-rows_long : (net : Net) → length (by_species net (vectors net)) ≡ length net.names
-rows_long net = length-map (range_with_len 0 (length net.names)) (column (vectors net)) ∙ length-range_with_len 0 (length net.names)
+-- a prefix has as many choices as the sign problem
+choices_are : (net : Net) (problem : TreeProblem) → (problem_of net problem).choices ≡ choices_in net problem
+choices_are net (Concordance table) = rows_count net
+choices_are net (Signals shape) = refl
+
+-- a cut of each part has as many numbers as it has rows
+rows_of_a : (net : Net) (problem : TreeProblem) → length (problem_of net problem).matrix_a.rows ≡ count_a net problem
+rows_of_a net (Concordance table) = rows_count net
+rows_of_a net (Signals shape) =
+    let s = shape.now in omega (arith, length-append (map complex_row s.complexes) (map (pair_row s) s.pairs), length-map s.complexes complex_row, length-map s.pairs (pair_row s))
+
+rows_of_b : (net : Net) (problem : TreeProblem) → length (problem_of net problem).matrix_b.rows ≡ length net.names
+rows_of_b net (Concordance table) = rows_count net
+rows_of_b net (Signals shape) = rows_count net
+
+-- numbers of a certificate, as many as a cut of part A has, are those of a cut
+pub cut_a_fits : (net : Net) (problem : TreeProblem) (u : List ℤ) → AreFree (count_a net problem) u → AreNumbersFor (problem_of net problem) (CutsA u)
+cut_a_fits net (Concordance table) u h = free_a net table u h
+cut_a_fits net (Signals shape) u h = free_shape net shape.now u h
 
 -- a node that is taken passes its test, and leaves what is due after it
 pub record Passes (net : Net) (problem : TreeProblem) (n : ℕ) (due : List (List Sign)) (node : Node) (step : Step) (after : List (List Sign)) : Type 0 where
@@ -76,7 +93,7 @@ taken_leaves net problem due after node Complete g = g
 pub passes : (net : Net) (problem : TreeProblem) (n : ℕ) (due after : List (List Sign)) (node : Node) (step : Step) → JudgeGives (problem_of net problem) due node after (Ok step) → Passes net problem n due node step after
 unfolding Gives
 passes net problem n due after Split step g = let t = taken_leaves net problem due after Splits step g in record {
-  gives = λ at. (tt, omega (arith, t.0.fits, rows_long net), (refl, refl));
+  gives = λ at. (tt, omega (arith, t.0.fits, choices_are net problem), (refl, refl));
   after_it = t.0.behind_it;
   leaves = t.1;
   taken = (Splits, t.0);
@@ -84,14 +101,14 @@ passes net problem n due after Split step g = let t = taken_leaves net problem d
 passes net problem n due after Flat step g = let t = taken_leaves net problem due after Flats step g in record { gives = λ at. (tt, t.0.fits, (refl, refl)); after_it = t.0.behind_it; leaves = t.1; taken = (Flats, t.0) }
 passes net problem n due after (CutA false u) step g = let t = taken_leaves net problem due after (CutsA u) step g in record { gives = λ at. (tt, (λ e. absurd cc), (tt, t.0.fits, (refl, refl))); after_it = t.0.behind_it; leaves = t.1; taken = (CutsA u, t.0) }
 passes net problem n due after (CutB false u) step g = let t = taken_leaves net problem due after (CutsB u) step g in record { gives = λ at. (tt, (λ e. absurd cc), (tt, t.0.fits, (refl, refl))); after_it = t.0.behind_it; leaves = t.1; taken = (CutsB u, t.0) }
-passes net problem n due after (CutA true u) step g = let t = taken_leaves net problem due after (CutsA u) step g.1 in record { gives = λ at. (tt, (λ e. g.0 ∙ rows_long net), (tt, t.0.fits, (refl, refl))); after_it = t.0.behind_it; leaves = t.1; taken = (CutsA u, t.0) }
-passes net problem n due after (CutB true u) step g = let t = taken_leaves net problem due after (CutsB u) step g.1 in record { gives = λ at. (tt, (λ e. g.0 ∙ rows_long net), (tt, t.0.fits, (refl, refl))); after_it = t.0.behind_it; leaves = t.1; taken = (CutsB u, t.0) }
+passes net problem n due after (CutA true u) step g = let t = taken_leaves net problem due after (CutsA u) step g.1 in record { gives = λ at. (tt, (λ e. g.0 ∙ rows_of_a net problem), (tt, t.0.fits, (refl, refl))); after_it = t.0.behind_it; leaves = t.1; taken = (CutsA u, t.0) }
+passes net problem n due after (CutB true u) step g = let t = taken_leaves net problem due after (CutsB u) step g.1 in record { gives = λ at. (tt, (λ e. g.0 ∙ rows_of_b net problem), (tt, t.0.fits, (refl, refl))); after_it = t.0.behind_it; leaves = t.1; taken = (CutsB u, t.0) }
 
 -- a node that is refused fails its test, with the code of the fault
 pub refused : (net : Net) (problem : TreeProblem) (n : ℕ) (due after : List (List Sign)) (node : Node) (fault : TreeFault) → JudgeGives (problem_of net problem) due node after (Err fault) → (at : Place) → FailsFirst (node_test (problem_in net problem) (first due) n node) at n (code_of fault)
 unfolding FailsFirst
 refused net problem n due after Split BadLeaf g at = absurd (let e = g.1 in cc)
-refused net problem n due after Split NodeNotAllowed g at = inl (refl, refl, λ x lt. let f = g.0.fails in f (omega (arith, lt, rows_long net)))
+refused net problem n due after Split NodeNotAllowed g at = inl (refl, refl, λ x lt. let f = g.0.fails in f (omega (arith, lt, choices_are net problem)))
 refused net problem n due after Split TreeEndsEarly g at = absurd g
 refused net problem n due after Split WrongShape g at = absurd g
 refused net problem n due after Flat BadLeaf g at = absurd (let e = g.1 in cc)
@@ -106,61 +123,61 @@ refused net problem n due after (CutB false u) BadLeaf g at = inr (tt, (λ e. ab
 refused net problem n due after (CutB false u) NodeNotAllowed g at = absurd (let e = g.1 in cc)
 refused net problem n due after (CutB false u) TreeEndsEarly g at = absurd g
 refused net problem n due after (CutB false u) WrongShape g at = absurd g
-refused net problem n due after (CutA true u) BadLeaf g at = inr (tt, (λ e. g.0 ∙ rows_long net), inl (refl, refl, λ x h. let f = g.1.0.fails in f h))
+refused net problem n due after (CutA true u) BadLeaf g at = inr (tt, (λ e. g.0 ∙ rows_of_a net problem), inl (refl, refl, λ x h. let f = g.1.0.fails in f h))
 refused net problem n due after (CutA true u) NodeNotAllowed g at = absurd (let e = g.1.1 in cc)
 refused net problem n due after (CutA true u) TreeEndsEarly g at = absurd g.1
-refused net problem n due after (CutA true u) WrongShape g at = inl (refl, refl, λ x h. let f = g.0 in f (h refl ∙ sym (rows_long net)))
-refused net problem n due after (CutB true u) BadLeaf g at = inr (tt, (λ e. g.0 ∙ rows_long net), inl (refl, refl, λ x h. let f = g.1.0.fails in f h))
+refused net problem n due after (CutA true u) WrongShape g at = inl (refl, refl, λ x h. let f = g.0 in f (h refl ∙ sym (rows_of_a net problem)))
+refused net problem n due after (CutB true u) BadLeaf g at = inr (tt, (λ e. g.0 ∙ rows_of_b net problem), inl (refl, refl, λ x h. let f = g.1.0.fails in f h))
 refused net problem n due after (CutB true u) NodeNotAllowed g at = absurd (let e = g.1.1 in cc)
 refused net problem n due after (CutB true u) TreeEndsEarly g at = absurd g.1
-refused net problem n due after (CutB true u) WrongShape g at = inl (refl, refl, λ x h. let f = g.0 in f (h refl ∙ sym (rows_long net)))
+refused net problem n due after (CutB true u) WrongShape g at = inl (refl, refl, λ x h. let f = g.0 in f (h refl ∙ sym (rows_of_b net problem)))
 
 -- ---- steps
 
 -- what is said of the node of these forms is said of the node that is due at a prefix
-as_leaf : (P : Course Node → Type 0) (version species shared : ℕ) (table : List (List ℤ)) (p : Problem) (n : ℕ) → p.count_a ≡ species → p.count_b ≡ species → length table ≡ shared
-    → P (asks_node version n (node_forms version species species shared) >>= (λ r. Give (node_of table r))) → P (asks_leaf version table p n)
-as_leaf P version species shared table p n a b k h =
+as_leaf : (P : Course Node → Type 0) (version count species shared : ℕ) (table : List (List ℤ)) (p : Problem) (n : ℕ) → p.count_a ≡ count → p.count_b ≡ species → length table ≡ shared
+    → P (asks_node version n (node_forms version count species shared) >>= (λ r. Give (node_of table r))) → P (asks_leaf version table p n)
+as_leaf P version count species shared table p n a b k h =
     subst (λ (i : ℕ). P (asks_node version n (node_forms version i p.count_b (length table)) >>= (λ r. Give (node_of table r)))) (sym a)
-    (subst (λ (i : ℕ). P (asks_node version n (node_forms version species i (length table)) >>= (λ r. Give (node_of table r)))) (sym b)
-    (subst (λ (i : ℕ). P (asks_node version n (node_forms version species species i) >>= (λ r. Give (node_of table r)))) (sym k) h))
+    (subst (λ (i : ℕ). P (asks_node version n (node_forms version count i (length table)) >>= (λ r. Give (node_of table r)))) (sym b)
+    (subst (λ (i : ℕ). P (asks_node version n (node_forms version count species i) >>= (λ r. Give (node_of table r)))) (sym k) h))
 
-node_is_read : (e : Expect) (version species shared : ℕ) (table : List (List ℤ)) (p : Problem) (n m : ℕ) (r : Record) (old mid : KeptLines) (left after : Option (List ℕ))
-    → ExpectsNode e version species shared → p.count_a ≡ species → p.count_b ≡ species → length table ≡ shared → StepGives (asks_node_for e n) r n m old mid left after
+node_is_read : (e : Expect) (version count species shared : ℕ) (table : List (List ℤ)) (p : Problem) (n m : ℕ) (r : Record) (old mid : KeptLines) (left after : Option (List ℕ))
+    → ExpectsNode e version count species shared → p.count_a ≡ count → p.count_b ≡ species → length table ≡ shared → StepGives (asks_node_for e n) r n m old mid left after
     → StepGives (asks_leaf version table p n) (node_of table r) n m old mid left after
 unfolding Gives
-node_is_read e version species shared table p n m r old mid left after x a b k s =
-    as_leaf (λ c. StepGives c (node_of table r) n m old mid left after) version species shared table p n a b k
-    (step_then (asks_node version n (node_forms version species species shared)) (λ r. Give (node_of table r)) r (node_of table r) n m m old mid mid left after after
-    (as_node (λ c. StepGives c r n m old mid left after) e version n species shared x s)
+node_is_read e version count species shared table p n m r old mid left after x a b k s =
+    as_leaf (λ c. StepGives c (node_of table r) n m old mid left after) version count species shared table p n a b k
+    (step_then (asks_node version n (node_forms version count species shared)) (λ r. Give (node_of table r)) r (node_of table r) n m m old mid mid left after after
+    (as_node (λ c. StepGives c r n m old mid left after) e version n count species shared x s)
     (tests_give (Give (node_of table r)) (node_of table r) m mid after (λ at. (refl, refl))))
 
 -- a node that was read and passes its test
-pub node_read : (e : Expect) (version species shared : ℕ) (table : List (List ℤ)) (p : Problem) (prefix : List Sign) (n m : ℕ) (r : Record) (old mid : KeptLines) (left after : Option (List ℕ))
-    → ExpectsNode e version species shared → p.count_a ≡ species → p.count_b ≡ species → length table ≡ shared → StepGives (asks_node_for e n) r n m old mid left after
+pub node_read : (e : Expect) (version count species shared : ℕ) (table : List (List ℤ)) (p : Problem) (prefix : List Sign) (n m : ℕ) (r : Record) (old mid : KeptLines) (left after : Option (List ℕ))
+    → ExpectsNode e version count species shared → p.count_a ≡ count → p.count_b ≡ species → length table ≡ shared → StepGives (asks_node_for e n) r n m old mid left after
     → ((at : Place) → Gives (node_test p prefix n (node_of table r)) at tt at)
     → StepGives (asks_one version table p prefix n) (node_of table r) n m old mid left after
 unfolding Gives
-node_read e version species shared table p prefix n m r old mid left after x a b k s t =
+node_read e version count species shared table p prefix n m r old mid left after x a b k s t =
     let node = node_of table r in
-    let leaf = node_is_read e version species shared table p n m r old mid left after x a b k s in
+    let leaf = node_is_read e version count species shared table p n m r old mid left after x a b k s in
     step_then (asks_leaf version table p n) (λ node. node_test p prefix n node >>= (λ x. Give node)) node node n m m old mid mid left after after leaf
     (tests_give (node_test p prefix n node >>= (λ x. Give node)) node m mid after (λ at. gives_then (node_test p prefix n node) (λ x. Give node) at at at tt node (t at) (refl, refl)))
 
 -- and one that was read and fails it
-pub node_fails : (e : Expect) (version species shared : ℕ) (table : List (List ℤ)) (p : Problem) (prefix : List Sign) (n m line code : ℕ) (r : Record) (old : KeptLines) (mid : Reading) (left after : Option (List ℕ))
-    → ExpectsNode e version species shared → p.count_a ≡ species → p.count_b ≡ species → length table ≡ shared → StepGives (asks_node_for e n) r n m old mid.lines left after → CanRead mid
+pub node_fails : (e : Expect) (version count species shared : ℕ) (table : List (List ℤ)) (p : Problem) (prefix : List Sign) (n m line code : ℕ) (r : Record) (old : KeptLines) (mid : Reading) (left after : Option (List ℕ))
+    → ExpectsNode e version count species shared → p.count_a ≡ count → p.count_b ≡ species → length table ≡ shared → StepGives (asks_node_for e n) r n m old mid.lines left after → CanRead mid
     → ((at : Place) → FailsFirst (node_test p prefix n (node_of table r)) at line code)
     → StepFails (asks_one version table p prefix n) n old left after line code
-node_fails e version species shared table p prefix n m line code r old mid left after x a b k s can t =
+node_fails e version count species shared table p prefix n m line code r old mid left after x a b k s can t =
     let node = node_of table r in
-    let leaf = node_is_read e version species shared table p n m r old mid.lines left after x a b k s in
+    let leaf = node_is_read e version count species shared table p n m r old mid.lines left after x a b k s in
     step_fails_then (asks_leaf version table p n) (λ node. node_test p prefix n node >>= (λ x. Give node)) node n m line code old mid.lines left after after leaf
     (tests_fail (node_test p prefix n node >>= (λ x. Give node)) m line code mid after can (λ at. fails_before (node_test p prefix n node) (λ x. Give node) at line code (t at)))
 
 -- what stops the line of a node stops the node
-pub node_stops : (e : Expect) (version species shared : ℕ) (table : List (List ℤ)) (p : Problem) (prefix : List Sign) (n : ℕ) (stop : CheckStop) (old : Reading) (before now : SourceSeen)
-    → ExpectsNode e version species shared → p.count_a ≡ species → p.count_b ≡ species → length table ≡ shared → StopIs (asks_node_for e n) stop old before now → StopIs (asks_one version table p prefix n) stop old before now
-node_stops e version species shared table p prefix n stop old before now x a b k s =
+pub node_stops : (e : Expect) (version count species shared : ℕ) (table : List (List ℤ)) (p : Problem) (prefix : List Sign) (n : ℕ) (stop : CheckStop) (old : Reading) (before now : SourceSeen)
+    → ExpectsNode e version count species shared → p.count_a ≡ count → p.count_b ≡ species → length table ≡ shared → StopIs (asks_node_for e n) stop old before now → StopIs (asks_one version table p prefix n) stop old before now
+node_stops e version count species shared table p prefix n stop old before now x a b k s =
     stop_first (asks_leaf version table p n) (λ node. node_test p prefix n node >>= (λ x. Give node)) stop old before now
-    (as_leaf (λ c. StopIs c stop old before now) version species shared table p n a b k (stop_first (asks_node version n (node_forms version species species shared)) (λ r. Give (node_of table r)) stop old before now (as_node (λ c. StopIs c stop old before now) e version n species shared x s)))
+    (as_leaf (λ c. StopIs c stop old before now) version count species shared table p n a b k (stop_first (asks_node version n (node_forms version count species shared)) (λ r. Give (node_of table r)) stop old before now (as_node (λ c. StopIs c stop old before now) e version n count species shared x s)))

@@ -11,7 +11,7 @@ use Rattle.crn_document.specs.Inner.Parts.{before}
 use Rattle.crn_document.specs.Inner.Blocks.{IsAt}
 
 -- the question at each place
-pub at_place : (place : ℕ) → 1 ≤ place → place ≤ 14 → IsAt place (number (slice_index_or built (place - 1) Q1))
+pub at_place : (place : ℕ) → 1 ≤ place → place ≤ 15 → IsAt place (number (slice_index_or built (place - 1) Q1))
 at_place zero low high = absurd (omega (arith, low))
 at_place (suc zero) low high = record { answered = inl refl; earlier = refl; later = refl; with_it = refl }
 at_place (suc (suc zero)) low high = record { answered = inr (inl refl); earlier = refl; later = refl; with_it = refl }
@@ -27,16 +27,17 @@ at_place (suc (suc (suc (suc (suc (suc (suc (suc (suc (suc (suc zero))))))))))) 
 at_place (suc (suc (suc (suc (suc (suc (suc (suc (suc (suc (suc (suc zero)))))))))))) low high = record { answered = inr (inr (inr (inr (inr (inr (inr (inr (inr (inr (inr (inl refl))))))))))); earlier = refl; later = refl; with_it = refl }
 at_place (suc (suc (suc (suc (suc (suc (suc (suc (suc (suc (suc (suc (suc zero))))))))))))) low high = record { answered = inr (inr (inr (inr (inr (inr (inr (inr (inr (inr (inr (inr (inl refl)))))))))))); earlier = refl; later = refl; with_it = refl }
 at_place (suc (suc (suc (suc (suc (suc (suc (suc (suc (suc (suc (suc (suc (suc zero)))))))))))))) low high = record { answered = inr (inr (inr (inr (inr (inr (inr (inr (inr (inr (inr (inr (inr (inl refl))))))))))))); earlier = refl; later = refl; with_it = refl }
-at_place (suc (suc (suc (suc (suc (suc (suc (suc (suc (suc (suc (suc (suc (suc (suc n))))))))))))))) low high = absurd (omega (arith, high))
+at_place (suc (suc (suc (suc (suc (suc (suc (suc (suc (suc (suc (suc (suc (suc (suc zero))))))))))))))) low high = record { answered = inr (inr (inr (inr (inr (inr (inr (inr (inr (inr (inr (inr (inr (inr (inl refl)))))))))))))); earlier = refl; later = refl; with_it = refl }
+at_place (suc (suc (suc (suc (suc (suc (suc (suc (suc (suc (suc (suc (suc (suc (suc (suc n)))))))))))))))) low high = absurd (omega (arith, high))
 
 -- none is left after the last
-pub none_left : (place : ℕ) → place ≡ 15 → drop (place - 1) built ≡ []
+pub none_left : (place : ℕ) → place ≡ 16 → drop (place - 1) built ≡ []
 none_left place e = subst (λ (k : ℕ). drop (k - 1) built ≡ []) (sym e) refl
 
-pub all_taken : (place : ℕ) → place ≡ 15 → take (place - 1) built ≡ built
+pub all_taken : (place : ℕ) → place ≡ 16 → take (place - 1) built ≡ built
 all_taken place e = subst (λ (k : ℕ). take (k - 1) built ≡ built) (sym e) refl
 
-few : (k : ℕ) → k < 14 → k < length built
+few : (k : ℕ) → k < 15 → k < length built
 few k lt = lt
 
 -- the place of a question, counted from 0
@@ -55,7 +56,8 @@ place_of_built n (inr (inr (inr (inr (inr (inr (inr (inr (inr (inr (inl e)))))))
 place_of_built n (inr (inr (inr (inr (inr (inr (inr (inr (inr (inr (inr (inl e)))))))))))) = (11, few 11 (omega arith), ap (λ (m : ℕ). before m) e, sym e)
 place_of_built n (inr (inr (inr (inr (inr (inr (inr (inr (inr (inr (inr (inr (inl e))))))))))))) = (12, few 12 (omega arith), ap (λ (m : ℕ). before m) e, sym e)
 place_of_built n (inr (inr (inr (inr (inr (inr (inr (inr (inr (inr (inr (inr (inr (inl e)))))))))))))) = (13, few 13 (omega arith), ap (λ (m : ℕ). before m) e, sym e)
-place_of_built n (inr (inr (inr (inr (inr (inr (inr (inr (inr (inr (inr (inr (inr (inr none)))))))))))))) = absurd none
+place_of_built n (inr (inr (inr (inr (inr (inr (inr (inr (inr (inr (inr (inr (inr (inr (inl e))))))))))))))) = (14, few 14 (omega arith), ap (λ (m : ℕ). before m) e, sym e)
+place_of_built n (inr (inr (inr (inr (inr (inr (inr (inr (inr (inr (inr (inr (inr (inr (inr (none)))))))))))))))) = absurd none
 
 -- the verdicts on the questions before one are those that its tests look at, and on none later
 pub needs_at : (es : Earlier) (n : ℕ) → IsBuilt n → map (λ (e : Question × Verdict). e.0) es ≡ before n → HoldsNeeds es n

@@ -155,7 +155,7 @@ all_in members (n ∷ ns) a r (inr i) = all_in members ns a.1 r i
 
 all_small : (members ns : List ℕ) → ((n : ℕ) → IsIn n members → n ≤ MAX_REACTIONS) → AllByRecursion (λ n. IsIn n members) ns → AreSmall (map pos ns)
 all_small members [] few a = tt
-all_small members (n ∷ ns) few a = (let l = few n a.0 in (n, refl, omega (arith, l)), all_small members ns few a.1)
+all_small members (n ∷ ns) few a = (let l = few n a.0 in omega (arith, l), all_small members ns few a.1)
 
 -- what a base says
 pub record IsBase (rank : ℕ) (members : List ℕ) (zs : List ℤ) : Type 0 where

@@ -13,7 +13,7 @@ use Rattle.crn_ctext.specs.Questions.{heads}
 use Rattle.crn_ctext.specs.Course.{Course, Give, Line, Test, End, ◌>>=◌, Gives}
 use Rattle.crn_ctext.specs.Blocks.{Behind, asks, asks_all, asks_block, asks_blocks, asks_trees, behind_sections, below, claims, has_tree, head_claims, problems, row_claims, sections}
 use Rattle.crn_ctext.specs.Meaning.{Known, learn_of, meaning, sizes_of, verdict_of, verdicts_said}
-use Rattle.crn_document.specs.Inner.Blocks.{behind_at, end_course, head_course, rows_course}
+use Rattle.crn_document.specs.Inner.Blocks.{after_at, end_course, head_course, rows_course}
 use Rattle.crn_document.proofs.Sections.{question_course}
 
 -- what two courses give one after another, the second gives after the first
@@ -124,8 +124,8 @@ blocks_say version table (q ∷ qs) at y place behind p =
 
 -- The verdicts that are known after all blocks of a document are those that its blocks say.
 pub built_blocks_say : (version : ℕ) (table : List (List ℤ)) (net : Net) (line : ℕ) (y : Behind Known) (place behind : Place)
-    → Gives (asks_blocks meaning version table built (behind_at net [] line [])) place y behind
+    → Gives (asks_blocks meaning version table built (after_at net [] line [])) place y behind
     → map (λ e. e.1) y.known.earlier ≡ verdicts_said built (meaning.start net) y.blocks
 built_blocks_say version table net line y place behind p =
-    let s = blocks_say version table built (behind_at net [] line []) y place behind p in
+    let s = blocks_say version table built (after_at net [] line []) y place behind p in
     s.3 ∙ ap (λ (new : List (List Record)). verdicts_said built (meaning.start net) new) (sym s.1)

@@ -15,7 +15,7 @@ use Rattle.crn_check.specs.Facts.{asked}
 use Rattle.crn_document.specs.declared.reading.Reading.{Reading}
 use Rattle.crn_document.specs.declared.stop.CheckStop.{CheckStop}
 use Rattle.crn_ctext.specs.Steps.{StepGives}
-use Rattle.crn_document.specs.Inner.Blocks.{IsOpened, behind_by, still_by_tree}
+use Rattle.crn_document.specs.Inner.Blocks.{IsOpened, after_by, still_by_tree}
 use Rattle.crn_document.specs.Inner.Steps.{StepIs, StopIs}
 use Rattle.crn_document.proofs.Steps.{step_gives, step_map, stop_first}
 
@@ -49,8 +49,8 @@ section_stops version n after form e old before now p = stop_first (asks version
 
 -- ---- blocks one after another
 
-pub behind_is : (net : Net) (earlier : Earlier) (by_tree : Bool) (line : ℕ) (blocks : List (List Record)) (opened : List Record) → behind_sections opened (behind_by net earlier by_tree line blocks) ≡ behind_by net earlier (still_by_tree opened by_tree) (line + length opened) blocks
-behind_is net earlier by_tree line blocks [] = ap (λ (k : ℕ). behind_by net earlier by_tree k blocks) (omega arith)
+pub behind_is : (net : Net) (earlier : Earlier) (by_tree : Bool) (line : ℕ) (blocks : List (List Record)) (opened : List Record) → behind_sections opened (after_by net earlier by_tree line blocks) ≡ after_by net earlier (still_by_tree opened by_tree) (line + length opened) blocks
+behind_is net earlier by_tree line blocks [] = ap (λ (k : ℕ). after_by net earlier by_tree k blocks) (omega arith)
 behind_is net earlier by_tree line blocks (r ∷ rs) = refl
 
 -- what follows the sections before a question

@@ -1,54 +1,68 @@
 -- The trees that follow the records below a head.
-use Rattle.std.proofs.Common.{◌≡◌, ℕ, zero, suc, true, List, [], ◌∷◌, refl, sym, subst, inl, inr, Ok, Result}
+use Rattle.std.proofs.Common.{◌≡◌, ◌∙◌, ℕ, zero, suc, Bool, true, false, ap, List, [], ◌∷◌, refl, sym, subst, inl, inr, Ok, Result}
 use Rattle.std.specs.Prelude.{ℤ}
 use Rattle.crn_io.specs.Device.{SourceSeen}
-use Rattle.crn_vec.specs.Network.{Net}
-use Rattle.crn_cert.specs.Questions.{Q14, Q15}
+use Rattle.crn_cert.specs.Questions.{Q4, Q13, Q14, Q15, on}
 use Rattle.crn_ctext.specs.Blocks.{Problem, asks_tree, asks_trees, has_tree}
-use Rattle.crn_ctext.specs.Meaning.{problems_by}
+use Rattle.crn_ctext.specs.Meaning.{Known, is_yes, problems_by, signal_problems}
 use Rattle.crn_check.specs.Facts.{asked}
-use Rattle.crn_check.specs.Check.{AsksForTree, IsBuilt}
+use Rattle.crn_check.specs.Check.{AsksForTree, IsBuilt, tree_place}
 use Rattle.crn_document.specs.declared.reading.Reading.{Reading}
 use Rattle.crn_document.specs.declared.stop.CheckStop.{CheckStop}
-use Rattle.crn_document.specs.Inner.Steps.{StepIs}
-use Rattle.crn_document.proofs.Steps.{step_gives, step_map}
+use Rattle.crn_document.specs.Inner.Steps.{StepIs, StopIs}
+use Rattle.crn_ctext.specs.Steps.{StepGives}
+use Rattle.crn_document.proofs.Steps.{step_gives, step_map, step_then_is, stop_first}
 
-no_plain : (net : Net) (place : ℕ) → (place ≡ 1 → ⊥) → problems_by Q14 net place ≡ []
-no_plain net zero other = refl
-no_plain net (suc zero) other = absurd (other refl)
-no_plain net (suc (suc k)) other = refl
+no_signals : (known : Known) (place : ℕ) → (place ≡ 2 → ⊥) → problems_by Q13 known place ≡ []
+no_signals known zero other = refl
+no_signals known (suc zero) other = refl
+no_signals known (suc (suc zero)) other = absurd (other refl)
+no_signals known (suc (suc (suc k))) other = refl
 
-no_strong : (net : Net) (place : ℕ) → (place ≡ 1 → ⊥) → problems_by Q15 net place ≡ []
-no_strong net zero other = refl
-no_strong net (suc zero) other = absurd (other refl)
-no_strong net (suc (suc k)) other = refl
+no_plain : (known : Known) (place : ℕ) → (place ≡ 1 → ⊥) → problems_by Q14 known place ≡ []
+no_plain known zero other = refl
+no_plain known (suc zero) other = absurd (other refl)
+no_plain known (suc (suc k)) other = refl
 
--- no tree follows a head unless it is a yes that a tree shows
-pub no_tree_below : (n : ℕ) → IsBuilt n → (net : Net) (place : ℕ) → (AsksForTree n → place ≡ 1 → ⊥) → problems_by (asked n) net place ≡ []
-no_tree_below n (inl e) net place other = subst (λ (m : ℕ). problems_by (asked m) net place ≡ []) (sym e) refl
-no_tree_below n (inr (inl e)) net place other = subst (λ (m : ℕ). problems_by (asked m) net place ≡ []) (sym e) refl
-no_tree_below n (inr (inr (inl e))) net place other = subst (λ (m : ℕ). problems_by (asked m) net place ≡ []) (sym e) refl
-no_tree_below n (inr (inr (inr (inl e)))) net place other = subst (λ (m : ℕ). problems_by (asked m) net place ≡ []) (sym e) refl
-no_tree_below n (inr (inr (inr (inr (inl e))))) net place other = subst (λ (m : ℕ). problems_by (asked m) net place ≡ []) (sym e) refl
-no_tree_below n (inr (inr (inr (inr (inr (inl e)))))) net place other = subst (λ (m : ℕ). problems_by (asked m) net place ≡ []) (sym e) refl
-no_tree_below n (inr (inr (inr (inr (inr (inr (inl e))))))) net place other = subst (λ (m : ℕ). problems_by (asked m) net place ≡ []) (sym e) refl
-no_tree_below n (inr (inr (inr (inr (inr (inr (inr (inl e)))))))) net place other = subst (λ (m : ℕ). problems_by (asked m) net place ≡ []) (sym e) refl
-no_tree_below n (inr (inr (inr (inr (inr (inr (inr (inr (inl e))))))))) net place other = subst (λ (m : ℕ). problems_by (asked m) net place ≡ []) (sym e) refl
-no_tree_below n (inr (inr (inr (inr (inr (inr (inr (inr (inr (inl e)))))))))) net place other = subst (λ (m : ℕ). problems_by (asked m) net place ≡ []) (sym e) refl
-no_tree_below n (inr (inr (inr (inr (inr (inr (inr (inr (inr (inr (inl e))))))))))) net place other = subst (λ (m : ℕ). problems_by (asked m) net place ≡ []) (sym e) refl
-no_tree_below n (inr (inr (inr (inr (inr (inr (inr (inr (inr (inr (inr (inl e)))))))))))) net place other = subst (λ (m : ℕ). problems_by (asked m) net place ≡ []) (sym e) refl
-no_tree_below n (inr (inr (inr (inr (inr (inr (inr (inr (inr (inr (inr (inr (inl e))))))))))))) net place other = subst (λ (m : ℕ). problems_by (asked m) net place ≡ []) (sym e) (no_plain net place (other (inl e)))
-no_tree_below n (inr (inr (inr (inr (inr (inr (inr (inr (inr (inr (inr (inr (inr (inl e)))))))))))))) net place other = subst (λ (m : ℕ). problems_by (asked m) net place ≡ []) (sym e) (no_strong net place (other (inr e)))
-no_tree_below n (inr (inr (inr (inr (inr (inr (inr (inr (inr (inr (inr (inr (inr (inr none)))))))))))))) net place other = absurd none
+no_strong : (known : Known) (place : ℕ) → (place ≡ 1 → ⊥) → problems_by Q15 known place ≡ []
+no_strong known zero other = refl
+no_strong known (suc zero) other = absurd (other refl)
+no_strong known (suc (suc k)) other = refl
 
--- one follows such a yes
-pub tree_below : (n : ℕ) → AsksForTree n → (net : Net) → has_tree (problems_by (asked n) net 1) ≡ true
-tree_below n (inl e) net = subst (λ (m : ℕ). has_tree (problems_by (asked m) net 1) ≡ true) (sym e) refl
-tree_below n (inr e) net = subst (λ (m : ℕ). has_tree (problems_by (asked m) net 1) ≡ true) (sym e) refl
+-- no tree follows a head unless its verdict is one that trees show
+pub no_tree_below : (n : ℕ) → IsBuilt n → (known : Known) (place : ℕ) → (AsksForTree n → place ≡ tree_place n → ⊥) → problems_by (asked n) known place ≡ []
+no_tree_below n (inl e) known place other = subst (λ (m : ℕ). problems_by (asked m) known place ≡ []) (sym e) refl
+no_tree_below n (inr (inl e)) known place other = subst (λ (m : ℕ). problems_by (asked m) known place ≡ []) (sym e) refl
+no_tree_below n (inr (inr (inl e))) known place other = subst (λ (m : ℕ). problems_by (asked m) known place ≡ []) (sym e) refl
+no_tree_below n (inr (inr (inr (inl e)))) known place other = subst (λ (m : ℕ). problems_by (asked m) known place ≡ []) (sym e) refl
+no_tree_below n (inr (inr (inr (inr (inl e))))) known place other = subst (λ (m : ℕ). problems_by (asked m) known place ≡ []) (sym e) refl
+no_tree_below n (inr (inr (inr (inr (inr (inl e)))))) known place other = subst (λ (m : ℕ). problems_by (asked m) known place ≡ []) (sym e) refl
+no_tree_below n (inr (inr (inr (inr (inr (inr (inl e))))))) known place other = subst (λ (m : ℕ). problems_by (asked m) known place ≡ []) (sym e) refl
+no_tree_below n (inr (inr (inr (inr (inr (inr (inr (inl e)))))))) known place other = subst (λ (m : ℕ). problems_by (asked m) known place ≡ []) (sym e) refl
+no_tree_below n (inr (inr (inr (inr (inr (inr (inr (inr (inl e))))))))) known place other = subst (λ (m : ℕ). problems_by (asked m) known place ≡ []) (sym e) refl
+no_tree_below n (inr (inr (inr (inr (inr (inr (inr (inr (inr (inl e)))))))))) known place other = subst (λ (m : ℕ). problems_by (asked m) known place ≡ []) (sym e) refl
+no_tree_below n (inr (inr (inr (inr (inr (inr (inr (inr (inr (inr (inl e))))))))))) known place other = subst (λ (m : ℕ). problems_by (asked m) known place ≡ []) (sym e) refl
+no_tree_below n (inr (inr (inr (inr (inr (inr (inr (inr (inr (inr (inr (inl e)))))))))))) known place other = subst (λ (m : ℕ). problems_by (asked m) known place ≡ []) (sym e) refl
+no_tree_below n (inr (inr (inr (inr (inr (inr (inr (inr (inr (inr (inr (inr (inl e))))))))))))) known place other = subst (λ (m : ℕ). problems_by (asked m) known place ≡ []) (sym e) (no_signals known place (λ p. other (inl e) (p ∙ ap (λ (m : ℕ). tree_place m) (sym e))))
+no_tree_below n (inr (inr (inr (inr (inr (inr (inr (inr (inr (inr (inr (inr (inr (inl e)))))))))))))) known place other = subst (λ (m : ℕ). problems_by (asked m) known place ≡ []) (sym e) (no_plain known place (λ p. other (inr (inl e)) (p ∙ ap (λ (m : ℕ). tree_place m) (sym e))))
+no_tree_below n (inr (inr (inr (inr (inr (inr (inr (inr (inr (inr (inr (inr (inr (inr (inl e))))))))))))))) known place other = subst (λ (m : ℕ). problems_by (asked m) known place ≡ []) (sym e) (no_strong known place (λ p. other (inr (inr e)) (p ∙ ap (λ (m : ℕ). tree_place m) (sym e))))
+no_tree_below n (inr (inr (inr (inr (inr (inr (inr (inr (inr (inr (inr (inr (inr (inr (inr (none)))))))))))))))) known place other = absurd none
 
-pub other_question : (n : ℕ) → AsksForTree n → (n ≡ 14 → ⊥) → n ≡ 15
-other_question n (inl e) other = absurd (other e)
-other_question n (inr e) other = e
+some_signals : (known : Known) (weak : Bool) → has_tree (signal_problems known weak) ≡ true
+some_signals known true = refl
+some_signals known false = refl
+
+-- one follows such a head
+pub tree_below : (n : ℕ) → AsksForTree n → (known : Known) → has_tree (problems_by (asked n) known (tree_place n)) ≡ true
+tree_below n (inl e) known = subst (λ (m : ℕ). has_tree (problems_by (asked m) known (tree_place m)) ≡ true) (sym e) (some_signals known (is_yes (on known.earlier Q4)))
+tree_below n (inr (inl e)) known = subst (λ (m : ℕ). has_tree (problems_by (asked m) known (tree_place m)) ≡ true) (sym e) refl
+tree_below n (inr (inr e)) known = subst (λ (m : ℕ). has_tree (problems_by (asked m) known (tree_place m)) ≡ true) (sym e) refl
+
+-- a question that trees answer and that is neither of the first two is the last
+pub other_question : (n : ℕ) → AsksForTree n → (n ≡ 13 → ⊥) → (n ≡ 14 → ⊥) → n ≡ 15
+other_question n (inl e) first other = absurd (first e)
+other_question n (inr (inl e)) first other = absurd (other e)
+other_question n (inr (inr e)) first other = e
 
 -- no trees
 pub trees_none : (version : ℕ) (table : List (List ℤ)) (ps : List {1} Problem) (at : Reading) (seen : SourceSeen) → ps ≡ [] → StepIs (asks_trees version table ps at.line) (λ (t : Unit {0}) line. line ≡ at.line) (Ok tt) at at seen seen
@@ -64,3 +78,21 @@ unfolding asks_trees
 trees_one version n table p ps Says result old new before now e s =
     subst (λ (qs : List {1} Problem). StepIs (asks_trees version table qs n) Says result old new before now) (sym e)
     (step_map (asks_tree version table p p.choices [] n) (λ m. m) Says Says result old new before now (λ t y h. h) s)
+
+-- one tree, and then another
+pub trees_two : {T : Type 0} (version n : ℕ) (table : List (List ℤ)) (p q : Problem) (ps : List {1} Problem) (m : ℕ) (Says : T → ℕ → Type 0) (result : Result T CheckStop) (old mid new : Reading) (before between now : SourceSeen)
+    → ps ≡ p ∷ q ∷ [] → StepGives (asks_tree version table p p.choices [] n) m old.line mid.line old.lines mid.lines before.left between.left → between.faults ≡ before.faults
+    → StepIs (asks_tree version table q q.choices [] m) Says result mid new between now → StepIs (asks_trees version table ps n) Says result old new before now
+unfolding asks_trees
+trees_two version n table p q ps m Says result old mid new before between now e first same second =
+    subst (λ (qs : List {1} Problem). StepIs (asks_trees version table qs n) Says result old new before now) (sym e)
+    (step_then_is (asks_tree version table p p.choices [] n) (λ k. asks_trees version table (q ∷ []) k) m Says result old mid new before between now first same
+    (trees_one version m table q (q ∷ []) Says result mid new between now refl second))
+
+-- what stops the first tree stops all
+pub trees_stop : (version n : ℕ) (table : List (List ℤ)) (p : Problem) (rest ps : List {1} Problem) (e : CheckStop) (old : Reading) (before now : SourceSeen)
+    → ps ≡ p ∷ rest → StopIs (asks_tree version table p p.choices [] n) e old before now → StopIs (asks_trees version table ps n) e old before now
+unfolding asks_trees
+trees_stop version n table p rest ps e old before now is s =
+    subst (λ (qs : List {1} Problem). StopIs (asks_trees version table qs n) e old before now) (sym is)
+    (stop_first (asks_tree version table p p.choices [] n) (λ k. asks_trees version table rest k) e old before now s)

@@ -6,6 +6,7 @@ pub mod Parts
 pub mod Answers
 pub mod Network
 pub mod Heads
+pub mod Signals
 pub mod Blocks
 pub mod Courses
 pub mod Plain

@@ -15,6 +15,7 @@ use crate::concordance::{concordance_answer, concordance_verdict};
 use crate::confluence::{confluence_answer, confluence_verdict, regular_answer, regular_verdict};
 use crate::numbers::{after, ints_of, no_ints, no_nums, number_of, nums_of, small};
 use crate::parts::Part;
+use crate::signal::{bare_signal_verdict, signal_answer};
 use crn_cert::{Answer, Gap, Proof, RankList, RankProof, Rows, Verdict};
 use crn_vec::{Ints, NoMemory, Nums};
 use std::alloc::Global;
@@ -161,6 +162,7 @@ pub(crate) fn bare_verdict(alloc: Global, question: u32, head: &[i128]) -> Resul
         10 => Ok(one_verdict(head)),
         11 => Ok(regular_verdict(head, no_nums(alloc))),
         12 => confluence_verdict(alloc, head, no_ints(alloc), no_ints(alloc)),
+        13 => bare_signal_verdict(alloc, head),
         14 => concordance_verdict(alloc, head, no_ints(alloc), no_ints(alloc)),
         15 => concordance_verdict(alloc, head, no_ints(alloc), no_ints(alloc)),
         _ => Ok(yes_or_reaction(head)),
@@ -431,6 +433,7 @@ pub(crate) fn answer_of(
         }),
         11 => regular_answer(alloc, head, rows),
         12 => confluence_answer(alloc, head, rows),
+        13 => signal_answer(alloc, head, rows),
         14 => concordance_answer(alloc, head, rows),
         15 => concordance_answer(alloc, head, rows),
         _ => Ok(Answer {

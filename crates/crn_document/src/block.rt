@@ -1,17 +1,21 @@
-ghost use Rattle.std.specs.Prelude.{◌≡◌, ◌≤◌, ◌+◌, ◌++◌, ℕ, List, [], ◌∷◌, length, OnOk};
+ghost use Rattle.std.specs.Prelude.{◌≡◌, ◌≤◌, ◌+◌, ◌++◌, ℕ, ℤ, List, [], ◌∷◌, length, IfOk, OnOk};
 ghost use Rattle.crn_io.specs.Device.{SourceSeen};
 ghost use Rattle.crn_io.specs.declared.lines.TheConstants.{MAX_SHARED};
 ghost use Rattle.crn_ctext.specs.Records.{Record};
-ghost use Rattle.crn_cert.specs.declared.answer.Verdict.TheVariants.{Yes};
+ghost use Rattle.crn_cert.specs.declared.answer.Proof.TheVariants.{Sides};
+ghost use Rattle.crn_cert.specs.Formed.{IsFormed};
+ghost use Rattle.crn_cert.specs.Tests.{AllHold};
+ghost use Rattle.crn_cert.specs.Valid.{HasVector, head_tests, tests_of};
 ghost use Rattle.crn_ctext.specs.Blocks.{asks_block, asks_trees};
 ghost use Rattle.crn_ctext.specs.Meaning.{meaning, number, problems_by};
-ghost use Rattle.crn_check.specs.Facts.{asked};
-ghost use Rattle.crn_check.specs.Check.{AsksForTree, IsBuilt};
+ghost use Rattle.crn_check.specs.Facts.{AreFactsOf, asked};
+ghost use Rattle.crn_check.specs.Check.{AsksForTree, HoldsNoTree, IsBuilt, Judges, shown_by_tree, tree_place};
+ghost use Rattle.crn_check.specs.Verdicts.{tight};
 ghost use Rattle.crn_document.specs.Inner.Parts.{before, up_to};
 ghost use Rattle.crn_document.specs.Inner.Steps.{GoesOn, StepIs};
 ghost use Rattle.crn_document.specs.Inner.Answer.{AreSmall};
-ghost use Rattle.crn_document.specs.Inner.Heads.{IsHead, class_count};
-ghost use Rattle.crn_document.specs.Inner.Blocks.{HeadHolds, IsAfter, IsBlock, IsReady, Learns, behind_at, behind_by, end_course, head_course, parts_after, rows_course, tests_course};
+ghost use Rattle.crn_document.specs.Inner.Heads.{IsHead, class_count, known_of};
+ghost use Rattle.crn_document.specs.Inner.Blocks.{HeadHolds, IsAfter, IsBlock, IsReady, Learns, after_at, after_by, end_course, head_course, parts_after, rows_course, tests_course};
 
 use crate::answer::{answer_of, bare_verdict};
 use crate::head::next_head;
@@ -20,22 +24,73 @@ use crate::numbers::number_of;
 use crate::parts::{Part, parts_of};
 use crate::reading::Reading;
 use crate::rows::{Below, next_rows, rows_below};
+use crate::signal_trees::shape_of;
 use crate::stop::CheckStop;
-use crate::tree::{ends_in_tree, next_yes};
-use crn_cert::{Answer, Rows, Verdict, Verdicts};
-use crn_check::{Facts, accept_tree, check_answer, check_head};
+use crate::tree::{ends_in_tree, next_trees};
+use crn_cert::{Answer, Proof, Rows, Verdict, Verdicts};
+use crn_check::{CheckFault, Facts, accept_tree, check_answer, check_head, check_signal_answer};
 use crn_ctree::SharedTable;
-use crn_io::Source;
+use crn_io::{NoMemory, Source};
 use crn_net::Network;
 use crn_vec::{Ints, Nums};
+use std::alloc::Global;
 
-// The verdicts that were accepted so far: as facts for the tests of later blocks, and in the order of the questions;
-// and whether the last block ended in a tree.
+// The verdicts that were accepted so far: as facts for the tests of later blocks, and in the order of the questions; the
+// sides of a yes to question 11; and whether the last block ended in a tree.
 #[derive(Drop)]
 pub(crate) struct Checked {
     pub(crate) facts: Facts,
     pub(crate) verdicts: Verdicts,
+    pub(crate) sides: Rows,
     pub(crate) by_tree: bool,
+}
+
+// Tests the records of an answer that no tree shows, and makes its verdict one of the facts.
+fn check_records(
+    alloc: Global,
+    net: &Network,
+    checked: &mut Checked,
+    question: u32,
+    answer: &Answer,
+) -> Result<Result<(), CheckFault>, NoMemory>
+    requires built { IsBuilt question }
+    requires ready { IsReady net.now (before question) checked.old }
+    requires heads { let earlier = checked.old.facts.earlier in
+        AllHold (head_tests net.now earlier (asked question) answer.now.verdict) }
+    requires formed { let earlier = checked.old.facts.earlier in
+        IsFormed net.now earlier (asked question) answer.now }
+    requires treeless { AsksForTree question → HoldsNoTree answer.now.proof }
+    ensures judged { let earlier = checked.old.facts.earlier in IfOk result
+        (Judges (tests_of net.now earlier (asked question) answer.now)) }
+    ensures kept { IfOk result (λ judged. OnOk judged (checked.new.facts.earlier
+        ≡ checked.old.facts.earlier ++ (asked question, tight answer.now.verdict) ∷ [])) }
+    ensures facts { AreFactsOf net.now checked.new.facts }
+    ensures verdicts { checked.new.verdicts ≡ checked.old.verdicts }
+    ensures sides { checked.new.sides ≡ checked.old.sides }
+{
+    match &answer.verdict {
+        Verdict::YesSignal { turn, .. } => {
+            let shape = shape_of(alloc, net, checked, *turn)?;
+            Ok(check_signal_answer(net, &shape, &mut checked.facts, answer))
+        }
+        _ => Ok(check_answer(net, &mut checked.facts, question, answer)),
+    }
+}
+
+// Keeps the sides of a yes to question 11.
+fn keep_sides(checked: &mut Checked, question: u32, proof: Proof)
+    ensures facts { checked.new.facts ≡ checked.old.facts }
+    ensures verdicts { checked.new.verdicts ≡ checked.old.verdicts }
+    ensures sides { question ≡ 11 → (sides : List (List ℤ)) → proof ≡ Sides sides
+        → checked.new.sides ≡ sides }
+    ensures same { (question ≡ 11 → ⊥) → checked.new.sides ≡ checked.old.sides }
+{
+    if question != 11 {
+        return;
+    }
+    if let Proof::Sides(sides) = proof {
+        checked.sides = sides;
+    }
 }
 
 // Tests the records of a block without a tree, whose head is at this line, and keeps the verdict.
@@ -54,7 +109,7 @@ fn accept(
     requires ready { IsReady net.now (before question) checked.old }
     requires line { line + 1 + length rows.now ≡ at.now.line }
     requires heads { HeadHolds net.now checked.old.facts.earlier question head.now }
-    requires treeless { AsksForTree question → number head.now 0 ≡ 1 → ⊥ }
+    requires treeless { AsksForTree question → number head.now 0 ≡ tree_place question → ⊥ }
     requires parts { parts.now
         ≡ parts_after net.now checked.old.facts.earlier question head.now }
     requires block { (h : Record) × (rs : List Record)
@@ -68,10 +123,11 @@ fn accept(
     ensures ready { OnOk result (IsReady net.now (up_to question) checked.new) }
 {
     let answer = answer_of(at.alloc, question, head, parts, rows)?;
-    match check_answer(net, &mut checked.facts, question, &answer) {
+    match check_records(at.alloc, net, checked, question, &answer)? {
         Ok(()) => {
-            let Answer { verdict, proof: _ } = answer;
+            let Answer { verdict, proof } = answer;
             checked.verdicts.push(verdict);
+            keep_sides(checked, question, proof);
             Ok(())
         }
         Err(fault) => Err(CheckStop::Rejected {
@@ -81,8 +137,19 @@ fn accept(
     }
 }
 
-// Reads the tree that shows a yes to this question, and keeps the yes.
-fn accept_yes<S: Source>(
+// The verdict that trees show on this question.
+fn shown_verdict(question: u32) -> Verdict
+    requires { AsksForTree question }
+    ensures { result ≡ shown_by_tree (asked question) }
+{
+    if question == 13 {
+        return Verdict::No;
+    }
+    Verdict::Yes
+}
+
+// Reads the trees that show a verdict on this question, and keeps the verdict.
+fn accept_shown<S: Source>(
     source: &mut S,
     at: &mut Reading,
     net: &Network,
@@ -95,23 +162,27 @@ fn accept_yes<S: Source>(
     requires tree { AsksForTree question }
     requires built { IsBuilt question }
     requires ready { IsReady net.now (before question) checked.old }
-    ensures step { let due = problems_by (asked question) net.now 1 in
+    requires vector { question ≡ 13 → HasVector checked.old.facts.earlier }
+    ensures step { let known = known_of net.now checked.old.facts.earlier in
+        let due = problems_by (asked question) known (tree_place question) in
         StepIs (asks_trees at.old.version table.now due at.old.line)
         (λ _ line. line ≡ at.new.line)
         result at.old at.new (S.seen source.old) (S.seen source.new) }
     ensures kept { OnOk result (checked.new.facts.earlier
-        ≡ checked.old.facts.earlier ++ (asked question, Yes) ∷ []) }
+        ≡ checked.old.facts.earlier
+        ++ (asked question, shown_by_tree (asked question)) ∷ []) }
     ensures goes { OnOk result (GoesOn at.new) }
     ensures version { at.new.version ≡ at.old.version }
     ensures ready { OnOk result (IsReady net.now (up_to question) checked.new) }
 {
-    next_yes(source, at, net, table, question)?;
+    next_trees(source, at, net, table, checked, question)?;
     accept_tree(net, &mut checked.facts, question);
-    checked.verdicts.push(Verdict::Yes);
+    checked.verdicts.push(shown_verdict(question));
     Ok(())
 }
 
-// What is left of a block, whose head is at this line, after its records: their tests, or the tree of a yes.
+// What is left of a block, whose head is at this line, after its records: their tests, or the trees that show its
+// verdict.
 fn end_block<S: Source>(
     source: &mut S,
     at: &mut Reading,
@@ -137,7 +208,7 @@ fn end_block<S: Source>(
     ensures step { (h : Record) (rs : List Record) (blocks : List (List Record))
         → IsBlock net.now checked.old.facts.earlier question head.now rows.now h rs
         → StepIs (end_course at.old.version table.now (asked question)
-        (behind_at net.now checked.old.facts.earlier line blocks) h rs)
+        (after_at net.now checked.old.facts.earlier line blocks) h rs)
         (λ _ y. IsAfter net.now checked.new.facts.earlier checked.new.by_tree at.new.line y)
         result at.old at.new (S.seen source.old) (S.seen source.new) }
     ensures goes { OnOk result (GoesOn at.new) }
@@ -145,7 +216,7 @@ fn end_block<S: Source>(
     ensures ready { OnOk result (IsReady net.now (up_to question) checked.new) }
 {
     if ends_in_tree(question, number_of(head, 0)) {
-        accept_yes(source, at, net, table, checked, question)?;
+        accept_shown(source, at, net, table, checked, question)?;
         checked.by_tree = true;
         return Ok(());
     }
@@ -186,7 +257,7 @@ fn read_rows<S: Source>(
     ensures step { (h : Record) (n : ℕ) (blocks : List (List Record))
         → IsHead net.now checked.old.facts.earlier question head.now h → n + 1 ≡ at.old.line
         → StepIs (rows_course at.old.version table.now (asked question)
-        (behind_at net.now checked.old.facts.earlier n blocks) h)
+        (after_at net.now checked.old.facts.earlier n blocks) h)
         (λ _ y. IsAfter net.now checked.new.facts.earlier checked.new.by_tree at.new.line y)
         result at.old at.new (S.seen source.old) (S.seen source.new) }
     ensures goes { OnOk result (GoesOn at.new) }
@@ -241,7 +312,7 @@ fn after_head<S: Source>(
         → IsHead net.now checked.old.facts.earlier question at.old.numbers.list h
         → n + 1 ≡ at.old.line
         → StepIs (head_course at.old.version table.now (asked question)
-        (behind_at net.now checked.old.facts.earlier n blocks) h)
+        (after_at net.now checked.old.facts.earlier n blocks) h)
         (λ _ y. IsAfter net.now checked.new.facts.earlier checked.new.by_tree at.new.line y)
         result at.old at.new (S.seen source.old) (S.seen source.new) }
     ensures goes { OnOk result (GoesOn at.new) }
@@ -275,7 +346,7 @@ pub(crate) fn next_block<S: Source>(
     requires ready { IsReady net.now (before question) checked.old }
     ensures step { (blocks : List (List Record)) →
         StepIs (asks_block meaning at.old.version table.now (asked question)
-        (behind_by net.now checked.old.facts.earlier after_tree at.old.line blocks))
+        (after_by net.now checked.old.facts.earlier after_tree at.old.line blocks))
         (λ _ y. IsAfter net.now checked.new.facts.earlier checked.new.by_tree at.new.line y)
         result at.old at.new (S.seen source.old) (S.seen source.new) }
     ensures goes { OnOk result (GoesOn at.new) }

@@ -11,7 +11,7 @@ use crate::questions::next_blocks;
 use crate::reading::Reading;
 use crate::stop::CheckStop;
 use crate::table::next_table;
-use crn_cert::Verdicts;
+use crn_cert::{Rows, Verdicts};
 use crn_check::Facts;
 use crn_io::{NoMemory, Source};
 use crn_net::Network;
@@ -27,6 +27,7 @@ fn none_checked(alloc: Global, net: &Network) -> Result<Checked, NoMemory>
     Ok(Checked {
         facts: Facts::new(alloc, net)?,
         verdicts: Verdicts::new(alloc)?,
+        sides: Rows::new(alloc)?,
         by_tree: false,
     })
 }
@@ -68,6 +69,7 @@ pub(crate) fn next_body<S: Source>(
     let Checked {
         facts: _,
         verdicts,
+        sides: _,
         by_tree: _,
     } = checked;
     Ok(verdicts)

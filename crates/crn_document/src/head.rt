@@ -1,27 +1,74 @@
-ghost use Rattle.std.specs.Prelude.{◌≡◌, ◌≤◌, ◌+◌, [], ◌∷◌, length, pos, OnOk};
+ghost use Rattle.std.specs.Prelude.{◌≡◌, ◌≤◌, ◌+◌, [], ◌∷◌, length, pos, IfOk, OnOk};
 ghost use Rattle.std.specs.List.{AllByRecursion};
 ghost use Rattle.crn_vec.specs.declared.limits.TheConstants.{MAX_COMPLEXES, MAX_REACTIONS};
-ghost use Rattle.crn_cert.specs.Questions.{Earlier};
+ghost use Rattle.crn_cert.specs.Questions.{Earlier, Q12, on};
 ghost use Rattle.crn_ctext.specs.Records.{Record};
 ghost use Rattle.crn_ctext.specs.Blocks.{asks, place_of};
 ghost use Rattle.crn_ctext.specs.Expect.{sizes_of, tag_of};
-ghost use Rattle.crn_check.specs.Facts.{asked};
+ghost use Rattle.crn_ctext.specs.Meaning.{has_vector};
+ghost use Rattle.crn_check.specs.Facts.{HoldsOn, asked};
 ghost use Rattle.crn_check.specs.Check.{IsBuilt};
 ghost use Rattle.crn_document.specs.Inner.Steps.{IsVersion, GoesOn, StepIs};
 ghost use Rattle.crn_document.specs.Inner.Records.{Expects};
-ghost use Rattle.crn_document.specs.Inner.Heads.{FitsCounts, IsHead, head_forms};
+ghost use Rattle.crn_document.specs.Inner.Heads.{FitsCounts, FitsSignals, IsHead, head_forms};
 ghost use Rattle.crn_document.specs.Inner.Parts.{IsKnown, before};
 
 use crate::linkage::linkage_of;
 use crate::parts::counts_of;
 use crate::reading::Reading;
 use crate::record::next_record;
-use crate::sizes::sizes_of;
+use crate::sizes::head_sizes;
 use crate::stop::CheckStop;
+use crate::strong::{pairs_in, strong_of};
+use crn_cert::Verdict;
 use crn_check::Facts;
 use crn_ctext::{Due, Expect};
-use crn_io::Source;
+use crn_io::{NoMemory, Source};
 use crn_net::Network;
+use std::alloc::Global;
+
+// What the forms of the head of question 13 rest on besides: the number of linked pairs within terminal classes, and
+// whether question 12 gives a vector. For the other questions it is 0 and no.
+#[derive(Clone, Copy)]
+struct SignalSizes {
+    pairs: u32,
+    vector: bool,
+}
+
+// Whether question 12 gives a vector.
+fn gives_vector(facts: &Facts) -> bool
+    requires { HoldsOn facts.now.earlier 12 }
+    ensures { result ≡ has_vector (on facts.now.earlier Q12) }
+{
+    match facts.verdict(12) {
+        Verdict::YesVec { .. } => true,
+        _ => false,
+    }
+}
+
+// These sizes, as they are known before the block of a question.
+fn signal_sizes(
+    alloc: Global,
+    net: &Network,
+    facts: &Facts,
+    question: u32,
+) -> Result<SignalSizes, NoMemory>
+    requires built { IsBuilt question }
+    requires known { IsKnown net.now (before question) facts.now }
+    ensures { IfOk result (FitsSignals net.now facts.now.earlier question) }
+{
+    if question == 13 {
+        let pairs = pairs_in(alloc, net, &strong_of(facts))?;
+        return Ok(SignalSizes {
+            pairs: pairs.as_slice().len() as u32,
+            vector: gives_vector(facts),
+        });
+    }
+    Ok(SignalSizes {
+        pairs: 0,
+        vector: false,
+    })
+}
 
 // What is due where the head of a question is.
 fn head_expect<'a>(
@@ -29,20 +76,24 @@ fn head_expect<'a>(
     after_tree: bool,
     net: &Network,
     class_reactions: &'a [u32],
+    signals: SignalSizes,
     question: u32,
 ) -> Expect<'a>
     requires version { IsVersion version }
     requires built { IsBuilt question }
     requires few { length class_reactions.now ≤ MAX_COMPLEXES }
     requires each { AllByRecursion (λ r. r ≤ MAX_REACTIONS) class_reactions.now }
+    requires pairs { signals.pairs ≤ MAX_REACTIONS }
     ensures due { (earlier : Earlier) → FitsCounts net.now earlier class_reactions.now
+        → FitsSignals net.now earlier question signals
         → Expects result version after_tree (head_forms net.now earlier question) }
     ensures tag { (earlier : Earlier) (r : Record)
         → FitsCounts net.now earlier class_reactions.now
+        → FitsSignals net.now earlier question signals
         → tag_of result.due (sizes_of result.sizes) r
         ≡ pos (place_of (head_forms net.now earlier question) r.words) ∷ [] }
 {
-    let sizes = sizes_of(net, class_reactions);
+    let sizes = head_sizes(net, class_reactions, signals.pairs, signals.vector);
     Expect {
         due: Due::Head(question),
         version,
@@ -73,6 +124,8 @@ pub(crate) fn next_head<S: Source>(
 {
     let linkage = linkage_of(net, facts, question);
     let counts = counts_of(at.alloc, net, linkage.labels, linkage.count)?;
-    let expect = head_expect(at.version, after_tree, net, counts.as_slice(), question);
+    let signals = signal_sizes(at.alloc, net, facts, question)?;
+    let classes = counts.as_slice();
+    let expect = head_expect(at.version, after_tree, net, classes, signals, question);
     next_record(source, at, &expect)
 }

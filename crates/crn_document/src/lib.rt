@@ -21,6 +21,8 @@ mod questions;
 mod reading;
 mod record;
 mod rows;
+mod signal;
+mod signal_trees;
 mod sizes;
 mod stop;
 mod strong;

@@ -1,5 +1,5 @@
 ghost use Rattle.std.specs.Prelude.{◌≡◌, ◌≢◌, ◌≤◌, ◌+◌, ℕ, [], length, IfOk, OnOk};
-ghost use Rattle.crn_io.specs.declared.lines.TheConstants.{MAX_SHARED};
+ghost use Rattle.crn_io.specs.declared.lines.TheConstants.{MAX_NUMBERS, MAX_SHARED};
 ghost use Rattle.crn_ctext.specs.Records.{Record};
 ghost use Rattle.crn_ctext.specs.Blocks.{node_of};
 ghost use Rattle.crn_ctext.specs.Expect.{IsExpectable};
@@ -8,11 +8,11 @@ ghost use Rattle.crn_ctree.specs.Due.{first, rest};
 ghost use Rattle.crn_ctree.specs.Problem.{problem_of};
 ghost use Rattle.crn_document.specs.Inner.Answer.{AreSmall};
 ghost use Rattle.crn_document.specs.Inner.Steps.{IsVersion, GoesOn, StepIs};
-ghost use Rattle.crn_document.specs.Inner.Trees.{ExpectsNode, IsNode, IsSaidAs, JudgeGives, Leaves, TakesSome, after_node, asks_node_for, asks_one, problem_in};
+ghost use Rattle.crn_document.specs.Inner.Trees.{ExpectsNode, IsNode, IsSaidAs, JudgeGives, Leaves, TakesSome, after_node, asks_node_for, asks_one, count_a as count_a_of, problem_in};
 
 use crate::numbers::number_of;
 use crate::reading::{Reading, next_line};
-use crate::sizes::sizes_of;
+use crate::sizes::net_sizes;
 use crate::stop::CheckStop;
 use crn_ctext::{Due, Expect, Word, read_record};
 use crn_ctree::{Node, SharedCut, SharedTable, Step, TreeCheck, TreeFault};
@@ -20,20 +20,20 @@ use crn_io::Source;
 use crn_net::Network;
 
 // What is due where a node of a tree is.
-fn node_expect(version: u32, net: &Network, shared: u32) -> Expect<'static>
+fn node_expect(version: u32, net: &Network, count_a: u32, shared: u32) -> Expect<'static>
     requires version { IsVersion version }
-    ensures { ExpectsNode result version (length net.now.names) shared }
+    requires few { count_a ≤ MAX_NUMBERS }
+    ensures { ExpectsNode result version count_a (length net.now.names) shared }
 {
-    let species = net.species() as u32;
     Expect {
         due: Due::Node {
-            count_a: species,
-            count_b: species,
+            count_a,
+            count_b: net.species() as u32,
             shared,
         },
         version,
         after_tree: false,
-        sizes: sizes_of(net, &[]),
+        sizes: net_sizes(net),
     }
 }
 
@@ -73,11 +73,12 @@ fn judge(
 ) -> Result<Step, TreeFault>
     requires few { length table.now ≤ MAX_SHARED }
     requires due { check.old.due ≢ [] }
-    requires choices { check.old.choices ≡ length net.now.names }
-    requires node { (version : ℕ) × (r : Record)
-        × IsNode version (length net.now.names) (length table.now) word numbers.now r }
+    requires choices { check.old.choices ≡ (problem_of net.now check.old.problem).choices }
+    requires node { let a = count_a_of net.now check.old.problem in (version : ℕ) × (r : Record)
+        × IsNode version a (length net.now.names) (length table.now) word numbers.now r }
     ensures gives { (version : ℕ) (r : Record)
-        → IsNode version (length net.now.names) (length table.now) word numbers.now r
+        → IsNode version (count_a_of net.now check.old.problem) (length net.now.names)
+        (length table.now) word numbers.now r
         → JudgeGives (problem_of net.now check.old.problem) check.old.due (node_of table.now r)
         check.new.due result }
     ensures choices { check.new.choices ≡ check.old.choices }
@@ -93,18 +94,21 @@ fn judge(
     }
 }
 
-// The next line, which has to be a node that passes its test at the prefix that is due.
+// The next line, which has to be a node that passes its test at the prefix that is due. A cut of part A has so many
+// numbers.
 pub(crate) fn next_node<S: Source>(
     source: &mut S,
     at: &mut Reading,
     net: &Network,
     table: &SharedTable,
+    count_a: u32,
     check: &mut TreeCheck,
 ) -> Result<Step, CheckStop>
     requires goes { GoesOn at.old }
     requires few { length table.now ≤ MAX_SHARED }
+    requires numbers { (count_a ≡ count_a_of net.now check.old.problem) × (count_a ≤ MAX_NUMBERS) }
     requires due { check.old.due ≢ [] }
-    requires choices { check.old.choices ≡ length net.now.names }
+    requires choices { check.old.choices ≡ (problem_of net.now check.old.problem).choices }
     ensures step { let prefix = first check.old.due in
         let p = problem_in net.now check.old.problem in
         StepIs (asks_one at.old.version table.now p prefix at.old.line)
@@ -119,7 +123,7 @@ pub(crate) fn next_node<S: Source>(
     ensures line { OnOk result (at.new.line ≡ at.old.line + 1) }
     ensures version { at.new.version ≡ at.old.version }
 {
-    let expect = node_expect(at.version, net, table.len() as u32);
+    let expect = node_expect(at.version, net, count_a, table.len() as u32);
     let word = next_word(source, at, &expect)?;
     match judge(net, table, check, word, at.numbers.as_slice()) {
         Ok(step) => Ok(step),

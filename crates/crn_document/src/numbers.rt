@@ -1,19 +1,29 @@
-ghost use Rattle.std.specs.Prelude.{◌≡◌, [], nat_abs, drop, IfOk};
+ghost use Rattle.std.specs.Prelude.{◌≡◌, [], nat_abs, drop, pos, slice_index_or, IfOk};
 ghost use Rattle.crn_ctext.specs.Meaning.{number, nums, ints};
 ghost use Rattle.crn_document.specs.Inner.Answer.{IsSmall, AreSmall};
 
 use crn_vec::{Ints, NoMemory, Nums};
 use std::alloc::Global;
 
-// A small number of a record.
+// The absolute value of a small number of a record.
 pub(crate) fn small(value: i128) -> u32
     requires { IsSmall value }
     ensures { result ≡ nat_abs value }
 {
-    value as u32
+    value.unsigned_abs() as u32
 }
 
-// The number at this place of a record of small numbers, counted from 0, and 0 if there is none.
+// The number at this place of a record, counted from 0, and 0 if there is none.
+pub(crate) fn entry_of(row: &[i128], i: usize) -> i128
+    ensures { result ≡ slice_index_or row.now i (pos 0) }
+{
+    match row.get(i) {
+        Some(value) => *value,
+        None => 0,
+    }
+}
+
+// The absolute value of the number at this place of a record of small numbers, counted from 0, and 0 if there is none.
 pub(crate) fn number_of(row: &[i128], i: usize) -> u32
     requires { AreSmall row.now }
     ensures { result ≡ number row.now i }
@@ -24,7 +34,7 @@ pub(crate) fn number_of(row: &[i128], i: usize) -> u32
     }
 }
 
-// The numbers of a record, which are small.
+// The absolute values of the numbers of a record, which are small.
 pub(crate) fn nums_of(alloc: Global, row: &[i128]) -> Result<Nums, NoMemory>
     requires { AreSmall row.now }
     ensures { IfOk result (λ made. made ≡ nums row.now) }

@@ -11,12 +11,12 @@ ghost use Rattle.crn_check.specs.Facts.{asked};
 ghost use Rattle.crn_check.specs.Check.{IsBuilt};
 ghost use Rattle.crn_document.specs.Inner.Steps.{GoesOn, StepIs};
 ghost use Rattle.crn_document.specs.Inner.Records.{Expects};
-ghost use Rattle.crn_document.specs.Inner.Blocks.{IsAfter, IsAt, IsOpened, IsReady, behind_by};
+ghost use Rattle.crn_document.specs.Inner.Blocks.{IsAfter, IsAt, IsOpened, IsReady, after_by};
 
 use crate::block::{Checked, next_block};
 use crate::reading::Reading;
 use crate::record::next_record;
-use crate::sizes::sizes_of;
+use crate::sizes::net_sizes;
 use crate::stop::CheckStop;
 use crn_cert::question_number;
 use crn_ctext::{Due, Expect};
@@ -25,7 +25,7 @@ use crn_io::Source;
 use crn_net::Network;
 
 // The place of the last question among those that are answered, counted from 1.
-const LAST: u32 = 14;
+const LAST: u32 = 15;
 
 // The number of the question that is answered at this place, counted from 1.
 fn question_at(place: u32) -> u32
@@ -65,7 +65,7 @@ fn section_expect(net: &Network, section: u32, after_tree: bool) -> Expect<'stat
         due: Due::Section(section),
         version: 2,
         after_tree,
-        sizes: sizes_of(net, &[]),
+        sizes: net_sizes(net),
     }
 }
 
@@ -115,7 +115,7 @@ pub(crate) fn next_blocks<S: Source>(
     requires ready { IsReady net.now (take (place - 1) built) checked.old }
     ensures step { (blocks : List (List Record)) →
         StepIs (asks_blocks meaning at.old.version table.now (drop (place - 1) built)
-        (behind_by net.now checked.old.facts.earlier checked.old.by_tree at.old.line blocks))
+        (after_by net.now checked.old.facts.earlier checked.old.by_tree at.old.line blocks))
         (λ _ y. IsAfter net.now checked.new.facts.earlier checked.new.by_tree at.new.line y)
         result at.old at.new (S.seen source.old) (S.seen source.new) }
     ensures goes { OnOk result (GoesOn at.new) }

@@ -9,7 +9,8 @@ ghost use Rattle.crn_ctext.specs.declared.expect.Due.TheVariants.{Part as DuePar
 ghost use Rattle.crn_document.specs.Inner.Steps.{IsVersion, GoesOn, StepIs};
 ghost use Rattle.crn_document.specs.Inner.Records.{AreMembers, AreRows, Expects, IsRow, IsRowDue, MayBeRow, fixed_rows, many_rows, pair_rows, part_rows, row_form, rows_below};
 ghost use Rattle.crn_document.specs.Inner.Parts.{IsKnown, before};
-ghost use Rattle.crn_document.specs.declared.rows.Row.TheVariants.{Side};
+ghost use Rattle.crn_document.specs.declared.rows.Row.TheVariants.{M, Mu, Shelves, Side, Weights};
+ghost use Rattle.crn_cert.specs.Questions.{Q2, on, terminal_of};
 ghost use Rattle.crn_cert.specs.Valid.{strong, exits};
 ghost use Rattle.crn_check.specs.Check.{IsBuilt};
 
@@ -17,7 +18,7 @@ use crate::linkage::fill_members;
 use crate::parts::Part;
 use crate::reading::Reading;
 use crate::record::next_record;
-use crate::sizes::sizes_of;
+use crate::sizes::net_sizes;
 use crate::stop::CheckStop;
 use crate::strong::{pairs_in, strong_of};
 use crn_cert::Rows;
@@ -58,7 +59,11 @@ pub(crate) enum Row {
     Walk,
     // A number for each species and for each of so many linkage classes.
     Tie { classes: u32 },
-    // The two lists of a no on concordance, of a number for each reaction.
+    // The lists of a signal: a shelf of each of so many terminal classes, a number for each species, and one number.
+    Shelves { terminal: u32 },
+    Mu,
+    M,
+    // A number for each reaction: the first list of a no on concordance, and the last one of it and of a signal.
     Alpha,
     Weights,
 }
@@ -76,7 +81,8 @@ fn pair_rows(question: u32, place: u32) -> &'static [Row]
     &[]
 }
 
-// The records below a head but for ranks, sides and ties, by its question and the place of its form, both counted from 1.
+// The records below a head but for ranks, sides, ties and signals, by its question and the place of its form, both
+// counted from 1.
 fn fixed_rows(question: u32, place: u32) -> &'static [Row]
     ensures { result.now ≡ fixed_rows question place }
 {
@@ -173,7 +179,20 @@ fn push_sides(into: &mut Vec<Row>, pairs: &[u32]) -> Result<(), NoMemory>
     }
 }
 
-// Adds the sides and ties below a head, by its question and the place of its form, both counted from 1.
+// Adds the lists of a signal.
+fn push_signal(into: &mut Vec<Row>, terminal: u32) -> Result<(), NoMemory>
+    ensures { OnOk result (into.new.items
+        ≡ into.old.items ++ Shelves terminal ∷ Mu ∷ M ∷ Weights ∷ []) }
+{
+    into.push(Row::Shelves { terminal })?;
+    into.push(Row::Mu)?;
+    into.push(Row::M)?;
+    into.push(Row::Weights)?;
+    Ok(())
+}
+
+// Adds the sides, ties and lists of a signal below a head, by its question and the place of its form, both counted
+// from 1.
 fn push_many(
     alloc: Global,
     net: &Network,
@@ -186,7 +205,8 @@ fn push_many(
     requires built { IsBuilt question }
     requires known { IsKnown net.now (before question) facts.now }
     ensures { let earlier = facts.now.earlier in OnOk result (into.new.items ≡ into.old.items
-        ++ many_rows net.now (strong earlier) (exits earlier) classes question place) }
+        ++ many_rows net.now (strong earlier) (exits earlier) (terminal_of (on earlier Q2))
+        classes question place) }
 {
     if question == 11 && place == 1 {
         let pairs = pairs_in(alloc, net, &strong_of(facts))?;
@@ -198,6 +218,9 @@ fn push_many(
     }
     if question == 12 && place == 3 {
         return push_times(into, Row::Tie { classes }, complexes);
+    }
+    if question == 13 && place == 1 {
+        return push_signal(into, strong_of(facts).terminal);
     }
     Ok(())
 }
@@ -215,7 +238,8 @@ pub(crate) fn rows_below(
     requires built { IsBuilt question }
     requires known { IsKnown net.now (before question) facts.now }
     ensures { let earlier = facts.now.earlier in
-        let many = many_rows net.now (strong earlier) (exits earlier) classes question place in
+        let many = many_rows net.now (strong earlier) (exits earlier)
+        (terminal_of (on earlier Q2)) classes question place in
         IfOk result (λ due. due.items ≡ rows_below question place many parts.now) }
 {
     let mut due = Vec::new(alloc);
@@ -286,6 +310,14 @@ fn row_due<'a>(below: &Below, row: Row, members: &'a [u32]) -> Due<'a>
         Row::Side { reaction } => Due::Side { reaction },
         Row::Walk => Due::Walk,
         Row::Tie { classes } => part(Word::Tie, s + classes as usize, 0, 0),
+        Row::Shelves { terminal } => Due::Part {
+            word: Word::Shelves,
+            count: terminal,
+            least: -1,
+            greatest: 1,
+        },
+        Row::Mu => part(Word::Mu, s, 0, 0),
+        Row::M => part(Word::M, 1, 0, 0),
         Row::Alpha => part(Word::Alpha, r, 0, 0),
         Row::Weights => part(Word::Weights, r, 0, 0),
     }
@@ -302,7 +334,7 @@ fn row_expect<'a>(version: u32, below: &Below, row: Row, members: &'a [u32]) -> 
     ensures untagged { (r : Record) → tag_of result.due (sizes_of result.sizes) r ≡ [] }
 {
     let due = row_due(below, row, members);
-    let sizes = sizes_of(below.net, &[]);
+    let sizes = net_sizes(below.net);
     Expect {
         due,
         version,

@@ -1,5 +1,6 @@
 ghost use Rattle.std.specs.Prelude.{◌≡◌, ◌<◌, ◌+◌, length, IfOk, OnOk};
 ghost use Rattle.crn_vec.specs.declared.limits.TheConstants.{MAX_REACTIONS};
+ghost use Rattle.crn_cert.specs.Questions.{Q2, on, terminal_of};
 ghost use Rattle.crn_cert.specs.Valid.{strong, exits};
 ghost use Rattle.crn_check.specs.Facts.{HoldsOn};
 ghost use Rattle.crn_pairs.specs.Pairs.{pairs_to};
@@ -12,11 +13,13 @@ use crn_pairs::is_pair;
 use crn_vec::Nums;
 use std::alloc::Global;
 
-// The strong class of each complex, and for each class a reaction that leaves it, 0 for a terminal one.
+// The strong class of each complex, for each class a reaction that leaves it, 0 for a terminal one, and the number of
+// terminal classes.
 #[derive(Clone, Copy)]
 pub(crate) struct Strong<'a> {
     pub(crate) labels: &'a [u32],
     pub(crate) exits: &'a [u32],
+    pub(crate) terminal: u32,
 }
 
 // The strong classes, once their question is answered.
@@ -24,19 +27,28 @@ pub(crate) fn strong_of<'a>(facts: &'a Facts) -> Strong<'a>
     requires { HoldsOn facts.now.earlier 2 }
     ensures labels { result.labels.now ≡ strong facts.now.earlier }
     ensures exits { result.exits.now ≡ exits facts.now.earlier }
+    ensures terminal { result.terminal ≡ terminal_of (on facts.now.earlier Q2) }
 {
     match facts.verdict(2) {
         Verdict::Classes { label, .. } => Strong {
             labels: label.as_slice(),
             exits: &[],
+            terminal: 0,
         },
-        Verdict::Strong { label, exit, .. } => Strong {
+        Verdict::Strong {
+            terminal,
+            label,
+            exit,
+            ..
+        } => Strong {
             labels: label.as_slice(),
             exits: exit.as_slice(),
+            terminal: *terminal,
         },
         _ => Strong {
             labels: &[],
             exits: &[],
+            terminal: 0,
         },
     }
 }

@@ -1,20 +1,20 @@
 -- For the contracts of private functions alone. The numbers of a head and of the records below it.
 -- Shapes: the numbers of a head follow the place of its form, which counts from 1.
-use Rattle.std.specs.Prelude.{◌≡◌, ◌<◌, ◌^◌, ◌⊎◌, ◌==◌, if◌then◌else◌, ℕ, zero, suc, ℤ, pos, List, [], ◌∷◌, drop, slice_index_or, take}
+use Rattle.std.specs.Prelude.{◌≡◌, ◌<◌, ◌^◌, ◌⊎◌, ◌==◌, if◌then◌else◌, ℕ, zero, suc, ℤ, pos, negsuc, nat_abs, List, [], ◌∷◌, drop, slice_index_or, take}
 use Rattle.std.specs.List.{AllByRecursion}
 use Rattle.crn_cert.specs.declared.answer.Gap.{Gap}
 use Rattle.crn_cert.specs.declared.answer.Gap.TheVariants.{Wide, Budget, Rests}
 use Rattle.crn_cert.specs.declared.answer.Verdict.{Verdict}
 use Rattle.crn_cert.specs.declared.answer.Verdict.TheVariants.{Unknown}
 use Rattle.crn_cert.specs.declared.answer.RankProof.{RankProof}
-use Rattle.crn_cert.specs.Questions.{Question, Q1, Q2, Q3, Q4, Q5, Q6, Q7, Q8, Q9, Q10, Q11, Q12, Q14, Q15}
+use Rattle.crn_cert.specs.Questions.{Question, Q1, Q2, Q3, Q4, Q5, Q6, Q7, Q8, Q9, Q10, Q11, Q12, Q13, Q14, Q15}
 use Rattle.crn_ctext.specs.Records.{Record}
 use Rattle.crn_ctext.specs.Meaning.{number, nums, verdict_by}
 use Rattle.crn_ctext.specs.Questions.{later_numbers}
 
--- the number fits 32 bits and is not negative
+-- the absolute value of the number fits 32 bits
 abbrev pub IsSmall : ℤ → Type 0
-IsSmall z = (n : ℕ) × (z ≡ pos n) × (n < 2 ^ 32)
+IsSmall z = nat_abs z < 2 ^ 32
 
 -- the numbers are small
 abbrev pub AreSmall : List ℤ → Type 0
@@ -43,6 +43,9 @@ verdict_at Q10 (suc (suc (suc (suc (suc (suc (suc zero))))))) n rs = Unknown (Re
 verdict_at Q11 (suc (suc (suc (suc (suc (suc (suc zero))))))) n rs = Unknown (Rests (number n 0))
 verdict_at Q12 (suc (suc (suc (suc (suc zero))))) n rs = Unknown (wide_gap n)
 verdict_at Q12 (suc (suc (suc (suc (suc (suc (suc zero))))))) n rs = Unknown (Rests (number n 0))
+verdict_at Q13 (suc (suc (suc (suc zero)))) n rs = Unknown (wide_gap n)
+verdict_at Q13 (suc (suc (suc (suc (suc zero))))) n rs = Unknown (Budget (number n 0))
+verdict_at Q13 (suc (suc (suc (suc (suc (suc zero)))))) n rs = Unknown (Rests (number n 0))
 verdict_at Q14 (suc (suc (suc zero))) n rs = Unknown (wide_gap n)
 verdict_at Q14 (suc (suc (suc (suc zero)))) n rs = Unknown (Budget (number n 0))
 verdict_at Q15 (suc (suc (suc zero))) n rs = Unknown (wide_gap n)
@@ -58,6 +61,13 @@ verdict_of_head q head rs = verdict_at q (number head 0) (later_numbers head) rs
 -- a yes, or a no that names a reaction
 abbrev pub IsYesOrReaction : List ℤ → Type 0
 IsYesOrReaction head = (head ≡ pos 1 ∷ []) ⊎ ((r : ℕ) × (head ≡ pos 2 ∷ pos r ∷ []) × (r < 2 ^ 32))
+
+-- a signal with its turn, a no, none, or open for one of three reasons
+abbrev pub IsOnSignal : List ℤ → Type 0
+IsOnSignal head = (zs : List ℤ)
+    × ((head ≡ pos 1 ∷ pos 1 ∷ zs) ⊎ ((head ≡ pos 1 ∷ negsuc 0 ∷ zs) ⊎ ((head ≡ pos 2 ∷ zs)
+    ⊎ ((head ≡ pos 3 ∷ zs) ⊎ ((head ≡ pos 4 ∷ zs) ⊎ ((head ≡ pos 5 ∷ zs)
+    ⊎ (head ≡ pos 6 ∷ zs)))))))
 
 -- a yes, a no, or open for one of two reasons
 abbrev pub IsOnConcordance : List ℤ → Type 0
@@ -88,9 +98,9 @@ IsHeadOf Q11 head = (zs : List ℤ)
 IsHeadOf Q12 head = (zs : List ℤ)
     × ((head ≡ pos 1 ∷ zs) ⊎ ((head ≡ pos 2 ∷ zs) ⊎ ((head ≡ pos 3 ∷ zs)
     ⊎ ((head ≡ pos 4 ∷ zs) ⊎ ((head ≡ pos 5 ∷ zs) ⊎ (head ≡ pos 7 ∷ zs))))))
+IsHeadOf Q13 head = IsOnSignal head
 IsHeadOf Q14 head = IsOnConcordance head
 IsHeadOf Q15 head = IsOnConcordance head
-IsHeadOf q head = ⊥
 
 -- ---- the records below
 

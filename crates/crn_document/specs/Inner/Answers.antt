@@ -1,15 +1,16 @@
 -- For the contracts of private functions alone. An answer by the numbers of its head and of the
 -- records below it.
 -- Shapes: the numbers of a head follow the place of its form, which counts from 1.
-use Rattle.std.specs.Prelude.{◌≡◌, ◌≤◌, ℕ, zero, suc, ℤ, List, [], ◌∷◌, drop, length, slice_index_or, take}
+use Rattle.std.specs.Prelude.{◌≡◌, ◌≤◌, ℕ, zero, suc, ℤ, pos, List, [], ◌∷◌, drop, length, slice_index_or, take}
 use Rattle.crn_cert.specs.declared.answer.Proof.{Proof}
 use Rattle.crn_cert.specs.declared.answer.Proof.TheVariants.{Nothing, Ranks}
 use Rattle.crn_cert.specs.declared.answer.RankProof.{RankProof}
 use Rattle.crn_cert.specs.Questions.{Question, Q1, Q2, Q3, Q5, Q6, Q11}
 use Rattle.crn_ctext.specs.Records.{Record}
 use Rattle.crn_ctext.specs.Questions.{Shapes, later_numbers}
-use Rattle.crn_ctext.specs.Meaning.{lists, number, proof_by}
+use Rattle.crn_ctext.specs.Meaning.{ints, lists, number, proof_by, row}
 use Rattle.crn_document.specs.declared.parts.Part.{Part}
+use Rattle.crn_document.specs.declared.signal.Signal.{Signal}
 use Rattle.crn_document.specs.Inner.Answer.{AreSmall, AreSmallRows, rank_proof_by, row_count}
 use Rattle.crn_document.specs.Inner.Parts.{FitParts}
 
@@ -22,6 +23,13 @@ FitRank place rank rows = Unit {0}
 abbrev pub FitWalk : (place : ℕ) → List (List ℤ) → Type 0
 FitWalk (suc (suc (suc (suc zero)))) rows = AreSmall (slice_index_or rows 0 [])
 FitWalk place rows = Unit {0}
+
+-- the lists and the number m of a signal that the records below a head say
+pub record IsSignalSaid (rs : List Record) (s : Signal) : Type 0 where
+  pub shelves : s.shelves ≡ ints (row rs 0)
+  pub mu : s.mu ≡ ints (row rs 1)
+  pub m : s.m ≡ slice_index_or (row rs 2) 0 (pos 0)
+  pub weights : s.weights ≡ ints (row rs 3)
 
 -- of the records below a head, those that an answer keeps as small numbers are small, and those of
 -- ranks come one after another

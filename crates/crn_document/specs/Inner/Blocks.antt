@@ -5,9 +5,11 @@ use Rattle.std.specs.Prelude.{◌≡◌, ◌+◌, ◌-◌, ◌++◌, ℕ, ℤ, B
 use Rattle.std.specs.List.{AllZip}
 use Rattle.crn_vec.specs.Network.{Net}
 use Rattle.crn_cert.specs.Built.{built}
-use Rattle.crn_cert.specs.Questions.{Earlier, Question}
+use Rattle.crn_cert.specs.Questions.{Earlier, Question, Q2, Q11, on, terminal_of}
 use Rattle.crn_cert.specs.Tests.{AllHold}
-use Rattle.crn_cert.specs.Valid.{exits, head_tests, linkage, linkage_count, strong}
+use Rattle.crn_cert.specs.Valid.{HasVector, exits, head_tests, linkage, linkage_count, strong}
+use Rattle.crn_cert.specs.declared.answer.Verdict.TheVariants.{Yes}
+use Rattle.crn_shape.specs.Sides.{AreSides}
 use Rattle.crn_ctext.specs.Records.{Record, Form, Fits}
 use Rattle.crn_ctext.specs.Course.{Course, Give, ◌>>=◌}
 use Rattle.crn_ctext.specs.Blocks.{Behind, asks_all, asks_trees, below, claims, has_tree, head_claims, problems, row_claims}
@@ -26,9 +28,9 @@ use Rattle.crn_document.specs.declared.block.Checked.{Checked}
 use Rattle.crn_document.specs.declared.reading.Reading.{Reading}
 
 -- after these verdicts and these blocks, at this line, which follows a tree or not
-abbrev pub behind_by : Net → Earlier → (by_tree : Bool) → (line : ℕ) → List (List Record)
+abbrev pub after_by : Net → Earlier → (by_tree : Bool) → (line : ℕ) → List (List Record)
     → Behind Known
-behind_by net earlier by_tree line blocks = record {
+after_by net earlier by_tree line blocks = record {
   known = known_of net earlier;
   by_tree = by_tree;
   line = line;
@@ -36,8 +38,8 @@ behind_by net earlier by_tree line blocks = record {
 }
 
 -- the same at a line that follows no tree
-abbrev pub behind_at : Net → Earlier → (line : ℕ) → List (List Record) → Behind Known
-behind_at net earlier line blocks = record {
+abbrev pub after_at : Net → Earlier → (line : ℕ) → List (List Record) → Behind Known
+after_at net earlier line blocks = record {
   known = known_of net earlier;
   by_tree = false;
   line = line;
@@ -47,7 +49,7 @@ behind_at net earlier line blocks = record {
 -- it is after these verdicts, at this line, which follows a tree or not
 abbrev pub IsAfter : Net → Earlier → (by_tree : Bool) → (line : ℕ) → Behind Known → Type 0
 IsAfter net earlier by_tree line y =
-    (blocks : List (List Record)) × (y ≡ behind_by net earlier by_tree line blocks)
+    (blocks : List (List Record)) × (y ≡ after_by net earlier by_tree line blocks)
 
 -- after the lines that open sections the line before is no tree's, unless there are none
 abbrev pub still_by_tree : List Record → Bool → Bool
@@ -102,10 +104,12 @@ head_course version table q at h =
 abbrev pub parts_after : Net → Earlier → (question : ℕ) → List ℤ → List Part
 parts_after net earlier question head = parts_below net (linkage earlier) question head
 
--- the sides and ties below a head with this place of its form, after these verdicts
+-- the sides, ties and lists of a signal below a head with this place of its form, after these
+-- verdicts
 abbrev pub many_after : Net → Earlier → (question place : ℕ) → List Row
 many_after net earlier question place =
-    many_rows net (strong earlier) (exits earlier) (linkage_count earlier) question place
+    many_rows net (strong earlier) (exits earlier) (terminal_of (on earlier Q2))
+    (linkage_count earlier) question place
 
 -- the forms of the records below a head with these numbers
 abbrev pub forms_below : Net → Earlier → (question : ℕ) → List ℤ → List Form
@@ -134,7 +138,14 @@ pub record IsAt (place question : ℕ) : Type 0 where
   pub later : drop (place - 1) built ≡ asked question ∷ drop place built
   pub with_it : up_to question ≡ take place built
 
--- the verdicts on these questions are known, and kept in order
+-- the sides of a yes to question 11 are those of the linked pairs, and a confluence vector is known
+-- after such a yes alone
+pub record KeepSides (net : Net) (earlier : Earlier) (sides : List (List ℤ)) : Type 0 where
+  pub are_sides : on earlier Q11 ≡ Yes → AreSides net sides
+  pub with_vector : HasVector earlier → on earlier Q11 ≡ Yes
+
+-- the verdicts on these questions are known, and kept in order, and so are the sides of question 11
 pub record IsReady (net : Net) (qs : List Question) (checked : Checked) : Type 0 where
   pub known : IsKnown net qs checked.facts
   pub kept : map tight checked.verdicts ≡ map (λ e. e.1) checked.facts.earlier
+  pub sides : KeepSides net checked.facts.earlier checked.sides

@@ -14,7 +14,7 @@ use Rattle.crn_ctext.specs.Meaning.{Known, meaning, verdicts_said, versions}
 use Rattle.crn_check.specs.Verdicts.{tight}
 use Rattle.crn_document.specs.declared.check.Accepted.{Accepted}
 use Rattle.crn_document.specs.declared.reading.Reading.{Reading}
-use Rattle.crn_document.specs.Inner.Blocks.{behind_at}
+use Rattle.crn_document.specs.Inner.Blocks.{after_at}
 use Rattle.crn_document.specs.Inner.Ending.{ends_with}
 
 -- nothing was read yet, and there is memory for the numbers of a line
@@ -35,7 +35,7 @@ last_course version net behind =
 abbrev pub body_course : (version line : ℕ) → Net → Course ReadOf
 body_course version line net = asks_table version line >>= (λ table.
     asks_blocks meaning version (lists_of table) built
-    (behind_at net [] (line + length table) []) >>= (λ behind.
+    (after_at net [] (line + length table) []) >>= (λ behind.
     last_course version net behind))
 
 -- a document

@@ -1,8 +1,9 @@
 -- For the contracts of private functions alone.
 -- The head of a question, and what the records below it rest on.
 -- Source: this project's own format. Shapes: questions and the places of forms count from 1.
-use Rattle.std.specs.Prelude.{◌≡◌, ◌==◌, ◌||◌, if◌then◌else◌, ℕ, ℤ, pos, List, ◌∷◌}
+use Rattle.std.specs.Prelude.{◌≡◌, ◌≤◌, ◌==◌, ◌||◌, if◌then◌else◌, ℕ, ℤ, pos, List, ◌∷◌}
 use Rattle.crn_vec.specs.Network.{Net}
+use Rattle.crn_vec.specs.declared.limits.TheConstants.{MAX_REACTIONS}
 use Rattle.crn_cert.specs.Questions.{Earlier}
 use Rattle.crn_ctext.specs.Records.{Record, Form}
 use Rattle.crn_ctext.specs.Questions.{heads}
@@ -10,6 +11,7 @@ use Rattle.crn_ctext.specs.Blocks.{place_of}
 use Rattle.crn_ctext.specs.Documents.{IsOneOf}
 use Rattle.crn_ctext.specs.Meaning.{Known, number, sizes_of}
 use Rattle.crn_check.specs.Facts.{asked}
+use Rattle.crn_document.specs.declared.head.SignalSizes.{SignalSizes}
 
 -- what is known of a network and of the verdicts so far
 abbrev pub known_of : Net → Earlier → Known
@@ -33,6 +35,13 @@ pub record IsHead (net : Net) (earlier : Earlier) (question : ℕ) (numbers : Li
 -- the number of classes that a head says, which the lengths of some records below it are
 abbrev pub class_count : ℕ → List ℤ → ℕ
 class_count question head = if question == 1 || question == 2 then number head 1 else 0
+
+-- the sizes on which the forms of the head of question 13 rest besides, 0 and no for other questions
+pub record FitsSignals (net : Net) (earlier : Earlier) (question : ℕ) (z : SignalSizes) : Type 0
+  where
+    pub few : z.pairs ≤ MAX_REACTIONS
+    pub pairs : question ≡ 13 → z.pairs ≡ (sizes_of (known_of net earlier)).pairs
+    pub vector : question ≡ 13 → z.vector ≡ (sizes_of (known_of net earlier)).vector
 
 -- how many reactions each linkage class has, which some forms of heads rest on
 abbrev pub FitsCounts : Net → Earlier → List ℕ → Type 0

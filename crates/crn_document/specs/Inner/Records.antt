@@ -2,12 +2,12 @@
 -- A record that is due, and the records below a head, by their words.
 -- Source: this project's own format. Shapes: complexes and reactions of a network count from 1 in a
 -- document.
-use Rattle.std.specs.Prelude.{◌≡◌, ◌==◌, ◌&&◌, if◌then◌else◌, ◌-◌, ◌+◌, ◌≤◌, ◌⊎◌, ◌++◌, replicate, ℕ, ℤ, pos, List, [], ◌∷◌, length, map, codes, Bool, false}
+use Rattle.std.specs.Prelude.{◌≡◌, ◌==◌, ◌&&◌, if◌then◌else◌, ◌-◌, ◌+◌, ◌≤◌, ◌⊎◌, ◌++◌, replicate, ℕ, ℤ, pos, negsuc, List, [], ◌∷◌, length, map, codes, Bool, false}
 use Rattle.std.specs.List.{AllZip, flat_map}
 use Rattle.crn_vec.specs.Network.{Net}
 use Rattle.crn_vec.specs.declared.limits.TheConstants.{MAX_COMPLEXES, MAX_REACTIONS}
 use Rattle.crn_pairs.specs.Pairs.{pairs_to}
-use Rattle.crn_ctext.specs.Records.{Record, Form, Fits, Members, Several}
+use Rattle.crn_ctext.specs.Records.{Record, Form, Fits, Members, Several, Small}
 use Rattle.crn_ctext.specs.Meaning.{lists}
 use Rattle.crn_ctext.specs.Kinds.{just, small, small_form, record_form, free_form}
 use Rattle.crn_ctext.specs.Course.{Course, due, ◌>>=◌}
@@ -20,7 +20,7 @@ use Rattle.crn_ctext.specs.declared.word.Word.{Word}
 use Rattle.crn_document.specs.declared.parts.Part.{Part as RankPart}
 use Rattle.crn_document.specs.Inner.Parts.{members_of}
 use Rattle.crn_document.specs.declared.rows.Row.{Row}
-use Rattle.crn_document.specs.declared.rows.Row.TheVariants.{Label, Up, Depth, From, FromDepth, To, ToDepth, Level, Exit, Back, Base, Dual, Comb, VecOfReactions, VecOfSpecies, CutOfReactions, CutOfSpecies, VecOfComplexes, Side, Walk, Tie, Alpha, Weights}
+use Rattle.crn_document.specs.declared.rows.Row.TheVariants.{Label, Up, Depth, From, FromDepth, To, ToDepth, Level, Exit, Back, Base, Dual, Comb, VecOfReactions, VecOfSpecies, CutOfReactions, CutOfSpecies, VecOfComplexes, Side, Walk, Tie, Shelves, Mu, M, Alpha, Weights}
 
 -- the record that is due at a line
 abbrev pub asks_for : Expect → (line : ℕ) → Course Record
@@ -73,6 +73,10 @@ row_form net labels n Walk =
     record_form (codes "walk")
     (Several 2 (length net.complexes) (pos 1) (pos (length net.complexes)) ∷ [])
 row_form net labels n (Tie classes) = free_form (codes "tie") (length net.names + classes)
+row_form net labels n (Shelves terminal) =
+    record_form (codes "shelves") (Small terminal (negsuc 0) (pos 1) ∷ [])
+row_form net labels n Mu = free_form (codes "mu") (length net.names)
+row_form net labels n M = free_form (codes "m") 1
 row_form net labels n Alpha = free_form (codes "alpha") (length net.reactions)
 row_form net labels n Weights = free_form (codes "weights") (length net.reactions)
 
@@ -82,7 +86,8 @@ pair_rows question place =
     if question == 14 && place == 2 then Alpha ∷ Weights ∷ [] else (
     if question == 15 && place == 2 then Alpha ∷ Weights ∷ [] else [])
 
--- the records below a head but for ranks, sides and ties, by its question and the place of its form
+-- the records below a head but for ranks, sides, ties and signals, by its question and the place of
+-- its form
 abbrev pub fixed_rows : (question place : ℕ) → List Row
 fixed_rows question place =
     if question == 1 then Label ∷ Up ∷ Depth ∷ [] else (
@@ -97,22 +102,31 @@ fixed_rows question place =
     if question == 12 && place == 4 then VecOfComplexes ∷ VecOfComplexes ∷ []
     else pair_rows question place)))))))))
 
--- the sides and ties below a head, by its question and the place of its form, where complexes have
--- these labels of strong classes, and these have these exits, and there are so many linkage classes
-abbrev pub many_rows : Net → (labels exits : List ℕ) → (classes question place : ℕ) → List Row
-many_rows net labels exits classes question place =
+-- the lists of a signal over so many terminal classes, by the question and the place of the head's
+-- form
+abbrev pub signal_rows : (terminal question place : ℕ) → List Row
+signal_rows terminal question place =
+    if question == 13 && place == 1 then Shelves terminal ∷ Mu ∷ M ∷ Weights ∷ [] else []
+
+-- the sides, ties and lists of a signal below a head, by its question and the place of its form,
+-- where complexes have these labels of strong classes, these have these exits, and there are so many
+-- terminal classes and linkage classes
+abbrev pub many_rows : Net → (labels exits : List ℕ) → (terminal classes question place : ℕ)
+    → List Row
+many_rows net labels exits terminal classes question place =
     if question == 11 && place == 1
     then map (λ r. Side r) (pairs_to net labels exits (length net.reactions)) else (
     if question == 12 && place == 1
     then replicate (length net.complexes - 1) (Tie classes) else (
-    if question == 12 && place == 3 then replicate (length net.complexes) (Tie classes) else []))
+    if question == 12 && place == 3 then replicate (length net.complexes) (Tie classes)
+    else signal_rows terminal question place))
 
 -- the records that prove a rank
 abbrev pub part_rows : RankPart → List Row
 part_rows p = Base p.class p.rank
     ∷ replicate p.rank Dual ++ replicate (p.count - p.rank) (Comb p.rank)
 
--- the records below a head, with these sides and ties, that proves these ranks
+-- the records below a head, with these sides, ties or lists of a signal, that proves these ranks
 abbrev pub rows_below : (question place : ℕ) → List Row → List RankPart → List Row
 rows_below question place many parts =
     fixed_rows question place ++ (many ++ flat_map part_rows parts)
@@ -122,6 +136,7 @@ abbrev pub MayBeRow : Row → Type 0
 MayBeRow (Base class rank) = rank ≤ MAX_REACTIONS
 MayBeRow (Comb rank) = rank ≤ MAX_REACTIONS
 MayBeRow (Tie classes) = classes ≤ MAX_COMPLEXES
+MayBeRow (Shelves terminal) = terminal ≤ MAX_COMPLEXES
 MayBeRow other = Unit {0}
 
 -- if the record is a base, these are the reactions of its linkage class

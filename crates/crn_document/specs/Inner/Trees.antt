@@ -2,17 +2,17 @@
 -- that are due.
 -- Source: this project's own format.
 -- Shapes: `due` lists the prefixes whose trees are still to come, the next one first.
-use Rattle.std.specs.Prelude.{◌≡◌, ◌≢◌, ◌<◌, ◌-◌, ◌++◌, ℕ, ℤ, true, false, List, [], ◌∷◌, length, Result}
+use Rattle.std.specs.Prelude.{◌≡◌, ◌≢◌, ◌<◌, ◌+◌, ◌-◌, ◌++◌, ℕ, ℤ, true, false, List, [], ◌∷◌, length, Result}
 use Rattle.crn_vec.specs.declared.signs.Sign.{Sign}
 use Rattle.crn_vec.specs.Network.{Net}
 use Rattle.crn_vec.specs.Problems.{Signed, children}
-use Rattle.crn_cert.specs.Nodes.{Said, Splits, Flats, CutsA, CutsB}
+use Rattle.crn_cert.specs.Nodes.{Said, Fits, Splits, Flats, CutsA, CutsB}
 use Rattle.crn_ctext.specs.Records.{Record}
 use Rattle.crn_ctext.specs.Kinds.{node_forms}
 use Rattle.crn_ctext.specs.Course.{Course, Give, ◌>>=◌, due, test}
 use Rattle.crn_ctext.specs.Blocks.{Problem, Node, Split, Flat, CutA, CutB, asks_leaf, asks_tree, leaf, word_of}
 use Rattle.crn_ctext.specs.Documents.{IsOneOf}
-use Rattle.crn_ctext.specs.Meaning.{problem_over}
+use Rattle.crn_ctext.specs.Meaning.{problem_with}
 use Rattle.crn_ctext.specs.Expect.{IsExpectable, tests_of, text_of}
 use Rattle.crn_ctext.specs.declared.word.Word.{Word}
 use Rattle.crn_ctext.specs.declared.expect.Expect.{Expect}
@@ -20,6 +20,7 @@ use Rattle.crn_ctext.specs.declared.expect.Due.TheVariants as due_kinds
 use Rattle.crn_ctree.specs.Gives.{IsTaken, NodeGives, SharedGives}
 use Rattle.crn_ctree.specs.Problem.{problem_of}
 use Rattle.crn_ctree.specs.declared.problem.Problem.{Problem as TreeProblem}
+use Rattle.crn_ctree.specs.declared.problem.Problem.TheVariants.{Concordance, Signals}
 use Rattle.crn_ctree.specs.declared.node.Step.{Step}
 use Rattle.crn_ctree.specs.declared.node.Step.TheVariants.{More, Complete}
 use Rattle.crn_ctree.specs.declared.fault.TreeFault.{TreeFault}
@@ -36,17 +37,17 @@ pub record IsSaidAs (e : Expect) (word : Word) (read : List ℤ) (r : Record) : 
   pub said : IsSaid e read r
   pub kind : word_of r ≡ text_of word
 
--- a node is due in a document of this version with so many shared lists; its cuts have a number for
--- each species
-pub record ExpectsNode (e : Expect) (version species shared : ℕ) : Type 0 where
+-- a node is due in a document of this version with so many shared lists; its cuts of part A have
+-- `count_a` numbers, and those of part B one for each species
+pub record ExpectsNode (e : Expect) (version count_a species shared : ℕ) : Type 0 where
   pub may : IsExpectable e
   pub of_version : e.version ≡ version
-  pub due : e.due ≡ due_kinds.Node species species shared
+  pub due : e.due ≡ due_kinds.Node count_a species shared
 
 -- the record is such a node, of this word, and these are its numbers
-pub record IsNode (version species shared : ℕ) (word : Word) (numbers : List ℤ) (r : Record)
-    : Type 0 where
-  pub form : IsOneOf (node_forms version species species shared) r
+pub record IsNode (version count_a species shared : ℕ) (word : Word) (numbers : List ℤ)
+    (r : Record) : Type 0 where
+  pub form : IsOneOf (node_forms version count_a species shared) r
   pub kind : word_of r ≡ text_of word
   pub numbers_are : numbers ≡ r.numbers
 
@@ -71,9 +72,22 @@ JudgeGives w due (CutB false u) after result = NodeGives w due (CutsB u) after r
 
 -- ---- one node after another
 
+-- how many choices a prefix has: one for each species, after those for the terminal classes
+abbrev pub choices_in : Net → TreeProblem → ℕ
+choices_in net (Concordance table) = length net.names
+choices_in net (Signals shape) = shape.now.count + shape.now.species
+
+-- how many numbers a cut of part A has: one for each species, or one for each complex and each
+-- linked pair
+abbrev pub count_a : Net → TreeProblem → ℕ
+count_a net (Concordance table) = length net.names
+count_a net (Signals shape) = length shape.now.complexes + length shape.now.pairs
+
 -- the sign problem of a tree as the course of a document sees it
 abbrev pub problem_in : Net → TreeProblem → Problem
-problem_in net problem = problem_over net (problem_of net problem)
+problem_in net problem =
+    problem_with (choices_in net problem) (count_a net problem) (length net.names)
+    (Fits (problem_of net problem))
 
 -- the test of a node at a prefix: one that is full is not split
 abbrev pub node_test : Problem → List Sign → (line : ℕ) → Node → Course (Unit {0})

@@ -7,7 +7,7 @@ use crate::reading::Reading;
 use crate::stop::CheckStop;
 use crate::table::next_table;
 use crate::tree::next_tree;
-use crn_ctree::Problem;
+use crn_ctree::{InfluenceTable, Problem};
 use crn_io::MemSource;
 use std::process::Abort;
 
@@ -18,14 +18,18 @@ const SECOND: &[u8] =
     b"crn certificate 2\nnetwork 2\nA -> B\nB -> A\nvectors 3\nvector 0 1\nvector 1\nvector 1 0\n";
 
 // The tree that begins after these lines.
-fn tree_read(source: &mut MemSource, at: &mut Reading, problem: Problem) -> Result<(), CheckStop>
+fn tree_read(
+    source: &mut MemSource,
+    at: &mut Reading,
+    influence: InfluenceTable,
+) -> Result<(), CheckStop>
     requires { IsNew at.old }
 {
     next_version(source, at)?;
     let count = next_count(source, at)?;
     let net = next_network(source, at, count)?;
     let table = next_table(source, at)?;
-    next_tree(source, at, &net, &table, problem)
+    next_tree(source, at, &net, &table, Problem::Concordance(influence))
 }
 
 // The code and the line of the first fault of a tree after these lines, or 0 and the line after the tree.
@@ -33,14 +37,14 @@ fn tree_answer(
     rt: &(impl Abort + AllocGlobal),
     before: &[u8],
     tree: &[u8],
-    problem: Problem,
+    influence: InfluenceTable,
 ) -> (u32, u32) {
     let mut text = Vec::new(rt.alloc());
     text.extend_from_slice(before).expect(rt, "memory");
     text.extend_from_slice(tree).expect(rt, "memory");
     let mut source = MemSource::new(rt.alloc(), &text, 16, &[]).expect(rt, "memory");
     let mut at = begin(rt.alloc()).expect(rt, "memory");
-    match tree_read(&mut source, &mut at, problem) {
+    match tree_read(&mut source, &mut at, influence) {
         Ok(()) => (0, at.line),
         Err(CheckStop::Rejected { code, line }) => (code, line),
         Err(_) => panic!(rt; "memory ran out, or the source failed"),
@@ -125,12 +129,12 @@ fn trees_are_read_node_by_node(rt: HostRuntime) {
     ];
     for (name, before, tree, want) in cases {
         assert_eq!(rt;
-            tree_answer(&rt, before, tree, Problem::Plain),
+            tree_answer(&rt, before, tree, InfluenceTable::Plain),
             want,
             "{name}"
         );
         assert_eq!(rt;
-            tree_answer(&rt, before, tree, Problem::Strong),
+            tree_answer(&rt, before, tree, InfluenceTable::Strong),
             want,
             "{name}"
         );

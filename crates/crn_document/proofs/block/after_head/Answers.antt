@@ -11,7 +11,7 @@ use Rattle.crn_ctext.proofs.CallerLemmas.{fails_before}
 use Rattle.crn_check.specs.Facts.{asked}
 use Rattle.crn_document.specs.Inner.Answer.{AreSmall, IsHeadOf}
 use Rattle.crn_document.specs.Inner.Heads.{IsHead}
-use Rattle.crn_document.specs.Inner.Blocks.{IsAfter, behind_at, head_course, rows_course}
+use Rattle.crn_document.specs.Inner.Blocks.{IsAfter, after_at, head_course, rows_course}
 use Rattle.crn_document.specs.Inner.Steps.{StepIs}
 use Rattle.crn_document.proofs.Heads.{said_facts}
 use Rattle.crn_document.proofs.Places.{needs_at}
@@ -55,7 +55,7 @@ returns-in-Ok-clause-step g c = λ h n blocks said next.
     let holds : AllHold (head_tests net earlier (asked q) (said_verdict q numbers [])) = subst (λ (v : Verdict). AllHold (head_tests net earlier (asked q) v)) verdict c.in-Ok.ensures in
     let rest = let r = c.read_rows.ensures.step in r h n blocks (subst (λ (zs : List ℤ). IsHead net earlier q zs h) (sym last) said) next in
     head_course_by (λ d. StepIs d (λ (t : Unit {0}) y. IsAfter net c.read_rows.new.checked.facts.earlier c.read_rows.new.checked.by_tree new.line y) c.read_rows.result at new before now) at.version table net c.args.checked.now.facts q n numbers h blocks c.requires.built c.requires.ready.known said
-    (step_then_is (claims n (head_tests net earlier (asked q) (said_verdict q numbers []))) (λ x. rows_course at.version table (asked q) (behind_at net earlier n blocks) h) tt (λ (t : Unit {0}) y. IsAfter net c.read_rows.new.checked.facts.earlier c.read_rows.new.checked.by_tree new.line y) c.read_rows.result at at new before before now
+    (step_then_is (claims n (head_tests net earlier (asked q) (said_verdict q numbers []))) (λ x. rows_course at.version table (asked q) (after_at net earlier n blocks) h) tt (λ (t : Unit {0}) y. IsAfter net c.read_rows.new.checked.facts.earlier c.read_rows.new.checked.by_tree new.line y) c.read_rows.result at at new before before now
     (tests_give (claims n (head_tests net earlier (asked q) (said_verdict q numbers []))) tt at.line at.lines before.left (λ place. claims_hold n (head_tests net earlier (asked q) (said_verdict q numbers [])) place holds)) refl rest)
 
 pub returns-clause-step : goal.returns-clause-step
@@ -73,9 +73,9 @@ returns-clause-step g c = λ h n blocks said next.
     let verdict : c.in_ok-verdict.verdict ≡ said_verdict q numbers [] = c.in_ok-verdict.ensures ∙ ap (λ (zs : List ℤ). said_verdict q zs []) same in
     let fails : FailsFirst (head_tests net earlier (asked q) (said_verdict q numbers [])) part code = subst (λ (v : Verdict). FailsFirst (head_tests net earlier (asked q) v) part code) verdict c.in-Err.ensures in
     let line : n + part ≡ at.line - 1 + part = omega (arith, next) in (
-      tests_fail (head_course at.version table (asked q) (behind_at net earlier n blocks) h) at.line (at.line - 1 + part) code at before.left c.requires.goes.reads
+      tests_fail (head_course at.version table (asked q) (after_at net earlier n blocks) h) at.line (at.line - 1 + part) code at before.left c.requires.goes.reads
           (λ place. head_course_by (λ d. course.FailsFirst d place (at.line - 1 + part) code) at.version table net c.args.checked.now.facts q n numbers h blocks c.requires.built c.requires.ready.known said
-          (subst (λ (k : ℕ). course.FailsFirst (claims n (head_tests net earlier (asked q) (said_verdict q numbers [])) >>= (λ x. rows_course at.version table (asked q) (behind_at net earlier n blocks) h)) place k code) line
-          (fails_before (claims n (head_tests net earlier (asked q) (said_verdict q numbers []))) (λ x. rows_course at.version table (asked q) (behind_at net earlier n blocks) h) place (n + part) code (claims_fail n (head_tests net earlier (asked q) (said_verdict q numbers [])) part code place fails)))),
+          (subst (λ (k : ℕ). course.FailsFirst (claims n (head_tests net earlier (asked q) (said_verdict q numbers [])) >>= (λ x. rows_course at.version table (asked q) (after_at net earlier n blocks) h)) place k code) line
+          (fails_before (claims n (head_tests net earlier (asked q) (said_verdict q numbers []))) (λ x. rows_course at.version table (asked q) (after_at net earlier n blocks) h) place (n + part) code (claims_fail n (head_tests net earlier (asked q) (said_verdict q numbers [])) part code place fails)))),
       refl,
     )

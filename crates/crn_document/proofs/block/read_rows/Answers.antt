@@ -7,12 +7,14 @@ use Rattle.crn_ctext.specs.Records.{Form}
 use Rattle.crn_ctext.specs.Blocks.{Behind, asks_all}
 use Rattle.crn_ctext.specs.Meaning.{Known}
 use Rattle.crn_ctext.specs.Steps.{StepGives}
+use Rattle.crn_cert.specs.Questions.{Q2, on, terminal_of}
 use Rattle.crn_cert.specs.Valid.{exits, linkage, strong}
+use Rattle.crn_document.proofs.Linkages.{terminal_few}
 use Rattle.crn_vec.specs.declared.limits.TheConstants.{MAX_COMPLEXES}
 use Rattle.crn_check.specs.Facts.{asked}
 use Rattle.crn_document.specs.declared.rows.Row.{Row}
 use Rattle.crn_document.specs.declared.stop.CheckStop.TheVariants as stop
-use Rattle.crn_document.specs.Inner.Blocks.{IsAfter, behind_at, end_course, forms_below, parts_after}
+use Rattle.crn_document.specs.Inner.Blocks.{IsAfter, after_at, end_course, forms_below, parts_after}
 use Rattle.crn_document.specs.Inner.Parts.{parts_below}
 use Rattle.crn_document.specs.Inner.Records.{MayBeRow, row_form}
 use Rattle.crn_document.specs.Inner.Steps.{StepIs, StopIs}
@@ -44,7 +46,7 @@ next_rows-requires-clause-may g c =
     let labels = l.labels_are in
     let long : length (linkage c.args.checked.now.facts.earlier) ≤ MAX_COMPLEXES = (let e = ap (λ (x : List ℕ). length x) labels in let m = l.long in omega (arith, e, m)) in
     let parts : c.deref.result.now ≡ parts_after c.args.net.now c.args.checked.now.facts.earlier c.args.question c.args.head.now = c.deref.ensures.value ∙ c.in_ok-parts.ensures ∙ ap (λ (ls : List ℕ). parts_below c.args.net.now ls c.args.question c.args.head.now) labels in
-    subst (λ (due : List Row). AllByRecursion MayBeRow due) (sym (c.deref-2.ensures.value ∙ c.in_ok-due.ensures)) (rows_may c.args.net.now (strong c.args.checked.now.facts.earlier) (exits c.args.checked.now.facts.earlier) c.linkage_of-linkage.result.count c.args.question c.number_of-place.result c.deref.result.now (let l = c.linkage_of-linkage.ensures in l.few) (subst AreRanks (sym parts) (let r = f.ranks in r long)))
+    subst (λ (due : List Row). AllByRecursion MayBeRow due) (sym (c.deref-2.ensures.value ∙ c.in_ok-due.ensures)) (rows_may c.args.net.now (strong c.args.checked.now.facts.earlier) (exits c.args.checked.now.facts.earlier) (terminal_of (on c.args.checked.now.facts.earlier Q2)) c.linkage_of-linkage.result.count c.args.question c.number_of-place.result c.deref.result.now (terminal_few c.args.net.now c.args.question c.args.checked.now.facts c.requires.ready.known) (let l = c.linkage_of-linkage.ensures in l.few) (subst AreRanks (sym parts) (let r = f.ranks in r long)))
 
 pub end_block-requires-clause-line : goal.end_block-requires-clause-line
 end_block-requires-clause-line g c =
@@ -86,7 +88,7 @@ returns-in_err-next_rows-clause-step g c = λ h n blocks said next.
     let same = forms_are c.args.net.now earlier c.args.question c.args.head.now c.linkage_of-linkage.result.labels.now c.linkage_of-linkage.result.count c.class_count-classes.result c.number_of-place.result c.deref.result.now c.deref-2.result.now (let l = c.linkage_of-linkage.ensures in l.labels_are) (let l = c.linkage_of-linkage.ensures in l.count_is) c.class_count-classes.ensures c.number_of-place.ensures (c.deref.ensures.value ∙ c.in_ok-parts.ensures) (c.deref-2.ensures.value ∙ c.in_ok-due.ensures) in
     step_exits _ _ _ e _ _ _ _ (err_from_is_err_and _ c.from_residual-in_err-next_rows.ensures.1)
     (rows_course_by (λ d. StopIs d e at (g.S.Source.seen c.args.source.now) (g.S.Source.seen c.next_rows.new.source)) at.version table c.args.net.now c.args.checked.now.facts c.args.question n at.line c.args.head.now h blocks c.requires.built c.requires.ready.known said next
-    (stop_first (asks_all at.version at.line false (forms_below c.args.net.now earlier c.args.question c.args.head.now)) (λ rows. end_course at.version table (asked c.args.question) (behind_at c.args.net.now earlier n blocks) h rows) e at _ _
+    (stop_first (asks_all at.version at.line false (forms_below c.args.net.now earlier c.args.question c.args.head.now)) (λ rows. end_course at.version table (asked c.args.question) (after_at c.args.net.now earlier n blocks) h rows) e at _ _
     (subst (λ (fs : List Form). StopIs (asks_all at.version at.line false fs) e at (g.S.Source.seen c.args.source.now) (g.S.Source.seen c.next_rows.new.source)) same c.in_err-next_rows.ensures.step)))
 
 pub returns-clause-step : goal.returns-clause-step
@@ -107,9 +109,9 @@ returns-clause-step g c = λ h n blocks said next.
     let block = rows_block net earlier c.args.question c.args.head.now forms c.next_rows.new.into c.in_ok-rows.rows h s.0 same c.in_ok-rows.ensures said s.1 in
     let line : at.line - 1 ≡ n = omega (arith, next) in
     let Says : Unit {0} → Behind Known → Type 0 = λ t y. IsAfter net c.end_block.new.checked.facts.earlier c.end_block.new.checked.by_tree last.line y in
-    let rest : StepIs (end_course mid.version table q (behind_at net earlier (at.line - 1) blocks) h s.0) Says c.end_block.result mid last between now = let e = c.end_block.ensures.step in e h s.0 blocks block in
+    let rest : StepIs (end_course mid.version table q (after_at net earlier (at.line - 1) blocks) h s.0) Says c.end_block.result mid last between now = let e = c.end_block.ensures.step in e h s.0 blocks block in
     rows_course_by (λ d. StepIs d Says c.end_block.result at last before now) at.version table net c.args.checked.now.facts c.args.question n at.line c.args.head.now h blocks c.requires.built c.requires.ready.known said next
-    (step_then_is (asks_all at.version at.line false (forms_below net earlier c.args.question c.args.head.now)) (λ rows. end_course at.version table q (behind_at net earlier n blocks) h rows) s.0 Says c.end_block.result at mid last before between now
+    (step_then_is (asks_all at.version at.line false (forms_below net earlier c.args.question c.args.head.now)) (λ rows. end_course at.version table q (after_at net earlier n blocks) h rows) s.0 Says c.end_block.result at mid last before between now
     (subst (λ (fs : List Form). StepGives (asks_all at.version at.line false fs) s.0 at.line mid.line at.lines mid.lines before.left between.left) same s.2) s.3
-    (subst (λ (v : ℕ). StepIs (end_course v table q (behind_at net earlier n blocks) h s.0) Says c.end_block.result mid last between now) c.next_rows.ensures.version
-    (subst (λ (k : ℕ). StepIs (end_course mid.version table q (behind_at net earlier k blocks) h s.0) Says c.end_block.result mid last between now) line rest)))
+    (subst (λ (v : ℕ). StepIs (end_course v table q (after_at net earlier n blocks) h s.0) Says c.end_block.result mid last between now) c.next_rows.ensures.version
+    (subst (λ (k : ℕ). StepIs (end_course mid.version table q (after_at net earlier k blocks) h s.0) Says c.end_block.result mid last between now) line rest)))

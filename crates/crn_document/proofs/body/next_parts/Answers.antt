@@ -5,7 +5,7 @@ use Rattle.crn_cert.specs.Built.{built}
 use Rattle.crn_ctext.specs.Blocks.{asks_blocks, asks_table, lists_of}
 use Rattle.crn_ctext.specs.Meaning.{meaning}
 use Rattle.crn_ctext.specs.Steps.{StepGives}
-use Rattle.crn_document.specs.Inner.Blocks.{behind_at, behind_by}
+use Rattle.crn_document.specs.Inner.Blocks.{after_at, after_by}
 use Rattle.crn_document.specs.Inner.Courses.{last_course}
 use Rattle.crn_document.specs.Inner.Steps.{StopIs}
 use Rattle.crn_document.proofs.Bodies.{after_table, blocks_begin, last_exits, parts_end}
@@ -32,10 +32,10 @@ returns-in_err-next_blocks g c = record {
       let between = g.S.Source.seen c.next_table.new.source in
       let now = g.S.Source.seen c.next_blocks.new.source in
       let s = c.in_ok-table.ensures.step in
-      let b = subst (λ (t : List (List ℤ)). StopIs (asks_blocks meaning mid.version t built (behind_by net c.args.checked.now.facts.earlier c.args.checked.now.by_tree mid.line [])) e mid between now) s.1.1 (let h = c.in_err-next_blocks.ensures.step in h []) in
+      let b = subst (λ (t : List (List ℤ)). StopIs (asks_blocks meaning mid.version t built (after_by net c.args.checked.now.facts.earlier c.args.checked.now.by_tree mid.line [])) e mid between now) s.1.1 (let h = c.in_err-next_blocks.ensures.step in h []) in
       last_exits _ _ c.from_residual-in_err-next_blocks.result e at _ _ (err_from_is_err_and c.from_residual-in_err-next_blocks.result c.from_residual-in_err-next_blocks.ensures.1)
       (stop_after (asks_table at.version at.line) (after_table at.version at.line net) s.0 e at mid before between now s.2 s.3
-      (stop_first (asks_blocks meaning at.version (lists_of s.0) built (behind_at net [] (at.line + length s.0) [])) (λ behind. last_course at.version net behind) e mid between now
+      (stop_first (asks_blocks meaning at.version (lists_of s.0) built (after_at net [] (at.line + length s.0) [])) (λ behind. last_course at.version net behind) e mid between now
       (blocks_begin (λ d. StopIs d e mid between now) at.version mid.version (at.line + length s.0) mid.line (lists_of s.0) net c.args.checked.now.facts.earlier c.args.checked.now.by_tree c.next_table.ensures.version s.1.0 c.requires.empty c.requires.first b)));
 }
 
@@ -51,8 +51,8 @@ returns g c = record {
       let more = g.S.Source.seen c.next_blocks.new.source in
       let s = c.in_ok-table.ensures.step in
       let b = (let h = c.in_ok-next_blocks.ensures.step in h []) in
-      let given : StepGives (asks_blocks meaning mid.version (lists_of s.0) built (behind_by net c.args.checked.now.facts.earlier c.args.checked.now.by_tree mid.line [])) b.0 mid.line last.line mid.lines last.lines between.left more.left =
-      subst (λ (t : List (List ℤ)). StepGives (asks_blocks meaning mid.version t built (behind_by net c.args.checked.now.facts.earlier c.args.checked.now.by_tree mid.line [])) b.0 mid.line last.line mid.lines last.lines between.left more.left) s.1.1 b.2 in
+      let given : StepGives (asks_blocks meaning mid.version (lists_of s.0) built (after_by net c.args.checked.now.facts.earlier c.args.checked.now.by_tree mid.line [])) b.0 mid.line last.line mid.lines last.lines between.left more.left =
+      subst (λ (t : List (List ℤ)). StepGives (asks_blocks meaning mid.version t built (after_by net c.args.checked.now.facts.earlier c.args.checked.now.by_tree mid.line [])) b.0 mid.line last.line mid.lines last.lines between.left more.left) s.1.1 b.2 in
       parts_end net c.next_blocks.new.checked.facts.earlier c.next_blocks.new.checked.by_tree c.next_blocks.new.checked.verdicts s.0 b.0 c.next_end.result at mid last before between more _
       (c.next_blocks.ensures.version ∙ c.next_table.ensures.version) c.in_ok-next_blocks.ensures.ready.kept s.2 s.3 b.1
       (blocks_begin (λ d. StepGives d b.0 mid.line last.line mid.lines last.lines between.left more.left) at.version mid.version (at.line + length s.0) mid.line (lists_of s.0) net c.args.checked.now.facts.earlier c.args.checked.now.by_tree c.next_table.ensures.version s.1.0 c.requires.empty c.requires.first given)

@@ -16,18 +16,18 @@ pub head_expect-expect-requires-clause-few : goal.head_expect-expect-requires-cl
 head_expect-expect-requires-clause-few g c =
     let l = c.linkage_of-linkage.ensures in
     let b = counts_few c.args.net.now c.linkage_of-linkage.result.labels.now c.linkage_of-linkage.result.count c.requires.known.network.partial.reactions_limit l.few in
-    subst (λ (x : List ℕ). length x ≤ MAX_COMPLEXES) (sym (c.as_slice.ensures ∙ c.in_ok-counts.ensures)) b.0
+    subst (λ (x : List ℕ). length x ≤ MAX_COMPLEXES) (sym (c.as_slice-classes.ensures ∙ c.in_ok-counts.ensures)) b.0
 
 pub head_expect-expect-requires-clause-each : goal.head_expect-expect-requires-clause-each
 head_expect-expect-requires-clause-each g c =
     let l = c.linkage_of-linkage.ensures in
     let b = counts_few c.args.net.now c.linkage_of-linkage.result.labels.now c.linkage_of-linkage.result.count c.requires.known.network.partial.reactions_limit l.few in
-    subst (λ (x : List ℕ). AllByRecursion (λ r. r ≤ MAX_REACTIONS) x) (sym (c.as_slice.ensures ∙ c.in_ok-counts.ensures)) b.1
+    subst (λ (x : List ℕ). AllByRecursion (λ r. r ≤ MAX_REACTIONS) x) (sym (c.as_slice-classes.ensures ∙ c.in_ok-counts.ensures)) b.1
 
 pub next_record-requires-clause-due : goal.next_record-requires-clause-due
 next_record-requires-clause-due g c =
-    let fits = counts_fit c.args.net.now c.args.facts.now.earlier c.linkage_of-linkage.result c.as_slice.result.now c.linkage_of-linkage.ensures (c.as_slice.ensures ∙ c.in_ok-counts.ensures) in
-    let due = (let d = c.head_expect-expect.ensures.due in d c.args.facts.now.earlier fits) in due.may
+    let fits = counts_fit c.args.net.now c.args.facts.now.earlier c.linkage_of-linkage.result c.as_slice-classes.result.now c.linkage_of-linkage.ensures (c.as_slice-classes.ensures ∙ c.in_ok-counts.ensures) in
+    let due = (let d = c.head_expect-expect.ensures.due in d c.args.facts.now.earlier fits c.in_ok-signals.ensures) in due.may
 
 pub returns-clause-step : goal.returns-clause-step
 returns-clause-step g c =
@@ -36,9 +36,9 @@ returns-clause-step g c =
     let q = c.args.question in
     let e = c.head_expect-expect.result in
     let numbers = c.next_record.new.at.numbers.list in
-    let fits = counts_fit net earlier c.linkage_of-linkage.result c.as_slice.result.now c.linkage_of-linkage.ensures (c.as_slice.ensures ∙ c.in_ok-counts.ensures) in
-    let due = (let d = c.head_expect-expect.ensures.due in d earlier fits) in
+    let fits = counts_fit net earlier c.linkage_of-linkage.result c.as_slice-classes.result.now c.linkage_of-linkage.ensures (c.as_slice-classes.ensures ∙ c.in_ok-counts.ensures) in
+    let due = (let d = c.head_expect-expect.ensures.due in d earlier fits c.in_ok-signals.ensures) in
     let says : (t : Unit {0}) (h : Record) → IsSaid e numbers h → IsHead net earlier q numbers h
-    = λ t h s. record { form = subst (λ (fs : List Form). IsOneOf fs h) due.has s.form; tag = s.numbers ∙ ap (λ (zs : List ℤ). zs ++ h.numbers) (let t = c.head_expect-expect.ensures.tag in t earlier h fits) } in
+    = λ t h s. record { form = subst (λ (fs : List Form). IsOneOf fs h) due.has s.form; tag = s.numbers ∙ ap (λ (zs : List ℤ). zs ++ h.numbers) (let t = c.head_expect-expect.ensures.tag in t earlier h fits c.in_ok-signals.ensures) } in
     as_expected (λ d. StepIs d (λ t h. IsHead net earlier q numbers h) c.next_record.result c.args.at.now c.next_record.new.at (g.S.Source.seen c.args.source.now) (g.S.Source.seen c.next_record.new.source)) e c.args.at.now.version c.args.at.now.line c.args.after_tree (head_forms net earlier q) due
     (step_says (asks_for e c.args.at.now.line) (λ t h. IsSaid e numbers h) (λ t h. IsHead net earlier q numbers h) c.next_record.result c.args.at.now c.next_record.new.at _ _ says c.next_record.ensures.step)

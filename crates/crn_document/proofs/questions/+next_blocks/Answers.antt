@@ -7,15 +7,15 @@ use Rattle.crn_ctext.specs.Blocks.{Behind, asks_all, asks_block, asks_blocks, be
 use Rattle.crn_ctext.specs.Meaning.{Known, meaning}
 use Rattle.crn_ctext.specs.Steps.{StepGives}
 use Rattle.crn_check.specs.Facts.{asked}
-use Rattle.crn_document.specs.Inner.Blocks.{IsAfter, IsReady, behind_by}
+use Rattle.crn_document.specs.Inner.Blocks.{IsAfter, IsReady, after_by}
 use Rattle.crn_document.specs.Inner.Steps.{StepIs, StopIs}
 use Rattle.crn_document.proofs.Steps.{step_exits, step_then_is, stop_after, stop_first}
 use Rattle.crn_document.proofs.Places.{all_taken, none_left}
 use Rattle.crn_document.proofs.Sections.{behind_is, blocks_by, no_blocks, question_course}
 use Rattle.crn_document.proofs.questions.+next_blocks.Goals as goal
 
-last_place : (place : ℕ) → place ≤ length built + 1 → 14 < place → place ≡ 15
-last_place place most high = let few : place ≤ 15 = most in omega (arith, few, high)
+last_place : (place : ℕ) → place ≤ length built + 1 → 15 < place → place ≡ 16
+last_place place most high = let few : place ≤ 16 = most in omega (arith, few, high)
 
 pub next_section-requires-clause-built : goal.next_section-requires-clause-built
 next_section-requires-clause-built g t c = let q = c.question_at-question.ensures in q.answered
@@ -39,7 +39,7 @@ returns-then-place-gt-LAST-clause-ready g t c = subst (λ (qs : List Question). 
 pub returns-then-place-gt-LAST-clause-step : goal.returns-then-place-gt-LAST-clause-step
 returns-then-place-gt-LAST-clause-step g t c = λ blocks.
     let table = c.args.table.now in
-    let here = behind_by c.args.net.now c.args.checked.now.facts.earlier c.args.checked.now.by_tree c.args.at.now.line blocks in
+    let here = after_by c.args.net.now c.args.checked.now.facts.earlier c.args.checked.now.by_tree c.args.at.now.line blocks in
     no_blocks (λ (t : Unit {0}) y. IsAfter c.args.net.now c.args.checked.now.facts.earlier c.args.checked.now.by_tree c.args.at.now.line y) c.args.at.now.version table (drop (c.args.place - 1) built) here c.args.at.now (g.S.Source.seen c.args.source.now) (none_left c.args.place (last_place c.args.place c.requires.last c.if-place-gt-LAST.true)) (blocks, refl)
 
 pub returns-in_err-after_tree-clause-step : goal.returns-in_err-after_tree-clause-step
@@ -53,7 +53,7 @@ returns-in_err-after_tree-clause-step g t c = λ blocks.
     let before = g.S.Source.seen c.args.source.now in
     let now = g.S.Source.seen c.next_section.new.source in
     let tree = c.args.checked.now.by_tree in
-    let here = behind_by c.args.net.now c.args.checked.now.facts.earlier tree at.line blocks in
+    let here = after_by c.args.net.now c.args.checked.now.facts.earlier tree at.line blocks in
     let is : drop (p - 1) built ≡ q ∷ qs = (let i = c.question_at-question.ensures in i.later ∙ ap (λ (k : ℕ). q ∷ drop k built) (omega arith)) in
     step_exits _ _ c.from_residual.result e _ _ _ _ (err_from_is_err_and c.from_residual.result c.from_residual.ensures.1)
     (blocks_by (λ d. StopIs d e at before now) at.version table q qs (drop (p - 1) built) here is
@@ -74,10 +74,10 @@ returns-in_err-next_block-clause-step g t c = λ blocks.
     let between = g.S.Source.seen c.next_section.new.source in
     let now = g.S.Source.seen c.next_block.new.source in
     let tree = c.args.checked.now.by_tree in
-    let here = behind_by net earlier tree at.line blocks in
+    let here = after_by net earlier tree at.line blocks in
     let is : drop (p - 1) built ≡ q ∷ qs = (let i = c.question_at-question.ensures in i.later ∙ ap (λ (k : ℕ). q ∷ drop k built) (omega arith)) in
     let s = c.in_ok-after_tree.ensures.step in
-    let same_place : behind_by net earlier c.in_ok-after_tree.after_tree mid.line blocks ≡ behind_sections s.0 here = ap₂ (λ (b : Bool) (k : ℕ). behind_by net earlier b k blocks) s.1.1 s.1.0 ∙ sym (behind_is net earlier tree at.line blocks s.0) in
+    let same_place : after_by net earlier c.in_ok-after_tree.after_tree mid.line blocks ≡ behind_sections s.0 here = ap₂ (λ (b : Bool) (k : ℕ). after_by net earlier b k blocks) s.1.1 s.1.0 ∙ sym (behind_is net earlier tree at.line blocks s.0) in
     let b = let w = c.in_err-next_block.ensures.step in w blocks in
     let stopped : StopIs (asks_block meaning at.version table q (behind_sections s.0 here)) e mid between now =
     subst (λ (v : ℕ). StopIs (asks_block meaning v table q (behind_sections s.0 here)) e mid between now) c.in_ok-after_tree.ensures.version
@@ -105,10 +105,10 @@ returns-clause-step g t c = λ blocks.
     let s2 = g.S.Source.seen c.next_block.new.source in
     let s3 = g.S.Source.seen c.next_blocks.new.source in
     let tree = c.args.checked.now.by_tree in
-    let here = behind_by net earlier tree at.line blocks in
+    let here = after_by net earlier tree at.line blocks in
     let is : drop (p - 1) built ≡ q ∷ qs = (let i = c.question_at-question.ensures in i.later ∙ ap (λ (k : ℕ). q ∷ drop k built) (omega arith)) in
     let s = c.in_ok-after_tree.ensures.step in
-    let same_place : behind_by net earlier c.in_ok-after_tree.after_tree mid.line blocks ≡ behind_sections s.0 here = ap₂ (λ (b : Bool) (k : ℕ). behind_by net earlier b k blocks) s.1.1 s.1.0 ∙ sym (behind_is net earlier tree at.line blocks s.0) in
+    let same_place : after_by net earlier c.in_ok-after_tree.after_tree mid.line blocks ≡ behind_sections s.0 here = ap₂ (λ (b : Bool) (k : ℕ). after_by net earlier b k blocks) s.1.1 s.1.0 ∙ sym (behind_is net earlier tree at.line blocks s.0) in
     let b = let w = c.in_ok-next_block.ensures.step in w blocks in
     let given : StepGives (asks_block meaning at.version table q (behind_sections s.0 here)) b.0 mid.line later.line mid.lines later.lines s1.left s2.left =
     subst (λ (v : ℕ). StepGives (asks_block meaning v table q (behind_sections s.0 here)) b.0 mid.line later.line mid.lines later.lines s1.left s2.left) c.in_ok-after_tree.ensures.version

@@ -8,12 +8,12 @@ use Rattle.crn_ctree.specs.Due.{first}
 use Rattle.crn_ctree.specs.declared.node.Step.{Step}
 use Rattle.crn_ctree.specs.declared.problem.Problem.{Problem}
 use Rattle.crn_document.specs.Inner.Steps.{StepIs, StopIs}
-use Rattle.crn_document.specs.Inner.Trees.{Leaves, asks_due, asks_one, problem_in}
+use Rattle.crn_document.specs.Inner.Trees.{Leaves, asks_due, asks_one, count_a, problem_in}
 use Rattle.crn_document.proofs.Steps.{step_exits}
 use Rattle.crn_vec.specs.Problems.{Signed}
 use Rattle.crn_cert.specs.Nodes.{Said, Passing}
 use Rattle.crn_ctree.specs.Problem.{problem_of}
-use Rattle.crn_ctree.proofs.CallerLemmas.{complete_trees_show_concordance, passing_none, passing_taken}
+use Rattle.crn_ctree.proofs.CallerLemmas.{complete_trees_show, passing_none, passing_taken}
 use Rattle.crn_document.specs.Inner.Trees.{TakesSome}
 use Rattle.crn_document.proofs.DueTrees.{due_then, due_stops, none_due, root_tree}
 use Rattle.crn_document.proofs.CoursesFollowed.{step_follows}
@@ -35,10 +35,11 @@ nodes-init g c =
       goes = c.requires.goes;
       version = refl;
       some = λ none. let e : root ≡ [] = sym c.in_ok-check.ensures.due ∙ none in absurd cc;
-      choices = c.in_ok-check.ensures.choices;
+      choices = c.in_ok-check.ensures.choices ∙ ap (λ (k : Problem). (problem_of net k).choices) (sym c.in_ok-check.ensures.problem);
+      count = (c.count_a-count.ensures.count ∙ ap (λ (k : Problem). count_a net k) (sym c.in_ok-check.ensures.problem), c.count_a-count.ensures.few);
       problem = c.in_ok-check.ensures.problem;
       passing = ([], subst (λ (d : List (List Sign)). Passing (problem_of net c.args.problem) root [] d) (sym c.in_ok-check.ensures.due) (passing_none (problem_of net c.args.problem)));
-      whole = λ result new now q. step_follows (asks_due at.version table p root at.line) (asks_tree at.version table p (length net.names) [] at.line) (λ t line. line ≡ new.line) result at new (g.S.Source.seen c.args.source.now) now (root_tree at.version table p at.line)
+      whole = λ result new now q. step_follows (asks_due at.version table p root at.line) (asks_tree at.version table p p.choices [] at.line) (λ t line. line ≡ new.line) result at new (g.S.Source.seen c.args.source.now) now (root_tree at.version table p at.line)
           (subst (λ (d : List (List Sign)). StepIs (asks_due at.version table p d at.line) (λ t line. line ≡ new.line) result at new (g.S.Source.seen c.args.source.now) now) c.in_ok-check.ensures.due q);
     }
 
@@ -76,7 +77,8 @@ nodes-preserved g c =
       goes = c.in_ok-next_node.ensures.goes;
       version = c.next_node.ensures.version ∙ h.version;
       some = subst (λ (step : Step). Leaves step after.due) c.in-More.is c.in_ok-next_node.ensures.leaves;
-      choices = c.next_node.ensures.choices ∙ h.choices;
+      choices = c.next_node.ensures.choices ∙ h.choices ∙ ap (λ (k : Problem). (problem_of net k).choices) (sym c.next_node.ensures.problem);
+      count = (h.count.0 ∙ ap (λ (k : Problem). count_a net k) (sym c.next_node.ensures.problem), h.count.1);
       problem = c.next_node.ensures.problem ∙ h.problem;
       passing = passes_on (problem_of net tree.problem) (problem_of net c.args.problem) tree.due after.due h.passing.0 (ap (problem_of net) h.problem) h.some h.passing.1 c.in_ok-next_node.ensures.taken;
       whole = λ result new now q. whole result new now
@@ -113,4 +115,4 @@ returns-in-Complete-clause-shown g c =
     let after = c.next_node.new.check in
     let none : after.due ≡ [] = subst (λ (step : Step). Leaves step after.due) c.in-Complete.is c.in_ok-next_node.ensures.leaves in
     let all = passes_on (problem_of net tree.problem) w tree.due after.due h.passing.0 (ap (problem_of net) h.problem) h.some h.passing.1 c.in_ok-next_node.ensures.taken in
-    complete_trees_show_concordance net c.args.problem all.0 c.requires.network (subst (λ (d : List (List Sign)). Passing w root all.0 d) none all.1)
+    complete_trees_show net c.args.problem all.0 c.requires.network (subst (λ (d : List (List Sign)). Passing w root all.0 d) none all.1)

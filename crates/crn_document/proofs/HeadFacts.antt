@@ -1,0 +1,182 @@
+-- What the form of a head says of its numbers, of the records below it and of the answer.
+use Rattle.std.proofs.Common.{◌≡◌, ◌≢◌, ◌≤◌, ◌<◌, ◌+◌, ◌-◌, ◌^◌, ◌⊎◌, ◌++◌, ◌∙◌, ℕ, zero, suc, List, [], ◌∷◌, drop, length, map, replicate, refl, sym, subst, ap, ap₂, inl, inr, arith}
+use Rattle.std.specs.Prelude.{ℤ, pos, negsuc, codes, nat_abs, min, slice_index, slice_index_or}
+use Rattle.std.specs.List.{AllByRecursion, AllZip, range_with_len}
+use Rattle.std.proofs.lemmas.Int.{ints}
+use Rattle.std.proofs.lemmas.List.{append-nil, length-map, length-replicate}
+use Rattle.std.proofs.lemmas.List.FromFn.{length-range_with_len, length-map-range_with_len}
+use Rattle.crn_vec.specs.Lists.{IsAscending, IsIn}
+use Rattle.crn_vec.specs.Deficiency.{class_members}
+use Rattle.crn_cert.specs.declared.answer.Gap.TheVariants.{Wide}
+use Rattle.crn_cert.specs.declared.answer.Verdict.TheVariants.{Deficiency, Unknown}
+use Rattle.crn_cert.specs.declared.answer.Proof.TheVariants.{Ranks}
+use Rattle.crn_cert.specs.declared.answer.RankProof.{RankProof}
+use Rattle.crn_vec.specs.Network.{Net, IsNetwork}
+use Rattle.crn_vec.specs.declared.limits.TheConstants.{MAX_BUDGET, MAX_COMPLEXES, MAX_REACTIONS}
+use Rattle.crn_cert.specs.Questions.{Earlier, Q6}
+use Rattle.crn_cert.specs.Formed.{HeadMayBe, IsFormedOf, IsBasisOf, IsWalkList, AreClassProofs}
+use Rattle.crn_cert.specs.Tests.{AllHold}
+use Rattle.crn_cert.specs.Valid.{head_tests, row_tests, linkage, linkage_count, class_places, class_rank_tests, pair_places, side_tests}
+use Rattle.crn_cert.specs.ConfluenceTests.{tie_tests}
+use Rattle.crn_check.specs.Verdicts.{tight}
+use Rattle.crn_cert.specs.Ranges.{AreFrom, AreFree, AreFreeRows, AreBits}
+use Rattle.crn_ctext.specs.Records.{Record, Form, AreRising, CountAndPart, ClassWide, Rising, Several, TwoOf, Fits, AreOf, AreBetween}
+use Rattle.crn_ctext.specs.Kinds.{small, just, record_form, small_form, free_form}
+use Rattle.crn_ctext.specs.Questions.{Sizes, heads, head, yes, no, no_by, none_by, wide, rests, spent, open_by, class_forms, rank_forms, side_form, later_numbers}
+use Rattle.crn_ctext.specs.Blocks.{is_open, below, problems, unless}
+use Rattle.crn_ctext.specs.Documents.{IsOneOf}
+use Rattle.crn_ctext.specs.Meaning.{lengths, meaning, number, nums, lists, pairs_of, problems_by, row, sizes_of, shapes_of, verdict_of, proof_of, class_proofs}
+use Rattle.crn_ctext.specs.Expect.{question_of}
+use Rattle.crn_check.specs.Facts.{KeptFacts, asked}
+use Rattle.crn_check.specs.Check.{AsksForTree, IsBuilt, tree_place}
+use Rattle.crn_document.specs.Inner.Answer.{AreSmall, AreSmallRows, IsHeadOf, verdict_of_head}
+use Rattle.crn_document.specs.Inner.Answers.{FitAnswer, part_proofs, proof_of_head}
+use Rattle.crn_document.specs.Inner.Parts.{IsKnown, before, class_parts}
+use Rattle.crn_document.specs.Inner.Blocks.{HeadHolds, forms_below, parts_after}
+use Rattle.crn_document.specs.declared.rows.Row.{Row}
+use Rattle.crn_document.specs.declared.rows.Row.TheVariants.{Side, Tie}
+use Rattle.crn_document.specs.Inner.Records.{part_rows, row_form}
+use Rattle.crn_document.specs.Inner.Heads.{known_of, head_forms, tagged, class_count, IsHead}
+use Rattle.crn_document.proofs.Fields.{Holds, PartsWithin, fits_from, form_small, naturals, one_field, one_number, record_is, small_list}
+use Rattle.crn_document.proofs.Linkages.{count_few, members_all, members_few, member_few, pairs_known}
+use Rattle.crn_document.proofs.Ranks.{AreRanks, class_fit, class_ranks, class_formed, class_parts_within, class_proofs_are, class_rows_are, drop_none, forms_from, free_row, free_rows, map_replicate, members_are, proofs_from, rank_formed, rank_length, rank_parts, rank_rows_are, rank_small, sizes_are, zip_length}
+
+pub record HeadFacts (net : Net) (earlier : Earlier) (n : ℕ) (h : Record) (t : List ℤ) : Type 1 where
+  pub small : AreSmall t
+  pub short : length t ≤ 800
+  pub is_head : IsHeadOf (asked n) t
+  pub few : class_count n t ≤ MAX_COMPLEXES
+  pub ranks : length (linkage earlier) ≤ MAX_COMPLEXES → AreRanks (parts_after net earlier n t)
+  pub may : HeadMayBe net earlier (asked n) (verdict_of_head (asked n) t [])
+  pub below_is : below (asked n) (shapes_of (known_of net earlier)) h ≡ forms_below net earlier n t
+  pub said : (rs : List Record) → verdict_of (asked n) (sizes_of (known_of net earlier)) h rs ≡ verdict_of_head (asked n) t rs
+  pub shown : (rs : List Record) → proof_of (asked n) (shapes_of (known_of net earlier)) h rs ≡ proof_of_head (asked n) (shapes_of (known_of net earlier)) (parts_after net earlier n t) t rs
+  pub heads_are : unless (is_open h) (head_tests net earlier (asked n) (verdict_of_head (asked n) t [])) ≡ head_tests net earlier (asked n) (verdict_of_head (asked n) t [])
+  pub rows_are : (rs : List Record) → unless (is_open h) (row_tests net earlier (asked n) (verdict_of_head (asked n) t rs) (proof_of_head (asked n) (shapes_of (known_of net earlier)) (parts_after net earlier n t) t rs)) ≡ row_tests net earlier (asked n) (verdict_of_head (asked n) t rs) (proof_of_head (asked n) (shapes_of (known_of net earlier)) (parts_after net earlier n t) t rs)
+  pub trees_are : problems_by (asked n) (known_of net earlier) (number t 0) ≡ problems meaning (asked n) (known_of net earlier) h
+  pub tight_is : (rs : List Record) → tight (verdict_of_head (asked n) t rs) ≡ verdict_of_head (asked n) t rs
+  pub head_parts : PartsWithin 7 (head_tests net earlier (asked n) (verdict_of_head (asked n) t []))
+  pub heads_same : (rs : List Record) → AllHold (head_tests net earlier (asked n) (verdict_of_head (asked n) t [])) → AllHold (head_tests net earlier (asked n) (verdict_of_head (asked n) t rs))
+  pub fit : (rs : List Record) → HeadHolds net earlier n t → AllZip Fits (forms_below net earlier n t) rs → FitAnswer (asked n) t (parts_after net earlier n t) (lists rs)
+  pub formed : (rs : List Record) → (AsksForTree n → number t 0 ≡ tree_place n → ⊥) → HeadHolds net earlier n t → AllZip Fits (forms_below net earlier n t) rs
+      → IsFormedOf net earlier (asked n) (verdict_of_head (asked n) t rs) (proof_of_head (asked n) (shapes_of (known_of net earlier)) (parts_after net earlier n t) t rs)
+  pub row_parts : (rs : List Record) → HeadHolds net earlier n t → AllZip Fits (forms_below net earlier n t) rs
+      → PartsWithin (suc (length rs)) (row_tests net earlier (asked n) (verdict_of_head (asked n) t rs) (proof_of_head (asked n) (shapes_of (known_of net earlier)) (parts_after net earlier n t) t rs))
+
+abbrev pub head_with : List (List ℕ) → List ℤ → Record
+head_with words numbers = record { words = words; numbers = numbers }
+
+-- the facts of a head of these words and numbers
+abbrev pub Facts : Net → Earlier → ℕ → List (List ℕ) → List ℤ → Type 1
+Facts net earlier n words numbers = HeadFacts net earlier n (head_with words numbers) (tagged net earlier n (head_with words numbers))
+
+-- a number that fits
+pub one_small : (n : ℕ) → n < 2 ^ 32 → AreSmall (pos n ∷ [])
+one_small n lt = (lt, tt)
+
+-- each of these forms is of small numbers
+abbrev pub AreSmallForms : List Form → Type 0
+AreSmallForms [] = Unit {0}
+AreSmallForms (form ∷ forms) = ((word : List ℕ) × (count least greatest : ℕ) × (form ≡ small_form word count least greatest) × (greatest < 2 ^ 32)) × AreSmallForms forms
+
+pub small_rows : (forms : List Form) (rs : List Record) → AreSmallForms forms → AllZip Fits forms rs → AreSmallRows (lists rs)
+small_rows [] [] s z = tt
+small_rows [] (r ∷ rs) s z = absurd z
+small_rows (f ∷ fs) [] s z = absurd z
+small_rows (f ∷ fs) (r ∷ rs) s z = let t = s.0 in (form_small t.0 t.1 t.2 t.3 r t.5 (subst (λ (f : Form). Fits f r) t.4 z.0), small_rows fs rs s.1 z.1)
+
+pub few_rows : (forms : List Form) (rs : List Record) → AllZip Fits forms rs → length (lists rs) ≡ length forms
+few_rows forms rs z = length-map rs (λ (r : Record). r.numbers) ∙ zip_length forms rs z
+
+pub form_of : (word : List ℕ) (count least greatest : ℕ) → greatest < 2 ^ 32 → (w : List ℕ) × (c l g : ℕ) × (small_form word count least greatest ≡ small_form w c l g) × (g < 2 ^ 32)
+form_of word count least greatest lt = (word, count, least, greatest, refl, lt)
+
+pub few_none : (rs : List Record) → AllZip Fits [] rs → rs ≡ []
+few_none [] z = refl
+few_none (r ∷ rs) z = absurd z
+
+pub rising_small : (greatest : ℕ) (zs : List ℤ) → greatest < 2 ^ 32 → AreRising greatest zs → AreSmall zs
+rising_small greatest zs lt a = small_list 1 greatest zs lt a.3
+
+pub abs_pos : (ns : List ℕ) → map nat_abs (map pos ns) ≡ ns
+abs_pos [] = refl
+abs_pos (n ∷ ns) = ap (λ (t : List ℕ). n ∷ t) (abs_pos ns)
+
+pub rising_from : (count greatest : ℕ) (zs : List ℤ) → length zs ≡ count → AreRising greatest zs → AreFrom count 1 greatest (map nat_abs zs)
+rising_from count greatest zs long a = record { long = length-map zs nat_abs ∙ long; each = naturals 1 greatest zs a.3 }
+
+pub rising_ascends : (greatest : ℕ) (zs : List ℤ) → AreRising greatest zs → IsAscending (map nat_abs zs)
+rising_ascends greatest zs a = subst IsAscending (sym (ap (λ (t : List ℤ). map nat_abs t) a.1 ∙ abs_pos a.0)) a.2
+
+-- the numbers after the words of such a head
+pub record IsWide (system columns rows : ℕ) (zs : List ℤ) : Type 0 where
+  pub index : ℕ
+  pub basis : List ℤ
+  pub is : zs ≡ pos system ∷ pos 0 ∷ pos index ∷ basis
+  pub low : 1 ≤ index
+  pub high : index ≤ columns + rows
+  pub long : length basis ≡ columns
+  pub rising : AreRising (columns + rows) basis
+
+pub wide_numbers : (system columns rows : ℕ) (zs : List ℤ) → AreOf Holds (just system ∷ just 0 ∷ small 1 1 (columns + rows) ∷ Rising columns (columns + rows) ∷ []) zs → IsWide system columns rows zs
+wide_numbers system columns rows zs p =
+    let first = one_number system system p.0 p.3 in
+    let q = p.4 in
+    let second = one_number 0 0 q.0 q.3 in
+    let r = q.4 in
+    let third = one_number 1 (columns + rows) r.0 r.3 in
+    let s = r.4 in
+    let s1 : first.0 ≡ system = (let a = first.2.0 in let b = first.2.1 in omega (arith, a, b)) in
+    let s2 : second.0 ≡ 0 = (let b = second.2.1 in omega (arith, b)) in
+    let one : p.0 ≡ pos system ∷ [] = first.1 ∙ ap (λ (k : ℕ). pos k ∷ []) s1 in
+    let two : q.0 ≡ pos 0 ∷ [] = second.1 ∙ ap (λ (k : ℕ). pos k ∷ []) s2 in
+    let last : r.1 ≡ s.0 = s.2 ∙ ap (λ (t : List ℤ). s.0 ++ t) s.4 ∙ append-nil s.0 in record {
+      index = third.0;
+      basis = s.0;
+      is = p.2 ∙ ap₂ (λ (x y : List ℤ). x ++ y) one (q.2 ∙ ap₂ (λ (x y : List ℤ). x ++ y) two (r.2 ∙ ap₂ (λ (x y : List ℤ). x ++ y) third.1 last));
+      low = third.2.0;
+      high = third.2.1;
+      long = s.3.0.0;
+      rising = s.3.0.1;
+    }
+
+pub wide_small : (place system index greatest : ℕ) (basis : List ℤ) → place < 2 ^ 32 → system < 2 ^ 32 → index < 2 ^ 32 → greatest < 2 ^ 32 → AreRising greatest basis → AreSmall (pos place ∷ pos system ∷ pos 0 ∷ pos index ∷ basis)
+wide_small place system index greatest basis p s i g r = (p, (s, (omega arith, (i, rising_small greatest basis g r))))
+
+pub wide_basis : (columns rows index : ℕ) (basis : List ℤ) → 1 ≤ index → index ≤ columns + rows → length basis ≡ columns → AreRising (columns + rows) basis → IsBasisOf columns rows index (map nat_abs basis)
+wide_basis columns rows index basis low high long rising = record {
+  coordinate = (low, high);
+  members = rising_from columns (columns + rows) basis long rising;
+  ascending = rising_ascends (columns + rows) basis rising;
+}
+
+pub counts_long : (net : Net) (earlier : Earlier) → length (sizes_of (known_of net earlier)).class_reactions ≡ linkage_count earlier
+counts_long net earlier = length-map (map (λ k. class_places net earlier k) (range_with_len 1 (linkage_count earlier))) (λ (x : List ℕ). length x) ∙ length-map-range_with_len (λ k. class_places net earlier k) 1 (linkage_count earlier)
+
+-- the linked pairs on which the forms rest are those on which the tests do
+abbrev pub ArePairs : Net → Earlier → Type 0
+ArePairs net earlier = pairs_of (known_of net earlier) ≡ pair_places net earlier
+
+abbrev pub FactsOf : Net → Earlier → ℕ → Record → Type 1
+FactsOf net earlier n h = HeadFacts net earlier n h (tagged net earlier n h)
+
+pub same_facts : (net : Net) (earlier : Earlier) (n : ℕ) (h : Record) (words : List (List ℕ)) (numbers : List ℤ) → h.words ≡ words → h.numbers ≡ numbers → Facts net earlier n words numbers → FactsOf net earlier n h
+same_facts net earlier n h words numbers w z f = subst (λ (h : Record). FactsOf net earlier n h) (sym (record_is h words numbers w z)) f
+
+pub as_form : (h : Record) (form other : Form) → form ≡ other → Fits form h → Fits other h
+as_form h form other e fits = subst (λ (f : Form). Fits f h) e fits
+
+-- the forms of the head or of the records below it rest on the linked pairs
+abbrev pub UsesPairs : ℕ → Type 0
+UsesPairs n = (n ≡ 11) ⊎ (n ≡ 13)
+
+abbrev pub FactsAt : Net → Earlier → Record → ℕ → Type 1
+FactsAt net earlier h n = IsNetwork net → linkage_count earlier ≤ MAX_COMPLEXES → (UsesPairs n → ArePairs net earlier) → IsOneOf (head_forms net earlier n) h → FactsOf net earlier n h
+
+-- a linkage class and a number from 2
+pub class_and_number : (net : Net) (earlier : Earlier) (zs : List ℤ) → AreOf Holds (small 1 1 (length (sizes_of (known_of net earlier)).class_reactions) ∷ small 1 2 (length net.complexes) ∷ []) zs
+    → (k : ℕ) × (m : ℕ) × (zs ≡ pos k ∷ pos m ∷ []) × ((1 ≤ k) × (k ≤ linkage_count earlier)) × ((2 ≤ m) × (m ≤ length net.complexes))
+class_and_number net earlier zs p =
+    let first = one_number 1 (length (sizes_of (known_of net earlier)).class_reactions) p.0 p.3 in
+    let second = one_number 2 (length net.complexes) p.1 (one_field (small 1 2 (length net.complexes)) p.1 p.4) in
+    (first.0, second.0, p.2 ∙ ap₂ (λ (x y : List ℤ). x ++ y) first.1 second.1, (first.2.0, (let l = counts_long net earlier in let t = first.2.1 in omega (arith, l, t))), second.2)

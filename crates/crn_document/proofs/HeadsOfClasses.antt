@@ -1,0 +1,268 @@
+-- What the heads of questions 1 to 4 say.
+use Rattle.std.proofs.Common.{◌≡◌, ◌≢◌, ◌≤◌, ◌<◌, ◌+◌, ◌-◌, ◌^◌, ◌⊎◌, ◌++◌, ◌∙◌, ℕ, zero, suc, List, [], ◌∷◌, drop, length, map, replicate, refl, sym, subst, ap, ap₂, inl, inr, arith}
+use Rattle.std.specs.Prelude.{ℤ, pos, negsuc, codes, nat_abs, min, slice_index, slice_index_or}
+use Rattle.std.specs.List.{AllByRecursion, AllZip, range_with_len}
+use Rattle.std.proofs.lemmas.Int.{ints}
+use Rattle.std.proofs.lemmas.List.{append-nil, length-map, length-replicate}
+use Rattle.std.proofs.lemmas.List.FromFn.{length-range_with_len, length-map-range_with_len}
+use Rattle.crn_vec.specs.Lists.{IsAscending, IsIn}
+use Rattle.crn_vec.specs.Deficiency.{class_members}
+use Rattle.crn_cert.specs.declared.answer.Gap.TheVariants.{Wide}
+use Rattle.crn_cert.specs.declared.answer.Verdict.TheVariants.{Deficiency, Unknown}
+use Rattle.crn_cert.specs.declared.answer.Proof.TheVariants.{Ranks}
+use Rattle.crn_cert.specs.declared.answer.RankProof.{RankProof}
+use Rattle.crn_vec.specs.Network.{Net, IsNetwork}
+use Rattle.crn_vec.specs.declared.limits.TheConstants.{MAX_BUDGET, MAX_COMPLEXES, MAX_REACTIONS}
+use Rattle.crn_cert.specs.Questions.{Earlier, Q6}
+use Rattle.crn_cert.specs.Formed.{HeadMayBe, IsFormedOf, IsBasisOf, IsWalkList, AreClassProofs}
+use Rattle.crn_cert.specs.Tests.{AllHold}
+use Rattle.crn_cert.specs.Valid.{head_tests, row_tests, linkage, linkage_count, class_places, class_rank_tests, pair_places, side_tests}
+use Rattle.crn_cert.specs.ConfluenceTests.{tie_tests}
+use Rattle.crn_check.specs.Verdicts.{tight}
+use Rattle.crn_cert.specs.Ranges.{AreFrom, AreFree, AreFreeRows, AreBits}
+use Rattle.crn_ctext.specs.Records.{Record, Form, AreRising, CountAndPart, ClassWide, Rising, Several, TwoOf, Fits, AreOf, AreBetween}
+use Rattle.crn_ctext.specs.Kinds.{small, just, record_form, small_form, free_form}
+use Rattle.crn_ctext.specs.Questions.{Sizes, heads, head, yes, no, no_by, none_by, wide, rests, spent, open_by, class_forms, rank_forms, side_form, later_numbers}
+use Rattle.crn_ctext.specs.Blocks.{is_open, below, problems, unless}
+use Rattle.crn_ctext.specs.Documents.{IsOneOf}
+use Rattle.crn_ctext.specs.Meaning.{lengths, meaning, number, nums, lists, pairs_of, problems_by, row, sizes_of, shapes_of, verdict_of, proof_of, class_proofs}
+use Rattle.crn_ctext.specs.Expect.{question_of}
+use Rattle.crn_check.specs.Facts.{KeptFacts, asked}
+use Rattle.crn_check.specs.Check.{AsksForTree, IsBuilt}
+use Rattle.crn_document.specs.Inner.Answer.{AreSmall, AreSmallRows, IsHeadOf, verdict_of_head}
+use Rattle.crn_document.specs.Inner.Answers.{FitAnswer, part_proofs, proof_of_head}
+use Rattle.crn_document.specs.Inner.Parts.{IsKnown, before, class_parts}
+use Rattle.crn_document.specs.Inner.Blocks.{HeadHolds, forms_below, parts_after}
+use Rattle.crn_document.specs.declared.rows.Row.{Row}
+use Rattle.crn_document.specs.declared.rows.Row.TheVariants.{Side, Tie}
+use Rattle.crn_document.specs.Inner.Records.{part_rows, row_form}
+use Rattle.crn_document.specs.Inner.Heads.{known_of, head_forms, tagged, class_count, IsHead}
+use Rattle.crn_document.proofs.Fields.{Holds, PartsWithin, fits_from, form_small, naturals, one_field, one_number, record_is, small_list}
+use Rattle.crn_document.proofs.Linkages.{count_few, members_all, members_few, member_few, pairs_known}
+use Rattle.crn_document.proofs.Ranks.{AreRanks, class_fit, class_ranks, class_formed, class_parts_within, class_proofs_are, class_rows_are, drop_none, forms_from, free_row, free_rows, map_replicate, members_are, proofs_from, rank_formed, rank_length, rank_parts, rank_rows_are, rank_small, sizes_are, zip_length}
+use Rattle.crn_document.proofs.HeadFacts.{Facts, one_small, AreSmallForms, small_rows, few_rows, form_of, same_facts, as_form, FactsAt}
+
+linkage_rows : (c r k : ℕ) (rs : List Record) → AllZip Fits (small_form (codes "label") c 1 k ∷ small_form (codes "up") c 0 r ∷ small_form (codes "depth") c 0 (c - 1) ∷ []) rs
+    → AreFrom c 1 k (map nat_abs (row rs 0)) × (AreFrom c 0 r (map nat_abs (row rs 1)) × AreFrom c 0 (c - 1) (map nat_abs (row rs 2)))
+linkage_rows c r k [] z = absurd z
+linkage_rows c r k (x ∷ []) z = absurd z.1
+linkage_rows c r k (x ∷ y ∷ []) z = absurd z.1.1
+linkage_rows c r k (x ∷ y ∷ u ∷ v ∷ rs) z = absurd z.1.1.1
+linkage_rows c r k (x ∷ y ∷ u ∷ []) z = (fits_from (codes "label") c 1 k x z.0, (fits_from (codes "up") c 0 r y z.1.0, fits_from (codes "depth") c 0 (c - 1) u z.1.1.0))
+
+linkage_facts : (net : Net) (earlier : Earlier) (k : ℕ) → IsNetwork net → (1 ≤ k) × (k ≤ length net.complexes) → Facts net earlier 1 (codes "q1" ∷ []) (pos k ∷ [])
+linkage_facts net earlier k network range =
+    let few = network.partial.complexes_limit in
+    let many = network.partial.reactions_limit in
+    let c = length net.complexes in
+    let r = length net.reactions in
+    let forms = small_form (codes "label") c 1 k ∷ small_form (codes "up") c 0 r ∷ small_form (codes "depth") c 0 (c - 1) ∷ [] in
+    let smalls : AreSmallForms forms = (form_of (codes "label") c 1 k (omega (arith, few, range.1)), (form_of (codes "up") c 0 r (omega (arith, many)), (form_of (codes "depth") c 0 (c - 1) (omega (arith, few)), tt))) in record {
+      small = (omega arith, one_small k (omega (arith, few, range.1)));
+      short = omega arith;
+      ranks = λ long. tt;
+      is_head = (k, refl, omega (arith, few, range.1));
+      few = omega (arith, few, range.1);
+      may = range;
+      below_is = refl;
+      said = λ rs. refl;
+      shown = λ rs. refl;
+      heads_are = refl;
+      rows_are = λ rs. refl;
+      trees_are = refl;
+      tight_is = λ rs. refl;
+      head_parts = tt;
+      heads_same = λ rs p. p;
+      fit = λ rs hold z. (few_rows forms rs z, small_rows forms rs smalls z);
+      formed = λ rs other hold z. let f = linkage_rows c r k rs z in (range, (f.0, record { names_are = f.1.0; depth_is = f.1.1 }));
+      row_parts = λ rs hold z. let l = zip_length forms rs z in (omega (arith, l), (omega (arith, l), tt));
+    }
+
+abbrev strong_row_forms : ℕ → ℕ → ℕ → List Form
+strong_row_forms c r k = small_form (codes "label") c 1 k ∷ small_form (codes "from") c 0 r ∷ small_form (codes "fromdepth") c 0 (c - 1) ∷ small_form (codes "to") c 0 r
+    ∷ small_form (codes "todepth") c 0 (c - 1) ∷ small_form (codes "level") k 0 c ∷ small_form (codes "exit") k 0 r ∷ []
+
+record StrongRows (c r k : ℕ) (rs : List Record) : Type 0 where
+  labels : AreFrom c 1 k (map nat_abs (row rs 0))
+  from : AreFrom c 0 r (map nat_abs (row rs 1))
+  from_depth : AreFrom c 0 (c - 1) (map nat_abs (row rs 2))
+  to : AreFrom c 0 r (map nat_abs (row rs 3))
+  to_depth : AreFrom c 0 (c - 1) (map nat_abs (row rs 4))
+  levels : AreFrom k 0 c (map nat_abs (row rs 5))
+  exits : AreFrom k 0 r (map nat_abs (row rs 6))
+
+strong_rows : (c r k : ℕ) (rs : List Record) → AllZip Fits (strong_row_forms c r k) rs → StrongRows c r k rs
+strong_rows c r k [] z = absurd z
+strong_rows c r k (a ∷ []) z = absurd z.1
+strong_rows c r k (a ∷ b ∷ []) z = absurd z.1.1
+strong_rows c r k (a ∷ b ∷ d ∷ []) z = absurd z.1.1.1
+strong_rows c r k (a ∷ b ∷ d ∷ e ∷ []) z = absurd z.1.1.1.1
+strong_rows c r k (a ∷ b ∷ d ∷ e ∷ f ∷ []) z = absurd z.1.1.1.1.1
+strong_rows c r k (a ∷ b ∷ d ∷ e ∷ f ∷ g ∷ []) z = absurd z.1.1.1.1.1.1
+strong_rows c r k (a ∷ b ∷ d ∷ e ∷ f ∷ g ∷ h ∷ i ∷ rs) z = absurd z.1.1.1.1.1.1.1
+strong_rows c r k (a ∷ b ∷ d ∷ e ∷ f ∷ g ∷ h ∷ []) z = record {
+  labels = fits_from (codes "label") c 1 k a z.0;
+  from = fits_from (codes "from") c 0 r b z.1.0;
+  from_depth = fits_from (codes "fromdepth") c 0 (c - 1) d z.1.1.0;
+  to = fits_from (codes "to") c 0 r e z.1.1.1.0;
+  to_depth = fits_from (codes "todepth") c 0 (c - 1) f z.1.1.1.1.0;
+  levels = fits_from (codes "level") k 0 c g z.1.1.1.1.1.0;
+  exits = fits_from (codes "exit") k 0 r h z.1.1.1.1.1.1.0;
+}
+
+strong_facts : (net : Net) (earlier : Earlier) (k m : ℕ) → IsNetwork net → (1 ≤ m) × (m ≤ k) × (k ≤ length net.complexes) → Facts net earlier 2 (codes "q2" ∷ []) (pos k ∷ pos m ∷ [])
+strong_facts net earlier k m network range =
+    let few = network.partial.complexes_limit in
+    let many = network.partial.reactions_limit in
+    let c = length net.complexes in
+    let r = length net.reactions in
+    let forms = strong_row_forms c r k in
+    let smalls : AreSmallForms forms = (form_of (codes "label") c 1 k (omega (arith, few, range.2)), (form_of (codes "from") c 0 r (omega (arith, many)), (form_of (codes "fromdepth") c 0 (c - 1) (omega (arith, few)), (form_of (codes "to") c 0 r (omega (arith, many)), (form_of (codes "todepth") c 0 (c - 1) (omega (arith, few)), (form_of (codes "level") k 0 c (omega (arith, few)), (form_of (codes "exit") k 0 r (omega (arith, many)), tt))))))) in record {
+      small = (omega arith, (omega (arith, few, range.2), one_small m (omega (arith, few, range.1, range.2))));
+      short = omega arith;
+      ranks = λ long. tt;
+      is_head = (k, m, refl, omega (arith, few, range.2), omega (arith, few, range.1, range.2));
+      few = omega (arith, few, range.2);
+      may = ((omega (arith, range.0, range.1), range.2), (range.0, range.1));
+      below_is = refl;
+      said = λ rs. refl;
+      shown = λ rs. refl;
+      heads_are = refl;
+      rows_are = λ rs. refl;
+      trees_are = refl;
+      tight_is = λ rs. refl;
+      head_parts = tt;
+      heads_same = λ rs p. p;
+      fit = λ rs hold z. (few_rows forms rs z, small_rows forms rs smalls z);
+      formed = λ rs other hold z. let f = strong_rows c r k rs z in
+          (((omega (arith, range.0, range.1), range.2), (range.0, range.1)), (f.labels, f.exits, record { names_are = f.from; depth_is = f.from_depth }, record { names_are = f.to; depth_is = f.to_depth }, f.levels));
+      row_parts = λ rs hold z. let l = zip_length forms rs z in (omega (arith, l), (omega (arith, l), (omega (arith, l), (omega (arith, l), (omega (arith, l), (omega (arith, l), tt))))));
+    }
+
+reverse_rows : (r : ℕ) (rs : List Record) → AllZip Fits (small_form (codes "back") r 1 r ∷ []) rs → AreFrom r 1 r (map nat_abs (row rs 0))
+reverse_rows r [] z = absurd z
+reverse_rows r (x ∷ y ∷ rs) z = absurd z.1
+reverse_rows r (x ∷ []) z = fits_from (codes "back") r 1 r x z.0
+
+reversible_facts : (net : Net) (earlier : Earlier) → IsNetwork net → Facts net earlier 3 (codes "q3" ∷ yes) []
+reversible_facts net earlier network = record {
+  small = (omega arith, tt);
+  short = omega arith;
+  ranks = λ long. tt;
+  is_head = inl refl;
+  few = omega arith;
+  may = tt;
+  below_is = refl;
+  said = λ rs. refl;
+  shown = λ rs. refl;
+  heads_are = refl;
+  rows_are = λ rs. refl;
+  trees_are = refl;
+  tight_is = λ rs. refl;
+  head_parts = tt;
+  heads_same = λ rs p. p;
+  fit = λ rs hold z. let many = network.partial.reactions_limit in let forms = small_form (codes "back") (length net.reactions) 1 (length net.reactions) ∷ [] in (few_rows forms rs z, small_rows forms rs (form_of (codes "back") (length net.reactions) 1 (length net.reactions) (omega (arith, many)), tt) z);
+  formed = λ rs other hold z. (tt, reverse_rows (length net.reactions) rs z);
+  row_parts = λ rs hold z. (omega arith, tt);
+}
+
+irreversible_facts : (net : Net) (earlier : Earlier) (k : ℕ) → IsNetwork net → (1 ≤ k) × (k ≤ length net.reactions) → Facts net earlier 3 (codes "q3" ∷ no) (pos k ∷ [])
+irreversible_facts net earlier k network range = record {
+  small = (omega arith, one_small k (let few = network.partial.reactions_limit in omega (arith, few, range.1)));
+  short = omega arith;
+  ranks = λ long. tt;
+  is_head = inr (k, refl, (let few = network.partial.reactions_limit in omega (arith, few, range.1)));
+  few = omega arith;
+  may = range;
+  below_is = refl;
+  said = λ rs. refl;
+  shown = λ rs. refl;
+  heads_are = refl;
+  rows_are = λ rs. refl;
+  trees_are = refl;
+  tight_is = λ rs. refl;
+  head_parts = (omega arith, tt);
+  heads_same = λ rs p. p;
+  fit = λ rs hold z. (few_rows [] rs z, small_rows [] rs tt z);
+  formed = λ rs other hold z. (range, tt);
+  row_parts = λ rs hold z. tt;
+}
+
+weak_facts : (net : Net) (earlier : Earlier) → IsNetwork net → Facts net earlier 4 (codes "q4" ∷ yes) []
+weak_facts net earlier network = record {
+  small = (omega arith, tt);
+  short = omega arith;
+  ranks = λ long. tt;
+  is_head = inl refl;
+  few = omega arith;
+  may = tt;
+  below_is = refl;
+  said = λ rs. refl;
+  shown = λ rs. refl;
+  heads_are = refl;
+  rows_are = λ rs. refl;
+  trees_are = refl;
+  tight_is = λ rs. refl;
+  head_parts = (omega arith, tt);
+  heads_same = λ rs p. p;
+  fit = λ rs hold z. tt;
+  formed = λ rs other hold z. (tt, tt);
+  row_parts = λ rs hold z. tt;
+}
+
+not_weak_facts : (net : Net) (earlier : Earlier) (k : ℕ) → IsNetwork net → (1 ≤ k) × (k ≤ length net.reactions) → Facts net earlier 4 (codes "q4" ∷ no) (pos k ∷ [])
+not_weak_facts net earlier k network range = record {
+  small = (omega arith, one_small k (let few = network.partial.reactions_limit in omega (arith, few, range.1)));
+  short = omega arith;
+  ranks = λ long. tt;
+  is_head = inr (k, refl, (let few = network.partial.reactions_limit in omega (arith, few, range.1)));
+  few = omega arith;
+  may = range;
+  below_is = refl;
+  said = λ rs. refl;
+  shown = λ rs. refl;
+  heads_are = refl;
+  rows_are = λ rs. refl;
+  trees_are = refl;
+  tight_is = λ rs. refl;
+  head_parts = (omega arith, tt);
+  heads_same = λ rs p. p;
+  fit = λ rs hold z. tt;
+  formed = λ rs other hold z. (range, tt);
+  row_parts = λ rs hold z. tt;
+}
+
+pub by_linkage : (net : Net) (earlier : Earlier) (h : Record) → FactsAt net earlier h 1
+by_linkage net earlier h network few pairs (form, inr none, fits) = absurd none
+by_linkage net earlier h network few pairs (form, inl e, fits) =
+    let f = as_form h form (head (codes "q1") 1 [] (small 1 1 (length net.complexes) ∷ [])) e fits in
+    let k = one_number 1 (length net.complexes) h.numbers (one_field (small 1 1 (length net.complexes)) h.numbers f.1) in
+    same_facts net earlier 1 h (codes "q1" ∷ []) (pos k.0 ∷ []) f.0 k.1 (linkage_facts net earlier k.0 network k.2)
+
+pub by_strong : (net : Net) (earlier : Earlier) (h : Record) → FactsAt net earlier h 2
+by_strong net earlier h network few pairs (form, inr none, fits) = absurd none
+by_strong net earlier h network few pairs (form, inl e, fits) =
+    let f = as_form h form (head (codes "q2") 1 [] (CountAndPart (length net.complexes) ∷ [])) e fits in
+    let p = one_field (CountAndPart (length net.complexes)) h.numbers f.1 in
+    let t = p.0 in
+    same_facts net earlier 2 h (codes "q2" ∷ []) (pos t.0 ∷ pos t.1 ∷ []) f.0 t.2 (strong_facts net earlier t.0 t.1 network (t.3, t.4, t.5))
+
+pub by_reversible : (net : Net) (earlier : Earlier) (h : Record) → FactsAt net earlier h 3
+by_reversible net earlier h network few pairs (form, inr (inr none), fits) = absurd none
+by_reversible net earlier h network few pairs (form, inl e, fits) =
+    let f = as_form h form (head (codes "q3") 1 yes []) e fits in
+    same_facts net earlier 3 h (codes "q3" ∷ yes) [] f.0 f.1 (reversible_facts net earlier network)
+by_reversible net earlier h network few pairs (form, inr (inl e), fits) =
+    let f = as_form h form (head (codes "q3") 2 no (small 1 1 (length net.reactions) ∷ [])) e fits in
+    let k = one_number 1 (length net.reactions) h.numbers (one_field (small 1 1 (length net.reactions)) h.numbers f.1) in
+    same_facts net earlier 3 h (codes "q3" ∷ no) (pos k.0 ∷ []) f.0 k.1 (irreversible_facts net earlier k.0 network k.2)
+
+pub by_weak : (net : Net) (earlier : Earlier) (h : Record) → FactsAt net earlier h 4
+by_weak net earlier h network few pairs (form, inr (inr none), fits) = absurd none
+by_weak net earlier h network few pairs (form, inl e, fits) =
+    let f = as_form h form (head (codes "q4") 1 yes []) e fits in
+    same_facts net earlier 4 h (codes "q4" ∷ yes) [] f.0 f.1 (weak_facts net earlier network)
+by_weak net earlier h network few pairs (form, inr (inl e), fits) =
+    let f = as_form h form (head (codes "q4") 2 no (small 1 1 (length net.reactions) ∷ [])) e fits in
+    let k = one_number 1 (length net.reactions) h.numbers (one_field (small 1 1 (length net.reactions)) h.numbers f.1) in
+    same_facts net earlier 4 h (codes "q4" ∷ no) (pos k.0 ∷ []) f.0 k.1 (not_weak_facts net earlier k.0 network k.2)

@@ -1,0 +1,263 @@
+-- What the heads of questions 14 and 15 say.
+use Rattle.std.proofs.Common.{◌≡◌, ◌≢◌, ◌≤◌, ◌<◌, ◌+◌, ◌-◌, ◌^◌, ◌⊎◌, ◌++◌, ◌∙◌, ℕ, zero, suc, List, [], ◌∷◌, drop, length, map, replicate, refl, sym, subst, ap, ap₂, inl, inr, arith}
+use Rattle.std.specs.Prelude.{ℤ, pos, negsuc, codes, nat_abs, min, slice_index, slice_index_or}
+use Rattle.std.specs.List.{AllByRecursion, AllZip, range_with_len}
+use Rattle.std.proofs.lemmas.Int.{ints}
+use Rattle.std.proofs.lemmas.List.{append-nil, length-map, length-replicate}
+use Rattle.std.proofs.lemmas.List.FromFn.{length-range_with_len, length-map-range_with_len}
+use Rattle.crn_vec.specs.Lists.{IsAscending, IsIn}
+use Rattle.crn_vec.specs.Deficiency.{class_members}
+use Rattle.crn_cert.specs.declared.answer.Gap.TheVariants.{Wide}
+use Rattle.crn_cert.specs.declared.answer.Verdict.TheVariants.{Deficiency, Unknown}
+use Rattle.crn_cert.specs.declared.answer.Proof.TheVariants.{Ranks}
+use Rattle.crn_cert.specs.declared.answer.RankProof.{RankProof}
+use Rattle.crn_vec.specs.Network.{Net, IsNetwork}
+use Rattle.crn_vec.specs.declared.limits.TheConstants.{MAX_BUDGET, MAX_COMPLEXES, MAX_REACTIONS}
+use Rattle.crn_cert.specs.Questions.{Earlier, Q6}
+use Rattle.crn_cert.specs.Formed.{HeadMayBe, IsFormedOf, IsBasisOf, IsWalkList, AreClassProofs}
+use Rattle.crn_cert.specs.Tests.{AllHold}
+use Rattle.crn_cert.specs.Valid.{head_tests, row_tests, linkage, linkage_count, class_places, class_rank_tests, pair_places, side_tests}
+use Rattle.crn_cert.specs.ConfluenceTests.{tie_tests}
+use Rattle.crn_check.specs.Verdicts.{tight}
+use Rattle.crn_cert.specs.Ranges.{AreFrom, AreFree, AreFreeRows, AreBits}
+use Rattle.crn_ctext.specs.Records.{Record, Form, AreRising, CountAndPart, ClassWide, Rising, Several, TwoOf, Fits, AreOf, AreBetween}
+use Rattle.crn_ctext.specs.Kinds.{small, just, record_form, small_form, free_form}
+use Rattle.crn_ctext.specs.Questions.{Sizes, heads, head, yes, no, no_by, none_by, wide, rests, spent, open_by, class_forms, rank_forms, side_form, later_numbers}
+use Rattle.crn_ctext.specs.Blocks.{is_open, below, problems, unless}
+use Rattle.crn_ctext.specs.Documents.{IsOneOf}
+use Rattle.crn_ctext.specs.Meaning.{lengths, meaning, number, nums, lists, pairs_of, problems_by, row, sizes_of, shapes_of, verdict_of, proof_of, class_proofs}
+use Rattle.crn_ctext.specs.Expect.{question_of}
+use Rattle.crn_check.specs.Facts.{KeptFacts, asked}
+use Rattle.crn_check.specs.Check.{AsksForTree, IsBuilt}
+use Rattle.crn_document.specs.Inner.Answer.{AreSmall, AreSmallRows, IsHeadOf, verdict_of_head}
+use Rattle.crn_document.specs.Inner.Answers.{FitAnswer, part_proofs, proof_of_head}
+use Rattle.crn_document.specs.Inner.Parts.{IsKnown, before, class_parts}
+use Rattle.crn_document.specs.Inner.Blocks.{HeadHolds, forms_below, parts_after}
+use Rattle.crn_document.specs.declared.rows.Row.{Row}
+use Rattle.crn_document.specs.declared.rows.Row.TheVariants.{Side, Tie}
+use Rattle.crn_document.specs.Inner.Records.{part_rows, row_form}
+use Rattle.crn_document.specs.Inner.Heads.{known_of, head_forms, tagged, class_count, IsHead}
+use Rattle.crn_document.proofs.Fields.{Holds, PartsWithin, fits_from, form_small, naturals, one_field, one_number, record_is, small_list}
+use Rattle.crn_document.proofs.Linkages.{count_few, members_all, members_few, member_few, pairs_known}
+use Rattle.crn_document.proofs.Ranks.{AreRanks, class_fit, class_ranks, class_formed, class_parts_within, class_proofs_are, class_rows_are, drop_none, forms_from, free_row, free_rows, map_replicate, members_are, proofs_from, rank_formed, rank_length, rank_parts, rank_rows_are, rank_small, sizes_are, zip_length}
+use Rattle.crn_document.proofs.HeadFacts.{Facts, one_small, wide_numbers, wide_small, wide_basis, same_facts, as_form, FactsAt}
+
+-- the two lists of a no
+abbrev pair_forms : ℕ → List Form
+pair_forms r = free_form (codes "alpha") r ∷ free_form (codes "weights") r ∷ []
+
+pair_lists : (r : ℕ) (rs : List Record) → AllZip Fits (pair_forms r) rs → AreFree r (row rs 0) × AreFree r (row rs 1)
+pair_lists r [] f = absurd f
+pair_lists r (x ∷ []) f = absurd f.1
+pair_lists r (x ∷ y ∷ z ∷ rs) f = absurd f.1.1
+pair_lists r (x ∷ y ∷ []) f = (free_row (codes "alpha") r x f.0, free_row (codes "weights") r y f.1.0)
+
+concordance_facts : (net : Net) (earlier : Earlier) → Facts net earlier 14 (codes "q14" ∷ yes) []
+concordance_facts net earlier = record {
+  small = (omega arith, tt);
+  short = omega arith;
+  ranks = λ long. tt;
+  is_head = (_, inl refl);
+  few = omega arith;
+  may = tt;
+  below_is = refl;
+  said = λ rs. refl;
+  shown = λ rs. refl;
+  heads_are = refl;
+  rows_are = λ rs. refl;
+  trees_are = refl;
+  tight_is = λ rs. refl;
+  head_parts = tt;
+  heads_same = λ rs p. p;
+  fit = λ rs hold z. tt;
+  formed = λ rs other hold z. absurd (other (inr (inl refl)) refl);
+  row_parts = λ rs hold z. tt;
+}
+
+no_concordance_facts : (net : Net) (earlier : Earlier) → Facts net earlier 14 (codes "q14" ∷ no) []
+no_concordance_facts net earlier = record {
+  small = (omega arith, tt);
+  short = omega arith;
+  ranks = λ long. tt;
+  is_head = (_, inr (inl refl));
+  few = omega arith;
+  may = tt;
+  below_is = refl;
+  said = λ rs. refl;
+  shown = λ rs. refl;
+  heads_are = refl;
+  rows_are = λ rs. refl;
+  trees_are = refl;
+  tight_is = λ rs. refl;
+  head_parts = tt;
+  heads_same = λ rs p. p;
+  fit = λ rs hold z. tt;
+  formed = λ rs other hold z. (tt, pair_lists (length net.reactions) rs z);
+  row_parts = λ rs hold z. let l = zip_length (pair_forms (length net.reactions)) rs z in (omega (arith, l), tt);
+}
+
+concordance_wide_facts : (net : Net) (earlier : Earlier) (index : ℕ) (basis : List ℤ) → IsNetwork net → 1 ≤ index → index ≤ length net.reactions + length net.names → length basis ≡ length net.reactions → AreRising (length net.reactions + length net.names) basis → Facts net earlier 14 (codes "q14" ∷ open_by (codes "wide")) (pos 2 ∷ pos 0 ∷ pos index ∷ basis)
+concordance_wide_facts net earlier index basis network low high long rising = record {
+  small = wide_small 3 2 index (length net.reactions + length net.names) basis (omega arith) (omega arith) (let s0 = network.partial.species_limit in let r0 = network.partial.reactions_limit in omega (arith, high, s0, r0)) (let s0 = network.partial.species_limit in let r0 = network.partial.reactions_limit in omega (arith, s0, r0)) rising;
+  short = (let s0 = network.partial.species_limit in let r0 = network.partial.reactions_limit in omega (arith, long, s0, r0));
+  ranks = λ long. tt;
+  is_head = (_, inr (inr (inl refl)));
+  few = omega arith;
+  may = (refl, refl, wide_basis (length net.reactions) (length net.names) index basis low high long rising);
+  below_is = refl;
+  said = λ rs. refl;
+  shown = λ rs. refl;
+  heads_are = refl;
+  rows_are = λ rs. refl;
+  trees_are = refl;
+  tight_is = λ rs. refl;
+  head_parts = tt;
+  heads_same = λ rs p. p;
+  fit = λ rs hold z. tt;
+  formed = λ rs other hold z. ((refl, refl, wide_basis (length net.reactions) (length net.names) index basis low high long rising), refl);
+  row_parts = λ rs hold z. tt;
+}
+
+concordance_spent_facts : (net : Net) (earlier : Earlier) (k : ℕ) → (1 ≤ k) × (k ≤ MAX_BUDGET) → Facts net earlier 14 (codes "q14" ∷ open_by (codes "budget")) (pos k ∷ [])
+concordance_spent_facts net earlier k range = record {
+  small = (omega arith, one_small k (omega (arith, range.1)));
+  short = omega arith;
+  ranks = λ long. tt;
+  is_head = (_, inr (inr (inr refl)));
+  few = omega arith;
+  may = range;
+  below_is = refl;
+  said = λ rs. refl;
+  shown = λ rs. refl;
+  heads_are = refl;
+  rows_are = λ rs. refl;
+  trees_are = refl;
+  tight_is = λ rs. refl;
+  head_parts = tt;
+  heads_same = λ rs p. p;
+  fit = λ rs hold z. tt;
+  formed = λ rs other hold z. (range, refl);
+  row_parts = λ rs hold z. tt;
+}
+
+strongly_facts : (net : Net) (earlier : Earlier) → Facts net earlier 15 (codes "q15" ∷ yes) []
+strongly_facts net earlier = record {
+  small = (omega arith, tt);
+  short = omega arith;
+  ranks = λ long. tt;
+  is_head = (_, inl refl);
+  few = omega arith;
+  may = tt;
+  below_is = refl;
+  said = λ rs. refl;
+  shown = λ rs. refl;
+  heads_are = refl;
+  rows_are = λ rs. refl;
+  trees_are = refl;
+  tight_is = λ rs. refl;
+  head_parts = tt;
+  heads_same = λ rs p. p;
+  fit = λ rs hold z. tt;
+  formed = λ rs other hold z. absurd (other (inr (inr refl)) refl);
+  row_parts = λ rs hold z. tt;
+}
+
+no_strongly_facts : (net : Net) (earlier : Earlier) → Facts net earlier 15 (codes "q15" ∷ no) []
+no_strongly_facts net earlier = record {
+  small = (omega arith, tt);
+  short = omega arith;
+  ranks = λ long. tt;
+  is_head = (_, inr (inl refl));
+  few = omega arith;
+  may = tt;
+  below_is = refl;
+  said = λ rs. refl;
+  shown = λ rs. refl;
+  heads_are = refl;
+  rows_are = λ rs. refl;
+  trees_are = refl;
+  tight_is = λ rs. refl;
+  head_parts = tt;
+  heads_same = λ rs p. p;
+  fit = λ rs hold z. tt;
+  formed = λ rs other hold z. (tt, pair_lists (length net.reactions) rs z);
+  row_parts = λ rs hold z. let l = zip_length (pair_forms (length net.reactions)) rs z in (omega (arith, l), tt);
+}
+
+strongly_wide_facts : (net : Net) (earlier : Earlier) (index : ℕ) (basis : List ℤ) → IsNetwork net → 1 ≤ index → index ≤ length net.reactions + length net.names → length basis ≡ length net.reactions → AreRising (length net.reactions + length net.names) basis → Facts net earlier 15 (codes "q15" ∷ open_by (codes "wide")) (pos 2 ∷ pos 0 ∷ pos index ∷ basis)
+strongly_wide_facts net earlier index basis network low high long rising = record {
+  small = wide_small 3 2 index (length net.reactions + length net.names) basis (omega arith) (omega arith) (let s0 = network.partial.species_limit in let r0 = network.partial.reactions_limit in omega (arith, high, s0, r0)) (let s0 = network.partial.species_limit in let r0 = network.partial.reactions_limit in omega (arith, s0, r0)) rising;
+  short = (let s0 = network.partial.species_limit in let r0 = network.partial.reactions_limit in omega (arith, long, s0, r0));
+  ranks = λ long. tt;
+  is_head = (_, inr (inr (inl refl)));
+  few = omega arith;
+  may = (refl, refl, wide_basis (length net.reactions) (length net.names) index basis low high long rising);
+  below_is = refl;
+  said = λ rs. refl;
+  shown = λ rs. refl;
+  heads_are = refl;
+  rows_are = λ rs. refl;
+  trees_are = refl;
+  tight_is = λ rs. refl;
+  head_parts = tt;
+  heads_same = λ rs p. p;
+  fit = λ rs hold z. tt;
+  formed = λ rs other hold z. ((refl, refl, wide_basis (length net.reactions) (length net.names) index basis low high long rising), refl);
+  row_parts = λ rs hold z. tt;
+}
+
+strongly_spent_facts : (net : Net) (earlier : Earlier) (k : ℕ) → (1 ≤ k) × (k ≤ MAX_BUDGET) → Facts net earlier 15 (codes "q15" ∷ open_by (codes "budget")) (pos k ∷ [])
+strongly_spent_facts net earlier k range = record {
+  small = (omega arith, one_small k (omega (arith, range.1)));
+  short = omega arith;
+  ranks = λ long. tt;
+  is_head = (_, inr (inr (inr refl)));
+  few = omega arith;
+  may = range;
+  below_is = refl;
+  said = λ rs. refl;
+  shown = λ rs. refl;
+  heads_are = refl;
+  rows_are = λ rs. refl;
+  trees_are = refl;
+  tight_is = λ rs. refl;
+  head_parts = tt;
+  heads_same = λ rs p. p;
+  fit = λ rs hold z. tt;
+  formed = λ rs other hold z. (range, refl);
+  row_parts = λ rs hold z. tt;
+}
+
+pub by_concordance : (net : Net) (earlier : Earlier) (h : Record) → FactsAt net earlier h 14
+by_concordance net earlier h network few pairs (form, inr (inr (inr (inr none))), fits) = absurd none
+by_concordance net earlier h network few pairs (form, inl e, fits) =
+    let f = as_form h form (head (codes "q14") 1 yes []) e fits in
+    same_facts net earlier 14 h (codes "q14" ∷ yes) [] f.0 f.1 (concordance_facts net earlier)
+by_concordance net earlier h network few pairs (form, inr (inl e), fits) =
+    let f = as_form h form (head (codes "q14") 2 no []) e fits in
+    same_facts net earlier 14 h (codes "q14" ∷ no) [] f.0 f.1 (no_concordance_facts net earlier)
+by_concordance net earlier h network few pairs (form, inr (inr (inl e)), fits) =
+    let f = as_form h form (wide (codes "q14") 3 2 (length net.reactions) (length net.names)) e fits in
+    let w = wide_numbers 2 (length net.reactions) (length net.names) h.numbers f.1 in
+    same_facts net earlier 14 h (codes "q14" ∷ open_by (codes "wide")) (pos 2 ∷ pos 0 ∷ pos w.index ∷ w.basis) f.0 w.is (concordance_wide_facts net earlier w.index w.basis network w.low w.high w.long w.rising)
+by_concordance net earlier h network few pairs (form, inr (inr (inr (inl e))), fits) =
+    let f = as_form h form (spent (codes "q14") 4) e fits in
+    let k = one_number 1 MAX_BUDGET h.numbers (one_field (small 1 1 MAX_BUDGET) h.numbers f.1) in
+    same_facts net earlier 14 h (codes "q14" ∷ open_by (codes "budget")) (pos k.0 ∷ []) f.0 k.1 (concordance_spent_facts net earlier k.0 k.2)
+
+pub by_strongly : (net : Net) (earlier : Earlier) (h : Record) → FactsAt net earlier h 15
+by_strongly net earlier h network few pairs (form, inr (inr (inr (inr none))), fits) = absurd none
+by_strongly net earlier h network few pairs (form, inl e, fits) =
+    let f = as_form h form (head (codes "q15") 1 yes []) e fits in
+    same_facts net earlier 15 h (codes "q15" ∷ yes) [] f.0 f.1 (strongly_facts net earlier)
+by_strongly net earlier h network few pairs (form, inr (inl e), fits) =
+    let f = as_form h form (head (codes "q15") 2 no []) e fits in
+    same_facts net earlier 15 h (codes "q15" ∷ no) [] f.0 f.1 (no_strongly_facts net earlier)
+by_strongly net earlier h network few pairs (form, inr (inr (inl e)), fits) =
+    let f = as_form h form (wide (codes "q15") 3 2 (length net.reactions) (length net.names)) e fits in
+    let w = wide_numbers 2 (length net.reactions) (length net.names) h.numbers f.1 in
+    same_facts net earlier 15 h (codes "q15" ∷ open_by (codes "wide")) (pos 2 ∷ pos 0 ∷ pos w.index ∷ w.basis) f.0 w.is (strongly_wide_facts net earlier w.index w.basis network w.low w.high w.long w.rising)
+by_strongly net earlier h network few pairs (form, inr (inr (inr (inl e))), fits) =
+    let f = as_form h form (spent (codes "q15") 4) e fits in
+    let k = one_number 1 MAX_BUDGET h.numbers (one_field (small 1 1 MAX_BUDGET) h.numbers f.1) in
+    same_facts net earlier 15 h (codes "q15" ∷ open_by (codes "budget")) (pos k.0 ∷ []) f.0 k.1 (strongly_spent_facts net earlier k.0 k.2)

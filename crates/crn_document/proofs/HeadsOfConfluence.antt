@@ -1,0 +1,445 @@
+-- What the heads of questions 11 and 12 say.
+use Rattle.std.proofs.Common.{◌≡◌, ◌≢◌, ◌≤◌, ◌<◌, ◌+◌, ◌-◌, ◌^◌, ◌⊎◌, ◌++◌, ◌∙◌, ℕ, zero, suc, List, [], ◌∷◌, drop, length, map, replicate, refl, sym, subst, ap, ap₂, inl, inr, arith}
+use Rattle.std.specs.Prelude.{ℤ, pos, negsuc, codes, nat_abs, min, slice_index, slice_index_or}
+use Rattle.std.specs.List.{AllByRecursion, AllZip, range_with_len}
+use Rattle.std.proofs.lemmas.Int.{ints}
+use Rattle.std.proofs.lemmas.List.{append-nil, length-map, length-replicate}
+use Rattle.std.proofs.lemmas.List.FromFn.{length-range_with_len, length-map-range_with_len}
+use Rattle.crn_vec.specs.Lists.{IsAscending, IsIn}
+use Rattle.crn_vec.specs.Deficiency.{class_members}
+use Rattle.crn_cert.specs.declared.answer.Gap.TheVariants.{Wide}
+use Rattle.crn_cert.specs.declared.answer.Verdict.TheVariants.{Deficiency, Unknown}
+use Rattle.crn_cert.specs.declared.answer.Proof.TheVariants.{Ranks}
+use Rattle.crn_cert.specs.declared.answer.RankProof.{RankProof}
+use Rattle.crn_vec.specs.Network.{Net, IsNetwork}
+use Rattle.crn_vec.specs.declared.limits.TheConstants.{MAX_BUDGET, MAX_COMPLEXES, MAX_REACTIONS}
+use Rattle.crn_cert.specs.Questions.{Earlier, Q6}
+use Rattle.crn_cert.specs.Formed.{HeadMayBe, IsFormedOf, IsBasisOf, IsWalkList, AreClassProofs}
+use Rattle.crn_cert.specs.Tests.{AllHold}
+use Rattle.crn_cert.specs.Valid.{head_tests, row_tests, linkage, linkage_count, class_places, class_rank_tests, pair_places, side_tests}
+use Rattle.crn_cert.specs.ConfluenceTests.{tie_tests}
+use Rattle.crn_check.specs.Verdicts.{tight}
+use Rattle.crn_cert.specs.Ranges.{AreFrom, AreFree, AreFreeRows, AreBits}
+use Rattle.crn_ctext.specs.Records.{Record, Form, AreRising, CountAndPart, ClassWide, Rising, Several, TwoOf, Fits, AreOf, AreBetween}
+use Rattle.crn_ctext.specs.Kinds.{small, just, record_form, small_form, free_form}
+use Rattle.crn_ctext.specs.Questions.{Sizes, heads, head, yes, no, no_by, none_by, wide, rests, spent, open_by, class_forms, rank_forms, side_form, later_numbers}
+use Rattle.crn_ctext.specs.Blocks.{is_open, below, problems, unless}
+use Rattle.crn_ctext.specs.Documents.{IsOneOf}
+use Rattle.crn_ctext.specs.Meaning.{lengths, meaning, number, nums, lists, pairs_of, problems_by, row, sizes_of, shapes_of, verdict_of, proof_of, class_proofs}
+use Rattle.crn_ctext.specs.Expect.{question_of}
+use Rattle.crn_check.specs.Facts.{KeptFacts, asked}
+use Rattle.crn_check.specs.Check.{AsksForTree, IsBuilt}
+use Rattle.crn_document.specs.Inner.Answer.{AreSmall, AreSmallRows, IsHeadOf, verdict_of_head}
+use Rattle.crn_document.specs.Inner.Answers.{FitAnswer, part_proofs, proof_of_head}
+use Rattle.crn_document.specs.Inner.Parts.{IsKnown, before, class_parts}
+use Rattle.crn_document.specs.Inner.Blocks.{HeadHolds, forms_below, parts_after}
+use Rattle.crn_document.specs.declared.rows.Row.{Row}
+use Rattle.crn_document.specs.declared.rows.Row.TheVariants.{Side, Tie}
+use Rattle.crn_document.specs.Inner.Records.{part_rows, row_form}
+use Rattle.crn_document.specs.Inner.Heads.{known_of, head_forms, tagged, class_count, IsHead}
+use Rattle.crn_document.proofs.Fields.{Holds, PartsWithin, fits_from, form_small, naturals, one_field, one_number, record_is, small_list}
+use Rattle.crn_document.proofs.Linkages.{count_few, members_all, members_few, member_few, pairs_known}
+use Rattle.crn_document.proofs.Ranks.{AreRanks, class_fit, class_ranks, class_formed, class_parts_within, class_proofs_are, class_rows_are, drop_none, forms_from, free_row, free_rows, map_replicate, members_are, proofs_from, rank_formed, rank_length, rank_parts, rank_rows_are, rank_small, sizes_are, zip_length}
+use Rattle.crn_document.proofs.HeadFacts.{Facts, one_small, IsWide, wide_numbers, wide_small, wide_basis, counts_long, ArePairs, same_facts, as_form, FactsAt, class_and_number}
+
+-- marks are zeros and ones
+bits : (zs : List ℤ) → AreBetween (pos 0) (pos 1) zs → AllByRecursion (λ x. (x ≡ pos 0) ⊎ (x ≡ pos 1)) zs
+bits [] b = tt
+bits (pos zero ∷ zs) b = (inl refl, bits zs b.1)
+bits (pos (suc zero) ∷ zs) b = (inr refl, bits zs b.1)
+bits (pos (suc (suc n)) ∷ zs) b = absurd (omega (arith, ints, b.0.1))
+bits (negsuc n ∷ zs) b = absurd (omega (arith, ints, b.0.0))
+
+side_marks : (r c : ℕ) (zs : List ℤ) → AreOf Holds (just r ∷ small c 0 1 ∷ []) zs → AreBits c (later_numbers zs)
+side_marks r c zs p =
+    let first = one_number r r p.0 p.3 in
+    let rest = one_field (small c 0 1) p.1 p.4 in
+    let is : zs ≡ pos first.0 ∷ p.1 = p.2 ∙ ap (λ (x : List ℤ). x ++ p.1) first.1 in
+    subst (λ (x : List ℤ). AreBits c (later_numbers x)) (sym is) (record { long = rest.0.0; each = bits p.1 rest.0.1 })
+
+side_rows : (z : Sizes) (ps : List ℕ) (rs : List Record) → AllZip Fits (map (side_form z) ps) rs → AllByRecursion (AreBits z.complexes) (map later_numbers (lists rs))
+side_rows z [] [] f = tt
+side_rows z [] (r ∷ rs) f = absurd f
+side_rows z (p ∷ ps) [] f = absurd f
+side_rows z (p ∷ ps) (r ∷ rs) f = (side_marks p z.complexes r.numbers f.0.1, side_rows z ps rs f.1)
+
+sides_are : (net : Net) (labels : List ℕ) (z : Sizes) (ps : List ℕ) → z.complexes ≡ length net.complexes → map (side_form z) ps ≡ map (row_form net labels 0) (map (λ (r : ℕ). Side r) ps)
+sides_are net labels z [] e = refl
+sides_are net labels z (p ∷ ps) e = ap₂ (λ (f : Form) (fs : List Form). f ∷ fs) (ap (λ (k : ℕ). record_form (codes "side") (just p ∷ small k 0 1 ∷ [])) e) (sides_are net labels z ps e)
+
+side_parts : (net : Net) (earlier : Earlier) (part k : ℕ) (rs : List ℕ) (sides : List (List ℤ)) → part + length sides ≤ k → PartsWithin k (side_tests net earlier part rs sides)
+side_parts net earlier part k [] sides le = tt
+side_parts net earlier part k (r ∷ rs) [] le = (omega (arith, le), tt)
+side_parts net earlier part k (r ∷ rs) (s ∷ ss) le = (omega (arith, le), side_parts net earlier (suc part) k rs ss (omega (arith, le)))
+
+regular_facts : (net : Net) (earlier : Earlier) → ArePairs net earlier → Facts net earlier 11 (codes "q11" ∷ yes) []
+regular_facts net earlier pairs =
+    let z : Sizes = sizes_of (known_of net earlier) in
+    let labels = linkage earlier in
+    let ps = pair_places net earlier in
+    let forms = map (side_form z) ps in
+    let rows_are : forms ≡ forms_below net earlier 11 (pos 1 ∷ []) = sides_are net labels z ps refl ∙ ap (λ (rows : List Row). map (row_form net labels 0) rows) (sym (append-nil (map (λ (r : ℕ). Side r) ps))) in
+    let of_forms : (rs : List Record) → AllZip Fits (forms_below net earlier 11 (pos 1 ∷ [])) rs → AllZip Fits forms rs = λ rs zz. subst (λ (fs : List Form). AllZip Fits fs rs) (sym rows_are) zz in
+    let long : (rs : List Record) → AllZip Fits (forms_below net earlier 11 (pos 1 ∷ [])) rs → length (map later_numbers (lists rs)) ≡ length ps = λ rs zz. length-map (lists rs) later_numbers ∙ length-map rs (λ (r : Record). r.numbers) ∙ zip_length forms rs (of_forms rs zz) ∙ length-map ps (side_form z) in
+    record {
+      small = (omega arith, tt);
+      short = omega arith;
+      ranks = λ long. tt;
+      is_head = (_, inl refl);
+      few = omega arith;
+      may = tt;
+      below_is = ap (λ (xs : List ℕ). map (side_form z) xs) pairs ∙ rows_are;
+      said = λ rs. refl;
+      shown = λ rs. refl;
+      heads_are = refl;
+      rows_are = λ rs. refl;
+      trees_are = refl;
+      tight_is = λ rs. refl;
+      head_parts = (omega arith, tt);
+      heads_same = λ rs p. p;
+      fit = λ rs hold zz. tt;
+      formed = λ rs other hold zz. (tt, record { long = long rs zz; each = side_rows z ps rs (of_forms rs zz) });
+      row_parts = λ rs hold zz. let l = long rs zz in let m = zip_length forms rs (of_forms rs zz) in let n = length-map ps (side_form z) in side_parts net earlier 1 (suc (length rs)) ps (map later_numbers (lists rs)) (omega (arith, l, m, n));
+    }
+
+regular_split_facts : (net : Net) (earlier : Earlier) (k m : ℕ) → IsNetwork net → linkage_count earlier ≤ MAX_COMPLEXES → (1 ≤ k) × (k ≤ linkage_count earlier) → (2 ≤ m) × (m ≤ length net.complexes) → Facts net earlier 11 (codes "q11" ∷ no_by (codes "terminal")) (pos k ∷ pos m ∷ [])
+regular_split_facts net earlier k m network least a b = record {
+  small = (omega arith, (omega (arith, least, a.1), one_small m (let few = network.partial.complexes_limit in omega (arith, few, b.1))));
+  short = omega arith;
+  ranks = λ long. tt;
+  is_head = (_, inr (inl refl));
+  few = omega arith;
+  may = (a, b);
+  below_is = refl;
+  said = λ rs. refl;
+  shown = λ rs. refl;
+  heads_are = refl;
+  rows_are = λ rs. refl;
+  trees_are = refl;
+  tight_is = λ rs. refl;
+  head_parts = (omega arith, tt);
+  heads_same = λ rs p. p;
+  fit = λ rs hold z. tt;
+  formed = λ rs other hold z. ((a, b), tt);
+  row_parts = λ rs hold z. tt;
+}
+
+regular_dependence_facts : (net : Net) (earlier : Earlier) → Facts net earlier 11 (codes "q11" ∷ no_by (codes "dependence")) []
+regular_dependence_facts net earlier = record {
+  small = (omega arith, tt);
+  short = omega arith;
+  ranks = λ long. tt;
+  is_head = (_, inr (inr (inl refl)));
+  few = omega arith;
+  may = tt;
+  below_is = refl;
+  said = λ rs. refl;
+  shown = λ rs. refl;
+  heads_are = refl;
+  rows_are = λ rs. refl;
+  trees_are = refl;
+  tight_is = λ rs. refl;
+  head_parts = (omega arith, tt);
+  heads_same = λ rs p. p;
+  fit = λ rs hold z. tt;
+  formed = λ rs other hold z. (tt, tt);
+  row_parts = λ rs hold z. tt;
+}
+
+abbrev walk_form : ℕ → Form
+walk_form c = record_form (codes "walk") (Several 2 c (pos 1) (pos c) ∷ [])
+
+walk_list : (net : Net) (rs : List Record) → AllZip Fits (walk_form (length net.complexes) ∷ []) rs → IsWalkList net (map nat_abs (row rs 0))
+walk_list net [] f = absurd f
+walk_list net (x ∷ y ∷ rs) f = absurd f.1
+walk_list net (x ∷ []) f =
+    let c = length net.complexes in
+    let p = one_field (Several 2 c (pos 1) (pos c)) x.numbers f.0.1 in
+    let same = length-map x.numbers nat_abs in
+    record { some = (let l = p.0.0 in omega (arith, same, l)); few = (let m = p.0.1 in omega (arith, same, m)); each = naturals 1 c x.numbers p.0.2 }
+
+walk_small : (c : ℕ) (rs : List Record) → c < 2 ^ 32 → AllZip Fits (walk_form c ∷ []) rs → AreSmall (slice_index_or (lists rs) 0 [])
+walk_small c [] lt f = absurd f
+walk_small c (x ∷ y ∷ rs) lt f = absurd f.1
+walk_small c (x ∷ []) lt f = let p = one_field (Several 2 c (pos 1) (pos c)) x.numbers f.0.1 in small_list 1 c x.numbers lt p.0.2
+
+regular_cycle_facts : (net : Net) (earlier : Earlier) (k : ℕ) → IsNetwork net → (1 ≤ k) × (k ≤ length net.reactions) → Facts net earlier 11 (codes "q11" ∷ no_by (codes "cycle")) (pos k ∷ [])
+regular_cycle_facts net earlier k network range = record {
+  small = (omega arith, one_small k (let few = network.partial.reactions_limit in omega (arith, few, range.1)));
+  short = omega arith;
+  ranks = λ long. tt;
+  is_head = (_, inr (inr (inr (inl refl))));
+  few = omega arith;
+  may = range;
+  below_is = refl;
+  said = λ rs. refl;
+  shown = λ rs. refl;
+  heads_are = refl;
+  rows_are = λ rs. refl;
+  trees_are = refl;
+  tight_is = λ rs. refl;
+  head_parts = (omega arith, tt);
+  heads_same = λ rs p. p;
+  fit = λ rs hold z. walk_small (length net.complexes) rs (let few = network.partial.complexes_limit in omega (arith, few)) z;
+  formed = λ rs other hold z. (range, walk_list net rs z);
+  row_parts = λ rs hold z. (omega arith, tt);
+}
+
+regular_rests_facts : (net : Net) (earlier : Earlier) → Facts net earlier 11 (codes "q11" ∷ open_by (codes "rests")) (pos 7 ∷ [])
+regular_rests_facts net earlier = record {
+  small = (omega arith, one_small 7 (omega arith));
+  short = omega arith;
+  ranks = λ long. tt;
+  is_head = (_, inr (inr (inr (inr refl))));
+  few = omega arith;
+  may = refl;
+  below_is = refl;
+  said = λ rs. refl;
+  shown = λ rs. refl;
+  heads_are = refl;
+  rows_are = λ rs. refl;
+  trees_are = refl;
+  tight_is = λ rs. refl;
+  head_parts = tt;
+  heads_same = λ rs p. p;
+  fit = λ rs hold z. tt;
+  formed = λ rs other hold z. (refl, refl);
+  row_parts = λ rs hold z. tt;
+}
+
+-- so many ties of a number for each species and for each linkage class
+abbrev tie_forms : Net → Earlier → ℕ → List Form
+tie_forms net earlier n = replicate n (free_form (codes "tie") (length net.names + linkage_count earlier))
+
+ties_by : (net : Net) (earlier : Earlier) (n : ℕ) → replicate n (free_form (codes "tie") (length net.names + length (sizes_of (known_of net earlier)).class_reactions)) ≡ tie_forms net earlier n
+ties_by net earlier n = ap (λ (k : ℕ). replicate n (free_form (codes "tie") (length net.names + k))) (counts_long net earlier)
+
+ties_are : (net : Net) (earlier : Earlier) (n : ℕ) → tie_forms net earlier n ≡ map (row_form net (linkage earlier) 0) (replicate n (Tie (linkage_count earlier)) ++ [])
+ties_are net earlier n =
+    let f : Row → Form = row_form net (linkage earlier) 0 in
+    let ties : List Row = replicate n (Tie (linkage_count earlier)) in
+    sym (map_replicate f n (Tie (linkage_count earlier))) ∙ ap (λ (rows : List Row). map f rows) (sym (append-nil ties))
+
+tie_parts : (net : Net) (labels : List ℕ) (count : ℕ) (spared : ℕ → Type 0) (part k : ℕ) (cs : List ℕ) (ties : List (List ℤ)) → part + length ties ≤ k → PartsWithin k (tie_tests net labels count spared part cs ties)
+tie_parts net labels count spared part k [] ties le = tt
+tie_parts net labels count spared part k (c ∷ cs) [] le = (omega (arith, le), tt)
+tie_parts net labels count spared part k (c ∷ cs) (t ∷ ts) le = (omega (arith, le), tie_parts net labels count spared (suc part) k cs ts (omega (arith, le)))
+
+vector_ties : (net : Net) (earlier : Earlier) (c n : ℕ) (rs : List Record) → AllZip Fits (free_form (codes "vec") c ∷ tie_forms net earlier n) rs → AreFree c (row rs 0) × AreFreeRows n (length net.names + linkage_count earlier) (drop 1 (lists rs))
+vector_ties net earlier c n [] f = absurd f
+vector_ties net earlier c n (r ∷ rs) f =
+    let width = length net.names + linkage_count earlier in
+    (free_row (codes "vec") c r f.0, subst (λ (x : List (List ℤ)). AreFreeRows n width x) (sym (drop_none (lists rs))) (free_rows (codes "tie") width n rs f.1))
+
+confluence_facts : (net : Net) (earlier : Earlier) → Facts net earlier 12 (codes "q12" ∷ yes) []
+confluence_facts net earlier =
+    let c = length net.complexes in
+    let n = c - 1 in
+    let vector = free_form (codes "vec") c in
+    let forms = vector ∷ tie_forms net earlier n in
+    let rows_are : forms ≡ forms_below net earlier 12 (pos 1 ∷ []) = ap (λ (fs : List Form). vector ∷ fs) (ties_are net earlier n) in
+    let of_forms : (rs : List Record) → AllZip Fits (forms_below net earlier 12 (pos 1 ∷ [])) rs → AllZip Fits forms rs = λ rs zz. subst (λ (fs : List Form). AllZip Fits fs rs) (sym rows_are) zz in
+    record {
+      small = (omega arith, tt);
+      short = omega arith;
+      ranks = λ long. tt;
+      is_head = (_, inl refl);
+      few = omega arith;
+      may = tt;
+      below_is = ap (λ (fs : List Form). vector ∷ fs) (ties_by net earlier n) ∙ rows_are;
+      said = λ rs. refl;
+      shown = λ rs. refl;
+      heads_are = refl;
+      rows_are = λ rs. refl;
+      trees_are = refl;
+      tight_is = λ rs. refl;
+      head_parts = (omega arith, tt);
+      heads_same = λ rs p. p;
+      fit = λ rs hold zz. tt;
+      formed = λ rs other hold zz. (tt, vector_ties net earlier c n rs (of_forms rs zz));
+      row_parts = λ rs hold zz.
+          let l = zip_length forms rs (of_forms rs zz) in
+          let r = length-replicate n (free_form (codes "tie") (length net.names + linkage_count earlier)) in
+          let t = (let v = vector_ties net earlier c n rs (of_forms rs zz) in v.1.long) in
+          (omega arith, tie_parts net (linkage earlier) (linkage_count earlier) _ 2 (suc (length rs)) _ (drop 1 (lists rs)) (omega (arith, l, r, t)));
+    }
+
+irregular_facts : (net : Net) (earlier : Earlier) → Facts net earlier 12 (codes "q12" ∷ none_by (codes "regular")) []
+irregular_facts net earlier = record {
+  small = (omega arith, tt);
+  short = omega arith;
+  ranks = λ long. tt;
+  is_head = (_, inr (inl refl));
+  few = omega arith;
+  may = tt;
+  below_is = refl;
+  said = λ rs. refl;
+  shown = λ rs. refl;
+  heads_are = refl;
+  rows_are = λ rs. refl;
+  trees_are = refl;
+  tight_is = λ rs. refl;
+  head_parts = (omega arith, tt);
+  heads_same = λ rs p. p;
+  fit = λ rs hold z. tt;
+  formed = λ rs other hold z. (tt, tt);
+  row_parts = λ rs hold z. tt;
+}
+
+only_zero_facts : (net : Net) (earlier : Earlier) → Facts net earlier 12 (codes "q12" ∷ none_by (codes "zero")) []
+only_zero_facts net earlier =
+    let c = length net.complexes in
+    let width = length net.names + linkage_count earlier in
+    let forms = tie_forms net earlier c in
+    let rows_are : forms ≡ forms_below net earlier 12 (pos 3 ∷ []) = ties_are net earlier c in
+    let of_forms : (rs : List Record) → AllZip Fits (forms_below net earlier 12 (pos 3 ∷ [])) rs → AllZip Fits forms rs = λ rs zz. subst (λ (fs : List Form). AllZip Fits fs rs) (sym rows_are) zz in
+    record {
+      small = (omega arith, tt);
+      short = omega arith;
+      ranks = λ long. tt;
+      is_head = (_, inr (inr (inl refl)));
+      few = omega arith;
+      may = tt;
+      below_is = ties_by net earlier c ∙ rows_are;
+      said = λ rs. refl;
+      shown = λ rs. refl;
+      heads_are = refl;
+      rows_are = λ rs. refl;
+      trees_are = refl;
+      tight_is = λ rs. refl;
+      head_parts = (omega arith, tt);
+      heads_same = λ rs p. p;
+      fit = λ rs hold zz. tt;
+      formed = λ rs other hold zz. (tt, free_rows (codes "tie") width c rs (of_forms rs zz));
+      row_parts = λ rs hold zz.
+          let l = length-map rs (λ (r : Record). r.numbers) in
+          tie_parts net (linkage earlier) (linkage_count earlier) _ 1 (suc (length rs)) _ (lists rs) (omega (arith, l));
+    }
+
+plane_rows : (c : ℕ) (rs : List Record) → AllZip Fits (free_form (codes "vec") c ∷ free_form (codes "vec") c ∷ []) rs → AreFree c (row rs 0) × AreFree c (row rs 1)
+plane_rows c [] f = absurd f
+plane_rows c (x ∷ []) f = absurd f.1
+plane_rows c (x ∷ y ∷ z ∷ rs) f = absurd f.1.1
+plane_rows c (x ∷ y ∷ []) f = (free_row (codes "vec") c x f.0, free_row (codes "vec") c y f.1.0)
+
+plane_facts : (net : Net) (earlier : Earlier) (a b : ℕ) → IsNetwork net → (1 ≤ a) × (a ≤ length net.complexes) → (1 ≤ b) × (b ≤ length net.complexes) → a ≢ b → Facts net earlier 12 (codes "q12" ∷ none_by (codes "plane")) (pos a ∷ pos b ∷ [])
+plane_facts net earlier a b network first second differ = record {
+  small = (let few = network.partial.complexes_limit in (omega arith, (omega (arith, few, first.1), one_small b (omega (arith, few, second.1)))));
+  short = omega arith;
+  ranks = λ long. tt;
+  is_head = (_, inr (inr (inr (inl refl))));
+  few = omega arith;
+  may = (first, second, differ);
+  below_is = refl;
+  said = λ rs. refl;
+  shown = λ rs. refl;
+  heads_are = refl;
+  rows_are = λ rs. refl;
+  trees_are = refl;
+  tight_is = λ rs. refl;
+  head_parts = (omega arith, tt);
+  heads_same = λ rs p. p;
+  fit = λ rs hold z. tt;
+  formed = λ rs other hold z. ((first, second, differ), plane_rows (length net.complexes) rs z);
+  row_parts = λ rs hold z. let l = zip_length (free_form (codes "vec") (length net.complexes) ∷ free_form (codes "vec") (length net.complexes) ∷ []) rs z in (omega arith, (omega (arith, l), tt));
+}
+
+confluence_wide_facts : (net : Net) (earlier : Earlier) (index : ℕ) (basis : List ℤ) → IsNetwork net → linkage_count earlier ≤ MAX_COMPLEXES → 1 ≤ index → index ≤ length net.complexes + (length net.names + linkage_count earlier) → length basis ≡ length net.complexes → AreRising (length net.complexes + (length net.names + linkage_count earlier)) basis
+    → Facts net earlier 12 (codes "q12" ∷ open_by (codes "wide")) (pos 4 ∷ pos 0 ∷ pos index ∷ basis)
+confluence_wide_facts net earlier index basis network least low high long rising =
+    let s0 = network.partial.species_limit in
+    let c0 = network.partial.complexes_limit in
+    let columns = length net.complexes in
+    let rows = length net.names + linkage_count earlier in record {
+      small = wide_small 5 4 index (columns + rows) basis (omega arith) (omega arith) (omega (arith, high, s0, c0, least)) (omega (arith, s0, c0, least)) rising;
+      short = omega (arith, long, c0);
+      ranks = λ long. tt;
+      is_head = (_, inr (inr (inr (inr (inl refl)))));
+      few = omega arith;
+      may = (refl, refl, wide_basis columns rows index basis low high long rising);
+      below_is = refl;
+      said = λ rs. refl;
+      shown = λ rs. refl;
+      heads_are = refl;
+      rows_are = λ rs. refl;
+      trees_are = refl;
+      tight_is = λ rs. refl;
+      head_parts = tt;
+      heads_same = λ rs p. p;
+      fit = λ rs hold z. tt;
+      formed = λ rs other hold z. ((refl, refl, wide_basis columns rows index basis low high long rising), refl);
+      row_parts = λ rs hold z. tt;
+    }
+
+confluence_rests_facts : (net : Net) (earlier : Earlier) → Facts net earlier 12 (codes "q12" ∷ open_by (codes "rests")) (pos 11 ∷ [])
+confluence_rests_facts net earlier = record {
+  small = (omega arith, one_small 11 (omega arith));
+  short = omega arith;
+  ranks = λ long. tt;
+  is_head = (_, inr (inr (inr (inr (inr refl)))));
+  few = omega arith;
+  may = refl;
+  below_is = refl;
+  said = λ rs. refl;
+  shown = λ rs. refl;
+  heads_are = refl;
+  rows_are = λ rs. refl;
+  trees_are = refl;
+  tight_is = λ rs. refl;
+  head_parts = tt;
+  heads_same = λ rs p. p;
+  fit = λ rs hold z. tt;
+  formed = λ rs other hold z. (refl, refl);
+  row_parts = λ rs hold z. tt;
+}
+
+pub by_regular : (net : Net) (earlier : Earlier) (h : Record) → FactsAt net earlier h 11
+by_regular net earlier h network few pairs (form, inr (inr (inr (inr (inr none)))), fits) = absurd none
+by_regular net earlier h network few pairs (form, inl e, fits) =
+    let f = as_form h form (head (codes "q11") 1 yes []) e fits in
+    same_facts net earlier 11 h (codes "q11" ∷ yes) [] f.0 f.1 (regular_facts net earlier (pairs (inl refl)))
+by_regular net earlier h network few pairs (form, inr (inl e), fits) =
+    let f = as_form h form (head (codes "q11") 2 (no_by (codes "terminal")) (small 1 1 (length (sizes_of (known_of net earlier)).class_reactions) ∷ small 1 2 (length net.complexes) ∷ [])) e fits in
+    let k = class_and_number net earlier h.numbers f.1 in
+    same_facts net earlier 11 h (codes "q11" ∷ no_by (codes "terminal")) (pos k.0 ∷ pos k.1 ∷ []) f.0 k.2 (regular_split_facts net earlier k.0 k.1 network few k.3 k.4)
+by_regular net earlier h network few pairs (form, inr (inr (inl e)), fits) =
+    let f = as_form h form (head (codes "q11") 3 (no_by (codes "dependence")) []) e fits in
+    same_facts net earlier 11 h (codes "q11" ∷ no_by (codes "dependence")) [] f.0 f.1 (regular_dependence_facts net earlier)
+by_regular net earlier h network few pairs (form, inr (inr (inr (inl e))), fits) =
+    let f = as_form h form (head (codes "q11") 4 (no_by (codes "cycle")) (small 1 1 (length net.reactions) ∷ [])) e fits in
+    let k = one_number 1 (length net.reactions) h.numbers (one_field (small 1 1 (length net.reactions)) h.numbers f.1) in
+    same_facts net earlier 11 h (codes "q11" ∷ no_by (codes "cycle")) (pos k.0 ∷ []) f.0 k.1 (regular_cycle_facts net earlier k.0 network k.2)
+by_regular net earlier h network few pairs (form, inr (inr (inr (inr (inl e)))), fits) =
+    let f = as_form h form (rests (codes "q11") 7 7) e fits in
+    let k = one_number 7 7 h.numbers (one_field (just 7) h.numbers f.1) in
+    let seven : k.0 ≡ 7 = (let a = k.2.0 in let b = k.2.1 in omega (arith, a, b)) in
+    same_facts net earlier 11 h (codes "q11" ∷ open_by (codes "rests")) (pos 7 ∷ []) f.0 (k.1 ∙ ap (λ (m : ℕ). pos m ∷ []) seven) (regular_rests_facts net earlier)
+
+pub by_confluence : (net : Net) (earlier : Earlier) (h : Record) → FactsAt net earlier h 12
+by_confluence net earlier h network few pairs (form, inr (inr (inr (inr (inr (inr none))))), fits) = absurd none
+by_confluence net earlier h network few pairs (form, inl e, fits) =
+    let f = as_form h form (head (codes "q12") 1 yes []) e fits in
+    same_facts net earlier 12 h (codes "q12" ∷ yes) [] f.0 f.1 (confluence_facts net earlier)
+by_confluence net earlier h network few pairs (form, inr (inl e), fits) =
+    let f = as_form h form (head (codes "q12") 2 (none_by (codes "regular")) []) e fits in
+    same_facts net earlier 12 h (codes "q12" ∷ none_by (codes "regular")) [] f.0 f.1 (irregular_facts net earlier)
+by_confluence net earlier h network few pairs (form, inr (inr (inl e)), fits) =
+    let f = as_form h form (head (codes "q12") 3 (none_by (codes "zero")) []) e fits in
+    same_facts net earlier 12 h (codes "q12" ∷ none_by (codes "zero")) [] f.0 f.1 (only_zero_facts net earlier)
+by_confluence net earlier h network few pairs (form, inr (inr (inr (inl e))), fits) =
+    let f = as_form h form (head (codes "q12") 4 (none_by (codes "plane")) (TwoOf (length net.complexes) ∷ [])) e fits in
+    let p = one_field (TwoOf (length net.complexes)) h.numbers f.1 in
+    let t = p.0 in
+    let each = subst (λ (zs : List ℤ). AreBetween (pos 1) (pos (length net.complexes)) zs) t.2 t.4 in
+    same_facts net earlier 12 h (codes "q12" ∷ none_by (codes "plane")) (pos t.0 ∷ pos t.1 ∷ []) f.0 t.2
+    (plane_facts net earlier t.0 t.1 network (omega (arith, ints, each.0.0), omega (arith, ints, each.0.1)) (omega (arith, ints, each.1.0.0), omega (arith, ints, each.1.0.1)) t.3)
+by_confluence net earlier h network few pairs (form, inr (inr (inr (inr (inl e)))), fits) =
+    let classes = length (sizes_of (known_of net earlier)).class_reactions in
+    let f = as_form h form (wide (codes "q12") 5 4 (length net.complexes) (length net.names + classes)) e fits in
+    let w : IsWide 4 (length net.complexes) (length net.names + linkage_count earlier) h.numbers = subst (λ (k : ℕ). IsWide 4 (length net.complexes) (length net.names + k) h.numbers) (counts_long net earlier) (wide_numbers 4 (length net.complexes) (length net.names + classes) h.numbers f.1) in
+    same_facts net earlier 12 h (codes "q12" ∷ open_by (codes "wide")) (pos 4 ∷ pos 0 ∷ pos w.index ∷ w.basis) f.0 w.is (confluence_wide_facts net earlier w.index w.basis network few w.low w.high w.long w.rising)
+by_confluence net earlier h network few pairs (form, inr (inr (inr (inr (inr (inl e))))), fits) =
+    let f = as_form h form (rests (codes "q12") 7 11) e fits in
+    let k = one_number 11 11 h.numbers (one_field (just 11) h.numbers f.1) in
+    let same : k.0 ≡ 11 = (let a = k.2.0 in let b = k.2.1 in omega (arith, a, b)) in
+    same_facts net earlier 12 h (codes "q12" ∷ open_by (codes "rests")) (pos 11 ∷ []) f.0 (k.1 ∙ ap (λ (m : ℕ). pos m ∷ []) same) (confluence_rests_facts net earlier)

@@ -1,0 +1,323 @@
+-- What the head of question 13 says.
+use Rattle.std.proofs.Common.{◌≡◌, ◌≢◌, ◌≤◌, ◌<◌, ◌+◌, ◌-◌, ◌^◌, ◌⊎◌, ◌++◌, ◌∙◌, ℕ, zero, suc, List, [], ◌∷◌, drop, length, map, replicate, refl, sym, subst, ap, ap₂, inl, inr, arith}
+use Rattle.std.specs.Prelude.{ℤ, pos, negsuc, codes, nat_abs, min, slice_index, slice_index_or}
+use Rattle.std.specs.List.{AllByRecursion, AllZip, range_with_len}
+use Rattle.std.proofs.lemmas.Int.{ints}
+use Rattle.std.proofs.lemmas.List.{append-nil, length-map, length-replicate}
+use Rattle.std.proofs.lemmas.List.FromFn.{length-range_with_len, length-map-range_with_len}
+use Rattle.crn_vec.specs.Lists.{IsAscending, IsIn}
+use Rattle.crn_vec.specs.Deficiency.{class_members}
+use Rattle.crn_cert.specs.declared.answer.Gap.TheVariants.{Wide}
+use Rattle.crn_cert.specs.declared.answer.Verdict.TheVariants.{Deficiency, Unknown}
+use Rattle.crn_cert.specs.declared.answer.Proof.TheVariants.{Ranks}
+use Rattle.crn_cert.specs.declared.answer.RankProof.{RankProof}
+use Rattle.crn_vec.specs.Network.{Net, IsNetwork}
+use Rattle.crn_vec.specs.declared.limits.TheConstants.{MAX_BUDGET, MAX_COMPLEXES, MAX_REACTIONS}
+use Rattle.crn_cert.specs.Questions.{Earlier, Q6}
+use Rattle.crn_cert.specs.Formed.{HeadMayBe, IsFormedOf, IsBasisOf, IsWalkList, AreClassProofs}
+use Rattle.crn_cert.specs.Tests.{AllHold}
+use Rattle.crn_cert.specs.Valid.{head_tests, row_tests, linkage, linkage_count, class_places, class_rank_tests, pair_places, side_tests}
+use Rattle.crn_cert.specs.ConfluenceTests.{tie_tests}
+use Rattle.crn_check.specs.Verdicts.{tight}
+use Rattle.crn_cert.specs.Ranges.{AreFrom, AreFree, AreFreeRows, AreBits}
+use Rattle.crn_ctext.specs.Records.{Record, Form, AreRising, CountAndPart, ClassWide, Rising, Several, TwoOf, Fits, AreOf, AreBetween}
+use Rattle.crn_ctext.specs.Kinds.{small, just, record_form, small_form, free_form}
+use Rattle.crn_ctext.specs.Questions.{Sizes, heads, head, yes, no, no_by, none_by, wide, rests, spent, open_by, class_forms, rank_forms, side_form, later_numbers}
+use Rattle.crn_ctext.specs.Blocks.{is_open, below, problems, unless}
+use Rattle.crn_ctext.specs.Documents.{IsOneOf}
+use Rattle.crn_ctext.specs.Meaning.{lengths, meaning, number, nums, lists, pairs_of, problems_by, row, sizes_of, shapes_of, verdict_of, proof_of, class_proofs}
+use Rattle.crn_ctext.specs.Expect.{question_of}
+use Rattle.crn_check.specs.Facts.{KeptFacts, asked}
+use Rattle.crn_check.specs.Check.{AsksForTree, IsBuilt}
+use Rattle.crn_document.specs.Inner.Answer.{AreSmall, AreSmallRows, IsHeadOf, verdict_of_head}
+use Rattle.crn_document.specs.Inner.Answers.{FitAnswer, part_proofs, proof_of_head}
+use Rattle.crn_document.specs.Inner.Parts.{IsKnown, before, class_parts}
+use Rattle.crn_document.specs.Inner.Blocks.{HeadHolds, forms_below, parts_after}
+use Rattle.crn_document.specs.declared.rows.Row.{Row}
+use Rattle.crn_document.specs.declared.rows.Row.TheVariants.{Side, Tie}
+use Rattle.crn_document.specs.Inner.Records.{part_rows, row_form}
+use Rattle.crn_document.specs.Inner.Heads.{known_of, head_forms, tagged, class_count, IsHead}
+use Rattle.crn_document.proofs.Fields.{Holds, PartsWithin, fits_from, form_small, naturals, one_field, one_number, record_is, small_list}
+use Rattle.crn_document.proofs.Linkages.{count_few, members_all, members_few, member_few, pairs_known}
+use Rattle.crn_document.proofs.Ranks.{AreRanks, class_fit, class_ranks, class_formed, class_parts_within, class_proofs_are, class_rows_are, drop_none, forms_from, free_row, free_rows, map_replicate, members_are, proofs_from, rank_formed, rank_length, rank_parts, rank_rows_are, rank_small, sizes_are, zip_length}
+use Rattle.crn_document.proofs.HeadFacts.{Facts, one_small, wide_numbers, wide_small, wide_basis, same_facts, as_form, FactsAt}
+use Rattle.std.proofs.Common.{Bool, true, false}
+use Rattle.crn_vec.specs.Confluence.{IsRegular}
+use Rattle.crn_cert.specs.declared.answer.Verdict.{Verdict}
+use Rattle.crn_cert.specs.declared.answer.Verdict.TheVariants.{YesVec}
+use Rattle.crn_cert.specs.Ranges.{IsNarrow}
+use Rattle.crn_cert.specs.Says.{IsTurn, IsShelf}
+use Rattle.crn_cert.specs.Formed.{AreSignalRows, IsSignalGap}
+use Rattle.crn_cert.specs.Valid.{HasVector}
+use Rattle.crn_cert.specs.Questions.{Q2, Q12, Q13, on, terminal_of, vector_given}
+use Rattle.std.specs.Option.{IsSome}
+use Rattle.crn_ctext.specs.Records.{Field, Small, Turn}
+use Rattle.crn_ctext.specs.Questions.{rows, wide_signal}
+use Rattle.crn_ctext.specs.Blocks.{place_of}
+use Rattle.crn_ctext.specs.Meaning.{has_vector}
+use Rattle.crn_document.proofs.HeadFacts.{HeadFacts, head_with, FactsOf, ArePairs, UsesPairs, IsWide}
+use Rattle.crn_document.proofs.Linkages.{pairs_few}
+
+-- ---- a signal
+
+-- the lists of a signal over so many terminal classes
+abbrev signal_forms : (terminal species reactions : ℕ) → List Form
+signal_forms terminal species reactions =
+    record_form (codes "shelves") (Small terminal (negsuc 0) (pos 1) ∷ []) ∷ free_form (codes "mu") species ∷ free_form (codes "m") 1 ∷ free_form (codes "weights") reactions ∷ []
+
+shelves_are : (zs : List ℤ) → AreBetween (negsuc 0) (pos 1) zs → AllByRecursion IsShelf zs
+shelves_are [] b = tt
+shelves_are (pos zero ∷ zs) b = (inr (inl refl), shelves_are zs b.1)
+shelves_are (pos (suc zero) ∷ zs) b = (inl refl, shelves_are zs b.1)
+shelves_are (pos (suc (suc n)) ∷ zs) b = absurd (omega (arith, ints, b.0.1))
+shelves_are (negsuc zero ∷ zs) b = (inr (inr refl), shelves_are zs b.1)
+shelves_are (negsuc (suc n) ∷ zs) b = absurd (omega (arith, ints, b.0.0))
+
+one_narrow : (zs : List ℤ) → AreFree 1 zs → IsNarrow (slice_index_or zs 0 (pos 0))
+one_narrow [] f = absurd (let l = f.long in omega (arith, l))
+one_narrow (z ∷ zs) f = let e = f.each in e.0
+
+signal_lists : (net : Net) (earlier : Earlier) (rs : List Record) → AllZip Fits (signal_forms (terminal_of (on earlier Q2)) (length net.names) (length net.reactions)) rs
+    → AreSignalRows net earlier (row rs 0) (row rs 1) (slice_index_or (row rs 2) 0 (pos 0)) (row rs 3)
+signal_lists net earlier [] f = absurd f
+signal_lists net earlier (a ∷ []) f = absurd f.1
+signal_lists net earlier (a ∷ b ∷ []) f = absurd f.1.1
+signal_lists net earlier (a ∷ b ∷ c ∷ []) f = absurd f.1.1.1
+signal_lists net earlier (a ∷ b ∷ c ∷ d ∷ e ∷ rs) f = absurd f.1.1.1.1
+signal_lists net earlier (a ∷ b ∷ c ∷ d ∷ []) f =
+    let s = one_field (Small (terminal_of (on earlier Q2)) (negsuc 0) (pos 1)) a.numbers f.0.1 in
+    record {
+      shelves_are = record { long = s.0.0; each = shelves_are a.numbers s.0.1 };
+      mu_is = free_row (codes "mu") (length net.names) b f.1.0;
+      level_is = one_narrow c.numbers (free_row (codes "m") 1 c f.1.1.0);
+      weights_are = free_row (codes "weights") (length net.reactions) d f.1.1.1.0;
+    }
+
+turn_small : (turn : ℤ) → IsTurn turn → nat_abs turn < 2 ^ 32
+turn_small turn (inl e) = subst (λ (z : ℤ). nat_abs z < 2 ^ 32) (sym e) (omega arith)
+turn_small turn (inr e) = subst (λ (z : ℤ). nat_abs z < 2 ^ 32) (sym e) (omega arith)
+
+turn_head : (turn : ℤ) → IsTurn turn → IsHeadOf Q13 (pos 1 ∷ turn ∷ [])
+turn_head turn (inl e) = ([], inl (ap (λ (z : ℤ). pos 1 ∷ z ∷ []) e))
+turn_head turn (inr e) = ([], inr (inl (ap (λ (z : ℤ). pos 1 ∷ z ∷ []) e)))
+
+signal_facts : (net : Net) (earlier : Earlier) (turn : ℤ) → IsTurn turn → Facts net earlier 13 (codes "q13" ∷ yes) (turn ∷ [])
+signal_facts net earlier turn is = record {
+  small = (omega arith, (turn_small turn is, tt));
+  short = omega arith;
+  ranks = λ long. tt;
+  is_head = turn_head turn is;
+  few = omega arith;
+  may = is;
+  below_is = refl;
+  said = λ rs. refl;
+  shown = λ rs. refl;
+  heads_are = refl;
+  rows_are = λ rs. refl;
+  trees_are = refl;
+  tight_is = λ rs. refl;
+  head_parts = (omega arith, tt);
+  heads_same = λ rs p. p;
+  fit = λ rs hold z. tt;
+  formed = λ rs other hold z. (is, signal_lists net earlier rs z);
+  row_parts = λ rs hold z. let l = zip_length (signal_forms (terminal_of (on earlier Q2)) (length net.names) (length net.reactions)) rs z in (omega (arith, l), tt);
+}
+
+-- ---- a no, and none
+
+no_signal_facts : (net : Net) (earlier : Earlier) → Facts net earlier 13 (codes "q13" ∷ no) []
+no_signal_facts net earlier = record {
+  small = (omega arith, tt);
+  short = omega arith;
+  ranks = λ long. tt;
+  is_head = ([], inr (inr (inl refl)));
+  few = omega arith;
+  may = tt;
+  below_is = refl;
+  said = λ rs. refl;
+  shown = λ rs. refl;
+  heads_are = refl;
+  rows_are = λ rs. refl;
+  trees_are = refl;
+  tight_is = λ rs. refl;
+  head_parts = (omega arith, tt);
+  heads_same = λ rs p. p;
+  fit = λ rs hold z. tt;
+  formed = λ rs other hold z. absurd (other (inl refl) refl);
+  row_parts = λ rs hold z. tt;
+}
+
+none_facts : (net : Net) (earlier : Earlier) → Facts net earlier 13 (codes "q13" ∷ codes "none" ∷ []) []
+none_facts net earlier = record {
+  small = (omega arith, tt);
+  short = omega arith;
+  ranks = λ long. tt;
+  is_head = ([], inr (inr (inr (inl refl))));
+  few = omega arith;
+  may = tt;
+  below_is = refl;
+  said = λ rs. refl;
+  shown = λ rs. refl;
+  heads_are = refl;
+  rows_are = λ rs. refl;
+  trees_are = refl;
+  tight_is = λ rs. refl;
+  head_parts = (omega arith, tt);
+  heads_same = λ rs p. p;
+  fit = λ rs hold z. tt;
+  formed = λ rs other hold z. (tt, tt);
+  row_parts = λ rs hold z. tt;
+}
+
+-- ---- open answers
+
+-- a wide vector of a system with so many columns and rows
+wide_facts : (net : Net) (earlier : Earlier) (system columns height index : ℕ) (basis : List ℤ) → system < 2 ^ 32 → columns ≤ 700 → height ≤ 700 → 1 ≤ index → index ≤ columns + height → length basis ≡ columns → AreRising (columns + height) basis → IsSignalGap net earlier system 0 index (map nat_abs basis)
+    → Facts net earlier 13 (codes "q13" ∷ open_by (codes "wide")) (pos system ∷ pos 0 ∷ pos index ∷ basis)
+wide_facts net earlier system columns height index basis fits some many low high long rising gap = record {
+  small = wide_small 4 system index (columns + height) basis (omega arith) fits (omega (arith, high, some, many)) (omega (arith, some, many)) rising;
+  short = omega (arith, long, some);
+  ranks = λ long. tt;
+  is_head = (_, inr (inr (inr (inr (inl refl)))));
+  few = omega arith;
+  may = gap;
+  below_is = refl;
+  said = λ rs. refl;
+  shown = λ rs. refl;
+  heads_are = refl;
+  rows_are = λ rs. refl;
+  trees_are = refl;
+  tight_is = λ rs. refl;
+  head_parts = tt;
+  heads_same = λ rs p. p;
+  fit = λ rs hold z. tt;
+  formed = λ rs other hold z. (gap, refl);
+  row_parts = λ rs hold z. tt;
+}
+
+-- the forms after those of the first four places, by whether there is a vector
+abbrev last_forms : Bool → Sizes → List Form
+last_forms vector z = wide_signal vector z ++ spent (codes "q13") 5 ∷ rests (codes "q13") 6 12 ∷ []
+
+spent_place : (vector : Bool) (z : Sizes) → place_of (last_forms vector z) (codes "q13" ∷ open_by (codes "budget")) ≡ 5
+spent_place true z = refl
+spent_place false z = refl
+
+rests_place : (vector : Bool) (z : Sizes) → place_of (last_forms vector z) (codes "q13" ∷ open_by (codes "rests")) ≡ 6
+rests_place true z = refl
+rests_place false z = refl
+
+spent_facts : (net : Net) (earlier : Earlier) (k : ℕ) → (1 ≤ k) × (k ≤ MAX_BUDGET) → Facts net earlier 13 (codes "q13" ∷ open_by (codes "budget")) (pos k ∷ [])
+spent_facts net earlier k range =
+    let known = known_of net earlier in
+    let place : place_of (head_forms net earlier 13) (codes "q13" ∷ open_by (codes "budget")) ≡ 5 = spent_place (has_vector (on earlier Q12)) (sizes_of known) in
+    subst (λ (p : ℕ). HeadFacts net earlier 13 (head_with (codes "q13" ∷ open_by (codes "budget")) (pos k ∷ [])) (pos p ∷ pos k ∷ [])) (sym place) (record {
+      small = (omega arith, one_small k (omega (arith, range.1)));
+      short = omega arith;
+      ranks = λ long. tt;
+      is_head = (_, inr (inr (inr (inr (inr (inl refl))))));
+      few = omega arith;
+      may = range;
+      below_is = ap (λ (p : ℕ). rows Q13 (shapes_of known) p (pos k ∷ [])) place;
+      said = λ rs. refl;
+      shown = λ rs. refl;
+      heads_are = refl;
+      rows_are = λ rs. refl;
+      trees_are = refl;
+      tight_is = λ rs. refl;
+      head_parts = tt;
+      heads_same = λ rs p. p;
+      fit = λ rs hold z. tt;
+      formed = λ rs other hold z. (range, refl);
+      row_parts = λ rs hold z. tt;
+    })
+
+rests_facts : (net : Net) (earlier : Earlier) → Facts net earlier 13 (codes "q13" ∷ open_by (codes "rests")) (pos 12 ∷ [])
+rests_facts net earlier =
+    let known = known_of net earlier in
+    let place : place_of (head_forms net earlier 13) (codes "q13" ∷ open_by (codes "rests")) ≡ 6 = rests_place (has_vector (on earlier Q12)) (sizes_of known) in
+    subst (λ (p : ℕ). HeadFacts net earlier 13 (head_with (codes "q13" ∷ open_by (codes "rests")) (pos 12 ∷ [])) (pos p ∷ pos 12 ∷ [])) (sym place) (record {
+      small = (omega arith, one_small 12 (omega arith));
+      short = omega arith;
+      ranks = λ long. tt;
+      is_head = (_, inr (inr (inr (inr (inr (inr refl))))));
+      few = omega arith;
+      may = refl;
+      below_is = ap (λ (p : ℕ). rows Q13 (shapes_of known) p (pos 12 ∷ [])) place;
+      said = λ rs. refl;
+      shown = λ rs. refl;
+      heads_are = refl;
+      rows_are = λ rs. refl;
+      trees_are = refl;
+      tight_is = λ rs. refl;
+      head_parts = tt;
+      heads_same = λ rs p. p;
+      fit = λ rs hold z. tt;
+      formed = λ rs other hold z. (refl, refl);
+      row_parts = λ rs hold z. tt;
+    })
+
+-- ---- each form
+
+vector_there : (v : Verdict) → has_vector v ≡ true → IsSome (vector_given v)
+vector_there (YesVec vector) e = refl
+vector_there v e = absurd cc
+
+one_turn : (zs : List ℤ) → Holds Turn zs → (turn : ℤ) × IsTurn turn × (zs ≡ turn ∷ [])
+one_turn zs (inl e, narrow) = (pos 1, inl refl, e)
+one_turn zs (inr e, narrow) = (negsuc 0, inr refl, e)
+
+by_wide : (net : Net) (earlier : Earlier) (h : Record) → IsNetwork net → Fits (wide (codes "q13") 4 2 (length net.reactions) (length net.names)) h → FactsOf net earlier 13 h
+by_wide net earlier h network f =
+    let w = wide_numbers 2 (length net.reactions) (length net.names) h.numbers f.1 in
+    let s0 = network.partial.species_limit in
+    let r0 = network.partial.reactions_limit in
+    same_facts net earlier 13 h (codes "q13" ∷ open_by (codes "wide")) (pos 2 ∷ pos 0 ∷ pos w.index ∷ w.basis) f.0 w.is
+    (wide_facts net earlier 2 (length net.reactions) (length net.names) w.index w.basis (omega arith) (omega (arith, r0)) (omega (arith, s0)) w.low w.high w.long w.rising
+    (inl (refl, refl, wide_basis (length net.reactions) (length net.names) w.index w.basis w.low w.high w.long w.rising)))
+
+by_shelves : (net : Net) (earlier : Earlier) (h : Record) → IsNetwork net → ArePairs net earlier → HasVector earlier → Fits (wide (codes "q13") 4 5 (length net.names + 1) (length net.complexes + length (pairs_of (known_of net earlier)))) h → FactsOf net earlier 13 h
+by_shelves net earlier h network pairs vector f =
+    let columns = length net.names + 1 in
+    let many = length net.complexes + length (pair_places net earlier) in
+    let w : IsWide 5 columns many h.numbers = subst (λ (k : ℕ). IsWide 5 columns (length net.complexes + k) h.numbers) (ap (λ (x : List ℕ). length x) pairs) (wide_numbers 5 columns (length net.complexes + length (pairs_of (known_of net earlier))) h.numbers f.1) in
+    let s0 = network.partial.species_limit in
+    let c0 = network.partial.complexes_limit in
+    let r0 = network.partial.reactions_limit in
+    let p0 = pairs_few net earlier in
+    same_facts net earlier 13 h (codes "q13" ∷ open_by (codes "wide")) (pos 5 ∷ pos 0 ∷ pos w.index ∷ w.basis) f.0 w.is
+    (wide_facts net earlier 5 columns many w.index w.basis (omega arith) (omega (arith, s0)) (omega (arith, c0, r0, p0)) w.low w.high w.long w.rising
+    (inr (refl, refl, vector, wide_basis columns many w.index w.basis w.low w.high w.long w.rising)))
+
+by_closed : (net : Net) (earlier : Earlier) (h : Record) (form : Form) → IsIn form (spent (codes "q13") 5 ∷ rests (codes "q13") 6 12 ∷ []) → Fits form h → FactsOf net earlier 13 h
+by_closed net earlier h form (inl e) fits =
+    let f = as_form h form (spent (codes "q13") 5) e fits in
+    let k = one_number 1 MAX_BUDGET h.numbers (one_field (small 1 1 MAX_BUDGET) h.numbers f.1) in
+    same_facts net earlier 13 h (codes "q13" ∷ open_by (codes "budget")) (pos k.0 ∷ []) f.0 k.1 (spent_facts net earlier k.0 k.2)
+by_closed net earlier h form (inr (inl e)) fits =
+    let f = as_form h form (rests (codes "q13") 6 12) e fits in
+    let k = one_number 12 12 h.numbers (one_field (just 12) h.numbers f.1) in
+    let same : k.0 ≡ 12 = (let a = k.2.0 in let b = k.2.1 in omega (arith, a, b)) in
+    same_facts net earlier 13 h (codes "q13" ∷ open_by (codes "rests")) (pos 12 ∷ []) f.0 (k.1 ∙ ap (λ (m : ℕ). pos m ∷ []) same) (rests_facts net earlier)
+by_closed net earlier h form (inr (inr none)) fits = absurd none
+
+by_last : (net : Net) (earlier : Earlier) (h : Record) (vector : Bool) → has_vector (on earlier Q12) ≡ vector → IsNetwork net → ArePairs net earlier → (form : Form) → IsIn form (last_forms vector (sizes_of (known_of net earlier))) → Fits form h → FactsOf net earlier 13 h
+by_last net earlier h true v network pairs form (inl e) fits =
+    by_shelves net earlier h network pairs (vector_there (on earlier Q12) v) (as_form h form (wide (codes "q13") 4 5 (length net.names + 1) (length net.complexes + length (pairs_of (known_of net earlier)))) e fits)
+by_last net earlier h true v network pairs form (inr more) fits = by_closed net earlier h form more fits
+by_last net earlier h false v network pairs form more fits = by_closed net earlier h form more fits
+
+pub by_signal : (net : Net) (earlier : Earlier) (h : Record) → FactsAt net earlier h 13
+by_signal net earlier h network few pairs (form, inl e, fits) =
+    let f = as_form h form (head (codes "q13") 1 yes (Turn ∷ [])) e fits in
+    let t = one_turn h.numbers (one_field Turn h.numbers f.1) in
+    same_facts net earlier 13 h (codes "q13" ∷ yes) (t.0 ∷ []) f.0 t.2 (signal_facts net earlier t.0 t.1)
+by_signal net earlier h network few pairs (form, inr (inl e), fits) =
+    let f = as_form h form (head (codes "q13") 2 no []) e fits in
+    same_facts net earlier 13 h (codes "q13" ∷ no) [] f.0 f.1 (no_signal_facts net earlier)
+by_signal net earlier h network few pairs (form, inr (inr (inl e)), fits) =
+    let f = as_form h form (head (codes "q13") 3 (codes "none" ∷ []) []) e fits in
+    same_facts net earlier 13 h (codes "q13" ∷ codes "none" ∷ []) [] f.0 f.1 (none_facts net earlier)
+by_signal net earlier h network few pairs (form, inr (inr (inr (inl e))), fits) =
+    by_wide net earlier h network (as_form h form (wide (codes "q13") 4 2 (length net.reactions) (length net.names)) e fits)
+by_signal net earlier h network few pairs (form, inr (inr (inr (inr more))), fits) = by_last net earlier h (has_vector (on earlier Q12)) refl network (pairs (inr refl)) form more fits

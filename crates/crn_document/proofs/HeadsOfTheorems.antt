@@ -1,0 +1,285 @@
+-- What the heads of questions 9 and 10 say.
+use Rattle.std.proofs.Common.{◌≡◌, ◌≢◌, ◌≤◌, ◌<◌, ◌+◌, ◌-◌, ◌^◌, ◌⊎◌, ◌++◌, ◌∙◌, ℕ, zero, suc, List, [], ◌∷◌, drop, length, map, replicate, refl, sym, subst, ap, ap₂, inl, inr, arith}
+use Rattle.std.specs.Prelude.{ℤ, pos, negsuc, codes, nat_abs, min, slice_index, slice_index_or}
+use Rattle.std.specs.List.{AllByRecursion, AllZip, range_with_len}
+use Rattle.std.proofs.lemmas.Int.{ints}
+use Rattle.std.proofs.lemmas.List.{append-nil, length-map, length-replicate}
+use Rattle.std.proofs.lemmas.List.FromFn.{length-range_with_len, length-map-range_with_len}
+use Rattle.crn_vec.specs.Lists.{IsAscending, IsIn}
+use Rattle.crn_vec.specs.Deficiency.{class_members}
+use Rattle.crn_cert.specs.declared.answer.Gap.TheVariants.{Wide}
+use Rattle.crn_cert.specs.declared.answer.Verdict.TheVariants.{Deficiency, Unknown}
+use Rattle.crn_cert.specs.declared.answer.Proof.TheVariants.{Ranks}
+use Rattle.crn_cert.specs.declared.answer.RankProof.{RankProof}
+use Rattle.crn_vec.specs.Network.{Net, IsNetwork}
+use Rattle.crn_vec.specs.declared.limits.TheConstants.{MAX_BUDGET, MAX_COMPLEXES, MAX_REACTIONS}
+use Rattle.crn_cert.specs.Questions.{Earlier, Q6}
+use Rattle.crn_cert.specs.Formed.{HeadMayBe, IsFormedOf, IsBasisOf, IsWalkList, AreClassProofs}
+use Rattle.crn_cert.specs.Tests.{AllHold}
+use Rattle.crn_cert.specs.Valid.{head_tests, row_tests, linkage, linkage_count, class_places, class_rank_tests, pair_places, side_tests}
+use Rattle.crn_cert.specs.ConfluenceTests.{tie_tests}
+use Rattle.crn_check.specs.Verdicts.{tight}
+use Rattle.crn_cert.specs.Ranges.{AreFrom, AreFree, AreFreeRows, AreBits}
+use Rattle.crn_ctext.specs.Records.{Record, Form, AreRising, CountAndPart, ClassWide, Rising, Several, TwoOf, Fits, AreOf, AreBetween}
+use Rattle.crn_ctext.specs.Kinds.{small, just, record_form, small_form, free_form}
+use Rattle.crn_ctext.specs.Questions.{Sizes, heads, head, yes, no, no_by, none_by, wide, rests, spent, open_by, class_forms, rank_forms, side_form, later_numbers}
+use Rattle.crn_ctext.specs.Blocks.{is_open, below, problems, unless}
+use Rattle.crn_ctext.specs.Documents.{IsOneOf}
+use Rattle.crn_ctext.specs.Meaning.{lengths, meaning, number, nums, lists, pairs_of, problems_by, row, sizes_of, shapes_of, verdict_of, proof_of, class_proofs}
+use Rattle.crn_ctext.specs.Expect.{question_of}
+use Rattle.crn_check.specs.Facts.{KeptFacts, asked}
+use Rattle.crn_check.specs.Check.{AsksForTree, IsBuilt}
+use Rattle.crn_document.specs.Inner.Answer.{AreSmall, AreSmallRows, IsHeadOf, verdict_of_head}
+use Rattle.crn_document.specs.Inner.Answers.{FitAnswer, part_proofs, proof_of_head}
+use Rattle.crn_document.specs.Inner.Parts.{IsKnown, before, class_parts}
+use Rattle.crn_document.specs.Inner.Blocks.{HeadHolds, forms_below, parts_after}
+use Rattle.crn_document.specs.declared.rows.Row.{Row}
+use Rattle.crn_document.specs.declared.rows.Row.TheVariants.{Side, Tie}
+use Rattle.crn_document.specs.Inner.Records.{part_rows, row_form}
+use Rattle.crn_document.specs.Inner.Heads.{known_of, head_forms, tagged, class_count, IsHead}
+use Rattle.crn_document.proofs.Fields.{Holds, PartsWithin, fits_from, form_small, naturals, one_field, one_number, record_is, small_list}
+use Rattle.crn_document.proofs.Linkages.{count_few, members_all, members_few, member_few, pairs_known}
+use Rattle.crn_document.proofs.Ranks.{AreRanks, class_fit, class_ranks, class_formed, class_parts_within, class_proofs_are, class_rows_are, drop_none, forms_from, free_row, free_rows, map_replicate, members_are, proofs_from, rank_formed, rank_length, rank_parts, rank_rows_are, rank_small, sizes_are, zip_length}
+use Rattle.crn_document.proofs.HeadFacts.{Facts, one_small, same_facts, as_form, FactsAt, class_and_number}
+
+zero_yes_facts : (net : Net) (earlier : Earlier) → Facts net earlier 9 (codes "q9" ∷ yes) (pos 1 ∷ [])
+zero_yes_facts net earlier = record {
+  small = (omega arith, one_small 1 (omega arith));
+  short = omega arith;
+  ranks = λ long. tt;
+  is_head = (_, inl refl);
+  few = omega arith;
+  may = tt;
+  below_is = refl;
+  said = λ rs. refl;
+  shown = λ rs. refl;
+  heads_are = refl;
+  rows_are = λ rs. refl;
+  trees_are = refl;
+  tight_is = λ rs. refl;
+  head_parts = (omega arith, (omega arith, tt));
+  heads_same = λ rs p. p;
+  fit = λ rs hold z. tt;
+  formed = λ rs other hold z. (tt, tt);
+  row_parts = λ rs hold z. tt;
+}
+
+zero_other_facts : (net : Net) (earlier : Earlier) → Facts net earlier 9 (codes "q9" ∷ yes) (pos 0 ∷ [])
+zero_other_facts net earlier = record {
+  small = (omega arith, one_small 0 (omega arith));
+  short = omega arith;
+  ranks = λ long. tt;
+  is_head = (_, inl refl);
+  few = omega arith;
+  may = tt;
+  below_is = refl;
+  said = λ rs. refl;
+  shown = λ rs. refl;
+  heads_are = refl;
+  rows_are = λ rs. refl;
+  trees_are = refl;
+  tight_is = λ rs. refl;
+  head_parts = (omega arith, (omega arith, tt));
+  heads_same = λ rs p. p;
+  fit = λ rs hold z. tt;
+  formed = λ rs other hold z. (tt, tt);
+  row_parts = λ rs hold z. tt;
+}
+
+zero_no_facts : (net : Net) (earlier : Earlier) (d : ℕ) → IsNetwork net → (1 ≤ d) × (d ≤ length net.complexes) → Facts net earlier 9 (codes "q9" ∷ no) (pos d ∷ [])
+zero_no_facts net earlier d network range = record {
+  small = (omega arith, one_small d (let few = network.partial.complexes_limit in omega (arith, few, range.1)));
+  short = omega arith;
+  ranks = λ long. tt;
+  is_head = (_, inr (inl refl));
+  few = omega arith;
+  may = range;
+  below_is = refl;
+  said = λ rs. refl;
+  shown = λ rs. refl;
+  heads_are = refl;
+  rows_are = λ rs. refl;
+  trees_are = refl;
+  tight_is = λ rs. refl;
+  head_parts = (omega arith, (omega arith, tt));
+  heads_same = λ rs p. p;
+  fit = λ rs hold z. tt;
+  formed = λ rs other hold z. (range, tt);
+  row_parts = λ rs hold z. tt;
+}
+
+zero_rests_facts : (net : Net) (earlier : Earlier) → Facts net earlier 9 (codes "q9" ∷ open_by (codes "rests")) (pos 5 ∷ [])
+zero_rests_facts net earlier = record {
+  small = (omega arith, one_small 5 (omega arith));
+  short = omega arith;
+  ranks = λ long. tt;
+  is_head = (_, inr (inr refl));
+  few = omega arith;
+  may = refl;
+  below_is = refl;
+  said = λ rs. refl;
+  shown = λ rs. refl;
+  heads_are = refl;
+  rows_are = λ rs. refl;
+  trees_are = refl;
+  tight_is = λ rs. refl;
+  head_parts = tt;
+  heads_same = λ rs p. p;
+  fit = λ rs hold z. tt;
+  formed = λ rs other hold z. (refl, refl);
+  row_parts = λ rs hold z. tt;
+}
+
+one_yes_facts : (net : Net) (earlier : Earlier) → Facts net earlier 10 (codes "q10" ∷ yes) ([])
+one_yes_facts net earlier = record {
+  small = (omega arith, tt);
+  short = omega arith;
+  ranks = λ long. tt;
+  is_head = (_, inl refl);
+  few = omega arith;
+  may = tt;
+  below_is = refl;
+  said = λ rs. refl;
+  shown = λ rs. refl;
+  heads_are = refl;
+  rows_are = λ rs. refl;
+  trees_are = refl;
+  tight_is = λ rs. refl;
+  head_parts = (omega arith, tt);
+  heads_same = λ rs p. p;
+  fit = λ rs hold z. tt;
+  formed = λ rs other hold z. (tt, tt);
+  row_parts = λ rs hold z. tt;
+}
+
+one_split_facts : (net : Net) (earlier : Earlier) (k m : ℕ) → IsNetwork net → linkage_count earlier ≤ MAX_COMPLEXES → (1 ≤ k) × (k ≤ linkage_count earlier) → (2 ≤ m) × (m ≤ length net.complexes) → Facts net earlier 10 (codes "q10" ∷ no_by (codes "terminal")) (pos k ∷ pos m ∷ [])
+one_split_facts net earlier k m network least a b = record {
+  small = (omega arith, (omega (arith, least, a.1), one_small m (let few = network.partial.complexes_limit in omega (arith, few, b.1))));
+  short = omega arith;
+  ranks = λ long. tt;
+  is_head = (_, inr (inl refl));
+  few = omega arith;
+  may = (a, b);
+  below_is = refl;
+  said = λ rs. refl;
+  shown = λ rs. refl;
+  heads_are = refl;
+  rows_are = λ rs. refl;
+  trees_are = refl;
+  tight_is = λ rs. refl;
+  head_parts = (omega arith, tt);
+  heads_same = λ rs p. p;
+  fit = λ rs hold z. tt;
+  formed = λ rs other hold z. ((a, b), tt);
+  row_parts = λ rs hold z. tt;
+}
+
+one_large_facts : (net : Net) (earlier : Earlier) (k m : ℕ) → IsNetwork net → linkage_count earlier ≤ MAX_COMPLEXES → (1 ≤ k) × (k ≤ linkage_count earlier) → (2 ≤ m) × (m ≤ length net.complexes) → Facts net earlier 10 (codes "q10" ∷ no_by (codes "class")) (pos k ∷ pos m ∷ [])
+one_large_facts net earlier k m network least a b = record {
+  small = (omega arith, (omega (arith, least, a.1), one_small m (let few = network.partial.complexes_limit in omega (arith, few, b.1))));
+  short = omega arith;
+  ranks = λ long. tt;
+  is_head = (_, inr (inr (inl refl)));
+  few = omega arith;
+  may = (a, b);
+  below_is = refl;
+  said = λ rs. refl;
+  shown = λ rs. refl;
+  heads_are = refl;
+  rows_are = λ rs. refl;
+  trees_are = refl;
+  tight_is = λ rs. refl;
+  head_parts = (omega arith, tt);
+  heads_same = λ rs p. p;
+  fit = λ rs hold z. tt;
+  formed = λ rs other hold z. ((a, b), tt);
+  row_parts = λ rs hold z. tt;
+}
+
+one_sum_facts : (net : Net) (earlier : Earlier) (x : ℕ) → IsNetwork net → (0 ≤ x) × (x ≤ length net.complexes) → Facts net earlier 10 (codes "q10" ∷ no_by (codes "sum")) (pos x ∷ [])
+one_sum_facts net earlier x network range = record {
+  small = (omega arith, one_small x (let few = network.partial.complexes_limit in omega (arith, few, range.1)));
+  short = omega arith;
+  ranks = λ long. tt;
+  is_head = (_, inr (inr (inr (inl refl))));
+  few = omega arith;
+  may = range;
+  below_is = refl;
+  said = λ rs. refl;
+  shown = λ rs. refl;
+  heads_are = refl;
+  rows_are = λ rs. refl;
+  trees_are = refl;
+  tight_is = λ rs. refl;
+  head_parts = (omega arith, tt);
+  heads_same = λ rs p. p;
+  fit = λ rs hold z. tt;
+  formed = λ rs other hold z. (range, tt);
+  row_parts = λ rs hold z. tt;
+}
+
+one_rests_facts : (net : Net) (earlier : Earlier) → Facts net earlier 10 (codes "q10" ∷ open_by (codes "rests")) (pos 6 ∷ [])
+one_rests_facts net earlier = record {
+  small = (omega arith, one_small 6 (omega arith));
+  short = omega arith;
+  ranks = λ long. tt;
+  is_head = (_, inr (inr (inr (inr refl))));
+  few = omega arith;
+  may = refl;
+  below_is = refl;
+  said = λ rs. refl;
+  shown = λ rs. refl;
+  heads_are = refl;
+  rows_are = λ rs. refl;
+  trees_are = refl;
+  tight_is = λ rs. refl;
+  head_parts = tt;
+  heads_same = λ rs p. p;
+  fit = λ rs hold z. tt;
+  formed = λ rs other hold z. (refl, refl);
+  row_parts = λ rs hold z. tt;
+}
+
+zero_case : (net : Net) (earlier : Earlier) (k : ℕ) → k ≤ 1 → Facts net earlier 9 (codes "q9" ∷ yes) (pos k ∷ [])
+zero_case net earlier zero le = zero_other_facts net earlier
+zero_case net earlier (suc zero) le = zero_yes_facts net earlier
+zero_case net earlier (suc (suc k)) le = absurd (omega (arith, le))
+
+pub by_zero : (net : Net) (earlier : Earlier) (h : Record) → FactsAt net earlier h 9
+by_zero net earlier h network few pairs (form, inr (inr (inr none)), fits) = absurd none
+by_zero net earlier h network few pairs (form, inl e, fits) =
+    let f = as_form h form (head (codes "q9") 1 yes (small 1 0 1 ∷ [])) e fits in
+    let k = one_number 0 1 h.numbers (one_field (small 1 0 1) h.numbers f.1) in
+    same_facts net earlier 9 h (codes "q9" ∷ yes) (pos k.0 ∷ []) f.0 k.1 (zero_case net earlier k.0 k.2.1)
+by_zero net earlier h network few pairs (form, inr (inl e), fits) =
+    let f = as_form h form (head (codes "q9") 2 no (small 1 1 (length net.complexes) ∷ [])) e fits in
+    let k = one_number 1 (length net.complexes) h.numbers (one_field (small 1 1 (length net.complexes)) h.numbers f.1) in
+    same_facts net earlier 9 h (codes "q9" ∷ no) (pos k.0 ∷ []) f.0 k.1 (zero_no_facts net earlier k.0 network k.2)
+by_zero net earlier h network few pairs (form, inr (inr (inl e)), fits) =
+    let f = as_form h form (rests (codes "q9") 5 5) e fits in
+    let k = one_number 5 5 h.numbers (one_field (just 5) h.numbers f.1) in
+    let five : k.0 ≡ 5 = (let a = k.2.0 in let b = k.2.1 in omega (arith, a, b)) in
+    same_facts net earlier 9 h (codes "q9" ∷ open_by (codes "rests")) (pos 5 ∷ []) f.0 (k.1 ∙ ap (λ (m : ℕ). pos m ∷ []) five) (zero_rests_facts net earlier)
+
+pub by_one : (net : Net) (earlier : Earlier) (h : Record) → FactsAt net earlier h 10
+by_one net earlier h network few pairs (form, inr (inr (inr (inr (inr none)))), fits) = absurd none
+by_one net earlier h network few pairs (form, inl e, fits) =
+    let f = as_form h form (head (codes "q10") 1 yes []) e fits in
+    same_facts net earlier 10 h (codes "q10" ∷ yes) [] f.0 f.1 (one_yes_facts net earlier)
+by_one net earlier h network few pairs (form, inr (inl e), fits) =
+    let f = as_form h form (head (codes "q10") 2 (no_by (codes "terminal")) (small 1 1 (length (sizes_of (known_of net earlier)).class_reactions) ∷ small 1 2 (length net.complexes) ∷ [])) e fits in
+    let k = class_and_number net earlier h.numbers f.1 in
+    same_facts net earlier 10 h (codes "q10" ∷ no_by (codes "terminal")) (pos k.0 ∷ pos k.1 ∷ []) f.0 k.2 (one_split_facts net earlier k.0 k.1 network few k.3 k.4)
+by_one net earlier h network few pairs (form, inr (inr (inl e)), fits) =
+    let f = as_form h form (head (codes "q10") 3 (no_by (codes "class")) (small 1 1 (length (sizes_of (known_of net earlier)).class_reactions) ∷ small 1 2 (length net.complexes) ∷ [])) e fits in
+    let k = class_and_number net earlier h.numbers f.1 in
+    same_facts net earlier 10 h (codes "q10" ∷ no_by (codes "class")) (pos k.0 ∷ pos k.1 ∷ []) f.0 k.2 (one_large_facts net earlier k.0 k.1 network few k.3 k.4)
+by_one net earlier h network few pairs (form, inr (inr (inr (inl e))), fits) =
+    let f = as_form h form (head (codes "q10") 4 (no_by (codes "sum")) (small 1 0 (length net.complexes) ∷ [])) e fits in
+    let k = one_number 0 (length net.complexes) h.numbers (one_field (small 1 0 (length net.complexes)) h.numbers f.1) in
+    same_facts net earlier 10 h (codes "q10" ∷ no_by (codes "sum")) (pos k.0 ∷ []) f.0 k.1 (one_sum_facts net earlier k.0 network k.2)
+by_one net earlier h network few pairs (form, inr (inr (inr (inr (inl e)))), fits) =
+    let f = as_form h form (rests (codes "q10") 7 6) e fits in
+    let k = one_number 6 6 h.numbers (one_field (just 6) h.numbers f.1) in
+    let six : k.0 ≡ 6 = (let a = k.2.0 in let b = k.2.1 in omega (arith, a, b)) in
+    same_facts net earlier 10 h (codes "q10" ∷ open_by (codes "rests")) (pos 6 ∷ []) f.0 (k.1 ∙ ap (λ (m : ℕ). pos m ∷ []) six) (one_rests_facts net earlier)

@@ -1,0 +1,206 @@
+-- What the heads of questions 7 and 8 say.
+use Rattle.std.proofs.Common.{◌≡◌, ◌≢◌, ◌≤◌, ◌<◌, ◌+◌, ◌-◌, ◌^◌, ◌⊎◌, ◌++◌, ◌∙◌, ℕ, zero, suc, List, [], ◌∷◌, drop, length, map, replicate, refl, sym, subst, ap, ap₂, inl, inr, arith}
+use Rattle.std.specs.Prelude.{ℤ, pos, negsuc, codes, nat_abs, min, slice_index, slice_index_or}
+use Rattle.std.specs.List.{AllByRecursion, AllZip, range_with_len}
+use Rattle.std.proofs.lemmas.Int.{ints}
+use Rattle.std.proofs.lemmas.List.{append-nil, length-map, length-replicate}
+use Rattle.std.proofs.lemmas.List.FromFn.{length-range_with_len, length-map-range_with_len}
+use Rattle.crn_vec.specs.Lists.{IsAscending, IsIn}
+use Rattle.crn_vec.specs.Deficiency.{class_members}
+use Rattle.crn_cert.specs.declared.answer.Gap.TheVariants.{Wide}
+use Rattle.crn_cert.specs.declared.answer.Verdict.TheVariants.{Deficiency, Unknown}
+use Rattle.crn_cert.specs.declared.answer.Proof.TheVariants.{Ranks}
+use Rattle.crn_cert.specs.declared.answer.RankProof.{RankProof}
+use Rattle.crn_vec.specs.Network.{Net, IsNetwork}
+use Rattle.crn_vec.specs.declared.limits.TheConstants.{MAX_BUDGET, MAX_COMPLEXES, MAX_REACTIONS}
+use Rattle.crn_cert.specs.Questions.{Earlier, Q6}
+use Rattle.crn_cert.specs.Formed.{HeadMayBe, IsFormedOf, IsBasisOf, IsWalkList, AreClassProofs}
+use Rattle.crn_cert.specs.Tests.{AllHold}
+use Rattle.crn_cert.specs.Valid.{head_tests, row_tests, linkage, linkage_count, class_places, class_rank_tests, pair_places, side_tests}
+use Rattle.crn_cert.specs.ConfluenceTests.{tie_tests}
+use Rattle.crn_check.specs.Verdicts.{tight}
+use Rattle.crn_cert.specs.Ranges.{AreFrom, AreFree, AreFreeRows, AreBits}
+use Rattle.crn_ctext.specs.Records.{Record, Form, AreRising, CountAndPart, ClassWide, Rising, Several, TwoOf, Fits, AreOf, AreBetween}
+use Rattle.crn_ctext.specs.Kinds.{small, just, record_form, small_form, free_form}
+use Rattle.crn_ctext.specs.Questions.{Sizes, heads, head, yes, no, no_by, none_by, wide, rests, spent, open_by, class_forms, rank_forms, side_form, later_numbers}
+use Rattle.crn_ctext.specs.Blocks.{is_open, below, problems, unless}
+use Rattle.crn_ctext.specs.Documents.{IsOneOf}
+use Rattle.crn_ctext.specs.Meaning.{lengths, meaning, number, nums, lists, pairs_of, problems_by, row, sizes_of, shapes_of, verdict_of, proof_of, class_proofs}
+use Rattle.crn_ctext.specs.Expect.{question_of}
+use Rattle.crn_check.specs.Facts.{KeptFacts, asked}
+use Rattle.crn_check.specs.Check.{AsksForTree, IsBuilt}
+use Rattle.crn_document.specs.Inner.Answer.{AreSmall, AreSmallRows, IsHeadOf, verdict_of_head}
+use Rattle.crn_document.specs.Inner.Answers.{FitAnswer, part_proofs, proof_of_head}
+use Rattle.crn_document.specs.Inner.Parts.{IsKnown, before, class_parts}
+use Rattle.crn_document.specs.Inner.Blocks.{HeadHolds, forms_below, parts_after}
+use Rattle.crn_document.specs.declared.rows.Row.{Row}
+use Rattle.crn_document.specs.declared.rows.Row.TheVariants.{Side, Tie}
+use Rattle.crn_document.specs.Inner.Records.{part_rows, row_form}
+use Rattle.crn_document.specs.Inner.Heads.{known_of, head_forms, tagged, class_count, IsHead}
+use Rattle.crn_document.proofs.Fields.{Holds, PartsWithin, fits_from, form_small, naturals, one_field, one_number, record_is, small_list}
+use Rattle.crn_document.proofs.Linkages.{count_few, members_all, members_few, member_few, pairs_known}
+use Rattle.crn_document.proofs.Ranks.{AreRanks, class_fit, class_ranks, class_formed, class_parts_within, class_proofs_are, class_rows_are, drop_none, forms_from, free_row, free_rows, map_replicate, members_are, proofs_from, rank_formed, rank_length, rank_parts, rank_rows_are, rank_small, sizes_are, zip_length}
+use Rattle.crn_document.proofs.HeadFacts.{Facts, wide_numbers, wide_small, wide_basis, same_facts, as_form, FactsAt}
+
+dependence_wide_facts : (net : Net) (earlier : Earlier) (index : ℕ) (basis : List ℤ) → IsNetwork net → 1 ≤ index → index ≤ length net.reactions + length net.names → length basis ≡ length net.reactions → AreRising (length net.reactions + length net.names) basis → Facts net earlier 7 (codes "q7" ∷ open_by (codes "wide")) (pos 2 ∷ pos 0 ∷ pos index ∷ basis)
+dependence_wide_facts net earlier index basis network low high long rising = record {
+  small = wide_small 3 2 index (length net.reactions + length net.names) basis (omega arith) (omega arith) (let s0 = network.partial.species_limit in let r0 = network.partial.reactions_limit in omega (arith, high, s0, r0)) (let s0 = network.partial.species_limit in let r0 = network.partial.reactions_limit in omega (arith, s0, r0)) rising;
+  short = (let s0 = network.partial.species_limit in let r0 = network.partial.reactions_limit in omega (arith, long, s0, r0));
+  ranks = λ long. tt;
+  is_head = (_, inr (inr refl));
+  few = omega arith;
+  may = (refl, refl, wide_basis (length net.reactions) (length net.names) index basis low high long rising);
+  below_is = refl;
+  said = λ rs. refl;
+  shown = λ rs. refl;
+  heads_are = refl;
+  rows_are = λ rs. refl;
+  trees_are = refl;
+  tight_is = λ rs. refl;
+  head_parts = tt;
+  heads_same = λ rs p. p;
+  fit = λ rs hold z. tt;
+  formed = λ rs other hold z. ((refl, refl, wide_basis (length net.reactions) (length net.names) index basis low high long rising), refl);
+  row_parts = λ rs hold z. tt;
+}
+
+law_wide_facts : (net : Net) (earlier : Earlier) (index : ℕ) (basis : List ℤ) → IsNetwork net → 1 ≤ index → index ≤ length net.names + length net.reactions → length basis ≡ length net.names → AreRising (length net.names + length net.reactions) basis → Facts net earlier 8 (codes "q8" ∷ open_by (codes "wide")) (pos 1 ∷ pos 0 ∷ pos index ∷ basis)
+law_wide_facts net earlier index basis network low high long rising = record {
+  small = wide_small 3 1 index (length net.names + length net.reactions) basis (omega arith) (omega arith) (let s0 = network.partial.species_limit in let r0 = network.partial.reactions_limit in omega (arith, high, s0, r0)) (let s0 = network.partial.species_limit in let r0 = network.partial.reactions_limit in omega (arith, s0, r0)) rising;
+  short = (let s0 = network.partial.species_limit in let r0 = network.partial.reactions_limit in omega (arith, long, s0, r0));
+  ranks = λ long. tt;
+  is_head = (_, inr (inr refl));
+  few = omega arith;
+  may = (refl, refl, wide_basis (length net.names) (length net.reactions) index basis low high long rising);
+  below_is = refl;
+  said = λ rs. refl;
+  shown = λ rs. refl;
+  heads_are = refl;
+  rows_are = λ rs. refl;
+  trees_are = refl;
+  tight_is = λ rs. refl;
+  head_parts = tt;
+  heads_same = λ rs p. p;
+  fit = λ rs hold z. tt;
+  formed = λ rs other hold z. ((refl, refl, wide_basis (length net.names) (length net.reactions) index basis low high long rising), refl);
+  row_parts = λ rs hold z. tt;
+}
+
+vector_rows : (word : List ℕ) (count : ℕ) (rs : List Record) → AllZip Fits (free_form word count ∷ []) rs → AreFree count (row rs 0)
+vector_rows word count [] z = absurd z
+vector_rows word count (r ∷ []) z = free_row word count r z.0
+vector_rows word count (r ∷ s ∷ rs) z = absurd z.1
+
+dependence_facts : (net : Net) (earlier : Earlier) → Facts net earlier 7 (codes "q7" ∷ yes) []
+dependence_facts net earlier = record {
+  small = (omega arith, tt);
+  short = omega arith;
+  ranks = λ long. tt;
+  is_head = (_, inl refl);
+  few = omega arith;
+  may = tt;
+  below_is = refl;
+  said = λ rs. refl;
+  shown = λ rs. refl;
+  heads_are = refl;
+  rows_are = λ rs. refl;
+  trees_are = refl;
+  tight_is = λ rs. refl;
+  head_parts = tt;
+  heads_same = λ rs p. p;
+  fit = λ rs hold z. tt;
+  formed = λ rs other hold z. (tt, vector_rows (codes "vec") (length net.reactions) rs z);
+  row_parts = λ rs hold z. (omega arith, tt);
+}
+
+no_dependence_facts : (net : Net) (earlier : Earlier) → Facts net earlier 7 (codes "q7" ∷ no) []
+no_dependence_facts net earlier = record {
+  small = (omega arith, tt);
+  short = omega arith;
+  ranks = λ long. tt;
+  is_head = (_, inr (inl refl));
+  few = omega arith;
+  may = tt;
+  below_is = refl;
+  said = λ rs. refl;
+  shown = λ rs. refl;
+  heads_are = refl;
+  rows_are = λ rs. refl;
+  trees_are = refl;
+  tight_is = λ rs. refl;
+  head_parts = tt;
+  heads_same = λ rs p. p;
+  fit = λ rs hold z. tt;
+  formed = λ rs other hold z. (tt, vector_rows (codes "cut") (length net.names) rs z);
+  row_parts = λ rs hold z. (omega arith, tt);
+}
+
+law_facts : (net : Net) (earlier : Earlier) → Facts net earlier 8 (codes "q8" ∷ yes) []
+law_facts net earlier = record {
+  small = (omega arith, tt);
+  short = omega arith;
+  ranks = λ long. tt;
+  is_head = (_, inl refl);
+  few = omega arith;
+  may = tt;
+  below_is = refl;
+  said = λ rs. refl;
+  shown = λ rs. refl;
+  heads_are = refl;
+  rows_are = λ rs. refl;
+  trees_are = refl;
+  tight_is = λ rs. refl;
+  head_parts = tt;
+  heads_same = λ rs p. p;
+  fit = λ rs hold z. tt;
+  formed = λ rs other hold z. (tt, vector_rows (codes "vec") (length net.names) rs z);
+  row_parts = λ rs hold z. (omega arith, tt);
+}
+
+no_law_facts : (net : Net) (earlier : Earlier) → Facts net earlier 8 (codes "q8" ∷ no) []
+no_law_facts net earlier = record {
+  small = (omega arith, tt);
+  short = omega arith;
+  ranks = λ long. tt;
+  is_head = (_, inr (inl refl));
+  few = omega arith;
+  may = tt;
+  below_is = refl;
+  said = λ rs. refl;
+  shown = λ rs. refl;
+  heads_are = refl;
+  rows_are = λ rs. refl;
+  trees_are = refl;
+  tight_is = λ rs. refl;
+  head_parts = tt;
+  heads_same = λ rs p. p;
+  fit = λ rs hold z. tt;
+  formed = λ rs other hold z. (tt, vector_rows (codes "cut") (length net.reactions) rs z);
+  row_parts = λ rs hold z. (omega arith, tt);
+}
+
+pub by_dependence : (net : Net) (earlier : Earlier) (h : Record) → FactsAt net earlier h 7
+by_dependence net earlier h network few pairs (form, inr (inr (inr none)), fits) = absurd none
+by_dependence net earlier h network few pairs (form, inl e, fits) =
+    let f = as_form h form (head (codes "q7") 1 yes []) e fits in
+    same_facts net earlier 7 h (codes "q7" ∷ yes) [] f.0 f.1 (dependence_facts net earlier)
+by_dependence net earlier h network few pairs (form, inr (inl e), fits) =
+    let f = as_form h form (head (codes "q7") 2 no []) e fits in
+    same_facts net earlier 7 h (codes "q7" ∷ no) [] f.0 f.1 (no_dependence_facts net earlier)
+by_dependence net earlier h network few pairs (form, inr (inr (inl e)), fits) =
+    let f = as_form h form (wide (codes "q7") 3 2 (length net.reactions) (length net.names)) e fits in
+    let w = wide_numbers 2 (length net.reactions) (length net.names) h.numbers f.1 in
+    same_facts net earlier 7 h (codes "q7" ∷ open_by (codes "wide")) (pos 2 ∷ pos 0 ∷ pos w.index ∷ w.basis) f.0 w.is (dependence_wide_facts net earlier w.index w.basis network w.low w.high w.long w.rising)
+
+pub by_law : (net : Net) (earlier : Earlier) (h : Record) → FactsAt net earlier h 8
+by_law net earlier h network few pairs (form, inr (inr (inr none)), fits) = absurd none
+by_law net earlier h network few pairs (form, inl e, fits) =
+    let f = as_form h form (head (codes "q8") 1 yes []) e fits in
+    same_facts net earlier 8 h (codes "q8" ∷ yes) [] f.0 f.1 (law_facts net earlier)
+by_law net earlier h network few pairs (form, inr (inl e), fits) =
+    let f = as_form h form (head (codes "q8") 2 no []) e fits in
+    same_facts net earlier 8 h (codes "q8" ∷ no) [] f.0 f.1 (no_law_facts net earlier)
+by_law net earlier h network few pairs (form, inr (inr (inl e)), fits) =
+    let f = as_form h form (wide (codes "q8") 3 1 (length net.names) (length net.reactions)) e fits in
+    let w = wide_numbers 1 (length net.names) (length net.reactions) h.numbers f.1 in
+    same_facts net earlier 8 h (codes "q8" ∷ open_by (codes "wide")) (pos 1 ∷ pos 0 ∷ pos w.index ∷ w.basis) f.0 w.is (law_wide_facts net earlier w.index w.basis network w.low w.high w.long w.rising)

@@ -1,0 +1,77 @@
+-- The tree for the vector of question 12 with a turn is the tree over the shape of that vector.
+use Rattle.std.proofs.Common.{◌≡◌, ◌+◌, ℕ, Bool, true, false, List, [], ◌∷◌, length, refl, sym, subst, Result, Ok, Err}
+use Rattle.std.specs.Prelude.{ℤ, pos, negsuc}
+use Rattle.crn_io.specs.Device.{SourceSeen}
+use Rattle.crn_vec.specs.Network.{Net}
+use Rattle.crn_vec.specs.NetSystems.{reaction_system}
+use Rattle.crn_vec.specs.declared.signs.Sign.{Sign}
+use Rattle.crn_vec.specs.Signals.{Shape, signals}
+use Rattle.crn_vec.specs.NetSignals.{HasNoSignal, IsShapeOf}
+use Rattle.crn_vec.specs.Confluence.{IsRegular}
+use Rattle.crn_cert.specs.Nodes.{Fits, Said}
+use Rattle.crn_cert.specs.Questions.{Q2, Q12, on, terminal_of, vector_given}
+use Rattle.crn_cert.specs.Says.{IsTurn, by_turn}
+use Rattle.crn_cert.specs.Valid.{HasVector, IsNodeOf, OfVector}
+use Rattle.crn_ctext.specs.Course.{Course}
+use Rattle.crn_ctext.specs.Blocks.{Problem, asks_tree}
+use Rattle.crn_ctext.specs.Meaning.{Known, pairs_of, problem_with, signal_problem, signal_problems}
+use Rattle.crn_ctext.proofs.CallerLemmas.{HoldTogether, IsLike, step_fails_like, step_gives_like, trees_like}
+use Rattle.crn_ctree.proofs.CallerLemmas.{signal_nodes}
+use Rattle.crn_check.specs.Facts.{KeptFacts}
+use Rattle.crn_document.specs.declared.reading.Reading.{Reading}
+use Rattle.crn_document.specs.declared.stop.CheckStop.{CheckStop}
+use Rattle.crn_document.specs.declared.stop.CheckStop.TheVariants as stop
+use Rattle.crn_document.specs.Inner.Heads.{known_of}
+use Rattle.crn_document.specs.Inner.Parts.{IsKnown, before}
+use Rattle.crn_document.specs.Inner.Signals.{vector_or_none}
+use Rattle.crn_document.specs.Inner.Steps.{StepIs, StopIs}
+use Rattle.crn_document.proofs.SignalsKnown.{of_vector, sizes, some_vector, vector_has, vector_known}
+
+-- what a step did by one course it did by a course that gives and fails as the first does
+stop_like : {A : Type 0} (c d : Course A) → IsLike c d → (e : CheckStop) (old : Reading) (before now : SourceSeen) → StopIs c e old before now → StopIs d e old before now
+stop_like c d like (stop.Rejected code line) old before now p = (step_fails_like c d like old.line old.lines before.left now.left line code p.0, p.1)
+stop_like c d like stop.Failed old before now p = p
+stop_like c d like stop.NoMemory old before now p = p
+
+step_like : {A T : Type 0} (c d : Course A) → IsLike c d → (Says : T → A → Type 0) (result : Result T CheckStop) (old new : Reading) (before now : SourceSeen) → StepIs c Says result old new before now → StepIs d Says result old new before now
+step_like c d like Says (Ok t) old new before now p = (p.0, p.1, step_gives_like c d like p.0 old.line new.line old.lines new.lines before.left now.left p.2, p.3)
+step_like c d like Says (Err e) old new before now p = stop_like c d like e old before now p
+
+-- the sign problem over a shape, as the course of a document sees it
+abbrev pub shape_problem : Net → Shape → Problem
+shape_problem net s = problem_with (s.count + s.species) (length s.complexes + length s.pairs) (length net.names) (Fits (signals s (reaction_system net)))
+
+pub as_signal_tree : {T : Type 0} (net : Net) (facts : KeptFacts) (turn : ℤ) (s : Shape) (version n : ℕ) (table : List (List ℤ)) (Says : T → ℕ → Type 0) (result : Result T CheckStop) (old new : Reading) (before_it now : SourceSeen)
+    → IsKnown net (before 13) facts → HasVector facts.earlier → IsTurn turn → OfVector facts.earlier turn (λ g. IsShapeOf net g s)
+    → StepIs (asks_tree version table (shape_problem net s) (s.count + s.species) [] n) Says result old new before_it now
+    → StepIs (asks_tree version table (signal_problem (known_of net facts.earlier) turn) (terminal_of (on facts.earlier Q2) + length net.names) [] n) Says result old new before_it now
+as_signal_tree net facts turn s version n table Says result old new before_it now k some is of p =
+    let earlier = facts.earlier in
+    let o = vector_given (on earlier Q12) in
+    let g = vector_or_none o in
+    let sh : IsShapeOf net (by_turn turn g) s = vector_has o (λ x. IsShapeOf net (by_turn turn x) s) of in
+    let z = sizes net facts turn s k some is sh in
+    let a = length s.complexes + length s.pairs in
+    let b = length net.names in
+    let H : List Sign → Said → Type 0 = Fits (signals s (reaction_system net)) in
+    let K : List Sign → Said → Type 0 = IsNodeOf net earlier turn in
+    let together : HoldTogether H K = λ prefix said. let both = signal_nodes net earlier turn g s prefix said (some_vector o some) sh in (both.1, both.0) in
+    let choices = s.count + s.species in
+    subst (λ (c : ℕ). StepIs (asks_tree version table (problem_with c (length net.complexes + length (pairs_of (known_of net earlier))) b K) c [] n) Says result old new before_it now) z.choices
+    (subst (λ (i : ℕ). StepIs (asks_tree version table (problem_with choices i b K) choices [] n) Says result old new before_it now) z.rows
+    (step_like (asks_tree version table (problem_with choices a b H) choices [] n) (asks_tree version table (problem_with choices a b K) choices [] n) (trees_like version table choices a b H K together choices [] n) Says result old new before_it now p))
+
+-- what that tree shows
+pub no_signal_shown : (net : Net) (facts : KeptFacts) (turn : ℤ) (s : Shape) → IsKnown net (before 13) facts → HasVector facts.earlier → OfVector facts.earlier turn (λ g. IsShapeOf net g s) → ((g : List ℤ) → IsRegular net → IsShapeOf net g s → HasNoSignal net g) → OfVector facts.earlier turn (λ g. HasNoSignal net g)
+no_signal_shown net facts turn s k some of shows =
+    let o = vector_given (on facts.earlier Q12) in
+    of_vector o (λ g. HasNoSignal net (by_turn turn g)) some (shows (by_turn turn (vector_or_none o)) (vector_known net facts k some).regular (vector_has o (λ g. IsShapeOf net (by_turn turn g) s) of))
+
+-- the trees after the first
+abbrev pub later_signals : Known → Bool → List {1} Problem
+later_signals known true = signal_problem known (negsuc 0) ∷ []
+later_signals known false = []
+
+pub first_signals : (known : Known) (weak : Bool) → signal_problems known weak ≡ signal_problem known (pos 1) ∷ later_signals known weak
+first_signals known true = refl
+first_signals known false = refl

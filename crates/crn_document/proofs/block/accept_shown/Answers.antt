@@ -1,0 +1,34 @@
+use Rattle.std.proofs.lemmas.Result.{err_from_is_err_and}
+use Rattle.std.proofs.Common.{◌++◌, ◌∷◌, ◌∙◌, [], ap, sym}
+use Rattle.crn_cert.specs.declared.answer.Verdict.{Verdict}
+use Rattle.crn_check.specs.Check.{shown_by_tree}
+use Rattle.crn_check.specs.Facts.{asked}
+use Rattle.crn_check.proofs.CallerLemmas.{shown_tight}
+use Rattle.crn_document.proofs.Kept.{sides_after_trees}
+use Rattle.crn_document.specs.Inner.Parts.{before}
+use Rattle.crn_document.proofs.Blocks.{kept_next, so_far_next}
+use Rattle.crn_document.proofs.Places.{none_later}
+use Rattle.crn_document.proofs.Steps.{step_exits}
+use Rattle.crn_document.proofs.block.accept_shown.Goals as goal
+
+pub accept_tree-requires-clause-later : goal.accept_tree-requires-clause-later
+accept_tree-requires-clause-later g c = none_later c.args.checked.now.facts.earlier c.args.question c.requires.built c.requires.ready.known.so_far
+
+pub returns-in_err-next_trees-clause-step : goal.returns-in_err-next_trees-clause-step
+returns-in_err-next_trees-clause-step g c =
+    step_exits _ _ c.from_residual.result c.in_err-next_trees.field-0.0 _ _ _ _ (err_from_is_err_and c.from_residual.result c.from_residual.ensures.1) c.in_err-next_trees.ensures.step
+
+pub returns-clause-ready : goal.returns-clause-ready
+returns-clause-ready g c = record {
+  known = record {
+    network = c.requires.ready.known.network;
+    facts_of = c.accept_tree.ensures.facts;
+    so_far = so_far_next (before c.args.question) (asked c.args.question) c.args.checked.now.facts.earlier c.accept_tree.new.facts.earlier (shown_by_tree (asked c.args.question)) c.requires.ready.known.so_far c.accept_tree.ensures.kept;
+  };
+  kept =
+      let q = asked c.args.question in
+      kept_next q c.args.checked.now.facts.earlier c.accept_tree.new.facts.earlier c.args.checked.now.verdicts c.push.new.self (shown_by_tree q) c.requires.ready.kept
+      (c.accept_tree.ensures.kept ∙ ap (λ (v : Verdict). c.args.checked.now.facts.earlier ++ (q, v) ∷ []) (sym (shown_tight c.args.question c.requires.tree)))
+      (c.push.ensures ∙ ap (λ (v : Verdict). c.args.checked.now.verdicts ++ v ∷ []) c.shown_verdict.ensures);
+  sides = sides_after_trees c.args.net.now c.args.question c.args.checked.now.facts c.accept_tree.new.facts.earlier c.args.checked.now.sides c.requires.ready.sides c.requires.built c.requires.ready.known c.requires.tree c.accept_tree.ensures.kept;
+}

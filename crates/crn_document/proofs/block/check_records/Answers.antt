@@ -1,0 +1,47 @@
+use Rattle.std.proofs.Common.{ℕ, subst, sym}
+use Rattle.std.specs.Prelude.{ℤ}
+use Rattle.crn_vec.specs.NetSignals.{IsShapeOf}
+use Rattle.crn_cert.specs.declared.answer.Verdict.{Verdict}
+use Rattle.crn_cert.specs.Valid.{OfVector}
+use Rattle.crn_check.specs.Check.{HoldsNeeds, IsShapeFor}
+use Rattle.crn_check.specs.Facts.{HoldsNoneFrom}
+use Rattle.crn_document.proofs.Kept.{no_signal_held, signal_known, turn_held}
+use Rattle.crn_document.proofs.Places.{needs_at, none_later}
+use Rattle.crn_document.proofs.block.check_records.Goals as goal
+
+pub check_signal_answer-requires-clause-needs : goal.check_signal_answer-requires-clause-needs
+check_signal_answer-requires-clause-needs c =
+    let earlier = c.args.checked.now.facts.earlier in
+    let s = c.in-YesSignal in
+    let k = signal_known c.args.net.now earlier c.args.question c.args.answer.now s.turn s.shelves s.mu s.m s.weights c.requires.built s.is c.requires.formed c.requires.heads in
+    subst (λ (n : ℕ). HoldsNeeds earlier n) k.question (needs_at earlier c.args.question c.requires.built c.requires.ready.known.so_far)
+
+pub check_signal_answer-requires-clause-later : goal.check_signal_answer-requires-clause-later
+check_signal_answer-requires-clause-later c =
+    let earlier = c.args.checked.now.facts.earlier in
+    let s = c.in-YesSignal in
+    let k = signal_known c.args.net.now earlier c.args.question c.args.answer.now s.turn s.shelves s.mu s.m s.weights c.requires.built s.is c.requires.formed c.requires.heads in
+    subst (λ (n : ℕ). HoldsNoneFrom n earlier) k.question (none_later earlier c.args.question c.requires.built c.requires.ready.known.so_far)
+
+pub check_signal_answer-requires-clause-shape : goal.check_signal_answer-requires-clause-shape
+check_signal_answer-requires-clause-shape c =
+    let net = c.args.net.now in
+    let earlier = c.args.checked.now.facts.earlier in
+    let s = c.in-YesSignal in
+    let shape = c.in_ok-shape-in-YesSignal.shape in
+    let k = signal_known net earlier c.args.question c.args.answer.now s.turn s.shelves s.mu s.m s.weights c.requires.built s.is c.requires.formed c.requires.heads in
+    subst (λ (v : Verdict). IsShapeFor net earlier v shape) (sym s.is)
+    (subst (λ (t : ℤ). OfVector earlier t (λ g. IsShapeOf net g shape)) (turn_held s.turn k.turn_is) c.in_ok-shape-in-YesSignal.ensures)
+
+pub check_answer-requires : goal.check_answer-requires
+check_answer-requires c =
+    let earlier = c.args.checked.now.facts.earlier in
+    record {
+      built = c.requires.built;
+      facts = c.requires.ready.known.facts_of;
+      needs = needs_at earlier c.args.question c.requires.built c.requires.ready.known.so_far;
+      later = none_later earlier c.args.question c.requires.built c.requires.ready.known.so_far;
+      formed = c.requires.formed;
+      treeless = c.requires.treeless;
+      unsigned = λ is. no_signal_held c.args.net.now c.args.answer.now.verdict c.in_default.not-YesSignal;
+    }

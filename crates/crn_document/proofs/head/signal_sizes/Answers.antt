@@ -1,0 +1,43 @@
+use Rattle.std.proofs.Common.{◌≡◌, ◌∙◌, ◌≤◌, ℕ, List, length, ap, ap₂, arith, inr, sym}
+use Rattle.crn_cert.specs.Valid.{exits, pair_places, strong}
+use Rattle.crn_pairs.specs.Pairs.{pairs_to}
+use Rattle.crn_document.specs.Inner.Parts.{IsKnown, before}
+use Rattle.crn_document.proofs.Linkages.{holds_second, pairs_few, pairs_known}
+use Rattle.crn_document.proofs.SignalsKnown.{held}
+use Rattle.std.proofs.Common.{subst}
+use Rattle.crn_document.proofs.head.signal_sizes.Goals as goal
+
+pub strong_of-requires : goal.strong_of-requires
+strong_of-requires c = holds_second c.args.net.now c.args.question c.args.facts.now (inr c.if-question-eq13.true) c.requires.known
+
+pub overflow_cast-result : goal.overflow_cast-result
+overflow_cast-result c =
+    let net = c.args.net.now in
+    let earlier = c.args.facts.now.earlier in
+    let e = c.strong_of.ensures in
+    let same : c.as_slice.result.now ≡ pair_places net earlier = c.as_slice.ensures ∙ c.in_ok-pairs.ensures ∙ ap₂ (λ (ls es : List ℕ). pairs_to net ls es (length net.reactions)) e.labels e.exits in
+    let long = ap (λ (x : List ℕ). length x) same in
+    let few = pairs_few net earlier in
+    let most = c.requires.known.network.partial.reactions_limit in
+    omega (arith, long, few, most)
+
+pub gives_vector-requires : goal.gives_vector-requires
+gives_vector-requires c = (held c.args.net.now c.args.facts.now (subst (λ (n : ℕ). IsKnown c.args.net.now (before n) c.args.facts.now) c.if-question-eq13.true c.requires.known)).confluence
+
+pub returns-then-question-eq13 : goal.returns-then-question-eq13
+returns-then-question-eq13 c =
+    let net = c.args.net.now in
+    let earlier = c.args.facts.now.earlier in
+    let e = c.strong_of.ensures in
+    let same : c.as_slice.result.now ≡ pair_places net earlier = c.as_slice.ensures ∙ c.in_ok-pairs.ensures ∙ ap₂ (λ (ls es : List ℕ). pairs_to net ls es (length net.reactions)) e.labels e.exits in
+    let long = ap (λ (x : List ℕ). length x) same in
+    let few = pairs_few net earlier in
+    let most = c.requires.known.network.partial.reactions_limit in
+    record {
+      few = omega (arith, long, few, most);
+      pairs = λ is. long ∙ sym (ap (λ (x : List ℕ). length x) (pairs_known net c.args.question c.args.facts.now c.requires.known (inr is)));
+      vector = λ is. c.gives_vector.ensures;
+    }
+
+pub returns : goal.returns
+returns c = record { few = omega arith; pairs = λ is. absurd (c.if-question-eq13.false is); vector = λ is. absurd (c.if-question-eq13.false is) }
