@@ -1,4 +1,4 @@
--- Answers to questions 1 to 12 have no trees, so that all trees have few nodes if those of questions 14 and 15 have.
+-- Answers to questions 1 to 12 have no trees, so that all trees have few nodes if those of questions 13 to 15 have.
 use Rattle.std.proofs.Common.{ℕ, [], ◌∷◌}
 use Rattle.crn_vec.specs.Network.{Net}
 use Rattle.crn_cert.specs.declared.answer.Answer.{Answer}
@@ -17,10 +17,10 @@ one_few : {q : Question} (none : (net : Net) (earlier : Earlier) (v : Verdict) (
     → (net : Net) (budget : ℕ) (earlier : Earlier) (a : Answer) → IsAnswer net budget earlier q a → HasFewNodes budget a.proof
 one_few none net budget earlier a h = treeless_few budget a.proof (none net earlier a.verdict a.proof h.formed.1)
 
-pub solved_few : (net : Net) (budget : ℕ) (a1 a2 a3 a4 a5 a6 a7 a8 a9 a10 a11 a12 a14 a15 : Answer)
-    → AreAnswers net budget [] built (a1 ∷ a2 ∷ a3 ∷ a4 ∷ a5 ∷ a6 ∷ a7 ∷ a8 ∷ a9 ∷ a10 ∷ a11 ∷ a12 ∷ a14 ∷ a15 ∷ []) → HasFewNodes budget a14.proof → HasFewNodes budget a15.proof
-    → HaveFewNodes budget (a1 ∷ a2 ∷ a3 ∷ a4 ∷ a5 ∷ a6 ∷ a7 ∷ a8 ∷ a9 ∷ a10 ∷ a11 ∷ a12 ∷ a14 ∷ a15 ∷ [])
-solved_few net budget a1 a2 a3 a4 a5 a6 a7 a8 a9 a10 a11 a12 a14 a15 (h1, (h2, (h3, (h4, (h5, (h6, (h7, (h8, (h9, (h10, (h11, (h12, more)))))))))))) few14 few15 = (
+pub solved_few : (net : Net) (budget : ℕ) (a1 a2 a3 a4 a5 a6 a7 a8 a9 a10 a11 a12 a13 a14 a15 : Answer)
+    → AreAnswers net budget [] built (a1 ∷ a2 ∷ a3 ∷ a4 ∷ a5 ∷ a6 ∷ a7 ∷ a8 ∷ a9 ∷ a10 ∷ a11 ∷ a12 ∷ a13 ∷ a14 ∷ a15 ∷ []) → HasFewNodes budget a13.proof → HasFewNodes budget a14.proof → HasFewNodes budget a15.proof
+    → HaveFewNodes budget (a1 ∷ a2 ∷ a3 ∷ a4 ∷ a5 ∷ a6 ∷ a7 ∷ a8 ∷ a9 ∷ a10 ∷ a11 ∷ a12 ∷ a13 ∷ a14 ∷ a15 ∷ [])
+solved_few net budget a1 a2 a3 a4 a5 a6 a7 a8 a9 a10 a11 a12 a13 a14 a15 (h1, (h2, (h3, (h4, (h5, (h6, (h7, (h8, (h9, (h10, (h11, (h12, more)))))))))))) few13 few14 few15 = (
   one_few rows_linkage net budget _ a1 h1,
   (
     one_few rows_strong net budget _ a2 h2,
@@ -44,7 +44,7 @@ solved_few net budget a1 a2 a3 a4 a5 a6 a7 a8 a9 a10 a11 a12 a14 a15 (h1, (h2, (
                       one_few rows_regular net budget _ a11 h11,
                       (
                         one_few rows_confluence net budget _ a12 h12,
-                        (few14, (few15, tt)),
+                        (few13, (few14, (few15, tt))),
                       ),
                     ),
                   ),

@@ -8,3 +8,5 @@ mod RankAnswers
 mod Deficiencies
 mod Theorems
 mod Regularity
+mod SignalSides
+mod Signals

@@ -2,3 +2,4 @@
 pub mod Answered
 pub mod ClassData
 pub mod Given
+pub mod Sides

@@ -17,6 +17,7 @@ use crate::linkage_answer::linkage_answer;
 use crate::positive::{conservative, positively_dependent};
 use crate::rank_answer::rank_answer;
 use crate::reversible::{reversible, weakly_reversible};
+use crate::signal_answer::signal_answer;
 use crate::strong_answer::strong_answer;
 use crate::zero_answer::zero_answer;
 use crn_cert::Answers;
@@ -62,6 +63,15 @@ pub fn solve(alloc: Global, net: &Network, budget: u32) -> Result<Answers, NoMem
         &weakly_reversible.verdict,
         &regular.verdict,
     )?;
+    let signal = signal_answer(
+        alloc,
+        net,
+        &strong,
+        &weakly_reversible.verdict,
+        &regular.proof,
+        &confluence.verdict,
+        budget,
+    )?;
     let concordant = concordant(alloc, net, budget)?;
     let strongly_concordant = strongly_concordant(alloc, net, budget)?;
     let mut answers = Answers::new(alloc)?;
@@ -77,6 +87,7 @@ pub fn solve(alloc: Global, net: &Network, budget: u32) -> Result<Answers, NoMem
     answers.push(one);
     answers.push(regular);
     answers.push(confluence);
+    answers.push(signal);
     answers.push(concordant);
     answers.push(strongly_concordant);
     Ok(answers)

@@ -12,6 +12,7 @@ mod parts;
 mod positive;
 mod rank_answer;
 mod reversible;
+mod signal_answer;
 mod strong_answer;
 mod systems;
 #[cfg(test)]

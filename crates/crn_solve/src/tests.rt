@@ -134,6 +134,15 @@ enum Confluence {
     Plane,
 }
 
+// The turn of a signal, or how many trees show that there is none, if there is a confluence vector.
+#[derive(Clone, Copy)]
+enum Signal {
+    Turn(i32),
+    OneTree,
+    TwoTrees,
+    Inapplicable,
+}
+
 // A network, and what its answers say.
 #[derive(Clone, Copy)]
 struct Row {
@@ -155,6 +164,7 @@ struct Row {
     conservative: bool,
     regular: Regular,
     confluence: Confluence,
+    signal: Signal,
     concordant: bool,
     strongly_concordant: bool,
 }
@@ -187,6 +197,7 @@ const ROWS: [Row; 9] = [
         conservative: true,
         regular: Regular::Independent,
         confluence: Confluence::Irregular,
+        signal: Signal::Inapplicable,
         concordant: true,
         strongly_concordant: true,
     },
@@ -207,6 +218,7 @@ const ROWS: [Row; 9] = [
         conservative: true,
         regular: Regular::Yes,
         confluence: Confluence::OnlyZero,
+        signal: Signal::Inapplicable,
         concordant: true,
         strongly_concordant: true,
     },
@@ -227,6 +239,7 @@ const ROWS: [Row; 9] = [
         conservative: false,
         regular: Regular::Yes,
         confluence: Confluence::Vector(&[1, -1, 1, 0, -1]),
+        signal: Signal::Turn(-1),
         concordant: false,
         strongly_concordant: true,
     },
@@ -247,6 +260,7 @@ const ROWS: [Row; 9] = [
         conservative: false,
         regular: Regular::Yes,
         confluence: Confluence::Vector(&[0, -1, 1, -1, 1]),
+        signal: Signal::OneTree,
         concordant: true,
         strongly_concordant: true,
     },
@@ -267,6 +281,7 @@ const ROWS: [Row; 9] = [
         conservative: true,
         regular: Regular::Yes,
         confluence: Confluence::Vector(&[1, -2, 1]),
+        signal: Signal::TwoTrees,
         concordant: false,
         strongly_concordant: true,
     },
@@ -287,6 +302,7 @@ const ROWS: [Row; 9] = [
         conservative: false,
         regular: Regular::Split { class: 1, count: 2 },
         confluence: Confluence::Irregular,
+        signal: Signal::Inapplicable,
         concordant: false,
         strongly_concordant: true,
     },
@@ -307,6 +323,7 @@ const ROWS: [Row; 9] = [
         conservative: true,
         regular: Regular::Yes,
         confluence: Confluence::Plane,
+        signal: Signal::Inapplicable,
         concordant: false,
         strongly_concordant: false,
     },
@@ -330,6 +347,7 @@ const ROWS: [Row; 9] = [
             walk: &[1, 3, 2],
         },
         confluence: Confluence::Irregular,
+        signal: Signal::Inapplicable,
         concordant: true,
         strongly_concordant: true,
     },
@@ -352,6 +370,7 @@ const ROWS: [Row; 9] = [
         conservative: true,
         regular: Regular::Independent,
         confluence: Confluence::Irregular,
+        signal: Signal::Inapplicable,
         concordant: true,
         strongly_concordant: true,
     },
@@ -430,7 +449,7 @@ fn numbers_are(rt: &impl Abort, answers: &Answers, row: &Row) {
 
 // So are the answers on positive vectors.
 fn positive_vectors_are(rt: &impl Abort, answers: &Answers, row: &Row) {
-    assert_eq!(rt; answers.len(), 14);
+    assert_eq!(rt; answers.len(), 15);
     assert!(rt; is_yes(rt, answers.get(7)) == row.dependent);
     assert!(rt; is_yes(rt, answers.get(8)) == row.conservative);
 }
@@ -446,7 +465,7 @@ fn zero_is(answer: &Answer, row: &Row) -> bool {
 
 // The answers to the two questions on theorems are decided, as those on the deficiencies are.
 fn theorems_are(rt: &impl Abort, answers: &Answers, row: &Row) {
-    assert_eq!(rt; answers.len(), 14);
+    assert_eq!(rt; answers.len(), 15);
     assert!(rt; zero_is(answers.get(9), row));
     assert!(rt; !matches!(&answers.get(10).verdict, Verdict::Unknown(_)));
 }
@@ -481,11 +500,23 @@ fn is_confluence(answer: &Answer, want: &Confluence) -> bool {
     }
 }
 
-// So are the answers on regularity and on confluence vectors.
+// So are the answers on regularity, on confluence vectors and on signals.
 fn confluences_are(rt: &impl Abort, answers: &Answers, row: &Row) {
-    assert_eq!(rt; answers.len(), 14);
+    assert_eq!(rt; answers.len(), 15);
     assert!(rt; is_regular(answers.get(11), &row.regular));
     assert!(rt; is_confluence(answers.get(12), &row.confluence));
+    assert!(rt; is_signal(answers.get(13), &row.signal));
+}
+
+// Whether the answer on signals is this one.
+fn is_signal(answer: &Answer, want: &Signal) -> bool {
+    match (&answer.verdict, &answer.proof, want) {
+        (Verdict::YesSignal { turn, .. }, Proof::Nothing, Signal::Turn(t)) => *turn == *t,
+        (Verdict::No, Proof::One(_), Signal::OneTree) => true,
+        (Verdict::No, Proof::Two(_, _), Signal::TwoTrees) => true,
+        (Verdict::NotApplicable, Proof::Nothing, Signal::Inapplicable) => true,
+        _ => false,
+    }
 }
 
 // Whether the answer is a yes with a tree. It is decided.
@@ -499,9 +530,9 @@ fn is_concordant(rt: &impl Abort, answer: &Answer) -> bool {
 
 // So are the answers on concordance.
 fn concordances_are(rt: &impl Abort, answers: &Answers, row: &Row) {
-    assert_eq!(rt; answers.len(), 14);
-    assert!(rt; is_concordant(rt, answers.get(13)) == row.concordant);
-    assert!(rt; is_concordant(rt, answers.get(14)) == row.strongly_concordant);
+    assert_eq!(rt; answers.len(), 15);
+    assert!(rt; is_concordant(rt, answers.get(14)) == row.concordant);
+    assert!(rt; is_concordant(rt, answers.get(15)) == row.strongly_concordant);
 }
 
 // All answers are those of the row.
@@ -541,7 +572,7 @@ fn weigh_so(first: Option<&i128>, last: Option<&i128>) -> bool {
 #[test]
 fn a_long_chain_has_a_law(rt: HostRuntime) {
     let answers = all_of(&rt, NINE);
-    assert_eq!(rt; answers.len(), 14);
+    assert_eq!(rt; answers.len(), 15);
     assert!(rt; weighs_all(&answers.get(8).verdict));
 }
 
@@ -557,7 +588,7 @@ fn is_wide(answer: &Answer, by: u32) -> bool {
 #[test]
 fn a_longer_chain_leaves_conservation_open(rt: HostRuntime) {
     let answers = all_of(&rt, ELEVEN);
-    assert_eq!(rt; answers.len(), 14);
+    assert_eq!(rt; answers.len(), 15);
     assert!(rt; !is_yes(&rt, answers.get(7)));
     assert!(rt; is_wide(answers.get(8), 1));
     assert!(rt; is_regular(answers.get(11), &Regular::Independent));
@@ -568,7 +599,7 @@ fn a_longer_chain_leaves_conservation_open(rt: HostRuntime) {
 #[test]
 fn one_row_is_enough(rt: HostRuntime) {
     let answers = all_of(&rt, TWELVE);
-    assert_eq!(rt; answers.len(), 14);
+    assert_eq!(rt; answers.len(), 15);
     assert!(rt; !is_yes(&rt, answers.get(8)));
 }
 
@@ -585,7 +616,7 @@ fn rests(answer: &Answer, on: u32) -> bool {
 fn deficiencies_rest_on_an_open_rank(rt: HostRuntime) {
     for text in [NINE, ELEVEN, TWELVE] {
         let answers = all_of(&rt, text);
-        assert_eq!(rt; answers.len(), 14);
+        assert_eq!(rt; answers.len(), 15);
         let is_open = matches!(&answers.get(5).verdict, Verdict::Unknown(_));
         assert!(rt; rests(answers.get(6), 5) == is_open);
     }
@@ -594,12 +625,13 @@ fn deficiencies_rest_on_an_open_rank(rt: HostRuntime) {
 // In every positive dependence the last reaction has 99^10 times what the first has, and no complex of a terminal class
 // is linked to another, so nothing else decides whether the network is regular.
 #[test]
-fn confluence_rests_on_an_open_dependence(rt: HostRuntime) {
+fn signals_rest_on_an_open_dependence(rt: HostRuntime) {
     let answers = all_of(&rt, THROUGH);
-    assert_eq!(rt; answers.len(), 14);
+    assert_eq!(rt; answers.len(), 15);
     assert!(rt; is_wide(answers.get(7), 2));
     assert!(rt; rests(answers.get(11), 7));
     assert!(rt; rests(answers.get(12), 11));
+    assert!(rt; rests(answers.get(13), 12));
 }
 
 // Whether an answer is open because a search may visit no more than so many prefixes.
@@ -611,11 +643,12 @@ fn is_spent(answer: &Answer, budget: u32) -> bool {
 }
 
 #[test]
-fn a_small_budget_leaves_concordance_open(rt: HostRuntime) {
-    let net = network(&rt, b"A>B,B>A");
+fn a_small_budget_leaves_signals_and_concordance_open(rt: HostRuntime) {
+    let net = network(&rt, b"2A>AB,AB>2A,AB>2B,2B>AB");
     let answers = solve(rt.alloc(), &net, 1).expect(&rt, "memory");
-    assert_eq!(rt; answers.len(), 14);
+    assert_eq!(rt; answers.len(), 15);
     assert!(rt; is_spent(answers.get(13), 1));
     assert!(rt; is_spent(answers.get(14), 1));
-    assert!(rt; is_regular(answers.get(11), &Regular::Yes));
+    assert!(rt; is_spent(answers.get(15), 1));
+    assert!(rt; is_confluence(answers.get(12), &Confluence::Vector(&[1, -2, 1])));
 }

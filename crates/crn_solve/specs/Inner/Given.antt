@@ -3,7 +3,7 @@
 use Rattle.std.specs.Prelude.{◌≡◌, ℕ, length}
 use Rattle.crn_vec.specs.Kept.{KeptNums}
 use Rattle.crn_cert.specs.declared.answer.Gap.TheVariants.{Wide, Rests}
-use Rattle.crn_cert.specs.declared.answer.Verdict.TheVariants.{Rank, YesVec, NoVec, NotRegular, Unknown}
+use Rattle.crn_cert.specs.declared.answer.Verdict.TheVariants.{Rank, YesVec, NoVec, NotRegular, NotApplicable, Unknown}
 use Rattle.crn_cert.specs.declared.answer.Proof.TheVariants.{Nothing, Rank as RankRows}
 use Rattle.crn_cert.specs.declared.answer.RankProof.{RankProof}
 use Rattle.crn_cert.specs.declared.answer.Answer.{Answer}
@@ -24,6 +24,10 @@ rests_answer question = record { verdict = Unknown (Rests question); proof = Not
 -- no confluence vector is defined, as the network is not regular
 abbrev pub irregular_answer : Answer
 irregular_answer = record { verdict = NotRegular; proof = Nothing }
+
+-- nothing to ask for a signal, as there is no confluence vector up to multiples
+abbrev pub inapplicable_answer : Answer
+inapplicable_answer = record { verdict = NotApplicable; proof = Nothing }
 
 -- yes with a solution, or no with multipliers
 abbrev pub vector_answer : Decision → Answer

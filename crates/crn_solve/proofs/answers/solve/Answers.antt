@@ -1,6 +1,6 @@
 use Rattle.std.proofs.Common.{◌≡◌, [], ◌∷◌, ◌∙◌, List, sym, refl}
 use Rattle.crn_cert.specs.declared.answer.Answer.{Answer}
-use Rattle.crn_cert.specs.Questions.{Earlier, Q1, Q2, Q3, Q4, Q5, Q6, Q7, Q8, Q9, Q10, Q11, Q12, Q14, Q15}
+use Rattle.crn_cert.specs.Questions.{Earlier, Q1, Q2, Q3, Q4, Q5, Q6, Q7, Q8, Q9, Q10, Q11, Q12, Q13, Q14, Q15}
 use Rattle.crn_cert.specs.declared.answer.Verdict.TheVariants.{Classes, Strong}
 use Rattle.crn_cert.specs.Given.{GiveClasses}
 use Rattle.crn_cert.specs.Built.{built}
@@ -9,6 +9,7 @@ use Rattle.crn_solve.specs.Inner.ClassData.{AreLinkageData, AreStrongData}
 use Rattle.crn_solve.proofs.AllAnswers.{AreAnswers, are_formed, are_valid, are_answered, answer_of}
 use Rattle.crn_solve.proofs.Deficiencies.{rank_or_open}
 use Rattle.crn_solve.proofs.FewNodes.{solved_few}
+use Rattle.crn_solve.proofs.SignalSides.{gives_sides}
 use Rattle.crn_solve.proofs.answers.solve.Goals as goal
 
 pub deficiency_answer-requires-clause-classes : goal.deficiency_answer-requires-clause-classes
@@ -101,6 +102,51 @@ confluence_answer-requires-clause-regular c =
     let gives : GiveClasses earlier l.label.list l.count s.label.list s.exit.list = record { labels_are = refl; count_is = refl; strong_are = refl; exits_are = refl; strong_count = sym c.in_ok-strong.ensures.exit_numbers.long } in
     true_or_open c.args.net.now c.args.budget earlier Q11 a11.verdict (c.in_ok-regular.ensures c.args.budget earlier gives refl).answered
 
+pub signal_answer-requires-clause-strong_classes : goal.signal_answer-requires-clause-strong_classes
+signal_answer-requires-clause-strong_classes c =
+    let s = c.in_ok-strong.ensures in
+    strong_right c.args.net.now c.in_ok-strong.strong c.meets_definition.ensures s.count s.terminal_number s.labels s.numbered s.from_forest s.from_trees s.to_forest s.to_trees s.levels s.falls s.exit_numbers s.exits s.terminal
+
+pub signal_answer-requires-clause-weak : goal.signal_answer-requires-clause-weak
+signal_answer-requires-clause-weak c =
+    let s = c.in_ok-strong.strong in
+    let e = c.in_ok-strong.ensures in
+    let earlier : Earlier = (Q2, Strong s.count s.terminal s.label s.exit) ∷ [] in
+    let right = strong_right c.args.net.now s c.meets_definition.ensures e.count e.terminal_number e.labels e.numbered e.from_forest e.from_trees e.to_forest e.to_trees e.levels e.falls e.exit_numbers e.exits e.terminal in
+    (c.weakly_reversible-weakly_reversible.ensures earlier (sym c.as_slice.ensures) right).true_of
+
+pub signal_answer-requires-clause-sides : goal.signal_answer-requires-clause-sides
+signal_answer-requires-clause-sides c =
+    let net = c.args.net.now in
+    let n = c.meets_definition.ensures in
+    let l = c.in_ok-linkage.linkage in
+    let s = c.in_ok-strong.strong in
+    let le = c.in_ok-linkage.ensures in
+    let e = c.in_ok-strong.ensures in
+    let a4 = c.weakly_reversible-weakly_reversible.result in
+    let a7 = c.in_ok-dependence.dependence in
+    let a11 = c.in_ok-regular.regular in
+    let a12 = c.in_ok-confluence.confluence in
+    let right = strong_right net s n e.count e.terminal_number e.labels e.numbered e.from_forest e.from_trees e.to_forest e.to_trees e.levels e.falls e.exit_numbers e.exits e.terminal in
+    let earlier : Earlier = (Q1, Classes l.count l.label) ∷ (Q2, Strong s.count s.terminal s.label s.exit) ∷ (Q4, a4.verdict) ∷ (Q7, a7.verdict) ∷ [] in
+    let later : Earlier = (Q1, Classes l.count l.label) ∷ (Q2, Strong s.count s.terminal s.label s.exit) ∷ (Q4, a4.verdict) ∷ (Q7, a7.verdict) ∷ (Q11, a11.verdict) ∷ [] in
+    let gives : GiveClasses earlier l.label.list l.count s.label.list s.exit.list = record { labels_are = refl; count_is = refl; strong_are = refl; exits_are = refl; strong_count = sym e.exit_numbers.long } in
+    let given : GiveClasses later l.label.list l.count s.label.list s.exit.list = record { labels_are = refl; count_is = refl; strong_are = refl; exits_are = refl; strong_count = sym e.exit_numbers.long } in
+    let d11 = c.in_ok-regular.ensures c.args.budget earlier gives refl in
+    let d12 = c.in_ok-confluence.ensures c.args.budget later given refl refl in
+    gives_sides net earlier later a11 a12 n right (record { long = le.labels.long; right = le.right }) d11.formed d11.valid refl d12.formed d12.valid
+
+pub signal_answer-requires-clause-confluence : goal.signal_answer-requires-clause-confluence
+signal_answer-requires-clause-confluence c =
+    let l = c.in_ok-linkage.linkage in
+    let s = c.in_ok-strong.strong in
+    let a4 = c.weakly_reversible-weakly_reversible.result in
+    let a11 = c.in_ok-regular.regular in
+    let a12 = c.in_ok-confluence.confluence in
+    let earlier : Earlier = (Q1, Classes l.count l.label) ∷ (Q2, Strong s.count s.terminal s.label s.exit) ∷ (Q4, a4.verdict) ∷ (Q11, a11.verdict) ∷ [] in
+    let gives : GiveClasses earlier l.label.list l.count s.label.list s.exit.list = record { labels_are = refl; count_is = refl; strong_are = refl; exits_are = refl; strong_count = sym c.in_ok-strong.ensures.exit_numbers.long } in
+    true_or_open c.args.net.now c.args.budget earlier Q12 a12.verdict (c.in_ok-confluence.ensures c.args.budget earlier gives refl refl).answered
+
 pub returns : goal.returns
 returns c =
     let net = c.args.net.now in
@@ -118,6 +164,7 @@ returns c =
     let a10 = c.one_hypotheses-one.result in
     let a11 = c.in_ok-regular.regular in
     let a12 = c.in_ok-confluence.confluence in
+    let a13 = c.in_ok-signal.signal in
     let a14 = c.in_ok-concordant.concordant in
     let a15 = c.in_ok-strongly_concordant.strongly_concordant in
     let after1 : Earlier = (Q1, a1.verdict) ∷ [] in
@@ -132,7 +179,8 @@ returns c =
     let after10 : Earlier = (Q1, a1.verdict) ∷ (Q2, a2.verdict) ∷ (Q3, a3.verdict) ∷ (Q4, a4.verdict) ∷ (Q5, a5.verdict) ∷ (Q6, a6.verdict) ∷ (Q7, a7.verdict) ∷ (Q8, a8.verdict) ∷ (Q9, a9.verdict) ∷ (Q10, a10.verdict) ∷ [] in
     let after11 : Earlier = (Q1, a1.verdict) ∷ (Q2, a2.verdict) ∷ (Q3, a3.verdict) ∷ (Q4, a4.verdict) ∷ (Q5, a5.verdict) ∷ (Q6, a6.verdict) ∷ (Q7, a7.verdict) ∷ (Q8, a8.verdict) ∷ (Q9, a9.verdict) ∷ (Q10, a10.verdict) ∷ (Q11, a11.verdict) ∷ [] in
     let after12 : Earlier = (Q1, a1.verdict) ∷ (Q2, a2.verdict) ∷ (Q3, a3.verdict) ∷ (Q4, a4.verdict) ∷ (Q5, a5.verdict) ∷ (Q6, a6.verdict) ∷ (Q7, a7.verdict) ∷ (Q8, a8.verdict) ∷ (Q9, a9.verdict) ∷ (Q10, a10.verdict) ∷ (Q11, a11.verdict) ∷ (Q12, a12.verdict) ∷ [] in
-    let after14 : Earlier = (Q1, a1.verdict) ∷ (Q2, a2.verdict) ∷ (Q3, a3.verdict) ∷ (Q4, a4.verdict) ∷ (Q5, a5.verdict) ∷ (Q6, a6.verdict) ∷ (Q7, a7.verdict) ∷ (Q8, a8.verdict) ∷ (Q9, a9.verdict) ∷ (Q10, a10.verdict) ∷ (Q11, a11.verdict) ∷ (Q12, a12.verdict) ∷ (Q14, a14.verdict) ∷ [] in
+    let after13 : Earlier = (Q1, a1.verdict) ∷ (Q2, a2.verdict) ∷ (Q3, a3.verdict) ∷ (Q4, a4.verdict) ∷ (Q5, a5.verdict) ∷ (Q6, a6.verdict) ∷ (Q7, a7.verdict) ∷ (Q8, a8.verdict) ∷ (Q9, a9.verdict) ∷ (Q10, a10.verdict) ∷ (Q11, a11.verdict) ∷ (Q12, a12.verdict) ∷ (Q13, a13.verdict) ∷ [] in
+    let after14 : Earlier = (Q1, a1.verdict) ∷ (Q2, a2.verdict) ∷ (Q3, a3.verdict) ∷ (Q4, a4.verdict) ∷ (Q5, a5.verdict) ∷ (Q6, a6.verdict) ∷ (Q7, a7.verdict) ∷ (Q8, a8.verdict) ∷ (Q9, a9.verdict) ∷ (Q10, a10.verdict) ∷ (Q11, a11.verdict) ∷ (Q12, a12.verdict) ∷ (Q13, a13.verdict) ∷ (Q14, a14.verdict) ∷ [] in
     let l = c.in_ok-linkage.ensures in
     let linkage : AreLinkageData net c.in_ok-linkage.linkage = record { count = l.count; labels = l.labels; numbered = l.numbered; even = l.even; forest = l.forest; trees = l.trees } in
     let s = c.in_ok-strong.ensures in
@@ -185,13 +233,14 @@ returns c =
     let d10 = c.one_hypotheses-one.ensures budget after9 gives9 refl in
     let d11 = c.in_ok-regular.ensures budget after10 gives10 refl in
     let d12 = c.in_ok-confluence.ensures budget after11 gives11 refl refl in
-    let d14 = c.in_ok-concordant.ensures.answer after12 in
+    let d13 = c.in_ok-signal.ensures.answer after12 d2.true_of refl refl in
+    let d14 = c.in_ok-concordant.ensures.answer after13 in
     let d15 = c.in_ok-strongly_concordant.ensures.answer after14 in
-    let answers : List Answer = a1 ∷ a2 ∷ a3 ∷ a4 ∷ a5 ∷ a6 ∷ a7 ∷ a8 ∷ a9 ∷ a10 ∷ a11 ∷ a12 ∷ a14 ∷ a15 ∷ [] in
-    let pushed : c.push-14.new.self ≡ answers =
-    rw (c.push-14.ensures, c.push-13.ensures, c.push-12.ensures, c.push-11.ensures, c.push-10.ensures, c.push-9.ensures, c.push-8.ensures, c.push-7.ensures, c.push-6.ensures, c.push-5.ensures, c.push-4.ensures, c.push-3.ensures, c.push-2.ensures, c.push.ensures, c.in_ok-answers.ensures) refl in
-    let later : AreAnswers net budget after4 (Q5 ∷ Q6 ∷ Q7 ∷ Q8 ∷ Q9 ∷ Q10 ∷ Q11 ∷ Q12 ∷ Q14 ∷ Q15 ∷ []) (a5 ∷ a6 ∷ a7 ∷ a8 ∷ a9 ∷ a10 ∷ a11 ∷ a12 ∷ a14 ∷ a15 ∷ []) =
-    (d5, (d6, (d7, (d8, (d9, (d10, (d11, (d12, (d14, (d15, tt)))))))))) in
+    let answers : List Answer = a1 ∷ a2 ∷ a3 ∷ a4 ∷ a5 ∷ a6 ∷ a7 ∷ a8 ∷ a9 ∷ a10 ∷ a11 ∷ a12 ∷ a13 ∷ a14 ∷ a15 ∷ [] in
+    let pushed : c.push-15.new.self ≡ answers =
+    rw (c.push-15.ensures, c.push-14.ensures, c.push-13.ensures, c.push-12.ensures, c.push-11.ensures, c.push-10.ensures, c.push-9.ensures, c.push-8.ensures, c.push-7.ensures, c.push-6.ensures, c.push-5.ensures, c.push-4.ensures, c.push-3.ensures, c.push-2.ensures, c.push.ensures, c.in_ok-answers.ensures) refl in
+    let later : AreAnswers net budget after4 (Q5 ∷ Q6 ∷ Q7 ∷ Q8 ∷ Q9 ∷ Q10 ∷ Q11 ∷ Q12 ∷ Q13 ∷ Q14 ∷ Q15 ∷ []) (a5 ∷ a6 ∷ a7 ∷ a8 ∷ a9 ∷ a10 ∷ a11 ∷ a12 ∷ a13 ∷ a14 ∷ a15 ∷ []) =
+    (d5, (d6, (d7, (d8, (d9, (d10, (d11, (d12, (d13, (d14, (d15, tt))))))))))) in
     let all : AreAnswers net budget [] built answers =
     (answer_of net budget [] Q1 a1 d1, (answer_of net budget after1 Q2 a2 d2, (answer_of net budget after2 Q3 a3 d3, (answer_of net budget after3 Q4 a4 d4, later)))) in
     record {
@@ -199,5 +248,5 @@ returns c =
       valid = rw pushed (are_valid net budget [] built answers all);
       answered = rw pushed (are_answered net budget [] built answers all);
       decided = rw pushed (d1.decided, (d2.decided, (d3.decided, (d4.decided, tt))));
-      nodes = rw pushed (solved_few net budget a1 a2 a3 a4 a5 a6 a7 a8 a9 a10 a11 a12 a14 a15 all c.in_ok-concordant.ensures.nodes c.in_ok-strongly_concordant.ensures.nodes);
+      nodes = rw pushed (solved_few net budget a1 a2 a3 a4 a5 a6 a7 a8 a9 a10 a11 a12 a13 a14 a15 all c.in_ok-signal.ensures.nodes c.in_ok-concordant.ensures.nodes c.in_ok-strongly_concordant.ensures.nodes);
     }

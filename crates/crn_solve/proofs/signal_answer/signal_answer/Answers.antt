@@ -1,0 +1,45 @@
+use Rattle.std.proofs.Common.{◌≡◌, ◌∙◌, ℕ, List, sym, subst}
+use Rattle.std.specs.Prelude.{ℤ}
+use Rattle.std.specs.List.{AllByRecursion}
+use Rattle.std.proofs.lemmas.Bool.{false≢true}
+use Rattle.crn_vec.specs.Confluence.{IsNormalVector}
+use Rattle.crn_cert.specs.declared.answer.Answer.{Answer}
+use Rattle.crn_cert.specs.declared.answer.Verdict.{Verdict}
+use Rattle.crn_cert.specs.Questions.{Earlier, Q2, Q4, Q12, Q13, on}
+use Rattle.crn_cert.specs.Ranges.{IsNarrow}
+use Rattle.crn_cert.specs.Says.{IsTrueOf}
+use Rattle.crn_cert.specs.Law.{IsTrueOrOpen}
+use Rattle.crn_cert.specs.Answered.{IsAnswer}
+use Rattle.crn_conc.proofs.CallerLemmas.{if_ok}
+use Rattle.crn_shelf.specs.Given.{GiveVector}
+use Rattle.crn_solve.proofs.Theorems.{weak_is}
+use Rattle.crn_solve.proofs.Signals.{signal_rests, inapplicable_given, vector_is_given}
+use Rattle.crn_solve.proofs.signal_answer.signal_answer.Goals as goal
+
+pub signal-requires-clause-regular : goal.signal-requires-clause-regular
+signal-requires-clause-regular c = (subst (IsTrueOrOpen c.args.net.now Q12) c.in-YesVec-Sides.is-0 c.requires.confluence).0
+
+pub signal-requires-clause-line : goal.signal-requires-clause-line
+signal-requires-clause-line c = (subst (IsTrueOrOpen c.args.net.now Q12) c.in-YesVec-Sides.is-0 c.requires.confluence).1
+
+pub signal-requires-clause-vector : goal.signal-requires-clause-vector
+signal-requires-clause-vector c =
+    subst (IsNormalVector c.args.net.now) (sym c.as_slice-g.ensures) (subst (IsTrueOrOpen c.args.net.now Q12) c.in-YesVec-Sides.is-0 c.requires.confluence).2
+
+pub signal-requires-clause-weak : goal.signal-requires-clause-weak
+signal-requires-clause-weak c = weak_is c.args.net.now c.args.weak.now c.is_yes.result c.requires.weak c.is_yes.ensures
+
+pub returns-then-is_open-clause-answer : goal.returns-then-is_open-clause-answer
+returns-then-is_open-clause-answer c earlier strong four twelve =
+    subst (IsAnswer c.args.net.now c.args.budget earlier Q13) (sym c.rests_answer.ensures) (signal_rests c.args.net.now c.args.budget earlier c.args.confluence.now (c.is_open.ensures.0 c.if-is_open.true) twelve)
+
+pub returns-in-YesVec-Sides-clause-answer : goal.returns-in-YesVec-Sides-clause-answer
+returns-in-YesVec-Sides-clause-answer c =
+    let net = c.args.net.now in
+    let v = c.args.confluence.now in
+    let w = c.args.weak.now in
+    let g = c.as_slice-g.result.now in
+    let b = c.is_yes.result in
+    if_ok (λ (answer : Answer). (earlier : Earlier) → GiveVector net earlier g b → IsAnswer net c.args.budget earlier Q13 answer)
+    (λ (answer : Answer). (earlier : Earlier) → IsTrueOf net Q2 (on earlier Q2) → on earlier Q4 ≡ w → on earlier Q12 ≡ v → IsAnswer net c.args.budget earlier Q13 answer) c.signal.result
+    (λ answer h earlier strong four twelve. h earlier (subst (λ (l : List ℤ). GiveVector net earlier l b) (sym c.as_slice-g.ensures) (vector_is_given net earlier w c.in-YesVec-Sides.vector b strong four (twelve ∙ c.in-YesVec-Sides.is-0) c.is_yes.ensures))) c.signal.ensures.answer

@@ -1,0 +1,65 @@
+ghost use Rattle.std.specs.Prelude.{◌≡◌, ◌≤◌, IfOk};
+ghost use Rattle.crn_vec.specs.declared.limits.TheConstants.{MAX_BUDGET};
+ghost use Rattle.crn_cert.specs.Questions.{Earlier, Q2, Q4, Q12, Q13, on};
+ghost use Rattle.crn_cert.specs.Says.{AreStrongClasses, IsTrueOf};
+ghost use Rattle.crn_cert.specs.Law.{IsTrueOrOpen};
+ghost use Rattle.crn_cert.specs.Answered.{IsAnswer};
+ghost use Rattle.crn_cert.specs.TreeSizes.{HasFewNodes};
+ghost use Rattle.crn_solve.specs.Inner.Given.{inapplicable_answer};
+ghost use Rattle.crn_solve.specs.Inner.Sides.{GiveSides};
+
+use crate::laws::meets_definition;
+use crate::open::rests_answer;
+use crate::parts::{is_open, is_yes};
+use crn_cert::{Answer, Proof, Verdict};
+use crn_graph::StrongData;
+use crn_net::Network;
+use crn_shelf::signal;
+use crn_vec::NoMemory;
+use std::alloc::Global;
+
+// The answer for a network of which question 12 gives no vector.
+fn inapplicable_answer() -> Answer
+    ensures { result ≡ inapplicable_answer }
+{
+    Answer {
+        verdict: Verdict::NotApplicable,
+        proof: Proof::Nothing,
+    }
+}
+
+/// Question 13: a signal for the vector of question 12 or for its negative, trees that show that there is none, or that
+/// there is no vector, which rests on question 12. The sides are those in the proof of question 11.
+pub(crate) fn signal_answer(
+    alloc: Global,
+    net: &Network,
+    strong: &StrongData,
+    weak: &Verdict,
+    regular: &Proof,
+    confluence: &Verdict,
+    budget: u32,
+) -> Result<Answer, NoMemory>
+    requires some { 1 ≤ budget }
+    requires most { budget ≤ MAX_BUDGET }
+    requires strong_classes { AreStrongClasses net.now strong.now.count strong.now.terminal
+        strong.now.label.list strong.now.exit.list }
+    requires weak { IsTrueOf net.now Q4 weak.now }
+    requires sides { GiveSides net.now confluence.now regular.now }
+    requires confluence { IsTrueOrOpen net.now Q12 confluence.now }
+    ensures answer { IfOk result (λ answer. (earlier : Earlier) →
+        IsTrueOf net.now Q2 (on earlier Q2) → on earlier Q4 ≡ weak.now →
+        on earlier Q12 ≡ confluence.now → IsAnswer net.now budget earlier Q13 answer) }
+    ensures nodes { IfOk result (λ answer. HasFewNodes budget answer.proof) }
+{
+    meets_definition(net);
+    if is_open(confluence) {
+        return Ok(rests_answer(12));
+    }
+    match (confluence, regular) {
+        (Verdict::YesVec { vector }, Proof::Sides(sides)) => {
+            let g = vector.as_slice();
+            signal(alloc, net, strong, sides, g, is_yes(weak), budget)
+        }
+        _ => Ok(inapplicable_answer()),
+    }
+}
