@@ -2,6 +2,7 @@ pub mod CallerLemmas
 mod Texts
 mod ClassLines
 mod Readings
+mod Briefs
 mod SumEntries
 mod FaultNames
 mod OneNumbers

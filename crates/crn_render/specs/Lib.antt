@@ -3,4 +3,5 @@ pub mod Details
 pub mod Report
 pub mod Faults
 pub mod Titles
+pub mod Summary
 pub mod Inner

@@ -1,0 +1,11 @@
+use Rattle.std.proofs.lemmas.Result.{err_from_is_err_and}
+use Rattle.crn_io.proofs.CallerLemmas.{WrotePrefix-more, Wrote-prefix, Wrote-then}
+use Rattle.crn_render.proofs.summary.put_next_brief.Goals as goal
+
+pub returns-in_err-put_all : goal.returns-in_err-put_all
+returns-in_err-put_all g c =
+    let p = err_from_is_err_and c.from_residual.result c.from_residual.ensures.1 in
+    Wrote-prefix p.1 (WrotePrefix-more _ c.in_err-put_all.ensures.writes.prefix)
+
+pub returns : goal.returns
+returns g c = Wrote-then c.in_ok-put_all.ensures.writes.all c.put_brief.ensures
