@@ -1,0 +1,171 @@
+-- A text whose lines have no fault by themselves spells a network if its statements are few.
+use Rattle.std.proofs.Common.{◌≡◌, ℕ, zero, suc, ◌+◌, ◌<◌, ◌≤◌, ◌&&◌, Bool, true, false, List, [], ◌∷◌, ◌++◌, Option, Some, None, length, take, drop, get_or, refl, sym, ap, subst, ◌∙◌, append_assoc, inl, inr, arith}
+use Rattle.std.specs.Prelude.{ℤ, map, nat_lt, nat_le, not, is_some, if◌then◌else◌}
+use Rattle.std.specs.List.{flat_map, list_all}
+use Rattle.std.specs.Str.{bytes_eq}
+use Rattle.std.specs.Ordering.{int_eq}
+use Rattle.std.specs.Cmp.Lexicographic.{pointwise}
+use Rattle.std.proofs.lemmas.Bool.{le-ltb, leb-true}
+use Rattle.std.proofs.lemmas.List.{append-nil, length-append, length-map}
+use Rattle.std.proofs.lemmas.List.Concat.{flat_map-append}
+use Rattle.std.proofs.lemmas.List.Filters.{length-filter_both}
+use Rattle.std.proofs.lemmas.List.Folds.{list_all-append}
+use Rattle.crn_vec.specs.Lists.{firsts}
+use Rattle.crn_vec.specs.Network.{Net, Statement, sides_eq, said_by, names_in}
+use Rattle.crn_vec.specs.declared.limits.TheConstants.{MAX_SPECIES, MAX_COMPLEXES, MAX_REACTIONS, MAX_TEXT}
+use Rattle.crn_vec.proofs.CallerLemmas.{firsts_length}
+use Rattle.crn_text.specs.Tokens.{lines}
+use Rattle.crn_text.specs.Sides.{line_statements, all_statements}
+use Rattle.crn_text.specs.Faults.{both_of, complexes_of, is_empty, is_self, limits_fault, names_of, own_fault, reactions_of, statement_fault, statements_fault}
+use Rattle.crn_text.specs.Spells.{Spells, fault_on}
+use Rattle.crn_text.specs.declared.fault.TextCode.{TextCode}
+use Rattle.crn_text.specs.declared.fault.TextCode.TheVariants.{TooManySpecies, TooManyComplexes, TooManyReactions}
+use Rattle.crn_text.proofs.CallerLemmas.{judged}
+
+-- ---- what is computed of a text
+
+-- no line has a fault by itself
+abbrev pub are_sound : List (List ℕ) → Bool
+are_sound ls = list_all (λ line. not (is_some (own_fault line))) ls
+
+-- no statement has two equal sides
+abbrev pub are_apart : List Statement → Bool
+are_apart ss = list_all (λ s. not (is_self s)) ss
+
+-- there are at least one statement and few of them, with few names
+abbrev pub are_few : List Statement → Bool
+are_few ss = not (is_empty ss) && (nat_le (length ss) 80 && nat_le (length (names_of ss)) MAX_SPECIES)
+
+unfoldable pub is_fine : List ℕ → Bool
+is_fine text = nat_le (length text) MAX_TEXT && (are_sound (lines text) && (are_apart (all_statements (lines text)) && are_few (all_statements (lines text))))
+
+-- ---- tests
+
+pub first_true : (a b : Bool) → (a && b) ≡ true → a ≡ true
+first_true true b e = refl
+first_true false b e = absurd (let h : false ≡ true = e in cc)
+
+pub second_true : (a b : Bool) → (a && b) ≡ true → b ≡ true
+second_true true b e = e
+second_true false b e = absurd (let h : false ≡ true = e in cc)
+
+is_false : (b : Bool) → not b ≡ true → b ≡ false
+is_false true e = absurd (let h : false ≡ true = e in cc)
+is_false false e = refl
+
+is_none : (o : Option TextCode) → not (is_some o) ≡ true → o ≡ None
+is_none None e = refl
+is_none (Some code) e = absurd (let h : false ≡ true = e in cc)
+
+sound_at : (ls : List (List ℕ)) (k : ℕ) → k < length ls → are_sound ls ≡ true → own_fault (get_or ls k []) ≡ None
+sound_at [] k lt e = absurd (omega arith)
+sound_at (line ∷ ls) zero lt e = is_none (own_fault line) (first_true _ _ e)
+sound_at (line ∷ ls) (suc k) lt e = sound_at ls k (omega arith) (second_true _ _ e)
+
+-- ---- few statements exceed no limit
+
+record IsFew (ss : List Statement) : Type 0 where
+  names : length (names_of ss) ≤ MAX_SPECIES
+  statements : length ss ≤ 80
+
+few_firsts : {A : Type 0} (same : A → A → Bool) (xs : List A) → length (firsts same xs) ≤ length xs
+few_firsts same [] = omega arith
+few_firsts same (x ∷ xs) =
+    let both = length-filter_both (λ y. not (same x y)) (λ y. not (not (same x y))) (λ y. refl) (firsts same xs) in
+    omega (arith, few_firsts same xs, both)
+
+both_long : (rs : List (List ℤ × List ℤ)) → length (flat_map both_of rs) ≡ length rs + length rs
+both_long [] = refl
+both_long (r ∷ rs) = let e = both_long rs in omega (arith, e)
+
+no_limit : (ss : List Statement) → IsFew ss → limits_fault ss ≡ None
+no_limit ss few =
+    let said : length (map_of ss) ≡ length ss = length-map ss (said_by (names_of ss)) in
+    let reactions : length (reactions_of ss) ≤ length ss = omega (arith, few_firsts sides_eq (map_of ss), said) in
+    let complexes : length (complexes_of ss) ≤ length ss + length ss = omega (arith, few_firsts (pointwise int_eq) (flat_map both_of (reactions_of ss)), both_long (reactions_of ss), reactions) in
+    let first : nat_lt MAX_SPECIES (length (names_of ss)) ≡ false = le-ltb MAX_SPECIES _ few.names in
+    let second : nat_lt MAX_COMPLEXES (length (complexes_of ss)) ≡ false = le-ltb MAX_COMPLEXES _ (omega (arith, complexes, few.statements)) in
+    let third : nat_lt MAX_REACTIONS (length (reactions_of ss)) ≡ false = le-ltb MAX_REACTIONS _ (omega (arith, reactions, few.statements)) in
+    rw (first, second, third) refl
+  where
+    map_of : List Statement → List (List ℤ × List ℤ)
+    map_of ts = map (said_by (names_of ts)) ts
+
+few_prefix : (all first rest : List Statement) → IsFew all → all ≡ first ++ rest → IsFew first
+few_prefix all first rest few e =
+    let whole : names_of all ≡ firsts bytes_eq (flat_map names_in first ++ flat_map names_in rest) = ap names_of e ∙ ap (firsts bytes_eq) (flat_map-append names_in first rest) in
+    record {
+      names = omega (arith, few.names, ap length whole, firsts_length bytes_eq (flat_map names_in first) (flat_map names_in rest));
+      statements = omega (arith, few.statements, ap length e, length-append first rest);
+    }
+
+-- ---- no line has a fault
+
+apart_in : (all before : List Statement) (s : Statement) (rest : List Statement) → are_apart all ≡ true → all ≡ before ++ (s ∷ rest) → is_self s ≡ false
+apart_in all before s rest h e =
+    let split : (are_apart before && (not (is_self s) && are_apart rest)) ≡ true = sym (list_all-append (λ t. not (is_self t)) before (s ∷ rest)) ∙ ap are_apart (sym e) ∙ h in
+    is_false (is_self s) (first_true _ _ (second_true _ _ split))
+
+fine_statements : (all before ss rest : List Statement) → IsFew all → are_apart all ≡ true → all ≡ before ++ (ss ++ rest) → statements_fault before ss ≡ None
+unfolding statement_fault
+fine_statements all before [] rest few apart e = refl
+fine_statements all before (s ∷ ss) rest few apart e =
+    let more : all ≡ (before ++ s ∷ []) ++ (ss ++ rest) = e ∙ sym (append_assoc before (s ∷ []) (ss ++ rest)) in
+    let self : is_self s ≡ false = apart_in all before s (ss ++ rest) apart e in
+    let limits : limits_fault (before ++ s ∷ []) ≡ None = no_limit (before ++ s ∷ []) (few_prefix all (before ++ s ∷ []) (ss ++ rest) few more) in
+    rw (self, limits) (fine_statements all (before ++ s ∷ []) ss rest few apart more)
+
+flat_whole : {A B : Type 0} (f : A → List B) (xs : List A) (i : ℕ) (d : A) → i < length xs → flat_map f xs ≡ flat_map f (take i xs) ++ (f (get_or xs i d) ++ flat_map f (drop (suc i) xs))
+flat_whole f [] i d lt = absurd (omega arith)
+flat_whole f (x ∷ xs) zero d lt = refl
+flat_whole {A} {B} f (x ∷ xs) (suc i) d lt =
+    ap (λ (t : List B). f x ++ t) (flat_whole f xs i d (omega arith)) ∙ sym (append_assoc (f x) (flat_map f (take i xs)) (f (get_or xs i d) ++ flat_map f (drop (suc i) xs)))
+
+fine_line : (ls : List (List ℕ)) (k : ℕ) → k < length ls → are_sound ls ≡ true → are_apart (all_statements ls) ≡ true → IsFew (all_statements ls) → fault_on ls k ≡ None
+fine_line ls k lt sound apart few =
+    rw (sound_at ls k lt sound) (fine_statements (all_statements ls) (all_statements (take k ls)) (line_statements (get_or ls k [])) (all_statements (drop (suc k) ls)) few apart (flat_whole line_statements ls k [] lt))
+
+-- ---- the whole text
+
+some_statement : (ss : List Statement) → not (is_empty ss) ≡ true → ss ≡ [] → ⊥
+some_statement [] e none = let h : false ≡ true = e in cc
+some_statement (s ∷ ss) e none = cc
+
+-- what is computed, one by one
+record IsFine (text : List ℕ) : Type 0 where
+  short : length text ≤ MAX_TEXT
+  sound : are_sound (lines text) ≡ true
+  apart : are_apart (all_statements (lines text)) ≡ true
+  some : not (is_empty (all_statements (lines text))) ≡ true
+  few : IsFew (all_statements (lines text))
+
+fine_parts : (text : List ℕ) → is_fine text ≡ true → IsFine text
+unfolding is_fine
+fine_parts text e =
+    let ss : List Statement = all_statements (lines text) in
+    let rest = second_true (nat_le (length text) MAX_TEXT) (are_sound (lines text) && (are_apart ss && are_few ss)) e in
+    let more = second_true (are_sound (lines text)) (are_apart ss && are_few ss) rest in
+    let least = second_true (are_apart ss) (are_few ss) more in
+    let numbers = second_true (not (is_empty ss)) (nat_le (length ss) 80 && nat_le (length (names_of ss)) MAX_SPECIES) least in
+    record {
+      short = leb-true (length text) MAX_TEXT (first_true (nat_le (length text) MAX_TEXT) (are_sound (lines text) && (are_apart ss && are_few ss)) e);
+      sound = first_true (are_sound (lines text)) (are_apart ss && are_few ss) rest;
+      apart = first_true (are_apart ss) (are_few ss) more;
+      some = first_true (not (is_empty ss)) (nat_le (length ss) 80 && nat_le (length (names_of ss)) MAX_SPECIES) least;
+      few = record {
+        names = leb-true (length (names_of ss)) MAX_SPECIES (second_true (nat_le (length ss) 80) (nat_le (length (names_of ss)) MAX_SPECIES) numbers);
+        statements = leb-true (length ss) 80 (first_true (nat_le (length ss) 80) (nat_le (length (names_of ss)) MAX_SPECIES) numbers);
+      };
+    }
+
+pub fine_is_spelled : (text : List ℕ) → is_fine text ≡ true → (net : Net) × Spells text net
+fine_is_spelled text e = elim (judged text) [
+  | inl spelled ↦ spelled
+  | inr (line, code, inl long) ↦ let a = long.long in let b = (fine_parts text e).short in absurd (omega arith)
+  | inr (line, code, inr (inl found)) ↦
+      let f = fine_parts text e in
+      let a = fine_line (lines text) found.before found.there f.sound f.apart f.few in
+      let b = found.fault in
+      absurd (let bad : None ≡ Some code = sym a ∙ b in cc)
+  | inr (line, code, inr (inr without)) ↦ absurd (some_statement (all_statements (lines text)) (fine_parts text e).some without.none)
+]
