@@ -1,5 +1,5 @@
 -- What is written for a network and valid answers to its questions, whose trees have few nodes, with their share, is a good document.
-use Rattle.std.proofs.Common.{◌≡◌, ℕ, ℤ, List, [], sym, ap, ap₂, ◌∙◌}
+use Rattle.std.proofs.Common.{◌≡◌, ℕ, ℤ, List, [], sym, ap, ap₂, subst, ◌∙◌}
 use Rattle.crn_vec.specs.declared.limits.TheConstants.{MAX_BUDGET}
 use Rattle.crn_vec.specs.Network.{Net, IsNetwork}
 use Rattle.crn_cert.specs.declared.answer.Answer.{Answer}
@@ -9,7 +9,7 @@ use Rattle.crn_cert.specs.Valid.{AreValid}
 use Rattle.crn_cert.specs.Shares.{Shared}
 use Rattle.crn_cert.specs.TreeSizes.{HaveFewNodes}
 use Rattle.crn_ctext.specs.Records.{Record}
-use Rattle.crn_ctext.specs.Documents.{Share, document2, share_of}
+use Rattle.crn_ctext.specs.Documents.{FitsShare, Share, document2, share_of}
 use Rattle.crn_ctext.specs.Judged.{IsGood}
 use Rattle.crn_ctext.specs.Linked.{SharedDocumentsAreGood, SharesFit, records_of}
 use Rattle.crn_ctext.specs.Shares.{as_share}
@@ -23,3 +23,9 @@ pub same_document : (net : Net) (records : List (List Record)) (shared : Shared)
     → document2 built net records (record { table = table; leaf = leaf }) ≡ document2 built net records (share_of records)
 same_document net records shared table leaf p q e =
     ap₂ (λ (t : List (List ℤ)) (l : List ℕ). document2 built net records (record { table = t; leaf = l })) p q ∙ ap (λ (s : Share). document2 built net records s) (sym e)
+
+-- this share fits the records as the share of the records does
+pub same_fits : (records : List (List Record)) (shared : Shared) (table : List (List ℤ)) (leaf : List ℕ) → table ≡ shared.table → leaf ≡ shared.leaf → share_of records ≡ as_share shared
+    → FitsShare records (share_of records) → FitsShare records (record { table = table; leaf = leaf })
+same_fits records shared table leaf p q e fits =
+    subst (FitsShare records) (e ∙ sym (ap₂ (λ (t : List (List ℤ)) (l : List ℕ). record { table = t; leaf = l }) p q)) fits

@@ -1,7 +1,6 @@
 -- What is written for a document that is accepted does not depend on the spares of lists, and its verdicts are formed.
 use Rattle.std.proofs.Common.{◌≡◌, ◌++◌, ◌+◌, ℕ, List, [], ◌∷◌, map, Option, Some, None, refl, sym, ap, ap₂, subst, ◌∙◌, inl}
 use Rattle.std.specs.Prelude.{IfSome}
-use Rattle.std.specs.List.{flat_map, zip}
 use Rattle.crn_vec.specs.Network.{Net}
 use Rattle.crn_cert.specs.declared.answer.Gap.TheVariants.{Wide, Budget, Rests}
 use Rattle.crn_cert.specs.declared.answer.Verdict.{Verdict}
@@ -11,7 +10,6 @@ use Rattle.crn_cert.specs.Built.{built}
 use Rattle.crn_check.specs.Verdicts.{tight}
 use Rattle.crn_check.proofs.CallerLemmas.{true_tight}
 use Rattle.crn_ctext.specs.Records.{Record}
-use Rattle.crn_ctext.specs.Blocks.{ReadOf}
 use Rattle.crn_ctext.specs.Documents as documents
 use Rattle.crn_ctext.specs.Meaning.{Known, meaning}
 use Rattle.crn_ctext.specs.Judged.{AreFormedOf, IsGood, IsReadOf, ReadDocumentsAreGood}

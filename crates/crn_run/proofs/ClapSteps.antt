@@ -1,14 +1,11 @@
 -- The steps of clap's walk at a word that is a value.
-use Rattle.std.proofs.Common.{◌≡◌, ◌&&◌, ◌+◌, ℕ, Bool, true, false, List, [], ◌∷◌, ◌++◌, Option, Some, None, refl, sym, ap, ◌∙◌, codes, cond}
-use Rattle.std.specs.Prelude.{if◌then◌else◌, find, unwrap_or, option_and_then, slice_get}
-use Rattle.std.specs.Str.{bytes_eq}
-use Rattle.std.proofs.lemmas.Slice.Eq.{bytes_eq-Decides}
-use Rattle.clap.specs.Walk.{Held, Row, Rule, Step, Text, Walk, after_step, arg_by_index, at_row, first_of, idle, is_pending, more_values, option, reading_by, pushed, settled, stronger, used, walked, word_met, without}
+use Rattle.std.proofs.Common.{◌≡◌, ◌&&◌, ◌+◌, ℕ, Bool, true, false, List, [], ◌∷◌, Option, Some, None, refl, sym, ap, ◌∙◌, codes}
+use Rattle.std.specs.Prelude.{if◌then◌else◌, unwrap_or}
+use Rattle.clap.specs.Walk.{Held, Row, Rule, Step, Text, Walk, after_step, arg_by_index, idle, is_pending, option, pushed, settled, walked, word_met}
 use Rattle.clap.specs.Simple.{new_rule}
-use Rattle.clap.specs.declared.parser.matches.ValueSource.TheVariants.{CommandLine}
 use Rattle.clap.specs.Kinds.{Kinds, or_else}
 use Rattle.clap.specs.Faults.{settle_fault, step_fault, turn_fault}
-use Rattle.crn_run.proofs.ClapWords.{IsValue, at, budget, budget_rule, holding, none_then, rules, second_none, shape, some_fault}
+use Rattle.crn_run.proofs.ClapWords.{IsValue, at, budget, holding, none_then, rules, second_none, shape, some_fault}
 
 -- ---- the option waits for a value
 
@@ -74,36 +71,3 @@ pub third_place : (rows : List Row) (p : Option (Text × List Text)) (word : Tex
 third_place rows p word is e =
     let v = is rows p idle 3 in
     some_fault (sym (ap (λ (m : Held × Step). step_fault shape 3 m.0 m.1) v.1) ∙ second_none _ _ e)
-
--- ---- a use of the option keeps what is found of `count`
-
-abbrev is_count : Row → Bool
-is_count r = bytes_eq r.id (codes "count")
-
-budget_is_other : (r : Row) → bytes_eq r.id budget ≡ true → is_count r ≡ false
-budget_is_other r e = ap (λ (t : Text). bytes_eq t (codes "count")) ((bytes_eq-Decides r.id budget).0 e)
-
--- a change of the option's row alone
-kept_at : (change : Row → List Row) (missing rows : List Row) → find is_count missing ≡ None
-    → ((r : Row) (rs : List Row) → bytes_eq r.id budget ≡ true → find is_count (change r ++ rs) ≡ find is_count rs)
-    → find is_count (at_row budget change missing rows) ≡ find is_count rows
-kept_at change missing [] none same = none
-kept_at change missing (r ∷ rs) none same = go (bytes_eq r.id budget) refl (kept_at change missing rs none same)
-  where
-    go : (b : Bool) → bytes_eq r.id budget ≡ b → find is_count (at_row budget change missing rs) ≡ find is_count rs
-        → find is_count (if b then change r ++ rs else r ∷ at_row budget change missing rs) ≡ cond (is_count r) (Some r) (find is_count rs)
-    go true e rec = same r rs e ∙ ap (λ (b : Bool). cond b (Some r) (find is_count rs)) (sym (budget_is_other r e))
-    go false e rec = ap (λ (o : Option Row). cond (is_count r) (Some r) o) rec
-
-pub use_keeps_count : (v : Text) (rows : List Row) → first_of (codes "count") (used budget_rule (v ∷ []) rows) ≡ first_of (codes "count") rows
-use_keeps_count v rows = ap (λ (o : Option Row). option_and_then (λ r. slice_get r.values 0) o)
-    (kept_at (more_values CommandLine (v ∷ [])) (record {
-      id = budget;
-      values = v ∷ [];
-      count = None;
-      source = Some CommandLine;
-      reading = reading_by budget_rule;
-    } ∷ []) (without budget rows) refl (λ r rs e.
-    let other = budget_is_other r e in
-    ap (λ (b : Bool). cond b (Some (record r { values = r.values ++ v ∷ []; source = Some (stronger r.source CommandLine) })) (find is_count rs)) other)
-    ∙ kept_at (λ _. []) [] rows refl (λ r rs e. refl))

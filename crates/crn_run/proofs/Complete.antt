@@ -4,21 +4,20 @@ use Rattle.std.specs.Prelude.{IfSome}
 use Rattle.crn_io.specs.Push.{HasNoRoom}
 use Rattle.crn_io.specs.Lines.{beginning}
 use Rattle.crn_vec.specs.Network.{Net}
-use Rattle.crn_text.specs.Spells.{Spells, Fault}
 use Rattle.crn_text.specs.declared.fault.TextCode.{TextCode}
 use Rattle.crn_text.proofs.CallerLemmas.{one_fault, no_fault}
 use Rattle.crn_ctext.specs.Blocks.{course}
 use Rattle.crn_ctext.specs.Records.{Record}
-use Rattle.crn_ctext.specs.Judged.{IsGood, IsFaultOf}
+use Rattle.crn_ctext.specs.Judged.{IsGood}
 use Rattle.crn_ctext.specs.Meaning.{meaning, versions}
 use Rattle.crn_ctext.proofs.CallerLemmas.{settled, gives_or_fails, first_is_one, good_documents_are_read, good_one}
 use Rattle.crn_cert.specs.Built.{built}
 use Rattle.crn_render.specs.Faults.{usage_line}
 use Rattle.crn_render.specs.Report.{render}
-use Rattle.crn_run.specs.Run.{Devices, refused_line, rejected_line, WasLeft, IsRefusalOf, IsRejectionOf, IsCheckOf, verdicts_in, IsOutput, IsAllowed, IsReadForOutput, RunGives, EndsWritten, HasNoFault, AskOfNetwork, AskOfDocument, IsSpelled, IsFaulty, IsFaultyDocument, IsComplete, IsQuiet}
+use Rattle.crn_run.specs.Run.{Devices, refused_line, rejected_line, WasLeft, IsRefusalOf, IsRejectionOf, IsCheckOf, verdicts_in, IsOutput, IsAllowed, IsReadForOutput, RunGives, EndsWritten, AskOfNetwork, AskOfDocument, AskOfSample, IsSpelled, IsFaulty, IsFaultyDocument, IsComplete, IsQuiet}
 use Rattle.crn_run.specs.Words.{IsCommand, SayACommand}
 use Rattle.crn_run.specs.declared.words.Command.{Command}
-use Rattle.crn_run.specs.declared.words.Command.TheVariants.{Report, Certify, Check}
+use Rattle.crn_run.specs.declared.words.Command.TheVariants.{Report, Certify, Check, Sample}
 use Rattle.crn_run.specs.declared.status.Status.{Status}
 use Rattle.crn_run.specs.declared.status.Status.TheVariants.{Done, OpenLeft, Refused, Rejected, Usage, ReadFault, WriteFault, NoMemory}
 use Rattle.crn_run.proofs.WordsSaid.{one_command}
@@ -88,31 +87,49 @@ one_checked words text out other said p q = one_of_checks text out other (checks
 spelled_or_faulty : (text : List ℕ) → IsSpelled text → IsFaulty text → ⊥
 spelled_or_faulty text (net, spells) (line, code, fault) = no_fault text net line code spells fault
 
--- the command reads a network text
-abbrev OfNetwork : Command → Type 0
-OfNetwork (Report n) = Unit {0}
-OfNetwork (Certify n) = Unit {0}
-OfNetwork Check = ⊥
+-- what a command reads: 0 a network text, 1 a document, 2 nothing
+abbrev Family : Command → ℕ
+Family (Report n) = 0
+Family (Certify n) = 0
+Family Check = 1
+Family (Sample k n) = 2
+
+-- the words say a command of this family
+abbrev Says : ℕ → List (List ℕ) → Type 0
+Says family words = (command : Command) × IsCommand words command × (Family command ≡ family)
+
+-- no words say commands of two families
+one_family : (words : List (List ℕ)) (n m : ℕ) → Says n words → Says m words → n ≡ m
+one_family words n m p q = sym p.2 ∙ ap Family (one_command words p.0 q.0 p.1 q.1) ∙ q.2
+
+-- the status of a run that wrote answers
+abbrev IsAnswered : Status → Type 0
+IsAnswered status = (status ≡ Done) ⊎ (status ≡ OpenLeft)
+
+answered_or_not : (status : Status) → IsAnswered status → (status ≡ Done) ⊎ (status ≡ OpenLeft) ⊎ (status ≡ NoMemory)
+answered_or_not status (inl is) = inl is
+answered_or_not status (inr is) = inr (inl is)
 
 -- what an output with this status says of its command and of the text
 abbrev Kind : Command → Status → List ℕ → Type 0
-Kind command status text = (OfNetwork command × ((status ≡ Done) ⊎ (status ≡ OpenLeft)) × IsSpelled text)
-    ⊎ (OfNetwork command × (status ≡ Refused) × IsFaulty text)
-    ⊎ ((command ≡ Check) × (status ≡ Done) × IsGood text)
-    ⊎ ((command ≡ Check) × (status ≡ Rejected) × IsFaultyDocument text)
+Kind command status text = ((Family command ≡ 0) × IsAnswered status × IsSpelled text)
+    ⊎ ((Family command ≡ 0) × (status ≡ Refused) × IsFaulty text)
+    ⊎ ((Family command ≡ 1) × (status ≡ Done) × IsGood text)
+    ⊎ ((Family command ≡ 1) × (status ≡ Rejected) × IsFaultyDocument text)
+    ⊎ ((Family command ≡ 2) × IsAnswered status)
 
 kind : (command : Command) (status : Status) (text out : List ℕ) → IsOutput command status text out → Kind command status text
-kind (Report n) Done text out g = inl (tt, inl refl, (g.2.net, g.2.says.spells))
-kind (Report n) OpenLeft text out g = inl (tt, inr refl, (g.2.net, g.2.says.spells))
-kind (Report n) Refused text out g = inr (inl (tt, refl, (g.line, g.code, g.fault)))
+kind (Report n) Done text out g = inl (refl, inl refl, (g.2.net, g.2.says.spells))
+kind (Report n) OpenLeft text out g = inl (refl, inr refl, (g.2.net, g.2.says.spells))
+kind (Report n) Refused text out g = inr (inl (refl, refl, (g.line, g.code, g.fault)))
 kind (Report n) Rejected text out g = absurd g.1
 kind (Report n) Usage text out g = absurd g.1
 kind (Report n) ReadFault text out g = absurd g.1
 kind (Report n) WriteFault text out g = absurd g.1
 kind (Report n) NoMemory text out g = absurd g.1
-kind (Certify n) Done text out g = inl (tt, inl refl, (g.2.net, g.2.says.spells))
-kind (Certify n) OpenLeft text out g = inl (tt, inr refl, (g.2.net, g.2.says.spells))
-kind (Certify n) Refused text out g = inr (inl (tt, refl, (g.line, g.code, g.fault)))
+kind (Certify n) Done text out g = inl (refl, inl refl, (g.2.net, g.2.says.spells))
+kind (Certify n) OpenLeft text out g = inl (refl, inr refl, (g.2.net, g.2.says.spells))
+kind (Certify n) Refused text out g = inr (inl (refl, refl, (g.line, g.code, g.fault)))
 kind (Certify n) Rejected text out g = absurd g.1
 kind (Certify n) Usage text out g = absurd g.1
 kind (Certify n) ReadFault text out g = absurd g.1
@@ -121,11 +138,19 @@ kind (Certify n) NoMemory text out g = absurd g.1
 kind Check Done text out g = inr (inr (inl (refl, refl, g.good)))
 kind Check OpenLeft text out g = absurd g
 kind Check Refused text out g = absurd g
-kind Check Rejected text out g = inr (inr (inr (refl, refl, (g.line, g.code, g.fault))))
+kind Check Rejected text out g = inr (inr (inr (inl (refl, refl, (g.line, g.code, g.fault)))))
 kind Check Usage text out g = absurd g
 kind Check ReadFault text out g = absurd g
 kind Check WriteFault text out g = absurd g
 kind Check NoMemory text out g = absurd g
+kind (Sample k n) Done text out g = inr (inr (inr (inr (refl, inl refl))))
+kind (Sample k n) OpenLeft text out g = inr (inr (inr (inr (refl, inr refl))))
+kind (Sample k n) Refused text out g = absurd g.1
+kind (Sample k n) Rejected text out g = absurd g.1
+kind (Sample k n) Usage text out g = absurd g.1
+kind (Sample k n) ReadFault text out g = absurd g.1
+kind (Sample k n) WriteFault text out g = absurd g.1
+kind (Sample k n) NoMemory text out g = absurd g.1
 
 -- ---- completeness
 
@@ -137,15 +162,16 @@ shown_is (Some t) shown text e p = let h : t ≡ shown = cc in sym h ∙ p
 shows : (P : List ℕ → Type 0) (old : Devices) (text shown : List ℕ) → old.source.left ≡ Some shown → WasLeft old text → P shown → P text
 shows P old text shown e left p = subst P (shown_is old.source.left shown text e left) p
 
--- no words say two commands
-not_check : (words : List (List ℕ)) (n : ℕ) → IsCommand words (Report n) ⊎ IsCommand words (Certify n) → IsCommand words Check → ⊥
-not_check words n (inl p) q = let e = one_command words (Report n) Check p q in cc
-not_check words n (inr p) q = let e = one_command words (Certify n) Check p q in cc
+-- the words say the command that is asked for
+says_network : (P : List ℕ → Type 0) (words : List (List ℕ)) (old : Devices) → AskOfNetwork P words old → Says 0 words
+says_network P words old (n, inl said, shown) = (Report n, said, refl)
+says_network P words old (n, inr said, shown) = (Certify n, said, refl)
 
-not_network : (words : List (List ℕ)) (command : Command) → OfNetwork command → IsCommand words command → IsCommand words Check → ⊥
-not_network words (Report n) reads p q = not_check words n (inl p) q
-not_network words (Certify n) reads p q = not_check words n (inr p) q
-not_network words Check reads p q = reads
+says_document : (P : List ℕ → Type 0) (words : List (List ℕ)) (old : Devices) → AskOfDocument P words old → Says 1 words
+says_document P words old (said, shown) = (Check, said, refl)
+
+says_sample : (words : List (List ℕ)) → AskOfSample words → Says 2 words
+says_sample words (k, n, said) = (Sample k n, said, refl)
 
 written_complete : (status : Status) (words : List (List ℕ)) (old new : Devices) → EndsWritten status words old new → IsComplete status words old new
 written_complete status words old new g = by (kind g.command status g.text g.out g.says)
@@ -153,56 +179,54 @@ written_complete status words old new g = by (kind g.command status g.text g.out
     no_command : {X : Type 0} → (SayACommand words → ⊥) → X
     no_command none = absurd (none (g.command, g.said))
 
-    said_check : g.command ≡ Check → IsCommand words Check
-    said_check e = subst (IsCommand words) e g.said
-
-    of_check : {X : Type 0} → g.command ≡ Check → (n : ℕ) → IsCommand words (Report n) ⊎ IsCommand words (Certify n) → X
-    of_check e n ask = absurd (not_check words n ask (said_check e))
-
-    of_network : {X : Type 0} → OfNetwork g.command → IsCommand words Check → X
-    of_network reads ask = absurd (not_network words g.command reads g.said ask)
+    other : {X : Type 0} (n m : ℕ) → Family g.command ≡ n → (n ≡ m → ⊥) → Says m words → X
+    other n m e apart says = absurd (apart (one_family words n m (g.command, g.said, e) says))
 
     by : Kind g.command status g.text → IsComplete status words old new
-    by (inl (reads, inl is, spelled)) = record {
-      spelled = λ quiet ask. inl is;
+    by (inl (e, is, spelled)) = record {
+      spelled = λ quiet ask. answered_or_not status is;
       refused = λ quiet ask. absurd (spelled_or_faulty g.text spelled (shows IsFaulty old g.text ask.2.0 ask.2.1 g.left ask.2.2));
-      accepted = λ quiet ask. of_network reads ask.0;
-      rejected = λ quiet ask. of_network reads ask.0;
+      accepted = λ quiet ask. other 0 1 e (λ h. cc) (says_document IsGood words old ask);
+      rejected = λ quiet ask. other 0 1 e (λ h. cc) (says_document IsFaultyDocument words old ask);
+      sampled = λ quiet ask. answered_or_not status is;
       usage = λ quiet none. no_command none;
     }
-    by (inl (reads, inr is, spelled)) = record {
-      spelled = λ quiet ask. inr (inl is);
-      refused = λ quiet ask. absurd (spelled_or_faulty g.text spelled (shows IsFaulty old g.text ask.2.0 ask.2.1 g.left ask.2.2));
-      accepted = λ quiet ask. of_network reads ask.0;
-      rejected = λ quiet ask. of_network reads ask.0;
-      usage = λ quiet none. no_command none;
-    }
-    by (inr (inl (reads, is, faulty))) = record {
+    by (inr (inl (e, is, faulty))) = record {
       spelled = λ quiet ask. absurd (spelled_or_faulty g.text (shows IsSpelled old g.text ask.2.0 ask.2.1 g.left ask.2.2) faulty);
       refused = λ quiet ask. inl is;
-      accepted = λ quiet ask. of_network reads ask.0;
-      rejected = λ quiet ask. of_network reads ask.0;
+      accepted = λ quiet ask. other 0 1 e (λ h. cc) (says_document IsGood words old ask);
+      rejected = λ quiet ask. other 0 1 e (λ h. cc) (says_document IsFaultyDocument words old ask);
+      sampled = λ quiet ask. other 0 2 e (λ h. cc) (says_sample words ask);
       usage = λ quiet none. no_command none;
     }
     by (inr (inr (inl (e, is, good)))) = record {
-      spelled = λ quiet ask. of_check e ask.0 ask.1;
-      refused = λ quiet ask. of_check e ask.0 ask.1;
+      spelled = λ quiet ask. other 1 0 e (λ h. cc) (says_network IsSpelled words old ask);
+      refused = λ quiet ask. other 1 0 e (λ h. cc) (says_network IsFaulty words old ask);
       accepted = λ quiet ask. inl is;
       rejected = λ quiet ask. absurd (good_or_faulty g.text good (shows IsFaultyDocument old g.text ask.1.0 ask.1.1 g.left ask.1.2));
+      sampled = λ quiet ask. other 1 2 e (λ h. cc) (says_sample words ask);
       usage = λ quiet none. no_command none;
     }
-    by (inr (inr (inr (e, is, faulty)))) = record {
-      spelled = λ quiet ask. of_check e ask.0 ask.1;
-      refused = λ quiet ask. of_check e ask.0 ask.1;
+    by (inr (inr (inr (inl (e, is, faulty))))) = record {
+      spelled = λ quiet ask. other 1 0 e (λ h. cc) (says_network IsSpelled words old ask);
+      refused = λ quiet ask. other 1 0 e (λ h. cc) (says_network IsFaulty words old ask);
       accepted = λ quiet ask. absurd (good_or_faulty g.text (shows IsGood old g.text ask.1.0 ask.1.1 g.left ask.1.2) faulty);
       rejected = λ quiet ask. inl is;
+      sampled = λ quiet ask. other 1 2 e (λ h. cc) (says_sample words ask);
+      usage = λ quiet none. no_command none;
+    }
+    by (inr (inr (inr (inr (e, is))))) = record {
+      spelled = λ quiet ask. answered_or_not status is;
+      refused = λ quiet ask. other 2 0 e (λ h. cc) (says_network IsFaulty words old ask);
+      accepted = λ quiet ask. other 2 1 e (λ h. cc) (says_document IsGood words old ask);
+      rejected = λ quiet ask. other 2 1 e (λ h. cc) (says_document IsFaultyDocument words old ask);
+      sampled = λ quiet ask. answered_or_not status is;
       usage = λ quiet none. no_command none;
     }
 
--- the words say the command that is asked for
-some_command : (P : List ℕ → Type 0) (words : List (List ℕ)) (old : Devices) → AskOfNetwork P words old → SayACommand words
-some_command P words old (n, inl said, shown) = (Report n, said)
-some_command P words old (n, inr said, shown) = (Certify n, said)
+-- some command of this family is said
+some_command : (words : List (List ℕ)) (n : ℕ) → Says n words → SayACommand words
+some_command words n says = (says.0, says.1)
 
 pub run_complete : (status : Status) (words : List (List ℕ)) (old new : Devices) → RunGives status words old new → IsComplete status words old new
 run_complete Done words old new g = written_complete Done words old new g
@@ -210,10 +234,11 @@ run_complete OpenLeft words old new g = written_complete OpenLeft words old new 
 run_complete Refused words old new g = written_complete Refused words old new g
 run_complete Rejected words old new g = written_complete Rejected words old new g
 run_complete Usage words old new g = record {
-  spelled = λ quiet ask. absurd (g.command (some_command IsSpelled words old ask));
-  refused = λ quiet ask. absurd (g.command (some_command IsFaulty words old ask));
+  spelled = λ quiet ask. absurd (g.command (some_command words 0 (says_network IsSpelled words old ask)));
+  refused = λ quiet ask. absurd (g.command (some_command words 0 (says_network IsFaulty words old ask)));
   accepted = λ quiet ask. absurd (g.command (Check, ask.0));
   rejected = λ quiet ask. absurd (g.command (Check, ask.0));
+  sampled = λ quiet ask. absurd (g.command (some_command words 2 (says_sample words ask)));
   usage = λ quiet none. inl refl;
 }
 run_complete ReadFault words old new g = record {
@@ -221,6 +246,7 @@ run_complete ReadFault words old new g = record {
   refused = λ quiet ask. absurd (quiet.source g.source);
   accepted = λ quiet ask. absurd (quiet.source g.source);
   rejected = λ quiet ask. absurd (quiet.source g.source);
+  sampled = λ quiet ask. absurd (quiet.source g.source);
   usage = λ quiet none. absurd (quiet.source g.source);
 }
 run_complete WriteFault words old new g = record {
@@ -228,6 +254,7 @@ run_complete WriteFault words old new g = record {
   refused = λ quiet ask. absurd (quiet.sink g.sink.rose);
   accepted = λ quiet ask. absurd (quiet.sink g.sink.rose);
   rejected = λ quiet ask. absurd (quiet.sink g.sink.rose);
+  sampled = λ quiet ask. absurd (quiet.sink g.sink.rose);
   usage = λ quiet none. absurd (quiet.sink g.sink.rose);
 }
 run_complete NoMemory words old new g = record {
@@ -235,6 +262,7 @@ run_complete NoMemory words old new g = record {
   refused = λ quiet ask. inr refl;
   accepted = λ quiet ask. inr refl;
   rejected = λ quiet ask. inr refl;
+  sampled = λ quiet ask. inr (inr refl);
   usage = λ quiet none. inr refl;
 }
 

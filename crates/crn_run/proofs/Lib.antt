@@ -2,6 +2,7 @@ mod Runs
 mod OpenAnswers
 mod Outputs
 mod Certificates
+mod Accepted
 mod Checked
 mod CheckedForms
 mod Complete

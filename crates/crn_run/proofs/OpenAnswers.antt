@@ -1,5 +1,5 @@
 -- Some answer is open if and only if a walk over the answers meets one.
-use Rattle.std.proofs.Common.{◌≡◌, ◌+◌, ℕ, zero, suc, List, [], ◌∷◌, Some, None, take, length, inl, inr, refl, sym, ap, subst, ◌∙◌, ◌≤◌, arith}
+use Rattle.std.proofs.Common.{◌≡◌, ℕ, zero, suc, List, [], ◌∷◌, Some, None, take, length, inl, inr, sym, subst, ◌≤◌}
 use Rattle.std.specs.Prelude.{slice_get}
 use Rattle.std.proofs.lemmas.List.{take_all}
 use Rattle.crn_cert.specs.declared.answer.Answer.{Answer}

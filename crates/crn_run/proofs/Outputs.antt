@@ -1,5 +1,5 @@
 -- From the answers to a network's questions to what a command writes for its text.
-use Rattle.std.proofs.Common.{◌≡◌, ℕ, List, [], ◌∷◌, ◌++◌, refl, subst, inl, inr}
+use Rattle.std.proofs.Common.{◌≡◌, ℕ, List, [], ◌∷◌, ◌++◌, refl, ap, subst, inr}
 use Rattle.crn_vec.specs.Network.{Net}
 use Rattle.crn_io.specs.Device.{SinkSeen}
 use Rattle.crn_io.specs.Write.{WroteAll, WrotePrefix}
@@ -13,10 +13,12 @@ use Rattle.crn_cert.specs.Valid.{AreValid}
 use Rattle.crn_cert.proofs.CallerLemmas.{formed_answers_have_formed_verdicts}
 use Rattle.crn_ctext.specs.Judged.{IsGood}
 use Rattle.crn_render.specs.Report.{render}
+use Rattle.crn_render.specs.Summary.{summary}
+use Rattle.crn_sample.specs.Sample.{sample_text}
 use Rattle.crn_cert.specs.declared.answer.Answer.{Answer}
-use Rattle.crn_run.specs.Run.{AreAnswersOf, AreLeftBy, certificate, IsCertificateOf, IsOutput, IsReportOf}
+use Rattle.crn_run.specs.Run.{AreAnswersOf, AreLeftBy, certificate, IsCertificateOf, IsOutput, IsReportOf, IsSummaryOf}
 use Rattle.crn_run.specs.Inner.Steps.{LineGives, OutputGives}
-use Rattle.crn_run.specs.declared.words.Command.TheVariants.{Report, Certify}
+use Rattle.crn_run.specs.declared.words.Command.TheVariants.{Report, Certify, Sample}
 use Rattle.crn_run.specs.declared.status.Status.{Status}
 use Rattle.crn_run.specs.declared.status.Status.TheVariants.{Done, OpenLeft, Refused, Rejected, Usage, ReadFault, WriteFault, NoMemory}
 
@@ -87,3 +89,36 @@ pub certificate_broken : (budget : ℕ) (whole : Status) (text : List ℕ) (net 
 certificate_broken budget whole text net answers out old new e says valid good left w =
     let here : WrotePrefix (certificate net answers) old new = subst (λ (t : List ℕ). WrotePrefix t old new) e w in
     inr (whole, certificate net answers, certificate_is_output budget whole text (certificate net answers) answers left (certified budget text net answers says valid good), here)
+
+summary_is_output : (number budget : ℕ) (whole : Status) (text out : List ℕ) (answers : List Answer) → AreLeftBy whole answers → IsSummaryOf number budget out answers → IsOutput (Sample number budget) whole text out
+summary_is_output number budget Done text out answers left r = (answers, left, r)
+summary_is_output number budget OpenLeft text out answers left r = (answers, left, r)
+summary_is_output number budget Refused text out answers left r = absurd left
+summary_is_output number budget Rejected text out answers left r = absurd left
+summary_is_output number budget Usage text out answers left r = absurd left
+summary_is_output number budget ReadFault text out answers left r = absurd left
+summary_is_output number budget WriteFault text out answers left r = absurd left
+summary_is_output number budget NoMemory text out answers left r = absurd left
+
+-- what is known of the answers of a sample network
+pub record AreSampled (number budget : ℕ) (net : Net) (answers : List Answer) : Type 0 where
+  pub says : AreAnswersOf budget (sample_text number) net answers
+  pub valid : AreValid net [] built answers
+  pub good : IsGood (certificate net answers)
+
+summarized : (number budget : ℕ) (net : Net) (answers : List Answer) (out : List ℕ) → AreSampled number budget net answers → out ≡ summary number net (verdicts_of answers) → IsSummaryOf number budget out answers
+summarized number budget net answers out a e = record { net = net; says = a.says; valid = a.valid; written = e; good = a.good }
+
+pub summary_gives : (number budget : ℕ) (whole : Status) (text : List ℕ) (net : Net) (answers : List Answer) (verdicts : List Verdict) (old new : SinkSeen) → verdicts ≡ verdicts_of answers
+    → AreSampled number budget net answers → AreLeftBy whole answers → WroteAll (summary number net verdicts) old new → OutputGives (Sample number budget) whole text old new
+summary_gives number budget whole text net answers verdicts old new e a left w =
+    let out = summary number net verdicts in
+    let is = summarized number budget net answers out a (ap (summary number net) e) in
+    inr (whole, out, summary_is_output number budget whole text out answers left is, whole_is_written whole out answers old new left w)
+
+pub summary_broken : (number budget : ℕ) (whole : Status) (text : List ℕ) (net : Net) (answers : List Answer) (verdicts : List Verdict) (old new : SinkSeen) → verdicts ≡ verdicts_of answers
+    → AreSampled number budget net answers → AreLeftBy whole answers → WrotePrefix (summary number net verdicts) old new → OutputGives (Sample number budget) WriteFault text old new
+summary_broken number budget whole text net answers verdicts old new e a left w =
+    let out = summary number net verdicts in
+    let is = summarized number budget net answers out a (ap (summary number net) e) in
+    inr (whole, out, summary_is_output number budget whole text out answers left is, w)

@@ -1,5 +1,5 @@
 -- From a line or an output to a whole run.
-use Rattle.std.proofs.Common.{◌≡◌, ℕ, ◌+◌, ◌≤◌, List, [], ◌++◌, length, Option, Some, None, Result, Ok, Err, refl, sym, ap, subst, ◌∙◌, inl, inr, arith}
+use Rattle.std.proofs.Common.{◌≡◌, ℕ, ◌+◌, List, [], ◌++◌, length, Option, Some, None, Result, Ok, Err, refl, sym, ap, subst, ◌∙◌, inl, inr, arith}
 use Rattle.std.specs.Prelude.{IfSome}
 use Rattle.std.proofs.lemmas.List.{length-append, append-nil}
 use Rattle.crn_vec.specs.declared.limits.TheConstants.{MAX_TEXT}
@@ -10,9 +10,9 @@ use Rattle.crn_io.specs.Pull.{Consumes, HasNoneLeft}
 use Rattle.crn_io.specs.Read.{ReadGives, ConsumesUpTo}
 use Rattle.crn_text.specs.Spells.{Fault, IsTooLong}
 use Rattle.crn_text.specs.declared.fault.TextCode.TheVariants.{TextTooLong}
-use Rattle.crn_io.specs.Device.{SourceSeen, SinkSeen}
+use Rattle.crn_io.specs.Device.{SourceSeen}
 use Rattle.crn_render.specs.Faults.{usage_line}
-use Rattle.crn_run.specs.Run.{Devices, WasLeft, IsReadOut, IsReadUp, IsReadFor, IsReadWithin, IsOutput, IsRefusalOf, RunGives, refused_line}
+use Rattle.crn_run.specs.Run.{Devices, WasLeft, IsReadOut, IsReadUp, IsReadBy, IsReadWithin, IsOutput, IsRefusalOf, RunGives, refused_line}
 use Rattle.crn_run.specs.Words.{IsCommand, SayACommand}
 use Rattle.crn_vec.specs.Network.{Net}
 use Rattle.crn_run.specs.Inner.Network.{NetworkRead}
@@ -20,7 +20,7 @@ use Rattle.crn_run.specs.Inner.Steps.{HasNoMemory, LineGives, NetworkGives, Outp
 use Rattle.crn_run.specs.declared.network.Stop.{Stop}
 use Rattle.crn_run.specs.declared.network.Stop.TheVariants as network
 use Rattle.crn_run.specs.declared.words.Command.{Command}
-use Rattle.crn_run.specs.declared.words.Command.TheVariants.{Report, Certify, Check}
+use Rattle.crn_run.specs.declared.words.Command.TheVariants.{Report, Certify, Check, Sample}
 use Rattle.crn_run.specs.declared.status.Status.{Status}
 use Rattle.crn_run.specs.declared.status.Status.TheVariants.{Done, OpenLeft, Refused, Rejected, Usage, ReadFault, WriteFault, NoMemory}
 
@@ -66,11 +66,12 @@ pub within_network : (words : List (List ℕ)) (command : Command) (left rest : 
 within_network words (Report n) left rest reads said g = inl (Report n, said, g)
 within_network words (Certify n) left rest reads said g = inl (Certify n, said, g)
 within_network words Check left rest reads said g = absurd reads
+within_network words (Sample k n) left rest reads said g = absurd reads
 
 -- ---- outputs
 
 -- what a command writes for a network text that was read to its end was read for its status
-pub read_for : (command : Command) (status : Status) (text out : List ℕ) (left rest : Option (List ℕ)) → ReadsNetwork command → IsOutput command status text out → IsReadOut left rest → IsReadFor status left rest
+pub read_for : (command : Command) (status : Status) (text out : List ℕ) (left rest : Option (List ℕ)) → ReadsNetwork command → IsOutput command status text out → IsReadOut left rest → IsReadBy command status left rest
 read_for (Report n) Done text out left rest reads g r = r
 read_for (Report n) OpenLeft text out left rest reads g r = r
 read_for (Report n) Refused text out left rest reads g r = inl r
@@ -88,12 +89,21 @@ read_for (Certify n) ReadFault text out left rest reads g r = r
 read_for (Certify n) WriteFault text out left rest reads g r = r
 read_for (Certify n) NoMemory text out left rest reads g r = r
 read_for Check status text out left rest reads g r = absurd reads
+read_for (Sample k n) status text out left rest reads g r = absurd reads
+
+-- a network text that is refused was read as far as a text goes
+read_up : (command : Command) (left rest : Option (List ℕ)) → ReadsNetwork command → IsReadUp left rest → IsReadBy command Refused left rest
+read_up (Report n) left rest reads up = up
+read_up (Certify n) left rest reads up = up
+read_up Check left rest reads up = absurd reads
+read_up (Sample k n) left rest reads up = absurd reads
 
 -- a refusal is what a command that reads a network text writes
 pub refusal_is_output : (command : Command) (text out : List ℕ) → ReadsNetwork command → IsRefusalOf text out → IsOutput command Refused text out
 refusal_is_output (Report n) text out reads r = r
 refusal_is_output (Certify n) text out reads r = r
 refusal_is_output Check text out reads r = absurd reads
+refusal_is_output (Sample k n) text out reads r = absurd reads
 
 -- no command writes a text with these statuses
 abbrev IsWritten : Status → Type 0
@@ -120,13 +130,17 @@ output_is_written Check Usage text out g = g
 output_is_written Check ReadFault text out g = g
 output_is_written Check WriteFault text out g = g
 output_is_written Check NoMemory text out g = g
+output_is_written (Sample k n) Usage text out g = g.1
+output_is_written (Sample k n) ReadFault text out g = g.1
+output_is_written (Sample k n) WriteFault text out g = g.1
+output_is_written (Sample k n) NoMemory text out g = g.1
 
 -- ---- runs
 
 -- what every end of a command says of the source and of the text
 pub record WasRead (command : Command) (status : Status) (words : List (List ℕ)) (text out : List ℕ) (old new : Devices) : Type 0 where
   pub said : IsCommand words command
-  pub read : IsReadFor status old.source.left new.source.left
+  pub read : IsReadBy command status old.source.left new.source.left
   pub within : IsReadWithin words old.source.left new.source.left
   pub source : new.source.faults ≡ old.source.faults
   pub left : WasLeft old text
@@ -174,7 +188,7 @@ pub stop_ends : (stop : Stop) (command : Command) (status : Status) (words : Lis
     → NetworkRead (Err stop) old.source new.source → StopGives stop status old.sink new.sink → RunGives status words old new
 stop_ends (network.Fault code line) command status words old new reads said (text, read, up, fault) g = output_ends command Refused status words text (refused_line code line) old new (record {
   said = said;
-  read = up;
+  read = read_up command old.source.left new.source.left reads up;
   within = within_network words command old.source.left new.source.left reads said read.within;
   source = read.faults;
   left = read.left;
@@ -188,6 +202,31 @@ stop_ends network.Failed command status words old new reads said (most, rose, la
   sink = g.1;
 })
 stop_ends network.NoMemory command status words old new reads said (most, source) g = memory_ends status words old new (within_network words command old.source.left new.source.left reads said most) source g
+
+-- the output of `sample`, which reads nothing
+pub sample_ends : (number budget : ℕ) (status : Status) (words : List (List ℕ)) (old new : Devices) → IsCommand words (Sample number budget) → new.source ≡ old.source
+    → ((text : List ℕ) → OutputGives (Sample number budget) status text old.sink new.sink) → RunGives status words old new
+sample_ends number budget status words old new said same g = ends (g t.0)
+  where
+    t : (text : List ℕ) × IfSome old.source.left (λ l. l ≡ text)
+    t = some_text old.source.left
+
+    left : new.source.left ≡ old.source.left
+    left = ap (λ (s : SourceSeen). s.left) same
+
+    faults : new.source.faults ≡ old.source.faults
+    faults = ap (λ (s : SourceSeen). s.faults) same
+
+    ends : OutputGives (Sample number budget) status t.0 old.sink new.sink → RunGives status words old new
+    ends (inl none) = memory_ends status words old new (inr left) faults none
+    ends (inr (whole, out, says, line)) = output_ends (Sample number budget) whole status words t.0 out old new (record {
+      said = said;
+      read = left;
+      within = inr left;
+      source = faults;
+      left = t.1;
+      says = says;
+    }) line
 
 -- a network was read
 pub read_ends : (net : Net) (command : Command) (status : Status) (words : List (List ℕ)) (old new : Devices) → ReadsNetwork command → IsCommand words command

@@ -1,5 +1,5 @@
 -- From what clap reads to the command that the words say, and back.
-use Rattle.std.proofs.Common.{◌≡◌, ◌≤◌, ℕ, true, false, arith, List, [], ◌∷◌, Option, Some, None, drop, refl, sym, ap, ◌∙◌, subst, inl, inr, codes}
+use Rattle.std.proofs.Common.{◌≡◌, ◌≤◌, ℕ, true, false, arith, List, [], ◌∷◌, Option, Some, None, drop, refl, sym, ap, ap₂, ◌∙◌, subst, inl, inr, codes}
 use Rattle.std.specs.Prelude.{MatchOption}
 use Rattle.std.specs.List.{list_any}
 use Rattle.clap.specs.Walk.{Text}
@@ -10,13 +10,14 @@ use Rattle.clap.specs.declared.error.kind.ErrorKind.TheVariants.{OutOfMemory}
 use Rattle.clap.specs.declared.parser.matches.ArgMatches.{ArgMatches}
 use Rattle.clap.proofs.OnLiterals.{clap_on_literals}
 use Rattle.clap.proofs.WalkLemmas.{first_value-rows}
-use Rattle.crn_run.specs.Inner.Parse.{Gives, IsRead, Means, MeansBudget, MeansName, crnt_app, is_two_dashes}
+use Rattle.crn_run.specs.Inner.Parse.{Gives, IsRead, Means, MeansBudget, MeansNumber, crnt_app, is_two_dashes}
 use Rattle.crn_vec.specs.declared.limits.TheConstants.{MAX_BUDGET}
-use Rattle.crn_run.specs.Words.{IsCommand, Say, SayName}
+use Rattle.crn_sample.specs.declared.limits.TheConstants.{MAX_SAMPLE}
+use Rattle.crn_run.specs.Words.{IsCommand, Say, SayPlain}
 use Rattle.crn_run.specs.declared.words.Command.{Command}
-use Rattle.crn_run.specs.declared.words.Command.TheVariants.{Report, Certify, Check}
-use Rattle.crn_run.proofs.ClapReads.{Asked, SayAsked}
-use Rattle.crn_run.proofs.ClapForms.{IsPlain, IsReadAs, certify_plain, check_plain, name_is_read, named_is_read, read_is_asked, report_plain}
+use Rattle.crn_run.specs.declared.words.Command.TheVariants.{Report, Certify, Check, Sample}
+use Rattle.crn_run.proofs.ClapReads.{Asked, SayAsked, words_of}
+use Rattle.crn_run.proofs.ClapForms.{IsPlain, IsPlainIfSome, IsReadAs, budget_is_read, certify_plain, check_plain, digits_are, name_is_read, read_is_asked, report_plain, sample_plain}
 
 -- ---- the clauses of clap
 
@@ -54,46 +55,56 @@ unread_of a words e is (inr among) other read =
 
 -- ---- the command
 
--- a name, with a word that writes this budget
-abbrev named : Text → ℕ → Asked
-named name n = record { name = name; budget_is = λ o. MeansBudget o n }
+-- a name and a count, with a word that writes this budget
+abbrev named : Text → Option Text → ℕ → Asked
+named name count n = record { name = name; count = count; budget_is = λ o. MeansBudget o n }
 
 -- a name alone
 abbrev alone : Text → Asked
-alone name = record { name = name; budget_is = λ o. o ≡ None }
+alone name = record { name = name; count = None; budget_is = λ o. o ≡ None }
 
 values_asked : (ask : Asked) (words : List Text) (command count budget : Option Text) → list_any is_two_dashes (drop 1 words) ≡ false → IsRead words
-    → Gives words command count budget → command ≡ Some ask.name → count ≡ None → ask.budget_is budget → (program : Text) × (rest : List Text) × (words ≡ program ∷ rest) × SayAsked ask rest
-values_asked ask words command count budget plain read gives is none means =
-    read_is_asked words budget ask plain read (subst (λ (o : Option Text). Gives words o None budget) is (subst (λ (o : Option Text). Gives words command o budget) none gives)) means
+    → Gives words command count budget → command ≡ Some ask.name → count ≡ ask.count → ask.budget_is budget → (program : Text) × (rest : List Text) × (words ≡ program ∷ rest) × SayAsked ask rest
+values_asked ask words command count budget plain read gives is counted means =
+    read_is_asked words budget ask plain read (subst (λ (o : Option Text). Gives words o ask.count budget) is (subst (λ (o : Option Text). Gives words command o budget) counted gives)) means
 
 alone_said : (name : Text) (words : List Text) → SayAsked (alone name) words → words ≡ name ∷ []
 alone_said name words (inl (e, none)) = e
 alone_said name words (inr (v, bad, form)) = absurd (let e : Some v ≡ None = bad in cc)
 
+sample_said : (number budget : ℕ) (words : List Text) (command count word : Option Text) → list_any is_two_dashes (drop 1 words) ≡ false → IsRead words → Gives words command count word
+    → command ≡ Some (codes "sample") → MeansNumber count number → MeansBudget word budget → IsCommand words (Sample number budget)
+sample_said number budget words command None word plain read gives is writes means = absurd writes
+sample_said number budget words command (Some k) word plain read gives is writes means =
+    let (program, rest, e, says) = values_asked (named (codes "sample") (Some k) budget) words command (Some k) word plain read gives is refl means in
+    (program, rest, e, (k, writes, says))
+
 values_say : (words : List Text) (command count budget : Option Text) (c : Command) → list_any is_two_dashes (drop 1 words) ≡ false → IsRead words
     → Gives words command count budget → Means command count budget c → IsCommand words c
-values_say words command count budget (Report n) plain read gives (is, none, means) = values_asked (named (codes "report") n) words command count budget plain read gives is none means
-values_say words command count budget (Certify n) plain read gives (is, none, means) = values_asked (named (codes "certify") n) words command count budget plain read gives is none means
+values_say words command count budget (Report n) plain read gives (is, none, means) = values_asked (named (codes "report") None n) words command count budget plain read gives is none means
+values_say words command count budget (Certify n) plain read gives (is, none, means) = values_asked (named (codes "certify") None n) words command count budget plain read gives is none means
 values_say words command count budget Check plain read gives (is, none, means) =
     let (program, rest, e, says) = values_asked (alone (codes "check")) words command count budget plain read gives is none means in
     (program, rest, e, alone_said (codes "check") rest says)
+values_say words command count budget (Sample k n) plain read gives (is, writes, means) = sample_said k n words command count budget plain read gives is writes means
 
--- the words of a command with a name, as clap reads them
-name_read : (name program : Text) (words : List Text) (n : ℕ) → IsPlain name → SayName name words n → (b : Option Text) × IsReadAs name program words b × MeansBudget b n
-name_read name program words n is (inl (e, d)) = (None, rw e (name_is_read name program is), d)
-name_read name program words n is (inr (text, writes, form)) = (Some text, named_is_read name program text words is writes.digits form, writes)
+-- the words of a command with a budget, as clap reads them
+plain_read : (name program : Text) (count : Option Text) (words : List Text) (n : ℕ) → IsPlain name → IsPlainIfSome count → SayPlain (words_of name count) words n → (b : Option Text) × IsReadAs name count program words b × MeansBudget b n
+plain_read name program count words n is counted (inl (e, d)) = (None, rw e (name_is_read name program count is counted), d)
+plain_read name program count words n is counted (inr (text, writes, form)) = (Some text, budget_is_read name program text count words is counted writes.digits form, writes)
 
 abbrev name_of : Command → Text
 name_of (Report n) = codes "report"
 name_of (Certify n) = codes "certify"
 name_of Check = codes "check"
+name_of (Sample k n) = codes "sample"
 
 -- the words of a command, as clap reads them
-said_read : (program : Text) (words : List Text) (c : Command) → Say words c → (b : Option Text) × IsReadAs (name_of c) program words b × Means (Some (name_of c)) None b c
-said_read program words (Report n) says = let (b, r, means) = name_read (codes "report") program words n report_plain says in (b, r, (refl, refl, means))
-said_read program words (Certify n) says = let (b, r, means) = name_read (codes "certify") program words n certify_plain says in (b, r, (refl, refl, means))
-said_read program words Check e = (None, rw e (name_is_read (codes "check") program check_plain), (refl, refl, refl))
+said_read : (program : Text) (words : List Text) (c : Command) → Say words c → (o : Option Text) × (b : Option Text) × IsReadAs (name_of c) o program words b × Means (Some (name_of c)) o b c
+said_read program words (Report n) says = let (b, r, means) = plain_read (codes "report") program None words n report_plain tt says in (None, b, r, (refl, refl, means))
+said_read program words (Certify n) says = let (b, r, means) = plain_read (codes "certify") program None words n certify_plain tt says in (None, b, r, (refl, refl, means))
+said_read program words Check e = (None, None, rw e (name_is_read (codes "check") program None check_plain tt), (refl, refl, refl))
+said_read program words (Sample number n) (k, writes, says) = let (b, r, means) = plain_read (codes "sample") program (Some k) words n sample_plain (digits_are k writes.digits) says in (Some k, b, r, (refl, writes, means))
 
 -- words give their values once
 gives_one : (words : List Text) (command count budget first second third : Option Text) (c : Command) → Gives words command count budget → Gives words first second third
@@ -106,13 +117,13 @@ gives_one words command count budget first second third c a b means =
 
 said_values : (words : List Text) (command count budget : Option Text) (c : Command) → Gives words command count budget → IsCommand words c → Means command count budget c
 said_values words command count budget c gives (program, rest, e, says) =
-    let (b, r, means) = said_read program rest c says in
-    let back : Gives words (Some (name_of c)) None b = rw e r.2 in
-    gives_one words command count budget (Some (name_of c)) None b c gives back means
+    let (o, b, r, means) = said_read program rest c says in
+    let back : Gives words (Some (name_of c)) o b = rw e r.2 in
+    gives_one words command count budget (Some (name_of c)) o b c gives back means
 
 pub said_is_read : (words : List Text) (c : Command) → IsCommand words c → (list_any is_two_dashes (drop 1 words) ≡ false) × IsRead words
 said_is_read words c (program, rest, e, says) =
-    let (b, r, means) = said_read program rest c says in
+    let (o, b, r, means) = said_read program rest c says in
     rw e (r.0, r.1)
 
 -- the command that the values mean is the one that the words say
@@ -128,31 +139,61 @@ budget_one : (b : Option Text) (n m : ℕ) → MeansBudget b n → MeansBudget b
 budget_one None n m p q = p ∙ sym q
 budget_one (Some text) n m p q = sym p.value ∙ q.value
 
+-- the first byte of a text
+abbrev first_byte : Option Text → ℕ
+first_byte None = 0
+first_byte (Some []) = 0
+first_byte (Some (b ∷ bs)) = b
+
+number_one : (o : Option Text) (n m : ℕ) → MeansNumber o n → MeansNumber o m → n ≡ m
+number_one None n m p q = absurd p
+number_one (Some text) n m p q = sym p.value ∙ q.value
+
 means_one : (command count word : Option Text) (c d : Command) → Means command count word c → Means command count word d → c ≡ d
 means_one command count word (Report n) (Report m) p q = ap Report (budget_one word n m p.2 q.2)
 means_one command count word (Report n) (Certify m) p q = absurd (let e : Some (codes "report") ≡ Some (codes "certify") = sym p.0 ∙ q.0 in cc)
 means_one command count word (Report n) Check p q = absurd (let e : Some (codes "report") ≡ Some (codes "check") = sym p.0 ∙ q.0 in cc)
+means_one command count word (Report n) (Sample k m) p q = absurd (let e : 114 ≡ 115 = ap first_byte (sym p.0 ∙ q.0) in omega arith)
 means_one command count word (Certify n) (Report m) p q = absurd (let e : Some (codes "certify") ≡ Some (codes "report") = sym p.0 ∙ q.0 in cc)
 means_one command count word (Certify n) (Certify m) p q = ap Certify (budget_one word n m p.2 q.2)
 means_one command count word (Certify n) Check p q = absurd (let e : Some (codes "certify") ≡ Some (codes "check") = sym p.0 ∙ q.0 in cc)
+means_one command count word (Certify n) (Sample k m) p q = absurd (let e : 99 ≡ 115 = ap first_byte (sym p.0 ∙ q.0) in omega arith)
 means_one command count word Check (Report m) p q = absurd (let e : Some (codes "check") ≡ Some (codes "report") = sym p.0 ∙ q.0 in cc)
 means_one command count word Check (Certify m) p q = absurd (let e : Some (codes "check") ≡ Some (codes "certify") = sym p.0 ∙ q.0 in cc)
 means_one command count word Check Check p q = refl
+means_one command count word Check (Sample k m) p q = absurd (let e : 99 ≡ 115 = ap first_byte (sym p.0 ∙ q.0) in omega arith)
+means_one command count word (Sample k n) (Report m) p q = absurd (let e : 115 ≡ 114 = ap first_byte (sym p.0 ∙ q.0) in omega arith)
+means_one command count word (Sample k n) (Certify m) p q = absurd (let e : 115 ≡ 99 = ap first_byte (sym p.0 ∙ q.0) in omega arith)
+means_one command count word (Sample k n) Check p q = absurd (let e : 115 ≡ 99 = ap first_byte (sym p.0 ∙ q.0) in omega arith)
+means_one command count word (Sample k n) (Sample j m) p q = ap₂ Sample (number_one count k j p.1 q.1) (budget_one word n m p.2 q.2)
 
 pub one_command : (words : List Text) (c d : Command) → IsCommand words c → IsCommand words d → c ≡ d
 one_command words c d (program, rest, e, says) other =
-    let (b, r, means) = said_read program rest c says in
-    let back : Gives words (Some (name_of c)) None b = rw e r.2 in
-    means_one (Some (name_of c)) None b c d means (said_values words (Some (name_of c)) None b d back other)
+    let (o, b, r, means) = said_read program rest c says in
+    let back : Gives words (Some (name_of c)) o b = rw e r.2 in
+    means_one (Some (name_of c)) o b c d means (said_values words (Some (name_of c)) o b d back other)
 
--- ---- budgets
+-- words that say another command do not say `sample`
+pub report_is_no_sample : (words : List Text) (n number budget : ℕ) → IsCommand words (Report n) → IsCommand words (Sample number budget) → ⊥
+report_is_no_sample words n number budget p q = let e = one_command words (Report n) (Sample number budget) p q in cc
 
-budget_bounds : (name : Text) (words : List Text) (n : ℕ) → SayName name words n → (1 ≤ n) × (n ≤ MAX_BUDGET)
-budget_bounds name words n (inl (e, d)) = (omega (arith, d), omega (arith, d))
-budget_bounds name words n (inr (text, writes, form)) = (writes.least, writes.most)
+pub certify_is_no_sample : (words : List Text) (n number budget : ℕ) → IsCommand words (Certify n) → IsCommand words (Sample number budget) → ⊥
+certify_is_no_sample words n number budget p q = let e = one_command words (Certify n) (Sample number budget) p q in cc
+
+pub check_is_no_sample : (words : List Text) (number budget : ℕ) → IsCommand words Check → IsCommand words (Sample number budget) → ⊥
+check_is_no_sample words number budget p q = let e = one_command words Check (Sample number budget) p q in cc
+
+-- ---- numbers
+
+budget_bounds : (plain words : List Text) (n : ℕ) → SayPlain plain words n → (1 ≤ n) × (n ≤ MAX_BUDGET)
+budget_bounds plain words n (inl (e, d)) = (omega (arith, d), omega (arith, d))
+budget_bounds plain words n (inr (text, writes, form)) = (writes.least, writes.most)
 
 pub report_bounds : (words : List Text) (n : ℕ) → IsCommand words (Report n) → (1 ≤ n) × (n ≤ MAX_BUDGET)
-report_bounds words n (program, rest, e, says) = budget_bounds (codes "report") rest n says
+report_bounds words n (program, rest, e, says) = budget_bounds (codes "report" ∷ []) rest n says
 
 pub certify_bounds : (words : List Text) (n : ℕ) → IsCommand words (Certify n) → (1 ≤ n) × (n ≤ MAX_BUDGET)
-certify_bounds words n (program, rest, e, says) = budget_bounds (codes "certify") rest n says
+certify_bounds words n (program, rest, e, says) = budget_bounds (codes "certify" ∷ []) rest n says
+
+pub sample_bounds : (words : List Text) (k n : ℕ) → IsCommand words (Sample k n) → ((1 ≤ k) × (k ≤ MAX_SAMPLE)) × ((1 ≤ n) × (n ≤ MAX_BUDGET))
+sample_bounds words k n (program, rest, e, (text, writes, says)) = ((writes.least, writes.most), budget_bounds (codes "sample" ∷ text ∷ []) rest n says)

@@ -20,15 +20,17 @@ use Rattle.crn_cert.specs.Formed.{AreFormed}
 use Rattle.crn_cert.specs.Valid.{AreValid}
 use Rattle.crn_cert.specs.Licensed.{AllTrueOrLicensed}
 use Rattle.crn_ctext.specs.Records.{Record}
-use Rattle.crn_ctext.specs.Documents.{Share, document2, share_of}
+use Rattle.crn_ctext.specs.Documents.{document2, share_of}
 use Rattle.crn_ctext.specs.Judged.{IsGood, IsFaultOf}
 use Rattle.crn_ctext.specs.Linked.{AreSound, records_of}
 use Rattle.crn_ctext.specs.Meaning.{meaning, verdicts_said}
+use Rattle.crn_sample.specs.Sample.{sample_text}
 use Rattle.crn_render.specs.Report.{render}
+use Rattle.crn_render.specs.Summary.{summary}
 use Rattle.crn_render.specs.Faults.{usage_line, fault_line, document_name}
 use Rattle.crn_run.specs.Words.{IsCommand, SayACommand}
 use Rattle.crn_run.specs.declared.words.Command.{Command}
-use Rattle.crn_run.specs.declared.words.Command.TheVariants.{Report, Certify, Check}
+use Rattle.crn_run.specs.declared.words.Command.TheVariants.{Report, Certify, Check, Sample}
 use Rattle.crn_run.specs.declared.status.Status.{Status}
 use Rattle.crn_run.specs.declared.status.Status.TheVariants.{Done, OpenLeft, Refused, Rejected, Usage, ReadFault, WriteFault, NoMemory}
 
@@ -74,6 +76,15 @@ pub record IsCertificateOf (budget : ℕ) (text out : List ℕ) (answers : List 
   pub written : out ≡ certificate net answers
   pub good : IsGood out
 
+-- the summary of the sample network of this number and of the verdicts of these answers, of which
+-- each decided one is valid; the document of the network and of the answers is a good one
+pub record IsSummaryOf (number budget : ℕ) (out : List ℕ) (answers : List Answer) : Type 0 where
+  pub net : Net
+  pub says : AreAnswersOf budget (sample_text number) net answers
+  pub valid : AreValid net [] built answers
+  pub written : out ≡ summary number net (verdicts_of answers)
+  pub good : IsGood (certificate net answers)
+
 -- the verdicts that the records of a document say of its network
 abbrev pub verdicts_in : Net → List (List Record) → List Verdict
 verdicts_in net answers = verdicts_said built (meaning.start net) answers
@@ -107,7 +118,7 @@ pub record IsRejectionOf (text out : List ℕ) : Type 0 where
   pub fault : IsFaultOf text line code
   pub written : out ≡ rejected_line code line
 
--- what a command writes for a text, by the status that the run ends with
+-- what a command writes for a text, by the status that the run ends with; `sample` for any text
 abbrev pub IsOutput : Command → Status → (text out : List ℕ) → Type 0
 IsOutput (Report budget) Refused text out = IsRefusalOf text out
 IsOutput (Report budget) status text out = (answers : List Answer) × AreLeftBy status answers
@@ -115,6 +126,8 @@ IsOutput (Report budget) status text out = (answers : List Answer) × AreLeftBy 
 IsOutput (Certify budget) Refused text out = IsRefusalOf text out
 IsOutput (Certify budget) status text out = (answers : List Answer) × AreLeftBy status answers
     × IsCertificateOf budget text out answers
+IsOutput (Sample number budget) status text out = (answers : List Answer) × AreLeftBy status answers
+    × IsSummaryOf number budget out answers
 IsOutput Check Done text out = IsCheckOf text out
 IsOutput Check Rejected text out = IsRejectionOf text out
 IsOutput Check status text out = ⊥
@@ -151,6 +164,7 @@ abbrev pub most_read : Command → ℕ
 most_read (Report budget) = MAX_TEXT + 1
 most_read (Certify budget) = MAX_TEXT + 1
 most_read Check = MAX_DOCUMENT + MAX_AHEAD
+most_read (Sample number budget) = 0
 
 -- how far the source was read, by the status that the run ends with: to its end, as far as a text
 -- goes, or no further than a document goes
@@ -158,6 +172,11 @@ abbrev pub IsReadFor : Status → Option (List ℕ) → Option (List ℕ) → Ty
 IsReadFor Refused left rest = IsReadUp left rest
 IsReadFor Rejected left rest = ConsumesUpTo (MAX_DOCUMENT + MAX_AHEAD) left rest
 IsReadFor status left rest = IsReadOut left rest
+
+-- how far a command read the source, by the status that the run ends with: `sample` not at all
+abbrev pub IsReadBy : Command → Status → Option (List ℕ) → Option (List ℕ) → Type 0
+IsReadBy (Sample number budget) status left rest = rest ≡ left
+IsReadBy command status left rest = IsReadFor status left rest
 
 -- no more was read than the command reads that the words say, so nothing if they say none
 abbrev pub IsReadWithin : List (List ℕ) → Option (List ℕ) → Option (List ℕ) → Type 0
@@ -167,11 +186,11 @@ IsReadWithin words left rest = ((command : Command) × IsCommand words command
 
 -- ---- how a run ends, by its status
 
--- the source was read for this status, and what the command writes for its text was written
+-- the command read the source for this status, and what it writes for its text was written
 pub record EndsWritten (status : Status) (words : List (List ℕ)) (old new : Devices) : Type 0 where
   pub command : Command
   pub said : IsCommand words command
-  pub read : IsReadFor status old.source.left new.source.left
+  pub read : IsReadBy command status old.source.left new.source.left
   pub within : IsReadWithin words old.source.left new.source.left
   pub source : new.source.faults ≡ old.source.faults
   pub text : List ℕ
@@ -198,7 +217,7 @@ pub record EndsReadFault (words : List (List ℕ)) (old new : Devices) : Type 0 
 -- this is the usage line
 abbrev pub IsReadForOutput : List (List ℕ) → Devices → Devices → (text out : List ℕ) → Type 0
 IsReadForOutput words old new text out = ((command : Command) × (status : Status)
-    × IsCommand words command × IsReadFor status old.source.left new.source.left
+    × IsCommand words command × IsReadBy command status old.source.left new.source.left
     × IsOutput command status text out)
     ⊎ ((SayACommand words → ⊥) × (new.source ≡ old.source) × (out ≡ usage_line))
 
@@ -246,6 +265,10 @@ AskOfNetwork P words old = (budget : ℕ)
 abbrev pub AskOfDocument : (List ℕ → Type 0) → List (List ℕ) → Devices → Type 0
 AskOfDocument P words old = IsCommand words Check × Shows P old
 
+-- the words say `sample`
+abbrev pub AskOfSample : List (List ℕ) → Type 0
+AskOfSample words = (number : ℕ) × (budget : ℕ) × IsCommand words (Sample number budget)
+
 -- the text spells a network
 abbrev pub IsSpelled : List ℕ → Type 0
 IsSpelled text = (net : Net) × Spells text net
@@ -268,6 +291,8 @@ pub record IsComplete (status : Status) (words : List (List ℕ)) (old new : Dev
       → (status ≡ Done) ⊎ (status ≡ NoMemory)
   pub rejected : HasNoFault old new → AskOfDocument IsFaultyDocument words old
       → (status ≡ Rejected) ⊎ (status ≡ NoMemory)
+  pub sampled : HasNoFault old new → AskOfSample words
+      → (status ≡ Done) ⊎ (status ≡ OpenLeft) ⊎ (status ≡ NoMemory)
   pub usage : HasNoFault old new → (SayACommand words → ⊥)
       → (status ≡ Usage) ⊎ (status ≡ NoMemory)
 

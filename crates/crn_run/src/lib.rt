@@ -6,10 +6,12 @@ mod network;
 mod output;
 mod runner;
 mod status;
+mod summary;
 #[cfg(test)]
 mod tests;
 mod words;
 
+pub use crn_sample::sample;
 pub use crn_vec::{DEFAULT_BUDGET, MAX_BUDGET, MAX_BUDGET_DIGITS};
 pub use laws::{
     quiet_devices_meet_no_fault, what_may_be_written_is_one_text, words_say_one_command,

@@ -8,7 +8,7 @@ ghost use Rattle.crn_cert.specs.Valid.{AreValid};
 ghost use Rattle.crn_cert.specs.Shares.{share_of as share_of_answers};
 ghost use Rattle.crn_cert.specs.TreeSizes.{HaveFewNodes};
 ghost use Rattle.crn_io.specs.declared.lines.TheConstants.{MAX_SHARED};
-ghost use Rattle.crn_ctext.specs.Documents.{share_of};
+ghost use Rattle.crn_ctext.specs.Documents.{FitsShare, share_of};
 ghost use Rattle.crn_ctext.specs.Shares.{as_share};
 ghost use Rattle.crn_ctext.specs.Judged.{IsGood};
 ghost use Rattle.crn_ctext.specs.Linked.{records_of};
@@ -96,8 +96,8 @@ fn has_open(answers: &Answers) -> bool
     false
 }
 
-// The status of a run that wrote these answers.
-fn status_of(answers: &Answers) -> Status
+/// The status of a run that wrote these answers.
+pub(crate) fn status_of(answers: &Answers) -> Status
     ensures { AreLeftBy result answers.now }
 {
     if has_open(answers) {
@@ -128,14 +128,16 @@ pub(crate) fn report<K: Sink>(alloc: Global, net: &Network, budget: u32, sink: &
     }
 }
 
-// What is written for a network and valid answers to its questions, with the share of the answers, is a good document
-// if no tree of theirs has more nodes than a budget may allow.
-fn certificate_is_good(net: &Network, answers: &Answers)
+/// What is written for a network and valid answers to its questions, with the share of the answers, is a good document
+/// if no tree of theirs has more nodes than a budget may allow.
+pub(crate) fn certificate_is_good(net: &Network, answers: &Answers)
     requires formed { AreFormed net.now [] built answers.now }
     requires valid { AreValid net.now [] built answers.now }
     requires few { HaveFewNodes MAX_BUDGET answers.now }
     ensures share { share_of (records_of net.now answers.now)
         ≡ as_share (share_of_answers MAX_SHARED answers.now) }
+    ensures fits { FitsShare (records_of net.now answers.now)
+        (share_of (records_of net.now answers.now)) }
     ensures good { IsGood (certificate net.now answers.now) }
 {
     let _ = net.species();

@@ -4,11 +4,12 @@ ghost use Rattle.crn_io.specs.Device.{SinkSeen};
 ghost use Rattle.crn_run.specs.Inner.Steps.{StopGives};
 ghost use Rattle.crn_run.specs.Run.{IsComplete, RunGives};
 ghost use Rattle.crn_run.specs.Words.{IsCommand, SayACommand};
-ghost use Rattle.crn_run.specs.declared.words.Command.TheVariants.{Report, Certify, Check};
+ghost use Rattle.crn_run.specs.declared.words.Command.TheVariants.{Report, Certify, Check, Sample};
 
 use crate::network::{Stop, read_network};
 use crate::output;
 use crate::status::Status;
+use crate::summary::summarize_sample;
 use crate::words::{Command, command_of};
 use crn_cert::formed_answers_have_formed_verdicts;
 use crn_ctext::{answers_are_as_their_records, good_documents_are_read};
@@ -32,11 +33,16 @@ pub fn run<S: Source, K: Sink>(
         (record { source = S.seen source.old; sink = K.seen sink.old })
         (record { source = S.seen source.new; sink = K.seen sink.new }) }
     ensures unread { (SayACommand (map string_bytes words.now) → ⊥) → source.new ≡ source.old }
+    ensures untouched { (number budget : ℕ) →
+        IsCommand (map string_bytes words.now) (Sample number budget) → source.new ≡ source.old }
 {
     match command_of(alloc, words) {
         Ok(Some(Command::Report { budget })) => report(alloc, budget, source, sink),
         Ok(Some(Command::Certify { budget })) => certify(alloc, budget, source, sink),
         Ok(Some(Command::Check)) => check(alloc, source, sink),
+        Ok(Some(Command::Sample { number, budget })) => {
+            summarize_sample(alloc, number, budget, sink)
+        }
         Ok(None) => output::usage(sink),
         Err(_) => Status::NoMemory,
     }

@@ -1,23 +1,25 @@
-ghost use Rattle.std.specs.Prelude.{◌≡◌, ℕ, List, IfOk, MatchOption, map, drop, string_bytes};
+ghost use Rattle.std.specs.Prelude.{◌≡◌, ℕ, List, IfOk, MatchOption, None, Some, map, drop, string_bytes};
 ghost use Rattle.std.specs.List.{list_any};
 ghost use Rattle.clap.specs.Words.{app_of};
 ghost use Rattle.crn_run.specs.Inner.Parse.{IsRead, Gives, Means, MeansBudget, crnt_app, is_two_dashes, text_in};
-ghost use Rattle.crn_run.specs.Words.{IsBudget, IsCommand};
+ghost use Rattle.crn_run.specs.Words.{IsCommand, IsNumberWithin};
 ghost use Rattle.crn_run.specs.declared.words.Command.{Command};
 
 use clap::error::ErrorKind;
 use clap::{Arg, ArgAction};
+use crn_sample::{MAX_SAMPLE, MAX_SAMPLE_DIGITS};
 use crn_vec::{DEFAULT_BUDGET, MAX_BUDGET, MAX_BUDGET_DIGITS};
 use std::alloc::{AllocError, Global};
 
 /// What the words of a command line ask for.
 ///
-/// `budget` bounds the visits of each search.
+/// `budget` bounds the visits of each search, and `number` is that of a sample network, from 1 to 19.
 #[derive(Clone, Copy, Debug, PartialEq, Eq)]
 pub enum Command {
     Report { budget: u32 },
     Certify { budget: u32 },
     Check,
+    Sample { number: u32, budget: u32 },
 }
 
 /// The command that the words say, or none if they say none. Takes memory.
@@ -102,19 +104,48 @@ fn command_meant(said: &Said<'_>) -> Option<Command>
         ((c : Command) → Means command count budget c → ⊥)
         (Means command count budget) }
 {
-    if said.count.is_some() {
-        return None;
+    match said.count {
+        Some(count) => counted_meant(said.command, count, said.budget),
+        None => named_meant(said.command, said.budget),
     }
-    match said.command {
+}
+
+// The command that a name and a budget mean, without a count.
+fn named_meant(command: Option<&str>, budget: Option<&str>) -> Option<Command>
+    ensures { let name = text_in command.entry in
+        let word = text_in budget.entry in
+        MatchOption result
+        ((c : Command) → Means name None word c → ⊥)
+        (Means name None word) }
+{
+    match command {
         Some("report") => {
-            let budget = budget_meant(said.budget)?;
+            let budget = budget_meant(budget)?;
             Some(Command::Report { budget })
         }
         Some("certify") => {
-            let budget = budget_meant(said.budget)?;
+            let budget = budget_meant(budget)?;
             Some(Command::Certify { budget })
         }
-        Some("check") if said.budget.is_none() => Some(Command::Check),
+        Some("check") if budget.is_none() => Some(Command::Check),
+        _ => None,
+    }
+}
+
+// The command that a name, a count and a budget mean.
+fn counted_meant(command: Option<&str>, count: &str, budget: Option<&str>) -> Option<Command>
+    ensures { let name = text_in command.entry in
+        let word = text_in budget.entry in
+        MatchOption result
+        ((c : Command) → Means name (Some count.now) word c → ⊥)
+        (Means name (Some count.now) word) }
+{
+    match command {
+        Some("sample") => {
+            let number = number_within(count, MAX_SAMPLE_DIGITS, MAX_SAMPLE)?;
+            let budget = budget_meant(budget)?;
+            Some(Command::Sample { number, budget })
+        }
         _ => None,
     }
 }
@@ -125,21 +156,22 @@ fn budget_meant(word: Option<&str>) -> Option<u32>
         MatchOption result ((b : ℕ) → MeansBudget text b → ⊥) (MeansBudget text) }
 {
     match word {
-        Some(digits) => budget_of(digits),
+        Some(digits) => number_within(digits, MAX_BUDGET_DIGITS, MAX_BUDGET),
         None => Some(DEFAULT_BUDGET),
     }
 }
 
-// The budget that digits write.
-fn budget_of(digits: &str) -> Option<u32>
-    ensures { MatchOption result ((b : ℕ) → IsBudget digits.now b → ⊥)
-        (λ b. IsBudget digits.now b) }
+// The number that digits write, if they are not more than so many and it is from 1 to the greatest.
+fn number_within(digits: &str, most_digits: usize, greatest: u32) -> Option<u32>
+    ensures { MatchOption result
+        ((n : ℕ) → IsNumberWithin most_digits greatest digits.now n → ⊥)
+        (IsNumberWithin most_digits greatest digits.now) }
 {
-    if digits.len() > MAX_BUDGET_DIGITS || digits.as_bytes().first() == Some(&b'+') {
+    if digits.len() > most_digits || digits.as_bytes().first() == Some(&b'+') {
         return None;
     }
     match digits.parse::<u32>() {
-        Ok(budget) if 1 <= budget && budget <= MAX_BUDGET => Some(budget),
+        Ok(number) if 1 <= number && number <= greatest => Some(number),
         _ => None,
     }
 }

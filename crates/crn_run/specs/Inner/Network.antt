@@ -1,12 +1,11 @@
 -- For the contracts of private functions alone.
 -- What reading a network does, by its answer.
 use Rattle.std.specs.Prelude.{◌≡◌, ◌≤◌, ◌+◌, ℕ, List, Result, Ok, Err, IfSome}
-use Rattle.crn_vec.specs.Network.{Net, IsNetwork}
+use Rattle.crn_vec.specs.Network.{Net}
 use Rattle.crn_vec.specs.declared.limits.TheConstants.{MAX_TEXT}
 use Rattle.crn_io.specs.Device.{SourceSeen, Rose}
 use Rattle.crn_io.specs.Read.{ConsumesUpTo}
 use Rattle.crn_text.specs.Spells.{Spells, Fault as IsFault}
-use Rattle.crn_text.specs.declared.fault.TextCode.{TextCode}
 use Rattle.crn_run.specs.Run.{IsReadOut, IsReadUp}
 use Rattle.crn_run.specs.declared.network.Stop.{Stop}
 use Rattle.crn_run.specs.declared.network.Stop.TheVariants.{Fault, Failed, NoMemory}

@@ -7,9 +7,9 @@ use Rattle.std.specs.Borrow.{Bor}
 use Rattle.clap.specs.Words.{App, fault_of, first_of, matches_of, new_app, new_rule, with_rule}
 use Rattle.clap.specs.declared.builder.action.ArgAction.TheVariants.{Set}
 use Rattle.crn_vec.specs.declared.limits.TheConstants.{DEFAULT_BUDGET}
-use Rattle.crn_run.specs.Words.{IsBudget}
+use Rattle.crn_run.specs.Words.{IsBudget, IsSampleNumber}
 use Rattle.crn_run.specs.declared.words.Command.{Command}
-use Rattle.crn_run.specs.declared.words.Command.TheVariants.{Report, Certify, Check}
+use Rattle.crn_run.specs.declared.words.Command.TheVariants.{Report, Certify, Check, Sample}
 
 -- the one command that clap reads: a positional `command` that is required, a positional `count`, and an option `--budget`
 unfoldable pub crnt_app : App
@@ -42,6 +42,11 @@ abbrev pub MeansBudget : Option (List ℕ) → ℕ → Type 0
 MeansBudget None budget = budget ≡ DEFAULT_BUDGET
 MeansBudget (Some text) budget = IsBudget text budget
 
+-- the number of a sample that a word writes
+abbrev pub MeansNumber : Option (List ℕ) → ℕ → Type 0
+MeansNumber None number = ⊥
+MeansNumber (Some text) number = IsSampleNumber text number
+
 -- the values are this name, no count, and a word that writes this budget, or none for the default
 abbrev pub MeansName : List ℕ → Option (List ℕ) → Option (List ℕ) → Option (List ℕ) → ℕ → Type 0
 MeansName name command count word budget = (command ≡ Some name) × (count ≡ None)
@@ -52,3 +57,5 @@ abbrev pub Means : Option (List ℕ) → Option (List ℕ) → Option (List ℕ)
 Means command count word (Report budget) = MeansName (codes "report") command count word budget
 Means command count word (Certify budget) = MeansName (codes "certify") command count word budget
 Means command count word Check = (command ≡ Some (codes "check")) × (count ≡ None) × (word ≡ None)
+Means command count word (Sample number budget) = (command ≡ Some (codes "sample"))
+    × MeansNumber count number × MeansBudget word budget

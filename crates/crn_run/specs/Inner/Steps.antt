@@ -8,7 +8,7 @@ use Rattle.crn_io.specs.Write.{WroteAll, WrotePrefix}
 use Rattle.crn_text.specs.Spells.{Spells}
 use Rattle.crn_run.specs.Run.{IsOutput, refused_line}
 use Rattle.crn_run.specs.declared.words.Command.{Command}
-use Rattle.crn_run.specs.declared.words.Command.TheVariants.{Report, Certify, Check}
+use Rattle.crn_run.specs.declared.words.Command.TheVariants.{Report, Certify, Check, Sample}
 use Rattle.crn_run.specs.declared.status.Status.{Status}
 use Rattle.crn_run.specs.declared.status.Status.TheVariants.{Refused, ReadFault, WriteFault}
 use Rattle.crn_run.specs.declared.status.Status.TheVariants as status_is
@@ -40,6 +40,7 @@ abbrev pub ReadsNetwork : Command → Type 0
 ReadsNetwork (Report budget) = (1 ≤ budget) × (budget ≤ MAX_BUDGET)
 ReadsNetwork (Certify budget) = (1 ≤ budget) × (budget ≤ MAX_BUDGET)
 ReadsNetwork Check = ⊥
+ReadsNetwork (Sample number budget) = ⊥
 
 -- ending a run that read no network
 abbrev pub StopGives : Stop → Status → SinkSeen → SinkSeen → Type 0

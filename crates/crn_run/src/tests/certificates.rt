@@ -1,5 +1,5 @@
 // Certificates, and what `check` says of them.
-use super::reports::{ELEVEN, NINE, THROUGH, TWELVE};
+use super::reports::{ELEVEN, NINE, THROUGH, TWELVE, TWO_SITES};
 use super::runs::{ends_so, has_in_turn, run_on};
 use crate::Status;
 use std::process::Abort;
@@ -17,7 +17,7 @@ const STARTS: &[(&str, &str, &str, &[&str])] = &[
             "\nsection dependence\nq7 yes\nvec ",
             "\nq8 yes\nvec ",
             "\nsection theorems\nq9 yes 1\nq10 yes\nsection confluence\nq11 yes\nside 1 0 1\nq12 none zero\ntie ",
-            "\nsection concordance\nq14 yes\nsplit\nsplit\nflat\nref",
+            "\nq13 none\nsection concordance\nq14 yes\nsplit\nsplit\nflat\nref",
             "\nq15 yes\nsplit\nsplit\nflat\nref",
         ],
     ),
@@ -31,7 +31,7 @@ const STARTS: &[(&str, &str, &str, &[&str])] = &[
             "\nq6 0 0\nbase 1\ndual ",
             "\nsection dependence\nq7 no\ncut ",
             "\nq8 yes\nvec ",
-            "\nsection theorems\nq9 yes 0\nq10 yes\nsection confluence\nq11 no dependence\nq12 none regular\nsection concordance\nq14 yes\nsplit\nsplit\nflat\nref",
+            "\nsection theorems\nq9 yes 0\nq10 yes\nsection confluence\nq11 no dependence\nq12 none regular\nq13 none\nsection concordance\nq14 yes\nsplit\nsplit\nflat\nref",
             "\nq15 yes\nsplit\nsplit\nflat\nref",
         ],
     ),
@@ -46,7 +46,7 @@ const STARTS: &[(&str, &str, &str, &[&str])] = &[
             "\nsection dependence\nq7 yes\nvec ",
             "\nq8 no\ncut ",
             "\nsection theorems\nq9 yes 1\nq10 yes\nsection confluence\nq11 yes\nside 1 0 1\nq12 none zero\ntie ",
-            "\nsection concordance\nq14 yes\nsplit\nsplit\nflat\nref",
+            "\nq13 none\nsection concordance\nq14 yes\nsplit\nsplit\nflat\nref",
             "\nq15 yes\nsplit\nsplit\nflat\nref",
         ],
     ),
@@ -57,6 +57,8 @@ const STARTS: &[(&str, &str, &str, &[&str])] = &[
         &[
             "\nsection confluence\nq11 yes\nside 1 0 1 1\nside 3 0 0 1\nq12 yes\nvec 1 -2 1\ntie ",
             "\ntie ",
+            "\nq13 no\nsplit\nflat\nrefa ",
+            "\nsplit\nflat\nrefa ",
             "\nsection concordance\nq14 no\nalpha ",
             "\nweights ",
             "\nq15 yes\nsplit\nsplit\nflat\nref",
@@ -89,10 +91,12 @@ fn a_text_with_a_fault_is_not_certified(rt: HostRuntime) {
 
 const ROUNDS: &[&str] = &[
     "A -> B",
+    "A <-> B",
+    "A+A->B\r\n2A -> B\r\n",
     "A <-> B -> C <- D",
     "0 <-> A\nA -> B\n2A + B -> 3A\n",
     "A -> 2A\nA -> 0\n",
-    "A <-> 2A\nA + B <-> C\nC <-> B\n",
+    EDELSTEIN,
     "2A <-> A + B\nA + B <-> 2B\n",
     "A -> B\nB -> C\nC -> A\n",
     NINE,
@@ -101,7 +105,7 @@ const ROUNDS: &[&str] = &[
     THROUGH,
     "A -> B\nB -> A\nC -> 2C\n2C -> C\n",
     "  3X+2Y<->  0 # x",
-    "S0 + K <-> KS0\nKS0 -> S1 + K\nS1 + K <-> KS1\nKS1 -> S2 + K\nS2 + F <-> FS2\nFS2 -> S1 + F\nS1 + F <-> FS1\nFS1 -> S0 + F\n",
+    TWO_SITES,
 ];
 
 // Whether the certificate of a network is accepted with the network's own report.
@@ -124,11 +128,72 @@ fn what_is_certified_is_accepted_with_its_report(rt: HostRuntime) {
     }
 }
 
+#[test]
+fn a_certificate_of_open_searches_is_accepted(rt: HostRuntime) {
+    let (status, sink) = run_on(&rt, "crnt certify --budget 1", TWO_SITES.as_bytes(), 65_536);
+    assert_eq!(rt; status, Status::OpenLeft);
+    let (checked, _) = run_on(&rt, "crnt check", sink.bytes(), 65_536);
+    assert_eq!(rt; checked, Status::Done);
+}
+
+// Edelstein's network, whose confluence vector has a signal only for its negative.
+const EDELSTEIN: &str = "A <-> 2A\nA + B <-> C\nC <-> B\n";
+
+// Each row: the answer to question 13 in place of that of the network's certificate, worked out by hand, and the fault at
+// its last line, if it has one.
+const SIGNALS: &[(&str, Option<&str>)] = &[
+    (
+        "q13 yes -1\nshelves 1 -1\nmu 6 -2 2\nm 5\nweights 1 0 0 0 0 1\n",
+        None,
+    ),
+    (
+        "q13 yes -1\nshelves 1 -1\nmu 6 -2 2\nm 6\nweights 1 0 0 0 0 1\n",
+        Some("45 BadEvidence"),
+    ),
+    (
+        "q13 yes 1\nshelves 1 -1\nmu 6 -2 2\nm 5\nweights 1 0 0 0 0 1\n",
+        Some("45 BadEvidence"),
+    ),
+];
+
+// The certificate of a network up to question 13, this answer to it, and the rest.
+fn with_signal(rt: &(impl Abort + AllocGlobal), text: &str, answer: &str) -> (String, usize) {
+    let (_, sink) = run_on(rt, "crnt certify", text.as_bytes(), 65_536);
+    let certificate = std::str::from_utf8(sink.bytes()).unwrap_or("");
+    let (before, rest) = certificate.split_once("\nq13 ").unwrap_or(("", ""));
+    let (_, after) = rest.split_once("\nsection ").unwrap_or(("", ""));
+    let document = format!(in rt.alloc(); "{before}\n{answer}section {after}").expect(rt, "memory");
+    let lines = before.lines().count().wrapping_add(answer.lines().count());
+    (document, lines)
+}
+
+// Whether a document with this answer to question 13 is accepted, or rejected at the last line of the answer.
+fn is_judged(rt: &(impl Abort + AllocGlobal), answer: &str, fault: Option<&str>) -> bool {
+    let (document, last) = with_signal(rt, EDELSTEIN, answer);
+    let (status, sink) = run_on(rt, "crnt check", document.as_bytes(), 65_536);
+    match fault {
+        None => status == Status::Done,
+        Some(name) => {
+            let want = format!(in rt.alloc(); "rejected {name} at line {last}\n").expect(
+                rt, "memory",
+            );
+            status == Status::Rejected && sink.bytes() == want.as_bytes()
+        }
+    }
+}
+
+#[test]
+fn a_signal_is_accepted_if_it_is_one_for_its_vector(rt: HostRuntime) {
+    for (answer, fault) in SIGNALS {
+        assert!(rt; is_judged(&rt, answer, *fault), "{answer}");
+    }
+}
+
 // Each row: a text, its answers to questions 14 and 15 in place of those of its certificate, and the end of the report.
 // The pairs were worked out by hand.
 const OTHER_ANSWERS: &[(&str, &str, &str)] = &[
     (
-        "A <-> 2A\nA + B <-> C\nC <-> B\n",
+        EDELSTEIN,
         "q14 no\nalpha 3 1 3 1 1 -1\nweights 1 0 0 0 0 1\nq15 open budget 1\nend\n",
         "\nQ14 concordant: no\n  sigma: 1 -1 1\n  alpha: 3 1 3 1 1 -1\nQ15 strongly concordant: open, budget 1\nopen: 1\n",
     ),
@@ -138,7 +203,7 @@ const OTHER_ANSWERS: &[(&str, &str, &str)] = &[
         "\nQ14 concordant: no\n  sigma: 1\n  alpha: 1 1\nQ15 strongly concordant: open, budget 100000\nopen: 1\n",
     ),
     (
-        "S0 + K <-> KS0\nKS0 -> S1 + K\nS1 + K <-> KS1\nKS1 -> S2 + K\nS2 + F <-> FS2\nFS2 -> S1 + F\nS1 + F <-> FS1\nFS1 -> S0 + F\n",
+        TWO_SITES,
         "q14 open budget 1\nq15 open budget 1\nend\n",
         "\nQ14 concordant: open, budget 1\nQ15 strongly concordant: open, budget 1\nopen: 2\n",
     ),

@@ -5,10 +5,10 @@ use std::process::Abort;
 
 // The document of `A <-> B -> C` in version 2.
 const DOCUMENT: &str =
-    "crn certificate 2\nnetwork 3\nA -> B\nB -> A\nB -> C\nvectors 0\nsection graph\nq1 1\nlabel 1 1 1\nup 0 1 3\ndepth 0 1 2\nq2 2 1\nlabel 1 1 2\nfrom 0 1 0\nfromdepth 0 1 0\nto 0 2 0\ntodepth 0 1 0\nlevel 1 0\nexit 3 0\nq3 no 3\nq4 no 3\nsection rank\nq5 2\nbase 1 3\ndual 1 0 0\ndual 0 0 1\ncomb 1 -1 0\nq6 0 0\nbase 1 3\ndual 1 0 0\ndual 0 0 1\ncomb 1 -1 0\nsection dependence\nq7 no\ncut 1 1 0\nq8 yes\nvec 1 1 1\nsection theorems\nq9 yes 0\nq10 yes\nsection confluence\nq11 no dependence\nq12 none regular\nsection concordance\nq14 yes\nsplit\nsplit\nsplit\nflat\ncutb 1 1 1\ncuta -1 1 0\nsplit\ncuta 1 0 0\ncuta 1 1 0\ncuta 1 -1 0\nq15 yes\nsplit\nsplit\nsplit\nflat\ncuta 0 -1 0\ncuta -1 0 0\nsplit\ncuta 1 0 0\nsplit\ncuta 1 1 0\ncutb 1 1 1\ncuta 1 1 0\ncuta 1 0 0\nend\n";
+    "crn certificate 2\nnetwork 3\nA -> B\nB -> A\nB -> C\nvectors 0\nsection graph\nq1 1\nlabel 1 1 1\nup 0 1 3\ndepth 0 1 2\nq2 2 1\nlabel 1 1 2\nfrom 0 1 0\nfromdepth 0 1 0\nto 0 2 0\ntodepth 0 1 0\nlevel 1 0\nexit 3 0\nq3 no 3\nq4 no 3\nsection rank\nq5 2\nbase 1 3\ndual 1 0 0\ndual 0 0 1\ncomb 1 -1 0\nq6 0 0\nbase 1 3\ndual 1 0 0\ndual 0 0 1\ncomb 1 -1 0\nsection dependence\nq7 no\ncut 1 1 0\nq8 yes\nvec 1 1 1\nsection theorems\nq9 yes 0\nq10 yes\nsection confluence\nq11 no dependence\nq12 none regular\nq13 none\nsection concordance\nq14 yes\nsplit\nsplit\nsplit\nflat\ncutb 1 1 1\ncuta -1 1 0\nsplit\ncuta 1 0 0\ncuta 1 1 0\ncuta 1 -1 0\nq15 yes\nsplit\nsplit\nsplit\nflat\ncuta 0 -1 0\ncuta -1 0 0\nsplit\ncuta 1 0 0\nsplit\ncuta 1 1 0\ncutb 1 1 1\ncuta 1 1 0\ncuta 1 0 0\nend\n";
 
 const REPORT_OF_DOCUMENT: &[u8] =
-    b"crn report 1\nspecies 3: A B C\ncomplexes 3: A; B; C\nreactions 3\nQ1 linkage classes: 1\n  class 1: A; B; C\nQ2 strong classes: 2, terminal 1\n  strong 1: A; B\n  strong 2: C (terminal)\nQ3 reversible: no\n  reaction 3: B -> C\nQ4 weakly reversible: no\n  reaction 3: B -> C\nQ5 rank: 2\n  independent reactions: 1 3\nQ6 deficiency: 0, classes 0\nQ7 positively dependent: no\n  multipliers: 1 1 0\nQ8 conservative: yes\n  positive law: 1 1 1\nQ9 deficiency zero theorem: hypotheses hold, not weakly reversible\nQ10 deficiency one theorem: hypotheses hold\nQ11 regular: no, not positively dependent\nQ12 confluence vector: not applicable, not regular\nQ14 concordant: yes\nQ15 strongly concordant: yes\nopen: 0\n";
+    b"crn report 1\nspecies 3: A B C\ncomplexes 3: A; B; C\nreactions 3\nQ1 linkage classes: 1\n  class 1: A; B; C\nQ2 strong classes: 2, terminal 1\n  strong 1: A; B\n  strong 2: C (terminal)\nQ3 reversible: no\n  reaction 3: B -> C\nQ4 weakly reversible: no\n  reaction 3: B -> C\nQ5 rank: 2\n  independent reactions: 1 3\nQ6 deficiency: 0, classes 0\nQ7 positively dependent: no\n  multipliers: 1 1 0\nQ8 conservative: yes\n  positive law: 1 1 1\nQ9 deficiency zero theorem: hypotheses hold, not weakly reversible\nQ10 deficiency one theorem: hypotheses hold\nQ11 regular: no, not positively dependent\nQ12 confluence vector: not applicable, not regular\nQ13 signal: not applicable\nQ14 concordant: yes\nQ15 strongly concordant: yes\nopen: 0\n";
 
 // Whether a document is accepted with this report.
 fn is_accepted(rt: &(impl Abort + AllocGlobal), text: &str, report: &[u8]) -> bool {
@@ -321,85 +321,96 @@ const FAULTS: &[(&str, &str, &str)] = &[
         "q12 open rests 7",
         "rejected 24 BadField at line 43\n",
     ),
+    ("q13 none\n", "", "rejected 26 WrongOrder at line 44\n"),
+    (
+        "q13 none",
+        "q13 no",
+        "rejected 37 WrongVerdict at line 44\n",
+    ),
+    (
+        "q13 none",
+        "q13 open budget 0",
+        "rejected 24 BadField at line 44\n",
+    ),
     (
         "section concordance\n",
         "",
-        "rejected 26 WrongOrder at line 44\n",
+        "rejected 26 WrongOrder at line 45\n",
     ),
     (
         "section concordance",
         "section confluence",
-        "rejected 24 BadField at line 44\n",
+        "rejected 24 BadField at line 45\n",
     ),
-    ("q14 yes", "q15 yes", "rejected 26 WrongOrder at line 45\n"),
-    ("q14 yes", "q14 yes 1", "rejected 24 BadField at line 45\n"),
+    ("q14 yes", "q15 yes", "rejected 26 WrongOrder at line 46\n"),
+    ("q14 yes", "q14 yes 1", "rejected 24 BadField at line 46\n"),
     (
         "q14 yes",
         "q14 open rests 5",
-        "rejected 24 BadField at line 45\n",
+        "rejected 24 BadField at line 46\n",
     ),
     (
         "q14 yes",
         "q14 open budget 0",
-        "rejected 24 BadField at line 45\n",
+        "rejected 24 BadField at line 46\n",
     ),
     (
         "q14 yes",
         "q14 open budget 100001",
-        "rejected 24 BadField at line 45\n",
+        "rejected 24 BadField at line 46\n",
     ),
     (
         "q14 yes",
         "q14 open wide 1 0 1 1 2 3",
-        "rejected 24 BadField at line 45\n",
+        "rejected 24 BadField at line 46\n",
     ),
     // what follows an open head is no tree's
     (
         "q14 yes",
         "q14 open budget 1",
-        "rejected 26 WrongOrder at line 46\n",
+        "rejected 26 WrongOrder at line 47\n",
     ),
-    ("flat", "split", "rejected 42 NodeNotAllowed at line 49\n"),
+    ("flat", "split", "rejected 42 NodeNotAllowed at line 50\n"),
     (
         "cutb 1 1 1",
         "cutb 1 1",
-        "rejected 24 BadField at line 50\n",
+        "rejected 24 BadField at line 51\n",
     ),
-    ("cutb 1 1 1", "refb 1", "rejected 24 BadField at line 50\n"),
+    ("cutb 1 1 1", "refb 1", "rejected 24 BadField at line 51\n"),
     (
         "cutb 1 1 1",
         "cutb 1 1 2",
-        "rejected 41 BadLeaf at line 50\n",
+        "rejected 41 BadLeaf at line 51\n",
     ),
     (
         "cuta -1 1 0",
         "flat",
-        "rejected 42 NodeNotAllowed at line 51\n",
+        "rejected 42 NodeNotAllowed at line 52\n",
     ),
     (
         "cuta 1 -1 0\nq15 yes\n",
         "q15 yes\n",
-        "rejected 43 TreeEndsEarly at line 55\n",
+        "rejected 43 TreeEndsEarly at line 56\n",
     ),
     (
         "q15 yes\n",
         "cutb 1 1 1\nq15 yes\n",
-        "rejected 44 TreeGoesOn at line 56\n",
+        "rejected 44 TreeGoesOn at line 57\n",
     ),
     (
         "cuta 1 0 0\nend\n",
         "end\n",
-        "rejected 43 TreeEndsEarly at line 69\n",
+        "rejected 43 TreeEndsEarly at line 70\n",
     ),
     (
         "end\n",
         "cuta 1 0 0\nend\n",
-        "rejected 44 TreeGoesOn at line 70\n",
+        "rejected 44 TreeGoesOn at line 71\n",
     ),
-    ("end\n", "End\n", "rejected 23 UnknownWord at line 70\n"),
-    ("end\n", "", "rejected 27 EndsEarly at line 70\n"),
-    ("end\n", "end", "rejected 27 EndsEarly at line 70\n"),
-    ("end\n", "end\n\n", "rejected 28 AfterEnd at line 71\n"),
+    ("end\n", "End\n", "rejected 23 UnknownWord at line 71\n"),
+    ("end\n", "", "rejected 27 EndsEarly at line 71\n"),
+    ("end\n", "end", "rejected 27 EndsEarly at line 71\n"),
+    ("end\n", "end\n\n", "rejected 28 AfterEnd at line 72\n"),
 ];
 
 #[test]
@@ -429,18 +440,18 @@ fn joined(rt: &(impl Abort + AllocGlobal), first: &str, second: &str) -> String 
 const ANSWERS: &[(&str, &str, &str)] = &[
     (
         "decided",
-        "q5 1\nbase 1\ndual -1 0\ncomb 1 -1\nq6 0 0\nbase 1\ndual -1 0\ncomb 1 -1\nq7 yes\nvec 1 1\nq8 yes\nvec 1 1\nq9 yes 1\nq10 yes\nq11 yes\nside 1 0 1\nq12 none zero\ntie 1 0 0\ntie 0 1 0\nq14 yes\nsplit\nsplit\nflat\ncuta 0 1\nsplit\ncuta 1 0\ncutb 1 1\ncuta 1 0\nq15 yes\nsplit\nsplit\nflat\ncuta 0 1\nsplit\ncuta 1 0\ncutb 1 1\ncuta 1 0\nend\n",
-        "Q5 rank: 1\n  independent reactions: 1\nQ6 deficiency: 0, classes 0\nQ7 positively dependent: yes\n  positive combination: 1 1\nQ8 conservative: yes\n  positive law: 1 1\nQ9 deficiency zero theorem: hypotheses hold, weakly reversible\nQ10 deficiency one theorem: hypotheses hold\nQ11 regular: yes\nQ12 confluence vector: not applicable, no vector but zero\nQ14 concordant: yes\nQ15 strongly concordant: yes\nopen: 0\n",
+        "q5 1\nbase 1\ndual -1 0\ncomb 1 -1\nq6 0 0\nbase 1\ndual -1 0\ncomb 1 -1\nq7 yes\nvec 1 1\nq8 yes\nvec 1 1\nq9 yes 1\nq10 yes\nq11 yes\nside 1 0 1\nq12 none zero\ntie 1 0 0\ntie 0 1 0\nq13 none\nq14 yes\nsplit\nsplit\nflat\ncuta 0 1\nsplit\ncuta 1 0\ncutb 1 1\ncuta 1 0\nq15 yes\nsplit\nsplit\nflat\ncuta 0 1\nsplit\ncuta 1 0\ncutb 1 1\ncuta 1 0\nend\n",
+        "Q5 rank: 1\n  independent reactions: 1\nQ6 deficiency: 0, classes 0\nQ7 positively dependent: yes\n  positive combination: 1 1\nQ8 conservative: yes\n  positive law: 1 1\nQ9 deficiency zero theorem: hypotheses hold, weakly reversible\nQ10 deficiency one theorem: hypotheses hold\nQ11 regular: yes\nQ12 confluence vector: not applicable, no vector but zero\nQ13 signal: not applicable\nQ14 concordant: yes\nQ15 strongly concordant: yes\nopen: 0\n",
     ),
     (
         "open",
-        "q5 open wide 1 0 1 1 2\nq6 open rests 5\nq7 open wide 2 0 1 1 2\nq8 open wide 1 0 1 1 2\nq9 open rests 5\nq10 open rests 6\nq11 open rests 7\nq12 open rests 11\nq14 open budget 1\nq15 open budget 1\nend\n",
-        "Q5 rank: open, wide\n  system 1\n  index 1\n  basis: 1 2\nQ6 deficiency: open, rests on Q5\nQ7 positively dependent: open, wide\n  system 2\n  index 1\n  basis: 1 2\nQ8 conservative: open, wide\n  system 1\n  index 1\n  basis: 1 2\nQ9 deficiency zero theorem: open, rests on Q5\nQ10 deficiency one theorem: open, rests on Q6\nQ11 regular: open, rests on Q7\nQ12 confluence vector: open, rests on Q11\nQ14 concordant: open, budget 1\nQ15 strongly concordant: open, budget 1\nopen: 10\n",
+        "q5 open wide 1 0 1 1 2\nq6 open rests 5\nq7 open wide 2 0 1 1 2\nq8 open wide 1 0 1 1 2\nq9 open rests 5\nq10 open rests 6\nq11 open rests 7\nq12 open rests 11\nq13 open rests 12\nq14 open budget 1\nq15 open budget 1\nend\n",
+        "Q5 rank: open, wide\n  system 1\n  index 1\n  basis: 1 2\nQ6 deficiency: open, rests on Q5\nQ7 positively dependent: open, wide\n  system 2\n  index 1\n  basis: 1 2\nQ8 conservative: open, wide\n  system 1\n  index 1\n  basis: 1 2\nQ9 deficiency zero theorem: open, rests on Q5\nQ10 deficiency one theorem: open, rests on Q6\nQ11 regular: open, rests on Q7\nQ12 confluence vector: open, rests on Q11\nQ13 signal: open, rests on Q12\nQ14 concordant: open, budget 1\nQ15 strongly concordant: open, budget 1\nopen: 11\n",
     ),
     (
         "wide systems of confluence and concordance, and the greatest budget",
-        "q5 1\nbase 1\ndual -1 0\ncomb 1 -1\nq6 0 0\nbase 1\ndual -1 0\ncomb 1 -1\nq7 yes\nvec 1 1\nq8 yes\nvec 1 1\nq9 yes 1\nq10 yes\nq11 yes\nside 1 0 1\nq12 open wide 4 0 5 1 2\nq14 open wide 2 0 1 1 2\nq15 open budget 100000\nend\n",
-        "Q5 rank: 1\n  independent reactions: 1\nQ6 deficiency: 0, classes 0\nQ7 positively dependent: yes\n  positive combination: 1 1\nQ8 conservative: yes\n  positive law: 1 1\nQ9 deficiency zero theorem: hypotheses hold, weakly reversible\nQ10 deficiency one theorem: hypotheses hold\nQ11 regular: yes\nQ12 confluence vector: open, wide\n  system 4\n  index 5\n  basis: 1 2\nQ14 concordant: open, wide\n  system 2\n  index 1\n  basis: 1 2\nQ15 strongly concordant: open, budget 100000\nopen: 3\n",
+        "q5 1\nbase 1\ndual -1 0\ncomb 1 -1\nq6 0 0\nbase 1\ndual -1 0\ncomb 1 -1\nq7 yes\nvec 1 1\nq8 yes\nvec 1 1\nq9 yes 1\nq10 yes\nq11 yes\nside 1 0 1\nq12 open wide 4 0 5 1 2\nq13 open rests 12\nq14 open wide 2 0 1 1 2\nq15 open budget 100000\nend\n",
+        "Q5 rank: 1\n  independent reactions: 1\nQ6 deficiency: 0, classes 0\nQ7 positively dependent: yes\n  positive combination: 1 1\nQ8 conservative: yes\n  positive law: 1 1\nQ9 deficiency zero theorem: hypotheses hold, weakly reversible\nQ10 deficiency one theorem: hypotheses hold\nQ11 regular: yes\nQ12 confluence vector: open, wide\n  system 4\n  index 5\n  basis: 1 2\nQ13 signal: open, rests on Q12\nQ14 concordant: open, wide\n  system 2\n  index 1\n  basis: 1 2\nQ15 strongly concordant: open, budget 100000\nopen: 4\n",
     ),
 ];
 
@@ -498,15 +509,16 @@ fn faulty_answers_are_rejected(rt: HostRuntime) {
     }
 }
 
-// The document of `2A <-> A + B <-> 2B` in version 1.
+// The document of `2A <-> A + B <-> 2B` in version 1. Its trees of question 13 put the one terminal class on the middle
+// shelf, and rule the upper one out by the two cut pairs, which ask for opposite signs of one difference.
 const LINE: &str =
-    "crn certificate 1\nnetwork 4\n2A -> A + B\nA + B -> 2A\nA + B -> 2B\n2B -> A + B\nq1 1\nlabel 1 1 1\nup 0 1 3\ndepth 0 1 2\nq2 1 1\nlabel 1 1 1\nfrom 0 1 3\nfromdepth 0 1 2\nto 0 2 4\ntodepth 0 1 2\nlevel 0\nexit 0\nq3 yes\nback 2 1 4 3\nq4 yes\nq5 1\nbase 1\ndual -1 0\ncomb 1 -1\ncomb 1 1\ncomb 1 -1\nq6 1 1\nbase 1\ndual -1 0\ncomb 1 -1\ncomb 1 1\ncomb 1 -1\nq7 yes\nvec 1 1 1 1\nq8 yes\nvec 1 1\nq9 no 1\nq10 yes\nq11 yes\nside 1 0 1 1\nside 3 0 0 1\nq12 yes\nvec 1 -2 1\ntie 1 0 0\ntie 1 -1 0\nq14 no\nalpha 1 2 0 -1\nweights 0 1 0 0\nq15 yes\nsplit\nsplit\nflat\ncuta -1 0\nsplit\ncuta 1 0\ncutb 1 1\ncuta 1 0\nend\n";
+    "crn certificate 1\nnetwork 4\n2A -> A + B\nA + B -> 2A\nA + B -> 2B\n2B -> A + B\nq1 1\nlabel 1 1 1\nup 0 1 3\ndepth 0 1 2\nq2 1 1\nlabel 1 1 1\nfrom 0 1 3\nfromdepth 0 1 2\nto 0 2 4\ntodepth 0 1 2\nlevel 0\nexit 0\nq3 yes\nback 2 1 4 3\nq4 yes\nq5 1\nbase 1\ndual -1 0\ncomb 1 -1\ncomb 1 1\ncomb 1 -1\nq6 1 1\nbase 1\ndual -1 0\ncomb 1 -1\ncomb 1 1\ncomb 1 -1\nq7 yes\nvec 1 1 1 1\nq8 yes\nvec 1 1\nq9 no 1\nq10 yes\nq11 yes\nside 1 0 1 1\nside 3 0 0 1\nq12 yes\nvec 1 -2 1\ntie 1 0 0\ntie 1 -1 0\nq13 no\nsplit\nflat\ncuta 0 0 0 -1 1\nsplit\nflat\ncuta 0 0 0 1 -1\nq14 no\nalpha 1 2 0 -1\nweights 0 1 0 0\nq15 yes\nsplit\nsplit\nflat\ncuta -1 0\nsplit\ncuta 1 0\ncutb 1 1\ncuta 1 0\nend\n";
 
 const REPORT_OF_LINE: &[u8] =
-    b"crn report 1\nspecies 2: A B\ncomplexes 3: 2A; A + B; 2B\nreactions 4\nQ1 linkage classes: 1\n  class 1: 2A; A + B; 2B\nQ2 strong classes: 1, terminal 1\n  strong 1: 2A; A + B; 2B (terminal)\nQ3 reversible: yes\nQ4 weakly reversible: yes\nQ5 rank: 1\n  independent reactions: 1\nQ6 deficiency: 1, classes 1\nQ7 positively dependent: yes\n  positive combination: 1 1 1 1\nQ8 conservative: yes\n  positive law: 1 1\nQ9 deficiency zero theorem: hypotheses fail, deficiency 1\nQ10 deficiency one theorem: hypotheses hold\nQ11 regular: yes\nQ12 confluence vector: yes\n  vector: 1 -2 1\nQ14 concordant: no\n  sigma: 1 -1\n  alpha: 1 2 0 -1\nQ15 strongly concordant: yes\nopen: 0\n";
+    b"crn report 1\nspecies 2: A B\ncomplexes 3: 2A; A + B; 2B\nreactions 4\nQ1 linkage classes: 1\n  class 1: 2A; A + B; 2B\nQ2 strong classes: 1, terminal 1\n  strong 1: 2A; A + B; 2B (terminal)\nQ3 reversible: yes\nQ4 weakly reversible: yes\nQ5 rank: 1\n  independent reactions: 1\nQ6 deficiency: 1, classes 1\nQ7 positively dependent: yes\n  positive combination: 1 1 1 1\nQ8 conservative: yes\n  positive law: 1 1\nQ9 deficiency zero theorem: hypotheses fail, deficiency 1\nQ10 deficiency one theorem: hypotheses hold\nQ11 regular: yes\nQ12 confluence vector: yes\n  vector: 1 -2 1\nQ13 signal: no\nQ14 concordant: no\n  sigma: 1 -1\n  alpha: 1 2 0 -1\nQ15 strongly concordant: yes\nopen: 0\n";
 
 #[test]
-fn a_confluence_vector_and_a_pair_are_accepted(rt: HostRuntime) {
+fn a_confluence_vector_two_trees_and_a_pair_are_accepted(rt: HostRuntime) {
     assert!(rt; is_accepted(&rt, LINE, REPORT_OF_LINE));
 }
 
@@ -581,35 +593,76 @@ const LINE_FAULTS: &[(&str, &str, &str)] = &[
         "rejected 37 WrongVerdict at line 43\n",
     ),
     (
+        "q13 no",
+        "q13 none",
+        "rejected 37 WrongVerdict at line 47\n",
+    ),
+    (
+        "flat\ncuta 0 0 0 -1 1",
+        "flat\ncuta 0 0 0 1 -1",
+        "rejected 41 BadLeaf at line 50\n",
+    ),
+    (
+        "cuta 0 0 0 -1 1",
+        "cuta 0 0 0 -1",
+        "rejected 24 BadField at line 50\n",
+    ),
+    (
+        "cuta 0 0 0 -1 1",
+        "flat",
+        "rejected 42 NodeNotAllowed at line 50\n",
+    ),
+    // the sums of the second tree are those of the negative of the vector
+    (
+        "cuta 0 0 0 1 -1",
+        "cuta 0 0 0 -1 1",
+        "rejected 41 BadLeaf at line 53\n",
+    ),
+    (
+        "split\nflat\ncuta 0 0 0 1 -1\n",
+        "",
+        "rejected 43 TreeEndsEarly at line 51\n",
+    ),
+    (
+        "cuta 0 0 0 1 -1\n",
+        "cuta 0 0 0 1 -1\nflat\n",
+        "rejected 44 TreeGoesOn at line 54\n",
+    ),
+    (
+        "q13 no\n",
+        "q13 yes 1\nshelves 0\nmu 1 1\nm 2\nweights 0 0 0 0\nq13 no\n",
+        "rejected 45 BadEvidence at line 51\n",
+    ),
+    (
         "alpha 1 2 0 -1",
         "alpha 1 2 0 1",
-        "rejected 45 BadEvidence at line 49\n",
+        "rejected 45 BadEvidence at line 56\n",
     ),
     (
         "alpha 1 2 0 -1",
         "alpha 1 2 0",
-        "rejected 24 BadField at line 48\n",
+        "rejected 24 BadField at line 55\n",
     ),
     (
         "weights 0 1 0 0",
         "weights 0 0 0 0",
-        "rejected 45 BadEvidence at line 49\n",
+        "rejected 45 BadEvidence at line 56\n",
     ),
     // the numbers of the pair do not show discordance by the other table
     (
         "q14 no",
         "q14 open budget 1\nq15 no",
-        "rejected 45 BadEvidence at line 50\n",
+        "rejected 45 BadEvidence at line 57\n",
     ),
     (
         "q14 no",
         "q14 yes",
-        "rejected 43 TreeEndsEarly at line 48\n",
+        "rejected 43 TreeEndsEarly at line 55\n",
     ),
     (
         "alpha 1 2 0 -1\n",
         "",
-        "rejected 26 WrongOrder at line 48\n",
+        "rejected 26 WrongOrder at line 55\n",
     ),
 ];
 
@@ -623,10 +676,10 @@ fn a_faulty_confluence_vector_or_pair_is_rejected(rt: HostRuntime) {
 
 // The document of a cycle of three reactions in version 1. It leaves both questions on concordance open.
 const CYCLE: &str =
-    "crn certificate 1\nnetwork 3\nA -> B\nB -> C\nC -> A\nq1 1\nlabel 1 1 1\nup 0 1 2\ndepth 0 1 2\nq2 1 1\nlabel 1 1 1\nfrom 0 1 2\nfromdepth 0 1 2\nto 0 2 3\ntodepth 0 2 1\nlevel 0\nexit 0\nq3 no 1\nq4 yes\nq5 2\nbase 1 2\ndual -1 0 0\ndual 0 0 1\ncomb 1 -1 -1\nq6 0 0\nbase 1 2\ndual -1 0 0\ndual 0 0 1\ncomb 1 -1 -1\nq7 yes\nvec 1 1 1\nq8 yes\nvec 1 1 1\nq9 yes 1\nq10 yes\nq11 no cycle 1\nwalk 1 3 2\nq12 none regular\nq14 open budget 20000\nq15 open budget 20000\nend\n";
+    "crn certificate 1\nnetwork 3\nA -> B\nB -> C\nC -> A\nq1 1\nlabel 1 1 1\nup 0 1 2\ndepth 0 1 2\nq2 1 1\nlabel 1 1 1\nfrom 0 1 2\nfromdepth 0 1 2\nto 0 2 3\ntodepth 0 2 1\nlevel 0\nexit 0\nq3 no 1\nq4 yes\nq5 2\nbase 1 2\ndual -1 0 0\ndual 0 0 1\ncomb 1 -1 -1\nq6 0 0\nbase 1 2\ndual -1 0 0\ndual 0 0 1\ncomb 1 -1 -1\nq7 yes\nvec 1 1 1\nq8 yes\nvec 1 1 1\nq9 yes 1\nq10 yes\nq11 no cycle 1\nwalk 1 3 2\nq12 none regular\nq13 none\nq14 open budget 20000\nq15 open budget 20000\nend\n";
 
 const REPORT_OF_CYCLE: &[u8] =
-    b"crn report 1\nspecies 3: A B C\ncomplexes 3: A; B; C\nreactions 3\nQ1 linkage classes: 1\n  class 1: A; B; C\nQ2 strong classes: 1, terminal 1\n  strong 1: A; B; C (terminal)\nQ3 reversible: no\n  reaction 1: A -> B\nQ4 weakly reversible: yes\nQ5 rank: 2\n  independent reactions: 1 2\nQ6 deficiency: 0, classes 0\nQ7 positively dependent: yes\n  positive combination: 1 1 1\nQ8 conservative: yes\n  positive law: 1 1 1\nQ9 deficiency zero theorem: hypotheses hold, weakly reversible\nQ10 deficiency one theorem: hypotheses hold\nQ11 regular: no, a cycle in a terminal class\n  reaction 1, walk: A; C; B\nQ12 confluence vector: not applicable, not regular\nQ14 concordant: open, budget 20000\nQ15 strongly concordant: open, budget 20000\nopen: 2\n";
+    b"crn report 1\nspecies 3: A B C\ncomplexes 3: A; B; C\nreactions 3\nQ1 linkage classes: 1\n  class 1: A; B; C\nQ2 strong classes: 1, terminal 1\n  strong 1: A; B; C (terminal)\nQ3 reversible: no\n  reaction 1: A -> B\nQ4 weakly reversible: yes\nQ5 rank: 2\n  independent reactions: 1 2\nQ6 deficiency: 0, classes 0\nQ7 positively dependent: yes\n  positive combination: 1 1 1\nQ8 conservative: yes\n  positive law: 1 1 1\nQ9 deficiency zero theorem: hypotheses hold, weakly reversible\nQ10 deficiency one theorem: hypotheses hold\nQ11 regular: no, a cycle in a terminal class\n  reaction 1, walk: A; C; B\nQ12 confluence vector: not applicable, not regular\nQ13 signal: not applicable\nQ14 concordant: open, budget 20000\nQ15 strongly concordant: open, budget 20000\nopen: 2\n";
 
 #[test]
 fn a_way_round_is_accepted(rt: HostRuntime) {
@@ -699,7 +752,7 @@ const RETURNS: &[(&str, &str, &str)] = &[
         "q3 no 3\r\n",
         "rejected 24 BadField at line 20\n",
     ),
-    ("end\n", "end\r\n", "rejected 23 UnknownWord at line 70\n"),
+    ("end\n", "end\r\n", "rejected 23 UnknownWord at line 71\n"),
 ];
 
 #[test]

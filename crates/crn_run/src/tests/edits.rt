@@ -43,6 +43,7 @@ const BOTH_WAYS: &[&str] = &[
     "q12 none zero",
     "tie 1 0 0",
     "tie 0 1 0",
+    "q13 none",
     "q14 yes",
     "split",
     "split",
@@ -113,6 +114,7 @@ const SHARED: &[&str] = &[
     "q12 none zero",
     "tie 1 0 0",
     "tie 0 1 0",
+    "q13 none",
     "section concordance",
     "q14 yes",
     "split",
@@ -137,7 +139,7 @@ const SHARED: &[&str] = &[
 
 // The report of both, with the base, the combination and the law that they name.
 const REPORT: &[u8] =
-    b"crn report 1\nspecies 2: A B\ncomplexes 2: A; B\nreactions 2\nQ1 linkage classes: 1\n  class 1: A; B\nQ2 strong classes: 1, terminal 1\n  strong 1: A; B (terminal)\nQ3 reversible: yes\nQ4 weakly reversible: yes\nQ5 rank: 1\n  independent reactions: 1\nQ6 deficiency: 0, classes 0\nQ7 positively dependent: yes\n  positive combination: 1 1\nQ8 conservative: yes\n  positive law: 1 1\nQ9 deficiency zero theorem: hypotheses hold, weakly reversible\nQ10 deficiency one theorem: hypotheses hold\nQ11 regular: yes\nQ12 confluence vector: not applicable, no vector but zero\nQ14 concordant: yes\nQ15 strongly concordant: yes\nopen: 0\n";
+    b"crn report 1\nspecies 2: A B\ncomplexes 2: A; B\nreactions 2\nQ1 linkage classes: 1\n  class 1: A; B\nQ2 strong classes: 1, terminal 1\n  strong 1: A; B (terminal)\nQ3 reversible: yes\nQ4 weakly reversible: yes\nQ5 rank: 1\n  independent reactions: 1\nQ6 deficiency: 0, classes 0\nQ7 positively dependent: yes\n  positive combination: 1 1\nQ8 conservative: yes\n  positive law: 1 1\nQ9 deficiency zero theorem: hypotheses hold, weakly reversible\nQ10 deficiency one theorem: hypotheses hold\nQ11 regular: yes\nQ12 confluence vector: not applicable, no vector but zero\nQ13 signal: not applicable\nQ14 concordant: yes\nQ15 strongly concordant: yes\nopen: 0\n";
 
 // A line with its LF at the end of a text.
 fn push_line(rt: &impl Abort, text: &mut String, line: &str) {
@@ -162,6 +164,11 @@ fn edited(
         push_line(rt, &mut made, line);
     }
     made
+}
+
+// The document of `A <-> B` in version 1.
+pub fn both_ways(rt: &(impl Abort + AllocGlobal)) -> String {
+    edited(rt, BOTH_WAYS, 0, "", 0)
 }
 
 // Whether a document is rejected for this fault.
@@ -259,6 +266,19 @@ const EDITS: &[(usize, &str, usize, &str)] = &[
     (36, "tie 0 0 0\n", 37, "35 BadVector at line 37"),
     (37, "tie 0 0 1\n", 38, "35 BadVector at line 38"),
     (37, "tie 0 1\n", 38, "24 BadField at line 38"),
+    (38, "", 39, "26 WrongOrder at line 39"),
+    (38, "q13 none 1\n", 39, "24 BadField at line 39"),
+    (38, "q13 no\n", 39, "37 WrongVerdict at line 39"),
+    (38, "q13 yes 1\n", 39, "37 WrongVerdict at line 39"),
+    (38, "q13 yes 2\n", 39, "24 BadField at line 39"),
+    (38, "q13 open rests 11\n", 39, "24 BadField at line 39"),
+    // question 12 gives no vector, so that system 5 is none
+    (
+        38,
+        "q13 open wide 5 0 1 1 2 3\n",
+        39,
+        "24 BadField at line 39",
+    ),
     // the lines of a block pass the tests of their text before the first test of what they mean
     (21, "dual 0 0\ncomb 1\n", 23, "24 BadField at line 23"),
     // only the first 6, only the first 20, and only the first 36
@@ -266,7 +286,7 @@ const EDITS: &[(usize, &str, usize, &str)] = &[
     (20, "", END, "27 EndsEarly at line 21"),
     (36, "", END, "27 EndsEarly at line 37"),
     // a word of version 2
-    (42, "refa 1\n", 43, "23 UnknownWord at line 43"),
+    (43, "refa 1\n", 44, "23 UnknownWord at line 44"),
 ];
 
 #[test]
@@ -283,69 +303,69 @@ const MORE: usize = 10;
 // Each row: how many lines of version 1 come before the edit, the edit, the lines that it takes the place of are up to
 // this one, and the fault and its line in version 1. All are from question 14 on, in words of both versions.
 const TREE_EDITS: &[(usize, &str, usize, &str, usize)] = &[
-    (39, "flat\n", 40, "42 NodeNotAllowed", 40),
-    (39, "cutb 1 1\n", 40, "41 BadLeaf", 40),
-    (42, "cuta 0 -1\n", 43, "41 BadLeaf", 43),
-    (42, "cuta 0 0\n", 43, "41 BadLeaf", 43),
-    (42, "flat\n", 43, "42 NodeNotAllowed", 43),
-    (42, "split\n", 43, "42 NodeNotAllowed", 43),
-    (42, "cuta 0\n", 43, "24 BadField", 43),
-    (42, "split 1\n", 43, "24 BadField", 43),
+    (40, "flat\n", 41, "42 NodeNotAllowed", 41),
+    (40, "cutb 1 1\n", 41, "41 BadLeaf", 41),
+    (43, "cuta 0 -1\n", 44, "41 BadLeaf", 44),
+    (43, "cuta 0 0\n", 44, "41 BadLeaf", 44),
+    (43, "flat\n", 44, "42 NodeNotAllowed", 44),
+    (43, "split\n", 44, "42 NodeNotAllowed", 44),
+    (43, "cuta 0\n", 44, "24 BadField", 44),
+    (43, "split 1\n", 44, "24 BadField", 44),
     // 2^72
     (
-        42,
+        43,
         "cuta 0 4722366482869645213696\n",
-        43,
+        44,
         "25 NumberWide",
-        43,
+        44,
     ),
-    (42, "tie 1 0 0\n", 43, "43 TreeEndsEarly", 43),
-    (42, "foo\n", 43, "23 UnknownWord", 43),
+    (43, "tie 1 0 0\n", 44, "43 TreeEndsEarly", 44),
+    (43, "foo\n", 44, "23 UnknownWord", 44),
     // only the lines before the children of the prefix plus
-    (44, "", END, "43 TreeEndsEarly", 45),
+    (45, "", END, "43 TreeEndsEarly", 46),
     // not zero on a free column
-    (45, "cutb 1 0\n", 46, "41 BadLeaf", 46),
+    (46, "cutb 1 0\n", 47, "41 BadLeaf", 47),
     // the last node of the tree is removed, or one is added
-    (46, "", 47, "43 TreeEndsEarly", 47),
-    (47, "cuta 1 0\n", 47, "44 TreeGoesOn", 48),
+    (47, "", 48, "43 TreeEndsEarly", 48),
+    (48, "cuta 1 0\n", 48, "44 TreeGoesOn", 49),
     // a pair that shows nothing
     (
-        38,
+        39,
         "q14 no\nalpha 1 1\nweights 1 0\n",
-        47,
+        48,
         "45 BadEvidence",
-        41,
+        42,
     ),
     (
-        38,
+        39,
         "q14 no\nalpha 0 0\nweights 1 1\n",
-        47,
+        48,
         "45 BadEvidence",
-        41,
+        42,
     ),
     (
-        38,
+        39,
         "q14 no\nweights 1 0\nalpha 1 1\n",
-        47,
+        48,
         "26 WrongOrder",
-        40,
+        41,
     ),
     // the same for the strong table
-    (51, "cuta 0 -1\n", 52, "41 BadLeaf", 52),
-    (54, "cutb 1 0\n", 55, "41 BadLeaf", 55),
-    (55, "", 56, "43 TreeEndsEarly", 56),
-    (56, "cuta 1 0\n", 56, "44 TreeGoesOn", 57),
+    (52, "cuta 0 -1\n", 53, "41 BadLeaf", 53),
+    (55, "cutb 1 0\n", 56, "41 BadLeaf", 56),
+    (56, "", 57, "43 TreeEndsEarly", 57),
+    (57, "cuta 1 0\n", 57, "44 TreeGoesOn", 58),
     (
-        47,
+        48,
         "q15 no\nalpha 1 1\nweights 1 0\n",
-        56,
+        57,
         "45 BadEvidence",
-        50,
+        51,
     ),
     // the end is removed, stands twice, or has no LF
-    (56, "", 57, "27 EndsEarly", 57),
-    (57, "end\n", 57, "28 AfterEnd", 58),
-    (56, "end", 57, "27 EndsEarly", 57),
+    (57, "", 58, "27 EndsEarly", 58),
+    (58, "end\n", 58, "28 AfterEnd", 59),
+    (57, "end", 58, "27 EndsEarly", 58),
 ];
 
 // Whether an edit of these lines, which come so many lines later than in version 1, is rejected where it is.
@@ -391,17 +411,17 @@ const SHARED_EDITS: &[(usize, &str, usize, &str)] = &[
     (4, "", 5, "26 WrongOrder at line 5"),
     (5, "vector\n", 6, "24 BadField at line 6"),
     (8, "section rank\n", 9, "24 BadField at line 9"),
-    (47, "", 48, "26 WrongOrder at line 48"),
-    (47, "section confluence\n", 48, "24 BadField at line 48"),
-    (52, "refa 2\n", 53, "41 BadLeaf at line 53"),
-    (52, "refb 1\n", 53, "41 BadLeaf at line 53"),
-    (52, "refa 0\n", 53, "24 BadField at line 53"),
-    (52, "refa 4\n", 53, "24 BadField at line 53"),
-    (52, "refa 1 1\n", 53, "24 BadField at line 53"),
+    (48, "", 49, "26 WrongOrder at line 49"),
+    (48, "section confluence\n", 49, "24 BadField at line 49"),
+    (53, "refa 2\n", 54, "41 BadLeaf at line 54"),
+    (53, "refb 1\n", 54, "41 BadLeaf at line 54"),
+    (53, "refa 0\n", 54, "24 BadField at line 54"),
+    (53, "refa 4\n", 54, "24 BadField at line 54"),
+    (53, "refa 1 1\n", 54, "24 BadField at line 54"),
     // a list that is shared has another length than the cut that names it
-    (5, "vector 0 1 0\n", 6, "46 WrongShape at line 53"),
-    (55, "refa 3\n", 56, "41 BadLeaf at line 56"),
-    (56, "", 57, "43 TreeEndsEarly at line 57"),
+    (5, "vector 0 1 0\n", 6, "46 WrongShape at line 54"),
+    (56, "refa 3\n", 57, "41 BadLeaf at line 57"),
+    (57, "", 58, "43 TreeEndsEarly at line 58"),
 ];
 
 #[test]
@@ -412,18 +432,49 @@ fn edits_of_shared_lists_are_rejected_where_they_are(rt: HostRuntime) {
     }
 }
 
+// The code of a document of version 1 that ends early in this line, counted from 1: in a tree, or elsewhere.
+fn early(line: usize) -> &'static str {
+    if (41..=48).contains(&line) || (50..=57).contains(&line) {
+        "43 TreeEndsEarly"
+    } else {
+        "27 EndsEarly"
+    }
+}
+
+// Whether the first bytes of a document are rejected in their last line, which has not ended.
+fn is_rejected_early(rt: &(impl Abort + AllocGlobal), prefix: &[u8]) -> bool {
+    let line = prefix
+        .iter()
+        .filter(|b| **b == b'\n')
+        .count()
+        .wrapping_add(1);
+    let want = format!(in rt.alloc(); "rejected {} at line {line}\n", early(line)).expect(
+        rt, "memory",
+    );
+    ends_so(rt, "crnt check", prefix, Status::Rejected, want.as_bytes())
+}
+
+#[test]
+fn each_prefix_of_a_document_is_rejected(rt: HostRuntime) {
+    let document = both_ways(&rt);
+    let bytes = document.as_bytes();
+    for n in 0..bytes.len() {
+        assert!(rt; is_rejected_early(&rt, &bytes[..n]), "{n} bytes");
+    }
+}
+
 // Each row: what it shows, the lines, how many of them come before an edit, the edit, and those that it takes the place
 // of are up to this one.
 const GOOD: &[(&str, &[&str], usize, &str, usize)] = &[
     ("version 1", BOTH_WAYS, 0, "", 0),
     ("version 2", SHARED, 0, "", 0),
-    ("a cut with its own numbers", SHARED, 52, "cuta 0 1\n", 53),
+    ("a cut with its own numbers", SHARED, 53, "cuta 0 1\n", 54),
     (
         "another cut of the same prefix",
         BOTH_WAYS,
-        42,
-        "cuta -3 4\n",
         43,
+        "cuta -3 4\n",
+        44,
     ),
 ];
 

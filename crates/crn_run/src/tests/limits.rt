@@ -26,7 +26,7 @@ fn names(rt: &(impl Abort + AllocGlobal), count: u32, between: &str) -> String {
 // The report of a network by which the sum of sixty species becomes nothing.
 fn sixty_species(rt: &(impl Abort + AllocGlobal), sum: &str, list: &str) -> String {
     format!(in rt.alloc();
-        "crn report 1\nspecies 60: {list}\ncomplexes 2: {sum}; 0\nreactions 1\nQ1 linkage classes: 1\n  class 1: {sum}; 0\nQ2 strong classes: 2, terminal 1\n  strong 1: {sum}\n  strong 2: 0 (terminal)\nQ3 reversible: no\n  reaction 1: {sum} -> 0\nQ4 weakly reversible: no\n  reaction 1: {sum} -> 0\nQ5 rank: 1\nQ6 deficiency: 0, classes 0\nQ7 positively dependent: no\nQ8 conservative: no\nQ9 deficiency zero theorem: hypotheses hold, not weakly reversible\nQ10 deficiency one theorem: hypotheses hold\nQ11 regular: no, not positively dependent\nQ12 confluence vector: not applicable, not regular\nQ14 concordant: yes\nQ15 strongly concordant: yes\nopen: 0\n"
+        "crn report 1\nspecies 60: {list}\ncomplexes 2: {sum}; 0\nreactions 1\nQ1 linkage classes: 1\n  class 1: {sum}; 0\nQ2 strong classes: 2, terminal 1\n  strong 1: {sum}\n  strong 2: 0 (terminal)\nQ3 reversible: no\n  reaction 1: {sum} -> 0\nQ4 weakly reversible: no\n  reaction 1: {sum} -> 0\nQ5 rank: 1\nQ6 deficiency: 0, classes 0\nQ7 positively dependent: no\nQ8 conservative: no\nQ9 deficiency zero theorem: hypotheses hold, not weakly reversible\nQ10 deficiency one theorem: hypotheses hold\nQ11 regular: no, not positively dependent\nQ12 confluence vector: not applicable, not regular\nQ13 signal: not applicable\nQ14 concordant: yes\nQ15 strongly concordant: yes\nopen: 0\n"
     ).expect(rt, "memory")
 }
 
@@ -130,7 +130,7 @@ fn many_complexes(rt: &(impl Abort + AllocGlobal)) -> String {
     let (first, second) = (all_of(rt, 0, 99, "A"), all_of(rt, 1, 60, "B"));
     let strong = strong_classes(rt);
     format!(in rt.alloc();
-        "crn report 1\nspecies 2: A B\ncomplexes 160: {first}; {second}\nreactions 158\nQ1 linkage classes: 2\n  class 1: {first}\n  class 2: {second}\nQ2 strong classes: 160, terminal 2\n{strong}Q3 reversible: no\n  reaction 1: 0 -> A\nQ4 weakly reversible: no\n  reaction 1: 0 -> A\nQ5 rank: 2\nQ6 deficiency: 156, classes 98 58\nQ7 positively dependent: no\nQ8 conservative: no\nQ9 deficiency zero theorem: hypotheses fail, deficiency 156\nQ10 deficiency one theorem: hypotheses fail, class 1 has deficiency 98\nQ11 regular: no, not positively dependent\nQ12 confluence vector: not applicable, not regular\nQ14 concordant: yes\nQ15 strongly concordant: yes\nopen: 0\n"
+        "crn report 1\nspecies 2: A B\ncomplexes 160: {first}; {second}\nreactions 158\nQ1 linkage classes: 2\n  class 1: {first}\n  class 2: {second}\nQ2 strong classes: 160, terminal 2\n{strong}Q3 reversible: no\n  reaction 1: 0 -> A\nQ4 weakly reversible: no\n  reaction 1: 0 -> A\nQ5 rank: 2\nQ6 deficiency: 156, classes 98 58\nQ7 positively dependent: no\nQ8 conservative: no\nQ9 deficiency zero theorem: hypotheses fail, deficiency 156\nQ10 deficiency one theorem: hypotheses fail, class 1 has deficiency 98\nQ11 regular: no, not positively dependent\nQ12 confluence vector: not applicable, not regular\nQ13 signal: not applicable\nQ14 concordant: yes\nQ15 strongly concordant: yes\nopen: 0\n"
     ).expect(rt, "memory")
 }
 
@@ -153,7 +153,7 @@ fn a_hundred_and_sixty_complexes_are_accepted_and_one_more_is_not(rt: HostRuntim
 
 // The end of the report of a hundred amounts of one species.
 const LADDER: &str =
-    "\nQ5 rank: 1\nQ6 deficiency: 98, classes 98\nQ7 positively dependent: no\nQ8 conservative: no\nQ9 deficiency zero theorem: hypotheses fail, deficiency 98\nQ10 deficiency one theorem: hypotheses fail, class 1 has deficiency 98\nQ11 regular: no, not positively dependent\nQ12 confluence vector: not applicable, not regular\nQ14 concordant: yes\nQ15 strongly concordant: yes\nopen: 0\n";
+    "\nQ5 rank: 1\nQ6 deficiency: 98, classes 98\nQ7 positively dependent: no\nQ8 conservative: no\nQ9 deficiency zero theorem: hypotheses fail, deficiency 98\nQ10 deficiency one theorem: hypotheses fail, class 1 has deficiency 98\nQ11 regular: no, not positively dependent\nQ12 confluence vector: not applicable, not regular\nQ13 signal: not applicable\nQ14 concordant: yes\nQ15 strongly concordant: yes\nopen: 0\n";
 
 #[test]
 fn a_hundred_amounts_of_one_species_have_their_deficiency(rt: HostRuntime) {
@@ -181,7 +181,7 @@ fn jumps(rt: &(impl Abort + AllocGlobal), lines: u32) -> String {
 fn many_reactions(rt: &(impl Abort + AllocGlobal)) -> String {
     let (sides, joined) = (all_of(rt, 0, 16, "A"), all_of(rt, 0, 14, "A"));
     format!(in rt.alloc();
-        "crn report 1\nspecies 1: A\ncomplexes 17: {sides}\nreactions 240\nQ1 linkage classes: 1\n  class 1: {sides}\nQ2 strong classes: 3, terminal 2\n  strong 1: {joined}\n  strong 2: 15A (terminal)\n  strong 3: 16A (terminal)\nQ3 reversible: no\n  reaction 15: 0 -> 15A\nQ4 weakly reversible: no\n  reaction 15: 0 -> 15A\nQ5 rank: 1\nQ6 deficiency: 15, classes 15\nQ7 positively dependent: yes\nQ8 conservative: no\nQ9 deficiency zero theorem: hypotheses fail, deficiency 15\nQ10 deficiency one theorem: hypotheses fail, class 1 has 2 terminal classes\nQ11 regular: no, class 1 has 2 terminal classes\nQ12 confluence vector: not applicable, not regular\nQ14 concordant: no\nQ15 strongly concordant: yes\nopen: 0\n"
+        "crn report 1\nspecies 1: A\ncomplexes 17: {sides}\nreactions 240\nQ1 linkage classes: 1\n  class 1: {sides}\nQ2 strong classes: 3, terminal 2\n  strong 1: {joined}\n  strong 2: 15A (terminal)\n  strong 3: 16A (terminal)\nQ3 reversible: no\n  reaction 15: 0 -> 15A\nQ4 weakly reversible: no\n  reaction 15: 0 -> 15A\nQ5 rank: 1\nQ6 deficiency: 15, classes 15\nQ7 positively dependent: yes\nQ8 conservative: no\nQ9 deficiency zero theorem: hypotheses fail, deficiency 15\nQ10 deficiency one theorem: hypotheses fail, class 1 has 2 terminal classes\nQ11 regular: no, class 1 has 2 terminal classes\nQ12 confluence vector: not applicable, not regular\nQ13 signal: not applicable\nQ14 concordant: no\nQ15 strongly concordant: yes\nopen: 0\n"
     ).expect(rt, "memory")
 }
 

@@ -5,30 +5,30 @@ use std::process::Abort;
 
 // The report of `A -> B`. Other multipliers and another positive law would do as well.
 pub const ROW: &[u8] =
-    b"crn report 1\nspecies 2: A B\ncomplexes 2: A; B\nreactions 1\nQ1 linkage classes: 1\n  class 1: A; B\nQ2 strong classes: 2, terminal 1\n  strong 1: A\n  strong 2: B (terminal)\nQ3 reversible: no\n  reaction 1: A -> B\nQ4 weakly reversible: no\n  reaction 1: A -> B\nQ5 rank: 1\n  independent reactions: 1\nQ6 deficiency: 0, classes 0\nQ7 positively dependent: no\n  multipliers: 1 0\nQ8 conservative: yes\n  positive law: 1 1\nQ9 deficiency zero theorem: hypotheses hold, not weakly reversible\nQ10 deficiency one theorem: hypotheses hold\nQ11 regular: no, not positively dependent\nQ12 confluence vector: not applicable, not regular\nQ14 concordant: yes\nQ15 strongly concordant: yes\nopen: 0\n";
+    b"crn report 1\nspecies 2: A B\ncomplexes 2: A; B\nreactions 1\nQ1 linkage classes: 1\n  class 1: A; B\nQ2 strong classes: 2, terminal 1\n  strong 1: A\n  strong 2: B (terminal)\nQ3 reversible: no\n  reaction 1: A -> B\nQ4 weakly reversible: no\n  reaction 1: A -> B\nQ5 rank: 1\n  independent reactions: 1\nQ6 deficiency: 0, classes 0\nQ7 positively dependent: no\n  multipliers: 1 0\nQ8 conservative: yes\n  positive law: 1 1\nQ9 deficiency zero theorem: hypotheses hold, not weakly reversible\nQ10 deficiency one theorem: hypotheses hold\nQ11 regular: no, not positively dependent\nQ12 confluence vector: not applicable, not regular\nQ13 signal: not applicable\nQ14 concordant: yes\nQ15 strongly concordant: yes\nopen: 0\n";
 
 // In these the lines of a base, of multipliers, of positive vectors, of a walk, of two vectors and of a pair that shows
 // discordance are left out: several would do.
 const TWO_CLASSES: &[u8] =
-    b"crn report 1\nspecies 5: X B A C Y\ncomplexes 5: X; B; A; C; Y\nreactions 3\nQ1 linkage classes: 2\n  class 1: X; B; Y\n  class 2: A; C\nQ2 strong classes: 5, terminal 2\n  strong 1: X\n  strong 2: B (terminal)\n  strong 3: A\n  strong 4: C (terminal)\n  strong 5: Y\nQ3 reversible: no\n  reaction 1: X -> B\nQ4 weakly reversible: no\n  reaction 1: X -> B\nQ5 rank: 3\nQ6 deficiency: 0, classes 0 0\nQ7 positively dependent: no\nQ8 conservative: yes\nQ9 deficiency zero theorem: hypotheses hold, not weakly reversible\nQ10 deficiency one theorem: hypotheses hold\nQ11 regular: no, not positively dependent\nQ12 confluence vector: not applicable, not regular\nQ14 concordant: yes\nQ15 strongly concordant: yes\nopen: 0\n";
+    b"crn report 1\nspecies 5: X B A C Y\ncomplexes 5: X; B; A; C; Y\nreactions 3\nQ1 linkage classes: 2\n  class 1: X; B; Y\n  class 2: A; C\nQ2 strong classes: 5, terminal 2\n  strong 1: X\n  strong 2: B (terminal)\n  strong 3: A\n  strong 4: C (terminal)\n  strong 5: Y\nQ3 reversible: no\n  reaction 1: X -> B\nQ4 weakly reversible: no\n  reaction 1: X -> B\nQ5 rank: 3\nQ6 deficiency: 0, classes 0 0\nQ7 positively dependent: no\nQ8 conservative: yes\nQ9 deficiency zero theorem: hypotheses hold, not weakly reversible\nQ10 deficiency one theorem: hypotheses hold\nQ11 regular: no, not positively dependent\nQ12 confluence vector: not applicable, not regular\nQ13 signal: not applicable\nQ14 concordant: yes\nQ15 strongly concordant: yes\nopen: 0\n";
 
 const TWICE_A: &[u8] =
-    b"crn report 1\nspecies 2: A B\ncomplexes 2: 2A; B\nreactions 1\nQ1 linkage classes: 1\n  class 1: 2A; B\nQ2 strong classes: 2, terminal 1\n  strong 1: 2A\n  strong 2: B (terminal)\nQ3 reversible: no\n  reaction 1: 2A -> B\nQ4 weakly reversible: no\n  reaction 1: 2A -> B\nQ5 rank: 1\nQ6 deficiency: 0, classes 0\nQ7 positively dependent: no\nQ8 conservative: yes\nQ9 deficiency zero theorem: hypotheses hold, not weakly reversible\nQ10 deficiency one theorem: hypotheses hold\nQ11 regular: no, not positively dependent\nQ12 confluence vector: not applicable, not regular\nQ14 concordant: yes\nQ15 strongly concordant: yes\nopen: 0\n";
+    b"crn report 1\nspecies 2: A B\ncomplexes 2: 2A; B\nreactions 1\nQ1 linkage classes: 1\n  class 1: 2A; B\nQ2 strong classes: 2, terminal 1\n  strong 1: 2A\n  strong 2: B (terminal)\nQ3 reversible: no\n  reaction 1: 2A -> B\nQ4 weakly reversible: no\n  reaction 1: 2A -> B\nQ5 rank: 1\nQ6 deficiency: 0, classes 0\nQ7 positively dependent: no\nQ8 conservative: yes\nQ9 deficiency zero theorem: hypotheses hold, not weakly reversible\nQ10 deficiency one theorem: hypotheses hold\nQ11 regular: no, not positively dependent\nQ12 confluence vector: not applicable, not regular\nQ13 signal: not applicable\nQ14 concordant: yes\nQ15 strongly concordant: yes\nopen: 0\n";
 
 const BOTH_WAYS: &[u8] =
-    b"crn report 1\nspecies 2: X Y\ncomplexes 2: 3X + 2Y; 0\nreactions 2\nQ1 linkage classes: 1\n  class 1: 3X + 2Y; 0\nQ2 strong classes: 1, terminal 1\n  strong 1: 3X + 2Y; 0 (terminal)\nQ3 reversible: yes\nQ4 weakly reversible: yes\nQ5 rank: 1\nQ6 deficiency: 0, classes 0\nQ7 positively dependent: yes\nQ8 conservative: no\nQ9 deficiency zero theorem: hypotheses hold, weakly reversible\nQ10 deficiency one theorem: hypotheses hold\nQ11 regular: yes\nQ12 confluence vector: not applicable, no vector but zero\nQ14 concordant: yes\nQ15 strongly concordant: yes\nopen: 0\n";
+    b"crn report 1\nspecies 2: X Y\ncomplexes 2: 3X + 2Y; 0\nreactions 2\nQ1 linkage classes: 1\n  class 1: 3X + 2Y; 0\nQ2 strong classes: 1, terminal 1\n  strong 1: 3X + 2Y; 0 (terminal)\nQ3 reversible: yes\nQ4 weakly reversible: yes\nQ5 rank: 1\nQ6 deficiency: 0, classes 0\nQ7 positively dependent: yes\nQ8 conservative: no\nQ9 deficiency zero theorem: hypotheses hold, weakly reversible\nQ10 deficiency one theorem: hypotheses hold\nQ11 regular: yes\nQ12 confluence vector: not applicable, no vector but zero\nQ13 signal: not applicable\nQ14 concordant: yes\nQ15 strongly concordant: yes\nopen: 0\n";
 
 const LARGEST: &[u8] =
-    b"crn report 1\nspecies 2: A B\ncomplexes 2: A; 99B\nreactions 1\nQ1 linkage classes: 1\n  class 1: A; 99B\nQ2 strong classes: 2, terminal 1\n  strong 1: A\n  strong 2: 99B (terminal)\nQ3 reversible: no\n  reaction 1: A -> 99B\nQ4 weakly reversible: no\n  reaction 1: A -> 99B\nQ5 rank: 1\nQ6 deficiency: 0, classes 0\nQ7 positively dependent: no\nQ8 conservative: yes\nQ9 deficiency zero theorem: hypotheses hold, not weakly reversible\nQ10 deficiency one theorem: hypotheses hold\nQ11 regular: no, not positively dependent\nQ12 confluence vector: not applicable, not regular\nQ14 concordant: yes\nQ15 strongly concordant: yes\nopen: 0\n";
+    b"crn report 1\nspecies 2: A B\ncomplexes 2: A; 99B\nreactions 1\nQ1 linkage classes: 1\n  class 1: A; 99B\nQ2 strong classes: 2, terminal 1\n  strong 1: A\n  strong 2: 99B (terminal)\nQ3 reversible: no\n  reaction 1: A -> 99B\nQ4 weakly reversible: no\n  reaction 1: A -> 99B\nQ5 rank: 1\nQ6 deficiency: 0, classes 0\nQ7 positively dependent: no\nQ8 conservative: yes\nQ9 deficiency zero theorem: hypotheses hold, not weakly reversible\nQ10 deficiency one theorem: hypotheses hold\nQ11 regular: no, not positively dependent\nQ12 confluence vector: not applicable, not regular\nQ13 signal: not applicable\nQ14 concordant: yes\nQ15 strongly concordant: yes\nopen: 0\n";
 
 const CHAIN: &[u8] =
-    b"crn report 1\nspecies 4: A B C D\ncomplexes 4: A; B; C; D\nreactions 4\nQ1 linkage classes: 1\n  class 1: A; B; C; D\nQ2 strong classes: 3, terminal 1\n  strong 1: A; B\n  strong 2: C (terminal)\n  strong 3: D\nQ3 reversible: no\n  reaction 3: B -> C\nQ4 weakly reversible: no\n  reaction 3: B -> C\nQ5 rank: 3\nQ6 deficiency: 0, classes 0\nQ7 positively dependent: no\nQ8 conservative: yes\nQ9 deficiency zero theorem: hypotheses hold, not weakly reversible\nQ10 deficiency one theorem: hypotheses hold\nQ11 regular: no, not positively dependent\nQ12 confluence vector: not applicable, not regular\nQ14 concordant: yes\nQ15 strongly concordant: yes\nopen: 0\n";
+    b"crn report 1\nspecies 4: A B C D\ncomplexes 4: A; B; C; D\nreactions 4\nQ1 linkage classes: 1\n  class 1: A; B; C; D\nQ2 strong classes: 3, terminal 1\n  strong 1: A; B\n  strong 2: C (terminal)\n  strong 3: D\nQ3 reversible: no\n  reaction 3: B -> C\nQ4 weakly reversible: no\n  reaction 3: B -> C\nQ5 rank: 3\nQ6 deficiency: 0, classes 0\nQ7 positively dependent: no\nQ8 conservative: yes\nQ9 deficiency zero theorem: hypotheses hold, not weakly reversible\nQ10 deficiency one theorem: hypotheses hold\nQ11 regular: no, not positively dependent\nQ12 confluence vector: not applicable, not regular\nQ13 signal: not applicable\nQ14 concordant: yes\nQ15 strongly concordant: yes\nopen: 0\n";
 
 const BACK: &[u8] =
-    b"crn report 1\nspecies 2: B A\ncomplexes 2: B; A\nreactions 1\nQ1 linkage classes: 1\n  class 1: B; A\nQ2 strong classes: 2, terminal 1\n  strong 1: B\n  strong 2: A (terminal)\nQ3 reversible: no\n  reaction 1: B -> A\nQ4 weakly reversible: no\n  reaction 1: B -> A\nQ5 rank: 1\nQ6 deficiency: 0, classes 0\nQ7 positively dependent: no\nQ8 conservative: yes\nQ9 deficiency zero theorem: hypotheses hold, not weakly reversible\nQ10 deficiency one theorem: hypotheses hold\nQ11 regular: no, not positively dependent\nQ12 confluence vector: not applicable, not regular\nQ14 concordant: yes\nQ15 strongly concordant: yes\nopen: 0\n";
+    b"crn report 1\nspecies 2: B A\ncomplexes 2: B; A\nreactions 1\nQ1 linkage classes: 1\n  class 1: B; A\nQ2 strong classes: 2, terminal 1\n  strong 1: B\n  strong 2: A (terminal)\nQ3 reversible: no\n  reaction 1: B -> A\nQ4 weakly reversible: no\n  reaction 1: B -> A\nQ5 rank: 1\nQ6 deficiency: 0, classes 0\nQ7 positively dependent: no\nQ8 conservative: yes\nQ9 deficiency zero theorem: hypotheses hold, not weakly reversible\nQ10 deficiency one theorem: hypotheses hold\nQ11 regular: no, not positively dependent\nQ12 confluence vector: not applicable, not regular\nQ13 signal: not applicable\nQ14 concordant: yes\nQ15 strongly concordant: yes\nopen: 0\n";
 
 const GROWTH: &[u8] =
-    b"crn report 1\nspecies 2: A B\ncomplexes 4: A; 2A; B; 2B\nreactions 2\nQ1 linkage classes: 2\n  class 1: A; 2A\n  class 2: B; 2B\nQ2 strong classes: 4, terminal 2\n  strong 1: A\n  strong 2: 2A (terminal)\n  strong 3: B\n  strong 4: 2B (terminal)\nQ3 reversible: no\n  reaction 1: A -> 2A\nQ4 weakly reversible: no\n  reaction 1: A -> 2A\nQ5 rank: 2\nQ6 deficiency: 0, classes 0 0\nQ7 positively dependent: no\nQ8 conservative: no\nQ9 deficiency zero theorem: hypotheses hold, not weakly reversible\nQ10 deficiency one theorem: hypotheses hold\nQ11 regular: no, not positively dependent\nQ12 confluence vector: not applicable, not regular\nQ14 concordant: yes\nQ15 strongly concordant: yes\nopen: 0\n";
+    b"crn report 1\nspecies 2: A B\ncomplexes 4: A; 2A; B; 2B\nreactions 2\nQ1 linkage classes: 2\n  class 1: A; 2A\n  class 2: B; 2B\nQ2 strong classes: 4, terminal 2\n  strong 1: A\n  strong 2: 2A (terminal)\n  strong 3: B\n  strong 4: 2B (terminal)\nQ3 reversible: no\n  reaction 1: A -> 2A\nQ4 weakly reversible: no\n  reaction 1: A -> 2A\nQ5 rank: 2\nQ6 deficiency: 0, classes 0 0\nQ7 positively dependent: no\nQ8 conservative: no\nQ9 deficiency zero theorem: hypotheses hold, not weakly reversible\nQ10 deficiency one theorem: hypotheses hold\nQ11 regular: no, not positively dependent\nQ12 confluence vector: not applicable, not regular\nQ13 signal: not applicable\nQ14 concordant: yes\nQ15 strongly concordant: yes\nopen: 0\n";
 
 // Each row: what it shows, the text, and its report.
 const REPORTS: &[(&str, &str, &[u8])] = &[
@@ -64,47 +64,47 @@ const LITERATURE: &[(&str, &str, &[u8])] = &[
     (
         "Edelstein",
         "A <-> 2A\nA + B <-> C\nC <-> B\n",
-        b"crn report 1\nspecies 3: A B C\ncomplexes 5: A; 2A; A + B; C; B\nreactions 6\nQ1 linkage classes: 2\n  class 1: A; 2A\n  class 2: A + B; C; B\nQ2 strong classes: 2, terminal 2\n  strong 1: A; 2A (terminal)\n  strong 2: A + B; C; B (terminal)\nQ3 reversible: yes\nQ4 weakly reversible: yes\nQ5 rank: 2\nQ6 deficiency: 1, classes 0 0\nQ7 positively dependent: yes\nQ8 conservative: no\nQ9 deficiency zero theorem: hypotheses fail, deficiency 1\nQ10 deficiency one theorem: hypotheses fail, class deficiencies sum to 0\nQ11 regular: yes\nQ12 confluence vector: yes\n  vector: 1 -1 1 0 -1\nQ14 concordant: no\nQ15 strongly concordant: yes\nopen: 0\n",
+        b"crn report 1\nspecies 3: A B C\ncomplexes 5: A; 2A; A + B; C; B\nreactions 6\nQ1 linkage classes: 2\n  class 1: A; 2A\n  class 2: A + B; C; B\nQ2 strong classes: 2, terminal 2\n  strong 1: A; 2A (terminal)\n  strong 2: A + B; C; B (terminal)\nQ3 reversible: yes\nQ4 weakly reversible: yes\nQ5 rank: 2\nQ6 deficiency: 1, classes 0 0\nQ7 positively dependent: yes\nQ8 conservative: no\nQ9 deficiency zero theorem: hypotheses fail, deficiency 1\nQ10 deficiency one theorem: hypotheses fail, class deficiencies sum to 0\nQ11 regular: yes\nQ12 confluence vector: yes\n  vector: 1 -1 1 0 -1\nQ13 signal: yes\n  turn: -1\nQ14 concordant: no\nQ15 strongly concordant: yes\nopen: 0\n",
     ),
     (
         "Brusselator",
         "0 <-> A\nA -> B\n2A + B -> 3A\n",
-        b"crn report 1\nspecies 2: A B\ncomplexes 5: 0; A; B; 2A + B; 3A\nreactions 4\nQ1 linkage classes: 2\n  class 1: 0; A; B\n  class 2: 2A + B; 3A\nQ2 strong classes: 4, terminal 2\n  strong 1: 0; A\n  strong 2: B (terminal)\n  strong 3: 2A + B\n  strong 4: 3A (terminal)\nQ3 reversible: no\n  reaction 3: A -> B\nQ4 weakly reversible: no\n  reaction 3: A -> B\nQ5 rank: 2\nQ6 deficiency: 1, classes 0 0\nQ7 positively dependent: yes\nQ8 conservative: no\nQ9 deficiency zero theorem: hypotheses fail, deficiency 1\nQ10 deficiency one theorem: hypotheses fail, class deficiencies sum to 0\nQ11 regular: yes\nQ12 confluence vector: yes\n  vector: 0 -1 1 -1 1\nQ14 concordant: yes\nQ15 strongly concordant: yes\nopen: 0\n",
+        b"crn report 1\nspecies 2: A B\ncomplexes 5: 0; A; B; 2A + B; 3A\nreactions 4\nQ1 linkage classes: 2\n  class 1: 0; A; B\n  class 2: 2A + B; 3A\nQ2 strong classes: 4, terminal 2\n  strong 1: 0; A\n  strong 2: B (terminal)\n  strong 3: 2A + B\n  strong 4: 3A (terminal)\nQ3 reversible: no\n  reaction 3: A -> B\nQ4 weakly reversible: no\n  reaction 3: A -> B\nQ5 rank: 2\nQ6 deficiency: 1, classes 0 0\nQ7 positively dependent: yes\nQ8 conservative: no\nQ9 deficiency zero theorem: hypotheses fail, deficiency 1\nQ10 deficiency one theorem: hypotheses fail, class deficiencies sum to 0\nQ11 regular: yes\nQ12 confluence vector: yes\n  vector: 0 -1 1 -1 1\nQ13 signal: no\nQ14 concordant: yes\nQ15 strongly concordant: yes\nopen: 0\n",
     ),
     (
         "two steps at one deficient class",
         "2A <-> A + B\nA + B <-> 2B\n",
-        b"crn report 1\nspecies 2: A B\ncomplexes 3: 2A; A + B; 2B\nreactions 4\nQ1 linkage classes: 1\n  class 1: 2A; A + B; 2B\nQ2 strong classes: 1, terminal 1\n  strong 1: 2A; A + B; 2B (terminal)\nQ3 reversible: yes\nQ4 weakly reversible: yes\nQ5 rank: 1\nQ6 deficiency: 1, classes 1\nQ7 positively dependent: yes\nQ8 conservative: yes\nQ9 deficiency zero theorem: hypotheses fail, deficiency 1\nQ10 deficiency one theorem: hypotheses hold\nQ11 regular: yes\nQ12 confluence vector: yes\n  vector: 1 -2 1\nQ14 concordant: no\nQ15 strongly concordant: yes\nopen: 0\n",
+        b"crn report 1\nspecies 2: A B\ncomplexes 3: 2A; A + B; 2B\nreactions 4\nQ1 linkage classes: 1\n  class 1: 2A; A + B; 2B\nQ2 strong classes: 1, terminal 1\n  strong 1: 2A; A + B; 2B (terminal)\nQ3 reversible: yes\nQ4 weakly reversible: yes\nQ5 rank: 1\nQ6 deficiency: 1, classes 1\nQ7 positively dependent: yes\nQ8 conservative: yes\nQ9 deficiency zero theorem: hypotheses fail, deficiency 1\nQ10 deficiency one theorem: hypotheses hold\nQ11 regular: yes\nQ12 confluence vector: yes\n  vector: 1 -2 1\nQ13 signal: no\nQ14 concordant: no\nQ15 strongly concordant: yes\nopen: 0\n",
     ),
     (
         "growth and decay",
         "A -> 2A\nA -> 0\n",
-        b"crn report 1\nspecies 1: A\ncomplexes 3: A; 2A; 0\nreactions 2\nQ1 linkage classes: 1\n  class 1: A; 2A; 0\nQ2 strong classes: 3, terminal 2\n  strong 1: A\n  strong 2: 2A (terminal)\n  strong 3: 0 (terminal)\nQ3 reversible: no\n  reaction 1: A -> 2A\nQ4 weakly reversible: no\n  reaction 1: A -> 2A\nQ5 rank: 1\nQ6 deficiency: 1, classes 1\nQ7 positively dependent: yes\nQ8 conservative: no\nQ9 deficiency zero theorem: hypotheses fail, deficiency 1\nQ10 deficiency one theorem: hypotheses fail, class 1 has 2 terminal classes\nQ11 regular: no, class 1 has 2 terminal classes\nQ12 confluence vector: not applicable, not regular\nQ14 concordant: no\nQ15 strongly concordant: yes\nopen: 0\n",
+        b"crn report 1\nspecies 1: A\ncomplexes 3: A; 2A; 0\nreactions 2\nQ1 linkage classes: 1\n  class 1: A; 2A; 0\nQ2 strong classes: 3, terminal 2\n  strong 1: A\n  strong 2: 2A (terminal)\n  strong 3: 0 (terminal)\nQ3 reversible: no\n  reaction 1: A -> 2A\nQ4 weakly reversible: no\n  reaction 1: A -> 2A\nQ5 rank: 1\nQ6 deficiency: 1, classes 1\nQ7 positively dependent: yes\nQ8 conservative: no\nQ9 deficiency zero theorem: hypotheses fail, deficiency 1\nQ10 deficiency one theorem: hypotheses fail, class 1 has 2 terminal classes\nQ11 regular: no, class 1 has 2 terminal classes\nQ12 confluence vector: not applicable, not regular\nQ13 signal: not applicable\nQ14 concordant: no\nQ15 strongly concordant: yes\nopen: 0\n",
     ),
     (
         "two-site futile cycle",
         "# two-site futile cycle\nS0 + K <-> KS0\nKS0 -> S1 + K\nS1 + K <-> KS1\nKS1 -> S2 + K\nS2 + F <-> FS2\nFS2 -> S1 + F\nS1 + F <-> FS1\nFS1 -> S0 + F\n",
-        b"crn report 1\nspecies 9: S0 K KS0 S1 KS1 S2 F FS2 FS1\ncomplexes 10: S0 + K; KS0; K + S1; KS1; K + S2; S2 + F; FS2; S1 + F; FS1; S0 + F\nreactions 12\nQ1 linkage classes: 2\n  class 1: S0 + K; KS0; K + S1; KS1; K + S2\n  class 2: S2 + F; FS2; S1 + F; FS1; S0 + F\nQ2 strong classes: 6, terminal 2\n  strong 1: S0 + K; KS0\n  strong 2: K + S1; KS1\n  strong 3: K + S2 (terminal)\n  strong 4: S2 + F; FS2\n  strong 5: S1 + F; FS1\n  strong 6: S0 + F (terminal)\nQ3 reversible: no\n  reaction 3: KS0 -> K + S1\nQ4 weakly reversible: no\n  reaction 3: KS0 -> K + S1\nQ5 rank: 6\nQ6 deficiency: 2, classes 0 0\nQ7 positively dependent: yes\nQ8 conservative: yes\nQ9 deficiency zero theorem: hypotheses fail, deficiency 2\nQ10 deficiency one theorem: hypotheses fail, class deficiencies sum to 0\nQ11 regular: yes\nQ12 confluence vector: not applicable, two independent vectors\nQ14 concordant: no\nQ15 strongly concordant: no\nopen: 0\n",
+        b"crn report 1\nspecies 9: S0 K KS0 S1 KS1 S2 F FS2 FS1\ncomplexes 10: S0 + K; KS0; K + S1; KS1; K + S2; S2 + F; FS2; S1 + F; FS1; S0 + F\nreactions 12\nQ1 linkage classes: 2\n  class 1: S0 + K; KS0; K + S1; KS1; K + S2\n  class 2: S2 + F; FS2; S1 + F; FS1; S0 + F\nQ2 strong classes: 6, terminal 2\n  strong 1: S0 + K; KS0\n  strong 2: K + S1; KS1\n  strong 3: K + S2 (terminal)\n  strong 4: S2 + F; FS2\n  strong 5: S1 + F; FS1\n  strong 6: S0 + F (terminal)\nQ3 reversible: no\n  reaction 3: KS0 -> K + S1\nQ4 weakly reversible: no\n  reaction 3: KS0 -> K + S1\nQ5 rank: 6\nQ6 deficiency: 2, classes 0 0\nQ7 positively dependent: yes\nQ8 conservative: yes\nQ9 deficiency zero theorem: hypotheses fail, deficiency 2\nQ10 deficiency one theorem: hypotheses fail, class deficiencies sum to 0\nQ11 regular: yes\nQ12 confluence vector: not applicable, two independent vectors\nQ13 signal: not applicable\nQ14 concordant: no\nQ15 strongly concordant: no\nopen: 0\n",
     ),
     (
         "nine steps of 99",
         "X1 -> 99X2\nX2 -> 99X3\nX3 -> 99X4\nX4 -> 99X5\nX5 -> 99X6\nX6 -> 99X7\nX7 -> 99X8\nX8 -> 99X9\nX9 -> 99X10\n",
-        b"crn report 1\nspecies 10: X1 X2 X3 X4 X5 X6 X7 X8 X9 X10\ncomplexes 18: X1; 99X2; X2; 99X3; X3; 99X4; X4; 99X5; X5; 99X6; X6; 99X7; X7; 99X8; X8; 99X9; X9; 99X10\nreactions 9\nQ1 linkage classes: 9\n  class 1: X1; 99X2\n  class 2: X2; 99X3\n  class 3: X3; 99X4\n  class 4: X4; 99X5\n  class 5: X5; 99X6\n  class 6: X6; 99X7\n  class 7: X7; 99X8\n  class 8: X8; 99X9\n  class 9: X9; 99X10\nQ2 strong classes: 18, terminal 9\n  strong 1: X1\n  strong 2: 99X2 (terminal)\n  strong 3: X2\n  strong 4: 99X3 (terminal)\n  strong 5: X3\n  strong 6: 99X4 (terminal)\n  strong 7: X4\n  strong 8: 99X5 (terminal)\n  strong 9: X5\n  strong 10: 99X6 (terminal)\n  strong 11: X6\n  strong 12: 99X7 (terminal)\n  strong 13: X7\n  strong 14: 99X8 (terminal)\n  strong 15: X8\n  strong 16: 99X9 (terminal)\n  strong 17: X9\n  strong 18: 99X10 (terminal)\nQ3 reversible: no\n  reaction 1: X1 -> 99X2\nQ4 weakly reversible: no\n  reaction 1: X1 -> 99X2\nQ5 rank: 9\nQ6 deficiency: 0, classes 0 0 0 0 0 0 0 0 0\nQ7 positively dependent: no\nQ8 conservative: yes\nQ9 deficiency zero theorem: hypotheses hold, not weakly reversible\nQ10 deficiency one theorem: hypotheses hold\nQ11 regular: no, not positively dependent\nQ12 confluence vector: not applicable, not regular\nQ14 concordant: yes\nQ15 strongly concordant: yes\nopen: 0\n",
+        b"crn report 1\nspecies 10: X1 X2 X3 X4 X5 X6 X7 X8 X9 X10\ncomplexes 18: X1; 99X2; X2; 99X3; X3; 99X4; X4; 99X5; X5; 99X6; X6; 99X7; X7; 99X8; X8; 99X9; X9; 99X10\nreactions 9\nQ1 linkage classes: 9\n  class 1: X1; 99X2\n  class 2: X2; 99X3\n  class 3: X3; 99X4\n  class 4: X4; 99X5\n  class 5: X5; 99X6\n  class 6: X6; 99X7\n  class 7: X7; 99X8\n  class 8: X8; 99X9\n  class 9: X9; 99X10\nQ2 strong classes: 18, terminal 9\n  strong 1: X1\n  strong 2: 99X2 (terminal)\n  strong 3: X2\n  strong 4: 99X3 (terminal)\n  strong 5: X3\n  strong 6: 99X4 (terminal)\n  strong 7: X4\n  strong 8: 99X5 (terminal)\n  strong 9: X5\n  strong 10: 99X6 (terminal)\n  strong 11: X6\n  strong 12: 99X7 (terminal)\n  strong 13: X7\n  strong 14: 99X8 (terminal)\n  strong 15: X8\n  strong 16: 99X9 (terminal)\n  strong 17: X9\n  strong 18: 99X10 (terminal)\nQ3 reversible: no\n  reaction 1: X1 -> 99X2\nQ4 weakly reversible: no\n  reaction 1: X1 -> 99X2\nQ5 rank: 9\nQ6 deficiency: 0, classes 0 0 0 0 0 0 0 0 0\nQ7 positively dependent: no\nQ8 conservative: yes\nQ9 deficiency zero theorem: hypotheses hold, not weakly reversible\nQ10 deficiency one theorem: hypotheses hold\nQ11 regular: no, not positively dependent\nQ12 confluence vector: not applicable, not regular\nQ13 signal: not applicable\nQ14 concordant: yes\nQ15 strongly concordant: yes\nopen: 0\n",
     ),
     (
         "a cycle of three",
         "A -> B\nB -> C\nC -> A\n",
-        b"crn report 1\nspecies 3: A B C\ncomplexes 3: A; B; C\nreactions 3\nQ1 linkage classes: 1\n  class 1: A; B; C\nQ2 strong classes: 1, terminal 1\n  strong 1: A; B; C (terminal)\nQ3 reversible: no\n  reaction 1: A -> B\nQ4 weakly reversible: yes\nQ5 rank: 2\nQ6 deficiency: 0, classes 0\nQ7 positively dependent: yes\nQ8 conservative: yes\nQ9 deficiency zero theorem: hypotheses hold, weakly reversible\nQ10 deficiency one theorem: hypotheses hold\nQ11 regular: no, a cycle in a terminal class\nQ12 confluence vector: not applicable, not regular\nQ14 concordant: yes\nQ15 strongly concordant: yes\nopen: 0\n",
+        b"crn report 1\nspecies 3: A B C\ncomplexes 3: A; B; C\nreactions 3\nQ1 linkage classes: 1\n  class 1: A; B; C\nQ2 strong classes: 1, terminal 1\n  strong 1: A; B; C (terminal)\nQ3 reversible: no\n  reaction 1: A -> B\nQ4 weakly reversible: yes\nQ5 rank: 2\nQ6 deficiency: 0, classes 0\nQ7 positively dependent: yes\nQ8 conservative: yes\nQ9 deficiency zero theorem: hypotheses hold, weakly reversible\nQ10 deficiency one theorem: hypotheses hold\nQ11 regular: no, a cycle in a terminal class\nQ12 confluence vector: not applicable, not regular\nQ13 signal: not applicable\nQ14 concordant: yes\nQ15 strongly concordant: yes\nopen: 0\n",
     ),
     (
         "both ways",
         "A <-> B\n",
-        b"crn report 1\nspecies 2: A B\ncomplexes 2: A; B\nreactions 2\nQ1 linkage classes: 1\n  class 1: A; B\nQ2 strong classes: 1, terminal 1\n  strong 1: A; B (terminal)\nQ3 reversible: yes\nQ4 weakly reversible: yes\nQ5 rank: 1\nQ6 deficiency: 0, classes 0\nQ7 positively dependent: yes\nQ8 conservative: yes\nQ9 deficiency zero theorem: hypotheses hold, weakly reversible\nQ10 deficiency one theorem: hypotheses hold\nQ11 regular: yes\nQ12 confluence vector: not applicable, no vector but zero\nQ14 concordant: yes\nQ15 strongly concordant: yes\nopen: 0\n",
+        b"crn report 1\nspecies 2: A B\ncomplexes 2: A; B\nreactions 2\nQ1 linkage classes: 1\n  class 1: A; B\nQ2 strong classes: 1, terminal 1\n  strong 1: A; B (terminal)\nQ3 reversible: yes\nQ4 weakly reversible: yes\nQ5 rank: 1\nQ6 deficiency: 0, classes 0\nQ7 positively dependent: yes\nQ8 conservative: yes\nQ9 deficiency zero theorem: hypotheses hold, weakly reversible\nQ10 deficiency one theorem: hypotheses hold\nQ11 regular: yes\nQ12 confluence vector: not applicable, no vector but zero\nQ13 signal: not applicable\nQ14 concordant: yes\nQ15 strongly concordant: yes\nopen: 0\n",
     ),
     (
         "a vector that is zero alone",
         "A -> B\nB -> A\nC -> 2C\n2C -> C\n",
-        b"crn report 1\nspecies 3: A B C\ncomplexes 4: A; B; C; 2C\nreactions 4\nQ1 linkage classes: 2\n  class 1: A; B\n  class 2: C; 2C\nQ2 strong classes: 2, terminal 2\n  strong 1: A; B (terminal)\n  strong 2: C; 2C (terminal)\nQ3 reversible: yes\nQ4 weakly reversible: yes\nQ5 rank: 2\nQ6 deficiency: 0, classes 0 0\nQ7 positively dependent: yes\nQ8 conservative: no\nQ9 deficiency zero theorem: hypotheses hold, weakly reversible\nQ10 deficiency one theorem: hypotheses hold\nQ11 regular: yes\nQ12 confluence vector: not applicable, no vector but zero\nQ14 concordant: no\nQ15 strongly concordant: yes\nopen: 0\n",
+        b"crn report 1\nspecies 3: A B C\ncomplexes 4: A; B; C; 2C\nreactions 4\nQ1 linkage classes: 2\n  class 1: A; B\n  class 2: C; 2C\nQ2 strong classes: 2, terminal 2\n  strong 1: A; B (terminal)\n  strong 2: C; 2C (terminal)\nQ3 reversible: yes\nQ4 weakly reversible: yes\nQ5 rank: 2\nQ6 deficiency: 0, classes 0 0\nQ7 positively dependent: yes\nQ8 conservative: no\nQ9 deficiency zero theorem: hypotheses hold, weakly reversible\nQ10 deficiency one theorem: hypotheses hold\nQ11 regular: yes\nQ12 confluence vector: not applicable, no vector but zero\nQ13 signal: not applicable\nQ14 concordant: no\nQ15 strongly concordant: yes\nopen: 0\n",
     ),
 ];
 
@@ -166,6 +166,10 @@ fn a_text_is_refused_for_its_first_fault(rt: HostRuntime) {
     }
 }
 
+// A protein that is phosphorylated at two sites by one enzyme, and dephosphorylated by another.
+pub const TWO_SITES: &str =
+    "# two-site futile cycle\nS0 + K <-> KS0\nKS0 -> S1 + K\nS1 + K <-> KS1\nKS1 -> S2 + K\nS2 + F <-> FS2\nFS2 -> S1 + F\nS1 + F <-> FS1\nFS1 -> S0 + F\n";
+
 // Chains in which a molecule becomes 99 of the next species.
 pub const NINE: &str =
     "X1 -> 99X2\nX2 -> 99X3\nX3 -> 99X4\nX4 -> 99X5\nX5 -> 99X6\nX6 -> 99X7\nX7 -> 99X8\nX8 -> 99X9\nX9 -> 99X10\n";
@@ -213,7 +217,7 @@ const WIDE: &[(&str, &str, &[&str])] = &[
         &[
             "\nQ7 positively dependent: no\n  multipliers: ",
             "\nQ8 conservative: open, wide\n  system 1\n  index ",
-            "\nQ11 regular: no, not positively dependent\nQ12 confluence vector: not applicable, not regular\n",
+            "\nQ11 regular: no, not positively dependent\nQ12 confluence vector: not applicable, not regular\nQ13 signal: not applicable\n",
         ],
     ),
     (
@@ -222,7 +226,7 @@ const WIDE: &[(&str, &str, &[&str])] = &[
         &[
             "\nQ7 positively dependent: no\n  multipliers: ",
             "\nQ8 conservative: no\n  multipliers: ",
-            "\nQ11 regular: no, not positively dependent\nQ12 confluence vector: not applicable, not regular\n",
+            "\nQ11 regular: no, not positively dependent\nQ12 confluence vector: not applicable, not regular\nQ13 signal: not applicable\n",
         ],
     ),
     (
@@ -230,7 +234,7 @@ const WIDE: &[(&str, &str, &[&str])] = &[
         THROUGH,
         &[
             "\nQ7 positively dependent: open, wide\n  system 2\n  index ",
-            "\nQ11 regular: open, rests on Q7\nQ12 confluence vector: open, rests on Q11\n",
+            "\nQ11 regular: open, rests on Q7\nQ12 confluence vector: open, rests on Q11\nQ13 signal: open, rests on Q12\n",
         ],
     ),
 ];
@@ -296,6 +300,19 @@ const BUDGETS: &[(&str, &str, Status, &str)] = &[
         "A <-> B",
         Status::OpenLeft,
         "\nsection concordance\nq14 open budget 7\nq15 open budget 7\nend\n",
+    ),
+    (
+        "crnt report --budget 1",
+        TWO_SITES,
+        Status::OpenLeft,
+        "\nQ14 concordant: open, budget 1\nQ15 strongly concordant: open, budget 1\nopen: 2\n",
+    ),
+    // of two confluence vectors the first prefix alone is visited
+    (
+        "crnt report --budget 1",
+        "2A <-> A + B\nA + B <-> 2B\n",
+        Status::OpenLeft,
+        "\nQ13 signal: open, budget 1\nQ14 concordant: open, budget 1\nQ15 strongly concordant: open, budget 1\nopen: 3\n",
     ),
 ];
 

@@ -66,12 +66,15 @@ pub fn has_in_turn(text: &str, parts: &[&str]) -> bool {
     true
 }
 
-// Whether a line gives a base, multipliers, a positive vector, a walk or a pair that shows discordance, of which several
-// would do.
+// Whether a line gives a base, multipliers, a positive vector, a walk, a signal or a pair that shows discordance, of which
+// several would do.
 fn is_one_of_several(line: &str) -> bool {
     line.starts_with("  independent reactions: ")
         || line.starts_with("  multipliers: ")
         || line.starts_with("  positive ")
+        || line.starts_with("  shelves: ")
+        || line.starts_with("  mu: ")
+        || line.starts_with("  m: ")
         || line.starts_with("  sigma: ")
         || line.starts_with("  alpha: ")
         || line.contains(", walk: ")

@@ -49,6 +49,29 @@ fn certify_takes_at_most_one_budget(rt: HostRuntime) {
     }
 }
 
+const SAMPLES: &[(&str, u32, u32)] = &[
+    ("crnt sample 1", 1, DEFAULT_BUDGET),
+    ("crnt sample 19", 19, DEFAULT_BUDGET),
+    ("crnt sample 08", 8, DEFAULT_BUDGET),
+    ("crnt --budget 7 sample 8", 8, 7),
+    ("crnt --budget=7 sample 8", 8, 7),
+    ("crnt sample --budget 7 8", 8, 7),
+    ("crnt sample --budget=7 8", 8, 7),
+    ("crnt sample 8 --budget 7", 8, 7),
+    ("crnt sample 8 --budget=7", 8, 7),
+];
+
+#[test]
+fn sample_takes_a_number_and_at_most_one_budget(rt: HostRuntime) {
+    for (line, number, budget) in SAMPLES {
+        let want = Some(Command::Sample {
+            number: *number,
+            budget: *budget,
+        });
+        assert_eq!(rt; said(&rt, line), want, "{line}");
+    }
+}
+
 #[test]
 fn check_takes_no_budget(rt: HostRuntime) {
     assert_eq!(rt; said(&rt, "crnt check"), Some(Command::Check));
@@ -77,6 +100,21 @@ const OTHERS: &[&str] = &[
     "crnt -V",
     "crnt report -",
     "crnt report ",
+    "crnt sample",
+    "crnt sample --budget 5",
+    "crnt sample 0",
+    "crnt sample 20",
+    "crnt sample 001",
+    "crnt sample +1",
+    "crnt sample -1",
+    "crnt sample one",
+    "crnt sample ",
+    "crnt sample 1 2",
+    "crnt sample -- 1",
+    "crnt sample 1 --budget 0",
+    "crnt sample 1 --budget 5 --budget 6",
+    "crnt 1 sample",
+    "crnt check 1",
     "report",
     "",
 ];
@@ -90,9 +128,25 @@ fn other_words_are_no_command(rt: HostRuntime) {
     assert_eq!(rt; command_of(rt.alloc(), &none).expect(&rt, "memory"), None);
 }
 
+const USAGES: &[&str] = &[
+    "crnt",
+    "report",
+    "crnt frobnicate",
+    "crnt Report",
+    "crnt report --budget 0",
+    "crnt report --budget 100001",
+    "crnt report --budget 12x",
+    "crnt report 3",
+    "crnt check --budget 5",
+    "crnt sample",
+    "crnt sample 0",
+    "crnt sample 20",
+    "crnt report --",
+];
+
 #[test]
 fn words_that_are_no_command_give_the_usage_line(rt: HostRuntime) {
-    for line in ["crnt", "report", "crnt Report", "crnt report 3"] {
+    for line in USAGES {
         assert!(rt;
             ends_so(&rt, line, b"A -> B", Status::Usage, USAGE),
             "{line:?}"

@@ -1,4 +1,4 @@
-use Rattle.std.proofs.Common.{sym, ◌∙◌}
+use Rattle.std.proofs.Common.{◌≡◌, true, false, sym, ◌∙◌}
 use Rattle.crn_run.proofs.WordsSaid.{meant_is_said, said_is_read}
 use Rattle.crn_run.proofs.words.command_of.Goals as goal
 
@@ -11,3 +11,8 @@ pub returns-in-None : goal.returns-in-None
 returns-in-None c =
     let unread = rw c.in-None.is at c.in_ok-said.ensures in
     λ command is. unread (said_is_read _ command is).1
+
+pub returns-then-has_two_dashes : goal.returns-then-has_two_dashes
+returns-then-has_two_dashes c = λ command is.
+    let e : true ≡ false = sym c.if-has_two_dashes.true ∙ c.has_two_dashes.ensures ∙ (said_is_read _ command is).0 in
+    absurd cc
