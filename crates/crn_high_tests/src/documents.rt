@@ -17,19 +17,19 @@ use crn_net::Network;
 use std::process::Abort;
 
 const BOTH_WAYS: &[u8] =
-    b"crn certificate 1\nnetwork 2\nA -> B\nB -> A\nq1 1\nlabel 1 1\nup 0 1\ndepth 0 1\nq2 1 1\nlabel 1 1\nfrom 0 1\nfromdepth 0 1\nto 0 2\ntodepth 0 1\nlevel 0\nexit 0\nq3 yes\nback 2 1\nq4 yes\nq5 1\nbase 1\ndual -1 1\ncomb 1 -1\nq6 0 0\nbase 1\ndual -1 1\ncomb 1 -1\nq7 yes\nvec 1 1\nq8 yes\nvec 1 1\nq9 yes 1\nq10 yes\nq11 yes\nside 1 0 1\nq12 none zero\ntie 1 0 0\ntie 0 1 0\nq14 yes\nsplit\nsplit\nflat\ncuta 0 1\nsplit\ncuta 1 0\ncutb 1 1\ncuta 1 0\nq15 yes\nsplit\nsplit\nflat\ncuta 0 1\nsplit\ncuta 1 0\ncutb 1 1\ncuta 1 0\nend\n";
+    b"crn certificate 1\nnetwork 2\nA -> B\nB -> A\nq1 1\nlabel 1 1\nup 0 1\ndepth 0 1\nq2 1 1\nlabel 1 1\nfrom 0 1\nfromdepth 0 1\nto 0 2\ntodepth 0 1\nlevel 0\nexit 0\nq3 yes\nback 2 1\nq4 yes\nq5 1\nbase 1\ndual -1 1\ncomb 1 -1\nq6 0 0\nbase 1\ndual -1 1\ncomb 1 -1\nq7 yes\nvec 1 1\nq8 yes\nvec 1 1\nq9 yes 1\nq10 yes\nq11 yes\nside 1 0 1\nq12 none zero\ntie 1 0 0\ntie 0 1 0\nq13 none\nq14 yes\nsplit\nsplit\nflat\ncuta 0 1\nsplit\ncuta 1 0\ncutb 1 1\ncuta 1 0\nq15 yes\nsplit\nsplit\nflat\ncuta 0 1\nsplit\ncuta 1 0\ncutb 1 1\ncuta 1 0\nend\n";
 
 const BOTH_WAYS_2: &[u8] =
-    b"crn certificate 2\nnetwork 2\nA -> B\nB -> A\nvectors 3\nvector 0 1\nvector 1 0\nvector 1 1\nsection graph\nq1 1\nlabel 1 1\nup 0 1\ndepth 0 1\nq2 1 1\nlabel 1 1\nfrom 0 1\nfromdepth 0 1\nto 0 2\ntodepth 0 1\nlevel 0\nexit 0\nq3 yes\nback 2 1\nq4 yes\nsection rank\nq5 1\nbase 1\ndual -1 1\ncomb 1 -1\nq6 0 0\nbase 1\ndual -1 1\ncomb 1 -1\nsection dependence\nq7 yes\nvec 1 1\nq8 yes\nvec 1 1\nsection theorems\nq9 yes 1\nq10 yes\nsection confluence\nq11 yes\nside 1 0 1\nq12 none zero\ntie 1 0 0\ntie 0 1 0\nsection concordance\nq14 yes\nsplit\nsplit\nflat\nrefa 1\nsplit\nrefa 2\nrefb 3\nrefa 2\nq15 yes\nsplit\nsplit\nflat\nrefa 1\nsplit\nrefa 2\nrefb 3\nrefa 2\nend\n";
+    b"crn certificate 2\nnetwork 2\nA -> B\nB -> A\nvectors 3\nvector 0 1\nvector 1 0\nvector 1 1\nsection graph\nq1 1\nlabel 1 1\nup 0 1\ndepth 0 1\nq2 1 1\nlabel 1 1\nfrom 0 1\nfromdepth 0 1\nto 0 2\ntodepth 0 1\nlevel 0\nexit 0\nq3 yes\nback 2 1\nq4 yes\nsection rank\nq5 1\nbase 1\ndual -1 1\ncomb 1 -1\nq6 0 0\nbase 1\ndual -1 1\ncomb 1 -1\nsection dependence\nq7 yes\nvec 1 1\nq8 yes\nvec 1 1\nsection theorems\nq9 yes 1\nq10 yes\nsection confluence\nq11 yes\nside 1 0 1\nq12 none zero\ntie 1 0 0\ntie 0 1 0\nq13 none\nsection concordance\nq14 yes\nsplit\nsplit\nflat\nrefa 1\nsplit\nrefa 2\nrefb 3\nrefa 2\nq15 yes\nsplit\nsplit\nflat\nrefa 1\nsplit\nrefa 2\nrefb 3\nrefa 2\nend\n";
 
 const SOME_BY_NAME: &[u8] =
-    b"crn certificate 2\nnetwork 2\nA -> B\nB -> A\nvectors 3\nvector 0 1\nvector 1 0\nvector 1 1\nsection graph\nq1 1\nlabel 1 1\nup 0 1\ndepth 0 1\nq2 1 1\nlabel 1 1\nfrom 0 1\nfromdepth 0 1\nto 0 2\ntodepth 0 1\nlevel 0\nexit 0\nq3 yes\nback 2 1\nq4 yes\nsection rank\nq5 1\nbase 1\ndual -1 1\ncomb 1 -1\nq6 0 0\nbase 1\ndual -1 1\ncomb 1 -1\nsection dependence\nq7 yes\nvec 1 1\nq8 yes\nvec 1 1\nsection theorems\nq9 yes 1\nq10 yes\nsection confluence\nq11 yes\nside 1 0 1\nq12 none zero\ntie 1 0 0\ntie 0 1 0\nsection concordance\nq14 yes\nsplit\nsplit\nflat\ncuta 0 1\nsplit\nrefa 2\ncutb 1 1\ncuta 1 0\nq15 yes\nsplit\nsplit\nflat\ncuta 0 1\nsplit\ncuta 1 0\ncutb 1 1\ncuta 1 0\nend\n";
+    b"crn certificate 2\nnetwork 2\nA -> B\nB -> A\nvectors 3\nvector 0 1\nvector 1 0\nvector 1 1\nsection graph\nq1 1\nlabel 1 1\nup 0 1\ndepth 0 1\nq2 1 1\nlabel 1 1\nfrom 0 1\nfromdepth 0 1\nto 0 2\ntodepth 0 1\nlevel 0\nexit 0\nq3 yes\nback 2 1\nq4 yes\nsection rank\nq5 1\nbase 1\ndual -1 1\ncomb 1 -1\nq6 0 0\nbase 1\ndual -1 1\ncomb 1 -1\nsection dependence\nq7 yes\nvec 1 1\nq8 yes\nvec 1 1\nsection theorems\nq9 yes 1\nq10 yes\nsection confluence\nq11 yes\nside 1 0 1\nq12 none zero\ntie 1 0 0\ntie 0 1 0\nq13 none\nsection concordance\nq14 yes\nsplit\nsplit\nflat\ncuta 0 1\nsplit\nrefa 2\ncutb 1 1\ncuta 1 0\nq15 yes\nsplit\nsplit\nflat\ncuta 0 1\nsplit\ncuta 1 0\ncutb 1 1\ncuta 1 0\nend\n";
 
 const ONE_WAY: &[u8] =
-    b"crn certificate 1\nnetwork 1\nA -> B\nq1 1\nlabel 1 1\nup 0 1\ndepth 0 1\nq2 2 1\nlabel 1 2\nfrom 0 0\nfromdepth 0 0\nto 0 0\ntodepth 0 0\nlevel 1 0\nexit 1 0\nq3 no 1\nq4 no 1\nq5 open wide 1 0 3 1 2\nq6 open rests 5\nq7 no\ncut -1 1\nq8 yes\nvec 1 1\nq9 open rests 5\nq10 open rests 6\nq11 no dependence\nq12 none regular\nq14 open budget 1\nq15 open wide 2 0 1 2\nend\n";
+    b"crn certificate 1\nnetwork 1\nA -> B\nq1 1\nlabel 1 1\nup 0 1\ndepth 0 1\nq2 2 1\nlabel 1 2\nfrom 0 0\nfromdepth 0 0\nto 0 0\ntodepth 0 0\nlevel 1 0\nexit 1 0\nq3 no 1\nq4 no 1\nq5 open wide 1 0 3 1 2\nq6 open rests 5\nq7 no\ncut -1 1\nq8 yes\nvec 1 1\nq9 open rests 5\nq10 open rests 6\nq11 no dependence\nq12 none regular\nq13 none\nq14 open budget 1\nq15 open wide 2 0 1 2\nend\n";
 
 const ONE_WAY_WITH_A_PAIR: &[u8] =
-    b"crn certificate 1\nnetwork 1\nA -> B\nq1 1\nlabel 1 1\nup 0 1\ndepth 0 1\nq2 2 1\nlabel 1 2\nfrom 0 0\nfromdepth 0 0\nto 0 0\ntodepth 0 0\nlevel 1 0\nexit 1 0\nq3 no 1\nq4 no 1\nq5 open wide 1 0 3 1 2\nq6 open rests 5\nq7 no\ncut -1 1\nq8 yes\nvec 1 1\nq9 open rests 5\nq10 open rests 6\nq11 no dependence\nq12 none regular\nq14 no\nalpha 1\nweights -1\nq15 open wide 2 0 1 2\nend\n";
+    b"crn certificate 1\nnetwork 1\nA -> B\nq1 1\nlabel 1 1\nup 0 1\ndepth 0 1\nq2 2 1\nlabel 1 2\nfrom 0 0\nfromdepth 0 0\nto 0 0\ntodepth 0 0\nlevel 1 0\nexit 1 0\nq3 no 1\nq4 no 1\nq5 open wide 1 0 3 1 2\nq6 open rests 5\nq7 no\ncut -1 1\nq8 yes\nvec 1 1\nq9 open rests 5\nq10 open rests 6\nq11 no dependence\nq12 none regular\nq13 none\nq14 no\nalpha 1\nweights -1\nq15 open wide 2 0 1 2\nend\n";
 
 // The one class of two complexes that reaction 1 joins.
 fn one_class(rt: &(impl Abort + AllocGlobal)) -> Answer
@@ -247,6 +247,10 @@ fn answers_of_both_ways(rt: &(impl Abort + AllocGlobal)) -> Answers
     });
     answers.push(one_side(rt));
     answers.push(two_ties(rt));
+    answers.push(Answer {
+        verdict: Verdict::NotApplicable,
+        proof: Proof::Nothing,
+    });
     answers.push(one_tree(rt));
     answers.push(one_tree(rt));
     answers
@@ -402,6 +406,10 @@ fn answers_of_one_way(rt: &(impl Abort + AllocGlobal), fourteen: Answer) -> Answ
     });
     answers.push(Answer {
         verdict: Verdict::NotRegular,
+        proof: Proof::Nothing,
+    });
+    answers.push(Answer {
+        verdict: Verdict::NotApplicable,
         proof: Proof::Nothing,
     });
     answers.push(fourteen);

@@ -13,3 +13,5 @@ mod networks;
 mod regularity;
 #[cfg(test)]
 mod reports;
+#[cfg(test)]
+mod trees;
