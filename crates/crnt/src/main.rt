@@ -49,5 +49,8 @@ fn main(rt: HostRuntime) -> ExitCode {
         Err(_) => return ExitCode::from(Status::NoMemory as u8),
     };
     let status = run_over(&rt, &words, &mut writer);
-    ExitCode::from(ended(status, writer.flush().is_ok()) as u8)
+    let is_flushed = status != Status::WriteFault && writer.flush().is_ok();
+    // What a failed write left over would be written when the writer is dropped.
+    let _ = writer.into_parts();
+    ExitCode::from(ended(status, is_flushed) as u8)
 }
