@@ -2,7 +2,8 @@
 """Reads the documents and the crates.
 
 The documents: their links lead somewhere, the definitions and contracts that they name are there, the reports that they
-show are stored reports, and they cite nothing that is not in the repository. The definitions pages name every
+show are stored reports, README explains each line of the one that it shows first, what they count is as many as they
+say, and they cite nothing that is not in the repository. The definitions pages name every
 definition that a public contract reaches. The crates: what one may cite of another, the lines of clauses, and who may
 stand on whom (`structure.py`)."""
 
@@ -63,13 +64,37 @@ def contracts_are_there(repository, readme):
             yield f"{crate.group(1)} has {name}", any(is_defined(repository, file, own) for file in files)
 
 
+def lines_are_explained(readme):
+    """Each line of the report that is shown first, but for the indented ones, has its row in the table below it, in order."""
+    [report, *_] = REPORT.findall(readme) or [""]
+    lines = [line for line in report.splitlines() if not line.startswith(" ")]
+    below = readme.partition(report)[2] if report else ""
+    rows = re.findall(r"^\| `([^`]+)` \| .* \|$", below.partition("\n\n## ")[0], re.MULTILINE)
+    for at, line in enumerate(lines):
+        yield f"{line!r} is explained", at < len(rows) and rows[at] == line
+    yield "no other line is explained", len(rows) <= len(lines)
+
+
+def numbers_are_counted(root, documents):
+    """The wrong programs and the example networks are as many as the documents say."""
+    counts = {
+        r"(\d+) wrong programs under": len([*root.glob("crates/*/must-fail/*.edit")]),
+        r"(\d+) (?:networks of examples/networks|networks with their reports)": len([*root.glob("examples/networks/*.crn")]),
+        r"Of the (\d+) files": len([*root.glob("examples/networks/*.crn")]),
+    }
+    for document in documents:
+        for pattern, count in counts.items():
+            for said in re.findall(pattern, document.read_text()):
+                yield f"{document.relative_to(root)} says {said} where there are {count}", int(said) == count
+
+
 def claims(root):
     """All that is asked: where, what, and whether it holds."""
     documents = sorted([*root.glob("*.md"), *root.glob("docs/**/*.md"), *root.glob("examples/**/*.md")])
     reports = {path.read_text() for path in root.glob("examples/networks/*.report")}
     repository = Repository(root)
     readme = (root / "README.md").read_text()
-    for claim, holds in contracts_are_there(repository, readme):
+    for claim, holds in [*contracts_are_there(repository, readme), *lines_are_explained(readme)]:
         yield "README.md", claim, holds
     for document in documents:
         for claim, holds in document_claims(repository, document, document.read_text(), reports):
@@ -79,6 +104,7 @@ def claims(root):
     architecture = (root / "docs/ARCHITECTURE.md").read_text()
     by_group = {"ARCHITECTURE": architecture, "README": readme}
     rules = {
+        "numbers": numbers_are_counted(root, documents),
         "definitions": structure.definitions_are_on_the_pages(repository, pages),
         "public definitions": structure.public_definitions_are_on_the_pages(repository, pages),
         "helpers": structure.helpers_are_in_their_files(repository, pages),

@@ -115,12 +115,17 @@ IsStep n m = m ≡ n
 |---|---|---|
 | It counts. | `crn_low` | `count_of`, view of `Counter` |
 
-It rests on `itoa`. [definitions](docs/DEFINITIONS.md)
+It rests on `itoa`. [definitions](docs/DEFINITIONS.md) There are 1 wrong programs under `must-fail/`.
 
 ```
 crn report 1
 open: 0
 ```
+
+| line | what it says |
+|---|---|
+| `crn report 1` | The format. |
+| `open: 0` | Nothing is open. |
 """,
     MAP: """\
 | group | crate | what it does |
@@ -155,6 +160,7 @@ pub record KeptCounter : Type 0 where
 ```
 """,
     "examples/networks/one.report": "crn report 1\nopen: 0\n",
+    "crates/crn_low/must-fail/counts_nothing.edit": "file: src/count.rt\n",
 }
 
 # what is broken; the file; the text there; the text in its place; the rule or document that says so
@@ -168,6 +174,9 @@ BREAKS = [
     ("a file in a table is not there", MAP, "crn_low/src/count.rt", "crn_low/src/counts.rt", MAP),
     ("a definition says no by the other sign", SPECS, "count ≡ MOST", "¬ count ≡ MOST", "negation"),
     ("a report is not a stored one", README, "open: 0", "open: 1", README),
+    ("a line of the report is not explained", README, "| `open: 0` | Nothing is open. |\n", "", README),
+    ("a line is explained that is not in the report", README, "`open: 0` |", "`open: 1` |", README),
+    ("the wrong programs are miscounted", README, "There are 1 wrong", "There are 2 wrong", "numbers"),
     ("a text outside is cited", README, "[definitions]", "By T2.1 the [definitions]", README),
     ("a cited definition has no row", PAGE,
      "`crn_low/specs/Count.antt`: `IsCount`, with: `next`.", "", "definitions"),

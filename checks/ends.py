@@ -1,5 +1,4 @@
-"""The certificate of `A <-> B` with all fifteen questions, by hand, and edits of it with their answers, for the checks of
-both programs. `of_built` leaves out the blocks of questions that are not built yet, and says what line is what then."""
+"""The certificate of `A <-> B`, by hand, and edits of it with their answers, for the checks of both programs."""
 
 import re
 
@@ -234,45 +233,12 @@ OPENED_OTHERS = [
 SECOND_EDITS = [
     (5, None, 26, 5), (9, "section rank", 24, 9), (9, "section", 24, 9), (25, "section dependence", 24, 25), (6, "vector", 24, 6),
     (34, "section theorems", 24, 34), (39, "section theorem", 24, 39), (42, "section theorems", 24, 42),
-    (49, "section confluence", 24, 49),
+    (48, "q13 no", 37, 48), (48, "q13 yes 1", 37, 48), (48, "q13 yes -1", 37, 48), (48, "q13 yes 2", 24, 48), (48, "q13 yes", 24, 48),
+    (48, "q13 none 1", 24, 48), (48, "q13 open wide 5 0 1 1 2 3", 24, 48), (48, None, 26, 48), (48, "section confluence", 26, 48),
+    (48, "shelves 1", 26, 48), (48, "refa 1", 26, 48), (49, "section confluence", 24, 49), (49, None, 26, 49),
     (54, "refa 2", 41, 54), (54, "refa 4", 24, 54), (54, "refa 0", 24, 54), (54, "refa 1 1", 24, 54), (54, "refb 1", 41, 54),
     (6, "vector 0 1 0", 46, 54), (57, "refa 3", 41, 57), (58, None, 43, 58), (53, "refa 1", 41, 53), (1, "crn certificate 3", 21, 1),
 ]
-
-
-def questions_of(lines):
-    """For each line the question whose block it is in: 0 before the first, and none for the last line."""
-    tags, tag = [], 0
-    for line in lines:
-        head, section = re.match(r"q(\d+)\b", line), re.match(r"section (\w+)", line)
-        if head:
-            tag = int(head[1])
-        elif section:
-            tag = next((q for q, name in second_opinion.SECTIONS.items() if name == section[1]), tag)
-        tags.append(None if line == "end" else tag)
-    return tags
-
-
-def of_built(lines, tags=None):
-    """The lines without the blocks of questions that are not built, and for each line, counted from 1, its number there."""
-    kept, numbers = [], {}
-    for at, (line, tag) in enumerate(zip(lines, tags or questions_of(lines)), 1):
-        if tag in (0, None) or tag in second_opinion.BUILT:
-            kept.append(line)
-            numbers[at] = len(kept)
-    return kept, numbers
-
-
-def report_of_built(report):
-    """The report without the lines of questions that are not built."""
-    lines, tag, kept = report.splitlines(), 0, []
-    for line in lines[:-1]:
-        head = re.match(r"Q(\d+) ", line)
-        tag = int(head[1]) if head else tag
-        if tag == 0 or tag in second_opinion.BUILT:
-            kept.append(line)
-    kept.append(f"open: {sum(': open, ' in line for line in kept)}")
-    return "".join(f"{line}\n" for line in kept)
 
 
 def second_version(lines):
@@ -296,68 +262,39 @@ def replaced(lines, first, last, new):
     return lines[: first - 1] + new + lines[last:]
 
 
-def line_of(lines, tags, place):
-    """The number that a line has without those of questions that are not built."""
-    return sum(at < place for at in of_built(lines, tags)[1]) + 1
-
-
 def edited():
-    """What is changed in the certificate of the built questions in version 1, the lines, and the code and the line of the
-    fault."""
-    tags = questions_of(ENDS)
+    """What is changed in the certificate in version 1, the lines, and the code and the line of the fault."""
     for at, line, code, place in EDITS:
-        if tags[at - 1] in (0, *second_opinion.BUILT):
-            new = [] if line is None else [line]
-            kept, _ = of_built(replaced(ENDS, at, at, new), replaced(tags, at, at, [tags[at - 1]] * len(new)))
-            yield f"line {at} is {line}", kept, code, line_of(ENDS, tags, place)
+        yield f"line {at} is {line}", replaced(ENDS, at, at, [] if line is None else [line]), code, place
     for name, first, last, new, code, place in BLOCK_EDITS:
-        made, mark = replaced(ENDS, first, last, new), tags[first - 1]
-        made_tags = questions_of(made)
-        if made_tags[place - 1] is None or {mark, made_tags[place - 1]} <= {0, *second_opinion.BUILT}:
-            if mark in second_opinion.BUILT:
-                kept, numbers = of_built(made)
-                yield name, kept, code, numbers[place]
-    kept, _ = of_built(ENDS)
-    yield "the end is there twice", [*kept, "end"], 28, len(kept) + 1
-    yield "the line of labels is too long", replaced(kept, 6, 6, ["label" + " 1" * 8190]), 30, 6
-    yield "the line of labels is as long as can be", replaced(kept, 6, 6, ["label" + " 1" * 8189 + " "]), 24, 6
+        yield name, replaced(ENDS, first, last, new), code, place
+    yield "the end is there twice", [*ENDS, "end"], 28, len(ENDS) + 1
+    yield "the line of labels is too long", replaced(ENDS, 6, 6, ["label" + " 1" * 8190]), 30, 6
+    yield "the line of labels is as long as can be", replaced(ENDS, 6, 6, ["label" + " 1" * 8189 + " "]), 24, 6
 
 
 def second_edited():
     """The same of the certificate in version 2."""
     full, _ = second_version(ENDS)
-    tags = questions_of(full)
-    if not {14, 15} <= set(second_opinion.BUILT):
-        return
     for at, line, code, place in SECOND_EDITS:
-        if tags[at - 1] in (0, *second_opinion.BUILT):
-            new = [] if line is None else [line]
-            kept, _ = of_built(replaced(full, at, at, new), replaced(tags, at, at, [tags[at - 1]] * len(new)))
-            yield f"version 2, line {at} is {line}", kept, code, line_of(full, tags, place)
+        yield f"version 2, line {at} is {line}", replaced(full, at, at, [] if line is None else [line]), code, place
 
 
 def opened_edited():
     """The same of the open certificate: each is refused as a field."""
-    tags = questions_of(OPENED)
     for at, line in OPENED_EDITS:
-        if tags[at - 1] in second_opinion.BUILT:
-            kept, numbers = of_built(replaced(OPENED, at, at, [line]), tags)
-            yield f"the open certificate where line {at} is {line}", kept, 24, numbers[at]
+        yield f"the open certificate where line {at} is {line}", replaced(OPENED, at, at, [line]), 24, at
 
 
 def opened_others():
-    tags = questions_of(OPENED)
     for at, line in OPENED_OTHERS:
-        if tags[at - 1] in second_opinion.BUILT:
-            yield f"the open certificate where line {at} is {line}", of_built(replaced(OPENED, at, at, [line]), tags)[0]
+        yield f"the open certificate where line {at} is {line}", replaced(OPENED, at, at, [line])
 
 
 def truncated():
     """For each length the first bytes of the certificate, and the code and the line of the fault."""
-    kept, _ = of_built(ENDS)
-    document, word, in_tree = "".join(f"{line}\n" for line in kept).encode(), set(second_opinion.TREE[2]), []
-    for line in kept:
-        in_tree.append(line.split(" ")[0] in word)
+    document, word = "".join(f"{line}\n" for line in ENDS).encode(), set(second_opinion.TREE[2])
+    in_tree = [line.split(" ")[0] in word for line in ENDS]
     for size in range(len(document)):
         at = document[:size].count(b"\n")
         yield size, document[:size], 43 if in_tree[at] else 27, at + 1

@@ -3,8 +3,8 @@ nothing with it: the network that a text spells, the verdicts by their definitio
 check of a certificate.
 
 It is slow and plain on purpose: classes are found by closing relations, ranks by elimination with fractions, positive
-vectors by the simplex method and the least index first, concordance by the visit list (`second_search`); tests are made in
-the order in which FORMATS lists them. The end-to-end checks compare it with the program.
+vectors by the simplex method and the least index first, concordance and signals by their visit lists (`second_search`);
+tests are made in the order in which FORMATS lists them. The end-to-end checks compare it with the program.
 """
 
 import functools
@@ -16,7 +16,7 @@ import second_search
 from second_search import cleared, independent, kernel, primitive
 
 # the questions that the program answers: all that follows here, in end_to_end.py and in the benches goes by this list
-BUILT = [1, 2, 3, 4, 5, 6, 7, 8, 9, 10, 11, 12, 14, 15]
+BUILT = list(range(1, 16))
 
 BUDGET = 20_000  # of a search, where none is said
 MAX_SPECIES, MAX_COMPLEXES, MAX_REACTIONS, MAX_AMOUNT, MAX_NAME = 60, 160, 240, 99, 32
@@ -327,12 +327,22 @@ class Verdicts:
 
     @functools.cache
     def signal(self, budget):
-        """How the search for a signal ends: `found` with the turn, the pattern and the solutions, `refuted` or `spent`."""
+        """How the search for a signal ends: `found` with the turn, the pattern and the solutions, `refuted` or `spent`; and
+        the visits of the longer of its one or two searches."""
+        most = 0
         for turn in (1, -1) if self.is_weak() else (1,):
-            how, _, found = second_search.search(self.signals(turn), budget)
+            how, visits, found = second_search.search(self.signals(turn), budget)
+            most = max(most, visits)
             if how != "refuted":
-                return how, (turn, *found) if found else None
-        return "refuted", None
+                return how, most, (turn, *found) if found else None
+        return "refuted", most, None
+
+    def visits(self, question):
+        """The visits of the longest search of question 13, 14 or 15: the least budget that decides it. Zero where it needs no
+        search."""
+        if question == 13:
+            return self.signal(100_000)[1] if has_vector(self) else 0
+        return self.searched(question, 100_000)[1]
 
 
 def first_split(linkage, strong, left):
@@ -547,9 +557,9 @@ def own_confluence(v):
 
 
 def own_signal(v, budget):
-    if not is_regular(v) or len(v.confluence[0]) != 1:
+    if not has_vector(v):
         return answer(13, "not applicable")
-    how, found = v.signal(budget)
+    how, _, found = v.signal(budget)
     if how == "found":
         turn, prefix, (*mu, m), _ = found
         return signal_lines(turn, prefix[: len(prefix) - len(mu)], mu, m)
@@ -562,6 +572,31 @@ def own_pair(v, question, budget):
         _, alpha, weights = found
         return pair_lines(question, combined(weights, v.net.vectors, len(v.net.names)), alpha)
     return answer(question, "yes" if how == "refuted" else f"open, budget {budget}")
+
+
+def sample_text(number):
+    """One enzyme turns S0 into S1, S1 into S2, .., each by way of a complex of the two."""
+    return "".join(f"E + S{i - 1} <-> C{i}\nC{i} -> E + S{i}\n" for i in range(1, number + 1))
+
+
+def word_of(question, line):
+    """The word for a verdict in the line of `sample` on verdicts, from the question's own line."""
+    words = line.split(": ", 1)[1]
+    if words.startswith(("open", "not applicable")):
+        return "open" if words.startswith("open") else "none"
+    if question in (1, 2, 5, 6):
+        return words.split(",")[0]
+    return "yes" if words.startswith(("yes", "hypotheses hold")) else "no"
+
+
+def sample(number, budget=BUDGET):
+    """The status and the bytes with which `sample` answers this number, where no system is wide."""
+    net = read_network(sample_text(number))
+    v = Verdicts(net)
+    words = [word_of(question, own_lines(v, question, budget)[0]) for question in BUILT]
+    sizes = f"{len(net.names)} species, {len(net.complexes)} complexes, {len(net.reactions)} reactions"
+    lines = [f"sample {number}: {sizes}", f"verdicts: {' '.join(words)}", "check: accepted"]
+    return int("open" in words), "".join(f"{line}\n" for line in lines).encode()
 
 
 def is_open(lines):
@@ -1326,7 +1361,7 @@ def confluence_block(v):
 def signal_block(v):
     if not has_vector(v):
         return ["q13 none"]
-    how, found = v.signal(100_000)
+    how, _, found = v.signal(100_000)
     if how == "found":
         turn, prefix, (*mu, m), weights = found
         shelves = prefix[: len(prefix) - len(mu)]

@@ -1,7 +1,7 @@
 #!/usr/bin/env python3
-"""Tests the second program by itself, on all fifteen questions, whichever of them the program answers so far: verdicts of
-networks that were worked out by hand, a certificate of `A <-> B` in both versions with edits of both, and the search against
-a try of every pattern of signs."""
+"""Tests the second program by itself: verdicts of networks that were worked out by hand, with a budget that leaves a search
+open and without, a certificate of `A <-> B` in both versions with edits of both, blocks on signals by hand, the lines of
+`sample`, and the search against a try of every pattern of signs."""
 
 import itertools
 import random
@@ -11,8 +11,6 @@ import ends
 import second_opinion
 import second_search
 from tally import Tally
-
-ALL = list(range(1, 16))
 
 TWO_SITES = """\
 S0 + K <-> KS0
@@ -50,6 +48,9 @@ def worked():
     yield "A <-> 2A\nA + B <-> C\nC <-> B\n", 20_000, lines_of(*numbered(
         1, "2", "2, terminal 2", "yes", "yes", "2", "1, classes 0 0", "yes", "no", zero.format(1), one.format(0), "yes",
         "yes", "yes", "no", "yes")) + ["  vector: 1 -1 1 0 -1", "  turn: -1"]
+    # Edelstein's vector has no signal by 17 visits, its negative has one by fewer; questions 14 and 15 need 21 and 22.
+    yield EDELSTEIN, 17, lines_of((13, "yes"), *numbered(14, "open, budget 17", "open, budget 17"), count=13)
+    yield EDELSTEIN, 16, lines_of(*numbered(13, "open, budget 16", "open, budget 16", "open, budget 16"), count=12)
     yield "0 <-> A\nA -> B\n2A + B -> 3A\n", 20_000, lines_of(*numbered(
         1, "2", "4, terminal 2", "no", "no", "2", "1, classes 0 0", "yes", "no", zero.format(1), one.format(0), "yes",
         "yes", "no", "yes", "yes")) + ["  vector: 0 -1 1 -1 1", "complexes 5: 0; A; B; 2A + B; 3A"]
@@ -96,6 +97,20 @@ def reports():
         missing = [line for line in wanted if line not in lines]
         wrong = second_opinion.judged(text.encode(), status, out, budget)
         yield f"the report of {text[:40]!r} with a budget of {budget}", not missing and not wrong, (missing, wrong)
+
+
+def samples():
+    """The lines of `sample`, by hand: the enzyme comes back from each step, so E and the C(i) add up to a constant, and so do
+    the S(i) and the C(i); only the last S is terminal."""
+    for number, sizes, verdicts in [
+        (1, "4 species, 3 complexes, 3 reactions", "1 2 no no 2 0 no yes yes yes no none none yes yes"),
+        (8, "18 species, 17 complexes, 24 reactions", "1 9 no no 16 0 no yes yes yes no none none yes no"),
+    ]:
+        wanted = 0, f"sample {number}: {sizes}\nverdicts: {verdicts}\ncheck: accepted\n".encode()
+        seen = second_opinion.sample(number)
+        yield f"sample {number}", seen == wanted, seen
+    seen = second_opinion.sample(8, 50)
+    yield "sample 8 with a budget of 50", seen[0] == 1 and b" none none open open\n" in seen[1], seen
 
 
 # ---- certificates
@@ -246,9 +261,8 @@ def searches():
 
 
 def main():
-    second_opinion.BUILT = ALL
     tally = Tally("second program")
-    for name, good, seen in [*reports(), *certificates(), *searches()]:
+    for name, good, seen in [*reports(), *samples(), *certificates(), *searches()]:
         tally.count(name, good, seen)
     return tally.end()
 

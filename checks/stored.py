@@ -1,6 +1,6 @@
 #!/usr/bin/env python3
-"""Writes again what is stored of the program's output: the reports and certificates of `examples`, and the reports that
-README.md, docs/FORMATS.md and docs/crnt.1 show. Each report is judged by the second program first.
+"""Writes again what is stored of the program's output: the reports and certificates of `examples`, the report that the gate
+compares, and those that the documents show. Each report is judged by the second program first, and each certificate is checked by it.
 
     checks/stored.py PROGRAM     after a question was built, or an answer's free lines have changed
 """
@@ -14,8 +14,11 @@ import second_opinion
 
 ROOT = Path(__file__).resolve().parent.parent
 NETWORKS = ROOT / "examples" / "networks"
-# what shows a report, and the network whose report it is
-SHOWN = {"README.md": "edelstein", "docs/FORMATS.md": "two_pairs", "docs/crnt.1": None}
+# what the gate runs the program on, and what it has to write
+GATE = ROOT / "crates" / "crnt"
+# the documents that show reports
+SHOWN = ["README.md", "docs/FORMATS.md", "docs/crnt.1"]
+REPORT = re.compile(r"^crn report 1\n(?:.*\n)*?open: .*\n", re.MULTILINE)
 
 
 def written(program, command, text):
@@ -33,28 +36,49 @@ def report_of(program, name, text):
     return out
 
 
-def in_document(program, path, name):
-    """The document with the report of this network, or of the network that it shows, in the place of the one it has."""
-    text = (ROOT / path).read_text("utf-8")
-    is_manual = name is None
-    shown = re.search(r"^crn report 1\n(?:.*\n)*?open: .*\n", text, re.MULTILINE)
-    if is_manual:
-        network = re.search(r"^\.nf\n(.*?)^\.fi$", text, re.MULTILINE | re.DOTALL)[1].replace("\\-", "-").encode()
-    else:
-        network = (NETWORKS / f"{name}.crn").read_bytes()
-    report = report_of(program, name or path, network).decode()
-    report = report.replace("-", "\\-") if is_manual else report
-    return text[: shown.start()] + report + text[shown.end() :]
+def certificate_of(program, name, text):
+    _, out = written(program, "certify", text)
+    status, report = second_opinion.check(out)
+    if (status, report) != (0, report_of(program, name, text)):
+        sys.exit(f"the certificate of {name} does not give its report: {report[:200]!r}")
+    return out
+
+
+def head_of(report):
+    """The lines of a report that say the network, but for the numbering of its reactions."""
+    return report.split("\nQ1 ")[0]
+
+
+def in_document(program, path, texts):
+    """The document with each report that it shows written again: of the example with the same network, or, in the manual, of
+    the text that it shows."""
+    document = (ROOT / path).read_text("utf-8")
+    is_manual = path.endswith(".1")
+
+    def again(found):
+        if is_manual:
+            shown = re.search(r"^\.nf\n(.*?)^\.fi$", document, re.MULTILINE | re.DOTALL)[1].replace("\\-", "-").encode()
+            return report_of(program, path, shown).decode().replace("-", "\\-")
+        reports = [report_of(program, path, text).decode() for text in texts]
+        same = {report for report in reports if head_of(report) == head_of(found[0])}
+        if len(same) != 1:
+            sys.exit(f"{len(same)} examples have the network that {path} shows: {head_of(found[0])}")
+        return same.pop()
+
+    return REPORT.sub(again, document)
 
 
 def main():
     program = str(Path(sys.argv[1]).resolve())
-    for network in sorted(NETWORKS.glob("*.crn")):
-        network.with_suffix(".report").write_bytes(report_of(program, network.stem, network.read_bytes()))
+    networks = {network: network.read_bytes() for network in sorted(NETWORKS.glob("*.crn"))}
+    for network, text in networks.items():
+        network.with_suffix(".report").write_bytes(report_of(program, network.stem, text))
     for certificate in sorted((ROOT / "examples" / "certificates").glob("*.cert")):
-        certificate.write_bytes(written(program, "certify", (NETWORKS / f"{certificate.stem}.crn").read_bytes())[1])
-    for path, name in SHOWN.items():
-        (ROOT / path).write_text(in_document(program, path, name), "utf-8")
+        text = (NETWORKS / f"{certificate.stem}.crn").read_bytes()
+        certificate.write_bytes(certificate_of(program, certificate.stem, text))
+    (GATE / "stdout").write_bytes(report_of(program, "the gate", (GATE / "stdin").read_bytes()))
+    for path in SHOWN:
+        (ROOT / path).write_text(in_document(program, path, networks.values()), "utf-8")
 
 
 if __name__ == "__main__":

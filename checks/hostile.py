@@ -1,0 +1,165 @@
+#!/usr/bin/env python3
+"""Runs the built program with memory that is refused, on devices that fail, and on documents that are cut.
+
+    checks/hostile.py PROGRAM          several thousand runs
+    checks/hostile.py PROGRAM few      a part of checks/run: reads and writes alone, of one input for each command
+
+Each request for memory of a run is refused in turn, each read of standard input and each write of standard output fails in
+turn, with small pieces and with large ones, and each document ends at each of its bytes. What a run then may answer is said
+by docs/FORMATS.md: no memory is status 7, or 8 if it was the words that could not be taken, with nothing written; a read
+fault is 5, with nothing written; a write fault is 6, with a proper prefix; a document that is cut has the fault that the
+second program finds. The calls are refused by `refuse.c`, which a C compiler compiles and the loader puts before the C
+library. Without a C compiler nothing is run.
+"""
+
+import os
+import shutil
+import subprocess
+import sys
+import tempfile
+from pathlib import Path
+
+import ends
+import second_opinion
+from end_to_end import NETWORKS, NO_WORDS, READ_FAULT, SECONDS, WRITE_FAULT, first_version, joined
+from tally import Tally
+
+NO_MEMORY = 7
+HERE = Path(__file__).resolve().parent
+COMPILER = next(filter(None, map(shutil.which, ["cc", "gcc", "clang"])), None)
+# more requests or calls than any run makes
+MOST_CALLS = 100_000
+
+
+class Hostile:
+    """A program, and the library that refuses its calls."""
+
+    def __init__(self, program, folder):
+        self.program, self.library, self.mark = program, f"{folder}/refuse.so", f"{folder}/refused"
+        subprocess.run([COMPILER, "-O1", "-shared", "-fPIC", "-o", self.library, HERE / "refuse.c"], check=True)
+
+    def run(self, words, text, **refusals):
+        """The status, what was written, and whether a call was refused. A pipe would give what is there, so standard input is
+        a file, and so is standard output, of which nothing is then lost."""
+        if os.path.exists(self.mark):
+            os.unlink(self.mark)
+        environment = {"LD_PRELOAD": self.library, "REFUSED": self.mark, **{name: str(n) for name, n in refusals.items()}}
+        with tempfile.TemporaryFile() as source, tempfile.TemporaryFile() as sink:
+            source.write(text)
+            source.seek(0)
+            done = subprocess.run([self.program, *words], stdin=source, stdout=sink, stderr=subprocess.PIPE, env=environment,
+                                  timeout=SECONDS)
+            sink.seek(0)
+            return (done.returncode, sink.read(), done.stderr), os.path.exists(self.mark)
+
+    def each(self, name, words, text, refused, may_be, **others):
+        """A run for each call that can be refused, until there is no such call: each ends as it may, and the last as if nothing
+        was refused."""
+        wanted, _ = self.run(words, text)
+        for at in range(1, MOST_CALLS):
+            seen, was_refused = self.run(words, text, **{refused: at}, **others)
+            if not was_refused:
+                yield f"{name}: no call is left after {at - 1}", seen == wanted and at > 1, seen
+                return
+            yield f"{name}: call {at}", may_be(at, seen, wanted), seen
+        yield f"{name}: the calls come to an end", False, MOST_CALLS
+
+
+def is_out_of_memory(_, seen, wanted):
+    """Nothing is written; or the request was for a smaller copy of a list, and the list stays where it is."""
+    return seen in [(NO_MEMORY, b"", b""), (NO_WORDS, b"", b""), wanted]
+
+
+def is_read_fault(_, seen, __):
+    return seen == (READ_FAULT, b"", b"")
+
+
+def is_write_fault_after(most):
+    """A proper prefix of what was to be written, no longer than the calls before took: nothing is written after the fault."""
+    def may_be(at, seen, wanted):
+        status, out, told = seen
+        return status == WRITE_FAULT and told == b"" and wanted[1].startswith(out) and len(out) < len(wanted[1]) \
+            and (most is None or len(out) <= most * (at - 1))
+    return may_be
+
+
+def inputs(program):
+    """What a run is called, its words, and its text."""
+    edelstein = (NETWORKS / "edelstein.crn").read_bytes()
+    document = subprocess.run([program, "certify"], input=edelstein, capture_output=True, check=True).stdout
+    sites = (NETWORKS / "two_site_futile_cycle.crn").read_bytes()
+    three = b"2A <-> A + B\nA + B <-> 2B\n"
+    trees = subprocess.run([program, "certify"], input=three, capture_output=True, check=True).stdout
+    yield "report on one reaction", ["report"], b"A -> B\n"
+    yield "certify on Edelstein's network", ["certify"], edelstein
+    yield "check of Edelstein's network", ["check"], document
+    yield "check of Edelstein's network in version 1", ["check"], first_version(document)
+    yield "check of two trees of signals", ["check"], trees
+    yield "check of A <-> B", ["check"], joined(ends.ENDS)
+    yield "report on the two-site futile cycle", ["report"], sites
+    yield "a refused text", ["report"], b"A => B\n"
+    yield "a rejected document", ["check"], document.replace(b"\nq3 yes\n", b"\nq3 no 1\n")
+    yield "no command", ["frobnicate"], b""
+    yield "sample 3", ["sample", "3"], b""
+
+
+def refusals(hostile):
+    """Each request for memory, each read and each write refused in turn."""
+    for name, words, text in inputs(hostile.program):
+        yield from hostile.each(f"memory, {name}", words, text, "REFUSE_MEMORY", is_out_of_memory)
+        if words[0] in ("report", "certify", "check"):
+            for most in (None, 64, 7):
+                bound = {"MOST_READ": most} if most else {}
+                yield from hostile.each(f"reads of at most {most}, {name}", words, text, "FAIL_READ", is_read_fault, **bound)
+        for most in (None, 64, 7):
+            bound = {"MOST_WRITTEN": most} if most else {}
+            yield from hostile.each(f"writes of at most {most}, {name}", words, text, "FAIL_WRITE", is_write_fault_after(most), **bound)
+
+
+def few(hostile):
+    """Each read and each write of one input for each command fails in turn."""
+    sites = (NETWORKS / "two_site_futile_cycle.crn").read_bytes()
+    for name, words, text, most in [
+        ("report on the two-site futile cycle", ["report"], sites, 7), ("check of A <-> B", ["check"], joined(ends.ENDS), 64),
+        ("certify on one reaction", ["certify"], b"A -> B\n", 7),
+    ]:
+        yield from hostile.each(f"reads of at most {most}, {name}", words, text, "FAIL_READ", is_read_fault, MOST_READ=most)
+    for name, words, text in [("report on one reaction", ["report"], b"A -> B\n"), ("sample 1", ["sample", "1"], b""),
+                              ("check of A <-> B", ["check"], joined(ends.ENDS)), ("no command", ["frobnicate"], b"")]:
+        yield from hostile.each(f"writes of at most 7, {name}", words, text, "FAIL_WRITE", is_write_fault_after(7), MOST_WRITTEN=7)
+
+
+def pieces(hostile):
+    """Small pieces that do not fail change nothing."""
+    for name, words, text in inputs(hostile.program):
+        wanted, _ = hostile.run(words, text)
+        for most in (1, 7, 64):
+            seen, _ = hostile.run(words, text, MOST_READ=most, MOST_WRITTEN=most)
+            yield f"pieces of at most {most}, {name}", seen == wanted, (seen, wanted)
+
+
+def cuts(program):
+    """Documents that end at each of their bytes."""
+    for name, words, text in inputs(program):
+        if words == ["check"] and second_opinion.check(text)[0] == 0:
+            for at in range(len(text)):
+                done = subprocess.run([program, "check"], input=text[:at], capture_output=True, timeout=SECONDS)
+                seen, wanted = (done.returncode, done.stdout, done.stderr), (*second_opinion.check(text[:at]), b"")
+                yield f"{name}, cut at byte {at}", seen == wanted and seen[0] == 3, (seen, wanted)
+
+
+def main():
+    program, are_few = str(Path(sys.argv[1]).resolve()), sys.argv[2:] == ["few"]
+    tally = Tally("hostile")
+    if COMPILER is None:
+        print("hostile: not run, as there is no C compiler")
+        return 0 if are_few else 1
+    with tempfile.TemporaryDirectory() as folder:
+        hostile = Hostile(program, folder)
+        for name, good, seen in few(hostile) if are_few else [*refusals(hostile), *pieces(hostile), *cuts(program)]:
+            tally.count(name, good, seen)
+    return tally.end()
+
+
+if __name__ == "__main__":
+    sys.exit(main())
