@@ -1,8 +1,8 @@
 #!/usr/bin/env python3
-"""Tries the yardstick beside the second program of the checks on all fifteen questions, whichever of them `crnt` answers
-so far: reports of small random networks and of those of examples/networks, at several budgets, which the second program
-judges; their certificates, which both check; and damaged certificates of either version, on which both have to say the
-same. It ends at the first difference, and writes the input to /tmp/differs.
+"""Tries the yardstick beside the second program of the checks: reports of small random networks and of those of
+examples/networks, at several budgets, which the second program judges; their certificates, which both check; and damaged
+certificates of either version, on which both have to say the same. It ends at the first difference, and writes the input
+to /tmp/differs.
 
     benches/agree.py [COUNT]
 """
@@ -19,8 +19,6 @@ sys.path[:0] = [HERE, os.path.join(HERE, "..", "checks")]
 
 import second_opinion
 import texts
-
-second_opinion.BUILT = list(range(1, 16))
 
 
 def answer(program, words, text):

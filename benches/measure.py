@@ -33,6 +33,8 @@ def answer(command, text):
 def fixed(done):
     """An answer without the lines that one network leaves free. Such a line of a refusal or rejection is none."""
     status, out = done
+    # a confluence vector is fixed, two independent vectors of the confluence space are not
+    out = re.sub(rb"(?<= two independent vectors\n)(?:  vector: .*\n)+", b"", out)
     return status, b"".join(line for line in out.splitlines(True) if not line.startswith(CHOICES))
 
 

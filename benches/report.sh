@@ -6,7 +6,7 @@
 # Not part of the checks: times depend on the machine. Without rustc the program is measured alone.
 #
 #     benches/report.sh [RUNS [WORD]]       WORD: only texts with this word in their name
-#     CRNT_PROGRAM=FILE benches/report.sh   measures this program, and builds none
+#     CRNT_PROGRAM=FILE benches/report.sh   measures this program, and builds none; so CRNT_YARDSTICK for the other one
 #     COUNT=1 benches/report.sh             counts instructions too
 set -eu
 cd "$(dirname "$0")/.."
@@ -18,8 +18,8 @@ fi
 
 work=$(mktemp -d)
 trap 'rm -rf "$work"' EXIT
-yardstick=
-if command -v rustc >/dev/null; then
+yardstick=${CRNT_YARDSTICK:-}
+if [ -z "$yardstick" ] && command -v rustc >/dev/null; then
     yardstick=$work/yardstick
     benches/yardstick/build "$yardstick"
 fi

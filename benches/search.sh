@@ -1,21 +1,21 @@
 #!/usr/bin/env bash
 # Measures the searches of questions 13 to 15 at the greatest budget beside a plain Rust program that does the same with
-# nothing proved: the least time of several runs, counts of instructions by valgrind, which are the same whatever else
-# the machine does, how many prefixes are visited, and the most memory; `check` reads from a pipe. The start of the
-# process is in all of these. First it has each of the two check what the other certifies. While the program does not
-# answer question 14 the other one is measured alone, on all fifteen questions.
+# nothing proved, on long searches and along the futile cycle of 1 to 12 sites: the least time of several runs, counts of
+# instructions by valgrind, which are the same whatever else the machine does, how many prefixes are visited, and the most
+# memory; `check` reads from a pipe. The start of the process is in all of these. First it has each of the two check what
+# the other certifies.
 # Then, for each report, what the searches do: visits of prefixes, decisions (vectors of given signs for which a solver is
 # asked), pool hits (what was found before served again) and exchanges. The yardstick counts these itself; of the
 # program, valgrind counts the calls of the functions that do them. It counts exchanges of all questions, and as pool
-# hits the coordinates for which no solver is asked, as a vector of the pool covers them.
+# hits the coordinates for which no solver is asked, as a vector of the pool covers them; ? if the compiler has put the
+# functions that are counted into their callers.
 # Not part of the checks: times depend on the machine.
 #
-#     benches/search.sh [RUNS [WORD]]       WORD: only networks with this word in their name
-#     CRNT_PROGRAM=FILE benches/search.sh   measures this program, and builds none
+#     benches/search.sh [RUNS [WORD]]       WORD: only networks with this word in their name, as `cycle` for the futile cycle
+#     CRNT_PROGRAM=FILE benches/search.sh   measures this program, and builds none; so CRNT_YARDSTICK for the other one
 set -eu
 cd "$(dirname "$0")/.."
-is_built=$(cd checks && python3 -c 'import second_opinion; print(14 in second_opinion.BUILT)')
-if [ "$is_built" = True ] && [ -z "${CRNT_PROGRAM:-}" ]; then
+if [ -z "${CRNT_PROGRAM:-}" ]; then
     status=0
     ./crnt </dev/null >/dev/null || status=$?
     [ $status -eq 4 ] || exit 1
@@ -23,24 +23,22 @@ fi
 
 work=$(mktemp -d)
 trap 'rm -rf "$work"' EXIT
-benches/yardstick/build "$work/yardstick"
+[ -n "${CRNT_YARDSTICK:-}" ] || benches/yardstick/build "$work/yardstick"
 
-python3 - "${CRNT_PROGRAM:-crates/crnt/out/crnt}" "$work/yardstick" "${1:-5}" "${2:-}" <<'PYTHON'
+python3 - "${CRNT_PROGRAM:-crates/crnt/out/crnt}" "${CRNT_YARDSTICK:-$work/yardstick}" "${1:-5}" "${2:-}" <<'PYTHON'
 import sys
 
 sys.path.insert(0, "benches")
 import texts
-from measure import ASKED, BUILT, answer, differ, instructions, instructions_and_calls, least_seconds, megabytes, put_heads, put_row, ratio, same, source_of, told
+from measure import ASKED, answer, differ, instructions, instructions_and_calls, least_seconds, megabytes, put_heads, put_row, ratio, same, source_of, told
 
 program, yardstick, runs, word = sys.argv[1], sys.argv[2], int(sys.argv[3]), sys.argv[4]
-is_built = 14 in BUILT
-asked = ASKED if is_built else ",".join(map(str, range(1, 16)))
 BUDGET = ["--budget", "100000"]
 
 
 def commands(name):
     options = [] if name == "check" else BUDGET
-    return ([[program, name, *options]] if is_built else []) + [[yardstick, name, *options, asked]]
+    return [[program, name, *options], [yardstick, name, *options, ASKED]]
 
 
 def agree(name, text):
@@ -59,7 +57,7 @@ def agree(name, text):
 
 def work_of_yardstick(text):
     """Visits, decisions, pool hits and exchanges, as it counts them."""
-    return [int(count) for count in answer([yardstick, "work", *BUDGET, asked], text)[1].split()]
+    return [int(count) for count in answer([yardstick, "work", *BUDGET, ASKED], text)[1].split()]
 
 
 def work_of_program(text, visits):
@@ -67,7 +65,8 @@ def work_of_program(text, visits):
     with source_of(text) as source:
         _, calls = instructions_and_calls(commands("report")[0], source)
     count = lambda name: calls.get(name, 0)
-    hits = count("crn_sign::part::Part::cover_at") - count("crn_sign::part::Part::ask")
+    covered, asked_for = (calls.get(f"crn_sign::part::Part::{name}") for name in ("cover_at", "ask"))
+    hits = None if covered is None or asked_for is None else covered - asked_for
     return [visits, count("crn_farkas::goal::settled_view"), hits, count("crn_tab::tableau::Tableau::pivot")]
 
 
@@ -79,25 +78,24 @@ def measured(name, command, text, visits, piped=False):
         memory = [megabytes(words, source, piped) for words in both]
     row = [name, command, f"{len(text):,}", visits]
     for values, form in ((seconds, lambda x: f"{x:.4f}"), (counts, lambda x: f"{x / 1e6:,.1f}" if x else "?")):
-        row += [form(value) for value in values] + ([ratio(*values)] if is_built else [])
+        row += [form(value) for value in values] + [ratio(*values)]
     put_row(row + memory)
 
 
-print(f"questions {asked}, budget 100,000, {runs} runs each, {told()}\n")
-pair = ["yardstick", "ratio"] if is_built else []
+print(f"questions {ASKED}, budget 100,000, {runs} runs each, {told()}\n")
+pair = ["yardstick", "ratio"]
 heads = ["network", "command", "bytes", "visits", "least time, s", *pair, "million instructions", *pair, "most memory, MB"]
 put_heads(heads + pair[:1], words=2)
 if not word:
     measured("nothing: the start alone", "report", b"", "0")
 works = []
-for name, text, is_certified in texts.searches():
+for name, text, is_certified in [*texts.searches(), *texts.growth()]:
     if word in name:
         text = text.encode()
         certificate = agree(name, text)
         work = work_of_yardstick(text)
         visits = f"{work[0]:,}"
-        works += [(name, "program", work_of_program(text, work[0]))] if is_built else []
-        works.append((name, "yardstick", work))
+        works += [(name, "program", work_of_program(text, work[0])), (name, "yardstick", work)]
         measured(name, "report", text, visits)
         if is_certified:
             measured(name, "certify", text, visits)
@@ -106,5 +104,5 @@ for name, text, is_certified in texts.searches():
 print()
 put_heads(["network", "by", "visits", "decisions", "pool hits", "exchanges"], words=2)
 for name, by, counts in works:
-    put_row([name, by, *(f"{count:,}" for count in counts)])
+    put_row([name, by, *("?" if count is None else f"{count:,}" for count in counts)])
 PYTHON

@@ -145,6 +145,11 @@ def searches():
     ]
 
 
+def growth():
+    """The same of the futile cycle from one site to twelve, whose last network has 39 species and 72 reactions."""
+    return [(f"futile cycle, {sites} site{'s' * (sites > 1)}", futile(sites), True) for sites in range(1, 13)]
+
+
 def networks():
     """Pairs of a name and a text that spells a network, to certify."""
     pairs = [f"X{i} -> X{j}\n" for i in range(12) for j in range(12) if i != j]

@@ -1,0 +1,34 @@
+#!/usr/bin/env bash
+# Measures the whole benchmark in one run beside the yardstick, a plain Rust program that answers the same with nothing
+# proved: reports of large texts, certificates and their check, the searches of questions 13 to 15, their growth along the
+# futile cycle of 1 to 12 sites, each with the most memory of both; and the linear part, if its program is built. It ends
+# where the two programs do not answer the same.
+# Not part of the checks: times depend on the machine, and it takes an hour or more, most of it in valgrind.
+#
+#     benches/whole.sh [RUNS]
+#     CRNT_PROGRAM=FILE benches/whole.sh    measures this program, and builds none
+set -eu
+cd "$(dirname "$0")/.."
+if [ -z "${CRNT_PROGRAM:-}" ]; then
+    status=0
+    ./crnt </dev/null >/dev/null || status=$?
+    [ $status -eq 4 ] || exit 1
+fi
+work=$(mktemp -d)
+trap 'rm -rf "$work"' EXIT
+benches/yardstick/build "$work/yardstick"
+export CRNT_PROGRAM=${CRNT_PROGRAM:-crates/crnt/out/crnt} CRNT_YARDSTICK=$work/yardstick
+
+echo "## Reports"
+COUNT=1 benches/report.sh "${1:-5}"
+printf '\n## Certificates\n'
+benches/certificates.sh "${1:-5}"
+printf '\n## Searches\n'
+benches/search.sh "${1:-5}"
+printf '\n## Linear systems\n'
+if [ -x crates/crn_bench/out/crn_bench ]; then
+    benches/linear.sh "${1:-5}"
+else
+    echo "not measured: crn_bench is not built"
+fi
+printf '\nin all %d seconds\n' "$SECONDS"
