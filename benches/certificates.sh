@@ -8,23 +8,9 @@
 #
 #     benches/certificates.sh [RUNS [WORD]]       WORD: only rows with this word in their name
 #     CRNT_PROGRAM=FILE benches/certificates.sh   measures this program, and builds none; so CRNT_YARDSTICK for the other one
-set -eu
-cd "$(dirname "$0")/.."
-if [ -z "${CRNT_PROGRAM:-}" ]; then
-    status=0
-    ./crnt </dev/null >/dev/null || status=$?
-    [ $status -eq 4 ] || exit 1
-fi
+. "$(dirname "$0")/programs.sh"
 
-work=$(mktemp -d)
-trap 'rm -rf "$work"' EXIT
-yardstick=${CRNT_YARDSTICK:-}
-if [ -z "$yardstick" ] && command -v rustc >/dev/null; then
-    yardstick=$work/yardstick
-    benches/yardstick/build "$yardstick"
-fi
-
-python3 - "${CRNT_PROGRAM:-crates/crnt/out/crnt}" "$yardstick" "${1:-20}" "${2:-}" <<'PYTHON'
+python3 - "$program" "$yardstick" "${1:-20}" "${2:-}" <<'PYTHON'
 import glob
 import random
 import sys

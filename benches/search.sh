@@ -13,19 +13,9 @@
 #
 #     benches/search.sh [RUNS [WORD]]       WORD: only networks with this word in their name, as `cycle` for the futile cycle
 #     CRNT_PROGRAM=FILE benches/search.sh   measures this program, and builds none; so CRNT_YARDSTICK for the other one
-set -eu
-cd "$(dirname "$0")/.."
-if [ -z "${CRNT_PROGRAM:-}" ]; then
-    status=0
-    ./crnt </dev/null >/dev/null || status=$?
-    [ $status -eq 4 ] || exit 1
-fi
+. "$(dirname "$0")/programs.sh"
 
-work=$(mktemp -d)
-trap 'rm -rf "$work"' EXIT
-[ -n "${CRNT_YARDSTICK:-}" ] || benches/yardstick/build "$work/yardstick"
-
-python3 - "${CRNT_PROGRAM:-crates/crnt/out/crnt}" "${CRNT_YARDSTICK:-$work/yardstick}" "${1:-5}" "${2:-}" <<'PYTHON'
+python3 - "$program" "${yardstick:?needs rustc}" "${1:-5}" "${2:-}" <<'PYTHON'
 import sys
 
 sys.path.insert(0, "benches")

@@ -7,17 +7,8 @@
 #
 #     benches/whole.sh [RUNS]
 #     CRNT_PROGRAM=FILE benches/whole.sh    measures this program, and builds none
-set -eu
-cd "$(dirname "$0")/.."
-if [ -z "${CRNT_PROGRAM:-}" ]; then
-    status=0
-    ./crnt </dev/null >/dev/null || status=$?
-    [ $status -eq 4 ] || exit 1
-fi
-work=$(mktemp -d)
-trap 'rm -rf "$work"' EXIT
-benches/yardstick/build "$work/yardstick"
-export CRNT_PROGRAM=${CRNT_PROGRAM:-crates/crnt/out/crnt} CRNT_YARDSTICK=$work/yardstick
+. "$(dirname "$0")/programs.sh"
+export CRNT_PROGRAM=$program CRNT_YARDSTICK=${yardstick:?needs rustc}
 
 echo "## Reports"
 COUNT=1 benches/report.sh "${1:-5}"
