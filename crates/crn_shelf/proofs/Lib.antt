@@ -3,3 +3,4 @@ pub mod CallerLemmas
 mod SystemRows
 mod Searched
 mod Answered
+mod Budgets

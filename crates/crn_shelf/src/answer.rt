@@ -2,15 +2,17 @@ ghost use Rattle.std.specs.Prelude.{◌≡◌, ◌≤◌, ◌<◌, ◌↔◌, Is
 ghost use Rattle.std.specs.List.{AllByRecursion};
 ghost use Rattle.crn_vec.specs.declared.limits.TheConstants.{MAX_BUDGET};
 ghost use Rattle.crn_vec.specs.Confluence.{HasConfluenceLine, IsNormalVector, IsRegular};
-ghost use Rattle.crn_vec.specs.NetSignals.{IsShapeOf};
+ghost use Rattle.crn_vec.specs.NetSignals.{HasNoSignal, IsShapeOf};
 ghost use Rattle.crn_vec.specs.Strong.{IsWeaklyReversible};
 ghost use Rattle.crn_cert.specs.Ranges.{IsNarrow};
 ghost use Rattle.crn_cert.specs.Says.{AreStrongClasses};
-ghost use Rattle.crn_cert.specs.Questions.{Earlier, Q13};
+ghost use Rattle.crn_cert.specs.Questions.{Earlier, IsOpen, Q13};
+ghost use Rattle.crn_cert.specs.Licensed.{PassForSignals};
 ghost use Rattle.crn_cert.specs.Answered.{IsAnswer};
 ghost use Rattle.crn_cert.specs.TreeSizes.{HasFewNodes};
 ghost use Rattle.crn_shape.specs.Sides.{AreSides};
 ghost use Rattle.crn_shelf.specs.Given.{GiveVector};
+ghost use Rattle.crn_shelf.specs.Order.{IsForNegative};
 ghost use Rattle.crn_shelf.specs.Inner.Shapes.{EndsFor};
 ghost use Rattle.crn_sign.specs.declared.end.SearchEnd.{SearchEnd};
 ghost use Rattle.crn_shelf.specs.Inner.Answers.{IsFoundAnswer, IsStopAnswer, one_answer, shelf_number, spent_answer, two_answer, wide_answer};
@@ -171,7 +173,9 @@ fn by_negative(
 /// confluence vector g and the sides of question 11.
 ///
 /// It tries g first and, if the network is weakly reversible and g has no signal, -g. The budget
-/// bounds each of the two searches by itself. If the search for g stops early, -g is not tried.
+/// bounds each of the two searches by itself. If the search for g stops early, -g is not tried: the
+/// question is open where the visits for g exceed the budget, and a yes for -g is given only where g
+/// has no signal.
 pub fn signal(
     alloc: Global,
     net: &Network,
@@ -194,6 +198,10 @@ pub fn signal(
     ensures answer { IfOk result (λ answer. (earlier : Earlier) →
         GiveVector net.now earlier g.now weak → IsAnswer net.now budget earlier Q13 answer) }
     ensures nodes { IfOk result (λ answer. HasFewNodes budget answer.proof) }
+    ensures spent { IfOk result (λ answer.
+        PassForSignals net.now g.now budget → IsOpen answer.verdict) }
+    ensures first { IfOk result (λ answer.
+        IsForNegative answer.verdict → HasNoSignal net.now g.now) }
 {
     let _ = net.species();
     let labels = strong.label.as_slice();

@@ -3,17 +3,21 @@ use Rattle.std.specs.Prelude.{pos}
 use Rattle.std.proofs.lemmas.Bool.{false≢true}
 use Rattle.std.proofs.lemmas.Int.{ints}
 use Rattle.crn_vec.specs.NetSystems.{reaction_system}
+use Rattle.crn_vec.specs.NetSignals.{HasNoSignal}
 use Rattle.crn_vec.specs.Signals.{Shape, signals}
 use Rattle.crn_sign.specs.Search.{IsSearchEnd}
 use Rattle.crn_sign.specs.declared.end.SearchEnd.TheVariants.{Spent}
 use Rattle.crn_cert.specs.declared.answer.Answer.{Answer}
-use Rattle.crn_cert.specs.Questions.{Earlier, Q13}
+use Rattle.crn_cert.specs.Questions.{Earlier, IsOpen, Q13}
+use Rattle.crn_cert.specs.Licensed.{PassForSignals}
 use Rattle.crn_cert.specs.Answered.{IsAnswer}
 use Rattle.crn_cert.specs.TreeSizes.{HasFewNodes}
 use Rattle.crn_shelf.specs.Given.{GiveVector}
 use Rattle.crn_shelf.specs.Inner.Shapes.{EndsFor}
 use Rattle.crn_shelf.specs.Inner.Answers.{IsFoundAnswer, IsStopAnswer}
-use Rattle.crn_shelf.proofs.Answered.{found_is, one_is, spent_is, stopped, stops_for, few_one, classes_by}
+use Rattle.crn_shelf.specs.Order.{IsForNegative}
+use Rattle.crn_shelf.proofs.Answered.{found_is, one_is, spent_is, stopped, stops_for, few_one, classes_by, no_signal}
+use Rattle.crn_shelf.proofs.Budgets.{found_within, refuted_within, stop_open, open_is_no_yes, found_is_first}
 use Rattle.crn_shelf.proofs.answer.signal.Goals as goal
 use Rattle.crn_vec.proofs.CallerLemmas.{if_ok}
 
@@ -81,3 +85,65 @@ returns-in-Ok-Spent-clause-answer c =
     let e : EndsFor net g c.args.budget Spent = (u, c.in_ok-shape.ensures, subst (IsSearchEnd (signals u (reaction_system net)) c.args.budget) c.in-Ok-Spent.field-0-is c.in-Ok-Spent.ensures) in
     λ earlier v. subst (IsAnswer net c.args.budget earlier Q13) (sym c.spent_answer.ensures)
     (spent_is net earlier g c.args.weak c.args.budget c.requires.low c.requires.high v (inl e))
+
+pub returns-in-Ok-Found-clause-spent : goal.returns-in-Ok-Found-clause-spent
+returns-in-Ok-Found-clause-spent c =
+    let net = c.args.net.now in
+    let g = c.args.g.now in
+    let f = c.in-Ok-Found in
+    if_ok (IsFoundAnswer (pos 1) c.args.strong.now.terminal (length net.names) c.as_slice.result.now f.a.list f.b.list)
+    (λ (answer : Answer). PassForSignals net g c.args.budget → IsOpen answer.verdict) c.found_answer.result
+    (λ answer h pass. absurd (found_within net g c.args.budget f.pattern f.a f.b (c.in_ok-shape.shape, c.in_ok-shape.ensures, subst (IsSearchEnd (signals c.in_ok-shape.shape (reaction_system net)) c.args.budget) f.field-0-is f.ensures) pass))
+    c.found_answer.ensures
+
+pub returns-then-weak-clause-spent : goal.returns-then-weak-clause-spent
+returns-then-weak-clause-spent c =
+    let net = c.args.net.now in
+    let g = c.args.g.now in
+    if_ok (λ (answer : Answer). (earlier : Earlier) → GiveVector net earlier g true → IsAnswer net c.args.budget earlier Q13 answer)
+    (λ (answer : Answer). PassForSignals net g c.args.budget → IsOpen answer.verdict) c.by_negative.result
+    (λ answer h pass. absurd (refuted_within net g c.args.budget c.in-Ok-Refuted.tree (c.in_ok-shape.shape, c.in_ok-shape.ensures, subst (IsSearchEnd (signals c.in_ok-shape.shape (reaction_system net)) c.args.budget) c.in-Ok-Refuted.field-0-is c.in-Ok-Refuted.ensures) pass))
+    c.by_negative.ensures.answer
+
+pub returns-else-weak-clause-spent : goal.returns-else-weak-clause-spent
+returns-else-weak-clause-spent c =
+    let net = c.args.net.now in
+    λ pass. absurd (refuted_within net c.args.g.now c.args.budget c.in-Ok-Refuted.tree (c.in_ok-shape.shape, c.in_ok-shape.ensures, subst (IsSearchEnd (signals c.in_ok-shape.shape (reaction_system net)) c.args.budget) c.in-Ok-Refuted.field-0-is c.in-Ok-Refuted.ensures) pass)
+
+pub returns-in-Ok-Spent-clause-spent : goal.returns-in-Ok-Spent-clause-spent
+returns-in-Ok-Spent-clause-spent c = λ pass. subst (λ (a : Answer). IsOpen a.verdict) (sym c.spent_answer.ensures) tt
+
+pub returns-in-Err-clause-spent : goal.returns-in-Err-clause-spent
+returns-in-Err-clause-spent c =
+    if_ok (IsStopAnswer c.in-Err.stop) (λ (answer : Answer). PassForSignals c.args.net.now c.args.g.now c.args.budget → IsOpen answer.verdict) c.stop_answer.result
+    (λ answer e pass. stop_open c.in-Err.stop answer e) c.stop_answer.ensures
+
+pub returns-in-Ok-Found-clause-first : goal.returns-in-Ok-Found-clause-first
+returns-in-Ok-Found-clause-first c =
+    let net = c.args.net.now in
+    let g = c.args.g.now in
+    let f = c.in-Ok-Found in
+    if_ok (IsFoundAnswer (pos 1) c.args.strong.now.terminal (length net.names) c.as_slice.result.now f.a.list f.b.list)
+    (λ (answer : Answer). IsForNegative answer.verdict → HasNoSignal net g) c.found_answer.result
+    (λ answer h yes. absurd (found_is_first c.args.strong.now.terminal (length net.names) c.as_slice.result.now f.a.list f.b.list answer h yes))
+    c.found_answer.ensures
+
+pub returns-then-weak-clause-first : goal.returns-then-weak-clause-first
+returns-then-weak-clause-first c =
+    let net = c.args.net.now in
+    let g = c.args.g.now in
+    if_ok (λ (answer : Answer). (earlier : Earlier) → GiveVector net earlier g true → IsAnswer net c.args.budget earlier Q13 answer)
+    (λ (answer : Answer). IsForNegative answer.verdict → HasNoSignal net g) c.by_negative.result
+    (λ answer h yes. no_signal net g c.args.budget c.in-Ok-Refuted.tree c.species.ensures.network c.requires.regular (c.in_ok-shape.shape, c.in_ok-shape.ensures, subst (IsSearchEnd (signals c.in_ok-shape.shape (reaction_system net)) c.args.budget) c.in-Ok-Refuted.field-0-is c.in-Ok-Refuted.ensures))
+    c.by_negative.ensures.answer
+
+pub returns-else-weak-clause-first : goal.returns-else-weak-clause-first
+returns-else-weak-clause-first c = λ yes. absurd (subst (λ (a : Answer). IsForNegative a.verdict) c.one_answer.ensures yes)
+
+pub returns-in-Ok-Spent-clause-first : goal.returns-in-Ok-Spent-clause-first
+returns-in-Ok-Spent-clause-first c = λ yes. absurd (subst (λ (a : Answer). IsForNegative a.verdict) c.spent_answer.ensures yes)
+
+pub returns-in-Err-clause-first : goal.returns-in-Err-clause-first
+returns-in-Err-clause-first c =
+    if_ok (IsStopAnswer c.in-Err.stop) (λ (answer : Answer). IsForNegative answer.verdict → HasNoSignal c.args.net.now c.args.g.now) c.stop_answer.result
+    (λ answer e yes. absurd (open_is_no_yes answer.verdict (stop_open c.in-Err.stop answer e) yes)) c.stop_answer.ensures
