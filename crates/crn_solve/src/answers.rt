@@ -1,13 +1,15 @@
-ghost use Rattle.std.specs.Prelude.{◌≤◌, [], take, IfOk};
+ghost use Rattle.std.specs.Prelude.{◌≤◌, [], take, zip, IfOk, IsSomeAnd};
 ghost use Rattle.std.specs.List.{AllByRecursion};
 ghost use Rattle.crn_vec.specs.declared.limits.TheConstants.{MAX_BUDGET};
-ghost use Rattle.crn_cert.specs.Questions.{IsOpen};
+ghost use Rattle.crn_vec.specs.NetSignals.{HasNoSignal};
+ghost use Rattle.crn_cert.specs.Questions.{IsOpen, Q12, Q13, on, vector_given};
 ghost use Rattle.crn_cert.specs.Answers.{verdicts_of};
 ghost use Rattle.crn_cert.specs.Built.{built};
 ghost use Rattle.crn_cert.specs.Formed.{AreFormed};
 ghost use Rattle.crn_cert.specs.Valid.{AreValid};
-ghost use Rattle.crn_cert.specs.Licensed.{AllTrueOrLicensed};
+ghost use Rattle.crn_cert.specs.Licensed.{AllTrueOrLicensed, PassForSignals};
 ghost use Rattle.crn_cert.specs.TreeSizes.{HaveFewNodes};
+ghost use Rattle.crn_shelf.specs.Order.{IsForNegative};
 
 use crate::concordance::{concordant, strongly_concordant};
 use crate::confluence_answer::confluence_answer;
@@ -31,7 +33,9 @@ use std::alloc::Global;
 /// The answers to the questions that are built, in order. The budget is the most prefixes that a search may visit.
 ///
 /// Each answer is formed and valid, and its verdict is true of the network, or open and licensed with this budget.
-/// The first four are never open. Each tree has at most as many nodes as the budget.
+/// The first four are never open. Each tree has at most as many nodes as the budget. A signal is sought for the vector of
+/// question 12 first: if the visits for it exceed the budget, question 13 is open, and it is a yes for the negative only
+/// if the vector has none.
 pub fn solve(alloc: Global, net: &Network, budget: u32) -> Result<Answers, NoMemory>
     requires some { 1 ≤ budget }
     requires most { budget ≤ MAX_BUDGET }
@@ -42,6 +46,14 @@ pub fn solve(alloc: Global, net: &Network, budget: u32) -> Result<Answers, NoMem
     ensures decided { IfOk result (λ answers.
         AllByRecursion (λ v. IsOpen v → ⊥) (take 4 (verdicts_of answers))) }
     ensures nodes { IfOk result (λ answers. HaveFewNodes budget answers) }
+    ensures spent { IfOk result (λ answers.
+        let given = zip built (verdicts_of answers) in
+        IsSomeAnd (vector_given (on given Q12)) (λ g. PassForSignals net.now g budget) →
+        IsOpen (on given Q13)) }
+    ensures first { IfOk result (λ answers.
+        let given = zip built (verdicts_of answers) in
+        IsForNegative (on given Q13) →
+        IsSomeAnd (vector_given (on given Q12)) (HasNoSignal net.now)) }
 {
     meets_definition(net);
     let linkage = linkage(alloc, net)?;

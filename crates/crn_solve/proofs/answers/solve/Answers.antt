@@ -249,4 +249,6 @@ returns c =
       answered = rw pushed (are_answered net budget [] built answers all);
       decided = rw pushed (d1.decided, (d2.decided, (d3.decided, (d4.decided, tt))));
       nodes = rw pushed (solved_few net budget a1 a2 a3 a4 a5 a6 a7 a8 a9 a10 a11 a12 a13 a14 a15 all c.in_ok-signal.ensures.nodes c.in_ok-concordant.ensures.nodes c.in_ok-strongly_concordant.ensures.nodes);
+      spent = rw pushed c.in_ok-signal.ensures.spent;
+      first = rw pushed c.in_ok-signal.ensures.first;
     }

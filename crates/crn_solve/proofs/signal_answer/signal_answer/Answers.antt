@@ -1,17 +1,20 @@
 use Rattle.std.proofs.Common.{◌≡◌, ◌∙◌, ℕ, List, sym, subst}
-use Rattle.std.specs.Prelude.{ℤ}
+use Rattle.std.specs.Prelude.{ℤ, IsSomeAnd}
 use Rattle.std.specs.List.{AllByRecursion}
 use Rattle.std.proofs.lemmas.Bool.{false≢true}
 use Rattle.crn_vec.specs.Confluence.{IsNormalVector}
+use Rattle.crn_vec.specs.NetSignals.{HasNoSignal}
 use Rattle.crn_cert.specs.declared.answer.Answer.{Answer}
 use Rattle.crn_cert.specs.declared.answer.Verdict.{Verdict}
-use Rattle.crn_cert.specs.Questions.{Earlier, Q2, Q4, Q12, Q13, on}
+use Rattle.crn_cert.specs.Questions.{Earlier, IsOpen, Q2, Q4, Q12, Q13, on, vector_given}
 use Rattle.crn_cert.specs.Ranges.{IsNarrow}
 use Rattle.crn_cert.specs.Says.{IsTrueOf}
 use Rattle.crn_cert.specs.Law.{IsTrueOrOpen}
 use Rattle.crn_cert.specs.Answered.{IsAnswer}
+use Rattle.crn_cert.specs.Licensed.{PassForSignals}
 use Rattle.crn_conc.proofs.CallerLemmas.{if_ok}
 use Rattle.crn_shelf.specs.Given.{GiveVector}
+use Rattle.crn_shelf.specs.Order.{IsForNegative}
 use Rattle.crn_solve.proofs.Theorems.{weak_is}
 use Rattle.crn_solve.proofs.Signals.{signal_rests, inapplicable_given, vector_is_given}
 use Rattle.crn_solve.proofs.signal_answer.signal_answer.Goals as goal
@@ -43,3 +46,27 @@ returns-in-YesVec-Sides-clause-answer c =
     if_ok (λ (answer : Answer). (earlier : Earlier) → GiveVector net earlier g b → IsAnswer net c.args.budget earlier Q13 answer)
     (λ (answer : Answer). (earlier : Earlier) → IsTrueOf net Q2 (on earlier Q2) → on earlier Q4 ≡ w → on earlier Q12 ≡ v → IsAnswer net c.args.budget earlier Q13 answer) c.signal.result
     (λ answer h earlier strong four twelve. h earlier (subst (λ (l : List ℤ). GiveVector net earlier l b) (sym c.as_slice-g.ensures) (vector_is_given net earlier w c.in-YesVec-Sides.vector b strong four (twelve ∙ c.in-YesVec-Sides.is-0) c.is_yes.ensures))) c.signal.ensures.answer
+
+pub returns-then-is_open-clause-spent : goal.returns-then-is_open-clause-spent
+returns-then-is_open-clause-spent c = λ pass. subst (λ (a : Answer). IsOpen a.verdict) (sym c.rests_answer.ensures) tt
+
+pub returns-then-is_open-clause-first : goal.returns-then-is_open-clause-first
+returns-then-is_open-clause-first c = λ yes. absurd (subst (λ (a : Answer). IsForNegative a.verdict) c.rests_answer.ensures yes)
+
+pub returns-in-YesVec-Sides-clause-spent : goal.returns-in-YesVec-Sides-clause-spent
+returns-in-YesVec-Sides-clause-spent c =
+    let net = c.args.net.now in
+    let v = c.args.confluence.now in
+    let g = c.as_slice-g.result.now in
+    if_ok (λ (answer : Answer). PassForSignals net g c.args.budget → IsOpen answer.verdict)
+    (λ (answer : Answer). IsSomeAnd (vector_given v) (λ (l : List ℤ). PassForSignals net l c.args.budget) → IsOpen answer.verdict) c.signal.result
+    (λ answer h pass. h (subst (λ (l : List ℤ). PassForSignals net l c.args.budget) (sym c.as_slice-g.ensures) (subst (λ (w : Verdict). IsSomeAnd (vector_given w) (λ (l : List ℤ). PassForSignals net l c.args.budget)) c.in-YesVec-Sides.is-0 pass))) c.signal.ensures.spent
+
+pub returns-in-YesVec-Sides-clause-first : goal.returns-in-YesVec-Sides-clause-first
+returns-in-YesVec-Sides-clause-first c =
+    let net = c.args.net.now in
+    let v = c.args.confluence.now in
+    let g = c.as_slice-g.result.now in
+    if_ok (λ (answer : Answer). IsForNegative answer.verdict → HasNoSignal net g)
+    (λ (answer : Answer). IsForNegative answer.verdict → IsSomeAnd (vector_given v) (HasNoSignal net)) c.signal.result
+    (λ answer h yes. subst (λ (w : Verdict). IsSomeAnd (vector_given w) (HasNoSignal net)) (sym c.in-YesVec-Sides.is-0) (subst (HasNoSignal net) c.as_slice-g.ensures (h yes))) c.signal.ensures.first
