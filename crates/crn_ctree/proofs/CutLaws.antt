@@ -48,7 +48,7 @@ weight_right a u k le = sym (get_or-append_right (map (column_weight a u) (range
 
 -- ---- they are (-uA, u)
 
-weights_long : (a : Mat) (u : List ℤ) → length u ≡ length a.rows → length (weights_of a u) ≡ width a
+pub weights_long : (a : Mat) (u : List ℤ) → length u ≡ length a.rows → length (weights_of a u) ≡ width a
 weights_long a u e = omega (arith, e, columns_long a u, length-append (map (column_weight a u) (range_with_len 0 a.cols)) u)
 
 drop_first : {A : Type 0} (xs ys : List A) (n : ℕ) → length xs ≡ n → drop n (xs ++ ys) ≡ ys

@@ -60,10 +60,10 @@ products_none : (ss : List Sign) → products ss [] ≡ []
 products_none [] = refl
 products_none (s ∷ ss) = refl
 
-column_closed : (raised lowered : Bool) (ss : List Sign) → column_from raised lowered (Zero ∷ ss) [] ≡ column_from raised lowered ss []
+pub column_closed : (raised lowered : Bool) (ss : List Sign) → column_from raised lowered (Zero ∷ ss) [] ≡ column_from raised lowered ss []
 column_closed raised lowered ss = ap (λ (l : List Sign). cond (all_zero ss) (kind_of_sum (raised || some_sign is_plus l) (lowered || some_sign is_minus l)) Free) (sym (products_none ss))
 
-column_more : (raised lowered : Bool) (s t : Sign) (ss p : List Sign) → product s t ≡ Zero → column_from raised lowered (s ∷ ss) (t ∷ p) ≡ column_from raised lowered ss p
+pub column_more : (raised lowered : Bool) (s t : Sign) (ss p : List Sign) → product s t ≡ Zero → column_from raised lowered (s ∷ ss) (t ∷ p) ≡ column_from raised lowered ss p
 column_more raised lowered s t ss p e = ap (λ (u : Sign). cond (all_zero (drop (length p) ss)) (kind_of_sum (raised || cond (is_plus u) true (some_sign is_plus (products ss p))) (lowered || cond (is_minus u) true (some_sign is_minus (products ss p)))) Free) e
 
 column_raised : (raised lowered : Bool) (s t : Sign) (ss p : List Sign) → product s t ≡ Plus → column_from raised lowered (s ∷ ss) (t ∷ p) ≡ column_from true lowered ss p

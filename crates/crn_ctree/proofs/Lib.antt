@@ -9,3 +9,4 @@ mod PairLaws
 mod FirstFails
 mod SignalTrees
 mod SignalLaws
+mod SpotLaws

@@ -3,3 +3,4 @@ pub mod Kinds
 pub mod Pairs
 pub mod Paths
 pub mod Signals
+pub mod Spots

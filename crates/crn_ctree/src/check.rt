@@ -8,6 +8,7 @@ ghost use Rattle.crn_ctree.specs.Inner.Kinds.{matrix_of, part_of};
 
 use crate::cut::{rows, system_of};
 use crate::fault::TreeFault;
+use crate::known::KnownCuts;
 use crate::node::{Node, Step, choices, fits};
 use crate::path::Path;
 use crate::problem::Problem;
@@ -105,6 +106,32 @@ impl<'a> TreeCheck<'a> {
             return Err(TreeFault::WrongShape);
         }
         self.node(net, &cut.node(numbers))
+    }
+
+    /// Tests a cut with the multipliers of a shared vector, as `shared_node`, but by what was worked out once.
+    pub fn known_node(&mut self, cuts: &KnownCuts, cut: SharedCut) -> Result<Step, TreeFault>
+        requires due { self.old.due ≢ [] }
+        requires problem { self.old.problem ≡ cuts.now.problem }
+        requires choices { self.old.choices
+            ≡ (problem_of cuts.now.net self.old.problem).choices }
+        requires place { IsPlaceIn cuts.now.table cut }
+        ensures gives { SharedGives (problem_of cuts.now.net self.old.problem) self.old.due
+            (said_by_shared cuts.now.table cut) self.new.due result }
+        ensures choices { self.new.choices ≡ self.old.choices }
+        ensures problem { self.new.problem ≡ self.old.problem }
+    {
+        if !cuts.has_shape(cut) {
+            return Err(TreeFault::WrongShape);
+        }
+        if !cuts.rules_out(cut, self.path.prefix()) {
+            return Err(TreeFault::BadLeaf);
+        }
+        self.path.close();
+        Ok(if self.path.is_complete() {
+            Step::Complete
+        } else {
+            Step::More
+        })
     }
 
     /// Ends the check of a tree.

@@ -1,6 +1,7 @@
-ghost use Rattle.std.specs.Prelude.{◌≡◌, ◌↔◌, ◌<◌, ◌≤◌, List, length, IsTrue};
+ghost use Rattle.std.specs.Prelude.{◌≡◌, ◌↔◌, ◌<◌, ◌≤◌, List, length, map, IsTrue};
 ghost use Rattle.crn_vec.specs.declared.limits.TheConstants.{MAX_COORDINATES};
 ghost use Rattle.crn_vec.specs.declared.signs.Sign.{Sign};
+ghost use Rattle.crn_vec.specs.Concordance.{sign};
 ghost use Rattle.crn_vec.specs.Elementary.{width};
 ghost use Rattle.crn_vec.specs.NetSystems.{reaction_system};
 ghost use Rattle.crn_vec.specs.Network.{Net};
@@ -60,8 +61,8 @@ pub(crate) fn rows(net: &Network, system: System) -> usize
     }
 }
 
-// The number of columns of a system.
-fn columns(net: &Network, system: System) -> usize
+/// The number of columns of a system.
+pub(crate) fn columns(net: &Network, system: System) -> usize
     ensures count { result ≡ (matrix_by net.now system.entry).cols }
     ensures limit { result ≤ MAX_COORDINATES }
 {
@@ -117,6 +118,17 @@ fn weight(net: &Network, system: System, u: &[i128], k: usize) -> Sign
         opposite(sign_of(column_sum(net, system, u, k)))
     } else {
         sign_of(u[k - columns])
+    }
+}
+
+/// Writes the signs that (-uA, u) has at the coordinates.
+pub(crate) fn put_weights(net: &Network, system: System, u: &[i128], into: &mut [Sign])
+    requires numbers { AreFree (length (matrix_by net.now system).rows) u.now }
+    requires room { length into.old ≡ width (matrix_by net.now system) }
+    ensures { into.new ≡ map sign (weights_of (matrix_by net.now system.entry) u.now) }
+{
+    for k in 0..into.len() {
+        into[k] = weight(net, system, u, k);
     }
 }
 

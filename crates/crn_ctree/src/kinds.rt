@@ -14,8 +14,8 @@ use crn_net::Network;
 use crn_shape::row_kind;
 use crn_vec::{Kind, Sign, product, sign_of};
 
-// The kind of a sum with or without positive members, and with or without negative ones.
-fn sum_kind(raised: bool, lowered: bool) -> Kind
+/// The kind of a sum with or without positive members, and with or without negative ones.
+pub(crate) fn sum_kind(raised: bool, lowered: bool) -> Kind
     ensures { result ≡ kind_of_sum raised lowered }
 {
     match (raised, lowered) {
@@ -67,8 +67,8 @@ fn kind_from(raised: bool, lowered: bool, numbers: &[i128], prefix: &[Sign]) -> 
     }
 }
 
-// The kind of the opposite signs.
-fn opposite_kind(kind: Kind) -> Kind
+/// The kind of the opposite signs.
+pub(crate) fn opposite_kind(kind: Kind) -> Kind
     ensures { result ≡ opposite_kind kind }
 {
     match kind {

@@ -5,6 +5,7 @@ mod check;
 mod cut;
 mod fault;
 mod kinds;
+mod known;
 mod laws;
 mod node;
 mod pair;
@@ -12,9 +13,12 @@ mod path;
 mod problem;
 mod shared;
 mod signal;
+mod spots;
+mod worked;
 
 pub use check::TreeCheck;
 pub use fault::TreeFault;
+pub use known::KnownCuts;
 pub use laws::{
     complete_trees_show, complete_where_valid, first_faults_are_those_of_tests,
     first_signal_faults_are_those_of_tests, nodes_of_valid_trees, signal_nodes_are_of_shape,

@@ -1,4 +1,4 @@
-ghost use Rattle.std.specs.Prelude.{◌≡◌, ◌≤◌, ◌-◌, [], ◌∷◌, ◌++◌, length, slice_index_or, OnOk, OnErr, IfOk};
+ghost use Rattle.std.specs.Prelude.{◌≡◌, ◌≤◌, ◌<◌, ◌-◌, [], ◌∷◌, ◌++◌, length, slice_index_or, OnOk, OnErr, IfOk};
 ghost use Rattle.crn_ctree.specs.Shared.{IsShared, place_of, said_with};
 ghost use Rattle.crn_ctree.specs.Gives.{said_by};
 ghost use Rattle.crn_ctree.specs.Inner.Kinds.{part_of};
@@ -96,6 +96,15 @@ impl SharedTable {
         ensures { result ≡ length self.now }
     {
         self.vectors.len()
+    }
+
+    // The vector at a place, counted from 0.
+    pub(crate) fn at(&self, i: usize) -> &[i128]
+        requires { i < length self.now }
+        ensures value { result.now ≡ slice_index_or self.now i [] }
+        ensures shared { IsShared result.now }
+    {
+        self.vectors[i].as_slice()
     }
 
     /// The vector at a place, counted from 1.

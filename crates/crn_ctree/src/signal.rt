@@ -13,8 +13,8 @@ use crn_net::Network;
 use crn_shape::Shape;
 use crn_vec::{MAX_COMPLEXES, Sign, dot};
 
-// Writes the signs of numbers.
-fn put_signs(numbers: &[i128], into: &mut [Sign])
+/// Writes the signs of numbers.
+pub(crate) fn put_signs(numbers: &[i128], into: &mut [Sign])
     requires { length into.old ≡ length numbers.now }
     ensures { into.new ≡ map sign numbers.now }
 {

@@ -1,0 +1,15 @@
+use Rattle.std.proofs.Common.{◌<◌, [], length, map, arith, ap, subst, sym, ◌∙◌}
+use Rattle.std.proofs.lemmas.List.{get_or-map, length-map}
+use Rattle.crn_vec.specs.Kept.{KeptInts}
+use Rattle.crn_vec.proofs.CallerLemmas.{all_at}
+use Rattle.crn_ctree.specs.Shared.{IsShared}
+use Rattle.crn_ctree.proofs.shared.SharedTable.at.Goals as goal
+
+pub returns-clause-shared : goal.returns-clause-shared
+returns-clause-shared c =
+    let items = c.self.inside.vectors.items in
+    let list = λ (v : KeptInts). v.list in
+    let i = c.args.i in
+    let inside : i < length items = omega (arith, c.requires, ap length c.self.view_is, length-map items list) in
+    let shared = all_at IsShared (map list items) i [] c.self.invariant (omega (arith, inside, length-map items list)) in
+    subst IsShared (get_or-map list items i c.index.result.now [] inside ∙ sym (ap list c.index.ensures) ∙ sym c.as_slice.ensures) shared

@@ -1,0 +1,5 @@
+use Rattle.std.proofs.Common.{length}
+use Rattle.crn_ctree.proofs.spots.+spots_kind.Given as goal
+
+abbrev pub decreases-spots_kind : goal.decreases-spots_kind
+decreases-spots_kind l = length l.spots.now
