@@ -2,6 +2,7 @@ ghost use Rattle.std.specs.Prelude.{◌≡◌, ◌↔◌, ◌≤◌, ◌<◌, �
 ghost use Rattle.std.specs.List.{AllByRecursion, list_any};
 ghost use Rattle.crn_vec.specs.declared.limits.TheConstants.{MAX_AMOUNT, WIDE_SOLUTION};
 ghost use Rattle.crn_vec.specs.Rank.{combination_at};
+ghost use Rattle.crn_vec.specs.Vectors.{entry};
 ghost use Rattle.crn_cert.specs.Ranges.{IsFrom, AreFree};
 ghost use Rattle.crn_cert.specs.RankTests.{IsComb, comb_tests, outside, vector_of, vectors_of};
 ghost use Rattle.crn_check.specs.Check.{Judges};
@@ -10,6 +11,7 @@ ghost use Rattle.crn_check.specs.Inner.Bases.{IsBase, AreLabelled, members_of};
 use crate::duals::vector_of;
 use crate::fault::CheckFault;
 use crate::members::Members;
+use crate::sums::is_nought;
 use crn_cert::Rows;
 use crn_net::Network;
 
@@ -23,6 +25,21 @@ pub(crate) fn times(x: &i128, y: &i128) -> i128
     *x * *y
 }
 
+// What a reaction with this number adds to the entry at a species.
+fn share(net: &Network, number: &i128, reaction: u32, s: usize) -> i128
+    requires number { unsigned_abs number.now < WIDE_SOLUTION }
+    requires reaction { IsFrom 1 (length net.now.reactions) reaction }
+    requires species { s < length net.now.names }
+    ensures value { result ≡ number.now *ℤ entry (vector_of net.now reaction) s }
+    ensures small { unsigned_abs result ≤ MAX_AMOUNT * WIDE_SOLUTION }
+{
+    if is_nought(number) {
+        return 0;
+    }
+    let vector = vector_of(net, reaction);
+    times(number, &vector[s])
+}
+
 // The entry at a species of the combination of the base with the numbers after the first.
 fn combination(net: &Network, base: &[u32], comb: &[i128], s: usize) -> i128
     requires base { IsBase net.now base.now }
@@ -32,8 +49,7 @@ fn combination(net: &Network, base: &[u32], comb: &[i128], s: usize) -> i128
 {
     let mut sum = 0;
     for j in 0..base.len() {
-        let vector = vector_of(net, base[j]);
-        sum += times(&comb[j + 1], &vector[s]);
+        sum += share(net, &comb[j + 1], base[j], s);
     }
     sum
 }

@@ -7,9 +7,9 @@ ghost use Rattle.crn_check.specs.Check.{Judges};
 ghost use Rattle.crn_check.specs.Inner.Bases.{IsBase};
 
 use crate::fault::CheckFault;
+use crate::sums::dot;
 use crn_cert::Rows;
 use crn_net::Network;
-use crn_vec::dot;
 
 // The vector of a reaction, counted from 1.
 pub(crate) fn vector_of(net: &Network, reaction: u32) -> &[i128]

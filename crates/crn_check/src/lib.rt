@@ -27,6 +27,7 @@ mod sides;
 mod signal;
 mod space;
 mod strong;
+mod sums;
 mod terminals;
 #[cfg(test)]
 mod tests;
