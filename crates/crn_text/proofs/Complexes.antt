@@ -16,7 +16,7 @@ use Rattle.crn_text.specs.Faults.{both_of}
 
 -- ---- repeats that are dropped drop no first occurrence of what they have
 
-known_all : {B : Type 0} (E : B → B → Bool) (d : (a b : B) → Decides (E a b) (a ≡ b)) (xs zs : List B) → ((z : B) → IsIn z zs → IsIn z xs) → firsts E (xs ++ zs) ≡ firsts E xs
+pub known_all : {B : Type 0} (E : B → B → Bool) (d : (a b : B) → Decides (E a b) (a ≡ b)) (xs zs : List B) → ((z : B) → IsIn z zs → IsIn z xs) → firsts E (xs ++ zs) ≡ firsts E xs
 known_all E d xs [] h = ap (firsts E) (append-nil xs)
 known_all E d xs (z ∷ zs) h =
     ap (firsts E) (sym (append_assoc xs (z ∷ []) zs)) ∙ known_all E d (xs ++ z ∷ []) zs (λ y i. in_left y xs (z ∷ []) (h y (inr i))) ∙ firsts_known E d xs z (h z (inl refl))

@@ -62,7 +62,7 @@ self_same s h = λ name.
 pub self_told : (old : Net) (s : Statement) → IsSelf old s → is_self s ≡ true
 self_told old s h = all_same s (names_in s) (self_says old s h)
 
-not_self : (old : Net) (s : Statement) → (IsSelf old s → ⊥) → is_self s ≡ false
+pub not_self : (old : Net) (s : Statement) → (IsSelf old s → ⊥) → is_self s ≡ false
 not_self old s h = elim (cases_Bool (is_self s)) [ inl y ↦ absurd (h (says_self old s (self_same s y))) | inr n ↦ n ]
 
 -- ---- the builder's answer

@@ -1,3 +1,4 @@
 -- For the contracts of private functions alone.
 pub mod Pieces
 pub mod Flaws
+pub mod Known

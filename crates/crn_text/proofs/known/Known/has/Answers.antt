@@ -1,0 +1,16 @@
+use Rattle.std.proofs.Common.{◌≡◌, ℕ, List, [], ◌∷◌, sym, subst, ◌∙◌, arith}
+use Rattle.std.proofs.lemmas.Slice.Eq.{bytes_eq-Decides}
+use Rattle.crn_vec.specs.Lists.{IsIn}
+use Rattle.crn_vec.proofs.CallerLemmas.{all_at}
+use Rattle.crn_text.specs.Inner.Known.{line_at}
+use Rattle.crn_text.specs.declared.known.Place.{Place}
+use Rattle.crn_text.proofs.known.Known.has.Goals as goal
+
+abbrev none : Place
+none = record { at = 0; length = 0 }
+
+pub returns : goal.returns
+returns c = λ read known is.
+    let there = all_at (λ p. IsIn (line_at c.args.text.now p) ([] ∷ read)) c.args.self.now.places c.slot.result none known (omega (arith, c.slot.ensures)) in
+    let same : c.bytes_at.result.now ≡ c.args.line.now = (bytes_eq-Decides c.bytes_at.result.now c.args.line.now).0 (sym c.eq.ensures ∙ is) in
+    subst (λ (l : List ℕ). IsIn l ([] ∷ read)) (sym c.bytes_at.ensures ∙ same) there
