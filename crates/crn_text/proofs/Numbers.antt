@@ -1,10 +1,12 @@
 -- The number that digits write, as far as it doesn't exceed a limit.
-use Rattle.std.proofs.Common.{◌≡◌, ℕ, zero, suc, ◌+◌, ◌-◌, ◌*◌, ◌<◌, true, false, List, [], ◌∷◌, ◌++◌, length, get_or, refl, arith}
+use Rattle.std.proofs.Common.{◌≡◌, ℕ, zero, suc, ◌+◌, ◌-◌, ◌*◌, ◌<◌, ◌≤◌, ◌==◌, true, false, List, [], ◌∷◌, ◌++◌, length, get_or, take, drop, refl, sym, ap, ◌∙◌, inl, inr, arith}
 use Rattle.std.specs.Prelude.{min, nat_le, nat_lt}
 use Rattle.std.specs.Char.{digit_value}
 use Rattle.std.specs.List.{list_all}
-use Rattle.std.specs.Str.Parse.{digits_value_after}
-use Rattle.std.proofs.lemmas.Bool.{and_parts, leb-true, le-ltb, lt-ltb}
+use Rattle.std.specs.Str.Parse.{digits_value, digits_value_after}
+use Rattle.std.proofs.lemmas.Bool.{and_parts, leb-true, le-ltb, lt-ltb, eqb-true, eqb-false, cases_Bool, cases_lt}
+use Rattle.std.proofs.lemmas.List.{take-append-drop, length-drop}
+use Rattle.std.proofs.lemmas.List.Folds.{list_all-append}
 use Rattle.crn_text.specs.Tokens.{is_digit}
 use Rattle.crn_text.specs.declared.side.TheConstants.{LARGE}
 
@@ -32,3 +34,67 @@ value_push n (x ∷ ds) d = value_push (n * 10 + digit_value x) ds d
 
 pub capped_more : (m n e : ℕ) → m ≡ min n LARGE → min (m * 10 + e) LARGE ≡ min (n * 10 + e) LARGE
 capped_more m n e h = omega arith
+
+-- ---- digits before others
+
+-- zeros before other digits do not change the value
+pub zeros_value : (front last : List ℕ) → list_all (λ d. d == 48) front ≡ true → digits_value_after 10 0 (front ++ last) ≡ digits_value_after 10 0 last
+zeros_value [] last h = refl
+zeros_value (d ∷ front) last h =
+    let p = and_parts (d == 48) (list_all (λ e. e == 48) front) h in
+    let is : d ≡ 48 = eqb-true d 48 p.0 in
+    rw is (zeros_value front last p.1)
+
+value_append : (n : ℕ) (xs ys : List ℕ) → digits_value_after 10 n (xs ++ ys) ≡ digits_value_after 10 (digits_value_after 10 n xs) ys
+value_append n [] ys = refl
+value_append n (x ∷ xs) ys = value_append (n * 10 + digit_value x) xs ys
+
+value_grows : (n : ℕ) (ds : List ℕ) → n ≤ digits_value_after 10 n ds
+value_grows n [] = omega arith
+value_grows n (d ∷ ds) = let more = value_grows (n * 10 + digit_value d) ds in omega (arith, more)
+
+some_digit : (n : ℕ) (ds : List ℕ) → list_all is_digit ds ≡ true → list_all (λ d. d == 48) ds ≡ false → 1 ≤ digits_value_after 10 n ds
+some_digit n [] digits h = absurd cc
+some_digit n (d ∷ ds) digits h =
+    let p = and_parts (is_digit d) (list_all is_digit ds) digits in
+    elim (cases_Bool (d == 48)) [
+      | inl yes' ↦ some_digit (n * 10 + digit_value d) ds p.1 (rw yes' at h)
+      | inr no' ↦
+          let low = leb-true 48 d (and_parts (nat_le 48 d) (nat_le d 57) p.0).0 in
+          let other = eqb-false d 48 no' in
+          let value = digit_is_value d p.0 in
+          let some : 1 ≤ digit_value d = elim (cases_lt 48 d) [ inl lt ↦ omega (arith, lt, value) | inr ge ↦ absurd (other (omega (arith, ge, low))) ] in
+          let more = value_grows (n * 10 + digit_value d) ds in
+          omega (arith, more, some)
+    ]
+
+three_more : (n : ℕ) (ds : List ℕ) → 1 ≤ n → length ds ≡ 3 → 1000 ≤ digits_value_after 10 n ds
+three_more n [] some h = absurd cc
+three_more n (a ∷ []) some h = absurd cc
+three_more n (a ∷ b ∷ []) some h = absurd cc
+three_more n (a ∷ b ∷ c ∷ []) some h = omega (arith, some)
+three_more n (a ∷ b ∷ c ∷ d ∷ ds) some h = absurd (omega (arith, h))
+
+-- three digits after some that are not all zeros make a large number
+pub large_value : (front last : List ℕ) → list_all is_digit front ≡ true → list_all (λ d. d == 48) front ≡ false → length last ≡ 3 → LARGE ≤ digits_value_after 10 0 (front ++ last)
+large_value front last digits h three =
+    let some = three_more (digits_value_after 10 0 front) last (some_digit 0 front digits h) three in
+    omega (arith, some, value_append 0 front last)
+
+-- all digits but the last three are not all zeros
+pub number_large : (ds : List ℕ) (m : ℕ) → m ≡ length ds - 3 → list_all is_digit ds ≡ true → list_all (λ d. d == 48) (take m ds) ≡ false → LARGE ≡ min (digits_value 10 ds) LARGE
+number_large ds m is digits h =
+    let whole = take-append-drop m ds in
+    let parts = and_parts (list_all is_digit (take m ds)) (list_all is_digit (drop m ds)) (sym (list_all-append is_digit (take m ds) (drop m ds)) ∙ ap (list_all is_digit) whole ∙ digits) in
+    elim (cases_lt (length ds) 3) [
+      | inl few ↦ let e : m ≡ 0 = omega (arith, is, few) in let none = rw e at h in absurd cc
+      | inr many ↦
+          let three : length (drop m ds) ≡ 3 = omega (arith, is, many, length-drop m ds) in
+          let large = large_value (take m ds) (drop m ds) parts.0 h three in
+          let same = ap (digits_value_after 10 0) whole in
+          omega (arith, large, same)
+    ]
+
+-- the digits before a place are all zeros
+pub number_small : (ds : List ℕ) (m : ℕ) → list_all (λ d. d == 48) (take m ds) ≡ true → digits_value 10 (drop m ds) ≡ digits_value 10 ds
+number_small ds m h = sym (zeros_value (take m ds) (drop m ds) h) ∙ ap (digits_value_after 10 0) (take-append-drop m ds)

@@ -1,27 +1,15 @@
-use Rattle.std.proofs.Common.{◌<◌, ◌+◌, ◌-◌, length, take, get_or, arith}
+use Rattle.std.proofs.Common.{ℕ, ◌==◌, sym, ap, ◌∙◌, arith}
+use Rattle.std.specs.Prelude.{min}
+use Rattle.std.specs.List.{list_all}
 use Rattle.std.specs.Str.Parse.{digits_value}
-use Rattle.std.proofs.lemmas.Int.Digits.{digits_value_more}
-use Rattle.std.proofs.lemmas.Str.Parse.{digits_value-take-le}
-use Rattle.crn_text.proofs.Numbers.{value_at, capped_more}
+use Rattle.crn_text.specs.declared.side.TheConstants.{LARGE}
+use Rattle.crn_text.proofs.Numbers.{number_large, number_small}
 use Rattle.crn_text.proofs.side.number.Goals as goal
 
-pub loop-digit-preserved : goal.loop-digit-preserved
-loop-digit-preserved c =
-    let ds = c.args.digits.now in
-    let i = c.loop-digit.digit-index in
-    let lt : c.loop-digit.digit-index < length c.args.digits.now = omega arith in
-    let more = digits_value_more 10 ds i lt in
-    let digit = value_at ds i c.requires lt in
-    let step = capped_more c.loop-digit.number (digits_value 10 (take i ds)) (get_or ds i 0 - 48) c.loop-digit.invariant in
-    omega (arith, more, digit, step, c.min-number.ensures, c.from.ensures, c.saturating_sub.ensures)
+pub returns-then-not-are_zeros : goal.returns-then-not-are_zeros
+returns-then-not-are_zeros c = number_large c.args.digits.now c.saturating_sub.result (omega (arith, c.saturating_sub.ensures)) c.requires (ap (list_all (λ d. d == 48)) (sym c.split_at.ensures.front) ∙ sym c.are_zeros.ensures ∙ c.if-not-are_zeros.true)
 
-pub returns-then-number-eq-LARGE : goal.returns-then-number-eq-LARGE
-returns-then-number-eq-LARGE c =
-    let ds = c.args.digits.now in
-    let i = c.loop-digit.digit-index in
-    let lt : c.loop-digit.digit-index < length c.args.digits.now = omega arith in
-    let more = digits_value_more 10 ds i lt in
-    let digit = value_at ds i c.requires lt in
-    let step = capped_more c.loop-digit.number (digits_value 10 (take i ds)) (get_or ds i 0 - 48) c.loop-digit.invariant in
-    let front = digits_value-take-le 10 ds (i + 1) (omega arith) in
-    omega (arith, more, digit, step, front, c.min-number.ensures, c.from.ensures, c.saturating_sub.ensures, c.if-number-eq-LARGE.true)
+pub returns : goal.returns
+returns c =
+    let small = number_small c.args.digits.now c.saturating_sub.result (ap (list_all (λ d. d == 48)) (sym c.split_at.ensures.front) ∙ sym c.are_zeros.ensures ∙ c.if-not-are_zeros.false) in
+    c.small_number.ensures ∙ ap (λ (n : ℕ). min n LARGE) (ap (digits_value 10) c.split_at.ensures.back ∙ small)
