@@ -1,13 +1,13 @@
 -- Linkage classes, one after another.
-use Rattle.std.proofs.Common.{◌≡◌, ◌⊎◌, ◌≢◌, ℕ, suc, ◌+◌, ◌<◌, ◌≤◌, List, length, refl, sym, ap, subst, ◌∙◌, inl, inr, arith}
+use Rattle.std.proofs.Common.{◌≡◌, ◌≢◌, ℕ, suc, ◌+◌, ◌<◌, ◌≤◌, List, length, sym, ap, subst, ◌∙◌, inl, inr, arith}
 use Rattle.std.proofs.lemmas.Bool.{cases_lt, cases_eq}
 use Rattle.crn_vec.specs.Walks.{LeadsTo}
-use Rattle.crn_vec.proofs.CallerLemmas.{leads_then, leads_back}
+use Rattle.crn_vec.proofs.CallerLemmas.{leads_then, leads_here, leads_keeps}
 use Rattle.crn_graph.specs.declared.arcs.Arc.{Arc}
 use Rattle.crn_graph.specs.declared.search.Search.{Search}
 use Rattle.crn_graph.specs.Inner.Arcs.{HasArc}
-use Rattle.crn_graph.specs.Inner.Search.{Steps, label_at, up_at, depth_at, first_found, IsBlank, IsReady, IsFollowed, IsSpreading, KeepsLabels}
-use Rattle.crn_graph.specs.Inner.Linkage.{IsSymmetric, IsJoined, IsPlaced, AreClassesTo}
+use Rattle.crn_graph.specs.Inner.Search.{Steps, label_at, up_at, first_found, IsBlank, IsReady, IsFollowed, IsSpreading, KeepsLabels}
+use Rattle.crn_graph.specs.Inner.Linkage.{IsReturning, IsPlaced, AreClassesTo}
 
 pub classes_none : (arcs : List Arc) (complexes : ℕ) (s : Search) → IsBlank complexes s → AreClassesTo arcs s 0 0
 classes_none arcs complexes s h = record {
@@ -52,7 +52,7 @@ all_followed arcs t y h all e = elim (h.followed y e) [ inl f ↦ f | inr w ↦ 
 
 -- a search t gives the class of c its label, after s
 pub record IsClassed (arcs : List Arc) (s t : Search) (count c : ℕ) : Type 0 where
-  pub symmetric : IsSymmetric arcs
+  pub returning : IsReturning arcs
   pub old : AreClassesTo arcs s count c
   pub none : label_at s c ≡ 0
   pub inside : c < length s.label.items
@@ -88,8 +88,19 @@ stays arcs s t count c k f h one = h.keeps.label f.0 (omega (arith, f.2, one)) �
 reached_from : (arcs : List Arc) (s t : Search) (count c y : ℕ) → IsClassed arcs s t count c → label_at t y ≡ count + 1 → LeadsTo (Steps arcs) c y
 reached_from arcs s t count c y h e = subst (λ (x : ℕ). LeadsTo (Steps arcs) x y) h.start (h.spreading.reached y (e ∙ sym h.newest))
 
-steps_back : (arcs : List Arc) → IsSymmetric arcs → (y z : ℕ) → Steps arcs y z → Steps arcs z y
-steps_back arcs h y z s = (s.0, h s.0 y z s.1)
+-- where arcs lead from each complex back, walks do
+walks_back : (arcs : List Arc) (c y : ℕ) → IsReturning arcs → LeadsTo (Steps arcs) c y → LeadsTo (Steps arcs) y c
+walks_back arcs c y h walk = leads_keeps (Steps arcs) (λ v. LeadsTo (Steps arcs) v c) (λ v w step p. leads_then (Steps arcs) w v c (h step.0 v w step.1) p) c y walk (leads_here (Steps arcs) c)
+
+-- arcs lead from complexes with labels to complexes with labels
+labels_on : (arcs : List Arc) (s t : Search) (count c v w : ℕ) → IsClassed arcs s t count c → Steps arcs v w → 1 ≤ label_at t v → 1 ≤ label_at t w
+labels_on arcs s t count c v w h step le =
+    let e = h.old.even step.0 v w step.1 in
+    elim (stands arcs s t count c v h) [
+      | kept one f ↦ let g = h.keeps.label w (omega (arith, e, one)) in omega (arith, g, e, one)
+      | fresh n f ↦ all_followed arcs t v h.spreading h.all (f ∙ sym h.newest) step.0 w step.1
+      | bare n f ↦ absurd (omega (arith, f, le))
+    ]
 
 even_after : (arcs : List Arc) (s t : Search) (count c r y z : ℕ) → IsClassed arcs s t count c → HasArc arcs r y z → label_at t y ≡ label_at t z
 even_after arcs s t count c r y z h a =
@@ -102,7 +113,7 @@ even_after arcs s t count c r y z h a =
       | bare n f ↦
           elim (h.keeps.adds z (sym e ∙ n)) [
             | inl g ↦ f ∙ sym g
-            | inr g ↦ absurd (let b : 1 ≤ label_at t y = all_followed arcs t z h.spreading h.all (g ∙ sym h.newest) r y (h.symmetric r y z a) in omega (arith, f, b))
+            | inr g ↦ absurd (let b : 1 ≤ label_at t y = leads_keeps (Steps arcs) (λ v. 1 ≤ label_at t v) (λ v w step le. labels_on arcs s t count c v w h step le) z y (h.returning r y z a) (omega (arith, g)) in omega (arith, f, b))
           ]
     ]
 
@@ -118,7 +129,7 @@ same_after arcs s t count c y z h one e =
       ]
       | fresh n f ↦
           leads_then (Steps arcs) y c z
-          (leads_back (Steps arcs) (steps_back arcs h.symmetric) c y (reached_from arcs s t count c y h f))
+          (walks_back arcs c y h.returning (reached_from arcs s t count c y h f))
           (reached_from arcs s t count c z h (sym e ∙ f))
       | bare n f ↦ absurd (omega (arith, f, one))
     ]

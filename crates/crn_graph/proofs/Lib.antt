@@ -7,6 +7,7 @@ mod ClassLaws
 mod LinkTests
 mod ReverseLaws
 mod PairLaws
+mod RankLaws
 mod StrongLaws
 mod ExitLaws
 mod StrongTests

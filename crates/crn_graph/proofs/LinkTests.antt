@@ -1,22 +1,19 @@
 -- The labels and trees of linkage classes pass their tests, and are right.
-use Rattle.std.proofs.Common.{◌≡◌, ◌⊎◌, ℕ, zero, suc, ◌+◌, ◌-◌, ◌<◌, ◌≤◌, List, length, get_or, refl, sym, ap, subst, ◌∙◌, inl, inr, arith}
-use Rattle.std.specs.List.{AllByRecursion}
-use Rattle.std.proofs.lemmas.Bool.{cases_lt, cases_eq}
+use Rattle.std.proofs.Common.{◌≡◌, ◌⊎◌, ℕ, ◌+◌, ◌-◌, ◌<◌, ◌≤◌, List, length, get_or, refl, sym, ap, subst, ◌∙◌, inl, inr, arith}
 use Rattle.crn_vec.specs.Network.{Net}
 use Rattle.crn_vec.specs.Lists.{IsIn}
-use Rattle.crn_vec.specs.Walks.{LeadsTo}
 use Rattle.crn_vec.specs.Linkage.{IsLinked, SameClass, AreRightLabels}
 use Rattle.crn_vec.proofs.CallerLemmas.{leads_keeps, leads_here, leads_step, leads_then, in_at, at_in, all_from}
 use Rattle.crn_cert.specs.Says.{IsReactionNumber}
 use Rattle.crn_cert.specs.Ranges.{IsFrom, AreFrom}
 use Rattle.crn_cert.specs.Formed.{IsForest}
-use Rattle.crn_cert.specs.ClassTests.{AreNumbered, AreEven, IsFirst, HangsByLink, AreLinkTrees}
+use Rattle.crn_cert.specs.ClassTests.{AreNumbered, AreEven, AreLinkTrees}
 use Rattle.crn_graph.specs.declared.arcs.Arc.{Arc}
 use Rattle.crn_graph.specs.declared.arcs.Way.TheVariants.{Links}
 use Rattle.crn_graph.specs.declared.search.Search.{Search}
-use Rattle.crn_graph.specs.Inner.Arcs.{Goes, HasArc, AreArcsOf}
-use Rattle.crn_graph.specs.Inner.Search.{Steps, label_at, up_at, depth_at}
-use Rattle.crn_graph.specs.Inner.Linkage.{IsSymmetric, AreClassesTo}
+use Rattle.crn_graph.specs.Inner.Arcs.{HasArc, AreArcsOf}
+use Rattle.crn_graph.specs.Inner.Search.{Steps, label_at, up_at}
+use Rattle.crn_graph.specs.Inner.Linkage.{IsReturning, AreClassesTo}
 
 -- ---- numbers of reactions
 
@@ -38,10 +35,10 @@ are_from count least greatest xs l h = record {
 
 -- ---- links
 
-pub links_symmetric : (net : Net) (arcs : List Arc) → AreArcsOf net Links arcs → IsSymmetric arcs
-links_symmetric net arcs h r y z a =
+pub links_return : (net : Net) (arcs : List Arc) → AreArcsOf net Links arcs → IsReturning arcs
+links_return net arcs h r y z a =
     let g = h.sound r y z a in
-    h.whole r z y (record { a = g.a; b = g.b; is = g.is; allows = elim g.allows [ inl e ↦ inr (e.1, e.0) | inr e ↦ inl (e.1, e.0) ] })
+    leads_step (Steps arcs) z y (r, h.whole r z y (record { a = g.a; b = g.b; is = g.is; allows = elim g.allows [ inl e ↦ inr (e.1, e.0) | inr e ↦ inl (e.1, e.0) ] }))
 
 -- the reaction of an arc goes from one of its complexes to the other
 arc_links : (net : Net) (arcs : List Arc) (r y z : ℕ) → AreArcsOf net Links arcs → HasArc arcs r y z → IsReactionNumber net r y z ⊎ IsReactionNumber net r z y

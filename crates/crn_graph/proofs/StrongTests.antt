@@ -1,5 +1,5 @@
 -- The labels, trees and levels of strong classes pass their tests, and are right.
-use Rattle.std.proofs.Common.{◌≡◌, ◌⊎◌, ◌≢◌, ℕ, zero, suc, ◌+◌, ◌-◌, ◌<◌, ◌≤◌, List, [], ◌∷◌, length, get_or, refl, sym, ap, subst, ◌∙◌, inl, inr, arith}
+use Rattle.std.proofs.Common.{◌≡◌, ◌≢◌, ℕ, suc, ◌+◌, ◌-◌, ◌<◌, ◌≤◌, List, length, get_or, refl, sym, ap, subst, ◌∙◌, inl, inr, arith}
 use Rattle.std.proofs.lemmas.Bool.{cases_eq}
 use Rattle.crn_vec.specs.Network.{Net}
 use Rattle.crn_vec.specs.Walks.{LeadsTo}
@@ -11,49 +11,14 @@ use Rattle.crn_cert.specs.Formed.{IsForest}
 use Rattle.crn_cert.specs.ClassTests.{AreNumbered, AreFromTrees, AreToTrees, of_class, DoLevelsFall, GoesOut}
 use Rattle.crn_graph.specs.declared.arcs.Arc.{Arc}
 use Rattle.crn_graph.specs.declared.arcs.Way.TheVariants.{Along, Against}
-use Rattle.crn_graph.specs.declared.classes.Classes.{Classes}
-use Rattle.crn_graph.specs.Inner.Arcs.{HasArc, AreArcsOf, AreInside}
-use Rattle.crn_graph.specs.Inner.Search.{Steps, zeros}
-use Rattle.crn_graph.specs.Inner.Strong.{class_at, from_at, to_at, from_depth_at, to_depth_at, AreReversed, AreStrong, AreStrongTo}
+use Rattle.crn_graph.specs.declared.search.Search.{Search}
+use Rattle.crn_graph.specs.Inner.Arcs.{HasArc, AreArcsOf, AreArcsWithin}
+use Rattle.crn_graph.specs.Inner.Search.{Steps, label_at, up_at}
+use Rattle.crn_graph.specs.Inner.Linkage.{AreClassesTo}
 use Rattle.crn_graph.proofs.LinkTests.{numbered_in, in_numbered, are_from}
 use Rattle.crn_graph.proofs.ReverseLaws.{arc_along, along_arc}
-use Rattle.crn_graph.proofs.PairLaws.{inside_of}
-
--- the arcs against the reactions are those along them, reversed
-pub arcs_reversed : (net : Net) (arcs back : List Arc) → AreArcsOf net Along arcs → AreArcsOf net Against back → AreReversed arcs back
-arcs_reversed net arcs back h k = record {
-  to = λ r y z a. k.whole r z y (record { a = y; b = z; is = arc_along net arcs r y z h a; allows = (refl, refl) });
-  from = λ r y z a.
-      let g = k.sound r y z a in
-      h.whole r z y (record { a = g.a; b = g.b; is = g.is; allows = (g.allows.1, g.allows.0) });
-}
-
-pub record AreAllStrong (net : Net) (arcs : List Arc) (t : Classes) (count n : ℕ) : Type 0 where
-  pub along : AreArcsOf net Along arcs
-  pub inside : AreInside n arcs
-  pub n_is : n ≡ length net.complexes
-  pub some : 1 ≤ n
-  pub places : length t.label.items ≡ n
-  pub classes : AreStrongTo arcs t count n
-
-pub strong_count : (net : Net) (arcs : List Arc) (t : Classes) (count n : ℕ) → AreAllStrong net arcs t count n → IsFrom 1 (length net.complexes) count
-strong_count net arcs t count n h =
-    let b = h.classes.before 0 (omega (arith, h.some)) in
-    let m = h.classes.most 0 in
-    (omega (arith, b, m), omega (arith, h.classes.few, h.n_is))
-
-pub strong_labels : (net : Net) (arcs : List Arc) (t : Classes) (count n : ℕ) → AreAllStrong net arcs t count n → AreFrom (length net.complexes) 1 count t.label.items
-strong_labels net arcs t count n h = are_from (length net.complexes) 1 count t.label.items (h.places ∙ h.n_is) (λ y lt. (h.classes.before y (omega (arith, lt, h.n_is)), h.classes.most y))
-
-pub strong_numbered : (net : Net) (arcs : List Arc) (t : Classes) (count n : ℕ) → AreAllStrong net arcs t count n → AreNumbered t.label.items count
-strong_numbered net arcs t count n h = record {
-  positive = λ y lt. h.classes.before y (omega (arith, lt, h.places));
-  numbered = λ y k lt one less. h.classes.numbered y k one less;
-  count_is = record {
-    most = λ y lt. h.classes.most y;
-    each = λ k one most. let f = h.classes.each k one most in (f.0, omega (arith, f.1, h.places), f.2);
-  };
-}
+use Rattle.crn_graph.proofs.LabelLaws.{one_strong_labels}
+use Rattle.crn_graph.proofs.StrongLaws.{AreWithin, inner_walk, strong_even, walk_within, back_arc, back_walk, walk_back}
 
 -- ---- reaching by reactions and by arcs
 
@@ -72,126 +37,198 @@ by_arcs net arcs y z h walk =
     (λ v w i p. leads_then (Steps arcs) y v w p (leads_step (Steps arcs) v w (reaction_step net arcs v w h i))) y z walk
     (leads_here (Steps arcs) y)
 
-pub strong_right : (net : Net) (arcs : List Arc) (t : Classes) (count n : ℕ) → AreAllStrong net arcs t count n → AreRightStrongLabels net.reactions t.label.items
-strong_right net arcs t count n h = record {
-  same = λ y z ly lz e. let s = h.classes.sound y z (h.classes.before y (omega (arith, ly, h.places))) e in (by_reactions net arcs y z h.along s.0, by_reactions net arcs z y h.along s.1);
-  together = λ y z ly lz s. h.classes.whole y z (h.classes.before y (omega (arith, ly, h.places))) (by_arcs net arcs y z h.along s.0, by_arcs net arcs z y h.along s.1);
+-- ---- labels
+
+-- the searches of all classes, along the reactions and against them
+pub record AreAllStrong (net : Net) (arcs inner back : List Arc) (ranks : List ℕ) (s b : Search) (count others n : ℕ) : Type 0 where
+  pub within : AreWithin net arcs inner ranks n
+  pub against : AreArcsWithin net Against ranks back
+  pub n_is : n ≡ length net.complexes
+  pub some : 1 ≤ n
+  pub places : length s.label.items ≡ n
+  pub classes : AreClassesTo inner s count n
+  pub places_back : length b.label.items ≡ n
+  pub classes_back : AreClassesTo back b others n
+
+pub strong_count : (net : Net) (arcs inner back : List Arc) (ranks : List ℕ) (s b : Search) (count others n : ℕ) → AreAllStrong net arcs inner back ranks s b count others n → IsFrom 1 (length net.complexes) count
+strong_count net arcs inner back ranks s b count others n h =
+    let f = h.classes.before 0 (omega (arith, h.some)) in
+    let m = h.classes.most 0 in
+    (omega (arith, f, m), omega (arith, h.classes.few, h.n_is))
+
+pub strong_labels : (net : Net) (arcs inner back : List Arc) (ranks : List ℕ) (s b : Search) (count others n : ℕ) → AreAllStrong net arcs inner back ranks s b count others n → AreFrom (length net.complexes) 1 count s.label.items
+strong_labels net arcs inner back ranks s b count others n h = are_from (length net.complexes) 1 count s.label.items (h.places ∙ h.n_is) (λ y lt. (h.classes.before y (omega (arith, lt, h.n_is)), h.classes.most y))
+
+pub strong_numbered : (net : Net) (arcs inner back : List Arc) (ranks : List ℕ) (s b : Search) (count others n : ℕ) → AreAllStrong net arcs inner back ranks s b count others n → AreNumbered s.label.items count
+strong_numbered net arcs inner back ranks s b count others n h = record {
   positive = λ y lt. h.classes.before y (omega (arith, lt, h.places));
   numbered = λ y k lt one less. h.classes.numbered y k one less;
+  count_is = record {
+    most = λ y lt. h.classes.most y;
+    each = λ k one most. let f = h.classes.each k one most in (f.0, omega (arith, f.1, h.places), f.2);
+  };
 }
+
+inner_strong : (net : Net) (arcs inner : List Arc) (ranks : List ℕ) (n y z : ℕ) → AreWithin net arcs inner ranks n → LeadsTo (Steps inner) y z → LeadsTo (Steps inner) z y → SameStrong net.reactions y z
+inner_strong net arcs inner ranks n y z h p q =
+    (by_reactions net arcs y z h.along (inner_walk net arcs inner ranks n y z h p), by_reactions net arcs z y h.along (inner_walk net arcs inner ranks n z y h q))
+
+strong_inner : (net : Net) (arcs inner : List Arc) (ranks : List ℕ) (n y z : ℕ) → AreWithin net arcs inner ranks n → SameStrong net.reactions y z → LeadsTo (Steps inner) y z
+strong_inner net arcs inner ranks n y z h s =
+    let over = by_arcs net arcs y z h.along s.0 in
+    let again = by_arcs net arcs z y h.along s.1 in
+    walk_within net arcs inner ranks n y z h over (strong_even arcs n ranks y z h.ranked (over, again))
+
+-- labels are equal along walks
+even_walk : (arcs : List Arc) (s : Search) (count n y z : ℕ) → AreClassesTo arcs s count n → LeadsTo (Steps arcs) y z → label_at s y ≡ label_at s z
+even_walk arcs s count n y z h walk = leads_keeps (Steps arcs) (λ v. label_at s y ≡ label_at s v) (λ v w step p. p ∙ h.even step.0 v w step.1) y z walk refl
+
+pub strong_right : (net : Net) (arcs inner back : List Arc) (ranks : List ℕ) (s b : Search) (count others n : ℕ) → AreAllStrong net arcs inner back ranks s b count others n → AreRightStrongLabels net.reactions s.label.items
+strong_right net arcs inner back ranks s b count others n h =
+    let one : (y : ℕ) → y < length s.label.items → 1 ≤ label_at s y = λ y lt. h.classes.before y (omega (arith, lt, h.places)) in
+    record {
+      same = λ y z ly lz e. inner_strong net arcs inner ranks n y z h.within (h.classes.same y z (one y ly) e) (h.classes.same z y (one z lz) (sym e));
+      together = λ y z ly lz m. even_walk inner s count n y z h.classes (strong_inner net arcs inner ranks n y z h.within m);
+      positive = one;
+      numbered = λ y k lt low less. h.classes.numbered y k low less;
+    }
+
+back_right : (net : Net) (arcs inner back : List Arc) (ranks : List ℕ) (s b : Search) (count others n : ℕ) → AreAllStrong net arcs inner back ranks s b count others n → AreRightStrongLabels net.reactions b.label.items
+back_right net arcs inner back ranks s b count others n h =
+    let one : (y : ℕ) → y < length b.label.items → 1 ≤ label_at b y = λ y lt. h.classes_back.before y (omega (arith, lt, h.places_back)) in
+    let w = h.within in
+    record {
+      same = λ y z ly lz e. inner_strong net arcs inner ranks n y z w (back_walk net arcs inner back ranks n z y w h.against (h.classes_back.same z y (one z lz) (sym e))) (back_walk net arcs inner back ranks n y z w h.against (h.classes_back.same y z (one y ly) e));
+      together = λ y z ly lz m. even_walk back b others n y z h.classes_back (walk_back net arcs inner back ranks n z y w h.against (strong_inner net arcs inner ranks n z y w (m.1, m.0)));
+      positive = one;
+      numbered = λ y k lt low less. h.classes_back.numbered y k low less;
+    }
+
+-- both searches give the same labels
+pub same_labels : (net : Net) (arcs inner back : List Arc) (ranks : List ℕ) (s b : Search) (count others n : ℕ) → AreAllStrong net arcs inner back ranks s b count others n → b.label.items ≡ s.label.items
+same_labels net arcs inner back ranks s b count others n h =
+    one_strong_labels net.reactions b.label.items s.label.items (back_right net arcs inner back ranks s b count others n h) (strong_right net arcs inner back ranks s b count others n h) (h.places_back ∙ sym h.places)
 
 -- ---- trees
 
-pub from_forest : (net : Net) (arcs : List Arc) (t : Classes) (count n : ℕ) → AreAllStrong net arcs t count n → IsForest net t.from.items t.from_depth.items
-from_forest net arcs t count n h = record {
-  names_are = are_from (length net.complexes) 0 (length net.reactions) t.from.items (h.classes.lists.from ∙ h.places ∙ h.n_is) (λ y lt. (
+inner_number : (net : Net) (arcs inner : List Arc) (ranks : List ℕ) (n r y z : ℕ) → AreWithin net arcs inner ranks n → HasArc inner r y z → IsReactionNumber net r y z
+inner_number net arcs inner ranks n r y z h a = arc_along net arcs r y z h.along (h.along.whole r y z (h.within.sound r y z a).0)
+
+pub from_forest : (net : Net) (arcs inner back : List Arc) (ranks : List ℕ) (s b : Search) (count others n : ℕ) → AreAllStrong net arcs inner back ranks s b count others n → IsForest net s.up.items s.depth.items
+from_forest net arcs inner back ranks s b count others n h = record {
+  names_are = are_from (length net.complexes) 0 (length net.reactions) s.up.items (h.classes.long.up ∙ h.places ∙ h.n_is) (λ y lt. (
     omega arith,
     elim (h.classes.placed y (h.classes.before y (omega (arith, lt, h.n_is)))) [
-      | inl g ↦ omega (arith, g.from_is)
-      | inr g ↦ let r = arc_along net arcs (from_at t y) g.before y h.along g.from_arc in omega (arith, r.0, r.1.0)
+      | inl g ↦ omega (arith, g.1)
+      | inr g ↦ let r = inner_number net arcs inner ranks n (up_at s y) g.d y h.within g.by_arc in omega (arith, r.0, r.1.0)
     ],
   ));
-  depth_is = are_from (length net.complexes) 0 (length net.complexes - 1) t.from_depth.items (h.classes.lists.from_depth ∙ h.places ∙ h.n_is) (λ y lt. (
+  depth_is = are_from (length net.complexes) 0 (length net.complexes - 1) s.depth.items (h.classes.long.depth ∙ h.places ∙ h.n_is) (λ y lt. (
     omega arith,
-    let d = h.classes.from_deep y (h.classes.before y (omega (arith, lt, h.n_is))) in omega (arith, d, h.places, h.n_is),
+    let d = h.classes.deep y (h.classes.before y (omega (arith, lt, h.n_is))) in omega (arith, d, h.places, h.n_is),
   ));
 }
 
-pub to_forest : (net : Net) (arcs : List Arc) (t : Classes) (count n : ℕ) → AreAllStrong net arcs t count n → IsForest net t.to.items t.to_depth.items
-to_forest net arcs t count n h = record {
-  names_are = are_from (length net.complexes) 0 (length net.reactions) t.to.items (h.classes.lists.to ∙ h.places ∙ h.n_is) (λ y lt. (
+pub to_forest : (net : Net) (arcs inner back : List Arc) (ranks : List ℕ) (s b : Search) (count others n : ℕ) → AreAllStrong net arcs inner back ranks s b count others n → IsForest net b.up.items b.depth.items
+to_forest net arcs inner back ranks s b count others n h = record {
+  names_are = are_from (length net.complexes) 0 (length net.reactions) b.up.items (h.classes_back.long.up ∙ h.places_back ∙ h.n_is) (λ y lt. (
     omega arith,
-    elim (h.classes.placed y (h.classes.before y (omega (arith, lt, h.n_is)))) [
-      | inl g ↦ omega (arith, g.to_is)
-      | inr g ↦ let r = arc_along net arcs (to_at t y) y g.next h.along g.to_arc in omega (arith, r.0, r.1.0)
+    elim (h.classes_back.placed y (h.classes_back.before y (omega (arith, lt, h.n_is)))) [
+      | inl g ↦ omega (arith, g.1)
+      | inr g ↦ let r = inner_number net arcs inner ranks n (up_at b y) y g.d h.within (back_arc net arcs inner back ranks n (up_at b y) g.d y h.within h.against g.by_arc) in omega (arith, r.0, r.1.0)
     ],
   ));
-  depth_is = are_from (length net.complexes) 0 (length net.complexes - 1) t.to_depth.items (h.classes.lists.to_depth ∙ h.places ∙ h.n_is) (λ y lt. (
+  depth_is = are_from (length net.complexes) 0 (length net.complexes - 1) b.depth.items (h.classes_back.long.depth ∙ h.places_back ∙ h.n_is) (λ y lt. (
     omega arith,
-    let d = h.classes.to_deep y (h.classes.before y (omega (arith, lt, h.n_is))) in omega (arith, d, h.places, h.n_is),
+    let d = h.classes_back.deep y (h.classes_back.before y (omega (arith, lt, h.n_is))) in omega (arith, d, h.places_back, h.n_is),
   ));
 }
 
-pub from_trees : (net : Net) (arcs : List Arc) (t : Classes) (count n : ℕ) → AreAllStrong net arcs t count n → AreFromTrees net t.label.items t.from.items t.from_depth.items
-from_trees net arcs t count n h c lt = elim (h.classes.placed c (h.classes.before c (omega (arith, lt, h.n_is)))) [
-  | inl g ↦ inl (g.first, g.from_is, g.from_depth_is)
-  | inr g ↦ inr (λ first. first g.root g.earlier g.its, record { d = g.before; goes = arc_along net arcs (from_at t c) g.before c h.along g.from_arc; class = g.from_its; deeper = g.from_deeper })
+pub from_trees : (net : Net) (arcs inner back : List Arc) (ranks : List ℕ) (s b : Search) (count others n : ℕ) → AreAllStrong net arcs inner back ranks s b count others n → AreFromTrees net s.label.items s.up.items s.depth.items
+from_trees net arcs inner back ranks s b count others n h c lt = elim (h.classes.placed c (h.classes.before c (omega (arith, lt, h.n_is)))) [
+  | inl g ↦ inl g
+  | inr g ↦ inr (
+    λ first. first g.root g.earlier g.its,
+    record {
+      d = g.d;
+      goes = inner_number net arcs inner ranks n (up_at s c) g.d c h.within g.by_arc;
+      class = h.classes.even (up_at s c) g.d c g.by_arc;
+      deeper = g.deeper;
+    },
+  )
 ]
 
-pub to_trees : (net : Net) (arcs : List Arc) (t : Classes) (count n : ℕ) → AreAllStrong net arcs t count n → AreToTrees net t.label.items t.to.items t.to_depth.items
-to_trees net arcs t count n h c lt = elim (h.classes.placed c (h.classes.before c (omega (arith, lt, h.n_is)))) [
-  | inl g ↦ inl (g.first, g.to_is, g.to_depth_is)
-  | inr g ↦ inr (λ first. first g.root g.earlier g.its, record { d = g.next; goes = arc_along net arcs (to_at t c) c g.next h.along g.to_arc; class = g.to_its; deeper = g.to_deeper })
+own_trees : (net : Net) (arcs inner back : List Arc) (ranks : List ℕ) (s b : Search) (count others n : ℕ) → AreAllStrong net arcs inner back ranks s b count others n → AreToTrees net b.label.items b.up.items b.depth.items
+own_trees net arcs inner back ranks s b count others n h c lt = elim (h.classes_back.placed c (h.classes_back.before c (omega (arith, lt, h.n_is)))) [
+  | inl g ↦ inl g
+  | inr g ↦ inr (
+    λ first. first g.root g.earlier g.its,
+    record {
+      d = g.d;
+      goes = inner_number net arcs inner ranks n (up_at b c) c g.d h.within (back_arc net arcs inner back ranks n (up_at b c) g.d c h.within h.against g.by_arc);
+      class = h.classes_back.even (up_at b c) g.d c g.by_arc;
+      deeper = g.deeper;
+    },
+  )
 ]
+
+pub to_trees : (net : Net) (arcs inner back : List Arc) (ranks : List ℕ) (s b : Search) (count others n : ℕ) → AreAllStrong net arcs inner back ranks s b count others n → AreToTrees net s.label.items b.up.items b.depth.items
+to_trees net arcs inner back ranks s b count others n h =
+    subst (λ (l : List ℕ). AreToTrees net l b.up.items b.depth.items) (same_labels net arcs inner back ranks s b count others n h) (own_trees net arcs inner back ranks s b count others n h)
 
 -- ---- levels
 
--- fewer marks leave more zeros
-zeros_more : (m m' : List ℕ) → length m ≡ length m' → ((w : ℕ) → 1 ≤ get_or m' w 0 → 1 ≤ get_or m w 0) → zeros m ≤ zeros m'
-zeros_more [] [] l h = omega arith
-zeros_more [] (y ∷ m') l h = absurd (omega (arith, l))
-zeros_more (x ∷ m) [] l h = absurd (omega (arith, l))
-zeros_more (zero ∷ m) (zero ∷ m') l h = let r = zeros_more m m' (omega (arith, l)) (λ w. h (suc w)) in omega (arith, r)
-zeros_more (zero ∷ m) (suc y ∷ m') l h = absurd (let e = h 0 (omega arith) in omega (arith, e))
-zeros_more (suc x ∷ m) (zero ∷ m') l h = let r = zeros_more m m' (omega (arith, l)) (λ w. h (suc w)) in omega (arith, r)
-zeros_more (suc x ∷ m) (suc y ∷ m') l h = zeros_more m m' (omega (arith, l)) (λ w. h (suc w))
+-- equal labels are those of equal ranks
+pub equal_ranks : (net : Net) (arcs inner back : List Arc) (ranks : List ℕ) (s b : Search) (count others n : ℕ) → AreAllStrong net arcs inner back ranks s b count others n → (y z : ℕ) → y < n → z < n → label_at s y ≡ label_at s z → get_or ranks y 0 ≡ get_or ranks z 0
+equal_ranks net arcs inner back ranks s b count others n h y z ly lz e =
+    let w = h.within in
+    strong_even arcs n ranks y z w.ranked (
+      inner_walk net arcs inner ranks n y z w (h.classes.same y z (h.classes.before y ly) e),
+      inner_walk net arcs inner ranks n z y w (h.classes.same z y (h.classes.before z lz) (sym e)),
+    )
 
-zeros_less : (m m' : List ℕ) (x : ℕ) → length m ≡ length m' → ((w : ℕ) → 1 ≤ get_or m' w 0 → 1 ≤ get_or m w 0) → 1 ≤ get_or m x 0 → get_or m' x 0 ≡ 0 → zeros m < zeros m'
-zeros_less [] m' x l h one none = absurd (omega arith)
-zeros_less (a ∷ m) [] x l h one none = absurd (omega (arith, l))
-zeros_less (zero ∷ m) (b ∷ m') zero l h one none = absurd (omega arith)
-zeros_less (suc a ∷ m) (zero ∷ m') zero l h one none = let r = zeros_more m m' (omega (arith, l)) (λ w. h (suc w)) in omega (arith, r)
-zeros_less (suc a ∷ m) (suc b ∷ m') zero l h one none = absurd (omega arith)
-zeros_less (zero ∷ m) (zero ∷ m') (suc x) l h one none = let r = zeros_less m m' x (omega (arith, l)) (λ w. h (suc w)) one none in omega (arith, r)
-zeros_less (zero ∷ m) (suc b ∷ m') (suc x) l h one none = absurd (let e = h 0 (omega arith) in omega (arith, e))
-zeros_less (suc a ∷ m) (zero ∷ m') (suc x) l h one none = let r = zeros_less m m' x (omega (arith, l)) (λ w. h (suc w)) one none in omega (arith, r)
-zeros_less (suc a ∷ m) (suc b ∷ m') (suc x) l h one none = zeros_less m m' x (omega (arith, l)) (λ w. h (suc w)) one none
+-- each class has the rank of its complexes, less by one, as its level
+abbrev pub AreLevels : ℕ → List ℕ → List ℕ → List ℕ → Type 0
+AreLevels n labels ranks levels = (y : ℕ) → y < n → of_class labels levels y ≡ get_or ranks y 0 - 1
 
-pub strong_levels : (net : Net) (arcs : List Arc) (t : Classes) (count n : ℕ) → AreAllStrong net arcs t count n → AreFrom count 0 (length net.complexes) t.level.items
-strong_levels net arcs t count n h = are_from count 0 (length net.complexes) t.level.items h.classes.levelled (λ k lt. (
+pub strong_levels : (net : Net) (arcs inner back : List Arc) (ranks : List ℕ) (s b : Search) (count others n : ℕ) (levels : List ℕ) → AreAllStrong net arcs inner back ranks s b count others n → length levels ≡ count → AreLevels n s.label.items ranks levels → AreFrom count 0 (length net.complexes) levels
+strong_levels net arcs inner back ranks s b count others n levels h long are = are_from count 0 (length net.complexes) levels long (λ k lt. (
   omega arith,
-  let l = h.classes.levels (k + 1) (omega arith) (omega (arith, lt)) in
-      let at : k + 1 - 1 ≡ k = omega arith in
-      let e = ap (λ (v : ℕ). get_or t.level.items v 0) at in
-      omega (arith, e, l.size, l.long, h.places, h.n_is),
+  let f = h.classes.each (k + 1) (omega arith) (omega (arith, lt)) in
+      let level = are f.0 f.1 in
+      let at : label_at s f.0 - 1 ≡ k = omega (arith, f.2) in
+      let e = ap (λ (v : ℕ). get_or levels v 0) at in
+      let m = h.within.ranked.most f.0 in
+      omega (arith, level, e, m, h.n_is),
 ))
 
-zero_or : (n : ℕ) → (n ≡ 0) ⊎ (1 ≤ n)
-zero_or zero = inl refl
-zero_or (suc n) = inr (omega arith)
+-- a step between two classes goes to one of smaller level
+falls_at : (net : Net) (arcs inner back : List Arc) (ranks : List ℕ) (s b : Search) (count others n : ℕ) (levels : List ℕ) → AreAllStrong net arcs inner back ranks s b count others n → AreLevels n s.label.items ranks levels
+    → (y z : ℕ) → Steps arcs y z → label_at s y ≢ label_at s z → of_class s.label.items levels z < of_class s.label.items levels y
+falls_at net arcs inner back ranks s b count others n levels h are y z step ne =
+    let w = h.within in
+    let ly : y < n = let i = w.inside.from step.1.place step.1.inside in omega (arith, i, step.1.from_is) in
+    let lz : z < n = let i = w.inside.to step.1.place step.1.inside in omega (arith, i, step.1.to_is) in
+    let f = w.ranked.falls step.0 y z step.1 in
+    let one = w.ranked.some z lz in
+    let other : get_or ranks y 0 ≢ get_or ranks z 0 = λ e. ne (h.classes.even step.0 y z (w.within.whole step.0 y z (w.along.sound step.0 y z step.1) e)) in
+    let a = are y ly in
+    let c = are z lz in
+    omega (arith, a, c, f, one, other)
 
--- a step between two classes goes to one that reaches fewer complexes
-falls_at : (net : Net) (arcs : List Arc) (t : Classes) (count n y z : ℕ) → AreAllStrong net arcs t count n → Steps arcs y z → class_at t y ≢ class_at t z → of_class t.label.items t.level.items z < of_class t.label.items t.level.items y
-falls_at net arcs t count n y z h step ne =
-    let S = Steps arcs in
-    let ly : 1 ≤ class_at t y = h.classes.before y (let i = h.inside.from step.1.place step.1.inside in omega (arith, i, step.1.from_is)) in
-    let lz : 1 ≤ class_at t z = h.classes.before z (let i = h.inside.to step.1.place step.1.inside in omega (arith, i, step.1.to_is)) in
-    let a = h.classes.levels (class_at t y) ly (h.classes.most y) in
-    let b = h.classes.levels (class_at t z) lz (h.classes.most z) in
-    let sa = h.classes.sound a.root y (omega (arith, a.its, ly)) a.its in
-    let sb = h.classes.sound b.root z (omega (arith, b.its, lz)) b.its in
-    let on : LeadsTo S a.root b.root = leads_then S a.root y b.root sa.0 (leads_then S y z b.root (leads_step S y z step) sb.1) in
-    let inner : (w : ℕ) → 1 ≤ get_or b.marks w 0 → 1 ≤ get_or a.marks w 0 = λ w le. a.all w (leads_then S a.root b.root w on (b.found w le)) in
-    let here : 1 ≤ get_or a.marks a.root 0 = a.all a.root (leads_here S a.root) in
-    let none : get_or b.marks a.root 0 ≡ 0 = elim (zero_or (get_or b.marks a.root 0)) [
-      | inl e ↦ e
-      | inr le ↦ absurd (ne (h.classes.whole y z ly (leads_step S y z step, leads_then S z b.root y sb.1 (leads_then S b.root a.root y (b.found a.root le) sa.0))))
-    ] in
-    let less = zeros_less a.marks b.marks a.root (a.long ∙ sym b.long) inner here none in
-    omega (arith, less, a.size, b.size, a.long, b.long)
-
-pub strong_falls : (net : Net) (arcs : List Arc) (t : Classes) (count n : ℕ) → AreAllStrong net arcs t count n → DoLevelsFall net t.label.items t.level.items
-strong_falls net arcs t count n h y z i = elim (cases_eq (class_at t y) (class_at t z)) [
+pub strong_falls : (net : Net) (arcs inner back : List Arc) (ranks : List ℕ) (s b : Search) (count others n : ℕ) (levels : List ℕ) → AreAllStrong net arcs inner back ranks s b count others n → AreLevels n s.label.items ranks levels → DoLevelsFall net s.label.items levels
+strong_falls net arcs inner back ranks s b count others n levels h are y z i = elim (cases_eq (label_at s y) (label_at s z)) [
   | inl e ↦ inl e
-  | inr ne ↦ inr (falls_at net arcs t count n y z h (reaction_step net arcs y z h.along i) ne)
+  | inr ne ↦ inr (falls_at net arcs inner back ranks s b count others n levels h are y z (reaction_step net arcs y z h.within.along i) ne)
 ]
 
 -- a reaction that leaves a class goes to one of smaller level
-pub out_falls : (net : Net) (arcs : List Arc) (t : Classes) (count n k r : ℕ) → AreAllStrong net arcs t count n → GoesOut net t.label.items (suc k) r → (j : ℕ) × (j < count) × (get_or t.level.items j 0 < get_or t.level.items k 0)
-out_falls net arcs t count n k r h g =
-    let step : Steps arcs g.y g.z = (r, along_arc net arcs r g.y g.z h.along g.goes) in
-    let lz : 1 ≤ class_at t g.z = h.classes.before g.z (let i = h.inside.to step.1.place step.1.inside in omega (arith, i, step.1.to_is)) in
+pub out_falls : (net : Net) (arcs inner back : List Arc) (ranks : List ℕ) (s b : Search) (count others n : ℕ) (levels : List ℕ) → AreAllStrong net arcs inner back ranks s b count others n → AreLevels n s.label.items ranks levels
+    → (k r : ℕ) → GoesOut net s.label.items (suc k) r → (j : ℕ) × (j < count) × (get_or levels j 0 < get_or levels k 0)
+out_falls net arcs inner back ranks s b count others n levels h are k r g =
+    let step : Steps arcs g.y g.z = (r, along_arc net arcs r g.y g.z h.within.along g.goes) in
+    let lz : 1 ≤ label_at s g.z = h.classes.before g.z (let i = h.within.inside.to step.1.place step.1.inside in omega (arith, i, step.1.to_is)) in
     let most = h.classes.most g.z in
-    let less = falls_at net arcs t count n g.y g.z h step (λ e. g.other (sym e ∙ g.from)) in
-    let at : class_at t g.y - 1 ≡ k = omega (arith, g.from) in
-    (class_at t g.z - 1, omega (arith, lz, most), subst (λ (v : ℕ). of_class t.label.items t.level.items g.z < get_or t.level.items v 0) at less)
+    let less = falls_at net arcs inner back ranks s b count others n levels h are g.y g.z step (λ e. g.other (sym e ∙ g.from)) in
+    let at : label_at s g.y - 1 ≡ k = omega (arith, g.from) in
+    (label_at s g.z - 1, omega (arith, lz, most), subst (λ (v : ℕ). of_class s.label.items levels g.z < get_or levels v 0) at less)

@@ -4,3 +4,4 @@ pub mod Search
 pub mod Linkage
 pub mod Pair
 pub mod Strong
+pub mod Ranks

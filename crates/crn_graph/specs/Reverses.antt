@@ -1,7 +1,7 @@
 -- What `back` gives: all reverses, or a reaction without one.
 -- Source: Feinberg, Foundations of Chemical Reaction Network Theory (2019), for reversibility.
 -- Shapes: reactions are counted from 1.
-use Rattle.std.specs.Prelude.{List, length}
+use Rattle.std.specs.Prelude.{length}
 use Rattle.crn_vec.specs.Network.{Net}
 use Rattle.crn_vec.specs.Strong.{IsReversible}
 use Rattle.crn_cert.specs.Ranges.{IsFrom, AreFrom}

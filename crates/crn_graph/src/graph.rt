@@ -1,5 +1,5 @@
 ghost use Rattle.std.specs.Prelude.{◌≡◌, ◌≤◌, ◌<◌, length, IfOk};
-ghost use Rattle.crn_graph.specs.Inner.Arcs.{arc_at, AreArcsOf, AreInside};
+ghost use Rattle.crn_graph.specs.Inner.Arcs.{arc_at, AreArcsOf, AreArcsWithin, AreInside};
 ghost use Rattle.crn_graph.specs.Inner.Graph.{IsNext};
 
 use crate::arcs::{Arc, Way, arcs_of};
@@ -34,15 +34,13 @@ impl Model for Graph {
 }
 
 impl Graph {
-    // The graph of the steps of a network.
-    pub(crate) fn new(alloc: Global, net: &Network, way: Way) -> Result<Graph, NoMemory>
-        ensures complexes { IfOk result (λ made. made.complexes ≡ length net.now.complexes) }
-        ensures some { IfOk result (λ made. 1 ≤ made.complexes) }
-        ensures inside { IfOk result (λ made. AreInside made.complexes made.arcs) }
-        ensures arcs { IfOk result (λ made. AreArcsOf net.now way made.arcs) }
+    // The graph of these arcs.
+    fn of(alloc: Global, arcs: Vec<Arc>, complexes: usize) -> Result<Graph, NoMemory>
+        requires { AreInside complexes arcs.items }
+        ensures complexes { IfOk result (λ made. made.complexes ≡ complexes) }
+        ensures arcs { IfOk result (λ made. made.arcs ≡ arcs.items) }
     {
-        let arcs = arcs_of(alloc, net, way)?;
-        let mut first = vec![in alloc; 0usize; net.complexes()]?;
+        let mut first = vec![in alloc; 0usize; complexes]?;
         let mut next = vec![in alloc; 0usize; arcs.len()]?;
         for place in 0..arcs.len() {
             let from = arcs[place].from;
@@ -50,6 +48,37 @@ impl Graph {
             first[from] = place + 1;
         }
         Ok(Graph { arcs, first, next })
+    }
+
+    // The graph of the steps of a network.
+    pub(crate) fn new(alloc: Global, net: &Network, way: Way) -> Result<Graph, NoMemory>
+        ensures complexes { IfOk result (λ made. made.complexes ≡ length net.now.complexes) }
+        ensures some { IfOk result (λ made. 1 ≤ made.complexes) }
+        ensures inside { IfOk result (λ made. AreInside made.complexes made.arcs) }
+        ensures arcs { IfOk result (λ made. AreArcsOf net.now way made.arcs) }
+    {
+        Graph::of(alloc, arcs_of(alloc, net, way)?, net.complexes())
+    }
+
+    // The graph of the steps of a network between complexes of equal rank.
+    pub(crate) fn within(
+        alloc: Global,
+        net: &Network,
+        way: Way,
+        rank: &[u32],
+    ) -> Result<Graph, NoMemory>
+        requires { length rank.now ≡ length net.now.complexes }
+        ensures complexes { IfOk result (λ made. made.complexes ≡ length net.now.complexes) }
+        ensures arcs { IfOk result (λ made. AreArcsWithin net.now way rank.now made.arcs) }
+    {
+        let arcs = arcs_of(alloc, net, way)?;
+        let mut within = Vec::with_capacity(alloc, arcs.len())?;
+        for arc in &arcs {
+            if rank[arc.from] == rank[arc.to] {
+                within.push(*arc)?;
+            }
+        }
+        Graph::of(alloc, within, net.complexes())
     }
 
     // The chain of the arcs from a complex: one more than the place of its first arc, and 0 if there is none.

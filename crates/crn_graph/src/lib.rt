@@ -2,11 +2,11 @@
 #![tactic(auto)]
 
 mod arcs;
-mod classes;
 mod graph;
 mod laws;
 mod linkage_data;
 mod pair;
+mod ranks;
 mod reverses;
 mod search;
 mod strong_data;

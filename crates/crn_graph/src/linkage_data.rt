@@ -5,7 +5,7 @@ ghost use Rattle.crn_cert.specs.Ranges.{IsFrom, AreFrom};
 ghost use Rattle.crn_cert.specs.Formed.{IsForest};
 ghost use Rattle.crn_cert.specs.ClassTests.{AreNumbered, AreEven, AreLinkTrees};
 ghost use Rattle.crn_graph.specs.Inner.Search.{IsBlank};
-ghost use Rattle.crn_graph.specs.Inner.Linkage.{IsSymmetric, AreClassesTo};
+ghost use Rattle.crn_graph.specs.Inner.Linkage.{IsReturning, AreClassesTo};
 
 use crate::arcs::Way;
 use crate::graph::Graph;
@@ -29,7 +29,7 @@ pub struct LinkageData {
 
 // Labels the class of complex c, unless it has a label. The answer is the new number of labels.
 fn label_from(search: &mut Search, graph: &Graph, count: u32, c: usize) -> u32
-    requires symmetric { IsSymmetric graph.now.arcs }
+    requires returning { IsReturning graph.now.arcs }
     requires classes { AreClassesTo graph.now.arcs search.old count c }
     requires long { length search.old.label.items ≡ graph.now.complexes }
     requires small { graph.now.complexes ≤ MAX_COMPLEXES }
@@ -45,8 +45,8 @@ fn label_from(search: &mut Search, graph: &Graph, count: u32, c: usize) -> u32
 }
 
 // Labels all complexes, and counts the labels.
-fn label_all(search: &mut Search, graph: &Graph, complexes: usize) -> u32
-    requires symmetric { IsSymmetric graph.now.arcs }
+pub(crate) fn label_all(search: &mut Search, graph: &Graph, complexes: usize) -> u32
+    requires returning { IsReturning graph.now.arcs }
     requires blank { IsBlank complexes search.old }
     requires long { complexes ≡ graph.now.complexes }
     requires small { graph.now.complexes ≤ MAX_COMPLEXES }

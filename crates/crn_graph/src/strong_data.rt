@@ -1,13 +1,18 @@
-ghost use Rattle.std.specs.Prelude.{◌≡◌, ◌≤◌, ℕ, length, slice_index, IfOk};
+ghost use Rattle.std.specs.Prelude.{◌≡◌, ◌≤◌, ◌<◌, ◌-◌, ℕ, List, length, slice_index, IfOk};
 ghost use Rattle.crn_vec.specs.declared.limits.TheConstants.{MAX_COMPLEXES};
 ghost use Rattle.crn_vec.specs.Strong.{AreRightStrongLabels};
 ghost use Rattle.crn_cert.specs.Ranges.{IsFrom, AreFrom};
 ghost use Rattle.crn_cert.specs.Formed.{IsForest};
-ghost use Rattle.crn_cert.specs.ClassTests.{AreNumbered, AreFromTrees, AreToTrees, DoLevelsFall, AreAllExits, zeros_in};
-ghost use Rattle.crn_graph.specs.Inner.Strong.{IsUnclassed, IsReadyScan, AreReversed, AreStrongTo};
+ghost use Rattle.crn_cert.specs.ClassTests.{AreNumbered, AreFromTrees, AreToTrees, DoLevelsFall, AreAllExits, of_class, zeros_in};
+ghost use Rattle.crn_graph.specs.declared.arcs.Arc.{Arc};
+ghost use Rattle.crn_graph.specs.Inner.Arcs.{AreArcsWithin};
+ghost use Rattle.crn_graph.specs.Inner.Linkage.{IsReturning, AreClassesTo};
 
 use crate::arcs::Way;
-use crate::classes::{Classes, Scan, label_class};
+use crate::graph::Graph;
+use crate::linkage_data::label_all;
+use crate::ranks::ranks;
+use crate::search::Search;
 use crn_net::Network;
 use crn_vec::{NoMemory, Nums};
 use std::alloc::Global;
@@ -33,26 +38,47 @@ pub struct StrongData {
     pub level: Nums,
 }
 
-// Labels all complexes, and counts the labels.
-fn label_classes(
-    classes: &mut Classes,
-    ahead: &mut Scan,
-    behind: &mut Scan,
-    complexes: usize,
-) -> Result<u32, NoMemory>
-    requires ahead { IsReadyScan complexes ahead.old }
-    requires behind { IsReadyScan complexes behind.old }
-    requires reversed { AreReversed ahead.old.graph.arcs behind.old.graph.arcs }
-    requires unclassed { IsUnclassed complexes classes.old }
-    requires small { complexes ≤ MAX_COMPLEXES }
-    ensures long { length classes.new.label.items ≡ complexes }
-    ensures classes { IfOk result (λ n. AreStrongTo ahead.old.graph.arcs classes.new n complexes) }
-{
-    let mut count = 0;
-    for c in 0..complexes {
-        count = label_class(classes, ahead, behind, count, c)?;
+// The searches of all classes, by arcs within them.
+#[derive(Drop)]
+struct Trees {
+    // the number of classes
+    count: u32,
+    search: Search,
+}
+
+impl Trees {
+    // Searches each class from its first complex.
+    fn new(alloc: Global, net: &Network, way: Way, rank: &[u32]) -> Result<Trees, NoMemory>
+        requires long { length rank.now ≡ length net.now.complexes }
+        requires returning { (arcs : List Arc) →
+            AreArcsWithin net.now way rank.now arcs → IsReturning arcs }
+        ensures long { IfOk result (λ made.
+            length made.search.label.items ≡ length net.now.complexes) }
+        ensures classes { IfOk result (λ made. (arcs : List Arc) ×
+            AreArcsWithin net.now way rank.now arcs
+            × AreClassesTo arcs made.search made.count (length net.now.complexes)) }
+    {
+        let graph = Graph::within(alloc, net, way, rank)?;
+        let mut search = Search::new(alloc, net.complexes())?;
+        let count = label_all(&mut search, &graph, net.complexes());
+        Ok(Trees { count, search })
     }
-    Ok(count)
+}
+
+// Gives each class its level, which is less by one than its rank.
+fn find_levels(label: &[u32], rank: &[u32], level: &mut Vec<u32>)
+    requires labels { AreFrom (length rank.now) 1 (length level.old.items) label.now }
+    requires ranks { (y : ℕ) → y < length rank.now → 1 ≤ slice_index rank.now y }
+    requires even { (y z : ℕ) → y < length rank.now → z < length rank.now →
+        slice_index label.now y ≡ slice_index label.now z →
+        slice_index rank.now y ≡ slice_index rank.now z }
+    ensures long { length level.new.items ≡ length level.old.items }
+    ensures levels { (y : ℕ) → y < length rank.now →
+        of_class label.now level.new.items y ≡ slice_index rank.now y - 1 }
+{
+    for y in 0..label.len() {
+        level[label[y] as usize - 1] = rank[y] - 1;
+    }
 }
 
 // Gives each class a reaction that leaves it, where there is one.
@@ -85,8 +111,8 @@ fn count_zeros(exit: &[u32]) -> u32
     count
 }
 
-/// The strong linkage classes of a network, in the sense of Feinberg (2019), found by two searches for each of them, along
-/// the reactions and against them.
+/// The strong linkage classes of a network, in the sense of Feinberg (2019), found by one search that ranks them, and two
+/// within them, along the reactions and against them.
 pub fn strong(alloc: Global, net: &Network) -> Result<StrongData, NoMemory>
     ensures count { IfOk result (λ found. IsFrom 1 (length net.now.complexes) found.count) }
     ensures labels { IfOk result (λ found.
@@ -110,22 +136,25 @@ pub fn strong(alloc: Global, net: &Network) -> Result<StrongData, NoMemory>
     ensures terminal { IfOk result (λ found. zeros_in found.exit.list ≡ found.terminal) }
     ensures terminal_number { IfOk result (λ found. IsFrom 1 found.count found.terminal) }
 {
-    let mut ahead = Scan::new(alloc, net, Way::Along)?;
-    let mut behind = Scan::new(alloc, net, Way::Against)?;
-    let mut classes = Classes::new(alloc, net.complexes())?;
-    let count = label_classes(&mut classes, &mut ahead, &mut behind, net.complexes())?;
+    let graph = Graph::new(alloc, net, Way::Along)?;
+    let rank = ranks(alloc, &graph, net.complexes())?;
+    let outward = Trees::new(alloc, net, Way::Along, &rank)?;
+    let inward = Trees::new(alloc, net, Way::Against, &rank)?;
+    let count = outward.count;
+    let mut level = vec![in alloc; 0u32; count as usize]?;
+    find_levels(&outward.search.label, &rank, &mut level);
     let mut exit = vec![in alloc; 0u32; count as usize]?;
-    find_exits(net, &classes.label, &mut exit);
+    find_exits(net, &outward.search.label, &mut exit);
     let terminal = count_zeros(&exit);
     Ok(StrongData {
         count,
         terminal,
-        label: Nums::from_vec(classes.label),
+        label: Nums::from_vec(outward.search.label),
         exit: Nums::from_vec(exit),
-        from: Nums::from_vec(classes.from),
-        from_depth: Nums::from_vec(classes.from_depth),
-        to: Nums::from_vec(classes.to),
-        to_depth: Nums::from_vec(classes.to_depth),
-        level: Nums::from_vec(classes.level),
+        from: Nums::from_vec(outward.search.up),
+        from_depth: Nums::from_vec(outward.search.depth),
+        to: Nums::from_vec(inward.search.up),
+        to_depth: Nums::from_vec(inward.search.depth),
+        level: Nums::from_vec(level),
     })
 }

@@ -1,7 +1,7 @@
 -- For the contracts of private functions alone.
 -- The steps of a network that a search may take, as a list of arcs.
 -- Shapes: complexes and places of arcs are counted from 0, reactions from 1.
-use Rattle.std.specs.Prelude.{◌≡◌, ◌≤◌, ◌<◌, ◌⊎◌, ℕ, List, length, slice_index_or}
+use Rattle.std.specs.Prelude.{◌≡◌, ◌≤◌, ◌<◌, ◌⊎◌, ℕ, List, length, slice_index, slice_index_or}
 use Rattle.crn_vec.specs.Network.{Net}
 use Rattle.crn_vec.specs.CutPairs.{IsBetween}
 use Rattle.crn_cert.specs.Says.{IsReactionNumber}
@@ -54,6 +54,11 @@ pub record AreArcsTo (net : Net) (way : Way) (count : ℕ) (arcs : List Arc) : T
 pub record AreArcsOf (net : Net) (way : Way) (arcs : List Arc) : Type 0 where
   pub sound : (r y z : ℕ) → HasArc arcs r y z → Goes net way r y z
   pub whole : (r y z : ℕ) → Goes net way r y z → HasArc arcs r y z
+
+-- the arcs are the steps of the network between complexes of equal rank
+pub record AreArcsWithin (net : Net) (way : Way) (ranks : List ℕ) (arcs : List Arc) : Type 0 where
+  pub sound : (r y z : ℕ) → HasArc arcs r y z → Goes net way r y z × (slice_index ranks y ≡ slice_index ranks z)
+  pub whole : (r y z : ℕ) → Goes net way r y z → slice_index ranks y ≡ slice_index ranks z → HasArc arcs r y z
 
 -- every arc stays among so many complexes
 pub record AreInside (complexes : ℕ) (arcs : List Arc) : Type 0 where

@@ -9,9 +9,9 @@ use Rattle.crn_graph.specs.declared.search.Search.{Search}
 use Rattle.crn_graph.specs.Inner.Arcs.{HasArc}
 use Rattle.crn_graph.specs.Inner.Search.{Steps, AreLong, label_at, up_at, depth_at}
 
--- with each arc, its reaction has the arc back
-abbrev pub IsSymmetric : List Arc → Type 0
-IsSymmetric arcs = (r y z : ℕ) → HasArc arcs r y z → HasArc arcs r z y
+-- from the end of each arc other arcs lead back to its beginning
+abbrev pub IsReturning : List Arc → Type 0
+IsReturning arcs = (r y z : ℕ) → HasArc arcs r y z → LeadsTo (Steps arcs) z y
 
 -- y is not the first complex of its class, and an arc comes to it from a complex with one step less
 pub record IsJoined (arcs : List Arc) (s : Search) (y : ℕ) : Type 0 where

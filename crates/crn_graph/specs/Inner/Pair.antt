@@ -1,7 +1,7 @@
 -- For the contracts of private functions alone.
 -- A search over links, and the walk back from a complex that it has found.
 -- Shapes: complexes are counted from 0, in a walk from 1, and reactions from 1.
-use Rattle.std.specs.Prelude.{◌≡◌, ◌≢◌, ◌≤◌, ◌<◌, ◌+◌, ◌⊎◌, ℕ, zero, suc, ℤ, pos, List, [], ◌∷◌, length, map}
+use Rattle.std.specs.Prelude.{◌≡◌, ◌<◌, ◌+◌, ◌⊎◌, ℕ, zero, suc, ℤ, pos, List, ◌∷◌, length, map}
 use Rattle.std.specs.List.{AllByRecursion}
 use Rattle.crn_vec.specs.Network.{Net}
 use Rattle.crn_vec.specs.Walks.{IsAlong}

@@ -1,7 +1,6 @@
-use Rattle.std.proofs.Common.{◌≡◌, ◌<◌, length, arith}
+use Rattle.std.proofs.Common.{◌<◌, length, arith}
 use Rattle.std.proofs.lemmas.List.{get_or_read}
-use Rattle.crn_graph.specs.Inner.Search.{label_at}
-use Rattle.crn_graph.proofs.ClassLaws.{classes_past, classes_ready, classes_more}
+use Rattle.crn_graph.proofs.ClassLaws.{classes_past, classes_more}
 use Rattle.crn_graph.proofs.linkage_data.label_from.Goals as goal
 
 pub returns-then-index-gt0-clause-classes : goal.returns-then-index-gt0-clause-classes
@@ -18,7 +17,7 @@ returns-clause-classes c =
     let read = get_or_read s.label.items c.args.c c.index.result.now lt c.index.ensures 0 in
     let e = c.spread.ensures in
     classes_more c.args.graph.now.arcs s c.spread.new.self c.args.count c.args.c (record {
-      symmetric = c.requires.symmetric;
+      returning = c.requires.returning;
       old = c.requires.classes;
       none = omega (arith, read, c.if-index-gt0.false);
       inside = lt;

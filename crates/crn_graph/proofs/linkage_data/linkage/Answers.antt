@@ -1,6 +1,9 @@
-use Rattle.std.proofs.Common.{◌∙◌, sym, arith}
-use Rattle.crn_graph.proofs.LinkTests.{AreAllClasses, count_is, labels_from, labels_numbered, labels_even, labels_right, links_forest, links_trees}
+use Rattle.std.proofs.Common.{arith}
+use Rattle.crn_graph.proofs.LinkTests.{AreAllClasses, count_is, labels_from, labels_numbered, labels_even, labels_right, links_forest, links_trees, links_return}
 use Rattle.crn_graph.proofs.linkage_data.linkage.Goals as goal
+
+pub label_all-count-requires-clause-returning : goal.label_all-count-requires-clause-returning
+label_all-count-requires-clause-returning c = links_return c.args.net.now c.in_ok-graph.graph.arcs c.in_ok-graph.ensures.arcs
 
 pub returns : goal.returns
 returns c =

@@ -1,6 +1,0 @@
-use Rattle.std.proofs.Common.{◌≡◌, length}
-use Rattle.crn_graph.specs.Inner.Graph.{IsChained}
-use Rattle.crn_graph.proofs.graph.Graph.new.Given as goal
-
-abbrev pub invariant-loop-place : goal.invariant-loop-place
-invariant-loop-place l = IsChained l.arcs.items l.place l.first.items l.next.items × (length l.first.items ≡ length l.net.complexes)

@@ -1,0 +1,10 @@
+use Rattle.std.proofs.Common.{length}
+use Rattle.crn_graph.specs.Inner.Arcs.{AreInside}
+use Rattle.crn_graph.proofs.StrongLaws.{AreEqualTo}
+use Rattle.crn_graph.proofs.graph.Graph.within.Given as goal
+
+abbrev pub invariant-loop-arc : goal.invariant-loop-arc
+invariant-loop-arc l = record {
+  equal : AreEqualTo l.rank l.arc-items l.arc-index l.within.items;
+  inside : AreInside (length l.net.complexes) l.within.items;
+}
