@@ -61,8 +61,9 @@ pub record IsTableau (a : Mat) (at order : List ℕ) (rows : List ℤ) : Type 0 
   pub small : AreSmall rows
 
 -- the rows make a tableau, and the working lists are as long as an exchange needs
-pub record IsWhole (a : Mat) (at order : List ℕ) (rows spare lead work : List ℤ) : Type 0 where
+pub record IsWhole (a : Mat) (at order : List ℕ) (rows spare lead : List ℤ) (room : ℕ) (work : List ℤ) : Type 0 where
   pub tableau : IsTableau a at order rows
   pub spare_long : length spare ≡ length rows
   pub lead_long : length lead ≡ a.cols + 1
+  pub places_room : a.cols + 1 ≤ room
   pub work_long : length work ≡ a.cols + 1

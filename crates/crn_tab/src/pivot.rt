@@ -1,4 +1,4 @@
-ghost use Rattle.std.specs.Prelude.{◌≡◌, ◌≢◌, ◌≤◌, ◌<◌, ◌^◌, ◌-◌, ◌*◌, ◌+◌, ℕ, ℤ, pos, List, length, slice_index};
+ghost use Rattle.std.specs.Prelude.{◌≡◌, ◌≢◌, ◌≤◌, ◌<◌, ◌^◌, ◌-◌, ◌*◌, ◌+◌, ℕ, ℤ, pos, List, length, slice_index, vec_capacity};
 ghost use Rattle.crn_vec.specs.Vectors.{entry};
 ghost use Rattle.crn_vec.specs.Lists.{IsIn};
 ghost use Rattle.crn_vec.specs.Elementary.{width, IsNamed, WideAt, Exchanged};
@@ -6,7 +6,8 @@ ghost use Rattle.crn_tab.specs.Slots.{row_at, basis_of, IsTableau};
 ghost use Rattle.crn_tab.specs.Inner.Rows.{IsKeptRow, AreFilled};
 
 use crate::fill::{fill_rows, part};
-use crate::lead::{Lead, make_lead, put_lead};
+use crate::lead::{Lead, make_lead, put_lead, put_places};
+use crate::low::are_low;
 use crn_vec::Matrix;
 
 // Row i becomes that of the spare rows, if it has the leaving coordinate.
@@ -53,6 +54,7 @@ pub(crate) fn new_rows(
     c: usize,
     order: &[usize],
     lead: &mut [i64],
+    places: &mut Vec<usize>,
     work: &mut [i128],
 ) -> usize
     requires few { length rows.old ≤ 2 ^ 20 }
@@ -63,22 +65,27 @@ pub(crate) fn new_rows(
         → slice_index order.now s < length order.now }
     requires place { c + 1 < length lead.old }
     requires inside { r < m }
+    requires room { length lead.old ≤ vec_capacity places.old }
     requires work_count { length work.old ≡ length lead.old }
     requires row { (i : ℕ) → i < m
         → IsKeptRow (length lead.old) (row_at (length lead.old) rows.old i) }
     requires some { entry (row_at (length lead.old) rows.old r) c ≢ pos 0 }
     ensures filled { AreFilled (length lead.old) m c r rows.old rows.new order.now result }
     ensures stay { result < length order.now → rows.new ≡ rows.old }
+    ensures room { vec_capacity places.new ≡ vec_capacity places.old }
 {
     make_lead(rows, r, c, lead);
     let last = lead.len() - 1;
     let p = lead[last];
     lead[last] = 0;
+    put_places(places, lead);
     let made = Lead {
         row: r,
         slot: c,
         own: &p,
         entries: lead,
+        places,
+        low: are_low(lead),
     };
     let least = fill_rows(rows, spare, m, &made, order, work);
     if least < order.len() {
@@ -99,6 +106,7 @@ pub(crate) fn exchange(
     rows: &mut [i64],
     spare: &mut [i64],
     lead: &mut [i64],
+    places: &mut Vec<usize>,
     work: &mut [i128],
     leave: usize,
     enter: usize,
@@ -106,6 +114,7 @@ pub(crate) fn exchange(
     requires tableau { IsTableau matrix.now at.old order.old rows.old }
     requires same { length spare.old ≡ length rows.old }
     requires lead_count { length lead.old ≡ matrix.now.cols + 1 }
+    requires room { matrix.now.cols + 1 ≤ vec_capacity places.old }
     requires work_count { length work.old ≡ matrix.now.cols + 1 }
     requires leave { IsIn leave (basis_of matrix.now.cols at.old) }
     requires inside { enter < width matrix.now }
@@ -125,12 +134,13 @@ pub(crate) fn exchange(
     ensures row { result ≢ width matrix.now → (next : List ℕ)
         → Exchanged (basis_of matrix.now.cols at.old) leave enter next → IsIn result next → ⊥ }
     ensures most { result ≤ width matrix.now }
+    ensures room { vec_capacity places.new ≡ vec_capacity places.old }
 {
     let n = matrix.cols();
     let m = matrix.rows();
     let c = at[leave];
     let r = at[enter] - n;
-    let least = new_rows(rows, spare, m, r, c, order, lead, work);
+    let least = new_rows(rows, spare, m, r, c, order, lead, places, work);
     if least < n + m {
         return least;
     }

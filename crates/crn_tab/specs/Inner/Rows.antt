@@ -4,11 +4,24 @@ use Rattle.std.specs.Prelude.{Bool, List, false, length, negsuc, pos, slice_inde
 use Rattle.crn_tab.specs.Slots.{IsContent, row_at}
 use Rattle.crn_tab.specs.Tableau.{AreSmall}
 use Rattle.crn_vec.specs.Elementary.{IsWide}
+use Rattle.crn_vec.specs.Lists.{IsIn}
 use Rattle.crn_vec.specs.Vectors.{entry}
 
 -- each entry is below a bound in absolute value
 abbrev pub AreBelow : ℕ → List ℤ → Type 0
 AreBelow bound v = (k : ℕ) → unsigned_abs (entry v k) < bound
+
+-- the list holds each place where the row is not 0, and places of the row alone
+pub record ArePlaces (row : List ℤ) (places : List ℕ) : Type 0 where
+  pub inside : (k : ℕ) → IsIn k places → k < length row
+  pub all : (k : ℕ) → k < length row → entry row k ≢ pos 0 → IsIn k places
+
+-- z is u divided by its greatest common divisor
+pub record IsPrimitivePart (u z : List ℤ) : Type 0 where
+  pub t : ℤ
+  pub some : pos 1 ≤ℤ t
+  pub content : IsContent u (unsigned_abs t)
+  pub parts : (k : ℕ) → k < length u → entry z k *ℤ t ≡ entry u k
 
 -- z is p w - q v, divided by a number, and primitive
 pub record IsCombined (p q : ℤ) (w v z : List ℤ) : Type 0 where

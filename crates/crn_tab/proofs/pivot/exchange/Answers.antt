@@ -1,4 +1,5 @@
-use Rattle.std.proofs.Common.{◌<◌, ◌-◌, refl, arith}
+use Rattle.std.proofs.Common.{◌<◌, ◌≤◌, ◌-◌, ◌+◌, inl, inr, refl, arith}
+use Rattle.std.proofs.Math.ListN.{length-set}
 use Rattle.std.specs.Prelude.{slice_index}
 use Rattle.crn_vec.specs.Elementary.{width}
 use Rattle.crn_tab.proofs.Finish.{kept_row}
@@ -84,3 +85,22 @@ returns-clause-ok c = λ e.
     let f = rw (c.requires.lead_count, c.cols-n.ensures.count, c.rows-m.ensures.count) at c.new_rows-least.ensures.filled in
     rw c.cols-n.ensures.count (ok_here c.args.matrix.now c.args.at.now c.args.order.now c.args.rows.now c.new_rows-least.new.rows c.args.leave c.args.enter
     (slice_index c.args.at.now c.args.leave) (slice_index c.args.at.now c.args.enter - c.args.matrix.now.cols) c.new_rows-least.result c.requires.tableau h (omega arith) f e)
+
+pub bounds-order-c : goal.bounds-order-c
+bounds-order-c c =
+    let h = here c.args.matrix.now c.args.at.now c.args.order.now c.args.rows.now c.args.leave c.args.enter c.requires.tableau c.requires.leave c.requires.inside c.requires.enter in
+    omega (arith, h.c_lt, c.requires.tableau.placed.order_long)
+
+pub bounds-order-n : goal.bounds-order-n
+bounds-order-n c =
+    let h = here c.args.matrix.now c.args.at.now c.args.order.now c.args.rows.now c.args.leave c.args.enter c.requires.tableau c.requires.leave c.requires.inside c.requires.enter in
+    omega (arith, h.own, h.r_lt, c.cols-n.ensures.count, c.requires.tableau.placed.order_long, length-set c.args.order.now (slice_index c.args.at.now c.args.leave) c.args.enter)
+
+pub returns-clause-wide : goal.returns-clause-wide
+returns-clause-wide c = λ ne.
+    let f = rw (c.requires.lead_count, c.cols-n.ensures.count, c.rows-m.ensures.count) at c.new_rows-least.ensures.filled in
+    let le : c.new_rows-least.result ≤ width c.args.matrix.now = elim f.last [
+      | inl h ↦ omega (arith, h.0, c.requires.tableau.placed.order_long)
+      | inr w ↦ omega (arith, w.own, c.requires.tableau.placed.order_below (c.args.matrix.now.cols + 1 - 1 + w.i) (omega (arith, w.inside)))
+    ] in
+    absurd (ne (omega (arith, le, c.if-least-n.false, c.cols-n.ensures.count, c.rows-m.ensures.count)))

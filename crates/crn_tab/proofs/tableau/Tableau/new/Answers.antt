@@ -29,6 +29,7 @@ invariant_of-result c =
       tableau = subst T (sym c.in_ok-rows.ensures) first;
       spare_long = omega (arith, c.in_ok-spare.ensures.len, c.len.ensures);
       lead_long = omega (arith, c.in_ok-lead.ensures.len, c.cols-n.ensures.count);
+      places_room = omega (arith, c.in_ok-places.ensures.exact, c.cols-n.ensures.count);
       work_long = omega (arith, c.in_ok-work.ensures.len, c.cols-n.ensures.count);
     }
 
