@@ -1,4 +1,4 @@
-mod CoverLaws
 mod Exchange
+mod MarkLaws
 mod PastLaws
 mod Walks

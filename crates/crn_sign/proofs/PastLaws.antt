@@ -1,5 +1,5 @@
 -- What past multipliers rule out, by signs at the places where the list (-uA, u) is not 0.
-use Rattle.std.proofs.Common.{◌≡◌, ◌≢◌, ℕ, zero, suc, ◌+◌, ◌-◌, ◌≤◌, ◌<◌, ◌⊎◌, inl, inr, List, [], ◌∷◌, ◌++◌, length, get_or, map, take, drop, set, Bool, true, false, refl, sym, ap, subst, ◌∙◌, add-one, arith, lit≤, ◌^◌}
+use Rattle.std.proofs.Common.{◌≡◌, ◌≢◌, ℕ, zero, suc, ◌+◌, ◌-◌, ◌≤◌, ◌<◌, ◌⊎◌, inl, inr, List, [], ◌∷◌, ◌++◌, length, get_or, map, take, drop, set, Bool, true, false, refl, sym, ap, ap₂, subst, ◌∙◌, add-one, arith, lit≤, ◌^◌}
 use Rattle.std.specs.Prelude.{ℤ, pos, negsuc, neg_ℤ, ◌*ℤ◌, unsigned_abs}
 use Rattle.std.specs.List.{AllByRecursion}
 use Rattle.std.proofs.lemmas.Int.{ints}
@@ -160,3 +160,7 @@ all_set P (y ∷ xs) (suc k) x h p = (h.0, all_set P xs k x h.1 p)
 pub all_push : {X : Type 0} (P : X → Type 0) (xs : List X) (x : X) → AllByRecursion P xs → P x → AllByRecursion P (xs ++ x ∷ [])
 all_push P [] x h p = (p, tt)
 all_push P (y ∷ xs) x h p = (h.0, all_push P xs x h.1 p)
+
+pub scale_one : (v : List ℤ) → scale (factor true) v ≡ v
+scale_one [] = refl
+scale_one (x ∷ v) = let e : pos 1 *ℤ x ≡ x = omega (arith, ints) in ap₂ (λ (y : ℤ) (w : List ℤ). y ∷ w) e (scale_one v)

@@ -1,6 +1,7 @@
 pub mod Walk
 pub mod Ready
-pub mod Covers
+pub mod RowSigns
+pub mod Marks
 pub mod Pools
 pub mod Parts
 pub mod PastCuts

@@ -3,6 +3,7 @@
 
 mod end;
 mod fault;
+mod marks;
 mod part;
 mod past;
 mod pool;

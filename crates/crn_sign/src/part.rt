@@ -1,30 +1,454 @@
-ghost use Rattle.std.specs.Prelude.{◌≡◌, ◌<◌, ◌≤◌, ℤ, List, length, true, IfOk, OnOk, MatchOption, MatchResult};
+ghost use Rattle.std.specs.Prelude.{◌≡◌, ◌<◌, ◌≤◌, ℤ, List, length, true, IsTrue, IfOk, OnOk, MatchOption, MatchResult};
 ghost use Rattle.crn_vec.specs.Elementary.{width};
 ghost use Rattle.crn_vec.specs.Systems.{IsSolution, is_signed, kind_at, signed_count};
 ghost use Rattle.crn_vec.specs.declared.limits.TheConstants.{MAX_SIGNED};
 ghost use Rattle.crn_farkas.specs.Decision.{IsSmallCut, IsSmallSolution};
 ghost use Rattle.crn_farkas.specs.Decision.{IsTargetStop};
 ghost use Rattle.crn_farkas.specs.Solver.{IsCutBy};
-ghost use Rattle.crn_sign.specs.Inner.Covers.{AreRowSigns, IsCovered};
-ghost use Rattle.crn_sign.specs.Inner.Parts.{IsPart, IsRuling};
+ghost use Rattle.crn_sign.specs.Inner.RowSigns.{AreRowSigns};
+ghost use Rattle.crn_sign.specs.Inner.Marks.{AreRowMarks};
+ghost use Rattle.crn_sign.specs.Inner.Parts.{AreLevels, IsFinder, IsPart, IsRuling};
 
+use crate::marks::{Mark, all_suit, clear, lay, put_zeros, suits};
 use crate::past::{Past, PastCuts, empty_cuts, first_again, keep_cut};
-use crate::pool::{Pool, are_marked, cover_by, places_of_signs};
-use crn_farkas::{Alternative, Cut, Decision, Solver, Standing, Stop, witnesses_make_solutions};
-use crn_vec::{Ints, Kind, Matrix, NoMemory, Sign, cuts_exclude_solutions, is_asked};
+use crate::pool::Pool;
+use crn_farkas::{Alternative, Cut, Decision, Solver, Standing, Stop};
+use crn_vec::{Ints, Kind, Matrix, NoMemory, Sign, cuts_exclude_solutions, is_asked, opposite};
 use std::alloc::Global;
 
-/// A part of a sign problem: its solver, and what was found before.
+/// The marks of a vector (x, Ax).
+#[derive(Drop)]
+pub(crate) struct Marked {
+    pub marks: Vec<Mark>,
+}
+
+/// What finds vectors (x, Ax): a solver, and those that it gave before.
 ///
-/// That is multipliers, and vectors (x, Ax) that add up to solutions. The marks are of the
-/// coordinates that those vectors cover, and the signs are the last that the solver wrote.
+/// The signs are the last that the solver wrote, and the negatives theirs. The misfits are coordinates
+/// whose marks did not suit their kinds, and the kinds those that are asked of a vector that changes
+/// these.
+#[derive(Drop)]
+pub(crate) struct Finder {
+    pub solver: Solver,
+    pub pool: Pool,
+    pub signs: Vec<Sign>,
+    pub negatives: Vec<Sign>,
+    pub asked: Vec<Kind>,
+    pub misfits: Vec<usize>,
+}
+
+/// A part of a sign problem: what finds vectors for it, multipliers that ruled its systems out, and
+/// for each length of a prefix the last vector that was tried there.
 #[derive(Drop)]
 pub(crate) struct Part {
-    pub solver: Solver,
+    pub finder: Finder,
     pub past: Vec<PastCuts>,
-    pub pool: Pool,
-    pub marks: Vec<bool>,
-    pub signs: Vec<Sign>,
+    pub levels: Vec<Marked>,
+}
+
+// The sign that a coordinate of this kind has to have, if any.
+fn sign_of_kind(kind: Kind) -> Sign {
+    match kind {
+        Kind::Pos => Sign::Plus,
+        Kind::Neg => Sign::Minus,
+        _ => Sign::Zero,
+    }
+}
+
+// Puts the signs of the negative.
+fn put_opposites(_matrix: &Matrix, signs: &[Sign], into: &mut [Sign])
+    requires signs { AreRowSigns _matrix.now signs.now }
+    requires room { length into.old ≡ length signs.now }
+    ensures { AreRowSigns _matrix.now into.new }
+{
+    for k in 0..into.len() {
+        into[k] = opposite(signs[k]);
+    }
+}
+
+// The marks of the vector 0.
+fn new_level(alloc: Global, matrix: &Matrix) -> Result<Marked, NoMemory>
+    ensures { IfOk result (λ made. AreRowMarks matrix.now made.marks.items) }
+{
+    let mut marks = vec![in alloc; Mark::Zero; matrix.cols() + matrix.rows()]?;
+    put_zeros(matrix, &mut marks);
+    Ok(Marked { marks })
+}
+
+// A list of marks for no choice, for one, and so on, to all of them.
+fn new_levels(alloc: Global, matrix: &Matrix, choices: usize) -> Result<Vec<Marked>, NoMemory>
+    ensures { IfOk result (λ made. AreLevels matrix.now made.items) }
+{
+    let mut levels = Vec::new(alloc);
+    for _ in 0..choices {
+        levels.push(new_level(alloc, matrix)?)?;
+    }
+    levels.push(new_level(alloc, matrix)?)?;
+    Ok(levels)
+}
+
+impl Finder {
+    fn new(alloc: Global, matrix: &Matrix) -> Result<Finder, NoMemory>
+        ensures { IfOk result (λ made. IsFinder matrix.now made) }
+    {
+        let count = matrix.cols() + matrix.rows();
+        Ok(Finder {
+            solver: Solver::new(alloc, matrix)?,
+            pool: Pool::new(alloc, matrix)?,
+            signs: vec![in alloc; Sign::Zero; count]?,
+            negatives: vec![in alloc; Sign::Zero; count]?,
+            asked: vec![in alloc; Kind::Free; count]?,
+            misfits: Vec::new(alloc),
+        })
+    }
+
+    // Keeps the vector whose signs the solver wrote, and its negative.
+    fn learn(&mut self, alloc: Global, matrix: &Matrix) -> Result<(), NoMemory>
+        requires finder { IsFinder matrix.now self.old }
+        requires signs { AreRowSigns matrix.now self.old.signs.items }
+        ensures finder { OnOk result (IsFinder matrix.now self.new) }
+        ensures signs { OnOk result (self.new.signs ≡ self.old.signs) }
+    {
+        put_opposites(matrix, &self.signs, &mut self.negatives);
+        self.pool.keep(alloc, matrix, &self.signs)?;
+        self.pool.keep(alloc, matrix, &self.negatives)
+    }
+
+    // Asks the solver for a vector that g needs, or for one by which the system falls.
+    fn ask(
+        &mut self,
+        alloc: Global,
+        matrix: &Matrix,
+        kinds: &[Kind],
+        g: usize,
+    ) -> Result<Option<Cut>, Stop>
+        requires finder { IsFinder matrix.now self.old }
+        requires kinds { length kinds.now ≡ width matrix.now }
+        requires goal { g < length kinds.now }
+        requires asked { is_signed (kind_at kinds.now g) ≡ true }
+        ensures finder { OnOk result (IsFinder matrix.now self.new) }
+        ensures answer { MatchResult result
+            (λ o. MatchOption o (AreRowSigns matrix.now self.new.signs.items)
+            (λ cut. IsCutBy self.new.solver.matrix self.new.solver.basis kinds.now cut.row
+            cut.sign)) (λ s. IsTargetStop matrix.now kinds.now s) }
+    {
+        match self.solver.alternative(kinds, g, &mut self.signs) {
+            Ok(Alternative::Cut(cut)) => Ok(Some(cut)),
+            Ok(Alternative::Witness) => {
+                self.learn(alloc, matrix)?;
+                Ok(None)
+            }
+            Err(stop) => Err(stop),
+        }
+    }
+
+    // Gives the marked vector the sign that is asked at g by a vector that is kept, or asks the solver
+    // for one.
+    fn raise(
+        &mut self,
+        alloc: Global,
+        matrix: &Matrix,
+        kinds: &[Kind],
+        marks: &mut [Mark],
+        g: usize,
+    ) -> Result<Option<Cut>, Stop>
+        requires finder { IsFinder matrix.now self.old }
+        requires kinds { length kinds.now ≡ width matrix.now }
+        requires marks { AreRowMarks matrix.now marks.old }
+        requires goal { g < length kinds.now }
+        requires asked { is_signed (kind_at kinds.now g) ≡ true }
+        ensures finder { OnOk result (IsFinder matrix.now self.new) }
+        ensures marks { OnOk result (AreRowMarks matrix.now marks.new) }
+        ensures answer { MatchResult result
+            (λ o. MatchOption o (Unit {0})
+            (λ cut. IsCutBy self.new.solver.matrix self.new.solver.basis kinds.now cut.row
+            cut.sign)) (λ s. IsTargetStop matrix.now kinds.now s) }
+    {
+        if let Some(number) = self.pool.find(matrix, kinds, g, sign_of_kind(kinds[g])) {
+            if number < self.pool.rays.len() {
+                lay(matrix, &self.pool.rays[number].signs, marks);
+                return Ok(None);
+            }
+        }
+        if let Some(cut) = self.ask(alloc, matrix, kinds, g)? {
+            return Ok(Some(cut));
+        }
+        lay(matrix, &self.signs, marks);
+        Ok(None)
+    }
+
+    // Sees to the sign of one coordinate.
+    fn raise_at(
+        &mut self,
+        alloc: Global,
+        matrix: &Matrix,
+        kinds: &[Kind],
+        marks: &mut [Mark],
+        g: usize,
+    ) -> Result<Option<Cut>, Stop>
+        requires finder { IsFinder matrix.now self.old }
+        requires kinds { length kinds.now ≡ width matrix.now }
+        requires marks { AreRowMarks matrix.now marks.old }
+        requires goal { g < length kinds.now }
+        ensures finder { OnOk result (IsFinder matrix.now self.new) }
+        ensures marks { OnOk result (AreRowMarks matrix.now marks.new) }
+        ensures answer { MatchResult result
+            (λ o. MatchOption o (Unit {0})
+            (λ cut. IsCutBy self.new.solver.matrix self.new.solver.basis kinds.now cut.row
+            cut.sign)) (λ s. IsTargetStop matrix.now kinds.now s) }
+    {
+        if suits(kinds[g], marks[g]) {
+            return Ok(None);
+        }
+        if !is_asked(kinds[g]) {
+            return Ok(None);
+        }
+        self.raise(alloc, matrix, kinds, marks, g)
+    }
+
+    // Sees to the signs of the misfits, or finds a vector by which the system falls.
+    fn raise_misfits(
+        &mut self,
+        alloc: Global,
+        matrix: &Matrix,
+        kinds: &[Kind],
+        marks: &mut [Mark],
+    ) -> Result<Option<Cut>, Stop>
+        requires finder { IsFinder matrix.now self.old }
+        requires kinds { length kinds.now ≡ width matrix.now }
+        requires marks { AreRowMarks matrix.now marks.old }
+        ensures finder { OnOk result (IsFinder matrix.now self.new) }
+        ensures marks { OnOk result (AreRowMarks matrix.now marks.new) }
+        ensures answer { MatchResult result
+            (λ o. MatchOption o (Unit {0})
+            (λ cut. IsCutBy self.new.solver.matrix self.new.solver.basis kinds.now cut.row
+            cut.sign)) (λ s. IsTargetStop matrix.now kinds.now s) }
+    {
+        for i in 0..self.misfits.len() {
+            if i < self.misfits.len() {
+                let g = self.misfits[i];
+                if g < kinds.len() {
+                    if let Some(cut) = self.raise_at(alloc, matrix, kinds, marks, g)? {
+                        return Ok(Some(cut));
+                    }
+                }
+            }
+        }
+        Ok(None)
+    }
+
+    // Sees to the signs of all coordinates, or finds a vector by which the system falls.
+    fn raise_all(
+        &mut self,
+        alloc: Global,
+        matrix: &Matrix,
+        kinds: &[Kind],
+        marks: &mut [Mark],
+    ) -> Result<Option<Cut>, Stop>
+        requires finder { IsFinder matrix.now self.old }
+        requires kinds { length kinds.now ≡ width matrix.now }
+        requires marks { AreRowMarks matrix.now marks.old }
+        ensures finder { OnOk result (IsFinder matrix.now self.new) }
+        ensures marks { OnOk result (AreRowMarks matrix.now marks.new) }
+        ensures answer { MatchResult result
+            (λ o. MatchOption o (Unit {0})
+            (λ cut. IsCutBy self.new.solver.matrix self.new.solver.basis kinds.now cut.row
+            cut.sign)) (λ s. IsTargetStop matrix.now kinds.now s) }
+    {
+        for g in 0..kinds.len() {
+            if let Some(cut) = self.raise_at(alloc, matrix, kinds, marks, g)? {
+                return Ok(Some(cut));
+            }
+        }
+        Ok(None)
+    }
+
+    // Makes the marked vector 0 at g by a kept vector of this sign there. The answer is whether one is
+    // kept.
+    fn clear_by(&mut self, matrix: &Matrix, marks: &mut [Mark], g: usize, sign: Sign) -> bool
+        requires finder { IsFinder matrix.now self.old }
+        requires marks { AreRowMarks matrix.now marks.old }
+        requires goal { g < width matrix.now }
+        ensures finder { IsFinder matrix.now self.new }
+        ensures marks { AreRowMarks matrix.now marks.new }
+    {
+        if let Some(number) = self.pool.find(matrix, &self.asked, g, sign) {
+            if number < self.pool.rays.len() {
+                return clear(matrix, &self.pool.rays[number].signs, marks, g);
+            }
+        }
+        false
+    }
+
+    // Gives the marked vector this sign at g by a kept vector. The answer is whether one is kept.
+    fn lay_by(&mut self, matrix: &Matrix, marks: &mut [Mark], g: usize, sign: Sign) -> bool
+        requires finder { IsFinder matrix.now self.old }
+        requires marks { AreRowMarks matrix.now marks.old }
+        requires goal { g < width matrix.now }
+        ensures finder { IsFinder matrix.now self.new }
+        ensures marks { AreRowMarks matrix.now marks.new }
+    {
+        if let Some(number) = self.pool.find(matrix, &self.asked, g, sign) {
+            if number < self.pool.rays.len() {
+                lay(matrix, &self.pool.rays[number].signs, marks);
+                return true;
+            }
+        }
+        false
+    }
+
+    // Makes the marked vector 0 at g, if kept vectors can. The answer is whether they do.
+    fn clear_at(&mut self, matrix: &Matrix, marks: &mut [Mark], g: usize) -> bool
+        requires finder { IsFinder matrix.now self.old }
+        requires marks { AreRowMarks matrix.now marks.old }
+        requires goal { g < width matrix.now }
+        ensures finder { IsFinder matrix.now self.new }
+        ensures marks { AreRowMarks matrix.now marks.new }
+    {
+        match marks[g] {
+            Mark::Zero => true,
+            Mark::Plus => self.clear_by(matrix, marks, g, Sign::Minus),
+            Mark::Minus => self.clear_by(matrix, marks, g, Sign::Plus),
+            Mark::Any => {
+                if !self.lay_by(matrix, marks, g, Sign::Plus) {
+                    return false;
+                }
+                self.clear_by(matrix, marks, g, Sign::Minus)
+            }
+        }
+    }
+
+    // Lists the coordinates whose marks do not suit their kinds. The answer is whether one of them has
+    // to be 0.
+    fn list_misfits(
+        &mut self,
+        _matrix: &Matrix,
+        kinds: &[Kind],
+        marks: &[Mark],
+    ) -> Result<bool, NoMemory>
+        requires finder { IsFinder _matrix.now self.old }
+        ensures finder { OnOk result (IsFinder _matrix.now self.new) }
+    {
+        self.misfits.clear();
+        put_misfits(&mut self.misfits, kinds, marks)
+    }
+
+    // Frees the misfits.
+    fn loosen(&mut self, matrix: &Matrix, kinds: &[Kind])
+        requires finder { IsFinder matrix.now self.old }
+        requires kinds { length kinds.now ≡ width matrix.now }
+        ensures finder { IsFinder matrix.now self.new }
+    {
+        self.asked.copy_from_slice(kinds);
+        free_at(&mut self.asked, &self.misfits);
+    }
+
+    // Makes the marked vector 0 at the misfits that have to be, if kept vectors can. The answer is
+    // whether they do.
+    fn clear_misfits(&mut self, matrix: &Matrix, kinds: &[Kind], marks: &mut [Mark]) -> bool
+        requires finder { IsFinder matrix.now self.old }
+        requires kinds { length kinds.now ≡ width matrix.now }
+        requires marks { AreRowMarks matrix.now marks.old }
+        ensures finder { IsFinder matrix.now self.new }
+        ensures marks { AreRowMarks matrix.now marks.new }
+    {
+        for i in 0..self.misfits.len() {
+            if i < self.misfits.len() {
+                let g = self.misfits[i];
+                if g < kinds.len() && kinds[g] == Kind::Zero {
+                    if !self.clear_at(matrix, marks, g) {
+                        return false;
+                    }
+                    self.asked[g] = Kind::Zero;
+                }
+            }
+        }
+        true
+    }
+
+    // Changes the marked vector until it suits the kinds, or finds a vector by which the system falls.
+    fn seek(
+        &mut self,
+        alloc: Global,
+        matrix: &Matrix,
+        kinds: &[Kind],
+        marks: &mut [Mark],
+    ) -> Result<Option<Cut>, Stop>
+        requires finder { IsFinder matrix.now self.old }
+        requires kinds { length kinds.now ≡ width matrix.now }
+        requires marks { AreRowMarks matrix.now marks.old }
+        ensures finder { OnOk result (IsFinder matrix.now self.new) }
+        ensures marks { OnOk result (AreRowMarks matrix.now marks.new) }
+        ensures answer { MatchResult result
+            (λ o. MatchOption o (Unit {0})
+            (λ cut. IsCutBy self.new.solver.matrix self.new.solver.basis kinds.now cut.row
+            cut.sign)) (λ s. IsTargetStop matrix.now kinds.now s) }
+    {
+        if self.list_misfits(matrix, kinds, marks)? {
+            self.loosen(matrix, kinds);
+            if !self.clear_misfits(matrix, kinds, marks) {
+                put_zeros(matrix, marks);
+                if let Some(cut) = self.raise_misfits(alloc, matrix, kinds, marks)? {
+                    return Ok(Some(cut));
+                }
+                return self.raise_all(alloc, matrix, kinds, marks);
+            }
+        }
+        self.raise_misfits(alloc, matrix, kinds, marks)
+    }
+}
+
+// Whether a mark does not suit a kind other than free.
+fn is_misfit(kind: Kind, mark: Mark) -> bool {
+    match kind {
+        Kind::Zero => mark != Mark::Zero,
+        Kind::Neg => mark != Mark::Minus,
+        _ => mark != Mark::Plus,
+    }
+}
+
+// Lists the coordinates whose marks do not suit their kinds. The answer is whether one of them has to
+// be 0.
+fn put_misfits(misfits: &mut Vec<usize>, kinds: &[Kind], marks: &[Mark]) -> Result<bool, NoMemory> {
+    let mut zeros = false;
+    if kinds.len() != marks.len() {
+        return Ok(false);
+    }
+    for k in 0..kinds.len() {
+        let kind = kinds[k];
+        if kind != Kind::Free {
+            if is_misfit(kind, marks[k]) {
+                misfits.push(k)?;
+                if kind == Kind::Zero {
+                    zeros = true;
+                }
+            }
+        }
+    }
+    Ok(zeros)
+}
+
+// Frees these coordinates.
+fn free_at(asked: &mut [Kind], places: &[usize])
+    ensures { length asked.new ≡ length asked.old }
+{
+    for i in 0..places.len() {
+        let k = places[i];
+        if k < asked.len() {
+            asked[k] = Kind::Free;
+        }
+    }
+}
+
+// Puts the marks of the level above.
+fn inherit(_matrix: &Matrix, levels: &mut [Marked], depth: usize)
+    requires { AreLevels _matrix.now levels.old }
+    ensures { AreLevels _matrix.now levels.new }
+{
+    if depth < levels.len() && depth > 0 {
+        let (above, below) = levels.split_at_mut(depth);
+        below[0].marks.copy_from_slice(&above[depth - 1].marks);
+    }
 }
 
 impl Part {
@@ -32,32 +456,30 @@ impl Part {
     pub fn new(alloc: Global, matrix: &Matrix, choices: usize) -> Result<Part, NoMemory>
         ensures { IfOk result (λ made. IsPart matrix.now made) }
     {
-        let count = matrix.cols() + matrix.rows();
         Ok(Part {
-            solver: Solver::new(alloc, matrix)?,
+            finder: Finder::new(alloc, matrix)?,
             past: empty_cuts(alloc, matrix, choices)?,
-            pool: Pool::new(alloc, matrix)?,
-            marks: vec![in alloc; false; count]?,
-            signs: vec![in alloc; Sign::Zero; count]?,
+            levels: new_levels(alloc, matrix, choices)?,
         })
     }
 
     // Multipliers that ruled out a system of a prefix of this length, or their negatives, if they
     // rule this system out. A prefix's length alone says which of its coordinates are settled.
     fn past_cut(
-        &self,
+        &mut self,
         alloc: Global,
         matrix: &Matrix,
         kinds: &[Kind],
         depth: usize,
     ) -> Result<Option<Ints>, NoMemory>
-        requires part { IsPart matrix.now self.now }
+        requires part { IsPart matrix.now self.old }
         requires kinds { length kinds.now ≡ width matrix.now }
-        ensures { IfOk result (λ o. MatchOption o (Unit {0})
+        ensures part { IsPart matrix.now self.new }
+        ensures cut { IfOk result (λ o. MatchOption o (Unit {0})
             (λ u. IsSmallCut matrix.now kinds.now u.list)) }
     {
         if depth < self.past.len() {
-            return first_again(alloc, matrix, kinds, &self.past[depth].items);
+            return first_again(alloc, matrix, kinds, &mut self.past[depth]);
         }
         Ok(None)
     }
@@ -73,131 +495,58 @@ impl Part {
     ) -> Result<Ints, NoMemory>
         requires part { IsPart matrix.now self.old }
         requires kinds { length kinds.now ≡ width matrix.now }
-        requires cut { IsCutBy self.old.solver.matrix self.old.solver.basis kinds.now cut.now.row
-            cut.now.sign }
+        requires cut { IsCutBy self.old.finder.solver.matrix self.old.finder.solver.basis kinds.now
+            cut.now.row cut.now.sign }
         ensures part { OnOk result (IsPart matrix.now self.new) }
         ensures cut { IfOk result (λ u. IsSmallCut matrix.now kinds.now u.list) }
     {
-        let u = self.solver.multipliers(kinds, cut)?;
+        let u = self.finder.solver.multipliers(kinds, cut)?;
         let past = Past::new(alloc, matrix, kinds, &u)?;
         keep_cut(&mut self.past, matrix, past, depth)?;
         Ok(u)
     }
 
-    // Keeps the vector whose signs the solver wrote, and marks what it covers.
-    fn learn_witness(
-        &mut self,
-        alloc: Global,
-        matrix: &Matrix,
-        kinds: &[Kind],
-    ) -> Result<(), NoMemory>
-        requires part { IsPart matrix.now self.old }
-        requires kinds { length kinds.now ≡ width matrix.now }
-        requires signs { AreRowSigns matrix.now self.old.signs.items }
-        requires covered { IsCovered matrix.now kinds.now self.old.marks.items }
-        ensures part { OnOk result (IsPart matrix.now self.new) }
-        ensures covered { OnOk result (IsCovered matrix.now kinds.now self.new.marks.items) }
-    {
-        let places = places_of_signs(alloc, matrix, &self.signs)?;
-        cover_by(matrix, kinds, &places, &mut self.marks);
-        self.pool.keep(matrix, places)
-    }
-
-    // Marks what a kept vector covers that is not 0 at g, if one of them serves.
-    fn cover_at(&mut self, matrix: &Matrix, kinds: &[Kind], g: usize)
-        requires part { IsPart matrix.now self.old }
-        requires kinds { length kinds.now ≡ width matrix.now }
-        requires goal { g < length kinds.now }
-        requires covered { IsCovered matrix.now kinds.now self.old.marks.items }
-        ensures part { IsPart matrix.now self.new }
-        ensures covered { IsCovered matrix.now kinds.now self.new.marks.items }
-    {
-        self.pool.cover(matrix, kinds, &mut self.marks, g);
-    }
-
-    // Asks the solver for a vector that covers g, or for one by which the system falls.
-    fn ask(
-        &mut self,
-        alloc: Global,
-        matrix: &Matrix,
-        kinds: &[Kind],
-        g: usize,
-    ) -> Result<Option<Cut>, Stop>
-        requires part { IsPart matrix.now self.old }
-        requires kinds { length kinds.now ≡ width matrix.now }
-        requires goal { g < length kinds.now }
-        requires asked { is_signed (kind_at kinds.now g) ≡ true }
-        requires covered { IsCovered matrix.now kinds.now self.old.marks.items }
-        ensures part { OnOk result (IsPart matrix.now self.new) }
-        ensures answer { MatchResult result
-            (λ o. MatchOption o (IsCovered matrix.now kinds.now self.new.marks.items)
-            (λ cut. IsCutBy self.new.solver.matrix self.new.solver.basis kinds.now cut.row
-            cut.sign)) (λ s. IsTargetStop matrix.now kinds.now s) }
-    {
-        match self.solver.alternative(kinds, g, &mut self.signs) {
-            Ok(Alternative::Cut(cut)) => Ok(Some(cut)),
-            Ok(Alternative::Witness) => {
-                self.learn_witness(alloc, matrix, kinds)?;
-                Ok(None)
-            }
-            Err(stop) => Err(stop),
-        }
-    }
-
-    // Sees to one coordinate: a kept vector covers it, or the solver is asked for one.
-    fn seek_at(
-        &mut self,
-        alloc: Global,
-        matrix: &Matrix,
-        kinds: &[Kind],
-        g: usize,
-    ) -> Result<Option<Cut>, Stop>
-        requires part { IsPart matrix.now self.old }
-        requires kinds { length kinds.now ≡ width matrix.now }
-        requires goal { g < length kinds.now }
-        requires covered { IsCovered matrix.now kinds.now self.old.marks.items }
-        ensures part { OnOk result (IsPart matrix.now self.new) }
-        ensures answer { MatchResult result
-            (λ o. MatchOption o (IsCovered matrix.now kinds.now self.new.marks.items)
-            (λ cut. IsCutBy self.new.solver.matrix self.new.solver.basis kinds.now cut.row
-            cut.sign)) (λ s. IsTargetStop matrix.now kinds.now s) }
-    {
-        if !is_asked(kinds[g]) {
-            return Ok(None);
-        }
-        if self.marks[g] {
-            return Ok(None);
-        }
-        self.cover_at(matrix, kinds, g);
-        if self.marks[g] {
-            return Ok(None);
-        }
-        self.ask(alloc, matrix, kinds, g)
-    }
-
-    // Covers each coordinate that has to be positive or negative, or finds a vector by which the
+    // Changes the marked vector of this level until it suits the kinds, or finds a vector by which the
     // system falls.
-    fn seek(&mut self, alloc: Global, matrix: &Matrix, kinds: &[Kind]) -> Result<Option<Cut>, Stop>
+    fn seek(
+        &mut self,
+        alloc: Global,
+        matrix: &Matrix,
+        kinds: &[Kind],
+        depth: usize,
+    ) -> Result<Option<Cut>, Stop>
         requires part { IsPart matrix.now self.old }
         requires kinds { length kinds.now ≡ width matrix.now }
         ensures part { OnOk result (IsPart matrix.now self.new) }
         ensures answer { MatchResult result
-            (λ o. MatchOption o (IsCovered matrix.now kinds.now self.new.marks.items)
-            (λ cut. IsCutBy self.new.solver.matrix self.new.solver.basis kinds.now cut.row
-            cut.sign)) (λ s. IsTargetStop matrix.now kinds.now s) }
+            (λ o. MatchOption o (Unit {0})
+            (λ cut. IsCutBy self.new.finder.solver.matrix self.new.finder.solver.basis
+            kinds.now cut.row cut.sign)) (λ s. IsTargetStop matrix.now kinds.now s) }
     {
-        self.marks.fill(false);
-        for g in 0..kinds.len() {
-            if let Some(cut) = self.seek_at(alloc, matrix, kinds, g)? {
-                return Ok(Some(cut));
-            }
+        if depth < self.levels.len() {
+            return self
+                .finder
+                .seek(alloc, matrix, kinds, &mut self.levels[depth].marks);
         }
         Ok(None)
     }
 
+    // Whether the marked vector of this level suits the kinds, so that the system has a solution.
+    fn is_met(&self, _matrix: &Matrix, kinds: &[Kind], depth: usize) -> bool
+        requires part { IsPart _matrix.now self.now }
+        requires kinds { length kinds.now ≡ width _matrix.now }
+        ensures { IsTrue result → (x : List ℤ) × IsSolution _matrix.now kinds.now x }
+    {
+        if depth < self.levels.len() {
+            return all_suit(kinds, &self.levels[depth].marks);
+        }
+        false
+    }
+
     /// Multipliers that rule the system of these kinds out, or none if it has a solution.
     ///
-    /// It tries past multipliers first, then adds up past vectors, and asks the solver for the rest.
+    /// It begins with the signs of the vector that served one level above. Then it tries past
+    /// multipliers, changes that vector by past ones, and asks the solver for the rest.
     pub fn ruled_out(
         &mut self,
         alloc: Global,
@@ -211,17 +560,20 @@ impl Part {
         ensures answer { MatchResult result (λ u. IsRuling matrix.now kinds.now u)
             (λ s. IsTargetStop matrix.now kinds.now s) }
     {
+        inherit(matrix, &mut self.levels, depth);
+        if self.is_met(matrix, kinds, depth) {
+            return Ok(None);
+        }
         if let Some(u) = self.past_cut(alloc, matrix, kinds, depth)? {
             return Ok(Some(u));
         }
-        if let Some(cut) = self.seek(alloc, matrix, kinds)? {
+        if let Some(cut) = self.seek(alloc, matrix, kinds, depth)? {
             return Ok(Some(self.learn_cut(alloc, matrix, kinds, &cut, depth)?));
         }
-        if are_marked(kinds, &self.marks) {
-            witnesses_make_solutions();
+        if self.is_met(matrix, kinds, depth) {
             return Ok(None);
         }
-        match self.solver.stands(kinds)? {
+        match self.finder.solver.stands(kinds)? {
             Standing::Stands => Ok(None),
             Standing::Falls(cut) => { Ok(Some(self.learn_cut(alloc, matrix, kinds, &cut, depth)?)) }
         }
@@ -239,7 +591,7 @@ impl Part {
             (λ s. IsTargetStop _matrix.now kinds.now s) }
     {
         cuts_exclude_solutions();
-        match self.solver.decide(kinds) {
+        match self.finder.solver.decide(kinds) {
             Ok(Decision::Feasible(x)) => Ok(x),
             Ok(Decision::Infeasible(_)) => unreachable!(),
             Err(stop) => Err(stop),

@@ -1,4 +1,4 @@
-ghost use Rattle.std.specs.Prelude.{◌≡◌, ◌≢◌, ◌<◌, ◌≤◌, ◌+◌, ◌*ℤ◌, ◌↔◌, ℕ, ℤ, List, pos, neg_ℤ, length, drop, true, unsigned_abs, IsTrue, IfOk, OnOk, MatchOption};
+ghost use Rattle.std.specs.Prelude.{◌≡◌, ◌≢◌, ◌<◌, ◌≤◌, ◌+◌, ◌*ℤ◌, ◌↔◌, ℕ, ℤ, List, pos, neg_ℤ, length, drop, false, true, unsigned_abs, IsTrue, IfOk, OnOk, MatchOption};
 ghost use Rattle.crn_vec.specs.Vectors.{AreWithin, Mat, HasSign, column, entry, scale};
 ghost use Rattle.crn_vec.specs.Elementary.{InDualSpace, width};
 ghost use Rattle.crn_vec.specs.Systems.{MayWeigh, is_signed};
@@ -17,10 +17,20 @@ pub(crate) struct Past {
     pub places: Vec<(usize, Sign)>,
 }
 
+/// The number of multipliers, and the places that refused them and their negatives last. It decides
+/// only what is tried, and in which order.
+#[derive(Clone, Copy)]
+pub(crate) struct Trial {
+    pub number: usize,
+    pub refused: usize,
+    pub refused_negative: usize,
+}
+
 /// What ruled systems of prefixes of one length out.
 #[derive(Drop)]
 pub(crate) struct PastCuts {
     pub items: Vec<Past>,
+    pub trials: Vec<Trial>,
 }
 
 // The sign of minus a number.
@@ -165,16 +175,28 @@ fn number_of_multiple(x: &i128, stays: bool) -> i128
     if stays { *x } else { -*x }
 }
 
-// The numbers or their negatives.
-fn multiple(alloc: Global, list: &[i128], stays: bool) -> Result<Ints, NoMemory>
+// The negatives of the numbers.
+fn negatives(alloc: Global, list: &[i128]) -> Result<Ints, NoMemory>
     requires { (k : ℕ) → unsigned_abs (entry list.now k) < WIDE_ENTRY }
-    ensures { IfOk result (λ made. made.list ≡ scale (factor stays) list.now) }
+    ensures { IfOk result (λ made. made.list ≡ scale (factor false) list.now) }
 {
     let mut made = Ints::with_room(alloc, list.len())?;
     for x in list {
-        made.push(number_of_multiple(x, stays))?;
+        made.push(number_of_multiple(x, false))?;
     }
     Ok(made)
+}
+
+// The numbers or their negatives.
+fn multiple(alloc: Global, list: &Ints, stays: bool) -> Result<Ints, NoMemory>
+    requires { (k : ℕ) → unsigned_abs (entry list.now.list k) < WIDE_ENTRY }
+    ensures { IfOk result (λ made. made.list ≡ scale (factor stays) list.now.list) }
+{
+    if stays {
+        let made = list.copy()?;
+        return Ok(made);
+    }
+    negatives(alloc, list.as_slice())
 }
 
 impl Past {
@@ -204,22 +226,50 @@ impl Past {
         alloc: Global,
         matrix: &Matrix,
         kinds: &[Kind],
+        stays: bool,
     ) -> Result<Option<Ints>, NoMemory>
         requires past { IsPast matrix.now self.now.multipliers.list self.now.places.items }
         requires kinds { length kinds.now ≡ width matrix.now }
         ensures { IfOk result (λ o. MatchOption o (Unit {0})
             (λ u. IsSmallCut matrix.now kinds.now u.list)) }
     {
-        if self.rules_out(kinds, true) {
-            let u = multiple(alloc, self.multipliers.as_slice(), true)?;
-            return Ok(Some(u));
-        }
-        if self.rules_out(kinds, false) {
-            let u = multiple(alloc, self.multipliers.as_slice(), false)?;
+        if self.rules_out(kinds, stays) {
+            let u = multiple(alloc, &self.multipliers, stays)?;
             return Ok(Some(u));
         }
         Ok(None)
     }
+}
+
+// Whether a number of this sign, or its negative, may not be weighed at a place.
+fn is_refused(kinds: &[Kind], places: &[(usize, Sign)], i: usize, stays: bool) -> bool {
+    if i < places.len() {
+        let p = &places[i];
+        if p.0 < kinds.len() {
+            return !may_weigh(kinds[p.0], sign_of_multiple(p.1, stays));
+        }
+    }
+    false
+}
+
+// The index of the first place where the multipliers, or their negatives, may not be weighed.
+fn first_refused(kinds: &[Kind], places: &[(usize, Sign)], stays: bool) -> usize {
+    for i in 0..places.len() {
+        if is_refused(kinds, places, i, stays) {
+            return i;
+        }
+    }
+    places.len()
+}
+
+// Whether the multipliers, or their negatives, may be weighed at all places. The place that refused
+// them last is asked first.
+fn is_near(kinds: &[Kind], places: &[(usize, Sign)], refused: &mut usize, stays: bool) -> bool {
+    if is_refused(kinds, places, *refused, stays) {
+        return false;
+    }
+    *refused = first_refused(kinds, places, stays);
+    *refused == places.len()
 }
 
 /// Lists for prefixes with no choice, with one, and so on, to all of them.
@@ -234,10 +284,12 @@ pub(crate) fn empty_cuts(
     for _ in 0..choices {
         made.push(PastCuts {
             items: Vec::new(alloc),
+            trials: Vec::new(alloc),
         })?;
     }
     made.push(PastCuts {
         items: Vec::new(alloc),
+        trials: Vec::new(alloc),
     })?;
     Ok(made)
 }
@@ -254,9 +306,51 @@ pub(crate) fn keep_cut(
     ensures { OnOk result (ArePastCuts _matrix.now past.new) }
 {
     if depth < past.len() {
+        let number = past[depth].items.len();
+        past[depth].trials.push(Trial {
+            number,
+            refused: 0,
+            refused_negative: 0,
+        })?;
         past[depth].items.push(cut)?;
     }
     Ok(())
+}
+
+// Whether some place has to be positive or negative.
+fn some_count(kinds: &[Kind], places: &[(usize, Sign)]) -> bool {
+    for i in 0..places.len() {
+        let p = &places[i];
+        if p.0 < kinds.len() {
+            if counts(kinds[p.0], p.1) {
+                return true;
+            }
+        }
+    }
+    false
+}
+
+// Which of the multipliers may rule the system of these kinds out, and whether they stay as they are.
+fn first_near(kinds: &[Kind], past: &[Past], trials: &mut [Trial]) -> Option<(usize, bool)> {
+    for i in 0..trials.len() {
+        let number = trials[i].number;
+        if number < past.len() {
+            let places = &past[number].places;
+            if is_near(kinds, places, &mut trials[i].refused, true) {
+                if some_count(kinds, places) {
+                    trials.swap(i / 2, i);
+                    return Some((number, true));
+                }
+            }
+            if is_near(kinds, places, &mut trials[i].refused_negative, false) {
+                if some_count(kinds, places) {
+                    trials.swap(i / 2, i);
+                    return Some((number, false));
+                }
+            }
+        }
+    }
+    None
 }
 
 /// The first of these multipliers, or of their negatives, that rule the system of these kinds out.
@@ -264,16 +358,17 @@ pub(crate) fn first_again(
     alloc: Global,
     matrix: &Matrix,
     kinds: &[Kind],
-    past: &[Past],
+    past: &mut PastCuts,
 ) -> Result<Option<Ints>, NoMemory>
-    requires past { AreAllPast matrix.now past.now }
+    requires past { AreAllPast matrix.now past.old.items.items }
     requires kinds { length kinds.now ≡ width matrix.now }
-    ensures { IfOk result (λ o. MatchOption o (Unit {0})
+    ensures past { past.new.items ≡ past.old.items }
+    ensures cut { IfOk result (λ o. MatchOption o (Unit {0})
         (λ u. IsSmallCut matrix.now kinds.now u.list)) }
 {
-    for cut in past {
-        if let Some(u) = cut.again(alloc, matrix, kinds)? {
-            return Ok(Some(u));
+    if let Some((number, stays)) = first_near(kinds, &past.items, &mut past.trials) {
+        if number < past.items.len() {
+            return past.items[number].again(alloc, matrix, kinds, stays);
         }
     }
     Ok(None)

@@ -1,273 +1,173 @@
-ghost use Rattle.std.specs.Prelude.{◌≡◌, ◌<◌, ◌⊎◌, ◌∷◌, [], ℕ, length, false, IsTrue, true, slice_index_or, IfOk, OnOk};
+ghost use Rattle.std.specs.Prelude.{◌≡◌, length, IfOk, OnOk};
 ghost use Rattle.std.specs.List.{AllByRecursion};
-ghost use Rattle.crn_vec.specs.Elementary.{width};
-ghost use Rattle.crn_vec.specs.Systems.{is_signed, kind_at};
-ghost use Rattle.crn_sign.specs.Inner.Past.{AreInside};
-ghost use Rattle.crn_sign.specs.Inner.Covers.{AllTake, AreRowPlaces, AreRowSigns, IsCovered, IsSomeAt};
+ghost use Rattle.crn_sign.specs.Inner.RowSigns.{AreRowSigns};
 ghost use Rattle.crn_sign.specs.Inner.Pools.{IsPool};
 
-use crate::past::{note, sign_of_multiple};
-use crn_vec::{Kind, Matrix, NoMemory, Sign, is_asked, may_take};
+use crn_vec::{Kind, Matrix, NoMemory, Sign};
 use std::alloc::Global;
 
 /// The most vectors that a pool keeps.
-const MAX_KEPT: usize = 4096;
+const MAX_KEPT: usize = 8192;
 
-/// A vector (x, Ax), by the places and signs of its entries that are not 0.
+/// The most vectors that a pool keeps for one sign of a coordinate.
+const MAX_SERVERS: usize = 512;
+
+// No part has so many coordinates.
+const MAX_PLACES: usize = 65_536;
+
+/// The signs of a vector (x, Ax).
 #[derive(Drop)]
-pub(crate) struct RowVector {
-    pub places: Vec<(usize, Sign)>,
+pub(crate) struct Ray {
+    pub signs: Vec<Sign>,
 }
 
-/// A vector of the pool that is not 0 at a coordinate: its number, its sign there, and the index of
-/// the place that refused it last.
+/// The number of a vector, and the coordinate that refused it last.
 #[derive(Clone, Copy)]
 pub(crate) struct Server {
-    pub number: usize,
-    pub sign: Sign,
-    pub refused: usize,
+    pub number: u32,
+    pub refused: u32,
 }
 
-/// The vectors that are not 0 at one coordinate, that which served last first.
+/// The vectors that are positive at a coordinate, and those that are negative there.
 #[derive(Drop)]
 pub(crate) struct Servers {
-    pub items: Vec<Server>,
+    pub plus: Vec<Server>,
+    pub minus: Vec<Server>,
 }
 
-/// Vectors (x, Ax) that were found, which add up to solutions, and for each coordinate a list of
-/// those that are not 0 there.
+/// Vectors (x, Ax) that were found, with their negatives, and lists of those that are positive or
+/// negative at a coordinate. The lists decide only what is tried, and in which order.
 #[derive(Drop)]
 pub(crate) struct Pool {
-    pub vectors: Vec<RowVector>,
+    pub rays: Vec<Ray>,
     pub servers: Vec<Servers>,
+    pub oldest: usize,
 }
 
-/// The places of a vector (x, Ax) with these signs.
-pub(crate) fn places_of_signs(
-    alloc: Global,
-    _matrix: &Matrix,
-    signs: &[Sign],
-) -> Result<Vec<(usize, Sign)>, NoMemory>
-    requires { AreRowSigns _matrix.now signs.now }
-    ensures { IfOk result (λ made. AreRowPlaces _matrix.now made.items) }
-{
-    let mut places = Vec::new(alloc);
-    for c in 0..signs.len() {
-        note(&mut places, c, signs[c])?;
+// Whether a number of this sign may be taken at a coordinate of this kind.
+fn takes(kind: Kind, sign: Sign) -> bool {
+    (sign == Sign::Zero)
+        | (kind == Kind::Free)
+        | ((kind == Kind::Pos) & (sign == Sign::Plus))
+        | ((kind == Kind::Neg) & (sign == Sign::Minus))
+}
+
+// Whether numbers of these signs may be taken everywhere.
+fn all_take(kinds: &[Kind], signs: &[Sign]) -> bool {
+    if kinds.len() != signs.len() {
+        return false;
     }
-    Ok(places)
-}
-
-// Whether numbers of these signs, or their negatives, may be taken at these places.
-fn all_take(kinds: &[Kind], places: &[(usize, Sign)], stays: bool) -> bool
-    requires { AreInside (length kinds.now) places.now }
-    ensures { IsTrue result → AllTake kinds.now stays places.now }
-{
-    match places {
-        [] => true,
-        [p, rest @ ..] => {
-            if !may_take(kinds[p.0], sign_of_multiple(p.1, stays)) {
-                return false;
-            }
-            all_take(kinds, rest, stays)
-        }
+    let mut all = true;
+    for k in 0..kinds.len() {
+        all = all & takes(kinds[k], signs[k]);
     }
+    all
 }
 
-// Marks a place unless the sign there is zero.
-fn mark_place(p: &(usize, Sign), marks: &mut [bool])
-    requires { p.now.0 < length marks.old }
-    ensures count { length marks.new ≡ length marks.old }
-    ensures marks { (k : ℕ) → IsTrue (slice_index_or marks.new k false)
-        → IsTrue (slice_index_or marks.old k false) ⊎ IsSomeAt (p.now ∷ []) k }
-{
-    if p.1 != Sign::Zero {
-        marks[p.0] = true;
-    }
-}
-
-// Marks the places where the sign is not zero.
-fn mark(places: &[(usize, Sign)], marks: &mut [bool])
-    requires { AreInside (length marks.old) places.now }
-    ensures count { length marks.new ≡ length marks.old }
-    ensures marks { (k : ℕ) → IsTrue (slice_index_or marks.new k false)
-        → IsTrue (slice_index_or marks.old k false) ⊎ IsSomeAt places.now k }
-{
-    match places {
-        [] => {}
-        [p, rest @ ..] => {
-            mark_place(p, marks);
-            mark(rest, marks);
-        }
-    }
-}
-
-// Marks the places of a vector, or of its negative, if that may be taken everywhere. The answer is
-// whether it may.
-fn cover_as(
-    _matrix: &Matrix,
-    kinds: &[Kind],
-    places: &[(usize, Sign)],
-    marks: &mut [bool],
-    stays: bool,
-) -> bool
-    requires kinds { length kinds.now ≡ width _matrix.now }
-    requires places { AreRowPlaces _matrix.now places.now }
-    requires marks { length marks.old ≡ width _matrix.now }
-    requires covered { IsCovered _matrix.now kinds.now marks.old }
-    ensures count { length marks.new ≡ length marks.old }
-    ensures covered { IsCovered _matrix.now kinds.now marks.new }
-{
-    if all_take(kinds, places, stays) {
-        mark(places, marks);
-        return true;
+// Whether a number of the sign at a coordinate may not be taken there.
+fn is_refused(kinds: &[Kind], signs: &[Sign], k: usize) -> bool {
+    if k < kinds.len() && k < signs.len() {
+        return !takes(kinds[k], signs[k]);
     }
     false
 }
 
-/// Marks the places of a vector if it may be taken everywhere, or if its negative may. The answer
-/// is whether it did.
-pub(crate) fn cover_by(
-    matrix: &Matrix,
-    kinds: &[Kind],
-    places: &[(usize, Sign)],
-    marks: &mut [bool],
-) -> bool
-    requires kinds { length kinds.now ≡ width matrix.now }
-    requires places { AreRowPlaces matrix.now places.now }
-    requires marks { length marks.old ≡ width matrix.now }
-    requires covered { IsCovered matrix.now kinds.now marks.old }
-    ensures count { length marks.new ≡ length marks.old }
-    ensures covered { IsCovered matrix.now kinds.now marks.new }
-{
-    if cover_as(matrix, kinds, places, marks, true) {
-        return true;
-    }
-    cover_as(matrix, kinds, places, marks, false)
-}
-
-// Whether a vector has to stay as it is, and not to be negated, so that its sign at a coordinate is
-// that which the kind there asks.
-fn stays_for(goal: Kind, sign: Sign) -> bool {
-    match goal {
-        Kind::Neg => sign == Sign::Minus,
-        _ => sign == Sign::Plus,
-    }
-}
-
-// Whether a number of this sign, or its negative, may not be taken at a place.
-fn is_refused(kinds: &[Kind], place: &(usize, Sign), stays: bool) -> bool {
-    if place.0 < kinds.len() {
-        return !may_take(kinds[place.0], sign_of_multiple(place.1, stays));
-    }
-    false
-}
-
-// The index of the first place where a vector, or its negative, may not be taken.
-fn first_refused(kinds: &[Kind], places: &[(usize, Sign)], stays: bool) -> usize {
-    for i in 0..places.len() {
-        if is_refused(kinds, &places[i], stays) {
-            return i;
+// The first coordinate at which the vector may not be taken.
+fn first_refused(kinds: &[Kind], signs: &[Sign]) -> usize {
+    for k in 0..kinds.len() {
+        if is_refused(kinds, signs, k) {
+            return k;
         }
     }
     0
 }
 
-// Marks the places of a vector that is not 0 at a coordinate of this kind, if it may be taken
-// everywhere with the sign that is asked there. The place that refused it last is asked first.
-fn cover_by_server(
-    matrix: &Matrix,
-    kinds: &[Kind],
-    vectors: &[RowVector],
-    server: &mut Server,
-    goal: Kind,
-    marks: &mut [bool],
-) -> bool
-    requires kinds { length kinds.now ≡ width matrix.now }
-    requires vectors { AllByRecursion (λ v. AreRowPlaces matrix.now v.places.items) vectors.now }
-    requires marks { length marks.old ≡ width matrix.now }
-    requires covered { IsCovered matrix.now kinds.now marks.old }
-    ensures count { length marks.new ≡ length marks.old }
-    ensures covered { IsCovered matrix.now kinds.now marks.new }
-{
-    if server.number >= vectors.len() {
+// Whether the vector has this sign at a coordinate, and may be taken everywhere.
+fn serves(kinds: &[Kind], signs: &[Sign], server: &mut Server, g: usize, sign: Sign) -> bool {
+    if is_refused(kinds, signs, server.refused as usize) {
         return false;
     }
-    let places = &vectors[server.number].places;
-    let stays = stays_for(goal, server.sign);
-    if server.refused < places.len() {
-        if is_refused(kinds, &places[server.refused], stays) {
-            return false;
-        }
+    if g >= signs.len() || signs[g] != sign {
+        return false;
     }
-    if cover_as(matrix, kinds, places, marks, stays) {
+    if all_take(kinds, signs) {
         return true;
     }
-    server.refused = first_refused(kinds, places, stays);
+    let refused = first_refused(kinds, signs);
+    if refused < MAX_PLACES {
+        server.refused = refused as u32;
+    }
     false
 }
 
-// Marks the places of the first of these vectors that may be taken everywhere, and answers its place
-// in the list; if there is none, the length of the list.
-fn first_cover(
-    matrix: &Matrix,
+// The place in a list of the first vector that serves, or the length of the list.
+fn first_serving(
     kinds: &[Kind],
-    vectors: &[RowVector],
+    rays: &[Ray],
     servers: &mut [Server],
-    goal: Kind,
-    marks: &mut [bool],
-) -> usize
-    requires kinds { length kinds.now ≡ width matrix.now }
-    requires vectors { AllByRecursion (λ v. AreRowPlaces matrix.now v.places.items) vectors.now }
-    requires marks { length marks.old ≡ width matrix.now }
-    requires covered { IsCovered matrix.now kinds.now marks.old }
-    ensures count { length marks.new ≡ length marks.old }
-    ensures covered { IsCovered matrix.now kinds.now marks.new }
-{
+    g: usize,
+    sign: Sign,
+) -> usize {
     for i in 0..servers.len() {
-        if cover_by_server(matrix, kinds, vectors, &mut servers[i], goal, marks) {
-            return i;
+        let number = servers[i].number as usize;
+        if number < rays.len() {
+            if serves(kinds, &rays[number].signs, &mut servers[i], g, sign) {
+                return i;
+            }
         }
     }
     servers.len()
 }
 
-// Brings the vector at a place of the list to its head.
-fn bring_to_head(servers: &mut [Server], i: usize) {
+// Brings a server forward, and answers its number.
+fn bring_forward(servers: &mut [Server], i: usize) -> Option<usize> {
     if i < servers.len() {
-        servers.swap(0, i);
+        let number = servers[i].number as usize;
+        servers.swap(i / 2, i);
+        return Some(number);
     }
+    None
 }
 
 // So many empty lists.
-fn empty_lists(alloc: Global, count: usize) -> Result<Vec<Servers>, NoMemory>
-    ensures { IfOk result (λ made. length made.items ≡ count) }
-{
+fn empty_lists(alloc: Global, count: usize) -> Result<Vec<Servers>, NoMemory> {
     let mut servers = Vec::with_capacity(alloc, count)?;
     for _ in 0..count {
         servers.push(Servers {
-            items: Vec::new(alloc),
+            plus: Vec::new(alloc),
+            minus: Vec::new(alloc),
         })?;
     }
     Ok(servers)
 }
 
-// Enters a vector's number in the list of each of its places.
-fn enter(servers: &mut [Servers], places: &[(usize, Sign)], number: usize) -> Result<(), NoMemory>
-    requires { AreInside (length servers.old) places.now }
-    ensures { OnOk result (length servers.new ≡ length servers.old) }
-{
-    match places {
-        [] => Ok(()),
-        [p, rest @ ..] => {
-            servers[p.0].items.push(Server {
-                number,
-                sign: p.1,
-                refused: 0,
-            })?;
-            enter(servers, rest, number)
+// Enters a vector in a list, in the place of its last member if the list is full.
+fn enter_one(servers: &mut Vec<Server>, number: usize) -> Result<(), NoMemory> {
+    if number >= MAX_KEPT {
+        return Ok(());
+    }
+    if servers.len() >= MAX_SERVERS {
+        servers.pop();
+    }
+    servers.push(Server {
+        number: number as u32,
+        refused: 0,
+    })?;
+    Ok(())
+}
+
+// Enters a vector's number in the list of each of its coordinates.
+fn enter(servers: &mut [Servers], signs: &[Sign], number: usize) -> Result<(), NoMemory> {
+    for k in 0..signs.len() {
+        if k < servers.len() {
+            match signs[k] {
+                Sign::Zero => {}
+                Sign::Plus => enter_one(&mut servers[k].plus, number)?,
+                Sign::Minus => enter_one(&mut servers[k].minus, number)?,
+            }
         }
     }
+    Ok(())
 }
 
 impl Pool {
@@ -276,55 +176,49 @@ impl Pool {
         ensures { IfOk result (λ made. IsPool matrix.now made) }
     {
         Ok(Pool {
-            vectors: Vec::new(alloc),
+            rays: Vec::new(alloc),
             servers: empty_lists(alloc, matrix.cols() + matrix.rows())?,
+            oldest: 0,
         })
     }
 
-    /// Marks the places of a vector that is not 0 at g, if one of them may be taken everywhere or
-    /// its negative may.
-    pub fn cover(&mut self, matrix: &Matrix, kinds: &[Kind], marks: &mut [bool], g: usize)
-        requires kinds { length kinds.now ≡ width matrix.now }
-        requires goal { g < length kinds.now }
-        requires pool { IsPool matrix.now self.old }
-        requires marks { length marks.old ≡ width matrix.now }
-        requires covered { IsCovered matrix.now kinds.now marks.old }
-        ensures pool { IsPool matrix.now self.new }
-        ensures count { length marks.new ≡ length marks.old }
-        ensures covered { IsCovered matrix.now kinds.now marks.new }
+    /// The number of a vector that may be taken everywhere, and has this sign at g.
+    pub fn find(&mut self, _matrix: &Matrix, kinds: &[Kind], g: usize, sign: Sign) -> Option<usize>
+        requires pool { IsPool _matrix.now self.old }
+        ensures pool { IsPool _matrix.now self.new }
     {
-        let servers = &mut self.servers[g].items;
-        let i = first_cover(matrix, kinds, &self.vectors, servers, kinds[g], marks);
-        bring_to_head(servers, i);
+        if g >= self.servers.len() {
+            return None;
+        }
+        let list = match sign {
+            Sign::Plus => &mut self.servers[g].plus,
+            _ => &mut self.servers[g].minus,
+        };
+        let i = first_serving(kinds, &self.rays, list, g, sign);
+        bring_forward(list, i)
     }
 
-    /// Keeps a vector, if there is room for one more.
-    pub fn keep(&mut self, _matrix: &Matrix, places: Vec<(usize, Sign)>) -> Result<(), NoMemory>
+    /// Keeps the signs of a vector, in the place of the oldest if there is no more room.
+    pub fn keep(&mut self, alloc: Global, _matrix: &Matrix, signs: &[Sign]) -> Result<(), NoMemory>
         requires pool { IsPool _matrix.now self.old }
-        requires places { AreRowPlaces _matrix.now places.items }
+        requires signs { AreRowSigns _matrix.now signs.now }
         ensures { OnOk result (IsPool _matrix.now self.new) }
     {
-        let number = self.vectors.len();
-        if number < MAX_KEPT {
-            enter(&mut self.servers, &places, number)?;
-            self.vectors.push(RowVector { places })?;
+        let ray = Ray {
+            signs: Vec::from_slice(alloc, signs)?,
+        };
+        if self.rays.len() < MAX_KEPT {
+            let number = self.rays.len();
+            self.rays.push(ray)?;
+            return enter(&mut self.servers, signs, number);
         }
+        let number = self.oldest;
+        if number < self.rays.len() {
+            self.rays[number] = ray;
+            self.oldest = if number + 1 < MAX_KEPT { number + 1 } else { 0 };
+            return enter(&mut self.servers, signs, number);
+        }
+        self.oldest = 0;
         Ok(())
     }
-}
-
-/// Whether each coordinate that has to be positive or negative is marked.
-pub(crate) fn are_marked(kinds: &[Kind], marks: &[bool]) -> bool
-    requires { length marks.now ≡ length kinds.now }
-    ensures { IsTrue result → (k : ℕ) → is_signed (kind_at kinds.now k) ≡ true
-        → IsTrue (slice_index_or marks.now k false) }
-{
-    for k in 0..kinds.len() {
-        if is_asked(kinds[k]) {
-            if !marks[k] {
-                return false;
-            }
-        }
-    }
-    true
 }

@@ -1,6 +1,7 @@
 -- For the contracts of private functions alone.
 -- What a part of a search keeps, and what it answers.
 use Rattle.std.specs.Prelude.{◌≡◌, ℤ, List, Option, Some, None, length}
+use Rattle.std.specs.List.{AllByRecursion}
 use Rattle.crn_vec.specs.declared.signs.Kind.{Kind}
 use Rattle.crn_vec.specs.Kept.{KeptInts}
 use Rattle.crn_vec.specs.Vectors.{Mat}
@@ -8,16 +9,29 @@ use Rattle.crn_vec.specs.Elementary.{width}
 use Rattle.crn_vec.specs.Systems.{IsSolution}
 use Rattle.crn_farkas.specs.Decision.{IsSmallCut}
 use Rattle.crn_sign.specs.declared.part.Part.{Part}
+use Rattle.crn_sign.specs.declared.part.Finder.{Finder}
+use Rattle.crn_sign.specs.declared.part.Marked.{Marked}
+use Rattle.crn_sign.specs.Inner.Marks.{AreRowMarks}
 use Rattle.crn_sign.specs.Inner.PastCuts.{ArePastCuts}
 use Rattle.crn_sign.specs.Inner.Pools.{IsPool}
 
--- the solver and what was found are of this matrix, and the lists have room for its coordinates
+-- the solver and the vectors are of this matrix, and the lists have room for its coordinates
+pub record IsFinder (a : Mat) (f : Finder) : Type 0 where
+  pub matrix : f.solver.matrix ≡ a
+  pub pool : IsPool a f.pool
+  pub signs : length f.signs.items ≡ width a
+  pub negatives : length f.negatives.items ≡ width a
+  pub asked : length f.asked.items ≡ width a
+
+-- each list has the marks of a vector (x, Ax)
+abbrev pub AreLevels : Mat → List Marked → Type 0
+AreLevels a levels = AllByRecursion (λ m. AreRowMarks a m.marks.items) levels
+
+-- what was found is of this matrix
 pub record IsPart (a : Mat) (p : Part) : Type 0 where
-  pub matrix : p.solver.matrix ≡ a
+  pub finder : IsFinder a p.finder
   pub past : ArePastCuts a p.past.items
-  pub pool : IsPool a p.pool
-  pub marks : length p.marks.items ≡ width a
-  pub signs : length p.signs.items ≡ width a
+  pub levels : AreLevels a p.levels.items
 
 -- multipliers that rule the system out, or none where it has a solution
 abbrev pub IsRuling : Mat → List Kind → Option KeptInts → Type 0

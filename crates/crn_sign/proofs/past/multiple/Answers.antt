@@ -1,16 +1,8 @@
-use Rattle.std.proofs.Common.{◌++◌, ◌∷◌, [], List, ℤ, ap, sym, ◌∙◌}
-use Rattle.std.specs.Int.{w128}
-use Rattle.std.proofs.lemmas.Int.{to_z-of_z}
-use Rattle.crn_vec.specs.Vectors.{entry}
-use Rattle.std.specs.Prelude.{◌*ℤ◌}
+use Rattle.std.proofs.Common.{Bool, ap, sym, ◌∙◌}
+use Rattle.crn_vec.specs.Vectors.{scale}
 use Rattle.crn_farkas.specs.Decision.{factor}
-use Rattle.crn_farkas.proofs.CallerLemmas.{scale_step}
+use Rattle.crn_sign.proofs.PastLaws.{scale_one}
 use Rattle.crn_sign.proofs.past.multiple.Goals as goal
 
-pub loop-x-preserved : goal.loop-x-preserved
-loop-x-preserved c =
-    let q = factor c.args.stays in
-    let k = c.loop-x.x-index in
-    let pushed = to_z-of_z w128 c.number_of_multiple.result (record { sfits = c.number_of_multiple.type_inv }) ∙ c.number_of_multiple.ensures in
-    c.in_ok-push.ensures.ok ∙ ap (λ (x : ℤ). c.loop-x.made.list ++ (x ∷ [])) pushed
-    ∙ ap (λ (v : List ℤ). v ++ ((q *ℤ entry c.args.list.now k) ∷ [])) c.loop-x.invariant ∙ sym (scale_step q c.args.list.now k c.loop-x-test.true)
+pub returns-then-stays : goal.returns-then-stays
+returns-then-stays c = c.in_ok-made.ensures.list ∙ sym (ap (λ (b : Bool). scale (factor b) c.args.list.now.list) c.if-stays.true ∙ scale_one c.args.list.now.list)

@@ -1,0 +1,9 @@
+use Rattle.crn_sign.specs.Inner.Marks.{AreRowMarks}
+use Rattle.crn_sign.specs.Inner.Parts.{IsFinder}
+use Rattle.crn_sign.proofs.part.Finder.clear_misfits.Given as goal
+
+abbrev pub invariant-loop-i : goal.invariant-loop-i
+invariant-loop-i l = record {
+  finder : IsFinder l.matrix l.self;
+  marks : AreRowMarks l.matrix l.marks;
+}

@@ -1,7 +1,0 @@
-use Rattle.std.proofs.Common.{◌≡◌, take}
-use Rattle.crn_vec.specs.Vectors.{scale}
-use Rattle.crn_farkas.specs.Decision.{factor}
-use Rattle.crn_sign.proofs.past.multiple.Given as goal
-
-abbrev pub invariant-loop-x : goal.invariant-loop-x
-invariant-loop-x l = l.made.list ≡ scale (factor l.stays) (take l.x-index l.list)
