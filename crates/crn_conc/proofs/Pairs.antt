@@ -1,5 +1,5 @@
 -- What the signs of a reaction that are not zero, with their species, tell of the kind of its column.
-use Rattle.std.proofs.Common.{◌≡◌, ℕ, zero, suc, ◌+◌, ◌<◌, ◌≤◌, List, [], ◌∷◌, ◌++◌, length, get_or, take, drop, Bool, true, false, refl, sym, ap, ap₂, ◌∙◌, add-one, arith}
+use Rattle.std.proofs.Common.{◌≡◌, ℕ, zero, suc, ◌+◌, ◌<◌, ◌≤◌, inl, inr, List, [], ◌∷◌, ◌++◌, length, get_or, take, drop, Bool, true, false, refl, sym, ap, ap₂, ◌∙◌, add-one, arith}
 use Rattle.std.specs.Prelude.{◌||◌, if◌then◌else◌, nat_le}
 use Rattle.std.proofs.lemmas.Bool.{le-leb, lt-leb}
 use Rattle.crn_vec.specs.declared.signs.Sign.{Sign}
@@ -8,7 +8,8 @@ use Rattle.crn_vec.specs.declared.signs.Kind.{Kind}
 use Rattle.crn_vec.specs.declared.signs.Kind.TheVariants.{Free}
 use Rattle.crn_vec.specs.Problems.{all_zero}
 use Rattle.crn_vec.specs.Concordance.{column_kind, is_minus, is_plus, kind_of_sum, product, products, some_sign}
-use Rattle.crn_conc.specs.Inner.Rows.{kind_after, pairs_from}
+use Rattle.crn_vec.proofs.CallerLemmas.{lt_or}
+use Rattle.crn_conc.specs.Inner.Rows.{IsLate, kind_after, pairs_from}
 
 pairs_push : (c n : ℕ) (signs : List Sign) (s : ℕ) → s < length signs → n ≡ c + s → pairs_from c (take (suc s) signs) ≡ pairs_from c (take s signs) ++ pairs_from n (get_or signs s Zero ∷ [])
 pairs_push c n [] s lt e = absurd (omega (arith, lt))
@@ -100,3 +101,20 @@ pairs_value c (Minus ∷ ss) p (t ∷ q) plus minus e = let h = drop_here c p t 
 
 pub pairs_kind : (signs p : List Sign) → kind_after (pairs_from 0 signs) p false false ≡ column_kind signs p
 pairs_kind signs p = pairs_value 0 signs p p false false refl
+
+-- ---- a species that is not chosen yet
+
+late_at : (pairs : List (ℕ × Sign)) (p : List Sign) (plus minus : Bool) (k : ℕ) → k < length pairs → length p ≤ (get_or pairs k (0, Zero)).0 → kind_after pairs p plus minus ≡ Free
+late_at [] p plus minus k lt le = absurd (omega (arith, lt))
+late_at (q ∷ qs) p plus minus zero lt le =
+    ap (λ (b : Bool). if b then Free else kind_after qs p (plus || is_plus (product q.1 (get_or p q.0 Zero))) (minus || is_minus (product q.1 (get_or p q.0 Zero)))) (le-leb (length p) q.0 le)
+late_at (q ∷ qs) p plus minus (suc k) lt le =
+    let u = plus || is_plus (product q.1 (get_or p q.0 Zero)) in
+    let v = minus || is_minus (product q.1 (get_or p q.0 Zero)) in
+    elim (lt_or q.0 (length p)) as (λ _. kind_after (q ∷ qs) p plus minus ≡ Free) [
+      | inl inside ↦ ap (λ (b : Bool). if b then Free else kind_after qs p u v) (lt-leb (length p) q.0 inside) ∙ late_at qs p u v k (omega (arith, lt)) le
+      | inr past ↦ ap (λ (b : Bool). if b then Free else kind_after qs p u v) (le-leb (length p) q.0 past)
+    ]
+
+pub late_kind : (pairs : List (ℕ × Sign)) (p : List Sign) (n : ℕ) → n ≡ length p → IsLate pairs n → kind_after pairs p false false ≡ Free
+late_kind pairs p n is h = late_at pairs p false false h.k h.inside (omega (arith, is, h.late))

@@ -1,8 +1,8 @@
-ghost use Rattle.std.specs.Prelude.{◌≡◌, ◌<◌, ℕ, List, length, map};
+ghost use Rattle.std.specs.Prelude.{◌≡◌, ◌<◌, ℕ, List, length, map, IsTrue};
 ghost use Rattle.crn_vec.specs.Concordance.{column_kind, is_minus, is_plus, kind_of_sign, kind_of_sum, product, row_kinds};
 ghost use Rattle.crn_vec.specs.Problems.{all_zero, is_zero, opposite};
 ghost use Rattle.crn_vec.specs.Systems.{kind_at};
-ghost use Rattle.crn_conc.specs.Inner.Rows.{kind_after, pairs_from};
+ghost use Rattle.crn_conc.specs.Inner.Rows.{IsLate, kind_after, pairs_from};
 
 use crate::influence::Influence;
 use crn_vec::{Kind, Sign};
@@ -100,11 +100,25 @@ fn column_after(pairs: &[(usize, Sign)], prefix: &[Sign], plus: bool, minus: boo
     }
 }
 
+// Whether the last of these species is not chosen yet, where so many are.
+fn is_late(pairs: &[(usize, Sign)], chosen: usize) -> bool
+    ensures { IsTrue result → IsLate pairs.now chosen }
+{
+    let count = pairs.len();
+    if count == 0 {
+        return false;
+    }
+    pairs[count - 1].0 >= chosen
+}
+
 // The kind of a reaction's column in part A: free until each species with a sign there is chosen.
 fn column(pairs: &[(usize, Sign)], prefix: &[Sign]) -> Kind
     ensures { (signs : List Sign) → pairs.now ≡ pairs_from 0 signs
         → result ≡ column_kind signs prefix.now }
 {
+    if is_late(pairs, prefix.len()) {
+        return Kind::Free;
+    }
     column_after(pairs, prefix, false, false)
 }
 

@@ -2,7 +2,7 @@
 -- Tables with a sign for each species, and their rows without the signs that are zero.
 -- Source: this project's own.
 -- Shapes: a pair is a species, counted from 0, and its sign.
-use Rattle.std.specs.Prelude.{◌≡◌, ℕ, suc, Bool, ◌||◌, if◌then◌else◌, nat_le, List, [], ◌∷◌, length, slice_index_or}
+use Rattle.std.specs.Prelude.{◌≡◌, ◌<◌, ◌≤◌, ℕ, suc, Bool, ◌||◌, if◌then◌else◌, nat_le, List, [], ◌∷◌, length, slice_index_or}
 use Rattle.crn_vec.specs.declared.signs.Sign.{Sign}
 use Rattle.crn_vec.specs.declared.signs.Sign.TheVariants.{Zero, Plus, Minus}
 use Rattle.crn_vec.specs.declared.signs.Kind.{Kind}
@@ -30,3 +30,9 @@ kind_after (q ∷ qs) p plus minus =
     then Free
     else kind_after qs p (plus || is_plus (product q.1 (slice_index_or p q.0 Zero)))
     (minus || is_minus (product q.1 (slice_index_or p q.0 Zero)))
+
+-- one of these species is not chosen yet, where so many are
+pub record IsLate (pairs : List (ℕ × Sign)) (chosen : ℕ) : Type 0 where
+  pub k : ℕ
+  pub inside : k < length pairs
+  pub late : chosen ≤ (slice_index_or pairs k (0, Zero)).0
