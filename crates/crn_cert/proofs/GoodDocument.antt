@@ -5,6 +5,7 @@ use Rattle.std.proofs.lemmas.Int.{ints}
 use Rattle.std.proofs.lemmas.Bool.{false≢true}
 use Rattle.crn_vec.specs.declared.limits.TheConstants.{WIDE_SOLUTION}
 use Rattle.crn_vec.specs.declared.signs.Sign.TheVariants.{Zero, Plus, Minus}
+use Rattle.std.specs.declared.rc.Rc.{Rc}
 use Rattle.crn_vec.specs.Lists.{IsIn}
 use Rattle.crn_vec.specs.Kept.{KeptNums, KeptInts}
 use Rattle.crn_vec.specs.Network.{Net, IsNetwork, IsHeldBefore}
@@ -50,12 +51,16 @@ rank_one = record { base = nums (1 ∷ []); duals = (negsuc 0 ∷ pos 0 ∷ []) 
 
 -- where the parts of a tree lie in memory
 abbrev Place : Type 0
-Place = Box (Unit {0}) Global
+Place = Box (Unit {0}) Global × Rc KeptInts Global
+
+-- the multipliers of a leaf
+abbrev leaf : Place → List ℤ → Rc KeptInts Global
+leaf b xs = record { ptr = b.1.ptr; value = numbers xs }
 
 -- the tree of both influence tables
 abbrev tree : Place → Tree
-tree b = Split' b (Split' b Flat b (CutA (numbers (pos 0 ∷ pos 1 ∷ []))) None')
-    b (Split' b (CutA (numbers (pos 1 ∷ pos 0 ∷ []))) b (CutB (numbers (pos 1 ∷ pos 1 ∷ []))) (Some' b (CutA (numbers (pos 1 ∷ pos 0 ∷ []))))) None'
+tree b = Split' b.0 (Split' b.0 Flat b.0 (CutA (leaf b (pos 0 ∷ pos 1 ∷ []))) None')
+    b.0 (Split' b.0 (CutA (leaf b (pos 1 ∷ pos 0 ∷ []))) b.0 (CutB (leaf b (pos 1 ∷ pos 1 ∷ []))) (Some' b.0 (CutA (leaf b (pos 1 ∷ pos 0 ∷ []))))) None'
 
 abbrev a1 : Answer
 a1 = record { verdict = Classes 1 (nums (1 ∷ 1 ∷ [])); proof = Forest (nums (0 ∷ 1 ∷ [])) (nums (0 ∷ 1 ∷ [])) }

@@ -25,8 +25,8 @@ with_minus zero plus (Some minus) = Three zero plus minus
 abbrev mutual
   pub plan : Tree → Plan
   plan (Split' a zero b plus minus) = with_minus (plan zero) (plan plus) (plan_behind minus)
-  plan (CutA u) = RulesA u.list
-  plan (CutB u) = RulesB u.list
+  plan (CutA u) = RulesA u.value.list
+  plan (CutB u) = RulesB u.value.list
   plan Flat = Level
 
   pub plan_behind : Held-Tree-Split-2 → Option Plan

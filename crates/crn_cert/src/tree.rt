@@ -1,4 +1,5 @@
 use crn_vec::Ints;
+use std::rc::Rc;
 
 /// A tree that shows that no full prefix of a sign problem stands.
 #[derive(Drop)]
@@ -9,10 +10,10 @@ pub enum Tree {
         plus: Box<Tree>,
         minus: Option<Box<Tree>>,
     },
-    /// Multipliers that rule part A of the prefix out, one for each row.
-    CutA(Ints),
+    /// Multipliers that rule part A of the prefix out, one for each row. Leaves with the same list may share it.
+    CutA(Rc<Ints>),
     /// Multipliers that rule part B of the prefix out, one for each row.
-    CutB(Ints),
+    CutB(Rc<Ints>),
     /// The prefix is closed.
     Flat,
 }

@@ -8,6 +8,7 @@ use Rattle.crn_vec.specs.declared.signs.Sign.{Sign}
 use Rattle.crn_vec.specs.declared.signs.Sign.TheVariants.{Zero, Plus, Minus}
 use Rattle.crn_vec.specs.Problems.{all_zero}
 use Rattle.crn_cert.specs.Ranges.{AreFree}
+use Rattle.std.specs.declared.rc.Rc.{Rc}
 use Rattle.crn_cert.specs.declared.tree.Tree.{Tree, Split', CutA, CutB, Flat, None', Some'}
 use Rattle.crn_cert.specs.Trees.{Plan, Both, Three, RulesA, RulesB, Level, plan, node_count, IsFormedTree}
 use Rattle.crn_cert.specs.Nodes.{Said, Splits, Flats, CutsA, CutsB}
@@ -80,8 +81,8 @@ tree_is w Leaf Ok g (suc more) p (Split' a zeros b pluses (Some' c minuses)) e f
     let k = h p (plan zeros) (plan pluses) (plan minuses) o in
     split_three Leaf more p (nodes zeros) (nodes pluses) (nodes minuses) f.1 (tree_is w Leaf Ok g more (p ++ Zero ∷ []) zeros (next_choice w.choices more p Zero e) f.2 k.0)
     (tree_is w Leaf Ok g more (p ++ Plus ∷ []) pluses (next_choice w.choices more p Plus e) f.3 k.1.0) (tree_is w Leaf Ok g more (p ++ Minus ∷ []) minuses (next_choice w.choices more p Minus e) f.4 k.1.1)
-tree_is w Leaf Ok g more p (CutA u) e f o = let h = g.cut_a in one_leaf Leaf more p (one_word (codes "cuta") u.list) (h p u.list f o)
-tree_is w Leaf Ok g more p (CutB u) e f o = let h = g.cut_b in one_leaf Leaf more p (one_word (codes "cutb") u.list) (h p u.list f o)
+tree_is w Leaf Ok g more p (CutA u) e f o = let h = g.cut_a in one_leaf Leaf more p (one_word (codes "cuta") u.value.list) (h p u.value.list f o)
+tree_is w Leaf Ok g more p (CutB u) e f o = let h = g.cut_b in one_leaf Leaf more p (one_word (codes "cutb") u.value.list) (h p u.value.list f o)
 tree_is w Leaf Ok g more p Flat e f o = let h = g.flat in one_leaf Leaf more p (one_word (codes "flat") []) (h p o)
 
 abbrev pub Leaf : Problem → List Sign → Record → Type 0
@@ -203,8 +204,8 @@ tree_true w (suc more) p (Split' a zeros b pluses (Some' c minuses)) e f t =
         tree_true w more (p ++ Minus ∷ []) minuses (next_choice w.choices more p Minus e) f.4 (subst (IsTree (Good w) more (p ++ Minus ∷ [])) (sym s.1.1) last),
       ),
     )
-tree_true w more p (CutA u) e f t = (leaf_back w more p (one_word (codes "cuta") u.list) (no_split (codes "cuta") u.list cut_a_no_split) t).1
-tree_true w more p (CutB u) e f t = (leaf_back w more p (one_word (codes "cutb") u.list) (no_split (codes "cutb") u.list cut_b_no_split) t).1
+tree_true w more p (CutA u) e f t = (leaf_back w more p (one_word (codes "cuta") u.value.list) (no_split (codes "cuta") u.value.list cut_a_no_split) t).1
+tree_true w more p (CutB u) e f t = (leaf_back w more p (one_word (codes "cutb") u.value.list) (no_split (codes "cutb") u.value.list cut_b_no_split) t).1
 tree_true w more p Flat e f t = (leaf_back w more p (one_word (codes "flat") []) (no_split (codes "flat") [] flat_no_split) t).1
 
 -- ---- a tree of formed records
@@ -213,8 +214,8 @@ tree_true w more p Flat e f t = (leaf_back w more p (one_word (codes "flat") [])
 place : Global → Box (Unit {0}) Global
 place alloc = record { ptr = null_ptr; alloc = alloc; value = tt }
 
-kept : List ℤ → KeptInts
-kept u = record { list = u; spare = 0 }
+kept : List ℤ → Rc KeptInts Global
+kept u = record { ptr = null_ptr; value = record { list = u; spare = 0 } }
 
 -- the records are those of a formed tree
 abbrev pub IsTreeOf : Problem → List Sign → List Record → Type 0
@@ -289,20 +290,20 @@ plans_one w (suc more) p (Split' a zeros b pluses (Some' c minuses)) (Split' a2 
     ap₂ (λ (x : Plan × Plan) (y : Plan). Three x.0 x.1 y) (ap₂ (λ (x y : Plan). (x, y)) (plans_one w more (p ++ Zero ∷ []) zeros zeros2 ez f.2 g.2 s.0) (plans_one w more (p ++ Plus ∷ []) pluses pluses2 eq f.3 g.3 s.1.0)) (plans_one w more (p ++ Minus ∷ []) minuses minuses2 em f.4 g.4 s.1.1)
 plans_one w more p (Split' a zeros b pluses None') (Split' a2 zeros2 b2 pluses2 (Some' c2 minuses2)) e f g same = absurd (let h : true ≡ false = sym f.1 ∙ g.1 in cc)
 plans_one w more p (Split' a zeros b pluses (Some' c minuses)) (Split' a2 zeros2 b2 pluses2 None') e f g same = absurd (let h : true ≡ false = sym g.1 ∙ f.1 in cc)
-plans_one w more p (Split' a zeros b pluses held) (CutA v) e f g same = absurd (words_apart (codes "cuta") (codes "split") v.list [] [] ((nodes zeros ++ nodes pluses) ++ nodes_behind held) 0 (omega arith) (sym same))
-plans_one w more p (Split' a zeros b pluses held) (CutB v) e f g same = absurd (words_apart (codes "cutb") (codes "split") v.list [] [] ((nodes zeros ++ nodes pluses) ++ nodes_behind held) 0 (omega arith) (sym same))
+plans_one w more p (Split' a zeros b pluses held) (CutA v) e f g same = absurd (words_apart (codes "cuta") (codes "split") v.value.list [] [] ((nodes zeros ++ nodes pluses) ++ nodes_behind held) 0 (omega arith) (sym same))
+plans_one w more p (Split' a zeros b pluses held) (CutB v) e f g same = absurd (words_apart (codes "cutb") (codes "split") v.value.list [] [] ((nodes zeros ++ nodes pluses) ++ nodes_behind held) 0 (omega arith) (sym same))
 plans_one w more p (Split' a zeros b pluses held) Flat e f g same = absurd (words_apart (codes "flat") (codes "split") [] [] [] ((nodes zeros ++ nodes pluses) ++ nodes_behind held) 0 (omega arith) (sym same))
-plans_one w more p (CutA u) (Split' a zeros b pluses held) e f g same = absurd (words_apart (codes "cuta") (codes "split") u.list [] [] ((nodes zeros ++ nodes pluses) ++ nodes_behind held) 0 (omega arith) same)
-plans_one w more p (CutA u) (CutA v) e f g same = ap RulesA (same_numbers (codes "cuta") u.list v.list [] [] same)
-plans_one w more p (CutA u) (CutB v) e f g same = absurd (words_apart (codes "cuta") (codes "cutb") u.list v.list [] [] 3 (omega arith) same)
-plans_one w more p (CutA u) Flat e f g same = absurd (words_apart (codes "cuta") (codes "flat") u.list [] [] [] 0 (omega arith) same)
-plans_one w more p (CutB u) (Split' a zeros b pluses held) e f g same = absurd (words_apart (codes "cutb") (codes "split") u.list [] [] ((nodes zeros ++ nodes pluses) ++ nodes_behind held) 0 (omega arith) same)
-plans_one w more p (CutB u) (CutA v) e f g same = absurd (words_apart (codes "cuta") (codes "cutb") v.list u.list [] [] 3 (omega arith) (sym same))
-plans_one w more p (CutB u) (CutB v) e f g same = ap RulesB (same_numbers (codes "cutb") u.list v.list [] [] same)
-plans_one w more p (CutB u) Flat e f g same = absurd (words_apart (codes "cutb") (codes "flat") u.list [] [] [] 0 (omega arith) same)
+plans_one w more p (CutA u) (Split' a zeros b pluses held) e f g same = absurd (words_apart (codes "cuta") (codes "split") u.value.list [] [] ((nodes zeros ++ nodes pluses) ++ nodes_behind held) 0 (omega arith) same)
+plans_one w more p (CutA u) (CutA v) e f g same = ap RulesA (same_numbers (codes "cuta") u.value.list v.value.list [] [] same)
+plans_one w more p (CutA u) (CutB v) e f g same = absurd (words_apart (codes "cuta") (codes "cutb") u.value.list v.value.list [] [] 3 (omega arith) same)
+plans_one w more p (CutA u) Flat e f g same = absurd (words_apart (codes "cuta") (codes "flat") u.value.list [] [] [] 0 (omega arith) same)
+plans_one w more p (CutB u) (Split' a zeros b pluses held) e f g same = absurd (words_apart (codes "cutb") (codes "split") u.value.list [] [] ((nodes zeros ++ nodes pluses) ++ nodes_behind held) 0 (omega arith) same)
+plans_one w more p (CutB u) (CutA v) e f g same = absurd (words_apart (codes "cuta") (codes "cutb") v.value.list u.value.list [] [] 3 (omega arith) (sym same))
+plans_one w more p (CutB u) (CutB v) e f g same = ap RulesB (same_numbers (codes "cutb") u.value.list v.value.list [] [] same)
+plans_one w more p (CutB u) Flat e f g same = absurd (words_apart (codes "cutb") (codes "flat") u.value.list [] [] [] 0 (omega arith) same)
 plans_one w more p Flat (Split' a zeros b pluses held) e f g same = absurd (words_apart (codes "flat") (codes "split") [] [] [] ((nodes zeros ++ nodes pluses) ++ nodes_behind held) 0 (omega arith) same)
-plans_one w more p Flat (CutA v) e f g same = absurd (words_apart (codes "cuta") (codes "flat") v.list [] [] [] 0 (omega arith) (sym same))
-plans_one w more p Flat (CutB v) e f g same = absurd (words_apart (codes "cutb") (codes "flat") v.list [] [] [] 0 (omega arith) (sym same))
+plans_one w more p Flat (CutA v) e f g same = absurd (words_apart (codes "cuta") (codes "flat") v.value.list [] [] [] 0 (omega arith) (sym same))
+plans_one w more p Flat (CutB v) e f g same = absurd (words_apart (codes "cutb") (codes "flat") v.value.list [] [] [] 0 (omega arith) (sym same))
 plans_one w more p Flat Flat e f g same = refl
 
 -- ---- the tests of a tree

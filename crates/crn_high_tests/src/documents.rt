@@ -15,6 +15,7 @@ use crn_ctext::{document_length, shares_are_of_records, write_document, write_do
 use crn_io::{MemSink, QuietSink};
 use crn_net::Network;
 use std::process::Abort;
+use std::rc::Rc;
 
 const BOTH_WAYS: &[u8] =
     b"crn certificate 1\nnetwork 2\nA -> B\nB -> A\nq1 1\nlabel 1 1\nup 0 1\ndepth 0 1\nq2 1 1\nlabel 1 1\nfrom 0 1\nfromdepth 0 1\nto 0 2\ntodepth 0 1\nlevel 0\nexit 0\nq3 yes\nback 2 1\nq4 yes\nq5 1\nbase 1\ndual -1 1\ncomb 1 -1\nq6 0 0\nbase 1\ndual -1 1\ncomb 1 -1\nq7 yes\nvec 1 1\nq8 yes\nvec 1 1\nq9 yes 1\nq10 yes\nq11 yes\nside 1 0 1\nq12 none zero\ntie 1 0 0\ntie 0 1 0\nq13 none\nq14 yes\nsplit\nsplit\nflat\ncuta 0 1\nsplit\ncuta 1 0\ncutb 1 1\ncuta 1 0\nq15 yes\nsplit\nsplit\nflat\ncuta 0 1\nsplit\ncuta 1 0\ncutb 1 1\ncuta 1 0\nend\n";
@@ -465,7 +466,7 @@ fn three(rt: &(impl Abort + AllocGlobal), zero: Tree, plus: Tree, minus: Tree) -
 fn rules_a(rt: &(impl Abort + AllocGlobal), values: &[i128]) -> Tree
     ensures { plan result ≡ RulesA values.now }
 {
-    Tree::CutA(ints(rt, values))
+    Tree::CutA(Rc::new(rt.alloc(), ints(rt, values)).expect(rt, "memory"))
 }
 
 // The tree of the two species of both ways: at + the multipliers of a cut are 1 0, between them 1 1.
@@ -475,7 +476,7 @@ fn tree(rt: &(impl Abort + AllocGlobal)) -> Tree
         (RulesA (pos 1 ∷ pos 0 ∷ []))) }
 {
     let zero = both(rt, Tree::Flat, rules_a(rt, &[0, 1]));
-    let rules_b = Tree::CutB(ints(rt, &[1, 1]));
+    let rules_b = Tree::CutB(Rc::new(rt.alloc(), ints(rt, &[1, 1])).expect(rt, "memory"));
     let plus = three(rt, rules_a(rt, &[1, 0]), rules_b, rules_a(rt, &[1, 0]));
     both(rt, zero, plus)
 }

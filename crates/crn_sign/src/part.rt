@@ -10,11 +10,12 @@ ghost use Rattle.crn_sign.specs.Inner.Marks.{AreRowMarks};
 ghost use Rattle.crn_sign.specs.Inner.Parts.{AreLevels, IsFinder, IsPart, IsRuling};
 
 use crate::marks::{Mark, all_suit, clear, lay, put_zeros, suits};
-use crate::past::{Past, PastCuts, empty_cuts, first_again, keep_cut};
+use crate::past::{Past, PastCuts, empty_cuts, first_again, keep_cut, share};
 use crate::pool::Pool;
 use crn_farkas::{Alternative, Cut, Decision, Solver, Standing, Stop};
 use crn_vec::{Ints, Kind, Matrix, NoMemory, Sign, cuts_exclude_solutions, is_asked, opposite};
 use std::alloc::Global;
+use std::rc::Rc;
 
 /// The marks of a vector (x, Ax).
 #[derive(Drop)]
@@ -467,19 +468,18 @@ impl Part {
     // rule this system out. A prefix's length alone says which of its coordinates are settled.
     fn past_cut(
         &mut self,
-        alloc: Global,
         matrix: &Matrix,
         kinds: &[Kind],
         depth: usize,
-    ) -> Result<Option<Ints>, NoMemory>
+    ) -> Result<Option<Rc<Ints>>, NoMemory>
         requires part { IsPart matrix.now self.old }
         requires kinds { length kinds.now ≡ width matrix.now }
         ensures part { IsPart matrix.now self.new }
         ensures cut { IfOk result (λ o. MatchOption o (Unit {0})
-            (λ u. IsSmallCut matrix.now kinds.now u.list)) }
+            (λ u. IsSmallCut matrix.now kinds.now u.value.list)) }
     {
         if depth < self.past.len() {
-            return first_again(alloc, matrix, kinds, &mut self.past[depth]);
+            return first_again(matrix, kinds, &mut self.past[depth]);
         }
         Ok(None)
     }
@@ -492,16 +492,17 @@ impl Part {
         kinds: &[Kind],
         cut: &Cut,
         depth: usize,
-    ) -> Result<Ints, NoMemory>
+    ) -> Result<Rc<Ints>, NoMemory>
         requires part { IsPart matrix.now self.old }
         requires kinds { length kinds.now ≡ width matrix.now }
         requires cut { IsCutBy self.old.finder.solver.matrix self.old.finder.solver.basis kinds.now
             cut.now.row cut.now.sign }
         ensures part { OnOk result (IsPart matrix.now self.new) }
-        ensures cut { IfOk result (λ u. IsSmallCut matrix.now kinds.now u.list) }
+        ensures cut { IfOk result (λ u. IsSmallCut matrix.now kinds.now u.value.list) }
     {
         let u = self.finder.solver.multipliers(kinds, cut)?;
-        let past = Past::new(alloc, matrix, kinds, &u)?;
+        let past = Past::new(alloc, matrix, kinds, u)?;
+        let u = share(&past.multipliers)?;
         keep_cut(&mut self.past, matrix, past, depth)?;
         Ok(u)
     }
@@ -553,7 +554,7 @@ impl Part {
         matrix: &Matrix,
         kinds: &[Kind],
         depth: usize,
-    ) -> Result<Option<Ints>, Stop>
+    ) -> Result<Option<Rc<Ints>>, Stop>
         requires part { IsPart matrix.now self.old }
         requires kinds { length kinds.now ≡ width matrix.now }
         ensures part { OnOk result (IsPart matrix.now self.new) }
@@ -564,7 +565,7 @@ impl Part {
         if self.is_met(matrix, kinds, depth) {
             return Ok(None);
         }
-        if let Some(u) = self.past_cut(alloc, matrix, kinds, depth)? {
+        if let Some(u) = self.past_cut(matrix, kinds, depth)? {
             return Ok(Some(u));
         }
         if let Some(cut) = self.seek(alloc, matrix, kinds, depth)? {

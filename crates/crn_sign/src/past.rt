@@ -5,15 +5,18 @@ ghost use Rattle.crn_vec.specs.Systems.{MayWeigh, is_signed};
 ghost use Rattle.crn_vec.specs.declared.limits.TheConstants.{MAX_AMOUNT, WIDE_ENTRY};
 ghost use Rattle.crn_farkas.specs.Decision.{IsSmallCut, factor};
 ghost use Rattle.crn_sign.specs.Inner.Past.{AllWeigh, AreInside, IsPast, SignsBefore, SomeCounts};
-ghost use Rattle.crn_sign.specs.Inner.PastCuts.{AreAllPast, ArePastCuts};
+ghost use Rattle.crn_sign.specs.Inner.PastCuts.{AreAllPast, ArePastCuts, IsPastOf};
 
 use crn_vec::{Ints, Kind, Matrix, NoMemory, Sign, dot, sign_of};
 use std::alloc::Global;
+use std::rc::Rc;
 
-/// Multipliers u that ruled a system out, with the places and signs of the list (-uA, u).
+/// Multipliers u that ruled a system out, their negatives, and the places and signs of the list
+/// (-uA, u). The leaves that they rule out share these lists.
 #[derive(Drop)]
 pub(crate) struct Past {
-    pub multipliers: Ints,
+    pub multipliers: Rc<Ints>,
+    pub negatives: Rc<Ints>,
     pub places: Vec<(usize, Sign)>,
 }
 
@@ -187,27 +190,37 @@ fn negatives(alloc: Global, list: &[i128]) -> Result<Ints, NoMemory>
     Ok(made)
 }
 
-// The numbers or their negatives.
-fn multiple(alloc: Global, list: &Ints, stays: bool) -> Result<Ints, NoMemory>
-    requires { (k : ℕ) → unsigned_abs (entry list.now.list k) < WIDE_ENTRY }
-    ensures { IfOk result (λ made. made.list ≡ scale (factor stays) list.now.list) }
+// A list that leaves may share.
+fn shared(alloc: Global, list: Ints) -> Result<Rc<Ints>, NoMemory>
+    ensures { IfOk result (λ made. made.value ≡ list) }
 {
-    if stays {
-        let made = list.copy()?;
-        return Ok(made);
+    match Rc::new(alloc, list) {
+        Ok(made) => Ok(made),
+        Err(e) => Err(NoMemory::from(e)),
     }
-    negatives(alloc, list.as_slice())
+}
+
+/// The same list once more, in the same memory.
+pub(crate) fn share(list: &Rc<Ints>) -> Result<Rc<Ints>, NoMemory>
+    ensures { IfOk result (λ made. made.value ≡ list.now.value) }
+{
+    match list.clone() {
+        Ok(made) => Ok(made),
+        Err(e) => Err(NoMemory::from(e)),
+    }
 }
 
 impl Past {
     /// Keeps multipliers that rule a system of the matrix out.
-    pub fn new(alloc: Global, matrix: &Matrix, kinds: &[Kind], u: &Ints) -> Result<Past, NoMemory>
-        requires { IsSmallCut matrix.now kinds.now u.now.list }
-        ensures { IfOk result (λ made. IsPast matrix.now made.multipliers.list made.places.items) }
+    pub fn new(alloc: Global, matrix: &Matrix, _kinds: &[Kind], u: Ints) -> Result<Past, NoMemory>
+        requires { IsSmallCut matrix.now _kinds.now u.list }
+        ensures past { IfOk result (λ made. IsPastOf matrix.now made) }
+        ensures multipliers { IfOk result (λ made. made.multipliers.value ≡ u) }
     {
         Ok(Past {
-            multipliers: u.copy()?,
             places: places_of(alloc, matrix, u.as_slice())?,
+            negatives: shared(alloc, negatives(alloc, u.as_slice())?)?,
+            multipliers: shared(alloc, u)?,
         })
     }
 
@@ -220,21 +233,34 @@ impl Past {
         all_weigh(kinds, &self.places, stays) && some_counts(kinds, &self.places)
     }
 
+    // The multipliers, or their negatives.
+    fn multiple(&self, _matrix: &Matrix, stays: bool) -> Result<Rc<Ints>, NoMemory>
+        requires { IsPastOf _matrix.now self.now }
+        ensures { IfOk result (λ made. made.value.list
+            ≡ scale (factor stays) self.now.multipliers.value.list) }
+    {
+        if stays {
+            let made = share(&self.multipliers)?;
+            return Ok(made);
+        }
+        let made = share(&self.negatives)?;
+        Ok(made)
+    }
+
     /// The multipliers, or their negatives, if they rule the system of these kinds out.
     pub fn again(
         &self,
-        alloc: Global,
         matrix: &Matrix,
         kinds: &[Kind],
         stays: bool,
-    ) -> Result<Option<Ints>, NoMemory>
-        requires past { IsPast matrix.now self.now.multipliers.list self.now.places.items }
+    ) -> Result<Option<Rc<Ints>>, NoMemory>
+        requires past { IsPastOf matrix.now self.now }
         requires kinds { length kinds.now ≡ width matrix.now }
         ensures { IfOk result (λ o. MatchOption o (Unit {0})
-            (λ u. IsSmallCut matrix.now kinds.now u.list)) }
+            (λ u. IsSmallCut matrix.now kinds.now u.value.list)) }
     {
         if self.rules_out(kinds, stays) {
-            let u = multiple(alloc, &self.multipliers, stays)?;
+            let u = self.multiple(matrix, stays)?;
             return Ok(Some(u));
         }
         Ok(None)
@@ -302,7 +328,7 @@ pub(crate) fn keep_cut(
     depth: usize,
 ) -> Result<(), NoMemory>
     requires past { ArePastCuts _matrix.now past.old }
-    requires cut { IsPast _matrix.now cut.multipliers.list cut.places.items }
+    requires cut { IsPastOf _matrix.now cut }
     ensures { OnOk result (ArePastCuts _matrix.now past.new) }
 {
     if depth < past.len() {
@@ -355,20 +381,19 @@ fn first_near(kinds: &[Kind], past: &[Past], trials: &mut [Trial]) -> Option<(us
 
 /// The first of these multipliers, or of their negatives, that rule the system of these kinds out.
 pub(crate) fn first_again(
-    alloc: Global,
     matrix: &Matrix,
     kinds: &[Kind],
     past: &mut PastCuts,
-) -> Result<Option<Ints>, NoMemory>
+) -> Result<Option<Rc<Ints>>, NoMemory>
     requires past { AreAllPast matrix.now past.old.items.items }
     requires kinds { length kinds.now ≡ width matrix.now }
     ensures past { past.new.items ≡ past.old.items }
     ensures cut { IfOk result (λ o. MatchOption o (Unit {0})
-        (λ u. IsSmallCut matrix.now kinds.now u.list)) }
+        (λ u. IsSmallCut matrix.now kinds.now u.value.list)) }
 {
     if let Some((number, stays)) = first_near(kinds, &past.items, &mut past.trials) {
         if number < past.items.len() {
-            return past.items[number].again(alloc, matrix, kinds, stays);
+            return past.items[number].again(matrix, kinds, stays);
         }
     }
     Ok(None)

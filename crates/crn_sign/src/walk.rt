@@ -18,6 +18,7 @@ use crn_cert::Tree;
 use crn_farkas::Stop;
 use crn_vec::{Ints, Kind, NoMemory, Sign};
 use std::alloc::Global;
+use std::rc::Rc;
 
 /// What a search works with: its two parts, the kinds of the prefix that is visited, that prefix,
 /// and the visits that are left.
@@ -68,7 +69,7 @@ fn rule_out_a<P: SignProblem>(
     alloc: Global,
     problem: &P,
     search: &mut Progress,
-) -> Result<Option<Ints>, SearchStop>
+) -> Result<Option<Rc<Ints>>, SearchStop>
     requires { IsReady (P.signed problem.now) search.old }
     ensures place { OnOk result (SamePlace search.old search.new) }
     ensures ready { OnOk result (IsReady (P.signed problem.now) search.new) }
@@ -96,7 +97,7 @@ fn rule_out_b<P: SignProblem>(
     alloc: Global,
     problem: &P,
     search: &mut Progress,
-) -> Result<Option<Ints>, SearchStop>
+) -> Result<Option<Rc<Ints>>, SearchStop>
     requires { IsReady (P.signed problem.now) search.old }
     ensures place { OnOk result (SamePlace search.old search.new) }
     ensures ready { OnOk result (IsReady (P.signed problem.now) search.new) }

@@ -1,6 +1,8 @@
 -- For the contracts of private functions alone.
 -- What a part of a search keeps, and what it answers.
 use Rattle.std.specs.Prelude.{◌≡◌, ℤ, List, Option, Some, None, length}
+use Rattle.std.specs.Global.{Global}
+use Rattle.std.specs.declared.rc.Rc.{Rc}
 use Rattle.std.specs.List.{AllByRecursion}
 use Rattle.crn_vec.specs.declared.signs.Kind.{Kind}
 use Rattle.crn_vec.specs.Kept.{KeptInts}
@@ -34,6 +36,6 @@ pub record IsPart (a : Mat) (p : Part) : Type 0 where
   pub levels : AreLevels a p.levels.items
 
 -- multipliers that rule the system out, or none where it has a solution
-abbrev pub IsRuling : Mat → List Kind → Option KeptInts → Type 0
+abbrev pub IsRuling : Mat → List Kind → Option (Rc KeptInts Global) → Type 0
 IsRuling a kinds None = (x : List ℤ) × IsSolution a kinds x
-IsRuling a kinds (Some u) = IsSmallCut a kinds u.list
+IsRuling a kinds (Some u) = IsSmallCut a kinds u.value.list

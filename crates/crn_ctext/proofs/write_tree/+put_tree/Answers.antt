@@ -36,15 +36,17 @@ pub returns-in_err-put_cut-in-CutA-clause-wrote : goal.returns-in_err-put_cut-in
 returns-in_err-put_cut-in-CutA-clause-wrote g t c =
     let r = c.from_residual-in_err-put_cut-in-CutA in
     let p = err_from_is_err_and r.result r.ensures.1 in
-    let wrote = rw c.as_slice.ensures at c.in_err-put_cut-in-CutA.ensures in
-    rw c.in-CutA.is (wrote_as (cuta_line c.in-CutA.list.list c.args.leaf.now c.next_leaf-number.result.0 c.next_leaf-number.ensures.first) (Wrote-prefix p.1 wrote.prefix))
+    let cut = rw c.as_slice.ensures at c.in_err-put_cut-in-CutA.ensures in
+    let wrote = rw c.deref-in-CutA.ensures at cut in
+    rw c.in-CutA.is (wrote_as (cuta_line c.in-CutA.list.value.list c.args.leaf.now c.next_leaf-number.result.0 c.next_leaf-number.ensures.first) (Wrote-prefix p.1 wrote.prefix))
 
 pub returns-in_err-put_cut-in-CutB-clause-wrote : goal.returns-in_err-put_cut-in-CutB-clause-wrote
 returns-in_err-put_cut-in-CutB-clause-wrote g t c =
     let r = c.from_residual-in_err-put_cut-in-CutB in
     let p = err_from_is_err_and r.result r.ensures.1 in
-    let wrote = rw c.as_slice-in-CutB.ensures at c.in_err-put_cut-in-CutB.ensures in
-    rw c.in-CutB.is (wrote_as (cutb_line c.in-CutB.list.list c.args.leaf.now c.next_leaf-number-in-CutB.result.0 c.next_leaf-number-in-CutB.ensures.first) (Wrote-prefix p.1 wrote.prefix))
+    let cut = rw c.as_slice-in-CutB.ensures at c.in_err-put_cut-in-CutB.ensures in
+    let wrote = rw c.deref-in-CutB.ensures at cut in
+    rw c.in-CutB.is (wrote_as (cutb_line c.in-CutB.list.value.list c.args.leaf.now c.next_leaf-number-in-CutB.result.0 c.next_leaf-number-in-CutB.ensures.first) (Wrote-prefix p.1 wrote.prefix))
 
 pub returns-in-Some-clause-wrote : goal.returns-in-Some-clause-wrote
 returns-in-Some-clause-wrote g t c =
@@ -78,10 +80,12 @@ returns-in-None-clause-rest g t c =
 
 pub returns-in_ok-put_cut-in-CutA-clause-wrote : goal.returns-in_ok-put_cut-in-CutA-clause-wrote
 returns-in_ok-put_cut-in-CutA-clause-wrote g t c =
-    let wrote = rw c.as_slice.ensures at c.in_ok-put_cut-in-CutA.ensures in
-    rw c.in-CutA.is (wrote_as (cuta_line c.in-CutA.list.list c.args.leaf.now c.next_leaf-number.result.0 c.next_leaf-number.ensures.first) (Wrote-all wrote.all))
+    let cut = rw c.as_slice.ensures at c.in_ok-put_cut-in-CutA.ensures in
+    let wrote = rw c.deref-in-CutA.ensures at cut in
+    rw c.in-CutA.is (wrote_as (cuta_line c.in-CutA.list.value.list c.args.leaf.now c.next_leaf-number.result.0 c.next_leaf-number.ensures.first) (Wrote-all wrote.all))
 
 pub returns-in_ok-put_cut-in-CutB-clause-wrote : goal.returns-in_ok-put_cut-in-CutB-clause-wrote
 returns-in_ok-put_cut-in-CutB-clause-wrote g t c =
-    let wrote = rw c.as_slice-in-CutB.ensures at c.in_ok-put_cut-in-CutB.ensures in
-    rw c.in-CutB.is (wrote_as (cutb_line c.in-CutB.list.list c.args.leaf.now c.next_leaf-number-in-CutB.result.0 c.next_leaf-number-in-CutB.ensures.first) (Wrote-all wrote.all))
+    let cut = rw c.as_slice-in-CutB.ensures at c.in_ok-put_cut-in-CutB.ensures in
+    let wrote = rw c.deref-in-CutB.ensures at cut in
+    rw c.in-CutB.is (wrote_as (cutb_line c.in-CutB.list.value.list c.args.leaf.now c.next_leaf-number-in-CutB.result.0 c.next_leaf-number-in-CutB.ensures.first) (Wrote-all wrote.all))

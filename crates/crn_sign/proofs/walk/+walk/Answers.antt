@@ -18,14 +18,14 @@ walk-returns-then-closed-clause-answer g t c =
 pub walk-returns-in-Some-clause-answer : goal.walk-returns-in-Some-clause-answer
 walk-returns-in-Some-clause-answer g t c =
     let d = rw c.in-Some.is at c.in_ok-u.ensures.answer in
-    cut_b_at (g.P.SignProblem.signed c.args.problem.now) c.args.search.now.prefix.items c.in-Some.u.list c.args.search.now.left _ (omega (arith, c.in_ok-u.ensures.place.left)) d
+    cut_b_at (g.P.SignProblem.signed c.args.problem.now) c.args.search.now.prefix.items c.in-Some.u.value.list c.args.search.now.left _ (omega (arith, c.in_ok-u.ensures.place.left)) d
 
 pub walk-returns-in-Some-2-clause-answer : goal.walk-returns-in-Some-2-clause-answer
 walk-returns-in-Some-2-clause-answer g t c =
     let d = rw c.in-Some-2.is at c.in_ok-u-2.ensures.answer in
     let w : Signed = g.P.SignProblem.signed c.args.problem.now in
-    let e = subst (λ (p : List Sign). IsSmallCut w.matrix_a (w.kinds_a p) c.in-Some-2.u.list) c.in_ok-u.ensures.place.prefix d in
-    cut_a_at w c.args.search.now.prefix.items c.in-Some-2.u.list c.args.search.now.left _ (omega (arith, c.in_ok-u.ensures.place.left, c.in_ok-u-2.ensures.place.left)) e
+    let e = subst (λ (p : List Sign). IsSmallCut w.matrix_a (w.kinds_a p) c.in-Some-2.u.value.list) c.in_ok-u.ensures.place.prefix d in
+    cut_a_at w c.args.search.now.prefix.items c.in-Some-2.u.value.list c.args.search.now.left _ (omega (arith, c.in_ok-u.ensures.place.left, c.in_ok-u-2.ensures.place.left)) e
 
 pub split-returns-in_default : goal.split-returns-in_default
 split-returns-in_default g t c = record {
