@@ -35,3 +35,4 @@ mod SignalsKnown
 mod SignalTrees
 mod Kept
 mod SignalSaid
+mod Naming

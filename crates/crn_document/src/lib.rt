@@ -18,6 +18,7 @@ mod opening;
 mod parts;
 mod plain;
 mod questions;
+mod quick;
 mod reading;
 mod record;
 mod rows;

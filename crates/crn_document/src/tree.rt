@@ -19,7 +19,7 @@ use crate::node::next_node;
 use crate::reading::Reading;
 use crate::signal_trees::next_signal_trees;
 use crate::stop::CheckStop;
-use crn_ctree::{InfluenceTable, Problem, SharedTable, Step, TreeCheck};
+use crn_ctree::{InfluenceTable, KnownCuts, Problem, SharedTable, Step, TreeCheck};
 use crn_io::Source;
 use crn_net::Network;
 
@@ -54,9 +54,10 @@ pub(crate) fn next_tree<S: Source>(
     ensures version { at.new.version ≡ at.old.version }
 {
     let count = count_a(net, problem);
+    let cuts = KnownCuts::new(at.alloc, net, problem, table)?;
     let mut check = TreeCheck::new(at.alloc, net, problem)?;
     'nodes: loop {
-        match next_node(source, at, net, table, count, &mut check)? {
+        match next_node(source, at, net, &cuts, count, &mut check)? {
             Step::More => {}
             Step::Complete => return Ok(()),
         }

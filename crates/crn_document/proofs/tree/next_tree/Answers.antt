@@ -1,4 +1,5 @@
 use Rattle.std.proofs.Common.{◌≡◌, ◌≢◌, ◌++◌, ◌∙◌, List, [], ◌∷◌, length, refl, sym, ap, subst, Ok}
+use Rattle.std.specs.Prelude.{ℤ}
 use Rattle.std.proofs.lemmas.Result.{err_from_is_err_and}
 use Rattle.crn_vec.specs.declared.signs.Sign.{Sign}
 use Rattle.crn_vec.specs.Visits.{root}
@@ -57,7 +58,8 @@ returns-in_err-next_node-clause-step g c =
     whole c.from_residual-in_err-next_node.result c.next_node.new.at now
     (step_exits _ _ c.from_residual-in_err-next_node.result _ _ _ _ _ (err_from_is_err_and c.from_residual-in_err-next_node.result c.from_residual-in_err-next_node.ensures.1)
     (due_stops at.version at.line table (problem_in net c.args.problem) tree.due e at before now h.some
-    (subst (λ (k : Problem). StopIs (asks_one at.version table (problem_in net k) (first tree.due) at.line) e at before now) h.problem c.in_err-next_node.ensures.step)))
+    (subst (λ (k : Problem). StopIs (asks_one at.version table (problem_in net k) (first tree.due) at.line) e at before now) h.problem
+    (subst (λ (t : List (List ℤ)). StopIs (asks_one at.version t (problem_in net tree.problem) (first tree.due) at.line) e at before now) c.in_ok-cuts.ensures.table c.in_err-next_node.ensures.step))))
 
 pub nodes-preserved : goal.nodes-preserved
 nodes-preserved g c =
@@ -83,7 +85,8 @@ nodes-preserved g c =
       passing = passes_on (problem_of net tree.problem) (problem_of net c.args.problem) tree.due after.due h.passing.0 (ap (problem_of net) h.problem) h.some h.passing.1 c.in_ok-next_node.ensures.taken;
       whole = λ result new now q. whole result new now
           (due_then at.version at.line table p tree.due after.due s.0 (λ t line. line ≡ new.line) result at mid new before between now h.some c.next_node.ensures.version c.in_ok-next_node.ensures.line s.1
-          (subst (λ (k : Problem). StepGives (asks_one at.version table (problem_in net k) (first tree.due) at.line) s.0 at.line mid.line at.lines mid.lines before.left between.left) h.problem s.2) s.3 q);
+          (subst (λ (k : Problem). StepGives (asks_one at.version table (problem_in net k) (first tree.due) at.line) s.0 at.line mid.line at.lines mid.lines before.left between.left) h.problem
+          (subst (λ (t : List (List ℤ)). StepGives (asks_one at.version t (problem_in net tree.problem) (first tree.due) at.line) s.0 at.line mid.line at.lines mid.lines before.left between.left) c.in_ok-cuts.ensures.table s.2)) s.3 q);
     }
 
 pub returns-in-Complete-clause-step : goal.returns-in-Complete-clause-step
@@ -103,7 +106,8 @@ returns-in-Complete-clause-step g c =
     let none : after.due ≡ [] = subst (λ (step : Step). Leaves step after.due) c.in-Complete.is c.in_ok-next_node.ensures.leaves in
     whole (Ok tt) mid between
     (due_then at.version at.line table p tree.due after.due s.0 (λ (t : Unit {0}) line. line ≡ mid.line) (Ok tt) at mid mid before between between h.some c.next_node.ensures.version c.in_ok-next_node.ensures.line s.1
-    (subst (λ (k : Problem). StepGives (asks_one at.version table (problem_in net k) (first tree.due) at.line) s.0 at.line mid.line at.lines mid.lines before.left between.left) h.problem s.2) s.3
+    (subst (λ (k : Problem). StepGives (asks_one at.version table (problem_in net k) (first tree.due) at.line) s.0 at.line mid.line at.lines mid.lines before.left between.left) h.problem
+    (subst (λ (t : List (List ℤ)). StepGives (asks_one at.version t (problem_in net tree.problem) (first tree.due) at.line) s.0 at.line mid.line at.lines mid.lines before.left between.left) c.in_ok-cuts.ensures.table s.2)) s.3
     (none_due mid.version table p after.due mid between none))
 
 pub returns-in-Complete-clause-shown : goal.returns-in-Complete-clause-shown
