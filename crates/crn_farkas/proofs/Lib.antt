@@ -8,7 +8,6 @@ mod Witnesses
 mod PartSums
 mod Counts
 mod Finals
-mod ColumnSums
 mod Levels
 mod Marks
 mod Witnessing

@@ -16,8 +16,10 @@ mod stands;
 mod sum;
 mod system;
 mod targets;
+mod tested;
 #[cfg(test)]
 mod tests;
+mod units;
 mod view;
 
 pub use alternative::Alternative;

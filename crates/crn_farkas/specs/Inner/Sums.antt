@@ -50,12 +50,7 @@ pub record AreZeros (count : ℕ) (v : List ℤ) : Type 0 where
   pub long : length v ≡ count
   pub zero : (k : ℕ) → entry v k ≡ pos 0
 
--- a vector (x, Ax) of which no entry exceeds so many times the bound of elementary vectors
-pub record IsSumOf (a : Mat) (count : ℕ) (v : List ℤ) : Type 0 where
-  pub space : InRowSpace a v
-  pub small : (k : ℕ) → unsigned_abs (entry v k) ≤ count * WIDE_ENTRY
-
--- what a basis shows: the columns of a sum are a solution, or a vector that it names rules the system out, or nothing
+-- what a basis shows: the columns of a list are a solution, or a vector that it names rules the system out, or nothing
 abbrev pub IsShown : Mat → List ℕ → List Kind → List ℤ → Shown → Type 0
 IsShown a basis kinds sum Solution = IsSmallSolution a kinds (take a.cols sum)
 IsShown a basis kinds sum (ShownCut cut) = IsCutBy a basis kinds cut.row cut.sign

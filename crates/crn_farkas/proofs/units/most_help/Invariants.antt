@@ -1,0 +1,7 @@
+use Rattle.std.proofs.Common.{◌≡◌, length}
+use Rattle.std.specs.Prelude.{IfSome}
+use Rattle.crn_vec.specs.Lists.{IsIn}
+use Rattle.crn_farkas.proofs.units.most_help.Given as goal
+
+abbrev pub invariant-loop-k : goal.invariant-loop-k
+invariant-loop-k l = IfSome l.at (λ b. IsIn b l.tableau.basis)
