@@ -1,12 +1,13 @@
 -- The places of lines that are remembered, and the loop over the lines with them.
-use Rattle.std.proofs.Common.{◌≡◌, ℕ, zero, suc, ◌+◌, ◌-◌, ◌<◌, ◌≤◌, List, [], ◌∷◌, ◌++◌, length, take, drop, get_or, set, Option, Some, None, Ok, Bor, sym, ap, subst, ◌∙◌, append_assoc, inl, inr, arith}
+use Rattle.std.proofs.Common.{◌≡◌, ℕ, zero, suc, ◌+◌, ◌-◌, ◌<◌, ◌≤◌, List, [], ◌∷◌, ◌++◌, length, take, drop, get_or, set, Option, Some, None, Ok, Bor, sym, ap, subst, ◌∙◌, append_assoc, inl, inr, arith, true, false, Bool, not, ◌==◌, if◌then◌else◌, take_while, refl}
 use Rattle.std.specs.List.{AllByRecursion}
 use Rattle.std.proofs.lemmas.List.{length-append, length-take, get_or-take, take_more}
 use Rattle.std.proofs.Math.Seq.{drop-append_seam, take-append_seam}
 use Rattle.crn_vec.specs.Lists.{IsIn}
 use Rattle.crn_vec.specs.Network.{Net}
 use Rattle.crn_vec.proofs.CallerLemmas.{in_left, in_right, in_at, all_from}
-use Rattle.crn_text.specs.Tokens.{lines}
+use Rattle.std.proofs.lemmas.Bool.{eqb-true}
+use Rattle.crn_text.specs.Tokens.{lines, before_comment}
 use Rattle.crn_text.specs.Sides.{all_statements}
 use Rattle.crn_text.specs.Faults.{own_fault}
 use Rattle.crn_text.specs.Inner.Known.{line_at, AreKnown, AreSound}
@@ -91,3 +92,21 @@ reads_more text line number rest next old new done ps qs h split g known =
       follows = follows_on text line rest next h.follows split;
       known = subst (λ (read : List (List ℕ)). AreKnown text read qs) (sym more) known;
     }
+
+-- ---- a line that begins with a comment
+
+body_first : (test : Bool) (n : ℕ) (bs : List ℕ) → 1 ≤ n → take_while (λ b. not (b == 35)) (if test then take n (35 ∷ bs) else (35 ∷ bs)) ≡ []
+body_first true zero bs some = absurd (omega (arith, some))
+body_first true (suc n) bs some = refl
+body_first false n bs some = refl
+
+comment_body : (bs : List ℕ) → before_comment (35 ∷ bs) ≡ []
+comment_body [] = refl
+comment_body (c ∷ cs) =
+    let line : List ℕ = 35 ∷ c ∷ cs in
+    body_first (get_or line (length line - 1) 0 == 13) (length line - 1) (c ∷ cs) (omega arith)
+
+-- it has no body
+pub no_body : (line : List ℕ) → (get_or line 0 0 == 35) ≡ true → length (before_comment line) ≡ 0
+no_body [] h = refl
+no_body (b ∷ bs) h = let e : b ≡ 35 = eqb-true b 35 h in ap length (ap (λ (c : ℕ). before_comment (c ∷ bs)) e ∙ comment_body bs)

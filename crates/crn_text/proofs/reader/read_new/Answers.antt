@@ -1,12 +1,18 @@
-use Rattle.std.proofs.Common.{◌≡◌, ℕ, List, [], None, Ok, refl, sym, subst, inl, inr}
+use Rattle.std.proofs.Common.{◌≡◌, ℕ, List, [], None, Ok, refl, sym, subst, inl, inr, ◌∙◌}
 use Rattle.crn_vec.proofs.CallerLemmas.{all_in}
 use Rattle.crn_text.specs.Sides.{all_statements}
 use Rattle.crn_text.specs.Faults.{own_fault}
 use Rattle.crn_text.specs.Inner.Pieces.{LineGives}
 use Rattle.crn_text.proofs.LinesRead.{empty_gives}
 use Rattle.crn_text.proofs.Repeats.{line_stays}
-use Rattle.crn_text.proofs.Remembered.{all_known_more}
+use Rattle.crn_text.proofs.Remembered.{all_known_more, no_body}
 use Rattle.crn_text.proofs.reader.read_new.Goals as goal
+
+pub returns-then-begins_comment-clause-gives : goal.returns-then-begins_comment-clause-gives
+returns-then-begins_comment-clause-gives c = λ read grown known sound. empty_gives (all_statements read) c.args.line.now tt c.args.builder.now (no_body c.args.line.now (sym c.begins_comment.ensures ∙ c.if-begins_comment.true)) grown
+
+pub returns-then-begins_comment-clause-keeps : goal.returns-then-begins_comment-clause-keeps
+returns-then-begins_comment-clause-keeps c = λ read known. all_known_more c.args.text.now read c.args.line.now c.args.known.now.places known
 
 pub returns-then-has-clause-gives : goal.returns-then-has-clause-gives
 returns-then-has-clause-gives c = λ read grown known sound.
