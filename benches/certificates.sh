@@ -17,7 +17,7 @@ import sys
 
 sys.path.insert(0, "benches")
 import texts
-from measure import ASKED, answer, differ, instructions, least_seconds, megabytes, put_heads, put_row, ratio, same, source_of, told
+from measure import ASKED, answer, differ, instructions, least_seconds, megabytes, put_heads, put_row, ratio, same, source_of, machine
 
 program, yardstick, runs, word = sys.argv[1], sys.argv[2], int(sys.argv[3]), sys.argv[4]
 
@@ -64,7 +64,7 @@ if yardstick and not word:
         statuses.append(agree(f"damaged certificate {number}", document, answers, is_same=lambda x, y: x == y))
     print(f"{len(statuses)} damaged ones have the same answer from both, {statuses.count(3)} of them a rejection\n")
 
-print(f"questions {ASKED}, {runs} runs each, {told()}\n")
+print(f"questions {ASKED}, {runs} runs each, {machine()}\n")
 
 
 def measured(name, command, inputs, piped=False):
@@ -83,7 +83,7 @@ def measured(name, command, inputs, piped=False):
     row += [f"{calls[1]:,.0f}", ratio(*reversed(calls))] if yardstick else []
     row += ["?" if count is None else f"{count / len(inputs) / 1000:,.0f}" for count in counts]
     row += [ratio(*counts)] if yardstick else []
-    put_row(row + [max(known, key=lambda told: float(told) if told != "?" else 0.0) for known in memory])
+    put_row(row + [max(known, key=lambda shown: float(shown) if shown != "?" else 0.0) for known in memory])
 
 
 heads = ["input", "command", "bytes", "calls a second"] + (["yardstick", "ratio"] if yardstick else [])

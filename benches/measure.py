@@ -20,7 +20,7 @@ CHOICES = (b"  reaction ", b"  independent reactions: ", b"  positive combinatio
            b"  alpha: ", b"  turn: ", b"  shelves: ", b"  mu: ", b"  m: ")
 
 
-def told():
+def machine():
     return f"on {platform.machine()}, {os.cpu_count()} processors, {platform.system()} {platform.release()}"
 
 

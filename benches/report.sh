@@ -15,7 +15,7 @@ import sys
 
 sys.path.insert(0, "benches")
 import texts
-from measure import ASKED, answer, differ, instructions, least_seconds, megabytes, put_heads, put_row, ratio, same, source_of, told
+from measure import ASKED, answer, differ, instructions, least_seconds, megabytes, put_heads, put_row, ratio, same, source_of, machine
 
 program, yardstick, runs, word, counts = sys.argv[1], sys.argv[2], int(sys.argv[3]), sys.argv[4], sys.argv[5]
 commands = [[program, "report"]] + ([[yardstick, "report", ASKED]] if yardstick else [])
@@ -33,7 +33,7 @@ if yardstick and not word:
     statuses += [agree(f"random network {seed}", texts.random_network(seed).encode()) for seed in range(300)]
     print(f"{len(statuses)} random texts have the same answer from both, {len(statuses) - statuses.count(2)} of them a report\n")
 
-print(f"questions {ASKED}, {runs} runs each, {told()}\n")
+print(f"questions {ASKED}, {runs} runs each, {machine()}\n")
 heads = ["text", "bytes", "status", "least time, ms", "most memory, MB"]
 if yardstick:
     heads += ["yardstick, ms", "ratio", "yardstick, MB"]

@@ -20,7 +20,7 @@ import sys
 
 sys.path.insert(0, "benches")
 import texts
-from measure import ASKED, answer, differ, instructions, instructions_and_calls, least_seconds, megabytes, put_heads, put_row, ratio, same, source_of, told
+from measure import ASKED, answer, differ, instructions, instructions_and_calls, least_seconds, megabytes, put_heads, put_row, ratio, same, source_of, machine
 
 program, yardstick, runs, word = sys.argv[1], sys.argv[2], int(sys.argv[3]), sys.argv[4]
 BUDGET = ["--budget", "100000"]
@@ -72,7 +72,7 @@ def measured(name, command, text, visits, piped=False):
     put_row(row + memory)
 
 
-print(f"questions {ASKED}, budget 100,000, {runs} runs each, {told()}\n")
+print(f"questions {ASKED}, budget 100,000, {runs} runs each, {machine()}\n")
 pair = ["yardstick", "ratio"]
 heads = ["network", "command", "bytes", "visits", "least time, s", *pair, "million instructions", *pair, "most memory, MB"]
 put_heads(heads + pair[:1], words=2)

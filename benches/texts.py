@@ -8,7 +8,7 @@ MAX_TEXT = 2_097_152
 
 
 def repeated(line, head=""):
-    """The line over and over, behind the head, up to the limit."""
+    """The line over and over, after the head, up to the limit."""
     return head + line * ((MAX_TEXT - len(head)) // len(line))
 
 
@@ -21,8 +21,8 @@ def near_limits():
 
 def last_place():
     """Complexes that agree in 39 species, and the last reaction over and over up to the limit."""
-    front = "+".join(f"S{i}" for i in range(1, 40))
-    lines = [f"{front}+{n}S40->{front}+{n + 1}S40\n" for n in range(1, 99)]
+    prefix = "+".join(f"S{i}" for i in range(1, 40))
+    lines = [f"{prefix}+{n}S40->{prefix}+{n + 1}S40\n" for n in range(1, 99)]
     return repeated(lines[-1], "".join(lines))
 
 

@@ -5,7 +5,7 @@ The documents: their links lead somewhere, the definitions and contracts that th
 show are stored reports, README explains each line of the one that it shows first, what they count is as many as they
 say, and they cite nothing that is not in the repository. The definitions pages name every
 definition that a public contract reaches. The crates: what one may cite of another, the lines of clauses, and who may
-stand on whom (`structure.py`)."""
+depend on whom (`structure.py`)."""
 
 import re
 import sys

@@ -135,7 +135,7 @@ open: 0
 | certificate | `crn_part_check` | checks |
 | solver | `crn_tab` | solves |
 
-| crate | stands on | of the toolchain |
+| crate | depends on | of the toolchain |
 |---|---|---|
 | `crn_low` | | |
 | `crn_cert` | `crn_low` | |
@@ -208,9 +208,9 @@ BREAKS = [
     ("a line within a clause is too long", SOURCE,
      "ensures next { ", f"ensures next {{\n{' ' * 100}", "clauses"),
     ("a ghost member is too long", SOURCE, "{ Self → ℕ }", f"{{ Self →{' ' * 100}ℕ }}", "clauses"),
-    ("a checker stands on a solver", "crates.txt",
+    ("a checker depends on a solver", "crates.txt",
      "crn_cert: crn_low", "crn_cert: crn_low crn_tab", "solver"),
-    ("a part's checker stands on one by way of another", "crates.txt",
+    ("a part's checker depends on one by way of another", "crates.txt",
      "crn_low:\n", "crn_low: crn_tab\n", "solver"),
     ("a solver hides in another group", "crates.txt",
      "# solver: solvers\n", "crn_cert: crn_tab\n# ground: more\n", "solver"),

@@ -133,7 +133,7 @@ Q15 strongly concordant: open, budget 1
 open: 11
 """
 
-# the number of a line, what stands there instead or nothing, and the code and the line of the fault
+# the number of a line, what is there instead or nothing, and the code and the line of the fault
 EDITS = [
     (3, "A  -> B", 22, 4), (5, "foo", 23, 5), (5, None, 26, 5), (6, "label 1 01", 24, 6), (7, "up 0 0", 31, 8),
     (9, "q2 1 2", 24, 9), (16, "exit 1", 31, 16), (18, "back 1 1", 32, 18), (19, "q4 no 1", 37, 19),
@@ -229,7 +229,7 @@ OPENED_OTHERS = [
 ]
 
 
-# the number of a line of the second version, what stands there instead or nothing, the code and its line
+# the number of a line of the second version, what is there instead or nothing, the code and its line
 SECOND_EDITS = [
     (5, None, 26, 5), (9, "section rank", 24, 9), (9, "section", 24, 9), (25, "section dependence", 24, 25), (6, "vector", 24, 6),
     (34, "section theorems", 24, 34), (39, "section theorem", 24, 39), (42, "section theorems", 24, 42),

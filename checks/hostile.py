@@ -77,8 +77,8 @@ def is_read_fault(_, seen, __):
 def is_write_fault_after(most):
     """A proper prefix of what was to be written, no longer than the calls before took: nothing is written after the fault."""
     def may_be(at, seen, wanted):
-        status, out, told = seen
-        return status == WRITE_FAULT and told == b"" and wanted[1].startswith(out) and len(out) < len(wanted[1]) \
+        status, out, err = seen
+        return status == WRITE_FAULT and err == b"" and wanted[1].startswith(out) and len(out) < len(wanted[1]) \
             and (most is None or len(out) <= most * (at - 1))
     return may_be
 

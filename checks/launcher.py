@@ -38,7 +38,7 @@ if [ "$STATUS" = number ]; then echo $$; exit; fi
 exit "${STATUS:-3}"
 """
 
-# what must not run: a program beside a copied launcher, or one in the folder where somebody stands
+# what must not run: a program beside a copied launcher, or one in the folder where somebody is
 DECOY = """#!/bin/sh
 echo decoy
 """
@@ -139,10 +139,10 @@ QUIET = (3, b"text", "", [])
 
 
 def builds(repository, folder):
-    status, out, told, calls = repository.run(["report"])
+    status, out, err, calls = repository.run(["report"])
     yield "builds a program that is missing, the lowest crate first", calls == BUILD, calls
-    yield "says how many crates are proved", "3 crates are proved once" in told, told
-    yield "says which crate is being proved", "crnt: proving middle (2 of 3)" in told and "what rt says" not in told, told
+    yield "says how many crates are proved", "3 crates are proved once" in err, err
+    yield "says which crate is being proved", "crnt: proving middle (2 of 3)" in err and "what rt says" not in err, err
     yield "hands on streams and status", (status, out) == (3, b"text"), (status, out)
 
     seen = repository.run(["report"])
@@ -162,8 +162,8 @@ def builds(repository, folder):
 def builds_again(repository):
     repository.age()
     repository.source("middle").write_text("changed")
-    _, _, told, calls = repository.run(["report"])
-    yield "builds where a source is newer", calls == BUILD and "has changed" in told, (calls, told)
+    _, _, err, calls = repository.run(["report"])
+    yield "builds where a source is newer", calls == BUILD and "has changed" in err, (calls, err)
     repository.age()
     repository.source("aside").unlink()
     _, _, _, calls = repository.run(["report"])
@@ -196,14 +196,14 @@ def doubts(repository, folder):
     yield "builds where find fails", (status, out, calls) == (3, b"text", BUILD), (status, out, calls)
     seen = repository.run(["report"], PATH=failing("ls"))
     yield "asks the toolchain where ls fails", seen == (3, b"text", "", ["version"]), seen
-    status, out, told, calls = repository.run(["report"], launcher=folder / "link", PATH=failing("readlink"))
-    yield "ends with 70 where readlink fails on a link", (status, out, calls) == (70, b"", []), (status, out, told, calls)
+    status, out, err, calls = repository.run(["report"], launcher=folder / "link", PATH=failing("readlink"))
+    yield "ends with 70 where readlink fails on a link", (status, out, calls) == (70, b"", []), (status, out, err, calls)
     seen = repository.run(["report"], PATH=failing("readlink"))
     yield "needs no readlink where there is no link", seen == QUIET, seen
     for tool in ["ls", "awk", "mktemp", "touch"]:
         repository.source("low").write_text(f"changed before {tool} fails")
-        status, out, told, calls = repository.run(["report"], PATH=failing(tool))
-        yield f"ends with 70 where {tool} fails at a build", (status, out) == (70, b""), (status, out, told, calls)
+        status, out, err, calls = repository.run(["report"], PATH=failing(tool))
+        yield f"ends with 70 where {tool} fails at a build", (status, out) == (70, b""), (status, out, err, calls)
         status, _, _, calls = repository.run(["report"])
         yield f"builds after {tool} failed", (status, calls) == (3, BUILD), (status, calls)
 
@@ -218,7 +218,7 @@ def doubts(repository, folder):
     seen = repository.run(["report"], where=elsewhere, PATH=str(bare))
     yield "knows its folder without dirname, and runs without a toolchain what is up to date", seen == QUIET, seen
     (bare / "find").unlink()
-    status, out, told, calls = repository.run(["report"], PATH=str(bare))
+    status, out, err, calls = repository.run(["report"], PATH=str(bare))
     yield "ends with 70 where there is no find and no toolchain", (status, out, calls) == (70, b"", []), (status, out, calls)
 
 
@@ -230,9 +230,9 @@ def toolchains(repository, folder):
     seen = repository.run(["report"])
     yield "asks it once", seen == QUIET, seen
     put_script(rt, RT)
-    _, _, told, calls = repository.run(["report"], VERSION="2")
+    _, _, err, calls = repository.run(["report"], VERSION="2")
     yield "builds where the toolchain has changed", calls == ["version", *BUILD], calls
-    yield "says that the toolchain has changed", "the toolchain has changed" in told, told
+    yield "says that the toolchain has changed", "the toolchain has changed" in err, err
     seen = repository.run(["report"], VERSION="2")
     yield "runs what the new toolchain built", seen == QUIET, seen
     repository.environment["VERSION"] = "2"
@@ -240,8 +240,8 @@ def toolchains(repository, folder):
     other = folder / "other tools"
     other.mkdir()
     put_script(other / "rt", "#!/bin/sh\nexit 1\n")
-    status, out, told, _ = repository.run(["report"], PATH=f"{other}:{repository.path}")
-    yield "ends with 70 where another toolchain says no version", (status, out) == (70, b""), (status, out, told)
+    status, out, err, _ = repository.run(["report"], PATH=f"{other}:{repository.path}")
+    yield "ends with 70 where another toolchain says no version", (status, out) == (70, b""), (status, out, err)
     status, _, _, calls = repository.run(["report"])
     yield "builds with the first toolchain again", (status, calls) == (3, BUILD), (status, calls)
 
@@ -251,9 +251,9 @@ def copies(repository, folder):
     (copy.parent / "crates" / "crnt" / "out").mkdir(parents=True)
     put_script(copy.parent / "crates" / "crnt" / "out" / "crnt", DECOY)
     shutil.copy(repository.root / "crnt", copy)
-    status, out, told, calls = repository.run(["report"], launcher=copy)
+    status, out, err, calls = repository.run(["report"], launcher=copy)
     yield "ends with 70 where it was copied", (status, out, calls) == (70, b"", []), (status, out, calls)
-    yield "says that it is a copy, and how to make a link", "is a copy" in told and "ln -s" in told, told
+    yield "says that it is a copy, and how to make a link", "is a copy" in err and "ln -s" in err, err
 
 
 def terminals(repository):
@@ -303,8 +303,8 @@ def searches(repository):
     [default] = re.findall(r"DEFAULT_BUDGET: u32 = ([\d_]+);", LIMITS.read_text("utf-8"))
     for words, budget in [(["report"], default.replace("_", "")), (["certify", "--budget", "7"], "7"), (["--budget=30", "report"], "30")]:
         status, out, shown = repository.run_on_a_terminal(words, STATUS="slow")
-        told = f"crnt: still at work; each search makes at most {budget} visits (another number: --budget N)\n"
-        yield f"says at a terminal that a search goes on: {words}", (status, out, shown) == (0, b"", told), shown
+        err = f"crnt: still at work; each search makes at most {budget} visits (another number: --budget N)\n"
+        yield f"says at a terminal that a search goes on: {words}", (status, out, shown) == (0, b"", err), shown
     for words in [["check"], ["report", "file"]]:
         _, _, shown = repository.run_on_a_terminal(words, STATUS="slow")
         yield f"says of no budget where there is none: {words}", "still at work" not in shown, shown
@@ -321,9 +321,9 @@ def failures(repository, folder):
     repository.source("low").write_text("changed")
     broken = repository.root / "crates" / "middle" / "broken"
     broken.write_text("")
-    status, out, told, calls = repository.run(["report"])
+    status, out, err, calls = repository.run(["report"])
     yield "ends with 70 where a crate is not proved", (status, out, calls) == (70, b"", BUILD[:3]), (status, out, calls)
-    yield "shows the log of what failed", "middle was not proved" in told and "what rt says" in told, told
+    yield "shows the log of what failed", "middle was not proved" in err and "what rt says" in err, err
     broken.unlink()
     status, _, _, calls = repository.run(["report"])
     yield "tries again after a failure", (status, calls) == (3, BUILD), (status, calls)
@@ -331,12 +331,12 @@ def failures(repository, folder):
     shutil.rmtree(repository.root / "crates" / "crnt" / "out")
     bare = folder / "bare"
     bare.mkdir()
-    status, out, told, _ = repository.run(["report"], PATH=str(bare))
+    status, out, err, _ = repository.run(["report"], PATH=str(bare))
     yield "ends with 70 where there is no program and no toolchain", \
-        (status, out) == (70, b"") and "rt is not on the path" in told, (status, told)
+        (status, out) == (70, b"") and "rt is not on the path" in err, (status, err)
     (repository.root / "crates.txt").write_text("low:\n")
-    status, out, told, calls = repository.run(["report"])
-    yield "ends with 70 where crates.txt has no crnt", (status, out, calls) == (70, b"", []), (status, told, calls)
+    status, out, err, calls = repository.run(["report"])
+    yield "ends with 70 where crates.txt has no crnt", (status, out, calls) == (70, b"", []), (status, err, calls)
 
 
 def main():

@@ -1,4 +1,4 @@
-// Stands before the C library for checks/hostile.py: refuses one request for memory, lets one read of standard input or one
+// Comes before the C library for checks/hostile.py: refuses one request for memory, lets one read of standard input or one
 // write of standard output fail, and bounds how many bytes a read gives and a write takes. The environment says which:
 //
 //     REFUSE_MEMORY=N   the Nth request for memory, from 1

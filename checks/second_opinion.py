@@ -1223,7 +1223,7 @@ def check_confluence(at, net, known):
 
 
 def check_tree(at, problem):
-    """The nodes of a tree that leaves no full prefix standing, each tested at its line."""
+    """The nodes of a tree that leaves no full prefix feasible, each tested at its line."""
     due = [[]]
     species = len(problem.b.rows)
     forms = [(["split"], none), (["flat"], none), (["cuta"], free(len(problem.a.rows), len(problem.a.rows))),
@@ -1323,7 +1323,7 @@ SECTIONS = {1: "graph", 5: "rank", 7: "dependence", 9: "theorems", 11: "confluen
 
 
 def tree_lines(problem):
-    """The nodes of a tree that leaves no full prefix standing. It is there if the search finds none."""
+    """The nodes of a tree that leaves no full prefix feasible. It is there if the search finds none."""
     due, lines = [[]], []
     while due:
         prefix = due.pop()

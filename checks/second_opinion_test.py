@@ -159,7 +159,7 @@ def own_certificates():
 
 
 def tree_of(problem, prefix=()):
-    """The nodes of a tree that leaves no full prefix standing, with multipliers found here. The problem has small numbers."""
+    """The nodes of a tree that leaves no full prefix feasible, with multipliers found here. The problem has small numbers."""
     prefix = list(prefix)
     if problem.closed(prefix):
         return ["flat"]
@@ -175,7 +175,7 @@ EDELSTEIN = "A <-> 2A\nA + B <-> C\nC <-> B\n"
 
 
 def of_other_networks():
-    """The blocks of questions 11 to 15 for Edelstein's network and others, by hand, behind those that any proof has."""
+    """The blocks of questions 11 to 15 for Edelstein's network and others, by hand, after those that any proof has."""
     for name, text, first, blocks, wanted in [
         ("Edelstein's signal", EDELSTEIN, 13, ["q13 yes -1", "shelves 1 -1", "mu 6 -2 2", "m 5", "weights 1 0 0 0 0 1"], 0),
         ("Edelstein's signal, m 6", EDELSTEIN, 13, ["q13 yes -1", "shelves 1 -1", "mu 6 -2 2", "m 6", "weights 1 0 0 0 0 1"], 45),
@@ -236,10 +236,10 @@ def random_texts(count):
 
 
 def patterns(problem):
-    """The full prefixes that stand, each tried by itself, with nothing kept from one to the next."""
+    """The full feasible prefixes, each tried by itself, with nothing kept from one to the next."""
     for prefix in itertools.product((0, 1, -1), repeat=problem.length):
         problem.a.solutions, problem.a.cuts, problem.b.solutions, problem.b.cuts = [], [], [], []
-        if second_search.standing(problem, list(prefix)):
+        if second_search.feasible(problem, list(prefix)):
             yield prefix
 
 

@@ -286,7 +286,7 @@ def children(prefix):
     return [[*prefix, option] for option in ((0, 1, -1) if any(prefix) else (0, 1))]
 
 
-def standing(problem, prefix):
+def feasible(problem, prefix):
     """Solutions of both parts, or None."""
     if problem.closed(prefix):
         return None
@@ -303,7 +303,7 @@ def search(problem, budget):
         prefix, visits = due.pop(), visits + 1
         if visits > budget:
             return "spent", visits, None
-        found = standing(problem, prefix)
+        found = feasible(problem, prefix)
         if found and len(prefix) == problem.length:
             return "found", visits, (prefix, *found)
         if found:

@@ -22,13 +22,13 @@ GROUP = re.compile(r"# (\w+)(?:: .*)?$")
 
 @dataclass
 class Crates:
-    """The crates in their order: each one's group, and the crates that it stands on."""
+    """The crates in their order: each one's group, and the crates that it depends on."""
 
     groups: dict[str, list[str]] = field(default_factory=dict)
     needs: dict[str, list[str]] = field(default_factory=dict)
 
     def reached(self, crate):
-        """The crates of the repository that this one stands on, directly or not."""
+        """The crates of the repository that this one depends on, directly or not."""
         seen, todo = set(), [crate]
         while todo:
             for need in self.needs[todo.pop()]:
@@ -183,7 +183,7 @@ class Repository:
 
     @cache
     def rust_imports(self, file):
-        """The items that a source file imports by `use`, each with where it stands, and whether the import is `pub`."""
+        """The items that a source file imports by `use`, each with where it is, and whether the import is `pub`."""
         found = {}
         crate, module = file.split("/")[0], module_of(file)
         for is_public, path, names in RUST_IMPORT.findall(self.plain(file)):
@@ -301,7 +301,7 @@ class Repository:
     # public contracts
 
     def public_clauses(self, crate):
-        """The clauses of public functions, traits, views and invariants: where each stands, and its text."""
+        """The clauses of public functions, traits, views and invariants: where each is, and its text."""
         public = self.public_items(crate)
         for file in self.files(crate, "src", ".rt"):
             exported = {target.name for target in public.values() if target.file == file}

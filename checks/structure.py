@@ -1,5 +1,5 @@
 """Rules on the crates themselves: which definitions readers have to know, what a crate may cite of another one, how
-long the lines of a clause are, and which crates may stand on which."""
+long the lines of a clause are, and which crates may depend on which."""
 
 import re
 
@@ -9,7 +9,7 @@ LONGEST_CLAUSE_LINE = 100
 INNER = "-- For the contracts of private functions alone."
 CITED = re.compile(r"\bRattle\.(\w+)\.(specs|proofs)\.([\w.]+)")
 
-# Whatever group `crates.txt` puts them in, these may never stand on those.
+# Whatever group `crates.txt` puts them in, these may never depend on those.
 CHECKERS = {"crn_cert", "crn_ctext", "crn_check", "crn_ctree"}
 SOLVERS = {
     "crn_tab",
@@ -71,14 +71,14 @@ def public_definitions_are_on_the_pages(repository, pages):
 
 
 def helpers_are_in_their_files(repository, pages):
-    """Each helper that a row lists stands in a file that the row names."""
+    """Each helper that a row lists is in a file that the row names."""
     for page in pages:
         for row in rows(page):
             files = [file for file, _ in PLACE.findall(row)]
             for names in HELPERS.findall(row):
                 for name in QUOTED.findall(names):
                     there = any(repository.is_there(Definition(file, name)) for file in files)
-                    yield f"the helper {name} stands in a file of its row ({row[:40]!r})", there
+                    yield f"the helper {name} is in a file of its row ({row[:40]!r})", there
 
 
 def citations_are_true(repository, pages):
@@ -187,7 +187,7 @@ def checkers_stand_on_no_solver(repository):
     checkers |= {crate for crate in crates.needs if crate.endswith("_check")}
     for crate in sorted(checkers):
         for below in sorted(crates.reached(crate)):
-            yield f"{crate} stands on no crate of the solver ({below})", below not in solvers
+            yield f"{crate} depends on no crate of the solver ({below})", below not in solvers
 
 
 def groups_of(document, names):
@@ -211,19 +211,19 @@ def groups_agree(repository, documents):
 
 
 def ported_crates_are_named(repository, readme):
-    """README says of each crate of the toolchain that the repository stands on it."""
+    """README says of each crate of the toolchain that the repository depends on it."""
     for name in sorted({need for needs in repository.crates.needs.values() for need in needs}):
         if name not in repository.crates.needs:
             yield f"README names {name}, on which it rests", f"`{name}`" in readme
 
 
 def crates_below_agree(repository, document):
-    """The table of who stands on whom says what `crates.txt` says."""
+    """The table of who depends on whom says what `crates.txt` says."""
     found = {}
     for line in document.splitlines():
         cells = [cell.strip() for cell in line.strip().strip("|").split("|")]
         if len(cells) == 3 and re.fullmatch(r"`(?:crnt|crn_\w+)`", cells[0]):
             found[cells[0].strip("`")] = sorted(re.findall(r"`(\w+)`", cells[1] + cells[2]))
     for crate, needs in repository.crates.needs.items():
-        claim = f"ARCHITECTURE says that {crate} stands on {', '.join(needs) or 'nothing'}"
+        claim = f"ARCHITECTURE says that {crate} depends on {', '.join(needs) or 'nothing'}"
         yield claim, found.get(crate) == sorted(needs)

@@ -170,7 +170,7 @@ impl<'d, 'n, S: Read> Checker<'d, 'n, S> {
         self.document.tested()
     }
 
-    /// What an open head says behind its word, where this is open.
+    /// What an open head says after its word, where this is open.
     pub fn gap(fields: &mut Fields, may: &May) -> Option<Gap> {
         if !fields.word("open") {
             return None;

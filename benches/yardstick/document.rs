@@ -87,7 +87,7 @@ pub enum Stop {
 
 pub type Checked<T> = Result<T, Stop>;
 
-/// The fields of a record behind its word. A field that is wrong stays so.
+/// The fields of a record after its word. A field that is wrong stays so.
 pub struct Fields<'l> {
     pub rest: &'l [u8],
     pub is_bad: bool,
@@ -99,7 +99,7 @@ impl Fields<'_> {
         Fields { rest, is_bad: false, is_wide: false }
     }
 
-    /// Takes a word, if it stands here.
+    /// Takes a word, if it is here.
     pub fn word(&mut self, word: &str) -> bool {
         let rest = self.rest.strip_prefix(b" ").and_then(|rest| rest.strip_prefix(word.as_bytes()));
         match rest {

@@ -36,7 +36,7 @@ pub enum Positive {
     No(Vec<i128>),
 }
 
-/// Each row says `den * y = n1 * x1 + .. + nk * xk`, with a positive `den`. The basis is what stands on the right. Coordinates count from 0, the columns of the matrix first and then its rows.
+/// Each row says `den * y = n1 * x1 + .. + nk * xk`, with a positive `den`. The basis is what is on the right. Coordinates count from 0, the columns of the matrix first and then its rows.
 pub struct Dictionary {
     pub columns: usize,
     pub width: usize,
@@ -233,7 +233,7 @@ impl Dictionary {
 }
 
 /// The dictionary of some reactions' vectors as columns, with species as rows, after as many columns as possible have
-/// left the basis: these are a base of the vectors, and rows that still stand for species have zeros at all columns.
+/// left the basis: these are a base of the vectors, and rows that are still of species have zeros at all columns.
 pub fn eliminated(net: &Net, members: &[u32]) -> Result<Dictionary, Wide> {
     let (columns, species) = (members.len(), net.species.len());
     let mut made = Dictionary::new(columns, (0..columns as u32).collect(), species);

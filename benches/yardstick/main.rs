@@ -41,9 +41,9 @@ const USAGE: &str = "usage: crnt report | certify | check | sample K, with --bud
 const BUDGET: u32 = 20_000;
 
 /// What is written, and the status.
-type Told = (Vec<u8>, u8);
+type Ended = (Vec<u8>, u8);
 
-fn told(words: &str, code: u32, name: &str, line: u32, status: u8) -> Told {
+fn fault_line(words: &str, code: u32, name: &str, line: u32, status: u8) -> Ended {
     (format!("{words} {code} {name} at line {line}\n").into_bytes(), status)
 }
 
@@ -55,14 +55,14 @@ enum Form {
     Work,
 }
 
-fn read_and_solve(form: Form, asked: Asked, budget: u32) -> io::Result<Told> {
+fn read_and_solve(form: Form, asked: Asked, budget: u32) -> io::Result<Ended> {
     let mut text = Vec::new();
     io::stdin().lock().take(text::MAX_TEXT as u64 + 1).read_to_end(&mut text)?;
     let net = match text::read(&text) {
         Ok(net) => net,
         Err((code, line)) => {
-            let (number, name) = code.told();
-            return Ok(told("refused", number, name, line, 2));
+            let (number, name) = code.number_and_name();
+            return Ok(fault_line("refused", number, name, line, 2));
         }
     };
     let shows = form == Form::Certificate;
@@ -79,12 +79,12 @@ fn read_and_solve(form: Form, asked: Asked, budget: u32) -> io::Result<Told> {
     Ok((out, u8::from(verdicts.open() > 0)))
 }
 
-fn check(asked: Asked) -> io::Result<Told> {
+fn check(asked: Asked) -> io::Result<Ended> {
     match check::check(io::stdin().lock(), asked) {
         Err(document::Stop::Failed(error)) => Err(error),
         Err(document::Stop::Rejected(code, line)) => {
             let name = document::CODES.iter().find(|(number, _)| *number == code).unwrap().1;
-            Ok(told("rejected", code, name, line, 3))
+            Ok(fault_line("rejected", code, name, line, 3))
         }
         Ok((net, verdicts)) => {
             let mut out = Vec::with_capacity(4096);
@@ -95,7 +95,7 @@ fn check(asked: Asked) -> io::Result<Told> {
 }
 
 /// What the words ask for, or nothing where they are no call.
-fn answer(words: &[String]) -> Option<io::Result<Told>> {
+fn answer(words: &[String]) -> Option<io::Result<Ended>> {
     let (command, rest) = words.split_first()?;
     let (budget, rest) = match rest {
         [option, number, rest @ ..] if option == "--budget" => (Some(number.parse().ok()?), rest),

@@ -77,7 +77,7 @@ pub struct Net {
     pub complexes: Vec<Row>,
     /// Reactant and product.
     pub reactions: Vec<(u32, u32)>,
-    /// The complexes as they are written, one behind the other, and where each ends.
+    /// The complexes as they are written, one after the other, and where each ends.
     sides: Vec<u8>,
     ends: Vec<u32>,
 }

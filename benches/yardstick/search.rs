@@ -1,4 +1,4 @@
-//! The search for a full prefix of signs that stands, and the tree that shows that there is none.
+//! The search for a full feasible prefix of signs, and the tree that shows that there is none.
 
 use crate::net::Net;
 use crate::signs::{Kinds, Mask, Signs};
@@ -161,7 +161,7 @@ impl<'s, P: Problem<W>, const W: usize> Search<'s, P, W> {
         work
     }
 
-    /// What is at the prefix: a split where it stands.
+    /// What is at the prefix: a split where it is feasible.
     fn look(&mut self, prefix: &[i8]) -> Result<Node, WideIn> {
         let level = prefix.len();
         let more = self.problem.gained_b(prefix);
@@ -179,10 +179,10 @@ impl<'s, P: Problem<W>, const W: usize> Search<'s, P, W> {
         if let Some(cut) = self.a.known_cut(level) {
             return Ok(Node::cut(cut, false));
         }
-        if by_b && let Some(cut) = self.b.stands(level).map_err(|wide| wide_in(false, wide))? {
+        if by_b && let Some(cut) = self.b.feasible(level).map_err(|wide| wide_in(false, wide))? {
             return Ok(Node::cut(cut, true));
         }
-        if by_a && let Some(cut) = self.a.stands(level).map_err(|wide| wide_in(true, wide))? {
+        if by_a && let Some(cut) = self.a.feasible(level).map_err(|wide| wide_in(true, wide))? {
             return Ok(Node::cut(cut, false));
         }
         Ok(Node::SPLIT)

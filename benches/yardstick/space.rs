@@ -108,7 +108,7 @@ impl<'b, const W: usize> Part<'b, W> {
 
     /// Whether the prefix of this level has a solution, where no known cut excludes it: or a new cut. The one before it
     /// has one, which is changed to fit: first it is made zero, then positive or negative, where this level asks for it.
-    pub fn stands(&mut self, level: usize) -> Result<Option<Named>, Stop> {
+    pub fn feasible(&mut self, level: usize) -> Result<Option<Named>, Stop> {
         let (mut kinds, mut full) = match level {
             0 => (Kinds::FREE, Signs::NONE),
             _ => (self.kinds[level - 1], self.full[self.last[level - 1]]),
@@ -291,7 +291,7 @@ impl<'b, const W: usize> Part<'b, W> {
         Ok((name, false))
     }
 
-    /// The columns of a solution of a prefix that stands: a sum of vectors that cover all its signs.
+    /// The columns of a solution of a feasible prefix: a sum of vectors that cover all its signs.
     pub fn solution(&mut self, level: usize, columns: usize) -> Result<Vec<i128>, Stop> {
         let kinds = self.kinds[level];
         let (mut full, mut sum) = (Signs::NONE, vec![0; columns]);
@@ -301,7 +301,7 @@ impl<'b, const W: usize> Part<'b, W> {
                 if full.sign(c) == Some(sign) {
                     continue;
                 }
-                let Aimed::Ray(q, step) = self.aim(c, sign)? else { unreachable!("the prefix stands") };
+                let Aimed::Ray(q, step) = self.aim(c, sign)? else { unreachable!("the prefix is feasible") };
                 full = self.signs_of(q, step).over(&full);
                 let found = self.vector(q)?;
                 sum.iter_mut().zip(&found).for_each(|(sum, x)| *sum += x * i128::from(step));

@@ -26,7 +26,7 @@ pub enum Code {
 }
 
 impl Code {
-    pub fn told(self) -> (u32, &'static str) {
+    pub fn number_and_name(self) -> (u32, &'static str) {
         match self {
             Code::TextTooLong => (19, "TextTooLong"),
             Code::NotAscii => (11, "NotAscii"),
@@ -245,7 +245,7 @@ impl<'t> Text<'t> {
         &rest[..length]
     }
 
-    /// Whether the line ends here. Then what stands here is passed over.
+    /// Whether the line ends here. Then what is here is passed over.
     fn ends(&mut self, byte: u8) -> bool {
         match byte {
             b'\n' => {}

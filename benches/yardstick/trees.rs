@@ -178,7 +178,7 @@ fn dual_b(net: &Net, list: &[i128]) -> Signs<1> {
     if cancel { Signs::of(list.iter().copied()) } else { Signs::NONE }
 }
 
-/// Lists of numbers, one behind the other. They count from 1.
+/// Lists of numbers, one after the other. They count from 1.
 #[derive(Default)]
 pub struct Lists {
     pub numbers: Vec<i128>,

@@ -3,7 +3,7 @@
 pub use Rattle.crn_cert.proofs.AllLaws.{valid_answers_are_true, valid_documents_are_true}
 -- Formed and valid strong classes are true, whatever the reactions join.
 pub use Rattle.crn_cert.proofs.ValidLaws.{strong_law}
--- A tree that is valid at the empty prefix leaves no full standing prefix.
+-- A tree that is valid at the empty prefix leaves no full feasible prefix.
 pub use Rattle.crn_cert.proofs.TreeLaws.{leaves_nothing}
 -- Marks that pass the test of a side, and the linked pairs within terminal classes.
 pub use Rattle.crn_cert.proofs.Cycles.{tested_marks_are_sides}

@@ -8,7 +8,7 @@ use Rattle.std.specs.Cmp.Rules.{signed_items}
 use Rattle.std.proofs.lemmas.Bool.{cases_Bool}
 use Rattle.crn_vec.specs.Lists.{IsIn, firsts}
 use Rattle.crn_vec.proofs.CallerLemmas.{firsts_from, all_in, all_from}
-use Rattle.crn_cert.specs.Shares.{StandsAt, IsShareable, number_in, share_of_cuts, SharesFit}
+use Rattle.crn_cert.specs.Shares.{HasAt, IsShareable, number_in, share_of_cuts, SharesFit}
 
 take_from : {A : Type 0} (n : ℕ) (xs : List A) (y : A) → IsIn y (take n xs) → IsIn y xs
 take_from zero xs y h = absurd h
@@ -25,7 +25,7 @@ take_few (suc n) (x ∷ xs) = omega (arith, take_few n xs)
 record Found (k : ℕ) (ts : List (List ℤ)) (u : List ℤ) : Type 0 where
   i : ℕ
   is : number_in k ts u ≡ k + i
-  at : StandsAt ts (suc i) u
+  at : HasAt ts (suc i) u
 
 found_or : (k : ℕ) (ts : List (List ℤ)) (u : List ℤ) → (number_in k ts u ≡ 0) ⊎ Found k ts u
 found_or k [] u = inl refl
@@ -43,15 +43,15 @@ found_or k (t ∷ ts) u = elim (cases_Bool (pointwise int_eq t u)) [
       ]
 ]
 
-stands : (ts : List (List ℤ)) (u : List ℤ) → StandsAt ts (number_in 1 ts u) u
-stands ts u = elim (found_or 1 ts u) [
-  | inl none ↦ subst (λ (n : ℕ). StandsAt ts n u) (sym none) tt
-  | inr f ↦ let same : 1 + f.i ≡ suc f.i = omega arith in subst (λ (n : ℕ). StandsAt ts n u) (sym (f.is ∙ same)) f.at
+found_there : (ts : List (List ℤ)) (u : List ℤ) → HasAt ts (number_in 1 ts u) u
+found_there ts u = elim (found_or 1 ts u) [
+  | inl none ↦ subst (λ (n : ℕ). HasAt ts n u) (sym none) tt
+  | inr f ↦ let same : 1 + f.i ≡ suc f.i = omega arith in subst (λ (n : ℕ). HasAt ts n u) (sym (f.is ∙ same)) f.at
 ]
 
-all_stand : (ts cuts : List (List ℤ)) → AllZip (StandsAt ts) (map (number_in 1 ts) cuts) cuts
-all_stand ts [] = tt
-all_stand ts (u ∷ cuts) = (stands ts u, all_stand ts cuts)
+all_found : (ts cuts : List (List ℤ)) → AllZip (HasAt ts) (map (number_in 1 ts) cuts) cuts
+all_found ts [] = tt
+all_found ts (u ∷ cuts) = (found_there ts u, all_found ts cuts)
 
 pub shares_fit : SharesFit
 shares_fit most room cuts h =
@@ -59,7 +59,7 @@ shares_fit most room cuts h =
     record {
       few = take_few most (firsts (pointwise int_eq) cuts);
       lists = all_from (IsShareable room) table (λ y i. all_in (IsShareable room) cuts y h (firsts_from (pointwise int_eq) cuts y (take_from most (firsts (pointwise int_eq) cuts) y i)));
-      leaves = all_stand table cuts;
+      leaves = all_found table cuts;
     }
 
 -- the trees of questions 14 and 15 of A <-> B: the cuts 0 1, 1 0, 1 1, 1 0, twice

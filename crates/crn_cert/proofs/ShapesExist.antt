@@ -194,21 +194,21 @@ between_back : (a b y z : ℕ) → IsBetween a b y z → IsBetween a b z y
 between_back a b y z (inl e) = inr (e.1, e.0)
 between_back a b y z (inr e) = inl (e.1, e.0)
 
-link_behind : (p : ℕ × ℕ) (rs : List (ℕ × ℕ)) (y z : ℕ) → IsLinked rs y z → IsLinked (p ∷ rs) y z
-link_behind p rs y z (inl i) = inl (inr i)
-link_behind p rs y z (inr i) = inr (inr i)
+link_after : (p : ℕ × ℕ) (rs : List (ℕ × ℕ)) (y z : ℕ) → IsLinked rs y z → IsLinked (p ∷ rs) y z
+link_after p rs y z (inl i) = inl (inr i)
+link_after p rs y z (inr i) = inr (inr i)
 
 free_in : (a b : ℕ) (rs : List (ℕ × ℕ)) (y z : ℕ) → IsIn (y, z) (free_links a b rs) → IsFreeStep rs a b y z
 free_in a b [] y z i = absurd (subst (IsIn (y, z)) (no_links a b) i)
 free_in a b (p ∷ rs) y z i = elim (cases_Bool (is_same_pair p (a, b))) as (λ _. IsFreeStep (p ∷ rs) a b y z) [
-  | inl hit ↦ let f = free_in a b rs y z (subst (IsIn (y, z)) (skipped a b p rs hit) i) in (link_behind p rs y z f.0, f.1)
+  | inl hit ↦ let f = free_in a b rs y z (subst (IsIn (y, z)) (skipped a b p rs hit) i) in (link_after p rs y z f.0, f.1)
   | inr miss ↦ elim (subst (IsIn (y, z)) (taken a b p rs miss) i) as (λ _. IsFreeStep (p ∷ rs) a b y z) [
     | inl e ↦ (inl (inl e), λ between. false≢true (sym miss ∙ same_pair p (a, b) (subst (λ (w : ℕ × ℕ). IsBetween a b w.0 w.1) e between)))
     | inr more ↦ elim more as (λ _. IsFreeStep (p ∷ rs) a b y z) [
       | inl e ↦
           let back : (z, y) ≡ p = ap (λ (w : ℕ × ℕ). (w.1, w.0)) e in
           (inr (inl back), λ between. false≢true (sym miss ∙ same_pair p (a, b) (subst (λ (w : ℕ × ℕ). IsBetween a b w.0 w.1) back (between_back a b y z between))))
-      | inr j ↦ let f = free_in a b rs y z j in (link_behind p rs y z f.0, f.1)
+      | inr j ↦ let f = free_in a b rs y z j in (link_after p rs y z f.0, f.1)
     ]
   ]
 ]

@@ -14,7 +14,7 @@ use Rattle.crn_vec.specs.NetSignals.{IsSignalOf, IsShapeOf, HasNoSignal}
 use Rattle.crn_vec.proofs.CallerLemmas.{length-scale}
 use Rattle.crn_vec.proofs.CallerLemmas.{confluence_vectors_are_one}
 use Rattle.crn_vec.proofs.CallerLemmas.{signals_are_steady}
-use Rattle.crn_vec.proofs.CallerLemmas.{shapes_are_one, multiples_share_signals, signals_stand}
+use Rattle.crn_vec.proofs.CallerLemmas.{shapes_are_one, multiples_share_signals, signals_feasible}
 use Rattle.crn_cert.specs.declared.answer.Verdict.{Verdict}
 use Rattle.crn_cert.specs.declared.answer.Verdict.TheVariants.{YesVec, YesSignal, No, NotRegular, OnlyZero, Plane, NotApplicable, Unknown}
 use Rattle.crn_cert.specs.declared.answer.Proof.{Proof}
@@ -72,7 +72,7 @@ no_signal_by net g n regular choices rows_a rows_b part tree f t shelves mu leve
     let w : Signed = signals shape.0 m in
     let fits : (p : List Sign) (said : Said) → IsSignalNode net g p said → Fits w p said = λ p said h. subst (λ (s : Shape). Fits (signals s m) p said) (shapes_are_one net g h.0 shape.0 h.1 shape.1) h.2 in
     let valid : IsValid w [] tree = tree_right w (IsSignalNode net g) fits choices rows_a rows_b part [] tree f t in
-    let at = signals_stand net g shape.0 n regular shape.1 shelves mu level weights sg in
+    let at = signals_feasible net g shape.0 n regular shape.1 shelves mu level weights sg in
     leaves_nothing w (signals_are_steady shape.0 m) tree [] at.0 valid at.1 at.2
 
 -- where g has no signal, and its negative has none in a weakly reversible network, no confluence vector has one

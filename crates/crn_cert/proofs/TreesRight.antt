@@ -8,7 +8,7 @@ use Rattle.crn_vec.specs.Problems.{Signed}
 use Rattle.crn_vec.specs.Concordance.{IsTable, IsConcordant, concordance}
 use Rattle.crn_vec.specs.Influence.{plain_table, strong_table}
 use Rattle.crn_vec.proofs.CallerLemmas.{tables_are_steady}
-use Rattle.crn_vec.proofs.CallerLemmas.{tables_stand}
+use Rattle.crn_vec.proofs.CallerLemmas.{tables_feasible}
 use Rattle.crn_vec.proofs.CallerLemmas.{networks_have_tables}
 use Rattle.crn_cert.specs.declared.answer.Verdict.{Verdict}
 use Rattle.crn_cert.specs.declared.answer.Verdict.TheVariants.{Yes, NoPair, Unknown}
@@ -50,7 +50,7 @@ tree_right w Holds fits choices rows_a rows_b part p Level f t = fits p _ t.0
 concordant_by : (net : Net) (table : List (List Sign)) → IsTable (reaction_system net) table → (tree : Plan) → IsValid (concordance (reaction_system net) table) [] tree → IsConcordant (reaction_system net) table
 concordant_by net table t tree v alpha weights d =
     let m = reaction_system net in
-    let at = (tables_stand m table t).stands alpha weights d in
+    let at = (tables_feasible m table t).feasible alpha weights d in
     leaves_nothing (concordance m table) (tables_are_steady m table) tree [] at.0 v at.1 at.2
 
 concordant_law : (net : Net) (earlier : Earlier) → IsNetwork net → (v : Verdict) (p : Proof) → IsFormedOf net earlier Q14 v p → AllHold (table_rows net (plain_table net) v p) → IsTrueOrOpen net Q14 v

@@ -39,17 +39,17 @@ AreNumbersFor w (CutsA u) = AreFree (length w.matrix_a.rows) u
 AreNumbersFor w (CutsB u) = AreFree (length w.matrix_b.rows) u
 
 -- the prefixes that are due after a node
-abbrev pub behind : List Sign → List (List Sign) → Said → List (List Sign)
-behind p rest Splits = children p ++ rest
-behind p rest Flats = rest
-behind p rest (CutsA u) = rest
-behind p rest (CutsB u) = rest
+abbrev pub rest_after : List Sign → List (List Sign) → Said → List (List Sign)
+rest_after p rest Splits = children p ++ rest
+rest_after p rest Flats = rest
+rest_after p rest (CutsA u) = rest
+rest_after p rest (CutsB u) = rest
 
 -- the nodes fit the prefixes that are due, one after another, and leave these due
 pub data Passing (w : Signed) : List (List Sign) → List Said → List (List Sign) → Type 0 where
   done : {due : List (List Sign)} → Passing w due [] due
   then : {p : List Sign} {rest last : List (List Sign)} {node : Said} {more : List Said}
-      → Fits w p node → Passing w (behind p rest node) more last
+      → Fits w p node → Passing w (rest_after p rest node) more last
       → Passing w (p ∷ rest) (node ∷ more) last
 
 -- the nodes are those of a valid tree at a prefix

@@ -39,11 +39,11 @@ pub record Shared : Type 0 where
   pub leaf : List ℕ
 
 -- the number is 0, or that of the list u in the table
-abbrev pub StandsAt : List (List ℤ) → ℕ → List ℤ → Type 0
-StandsAt table zero u = Unit {0}
-StandsAt [] (suc k) u = ⊥
-StandsAt (t ∷ ts) (suc zero) u = t ≡ u
-StandsAt (t ∷ ts) (suc (suc k)) u = StandsAt ts (suc k) u
+abbrev pub HasAt : List (List ℤ) → ℕ → List ℤ → Type 0
+HasAt table zero u = Unit {0}
+HasAt [] (suc k) u = ⊥
+HasAt (t ∷ ts) (suc zero) u = t ≡ u
+HasAt (t ∷ ts) (suc (suc k)) u = HasAt ts (suc k) u
 
 -- a list that a line may hold: from 1 to `room` numbers of a certificate
 pub record IsShareable (room : ℕ) (u : List ℤ) : Type 0 where
@@ -55,7 +55,7 @@ pub record IsShareable (room : ℕ) (u : List ℤ) : Type 0 where
 pub record FitsCuts (most room : ℕ) (cuts : List (List ℤ)) (share : Shared) : Type 0 where
   pub few : length share.table ≤ most
   pub lists : AllByRecursion (IsShareable room) share.table
-  pub leaves : AllZip (StandsAt share.table) share.leaf cuts
+  pub leaves : AllZip (HasAt share.table) share.leaf cuts
 
 -- a share fits answers: it fits all their cuts
 abbrev pub FitsAnswers : ℕ → ℕ → List Answer → Shared → Type 0

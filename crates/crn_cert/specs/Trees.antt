@@ -1,4 +1,4 @@
--- Trees that show that no full prefix of a sign problem stands.
+-- Trees that show that no full prefix of a sign problem is feasible.
 -- Source: this project's own.
 use Rattle.std.specs.Prelude.{◌≡◌, ◌<◌, ℕ, ℤ, true, false, Option, Some, None, List, [], ◌∷◌, ◌++◌, ◌+◌, length}
 use Rattle.std.specs.List.{AllByRecursion}
@@ -24,17 +24,17 @@ with_minus zero plus (Some minus) = Three zero plus minus
 
 abbrev mutual
   pub plan : Tree → Plan
-  plan (Split' a zero b plus minus) = with_minus (plan zero) (plan plus) (plan_behind minus)
+  plan (Split' a zero b plus minus) = with_minus (plan zero) (plan plus) (plan_held minus)
   plan (CutA u) = RulesA u.value.list
   plan (CutB u) = RulesB u.value.list
   plan Flat = Level
 
-  pub plan_behind : Held-Tree-Split-2 → Option Plan
-  plan_behind None' = None
-  plan_behind (Some' p tree) = Some (plan tree)
+  pub plan_held : Held-Tree-Split-2 → Option Plan
+  plan_held None' = None
+  plan_held (Some' p tree) = Some (plan tree)
 
 -- a tree is valid at a prefix: it splits into the children of a prefix that is not full, and each
--- leaf shows that its prefix does not stand
+-- leaf shows that its prefix is not feasible
 abbrev pub IsValid : Signed → List Sign → Plan → Type 0
 IsValid w p (Both zero plus) = (length p < w.choices) × (all_zero p ≡ true)
     × IsValid w (p ++ Zero ∷ []) zero × IsValid w (p ++ Plus ∷ []) plus

@@ -19,7 +19,7 @@ pub fn tested_marks_are_sides()
     ensures { TestedMarksAreSides }
 {}
 
-/// If a tree is valid at the empty prefix, no full prefix of its sign problem stands.
+/// If a tree is valid at the empty prefix, no full prefix of its sign problem is feasible.
 pub fn valid_trees_leave_nothing()
     ensures { ValidTreesLeaveNothing }
 {}

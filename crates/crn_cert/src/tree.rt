@@ -1,7 +1,7 @@
 use crn_vec::Ints;
 use std::rc::Rc;
 
-/// A tree that shows that no full prefix of a sign problem stands.
+/// A tree that shows that no full prefix of a sign problem is feasible.
 #[derive(Drop)]
 pub enum Tree {
     /// A tree for each child of the prefix. A prefix of zeros has no child for minus.

@@ -32,7 +32,7 @@ use crn_shape::Shape;
 
 /// The tests of the head of a verdict, before the lists of its later records are read. It takes no memory.
 ///
-/// Questions are counted from 1. The facts hold verdicts accepted for this network. The lists of the verdict that stand
+/// Questions are counted from 1. The facts hold verdicts accepted for this network. The lists of the verdict that are
 /// in later records may be empty.
 pub fn check_head(
     net: &Network,

@@ -14,6 +14,6 @@ mod theorems;
 use crate::checks_see_no_spares;
 
 #[test]
-fn the_law_stands() {
+fn the_law_holds() {
     checks_see_no_spares();
 }

@@ -13,7 +13,7 @@ use Rattle.crn_vec.specs.Elementary.{NamesWide}
 use Rattle.crn_vec.specs.Concordance.{IsTable, IsDiscordant, concordance}
 use Rattle.crn_vec.specs.Influence.{plain_table, strong_table}
 use Rattle.crn_vec.specs.Visits.{PassesBudget}
-use Rattle.crn_vec.proofs.CallerLemmas.{all_in, networks_have_tables, tables_stand, rows_count}
+use Rattle.crn_vec.proofs.CallerLemmas.{all_in, networks_have_tables, tables_feasible, rows_count}
 use Rattle.crn_cert.specs.declared.answer.Answer.{Answer}
 use Rattle.crn_cert.specs.declared.tree.Tree.{Tree}
 use Rattle.crn_cert.specs.Questions.{Earlier, Question, Q14, Q15}
@@ -103,7 +103,7 @@ ended {net} {table} asks budget earlier (Found p a b) n low high h =
     let m = reaction_system net in
     let w = concordance m table in
     let s = h.0 in
-    let d = (tables_stand m table (table_fits n asks)).named p a.list b.list s.full s.opened (s.part_a.v, s.part_a.solves) (s.part_b.v, s.part_b.solves) in
+    let d = (tables_feasible m table (table_fits n asks)).named p a.list b.list s.full s.opened (s.part_a.v, s.part_a.solves) (s.part_b.v, s.part_b.solves) in
     no_answer asks budget earlier p a b n (solution_free m (w.kinds_a p) a.list s.part_a) (solution_free m (w.kinds_b p) b.list s.part_b) d
 ended {net} {table} asks budget earlier (Refuted tree) n low high h =
     let m = reaction_system net in

@@ -498,8 +498,8 @@ one_linked known earlier v p e f = absurd f.0
 -- ---- all answers
 
 -- what is known after an answer
-abbrev pub behind : Question → Known → Answer → Known
-behind q known a = meaning.learn q known (head_of q a.verdict) (records_below (shapes_of known) a)
+abbrev pub known_after : Question → Known → Answer → Known
+known_after q known a = meaning.learn q known (head_of q a.verdict) (records_below (shapes_of known) a)
 
 abbrev pub AreLinkedFor : Bool → List Question → Type 1
 AreLinkedFor b [] = Unit {1}
@@ -524,24 +524,24 @@ built_linked = (
 )
 
 -- so they are after an answer
-pub alike_behind : (b : Bool) (q : Question) (known : Known) (earlier : Earlier) (a : Answer) → AreKnown b known.earlier → IsAlike known earlier → IsJoinedFor b q → IsFormedOf known.net earlier q a.verdict a.proof → IsAlike (behind q known a) (earlier ++ (q, a.verdict) ∷ [])
-alike_behind b q known earlier a n e j f = let s = j.says in alike_then known.earlier earlier q (verdict_of q (sizes_of known) (head_of q a.verdict) (records_below (shapes_of known) a)) a.verdict e (s known earlier a.verdict a.proof n e f)
+pub alike_after : (b : Bool) (q : Question) (known : Known) (earlier : Earlier) (a : Answer) → AreKnown b known.earlier → IsAlike known earlier → IsJoinedFor b q → IsFormedOf known.net earlier q a.verdict a.proof → IsAlike (known_after q known a) (earlier ++ (q, a.verdict) ∷ [])
+alike_after b q known earlier a n e j f = let s = j.says in alike_then known.earlier earlier q (verdict_of q (sizes_of known) (head_of q a.verdict) (records_below (shapes_of known) a)) a.verdict e (s known earlier a.verdict a.proof n e f)
 
 -- and the strong classes are known after question 2
-pub known_next : (b : Bool) (q : Question) (known : Known) (earlier : Earlier) (a : Answer) → AreKnown b known.earlier → IsAlike known earlier → IsJoinedFor b q → IsFormedOf known.net earlier q a.verdict a.proof → AreKnown (after b q) (behind q known a).earlier
+pub known_next : (b : Bool) (q : Question) (known : Known) (earlier : Earlier) (a : Answer) → AreKnown b known.earlier → IsAlike known earlier → IsJoinedFor b q → IsFormedOf known.net earlier q a.verdict a.proof → AreKnown (after b q) (known_after q known a).earlier
 known_next b q known earlier a n e j f =
     let s = j.says in
     let v = verdict_of q (sizes_of known) (head_of q a.verdict) (records_below (shapes_of known) a) in
     known_then b q known.earlier v n (said_right q v a.verdict (s known earlier a.verdict a.proof n e f) (formed_right known.net earlier q a.verdict a.proof f))
 
 -- verdicts that say the same do so after an answer to question 1
-pub linkage_next : (known : Known) (earlier : Earlier) (a : Answer) → IsAlike known earlier → IsFormedOf known.net earlier Q1 a.verdict a.proof → IsAlike (behind Q1 known a) (earlier ++ (Q1, a.verdict) ∷ [])
+pub linkage_next : (known : Known) (earlier : Earlier) (a : Answer) → IsAlike known earlier → IsFormedOf known.net earlier Q1 a.verdict a.proof → IsAlike (known_after Q1 known a) (earlier ++ (Q1, a.verdict) ∷ [])
 linkage_next known earlier a e f =
     let l = linkage_linked known earlier a.verdict a.proof f in
     alike_then known.earlier earlier Q1 (verdict_of Q1 (sizes_of known) (head_of Q1 a.verdict) (records_below (shapes_of known) a)) a.verdict e l.says
 
 -- and to question 2
-pub strong_next : (known : Known) (earlier : Earlier) (a : Answer) → IsAlike known earlier → IsFormedOf known.net earlier Q2 a.verdict a.proof → IsAlike (behind Q2 known a) (earlier ++ (Q2, a.verdict) ∷ [])
+pub strong_next : (known : Known) (earlier : Earlier) (a : Answer) → IsAlike known earlier → IsFormedOf known.net earlier Q2 a.verdict a.proof → IsAlike (known_after Q2 known a) (earlier ++ (Q2, a.verdict) ∷ [])
 strong_next known earlier a e f =
     let l = strong_linked known earlier a.verdict a.proof f in
     alike_then known.earlier earlier Q2 (verdict_of Q2 (sizes_of known) (head_of Q2 a.verdict) (records_below (shapes_of known) a)) a.verdict e l.says
@@ -554,7 +554,7 @@ formed_by b (q ∷ qs) links known earlier [] n e f = absurd f
 formed_by b (q ∷ qs) links known earlier (a ∷ answers) n e f =
     let j = joined b q links.0 in
     let formed = j.formed in
-    (parts q known a, formed known earlier a.verdict a.proof n e f.0, formed_by (after b q) qs links.1 (behind q known a) (earlier ++ (q, a.verdict) ∷ []) answers (known_next b q known earlier a n e j f.0) (alike_behind b q known earlier a n e j f.0) f.1)
+    (parts q known a, formed known earlier a.verdict a.proof n e f.0, formed_by (after b q) qs links.1 (known_after q known a) (earlier ++ (q, a.verdict) ∷ []) answers (known_next b q known earlier a n e j f.0) (alike_after b q known earlier a n e j f.0) f.1)
 
 pub answers_formed : (net : Net) (answers : List Answer) → AreFormed net [] built answers → AreFormedOf net (records_of net answers)
 answers_formed net answers f = formed_by false built built_linked (meaning.start net) [] answers tt refl f
@@ -573,7 +573,7 @@ valid_by b (q ∷ qs) links known earlier (a ∷ answers) n e f v =
     let j = joined b q links.0 in
     let formed = j.formed in
     let there = j.there in
-    (parts q known a, formed known earlier a.verdict a.proof n e f.0, there known earlier a.verdict a.proof n e f.0 v.0, valid_by (after b q) qs links.1 (behind q known a) (earlier ++ (q, a.verdict) ∷ []) answers (known_next b q known earlier a n e j f.0) (alike_behind b q known earlier a n e j f.0) f.1 v.1)
+    (parts q known a, formed known earlier a.verdict a.proof n e f.0, there known earlier a.verdict a.proof n e f.0 v.0, valid_by (after b q) qs links.1 (known_after q known a) (earlier ++ (q, a.verdict) ∷ []) answers (known_next b q known earlier a n e j f.0) (alike_after b q known earlier a n e j f.0) f.1 v.1)
 
 pub answers_valid : (net : Net) (answers : List Answer) → AreFormed net [] built answers → AreValid net [] built answers → documents.AreValid meaning built (meaning.start net) (records_of net answers)
 answers_valid net answers f v = valid_by false built built_linked (meaning.start net) [] answers tt refl f v
@@ -588,13 +588,13 @@ back_by b (q ∷ qs) links known earlier (a ∷ answers) n t e f v =
     let formed = j.formed in
     let back = j.back in
     let says = j.says in
-    let next = behind q known a in
+    let next = known_after q known a in
     let s = same_valid q known (records q (shapes_of known) a) v.0 (parts q known a) v.1 (formed known earlier a.verdict a.proof n e f.0) v.2 in
     let later : Rest qs next next answers = subst (λ (k : Known). Rest qs k next answers) s.1 v.3 in
     let valid = back known earlier a.verdict a.proof n t e f.0 s.0 in
     let said_then = verdict_of q (sizes_of known) (head_of q a.verdict) (records_below (shapes_of known) a) in
     let true_next : IsStrongTrue (after b q) next = true_then b q known said_then n t (true_moves q known.net said_then a.verdict (says known earlier a.verdict a.proof n e f.0) (valid_is_true known.net earlier q a.verdict a.proof f.0 valid)) in
-    (valid, back_by (after b q) qs links.1 next (earlier ++ (q, a.verdict) ∷ []) answers (known_next b q known earlier a n e j f.0) true_next (alike_behind b q known earlier a n e j f.0) f.1 later)
+    (valid, back_by (after b q) qs links.1 next (earlier ++ (q, a.verdict) ∷ []) answers (known_next b q known earlier a n e j f.0) true_next (alike_after b q known earlier a n e j f.0) f.1 later)
 
 pub records_valid : (net : Net) (answers : List Answer) → AreFormed net [] built answers → documents.AreValid meaning built (meaning.start net) (records_of net answers) → AreValid net [] built answers
 records_valid net answers f v = back_by false built built_linked (meaning.start net) [] answers tt tt refl f v
@@ -617,16 +617,16 @@ same_by b (q ∷ qs) links known earlier later (a ∷ answers) (c ∷ others) n 
     let shows = j.shows in
     let k = formed known earlier a.verdict a.proof n d f.0 in
     let l = formed known later c.verdict c.proof n e g.0 in
-    let h = first_same (records q (shapes_of known) a) (records q (shapes_of known) c) (all_records meaning qs (behind q known a) answers) (all_records meaning qs (behind q known c) others) r in
+    let h = first_same (records q (shapes_of known) a) (records q (shapes_of known) c) (all_records meaning qs (known_after q known a) answers) (all_records meaning qs (known_after q known c) others) r in
     let block : records q (shapes_of known) a ++ [] ≡ records q (shapes_of known) c ++ [] = ap (λ (t : List Record). t ++ []) h.0 in
     let same = (block_apart meaning q known (records q (shapes_of known) a) (records q (shapes_of known) c) [] [] (parts q known a) (parts q known c) k l block).1 in
     let nodes : proof_nodes a.proof ≡ proof_nodes c.proof = same_nodes (head_of q a.verdict) (head_of q c.verdict) (records_below (shapes_of known) a) (records_below (shapes_of known) c) (proof_nodes a.proof) (proof_nodes c.proof) same.1 h.0 in
     let verdicts : said a.verdict ≡ said c.verdict = sym (says known earlier a.verdict a.proof n d f.0) ∙ ap₂ (λ (x : Record) (xs : List Record). said (verdict_of q (sizes_of known) x xs)) same.0 same.1 ∙ says known later c.verdict c.proof n e g.0 in
     let proofs : shown a.proof ≡ shown c.proof = shows known earlier later a.verdict c.verdict a.proof c.proof n d e f.0 g.0 same.0 same.1 nodes in
-    let next : behind q known a ≡ behind q known c = ap₂ (λ (x : Record) (xs : List Record). meaning.learn q known x xs) same.0 same.1 in
-    let rest : all_records meaning qs (behind q known a) answers ≡ all_records meaning qs (behind q known a) others = h.1 ∙ ap (λ (x : Known). all_records meaning qs x others) (sym next) in
-    let alike : IsAlike (behind q known a) (later ++ (q, c.verdict) ∷ []) = subst (λ (x : Known). IsAlike x (later ++ (q, c.verdict) ∷ [])) (sym next) (alike_behind b q known later c n e j g.0) in
-    let more = same_by (after b q) qs links.1 (behind q known a) (earlier ++ (q, a.verdict) ∷ []) (later ++ (q, c.verdict) ∷ []) answers others (known_next b q known earlier a n d j f.0) (alike_behind b q known earlier a n d j f.0) alike f.1 g.1 rest in
+    let next : known_after q known a ≡ known_after q known c = ap₂ (λ (x : Record) (xs : List Record). meaning.learn q known x xs) same.0 same.1 in
+    let rest : all_records meaning qs (known_after q known a) answers ≡ all_records meaning qs (known_after q known a) others = h.1 ∙ ap (λ (x : Known). all_records meaning qs x others) (sym next) in
+    let alike : IsAlike (known_after q known a) (later ++ (q, c.verdict) ∷ []) = subst (λ (x : Known). IsAlike x (later ++ (q, c.verdict) ∷ [])) (sym next) (alike_after b q known later c n e j g.0) in
+    let more = same_by (after b q) qs links.1 (known_after q known a) (earlier ++ (q, a.verdict) ∷ []) (later ++ (q, c.verdict) ∷ []) answers others (known_next b q known earlier a n d j f.0) (alike_after b q known earlier a n d j f.0) alike f.1 g.1 rest in
     ap₂ (λ (x : Verdict × (Proof × List Plan)) (xs : List (Verdict × (Proof × List Plan))). x ∷ xs) (ap₂ (λ (v : Verdict) (p : Proof × List Plan). (v, p)) verdicts proofs) more
   where
     first_same : (x y : List Record) (xs ys : List (List Record)) → x ∷ xs ≡ y ∷ ys → (x ≡ y) × (xs ≡ ys)

@@ -14,7 +14,7 @@ more_or_not at = by at.left
     by (b ∷ bs) = inl (λ e. absurd cc)
 
 abbrev Judged : {A : Type 0} → Course A → Place → Type 0
-Judged {A} course at = ((y : A) × (behind : Place) × Gives course at y behind) ⊎ ((n : ℕ) × (code : ℕ) × FailsFirst course at n code)
+Judged {A} course at = ((y : A) × (after : Place) × Gives course at y after) ⊎ ((n : ℕ) × (code : ℕ) × FailsFirst course at n code)
 
 pub each_is_judged : {A : Type 0} (course : Course A) → IsSettled course → (at : Place) → at.before < MAX_DOCUMENT → Judged course at
 unfolding Gives FailsFirst IsSettled
@@ -48,33 +48,33 @@ end_breaks_none at code none (line_too_long d l) = none (λ e. absurd (let n : l
 end_breaks_none at code none (otherwise d l o) = none o
 
 -- what holds of the place after a line holds of the place after the same line
-same_behind : (P : List ℕ → Place → Type 0) (at : Place) (line l : List ℕ) (behind b : Place) → IsLineAt at line behind → IsLineAt at l b → P l b → P line behind
-same_behind P at line l behind b p q h =
-    let same = line_is_one at line l behind b p q in
-    subst (λ (x : List ℕ). P x behind) (sym same.0) (subst (λ (y : Place). P l y) (sym same.1) h)
+same_after : (P : List ℕ → Place → Type 0) (at : Place) (line l : List ℕ) (after b : Place) → IsLineAt at line after → IsLineAt at l b → P l b → P line after
+same_after P at line l after b p q h =
+    let same = line_is_one at line l after b p q in
+    subst (λ (x : List ℕ). P x after) (sym same.0) (subst (λ (y : Place). P l y) (sym same.1) h)
 
-pub gives_or_fails : {A : Type 0} (course : Course A) → IsSettled course → (at behind : Place) (y : A) (n code : ℕ) → Gives course at y behind → FailsFirst course at n code → ⊥
+pub gives_or_fails : {A : Type 0} (course : Course A) → IsSettled course → (at after : Place) (y : A) (n code : ℕ) → Gives course at y after → FailsFirst course at n code → ⊥
 unfolding Gives FailsFirst IsSettled
-gives_or_fails (Give x) s at behind y n code p f = f
-gives_or_fails (Line node next) s at behind y n code p f = elim f [
+gives_or_fails (Give x) s at after y n code p f = f
+gives_or_fails (Line node next) s at after y n code p f = elim f [
   | inl breaks ↦ line_breaks_none at p.0 p.1 (early node) code p.2 breaks.1
-  | inr l ↦ gives_or_fails (next p.0) (s p.0) p.1 behind y n code p.3 (same_behind (λ x b. FailsFirst (next x) b n code) at p.0 l.0 p.1 l.1 p.2 l.2 l.3)
+  | inr l ↦ gives_or_fails (next p.0) (s p.0) p.1 after y n code p.3 (same_after (λ x b. FailsFirst (next x) b n code) at p.0 l.0 p.1 l.1 p.2 l.2 l.3)
 ]
-gives_or_fails (Test m c X P next) s at behind y n code p f = elim f [
+gives_or_fails (Test m c X P next) s at after y n code p f = elim f [
   | inl none ↦ none.2 p.0 p.1
-  | inr x ↦ gives_or_fails (next p.0) (s.2 p.0 p.1) at behind y n code p.2 (subst (λ (y : X). FailsFirst (next y) at n code) (s.1 x.0 p.0 x.1 p.1) x.2)
+  | inr x ↦ gives_or_fails (next p.0) (s.2 p.0 p.1) at after y n code p.2 (subst (λ (y : X). FailsFirst (next y) at n code) (s.1 x.0 p.0 x.1 p.1) x.2)
 ]
-gives_or_fails (End next) s at behind y n code p f = elim f [
+gives_or_fails (End next) s at after y n code p f = elim f [
   | inl breaks ↦ end_breaks_none at code p.0 breaks.1
-  | inr more ↦ gives_or_fails next s at behind y n code p.1 more.1
+  | inr more ↦ gives_or_fails next s at after y n code p.1 more.1
 ]
 
-pub gives_one : {A : Type 0} (course : Course A) → IsSettled course → (at behind past : Place) (y z : A) → Gives course at y behind → Gives course at z past → (y ≡ z) × (behind ≡ past)
+pub gives_one : {A : Type 0} (course : Course A) → IsSettled course → (at after past : Place) (y z : A) → Gives course at y after → Gives course at z past → (y ≡ z) × (after ≡ past)
 unfolding Gives IsSettled
-gives_one (Give x) s at behind past y z p q = (sym p.0 ∙ q.0, sym p.1 ∙ q.1)
-gives_one (Line node next) s at behind past y z p q = gives_one (next p.0) (s p.0) p.1 behind past y z p.3 (same_behind (λ x b. Gives (next x) b z past) at p.0 q.0 p.1 q.1 p.2 q.2 q.3)
-gives_one (Test m c X P next) s at behind past y z p q = gives_one (next p.0) (s.2 p.0 p.1) at behind past y z p.2 (subst (λ (x : X). Gives (next x) at z past) (s.1 q.0 p.0 q.1 p.1) q.2)
-gives_one (End next) s at behind past y z p q = gives_one next s at behind past y z p.1 q.1
+gives_one (Give x) s at after past y z p q = (sym p.0 ∙ q.0, sym p.1 ∙ q.1)
+gives_one (Line node next) s at after past y z p q = gives_one (next p.0) (s p.0) p.1 after past y z p.3 (same_after (λ x b. Gives (next x) b z past) at p.0 q.0 p.1 q.1 p.2 q.2 q.3)
+gives_one (Test m c X P next) s at after past y z p q = gives_one (next p.0) (s.2 p.0 p.1) at after past y z p.2 (subst (λ (x : X). Gives (next x) at z past) (s.1 q.0 p.0 q.1 p.1) q.2)
+gives_one (End next) s at after past y z p q = gives_one next s at after past y z p.1 q.1
 
 pub first_is_one : {A : Type 0} (course : Course A) → IsSettled course → (at : Place) (n m c d : ℕ) → FailsFirst course at n c → FailsFirst course at m d → (n ≡ m) × (c ≡ d)
 unfolding FailsFirst IsSettled
@@ -82,7 +82,7 @@ first_is_one (Give x) s at n m c d f g = absurd f
 first_is_one (Line node next) s at n m c d (inl f) (inl g) = (f.0 ∙ sym g.0, break_is_one at (early node) c d (LacksLine at) f.1 g.1)
 first_is_one (Line node next) s at n m c d (inl f) (inr g) = absurd (line_breaks_none at g.0 g.1 (early node) c g.2 f.1)
 first_is_one (Line node next) s at n m c d (inr f) (inl g) = absurd (line_breaks_none at f.0 f.1 (early node) d f.2 g.1)
-first_is_one (Line node next) s at n m c d (inr f) (inr g) = first_is_one (next f.0) (s f.0) f.1 n m c d f.3 (same_behind (λ x b. FailsFirst (next x) b m d) at f.0 g.0 f.1 g.1 f.2 g.2 g.3)
+first_is_one (Line node next) s at n m c d (inr f) (inr g) = first_is_one (next f.0) (s f.0) f.1 n m c d f.3 (same_after (λ x b. FailsFirst (next x) b m d) at f.0 g.0 f.1 g.1 f.2 g.2 g.3)
 first_is_one (Test k e X P next) s at n m c d (inl f) (inl g) = (f.0 ∙ sym g.0, f.1 ∙ sym g.1)
 first_is_one (Test k e X P next) s at n m c d (inl f) (inr g) = absurd (f.2 g.0 g.1)
 first_is_one (Test k e X P next) s at n m c d (inr f) (inl g) = absurd (g.2 f.0 f.1)
@@ -92,7 +92,7 @@ first_is_one (End next) s at n m c d (inl f) (inr g) = absurd (end_breaks_none a
 first_is_one (End next) s at n m c d (inr f) (inl g) = absurd (end_breaks_none at d f.0 g.1)
 first_is_one (End next) s at n m c d (inr f) (inr g) = first_is_one next s at n m c d f.1 g.1
 
--- ---- one course behind another
+-- ---- one course after another
 
 pub settled_then : {A B : Type 0} (c : Course A) (f : A → Course B) → IsSettled c → ((x : A) → IsSettled (f x)) → IsSettled (c >>= f)
 unfolding IsSettled
@@ -124,12 +124,12 @@ gives_only_then Has (Test n c X P next) f t = λ x p. gives_only_then Has (next 
 gives_only_then Has (End next) f t = gives_only_then Has next f t
 
 -- it gives what the second gives after the first
-pub gives_then : {A B : Type 0} (c : Course A) (f : A → Course B) (at mid behind : Place) (x : A) (y : B) → Gives c at x mid → Gives (f x) mid y behind → Gives (c >>= f) at y behind
+pub gives_then : {A B : Type 0} (c : Course A) (f : A → Course B) (at mid after : Place) (x : A) (y : B) → Gives c at x mid → Gives (f x) mid y after → Gives (c >>= f) at y after
 unfolding Gives
-gives_then (Give z) f at mid behind x y p q = subst (λ (z : _). Gives (f z) at y behind) (sym p.0) (subst (λ (m : Place). Gives (f x) m y behind) (sym p.1) q)
-gives_then (Line node next) f at mid behind x y p q = (p.0, p.1, p.2, gives_then (next p.0) f p.1 mid behind x y p.3 q)
-gives_then (Test n c X P next) f at mid behind x y p q = (p.0, p.1, gives_then (next p.0) f at mid behind x y p.2 q)
-gives_then (End next) f at mid behind x y p q = (p.0, gives_then next f at mid behind x y p.1 q)
+gives_then (Give z) f at mid after x y p q = subst (λ (z : _). Gives (f z) at y after) (sym p.0) (subst (λ (m : Place). Gives (f x) m y after) (sym p.1) q)
+gives_then (Line node next) f at mid after x y p q = (p.0, p.1, p.2, gives_then (next p.0) f p.1 mid after x y p.3 q)
+gives_then (Test n c X P next) f at mid after x y p q = (p.0, p.1, gives_then (next p.0) f at mid after x y p.2 q)
+gives_then (End next) f at mid after x y p q = (p.0, gives_then next f at mid after x y p.1 q)
 
 -- what fails in the first fails in both
 pub fails_before : {A B : Type 0} (c : Course A) (f : A → Course B) (at : Place) (n code : ℕ) → FailsFirst c at n code → FailsFirst (c >>= f) at n code

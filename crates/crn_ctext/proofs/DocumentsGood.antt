@@ -16,15 +16,15 @@ use Rattle.crn_cert.specs.declared.answer.Verdict.{Verdict}
 use Rattle.crn_ctext.specs.Meaning.{Known, sizes_of, verdict_of, learn_of, verdicts_said, meaning, versions}
 use Rattle.crn_cert.specs.Built.{built}
 use Rattle.crn_cert.specs.Questions.{Question}
-use Rattle.crn_ctext.specs.Judged.{IsReadOf, IsGood, IsFront, ReadDocumentsAreGood}
+use Rattle.crn_ctext.specs.Judged.{IsReadOf, IsGood, IsPrefixOf, ReadDocumentsAreGood}
 use Rattle.crn_ctext.proofs.Settled.{HaveTitles, course_settled}
 use Rattle.crn_ctext.proofs.MeaningDecided.{OfNetwork, meaning_decided}
 use Rattle.crn_ctext.proofs.MeaningShort.{IsSmall, networks_are_small, meaning_short}
 use Rattle.crn_ctext.proofs.ShortAnswers.{AllPlain, valid_are_plain, valid_are_formed, plain_are_short, short_both}
 use Rattle.crn_ctext.proofs.ShortLines.{text_lines_are_short}
 use Rattle.crn_ctext.proofs.Shared.{IsVersion, shared_written, all_texts}
-use Rattle.crn_ctext.proofs.FrontsSaid.{front_says}
-use Rattle.crn_ctext.proofs.BlocksRead.{AreVersions, AreFrontsOf}
+use Rattle.crn_ctext.proofs.PrefixesSaid.{prefix_says}
+use Rattle.crn_ctext.proofs.BlocksRead.{AreVersions, ArePrefixesOf}
 use Rattle.crn_ctext.proofs.BlocksWritten.{all_of, parted, table_part}
 use Rattle.crn_ctext.proofs.DocumentsWritten.{IsTable, text_of, document_is_read}
 use Rattle.crn_ctext.proofs.DocumentTexts.{parted_first, parted_second, parted_cuts, parted_plain, written_alone, written_plain, table_plain}
@@ -113,30 +113,30 @@ good_documents_are_read bytes g = by g.document
 -- ---- what is read
 
 -- the verdicts that the blocks say are those that the answers say
-fronts_say : (qs : List Question) (known : Known) (blocks answers : List (List Record)) → AreFrontsOf meaning qs known blocks answers → verdicts_said qs known answers ≡ verdicts_said qs known blocks
-unfolding AreFrontsOf
-fronts_say [] known blocks answers z = refl
-fronts_say (q ∷ qs) known [] answers z = absurd z
-fronts_say (q ∷ qs) known (block ∷ blocks) [] z = absurd z
-fronts_say (q ∷ qs) known (block ∷ blocks) (rs ∷ more) z =
+prefixes_say : (qs : List Question) (known : Known) (blocks answers : List (List Record)) → ArePrefixesOf meaning qs known blocks answers → verdicts_said qs known answers ≡ verdicts_said qs known blocks
+unfolding ArePrefixesOf
+prefixes_say [] known blocks answers z = refl
+prefixes_say (q ∷ qs) known [] answers z = absurd z
+prefixes_say (q ∷ qs) known (block ∷ blocks) [] z = absurd z
+prefixes_say (q ∷ qs) known (block ∷ blocks) (rs ∷ more) z =
     let p = z.0 in
-    let alone : verdict_of q (sizes_of known) p.head (p.rows ++ p.nodes) ≡ verdict_of q (sizes_of known) p.head p.rows = front_says IsGoodLeaf q known p.head p.rows p.nodes z.2 in
+    let alone : verdict_of q (sizes_of known) p.head (p.rows ++ p.nodes) ≡ verdict_of q (sizes_of known) p.head p.rows = prefix_says IsGoodLeaf q known p.head p.rows p.nodes z.2 in
     let learns : learn_of q known p.head (p.rows ++ p.nodes) ≡ learn_of q known p.head p.rows = ap (λ (v : Verdict). record { net = known.net; earlier = known.earlier ++ (q, v) ∷ [] }) alone in
     ap (λ (t : List Record). verdicts_said (q ∷ qs) known (t ∷ more)) p.all
-    ∙ ap₂ (λ (v : Verdict) (vs : List Verdict). v ∷ vs) alone (ap (λ (k : Known). verdicts_said qs k more) learns ∙ fronts_say qs (learn_of q known p.head p.rows) blocks more z.3)
+    ∙ ap₂ (λ (v : Verdict) (vs : List Verdict). v ∷ vs) alone (ap (λ (k : Known). verdicts_said qs k more) learns ∙ prefixes_say qs (learn_of q known p.head p.rows) blocks more z.3)
     ∙ sym (ap (λ (t : List Record). verdicts_said (q ∷ qs) known (t ∷ blocks)) z.1)
 
-fronts_are : (qs : List Question) (known : Known) (blocks answers : List (List Record)) → AreFrontsOf meaning qs known blocks answers → AllZip IsFront blocks answers
-unfolding AreFrontsOf
-fronts_are [] known blocks answers z = subst (λ (bs : List (List Record)). AllZip IsFront bs answers) (sym z.0) (subst (λ (xs : List (List Record)). AllZip IsFront [] xs) (sym z.1) tt)
-fronts_are (q ∷ qs) known [] answers z = absurd z
-fronts_are (q ∷ qs) known (block ∷ blocks) [] z = absurd z
-fronts_are (q ∷ qs) known (block ∷ blocks) (rs ∷ more) z =
+prefixes_are : (qs : List Question) (known : Known) (blocks answers : List (List Record)) → ArePrefixesOf meaning qs known blocks answers → AllZip IsPrefixOf blocks answers
+unfolding ArePrefixesOf
+prefixes_are [] known blocks answers z = subst (λ (bs : List (List Record)). AllZip IsPrefixOf bs answers) (sym z.0) (subst (λ (xs : List (List Record)). AllZip IsPrefixOf [] xs) (sym z.1) tt)
+prefixes_are (q ∷ qs) known [] answers z = absurd z
+prefixes_are (q ∷ qs) known (block ∷ blocks) [] z = absurd z
+prefixes_are (q ∷ qs) known (block ∷ blocks) (rs ∷ more) z =
     let p = z.0 in
-    ((p.nodes, p.all ∙ ap (λ (t : List Record). t ++ p.nodes) (sym z.1)), fronts_are qs (learn_of q known p.head p.rows) blocks more z.3)
+    ((p.nodes, p.all ∙ ap (λ (t : List Record). t ++ p.nodes) (sym z.1)), prefixes_are qs (learn_of q known p.head p.rows) blocks more z.3)
 
 -- the network of a document that is read is the one that is read, and its answers are the blocks that are read but for the nodes of trees
 pub read_is_of : ReadDocumentsAreGood
 read_is_of bytes read p =
     let g = read_documents_are_good_by bytes read p in
-    (g.0, g.1, fronts_are built (meaning.start read.net) read.blocks g.0.answers g.2, fronts_say built (meaning.start read.net) read.blocks g.0.answers g.2)
+    (g.0, g.1, prefixes_are built (meaning.start read.net) read.blocks g.0.answers g.2, prefixes_say built (meaning.start read.net) read.blocks g.0.answers g.2)

@@ -37,14 +37,14 @@ use Rattle.crn_ctext.proofs.AnswersApart.{AllWorded, worded_both, formed_are_wor
 -- ---- lines
 
 -- a line without an end and what follows it
-line_front : (l k : List ℕ) (x y : List ℕ) → ends_in l ≡ 0 → ends_in k ≡ 0 → l ++ 10 ∷ x ≡ k ++ 10 ∷ y → (l ≡ k) × (x ≡ y)
-line_front [] [] x y p q e = (refl, cc)
-line_front [] (b ∷ k) x y p q e = absurd (let same : 10 ≡ b = cc in let f : (if b == 10 then 1 else 0) + ends_in k ≡ 0 = q in let g : (if 10 == 10 then 1 else 0) + ends_in k ≡ 0 = subst (λ (c : ℕ). (if c == 10 then 1 else 0) + ends_in k ≡ 0) (sym same) f in omega (arith, g))
-line_front (b ∷ l) [] x y p q e = absurd (let same : b ≡ 10 = cc in let f : (if b == 10 then 1 else 0) + ends_in l ≡ 0 = p in let g : (if 10 == 10 then 1 else 0) + ends_in l ≡ 0 = subst (λ (c : ℕ). (if c == 10 then 1 else 0) + ends_in l ≡ 0) same f in omega (arith, g))
-line_front (b ∷ l) (c ∷ k) x y p q e =
+line_prefix : (l k : List ℕ) (x y : List ℕ) → ends_in l ≡ 0 → ends_in k ≡ 0 → l ++ 10 ∷ x ≡ k ++ 10 ∷ y → (l ≡ k) × (x ≡ y)
+line_prefix [] [] x y p q e = (refl, cc)
+line_prefix [] (b ∷ k) x y p q e = absurd (let same : 10 ≡ b = cc in let f : (if b == 10 then 1 else 0) + ends_in k ≡ 0 = q in let g : (if 10 == 10 then 1 else 0) + ends_in k ≡ 0 = subst (λ (c : ℕ). (if c == 10 then 1 else 0) + ends_in k ≡ 0) (sym same) f in omega (arith, g))
+line_prefix (b ∷ l) [] x y p q e = absurd (let same : b ≡ 10 = cc in let f : (if b == 10 then 1 else 0) + ends_in l ≡ 0 = p in let g : (if 10 == 10 then 1 else 0) + ends_in l ≡ 0 = subst (λ (c : ℕ). (if c == 10 then 1 else 0) + ends_in l ≡ 0) same f in omega (arith, g))
+line_prefix (b ∷ l) (c ∷ k) x y p q e =
     let first : b ≡ c = cc in
     let rest : l ++ 10 ∷ x ≡ k ++ 10 ∷ y = cc in
-    let more = line_front l k x y (later b l p) (later c k q) rest in
+    let more = line_prefix l k x y (later b l p) (later c k q) rest in
     (ap₂ (λ (u : ℕ) (us : List ℕ). u ∷ us) first more.0, more.1)
   where
     later : (b : ℕ) (bs : List ℕ) → (if b == 10 then 1 else 0) + ends_in bs ≡ 0 → ends_in bs ≡ 0
@@ -62,7 +62,7 @@ ended_one [] [] p q e = refl
 ended_one [] (k ∷ ks) p q e = absurd (none_ended k (ended ks) (e ∙ first_ended k ks))
 ended_one (l ∷ ls) [] p q e = absurd (none_ended l (ended ls) (sym e ∙ first_ended l ls))
 ended_one (l ∷ ls) (k ∷ ks) p q e =
-    let h = line_front l k (ended ls) (ended ks) p.0 q.0 (sym (first_ended l ls) ∙ e ∙ first_ended k ks) in
+    let h = line_prefix l k (ended ls) (ended ks) p.0 q.0 (sym (first_ended l ls) ∙ e ∙ first_ended k ks) in
     ap₂ (λ (x : List ℕ) (xs : List (List ℕ)). x ∷ xs) h.0 (ended_one ls ks p.1 q.1 h.1)
 
 -- ---- records

@@ -40,7 +40,7 @@ ended_short (l ∷ ls) s =
     let size : length (ended (l ∷ ls)) ≡ length l + length (10 ∷ ended ls) = ap length (first_ended l ls) ∙ length-append l (10 ∷ ended ls) in
     omega (arith, more, size, s.0.1)
 
--- the most bytes of the lines of these records: a shared list's number may stand in the place of a cut's numbers
+-- the most bytes of the lines of these records: a shared list's number may come in the place of a cut's numbers
 abbrev weight : List Record → ℕ
 weight [] = 0
 weight (r ∷ rs) = 88 + 24 * length r.numbers + weight rs
@@ -84,13 +84,13 @@ few_lines version net records n s few =
     let parts : length (ended (text_lines version net records)) ≡ length (ended first) + length (ended (said ++ codes "end" ∷ [])) = ap length (ended_append first (said ++ codes "end" ∷ [])) ∙ length-append (ended first) (ended (said ++ codes "end" ∷ [])) in
     let tail : length (ended (said ++ codes "end" ∷ [])) ≡ length (ended said) + length (ended (codes "end" ∷ [])) = ap length (ended_append said (codes "end" ∷ [])) ∙ length-append (ended said) (ended (codes "end" ∷ [])) in
     let last : length (ended (codes "end" ∷ [])) ≡ 4 = refl in
-    let opening = ended_short first (front_short first (said ++ codes "end" ∷ []) s) in
+    let opening = ended_short first (prefix_short first (said ++ codes "end" ∷ []) s) in
     let whole : length (network_lines net) ≡ length net.reactions = length-map net.reactions (net_line net) in
     omega (arith, limit, size, parts, tail, last, opening, whole, few)
   where
-    front_short : (xs ys : List (List ℕ)) → AllByRecursion IsShortLine (xs ++ ys) → AllByRecursion IsShortLine xs
-    front_short [] ys a = tt
-    front_short (x ∷ xs) ys a = (a.0, front_short xs ys a.1)
+    prefix_short : (xs ys : List (List ℕ)) → AllByRecursion IsShortLine (xs ++ ys) → AllByRecursion IsShortLine xs
+    prefix_short [] ys a = tt
+    prefix_short (x ∷ xs) ys a = (a.0, prefix_short xs ys a.1)
 
 -- ---- records
 
@@ -384,9 +384,9 @@ block_light q known rs p small few f nodes plain =
     let long : length (below q (shapes_of known) p.head) ≡ length p.rows = zip_long Fits (below q (shapes_of known) p.head) p.rows f.rows in
     let size : weight rs ≡ weight ((p.head ∷ p.rows) ++ p.nodes) = ap weight p.all in
     let parts = plain_parts (p.head ∷ p.rows) p.nodes (subst AllPlain p.all plain) in
-    let front = plain_weight (p.head ∷ p.rows) parts.0 in
+    let prefix = plain_weight (p.head ∷ p.rows) parts.0 in
     let back = each_light q known p.head p.nodes small f.trees parts.1 nodes in
-    omega (arith, size, weight_append (p.head ∷ p.rows) p.nodes, front, back, long, few known p.head small f.head)
+    omega (arith, size, weight_append (p.head ∷ p.rows) p.nodes, prefix, back, long, few known p.head small f.head)
 
 -- the most bytes of the blocks of these questions, each with the line of its section
 abbrev most_of : List Question → ℕ

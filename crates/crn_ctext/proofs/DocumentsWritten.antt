@@ -10,7 +10,7 @@ use Rattle.crn_ctext.specs.Records.{Record, record_text}
 use Rattle.crn_ctext.specs.Kinds.{end_form}
 use Rattle.crn_cert.specs.Questions.{Question}
 use Rattle.crn_ctext.specs.Course.{Course, Give, ◌>>=◌, ◌>>◌, find, ends, Gives, IsWrittenBy}
-use Rattle.crn_ctext.specs.Blocks.{Meaning, Behind, asks, asks_blocks, asks_table, lists_of, asks_lines, title, network_line, ended, ReadOf, IsNetworkOf, course}
+use Rattle.crn_ctext.specs.Blocks.{Meaning, AfterBlocks, asks, asks_blocks, asks_table, lists_of, asks_lines, title, network_line, ended, ReadOf, IsNetworkOf, course}
 use Rattle.crn_ctext.specs.Documents.{one_word, opening, record_lines, IsShareable, AreValid}
 use Rattle.crn_io.specs.declared.lines.TheConstants.{MAX_DOCUMENT, MAX_SHARED}
 use Rattle.crn_io.specs.Lines.{Place, beginning}
@@ -85,17 +85,17 @@ table_lists version table (inr two) = ap (λ (v : ℕ). lists_of (table_part v t
 -- ---- the document
 
 -- what follows the blocks
-pub last_lines : {Known : Type 0} → ℕ → Net → Behind Known → Course ReadOf
-last_lines version net behind = asks version behind.line behind.by_tree (end_form ∷ []) >>= (λ last. ends >> Give (record { net = net; blocks = behind.blocks }))
+pub last_lines : {Known : Type 0} → ℕ → Net → AfterBlocks Known → Course ReadOf
+last_lines version net after = asks version after.line after.by_tree (end_form ∷ []) >>= (λ last. ends >> Give (record { net = net; blocks = after.blocks }))
 
 end_record : Record
 end_record = one_word (codes "end") []
 
-last_written : {Known : Type 0} (version : ℕ) (table : List (List ℤ)) (net : Net) (behind : Behind Known) → IsVersion version table → IsWrittenBy (last_lines version net behind) (codes "end" ∷ []) (record { net = net; blocks = behind.blocks })
+last_written : {Known : Type 0} (version : ℕ) (table : List (List ℤ)) (net : Net) (after : AfterBlocks Known) → IsVersion version table → IsWrittenBy (last_lines version net after) (codes "end" ∷ []) (record { net = net; blocks = after.blocks })
 unfolding last_lines end_record IsWrittenBy
-last_written version table net behind v = written_then (asks version behind.line behind.by_tree (end_form ∷ [])) (λ last. ends >> Give (record { net = net; blocks = behind.blocks })) (record_text end_record ∷ []) [] end_record (record { net = net; blocks = behind.blocks })
-    (asks_no_end version behind.line behind.by_tree (end_form ∷ []))
-    (record_is_written version behind.line behind.by_tree (end_form ∷ []) end_form end_record (inl refl) (one_due version table behind.by_tree (end_form ∷ []) end_form v end_has end_kind (inl refl)) (refl, refl) tt) (refl, (refl, refl))
+last_written version table net after v = written_then (asks version after.line after.by_tree (end_form ∷ [])) (λ last. ends >> Give (record { net = net; blocks = after.blocks })) (record_text end_record ∷ []) [] end_record (record { net = net; blocks = after.blocks })
+    (asks_no_end version after.line after.by_tree (end_form ∷ []))
+    (record_is_written version after.line after.by_tree (end_form ∷ []) end_form end_record (inl refl) (one_due version table after.by_tree (end_form ∷ []) end_form v end_has end_kind (inl refl)) (refl, refl) tt) (refl, (refl, refl))
 
 pub document_is_written : {Known : Type 0} (version : ℕ) (table : List (List ℤ)) (m : Meaning Known) (versions : List ℕ) (built : List Question) (net : Net) (answers : List (List Record)) (ls : List (List ℕ)) → IsIn version versions → IsTable version table
     → IsNetwork net → AreValid m built (m.start net) answers → AllZip (IsTextFor table) ls (parted version built answers)
@@ -115,33 +115,33 @@ document_is_written {Known} version table m versions built net answers ls i t n 
     records : List Record
     records = table_part version table
 
-    start : Behind Known
+    start : AfterBlocks Known
     start = record { known = m.start net; by_tree = false; line = 3 + count + length records; blocks = [] }
 
-    blocks : (end : Behind Known) × IsWrittenBy (asks_blocks m version table built start) ls end
+    blocks : (end : AfterBlocks Known) × IsWrittenBy (asks_blocks m version table built start) ls end
     blocks = blocks_are_written version table m built start ls answers of v s
 
     read : ReadOf
     read = record { net = net; blocks = blocks.0.blocks }
 
-    behind_table : List Record → Course ReadOf
-    behind_table rs = asks_blocks m version (lists_of rs) built (record { known = m.start net; by_tree = false; line = 3 + count + length rs; blocks = [] }) >>= (λ behind. last_lines version net behind)
+    after_table : List Record → Course ReadOf
+    after_table rs = asks_blocks m version (lists_of rs) built (record { known = m.start net; by_tree = false; line = 3 + count + length rs; blocks = [] }) >>= (λ after. last_lines version net after)
 
-    behind_lines : List (List ℕ) → Course ReadOf
-    behind_lines lines = find (2 + count) 22 Net (IsNetworkOf lines) >>= (λ net. asks_table version (3 + count) >>= (λ table. asks_blocks m version (lists_of table) built (record { known = m.start net; by_tree = false; line = 3 + count + length table; blocks = [] }) >>= (λ behind. last_lines version net behind)))
+    after_lines : List (List ℕ) → Course ReadOf
+    after_lines lines = find (2 + count) 22 Net (IsNetworkOf lines) >>= (λ net. asks_table version (3 + count) >>= (λ table. asks_blocks m version (lists_of table) built (record { known = m.start net; by_tree = false; line = 3 + count + length table; blocks = [] }) >>= (λ after. last_lines version net after)))
 
-    rest : IsWrittenBy (behind_table records) (ls ++ codes "end" ∷ []) read
-    rest = written_then (asks_blocks m version (lists_of records) built start) (λ behind. last_lines version net behind) ls (codes "end" ∷ []) blocks.0 read (blocks_no_end version (lists_of records) m built start)
+    rest : IsWrittenBy (after_table records) (ls ++ codes "end" ∷ []) read
+    rest = written_then (asks_blocks m version (lists_of records) built start) (λ after. last_lines version net after) ls (codes "end" ∷ []) blocks.0 read (blocks_no_end version (lists_of records) m built start)
         (subst (λ (u : List (List ℤ)). IsWrittenBy (asks_blocks m version u built start) ls blocks.0) (sym (table_lists version table of)) blocks.1) (last_written version table net blocks.0 of)
 
-    after_network : IsWrittenBy (asks_table version (3 + count) >>= (λ rs. behind_table rs)) (map record_text records ++ (ls ++ codes "end" ∷ [])) read
-    after_network = written_then (asks_table version (3 + count)) (λ rs. behind_table rs) (map record_text records) (ls ++ codes "end" ∷ []) records read (table_no_end version (3 + count)) (table_written version table (3 + count) t) rest
+    after_network : IsWrittenBy (asks_table version (3 + count) >>= (λ rs. after_table rs)) (map record_text records ++ (ls ++ codes "end" ∷ [])) read
+    after_network = written_then (asks_table version (3 + count)) (λ rs. after_table rs) (map record_text records) (ls ++ codes "end" ∷ []) records read (table_no_end version (3 + count)) (table_written version table (3 + count) t) rest
 
     whole : length (network_lines net) ≡ count
     whole = length-map net.reactions (λ (r : ℕ × ℕ). complex_text net r.0 ++ codes " -> " ++ complex_text net r.1)
 
-    network : IsWrittenBy (asks_lines count >>= behind_lines) (network_lines net ++ (map record_text records ++ (ls ++ codes "end" ∷ []))) read
-    network = written_then (asks_lines count) behind_lines (network_lines net) (map record_text records ++ (ls ++ codes "end" ∷ [])) (network_lines net) read (taken_no_end count)
+    network : IsWrittenBy (asks_lines count >>= after_lines) (network_lines net ++ (map record_text records ++ (ls ++ codes "end" ∷ []))) read
+    network = written_then (asks_lines count) after_lines (network_lines net) (map record_text records ++ (ls ++ codes "end" ∷ [])) (network_lines net) read (taken_no_end count)
         (subst (λ (k : ℕ). IsWrittenBy (asks_lines k) (network_lines net) (network_lines net)) whole (lines_taken (network_lines net))) (net, (n, canonical_ended net), after_network)
 
 -- ---- the text
@@ -179,7 +179,7 @@ from_zero k lt = omega (arith, lt)
 pub document_is_read : {Known : Type 0} (version : ℕ) (table : List (List ℤ)) (m : Meaning Known) (versions : List ℕ) (built : List Question) (net : Net) (answers : List (List Record)) (ws : List Record) → IsIn version versions → IsTable version table
     → IsNetwork net → AreValid m built (m.start net) answers → AllZip (IsTextFor table) (map record_text ws) (parted version built answers)
     → AllByRecursion IsShortLine (text_lines version net (table_part version table ++ ws)) → length (text_of version net (table_part version table ++ ws)) < MAX_DOCUMENT
-    → (read : ReadOf) × (behind : Place) × Gives (course m versions built) (beginning (text_of version net (table_part version table ++ ws))) read behind
+    → (read : ReadOf) × (after : Place) × Gives (course m versions built) (beginning (text_of version net (table_part version table ++ ws))) read after
 document_is_read {Known} version table m versions built net answers ws i t n v s lines short =
     let w = document_is_written version table m versions built net answers (map record_text ws) i t n v s in
     let all = table_part version table ++ ws in

@@ -40,15 +40,15 @@ IsNoLine Failed = ⊥
 IsNoLine answer = Unit {0}
 
 -- what an answer says of what is left, it says of no bytes if the source does not show them
-told : (answer : Next) (taken : ℕ) (bytes : List ℕ) (after : Option (List ℕ)) (new : KeptLines) (rest : List ℕ) → IsRest after rest → NextIs answer taken bytes after new → NextIs answer taken bytes (Some rest) new
-told Line taken bytes after new rest r q = q
-told LineTooLong taken bytes after new rest r q = q
-told DocumentTooLong taken bytes after new rest r q = q
-told Failed taken bytes after new rest r q = tt
-told Last taken bytes None new rest r q = (q.0, q.1, q.2, q.3, q.4, r)
-told Last taken bytes (Some left) new rest r q = (q.0, q.1, q.2, q.3, q.4, subst (λ (t : List ℕ). t ≡ []) r q.5)
-told End taken bytes None new rest r q = (q.0, r)
-told End taken bytes (Some left) new rest r q = (q.0, subst (λ (t : List ℕ). t ≡ []) r q.1)
+shown : (answer : Next) (taken : ℕ) (bytes : List ℕ) (after : Option (List ℕ)) (new : KeptLines) (rest : List ℕ) → IsRest after rest → NextIs answer taken bytes after new → NextIs answer taken bytes (Some rest) new
+shown Line taken bytes after new rest r q = q
+shown LineTooLong taken bytes after new rest r q = q
+shown DocumentTooLong taken bytes after new rest r q = q
+shown Failed taken bytes after new rest r q = tt
+shown Last taken bytes None new rest r q = (q.0, q.1, q.2, q.3, q.4, r)
+shown Last taken bytes (Some left) new rest r q = (q.0, q.1, q.2, q.3, q.4, subst (λ (t : List ℕ). t ≡ []) r q.5)
+shown End taken bytes None new rest r q = (q.0, r)
+shown End taken bytes (Some left) new rest r q = (q.0, subst (λ (t : List ℕ). t ≡ []) r q.1)
 
 breaks : (answer : Next) (node : Bool) (n : ℕ) (old new : KeptLines) (bytes rest : List ℕ) → IsNoLine answer → DueIs answer node (place n old bytes) (place (n + 1) new rest) new.line
     → BreaksLine (place n old bytes) (early node) (LacksLine (place n old bytes)) (code_of (early node) answer)
@@ -67,5 +67,5 @@ line_is_missing answer node n old new before now none lt g = record {
   off = g.1;
   bound = g.4;
   fails = λ rest r. fails_line node n old (g.0 ++ rest) (code_of (early node) answer) (breaks answer node n old new (g.0 ++ rest) rest none
-      (due_is answer node n old new (g.0 ++ rest) rest (old.ahead ++ g.0) lt (all_ahead old.ahead g.0 rest) (told answer old.taken (old.ahead ++ g.0) now.left new rest r g.2)));
+      (due_is answer node n old new (g.0 ++ rest) rest (old.ahead ++ g.0) lt (all_ahead old.ahead g.0 rest) (shown answer old.taken (old.ahead ++ g.0) now.left new rest r g.2)));
 }

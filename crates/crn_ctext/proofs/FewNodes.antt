@@ -23,7 +23,7 @@ use Rattle.crn_ctext.specs.Meaning.{Known, meaning}
 use Rattle.crn_ctext.proofs.Alike.{IsAlike}
 use Rattle.crn_ctext.proofs.Joined.{parts, joined}
 use Rattle.crn_ctext.proofs.KnownBefore.{AreKnown, after}
-use Rattle.crn_ctext.proofs.AnswersLinked.{AreLinkedFor, behind, built_linked, alike_behind, known_next}
+use Rattle.crn_ctext.proofs.AnswersLinked.{AreLinkedFor, known_after, built_linked, alike_after, known_next}
 use Rattle.crn_ctext.proofs.TablesLinked.{IsTreeOrNone, tree_or_none}
 use Rattle.crn_ctext.proofs.SignalLinked.{HasSignalTrees, signal_trees}
 use Rattle.crn_ctext.proofs.WrittenAnswers.{IsShortQuestion, ShortFor, built_short, concordant_rows, strongly_rows}
@@ -117,7 +117,7 @@ few_by b (q ∷ qs) links shorts known earlier (a ∷ answers) n e f few =
       parts q known a,
       formed known earlier a.verdict a.proof n e f.0,
       nodes known.net earlier a.verdict a.proof f.0.1 few.0,
-      few_by (after b q) qs links.1 shorts.1 (behind q known a) (earlier ++ (q, a.verdict) ∷ []) answers (known_next b q known earlier a n e j f.0) (alike_behind b q known earlier a n e j f.0) f.1 few.1,
+      few_by (after b q) qs links.1 shorts.1 (known_after q known a) (earlier ++ (q, a.verdict) ∷ []) answers (known_next b q known earlier a n e j f.0) (alike_after b q known earlier a n e j f.0) f.1 few.1,
     )
 
 -- the records of formed answers whose trees have few nodes

@@ -59,7 +59,7 @@ mod SignalLinked
 mod Linking
 mod ConfluenceLinked
 mod AnswersLinked
-mod FrontsSaid
+mod PrefixesSaid
 mod RecordsLinked
 mod TrueRecords
 mod FewNodes

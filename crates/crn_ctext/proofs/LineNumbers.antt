@@ -83,7 +83,7 @@ digits_word : (ds : List ℕ) → AllDigits 10 ds → IsWord ds
 digits_word [] h = tt
 digits_word (c ∷ cs) h = ((λ e. let lt : digit_value 32 < 10 = subst (λ x. digit_value x < 10) e h.0 in omega (arith, lt)), digits_word cs h.1)
 
--- no space stands in a number
+-- no space is in a number
 pub spelled_is_word : (text : List ℕ) (z : ℤ) → IsSpelled text z → IsWord text
 spelled_is_word text (pos zero) p = subst IsWord (sym p) ((λ e. let h : 48 ≡ 32 = e in omega (arith, h)), tt)
 spelled_is_word text (pos (suc n)) p = let d = p.digits in digits_word text d.1

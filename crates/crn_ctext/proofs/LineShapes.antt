@@ -145,10 +145,10 @@ pub class_known : (species : ℕ) (reactions : List ℕ) (k : ℕ) (rest : List 
     → AreOf Takes (small 1 1 (species + slice_index reactions k) ∷ Rising species (species + slice_index reactions k) ∷ []) rest ↔ Takes (ClassWide species reactions) (pos (suc k) ∷ rest)
 class_known species reactions k rest lt = ((λ h. on h.0 h.1 h.2 h.3 h.4), (λ h. back h.0 h.1 h.2 h.3 h.5 h.6 h.7 h.8))
   where
-    on : (front back : List ℤ) → rest ≡ front ++ back → Takes (small 1 1 (species + slice_index reactions k)) front → AreOf Takes (Rising species (species + slice_index reactions k) ∷ []) back → Takes (ClassWide species reactions) (pos (suc k) ∷ rest)
+    on : (prefix back : List ℤ) → rest ≡ prefix ++ back → Takes (small 1 1 (species + slice_index reactions k)) prefix → AreOf Takes (Rising species (species + slice_index reactions k) ∷ []) back → Takes (ClassWide species reactions) (pos (suc k) ∷ rest)
     on [] back e t h = absurd (let one : 0 ≡ 1 = t.0 in omega (arith, one))
-    on (negsuc n ∷ front) back e t h = absurd (omega (arith, ints, t.1.0.0))
-    on (pos n ∷ x ∷ front) back e t h = absurd (let one : length (pos n ∷ x ∷ front) ≡ 1 = t.0 in omega (arith, one))
+    on (negsuc n ∷ prefix) back e t h = absurd (omega (arith, ints, t.1.0.0))
+    on (pos n ∷ x ∷ prefix) back e t h = absurd (let one : length (pos n ∷ x ∷ prefix) ≡ 1 = t.0 in omega (arith, one))
     on (pos n ∷ []) back e t h =
         let rises = (alone (Rising species (species + slice_index reactions k)) back).0 h in
         (k, n, back, ap (λ t. pos (suc k) ∷ t) e, lt, omega (arith, ints, t.1.0.0), omega (arith, ints, t.1.0.1), rises.0, rises.1)
@@ -162,23 +162,23 @@ class_known species reactions k rest lt = ((λ h. on h.0 h.1 h.2 h.3 h.4), (λ h
         let more : AreRising (species + slice_index reactions k) basis = subst (λ i. AreRising (species + slice_index reactions i) basis) same rises in
         (pos n ∷ [], basis, is, (refl, ((omega (arith, ints, low), omega (arith, ints, up)), tt)), (alone (Rising species (species + slice_index reactions k)) basis).1 (len, more))
 
--- a number of the range comes off the front
+-- a number of the range comes off at the start
 pub first_taken : (least greatest : ℕ) (z : ℤ) (zs : List ℤ) → pos least ≤ℤ z → z ≤ℤ pos greatest → (fields : List Field)
     → AreOf Takes (small 1 least greatest ∷ fields) (z ∷ zs) ↔ AreOf Takes fields zs
 first_taken least greatest z zs low high fields = ((λ h. on h.0 h.1 h.2 h.3 h.4), (λ h. (z ∷ [], zs, refl, (refl, ((low, high), tt)), h)))
   where
-    on : (front back : List ℤ) → z ∷ zs ≡ front ++ back → Takes (small 1 least greatest) front → AreOf Takes fields back → AreOf Takes fields zs
+    on : (prefix back : List ℤ) → z ∷ zs ≡ prefix ++ back → Takes (small 1 least greatest) prefix → AreOf Takes fields back → AreOf Takes fields zs
     on [] back e t h = absurd (let one : 0 ≡ 1 = t.0 in omega (arith, one))
     on (y ∷ []) back e t h = subst (AreOf Takes fields) (let same : zs ≡ back = cc in sym same) h
-    on (y ∷ x ∷ front) back e t h = absurd (let one : length (y ∷ x ∷ front) ≡ 1 = t.0 in omega (arith, one))
+    on (y ∷ x ∷ prefix) back e t h = absurd (let one : length (y ∷ x ∷ prefix) ≡ 1 = t.0 in omega (arith, one))
 
 pub first_missed : (least greatest : ℕ) (z : ℤ) (zs : List ℤ) → (z <ℤ pos least) ⊎ (pos greatest <ℤ z) → (fields : List Field)
     → AreOf Takes (small 1 least greatest ∷ fields) (z ∷ zs) → ⊥
 first_missed least greatest z zs out fields h = none h.0 h.1 h.2 h.3
   where
-    none : (front back : List ℤ) → z ∷ zs ≡ front ++ back → Takes (small 1 least greatest) front → ⊥
+    none : (prefix back : List ℤ) → z ∷ zs ≡ prefix ++ back → Takes (small 1 least greatest) prefix → ⊥
     none [] back e t = let one : 0 ≡ 1 = t.0 in omega (arith, one)
-    none (y ∷ front) back e t = let same : y ≡ z = cc in
+    none (y ∷ prefix) back e t = let same : y ≡ z = cc in
         let low : pos least ≤ℤ z = subst (λ x. pos least ≤ℤ x) same t.1.0.0 in
         let high : z ≤ℤ pos greatest = subst (λ x. x ≤ℤ pos greatest) same t.1.0.1 in
         elim out [ inl lt ↦ omega (arith, ints, lt, low) | inr gt ↦ omega (arith, ints, gt, high) ]
@@ -186,9 +186,9 @@ first_missed least greatest z zs out fields h = none h.0 h.1 h.2 h.3
 pub first_lacks : (least greatest : ℕ) (fields : List Field) → AreOf Takes (small 1 least greatest ∷ fields) [] → ⊥
 first_lacks least greatest fields h = none h.0 h.1 h.2 h.3
   where
-    none : (front back : List ℤ) → [] ≡ front ++ back → Takes (small 1 least greatest) front → ⊥
+    none : (prefix back : List ℤ) → [] ≡ prefix ++ back → Takes (small 1 least greatest) prefix → ⊥
     none [] back e t = let one : 0 ≡ 1 = t.0 in omega (arith, one)
-    none (y ∷ front) back e t = cc
+    none (y ∷ prefix) back e t = cc
 
 pub class_wide : (species : ℕ) (reactions : List ℕ) (numbers : List ℤ) (k : ℕ) (rest : List ℤ) → 0 < length numbers → get_or numbers 0 (pos 0) ≡ pos (suc k) → k < length reactions → rest ≡ drop 1 numbers
     → AreOf Takes (small 1 1 (species + slice_index reactions k) ∷ Rising species (species + slice_index reactions k) ∷ []) rest ↔ Takes (ClassWide species reactions) numbers

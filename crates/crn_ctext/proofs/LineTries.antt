@@ -41,9 +41,9 @@ pub space_tail : (rest : List ℕ) → 0 < length rest → get_or rest 0 0 ≡ 3
 space_tail [] lt e = absurd (omega (arith, lt))
 space_tail (x ∷ rest) lt e = inr (rest, ap (λ b. b ∷ rest) e)
 
-behind_one : (first s t : List ℕ) → first ++ s ≡ first ++ t → s ≡ t
-behind_one [] s t e = e
-behind_one (x ∷ first) s t e = behind_one first s t cc
+after_one : (first s t : List ℕ) → first ++ s ≡ first ++ t → s ≡ t
+after_one [] s t e = e
+after_one (x ∷ first) s t e = after_one first s t cc
 
 -- ---- how many numbers
 
@@ -75,14 +75,14 @@ pub only_numbers : (bytes : List ℕ) (ys zs : List ℤ) → SaysNumbers bytes y
 only_numbers bytes ys zs h s = numbers_one h.0 bytes ys zs h.1 h.2 s
 
 -- what is said of one text is said of the other
-fit_moved : (f : Fit) (fields : List Field) (place : ℕ) (Said Told : List ℤ → Type 0) (read : List ℤ) → ((zs : List ℤ) → Said zs → Told zs) → ((zs : List ℤ) → Told zs → Said zs) → IsFit f fields place Said read → IsFit f fields place Told read
-fit_moved fit.Misfit fields place Said Told read on back h = λ zs s. h zs (back zs s)
-fit_moved fit.TooWide fields place Said Told read on back h = ((h.0.0, on h.0.0 h.0.1, h.0.2), λ zs s. h.1 zs (back zs s))
-fit_moved fit.Fits fields place Said Told read on back h = (h.0, on h.0 h.1, h.2, h.3, h.4)
+fit_moved : (f : Fit) (fields : List Field) (place : ℕ) (Said Shown : List ℤ → Type 0) (read : List ℤ) → ((zs : List ℤ) → Said zs → Shown zs) → ((zs : List ℤ) → Shown zs → Said zs) → IsFit f fields place Said read → IsFit f fields place Shown read
+fit_moved fit.Misfit fields place Said Shown read on back h = λ zs s. h zs (back zs s)
+fit_moved fit.TooWide fields place Said Shown read on back h = ((h.0.0, on h.0.0 h.0.1, h.0.2), λ zs s. h.1 zs (back zs s))
+fit_moved fit.Fits fields place Said Shown read on back h = (h.0, on h.0 h.1, h.2, h.3, h.4)
 
 pub fit_after : (f : Fit) (fields : List Field) (place : ℕ) (bytes first rest : List ℕ) (read : List ℤ) → bytes ≡ first ++ rest → IsFit f fields place (SaysNumbers rest) read → IsFit f fields place (SaysAfter first bytes) read
 fit_after f fields place bytes first rest read e h = fit_moved f fields place (SaysNumbers rest) (SaysAfter first bytes) read
-    (λ zs s. (rest, e, s)) (λ zs s. subst (λ t. SaysNumbers t zs) (behind_one first s.0 rest (sym s.1 ∙ e)) s.2) h
+    (λ zs s. (rest, e, s)) (λ zs s. subst (λ t. SaysNumbers t zs) (after_one first s.0 rest (sym s.1 ∙ e)) s.2) h
 
 pub misfit_after : (fields : List Field) (bytes first : List ℕ) → ((rest : List ℕ) → IsTail rest → bytes ≡ first ++ rest → ⊥) → (zs : List ℤ) → SaysAfter first bytes zs → AreOf Takes fields zs → ⊥
 misfit_after fields bytes first none zs s t = let h = s.2 in none s.0 (subst IsTail (sym h.2) (spaced_tail h.0)) s.1
@@ -139,7 +139,7 @@ said_from : (f : GivenForm) (line rest : List ℕ) (zs : List ℤ) → line ≡ 
 said_from f line rest zs e s = (s.0, e ∙ ap (λ t. text_of f.word ++ t) s.1 ∙ sym (append_assoc (text_of f.word) f.words.now s.0), s.2)
 
 said_to : (f : GivenForm) (line rest : List ℕ) (zs : List ℤ) → line ≡ text_of f.word ++ rest → SaidBy f line zs → SaysAfter f.words.now rest zs
-said_to f line rest zs e s = (s.0, sym (behind_one (text_of f.word) (f.words.now ++ s.0) rest (sym (append_assoc (text_of f.word) f.words.now s.0) ∙ sym s.1 ∙ e)), s.2)
+said_to f line rest zs e s = (s.0, sym (after_one (text_of f.word) (f.words.now ++ s.0) rest (sym (append_assoc (text_of f.word) f.words.now s.0) ∙ sym s.1 ∙ e)), s.2)
 
 not_shaped : (f : GivenForm) (form : Form) (line rest : List ℕ) → IsForm f form → line ≡ text_of f.word ++ rest → ((zs : List ℤ) → SaysAfter f.words.now rest zs → AreOf Takes (fields_of f.shape) zs → ⊥) → IsNotShaped line form
 not_shaped f form line rest is e none r h s = none r.numbers (said_to f line rest r.numbers e (said f form line r is h s.0)) (subst (λ t. AreOf Takes t r.numbers) is.fields s.1)

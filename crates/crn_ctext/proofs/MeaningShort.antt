@@ -63,10 +63,10 @@ depth_short : (known : Known) → IsSmall known → IsSlim (pos (length known.ne
 depth_short known s = let c = s.complexes in few_short (length known.net.complexes - 1) MAX_COMPLEXES (omega (arith, c)) (omega arith)
 
 -- the first number of a head that says a number of classes
-first_between : (most : ℕ) (front back : List ℤ) → length front ≡ 1 → AreBetween (pos 1) (pos most) front → first_number (front ++ back) ≤ most
+first_between : (most : ℕ) (prefix back : List ℤ) → length prefix ≡ 1 → AreBetween (pos 1) (pos most) prefix → first_number (prefix ++ back) ≤ most
 first_between most [] back e b = absurd (omega (arith, e))
-first_between most (pos k ∷ front) back e b = omega (arith, ints, b.0.1)
-first_between most (negsuc k ∷ front) back e b = absurd (omega (arith, ints, b.0.0))
+first_between most (pos k ∷ prefix) back e b = omega (arith, ints, b.0.1)
+first_between most (negsuc k ∷ prefix) back e b = absurd (omega (arith, ints, b.0.0))
 
 linkage_first : (known : Known) (h : Record) → IsOneOf (heads Q1 (sizes_of known)) h → first_number h.numbers ≤ length known.net.complexes
 linkage_first known h (form, inr none, fits) = absurd none

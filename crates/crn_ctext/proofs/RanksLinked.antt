@@ -1,4 +1,4 @@
--- Ranks as records: those of a formed proof fit its forms, say the proof, and are told by the forms; so for each linkage class.
+-- Ranks as records: those of a formed proof fit its forms, say the proof, and follow from the forms; so for each linkage class.
 use Rattle.std.proofs.Common.{◌≡◌, ◌≢◌, ◌≤◌, ◌<◌, ◌+◌, ◌-◌, ◌==◌, ◌++◌, ◌∙◌, ℕ, zero, suc, List, [], ◌∷◌, length, map, take, drop, refl, sym, ap, ap₂, subst, inl, inr, arith}
 use Rattle.std.specs.Prelude.{ℤ, pos, negsuc, nat_abs, min, codes, replicate, slice_index, slice_index_or}
 use Rattle.std.specs.List.{AllByRecursion, AllZip, filter, flat_map, range_with_len}
@@ -121,7 +121,7 @@ zip_both [] more (r ∷ rows) rest p q = absurd p
 zip_both (form ∷ forms) more [] rest p q = absurd p
 zip_both (form ∷ forms) more (r ∷ rows) rest p q = (p.0, zip_both forms more rows rest p.1 q)
 
-zip_split : (forms more : List Form) (rows : List Record) → AllZip Fits (forms ++ more) rows → (front : List Record) × (back : List Record) × (rows ≡ front ++ back) × AllZip Fits forms front × AllZip Fits more back
+zip_split : (forms more : List Form) (rows : List Record) → AllZip Fits (forms ++ more) rows → (prefix : List Record) × (back : List Record) × (rows ≡ prefix ++ back) × AllZip Fits forms prefix × AllZip Fits more back
 zip_split [] more rows z = ([], rows, refl, tt, z)
 zip_split (form ∷ forms) more [] z = absurd z
 zip_split (form ∷ forms) more (r ∷ rows) z =
@@ -258,9 +258,9 @@ classes_said net earlier k (d ∷ ds) (p ∷ ps) f =
     let gd = g.duals in
     let duals = gd.long in
     let long : length (rank_records p) ≡ suc (length members) = rank_counted net members rank p (places_ascending net earlier k) g in
-    let front : take (suc (length members)) (rank_records p ++ rest) ≡ rank_records p = take_at (rank_records p) rest (suc (length members)) long in
+    let prefix : take (suc (length members)) (rank_records p ++ rest) ≡ rank_records p = take_at (rank_records p) rest (suc (length members)) long in
     let back : drop (suc (length members)) (rank_records p ++ rest) ≡ rest = drop_at (rank_records p) rest (suc (length members)) long in
-    let one : rank_proof rank (take (suc (length members)) (rank_records p ++ rest)) ≡ said_rank p = ap (λ (rs : List Record). rank_proof rank rs) front ∙ rank_said rank p duals in
+    let one : rank_proof rank (take (suc (length members)) (rank_records p ++ rest)) ≡ said_rank p = ap (λ (rs : List Record). rank_proof rank rs) prefix ∙ rank_said rank p duals in
     let more : proofs_from net earlier (k + 1) ds (drop (suc (length members)) (rank_records p ++ rest)) ≡ map said_rank ps = ap (λ (rs : List Record). proofs_from net earlier (k + 1) ds rs) back
     ∙ subst (λ (j : ℕ). proofs_from net earlier j ds rest ≡ map said_rank ps) (next k) (classes_said net earlier (suc k) ds ps f.1) in
     ap₂ (λ (x : RankProof) (xs : List RankProof). x ∷ xs) one more
@@ -332,9 +332,9 @@ wide_fits system columns rows index basis b =
 pub number_back : (least greatest : ℕ) (fields : List Field) (zs : List ℤ) → FitFields (small 1 least greatest ∷ fields) zs → (n : ℕ) × (rest : List ℤ) × (zs ≡ pos n ∷ rest) × ((least ≤ n) × (n ≤ greatest)) × FitFields fields rest
 number_back least greatest fields zs f = by f.0 f.2 f.3.0.0 f.3.0.1
   where
-    by : (front : List ℤ) → zs ≡ front ++ f.1 → length front ≡ 1 → AreBetween (pos least) (pos greatest) front → (n : ℕ) × (rest : List ℤ) × (zs ≡ pos n ∷ rest) × ((least ≤ n) × (n ≤ greatest)) × FitFields fields rest
+    by : (prefix : List ℤ) → zs ≡ prefix ++ f.1 → length prefix ≡ 1 → AreBetween (pos least) (pos greatest) prefix → (n : ℕ) × (rest : List ℤ) × (zs ≡ pos n ∷ rest) × ((least ≤ n) × (n ≤ greatest)) × FitFields fields rest
     by [] e l b = absurd (omega (arith, l))
-    by (x ∷ y ∷ front) e l b = absurd (omega (arith, l))
+    by (x ∷ y ∷ prefix) e l b = absurd (omega (arith, l))
     by (negsuc n ∷ []) e l b = absurd (omega (arith, ints, b.0.0))
     by (pos n ∷ []) e l b = (n, f.1, e, (omega (arith, ints, b.0.0), omega (arith, ints, b.0.1)), f.4)
 

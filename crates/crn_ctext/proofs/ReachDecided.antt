@@ -86,10 +86,10 @@ cut_pair_decided net n y z = elim (linked_decided net.reactions y z) [
 -- ---- terminal classes by first appearance
 
 -- one more class at the end of a list
-top_front : (ts : List (Option ℕ)) (o : Option ℕ) (y : ℕ) → y < length ts → top_at (ts ++ o ∷ []) y ≡ top_at ts y
-top_front [] o y lt = absurd (omega (arith, lt))
-top_front (t ∷ ts) o zero lt = refl
-top_front (t ∷ ts) o (suc y) lt = top_front ts o y (omega (arith, lt))
+top_prefix : (ts : List (Option ℕ)) (o : Option ℕ) (y : ℕ) → y < length ts → top_at (ts ++ o ∷ []) y ≡ top_at ts y
+top_prefix [] o y lt = absurd (omega (arith, lt))
+top_prefix (t ∷ ts) o zero lt = refl
+top_prefix (t ∷ ts) o (suc y) lt = top_prefix ts o y (omega (arith, lt))
 
 top_last : (ts : List (Option ℕ)) (o : Option ℕ) (y : ℕ) → y ≡ length ts → top_at (ts ++ o ∷ []) y ≡ o
 top_last [] o zero e = refl
@@ -126,7 +126,7 @@ top_option ts y = by (top_at ts y) refl
 
 -- a class of the list is one of the longer list
 top_more : (ts : List (Option ℕ)) (o : Option ℕ) (y k : ℕ) → top_at ts y ≡ Some k → top_at (ts ++ o ∷ []) y ≡ Some k
-top_more ts o y k e = top_front ts o y (top_inside ts y k e) ∙ e
+top_more ts o y k e = top_prefix ts o y (top_inside ts y k e) ∙ e
 
 before_or_last : (y n : ℕ) → y < suc n → (y < n) ⊎ (y ≡ n)
 before_or_last y n lt = elim (cases_lt y n) [ inl less ↦ inl less | inr more ↦ inr (omega (arith, lt, more)) ]
@@ -143,7 +143,7 @@ none_more net n t other =
       long = omega (arith, long, length-append t.tops (None ∷ []));
       inside = λ y k e. let f = t.inside in f y k (old y k e);
       outside = λ y lt e terminal. elim (before_or_last y n lt) [
-        | inl less ↦ let f = t.outside in f y less (sym (top_front t.tops None y (omega (arith, less, long))) ∙ e) terminal
+        | inl less ↦ let f = t.outside in f y less (sym (top_prefix t.tops None y (omega (arith, less, long))) ∙ e) terminal
         | inr last ↦ other (subst (IsTerminal net.reactions) last terminal)
       ];
       same = λ y z k e f. let g = t.same in g y z k (old y k e) (old z k f);
@@ -176,7 +176,7 @@ some_more net n t j count terminal next =
       long = omega (arith, long, length-append t.tops (Some j ∷ []));
       inside = λ y k e. elim (found y k e) [ inl h ↦ (let f = t.inside in f y k h) | inr h ↦ subst (IsTerminal rs) (sym h.0) terminal ];
       outside = λ y lt e terminal. elim (before_or_last y n lt) [
-        | inl less ↦ let f = t.outside in f y less (sym (top_front t.tops (Some j) y (omega (arith, less, long))) ∙ e) terminal
+        | inl less ↦ let f = t.outside in f y less (sym (top_prefix t.tops (Some j) y (omega (arith, less, long))) ∙ e) terminal
         | inr last ↦ none_some (top_at ts y) j e (ap (top_at ts) last ∙ here)
       ];
       same = λ y z k e f. elim (found y k e) [

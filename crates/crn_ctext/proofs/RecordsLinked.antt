@@ -39,7 +39,7 @@ use Rattle.crn_ctext.proofs.SignalLinked.{is_yes_then, vector_then, same_type, w
 use Rattle.crn_ctext.proofs.TestsAlike.{pairs_alike}
 use Rattle.crn_ctext.proofs.KnownBefore.{IsStrong, AreKnown, IsRight, after, formed_right, known_then, pairs_known}
 use Rattle.crn_ctext.proofs.ConfluenceLinked.{tie_width}
-use Rattle.crn_ctext.proofs.FrontsSaid.{front_says}
+use Rattle.crn_ctext.proofs.PrefixesSaid.{prefix_says}
 use Rattle.crn_ctext.proofs.TreeRecords.{tree_of}
 use Rattle.crn_ctext.proofs.TablesLinked.{table_of, at_root}
 use Rattle.crn_ctext.proofs.MeaningShort.{lists_counted}
@@ -158,10 +158,10 @@ abbrev from_forms : ℕ → ℕ → ℕ → List Form
 from_forms c r n = small_form (codes "from") c 0 r ∷ fromdepth_forms c r n
 
 -- the first three rows below a head of strong classes, and the four others
-strong_front : (c r n : ℕ) (rows : List Record) → AllZip Fits (small_form (codes "label") c 1 n ∷ from_forms c r n) rows
+strong_prefix : (c r n : ℕ) (rows : List Record) → AllZip Fits (small_form (codes "label") c 1 n ∷ from_forms c r n) rows
     → (xs : List ℕ) × (ys : List ℕ) × (zs : List ℕ) × (rest : List Record) × (rows ≡ small_record (codes "label") xs ∷ small_record (codes "from") ys ∷ small_record (codes "fromdepth") zs ∷ rest)
     × (AreFrom c 1 n xs × (AreFrom c 0 r ys × AreFrom c 0 (c - 1) zs)) × AllZip Fits (to_forms c r n) rest
-strong_front c r n rows z =
+strong_prefix c r n rows z =
     let a = small_cons (codes "label") c 1 n (from_forms c r n) rows z in
     let b = small_cons (codes "from") c 0 r (fromdepth_forms c r n) a.1 a.4 in
     let d = small_cons (codes "fromdepth") c 0 (c - 1) (to_forms c r n) b.1 b.4 in
@@ -188,7 +188,7 @@ unfolding kept
 strong_by known n part rows nodes range z t =
     let c = length known.net.complexes in
     let r = length known.net.reactions in
-    let a = strong_front c r n rows z in
+    let a = strong_prefix c r n rows z in
     let b = strong_end c r n a.3 a.6 in
     let some : 1 ≤ n = omega (arith, range.0, range.1) in
     let all : rows ≡ small_record (codes "label") a.0 ∷ small_record (codes "from") a.1 ∷ small_record (codes "fromdepth") a.2 ∷ small_record (codes "to") b.0 ∷ small_record (codes "todepth") b.1 ∷ small_record (codes "level") b.2 ∷ small_record (codes "exit") b.3 ∷ []
@@ -643,39 +643,39 @@ confluence_answered known h rows nodes (form, inr (inr (inr (inr (inr (inr none)
 -- ---- answers with trees
 
 -- The parts of a block are those of an answer that is formed after verdicts that say what is known, and its verdict is the one that is read of the block.
-abbrev pub IsTold : Known → Question → Record → List Record → List Record → Type 0
-IsTold known q head rows nodes = (v : Verdict) × (p : Proof) × ((earlier : Earlier) → IsAlike known earlier → IsFormedOf known.net earlier q v p)
+abbrev pub IsShown : Known → Question → Record → List Record → List Record → Type 0
+IsShown known q head rows nodes = (v : Verdict) × (p : Proof) × ((earlier : Earlier) → IsAlike known earlier → IsFormedOf known.net earlier q v p)
     × (head ≡ head_of q v) × (rows ≡ records_below (shapes_of known) (record { verdict = v; proof = p })) × (nodes ≡ proof_nodes p)
     × (verdict_of q (sizes_of known) head rows ≡ v)
 
 abbrev TellParts : Known → Question → Record → List Record → List Record → Type 0
-TellParts known q head rows nodes = AllZip Fits (below q (shapes_of known) head) rows → AreTrees Leaf (problems meaning q known head) nodes → IsTold known q head rows nodes
+TellParts known q head rows nodes = AllZip Fits (below q (shapes_of known) head) rows → AreTrees Leaf (problems meaning q known head) nodes → IsShown known q head rows nodes
 
-told_at : (known : Known) (q : Question) (head other : Record) (rows nodes : List Record) → head ≡ other → TellParts known q other rows nodes → TellParts known q head rows nodes
-told_at known q head other rows nodes e f = subst (λ (h : Record). TellParts known q h rows nodes) (sym e) f
+shown_at : (known : Known) (q : Question) (head other : Record) (rows nodes : List Record) → head ≡ other → TellParts known q other rows nodes → TellParts known q head rows nodes
+shown_at known q head other rows nodes e f = subst (λ (h : Record). TellParts known q h rows nodes) (sym e) f
 
 concordance_answered : Global → (known : Known) (h : Record) (rows nodes : List Record) → IsOneOf (heads Q14 (sizes_of known)) h → TellParts known Q14 h rows nodes
 unfolding kept kept_ints
 concordance_answered alloc known h rows nodes (form, inl e, fits) =
     let net = known.net in
     let f : Fits (head (codes "q14") 1 yes []) h = subst (λ (f : Form). Fits f h) e fits in
-    told_at known Q14 h (head_with Q14 yes []) rows nodes (record_is h (codes "q14" ∷ yes) [] f.0 f.1) (λ z t.
+    shown_at known Q14 h (head_with Q14 yes []) rows nodes (record_is h (codes "q14" ∷ yes) [] f.0 f.1) (λ z t.
     let tree = tree_of alloc (table_of net (plain_table net)) (length net.names) [] t.0 (at_root (length net.names)) t.3 in
     (Yes, One tree.0, (λ earlier e. (tt, tree.2)), refl, zip_none rows z, t.2 ∙ ap (λ (x : List Record). t.0 ++ x) t.4 ∙ append-nil t.0 ∙ tree.1, refl))
 concordance_answered alloc known h rows nodes (form, inr (inl e), fits) =
     let f : Fits (head (codes "q14") 2 no []) h = subst (λ (f : Form). Fits f h) e fits in
-    told_at known Q14 h (head_with Q14 no []) rows nodes (record_is h (codes "q14" ∷ no) [] f.0 f.1) (λ z t.
+    shown_at known Q14 h (head_with Q14 no []) rows nodes (record_is h (codes "q14" ∷ no) [] f.0 f.1) (λ z t.
     let a = free_pair (codes "alpha") (codes "weights") (length known.net.reactions) rows z in
     (NoPair (kept_ints a.0) (kept_ints a.1), Nothing, (λ earlier e. (tt, (a.3.0, a.3.1))), refl, a.2, t, ap (λ (rs : List Record). verdict_of Q14 (sizes_of known) (head_with Q14 no []) rs) a.2))
 concordance_answered alloc known h rows nodes (form, inr (inr (inl e)), fits) =
     let f : Fits (wide (codes "q14") 3 2 (length known.net.reactions) (length known.net.names)) h = subst (λ (f : Form). Fits f h) e fits in
     let b = wide_back 2 (length known.net.reactions) (length known.net.names) h.numbers f.1 in
-    told_at known Q14 h (open_head Q14 (Wide 2 0 b.0 (kept b.1))) rows nodes (record_is h (codes "q14" ∷ open_by (codes "wide")) (map pos (2 ∷ 0 ∷ b.0 ∷ b.1)) f.0 b.2) (λ z t.
+    shown_at known Q14 h (open_head Q14 (Wide 2 0 b.0 (kept b.1))) rows nodes (record_is h (codes "q14" ∷ open_by (codes "wide")) (map pos (2 ∷ 0 ∷ b.0 ∷ b.1)) f.0 b.2) (λ z t.
     (Unknown (Wide 2 0 b.0 (kept b.1)), Nothing, (λ earlier e. ((refl, refl, b.3), refl)), refl, zip_none rows z, t, open_by_wide known Q14 2 0 b.0 b.1 rows))
 concordance_answered alloc known h rows nodes (form, inr (inr (inr (inl e))), fits) =
     let f : Fits (spent (codes "q14") 4) h = subst (λ (f : Form). Fits f h) e fits in
     let n = one_number 1 MAX_BUDGET h.numbers f.1 in
-    told_at known Q14 h (open_head Q14 (Budget n.0)) rows nodes (record_is h (codes "q14" ∷ open_by (codes "budget")) (pos n.0 ∷ []) f.0 n.1) (λ z t.
+    shown_at known Q14 h (open_head Q14 (Budget n.0)) rows nodes (record_is h (codes "q14" ∷ open_by (codes "budget")) (pos n.0 ∷ []) f.0 n.1) (λ z t.
     (Unknown (Budget n.0), Nothing, (λ earlier e. (n.2, refl)), refl, zip_none rows z, t, refl))
 concordance_answered alloc known h rows nodes (form, inr (inr (inr (inr none))), fits) = absurd none
 
@@ -684,23 +684,23 @@ unfolding kept kept_ints
 strong_concordance_answered alloc known h rows nodes (form, inl e, fits) =
     let net = known.net in
     let f : Fits (head (codes "q15") 1 yes []) h = subst (λ (f : Form). Fits f h) e fits in
-    told_at known Q15 h (head_with Q15 yes []) rows nodes (record_is h (codes "q15" ∷ yes) [] f.0 f.1) (λ z t.
+    shown_at known Q15 h (head_with Q15 yes []) rows nodes (record_is h (codes "q15" ∷ yes) [] f.0 f.1) (λ z t.
     let tree = tree_of alloc (table_of net (strong_table net)) (length net.names) [] t.0 (at_root (length net.names)) t.3 in
     (Yes, One tree.0, (λ earlier e. (tt, tree.2)), refl, zip_none rows z, t.2 ∙ ap (λ (x : List Record). t.0 ++ x) t.4 ∙ append-nil t.0 ∙ tree.1, refl))
 strong_concordance_answered alloc known h rows nodes (form, inr (inl e), fits) =
     let f : Fits (head (codes "q15") 2 no []) h = subst (λ (f : Form). Fits f h) e fits in
-    told_at known Q15 h (head_with Q15 no []) rows nodes (record_is h (codes "q15" ∷ no) [] f.0 f.1) (λ z t.
+    shown_at known Q15 h (head_with Q15 no []) rows nodes (record_is h (codes "q15" ∷ no) [] f.0 f.1) (λ z t.
     let a = free_pair (codes "alpha") (codes "weights") (length known.net.reactions) rows z in
     (NoPair (kept_ints a.0) (kept_ints a.1), Nothing, (λ earlier e. (tt, (a.3.0, a.3.1))), refl, a.2, t, ap (λ (rs : List Record). verdict_of Q15 (sizes_of known) (head_with Q15 no []) rs) a.2))
 strong_concordance_answered alloc known h rows nodes (form, inr (inr (inl e)), fits) =
     let f : Fits (wide (codes "q15") 3 2 (length known.net.reactions) (length known.net.names)) h = subst (λ (f : Form). Fits f h) e fits in
     let b = wide_back 2 (length known.net.reactions) (length known.net.names) h.numbers f.1 in
-    told_at known Q15 h (open_head Q15 (Wide 2 0 b.0 (kept b.1))) rows nodes (record_is h (codes "q15" ∷ open_by (codes "wide")) (map pos (2 ∷ 0 ∷ b.0 ∷ b.1)) f.0 b.2) (λ z t.
+    shown_at known Q15 h (open_head Q15 (Wide 2 0 b.0 (kept b.1))) rows nodes (record_is h (codes "q15" ∷ open_by (codes "wide")) (map pos (2 ∷ 0 ∷ b.0 ∷ b.1)) f.0 b.2) (λ z t.
     (Unknown (Wide 2 0 b.0 (kept b.1)), Nothing, (λ earlier e. ((refl, refl, b.3), refl)), refl, zip_none rows z, t, open_by_wide known Q15 2 0 b.0 b.1 rows))
 strong_concordance_answered alloc known h rows nodes (form, inr (inr (inr (inl e))), fits) =
     let f : Fits (spent (codes "q15") 4) h = subst (λ (f : Form). Fits f h) e fits in
     let n = one_number 1 MAX_BUDGET h.numbers f.1 in
-    told_at known Q15 h (open_head Q15 (Budget n.0)) rows nodes (record_is h (codes "q15" ∷ open_by (codes "budget")) (pos n.0 ∷ []) f.0 n.1) (λ z t.
+    shown_at known Q15 h (open_head Q15 (Budget n.0)) rows nodes (record_is h (codes "q15" ∷ open_by (codes "budget")) (pos n.0 ∷ []) f.0 n.1) (λ z t.
     (Unknown (Budget n.0), Nothing, (λ earlier e. (n.2, refl)), refl, zip_none rows z, t, refl))
 strong_concordance_answered alloc known h rows nodes (form, inr (inr (inr (inr none))), fits) = absurd none
 
@@ -788,7 +788,7 @@ no_later : (known : Known) (earlier : Earlier) → IsAlike known earlier → is_
 no_later known earlier e h y = let both : true ≡ false = sym (weak_known known earlier e y) ∙ h in cc
 
 -- a no has one tree, or two
-no_signal_by : Global → (known : Known) (rows nodes : List Record) → IsStrong (on known.earlier Q2) → (weak : Bool) → is_yes (on known.earlier Q4) ≡ weak → rows ≡ [] → AreTrees Leaf (signal_problems known weak) nodes → IsTold known Q13 (head_with Q13 no []) rows nodes
+no_signal_by : Global → (known : Known) (rows nodes : List Record) → IsStrong (on known.earlier Q2) → (weak : Bool) → is_yes (on known.earlier Q4) ≡ weak → rows ≡ [] → AreTrees Leaf (signal_problems known weak) nodes → IsShown known Q13 (head_with Q13 no []) rows nodes
 no_signal_by alloc known rows nodes k false weak none t =
     let c = choices_of known in
     let tree = tree_of alloc (signal_problem known (pos 1)) c [] t.0 (at_root c) t.3 in
@@ -812,12 +812,12 @@ no_signal_by alloc known rows nodes k true weak none t =
 signal_spent_by : (known : Known) (h : Record) (rows nodes : List Record) → Fits (spent (codes "q13") 5) h → TellParts known Q13 h rows nodes
 signal_spent_by known h rows nodes f =
     let n = one_number 1 MAX_BUDGET h.numbers f.1 in
-    told_at known Q13 h (open_head Q13 (Budget n.0)) rows nodes (record_is h (codes "q13" ∷ open_by (codes "budget")) (pos n.0 ∷ []) f.0 n.1) (λ z t.
+    shown_at known Q13 h (open_head Q13 (Budget n.0)) rows nodes (record_is h (codes "q13" ∷ open_by (codes "budget")) (pos n.0 ∷ []) f.0 n.1) (λ z t.
     (Unknown (Budget n.0), Nothing, (λ earlier e. (n.2, refl)), refl, zip_none rows (subst (λ (fs : List Form). AllZip Fits fs rows) (spent_below known (pos n.0 ∷ [])) z), t, refl))
 
 signal_rests_by : (known : Known) (h : Record) (rows nodes : List Record) → Fits (rests (codes "q13") 6 12) h → TellParts known Q13 h rows nodes
 signal_rests_by known h rows nodes f =
-    told_at known Q13 h (open_head Q13 (Rests 12)) rows nodes (rests_back (codes "q13") 6 12 h f) (λ z t.
+    shown_at known Q13 h (open_head Q13 (Rests 12)) rows nodes (rests_back (codes "q13") 6 12 h f) (λ z t.
     (Unknown (Rests 12), Nothing, (λ earlier e. (refl, refl)), refl, zip_none rows (subst (λ (fs : List Form). AllZip Fits fs rows) (rests_below known (pos 12 ∷ [])) z), t, refl))
 
 shelf_wide_by : (known : Known) (h : Record) (rows nodes : List Record) → IsStrong (on known.earlier Q2) → has_vector (on known.earlier Q12) ≡ true → Fits (wide (codes "q13") 4 5 (length known.net.names + 1) (length known.net.complexes + length (pairs_of known))) h → TellParts known Q13 h rows nodes
@@ -827,7 +827,7 @@ shelf_wide_by known h rows nodes k given f =
     let m = length net.names + 1 in
     let n = length net.complexes + length (pairs_of known) in
     let b = wide_back 5 m n h.numbers f.1 in
-    told_at known Q13 h (open_head Q13 (Wide 5 0 b.0 (kept b.1))) rows nodes (record_is h (codes "q13" ∷ open_by (codes "wide")) (map pos (5 ∷ 0 ∷ b.0 ∷ b.1)) f.0 b.2) (λ z t. (
+    shown_at known Q13 h (open_head Q13 (Wide 5 0 b.0 (kept b.1))) rows nodes (record_is h (codes "q13" ∷ open_by (codes "wide")) (map pos (5 ∷ 0 ∷ b.0 ∷ b.1)) f.0 b.2) (λ z t. (
       Unknown (Wide 5 0 b.0 (kept b.1)),
       Nothing,
       (λ earlier e. (
@@ -860,17 +860,17 @@ unfolding kept
 signal_answered alloc known h rows nodes k (form, inl e, fits) =
     let f : Fits (head (codes "q13") 1 yes (Turn ∷ [])) h = subst (λ (f : Form). Fits f h) e fits in
     let turn = turn_numbers h.numbers f.1 in
-    told_at known Q13 h (head_with Q13 yes (turn.0 ∷ [])) rows nodes (record_is h (codes "q13" ∷ yes) (turn.0 ∷ []) f.0 turn.1) (signal_by known turn.0 rows nodes turn.2)
+    shown_at known Q13 h (head_with Q13 yes (turn.0 ∷ [])) rows nodes (record_is h (codes "q13" ∷ yes) (turn.0 ∷ []) f.0 turn.1) (signal_by known turn.0 rows nodes turn.2)
 signal_answered alloc known h rows nodes k (form, inr (inl e), fits) =
     let f : Fits (head (codes "q13") 2 no []) h = subst (λ (f : Form). Fits f h) e fits in
-    told_at known Q13 h (head_with Q13 no []) rows nodes (record_is h (codes "q13" ∷ no) [] f.0 f.1) (λ z t. no_signal_by alloc known rows nodes k (is_yes (on known.earlier Q4)) refl (zip_none rows z) t)
+    shown_at known Q13 h (head_with Q13 no []) rows nodes (record_is h (codes "q13" ∷ no) [] f.0 f.1) (λ z t. no_signal_by alloc known rows nodes k (is_yes (on known.earlier Q4)) refl (zip_none rows z) t)
 signal_answered alloc known h rows nodes k (form, inr (inr (inl e)), fits) =
     let f : Fits (head (codes "q13") 3 (codes "none" ∷ []) []) h = subst (λ (f : Form). Fits f h) e fits in
-    told_at known Q13 h (head_with Q13 (codes "none" ∷ []) []) rows nodes (record_is h (codes "q13" ∷ codes "none" ∷ []) [] f.0 f.1) (λ z t. (NotApplicable, Nothing, (λ earlier e. (tt, tt)), refl, zip_none rows z, t, refl))
+    shown_at known Q13 h (head_with Q13 (codes "none" ∷ []) []) rows nodes (record_is h (codes "q13" ∷ codes "none" ∷ []) [] f.0 f.1) (λ z t. (NotApplicable, Nothing, (λ earlier e. (tt, tt)), refl, zip_none rows z, t, refl))
 signal_answered alloc known h rows nodes k (form, inr (inr (inr (inl e))), fits) =
     let f : Fits (wide (codes "q13") 4 2 (length known.net.reactions) (length known.net.names)) h = subst (λ (f : Form). Fits f h) e fits in
     let b = wide_back 2 (length known.net.reactions) (length known.net.names) h.numbers f.1 in
-    told_at known Q13 h (open_head Q13 (Wide 2 0 b.0 (kept b.1))) rows nodes (record_is h (codes "q13" ∷ open_by (codes "wide")) (map pos (2 ∷ 0 ∷ b.0 ∷ b.1)) f.0 b.2) (λ z t.
+    shown_at known Q13 h (open_head Q13 (Wide 2 0 b.0 (kept b.1))) rows nodes (record_is h (codes "q13" ∷ open_by (codes "wide")) (map pos (2 ∷ 0 ∷ b.0 ∷ b.1)) f.0 b.2) (λ z t.
     (Unknown (Wide 2 0 b.0 (kept b.1)), Nothing, (λ earlier e. (inl (refl, refl, b.3), refl)), refl, zip_none rows z, t, open_by_wide known Q13 2 0 b.0 b.1 rows))
 signal_answered alloc known h rows nodes k (form, inr (inr (inr (inr i))), fits) = signal_last known h rows nodes k (has_vector (on known.earlier Q12)) refl (form, i, fits)
 
@@ -909,22 +909,22 @@ read_after b q r alloc known h rows nodes k o z t = let a = r known h rows nodes
 tellable : (b : Bool) (q : Question) → IsReadable q → IsTellableAfter b q
 tellable b q r = read_after b q (λ known h rows nodes k o. r known h rows nodes o)
 
-told : (b : Bool) (q : Question) → ReadFor b q → IsTellableAfter b q
-told b Q1 r = tellable b Q1 r
-told b Q2 r = tellable b Q2 r
-told b Q3 r = tellable b Q3 r
-told b Q4 r = tellable b Q4 r
-told b Q5 r = tellable b Q5 r
-told b Q6 r = tellable b Q6 r
-told b Q7 r = tellable b Q7 r
-told b Q8 r = tellable b Q8 r
-told b Q9 r = tellable b Q9 r
-told b Q10 r = tellable b Q10 r
-told b Q11 r = read_after b Q11 r
-told b Q12 r = tellable b Q12 r
-told b Q13 r = r
-told b Q14 r = λ alloc known h rows nodes k o. r alloc known h rows nodes o
-told b Q15 r = λ alloc known h rows nodes k o. r alloc known h rows nodes o
+shown : (b : Bool) (q : Question) → ReadFor b q → IsTellableAfter b q
+shown b Q1 r = tellable b Q1 r
+shown b Q2 r = tellable b Q2 r
+shown b Q3 r = tellable b Q3 r
+shown b Q4 r = tellable b Q4 r
+shown b Q5 r = tellable b Q5 r
+shown b Q6 r = tellable b Q6 r
+shown b Q7 r = tellable b Q7 r
+shown b Q8 r = tellable b Q8 r
+shown b Q9 r = tellable b Q9 r
+shown b Q10 r = tellable b Q10 r
+shown b Q11 r = read_after b Q11 r
+shown b Q12 r = tellable b Q12 r
+shown b Q13 r = r
+shown b Q14 r = λ alloc known h rows nodes k o. r alloc known h rows nodes o
+shown b Q15 r = λ alloc known h rows nodes k o. r alloc known h rows nodes o
 
 answers_by : Global → (b : Bool) (qs : List Question) → AreReadFor b qs → (known : Known) (answers : List (List Record)) → AreKnown b known.earlier → documents.AreFormed meaning qs known answers
     → (given : List Answer) × ((earlier : Earlier) → IsAlike known earlier → AreFormed known.net earlier qs given) × (all_records meaning qs known given ≡ answers) × (verdicts_said qs known answers ≡ verdicts_of given)
@@ -934,7 +934,7 @@ answers_by alloc b (q ∷ qs) r known [] k f = absurd f
 answers_by alloc b (q ∷ qs) r known (rs ∷ more) k f =
     let p = f.0 in
     let formed = f.1 in
-    let one = told b q r.0 alloc known p.head p.rows p.nodes k formed.head formed.rows formed.trees in
+    let one = shown b q r.0 alloc known p.head p.rows p.nodes k formed.head formed.rows formed.trees in
     let a : Answer = record { verdict = one.0; proof = one.1 } in
     let here : IsFormedOf known.net known.earlier q one.0 one.1 = let g = one.2 in g known.earlier refl in
     let right : IsRight q (verdict_of q (sizes_of known) p.head p.rows) = subst (IsRight q) (sym one.6) (formed_right known.net known.earlier q one.0 one.1 here) in
@@ -942,7 +942,7 @@ answers_by alloc b (q ∷ qs) r known (rs ∷ more) k f =
     let learned : meaning.learn q known (head_of q a.verdict) (records_below (shapes_of known) a) ≡ meaning.learn q known p.head p.rows = ap₂ (λ (h : Record) (rows : List Record). meaning.learn q known h rows) (sym one.3) (sym one.4) in
     let block : records q (shapes_of known) a ≡ rs = ap₂ (λ (h : Record) (t : List Record). h ∷ t) (sym one.3) (ap₂ (λ (x y : List Record). x ++ y) (sym one.4) (sym one.5)) ∙ sym p.all in
     let later : all_records meaning qs (meaning.learn q known (head_of q a.verdict) (records_below (shapes_of known) a)) rest.0 ≡ more = ap (λ (k : Known). all_records meaning qs k rest.0) learned ∙ rest.2 in
-    let alone : verdict_of q (sizes_of known) p.head (p.rows ++ p.nodes) ≡ verdict_of q (sizes_of known) p.head p.rows = front_says Leaf q known p.head p.rows p.nodes formed.trees in
+    let alone : verdict_of q (sizes_of known) p.head (p.rows ++ p.nodes) ≡ verdict_of q (sizes_of known) p.head p.rows = prefix_says Leaf q known p.head p.rows p.nodes formed.trees in
     let learns : learn_of q known p.head (p.rows ++ p.nodes) ≡ learn_of q known p.head p.rows = ap (λ (v : Verdict). record { net = known.net; earlier = known.earlier ++ (q, v) ∷ [] }) alone in
     let said_all : verdicts_said (q ∷ qs) known (rs ∷ more) ≡ a.verdict ∷ verdicts_of rest.0 = ap (λ (t : List Record). verdicts_said (q ∷ qs) known (t ∷ more)) p.all
     ∙ ap₂ (λ (v : Verdict) (vs : List Verdict). v ∷ vs) (alone ∙ one.6) (ap (λ (k : Known). verdicts_said qs k more) learns ∙ rest.3) in

@@ -20,7 +20,7 @@ use Rattle.crn_cert.specs.Questions.{Question}
 use Rattle.crn_ctext.specs.Questions.{heads, first_number}
 use Rattle.crn_ctext.specs.Course.{Course, Give, ◌>>=◌, due, find, test, ends, IsSettled}
 use Rattle.crn_cert.specs.Tests.{Test as Claim}
-use Rattle.crn_ctext.specs.Blocks.{Problem, Meaning, head_claims, row_claims, problems, is_open, unless, either, asks, asks_node, asks_all, claims, Node, Split, Flat, CutA, CutB, node_of, leaf, asks_leaf, goes_on, if_signed, is_all_zero, asks_tree, asks_trees, sections, below, has_tree, Behind, asks_block, behind_sections, asks_blocks, asks_table, lists_of, asks_lines, title, network_line, ended, IsNetworkOf, ReadOf, course}
+use Rattle.crn_ctext.specs.Blocks.{Problem, Meaning, head_claims, row_claims, problems, is_open, unless, either, asks, asks_node, asks_all, claims, Node, Split, Flat, CutA, CutB, node_of, leaf, asks_leaf, goes_on, if_signed, is_all_zero, asks_tree, asks_trees, sections, below, has_tree, AfterBlocks, asks_block, after_sections, asks_blocks, asks_table, lists_of, asks_lines, title, network_line, ended, IsNetworkOf, ReadOf, course}
 use Rattle.crn_ctext.proofs.Decided.{IsDecided, if_decided, nat_decided, bool_decided, bytes_decided, some_decided}
 use Rattle.crn_ctext.proofs.Courses.{settled_then, settled_with, GivesOnly, gives_only_then}
 use Rattle.crn_ctext.proofs.LinesRead.{HaveWords, reads_settled}
@@ -153,23 +153,23 @@ trees_settled version table (p ∷ ps) n d = settled_then (asks_tree version tab
 -- ---- blocks
 
 -- what is after a block
-abbrev given : {Known : Type 0} → Meaning Known → Question → Behind Known → Record → List Record → ℕ → Behind Known
+abbrev given : {Known : Type 0} → Meaning Known → Question → AfterBlocks Known → Record → List Record → ℕ → AfterBlocks Known
 given m q at head rows line = record { known = m.learn q at.known head rows; by_tree = has_tree (problems m q at.known head); line = line; blocks = at.blocks ++ (head ∷ rows) ∷ [] }
 
 -- the course of a block from its trees on, from the tests of its rows on, from its rows on, and from the tests of its head on
-abbrev from_trees : {Known : Type 0} → Meaning Known → (version : ℕ) → List (List ℤ) → Question → Behind Known → Record → List Record → Course (Behind Known)
+abbrev from_trees : {Known : Type 0} → Meaning Known → (version : ℕ) → List (List ℤ) → Question → AfterBlocks Known → Record → List Record → Course (AfterBlocks Known)
 from_trees m version table q at head rows = asks_trees version table (problems m q at.known head) (at.line + 1 + length rows) >>= (λ line. Give (given m q at head rows line))
 
-abbrev from_row_claims : {Known : Type 0} → Meaning Known → (version : ℕ) → List (List ℤ) → Question → Behind Known → Record → List Record → Course (Behind Known)
+abbrev from_row_claims : {Known : Type 0} → Meaning Known → (version : ℕ) → List (List ℤ) → Question → AfterBlocks Known → Record → List Record → Course (AfterBlocks Known)
 from_row_claims m version table q at head rows = claims at.line (row_claims m q at.known head rows) >>= (λ y. from_trees m version table q at head rows)
 
-abbrev from_rows : {Known : Type 0} → Meaning Known → (version : ℕ) → List (List ℤ) → Question → Behind Known → Record → Course (Behind Known)
+abbrev from_rows : {Known : Type 0} → Meaning Known → (version : ℕ) → List (List ℤ) → Question → AfterBlocks Known → Record → Course (AfterBlocks Known)
 from_rows m version table q at head = asks_all version (at.line + 1) false (below q (m.shapes at.known) head) >>= (λ rows. from_row_claims m version table q at head rows)
 
-abbrev from_claims : {Known : Type 0} → Meaning Known → (version : ℕ) → List (List ℤ) → Question → Behind Known → Record → Course (Behind Known)
+abbrev from_claims : {Known : Type 0} → Meaning Known → (version : ℕ) → List (List ℤ) → Question → AfterBlocks Known → Record → Course (AfterBlocks Known)
 from_claims m version table q at head = claims at.line (head_claims m q at.known head) >>= (λ x. from_rows m version table q at head)
 
-block_settled : {Known : Type 0} (m : Meaning Known) (Ok : Known → Type 0) (version : ℕ) (table : List (List ℤ)) (q : Question) (at : Behind Known) → IsDecidedFor m Ok q → Ok at.known → IsSettled (asks_block m version table q at)
+block_settled : {Known : Type 0} (m : Meaning Known) (Ok : Known → Type 0) (version : ℕ) (table : List (List ℤ)) (q : Question) (at : AfterBlocks Known) → IsDecidedFor m Ok q → Ok at.known → IsSettled (asks_block m version table q at)
 block_settled m Ok version table q at d ok =
     settled_then (asks version at.line at.by_tree (heads q (m.shapes at.known).sizes)) (λ head. from_claims m version table q at head) (asks_settled version at.line at.by_tree (heads q (m.shapes at.known).sizes) (heads_have q (m.shapes at.known).sizes))
     (λ head. settled_then (claims at.line (head_claims m q at.known head)) (λ x. from_rows m version table q at head) (claims_settled at.line (head_claims m q at.known head) (unless_decided (is_open head) (m.head_claims q at.known head) (let g = d.head in g at.known head ok)))
@@ -179,29 +179,29 @@ block_settled m Ok version table q at d ok =
     (λ line. give_settled (given m q at head rows line))))))
 
 -- what is known after a block has the property
-block_keeps : {Known : Type 0} (m : Meaning Known) (Ok : Known → Type 0) (version : ℕ) (table : List (List ℤ)) (q : Question) (at : Behind Known) → IsDecidedFor m Ok q → Ok at.known → GivesOnly (λ (behind : Behind Known). Ok behind.known) (asks_block m version table q at)
+block_keeps : {Known : Type 0} (m : Meaning Known) (Ok : Known → Type 0) (version : ℕ) (table : List (List ℤ)) (q : Question) (at : AfterBlocks Known) → IsDecidedFor m Ok q → Ok at.known → GivesOnly (λ (after : AfterBlocks Known). Ok after.known) (asks_block m version table q at)
 unfolding GivesOnly
 block_keeps {Known} m Ok version table q at d ok =
-    let Has : Behind Known → Type 0 = λ behind. Ok behind.known in
+    let Has : AfterBlocks Known → Type 0 = λ after. Ok after.known in
     gives_only_then Has (asks version at.line at.by_tree (heads q (m.shapes at.known).sizes)) (λ head. from_claims m version table q at head) (λ head.
     gives_only_then Has (claims at.line (head_claims m q at.known head)) (λ x. from_rows m version table q at head) (λ x.
     gives_only_then Has (asks_all version (at.line + 1) false (below q (m.shapes at.known) head)) (λ rows. from_row_claims m version table q at head rows) (λ rows.
     gives_only_then Has (claims at.line (row_claims m q at.known head rows)) (λ y. from_trees m version table q at head rows) (λ y.
     gives_only_then Has (asks_trees version table (problems m q at.known head) (at.line + 1 + length rows)) (λ line. Give (given m q at head rows line)) (λ line. let g = d.learn in g at.known head rows ok)))))
 
-sections_keep : {Known : Type 0} (Ok : Known → Type 0) (opened : List Record) (at : Behind Known) → Ok at.known → Ok (behind_sections opened at).known
+sections_keep : {Known : Type 0} (Ok : Known → Type 0) (opened : List Record) (at : AfterBlocks Known) → Ok at.known → Ok (after_sections opened at).known
 sections_keep Ok [] at ok = ok
 sections_keep Ok (r ∷ rs) at ok = ok
 
-pub blocks_settled : {Known : Type 0} (m : Meaning Known) (Ok : Known → Type 0) (version : ℕ) (table : List (List ℤ)) (built : List Question) (at : Behind Known) → IsDecidedMeaning m Ok built → Ok at.known → IsSettled (asks_blocks m version table built at)
+pub blocks_settled : {Known : Type 0} (m : Meaning Known) (Ok : Known → Type 0) (version : ℕ) (table : List (List ℤ)) (built : List Question) (at : AfterBlocks Known) → IsDecidedMeaning m Ok built → Ok at.known → IsSettled (asks_blocks m version table built at)
 unfolding asks_blocks
 blocks_settled m Ok version table [] at d ok = give_settled at
 blocks_settled {Known} m Ok version table (q ∷ qs) at d ok =
-    settled_then (asks_all version at.line at.by_tree (map section_form (sections version q))) (λ opened. asks_block m version table q (behind_sections opened at) >>= (λ behind. asks_blocks m version table qs behind))
+    settled_then (asks_all version at.line at.by_tree (map section_form (sections version q))) (λ opened. asks_block m version table q (after_sections opened at) >>= (λ after. asks_blocks m version table qs after))
     (all_settled version at.line at.by_tree (map section_form (sections version q)) (sections_have version q))
-    (λ opened. settled_with (λ (behind : Behind Known). Ok behind.known) (asks_block m version table q (behind_sections opened at)) (λ behind. asks_blocks m version table qs behind)
-    (block_settled m Ok version table q (behind_sections opened at) d.0 (sections_keep Ok opened at ok)) (block_keeps m Ok version table q (behind_sections opened at) d.0 (sections_keep Ok opened at ok))
-    (λ behind kept. blocks_settled m Ok version table qs behind d.1 kept))
+    (λ opened. settled_with (λ (after : AfterBlocks Known). Ok after.known) (asks_block m version table q (after_sections opened at)) (λ after. asks_blocks m version table qs after)
+    (block_settled m Ok version table q (after_sections opened at) d.0 (sections_keep Ok opened at ok)) (block_keeps m Ok version table q (after_sections opened at) d.0 (sections_keep Ok opened at ok))
+    (λ after kept. blocks_settled m Ok version table qs after d.1 kept))
 
 -- ---- the opening
 
@@ -279,24 +279,24 @@ course_settled {Known} m Ok versions built starts d t =
     settled_then (asks_lines count) (λ lines. c5 version count lines) (lines_settled count) (λ lines.
     settled_with IsNetwork (find (2 + count) 22 Net (IsNetworkOf lines)) (λ net. c6 version count net) (network_settled (2 + count) lines) (network_found (2 + count) lines) (λ net is.
     settled_then (asks_table version (3 + count)) (λ table. c7 version count net table) (table_settled version (3 + count)) (λ table.
-    settled_then (asks_blocks m version (lists_of table) built (start count net table)) (λ behind. c8 version net behind) (blocks_settled m Ok version (lists_of table) built (start count net table) d (starts net is)) (λ behind.
-    settled_then (asks version behind.line behind.by_tree (end_form ∷ [])) (λ last. c9 net behind) (asks_settled version behind.line behind.by_tree (end_form ∷ []) end_has) (λ last.
-    settled_then ends (λ x. Give (read net behind)) ends_settled (λ x. give_settled (read net behind)))))))))))
+    settled_then (asks_blocks m version (lists_of table) built (start count net table)) (λ after. c8 version net after) (blocks_settled m Ok version (lists_of table) built (start count net table) d (starts net is)) (λ after.
+    settled_then (asks version after.line after.by_tree (end_form ∷ [])) (λ last. c9 net after) (asks_settled version after.line after.by_tree (end_form ∷ []) end_has) (λ last.
+    settled_then ends (λ x. Give (read net after)) ends_settled (λ x. give_settled (read net after)))))))))))
   where
-    start : ℕ → Net → List Record → Behind Known
+    start : ℕ → Net → List Record → AfterBlocks Known
     start count net table = record { known = m.start net; by_tree = false; line = 3 + count + length table; blocks = [] }
 
-    read : Net → Behind Known → ReadOf
-    read net behind = record { net = net; blocks = behind.blocks }
+    read : Net → AfterBlocks Known → ReadOf
+    read net after = record { net = net; blocks = after.blocks }
 
-    c9 : Net → Behind Known → Course ReadOf
-    c9 net behind = ends >>= (λ x. Give (read net behind))
+    c9 : Net → AfterBlocks Known → Course ReadOf
+    c9 net after = ends >>= (λ x. Give (read net after))
 
-    c8 : ℕ → Net → Behind Known → Course ReadOf
-    c8 version net behind = asks version behind.line behind.by_tree (end_form ∷ []) >>= (λ last. c9 net behind)
+    c8 : ℕ → Net → AfterBlocks Known → Course ReadOf
+    c8 version net after = asks version after.line after.by_tree (end_form ∷ []) >>= (λ last. c9 net after)
 
     c7 : ℕ → ℕ → Net → List Record → Course ReadOf
-    c7 version count net table = asks_blocks m version (lists_of table) built (start count net table) >>= (λ behind. c8 version net behind)
+    c7 version count net table = asks_blocks m version (lists_of table) built (start count net table) >>= (λ after. c8 version net after)
 
     c6 : ℕ → ℕ → Net → Course ReadOf
     c6 version count net = asks_table version (3 + count) >>= (λ table. c7 version count net table)

@@ -11,15 +11,15 @@ use Rattle.crn_ctext.specs.Steps.{IsRest, StepGives, StepEnds, StepFails}
 use Rattle.crn_ctext.proofs.Courses.{gives_then, fails_before, fails_then}
 
 -- no byte of a text is lost while a course reads it
-pub gives_counts : {A : Type 0} (c : Course A) (at behind : Place) (y : A) → Gives c at y behind → at.before + length at.left ≡ behind.before + length behind.left
+pub gives_counts : {A : Type 0} (c : Course A) (at end : Place) (y : A) → Gives c at y end → at.before + length at.left ≡ end.before + length end.left
 unfolding Gives
-gives_counts (Give x) at behind y g = ap (λ (p : Place). p.before + length p.left) g.1
-gives_counts (Line node next) at behind y g = line g.0 g.1 g.2 (gives_counts (next g.0) g.1 behind y g.3)
+gives_counts (Give x) at end y g = ap (λ (p : Place). p.before + length p.left) g.1
+gives_counts (Line node next) at end y g = line g.0 g.1 g.2 (gives_counts (next g.0) g.1 end y g.3)
   where
-    line : (l : List ℕ) (after : Place) → IsLineAt at l after → after.before + length after.left ≡ behind.before + length behind.left → at.before + length at.left ≡ behind.before + length behind.left
+    line : (l : List ℕ) (after : Place) → IsLineAt at l after → after.before + length after.left ≡ end.before + length end.left → at.before + length at.left ≡ end.before + length end.left
     line l after p rest = omega (arith, ap length p.left, length-append l (10 ∷ after.left), p.before, rest)
-gives_counts (Test n code X P next) at behind y g = gives_counts (next g.0) at behind y g.2
-gives_counts (End next) at behind y g = gives_counts next at behind y g.1
+gives_counts (Test n code X P next) at end y g = gives_counts (next g.0) at end y g.2
+gives_counts (End next) at end y g = gives_counts next at end y g.1
 
 -- what is pulled after a step is counted from where the step began
 bound_then : {A : Type 0} (c : Course A) (x : A) (n m most : ℕ) (old mid : KeptLines) (left between : Option (List ℕ)) (p : StepGives c x n m old mid left between) (more : List ℕ)
@@ -88,13 +88,13 @@ fails_of_a_text c start left after line code none zero p = by left after p.off (
 
 -- and if it reads to the end, some text gives this, which is all that the source had left, if it shows that
 pub gives_of_a_text : {A : Type 0} (c : Course A) (y : A) (m : ℕ) (start new : KeptLines) (left after : Option (List ℕ)) → start.ahead ≡ [] → start.taken ≡ 0
-    → StepEnds c y 1 m start new left after → (text : List ℕ) × IsWhole left text × ((behind : Place) × Gives c (beginning text) y behind)
+    → StepEnds c y 1 m start new left after → (text : List ℕ) × IsWhole left text × ((end : Place) × Gives c (beginning text) y end)
 gives_of_a_text c y m start new left after none zero p = by left after p.off (let g = p.gives in g)
   where
-    here : (text : List ℕ) (behind : Place) → Gives c (place 1 start text) y behind → (behind : Place) × Gives c (beginning text) y behind
-    here text behind g = (behind, subst (λ (at : Place). Gives c at y behind) (ap (λ (t : List ℕ). record { line = 1; before = start.taken; left = t ++ text }) none ∙ ap (λ (k : ℕ). record { line = 1; before = k; left = text }) zero) g)
+    here : (text : List ℕ) (end : Place) → Gives c (place 1 start text) y end → (end : Place) × Gives c (beginning text) y end
+    here text end g = (end, subst (λ (at : Place). Gives c at y end) (ap (λ (t : List ℕ). record { line = 1; before = start.taken; left = t ++ text }) none ∙ ap (λ (k : ℕ). record { line = 1; before = k; left = text }) zero) g)
 
-    by : (left after : Option (List ℕ)) → Consumes left p.pulled after → ((rest : List ℕ) → IsRest after rest → Gives c (place 1 start (p.pulled ++ rest)) y (place m new rest)) → (text : List ℕ) × IsWhole left text × ((behind : Place) × Gives c (beginning text) y behind)
+    by : (left after : Option (List ℕ)) → Consumes left p.pulled after → ((rest : List ℕ) → IsRest after rest → Gives c (place 1 start (p.pulled ++ rest)) y (place m new rest)) → (text : List ℕ) × IsWhole left text × ((end : Place) × Gives c (beginning text) y end)
     by None None off gives = (p.pulled ++ [], tt, here (p.pulled ++ []) (place m new []) (gives [] refl))
     by None (Some r) off gives = absurd cc
     by (Some text) None off gives = absurd (let e = off.1 in cc)

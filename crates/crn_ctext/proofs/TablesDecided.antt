@@ -52,10 +52,10 @@ weight_decided kinds w =
 ruling_decided : (kinds : List Kind) (w : List ℤ) → IsDecided (AreRuling kinds w)
 ruling_decided kinds w = both_decided (zip_decided MayWeigh weigh_decided kinds w) (weight_decided kinds w)
 
-entry_front : (xs ys : List ℤ) (j : ℕ) → j < length xs → entry (xs ++ ys) j ≡ entry xs j
-entry_front [] ys j h = absurd (omega (arith, h))
-entry_front (x ∷ xs) ys zero h = refl
-entry_front (x ∷ xs) ys (suc j) h = entry_front xs ys j (omega (arith, h))
+entry_prefix : (xs ys : List ℤ) (j : ℕ) → j < length xs → entry (xs ++ ys) j ≡ entry xs j
+entry_prefix [] ys j h = absurd (omega (arith, h))
+entry_prefix (x ∷ xs) ys zero h = refl
+entry_prefix (x ∷ xs) ys (suc j) h = entry_prefix xs ys j (omega (arith, h))
 
 -- the list (-uA, u)
 weights : Mat → List ℤ → List ℤ
@@ -69,10 +69,10 @@ weights_dual : (a : Mat) (u : List ℤ) → length u ≡ length a.rows → InDua
 unfolding weights
 weights_dual a u long =
     let f : ℕ → ℤ = λ j. neg_ℤ (dot u (column a.rows j)) in
-    let front = length-listed a.cols f in
+    let prefix = length-listed a.cols f in
     record {
-      long = omega (arith, long, front, length-append (listed a.cols f) u);
-      is = λ j less. entry_front (listed a.cols f) u j (omega (arith, less, front)) ∙ entry-listed a.cols f j less ∙ sym (ap (λ (v : List ℤ). neg_ℤ (dot v (column a.rows j))) (rows_are a u));
+      long = omega (arith, long, prefix, length-append (listed a.cols f) u);
+      is = λ j less. entry_prefix (listed a.cols f) u j (omega (arith, less, prefix)) ∙ entry-listed a.cols f j less ∙ sym (ap (λ (v : List ℤ). neg_ℤ (dot v (column a.rows j))) (rows_are a u));
     }
 
 pub cut_decided : (a : Mat) (kinds : List Kind) (u : List ℤ) → IsDecided (IsCut a kinds u)

@@ -19,7 +19,7 @@ use Rattle.crn_ctext.specs.Records.{Record, Form, Fits}
 use Rattle.crn_ctext.specs.Kinds.{record_form, free_form}
 use Rattle.crn_ctext.specs.Blocks.{Problem, is_all_zero, word_of}
 use Rattle.crn_ctext.specs.Documents.{one_word, leaf_forms, IsOneOf, IsTree, IsGoodLeaf}
-use Rattle.crn_ctext.specs.Answers.{nodes, nodes_behind}
+use Rattle.crn_ctext.specs.Answers.{nodes, nodes_held}
 use Rattle.crn_ctext.proofs.RanksLinked.{free_fits, free_row, record_is}
 use Rattle.crn_ctext.proofs.AnswersApart.{tree_apart, leaf_no_split}
 use Rattle.crn_ctext.proofs.TreesRead.{valid_tree_is_formed}
@@ -290,18 +290,18 @@ plans_one w (suc more) p (Split' a zeros b pluses (Some' c minuses)) (Split' a2 
     ap₂ (λ (x : Plan × Plan) (y : Plan). Three x.0 x.1 y) (ap₂ (λ (x y : Plan). (x, y)) (plans_one w more (p ++ Zero ∷ []) zeros zeros2 ez f.2 g.2 s.0) (plans_one w more (p ++ Plus ∷ []) pluses pluses2 eq f.3 g.3 s.1.0)) (plans_one w more (p ++ Minus ∷ []) minuses minuses2 em f.4 g.4 s.1.1)
 plans_one w more p (Split' a zeros b pluses None') (Split' a2 zeros2 b2 pluses2 (Some' c2 minuses2)) e f g same = absurd (let h : true ≡ false = sym f.1 ∙ g.1 in cc)
 plans_one w more p (Split' a zeros b pluses (Some' c minuses)) (Split' a2 zeros2 b2 pluses2 None') e f g same = absurd (let h : true ≡ false = sym g.1 ∙ f.1 in cc)
-plans_one w more p (Split' a zeros b pluses held) (CutA v) e f g same = absurd (words_apart (codes "cuta") (codes "split") v.value.list [] [] ((nodes zeros ++ nodes pluses) ++ nodes_behind held) 0 (omega arith) (sym same))
-plans_one w more p (Split' a zeros b pluses held) (CutB v) e f g same = absurd (words_apart (codes "cutb") (codes "split") v.value.list [] [] ((nodes zeros ++ nodes pluses) ++ nodes_behind held) 0 (omega arith) (sym same))
-plans_one w more p (Split' a zeros b pluses held) Flat e f g same = absurd (words_apart (codes "flat") (codes "split") [] [] [] ((nodes zeros ++ nodes pluses) ++ nodes_behind held) 0 (omega arith) (sym same))
-plans_one w more p (CutA u) (Split' a zeros b pluses held) e f g same = absurd (words_apart (codes "cuta") (codes "split") u.value.list [] [] ((nodes zeros ++ nodes pluses) ++ nodes_behind held) 0 (omega arith) same)
+plans_one w more p (Split' a zeros b pluses held) (CutA v) e f g same = absurd (words_apart (codes "cuta") (codes "split") v.value.list [] [] ((nodes zeros ++ nodes pluses) ++ nodes_held held) 0 (omega arith) (sym same))
+plans_one w more p (Split' a zeros b pluses held) (CutB v) e f g same = absurd (words_apart (codes "cutb") (codes "split") v.value.list [] [] ((nodes zeros ++ nodes pluses) ++ nodes_held held) 0 (omega arith) (sym same))
+plans_one w more p (Split' a zeros b pluses held) Flat e f g same = absurd (words_apart (codes "flat") (codes "split") [] [] [] ((nodes zeros ++ nodes pluses) ++ nodes_held held) 0 (omega arith) (sym same))
+plans_one w more p (CutA u) (Split' a zeros b pluses held) e f g same = absurd (words_apart (codes "cuta") (codes "split") u.value.list [] [] ((nodes zeros ++ nodes pluses) ++ nodes_held held) 0 (omega arith) same)
 plans_one w more p (CutA u) (CutA v) e f g same = ap RulesA (same_numbers (codes "cuta") u.value.list v.value.list [] [] same)
 plans_one w more p (CutA u) (CutB v) e f g same = absurd (words_apart (codes "cuta") (codes "cutb") u.value.list v.value.list [] [] 3 (omega arith) same)
 plans_one w more p (CutA u) Flat e f g same = absurd (words_apart (codes "cuta") (codes "flat") u.value.list [] [] [] 0 (omega arith) same)
-plans_one w more p (CutB u) (Split' a zeros b pluses held) e f g same = absurd (words_apart (codes "cutb") (codes "split") u.value.list [] [] ((nodes zeros ++ nodes pluses) ++ nodes_behind held) 0 (omega arith) same)
+plans_one w more p (CutB u) (Split' a zeros b pluses held) e f g same = absurd (words_apart (codes "cutb") (codes "split") u.value.list [] [] ((nodes zeros ++ nodes pluses) ++ nodes_held held) 0 (omega arith) same)
 plans_one w more p (CutB u) (CutA v) e f g same = absurd (words_apart (codes "cuta") (codes "cutb") v.value.list u.value.list [] [] 3 (omega arith) (sym same))
 plans_one w more p (CutB u) (CutB v) e f g same = ap RulesB (same_numbers (codes "cutb") u.value.list v.value.list [] [] same)
 plans_one w more p (CutB u) Flat e f g same = absurd (words_apart (codes "cutb") (codes "flat") u.value.list [] [] [] 0 (omega arith) same)
-plans_one w more p Flat (Split' a zeros b pluses held) e f g same = absurd (words_apart (codes "flat") (codes "split") [] [] [] ((nodes zeros ++ nodes pluses) ++ nodes_behind held) 0 (omega arith) same)
+plans_one w more p Flat (Split' a zeros b pluses held) e f g same = absurd (words_apart (codes "flat") (codes "split") [] [] [] ((nodes zeros ++ nodes pluses) ++ nodes_held held) 0 (omega arith) same)
 plans_one w more p Flat (CutA v) e f g same = absurd (words_apart (codes "cuta") (codes "flat") v.value.list [] [] [] 0 (omega arith) (sym same))
 plans_one w more p Flat (CutB v) e f g same = absurd (words_apart (codes "cutb") (codes "flat") v.value.list [] [] [] 0 (omega arith) (sym same))
 plans_one w more p Flat Flat e f g same = refl

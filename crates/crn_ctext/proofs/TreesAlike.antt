@@ -14,24 +14,24 @@ use Rattle.crn_ctext.proofs.Courses.{gives_then, fails_before, fails_then}
 
 -- what the first gives the second gives, and it fails first where the first does
 pub record IsLike {A : Type 0} (c d : Course A) : Type 0 where
-  pub gives : (at behind : Place) (y : A) → Gives c at y behind → Gives d at y behind
+  pub gives : (at after : Place) (y : A) → Gives c at y after → Gives d at y after
   pub fails : (at : Place) (n code : ℕ) → FailsFirst c at n code → FailsFirst d at n code
 
 -- ---- courses
 
 -- a course and itself
 pub like_itself : {A : Type 0} (c : Course A) → IsLike c c
-like_itself c = record { gives = λ at behind y p. p; fails = λ at n code p. p }
+like_itself c = record { gives = λ at after y p. p; fails = λ at n code p. p }
 
 -- what both give, in two parts
-gives_parts : {A B : Type 0} (c : Course A) (f : A → Course B) (at behind : Place) (y : B) → Gives (c >>= f) at y behind → (x : A) × (mid : Place) × Gives c at x mid × Gives (f x) mid y behind
+gives_parts : {A B : Type 0} (c : Course A) (f : A → Course B) (at after : Place) (y : B) → Gives (c >>= f) at y after → (x : A) × (mid : Place) × Gives c at x mid × Gives (f x) mid y after
 unfolding Gives
-gives_parts (Give x) f at behind y p = (x, at, (refl, refl), p)
-gives_parts (Line node next) f at behind y p = let q = gives_parts (next p.0) f p.1 behind y p.3 in (q.0, q.1, (p.0, p.1, p.2, q.2), q.3)
-gives_parts (Test n c X P next) f at behind y p = let q = gives_parts (next p.0) f at behind y p.2 in (q.0, q.1, (p.0, p.1, q.2), q.3)
-gives_parts (End next) f at behind y p = let q = gives_parts next f at behind y p.1 in (q.0, q.1, (p.0, q.2), q.3)
+gives_parts (Give x) f at after y p = (x, at, (refl, refl), p)
+gives_parts (Line node next) f at after y p = let q = gives_parts (next p.0) f p.1 after y p.3 in (q.0, q.1, (p.0, p.1, p.2, q.2), q.3)
+gives_parts (Test n c X P next) f at after y p = let q = gives_parts (next p.0) f at after y p.2 in (q.0, q.1, (p.0, p.1, q.2), q.3)
+gives_parts (End next) f at after y p = let q = gives_parts next f at after y p.1 in (q.0, q.1, (p.0, q.2), q.3)
 
--- what fails in both, in the first or behind it
+-- what fails in both, in the first or after it
 abbrev FailsIn : {A B : Type 0} → Course A → (A → Course B) → Place → (n code : ℕ) → Type 0
 FailsIn {A} c f at n code = FailsFirst c at n code ⊎ ((x : A) × (mid : Place) × Gives c at x mid × FailsFirst (f x) mid n code)
 
@@ -54,12 +54,12 @@ fails_parts (End next) f at n code (inr p) = elim (fails_parts next f at n code 
   | inr q ↦ inr (q.0, q.1, (p.0, q.2), q.3)
 ]
 
--- one course behind another
-gives_both : {A B : Type 0} (c d : Course A) (f g : A → Course B) → IsLike c d → ((x : A) → IsLike (f x) (g x)) → (at behind : Place) (y : B) → Gives (c >>= f) at y behind → Gives (d >>= g) at y behind
-gives_both c d f g first second at behind y p =
-    let q = gives_parts c f at behind y p in
+-- one course after another
+gives_both : {A B : Type 0} (c d : Course A) (f g : A → Course B) → IsLike c d → ((x : A) → IsLike (f x) (g x)) → (at after : Place) (y : B) → Gives (c >>= f) at y after → Gives (d >>= g) at y after
+gives_both c d f g first second at after y p =
+    let q = gives_parts c f at after y p in
     let s = second q.0 in
-    gives_then d g at q.1 behind q.0 y (let h = first.gives in h at q.1 q.0 q.2) (let h = s.gives in h q.1 behind y q.3)
+    gives_then d g at q.1 after q.0 y (let h = first.gives in h at q.1 q.0 q.2) (let h = s.gives in h q.1 after y q.3)
 
 fails_both : {A B : Type 0} (c d : Course A) (f g : A → Course B) → IsLike c d → ((x : A) → IsLike (f x) (g x)) → (at : Place) (n code : ℕ) → FailsIn c f at n code → FailsFirst (d >>= g) at n code
 fails_both c d f g first second at n code (inl q) = fails_before d g at n code (let h = first.fails in h at n code q)
@@ -69,7 +69,7 @@ fails_both c d f g first second at n code (inr q) =
 
 pub like_then : {A B : Type 0} (c d : Course A) (f g : A → Course B) → IsLike c d → ((x : A) → IsLike (f x) (g x)) → IsLike (c >>= f) (d >>= g)
 like_then c d f g first second = record {
-  gives = λ at behind y p. gives_both c d f g first second at behind y p;
+  gives = λ at after y p. gives_both c d f g first second at after y p;
   fails = λ at n code p. fails_both c d f g first second at n code (fails_parts c f at n code p);
 }
 
@@ -77,7 +77,7 @@ like_then c d f g first second = record {
 pub like_test : (n code : ℕ) (P Q : Type 0) → P ↔ Q → IsLike (test n code P) (test n code Q)
 unfolding Gives FailsFirst
 like_test n code P Q same = record {
-  gives = λ at behind y p. (p.0, same.0 p.1, p.2);
+  gives = λ at after y p. (p.0, same.0 p.1, p.2);
   fails = λ at m d p. elim p [
     | inl none ↦ inl (none.0, none.1, λ x q. none.2 x (same.1 q))
     | inr more ↦ absurd more.2
@@ -106,7 +106,7 @@ leaf_like c a b H K same prefix n (CutB shared u) =
     like_then (test n 46 (shared ≡ true → length u ≡ b)) (test n 46 (shared ≡ true → length u ≡ b)) (λ x. test n 41 (H prefix (CutsB u))) (λ x. test n 41 (K prefix (CutsB u)))
     (like_itself (test n 46 (shared ≡ true → length u ≡ b))) (λ x. like_test n 41 (H prefix (CutsB u)) (K prefix (CutsB u)) (same prefix (CutsB u)))
 
--- a leaf, and then the line behind it
+-- a leaf, and then the line after it
 leaf_then : (c a b : ℕ) (H K : List Sign → Said → Type 0) → HoldTogether H K → (prefix : List Sign) (n : ℕ) (node : Node)
     → IsLike (leaf (problem_with c a b H) prefix n node >> Give (n + 1)) (leaf (problem_with c a b K) prefix n node >> Give (n + 1))
 leaf_then c a b H K same prefix n node =

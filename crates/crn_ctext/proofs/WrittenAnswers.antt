@@ -9,7 +9,7 @@ use Rattle.crn_vec.specs.Lists.{firsts}
 use Rattle.crn_io.specs.declared.lines.TheConstants.{MAX_SHARED, MAX_NUMBERS}
 use Rattle.crn_cert.specs.Ranges as ranges
 use Rattle.crn_cert.specs.Trees.{plan}
-use Rattle.crn_cert.specs.Shares.{Shared, StandsAt, IsShareable, FitsAnswers, cuts_of, cuts_in, all_cuts, number_in, share_of_cuts, share_of}
+use Rattle.crn_cert.specs.Shares.{Shared, HasAt, IsShareable, FitsAnswers, cuts_of, cuts_in, all_cuts, number_in, share_of_cuts, share_of}
 use Rattle.crn_cert.specs.declared.tree.Tree.{Tree, Split', CutA, CutB, Flat, None', Some'}
 use Rattle.crn_ctext.specs.Documents as documents
 use Rattle.crn_ctext.specs.Shares.{as_share}
@@ -41,7 +41,7 @@ use Rattle.crn_ctext.proofs.KnownBefore.{IsStrong, formed_right, strong_stays, a
 use Rattle.crn_ctext.proofs.AnswersLinked.{linkage_next, strong_next}
 use Rattle.crn_ctext.proofs.WrittenLines.{lines_append}
 use Rattle.crn_ctext.proofs.WrittenLeaves.{IsPlain, written_none}
-use Rattle.crn_ctext.proofs.WrittenBlocks.{front_plain}
+use Rattle.crn_ctext.proofs.WrittenBlocks.{prefix_plain}
 
 -- the proof has no sides of pairs
 abbrev pub SeesNoPairs : Proof → Type 0
@@ -340,7 +340,7 @@ proof_cuts (proof.Two tree second) = cuts_append (nodes tree) (nodes second) ∙
 answer_cuts : (q : Question) (s : Shapes) (a : Answer) → cut_lists (records q s a) ≡ cuts_in a.proof
 answer_cuts q s a =
     cuts_append (head_of q a.verdict ∷ records_below s a) (proof_nodes a.proof)
-    ∙ ap (λ (t : List (List ℤ)). t ++ cut_lists (proof_nodes a.proof)) (plain_cuts (head_of q a.verdict ∷ records_below s a) (front_plain q s a)) ∙ proof_cuts a.proof
+    ∙ ap (λ (t : List (List ℤ)). t ++ cut_lists (proof_nodes a.proof)) (plain_cuts (head_of q a.verdict ∷ records_below s a) (prefix_plain q s a)) ∙ proof_cuts a.proof
 
 blocks_cuts : (pairs : List ℕ) (qs : List Question) (xs : List Answer) → length xs ≤ length qs → cut_lists (blocks false pairs qs xs) ≡ all_cuts xs
 blocks_cuts pairs [] [] h = refl
@@ -374,13 +374,13 @@ share_by lists cuts e =
 pub shares_are_one : (net : Net) (xs : List Answer) → AreFormed net [] built xs → documents.share_of (records_of net xs) ≡ as_share (share_of MAX_SHARED xs)
 shares_are_one net xs h = share_by (cut_lists (flat_map (λ (rs : List Record). rs) (records_of net xs))) (all_cuts xs) (records_cuts net xs h)
 
-named_at : (ts : List (List ℤ)) (k : ℕ) (u : List ℤ) → StandsAt ts k u ↔ documents.IsNamed ts k u
+named_at : (ts : List (List ℤ)) (k : ℕ) (u : List ℤ) → HasAt ts k u ↔ documents.IsNamed ts k u
 named_at ts zero u = ((λ h. h), (λ h. h))
 named_at [] (suc k) u = ((λ h. h), (λ h. h))
 named_at (t ∷ ts) (suc zero) u = ((λ h. h), (λ h. h))
 named_at (t ∷ ts) (suc (suc k)) u = named_at ts (suc k) u
 
-all_named : (ts : List (List ℤ)) (ks : List ℕ) (us : List (List ℤ)) → AllZip (StandsAt ts) ks us ↔ AllZip (documents.IsNamed ts) ks us
+all_named : (ts : List (List ℤ)) (ks : List ℕ) (us : List (List ℤ)) → AllZip (HasAt ts) ks us ↔ AllZip (documents.IsNamed ts) ks us
 all_named ts [] [] = ((λ h. h), (λ h. h))
 all_named ts [] (u ∷ us) = ((λ h. h), (λ h. h))
 all_named ts (k ∷ ks) [] = ((λ h. h), (λ h. h))

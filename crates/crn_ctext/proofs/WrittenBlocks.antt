@@ -156,26 +156,26 @@ leaves_then : (leaf : List ℕ) (xs ys : List Record) → AllByRecursion IsPlain
 leaves_then leaf xs ys h = leaves_append leaf xs ys ∙ ap (λ (t : List ℕ). leaves_after ys t) (plain_leaves leaf xs h)
 
 -- a head and three lists of records
-front_lines : (h : Record) (vs ps ls : List Record) → record_lines (h ∷ (vs ++ ps ++ ls)) ≡ ((record_lines (h ∷ []) ++ record_lines vs) ++ record_lines ps) ++ record_lines ls
-front_lines h vs ps ls =
+prefix_lines : (h : Record) (vs ps ls : List Record) → record_lines (h ∷ (vs ++ ps ++ ls)) ≡ ((record_lines (h ∷ []) ++ record_lines vs) ++ record_lines ps) ++ record_lines ls
+prefix_lines h vs ps ls =
     lines_append ((h ∷ (vs ++ ps))) ls
     ∙ ap (λ (t : List ℕ). t ++ record_lines ls) (lines_append (h ∷ vs) ps ∙ ap (λ (t : List ℕ). t ++ record_lines ps) (lines_append (h ∷ []) vs))
 
 -- a head and what is below it are no cut leaves
-pub front_plain : (q : Question) (s : Shapes) (a : Answer) → AllByRecursion IsPlain (head_of q a.verdict ∷ records_below s a)
-front_plain q s a =
+pub prefix_plain : (q : Question) (s : Shapes) (a : Answer) → AllByRecursion IsPlain (head_of q a.verdict ∷ records_below s a)
+prefix_plain q s a =
     (plain_head q a.verdict, all_both (verdict_records a.verdict ++ proof_records s a.proof) (later_records a.verdict) (all_both (verdict_records a.verdict) (proof_records s a.proof) (plain_verdict a.verdict) (plain_proof s a.proof)) (plain_later a.verdict))
 
 -- the lines of an answer: its head, what is below it, and its trees
 pub answer_lines : (leaf : List ℕ) (q : Question) (s : Shapes) (a : Answer) → record_lines (written leaf (records q s a))
     ≡ (((record_lines (head_of q a.verdict ∷ []) ++ record_lines (verdict_records a.verdict)) ++ record_lines (proof_records s a.proof)) ++ record_lines (later_records a.verdict)) ++ record_lines (written leaf (proof_nodes a.proof))
 answer_lines leaf q s a =
-    plain_then leaf (head_of q a.verdict ∷ records_below s a) (proof_nodes a.proof) (front_plain q s a)
-    ∙ ap (λ (t : List ℕ). t ++ record_lines (written leaf (proof_nodes a.proof))) (front_lines (head_of q a.verdict) (verdict_records a.verdict) (proof_records s a.proof) (later_records a.verdict))
+    plain_then leaf (head_of q a.verdict ∷ records_below s a) (proof_nodes a.proof) (prefix_plain q s a)
+    ∙ ap (λ (t : List ℕ). t ++ record_lines (written leaf (proof_nodes a.proof))) (prefix_lines (head_of q a.verdict) (verdict_records a.verdict) (proof_records s a.proof) (later_records a.verdict))
 
 -- the numbers of the leaves after an answer
 pub answer_leaves : (leaf : List ℕ) (q : Question) (s : Shapes) (a : Answer) → leaves_after (records q s a) leaf ≡ leaves_after (proof_nodes a.proof) leaf
-answer_leaves leaf q s a = leaves_then leaf (head_of q a.verdict ∷ records_below s a) (proof_nodes a.proof) (front_plain q s a)
+answer_leaves leaf q s a = leaves_then leaf (head_of q a.verdict ∷ records_below s a) (proof_nodes a.proof) (prefix_plain q s a)
 
 -- ---- blocks
 

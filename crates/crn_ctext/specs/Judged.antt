@@ -15,7 +15,7 @@ use Rattle.crn_cert.specs.Built.{built}
 -- this is read of the document, to its end
 abbrev pub IsReadOf : List ℕ → ReadOf → Type 0
 IsReadOf bytes read =
-    (behind : Place) × Gives (course meaning versions built) (beginning bytes) read behind
+    (after : Place) × Gives (course meaning versions built) (beginning bytes) read after
 
 -- its first fault
 abbrev pub IsFaultOf : List ℕ → (line code : ℕ) → Type 0
@@ -65,14 +65,14 @@ GoodDocumentsAreOne = (bytes : List ℕ) (good other : IsGood bytes)
     → (good.net ≡ other.net) × (good.answers ≡ other.answers)
 
 -- the block is the records of the answer, but for the nodes of its trees
-abbrev pub IsFront : List Record → List Record → Type 0
-IsFront block rs = (nodes : List Record) × (rs ≡ block ++ nodes)
+abbrev pub IsPrefixOf : List Record → List Record → Type 0
+IsPrefixOf block rs = (nodes : List Record) × (rs ≡ block ++ nodes)
 
 -- the bytes are a good document of this network; these blocks are its answers but for the nodes of
 -- trees, and say the same verdicts
 abbrev pub IsGoodRead : Net → List (List Record) → List ℕ → Type 0
 IsGoodRead net blocks bytes =
-    (good : IsGood bytes) × (good.net ≡ net) × AllZip IsFront blocks good.answers
+    (good : IsGood bytes) × (good.net ≡ net) × AllZip IsPrefixOf blocks good.answers
     × (verdicts_said built (meaning.start net) good.answers
     ≡ verdicts_said built (meaning.start net) blocks)
 

@@ -130,8 +130,8 @@ pub(crate) fn numbers(line: &[u8], most: usize, into: &mut Ints) -> bool
             Some((value, width)) => {
                 add(into, value);
                 count += 1;
-                let (_, behind) = field.split_at(width);
-                left = behind;
+                let (_, after) = field.split_at(width);
+                left = after;
             }
         }
     }

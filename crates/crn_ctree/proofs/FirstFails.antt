@@ -5,7 +5,7 @@ use Rattle.crn_vec.specs.declared.signs.Sign.{Sign}
 use Rattle.crn_vec.specs.declared.signs.Sign.TheVariants.{Zero, Plus, Minus}
 use Rattle.crn_vec.specs.Problems.{Signed}
 use Rattle.crn_cert.specs.Trees.{Plan, Both, Three, RulesA, RulesB, Level, IsFormedTree, node_count}
-use Rattle.crn_cert.specs.Nodes.{Said, Splits, Flats, CutsA, CutsB, nodes, Fits, behind, Passing, done, then}
+use Rattle.crn_cert.specs.Nodes.{Said, Splits, Flats, CutsA, CutsB, nodes, Fits, rest_after, Passing, done, then}
 use Rattle.crn_cert.specs.Tests.{Test, test, AllHold, FailsFirst}
 use Rattle.crn_cert.specs.TreeTests.{tree_tests}
 use Rattle.crn_cert.proofs.CallerLemmas.{hold_append}
@@ -49,14 +49,14 @@ repart w tests a b count rest start tail after due e h = subst (λ (n : ℕ). En
 
 -- one node
 one_node : (w : Signed) (part : ℕ) (p : List Sign) (rest : List (List Sign)) (node : Said) (start tail after : List Said) (due : List (List Sign)) → node ∷ after ≡ start ++ tail → Passing w (p ∷ rest) start due
-    → Ends w (test part (code_at node) (Fits w p node) ∷ []) part 1 (behind p rest node) start tail after due
+    → Ends w (test part (code_at node) (Fits w p node) ∷ []) part 1 (rest_after p rest node) start tail after due
 one_node w part p rest node [] tail after due h done = inl (λ n more g bad.
     let e : node ≡ n = cc in
     inl ((λ t. bad (subst (λ (s : Said). Fits w p s) e t)), omega arith, ap code_at e))
 one_node w part p rest node (x ∷ start) tail after due h (then fits g) =
     let e : x ≡ node = cc in
     let t : after ≡ start ++ tail = cc in
-    inr (record { others = start; count_is = omega arith; hold = (subst (λ (s : Said). Fits w p s) e fits, tt); passes = subst (λ (s : Said). Passing w (behind p rest s) start due) e g; are = t })
+    inr (record { others = start; count_is = omega arith; hold = (subst (λ (s : Said). Fits w p s) e fits, tt); passes = subst (λ (s : Said). Passing w (rest_after p rest s) start due) e g; are = t })
 
 -- some nodes, and then others
 then_ends : (w : Signed) (one two : List Test) (part a b : ℕ) (mid rest : List (List Sign)) (start tail between after : List Said) (due : List (List Sign)) → Ends w one part a mid start tail between due
@@ -78,7 +78,7 @@ ends w ra rb part (Both z q) p rest start tail after due f h g =
     let zs = tree_tests (Fits w) (part + 1) (p ++ Zero ∷ []) z in
     let qs = tree_tests (Fits w) (part + 1 + node_count z) (p ++ Plus ∷ []) q in
     recount w (tree_tests (Fits w) part p (Both z q)) part (1 + (node_count z + node_count q)) (node_count (Both z q)) rest start tail after due (omega arith)
-    (then_ends w (test part 42 (Fits w p Splits) ∷ []) (zs ++ qs) part 1 (node_count z + node_count q) (behind p rest Splits) rest start tail ((nodes z ++ nodes q) ++ after) after due (one_node w part p rest Splits start tail ((nodes z ++ nodes q) ++ after) due h g)
+    (then_ends w (test part 42 (Fits w p Splits) ∷ []) (zs ++ qs) part 1 (node_count z + node_count q) (rest_after p rest Splits) rest start tail ((nodes z ++ nodes q) ++ after) after due (one_node w part p rest Splits start tail ((nodes z ++ nodes q) ++ after) due h g)
     (λ others go e. then_ends w zs qs (part + 1) (node_count z) (node_count q) ((p ++ Plus ∷ []) ∷ rest) rest others tail (nodes q ++ after) after due
     (ends w ra rb (part + 1) z (p ++ Zero ∷ []) ((p ++ Plus ∷ []) ∷ rest) others tail (nodes q ++ after) due f.2 (sym (append_assoc (nodes z) (nodes q) after) ∙ e) (subst (λ (d : List (List Sign)). Passing w d others due) (children_zero p rest f.1) go))
     (λ others' go' e'. ends w ra rb (part + 1 + node_count z) q (p ++ Plus ∷ []) rest others' tail after due f.3 e' go')))
@@ -89,7 +89,7 @@ ends w ra rb part (Three z q m) p rest start tail after due f h g =
     let two = node_count z + node_count q in
     let between = (nodes z ++ nodes q ++ nodes m) ++ after in
     recount w (tree_tests (Fits w) part p (Three z q m)) part (1 + (two + node_count m)) (node_count (Three z q m)) rest start tail after due (omega arith)
-    (then_ends w (test part 42 (Fits w p Splits) ∷ []) ((zs ++ qs) ++ ms) part 1 (two + node_count m) (behind p rest Splits) rest start tail between after due (one_node w part p rest Splits start tail between due h g)
+    (then_ends w (test part 42 (Fits w p Splits) ∷ []) ((zs ++ qs) ++ ms) part 1 (two + node_count m) (rest_after p rest Splits) rest start tail between after due (one_node w part p rest Splits start tail between due h g)
     (λ others go e. then_ends w (zs ++ qs) ms (part + 1) two (node_count m) ((p ++ Minus ∷ []) ∷ rest) rest others tail (nodes m ++ after) after due
     (then_ends w zs qs (part + 1) (node_count z) (node_count q) ((p ++ Plus ∷ []) ∷ (p ++ Minus ∷ []) ∷ rest) ((p ++ Minus ∷ []) ∷ rest) others tail (nodes q ++ (nodes m ++ after)) (nodes m ++ after) due
     (ends w ra rb (part + 1) z (p ++ Zero ∷ []) ((p ++ Plus ∷ []) ∷ (p ++ Minus ∷ []) ∷ rest) others tail (nodes q ++ (nodes m ++ after)) due f.2

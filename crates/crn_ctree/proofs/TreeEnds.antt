@@ -4,7 +4,7 @@ use Rattle.std.proofs.Common.{◌≡◌, ◌≢◌, List, [], ◌∷◌, ◌++�
 use Rattle.crn_vec.specs.declared.signs.Sign.{Sign}
 use Rattle.crn_vec.specs.Problems.{Signed}
 use Rattle.crn_vec.specs.Visits.{root}
-use Rattle.crn_cert.specs.Nodes.{Said, Passing, done, then, behind}
+use Rattle.crn_cert.specs.Nodes.{Said, Passing, done, then, rest_after}
 use Rattle.crn_ctree.specs.Gives.{IsTaken}
 use Rattle.crn_ctree.specs.Laws.{CompleteWhereValid, CompleteTreesShow}
 use Rattle.crn_vec.specs.NetSystems.{reaction_system}
@@ -14,7 +14,7 @@ use Rattle.crn_vec.specs.Concordance.{IsConcordant, concordance}
 use Rattle.crn_vec.specs.Confluence.{IsRegular}
 use Rattle.crn_vec.specs.Signals.{Shape, signals}
 use Rattle.crn_vec.specs.NetSignals.{IsShapeOf, HasNoSignal}
-use Rattle.crn_vec.proofs.CallerLemmas.{tables_are_steady, tables_stand, signals_are_steady, signals_stand}
+use Rattle.crn_vec.proofs.CallerLemmas.{tables_are_steady, tables_feasible, signals_are_steady, signals_feasible}
 use Rattle.crn_cert.proofs.CallerLemmas.{leaves_nothing}
 use Rattle.crn_ctree.specs.Problem.{problem_of, table_of}
 use Rattle.crn_ctree.specs.declared.problem.InfluenceTable.{InfluenceTable}
@@ -29,12 +29,12 @@ passing_none w = done
 -- and after one more node that is taken, what it leaves
 pub passing_taken : (w : Signed) (begin due after : List (List Sign)) (said : List Said) (node : Said) → due ≢ [] → Passing w begin said due → IsTaken w due node after → Passing w begin (said ++ node ∷ []) after
 passing_taken w begin [] after said node some h t = absurd (some refl)
-passing_taken w begin (p ∷ rest) after said node some h t = passing_then w begin (p ∷ rest) after said (node ∷ []) h (then t.fits (subst (λ (d : List (List Sign)). Passing w d [] after) t.behind_it done))
+passing_taken w begin (p ∷ rest) after said node some h t = passing_then w begin (p ∷ rest) after said (node ∷ []) h (then t.fits (subst (λ (d : List (List Sign)). Passing w d [] after) t.next_due done))
 
 -- nodes that fit leave one list due
 passing_one : (w : Signed) (due a b : List (List Sign)) (said : List Said) → Passing w due said a → Passing w due said b → a ≡ b
 passing_one w due a b [] done done = refl
-passing_one w due a b (node ∷ said) (then {p} {rest} f g) (then f' g') = passing_one w (behind p rest node) a b said g g'
+passing_one w due a b (node ∷ said) (then {p} {rest} f g) (then f' g') = passing_one w (rest_after p rest node) a b said g g'
 
 pub complete_where_valid : CompleteWhereValid
 complete_where_valid w said due h = (
@@ -47,14 +47,14 @@ table_shown net table said n h alpha weights d =
     let m = reaction_system net in
     let signs = table_of net table in
     let t = (those_of_trees (concordance m signs)).tree said h in
-    let s = (tables_stand m signs (is_table net n table)).stands alpha weights d in
+    let s = (tables_feasible m signs (is_table net n table)).feasible alpha weights d in
     leaves_nothing (concordance m signs) (tables_are_steady m signs) t.tree [] s.0 t.valid s.1 s.2
 
 no_signal : (net : Net) (s : Shape) (said : List Said) → IsNetwork net → Passing (signals s (reaction_system net)) root said [] → (g : List ℤ) → IsRegular net → IsShapeOf net g s → HasNoSignal net g
 no_signal net s said n h g regular sh shelves mu level weights sg =
     let m = reaction_system net in
     let t = (those_of_trees (signals s m)).tree said h in
-    let at = signals_stand net g s n regular sh shelves mu level weights sg in
+    let at = signals_feasible net g s n regular sh shelves mu level weights sg in
     leaves_nothing (signals s m) (signals_are_steady s m) t.tree [] at.0 t.valid at.1 at.2
 
 pub complete_trees_show : CompleteTreesShow

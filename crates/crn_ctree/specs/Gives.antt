@@ -4,7 +4,7 @@
 use Rattle.std.specs.Prelude.{◌≡◌, ◌≢◌, ℕ, Bool, true, false, List, [], length, Result, Ok, Err}
 use Rattle.crn_vec.specs.declared.signs.Sign.{Sign}
 use Rattle.crn_vec.specs.Problems.{Signed}
-use Rattle.crn_cert.specs.Nodes.{Said, Splits, Flats, CutsA, CutsB, Fits, behind}
+use Rattle.crn_cert.specs.Nodes.{Said, Splits, Flats, CutsA, CutsB, Fits, rest_after}
 use Rattle.crn_ctree.specs.Due.{first, rest}
 use Rattle.crn_ctree.specs.declared.node.Node.{Node}
 use Rattle.crn_ctree.specs.declared.node.Node.TheVariants.{Split, Flat, CutA, CutB}
@@ -38,7 +38,7 @@ is_cut (CutsB u) = true
 pub record IsTaken (w : Signed) (due : List (List Sign)) (said : Said) (after : List (List Sign))
     : Type 0 where
   pub fits : Fits w (first due) said
-  pub behind_it : after ≡ behind (first due) (rest due) said
+  pub next_due : after ≡ rest_after (first due) (rest due) said
 
 -- a node that does not fit the prefix that is due leaves all as it was
 pub record IsRefused (w : Signed) (due : List (List Sign)) (said : Said) (after : List (List Sign))

@@ -21,7 +21,7 @@ use Rattle.crn_ctext.specs.Records.{Record, Form, Fits}
 use Rattle.crn_ctext.specs.Questions.{Shapes, later_numbers}
 use Rattle.crn_ctext.specs.Course.{Course, Give, ◌>>=◌, Gives}
 use Rattle.crn_ctext.specs.Course as course
-use Rattle.crn_ctext.specs.Blocks.{Behind, Problem, asks_all, asks_trees, claims, has_tree, is_open, problems, unless}
+use Rattle.crn_ctext.specs.Blocks.{AfterBlocks, Problem, asks_all, asks_trees, claims, has_tree, is_open, problems, unless}
 use Rattle.crn_ctext.specs.Steps.{StepGives}
 use Rattle.crn_io.specs.Device.{SourceSeen}
 use Rattle.crn_document.specs.declared.reading.Reading.{Reading}
@@ -297,7 +297,7 @@ shown_said net earlier n head rs (inr (inr e)) place =
       tests = subst (λ (k : ℕ). row_tests net earlier Q15 (verdict_at Q15 k (later_numbers head) rs) Nothing ≡ []) (sym one) refl;
     })
 
--- a no to question 13 whose head passes its tests stands over a vector
+-- a no to question 13 whose head passes its tests is about a vector
 pub vector_shown : (net : Net) (earlier : Earlier) (n : ℕ) (head : List ℤ) → n ≡ 13 → said.number head 0 ≡ tree_place n → HeadHolds net earlier n head → HasVector earlier
 vector_shown net earlier n head e place hold =
     let two : said.number head 0 ≡ 2 = place ∙ ap (λ (m : ℕ). tree_place m) e in
@@ -340,7 +340,7 @@ block_then net earlier new n line version place table h rs blocks result mid las
     due : List {1} Problem
     due = problems meaning (asked n) (known_of net earlier) h
 
-    after : ℕ → Behind Known
+    after : ℕ → AfterBlocks Known
     after l = record { known = meaning.learn (asked n) (known_of net earlier) h rs; by_tree = has_tree due; line = l; blocks = blocks ++ (h ∷ rs) ∷ [] }
 
     by_tree : Bool
@@ -357,7 +357,7 @@ block_then net earlier new n line version place table h rs blocks result mid las
 -- ---- after a head
 
 -- what is said of the course of these records is said of what is due below the head
-pub rows_course_by : (P : Course (Behind Known) → Type 0) (version : ℕ) (table : List (List ℤ)) (net : Net) (facts : KeptFacts) (n m line : ℕ) (head : List ℤ) (h : Record) (blocks : List (List Record)) → IsBuilt n → IsKnown net (before n) facts → IsHead net facts.earlier n head h → m + 1 ≡ line
+pub rows_course_by : (P : Course (AfterBlocks Known) → Type 0) (version : ℕ) (table : List (List ℤ)) (net : Net) (facts : KeptFacts) (n m line : ℕ) (head : List ℤ) (h : Record) (blocks : List (List Record)) → IsBuilt n → IsKnown net (before n) facts → IsHead net facts.earlier n head h → m + 1 ≡ line
     → P (asks_all version line false (forms_below net facts.earlier n head) >>= (λ rows. end_course version table (asked n) (after_at net facts.earlier m blocks) h rows)) → P (rows_course version table (asked n) (after_at net facts.earlier m blocks) h)
 rows_course_by P version table net facts n m line head h blocks built known said next p =
     let earlier = facts.earlier in
@@ -366,10 +366,10 @@ rows_course_by P version table net facts n m line head h blocks built known said
     (subst (λ (k : ℕ). P (asks_all version k false (forms_below net earlier n head) >>= (λ rows. end_course version table (asked n) (after_at net earlier m blocks) h rows))) (sym next) p)
 
 -- the same course, by its tests
-abbrev head_by : List {1} Test → Net → Earlier → ℕ → List (List Record) → (version : ℕ) → List (List ℤ) → Question → Record → Course (Behind Known)
+abbrev head_by : List {1} Test → Net → Earlier → ℕ → List (List Record) → (version : ℕ) → List (List ℤ) → Question → Record → Course (AfterBlocks Known)
 head_by ts net earlier n blocks version table q h = claims n ts >>= (λ x. rows_course version table q (after_at net earlier n blocks) h)
 
-pub head_course_by : (P : Course (Behind Known) → Type 0) (version : ℕ) (table : List (List ℤ)) (net : Net) (facts : KeptFacts) (n m : ℕ) (head : List ℤ) (h : Record) (blocks : List (List Record)) → IsBuilt n → IsKnown net (before n) facts → IsHead net facts.earlier n head h
+pub head_course_by : (P : Course (AfterBlocks Known) → Type 0) (version : ℕ) (table : List (List ℤ)) (net : Net) (facts : KeptFacts) (n m : ℕ) (head : List ℤ) (h : Record) (blocks : List (List Record)) → IsBuilt n → IsKnown net (before n) facts → IsHead net facts.earlier n head h
     → P (claims m (head_tests net facts.earlier (asked n) (said_verdict n head [])) >>= (λ x. rows_course version table (asked n) (after_at net facts.earlier m blocks) h)) → P (head_course version table (asked n) (after_at net facts.earlier m blocks) h)
 head_course_by P version table net facts n m head h blocks built known said p =
     let earlier = facts.earlier in

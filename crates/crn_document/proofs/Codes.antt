@@ -24,7 +24,7 @@ use Rattle.crn_ctext.specs.Course.{Course, Give, Line, Test, End, ◌>>=◌, Fai
 use Rattle.crn_vec.specs.declared.signs.Sign.{Sign}
 use Rattle.crn_vec.specs.declared.signs.Sign.TheVariants.{Zero, Plus, Minus}
 use Rattle.crn_ctext.specs.Blocks.{Node, Split, Flat, CutA, CutB, Problem, node_of, leaf, asks_node, asks_leaf, goes_on, if_signed, is_all_zero, asks_tree}
-use Rattle.crn_ctext.specs.Blocks.{Behind, IsNetworkOf, asks, asks_all, asks_block, asks_blocks, asks_lines, asks_table, asks_trees, behind_sections, below, claims, either, has_tree, head_claims, is_open, lists_of, place_of, problems, row_claims, sections, unless}
+use Rattle.crn_ctext.specs.Blocks.{AfterBlocks, IsNetworkOf, asks, asks_all, asks_block, asks_blocks, asks_lines, asks_table, asks_trees, after_sections, below, claims, either, has_tree, head_claims, is_open, lists_of, place_of, problems, row_claims, sections, unless}
 use Rattle.crn_ctext.specs.Meaning.{Known, gap_of, head_claims_of, meaning, proof_by, proof_of, row_claims_of, shapes_of, sizes_of, verdict_by, verdict_of}
 use Rattle.crn_document.specs.Check.{CheckGives, HasFaultNumber, IsFaultNumber}
 use Rattle.crn_document.specs.declared.check.Accepted.{Accepted}
@@ -429,7 +429,7 @@ unfolding asks_trees
 trees_numbered version table [] n = give_numbered n
 trees_numbered version table (p ∷ ps) n = numbered_then (asks_tree version table p p.choices [] n) (λ m. asks_trees version table ps m) (tree_numbered version table p p.choices [] n) (λ m. trees_numbered version table ps m)
 
-block_numbered : (version : ℕ) (table : List (List ℤ)) (q : Question) (at : Behind Known) → IsNumberedFor q → IsNumbered (asks_block meaning version table q at)
+block_numbered : (version : ℕ) (table : List (List ℤ)) (q : Question) (at : AfterBlocks Known) → IsNumberedFor q → IsNumbered (asks_block meaning version table q at)
 block_numbered version table q at p =
     numbered_then (asks version at.line at.by_tree (heads q (sizes_of at.known))) after_head (asks_numbered version at.line at.by_tree (heads q (sizes_of at.known)))
     (λ h. numbered_then (claims at.line (head_claims meaning q at.known h)) (λ x. after_claims h) (claims_numbered at.line (head_claims meaning q at.known h) (unless_numbered (is_open h) (head_claims_of q at.known h) (let f = p.head in f at.known h)))
@@ -437,29 +437,29 @@ block_numbered version table q at p =
     (λ rs. numbered_then (claims at.line (row_claims meaning q at.known h rs)) (λ y. after_tests h rs) (claims_numbered at.line (row_claims meaning q at.known h rs) (unless_numbered (is_open h) (row_claims_of q at.known h rs) (let f = p.rows in f at.known h rs)))
     (λ y. numbered_then (asks_trees version table (problems meaning q at.known h) (at.line + 1 + length rs)) (λ line. Give (given h rs line)) (trees_numbered version table (problems meaning q at.known h) (at.line + 1 + length rs)) (λ line. give_numbered (given h rs line))))))
   where
-    given : Record → List Record → ℕ → Behind Known
+    given : Record → List Record → ℕ → AfterBlocks Known
     given h rs line = record { known = meaning.learn q at.known h rs; by_tree = has_tree (problems meaning q at.known h); line = line; blocks = at.blocks ++ (h ∷ rs) ∷ [] }
 
-    after_tests : Record → List Record → Course (Behind Known)
+    after_tests : Record → List Record → Course (AfterBlocks Known)
     after_tests h rs = asks_trees version table (problems meaning q at.known h) (at.line + 1 + length rs) >>= (λ line. Give (given h rs line))
 
-    after_rows : Record → List Record → Course (Behind Known)
+    after_rows : Record → List Record → Course (AfterBlocks Known)
     after_rows h rs = claims at.line (row_claims meaning q at.known h rs) >>= (λ y. after_tests h rs)
 
-    after_claims : Record → Course (Behind Known)
+    after_claims : Record → Course (AfterBlocks Known)
     after_claims h = asks_all version (at.line + 1) false (below q (shapes_of at.known) h) >>= (λ rs. after_rows h rs)
 
-    after_head : Record → Course (Behind Known)
+    after_head : Record → Course (AfterBlocks Known)
     after_head h = claims at.line (head_claims meaning q at.known h) >>= (λ x. after_claims h)
 
-blocks_numbered : (version : ℕ) (table : List (List ℤ)) (qs : List Question) (at : Behind Known) → AreNumberedFor qs → IsNumbered (asks_blocks meaning version table qs at)
+blocks_numbered : (version : ℕ) (table : List (List ℤ)) (qs : List Question) (at : AfterBlocks Known) → AreNumberedFor qs → IsNumbered (asks_blocks meaning version table qs at)
 unfolding asks_blocks
 blocks_numbered version table [] at p = give_numbered at
 blocks_numbered version table (q ∷ qs) at p =
-    numbered_then (asks_all version at.line at.by_tree (map section_form (sections version q))) (λ opened. asks_block meaning version table q (behind_sections opened at) >>= (λ behind. asks_blocks meaning version table qs behind))
+    numbered_then (asks_all version at.line at.by_tree (map section_form (sections version q))) (λ opened. asks_block meaning version table q (after_sections opened at) >>= (λ after. asks_blocks meaning version table qs after))
     (all_numbered version at.line at.by_tree (map section_form (sections version q)))
-    (λ opened. numbered_then (asks_block meaning version table q (behind_sections opened at)) (λ behind. asks_blocks meaning version table qs behind) (block_numbered version table q (behind_sections opened at) p.0)
-    (λ behind. blocks_numbered version table qs behind p.1))
+    (λ opened. numbered_then (asks_block meaning version table q (after_sections opened at)) (λ after. asks_blocks meaning version table qs after) (block_numbered version table q (after_sections opened at) p.0)
+    (λ after. blocks_numbered version table qs after p.1))
 
 -- ---- a document
 
@@ -484,9 +484,9 @@ whole_numbered =
     numbered_then (asks_lines count) (λ lines. find (2 + count) 22 Net (IsNetworkOf lines) >>= (λ net. after_network version count net)) (lines_numbered count) (λ lines.
     numbered_then (find (2 + count) 22 Net (IsNetworkOf lines)) (after_network version count) (find_numbered (2 + count) 22 Net (IsNetworkOf lines) of_22) (λ net.
     numbered_then (asks_table version (3 + count)) (after_table version (3 + count) net) (table_numbered version (3 + count)) (λ table.
-    numbered_then (asks_blocks meaning version (lists_of table) built (after_at net [] (3 + count + length table) [])) (λ behind. last_course version net behind) (blocks_numbered version (lists_of table) built (after_at net [] (3 + count + length table) []) built_numbered) (λ behind.
-    numbered_then (asks version behind.line behind.by_tree (end_form ∷ [])) (λ last. ends_with (record { net = net; blocks = behind.blocks })) (asks_numbered version behind.line behind.by_tree (end_form ∷ [])) (λ last.
-    numbered_then ends (λ x. Give (record { net = net; blocks = behind.blocks })) ends_numbered (λ x. give_numbered (record { net = net; blocks = behind.blocks })))))))))
+    numbered_then (asks_blocks meaning version (lists_of table) built (after_at net [] (3 + count + length table) [])) (λ after. last_course version net after) (blocks_numbered version (lists_of table) built (after_at net [] (3 + count + length table) []) built_numbered) (λ after.
+    numbered_then (asks version after.line after.by_tree (end_form ∷ [])) (λ last. ends_with (record { net = net; blocks = after.blocks })) (asks_numbered version after.line after.by_tree (end_form ∷ [])) (λ last.
+    numbered_then ends (λ x. Give (record { net = net; blocks = after.blocks })) ends_numbered (λ x. give_numbered (record { net = net; blocks = after.blocks })))))))))
   where
     opening_numbered : (n code : ℕ) (P : List ℕ → ℕ → Type 0) → IsFaultNumber code → IsNumbered (due false >>= (λ line. find n code ℕ (P line)))
     opening_numbered n code P c = numbered_then (due false) (λ line. find n code ℕ (P line)) (due_numbered false) (λ line. find_numbered n code ℕ (P line) c)

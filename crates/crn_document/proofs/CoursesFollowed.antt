@@ -12,12 +12,12 @@ use Rattle.crn_document.specs.Inner.Steps.{StopIs, StepIs}
 
 -- ---- the parts of a course
 
-pub gives_apart : {A B : Type 0} (c : Course A) (f : A → Course B) (at behind : Place) (y : B) → Gives (c >>= f) at y behind → (x : A) × (mid : Place) × Gives c at x mid × Gives (f x) mid y behind
+pub gives_apart : {A B : Type 0} (c : Course A) (f : A → Course B) (at after : Place) (y : B) → Gives (c >>= f) at y after → (x : A) × (mid : Place) × Gives c at x mid × Gives (f x) mid y after
 unfolding Gives
-gives_apart (Give x) f at behind y g = (x, at, (refl, refl), g)
-gives_apart (Line node next) f at behind y g = let r = gives_apart (next g.0) f g.1 behind y g.3 in (r.0, r.1, (g.0, g.1, g.2, r.2), r.3)
-gives_apart (Test n c X P next) f at behind y g = let r = gives_apart (next g.0) f at behind y g.2 in (r.0, r.1, (g.0, g.1, r.2), r.3)
-gives_apart (End next) f at behind y g = let r = gives_apart next f at behind y g.1 in (r.0, r.1, (g.0, r.2), r.3)
+gives_apart (Give x) f at after y g = (x, at, (refl, refl), g)
+gives_apart (Line node next) f at after y g = let r = gives_apart (next g.0) f g.1 after y g.3 in (r.0, r.1, (g.0, g.1, g.2, r.2), r.3)
+gives_apart (Test n c X P next) f at after y g = let r = gives_apart (next g.0) f at after y g.2 in (r.0, r.1, (g.0, g.1, r.2), r.3)
+gives_apart (End next) f at after y g = let r = gives_apart next f at after y g.1 in (r.0, r.1, (g.0, r.2), r.3)
 
 -- the first of two courses fails first, or what follows it
 abbrev pub FailsApart : {A B : Type 0} → Course A → (A → Course B) → Place → (n code : ℕ) → Type 0
@@ -45,19 +45,19 @@ fails_apart (End next) f at n code (inr h) = elim (fails_apart next f at n code 
 -- ---- one course follows another
 
 pub record Follows {A : Type 0} (c d : Course A) : Type 0 where
-  pub gives : (at behind : Place) (y : A) → Gives c at y behind → Gives d at y behind
+  pub gives : (at after : Place) (y : A) → Gives c at y after → Gives d at y after
   pub fails : (at : Place) (n code : ℕ) → FailsFirst c at n code → FailsFirst d at n code
 
 pub follows_on : {A : Type 0} (c d e : Course A) → Follows c d → Follows d e → Follows c e
 follows_on c d e p q = record {
-  gives = λ at behind y g. let h = p.gives in let k = q.gives in k at behind y (h at behind y g);
+  gives = λ at after y g. let h = p.gives in let k = q.gives in k at after y (h at after y g);
   fails = λ at n code f. let h = p.fails in let k = q.fails in k at n code (h at n code f);
 }
 
 -- what follows the same course
-pub follows_behind : {A B : Type 0} (c : Course A) (f g : A → Course B) → ((x : A) → Follows (f x) (g x)) → Follows (c >>= f) (c >>= g)
-follows_behind c f g h = record {
-  gives = λ at behind y p. let r = gives_apart c f at behind y p in let k = (h r.0).gives in gives_then c g at r.1 behind r.0 y r.2 (k r.1 behind y r.3);
+pub follows_after : {A B : Type 0} (c : Course A) (f g : A → Course B) → ((x : A) → Follows (f x) (g x)) → Follows (c >>= f) (c >>= g)
+follows_after c f g h = record {
+  gives = λ at after y p. let r = gives_apart c f at after y p in let k = (h r.0).gives in gives_then c g at r.1 after r.0 y r.2 (k r.1 after y r.3);
   fails = λ at n code p. elim (fails_apart c f at n code p) [
     | inl a ↦ fails_before c g at n code a
     | inr r ↦ let k = (h r.0).fails in fails_then c g at r.1 r.0 n code r.2 (k r.1 n code r.3)
@@ -67,10 +67,10 @@ follows_behind c f g h = record {
 -- three courses, bracketed to the right and to the left
 pub to_right : {A B C : Type 0} (c : Course A) (f : A → Course B) (g : B → Course C) → Follows ((c >>= f) >>= g) (c >>= (λ x. f x >>= g))
 to_right c f g = record {
-  gives = λ at behind y h.
-      let p = gives_apart (c >>= f) g at behind y h in
+  gives = λ at after y h.
+      let p = gives_apart (c >>= f) g at after y h in
       let q = gives_apart c f at p.1 p.0 p.2 in
-      gives_then c (λ x. f x >>= g) at q.1 behind q.0 y q.2 (gives_then (f q.0) g q.1 p.1 behind p.0 y q.3 p.3);
+      gives_then c (λ x. f x >>= g) at q.1 after q.0 y q.2 (gives_then (f q.0) g q.1 p.1 after p.0 y q.3 p.3);
   fails = λ at n code h. elim (fails_apart (c >>= f) g at n code h) [
     | inl p ↦ elim (fails_apart c f at n code p) [
       | inl a ↦ fails_before c (λ x. f x >>= g) at n code a
@@ -84,10 +84,10 @@ to_right c f g = record {
 
 pub to_left : {A B C : Type 0} (c : Course A) (f : A → Course B) (g : B → Course C) → Follows (c >>= (λ x. f x >>= g)) ((c >>= f) >>= g)
 to_left c f g = record {
-  gives = λ at behind y h.
-      let p = gives_apart c (λ x. f x >>= g) at behind y h in
-      let q = gives_apart (f p.0) g p.1 behind y p.3 in
-      gives_then (c >>= f) g at q.1 behind q.0 y (gives_then c f at p.1 q.1 p.0 q.0 p.2 q.2) q.3;
+  gives = λ at after y h.
+      let p = gives_apart c (λ x. f x >>= g) at after y h in
+      let q = gives_apart (f p.0) g p.1 after y p.3 in
+      gives_then (c >>= f) g at q.1 after q.0 y (gives_then c f at p.1 q.1 p.0 q.0 p.2 q.2) q.3;
   fails = λ at n code h. elim (fails_apart c (λ x. f x >>= g) at n code h) [
     | inl p ↦ fails_before (c >>= f) g at n code (fails_before c f at n code p)
     | inr p ↦ elim (fails_apart (f p.0) g p.1 n code p.3) [
@@ -98,10 +98,10 @@ to_left c f g = record {
 }
 
 -- nothing after a course
-pub none_behind : {A : Type 0} (c : Course A) → Follows (c >>= (λ x. Give x)) c
+pub none_after : {A : Type 0} (c : Course A) → Follows (c >>= (λ x. Give x)) c
 unfolding Gives FailsFirst
-none_behind {A} c = record {
-  gives = λ at behind y h. let p = gives_apart c (λ x. Give x) at behind y h in subst (λ (x : A). Gives c at x behind) p.3.0 (subst (λ (m : Place). Gives c at p.0 m) p.3.1 p.2);
+none_after {A} c = record {
+  gives = λ at after y h. let p = gives_apart c (λ x. Give x) at after y h in subst (λ (x : A). Gives c at x after) p.3.0 (subst (λ (m : Place). Gives c at p.0 m) p.3.1 p.2);
   fails = λ at n code h. elim (fails_apart c (λ x. Give x) at n code h) [
     | inl p ↦ p
     | inr p ↦ absurd p.3
@@ -112,7 +112,7 @@ none_behind {A} c = record {
 pub test_holds : {A : Type 0} (n code : ℕ) (P : Type 0) (d : Course A) → P → Follows (test n code P >>= (λ x. d)) d
 unfolding Gives FailsFirst
 test_holds n code P d p = record {
-  gives = λ at behind y g. g.2;
+  gives = λ at after y g. g.2;
   fails = λ at m c f. elim f [
     | inl none ↦ absurd (let h = none.2 in h tt p)
     | inr later ↦ later.2
@@ -123,7 +123,7 @@ test_holds n code P d p = record {
 pub test_breaks : {A : Type 0} (n code : ℕ) (P Q : Type 0) (d : Course A) (e : Course A) → (P → ⊥) → (Q → ⊥) → Follows (test n code P >>= (λ x. d)) (test n code Q >>= (λ x. e))
 unfolding Gives FailsFirst
 test_breaks n code P Q d e p q = record {
-  gives = λ at behind y g. absurd (p g.1);
+  gives = λ at after y g. absurd (p g.1);
   fails = λ at m c f. elim f [
     | inl none ↦ inl (none.0, none.1, λ x h. q h)
     | inr later ↦ absurd (p later.1)

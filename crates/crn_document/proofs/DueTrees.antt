@@ -16,7 +16,7 @@ use Rattle.crn_document.specs.declared.stop.CheckStop.{CheckStop}
 use Rattle.crn_document.specs.Inner.Steps.{StopIs, StepIs}
 use Rattle.crn_document.specs.Inner.Trees.{after_node, asks_due, asks_one, node_test}
 use Rattle.crn_document.proofs.Steps.{step_gives, step_then_is, stop_first}
-use Rattle.crn_document.proofs.CoursesFollowed.{Follows, follows_on, follows_behind, to_right, to_left, none_behind, test_holds, test_breaks, step_follows, stop_follows}
+use Rattle.crn_document.proofs.CoursesFollowed.{Follows, follows_on, follows_after, to_right, to_left, none_after, test_holds, test_breaks, step_follows, stop_follows}
 
 -- ---- prefixes
 
@@ -38,13 +38,13 @@ first_and_rest (p ∷ due) some = refl
 two_parts : (t₀ t₁ r : ℕ → Course ℕ) (n : ℕ) → Follows (t₀ n >>= (λ k. t₁ k >>= r)) ((t₀ n >>= (λ k. t₁ k >>= (λ m. Give m))) >>= r)
 two_parts t₀ t₁ r n =
     follows_on (t₀ n >>= (λ k. t₁ k >>= r)) (t₀ n >>= (λ k. (t₁ k >>= (λ m. Give m)) >>= r)) ((t₀ n >>= (λ k. t₁ k >>= (λ m. Give m))) >>= r)
-    (follows_behind (t₀ n) (λ k. t₁ k >>= r) (λ k. (t₁ k >>= (λ m. Give m)) >>= r) (λ k. to_left (t₁ k) (λ m. Give m) r))
+    (follows_after (t₀ n) (λ k. t₁ k >>= r) (λ k. (t₁ k >>= (λ m. Give m)) >>= r) (λ k. to_left (t₁ k) (λ m. Give m) r))
     (to_left (t₀ n) (λ k. t₁ k >>= (λ m. Give m)) r)
 
 three_parts : (t₀ t₁ t₂ r : ℕ → Course ℕ) (n : ℕ) → Follows (t₀ n >>= (λ k. t₁ k >>= (λ m. t₂ m >>= r))) ((t₀ n >>= (λ k. t₁ k >>= t₂)) >>= r)
 three_parts t₀ t₁ t₂ r n =
     follows_on (t₀ n >>= (λ k. t₁ k >>= (λ m. t₂ m >>= r))) (t₀ n >>= (λ k. (t₁ k >>= t₂) >>= r)) ((t₀ n >>= (λ k. t₁ k >>= t₂)) >>= r)
-    (follows_behind (t₀ n) (λ k. t₁ k >>= (λ m. t₂ m >>= r)) (λ k. (t₁ k >>= t₂) >>= r) (λ k. to_left (t₁ k) t₂ r))
+    (follows_after (t₀ n) (λ k. t₁ k >>= (λ m. t₂ m >>= r)) (λ k. (t₁ k >>= t₂) >>= r) (λ k. to_left (t₁ k) t₂ r))
     (to_left (t₀ n) (λ k. t₁ k >>= t₂) r)
 
 -- the trees of the children, with so many choices still to make in each
@@ -116,7 +116,7 @@ node_in version table p prefix due n g h =
     follows_on (asks_one version table p prefix n >>= k) (l >>= (λ node. (t node >>= (λ x. Give node)) >>= k)) ((l >>= g) >>= r)
     (to_right l (λ node. t node >>= (λ x. Give node)) k)
     (follows_on (l >>= (λ node. (t node >>= (λ x. Give node)) >>= k)) (l >>= (λ node. g node >>= r)) ((l >>= g) >>= r)
-    (follows_behind l (λ node. (t node >>= (λ x. Give node)) >>= k) (λ node. g node >>= r) (λ node. follows_on ((t node >>= (λ x. Give node)) >>= k) (t node >>= (λ x. k node)) (g node >>= r) (to_right (t node) (λ x. Give node) k) (h node)))
+    (follows_after l (λ node. (t node >>= (λ x. Give node)) >>= k) (λ node. g node >>= r) (λ node. follows_on ((t node >>= (λ x. Give node)) >>= k) (t node >>= (λ x. k node)) (g node >>= r) (to_right (t node) (λ x. Give node) k) (h node)))
     (to_left l g r))
 
 -- a node at the first of some prefixes, and what is due then
@@ -134,7 +134,7 @@ pub root_tree : (version : ℕ) (table : List (List ℤ)) (p : Problem) (n : ℕ
 unfolding asks_due
 root_tree version table p n =
     let e : p.choices - 0 ≡ p.choices = omega arith in
-    subst (λ (k : ℕ). Follows (asks_tree version table p (p.choices - 0) [] n >>= (λ m. Give m)) (asks_tree version table p k [] n)) e (none_behind (asks_tree version table p (p.choices - 0) [] n))
+    subst (λ (k : ℕ). Follows (asks_tree version table p (p.choices - 0) [] n >>= (λ m. Give m)) (asks_tree version table p k [] n)) e (none_after (asks_tree version table p (p.choices - 0) [] n))
 
 -- ---- steps
 

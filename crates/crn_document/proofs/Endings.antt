@@ -64,13 +64,13 @@ IsNoEnd Failed = ⊥
 IsNoEnd answer = Unit {0}
 
 -- what an answer says of what is left is said of the bytes that follow
-told : (answer : Next) (taken : ℕ) (bytes : List ℕ) (after : Option (List ℕ)) (new : KeptLines) (rest : List ℕ) → IsNoEnd answer → IsRest after rest → NextIs answer taken bytes after new → NextIs answer taken bytes (Some rest) new
-told End taken bytes after new rest none r q = absurd none
-told Failed taken bytes after new rest none r q = absurd none
-told Line taken bytes after new rest none r q = q
-told LineTooLong taken bytes after new rest none r q = q
-told DocumentTooLong taken bytes after new rest none r q = q
-told Last taken bytes after new rest none r q = (q.0, q.1, q.2, q.3, q.4, none_rest after rest q.5 r)
+shown : (answer : Next) (taken : ℕ) (bytes : List ℕ) (after : Option (List ℕ)) (new : KeptLines) (rest : List ℕ) → IsNoEnd answer → IsRest after rest → NextIs answer taken bytes after new → NextIs answer taken bytes (Some rest) new
+shown End taken bytes after new rest none r q = absurd none
+shown Failed taken bytes after new rest none r q = absurd none
+shown Line taken bytes after new rest none r q = q
+shown LineTooLong taken bytes after new rest none r q = q
+shown DocumentTooLong taken bytes after new rest none r q = q
+shown Last taken bytes after new rest none r q = (q.0, q.1, q.2, q.3, q.4, none_rest after rest q.5 r)
 
 breaks : (answer : Next) (at : Place) → IsNoEnd answer → EndIs answer at → BreaksLine at 28 (HasMore at) (code_of 28 answer)
 breaks End at none d = absurd none
@@ -101,7 +101,7 @@ something_left answer read n old new before now none lt g = (
     off = g.1;
     bound = g.4;
     fails = λ rest r. fails_end read n old (g.0 ++ rest) (code_of 28 answer) (breaks answer (place n old (g.0 ++ rest)) none
-        (end_is answer n old new (g.0 ++ rest) rest (old.ahead ++ g.0) lt (sym (append_assoc old.ahead g.0 rest)) (told answer old.taken (old.ahead ++ g.0) now.left new rest none r g.2)));
+        (end_is answer n old new (g.0 ++ rest) rest (old.ahead ++ g.0) lt (sym (append_assoc old.ahead g.0 rest)) (shown answer old.taken (old.ahead ++ g.0) now.left new rest none r g.2)));
   },
   same_count answer old new before now none g,
 )

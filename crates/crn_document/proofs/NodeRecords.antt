@@ -94,15 +94,15 @@ pub passes : (net : Net) (problem : TreeProblem) (n : ℕ) (due after : List (Li
 unfolding Gives
 passes net problem n due after Split step g = let t = taken_leaves net problem due after Splits step g in record {
   gives = λ at. (tt, omega (arith, t.0.fits, choices_are net problem), (refl, refl));
-  after_it = t.0.behind_it;
+  after_it = t.0.next_due;
   leaves = t.1;
   taken = (Splits, t.0);
 }
-passes net problem n due after Flat step g = let t = taken_leaves net problem due after Flats step g in record { gives = λ at. (tt, t.0.fits, (refl, refl)); after_it = t.0.behind_it; leaves = t.1; taken = (Flats, t.0) }
-passes net problem n due after (CutA false u) step g = let t = taken_leaves net problem due after (CutsA u) step g in record { gives = λ at. (tt, (λ e. absurd cc), (tt, t.0.fits, (refl, refl))); after_it = t.0.behind_it; leaves = t.1; taken = (CutsA u, t.0) }
-passes net problem n due after (CutB false u) step g = let t = taken_leaves net problem due after (CutsB u) step g in record { gives = λ at. (tt, (λ e. absurd cc), (tt, t.0.fits, (refl, refl))); after_it = t.0.behind_it; leaves = t.1; taken = (CutsB u, t.0) }
-passes net problem n due after (CutA true u) step g = let t = taken_leaves net problem due after (CutsA u) step g.1 in record { gives = λ at. (tt, (λ e. g.0 ∙ rows_of_a net problem), (tt, t.0.fits, (refl, refl))); after_it = t.0.behind_it; leaves = t.1; taken = (CutsA u, t.0) }
-passes net problem n due after (CutB true u) step g = let t = taken_leaves net problem due after (CutsB u) step g.1 in record { gives = λ at. (tt, (λ e. g.0 ∙ rows_of_b net problem), (tt, t.0.fits, (refl, refl))); after_it = t.0.behind_it; leaves = t.1; taken = (CutsB u, t.0) }
+passes net problem n due after Flat step g = let t = taken_leaves net problem due after Flats step g in record { gives = λ at. (tt, t.0.fits, (refl, refl)); after_it = t.0.next_due; leaves = t.1; taken = (Flats, t.0) }
+passes net problem n due after (CutA false u) step g = let t = taken_leaves net problem due after (CutsA u) step g in record { gives = λ at. (tt, (λ e. absurd cc), (tt, t.0.fits, (refl, refl))); after_it = t.0.next_due; leaves = t.1; taken = (CutsA u, t.0) }
+passes net problem n due after (CutB false u) step g = let t = taken_leaves net problem due after (CutsB u) step g in record { gives = λ at. (tt, (λ e. absurd cc), (tt, t.0.fits, (refl, refl))); after_it = t.0.next_due; leaves = t.1; taken = (CutsB u, t.0) }
+passes net problem n due after (CutA true u) step g = let t = taken_leaves net problem due after (CutsA u) step g.1 in record { gives = λ at. (tt, (λ e. g.0 ∙ rows_of_a net problem), (tt, t.0.fits, (refl, refl))); after_it = t.0.next_due; leaves = t.1; taken = (CutsA u, t.0) }
+passes net problem n due after (CutB true u) step g = let t = taken_leaves net problem due after (CutsB u) step g.1 in record { gives = λ at. (tt, (λ e. g.0 ∙ rows_of_b net problem), (tt, t.0.fits, (refl, refl))); after_it = t.0.next_due; leaves = t.1; taken = (CutsB u, t.0) }
 
 -- a node that is refused fails its test, with the code of the fault
 pub refused : (net : Net) (problem : TreeProblem) (n : ℕ) (due after : List (List Sign)) (node : Node) (fault : TreeFault) → JudgeGives (problem_of net problem) due node after (Err fault) → (at : Place) → FailsFirst (node_test (problem_in net problem) (first due) n node) at n (code_of fault)

@@ -37,11 +37,11 @@ zip_length [] (r ∷ rs) z = absurd z
 zip_length (f ∷ fs) [] z = absurd z
 zip_length (f ∷ fs) (r ∷ rs) z = ap (λ (k : ℕ). suc k) (zip_length fs rs z.1)
 
-zip_front : (xs ys : List Form) (rs : List Record) → AllZip Fits (xs ++ ys) rs → AllZip Fits xs (take (length xs) rs)
-zip_front [] ys [] z = tt
-zip_front [] ys (r ∷ rs) z = tt
-zip_front (x ∷ xs) ys [] z = absurd z
-zip_front (x ∷ xs) ys (r ∷ rs) z = (z.0, zip_front xs ys rs z.1)
+zip_prefix : (xs ys : List Form) (rs : List Record) → AllZip Fits (xs ++ ys) rs → AllZip Fits xs (take (length xs) rs)
+zip_prefix [] ys [] z = tt
+zip_prefix [] ys (r ∷ rs) z = tt
+zip_prefix (x ∷ xs) ys [] z = absurd z
+zip_prefix (x ∷ xs) ys (r ∷ rs) z = (z.0, zip_prefix xs ys rs z.1)
 
 zip_back : (xs ys : List Form) (rs : List Record) → AllZip Fits (xs ++ ys) rs → AllZip Fits ys (drop (length xs) rs)
 zip_back [] ys [] z = z
@@ -121,12 +121,12 @@ rank_pieces rows i rank middle stop made mid le inside base duals combs =
     let few : rank ≤ k = omega (arith, mid, le) in
     let sum : rank + (stop - middle) ≡ k = omega (arith, mid, le) in
     let place : suc i + rank ≡ middle = omega (arith, mid) in
-    let front : made.duals ≡ take rank (drop 1 (slice_index_or rows i [] ∷ take k later)) =
+    let prefix : made.duals ≡ take rank (drop 1 (slice_index_or rows i [] ∷ take k later)) =
     duals ∙ ap₂ (λ (n j : ℕ). take n (drop j rows)) long next ∙ sym (take_less rank k later few) ∙ ap (λ (t : List (List ℤ)). take rank t) (sym (drop_none (take k later))) in
     let back : made.combs ≡ drop rank (take k later) =
     combs ∙ ap (λ (j : ℕ). take (stop - middle) (drop j rows)) (sym place) ∙ ap (λ (t : List (List ℤ)). take (stop - middle) t) (sym (drop-drop rank (suc i) rows))
     ∙ sym (drop-take rank (stop - middle) later) ∙ ap (λ (j : ℕ). drop rank (take j later)) sum in
-    proof_is made (nums (slice_index_or rows i [])) _ _ base front back ∙ ap (λ (t : List (List ℤ)). rank_proof_by rank t) (sym all)
+    proof_is made (nums (slice_index_or rows i [])) _ _ base prefix back ∙ ap (λ (t : List (List ℤ)). rank_proof_by rank t) (sym all)
   where
     proof_is : (made : RankProof) (b : KeptNums) (d c : List (List ℤ)) → made.base ≡ b → made.duals ≡ d → made.combs ≡ c → made ≡ record { base = b; duals = d; combs = c }
     proof_is made b d c x y z = ap₂ (λ (b : KeptNums) (p : List (List ℤ) × List (List ℤ)). record { base = b; duals = p.0; combs = p.1 }) x (ap₂ (λ (d c : List (List ℤ)). (d, c)) y z)
@@ -193,13 +193,13 @@ rank_formed net z rank members (r ∷ rs) s f =
     let base = base_row rank members r f.0 in
     let one : 1 + rank ≡ suc rank = omega arith in
     let count : length (replicate rank dual) ≡ rank = length-replicate rank dual in
-    let front : AllZip Fits (replicate rank dual) (take rank rs) = subst (λ (k : ℕ). AllZip Fits (replicate rank dual) (take k rs)) count (zip_front (replicate rank dual) (replicate (length members - rank) comb) rs f.1) in
+    let prefix : AllZip Fits (replicate rank dual) (take rank rs) = subst (λ (k : ℕ). AllZip Fits (replicate rank dual) (take k rs)) count (zip_prefix (replicate rank dual) (replicate (length members - rank) comb) rs f.1) in
     let back : AllZip Fits (replicate (length members - rank) comb) (drop rank rs) = subst (λ (k : ℕ). AllZip Fits (replicate (length members - rank) comb) (drop k rs)) count (zip_back (replicate rank dual) (replicate (length members - rank) comb) rs f.1) in
     record {
       long = base.long;
       ascending = base.ascending;
       from = base.from;
-      duals = subst (λ (k : ℕ). AreFreeRows rank k (take rank (lists rs))) s (subst (λ (x : List (List ℤ)). AreFreeRows rank z.species x) (lists_take rank rs) (free_rows (codes "dual") z.species rank (take rank rs) front));
+      duals = subst (λ (k : ℕ). AreFreeRows rank k (take rank (lists rs))) s (subst (λ (x : List (List ℤ)). AreFreeRows rank z.species x) (lists_take rank rs) (free_rows (codes "dual") z.species rank (take rank rs) prefix));
       combs = subst (λ (x : List (List ℤ)). AreFreeRows (length members - rank) (suc rank) x) (lists_drop rank rs) (subst (λ (k : ℕ). AreFreeRows (length members - rank) k (lists (drop rank rs))) one (free_rows (codes "comb") (1 + rank) (length members - rank) (drop rank rs) back));
     }
 
@@ -211,9 +211,9 @@ rank_small z rank members (r ∷ rs) few f = let base = base_row rank members r 
 pub rank_rows_are : (net : Net) (labels : List ℕ) (c : ℕ) (z : Sizes) (p : Part) (members : List ℕ) → z.species ≡ length net.names → members ≡ members_of net labels p.class → p.count ≡ length members → rank_forms z p.rank members ≡ map (row_form net labels c) (part_rows p)
 rank_rows_are net labels c z p members s m n =
     let f : Row → Form = row_form net labels c in
-    let front = ap (λ (k : ℕ). replicate p.rank (free_form (codes "dual") k)) s ∙ sym (map_replicate f p.rank Dual) in
+    let prefix = ap (λ (k : ℕ). replicate p.rank (free_form (codes "dual") k)) s ∙ sym (map_replicate f p.rank Dual) in
     let back = ap (λ (k : ℕ). replicate (k - p.rank) (free_form (codes "comb") (1 + p.rank))) (sym n) ∙ sym (map_replicate f (p.count - p.rank) (Comb p.rank)) in
-    ap₂ (λ (x : Form) (t : List Form). x ∷ t) (ap (λ (ms : List ℕ). record_form (codes "base") (Members p.rank ms ∷ [])) m) (ap₂ (λ (x y : List Form). x ++ y) front back ∙ sym (map-append f (replicate p.rank Dual) (replicate (p.count - p.rank) (Comb p.rank))))
+    ap₂ (λ (x : Form) (t : List Form). x ∷ t) (ap (λ (ms : List ℕ). record_form (codes "base") (Members p.rank ms ∷ [])) m) (ap₂ (λ (x y : List Form). x ++ y) prefix back ∙ sym (map-append f (replicate p.rank Dual) (replicate (p.count - p.rank) (Comb p.rank))))
 
 -- ---- the ranks of the classes
 
@@ -275,11 +275,11 @@ class_fit net earlier z j (d ∷ ds) rs few n f =
     let long : length forms ≡ suc p.count = rank_length z p.rank members le in
     let all = zip_length (forms ++ more) rs f in
     let sum = length-append forms more in
-    let front : AllZip Fits forms (take (suc p.count) rs) = subst (λ (k : ℕ). AllZip Fits forms (take k rs)) long (zip_front forms more rs f) in
+    let prefix : AllZip Fits forms (take (suc p.count) rs) = subst (λ (k : ℕ). AllZip Fits forms (take k rs)) long (zip_prefix forms more rs f) in
     let back : AllZip Fits more (drop (suc p.count) rs) = subst (λ (k : ℕ). AllZip Fits more (drop k rs)) long (zip_back forms more rs f) in
     let count = length-map rs (λ (r : Record). r.numbers) in
     let enough : suc p.count ≤ length (lists rs) = omega (arith, long, all, sum, count) in
-    let small : AreSmall (slice_index_or (lists (take (suc p.count) rs)) 0 []) = rank_small z p.rank members (take (suc p.count) rs) (λ x i. let l = member_few net labels (suc j) x i in omega (arith, l, few)) front in (
+    let small : AreSmall (slice_index_or (lists (take (suc p.count) rs)) 0 []) = rank_small z p.rank members (take (suc p.count) rs) (λ x i. let l = member_few net labels (suc j) x i in omega (arith, l, few)) prefix in (
       enough,
       le,
       subst AreSmall (first_taken p.count (lists rs)) (subst (λ (x : List (List ℤ)). AreSmall (slice_index_or x 0 [])) (lists_take (suc p.count) rs) small),
@@ -300,9 +300,9 @@ class_formed net earlier z j (d ∷ ds) rs s n f =
     let more = forms_from net earlier z (suc (suc j)) ds in
     let le : p.rank ≤ p.count = rank_within (nat_abs d) (length (class_members labels (suc j))) (length net.names) p.count n.0.0 n.0.1 in
     let long : length forms ≡ suc p.count = rank_length z p.rank members le in
-    let front : AllZip Fits forms (take (suc p.count) rs) = subst (λ (k : ℕ). AllZip Fits forms (take k rs)) long (zip_front forms more rs f) in
+    let prefix : AllZip Fits forms (take (suc p.count) rs) = subst (λ (k : ℕ). AllZip Fits forms (take k rs)) long (zip_prefix forms more rs f) in
     let back : AllZip Fits more (drop (suc p.count) rs) = subst (λ (k : ℕ). AllZip Fits more (drop k rs)) long (zip_back forms more rs f) in
-    (rank_formed net z p.rank members (take (suc p.count) rs) s front, class_formed net earlier z (suc j) ds (drop (suc p.count) rs) s n.1 back)
+    (rank_formed net z p.rank members (take (suc p.count) rs) s prefix, class_formed net earlier z (suc j) ds (drop (suc p.count) rs) s n.1 back)
 
 -- ---- the places of the tests
 

@@ -128,8 +128,8 @@ rows_then version n form forms all r a b c result old mid new before between now
 -- ---- a record that was read
 
 -- the record that passes all tests of a line is one of those that were due
-pub reads_one : (version n : ℕ) (after : Bool) (forms : List Form) (mis : ℕ) (line : List ℕ) (at behind : Place) (r : Record) → Gives (reads version n after forms mis line) at r behind → IsOneOf forms r
+pub reads_one : (version n : ℕ) (after : Bool) (forms : List Form) (mis : ℕ) (line : List ℕ) (at end : Place) (r : Record) → Gives (reads version n after forms mis line) at r end → IsOneOf forms r
 unfolding Gives
-reads_one version n after forms mis line at behind r g =
+reads_one version n after forms mis line at end r g =
     let last = g.2.2.2.2 in
     subst (λ (x : Record). IsOneOf forms x) last.2.0 last.1.1

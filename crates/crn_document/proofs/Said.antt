@@ -11,34 +11,34 @@ use Rattle.crn_ctext.specs.Records.{Record}
 use Rattle.crn_ctext.specs.Kinds.{section_form}
 use Rattle.crn_ctext.specs.Questions.{heads}
 use Rattle.crn_ctext.specs.Course.{Course, Give, Line, Test, End, ◌>>=◌, Gives}
-use Rattle.crn_ctext.specs.Blocks.{Behind, asks, asks_all, asks_block, asks_blocks, asks_trees, behind_sections, below, claims, has_tree, head_claims, problems, row_claims, sections}
+use Rattle.crn_ctext.specs.Blocks.{AfterBlocks, asks, asks_all, asks_block, asks_blocks, asks_trees, after_sections, below, claims, has_tree, head_claims, problems, row_claims, sections}
 use Rattle.crn_ctext.specs.Meaning.{Known, learn_of, meaning, sizes_of, verdict_of, verdicts_said}
 use Rattle.crn_document.specs.Inner.Blocks.{after_at, end_course, head_course, rows_course}
 use Rattle.crn_document.proofs.Sections.{question_course}
 
 -- what two courses give one after another, the second gives after the first
-pub gives_cuts : {A B : Type 0} (c : Course A) (f : A → Course B) (at behind : Place) (y : B) → Gives (c >>= f) at y behind
-    → (x : A) × (mid : Place) × Gives c at x mid × Gives (f x) mid y behind
+pub gives_cuts : {A B : Type 0} (c : Course A) (f : A → Course B) (at end : Place) (y : B) → Gives (c >>= f) at y end
+    → (x : A) × (mid : Place) × Gives c at x mid × Gives (f x) mid y end
 unfolding Gives
-gives_cuts (Give x) f at behind y p = (x, at, (refl, refl), p)
-gives_cuts (Line node next) f at behind y p = let r = gives_cuts (next p.0) f p.1 behind y p.3 in (r.0, r.1, (p.0, p.1, p.2, r.2), r.3)
-gives_cuts (Test n c X P next) f at behind y p = let r = gives_cuts (next p.0) f at behind y p.2 in (r.0, r.1, (p.0, p.1, r.2), r.3)
-gives_cuts (End next) f at behind y p = let r = gives_cuts next f at behind y p.1 in (r.0, r.1, (p.0, r.2), r.3)
+gives_cuts (Give x) f at end y p = (x, at, (refl, refl), p)
+gives_cuts (Line node next) f at end y p = let r = gives_cuts (next p.0) f p.1 end y p.3 in (r.0, r.1, (p.0, p.1, p.2, r.2), r.3)
+gives_cuts (Test n c X P next) f at end y p = let r = gives_cuts (next p.0) f at end y p.2 in (r.0, r.1, (p.0, p.1, r.2), r.3)
+gives_cuts (End next) f at end y p = let r = gives_cuts next f at end y p.1 in (r.0, r.1, (p.0, r.2), r.3)
 
-give_is : {A : Type 0} (x y : A) (at behind : Place) → Gives (Give x) at y behind → x ≡ y
+give_is : {A : Type 0} (x y : A) (at end : Place) → Gives (Give x) at y end → x ≡ y
 unfolding Gives
-give_is x y at behind p = p.0
+give_is x y at end p = p.0
 
 -- the verdicts, in order
 abbrev verdicts_of : Earlier → List Verdict
 verdicts_of es = map (λ e. e.1) es
 
 -- it is after this block
-abbrev IsBehind : Question → Behind Known → Record → List Record → Behind Known → Type 0
-IsBehind q at h rs y = (y.known ≡ learn_of q at.known h rs) × (y.blocks ≡ at.blocks ++ (h ∷ rs) ∷ [])
+abbrev IsAfterBlock : Question → AfterBlocks Known → Record → List Record → AfterBlocks Known → Type 0
+IsAfterBlock q at h rs y = (y.known ≡ learn_of q at.known h rs) × (y.blocks ≡ at.blocks ++ (h ∷ rs) ∷ [])
 
 -- after this block, at this line
-abbrev after : Question → Behind Known → Record → List Record → ℕ → Behind Known
+abbrev after : Question → AfterBlocks Known → Record → List Record → ℕ → AfterBlocks Known
 after q at h rs line = record {
   known = meaning.learn q at.known h rs;
   by_tree = has_tree (problems meaning q at.known h);
@@ -46,51 +46,51 @@ after q at h rs line = record {
   blocks = at.blocks ++ (h ∷ rs) ∷ [];
 }
 
-is_behind : (q : Question) (at y : Behind Known) (h : Record) (rs : List Record) (line : ℕ) → after q at h rs line ≡ y → IsBehind q at h rs y
-is_behind q at y h rs line is = (ap (λ (z : Behind Known). z.known) (sym is), ap (λ (z : Behind Known). z.blocks) (sym is))
+is_after : (q : Question) (at y : AfterBlocks Known) (h : Record) (rs : List Record) (line : ℕ) → after q at h rs line ≡ y → IsAfterBlock q at h rs y
+is_after q at y h rs line is = (ap (λ (z : AfterBlocks Known). z.known) (sym is), ap (λ (z : AfterBlocks Known). z.blocks) (sym is))
 
-block_adds : (version : ℕ) (table : List (List ℤ)) (q : Question) (at y : Behind Known) (place behind : Place)
-    → Gives (asks_block meaning version table q at) place y behind → (h : Record) × (rs : List Record) × IsBehind q at h rs y
-block_adds version table q at y place behind p =
-    let head = gives_cuts (asks version at.line at.by_tree (heads q (sizes_of at.known))) (λ h. head_course version table q at h) place behind y p in
+block_adds : (version : ℕ) (table : List (List ℤ)) (q : Question) (at y : AfterBlocks Known) (place rest : Place)
+    → Gives (asks_block meaning version table q at) place y rest → (h : Record) × (rs : List Record) × IsAfterBlock q at h rs y
+block_adds version table q at y place rest p =
+    let head = gives_cuts (asks version at.line at.by_tree (heads q (sizes_of at.known))) (λ h. head_course version table q at h) place rest y p in
     let h = head.0 in
-    let tests = gives_cuts (claims at.line (head_claims meaning q at.known h)) (λ x. rows_course version table q at h) head.1 behind y head.3 in
-    let rows = gives_cuts (asks_all version (at.line + 1) false (below q (meaning.shapes at.known) h)) (λ rs. end_course version table q at h rs) tests.1 behind y tests.3 in
+    let tests = gives_cuts (claims at.line (head_claims meaning q at.known h)) (λ x. rows_course version table q at h) head.1 rest y head.3 in
+    let rows = gives_cuts (asks_all version (at.line + 1) false (below q (meaning.shapes at.known) h)) (λ rs. end_course version table q at h rs) tests.1 rest y tests.3 in
     let rs = rows.0 in
-    let end : Course (Behind Known) = asks_trees version table (problems meaning q at.known h) (at.line + 1 + length rs) >>= (λ line. Give (after q at h rs line)) in
-    let more = gives_cuts (claims at.line (row_claims meaning q at.known h rs)) (λ x. end) rows.1 behind y rows.3 in
-    let trees = gives_cuts (asks_trees version table (problems meaning q at.known h) (at.line + 1 + length rs)) (λ line. Give (after q at h rs line)) more.1 behind y more.3 in
-    (h, rs, is_behind q at y h rs trees.0 (give_is (after q at h rs trees.0) y trees.1 behind trees.3))
+    let end : Course (AfterBlocks Known) = asks_trees version table (problems meaning q at.known h) (at.line + 1 + length rs) >>= (λ line. Give (after q at h rs line)) in
+    let more = gives_cuts (claims at.line (row_claims meaning q at.known h rs)) (λ x. end) rows.1 rest y rows.3 in
+    let trees = gives_cuts (asks_trees version table (problems meaning q at.known h) (at.line + 1 + length rs)) (λ line. Give (after q at h rs line)) more.1 rest y more.3 in
+    (h, rs, is_after q at y h rs trees.0 (give_is (after q at h rs trees.0) y trees.1 rest trees.3))
 
 -- lines that open sections leave what is known and read
-sections_known : (opened : List Record) (at : Behind Known) → (behind_sections opened at).known ≡ at.known
+sections_known : (opened : List Record) (at : AfterBlocks Known) → (after_sections opened at).known ≡ at.known
 sections_known [] at = refl
 sections_known (r ∷ rs) at = refl
 
-sections_blocks : (opened : List Record) (at : Behind Known) → (behind_sections opened at).blocks ≡ at.blocks
+sections_blocks : (opened : List Record) (at : AfterBlocks Known) → (after_sections opened at).blocks ≡ at.blocks
 sections_blocks [] at = refl
 sections_blocks (r ∷ rs) at = refl
 
-known_behind : (q : Question) (at mid : Behind Known) (opened : List Record) (h : Record) (rs : List Record) → mid.known ≡ learn_of q (behind_sections opened at).known h rs → mid.known ≡ learn_of q at.known h rs
-known_behind q at mid opened h rs is = is ∙ ap (λ (k : Known). learn_of q k h rs) (sections_known opened at)
+known_after : (q : Question) (at mid : AfterBlocks Known) (opened : List Record) (h : Record) (rs : List Record) → mid.known ≡ learn_of q (after_sections opened at).known h rs → mid.known ≡ learn_of q at.known h rs
+known_after q at mid opened h rs is = is ∙ ap (λ (k : Known). learn_of q k h rs) (sections_known opened at)
 
-blocks_behind : (q : Question) (at mid : Behind Known) (opened : List Record) (h : Record) (rs : List Record) → mid.blocks ≡ (behind_sections opened at).blocks ++ (h ∷ rs) ∷ [] → mid.blocks ≡ at.blocks ++ (h ∷ rs) ∷ []
-blocks_behind q at mid opened h rs is = is ∙ ap (λ (bs : List (List Record)). bs ++ (h ∷ rs) ∷ []) (sections_blocks opened at)
+blocks_after : (q : Question) (at mid : AfterBlocks Known) (opened : List Record) (h : Record) (rs : List Record) → mid.blocks ≡ (after_sections opened at).blocks ++ (h ∷ rs) ∷ [] → mid.blocks ≡ at.blocks ++ (h ∷ rs) ∷ []
+blocks_after q at mid opened h rs is = is ∙ ap (λ (bs : List (List Record)). bs ++ (h ∷ rs) ∷ []) (sections_blocks opened at)
 
 -- what is known after these blocks is what was known before, and what these say
-abbrev Say : List Question → Behind Known → Behind Known → List (List Record) → Type 0
+abbrev Say : List Question → AfterBlocks Known → AfterBlocks Known → List (List Record) → Type 0
 Say qs at y new = (y.blocks ≡ at.blocks ++ new) × (y.known.net ≡ at.known.net)
     × (map (λ e. e.1) y.known.earlier ≡ map (λ e. e.1) at.known.earlier ++ verdicts_said qs at.known new)
 
-say_none : (at y : Behind Known) → at ≡ y → Say [] at y []
+say_none : (at y : AfterBlocks Known) → at ≡ y → Say [] at y []
 say_none at y is = (
-  ap (λ (z : Behind Known). z.blocks) (sym is) ∙ sym (append-nil at.blocks),
-  ap (λ (z : Behind Known). z.known.net) (sym is),
-  ap (λ (z : Behind Known). verdicts_of z.known.earlier) (sym is) ∙ sym (append-nil (verdicts_of at.known.earlier)),
+  ap (λ (z : AfterBlocks Known). z.blocks) (sym is) ∙ sym (append-nil at.blocks),
+  ap (λ (z : AfterBlocks Known). z.known.net) (sym is),
+  ap (λ (z : AfterBlocks Known). verdicts_of z.known.earlier) (sym is) ∙ sym (append-nil (verdicts_of at.known.earlier)),
 )
 
 -- one block more
-say_then : (q : Question) (qs : List Question) (at mid y : Behind Known) (h : Record) (rs : List Record) (new : List (List Record))
+say_then : (q : Question) (qs : List Question) (at mid y : AfterBlocks Known) (h : Record) (rs : List Record) (new : List (List Record))
     → mid.known ≡ learn_of q at.known h rs → mid.blocks ≡ at.blocks ++ (h ∷ rs) ∷ [] → Say qs mid y new → Say (q ∷ qs) at y ((h ∷ rs) ∷ new)
 say_then q qs at mid y h rs new known blocks s =
     let v = verdict_of q (sizes_of at.known) h rs in
@@ -104,28 +104,28 @@ say_then q qs at mid y h rs new known blocks s =
     )
 
 -- The verdicts that are known after the blocks of these questions are those known before and those that the blocks say.
-pub blocks_say : (version : ℕ) (table : List (List ℤ)) (qs : List Question) (at y : Behind Known) (place behind : Place)
-    → Gives (asks_blocks meaning version table qs at) place y behind
+pub blocks_say : (version : ℕ) (table : List (List ℤ)) (qs : List Question) (at y : AfterBlocks Known) (place end : Place)
+    → Gives (asks_blocks meaning version table qs at) place y end
     → (new : List (List Record)) × (y.blocks ≡ at.blocks ++ new) × (y.known.net ≡ at.known.net)
     × (map (λ e. e.1) y.known.earlier ≡ map (λ e. e.1) at.known.earlier ++ verdicts_said qs at.known new)
 unfolding asks_blocks
-blocks_say version table [] at y place behind p = let s = say_none at y (give_is at y place behind p) in ([], s.0, s.1, s.2)
-blocks_say version table (q ∷ qs) at y place behind p =
-    let o = gives_cuts (asks_all version at.line at.by_tree (map section_form (sections version q))) (question_course version table q qs at) place behind y p in
-    let here : Behind Known = behind_sections o.0 at in
-    let b = gives_cuts (asks_block meaning version table q here) (λ mid. asks_blocks meaning version table qs mid) o.1 behind y o.3 in
+blocks_say version table [] at y place end p = let s = say_none at y (give_is at y place end p) in ([], s.0, s.1, s.2)
+blocks_say version table (q ∷ qs) at y place end p =
+    let o = gives_cuts (asks_all version at.line at.by_tree (map section_form (sections version q))) (question_course version table q qs at) place end y p in
+    let here : AfterBlocks Known = after_sections o.0 at in
+    let b = gives_cuts (asks_block meaning version table q here) (λ mid. asks_blocks meaning version table qs mid) o.1 end y o.3 in
     let mid = b.0 in
     let added = block_adds version table q here mid o.1 b.1 b.2 in
     let h = added.0 in
     let rs = added.1 in
-    let rest = blocks_say version table qs mid y b.1 behind b.3 in
-    let s = say_then q qs at mid y h rs rest.0 (known_behind q at mid o.0 h rs added.2.0) (blocks_behind q at mid o.0 h rs added.2.1) (rest.1, rest.2, rest.3) in
+    let rest = blocks_say version table qs mid y b.1 end b.3 in
+    let s = say_then q qs at mid y h rs rest.0 (known_after q at mid o.0 h rs added.2.0) (blocks_after q at mid o.0 h rs added.2.1) (rest.1, rest.2, rest.3) in
     ((h ∷ rs) ∷ rest.0, s.0, s.1, s.2)
 
 -- The verdicts that are known after all blocks of a document are those that its blocks say.
-pub built_blocks_say : (version : ℕ) (table : List (List ℤ)) (net : Net) (line : ℕ) (y : Behind Known) (place behind : Place)
-    → Gives (asks_blocks meaning version table built (after_at net [] line [])) place y behind
+pub built_blocks_say : (version : ℕ) (table : List (List ℤ)) (net : Net) (line : ℕ) (y : AfterBlocks Known) (place end : Place)
+    → Gives (asks_blocks meaning version table built (after_at net [] line [])) place y end
     → map (λ e. e.1) y.known.earlier ≡ verdicts_said built (meaning.start net) y.blocks
-built_blocks_say version table net line y place behind p =
-    let s = blocks_say version table built (after_at net [] line []) y place behind p in
+built_blocks_say version table net line y place end p =
+    let s = blocks_say version table built (after_at net [] line []) y place end p in
     s.3 ∙ ap (λ (new : List (List Record)). verdicts_said built (meaning.start net) new) (sym s.1)

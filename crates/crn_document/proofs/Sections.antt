@@ -9,7 +9,7 @@ use Rattle.crn_ctext.specs.Records.{Record, Form}
 use Rattle.crn_ctext.specs.Kinds.{section_form}
 use Rattle.crn_ctext.specs.Questions.{opens}
 use Rattle.crn_ctext.specs.Course.{Course, Give, ◌>>=◌}
-use Rattle.crn_ctext.specs.Blocks.{Behind, asks, asks_all, asks_block, asks_blocks, behind_sections, sections}
+use Rattle.crn_ctext.specs.Blocks.{AfterBlocks, asks, asks_all, asks_block, asks_blocks, after_sections, sections}
 use Rattle.crn_ctext.specs.Meaning.{Known, meaning}
 use Rattle.crn_check.specs.Facts.{asked}
 use Rattle.crn_document.specs.declared.reading.Reading.{Reading}
@@ -49,19 +49,19 @@ section_stops version n after form e old before now p = stop_first (asks version
 
 -- ---- blocks one after another
 
-pub behind_is : (net : Net) (earlier : Earlier) (by_tree : Bool) (line : ℕ) (blocks : List (List Record)) (opened : List Record) → behind_sections opened (after_by net earlier by_tree line blocks) ≡ after_by net earlier (still_by_tree opened by_tree) (line + length opened) blocks
-behind_is net earlier by_tree line blocks [] = ap (λ (k : ℕ). after_by net earlier by_tree k blocks) (omega arith)
-behind_is net earlier by_tree line blocks (r ∷ rs) = refl
+pub after_is : (net : Net) (earlier : Earlier) (by_tree : Bool) (line : ℕ) (blocks : List (List Record)) (opened : List Record) → after_sections opened (after_by net earlier by_tree line blocks) ≡ after_by net earlier (still_by_tree opened by_tree) (line + length opened) blocks
+after_is net earlier by_tree line blocks [] = ap (λ (k : ℕ). after_by net earlier by_tree k blocks) (omega arith)
+after_is net earlier by_tree line blocks (r ∷ rs) = refl
 
 -- what follows the sections before a question
-abbrev pub question_course : (version : ℕ) → List (List ℤ) → Question → List Question → Behind Known → List Record → Course (Behind Known)
-question_course version table q qs at opened = asks_block meaning version table q (behind_sections opened at) >>= (λ behind. asks_blocks meaning version table qs behind)
+abbrev pub question_course : (version : ℕ) → List (List ℤ) → Question → List Question → AfterBlocks Known → List Record → Course (AfterBlocks Known)
+question_course version table q qs at opened = asks_block meaning version table q (after_sections opened at) >>= (λ after. asks_blocks meaning version table qs after)
 
-pub blocks_by : (P : Course (Behind Known) → Type 0) (version : ℕ) (table : List (List ℤ)) (q : Question) (qs all : List Question) (at : Behind Known) → all ≡ q ∷ qs
+pub blocks_by : (P : Course (AfterBlocks Known) → Type 0) (version : ℕ) (table : List (List ℤ)) (q : Question) (qs all : List Question) (at : AfterBlocks Known) → all ≡ q ∷ qs
     → P (asks_all version at.line at.by_tree (map section_form (sections version q)) >>= question_course version table q qs at) → P (asks_blocks meaning version table all at)
 unfolding asks_blocks
 blocks_by P version table q qs all at is p = subst (λ (xs : List Question). P (asks_blocks meaning version table xs at)) (sym is) p
 
-pub no_blocks : (Says : Unit {0} → Behind Known → Type 0) (version : ℕ) (table : List (List ℤ)) (all : List Question) (at : Behind Known) (here : Reading) (seen : SourceSeen) → all ≡ [] → Says tt at → StepIs (asks_blocks meaning version table all at) Says (Ok tt) here here seen seen
+pub no_blocks : (Says : Unit {0} → AfterBlocks Known → Type 0) (version : ℕ) (table : List (List ℤ)) (all : List Question) (at : AfterBlocks Known) (here : Reading) (seen : SourceSeen) → all ≡ [] → Says tt at → StepIs (asks_blocks meaning version table all at) Says (Ok tt) here here seen seen
 unfolding asks_blocks
 no_blocks Says version table all at here seen is says = subst (λ (xs : List Question). StepIs (asks_blocks meaning version table xs at) Says (Ok tt) here here seen seen) (sym is) (step_gives at Says tt here seen says)

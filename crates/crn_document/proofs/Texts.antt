@@ -17,12 +17,12 @@ use Rattle.crn_document.specs.Inner.Ending.{EndStepIs}
 
 -- ---- courses one after another, in other brackets
 
-pub gives_all : {A B C : Type 0} (m : Course A) (k : A → Course B) (f : B → Course C) (at behind : Place) (y : C) → Gives ((m >>= k) >>= f) at y behind → Gives (m >>= (λ x. k x >>= f)) at y behind
+pub gives_all : {A B C : Type 0} (m : Course A) (k : A → Course B) (f : B → Course C) (at after : Place) (y : C) → Gives ((m >>= k) >>= f) at y after → Gives (m >>= (λ x. k x >>= f)) at y after
 unfolding Gives
-gives_all (Give x) k f at behind y p = p
-gives_all (Line node next) k f at behind y p = (p.0, p.1, p.2, gives_all (next p.0) k f p.1 behind y p.3)
-gives_all (Test n c X P next) k f at behind y p = (p.0, p.1, gives_all (next p.0) k f at behind y p.2)
-gives_all (End next) k f at behind y p = (p.0, gives_all next k f at behind y p.1)
+gives_all (Give x) k f at after y p = p
+gives_all (Line node next) k f at after y p = (p.0, p.1, p.2, gives_all (next p.0) k f p.1 after y p.3)
+gives_all (Test n c X P next) k f at after y p = (p.0, p.1, gives_all (next p.0) k f at after y p.2)
+gives_all (End next) k f at after y p = (p.0, gives_all next k f at after y p.1)
 
 pub fails_all : {A B C : Type 0} (m : Course A) (k : A → Course B) (f : B → Course C) (at : Place) (n code : ℕ) → FailsFirst ((m >>= k) >>= f) at n code → FailsFirst (m >>= (λ x. k x >>= f)) at n code
 unfolding FailsFirst
@@ -65,7 +65,7 @@ few_pulled start pulled none zero le = let same : length (start.ahead ++ pulled)
 -- where a course goes through from the first line to the end, a text was read that gives this
 pub text_gives : {A : Type 0} (c : Course A) (y : A) (m : ℕ) (start kept : KeptLines) (before now : SourceSeen) → start.ahead ≡ [] → start.taken ≡ 0
     → StepEnds c y 1 m start kept before.left now.left → now.faults ≡ before.faults
-    → (text : List ℕ) × IsRead text before now × ((behind : Place) × Gives c (beginning text) y behind)
+    → (text : List ℕ) × IsRead text before now × ((after : Place) × Gives c (beginning text) y after)
 text_gives c y m start kept before now none zero p same =
     let r = rest_of before.left now.left p.pulled p.off in (
       p.pulled ++ r.0,

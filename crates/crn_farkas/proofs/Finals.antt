@@ -111,11 +111,11 @@ level_suc early (κ ∷ kinds) (suc c) h = omega (arith, level_suc early kinds c
 pub level_step : (early : Bool) (kinds : List Kind) (c : ℕ) → c < length kinds → level_count early (take (c + 1) kinds) ≡ level_count early (take c kinds) + level_of early (is_early_kind (kind_at kinds c))
 level_step early kinds c h = rw add-one (level_suc early kinds c h)
 
-pub level_front : (early : Bool) (kinds : List Kind) (c : ℕ) → level_count early (take c kinds) ≤ level_count early kinds
-level_front early [] zero = omega arith
-level_front early [] (suc c) = omega arith
-level_front early (κ ∷ kinds) zero = omega arith
-level_front early (κ ∷ kinds) (suc c) = omega (arith, level_front early kinds c)
+pub level_prefix : (early : Bool) (kinds : List Kind) (c : ℕ) → level_count early (take c kinds) ≤ level_count early kinds
+level_prefix early [] zero = omega arith
+level_prefix early [] (suc c) = omega arith
+level_prefix early (κ ∷ kinds) zero = omega arith
+level_prefix early (κ ∷ kinds) (suc c) = omega (arith, level_prefix early kinds c)
 
 pub level_all : (early : Bool) (kinds : List Kind) (c : ℕ) → length kinds ≤ c → level_count early (take c kinds) ≡ level_count early kinds
 level_all early [] zero h = refl

@@ -19,11 +19,11 @@ count_suc (κ ∷ kinds) (suc g) h = omega (arith, count_suc kinds g (omega arit
 pub count_step : (kinds : List Kind) (g : ℕ) → g < length kinds → signed_count (take (g + 1) kinds) ≡ signed_count (take g kinds) + one_if (is_signed (kind_at kinds g))
 count_step kinds g h = rw add-one (count_suc kinds g h)
 
-pub count_front : (kinds : List Kind) (g : ℕ) → signed_count (take g kinds) ≤ signed_count kinds
-count_front [] zero = omega arith
-count_front [] (suc g) = omega arith
-count_front (κ ∷ kinds) zero = omega arith
-count_front (κ ∷ kinds) (suc g) = omega (arith, count_front kinds g)
+pub count_prefix : (kinds : List Kind) (g : ℕ) → signed_count (take g kinds) ≤ signed_count kinds
+count_prefix [] zero = omega arith
+count_prefix [] (suc g) = omega arith
+count_prefix (κ ∷ kinds) zero = omega arith
+count_prefix (κ ∷ kinds) (suc g) = omega (arith, count_prefix kinds g)
 
 -- one more coordinate, where it need not be or is not 0
 pub part_more : (a : Mat) (kinds : List Kind) (g : ℕ) (v : List ℤ) → g < length kinds → IsPartSum a kinds g v → (is_signed (kind_at kinds g) ≡ true → entry v g ≢ pos 0) → IsPartSum a kinds (g + 1) v
@@ -47,13 +47,13 @@ pub row_plus : (a : Mat) (v w : List ℤ) → InRowSpace a v → InRowSpace a w 
 row_plus a v w h k =
     let same : length v ≡ length w = h.long ∙ sym k.long in
     let n = a.cols in
-    let fronts : length (take n v) ≡ length (take n w) = length-take-le n v (omega (arith, h.long)) ∙ sym (length-take-le n w (omega (arith, k.long))) in
+    let prefixes : length (take n v) ≡ length (take n w) = length-take-le n v (omega (arith, h.long)) ∙ sym (length-take-le n w (omega (arith, k.long))) in
     record {
       long = length-plus v w same ∙ h.long;
       is = λ i lt.
           let r = get_or a.rows i [] in
           entry-plus v w (n + i) same ∙ ap₂ (λ (x y : ℤ). x +ℤ y) (h.is i lt ∙ dot-comm r (take n v)) (k.is i lt ∙ dot-comm r (take n w))
-          ∙ sym (dot-plus (take n v) (take n w) r fronts) ∙ dot-comm (plus (take n v) (take n w)) r ∙ ap (dot r) (sym (take-plus n v w));
+          ∙ sym (dot-plus (take n v) (take n w) r prefixes) ∙ dot-comm (plus (take n v) (take n w)) r ∙ ap (dot r) (sym (take-plus n v w));
     }
 
 -- a witness added
@@ -78,7 +78,7 @@ part_added a kinds g v y z lt s p w long entries =
     }
 
 pub part_bound : (a : Mat) (kinds : List Kind) (g : ℕ) (v : List ℤ) → IsPartSum a kinds g v → signed_count kinds ≤ MAX_SIGNED → (k : ℕ) → unsigned_abs (entry v k) ≤ MAX_SIGNED * WIDE_ENTRY
-part_bound a kinds g v p few k = omega (arith, p.small k, count_front kinds g, few)
+part_bound a kinds g v p few k = omega (arith, p.small k, count_prefix kinds g, few)
 
 pub get_in : (xs : List ℕ) (i : ℕ) → i < length xs → IsIn (slice_index xs i) xs
 get_in [] i h = absurd (omega arith)

@@ -123,7 +123,7 @@ agree_step order g j k start basis basis' first view view' lt agree change c ng 
     let next = change.others c ng (λ e. far j lt (sym e)) (λ m m_lt. far m (omega (arith, m_lt, lt))) in
     (λ h. next.0 ((agree c ng far).0 h), λ h. (agree c ng far).1 (next.1 h))
 
--- the coordinate that is first wrong stands at no earlier place
+-- the coordinate that is first wrong is at no earlier place
 pub not_before : (a : Mat) (basis : List ℕ) (view : View) (g : ℕ) (kinds : List Kind) (order : List ℕ) (done k j : ℕ) (y : List ℤ)
     → IsFirstWrong a basis view g kinds order done k j → IsSeen a basis view g (kind_at kinds g) y → (m : ℕ) → m < j → slice_index order m ≢ slice_index order j
 not_before a basis view g kinds order done k j y f seen m lt e =
@@ -143,7 +143,7 @@ settled_step a basis basis' view view' g done k j kinds order y s f seen change 
           subst (λ (m : ℕ). IsRight view' (kind_at kinds (slice_index order m)) (entry y' (slice_index order m))) (sym e) right
     ]
 
--- ---- the kind at a place of the list, whatever stands past its end
+-- ---- the kind at a place of the list, whatever comes past its end
 
 pub any_default : {A : Type 0} (d e : A) (xs : List A) (k : ℕ) → k < length xs → get_or xs k d ≡ get_or xs k e
 any_default d e [] k h = absurd (omega arith)

@@ -7,8 +7,8 @@ use Rattle.crn_farkas.specs.declared.alternative.Alternative.{Alternative}
 use Rattle.crn_farkas.specs.declared.alternative.Alternative.TheVariants.{Cut, Witness}
 use Rattle.crn_farkas.specs.declared.decision.Decision.{Decision}
 use Rattle.crn_farkas.specs.declared.decision.Decision.TheVariants.{Feasible, Infeasible}
-use Rattle.crn_farkas.specs.declared.standing.Standing.{Standing}
-use Rattle.crn_farkas.specs.declared.standing.Standing.TheVariants.{Falls, Stands}
+use Rattle.crn_farkas.specs.declared.feasibility.Feasibility.{Feasibility}
+use Rattle.crn_farkas.specs.declared.feasibility.Feasibility.TheVariants.{Unsolvable, Solvable}
 use Rattle.crn_farkas.specs.declared.fault.Stop.{Stop}
 use Rattle.crn_farkas.specs.declared.fault.Stop.TheVariants.{NoMemory, Wide}
 use Rattle.crn_tab.specs.Tableau.{IsRefused, NamesRows}
@@ -106,15 +106,15 @@ abbrev pub RefusedStopsShowAWideMatrix : Type 0
 RefusedStopsShowAWideMatrix = (a : Mat) (basis : List ℕ) (stop : Stop) → NamesRows a basis → IsRefusedStop a basis stop → IsWideMatrix a
 
 -- the system has a solution, or a vector that the basis names rules it out
-abbrev pub IsStanding : Mat → List ℕ → List Kind → Standing → Type 0
-IsStanding a basis kinds Stands = (x : List ℤ) × IsSolution a kinds x
-IsStanding a basis kinds (Falls cut) = IsCutBy a basis kinds cut.row cut.sign
+abbrev pub IsFeasibility : Mat → List ℕ → List Kind → Feasibility → Type 0
+IsFeasibility a basis kinds Solvable = (x : List ℤ) × IsSolution a kinds x
+IsFeasibility a basis kinds (Unsolvable cut) = IsCutBy a basis kinds cut.row cut.sign
 
 -- the system is ruled out
-abbrev pub IsFall : Result Standing Stop → Type 0
-IsFall (Ok Stands) = ⊥
-IsFall (Ok (Falls cut)) = Unit {0}
-IsFall (Err s) = ⊥
+abbrev pub IsUnsolvable : Result Feasibility Stop → Type 0
+IsUnsolvable (Ok Solvable) = ⊥
+IsUnsolvable (Ok (Unsolvable cut)) = Unit {0}
+IsUnsolvable (Err s) = ⊥
 
 -- the signs of an elementary vector (x, Ax) that a member of the basis names, right everywhere and of the kind of g at g
 pub record AreWitnessSigns (a : Mat) (basis : List ℕ) (kinds : List Kind) (g : ℕ) (signs : List Sign) : Type 0 where

@@ -6,13 +6,13 @@ mod columns;
 mod cut;
 mod decision;
 mod fault;
+mod feasibility;
+mod feasible;
 mod goal;
 mod laws;
 mod level;
 mod settle;
 mod solver;
-mod standing;
-mod stands;
 mod sum;
 mod system;
 mod targets;
@@ -26,10 +26,10 @@ pub use alternative::Alternative;
 pub use cut::Cut;
 pub use decision::Decision;
 pub use fault::Stop;
+pub use feasibility::Feasibility;
 pub use laws::{
     decisions_exclude_each_other, narrow_matrices_are_decided, refused_stops_show_a_wide_matrix,
     witnesses_make_solutions,
 };
 pub use solver::Solver;
-pub use standing::Standing;
 pub use system::{System, decide};

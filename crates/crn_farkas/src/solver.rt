@@ -4,15 +4,15 @@ ghost use Rattle.crn_vec.specs.Elementary.{width, IsBasis};
 ghost use Rattle.crn_vec.specs.Systems.{HasOneRowCut, is_signed, kind_at, signed_count};
 ghost use Rattle.crn_vec.specs.declared.limits.TheConstants.{MAX_SIGNED};
 ghost use Rattle.crn_tab.specs.Tableau.{NamesRows};
-ghost use Rattle.crn_farkas.specs.Solver.{HasKeptCut, IsCutBy, IsAlternative, IsFall, IsNamedCut, IsNamedDecision, IsNearStop, IsRefusedStop, IsRuledOut, IsStanding};
+ghost use Rattle.crn_farkas.specs.Solver.{HasKeptCut, IsCutBy, IsAlternative, IsUnsolvable, IsNamedCut, IsNamedDecision, IsNearStop, IsRefusedStop, IsRuledOut, IsFeasibility};
 ghost use Rattle.crn_farkas.specs.Decision.{IsDecision, IsTargetStop};
 
 use crate::alternative::{Alternative, alternative_at};
 use crate::cut::{Cut, kept_cut, multipliers};
 use crate::decision::Decision;
 use crate::fault::Stop;
-use crate::standing::Standing;
-use crate::stands::standing;
+use crate::feasibility::Feasibility;
+use crate::feasible::feasibility;
 use crate::targets::by_targets;
 use crn_tab::Tableau;
 use crn_vec::{Ints, Kind, Matrix, NoMemory, Nums, Sign};
@@ -129,20 +129,20 @@ impl Solver {
     ///
     /// It reads signs alone: no vector is formed, and none has to be below a bound. A vector of this basis that rules
     /// the system out is found at once, and then the basis stays. It takes memory only to name a wide vector.
-    pub fn stands(&mut self, kinds: &[Kind]) -> Result<Standing, Stop>
+    pub fn feasibility(&mut self, kinds: &[Kind]) -> Result<Feasibility, Stop>
         requires { length kinds.now ≡ width self.old.matrix }
         ensures matrix { self.new.matrix ≡ self.old.matrix }
         ensures basis { NamesRows self.new.matrix self.new.basis }
         ensures answer { MatchResult result
-            (λ d. IsStanding self.new.matrix self.new.basis kinds.now d)
+            (λ d. IsFeasibility self.new.matrix self.new.basis kinds.now d)
             (λ s. IsTargetStop self.old.matrix kinds.now s) }
-        ensures kept { HasKeptCut self.old.matrix self.old.basis kinds.now → IsFall result
+        ensures kept { HasKeptCut self.old.matrix self.old.basis kinds.now → IsUnsolvable result
             × (self.new.basis ≡ self.old.basis) }
         ensures from_columns { ((k : ℕ) → IsIn k self.old.basis ↔ (k < self.old.matrix.cols))
-            → HasOneRowCut self.old.matrix kinds.now → IsFall result }
+            → HasOneRowCut self.old.matrix kinds.now → IsUnsolvable result }
         ensures refused { IfErr result (λ s. IsRefusedStop self.new.matrix self.new.basis s) }
     {
-        let result = standing(
+        let result = feasibility(
             &mut self.tableau,
             kinds,
             &mut self.order,
@@ -185,7 +185,7 @@ impl Solver {
         result
     }
 
-    /// The multipliers of the vector by which `stands` or `alternative` has found that the system falls. It takes memory for them.
+    /// The multipliers of the vector by which `feasibility` or `alternative` has found that the system has no solution. It takes memory for them.
     pub fn multipliers(&mut self, kinds: &[Kind], cut: &Cut) -> Result<Ints, NoMemory>
         requires kinds { length kinds.now ≡ width self.old.matrix }
         requires cut { IsCutBy self.old.matrix self.old.basis kinds.now cut.now.row cut.now.sign }

@@ -101,7 +101,7 @@ pub(crate) fn put_order(order: &mut Vec<usize>, kinds: &[Kind])
     push_level(order, kinds, false);
 }
 
-// Puts the level of each coordinate, the first place of the order where it stands. It goes from the last place to the first.
+// Puts the level of each coordinate, the first place of the order where it is. It goes from the last place to the first.
 pub(crate) fn put_levels(order: &[usize], level: &mut [usize])
     requires { (j : ℕ) → j < length order.now → slice_index order.now j < length level.old }
     ensures { AreLevels order.now level.new }
@@ -124,8 +124,8 @@ pub(crate) fn columns_of(alloc: Global, tableau: &Tableau, sum: &[i128]) -> Resu
     requires { length sum.now ≡ width tableau.now.matrix }
     ensures { IfOk result (λ x. x.list ≡ take tableau.now.matrix.cols sum.now) }
 {
-    let (front, _) = sum.split_at(tableau.cols());
-    let columns = Ints::from_slice(alloc, front)?;
+    let (prefix, _) = sum.split_at(tableau.cols());
+    let columns = Ints::from_slice(alloc, prefix)?;
     Ok(columns)
 }
 

@@ -217,6 +217,6 @@ fn the_largest_network_has_its_classes(rt: HostRuntime) {
 }
 
 #[test]
-fn the_law_stands() {
+fn the_law_holds() {
     right_labels_are_one();
 }

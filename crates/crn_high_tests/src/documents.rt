@@ -502,6 +502,6 @@ fn shares_name_the_first_distinct_lists(rt: HostRuntime) {
 }
 
 #[test]
-fn laws_of_shares_stand() {
+fn laws_of_shares_hold() {
     shares_are_of_records();
 }

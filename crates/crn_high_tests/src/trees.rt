@@ -379,7 +379,7 @@ fn trees_of_signals_are_checked_node_by_node(rt: HostRuntime) {
 }
 
 #[test]
-fn the_laws_stand() {
+fn the_laws_hold() {
     nodes_of_valid_trees();
     complete_where_valid();
     complete_trees_show();

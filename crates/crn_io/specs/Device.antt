@@ -18,6 +18,6 @@ pub record SinkSeen : Type 0 where
   -- how often it failed
   pub faults : ℕ
 
--- the count grew, or stands at its greatest
+-- the count grew, or is at its greatest
 abbrev pub Rose : ℕ → ℕ → Type 0
 Rose before now = min (before + 1) (2 ^ 64 - 1) ≤ now

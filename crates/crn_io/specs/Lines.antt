@@ -1,4 +1,4 @@
--- Lines of a document, and the place where a reading of it stands.
+-- Lines of a document, and the place where a reading of it is.
 -- Source: this project's own format. Shapes: a line is the bytes before its LF; lines and bytes of a document count from 1.
 use Rattle.std.specs.Prelude.{◌≡◌, ◌≤◌, ◌<◌, ◌+◌, ◌==◌, ℕ, List, [], ◌∷◌, ◌++◌, length, take, Bool, false, if◌then◌else◌}
 use Rattle.std.specs.List.{All}
@@ -8,7 +8,7 @@ use Rattle.crn_io.specs.declared.lines.TheConstants.{MAX_LINE, MAX_DOCUMENT}
 abbrev pub IsLine : List ℕ → Type 0
 IsLine bytes = All (λ b. (b == 10) ≡ false) bytes
 
--- where a reading stands: at the line of this number, with so many bytes before it, and these left
+-- where a reading is: at the line of this number, with so many bytes before it, and these left
 pub record Place : Type 0 where
   pub line : ℕ
   pub before : ℕ

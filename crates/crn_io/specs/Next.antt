@@ -35,7 +35,7 @@ NextIs End taken bytes after new = (bytes ≡ []) × HasNoneLeft after
 -- no LF among one byte more than the longest line has, and all of these before the bound of documents
 NextIs LineTooLong taken bytes after new = (MAX_LINE < length bytes)
     × IsLine (take (MAX_LINE + 1) bytes) × (taken + MAX_LINE + 1 < MAX_DOCUMENT)
--- the byte numbered by the bound is one of the first n + 1, and no LF stands before the last of these
+-- the byte numbered by the bound is one of the first n + 1, and no LF comes before the last of these
 NextIs DocumentTooLong taken bytes after new = (n : ℕ) × (n ≤ MAX_LINE) × (n < length bytes)
     × IsLine (take n bytes) × (MAX_DOCUMENT ≤ taken + n + 1)
 -- nothing is said of the bytes
@@ -64,7 +64,7 @@ code_of last DocumentTooLong = 29
 code_of last LineTooLong = 30
 code_of last answer = last
 
--- Where a line is due, the answer gives the line that stands there, or the first test of a line that fails there has the
+-- Where a line is due, the answer gives the line that is there, or the first test of a line that fails there has the
 -- code of the answer.
 abbrev pub DueIs : Next → (node : Bool) → (at after : Place) → List ℕ → Type 0
 DueIs Line node at after line = IsLineAt at line after

@@ -72,7 +72,7 @@ fn drop_prefix(held: &mut Vec<u8>, count: usize)
     held.truncate(rest);
 }
 
-// Seeks the LF of the line that begins at `from`. What stands before it is dropped only if a pull is needed.
+// Seeks the LF of the line that begins at `from`. What comes before it is dropped only if a pull is needed.
 pub(crate) fn seek<S: Source>(
     source: &mut S,
     held: &mut Vec<u8>,

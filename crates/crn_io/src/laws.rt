@@ -18,7 +18,7 @@ pub fn next_is_what_is_due()
         → NextGives answer old new before now → EndIs answer (place n old left) }
 {}
 
-/// Unless the source failed, a call gives an answer if and only if what stands there is the cause of this answer.
+/// Unless the source failed, a call gives an answer if and only if what is there is the cause of this answer.
 pub fn next_answers_by_cause()
     ensures { (answer other : Next) (n : ℕ) (old new : KeptLines)
         (before now : SourceSeen) (left rest : List ℕ) → old.taken < MAX_DOCUMENT

@@ -84,7 +84,7 @@ fn proofs_of_ranks_are_read_back(rt: HostRuntime) -> Result<(), Fail> {
 }
 
 #[test]
-fn laws_stand() {
+fn laws_hold() {
     valid_answers_are_true();
     valid_documents_are_true();
     valid_trees_leave_nothing();

@@ -4,9 +4,9 @@ use crn_vec::{
     level_is_zero, longer_visits, marks_are_sides, may_take, may_weigh, multiples_share_signals,
     negatives_have_opposite_shapes, networks_are_lawful, networks_have_tables,
     no_problem_lacks_visits, opposite, product, rank_is_one_number, rules_out, shapes_are_one,
-    sign_of, signals_are_of_shape, signals_are_steady, signals_meet_the_laws_of_sign_problems,
-    signals_of_networks_stand, signals_stand_where_they_are, support,
-    tables_are_discordant_where_a_prefix_stands, tables_are_steady,
+    sign_of, signals_are_of_shape, signals_are_steady, signals_are_where_a_prefix_is_feasible,
+    signals_meet_the_laws_of_sign_problems, signals_of_networks_are_feasible, support,
+    tables_are_discordant_where_a_prefix_is_feasible, tables_are_steady,
     tables_meet_the_laws_of_sign_problems, terminal_classes_are_by_reactions,
     visits_are_in_preorder, visits_are_one_list, visits_are_reached,
     weak_reversibility_is_by_reactions, weights_tell_cuts,
@@ -51,7 +51,7 @@ fn matrices_give_their_rows(rt: HostRuntime) -> Result<(), Fail> {
 }
 
 #[test]
-fn laws_stand() {
+fn laws_hold() {
     base_gives_rank();
     rank_is_one_number();
     cuts_exclude_solutions();
@@ -68,22 +68,22 @@ fn laws_stand() {
     budgets_that_are_never_spent();
     tables_meet_the_laws_of_sign_problems();
     tables_are_steady();
-    tables_are_discordant_where_a_prefix_stands();
+    tables_are_discordant_where_a_prefix_is_feasible();
     networks_have_tables();
     signals_meet_the_laws_of_sign_problems();
     signals_are_steady();
     level_is_zero();
-    signals_stand_where_they_are();
+    signals_are_where_a_prefix_is_feasible();
     shapes_are_one();
     negatives_have_opposite_shapes();
     multiples_share_signals();
     signals_are_of_shape();
-    signals_of_networks_stand();
+    signals_of_networks_are_feasible();
     networks_are_lawful();
 }
 
 #[test]
-fn entries_stand_row_by_row(rt: HostRuntime) {
+fn entries_are_row_by_row(rt: HostRuntime) {
     let made = Matrix::new(rt.alloc(), 2, 3, &[1, -2, 3, -99, 5, 99]).expect(&rt, "memory");
     assert_eq!(rt; (made.rows(), made.cols()), (2, 3));
     let copy = made.copy().expect(&rt, "memory");

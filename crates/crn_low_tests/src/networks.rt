@@ -375,7 +375,7 @@ fn compares_sides_of_very_many_names(rt: HostRuntime) -> Result<(), Fail> {
         let name = format!(in rt.alloc(); "x{i}")?;
         twos.push(spell(&rt, &mut text, &name, 2)?)?;
     }
-    // The same names in another order, and then again, so that each stands in two terms of 1.
+    // The same names in another order, and then again, so that each is in two terms of 1.
     let mut ones = Vec::new(rt.alloc());
     for i in 0..2 * MANY {
         let place = (i * 7 % MANY) as usize;

@@ -157,7 +157,7 @@ fn rows_and_columns_are_passed_by_their_slots(rt: HostRuntime) {
     let cases = [
         ("minus one where it may not be", 2, Sign::Plus, 0, 1),
         ("the other sign", 2, Sign::Minus, 0, 0),
-        ("behind the first", 2, Sign::Minus, 1, 3),
+        ("after the first", 2, Sign::Minus, 1, 3),
         ("not zero where it has to be", 0, Sign::Plus, 0, 2),
         ("its own sign", 0, Sign::Minus, 0, 0),
         ("not zero again", 1, Sign::Plus, 1, 2),
@@ -176,7 +176,7 @@ fn rows_and_columns_are_passed_by_their_slots(rt: HostRuntime) {
     let free = [pos, neg, Kind::Free];
     let cases = [
         ("a weight of each sign", mixed.as_slice(), None),
-        ("as it stands", plain.as_slice(), Some(Sign::Plus)),
+        ("as it is", plain.as_slice(), Some(Sign::Plus)),
         ("its negative", negatives.as_slice(), Some(Sign::Minus)),
         ("nothing is asked", none.as_slice(), None),
         ("no weight where it may have none", free.as_slice(), None),

@@ -246,9 +246,9 @@ fn put_long_side(text: &mut Vec<u8>, count: u32, last: &[u8]) -> Result<(), Allo
 fn a_side_of_very_many_terms_has_the_first_fault_of_its_line(rt: HostRuntime) -> Result<(), Fail> {
     let cases = [
         ("its sum alone", b"A -> B".as_slice(), 17),
-        ("a zero behind it", b"A -> 0B", 16),
+        ("a zero after it", b"A -> 0B", 16),
         (
-            "a long name behind it",
+            "a long name after it",
             b"A -> aaaaaaaaaaaaaaaaaaaaaaaaaaaaaaaaa",
             15,
         ),
@@ -256,7 +256,7 @@ fn a_side_of_very_many_terms_has_the_first_fault_of_its_line(rt: HostRuntime) ->
         ("no product", b"A ->", 13),
         ("no term at its end", b"-> B", 13),
         ("a stray mark at its end", b"= -> B", 18),
-        ("a zero behind another arrow", b"A -> B -> 0C", 16),
+        ("a zero after another arrow", b"A -> B -> 0C", 16),
         ("no arrow", b"A", 12),
     ];
     let mut text = Vec::new(rt.alloc());
@@ -375,7 +375,7 @@ fn each_fault_is_displayed_with_its_name(rt: HostRuntime) -> Result<(), Fail> {
 }
 
 #[test]
-fn laws_stand() {
+fn laws_hold() {
     texts_are_split_in_one_way();
     first_fault_is_one();
     spelling_is_unique();

@@ -29,14 +29,14 @@ left_stops old middle s left rows NoMemory h = tt
 both_noted : (old middle new : List (List ℕ)) (s : Statement) (left right : List ℤ) → NotesSide old s.0 (Ok tt) middle left → NotesSide middle s.1 (Ok tt) new right → take (length middle) new ≡ middle → AreNoted old s (left, right) new
 both_noted old middle new s left right l r kept =
     let distinct : AreDistinct new = subst AreDistinct (sym r.0) (firsts_distinct bytes_eq bytes_eq-Decides (middle ++ map (λ t. t.0) s.1)) in
-    let front = length-take (length middle) new in
+    let prefix = length-take (length middle) new in
     let long = ap length kept in
     let has : (name : List ℕ) → IsIn name (map (λ t. t.0) s.0) → IsIn name middle =
     λ name i. subst (λ (t : List (List ℕ)). IsIn name t) (sym l.0) (firsts_has bytes_eq bytes_eq-Decides (old ++ map (λ t. t.0) s.0) name (in_right name old (map (λ t. t.0) s.0) i)) in
     record {
       names = r.0 ∙ names_both old middle s l.0;
       few = r.1;
-      left = counted_is new s.0 left r.1 (counted_wider middle new s.0 left (is_counted middle s.0 left l.2) distinct kept (omega (arith, front, long)) has);
+      left = counted_is new s.0 left r.1 (counted_wider middle new s.0 left (is_counted middle s.0 left l.2) distinct kept (omega (arith, prefix, long)) has);
       right = r.2;
     }
 

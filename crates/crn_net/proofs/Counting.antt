@@ -31,10 +31,10 @@ counted_is names side row few h =
     let n = length names in
     let f : List ℕ → ℤ = λ name. pos (amount_in side name) in
     let long = h.long in
-    let front : length (take n row) ≡ n = length-take-le n row (omega (arith, long, few)) in
+    let prefix : length (take n row) ≡ n = length-take-le n row (omega (arith, long, few)) in
     record {
-      amounts = ext_get_or (pos 0) (take n row) (amounts_in names side) (front ∙ sym (length-map names f)) (λ k lt.
-          let below : k < n = omega (arith, front, lt) in
+      amounts = ext_get_or (pos 0) (take n row) (amounts_in names side) (prefix ∙ sym (length-map names f)) (λ k lt.
+          let below : k < n = omega (arith, prefix, lt) in
           get_or-take n row k (pos 0) below ∙ h.amounts k below ∙ sym (get_or-map f names k [] (pos 0) below));
       is = record { long = h.long; rest = h.rest };
     }
@@ -74,13 +74,13 @@ pub counted_more : (names : List (List ℕ)) (text : List ℕ) (side : List Term
     → IsCounted names (side_of text (take (i + 1) side)) (set row place v)
 counted_more names text side i place d row v lt apart few at is h value =
     let t = get_or side i d in
-    let front = side_of text (take i side) in
+    let prefix = side_of text (take i side) in
     let long = h.long in
     let here : get_or (set row place v) place (pos 0) ≡ pos (amount_in (side_of text (take (i + 1) side)) (get_or names place [])) =
     let name = get_or names place [] in
-    let more = amount_yes text name side i (amount_in front name) d lt refl ((bytes_eq-Decides (name_at text t) name).1 (sym is)) in
+    let more = amount_yes text name side i (amount_in prefix name) d lt refl ((bytes_eq-Decides (name_at text t) name).1 (sym is)) in
     let was = h.amounts place at in
-    get_or-set_same row place v (pos 0) (omega (arith, long, few, at)) ∙ (let sum : v ≡ pos (amount_in front name + t.count) = value ∙ ap (λ (u : ℤ). u +ℤ pos t.count) was in sum) ∙ ap pos more in
+    get_or-set_same row place v (pos 0) (omega (arith, long, few, at)) ∙ (let sum : v ≡ pos (amount_in prefix name + t.count) = value ∙ ap (λ (u : ℤ). u +ℤ pos t.count) was in sum) ∙ ap pos more in
     record {
       long = length-set row place v ∙ h.long;
       amounts = λ k below. elim (cases_eq k place) [
@@ -91,7 +91,7 @@ counted_more names text side i place d row v lt apart few at is h value =
               | inl yes' ↦ absurd (ne (same_place names k place [] apart below at (sym ((bytes_eq-Decides (name_at text t) name).0 yes') ∙ sym is)))
               | inr no' ↦ no'
             ] in
-            get_or-set_other row place k v (pos 0) ne ∙ h.amounts k below ∙ ap pos (amount_no text name side i (amount_in front name) d lt refl miss)
+            get_or-set_other row place k v (pos 0) ne ∙ h.amounts k below ∙ ap pos (amount_no text name side i (amount_in prefix name) d lt refl miss)
       ];
       rest = λ k le. let ne : k ≢ place = omega (arith, at, le) in get_or-set_other row place k v (pos 0) ne ∙ h.rest k le;
     }

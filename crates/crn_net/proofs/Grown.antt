@@ -9,7 +9,7 @@ use Rattle.crn_vec.specs.Lists.{IsIn, AreDistinct, firsts}
 use Rattle.crn_vec.specs.Network.{Net, IsPartialNetwork, sides_of, sides_eq, said_by, names_in, amount_in, amounts_in, Statement}
 use Rattle.crn_net.specs.Grows.{with_zeros, both_with_zeros, names_with, reactions_with, Grows, GrownFrom, Grown, no_net}
 use Rattle.crn_vec.proofs.CallerLemmas.{in_left, in_right, in_map, map_same, map_twice, firsts_distinct, firsts_has, firsts_firsts, firsts_map, none_said, same_test, sides_decide, pair, in_flat_map, flat_map_push, append_same, apart_of}
-use Rattle.crn_net.proofs.Species.{front}
+use Rattle.crn_net.proofs.Species.{names_begin}
 
 -- ---- one statement more
 
@@ -92,7 +92,7 @@ reactions_more done s old h =
     let all : List (List ℕ) = names_with old s in
     let m : ℕ = length all in
     let d : AreDistinct old.names = subst AreDistinct (sym h.names) (firsts_distinct bytes_eq bytes_eq-Decides P) in
-    let f = front old.names all (names_in s) d refl in
+    let f = names_begin old.names all (names_in s) d refl in
     let apart : AreDistinct (old.names ++ f.0) = subst AreDistinct f.1 (firsts_distinct bytes_eq bytes_eq-Decides (old.names ++ names_in s)) in
     let known : (t : Statement) → IsIn t done → (name : List ℕ) → IsIn name (names_in t) → IsIn name old.names = λ t i name j. subst (λ (u : List (List ℕ)). IsIn name u) (sym h.names) (firsts_has bytes_eq bytes_eq-Decides P name (in_flat_map names_in done t name i j)) in
     let said : (t : Statement) → IsIn t done → both_with_zeros m (said_by old.names t) ≡ said_by all t = λ t i.

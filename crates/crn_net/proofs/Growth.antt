@@ -59,11 +59,11 @@ second_complex : (names : List (List ℕ)) (rows : List (List ℤ)) (reactions :
 second_complex names rows reactions names' s left right middle rows' ready wide l r p q =
     let n = length names in
     let m = length names' in
-    let front = map (with_zeros m) (vectors_of n rows) ++ amounts_in names' s.0 ∷ [] in
+    let prefix = map (with_zeros m) (vectors_of n rows) ++ amounts_in names' s.0 ∷ [] in
     let rows_are = rows_wider n m rows wide.least ready.padded in
     let d = distinct_of_map (take n) rows ready.network.complexes in
     ap (firsts (pointwise int_eq)) (split_two (map (with_zeros m) (vectors_of n rows)) (amounts_in names' s.0) (amounts_in names' s.1))
-    ∙ sym (firsts_firsts (pointwise int_eq) signed_items front (amounts_in names' s.1 ∷ []))
+    ∙ sym (firsts_firsts (pointwise int_eq) signed_items prefix (amounts_in names' s.1 ∷ []))
     ∙ ap (λ (t : List (List ℤ)). firsts (pointwise int_eq) (t ++ amounts_in names' s.1 ∷ [])) (first_complex names rows reactions names' s.0 left middle ready wide l p)
     ∙ ap (λ (t : List ℤ). firsts (pointwise int_eq) (vectors_of m middle ++ t ∷ [])) (sym r.amounts)
     ∙ vectors_put m middle rows' right (puts_all (IsRow m) rows middle left rows_are l.is p) r.is (puts_distinct rows middle left d p) q
@@ -122,14 +122,14 @@ both_keep names s rows y z rows' k b lt =
     let second = puts_longer b.middle rows' b.right b.second in
     (puts_keeps b.middle rows' b.right [] k b.second (omega arith) ∙ puts_keeps rows b.middle b.left [] k b.first lt, omega arith)
 
-pub left_stands : (names : List (List ℕ)) (s : Statement) (rows : List (List ℤ)) (y z : ℕ) (rows' : List (List ℤ)) (b : PutsBoth names s rows y z rows') → (get_or rows' y [] ≡ b.left) × (y < length rows')
-left_stands names s rows y z rows' b =
+pub left_found : (names : List (List ℕ)) (s : Statement) (rows : List (List ℤ)) (y z : ℕ) (rows' : List (List ℤ)) (b : PutsBoth names s rows y z rows') → (get_or rows' y [] ≡ b.left) × (y < length rows')
+left_found names s rows y z rows' b =
     let second = puts_longer b.middle rows' b.right b.second in
     let lt = b.left_in in
     (puts_keeps b.middle rows' b.right [] y b.second lt ∙ get_or_default b.middle y [] b.left lt ∙ b.left_at, omega arith)
 
-pub right_stands : (names : List (List ℕ)) (s : Statement) (rows : List (List ℤ)) (y z : ℕ) (rows' : List (List ℤ)) (b : PutsBoth names s rows y z rows') → get_or rows' z [] ≡ b.right
-right_stands names s rows y z rows' b = get_or_default rows' z [] b.right b.right_in ∙ b.right_at
+pub right_found : (names : List (List ℕ)) (s : Statement) (rows : List (List ℤ)) (y z : ℕ) (rows' : List (List ℤ)) (b : PutsBoth names s rows y z rows') → get_or rows' z [] ≡ b.right
+right_found names s rows y z rows' b = get_or_default rows' z [] b.right b.right_in ∙ b.right_at
 
 vector_at : (m : ℕ) (rows : List (List ℤ)) (c : ℕ) → c < length rows → get_or (vectors_of m rows) c [] ≡ take m (get_or rows c [])
 vector_at m rows c lt = get_or-map (take m) rows c [] [] lt
@@ -157,9 +157,9 @@ reactions_are names rows reactions names' s y z rows' reactions' ready wide b p 
     let old : map (λ r. both_with_zeros m (sides_of (net_of names rows reactions) r)) reactions ≡ map (sides_of new) reactions =
     map_same (λ r. both_with_zeros m (sides_of (net_of names rows reactions) r)) (sides_of new) reactions
     (λ r i. ap₂ pair (old_sides names rows reactions names' s y z rows' ready wide b r.0 (apart r i).0) (old_sides names rows reactions names' s y z rows' ready wide b r.1 (apart r i).1)) in
-    let l = left_stands names' s rows y z rows' b in
+    let l = left_found names' s rows y z rows' b in
     let said : said_by names' s ≡ sides_of new (y, z) =
-    ap₂ pair (sym (vector_at m rows' y l.1 ∙ ap (take m) l.0 ∙ b.left_row.amounts)) (sym (vector_at m rows' z b.right_in ∙ ap (take m) (right_stands names' s rows y z rows' b) ∙ b.right_row.amounts)) in
+    ap₂ pair (sym (vector_at m rows' y l.1 ∙ ap (take m) l.0 ∙ b.left_row.amounts)) (sym (vector_at m rows' z b.right_in ∙ ap (take m) (right_found names' s rows y z rows' b) ∙ b.right_row.amounts)) in
     let places : (r : ℕ × ℕ) → IsIn r (reactions ++ (y, z) ∷ []) → (r.0 < length (vectors_of m rows')) × (r.1 < length (vectors_of m rows')) = λ r i. elim (in_push r reactions (y, z) i) [
       | inl a ↦ let q = apart r a in let e = (both_keep names' s rows y z rows' r.0 b q.0).1 in let f = (both_keep names' s rows y z rows' r.1 b q.1).1 in (omega (arith, count', e), omega (arith, count', f))
       | inr e ↦ let a = ap (λ (t : ℕ × ℕ). t.0) e in let f = ap (λ (t : ℕ × ℕ). t.1) e in (omega (arith, count', l.1, a), omega (arith, count', b.right_in, f))

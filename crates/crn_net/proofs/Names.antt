@@ -19,17 +19,17 @@ pub names_known : (old names : List (List ℕ)) (text : List ℕ) (side : List T
     → names ≡ firsts bytes_eq (old ++ map (name_at text) (take (i + 1) side))
 names_known old names text side i d lt is h =
     let x = name_at text (get_or side i d) in
-    let front = old ++ map (name_at text) (take i side) in
-    let there : IsIn x front = firsts_from bytes_eq front x (subst (λ (t : List (List ℕ)). IsIn x t) is h) in
-    is ∙ sym (ap (firsts bytes_eq) (one_more old text side i d lt) ∙ firsts_known bytes_eq bytes_eq-Decides front x there)
+    let prefix = old ++ map (name_at text) (take i side) in
+    let there : IsIn x prefix = firsts_from bytes_eq prefix x (subst (λ (t : List (List ℕ)). IsIn x t) is h) in
+    is ∙ sym (ap (firsts bytes_eq) (one_more old text side i d lt) ∙ firsts_known bytes_eq bytes_eq-Decides prefix x there)
 
 pub names_new : (old names : List (List ℕ)) (text : List ℕ) (side : List Term) (i : ℕ) (d : Term) → i < length side → names ≡ firsts bytes_eq (old ++ map (name_at text) (take i side)) → (IsIn (name_at text (get_or side i d)) names → ⊥)
     → names ++ name_at text (get_or side i d) ∷ [] ≡ firsts bytes_eq (old ++ map (name_at text) (take (i + 1) side))
 names_new old names text side i d lt is h =
     let x = name_at text (get_or side i d) in
-    let front = old ++ map (name_at text) (take i side) in
-    let free : IsIn x front → ⊥ = λ k. h (subst (λ (t : List (List ℕ)). IsIn x t) (sym is) (firsts_has bytes_eq bytes_eq-Decides front x k)) in
-    ap (λ (t : List (List ℕ)). t ++ x ∷ []) is ∙ sym (ap (firsts bytes_eq) (one_more old text side i d lt) ∙ firsts_new bytes_eq bytes_eq-Decides front x free)
+    let prefix = old ++ map (name_at text) (take i side) in
+    let free : IsIn x prefix → ⊥ = λ k. h (subst (λ (t : List (List ℕ)). IsIn x t) (sym is) (firsts_has bytes_eq bytes_eq-Decides prefix x k)) in
+    ap (λ (t : List (List ℕ)). t ++ x ∷ []) is ∙ sym (ap (firsts bytes_eq) (one_more old text side i d lt) ∙ firsts_new bytes_eq bytes_eq-Decides prefix x free)
 
 pub names_over : (old names : List (List ℕ)) (text : List ℕ) (side : List Term) (i : ℕ) (d : Term) (limit : ℕ) → i < length side → names ≡ firsts bytes_eq (old ++ map (name_at text) (take i side)) → (IsIn (name_at text (get_or side i d)) names → ⊥) → limit ≤ length names
     → limit < length (firsts bytes_eq (old ++ map (name_at text) side))

@@ -35,8 +35,8 @@ pub record IsPlaced (old : List (List ℕ)) (name : List ℕ) (place : ℕ) (new
   pub within : place < length new
   pub stored : (k : List ℕ) × (slice_get new place ≡ Some k) × (bytes_eq name k ≡ true)
 
-stands : (old : List (List ℕ)) (name : List ℕ) (place : ℕ) (new : List (List ℕ)) → IsPlaced old name place new → get_or new place [] ≡ name
-stands old name place new h = get_or_from_slice_get new place h.stored.0 [] h.stored.1 ∙ (decides name h.stored.0).0 h.stored.2
+is_there : (old : List (List ℕ)) (name : List ℕ) (place : ℕ) (new : List (List ℕ)) → IsPlaced old name place new → get_or new place [] ≡ name
+is_there old name place new h = get_or_from_slice_get new place h.stored.0 [] h.stored.1 ∙ (decides name h.stored.0).0 h.stored.2
 
 -- known, or new at the end
 pub placed_puts : (old : List (List ℕ)) (name : List ℕ) (place : ℕ) (new : List (List ℕ)) → IsPlaced old name place new → (IsIn name old × (new ≡ old)) ⊎ ((IsIn name old → ⊥) × (new ≡ old ++ name ∷ []) × (place ≡ length old))
@@ -48,7 +48,7 @@ placed_puts old name place new h =
 
 pub name_noted : (old : List (List ℕ)) (name : List ℕ) (place : ℕ) (new : List (List ℕ)) → IsPlaced old name place new → length old ≤ MAX_SPECIES → place < MAX_SPECIES → NotesName old name (Ok place) new
 name_noted old name place new h few lt =
-    let at = stands old name place new h in
+    let at = is_there old name place new h in
     let within = h.within in
     elim (placed_puts old name place new h) [
       | inl a ↦ let long = ap length a.1 in (inl a, within, at, omega (arith, long, few))

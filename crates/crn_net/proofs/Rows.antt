@@ -33,14 +33,14 @@ row_length n a le p = let long = p.long in length-take-le n a (omega arith)
 pub row_with_zeros : (n m : ℕ) (a : List ℤ) → n ≤ m → m ≤ MAX_SPECIES → IsRow n a → with_zeros m (take n a) ≡ take m a
 row_with_zeros n m a le few p =
     let long = p.long in
-    let front : length (take n a) ≡ n = row_length n a (omega arith) p in
+    let prefix : length (take n a) ≡ n = row_length n a (omega arith) p in
     let zeros = replicate (m - length (take n a)) (pos 0) in
     let count = length-replicate (m - length (take n a)) (pos 0) in
-    let whole : length (with_zeros m (take n a)) ≡ m = omega (arith, length-append (take n a) zeros, front, count) in
+    let whole : length (with_zeros m (take n a)) ≡ m = omega (arith, length-append (take n a) zeros, prefix, count) in
     let other : length (take m a) ≡ m = length-take-le m a (omega arith) in
     ext_get_or (pos 0) (with_zeros m (take n a)) (take m a) (whole ∙ sym other) (λ k lt. elim (cases_lt k n) [
       | inl below ↦ get_or_append_left (take n a) zeros (pos 0) k (omega arith) ∙ get_or-take n a k (pos 0) below ∙ sym (get_or-take m a k (pos 0) (omega arith))
-      | inr above ↦ get_or-append_right (take n a) zeros n k (pos 0) front above ∙ zeros_at (m - length (take n a)) (k - n) ∙ sym (get_or-take m a k (pos 0) (omega arith) ∙ p.rest k above)
+      | inr above ↦ get_or-append_right (take n a) zeros n k (pos 0) prefix above ∙ zeros_at (m - length (take n a)) (k - n) ∙ sym (get_or-take m a k (pos 0) (omega arith) ∙ p.rest k above)
     ])
 
 -- the vectors of rows, with zeros for the new names

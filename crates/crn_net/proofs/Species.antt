@@ -12,10 +12,10 @@ use Rattle.crn_vec.specs.Network.{Net, IsPartialNetwork, IsName, IsAmount, IsVec
 use Rattle.crn_vec.specs.declared.limits.TheConstants.{MAX_SPECIES, MAX_REACTIONS, MAX_AMOUNT}
 use Rattle.crn_net.specs.Views.{net_of, vectors_of, IsRow, AreRows}
 use Rattle.crn_net.specs.Inner.Steps.{Puts, PutsBoth, IsRowFor}
-use Rattle.crn_vec.proofs.CallerLemmas.{in_right, in_cases, in_at, at_in, map_in, all_in, all_from, all_map, same_place, firsts_distinct, firsts_from, firsts_has, firsts_front, firsts_all, has_name, none_said, appears_in_order, in_order_appears, ends_below}
+use Rattle.crn_vec.proofs.CallerLemmas.{in_right, in_cases, in_at, at_in, map_in, all_in, all_from, all_map, same_place, firsts_distinct, firsts_from, firsts_has, firsts_prefix, firsts_all, has_name, none_said, appears_in_order, in_order_appears, ends_below}
 use Rattle.crn_net.proofs.Rows.{row_length, row_with_zeros, puts_place, puts_all, puts_distinct}
-use Rattle.crn_net.proofs.Growth.{Ready, Wider, rows_distinct, vectors_distinct, both_keep, left_stands, right_stands}
-use Rattle.crn_net.proofs.Whole.{Covers, Stand, covers_both, amounts_with_zeros, amounts_said}
+use Rattle.crn_net.proofs.Growth.{Ready, Wider, rows_distinct, vectors_distinct, both_keep, left_found, right_found}
+use Rattle.crn_net.proofs.Whole.{Covers, RowPlaces, covers_both, amounts_with_zeros, amounts_said}
 
 -- what a statement's sides have: names, each with a number of at least 1, up to the limit
 pub record IsSaid (s : Statement) : Type 0 where
@@ -52,13 +52,13 @@ new_net t = net_of t.names' t.rows' t.reactions'
 
 -- ---- names
 
-pub front : (names names' more : List (List ℕ)) → AreDistinct names → names' ≡ firsts bytes_eq (names ++ more) → (rest : List (List ℕ)) × (names' ≡ names ++ rest)
-front names names' more d e =
-    let f = firsts_front bytes_eq names more in
+pub names_begin : (names names' more : List (List ℕ)) → AreDistinct names → names' ≡ firsts bytes_eq (names ++ more) → (rest : List (List ℕ)) × (names' ≡ names ++ rest)
+names_begin names names' more d e =
+    let f = firsts_prefix bytes_eq names more in
     (f.0, e ∙ f.1 ∙ ap (λ (u : List (List ℕ)). u ++ f.0) (firsts_all bytes_eq bytes_eq-Decides names d))
 
 pub wider_names : (names names' more : List (List ℕ)) → AreDistinct names → names' ≡ firsts bytes_eq (names ++ more) → length names' ≤ MAX_SPECIES → Wider names names'
-wider_names names names' more d e le = let f = front names names' more d e in let l = ap length f.1 in let k = length-append names f.0 in record { least = omega (arith, l, k); most = le }
+wider_names names names' more d e le = let f = names_begin names names' more d e in let l = ap length f.1 in let k = length-append names f.0 in record { least = omega (arith, l, k); most = le }
 
 pub wide : (t : Step) → Wider t.names t.names'
 wide t = wider_names t.names t.names' (names_in t.s) t.ready.network.names t.names_are t.most
@@ -77,7 +77,7 @@ beyond names rest k d le lt i =
 
 not_old : (t : Step) (k : ℕ) → length t.names ≤ k → k < length t.names' → IsIn (get_or t.names' k []) t.names → ⊥
 not_old t k le lt i =
-    let f = front t.names t.names' (names_in t.s) t.ready.network.names t.names_are in
+    let f = names_begin t.names t.names' (names_in t.s) t.ready.network.names t.names_are in
     let P : List (List ℕ) → Type 0 = λ u. AreDistinct u × (k < length u) × IsIn (get_or u k []) t.names in
     let p = subst P f.1 (names_apart t, lt, i) in
     beyond t.names f.0 k p.0 le p.1 p.2
@@ -96,7 +96,7 @@ left_first t k m km mn nk i =
     let l : List (List ℕ) = map (λ u. u.0) t.s.0 in
     let r : List (List ℕ) = map (λ u. u.0) t.s.1 in
     let first : List (List ℕ) = firsts bytes_eq (t.names ++ l) in
-    let f = firsts_front bytes_eq (t.names ++ l) r in
+    let f = firsts_prefix bytes_eq (t.names ++ l) r in
     let is : t.names' ≡ first ++ f.0 = t.names_are ∙ ap (firsts bytes_eq) (sym (append_assoc t.names l r)) ∙ f.1 in
     let x : List ℕ = get_or t.names' m [] in
     let P : List (List ℕ) → Type 0 = λ u. AreDistinct u × (m < length u) × (get_or u m [] ≡ x) in
@@ -134,12 +134,12 @@ said_amount names side row k r lt =
 
 left_amount : (t : Step) (k : ℕ) → k < length t.names' → amount_at (new_net t) t.y k ≡ pos (amount_in t.s.0 (get_or t.names' k []))
 left_amount t k lt =
-    let l = left_stands t.names' t.s t.rows t.y t.z t.rows' t.both in
+    let l = left_found t.names' t.s t.rows t.y t.z t.rows' t.both in
     row_amount (length t.names') t.rows' t.y k l.1 lt ∙ ap (λ (u : List ℤ). get_or u k (pos 0)) l.0 ∙ said_amount t.names' t.s.0 t.both.left k t.both.left_row lt
 
 right_amount : (t : Step) (k : ℕ) → k < length t.names' → amount_at (new_net t) t.z k ≡ pos (amount_in t.s.1 (get_or t.names' k []))
 right_amount t k lt =
-    row_amount (length t.names') t.rows' t.z k t.both.right_in lt ∙ ap (λ (u : List ℤ). get_or u k (pos 0)) (right_stands t.names' t.s t.rows t.y t.z t.rows' t.both) ∙ said_amount t.names' t.s.1 t.both.right k t.both.right_row lt
+    row_amount (length t.names') t.rows' t.z k t.both.right_in lt ∙ ap (λ (u : List ℤ). get_or u k (pos 0)) (right_found t.names' t.s t.rows t.y t.z t.rows' t.both) ∙ said_amount t.names' t.s.1 t.both.right k t.both.right_row lt
 
 positive : (a : ℤ) (n : ℕ) → a ≡ pos n → 1 ≤ n → pos 1 ≤ℤ a
 positive a n e le = rw e (omega (arith, ints))
@@ -162,14 +162,14 @@ left_held t k lt h =
 
 -- ---- places
 
-stand : (t : Step) → Stand (length t.rows) (length t.both.middle) (length t.rows') t.y t.z
-stand t = record {
+row_places : (t : Step) → RowPlaces (length t.rows) (length t.both.middle) (length t.rows') t.y t.z
+row_places t = record {
   first = puts_place t.rows t.both.middle t.both.left t.y t.both.first t.both.left_in t.both.left_at;
   second = puts_place t.both.middle t.rows' t.both.right t.z t.both.second t.both.right_in t.both.right_at;
 }
 
 -- a new place is one of the two
-new_place : (before middle after y z b : ℕ) → Stand before middle after y z → before ≤ b → b < after → (b ≡ y) ⊎ (b ≡ z)
+new_place : (before middle after y z b : ℕ) → RowPlaces before middle after y z → before ≤ b → b < after → (b ≡ y) ⊎ (b ≡ z)
 new_place before middle after y z b s le lt =
     elim s.first [
       | inl p ↦ elim s.second [ inl q ↦ absurd (let e = p.1 in let f = q.1 in omega (arith, e, f)) | inr q ↦ inr (let e = p.1 in let f = q.1 in let g = q.0 in omega (arith, e, f, g)) ]
@@ -180,7 +180,7 @@ new_place before middle after y z b s le lt =
     ]
 
 -- if the right row is new, the left row is before it
-left_before : (before middle after y z : ℕ) → Stand before middle after y z → (y ≡ z → ⊥) → before ≤ z → y < z
+left_before : (before middle after y z : ℕ) → RowPlaces before middle after y z → (y ≡ z → ⊥) → before ≤ z → y < z
 left_before before middle after y z s ne le =
     elim s.first [
       | inl p ↦ let d = p.0 in omega (arith, d)
@@ -189,8 +189,8 @@ left_before before middle after y z s ne le =
 
 sides_apart : (t : Step) → t.y ≡ t.z → ⊥
 sides_apart t e =
-    let l = left_stands t.names' t.s t.rows t.y t.z t.rows' t.both in
-    let same : t.both.left ≡ t.both.right = sym l.0 ∙ ap (λ (k : ℕ). get_or t.rows' k []) e ∙ right_stands t.names' t.s t.rows t.y t.z t.rows' t.both in
+    let l = left_found t.names' t.s t.rows t.y t.z t.rows' t.both in
+    let same : t.both.left ≡ t.both.right = sym l.0 ∙ ap (λ (k : ℕ). get_or t.rows' k []) e ∙ right_found t.names' t.s t.rows t.y t.z t.rows' t.both in
     t.apart (sym t.both.left_row.amounts ∙ ap (take (length t.names')) same ∙ t.both.right_row.amounts)
 
 -- ---- who holds what
@@ -215,7 +215,7 @@ each_held t k lt =
     elim (cases_lt k (length t.names)) [
       | inl old ↦ let h = old_held t k old in let q = (both_keep t.names' t.s t.rows t.y t.z t.rows' h.0 t.both h.1).1 in (h.0, omega (arith, c, q), h.2)
       | inr new ↦ elim (fresh t k new lt) [
-        | inl i ↦ let q = (left_stands t.names' t.s t.rows t.y t.z t.rows' t.both).1 in (t.y, omega (arith, c, q), left_holds t k lt i)
+        | inl i ↦ let q = (left_found t.names' t.s t.rows t.y t.z t.rows' t.both).1 in (t.y, omega (arith, c, q), left_holds t k lt i)
         | inr i ↦ let q = t.both.right_in in (t.z, omega (arith, c, q), right_holds t k lt i)
       ]
     ]
@@ -233,13 +233,13 @@ order_old t c s m b sm mn bc old h =
 
 order_new : (t : Step) (c s m b : ℕ) → s < m → m < length t.names' → b < c → length t.rows ≤ b → b < length t.rows' → length t.names ≤ s → Holds (new_net t) b m → IsHeldBefore (new_net t) c s
 order_new t c s m b sm mn bc new b_in s_new h =
-    elim (new_place (length t.rows) (length t.both.middle) (length t.rows') t.y t.z b (stand t) new b_in) [
+    elim (new_place (length t.rows) (length t.both.middle) (length t.rows') t.y t.z b (row_places t) new b_in) [
       | inl e ↦
           let held : Holds (new_net t) t.y m = subst (λ (k : ℕ). Holds (new_net t) k m) e h in
           let i = left_first t s m sm mn s_new (left_held t m mn held) in
           (t.y, omega (arith, e), left_holds t s (omega arith) i)
       | inr e ↦ elim (fresh t s s_new (omega arith)) [
-        | inl i ↦ let lt = left_before (length t.rows) (length t.both.middle) (length t.rows') t.y t.z (stand t) (sides_apart t) (omega (arith, e)) in (t.y, omega (arith, e, lt), left_holds t s (omega arith) i)
+        | inl i ↦ let lt = left_before (length t.rows) (length t.both.middle) (length t.rows') t.y t.z (row_places t) (sides_apart t) (omega (arith, e)) in (t.y, omega (arith, e, lt), left_holds t s (omega arith) i)
         | inr i ↦ (t.z, omega (arith, e), right_holds t s (omega arith) i)
       ]
     ]
@@ -293,7 +293,7 @@ joins : (t : Step) → AllByRecursion (JoinsTwo (length (vectors_of (length t.na
 joins t =
     let c = old_count t in
     let d = new_count t in
-    let l = (left_stands t.names' t.s t.rows t.y t.z t.rows' t.both).1 in
+    let l = (left_found t.names' t.s t.rows t.y t.z t.rows' t.both).1 in
     let r = t.both.right_in in
     let m = length (vectors_of (length t.names') t.rows') in
     let old : AllByRecursion (JoinsTwo m) t.reactions = all_from (JoinsTwo m) t.reactions (λ x i.
@@ -310,7 +310,7 @@ new_partial t =
     let m = length t.names' in
     let w = wide t in
     let d = rows_distinct t.names t.rows t.reactions t.names' t.s t.y t.z t.rows' t.ready w t.both in
-    let covers = covers_both (length t.rows) (length t.both.middle) (length t.rows') t.y t.z t.reactions t.reactions' (old_covers t) (stand t) t.puts in
+    let covers = covers_both (length t.rows) (length t.both.middle) (length t.rows') t.y t.z t.reactions t.reactions' (old_covers t) (row_places t) t.puts in
     let count = new_count t in
     record {
       names = names_apart t;

@@ -59,11 +59,11 @@ in_ends (x ∷ rs) r (inl e) = (inl (ap (λ (t : ℕ × ℕ). t.0) e), inr (inl 
 in_ends (x ∷ rs) r (inr h) = let p = in_ends rs r h in (inr (inr p.0), inr (inr p.1))
 
 -- the places of both rows
-pub record Stand (before middle after y z : ℕ) : Type 0 where
+pub record RowPlaces (before middle after y z : ℕ) : Type 0 where
   pub first : ((y < before) × (middle ≡ before)) ⊎ ((y ≡ before) × (middle ≡ before + 1))
   pub second : ((z < middle) × (after ≡ middle)) ⊎ ((z ≡ middle) × (after ≡ middle + 1))
 
-pub covers_both : (before middle after y z : ℕ) (rs rs' : List (ℕ × ℕ)) → Covers before (ends rs) → Stand before middle after y z → Puts rs (y, z) rs' → Covers after (ends rs')
+pub covers_both : (before middle after y z : ℕ) (rs rs' : List (ℕ × ℕ)) → Covers before (ends rs) → RowPlaces before middle after y z → Puts rs (y, z) rs' → Covers after (ends rs')
 covers_both before middle after y z rs rs' h s (inl p) =
     let i = in_ends rs (y, z) p.0 in
     let ly = h.below y i.0 in

@@ -3,14 +3,14 @@ ghost use Rattle.std.specs.Prelude.{◌<◌, ◌^◌};
 // How many guesses there are. Of 60 names few share one.
 const SIZE: usize = 1024;
 
-// Guesses where the entries of a table stand, each under a mark of the entry. Entries may share a mark, so a guess
-// may be wrong: whoever asks looks whether the entry stands there, and in the table itself where it does not.
+// Guesses where the entries of a table are, each under a mark of the entry. Entries may share a mark, so a guess
+// may be wrong: whoever asks looks whether the entry is there, and in the table itself where it does not.
 #[derive(Drop)]
 pub(crate) struct Guesses {
     places: [u8; SIZE],
 }
 
-// Where the guess for a mark stands. Near marks are spread over all places.
+// Where the guess for a mark is. Near marks are spread over all places.
 fn slot(mark: usize) -> usize
     ensures { result < SIZE }
 {

@@ -35,8 +35,8 @@ impl Name {
         ensures { result ≡ name.now }
     {
         let mut bytes = [0u8; MAX_NAME];
-        let (front, _) = bytes.split_at_mut(name.len());
-        front.copy_from_slice(name);
+        let (prefix, _) = bytes.split_at_mut(name.len());
+        prefix.copy_from_slice(name);
         Name {
             bytes,
             size: name.len(),
@@ -46,8 +46,8 @@ impl Name {
     pub(crate) fn as_slice(&self) -> &[u8]
         ensures { result.now ≡ self.now }
     {
-        let (front, _) = self.bytes.split_at(self.size);
-        front
+        let (prefix, _) = self.bytes.split_at(self.size);
+        prefix
     }
 }
 

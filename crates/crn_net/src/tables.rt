@@ -16,10 +16,10 @@ use crate::term::Term;
 use crn_vec::{MAX_COMPLEXES, MAX_NAME, MAX_REACTIONS, MAX_SPECIES};
 use std::alloc::{AllocError, Global};
 
-// Whether a name stands at a place.
+// Whether a name is at a place.
 fn is_name_at(names: &Names, place: usize, name: &[u8]) -> bool
-    ensures { let stands = slice_index_or names.now.keys place [] ≡ name.now in
-        IsTrue result → (place < length names.now.keys) × stands }
+    ensures { let is_there = slice_index_or names.now.keys place [] ≡ name.now in
+        IsTrue result → (place < length names.now.keys) × is_there }
 {
     place < names.len() && are_same(names.as_slice()[place].as_slice(), name)
 }
@@ -170,10 +170,10 @@ fn add_row(rows: &mut Complexes, row: Amounts) -> Result<usize, NetFault>
     Ok(place)
 }
 
-// Whether a row stands at a place.
+// Whether a row is at a place.
 fn is_row_at(rows: &Complexes, place: usize, row: &Amounts) -> bool
-    ensures { let stands = slice_index_or rows.now.keys place row.now ≡ row.now in
-        IsTrue result → (place < length rows.now.keys) × stands }
+    ensures { let is_there = slice_index_or rows.now.keys place row.now ≡ row.now in
+        IsTrue result → (place < length rows.now.keys) × is_there }
 {
     place < rows.len() && rows.as_slice()[place] == *row
 }
@@ -222,10 +222,10 @@ fn add_reaction(
     Ok(())
 }
 
-// Whether a reaction stands at a place.
+// Whether a reaction is at a place.
 fn is_reaction_at(reactions: &[(usize, usize)], place: usize, reaction: (usize, usize)) -> bool
-    ensures { let stands = slice_index_or reactions.now place reaction ≡ reaction in
-        IsTrue result → (place < length reactions.now) × stands }
+    ensures { let is_there = slice_index_or reactions.now place reaction ≡ reaction in
+        IsTrue result → (place < length reactions.now) × is_there }
 {
     place < reactions.len() && reactions[place].0 == reaction.0 && reactions[place].1 == reaction.1
 }

@@ -121,15 +121,15 @@ filter_picked t ms zero le = refl
 filter_picked t ms (suc k) le =
     let x = at ms k in
     let p : ℕ → Bool = λ k. t (at ms k) in
-    let front = filter t (take k ms) in
-    let more : filter t (take (suc k) ms) ≡ front ++ cond (t x) (x ∷ []) [] = ap (λ (n : ℕ). filter t (take n ms)) (let e : suc k ≡ k + 1 = omega arith in e) ∙ filter_more t ms k 0 (omega (arith, le)) in
+    let prefix = filter t (take k ms) in
+    let more : filter t (take (suc k) ms) ≡ prefix ++ cond (t x) (x ∷ []) [] = ap (λ (n : ℕ). filter t (take n ms)) (let e : suc k ≡ k + 1 = omega arith in e) ∙ filter_more t ms k 0 (omega (arith, le)) in
     let rest = filter_picked t ms k (omega (arith, le)) in
     elim (cases_Bool (t x)) as (λ _. filter t (take (suc k) ms) ≡ map (at ms) (picked p (suc k))) [
       | inl yes' ↦
-          more ∙ ap (λ (b : Bool). front ++ cond b (x ∷ []) []) yes' ∙ ap (λ (l : List ℕ). l ++ x ∷ []) rest
+          more ∙ ap (λ (b : Bool). prefix ++ cond b (x ∷ []) []) yes' ∙ ap (λ (l : List ℕ). l ++ x ∷ []) rest
           ∙ sym (map-append (at ms) (picked p k) (k ∷ [])) ∙ ap (map (at ms)) (sym (suc_yes p k yes'))
       | inr no' ↦
-          more ∙ ap (λ (b : Bool). front ++ cond b (x ∷ []) []) no' ∙ append_none front ∙ rest ∙ ap (map (at ms)) (sym (suc_no p k no'))
+          more ∙ ap (λ (b : Bool). prefix ++ cond b (x ∷ []) []) no' ∙ append_none prefix ∙ rest ∙ ap (map (at ms)) (sym (suc_no p k no'))
     ]
   where
     append_none : (xs : List ℕ) → xs ++ [] ≡ xs

@@ -25,7 +25,7 @@ abbrev pub member_matrix : Net → List ℕ → Mat
 member_matrix net members = record { cols = length net.names; rows = vectors_of net members }
 
 -- a proof of the rank of the members' vectors: it has its form, its tests hold wherever its records
--- stand, and the number of its base is the rank
+-- are, and the number of its base is the rank
 pub record ProvesRank (net : Net) (members : List ℕ) (proof : RankProof) : Type 0 where
   pub formed : IsRankProof net members (length proof.base.list) proof
   pub holds : (part : ℕ)

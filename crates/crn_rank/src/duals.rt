@@ -16,8 +16,8 @@ fn at_columns(alloc: Global, tableau: &Tableau, list: &[i128]) -> Result<Ints, N
     requires { length list.now ≡ width tableau.now.matrix }
     ensures { IfOk result (λ made. made.list ≡ take tableau.now.matrix.cols list.now) }
 {
-    let (front, _) = list.split_at(tableau.cols());
-    Ints::from_slice(alloc, front)
+    let (prefix, _) = list.split_at(tableau.cols());
+    Ints::from_slice(alloc, prefix)
 }
 
 // The dual of the member of row k, whose coordinate is in the basis.

@@ -177,12 +177,12 @@ padded_same a g k s = elim (lt_or k a.cols) as (λ _. entry (padded a g) k ≡ e
 
 padded_in : (a : Mat) (g : List ℤ) → IsSolution a g → InRowSpace a (padded a g)
 padded_in a g s =
-    let front : take a.cols (padded a g) ≡ g = ap (λ (n : ℕ). take n (padded a g)) (sym s.long) ∙ take-append_seam g (zeros (length a.rows)) in
+    let prefix : take a.cols (padded a g) ≡ g = ap (λ (n : ℕ). take n (padded a g)) (sym s.long) ∙ take-append_seam g (zeros (length a.rows)) in
     record {
       long = let l : length (padded a g) ≡ width a = omega (arith, length-append g (zeros (length a.rows)), length-zeros (length a.rows), s.long) in l;
       is = λ i lt.
           let row = get_or a.rows i [] in
-          padded_past a g (a.cols + i) s (omega arith) ∙ sym (ap (dot row) front ∙ s.zero row (at_in a.rows i [] lt));
+          padded_past a g (a.cols + i) s (omega arith) ∙ sym (ap (dot row) prefix ∙ s.zero row (at_in a.rows i [] lt));
     }
 
 -- if no column is in the basis, only zero is a solution

@@ -30,8 +30,8 @@ fn at_columns(alloc: Global, tableau: &Tableau, list: &[i128]) -> Result<Ints, N
     requires { length list.now ≡ width tableau.now.matrix }
     ensures { IfOk result (λ made. made.list ≡ take tableau.now.matrix.cols list.now) }
 {
-    let (front, _) = list.split_at(tableau.cols());
-    Ints::from_slice(alloc, front)
+    let (prefix, _) = list.split_at(tableau.cols());
+    Ints::from_slice(alloc, prefix)
 }
 
 /// The entries at the columns of the vector that the basis names by a column in it, after the rows have entered.

@@ -111,7 +111,7 @@ sound_tight net (q ∷ qs) (v ∷ vs) h = (true_tight net q v h.0, sound_tight n
 pub checked : ReadDocumentsAreGood → (text : List ℕ) (net : Net) (blocks : List (List Record)) (vs : List Verdict) → IsReadOf text (record { net = net; blocks = blocks }) → map tight vs ≡ verdicts_in net blocks
     → AreSound net built vs → IsCheckOf text (render built net vs)
 checked same text net blocks vs is said sound =
-    let (good, net_is, fronts, says) = same text (record { net = net; blocks = blocks }) is in
+    let (good, net_is, prefixes, says) = same text (record { net = net; blocks = blocks }) is in
     subst (λ (out : List ℕ). IsCheckOf text out) (ap (λ (ws : List Verdict). render built net ws) (sym said) ∙ render_tight net vs)
     (checked_of text net blocks good net_is says (subst (λ (ws : List Verdict). AreSound net built ws) said (sound_tight net built vs sound)))
 
@@ -155,5 +155,5 @@ valid_formed (q ∷ qs) known (rs ∷ more) (p, formed, valid, rest) = (p, forme
 pub read_formed : ReadDocumentsAreGood → (text : List ℕ) (net : Net) (blocks : List (List Record)) → IsReadOf text (record { net = net; blocks = blocks })
     → (answers : List (List Record)) × AreFormedOf net answers × (verdicts_in net answers ≡ verdicts_in net blocks)
 read_formed same text net blocks is =
-    let (good, net_is, fronts, says) = same text (record { net = net; blocks = blocks }) is in
+    let (good, net_is, prefixes, says) = same text (record { net = net; blocks = blocks }) is in
     (good.answers, subst (λ (n : Net). AreFormedOf n good.answers) net_is (valid_formed built (meaning.start good.net) good.answers good.valid), says)

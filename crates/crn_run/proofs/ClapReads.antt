@@ -222,7 +222,7 @@ says_budget ask c o v words rows w first second third g =
     let is : c ≡ ask.name = let h = sym first ∙ g.0 in cc in
     inr (v, subst ask.budget_is third g.2, subst (λ (plain : List Text). AreWithBudget plain v words) (ap₂ words_of is (sym second ∙ g.1)) w)
 
--- the option stands between these words
+-- the option is between these words
 among : (before given after words : List Text) (v : Text) → WriteBudget v given → words ≡ before ++ (given ++ after) → AreWithBudget (before ++ after) v words
 among before given after words v writes e = record { before = before; after = after; budget = given; parts = refl; writes = writes; whole = e }
 

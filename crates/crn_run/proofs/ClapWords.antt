@@ -1,4 +1,4 @@
--- What clap makes of one word, by what the word is: the option, the option with its value, a word that is refused wherever it stands, or a value.
+-- What clap makes of one word, by what the word is: the option, the option with its value, a word that is refused wherever it is, or a value.
 -- The bytes of a word need not be UTF-8: a flag word with no first character is a value to clap's pure walk.
 use Rattle.std.proofs.Common.{◌≡◌, ◌⊎◌, ◌++◌, ℕ, ◌==◌, Bool, true, false, List, [], ◌∷◌, length, Option, Some, None, refl, sym, ap, ◌∙◌, ◌&&◌, ◌||◌, drop, take, not, cond, ◌+◌, one-add, subst, inl, inr, codes, ne_eqb}
 use Rattle.std.specs.Prelude.{if◌then◌else◌, option_and_then, unwrap_or, slice_get, encode_utf8}
@@ -94,7 +94,7 @@ joined_walked rows p positional pos v = refl
 abbrev pub help_built : Rule
 help_built = unwrap_or (arg_by_long rules (codes "help")) (new_rule [])
 
--- ---- a word that clap refuses wherever it stands, and one that is a value wherever it stands
+-- ---- a word that clap refuses wherever it is, and one that is a value wherever it is
 
 abbrev pub IsBad : Text → Type 0
 IsBad word = (rows : List Row) (p : Option (Text × List Text)) (w : Waiting) (pos : ℕ) → turn_fault shape [] (at rows p w pos) word ≡ [] → ⊥
@@ -131,7 +131,7 @@ value_of word d l s = value_by word d l
     (λ rows p. ap (λ (o : Option Text). option_map_or (λ flags. bundle_fault rules false flags (holding rows p)) o []) s)
     (λ rows p v. ap (λ (o : Option Text). short_or_plain rules v word o (holding rows p)) s)
 
--- a flag word that has a fault wherever it stands
+-- a flag word that has a fault wherever it is
 bad_of : (word : Text) → ((rows : List Row) (p : Option (Text × List Text)) → other_fault shape None word (holding rows p) ≡ [] → ⊥) → IsBad word
 bad_of word faulty rows p idle pos e = faulty rows p (first_none _ _ e)
 bad_of word faulty rows p (option id) pos e = faulty rows p (first_none _ _ e)

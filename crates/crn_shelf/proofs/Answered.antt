@@ -20,7 +20,7 @@ use Rattle.crn_vec.specs.Problems.{Signed}
 use Rattle.crn_vec.specs.Concordance.{sign}
 use Rattle.crn_vec.specs.Signals.{Pair, Shape, complex_row, pair_row, shelf_matrix, signals}
 use Rattle.crn_vec.specs.NetSignals.{IsSignalOf, HasNoSignal, IsShapeOf, opposite_pair, opposite_shape}
-use Rattle.crn_vec.proofs.CallerLemmas.{all_at, length-scale, number_is_one, strong_back, strong_then, confluence_vectors_are_one, signals_are_steady, shapes_are_one, multiples_share_signals, signals_stand, signals_are_of_shape, negatives_have_opposite_shapes}
+use Rattle.crn_vec.proofs.CallerLemmas.{all_at, length-scale, number_is_one, strong_back, strong_then, confluence_vectors_are_one, signals_are_steady, shapes_are_one, multiples_share_signals, signals_feasible, signals_are_of_shape, negatives_have_opposite_shapes}
 use Rattle.crn_vec.proofs.CallerLemmas.{rows_count}
 use Rattle.crn_cert.specs.declared.answer.Answer.{Answer}
 use Rattle.crn_cert.specs.declared.answer.Verdict.TheVariants.{YesSignal}
@@ -123,7 +123,7 @@ tree_for net earlier g budget tree n known even e =
 pub no_signal : (net : Net) (g : List ℤ) (budget : ℕ) (tree : Tree) → IsNetwork net → IsRegular net → EndsFor net g budget (Refuted tree) → HasNoSignal net g
 no_signal net g budget tree n regular e shelves mu level weights sg =
     let m = reaction_system net in
-    let at = signals_stand net g e.0 n regular e.1 shelves mu level weights sg in
+    let at = signals_feasible net g e.0 n regular e.1 shelves mu level weights sg in
     leaves_nothing (signals e.0 m) (signals_are_steady e.0 m) (plan tree) [] at.0 e.2.0.valid at.1 at.2
 
 -- if g has no signal, and its negative has none in a weakly reversible network, no confluence vector has one

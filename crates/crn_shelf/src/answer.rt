@@ -48,7 +48,7 @@ fn shelf_numbers(alloc: Global, shelves: &[Sign]) -> Result<Ints, NoMemory>
     Ok(numbers)
 }
 
-// The yes of a full standing prefix and of the solutions of its parts.
+// The yes of a full feasible prefix and of the solutions of its parts.
 fn found_answer(
     alloc: Global,
     net: &Network,

@@ -62,13 +62,13 @@ row_plus : (a : Mat) (v w : List ℤ) → InRowSpace a v → InRowSpace a w → 
 row_plus a v w h k =
     let same : length v ≡ length w = h.long ∙ sym k.long in
     let n = a.cols in
-    let fronts : length (take n v) ≡ length (take n w) = length-take-le n v (omega (arith, h.long)) ∙ sym (length-take-le n w (omega (arith, k.long))) in
+    let prefixes : length (take n v) ≡ length (take n w) = length-take-le n v (omega (arith, h.long)) ∙ sym (length-take-le n w (omega (arith, k.long))) in
     record {
       long = length-plus v w same ∙ h.long;
       is = λ i lt.
           let r = get_or a.rows i [] in
           entry-plus v w (n + i) same ∙ ap₂ (λ (x y : ℤ). x +ℤ y) (h.is i lt ∙ dot-comm r (take n v)) (k.is i lt ∙ dot-comm r (take n w))
-          ∙ sym (dot-plus (take n v) (take n w) r fronts) ∙ dot-comm (plus (take n v) (take n w)) r ∙ ap (dot r) (sym (take-plus n v w));
+          ∙ sym (dot-plus (take n v) (take n w) r prefixes) ∙ dot-comm (plus (take n v) (take n w)) r ∙ ap (dot r) (sym (take-plus n v w));
     }
 
 -- p times v plus q times w

@@ -12,14 +12,14 @@ use Rattle.crn_vec.specs.Vectors.{entry}
 use Rattle.crn_vec.proofs.CallerLemmas.{cuts_exclude_solutions}
 use Rattle.crn_farkas.specs.Decision.{IsSmallCut}
 use Rattle.crn_cert.specs.declared.tree.Tree.{Tree}
-use Rattle.crn_vec.specs.Problems.{Signed, IsFull, Stands, children, all_zero, options_below, SolvesA, SolvesB}
+use Rattle.crn_vec.specs.Problems.{Signed, IsFull, IsFeasible, children, all_zero, options_below, SolvesA, SolvesB}
 use Rattle.crn_vec.specs.Visits.{Visits, over, fallen, ended, opened, Passes, begun, below}
 use Rattle.crn_cert.specs.Trees.{Plan, Both, Three, RulesA, RulesB, Level, plan, places}
 use Rattle.crn_cert.specs.Ranges.{IsNarrow}
 use Rattle.crn_vec.proofs.CallerLemmas.{visits_then, visits_ended, passes_at, passes_first, passes_then}
 use Rattle.crn_sign.specs.declared.end.SearchEnd.{SearchEnd}
 use Rattle.crn_sign.specs.declared.end.SearchEnd.TheVariants.{Found, Refuted, Spent}
-use Rattle.crn_sign.specs.Search.{IsStanding, IsTreeAt}
+use Rattle.crn_sign.specs.Search.{IsFeasibleBy, IsTreeAt}
 use Rattle.crn_sign.specs.Inner.Walk.{EndsWith, EndsWithout, RunsOut, EndsAt, BelowRoot, EndsBelow, IsFoundAt}
 
 -- another thing that follows from what is known of an Ok
@@ -32,7 +32,7 @@ ok_then P Q S (Err s) f h = h
 pub run_out : (w : Signed) (p : List Sign) (left : ℕ) → left ≡ 0 → RunsOut w (p ∷ []) left left
 run_out w p left e = record { passes = passes_at w (p ∷ []) 0 left (sym e) begun; none = e }
 
-leaf : (w : Signed) (p : List Sign) (left after : ℕ) → after + 1 ≡ left → ¬ (Stands w p) → EndsWithout w (p ∷ []) (p ∷ []) left after
+leaf : (w : Signed) (p : List Sign) (left after : ℕ) → after + 1 ≡ left → ¬ (IsFeasible w p) → EndsWithout w (p ∷ []) (p ∷ []) left after
 leaf w p left after e n = record { visits = fallen n over; count = omega (arith, e) }
 
 pub flat_at : (w : Signed) (p : List Sign) (left after : ℕ) → after + 1 ≡ left → w.closed p ≡ true → IsTreeAt w p Level × EndsWithout w (p ∷ []) (p ∷ []) left after
@@ -48,18 +48,18 @@ cut_a_at w p u left after e c = (record { valid = c.cut; narrow = narrow_from u 
 pub cut_b_at : (w : Signed) (p : List Sign) (u : List ℤ) (left after : ℕ) → after + 1 ≡ left → IsSmallCut w.matrix_b (w.kinds_b p) u → IsTreeAt w p (RulesB u) × EndsWithout w (p ∷ []) (p ∷ []) left after
 cut_b_at w p u left after e c = (record { valid = c.cut; narrow = narrow_from u c.small }, leaf w p left after e (λ s. cuts_exclude_solutions w.matrix_b (w.kinds_b p) u s.part_b.0 c.cut s.part_b.1))
 
-stands_by : (w : Signed) (p : List Sign) (a b : List ℤ) → IsStanding w p a b → Stands w p
-stands_by w p a b s = record { opened = s.opened; part_a = (a, (s.part_a.v, s.part_a.solves)); part_b = (b, (s.part_b.v, s.part_b.solves)) }
+feasible_by : (w : Signed) (p : List Sign) (a b : List ℤ) → IsFeasibleBy w p a b → IsFeasible w p
+feasible_by w p a b s = record { opened = s.opened; part_a = (a, (s.part_a.v, s.part_a.solves)); part_b = (b, (s.part_b.v, s.part_b.solves)) }
 
 pub found_at : (w : Signed) (p : List Sign) (left after : ℕ) (e : SearchEnd) → after + 1 ≡ left → IsFoundAt w p e → EndsAt w p left after e
 found_at w p left after (Found q a b) n h =
-    let C : List Sign → Type 0 = λ t. IsStanding w t a.list b.list × EndsWith w (p ∷ []) left after t in
-    subst C (sym h.0) (h.1, record { before = []; visits = ended (stands_by w p a.list b.list h.1) h.1.full; count = omega (arith, n) })
+    let C : List Sign → Type 0 = λ t. IsFeasibleBy w t a.list b.list × EndsWith w (p ∷ []) left after t in
+    subst C (sym h.0) (h.1, record { before = []; visits = ended (feasible_by w p a.list b.list h.1) h.1.full; count = omega (arith, n) })
 found_at w p left after (Refuted t) n h = absurd h
 found_at w p left after Spent n h = absurd h
 
--- from what is visited below a standing prefix to what is visited with it
-pub opened_at : (w : Signed) (p : List Sign) (left mid after : ℕ) (e : SearchEnd) → mid + 1 ≡ left → Stands w p → ¬ (IsFull w p) → EndsBelow w p mid after e → EndsAt w p left after e
+-- from what is visited below a feasible prefix to what is visited with it
+pub opened_at : (w : Signed) (p : List Sign) (left mid after : ℕ) (e : SearchEnd) → mid + 1 ≡ left → IsFeasible w p → ¬ (IsFull w p) → EndsBelow w p mid after e → EndsAt w p left after e
 opened_at w p left mid after (Found q a b) n s f h = (
   h.0,
   record {
@@ -86,7 +86,7 @@ opened_at w p left mid after Spent n s f h = record {
 
 -- an end other than a tree
 abbrev pub EndsEarly : Signed → List (List Sign) → ℕ → ℕ → SearchEnd → Type 0
-EndsEarly w due left after (Found q a b) = IsStanding w q a.list b.list × EndsWith w due left after q
+EndsEarly w due left after (Found q a b) = IsFeasibleBy w q a.list b.list × EndsWith w due left after q
 EndsEarly w due left after (Refuted t) = ⊥
 EndsEarly w due left after Spent = RunsOut w due left after
 
@@ -197,6 +197,6 @@ three_trees w p z q m left mid high after lt some zt qt mt =
       },
     )
 
--- a prefix that is not closed, and neither of whose parts is ruled out, stands
-pub stands_from : (w : Signed) (p q : List Sign) → q ≡ p → w.closed p ≡ false → ((x : List ℤ) × SolvesB w p x) → ((x : List ℤ) × SolvesA w q x) → Stands w p
-stands_from w p q e c b a = record { opened = c; part_a = (a.0, subst (λ (t : List Sign). SolvesA w t a.0) e a.1); part_b = b }
+-- a prefix that is not closed, and neither of whose parts is ruled out, is feasible
+pub feasible_from : (w : Signed) (p q : List Sign) → q ≡ p → w.closed p ≡ false → ((x : List ℤ) × SolvesB w p x) → ((x : List ℤ) × SolvesA w q x) → IsFeasible w p
+feasible_from w p q e c b a = record { opened = c; part_a = (a.0, subst (λ (t : List Sign). SolvesA w t a.0) e a.1); part_b = b }

@@ -15,8 +15,8 @@ use Rattle.crn_sign.specs.declared.end.SearchEnd.TheVariants.{Found, Refuted, Sp
 use Rattle.crn_sign.specs.declared.fault.SearchStop.{SearchStop}
 use Rattle.crn_sign.specs.declared.fault.SearchStop.TheVariants.{WideA, WideB, NoMemory}
 
--- a full prefix that stands, with solutions of its parts, whose coordinates are below the bound
-pub record IsStanding (w : Signed) (q : List Sign) (a b : List ℤ) : Type 0 where
+-- a full feasible prefix, with solutions of its parts, whose coordinates are below the bound
+pub record IsFeasibleBy (w : Signed) (q : List Sign) (a b : List ℤ) : Type 0 where
   pub full : IsFull w q
   pub opened : w.closed q ≡ false
   pub part_a : IsSmallSolution w.matrix_a (w.kinds_a q) a
@@ -27,10 +27,10 @@ pub record IsTreeAt (w : Signed) (p : List Sign) (tree : Plan) : Type 0 where
   pub valid : IsValid w p tree
   pub narrow : AreNarrow tree
 
--- the search ends with the first full standing prefix and solutions of its parts, or with a valid
+-- the search ends with the first full feasible prefix and solutions of its parts, or with a valid
 -- tree that has one node for each visit in their order, or because the visits exceed the budget
 abbrev pub IsSearchEnd : Signed → ℕ → SearchEnd → Type 0
-IsSearchEnd w budget (Found q a b) = IsStanding w q a.list b.list
+IsSearchEnd w budget (Found q a b) = IsFeasibleBy w q a.list b.list
     × (before : List (List Sign)) × IsVisitList w (before ++ q ∷ []) true
     × (length (before ++ q ∷ []) ≤ budget)
 IsSearchEnd w budget (Refuted tree) = IsTreeAt w [] (plan tree)

@@ -5,7 +5,7 @@ use crn_vec::Ints;
 /// How a search ended.
 #[derive(Drop)]
 pub enum SearchEnd {
-    /// The first full standing prefix, with solutions of both its parts.
+    /// The first full feasible prefix, with solutions of both its parts.
     Found {
         /// The options of the prefix.
         pattern: Signs,
@@ -14,7 +14,7 @@ pub enum SearchEnd {
         /// Numbers of the columns of part B's matrix.
         b: Ints,
     },
-    /// A tree that shows that no full prefix stands.
+    /// A tree that shows that no full prefix is feasible.
     Refuted(Tree),
     /// The visits exceed the budget.
     Spent,

@@ -1,4 +1,4 @@
-//! The search of a sign problem: a full standing prefix, or a tree that shows that none stands.
+//! The search of a sign problem: a full feasible prefix, or a tree that shows that none is feasible.
 #![tactic(auto)]
 
 mod end;

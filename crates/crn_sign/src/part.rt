@@ -12,7 +12,7 @@ ghost use Rattle.crn_sign.specs.Inner.Parts.{AreLevels, IsFinder, IsPart, IsRuli
 use crate::marks::{Mark, all_suit, clear, lay, put_zeros, suits};
 use crate::past::{Past, PastCuts, empty_cuts, first_again, keep_cut, share};
 use crate::pool::Pool;
-use crn_farkas::{Alternative, Cut, Decision, Solver, Standing, Stop};
+use crn_farkas::{Alternative, Cut, Decision, Feasibility, Solver, Stop};
 use crn_vec::{Ints, Kind, Matrix, NoMemory, Sign, cuts_exclude_solutions, is_asked, opposite};
 use std::alloc::Global;
 use std::rc::Rc;
@@ -115,7 +115,7 @@ impl Finder {
         self.pool.keep(alloc, matrix, &self.negatives)
     }
 
-    // Asks the solver for a vector that g needs, or for one by which the system falls.
+    // Asks the solver for a vector that g needs, or for one by which the system has no solution.
     fn ask(
         &mut self,
         alloc: Global,
@@ -207,7 +207,7 @@ impl Finder {
         self.raise(alloc, matrix, kinds, marks, g)
     }
 
-    // Sees to the signs of the misfits, or finds a vector by which the system falls.
+    // Sees to the signs of the misfits, or finds a vector by which the system has no solution.
     fn raise_misfits(
         &mut self,
         alloc: Global,
@@ -238,7 +238,7 @@ impl Finder {
         Ok(None)
     }
 
-    // Sees to the signs of all coordinates, or finds a vector by which the system falls.
+    // Sees to the signs of all coordinates, or finds a vector by which the system has no solution.
     fn raise_all(
         &mut self,
         alloc: Global,
@@ -367,7 +367,7 @@ impl Finder {
         true
     }
 
-    // Changes the marked vector until it suits the kinds, or finds a vector by which the system falls.
+    // Changes the marked vector until it suits the kinds, or finds a vector by which the system has no solution.
     fn seek(
         &mut self,
         alloc: Global,
@@ -484,7 +484,7 @@ impl Part {
         Ok(None)
     }
 
-    // The multipliers of the vector by which the system falls. They are kept.
+    // The multipliers of the vector by which the system has no solution. They are kept.
     fn learn_cut(
         &mut self,
         alloc: Global,
@@ -574,9 +574,11 @@ impl Part {
         if self.is_met(matrix, kinds, depth) {
             return Ok(None);
         }
-        match self.finder.solver.stands(kinds)? {
-            Standing::Stands => Ok(None),
-            Standing::Falls(cut) => { Ok(Some(self.learn_cut(alloc, matrix, kinds, &cut, depth)?)) }
+        match self.finder.solver.feasibility(kinds)? {
+            Feasibility::Solvable => Ok(None),
+            Feasibility::Unsolvable(cut) => {
+                Ok(Some(self.learn_cut(alloc, matrix, kinds, &cut, depth)?))
+            }
         }
     }
 

@@ -36,7 +36,7 @@ pub trait SignProblem {
         requires room { length into.old ≡ width (signed self.now).matrix_b }
         ensures { into.new ≡ (signed self.now).kinds_b prefix.now };
 
-    /// Whether the options alone exclude that the prefix, or one that it begins, stands.
+    /// Whether the options alone exclude that the prefix, or one that it begins, is feasible.
     fn closed(&self, prefix: &[Sign]) -> bool
         requires { IsPrefix (signed self.now) prefix.now }
         ensures { result ≡ (signed self.now).closed prefix.now };

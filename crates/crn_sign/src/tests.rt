@@ -244,7 +244,7 @@ fn outcome(end: &Result<SearchEnd, SearchStop>) -> u64 {
     }
 }
 
-// By hand: the empty prefix, 0, 00, 0+, +, +0, ++ and +- are visited, and no full prefix stands.
+// By hand: the empty prefix, 0, 00, 0+, +, +0, ++ and +- are visited, and no full prefix is feasible.
 #[test]
 fn eight_visits_refute_and_seven_do_not(rt: HostRuntime) {
     let exchange = Exchange::new(rt.alloc()).expect(&rt, "memory");

@@ -3,7 +3,7 @@ ghost use Rattle.crn_vec.specs.Systems.{IsSolution};
 ghost use Rattle.crn_vec.specs.Kept.{KeptInts};
 ghost use Rattle.crn_vec.specs.declared.limits.TheConstants.{MAX_BUDGET};
 ghost use Rattle.crn_vec.specs.Elementary.{NamesWide};
-ghost use Rattle.crn_vec.specs.Problems.{IsFull, Stands, all_zero};
+ghost use Rattle.crn_vec.specs.Problems.{IsFull, IsFeasible, all_zero};
 ghost use Rattle.crn_sign.specs.Search.{IsSearchEnd, IsSearchStop};
 ghost use Rattle.crn_sign.specs.Inner.Walk.{EndsAt, EndsBelow, IsFoundAt, IsWideA, IsWideB};
 ghost use Rattle.crn_sign.specs.Inner.Parts.{IsRuling};
@@ -120,7 +120,7 @@ fn rule_out_b<P: SignProblem>(
     }
 }
 
-// The full prefix, which stands, with solutions of its parts.
+// The full prefix, which is feasible, with solutions of its parts.
 fn found_end<P: SignProblem>(
     alloc: Global,
     problem: &P,
@@ -128,7 +128,7 @@ fn found_end<P: SignProblem>(
 ) -> Result<SearchEnd, SearchStop>
     requires ready { IsReady (P.signed problem.now) search.old }
     requires full { IsFull (P.signed problem.now) search.old.prefix.items }
-    requires stands { Stands (P.signed problem.now) search.old.prefix.items }
+    requires feasible { IsFeasible (P.signed problem.now) search.old.prefix.items }
     requires kinds_a { search.old.kinds_a.items
         ≡ (P.signed problem.now).kinds_a search.old.prefix.items }
     requires kinds_b { search.old.kinds_b.items
@@ -184,7 +184,7 @@ fn child<P: SignProblem>(
     Ok(end)
 }
 
-// Visits the children of a standing prefix that is not full, and all that is visited below them.
+// Visits the children of a feasible prefix that is not full, and all that is visited below them.
 #[cycle(walk)]
 fn split<P: SignProblem>(
     alloc: Global,
@@ -288,9 +288,9 @@ pub(crate) fn start<P: SignProblem>(
     })
 }
 
-/// Searches for a full standing prefix, with at most so many visits.
+/// Searches for a full feasible prefix, with at most so many visits.
 ///
-/// Its answer is the first full standing prefix of the visit list, or a tree with one node for each
+/// Its answer is the first full feasible prefix of the visit list, or a tree with one node for each
 /// visit, in their order, or `Spent`. It keeps one solver for each part, and before it asks them it
 /// tries what they gave at other prefixes: multipliers, and vectors that add up to solutions.
 pub fn search<P: SignProblem>(

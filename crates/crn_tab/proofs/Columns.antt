@@ -21,9 +21,9 @@ cancel_left a x y ne e =
     omega (arith, ints, no_zero a (x -ℤ y) none ne)
 
 -- what holds place by place holds of the first n places
-front : (n : ℕ) (p q t : ℤ) (w v z : List ℤ) → n ≤ length w → n ≤ length v → n ≤ length z → ((k : ℕ) → entry z k *ℤ t ≡ (p *ℤ entry w k) -ℤ (q *ℤ entry v k))
+first_entries : (n : ℕ) (p q t : ℤ) (w v z : List ℤ) → n ≤ length w → n ≤ length v → n ≤ length z → ((k : ℕ) → entry z k *ℤ t ≡ (p *ℤ entry w k) -ℤ (q *ℤ entry v k))
     → (k : ℕ) → entry (take n z) k *ℤ t ≡ (p *ℤ entry (take n w) k) -ℤ (q *ℤ entry (take n v) k)
-front n p q t w v z lw lv lz h k = elim (lt_or k n) as (λ _. entry (take n z) k *ℤ t ≡ (p *ℤ entry (take n w) k) -ℤ (q *ℤ entry (take n v) k)) [
+first_entries n p q t w v z lw lv lz h k = elim (lt_or k n) as (λ _. entry (take n z) k *ℤ t ≡ (p *ℤ entry (take n w) k) -ℤ (q *ℤ entry (take n v) k)) [
   | inl lt ↦ rw (get_or-take n z k (pos 0) lt, get_or-take n w k (pos 0) lt, get_or-take n v k (pos 0) lt) (h k)
   | inr le ↦ none_left p q t (entry (take n z) k) (entry (take n w) k) (entry (take n v) k)
       (past_end (take n z) k (omega (arith, length-take-le n z lz)))
@@ -50,7 +50,7 @@ row_combined a p q t w v z ne rw_is rv_is e h = record {
       let lz : n ≤ length z = omega (arith, e) in
       let dots : dot (take n z) r *ℤ t ≡ (p *ℤ dot (take n w) r) -ℤ (q *ℤ dot (take n v) r) =
       dot_combined p q t (take n w) (take n v) (take n z) r
-      (omega (arith, length-take-le n w lw, length-take-le n v lv)) (omega (arith, length-take-le n w lw, length-take-le n z lz)) (front n p q t w v z lw lv lz h) in
+      (omega (arith, length-take-le n w lw, length-take-le n v lv)) (omega (arith, length-take-le n w lw, length-take-le n z lz)) (first_entries n p q t w v z lw lv lz h) in
       let both : (p *ℤ entry w (n + i)) -ℤ (q *ℤ entry v (n + i)) ≡ (p *ℤ dot r (take n w)) -ℤ (q *ℤ dot r (take n v)) =
       ap (λ (x : ℤ). (p *ℤ x) -ℤ (q *ℤ entry v (n + i))) (rw_is.is i lt) ∙ ap (λ (x : ℤ). (p *ℤ dot r (take n w)) -ℤ (q *ℤ x)) (rv_is.is i lt) in
       same_quotient t (entry z (n + i)) (dot r (take n z)) ((p *ℤ entry w (n + i)) -ℤ (q *ℤ entry v (n + i))) ((p *ℤ dot r (take n w)) -ℤ (q *ℤ dot r (take n v))) ne

@@ -1,4 +1,4 @@
--- Rows that stand in one list.
+-- Rows that are in one list.
 use Rattle.std.proofs.Common.{◌≡◌, ◌≢◌, ℕ, zero, suc, ◌+◌, ◌*◌, ◌<◌, ◌≤◌, ◌⊎◌, inl, inr, List, [], ◌∷◌, ◌++◌, length, take, drop, refl, sym, ap, ◌∙◌, arith}
 use Rattle.std.specs.Prelude.{ℤ, pos}
 use Rattle.std.proofs.lemmas.List.{get_or-take, get_or-drop, length-take, length-drop, length-append}
@@ -9,30 +9,30 @@ use Rattle.crn_vec.proofs.CallerLemmas.{lt_or}
 use Rattle.crn_tab.specs.Slots.{row_at}
 use Rattle.crn_tab.proofs.Rows.{same_rows}
 
-pub drop_front : (xs ys : List ℤ) → drop (length xs) (xs ++ ys) ≡ ys
-drop_front [] ys = refl
-drop_front (x ∷ xs) ys = drop_front xs ys
+pub drop_prefix : (xs ys : List ℤ) → drop (length xs) (xs ++ ys) ≡ ys
+drop_prefix [] ys = refl
+drop_prefix (x ∷ xs) ys = drop_prefix xs ys
 
 -- the row that was written
-pub row_written : (w i : ℕ) (front into back : List ℤ) → length front ≡ i * w → length into ≡ w → row_at w (front ++ (into ++ back)) i ≡ into
-row_written w i front into back e f =
-    ap (λ k. take w (drop k (front ++ (into ++ back)))) (sym e) ∙ ap (take w) (drop_front front (into ++ back))
+pub row_written : (w i : ℕ) (prefix into back : List ℤ) → length prefix ≡ i * w → length into ≡ w → row_at w (prefix ++ (into ++ back)) i ≡ into
+row_written w i prefix into back e f =
+    ap (λ k. take w (drop k (prefix ++ (into ++ back)))) (sym e) ∙ ap (take w) (drop_prefix prefix (into ++ back))
     ∙ ap (λ k. take k (into ++ back)) (sym f) ∙ take-append_seam into back
 
-behind : (into into' back : List ℤ) (k : ℕ) → length into ≡ length into' → length into ≤ k → entry (into ++ back) k ≡ entry (into' ++ back) k
-behind [] [] back k e h = refl
-behind [] (y ∷ ys) back k e h = absurd (omega arith)
-behind (x ∷ xs) [] back k e h = absurd (omega arith)
-behind (x ∷ xs) (y ∷ ys) back zero e h = absurd (omega arith)
-behind (x ∷ xs) (y ∷ ys) back (suc k) e h = behind xs ys back k (omega arith) (omega arith)
+entry_after : (into into' back : List ℤ) (k : ℕ) → length into ≡ length into' → length into ≤ k → entry (into ++ back) k ≡ entry (into' ++ back) k
+entry_after [] [] back k e h = refl
+entry_after [] (y ∷ ys) back k e h = absurd (omega arith)
+entry_after (x ∷ xs) [] back k e h = absurd (omega arith)
+entry_after (x ∷ xs) (y ∷ ys) back zero e h = absurd (omega arith)
+entry_after (x ∷ xs) (y ∷ ys) back (suc k) e h = entry_after xs ys back k (omega arith) (omega arith)
 
-outside : (front into into' back : List ℤ) (k : ℕ) → length into ≡ length into' → (k < length front) ⊎ (length front + length into ≤ k)
-    → entry (front ++ (into ++ back)) k ≡ entry (front ++ (into' ++ back)) k
+outside : (prefix into into' back : List ℤ) (k : ℕ) → length into ≡ length into' → (k < length prefix) ⊎ (length prefix + length into ≤ k)
+    → entry (prefix ++ (into ++ back)) k ≡ entry (prefix ++ (into' ++ back)) k
 outside [] into into' back k e (inl h) = absurd (omega arith)
-outside [] into into' back k e (inr h) = behind into into' back k e (omega arith)
-outside (x ∷ front) into into' back zero e h = refl
-outside (x ∷ front) into into' back (suc k) e (inl h) = outside front into into' back k e (inl (omega arith))
-outside (x ∷ front) into into' back (suc k) e (inr h) = outside front into into' back k e (inr (omega arith))
+outside [] into into' back k e (inr h) = entry_after into into' back k e (omega arith)
+outside (x ∷ prefix) into into' back zero e h = refl
+outside (x ∷ prefix) into into' back (suc k) e (inl h) = outside prefix into into' back k e (inl (omega arith))
+outside (x ∷ prefix) into into' back (suc k) e (inr h) = outside prefix into into' back k e (inr (omega arith))
 
 pub entry-row : (w : ℕ) (xs : List ℤ) (j k : ℕ) → k < w → entry (row_at w xs j) k ≡ entry xs (j * w + k)
 entry-row w xs j k h = get_or-take w (drop (j * w) xs) k (pos 0) h ∙ get_or-drop (j * w) xs k (pos 0)
@@ -47,17 +47,17 @@ apart w i j k ne h = elim (lt_or j i) [
 ]
 
 -- the other rows stay
-pub row_other : (w i j : ℕ) (front into into' back : List ℤ) → j ≢ i → length front ≡ i * w → length into ≡ w → length into' ≡ w
-    → row_at w (front ++ (into' ++ back)) j ≡ row_at w (front ++ (into ++ back)) j
-row_other w i j front into into' back ne e f g =
-    let same : length (front ++ (into' ++ back)) ≡ length (front ++ (into ++ back)) =
-    omega (arith, length-append front (into' ++ back), length-append front (into ++ back), length-append into' back, length-append into back) in
-    same_rows (row_at w (front ++ (into' ++ back)) j) (row_at w (front ++ (into ++ back)) j) (length-row w (front ++ (into' ++ back)) (front ++ (into ++ back)) j same)
+pub row_other : (w i j : ℕ) (prefix into into' back : List ℤ) → j ≢ i → length prefix ≡ i * w → length into ≡ w → length into' ≡ w
+    → row_at w (prefix ++ (into' ++ back)) j ≡ row_at w (prefix ++ (into ++ back)) j
+row_other w i j prefix into into' back ne e f g =
+    let same : length (prefix ++ (into' ++ back)) ≡ length (prefix ++ (into ++ back)) =
+    omega (arith, length-append prefix (into' ++ back), length-append prefix (into ++ back), length-append into' back, length-append into back) in
+    same_rows (row_at w (prefix ++ (into' ++ back)) j) (row_at w (prefix ++ (into ++ back)) j) (length-row w (prefix ++ (into' ++ back)) (prefix ++ (into ++ back)) j same)
     (λ k lt.
-    let k_lt : k < w = omega (arith, length-take w (drop (j * w) (front ++ (into' ++ back)))) in
-    let where_it_is : (j * w + k < length front) ⊎ (length front + length into' ≤ j * w + k) = elim (apart w i j k ne k_lt) [
+    let k_lt : k < w = omega (arith, length-take w (drop (j * w) (prefix ++ (into' ++ back)))) in
+    let where_it_is : (j * w + k < length prefix) ⊎ (length prefix + length into' ≤ j * w + k) = elim (apart w i j k ne k_lt) [
       | inl h ↦ inl (omega arith)
       | inr h ↦ inr (omega arith)
     ] in
-    entry-row w (front ++ (into' ++ back)) j k k_lt ∙ outside front into' into back (j * w + k) (omega arith) where_it_is
-    ∙ sym (entry-row w (front ++ (into ++ back)) j k k_lt))
+    entry-row w (prefix ++ (into' ++ back)) j k k_lt ∙ outside prefix into' into back (j * w + k) (omega arith) where_it_is
+    ∙ sym (entry-row w (prefix ++ (into ++ back)) j k k_lt))

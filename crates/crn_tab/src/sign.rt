@@ -28,7 +28,7 @@ fn sign_at(fields: &Fields, row: usize, col: usize) -> Sign
 }
 
 // What the slots and rows of a tableau say of its basis.
-fn stands_by(_fields: &Fields)
+fn slots_name_rows(_fields: &Fields)
     requires tableau { IsTableau _fields.now.matrix.now _fields.now.at.now _fields.now.order.now
         _fields.now.rows.now }
     ensures { NamesRows _fields.now.matrix.now
@@ -51,6 +51,6 @@ impl Tableau {
     pub fn names_rows(&self)
         ensures { NamesRows self.now.matrix self.now.basis }
     {
-        stands_by(&self.fields())
+        slots_name_rows(&self.fields())
     }
 }

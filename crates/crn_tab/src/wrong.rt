@@ -19,7 +19,7 @@ pub(crate) fn follower(sign: Sign, x: &i64) -> Sign
     product(sign, sign_of(*x as i128))
 }
 
-// The least level so far of a wrong coordinate: this one's, if it is lower and what follows x may not stand there.
+// The least level so far of a wrong coordinate: this one's, if it is lower and what follows x may not be there.
 fn least_wrong(sign: Sign, x: &i64, kind: Kind, level: usize, from: usize, best: usize) -> usize
     ensures lower { result ≤ best }
     ensures from { from ≤ best → from ≤ result }

@@ -52,17 +52,17 @@ held_below (a ∷ v) zero h = omega arith
 held_below (a ∷ v) (suc j) h = let p = held_below v j h in omega (arith, p)
 
 -- the names after one more
-names_behind : (front : List (List ℕ)) (x : List ℕ) (names : List (List ℕ)) (v : List ℤ) → length v ≡ length names → map (λ t. t.0) (held names v) ≡ map (λ s. get_or ((front ++ x ∷ []) ++ names) s []) (held_from (length (front ++ x ∷ [])) v)
-    → map (λ t. t.0) (held names v) ≡ map (λ s. get_or (front ++ x ∷ names) s []) (held_from (suc (length front)) v)
-names_behind front x names v e h = h ∙ ap₂ (λ (t : List (List ℕ)) (n : ℕ). map (λ s. get_or t s []) (held_from n v)) (append_assoc front (x ∷ []) names) (length_push front x ∙ add-one (length front))
+names_after : (prefix : List (List ℕ)) (x : List ℕ) (names : List (List ℕ)) (v : List ℤ) → length v ≡ length names → map (λ t. t.0) (held names v) ≡ map (λ s. get_or ((prefix ++ x ∷ []) ++ names) s []) (held_from (length (prefix ++ x ∷ [])) v)
+    → map (λ t. t.0) (held names v) ≡ map (λ s. get_or (prefix ++ x ∷ names) s []) (held_from (suc (length prefix)) v)
+names_after prefix x names v e h = h ∙ ap₂ (λ (t : List (List ℕ)) (n : ℕ). map (λ s. get_or t s []) (held_from n v)) (append_assoc prefix (x ∷ []) names) (length_push prefix x ∙ add-one (length prefix))
 
-names_of_held : (front names : List (List ℕ)) (v : List ℤ) → length v ≡ length names → map (λ t. t.0) (held names v) ≡ map (λ s. get_or (front ++ names) s []) (held_from (length front) v)
-names_of_held front [] [] e = refl
-names_of_held front [] (a ∷ v) e = absurd (omega (arith, e))
-names_of_held front (x ∷ names) [] e = absurd (omega (arith, e))
-names_of_held front (x ∷ names) (pos zero ∷ v) e = names_behind front x names v (omega (arith, e)) (names_of_held (front ++ x ∷ []) names v (omega (arith, e)))
-names_of_held front (x ∷ names) (negsuc n ∷ v) e = names_behind front x names v (omega (arith, e)) (names_of_held (front ++ x ∷ []) names v (omega (arith, e)))
-names_of_held front (x ∷ names) (pos (suc n) ∷ v) e = ap₂ (λ (t : List ℕ) (ts : List (List ℕ)). t ∷ ts) (sym (get_or-append_seam front x names [])) (names_behind front x names v (omega (arith, e)) (names_of_held (front ++ x ∷ []) names v (omega (arith, e))))
+names_of_held : (prefix names : List (List ℕ)) (v : List ℤ) → length v ≡ length names → map (λ t. t.0) (held names v) ≡ map (λ s. get_or (prefix ++ names) s []) (held_from (length prefix) v)
+names_of_held prefix [] [] e = refl
+names_of_held prefix [] (a ∷ v) e = absurd (omega (arith, e))
+names_of_held prefix (x ∷ names) [] e = absurd (omega (arith, e))
+names_of_held prefix (x ∷ names) (pos zero ∷ v) e = names_after prefix x names v (omega (arith, e)) (names_of_held (prefix ++ x ∷ []) names v (omega (arith, e)))
+names_of_held prefix (x ∷ names) (negsuc n ∷ v) e = names_after prefix x names v (omega (arith, e)) (names_of_held (prefix ++ x ∷ []) names v (omega (arith, e)))
+names_of_held prefix (x ∷ names) (pos (suc n) ∷ v) e = ap₂ (λ (t : List ℕ) (ts : List (List ℕ)). t ∷ ts) (sym (get_or-append_seam prefix x names [])) (names_after prefix x names v (omega (arith, e)) (names_of_held (prefix ++ x ∷ []) names v (omega (arith, e))))
 
 -- ---- complexes one after another
 

@@ -33,8 +33,8 @@ prefix_is p [] [] h s = refl
 prefix_is p [] (y ∷ rest) h s = rw (not-true (p y) s) refl
 prefix_is p (x ∷ xs) rest h s = let a = and_parts (p x) (list_all p xs) h in rw (a.0, one_more) (ap suc (prefix_is p xs rest a.1 s))
 
-token_front : (p : ℕ → Bool) (kind : TokenKind) (xs rest : List ℕ) → list_all p xs ≡ true → stops p rest ≡ true → is_blank (get_or (xs ++ rest) 0 0) ≡ false → Begins (xs ++ rest) kind (prefix_len p (xs ++ rest)) → tokens (xs ++ rest) ≡ token kind xs ∷ tokens rest
-token_front p kind xs rest all stop blank b =
+token_prefix : (p : ℕ → Bool) (kind : TokenKind) (xs rest : List ℕ) → list_all p xs ≡ true → stops p rest ≡ true → is_blank (get_or (xs ++ rest) 0 0) ≡ false → Begins (xs ++ rest) kind (prefix_len p (xs ++ rest)) → tokens (xs ++ rest) ≡ token kind xs ∷ tokens rest
+token_prefix p kind xs rest all stop blank b =
     let width : prefix_len p (xs ++ rest) ≡ length xs = prefix_is p xs rest all stop in
     tokens_first (xs ++ rest) kind (prefix_len p (xs ++ rest)) blank b
     ∙ ap₂ (λ (t u : List ℕ). token kind t ∷ tokens u) (ap (λ (n : ℕ). take n (xs ++ rest)) width ∙ take-append_seam xs rest) (ap (λ (n : ℕ). drop n (xs ++ rest)) width ∙ drop-append_seam xs rest)
@@ -54,7 +54,7 @@ pub tokens_number : (ds rest : List ℕ) → list_all is_digit ds ≡ true → 0
 tokens_number [] rest all some stop = absurd (omega arith)
 tokens_number (d ∷ ds) rest all some stop =
     let first : is_digit d ≡ true = (and_parts (is_digit d) (list_all is_digit ds) all).0 in
-    token_front is_digit Number (d ∷ ds) rest all stop (digit_no_blank d first) (begins_number ((d ∷ ds) ++ rest) (omega arith) first)
+    token_prefix is_digit Number (d ∷ ds) rest all stop (digit_no_blank d first) (begins_number ((d ∷ ds) ++ rest) (omega arith) first)
 
 letter_in_name : (b : ℕ) → is_letter b ≡ true → is_name_byte b ≡ true
 letter_in_name b h = rw h refl
@@ -67,7 +67,7 @@ pub tokens_name : (name rest : List ℕ) → begins_name name ≡ true → stops
 tokens_name [] rest h stop = absurd cc
 tokens_name (b ∷ bs) rest h stop =
     let first : is_letter b ≡ true = (and_parts (is_letter b) (list_all is_name_byte bs) h).0 in
-    token_front is_name_byte Name (b ∷ bs) rest (name_bytes (b ∷ bs) h) stop (letter_no_blank b first) (begins_with_name ((b ∷ bs) ++ rest) (omega arith) (letter_no_digit b first) first)
+    token_prefix is_name_byte Name (b ∷ bs) rest (name_bytes (b ∷ bs) h) stop (letter_no_blank b first) (begins_with_name ((b ∷ bs) ++ rest) (omega arith) (letter_no_digit b first) first)
 
 tokens_plus : (rest : List ℕ) → tokens (codes " + " ++ rest) ≡ token Plus (codes "+") ∷ tokens rest
 unfolding tokens_after first_token

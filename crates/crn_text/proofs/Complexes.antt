@@ -24,21 +24,21 @@ known_all E d xs (z ∷ zs) h =
 known_drop : {B : Type 0} (E : B → B → Bool) (d : (a b : B) → Decides (E a b) (a ≡ b)) (xs zs ws : List B) → ((z : B) → IsIn z zs → IsIn z xs) → firsts E ((xs ++ zs) ++ ws) ≡ firsts E (xs ++ ws)
 known_drop {B} E d xs zs ws h = sym (firsts_firsts E d (xs ++ zs) ws) ∙ ap (λ (t : List B). firsts E (t ++ ws)) (known_all E d xs zs h) ∙ firsts_firsts E d xs ws
 
-kept : {A B : Type 0} (E : B → B → Bool) (d : (a b : B) → Decides (E a b) (a ≡ b)) (b : A → List B) (q : A → Bool) (ys : List A) (front : List B) → ((y : A) → q y ≡ false → (z : B) → IsIn z (b y) → IsIn z front) → firsts E (front ++ flat_map b (filter q ys)) ≡ firsts E (front ++ flat_map b ys)
-kept E d b q [] front h = refl
-kept E d b q (y ∷ ys) front h =
+kept : {A B : Type 0} (E : B → B → Bool) (d : (a b : B) → Decides (E a b) (a ≡ b)) (b : A → List B) (q : A → Bool) (ys : List A) (prefix : List B) → ((y : A) → q y ≡ false → (z : B) → IsIn z (b y) → IsIn z prefix) → firsts E (prefix ++ flat_map b (filter q ys)) ≡ firsts E (prefix ++ flat_map b ys)
+kept E d b q [] prefix h = refl
+kept E d b q (y ∷ ys) prefix h =
     elim (cases_Bool (q y)) [
-      | inl t ↦ rw t (ap (firsts E) (sym (append_assoc front (b y) (flat_map b (filter q ys)))) ∙ kept E d b q ys (front ++ b y) (λ x n z i. in_left z front (b y) (h x n z i)) ∙ ap (firsts E) (append_assoc front (b y) (flat_map b ys)))
-      | inr n ↦ rw n (kept E d b q ys front h ∙ sym (known_drop E d front (b y) (flat_map b ys) (h y n)) ∙ ap (firsts E) (append_assoc front (b y) (flat_map b ys)))
+      | inl t ↦ rw t (ap (firsts E) (sym (append_assoc prefix (b y) (flat_map b (filter q ys)))) ∙ kept E d b q ys (prefix ++ b y) (λ x n z i. in_left z prefix (b y) (h x n z i)) ∙ ap (firsts E) (append_assoc prefix (b y) (flat_map b ys)))
+      | inr n ↦ rw n (kept E d b q ys prefix h ∙ sym (known_drop E d prefix (b y) (flat_map b ys) (h y n)) ∙ ap (firsts E) (append_assoc prefix (b y) (flat_map b ys)))
     ]
 
-pub all_kept : {A B : Type 0} (same : A → A → Bool) (e : (a b : A) → Decides (same a b) (a ≡ b)) (E : B → B → Bool) (d : (a b : B) → Decides (E a b) (a ≡ b)) (b : A → List B) (xs : List A) (front : List B) → firsts E (front ++ flat_map b (firsts same xs)) ≡ firsts E (front ++ flat_map b xs)
-all_kept same e E d b [] front = refl
-all_kept {A} {B} same e E d b (x ∷ xs) front =
-    ap (firsts E) (sym (append_assoc front (b x) (flat_map b (filter (λ y. not (same x y)) (firsts same xs)))))
-    ∙ kept E d b (λ y. not (same x y)) (firsts same xs) (front ++ b x) (λ y n z i. in_right z front (b x) (subst (λ (u : A). IsIn z (b u)) (sym ((e x y).0 (not-false (same x y) n))) i))
-    ∙ all_kept same e E d b xs (front ++ b x)
-    ∙ ap (firsts E) (append_assoc front (b x) (flat_map b xs))
+pub all_kept : {A B : Type 0} (same : A → A → Bool) (e : (a b : A) → Decides (same a b) (a ≡ b)) (E : B → B → Bool) (d : (a b : B) → Decides (E a b) (a ≡ b)) (b : A → List B) (xs : List A) (prefix : List B) → firsts E (prefix ++ flat_map b (firsts same xs)) ≡ firsts E (prefix ++ flat_map b xs)
+all_kept same e E d b [] prefix = refl
+all_kept {A} {B} same e E d b (x ∷ xs) prefix =
+    ap (firsts E) (sym (append_assoc prefix (b x) (flat_map b (filter (λ y. not (same x y)) (firsts same xs)))))
+    ∙ kept E d b (λ y. not (same x y)) (firsts same xs) (prefix ++ b x) (λ y n z i. in_right z prefix (b x) (subst (λ (u : A). IsIn z (b u)) (sym ((e x y).0 (not-false (same x y) n))) i))
+    ∙ all_kept same e E d b xs (prefix ++ b x)
+    ∙ ap (firsts E) (append_assoc prefix (b x) (flat_map b xs))
 
 -- ---- complexes are numbered by first appearance in the reactions
 

@@ -17,7 +17,7 @@ use Rattle.crn_text.specs.declared.fault.TextCode.{TextCode}
 use Rattle.crn_text.specs.declared.fault.TextCode.TheVariants.{TextTooLong, NoReaction}
 use Rattle.crn_text.proofs.LinesRead.{none_own, text_ok, text_without}
 use Rattle.crn_text.proofs.Sayings.{line_said}
-use Rattle.crn_text.proofs.Statements.{names_all, complexes_all, reactions_all, self_told}
+use Rattle.crn_text.proofs.Statements.{names_all, complexes_all, reactions_all, self_tested}
 
 -- ---- one statement after another
 
@@ -55,7 +55,7 @@ next_made before s m said f =
     let w = within before s f in
     let old = m.0 in
     let g = m.1 in
-    let apart : IsSelf old s → ⊥ = λ h. let same = self_told old s h in let differ = w.apart in cc in
+    let apart : IsSelf old s → ⊥ = λ h. let same = self_tested old s h in let differ = w.apart in cc in
     let species : length (names_with old s) ≤ MAX_SPECIES = let e = ap length (names_all before s old g) in omega (arith, e, w.species) in
     let complexes : length (complexes_with old s) ≤ MAX_COMPLEXES = let e = ap length (complexes_all before s old g) in omega (arith, e, w.complexes) in
     let reactions : length (reactions_with old s) ≤ MAX_REACTIONS = let e = ap length (reactions_all before s old g) in omega (arith, e, w.reactions) in

@@ -19,7 +19,7 @@ use Rattle.crn_text.specs.Spells.{Spells, Fault, fault_on, AreFaultless, IsFirst
 use Rattle.crn_text.specs.Inner.Pieces.{SplitsAt, after_split, TokensGive, LineGives}
 use Rattle.crn_text.specs.declared.fault.TextCode.{TextCode}
 use Rattle.crn_text.specs.declared.fault.TextCode.TheVariants.{NotAscii, NoMemory, NoReaction}
-use Rattle.crn_text.proofs.Splits.{lines_behind, lines_split, split_size}
+use Rattle.crn_text.proofs.Splits.{lines_after, lines_split, split_size}
 
 -- ---- one line
 
@@ -52,7 +52,7 @@ empty_gives before line done net none grown =
 
 -- the lines before those that are left have no fault, and their statements are in the network
 pub record LinesUpTo (text : List ℕ) (number : ℕ) (left : Option (Bor (List ℕ))) (net : Net) : Type 0 where
-  pub behind : drop number (lines text) ≡ lines_behind left
+  pub after : drop number (lines text) ≡ lines_after left
   pub sound : AreFaultless (lines text) number
   pub grown : Grown (all_statements (take number (lines text))) net
   pub size : number + length (after_split 10 left) ≤ length text + 1
@@ -69,12 +69,12 @@ first_left (y ∷ xs) ys x d (suc n) h =
 
 pub lines_more : (text line : List ℕ) (number : ℕ) (rest : Bor (List ℕ)) (next : Option (Bor (List ℕ))) (old new : Net) (done : Unit {0}) → LinesUpTo text number (Some rest) old → SplitsAt 10 rest.now line next → LineGives (all_statements (take number (lines text))) line (Ok done) new → LinesUpTo text (number + 1) next new
 lines_more text line number rest next old new done h split g =
-    let p = first_left (lines text) (lines_behind next) line [] number (h.behind ∙ lines_split rest.now line next split) in
+    let p = first_left (lines text) (lines_after next) line [] number (h.after ∙ lines_split rest.now line next split) in
     let here : fault_on (lines text) number ≡ None = rw p.1 g.0 in
     let more : take (number + 1) (lines text) ≡ take number (lines text) ++ line ∷ [] = take_more (lines text) number [] p.0 ∙ ap (λ (l : List ℕ). take number (lines text) ++ l ∷ []) p.1 in
     let said_more : all_statements (take (number + 1) (lines text)) ≡ all_statements (take number (lines text)) ++ line_statements line = ap all_statements more ∙ flat_map_push line_statements (take number (lines text)) line in
     record {
-      behind = p.2;
+      after = p.2;
       sound = below_more _ number h.sound here;
       grown = rw said_more g.1;
       size = omega (arith, h.size, split_size 10 rest.now line next split);
@@ -83,12 +83,12 @@ lines_more text line number rest next old new done h split g =
 pub lines_stop : (text line : List ℕ) (number : ℕ) (rest : Bor (List ℕ)) (next : Option (Bor (List ℕ))) (old new : Net) (fault : TextCode) → length text ≤ MAX_TEXT → LinesUpTo text number (Some rest) old → SplitsAt 10 rest.now line next → LineGives (all_statements (take number (lines text))) line (Err fault) new → (fault ≡ NoMemory) ⊎ IsFirstFault text (number + 1) fault
 lines_stop text line number rest next old new fault short h split (inl m) = inl m
 lines_stop text line number rest next old new fault short h split (inr f) =
-    let p = first_left (lines text) (lines_behind next) line [] number (h.behind ∙ lines_split rest.now line next split) in
+    let p = first_left (lines text) (lines_after next) line [] number (h.after ∙ lines_split rest.now line next split) in
     inr (record { before = number; counted = refl; short = short; there = p.0; earlier = h.sound; fault = rw p.1 f })
 
 pub lines_all : (text : List ℕ) (number : ℕ) (net : Net) → LinesUpTo text number None net → AreFaultless (lines text) (length (lines text)) × Grown (all_statements (lines text)) net
 lines_all text number net h =
-    let end : length (lines text) ≤ number = omega (arith, ap length h.behind, length-drop number (lines text)) in
+    let end : length (lines text) ≤ number = omega (arith, ap length h.after, length-drop number (lines text)) in
     let whole : take number (lines text) ≡ lines text = take_all number (lines text) end in
     (λ k lt. h.sound k (omega (arith, lt, end)), (rw whole at h.grown))
 

@@ -7,7 +7,7 @@ use Rattle.crn_text.proofs.Complexes.{upto}
 
 -- ---- each number after the smaller ones
 
--- before each number each smaller one has stood, or is known
+-- before each number each smaller one has come, or is known
 abbrev pub AreAfter : (ℕ → Type 0) → List ℕ → Type 0
 AreAfter P [] = Unit {0}
 AreAfter P (y ∷ ys) = ((k : ℕ) → k < y → P k) × AreAfter (λ k. P k ⊎ (k ≡ y)) ys

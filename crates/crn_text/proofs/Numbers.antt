@@ -38,12 +38,12 @@ capped_more m n e h = omega arith
 -- ---- digits before others
 
 -- zeros before other digits do not change the value
-pub zeros_value : (front last : List ℕ) → list_all (λ d. d == 48) front ≡ true → digits_value_after 10 0 (front ++ last) ≡ digits_value_after 10 0 last
+pub zeros_value : (prefix last : List ℕ) → list_all (λ d. d == 48) prefix ≡ true → digits_value_after 10 0 (prefix ++ last) ≡ digits_value_after 10 0 last
 zeros_value [] last h = refl
-zeros_value (d ∷ front) last h =
-    let p = and_parts (d == 48) (list_all (λ e. e == 48) front) h in
+zeros_value (d ∷ prefix) last h =
+    let p = and_parts (d == 48) (list_all (λ e. e == 48) prefix) h in
     let is : d ≡ 48 = eqb-true d 48 p.0 in
-    rw is (zeros_value front last p.1)
+    rw is (zeros_value prefix last p.1)
 
 value_append : (n : ℕ) (xs ys : List ℕ) → digits_value_after 10 n (xs ++ ys) ≡ digits_value_after 10 (digits_value_after 10 n xs) ys
 value_append n [] ys = refl
@@ -76,10 +76,10 @@ three_more n (a ∷ b ∷ c ∷ []) some h = omega (arith, some)
 three_more n (a ∷ b ∷ c ∷ d ∷ ds) some h = absurd (omega (arith, h))
 
 -- three digits after some that are not all zeros make a large number
-pub large_value : (front last : List ℕ) → list_all is_digit front ≡ true → list_all (λ d. d == 48) front ≡ false → length last ≡ 3 → LARGE ≤ digits_value_after 10 0 (front ++ last)
-large_value front last digits h three =
-    let some = three_more (digits_value_after 10 0 front) last (some_digit 0 front digits h) three in
-    omega (arith, some, value_append 0 front last)
+pub large_value : (prefix last : List ℕ) → list_all is_digit prefix ≡ true → list_all (λ d. d == 48) prefix ≡ false → length last ≡ 3 → LARGE ≤ digits_value_after 10 0 (prefix ++ last)
+large_value prefix last digits h three =
+    let some = three_more (digits_value_after 10 0 prefix) last (some_digit 0 prefix digits h) three in
+    omega (arith, some, value_append 0 prefix last)
 
 -- all digits but the last three are not all zeros
 pub number_large : (ds : List ℕ) (m : ℕ) → m ≡ length ds - 3 → list_all is_digit ds ≡ true → list_all (λ d. d == 48) (take m ds) ≡ false → LARGE ≡ min (digits_value 10 ds) LARGE

@@ -20,22 +20,22 @@ use Rattle.crn_text.proofs.Tokens.{all_prefix, begins_number, begins_with_name, 
 
 -- ---- texts that begin with a mark
 
-mark_front : (t p : List ℕ) → starts_with nat_eq t p ≡ true → t ≡ p ++ drop (length p) t
-mark_front t p h = (starts_is Decides-eqb t p (starts_with nat_eq t p) refl).0 h
+mark_prefix : (t p : List ℕ) → starts_with nat_eq t p ≡ true → t ≡ p ++ drop (length p) t
+mark_prefix t p h = (starts_is Decides-eqb t p (starts_with nat_eq t p) refl).0 h
 
 no_mark : (t p rest : List ℕ) → starts_with nat_eq t p ≡ false → t ≡ p ++ rest → ⊥
 no_mark t p rest h e = let y = (starts_is Decides-eqb t p (starts_with nat_eq t p) refl).1 rest e in cc
 
 take_mark : (t p : List ℕ) → starts_with nat_eq t p ≡ true → take (length p) t ≡ p
-take_mark t p h = ap (take (length p)) (mark_front t p h) ∙ take-append_seam p (drop (length p) t)
+take_mark t p h = ap (take (length p)) (mark_prefix t p h) ∙ take-append_seam p (drop (length p) t)
 
 mark_fits : (t p : List ℕ) → starts_with nat_eq t p ≡ true → length p ≤ length t
-mark_fits t p h = omega (arith, ap length (mark_front t p h), length-append p (drop (length p) t))
+mark_fits t p h = omega (arith, ap length (mark_prefix t p h), length-append p (drop (length p) t))
 
 -- a text that doesn't begin with `<-` doesn't begin with `<->`
 no_longer : (t : List ℕ) → starts_with nat_eq t (codes "<-") ≡ false → starts_with nat_eq t (codes "<->") ≡ false
 no_longer t h = elim (cases_Bool (starts_with nat_eq t (codes "<->"))) [
-  | inl y ↦ absurd (no_mark t (codes "<-") (62 ∷ drop 3 t) h (mark_front t (codes "<->") y))
+  | inl y ↦ absurd (no_mark t (codes "<-") (62 ∷ drop 3 t) h (mark_prefix t (codes "<->") y))
   | inr n ↦ n
 ]
 
@@ -51,26 +51,26 @@ pub record Found (t : List ℕ) : Type 0 where
 some_taken : (t : List ℕ) (width : ℕ) → 1 ≤ width → width ≤ length t → 1 ≤ length (take width t)
 some_taken t width some inside = omega (arith, length-take width t, some, inside)
 
-behind_prefix : (p : ℕ → Bool) (t : List ℕ) → BeginsNot p (drop (prefix_len p t) t)
-behind_prefix p [] = tt
-behind_prefix p (b ∷ bs) = elim (cases_Bool (p b)) [ inl hit ↦ rw (hit, one_more) (behind_prefix p bs) | inr miss ↦ rw miss miss ]
+after_prefix : (p : ℕ → Bool) (t : List ℕ) → BeginsNot p (drop (prefix_len p t) t)
+after_prefix p [] = tt
+after_prefix p (b ∷ bs) = elim (cases_Bool (p b)) [ inl hit ↦ rw (hit, one_more) (after_prefix p bs) | inr miss ↦ rw miss miss ]
 
 number_found : (t : List ℕ) → 0 < length t → is_digit (get_or t 0 0) ≡ true → Found t
 number_found t some d =
     let b = begins_number t some d in
-    record { kind = Number; width = prefix_len is_digit t; begins = b; is = (some_taken t (prefix_len is_digit t) b.some b.inside, all_prefix is_digit t, behind_prefix is_digit t) }
+    record { kind = Number; width = prefix_len is_digit t; begins = b; is = (some_taken t (prefix_len is_digit t) b.some b.inside, all_prefix is_digit t, after_prefix is_digit t) }
 
 name_found : (t : List ℕ) → 0 < length t → is_digit (get_or t 0 0) ≡ false → is_letter (get_or t 0 0) ≡ true → Found t
 name_found t some d l =
     let b = begins_with_name t some d l in
-    record { kind = Name; width = prefix_len is_name_byte t; begins = b; is = (begins_named t Name (prefix_len is_name_byte t) b refl, behind_prefix is_name_byte t) }
+    record { kind = Name; width = prefix_len is_name_byte t; begins = b; is = (begins_named t Name (prefix_len is_name_byte t) b refl, after_prefix is_name_byte t) }
 
 not_angle : (rest : List ℕ) → ((more : List ℕ) → rest ≢ 62 ∷ more) → BeginsNot (λ b. b == 62) rest
 not_angle [] apart = tt
 not_angle (b ∷ rest) apart = ne_eqb b 62 (λ is. apart rest (ap (λ (x : ℕ). x ∷ rest) is))
 
-behind_back : (t : List ℕ) → starts_with nat_eq t (codes "<->") ≡ false → starts_with nat_eq t (codes "<-") ≡ true → BeginsNot (λ b. b == 62) (drop 2 t)
-behind_back t both back = not_angle (drop 2 t) (λ more e. no_mark t (codes "<->") more both (mark_front t (codes "<-") back ∙ ap (λ (u : List ℕ). codes "<-" ++ u) e))
+after_back : (t : List ℕ) → starts_with nat_eq t (codes "<->") ≡ false → starts_with nat_eq t (codes "<-") ≡ true → BeginsNot (λ b. b == 62) (drop 2 t)
+after_back t both back = not_angle (drop 2 t) (λ more e. no_mark t (codes "<->") more both (mark_prefix t (codes "<-") back ∙ ap (λ (u : List ℕ). codes "<-" ++ u) e))
 
 stray_found : (b : ℕ) (bs : List ℕ) → is_blank b ≡ false → is_digit b ≡ false → is_letter b ≡ false → eqb b 43 ≡ false → starts_with nat_eq (b ∷ bs) (codes "->") ≡ false → starts_with nat_eq (b ∷ bs) (codes "<->") ≡ false → starts_with nat_eq (b ∷ bs) (codes "<-") ≡ false → Found (b ∷ bs)
 stray_found b bs blank d l p s t u = record {
@@ -95,7 +95,7 @@ found b bs blank =
             | inr s ↦ elim (cases_Bool (starts_with nat_eq t (codes "<->"))) [
               | inl y ↦ record { kind = BothWays; width = 3; begins = begins_both t (mark_fits t (codes "<->") y) d l n s y; is = take_mark t (codes "<->") y }
               | inr y ↦ elim (cases_Bool (starts_with nat_eq t (codes "<-"))) [
-                | inl u ↦ record { kind = Back; width = 2; begins = begins_back t (mark_fits t (codes "<-") u) d l n s y u; is = (take_mark t (codes "<-") u, behind_back t y u) }
+                | inl u ↦ record { kind = Back; width = 2; begins = begins_back t (mark_fits t (codes "<-") u) d l n s y u; is = (take_mark t (codes "<-") u, after_back t y u) }
                 | inr u ↦ stray_found b bs blank d l p s y u
               ]
             ]
@@ -126,12 +126,12 @@ is_split (suc n) (b ∷ bs) le =
 
 -- ---- and in no other way
 
-blanks_front : (front t : List ℕ) → list_all is_blank front ≡ true → tokens (front ++ t) ≡ tokens t
+blanks_prefix : (prefix t : List ℕ) → list_all is_blank prefix ≡ true → tokens (prefix ++ t) ≡ tokens t
 unfolding tokens_after
-blanks_front [] t h = refl
-blanks_front (b ∷ front) t h =
+blanks_prefix [] t h = refl
+blanks_prefix (b ∷ prefix) t h =
     elim (cases_Bool (is_blank b)) [
-      | inl y ↦ rw y (blanks_front front t (rw y at h))
+      | inl y ↦ rw y (blanks_prefix prefix t (rw y at h))
       | inr n ↦ absurd (let e = rw n at h in cc)
     ]
 
@@ -164,9 +164,9 @@ token_first Stray (b ∷ c ∷ more) rest h = absurd (let one = h.0 in omega ari
 
 split_is : (text : List ℕ) (ws : List Token) → IsSplitInto text ws → ws ≡ tokens text
 unfolding tokens_after
-split_is text [] h = sym (ap tokens (sym (append-nil text)) ∙ blanks_front text [] h)
+split_is text [] h = sym (ap tokens (sym (append-nil text)) ∙ blanks_prefix text [] h)
 split_is text (w ∷ ws) h =
-    sym (ap tokens h.3 ∙ blanks_front h.0 (w.text ++ h.1) h.2 ∙ token_first w.kind w.text h.1 h.4 ∙ ap (λ (t : List Token). w ∷ t) (sym (split_is h.1 ws h.5)))
+    sym (ap tokens h.3 ∙ blanks_prefix h.0 (w.text ++ h.1) h.2 ∙ token_first w.kind w.text h.1 h.4 ∙ ap (λ (t : List Token). w ∷ t) (sym (split_is h.1 ws h.5)))
 
 pub split_one : TextsAreSplitInOneWay
 split_one text ws = (split_is text ws, λ e. subst (IsSplitInto text) (sym e) (is_split (length text) text (omega arith)))

@@ -13,12 +13,12 @@ use Rattle.crn_text.specs.Tokens.{Token, tokens, tokens_after}
 use Rattle.crn_text.specs.Sides.{is_term, term_of, terms_of, is_zero, places}
 use Rattle.crn_text.specs.SoundLines.{IsSoundTerm, IsSoundSide}
 use Rattle.crn_text.specs.Faults.{sides_fault}
-use Rattle.crn_text.specs.Inner.Pieces.{StandsIn, SplitsAt, ReadsTerm, is_within, ReadsSide}
+use Rattle.crn_text.specs.Inner.Pieces.{OccursIn, SplitsAt, ReadsTerm, is_within, ReadsSide}
 use Rattle.crn_vec.proofs.CallerLemmas.{all_push}
-use Rattle.crn_text.proofs.Places.{places_behind, places_split}
+use Rattle.crn_text.proofs.Places.{places_after, places_split}
 use Rattle.crn_text.proofs.Splits.{split_size}
-use Rattle.crn_text.proofs.Terms.{piece_size, stands_front, stands_behind}
-use Rattle.crn_text.proofs.Totals.{amount_front, amounts_small}
+use Rattle.crn_text.proofs.Terms.{piece_size, occurs_prefix, occurs_split}
+use Rattle.crn_text.proofs.Totals.{amount_prefix, amounts_small}
 use Rattle.crn_text.proofs.Checks.{HoldsTerm, Passes, passes, no_fault, terms_are, place_passes, sound_passes}
 
 -- a term of the body with its name and its number within the limits
@@ -27,9 +27,9 @@ pub record IsKept (body : List ℕ) (t : Term) : Type 0 where
   pub small : t.count ≤ MAX_AMOUNT
 
 -- what is left of a side ends with the side
-abbrev pub StandsLeft : List ℕ → ℕ → Option (Bor (List ℕ)) → Type 0
-StandsLeft body end None = Unit {0}
-StandsLeft body end (Some rest) = StandsIn body rest.now end
+abbrev pub OccursLeft : List ℕ → ℕ → Option (Bor (List ℕ)) → Type 0
+OccursLeft body end None = Unit {0}
+OccursLeft body end (Some rest) = OccursIn body rest.now end
 
 -- one more than the number of bytes that are left, or 0 if no place is left
 abbrev pub size_left : Option (Bor (List ℕ)) → ℕ
@@ -39,11 +39,11 @@ size_left (Some rest) = length rest.now + 1
 -- the terms are those of the places that are no longer left
 pub record TermsUpTo (body side : List ℕ) (end : ℕ) (terms : List Term) (left : Option (Bor (List ℕ))) : Type 0 where
   pub read : List (List Token)
-  pub split : places (tokens side) ≡ read ++ places_behind left
+  pub split : places (tokens side) ≡ read ++ places_after left
   pub all : list_all is_term read ≡ true
   pub same : side_of body terms ≡ map term_of read
   pub kept : AllByRecursion (IsKept body) terms
-  pub stands : StandsLeft body end left
+  pub occurs : OccursLeft body end left
   pub few : 2 * length terms + size_left left ≤ length side + 1
 
 some_byte : (place : List ℕ) → is_term (tokens place) ≡ true → 1 ≤ length place
@@ -65,66 +65,66 @@ kept_term body place t r within =
       small = leb-true t.count MAX_AMOUNT counts.1;
     }
 
-stands_left : (body : List ℕ) (end : ℕ) (rest : Bor (List ℕ)) (place : List ℕ) (behind : Option (Bor (List ℕ))) → StandsIn body rest.now end → SplitsAt 43 rest.now place behind → StandsLeft body end behind
-stands_left body end rest place None h split = tt
-stands_left body end rest place (Some next) h split = stands_behind 43 body rest.now place next end h split
+occurs_left : (body : List ℕ) (end : ℕ) (rest : Bor (List ℕ)) (place : List ℕ) (after : Option (Bor (List ℕ))) → OccursIn body rest.now end → SplitsAt 43 rest.now place after → OccursLeft body end after
+occurs_left body end rest place None h split = tt
+occurs_left body end rest place (Some next) h split = occurs_split 43 body rest.now place next end h split
 
 -- what is left after a place, with the mark before it, is what was left without the place
-left_size : (rest : Bor (List ℕ)) (place : List ℕ) (behind : Option (Bor (List ℕ))) → SplitsAt 43 rest.now place behind → length place + size_left behind ≡ length rest.now
+left_size : (rest : Bor (List ℕ)) (place : List ℕ) (after : Option (Bor (List ℕ))) → SplitsAt 43 rest.now place after → length place + size_left after ≡ length rest.now
 left_size rest place None split = omega (arith, split_size 43 rest.now place None split)
 left_size rest place (Some next) split = omega (arith, split_size 43 rest.now place (Some next) split)
 
 -- each place makes what is left smaller
-pub left_smaller : {left : Option (Bor (List ℕ))} {rest : Bor (List ℕ)} {place : List ℕ} {behind : Option (Bor (List ℕ))} → left ≡ Some rest → SplitsAt 43 rest.now place behind → size_left behind < size_left left
-left_smaller {left} {rest} {place} {behind} is split = omega (arith, left_size rest place behind split, ap size_left is)
+pub left_smaller : {left : Option (Bor (List ℕ))} {rest : Bor (List ℕ)} {place : List ℕ} {after : Option (Bor (List ℕ))} → left ≡ Some rest → SplitsAt 43 rest.now place after → size_left after < size_left left
+left_smaller {left} {rest} {place} {after} is split = omega (arith, left_size rest place after split, ap size_left is)
 
 at_rest : {body side : List ℕ} {end : ℕ} {terms : List Term} {left : Option (Bor (List ℕ))} {rest : Bor (List ℕ)} → TermsUpTo body side end terms left → left ≡ Some rest → TermsUpTo body side end terms (Some rest)
 at_rest {body} {side} {end} {terms} h is = subst (λ (o : Option (Bor (List ℕ))). TermsUpTo body side end terms o) is h
 
-place_split : {body side : List ℕ} {end : ℕ} {terms : List Term} {rest : Bor (List ℕ)} {place : List ℕ} {behind : Option (Bor (List ℕ))} → (h : TermsUpTo body side end terms (Some rest)) → SplitsAt 43 rest.now place behind → places (tokens side) ≡ h.read ++ tokens place ∷ places_behind behind
-place_split {rest = rest} {place = place} {behind = behind} h split = h.split ∙ ap (λ (u : List (List Token)). h.read ++ u) (places_split rest.now place behind split)
+place_split : {body side : List ℕ} {end : ℕ} {terms : List Term} {rest : Bor (List ℕ)} {place : List ℕ} {after : Option (Bor (List ℕ))} → (h : TermsUpTo body side end terms (Some rest)) → SplitsAt 43 rest.now place after → places (tokens side) ≡ h.read ++ tokens place ∷ places_after after
+place_split {rest = rest} {place = place} {after = after} h split = h.split ∙ ap (λ (u : List (List Token)). h.read ++ u) (places_split rest.now place after split)
 
 -- the next place ends there in the body
-place_stands : {body side : List ℕ} {end : ℕ} {terms : List Term} {rest : Bor (List ℕ)} {place : List ℕ} {behind : Option (Bor (List ℕ))} → TermsUpTo body side end terms (Some rest) → SplitsAt 43 rest.now place behind → StandsIn body place (end - length rest.now + length place)
-place_stands {body} {end = end} {rest = rest} {place = place} {behind = behind} h split = stands_front 43 body rest.now place behind end h.stands split
+place_occurs : {body side : List ℕ} {end : ℕ} {terms : List Term} {rest : Bor (List ℕ)} {place : List ℕ} {after : Option (Bor (List ℕ))} → TermsUpTo body side end terms (Some rest) → SplitsAt 43 rest.now place after → OccursIn body place (end - length rest.now + length place)
+place_occurs {body} {end = end} {rest = rest} {place = place} {after = after} h split = occurs_prefix 43 body rest.now place after end h.occurs split
 
 same_more : (body : List ℕ) (terms : List Term) (t : Term) (read : List (List Token)) (place : List Token) → side_of body terms ≡ map term_of read → (name_at body t, t.count) ≡ term_of place → side_of body (terms ++ t ∷ []) ≡ map term_of (read ++ place ∷ [])
 same_more body terms t read place same term = map_push (λ (t : Term). (name_at body t, t.count)) terms t ∙ ap₂ (λ (u : List (List ℕ × ℕ)) (x : List ℕ × ℕ). u ++ x ∷ []) same term ∙ sym (map_push term_of read place)
 
 -- one more place is read, and its term is kept
-pub terms_more : {body side : List ℕ} {end : ℕ} {terms : List Term} {left : Option (Bor (List ℕ))} {rest : Bor (List ℕ)} {place : List ℕ} {behind : Option (Bor (List ℕ))} (t : Term) (new : List Term) → TermsUpTo body side end terms left → left ≡ Some rest → SplitsAt 43 rest.now place behind
-    → ((text : List ℕ) → StandsIn text place (end - length rest.now + length place) → ReadsTerm text place (Some t)) → is_within t ≡ true → new ≡ terms ++ t ∷ [] → TermsUpTo body side end new behind
-terms_more {body} {side} {end} {terms} {left} {rest} {place} {behind} t new before is split reads within push =
+pub terms_more : {body side : List ℕ} {end : ℕ} {terms : List Term} {left : Option (Bor (List ℕ))} {rest : Bor (List ℕ)} {place : List ℕ} {after : Option (Bor (List ℕ))} (t : Term) (new : List Term) → TermsUpTo body side end terms left → left ≡ Some rest → SplitsAt 43 rest.now place after
+    → ((text : List ℕ) → OccursIn text place (end - length rest.now + length place) → ReadsTerm text place (Some t)) → is_within t ≡ true → new ≡ terms ++ t ∷ [] → TermsUpTo body side end new after
+terms_more {body} {side} {end} {terms} {left} {rest} {place} {after} t new before is split reads within push =
     let h = at_rest before is in
-    let r = reads body (place_stands h split) in
+    let r = reads body (place_occurs h split) in
     let kept = kept_term body place t r within in
     let small = kept.small in
     let exact : t.count ≡ (term_of (tokens place)).1 = let counts = r.3 in omega arith in
     let term : (name_at body t, t.count) ≡ term_of (tokens place) = ap₂ (λ (n : List ℕ) (k : ℕ). (n, k)) r.2 exact in
     let some = some_byte place r.0 in
-    let more : TermsUpTo body side end (terms ++ t ∷ []) behind = record {
+    let more : TermsUpTo body side end (terms ++ t ∷ []) after = record {
       read = h.read ++ tokens place ∷ [];
-      split = place_split h split ∙ sym (append_assoc h.read (tokens place ∷ []) (places_behind behind));
+      split = place_split h split ∙ sym (append_assoc h.read (tokens place ∷ []) (places_after after));
       all = list_all-append is_term h.read (tokens place ∷ []) ∙ and_from _ _ h.all (and_from _ _ r.0 refl);
       same = same_more body terms t h.read (tokens place) h.same term;
       kept = all_push (IsKept body) terms t h.kept kept;
-      stands = stands_left body end rest place behind h.stands split;
-      few = omega (arith, h.few, length-append terms (t ∷ []), left_size rest place behind split, some);
+      occurs = occurs_left body end rest place after h.occurs split;
+      few = omega (arith, h.few, length-append terms (t ∷ []), left_size rest place after split, some);
     } in
     rw push more
 
 -- ---- faults of a place and of the sums
 
-next_holds : {body side : List ℕ} {end : ℕ} {terms : List Term} {rest : Bor (List ℕ)} {place : List ℕ} {behind : Option (Bor (List ℕ))} → TermsUpTo body side end terms (Some rest) → SplitsAt 43 rest.now place behind → is_zero (tokens side) ≡ false → Passes (tokens side) → HoldsTerm (tokens place)
-next_holds {side = side} {place = place} {behind = behind} h split not_zero p = place_passes (tokens side) h.read (places_behind behind) (tokens place) not_zero p (place_split h split)
+next_holds : {body side : List ℕ} {end : ℕ} {terms : List Term} {rest : Bor (List ℕ)} {place : List ℕ} {after : Option (Bor (List ℕ))} → TermsUpTo body side end terms (Some rest) → SplitsAt 43 rest.now place after → is_zero (tokens side) ≡ false → Passes (tokens side) → HoldsTerm (tokens place)
+next_holds {side = side} {place = place} {after = after} h split not_zero p = place_passes (tokens side) h.read (places_after after) (tokens place) not_zero p (place_split h split)
 
 -- a place that holds no term is a fault
-pub fault_no_term : {body side : List ℕ} {end : ℕ} {terms : List Term} {left : Option (Bor (List ℕ))} {rest : Bor (List ℕ)} {place : List ℕ} {behind : Option (Bor (List ℕ))} (r : Option Term) → TermsUpTo body side end terms left → left ≡ Some rest → SplitsAt 43 rest.now place behind → is_zero (tokens side) ≡ false
-    → ((text : List ℕ) → StandsIn text place (end - length rest.now + length place) → ReadsTerm text place r) → r ≡ None → sides_fault (tokens side ∷ []) ≡ None → ⊥
+pub fault_no_term : {body side : List ℕ} {end : ℕ} {terms : List Term} {left : Option (Bor (List ℕ))} {rest : Bor (List ℕ)} {place : List ℕ} {after : Option (Bor (List ℕ))} (r : Option Term) → TermsUpTo body side end terms left → left ≡ Some rest → SplitsAt 43 rest.now place after → is_zero (tokens side) ≡ false
+    → ((text : List ℕ) → OccursIn text place (end - length rest.now + length place) → ReadsTerm text place r) → r ≡ None → sides_fault (tokens side ∷ []) ≡ None → ⊥
 fault_no_term {body} {side} {place = place} r before is split not_zero reads none fine =
     let h = at_rest before is in
     let holds = (next_holds h split not_zero (passes (tokens side) fine)).term in
-    let not_term : is_term (tokens place) ≡ false = rw none at (reads body (place_stands h split)) in
+    let not_term : is_term (tokens place) ≡ false = rw none at (reads body (place_occurs h split)) in
     cc
 
 within : (body place : List ℕ) (t : Term) → HoldsTerm (tokens place) → ReadsTerm body place (Some t) → is_within t ≡ true
@@ -138,17 +138,17 @@ within body place t h r =
     and_from _ _ (le-leb t.length MAX_NAME long) (and_from _ _ (le-leb 1 t.count (omega arith)) (le-leb t.count MAX_AMOUNT (omega arith)))
 
 -- a term with its name or its number out of the limits is a fault
-pub fault_limits : {body side : List ℕ} {end : ℕ} {terms : List Term} {left : Option (Bor (List ℕ))} {rest : Bor (List ℕ)} {place : List ℕ} {behind : Option (Bor (List ℕ))} (t : Term) → TermsUpTo body side end terms left → left ≡ Some rest → SplitsAt 43 rest.now place behind → is_zero (tokens side) ≡ false
-    → ((text : List ℕ) → StandsIn text place (end - length rest.now + length place) → ReadsTerm text place (Some t)) → is_within t ≡ false → sides_fault (tokens side ∷ []) ≡ None → ⊥
+pub fault_limits : {body side : List ℕ} {end : ℕ} {terms : List Term} {left : Option (Bor (List ℕ))} {rest : Bor (List ℕ)} {place : List ℕ} {after : Option (Bor (List ℕ))} (t : Term) → TermsUpTo body side end terms left → left ≡ Some rest → SplitsAt 43 rest.now place after → is_zero (tokens side) ≡ false
+    → ((text : List ℕ) → OccursIn text place (end - length rest.now + length place) → ReadsTerm text place (Some t)) → is_within t ≡ false → sides_fault (tokens side ∷ []) ≡ None → ⊥
 fault_limits {body} {side} {place = place} t before is split not_zero reads not_within fine =
     let h = at_rest before is in
-    let yes = within body place t (next_holds h split not_zero (passes (tokens side) fine)) (reads body (place_stands h split)) in
+    let yes = within body place t (next_holds h split not_zero (passes (tokens side) fine)) (reads body (place_occurs h split)) in
     cc
 
 sums_small : {body side : List ℕ} {end : ℕ} {terms : List Term} {left : Option (Bor (List ℕ))} → TermsUpTo body side end terms left → is_zero (tokens side) ≡ false → Passes (tokens side) → (name : List ℕ) → amount_in (side_of body terms) name ≤ MAX_AMOUNT
 sums_small {body} {side} {end} {terms} {left} h not_zero p name =
-    let whole : terms_of (tokens side) ≡ side_of body terms ++ map term_of (places_behind left) = terms_are (tokens side) not_zero ∙ ap (map term_of) h.split ∙ map-append term_of h.read (places_behind left) ∙ ap (λ (u : List (List ℕ × ℕ)). u ++ map term_of (places_behind left)) (sym h.same) in
-    omega (arith, amount_front (side_of body terms) (map term_of (places_behind left)) name, ap (λ (u : List (List ℕ × ℕ)). amount_in u name) whole, amounts_small (terms_of (tokens side)) p.small name)
+    let whole : terms_of (tokens side) ≡ side_of body terms ++ map term_of (places_after left) = terms_are (tokens side) not_zero ∙ ap (map term_of) h.split ∙ map-append term_of h.read (places_after left) ∙ ap (λ (u : List (List ℕ × ℕ)). u ++ map term_of (places_after left)) (sym h.same) in
+    omega (arith, amount_prefix (side_of body terms) (map term_of (places_after left)) name, ap (λ (u : List (List ℕ × ℕ)). amount_in u name) whole, amounts_small (terms_of (tokens side)) p.small name)
 
 -- a sum that exceeds the limit is a fault, however much of the side is left
 pub fault_sums : {body side : List ℕ} {end : ℕ} {terms : List Term} {left : Option (Bor (List ℕ))} (fit : Bool) → TermsUpTo body side end terms left → is_zero (tokens side) ≡ false → (IsTrue fit ↔ ((name : List ℕ) → amount_in (side_of body terms) name ≤ MAX_AMOUNT)) → fit ≡ false → sides_fault (tokens side ∷ []) ≡ None → ⊥
@@ -167,22 +167,22 @@ terms_sound body (t ∷ ts) h = (record { name = h.0.term.name.1; some = h.0.ter
 pub small_counts : {body side : List ℕ} {end : ℕ} {terms : List Term} {left : Option (Bor (List ℕ))} → TermsUpTo body side end terms left → AllByRecursion (λ t. t.count ≤ MAX_AMOUNT) terms
 small_counts {body} {terms = terms} h = all_weaker (IsKept body) (λ t. t.count ≤ MAX_AMOUNT) (λ t k. k.small) terms h.kept
 
-pub few_terms : {body side : List ℕ} {end : ℕ} {terms : List Term} {left : Option (Bor (List ℕ))} → TermsUpTo body side end terms left → StandsIn body side end → length body ≤ MAX_TEXT → length terms ≤ MAX_TERMS
-few_terms {body} {side} {end} h stands short = omega (arith, h.few, piece_size body side end stands)
+pub few_terms : {body side : List ℕ} {end : ℕ} {terms : List Term} {left : Option (Bor (List ℕ))} → TermsUpTo body side end terms left → OccursIn body side end → length body ≤ MAX_TEXT → length terms ≤ MAX_TERMS
+few_terms {body} {side} {end} h occurs short = omega (arith, h.few, piece_size body side end occurs)
 
-all_read : {body side : List ℕ} {end : ℕ} {terms : List Term} {left : Option (Bor (List ℕ))} → TermsUpTo body side end terms left → left ≡ None → is_zero (tokens side) ≡ false → StandsIn body side end → length body ≤ MAX_TEXT → ((name : List ℕ) → amount_in (side_of body terms) name ≤ MAX_AMOUNT)
+all_read : {body side : List ℕ} {end : ℕ} {terms : List Term} {left : Option (Bor (List ℕ))} → TermsUpTo body side end terms left → left ≡ None → is_zero (tokens side) ≡ false → OccursIn body side end → length body ≤ MAX_TEXT → ((name : List ℕ) → amount_in (side_of body terms) name ≤ MAX_AMOUNT)
     → (sides_fault (tokens side ∷ []) ≡ None) × IsSide body terms × (side_of body terms ≡ terms_of (tokens side))
-all_read {body} {side} {end} {terms} h none not_zero stands short sums =
-    let split : places (tokens side) ≡ h.read = h.split ∙ ap (λ (o : Option (Bor (List ℕ))). h.read ++ places_behind o) none ∙ append-nil h.read in
+all_read {body} {side} {end} {terms} h none not_zero occurs short sums =
+    let split : places (tokens side) ≡ h.read = h.split ∙ ap (λ (o : Option (Bor (List ℕ))). h.read ++ places_after o) none ∙ append-nil h.read in
     let all : list_all is_term (places (tokens side)) ≡ true = ap (list_all is_term) split ∙ h.all in
     let same : side_of body terms ≡ terms_of (tokens side) = h.same ∙ ap (map term_of) (sym split) ∙ sym (terms_are (tokens side) not_zero) in
     let sound : IsSoundSide (side_of body terms) = record { each = terms_sound body terms h.kept; sums = sums } in
-    let side_is : IsSide body terms = record { each = all_weaker (IsKept body) (IsTerm body) (λ t k. k.term) terms h.kept; amounts = sums; few = few_terms h stands short } in
+    let side_is : IsSide body terms = record { each = all_weaker (IsKept body) (IsTerm body) (λ t k. k.term) terms h.kept; amounts = sums; few = few_terms h occurs short } in
     (no_fault (tokens side) (sound_passes (tokens side) not_zero all (subst IsSoundSide same sound)), side_is, same)
 
 -- if no place is left, the sums decide
-pub reads_all : {E : Type 0} {body side : List ℕ} {end : ℕ} {terms : List Term} {left : Option (Bor (List ℕ))} (now : List Term) (r : Result Bool E) → TermsUpTo body side end terms left → left ≡ None → is_zero (tokens side) ≡ false → StandsIn body side end → length body ≤ MAX_TEXT → now ≡ terms
+pub reads_all : {E : Type 0} {body side : List ℕ} {end : ℕ} {terms : List Term} {left : Option (Bor (List ℕ))} (now : List Term) (r : Result Bool E) → TermsUpTo body side end terms left → left ≡ None → is_zero (tokens side) ≡ false → OccursIn body side end → length body ≤ MAX_TEXT → now ≡ terms
     → IfOk r (λ fit. IsTrue fit ↔ ((name : List ℕ) → amount_in (side_of body now) name ≤ MAX_AMOUNT)) → ReadsSide body side terms r
-reads_all now (Err error) h none not_zero stands short is fits = tt
-reads_all now (Ok true) h none not_zero stands short is fits = all_read h none not_zero stands short (rw is at fits.0 refl)
-reads_all now (Ok false) h none not_zero stands short is fits = fault_sums false h not_zero (rw is at fits) refl
+reads_all now (Err error) h none not_zero occurs short is fits = tt
+reads_all now (Ok true) h none not_zero occurs short is fits = all_read h none not_zero occurs short (rw is at fits.0 refl)
+reads_all now (Ok false) h none not_zero occurs short is fits = fault_sums false h not_zero (rw is at fits) refl

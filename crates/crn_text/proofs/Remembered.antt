@@ -14,7 +14,7 @@ use Rattle.crn_text.specs.Inner.Known.{line_at, AreKnown, AreSound}
 use Rattle.crn_text.specs.Inner.Pieces.{SplitsAt, after_split, LineGives}
 use Rattle.crn_text.specs.declared.known.Place.{Place}
 use Rattle.crn_text.proofs.LinesRead.{LinesUpTo, lines_more, none_own}
-use Rattle.crn_text.proofs.Splits.{lines_behind, lines_split}
+use Rattle.crn_text.proofs.Splits.{lines_after, lines_split}
 
 -- ---- the places
 
@@ -42,7 +42,7 @@ known_put text read line ps slot p is h =
 -- what is left of the text is its end
 abbrev pub Follows : List ℕ → Option (Bor (List ℕ)) → Type 0
 Follows text None = Unit {0}
-Follows text (Some rest) = (front : List ℕ) × (text ≡ front ++ rest.now)
+Follows text (Some rest) = (prefix : List ℕ) × (text ≡ prefix ++ rest.now)
 
 -- the lines before those that are left are read, and some of them are remembered
 pub record ReadsUpTo (text : List ℕ) (number : ℕ) (left : Option (Bor (List ℕ))) (net : Net) (places : List Place) : Type 0 where
@@ -85,7 +85,7 @@ first_here (y ∷ xs) ys x d (suc n) h = let p = first_here xs ys x d n h in (om
 
 pub reads_more : (text line : List ℕ) (number : ℕ) (rest : Bor (List ℕ)) (next : Option (Bor (List ℕ))) (old new : Net) (done : Unit {0}) (ps qs : List Place) → ReadsUpTo text number (Some rest) old ps → SplitsAt 10 rest.now line next → LineGives (all_statements (take number (lines text))) line (Ok done) new → AreKnown text (take number (lines text) ++ line ∷ []) qs → ReadsUpTo text (number + 1) next new qs
 reads_more text line number rest next old new done ps qs h split g known =
-    let p = first_here (lines text) (lines_behind next) line [] number (h.upto.behind ∙ lines_split rest.now line next split) in
+    let p = first_here (lines text) (lines_after next) line [] number (h.upto.after ∙ lines_split rest.now line next split) in
     let more : take (number + 1) (lines text) ≡ take number (lines text) ++ line ∷ [] = take_more (lines text) number [] p.0 ∙ ap (λ (l : List ℕ). take number (lines text) ++ l ∷ []) p.1 in
     record {
       upto = lines_more text line number rest next old new done h.upto split g;

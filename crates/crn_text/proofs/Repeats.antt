@@ -16,7 +16,7 @@ use Rattle.crn_text.specs.Sides.{line_statements, all_statements}
 use Rattle.crn_text.specs.Faults.{is_self, both_of, names_of, reactions_of, statements_fault, own_fault}
 use Rattle.crn_text.specs.Inner.Pieces.{LineGives}
 use Rattle.crn_text.proofs.Complexes.{known_all, complexes_are}
-use Rattle.crn_text.proofs.Statements.{self_told, not_self, complexes_all, grows_fine}
+use Rattle.crn_text.proofs.Statements.{self_tested, not_self, complexes_all, grows_fine}
 
 -- no statement of a network is a self reaction
 grown_apart : (ss : List Statement) (s : Statement) (start net : Net) → GrownFrom start ss net → IsIn s ss → is_self s ≡ false
@@ -64,7 +64,7 @@ stays ss s net g i =
       names = sym names;
       reactions = sym reactions;
       network = network;
-      apart = λ h. let told = self_told net s h in absurd (let e = rw apart at told in cc);
+      apart = λ h. let shown = self_tested net s h in absurd (let e = rw apart at shown in cc);
       species_fit = omega (arith, ap length names, network.species_limit);
       complexes_fit = omega (arith, ap length complexes, network.complexes_limit);
       reactions_fit = omega (arith, ap length reactions, length-map net.reactions (sides_of net), network.reactions_limit);

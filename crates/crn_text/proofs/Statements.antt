@@ -59,8 +59,8 @@ self_same s h = λ name.
       ]
     ]
 
-pub self_told : (old : Net) (s : Statement) → IsSelf old s → is_self s ≡ true
-self_told old s h = all_same s (names_in s) (self_says old s h)
+pub self_tested : (old : Net) (s : Statement) → IsSelf old s → is_self s ≡ true
+self_tested old s h = all_same s (names_in s) (self_says old s h)
 
 pub not_self : (old : Net) (s : Statement) → (IsSelf old s → ⊥) → is_self s ≡ false
 not_self old s h = elim (cases_Bool (is_self s)) [ inl y ↦ absurd (h (says_self old s (self_same s y))) | inr n ↦ n ]
@@ -78,7 +78,7 @@ grows_fine ss s old new g h =
 
 pub add_refuses : (ss : List Statement) (s : Statement) (old new : Net) (fault : NetFault) (code : TextCode) → Grown ss old → AddGives old s (Err fault) new → code ≡ net_code fault → (code ≡ NoMemory) ⊎ (statement_fault ss s ≡ Some code)
 unfolding statement_fault
-add_refuses ss s old new net.SelfReaction code g h e = let self = self_told old s h.1 in inr (rw (self, e) refl)
+add_refuses ss s old new net.SelfReaction code g h e = let self = self_tested old s h.1 in inr (rw (self, e) refl)
 add_refuses ss s old new net.TooManySpecies code g h e =
     let self = not_self old s h.1 in
     let species : nat_lt MAX_SPECIES (length (names_of (ss ++ s ∷ []))) ≡ true = lt-ltb MAX_SPECIES _ (rw (names_all ss s old g) at h.2) in

@@ -90,11 +90,11 @@ begins_stray (b ∷ bs) lt d l n s t u =
 
 -- ---- one token after another
 
-pub behind_is : (n : ℕ) (bs : List ℕ) → tokens_after n bs ≡ tokens (drop n bs)
+pub after_is : (n : ℕ) (bs : List ℕ) → tokens_after n bs ≡ tokens (drop n bs)
 unfolding tokens_after
-behind_is zero bs = refl
-behind_is (suc n) [] = refl
-behind_is (suc n) (b ∷ bs) = behind_is n bs
+after_is zero bs = refl
+after_is (suc n) [] = refl
+after_is (suc n) (b ∷ bs) = after_is n bs
 
 less_one : (n : ℕ) → 1 ≤ n → suc (n - 1) ≡ n
 less_one n le = omega arith
@@ -106,7 +106,7 @@ tokens_first (x ∷ bs) kind width blank b =
     let len : length (take width (x ∷ bs)) ≡ width = omega (arith, length-take width (x ∷ bs), b.inside) in
     let first : first_token (x ∷ bs) ≡ token kind (take width (x ∷ bs)) = ap₂ token b.same b.text in
     let next : drop (width - 1) bs ≡ drop width (x ∷ bs) = let e : drop (suc (width - 1)) (x ∷ bs) ≡ drop width (x ∷ bs) = ap (λ (n : ℕ). drop n (x ∷ bs)) (less_one width b.some) in e in
-    rw (blank, first, len, behind_is (width - 1) bs, next) refl
+    rw (blank, first, len, after_is (width - 1) bs, next) refl
 
 pub all_prefix : {X : Type 0} (p : X → Bool) (xs : List X) → list_all p (take (prefix_len p xs) xs) ≡ true
 all_prefix p [] = refl
@@ -204,15 +204,15 @@ pub takes_none : (text : List ℕ) (n : ℕ) → n ≡ prefix_len is_blank text 
 takes_none text n is none = tokens_skip text ∙ rw (← is) (no_tokens (drop n text) none)
 
 pub takes_token : (text : List ℕ) (n : ℕ) (kind : TokenKind) (width : ℕ) (bytes : Bor (List ℕ)) (rest : List ℕ) → n ≡ prefix_len is_blank text → Begins (drop n text) kind width → bytes.now ≡ take width (drop n text) → rest ≡ drop width (drop n text) → BeginsWith text (record { kind = kind; bytes = bytes }) rest
-takes_token text n kind width bytes rest is begins front back =
+takes_token text n kind width bytes rest is begins prefix back =
     let free : is_blank (get_or (drop n text) 0 0) ≡ false = rw is (no_blank_there text) in
     let skip : tokens text ≡ tokens (drop n text) = rw is (tokens_skip text) in
     let len : length (take width (drop n text)) ≡ width = omega (arith, length-take width (drop n text), begins.inside) in
     record {
-      tokens = rw (front, back) (skip ∙ tokens_first (drop n text) kind width free begins);
-      front = take n text;
-      whole = rw (front, back) (sym (ap (λ (t : List ℕ). take n text ++ t) (take-append-drop width (drop n text)) ∙ take-append-drop n text));
-      some = rw (front, len) begins.some;
-      named = λ name. rw front (begins_named (drop n text) kind width begins name);
-      digits = λ number. rw front (begins_digits (drop n text) kind width begins number);
+      tokens = rw (prefix, back) (skip ∙ tokens_first (drop n text) kind width free begins);
+      prefix = take n text;
+      whole = rw (prefix, back) (sym (ap (λ (t : List ℕ). take n text ++ t) (take-append-drop width (drop n text)) ∙ take-append-drop n text));
+      some = rw (prefix, len) begins.some;
+      named = λ name. rw prefix (begins_named (drop n text) kind width begins name);
+      digits = λ number. rw prefix (begins_digits (drop n text) kind width begins number);
     }

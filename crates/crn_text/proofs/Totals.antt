@@ -15,8 +15,8 @@ abbrev share : List ℕ → List ℕ × ℕ → ℕ
 share name t = if bytes_eq t.0 name then t.1 else 0
 
 -- the first terms of a side have no more of a name than all terms
-pub amount_front : (xs ys : List (List ℕ × ℕ)) (name : List ℕ) → amount_in xs name ≤ amount_in (xs ++ ys) name
-amount_front xs ys name = omega (arith, sum_by-append (share name) xs ys)
+pub amount_prefix : (xs ys : List (List ℕ × ℕ)) (name : List ℕ) → amount_in xs name ≤ amount_in (xs ++ ys) name
+amount_prefix xs ys name = omega (arith, sum_by-append (share name) xs ys)
 
 -- if each name of some terms has a small sum, so has each name
 small_or_none : (f : List ℕ → ℕ) (ts : List (List ℕ × ℕ)) (name : List ℕ) → list_any (λ t. nat_lt MAX_AMOUNT t.1 || nat_lt MAX_AMOUNT (f t.0)) ts ≡ false → (f name ≤ MAX_AMOUNT) ⊎ (amount_in ts name ≡ 0)

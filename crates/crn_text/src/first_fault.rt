@@ -84,9 +84,9 @@ fn flaw_of_side(side: &[u8]) -> Flaw
     let mut flaw = Flaw::Other;
     let mut left = Some(side);
     'places: while let Some(rest) = left {
-        let (place, behind) = split_at_byte(rest, b'+');
+        let (place, after) = split_at_byte(rest, b'+');
         flaw = flaw.min(flaw_of_place(place));
-        left = behind;
+        left = after;
     }
     flaw
 }
@@ -100,9 +100,9 @@ fn flaw_of_sides(body: &[u8]) -> Flaw
     let mut flaw = Flaw::Other;
     let mut left = Some(body);
     'sides: while let Some(rest) = left {
-        let (side, behind) = split_side(rest);
+        let (side, after) = split_side(rest);
         flaw = flaw.min(flaw_of_side(side));
-        left = behind;
+        left = after;
     }
     flaw
 }
@@ -116,8 +116,8 @@ pub(crate) fn first_fault(body: &[u8]) -> TextCode
     if has_stray(body) {
         return TextCode::StrayMark;
     }
-    let (_, behind) = split_side(body);
-    match behind {
+    let (_, after) = split_side(body);
+    match after {
         None => TextCode::NoArrow,
         Some(_) => flaw_of_sides(body).code(),
     }

@@ -24,9 +24,9 @@ fn bytes_before(text: &[u8], byte: u8) -> usize
 pub(crate) fn split_at_byte(text: &[u8], byte: u8) -> (&[u8], Option<&[u8]>)
     ensures { SplitsAt byte text.now result.0.now result.1 }
 {
-    let (front, rest) = text.split_at(bytes_before(text, byte));
+    let (prefix, rest) = text.split_at(bytes_before(text, byte));
     match rest.split_first() {
-        None => (front, None),
-        Some((_byte, behind)) => (front, Some(behind)),
+        None => (prefix, None),
+        Some((_byte, after)) => (prefix, Some(after)),
     }
 }

@@ -26,7 +26,7 @@ fn put_term<K: Sink>(
     put_all(sink, name)
 }
 
-/// Writes complex c, counted from 0, as it stands in the canonical text. Takes no memory.
+/// Writes complex c, counted from 0, as it is in the canonical text. Takes no memory.
 pub fn write_side<K: Sink>(net: &Network, c: usize, sink: &mut K) -> Result<(), WriteFault>
     requires { c < length net.now.complexes }
     ensures { Wrote (complex_text net.now c) (K.seen sink.old) (K.seen sink.new) result }

@@ -28,15 +28,15 @@ appears next (y ∷ ys) (inr h) (suc i) k lt less = elim (appears (suc next) ys 
   | inr seen ↦ inr (suc seen.0, omega (arith, seen.1), seen.2)
 ]
 
-behind_known : (next y : ℕ) (ys : List ℕ) → y < next → Appears next (y ∷ ys) → Appears next ys
-behind_known next y ys le h i k lt less = elim (h (suc i) k (omega arith) less) [
+after_known : (next y : ℕ) (ys : List ℕ) → y < next → Appears next (y ∷ ys) → Appears next ys
+after_known next y ys le h i k lt less = elim (h (suc i) k (omega arith) less) [
   | inl known ↦ inl known
-  | inr seen ↦ behind seen.0 seen.1 seen.2
+  | inr seen ↦ appears_after seen.0 seen.1 seen.2
 ]
   where
-    behind : (j : ℕ) → j < suc i → get_or (y ∷ ys) j 0 ≡ k → (k < next) ⊎ ((j : ℕ) × (j < i) × (get_or ys j 0 ≡ k))
-    behind zero b e = inl (omega (arith, e))
-    behind (suc j) b e = inr (j, omega arith, e)
+    appears_after : (j : ℕ) → j < suc i → get_or (y ∷ ys) j 0 ≡ k → (k < next) ⊎ ((j : ℕ) × (j < i) × (get_or ys j 0 ≡ k))
+    appears_after zero b e = inl (omega (arith, e))
+    appears_after (suc j) b e = inr (j, omega arith, e)
 
 pub in_order_appears : (ys : List ℕ) → IsNumberedInOrder 0 ys → IsFirstAppearance ys
 in_order_appears ys h i k lt less = elim (appears 0 ys h i k lt less) [
@@ -44,23 +44,23 @@ in_order_appears ys h i k lt less = elim (appears 0 ys h i k lt less) [
   | inr seen ↦ seen
 ]
 
-behind_next : (next y : ℕ) (ys : List ℕ) → y ≡ next → Appears next (y ∷ ys) → Appears (suc next) ys
-behind_next next y ys is h i k lt less = elim (h (suc i) k (omega arith) less) [
+after_next : (next y : ℕ) (ys : List ℕ) → y ≡ next → Appears next (y ∷ ys) → Appears (suc next) ys
+after_next next y ys is h i k lt less = elim (h (suc i) k (omega arith) less) [
   | inl known ↦ inl (omega arith)
-  | inr seen ↦ behind seen.0 seen.1 seen.2
+  | inr seen ↦ appears_after seen.0 seen.1 seen.2
 ]
   where
-    behind : (j : ℕ) → j < suc i → get_or (y ∷ ys) j 0 ≡ k → (k < suc next) ⊎ ((j : ℕ) × (j < i) × (get_or ys j 0 ≡ k))
-    behind zero b e = inl (omega (arith, e, is))
-    behind (suc j) b e = inr (j, omega arith, e)
+    appears_after : (j : ℕ) → j < suc i → get_or (y ∷ ys) j 0 ≡ k → (k < suc next) ⊎ ((j : ℕ) × (j < i) × (get_or ys j 0 ≡ k))
+    appears_after zero b e = inl (omega (arith, e, is))
+    appears_after (suc j) b e = inr (j, omega arith, e)
 
 ordered : (next : ℕ) (ys : List ℕ) → Appears next ys → IsNumberedInOrder next ys
 ordered next [] h = tt
 ordered next (y ∷ ys) h = elim (cases_lt y next) [
-  | inl known ↦ inl (known, ordered next ys (behind_known next y ys known h))
+  | inl known ↦ inl (known, ordered next ys (after_known next y ys known h))
   | inr least ↦ elim (cases_lt next y) [
     | inl less ↦ absurd (elim (h 0 next (omega arith) less) [ inl known ↦ omega arith | inr seen ↦ let none = seen.1 in omega arith ])
-    | inr most ↦ let is : y ≡ next = omega arith in inr (is, ordered (suc next) ys (behind_next next y ys is h))
+    | inr most ↦ let is : y ≡ next = omega arith in inr (is, ordered (suc next) ys (after_next next y ys is h))
   ]
 ]
 

@@ -100,11 +100,11 @@ record LeastOf (rs : List (ℕ × ℕ)) (y z : ℕ) : Type 0 where
   joins : IsBetween y z (get_or rs r (0, 0)).0 (get_or rs r (0, 0)).1
   least : (q : ℕ) → q < r → IsBetween y z (get_or rs q (0, 0)).0 (get_or rs q (0, 0)).1 → ⊥
 
-linked_behind : (p : ℕ × ℕ) (rs : List (ℕ × ℕ)) (y z : ℕ) → (IsBetween y z p.0 p.1 → ⊥) → IsLinked (p ∷ rs) y z → IsLinked rs y z
-linked_behind p rs y z none (inl (inl e)) = absurd (none (inl (ap (λ (w : ℕ × ℕ). w.0) (sym e), ap (λ (w : ℕ × ℕ). w.1) (sym e))))
-linked_behind p rs y z none (inl (inr i)) = inl i
-linked_behind p rs y z none (inr (inl e)) = absurd (none (inr (ap (λ (w : ℕ × ℕ). w.0) (sym e), ap (λ (w : ℕ × ℕ). w.1) (sym e))))
-linked_behind p rs y z none (inr (inr i)) = inr i
+linked_after : (p : ℕ × ℕ) (rs : List (ℕ × ℕ)) (y z : ℕ) → (IsBetween y z p.0 p.1 → ⊥) → IsLinked (p ∷ rs) y z → IsLinked rs y z
+linked_after p rs y z none (inl (inl e)) = absurd (none (inl (ap (λ (w : ℕ × ℕ). w.0) (sym e), ap (λ (w : ℕ × ℕ). w.1) (sym e))))
+linked_after p rs y z none (inl (inr i)) = inl i
+linked_after p rs y z none (inr (inl e)) = absurd (none (inr (ap (λ (w : ℕ × ℕ). w.0) (sym e), ap (λ (w : ℕ × ℕ). w.1) (sym e))))
+linked_after p rs y z none (inr (inr i)) = inr i
 
 least_of : (rs : List (ℕ × ℕ)) (y z : ℕ) → IsLinked rs y z → LeastOf rs y z
 least_of [] y z (inl i) = absurd i
@@ -112,7 +112,7 @@ least_of [] y z (inr i) = absurd i
 least_of (p ∷ rs) y z l = elim (is_between y z p.0 p.1) [
   | inl e ↦ record { r = 0; inside = omega arith; joins = e; least = λ q lt h. absurd (omega (arith, lt)) }
   | inr none ↦
-      let t = least_of rs y z (linked_behind p rs y z none l) in
+      let t = least_of rs y z (linked_after p rs y z none l) in
       record {
         r = suc t.r;
         inside = let i = t.inside in omega (arith, i);

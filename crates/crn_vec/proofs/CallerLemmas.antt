@@ -15,7 +15,7 @@ pub use Rattle.crn_vec.proofs.Ascending.{range_above, range_ascending, range_bou
 pub use Rattle.crn_vec.proofs.Filters.{filter_from, filter_has, filter_distinct, filter_yes, filter_no, filter_above, filter_ascending}
 -- The members of a list, each once, in order of first appearance.
 pub use Rattle.crn_vec.proofs.Firsts.{firsts_from, firsts_has, firsts_distinct, firsts_all, firsts_known, firsts_new}
-pub use Rattle.crn_vec.proofs.Firsts.{firsts_firsts, firsts_front, firsts_length, firsts_map}
+pub use Rattle.crn_vec.proofs.Firsts.{firsts_firsts, firsts_prefix, firsts_length, firsts_map}
 -- Amounts of the names of a side, and tests that decide whether names, complexes, sides and reactions are equal.
 pub use Rattle.crn_vec.proofs.Statements.{name_decides, row_decides, sides_decide, reaction_decides}
 pub use Rattle.crn_vec.proofs.Statements.{none_said, has_name, amounts_same}
@@ -72,7 +72,7 @@ pub use Rattle.crn_vec.proofs.Carried.{entry-column, length-column, vector_long,
 pub use Rattle.crn_vec.proofs.Numbers.{number_is_one, deficiency_is_one}
 pub use Rattle.crn_vec.proofs.Confluences.{confluence_vectors_are_one, negative_sum}
 -- Mirrors of prefixes.
-pub use Rattle.crn_vec.proofs.Mirrors.{opposite-opposite, length-mirror, mirror-append, mirror-zero, mirror_stands}
+pub use Rattle.crn_vec.proofs.Mirrors.{opposite-opposite, length-mirror, mirror-append, mirror-zero, mirror_feasible}
 -- Visit lists, their lengths, and the budgets that they exceed.
 pub use Rattle.crn_vec.proofs.VisitLaws.{are_one, longer_by, passes_by, passes_at, passes_first, passes_then}
 pub use Rattle.crn_vec.proofs.VisitLaws.{visits_then, visits_ended}
@@ -89,11 +89,11 @@ pub use Rattle.crn_vec.proofs.PrefixKinds.{row_chosen, row_open, rows_are, kinds
 -- Labels of strong classes, reaction by reaction.
 pub use Rattle.crn_vec.proofs.EvenLabels.{IsEvenAt, even_at, weak_if_even, uneven_not_weak}
 pub use Rattle.crn_vec.proofs.TableLawful.{tables_are_lawful, tables_are_steady, dot-neg, entry-neg}
-pub use Rattle.crn_vec.proofs.Discordance.{tables_stand}
+pub use Rattle.crn_vec.proofs.Discordance.{tables_feasible}
 -- The sign problem of the signals of a network, and the shape that it uses.
-pub use Rattle.crn_vec.proofs.NetSignalLaws.{top_inside, some_is, none_some, option_or, shapes_are_one, multiples_share_signals, signals_stand}
+pub use Rattle.crn_vec.proofs.NetSignalLaws.{top_inside, some_is, none_some, option_or, shapes_are_one, multiples_share_signals, signals_feasible}
 pub use Rattle.crn_vec.proofs.BothOrders.{signals_are_of_shape}
 pub use Rattle.crn_vec.proofs.OppositeShapes.{negatives_have_opposite_shapes}
 pub use Rattle.crn_vec.proofs.FewPairs.{networks_are_lawful, few_pairs, mark_yes, mark_no, other_step}
 pub use Rattle.crn_vec.proofs.SignalLawful.{signals_are_lawful, signals_are_steady}
-pub use Rattle.crn_vec.proofs.Shelves.{shelves_stand}
+pub use Rattle.crn_vec.proofs.Shelves.{shelves_feasible}

@@ -71,7 +71,7 @@ flow_over n rs bs P m l r =
       is = dot-comm m (flow n rs bs) ∙ ap (λ (k : ℕ). dot (flow k rs bs) m) (sym l) ∙ flow_sum rs bs m;
     }
 
--- what the proof stands on: the network, a positive dependence, and the line
+-- what the proof depends on: the network, a positive dependence, and the line
 record Setting (net : Net) : Type 0 where
   network : IsNetwork net
   regular : IsRegular net

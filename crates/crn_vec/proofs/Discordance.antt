@@ -1,4 +1,4 @@
--- A table is discordant exactly where some full prefix of its problem stands.
+-- A table is discordant exactly where some full prefix of its problem is feasible.
 use Rattle.std.proofs.Common.{◌≡◌, ℕ, zero, suc, ◌+◌, ◌<◌, ◌⊎◌, inl, inr, List, [], ◌∷◌, ◌++◌, length, get_or, map, drop, take, replicate, Bool, true, false, ◌&&◌, cond, refl, sym, ap, ap₂, subst, ◌∙◌, arith, eqb}
 use Rattle.std.specs.Prelude.{ℤ, pos, negsuc}
 use Rattle.std.specs.List.{AllZip, AllByRecursion}
@@ -14,10 +14,10 @@ use Rattle.crn_vec.specs.Vectors.{Mat, dot, entry}
 use Rattle.crn_vec.specs.Elementary.{InRowSpace}
 use Rattle.crn_vec.specs.Systems.{HasKind, IsSolution}
 use Rattle.crn_vec.proofs.Entries.{zip_long}
-use Rattle.crn_vec.specs.Problems.{IsFull, Stands, all_zero, SolvesA, SolvesB}
+use Rattle.crn_vec.specs.Problems.{IsFull, IsFeasible, all_zero, SolvesA, SolvesB}
 use Rattle.crn_vec.specs.Concordance.{IsTable, IsDiscordant, GoesWith, IsNought, HasPositive, HasNegative, image, shares, signed_by, product, products, is_plus, is_minus, some_sign, kind_of_sum, column_kind, kind_of_sign, row_kinds, concordance}
-use Rattle.crn_vec.specs.TableLaws.{DiscordantWhereStands}
-use Rattle.crn_vec.proofs.TableKinds.{zip_append, zip_front, zip_back, length-columns}
+use Rattle.crn_vec.specs.TableLaws.{DiscordantWhereFeasible}
+use Rattle.crn_vec.proofs.TableKinds.{zip_append, zip_prefix, zip_back, length-columns}
 
 -- the sign of a number
 abbrev pub sign : ℤ → Sign
@@ -209,18 +209,18 @@ entry-image [] x i lt = absurd (omega (arith, lt))
 entry-image (r ∷ rows) x zero lt = refl
 entry-image (r ∷ rows) x (suc i) lt = entry-image rows x i (omega (arith, lt))
 
-entry-behind : (xs ys : List ℤ) (n i : ℕ) → length xs ≡ n → entry (xs ++ ys) (n + i) ≡ entry ys i
-entry-behind [] ys zero i e = ap (entry ys) (omega arith)
-entry-behind [] ys (suc n) i e = absurd (omega (arith, e))
-entry-behind (x ∷ xs) ys zero i e = absurd (omega (arith, e))
-entry-behind (x ∷ xs) ys (suc n) i e = let k : suc n + i ≡ suc (n + i) = omega arith in rw k (entry-behind xs ys n i (omega (arith, e)))
+entry-after : (xs ys : List ℤ) (n i : ℕ) → length xs ≡ n → entry (xs ++ ys) (n + i) ≡ entry ys i
+entry-after [] ys zero i e = ap (entry ys) (omega arith)
+entry-after [] ys (suc n) i e = absurd (omega (arith, e))
+entry-after (x ∷ xs) ys zero i e = absurd (omega (arith, e))
+entry-after (x ∷ xs) ys (suc n) i e = let k : suc n + i ≡ suc (n + i) = omega arith in rw k (entry-after xs ys n i (omega (arith, e)))
 
 vector_is : (m : Mat) (x : List ℤ) → length x ≡ m.cols → InRowSpace m (x ++ image m x)
 vector_is m x e =
-    let front : take m.cols (x ++ image m x) ≡ x = ap (λ (n : ℕ). take n (x ++ image m x)) (sym e) ∙ take-append_seam x (image m x) in
+    let prefix : take m.cols (x ++ image m x) ≡ x = ap (λ (n : ℕ). take n (x ++ image m x)) (sym e) ∙ take-append_seam x (image m x) in
     record {
       long = length-append x (image m x) ∙ ap₂ (λ (i j : ℕ). i + j) e (length-image m x);
-      is = λ i lt. entry-behind x (image m x) m.cols i e ∙ entry-image m.rows x i lt ∙ ap (dot (get_or m.rows i [])) (sym front);
+      is = λ i lt. entry-after x (image m x) m.cols i e ∙ entry-image m.rows x i lt ∙ ap (dot (get_or m.rows i [])) (sym prefix);
     }
 
 pub solution_of : (m : Mat) (ks qs : List Kind) (x : List ℤ) → length x ≡ m.cols → AllZip HasKind ks x → AllZip HasKind qs (image m x) → IsSolution m (ks ++ qs) x
@@ -248,8 +248,8 @@ image_is m v s =
 pub parts_of : (m : Mat) (ks qs : List Kind) (x : List ℤ) → length ks ≡ m.cols → IsSolution m (ks ++ qs) x → TwoParts m ks qs x
 parts_of m ks qs x e s =
     let v = s.0 in
-    let front : take (length ks) v ≡ x = ap (λ (n : ℕ). take n v) e ∙ s.1.columns in
-    let k : AllZip HasKind ks x = subst (λ (l : List ℤ). AllZip HasKind ks l) front (zip_front HasKind ks qs v s.1.each) in
+    let prefix : take (length ks) v ≡ x = ap (λ (n : ℕ). take n v) e ∙ s.1.columns in
+    let k : AllZip HasKind ks x = subst (λ (l : List ℤ). AllZip HasKind ks l) prefix (zip_prefix HasKind ks qs v s.1.each) in
     let back : drop (length ks) v ≡ image m x = ap (λ (n : ℕ). drop n v) e ∙ image_is m v s.1.space ∙ ap (image m) s.1.columns in
     record {
       long = zip_long HasKind ks x k ∙ e;
@@ -284,8 +284,8 @@ rows_of_table : (table : List (List Sign)) (n : ℕ) (xs : List ℤ) → length 
 rows_of_table [] n xs e h = tt
 rows_of_table (ss ∷ table) n xs e h = (h.0 ∙ sym e, rows_of_table table n xs e h.1)
 
-pub stands_by : (m : Mat) (table : List (List Sign)) → IsTable m table → (alpha weights : List ℤ) → IsDiscordant m table alpha weights → (p : List Sign) × IsFull (concordance m table) p × Stands (concordance m table) p
-stands_by m table t alpha weights d =
+pub feasible_by : (m : Mat) (table : List (List Sign)) → IsTable m table → (alpha weights : List ℤ) → IsDiscordant m table alpha weights → (p : List Sign) × IsFull (concordance m table) p × IsFeasible (concordance m table) p
+feasible_by m table t alpha weights d =
     let sigma = image m weights in
     let long : length sigma ≡ length m.rows = length-image m weights in (
       signs_of sigma,
@@ -320,8 +320,8 @@ discordant_named m table t p alpha weights f o sa sb =
           (subst (λ (q : List Sign). AllZip HasKind (map (λ ss. column_kind ss q) table) alpha) is a.columns);
     }
 
-pub discordant_by : (m : Mat) (table : List (List Sign)) → IsTable m table → (p : List Sign) → IsFull (concordance m table) p → Stands (concordance m table) p → (alpha : List ℤ) × (weights : List ℤ) × IsDiscordant m table alpha weights
+pub discordant_by : (m : Mat) (table : List (List Sign)) → IsTable m table → (p : List Sign) → IsFull (concordance m table) p → IsFeasible (concordance m table) p → (alpha : List ℤ) × (weights : List ℤ) × IsDiscordant m table alpha weights
 discordant_by m table t p f s = (s.part_a.0, s.part_b.0, discordant_named m table t p s.part_a.0 s.part_b.0 f s.opened s.part_a.1 s.part_b.1)
 
-pub tables_stand : (m : Mat) (table : List (List Sign)) → IsTable m table → DiscordantWhereStands m table
-tables_stand m table t = record { named = discordant_named m table t; stands = stands_by m table t; discordant = discordant_by m table t }
+pub tables_feasible : (m : Mat) (table : List (List Sign)) → IsTable m table → DiscordantWhereFeasible m table
+tables_feasible m table t = record { named = discordant_named m table t; feasible = feasible_by m table t; discordant = discordant_by m table t }

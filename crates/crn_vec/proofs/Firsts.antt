@@ -127,19 +127,19 @@ firsts_new {A} same d xs x h =
       | inr b ↦ let one : filter (is_new same xs) (x ∷ []) ≡ x ∷ [] = rw b.0 refl in firsts_append same xs (x ∷ []) ∙ ap (λ (t : List A). firsts same xs ++ t) one
     ]
 
--- repeats may be dropped from a part in front
+-- repeats may be dropped from a prefix
 pub firsts_firsts : {A : Type 0} (same : A → A → Bool) (d : (a b : A) → Decides (same a b) (a ≡ b)) (xs ys : List A) → firsts same (firsts same xs ++ ys) ≡ firsts same (xs ++ ys)
 firsts_firsts {A} same d xs ys =
     let new : (y : A) → is_new same (firsts same xs) y ≡ is_new same xs y = new_same same d (firsts same xs) xs (firsts_from same xs) (firsts_has same d xs) in
-    let front : firsts same (firsts same xs) ≡ firsts same xs = firsts_all same d (firsts same xs) (firsts_distinct same d xs) in
+    let prefix : firsts same (firsts same xs) ≡ firsts same xs = firsts_all same d (firsts same xs) (firsts_distinct same d xs) in
     firsts_append same (firsts same xs) ys
-    ∙ ap (λ (t : List A). t ++ filter (is_new same (firsts same xs)) (firsts same ys)) front
+    ∙ ap (λ (t : List A). t ++ filter (is_new same (firsts same xs)) (firsts same ys)) prefix
     ∙ ap (λ (t : List A). firsts same xs ++ t) (filter_same (is_new same (firsts same xs)) (is_new same xs) (firsts same ys) new)
     ∙ sym (firsts_append same xs ys)
 
 -- the first appearances of a prefix are a prefix
-pub firsts_front : {A : Type 0} (same : A → A → Bool) (xs ys : List A) → (more : List A) × (firsts same (xs ++ ys) ≡ firsts same xs ++ more)
-firsts_front same xs ys = (filter (is_new same xs) (firsts same ys), firsts_append same xs ys)
+pub firsts_prefix : {A : Type 0} (same : A → A → Bool) (xs ys : List A) → (more : List A) × (firsts same (xs ++ ys) ≡ firsts same xs ++ more)
+firsts_prefix same xs ys = (filter (is_new same xs) (firsts same ys), firsts_append same xs ys)
 
 pub firsts_length : {A : Type 0} (same : A → A → Bool) (xs ys : List A) → length (firsts same xs) ≤ length (firsts same (xs ++ ys))
 firsts_length same xs ys = let e = ap length (firsts_append same xs ys) in let l = length-append (firsts same xs) (filter (is_new same xs) (firsts same ys)) in omega (arith, e, l)

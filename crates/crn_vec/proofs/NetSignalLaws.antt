@@ -1,4 +1,4 @@
--- Signals of a network and its shape: the shape is one, positive multiples share signals, and a signal gives a prefix that stands.
+-- Signals of a network and its shape: the shape is one, positive multiples share signals, and a signal gives a feasible prefix.
 use Rattle.std.proofs.Common.{◌≡◌, ℕ, zero, suc, ◌<◌, ◌⊎◌, inl, inr, List, [], ◌∷◌, length, get_or, map, refl, sym, ap, subst, ◌∙◌, arith}
 use Rattle.std.specs.Prelude.{ℤ, pos, negsuc, ◌-ℤ◌, ◌*ℤ◌, ◌≤ℤ◌, ◌<ℤ◌, Option, Some, None, slice_index_or}
 use Rattle.std.specs.List.{AllZip, AllByRecursion}
@@ -19,7 +19,7 @@ use Rattle.crn_vec.specs.NetSystems.{reaction_system}
 use Rattle.crn_vec.specs.Problems.{opposite}
 use Rattle.crn_vec.specs.Concordance.{sign, image}
 use Rattle.crn_vec.specs.Signals.{Pair, Shape, complex_at, shelf_at, shelf_of, HasPairSign, IsSignal}
-use Rattle.crn_vec.specs.NetSignals.{top_at, AreTops, complex_of, IsSignalOver, IsSignalOf, IsPairOf, IsShapeOf, MultiplesShareSignals, SignalsStand, ShapesAreOne}
+use Rattle.crn_vec.specs.NetSignals.{top_at, AreTops, complex_of, IsSignalOver, IsSignalOf, IsPairOf, IsShapeOf, MultiplesShareSignals, SignalsAreFeasible, ShapesAreOne}
 use Rattle.crn_vec.proofs.Entries.{lt_or}
 use Rattle.crn_vec.proofs.Ascending.{above_in, above_ascending}
 use Rattle.crn_vec.proofs.Ring.{pos_pos}
@@ -27,7 +27,7 @@ use Rattle.crn_vec.proofs.SumLaws.{sums_one, sum_by, dot_ratio}
 use Rattle.crn_vec.proofs.WalkLaws.{terminal_on}
 use Rattle.crn_vec.proofs.Reached.{reaction_in, inside_at}
 use Rattle.crn_vec.proofs.NetTables.{networks_have_tables}
-use Rattle.crn_vec.proofs.Shelves.{stands_by}
+use Rattle.crn_vec.proofs.Shelves.{feasible_by}
 
 -- ---- terminal classes are numbered in one way
 
@@ -185,9 +185,9 @@ signal_of_shape net g s n regular sh shelves mu level weights sg =
           sign_at mu k l ∙ over.same k (omega (arith, l, over.long_mu)) ∙ ap sign (sym (tables.combines weights k)) ∙ sym (sign_at change k (omega (arith, l, over.long_mu, long_change))));
     }
 
-pub signals_stand : SignalsStand
-signals_stand net g s n regular sh shelves mu level weights sg =
-    stands_by net s (reaction_system net) n.partial (networks_have_tables net n).columns sh.shape shelves mu level weights (signal_of_shape net g s n regular sh shelves mu level weights sg)
+pub signals_feasible : SignalsAreFeasible
+signals_feasible net g s n regular sh shelves mu level weights sg =
+    feasible_by net s (reaction_system net) n.partial (networks_have_tables net n).columns sh.shape shelves mu level weights (signal_of_shape net g s n regular sh shelves mu level weights sg)
 
 -- ---- the shape is one
 

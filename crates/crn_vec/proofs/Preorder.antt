@@ -6,7 +6,7 @@ use Rattle.std.specs.Prelude.{map}
 use Rattle.crn_vec.specs.declared.signs.Sign.{Sign}
 use Rattle.crn_vec.specs.declared.signs.Sign.TheVariants.{Zero, Plus, Minus}
 use Rattle.crn_vec.specs.Lists.{IsIn}
-use Rattle.crn_vec.specs.Problems.{Signed, IsFull, Stands, children, options_below, all_zero}
+use Rattle.crn_vec.specs.Problems.{Signed, IsFull, IsFeasible, children, options_below, all_zero}
 use Rattle.crn_vec.specs.Visits.{Visits, over, fallen, ended, opened, IsReached, first, child, root}
 use Rattle.crn_vec.specs.VisitList.{IsEarlier, IsBefore, AreInPreorder, EndsVisits, VisitsArePreorder}
 
@@ -179,7 +179,7 @@ ordered w (p ∷ due) (p' ∷ l) f (opened s n v) h =
 -- nothing that is visited comes after what ends the list
 none_after : (w : Signed) (due l : List (List Sign)) (f : Bool) → Visits w due l f → AreInPreorder l → (q r : List Sign) → IsIn q l → IsIn r l → EndsVisits w r → IsBefore r q → ⊥
 none_after w due l f over o q r i j e b = absurd i
-none_after w (p ∷ due) (p' ∷ l) f (fallen n v) o q r i (inl k) e b = n (subst (λ (t : List Sign). Stands w t) k e.1)
+none_after w (p ∷ due) (p' ∷ l) f (fallen n v) o q r i (inl k) e b = n (subst (λ (t : List Sign). IsFeasible w t) k e.1)
 none_after w (p ∷ due) (p' ∷ l) f (fallen n v) o q r (inl k) (inr j) e b = one_way p r (o.0 r j) (subst (λ (t : List Sign). IsBefore r t) k b)
 none_after w (p ∷ due) (p' ∷ l) f (fallen n v) o q r (inr i) (inr j) e b = none_after w due l f v o.1 q r i j e b
 none_after w (p ∷ due) (p' ∷ l) f (ended s u) o q r (inl i) (inl j) e b =
@@ -213,9 +213,9 @@ due_past w (p ∷ due) (p' ∷ l) f (ended s u) h q (inr i) = inr (record { r = 
 due_past w (p ∷ due) (p' ∷ l) f (opened s n v) h q (inl e) = inl (inl e)
 due_past w (p ∷ due) (p' ∷ l) f (opened s n v) h q (inr i) = past_then w p l q (due_past w (children p ++ due) l f v (due_left p (all_zero p) due h.0 h.1) q (in_then q (children p) due i))
 
-children_past : (w : Signed) (due l : List (List Sign)) (f : Bool) → Visits w due l f → AreLeft due → (x q : List Sign) → IsIn x l → Stands w x → (IsFull w x → ⊥) → IsIn q (children x) → IsPast w l q
+children_past : (w : Signed) (due l : List (List Sign)) (f : Bool) → Visits w due l f → AreLeft due → (x q : List Sign) → IsIn x l → IsFeasible w x → (IsFull w x → ⊥) → IsIn q (children x) → IsPast w l q
 children_past w due l f over h x q i s n c = absurd i
-children_past w (p ∷ due) (p' ∷ l) f (fallen m v) h x q (inl e) s n c = absurd (m (subst (λ (t : List Sign). Stands w t) e s))
+children_past w (p ∷ due) (p' ∷ l) f (fallen m v) h x q (inl e) s n c = absurd (m (subst (λ (t : List Sign). IsFeasible w t) e s))
 children_past w (p ∷ due) (p' ∷ l) f (fallen m v) h x q (inr i) s n c = past_then w p l q (children_past w due l f v h.1 x q i s n c)
 children_past w (p ∷ due) (p' ∷ l) f (ended t u) h x q (inl e) s n c = absurd (n (subst (λ (t : List Sign). IsFull w t) (sym e) u))
 children_past w (p ∷ due) (p' ∷ l) f (ended t u) h x q (inr i) s n c = absurd i
@@ -255,7 +255,7 @@ found_one w (p ∷ due) (p' ∷ l) f (opened s n v) z = let k = found_one w (chi
 -- and what ends a list is found
 end_found : (w : Signed) (due l : List (List Sign)) (f : Bool) → Visits w due l f → (r : List Sign) → IsIn r l → EndsVisits w r → f ≡ true
 end_found w due l f over r i e = absurd i
-end_found w (p ∷ due) (p' ∷ l) f (fallen n v) r (inl k) e = absurd (n (subst (λ (t : List Sign). Stands w t) k e.1))
+end_found w (p ∷ due) (p' ∷ l) f (fallen n v) r (inl k) e = absurd (n (subst (λ (t : List Sign). IsFeasible w t) k e.1))
 end_found w (p ∷ due) (p' ∷ l) f (fallen n v) r (inr i) e = end_found w due l f v r i e
 end_found w (p ∷ due) (p' ∷ l) f (ended s u) r i e = refl
 end_found w (p ∷ due) (p' ∷ l) f (opened s n v) r (inl k) e = absurd (n (subst (λ (t : List Sign). IsFull w t) k e.0))

@@ -122,22 +122,22 @@ base_gives_rank vs places choice free all = record {
 
 -- ---- a part of independent vectors
 
-front : (c : List ℤ) (us more : List (List ℤ)) (k : ℕ) → length c ≡ length us → dot (c ++ zeros (length more)) (column (us ++ more) k) ≡ dot c (column us k)
-front [] [] more k e = zeros-dot (length more) (column more k)
-front [] (u ∷ us) more k e = absurd (omega arith)
-front (x ∷ c) [] more k e = absurd (omega arith)
-front (x ∷ c) (u ∷ us) more k e = omega (arith, ints, front c us more k (let f : length c ≡ length us = omega arith in f))
+dot_prefix : (c : List ℤ) (us more : List (List ℤ)) (k : ℕ) → length c ≡ length us → dot (c ++ zeros (length more)) (column (us ++ more) k) ≡ dot c (column us k)
+dot_prefix [] [] more k e = zeros-dot (length more) (column more k)
+dot_prefix [] (u ∷ us) more k e = absurd (omega arith)
+dot_prefix (x ∷ c) [] more k e = absurd (omega arith)
+dot_prefix (x ∷ c) (u ∷ us) more k e = omega (arith, ints, dot_prefix c us more k (let f : length c ≡ length us = omega arith in f))
 
-zero_front : (c z : List ℤ) → IsZero (c ++ z) → IsZero c
-zero_front [] z h k = refl
-zero_front (x ∷ c) z h zero = h 0
-zero_front (x ∷ c) z h (suc k) = zero_front c z (λ j. h (suc j)) k
+zero_prefix : (c z : List ℤ) → IsZero (c ++ z) → IsZero c
+zero_prefix [] z h k = refl
+zero_prefix (x ∷ c) z h zero = h 0
+zero_prefix (x ∷ c) z h (suc k) = zero_prefix c z (λ j. h (suc j)) k
 
-independent_front : (us more : List (List ℤ)) → IsIndependent (us ++ more) → IsIndependent us
-independent_front us more free c long none =
-    zero_front c (zeros (length more)) (free (c ++ zeros (length more))
+independent_prefix : (us more : List (List ℤ)) → IsIndependent (us ++ more) → IsIndependent us
+independent_prefix us more free c long none =
+    zero_prefix c (zeros (length more)) (free (c ++ zeros (length more))
     (omega (arith, length-append c (zeros (length more)), length-zeros (length more), length-append us more, long))
-    (λ k. front c us more k long ∙ none k))
+    (λ k. dot_prefix c us more k long ∙ none k))
 
 above_take : (n m : ℕ) (xs : List ℕ) → IsAbove m xs → IsAbove m (take n xs)
 above_take zero m xs h = tt
@@ -171,7 +171,7 @@ not_less vs s t r q = elim (lt_or s t) as (λ _. t ≤ s) [
   | inl lt ↦ absurd (r.greatest (take (suc s) q.places)
       (record { ascending = ascending_take (suc s) q.places q.choice.ascending; below = λ k i. q.choice.below k (in_take (suc s) k q.places i) })
       (long_take (suc s) q.places (omega (arith, q.count)))
-      (independent_front (chosen (take (suc s) q.places) vs) (chosen (drop (suc s) q.places) vs) (subst IsIndependent (chosen_split (suc s) q.places vs) q.independent)))
+      (independent_prefix (chosen (take (suc s) q.places) vs) (chosen (drop (suc s) q.places) vs) (subst IsIndependent (chosen_split (suc s) q.places vs) q.independent)))
 ]
 
 pub rank_is_one_number : RankIsOneNumber

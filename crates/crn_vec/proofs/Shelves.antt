@@ -1,4 +1,4 @@
--- A signal is there exactly where some full prefix of its problem stands.
+-- A signal is there exactly where some full prefix of its problem is feasible.
 use Rattle.std.proofs.Common.{◌≡◌, ◌≢◌, ℕ, zero, suc, ◌+◌, ◌<◌, ◌⊎◌, inl, inr, List, [], ◌∷◌, ◌++◌, length, map, take, drop, replicate, Bool, true, false, ◌&&◌, cond, refl, sym, ap, ap₂, subst, ◌∙◌, arith, eqb}
 use Rattle.std.specs.Prelude.{ℤ, pos, negsuc, neg_ℤ, ◌+ℤ◌, ◌-ℤ◌, ◌*ℤ◌, Option, Some, None, nat_lt, nat_le, ◌||◌}
 use Rattle.std.specs.List.{AllZip, AllByRecursion}
@@ -14,21 +14,21 @@ use Rattle.crn_vec.specs.declared.signs.Kind.TheVariants.{Free}
 use Rattle.crn_vec.specs.Vectors.{Mat, dot, entry, HasSign}
 use Rattle.crn_vec.specs.Network.{Net, IsPartialNetwork, minus}
 use Rattle.crn_vec.specs.Systems.{HasKind, IsSolution}
-use Rattle.crn_vec.specs.Problems.{IsFull, Stands, opposite, all_zero, SolvesA, SolvesB}
+use Rattle.crn_vec.specs.Problems.{IsFull, IsFeasible, opposite, all_zero, SolvesA, SolvesB}
 use Rattle.crn_vec.specs.Concordance.{sign, image, kind_of_sign, row_kinds, kinds_b_of}
-use Rattle.crn_vec.proofs.TableKinds.{zip_append, zip_front, zip_back, length-rows}
+use Rattle.crn_vec.proofs.TableKinds.{zip_append, zip_prefix, zip_back, length-rows}
 use Rattle.crn_vec.proofs.Discordance.{solution_of, parts_of, rows_have, rows_are, frees_have, length-image}
 use Rattle.crn_vec.specs.Signals.{Pair, Shape, complex_at, shelf_at, shelf_of, HasPairSign, IsSignal, complex_row, pair_row, shelf_matrix, top_kind, pair_kind_by, pair_kind, signals, IsStoichiometric, IsShape}
-use Rattle.crn_vec.specs.SignalLaws.{SignalWhereStands}
+use Rattle.crn_vec.specs.SignalLaws.{SignalWhereFeasible}
 use Rattle.crn_vec.proofs.Level.{minus-dot, all_at, level_zero}
 
 -- ---- rows of the matrix over (mu, level)
 
-dot-behind : (xs mu : List ℤ) (a b : ℤ) → length xs ≡ length mu → dot (xs ++ a ∷ []) (mu ++ b ∷ []) ≡ dot xs mu +ℤ (a *ℤ b)
-dot-behind [] [] a b e = omega (arith, ints)
-dot-behind [] (u ∷ mu) a b e = absurd (omega (arith, e))
-dot-behind (x ∷ xs) [] a b e = absurd (omega (arith, e))
-dot-behind (x ∷ xs) (u ∷ mu) a b e = omega (arith, ints, dot-behind xs mu a b (omega (arith, e)))
+dot-last : (xs mu : List ℤ) (a b : ℤ) → length xs ≡ length mu → dot (xs ++ a ∷ []) (mu ++ b ∷ []) ≡ dot xs mu +ℤ (a *ℤ b)
+dot-last [] [] a b e = omega (arith, ints)
+dot-last [] (u ∷ mu) a b e = absurd (omega (arith, e))
+dot-last (x ∷ xs) [] a b e = absurd (omega (arith, e))
+dot-last (x ∷ xs) (u ∷ mu) a b e = omega (arith, ints, dot-last xs mu a b (omega (arith, e)))
 
 minus_one : (x : ℤ) → negsuc 0 *ℤ x ≡ neg_ℤ x
 minus_one (pos zero) = refl
@@ -36,7 +36,7 @@ minus_one (pos (suc n)) = omega (arith, ints)
 minus_one (negsuc n) = omega (arith, ints)
 
 complex_dot : (y mu : List ℤ) (level : ℤ) → length y ≡ length mu → dot (complex_row y) (mu ++ level ∷ []) ≡ dot y mu -ℤ level
-complex_dot y mu level e = omega (arith, ints, dot-behind y mu (negsuc 0) level e, minus_one level)
+complex_dot y mu level e = omega (arith, ints, dot-last y mu (negsuc 0) level e, minus_one level)
 
 length-minus : (xs ys : List ℤ) → length xs ≡ length ys → length (minus xs ys) ≡ length xs
 length-minus [] [] e = refl
@@ -48,7 +48,7 @@ pair_dot : (s : Shape) (pair : Pair) (mu : List ℤ) (level : ℤ) → length (c
     → dot (pair_row s pair) (mu ++ level ∷ []) ≡ dot (complex_at s pair.high) mu -ℤ dot (complex_at s pair.low) mu
 pair_dot s pair mu level h l =
     let same : length (complex_at s pair.high) ≡ length (complex_at s pair.low) = h ∙ sym l in
-    omega (arith, ints, dot-behind (minus (complex_at s pair.high) (complex_at s pair.low)) mu (pos 0) level (length-minus (complex_at s pair.high) (complex_at s pair.low) same ∙ h), minus-dot (complex_at s pair.high) (complex_at s pair.low) mu same, zero-*ℤ level)
+    omega (arith, ints, dot-last (minus (complex_at s pair.high) (complex_at s pair.low)) mu (pos 0) level (length-minus (complex_at s pair.high) (complex_at s pair.low) same ∙ h), minus-dot (complex_at s pair.high) (complex_at s pair.low) mu same, zero-*ℤ level)
 
 -- ---- signs and kinds
 
@@ -210,11 +210,11 @@ kinds_from s shelves signs = (row_kinds s.species signs ++ Free ∷ []) ++ (map 
 rows_image : (s : Shape) (x : List ℤ) → image (shelf_matrix s) x ≡ map (λ row. dot row x) (map complex_row s.complexes) ++ map (λ row. dot row x) (map (pair_row s) s.pairs)
 rows_image s x = map-append (λ row. dot row x) (map complex_row s.complexes) (map (pair_row s) s.pairs)
 
-pub stands_by : (net : Net) (s : Shape) (m : Mat) → IsPartialNetwork net → IsStoichiometric net m → IsShape net s → (shelves : List Sign) (mu : List ℤ) (level : ℤ) (weights : List ℤ) → IsSignal s m shelves mu level weights → (p : List Sign) × IsFull (signals s m) p × Stands (signals s m) p
-stands_by net s m part st sh shelves mu level weights sg =
+pub feasible_by : (net : Net) (s : Shape) (m : Mat) → IsPartialNetwork net → IsStoichiometric net m → IsShape net s → (shelves : List Sign) (mu : List ℤ) (level : ℤ) (weights : List ℤ) → IsSignal s m shelves mu level weights → (p : List Sign) × IsFull (signals s m) p × IsFeasible (signals s m) p
+feasible_by net s m part st sh shelves mu level weights sg =
     let signs : List Sign = map sign mu in
     let p : List Sign = shelves ++ signs in
-    let front : take s.count p ≡ shelves = ap (λ (n : ℕ). take n p) (sym sg.long_shelves) ∙ take-append_seam shelves signs in
+    let prefix : take s.count p ≡ shelves = ap (λ (n : ℕ). take n p) (sym sg.long_shelves) ∙ take-append_seam shelves signs in
     let back : drop s.count p ≡ signs = ap (λ (n : ℕ). drop n p) (sym sg.long_shelves) ∙ drop-append_seam shelves signs in
     let wide : Wide mu s.complexes = wide_all mu s.species s.complexes sg.long_mu sh.widths in
     let x : List ℤ = mu ++ level ∷ [] in
@@ -230,10 +230,10 @@ stands_by net s m part st sh shelves mu level weights sg =
       omega (arith, length-append shelves signs, length-sign mu, sg.long_shelves, sg.long_mu),
       record {
         opened = neither (nat_le s.count (length p)) (all_zero (take s.count p)) (eqb (length p) (s.count + s.species)) (all_zero (drop s.count p))
-            (ap all_zero front ∙ is_false (all_zero shelves) not_level) (ap all_zero back ∙ is_false (all_zero signs) not_zero);
+            (ap all_zero prefix ∙ is_false (all_zero shelves) not_level) (ap all_zero back ∙ is_false (all_zero signs) not_zero);
         part_a = (
           x,
-          subst (λ (ks : List Kind). IsSolution (shelf_matrix s) ks x) (sym (ap₂ (λ (a b : List Sign). kinds_from s a b) front back))
+          subst (λ (ks : List Kind). IsSolution (shelf_matrix s) ks x) (sym (ap₂ (λ (a b : List Sign). kinds_from s a b) prefix back))
               (solution_of (shelf_matrix s) (row_kinds s.species signs ++ Free ∷ []) (map (top_kind shelves) s.tops ++ map (pair_kind shelves) s.pairs) x (length-append mu (level ∷ []) ∙ ap (λ (n : ℕ). n + 1) sg.long_mu) columns rows),
         );
         part_b = (
@@ -250,8 +250,8 @@ last_of (y ∷ []) zero e = refl
 last_of (y ∷ z ∷ x) zero e = absurd (omega (arith, e))
 last_of (y ∷ x) (suc n) e = ap (λ (t : List ℤ). y ∷ t) (last_of x n (omega (arith, e)))
 
-front_zip : (ks qs : List Kind) (v u : List ℤ) → length ks ≡ length v → AllZip HasKind (ks ++ qs) (v ++ u) → AllZip HasKind ks v
-front_zip ks qs v u e h = subst (λ (l : List ℤ). AllZip HasKind ks l) (ap (λ (n : ℕ). take n (v ++ u)) e ∙ take-append_seam v u) (zip_front HasKind ks qs (v ++ u) h)
+prefix_zip : (ks qs : List Kind) (v u : List ℤ) → length ks ≡ length v → AllZip HasKind (ks ++ qs) (v ++ u) → AllZip HasKind ks v
+prefix_zip ks qs v u e h = subst (λ (l : List ℤ). AllZip HasKind ks l) (ap (λ (n : ℕ). take n (v ++ u)) e ∙ take-append_seam v u) (zip_prefix HasKind ks qs (v ++ u) h)
 
 back_zip : (ks qs : List Kind) (v u : List ℤ) → length ks ≡ length v → AllZip HasKind (ks ++ qs) (v ++ u) → AllZip HasKind qs u
 back_zip ks qs v u e h = subst (λ (l : List ℤ). AllZip HasKind qs l) (ap (λ (n : ℕ). drop n (v ++ u)) e ∙ drop-append_seam v u) (zip_back HasKind ks qs (v ++ u) h)
@@ -278,7 +278,7 @@ signal_named net s m st sh p x weights f o sa sb =
     let is : x ≡ mu ++ level ∷ [] = last_of x s.species a.long in
     let long_mu : length mu ≡ s.species = length-take-le s.species x (omega (arith, a.long)) in
     let wide : Wide mu s.complexes = wide_all mu s.species s.complexes long_mu sh.widths in
-    let columns : AllZip HasKind (row_kinds s.species q) mu = front_zip (row_kinds s.species q) (Free ∷ []) mu (level ∷ []) (length-rows s.species q ∙ sym long_mu) (subst (λ (l : List ℤ). AllZip HasKind (row_kinds s.species q ++ Free ∷ []) l) is a.columns) in
+    let columns : AllZip HasKind (row_kinds s.species q) mu = prefix_zip (row_kinds s.species q) (Free ∷ []) mu (level ∷ []) (length-rows s.species q ∙ sym long_mu) (subst (λ (l : List ℤ). AllZip HasKind (row_kinds s.species q ++ Free ∷ []) l) is a.columns) in
     let q_is : q ≡ map sign mu = rows_are s.species q mu long_q columns in
     let q_too : q ≡ map sign (image m weights) = rows_are (length m.rows) q (image m weights) (long_q ∙ sh.species ∙ sym st.species) b.rows in
     let y : List ℤ = mu ++ level ∷ [] in
@@ -289,7 +289,7 @@ signal_named net s m st sh p x weights f o sa sb =
       long_mu = long_mu;
       long_weights = b.long;
       lies = have_tops shelves mu level s.count s.tops s.complexes long_shelves sh.tops_below wide
-          (front_zip tops pairs (map (λ row. dot row y) (map complex_row s.complexes)) (map (λ row. dot row y) (map (pair_row s) s.pairs)) even rows);
+          (prefix_zip tops pairs (map (λ row. dot row y) (map complex_row s.complexes)) (map (λ row. dot row y) (map (pair_row s) s.pairs)) even rows);
       over_pairs = have_pairs s shelves mu level s.count s.pairs long_shelves (wide_pairs s mu s.pairs wide sh.pairs_below)
           (back_zip tops pairs (map (λ row. dot row y) (map complex_row s.complexes)) (map (λ row. dot row y) (map (pair_row s) s.pairs)) even rows);
       some = elim (some_entry mu) as (λ _. (k : ℕ) × (entry mu k ≢ pos 0)) [
@@ -299,8 +299,8 @@ signal_named net s m st sh p x weights f o sa sb =
       same = sym q_is ∙ q_too;
     }
 
-pub signal_by : (net : Net) (s : Shape) (m : Mat) → IsStoichiometric net m → IsShape net s → (p : List Sign) → IsFull (signals s m) p → Stands (signals s m) p → (shelves : List Sign) × (mu : List ℤ) × (level : ℤ) × (weights : List ℤ) × IsSignal s m shelves mu level weights
+pub signal_by : (net : Net) (s : Shape) (m : Mat) → IsStoichiometric net m → IsShape net s → (p : List Sign) → IsFull (signals s m) p → IsFeasible (signals s m) p → (shelves : List Sign) × (mu : List ℤ) × (level : ℤ) × (weights : List ℤ) × IsSignal s m shelves mu level weights
 signal_by net s m st sh p f sd = (take s.count p, take s.species sd.part_a.0, entry sd.part_a.0 s.species, sd.part_b.0, signal_named net s m st sh p sd.part_a.0 sd.part_b.0 f sd.opened sd.part_a.1 sd.part_b.1)
 
-pub shelves_stand : (net : Net) (s : Shape) (m : Mat) → IsPartialNetwork net → IsStoichiometric net m → IsShape net s → SignalWhereStands s m
-shelves_stand net s m part st sh = record { stands = stands_by net s m part st sh; named = signal_named net s m st sh; signal = signal_by net s m st sh }
+pub shelves_feasible : (net : Net) (s : Shape) (m : Mat) → IsPartialNetwork net → IsStoichiometric net m → IsShape net s → SignalWhereFeasible s m
+shelves_feasible net s m part st sh = record { feasible = feasible_by net s m part st sh; named = signal_named net s m st sh; signal = signal_by net s m st sh }

@@ -19,7 +19,7 @@ use Rattle.crn_vec.proofs.TableLawful.{solution_refined, solution_opposite, all_
 use Rattle.crn_vec.specs.Signals.{Pair, Shape, shelf_at, complex_row, pair_row, shelf_matrix, top_kind, pair_kind_by, pair_kind, shelf_kinds, is_shelf_closed, signals}
 use Rattle.crn_vec.specs.SignalLaws.{IsFew}
 
--- ---- fronts and backs of longer prefixes
+-- ---- both parts of longer prefixes
 
 take-append : (n : ℕ) (p q : List Sign) → take n (p ++ q) ≡ take n p ++ take (n - length p) q
 take-append n [] q = let e : n - 0 ≡ n = omega arith in rw e (none n)
@@ -41,10 +41,10 @@ drop-append (suc n) (s ∷ p) q = let e : suc n - suc (length p) ≡ n - length 
 
 -- ---- longer prefixes
 
-at_front : (t rest : List Sign) (k : ℕ) → k < length t → shelf_at (t ++ rest) k ≡ shelf_at t k
-at_front [] rest k lt = absurd (omega (arith, lt))
-at_front (s ∷ t) rest zero lt = refl
-at_front (s ∷ t) rest (suc k) lt = at_front t rest k (omega (arith, lt))
+at_prefix : (t rest : List Sign) (k : ℕ) → k < length t → shelf_at (t ++ rest) k ≡ shelf_at t k
+at_prefix [] rest k lt = absurd (omega (arith, lt))
+at_prefix (s ∷ t) rest zero lt = refl
+at_prefix (s ∷ t) rest (suc k) lt = at_prefix t rest k (omega (arith, lt))
 
 -- a kind that is free until its choice is made, and stays then
 kept : (t rest : List Sign) (k : ℕ) (kind : Sign → Kind) → Refines (cond (nat_lt k (length (t ++ rest))) (kind (shelf_at (t ++ rest) k)) Free) (cond (nat_lt k (length t)) (kind (shelf_at t k)) Free)
@@ -55,7 +55,7 @@ kept t rest k kind = by (nat_lt k (length t)) refl
     by true e =
         let lt : k < length t = ltb-true k (length t) e in
         let more : nat_lt k (length (t ++ rest)) ≡ true = lt-ltb k (length (t ++ rest)) (omega (arith, lt, length-append t rest)) in
-        inr (ap₂ (λ (b : Bool) (x : Sign). cond b (kind x) Free) more (at_front t rest k lt) ∙ sym (ap (λ (b : Bool). cond b (kind (shelf_at t k)) Free) e))
+        inr (ap₂ (λ (b : Bool) (x : Sign). cond b (kind x) Free) more (at_prefix t rest k lt) ∙ sym (ap (λ (b : Bool). cond b (kind (shelf_at t k)) Free) e))
 
 tops_longer : (t rest : List Sign) (tops : List (Option ℕ)) → AllZip Refines (map (top_kind (t ++ rest)) tops) (map (top_kind t) tops)
 tops_longer t rest [] = tt
@@ -150,9 +150,9 @@ closed_longer s p rest le e = elim (or_cases (nat_le s.count (length p)) (all_ze
 
 mirrored_closed : (s : Shape) (p : List Sign) → is_shelf_closed s (mirror p) ≡ is_shelf_closed s p
 mirrored_closed s p =
-    let front : all_zero (take s.count (mirror p)) ≡ all_zero (take s.count p) = ap all_zero (take-map opposite s.count p) ∙ all_zero-mirror (take s.count p) in
+    let prefix : all_zero (take s.count (mirror p)) ≡ all_zero (take s.count p) = ap all_zero (take-map opposite s.count p) ∙ all_zero-mirror (take s.count p) in
     let back : all_zero (drop s.count (mirror p)) ≡ all_zero (drop s.count p) = ap all_zero (drop-map opposite s.count p) ∙ all_zero-mirror (drop s.count p) in
-    ap₂ (λ (n : ℕ) (b : Bool × Bool). (nat_le s.count n && b.0) || (eqb n (s.count + s.species) && b.1)) (length-mirror p) (ap₂ (λ (x y : Bool). (x, y)) front back)
+    ap₂ (λ (n : ℕ) (b : Bool × Bool). (nat_le s.count n && b.0) || (eqb n (s.count + s.species) && b.1)) (length-mirror p) (ap₂ (λ (x y : Bool). (x, y)) prefix back)
 
 -- ---- lengths and numbers
 

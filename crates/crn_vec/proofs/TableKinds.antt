@@ -21,10 +21,10 @@ zip_append R [] (y ∷ ys) xs' ys' h k = absurd h
 zip_append R (x ∷ xs) [] xs' ys' h k = absurd h
 zip_append R (x ∷ xs) (y ∷ ys) xs' ys' h k = (h.0, zip_append R xs ys xs' ys' h.1 k)
 
-pub zip_front : {A B : Type 0} (R : A → B → Type 0) (xs xs' : List A) (v : List B) → AllZip R (xs ++ xs') v → AllZip R xs (take (length xs) v)
-zip_front R [] xs' v h = tt
-zip_front R (x ∷ xs) xs' [] h = absurd h
-zip_front R (x ∷ xs) xs' (y ∷ v) h = (h.0, zip_front R xs xs' v h.1)
+pub zip_prefix : {A B : Type 0} (R : A → B → Type 0) (xs xs' : List A) (v : List B) → AllZip R (xs ++ xs') v → AllZip R xs (take (length xs) v)
+zip_prefix R [] xs' v h = tt
+zip_prefix R (x ∷ xs) xs' [] h = absurd h
+zip_prefix R (x ∷ xs) xs' (y ∷ v) h = (h.0, zip_prefix R xs xs' v h.1)
 
 pub zip_back : {A B : Type 0} (R : A → B → Type 0) (xs xs' : List A) (v : List B) → AllZip R (xs ++ xs') v → AllZip R xs' (drop (length xs) v)
 zip_back R [] xs' v h = h

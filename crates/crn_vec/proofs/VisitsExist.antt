@@ -1,7 +1,7 @@
 -- There is a visit list.
 use Rattle.std.proofs.Common.{ℕ, zero, suc, ◌≤◌, List, [], ◌∷◌, ◌++◌, Bool, true, false, arith}
 use Rattle.crn_vec.specs.declared.signs.Sign.{Sign}
-use Rattle.crn_vec.specs.Problems.{Signed, IsFull, Stands, children}
+use Rattle.crn_vec.specs.Problems.{Signed, IsFull, IsFeasible, children}
 use Rattle.crn_vec.specs.Visits.{Visits, over, fallen, ended, opened, root}
 use Rattle.crn_vec.specs.VisitList.{NoProblemLacksVisits}
 use Rattle.crn_vec.proofs.Few.{AreShort, weights, short_children, short_append, grown, weight_some}
@@ -13,7 +13,7 @@ some_list : (w : Signed) (n : ℕ) (due : List (List Sign)) → AreShort w due �
 some_list w n [] h le k = k [] false over
 some_list w zero (p ∷ due) h le k = absurd (omega (arith, le, weight_some w p))
 some_list w (suc n) (p ∷ due) h le k =
-    let falls : ¬ (Stands w p) → ⊥ = λ m. some_list w n due h.1 (omega (arith, le, weight_some w p)) (λ l f v. k (p ∷ l) f (fallen m v)) in
+    let falls : ¬ (IsFeasible w p) → ⊥ = λ m. some_list w n due h.1 (omega (arith, le, weight_some w p)) (λ l f v. k (p ∷ l) f (fallen m v)) in
     falls (λ s. full_or_not w p (λ e. k (p ∷ []) true (ended s e))
     (λ ne. some_list w n (children p ++ due) (short_append w (children p) due (short_children w p h.0 ne) h.1) (omega (arith, le, grown w p due h.0 ne)) (λ l f v. k (p ∷ l) f (opened s ne v))))
 

@@ -15,7 +15,7 @@ use Rattle.crn_vec.specs.Sums.{SumsTo}
 use Rattle.crn_vec.specs.Deficiency.{IsComplex, vectors}
 use Rattle.crn_vec.specs.Confluence.{IsRegular, InConfluenceSpace, ArePositiveMultiples, negative}
 use Rattle.crn_vec.specs.NetSystems.{reaction_system}
-use Rattle.crn_vec.specs.Problems.{IsFull, IsLawful, Stands, SolvesA, SolvesB}
+use Rattle.crn_vec.specs.Problems.{IsFull, IsLawful, IsFeasible, SolvesA, SolvesB}
 use Rattle.crn_vec.specs.Concordance.{sign}
 use Rattle.crn_vec.specs.Signals.{Pair, Shape, shelf_at, shelf_of, HasPairSign, IsSignal, IsShape, signals}
 
@@ -134,13 +134,13 @@ MultiplesShareSignals = (net : Net) (g h : List ℤ) → length g ≡ length h �
     → (shelves : List Sign) (mu : List ℤ) (level : ℤ) (weights : List ℤ)
     → IsSignalOf net g shelves mu level weights → IsSignalOf net h shelves mu level weights
 
--- in a regular network a signal for g gives a full prefix that stands
-abbrev pub SignalsStand : Type 0
-SignalsStand = (net : Net) (g : List ℤ) (s : Shape) → IsNetwork net → IsRegular net
+-- in a regular network a signal for g gives a full feasible prefix
+abbrev pub SignalsAreFeasible : Type 0
+SignalsAreFeasible = (net : Net) (g : List ℤ) (s : Shape) → IsNetwork net → IsRegular net
     → IsShapeOf net g s → (shelves : List Sign) (mu : List ℤ) (level : ℤ) (weights : List ℤ)
     → IsSignalOf net g shelves mu level weights
     → (p : List Sign) × IsFull (signals s (reaction_system net)) p
-    × Stands (signals s (reaction_system net)) p
+    × IsFeasible (signals s (reaction_system net)) p
 
 -- a signal of the network for g is one over its shape, which has each cut pair in one order only
 pub record AreOfShape (net : Net) (g : List ℤ) (s : Shape) : Type 0 where

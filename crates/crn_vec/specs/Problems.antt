@@ -68,8 +68,8 @@ SolvesA w p x = IsSolution w.matrix_a (w.kinds_a p) x
 abbrev pub SolvesB : Signed → List Sign → List ℤ → Type 0
 SolvesB w p x = IsSolution w.matrix_b (w.kinds_b p) x
 
--- a prefix stands: it is not closed, and both its parts have solutions
-pub record Stands (w : Signed) (p : List Sign) : Type 0 where
+-- a prefix is feasible: it is not closed, and both its parts have solutions
+pub record IsFeasible (w : Signed) (p : List Sign) : Type 0 where
   pub opened : w.closed p ≡ false
   pub part_a : (x : List ℤ) × SolvesA w p x
   pub part_b : (x : List ℤ) × SolvesB w p x

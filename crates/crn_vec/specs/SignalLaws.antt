@@ -6,7 +6,7 @@ use Rattle.crn_vec.specs.declared.signs.Sign.{Sign}
 use Rattle.crn_vec.specs.Vectors.{Mat, dot, entry}
 use Rattle.crn_vec.specs.Network.{Net, IsPartialNetwork}
 use Rattle.crn_vec.specs.Concordance.{sign, image}
-use Rattle.crn_vec.specs.Problems.{IsFull, IsLawful, IsSteady, Stands, SolvesA, SolvesB}
+use Rattle.crn_vec.specs.Problems.{IsFull, IsLawful, IsSteady, IsFeasible, SolvesA, SolvesB}
 use Rattle.crn_vec.specs.Signals.{Shape, IsSignal, IsStoichiometric, IsShape, signals}
 
 -- if every complex is on the level, mu is orthogonal to each reaction vector; so if it also has the
@@ -22,23 +22,23 @@ LevelIsZero = (net : Net) (m : Mat) (mu : List ℤ) (level : ℤ) (weights : Lis
 abbrev pub SignalsAreSteady : Type 0
 SignalsAreSteady = (s : Shape) (m : Mat) → IsSteady (signals s m)
 
--- there is a signal if and only if some full prefix of the problem stands
-pub record SignalWhereStands (s : Shape) (m : Mat) : Type 0 where
-  pub stands : (shelves : List Sign) (mu : List ℤ) (level : ℤ) (weights : List ℤ)
+-- there is a signal if and only if some full prefix of the problem is feasible
+pub record SignalWhereFeasible (s : Shape) (m : Mat) : Type 0 where
+  pub feasible : (shelves : List Sign) (mu : List ℤ) (level : ℤ) (weights : List ℤ)
       → IsSignal s m shelves mu level weights
-      → (p : List Sign) × IsFull (signals s m) p × Stands (signals s m) p
+      → (p : List Sign) × IsFull (signals s m) p × IsFeasible (signals s m) p
   -- the solutions of both parts of a full open prefix are the signal
   pub named : (p : List Sign) (x weights : List ℤ) → IsFull (signals s m) p
       → (signals s m).closed p ≡ false → SolvesA (signals s m) p x → SolvesB (signals s m) p weights
       → IsSignal s m (take s.count p) (take s.species x) (entry x s.species) weights
-  pub signal : (p : List Sign) → IsFull (signals s m) p → Stands (signals s m) p
+  pub signal : (p : List Sign) → IsFull (signals s m) p → IsFeasible (signals s m) p
       → (shelves : List Sign) × (mu : List ℤ) × (level : ℤ) × (weights : List ℤ)
       × IsSignal s m shelves mu level weights
 
--- signals and full standing prefixes agree
-abbrev pub SignalsStandWhereTheyAre : Type 0
-SignalsStandWhereTheyAre = (net : Net) (s : Shape) (m : Mat) → IsPartialNetwork net
-    → IsStoichiometric net m → IsShape net s → SignalWhereStands s m
+-- signals and full feasible prefixes agree
+abbrev pub SignalsWhereFeasible : Type 0
+SignalsWhereFeasible = (net : Net) (s : Shape) (m : Mat) → IsPartialNetwork net
+    → IsStoichiometric net m → IsShape net s → SignalWhereFeasible s m
 
 -- the limits of a network hold, and there are fewer cut pairs than complexes
 pub record IsFew (s : Shape) (m : Mat) : Type 0 where

@@ -2,7 +2,7 @@
 use Rattle.std.specs.Prelude.{◌≡◌, ℤ, false, List}
 use Rattle.crn_vec.specs.declared.signs.Sign.{Sign}
 use Rattle.crn_vec.specs.Vectors.{Mat}
-use Rattle.crn_vec.specs.Problems.{IsFull, IsLawful, IsSteady, Stands, SolvesA, SolvesB}
+use Rattle.crn_vec.specs.Problems.{IsFull, IsLawful, IsSteady, IsFeasible, SolvesA, SolvesB}
 use Rattle.crn_vec.specs.Concordance.{IsTable, IsDiscordant, concordance}
 
 -- the sign problem of a table meets the laws of sign problems
@@ -14,18 +14,18 @@ TablesAreLawful = (m : Mat) (table : List (List Sign)) → IsTable m table
 abbrev pub TablesAreSteady : Type 0
 TablesAreSteady = (m : Mat) (table : List (List Sign)) → IsSteady (concordance m table)
 
--- a table has a discordance if and only if some full prefix of its problem stands
-pub record DiscordantWhereStands (m : Mat) (table : List (List Sign)) : Type 0 where
-  pub stands : (alpha weights : List ℤ) → IsDiscordant m table alpha weights
-      → (p : List Sign) × IsFull (concordance m table) p × Stands (concordance m table) p
+-- a table has a discordance if and only if some full prefix of its problem is feasible
+pub record DiscordantWhereFeasible (m : Mat) (table : List (List Sign)) : Type 0 where
+  pub feasible : (alpha weights : List ℤ) → IsDiscordant m table alpha weights
+      → (p : List Sign) × IsFull (concordance m table) p × IsFeasible (concordance m table) p
   -- the solutions of both parts of a full open prefix are a discordance
   pub named : (p : List Sign) (alpha weights : List ℤ) → IsFull (concordance m table) p
       → (concordance m table).closed p ≡ false → SolvesA (concordance m table) p alpha
       → SolvesB (concordance m table) p weights → IsDiscordant m table alpha weights
-  pub discordant : (p : List Sign) → IsFull (concordance m table) p → Stands (concordance m table) p
+  pub discordant : (p : List Sign) → IsFull (concordance m table) p → IsFeasible (concordance m table) p
       → (alpha : List ℤ) × (weights : List ℤ) × IsDiscordant m table alpha weights
 
--- discordances and full standing prefixes agree
-abbrev pub TablesStandWhereDiscordant : Type 0
-TablesStandWhereDiscordant = (m : Mat) (table : List (List Sign)) → IsTable m table
-    → DiscordantWhereStands m table
+-- discordances and full feasible prefixes agree
+abbrev pub TablesFeasibleWhereDiscordant : Type 0
+TablesFeasibleWhereDiscordant = (m : Mat) (table : List (List Sign)) → IsTable m table
+    → DiscordantWhereFeasible m table

@@ -3,7 +3,7 @@ use Rattle.std.specs.Prelude.{◌≡◌, ◌<◌, ◌≤◌, ◌⊎◌, ℕ, Boo
 use Rattle.crn_vec.specs.declared.signs.Sign.{Sign}
 use Rattle.crn_vec.specs.declared.signs.Sign.TheVariants.{Zero, Plus, Minus}
 use Rattle.crn_vec.specs.Lists.{IsIn}
-use Rattle.crn_vec.specs.Problems.{Signed, IsFull, Stands}
+use Rattle.crn_vec.specs.Problems.{Signed, IsFull, IsFeasible}
 use Rattle.crn_vec.specs.Visits.{IsVisitList, IsReached, PassesBudget, most_visits}
 
 -- two visit lists are equal
@@ -42,7 +42,7 @@ pub record AreFew (w : Signed) : Type 0 where
 abbrev pub BudgetsNeverSpent : Type 0
 BudgetsNeverSpent = (w : Signed) → AreFew w
 
--- all visited prefixes are reached; if no full standing prefix ends the list, all reached ones are
+-- all visited prefixes are reached; if no full feasible prefix ends the list, all reached ones are
 -- visited
 pub record AreReached (w : Signed) (visits : List (List Sign)) (found : Bool) : Type 0 where
   pub reached : (q : List Sign) → IsIn q visits → IsReached w q
@@ -74,11 +74,11 @@ abbrev pub AreInPreorder : List (List Sign) → Type 0
 AreInPreorder [] = Unit {0}
 AreInPreorder (p ∷ ps) = ((q : List Sign) → IsIn q ps → IsBefore p q) × AreInPreorder ps
 
--- a full standing prefix
+-- a full feasible prefix
 abbrev pub EndsVisits : Signed → List Sign → Type 0
-EndsVisits w p = IsFull w p × Stands w p
+EndsVisits w p = IsFull w p × IsFeasible w p
 
--- the visits are the reached prefixes in preorder, up to the first full one that stands
+-- the visits are the reached prefixes in preorder, up to the first full feasible one
 pub record IsPreorderOf (w : Signed) (visits : List (List Sign)) (found : Bool) : Type 0 where
   pub order : AreInPreorder visits
   pub reached : (q : List Sign) → IsIn q visits → IsReached w q
@@ -90,7 +90,7 @@ pub record IsPreorderOf (w : Signed) (visits : List (List Sign)) (found : Bool) 
   pub found_is : found ≡ true → (r : List Sign) × IsIn r visits × EndsVisits w r
   pub ends : (r : List Sign) → IsIn r visits → EndsVisits w r → found ≡ true
 
--- a visit list is in preorder, and cut after the first full standing prefix
+-- a visit list is in preorder, and cut after the first full feasible prefix
 abbrev pub VisitsArePreorder : Type 0
 VisitsArePreorder = (w : Signed) (visits : List (List Sign)) (found : Bool)
     → IsVisitList w visits found → IsPreorderOf w visits found

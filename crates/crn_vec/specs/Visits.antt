@@ -6,30 +6,30 @@
 use Rattle.std.specs.Prelude.{◌+◌, ◌/◌, ◌^◌, ℕ, zero, suc, Bool, true, false, List, [], ◌∷◌, ◌++◌}
 use Rattle.crn_vec.specs.declared.signs.Sign.{Sign}
 use Rattle.crn_vec.specs.Lists.{IsIn}
-use Rattle.crn_vec.specs.Problems.{Signed, IsFull, Stands, children}
+use Rattle.crn_vec.specs.Problems.{Signed, IsFull, IsFeasible, children}
 
--- the prefixes visited from those that are due, in preorder, and whether a full standing prefix
+-- the prefixes visited from those that are due, in preorder, and whether a full feasible prefix
 -- ends the list
 pub data Visits (w : Signed) : List (List Sign) → List (List Sign) → Bool → Type 0 where
   -- nothing is due
   over : Visits w [] [] false
-  -- a prefix that does not stand has nothing below it
-  fallen : {p : List Sign} {due visits : List (List Sign)} {found : Bool} → (Stands w p → ⊥)
+  -- a prefix that is not feasible has nothing below it
+  fallen : {p : List Sign} {due visits : List (List Sign)} {found : Bool} → (IsFeasible w p → ⊥)
       → Visits w due visits found → Visits w (p ∷ due) (p ∷ visits) found
-  -- a full standing prefix ends the list
-  ended : {p : List Sign} {due : List (List Sign)} → Stands w p → IsFull w p
+  -- a full feasible prefix ends the list
+  ended : {p : List Sign} {due : List (List Sign)} → IsFeasible w p → IsFull w p
       → Visits w (p ∷ due) (p ∷ []) true
-  -- below any other standing prefix its children are visited
-  opened : {p : List Sign} {due visits : List (List Sign)} {found : Bool} → Stands w p
+  -- below any other feasible prefix its children are visited
+  opened : {p : List Sign} {due visits : List (List Sign)} {found : Bool} → IsFeasible w p
       → (IsFull w p → ⊥) → Visits w (children p ++ due) visits found
       → Visits w (p ∷ due) (p ∷ visits) found
 
 -- more than n prefixes are visited from those that are due
 pub data Passes (w : Signed) : List (List Sign) → ℕ → Type 0 where
   begun : {p : List Sign} {rest : List (List Sign)} → Passes w (p ∷ rest) 0
-  past : {p : List Sign} {rest : List (List Sign)} {n : ℕ} → (Stands w p → ⊥) → Passes w rest n
+  past : {p : List Sign} {rest : List (List Sign)} {n : ℕ} → (IsFeasible w p → ⊥) → Passes w rest n
       → Passes w (p ∷ rest) (suc n)
-  below : {p : List Sign} {rest : List (List Sign)} {n : ℕ} → Stands w p → (IsFull w p → ⊥)
+  below : {p : List Sign} {rest : List (List Sign)} {n : ℕ} → IsFeasible w p → (IsFull w p → ⊥)
       → Passes w (children p ++ rest) n → Passes w (p ∷ rest) (suc n)
 
 -- the empty prefix, from which all visits begin
@@ -45,10 +45,10 @@ abbrev pub PassesBudget : Signed → ℕ → Type 0
 PassesBudget w budget = Passes w root budget
 
 -- the prefixes that an unbounded search comes to: the empty one, and the children of those that
--- stand
+-- feasible
 pub data IsReached (w : Signed) : List Sign → Type 0 where
   first : IsReached w []
-  child : {p : List Sign} (q : List Sign) → IsReached w p → Stands w p → (IsFull w p → ⊥)
+  child : {p : List Sign} (q : List Sign) → IsReached w p → IsFeasible w p → (IsFull w p → ⊥)
       → IsIn q (children p) → IsReached w q
 
 -- a bound on the visits by the number of choices: of two mirrored prefixes one is visited

@@ -29,7 +29,7 @@ is_member net (OfClass labels class) r =
 abbrev pub members_of : Net → Members → List ℕ
 members_of net members = filter (is_member net members) (range_with_len 1 (length net.reactions))
 
--- the labels by which members are told are those of the complexes
+-- the labels by which members are known are those of the complexes
 abbrev pub AreLabelled : Net → Members → Type 0
 AreLabelled net All = Unit {0}
 AreLabelled net (OfClass labels class) = length labels.now ≡ length net.complexes

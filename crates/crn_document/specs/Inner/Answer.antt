@@ -104,7 +104,7 @@ IsHeadOf Q15 head = IsOnConcordance head
 
 -- ---- the records below
 
--- how many records stand below the head with this place of its form, but for those that prove ranks
+-- how many records are below the head with this place of its form, but for those that prove ranks
 abbrev pub row_count : Question → ℕ → ℕ
 row_count Q1 place = 3
 row_count Q2 place = 7

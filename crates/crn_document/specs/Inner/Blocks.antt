@@ -12,7 +12,7 @@ use Rattle.crn_cert.specs.declared.answer.Verdict.TheVariants.{Yes}
 use Rattle.crn_shape.specs.Sides.{AreSides}
 use Rattle.crn_ctext.specs.Records.{Record, Form, Fits}
 use Rattle.crn_ctext.specs.Course.{Course, Give, ◌>>=◌}
-use Rattle.crn_ctext.specs.Blocks.{Behind, asks_all, asks_trees, below, claims, has_tree, head_claims, problems, row_claims}
+use Rattle.crn_ctext.specs.Blocks.{AfterBlocks, asks_all, asks_trees, below, claims, has_tree, head_claims, problems, row_claims}
 use Rattle.crn_ctext.specs.Meaning.{Known, lists, meaning}
 use Rattle.crn_ctext.specs.Meaning as said
 use Rattle.crn_check.specs.Facts.{asked}
@@ -29,7 +29,7 @@ use Rattle.crn_document.specs.declared.reading.Reading.{Reading}
 
 -- after these verdicts and these blocks, at this line, which follows a tree or not
 abbrev pub after_by : Net → Earlier → (by_tree : Bool) → (line : ℕ) → List (List Record)
-    → Behind Known
+    → AfterBlocks Known
 after_by net earlier by_tree line blocks = record {
   known = known_of net earlier;
   by_tree = by_tree;
@@ -38,7 +38,7 @@ after_by net earlier by_tree line blocks = record {
 }
 
 -- the same at a line that follows no tree
-abbrev pub after_at : Net → Earlier → (line : ℕ) → List (List Record) → Behind Known
+abbrev pub after_at : Net → Earlier → (line : ℕ) → List (List Record) → AfterBlocks Known
 after_at net earlier line blocks = record {
   known = known_of net earlier;
   by_tree = false;
@@ -47,7 +47,7 @@ after_at net earlier line blocks = record {
 }
 
 -- it is after these verdicts, at this line, which follows a tree or not
-abbrev pub IsAfter : Net → Earlier → (by_tree : Bool) → (line : ℕ) → Behind Known → Type 0
+abbrev pub IsAfter : Net → Earlier → (by_tree : Bool) → (line : ℕ) → AfterBlocks Known → Type 0
 IsAfter net earlier by_tree line y =
     (blocks : List (List Record)) × (y ≡ after_by net earlier by_tree line blocks)
 
@@ -75,8 +75,8 @@ IsOpened old new by_tree still rs =
     (new.line ≡ old.line + length rs) × (still ≡ still_by_tree rs by_tree)
 
 -- what follows the records below a head
-abbrev pub end_course : (version : ℕ) → List (List ℤ) → Question → Behind Known → Record
-    → List Record → Course (Behind Known)
+abbrev pub end_course : (version : ℕ) → List (List ℤ) → Question → AfterBlocks Known → Record
+    → List Record → Course (AfterBlocks Known)
 end_course version table q at h rows =
     claims at.line (row_claims meaning q at.known h rows) >>= (λ x.
     asks_trees version table (problems meaning q at.known h)
@@ -88,15 +88,15 @@ end_course version table q at h rows =
     })))
 
 -- what follows the tests of a head
-abbrev pub rows_course : (version : ℕ) → List (List ℤ) → Question → Behind Known → Record
-    → Course (Behind Known)
+abbrev pub rows_course : (version : ℕ) → List (List ℤ) → Question → AfterBlocks Known → Record
+    → Course (AfterBlocks Known)
 rows_course version table q at h =
     asks_all version (at.line + 1) false (below q (meaning.shapes at.known) h) >>= (λ rows.
     end_course version table q at h rows)
 
 -- what follows a head
-abbrev pub head_course : (version : ℕ) → List (List ℤ) → Question → Behind Known → Record
-    → Course (Behind Known)
+abbrev pub head_course : (version : ℕ) → List (List ℤ) → Question → AfterBlocks Known → Record
+    → Course (AfterBlocks Known)
 head_course version table q at h =
     claims at.line (head_claims meaning q at.known h) >>= (λ x. rows_course version table q at h)
 

@@ -9,7 +9,7 @@ use Rattle.crn_cert.specs.declared.answer.Verdict.{Verdict}
 use Rattle.crn_ctext.specs.Records.{Record}
 use Rattle.crn_ctext.specs.Kinds.{end_form}
 use Rattle.crn_ctext.specs.Course.{Course, ◌>>=◌}
-use Rattle.crn_ctext.specs.Blocks.{Behind, ReadOf, asks, asks_blocks, asks_table, course, lists_of}
+use Rattle.crn_ctext.specs.Blocks.{AfterBlocks, ReadOf, asks, asks_blocks, asks_table, course, lists_of}
 use Rattle.crn_ctext.specs.Meaning.{Known, meaning, verdicts_said, versions}
 use Rattle.crn_check.specs.Verdicts.{tight}
 use Rattle.crn_document.specs.declared.check.Accepted.{Accepted}
@@ -26,17 +26,17 @@ pub record IsNew (at : Reading) : Type 0 where
   pub room : MAX_NUMBERS ≤ at.numbers.spare + length at.numbers.list
 
 -- what follows the blocks
-abbrev pub last_course : (version : ℕ) → Net → Behind Known → Course ReadOf
-last_course version net behind =
-    asks version behind.line behind.by_tree (end_form ∷ []) >>= (λ last.
-    ends_with (record { net = net; blocks = behind.blocks }))
+abbrev pub last_course : (version : ℕ) → Net → AfterBlocks Known → Course ReadOf
+last_course version net after =
+    asks version after.line after.by_tree (end_form ∷ []) >>= (λ last.
+    ends_with (record { net = net; blocks = after.blocks }))
 
 -- what follows the network
 abbrev pub body_course : (version line : ℕ) → Net → Course ReadOf
 body_course version line net = asks_table version line >>= (λ table.
     asks_blocks meaning version (lists_of table) built
-    (after_at net [] (line + length table) []) >>= (λ behind.
-    last_course version net behind))
+    (after_at net [] (line + length table) []) >>= (λ after.
+    last_course version net after))
 
 -- a document
 abbrev pub whole_course : Course ReadOf

@@ -94,7 +94,7 @@ fn a_pair_of_lists_shows_discordance(rt: HostRuntime) -> Result<(), Fail> {
 
 #[test]
 fn faults_of_concordance_have_their_lines(rt: HostRuntime) -> Result<(), Fail> {
-    // The bytes stand after so many lines, in the place of all that follows them.
+    // The bytes come after so many lines, in the place of all that follows them.
     let cases = [
         (
             "multipliers of nothing",

@@ -64,7 +64,7 @@ fn open_answers_say_why(rt: HostRuntime) {
     assert!(rt; is_open(&accepted(&rt, &text)));
 }
 
-// Each line stands in the place of the head of a question from 5 on, whose number is before it.
+// Each line comes in the place of the head of a question from 5 on, whose number is before it.
 const HEADS: &[(&str, usize, &[u8], Option<(u32, u32)>)] = &[
     (
         "another coordinate and basis",

@@ -272,7 +272,7 @@ fn answers_on_signals_are_read(rt: HostRuntime) {
 
 #[test]
 fn answers_on_signals_have_their_forms_and_faults(rt: HostRuntime) {
-    // The bytes stand after so many lines, and then the last questions.
+    // The bytes come after so many lines, and then the last questions.
     let cases: [(&str, &[&[u8]], usize, &[u8], (&str, i32, u32, u32)); 20] = [
         (
             "another m",

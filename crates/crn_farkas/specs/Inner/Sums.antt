@@ -38,7 +38,7 @@ pub record IsPartSum (a : Mat) (kinds : List Kind) (g : ℕ) (v : List ℤ) : Ty
   pub some : (k : ℕ) → k < g → is_signed (kind_at kinds k) ≡ true → entry v k ≢ pos 0
   pub small : (k : ℕ) → unsigned_abs (entry v k) ≤ signed_count (take g kinds) * WIDE_ENTRY
 
--- some vector (x, Ax), of any size, is right everywhere, and not 0 at the coordinates that have to be positive or negative and stand before g or have a mark
+-- some vector (x, Ax), of any size, is right everywhere, and not 0 at the coordinates that have to be positive or negative and are before g or have a mark
 pub record HasPartSum (a : Mat) (kinds : List Kind) (g : ℕ) (marks : List Bool) : Type 0 where
   pub v : List ℤ
   pub space : InRowSpace a v

@@ -40,7 +40,7 @@ abbrev pub IsRightEverywhere : Mat → List ℕ → View → ℕ → List Kind �
 IsRightEverywhere a basis view g kinds = (y : List ℤ) → IsSeen a basis view g (kind_at kinds g) y
     → (c : ℕ) → c < width a → IsRight view (kind_at kinds c) (entry y c)
 
--- the level of a coordinate is a place of the order where it stands, and no later than each other one
+-- the level of a coordinate is a place of the order where it is, and no later than each other one
 abbrev pub AreLevels : List ℕ → List ℕ → Type 0
 AreLevels order level = (j : ℕ) → j < length order → (slice_index level (slice_index order j) ≤ j) × (slice_index order (slice_index level (slice_index order j)) ≡ slice_index order j)
 

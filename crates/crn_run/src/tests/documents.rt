@@ -26,7 +26,7 @@ fn is_rejected(rt: &(impl Abort + AllocGlobal), text: &str, line: &str) -> bool 
     )
 }
 
-// Each line of version 2 that version 1 has not, or the first, and what stands there in version 1.
+// Each line of version 2 that version 1 has not, or the first, and what is there in version 1.
 const FIRST_VERSION: &[(&str, &str)] = &[
     ("certificate 2\nnetwork 3", "certificate 1\nnetwork 3"),
     ("vectors 0\nsection graph\n", ""),
@@ -54,7 +54,7 @@ fn a_document_is_accepted_in_both_versions(rt: HostRuntime) {
     }
 }
 
-// Each row: what it shows, a part of the document, and what stands in its place.
+// Each row: what it shows, a part of the document, and what comes in its place.
 const OTHER_PROOFS: &[(&str, &str, &str)] = &[
     ("other levels", "level 1 0", "level 3 2"),
     ("another dual", "dual 1 0 0", "dual -7 0 0"),
@@ -77,7 +77,7 @@ fn other_proofs_of_the_same_verdicts_are_accepted(rt: HostRuntime) {
     }
 }
 
-// Each row: a part of the document, what stands in its place, and the line that says the fault.
+// Each row: a part of the document, what comes in its place, and the line that says the fault.
 const FAULTS: &[(&str, &str, &str)] = &[
     (
         "certificate 2",
@@ -522,7 +522,7 @@ fn a_confluence_vector_two_trees_and_a_pair_are_accepted(rt: HostRuntime) {
     assert!(rt; is_accepted(&rt, LINE, REPORT_OF_LINE));
 }
 
-// Each row: a part of that document, what stands in its place, and the line that says the fault.
+// Each row: a part of that document, what comes in its place, and the line that says the fault.
 const LINE_FAULTS: &[(&str, &str, &str)] = &[
     // of a weakly reversible network the first entry that is not zero is positive
     (
@@ -686,7 +686,7 @@ fn a_way_round_is_accepted(rt: HostRuntime) {
     assert!(rt; is_accepted(&rt, CYCLE, REPORT_OF_CYCLE));
 }
 
-// Each row: a part of that document, what stands in its place, and the line that says the fault.
+// Each row: a part of that document, what comes in its place, and the line that says the fault.
 const CYCLE_FAULTS: &[(&str, &str, &str)] = &[
     (
         "walk 1 3 2",

@@ -362,7 +362,7 @@ const TREE_EDITS: &[(usize, &str, usize, &str, usize)] = &[
         "45 BadEvidence",
         51,
     ),
-    // the end is removed, stands twice, or has no LF
+    // the end is removed, comes twice, or has no LF
     (57, "", 58, "27 EndsEarly", 58),
     (58, "end\n", 58, "28 AfterEnd", 59),
     (57, "end", 58, "27 EndsEarly", 58),

@@ -34,7 +34,7 @@ const GROWTH: &[u8] =
 const REPORTS: &[(&str, &str, &[u8])] = &[
     ("one reaction", "A -> B", ROW),
     (
-        "empty lines, a line that stands twice",
+        "empty lines, a line that comes twice",
         "\nA -> B\n\nA -> B\n",
         ROW,
     ),

@@ -20,7 +20,7 @@ shelf_number Zero = pos 0
 shelf_number Plus = pos 1
 shelf_number Minus = negsuc 0
 
--- yes with the options and the solutions of a full standing prefix
+-- yes with the options and the solutions of a full feasible prefix
 pub record IsFoundAnswer (turn : ℤ) (count species : ℕ) (q : List Sign) (a b : List ℤ)
     (answer : Answer) : Type 0 where
   pub shelves : KeptInts

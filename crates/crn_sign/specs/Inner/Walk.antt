@@ -13,16 +13,16 @@ use Rattle.crn_sign.specs.declared.end.SearchEnd.{SearchEnd}
 use Rattle.crn_sign.specs.declared.end.SearchEnd.TheVariants.{Found, Refuted, Spent}
 use Rattle.crn_sign.specs.declared.fault.SearchStop.{SearchStop}
 use Rattle.crn_sign.specs.declared.fault.SearchStop.TheVariants.{WideA, WideB, NoMemory}
-use Rattle.crn_sign.specs.Search.{IsStanding, IsTreeAt}
+use Rattle.crn_sign.specs.Search.{IsFeasibleBy, IsTreeAt}
 
--- the visits of what is due end with the full standing prefix q
+-- the visits of what is due end with the full feasible prefix q
 pub record EndsWith (w : Signed) (due : List (List Sign)) (left after : ℕ) (q : List Sign)
     : Type 0 where
   pub before : List (List Sign)
   pub visits : Visits w due (before ++ q ∷ []) true
   pub count : length (before ++ q ∷ []) + after ≡ left
 
--- the visits of what is due are these, and none is a full standing prefix
+-- the visits of what is due are these, and none is a full feasible prefix
 pub record EndsWithout (w : Signed) (due list : List (List Sign)) (left after : ℕ) : Type 0 where
   pub visits : Visits w due list false
   pub count : length list + after ≡ left
@@ -34,7 +34,7 @@ pub record RunsOut (w : Signed) (due : List (List Sign)) (left after : ℕ) : Ty
 
 -- what the visit of a prefix, and of all below it, ends with
 abbrev pub EndsAt : Signed → List Sign → ℕ → ℕ → SearchEnd → Type 0
-EndsAt w p left after (Found q a b) = IsStanding w q a.list b.list
+EndsAt w p left after (Found q a b) = IsFeasibleBy w q a.list b.list
     × EndsWith w (p ∷ []) left after q
 EndsAt w p left after (Refuted tree) = IsTreeAt w p (plan tree)
     × EndsWithout w (p ∷ []) (places p (plan tree)) left after
@@ -48,7 +48,7 @@ pub record BelowRoot (w : Signed) (p : List Sign) (tree : Plan) (left after : �
 
 -- what the visits of a prefix's children, and of all below them, end with
 abbrev pub EndsBelow : Signed → List Sign → ℕ → ℕ → SearchEnd → Type 0
-EndsBelow w p left after (Found q a b) = IsStanding w q a.list b.list
+EndsBelow w p left after (Found q a b) = IsFeasibleBy w q a.list b.list
     × EndsWith w (children p) left after q
 EndsBelow w p left after (Refuted tree) = IsTreeAt w p (plan tree)
     × BelowRoot w p (plan tree) left after
@@ -56,7 +56,7 @@ EndsBelow w p left after Spent = RunsOut w (children p) left after
 
 -- the full prefix, with solutions of its parts
 abbrev pub IsFoundAt : Signed → List Sign → SearchEnd → Type 0
-IsFoundAt w p (Found q a b) = (q ≡ p) × IsStanding w p a.list b.list
+IsFoundAt w p (Found q a b) = (q ≡ p) × IsFeasibleBy w p a.list b.list
 IsFoundAt w p (Refuted tree) = ⊥
 IsFoundAt w p Spent = ⊥
 

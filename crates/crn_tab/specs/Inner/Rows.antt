@@ -88,7 +88,7 @@ pub record IsRowMade (w c i : ℕ) (rows lead : List ℤ) (least own : ℕ) : Ty
   pub is : IsNewRow (w - 1) c (row_at w rows i) lead z
   pub kept : AreSmall z ⊎ (IsWide z × (least ≤ own))
 
--- all new rows but row r are made, and stand in their places with the lead as row r, or some new row is wide
+-- all new rows but row r are made, and are in their places with the lead as row r, or some new row is wide
 pub record AreFilled (w m c r : ℕ) (rows new : List ℤ) (order : List ℕ) (least : ℕ) : Type 0 where
   pub lead : List ℤ
   pub is : IsLead w c (row_at w rows r) lead

@@ -1,5 +1,5 @@
-ghost use Rattle.crn_vec.specs.NetSignals.{MultiplesShareSignals, NetworksAreLawful, ShapesAreOne, NegativesHaveOppositeShapes, SignalsAreOfShape, SignalsStand};
-ghost use Rattle.crn_vec.specs.SignalLaws.{LevelIsZero, SignalsAreLawful, SignalsAreSteady, SignalsStandWhereTheyAre};
+ghost use Rattle.crn_vec.specs.NetSignals.{MultiplesShareSignals, NetworksAreLawful, ShapesAreOne, NegativesHaveOppositeShapes, SignalsAreOfShape, SignalsAreFeasible};
+ghost use Rattle.crn_vec.specs.SignalLaws.{LevelIsZero, SignalsAreLawful, SignalsAreSteady, SignalsWhereFeasible};
 
 /// The sign problem of signals meets the laws of sign problems.
 pub fn signals_meet_the_laws_of_sign_problems()
@@ -17,9 +17,9 @@ pub fn level_is_zero()
     ensures { LevelIsZero }
 {}
 
-/// There is a signal if and only if some full prefix of its sign problem stands.
-pub fn signals_stand_where_they_are()
-    ensures { SignalsStandWhereTheyAre }
+/// There is a signal if and only if some full prefix of its sign problem is feasible.
+pub fn signals_are_where_a_prefix_is_feasible()
+    ensures { SignalsWhereFeasible }
 {}
 
 /// A network has at most one shape for each vector over its complexes.
@@ -42,9 +42,9 @@ pub fn signals_are_of_shape()
     ensures { SignalsAreOfShape }
 {}
 
-/// In a regular network a signal gives a full standing prefix.
-pub fn signals_of_networks_stand()
-    ensures { SignalsStand }
+/// In a regular network a signal gives a full feasible prefix.
+pub fn signals_of_networks_are_feasible()
+    ensures { SignalsAreFeasible }
 {}
 
 /// In a regular network the sign problem of signals meets the laws of sign problems.

@@ -10,7 +10,7 @@ pub fn no_problem_lacks_visits()
     ensures { NoProblemLacksVisits }
 {}
 
-/// The visit list holds reached prefixes only, and all of them if no full standing prefix ends it.
+/// The visit list holds reached prefixes only, and all of them if no full feasible prefix ends it.
 pub fn visits_are_reached()
     ensures { VisitsAreReached }
 {}
@@ -25,7 +25,7 @@ pub fn budgets_that_are_never_spent()
     ensures { BudgetsNeverSpent }
 {}
 
-/// The visit list is in preorder, and ends after the first full standing prefix.
+/// The visit list is in preorder, and ends after the first full feasible prefix.
 pub fn visits_are_in_preorder()
     ensures { VisitsArePreorder }
 {}

@@ -59,9 +59,9 @@ returns c =
     let sum = sum_within d e (2 ^ 100) (2 ^ 100) (omega (arith, one)) (omega (arith, two)) in
     let label = label_from _ _ labels at c.requires.labels c.requires.inside in
     let wide : length (get_or net.complexes at []) ≡ n = ap (λ (l : List ℤ). length l) (sym c.vector.ensures.value) ∙ c.vector.ensures.width in
-    let front : a ≡ take n tie = c.split_at.ensures.front ∙ ap (λ (k : ℕ). take k tie) c.species.ensures.count in
+    let prefix : a ≡ take n tie = c.split_at.ensures.front ∙ ap (λ (k : ℕ). take k tie) c.species.ensures.count in
     let rest : c.split_at.result.1.now ≡ drop n tie = c.split_at.ensures.back ∙ ap (λ (k : ℕ). drop k tie) c.species.ensures.count in
     let parts = tie_parts net labels c.args.count tie at wide (omega (arith, c.requires.inside, c.requires.labels.long)) c.requires.tie.long label.0 label.1 in
     let is : d +ℤ e ≡ dot (take n tie) (get_or net.complexes at []) +ℤ entry (drop n tie) (get_or labels at 0 - 1) =
-    ap₂ (λ (x y : ℤ). x +ℤ y) (c.dot.ensures ∙ ap₂ (λ (x y : List ℤ). dot x y) front c.vector.ensures.value) (ap (λ (l : List ℤ). entry l (get_or labels at 0 - 1)) rest) in
+    ap₂ (λ (x y : ℤ). x +ℤ y) (c.dot.ensures ∙ ap₂ (λ (x y : List ℤ). dot x y) prefix c.vector.ensures.value) (ap (λ (l : List ℤ). entry l (get_or labels at 0 - 1)) rest) in
     rw (held d (omega (arith, one)), held e (omega (arith, two)), held (d +ℤ e) (omega (arith, sum))) (is ∙ sym parts)

@@ -28,8 +28,8 @@ loop-left-preserved c =
     let some : 0 < length left = grind (arith, nat_tests, c.loop-left-test.ensures) in
     let field = subst (λ t. HasNumber t c.in-Some.value c.in-Some.width) c.split_at.ensures.back c.in-Some.ensures in
     let more = came_more c.args.line.now left inv.0 _ _ _ c.in-Some.value c.in-Some.width inv.1 inv.2 some c.if-left-ne32.false field (rw (held field.number c.in-Some.value field.is) at c.add.ensures.list) in
-    let behind = c.split_at-in-Some.ensures.back ∙ ap (drop c.in-Some.width) c.split_at.ensures.back in
-    (more.0, rw behind more.1, more.2, omega (arith, more.3), omega arith, omega arith)
+    let after = c.split_at-in-Some.ensures.back ∙ ap (drop c.in-Some.width) c.split_at.ensures.back in
+    (more.0, rw after more.1, more.2, omega (arith, more.3), omega arith, omega arith)
 
 pub returns-clause-numbers : goal.returns-clause-numbers
 returns-clause-numbers c =

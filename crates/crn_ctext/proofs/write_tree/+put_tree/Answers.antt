@@ -3,7 +3,7 @@ use Rattle.std.proofs.lemmas.List.{append-nil}
 use Rattle.std.proofs.lemmas.Result.{err_from_is_err_and}
 use Rattle.crn_io.proofs.CallerLemmas.{WroteAll-then, WrotePrefix-then, WrotePrefix-more, Wrote-all, Wrote-prefix, Wrote-then}
 use Rattle.crn_cert.specs.declared.tree.Tree.{back-Tree-Split-2}
-use Rattle.crn_ctext.specs.Answers.{nodes, nodes_behind}
+use Rattle.crn_ctext.specs.Answers.{nodes, nodes_held}
 use Rattle.crn_ctext.specs.Documents.{record_lines, written}
 use Rattle.crn_ctext.specs.Inner.Written.{leaves_after}
 use Rattle.crn_ctext.proofs.Pieces.{stops_first, stops_later, ends_with, wrote_as}
@@ -14,14 +14,14 @@ pub returns-in_err-put_all-in-Split-clause-wrote :
     goal.returns-in_err-put_all-in-Split-clause-wrote
 returns-in_err-put_all-in-Split-clause-wrote g t c =
     let p = err_from_is_err_and c.from_residual.result c.from_residual.ensures.1 in
-    rw c.in-Split.is (wrote_as (split_lines c.args.leaf.now _ _ (nodes c.in-Split.zero.value) (nodes c.in-Split.plus.value) (nodes_behind (back-Tree-Split-2 c.in-Split.minus)) refl refl) (Wrote-prefix p.1 (WrotePrefix-more (record_lines (written (leaves_after (nodes c.in-Split.plus.value) (leaves_after (nodes c.in-Split.zero.value) c.args.leaf.now)) (nodes_behind (back-Tree-Split-2 c.in-Split.minus)))) (WrotePrefix-more (record_lines (written (leaves_after (nodes c.in-Split.zero.value) c.args.leaf.now) (nodes c.in-Split.plus.value))) (WrotePrefix-more (record_lines (written c.args.leaf.now (nodes c.in-Split.zero.value))) c.in_err-put_all-in-Split.ensures.writes.prefix)))))
+    rw c.in-Split.is (wrote_as (split_lines c.args.leaf.now _ _ (nodes c.in-Split.zero.value) (nodes c.in-Split.plus.value) (nodes_held (back-Tree-Split-2 c.in-Split.minus)) refl refl) (Wrote-prefix p.1 (WrotePrefix-more (record_lines (written (leaves_after (nodes c.in-Split.plus.value) (leaves_after (nodes c.in-Split.zero.value) c.args.leaf.now)) (nodes_held (back-Tree-Split-2 c.in-Split.minus)))) (WrotePrefix-more (record_lines (written (leaves_after (nodes c.in-Split.zero.value) c.args.leaf.now) (nodes c.in-Split.plus.value))) (WrotePrefix-more (record_lines (written c.args.leaf.now (nodes c.in-Split.zero.value))) c.in_err-put_all-in-Split.ensures.writes.prefix)))))
 
 pub returns-in_err-leaf-in-Split-clause-wrote : goal.returns-in_err-leaf-in-Split-clause-wrote
 returns-in_err-leaf-in-Split-clause-wrote g t c =
     let r = c.from_residual-in_err-leaf-in-Split in
     let p = err_from_is_err_and r.result r.ensures.1 in
     let zeros = rw c.deref.ensures at c.in_err-leaf-in-Split.ensures.wrote in
-    rw c.in-Split.is (wrote_as (split_lines c.args.leaf.now _ _ (nodes c.in-Split.zero.value) (nodes c.in-Split.plus.value) (nodes_behind (back-Tree-Split-2 c.in-Split.minus)) refl refl) (Wrote-prefix p.1 (WrotePrefix-more _ (WrotePrefix-more _ (WrotePrefix-then c.in_ok-put_all-in-Split.ensures.writes.all zeros.prefix)))))
+    rw c.in-Split.is (wrote_as (split_lines c.args.leaf.now _ _ (nodes c.in-Split.zero.value) (nodes c.in-Split.plus.value) (nodes_held (back-Tree-Split-2 c.in-Split.minus)) refl refl) (Wrote-prefix p.1 (WrotePrefix-more _ (WrotePrefix-more _ (WrotePrefix-then c.in_ok-put_all-in-Split.ensures.writes.all zeros.prefix)))))
 
 pub returns-in_err-leaf-in-Split-2-clause-wrote : goal.returns-in_err-leaf-in-Split-2-clause-wrote
 returns-in_err-leaf-in-Split-2-clause-wrote g t c =
@@ -30,7 +30,7 @@ returns-in_err-leaf-in-Split-2-clause-wrote g t c =
     let zeros = rw c.deref.ensures at c.in_ok-leaf-in-Split.ensures.wrote in
     let rest = rw c.deref.ensures at c.in_ok-leaf-in-Split.ensures.rest in
     let pluses = rw c.deref-in-Split.ensures at c.in_err-leaf-in-Split-2.ensures.wrote in
-    rw c.in-Split.is (wrote_as (split_lines c.args.leaf.now c.in_ok-leaf-in-Split.leaf.now _ (nodes c.in-Split.zero.value) (nodes c.in-Split.plus.value) (nodes_behind (back-Tree-Split-2 c.in-Split.minus)) rest refl) (Wrote-prefix p.1 (WrotePrefix-more _ (WrotePrefix-then (WroteAll-then c.in_ok-put_all-in-Split.ensures.writes.all zeros.all) pluses.prefix))))
+    rw c.in-Split.is (wrote_as (split_lines c.args.leaf.now c.in_ok-leaf-in-Split.leaf.now _ (nodes c.in-Split.zero.value) (nodes c.in-Split.plus.value) (nodes_held (back-Tree-Split-2 c.in-Split.minus)) rest refl) (Wrote-prefix p.1 (WrotePrefix-more _ (WrotePrefix-then (WroteAll-then c.in_ok-put_all-in-Split.ensures.writes.all zeros.all) pluses.prefix))))
 
 pub returns-in_err-put_cut-in-CutA-clause-wrote : goal.returns-in_err-put_cut-in-CutA-clause-wrote
 returns-in_err-put_cut-in-CutA-clause-wrote g t c =

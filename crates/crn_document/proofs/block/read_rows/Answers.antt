@@ -4,7 +4,7 @@ use Rattle.std.specs.List.{AllByRecursion}
 use Rattle.std.proofs.lemmas.Result.{err_from_is_err_and}
 use Rattle.std.proofs.lemmas.List.{length-map}
 use Rattle.crn_ctext.specs.Records.{Form}
-use Rattle.crn_ctext.specs.Blocks.{Behind, asks_all}
+use Rattle.crn_ctext.specs.Blocks.{AfterBlocks, asks_all}
 use Rattle.crn_ctext.specs.Meaning.{Known}
 use Rattle.crn_ctext.specs.Steps.{StepGives}
 use Rattle.crn_cert.specs.Questions.{Q2, on, terminal_of}
@@ -108,7 +108,7 @@ returns-clause-step g c = λ h n blocks said next.
     let same = forms_are net earlier c.args.question c.args.head.now c.linkage_of-linkage.result.labels.now c.linkage_of-linkage.result.count c.class_count-classes.result c.number_of-place.result c.deref.result.now c.deref-2.result.now (let l = c.linkage_of-linkage.ensures in l.labels_are) (let l = c.linkage_of-linkage.ensures in l.count_is) c.class_count-classes.ensures c.number_of-place.ensures (c.deref.ensures.value ∙ c.in_ok-parts.ensures) (c.deref-2.ensures.value ∙ c.in_ok-due.ensures) in
     let block = rows_block net earlier c.args.question c.args.head.now forms c.next_rows.new.into c.in_ok-rows.rows h s.0 same c.in_ok-rows.ensures said s.1 in
     let line : at.line - 1 ≡ n = omega (arith, next) in
-    let Says : Unit {0} → Behind Known → Type 0 = λ t y. IsAfter net c.end_block.new.checked.facts.earlier c.end_block.new.checked.by_tree last.line y in
+    let Says : Unit {0} → AfterBlocks Known → Type 0 = λ t y. IsAfter net c.end_block.new.checked.facts.earlier c.end_block.new.checked.by_tree last.line y in
     let rest : StepIs (end_course mid.version table q (after_at net earlier (at.line - 1) blocks) h s.0) Says c.end_block.result mid last between now = let e = c.end_block.ensures.step in e h s.0 blocks block in
     rows_course_by (λ d. StepIs d Says c.end_block.result at last before now) at.version table net c.args.checked.now.facts c.args.question n at.line c.args.head.now h blocks c.requires.built c.requires.ready.known said next
     (step_then_is (asks_all at.version at.line false (forms_below net earlier c.args.question c.args.head.now)) (λ rows. end_course at.version table q (after_at net earlier n blocks) h rows) s.0 Says c.end_block.result at mid last before between now

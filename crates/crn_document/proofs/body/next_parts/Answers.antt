@@ -35,7 +35,7 @@ returns-in_err-next_blocks g c = record {
       let b = subst (λ (t : List (List ℤ)). StopIs (asks_blocks meaning mid.version t built (after_by net c.args.checked.now.facts.earlier c.args.checked.now.by_tree mid.line [])) e mid between now) s.1.1 (let h = c.in_err-next_blocks.ensures.step in h []) in
       last_exits _ _ c.from_residual-in_err-next_blocks.result e at _ _ (err_from_is_err_and c.from_residual-in_err-next_blocks.result c.from_residual-in_err-next_blocks.ensures.1)
       (stop_after (asks_table at.version at.line) (after_table at.version at.line net) s.0 e at mid before between now s.2 s.3
-      (stop_first (asks_blocks meaning at.version (lists_of s.0) built (after_at net [] (at.line + length s.0) [])) (λ behind. last_course at.version net behind) e mid between now
+      (stop_first (asks_blocks meaning at.version (lists_of s.0) built (after_at net [] (at.line + length s.0) [])) (λ after. last_course at.version net after) e mid between now
       (blocks_begin (λ d. StopIs d e mid between now) at.version mid.version (at.line + length s.0) mid.line (lists_of s.0) net c.args.checked.now.facts.earlier c.args.checked.now.by_tree c.next_table.ensures.version s.1.0 c.requires.empty c.requires.first b)));
 }
 

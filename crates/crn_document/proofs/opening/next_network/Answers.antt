@@ -23,18 +23,18 @@ returns-in_err-net-clause-step g c =
 pub returns-in-Some-clause-step : goal.returns-in-Some-clause-step
 returns-in-Some-clause-step g c =
     let s = c.in_ok-next_lines.ensures.step in
-    let told : IsCanonicalText c.deref.result.now (Some c.in-Some.net) = subst (λ (o : Option Net). IsCanonicalText c.deref.result.now o) c.in-Some.is c.in_ok-net.ensures in
+    let shown : IsCanonicalText c.deref.result.now (Some c.in-Some.net) = subst (λ (o : Option Net). IsCanonicalText c.deref.result.now o) c.in-Some.is c.in_ok-net.ensures in
     let text : c.deref.result.now ≡ ended s.0 = c.deref.ensures.value ∙ s.1 ∙ ap (λ (t : List ℕ). t ++ ended s.0) c.new-text.ensures.items in
-    lines_found (asks_lines c.args.count) (2 + c.args.count) 22 IsNetworkOf s.0 c.in-Some.net c.in-Some.net (λ (net n : Net). n ≡ net) c.args.at.now c.next_lines.new.at _ _ s.2 s.3 (told.0, told.1 ∙ text) refl
+    lines_found (asks_lines c.args.count) (2 + c.args.count) 22 IsNetworkOf s.0 c.in-Some.net c.in-Some.net (λ (net n : Net). n ≡ net) c.args.at.now c.next_lines.new.at _ _ s.2 s.3 (shown.0, shown.1 ∙ text) refl
 
 pub returns-clause-step : goal.returns-clause-step
 returns-clause-step g c =
     let s = c.in_ok-next_lines.ensures.step in
-    let told : IsCanonicalText c.deref.result.now None = subst (λ (o : Option Net). IsCanonicalText c.deref.result.now o) c.in-None.is c.in_ok-net.ensures in
+    let shown : IsCanonicalText c.deref.result.now None = subst (λ (o : Option Net). IsCanonicalText c.deref.result.now o) c.in-None.is c.in_ok-net.ensures in
     let text : c.deref.result.now ≡ ended s.0 = c.deref.ensures.value ∙ s.1 ∙ ap (λ (t : List ℕ). t ++ ended s.0) c.new-text.ensures.items in
     lines_refused (asks_lines c.args.count) (2 + c.args.count) 22 IsNetworkOf s.0 c.args.at.now c.next_lines.new.at _ _ s.2 s.3 c.in_ok-next_lines.ensures.goes.reads
-    (λ (n : Net) is. told n is.0 (is.1 ∙ sym text))
+    (λ (n : Net) is. shown n is.0 (is.1 ∙ sym text))
 
 pub returns-in-Some-clause-network : goal.returns-in-Some-clause-network
 returns-in-Some-clause-network g c =
-    let told : IsCanonicalText c.deref.result.now (Some c.in-Some.net) = subst (λ (o : Option Net). IsCanonicalText c.deref.result.now o) c.in-Some.is c.in_ok-net.ensures in told.0
+    let shown : IsCanonicalText c.deref.result.now (Some c.in-Some.net) = subst (λ (o : Option Net). IsCanonicalText c.deref.result.now o) c.in-Some.is c.in_ok-net.ensures in shown.0

@@ -3,7 +3,7 @@ use Rattle.std.proofs.lemmas.Result.{err_from_is_err_and}
 use Rattle.crn_cert.specs.Built.{built}
 use Rattle.crn_cert.specs.Questions.{Question}
 use Rattle.crn_ctext.specs.Kinds.{section_form}
-use Rattle.crn_ctext.specs.Blocks.{Behind, asks_all, asks_block, asks_blocks, behind_sections, sections}
+use Rattle.crn_ctext.specs.Blocks.{AfterBlocks, asks_all, asks_block, asks_blocks, after_sections, sections}
 use Rattle.crn_ctext.specs.Meaning.{Known, meaning}
 use Rattle.crn_ctext.specs.Steps.{StepGives}
 use Rattle.crn_check.specs.Facts.{asked}
@@ -11,7 +11,7 @@ use Rattle.crn_document.specs.Inner.Blocks.{IsAfter, IsReady, after_by}
 use Rattle.crn_document.specs.Inner.Steps.{StepIs, StopIs}
 use Rattle.crn_document.proofs.Steps.{step_exits, step_then_is, stop_after, stop_first}
 use Rattle.crn_document.proofs.Places.{all_taken, none_left}
-use Rattle.crn_document.proofs.Sections.{behind_is, blocks_by, no_blocks, question_course}
+use Rattle.crn_document.proofs.Sections.{after_is, blocks_by, no_blocks, question_course}
 use Rattle.crn_document.proofs.questions.+next_blocks.Goals as goal
 
 last_place : (place : ℕ) → place ≤ length built + 1 → 15 < place → place ≡ 16
@@ -77,15 +77,15 @@ returns-in_err-next_block-clause-step g t c = λ blocks.
     let here = after_by net earlier tree at.line blocks in
     let is : drop (p - 1) built ≡ q ∷ qs = (let i = c.question_at-question.ensures in i.later ∙ ap (λ (k : ℕ). q ∷ drop k built) (omega arith)) in
     let s = c.in_ok-after_tree.ensures.step in
-    let same_place : after_by net earlier c.in_ok-after_tree.after_tree mid.line blocks ≡ behind_sections s.0 here = ap₂ (λ (b : Bool) (k : ℕ). after_by net earlier b k blocks) s.1.1 s.1.0 ∙ sym (behind_is net earlier tree at.line blocks s.0) in
+    let same_place : after_by net earlier c.in_ok-after_tree.after_tree mid.line blocks ≡ after_sections s.0 here = ap₂ (λ (b : Bool) (k : ℕ). after_by net earlier b k blocks) s.1.1 s.1.0 ∙ sym (after_is net earlier tree at.line blocks s.0) in
     let b = let w = c.in_err-next_block.ensures.step in w blocks in
-    let stopped : StopIs (asks_block meaning at.version table q (behind_sections s.0 here)) e mid between now =
-    subst (λ (v : ℕ). StopIs (asks_block meaning v table q (behind_sections s.0 here)) e mid between now) c.in_ok-after_tree.ensures.version
-    (subst (λ (p : Behind Known). StopIs (asks_block meaning mid.version table q p) e mid between now) same_place b) in
+    let stopped : StopIs (asks_block meaning at.version table q (after_sections s.0 here)) e mid between now =
+    subst (λ (v : ℕ). StopIs (asks_block meaning v table q (after_sections s.0 here)) e mid between now) c.in_ok-after_tree.ensures.version
+    (subst (λ (p : AfterBlocks Known). StopIs (asks_block meaning mid.version table q p) e mid between now) same_place b) in
     step_exits _ _ _ e _ _ _ _ (err_from_is_err_and _ c.from_residual-in_err-next_block.ensures.1)
     (blocks_by (λ d. StopIs d e at before now) at.version table q qs (drop (p - 1) built) here is
     (stop_after (asks_all at.version at.line tree (map section_form (sections at.version q))) (question_course at.version table q qs here) s.0 e at mid before between now s.2 s.3
-    (stop_first (asks_block meaning at.version table q (behind_sections s.0 here)) (λ behind. asks_blocks meaning at.version table qs behind) e mid between now stopped)))
+    (stop_first (asks_block meaning at.version table q (after_sections s.0 here)) (λ after. asks_blocks meaning at.version table qs after) e mid between now stopped)))
 
 pub returns-clause-step : goal.returns-clause-step
 returns-clause-step g t c = λ blocks.
@@ -108,18 +108,18 @@ returns-clause-step g t c = λ blocks.
     let here = after_by net earlier tree at.line blocks in
     let is : drop (p - 1) built ≡ q ∷ qs = (let i = c.question_at-question.ensures in i.later ∙ ap (λ (k : ℕ). q ∷ drop k built) (omega arith)) in
     let s = c.in_ok-after_tree.ensures.step in
-    let same_place : after_by net earlier c.in_ok-after_tree.after_tree mid.line blocks ≡ behind_sections s.0 here = ap₂ (λ (b : Bool) (k : ℕ). after_by net earlier b k blocks) s.1.1 s.1.0 ∙ sym (behind_is net earlier tree at.line blocks s.0) in
+    let same_place : after_by net earlier c.in_ok-after_tree.after_tree mid.line blocks ≡ after_sections s.0 here = ap₂ (λ (b : Bool) (k : ℕ). after_by net earlier b k blocks) s.1.1 s.1.0 ∙ sym (after_is net earlier tree at.line blocks s.0) in
     let b = let w = c.in_ok-next_block.ensures.step in w blocks in
-    let given : StepGives (asks_block meaning at.version table q (behind_sections s.0 here)) b.0 mid.line later.line mid.lines later.lines s1.left s2.left =
-    subst (λ (v : ℕ). StepGives (asks_block meaning v table q (behind_sections s.0 here)) b.0 mid.line later.line mid.lines later.lines s1.left s2.left) c.in_ok-after_tree.ensures.version
-    (subst (λ (p : Behind Known). StepGives (asks_block meaning mid.version table q p) b.0 mid.line later.line mid.lines later.lines s1.left s2.left) same_place b.2) in
+    let given : StepGives (asks_block meaning at.version table q (after_sections s.0 here)) b.0 mid.line later.line mid.lines later.lines s1.left s2.left =
+    subst (λ (v : ℕ). StepGives (asks_block meaning v table q (after_sections s.0 here)) b.0 mid.line later.line mid.lines later.lines s1.left s2.left) c.in_ok-after_tree.ensures.version
+    (subst (λ (p : AfterBlocks Known). StepGives (asks_block meaning mid.version table q p) b.0 mid.line later.line mid.lines later.lines s1.left s2.left) same_place b.2) in
     let after = b.1 in
     let rest = let w = c.next_blocks.ensures.step in w after.0 in
     let version : later.version ≡ at.version = c.in_ok-next_block.ensures.version ∙ c.in_ok-after_tree.ensures.version in
-    let Says : Unit {0} → Behind Known → Type 0 = λ t y. IsAfter net c.next_blocks.new.checked.facts.earlier c.next_blocks.new.checked.by_tree new.line y in
+    let Says : Unit {0} → AfterBlocks Known → Type 0 = λ t y. IsAfter net c.next_blocks.new.checked.facts.earlier c.next_blocks.new.checked.by_tree new.line y in
     let tail : StepIs (asks_blocks meaning at.version table qs b.0) Says c.next_blocks.result later new s2 s3 =
     subst (λ (v : ℕ). StepIs (asks_blocks meaning v table qs b.0) Says c.next_blocks.result later new s2 s3) version
-    (subst (λ (p : Behind Known). StepIs (asks_blocks meaning later.version table qs p) Says c.next_blocks.result later new s2 s3) (sym after.1) rest) in
+    (subst (λ (p : AfterBlocks Known). StepIs (asks_blocks meaning later.version table qs p) Says c.next_blocks.result later new s2 s3) (sym after.1) rest) in
     blocks_by (λ d. StepIs d Says c.next_blocks.result at new s0 s3) at.version table q qs (drop (p - 1) built) here is
     (step_then_is (asks_all at.version at.line tree (map section_form (sections at.version q))) (question_course at.version table q qs here) s.0 Says c.next_blocks.result at mid new s0 s1 s3 s.2 s.3
-    (step_then_is (asks_block meaning at.version table q (behind_sections s.0 here)) (λ behind. asks_blocks meaning at.version table qs behind) b.0 Says c.next_blocks.result mid later new s1 s2 s3 given b.3 tail))
+    (step_then_is (asks_block meaning at.version table q (after_sections s.0 here)) (λ end. asks_blocks meaning at.version table qs end) b.0 Says c.next_blocks.result mid later new s1 s2 s3 given b.3 tail))

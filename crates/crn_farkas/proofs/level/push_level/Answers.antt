@@ -4,7 +4,7 @@ use Rattle.crn_vec.specs.declared.signs.Kind.TheVariants.{Pos, Free}
 use Rattle.crn_vec.specs.Systems.{kind_at}
 use Rattle.crn_farkas.specs.Inner.Views.{is_early_kind}
 use Rattle.crn_farkas.proofs.Steps.{any_default}
-use Rattle.crn_farkas.proofs.Finals.{LevelKept, level_pushed, level_passed, level_is, level_not, level_step, level_front}
+use Rattle.crn_farkas.proofs.Finals.{LevelKept, level_pushed, level_passed, level_is, level_not, level_step, level_prefix}
 use Rattle.crn_farkas.proofs.level.push_level.Goals as goal
 use Rattle.crn_farkas.proofs.level.push_level.Goals.{then-is_level, else-is_level}
 
@@ -22,7 +22,7 @@ push_reserved-requires c =
     let early = c.args.early in
     let kind = any_default Free Pos kinds k c.loop-c-test.true in
     let here = level_is early (is_early_kind (kind_at kinds k)) (ap is_early_kind kind ∙ c.is_level.ensures.0 c.if-is_level.true) in
-    omega (arith, c.requires, c.loop-c.invariant.count, c.loop-c.invariant.room, here, level_step early kinds k c.loop-c-test.true, level_front early kinds (k + 1))
+    omega (arith, c.requires, c.loop-c.invariant.count, c.loop-c.invariant.room, here, level_step early kinds k c.loop-c-test.true, level_prefix early kinds (k + 1))
 
 pub loop-c-preserved : goal.loop-c-preserved
 loop-c-preserved c =

@@ -4,7 +4,7 @@ use Rattle.crn_farkas.specs.Decision.{IsSmallCut}
 use Rattle.crn_sign.specs.Inner.Walk.{EndsAt, EndsBelow, IsFoundAt}
 use Rattle.crn_vec.specs.declared.signs.Sign.{Sign}
 use Rattle.crn_vec.specs.Problems.{Signed, all_zero}
-use Rattle.crn_sign.proofs.Walks.{run_out, stands_from, flat_at, cut_a_at, cut_b_at, found_at, opened_at, child_tree, first_child, second_child, third_child, both_trees, three_trees}
+use Rattle.crn_sign.proofs.Walks.{run_out, feasible_from, flat_at, cut_a_at, cut_b_at, found_at, opened_at, child_tree, first_child, second_child, third_child, both_trees, three_trees}
 use Rattle.crn_sign.proofs.walk.+walk.Goals as goal
 
 pub walk-returns-then-search-eq0-clause-answer : goal.walk-returns-then-search-eq0-clause-answer
@@ -93,7 +93,7 @@ walk-returns-clause-answer g t c =
     let b = rw c.in_default.is at c.in_ok-u.ensures.answer in
     let a = rw c.in_default-2.is at c.in_ok-u-2.ensures.answer in
     let same = c.in_ok-u-2.ensures.place.prefix ∙ c.in_ok-u.ensures.place.prefix in
-    let s = stands_from w p _ c.in_ok-u.ensures.place.prefix (ap (λ (q : List Sign). w.closed q) (sym c.deref.ensures.value) ∙ sym c.closed.ensures ∙ c.if-closed.false) b a in
+    let s = feasible_from w p _ c.in_ok-u.ensures.place.prefix (ap (λ (q : List Sign). w.closed q) (sym c.deref.ensures.value) ∙ sym c.closed.ensures ∙ c.if-closed.false) b a in
     let e = subst (λ (q : List Sign). EndsBelow w q c.rule_out_a.new.search.left c.split.new.search.left c.in_ok-end-2.end) same c.in_ok-end-2.ensures.answer in
     let long : length c.rule_out_a.new.search.prefix.items ≡ length p = ap (λ (q : List Sign). length q) same in
     let one : c.rule_out_a.new.search.left + 1 ≡ c.args.search.now.left = omega (arith, c.in_ok-u.ensures.place.left, c.in_ok-u-2.ensures.place.left) in

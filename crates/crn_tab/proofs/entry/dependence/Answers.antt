@@ -6,7 +6,7 @@ use Rattle.crn_vec.specs.Lists.{IsIn}
 use Rattle.crn_vec.specs.Elementary.{width}
 use Rattle.crn_tab.specs.Slots.{basis_of, row_at, IsTableau}
 use Rattle.crn_tab.proofs.RowVector.{row_of}
-use Rattle.crn_tab.proofs.Stands.{stands}
+use Rattle.crn_tab.proofs.BasisPlace.{has_place}
 use Rattle.crn_tab.proofs.Depends.{TellsHow, tells}
 use Rattle.crn_tab.proofs.entry.dependence.Goals as goal
 
@@ -24,7 +24,7 @@ reads : (a : Mat) (at order : List ℕ) (rows : List ℤ) (row col n : ℕ) (kep
     → n ≡ a.cols → kept ≡ row_at (n + 1) rows (slice_index at row - n) → Reads a at rows row col n kept
 reads a at order rows row col n kept t lt out member e f =
     let h = row_of a at order rows row t lt out in
-    let s = stands a at order rows col t member in
+    let s = has_place a at order rows col t member in
     let R : ℕ → Type 0 = λ k. kept ≡ row_at (k + 1) rows (slice_index at row - k) in
     let is : kept ≡ row_at (a.cols + 1) rows (slice_index at row - a.cols) = subst R e f in
     let S : List ℤ → Type 0 = λ v. (k : ℕ) → unsigned_abs (entry v k) < WIDE_ENTRY in
@@ -40,9 +40,9 @@ reads a at order rows row col n kept t lt out member e f =
       col_small = s.small;
     }
 
-told : (a : Mat) (at order : List ℕ) (rows : List ℤ) (row col n : ℕ) (kept : List ℤ) (num den : ℤ) → IsTableau a at order rows → row < width a → ¬ IsIn row (basis_of a.cols at) → IsIn col (basis_of a.cols at)
+shown : (a : Mat) (at order : List ℕ) (rows : List ℤ) (row col n : ℕ) (kept : List ℤ) (num den : ℤ) → IsTableau a at order rows → row < width a → ¬ IsIn row (basis_of a.cols at) → IsIn col (basis_of a.cols at)
     → n ≡ a.cols → kept ≡ row_at (n + 1) rows (slice_index at row - n) → num *ℤ entry kept n ≡ neg_ℤ (entry kept (slice_index at col)) *ℤ den → TellsHow a (basis_of a.cols at) row col num den
-told a at order rows row col n kept num den t lt out member e f value =
+shown a at order rows row col n kept num den t lt out member e f value =
     let R : ℕ → Type 0 = λ k. kept ≡ row_at (k + 1) rows (slice_index at row - k) in
     let is : kept ≡ row_at (a.cols + 1) rows (slice_index at row - a.cols) = subst R e f in
     let V : List ℤ → ℕ → Type 0 = λ v k. num *ℤ entry v k ≡ neg_ℤ (entry v (slice_index at col)) *ℤ den in
@@ -60,11 +60,11 @@ part-kept-requires-clause-inside c =
 
 pub offset_bounds-fields-col : goal.offset_bounds-fields-col
 offset_bounds-fields-col c =
-    let h = stands c.args.fields.now.matrix.now c.args.fields.now.at.now c.args.fields.now.order.now c.args.fields.now.rows.now c.args.col c.requires.tableau c.requires.member in
+    let h = has_place c.args.fields.now.matrix.now c.args.fields.now.at.now c.args.fields.now.order.now c.args.fields.now.rows.now c.args.col c.requires.tableau c.requires.member in
     omega (arith, h.small)
 
 pub bounds-fields-col : goal.bounds-fields-col
-bounds-fields-col c = (stands c.args.fields.now.matrix.now c.args.fields.now.at.now c.args.fields.now.order.now c.args.fields.now.rows.now c.args.col c.requires.tableau c.requires.member).inside
+bounds-fields-col c = (has_place c.args.fields.now.matrix.now c.args.fields.now.at.now c.args.fields.now.order.now c.args.fields.now.rows.now c.args.col c.requires.tableau c.requires.member).inside
 
 pub bounds-kept-fields : goal.bounds-kept-fields
 bounds-kept-fields c =
@@ -87,12 +87,12 @@ negative_quotient-requires-clause-some c =
 
 pub returns-clause-columns : goal.returns-clause-columns
 returns-clause-columns c =
-    (told c.args.fields.now.matrix.now c.args.fields.now.at.now c.args.fields.now.order.now c.args.fields.now.rows.now c.args.row c.args.col c.cols-n.result c.part-kept.result.now c.negative_quotient.result.num c.negative_quotient.result.den c.requires.tableau c.requires.inside c.requires.outside c.requires.member c.cols-n.ensures.count c.part-kept.ensures c.negative_quotient.ensures.value).columns
+    (shown c.args.fields.now.matrix.now c.args.fields.now.at.now c.args.fields.now.order.now c.args.fields.now.rows.now c.args.row c.args.col c.cols-n.result c.part-kept.result.now c.negative_quotient.result.num c.negative_quotient.result.den c.requires.tableau c.requires.inside c.requires.outside c.requires.member c.cols-n.ensures.count c.part-kept.ensures c.negative_quotient.ensures.value).columns
 
 pub returns-clause-rows : goal.returns-clause-rows
 returns-clause-rows c =
-    (told c.args.fields.now.matrix.now c.args.fields.now.at.now c.args.fields.now.order.now c.args.fields.now.rows.now c.args.row c.args.col c.cols-n.result c.part-kept.result.now c.negative_quotient.result.num c.negative_quotient.result.den c.requires.tableau c.requires.inside c.requires.outside c.requires.member c.cols-n.ensures.count c.part-kept.ensures c.negative_quotient.ensures.value).rows
+    (shown c.args.fields.now.matrix.now c.args.fields.now.at.now c.args.fields.now.order.now c.args.fields.now.rows.now c.args.row c.args.col c.cols-n.result c.part-kept.result.now c.negative_quotient.result.num c.negative_quotient.result.den c.requires.tableau c.requires.inside c.requires.outside c.requires.member c.cols-n.ensures.count c.part-kept.ensures c.negative_quotient.ensures.value).rows
 
 pub returns-clause-some : goal.returns-clause-some
 returns-clause-some c =
-    (told c.args.fields.now.matrix.now c.args.fields.now.at.now c.args.fields.now.order.now c.args.fields.now.rows.now c.args.row c.args.col c.cols-n.result c.part-kept.result.now c.negative_quotient.result.num c.negative_quotient.result.den c.requires.tableau c.requires.inside c.requires.outside c.requires.member c.cols-n.ensures.count c.part-kept.ensures c.negative_quotient.ensures.value).some
+    (shown c.args.fields.now.matrix.now c.args.fields.now.at.now c.args.fields.now.order.now c.args.fields.now.rows.now c.args.row c.args.col c.cols-n.result c.part-kept.result.now c.negative_quotient.result.num c.negative_quotient.result.den c.requires.tableau c.requires.inside c.requires.outside c.requires.member c.cols-n.ensures.count c.part-kept.ensures c.negative_quotient.ensures.value).some

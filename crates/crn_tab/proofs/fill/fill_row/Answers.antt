@@ -20,20 +20,20 @@ made_at w c old row lead p into spare result e f g h =
 pub returns-clause-made : goal.returns-clause-made
 returns-clause-made c =
     let w = length c.args.lead.now.entries.now in
-    let front = c.split_at_mut-rest.result.0.now in
+    let prefix = c.split_at_mut-rest.result.0.now in
     let back = c.split_at_mut-into.result.1.now in
     made_at w c.args.lead.now.slot c.part-old.result.now (row_at w c.args.rows.now c.args.i) c.args.lead.now.entries.now c.args.lead.now.own.now c.new_row.new.into
-    (row_at w (front ++ (c.new_row.new.into ++ back)) c.args.i) c.new_row.result
+    (row_at w (prefix ++ (c.new_row.new.into ++ back)) c.args.i) c.new_row.result
     c.part-old.ensures c.requires.row.long
-    (row_written w c.args.i front c.new_row.new.into back c.split_at_mut-rest.ensures.front_len (c.new_row.auto.into ∙ c.split_at_mut-into.ensures.front_len))
+    (row_written w c.args.i prefix c.new_row.new.into back c.split_at_mut-rest.ensures.front_len (c.new_row.auto.into ∙ c.split_at_mut-into.ensures.front_len))
     c.new_row.ensures
 
 pub returns-clause-others : goal.returns-clause-others
 returns-clause-others c = λ j ne.
     let w = length c.args.lead.now.entries.now in
-    let front = c.split_at_mut-rest.result.0.now in
+    let prefix = c.split_at_mut-rest.result.0.now in
     let into = c.split_at_mut-into.result.0.now in
     let back = c.split_at_mut-into.result.1.now in
-    row_other w c.args.i j front into c.new_row.new.into back ne c.split_at_mut-rest.ensures.front_len c.split_at_mut-into.ensures.front_len
+    row_other w c.args.i j prefix into c.new_row.new.into back ne c.split_at_mut-rest.ensures.front_len c.split_at_mut-into.ensures.front_len
     (c.new_row.auto.into ∙ c.split_at_mut-into.ensures.front_len)
-    ∙ ap (λ (xs : List ℤ). row_at w xs j) (sym (c.split_at_mut-rest.ensures.value ∙ ap (λ (r : List ℤ). front ++ r) c.split_at_mut-into.ensures.value))
+    ∙ ap (λ (xs : List ℤ). row_at w xs j) (sym (c.split_at_mut-rest.ensures.value ∙ ap (λ (r : List ℤ). prefix ++ r) c.split_at_mut-into.ensures.value))

@@ -77,7 +77,7 @@ stays_made w c i rows lead least own lt k e = record { z = row_at w rows i; is =
 done_made : (w c i : ℕ) (rows lead spare : List ℤ) (least own : ℕ) → IsRowDone w c i rows lead spare least own → IsRowMade w c i rows lead least own
 done_made w c i rows lead spare least own d = record { z = d.z; is = d.is; kept = elim d.kept [ inl f ↦ inl f.0 | inr f ↦ inr f ] }
 
--- the new row, with the place where it then stands
+-- the new row, with the place where it then is
 record Placed (w c i : ℕ) (rows lead new : List ℤ) (least own count : ℕ) : Type 0 where
   pub made : IsRowMade w c i rows lead least own
   pub here : least ≡ count → row_at w new i ≡ made.z
@@ -144,18 +144,18 @@ returns-clause-filled c =
     let width : length lead0 ≡ w = length-set lead (length lead - 1) (pos 0) ∙ c.make_lead.ensures.long in
     let back = put_back lead c.args.c w (row_at w rows c.args.r) c.make_lead.ensures some (small (length lead - 1)) (length lead0 - 1) (ap (λ n. n - 1) (length-set lead (length lead - 1) (pos 0))) in
     let again = put_back lead c.args.c w (row_at w rows c.args.r) c.make_lead.ensures some (small (length lead - 1)) (length lead - 1) refl in
-    let stand = rows_after w c.args.r lead _ c.bring_rows.new.rows c.put_lead.new.rows again c.make_lead.ensures.long c.put_lead.ensures.own c.put_lead.ensures.others in
+    let at_places = rows_after w c.args.r lead _ c.bring_rows.new.rows c.put_lead.new.rows again c.make_lead.ensures.long c.put_lead.ensures.own c.put_lead.ensures.others in
     let done = kept w (length lead0) c.args.m c.args.c c.args.r rows c.fill_rows-least.new.spare lead _ order least width back c.fill_rows-least.ensures.done in
     let brought = brought_at w _ c.args.m c.args.c rows c.fill_rows-least.new.spare c.bring_rows.new.rows (ap (length {A = ℤ}) again ∙ c.make_lead.ensures.long) c.bring_rows.ensures.changed c.bring_rows.ensures.stays in
     let each : (i : ℕ) → i < c.args.m → i ≢ c.args.r → Placed w c.args.c i rows lead c.put_lead.new.rows least (slice_index order (w - 1 + i)) (length order) = λ i lt ne.
     placed w c.args.m c.args.c c.args.r i rows lead c.fill_rows-least.new.spare c.put_lead.new.rows order least c.requires.place c.requires.row done c.requires.order_below c.requires.order
-    (λ _ some. stand.1 i ne ∙ brought.0 i lt some) (λ _ none. stand.1 i ne ∙ brought.1 i lt none) lt ne in
+    (λ _ some. at_places.1 i ne ∙ brought.0 i lt some) (λ _ none. at_places.1 i ne ∙ brought.1 i lt none) lt ne in
     record {
       lead = lead;
       is = c.make_lead.ensures;
       made = λ i lt ne. (each i lt ne).made;
       last = elim (wide_kept w (length lead0) c.args.m c.args.c c.args.r rows lead _ order least width back c.fill_rows-least.ensures.least) [
-        | inl e ↦ inl (e, stand.0, (λ i lt ne. (each i lt ne).here e))
+        | inl e ↦ inl (e, at_places.0, (λ i lt ne. (each i lt ne).here e))
         | inr h ↦ inr h
       ];
     }

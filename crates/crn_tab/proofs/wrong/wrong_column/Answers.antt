@@ -6,31 +6,31 @@ use Rattle.crn_vec.specs.Vectors.{entry}
 use Rattle.crn_vec.specs.Systems.{MayTake, kind_at}
 use Rattle.crn_tab.specs.Tableau.{IsColumnOfSign, AreWrongAt}
 use Rattle.crn_tab.specs.Slots.{basis_of, row_at}
-use Rattle.crn_tab.proofs.Stands.{stands}
+use Rattle.crn_tab.proofs.BasisPlace.{has_place}
 use Rattle.crn_tab.proofs.Scans.{ColumnRight, wrong_more, column_all, column_first, column_first_wrong, column_stepped, column_wrong}
 use Rattle.crn_tab.proofs.wrong.wrong_column.Goals as goal
 
 pub offset_bounds-fields-col : goal.offset_bounds-fields-col
 offset_bounds-fields-col c =
-    let h = stands c.args.fields.now.matrix.now c.args.fields.now.at.now c.args.fields.now.order.now c.args.fields.now.rows.now c.args.col c.requires.tableau c.requires.member in
+    let h = has_place c.args.fields.now.matrix.now c.args.fields.now.at.now c.args.fields.now.order.now c.args.fields.now.rows.now c.args.col c.requires.tableau c.requires.member in
     omega (arith, h.small)
 
 pub bounds-fields-col : goal.bounds-fields-col
-bounds-fields-col c = (stands c.args.fields.now.matrix.now c.args.fields.now.at.now c.args.fields.now.order.now c.args.fields.now.rows.now c.args.col c.requires.tableau c.requires.member).inside
+bounds-fields-col c = (has_place c.args.fields.now.matrix.now c.args.fields.now.at.now c.args.fields.now.order.now c.args.fields.now.rows.now c.args.col c.requires.tableau c.requires.member).inside
 
 pub bounds-kinds-col : goal.bounds-kinds-col
 bounds-kinds-col c =
-    let h = stands c.args.fields.now.matrix.now c.args.fields.now.at.now c.args.fields.now.order.now c.args.fields.now.rows.now c.args.col c.requires.tableau c.requires.member in
+    let h = has_place c.args.fields.now.matrix.now c.args.fields.now.at.now c.args.fields.now.order.now c.args.fields.now.rows.now c.args.col c.requires.tableau c.requires.member in
     omega (arith, h.inside, c.requires.tableau.placed.at_long, c.requires.kinds)
 
 pub offset_bounds-level-col : goal.offset_bounds-level-col
 offset_bounds-level-col c =
-    let h = stands c.args.fields.now.matrix.now c.args.fields.now.at.now c.args.fields.now.order.now c.args.fields.now.rows.now c.args.col c.requires.tableau c.requires.member in
+    let h = has_place c.args.fields.now.matrix.now c.args.fields.now.at.now c.args.fields.now.order.now c.args.fields.now.rows.now c.args.col c.requires.tableau c.requires.member in
     omega (arith, h.small)
 
 pub bounds-level-col : goal.bounds-level-col
 bounds-level-col c =
-    let h = stands c.args.fields.now.matrix.now c.args.fields.now.at.now c.args.fields.now.order.now c.args.fields.now.rows.now c.args.col c.requires.tableau c.requires.member in
+    let h = has_place c.args.fields.now.matrix.now c.args.fields.now.at.now c.args.fields.now.order.now c.args.fields.now.rows.now c.args.col c.requires.tableau c.requires.member in
     omega (arith, h.inside, c.requires.tableau.placed.at_long, c.requires.level)
 
 pub loop-i-init : goal.loop-i-init
@@ -41,7 +41,7 @@ loop-i-init c =
     let level = c.args.level.now in
     let b = c.args.col in
     let sign = c.args.sign in
-    let h = stands a at c.args.fields.now.order.now c.args.fields.now.rows.now b c.requires.tableau c.requires.member in
+    let h = has_place a at c.args.fields.now.order.now c.args.fields.now.rows.now b c.requires.tableau c.requires.member in
     let b_lt : b < length kinds = omega (arith, h.inside, c.requires.tableau.placed.at_long, c.requires.kinds) in
     let first = c.least_wrong-best in
     record {
@@ -61,7 +61,7 @@ taken n n' i rows part e h = subst (λ (k : ℕ). part ≡ row_at (k + 1) rows i
 pub bounds-kept-place : goal.bounds-kept-place
 bounds-kept-place c =
     let a = c.args.fields.now.matrix.now in
-    let h = stands a c.args.fields.now.at.now c.args.fields.now.order.now c.args.fields.now.rows.now c.args.col c.requires.tableau c.requires.member in
+    let h = has_place a c.args.fields.now.at.now c.args.fields.now.order.now c.args.fields.now.rows.now c.args.col c.requires.tableau c.requires.member in
     let is = taken a.cols c.cols-n.result c.loop-i.i c.args.fields.now.rows.now c.part-kept.result.now c.cols-n.ensures.count c.part-kept.ensures in
     let row = c.requires.tableau.each c.loop-i.i (omega (arith, c.loop-i-test.true, c.rows-m.ensures.count)) in
     omega (arith, h.basic, ap (length {A = ℤ}) is, row.long)

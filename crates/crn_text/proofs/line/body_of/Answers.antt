@@ -1,8 +1,8 @@
 use Rattle.std.proofs.Common.{ℕ, List, eqb, ap, ◌∙◌}
 use Rattle.std.specs.Prelude.{not}
 use Rattle.std.specs.List.{take_while}
-use Rattle.crn_text.proofs.Splits.{split_front}
+use Rattle.crn_text.proofs.Splits.{split_prefix}
 use Rattle.crn_text.proofs.line.body_of.Goals as goal
 
 pub returns : goal.returns
-returns c = split_front 35 _ _ _ c.split_at_byte.ensures ∙ ap (λ (t : List ℕ). take_while (λ b. not (eqb b 35)) t) c.without_cr.ensures
+returns c = split_prefix 35 _ _ _ c.split_at_byte.ensures ∙ ap (λ (t : List ℕ). take_while (λ b. not (eqb b 35)) t) c.without_cr.ensures

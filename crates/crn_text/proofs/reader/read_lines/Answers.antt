@@ -7,7 +7,7 @@ use Rattle.crn_text.proofs.reader.read_lines.Goals as goal
 pub lines-init : goal.lines-init
 lines-init c =
     record {
-      upto = record { behind = refl; sound = λ k lt. absurd (omega (arith, lt)); grown = c.requires.none; size = omega arith };
+      upto = record { after = refl; sound = λ k lt. absurd (omega (arith, lt)); grown = c.requires.none; size = omega arith };
       follows = ([], refl);
       known = c.new-known.ensures c.args.text.now [];
     }

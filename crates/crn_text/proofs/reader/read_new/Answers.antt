@@ -27,4 +27,4 @@ pub returns-then-has-clause-keeps : goal.returns-then-has-clause-keeps
 returns-then-has-clause-keeps c = λ read known. all_known_more c.args.text.now read c.args.line.now c.args.known.now.places known
 
 pub returns-clause-keeps : goal.returns-clause-keeps
-returns-clause-keeps c = λ read known. c.put.ensures c.args.text.now read c.requires.stands known
+returns-clause-keeps c = λ read known. c.put.ensures c.args.text.now read c.requires.occurs known

@@ -22,7 +22,7 @@ sums_fit-requires-clause-numbers c =
 pub sums_fit-requires-clause-few : goal.sums_fit-requires-clause-few
 sums_fit-requires-clause-few c =
     let push = c.deref-then-have_doubled.ensures.value ∙ c.in_ok-push-in-Some-read_term.ensures.items in
-    few_terms (terms_more c.in-Some-read_term.term c.deref-then-have_doubled.result.now c.places.invariant c.in-Some.is c.split_at_byte.ensures c.in-Some-read_term.ensures (sym c.is_within_limits.ensures ∙ c.if-is_within_limits.true) push) c.requires.stands c.requires.short
+    few_terms (terms_more c.in-Some-read_term.term c.deref-then-have_doubled.result.now c.places.invariant c.in-Some.is c.split_at_byte.ensures c.in-Some-read_term.ensures (sym c.is_within_limits.ensures ∙ c.if-is_within_limits.true) push) c.requires.occurs c.requires.short
 
 pub returns-then-not-branch : goal.returns-then-not-branch
 returns-then-not-branch c =
@@ -43,4 +43,4 @@ sums_fit-requires-2-clause-numbers c = rw c.deref-2.ensures.value (small_counts 
 pub returns : goal.returns
 returns c =
     let not_zero : is_zero (tokens c.args.side.now) ≡ false = sym c.is_single_zero.ensures ∙ c.if-is_single_zero.false in
-    reads_all c.deref-2.result.now c.sums_fit-2.result c.places.invariant c.in_default.is not_zero c.requires.stands c.requires.short c.deref-2.ensures.value c.sums_fit-2.ensures
+    reads_all c.deref-2.result.now c.sums_fit-2.result c.places.invariant c.in_default.is not_zero c.requires.occurs c.requires.short c.deref-2.ensures.value c.sums_fit-2.ensures

@@ -1,5 +1,5 @@
 use Rattle.std.proofs.Common.{rules}
-use Rattle.crn_text.proofs.Terms.{stands_rest, reads_name, reads_number}
+use Rattle.crn_text.proofs.Terms.{occurs_rest, reads_name, reads_number}
 use Rattle.crn_text.proofs.side.read_term.Goals as goal
 
 pub returns-then-not-is_number : goal.returns-then-not-is_number
@@ -14,4 +14,4 @@ returns c =
     let begins = first.ensures in
     let name = c.in_ok-name in
     λ body h.
-    reads_number body c.args.place.now first.first name.name first.rest.now name.behind.now c.number.result c.term_of_name-2.result begins name.ensures (search rules) c.number.ensures (c.term_of_name-2.ensures body first.rest.now (stands_rest body c.args.place.now c.args.end first.first first.rest.now h begins) name.ensures)
+    reads_number body c.args.place.now first.first name.name first.rest.now name.after.now c.number.result c.term_of_name-2.result begins name.ensures (search rules) c.number.ensures (c.term_of_name-2.ensures body first.rest.now (occurs_rest body c.args.place.now c.args.end first.first first.rest.now h begins) name.ensures)

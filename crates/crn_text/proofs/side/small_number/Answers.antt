@@ -23,5 +23,5 @@ returns-then-number-eq-LARGE c =
     let more = digits_value_more 10 ds i lt in
     let digit = value_at ds i c.requires lt in
     let step = capped_more c.loop-digit.number (digits_value 10 (take i ds)) (get_or ds i 0 - 48) c.loop-digit.invariant in
-    let front = digits_value-take-le 10 ds (i + 1) (omega arith) in
-    omega (arith, more, digit, step, front, c.min-number.ensures, c.from.ensures, c.saturating_sub.ensures, c.if-number-eq-LARGE.true)
+    let prefix = digits_value-take-le 10 ds (i + 1) (omega arith) in
+    omega (arith, more, digit, step, prefix, c.min-number.ensures, c.from.ensures, c.saturating_sub.ensures, c.if-number-eq-LARGE.true)

@@ -10,4 +10,4 @@ pub returns-in-None : goal.returns-in-None
 returns-in-None c = splits_none c.args.byte c.args.text.now _ c.bytes_before.result c.bytes_before.ensures c.split_at.ensures.front (rw c.split_at.ensures.back at c.in-None.ensures.cases)
 
 pub returns-in-Some : goal.returns-in-Some
-returns-in-Some c = splits_some c.args.byte c.args.text.now _ c.bytes_before.result c.in-Some._byte.now c.in-Some.behind c.bytes_before.ensures c.split_at.ensures.front (sym c.split_at.ensures.back ∙ c.in-Some.ensures.cases.0)
+returns-in-Some c = splits_some c.args.byte c.args.text.now _ c.bytes_before.result c.in-Some._byte.now c.in-Some.after c.bytes_before.ensures c.split_at.ensures.front (sym c.split_at.ensures.back ∙ c.in-Some.ensures.cases.0)

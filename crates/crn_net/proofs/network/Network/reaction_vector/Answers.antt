@@ -10,10 +10,10 @@ use Rattle.crn_net.proofs.network.Network.reaction_vector.Goals as goal
 
 lent : (names : List (List ℕ)) (rows differences : List (List ℤ)) (reactions : List (ℕ × ℕ)) (r k : ℕ) (row lent_part : List ℤ) → vectors_of (length names) differences ≡ map (reaction_vector (net_of names rows reactions)) reactions → r < length reactions → row ≡ get_or differences r row → lent_part ≡ take k row → k ≡ length names
     → lent_part ≡ reaction_vector (net_of names rows reactions) (get_or reactions r (0, 0))
-lent names rows differences reactions r k row part e lt is front width =
+lent names rows differences reactions r k row part e lt is prefix width =
     let net = net_of names rows reactions in
     let count = length-map reactions (reaction_vector net) in
-    front ∙ ap (λ (m : ℕ). take m row) width ∙ lent_vector (length names) differences (map (reaction_vector net) reactions) r row e (omega (arith, count, lt)) is ∙ get_or-map (reaction_vector net) reactions r (0, 0) [] lt
+    prefix ∙ ap (λ (m : ℕ). take m row) width ∙ lent_vector (length names) differences (map (reaction_vector net) reactions) r row e (omega (arith, count, lt)) is ∙ get_or-map (reaction_vector net) reactions r (0, 0) [] lt
 
 pub returns-clause-value : goal.returns-clause-value
 returns-clause-value c =

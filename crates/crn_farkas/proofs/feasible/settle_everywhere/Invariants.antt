@@ -1,6 +1,6 @@
 use Rattle.std.proofs.Common.{◌≡◌, length}
 use Rattle.crn_farkas.specs.Inner.Sums.{HasPartSum}
-use Rattle.crn_farkas.proofs.stands.stand_everywhere.Given as goal
+use Rattle.crn_farkas.proofs.feasible.settle_everywhere.Given as goal
 
 abbrev pub invariant-loop-g : goal.invariant-loop-g
 invariant-loop-g l = record {

@@ -3,10 +3,10 @@ use Rattle.crn_vec.specs.Elementary.{width}
 use Rattle.crn_farkas.specs.Inner.Views.{AreLevels, IsOrder}
 use Rattle.crn_farkas.specs.Inner.Sums.{HasPartSum}
 use Rattle.crn_farkas.proofs.Marks.{marks_none, solution_by_marks}
-use Rattle.crn_farkas.proofs.stands.by_signs.Goals as goal
+use Rattle.crn_farkas.proofs.feasible.by_signs.Goals as goal
 
-pub stand_everywhere-requires-clause-order : goal.stand_everywhere-requires-clause-order
-stand_everywhere-requires-clause-order c =
+pub settle_everywhere-requires-clause-order : goal.settle_everywhere-requires-clause-order
+settle_everywhere-requires-clause-order c =
     let levels = c.put_levels.new.level in
     subst (λ (l : List ℕ). IsOrder (length c.args.kinds.now) l levels) (sym c.deref-2.ensures.value) (record {
       below = c.put_order.ensures.below;
@@ -15,13 +15,13 @@ stand_everywhere-requires-clause-order c =
       are = subst (λ (l : List ℕ). AreLevels l levels) c.deref.ensures.value c.put_levels.ensures;
     })
 
-pub stand_everywhere-requires-clause-sum : goal.stand_everywhere-requires-clause-sum
-stand_everywhere-requires-clause-sum c = marks_none c.args.tableau.now.matrix c.args.kinds.now (length c.args.marks.now) c.fill.new.self c.requires.kinds (c.fill.ensures.after (λ y e. e))
+pub settle_everywhere-requires-clause-sum : goal.settle_everywhere-requires-clause-sum
+settle_everywhere-requires-clause-sum c = marks_none c.args.tableau.now.matrix c.args.kinds.now (length c.args.marks.now) c.fill.new.self c.requires.kinds (c.fill.ensures.after (λ y e. e))
 
 pub returns-in-None-clause-answer : goal.returns-in-None-clause-answer
 returns-in-None-clause-answer c =
-    let a = c.stand_everywhere.new.tableau.matrix in
+    let a = c.settle_everywhere.new.tableau.matrix in
     let kinds = c.args.kinds.now in
-    let marks = c.stand_everywhere.new.marks in
+    let marks = c.settle_everywhere.new.marks in
     let sum : HasPartSum a kinds (length kinds) marks = search rules in
-    solution_by_marks a kinds marks (c.requires.kinds ∙ ap width (sym c.stand_everywhere.ensures.matrix)) sum
+    solution_by_marks a kinds marks (c.requires.kinds ∙ ap width (sym c.settle_everywhere.ensures.matrix)) sum

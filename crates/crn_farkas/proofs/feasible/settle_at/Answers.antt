@@ -9,7 +9,7 @@ use Rattle.crn_farkas.specs.Inner.Views.{IsView, IsRightEverywhere}
 use Rattle.crn_farkas.specs.Inner.Sums.{HasPartSum}
 use Rattle.crn_farkas.proofs.Steps.{any_default}
 use Rattle.crn_farkas.proofs.Marks.{marks_more, marks_seen}
-use Rattle.crn_farkas.proofs.stands.stand_at.Goals as goal
+use Rattle.crn_farkas.proofs.feasible.settle_at.Goals as goal
 
 pub returns-then-not-is_asked-clause-end : goal.returns-then-not-is_asked-clause-end
 returns-then-not-is_asked-clause-end c =

@@ -6,8 +6,8 @@ use Rattle.crn_vec.specs.Systems.{HasKind, kind_at}
 use Rattle.crn_farkas.proofs.Pairs.{kind_some}
 use Rattle.crn_farkas.proofs.Steps.{any_default}
 use Rattle.crn_farkas.proofs.Marks.{set_mark}
-use Rattle.crn_farkas.proofs.stands.mark.Goals as goal
-use Rattle.crn_farkas.proofs.stands.mark.Goals.{then-counts, else-counts}
+use Rattle.crn_farkas.proofs.feasible.mark.Goals as goal
+use Rattle.crn_farkas.proofs.feasible.mark.Goals.{then-counts, else-counts}
 
 pub loop-c-preserved : goal.loop-c-preserved
 loop-c-preserved c =

@@ -4,7 +4,7 @@ use Rattle.crn_vec.specs.Vectors.{entry}
 use Rattle.crn_vec.specs.Systems.{kind_at}
 use Rattle.crn_farkas.specs.declared.view.View.TheVariants.{Column}
 use Rattle.crn_farkas.specs.Inner.Views.{IsSeen}
-use Rattle.crn_farkas.proofs.stands.mark.Given as goal
+use Rattle.crn_farkas.proofs.feasible.mark.Given as goal
 
 abbrev pub invariant-loop-c : goal.invariant-loop-c
 invariant-loop-c l = record {

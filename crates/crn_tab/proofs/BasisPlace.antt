@@ -1,4 +1,4 @@
--- Where a coordinate of the basis stands.
+-- Where a coordinate of the basis is.
 use Rattle.std.proofs.Common.{◌+◌, ◌^◌, ◌<◌, ℕ, List, length, arith}
 use Rattle.std.specs.Prelude.{ℤ, slice_index}
 use Rattle.crn_vec.specs.Vectors.{Mat}
@@ -7,14 +7,14 @@ use Rattle.crn_tab.specs.Slots.{basis_of, row_at, IsTableau}
 use Rattle.crn_tab.proofs.BasicTest.{slot_below}
 use Rattle.crn_tab.proofs.Bases.{rows_make_basis}
 
--- where the coordinate stands
-pub record Stands (a : Mat) (at : List ℕ) (col : ℕ) : Type 0 where
+-- where the coordinate is
+pub record HasPlace (a : Mat) (at : List ℕ) (col : ℕ) : Type 0 where
   pub inside : col < length at
   pub small : col < 2 ^ 20
   pub basic : slice_index at col < a.cols
 
-pub stands : (a : Mat) (at order : List ℕ) (rows : List ℤ) (col : ℕ) → IsTableau a at order rows → IsIn col (basis_of a.cols at) → Stands a at col
-stands a at order rows col t member =
+pub has_place : (a : Mat) (at order : List ℕ) (rows : List ℤ) (col : ℕ) → IsTableau a at order rows → IsIn col (basis_of a.cols at) → HasPlace a at col
+has_place a at order rows col t member =
     let basis = rows_make_basis a at order t.wide t.placed (λ j lt. (row_at (a.cols + 1) rows j, t.each j lt)) in
     record {
       inside = omega (arith, basis.below col member, t.placed.at_long);

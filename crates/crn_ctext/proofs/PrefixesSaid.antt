@@ -55,19 +55,19 @@ SaysAlone Leaf q = (known : Known) (h : Record) (rows nodes : List Record) → T
 plain : (Leaf : Problem → List Sign → Record → Type 0) (q : Question) (known : Known) (h : Record) (rows nodes : List Record) → Trees Leaf (unless (is_open h) []) nodes → verdict_of q (sizes_of known) h (rows ++ nodes) ≡ verdict_of q (sizes_of known) h rows
 plain Leaf q known h rows nodes t = without (verdict_of q (sizes_of known) h) rows nodes (none_are Leaf (is_open h) nodes t)
 
-pub front_says : (Leaf : Problem → List Sign → Record → Type 0) (q : Question) → SaysAlone Leaf q
-front_says Leaf Q1 = plain Leaf Q1
-front_says Leaf Q2 = plain Leaf Q2
-front_says Leaf Q3 = plain Leaf Q3
-front_says Leaf Q4 = plain Leaf Q4
-front_says Leaf Q5 = plain Leaf Q5
-front_says Leaf Q6 = plain Leaf Q6
-front_says Leaf Q7 = plain Leaf Q7
-front_says Leaf Q8 = plain Leaf Q8
-front_says Leaf Q9 = plain Leaf Q9
-front_says Leaf Q10 = plain Leaf Q10
-front_says Leaf Q11 = plain Leaf Q11
-front_says Leaf Q12 = plain Leaf Q12
-front_says Leaf Q13 = λ known h rows nodes t. signal_says Leaf known (is_open h) (gap_of h) (place_of (heads Q13 (sizes_of known)) h.words) h.numbers rows nodes t
-front_says Leaf Q14 = λ known h rows nodes t. concordant_says Leaf known (is_open h) (gap_of h) (place_of (heads Q14 (sizes_of known)) h.words) h.numbers rows nodes t
-front_says Leaf Q15 = λ known h rows nodes t. strongly_says Leaf known (is_open h) (gap_of h) (place_of (heads Q15 (sizes_of known)) h.words) h.numbers rows nodes t
+pub prefix_says : (Leaf : Problem → List Sign → Record → Type 0) (q : Question) → SaysAlone Leaf q
+prefix_says Leaf Q1 = plain Leaf Q1
+prefix_says Leaf Q2 = plain Leaf Q2
+prefix_says Leaf Q3 = plain Leaf Q3
+prefix_says Leaf Q4 = plain Leaf Q4
+prefix_says Leaf Q5 = plain Leaf Q5
+prefix_says Leaf Q6 = plain Leaf Q6
+prefix_says Leaf Q7 = plain Leaf Q7
+prefix_says Leaf Q8 = plain Leaf Q8
+prefix_says Leaf Q9 = plain Leaf Q9
+prefix_says Leaf Q10 = plain Leaf Q10
+prefix_says Leaf Q11 = plain Leaf Q11
+prefix_says Leaf Q12 = plain Leaf Q12
+prefix_says Leaf Q13 = λ known h rows nodes t. signal_says Leaf known (is_open h) (gap_of h) (place_of (heads Q13 (sizes_of known)) h.words) h.numbers rows nodes t
+prefix_says Leaf Q14 = λ known h rows nodes t. concordant_says Leaf known (is_open h) (gap_of h) (place_of (heads Q14 (sizes_of known)) h.words) h.numbers rows nodes t
+prefix_says Leaf Q15 = λ known h rows nodes t. strongly_says Leaf known (is_open h) (gap_of h) (place_of (heads Q15 (sizes_of known)) h.words) h.numbers rows nodes t

@@ -3,16 +3,16 @@ ghost use Rattle.crn_vec.specs.Lists.{IsIn};
 ghost use Rattle.crn_vec.specs.Vectors.{entry};
 ghost use Rattle.crn_vec.specs.Elementary.{width};
 ghost use Rattle.crn_vec.specs.Systems.{kind_at, is_signed};
-ghost use Rattle.crn_farkas.specs.Solver.{HasKeptCut, IsCutBy, IsFall, IsRefusedStop, IsStanding};
+ghost use Rattle.crn_farkas.specs.Solver.{HasKeptCut, IsCutBy, IsUnsolvable, IsRefusedStop, IsFeasibility};
 ghost use Rattle.crn_farkas.specs.Inner.Sums.{HasPartSum};
 ghost use Rattle.crn_farkas.specs.Decision.{IsTargetStop};
 ghost use Rattle.crn_farkas.specs.Inner.Views.{IsSeen, IsView, IsOrder};
 
 use crate::cut::{Cut, kept_cut};
 use crate::fault::Stop;
+use crate::feasibility::Feasibility;
 use crate::goal::{settled_cut, settled_view};
 use crate::level::{Order, column_sign, lead_sign};
-use crate::standing::Standing;
 use crate::targets::{put_levels, put_order};
 use crate::view::View;
 use crn_tab::Tableau;
@@ -40,7 +40,7 @@ fn mark(tableau: &Tableau, kinds: &[Kind], marks: &mut [bool], b: usize, g: usiz
 }
 
 // Sees to one more coordinate that has to be positive or negative, or finds a vector that rules the system out.
-fn stand_at(
+fn settle_at(
     tableau: &mut Tableau,
     kinds: &[Kind],
     order: &Order,
@@ -78,7 +78,7 @@ fn stand_at(
 }
 
 // Sees to each coordinate that has to be positive or negative, or finds a vector that rules the system out.
-fn stand_everywhere(
+fn settle_everywhere(
     tableau: &mut Tableau,
     kinds: &[Kind],
     order: &Order,
@@ -98,7 +98,7 @@ fn stand_everywhere(
     ensures refused { IfErr result (λ s. IsRefusedStop tableau.new.matrix tableau.new.basis s) }
 {
     for g in 0..kinds.len() {
-        if let Some(cut) = stand_at(tableau, kinds, order, marks, g)? {
+        if let Some(cut) = settle_at(tableau, kinds, order, marks, g)? {
             return Ok(Some(cut));
         }
     }
@@ -112,7 +112,7 @@ fn by_signs(
     order: &mut Vec<usize>,
     level: &mut [usize],
     marks: &mut [bool],
-) -> Result<Standing, Stop>
+) -> Result<Feasibility, Stop>
     requires kinds { length kinds.now ≡ width tableau.old.matrix }
     requires room { width tableau.old.matrix ≤ vec_capacity order.old }
     requires level { length level.old ≡ width tableau.old.matrix }
@@ -121,7 +121,7 @@ fn by_signs(
     ensures room { vec_capacity order.new ≡ vec_capacity order.old }
     ensures count { length marks.new ≡ length marks.old }
     ensures answer { MatchResult result
-        (λ d. IsStanding tableau.new.matrix tableau.new.basis kinds.now d)
+        (λ d. IsFeasibility tableau.new.matrix tableau.new.basis kinds.now d)
         (λ s. IsTargetStop tableau.new.matrix kinds.now s) }
     ensures refused { IfErr result (λ s. IsRefusedStop tableau.new.matrix tableau.new.basis s) }
 {
@@ -132,20 +132,20 @@ fn by_signs(
         places: order,
         levels: level,
     };
-    match stand_everywhere(tableau, kinds, &settling, marks)? {
-        Some(cut) => Ok(Standing::Falls(cut)),
-        None => Ok(Standing::Stands),
+    match settle_everywhere(tableau, kinds, &settling, marks)? {
+        Some(cut) => Ok(Feasibility::Unsolvable(cut)),
+        None => Ok(Feasibility::Solvable),
     }
 }
 
 // Whether a system has a solution: a vector that the basis names rules it out, or its targets decide.
-pub(crate) fn standing(
+pub(crate) fn feasibility(
     tableau: &mut Tableau,
     kinds: &[Kind],
     order: &mut Vec<usize>,
     level: &mut [usize],
     marks: &mut [bool],
-) -> Result<Standing, Stop>
+) -> Result<Feasibility, Stop>
     requires kinds { length kinds.now ≡ width tableau.old.matrix }
     requires room { width tableau.old.matrix ≤ vec_capacity order.old }
     requires level { length level.old ≡ width tableau.old.matrix }
@@ -154,14 +154,14 @@ pub(crate) fn standing(
     ensures room { vec_capacity order.new ≡ vec_capacity order.old }
     ensures count { length marks.new ≡ length marks.old }
     ensures answer { MatchResult result
-        (λ d. IsStanding tableau.new.matrix tableau.new.basis kinds.now d)
+        (λ d. IsFeasibility tableau.new.matrix tableau.new.basis kinds.now d)
         (λ s. IsTargetStop tableau.new.matrix kinds.now s) }
-    ensures kept { HasKeptCut tableau.old.matrix tableau.old.basis kinds.now → IsFall result
+    ensures kept { HasKeptCut tableau.old.matrix tableau.old.basis kinds.now → IsUnsolvable result
         × (tableau.new ≡ tableau.old) }
     ensures refused { IfErr result (λ s. IsRefusedStop tableau.new.matrix tableau.new.basis s) }
 {
     match kept_cut(tableau, kinds) {
-        Some(cut) => Ok(Standing::Falls(cut)),
+        Some(cut) => Ok(Feasibility::Unsolvable(cut)),
         None => by_signs(tableau, kinds, order, level, marks),
     }
 }
