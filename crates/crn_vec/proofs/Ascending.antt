@@ -1,5 +1,5 @@
 -- Ascending lists of numbers, and ranges.
-use Rattle.std.proofs.Common.{◌≡◌, ℕ, zero, suc, ◌+◌, ◌<◌, ◌≤◌, List, [], ◌∷◌, ◌++◌, length, get_or, map, inl, inr, refl, ap, ◌∙◌, arith}
+use Rattle.std.proofs.Common.{◌≡◌, ℕ, zero, suc, ◌+◌, ◌<◌, ◌≤◌, List, [], ◌∷◌, ◌++◌, length, get_or, map, inl, inr, refl, sym, ap, ◌∙◌, arith}
 use Rattle.std.specs.List.{range_with_len}
 use Rattle.crn_vec.specs.Lists.{IsIn, IsAbove, IsAscending}
 use Rattle.crn_vec.proofs.Lists.{at_in}
@@ -29,6 +29,33 @@ ascending_at [] i j a lt inside = absurd (omega (arith, inside))
 ascending_at (x ∷ xs) i zero a lt inside = absurd (omega (arith, lt))
 ascending_at (x ∷ xs) zero (suc j) a lt inside = above_in x xs a (get_or xs j 0) (at_in xs j 0 (omega (arith, inside)))
 ascending_at (x ∷ xs) (suc i) (suc j) a lt inside = ascending_at xs i j (above_ascending x xs a) (omega (arith, lt)) (omega (arith, inside))
+
+-- a greater number at the end
+pub above_push : (m : ℕ) (xs : List ℕ) (k : ℕ) → IsAbove m xs → m < k → ((c : ℕ) → IsIn c xs → c < k) → IsAbove m (xs ++ k ∷ [])
+above_push m [] k h lt all = (lt, tt)
+above_push m (x ∷ xs) k h lt all = (h.0, above_push x xs k h.1 (all x (inl refl)) (λ c i. all c (inr i)))
+
+pub ascending_push : (xs : List ℕ) (k : ℕ) → IsAscending xs → ((c : ℕ) → IsIn c xs → c < k) → IsAscending (xs ++ k ∷ [])
+ascending_push [] k h all = tt
+ascending_push (x ∷ xs) k h all = above_push x xs k h (all x (inl refl)) (λ c i. all c (inr i))
+
+-- two ascending lists of the same members are one
+pub same_members : (xs ys : List ℕ) → IsAscending xs → IsAscending ys → ((x : ℕ) → IsIn x xs → IsIn x ys) → ((x : ℕ) → IsIn x ys → IsIn x xs) → xs ≡ ys
+same_members [] [] a b to back = refl
+same_members [] (y ∷ ys) a b to back = absurd (back y (inl refl))
+same_members (x ∷ xs) [] a b to back = absurd (to x (inl refl))
+same_members (x ∷ xs) (y ∷ ys) a b to back =
+    let same : x ≡ y = elim (to x (inl refl)) as (λ _. x ≡ y) [
+      | inl e ↦ e
+      | inr i ↦ elim (back y (inl refl)) as (λ _. x ≡ y) [
+        | inl e ↦ sym e
+        | inr j ↦ absurd (omega (arith, above_in y ys b x i, above_in x xs a y j))
+      ]
+    ] in
+    let rest : xs ≡ ys = same_members xs ys (above_ascending x xs a) (above_ascending y ys b)
+    (λ z i. elim (to z (inr i)) as (λ _. IsIn z ys) [ inl e ↦ absurd (omega (arith, above_in x xs a z i, e, same)) | inr j ↦ j ])
+    (λ z i. elim (back z (inr i)) as (λ _. IsIn z xs) [ inl e ↦ absurd (omega (arith, above_in y ys b z i, e, same)) | inr j ↦ j ]) in
+    ap (λ (w : ℕ). w ∷ xs) same ∙ ap (λ (ws : List ℕ). y ∷ ws) rest
 
 -- ---- numbers counted from 1
 

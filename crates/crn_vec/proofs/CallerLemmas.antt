@@ -3,16 +3,18 @@
 -- Lists of any kind: members, distinct members, facts of all members, and lists with a member put at the end.
 pub use Rattle.crn_vec.proofs.Lists.{in_left, in_right, in_cases, in_push, in_map, map_in, at_in, in_at, same_place}
 pub use Rattle.crn_vec.proofs.Lists.{distinct_push, map_distinct, map_same, map_twice, append_same, pair, and_cases}
-pub use Rattle.crn_vec.proofs.Lists.{all_in, all_from, all_at, all_push, all_map}
+pub use Rattle.crn_vec.proofs.Lists.{all_in, all_from, all_given, all_at, all_push, all_map, any_default}
 pub use Rattle.crn_vec.proofs.Lists.{distinct_of_map, apart_of, all_append, flat_map_push, in_flat_map, of_flat_map}
 -- Tests that decide: whether two agree, and whether one finds a member.
-pub use Rattle.crn_vec.proofs.Lists.{same_test, any_is, any_true, any_false, and_true, or_right}
+pub use Rattle.crn_vec.proofs.Lists.{same_test, any_is, any_true, any_false, any_has, any_push, and_true, and_no, or_right, not_true}
 -- What holds of an answer that is there.
 pub use Rattle.crn_vec.proofs.Lists.{if_ok}
 -- Ascending lists of numbers, ranges, and the members of a list that pass a test.
 pub use Rattle.crn_vec.proofs.Ascending.{above_in, above_ascending, above_lower, ascending_tail, ascending_at, above_suc, ascending_suc, above_zero}
+pub use Rattle.crn_vec.proofs.Ascending.{above_push, ascending_push, same_members}
 pub use Rattle.crn_vec.proofs.Ascending.{range_above, range_ascending, range_bounds, in_range, range_more}
 pub use Rattle.crn_vec.proofs.Filters.{filter_from, filter_has, filter_distinct, filter_yes, filter_no, filter_above, filter_ascending}
+pub use Rattle.crn_vec.proofs.Filters.{first_stays, first_goes, filter_few, count_yes, count_no}
 -- The members of a list, each once, in order of first appearance.
 pub use Rattle.crn_vec.proofs.Firsts.{firsts_from, firsts_has, firsts_distinct, firsts_all, firsts_known, firsts_new}
 pub use Rattle.crn_vec.proofs.Firsts.{firsts_firsts, firsts_prefix, firsts_length, firsts_map}
@@ -20,7 +22,7 @@ pub use Rattle.crn_vec.proofs.Firsts.{firsts_firsts, firsts_prefix, firsts_lengt
 pub use Rattle.crn_vec.proofs.Statements.{name_decides, row_decides, sides_decide, reaction_decides}
 pub use Rattle.crn_vec.proofs.Statements.{none_said, has_name, amounts_same}
 -- Lists by their entries: which places are inside, and lists related place by place.
-pub use Rattle.crn_vec.proofs.Entries.{past_end, inside_or, lt_or, eq_or, zip_from, zip_at, zip_long, within_from, dot_step, zip_push, map_more}
+pub use Rattle.crn_vec.proofs.Entries.{past_end, inside_or, lt_or, eq_or, below_or, look_at, abs_back, zip_from, zip_at, zip_long, within_from, dot_step, zip_push, map_more}
 -- The rows of a list that holds them one after another, and bounds of their entries.
 pub use Rattle.crn_vec.proofs.RowLists.{length-rows_of, row_at, row_inside, rows_of_length, within_at, within_drop, within_take, within_rows}
 pub use Rattle.crn_vec.proofs.RowLists.{within_append, amounts_within, drop_seam, length-rows_after, rows_after}
@@ -28,17 +30,17 @@ pub use Rattle.crn_vec.proofs.RowLists.{within_append, amounts_within, drop_seam
 pub use Rattle.crn_vec.proofs.Held.{held, product_within, sum_within}
 -- Ring laws and signs of whole numbers.
 pub use Rattle.crn_vec.proofs.Ring.{distrib, distrib-right, assoc, left-comm, mul-neg, mul-sub, no_zero, pos_pos, is_zero, one_ne_zero}
-pub use Rattle.crn_vec.proofs.Ring.{neg-mul, cancel_right, swap_factors, ratios_cross}
+pub use Rattle.crn_vec.proofs.Ring.{neg-mul, cancel_right, swap_factors, ratios_cross, one-mul, zero_times, positive_some}
 -- Dot products, sums and multiples of vectors, and combinations of rows.
-pub use Rattle.crn_vec.proofs.Sums.{dot-comm, dot_none, dot_zero, dot_split, dot-scale, dot-plus, zeros-dot, transposed}
+pub use Rattle.crn_vec.proofs.Sums.{dot-comm, dot_none, dot_zero, dot_single, dot_split, dot-scale, dot-plus, zeros-dot, transposed}
 pub use Rattle.crn_vec.proofs.Sums.{plus, zeros, comb, dots, length-scale, length-plus, length-zeros, length-comb, length-dots}
-pub use Rattle.crn_vec.proofs.Sums.{entry-zeros, entry-scale, entry-plus, entry-comb, entry-dots}
+pub use Rattle.crn_vec.proofs.Sums.{entry-zeros, entry-scale, take-scale, entry-plus, entry-comb, entry-dots}
 -- A homogeneous system has a solution that is not zero, or no more unknowns than equations.
 pub use Rattle.crn_vec.proofs.Null.{Zero, Solves, Free, Fixed, null, dot-zero, dot-scale-right}
 -- More vectors than they have entries are dependent.
 pub use Rattle.crn_vec.proofs.Many.{Related, too_many}
 -- The number of independent vectors, and the rank.
-pub use Rattle.crn_vec.proofs.Ranks.{base_gives_rank, rank_is_one_number}
+pub use Rattle.crn_vec.proofs.Ranks.{base_gives_rank, rank_is_one_number, length-chosen, chosen_at}
 -- The two spaces of a matrix are orthogonal, and signs of dot products.
 pub use Rattle.crn_vec.proofs.Orthogonal.{part, dot_not_below, dot_above, dot_above_two, negative_at, dot_opposite, across, orthogonal}
 pub use Rattle.crn_vec.proofs.Orthogonal.{listed, length-listed, entry-listed, listed-sum, listed_zeros}
@@ -65,12 +67,12 @@ pub use Rattle.crn_vec.proofs.SideLaws.{is_between, marking_is_cut, marks_are_si
 pub use Rattle.crn_vec.proofs.Flows.{unit, dot_unit, gain, flow, flow_sum, gain_kept, gain_raised, none_gained}
 -- Sums over the complexes with a property, and over the complexes of a label.
 pub use Rattle.crn_vec.proofs.SumLaws.{sum_by, sums_for, sums_one, sum_scaled, dot_ratio}
-pub use Rattle.crn_vec.proofs.LabelMarks.{label_sum, label_sum_is}
+pub use Rattle.crn_vec.proofs.LabelMarks.{label_sum, label_sum_is, length-label_marks, label_mark}
 -- Columns and vectors of a network.
 pub use Rattle.crn_vec.proofs.Carried.{entry-column, length-column, vector_long, gain_made}
 -- The deficiency is one number, and so is the confluence vector of a regular network up to multiples.
 pub use Rattle.crn_vec.proofs.Numbers.{number_is_one, deficiency_is_one}
-pub use Rattle.crn_vec.proofs.Confluences.{confluence_vectors_are_one, negative_sum}
+pub use Rattle.crn_vec.proofs.Confluences.{confluence_vectors_are_one, negative_sum, negative_space}
 -- Mirrors of prefixes.
 pub use Rattle.crn_vec.proofs.Mirrors.{opposite-opposite, length-mirror, mirror-append, mirror-zero, mirror_feasible}
 -- Visit lists, their lengths, and the budgets that they exceed.
@@ -84,16 +86,16 @@ pub use Rattle.crn_vec.proofs.NetTables.{networks_have_tables, length-minus}
 pub use Rattle.crn_vec.proofs.NetTables.{vector_at, column_long, row_is, rows_count}
 pub use Rattle.crn_vec.proofs.NetRows.{reaction_long, vectors_count, vector_width, some_species, column_is, combined_past}
 -- The kinds of the rows at a prefix, and the signs of numbers.
-pub use Rattle.crn_vec.proofs.TableKinds.{length-rows}
+pub use Rattle.crn_vec.proofs.TableKinds.{length-rows, one_at_most, count_at_most, plus-opposite, minus-opposite, sum-opposite, cond-opposite}
 pub use Rattle.crn_vec.proofs.PrefixKinds.{row_chosen, row_open, rows_are, kinds_more, sign_is}
 -- Labels of strong classes, reaction by reaction.
 pub use Rattle.crn_vec.proofs.EvenLabels.{IsEvenAt, even_at, weak_if_even, uneven_not_weak}
-pub use Rattle.crn_vec.proofs.TableLawful.{tables_are_lawful, tables_are_steady, dot-neg, entry-neg}
-pub use Rattle.crn_vec.proofs.Discordance.{tables_feasible}
+pub use Rattle.crn_vec.proofs.TableLawful.{tables_are_lawful, tables_are_steady, dot-neg, entry-neg, length-neg, and_first}
+pub use Rattle.crn_vec.proofs.Discordance.{tables_feasible, entry-after, share_sign}
 -- The sign problem of the signals of a network, and the shape that it uses.
 pub use Rattle.crn_vec.proofs.NetSignalLaws.{top_inside, some_is, none_some, option_or, shapes_are_one, multiples_share_signals, signals_feasible}
 pub use Rattle.crn_vec.proofs.BothOrders.{signals_are_of_shape}
 pub use Rattle.crn_vec.proofs.OppositeShapes.{negatives_have_opposite_shapes}
 pub use Rattle.crn_vec.proofs.FewPairs.{networks_are_lawful, few_pairs, mark_yes, mark_no, other_step}
 pub use Rattle.crn_vec.proofs.SignalLawful.{signals_are_lawful, signals_are_steady}
-pub use Rattle.crn_vec.proofs.Shelves.{shelves_feasible}
+pub use Rattle.crn_vec.proofs.Shelves.{shelves_feasible, dot-last, kind_has, has_kind, pair_has, has_pair, top_full, pair_full}

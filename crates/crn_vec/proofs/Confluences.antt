@@ -245,7 +245,7 @@ minus_one x = omega (arith, ints)
 pub negative_sum : (g : List ℤ) (P : ℕ → Type 0) (x : ℤ) → SumsTo g P x → SumsTo (negative g) P (neg_ℤ x)
 negative_sum g P x over = subst (λ (z : ℤ). SumsTo (negative g) P z) (minus_one x) (sum_scaled (neg_ℤ (pos 1)) g P x over)
 
-negative_space : (net : Net) (g : List ℤ) → InConfluenceSpace net g → InConfluenceSpace net (negative g)
+pub negative_space : (net : Net) (g : List ℤ) → InConfluenceSpace net g → InConfluenceSpace net (negative g)
 negative_space net g s =
     record {
       long = length-scale (neg_ℤ (pos 1)) g ∙ s.long;

@@ -42,7 +42,7 @@ length-image m z = by m.rows
 -- ---- signs of shares
 
 -- the sign of a share is the product of the signs
-share_sign : (s : Sign) (x : ℤ) → sign (signed_by s x) ≡ product s (sign x)
+pub share_sign : (s : Sign) (x : ℤ) → sign (signed_by s x) ≡ product s (sign x)
 share_sign Zero x = refl
 share_sign Plus x = refl
 share_sign Minus (pos zero) = refl
@@ -209,7 +209,7 @@ entry-image [] x i lt = absurd (omega (arith, lt))
 entry-image (r ∷ rows) x zero lt = refl
 entry-image (r ∷ rows) x (suc i) lt = entry-image rows x i (omega (arith, lt))
 
-entry-after : (xs ys : List ℤ) (n i : ℕ) → length xs ≡ n → entry (xs ++ ys) (n + i) ≡ entry ys i
+pub entry-after : (xs ys : List ℤ) (n i : ℕ) → length xs ≡ n → entry (xs ++ ys) (n + i) ≡ entry ys i
 entry-after [] ys zero i e = ap (entry ys) (omega arith)
 entry-after [] ys (suc n) i e = absurd (omega (arith, e))
 entry-after (x ∷ xs) ys zero i e = absurd (omega (arith, e))

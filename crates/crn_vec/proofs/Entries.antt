@@ -1,6 +1,6 @@
 -- Lists by their entries: which places are inside, lists related place by place, and dot products of one entry more.
-use Rattle.std.proofs.Common.{◌≡◌, ◌≢◌, ℕ, zero, suc, ◌+◌, ◌<◌, ◌≤◌, ◌⊎◌, inl, inr, List, [], ◌∷◌, ◌++◌, length, map, get_or, take, refl, sym, ap, ap₂, ◌∙◌, add-one, arith}
-use Rattle.std.specs.Prelude.{ℤ, pos, ◌+ℤ◌, ◌*ℤ◌, unsigned_abs}
+use Rattle.std.proofs.Common.{◌≡◌, ◌≢◌, ℕ, zero, suc, ◌+◌, ◌<◌, ◌≤◌, ◌⊎◌, inl, inr, List, [], ◌∷◌, ◌++◌, length, map, get_or, take, set, refl, sym, ap, ap₂, ◌∙◌, add-one, arith}
+use Rattle.std.specs.Prelude.{ℤ, pos, ◌+ℤ◌, ◌*ℤ◌, unsigned_abs, nat_abs, slice_index}
 use Rattle.std.specs.List.{AllZip}
 use Rattle.std.proofs.lemmas.Int.{ints}
 use Rattle.std.proofs.lemmas.List.{get_or-map, length-map, take_more}
@@ -27,6 +27,28 @@ eq_or zero zero = inl refl
 eq_or zero (suc j) = inr (λ e. omega arith)
 eq_or (suc i) zero = inr (λ e. omega arith)
 eq_or (suc i) (suc j) = elim (eq_or i j) [ inl e ↦ inl (ap suc e) | inr ne ↦ inr (λ e. ne (omega arith)) ]
+
+pub below_or : (k n : ℕ) → k < suc n → (k < n) ⊎ (k ≡ n)
+below_or zero zero h = inr refl
+below_or zero (suc n) h = inl (omega arith)
+below_or (suc k) zero h = absurd (omega (arith, h))
+below_or (suc k) (suc n) h = elim (below_or k n (omega (arith, h))) [ inl l ↦ inl (omega (arith, l)) | inr e ↦ inr (ap suc e) ]
+
+-- a list in which one place was set, place by place
+pub look_at : (v : List ℕ) (c k x : ℕ) → c < length v → ((k ≡ c) × (slice_index (set v c x) k ≡ x)) ⊎ ((k ≢ c) × (slice_index (set v c x) k ≡ slice_index v k))
+look_at [] c k x h = absurd (omega arith)
+look_at (y ∷ v) zero zero x h = inl (refl, refl)
+look_at (y ∷ v) zero (suc k) x h = inr ((λ e. omega arith), refl)
+look_at (y ∷ v) (suc c) zero x h = inr ((λ e. omega arith), refl)
+look_at (y ∷ v) (suc c) (suc k) x h = elim (look_at v c k x (omega arith)) [
+  | inl r ↦ inl (ap suc r.0, r.1)
+  | inr r ↦ inr ((λ e. r.0 (omega arith)), r.1)
+]
+
+-- numbers without a sign come back from numbers with one
+pub abs_back : (xs : List ℕ) → map nat_abs (map pos xs) ≡ xs
+abs_back [] = refl
+abs_back (x ∷ xs) = ap (λ (t : List ℕ). x ∷ t) (abs_back xs)
 
 -- two lists as long, related place by place
 pub zip_from : {A B : Type 0} (R : A → B → Type 0) (d : A) (e : B) (xs : List A) (ys : List B) → length ys ≡ length xs

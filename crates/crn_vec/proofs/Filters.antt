@@ -1,6 +1,10 @@
--- The members of a list that pass a test: membership, distinct and ascending lists, and one member more at the end.
-use Rattle.std.proofs.Common.{◌≡◌, ℕ, Bool, true, false, List, [], ◌∷◌, ◌++◌, inl, inr, sym, ap, subst, ◌∙◌, refl}
+-- The members of a list that pass a test: membership, distinct and ascending lists, one member more at the end, and their count.
+use Rattle.std.proofs.Common.{◌≡◌, ℕ, Bool, true, false, ◌+◌, ◌≤◌, List, [], ◌∷◌, ◌++◌, length, inl, inr, sym, ap, subst, ◌∙◌, refl, arith}
+use Rattle.std.specs.Prelude.{not, count_by}
 use Rattle.std.specs.List.{filter}
+use Rattle.std.proofs.lemmas.List.{length-append}
+use Rattle.std.proofs.lemmas.List.Filters.{length-filter_both}
+use Rattle.std.proofs.lemmas.List.Sums.{length-filter}
 use Rattle.std.proofs.lemmas.Bool.{cases_Bool}
 use Rattle.crn_vec.specs.Lists.{IsIn, AreDistinct, IsAbove, IsAscending}
 use Rattle.crn_vec.proofs.Ascending.{above_lower, above_ascending}
@@ -41,10 +45,10 @@ filter_distinct {A} p (x ∷ xs) h =
     ]
 
 -- the first member stays, or goes
-first_stays : {A : Type 0} (p : A → Bool) (x : A) (xs : List A) → p x ≡ true → filter p (x ∷ xs) ≡ x ∷ filter p xs
+pub first_stays : {A : Type 0} (p : A → Bool) (x : A) (xs : List A) → p x ≡ true → filter p (x ∷ xs) ≡ x ∷ filter p xs
 first_stays p x xs h = rw h refl
 
-first_goes : {A : Type 0} (p : A → Bool) (x : A) (xs : List A) → p x ≡ false → filter p (x ∷ xs) ≡ filter p xs
+pub first_goes : {A : Type 0} (p : A → Bool) (x : A) (xs : List A) → p x ≡ false → filter p (x ∷ xs) ≡ filter p xs
 first_goes p x xs h = rw h refl
 
 pub filter_yes : (p : ℕ → Bool) (xs : List ℕ) (x : ℕ) → p x ≡ true → filter p (xs ++ x ∷ []) ≡ filter p xs ++ x ∷ []
@@ -60,6 +64,17 @@ filter_no p (y ∷ xs) x miss = elim (cases_Bool (p y)) as (λ _. filter p (y �
   | inl here ↦ first_stays p y (xs ++ x ∷ []) here ∙ ap (λ (l : List ℕ). y ∷ l) (filter_no p xs x miss) ∙ sym (first_stays p y xs here)
   | inr out ↦ first_goes p y (xs ++ x ∷ []) out ∙ filter_no p xs x miss ∙ sym (first_goes p y xs out)
 ]
+
+-- ---- how many pass
+
+pub filter_few : (p : ℕ → Bool) (xs : List ℕ) → length (filter p xs) ≤ length xs
+filter_few p xs = omega (arith, length-filter_both p (λ (x : ℕ). not (p x)) (λ x. refl) xs)
+
+pub count_yes : (p : ℕ → Bool) (xs : List ℕ) (x : ℕ) → p x ≡ true → count_by p (xs ++ x ∷ []) ≡ count_by p xs + 1
+count_yes p xs x h = omega (arith, length-filter p (xs ++ x ∷ []), ap length (filter_yes p xs x h), length-append (filter p xs) (x ∷ []), length-filter p xs)
+
+pub count_no : (p : ℕ → Bool) (xs : List ℕ) (x : ℕ) → p x ≡ false → count_by p (xs ++ x ∷ []) ≡ count_by p xs
+count_no p xs x h = sym (length-filter p (xs ++ x ∷ [])) ∙ ap length (filter_no p xs x h) ∙ length-filter p xs
 
 -- ---- ascending lists
 

@@ -1,11 +1,12 @@
 -- Lists of any kind: members, distinct members, facts of all members, lists with a member put at the end, and pairs.
 use Rattle.std.proofs.Common.{◌≡◌, ◌⊎◌, ℕ, Bool, true, false, zero, suc, ◌<◌, List, [], ◌∷◌, ◌++◌, length, get_or, map, refl, sym, ap, subst, ◌∙◌, inl, inr, arith}
-use Rattle.std.specs.Prelude.{◌&&◌, ◌||◌, Result, Ok, Err, IfOk}
+use Rattle.std.specs.Prelude.{◌&&◌, ◌||◌, not, Result, Ok, Err, IfOk}
 use Rattle.std.specs.List.{AllByRecursion, list_any, flat_map}
 use Rattle.std.specs.Bool.{Decides}
 use Rattle.std.proofs.lemmas.Bool.{cases_Bool}
 use Rattle.std.proofs.lemmas.List.{append-nil}
 use Rattle.std.proofs.lemmas.List.Concat.{flat_map-append}
+use Rattle.std.proofs.lemmas.List.Folds.{list_any-append}
 use Rattle.crn_vec.specs.Lists.{IsIn, AreDistinct}
 
 pub in_left : {A : Type 0} (x : A) (xs ys : List A) → IsIn x xs → IsIn x (xs ++ ys)
@@ -82,6 +83,17 @@ pub all_from : {A : Type 0} (P : A → Type 0) (xs : List A) → ((x : A) → Is
 all_from P [] h = tt
 all_from P (x ∷ xs) h = (h x (inl refl), all_from P xs (λ y i. h y (inr i)))
 
+-- by each place
+pub all_given : {A : Type 0} (P : A → Type 0) (xs : List A) (d : A) → ((k : ℕ) → k < length xs → P (get_or xs k d)) → AllByRecursion P xs
+all_given P [] d h = tt
+all_given P (x ∷ xs) d h = (h 0 (omega arith), all_given P xs d (λ k lt. h (suc k) (omega (arith, lt))))
+
+-- what is said past the end tells nothing of a place inside
+pub any_default : {A : Type 0} (d e : A) (xs : List A) (k : ℕ) → k < length xs → get_or xs k d ≡ get_or xs k e
+any_default d e [] k h = absurd (omega arith)
+any_default d e (x ∷ xs) zero h = refl
+any_default d e (x ∷ xs) (suc k) h = any_default d e xs k (omega arith)
+
 pub all_at : {A : Type 0} (P : A → Type 0) (xs : List A) (i : ℕ) (d : A) → AllByRecursion P xs → i < length xs → P (get_or xs i d)
 all_at P xs i d h lt = all_in P xs (get_or xs i d) h (at_in xs i d lt)
 
@@ -117,6 +129,17 @@ and_cases false b h = absurd cc
 pub and_true : (a b : Bool) → a ≡ true → b ≡ true → (a && b) ≡ true
 and_true true b h g = g
 and_true false b h g = h
+
+-- a test of two parts fails if they are not both true
+pub and_no : (a b : Bool) → (a ≡ true → b ≡ true → ⊥) → (a && b) ≡ false
+and_no true true h = absurd (h refl refl)
+and_no true false h = refl
+and_no false b h = refl
+
+-- a test and its opposite are not both true
+pub not_true : (a : Bool) → not a ≡ true → a ≡ true → ⊥
+not_true true e f = cc
+not_true false e f = cc
 
 pub or_right : (a b : Bool) → b ≡ true → (a || b) ≡ true
 or_right true b h = refl
@@ -177,6 +200,23 @@ any_true p x d xs h = elim (any_is p x d xs) [ inl a ↦ a.1 | inr b ↦ absurd 
 
 pub any_false : {A : Type 0} (p : A → Bool) (x : A) (d : (y : A) → Decides (p y) (y ≡ x)) (xs : List A) → list_any p xs ≡ false → IsIn x xs → ⊥
 any_false p x d xs h = elim (any_is p x d xs) [ inl a ↦ absurd (let e = a.0 in cc) | inr b ↦ b.1 ]
+
+-- a test of the members finds one that passes, and one more at the end
+pub any_has : (p : ℕ → Bool) (xs : List ℕ) (x : ℕ) → IsIn x xs → p x ≡ true → list_any p xs ≡ true
+any_has p [] x i h = absurd i
+any_has p (y ∷ ys) x (inl e) h = left (p y) (list_any p ys) (ap p (sym e) ∙ h)
+  where
+    left : (a b : Bool) → a ≡ true → (a || b) ≡ true
+    left true b e = refl
+    left false b e = cc
+any_has p (y ∷ ys) x (inr i) h = or_right (p y) (list_any p ys) (any_has p ys x i h)
+
+pub any_push : (p : ℕ → Bool) (xs : List ℕ) (x : ℕ) → list_any p xs ≡ false → p x ≡ false → list_any p (xs ++ x ∷ []) ≡ false
+any_push p xs x e h = list_any-append p xs (x ∷ []) ∙ ap (λ (a : Bool). a || list_any p (x ∷ [])) e ∙ last (p x) h
+  where
+    last : (a : Bool) → a ≡ false → (false || (a || false)) ≡ false
+    last true e = cc
+    last false e = refl
 
 -- what holds of an answer that is there, by what is known of it
 pub if_ok : {T E : Type 0} (P Q : T → Type 0) (r : Result T E) → ((x : T) → P x → Q x) → IfOk r P → IfOk r Q

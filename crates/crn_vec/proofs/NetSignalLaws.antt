@@ -7,7 +7,7 @@ use Rattle.std.proofs.lemmas.List.{get_or-map, length-map, ext_get_or}
 use lib.IntN.{*ℤ_comm, zero-*ℤ}
 use Rattle.crn_vec.specs.declared.signs.Sign.{Sign}
 use Rattle.crn_vec.specs.declared.signs.Sign.TheVariants.{Zero, Plus, Minus}
-use Rattle.crn_vec.specs.Lists.{IsIn, IsAscending}
+use Rattle.crn_vec.specs.Lists.{IsIn}
 use Rattle.crn_vec.specs.Vectors.{dot, entry, HasSign}
 use Rattle.crn_vec.specs.Network.{Net, IsNetwork}
 use Rattle.crn_vec.specs.Strong.{SameStrong}
@@ -21,7 +21,7 @@ use Rattle.crn_vec.specs.Concordance.{sign, image}
 use Rattle.crn_vec.specs.Signals.{Pair, Shape, complex_at, shelf_at, shelf_of, HasPairSign, IsSignal}
 use Rattle.crn_vec.specs.NetSignals.{top_at, AreTops, complex_of, IsSignalOver, IsSignalOf, IsPairOf, IsShapeOf, MultiplesShareSignals, SignalsAreFeasible, ShapesAreOne}
 use Rattle.crn_vec.proofs.Entries.{lt_or}
-use Rattle.crn_vec.proofs.Ascending.{above_in, above_ascending}
+use Rattle.crn_vec.proofs.Ascending.{same_members}
 use Rattle.crn_vec.proofs.Ring.{pos_pos}
 use Rattle.crn_vec.proofs.SumLaws.{sums_one, sum_by, dot_ratio}
 use Rattle.crn_vec.proofs.WalkLaws.{terminal_on}
@@ -191,23 +191,6 @@ signals_feasible net g s n regular sh shelves mu level weights sg =
 
 -- ---- the shape is one
 
-places_one : (xs ys : List ℕ) → IsAscending xs → IsAscending ys → ((x : ℕ) → IsIn x xs → IsIn x ys) → ((x : ℕ) → IsIn x ys → IsIn x xs) → xs ≡ ys
-places_one [] [] a b to back = refl
-places_one [] (y ∷ ys) a b to back = absurd (back y (inl refl))
-places_one (x ∷ xs) [] a b to back = absurd (to x (inl refl))
-places_one (x ∷ xs) (y ∷ ys) a b to back =
-    let same : x ≡ y = elim (to x (inl refl)) as (λ _. x ≡ y) [
-      | inl e ↦ e
-      | inr i ↦ elim (back y (inl refl)) as (λ _. x ≡ y) [
-        | inl e ↦ sym e
-        | inr j ↦ absurd (omega (arith, above_in y ys b x i, above_in x xs a y j))
-      ]
-    ] in
-    let rest : xs ≡ ys = places_one xs ys (above_ascending x xs a) (above_ascending y ys b)
-    (λ z i. elim (to z (inr i)) as (λ _. IsIn z ys) [ inl e ↦ absurd (omega (arith, above_in x xs a z i, e, same)) | inr j ↦ j ])
-    (λ z i. elim (back z (inr i)) as (λ _. IsIn z xs) [ inl e ↦ absurd (omega (arith, above_in y ys b z i, e, same)) | inr j ↦ j ]) in
-    ap (λ (w : ℕ). w ∷ xs) same ∙ ap (λ (ws : List ℕ). y ∷ ws) rest
-
 abbrev pair_by : ℕ → ℕ → ℕ → ℤ → Pair
 pair_by l h t x = record { low = l; high = h; top = t; sum = x }
 
@@ -236,7 +219,7 @@ pub shapes_are_one : ShapesAreOne
 shapes_are_one net g s u a b =
     let tops : s.tops ≡ u.tops = tops_one net s.tops u.tops s.count u.count a.tops b.tops in
     let count : s.count ≡ u.count = count_one net s.tops u.tops s.count u.count a.tops b.tops tops in
-    let places : a.places ≡ b.places = places_one a.places b.places a.places_are.ascending b.places_are.ascending (λ r i. (b.places_are.each r).1 ((a.places_are.each r).0 i)) (λ r i. (a.places_are.each r).1 ((b.places_are.each r).0 i)) in
+    let places : a.places ≡ b.places = same_members a.places b.places a.places_are.ascending b.places_are.ascending (λ r i. (b.places_are.each r).1 ((a.places_are.each r).0 i)) (λ r i. (a.places_are.each r).1 ((b.places_are.each r).0 i)) in
     let moved : AllZip (IsPairOf net g u.tops) b.places s.pairs = subst (λ (rs : List ℕ). AllZip (IsPairOf net g u.tops) rs s.pairs) places (subst (λ (ts : List (Option ℕ)). AllZip (IsPairOf net g ts) a.places s.pairs) tops a.pairs) in
     let pairs : s.pairs ≡ u.pairs = pairs_one net g u.tops b.places s.pairs u.pairs moved b.pairs in
     let species : s.species ≡ u.species = a.shape.species ∙ sym b.shape.species in

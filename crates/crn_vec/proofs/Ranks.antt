@@ -1,5 +1,5 @@
 -- Independent vectors that depend on others are no more than those, and the rank is one number.
-use Rattle.std.proofs.Common.{◌≡◌, ℕ, zero, suc, ◌≤◌, inl, inr, List, [], ◌∷◌, ◌++◌, length, get_or, take, drop, refl, ap, subst, ◌∙◌, arith, length-append}
+use Rattle.std.proofs.Common.{◌≡◌, ℕ, zero, suc, ◌<◌, ◌≤◌, inl, inr, List, [], ◌∷◌, ◌++◌, length, get_or, take, drop, refl, ap, subst, ◌∙◌, arith, length-append}
 use Rattle.std.specs.Prelude.{ℤ, pos, ◌≤ℤ◌, ◌*ℤ◌}
 use Rattle.std.proofs.lemmas.Int.{ints}
 use lib.IntN.{*ℤ_comm, zero-*ℤ}
@@ -100,9 +100,14 @@ table_of bs vs (p ∷ places) h =
     let rest = table_of bs vs places (λ k i. h k (inr i)) in
     record { ds = d.d ∷ rest.ds; qs = d.c ∷ rest.qs; is = (d.positive, d.long, d.is, rest.is) }
 
-length-chosen : (places : List ℕ) (vs : List (List ℤ)) → length (chosen places vs) ≡ length places
+pub length-chosen : (places : List ℕ) (vs : List (List ℤ)) → length (chosen places vs) ≡ length places
 length-chosen [] vs = refl
 length-chosen (p ∷ places) vs = omega (arith, length-chosen places vs)
+
+pub chosen_at : (places : List ℕ) (vs : List (List ℤ)) (j : ℕ) → j < length places → get_or (chosen places vs) j [] ≡ get_or vs (get_or places j 0) []
+chosen_at [] vs j lt = absurd (omega arith)
+chosen_at (p ∷ places) vs zero lt = refl
+chosen_at (p ∷ places) vs (suc j) lt = chosen_at places vs j (omega arith)
 
 pub base_gives_rank : BaseGivesRank
 base_gives_rank vs places choice free all = record {

@@ -1,8 +1,8 @@
 -- Ring laws and signs of whole numbers.
-use Rattle.std.proofs.Common.{◌≡◌, ◌≢◌, ◌∙◌, sym, ◌+◌, ◌*◌, arith, ap, refl, suc, zero, ℤ, pos, negsuc, ◌+ℤ◌, ◌-ℤ◌, ◌*ℤ◌, ◌<ℤ◌, neg_ℤ, ◌⊎◌, inl, inr}
+use Rattle.std.proofs.Common.{◌≡◌, ◌≢◌, ◌∙◌, sym, ◌+◌, ◌*◌, arith, ap, refl, suc, zero, ℤ, pos, negsuc, ◌+ℤ◌, ◌-ℤ◌, ◌*ℤ◌, ◌<ℤ◌, ◌≤ℤ◌, neg_ℤ, ◌⊎◌, inl, inr}
 use Rattle.std.proofs.lemmas.Int.{ints}
 use borrow.Author.Differences.{up, down, sum_is_lem, product_is, neg_is}
-use lib.IntN.{*ℤ_comm}
+use lib.IntN.{*ℤ_comm, zero-*ℤ}
 
 pub distrib : (a b c : ℤ) → a *ℤ (b +ℤ c) ≡ a *ℤ b +ℤ a *ℤ c
 distrib a b c =
@@ -87,3 +87,12 @@ ratios_cross g0 gi gk hi hk h0 ei ek e0 ne a b c d =
 
 pub neg-mul : (a b : ℤ) → neg_ℤ a *ℤ b ≡ neg_ℤ (a *ℤ b)
 neg-mul a b = *ℤ_comm (neg_ℤ a) b ∙ mul-neg b a ∙ ap neg_ℤ (*ℤ_comm b a)
+
+pub one-mul : (x : ℤ) → pos 1 *ℤ x ≡ x
+one-mul x = omega (arith, ints)
+
+pub zero_times : (x y : ℤ) → x ≡ pos 0 → x *ℤ y ≡ pos 0
+zero_times x y e = ap (λ (z : ℤ). z *ℤ y) e ∙ zero-*ℤ y
+
+pub positive_some : (x : ℤ) → pos 1 ≤ℤ x → x ≢ pos 0
+positive_some x h e = omega (arith, ints, h, e)

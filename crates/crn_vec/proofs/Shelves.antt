@@ -24,7 +24,7 @@ use Rattle.crn_vec.proofs.Level.{minus-dot, all_at, level_zero}
 
 -- ---- rows of the matrix over (mu, level)
 
-dot-last : (xs mu : List ℤ) (a b : ℤ) → length xs ≡ length mu → dot (xs ++ a ∷ []) (mu ++ b ∷ []) ≡ dot xs mu +ℤ (a *ℤ b)
+pub dot-last : (xs mu : List ℤ) (a b : ℤ) → length xs ≡ length mu → dot (xs ++ a ∷ []) (mu ++ b ∷ []) ≡ dot xs mu +ℤ (a *ℤ b)
 dot-last [] [] a b e = omega (arith, ints)
 dot-last [] (u ∷ mu) a b e = absurd (omega (arith, e))
 dot-last (x ∷ xs) [] a b e = absurd (omega (arith, e))
@@ -52,35 +52,35 @@ pair_dot s pair mu level h l =
 
 -- ---- signs and kinds
 
-kind_has : (t : Sign) (x : ℤ) → HasSign t x → HasKind (kind_of_sign t) x
+pub kind_has : (t : Sign) (x : ℤ) → HasSign t x → HasKind (kind_of_sign t) x
 kind_has Zero x h = h
 kind_has Plus x h = h
 kind_has Minus x h = h
 
-has_kind : (t : Sign) (x : ℤ) → HasKind (kind_of_sign t) x → HasSign t x
+pub has_kind : (t : Sign) (x : ℤ) → HasKind (kind_of_sign t) x → HasSign t x
 has_kind Zero x h = h
 has_kind Plus x h = h
 has_kind Minus x h = h
 
-pair_has : (t : Sign) (h x : ℤ) → HasPairSign t h x → HasKind (pair_kind_by t h) x
+pub pair_has : (t : Sign) (h x : ℤ) → HasPairSign t h x → HasKind (pair_kind_by t h) x
 pair_has Zero h x k = tt
 pair_has Plus h x k = kind_has (sign h) x k
 pair_has Minus h x k = kind_has (opposite (sign h)) x k
 
-has_pair : (t : Sign) (h x : ℤ) → HasKind (pair_kind_by t h) x → HasPairSign t h x
+pub has_pair : (t : Sign) (h x : ℤ) → HasKind (pair_kind_by t h) x → HasPairSign t h x
 has_pair Zero h x k = tt
 has_pair Plus h x k = has_kind (sign h) x k
 has_pair Minus h x k = has_kind (opposite (sign h)) x k
 
-chosen : (k n : ℕ) (κ : Kind) → k < n → cond (nat_lt k n) κ Free ≡ κ
+pub chosen : (k n : ℕ) (κ : Kind) → k < n → cond (nat_lt k n) κ Free ≡ κ
 chosen k n κ lt = ap (λ (b : Bool). cond b κ Free) (lt-ltb k n lt)
 
 -- a full shelving's kind of a complex, and of a pair
-top_full : (shelves : List Sign) (n : ℕ) (top : Option ℕ) → length shelves ≡ n → ((k : ℕ) → top ≡ Some k → k < n) → top_kind shelves top ≡ kind_of_sign (shelf_of shelves top)
+pub top_full : (shelves : List Sign) (n : ℕ) (top : Option ℕ) → length shelves ≡ n → ((k : ℕ) → top ≡ Some k → k < n) → top_kind shelves top ≡ kind_of_sign (shelf_of shelves top)
 top_full shelves n None e h = refl
 top_full shelves n (Some k) e h = chosen k (length shelves) (kind_of_sign (shelf_at shelves k)) (omega (arith, h k refl, e))
 
-pair_full : (shelves : List Sign) (n : ℕ) (pair : Pair) → length shelves ≡ n → pair.top < n → pair_kind shelves pair ≡ pair_kind_by (shelf_at shelves pair.top) pair.sum
+pub pair_full : (shelves : List Sign) (n : ℕ) (pair : Pair) → length shelves ≡ n → pair.top < n → pair_kind shelves pair ≡ pair_kind_by (shelf_at shelves pair.top) pair.sum
 pair_full shelves n pair e h = chosen pair.top (length shelves) (pair_kind_by (shelf_at shelves pair.top) pair.sum) (omega (arith, h, e))
 
 -- ---- the rows, both ways

@@ -1,5 +1,5 @@
 -- Dot products, and combinations of rows.
-use Rattle.std.proofs.Common.{◌≡◌, ℕ, zero, suc, ◌<◌, List, [], ◌∷◌, length, get_or, take, drop, refl, sym, arith}
+use Rattle.std.proofs.Common.{◌≡◌, ◌≢◌, ℕ, zero, suc, ◌<◌, List, [], ◌∷◌, length, get_or, take, drop, refl, sym, ap, arith}
 use Rattle.std.specs.Prelude.{ℤ, pos, ◌+ℤ◌, ◌*ℤ◌}
 use Rattle.std.proofs.lemmas.Int.{ints}
 use lib.IntN.{*ℤ_comm, *ℤ-zero, zero-*ℤ}
@@ -20,6 +20,14 @@ pub dot_zero : (v w : List ℤ) → ((i : ℕ) → entry v i *ℤ entry w i ≡ 
 dot_zero [] w h = refl
 dot_zero (x ∷ v) [] h = refl
 dot_zero (x ∷ v) (y ∷ w) h = omega (arith, ints, h 0, dot_zero v w (λ i. h (suc i)))
+
+-- all products but that at k are 0
+pub dot_single : (v w : List ℤ) (k : ℕ) → ((i : ℕ) → i ≢ k → entry v i *ℤ entry w i ≡ pos 0) → dot v w ≡ entry v k *ℤ entry w k
+dot_single [] w k h = sym (zero-*ℤ (entry w k))
+dot_single (x ∷ v) [] k h = sym (*ℤ-zero (entry (x ∷ v) k))
+dot_single (x ∷ v) (y ∷ w) zero h = omega (arith, ints, dot_zero v w (λ i. h (suc i) (λ e. omega arith)))
+dot_single (x ∷ v) (y ∷ w) (suc k) h =
+    omega (arith, ints, h 0 (λ e. omega arith), dot_single v w k (λ i ne. h (suc i) (λ e. ne (omega arith))))
 
 pub dot_split : (n : ℕ) (v w : List ℤ) → dot v w ≡ dot (take n v) (take n w) +ℤ dot (drop n v) (drop n w)
 dot_split zero v w = omega (arith, ints)
@@ -49,6 +57,11 @@ dots (r ∷ rows) x = dot r x ∷ dots rows x
 pub length-scale : (a : ℤ) (xs : List ℤ) → length (scale a xs) ≡ length xs
 length-scale a [] = refl
 length-scale a (x ∷ xs) = omega (arith, length-scale a xs)
+
+pub take-scale : (q : ℤ) (n : ℕ) (v : List ℤ) → take n (scale q v) ≡ scale q (take n v)
+take-scale q zero v = refl
+take-scale q (suc n) [] = refl
+take-scale q (suc n) (x ∷ v) = ap (λ (t : List ℤ). (q *ℤ x) ∷ t) (take-scale q n v)
 
 pub length-plus : (xs ys : List ℤ) → length xs ≡ length ys → length (plus xs ys) ≡ length xs
 length-plus [] ys e = refl

@@ -110,12 +110,12 @@ product-opposite Zero t = refl
 product-opposite Plus t = refl
 product-opposite Minus t = refl
 
-plus-opposite : (s : Sign) → is_plus (opposite s) ≡ is_minus s
+pub plus-opposite : (s : Sign) → is_plus (opposite s) ≡ is_minus s
 plus-opposite Zero = refl
 plus-opposite Plus = refl
 plus-opposite Minus = refl
 
-minus-opposite : (s : Sign) → is_minus (opposite s) ≡ is_plus s
+pub minus-opposite : (s : Sign) → is_minus (opposite s) ≡ is_plus s
 minus-opposite Zero = refl
 minus-opposite Plus = refl
 minus-opposite Minus = refl
@@ -125,13 +125,13 @@ some_mirrored test test' h [] p = refl
 some_mirrored test test' h (s ∷ ss) [] = refl
 some_mirrored test test' h (s ∷ ss) (t ∷ p) = ap₂ (λ (b c : Bool). cond b true c) (ap test (product-opposite s t) ∙ h (product s t)) (some_mirrored test test' h ss p)
 
-sum-opposite : (a b : Bool) → kind_of_sum b a ≡ opposite_kind (kind_of_sum a b)
+pub sum-opposite : (a b : Bool) → kind_of_sum b a ≡ opposite_kind (kind_of_sum a b)
 sum-opposite true true = refl
 sum-opposite true false = refl
 sum-opposite false true = refl
 sum-opposite false false = refl
 
-cond-opposite : (b : Bool) (κ : Kind) → cond b (opposite_kind κ) Free ≡ opposite_kind (cond b κ Free)
+pub cond-opposite : (b : Bool) (κ : Kind) → cond b (opposite_kind κ) Free ≡ opposite_kind (cond b κ Free)
 cond-opposite true κ = refl
 cond-opposite false κ = refl
 
@@ -204,7 +204,7 @@ pub length-columns : (table : List (List Sign)) (p : List Sign) → length (map 
 length-columns [] p = refl
 length-columns (ss ∷ table) p = ap suc (length-columns table p)
 
-one_at_most : (b : Bool) → one_if b ≤ 1
+pub one_at_most : (b : Bool) → one_if b ≤ 1
 one_at_most true = omega arith
 one_at_most false = omega arith
 

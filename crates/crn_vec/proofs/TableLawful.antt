@@ -29,7 +29,7 @@ entry-neg [] k = refl
 entry-neg (x ∷ v) zero = refl
 entry-neg (x ∷ v) (suc k) = entry-neg v k
 
-length-neg : (v : List ℤ) → length (map neg_ℤ v) ≡ length v
+pub length-neg : (v : List ℤ) → length (map neg_ℤ v) ≡ length v
 length-neg [] = refl
 length-neg (x ∷ v) = ap suc (length-neg v)
 
