@@ -14,10 +14,9 @@ use Rattle.crn_vec.proofs.CallerLemmas.{mul-neg, pos_pos, no_zero}
 use Rattle.crn_vec.proofs.CallerLemmas.{up_up}
 use Rattle.crn_vec.proofs.CallerLemmas.{past_end, lt_or}
 use Rattle.crn_vec.proofs.CallerLemmas.{listed, listed_zeros, across}
-use Rattle.crn_vec.proofs.CallerLemmas.{dot-comm, dots, dot_zero, entry-dots}
+use Rattle.crn_vec.proofs.CallerLemmas.{dot-comm, dots, dot_zero, entry-dots, dot_single}
 use Rattle.crn_cert.specs.Says.{RuleOutDependence, RuleOutConservation}
 use Rattle.crn_cert.specs.RankTests.{IsDual}
-use Rattle.crn_cert.proofs.Ties.{dot_one}
 
 falls : (a x : ℤ) → pos 1 ≤ℤ a → x ≤ℤ pos 0 → (a *ℤ x) ≤ℤ pos 0
 falls a x p q = let h : pos 0 ≤ℤ (a *ℤ neg_ℤ x) = up_up a (neg_ℤ x) (omega (arith, ints, p)) (omega (arith, ints, q)) in omega (arith, ints, h, mul-neg a x)
@@ -112,5 +111,5 @@ duals_independent vs duals c long zero_sum i = elim (lt_or i (length vs)) [
         | inr past ↦ ap (λ (z : ℤ). z *ℤ entry (dots vs dual) j) (past_end c j (omega (arith, long, past))) ∙ zero-*ℤ (entry (dots vs dual) j)
       ] in
       let total : dot c (dots vs dual) ≡ pos 0 = across c dual vs ∙ listed_zeros dual (λ j. dot c (column vs j)) zero_sum in
-      no_zero (entry (dots vs dual) i) (entry c i) (*ℤ_comm (entry (dots vs dual) i) (entry c i) ∙ sym (dot_one c (dots vs dual) i others) ∙ total) (λ e. d.1.own (sym (at i lt) ∙ e))
+      no_zero (entry (dots vs dual) i) (entry c i) (*ℤ_comm (entry (dots vs dual) i) (entry c i) ∙ sym (dot_single c (dots vs dual) i others) ∙ total) (λ e. d.1.own (sym (at i lt) ∙ e))
 ]

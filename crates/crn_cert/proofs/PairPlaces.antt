@@ -1,13 +1,13 @@
 -- The pairs that are computed from true strong classes are the linked pairs of terminal classes, each by its least reaction.
 use Rattle.std.proofs.Common.{◌≡◌, ◌⊎◌, ℕ, zero, suc, ◌+◌, ◌-◌, ◌<◌, ◌≤◌, Bool, true, false, List, [], ◌∷◌, length, get_or, refl, sym, ap, subst, ◌∙◌, inl, inr, arith, ◌==◌, ◌&&◌, ◌||◌, not}
 use Rattle.std.specs.List.{range_with_len, list_any, filter}
-use Rattle.std.proofs.lemmas.Bool.{cases_Bool, eq-eqb, eqb-true, false≢true}
+use Rattle.std.proofs.lemmas.Bool.{cases_Bool, eq-eqb, eqb-true}
 use Rattle.crn_vec.specs.Lists.{IsIn, IsAscending}
 use Rattle.crn_vec.specs.Network.{Net, IsNetwork}
 use Rattle.crn_vec.specs.CutPairs.{IsBetween, IsFirstOfPair}
 use Rattle.crn_vec.proofs.CallerLemmas.{eq_or}
 use Rattle.crn_vec.proofs.CallerLemmas.{reaction_in, inside_at, in_range, filter_has, range_above, range_bounds, filter_above, above_ascending, and_cases, and_true}
-use Rattle.crn_vec.proofs.CallerLemmas.{or_right}
+use Rattle.crn_vec.proofs.CallerLemmas.{or_right, not_true}
 use Rattle.crn_cert.specs.Questions.{Earlier, Q2, on, count_of}
 use Rattle.crn_cert.specs.Says.{from_zero}
 use Rattle.crn_cert.specs.ClassTests.{of_class}
@@ -26,10 +26,6 @@ or_left false b e = cc
 or_either : (a b : Bool) → (a || b) ≡ true → (a ≡ true) ⊎ (b ≡ true)
 or_either true b e = inl refl
 or_either false b e = inr e
-
-not_both : (b : Bool) → not b ≡ true → b ≡ true → ⊥
-not_both true n e = false≢true n
-not_both false n e = false≢true e
 
 any_at : (test : ℕ → Bool) (a n c : ℕ) → a ≤ c → c < a + n → test c ≡ true → list_any test (range_with_len a n) ≡ true
 any_at test a zero c le lt e = absurd (omega (arith, le, lt))
@@ -115,7 +111,7 @@ first_of net earlier n known k i =
       first = λ q y z less goes between.
           let q_at : ends_at net (q + 1) ≡ (y, z) = ap (λ (j : ℕ). get_or rs j (0, 0)) (omega arith) ∙ goes.1 in
           let same : is_same_pair (ends_at net (q + 1)) (ends_at net (k + 1)) ≡ true = ap (λ (e : ℕ × ℕ). is_same_pair e (ends_at net (k + 1))) q_at ∙ ap (λ (e : ℕ × ℕ). is_same_pair (y, z) e) at ∙ same_pair (y, z) p between in
-          not_both (list_any (λ j. is_same_pair (ends_at net j) (ends_at net (k + 1))) (range_with_len 1 (k + 1 - 1))) t.1
+          not_true (list_any (λ j. is_same_pair (ends_at net j) (ends_at net (k + 1))) (range_with_len 1 (k + 1 - 1))) t.1
           (any_at (λ j. is_same_pair (ends_at net j) (ends_at net (k + 1))) 1 (k + 1 - 1) (q + 1) (omega arith) (omega (arith, less)) same);
     }
 

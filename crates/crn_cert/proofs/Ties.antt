@@ -10,23 +10,17 @@ use Rattle.crn_vec.specs.NetSystems.{confluence_system}
 use Rattle.crn_vec.proofs.CallerLemmas.{no_zero, assoc, left-comm, mul-sub}
 use Rattle.crn_vec.proofs.CallerLemmas.{eq_or, past_end, lt_or}
 use Rattle.crn_vec.proofs.CallerLemmas.{listed, length-listed, entry-listed, across}
-use Rattle.crn_vec.proofs.CallerLemmas.{dots, dot_zero, ratios_cross}
+use Rattle.crn_vec.proofs.CallerLemmas.{dots, dot_zero, ratios_cross, dot_single, zero_times}
 use Rattle.crn_cert.specs.ConfluenceTests.{IsTie, tie_at}
 
 -- ---- sums with one or two places
-
-pub dot_one : (v w : List ℤ) (c : ℕ) → ((i : ℕ) → i ≢ c → entry v i *ℤ entry w i ≡ pos 0) → dot v w ≡ entry v c *ℤ entry w c
-dot_one [] w c h = sym (zero-*ℤ (entry w c))
-dot_one (x ∷ v) [] c h = sym (*ℤ-zero (entry (x ∷ v) c))
-dot_one (x ∷ v) (y ∷ w) zero h = omega (arith, ints, dot_zero v w (λ i. h (suc i) (λ e. omega arith)))
-dot_one (x ∷ v) (y ∷ w) (suc c) h = omega (arith, ints, h 0 (λ e. omega arith), dot_one v w c (λ i ne. h (suc i) (λ e. ne (omega (arith, e)))))
 
 pub dot_two : (v w : List ℤ) (c d : ℕ) → c ≢ d → ((i : ℕ) → i ≢ c → i ≢ d → entry v i *ℤ entry w i ≡ pos 0) → dot v w ≡ (entry v c *ℤ entry w c) +ℤ (entry v d *ℤ entry w d)
 dot_two [] w c d ne h = omega (arith, ints, zero-*ℤ (entry w c), zero-*ℤ (entry w d))
 dot_two (x ∷ v) [] c d ne h = omega (arith, ints, *ℤ-zero (entry (x ∷ v) c), *ℤ-zero (entry (x ∷ v) d))
 dot_two (x ∷ v) (y ∷ w) zero zero ne h = absurd (ne refl)
-dot_two (x ∷ v) (y ∷ w) zero (suc d) ne h = omega (arith, ints, dot_one v w d (λ i n. h (suc i) (λ e. omega arith) (λ e. n (omega (arith, e)))))
-dot_two (x ∷ v) (y ∷ w) (suc c) zero ne h = omega (arith, ints, dot_one v w c (λ i n. h (suc i) (λ e. n (omega (arith, e))) (λ e. omega arith)))
+dot_two (x ∷ v) (y ∷ w) zero (suc d) ne h = omega (arith, ints, dot_single v w d (λ i n. h (suc i) (λ e. omega arith) (λ e. n (omega (arith, e)))))
+dot_two (x ∷ v) (y ∷ w) (suc c) zero ne h = omega (arith, ints, dot_single v w c (λ i n. h (suc i) (λ e. n (omega (arith, e))) (λ e. omega arith)))
 dot_two (x ∷ v) (y ∷ w) (suc c) (suc d) ne h =
     omega (arith, ints, h 0 (λ e. omega arith) (λ e. omega arith), dot_two v w c d (λ e. ne (ap suc e)) (λ i m n. h (suc i) (λ e. m (omega (arith, e))) (λ e. n (omega (arith, e)))))
 
@@ -54,19 +48,16 @@ tied_entry net linkage count tie c lt = entry-listed (length net.complexes) (tie
 tied_past : (net : Net) (linkage : List ℕ) (count : ℕ) (tie : List ℤ) (i : ℕ) → length net.complexes ≤ i → entry (tied net linkage count tie) i ≡ pos 0
 tied_past net linkage count tie i le = past_end (tied net linkage count tie) i (omega (arith, length-listed (length net.complexes) (tie_at net linkage count tie), le))
 
-none_of : (x y : ℤ) → x ≡ pos 0 → x *ℤ y ≡ pos 0
-none_of x y e = ap (λ (z : ℤ). z *ℤ y) e ∙ zero-*ℤ y
-
 -- ---- only zero
 
 pub zero_by_tie : (net : Net) (linkage : List ℕ) (count c : ℕ) (tie g : List ℤ) → c < length net.complexes → IsTie net linkage count (λ d. ⊥) c tie → IsKept net linkage count g → entry g c ≡ pos 0
 zero_by_tie net linkage count c tie g lt t kept =
     let v = tied net linkage count tie in
     let others : (i : ℕ) → i ≢ c → entry v i *ℤ entry g i ≡ pos 0 = λ i ne. elim (lt_or i (length net.complexes)) [
-      | inl l ↦ none_of (entry v i) (entry g i) (tied_entry net linkage count tie i l ∙ elim (t.others i l ne) [ inl bad ↦ absurd bad | inr z ↦ z ])
-      | inr past ↦ none_of (entry v i) (entry g i) (tied_past net linkage count tie i past)
+      | inl l ↦ zero_times (entry v i) (entry g i) (tied_entry net linkage count tie i l ∙ elim (t.others i l ne) [ inl bad ↦ absurd bad | inr z ↦ z ])
+      | inr past ↦ zero_times (entry v i) (entry g i) (tied_past net linkage count tie i past)
     ] in
-    no_zero (entry v c) (entry g c) (sym (dot_one v g c others) ∙ tie_sum net linkage count tie g kept) (λ e. t.own (sym (tied_entry net linkage count tie c lt) ∙ e))
+    no_zero (entry v c) (entry g c) (sym (dot_single v g c others) ∙ tie_sum net linkage count tie g kept) (λ e. t.own (sym (tied_entry net linkage count tie c lt) ∙ e))
 
 -- ---- a line
 
@@ -76,8 +67,8 @@ balance : (net : Net) (linkage : List ℕ) (count c c0 : ℕ) (tie g : List ℤ)
 balance net linkage count c c0 tie g lt lt0 ne t kept =
     let v = tied net linkage count tie in
     let others : (i : ℕ) → i ≢ c → i ≢ c0 → entry v i *ℤ entry g i ≡ pos 0 = λ i n n0. elim (lt_or i (length net.complexes)) [
-      | inl l ↦ none_of (entry v i) (entry g i) (tied_entry net linkage count tie i l ∙ elim (t.others i l n) [ inl bad ↦ absurd (n0 bad) | inr z ↦ z ])
-      | inr past ↦ none_of (entry v i) (entry g i) (tied_past net linkage count tie i past)
+      | inl l ↦ zero_times (entry v i) (entry g i) (tied_entry net linkage count tie i l ∙ elim (t.others i l n) [ inl bad ↦ absurd (n0 bad) | inr z ↦ z ])
+      | inr past ↦ zero_times (entry v i) (entry g i) (tied_past net linkage count tie i past)
     ] in
     let sum = sym (dot_two v g c c0 ne others) ∙ tie_sum net linkage count tie g kept in
     let first : entry v c *ℤ entry g c ≡ tie_at net linkage count tie c *ℤ entry g c = ap (λ (z : ℤ). z *ℤ entry g c) (tied_entry net linkage count tie c lt) in
@@ -119,7 +110,7 @@ AreTied net linkage count c0 = (c : ℕ) → c < length net.complexes → c ≢ 
 to_one : (net : Net) (linkage : List ℕ) (count c0 : ℕ) (g h : List ℤ) → c0 < length net.complexes → AreTied net linkage count c0 → IsKept net linkage count g → IsKept net linkage count h
     → (i : ℕ) → entry h i *ℤ entry g c0 ≡ entry g i *ℤ entry h c0
 to_one net linkage count c0 g h lt0 tied_all kg kh i = elim (lt_or i (length net.complexes)) [
-  | inr past ↦ none_of (entry h i) (entry g c0) (past_end h i (omega (arith, kh.0, past))) ∙ sym (none_of (entry g i) (entry h c0) (past_end g i (omega (arith, kg.0, past))))
+  | inr past ↦ zero_times (entry h i) (entry g c0) (past_end h i (omega (arith, kh.0, past))) ∙ sym (zero_times (entry g i) (entry h c0) (past_end g i (omega (arith, kg.0, past))))
   | inl lt ↦ elim (eq_or i c0) [
     | inl e ↦ subst (λ (k : ℕ). entry h k *ℤ entry g c0 ≡ entry g k *ℤ entry h c0) (sym e) (*ℤ_comm (entry h c0) (entry g c0))
     | inr ne ↦

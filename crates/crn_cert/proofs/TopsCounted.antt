@@ -1,5 +1,5 @@
 -- The count of the tops is the number of terminal strong classes.
-use Rattle.std.proofs.Common.{◌≡◌, ◌⊎◌, ◌≤◌, ◌<◌, inl, inr, ℕ, zero, suc, List, [], ◌∷◌, length, refl, sym, ap, subst, arith}
+use Rattle.std.proofs.Common.{◌≡◌, ◌≤◌, ◌<◌, inl, inr, ℕ, zero, suc, List, [], ◌∷◌, length, refl, sym, ap, subst, arith}
 use Rattle.std.specs.Prelude.{Option, Some}
 use Rattle.crn_vec.specs.Lists.{IsIn}
 use Rattle.crn_vec.specs.Network.{Net}
@@ -7,7 +7,7 @@ use Rattle.crn_vec.specs.Walks.{AreApart, AreRepresentatives, IsNumberOf}
 use Rattle.crn_vec.specs.Strong.{SameStrong, IsTerminal}
 use Rattle.crn_vec.specs.Deficiency.{IsComplex}
 use Rattle.crn_vec.specs.NetSignals.{AreTops, top_at}
-use Rattle.crn_vec.proofs.CallerLemmas.{top_inside, option_or}
+use Rattle.crn_vec.proofs.CallerLemmas.{top_inside, option_or, below_or}
 
 -- one complex of each of the first classes
 record Chosen (net : Net) (tops : List (Option ℕ)) (n : ℕ) : Type 0 where
@@ -16,12 +16,6 @@ record Chosen (net : Net) (tops : List (Option ℕ)) (n : ℕ) : Type 0 where
   numbers : (y : ℕ) → IsIn y ys → (k : ℕ) × (k < n) × (top_at tops y ≡ Some k)
   each : (k : ℕ) → k < n → (y : ℕ) × IsIn y ys × (top_at tops y ≡ Some k)
   apart : AreApart (SameStrong net.reactions) ys
-
-below_or : (k n : ℕ) → k < suc n → (k < n) ⊎ (k ≡ n)
-below_or zero zero h = inr refl
-below_or zero (suc n) h = inl (omega arith)
-below_or (suc k) zero h = absurd (omega (arith, h))
-below_or (suc k) (suc n) h = elim (below_or k n (omega (arith, h))) [ inl l ↦ inl (omega (arith, l)) | inr e ↦ inr (ap suc e) ]
 
 choose : (net : Net) (tops : List (Option ℕ)) (count : ℕ) → AreTops net tops count → (n : ℕ) → n ≤ count → Chosen net tops n
 choose net tops count t zero h = record { ys = []; long = refl; numbers = λ y i. absurd i; each = λ k l. absurd (omega (arith, l)); apart = tt }
