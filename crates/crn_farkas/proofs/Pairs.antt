@@ -12,9 +12,9 @@ use Rattle.crn_vec.specs.Vectors.{Mat, entry, dot, column, scale}
 use Rattle.crn_vec.specs.Lists.{IsIn}
 use Rattle.crn_vec.specs.Elementary.{width, InRowSpace, InDualSpace, IsNamed, IsNamedRow, IsNamedColumn}
 use Rattle.crn_vec.specs.Systems.{HasKind, is_signed}
-use Rattle.crn_vec.proofs.CallerLemmas.{no_zero, mul-neg, length-scale, entry-scale, dot-scale, dot-scale-right, part, orthogonal}
+use Rattle.crn_vec.proofs.CallerLemmas.{no_zero, mul-neg, length-scale, entry-scale, dot-scale, dot-scale-right, part, orthogonal, dot_single}
 use Rattle.crn_tab.specs.Tableau.{NamesRows}
-use Rattle.crn_tab.proofs.CallerLemmas.{dot_single, isIn_or, one_row, as_row}
+use Rattle.crn_tab.proofs.CallerLemmas.{isIn_or, one_row, as_row}
 
 -- all products but two are 0
 dot_pair : (v w : List ℤ) (c g : ℕ) → c ≢ g → ((i : ℕ) → i ≢ c → i ≢ g → part v w i ≡ pos 0) → dot v w ≡ part v w c +ℤ part v w g

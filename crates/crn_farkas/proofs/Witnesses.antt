@@ -13,9 +13,9 @@ use Rattle.crn_vec.specs.Vectors.{Mat, entry, HasSign, scale}
 use Rattle.crn_vec.specs.Lists.{IsIn}
 use Rattle.crn_vec.specs.Elementary.{width, IsNamed, IsNamedColumn, NamesWide, WideAt}
 use Rattle.crn_vec.specs.Systems.{HasKind, MayTake, MayWeigh, kind_at, is_signed}
-use Rattle.crn_vec.proofs.CallerLemmas.{eq_or, lt_or, past_end, entry-scale}
+use Rattle.crn_vec.proofs.CallerLemmas.{eq_or, lt_or, past_end, entry-scale, same_members}
 use Rattle.crn_tab.specs.Tableau.{NamesRows, IsNumbered, IsRefused}
-use Rattle.crn_tab.proofs.CallerLemmas.{same_members, column_at, as_row}
+use Rattle.crn_tab.proofs.CallerLemmas.{column_at, as_row}
 use Rattle.crn_farkas.specs.declared.view.View.TheVariants.{Row, Column}
 use Rattle.crn_farkas.specs.Inner.Views.{IsView, IsRightEverywhere}
 use Rattle.crn_farkas.specs.Decision.{factor}

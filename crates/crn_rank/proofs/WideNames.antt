@@ -3,9 +3,8 @@ use Rattle.std.proofs.Common.{◌≡◌, ◌≢◌, ℕ, ◌+◌, ◌-◌, ◌�
 use Rattle.crn_vec.specs.Vectors.{Mat}
 use Rattle.crn_vec.specs.Lists.{IsIn}
 use Rattle.crn_vec.specs.Elementary.{NamesWide, WideAt}
-use Rattle.crn_vec.proofs.CallerLemmas.{eq_or}
+use Rattle.crn_vec.proofs.CallerLemmas.{eq_or, same_members}
 use Rattle.crn_tab.specs.Tableau.{NamesRows, IsNumbered, IsRefused}
-use Rattle.crn_tab.proofs.CallerLemmas.{same_members}
 
 pub wide_refused : (a : Mat) (basis : List ℕ) (leave enter index : ℕ) (numbers : List ℕ) → IsRefused a basis leave enter index → IsNumbered basis leave enter numbers → NamesWide a index numbers
 wide_refused a basis leave enter index numbers r n = record { from_zero = n.next; numbered = n.numbered; counted = r.counted; wide = r.wide n.next n.exchanged }

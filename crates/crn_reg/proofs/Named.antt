@@ -15,9 +15,9 @@ use Rattle.crn_vec.specs.Lists.{IsIn}
 use Rattle.crn_vec.specs.Rank.{IsZero}
 use Rattle.crn_vec.specs.Elementary.{width, InRowSpace, IsNamed, IsNamedColumn, IsPrimitive, AreProportional}
 use Rattle.crn_vec.proofs.CallerLemmas.{eq_or, lt_or, past_end, in_at, at_in, no_zero, orthogonal, zeros, length-zeros, entry-zeros, zip_push}
-use Rattle.crn_vec.proofs.CallerLemmas.{swap_factors, ratios_cross, range_more, filter_yes, filter_no}
+use Rattle.crn_vec.proofs.CallerLemmas.{ratios_cross, range_more, filter_yes, filter_no, dot_single}
 use Rattle.crn_tab.specs.Tableau.{AreSmall, NamesRows, AreEntered}
-use Rattle.crn_tab.proofs.CallerLemmas.{isIn_or, one_row, one_column, as_row, dot_single}
+use Rattle.crn_tab.proofs.CallerLemmas.{isIn_or, one_row, one_column, as_row}
 use Rattle.crn_reg.specs.Inner.Spaces.{IsSolution, IsTieOf, numbers_but, HasNoColumn, IsFirstColumn, HasNoOther, IsColumnPart}
 
 -- ---- entries that are not zero

@@ -9,10 +9,9 @@ use lib.IntN.{*ℤ-zero, zero-*ℤ}
 use Rattle.crn_vec.specs.Vectors.{Mat, entry, AreOfLength}
 use Rattle.crn_vec.specs.Lists.{IsIn}
 use Rattle.crn_vec.specs.Elementary.{width, IsBasis, IsPrimitive, IsNamed}
-use Rattle.crn_vec.proofs.CallerLemmas.{no_zero, past_end, inside_or, lt_or, orthogonal}
+use Rattle.crn_vec.proofs.CallerLemmas.{no_zero, past_end, inside_or, lt_or, orthogonal, dot_single}
 use Rattle.crn_tab.specs.Slots.{IsContent, slot_entry, spread, basis_of, ArePlaced, IsRowAt}
 use Rattle.crn_tab.proofs.Places.{isIn_or, slot_basic, slot_own, slot_none, length-spread, entry-spread, in_basis, basis_only, basis_ascending}
-use Rattle.crn_tab.proofs.Dots.{dot_single}
 
 -- a coordinate outside the basis has the slot of a row
 pub outside_slot : (n count : ℕ) (at order : List ℕ) (k : ℕ) → ArePlaced n count at order → k < count → ¬ IsIn k (basis_of n at) → n ≤ slice_index at k

@@ -4,14 +4,11 @@
 pub use Rattle.crn_tab.proofs.Places.{isIn_or}
 pub use Rattle.crn_tab.proofs.EnteredRank.{found}
 pub use Rattle.crn_tab.proofs.Numbers.{push_in, push_last, in_push}
-pub use Rattle.crn_tab.proofs.Ascending.{same_members}
-pub use Rattle.crn_tab.proofs.Scans.{any_kind}
 -- Numbers and their signs: a factor that is not 0 cancels, and a sign goes over to a multiple.
 pub use Rattle.crn_tab.proofs.Columns.{cancel_left}
 pub use Rattle.crn_tab.proofs.CutScans.{sign_some}
 pub use Rattle.crn_tab.proofs.OwnSign.{sign_carried}
 -- A sum of products of which all but one are 0.
-pub use Rattle.crn_tab.proofs.Dots.{dot_single}
 -- The vectors that a basis names: one for each coordinate, up to a factor, in the rows or in the columns.
 pub use Rattle.crn_tab.proofs.Signs.{one_row}
 pub use Rattle.crn_tab.proofs.Columns.{one_column}

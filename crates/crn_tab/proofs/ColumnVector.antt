@@ -10,14 +10,13 @@ use Rattle.crn_frac.proofs.CallerLemmas.{exact}
 use Rattle.crn_vec.specs.Vectors.{Mat, entry, dot}
 use Rattle.crn_vec.specs.Lists.{IsIn}
 use Rattle.crn_vec.specs.Elementary.{width, InRowSpace, IsPrimitive, IsNamed, WideAt}
-use Rattle.crn_vec.proofs.CallerLemmas.{left-comm, mul-neg, past_end, lt_or, eq_or, orthogonal}
+use Rattle.crn_vec.proofs.CallerLemmas.{left-comm, mul-neg, past_end, lt_or, eq_or, orthogonal, dot_single}
 use Rattle.crn_tab.specs.Tableau.{choose}
 use Rattle.crn_tab.specs.Slots.{spread, basis_of, row_at, IsTableau}
 use Rattle.crn_tab.specs.Inner.Columns.{MakesWhole, IsScale, HasWideScale, column_entry, column_of}
 use Rattle.crn_tab.proofs.Places.{isIn_or, lt_true, lt_false, eq_true, eq_false, slot_basic, entry-spread}
 use Rattle.crn_tab.proofs.BasicTest.{slot_below}
 use Rattle.crn_tab.proofs.Bases.{rows_make_basis, zero_outside, outside_slot, at_own}
-use Rattle.crn_tab.proofs.Dots.{dot_single}
 use Rattle.crn_tab.proofs.Unique.{column_at}
 use Rattle.crn_tab.proofs.Columns.{cancel_left, row_combined}
 use Rattle.crn_tab.proofs.Scales.{scale_of, scale_grows}

@@ -6,7 +6,7 @@ use lib.IntN.{*ℤ_comm, *ℤ-zero}
 use Rattle.crn_vec.specs.Vectors.{Mat, entry}
 use Rattle.crn_vec.specs.Lists.{IsIn}
 use Rattle.crn_vec.specs.Elementary.{width, IsBasis, IsNamed, IsNamedRow, IsNamedColumn}
-use Rattle.crn_vec.proofs.CallerLemmas.{no_zero, left-comm, mul-neg}
+use Rattle.crn_vec.proofs.CallerLemmas.{no_zero, left-comm, mul-neg, neg-mul}
 use Rattle.crn_tab.specs.Slots.{spread, basis_of, row_at, IsTableau}
 use Rattle.crn_tab.proofs.Places.{entry-spread, slot_basic}
 use Rattle.crn_tab.proofs.Bases.{rows_make_basis, at_own}
@@ -15,9 +15,6 @@ use Rattle.crn_tab.proofs.RowVector.{row_of}
 use Rattle.crn_tab.proofs.Signs.{one_row, some_own}
 use Rattle.crn_tab.proofs.Columns.{cancel_left}
 use Rattle.crn_tab.proofs.ColumnVector.{meets}
-
-neg-mul : (x y : ℤ) → neg_ℤ x *ℤ y ≡ neg_ℤ (x *ℤ y)
-neg-mul x y = *ℤ_comm (neg_ℤ x) y ∙ mul-neg y x ∙ ap neg_ℤ (*ℤ_comm y x)
 
 -- from x b + d a = 0 and num d = - x den: den a = num b
 down_column : (x d a b num den : ℤ) → d ≢ pos 0 → x *ℤ b +ℤ d *ℤ a ≡ pos 0 → num *ℤ d ≡ neg_ℤ x *ℤ den → den *ℤ a ≡ num *ℤ b

@@ -1,10 +1,10 @@
 -- Dot products: differences, and single products.
-use Rattle.std.proofs.Common.{◌≡◌, ◌≢◌, ℕ, zero, suc, List, [], ◌∷◌, length, sym, ap, arith}
-use Rattle.std.specs.Prelude.{ℤ, pos, ◌-ℤ◌, ◌*ℤ◌}
+use Rattle.std.proofs.Common.{◌≡◌, ℕ, suc, List, [], ◌∷◌, length, ap, arith}
+use Rattle.std.specs.Prelude.{ℤ, ◌-ℤ◌, ◌*ℤ◌}
 use Rattle.std.proofs.lemmas.Int.{ints}
 use lib.IntN.{*ℤ_comm, *ℤ-zero, zero-*ℤ}
 use Rattle.crn_vec.specs.Vectors.{entry, dot}
-use Rattle.crn_vec.proofs.CallerLemmas.{distrib, distrib-right, assoc, mul-sub, dot_zero}
+use Rattle.crn_vec.proofs.CallerLemmas.{distrib, distrib-right, assoc, mul-sub}
 
 step : (p q t z w v c : ℤ) → z *ℤ t ≡ (p *ℤ w) -ℤ (q *ℤ v) → (z *ℤ c) *ℤ t ≡ (p *ℤ (w *ℤ c)) -ℤ (q *ℤ (v *ℤ c))
 step p q t z w v c e =
@@ -25,11 +25,3 @@ dot_combined p q t (w ∷ ws) (v ∷ vs) (z ∷ zs) [] e f h = omega (arith, int
 dot_combined p q t (w ∷ ws) (v ∷ vs) (z ∷ zs) (c ∷ cs) e f h =
     let rest : dot zs cs *ℤ t ≡ (p *ℤ dot ws cs) -ℤ (q *ℤ dot vs cs) = dot_combined p q t ws vs zs cs (omega arith) (omega arith) (λ k. h (suc k)) in
     omega (arith, ints, rest, step p q t z w v c (h 0), distrib-right (z *ℤ c) (dot zs cs) t, distrib p (w *ℤ c) (dot ws cs), distrib q (v *ℤ c) (dot vs cs))
-
--- all products but that at k are 0
-pub dot_single : (v w : List ℤ) (k : ℕ) → ((i : ℕ) → i ≢ k → entry v i *ℤ entry w i ≡ pos 0) → dot v w ≡ entry v k *ℤ entry w k
-dot_single [] w k h = sym (zero-*ℤ (entry w k))
-dot_single (x ∷ v) [] k h = sym (*ℤ-zero (entry (x ∷ v) k))
-dot_single (x ∷ v) (y ∷ w) zero h = omega (arith, ints, dot_zero v w (λ i. h (suc i) (λ e. omega arith)))
-dot_single (x ∷ v) (y ∷ w) (suc k) h =
-    omega (arith, ints, h 0 (λ e. omega arith), dot_single v w k (λ i ne. h (suc i) (λ e. ne (omega arith))))

@@ -3,8 +3,7 @@ use Rattle.std.proofs.Common.{◌≡◌, ◌≢◌, ℕ, ◌<◌, ◌⊎◌, inl
 use Rattle.std.specs.Prelude.{◌↔◌}
 use Rattle.crn_vec.specs.Lists.{IsIn, IsAbove, IsAscending}
 use Rattle.crn_vec.specs.Elementary.{Exchanged}
-use Rattle.crn_vec.proofs.CallerLemmas.{eq_or, lt_or}
-use Rattle.crn_tab.proofs.Ascending.{tail}
+use Rattle.crn_vec.proofs.CallerLemmas.{eq_or, lt_or, above_ascending, above_lower}
 
 -- the members other than b
 record Without (b : ℕ) (xs ys : List ℕ) : Type 0 where
@@ -12,19 +11,15 @@ record Without (b : ℕ) (xs ys : List ℕ) : Type 0 where
   pub ascending : IsAscending ys
   pub members : (k : ℕ) → IsIn k ys ↔ (IsIn k xs × (k ≢ b))
 
-lower : (m x : ℕ) (xs : List ℕ) → m < x → IsAbove x xs → IsAbove m xs
-lower m x [] lt h = tt
-lower m x (y ∷ ys) lt h = (omega (arith, h.0), h.1)
-
 without : (b : ℕ) (xs : List ℕ) → IsAscending xs → (ys : List ℕ) × Without b xs ys
 without b [] h = ([], record { above = λ m g. tt; ascending = tt; members = λ k. (λ i. absurd i, λ i. absurd i.0) })
 without b (x ∷ xs) h =
-    let rest = without b xs (tail x xs h) in
+    let rest = without b xs (above_ascending x xs h) in
     elim (eq_or x b) as (λ _. (ys : List ℕ) × Without b (x ∷ xs) ys) [
       | inl e ↦ (
         rest.0,
         record {
-          above = λ m g. rest.1.above m (lower m x xs g.0 g.1);
+          above = λ m g. rest.1.above m (above_lower m x xs g.0 g.1);
           ascending = rest.1.ascending;
           members = λ k. (
             λ i. let r = (rest.1.members k).0 i in (inr r.0, r.1),
@@ -80,7 +75,7 @@ with_one e (x ∷ xs) h =
           },
         )
         | inr ne ↦
-            let rest = with_one e xs (tail x xs h) in
+            let rest = with_one e xs (above_ascending x xs h) in
             let lt : x < e = omega (arith, le, ne) in (
               x ∷ rest.0,
               record {

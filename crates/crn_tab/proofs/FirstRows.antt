@@ -9,34 +9,23 @@ use Rattle.std.proofs.Math.Seq.{take-append_seam}
 use Rattle.crn_vec.specs.declared.limits.TheConstants.{MAX_AMOUNT, MAX_COORDINATES, WIDE_ENTRY}
 use Rattle.crn_vec.specs.Vectors.{Mat, entry, dot, column, AreOfLength, AreWithin}
 use Rattle.crn_vec.specs.Elementary.{width, InDualSpace}
-use Rattle.crn_vec.proofs.CallerLemmas.{within_at, past_end, lt_or}
+use Rattle.crn_vec.proofs.CallerLemmas.{within_at, past_end, lt_or, length-neg, entry-neg, dot_single, zero_times}
 use Rattle.crn_tab.specs.Tableau.{AreSmall, choose}
 use Rattle.crn_tab.specs.Slots.{IsContent, slot_entry, spread, basis_from, row_at, ArePlaced, IsRowAt, IsTableau}
 use Rattle.crn_tab.specs.Inner.Start.{IsIdentity, start_row, start_rows}
 use Rattle.crn_tab.proofs.Rows.{small_everywhere, row_count}
 use Rattle.crn_tab.proofs.Places.{lt_true, lt_false, slot_basic, slot_own, slot_none, length-spread, entry-spread}
-use Rattle.crn_tab.proofs.Dots.{dot_single}
 use Rattle.crn_tab.proofs.Finish.{small_list}
-use Rattle.crn_tab.proofs.Primitive.{no_times}
-
-pub length-negatives : (r : List ℤ) → length (map neg_ℤ r) ≡ length r
-length-negatives [] = refl
-length-negatives (x ∷ r) = ap suc (length-negatives r)
-
-entry-negatives : (r : List ℤ) (j : ℕ) → entry (map neg_ℤ r) j ≡ neg_ℤ (entry r j)
-entry-negatives [] j = refl
-entry-negatives (x ∷ r) zero = refl
-entry-negatives (x ∷ r) (suc j) = entry-negatives r j
 
 pub length-start_row : (r : List ℤ) → length (start_row r) ≡ length r + 1
-length-start_row r = omega (arith, length-append (map neg_ℤ r) (pos 1 ∷ []), length-negatives r)
+length-start_row r = omega (arith, length-append (map neg_ℤ r) (pos 1 ∷ []), length-neg r)
 
 pub start_entry : (r : List ℤ) (j : ℕ) → j < length r → entry (start_row r) j ≡ neg_ℤ (entry r j)
-start_entry r j lt = get_or_append_left (map neg_ℤ r) (pos 1 ∷ []) (pos 0) j (omega (arith, length-negatives r)) ∙ entry-negatives r j
+start_entry r j lt = get_or_append_left (map neg_ℤ r) (pos 1 ∷ []) (pos 0) j (omega (arith, length-neg r)) ∙ entry-neg r j
 
 pub start_last : (r : List ℤ) → entry (start_row r) (length r) ≡ pos 1
 start_last r =
-    ap (λ k. entry (start_row r) k) (let e : length r ≡ length (map neg_ℤ r) + 0 = omega (arith, length-negatives r) in e)
+    ap (λ k. entry (start_row r) k) (let e : length r ≡ length (map neg_ℤ r) + 0 = omega (arith, length-neg r) in e)
     ∙ get_or-append-add (map neg_ℤ r) (pos 1 ∷ []) 0 (pos 0)
 
 by_suc : (rs : List (List ℤ)) (i : ℕ) → i < length rs → start_rows (take (suc i) rs) ≡ start_rows (take i rs) ++ start_row (get_or rs i [])
@@ -121,7 +110,7 @@ first_dual a at i wide id lt =
       is = λ j j_lt.
           let left : entry w j ≡ neg_ℤ (entry r j) = in_at j (omega arith) ∙ slot_basic n i row j j_lt ∙ start_entry r j (omega (arith, r_long)) in
           let below : (k : ℕ) → entry (drop n w) k ≡ entry w (n + k) = λ k. get_or-drop n w k (pos 0) in
-          let others : (k : ℕ) → k ≢ i → entry (drop n w) k *ℤ entry (column a.rows j) k ≡ pos 0 = λ k ne. no_times (entry (drop n w) k) (entry (column a.rows j) k) (below k ∙ elim (lt_or (n + k) (width a)) as (λ _. entry w (n + k) ≡ pos 0) [
+          let others : (k : ℕ) → k ≢ i → entry (drop n w) k *ℤ entry (column a.rows j) k ≡ pos 0 = λ k ne. zero_times (entry (drop n w) k) (entry (column a.rows j) k) (below k ∙ elim (lt_or (n + k) (width a)) as (λ _. entry w (n + k) ≡ pos 0) [
             | inl k_lt ↦ in_at (n + k) k_lt ∙ slot_none n i row (n + k) (omega arith) (λ e. ne (omega arith))
             | inr past ↦ past_end w (n + k) (omega (arith, length-spread n i row at, id.long))
           ]) in

@@ -5,18 +5,14 @@ use Rattle.std.proofs.lemmas.List.{get_or-take, get_or-drop, length-take, length
 use Rattle.std.proofs.Math.Seq.{take-append_seam}
 use Rattle.std.proofs.Math.Nat.{suc-mul, mul-le-mul_right}
 use Rattle.crn_vec.specs.Vectors.{entry}
-use Rattle.crn_vec.proofs.CallerLemmas.{lt_or}
+use Rattle.crn_vec.proofs.CallerLemmas.{lt_or, drop_seam}
 use Rattle.crn_tab.specs.Slots.{row_at}
 use Rattle.crn_tab.proofs.Rows.{same_rows}
-
-pub drop_prefix : (xs ys : List ℤ) → drop (length xs) (xs ++ ys) ≡ ys
-drop_prefix [] ys = refl
-drop_prefix (x ∷ xs) ys = drop_prefix xs ys
 
 -- the row that was written
 pub row_written : (w i : ℕ) (prefix into back : List ℤ) → length prefix ≡ i * w → length into ≡ w → row_at w (prefix ++ (into ++ back)) i ≡ into
 row_written w i prefix into back e f =
-    ap (λ k. take w (drop k (prefix ++ (into ++ back)))) (sym e) ∙ ap (take w) (drop_prefix prefix (into ++ back))
+    ap (λ k. take w (drop k (prefix ++ (into ++ back)))) (sym e) ∙ ap (take w) (drop_seam prefix (into ++ back))
     ∙ ap (λ k. take k (into ++ back)) (sym f) ∙ take-append_seam into back
 
 entry_after : (into into' back : List ℤ) (k : ℕ) → length into ≡ length into' → length into ≤ k → entry (into ++ back) k ≡ entry (into' ++ back) k

@@ -4,8 +4,8 @@ use Rattle.std.specs.Prelude.{ℤ, pos, ◌-ℤ◌, ◌*ℤ◌, ◌≤ℤ◌, un
 use Rattle.std.specs.Int.{◌∣◌}
 use Rattle.std.proofs.lemmas.Int.{ints, unsigned_abs-mul}
 use Rattle.std.proofs.Math.Nat.{one-dvd, one-mul, mul-dvd-mul_right, dvd_of_mul-dvd-mul_right, pos_of_dvd_of_pos}
-use lib.IntN.{*ℤ-zero, zero-*ℤ}
-use Rattle.crn_vec.proofs.CallerLemmas.{past_end, inside_or}
+use lib.IntN.{*ℤ-zero}
+use Rattle.crn_vec.proofs.CallerLemmas.{past_end, inside_or, zero_times}
 use Rattle.crn_vec.specs.Vectors.{entry}
 use Rattle.crn_tab.specs.Slots.{IsContent}
 use Rattle.crn_tab.specs.Inner.Rows.{IsCombined}
@@ -31,11 +31,8 @@ pub no_more : (p q x y : ℤ) → x ≡ pos 0 → y ≡ pos 0 → (p *ℤ x) -�
 no_more p q x y e f =
     omega (arith, ints, ap (λ (t : ℤ). p *ℤ t) e, ap (λ (t : ℤ). q *ℤ t) f, *ℤ-zero p, *ℤ-zero q)
 
-pub no_times : (z t : ℤ) → z ≡ pos 0 → z *ℤ t ≡ pos 0
-no_times z t e = ap (λ (s : ℤ). s *ℤ t) e ∙ zero-*ℤ t
-
 pub none_left : (p q t z w v : ℤ) → z ≡ pos 0 → w ≡ pos 0 → v ≡ pos 0 → z *ℤ t ≡ (p *ℤ w) -ℤ (q *ℤ v)
-none_left p q t z w v e f g = no_times z t e ∙ sym (no_more p q w v f g)
+none_left p q t z w v e f g = zero_times z t e ∙ sym (no_more p q w v f g)
 
 -- the products u, divided by their content, are the primitive difference
 pub combined_of : (p q : ℤ) (w v u z : List ℤ) (t : ℤ) → length v ≡ length w → length u ≡ length w → length z ≡ length w
@@ -48,7 +45,7 @@ combined_of p q w v u z t ev eu ez value content some divided =
     ] in
     let parts : (k : ℕ) → entry z k *ℤ t ≡ entry u k = λ k. elim (inside_or w k) [
       | inl lt ↦ divided k lt
-      | inr le ↦ no_times (entry z k) t (past_end z k (omega arith)) ∙ sym (past_end u k (omega arith))
+      | inr le ↦ zero_times (entry z k) t (past_end z k (omega arith)) ∙ sym (past_end u k (omega arith))
     ] in
     record {
       t = t;

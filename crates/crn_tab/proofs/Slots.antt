@@ -1,23 +1,13 @@
 -- The slots after an exchange.
-use Rattle.std.proofs.Common.{◌≡◌, ◌≢◌, ℕ, zero, suc, ◌+◌, ◌<◌, ◌≤◌, ◌⊎◌, inl, inr, List, [], ◌∷◌, length, set, refl, sym, ap, ◌∙◌, arith, Bool, true, false, nat_lt}
+use Rattle.std.proofs.Common.{◌≡◌, ◌≢◌, ℕ, zero, suc, ◌+◌, ◌<◌, ◌≤◌, inl, inr, List, [], ◌∷◌, length, set, refl, sym, ap, ◌∙◌, arith, Bool, true, false, nat_lt}
 use Rattle.std.specs.Prelude.{slice_index}
 use Rattle.std.proofs.Math.ListN.{length-set}
 use Rattle.crn_vec.specs.Elementary.{Exchanged}
-use Rattle.crn_vec.proofs.CallerLemmas.{eq_or}
+use Rattle.crn_vec.proofs.CallerLemmas.{eq_or, look_at}
 use Rattle.crn_tab.specs.Tableau.{choose}
 use Rattle.crn_tab.specs.Slots.{basis_from, basis_of, ArePlaced}
 use Rattle.crn_tab.proofs.Places.{lt_true, lt_false, in_basis, basis_only, basis_ascending}
 use Rattle.crn_tab.proofs.Exchanges.{Swapped}
-
-pub look_at : (v : List ℕ) (c k x : ℕ) → c < length v → ((k ≡ c) × (slice_index (set v c x) k ≡ x)) ⊎ ((k ≢ c) × (slice_index (set v c x) k ≡ slice_index v k))
-look_at [] c k x h = absurd (omega arith)
-look_at (y ∷ v) zero zero x h = inl (refl, refl)
-look_at (y ∷ v) zero (suc k) x h = inr ((λ e. omega arith), refl)
-look_at (y ∷ v) (suc c) zero x h = inr ((λ e. omega arith), refl)
-look_at (y ∷ v) (suc c) (suc k) x h = elim (look_at v c k x (omega arith)) [
-  | inl r ↦ inl (ap suc r.0, r.1)
-  | inr r ↦ inr ((λ e. r.0 (omega arith)), r.1)
-]
 
 pub at_same : (v : List ℕ) (c x : ℕ) → c < length v → slice_index (set v c x) c ≡ x
 at_same v c x h = elim (look_at v c c x h) [ inl r ↦ r.1 | inr r ↦ absurd (r.0 refl) ]

@@ -4,9 +4,10 @@ use Rattle.std.proofs.lemmas.Int.{ints}
 use Rattle.crn_vec.specs.declared.signs.Kind.TheVariants.{Pos}
 use Rattle.crn_vec.specs.Vectors.{entry}
 use Rattle.crn_vec.specs.Systems.{is_signed}
+use Rattle.crn_vec.proofs.CallerLemmas.{any_default}
 use Rattle.crn_tab.specs.Slots.{basis_of}
 use Rattle.crn_tab.proofs.RowVector.{row_of}
-use Rattle.crn_tab.proofs.Scans.{any_kind, kept_is}
+use Rattle.crn_tab.proofs.Scans.{kept_is}
 use Rattle.crn_tab.proofs.CutScans.{NoneCounts, counts_more, none_counts, counts_own, counts_slot}
 use Rattle.crn_tab.proofs.row_cuts.some_counts.Goals as goal
 
@@ -58,7 +59,7 @@ returns-clause-no c = λ _ w named k k_lt signed.
     none_counts a c.args.fields.now.at.now c.args.fields.now.order.now c.args.fields.now.rows.now c.args.row c.args.kinds.now c.requires.tableau c.requires.inside c.requires.outside
     (subst (λ (j : ℕ). NoneCounts a c.args.fields.now.at.now c.args.fields.now.order.now c.args.fields.now.rows.now c.args.row c.args.kinds.now j) end c.loop-s.invariant)
     (λ mine.
-    let none = c.is_weight.ensures.no c.if-is_weight.false (ap is_signed (any_kind Pos _ c.args.kinds.now c.args.row (omega (arith, c.requires.inside, c.requires.kinds))) ∙ mine) in
+    let none = c.is_weight.ensures.no c.if-is_weight.false (ap is_signed (any_default Pos _ c.args.kinds.now c.args.row (omega (arith, c.requires.inside, c.requires.kinds))) ∙ mine) in
     omega (
       arith,
       ints,
