@@ -7,7 +7,7 @@ use Rattle.std.proofs.lemmas.List.FromFn.{length-range_with_len}
 use Rattle.crn_vec.specs.declared.limits.TheConstants.{MAX_REACTIONS}
 use Rattle.crn_vec.specs.Lists.{IsIn, IsAbove, IsAscending}
 use Rattle.crn_vec.specs.Network.{Net, IsNetwork}
-use Rattle.crn_vec.proofs.CallerLemmas.{all_from, eq_or}
+use Rattle.crn_vec.proofs.CallerLemmas.{all_from, eq_or, filter_few, filter_above, filter_ascending, first_stays, first_goes, in_range, above_ascending, above_lower}
 use Rattle.crn_cert.specs.declared.answer.RankProof.{RankProof}
 use Rattle.crn_cert.specs.Ranges.{IsFrom}
 use Rattle.crn_cert.specs.Formed.{IsRankProof}
@@ -16,40 +16,13 @@ use Rattle.crn_cert.proofs.CallerLemmas.{range_ascending, range_bounds}
 use Rattle.crn_check.specs.declared.members.Members.{Members}
 use Rattle.crn_check.specs.declared.members.Members.TheVariants.{All}
 use Rattle.crn_check.specs.Inner.Bases.{IsBase, is_member, members_of}
-use Rattle.crn_check.proofs.Outside.{outside_long, above_less, ascending_rest}
-
-filter_keeps : (p : ℕ → Bool) (x : ℕ) (xs : List ℕ) → p x ≡ true → filter p (x ∷ xs) ≡ x ∷ filter p xs
-filter_keeps p x xs e = rw e refl
-
-dropped : (p : ℕ → Bool) (x : ℕ) (xs : List ℕ) → p x ≡ false → filter p (x ∷ xs) ≡ filter p xs
-dropped p x xs e = rw e refl
+use Rattle.crn_check.proofs.Outside.{outside_long}
 
 filter_in : (p : ℕ → Bool) (xs : List ℕ) (r : ℕ) → IsIn r (filter p xs) → IsIn r xs
 filter_in p [] r i = i
 filter_in p (x ∷ xs) r i = elim (cases_Bool (p x)) [
-  | inl hit ↦ elim (subst (IsIn r) (filter_keeps p x xs hit) i) [ inl e ↦ inl e | inr later ↦ inr (filter_in p xs r later) ]
-  | inr miss ↦ inr (filter_in p xs r (subst (IsIn r) (dropped p x xs miss) i))
-]
-
-filter_few : (p : ℕ → Bool) (xs : List ℕ) → length (filter p xs) ≤ length xs
-filter_few p [] = omega arith
-filter_few p (x ∷ xs) = elim (cases_Bool (p x)) [
-  | inl hit ↦ let e = ap (λ (l : List ℕ). length l) (filter_keeps p x xs hit) in omega (arith, e, filter_few p xs)
-  | inr miss ↦ let e = ap (λ (l : List ℕ). length l) (dropped p x xs miss) in omega (arith, e, filter_few p xs)
-]
-
-filter_above : (p : ℕ → Bool) (k : ℕ) (xs : List ℕ) → IsAbove k xs → IsAbove k (filter p xs)
-filter_above p k [] h = tt
-filter_above p k (x ∷ xs) h = elim (cases_Bool (p x)) [
-  | inl hit ↦ subst (IsAbove k) (sym (filter_keeps p x xs hit)) (h.0, filter_above p x xs h.1)
-  | inr miss ↦ subst (IsAbove k) (sym (dropped p x xs miss)) (filter_above p k xs (above_less k x xs h.0 h.1))
-]
-
-filter_ascending : (p : ℕ → Bool) (xs : List ℕ) → IsAscending xs → IsAscending (filter p xs)
-filter_ascending p [] h = tt
-filter_ascending p (x ∷ xs) h = elim (cases_Bool (p x)) [
-  | inl hit ↦ subst IsAscending (sym (filter_keeps p x xs hit)) (filter_above p x xs h)
-  | inr miss ↦ subst IsAscending (sym (dropped p x xs miss)) (filter_ascending p xs (ascending_rest x xs h))
+  | inl hit ↦ elim (subst (IsIn r) (first_stays p x xs hit) i) [ inl e ↦ inl e | inr later ↦ inr (filter_in p xs r later) ]
+  | inr miss ↦ inr (filter_in p xs r (subst (IsIn r) (first_goes p x xs miss) i))
 ]
 
 members_few : (net : Net) (m : Members) → length (members_of net m) ≤ length net.reactions
@@ -91,16 +64,12 @@ all_members net = go (range_with_len 1 (length net.reactions))
 
 -- ---- members by their numbers
 
-in_range : (r a n : ℕ) → a ≤ r → r < a + n → IsIn r (range_with_len a n)
-in_range r a zero least less = absurd (omega arith)
-in_range r a (suc n) least less = elim (eq_or r a) [ inl e ↦ inl e | inr ne ↦ inr (in_range r (a + 1) n (omega (arith, least, ne)) (omega (arith, less))) ]
-
 in_filter : (p : ℕ → Bool) (xs : List ℕ) (r : ℕ) → IsIn r xs → p r ≡ true → IsIn r (filter p xs)
 in_filter p [] r i hit = absurd i
-in_filter p (x ∷ xs) r (inl e) hit = subst (IsIn r) (sym (filter_keeps p x xs (subst (λ (y : ℕ). p y ≡ true) e hit))) (inl e)
+in_filter p (x ∷ xs) r (inl e) hit = subst (IsIn r) (sym (first_stays p x xs (subst (λ (y : ℕ). p y ≡ true) e hit))) (inl e)
 in_filter p (x ∷ xs) r (inr later) hit = elim (cases_Bool (p x)) [
-  | inl has ↦ subst (IsIn r) (sym (filter_keeps p x xs has)) (inr (in_filter p xs r later hit))
-  | inr miss ↦ subst (IsIn r) (sym (dropped p x xs miss)) (in_filter p xs r later hit)
+  | inl has ↦ subst (IsIn r) (sym (first_stays p x xs has)) (inr (in_filter p xs r later hit))
+  | inr miss ↦ subst (IsIn r) (sym (first_goes p x xs miss)) (in_filter p xs r later hit)
 ]
 
 pub member_in : (net : Net) (m : Members) (r : ℕ) → 1 ≤ r → r ≤ length net.reactions → is_member net m r ≡ true → IsIn r (members_of net m)

@@ -10,7 +10,7 @@ use Rattle.std.proofs.lemmas.List.Folds.{list_any-append}
 use Rattle.std.proofs.lemmas.List.FromFn.{length-range_with_len}
 use Rattle.crn_vec.specs.Lists.{IsIn}
 use Rattle.crn_vec.specs.Network.{Net}
-use Rattle.crn_vec.proofs.CallerLemmas.{eq_or}
+use Rattle.crn_vec.proofs.CallerLemmas.{eq_or, range_more, and_true, and_no, count_yes, count_no}
 use Rattle.crn_cert.specs.declared.answer.Gap.TheVariants.{Wide, Budget, Rests}
 use Rattle.crn_cert.specs.declared.answer.Verdict.{Verdict}
 use Rattle.crn_cert.specs.declared.answer.Verdict.TheVariants.{Strong, Unknown}
@@ -22,68 +22,7 @@ use Rattle.crn_check.proofs.Forms.{formed_on}
 
 -- ---- tests of lists
 
-pub and_true : (a b : Bool) → a ≡ true → b ≡ true → (a && b) ≡ true
-and_true true true e f = refl
-and_true true false e f = cc
-and_true false b e f = cc
-
--- a test of two parts fails if one part does
-pub and_no : (a b : Bool) → (a ≡ true → b ≡ true → ⊥) → (a && b) ≡ false
-and_no true true h = absurd (h refl refl)
-and_no true false h = refl
-and_no false b h = refl
-
-pub any_has : (p : ℕ → Bool) (xs : List ℕ) (x : ℕ) → IsIn x xs → p x ≡ true → list_any p xs ≡ true
-any_has p [] x i h = absurd i
-any_has p (y ∷ ys) x (inl e) h = left (p y) (list_any p ys) (ap p (sym e) ∙ h)
-  where
-    left : (a b : Bool) → a ≡ true → (a || b) ≡ true
-    left true b e = refl
-    left false b e = cc
-any_has p (y ∷ ys) x (inr i) h = right (p y) (list_any p ys) (any_has p ys x i h)
-  where
-    right : (a b : Bool) → b ≡ true → (a || b) ≡ true
-    right true b e = refl
-    right false b e = e
-
-pub any_push : (p : ℕ → Bool) (xs : List ℕ) (x : ℕ) → list_any p xs ≡ false → p x ≡ false → list_any p (xs ++ x ∷ []) ≡ false
-any_push p xs x e h = list_any-append p xs (x ∷ []) ∙ ap (λ (a : Bool). a || list_any p (x ∷ [])) e ∙ last (p x) h
-  where
-    last : (a : Bool) → a ≡ false → (false || (a || false)) ≡ false
-    last true e = cc
-    last false e = refl
-
-one_more : (p : ℕ → Bool) (xs : List ℕ) (x : ℕ) → length (filter p (xs ++ x ∷ [])) ≡ length (filter p xs) + length (cond (p x) (x ∷ []) [])
-one_more p xs x = ap (λ (ys : List ℕ). length ys) (filter-append p xs (x ∷ [])) ∙ length-append (filter p xs) (cond (p x) (x ∷ []) [])
-
-count_yes : (p : ℕ → Bool) (xs : List ℕ) (x : ℕ) → p x ≡ true → count_by p (xs ++ x ∷ []) ≡ count_by p xs + 1
-count_yes p xs x h =
-    let more : length (filter p (xs ++ x ∷ [])) ≡ length (filter p xs) + 1 = one_more p xs x ∙ ap (λ (b : Bool). length (filter p xs) + length (cond b (x ∷ []) [])) h in
-    omega (arith, length-filter p (xs ++ x ∷ []), more, length-filter p xs)
-
-count_no : (p : ℕ → Bool) (xs : List ℕ) (x : ℕ) → p x ≡ false → count_by p (xs ++ x ∷ []) ≡ count_by p xs
-count_no p xs x h =
-    let more : length (filter p (xs ++ x ∷ [])) ≡ length (filter p xs) + 0 = one_more p xs x ∙ ap (λ (b : Bool). length (filter p xs) + length (cond b (x ∷ []) [])) h in
-    omega (arith, length-filter p (xs ++ x ∷ []), more, length-filter p xs)
-
 -- ---- ranges
-
-pub in_range : (x a n : ℕ) → a ≤ x → x < a + n → IsIn x (range_with_len a n)
-in_range x a zero l m = absurd (omega (arith, l, m))
-in_range x a (suc n) l m = elim (eq_or x a) [ inl e ↦ inl e | inr ne ↦ inr (in_range x (a + 1) n (after x a l ne) (omega (arith, m))) ]
-  where
-    after : (x a : ℕ) → a ≤ x → (x ≡ a → ⊥) → a + 1 ≤ x
-    after zero zero l ne = absurd (ne refl)
-    after (suc x) zero l ne = omega arith
-    after zero (suc a) l ne = absurd (omega (arith, l))
-    after (suc x) (suc a) l ne = let h = after x a (omega (arith, l)) (λ e. ne (ap suc e)) in omega (arith, h)
-
-pub range_more : (a n j : ℕ) → a + n ≡ j → range_with_len a (n + 1) ≡ range_with_len a n ++ j ∷ []
-range_more a zero j e = ap (λ (k : ℕ). k ∷ []) (let f : a ≡ j = omega (arith, e) in f)
-range_more a (suc n) j e =
-    let same : suc n + 1 ≡ suc (n + 1) = omega arith in
-    let more : range_with_len a (suc n + 1) ≡ range_with_len a (suc (n + 1)) = ap (range_with_len a) same in
-    more ∙ ap (λ (l : List ℕ). a ∷ l) (range_more (a + 1) n j (omega (arith, e)))
 
 -- ---- one strong class more
 

@@ -7,7 +7,7 @@ use Rattle.std.proofs.lemmas.Bool.Decides.{Decides-eqb}
 use Rattle.std.proofs.lemmas.List.{drop_more}
 use Rattle.crn_vec.specs.Lists.{IsIn, IsAbove, IsAscending}
 use Rattle.crn_vec.specs.Network.{Net}
-use Rattle.crn_vec.proofs.CallerLemmas.{any_is}
+use Rattle.crn_vec.proofs.CallerLemmas.{any_is, above_ascending, above_lower}
 use Rattle.crn_cert.specs.RankTests.{IsComb, comb_tests, outside, vector_of}
 use Rattle.crn_check.specs.declared.fault.CheckFault.{CheckFault}
 use Rattle.crn_check.specs.declared.members.Members.{Members}
@@ -22,14 +22,6 @@ above_in : (k : ℕ) (xs : List ℕ) (x : ℕ) → IsAbove k xs → IsIn x xs �
 above_in k [] x h i = absurd i
 above_in k (y ∷ ys) x h (inl e) = omega (arith, h.0, e)
 above_in k (y ∷ ys) x h (inr later) = let more = above_in y ys x h.1 later in omega (arith, h.0, more)
-
-pub above_less : (j k : ℕ) (xs : List ℕ) → j < k → IsAbove k xs → IsAbove j xs
-above_less j k [] lt h = tt
-above_less j k (x ∷ xs) lt h = (omega (arith, lt, h.0), h.1)
-
-pub ascending_rest : (k : ℕ) (xs : List ℕ) → IsAbove k xs → IsAscending xs
-ascending_rest k [] h = tt
-ascending_rest k (x ∷ xs) h = h.1
 
 -- ---- how many members are outside
 
@@ -48,7 +40,7 @@ outside_less : (b : ℕ) (bs ms : List ℕ) → IsAbove b ms → outside (b ∷ 
 outside_less b bs [] h = refl
 outside_less b bs (m ∷ ms) h =
     let ne : (b == m) ≡ false = ne_eqb b m (let lt = h.0 in omega (arith, lt)) in
-    let rest = outside_less b bs ms (above_less b m ms h.0 h.1) in
+    let rest = outside_less b bs ms (above_lower b m ms h.0 h.1) in
     elim (cases_Bool (list_any (λ (c : ℕ). c == m) bs)) [
       | inl hit ↦ outside_in (b ∷ bs) m ms (rw ne hit) ∙ rest ∙ sym (outside_in bs m ms hit)
       | inr miss ↦ outside_out (b ∷ bs) m ms (rw ne miss) ∙ ap (λ (l : List ℕ). m ∷ l) rest ∙ sym (outside_out bs m ms miss)
@@ -63,7 +55,7 @@ outside_long (b ∷ bs) (m ∷ ms) up more sub = elim (sub b (inl refl)) [
       let hit : (b == m) ≡ true = eq-eqb b m is in
       let here = outside_in (b ∷ bs) m ms (rw hit refl) in
       let above : IsAbove b ms = subst (λ (k : ℕ). IsAbove k ms) (sym is) more in
-      let rest = outside_long bs ms (ascending_rest b bs up) (ascending_rest m ms more) (λ c i. elim (sub c (inr i)) [
+      let rest = outside_long bs ms (above_ascending b bs up) (above_ascending m ms more) (λ c i. elim (sub c (inr i)) [
         | inl same ↦ absurd (let lt = above_in b bs c up i in omega (arith, lt, same, is))
         | inr later ↦ later
       ]) in
@@ -76,7 +68,7 @@ outside_long (b ∷ bs) (m ∷ ms) up more sub = elim (sub b (inl refl)) [
         | inr i ↦ let gt = above_in b bs m up i in omega (arith, lt, gt)
       ] in
       let e = ap (λ (l : List ℕ). length l) (outside_out (b ∷ bs) m ms (has_not (b ∷ bs) m none)) in
-      let rest = outside_long (b ∷ bs) ms up (ascending_rest m ms more) (λ c i. elim (sub c i) [
+      let rest = outside_long (b ∷ bs) ms up (above_ascending m ms more) (λ c i. elim (sub c i) [
         | inl same ↦ absurd (none (subst (λ (x : ℕ). IsIn x (b ∷ bs)) same i))
         | inr l ↦ l
       ]) in

@@ -10,7 +10,7 @@ use Rattle.crn_vec.specs.Concordance.{sign}
 use Rattle.crn_vec.specs.NetSystems.{reaction_system}
 use Rattle.crn_vec.specs.Signals.{Shape, IsSignal}
 use Rattle.crn_vec.specs.NetSignals.{IsShapeOf, IsSignalOf}
-use Rattle.crn_vec.proofs.CallerLemmas.{dot-scale, length-scale, negative_sum, signals_are_of_shape}
+use Rattle.crn_vec.proofs.CallerLemmas.{dot-scale, length-scale, negative_sum, signals_are_of_shape, negative_space}
 use Rattle.crn_cert.specs.declared.answer.Answer.{Answer}
 use Rattle.crn_cert.specs.declared.answer.Verdict.{Verdict}
 use Rattle.crn_cert.specs.declared.answer.Verdict.TheVariants.{YesVec, YesSignal, Unknown}
@@ -28,13 +28,6 @@ use Rattle.crn_check.specs.Inner.Tests.{DoListsFit, shape_tests}
 use Rattle.crn_check.proofs.Judging.{judges_go}
 
 -- ---- the vector of question 12 with a turn
-
-negative_space : (net : Net) (g : List ℤ) → InConfluenceSpace net g → InConfluenceSpace net (negative g)
-negative_space net g s = record {
-  long = length-scale (neg_ℤ (pos 1)) g ∙ s.long;
-  balance = λ k. dot-scale (neg_ℤ (pos 1)) g (column net.complexes k) ∙ ap (λ (z : ℤ). neg_ℤ (pos 1) *ℤ z) (s.balance k);
-  classes = λ y lt. negative_sum g (SameClass net.reactions y) (pos 0) (s.classes y lt);
-}
 
 turned_space : (net : Net) (g : List ℤ) (turn : ℤ) → InConfluenceSpace net g → InConfluenceSpace net (by_turn turn g)
 turned_space net g (pos n) s = s

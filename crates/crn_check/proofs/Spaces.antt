@@ -13,21 +13,9 @@ use Rattle.crn_vec.proofs.CallerLemmas.{lt_or, vector_long}
 use Rattle.crn_check.specs.Inner.Spaces.{IsBalanced}
 use Rattle.crn_check.proofs.Widths.{combination_past}
 
--- amounts are within the limit of amounts
-pub amounts_within : (v : List ℤ) → AllByRecursion IsAmount v → AreWithin MAX_AMOUNT v
-amounts_within [] h = tt
-amounts_within (pos n ∷ v) h = (omega (arith, ints, h.0.1), amounts_within v h.1)
-amounts_within (negsuc n ∷ v) h = absurd (omega (arith, ints, h.0.0))
-
 -- complexes have no amounts past the species
 pub balanced_by : (net : Net) (g : List ℤ) → IsNetwork net → ((s : ℕ) → s < length net.names → combination_at g net.complexes s ≡ pos 0) → IsBalanced net g
 balanced_by net g n h s = elim (lt_or s (length net.names)) [
   | inl lt ↦ h s lt
   | inr past ↦ combination_past g net.complexes (length net.names) s (λ j lt. vector_long (length net.names) net.complexes n.partial.vectors j lt) past
 ]
-
-pub length-label_marks : (labels : List ℕ) (k : ℕ) → length (label_marks labels k) ≡ length labels
-length-label_marks labels k = length-map labels (λ l. if l == k then pos 1 else pos 0)
-
-pub label_mark : (labels : List ℕ) (k c : ℕ) → c < length labels → entry (label_marks labels k) c ≡ (if get_or labels c 0 == k then pos 1 else pos 0)
-label_mark labels k c lt = get_or-map (λ l. if l == k then pos 1 else pos 0) labels c 0 (pos 0) lt

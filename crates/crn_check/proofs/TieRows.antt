@@ -12,10 +12,9 @@ use Rattle.crn_vec.specs.Network.{Net}
 use Rattle.crn_vec.specs.Vectors.{AreWithin, dot, column, entry}
 use Rattle.crn_vec.specs.Sums.{label_marks}
 use Rattle.crn_vec.specs.NetSystems.{by_species}
-use Rattle.crn_vec.proofs.CallerLemmas.{dot_split, dot_none, entry-column, length-column, product_within, sum_within}
+use Rattle.crn_vec.proofs.CallerLemmas.{dot_split, dot_none, entry-column, length-column, product_within, sum_within, label_mark}
 use Rattle.crn_cert.specs.ConfluenceTests.{tie_at}
 use Rattle.crn_check.specs.Inner.Ordered.{is_tied, tied}
-use Rattle.crn_check.proofs.Spaces.{label_mark}
 
 column-append : (xs ys : List (List ℤ)) (c : ℕ) → column (xs ++ ys) c ≡ column xs c ++ column ys c
 column-append [] ys c = refl

@@ -8,7 +8,7 @@ use Rattle.crn_vec.specs.Network.{Net, IsNetwork, JoinsTwo, sides_of, reaction_v
 use Rattle.crn_vec.specs.Vectors.{entry, column}
 use Rattle.crn_vec.specs.Rank.{combination_at}
 use Rattle.crn_vec.specs.Deficiency.{vectors}
-use Rattle.crn_vec.proofs.CallerLemmas.{all_at, past_end, dot_zero, vector_long, length-minus}
+use Rattle.crn_vec.proofs.CallerLemmas.{all_at, past_end, dot_zero, vector_long, length-minus, vectors_count, vector_at}
 
 pub vector_width : (net : Net) → IsNetwork net → (r : ℕ) → r < length net.reactions → length (reaction_vector net (get_or net.reactions r (0, 0))) ≡ length net.names
 vector_width net n r lt =
@@ -30,25 +30,10 @@ combination_past c vs n s h le = dot_zero c (column vs s) (λ i. ap (λ (x : ℤ
 
 -- ---- all reactions
 
-pub vector_of_all : (net : Net) (r : ℕ) → r < length net.reactions → get_or (vectors net) r [] ≡ reaction_vector net (get_or net.reactions r (0, 0))
-vector_of_all net r lt = go net.reactions r lt
-  where
-    go : (rs : List (ℕ × ℕ)) (r : ℕ) → r < length rs → get_or (map (reaction_vector net) rs) r [] ≡ reaction_vector net (get_or rs r (0, 0))
-    go [] r lt = absurd (omega arith)
-    go (e ∷ rs) zero lt = refl
-    go (e ∷ rs) (suc r) lt = go rs r (omega (arith, lt))
-
-pub count_of_all : (net : Net) → length (vectors net) ≡ length net.reactions
-count_of_all net = go net.reactions
-  where
-    go : (rs : List (ℕ × ℕ)) → length (map (reaction_vector net) rs) ≡ length rs
-    go [] = refl
-    go (e ∷ rs) = omega (arith, go rs)
-
 pub widths_of_all : (net : Net) → IsNetwork net → (j : ℕ) → j < length (vectors net) → length (get_or (vectors net) j []) ≡ length net.names
 widths_of_all net n j lt =
-    let less : j < length net.reactions = omega (arith, lt, count_of_all net) in
-    ap (λ (v : List ℤ). length v) (vector_of_all net j less) ∙ vector_width net n j less
+    let less : j < length net.reactions = omega (arith, lt, vectors_count net) in
+    ap (λ (v : List ℤ). length v) (vector_at net j less) ∙ vector_width net n j less
 
 pub all_reactions : (net : Net) (P : List ℤ → Type 0) → ((r : ℕ) → r < length net.reactions → P (reaction_vector net (get_or net.reactions r (0, 0)))) → AllByRecursion P (vectors net)
 all_reactions net P h = go net.reactions h

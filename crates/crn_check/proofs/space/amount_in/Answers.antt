@@ -3,8 +3,7 @@ use Rattle.std.specs.Prelude.{ℤ, ◌+ℤ◌, ◌*ℤ◌, unsigned_abs}
 use Rattle.std.specs.Int.{w128}
 use Rattle.crn_vec.specs.Vectors.{dot, column, entry}
 use Rattle.crn_vec.specs.declared.limits.TheConstants.{MAX_AMOUNT, WIDE_SOLUTION}
-use Rattle.crn_vec.proofs.CallerLemmas.{held, sum_within, dot_step, within_at, entry-column, length-column}
-use Rattle.crn_check.proofs.Spaces.{amounts_within}
+use Rattle.crn_vec.proofs.CallerLemmas.{held, sum_within, dot_step, within_at, entry-column, length-column, amounts_within}
 use Rattle.crn_check.proofs.space.amount_in.Goals as goal
 
 pub times-sum-requires-clause-y : goal.times-sum-requires-clause-y

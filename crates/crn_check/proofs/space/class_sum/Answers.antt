@@ -4,8 +4,7 @@ use Rattle.std.specs.Int.{w128}
 use Rattle.crn_vec.specs.Vectors.{dot, entry}
 use Rattle.crn_vec.specs.Sums.{label_marks}
 use Rattle.crn_vec.specs.declared.limits.TheConstants.{WIDE_SOLUTION}
-use Rattle.crn_vec.proofs.CallerLemmas.{held, sum_within, dot_step}
-use Rattle.crn_check.proofs.Spaces.{length-label_marks, label_mark}
+use Rattle.crn_vec.proofs.CallerLemmas.{held, sum_within, dot_step, length-label_marks, label_mark}
 use Rattle.crn_check.proofs.space.class_sum.Goals as goal
 
 next_sum : {s p d e : ℤ} → s ≡ d → p ≡ e → d +ℤ e ≡ s +ℤ p
