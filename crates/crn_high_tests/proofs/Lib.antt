@@ -1,1 +1,2 @@
 mod RegularFacts
+mod BaseFacts
