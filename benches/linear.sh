@@ -1,9 +1,10 @@
 #!/usr/bin/env bash
 # Times decisions of linear systems, the exchanges of a tableau, and visits of prefixes, and prints two tables: the most
-# of several runs. The systems ask for a positive dependence of the reaction vectors. The exchanges of one decision are
-# noted and then made alone, from the basis of columns, so their entries are those that a decision meets; a sweep goes
-# from the columns to the rows and back, and its entries mostly stay small. An exchange is counted with the test that it
-# can be made. A visit asks both parts of the concordance problem of one prefix, until one falls.
+# of several runs. The systems ask for a positive dependence of the reaction vectors. A decision tries a few exchanges, and
+# settles coordinate after coordinate only if they show nothing; the exchanges that settling makes are noted and then made
+# alone, from the basis of columns, so their entries are those that such a decision meets. A sweep goes from the columns
+# to the rows and back, and its entries mostly stay small. An exchange is counted with the test that it can be made. A visit
+# asks both parts of the concordance problem of one prefix, until one has no solution.
 # Not part of the checks: times depend on the machine.
 #
 #     benches/linear.sh [RUNS]
@@ -56,13 +57,13 @@ def rate(task, rounds, system):
 
 
 def exchanges(system):
-    """How many exchanges one decision makes."""
+    """How many exchanges settling makes."""
     done = subprocess.run([program, "exchanges", "1", system], stdin=subprocess.DEVNULL, capture_output=True, check=True)
     return counts(done.stdout)
 
 
 print(f"{runs} runs each, on {platform.machine()}, {os.cpu_count()} processors, {platform.system()} {platform.release()}\n")
-print("| system | size | decisions a second | exchanges in one | exchanges of a decision a second | exchanges of a sweep a second |")
+print("| system | size | decisions a second | exchanges to settle all | of these a second | exchanges of a sweep a second |")
 print("|---|---|---:|---:|---:|---:|")
 for name, size, decisions, alone, sweeps in SYSTEMS:
     decided, made = rate("decide", decisions, name), rate("exchanges", alone, name)

@@ -2,9 +2,8 @@ ghost use Rattle.std.specs.Prelude.{◌≡◌, ◌<◌, length};
 ghost use Rattle.crn_vec.specs.Elementary.{width};
 ghost use Rattle.crn_vec.specs.Lists.{IsIn};
 
-use crate::rounds::{Exchanges, Step, are_few, exchange};
+use crate::rounds::{Exchanges, Step, exchange};
 use anyhow::{Result, bail, ensure};
-use crn_farkas::{Solver, Stop};
 use crn_tab::Tableau;
 use crn_vec::{Kind, Matrix, NoMemory, Sign, is_asked, opposite, product, sign_asked, sign_of};
 use std::alloc::Global;
@@ -12,7 +11,8 @@ use std::alloc::Global;
 // Far more crossings than one coordinate of these systems needs.
 const MAX_CROSSINGS: usize = 1_000_000;
 
-// What a decision works in, and the exchanges that it has made: the leaving coordinate, and the entering one.
+// What a decision by targets works in, which settles coordinate after coordinate, and the exchanges that it has made:
+// the leaving coordinate, and the entering one.
 #[derive(Drop)]
 struct Noted {
     tableau: Tableau,
@@ -201,7 +201,7 @@ fn see_to(matrix: &Matrix, noted: &mut Noted, kinds: &[Kind], g: usize) -> Resul
     }
 }
 
-// Notes the exchanges of a decision from the basis of columns.
+// Notes the exchanges of a decision by targets from the basis of columns.
 fn note_decision(alloc: Global, matrix: &Matrix, kinds: &[Kind]) -> Result<Noted> {
     let size = matrix.cols() + matrix.rows();
     let order = order_of(alloc, kinds)?;
@@ -221,25 +221,6 @@ fn note_decision(alloc: Global, matrix: &Matrix, kinds: &[Kind]) -> Result<Noted
     Ok(noted)
 }
 
-// Tests that a decision ends at the basis to which the noted exchanges led.
-fn ensure_same_basis(alloc: Global, matrix: &Matrix, kinds: &[Kind], noted: &Noted) -> Result<()> {
-    ensure!(
-        kinds.len() == matrix.cols() + matrix.rows(),
-        "a kind for each coordinate"
-    );
-    ensure!(are_few(kinds), "too many signs");
-    let mut solver = Solver::new(alloc, matrix)?;
-    if let Err(Stop::NoMemory) = solver.decide(kinds) {
-        bail!("no memory");
-    }
-    let (decided, own) = (solver.basis()?, noted.tableau.basis()?);
-    ensure!(
-        decided.as_slice() == own.as_slice(),
-        "the noted exchanges are not those of a decision"
-    );
-    Ok(())
-}
-
 // Makes these exchanges from the basis of columns.
 fn replay(
     alloc: Global,
@@ -254,7 +235,8 @@ fn replay(
     Ok(())
 }
 
-/// Makes the exchanges of a decision from the basis of columns so many times, with none of its other work.
+/// Makes the exchanges of a decision by targets from the basis of columns so many times, with none of its other work.
+/// `Solver::decide` falls back on these where the few exchanges that it tries first show nothing.
 pub fn replay_often(
     alloc: Global,
     matrix: &Matrix,
@@ -262,7 +244,6 @@ pub fn replay_often(
     rounds: u32,
 ) -> Result<Exchanges> {
     let noted = note_decision(alloc, matrix, kinds)?;
-    ensure_same_basis(alloc, matrix, kinds, &noted)?;
     let mut counts = Exchanges {
         done: 0,
         refused: 0,
