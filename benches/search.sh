@@ -7,8 +7,8 @@
 # Then, for each report, what the searches do: visits of prefixes, decisions (vectors of given signs for which a solver is
 # asked), pool hits (what was found before served again) and exchanges. The yardstick counts these itself; of the
 # program, valgrind counts the calls of the functions that do them. It counts exchanges of all questions, and as pool
-# hits the coordinates for which no solver is asked, as a vector of the pool covers them; ? if the compiler has put the
-# functions that are counted into their callers.
+# hits the times that a kept vector was looked for and no solver was asked after it; ? if the compiler has put the functions
+# that are counted into their callers.
 # Not part of the checks: times depend on the machine.
 #
 #     benches/search.sh [RUNS [WORD]]       WORD: only networks with this word in their name, as `cycle` for the futile cycle
@@ -55,9 +55,9 @@ def work_of_program(text, visits):
     with source_of(text) as source:
         _, calls = instructions_and_calls(commands("report")[0], source)
     count = lambda name: calls.get(name, 0)
-    covered, asked_for = (calls.get(f"crn_sign::part::Part::{name}") for name in ("cover_at", "ask"))
-    hits = None if covered is None or asked_for is None else covered - asked_for
-    return [visits, count("crn_farkas::goal::settled_view"), hits, count("crn_tab::tableau::Tableau::pivot")]
+    decisions, looked = count("crn_farkas::goal::settled_view"), calls.get("crn_sign::pool::Pool::find")
+    hits = None if looked is None else looked - decisions
+    return [visits, decisions, hits, count("crn_tab::tableau::Tableau::pivot")]
 
 
 def measured(name, command, text, visits, piped=False):
