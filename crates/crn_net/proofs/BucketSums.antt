@@ -15,12 +15,12 @@ use Rattle.crn_net.proofs.Members.{amount_is}
 
 -- ---- marks
 
-mark_push : (m : ℕ) (bs : List ℕ) (b : ℕ) → mark_after m (bs ++ b ∷ []) ≡ (mark_after m bs * 31 % 2 ^ 64 + b) % 2 ^ 64
+mark_push : (m : ℕ) (bs : List ℕ) (b : ℕ) → mark_after m (bs ++ b ∷ []) ≡ (mark_after m bs * 11400714819323198485 % 2 ^ 64 + b) % 2 ^ 64
 mark_push m [] b = refl
-mark_push m (x ∷ bs) b = mark_push ((m * 31 % 2 ^ 64 + x) % 2 ^ 64) bs b
+mark_push m (x ∷ bs) b = mark_push ((m * 11400714819323198485 % 2 ^ 64 + x) % 2 ^ 64) bs b
 
 -- the mark of one more byte
-pub mark_more : (name : List ℕ) (i : ℕ) → i < length name → mark (take (i + 1) name) ≡ (mark (take i name) * 31 % 2 ^ 64 + get_or name i 0) % 2 ^ 64
+pub mark_more : (name : List ℕ) (i : ℕ) → i < length name → mark (take (i + 1) name) ≡ (mark (take i name) * 11400714819323198485 % 2 ^ 64 + get_or name i 0) % 2 ^ 64
 mark_more name i lt = ap mark (take_more name i 0 lt) ∙ mark_push 0 (take i name) (get_or name i 0)
 
 -- ---- what the sums of buckets say

@@ -14,6 +14,7 @@ mod Amounts
 mod Counting
 mod Places
 mod Sums
+mod Merged
 mod Narrow
 mod BucketSums
 mod SameRows

@@ -12,9 +12,9 @@ use Rattle.std.proofs.lemmas.Bool.{cases_Bool, cases_lt}
 use Rattle.std.proofs.lemmas.Cmp.{nat_list_cmp_total}
 use Rattle.std.proofs.lemmas.Int.{ints}
 use Rattle.std.proofs.lemmas.Slice.Eq.{bytes_eq-Decides}
-use Rattle.std.proofs.lemmas.List.{length-append, length-map, take_all, get_or_default}
-use Rattle.std.proofs.lemmas.List.Sums.{sum_by-cons, fold-append, fold_more}
-use Rattle.std.proofs.lemmas.List.Sorted.{length_permutation, sum_by-IsPermutation, sorted_far, ranks_by}
+use Rattle.std.proofs.lemmas.List.{take_all, get_or_default}
+use Rattle.std.proofs.lemmas.List.Sums.{sum_by-cons, fold_more}
+use Rattle.std.proofs.lemmas.List.Sorted.{sum_by-IsPermutation, sorted_far, ranks_by}
 use Rattle.std.proofs.lemmas.Map.Text.{is_eq-slice_cmp}
 use borrow.Author.Differences.{up, down}
 use mir.Syntax.{w32}
@@ -23,11 +23,11 @@ use Rattle.crn_vec.specs.Network.{amount_in}
 use Rattle.crn_vec.specs.declared.limits.TheConstants.{MAX_AMOUNT, MAX_TERMS}
 use Rattle.crn_net.specs.declared.sides.Share.{Share}
 use Rattle.crn_net.specs.declared.term.Term.{Term}
-use Rattle.crn_net.specs.Inner.Sums.{share_of, shares_of, name_in, sum_in, AreByName}
+use Rattle.crn_net.specs.Inner.Sums.{share_of, name_in, sum_in, AreByName}
 use Rattle.crn_net.specs.Terms.{name_at, side_of}
 
 -- what one share adds to the sum of a name
-abbrev added : List ℕ → List ℕ → Share → ℤ
+abbrev pub added : List ℕ → List ℕ → Share → ℤ
 added text name s = cond (bytes_eq (name_in text s) name) s.count (pos 0)
 
 -- ---- in another order
@@ -41,7 +41,7 @@ parted f start (x ∷ xs) =
     let rest = parted f (start +ℤ f x) xs in
     omega (arith, ints, ups, downs, rest)
 
-sum_in_any_order : (text : List ℕ) (xs ys : List Share) (name : List ℕ) → IsPermutation xs ys → sum_in text ys name ≡ sum_in text xs name
+pub sum_in_any_order : (text : List ℕ) (xs ys : List Share) (name : List ℕ) → IsPermutation xs ys → sum_in text ys name ≡ sum_in text xs name
 sum_in_any_order text xs ys name h =
     let f = added text name in
     let ups = sum_by-IsPermutation (λ s. up (f s)) xs ys h in
@@ -52,7 +52,7 @@ sum_in_any_order text xs ys name h =
 
 -- ---- over the terms of both sides
 
-left_added : (text name : List ℕ) (start : ℤ) (side : List Term) → fold (λ a s. a +ℤ added text name s) start (map (share_of (pos 1)) side) ≡ start +ℤ pos (amount_in (side_of text side) name)
+pub left_added : (text name : List ℕ) (start : ℤ) (side : List Term) → fold (λ a s. a +ℤ added text name s) start (map (share_of (pos 1)) side) ≡ start +ℤ pos (amount_in (side_of text side) name)
 left_added text name start [] = omega (arith, ints)
 left_added text name start (t ∷ side) =
     let f : List ℕ × ℕ → ℕ = λ u. cond (bytes_eq u.0 name) u.1 0 in
@@ -61,7 +61,7 @@ left_added text name start (t ∷ side) =
     let rest = left_added text name (start +ℤ added text name (share_of (pos 1) t)) side in
     omega (arith, ints, more, one, rest)
 
-right_added : (text name : List ℕ) (start : ℤ) (side : List Term) → fold (λ a s. a +ℤ added text name s) start (map (share_of (negsuc 0)) side) ≡ start -ℤ pos (amount_in (side_of text side) name)
+pub right_added : (text name : List ℕ) (start : ℤ) (side : List Term) → fold (λ a s. a +ℤ added text name s) start (map (share_of (negsuc 0)) side) ≡ start -ℤ pos (amount_in (side_of text side) name)
 right_added text name start [] = omega (arith, ints)
 right_added text name start (t ∷ side) =
     let f : List ℕ × ℕ → ℕ = λ u. cond (bytes_eq u.0 name) u.1 0 in
@@ -69,26 +69,6 @@ right_added text name start (t ∷ side) =
     let one : added text name (share_of (negsuc 0) t) +ℤ pos (f (name_at text t, t.count)) ≡ pos 0 = elim (cases_Bool (bytes_eq (name_at text t) name)) [ inl hit ↦ rw hit (omega (arith, ints)) | inr miss ↦ rw miss refl ] in
     let rest = right_added text name (start +ℤ added text name (share_of (negsuc 0) t)) side in
     omega (arith, ints, more, one, rest)
-
-sum_of_sides : (text : List ℕ) (left right : List Term) (name : List ℕ) → sum_in text (shares_of left right) name ≡ pos (amount_in (side_of text left) name) -ℤ pos (amount_in (side_of text right) name)
-sum_of_sides text left right name =
-    let both = fold-append (λ a s. a +ℤ added text name s) (pos 0) (map (share_of (pos 1)) left) (map (share_of (negsuc 0)) right) in
-    let l = left_added text name (pos 0) left in
-    let r = right_added text name (sum_in text (map (share_of (pos 1)) left) name) right in
-    omega (arith, ints, both, l, r)
-
--- the sum of a name is its amount on the left side minus that on the right side
-pub sum_is : (text : List ℕ) (left right : List Term) (shares : List Share) (name : List ℕ) → IsPermutation (shares_of left right) shares
-    → sum_in text shares name ≡ pos (amount_in (side_of text left) name) -ℤ pos (amount_in (side_of text right) name)
-sum_is text left right shares name h = sum_in_any_order text (shares_of left right) shares name h ∙ sum_of_sides text left right name
-
-pub shares_few : (left right : List Term) (shares : List Share) → IsPermutation (shares_of left right) shares → length left ≤ MAX_TERMS → length right ≤ MAX_TERMS → length shares ≤ 2 * MAX_TERMS
-shares_few left right shares h l r =
-    let all = length_permutation (shares_of left right) shares h in
-    let both = length-append (map (share_of (pos 1)) left) (map (share_of (negsuc 0)) right) in
-    let lefts = length-map left (share_of (pos 1)) in
-    let rights = length-map right (share_of (negsuc 0)) in
-    omega (arith, all, both, lefts, rights)
 
 -- ---- in the order of names
 

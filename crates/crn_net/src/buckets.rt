@@ -15,7 +15,9 @@ pub(crate) fn mark_of(name: &[u8]) -> usize
 {
     let mut mark = 0usize;
     for byte in name {
-        mark = mark.wrapping_mul(31).wrapping_add(usize::from(*byte));
+        mark = mark
+            .wrapping_mul(0x9e37_79b9_7f4a_7c15)
+            .wrapping_add(usize::from(*byte));
     }
     mark
 }

@@ -6,6 +6,7 @@ mod builder;
 mod fault;
 mod guesses;
 mod laws;
+mod merge;
 mod name;
 mod network;
 mod row;

@@ -1,12 +1,12 @@
-ghost use Rattle.std.specs.Prelude.{◌≡◌, ◌≤◌, ◌<◌, ◌↔◌, ◌*◌, ◌^◌, ◌++◌, ℕ, List, pos, nat_abs, ◌≤ℤ◌, length, map, take, drop, IsTrue, IfOk, OnOk};
+ghost use Rattle.std.specs.Prelude.{◌≡◌, ◌≤◌, ◌<◌, ◌↔◌, ◌*◌, ◌^◌, ℕ, List, pos, nat_abs, ◌≤ℤ◌, length, map, take, drop, IsTrue, IfOk};
 ghost use Rattle.std.specs.List.{AllByRecursion, sum_by};
-ghost use Rattle.std.specs.List.Sorted.{IsPermutation};
 ghost use Rattle.crn_vec.specs.Network.{amount_in};
-ghost use Rattle.crn_net.specs.Inner.Sums.{share_of, shares_of, name_in, sum_in, AreByName};
+ghost use Rattle.crn_net.specs.Inner.Sums.{share_of, name_in, sum_in, AreByName};
 ghost use Rattle.crn_net.specs.Terms.{name_at, side_of, statement_of, IsSide};
 ghost use Rattle.crn_net.specs.Inner.Steps.{SaysSame};
 
 use crate::buckets::buckets_fit;
+use crate::merge::{merged, without_zeros};
 use crate::term::Term;
 use crn_vec::{MAX_AMOUNT, MAX_TERMS};
 use std::alloc::{AllocError, Global};
@@ -33,15 +33,15 @@ pub(crate) fn name_of<'a>(text: &'a [u8], term: &Term) -> &'a [u8]
 
 // The contribution of a term to the sum of its name. It is small, since a statement may have very many terms.
 #[derive(Clone, Copy)]
-struct Share {
-    at: u32,
-    length: u32,
-    count: i32,
+pub(crate) struct Share {
+    pub(crate) at: u32,
+    pub(crate) length: u32,
+    pub(crate) count: i32,
 }
 
 impl Share {
     // The share of a term. Its sign is 1 on the left side, and -1 on the right.
-    fn new(term: &Term, sign: i32) -> Share
+    pub(crate) fn new(term: &Term, sign: i32) -> Share
         requires sign { nat_abs sign ≡ 1 }
         requires number { term.now.count ≤ MAX_AMOUNT }
         ensures { result ≡ share_of sign term.now }
@@ -53,45 +53,22 @@ impl Share {
         }
     }
 
-    fn name<'a>(&self, text: &'a [u8]) -> &'a [u8]
+    pub(crate) fn name<'a>(&self, text: &'a [u8]) -> &'a [u8]
         ensures { result.now ≡ name_in text.now self.now }
     {
         part(text, self.at, self.length)
     }
 }
 
-// Appends the shares of a side's terms, with the sign of the side.
-fn put_shares(shares: &mut Vec<Share>, side: &[Term], sign: i32) -> Result<(), AllocError>
-    requires sign { nat_abs sign ≡ 1 }
-    requires numbers { AllByRecursion (λ t. t.count ≤ MAX_AMOUNT) side.now }
-    ensures { OnOk result (shares.new.items ≡ shares.old.items ++ map (share_of sign) side.now) }
+// Shares in the order of their names.
+fn by_name(text: &[u8], mut shares: Vec<Share>) -> Vec<Share>
+    ensures sums { (name : List ℕ) →
+        sum_in text.now result.items name ≡ sum_in text.now shares.items name }
+    ensures few { length result.items ≡ length shares.items }
+    ensures by_name { AreByName text.now result.items }
 {
-    for term in side {
-        shares.push(Share::new(term, sign))?;
-    }
-    Ok(())
-}
-
-// The shares of all terms in the order of their names. It takes the memory for all of them at once.
-fn shares_by_name(
-    alloc: Global,
-    text: &[u8],
-    left: &[Term],
-    right: &[Term],
-) -> Result<Vec<Share>, AllocError>
-    requires left { AllByRecursion (λ t. t.count ≤ MAX_AMOUNT) left.now }
-    requires right { AllByRecursion (λ t. t.count ≤ MAX_AMOUNT) right.now }
-    requires left_few { length left.now ≤ MAX_TERMS }
-    requires right_few { length right.now ≤ MAX_TERMS }
-    ensures same { IfOk result (λ shares.
-        IsPermutation (shares_of left.now right.now) shares.items) }
-    ensures by_name { IfOk result (λ shares. AreByName text.now shares.items) }
-{
-    let mut shares = Vec::with_capacity(alloc, left.len() + right.len())?;
-    put_shares(&mut shares, left, 1)?;
-    put_shares(&mut shares, right, -1)?;
     shares.sort_unstable_by(|a, b| a.name(text).cmp(b.name(text)));
-    Ok(shares)
+    shares
 }
 
 // Whether each name's sum is between 0 and the limit. Shares of one name are adjacent.
@@ -150,7 +127,7 @@ fn first_name_differs(text: &[u8], left: &[Term], right: &[Term]) -> bool
 }
 
 // Whether both sides are the same complex. It serves statements with more names than a row has places. It takes as
-// long as sorting the terms by their names, and 12 bytes for each term.
+// long as looking each name up, and sorting those names whose sums differ. It takes up to 28 bytes for each term.
 pub(crate) fn says_same(
     alloc: Global,
     text: &[u8],
@@ -165,7 +142,9 @@ pub(crate) fn says_same(
     if first_name_differs(text, left, right) {
         return Ok(false);
     }
-    let shares = shares_by_name(alloc, text, left, right)?;
+    let all = merged(alloc, text, left, right)?;
+    let some = without_zeros(alloc, &all)?;
+    let shares = by_name(text, some);
     Ok(sums_lie_within(text, &shares, 0))
 }
 
@@ -179,7 +158,7 @@ fn total(side: &[Term]) -> u32
 
 /// Whether each name's sum on the side is within the limit of an amount, as `NetBuilder::add` requires.
 ///
-/// If all numbers together exceed the limit, it takes 12 bytes for each term, or 1,024 if that is more.
+/// If all numbers together exceed the limit, it takes up to 16 bytes for each term, or 1,024 if that is more.
 pub fn sums_fit(alloc: Global, text: &[u8], side: &[Term]) -> Result<bool, AllocError>
     requires numbers { AllByRecursion (λ t. t.count ≤ MAX_AMOUNT) side.now }
     requires few { length side.now ≤ MAX_TERMS }
@@ -193,6 +172,7 @@ pub fn sums_fit(alloc: Global, text: &[u8], side: &[Term]) -> Result<bool, Alloc
     if buckets_fit(alloc, text, side, side.len().max(MIN_BUCKETS))? {
         return Ok(true);
     }
-    let shares = shares_by_name(alloc, text, side, &[])?;
+    let all = merged(alloc, text, side, &[])?;
+    let shares = by_name(text, all);
     Ok(sums_lie_within(text, &shares, i64::from(MAX_AMOUNT)))
 }

@@ -6,10 +6,10 @@ use Rattle.crn_vec.specs.declared.limits.TheConstants.{MAX_AMOUNT}
 use Rattle.crn_net.specs.declared.term.Term.{Term}
 use Rattle.crn_net.specs.Terms.{name_at}
 
--- the bytes as digits of base 31 after those of m, modulo 2^64
+-- the bytes as digits of base 0x9e3779b97f4a7c15 after those of m, modulo 2^64
 abbrev pub mark_after : ℕ → List ℕ → ℕ
 mark_after m [] = m
-mark_after m (b ∷ bs) = mark_after ((m * 31 % 2 ^ 64 + b) % 2 ^ 64) bs
+mark_after m (b ∷ bs) = mark_after ((m * 11400714819323198485 % 2 ^ 64 + b) % 2 ^ 64) bs
 
 -- the mark of a name
 abbrev pub mark : List ℕ → ℕ

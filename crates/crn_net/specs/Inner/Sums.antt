@@ -1,6 +1,6 @@
 -- For the contracts of private functions alone.
 -- Sums of names over terms that are sorted by their names.
-use Rattle.std.specs.Prelude.{◌++◌, ℕ, ℤ, pos, negsuc, ◌+ℤ◌, ◌*ℤ◌, if◌then◌else◌, List, map, take, drop}
+use Rattle.std.specs.Prelude.{ℕ, ℤ, pos, ◌+ℤ◌, ◌*ℤ◌, if◌then◌else◌, List, take, drop}
 use Rattle.std.specs.List.{fold}
 use Rattle.std.specs.List.Sorted.{IsSortedBy}
 use Rattle.std.specs.Str.{bytes_eq}
@@ -12,10 +12,6 @@ use Rattle.crn_net.specs.declared.term.Term.{Term}
 -- the share of a term in the sum of its name: its number with a sign
 abbrev pub share_of : ℤ → Term → Share
 share_of sign t = record { at = t.at; length = t.length; count = sign *ℤ pos t.count }
-
--- the shares of the terms of both sides; those of the right side are negative
-abbrev pub shares_of : List Term → List Term → List Share
-shares_of left right = map (share_of (pos 1)) left ++ map (share_of (negsuc 0)) right
 
 -- the bytes of the share's name
 abbrev pub name_in : List ℕ → Share → List ℕ
@@ -30,3 +26,7 @@ sum_in text shares name =
 abbrev pub AreByName : List ℕ → List Share → Type 0
 AreByName text shares =
     IsSortedBy (λ a b. is_lt (slice_cmp nat_cmp (name_in text a) (name_in text b))) shares
+
+-- a share of nothing
+abbrev pub no_share : Share
+no_share = record { at = 0; length = 0; count = pos 0 }
