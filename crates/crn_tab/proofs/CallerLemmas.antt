@@ -17,3 +17,8 @@ pub use Rattle.crn_tab.proofs.Unique.{column_at}
 -- A wide vector that a basis names, also one of an exchange that was refused, shows that the matrix is wide.
 pub use Rattle.crn_tab.proofs.Columns.{wide_shown}
 pub use Rattle.crn_tab.proofs.ExchangedLists.{exchanged_list}
+-- A number at a place of a list is in it.
+pub use Rattle.crn_tab.proofs.SparseRow.{place_in}
+-- Primitive vectors, proportional vectors, and the negative as a multiple.
+pub use Rattle.crn_tab.proofs.LeadMade.{minus_one}
+pub use Rattle.crn_tab.proofs.Columns.{not_all_zero, proportional_by}

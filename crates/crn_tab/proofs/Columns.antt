@@ -12,7 +12,8 @@ use Rattle.crn_vec.specs.Elementary.{InRowSpace, InDualSpace, IsBasis, IsPrimiti
 use Rattle.crn_vec.proofs.CallerLemmas.{no_zero, mul-sub, left-comm, past_end, lt_or, eq_or, dot-comm}
 use Rattle.crn_tab.specs.Tableau.{AreSmall}
 use Rattle.crn_tab.proofs.Dots.{dot_combined}
-use Rattle.crn_tab.proofs.Signs.{differ, length-differ, entry-differ, times_one, own, is_none, same_sizes, one_row, some_own}
+use Rattle.crn_tab.proofs.Differences.{differences, length-differences, entry-differences}
+use Rattle.crn_tab.proofs.Signs.{times_one, own, is_none, same_sizes, one_row, some_own}
 use Rattle.crn_tab.proofs.Primitive.{none_left, no_more}
 
 pub cancel_left : (a x y : ℤ) → a ≢ pos 0 → a *ℤ x ≡ a *ℤ y → x ≡ y
@@ -37,7 +38,7 @@ swapped r x y p q t z h = rw (dot-comm r z, dot-comm r x, dot-comm r y) h
 same_quotient : (t x y d e : ℤ) → t ≢ pos 0 → x *ℤ t ≡ d → y *ℤ t ≡ e → d ≡ e → x ≡ y
 same_quotient t x y d e ne f g h = cancel_left t x y ne (*ℤ_comm t x ∙ f ∙ h ∙ sym g ∙ *ℤ_comm y t)
 
--- a difference of vectors (x, Ax), also exact_quotient, is one
+-- a difference of vectors (x, Ax), divided exactly or not, is one
 pub row_combined : (a : Mat) (p q t : ℤ) (w v z : List ℤ) → t ≢ pos 0 → InRowSpace a w → InRowSpace a v → length z ≡ length w
     → ((k : ℕ) → entry z k *ℤ t ≡ (p *ℤ entry w k) -ℤ (q *ℤ entry v k)) → InRowSpace a z
 row_combined a p q t w v z ne rw_is rv_is e h = record {
@@ -63,10 +64,10 @@ pub one_column : (a : Mat) (basis : List ℕ) (b : ℕ) (w v : List ℤ) → IsB
 one_column a basis b w v h nw nv j =
     let p = entry v b in
     let q = entry w b in
-    let z = differ p q w v in
+    let z = differences p q w v in
     let same : length w ≡ length v = nw.space.long ∙ sym nv.space.long in
-    let at : (i : ℕ) → entry z i ≡ (p *ℤ entry w i) -ℤ (q *ℤ entry v i) = λ i. entry-differ p q w v i same in
-    let row : InRowSpace a z = row_combined a p q (pos 1) w v z (λ e. omega (arith, ints, e)) nw.space nv.space (length-differ p q w v same) (λ i. times_one (entry z i) ∙ at i) in
+    let at : (i : ℕ) → entry z i ≡ (p *ℤ entry w i) -ℤ (q *ℤ entry v i) = λ i. entry-differences p q w v i (sym same) in
+    let row : InRowSpace a z = row_combined a p q (pos 1) w v z (λ e. omega (arith, ints, e)) nw.space nv.space (length-differences p q w v (sym same)) (λ i. times_one (entry z i) ∙ at i) in
     let none : entry z j ≡ pos 0 = h.free z row (λ i member. elim (eq_or i b) as (λ _. entry z i ≡ pos 0) [
       | inl e ↦ at i ∙ ap (λ m. (p *ℤ entry w m) -ℤ (q *ℤ entry v m)) e ∙ own p q
       | inr ne ↦ at i ∙ no_more p q (entry w i) (entry v i) (nw.zero_on_rest i member ne) (nv.zero_on_rest i member ne)
@@ -108,7 +109,7 @@ pub not_zero : (x : ℤ) → 1 ≤ unsigned_abs x → x ≢ pos 0
 not_zero x h e = omega (arith, h, ap unsigned_abs e)
 
 -- two lists that are proportional at one place, where the first is not zero, are proportional
-proportional_by : (w v : List ℤ) (k : ℕ) → entry w k ≢ pos 0 → ((j : ℕ) → entry v k *ℤ entry w j ≡ entry w k *ℤ entry v j) → AreProportional w v
+pub proportional_by : (w v : List ℤ) (k : ℕ) → entry w k ≢ pos 0 → ((j : ℕ) → entry v k *ℤ entry w j ≡ entry w k *ℤ entry v j) → AreProportional w v
 proportional_by w v k some h i j =
     let x = entry w k in
     let first : x *ℤ (entry w i *ℤ entry v j) ≡ entry w i *ℤ (entry v k *ℤ entry w j) = left-comm x (entry w i) (entry v j) ∙ ap (λ (t : ℤ). entry w i *ℤ t) (sym (h j)) in

@@ -1,6 +1,8 @@
 -- The difference of two rows, each times a factor.
-use Rattle.std.proofs.Common.{◌≡◌, ℕ, zero, suc, ◌<◌, List, [], ◌∷◌, length, refl, arith}
+use Rattle.std.proofs.Common.{◌≡◌, ℕ, zero, suc, List, [], ◌∷◌, length, refl, arith}
 use Rattle.std.specs.Prelude.{ℤ, ◌-ℤ◌, ◌*ℤ◌}
+use Rattle.std.proofs.lemmas.Int.{ints}
+use lib.IntN.{*ℤ-zero}
 use Rattle.crn_vec.specs.Vectors.{entry}
 
 pub differences : ℤ → ℤ → List ℤ → List ℤ → List ℤ
@@ -14,9 +16,10 @@ length-differences p q [] v e = refl
 length-differences p q (x ∷ w) [] e = absurd (omega arith)
 length-differences p q (x ∷ w) (y ∷ v) e = omega (arith, length-differences p q w v (omega arith))
 
-pub entry-differences : (p q : ℤ) (w v : List ℤ) (k : ℕ) → length v ≡ length w → k < length w → entry (differences p q w v) k ≡ (p *ℤ entry w k) -ℤ (q *ℤ entry v k)
+pub entry-differences : (p q : ℤ) (w v : List ℤ) (k : ℕ) → length v ≡ length w → entry (differences p q w v) k ≡ (p *ℤ entry w k) -ℤ (q *ℤ entry v k)
 unfolding differences
-entry-differences p q [] v k e lt = absurd (omega arith)
-entry-differences p q (x ∷ w) [] k e lt = absurd (omega arith)
-entry-differences p q (x ∷ w) (y ∷ v) zero e lt = refl
-entry-differences p q (x ∷ w) (y ∷ v) (suc k) e lt = entry-differences p q w v k (omega arith) (omega arith)
+entry-differences p q [] [] k e = omega (arith, ints, *ℤ-zero p, *ℤ-zero q)
+entry-differences p q [] (y ∷ v) k e = absurd (omega arith)
+entry-differences p q (x ∷ w) [] k e = absurd (omega arith)
+entry-differences p q (x ∷ w) (y ∷ v) zero e = refl
+entry-differences p q (x ∷ w) (y ∷ v) (suc k) e = entry-differences p q w v k (omega arith)

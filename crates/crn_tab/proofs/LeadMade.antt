@@ -12,7 +12,7 @@ use Rattle.crn_tab.proofs.Cross.{read}
 one : (x : ℤ) → x ≡ pos 1 *ℤ x
 one x = omega (arith, ints)
 
-minus_one : (x : ℤ) → neg_ℤ x ≡ negsuc 0 *ℤ x
+pub minus_one : (x : ℤ) → neg_ℤ x ≡ negsuc 0 *ℤ x
 minus_one x = omega (arith, ints)
 
 no_less : (n : ℕ) → int_lt (pos n) (pos 0) ≡ true → ⊥

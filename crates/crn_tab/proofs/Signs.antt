@@ -1,11 +1,11 @@
 -- Two primitive vectors of one name have the same entries up to sign, so a kept basis has no wide row.
-use Rattle.std.proofs.Common.{◌≡◌, ℕ, zero, suc, ◌+◌, ◌-◌, ◌*◌, ◌/◌, ◌%◌, ◌<◌, ◌≤◌, ◌⊎◌, inl, inr, List, [], ◌∷◌, length, refl, sym, ap, subst, ◌∙◌, arith}
+use Rattle.std.proofs.Common.{◌≡◌, ℕ, zero, suc, ◌+◌, ◌-◌, ◌*◌, ◌/◌, ◌%◌, ◌<◌, ◌≤◌, ◌⊎◌, inl, inr, List, length, refl, sym, ap, subst, ◌∙◌, arith}
 use Rattle.std.specs.Prelude.{ℤ, pos, negsuc, ◌-ℤ◌, ◌*ℤ◌, unsigned_abs, slice_index}
 use Rattle.std.specs.Int.{IsGcd, ◌∣◌}
 use Rattle.std.proofs.lemmas.Int.{ints, unsigned_abs-mul}
 use Rattle.std.proofs.lemmas.Nat.Gcd.{IsGcd-from_zero, IsGcd-from_mod, dvd_antisymm, dvd-zero}
 use Rattle.std.proofs.Math.Nat.{dvd-mul_left, dvd-mul_right, div-mul_cancel, dvd_of_mul-dvd-mul_right, mul_comm, pos_of_dvd_of_pos, one-mul, eq_of_mul-eq-mul_left}
-use lib.IntN.{*ℤ_comm, *ℤ-zero}
+use lib.IntN.{*ℤ_comm}
 use Rattle.crn_frac.proofs.CallerLemmas.{common}
 use Rattle.crn_vec.specs.Vectors.{Mat, entry, AreOfLength}
 use Rattle.crn_vec.specs.Lists.{IsIn}
@@ -14,6 +14,7 @@ use Rattle.crn_vec.proofs.CallerLemmas.{lt_or, eq_or}
 use Rattle.crn_tab.specs.Tableau.{AreSmall}
 use Rattle.crn_tab.specs.Slots.{basis_of, row_at, spread, IsTableau}
 use Rattle.crn_tab.proofs.Spaces.{dual_combined}
+use Rattle.crn_tab.proofs.Differences.{differences, length-differences, entry-differences}
 use Rattle.crn_tab.proofs.Unique.{dual_none}
 use Rattle.crn_tab.proofs.RowVector.{row_of}
 use Rattle.crn_tab.proofs.Primitive.{no_more}
@@ -56,23 +57,6 @@ same_sizes w v a b pw pv sa sb h k =
     let same : a ≡ b = dvd_antisymm ab ba in
     cancel a (unsigned_abs (entry w k)) (unsigned_abs (entry v k)) sa (h k ∙ ap (λ n. n * unsigned_abs (entry v k)) (sym same))
 
-abbrev pub differ : ℤ → ℤ → List ℤ → List ℤ → List ℤ
-differ p q [] vs = []
-differ p q (w ∷ ws) [] = []
-differ p q (w ∷ ws) (v ∷ vs) = ((p *ℤ w) -ℤ (q *ℤ v)) ∷ differ p q ws vs
-
-pub length-differ : (p q : ℤ) (ws vs : List ℤ) → length ws ≡ length vs → length (differ p q ws vs) ≡ length ws
-length-differ p q [] vs e = refl
-length-differ p q (w ∷ ws) [] e = absurd (omega arith)
-length-differ p q (w ∷ ws) (v ∷ vs) e = omega (arith, length-differ p q ws vs (let f : length ws ≡ length vs = omega arith in f))
-
-pub entry-differ : (p q : ℤ) (ws vs : List ℤ) (k : ℕ) → length ws ≡ length vs → entry (differ p q ws vs) k ≡ (p *ℤ entry ws k) -ℤ (q *ℤ entry vs k)
-entry-differ p q [] [] k e = omega (arith, ints, *ℤ-zero p, *ℤ-zero q)
-entry-differ p q [] (v ∷ vs) k e = absurd (omega arith)
-entry-differ p q (w ∷ ws) [] k e = absurd (omega arith)
-entry-differ p q (w ∷ ws) (v ∷ vs) zero e = refl
-entry-differ p q (w ∷ ws) (v ∷ vs) (suc k) e = entry-differ p q ws vs k (omega arith)
-
 pub times_one : (x : ℤ) → x *ℤ pos 1 ≡ x
 times_one x = omega (arith, ints)
 
@@ -90,10 +74,10 @@ pub one_row : (a : Mat) (basis : List ℕ) (k : ℕ) (w v : List ℤ) → AreOfL
 one_row a basis k w v wide h nw nv j =
     let p = entry v k in
     let q = entry w k in
-    let z = differ p q w v in
+    let z = differences p q w v in
     let same : length w ≡ length v = nw.space.long ∙ sym nv.space.long in
-    let at : (i : ℕ) → entry z i ≡ (p *ℤ entry w i) -ℤ (q *ℤ entry v i) = λ i. entry-differ p q w v i same in
-    let dual : InDualSpace a z = dual_combined a p q (pos 1) w v z (λ e. omega (arith, ints, e)) nw.space nv.space (length-differ p q w v same) (λ i. times_one (entry z i) ∙ at i) in
+    let at : (i : ℕ) → entry z i ≡ (p *ℤ entry w i) -ℤ (q *ℤ entry v i) = λ i. entry-differences p q w v i (sym same) in
+    let dual : InDualSpace a z = dual_combined a p q (pos 1) w v z (λ e. omega (arith, ints, e)) nw.space nv.space (length-differences p q w v (sym same)) (λ i. times_one (entry z i) ∙ at i) in
     let none : entry z j ≡ pos 0 = dual_none a basis z wide h dual (λ i out. elim (eq_or i k) as (λ _. entry z i ≡ pos 0) [
       | inl e ↦ at i ∙ ap (λ m. (p *ℤ entry w m) -ℤ (q *ℤ entry v m)) e ∙ own p q
       | inr ne ↦ at i ∙ no_more p q (entry w i) (entry v i) (nw.zero_outside i out ne) (nv.zero_outside i out ne)

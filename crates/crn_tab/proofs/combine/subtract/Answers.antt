@@ -40,13 +40,12 @@ returns-then-not-is_small c =
     let row = c.args.row.now in
     let lead = c.args.lead.now in
     let j = c.loop-j.j in
-    let inside : j < length row = omega (arith, c.loop-j-test.true, c.loop-j.auto.row) in
     let wide : WIDE_ENTRY ≤ unsigned_abs c.cross-x.result = search rules in
     let value : c.cross-x.result ≡ entry (differences p q row lead) j =
-    c.cross-x.ensures.value ∙ ap (λ (y : ℤ). (p *ℤ y) -ℤ (q *ℤ entry lead j)) (c.loop-j.invariant.left j (omega arith)) ∙ sym (entry-differences p q row lead j c.requires.lead_count inside) in (
+    c.cross-x.ensures.value ∙ ap (λ (y : ℤ). (p *ℤ y) -ℤ (q *ℤ entry lead j)) (c.loop-j.invariant.left j (omega arith)) ∙ sym (entry-differences p q row lead j c.requires.lead_count) in (
       differences p q row lead,
       length-differences p q row lead c.requires.lead_count,
-      λ k lt. entry-differences p q row lead k c.requires.lead_count lt,
+      λ k lt. entry-differences p q row lead k c.requires.lead_count,
       (j, omega (arith, wide, ap unsigned_abs value)),
     )
 
@@ -59,7 +58,7 @@ returns c =
     let z = differences p q row lead in
     let long : length z ≡ length row = length-differences p q row lead c.requires.lead_count in
     let count : length c.loop-j.row ≡ length row = omega (arith, c.loop-j.auto.row) in
-    let value : (k : ℕ) → k < length row → entry z k ≡ (p *ℤ entry row k) -ℤ (q *ℤ entry lead k) = λ k lt. entry-differences p q row lead k c.requires.lead_count lt in
+    let value : (k : ℕ) → k < length row → entry z k ≡ (p *ℤ entry row k) -ℤ (q *ℤ entry lead k) = λ k lt. entry-differences p q row lead k c.requires.lead_count in
     let same : c.loop-j.row ≡ z = same_rows c.loop-j.row z (omega (arith, count, long))
     (λ k lt. c.loop-j.invariant.kept k (omega (arith, lt, count)) ∙ sym (value k (omega (arith, lt, count)))) in (
       z,
