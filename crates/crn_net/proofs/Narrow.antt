@@ -5,18 +5,13 @@ use Rattle.std.specs.Ordering.{int_eq}
 use Rattle.std.specs.Cmp.Lexicographic.{pointwise}
 use Rattle.std.specs.Cmp.Rules.{signed_items}
 use Rattle.std.proofs.lemmas.Slice.Eq.{bytes_eq-Decides}
-use Rattle.crn_vec.proofs.CallerLemmas.{same_test}
-
--- the sign of a byte that is seen drops off again
-pub unsigned : (x : List ℕ) → map nat_abs (map pos x) ≡ x
-unsigned [] = refl
-unsigned (a ∷ x) = ap (λ (t : List ℕ). a ∷ t) (unsigned x)
+use Rattle.crn_vec.proofs.CallerLemmas.{same_test, abs_back}
 
 -- bytes are equal if contracts see them as equal
 pub same_seen : (x y : List ℕ) → pointwise int_eq (map pos x) (map pos y) ≡ pointwise nat_eq x y
 same_seen x y =
     same_test (pointwise int_eq (map pos x) (map pos y)) (pointwise nat_eq x y) (map pos x ≡ map pos y) (x ≡ y) (signed_items (map pos x) (map pos y)) (bytes_eq-Decides x y)
-    (λ e. sym (unsigned x) ∙ ap (map nat_abs) e ∙ unsigned y) (ap (map pos))
+    (λ e. sym (abs_back x) ∙ ap (map nat_abs) e ∙ abs_back y) (ap (map pos))
 
 -- an amount is read as contracts see it
 pub at_seen : (x : List ℕ) (s : ℕ) → get_or (map pos x) s (pos 0) ≡ pos (get_or x s 0)

@@ -1,9 +1,9 @@
 use Rattle.std.proofs.Common.{◌≡◌, ◌∙◌, List, ℕ, map, sym, ap, subst}
 use Rattle.std.specs.Prelude.{ℤ, nat_abs}
-use Rattle.crn_net.proofs.Narrow.{unsigned}
 use Rattle.crn_net.proofs.row.AmountsHash.hash.Goals as goal
+use Rattle.crn_vec.proofs.CallerLemmas.{abs_back}
 
 pub returns : goal.returns
 returns g c =
     subst (λ (v : List ℤ). c.write.new.self ≡ g.H.Hasher.write c.args.state.now (map nat_abs v)) c.self.view_is
-    (c.write.ensures ∙ ap (λ (bytes : List ℕ). g.H.Hasher.write c.args.state.now bytes) (sym (unsigned c.self.inside.row)))
+    (c.write.ensures ∙ ap (λ (bytes : List ℕ). g.H.Hasher.write c.args.state.now bytes) (sym (abs_back c.self.inside.row)))
