@@ -14,3 +14,6 @@ pub use Rattle.crn_text.proofs.CanonicalNames.{held}
 pub use Rattle.crn_text.proofs.CanonicalTokens.{side_text, line_text}
 pub use Rattle.crn_text.proofs.CanonicalAmounts.{side_held, good_terms, side_length, held_length}
 pub use Rattle.crn_text.proofs.CanonicalLines.{no_lf}
+-- The digits of a number, and a number that grows with each digit.
+pub use Rattle.crn_text.proofs.CanonicalTokens.{digit_is}
+pub use Rattle.crn_text.proofs.Numbers.{value_grows}

@@ -84,7 +84,7 @@ pub record IsDecimal (n : ℕ) (ds : List ℕ) : Type 0 where
   pub some : 0 < length ds
   pub value : digits_value 10 ds ≡ n
 
-digit_is : (n : ℕ) → n < 10 → is_digit (48 + n) ≡ true
+pub digit_is : (n : ℕ) → n < 10 → is_digit (48 + n) ≡ true
 digit_is n lt = grind (arith, nat_tests)
 
 decimal_one : (n : ℕ) → n < 10 → IsDecimal n ((48 + n) ∷ [])

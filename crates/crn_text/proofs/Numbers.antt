@@ -49,7 +49,7 @@ value_append : (n : ℕ) (xs ys : List ℕ) → digits_value_after 10 n (xs ++ y
 value_append n [] ys = refl
 value_append n (x ∷ xs) ys = value_append (n * 10 + digit_value x) xs ys
 
-value_grows : (n : ℕ) (ds : List ℕ) → n ≤ digits_value_after 10 n ds
+pub value_grows : (n : ℕ) (ds : List ℕ) → n ≤ digits_value_after 10 n ds
 value_grows n [] = omega arith
 value_grows n (d ∷ ds) = let more = value_grows (n * 10 + digit_value d) ds in omega (arith, more)
 
