@@ -16,6 +16,11 @@ pub use Rattle.crn_cert.proofs.Heads.{tests_by_heads, forms_by_heads, heads_depe
 pub use Rattle.crn_cert.proofs.VerdictsFormed.{formed_answers_have_formed_verdicts}
 pub use Rattle.crn_cert.proofs.TreesDecided.{tests_decide_valid_trees}
 pub use Rattle.crn_cert.proofs.CutShares.{shares_fit}
+-- The terminal classes of a linkage class, one strong class after another.
+pub use Rattle.crn_cert.proofs.TerminalCounts.{passes_at, fails_by_exit, fails_by_complexes, terminals_yes, terminals_no, terminals_few}
+-- The terminal classes are numbered by labels and exits.
+unfoldable pub use Rattle.crn_cert.proofs.TopsNumbered.{zeros_below, top_for}
+pub use Rattle.crn_cert.proofs.TopsNumbered.{tops_of, tops_are}
 -- The count of the terminal classes of a shape is their number.
 pub use Rattle.crn_cert.proofs.TopsCounted.{tops_are_counted}
 -- The vectors of all reactions and of a linkage class by their numbers.
@@ -32,3 +37,12 @@ pub use Rattle.crn_cert.proofs.TestLists.{hold_append, hold_parts}
 pub use Rattle.crn_cert.proofs.WideGaps.{wide_basis}
 -- Trees by their prefixes.
 pub use Rattle.crn_cert.proofs.TreeSizes.{count_places, formed_tree}
+-- The verdict on weak reversibility.
+pub use Rattle.crn_cert.proofs.Known.{weak_yes, weak_no}
+-- Reactions and complexes by their numbers.
+pub use Rattle.crn_cert.proofs.ClassesRight.{named_in, label_inside, goes_at, least_one}
+pub use Rattle.crn_cert.proofs.ShapesExist.{between_back, some_top, widths, tops_below}
+pub use Rattle.crn_cert.proofs.RankLaws.{class_ascending, vector_entry, numbers_alike}
+pub use Rattle.crn_cert.proofs.AllLaws.{same_question}
+-- No signal of one confluence vector, and none of its negative, is no signal at all.
+pub use Rattle.crn_cert.proofs.NoSignals.{none_at_all}

@@ -1,18 +1,29 @@
 -- Labels, trees, levels and exits that pass the tests are right.
 use Rattle.std.proofs.Common.{◌≡◌, ◌⊎◌, ℕ, zero, suc, ◌+◌, ◌-◌, ◌<◌, ◌≤◌, List, [], ◌∷◌, length, get_or, refl, sym, subst, ◌∙◌, inl, inr, arith}
+use Rattle.std.specs.List.{AllByRecursion}
 use Rattle.std.proofs.lemmas.Bool.{cases_lt, cases_eq}
 use Rattle.crn_vec.specs.Lists.{IsIn}
 use Rattle.crn_vec.specs.Network.{Net, IsNetwork}
 use Rattle.crn_vec.specs.Linkage.{IsLinked, SameClass}
-use Rattle.crn_vec.specs.Strong.{ReactsTo, Reaches, SameStrong, IsTerminal, LeavesClass, AreRightStrongLabels, AreExits}
+use Rattle.crn_vec.specs.Strong.{IsReaction, ReactsTo, Reaches, SameStrong, IsTerminal, LeavesClass, AreRightStrongLabels, AreExits}
 use Rattle.crn_vec.proofs.CallerLemmas.{leads_keeps, leads_here, class_then, class_back, class_link, reaches_then, reaches_step}
 use Rattle.crn_vec.proofs.CallerLemmas.{inside_at, reaction_in, place_of}
 use Rattle.crn_cert.specs.Says.{IsReactionNumber, AreLinkageClasses}
+use Rattle.crn_cert.specs.Ranges.{IsFrom}
 use Rattle.crn_cert.specs.ClassTests.{AreNumbered, AreEven, IsFirst, AreLinkTrees, AreFromTrees, AreToTrees, of_class, DoLevelsFall, GoesOut, IsExit, AreAllExits}
 
 -- a reaction that is named is one
 pub named_in : (net : Net) (r y z : ℕ) → IsReactionNumber net r y z → IsIn (y, z) net.reactions
 named_in net r y z h = reaction_in net.reactions (r - 1) (y, z) h.1.0 h.1.1
+
+-- reaction r goes from y to z
+pub goes_at : (net : Net) (r y z : ℕ) → r < length net.reactions → y ≡ (get_or net.reactions r (0, 0)).0 → z ≡ (get_or net.reactions r (0, 0)).1 → IsReaction net.reactions r y z
+goes_at net r y z lt p q = (lt, rw (p, q) refl)
+
+-- the numbers of a list from 1 on are positive
+pub least_one : (n : ℕ) (xs : List ℕ) → AllByRecursion (IsFrom 1 n) xs → AllByRecursion (λ k. 1 ≤ k) xs
+least_one n [] h = tt
+least_one n (x ∷ xs) h = (h.0.0, least_one n xs h.1)
 
 pub named_inside : (net : Net) → IsNetwork net → (r y z : ℕ) → IsReactionNumber net r y z → (y < length net.complexes) × (z < length net.complexes)
 named_inside net network r y z h = inside_at (length net.complexes) net.reactions network.partial.apart y z (named_in net r y z h)
@@ -98,7 +109,7 @@ linkage_right net network count labels up depth long numbered even tree =
 -- ---- strong classes
 
 -- a complex with a label is inside the list of labels
-label_inside : (labels : List ℕ) (y : ℕ) → 1 ≤ get_or labels y 0 → y < length labels
+pub label_inside : (labels : List ℕ) (y : ℕ) → 1 ≤ get_or labels y 0 → y < length labels
 label_inside [] y some = absurd (omega (arith, some))
 label_inside (l ∷ labels) zero some = omega arith
 label_inside (l ∷ labels) (suc y) some = let h = label_inside labels y some in omega (arith, h)

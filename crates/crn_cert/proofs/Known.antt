@@ -14,8 +14,8 @@ use Rattle.crn_cert.specs.declared.answer.Verdict.TheVariants.{Classes, Strong, 
 use Rattle.crn_cert.specs.Questions.{Earlier, Q1, Q2, Q4, Q7, Q11, on, labels_of, count_of, exits_of, terminal_of, IsYes, IsNo}
 use Rattle.crn_cert.specs.Says.{IsTrueOf, AreLinkageClasses, AreStrongClasses}
 use Rattle.crn_cert.specs.Law.{IsTrueOrOpen}
-use Rattle.crn_cert.specs.Valid.{linkage, linkage_count, strong, exits, terminals_in, HaveOneEach, IsFirstSplit}
-use Rattle.crn_cert.proofs.StrongRight.{class_terminals, lies_terminal}
+use Rattle.crn_cert.specs.Valid.{linkage, linkage_count, strong, exits, is_terminal_in, terminals_in, HaveOneEach, IsFirstSplit}
+use Rattle.crn_cert.proofs.StrongRight.{class_terminals}
 
 -- ---- the classes
 
@@ -49,7 +49,7 @@ pub terminals_known : (net : Net) (earlier : Earlier) (y : ℕ) → ClassesKnown
 terminals_known net earlier y k ly =
     let s = k.strong_is.is in
     let counted : IsLabelCount (strong earlier) (length (exits earlier)) = subst (IsLabelCount (strong earlier)) (sym s.classes) s.count_is in
-    subst (λ (n : ℕ). HasTerminalClasses net y (count_by (lies_terminal (linkage earlier) (strong earlier) (exits earlier) (get_or (linkage earlier) y 0)) (range_with_len 1 n))) s.classes
+    subst (λ (n : ℕ). HasTerminalClasses net y (count_by (is_terminal_in (strong earlier) (exits earlier) (linkage earlier) (get_or (linkage earlier) y 0)) (range_with_len 1 n))) s.classes
     (class_terminals net (linkage earlier) (strong earlier) (exits earlier) y k.linkage_is.labelled s.places s.right counted s.exits_are ly)
 
 pub one_each : (net : Net) (earlier : Earlier) → ClassesKnown net earlier → HaveOneEach earlier → HasOneTerminalEach net

@@ -22,6 +22,9 @@ mod GoodDocument
 mod WorkedRows
 mod Heads
 mod PairPlaces
+mod TopsNumbered
+mod TerminalCounts
+mod NoSignals
 mod ShapesExist
 mod VerdictsFormed
 mod TreesDecided

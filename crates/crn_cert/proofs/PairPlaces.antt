@@ -1,5 +1,5 @@
 -- The pairs that are computed from true strong classes are the linked pairs of terminal classes, each by its least reaction.
-use Rattle.std.proofs.Common.{◌≡◌, ◌⊎◌, ℕ, zero, suc, ◌+◌, ◌-◌, ◌<◌, ◌≤◌, Bool, true, false, List, [], ◌∷◌, length, get_or, refl, sym, ap, subst, ◌∙◌, inl, inr, arith, ◌==◌, ◌&&◌, ◌||◌, not}
+use Rattle.std.proofs.Common.{◌≡◌, ℕ, zero, suc, ◌+◌, ◌-◌, ◌<◌, ◌≤◌, Bool, true, false, List, [], ◌∷◌, length, get_or, refl, sym, ap, subst, ◌∙◌, inl, inr, arith, ◌==◌, ◌&&◌, ◌||◌, not}
 use Rattle.std.specs.List.{range_with_len, list_any, filter}
 use Rattle.std.proofs.lemmas.Bool.{cases_Bool, eq-eqb, eqb-true}
 use Rattle.crn_vec.specs.Lists.{IsIn, IsAscending}
@@ -13,7 +13,7 @@ use Rattle.crn_cert.specs.Says.{from_zero}
 use Rattle.crn_cert.specs.ClassTests.{of_class}
 use Rattle.crn_cert.specs.Valid.{strong, exits, ends_at, is_within_terminal, is_same_pair, is_least_of_pair, pair_places}
 use Rattle.crn_cert.specs.Law.{PairPlacesArePairs}
-use Rattle.crn_cert.proofs.Filters.{some_place}
+use Rattle.crn_cert.proofs.Filters.{some_place, or_either}
 use Rattle.crn_cert.proofs.Known.{StrongKnown, strong_known}
 use Rattle.crn_cert.proofs.RankLaws.{from_zero_ascending}
 
@@ -22,10 +22,6 @@ use Rattle.crn_cert.proofs.RankLaws.{from_zero_ascending}
 or_left : (a b : Bool) → a ≡ true → (a || b) ≡ true
 or_left true b e = refl
 or_left false b e = cc
-
-or_either : (a b : Bool) → (a || b) ≡ true → (a ≡ true) ⊎ (b ≡ true)
-or_either true b e = inl refl
-or_either false b e = inr e
 
 any_at : (test : ℕ → Bool) (a n c : ℕ) → a ≤ c → c < a + n → test c ≡ true → list_any test (range_with_len a n) ≡ true
 any_at test a zero c le lt e = absurd (omega (arith, le, lt))

@@ -1,5 +1,5 @@
 -- Every linked pair of a terminal class has a least reaction, whose side is tested.
-use Rattle.std.proofs.Common.{◌≡◌, ◌⊎◌, ℕ, zero, suc, ◌+◌, ◌-◌, ◌<◌, ◌≤◌, Bool, true, false, List, [], ◌∷◌, length, get_or, refl, sym, ap, subst, ◌∙◌, inl, inr, arith, ◌==◌, ◌&&◌, ◌||◌, not}
+use Rattle.std.proofs.Common.{◌≡◌, ◌⊎◌, ℕ, zero, suc, ◌+◌, ◌-◌, ◌<◌, ◌≤◌, Bool, true, false, List, [], ◌∷◌, length, get_or, refl, sym, ap, subst, ◌∙◌, inl, inr, arith, ◌==◌, ◌&&◌, not}
 use Rattle.std.specs.Prelude.{ℤ}
 use Rattle.std.specs.List.{AllByRecursion, range_with_len, list_any}
 use Rattle.std.proofs.lemmas.Bool.{eq-eqb, eqb-true}
@@ -11,7 +11,7 @@ use Rattle.crn_cert.specs.Tests.{AllHold}
 use Rattle.crn_cert.specs.ClassTests.{of_class, AreSideMarks}
 use Rattle.crn_cert.specs.Ranges.{AreBits}
 use Rattle.crn_cert.specs.Valid.{linkage, strong, exits, ends_at, is_within_terminal, is_same_pair, is_least_of_pair, pair_places, side_tests}
-use Rattle.crn_cert.proofs.Filters.{some_place}
+use Rattle.crn_cert.proofs.Filters.{some_place, or_either}
 use Rattle.crn_cert.proofs.Known.{ClassesKnown}
 use Rattle.crn_cert.proofs.Cycles.{cut_by_tests}
 use Rattle.crn_cert.specs.Questions.{Earlier}
@@ -20,15 +20,11 @@ use Rattle.crn_cert.specs.Questions.{Earlier}
 abbrev Joins : ℕ × ℕ → ℕ → ℕ → Type 0
 Joins r y z = (r ≡ (y, z)) ⊎ (r ≡ (z, y))
 
-either : (a b : Bool) → (a || b) ≡ true → (a ≡ true) ⊎ (b ≡ true)
-either true b e = inl refl
-either false b e = inr e
-
 -- a reaction with the same pair joins the same two
 same_joins : (q r : ℕ × ℕ) (y z : ℕ) → is_same_pair q r ≡ true → Joins r y z → Joins q y z
 same_joins q r y z e j =
     let pair : (a b c d : ℕ) → ((a == c) && (b == d)) ≡ true → (a ≡ c) × (b ≡ d) = λ a b c d h. let p = and_cases (a == c) (b == d) h in (eqb-true a c p.0, eqb-true b d p.1) in
-    elim (either ((q.0 == r.0) && (q.1 == r.1)) ((q.0 == r.1) && (q.1 == r.0)) e) [
+    elim (or_either ((q.0 == r.0) && (q.1 == r.1)) ((q.0 == r.1) && (q.1 == r.0)) e) [
       | inl h ↦ let p = pair q.0 q.1 r.0 r.1 h in
           let same : q ≡ r = pair_is q r p.0 p.1 in
           elim j [ inl k ↦ inl (same ∙ k) | inr k ↦ inr (same ∙ k) ]

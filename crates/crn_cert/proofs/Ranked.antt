@@ -5,7 +5,7 @@ use Rattle.std.specs.List.{AllByRecursion, list_any}
 use Rattle.std.proofs.lemmas.Int.{ints}
 use Rattle.std.proofs.lemmas.Bool.{cases_eq, eq-eqb}
 use Rattle.std.proofs.lemmas.List.{get_or-map, length-map, length-drop}
-use Rattle.crn_vec.specs.Lists.{IsIn, IsAbove, IsAscending}
+use Rattle.crn_vec.specs.Lists.{IsIn, IsAscending}
 use Rattle.crn_vec.specs.Network.{Net}
 use Rattle.crn_vec.specs.Vectors.{entry, dot, column}
 use Rattle.crn_vec.specs.Rank.{IsIndependent, DependsOn, IsRank, chosen}
@@ -13,7 +13,7 @@ use Rattle.crn_vec.proofs.CallerLemmas.{listed, length-listed}
 use Rattle.crn_vec.proofs.CallerLemmas.{unit, dot_unit}
 use Rattle.crn_vec.proofs.CallerLemmas.{entry-column, length-column}
 use Rattle.crn_vec.proofs.CallerLemmas.{base_gives_rank}
-use Rattle.crn_vec.proofs.CallerLemmas.{eq_or, filter_has, ascending_suc, above_zero, ascending_tail}
+use Rattle.crn_vec.proofs.CallerLemmas.{eq_or, filter_has, ascending_suc, above_zero, ascending_tail, above_in}
 use Rattle.crn_cert.specs.Tests.{AllHold}
 use Rattle.crn_cert.specs.Ranges.{AreFree}
 use Rattle.crn_cert.specs.RankTests.{vector_of, vectors_of, IsDual, IsComb, outside, dual_tests, comb_tests, rank_tests}
@@ -103,11 +103,6 @@ record Placed (base members : List ℕ) : Type 0 where
   long : length places ≡ length base
   same : (f : ℕ → List ℤ) → chosen places (map f members) ≡ map f base
 
-above_less : (k x : ℕ) (xs : List ℕ) → IsAbove k xs → IsIn x xs → k < x
-above_less k x [] a i = absurd i
-above_less k x (y ∷ ys) a (inl e) = omega (arith, a.0, e)
-above_less k x (y ∷ ys) a (inr i) = let h = above_less y x ys a.1 i in omega (arith, h, a.0)
-
 in_suc : (p : ℕ) (xs : List ℕ) (n : ℕ) → ((q : ℕ) → IsIn q xs → q < n) → IsIn p (map suc xs) → p < suc n
 in_suc p [] n h i = absurd i
 in_suc p (x ∷ xs) n h (inl e) = let l = h x (inl refl) in omega (arith, l, e)
@@ -122,7 +117,7 @@ placed [] members a m i = record { places = []; ascending = tt; below = λ p h. 
 placed (b ∷ bs) [] a m i = absurd (i b (inl refl))
 placed (b ∷ bs) (x ∷ xs) a m i = elim (eq_or b x) [
   | inl e ↦
-      let rest = placed bs xs (ascending_tail b bs a) (ascending_tail x xs m) (λ r h. elim (i r (inr h)) [ inl same_r ↦ absurd (let l = above_less b r bs a h in omega (arith, l, e, same_r)) | inr j ↦ j ]) in
+      let rest = placed bs xs (ascending_tail b bs a) (ascending_tail x xs m) (λ r h. elim (i r (inr h)) [ inl same_r ↦ absurd (let l = above_in b bs a r h in omega (arith, l, e, same_r)) | inr j ↦ j ]) in
       record {
         places = 0 ∷ map suc rest.places;
         ascending = above_zero rest.places rest.ascending;
@@ -133,10 +128,10 @@ placed (b ∷ bs) (x ∷ xs) a m i = elim (eq_or b x) [
   | inr ne ↦
       let later : (r : ℕ) → IsIn r (b ∷ bs) → IsIn r xs = λ r h.
       let b_in : IsIn b xs = elim (i b (inl refl)) [ inl e ↦ absurd (ne e) | inr j ↦ j ] in
-      let less : x < b = above_less x b xs m b_in in
+      let less : x < b = above_in x xs m b b_in in
       elim (i r h) [
         | inr j ↦ j
-        | inl e ↦ absurd (elim h [ inl e' ↦ omega (arith, less, e, e') | inr j ↦ let l = above_less b r bs a j in omega (arith, less, e, l) ])
+        | inl e ↦ absurd (elim h [ inl e' ↦ omega (arith, less, e, e') | inr j ↦ let l = above_in b bs a r j in omega (arith, less, e, l) ])
       ] in
       let rest = placed (b ∷ bs) xs a (ascending_tail x xs m) later in
       record {

@@ -1,175 +1,32 @@
 -- A network whose strong classes are known has a shape for every vector over its complexes.
-use Rattle.std.proofs.Common.{◌≡◌, ℕ, zero, suc, ◌+◌, ◌-◌, ◌<◌, ◌≤◌, Bool, true, false, cond, List, [], ◌∷◌, length, get_or, map, refl, sym, ap, subst, ◌∙◌, inl, inr, arith, ◌==◌}
+use Rattle.std.proofs.Common.{◌≡◌, ℕ, suc, ◌-◌, ◌<◌, Bool, true, false, cond, List, [], ◌∷◌, length, refl, sym, ap, subst, ◌∙◌, inl, inr, arith}
 use Rattle.std.specs.Prelude.{ℤ, Option, Some, None}
 use Rattle.std.specs.List.{AllZip, AllByRecursion}
-use Rattle.std.proofs.lemmas.Bool.{cases_Bool, eq-eqb, eqb-true, false≢true}
-use Rattle.std.proofs.lemmas.List.{get_or-map, length-map}
+use Rattle.std.proofs.lemmas.Bool.{cases_Bool, false≢true}
+use Rattle.std.proofs.lemmas.List.{length-map}
 use Rattle.crn_vec.specs.Lists.{IsIn}
 use Rattle.crn_vec.specs.Vectors.{dot, entry}
 use Rattle.crn_vec.specs.Network.{Net, IsNetwork, IsVector, JoinsTwo}
-use Rattle.crn_vec.specs.Linkage.{IsLinked, IsLabelCount}
+use Rattle.crn_vec.specs.Linkage.{IsLinked}
 use Rattle.crn_vec.specs.Deficiency.{IsComplex}
 use Rattle.crn_vec.specs.Strong.{ReactsTo, Reaches, SameStrong, IsTerminal}
 use Rattle.crn_vec.specs.CutPairs.{IsBetween, IsFreeStep, IsOnSide, IsFirstOfPair, ArePairs}
 use Rattle.crn_vec.specs.Sums.{AreMarks, SumsTo}
 use Rattle.crn_vec.specs.Signals.{Pair, Shape}
 use Rattle.crn_vec.specs.NetSignals.{top_at, AreTops, IsPairOf, IsShapeOf}
-use Rattle.crn_vec.proofs.CallerLemmas.{lt_or, eq_or}
+use Rattle.crn_vec.proofs.CallerLemmas.{lt_or}
 use Rattle.crn_vec.proofs.CallerLemmas.{sum_by, past_end, listed, length-listed, entry-listed}
 use Rattle.crn_vec.proofs.CallerLemmas.{leads_then, leads_here, leads_step, leads_keeps}
 use Rattle.crn_vec.proofs.CallerLemmas.{reached_marks, marks_for, reaction_in, inside_at}
-use Rattle.crn_vec.proofs.CallerLemmas.{top_inside, some_is, number_is_one, strong_back, strong_then, none_some}
+use Rattle.crn_vec.proofs.CallerLemmas.{number_is_one, strong_back, strong_then}
 use Rattle.crn_cert.proofs.TopsCounted.{tops_are_counted}
+use Rattle.crn_cert.proofs.TopsNumbered.{zeros_below, tops_of, tops_are}
 use Rattle.crn_cert.specs.Questions.{Earlier, Q2, on, count_of, terminal_of}
 use Rattle.crn_cert.specs.Says.{IsTrueOf, from_zero}
 use Rattle.crn_cert.specs.Valid.{strong, exits, is_same_pair, pair_places}
 use Rattle.crn_cert.specs.Law.{ShapesExist}
-use Rattle.crn_cert.proofs.Known.{StrongKnown, strong_known, terminal_known}
+use Rattle.crn_cert.proofs.Known.{strong_known, terminal_known}
 use Rattle.crn_cert.proofs.PairPlaces.{same_pair, pair_same, pair_places_are_pairs}
-
--- ---- numbers of terminal classes
-
--- how many of the first so many exits are 0
-zeros_below : List ℕ → ℕ → ℕ
-zeros_below es zero = 0
-zeros_below es (suc k) = zeros_below es k + cond (get_or es k 0 == 0) 1 0
-
-zero_counts : (es : List ℕ) (k : ℕ) → get_or es k 0 ≡ 0 → zeros_below es (suc k) ≡ zeros_below es k + 1
-unfolding zeros_below
-zero_counts es k e = ap (λ (b : Bool). zeros_below es k + cond b 1 0) (eq-eqb (get_or es k 0) 0 e)
-
-other_counts : (es : List ℕ) (k : ℕ) → (get_or es k 0 == 0) ≡ false → zeros_below es (suc k) ≡ zeros_below es k
-unfolding zeros_below
-other_counts es k e = ap (λ (b : Bool). zeros_below es k + cond b 1 0) e ∙ omega arith
-
-counts_up : (es : List ℕ) (k : ℕ) → zeros_below es k ≤ zeros_below es (suc k)
-unfolding zeros_below
-counts_up es k = omega arith
-
-below_up : (es : List ℕ) (p q : ℕ) → p ≤ q → zeros_below es p ≤ zeros_below es q
-below_up es p zero le = let e : p ≡ 0 = omega (arith, le) in let same : zeros_below es p ≡ zeros_below es 0 = ap (zeros_below es) e in omega (arith, same)
-below_up es p (suc q) le = elim (eq_or p (suc q)) as (λ _. zeros_below es p ≤ zeros_below es (suc q)) [
-  | inl e ↦ let same : zeros_below es p ≡ zeros_below es (suc q) = ap (zeros_below es) e in omega (arith, same)
-  | inr ne ↦ elim (lt_or p (suc q)) as (λ _. zeros_below es p ≤ zeros_below es (suc q)) [
-    | inl lt ↦ let h = below_up es p q (omega (arith, lt)) in let u = counts_up es q in omega (arith, h, u)
-    | inr more ↦ absurd (ne (omega (arith, le, more)))
-  ]
-]
-
-below_less : (es : List ℕ) (p q : ℕ) → p < q → get_or es p 0 ≡ 0 → zeros_below es p < zeros_below es q
-below_less es p q lt e = let h = below_up es (suc p) q (omega (arith, lt)) in let z = zero_counts es p e in omega (arith, h, z)
-
-none_below : (es : List ℕ) (j : ℕ) → j < zeros_below es zero → ⊥
-unfolding zeros_below
-none_below es j lt = omega (arith, lt)
-
--- a number of zeros is that of one of them
-zero_found : (es : List ℕ) (p j : ℕ) → j < zeros_below es p → (q : ℕ) × (q < p) × (get_or es q 0 ≡ 0) × (zeros_below es q ≡ j)
-zero_found es zero j lt = absurd (none_below es j lt)
-zero_found es (suc p) j lt = elim (cases_Bool (get_or es p 0 == 0)) as (λ _. (q : ℕ) × (q < suc p) × (get_or es q 0 ≡ 0) × (zeros_below es q ≡ j)) [
-  | inr miss ↦ let r = zero_found es p j (let z = other_counts es p miss in omega (arith, lt, z)) in (r.0, omega (arith, r.1), r.2, r.3)
-  | inl hit ↦
-      let e : get_or es p 0 ≡ 0 = eqb-true (get_or es p 0) 0 hit in
-      elim (lt_or j (zeros_below es p)) as (λ _. (q : ℕ) × (q < suc p) × (get_or es q 0 ≡ 0) × (zeros_below es q ≡ j)) [
-        | inl less ↦ let r = zero_found es p j less in (r.0, omega (arith, r.1), r.2, r.3)
-        | inr most ↦ (p, omega arith, e, let z = zero_counts es p e in omega (arith, lt, most, z))
-      ]
-]
-
--- the number of the terminal class with this label, where it is terminal
-top_for : List ℕ → ℕ → Option ℕ
-top_for es l = cond (get_or es (l - 1) 0 == 0) (Some (zeros_below es (l - 1))) None
-
-top_yes : (es : List ℕ) (l : ℕ) → get_or es (l - 1) 0 ≡ 0 → top_for es l ≡ Some (zeros_below es (l - 1))
-unfolding top_for
-top_yes es l e = ap (λ (b : Bool). cond b (Some (zeros_below es (l - 1))) None) (eq-eqb (get_or es (l - 1) 0) 0 e)
-
-top_no : (es : List ℕ) (l : ℕ) → (get_or es (l - 1) 0 == 0) ≡ false → top_for es l ≡ None
-unfolding top_for
-top_no es l e = ap (λ (b : Bool). cond b (Some (zeros_below es (l - 1))) None) e
-
-top_is : (es : List ℕ) (l k : ℕ) → top_for es l ≡ Some k → (get_or es (l - 1) 0 ≡ 0) × (zeros_below es (l - 1) ≡ k)
-top_is es l k e = elim (cases_Bool (get_or es (l - 1) 0 == 0)) as (λ _. (get_or es (l - 1) 0 ≡ 0) × (zeros_below es (l - 1) ≡ k)) [
-  | inl hit ↦ let z : get_or es (l - 1) 0 ≡ 0 = eqb-true (get_or es (l - 1) 0) 0 hit in (z, some_is (zeros_below es (l - 1)) k (sym (top_yes es l z) ∙ e))
-  | inr miss ↦ absurd (none_some (top_for es l) k (top_no es l miss) e)
-]
-
--- ---- terminal classes
-
-abbrev tops_of : Earlier → List (Option ℕ)
-tops_of earlier = map (top_for (exits earlier)) (strong earlier)
-
-at_label : (earlier : Earlier) (y : ℕ) → y < length (strong earlier) → top_at (tops_of earlier) y ≡ top_for (exits earlier) (get_or (strong earlier) y 0)
-at_label earlier y lt = get_or-map (top_for (exits earlier)) (strong earlier) y 0 None lt
-
--- a numbered complex has a label whose exit is 0
-record Top (earlier : Earlier) (y k : ℕ) : Type 0 where
-  inside : y < length (strong earlier)
-  exit : get_or (exits earlier) (get_or (strong earlier) y 0 - 1) 0 ≡ 0
-  index : zeros_below (exits earlier) (get_or (strong earlier) y 0 - 1) ≡ k
-
-top_known : (earlier : Earlier) (y k : ℕ) → top_at (tops_of earlier) y ≡ Some k → Top earlier y k
-top_known earlier y k e =
-    let lt : y < length (strong earlier) = let h = top_inside (tops_of earlier) y k e in omega (arith, h, length-map (strong earlier) (top_for (exits earlier))) in
-    let t = top_is (exits earlier) (get_or (strong earlier) y 0) k (sym (at_label earlier y lt) ∙ e) in
-    record { inside = lt; exit = t.0; index = t.1 }
-
--- the complex of a label whose exit is 0 has its number
-numbered_at : (earlier : Earlier) (x q j : ℕ) → x < length (strong earlier) → get_or (strong earlier) x 0 ≡ q + 1 → get_or (exits earlier) q 0 ≡ 0 → zeros_below (exits earlier) q ≡ j → top_at (tops_of earlier) x ≡ Some j
-numbered_at earlier x q j lt label exit index =
-    let place : get_or (strong earlier) x 0 - 1 ≡ q = omega (arith, label) in
-    at_label earlier x lt
-    ∙ top_yes (exits earlier) (get_or (strong earlier) x 0) (ap (λ (p : ℕ). get_or (exits earlier) p 0) place ∙ exit)
-    ∙ ap (λ (p : ℕ). Some (zeros_below (exits earlier) p)) place
-    ∙ ap Some index
-
-same_place : (es : List ℕ) (p q : ℕ) → get_or es p 0 ≡ 0 → get_or es q 0 ≡ 0 → zeros_below es p ≡ zeros_below es q → p ≡ q
-same_place es p q ep eq e = elim (lt_or p q) as (λ _. p ≡ q) [
-  | inl less ↦ absurd (let h = below_less es p q less ep in omega (arith, h, e))
-  | inr most ↦ elim (lt_or q p) as (λ _. p ≡ q) [
-    | inl less ↦ absurd (let h = below_less es q p less eq in omega (arith, h, e))
-    | inr least ↦ omega (arith, most, least)
-  ]
-]
-
-tops_are : (net : Net) (earlier : Earlier) → StrongKnown net (count_of (on earlier Q2)) (strong earlier) (exits earlier) → AreTops net (tops_of earlier) (zeros_below (exits earlier) (length (exits earlier)))
-tops_are net earlier known =
-    let s = known.is in
-    let labels = strong earlier in
-    let es = exits earlier in
-    let counted : IsLabelCount labels (length es) = subst (IsLabelCount labels) (sym s.classes) s.count_is in
-    let place : (y : ℕ) → y < length labels → get_or labels y 0 - 1 < length es = λ y lt. let a = counted.most y lt in let b = s.right.positive y lt in omega (arith, a, b) in
-    record {
-      long = length-map labels (top_for es) ∙ s.places;
-      inside = λ y k e. let t = top_known earlier y k e in (s.exits_are.terminal y t.inside).0 t.exit;
-      outside = λ y ly e terminal.
-          let lt : y < length labels = omega (arith, ly, s.places) in
-          none_some (top_at (tops_of earlier) y) (zeros_below es (get_or labels y 0 - 1)) e (at_label earlier y lt ∙ top_yes es (get_or labels y 0) ((s.exits_are.terminal y lt).1 terminal));
-      same = λ y z k e f.
-          let t = top_known earlier y k e in
-          let u = top_known earlier z k f in
-          let p = same_place es (get_or labels y 0 - 1) (get_or labels z 0 - 1) t.exit u.exit (t.index ∙ sym u.index) in
-          let a = s.right.positive y t.inside in
-          let b = s.right.positive z u.inside in
-          s.right.same y z t.inside u.inside (omega (arith, p, a, b));
-      together = λ y z k l e f strong'.
-          let t = top_known earlier y k e in
-          let u = top_known earlier z l f in
-          sym t.index ∙ ap (λ (m : ℕ). zeros_below es (m - 1)) (s.right.together y z t.inside u.inside strong') ∙ u.index;
-      numbered = λ y k j e less.
-          let t = top_known earlier y k e in
-          let q = zero_found es (get_or labels y 0 - 1) j (omega (arith, less, t.index)) in
-          let x = s.right.numbered y (q.0 + 1) t.inside (omega arith) (omega (arith, q.1)) in
-          (x.0, x.1, numbered_at earlier x.0 q.0 j (omega (arith, x.1, t.inside)) x.2 q.2 q.3);
-      below = λ y k e.
-          let t = top_known earlier y k e in
-          let h = below_less es (get_or labels y 0 - 1) (length es) (place y t.inside) t.exit in
-          omega (arith, h, t.index);
-      each = λ k lt.
-          let q = zero_found es (length es) k lt in
-          let y = counted.each (q.0 + 1) (omega arith) (omega (arith, q.1)) in
-          (y.0, numbered_at earlier y.0 q.0 k y.1 y.2 q.2 q.3);
-    }
 
 -- ---- marks of a side
 
@@ -190,7 +47,7 @@ taken : (a b : ℕ) (p : ℕ × ℕ) (rs : List (ℕ × ℕ)) → is_same_pair p
 unfolding free_links
 taken a b p rs e = ap (λ (t : Bool). cond t (free_links a b rs) (p ∷ (p.1, p.0) ∷ free_links a b rs)) e
 
-between_back : (a b y z : ℕ) → IsBetween a b y z → IsBetween a b z y
+pub between_back : (a b y z : ℕ) → IsBetween a b y z → IsBetween a b z y
 between_back a b y z (inl e) = inr (e.1, e.0)
 between_back a b y z (inr e) = inl (e.1, e.0)
 
@@ -282,7 +139,7 @@ record Built (net : Net) (g : List ℤ) (tops : List (Option ℕ)) (count : ℕ)
   are : AllZip (IsPairOf net g tops) places pairs
   below : AllByRecursion (λ pair. (pair.top < count) × (pair.low < length net.complexes) × (pair.high < length net.complexes)) pairs
 
-some_top : (net : Net) (tops : List (Option ℕ)) (count y : ℕ) → AreTops net tops count → y < length net.complexes → IsTerminal net.reactions y → (k : ℕ) × (top_at tops y ≡ Some k)
+pub some_top : (net : Net) (tops : List (Option ℕ)) (count y : ℕ) → AreTops net tops count → y < length net.complexes → IsTerminal net.reactions y → (k : ℕ) × (top_at tops y ≡ Some k)
 some_top net tops count y t lt terminal = by (top_at tops y) refl
   where
     by : (o : Option ℕ) → top_at tops y ≡ o → (k : ℕ) × (top_at tops y ≡ Some k)
@@ -305,11 +162,11 @@ build net g tops count n t (r ∷ places) h =
       below = ((t.below f.a top.0 top.1, ends.0, ends.1), rest.below);
     }
 
-widths : (n : ℕ) (ys : List (List ℤ)) → AllByRecursion (IsVector n) ys → AllByRecursion (λ y. length y ≡ n) ys
+pub widths : (n : ℕ) (ys : List (List ℤ)) → AllByRecursion (IsVector n) ys → AllByRecursion (λ y. length y ≡ n) ys
 widths n [] h = tt
 widths n (y ∷ ys) h = (h.0.0, widths n ys h.1)
 
-tops_below : (net : Net) (tops : List (Option ℕ)) (count : ℕ) → AreTops net tops count → AllByRecursion (λ top. (k : ℕ) → top ≡ Some k → k < count) tops
+pub tops_below : (net : Net) (tops : List (Option ℕ)) (count : ℕ) → AreTops net tops count → AllByRecursion (λ top. (k : ℕ) → top ≡ Some k → k < count) tops
 tops_below net tops count t = from tops (λ y k e. t.below y k e)
   where
     from : (ts : List (Option ℕ)) → ((y k : ℕ) → top_at ts y ≡ Some k → k < count) → AllByRecursion (λ top. (k : ℕ) → top ≡ Some k → k < count) ts
@@ -351,5 +208,5 @@ pub shapes_exist : ShapesExist
 shapes_exist net earlier g n h even =
     let known = strong_known net (on earlier Q2) h in
     let count = zeros_below (exits earlier) (length (exits earlier)) in
-    let w = shape_with net g (tops_of earlier) count (from_zero (pair_places net earlier)) n (tops_are net earlier known) (pair_places_are_pairs net earlier n h) in
+    let w = shape_with net g (tops_of (strong earlier) (exits earlier)) count (from_zero (pair_places net earlier)) n (tops_are net (count_of (on earlier Q2)) known.terminal (strong earlier) (exits earlier) known.is) (pair_places_are_pairs net earlier n h) in
     record { shape = w.shape; is = w.is; count = shape_count net earlier g w.shape h w.is; pairs = w.pairs_are ∙ length-map (pair_places net earlier) (λ r. r - 1) }

@@ -1,5 +1,5 @@
 -- Strong classes that pass the tests are right, with the numbers of terminal ones.
-use Rattle.std.proofs.Common.{◌≡◌, ℕ, zero, suc, ◌+◌, ◌-◌, ◌<◌, Bool, true, false, List, length, get_or, refl, sym, ap, subst, ◌∙◌, arith, ◌==◌, ◌&&◌, ◌||◌}
+use Rattle.std.proofs.Common.{◌≡◌, ℕ, ◌-◌, ◌<◌, Bool, true, List, length, get_or, refl, sym, ap, subst, ◌∙◌, arith, ◌==◌, ◌&&◌}
 use Rattle.std.specs.List.{range_with_len, count_by, list_any}
 use Rattle.std.proofs.lemmas.Bool.{eq-eqb, eqb-true}
 use Rattle.std.proofs.lemmas.List.Folds.{list_any_at}
@@ -12,6 +12,8 @@ use Rattle.crn_vec.specs.Deficiency.{IsComplex, IsLabelled, HasTerminalClasses}
 use Rattle.crn_vec.proofs.CallerLemmas.{strong_class, class_then, and_cases, and_true}
 use Rattle.crn_cert.specs.Says.{AreStrongClasses}
 use Rattle.crn_cert.specs.ClassTests.{AreNumbered, AreFromTrees, AreToTrees, DoLevelsFall, AreAllExits, zeros_in}
+use Rattle.crn_cert.specs.Valid.{is_terminal_in}
+use Rattle.crn_cert.proofs.Filters.{some_place}
 use Rattle.crn_cert.proofs.ClassesRight.{strong_labels_right, exits_right}
 use Rattle.crn_cert.proofs.Counts.{classes_counted, zeros_by_places}
 
@@ -44,33 +46,20 @@ strong_right net count terminal labels exits from from_depth to to_depth level l
 
 -- ---- terminal classes of one linkage class
 
--- strong class m has the exit 0, and a complex of linkage class k is in it
-abbrev pub lies_terminal : List ℕ → List ℕ → List ℕ → ℕ → ℕ → Bool
-lies_terminal linkage strong exits k m = (get_or exits (m - 1) 0 == 0) && list_any (λ c. (get_or strong c 0 == m) && (get_or linkage c 0 == k)) (range_with_len 0 (length strong))
-
-place_step : (test : ℕ → Bool) (a n : ℕ) → (list_any test (range_with_len (a + 1) n) ≡ true → (c : ℕ) × (c < (a + 1) + n) × (test c ≡ true)) → (b : Bool) → test a ≡ b
-    → (b || list_any test (range_with_len (a + 1) n)) ≡ true → (c : ℕ) × (c < a + suc n) × (test c ≡ true)
-place_step test a n later true f e = (a, omega arith, f)
-place_step test a n later false f e = let r = later e in (r.0, omega (arith, r.1), r.2)
-
-some_place : (test : ℕ → Bool) (a n : ℕ) → list_any test (range_with_len a n) ≡ true → (c : ℕ) × (c < a + n) × (test c ≡ true)
-some_place test a zero e = cc
-some_place test a (suc n) e = place_step test a n (some_place test (a + 1) n) (test a) refl e
-
 pub class_terminals : (net : Net) (linkage strong exits : List ℕ) (y : ℕ) → IsLabelled net linkage → length strong ≡ length net.complexes → AreRightStrongLabels net.reactions strong → IsLabelCount strong (length exits)
-    → AreExits net.reactions strong exits → IsComplex net y → HasTerminalClasses net y (count_by (lies_terminal linkage strong exits (get_or linkage y 0)) (range_with_len 1 (length exits)))
+    → AreExits net.reactions strong exits → IsComplex net y → HasTerminalClasses net y (count_by (is_terminal_in strong exits linkage (get_or linkage y 0)) (range_with_len 1 (length exits)))
 class_terminals net linkage strong exits y labelled long right counted out ly =
     let rs = net.reactions in
     let k = get_or linkage y 0 in
     let in_linkage : (c : ℕ) → c < length net.complexes → c < length linkage = λ c l. omega (arith, l, labelled.long) in
-    classes_counted (SameStrong rs) (λ z. IsComplex net z × SameClass rs y z × IsTerminal rs z) strong (length exits) (lies_terminal linkage strong exits k) right counted
+    classes_counted (SameStrong rs) (λ z. IsComplex net z × SameClass rs y z × IsTerminal rs z) strong (length exits) (is_terminal_in strong exits linkage k) right counted
     (λ z lz e.
     let m = get_or strong z 0 in
     let parts = and_cases (get_or exits (m - 1) 0 == 0) (list_any (λ c. (get_or strong c 0 == m) && (get_or linkage c 0 == k)) (range_with_len 0 (length strong))) e in
     let at = some_place (λ c. (get_or strong c 0 == m) && (get_or linkage c 0 == k)) 0 (length strong) parts.1 in
     let c = at.0 in
-    let lc : c < length strong = omega (arith, at.1) in
-    let same = and_cases (get_or strong c 0 == m) (get_or linkage c 0 == k) at.2 in
+    let lc : c < length strong = omega (arith, at.2) in
+    let same = and_cases (get_or strong c 0 == m) (get_or linkage c 0 == k) at.3 in
     let to_z : SameClass rs c z = strong_class rs c z (right.same c z lc lz (eqb-true (get_or strong c 0) m same.0)) in
     let to_c : SameClass rs y c = labelled.right.same y c (in_linkage y ly) (omega (arith, lc, long, labelled.long)) (sym (eqb-true (get_or linkage c 0) k same.1)) in
     (omega (arith, lz, long), class_then rs y c z to_c to_z, (out.terminal z lz).0 (eqb-true (get_or exits (m - 1) 0) 0 parts.0)))

@@ -55,14 +55,24 @@ exits earlier = exits_of (on earlier Q2)
 abbrev pub classes_to : ℕ → List ℕ
 classes_to count = range_with_len 1 count
 
--- the number of terminal strong classes of linkage class k: those with exit 0 that have a complex
--- of the class
+-- complex c has strong label m and linkage label k
+abbrev pub is_in_both : List ℕ → List ℕ → ℕ → ℕ → ℕ → Bool
+is_in_both strong linkage m k c = (slice_index strong c == m) && (slice_index linkage c == k)
+
+-- strong class m has exit 0 and a complex of linkage class k
+abbrev pub is_terminal_in : List ℕ → List ℕ → List ℕ → ℕ → ℕ → Bool
+is_terminal_in strong exits linkage k m = (slice_index exits (m - 1) == 0)
+    && list_any (is_in_both strong linkage m k) (range_with_len 0 (length strong))
+
+-- the number of terminal strong classes of linkage class k, among so many strong classes
+abbrev pub terminals_of : List ℕ → List ℕ → List ℕ → ℕ → ℕ → ℕ
+terminals_of strong exits linkage count k =
+    count_by (is_terminal_in strong exits linkage k) (classes_to count)
+
+-- the number of terminal strong classes of linkage class k
 abbrev pub terminals_in : Earlier → ℕ → ℕ
 terminals_in earlier k =
-    count_by (λ m. (slice_index (exits earlier) (m - 1) == 0)
-    && list_any
-    (λ c. (slice_index (strong earlier) c == m) && (slice_index (linkage earlier) c == k))
-    (range_with_len 0 (length (strong earlier)))) (classes_to (count_of (on earlier Q2)))
+    terminals_of (strong earlier) (exits earlier) (linkage earlier) (count_of (on earlier Q2)) k
 
 -- each linkage class before k has one terminal class
 abbrev pub HaveOneBefore : Earlier → ℕ → Type 0
