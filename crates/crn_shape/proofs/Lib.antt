@@ -6,3 +6,4 @@ mod ShapeMade
 mod ShapeKinds
 mod Opposites
 mod ShapeWidths
+mod SidesTested

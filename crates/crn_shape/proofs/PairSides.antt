@@ -1,18 +1,19 @@
 -- The pair of a side, found as the first reaction that joins complexes of different marks.
 use Rattle.std.proofs.Common.{◌≡◌, ℕ, ◌*◌, ◌<◌, ◌≤◌, List, [], ◌∷◌, length, refl, sym, ap, subst, ◌∙◌, inl, inr, arith}
-use Rattle.std.specs.Prelude.{ℤ, ◌*ℤ◌, Option, Some, None, unsigned_abs}
+use Rattle.std.specs.Prelude.{ℤ, ◌*ℤ◌, Option, Some, unsigned_abs}
 use Rattle.std.specs.List.{AllByRecursion}
 use Rattle.std.proofs.lemmas.Int.{ints}
 use Rattle.crn_vec.specs.declared.limits.TheConstants.{WIDE_SOLUTION, MAX_AMOUNT, MAX_COMPLEXES}
 use Rattle.crn_vec.specs.Network.{Net, IsNetwork}
 use Rattle.crn_vec.specs.Linkage.{IsLinked}
 use Rattle.crn_vec.specs.Vectors.{AreWithin, dot, entry}
-use Rattle.crn_vec.specs.Strong.{IsReaction, IsTerminal}
+use Rattle.crn_vec.specs.Strong.{IsReaction}
 use Rattle.crn_vec.specs.CutPairs.{IsBetween, IsFreeStep, IsOnSide, IsTerminalPair, IsFirstOfPair}
 use Rattle.crn_vec.specs.Sums.{AreMarks}
 use Rattle.crn_vec.specs.Confluence.{IsRegular}
 use Rattle.crn_vec.specs.NetSignals.{top_at, AreTops}
 use Rattle.crn_vec.proofs.CallerLemmas.{lt_or, within_from, dot-comm, inside_at, reaction_in, leads_here, leads_back, mark_yes, mark_no, other_step, free_back, product_within, sum_within}
+use Rattle.crn_cert.proofs.CallerLemmas.{some_top}
 use Rattle.crn_cert.specs.Ranges.{IsNarrow}
 use Rattle.crn_shape.specs.Sides.{IsSideOf}
 use Rattle.crn_shape.specs.declared.pairs.LinkedPair.{LinkedPair}
@@ -73,13 +74,6 @@ first_one net marks p q a b = elim (lt_or p q) as (λ _. p ≡ q) [
 
 -- ---- its class and its sum
 
-some_top : (net : Net) (tops : List (Option ℕ)) (count y : ℕ) → AreTops net tops count → y < length net.complexes → IsTerminal net.reactions y → (k : ℕ) × (top_at tops y ≡ Some k)
-some_top net tops count y t lt terminal = by (top_at tops y) refl
-  where
-    by : (o : Option ℕ) → top_at tops y ≡ o → (k : ℕ) × (top_at tops y ≡ Some k)
-    by None e = absurd (t.outside y lt e terminal)
-    by (Some k) e = (k, e)
-
 pub top_there : (net : Net) (marks : List ℤ) (tops : List (Option ℕ)) (count p : ℕ) → IsNetwork net → IsRegular net → AreTops net tops count → IsSide net marks → IsFirstAcross net marks p → (k : ℕ) × (top_at tops (ends_of net p).0 ≡ Some k)
 top_there net marks tops count p n regular t side across =
     let k = known net side.r marks n side.first side.side in
@@ -118,7 +112,7 @@ marks_within net marks side = within_from MAX_AMOUNT marks (λ k lt. elim (side.
   | inr h ↦ omega (arith, ints, ap unsigned_abs h.1)
 ])
 
-dot_within : (m k : ℕ) (xs ys : List ℤ) → AreWithin m xs → AreWithin k ys → unsigned_abs (dot xs ys) ≤ length xs * (m * k)
+pub dot_within : (m k : ℕ) (xs ys : List ℤ) → AreWithin m xs → AreWithin k ys → unsigned_abs (dot xs ys) ≤ length xs * (m * k)
 dot_within m k [] ys f g = omega arith
 dot_within m k (x ∷ xs) [] f g = omega arith
 dot_within m k (x ∷ xs) (y ∷ ys) f g =

@@ -1,17 +1,18 @@
 -- The shape of a network by its tops and pairs is its shape for g, and that of the opposite sums.
-use Rattle.std.proofs.Common.{◌≡◌, ℕ, suc, ◌<◌, ◌≤◌, ◌^◌, inl, inr, List, [], ◌∷◌, length, map, refl, ap, arith}
+use Rattle.std.proofs.Common.{◌≡◌, ℕ, ◌<◌, ◌≤◌, ◌^◌, inl, inr, List, [], ◌∷◌, length, map, refl, ap, arith}
 use Rattle.std.proofs.lemmas.Int.{ints}
 use Rattle.crn_vec.specs.declared.limits.TheConstants.{MAX_COMPLEXES}
-use Rattle.std.specs.Prelude.{ℤ, Option, Some, neg_ℤ, unsigned_abs}
+use Rattle.std.specs.Prelude.{ℤ, Option, neg_ℤ, unsigned_abs}
 use Rattle.std.specs.List.{AllByRecursion, AllZip}
 use Rattle.std.proofs.lemmas.List.{length-map}
 use Rattle.crn_vec.specs.Lists.{IsIn}
-use Rattle.crn_vec.specs.Network.{Net, IsNetwork, IsVector}
+use Rattle.crn_vec.specs.Network.{Net, IsNetwork}
 use Rattle.crn_vec.specs.CutPairs.{IsFirstOfPair}
 use Rattle.crn_vec.specs.Confluence.{IsRegular}
 use Rattle.crn_vec.specs.Signals.{Pair, Shape}
-use Rattle.crn_vec.specs.NetSignals.{top_at, AreTops, IsPairOf, IsShapeOf, opposite_pair, opposite_shape}
+use Rattle.crn_vec.specs.NetSignals.{AreTops, IsPairOf, IsShapeOf, opposite_pair, opposite_shape}
 use Rattle.crn_vec.proofs.CallerLemmas.{inside_at, reaction_in, few_pairs}
+use Rattle.crn_cert.proofs.CallerLemmas.{widths, tops_below}
 use Rattle.crn_shape.specs.Sides.{IsSideOf, AreSides}
 use Rattle.crn_shape.specs.declared.pairs.LinkedPair.{LinkedPair}
 use Rattle.crn_shape.specs.Shapes.{IsPairIn, AreForShape, opposite_linked, pair_of, shape_of}
@@ -41,17 +42,6 @@ below_by net g tops count n t (r ∷ places) [] h = absurd h
 below_by net g tops count n t (r ∷ places) (p ∷ pairs) h =
     let ends = inside_at (length net.complexes) net.reactions n.partial.apart p.low p.high (reaction_in net.reactions r (p.low, p.high) h.0.goes.0 h.0.goes.1) in
     ((t.below p.low p.top h.0.top, ends.0, ends.1), below_by net g tops count n t places pairs h.1)
-
-widths : (n : ℕ) (ys : List (List ℤ)) → AllByRecursion (IsVector n) ys → AllByRecursion (λ y. length y ≡ n) ys
-widths n [] h = tt
-widths n (y ∷ ys) h = (h.0.0, widths n ys h.1)
-
-tops_below : (net : Net) (tops : List (Option ℕ)) (count : ℕ) → AreTops net tops count → AllByRecursion (λ top. (k : ℕ) → top ≡ Some k → k < count) tops
-tops_below net tops count t = from tops (λ y k e. t.below y k e)
-  where
-    from : (ts : List (Option ℕ)) → ((y k : ℕ) → top_at ts y ≡ Some k → k < count) → AllByRecursion (λ top. (k : ℕ) → top ≡ Some k → k < count) ts
-    from [] h = tt
-    from (o ∷ ts) h = (λ k e. h 0 k e, from ts (λ y k e. h (suc y) k e))
 
 pub shape_is : (net : Net) (g : List ℤ) (tops : List (Option ℕ)) (count : ℕ) (sides : List (List ℤ)) (pairs : List LinkedPair) → IsNetwork net → AreTops net tops count → AreSides net sides → AllZip (IsPairFor net g tops) sides pairs → IsShapeOf net g (shape_of net tops count pairs)
 shape_is net g tops count sides pairs n t a h =
