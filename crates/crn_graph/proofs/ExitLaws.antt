@@ -5,11 +5,11 @@ use Rattle.std.proofs.lemmas.List.{get_or-set_other, get_or-set_same, length-set
 use Rattle.std.proofs.lemmas.List.Sums.{sum_by-cons, count_by-le-length}
 use Rattle.std.proofs.lemmas.Bool.{cases_eq}
 use Rattle.crn_vec.specs.Network.{Net}
+use Rattle.crn_cert.proofs.CallerLemmas.{goes_at}
 use Rattle.crn_cert.specs.Says.{IsReactionNumber}
 use Rattle.crn_cert.specs.Ranges.{IsFrom, AreFrom}
 use Rattle.crn_cert.specs.ClassTests.{GoesOut, AreAllExits, zeros_in}
 use Rattle.crn_graph.proofs.LinkTests.{are_from}
-use Rattle.crn_graph.proofs.ReverseLaws.{goes_at}
 use Rattle.crn_graph.proofs.PairLaws.{same_ends}
 
 -- the exits as far as reaction `count`

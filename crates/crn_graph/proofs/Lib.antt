@@ -7,7 +7,11 @@ mod ClassLaws
 mod LinkTests
 mod ReverseLaws
 mod PairLaws
-mod RankLaws
+mod RankCounts
+mod RankEntered
+mod RankFollowed
+mod RankClosed
+mod RankCalls
 mod StrongLaws
 mod ExitLaws
 mod StrongTests

@@ -3,7 +3,8 @@ use Rattle.std.proofs.Common.{◌≡◌, ◌⊎◌, ℕ, ◌+◌, ◌-◌, ◌<�
 use Rattle.crn_vec.specs.Network.{Net}
 use Rattle.crn_vec.specs.Lists.{IsIn}
 use Rattle.crn_vec.specs.Linkage.{IsLinked, SameClass, AreRightLabels}
-use Rattle.crn_vec.proofs.CallerLemmas.{leads_keeps, leads_here, leads_step, leads_then, in_at, at_in, all_from}
+use Rattle.crn_vec.proofs.CallerLemmas.{leads_keeps, leads_here, leads_step, leads_then, in_at, all_from}
+use Rattle.crn_cert.proofs.CallerLemmas.{named_in}
 use Rattle.crn_cert.specs.Says.{IsReactionNumber}
 use Rattle.crn_cert.specs.Ranges.{IsFrom, AreFrom}
 use Rattle.crn_cert.specs.Formed.{IsForest}
@@ -16,9 +17,6 @@ use Rattle.crn_graph.specs.Inner.Search.{Steps, label_at, up_at}
 use Rattle.crn_graph.specs.Inner.Linkage.{IsReturning, AreClassesTo}
 
 -- ---- numbers of reactions
-
-pub numbered_in : (net : Net) (r y z : ℕ) → IsReactionNumber net r y z → IsIn (y, z) net.reactions
-numbered_in net r y z h = subst (λ (p : ℕ × ℕ). IsIn p net.reactions) h.1.1 (at_in net.reactions (r - 1) (0, 0) h.1.0)
 
 pub in_numbered : (net : Net) (y z : ℕ) → IsIn (y, z) net.reactions → (r : ℕ) × IsReactionNumber net r y z
 in_numbered net y z h =
@@ -88,7 +86,7 @@ labels_even net arcs s count n h y z i =
 pub labels_right : (net : Net) (arcs : List Arc) (s : Search) (count n : ℕ) → AreAllClasses net arcs s count n → AreRightLabels net.reactions s.label.items
 labels_right net arcs s count n h =
     let rs = net.reactions in
-    let linked : (y z : ℕ) → Steps arcs y z → IsLinked rs y z = λ y z a. elim (arc_links net arcs a.0 y z h.links a.1) [ inl g ↦ inl (numbered_in net a.0 y z g) | inr g ↦ inr (numbered_in net a.0 z y g) ] in
+    let linked : (y z : ℕ) → Steps arcs y z → IsLinked rs y z = λ y z a. elim (arc_links net arcs a.0 y z h.links a.1) [ inl g ↦ inl (named_in net a.0 y z g) | inr g ↦ inr (named_in net a.0 z y g) ] in
     let even = labels_even net arcs s count n h in
     record {
       same = λ y z ly lz e.

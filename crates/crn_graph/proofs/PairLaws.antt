@@ -11,6 +11,7 @@ use Rattle.crn_vec.specs.Walks.{IsAlong, LeadsTo}
 use Rattle.crn_vec.specs.Linkage.{IsLinked, SameClass}
 use Rattle.crn_vec.specs.CutPairs.{IsBetween, IsFreeStep, IsMarking}
 use Rattle.crn_vec.proofs.CallerLemmas.{leads_keeps, leads_here, leads_step, leads_then, marks_are_sides, is_between, all_push}
+use Rattle.crn_cert.proofs.CallerLemmas.{named_in, label_inside, between_back, goes_at, least_one}
 use Rattle.crn_cert.specs.Ranges.{IsFrom}
 use Rattle.crn_cert.specs.Says.{IsReactionNumber, from_zero, WalkLeads}
 use Rattle.crn_graph.specs.declared.arcs.Arc.{Arc}
@@ -20,25 +21,21 @@ use Rattle.crn_graph.specs.Pair.{HasSide, HasWayRound}
 use Rattle.crn_graph.specs.Inner.Arcs.{AreArcsOf}
 use Rattle.crn_graph.specs.Inner.Search.{Steps, label_at, up_at, first_found, IsBlank, IsSpreading, KeepsLabels}
 use Rattle.crn_graph.specs.Inner.Pair.{mark_of, marks_of, IsStepBack, IsSearched, IsWalkBack}
-use Rattle.crn_graph.proofs.LinkTests.{numbered_in, in_numbered}
+use Rattle.crn_graph.proofs.LinkTests.{in_numbered}
 use Rattle.crn_graph.proofs.ClassLaws.{all_followed}
-use Rattle.crn_graph.proofs.ReverseLaws.{goes_at}
 
 -- ---- pairs
-
-between_flip : (a b y z : ℕ) → IsBetween a b y z → IsBetween a b z y
-between_flip a b y z h = elim h [ inl g ↦ inr (g.1, g.0) | inr g ↦ inl (g.1, g.0) ]
 
 -- a step between a and b, where a and b are no step between c and d, is no step between c and d
 still_free : (c d a b y z : ℕ) → IsBetween a b y z → (IsBetween c d a b → ⊥) → IsBetween c d y z → ⊥
 still_free c d a b y z h free t = free (elim h [
   | inl g ↦ subst (λ (v : ℕ). IsBetween c d v b) g.0 (subst (λ (v : ℕ). IsBetween c d y v) g.1 t)
-  | inr g ↦ subst (λ (v : ℕ). IsBetween c d v b) g.1 (subst (λ (v : ℕ). IsBetween c d z v) g.0 (between_flip c d y z t))
+  | inr g ↦ subst (λ (v : ℕ). IsBetween c d v b) g.1 (subst (λ (v : ℕ). IsBetween c d z v) g.0 (between_back c d y z t))
 ])
 
 linked_by : (net : Net) (r a b y z : ℕ) → IsReactionNumber net r a b → IsBetween a b y z → IsLinked net.reactions y z
 linked_by net r a b y z h t =
-    let i = numbered_in net r a b h in
+    let i = named_in net r a b h in
     elim t [
       | inl g ↦ inl (subst (λ (v : ℕ). IsIn (v, z) net.reactions) (sym g.0) (subst (λ (v : ℕ). IsIn (a, v) net.reactions) (sym g.1) i))
       | inr g ↦ inr (subst (λ (v : ℕ). IsIn (v, y) net.reactions) (sym g.1) (subst (λ (v : ℕ). IsIn (a, v) net.reactions) (sym g.0) i))
@@ -65,16 +62,11 @@ free_step net arcs y z v w h s =
 step_free : (net : Net) (arcs : List Arc) (y z v w : ℕ) → AreArcsOf net (Round y z) arcs → IsFreeStep net.reactions y z v w → Steps arcs v w
 step_free net arcs y z v w h f = elim f.0 [
   | inl i ↦ let n = in_numbered net v w i in (n.0, h.whole n.0 v w (record { a = v; b = w; is = n.1; allows = (inl (refl, refl), f.1) }))
-  | inr i ↦ let n = in_numbered net w v i in (n.0, h.whole n.0 v w (record { a = w; b = v; is = n.1; allows = (inr (refl, refl), λ t. f.1 (between_flip y z w v t)) }))
+  | inr i ↦ let n = in_numbered net w v i in (n.0, h.whole n.0 v w (record { a = w; b = v; is = n.1; allows = (inr (refl, refl), λ t. f.1 (between_back y z w v t)) }))
 ]
 
 pub labels_two : (net : Net) (arcs : List Arc) (s t : Search) (r y z c : ℕ) → IsRound net arcs s t r y z → (label_at t c ≡ 0) ⊎ (label_at t c ≡ 1)
 labels_two net arcs s t r y z c h = h.keeps.adds c (h.blank.none c)
-
-pub inside_of : (labels : List ℕ) (c : ℕ) → 1 ≤ get_or labels c 0 → c < length labels
-inside_of [] c le = absurd (omega arith)
-inside_of (l ∷ labels) zero le = omega arith
-inside_of (l ∷ labels) (suc c) le = let i = inside_of labels c le in omega (arith, i)
 
 pub round_searched : (net : Net) (arcs : List Arc) (s t : Search) (r y z : ℕ) → IsRound net arcs s t r y z → IsSearched net t
 round_searched net arcs s t r y z h =
@@ -82,7 +74,7 @@ round_searched net arcs s t r y z h =
     record {
       places = places;
       long = h.spreading.long;
-      inside = λ c e. let i = inside_of t.label.items c (omega (arith, e, h.newest)) in omega (arith, i, places);
+      inside = λ c e. let i = label_inside t.label.items c (omega (arith, e, h.newest)) in omega (arith, i, places);
       hangs = λ c e. elim (h.spreading.hangs c e) [
         | inl g ↦ inl (g.0, g.1)
         | inr g ↦ let k = h.arcs_are.sound (up_at t c) g.1.d c g.1.by_arc in
@@ -117,7 +109,7 @@ round_marking net arcs s t r y z h none =
     let step = step_free net arcs y z v w h.arcs_are f in
     let some : 1 ≤ label_at t w = all_followed arcs t v h.spreading h.all (e ∙ sym h.newest) step.0 w step.1 in
     elim (labels_two net arcs s t r y z w h) [ inl q ↦ absurd (omega (arith, q, some)) | inr q ↦ q ] in
-    let back : (v w : ℕ) → IsFreeStep rs y z v w → IsFreeStep rs y z w v = λ v w f. (elim f.0 [ inl i ↦ inr i | inr i ↦ inl i ], λ k. f.1 (between_flip y z w v k)) in
+    let back : (v w : ℕ) → IsFreeStep rs y z v w → IsFreeStep rs y z w v = λ v w f. (elim f.0 [ inl i ↦ inr i | inr i ↦ inl i ], λ k. f.1 (between_back y z w v k)) in
     let equal : (v w : ℕ) → IsFreeStep rs y z v w → label_at t v ≡ label_at t w = λ v w f. elim (labels_two net arcs s t r y z v h) [
       | inr e ↦ e ∙ sym (followed v w f e)
       | inl e ↦ elim (labels_two net arcs s t r y z w h) [ inl q ↦ e ∙ sym q | inr q ↦ absurd (let k = followed w v (back v w f) q in omega (arith, e, k)) ]
@@ -146,7 +138,7 @@ round_side net arcs s t r y z h none ly lz =
     let rs = net.reactions in
     let labels = t.label.items in
     let marking = round_marking net arcs s t r y z h none in
-    let link : IsLinked rs y z = inl (numbered_in net r y z h.goes) in
+    let link : IsLinked rs y z = inl (named_in net r y z h.goes) in
     let sides = marks_are_sides rs y z (marks_of labels) link marking in
     record {
       y = y;
@@ -223,17 +215,13 @@ free_back net arcs s t r y z c d h step = elim (h.spreading.hangs c step.its_own
       let k = h.arcs_are.sound (up_at t c) g.1.d c g.1.by_arc in
       let e = same_ends net (up_at t c) step.a step.b k.a k.b step.goes k.is in
       let free : IsBetween y z step.a step.b → ⊥ = λ t. k.allows.1 (subst (λ (v : ℕ). IsBetween y z k.a v) e.1 (subst (λ (v : ℕ). IsBetween y z v step.b) e.0 t)) in
-      let turn = between_flip step.a step.b d c step.between in
+      let turn = between_back step.a step.b d c step.between in
       (linked_by net (up_at t c) step.a step.b c d step.goes turn, still_free y z step.a step.b c d turn free)
 ]
 
 along_free : (net : Net) (arcs : List Arc) (s t : Search) (r y z c e : ℕ) (xs : List ℕ) → IsRound net arcs s t r y z → IsAlong (IsStepBack net t) c xs e → IsAlong (IsFreeStep net.reactions y z) c xs e
 along_free net arcs s t r y z c e [] h w = w
 along_free net arcs s t r y z c e (x ∷ xs) h w = (free_back net arcs s t r y z c x h w.0, along_free net arcs s t r y z x e xs h w.1)
-
-least_one : (n : ℕ) (xs : List ℕ) → AllByRecursion (IsFrom 1 n) xs → AllByRecursion (λ k. 1 ≤ k) xs
-least_one n [] h = tt
-least_one n (x ∷ xs) h = (h.0.0, least_one n xs h.1)
 
 some_steps : (S : ℕ → ℕ → Type 0) (y z : ℕ) (xs : List ℕ) → y ≢ z → IsAlong S y (from_zero xs) z → 1 ≤ length xs
 some_steps S y z [] ne h = absurd (ne h)

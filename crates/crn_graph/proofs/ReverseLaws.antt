@@ -5,13 +5,14 @@ use Rattle.std.proofs.lemmas.Bool.{cases_lt}
 use Rattle.crn_vec.specs.Lists.{IsIn}
 use Rattle.crn_vec.specs.Network.{Net}
 use Rattle.crn_vec.specs.Strong.{IsReaction, IsReversible}
+use Rattle.crn_cert.proofs.CallerLemmas.{named_in, goes_at}
 use Rattle.crn_cert.specs.Says.{IsReactionNumber, HasNoReverse}
 use Rattle.crn_cert.specs.Ranges.{IsFrom, AreFrom}
 use Rattle.crn_cert.specs.ClassTests.{IsReverse, AreReverses}
 use Rattle.crn_graph.specs.declared.arcs.Arc.{Arc}
 use Rattle.crn_graph.specs.declared.arcs.Way.TheVariants.{Along}
 use Rattle.crn_graph.specs.Inner.Arcs.{HasArc, AreArcsOf}
-use Rattle.crn_graph.proofs.LinkTests.{numbered_in, in_numbered, are_from}
+use Rattle.crn_graph.proofs.LinkTests.{in_numbered, are_from}
 
 -- an arc along a reaction is that reaction
 pub arc_along : (net : Net) (arcs : List Arc) (r y z : ℕ) → AreArcsOf net Along arcs → HasArc arcs r y z → IsReactionNumber net r y z
@@ -22,17 +23,13 @@ arc_along net arcs r y z h a =
 pub along_arc : (net : Net) (arcs : List Arc) (r y z : ℕ) → AreArcsOf net Along arcs → IsReactionNumber net r y z → HasArc arcs r y z
 along_arc net arcs r y z h is = h.whole r y z (record { a = y; b = z; is = is; allows = (refl, refl) })
 
--- reaction r goes from y to z
-pub goes_at : (net : Net) (r y z : ℕ) → r < length net.reactions → y ≡ (get_or net.reactions r (0, 0)).0 → z ≡ (get_or net.reactions r (0, 0)).1 → IsReaction net.reactions r y z
-goes_at net r y z lt p q = (lt, rw (p, q) refl)
-
 pub none_missing : (net : Net) (arcs : List Arc) (r y z : ℕ) → AreArcsOf net Along arcs → r < length net.reactions → y ≡ (get_or net.reactions r (0, 0)).0 → z ≡ (get_or net.reactions r (0, 0)).1 → ((q : ℕ) → HasArc arcs q z y → ⊥)
     → (IsReversible net.reactions → ⊥) × IsFrom 1 (length net.reactions) (r + 1) × HasNoReverse net (r + 1)
 none_missing net arcs r y z h lt p q none =
     let e : r + 1 - 1 ≡ r = omega arith in
     let goes : IsReactionNumber net (r + 1) y z = (omega arith, subst (λ (k : ℕ). IsReaction net.reactions k y z) (sym e) (goes_at net r y z lt p q)) in
     let no : IsIn (z, y) net.reactions → ⊥ = λ i. let n = in_numbered net z y i in none n.0 (along_arc net arcs n.0 z y h n.1) in (
-      λ reversible. no (reversible y z (numbered_in net (r + 1) y z goes)),
+      λ reversible. no (reversible y z (named_in net (r + 1) y z goes)),
       (omega arith, omega (arith, lt)),
       (y, z, goes, no),
     )
@@ -62,7 +59,7 @@ reverses_all net back long all = (
       let n = in_numbered net y z i in
       let f = all (n.0 - 1) n.1.1.0 in
       let ends : (f.y, f.z) ≡ (y, z) = sym f.goes.1 ∙ n.1.1.1 in
-      let there = numbered_in net (get_or back (n.0 - 1) 0) f.z f.y f.back in
+      let there = named_in net (get_or back (n.0 - 1) 0) f.z f.y f.back in
       subst (IsReversed net) ends there,
   are_from (length net.reactions) 1 (length net.reactions) back long (λ r lt. let f = all r lt in (f.back.0, omega (arith, f.back.0, f.back.1.0))),
   all,

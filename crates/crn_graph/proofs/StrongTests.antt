@@ -5,6 +5,7 @@ use Rattle.crn_vec.specs.Network.{Net}
 use Rattle.crn_vec.specs.Walks.{LeadsTo}
 use Rattle.crn_vec.specs.Strong.{ReactsTo, Reaches, SameStrong, AreRightStrongLabels}
 use Rattle.crn_vec.proofs.CallerLemmas.{leads_keeps, leads_here, leads_step, leads_then}
+use Rattle.crn_cert.proofs.CallerLemmas.{named_in}
 use Rattle.crn_cert.specs.Says.{IsReactionNumber}
 use Rattle.crn_cert.specs.Ranges.{IsFrom, AreFrom}
 use Rattle.crn_cert.specs.Formed.{IsForest}
@@ -15,7 +16,7 @@ use Rattle.crn_graph.specs.declared.search.Search.{Search}
 use Rattle.crn_graph.specs.Inner.Arcs.{HasArc, AreArcsOf, AreArcsWithin}
 use Rattle.crn_graph.specs.Inner.Search.{Steps, label_at, up_at}
 use Rattle.crn_graph.specs.Inner.Linkage.{AreClassesTo}
-use Rattle.crn_graph.proofs.LinkTests.{numbered_in, in_numbered, are_from}
+use Rattle.crn_graph.proofs.LinkTests.{in_numbered, are_from}
 use Rattle.crn_graph.proofs.ReverseLaws.{arc_along, along_arc}
 use Rattle.crn_graph.proofs.LabelLaws.{one_strong_labels}
 use Rattle.crn_graph.proofs.StrongLaws.{AreWithin, inner_walk, strong_even, walk_within, back_arc, back_walk, walk_back}
@@ -25,7 +26,7 @@ use Rattle.crn_graph.proofs.StrongLaws.{AreWithin, inner_walk, strong_even, walk
 by_reactions : (net : Net) (arcs : List Arc) (y z : ℕ) → AreArcsOf net Along arcs → LeadsTo (Steps arcs) y z → Reaches net.reactions y z
 by_reactions net arcs y z h walk =
     leads_keeps (Steps arcs) (Reaches net.reactions y)
-    (λ v w step p. leads_then (ReactsTo net.reactions) y v w p (leads_step (ReactsTo net.reactions) v w (numbered_in net step.0 v w (arc_along net arcs step.0 v w h step.1)))) y z walk
+    (λ v w step p. leads_then (ReactsTo net.reactions) y v w p (leads_step (ReactsTo net.reactions) v w (named_in net step.0 v w (arc_along net arcs step.0 v w h step.1)))) y z walk
     (leads_here (ReactsTo net.reactions) y)
 
 reaction_step : (net : Net) (arcs : List Arc) (y z : ℕ) → AreArcsOf net Along arcs → ReactsTo net.reactions y z → Steps arcs y z

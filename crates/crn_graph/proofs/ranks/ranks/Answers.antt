@@ -1,4 +1,4 @@
-use Rattle.crn_graph.proofs.RankLaws.{unranked_ranks}
+use Rattle.crn_graph.proofs.RankCalls.{unranked_ranks}
 use Rattle.crn_graph.proofs.ranks.ranks.Goals as goal
 
 pub explore_all-requires-clause-ranking : goal.explore_all-requires-clause-ranking

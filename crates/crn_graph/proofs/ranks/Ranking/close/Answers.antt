@@ -3,7 +3,7 @@ use Rattle.std.proofs.lemmas.List.{get_or_read}
 use Rattle.std.specs.Vec.{with_item}
 use Rattle.crn_graph.specs.declared.ranks.Ranking.{Ranking}
 use Rattle.crn_graph.specs.Inner.Ranks.{path_at, HasClosed}
-use Rattle.crn_graph.proofs.RankLaws.{closed_none, closed_more}
+use Rattle.crn_graph.proofs.RankCalls.{closed_none, closed_more}
 use Rattle.crn_graph.proofs.ranks.Ranking.close.Goals as goal
 
 pub loop-self-init : goal.loop-self-init

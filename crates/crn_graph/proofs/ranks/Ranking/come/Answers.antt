@@ -3,7 +3,7 @@ use Rattle.std.proofs.lemmas.List.{get_or_read}
 use Rattle.crn_graph.specs.declared.arcs.Arc.{Arc}
 use Rattle.crn_graph.specs.declared.ranks.Ranking.{Ranking}
 use Rattle.crn_graph.specs.Inner.Ranks.{HasCome, IsJoined, start_at}
-use Rattle.crn_graph.proofs.RankLaws.{at_end, come_new, come_joined, come_ranked, enter_room, held_room}
+use Rattle.crn_graph.proofs.RankCalls.{at_end, come_new, come_joined, come_ranked, enter_room, held_room}
 use Rattle.crn_graph.proofs.ranks.Ranking.come.Goals as goal
 
 pub enter-requires : goal.enter-requires

@@ -1,5 +1,6 @@
 use Rattle.std.proofs.Common.{◌∙◌, arith}
-use Rattle.crn_graph.proofs.RankLaws.{IsEntered, enter_room, entered_ranks, entered_keeps, entered_place, keeps_then}
+use Rattle.crn_graph.proofs.RankEntered.{IsEntered, entered_ranks, entered_keeps, entered_place}
+use Rattle.crn_graph.proofs.RankCalls.{enter_room, keeps_then}
 use Rattle.crn_graph.proofs.ranks.Ranking.explore.Goals as goal
 
 pub enter-requires : goal.enter-requires

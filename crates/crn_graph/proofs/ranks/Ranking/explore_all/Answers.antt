@@ -2,7 +2,7 @@ use Rattle.std.proofs.Common.{◌∙◌, inl, inr, ap, arith}
 use Rattle.std.proofs.lemmas.Bool.{cases_eq}
 use Rattle.std.proofs.lemmas.List.{get_or_read}
 use Rattle.crn_graph.specs.Inner.Ranks.{place_at}
-use Rattle.crn_graph.proofs.RankLaws.{all_ranks}
+use Rattle.crn_graph.proofs.RankCalls.{all_ranks}
 use Rattle.crn_graph.proofs.ranks.Ranking.explore_all.Goals as goal
 
 pub index-requires : goal.index-requires

@@ -2,7 +2,8 @@ use Rattle.std.proofs.Common.{◌≡◌, ◌<◌, ◌+◌, ◌-◌, ℕ, List, l
 use Rattle.std.specs.Prelude.{sum_by}
 use Rattle.std.proofs.lemmas.List.{get_or_read}
 use Rattle.crn_graph.specs.Inner.Ranks.{rest_at}
-use Rattle.crn_graph.proofs.RankLaws.{IsTaken, last_inside, head_arc, took_ranks, took_less}
+use Rattle.crn_graph.proofs.RankFollowed.{IsTaken, took_ranks, took_less}
+use Rattle.crn_graph.proofs.RankCalls.{last_inside, head_arc}
 use Rattle.crn_graph.proofs.ranks.Ranking.follow.Goals as goal
 
 pub index-requires : goal.index-requires

@@ -1,7 +1,8 @@
 use Rattle.std.proofs.Common.{◌≡◌, ◌-◌, ◌∙◌, refl, sym, ap, arith}
 use Rattle.std.proofs.lemmas.List.{get_or_read}
 use Rattle.crn_graph.specs.Inner.Ranks.{open_at, rest_at}
-use Rattle.crn_graph.proofs.RankLaws.{open_end, held_room, dropped_ranks}
+use Rattle.crn_graph.proofs.RankFollowed.{dropped_ranks}
+use Rattle.crn_graph.proofs.RankCalls.{open_end, held_room}
 use Rattle.crn_graph.proofs.ranks.Ranking.go_on.Goals as goal
 
 pub index-y-requires : goal.index-y-requires
