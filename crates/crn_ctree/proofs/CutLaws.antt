@@ -1,21 +1,20 @@
 -- The weights of multipliers at the coordinates of a part, and when they rule the part of a prefix out.
 use Rattle.std.proofs.Common.{◌≡◌, ◌≢◌, ℕ, zero, suc, ◌+◌, ◌-◌, ◌<◌, ◌≤◌, inl, inr, List, [], ◌∷◌, ◌++◌, length, map, get_or, drop, replicate, true, refl, sym, ap, subst, ◌∙◌, arith}
 use Rattle.std.specs.Prelude.{ℤ, pos, neg_ℤ, ◌↔◌}
-use Rattle.std.specs.List.{AllByRecursion, range_with_len}
+use Rattle.std.specs.List.{range_with_len}
 use Rattle.std.proofs.lemmas.List.{get_or_append_left, get_or-append_right, length-map, length-append, length-replicate}
 use Rattle.std.proofs.lemmas.List.FromFn.{get_or-map-range_with_len, length-range_with_len}
-use Rattle.crn_vec.specs.declared.limits.TheConstants.{WIDE_SOLUTION}
 use Rattle.crn_vec.specs.declared.signs.Sign.{Sign}
 use Rattle.crn_vec.specs.declared.signs.Kind.{Kind}
 use Rattle.crn_vec.specs.declared.signs.Kind.TheVariants.{Free, Zero as ZeroKind}
 use Rattle.crn_vec.specs.Network.{Net, IsNetwork, reaction_vector}
 use Rattle.crn_vec.specs.NetSystems.{reaction_system}
-use Rattle.crn_vec.specs.Vectors.{Mat, AreWithin, dot, entry, column}
+use Rattle.crn_vec.specs.Vectors.{Mat, dot, entry, column}
 use Rattle.crn_vec.specs.Elementary.{InDualSpace, width}
 use Rattle.crn_vec.specs.Systems.{AreRuling, IsCut, MayWeigh, is_signed, kind_at}
 use Rattle.crn_vec.specs.Concordance.{column_kind, row_kinds, kinds_a_of, kinds_b_of}
 use Rattle.crn_vec.proofs.CallerLemmas.{zip_from, kinds_at, weights_tell_cuts, networks_have_tables, lt_or, past_end, rows_count, length-rows}
-use Rattle.crn_cert.specs.Ranges.{AreFree, IsNarrow}
+use Rattle.crn_cert.specs.Ranges.{AreFree}
 use Rattle.crn_ctree.specs.Problem.{problem_of, table_of}
 use Rattle.crn_ctree.specs.declared.problem.InfluenceTable.{InfluenceTable}
 use Rattle.crn_ctree.specs.declared.problem.Problem.{Problem}
@@ -24,10 +23,6 @@ use Rattle.crn_ctree.specs.declared.cut.Part.{Part}
 use Rattle.crn_ctree.specs.declared.cut.Part.TheVariants.{A, B}
 use Rattle.crn_ctree.specs.Inner.Kinds.{kinds_of, matrix_of, weights_of}
 use Rattle.crn_ctree.proofs.KindLaws.{part_b_is, table_long}
-
-pub within_narrow : (u : List ℤ) → AllByRecursion IsNarrow u → AreWithin WIDE_SOLUTION u
-within_narrow [] h = tt
-within_narrow (x ∷ u) h = (omega (arith, h.0), within_narrow u h.1)
 
 -- ---- the weights
 

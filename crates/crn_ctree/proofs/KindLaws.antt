@@ -13,7 +13,7 @@ use Rattle.crn_vec.specs.Systems.{kind_at}
 use Rattle.crn_vec.specs.Problems.{opposite, all_zero}
 use Rattle.crn_vec.specs.Concordance.{sign, product, products, is_plus, is_minus, some_sign, kind_of_sum, column_kind, row_kinds, kinds_a_of, kinds_b_of}
 use Rattle.crn_vec.specs.Influence.{strong_table}
-use Rattle.crn_vec.proofs.CallerLemmas.{sign_is}
+use Rattle.crn_vec.proofs.CallerLemmas.{sign_is, plus-opposite, minus-opposite, sum-opposite, cond-opposite}
 use Rattle.crn_vec.specs.NetSystems.{reaction_system}
 use Rattle.crn_ctree.specs.Problem.{problem_of, table_of}
 use Rattle.crn_ctree.specs.declared.problem.Problem.{Problem}
@@ -112,16 +112,6 @@ product-opposite Minus Zero = refl
 product-opposite Minus Plus = refl
 product-opposite Minus Minus = refl
 
-plus-opposite : (s : Sign) → is_plus (opposite s) ≡ is_minus s
-plus-opposite Zero = refl
-plus-opposite Plus = refl
-plus-opposite Minus = refl
-
-minus-opposite : (s : Sign) → is_minus (opposite s) ≡ is_plus s
-minus-opposite Zero = refl
-minus-opposite Plus = refl
-minus-opposite Minus = refl
-
 some_turned : (test test' : Sign → Bool) → ((s : Sign) → test (opposite s) ≡ test' s) → (ss p : List Sign) → some_sign test (products (map opposite ss) p) ≡ some_sign test' (products ss p)
 some_turned test test' h [] p = refl
 some_turned test test' h (s ∷ ss) [] = refl
@@ -134,16 +124,6 @@ zeros_turned zero [] = refl
 zeros_turned zero (Zero ∷ ss) = zeros_turned zero ss
 zeros_turned zero (Plus ∷ ss) = refl
 zeros_turned zero (Minus ∷ ss) = refl
-
-sum-opposite : (a b : Bool) → kind_of_sum b a ≡ opposite_kind (kind_of_sum a b)
-sum-opposite true true = refl
-sum-opposite true false = refl
-sum-opposite false true = refl
-sum-opposite false false = refl
-
-cond-opposite : (b : Bool) (κ : Kind) → cond b (opposite_kind κ) Free ≡ opposite_kind (cond b κ Free)
-cond-opposite true κ = refl
-cond-opposite false κ = refl
 
 column_turned : (ss p : List Sign) → column_kind (map opposite ss) p ≡ opposite_kind (column_kind ss p)
 column_turned ss p =

@@ -7,26 +7,23 @@ use Rattle.std.proofs.lemmas.Bool.{false≢true}
 use Rattle.std.proofs.lemmas.List.{get_or-map, length-map, ext_get_or}
 use Rattle.std.proofs.lemmas.List.FromFn.{get_or-map-range_with_len}
 use Rattle.crn_vec.specs.declared.signs.Sign.{Sign}
-use Rattle.crn_vec.specs.declared.signs.Sign.TheVariants.{Zero, Plus, Minus}
+use Rattle.crn_vec.specs.declared.signs.Sign.TheVariants.{Zero}
 use Rattle.crn_vec.specs.declared.signs.Kind.{Kind}
 use Rattle.crn_vec.specs.declared.signs.Kind.TheVariants.{Pos, Neg, Free}
-use Rattle.crn_vec.specs.Network.{Net, IsNetwork, reaction_vector}
+use Rattle.crn_vec.specs.Network.{Net, IsNetwork}
 use Rattle.crn_vec.specs.Deficiency.{vectors}
 use Rattle.crn_vec.specs.NetSystems.{reaction_system, by_species}
 use Rattle.crn_vec.specs.Vectors.{dot, entry, column}
 use Rattle.crn_vec.specs.Systems.{HasKind}
 use Rattle.crn_vec.specs.Problems.{all_zero}
-use Rattle.crn_vec.specs.Concordance.{IsDiscordant, GoesWith, IsNought, HasPositive, HasNegative, image, shares, signed_by, sign, product, products, is_plus, is_minus, some_sign, kind_of_sum, column_kind, IsTable}
-use Rattle.crn_vec.proofs.CallerLemmas.{entry-column, networks_have_tables, rows_count}
+use Rattle.crn_vec.specs.Concordance.{IsDiscordant, GoesWith, IsNought, HasPositive, HasNegative, image, shares, sign, products, is_plus, is_minus, some_sign, kind_of_sum, column_kind, IsTable}
+use Rattle.crn_vec.proofs.CallerLemmas.{networks_have_tables, rows_count, share_sign}
 use Rattle.crn_ctree.specs.Inner.Pairs.{AreOfColumns}
 use Rattle.crn_ctree.specs.Problem.{table_of}
 use Rattle.crn_ctree.specs.declared.problem.InfluenceTable.{InfluenceTable}
 use Rattle.crn_ctree.specs.declared.problem.InfluenceTable.TheVariants.{Plain, Strong}
 
 -- ---- the sum of the reaction vectors
-
-pub vector_entry : (net : Net) (s r : ℕ) → r < length net.reactions → entry (column (vectors net) s) r ≡ entry (reaction_vector net (get_or net.reactions r (0, 0))) s
-vector_entry net s r lt = entry-column (vectors net) s r ∙ ap (λ (v : List ℤ). entry v s) (get_or-map (reaction_vector net) net.reactions r (0, 0) [] lt)
 
 -- its entry at a species
 pub image_entry : (net : Net) (z : List ℤ) (s : ℕ) → s < length net.names → dot (column (vectors net) s) z ≡ entry (image (reaction_system net) z) s
@@ -75,13 +72,6 @@ not_zero_some (pos (suc n) ∷ xs) e = inl (inl (omega (arith, ints)))
 not_zero_some (negsuc n ∷ xs) e = inr (inl (omega (arith, ints)))
 
 -- ---- signs of shares
-
-share_sign : (s : Sign) (x : ℤ) → sign (signed_by s x) ≡ product s (sign x)
-share_sign Zero x = refl
-share_sign Plus x = refl
-share_sign Minus (pos zero) = refl
-share_sign Minus (pos (suc n)) = refl
-share_sign Minus (negsuc n) = refl
 
 signs-shares : (ss : List Sign) (xs : List ℤ) → map sign (shares ss xs) ≡ products ss (map sign xs)
 signs-shares [] xs = refl

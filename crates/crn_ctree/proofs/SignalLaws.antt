@@ -1,40 +1,30 @@
 -- When a shelving, numbers of the species, a level and weights are a signal over a shape, row by row.
-use Rattle.std.proofs.Common.{inl, inr, ◌≡◌, ◌≢◌, ℕ, suc, ◌+◌, ◌*◌, ◌<◌, ◌≤◌, ◌^◌, List, [], ◌∷◌, length, map, get_or, slice_set, cond, Bool, refl, sym, ap, subst, ◌∙◌, arith}
-use Rattle.std.specs.Prelude.{ℤ, pos, ◌*ℤ◌, ◌-ℤ◌, Option, Some, None, nat_lt, unsigned_abs}
+use Rattle.std.proofs.Common.{inl, inr, ◌≡◌, ◌≢◌, ℕ, ◌+◌, ◌*◌, ◌<◌, ◌≤◌, ◌^◌, List, [], ◌∷◌, length, map, get_or, slice_set, sym, ap, subst, ◌∙◌, arith}
+use Rattle.std.specs.Prelude.{ℤ, pos, ◌*ℤ◌, ◌-ℤ◌, Option, Some, unsigned_abs}
 use Rattle.std.specs.List.{AllZip, AllByRecursion}
 use lib.IntN.{*ℤ_comm}
 use Rattle.std.proofs.lemmas.Int.{ints}
-use Rattle.std.proofs.lemmas.Bool.{lt-ltb}
 use Rattle.std.proofs.lemmas.List.{ext_get_or, get_or-map, get_or-set_same, get_or-set_other, length-map}
 use Rattle.crn_vec.specs.declared.limits.TheConstants.{MAX_AMOUNT, MAX_SPECIES, WIDE_SOLUTION}
 use Rattle.crn_vec.specs.declared.signs.Sign.{Sign}
-use Rattle.crn_vec.specs.declared.signs.Sign.TheVariants.{Zero, Plus, Minus}
+use Rattle.crn_vec.specs.declared.signs.Sign.TheVariants.{Zero}
 use Rattle.crn_vec.specs.declared.signs.Kind.{Kind}
-use Rattle.crn_vec.specs.declared.signs.Kind.TheVariants.{Free}
 use Rattle.crn_vec.specs.Network.{Net, minus}
 use Rattle.crn_vec.specs.NetSystems.{reaction_system}
 use Rattle.crn_vec.specs.Vectors.{AreWithin, HasSign, dot, entry}
 use Rattle.crn_vec.specs.Systems.{HasKind}
-use Rattle.crn_vec.specs.Problems.{opposite}
-use Rattle.crn_vec.specs.Concordance.{image, kind_of_sign, sign}
-use Rattle.crn_vec.specs.Signals.{Pair, Shape, complex_at, shelf_at, shelf_of, HasPairSign, IsSignal, IsShape, top_kind, pair_kind, pair_kind_by}
-use Rattle.crn_vec.proofs.CallerLemmas.{dot_none, mul-sub, product_within, sum_within, past_end, lt_or, eq_or}
+use Rattle.crn_vec.specs.Concordance.{image, sign}
+use Rattle.crn_vec.specs.Signals.{Pair, Shape, complex_at, shelf_at, shelf_of, HasPairSign, IsSignal, IsShape, top_kind, pair_kind}
+use Rattle.crn_vec.proofs.CallerLemmas.{dot_none, mul-sub, past_end, lt_or, eq_or, kind_has, has_kind, pair_has, has_pair, top_full, pair_full}
+use Rattle.crn_shape.proofs.CallerLemmas.{narrow_within, dot_within}
 use Rattle.crn_cert.specs.Ranges.{IsNarrow}
 use Rattle.crn_ctree.specs.Inner.Signals.{AreOnShelves, DoTurn}
-use Rattle.crn_ctree.proofs.CutLaws.{within_narrow}
 
 -- ---- sizes
 
-dot_within : (m k : ℕ) (xs ys : List ℤ) → AreWithin m xs → AreWithin k ys → unsigned_abs (dot xs ys) ≤ length xs * (m * k)
-dot_within m k [] ys f g = omega arith
-dot_within m k (x ∷ xs) [] f g = omega arith
-dot_within m k (x ∷ xs) (y ∷ ys) f g =
-    let more = sum_within (x *ℤ y) (dot xs ys) (m * k) (length xs * (m * k)) (product_within x y m k f.0 g.0) (dot_within m k xs ys f.1 g.1) in
-    omega (arith, more)
-
 -- a sum over few species is small
 pub dot_small : (mu y : List ℤ) → length mu ≤ MAX_SPECIES → AllByRecursion IsNarrow mu → AreWithin MAX_AMOUNT y → unsigned_abs (dot mu y) < 2 ^ 126
-dot_small mu y few narrow small = omega (arith, few, dot_within WIDE_SOLUTION MAX_AMOUNT mu y (within_narrow mu narrow) small)
+dot_small mu y few narrow small = omega (arith, few, dot_within WIDE_SOLUTION MAX_AMOUNT mu y (narrow_within mu narrow) small)
 
 -- ---- differences
 
@@ -45,36 +35,6 @@ dot-minus (u ∷ mu) (x ∷ a) [] h = absurd (omega (arith, h))
 dot-minus (u ∷ mu) (x ∷ a) (y ∷ b) h = omega (arith, ints, mul-sub u x y, *ℤ_comm u x, *ℤ_comm u y, dot-minus mu a b (omega (arith, h)))
 
 -- ---- signs and kinds
-
-kind_has : (t : Sign) (x : ℤ) → HasSign t x → HasKind (kind_of_sign t) x
-kind_has Zero x h = h
-kind_has Plus x h = h
-kind_has Minus x h = h
-
-has_kind : (t : Sign) (x : ℤ) → HasKind (kind_of_sign t) x → HasSign t x
-has_kind Zero x h = h
-has_kind Plus x h = h
-has_kind Minus x h = h
-
-pair_has : (t : Sign) (h x : ℤ) → HasPairSign t h x → HasKind (pair_kind_by t h) x
-pair_has Zero h x k = tt
-pair_has Plus h x k = kind_has (sign h) x k
-pair_has Minus h x k = kind_has (opposite (sign h)) x k
-
-has_pair : (t : Sign) (h x : ℤ) → HasKind (pair_kind_by t h) x → HasPairSign t h x
-has_pair Zero h x k = tt
-has_pair Plus h x k = has_kind (sign h) x k
-has_pair Minus h x k = has_kind (opposite (sign h)) x k
-
-chosen : (k n : ℕ) (κ : Kind) → k < n → cond (nat_lt k n) κ Free ≡ κ
-chosen k n κ lt = ap (λ (b : Bool). cond b κ Free) (lt-ltb k n lt)
-
-top_full : (shelves : List Sign) (n : ℕ) (top : Option ℕ) → length shelves ≡ n → ((k : ℕ) → top ≡ Some k → k < n) → top_kind shelves top ≡ kind_of_sign (shelf_of shelves top)
-top_full shelves n None e h = refl
-top_full shelves n (Some k) e h = chosen k (length shelves) (kind_of_sign (shelf_at shelves k)) (omega (arith, h k refl, e))
-
-pair_full : (shelves : List Sign) (n : ℕ) (pair : Pair) → length shelves ≡ n → pair.top < n → pair_kind shelves pair ≡ pair_kind_by (shelf_at shelves pair.top) pair.sum
-pair_full shelves n pair e h = chosen pair.top (length shelves) (pair_kind_by (shelf_at shelves pair.top) pair.sum) (omega (arith, h, e))
 
 -- ---- complexes
 
@@ -186,10 +146,6 @@ kind_next kind number i {κ} {x} h e f last j lt = elim (eq_or j i) as (λ _. Ha
   | inl same ↦ subst (λ (k : ℕ). HasKind (kind k) (number k)) (sym same) (has_both (sym e) (sym f) last)
   | inr other ↦ h j (omega (arith, lt, other))
 ]
-
-pub all_given : {A : Type 0} (P : A → Type 0) (xs : List A) (d : A) → ((k : ℕ) → k < length xs → P (get_or xs k d)) → AllByRecursion P xs
-all_given P [] d h = tt
-all_given P (x ∷ xs) d h = (h 0 (omega arith), all_given P xs d (λ k lt. h (suc k) (omega (arith, lt))))
 
 -- ---- equal signs
 

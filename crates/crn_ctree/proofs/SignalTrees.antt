@@ -77,12 +77,9 @@ alike_trees H K f part p (RulesA u) = (record { holds = f p _; part = refl; code
 alike_trees H K f part p (RulesB u) = (record { holds = f p _; part = refl; code = refl }, tt)
 alike_trees H K f part p Level = (record { holds = f p _; part = refl; code = refl }, tt)
 
-back : {A B : Type 0} → A ↔ B → B ↔ A
-back h = (h.1, h.0)
-
 pub first_signal_faults : FirstSignalFaultsAreThoseOfTests
 first_signal_faults net known turn g s ra rb part tree start more node due vector sh formed are passes bad =
     let w = signals s (reaction_system net) in
     alike_fails (tree_tests (Fits w) part [] tree) (tree_tests (IsNodeOf net known turn) part [] tree) _ (code_at node)
-    (alike_trees (Fits w) (IsNodeOf net known turn) (λ p said. back (signal_nodes net known turn g s p said vector sh)) part [] tree)
+    (alike_trees (Fits w) (IsNodeOf net known turn) (λ p said. let h = signal_nodes net known turn g s p said vector sh in (h.1, h.0)) part [] tree)
     (first_faults w ra rb part tree start more node due formed are passes bad)

@@ -1,7 +1,8 @@
 -- Lists of signs by the places at which they are not zero: the kinds of columns, and which multipliers are cuts.
 use Rattle.std.proofs.Common.{◌≡◌, ◌≢◌, ℕ, zero, suc, ◌+◌, ◌-◌, ◌<◌, ◌≤◌, ◌⊎◌, inl, inr, List, [], ◌∷◌, length, map, get_or, drop, Bool, drop-cons, true, false, cond, refl, sym, ap, ap₂, subst, ◌∙◌, arith}
-use Rattle.std.specs.Prelude.{ℤ, pos, negsuc, ◌↔◌, ◌||◌, nat_lt, IsTrue}
+use Rattle.std.specs.Prelude.{ℤ, pos, negsuc, ◌↔◌, ◌||◌, IsTrue}
 use Rattle.std.proofs.lemmas.Int.{ints}
+use Rattle.std.proofs.Math.Bool.{or-false}
 use Rattle.std.proofs.lemmas.Bool.{eq-eqb, lt-ltb, le-ltb, false≢true}
 use Rattle.std.proofs.lemmas.List.{get_or-map, length-map}
 use Rattle.crn_vec.specs.declared.signs.Sign.{Sign}
@@ -24,7 +25,7 @@ use Rattle.crn_ctree.specs.declared.cut.Part.{Part}
 use Rattle.crn_ctree.specs.declared.spots.Spot.{Spot}
 use Rattle.crn_ctree.specs.Inner.Kinds.{column_from, kinds_of, matrix_of, opposite_kind, weights_of}
 use Rattle.crn_ctree.specs.Inner.Spots.{AllWeigh, AreBelow, SomeSigned, column_numbers, columns_of, row_spots, rows_by, spots_from, spots_kind}
-use Rattle.crn_vec.proofs.CallerLemmas.{lt_or, past_end}
+use Rattle.crn_vec.proofs.CallerLemmas.{lt_or, past_end, weigh_zero}
 use Rattle.crn_ctree.proofs.KindLaws.{column_closed, column_more, strong_column}
 use Rattle.crn_ctree.proofs.CutLaws.{CountsTo, weights_long, cut_from, cut_weighs, cut_counts}
 
@@ -48,10 +49,6 @@ column_step raised lowered s t ss p =
     ap₂ (λ (a b : Bool). cond (all_zero (drop (length p) ss)) (kind_of_sum a b) Free)
     (sym (or_by raised (is_plus (product s t)) (some_sign is_plus (products ss p))))
     (sym (or_by lowered (is_minus (product s t)) (some_sign is_minus (products ss p))))
-
-no_more : (r : Bool) → r ≡ (r || false)
-no_more true = refl
-no_more false = refl
 
 not_yet : (s : Sign) (raised lowered : Bool) (k : ℕ) (spots : List Spot) (p : List Sign) → length p ≤ k → spots_kind raised lowered (record { place = k; sign = s } ∷ spots) p ≡ Free
 not_yet s raised lowered k spots p le = rw (le-ltb k (length p) le) refl
@@ -98,7 +95,7 @@ at_sign s raised lowered k ss p shut more = elim (lt_or k (length p)) as (λ _. 
 ]
 
 pub kind_by_spots : (raised lowered : Bool) (k : ℕ) (ss p : List Sign) → spots_kind raised lowered (spots_from k ss) p ≡ column_from raised lowered ss (drop k p)
-kind_by_spots raised lowered k [] p = ap₂ kind_of_sum (no_more raised) (no_more lowered) ∙ closed_none raised lowered (drop k p)
+kind_by_spots raised lowered k [] p = ap₂ kind_of_sum (sym (or-false raised)) (sym (or-false lowered)) ∙ closed_none raised lowered (drop k p)
 kind_by_spots raised lowered k (Zero ∷ ss) p = kind_by_spots raised lowered (suc k) ss p ∙ skip_zero raised lowered k ss p
 kind_by_spots raised lowered k (Plus ∷ ss) p = at_sign Plus raised lowered k ss p refl (λ r l. kind_by_spots r l (suc k) ss p)
 kind_by_spots raised lowered k (Minus ∷ ss) p = at_sign Minus raised lowered k ss p refl (λ r l. kind_by_spots r l (suc k) ss p)
@@ -116,13 +113,6 @@ strong_spots net r p κ κ' lt h g =
     strong_column net r v p κ κ' lt refl (h ∙ kind_by_spots false false 0 (map sign v) p) g
 
 -- ---- the weights
-
-weigh_zero : (κ : Kind) → MayWeigh κ (pos 0)
-weigh_zero Pos = omega (arith, ints)
-weigh_zero Neg = omega (arith, ints)
-weigh_zero NonNeg = omega (arith, ints)
-weigh_zero ZeroKind = tt
-weigh_zero Free = refl
 
 weigh_plus : (κ : Kind) (n : ℕ) → MayWeigh κ (pos 1) → MayWeigh κ (pos (suc n))
 weigh_plus Pos n h = omega (arith, ints)

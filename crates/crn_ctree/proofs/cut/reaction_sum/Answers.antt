@@ -2,11 +2,12 @@ use Rattle.std.proofs.Common.{ap, ◌∙◌}
 use Rattle.std.specs.Int.{w128}
 use Rattle.std.proofs.lemmas.Int.{to_z-of_z}
 use Rattle.crn_vec.specs.Vectors.{dot}
-use Rattle.crn_ctree.proofs.CutLaws.{within_narrow, reaction_column}
+use Rattle.crn_shape.proofs.CallerLemmas.{narrow_within}
+use Rattle.crn_ctree.proofs.CutLaws.{reaction_column}
 use Rattle.crn_ctree.proofs.cut.reaction_sum.Goals as goal
 
 pub dot-requires-clause-a : goal.dot-requires-clause-a
-dot-requires-clause-a c = within_narrow c.args.u.now c.requires.numbers.each
+dot-requires-clause-a c = narrow_within c.args.u.now c.requires.numbers.each
 
 pub returns : goal.returns
 returns c =

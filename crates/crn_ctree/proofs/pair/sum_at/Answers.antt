@@ -5,8 +5,9 @@ use Rattle.crn_vec.specs.Vectors.{dot, column, entry}
 use Rattle.crn_vec.specs.Deficiency.{vectors}
 use Rattle.crn_vec.specs.declared.limits.TheConstants.{MAX_AMOUNT, WIDE_SOLUTION}
 use Rattle.crn_vec.proofs.CallerLemmas.{held, sum_within, dot_step, within_at, all_at, column_long}
+use Rattle.crn_cert.proofs.CallerLemmas.{vector_entry}
 use Rattle.crn_cert.specs.Ranges.{IsNarrow}
-use Rattle.crn_ctree.proofs.PairLaws.{vector_entry, image_entry}
+use Rattle.crn_ctree.proofs.PairLaws.{image_entry}
 use Rattle.crn_ctree.proofs.pair.sum_at.Goals as goal
 
 pub times-sum-requires-clause-x : goal.times-sum-requires-clause-x

@@ -4,9 +4,9 @@ use Rattle.std.proofs.lemmas.Int.{to_z-of_z}
 use Rattle.std.proofs.lemmas.Bool.{false≢true}
 use Rattle.crn_vec.specs.Signals.{pair_kind}
 use Rattle.crn_vec.specs.Systems.{HasKind}
-use Rattle.crn_vec.proofs.CallerLemmas.{all_at}
+use Rattle.crn_vec.proofs.CallerLemmas.{all_at, all_given}
 use Rattle.crn_shape.specs.Shapes.{no_pair}
-use Rattle.crn_ctree.proofs.SignalLaws.{all_given, change, has_both, kind_next}
+use Rattle.crn_ctree.proofs.SignalLaws.{change, has_both, kind_next}
 use Rattle.crn_ctree.proofs.signal.do_turn.Goals as goal
 
 pub returns-then-not-has_kind : goal.returns-then-not-has_kind

@@ -4,12 +4,12 @@ use Rattle.std.specs.Int.{w128}
 use Rattle.std.proofs.lemmas.Int.{to_z-of_z}
 use Rattle.crn_vec.specs.Vectors.{dot}
 use Rattle.crn_vec.proofs.CallerLemmas.{dot-comm}
-use Rattle.crn_ctree.proofs.CutLaws.{within_narrow}
+use Rattle.crn_shape.proofs.CallerLemmas.{narrow_within}
 use Rattle.crn_ctree.proofs.SignalLaws.{dot_small}
 use Rattle.crn_ctree.proofs.signal.height.Goals as goal
 
 pub dot-requires-clause-a : goal.dot-requires-clause-a
-dot-requires-clause-a c = within_narrow c.args.mu.now c.requires.mu.each
+dot-requires-clause-a c = narrow_within c.args.mu.now c.requires.mu.each
 
 pub minus-requires-clause-sum : goal.minus-requires-clause-sum
 minus-requires-clause-sum c =

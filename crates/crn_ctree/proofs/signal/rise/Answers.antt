@@ -4,13 +4,13 @@ use Rattle.std.proofs.lemmas.Int.{to_z-of_z}
 use Rattle.crn_vec.specs.Network.{minus}
 use Rattle.crn_vec.specs.Vectors.{dot}
 use Rattle.crn_vec.specs.Signals.{complex_at}
+use Rattle.crn_shape.proofs.CallerLemmas.{narrow_within}
 use Rattle.crn_shape.specs.Shapes.{no_pair}
-use Rattle.crn_ctree.proofs.CutLaws.{within_narrow}
 use Rattle.crn_ctree.proofs.SignalLaws.{dot-minus}
 use Rattle.crn_ctree.proofs.signal.rise.Goals as goal
 
 pub dot-requires-clause-a : goal.dot-requires-clause-a
-dot-requires-clause-a c = within_narrow c.args.mu.now c.requires.mu.each
+dot-requires-clause-a c = narrow_within c.args.mu.now c.requires.mu.each
 
 pub returns : goal.returns
 returns c =
