@@ -8,6 +8,8 @@ use Rattle.std.proofs.lemmas.List.{append-nil, append_cancel_left, length-map}
 use Rattle.crn_vec.specs.Network.{Net}
 use Rattle.crn_vec.specs.Deficiency.{AreAtMostOne}
 use Rattle.crn_vec.specs.Kept.{KeptNums}
+use Rattle.crn_vec.proofs.CallerLemmas.{abs_back}
+use Rattle.crn_cert.proofs.CallerLemmas.{numbers_alike}
 use Rattle.crn_cert.specs.Trees.{Plan}
 use Rattle.crn_cert.specs.declared.answer.Gap.TheVariants.{Wide, Budget, Rests}
 use Rattle.crn_cert.specs.declared.answer.Verdict.{Verdict}
@@ -45,7 +47,7 @@ use Rattle.crn_ctext.proofs.ConfluenceLinked.{regular_linked, confluence_tied}
 use Rattle.crn_ctext.proofs.Alike.{IsAlike, alike_then, labels_alike, counts_alike, ranks_alike}
 use Rattle.crn_ctext.proofs.TestsAlike.{zero_alike, number_alike, one_alike, split_alike}
 use Rattle.crn_ctext.proofs.MeaningShort.{lists_counted}
-use Rattle.crn_ctext.proofs.RanksLinked.{back_again, between, free_fits, rank_fits, rank_said, places_from, sizes_from, classes_fit, classes_said, said_again, proofs_alike, numbers_alike, tests_alike, basis_alike, places_at, number_then, wide_fits}
+use Rattle.crn_ctext.proofs.RanksLinked.{between, free_fits, rank_fits, rank_said, places_from, sizes_from, classes_fit, classes_said, said_again, proofs_alike, tests_alike, basis_alike, places_at, number_then, wide_fits}
 
 -- ---- linkage classes
 
@@ -65,9 +67,9 @@ linkage_linked known earlier (Classes count label) (Forest up depth) f =
         trees = refl;
       };
       heads = refl;
-      rows = ap₂ (λ (x y : List ℕ). linkage_tests known.net count x y (map nat_abs (map pos depth.list))) (back_again label.list) (back_again up.list) ∙ ap (λ (z : List ℕ). linkage_tests known.net count label.list up.list z) (back_again depth.list);
-      says = ap (λ (x : List ℕ). Classes count (record { list = x; spare = 0 })) (back_again label.list);
-      shows = ap₂ (λ (x y : List ℕ). (Forest (record { list = x; spare = 0 }) (record { list = y; spare = 0 }), [])) (back_again up.list) (back_again depth.list);
+      rows = ap₂ (λ (x y : List ℕ). linkage_tests known.net count x y (map nat_abs (map pos depth.list))) (abs_back label.list) (abs_back up.list) ∙ ap (λ (z : List ℕ). linkage_tests known.net count label.list up.list z) (abs_back depth.list);
+      says = ap (λ (x : List ℕ). Classes count (record { list = x; spare = 0 })) (abs_back label.list);
+      shows = ap₂ (λ (x y : List ℕ). (Forest (record { list = x; spare = 0 }) (record { list = y; spare = 0 }), [])) (abs_back up.list) (abs_back depth.list);
     }
 linkage_linked known earlier (Unknown (Wide system class index basis)) p f = absurd f.0
 linkage_linked known earlier (Unknown (Budget nodes)) p f = absurd f.0
@@ -120,14 +122,14 @@ strong_linked known earlier (Strong count terminal label exit) (StrongTrees from
         trees = refl;
       };
       heads = refl;
-      rows = ap₂ (λ (x y : List ℕ). strong_tests net count terminal x y (twice from_depth.list) (twice to.list) (twice to_depth.list) (twice level.list) (twice exit.list)) (back_again label.list) (back_again from.list)
-          ∙ ap₂ (λ (x y : List ℕ). strong_tests net count terminal label.list from.list x y (twice to_depth.list) (twice level.list) (twice exit.list)) (back_again from_depth.list) (back_again to.list)
-          ∙ ap₂ (λ (x y : List ℕ). strong_tests net count terminal label.list from.list from_depth.list to.list x y (twice exit.list)) (back_again to_depth.list) (back_again level.list)
-          ∙ ap (λ (x : List ℕ). strong_tests net count terminal label.list from.list from_depth.list to.list to_depth.list level.list x) (back_again exit.list);
-      says = ap₂ (λ (x y : List ℕ). Strong count terminal (record { list = x; spare = 0 }) (record { list = y; spare = 0 })) (back_again label.list) (back_again exit.list);
-      shows = ap₂ (λ (x y : List ℕ). trees_shown x y (twice to.list) (twice to_depth.list) (twice level.list)) (back_again from.list) (back_again from_depth.list)
-          ∙ ap₂ (λ (x y : List ℕ). trees_shown from.list from_depth.list x y (twice level.list)) (back_again to.list) (back_again to_depth.list)
-          ∙ ap (λ (x : List ℕ). trees_shown from.list from_depth.list to.list to_depth.list x) (back_again level.list);
+      rows = ap₂ (λ (x y : List ℕ). strong_tests net count terminal x y (twice from_depth.list) (twice to.list) (twice to_depth.list) (twice level.list) (twice exit.list)) (abs_back label.list) (abs_back from.list)
+          ∙ ap₂ (λ (x y : List ℕ). strong_tests net count terminal label.list from.list x y (twice to_depth.list) (twice level.list) (twice exit.list)) (abs_back from_depth.list) (abs_back to.list)
+          ∙ ap₂ (λ (x y : List ℕ). strong_tests net count terminal label.list from.list from_depth.list to.list x y (twice exit.list)) (abs_back to_depth.list) (abs_back level.list)
+          ∙ ap (λ (x : List ℕ). strong_tests net count terminal label.list from.list from_depth.list to.list to_depth.list level.list x) (abs_back exit.list);
+      says = ap₂ (λ (x y : List ℕ). Strong count terminal (record { list = x; spare = 0 }) (record { list = y; spare = 0 })) (abs_back label.list) (abs_back exit.list);
+      shows = ap₂ (λ (x y : List ℕ). trees_shown x y (twice to.list) (twice to_depth.list) (twice level.list)) (abs_back from.list) (abs_back from_depth.list)
+          ∙ ap₂ (λ (x y : List ℕ). trees_shown from.list from_depth.list x y (twice level.list)) (abs_back to.list) (abs_back to_depth.list)
+          ∙ ap (λ (x : List ℕ). trees_shown from.list from_depth.list to.list to_depth.list x) (abs_back level.list);
     }
 strong_linked known earlier (Unknown (Wide system class index basis)) p f = absurd f.0
 strong_linked known earlier (Unknown (Budget nodes)) p f = absurd f.0
@@ -147,9 +149,9 @@ reversible_linked known earlier Yes (Back back) f =
     record {
       formed = record { head = (_, inl refl, (refl, refl)); rows = (small_fits (codes "back") r 1 r back.list f.1, tt); trees = refl };
       heads = refl;
-      rows = ap (λ (x : List ℕ). reverse_tests known.net x) (back_again back.list);
+      rows = ap (λ (x : List ℕ). reverse_tests known.net x) (abs_back back.list);
       says = refl;
-      shows = ap (λ (x : List ℕ). (Back (record { list = x; spare = 0 }), [])) (back_again back.list);
+      shows = ap (λ (x : List ℕ). (Back (record { list = x; spare = 0 }), [])) (abs_back back.list);
     }
 reversible_linked known earlier (NoReaction n) Nothing f =
     record {
@@ -207,7 +209,7 @@ rank_open known earlier index basis b =
       formed = record { head = (_, inr (inl refl), (refl, wide_fits 1 (length known.net.names) (length known.net.reactions) index basis.list b)); rows = tt; trees = refl };
       heads = refl;
       rows = refl;
-      says = ap (λ (x : List ℕ). Unknown (Wide 1 0 index (record { list = x; spare = 0 }))) (back_again basis.list);
+      says = ap (λ (x : List ℕ). Unknown (Wide 1 0 index (record { list = x; spare = 0 }))) (abs_back basis.list);
       shows = refl;
     }
 
@@ -228,7 +230,7 @@ rank_linked known earlier (Rank rank base) (RankRows p) f =
       };
       heads = refl;
       rows = ap (λ (r : RankProof). rank_tests net members 1 r.base.list r.duals r.combs) same;
-      says = ap (λ (x : List ℕ). Rank rank (record { list = x; spare = 0 })) (back_again p.base.list ∙ sym f.1.0);
+      says = ap (λ (x : List ℕ). Rank rank (record { list = x; spare = 0 })) (abs_back p.base.list ∙ sym f.1.0);
       shows = ap (λ (r : RankProof). shown (RankRows r)) same;
     }
 rank_linked known earlier (Unknown (Wide system class index basis)) p f = open_as known earlier Q5 system class index basis p 1 0 f.0.0 f.0.1 f.1 (rank_open known earlier index basis f.0.2)
@@ -247,7 +249,7 @@ deficiency_heads : (known : Known) (earlier : Earlier) (total : ℕ) (ds : List 
     ≡ deficiency_tests known.net total (linkage_count earlier) (rank_of (on earlier Q5)) (AreClassNumbers known.net earlier 1 ds)
 deficiency_heads known earlier total ds e =
     let net = known.net in
-    let numbers : AreClassNumbers net known.earlier 1 (map nat_abs (map pos ds)) ≡ AreClassNumbers net earlier 1 ds = ap (λ (xs : List ℕ). AreClassNumbers net known.earlier 1 xs) (back_again ds) ∙ numbers_alike net known.earlier earlier (labels_alike known.earlier earlier Q1 e) 1 ds in
+    let numbers : AreClassNumbers net known.earlier 1 (map nat_abs (map pos ds)) ≡ AreClassNumbers net earlier 1 ds = ap (λ (xs : List ℕ). AreClassNumbers net known.earlier 1 xs) (abs_back ds) ∙ numbers_alike net known.earlier earlier (labels_alike known.earlier earlier Q1 e) 1 ds in
     ap₂ (λ (count : ℕ) (rank : Option ℕ). deficiency_tests net total count rank (AreClassNumbers net known.earlier 1 (map nat_abs (map pos ds)))) (counts_alike known.earlier earlier Q1 e) (ranks_alike known.earlier earlier Q5 e)
     ∙ ap (λ (A : Type 0). deficiency_tests net total (linkage_count earlier) (rank_of (on earlier Q5)) A) numbers
 
@@ -285,7 +287,7 @@ deficiencies_linked known earlier total classes ps e most each proofs =
       };
       heads = deficiency_heads known earlier total ds e;
       rows = ap (λ (rs : List RankProof). class_rank_tests net known.earlier 1 1 rs) said ∙ tests_alike net known.earlier earlier labels 1 1 ps;
-      says = ap (λ (x : List ℕ). Deficiency total (record { list = x; spare = 0 })) (back_again ds);
+      says = ap (λ (x : List ℕ). Deficiency total (record { list = x; spare = 0 })) (abs_back ds);
       shows = ap (λ (rs : List RankProof). shown (Ranks rs)) said ∙ ap (λ (rs : List RankProof). (Ranks rs, [])) (said_again ps);
     }
 
@@ -323,7 +325,7 @@ deficiency_wide known earlier k index basis e few b =
       };
       heads = refl;
       rows = refl;
-      says = ap (λ (x : List ℕ). Unknown (Wide 3 (suc k) index (record { list = x; spare = 0 }))) (back_again basis.list);
+      says = ap (λ (x : List ℕ). Unknown (Wide 3 (suc k) index (record { list = x; spare = 0 }))) (abs_back basis.list);
       shows = refl;
     }
 
@@ -359,7 +361,7 @@ dependence_open known earlier index basis b =
       formed = record { head = (_, inr (inr (inl refl)), (refl, wide_fits 2 (length known.net.reactions) (length known.net.names) index basis.list b)); rows = tt; trees = refl };
       heads = refl;
       rows = refl;
-      says = ap (λ (x : List ℕ). Unknown (Wide 2 0 index (record { list = x; spare = 0 }))) (back_again basis.list);
+      says = ap (λ (x : List ℕ). Unknown (Wide 2 0 index (record { list = x; spare = 0 }))) (abs_back basis.list);
       shows = refl;
     }
 
@@ -381,7 +383,7 @@ conservation_open known earlier index basis b =
       formed = record { head = (_, inr (inr (inl refl)), (refl, wide_fits 1 (length known.net.names) (length known.net.reactions) index basis.list b)); rows = tt; trees = refl };
       heads = refl;
       rows = refl;
-      says = ap (λ (x : List ℕ). Unknown (Wide 1 0 index (record { list = x; spare = 0 }))) (back_again basis.list);
+      says = ap (λ (x : List ℕ). Unknown (Wide 1 0 index (record { list = x; spare = 0 }))) (abs_back basis.list);
       shows = refl;
     }
 

@@ -6,6 +6,7 @@ use Rattle.std.proofs.lemmas.Int.{ints}
 use Rattle.std.proofs.lemmas.List.{append-nil, length-map}
 use Rattle.crn_vec.specs.Kept.{KeptInts, KeptNums}
 use Rattle.crn_vec.specs.Network.{Net}
+use Rattle.crn_vec.proofs.CallerLemmas.{abs_back}
 use Rattle.crn_cert.specs.declared.answer.Gap.TheVariants.{Wide, Budget, Rests}
 use Rattle.crn_cert.specs.declared.answer.Verdict.{Verdict}
 use Rattle.crn_cert.specs.declared.answer.Verdict.TheVariants.{Yes, YesVec, NoTerminal, NoDependence, NoCycle, NotRegular, OnlyZero, Plane, Unknown}
@@ -29,7 +30,7 @@ use Rattle.crn_ctext.proofs.Alike.{IsAlike, counts_alike}
 use Rattle.crn_ctext.proofs.TestsAlike.{split_alike, pairs_alike, regular_alike, independent_alike, cycle_alike, sides_alike, regular_yes_alike, regular_no_alike, normal_moves, ties_alike, apart_moves}
 use Rattle.crn_ctext.proofs.KnownBefore.{IsStrong, pairs_known}
 use Rattle.crn_ctext.proofs.MeaningShort.{lists_counted}
-use Rattle.crn_ctext.proofs.RanksLinked.{back_again, between, free_fits, free_rows_fit, number_then, wide_fits}
+use Rattle.crn_ctext.proofs.RanksLinked.{between, free_fits, free_rows_fit, number_then, wide_fits}
 use Rattle.crn_ctext.proofs.Joined.{IsLinked, IsTied, both_hold, tied, answer, open_as}
 use Rattle.crn_ctext.proofs.Linking.{number_fits, class_fits, without_proof}
 
@@ -100,8 +101,8 @@ regular_cycle known earlier r walk e range w =
         trees = refl;
       };
       heads = cycle_alike known.net known.earlier earlier e r;
-      rows = ap (λ (x : List ℕ). walk_tests known.net r x) (back_again walk.list);
-      says = ap (λ (x : List ℕ). NoCycle r (record { list = x; spare = 0 })) (back_again walk.list);
+      rows = ap (λ (x : List ℕ). walk_tests known.net r x) (abs_back walk.list);
+      says = ap (λ (x : List ℕ). NoCycle r (record { list = x; spare = 0 })) (abs_back walk.list);
       shows = refl;
     }
 
@@ -261,7 +262,7 @@ confluence_open known earlier index basis e b =
       formed = record { head = (_, inr (inr (inr (inr (inl refl)))), (refl, wide_fits 4 c width index basis.list here)); rows = tt; trees = refl };
       heads = refl;
       rows = refl;
-      says = ap (λ (x : List ℕ). Unknown (Wide 4 0 index (record { list = x; spare = 0 }))) (back_again basis.list);
+      says = ap (λ (x : List ℕ). Unknown (Wide 4 0 index (record { list = x; spare = 0 }))) (abs_back basis.list);
       shows = refl;
     }
 

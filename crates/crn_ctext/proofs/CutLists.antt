@@ -6,7 +6,7 @@ use Rattle.std.proofs.lemmas.List.FromFn.{length-range_with_len}
 use Rattle.crn_vec.specs.Network.{Net, IsNetwork}
 use Rattle.crn_vec.specs.declared.signs.Sign.{Sign}
 use Rattle.crn_vec.specs.declared.signs.Sign.TheVariants.{Zero, Plus, Minus}
-use Rattle.crn_vec.proofs.CallerLemmas.{all_append, some_species, inside_at, reaction_in}
+use Rattle.crn_vec.proofs.CallerLemmas.{all_append, some_species, inside_at, reaction_in, filter_few}
 use Rattle.crn_io.specs.declared.lines.TheConstants.{MAX_NUMBERS}
 use Rattle.crn_cert.specs.declared.answer.Proof.{Proof}
 use Rattle.crn_cert.specs.Ranges.{AreFree}
@@ -16,7 +16,6 @@ use Rattle.crn_cert.specs.Questions.{Earlier, Q2, on, terminal_of}
 use Rattle.crn_cert.specs.Valid.{ends_at, is_within_terminal, is_least_of_pair, pair_places}
 use Rattle.crn_ctext.proofs.TablesLinked.{IsTreeOrNone}
 use Rattle.crn_ctext.proofs.SignalLinked.{HasSignalTrees}
-use Rattle.crn_ctext.proofs.MeaningShort.{filter_few}
 
 -- ---- species
 

@@ -1,5 +1,5 @@
 -- If two documents are equal, so are their networks, formed answers and shares, and they are of one version.
-use Rattle.std.proofs.Common.{◌≡◌, ◌+◌, ◌≤◌, ◌==◌, ◌++◌, ◌∙◌, ℕ, if◌then◌else◌, List, [], ◌∷◌, length, map, refl, sym, ap, ap₂, subst, inl, inr, append_assoc, arith}
+use Rattle.std.proofs.Common.{◌≡◌, ◌+◌, ◌≤◌, ◌==◌, ◌++◌, ◌∙◌, ℕ, if◌then◌else◌, List, [], ◌∷◌, length, map, refl, sym, ap, ap₂, subst, inl, inr, arith}
 use Rattle.std.specs.Prelude.{ℤ, pos, Bool, true, false, codes, decimal, slice_index}
 use Rattle.std.specs.List.{AllByRecursion, AllZip}
 use Rattle.std.specs.Str.{bytes_eq}
@@ -29,10 +29,11 @@ use Rattle.crn_ctext.proofs.FormWords.{words_yes}
 use Rattle.crn_ctext.proofs.Sayings.{AreWords}
 use Rattle.crn_ctext.proofs.NetworkLines.{ends_in, net_line}
 use Rattle.crn_ctext.proofs.DocumentsRead.{no_ends}
-use Rattle.crn_ctext.proofs.ShortAnswers.{AllPlain, formed_are_plain, plain_are_short, short_both}
+use Rattle.crn_ctext.proofs.ShortAnswers.{AllPlain, plain_are_short, short_both}
 use Rattle.crn_ctext.proofs.ShortLines.{text_lines_are_short}
-use Rattle.crn_ctext.proofs.MeaningShort.{IsSmall, networks_are_small, meaning_short}
 use Rattle.crn_ctext.proofs.AnswersApart.{AllWorded, worded_both, formed_are_worded, parted_worded, answers_apart, same_long}
+use Rattle.crn_ctext.proofs.Written.{first_ended}
+use Rattle.crn_ctext.proofs.DocumentsShort.{formed_plain}
 
 -- ---- lines
 
@@ -49,9 +50,6 @@ line_prefix (b ∷ l) (c ∷ k) x y p q e =
   where
     later : (b : ℕ) (bs : List ℕ) → (if b == 10 then 1 else 0) + ends_in bs ≡ 0 → ends_in bs ≡ 0
     later b bs e = omega (arith, e)
-
-first_ended : (l : List ℕ) (ls : List (List ℕ)) → ended (l ∷ ls) ≡ l ++ 10 ∷ ended ls
-first_ended l ls = append_assoc l (10 ∷ []) (ended ls)
 
 none_ended : (l : List ℕ) (x : List ℕ) → [] ≡ l ++ 10 ∷ x → ⊥
 none_ended [] x e = cc
@@ -117,10 +115,6 @@ texts_one version net other records others low n k p q e =
   where
     first_same : (x y : List ℕ) (xs ys : List (List ℕ)) → x ∷ xs ≡ y ∷ ys → (x ≡ y) × (xs ≡ ys)
     first_same x y xs ys e = (cc, cc)
-
--- the records of formed answers are plain
-formed_plain : (net : Net) (answers : List (List Record)) → IsNetwork net → AreFormedOf net answers → AllByRecursion AllPlain answers
-formed_plain net answers n f = formed_are_plain meaning IsSmall built (meaning.start net) answers meaning_short (networks_are_small net n) f
 
 pub document_one : (net other : Net) (answers others : List (List Record)) → IsNetwork net → IsNetwork other → AreFormedOf net answers → AreFormedOf other others → document net answers ≡ document other others → (net ≡ other) × (answers ≡ others)
 document_one net other answers others n k f g e =

@@ -413,7 +413,7 @@ all_light version net answers n f plain =
 -- ---- documents
 
 -- the records of formed answers are plain
-formed_plain : (net : Net) (answers : List (List Record)) → IsNetwork net → AreFormedOf net answers → AllByRecursion AllPlain answers
+pub formed_plain : (net : Net) (answers : List (List Record)) → IsNetwork net → AreFormedOf net answers → AllByRecursion AllPlain answers
 formed_plain net answers n f = formed_are_plain meaning IsSmall built (meaning.start net) answers meaning_short (networks_are_small net n) f
 
 -- a document of formed answers with few nodes is shorter than the bound

@@ -60,6 +60,12 @@ mod Linking
 mod ConfluenceLinked
 mod AnswersLinked
 mod PrefixesSaid
+mod PartsAnswered
+mod ClassesAnswered
+mod RanksAnswered
+mod TheoremsAnswered
+mod ConfluenceAnswered
+mod SignalsAnswered
 mod RecordsLinked
 mod TrueRecords
 mod FewNodes

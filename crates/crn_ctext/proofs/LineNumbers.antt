@@ -1,16 +1,16 @@
 -- Digits and numbers at the start of a line's bytes: what is read there is what the bytes before the first space spell.
-use Rattle.std.proofs.Common.{◌≡◌, ◌≢◌, ◌⊎◌, ◌≤◌, ◌<◌, ◌+◌, ◌-◌, ◌*◌, ◌++◌, ℕ, zero, suc, Bool, true, false, List, [], ◌∷◌, length, take, drop, get_or, min, cond, refl, sym, ap, subst, ◌∙◌, inl, inr, add-one, arith, to_z, of_z}
-use Rattle.std.specs.Prelude.{ℤ, pos, negsuc, neg_ℤ, ◌≤ℤ◌, ◌<ℤ◌, ◌-ℤ◌, ◌^◌, slice_index, codes, nat_lt}
+use Rattle.std.proofs.Common.{◌≡◌, ◌≢◌, ◌⊎◌, ◌≤◌, ◌<◌, ◌+◌, ◌-◌, ◌*◌, ◌++◌, ℕ, zero, suc, true, false, List, [], ◌∷◌, length, take, drop, get_or, min, refl, sym, ap, subst, ◌∙◌, inl, inr, add-one, arith, to_z, of_z}
+use Rattle.std.specs.Prelude.{ℤ, pos, negsuc, neg_ℤ, ◌≤ℤ◌, ◌<ℤ◌, ◌-ℤ◌, ◌^◌, nat_lt}
 use Rattle.std.specs.Int.{w128}
 use Rattle.std.specs.Char.{digit_value}
-use Rattle.std.specs.List.{AllByRecursion}
-use Rattle.std.specs.Str.Parse.{AllDigits, IsNumeral, digits_value, digits_value_after}
+use Rattle.std.specs.Str.Parse.{AllDigits, digits_value}
 use Rattle.std.proofs.lemmas.Bool.{le-ltb, lt-ltb}
 use Rattle.std.proofs.lemmas.Bool.Decides.{nat_tests}
 use Rattle.std.proofs.lemmas.Int.{ints}
 use Rattle.std.proofs.lemmas.Int.Digits.{digits_more, digits_value_more}
-use Rattle.std.proofs.lemmas.List.{append-nil, take-append-drop, drop_all}
+use Rattle.std.proofs.lemmas.List.{append-nil, drop_all}
 use Rattle.crn_vec.specs.declared.limits.TheConstants.{WIDE_SOLUTION}
+use Rattle.crn_text.proofs.CallerLemmas.{value_grows}
 use Rattle.crn_ctext.specs.Records.{IsNatural, IsSpelled, IsWord, BeginsWith}
 use Rattle.crn_ctext.specs.Inner.Line.{HasDigits, EndsAt, capped, HasNatural, HasNoNatural, HasNumber, HasNoNumber, IsTail}
 
@@ -118,17 +118,13 @@ natural_run bytes word value count n h b p =
     (subst (λ (t : List ℕ). count ≤ length t) cut.1 h.within) (subst (λ t. AllDigits 10 (take count t)) cut.1 h.digits)
     (subst (λ t. count < length t → digit_value (get_or t count 0) < 10 → ⊥) cut.1 h.stops))
 
-after_ge : (n : ℕ) (ds : List ℕ) → n ≤ digits_value_after 10 n ds
-after_ge n [] = omega arith
-after_ge n (c ∷ cs) = let h = after_ge (n * 10 + digit_value c) cs in omega (arith, h)
-
 digits_positive : (ds : List ℕ) → 0 < length ds → AllDigits 10 ds → get_or ds 0 0 ≢ 48 → 0 < digits_value 10 ds
 digits_positive [] lt d ne = absurd (omega (arith, lt))
 digits_positive (c ∷ cs) lt d ne =
     let low = digit_low c d.0 in
     let is = digit_is c low (digit_high c d.0) in
     let above : 48 < c = omega (arith, low, ne) in
-    let h = after_ge (0 * 10 + digit_value c) cs in
+    let h = value_grows (0 * 10 + digit_value c) cs in
     omega (arith, h, is, above)
 
 above_zero : (n : ℕ) → 0 < n → (m : ℕ) × (n ≡ suc m)

@@ -1,16 +1,16 @@
 -- The forms of the built questions are bounded.
 use Rattle.std.proofs.Common.{◌≡◌, ◌==◌, ◌≤◌, ◌+◌, ◌-◌, ◌++◌, ◌∙◌, ℕ, zero, suc, Bool, true, false, cond, if◌then◌else◌, List, [], ◌∷◌, length, map, refl, sym, ap, subst, inl, inr, arith}
-use Rattle.std.specs.Prelude.{ℤ, pos, negsuc, nat_abs, not, ◌&&◌, min, codes, replicate, slice_index, slice_index_or}
+use Rattle.std.specs.Prelude.{ℤ, pos, negsuc, nat_abs, ◌&&◌, min, codes, replicate, slice_index, slice_index_or}
 use Rattle.std.proofs.Math.Nat.{min-le_right}
 use Rattle.std.proofs.lemmas.Bool.{cases_Bool}
 use Rattle.std.proofs.lemmas.Int.{ints}
 use Rattle.std.proofs.lemmas.List.{append-nil, length-append, length-map}
-use Rattle.std.proofs.lemmas.List.Filters.{length-filter_both}
 use Rattle.std.proofs.lemmas.List.FromFn.{length-range_with_len}
 use Rattle.std.specs.List.{AllByRecursion, AllZip, filter, range_with_len}
 use Rattle.crn_vec.specs.Network.{Net, IsNetwork}
 use Rattle.crn_vec.specs.Deficiency.{class_members}
 use Rattle.crn_vec.specs.declared.limits.TheConstants.{MAX_SPECIES, MAX_COMPLEXES, MAX_REACTIONS}
+use Rattle.crn_vec.proofs.CallerLemmas.{filter_few}
 use Rattle.crn_cert.specs.declared.answer.Gap.{Gap}
 use Rattle.crn_cert.specs.declared.answer.Verdict.{Verdict}
 use Rattle.crn_cert.specs.declared.answer.Verdict.TheVariants.{NotApplicable, Unknown, Strong}
@@ -127,9 +127,6 @@ each_class P f p a (suc n) = (p a, each_class P f p (a + 1) n)
 each_length : (P : ℕ → Type 0) (lists : List (List ℕ)) → AllByRecursion (λ list. P (length list)) lists → AllByRecursion P (lengths lists)
 each_length P [] a = tt
 each_length P (list ∷ lists) a = (a.0, each_length P lists a.1)
-
-pub filter_few : (p : ℕ → Bool) (xs : List ℕ) → length (filter p xs) ≤ length xs
-filter_few p xs = omega (arith, length-filter_both p (λ (x : ℕ). not (p x)) (λ x. refl) xs)
 
 kept_all : (P : ℕ → Type 0) (p : ℕ → Bool) (xs : List ℕ) → AllByRecursion P xs → AllByRecursion P (filter p xs)
 kept_all P p [] a = tt

@@ -1,6 +1,6 @@
 -- Ranks as records: those of a formed proof fit its forms, say the proof, and follow from the forms; so for each linkage class.
 use Rattle.std.proofs.Common.{◌≡◌, ◌≢◌, ◌≤◌, ◌<◌, ◌+◌, ◌-◌, ◌==◌, ◌++◌, ◌∙◌, ℕ, zero, suc, List, [], ◌∷◌, length, map, take, drop, refl, sym, ap, ap₂, subst, inl, inr, arith}
-use Rattle.std.specs.Prelude.{ℤ, pos, negsuc, nat_abs, min, codes, replicate, slice_index, slice_index_or}
+use Rattle.std.specs.Prelude.{ℤ, pos, negsuc, nat_abs, codes, replicate, slice_index, slice_index_or}
 use Rattle.std.specs.List.{AllByRecursion, AllZip, filter, flat_map, range_with_len}
 use Rattle.std.proofs.lemmas.Int.{ints}
 use Rattle.std.proofs.lemmas.List.{append-nil, length-append, length-map, take_at, drop_at}
@@ -8,15 +8,15 @@ use Rattle.std.proofs.Math.Numerals.{add-one}
 use Rattle.crn_vec.specs.Lists.{IsIn, IsAscending}
 use Rattle.crn_vec.specs.Network.{Net}
 use Rattle.crn_vec.specs.Deficiency.{class_members}
-use Rattle.crn_vec.proofs.CallerLemmas.{eq_or, above_in, above_ascending, above_lower, filter_above, filter_ascending, all_from}
+use Rattle.crn_vec.proofs.CallerLemmas.{eq_or, above_in, above_ascending, all_from, abs_back}
 use Rattle.crn_cert.specs.declared.answer.RankProof.{RankProof}
 use Rattle.crn_cert.specs.Questions.{Earlier}
 use Rattle.crn_cert.specs.Tests.{Test}
 use Rattle.crn_cert.specs.Ranges.{AreFrom, AreFree, AreFreeRows}
 use Rattle.crn_cert.specs.Formed.{IsRankProof, AreClassProofs, IsBasisOf}
 use Rattle.crn_cert.specs.RankTests.{rank_tests}
-use Rattle.crn_cert.specs.Valid.{linkage, class_places, class_rank_tests, AreClassNumbers}
-use Rattle.crn_cert.proofs.CallerLemmas.{range_ascending}
+use Rattle.crn_cert.specs.Valid.{linkage, class_places, class_rank_tests}
+use Rattle.crn_cert.proofs.CallerLemmas.{class_ascending}
 use Rattle.crn_ctext.specs.Records.{Record, Form, Field, Rising, Members, Takes, AreNarrow, AreOf, AreBetween, AreRising, Fits}
 use Rattle.crn_ctext.specs.Kinds.{small, just, record_form, free_form}
 use Rattle.crn_ctext.specs.Questions.{rank_forms, class_forms}
@@ -26,10 +26,6 @@ use Rattle.crn_ctext.specs.Meaning.{Known, sizes_of, lengths, lists, rank_proof,
 use Rattle.crn_ctext.specs.Same.{said_rank}
 
 -- ---- numbers
-
-pub back_again : (xs : List ℕ) → map nat_abs (map pos xs) ≡ xs
-back_again [] = refl
-back_again (x ∷ xs) = ap (λ (t : List ℕ). x ∷ t) (back_again xs)
 
 pub between : (least greatest : ℕ) (xs : List ℕ) → AllByRecursion (λ x. (least ≤ x) × (x ≤ greatest)) xs → AreBetween (pos least) (pos greatest) (map pos xs)
 between least greatest [] p = tt
@@ -69,9 +65,6 @@ no_more (x ∷ xs) (y ∷ ys) a b h = elim (eq_or x y) [
 -- the reactions of a class by labels
 abbrev places_by : Net → List ℕ → ℕ → List ℕ
 places_by net labels k = filter (λ r. slice_index labels (slice_index_or net.reactions (r - 1) (0, 0)).0 == k) (range_with_len 1 (length net.reactions))
-
-places_ascending : (net : Net) (earlier : Earlier) (k : ℕ) → IsAscending (class_places net earlier k)
-places_ascending net earlier k = filter_ascending (λ r. slice_index (linkage earlier) (slice_index_or net.reactions (r - 1) (0, 0)).0 == k) (range_with_len 1 (length net.reactions)) (range_ascending 1 (length net.reactions))
 
 each_in : (P : ℕ → Type 0) (xs : List ℕ) → AllByRecursion P xs → (r : ℕ) → IsIn r xs → P r
 each_in P [] a r i = absurd i
@@ -189,7 +182,7 @@ rank_said rank p long =
     let all : rest ≡ p.duals ++ p.combs = lists_back p.duals p.combs in
     let duals : take rank rest ≡ p.duals = ap (λ (t : List (List ℤ)). take rank t) all ∙ take_at p.duals p.combs rank long in
     let combs : drop rank rest ≡ p.combs = ap (λ (t : List (List ℤ)). drop rank t) all ∙ drop_at p.duals p.combs rank long in
-    ap (λ (xs : List ℕ). proof_with xs (take rank rest) (drop rank rest)) (back_again p.base.list) ∙ ap₂ (λ (us vs : List (List ℤ)). proof_with p.base.list us vs) duals combs
+    ap (λ (xs : List ℕ). proof_with xs (take rank rest) (drop rank rest)) (abs_back p.base.list) ∙ ap₂ (λ (us vs : List (List ℤ)). proof_with p.base.list us vs) duals combs
 
 -- a formed proof over ascending members has a record for each of them and one more
 rank_counted : (net : Net) (members : List ℕ) (rank : ℕ) (p : RankProof) → IsAscending members → IsRankProof net members rank p → length (rank_records p) ≡ suc (length members)
@@ -257,7 +250,7 @@ classes_said net earlier k (d ∷ ds) (p ∷ ps) f =
     let g = f.0 in
     let gd = g.duals in
     let duals = gd.long in
-    let long : length (rank_records p) ≡ suc (length members) = rank_counted net members rank p (places_ascending net earlier k) g in
+    let long : length (rank_records p) ≡ suc (length members) = rank_counted net members rank p (class_ascending net earlier k) g in
     let prefix : take (suc (length members)) (rank_records p ++ rest) ≡ rank_records p = take_at (rank_records p) rest (suc (length members)) long in
     let back : drop (suc (length members)) (rank_records p ++ rest) ≡ rest = drop_at (rank_records p) rest (suc (length members)) long in
     let one : rank_proof rank (take (suc (length members)) (rank_records p ++ rest)) ≡ said_rank p = ap (λ (rs : List Record). rank_proof rank rs) prefix ∙ rank_said rank p duals in
@@ -276,11 +269,6 @@ proofs_alike net xs ys e k [] [] f = tt
 proofs_alike net xs ys e k [] (p ∷ ps) f = absurd f
 proofs_alike net xs ys e k (d ∷ ds) [] f = absurd f
 proofs_alike net xs ys e k (d ∷ ds) (p ∷ ps) f = (subst (λ (l : List ℕ). IsRankProof net (places_by net l k) (length (class_members l k) - 1 - d) p) e f.0, proofs_alike net xs ys e (suc k) ds ps f.1)
-
-pub numbers_alike : (net : Net) (xs ys : Earlier) → linkage xs ≡ linkage ys → (k : ℕ) (ds : List ℕ) → AreClassNumbers net xs k ds ≡ AreClassNumbers net ys k ds
-numbers_alike net xs ys e k [] = refl
-numbers_alike net xs ys e k (d ∷ ds) =
-    ap₂ (λ (A B : Type 0). A × B) (ap (λ (l : List ℕ). (d + 2 ≤ length (class_members l k)) × (length (class_members l k) ≤ d + 1 + min (length net.names) (length (places_by net l k)))) e) (numbers_alike net xs ys e (suc k) ds)
 
 pub tests_alike : (net : Net) (xs ys : Earlier) → linkage xs ≡ linkage ys → (part k : ℕ) (ps : List RankProof) → class_rank_tests net xs part k (map said_rank ps) ≡ class_rank_tests net ys part k ps
 tests_alike net xs ys e part k [] = refl
@@ -342,7 +330,7 @@ pub rising_back : (count greatest : ℕ) (zs : List ℤ) → (length zs ≡ coun
 rising_back count greatest zs t =
     let r = t.1 in
     let back = naturals_back 1 greatest zs r.3 in
-    let same : back.0 ≡ r.0 = sym (back_again back.0) ∙ ap (λ (t : List ℤ). map nat_abs t) (sym back.1 ∙ r.1) ∙ back_again r.0 in
+    let same : back.0 ≡ r.0 = sym (abs_back back.0) ∙ ap (λ (t : List ℤ). map nat_abs t) (sym back.1 ∙ r.1) ∙ abs_back r.0 in
     (back.0, back.1, record { long = sym (length-map back.0 pos) ∙ sym (ap length back.1) ∙ t.0; each = back.2 }, subst IsAscending (sym same) r.2)
 
 pub wide_back : (system columns rows : ℕ) (zs : List ℤ) → FitFields (just system ∷ just 0 ∷ small 1 1 (columns + rows) ∷ Rising columns (columns + rows) ∷ []) zs

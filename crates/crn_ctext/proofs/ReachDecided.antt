@@ -11,7 +11,7 @@ use Rattle.crn_vec.specs.Walks.{LeadsTo}
 use Rattle.crn_vec.specs.CutPairs.{IsBetween, IsFreeStep, IsOnSide, IsCutPair, IsTerminalPair, IsFirstOfPair, ArePairs}
 use Rattle.crn_vec.specs.Sums.{AreMarks}
 use Rattle.crn_vec.specs.NetSignals.{top_at, AreTops}
-use Rattle.crn_vec.proofs.CallerLemmas.{inside_at, reaction_in, reached_marks, leads_here, leads_keeps, leads_back, strong_here, strong_then, strong_back, terminal_on, top_inside, some_is, none_some, filter_from, filter_has, filter_ascending, range_ascending, in_range, free_back, is_between}
+use Rattle.crn_vec.proofs.CallerLemmas.{inside_at, reaction_in, reached_marks, leads_here, leads_keeps, leads_back, strong_here, strong_then, strong_back, terminal_on, top_inside, some_is, none_some, filter_from, filter_has, filter_ascending, range_ascending, in_range, free_back, is_between, below_or}
 use Rattle.crn_cert.proofs.CallerLemmas.{side_marks, side_inside}
 use Rattle.crn_ctext.proofs.Decided.{IsDecided, both_decided, one_decided, not_decided, if_decided, moved, nat_decided, lt_decided}
 use Rattle.crn_ctext.proofs.TestsDecided.{each_below, some_below, pair_decided, reacts_decided}
@@ -128,9 +128,6 @@ top_option ts y = by (top_at ts y) refl
 top_more : (ts : List (Option ℕ)) (o : Option ℕ) (y k : ℕ) → top_at ts y ≡ Some k → top_at (ts ++ o ∷ []) y ≡ Some k
 top_more ts o y k e = top_prefix ts o y (top_inside ts y k e) ∙ e
 
-before_or_last : (y n : ℕ) → y < suc n → (y < n) ⊎ (y ≡ n)
-before_or_last y n lt = elim (cases_lt y n) [ inl less ↦ inl less | inr more ↦ inr (omega (arith, lt, more)) ]
-
 -- the next complex is in no terminal class
 none_more : (net : Net) (n : ℕ) → TopsTo net n → (IsTerminal net.reactions n → ⊥) → TopsTo net (suc n)
 none_more net n t other =
@@ -142,7 +139,7 @@ none_more net n t other =
       count = t.count;
       long = omega (arith, long, length-append t.tops (None ∷ []));
       inside = λ y k e. let f = t.inside in f y k (old y k e);
-      outside = λ y lt e terminal. elim (before_or_last y n lt) [
+      outside = λ y lt e terminal. elim (below_or y n lt) [
         | inl less ↦ let f = t.outside in f y less (sym (top_prefix t.tops None y (omega (arith, less, long))) ∙ e) terminal
         | inr last ↦ other (subst (IsTerminal net.reactions) last terminal)
       ];
@@ -175,7 +172,7 @@ some_more net n t j count terminal next =
       count = count;
       long = omega (arith, long, length-append t.tops (Some j ∷ []));
       inside = λ y k e. elim (found y k e) [ inl h ↦ (let f = t.inside in f y k h) | inr h ↦ subst (IsTerminal rs) (sym h.0) terminal ];
-      outside = λ y lt e terminal. elim (before_or_last y n lt) [
+      outside = λ y lt e terminal. elim (below_or y n lt) [
         | inl less ↦ let f = t.outside in f y less (sym (top_prefix t.tops (Some j) y (omega (arith, less, long))) ∙ e) terminal
         | inr last ↦ none_some (top_at ts y) j e (ap (top_at ts) last ∙ here)
       ];

@@ -35,12 +35,13 @@ use Rattle.crn_ctext.specs.Documents.{IsFormed, IsTree, AreTrees, IsGoodLeaf, Is
 use Rattle.crn_ctext.specs.Documents as documents
 use Rattle.crn_ctext.specs.Answers.{head_of, records_below, proof_nodes, records, nodes}
 use Rattle.crn_vec.specs.Lists.{IsIn}
+use Rattle.crn_vec.proofs.CallerLemmas.{abs_back}
 use Rattle.crn_ctext.specs.Meaning.{Known, pairs_of, is_yes, has_vector, shapes_of, sizes_of, verdict_of, signal_problem, signal_problems, meaning}
 use Rattle.crn_ctext.specs.Same.{said, shown}
 use Rattle.crn_ctext.proofs.Alike.{all_said, IsAlike, vectors_alike, terminal_alike, yes_alike, open_alike}
 use Rattle.crn_ctext.proofs.TestsAlike.{pairs_alike}
 use Rattle.crn_ctext.proofs.KnownBefore.{IsStrong, pairs_known}
-use Rattle.crn_ctext.proofs.RanksLinked.{back_again, free_fits, number_then, wide_fits}
+use Rattle.crn_ctext.proofs.RanksLinked.{free_fits, number_then, wide_fits}
 use Rattle.crn_ctext.proofs.Joined.{parts, IsLinked, answer, open_as, linked_there, linked_back, IsJoinedFor}
 use Rattle.crn_ctext.proofs.TreesRead.{valid_tree_is_formed}
 use Rattle.crn_ctext.proofs.AnswersApart.{tree_apart}
@@ -168,11 +169,11 @@ wide_in : (b : Bool) (z : Sizes) → b ≡ true → IsIn (wide (codes "q13") 4 5
 wide_in true z e = inl refl
 wide_in false z e = absurd cc
 
-spent_place : (b : Bool) (z : Sizes) → place_of (last_forms b z) (codes "q13" ∷ open_by (codes "budget")) ≡ 5
+pub spent_place : (b : Bool) (z : Sizes) → place_of (last_forms b z) (codes "q13" ∷ open_by (codes "budget")) ≡ 5
 spent_place true z = refl
 spent_place false z = refl
 
-rests_place : (b : Bool) (z : Sizes) → place_of (last_forms b z) (codes "q13" ∷ open_by (codes "rests")) ≡ 6
+pub rests_place : (b : Bool) (z : Sizes) → place_of (last_forms b z) (codes "q13" ∷ open_by (codes "rests")) ≡ 6
 rests_place true z = refl
 rests_place false z = refl
 
@@ -220,7 +221,7 @@ signal_open known earlier index basis b =
       formed = record { head = (_, inr (inr (inr (inl refl))), (refl, wide_fits 2 (length known.net.reactions) (length known.net.names) index basis.list b)); rows = tt; trees = refl };
       heads = refl;
       rows = refl;
-      says = ap (λ (x : List ℕ). Unknown (Wide 2 0 index (record { list = x; spare = 0 }))) (back_again basis.list);
+      says = ap (λ (x : List ℕ). Unknown (Wide 2 0 index (record { list = x; spare = 0 }))) (abs_back basis.list);
       shows = refl;
     }
 
@@ -239,7 +240,7 @@ shelf_open known earlier index basis k e given b =
       formed = record { head = (_, inr (inr (inr (inr (wide_in (has_vector (on known.earlier Q12)) (sizes_of known) (vector_is (on known.earlier Q12) some))))), (refl, wide_fits 5 m n index basis.list here)); rows = tt; trees = refl };
       heads = refl;
       rows = refl;
-      says = ap (λ (x : List ℕ). Unknown (Wide 5 0 index (record { list = x; spare = 0 }))) (back_again basis.list);
+      says = ap (λ (x : List ℕ). Unknown (Wide 5 0 index (record { list = x; spare = 0 }))) (abs_back basis.list);
       shows = refl;
     }
 

@@ -13,6 +13,7 @@ use Rattle.crn_vec.specs.Problems.{Signed}
 use Rattle.crn_vec.specs.Influence.{plain_table, strong_table}
 use Rattle.crn_vec.specs.declared.signs.Sign.{Sign}
 use Rattle.crn_vec.specs.declared.limits.TheConstants.{MAX_BUDGET}
+use Rattle.crn_vec.proofs.CallerLemmas.{abs_back}
 use Rattle.crn_cert.specs.declared.answer.Gap.TheVariants.{Wide, Budget, Rests}
 use Rattle.crn_cert.specs.declared.answer.Verdict.{Verdict}
 use Rattle.crn_cert.specs.declared.answer.Verdict.TheVariants.{Yes, NoPair, Unknown}
@@ -33,7 +34,7 @@ use Rattle.crn_ctext.specs.Documents as documents
 use Rattle.crn_ctext.specs.Answers.{head_of, records_below, proof_nodes, records, nodes}
 use Rattle.crn_ctext.specs.Meaning.{Known, shapes_of, sizes_of, verdict_of, problem_over, table_problem, meaning}
 use Rattle.crn_ctext.specs.Same.{said, shown}
-use Rattle.crn_ctext.proofs.RanksLinked.{back_again, free_fits, number_then, wide_fits}
+use Rattle.crn_ctext.proofs.RanksLinked.{free_fits, number_then, wide_fits}
 use Rattle.crn_ctext.proofs.Joined.{parts, IsLinked, answer, open_as, linked_there, linked_back, IsJoinedFor}
 use Rattle.crn_ctext.proofs.TreeRecords.{AreLeafTests, tree_formed, tree_good, tree_true, tests_true, true_tests, plans_one}
 
@@ -116,7 +117,7 @@ plain_open known earlier index basis b =
       formed = record { head = (_, inr (inr (inl refl)), (refl, wide_fits 2 (length known.net.reactions) (length known.net.names) index basis.list b)); rows = tt; trees = refl };
       heads = refl;
       rows = refl;
-      says = ap (λ (x : List ℕ). Unknown (Wide 2 0 index (record { list = x; spare = 0 }))) (back_again basis.list);
+      says = ap (λ (x : List ℕ). Unknown (Wide 2 0 index (record { list = x; spare = 0 }))) (abs_back basis.list);
       shows = refl;
     }
 
@@ -197,7 +198,7 @@ strong_open known earlier index basis b =
       formed = record { head = (_, inr (inr (inl refl)), (refl, wide_fits 2 (length known.net.reactions) (length known.net.names) index basis.list b)); rows = tt; trees = refl };
       heads = refl;
       rows = refl;
-      says = ap (λ (x : List ℕ). Unknown (Wide 2 0 index (record { list = x; spare = 0 }))) (back_again basis.list);
+      says = ap (λ (x : List ℕ). Unknown (Wide 2 0 index (record { list = x; spare = 0 }))) (abs_back basis.list);
       shows = refl;
     }
 

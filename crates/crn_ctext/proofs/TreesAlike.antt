@@ -7,8 +7,8 @@ use Rattle.crn_vec.specs.declared.signs.Sign.{Sign}
 use Rattle.crn_vec.specs.declared.signs.Sign.TheVariants.{Zero, Plus, Minus}
 use Rattle.crn_cert.specs.Nodes.{Said, Flats, CutsA, CutsB}
 use Rattle.crn_ctext.specs.Course.{Course, Give, Line, Test, End, ◌>>=◌, ◌>>◌, test, Gives, FailsFirst}
-use Rattle.crn_ctext.specs.Steps.{IsRest, StepGives, StepFails}
-use Rattle.crn_ctext.specs.Blocks.{Problem, Node, Split, Flat, CutA, CutB, leaf, asks_leaf, goes_on, if_signed, either, is_all_zero, asks_tree}
+use Rattle.crn_ctext.specs.Steps.{StepGives, StepFails}
+use Rattle.crn_ctext.specs.Blocks.{Node, Split, Flat, CutA, CutB, leaf, asks_leaf, goes_on, if_signed, either, is_all_zero, asks_tree}
 use Rattle.crn_ctext.specs.Meaning.{problem_with}
 use Rattle.crn_ctext.proofs.Courses.{gives_then, fails_before, fails_then}
 
@@ -24,7 +24,7 @@ pub like_itself : {A : Type 0} (c : Course A) → IsLike c c
 like_itself c = record { gives = λ at after y p. p; fails = λ at n code p. p }
 
 -- what both give, in two parts
-gives_parts : {A B : Type 0} (c : Course A) (f : A → Course B) (at after : Place) (y : B) → Gives (c >>= f) at y after → (x : A) × (mid : Place) × Gives c at x mid × Gives (f x) mid y after
+pub gives_parts : {A B : Type 0} (c : Course A) (f : A → Course B) (at after : Place) (y : B) → Gives (c >>= f) at y after → (x : A) × (mid : Place) × Gives c at x mid × Gives (f x) mid y after
 unfolding Gives
 gives_parts (Give x) f at after y p = (x, at, (refl, refl), p)
 gives_parts (Line node next) f at after y p = let q = gives_parts (next p.0) f p.1 after y p.3 in (q.0, q.1, (p.0, p.1, p.2, q.2), q.3)
