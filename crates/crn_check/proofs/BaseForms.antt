@@ -1,13 +1,13 @@
 -- What the form of a proof of a rank gives for its tests.
-use Rattle.std.proofs.Common.{◌≡◌, inl, inr, Bool, true, false, ℕ, zero, suc, ◌+◌, ◌<◌, ◌≤◌, List, [], ◌∷◌, length, refl, sym, ap, subst, arith}
+use Rattle.std.proofs.Common.{◌≡◌, inl, inr, Bool, true, ℕ, ◌+◌, ◌≤◌, List, [], ◌∷◌, length, refl, sym, ap, subst, arith}
 use Rattle.std.specs.Prelude.{filter}
 use Rattle.std.specs.List.{range_with_len}
 use Rattle.std.proofs.lemmas.Bool.{cases_Bool}
 use Rattle.std.proofs.lemmas.List.FromFn.{length-range_with_len}
 use Rattle.crn_vec.specs.declared.limits.TheConstants.{MAX_REACTIONS}
-use Rattle.crn_vec.specs.Lists.{IsIn, IsAbove, IsAscending}
+use Rattle.crn_vec.specs.Lists.{IsIn, IsAscending}
 use Rattle.crn_vec.specs.Network.{Net, IsNetwork}
-use Rattle.crn_vec.proofs.CallerLemmas.{all_from, eq_or, filter_few, filter_above, filter_ascending, first_stays, first_goes, in_range, above_ascending, above_lower}
+use Rattle.crn_vec.proofs.CallerLemmas.{all_from, filter_few, filter_ascending, first_stays, first_goes, in_range}
 use Rattle.crn_cert.specs.declared.answer.RankProof.{RankProof}
 use Rattle.crn_cert.specs.Ranges.{IsFrom}
 use Rattle.crn_cert.specs.Formed.{IsRankProof}

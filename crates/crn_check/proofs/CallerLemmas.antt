@@ -16,3 +16,5 @@ pub use Rattle.crn_check.proofs.Truths.{sound_on, linkage_true, strong_true, wea
 pub use Rattle.crn_check.proofs.SidesAccepted.{sides_accepted, sides_of_answer}
 -- For the shape of the network and of the vector of question 12: what the facts hold on the strong classes and on the vector.
 pub use Rattle.crn_check.proofs.VectorKnown.{IsVectorOf, classes_known, vector_known, of_vector}
+-- No more strong classes are terminal than there are complexes.
+pub use Rattle.crn_check.proofs.Forms.{terminal_few}

@@ -16,10 +16,6 @@ place_between net y z h = let f = in_at (y, z) net.reactions (0, 0) h in (f.0, (
 pub between_place : (net : Net) (r y z : ℕ) → IsReaction net.reactions r y z → ReactsTo net.reactions y z
 between_place net r y z h = subst (λ (p : ℕ × ℕ). IsIn p net.reactions) h.1 (at_in net.reactions r (0, 0) h.0)
 
--- the reaction at a place
-pub reaction_at : (net : Net) (r y z : ℕ) → r < length net.reactions → y ≡ (get_or net.reactions r (0, 0)).0 → z ≡ (get_or net.reactions r (0, 0)).1 → IsReaction net.reactions r y z
-reaction_at net r y z lt p q = (lt, rw (p, q) refl)
-
 -- what holds of each reaction so far, and of one more
 pub one_more : (net : Net) (P : ℕ → ℕ → Type 0) (r y z : ℕ) → ((q a b : ℕ) → q < r → IsReaction net.reactions q a b → P a b) → IsReaction net.reactions r y z → P y z → (q a b : ℕ) → q < r + 1 → IsReaction net.reactions q a b → P a b
 one_more net P r y z before goes here q a b lt at = elim (lt_or q r) [

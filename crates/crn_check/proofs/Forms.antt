@@ -1,5 +1,5 @@
 -- What the form of an answer gives for the tests of its question, and for what is kept of it.
-use Rattle.std.proofs.Common.{◌≡◌, ◌≤◌, ◌⊎◌, inl, inr, ◌==◌, true, false, ℕ, List, [], ◌∷◌, ◌++◌, length, map, refl, sym, ap, subst, ◌∙◌, arith}
+use Rattle.std.proofs.Common.{◌≡◌, ◌≤◌, ◌⊎◌, inl, inr, ◌==◌, true, false, ℕ, List, [], ◌∷◌, ◌++◌, length, map, refl, sym, subst, arith}
 use Rattle.std.specs.List.{AllByRecursion}
 use Rattle.std.proofs.lemmas.Bool.{cases_eq, eq-eqb, ne_eqb}
 use Rattle.std.proofs.lemmas.List.{append-nil, append_assoc}
@@ -8,7 +8,7 @@ use Rattle.crn_vec.specs.Kept.{KeptNums}
 use Rattle.crn_cert.specs.declared.answer.Answer.{Answer}
 use Rattle.crn_cert.specs.declared.answer.Gap.TheVariants.{Wide, Budget, Rests}
 use Rattle.crn_cert.specs.declared.answer.Verdict.{Verdict}
-use Rattle.crn_cert.specs.declared.answer.Verdict.TheVariants.{Classes, Strong, Yes, Unknown}
+use Rattle.crn_cert.specs.declared.answer.Verdict.TheVariants.{Classes, Strong, Unknown}
 use Rattle.crn_cert.specs.declared.answer.Proof.{Proof}
 use Rattle.crn_cert.specs.Questions.{Earlier, Question, Q1, Q2, Q3, Q4, Q5, Q6, Q7, Q8, Q9, Q10, Q11, Q12, Q13, Q14, Q15, number, on, labels_of, count_of, exits_of, terminal_of, IsOpen}
 use Rattle.crn_cert.specs.Ranges.{AreFrom}
@@ -17,7 +17,7 @@ use Rattle.crn_cert.specs.Formed.{HeadMayBe, HeadReversible, HeadDeficiency, Row
 use Rattle.crn_cert.specs.FormedVerdicts.{IsFormedVerdict, AreFormedVerdicts}
 use Rattle.crn_cert.specs.Says.{IsTrueOf}
 use Rattle.crn_cert.specs.Law.{IsTrueOrOpen}
-use Rattle.crn_cert.proofs.CallerLemmas.{formed_answers_have_formed_verdicts}
+use Rattle.crn_cert.proofs.CallerLemmas.{formed_answers_have_formed_verdicts, same_question}
 use Rattle.crn_check.specs.Verdicts.{tight}
 use Rattle.crn_check.specs.Check.{AsksForTree, shown_by_tree}
 use Rattle.crn_check.specs.Facts.{KeptFacts, AreFactsOf, asked, HoldsOn}
@@ -197,9 +197,6 @@ question_of Q13 = refl
 question_of Q14 = refl
 question_of Q15 = refl
 
-pub same_question : (q r : Question) → number q ≡ number r → q ≡ r
-same_question q r is = sym (question_of q) ∙ ap asked is ∙ question_of r
-
 -- a verdict that is held has a form that its question admits
 pub formed_on : (net : Net) (before es : Earlier) (q : Question) → AreFormedVerdicts net before (asks es) (says es) → HoldsOn es (number q) → (e : Earlier) × IsFormedVerdict net e q (on es q)
 formed_on net before [] q h held = absurd held
@@ -227,7 +224,7 @@ pub strong_labelled : (net : Net) (facts : KeptFacts) → AreFactsOf net facts �
 strong_labelled net facts h held = let f = formed_on net [] facts.earlier Q2 h.formed held in strong_long net f.0 (on facts.earlier Q2) f.1
 
 -- a verdict on strong classes has no more terminal classes than there are complexes
-terminal_few : (net : Net) (e : Earlier) (v : Verdict) → IsFormedVerdict net e Q2 v → terminal_of v ≤ length net.complexes
+pub terminal_few : (net : Net) (e : Earlier) (v : Verdict) → IsFormedVerdict net e Q2 v → terminal_of v ≤ length net.complexes
 terminal_few net e (Strong count terminal label exit) h = omega (arith, h.0.0.1, h.0.1.1)
 terminal_few net e (Unknown (Wide system class index basis)) h = absurd h.0
 terminal_few net e (Unknown (Budget nodes)) h = absurd h.0

@@ -1,11 +1,9 @@
 -- Numbers of certificates, the vectors of a base, and the tests of duals, one after another.
 use Rattle.std.proofs.Common.{◌≡◌, ◌≢◌, inl, inr, ℕ, zero, suc, ◌+◌, ◌-◌, ◌<◌, List, [], ◌∷◌, length, get_or, drop, Result, Ok, Err, refl, sym, ap, subst, ◌∙◌, arith}
 use Rattle.std.specs.Prelude.{ℤ, pos}
-use Rattle.std.specs.List.{AllByRecursion}
-use Rattle.crn_vec.specs.declared.limits.TheConstants.{WIDE_SOLUTION}
-use Rattle.crn_vec.specs.Vectors.{AreWithin, dot}
+use Rattle.crn_vec.specs.Vectors.{dot}
 use Rattle.crn_vec.specs.Network.{Net}
-use Rattle.crn_cert.specs.Ranges.{IsFrom, IsNarrow}
+use Rattle.crn_cert.specs.Ranges.{IsFrom}
 use Rattle.crn_vec.proofs.CallerLemmas.{all_at, lt_or}
 use Rattle.crn_check.specs.Inner.Bases.{IsBase}
 use Rattle.crn_check.proofs.Widths.{vector_width}
@@ -14,11 +12,6 @@ use Rattle.crn_cert.specs.RankTests.{IsDual, dual_tests, vector_of, vectors_of}
 use Rattle.crn_check.specs.declared.fault.CheckFault.{CheckFault}
 use Rattle.crn_check.specs.Check.{Judges}
 use Rattle.crn_check.proofs.Judging.{judges_pass}
-
--- numbers of a certificate are within its bound
-pub narrow_within : (xs : List ℤ) → AllByRecursion IsNarrow xs → AreWithin WIDE_SOLUTION xs
-narrow_within [] h = tt
-narrow_within (x ∷ xs) h = (omega (arith, h.0), narrow_within xs h.1)
 
 -- the vector of a member of the base
 pub vector_at : (net : Net) (base : List ℕ) (j : ℕ) → j < length base → get_or (vectors_of net base) j [] ≡ vector_of net (get_or base j 0)

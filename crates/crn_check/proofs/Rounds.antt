@@ -7,6 +7,7 @@ use Rattle.crn_vec.specs.Linkage.{IsLinked}
 use Rattle.crn_vec.specs.Strong.{IsReaction}
 use Rattle.crn_vec.specs.Walks.{IsAlong}
 use Rattle.crn_vec.specs.CutPairs.{IsBetween, IsFreeStep}
+use Rattle.crn_cert.proofs.CallerLemmas.{least_one}
 use Rattle.crn_cert.specs.Ranges.{IsFrom}
 use Rattle.crn_cert.specs.Says.{from_zero, WalkLeads}
 use Rattle.crn_cert.specs.ClassTests.{IsWayRound}
@@ -51,13 +52,9 @@ leads_end net y z walk k c all = ap (λ (l : List ℕ). IsAlong (Step net y z) c
 
 -- ---- the whole walk
 
-ones : (n : ℕ) (walk : List ℕ) → AllByRecursion (IsFrom 1 n) walk → AllByRecursion (λ k. 1 ≤ k) walk
-ones n [] h = tt
-ones n (x ∷ walk) h = (h.0.0, ones n walk h.1)
-
 pub round_by : (net : Net) (n r y z : ℕ) (walk : List ℕ) → 1 ≤ length walk → AllByRecursion (IsFrom 1 n) walk → 1 ≤ r → IsReaction net.reactions (r - 1) y z → get_or walk 0 0 - 1 ≡ y → Leads net y z walk 1 y → IsWayRound net r walk
 round_by net n r y z [] some each one goes first leads = absurd (omega (arith, some))
-round_by net n r y z (x ∷ walk) some each one goes first leads = record { y = y; z = z; goes = (one, goes); leads = (omega (arith, first, each.0.0), ones n walk each.1, leads) }
+round_by net n r y z (x ∷ walk) some each one goes first leads = record { y = y; z = z; goes = (one, goes); leads = (omega (arith, first, each.0.0), least_one n walk each.1, leads) }
 
 pub round_first : (net : Net) (r y z : ℕ) (walk : List ℕ) → IsReaction net.reactions (r - 1) y z → IsWayRound net r walk → (get_or walk 0 0 - 1 ≡ y) × Leads net y z walk 1 y
 round_first net r y z walk goes h =

@@ -1,19 +1,17 @@
 -- The test of a signal is that of its lists over the shape of the network and of the vector of question 12 with its turn.
-use Rattle.std.proofs.Common.{◌≡◌, ◌∙◌, inl, inr, List, [], ◌∷◌, Result, Ok, Err, length, map, refl, ap, sym, subst}
-use Rattle.std.specs.Prelude.{ℤ, pos, negsuc, neg_ℤ, ◌*ℤ◌, ◌↔◌, Option, Some}
+use Rattle.std.proofs.Common.{◌≡◌, ◌∙◌, inl, inr, List, Result, Ok, Err, map, refl, ap, sym, subst}
+use Rattle.std.specs.Prelude.{ℤ, pos, negsuc, ◌↔◌, Option, Some}
 use Rattle.std.specs.Option.{IsSomeAnd}
 use Rattle.crn_vec.specs.Network.{Net, IsNetwork}
-use Rattle.crn_vec.specs.Vectors.{column}
-use Rattle.crn_vec.specs.Linkage.{SameClass}
-use Rattle.crn_vec.specs.Confluence.{IsRegular, InConfluenceSpace, negative}
+use Rattle.crn_vec.specs.Confluence.{IsRegular, InConfluenceSpace}
 use Rattle.crn_vec.specs.Concordance.{sign}
 use Rattle.crn_vec.specs.NetSystems.{reaction_system}
 use Rattle.crn_vec.specs.Signals.{Shape, IsSignal}
 use Rattle.crn_vec.specs.NetSignals.{IsShapeOf, IsSignalOf}
-use Rattle.crn_vec.proofs.CallerLemmas.{dot-scale, length-scale, negative_sum, signals_are_of_shape, negative_space}
+use Rattle.crn_vec.proofs.CallerLemmas.{signals_are_of_shape, negative_space}
 use Rattle.crn_cert.specs.declared.answer.Answer.{Answer}
 use Rattle.crn_cert.specs.declared.answer.Verdict.{Verdict}
-use Rattle.crn_cert.specs.declared.answer.Verdict.TheVariants.{YesVec, YesSignal, Unknown}
+use Rattle.crn_cert.specs.declared.answer.Verdict.TheVariants.{YesVec, YesSignal}
 use Rattle.crn_cert.specs.declared.answer.Proof.{Proof}
 use Rattle.crn_cert.specs.Questions.{Earlier, Q2, Q12, Q13, on, vector_given}
 use Rattle.crn_cert.specs.Says.{IsTrueOf, by_turn}

@@ -1,14 +1,8 @@
 -- Numbers over the complexes: the combination of the complexes with them, and their sums over classes.
-use Rattle.std.proofs.Common.{◌≡◌, inl, inr, ℕ, ◌<◌, ◌==◌, List, [], ◌∷◌, length, get_or, arith}
-use Rattle.std.specs.Prelude.{ℤ, pos, negsuc, if◌then◌else◌}
-use Rattle.std.specs.List.{AllByRecursion}
-use Rattle.std.proofs.lemmas.Int.{ints}
-use Rattle.std.proofs.lemmas.List.{get_or-map, length-map}
-use Rattle.crn_vec.specs.declared.limits.TheConstants.{MAX_AMOUNT}
-use Rattle.crn_vec.specs.Network.{Net, IsNetwork, IsAmount}
-use Rattle.crn_vec.specs.Vectors.{AreWithin, entry}
+use Rattle.std.proofs.Common.{◌≡◌, inl, inr, ℕ, ◌<◌, List, length}
+use Rattle.std.specs.Prelude.{ℤ, pos}
+use Rattle.crn_vec.specs.Network.{Net, IsNetwork}
 use Rattle.crn_vec.specs.Rank.{combination_at}
-use Rattle.crn_vec.specs.Sums.{label_marks}
 use Rattle.crn_vec.proofs.CallerLemmas.{lt_or, vector_long}
 use Rattle.crn_check.specs.Inner.Spaces.{IsBalanced}
 use Rattle.crn_check.proofs.Widths.{combination_past}

@@ -1,6 +1,6 @@
 -- The form, the tests and the truth of an answer do not depend on spares of lists.
 use Rattle.std.proofs.Common.{◌≡◌, ◌↔◌, ◌≤◌, ◌==◌, ◌+◌, ◌-◌, ◌<◌, ◌≢◌, ◌⊎◌, Bool, true, false, if◌then◌else◌, inl, inr, ℕ, suc, List, [], ◌∷◌, ◌++◌, length, map, get_or, refl, sym, ap, ap₂, subst, ◌∙◌}
-use Rattle.std.specs.Prelude.{◌&&◌, IsTrue, ℤ, pos, negsuc, min, filter, count_by, sum, Option}
+use Rattle.std.specs.Prelude.{◌&&◌, IsTrue, ℤ, pos, negsuc, filter, count_by, sum, Option}
 use Rattle.std.specs.Option.{IsSome, IsSomeAnd}
 use Rattle.std.specs.List.{list_any, range_with_len}
 use Rattle.crn_vec.specs.Deficiency.{AreAtMostOne, class_members}
@@ -10,6 +10,7 @@ use Rattle.crn_vec.specs.Influence.{plain_table, strong_table}
 use Rattle.crn_vec.specs.Concordance.{sign}
 use Rattle.crn_vec.specs.NetSignals.{IsSignalOf}
 use Rattle.crn_vec.specs.declared.signs.Sign.{Sign}
+use Rattle.crn_cert.proofs.CallerLemmas.{numbers_alike}
 use Rattle.crn_cert.specs.declared.answer.Gap.TheVariants.{Wide, Budget, Rests}
 use Rattle.crn_cert.specs.declared.answer.Verdict.{Verdict}
 use Rattle.crn_cert.specs.declared.answer.Verdict.TheVariants.{Classes, Strong, Rank, Deficiency, Yes, YesWeak, YesVec, YesSignal, No, NoReaction, NoVec, NoNumber, NoTerminal, NoClass, NoSum, NoDependence, NoCycle, NoPair, NotRegular, OnlyZero, Plane, NotApplicable, Unknown}
@@ -22,7 +23,7 @@ use Rattle.crn_cert.specs.Tests.{Test, test, AllHold, FailsFirst}
 use Rattle.crn_cert.specs.Formed.{IsFormedOf, IsRankProof, IsWideGap, IsBasisOf, AreClassProofs, AreSides, IsSignalGap, AreShelves, AreSignalRows, IsSignalTree, AreSignalTrees}
 use Rattle.crn_cert.specs.ClassTests.{AreSideMarks}
 use Rattle.crn_cert.specs.ConfluenceTests.{IsInSpace, DoTerminalsGather, least_from, others_than, tie_tests}
-use Rattle.crn_cert.specs.Valid.{head_tests, row_tests, strong, linkage, linkage_count, exits, classes_to, HaveOneBefore, HaveOneEach, IsFirstSplit, WithDeficiencies, terminals_in, class_places, IsLeft, IsClassNumber, AreClassNumbers, IsFirstLarge, class_rank_tests, IsWithinTerminal, is_least_of_pair, pair_places, side_tests, IsNormal, IsApartAt, IsSignalNode, table_rows}
+use Rattle.crn_cert.specs.Valid.{head_tests, row_tests, strong, linkage, linkage_count, exits, classes_to, HaveOneBefore, HaveOneEach, IsFirstSplit, WithDeficiencies, terminals_in, class_places, IsLeft, IsFirstLarge, class_rank_tests, IsWithinTerminal, is_least_of_pair, pair_places, side_tests, IsNormal, IsApartAt, IsSignalNode, table_rows}
 use Rattle.crn_cert.specs.Says.{by_turn}
 use Rattle.crn_cert.specs.Trees.{Plan, plan, node_count, IsFormedTree}
 use Rattle.crn_cert.specs.TreeTests.{tree_tests}
@@ -75,13 +76,6 @@ places net labels k = filter (λ r. get_or labels (get_or net.reactions (r - 1) 
 places_by : (net : Net) (e f : Earlier) → linkage e ≡ linkage f → (k : ℕ) → class_places net e k ≡ class_places net f k
 places_by net e f same k = ap (λ (labels : List ℕ). places net labels k) same
 
-numbers_by : (net : Net) (e f : Earlier) → linkage e ≡ linkage f → (k : ℕ) (ds : List ℕ) → AreClassNumbers net e k ds ≡ AreClassNumbers net f k ds
-numbers_by net e f same k [] = refl
-numbers_by net e f same k (d ∷ ds) = ap₂ (λ (A B : Type 0). A × B) one (numbers_by net e f same (suc k) ds)
-  where
-    one : IsClassNumber net e k d ≡ IsClassNumber net f k d
-    one = ap (λ (labels : List ℕ). (d + 2 ≤ length (class_members labels k)) × (length (class_members labels k) ≤ d + 1 + min (length net.names) (length (places net labels k)))) same
-
 class_tests_by : (net : Net) (e f : Earlier) → linkage e ≡ linkage f → (part k : ℕ) (list : List RankProof) → class_rank_tests net e part k (map tight_rank list) ≡ class_rank_tests net f part k list
 class_tests_by net e f same part k [] = refl
 class_tests_by net e f same part k (p ∷ ps) =
@@ -106,7 +100,7 @@ left_tight net es total = ap₂ (λ (count : ℕ) (rank : Option ℕ). IsSomeAnd
 heads_6 : (net : Net) (es : Earlier) (v : Verdict) → head_tests net (all_tight es) Q6 (tight v) ≡ head_tests net es Q6 v
 heads_6 net es (Deficiency total classes) =
     ap₂ (λ (rank : Option ℕ) (P : Type 0). test 0 37 (IsSome rank) ∷ test 0 36 P ∷ []) (rank_known_tight es)
-    (ap₂ (λ (A B : Type 0). A × B) left (numbers_by net (all_tight es) es (linkage_tight es) 1 classes.list))
+    (ap₂ (λ (A B : Type 0). A × B) left (numbers_alike net (all_tight es) es (linkage_tight es) 1 classes.list))
   where
     left : IsLeft net (all_tight es) total (rank_of (on (all_tight es) Q5)) ≡ IsLeft net es total (rank_of (on es Q5))
     left = ap₂ (λ (count : ℕ) (rank : Option ℕ). IsSomeAnd rank (λ s. total + count + s ≡ length net.complexes)) (linkage_count_tight es) (rank_known_tight es)

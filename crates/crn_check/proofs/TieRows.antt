@@ -1,7 +1,7 @@
 -- The product of multipliers and the rows of the confluence system, at a complex: that with its amounts, and the
 -- multiplier of its linkage class.
 use Rattle.std.proofs.Common.{◌≡◌, ◌≢◌, inl, inr, ◌==◌, Bool, false, not, ℕ, zero, suc, ◌+◌, ◌-◌, ◌*◌, ◌<◌, ◌≤◌, List, [], ◌∷◌, ◌++◌, length, get_or, map, take, drop, refl, sym, ap, ap₂, ◌∙◌, arith}
-use Rattle.std.specs.Prelude.{ℤ, pos, ◌+ℤ◌, ◌*ℤ◌, unsigned_abs, if◌then◌else◌, filter, Some, None}
+use Rattle.std.specs.Prelude.{ℤ, pos, ◌+ℤ◌, ◌*ℤ◌, if◌then◌else◌, filter, Some, None}
 use Rattle.std.specs.List.{range_with_len}
 use Rattle.std.proofs.lemmas.Int.{ints}
 use Rattle.std.proofs.lemmas.Bool.{cases_eq, eq-eqb, ne_eqb}
@@ -9,10 +9,10 @@ use Rattle.std.proofs.lemmas.List.{ext_get_or, length-map}
 use Rattle.std.proofs.lemmas.List.FromFn.{length-range_with_len, get_or-map-range_with_len}
 use Rattle.std.proofs.Math.Seq.{take-append_seam, drop-append_seam}
 use Rattle.crn_vec.specs.Network.{Net}
-use Rattle.crn_vec.specs.Vectors.{AreWithin, dot, column, entry}
+use Rattle.crn_vec.specs.Vectors.{dot, column, entry}
 use Rattle.crn_vec.specs.Sums.{label_marks}
 use Rattle.crn_vec.specs.NetSystems.{by_species}
-use Rattle.crn_vec.proofs.CallerLemmas.{dot_split, dot_none, entry-column, length-column, product_within, sum_within, label_mark}
+use Rattle.crn_vec.proofs.CallerLemmas.{dot_split, dot_none, entry-column, length-column, label_mark}
 use Rattle.crn_cert.specs.ConfluenceTests.{tie_at}
 use Rattle.crn_check.specs.Inner.Ordered.{is_tied, tied}
 
@@ -79,14 +79,6 @@ tie_parts net labels count tie c wide lt long one most =
     drop_long zero xs = omega arith
     drop_long (suc n) [] = omega arith
     drop_long (suc n) (x ∷ xs) = let e = drop_long n xs in omega (arith, e)
-
--- the bound of a product of lists
-pub dot_within : (m k : ℕ) (xs ys : List ℤ) → AreWithin m xs → AreWithin k ys → unsigned_abs (dot xs ys) ≤ length xs * (m * k)
-dot_within m k [] ys f g = omega arith
-dot_within m k (x ∷ xs) [] f g = omega arith
-dot_within m k (x ∷ xs) (y ∷ ys) f g =
-    let more = sum_within (x *ℤ y) (dot xs ys) (m * k) (length xs * (m * k)) (product_within x y m k f.0 g.0) (dot_within m k xs ys f.1 g.1) in
-    omega (arith, more)
 
 -- ---- the complexes that are not spared
 

@@ -14,11 +14,11 @@ use Rattle.crn_cert.specs.FormedVerdicts.{IsFormedVerdict}
 use Rattle.crn_cert.specs.Valid.{head_tests, row_tests, tests_of}
 use Rattle.crn_cert.specs.Tests.{AllHold}
 use Rattle.crn_cert.specs.Law.{IsTrueOrOpen, AreTrue, AreTrueOrOpen, known_for, rests_for}
-use Rattle.crn_cert.proofs.CallerLemmas.{valid_answers_are_true}
+use Rattle.crn_cert.proofs.CallerLemmas.{valid_answers_are_true, same_question}
 use Rattle.crn_check.specs.Check.{IsBuilt, HoldsNeeds}
 use Rattle.crn_check.specs.Facts.{KeptFacts, AreFactsOf, asked, HoldsOn}
 use Rattle.crn_check.proofs.Judging.{judges_go}
-use Rattle.crn_check.proofs.Forms.{formed_on, same_question}
+use Rattle.crn_check.proofs.Forms.{formed_on}
 
 -- a verdict that is held is true of its question or open
 pub sound_on : (net : Net) (es : Earlier) (q : Question) → AllByRecursion (λ (e : Question × Verdict). IsTrueOrOpen net e.0 e.1) es → HoldsOn es (number q) → IsTrueOrOpen net q (on es q)

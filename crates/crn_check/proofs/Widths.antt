@@ -2,7 +2,7 @@
 use Rattle.std.proofs.Common.{◌≡◌, inl, inr, ℕ, zero, suc, ◌<◌, ◌≤◌, List, [], ◌∷◌, length, get_or, map, refl, ap, ◌∙◌, arith}
 use Rattle.std.specs.Prelude.{ℤ, pos, ◌*ℤ◌}
 use Rattle.std.specs.List.{AllByRecursion}
-use Rattle.std.proofs.lemmas.Int.{ints}
+use Rattle.std.proofs.Math.IntN.{*ℤ-zero}
 use Rattle.crn_vec.specs.Lists.{IsIn}
 use Rattle.crn_vec.specs.Network.{Net, IsNetwork, JoinsTwo, sides_of, reaction_vector}
 use Rattle.crn_vec.specs.Vectors.{entry, column}
@@ -21,12 +21,9 @@ column_past [] n s h le k = refl
 column_past (v ∷ vs) n s h le zero = past_end v s (omega (arith, h 0 (omega arith)))
 column_past (v ∷ vs) n s h le (suc k) = column_past vs n s (λ j lt. h (suc j) (omega (arith, lt))) le k
 
-pub times_none : (x : ℤ) → x *ℤ pos 0 ≡ pos 0
-times_none x = omega (arith, ints)
-
 -- no combination of vectors has an entry past their width
 pub combination_past : (c : List ℤ) (vs : List (List ℤ)) (n s : ℕ) → ((j : ℕ) → j < length vs → length (get_or vs j []) ≡ n) → n ≤ s → combination_at c vs s ≡ pos 0
-combination_past c vs n s h le = dot_zero c (column vs s) (λ i. ap (λ (x : ℤ). entry c i *ℤ x) (column_past vs n s h le i) ∙ times_none (entry c i))
+combination_past c vs n s h le = dot_zero c (column vs s) (λ i. ap (λ (x : ℤ). entry c i *ℤ x) (column_past vs n s h le i) ∙ *ℤ-zero (entry c i))
 
 -- ---- all reactions
 

@@ -3,6 +3,5 @@ pub mod Trees
 pub mod Facts
 pub mod Tests
 pub mod Bases
-pub mod Terminals
 pub mod Ordered
 pub mod Spaces

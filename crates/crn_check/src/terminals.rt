@@ -1,9 +1,8 @@
 ghost use Rattle.std.specs.Prelude.{◌≡◌, ◌≤◌, ◌+◌, ◌↔◌, IsTrue, length};
 ghost use Rattle.std.specs.List.{list_any, range_with_len};
 ghost use Rattle.crn_cert.specs.Questions.{exits_of};
-ghost use Rattle.crn_cert.specs.Valid.{linkage_count, terminals_in, HaveOneBefore, HaveOneEach, IsFirstSplit};
+ghost use Rattle.crn_cert.specs.Valid.{linkage_count, is_in_both, terminals_of, terminals_in, HaveOneBefore, HaveOneEach, IsFirstSplit};
 ghost use Rattle.crn_check.specs.Facts.{AreFactsOf, HoldsOn};
-ghost use Rattle.crn_check.specs.Inner.Terminals.{is_in_both, terminals_of};
 
 use crate::deficiency::count_in;
 use crate::facts::Facts;

@@ -1,12 +1,13 @@
 use Rattle.std.proofs.Common.{◌≡◌, inl, inr, ◌∙◌, List, length, drop, ap, sym, arith}
 use Rattle.std.specs.Prelude.{ℤ, ◌*ℤ◌}
 use Rattle.std.proofs.lemmas.Int.{ints}
+use Rattle.std.proofs.Math.IntN.{*ℤ-zero}
 use Rattle.crn_vec.specs.Vectors.{entry}
 use Rattle.crn_vec.specs.declared.limits.TheConstants.{MAX_AMOUNT}
 use Rattle.crn_vec.proofs.CallerLemmas.{within_at, lt_or, past_end}
 use Rattle.crn_cert.specs.RankTests.{vector_of, vectors_of}
 use Rattle.crn_check.proofs.Decided.{granted}
-use Rattle.crn_check.proofs.Widths.{combination_past, times_none}
+use Rattle.crn_check.proofs.Widths.{combination_past}
 use Rattle.crn_check.proofs.RankParts.{widths_of_base}
 use Rattle.crn_check.proofs.combs.is_comb.Goals as goal
 
@@ -25,7 +26,7 @@ returns c =
       is = λ s. elim (lt_or s (length net.names)) [
         | inl lt ↦ c.loop-s.invariant s (omega (arith, lt, c.vector_of-vector.ensures.width))
         | inr past ↦
-            ap (λ (x : ℤ). entry comb 0 *ℤ x) (past_end v s (omega (arith, past, wide))) ∙ times_none (entry comb 0)
+            ap (λ (x : ℤ). entry comb 0 *ℤ x) (past_end v s (omega (arith, past, wide))) ∙ *ℤ-zero (entry comb 0)
             ∙ sym (combination_past (drop 1 comb) (vectors_of net base) (length net.names) s (widths_of_base net base c.requires.base) past)
       ];
     })

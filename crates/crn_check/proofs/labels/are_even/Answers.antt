@@ -1,7 +1,8 @@
 use Rattle.std.proofs.Common.{◌≡◌, ◌<◌, length, arith}
 use Rattle.crn_check.proofs.Decided.{granted, refused}
-use Rattle.crn_check.proofs.Counted.{reaction_at, place_between, between_place}
+use Rattle.crn_check.proofs.Counted.{place_between, between_place}
 use Rattle.crn_check.proofs.labels.are_even.Goals as goal
+use Rattle.crn_cert.proofs.CallerLemmas.{goes_at}
 
 pub returns-then-labels-reactant : goal.returns-then-labels-reactant
 returns-then-labels-reactant c =
@@ -9,7 +10,7 @@ returns-then-labels-reactant c =
     let y = c.reactant.result in
     let z = c.product.result in
     let lt : c.loop-r.r < length net.reactions = omega (arith, c.loop-r-test.true, c.reactions-r-end.ensures.count) in
-    let goes = reaction_at net c.loop-r.r y z lt c.reactant.ensures.value c.product.ensures.value in
+    let goes = goes_at net c.loop-r.r y z lt c.reactant.ensures.value c.product.ensures.value in
     refused (λ even. c.if-labels-reactant.true (even y z (between_place net c.loop-r.r y z goes)))
 
 pub returns : goal.returns

@@ -1,9 +1,10 @@
 use Rattle.std.proofs.Common.{◌≡◌, ◌<◌, inl, inr, length, sym, ◌∙◌, ap, arith, of_z}
 use Rattle.std.specs.Int.{w128}
 use Rattle.std.proofs.lemmas.Bool.{false≢true}
-use Rattle.crn_check.proofs.Counted.{reaction_at, place_between, between_place}
+use Rattle.crn_check.proofs.Counted.{place_between, between_place}
 use Rattle.crn_check.proofs.Decided.{granted, refused}
 use Rattle.crn_check.proofs.sides.are_equal_but.Goals as goal
+use Rattle.crn_cert.proofs.CallerLemmas.{goes_at}
 
 pub returns-then-not-is_between : goal.returns-then-not-is_between
 returns-then-not-is_between c =
@@ -11,7 +12,7 @@ returns-then-not-is_between c =
     let a = c.reactant-a.result in
     let b = c.product-b.result in
     let lt : c.loop-r.r < length net.reactions = omega (arith, c.loop-r-test.true, c.reactions-r-end.ensures.count) in
-    let goes = reaction_at net c.loop-r.r a b lt c.reactant-a.ensures.value c.product-b.ensures.value in
+    let goes = goes_at net c.loop-r.r a b lt c.reactant-a.ensures.value c.product-b.ensures.value in
     refused (λ equal. elim (equal a b (between_place net c.loop-r.r a b goes)) [
       | inl between ↦ false≢true (sym c.if-not-is_between.true ∙ c.is_between.ensures.1 between)
       | inr same ↦ c.if-marks-a.true (ap (of_z w128) same)

@@ -1,7 +1,7 @@
 use Rattle.std.proofs.Common.{◌≡◌, ◌==◌, Bool, false, length, get_or, sym, ap, ◌∙◌, arith}
 use Rattle.std.specs.List.{list_any, range_with_len}
 use Rattle.std.proofs.lemmas.Bool.{eqb-true, eq-eqb}
-use Rattle.crn_check.specs.Inner.Terminals.{is_in_both}
+use Rattle.crn_cert.specs.Valid.{is_in_both}
 use Rattle.crn_check.proofs.terminals.have_both.Goals as goal
 use Rattle.crn_check.proofs.terminals.have_both.Goals.{else-strong-c-via-then-strong-c+else-linkage-c, else-strong-c-via-else-strong-c}
 use Rattle.crn_vec.proofs.CallerLemmas.{range_more, in_range, and_true, and_no, any_has, any_push}

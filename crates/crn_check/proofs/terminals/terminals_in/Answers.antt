@@ -2,7 +2,7 @@ use Rattle.std.proofs.Common.{◌≡◌, ◌∙◌, ℕ, List, length, sym, ap, 
 use Rattle.crn_cert.specs.declared.answer.Verdict.{Verdict}
 use Rattle.crn_cert.specs.Questions.{Q2, on, count_of, exits_of, labels_of}
 use Rattle.crn_cert.specs.Valid.{linkage, strong, exits}
-use Rattle.crn_check.specs.Inner.Terminals.{terminals_of}
+use Rattle.crn_cert.specs.Valid.{terminals_of}
 use Rattle.crn_check.proofs.Forms.{strong_labelled, linkage_labelled}
 use Rattle.crn_check.proofs.ClassTerminals.{exits_counted}
 use Rattle.crn_check.proofs.terminals.terminals_in.Goals as goal

@@ -5,9 +5,9 @@ use Rattle.std.proofs.lemmas.Int.{fits_signed_from_abs}
 use Rattle.crn_vec.specs.Vectors.{AreWithin, dot, entry}
 use Rattle.crn_vec.specs.declared.limits.TheConstants.{MAX_AMOUNT, WIDE_SOLUTION}
 use Rattle.crn_vec.proofs.CallerLemmas.{held, sum_within, within_at, within_take, within_drop, amounts_within}
+use Rattle.crn_shape.proofs.CallerLemmas.{narrow_within, dot_within}
 use Rattle.crn_check.proofs.Counted.{label_from}
-use Rattle.crn_check.proofs.RankParts.{narrow_within}
-use Rattle.crn_check.proofs.TieRows.{tie_parts, dot_within}
+use Rattle.crn_check.proofs.TieRows.{tie_parts}
 use Rattle.crn_check.proofs.ties.tie_at.Goals as goal
 
 -- the first multipliers are within the bound

@@ -1,7 +1,8 @@
 use Rattle.std.proofs.Common.{◌≡◌, ◌<◌, length, sym, ◌∙◌, arith}
 use Rattle.std.proofs.lemmas.Bool.{false≢true}
 use Rattle.crn_vec.specs.CutPairs.{IsBetween}
-use Rattle.crn_check.proofs.Counted.{reaction_at, one_more}
+use Rattle.crn_cert.proofs.CallerLemmas.{goes_at}
+use Rattle.crn_check.proofs.Counted.{one_more}
 use Rattle.crn_check.proofs.Decided.{granted, refused}
 use Rattle.crn_check.proofs.Rounds.{linked_by, links_by}
 use Rattle.crn_check.proofs.ways.are_linked.Goals as goal
@@ -12,7 +13,7 @@ returns-then-is_between c =
     let y = c.reactant.result in
     let z = c.product.result in
     let lt : c.loop-r.r < length net.reactions = omega (arith, c.loop-r-test.true, c.reactions-r-end.ensures.count) in
-    let goes = reaction_at net c.loop-r.r y z lt c.reactant.ensures.value c.product.ensures.value in
+    let goes = goes_at net c.loop-r.r y z lt c.reactant.ensures.value c.product.ensures.value in
     granted (linked_by net c.loop-r.r y z c.args.a c.args.b goes (c.is_between.ensures.0 c.if-is_between.true))
 
 pub loop-r-preserved : goal.loop-r-preserved
@@ -21,7 +22,7 @@ loop-r-preserved c =
     let y = c.reactant.result in
     let z = c.product.result in
     let lt : c.loop-r.r < length net.reactions = omega (arith, c.loop-r-test.true, c.reactions-r-end.ensures.count) in
-    let goes = reaction_at net c.loop-r.r y z lt c.reactant.ensures.value c.product.ensures.value in
+    let goes = goes_at net c.loop-r.r y z lt c.reactant.ensures.value c.product.ensures.value in
     one_more net (λ y z. IsBetween y z c.args.a c.args.b → ⊥) c.loop-r.r y z c.loop-r.invariant goes (λ h. false≢true (sym c.if-is_between.false ∙ c.is_between.ensures.1 h))
 
 pub returns : goal.returns
