@@ -113,7 +113,7 @@ pub fn exchange_often(alloc: Global, matrix: &Matrix, rounds: u32) -> Result<Exc
 }
 
 // Whether the kinds are few enough to be asked for.
-#[tactic(auto, using(crn_farkas::proofs::CallerLemmas::count_at_most))]
+#[tactic(auto, using(crn_vec::proofs::CallerLemmas::count_at_most))]
 pub(crate) fn are_few(kinds: &[Kind]) -> bool
     ensures { IsTrue result → signed_count kinds.now ≤ MAX_SIGNED }
 {

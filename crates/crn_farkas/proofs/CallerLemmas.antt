@@ -3,5 +3,7 @@
 -- Multiples of a vector (-uA, u), and of the multipliers in it.
 pub use Rattle.crn_farkas.proofs.Pairs.{dual_scaled, drop-scale}
 pub use Rattle.crn_farkas.proofs.Ruling.{scale_step, scaled_small}
--- No more coordinates have to be positive or negative than there are kinds.
-pub use Rattle.crn_farkas.proofs.Counts.{count_at_most}
+-- The vectors that a basis names are not 0 at their own coordinate, and the row space is closed under sums and multiples.
+pub use Rattle.crn_farkas.proofs.Witnesses.{as_column, column_some}
+pub use Rattle.crn_farkas.proofs.Pairs.{own_some, row_scaled}
+pub use Rattle.crn_farkas.proofs.PartSums.{take-plus, row_plus}

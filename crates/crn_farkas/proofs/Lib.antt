@@ -6,7 +6,6 @@ mod Steps
 mod Ruling
 mod Witnesses
 mod PartSums
-mod Counts
 mod Finals
 mod Levels
 mod Marks

@@ -12,7 +12,7 @@ use Rattle.crn_vec.specs.Vectors.{Mat, entry, dot, column, scale}
 use Rattle.crn_vec.specs.Lists.{IsIn}
 use Rattle.crn_vec.specs.Elementary.{width, InRowSpace, InDualSpace, IsNamed, IsNamedRow, IsNamedColumn}
 use Rattle.crn_vec.specs.Systems.{HasKind, is_signed}
-use Rattle.crn_vec.proofs.CallerLemmas.{no_zero, mul-neg, length-scale, entry-scale, dot-scale, dot-scale-right, part, orthogonal, dot_single}
+use Rattle.crn_vec.proofs.CallerLemmas.{no_zero, mul-neg, length-scale, entry-scale, dot-scale, dot-scale-right, part, orthogonal, dot_single, take-scale}
 use Rattle.crn_tab.specs.Tableau.{NamesRows}
 use Rattle.crn_tab.proofs.CallerLemmas.{isIn_or, one_row, as_row}
 
@@ -47,11 +47,6 @@ own_some a basis e w t lt out named none =
     omega (arith, two)
 
 -- ---- multiples
-
-pub take-scale : (q : ℤ) (n : ℕ) (v : List ℤ) → take n (scale q v) ≡ scale q (take n v)
-take-scale q zero v = refl
-take-scale q (suc n) [] = refl
-take-scale q (suc n) (x ∷ v) = ap (λ (t : List ℤ). (q *ℤ x) ∷ t) (take-scale q n v)
 
 pub drop-scale : (q : ℤ) (n : ℕ) (v : List ℤ) → drop n (scale q v) ≡ scale q (drop n v)
 drop-scale q zero v = refl

@@ -1,11 +1,10 @@
 -- Sums of vectors (x, Ax) that are right everywhere.
 use Rattle.std.proofs.Common.{◌≡◌, ◌≢◌, ℕ, zero, suc, ◌+◌, ◌*◌, ◌<◌, ◌≤◌, ◌⊎◌, inl, inr, List, [], ◌∷◌, length, get_or, take, refl, sym, ap, ap₂, subst, ◌∙◌, add-one, arith}
-use Rattle.std.specs.Prelude.{ℤ, pos, ◌+ℤ◌, unsigned_abs, Bool, true, slice_index}
+use Rattle.std.specs.Prelude.{ℤ, pos, ◌+ℤ◌, unsigned_abs, Bool, true}
 use Rattle.std.proofs.lemmas.List.{ext_get_or, length-take-le}
 use Rattle.crn_vec.specs.declared.limits.TheConstants.{WIDE_ENTRY, MAX_SIGNED}
 use Rattle.crn_vec.specs.declared.signs.Kind.{Kind}
 use Rattle.crn_vec.specs.Vectors.{Mat, entry, dot}
-use Rattle.crn_vec.specs.Lists.{IsIn}
 use Rattle.crn_vec.specs.Elementary.{InRowSpace}
 use Rattle.crn_vec.specs.Systems.{MayTake, kind_at, is_signed, one_if, signed_count}
 use Rattle.crn_vec.proofs.CallerLemmas.{eq_or, sum_within, plus, entry-plus, length-plus, dot-plus, dot-comm, take_sum, sum_some}
@@ -37,7 +36,7 @@ part_more a kinds g v lt p here = record {
   small = λ k. omega (arith, p.small k, count_step kinds g lt);
 }
 
-take-plus : (n : ℕ) (v w : List ℤ) → take n (plus v w) ≡ plus (take n v) (take n w)
+pub take-plus : (n : ℕ) (v w : List ℤ) → take n (plus v w) ≡ plus (take n v) (take n w)
 take-plus zero v w = refl
 take-plus (suc n) [] w = refl
 take-plus (suc n) (x ∷ v) [] = refl
@@ -79,8 +78,3 @@ part_added a kinds g v y z lt s p w long entries =
 
 pub part_bound : (a : Mat) (kinds : List Kind) (g : ℕ) (v : List ℤ) → IsPartSum a kinds g v → signed_count kinds ≤ MAX_SIGNED → (k : ℕ) → unsigned_abs (entry v k) ≤ MAX_SIGNED * WIDE_ENTRY
 part_bound a kinds g v p few k = omega (arith, p.small k, count_prefix kinds g, few)
-
-pub get_in : (xs : List ℕ) (i : ℕ) → i < length xs → IsIn (slice_index xs i) xs
-get_in [] i h = absurd (omega arith)
-get_in (x ∷ xs) zero h = inl refl
-get_in (x ∷ xs) (suc i) h = inr (get_in xs i (omega arith))

@@ -6,14 +6,11 @@ use Rattle.crn_vec.specs.declared.signs.Sign.{Sign}
 use Rattle.crn_vec.specs.Vectors.{Mat, entry, HasSign}
 use Rattle.crn_vec.specs.Lists.{IsIn}
 use Rattle.crn_vec.specs.Elementary.{width, IsNamedRow, IsNamedColumn}
-use Rattle.crn_vec.proofs.CallerLemmas.{mul-neg}
+use Rattle.crn_vec.proofs.CallerLemmas.{mul-neg, one-mul, positive_some}
 use Rattle.crn_tab.specs.Tableau.{NamesRows}
 use Rattle.crn_tab.proofs.CallerLemmas.{one_row, as_row, sign_carried}
 use Rattle.crn_farkas.proofs.Pairs.{pair, other_some}
-use Rattle.crn_farkas.proofs.SignRules.{sign_divided, sign_of_factor, minus_sum, one-mul}
-
-positive_some : (x : ℤ) → pos 1 ≤ℤ x → x ≢ pos 0
-positive_some x h e = omega (arith, ints, h, e)
+use Rattle.crn_farkas.proofs.SignRules.{sign_divided, sign_of_factor, minus_sum}
 
 -- what a program read of the kept row of e, that each vector named so and positive at e has this sign at c
 abbrev pub IsReadSign : Mat → List ℕ → ℕ → ℕ → Sign → Type 0

@@ -1,10 +1,9 @@
 -- Lists that rule a system out, from their entries.
 use Rattle.std.proofs.Common.{◌≡◌, ◌≢◌, ℕ, zero, suc, ◌+◌, ◌<◌, ◌≤◌, inl, inr, List, [], ◌∷◌, ◌++◌, length, take, drop, refl, sym, ap, subst, ◌∙◌, add-one, arith}
-use Rattle.std.specs.Prelude.{ℤ, pos, ◌*ℤ◌, unsigned_abs, Bool, true, false, Result, Ok, Err}
+use Rattle.std.specs.Prelude.{ℤ, pos, ◌*ℤ◌, unsigned_abs, Bool, true, false}
 use Rattle.std.proofs.lemmas.Int.{ints}
 use Rattle.std.proofs.lemmas.Bool.{false≢true}
 use Rattle.std.proofs.lemmas.List.{get_or-drop}
-use Rattle.std.specs.Result.{IfOk}
 use Rattle.crn_vec.specs.declared.limits.TheConstants.{WIDE_ENTRY}
 use Rattle.crn_vec.specs.declared.signs.Kind.{Kind}
 use Rattle.crn_vec.specs.declared.signs.Kind.TheVariants.{Free}
@@ -133,8 +132,3 @@ ruling_some a basis kinds e w t row cut none =
     let p : entry v.w e *ℤ entry w k ≡ entry w e *ℤ entry v.w k = one_row a basis e w v.w t.wide t.basis_is row (as_row a basis e v.w row.outside v.named) k in
     let q : entry w e *ℤ entry v.w k ≡ pos 0 *ℤ entry v.w k = ap (λ (t : ℤ). t *ℤ entry v.w k) none in
     rules.1.2 (no_zero (entry v.w e) (entry w k) (p ∙ q ∙ zero-*ℤ (entry v.w k)) (λ z. omega (arith, ints, z, v.positive)))
-
--- what holds of a value in an Ok follows from what is known of it
-pub if_ok : {T E : Type 0} (P Q : T → Type 0) (r : Result T E) → ((x : T) → P x → Q x) → IfOk r P → IfOk r Q
-if_ok P Q (Ok x) f h = f x h
-if_ok P Q (Err e) f h = tt

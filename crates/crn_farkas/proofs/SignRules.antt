@@ -4,11 +4,8 @@ use Rattle.std.specs.Prelude.{ℤ, pos, negsuc, ◌+ℤ◌, ◌*ℤ◌, neg_ℤ,
 use Rattle.std.proofs.lemmas.Int.{ints}
 use Rattle.crn_vec.specs.declared.signs.Sign.{Sign}
 use Rattle.crn_vec.specs.Vectors.{HasSign}
-use Rattle.crn_vec.proofs.CallerLemmas.{assoc}
+use Rattle.crn_vec.proofs.CallerLemmas.{assoc, one-mul}
 use Rattle.crn_tab.proofs.CallerLemmas.{sign_carried}
-
-pub one-mul : (x : ℤ) → pos 1 *ℤ x ≡ x
-one-mul x = omega (arith, ints)
 
 -- the sign of a product with a positive number
 pub sign_divided : (s : Sign) (p x : ℤ) → pos 1 ≤ℤ p → HasSign s (p *ℤ x) → HasSign s x

@@ -1,5 +1,5 @@
 -- The step of settling: a coordinate that was first wrong is right after the exchange and the settling of those before it.
-use Rattle.std.proofs.Common.{◌≡◌, ◌≢◌, ℕ, zero, suc, ◌+◌, ◌<◌, ◌⊎◌, ◌↔◌, inl, inr, List, [], ◌∷◌, length, refl, sym, ap, subst, ◌∙◌, arith, get_or}
+use Rattle.std.proofs.Common.{◌≡◌, ◌≢◌, ℕ, zero, suc, ◌+◌, ◌<◌, ◌⊎◌, ◌↔◌, inl, inr, List, length, sym, ap, subst, ◌∙◌, arith, get_or}
 use Rattle.std.specs.Prelude.{ℤ, pos, ◌<ℤ◌, true, slice_index}
 use Rattle.crn_vec.specs.declared.signs.Kind.{Kind}
 use Rattle.crn_vec.specs.declared.signs.Kind.TheVariants.{Free}
@@ -7,7 +7,7 @@ use Rattle.crn_vec.specs.Vectors.{Mat, entry}
 use Rattle.crn_vec.specs.Lists.{IsIn}
 use Rattle.crn_vec.specs.Elementary.{IsNamedRow, IsNamedColumn}
 use Rattle.crn_vec.specs.Systems.{HasKind, MayTake, MayWeigh, kind_at, is_signed}
-use Rattle.crn_vec.proofs.CallerLemmas.{eq_or, Quiet, settled_dual, settled_row, take_zero, weigh_zero, kind_takes, kind_weighs, product_some, part, orthogonal}
+use Rattle.crn_vec.proofs.CallerLemmas.{eq_or, Quiet, settled_dual, settled_row, take_zero, weigh_zero, kind_takes, kind_weighs, product_some, part, orthogonal, any_default}
 use Rattle.crn_tab.proofs.CallerLemmas.{isIn_or}
 use Rattle.crn_farkas.specs.declared.view.View.{View}
 use Rattle.crn_farkas.specs.declared.view.View.TheVariants.{Row, Column}
@@ -144,11 +144,6 @@ settled_step a basis basis' view view' g done k j kinds order y s f seen change 
     ]
 
 -- ---- the kind at a place of the list, whatever comes past its end
-
-pub any_default : {A : Type 0} (d e : A) (xs : List A) (k : ℕ) → k < length xs → get_or xs k d ≡ get_or xs k e
-any_default d e [] k h = absurd (omega arith)
-any_default d e (x ∷ xs) zero h = refl
-any_default d e (x ∷ xs) (suc k) h = any_default d e xs k (omega arith)
 
 pub seen_by : (a : Mat) (basis : List ℕ) (view : View) (g : ℕ) (d : Kind) (kinds : List Kind) (y : List ℤ) → g < length kinds → IsSeen a basis view g (kind_at kinds g) y → IsSeen a basis view g (get_or kinds g d) y
 seen_by a basis view g d kinds y lt h = subst (λ (κ : Kind). IsSeen a basis view g κ y) (any_default Free d kinds g lt) h

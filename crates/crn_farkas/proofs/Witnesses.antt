@@ -28,7 +28,7 @@ pub as_column : (a : Mat) (basis : List ℕ) (b : ℕ) (w : List ℤ) → IsIn b
 as_column a basis b w i n = elim n.named [ inl c ↦ c | inr r ↦ absurd (r.outside i) ]
 
 -- a primitive vector that the basis names by a member is not 0 there
-column_some : (a : Mat) (basis : List ℕ) (b : ℕ) (w : List ℤ) → IsIn b basis → IsNamed a basis b w → entry w b ≢ pos 0
+pub column_some : (a : Mat) (basis : List ℕ) (b : ℕ) (w : List ℤ) → IsIn b basis → IsNamed a basis b w → entry w b ≢ pos 0
 column_some a basis b w i n none =
     let col = as_column a basis b w i n in
     let all : (k : ℕ) → entry w k ≡ pos 0 = n.basis_is.free w col.space (λ k m. elim (eq_or k b) as (λ _. entry w k ≡ pos 0) [

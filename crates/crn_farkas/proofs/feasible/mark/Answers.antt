@@ -3,8 +3,8 @@ use Rattle.crn_vec.specs.declared.signs.Kind.{Kind}
 use Rattle.crn_vec.specs.declared.signs.Kind.TheVariants.{Pos, Free}
 use Rattle.crn_vec.specs.Vectors.{entry, HasSign}
 use Rattle.crn_vec.specs.Systems.{HasKind, kind_at}
+use Rattle.crn_vec.proofs.CallerLemmas.{any_default}
 use Rattle.crn_farkas.proofs.Pairs.{kind_some}
-use Rattle.crn_farkas.proofs.Steps.{any_default}
 use Rattle.crn_farkas.proofs.Marks.{set_mark}
 use Rattle.crn_farkas.proofs.feasible.mark.Goals as goal
 use Rattle.crn_farkas.proofs.feasible.mark.Goals.{then-counts, else-counts}

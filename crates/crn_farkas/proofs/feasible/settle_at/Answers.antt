@@ -4,10 +4,10 @@ use Rattle.crn_vec.specs.declared.signs.Kind.TheVariants.{Pos, Free}
 use Rattle.crn_vec.specs.Elementary.{width}
 use Rattle.crn_vec.specs.Vectors.{Mat}
 use Rattle.crn_vec.specs.Systems.{is_signed, kind_at}
+use Rattle.crn_vec.proofs.CallerLemmas.{any_default}
 use Rattle.crn_farkas.specs.declared.view.View.{View}
 use Rattle.crn_farkas.specs.Inner.Views.{IsView, IsRightEverywhere}
 use Rattle.crn_farkas.specs.Inner.Sums.{HasPartSum}
-use Rattle.crn_farkas.proofs.Steps.{any_default}
 use Rattle.crn_farkas.proofs.Marks.{marks_more, marks_seen}
 use Rattle.crn_farkas.proofs.feasible.settle_at.Goals as goal
 

@@ -4,8 +4,8 @@ use Rattle.crn_vec.specs.declared.signs.Kind.{Kind}
 use Rattle.crn_vec.specs.declared.signs.Kind.TheVariants.{Pos, Free}
 use Rattle.crn_vec.specs.Systems.{HasKind}
 use Rattle.crn_vec.specs.Vectors.{entry, scale}
+use Rattle.crn_vec.proofs.CallerLemmas.{any_default}
 use Rattle.crn_farkas.specs.Decision.{factor}
-use Rattle.crn_farkas.proofs.Steps.{any_default}
 use Rattle.crn_farkas.proofs.Witnesses.{as_column, witness_from, wide_here, near_here}
 use Rattle.crn_farkas.proofs.goal.witness.Goals as goal
 

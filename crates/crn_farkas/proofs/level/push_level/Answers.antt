@@ -2,8 +2,8 @@ use Rattle.std.proofs.Common.{◌≡◌, ◌+◌, ◌<◌, ℕ, inl, refl, arith
 use Rattle.std.proofs.lemmas.Bool.{false≢true}
 use Rattle.crn_vec.specs.declared.signs.Kind.TheVariants.{Pos, Free}
 use Rattle.crn_vec.specs.Systems.{kind_at}
+use Rattle.crn_vec.proofs.CallerLemmas.{any_default}
 use Rattle.crn_farkas.specs.Inner.Views.{is_early_kind}
-use Rattle.crn_farkas.proofs.Steps.{any_default}
 use Rattle.crn_farkas.proofs.Finals.{LevelKept, level_pushed, level_passed, level_is, level_not, level_step, level_prefix}
 use Rattle.crn_farkas.proofs.level.push_level.Goals as goal
 use Rattle.crn_farkas.proofs.level.push_level.Goals.{then-is_level, else-is_level}

@@ -2,7 +2,7 @@ use Rattle.std.proofs.Common.{ℕ, List, inl, inr, subst, arith}
 use Rattle.std.specs.Prelude.{slice_index}
 use Rattle.crn_vec.specs.Lists.{IsIn}
 use Rattle.crn_vec.specs.Systems.{kind_at}
-use Rattle.crn_farkas.proofs.PartSums.{get_in}
+use Rattle.crn_tab.proofs.CallerLemmas.{place_in}
 use Rattle.crn_farkas.proofs.Finals.{early_or, both_levels}
 use Rattle.crn_farkas.proofs.targets.put_order.Goals as goal
 
@@ -15,7 +15,7 @@ push_level-requires-2 c = omega (arith, c.requires, c.clear.ensures.len, c.clear
 pub returns-clause-below : goal.returns-clause-below
 returns-clause-below c = λ i lt.
     let k = slice_index c.push_level-2.new.order.items i in
-    elim (c.push_level-2.ensures.below k (get_in c.push_level-2.new.order.items i lt)) [
+    elim (c.push_level-2.ensures.below k (place_in c.push_level-2.new.order.items i lt)) [
       | inr h ↦ h
       | inl i1 ↦ elim (c.push_level.ensures.below k i1) [
         | inr h ↦ h

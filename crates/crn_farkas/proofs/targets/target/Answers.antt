@@ -4,7 +4,7 @@ use Rattle.crn_vec.specs.declared.limits.TheConstants.{WIDE_ENTRY}
 use Rattle.crn_vec.specs.declared.signs.Kind.TheVariants.{Pos, Free}
 use Rattle.crn_vec.specs.Vectors.{Mat, scale, entry}
 use Rattle.crn_vec.specs.Systems.{is_signed, kind_at}
-use Rattle.crn_vec.proofs.CallerLemmas.{entry-scale, length-scale}
+use Rattle.crn_vec.proofs.CallerLemmas.{entry-scale, length-scale, any_default}
 use Rattle.crn_vec.specs.Elementary.{width}
 use Rattle.std.specs.Prelude.{◌+ℤ◌}
 use Rattle.crn_farkas.proofs.Ruling.{unscaled_small}
@@ -12,7 +12,6 @@ use Rattle.crn_farkas.specs.Decision.{factor}
 use Rattle.crn_farkas.specs.declared.goal.Part.{Part}
 use Rattle.crn_farkas.specs.Inner.Sums.{IsPartSum, IsPart}
 use Rattle.std.specs.Int.{w128}
-use Rattle.crn_farkas.proofs.Steps.{any_default}
 use Rattle.crn_farkas.proofs.PartSums.{part_more, part_added, part_bound}
 use Rattle.crn_farkas.proofs.targets.target.Goals as goal
 
