@@ -1,5 +1,5 @@
 -- The rows that a basis names pass the tests of combinations, if the rows have entered it.
-use Rattle.std.proofs.Common.{◌≡◌, ◌≢◌, ℕ, zero, suc, ◌+◌, ◌<◌, ◌≤◌, inl, inr, Bool, true, false, cond, not, List, [], ◌∷◌, ◌++◌, length, get_or, map, take, drop, refl, sym, ap, ap₂, subst, ◌∙◌, arith}
+use Rattle.std.proofs.Common.{◌≡◌, ◌≢◌, ℕ, zero, suc, ◌+◌, ◌<◌, ◌≤◌, inl, inr, Bool, true, false, cond, not, List, [], ◌∷◌, length, get_or, map, take, drop, refl, sym, ap, ap₂, subst, ◌∙◌, arith}
 use Rattle.std.specs.Prelude.{ℤ, pos, ◌+ℤ◌, ◌*ℤ◌, ◌≤ℤ◌, neg_ℤ, unsigned_abs, nat_lt}
 use Rattle.std.specs.List.{AllZip, AllByRecursion}
 use Rattle.std.proofs.lemmas.Int.{ints}
@@ -9,18 +9,18 @@ use Rattle.std.proofs.lemmas.List.{get_or-drop, length-drop, length-map, map-app
 use lib.IntN.{*ℤ_comm, *ℤ-zero, zero-*ℤ}
 use Rattle.crn_vec.specs.Vectors.{Mat, entry, dot, column, AreOfLength}
 use Rattle.crn_vec.specs.Lists.{IsIn}
-use Rattle.crn_vec.specs.Elementary.{width, IsNamed}
+use Rattle.crn_vec.specs.Elementary.{IsNamed}
 use Rattle.crn_vec.specs.Rank.{chosen}
 use Rattle.crn_vec.specs.Network.{Net}
-use Rattle.crn_vec.proofs.CallerLemmas.{eq_or, lt_or, past_end, dot_zero, dot_step, mul-neg, no_zero, entry-column, length-column, all_map}
+use Rattle.crn_vec.proofs.CallerLemmas.{eq_or, lt_or, past_end, dot_zero, dot_step, mul-neg, entry-column, length-column, all_map, dot-last}
+use Rattle.crn_farkas.proofs.CallerLemmas.{own_some}
 use Rattle.crn_cert.specs.Tests.{AllHold}
 use Rattle.crn_cert.specs.Ranges.{IsNarrow, AreFree}
 use Rattle.crn_cert.specs.RankTests.{vector_of, IsComb, comb_tests}
 use Rattle.crn_tab.specs.Tableau.{AreSmall, NamesRows, AreEntered}
-use Rattle.crn_tab.proofs.CallerLemmas.{one_row, as_row}
+use Rattle.crn_tab.proofs.CallerLemmas.{as_row}
 use Rattle.crn_rank.specs.Inner.Rows.{picked, is_inside, rows_inside, kept_or_negative, numbers_of, IsCombOf}
 use Rattle.crn_rank.proofs.PickedRows.{at, picked_yes, picked_no, inside_out}
-use Rattle.crn_rank.proofs.DualTests.{not_all_zero}
 
 -- ---- a number and its negative
 
@@ -42,12 +42,6 @@ kept_sum false f g [] = refl
 kept_sum false f g (p ∷ ps) = omega (arith, ints, kept_product false (f p) (g p), kept_sum false f g ps)
 
 -- ---- a sum of products over the places where the first list is not zero
-
-one_more : (xs ys : List ℤ) (x y : ℤ) → length xs ≡ length ys → dot (xs ++ x ∷ []) (ys ++ y ∷ []) ≡ dot xs ys +ℤ (x *ℤ y)
-one_more [] [] x y e = omega (arith, ints)
-one_more [] (b ∷ ys) x y e = absurd (omega arith)
-one_more (a ∷ xs) [] x y e = absurd (omega arith)
-one_more (a ∷ xs) (b ∷ ys) x y e = omega (arith, ints, one_more xs ys x y (omega (arith, e)))
 
 -- x if k is before `end`, else 0
 abbrev from_one : ℕ → ℕ → ℤ → ℤ
@@ -81,7 +75,7 @@ sum_split p u col k (suc m) lu lc miss none =
           let ne : m ≢ k = λ e. (let both : true ≡ false = sym hit ∙ ap p e ∙ miss in cc) in
           let more : dot (map (entry u) (picked p (m + 1))) (map (entry col) (picked p (m + 1))) ≡ S +ℤ (entry u m *ℤ entry col m) =
           ap (λ (l : List ℕ). dot (map (entry u) l) (map (entry col) l)) (picked_yes p m hit) ∙ ap₂ dot (map-append (entry u) ps (m ∷ [])) (map-append (entry col) ps (m ∷ []))
-          ∙ one_more (map (entry u) ps) (map (entry col) ps) (entry u m) (entry col m) (length-map ps (entry u) ∙ sym (length-map ps (entry col))) in
+          ∙ dot-last (map (entry u) ps) (map (entry col) ps) (entry u m) (entry col m) (length-map ps (entry u) ∙ sym (length-map ps (entry col))) in
           omega (arith, ints, step, rest, more, same_from k m x ne)
       | inr pass ↦
           let more : dot (map (entry u) (picked p (m + 1))) (map (entry col) (picked p (m + 1))) ≡ S = ap (λ (l : List ℕ). dot (map (entry u) l) (map (entry col) l)) (picked_no p m pass) in
@@ -107,15 +101,6 @@ past_columns n (r ∷ rows) i w le zero = past_end r i (omega (arith, w.0, le))
 past_columns n (r ∷ rows) i w le (suc k) = past_columns n rows i w.1 le k
 
 -- ---- a row
-
--- the vector that a basis names by a coordinate outside it is not 0 there
-pub own_row_some : (a : Mat) (basis : List ℕ) (e : ℕ) (w : List ℤ) → NamesRows a basis → e < width a → ¬ IsIn e basis → IsNamed a basis e w → entry w e ≢ pos 0
-own_row_some a basis e w t lt out n none =
-    let r = t.rows e lt out in
-    not_all_zero w n.primitive (λ j.
-    no_zero (entry r.w e) (entry w j)
-    (one_row a basis e w r.w t.wide t.basis_is (as_row a basis e w out n) (as_row a basis e r.w out r.named) j ∙ ap (λ (x : ℤ). x *ℤ entry r.w j) none ∙ zero-*ℤ (entry r.w j))
-    (λ z. omega (arith, ints, z, r.positive)))
 
 pub is_comb : (a : Mat) (basis : List ℕ) (k : ℕ) (comb : List ℤ) → NamesRows a basis → AreEntered a basis a.cols → k < length a.rows → is_inside a basis k ≡ false
     → IsCombOf a basis (length a.rows) k comb → IsComb (chosen (rows_inside a basis (length a.rows)) a.rows) (get_or a.rows k []) comb
@@ -173,7 +158,7 @@ comb_by a basis k count first stays w comb t rows lt out is n small sign e =
       named = named;
       small = small;
       stays = stays;
-      positive = subst S is sign (own_row_some a basis (a.cols + k) w t (omega (arith, rows, lt)) out named);
+      positive = subst S is sign (own_some a basis (a.cols + k) w t (omega (arith, rows, lt)) out named);
       is = e;
     }
 

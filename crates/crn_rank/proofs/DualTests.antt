@@ -1,49 +1,24 @@
 -- The columns that a basis names pass the tests of duals.
-use Rattle.std.proofs.Common.{◌≡◌, ◌≢◌, ℕ, zero, suc, ◌+◌, ◌<◌, inl, inr, List, [], ◌∷◌, length, get_or, take, refl, sym, ap, subst, ◌∙◌, arith}
+use Rattle.std.proofs.Common.{◌≡◌, ℕ, suc, ◌+◌, ◌<◌, inl, inr, List, [], ◌∷◌, length, get_or, take, refl, sym, ap, subst, ◌∙◌, arith}
 use Rattle.std.specs.Prelude.{ℤ, pos, unsigned_abs}
-use Rattle.std.specs.Int.{◌∣◌}
 use Rattle.std.specs.List.{AllZip, AllByRecursion}
-use Rattle.std.proofs.lemmas.Nat.Gcd.{dvd-zero}
 use Rattle.std.proofs.lemmas.List.{get_or-take, length-take-le, length-map}
 use Rattle.crn_vec.specs.declared.limits.TheConstants.{WIDE_ENTRY}
 use Rattle.crn_vec.specs.Vectors.{Mat, entry, dot}
 use Rattle.crn_vec.specs.Lists.{IsIn, AreDistinct}
-use Rattle.crn_vec.specs.Elementary.{IsNamed, IsNamedColumn, IsPrimitive}
 use Rattle.crn_vec.specs.Rank.{chosen}
-use Rattle.crn_vec.proofs.CallerLemmas.{eq_or, dot-comm, zip_at, zip_long, same_place, at_in}
+use Rattle.crn_vec.proofs.CallerLemmas.{dot-comm, zip_at, zip_long, same_place, at_in, chosen_at}
+use Rattle.crn_farkas.proofs.CallerLemmas.{as_column, column_some}
 use Rattle.crn_cert.specs.Tests.{AllHold}
 use Rattle.crn_cert.specs.Ranges.{IsNarrow, AreFree}
 use Rattle.crn_cert.specs.RankTests.{IsDual, dual_tests}
 use Rattle.crn_rank.specs.Inner.Rows.{IsDualOf}
-
--- a primitive list has an entry that is not zero
-pub not_all_zero : (v : List ℤ) → IsPrimitive v → ¬ ((k : ℕ) → entry v k ≡ pos 0)
-not_all_zero v prim none =
-    let two : 2 ≡ 1 = prim 2 (λ k. (let D : ℕ → Type 0 = λ n. 2 ∣ n in subst D (sym (ap unsigned_abs (none k))) (dvd-zero 2))) in
-    omega (arith, two)
-
-as_column : (a : Mat) (basis : List ℕ) (b : ℕ) (v : List ℤ) → IsIn b basis → IsNamed a basis b v → IsNamedColumn a basis b v
-as_column a basis b v i n = elim n.named as (λ _. IsNamedColumn a basis b v) [ inl c ↦ c | inr r ↦ absurd (r.outside i) ]
-
--- the vector that a basis names by a member is not 0 there
-own_column_some : (a : Mat) (basis : List ℕ) (b : ℕ) (v : List ℤ) → IsIn b basis → IsNamed a basis b v → entry v b ≢ pos 0
-own_column_some a basis b v i n none =
-    let col = as_column a basis b v i n in
-    not_all_zero v n.primitive (n.basis_is.free v col.space (λ k m. elim (eq_or k b) as (λ _. entry v k ≡ pos 0) [
-      | inl e ↦ ap (entry v) e ∙ none
-      | inr ne ↦ col.zero_on_rest k m ne
-    ]))
 
 -- the product of a dual with a row
 product : (a : Mat) (basis : List ℕ) (k q : ℕ) (dual : List ℤ) → IsIn (a.cols + k) basis → (d : IsDualOf a basis k dual) → q < length a.rows → dot dual (get_or a.rows q []) ≡ entry d.v (a.cols + q)
 product a basis k q dual i d lt =
     let col = as_column a basis (a.cols + k) d.v i d.named in
     ap (λ (x : List ℤ). dot x (get_or a.rows q [])) d.is ∙ dot-comm (take a.cols d.v) (get_or a.rows q []) ∙ sym (col.space.is q lt)
-
-pub chosen_at : (places : List ℕ) (vs : List (List ℤ)) (j : ℕ) → j < length places → get_or (chosen places vs) j [] ≡ get_or vs (get_or places j 0) []
-chosen_at [] vs j lt = absurd (omega arith)
-chosen_at (p ∷ places) vs zero lt = refl
-chosen_at (p ∷ places) vs (suc j) lt = chosen_at places vs j (omega (arith, lt))
 
 -- the rows at these places have coordinates in the basis
 abbrev pub AreInside : Mat → List ℕ → List ℕ → Type 0
@@ -60,7 +35,7 @@ is_dual a basis places duals inside distinct h i lt =
     let d : IsDualOf a basis p (get_or duals i []) = zip_at (IsDualOf a basis) 0 [] places duals h i here in
     let col = as_column a basis (a.cols + p) d.v p_in.1 d.named in
     record {
-      own = λ e. own_column_some a basis (a.cols + p) d.v p_in.1 d.named (sym (product a basis p p (get_or duals i []) p_in.1 d p_in.0) ∙ ap (dot (get_or duals i [])) (sym (chosen_at places a.rows i here)) ∙ e);
+      own = λ e. column_some a basis (a.cols + p) d.v p_in.1 d.named (sym (product a basis p p (get_or duals i []) p_in.1 d p_in.0) ∙ ap (dot (get_or duals i [])) (sym (chosen_at places a.rows i here)) ∙ e);
       others = λ j j_lt ne.
           let there : j < length places = omega (arith, j_lt, many) in
           let q = get_or places j 0 in

@@ -6,9 +6,9 @@ use Rattle.std.proofs.lemmas.Bool.{cases_Bool}
 use Rattle.std.proofs.lemmas.Bool.Decides.{Decides-eqb}
 use Rattle.std.proofs.lemmas.List.{length-append, map-append}
 use Rattle.std.proofs.lemmas.List.Elements.{filter_more}
-use Rattle.crn_vec.specs.Lists.{IsIn, IsAbove, IsAscending, AreDistinct}
+use Rattle.crn_vec.specs.Lists.{IsIn, IsAscending, AreDistinct}
 use Rattle.crn_vec.specs.Vectors.{Mat}
-use Rattle.crn_vec.proofs.CallerLemmas.{in_left, in_right, in_push, in_map, map_in, same_place, eq_or, any_is, any_true, any_false, above_ascending, above_in}
+use Rattle.crn_vec.proofs.CallerLemmas.{in_left, in_right, in_push, in_map, map_in, same_place, eq_or, any_is, any_true, any_false, above_ascending, above_in, ascending_push}
 use Rattle.crn_cert.specs.RankTests.{outside}
 use Rattle.crn_rank.specs.Inner.Rows.{picked, is_inside}
 
@@ -46,18 +46,10 @@ picked_has p (suc k) q lt h = elim (eq_or q k) as (λ _. IsIn q (picked p (suc k
       ]
 ]
 
-above_snoc : (m : ℕ) (xs : List ℕ) (k : ℕ) → IsAbove m xs → m < k → ((c : ℕ) → IsIn c xs → c < k) → IsAbove m (xs ++ k ∷ [])
-above_snoc m [] k h lt all = (lt, tt)
-above_snoc m (x ∷ xs) k h lt all = (h.0, above_snoc x xs k h.1 (all x (inl refl)) (λ c i. all c (inr i)))
-
-pub ascending_snoc : (xs : List ℕ) (k : ℕ) → IsAscending xs → ((c : ℕ) → IsIn c xs → c < k) → IsAscending (xs ++ k ∷ [])
-ascending_snoc [] k h all = tt
-ascending_snoc (x ∷ xs) k h all = above_snoc x xs k h (all x (inl refl)) (λ c i. all c (inr i))
-
 pub picked_ascending : (p : ℕ → Bool) (m : ℕ) → IsAscending (picked p m)
 picked_ascending p zero = tt
 picked_ascending p (suc k) = elim (cases_Bool (p k)) as (λ _. IsAscending (picked p (suc k))) [
-  | inl yes' ↦ subst IsAscending (sym (suc_yes p k yes')) (ascending_snoc (picked p k) k (picked_ascending p k) (λ c i. (picked_below p k c i).0))
+  | inl yes' ↦ subst IsAscending (sym (suc_yes p k yes')) (ascending_push (picked p k) k (picked_ascending p k) (λ c i. (picked_below p k c i).0))
   | inr no' ↦ subst IsAscending (sym (suc_no p k no')) (picked_ascending p k)
 ]
 
