@@ -223,6 +223,17 @@ strong_long net e v h = absurd h.0
 pub strong_labelled : (net : Net) (facts : KeptFacts) → AreFactsOf net facts → HoldsOn facts.earlier 2 → length (strong facts.earlier) ≡ length net.complexes
 strong_labelled net facts h held = let f = formed_on net [] facts.earlier Q2 h.formed held in strong_long net f.0 (on facts.earlier Q2) f.1
 
+-- a verdict on strong classes has no more classes than there are complexes
+strong_counted : (net : Net) (e : Earlier) (v : Verdict) → IsFormedVerdict net e Q2 v → count_of v ≤ length net.complexes
+strong_counted net e (Strong count terminal label exit) h = h.0.0.1
+strong_counted net e (Unknown (Wide system class index basis)) h = absurd h.0
+strong_counted net e (Unknown (Budget nodes)) h = absurd h.0
+strong_counted net e (Unknown (Rests question)) h = absurd h.0
+strong_counted net e v h = absurd h.0
+
+pub strong_classes : (net : Net) (facts : KeptFacts) → AreFactsOf net facts → HoldsOn facts.earlier 2 → count_of (on facts.earlier Q2) ≤ length net.complexes
+strong_classes net facts h held = let f = formed_on net [] facts.earlier Q2 h.formed held in strong_counted net f.0 (on facts.earlier Q2) f.1
+
 -- a verdict on strong classes has no more terminal classes than there are complexes
 pub terminal_few : (net : Net) (e : Earlier) (v : Verdict) → IsFormedVerdict net e Q2 v → terminal_of v ≤ length net.complexes
 terminal_few net e (Strong count terminal label exit) h = omega (arith, h.0.0.1, h.0.1.1)
@@ -265,3 +276,11 @@ strong_ranged net e v h = absurd h.0
 
 pub strong_from : (net : Net) (facts : KeptFacts) → AreFactsOf net facts → HoldsOn facts.earlier 2 → AreFrom (length net.complexes) 1 (length (exits facts.earlier)) (strong facts.earlier)
 strong_from net facts h held = let f = formed_on net [] facts.earlier Q2 h.formed held in strong_ranged net f.0 (on facts.earlier Q2) f.1
+
+-- the labels of a verdict on strong classes are at most a number that its classes do not exceed
+labels_few : (count most : ℕ) (label : List ℕ) → count ≤ most → AllByRecursion (λ x. (1 ≤ x) × (x ≤ count)) label → AllByRecursion (λ x. x ≤ most) label
+labels_few count most [] le h = tt
+labels_few count most (x ∷ label) le h = (omega (arith, le, h.0.1), labels_few count most label le h.1)
+
+pub strong_below : (net : Net) (facts : KeptFacts) (most : ℕ) → AreFactsOf net facts → HoldsOn facts.earlier 2 → length (exits facts.earlier) ≤ most → AllByRecursion (λ x. x ≤ most) (strong facts.earlier)
+strong_below net facts most h held le = labels_few (length (exits facts.earlier)) most (strong facts.earlier) le (strong_from net facts h held).each

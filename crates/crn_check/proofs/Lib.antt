@@ -10,6 +10,7 @@ mod Forms
 mod Truths
 mod Asked
 mod Widths
+mod ZeroPlaces
 mod RankParts
 mod Fits
 mod Outside

@@ -1,19 +1,25 @@
-ghost use Rattle.std.specs.Prelude.{◌≡◌, ◌↔◌, ◌≤◌, ◌<◌, ◌==◌, ◌*◌, ◌^◌, ◌*ℤ◌, IsTrue, suc, length, drop, unsigned_abs};
+ghost use Rattle.std.specs.Prelude.{◌≡◌, ◌↔◌, ◌≤◌, ◌<◌, ◌==◌, ◌*◌, ◌^◌, ◌+ℤ◌, ◌*ℤ◌, ℕ, IsTrue, suc, length, drop, unsigned_abs};
 ghost use Rattle.std.specs.List.{AllByRecursion, list_any};
-ghost use Rattle.crn_vec.specs.declared.limits.TheConstants.{MAX_AMOUNT, WIDE_SOLUTION};
+ghost use Rattle.crn_vec.specs.declared.limits.TheConstants.{MAX_AMOUNT, MAX_REACTIONS, MAX_SPECIES, WIDE_SOLUTION};
 ghost use Rattle.crn_vec.specs.Rank.{combination_at};
-ghost use Rattle.crn_vec.specs.Vectors.{entry};
+ghost use Rattle.crn_vec.specs.Vectors.{AreWithin, entry};
 ghost use Rattle.crn_cert.specs.Ranges.{IsFrom, AreFree};
 ghost use Rattle.crn_cert.specs.RankTests.{IsComb, comb_tests, outside, vector_of, vectors_of};
 ghost use Rattle.crn_check.specs.Check.{Judges};
 ghost use Rattle.crn_check.specs.Inner.Bases.{IsBase, AreLabelled, members_of};
+ghost use Rattle.crn_check.specs.Inner.Skips.{AreSkips, AreSkipsOf};
 
 use crate::duals::vector_of;
 use crate::fault::CheckFault;
 use crate::members::Members;
+use crate::skips::{Skips, skips_at};
 use crate::sums::is_nought;
 use crn_cert::Rows;
 use crn_net::Network;
+use crn_vec::MAX_SPECIES;
+
+// A number for each species, and more at the places past the last species.
+type Sums = [i128; MAX_SPECIES];
 
 // A product of a number of a certificate and an entry of a reaction's vector.
 pub(crate) fn times(x: &i128, y: &i128) -> i128
@@ -25,38 +31,48 @@ pub(crate) fn times(x: &i128, y: &i128) -> i128
     *x * *y
 }
 
-// What a reaction with this number adds to the entry at a species.
-fn share(net: &Network, number: &i128, reaction: u32, s: usize) -> i128
+// Adds a multiple of a vector to the sums at its places.
+fn add_multiple(sums: &mut Sums, number: &i128, vector: &[i128], skips: &[u8], most: usize)
     requires number { unsigned_abs number.now < WIDE_SOLUTION }
-    requires reaction { IsFrom 1 (length net.now.reactions) reaction }
-    requires species { s < length net.now.names }
-    ensures value { result ≡ number.now *ℤ entry (vector_of net.now reaction) s }
-    ensures small { unsigned_abs result ≤ MAX_AMOUNT * WIDE_SOLUTION }
+    requires width { length vector.now ≤ MAX_SPECIES }
+    requires vector { AreWithin MAX_AMOUNT vector.now }
+    requires skips { AreSkips vector.now skips.now }
+    requires few { most < MAX_REACTIONS }
+    requires sums { AreWithin (most * (MAX_AMOUNT * WIDE_SOLUTION)) sums.old }
+    ensures within { AreWithin (suc most * (MAX_AMOUNT * WIDE_SOLUTION)) sums.new }
+    ensures each { (s : ℕ) → s < length vector.now
+        → entry sums.new s ≡ entry sums.old s +ℤ (number.now *ℤ entry vector.now s) }
 {
-    if is_nought(number) {
-        return 0;
+    let _ = most;
+    let mut k = skips[0] as usize;
+    'places: while k < vector.len() {
+        sums[k] += times(number, &vector[k]);
+        k = skips[k + 1] as usize;
     }
-    let vector = vector_of(net, reaction);
-    times(number, &vector[s])
 }
 
-// The entry at a species of the combination of the base with the numbers after the first.
-fn combination(net: &Network, base: &[u32], comb: &[i128], s: usize) -> i128
+// The combination of the base with the numbers after the first.
+fn combination(net: &Network, base: &[u32], skips: &[Skips], comb: &[i128]) -> Sums
     requires base { IsBase net.now base.now }
+    requires skips { AreSkipsOf net.now base.now skips.now }
     requires comb { AreFree (suc (length base.now)) comb.now }
-    requires species { s < length net.now.names }
-    ensures { result ≡ combination_at (drop 1 comb.now) (vectors_of net.now base.now) s }
+    ensures { (s : ℕ) → s < length net.now.names
+        → entry result s ≡ combination_at (drop 1 comb.now) (vectors_of net.now base.now) s }
 {
-    let mut sum = 0;
+    let mut sums = [0; MAX_SPECIES];
     for j in 0..base.len() {
-        sum += share(net, &comb[j + 1], base[j], s);
+        if !is_nought(&comb[j + 1]) {
+            let places = skips_at(net, base, skips, j);
+            add_multiple(&mut sums, &comb[j + 1], vector_of(net, base[j]), &places, j);
+        }
     }
-    sum
+    sums
 }
 
 // Whether a list combines the base to a positive multiple of a reaction's vector.
-fn is_comb(net: &Network, base: &[u32], reaction: u32, comb: &[i128]) -> bool
+fn is_comb(net: &Network, base: &[u32], skips: &[Skips], reaction: u32, comb: &[i128]) -> bool
     requires base { IsBase net.now base.now }
+    requires skips { AreSkipsOf net.now base.now skips.now }
     requires comb { AreFree (suc (length base.now)) comb.now }
     requires reaction { IsFrom 1 (length net.now.reactions) reaction }
     ensures { IsTrue result
@@ -65,9 +81,10 @@ fn is_comb(net: &Network, base: &[u32], reaction: u32, comb: &[i128]) -> bool
     if comb[0] < 1 {
         return false;
     }
+    let sums = combination(net, base, skips, comb);
     let vector = vector_of(net, reaction);
     for s in 0..vector.len() {
-        if times(&comb[0], &vector[s]) != combination(net, base, comb, s) {
+        if times(&comb[0], &vector[s]) != sums[s] {
             return false;
         }
     }
@@ -86,10 +103,12 @@ pub(crate) fn check_combs(
     net: &Network,
     members: &Members,
     base: &[u32],
+    skips: &[Skips],
     combs: &Rows,
     first: u32,
 ) -> Result<(), CheckFault>
     requires base { IsBase net.now base.now }
+    requires skips { AreSkipsOf net.now base.now skips.now }
     requires members { AreLabelled net.now members.now }
     requires count { length combs.now ≡ length (outside base.now (members_of net.now members.now)) }
     requires combs { AllByRecursion (AreFree (suc (length base.now))) combs.now }
@@ -101,7 +120,7 @@ pub(crate) fn check_combs(
     for r in 0..net.reactions() {
         let reaction = r as u32 + 1;
         if members.has(net, r) && !is_in(base, reaction) {
-            if !is_comb(net, base, reaction, combs.row(done)) {
+            if !is_comb(net, base, skips, reaction, combs.row(done)) {
                 let part = first + done as u32;
                 return Err(CheckFault { code: 34, part });
             }

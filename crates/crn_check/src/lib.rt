@@ -25,6 +25,7 @@ mod reverses;
 mod reversible;
 mod sides;
 mod signal;
+mod skips;
 mod space;
 mod strong;
 mod sums;

@@ -11,8 +11,10 @@ use crate::combs::check_combs;
 use crate::duals::check_duals;
 use crate::fault::CheckFault;
 use crate::members::Members;
+use crate::skips::put_skips;
 use crn_cert::{Proof, RankProof, Verdict};
 use crn_net::Network;
+use crn_vec::MAX_SPECIES;
 
 // The tests of the rank of the members; the base is record `part`.
 pub(crate) fn check_members(
@@ -30,9 +32,11 @@ pub(crate) fn check_members(
         proof.now.duals proof.now.combs) result }
 {
     let base = proof.base.as_slice();
-    check_duals(net, base, &proof.duals, part + 1)?;
+    let mut skips = [[0; MAX_SPECIES + 1]; MAX_SPECIES];
+    put_skips(net, base, &mut skips);
+    check_duals(net, base, &skips, &proof.duals, part + 1)?;
     let first = part + 1 + base.len() as u32;
-    check_combs(net, members, base, &proof.combs, first)
+    check_combs(net, members, base, &skips, &proof.combs, first)
 }
 
 // The tests of the records on the rank.

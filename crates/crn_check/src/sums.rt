@@ -1,6 +1,7 @@
 ghost use Rattle.std.specs.Prelude.{◌≡◌, ◌↔◌, ◌≤◌, ◌*◌, ◌*ℤ◌, IsTrue, pos, length, unsigned_abs};
 ghost use Rattle.crn_vec.specs.Vectors.{AreWithin, dot};
 ghost use Rattle.crn_vec.specs.declared.limits.TheConstants.{MAX_AMOUNT, MAX_COORDINATES, WIDE_SOLUTION};
+ghost use Rattle.crn_check.specs.Inner.Skips.{AreSkips};
 
 /// Whether a number is 0, as most numbers of certificates are.
 pub(crate) fn is_nought(number: &i128) -> bool
@@ -22,17 +23,20 @@ fn product(x: &i128, y: &i128) -> i128
     *x * *y
 }
 
-/// The sum of the products, place by place, of numbers of a certificate, mostly 0, and entries of a matrix.
-pub(crate) fn dot(a: &[i128], b: &[i128]) -> i128
+/// The sum of the products, place by place, of numbers of a certificate and a vector, at whose zeros none is formed.
+pub(crate) fn dot(a: &[i128], b: &[i128], skips: &[u8]) -> i128
     requires same { length b.now ≡ length a.now }
     requires few { length a.now ≤ MAX_COORDINATES }
     requires a { AreWithin WIDE_SOLUTION a.now }
     requires b { AreWithin MAX_AMOUNT b.now }
+    requires skips { AreSkips b.now skips.now }
     ensures { result ≡ dot a.now b.now }
 {
     let mut sum = 0;
-    for k in 0..a.len() {
+    let mut k = skips[0] as usize;
+    'places: while k < b.len() {
         sum += product(&a[k], &b[k]);
+        k = skips[k + 1] as usize;
     }
     sum
 }

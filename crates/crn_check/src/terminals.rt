@@ -1,14 +1,17 @@
 ghost use Rattle.std.specs.Prelude.{◌≡◌, ◌≤◌, ◌+◌, ◌↔◌, IsTrue, length};
-ghost use Rattle.std.specs.List.{list_any, range_with_len};
+ghost use Rattle.std.specs.List.{AllByRecursion};
+ghost use Rattle.crn_vec.specs.declared.limits.TheConstants.{MAX_COMPLEXES};
 ghost use Rattle.crn_cert.specs.Questions.{exits_of};
 ghost use Rattle.crn_cert.specs.Valid.{linkage_count, is_in_both, terminals_of, terminals_in, HaveOneBefore, HaveOneEach, IsFirstSplit};
 ghost use Rattle.crn_check.specs.Facts.{AreFactsOf, HoldsOn};
+ghost use Rattle.crn_check.specs.Inner.Terminals.{AreMarksIn};
 
 use crate::deficiency::count_in;
 use crate::facts::Facts;
 use crate::weak::labels_in;
 use crn_cert::Verdict;
 use crn_net::Network;
+use crn_vec::MAX_COMPLEXES;
 
 // The exits in a verdict on strong classes, and none in a verdict on something else.
 pub(crate) fn exits_in(verdict: &Verdict) -> &[u32]
@@ -20,28 +23,35 @@ pub(crate) fn exits_in(verdict: &Verdict) -> &[u32]
     }
 }
 
-// Whether some complex has label m in the one list and label k in the other.
-fn have_both(strong: &[u32], linkage: &[u32], m: usize, k: u32) -> bool
-    requires { length strong.now ≡ length linkage.now }
-    ensures { result
-        ≡ list_any (is_in_both strong.now linkage.now m k) (range_with_len 0 (length strong.now)) }
+// A mark for each strong label, from 0 on.
+type Marks = [bool; MAX_COMPLEXES + 1];
+
+// Marks of the labels in the one list that complexes with label k in the other have.
+fn marks_in(strong: &[u32], linkage: &[u32], k: u32) -> Marks
+    requires same { length strong.now ≡ length linkage.now }
+    requires labels { AllByRecursion (λ m. m ≤ MAX_COMPLEXES) strong.now }
+    ensures { AreMarksIn strong.now linkage.now k result }
 {
+    let mut marks = [false; MAX_COMPLEXES + 1];
     for c in 0..strong.len() {
-        if strong[c] as usize == m && linkage[c] == k {
-            return true;
+        if linkage[c] == k {
+            marks[strong[c] as usize] = true;
         }
     }
-    false
+    marks
 }
 
 // The number of terminal strong classes that have a complex in linkage class k, by lists.
 fn terminals_of(strong: &[u32], exit: &[u32], linkage: &[u32], k: u32) -> usize
-    requires { length strong.now ≡ length linkage.now }
+    requires same { length strong.now ≡ length linkage.now }
+    requires labels { AllByRecursion (λ m. m ≤ MAX_COMPLEXES) strong.now }
+    requires few { length exit.now ≤ MAX_COMPLEXES }
     ensures { result ≡ terminals_of strong.now exit.now linkage.now (length exit.now) k }
 {
+    let marks = marks_in(strong, linkage, k);
     let mut count = 0;
     for m in 0..exit.len() {
-        if exit[m] == 0 && have_both(strong, linkage, m + 1, k) {
+        if exit[m] == 0 && marks[m + 1] {
             count += 1;
         }
     }
@@ -55,7 +65,7 @@ fn terminals_in(net: &Network, facts: &Facts, k: u32) -> usize
     requires strong { HoldsOn facts.now.earlier 2 }
     ensures { result ≡ terminals_in facts.now.earlier k }
 {
-    let _ = net;
+    let _few = net.complexes();
     let classes = facts.verdict(2);
     let linkage = labels_in(facts.verdict(1));
     terminals_of(labels_in(classes), exits_in(classes), linkage, k)

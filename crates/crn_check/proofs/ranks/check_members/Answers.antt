@@ -6,6 +6,9 @@ use Rattle.crn_check.proofs.BaseForms.{base_is, base_few, base_outside}
 use Rattle.crn_check.proofs.Judging.{judges_stop, judges_go}
 use Rattle.crn_check.proofs.ranks.check_members.Goals as goal
 
+pub put_skips-requires : goal.put_skips-requires
+put_skips-requires c = subst (IsBase c.args.net.now) (sym c.as_slice-base.ensures) (base_is c.args.net.now c.args.members.now (length c.args.proof.now.base.list) c.args.proof.now c.requires.network c.requires.proof)
+
 pub check_duals-requires-clause-base : goal.check_duals-requires-clause-base
 check_duals-requires-clause-base c = subst (IsBase c.args.net.now) (sym c.as_slice-base.ensures) (base_is c.args.net.now c.args.members.now (length c.args.proof.now.base.list) c.args.proof.now c.requires.network c.requires.proof)
 

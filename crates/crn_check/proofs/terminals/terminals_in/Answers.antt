@@ -1,19 +1,38 @@
-use Rattle.std.proofs.Common.{◌≡◌, ◌∙◌, ℕ, List, length, sym, ap, ap₂}
+use Rattle.std.proofs.Common.{◌≡◌, ◌≤◌, ◌∙◌, ℕ, List, length, sym, ap, ap₂, subst, arith}
+use Rattle.std.specs.List.{AllByRecursion}
+use Rattle.crn_vec.specs.declared.limits.TheConstants.{MAX_COMPLEXES}
+use Rattle.crn_vec.specs.Network.{Net}
 use Rattle.crn_cert.specs.declared.answer.Verdict.{Verdict}
 use Rattle.crn_cert.specs.Questions.{Q2, on, count_of, exits_of, labels_of}
 use Rattle.crn_cert.specs.Valid.{linkage, strong, exits}
 use Rattle.crn_cert.specs.Valid.{terminals_of}
-use Rattle.crn_check.proofs.Forms.{strong_labelled, linkage_labelled}
+use Rattle.crn_check.specs.Facts.{KeptFacts, AreFactsOf, HoldsOn}
+use Rattle.crn_check.proofs.Forms.{strong_labelled, strong_below, strong_classes, linkage_labelled}
 use Rattle.crn_check.proofs.ClassTerminals.{exits_counted}
 use Rattle.crn_check.proofs.terminals.terminals_in.Goals as goal
 
-pub terminals_of-requires : goal.terminals_of-requires
-terminals_of-requires c =
+pub terminals_of-requires-clause-same : goal.terminals_of-requires-clause-same
+terminals_of-requires-clause-same c =
     let net = c.args.net.now in
     let facts = c.args.facts.now in
     ap (λ (l : List ℕ). length l) (c.labels_in.ensures ∙ ap (λ (v : Verdict). labels_of v) c.verdict-classes.ensures) ∙ strong_labelled net facts c.requires.facts c.requires.strong
     ∙ sym (linkage_labelled net facts c.requires.facts c.requires.linkage).0
     ∙ sym (ap (λ (l : List ℕ). length l) (c.labels_in-linkage.ensures ∙ ap (λ (v : Verdict). labels_of v) c.verdict.ensures))
+
+few_exits : (net : Net) (facts : KeptFacts) (complexes : ℕ) → AreFactsOf net facts → HoldsOn facts.earlier 2 → complexes ≡ length net.complexes → complexes ≤ MAX_COMPLEXES → length (exits facts.earlier) ≤ MAX_COMPLEXES
+few_exits net facts complexes h held is limit = omega (arith, exits_counted net facts h held, strong_classes net facts h held, is, limit)
+
+pub terminals_of-requires-clause-labels : goal.terminals_of-requires-clause-labels
+terminals_of-requires-clause-labels c =
+    let facts = c.args.facts.now in
+    subst (AllByRecursion (λ m. m ≤ MAX_COMPLEXES)) (sym (c.labels_in.ensures ∙ ap (λ (v : Verdict). labels_of v) c.verdict-classes.ensures))
+    (strong_below c.args.net.now facts MAX_COMPLEXES c.requires.facts c.requires.strong (few_exits c.args.net.now facts c.complexes-few.result c.requires.facts c.requires.strong c.complexes-few.ensures.count c.complexes-few.ensures.limit))
+
+pub terminals_of-requires-clause-few : goal.terminals_of-requires-clause-few
+terminals_of-requires-clause-few c =
+    let facts = c.args.facts.now in
+    let out : c.exits_in.result.now ≡ exits facts.earlier = c.exits_in.ensures ∙ ap (λ (v : Verdict). exits_of v) c.verdict-classes.ensures in
+    subst (λ (l : List ℕ). length l ≤ MAX_COMPLEXES) (sym out) (few_exits c.args.net.now facts c.complexes-few.result c.requires.facts c.requires.strong c.complexes-few.ensures.count c.complexes-few.ensures.limit)
 
 pub returns : goal.returns
 returns c =

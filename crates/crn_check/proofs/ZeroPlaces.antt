@@ -1,0 +1,56 @@
+-- Zeros of a vector add nothing to a sum of products, and bounds of lists of numbers.
+use Rattle.std.proofs.Common.{◌≡◌, ℕ, zero, suc, ◌+◌, ◌-◌, ◌<◌, ◌≤◌, List, [], ◌∷◌, length, take, refl, sym, ap, ◌∙◌, arith}
+use Rattle.std.specs.Prelude.{ℤ, pos, ◌+ℤ◌, ◌*ℤ◌, replicate, slice_set, unsigned_abs}
+use Rattle.std.proofs.Math.IntN.{zero-*ℤ, *ℤ-zero}
+use Rattle.std.proofs.lemmas.Int.{ints}
+use Rattle.crn_vec.specs.Vectors.{AreWithin, dot, entry}
+use Rattle.crn_vec.proofs.CallerLemmas.{dot_step}
+
+pub plus_none : (x : ℤ) → x +ℤ pos 0 ≡ x
+plus_none x = omega (arith, ints)
+
+skip_by : (a b : List ℤ) (k d : ℕ) → length b ≡ length a → k + d ≤ length b → ((i : ℕ) → k ≤ i → i < k + d → entry b i ≡ pos 0) → dot (take (k + d) a) (take (k + d) b) ≡ dot (take k a) (take k b)
+skip_by a b k zero same few none = let e : k + 0 ≡ k = omega arith in ap (λ (n : ℕ). dot (take n a) (take n b)) e
+skip_by a b k (suc d) same few none =
+    let e : k + suc d ≡ k + d + 1 = omega arith in
+    let sum = dot (take (k + d) a) (take (k + d) b) in
+    let nothing : entry a (k + d) *ℤ entry b (k + d) ≡ pos 0 = ap (λ (x : ℤ). entry a (k + d) *ℤ x) (none (k + d) (omega arith) (omega arith)) ∙ *ℤ-zero (entry a (k + d)) in
+    ap (λ (n : ℕ). dot (take n a) (take n b)) e
+    ∙ dot_step a b (k + d) (omega (arith, same, few)) (omega (arith, few))
+    ∙ ap (λ (x : ℤ). sum +ℤ x) nothing ∙ plus_none sum
+    ∙ skip_by a b k d same (omega (arith, few)) (λ i le lt. none i le (omega (arith, lt)))
+
+-- the products so far, if the vector is zero from one place to another
+pub dot_skip : (a b : List ℤ) (k n : ℕ) → length b ≡ length a → k ≤ n → n ≤ length b → ((i : ℕ) → k ≤ i → i < n → entry b i ≡ pos 0) → dot (take n a) (take n b) ≡ dot (take k a) (take k b)
+dot_skip a b k n same le few none =
+    let e : k + (n - k) ≡ n = omega (arith, le) in
+    ap (λ (m : ℕ). dot (take m a) (take m b)) (omega (arith, le))
+    ∙ skip_by a b k (n - k) same (omega (arith, e, few)) (λ i from lt. none i from (omega (arith, e, lt)))
+
+-- a multiple of a zero adds nothing
+pub zero_adds : (x n y : ℤ) → y ≡ pos 0 → x ≡ x +ℤ (n *ℤ y)
+zero_adds x n y e = sym (ap (λ (z : ℤ). x +ℤ (n *ℤ z)) e ∙ ap (λ (z : ℤ). x +ℤ z) (*ℤ-zero n) ∙ plus_none x)
+
+pub within_more : (m n : ℕ) (xs : List ℤ) → m ≤ n → AreWithin m xs → AreWithin n xs
+within_more m n [] le h = tt
+within_more m n (x ∷ xs) le h = (omega (arith, le, h.0), within_more m n xs le h.1)
+
+pub within_set : (m k : ℕ) (xs : List ℤ) (x : ℤ) → AreWithin m xs → unsigned_abs x ≤ m → AreWithin m (slice_set xs k x)
+within_set m k [] x h small = tt
+within_set m zero (y ∷ ys) x h small = (small, h.1)
+within_set m (suc k) (y ∷ ys) x h small = (h.0, within_set m k ys x h.1 small)
+
+-- the multiple zero adds nothing
+pub nought_adds : (x n y : ℤ) → n ≡ pos 0 → x ≡ x +ℤ (n *ℤ y)
+nought_adds x n y e = sym (ap (λ (z : ℤ). x +ℤ (z *ℤ y)) e ∙ ap (λ (z : ℤ). x +ℤ z) (zero-*ℤ y) ∙ plus_none x)
+
+-- ---- zeros
+
+pub entry_of_zeros : (n s : ℕ) → entry (replicate n (pos 0)) s ≡ pos 0
+entry_of_zeros zero s = refl
+entry_of_zeros (suc n) zero = refl
+entry_of_zeros (suc n) (suc s) = entry_of_zeros n s
+
+pub zeros_within : (m n : ℕ) → AreWithin m (replicate n (pos 0))
+zeros_within m zero = tt
+zeros_within m (suc n) = (omega arith, zeros_within m n)

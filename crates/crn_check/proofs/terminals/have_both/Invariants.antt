@@ -1,7 +1,0 @@
-use Rattle.std.proofs.Common.{◌≡◌, false}
-use Rattle.std.specs.List.{list_any, range_with_len}
-use Rattle.crn_cert.specs.Valid.{is_in_both}
-use Rattle.crn_check.proofs.terminals.have_both.Given as goal
-
-abbrev pub invariant-loop-c : goal.invariant-loop-c
-invariant-loop-c l = list_any (is_in_both l.strong l.linkage l.m l.k) (range_with_len 0 l.c) ≡ false

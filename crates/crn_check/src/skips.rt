@@ -1,0 +1,55 @@
+ghost use Rattle.std.specs.Prelude.{◌≤◌, ◌<◌, length, slice_index};
+ghost use Rattle.crn_vec.specs.declared.limits.TheConstants.{MAX_SPECIES};
+ghost use Rattle.crn_cert.specs.RankTests.{vector_of};
+ghost use Rattle.crn_check.specs.Inner.Bases.{IsBase};
+ghost use Rattle.crn_check.specs.Inner.Skips.{AreSkips, AreSkipsOf};
+
+use crate::duals::vector_of;
+use crate::sums::is_nought;
+use crn_net::Network;
+use crn_vec::MAX_SPECIES;
+
+/// From each place of a vector the next at which it is not 0, or the vector's length.
+pub(crate) type Skips = [u8; MAX_SPECIES + 1];
+
+// The places at which a vector is not 0, as most numbers of a reaction's vector are.
+fn skips_of(vector: &[i128]) -> Skips
+    requires { length vector.now ≤ MAX_SPECIES }
+    ensures { AreSkips vector.now result }
+{
+    let mut s = vector.len();
+    let mut skips = [s as u8; MAX_SPECIES + 1];
+    'back: while s > 0 {
+        s -= 1;
+        skips[s] = if is_nought(&vector[s]) {
+            skips[s + 1]
+        } else {
+            s as u8
+        };
+    }
+    skips
+}
+
+/// Writes the places at which the vectors of the first members of a base are not 0.
+pub(crate) fn put_skips(net: &Network, base: &[u32], all: &mut [Skips; MAX_SPECIES])
+    requires { IsBase net.now base.now }
+    ensures { AreSkipsOf net.now base.now all.new }
+{
+    for j in 0..base.len().min(MAX_SPECIES) {
+        all[j] = skips_of(vector_of(net, base[j]));
+    }
+}
+
+/// The places at which the vector of member j of a base is not 0. A base with more members than species is of none.
+pub(crate) fn skips_at(net: &Network, base: &[u32], all: &[Skips], j: usize) -> Skips
+    requires base { IsBase net.now base.now }
+    requires skips { AreSkipsOf net.now base.now all.now }
+    requires member { j < length base.now }
+    ensures { AreSkips (vector_of net.now (slice_index base.now j)) result }
+{
+    if j < all.len() {
+        all[j]
+    } else {
+        skips_of(vector_of(net, base[j]))
+    }
+}
