@@ -1,4 +1,4 @@
-ghost use Rattle.std.specs.Prelude.{◌≡◌, ◌↔◌, ◌<◌, ◌≤◌, List, length, map, IsTrue};
+ghost use Rattle.std.specs.Prelude.{◌≡◌, ◌≢◌, ◌↔◌, ◌<◌, ◌≤◌, ℤ, pos, true, List, length, map, IsTrue};
 ghost use Rattle.crn_vec.specs.declared.limits.TheConstants.{MAX_COORDINATES};
 ghost use Rattle.crn_vec.specs.declared.signs.Sign.{Sign};
 ghost use Rattle.crn_vec.specs.Concordance.{sign};
@@ -6,7 +6,7 @@ ghost use Rattle.crn_vec.specs.Elementary.{width};
 ghost use Rattle.crn_vec.specs.NetSystems.{reaction_system};
 ghost use Rattle.crn_vec.specs.Network.{Net};
 ghost use Rattle.crn_vec.specs.Signals.{shelf_matrix};
-ghost use Rattle.crn_vec.specs.Systems.{IsCut};
+ghost use Rattle.crn_vec.specs.Systems.{IsCut, MayWeigh, is_signed, kind_at};
 ghost use Rattle.crn_vec.specs.Vectors.{HasSign, column, dot, entry};
 ghost use Rattle.crn_cert.specs.Ranges.{AreFree};
 ghost use Rattle.crn_ctree.specs.Inner.Kinds.{kinds_of, matrix_by, matrix_of, weights_of};
@@ -14,9 +14,10 @@ ghost use Rattle.crn_ctree.specs.Inner.Kinds.{kinds_of, matrix_by, matrix_of, we
 use crate::kinds::kind;
 use crate::pair::times;
 use crate::problem::Problem;
+use crate::sums::dot;
 use crn_net::Network;
 use crn_shape::Shape;
-use crn_vec::{Sign, counts, dot, may_weigh, opposite, sign_of};
+use crn_vec::{Sign, counts, may_weigh, opposite, sign_of};
 
 // A part of a prefix.
 #[derive(Clone, Copy)]
@@ -132,6 +133,41 @@ pub(crate) fn put_weights(net: &Network, system: System, u: &[i128], into: &mut 
     }
 }
 
+fn is_nought(sign: Sign) -> bool
+    ensures { (x : ℤ) → HasSign sign x → (IsTrue result ↔ (x ≡ pos 0)) }
+{
+    match sign {
+        Sign::Zero => true,
+        _ => false,
+    }
+}
+
+// Whether numbers of this sign may be at a coordinate of a cut. A 0 may be at any, so no kind is formed for it.
+fn fits(net: &Network, problem: Problem, part: Part, prefix: &[Sign], k: usize, sign: Sign) -> bool
+    requires { k < width (matrix_of net.now problem part) }
+    ensures { (x : ℤ) → HasSign sign x → (IsTrue result
+        ↔ MayWeigh (kind_at (kinds_of net.now problem.entry part prefix.now) k) x) }
+{
+    is_nought(sign) || may_weigh(kind(net, problem, part, prefix, k), sign)
+}
+
+// Whether a coordinate has to be positive or negative, and numbers of this sign are not 0.
+fn counts_at(
+    net: &Network,
+    problem: Problem,
+    part: Part,
+    prefix: &[Sign],
+    k: usize,
+    sign: Sign,
+) -> bool
+    requires { k < width (matrix_of net.now problem part) }
+    ensures { (x : ℤ) → HasSign sign x → (IsTrue result
+        ↔ ((is_signed (kind_at (kinds_of net.now problem.entry part prefix.now) k) ≡ true)
+        × (x ≢ pos 0))) }
+{
+    !is_nought(sign) && counts(kind(net, problem, part, prefix, k), sign)
+}
+
 /// Whether the multipliers rule a part of a prefix out.
 pub(crate) fn rules_out(
     net: &Network,
@@ -148,12 +184,11 @@ pub(crate) fn rules_out(
     let system = system_of(problem, part);
     let mut some = false;
     for k in 0..columns(net, system) + rows(net, system) {
-        let kind = kind(net, problem, part, prefix, k);
         let sign = weight(net, system, u, k);
-        if !may_weigh(kind, sign) {
+        if !fits(net, problem, part, prefix, k, sign) {
             return false;
         }
-        if counts(kind, sign) {
+        if counts_at(net, problem, part, prefix, k, sign) {
             some = true;
         }
     }

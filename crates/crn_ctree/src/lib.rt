@@ -14,6 +14,7 @@ mod problem;
 mod shared;
 mod signal;
 mod spots;
+mod sums;
 mod worked;
 
 pub use check::TreeCheck;

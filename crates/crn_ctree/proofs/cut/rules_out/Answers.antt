@@ -1,18 +1,22 @@
-use Rattle.std.proofs.Common.{◌≡◌, ◌+◌, length, sym, ap, subst, ◌∙◌, arith}
+use Rattle.std.proofs.Common.{◌≡◌, ◌+◌, length, refl, sym, ap, subst, ◌∙◌, arith}
 use Rattle.std.specs.Prelude.{IsTrue}
 use Rattle.std.proofs.lemmas.Bool.{false≢true}
-use Rattle.crn_vec.specs.declared.signs.Kind.{Kind}
 use Rattle.crn_vec.specs.Elementary.{width}
 use Rattle.crn_vec.specs.Systems.{MayWeigh, kind_at}
 use Rattle.crn_vec.specs.Vectors.{HasSign, Mat, entry}
 use Rattle.crn_cert.specs.Ranges.{AreFree}
 use Rattle.crn_ctree.specs.Inner.Kinds.{kinds_of, matrix_of, weights_of}
 use Rattle.crn_ctree.proofs.CutLaws.{CountsTo, may_next, counts_more, counts_here, counts_last, cut_from, cut_weighs, cut_counts}
-use Rattle.crn_ctree.proofs.cut.rules_out.Goals.{then-counts, else-counts}
+use Rattle.crn_ctree.proofs.cut.rules_out.Goals.{then-counts_at, else-counts_at}
 use Rattle.crn_ctree.proofs.cut.rules_out.Goals as goal
 
-pub kind-kind-requires : goal.kind-kind-requires
-kind-kind-requires c =
+pub fits-requires : goal.fits-requires
+fits-requires c =
+    let e = ap (λ (a : Mat). width a) (c.system_of-system.ensures.matrix c.args.net.now) in
+    omega (arith, e, c.loop-k-test.true, c.loop-k.auto.k-end, c.columns.ensures.count, c.rows.ensures.count)
+
+pub counts_at-requires : goal.counts_at-requires
+counts_at-requires c =
     let e = ap (λ (a : Mat). width a) (c.system_of-system.ensures.matrix c.args.net.now) in
     omega (arith, e, c.loop-k-test.true, c.loop-k.auto.k-end, c.columns.ensures.count, c.rows.ensures.count)
 
@@ -23,8 +27,8 @@ weight-sign-requires-clause-numbers c =
 pub weight-sign-requires-clause-place : goal.weight-sign-requires-clause-place
 weight-sign-requires-clause-place c = omega (arith, c.loop-k-test.true, c.loop-k.auto.k-end, c.columns.ensures.count, c.rows.ensures.count)
 
-pub returns-then-not-may_weigh : goal.returns-then-not-may_weigh
-returns-then-not-may_weigh c =
+pub returns-then-not-fits : goal.returns-then-not-fits
+returns-then-not-fits c =
     let net = c.args.net.now in
     let u = c.args.u.now in
     let a = matrix_of net c.args.problem c.args.part in
@@ -35,7 +39,7 @@ returns-then-not-may_weigh c =
       λ t. absurd (false≢true t),
       λ cut.
           let m = cut_weighs a kinds u c.requires.long cut k in
-          absurd (false≢true (sym c.if-not-may_weigh.true ∙ (c.may_weigh.ensures (entry w k) sign).1 (subst (λ (κ : Kind). MayWeigh κ (entry w k)) (sym c.kind-kind.ensures) m))),
+          absurd (false≢true (sym c.if-not-fits.true ∙ (c.fits.ensures (entry w k) sign).1 m)),
     )
 
 pub loop-k-preserved : goal.loop-k-preserved
@@ -47,16 +51,16 @@ loop-k-preserved c =
     let w = weights_of a u in
     let k = c.loop-k.k in
     let sign = subst (λ (b : Mat). HasSign c.weight-sign.result (entry (weights_of b u) k)) (c.system_of-system.ensures.matrix net) c.weight-sign.ensures in
-    let weighs : MayWeigh (kind_at kinds k) (entry w k) = subst (λ (κ : Kind). MayWeigh κ (entry w k)) c.kind-kind.ensures ((c.may_weigh.ensures (entry w k) sign).0 c.if-not-may_weigh.false) in
-    let tells = c.counts.ensures (entry w k) sign in (
+    let weighs : MayWeigh (kind_at kinds k) (entry w k) = (c.fits.ensures (entry w k) sign).0 c.if-not-fits.false in
+    let tells = c.counts_at.ensures (entry w k) sign in (
       may_next kinds w k c.loop-k.invariant.0 weighs,
-      elim c.if-counts.branch as (λ _. (IsTrue c.if-counts.some → CountsTo kinds w (k + 1)) × (CountsTo kinds w (k + 1) → IsTrue c.if-counts.some)) [
-        | then-counts b ↦
-            let here = tells.0 b.if-counts.true in
-            (λ _. counts_here kinds w k (sym (c.kind-kind.ensures)) here.0 here.1, λ _. b.some-is)
-        | else-counts b ↦ (
+      elim c.if-counts_at.branch as (λ _. (IsTrue c.if-counts_at.some → CountsTo kinds w (k + 1)) × (CountsTo kinds w (k + 1) → IsTrue c.if-counts_at.some)) [
+        | then-counts_at b ↦
+            let here = tells.0 b.if-counts_at.true in
+            (λ _. counts_here kinds w k refl here.0 here.1, λ _. b.some-is)
+        | else-counts_at b ↦ (
           λ t. counts_more kinds w k (c.loop-k.invariant.1.0 (sym b.some-is ∙ t)),
-          λ h. b.some-is ∙ c.loop-k.invariant.1.1 (counts_last kinds w k (sym c.kind-kind.ensures) h (λ s. absurd (false≢true (sym b.if-counts.false ∙ tells.1 s)))),
+          λ h. b.some-is ∙ c.loop-k.invariant.1.1 (counts_last kinds w k refl h (λ s. absurd (false≢true (sym b.if-counts_at.false ∙ tells.1 s)))),
         )
       ],
     )
