@@ -133,11 +133,11 @@ class_rank_leaves net labels k s n l (root, lt, e) r =
 
 -- ---- ascending numbers below n are at most n
 
-above_few : (xs : List ℕ) (k n : ℕ) → IsAbove k xs → ((x : ℕ) → IsIn x xs → x < n) → k < n → k + length xs < n
+pub above_few : (xs : List ℕ) (k n : ℕ) → IsAbove k xs → ((x : ℕ) → IsIn x xs → x < n) → k < n → k + length xs < n
 above_few [] k n a h lt = omega (arith, lt)
 above_few (x ∷ xs) k n a h lt = let r = above_few xs x n a.1 (λ y i. h y (inr i)) (h x (inl refl)) in omega (arith, r, a.0)
 
-ascending_few : (xs : List ℕ) (n : ℕ) → IsAscending xs → ((x : ℕ) → IsIn x xs → x < n) → length xs ≤ n
+pub ascending_few : (xs : List ℕ) (n : ℕ) → IsAscending xs → ((x : ℕ) → IsIn x xs → x < n) → length xs ≤ n
 ascending_few [] n a h = omega arith
 ascending_few (x ∷ xs) n a h = let r = above_few xs x n a (λ y i. h y (inr i)) (h x (inl refl)) in omega (arith, r)
 
@@ -148,7 +148,7 @@ zero_entry [] h k = refl
 zero_entry (x ∷ c) h zero = h.0
 zero_entry (x ∷ c) h (suc k) = zero_entry c h.1 k
 
-few_independent : (n : ℕ) (vs : List (List ℤ)) → AreOfLength n vs → IsIndependent vs → length vs ≤ n
+pub few_independent : (n : ℕ) (vs : List (List ℤ)) → AreOfLength n vs → IsIndependent vs → length vs ≤ n
 few_independent n vs long free = elim (lt_or n (length vs)) as (λ _. length vs ≤ n) [
   | inl more ↦
       let r = too_many n vs long more in
@@ -158,7 +158,7 @@ few_independent n vs long free = elim (lt_or n (length vs)) as (λ _. length vs 
 
 -- ---- a reaction vector is not zero, and so one alone is independent
 
-same_if_none : (xs ys : List ℤ) → length xs ≡ length ys → ((k : ℕ) → entry (minus xs ys) k ≡ pos 0) → xs ≡ ys
+pub same_if_none : (xs ys : List ℤ) → length xs ≡ length ys → ((k : ℕ) → entry (minus xs ys) k ≡ pos 0) → xs ≡ ys
 same_if_none [] [] l h = refl
 same_if_none [] (y ∷ ys) l h = absurd (omega (arith, l))
 same_if_none (x ∷ xs) [] l h = absurd (omega (arith, l))

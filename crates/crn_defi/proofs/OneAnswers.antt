@@ -23,7 +23,8 @@ use Rattle.crn_cert.specs.Law.{IsTrueOrOpen}
 use Rattle.crn_cert.proofs.CallerLemmas.{valid_answers_are_true}
 use Rattle.crn_cert.specs.Answered.{IsAnswer}
 use Rattle.crn_cert.specs.Given.{GiveClasses}
-use Rattle.crn_defi.specs.Inner.Terminals.{is_terminal_in, terminals_of, HaveOneUpTo, IsFirstWithMore, IsVerdictOn, IsFewOrOpen, IsVerdictAfter}
+use Rattle.crn_cert.specs.Valid.{is_terminal_in, terminals_of}
+use Rattle.crn_defi.specs.Inner.Terminals.{HaveOneUpTo, IsFirstWithMore, IsVerdictOn, IsFewOrOpen, IsVerdictAfter}
 use Rattle.crn_defi.proofs.Counted.{labels_few}
 use Rattle.crn_defi.proofs.ClassRanks.{class_short}
 use Rattle.crn_defi.proofs.TerminalCounts.{Known, terminals_some, one_terminal_each}

@@ -10,7 +10,7 @@ use Rattle.crn_vec.specs.Network.{Net, IsNetwork, reaction_vector, ends}
 use Rattle.crn_vec.specs.Rank.{chosen}
 use Rattle.crn_vec.specs.Deficiency.{IsLabelled, class_reactions, class_vectors, class_members}
 use Rattle.crn_vec.proofs.CallerLemmas.{at_in, inside_at, class_link, in_range, filter_has, filter_from, above_lower, filter_ascending, range_more}
-use Rattle.crn_vec.proofs.CallerLemmas.{filter_yes, filter_no, range_ascending, range_bounds}
+use Rattle.crn_vec.proofs.CallerLemmas.{filter_yes, filter_no, range_ascending, range_bounds, first_stays, first_goes}
 use Rattle.crn_cert.specs.declared.answer.Verdict.TheVariants.{Classes}
 use Rattle.crn_cert.specs.Questions.{Earlier, Q1}
 use Rattle.crn_cert.specs.RankTests.{vector_of, vectors_of}
@@ -22,13 +22,6 @@ use Rattle.crn_defi.specs.Inner.ClassRanks.{reactions_of, IsClass}
 pub range_distinct : (a n : ℕ) → AreDistinct (range_with_len a n)
 range_distinct a zero = tt
 range_distinct a (suc n) = (λ i. let b = range_bounds a (a + 1) n i in omega (arith, b.0), range_distinct (a + 1) n)
-
--- the first member stays, or goes
-kept : {A : Type 0} (p : A → Bool) (x : A) (xs : List A) → p x ≡ true → filter p (x ∷ xs) ≡ x ∷ filter p xs
-kept p x xs h = rw h refl
-
-gone : {A : Type 0} (p : A → Bool) (x : A) (xs : List A) → p x ≡ false → filter p (x ∷ xs) ≡ filter p xs
-gone p x xs h = rw h refl
 
 -- ---- the complexes of a class
 
@@ -45,8 +38,8 @@ size_from labels (l ∷ ls) k a h =
     let here : get_or labels a 0 ≡ l = ap (λ (j : ℕ). get_or labels j 0) (omega arith) ∙ h 0 (omega arith) in
     let rest = size_from labels ls k (a + 1) (λ i lt. ap (λ (j : ℕ). get_or labels j 0) (omega arith) ∙ h (suc i) (omega (arith, lt))) in
     elim (cases_Bool (q l)) as (λ _. length (filter p (a ∷ later)) ≡ length (class_members (l ∷ ls) k)) [
-      | inl hit ↦ ap length (kept p a later (ap q here ∙ hit)) ∙ ap suc rest ∙ ap length (sym (kept q l ls hit))
-      | inr miss ↦ ap length (gone p a later (ap q here ∙ miss)) ∙ rest ∙ ap length (sym (gone q l ls miss))
+      | inl hit ↦ ap length (first_stays p a later (ap q here ∙ hit)) ∙ ap suc rest ∙ ap length (sym (first_stays q l ls hit))
+      | inr miss ↦ ap length (first_goes p a later (ap q here ∙ miss)) ∙ rest ∙ ap length (sym (first_goes q l ls miss))
     ]
 
 pub size_is : (labels : List ℕ) (k : ℕ) → length (complexes_at labels k) ≡ length (class_members labels k)

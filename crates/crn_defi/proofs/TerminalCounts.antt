@@ -1,21 +1,20 @@
 -- The terminal strong classes of each linkage class.
-use Rattle.std.proofs.Common.{◌≡◌, ◌≢◌, ℕ, zero, suc, ◌+◌, ◌-◌, ◌<◌, ◌≤◌, ◌==◌, ◌⊎◌, inl, inr, Bool, true, false, List, [], ◌∷◌, ◌++◌, length, get_or, refl, sym, ap, subst, ◌∙◌, arith}
-use Rattle.std.specs.Prelude.{◌&&◌, ◌||◌, filter, count_by}
+use Rattle.std.proofs.Common.{◌≡◌, ℕ, zero, suc, ◌-◌, ◌<◌, ◌≤◌, ◌==◌, ◌⊎◌, inl, inr, Bool, true, false, List, [], ◌∷◌, length, get_or, refl, sym, ap, subst, ◌∙◌, arith}
+use Rattle.std.specs.Prelude.{◌||◌, filter, count_by}
 use Rattle.std.specs.List.{list_any, range_with_len}
-use Rattle.std.proofs.lemmas.Bool.{eqb-true, eq-eqb, false≢true}
-use Rattle.std.proofs.lemmas.List.{length-append}
-use Rattle.std.proofs.lemmas.List.Sums.{length-filter, count_by-le-length}
-use Rattle.std.proofs.lemmas.List.FromFn.{length-range_with_len}
+use Rattle.std.proofs.lemmas.Bool.{eqb-true, eq-eqb}
+use Rattle.std.proofs.lemmas.List.Sums.{length-filter}
 use Rattle.crn_vec.specs.Lists.{IsIn}
 use Rattle.crn_vec.specs.Network.{Net, IsNetwork}
 use Rattle.crn_vec.specs.Linkage.{SameClass}
 use Rattle.crn_vec.specs.Strong.{ReactsTo, Reaches, SameStrong, IsTerminal, LeavesClass}
 use Rattle.crn_vec.specs.Deficiency.{IsComplex, IsLabelled, HasTerminalClasses, HasOneTerminalEach}
-use Rattle.crn_vec.proofs.CallerLemmas.{leads_keeps, reaction_in, inside_at, in_range, filter_has, filter_from, range_more, filter_yes, filter_no, and_cases, and_true}
-use Rattle.crn_vec.proofs.CallerLemmas.{range_bounds}
+use Rattle.crn_vec.proofs.CallerLemmas.{leads_keeps, reaction_in, inside_at, in_range, filter_has, filter_from, and_cases, and_true}
+use Rattle.crn_vec.proofs.CallerLemmas.{range_bounds, any_has}
 use Rattle.crn_cert.specs.Says.{AreLinkageClasses, AreStrongClasses}
 use Rattle.crn_cert.specs.ClassTests.{of_class, DoLevelsFall}
-use Rattle.crn_defi.specs.Inner.Terminals.{is_in_both, is_terminal_in, terminals_of, HaveOneUpTo}
+use Rattle.crn_cert.specs.Valid.{is_in_both, is_terminal_in, terminals_of}
+use Rattle.crn_defi.specs.Inner.Terminals.{HaveOneUpTo}
 use Rattle.crn_defi.proofs.Places.{one_label}
 
 -- ---- tests of lists
@@ -27,27 +26,6 @@ any_some p (x ∷ xs) e = by_first p x xs (any_some p xs) (p x) refl e
     by_first : (p : ℕ → Bool) (x : ℕ) (xs : List ℕ) → (list_any p xs ≡ true → (y : ℕ) × IsIn y xs × (p y ≡ true)) → (b : Bool) → p x ≡ b → (b || list_any p xs) ≡ true → (y : ℕ) × IsIn y (x ∷ xs) × (p y ≡ true)
     by_first p x xs later true h e = (x, inl refl, h)
     by_first p x xs later false h e = let r = later e in (r.0, inr r.1, r.2)
-
-neither : (a b : Bool) → a ≡ false → b ≡ false → (a || b) ≡ false
-neither true b e f = cc
-neither false b e f = f
-
-none_of : (a b : Bool) → (a || b) ≡ false → (a ≡ false) × (b ≡ false)
-none_of true b e = cc
-none_of false b e = (refl, e)
-
-pub any_has : (p : ℕ → Bool) (xs : List ℕ) (x : ℕ) → IsIn x xs → p x ≡ true → list_any p xs ≡ true
-any_has p [] x i h = absurd i
-any_has p (y ∷ ys) x (inl e) h = left (p y) (list_any p ys) (ap p (sym e) ∙ h)
-  where
-    left : (a b : Bool) → a ≡ true → (a || b) ≡ true
-    left true b e = refl
-    left false b e = cc
-any_has p (y ∷ ys) x (inr i) h = right (p y) (list_any p ys) (any_has p ys x i h)
-  where
-    right : (a b : Bool) → b ≡ true → (a || b) ≡ true
-    right true b e = refl
-    right false b e = e
 
 -- ---- how many pass a test
 
@@ -231,53 +209,3 @@ one_terminal_each net count links strong_count terminal labels exits known one y
     let among : IsIn n ms = in_range n 1 (length exits) (s.right.positive z lt) (omega (arith, s.count_is.most z lt, s.classes)) in
     let only : m.0 ≡ n = one_counted p ms m.0 n is_one m.1 among m.2 hit in
     s.right.same t.c z t.inside lt (same_label labels t.c z m.0 t.strong_is only))
-
--- ---- lists with one more at the end
-
-pub any_push : (p : ℕ → Bool) (xs : List ℕ) (x : ℕ) → list_any p xs ≡ false → p x ≡ false → list_any p (xs ++ x ∷ []) ≡ false
-any_push p [] x e h = neither (p x) false h refl
-any_push p (y ∷ ys) x e h =
-    let b = none_of (p y) (list_any p ys) e in
-    neither (p y) (list_any p (ys ++ x ∷ [])) b.0 (any_push p ys x b.1 h)
-
-pub count_yes : (p : ℕ → Bool) (xs : List ℕ) (x : ℕ) → p x ≡ true → count_by p (xs ++ x ∷ []) ≡ count_by p xs + 1
-count_yes p xs x h = omega (arith, length-filter p (xs ++ x ∷ []), ap length (filter_yes p xs x h), length-append (filter p xs) (x ∷ []), length-filter p xs)
-
-pub count_no : (p : ℕ → Bool) (xs : List ℕ) (x : ℕ) → p x ≡ false → count_by p (xs ++ x ∷ []) ≡ count_by p xs
-count_no p xs x h = sym (length-filter p (xs ++ x ∷ [])) ∙ ap length (filter_no p xs x h) ∙ length-filter p xs
-
--- a test of two parts fails if one part does
-pub and_no : (a b : Bool) → (a ≡ true → b ≡ true → ⊥) → (a && b) ≡ false
-and_no true true h = absurd (h refl refl)
-and_no true false h = refl
-and_no false b h = refl
-
--- ---- one strong class more
-
-pub passes_at : (labels exits links : List ℕ) (k m : ℕ) → get_or exits m 0 ≡ 0 → list_any (is_in_both labels links (m + 1) k) (range_with_len 0 (length labels)) ≡ true → is_terminal_in labels exits links k (m + 1) ≡ true
-passes_at labels exits links k m e h =
-    let back : m + 1 - 1 ≡ m = omega arith in
-    and_true (get_or exits (m + 1 - 1) 0 == 0) (list_any (is_in_both labels links (m + 1) k) (range_with_len 0 (length labels))) (eq-eqb (get_or exits (m + 1 - 1) 0) 0 (ap (λ (n : ℕ). get_or exits n 0) back ∙ e)) h
-
-pub fails_by_exit : (labels exits links : List ℕ) (k m : ℕ) → get_or exits m 0 ≢ 0 → is_terminal_in labels exits links k (m + 1) ≡ false
-fails_by_exit labels exits links k m ne =
-    let back : m + 1 - 1 ≡ m = omega arith in
-    and_no (get_or exits (m + 1 - 1) 0 == 0) (list_any (is_in_both labels links (m + 1) k) (range_with_len 0 (length labels)))
-    (λ e h. ne (ap (λ (n : ℕ). get_or exits n 0) (sym back) ∙ eqb-true (get_or exits (m + 1 - 1) 0) 0 e))
-
-pub fails_by_complexes : (labels exits links : List ℕ) (k m : ℕ) → list_any (is_in_both labels links (m + 1) k) (range_with_len 0 (length labels)) ≡ false → is_terminal_in labels exits links k (m + 1) ≡ false
-fails_by_complexes labels exits links k m h =
-    and_no (get_or exits (m + 1 - 1) 0 == 0) (list_any (is_in_both labels links (m + 1) k) (range_with_len 0 (length labels))) (λ e f. false≢true (sym h ∙ f))
-
-pub terminals_yes : (labels exits links : List ℕ) (k m : ℕ) → is_terminal_in labels exits links k (m + 1) ≡ true → terminals_of labels exits links (m + 1) k ≡ terminals_of labels exits links m k + 1
-terminals_yes labels exits links k m h =
-    let p = is_terminal_in labels exits links k in
-    ap (count_by p) (range_more 1 m (m + 1) (omega arith)) ∙ count_yes p (range_with_len 1 m) (m + 1) h
-
-pub terminals_no : (labels exits links : List ℕ) (k m : ℕ) → is_terminal_in labels exits links k (m + 1) ≡ false → terminals_of labels exits links (m + 1) k ≡ terminals_of labels exits links m k
-terminals_no labels exits links k m h =
-    let p = is_terminal_in labels exits links k in
-    ap (count_by p) (range_more 1 m (m + 1) (omega arith)) ∙ count_no p (range_with_len 1 m) (m + 1) h
-
-pub terminals_few : (labels exits links : List ℕ) (k m : ℕ) → terminals_of labels exits links m k ≤ m
-terminals_few labels exits links k m = omega (arith, count_by-le-length (is_terminal_in labels exits links k) (range_with_len 1 m), length-range_with_len 1 m)

@@ -1,7 +1,8 @@
 ghost use Rattle.std.specs.Prelude.{◌≡◌, ◌≤◌, length, MatchOption};
 ghost use Rattle.std.specs.List.{list_any, range_with_len};
 ghost use Rattle.crn_vec.specs.declared.limits.TheConstants.{MAX_COMPLEXES};
-ghost use Rattle.crn_defi.specs.Inner.Terminals.{is_in_both, terminals_of, HaveOneUpTo, IsFirstWithMore};
+ghost use Rattle.crn_cert.specs.Valid.{is_in_both, terminals_of};
+ghost use Rattle.crn_defi.specs.Inner.Terminals.{HaveOneUpTo, IsFirstWithMore};
 
 // Whether some complex has label m in the one list and label k in the other.
 fn have_both(strong: &[u32], linkage: &[u32], m: u32, k: u32) -> bool

@@ -1,6 +1,6 @@
 use Rattle.std.proofs.Common.{◌≡◌, false}
 use Rattle.std.specs.List.{list_any, range_with_len}
-use Rattle.crn_defi.specs.Inner.Terminals.{is_in_both}
+use Rattle.crn_cert.specs.Valid.{is_in_both}
 use Rattle.crn_defi.proofs.terminals.have_both.Given as goal
 
 abbrev pub invariant-loop-c : goal.invariant-loop-c
