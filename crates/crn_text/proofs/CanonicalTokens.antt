@@ -47,7 +47,7 @@ digit_no_blank b h = grind (arith, nat_tests)
 letter_no_blank : (b : ℕ) → is_letter b ≡ true → is_blank b ≡ false
 letter_no_blank b h = grind (arith, nat_tests)
 
-letter_no_digit : (b : ℕ) → is_letter b ≡ true → is_digit b ≡ false
+pub letter_no_digit : (b : ℕ) → is_letter b ≡ true → is_digit b ≡ false
 letter_no_digit b h = grind (arith, nat_tests)
 
 pub tokens_number : (ds rest : List ℕ) → list_all is_digit ds ≡ true → 0 < length ds → stops is_digit rest ≡ true → tokens (ds ++ rest) ≡ token Number ds ∷ tokens rest

@@ -17,7 +17,7 @@ use Rattle.crn_text.specs.Inner.Pieces.{OccursIn, SplitsAt, ReadsTerm, is_within
 use Rattle.crn_vec.proofs.CallerLemmas.{all_push}
 use Rattle.crn_text.proofs.Places.{places_after, places_split}
 use Rattle.crn_text.proofs.Splits.{split_size}
-use Rattle.crn_text.proofs.Terms.{piece_size, occurs_prefix, occurs_split}
+use Rattle.crn_text.proofs.Terms.{piece_size, occurs_split}
 use Rattle.crn_text.proofs.Totals.{amount_prefix, amounts_small}
 use Rattle.crn_text.proofs.Checks.{HoldsTerm, Passes, passes, no_fault, terms_are, place_passes, sound_passes}
 
@@ -81,22 +81,22 @@ left_smaller {left} {rest} {place} {after} is split = omega (arith, left_size re
 at_rest : {body side : List ℕ} {end : ℕ} {terms : List Term} {left : Option (Bor (List ℕ))} {rest : Bor (List ℕ)} → TermsUpTo body side end terms left → left ≡ Some rest → TermsUpTo body side end terms (Some rest)
 at_rest {body} {side} {end} {terms} h is = subst (λ (o : Option (Bor (List ℕ))). TermsUpTo body side end terms o) is h
 
+-- what is left of a side ends with the side
+pub rest_left : {body side : List ℕ} {end : ℕ} {terms : List Term} {left : Option (Bor (List ℕ))} {rest : Bor (List ℕ)} → TermsUpTo body side end terms left → left ≡ Some rest → OccursIn body rest.now end
+rest_left h is = (at_rest h is).occurs
+
 place_split : {body side : List ℕ} {end : ℕ} {terms : List Term} {rest : Bor (List ℕ)} {place : List ℕ} {after : Option (Bor (List ℕ))} → (h : TermsUpTo body side end terms (Some rest)) → SplitsAt 43 rest.now place after → places (tokens side) ≡ h.read ++ tokens place ∷ places_after after
 place_split {rest = rest} {place = place} {after = after} h split = h.split ∙ ap (λ (u : List (List Token)). h.read ++ u) (places_split rest.now place after split)
-
--- the next place ends there in the body
-place_occurs : {body side : List ℕ} {end : ℕ} {terms : List Term} {rest : Bor (List ℕ)} {place : List ℕ} {after : Option (Bor (List ℕ))} → TermsUpTo body side end terms (Some rest) → SplitsAt 43 rest.now place after → OccursIn body place (end - length rest.now + length place)
-place_occurs {body} {end = end} {rest = rest} {place = place} {after = after} h split = occurs_prefix 43 body rest.now place after end h.occurs split
 
 same_more : (body : List ℕ) (terms : List Term) (t : Term) (read : List (List Token)) (place : List Token) → side_of body terms ≡ map term_of read → (name_at body t, t.count) ≡ term_of place → side_of body (terms ++ t ∷ []) ≡ map term_of (read ++ place ∷ [])
 same_more body terms t read place same term = map_push (λ (t : Term). (name_at body t, t.count)) terms t ∙ ap₂ (λ (u : List (List ℕ × ℕ)) (x : List ℕ × ℕ). u ++ x ∷ []) same term ∙ sym (map_push term_of read place)
 
 -- one more place is read, and its term is kept
 pub terms_more : {body side : List ℕ} {end : ℕ} {terms : List Term} {left : Option (Bor (List ℕ))} {rest : Bor (List ℕ)} {place : List ℕ} {after : Option (Bor (List ℕ))} (t : Term) (new : List Term) → TermsUpTo body side end terms left → left ≡ Some rest → SplitsAt 43 rest.now place after
-    → ((text : List ℕ) → OccursIn text place (end - length rest.now + length place) → ReadsTerm text place (Some t)) → is_within t ≡ true → new ≡ terms ++ t ∷ [] → TermsUpTo body side end new after
+    → ReadsTerm body place (Some t) → is_within t ≡ true → new ≡ terms ++ t ∷ [] → TermsUpTo body side end new after
 terms_more {body} {side} {end} {terms} {left} {rest} {place} {after} t new before is split reads within push =
     let h = at_rest before is in
-    let r = reads body (place_occurs h split) in
+    let r = reads in
     let kept = kept_term body place t r within in
     let small = kept.small in
     let exact : t.count ≡ (term_of (tokens place)).1 = let counts = r.3 in omega arith in
@@ -120,11 +120,11 @@ next_holds {side = side} {place = place} {after = after} h split not_zero p = pl
 
 -- a place that holds no term is a fault
 pub fault_no_term : {body side : List ℕ} {end : ℕ} {terms : List Term} {left : Option (Bor (List ℕ))} {rest : Bor (List ℕ)} {place : List ℕ} {after : Option (Bor (List ℕ))} (r : Option Term) → TermsUpTo body side end terms left → left ≡ Some rest → SplitsAt 43 rest.now place after → is_zero (tokens side) ≡ false
-    → ((text : List ℕ) → OccursIn text place (end - length rest.now + length place) → ReadsTerm text place r) → r ≡ None → sides_fault (tokens side ∷ []) ≡ None → ⊥
+    → ReadsTerm body place r → r ≡ None → sides_fault (tokens side ∷ []) ≡ None → ⊥
 fault_no_term {body} {side} {place = place} r before is split not_zero reads none fine =
     let h = at_rest before is in
     let holds = (next_holds h split not_zero (passes (tokens side) fine)).term in
-    let not_term : is_term (tokens place) ≡ false = rw none at (reads body (place_occurs h split)) in
+    let not_term : is_term (tokens place) ≡ false = rw none at reads in
     cc
 
 within : (body place : List ℕ) (t : Term) → HoldsTerm (tokens place) → ReadsTerm body place (Some t) → is_within t ≡ true
@@ -139,10 +139,10 @@ within body place t h r =
 
 -- a term with its name or its number out of the limits is a fault
 pub fault_limits : {body side : List ℕ} {end : ℕ} {terms : List Term} {left : Option (Bor (List ℕ))} {rest : Bor (List ℕ)} {place : List ℕ} {after : Option (Bor (List ℕ))} (t : Term) → TermsUpTo body side end terms left → left ≡ Some rest → SplitsAt 43 rest.now place after → is_zero (tokens side) ≡ false
-    → ((text : List ℕ) → OccursIn text place (end - length rest.now + length place) → ReadsTerm text place (Some t)) → is_within t ≡ false → sides_fault (tokens side ∷ []) ≡ None → ⊥
+    → ReadsTerm body place (Some t) → is_within t ≡ false → sides_fault (tokens side ∷ []) ≡ None → ⊥
 fault_limits {body} {side} {place = place} t before is split not_zero reads not_within fine =
     let h = at_rest before is in
-    let yes = within body place t (next_holds h split not_zero (passes (tokens side) fine)) (reads body (place_occurs h split)) in
+    let yes = within body place t (next_holds h split not_zero (passes (tokens side) fine)) reads in
     cc
 
 sums_small : {body side : List ℕ} {end : ℕ} {terms : List Term} {left : Option (Bor (List ℕ))} → TermsUpTo body side end terms left → is_zero (tokens side) ≡ false → Passes (tokens side) → (name : List ℕ) → amount_in (side_of body terms) name ≤ MAX_AMOUNT

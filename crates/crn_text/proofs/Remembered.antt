@@ -1,12 +1,13 @@
 -- The places of lines that are remembered, and the loop over the lines with them.
 use Rattle.std.proofs.Common.{◌≡◌, ℕ, zero, suc, ◌+◌, ◌-◌, ◌<◌, ◌≤◌, List, [], ◌∷◌, ◌++◌, length, take, drop, get_or, set, Option, Some, None, Ok, Bor, sym, ap, subst, ◌∙◌, append_assoc, inl, inr, arith, true, false, Bool, not, ◌==◌, if◌then◌else◌, take_while, refl}
+use Rattle.std.specs.Prelude.{◌||◌}
 use Rattle.std.specs.List.{AllByRecursion}
 use Rattle.std.proofs.lemmas.List.{length-append, length-take, get_or-take, take_more}
 use Rattle.std.proofs.Math.Seq.{drop-append_seam, take-append_seam}
 use Rattle.crn_vec.specs.Lists.{IsIn}
 use Rattle.crn_vec.specs.Network.{Net}
 use Rattle.crn_vec.proofs.CallerLemmas.{in_left, in_right, in_at, all_from}
-use Rattle.std.proofs.lemmas.Bool.{eqb-true}
+use Rattle.std.proofs.lemmas.Bool.{eqb-true, ne_eqb}
 use Rattle.crn_text.specs.Tokens.{lines, before_comment}
 use Rattle.crn_text.specs.Sides.{all_statements}
 use Rattle.crn_text.specs.Faults.{own_fault}
@@ -107,6 +108,9 @@ comment_body (c ∷ cs) =
     body_first (get_or line (length line - 1) 0 == 13) (length line - 1) (c ∷ cs) (omega arith)
 
 -- it has no body
-pub no_body : (line : List ℕ) → (get_or line 0 0 == 35) ≡ true → length (before_comment line) ≡ 0
-no_body [] h = refl
-no_body (b ∷ bs) h = let e : b ≡ 35 = eqb-true b 35 h in ap length (ap (λ (c : ℕ). before_comment (c ∷ bs)) e ∙ comment_body bs)
+pub bare_body : (line : List ℕ) → (length line == 0 || get_or line 0 0 == 35) ≡ true → length (before_comment line) ≡ 0
+bare_body [] h = refl
+bare_body (b ∷ bs) h =
+    let some : (length (b ∷ bs) == 0) ≡ false = ne_eqb (length (b ∷ bs)) 0 (λ e. omega (arith, e)) in
+    let e : b ≡ 35 = eqb-true b 35 (rw some at h) in
+    ap length (ap (λ (c : ℕ). before_comment (c ∷ bs)) e ∙ comment_body bs)

@@ -3,13 +3,15 @@ ghost use Rattle.std.specs.List.{list_any};
 ghost use Rattle.crn_text.specs.Tokens.{tokens};
 ghost use Rattle.crn_text.specs.Sides.{is_stray, sides};
 ghost use Rattle.crn_text.specs.Faults.{is_empty, tokens_fault};
-ghost use Rattle.crn_text.specs.Inner.Flaws.{place_flaw, side_flaw, sides_flaw, flaw_code};
+ghost use Rattle.crn_text.specs.Inner.Flaws.{term_flaw, place_flaw, FlawsPlace, side_flaw, sides_flaw, flaw_code};
 
 use crate::arrow::split_side;
 use crate::fault::TextCode;
+use crate::place::quick_place;
 use crate::side::{is_single_zero, read_term};
 use crate::split::split_at_byte;
 use crate::token::{from_first_mark, next_token};
+use crn_net::Term;
 use crn_vec::{MAX_NAME, MAX_TEXT};
 
 /// What is wrong with a place for a term, or with a side by one of its places, in the order of the tests.
@@ -59,6 +61,19 @@ fn is_vacant(place: &[u8]) -> bool
     next_token(place).is_none()
 }
 
+// The flaw of a place that holds a term.
+fn flaw_of_term(term: &Term) -> Flaw
+    ensures { result ≡ term_flaw term.now }
+{
+    if term.length as usize > MAX_NAME {
+        return Flaw::LongName;
+    }
+    if term.count == 0 {
+        return Flaw::ZeroNumber;
+    }
+    Flaw::Other
+}
+
 // The first flaw of a place for a term.
 fn flaw_of_place(place: &[u8]) -> Flaw
     requires { length place.now ≤ MAX_TEXT }
@@ -67,10 +82,20 @@ fn flaw_of_place(place: &[u8]) -> Flaw
     match read_term(place, place.len()) {
         None if is_vacant(place) => Flaw::NoToken,
         None => Flaw::NoTerm,
-        Some(term) if term.length as usize > MAX_NAME => Flaw::LongName,
-        Some(term) if term.count == 0 => Flaw::ZeroNumber,
-        Some(_term) => Flaw::Other,
+        Some(term) => flaw_of_term(&term),
     }
+}
+
+// The first flaw of the place at the start of a text, and the part after the plus sign that ends the place.
+fn next_flaw(text: &[u8]) -> (Flaw, Option<&[u8]>)
+    requires { length text.now ≤ MAX_TEXT }
+    ensures { FlawsPlace text.now result.0 result.1 }
+{
+    if let Some((term, after)) = quick_place(text, text.len()) {
+        return (flaw_of_term(&term), after);
+    }
+    let (place, after) = split_at_byte(text, b'+');
+    (flaw_of_place(place), after)
 }
 
 // The first flaw of a side: that of its places, unless the side is the single number zero.
@@ -84,8 +109,8 @@ fn flaw_of_side(side: &[u8]) -> Flaw
     let mut flaw = Flaw::Other;
     let mut left = Some(side);
     'places: while let Some(rest) = left {
-        let (place, after) = split_at_byte(rest, b'+');
-        flaw = flaw.min(flaw_of_place(place));
+        let (found, after) = next_flaw(rest);
+        flaw = flaw.min(found);
         left = after;
     }
     flaw

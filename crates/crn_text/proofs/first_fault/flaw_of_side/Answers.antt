@@ -5,7 +5,7 @@ use Rattle.crn_text.proofs.Flaws.{flaw_more, flaw_all}
 use Rattle.crn_text.proofs.first_fault.flaw_of_side.Goals as goal
 
 pub places-preserved : goal.places-preserved
-places-preserved c = flaw_more c.args.side.now c.places.invariant c.in-Some.is c.split_at_byte.ensures c.flaw_of_place.ensures c.min-flaw.ensures
+places-preserved c = flaw_more c.args.side.now c.places.invariant c.in-Some.is c.next_flaw-found.ensures.split c.next_flaw-found.ensures.is c.min-flaw.ensures
 
 pub returns : goal.returns
 returns c =

@@ -5,14 +5,14 @@ use Rattle.crn_text.specs.Faults.{own_fault}
 use Rattle.crn_text.specs.Inner.Pieces.{LineGives}
 use Rattle.crn_text.proofs.LinesRead.{empty_gives}
 use Rattle.crn_text.proofs.Repeats.{line_stays}
-use Rattle.crn_text.proofs.Remembered.{all_known_more, no_body}
+use Rattle.crn_text.proofs.Remembered.{all_known_more, bare_body}
 use Rattle.crn_text.proofs.reader.read_new.Goals as goal
 
-pub returns-then-begins_comment-clause-gives : goal.returns-then-begins_comment-clause-gives
-returns-then-begins_comment-clause-gives c = λ read grown known sound. empty_gives (all_statements read) c.args.line.now tt c.args.builder.now (no_body c.args.line.now (sym c.begins_comment.ensures ∙ c.if-begins_comment.true)) grown
+pub returns-then-is_bare-clause-gives : goal.returns-then-is_bare-clause-gives
+returns-then-is_bare-clause-gives c = λ read grown known sound. empty_gives (all_statements read) c.args.line.now tt c.args.builder.now (bare_body c.args.line.now (sym c.is_bare.ensures ∙ c.if-is_bare.true)) grown
 
-pub returns-then-begins_comment-clause-keeps : goal.returns-then-begins_comment-clause-keeps
-returns-then-begins_comment-clause-keeps c = λ read known. all_known_more c.args.text.now read c.args.line.now c.args.known.now.places known
+pub returns-then-is_bare-clause-keeps : goal.returns-then-is_bare-clause-keeps
+returns-then-is_bare-clause-keeps c = λ read known. all_known_more c.args.text.now read c.args.line.now c.args.known.now.places known
 
 pub returns-then-has-clause-gives : goal.returns-then-has-clause-gives
 returns-then-has-clause-gives c = λ read grown known sound.

@@ -1,0 +1,17 @@
+use Rattle.std.proofs.Common.{◌≡◌, ◌≤◌, true, length, sym, ◌∙◌, arith}
+use Rattle.std.specs.List.{list_all, prefix_len}
+use Rattle.std.proofs.lemmas.List.Sums.{prefix_len-le-length}
+use Rattle.crn_vec.specs.Network.{is_name_byte}
+use Rattle.crn_text.proofs.Runs.{passed_none, passed_more}
+use Rattle.crn_text.proofs.bytes.name_bytes.Goals as goal
+
+pub blocks-2-preserved : goal.blocks-2-preserved
+blocks-2-preserved c =
+    let all : list_all is_name_byte c.split_at.result.0.now ≡ true = sym c.are_of_name.ensures ∙ c.if-not-are_of_name.false in
+    passed_more is_name_byte 64 c.args.bytes.now c.blocks-2.left.now c.split_at.result.0.now c.split_at.result.1.now c.blocks-2.invariant (omega arith) c.split_at.ensures.front c.split_at.ensures.back all
+
+pub overflow_sub-result : goal.overflow_sub-result
+overflow_sub-result c = omega (arith, c.near_name_bytes.ensures, prefix_len-le-length is_name_byte c.blocks-2.left.now)
+
+pub returns : goal.returns
+returns c = omega (arith, c.near_name_bytes.ensures, prefix_len-le-length is_name_byte c.blocks-2.left.now, c.blocks-2.invariant.same, c.blocks-2.invariant.inside)

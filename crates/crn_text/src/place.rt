@@ -1,0 +1,120 @@
+ghost use Rattle.std.specs.Prelude.{◌≡◌, ◌≤◌, IsTrue, ℕ, List, length, take, min, true};
+ghost use Rattle.std.specs.List.{list_all};
+ghost use Rattle.crn_vec.specs.Network.{is_name_byte};
+ghost use Rattle.crn_text.specs.Tokens.{is_blank, is_digit};
+ghost use Rattle.crn_text.specs.Inner.Pieces.{OccursIn, ReadsPlace, Runs, Numbered, StartsNamed, EndsPlace, FindsPlace, count_of};
+
+use crate::bytes::{blanks, digits, is_letter_byte, short_name_bytes};
+use crate::side::{number, read_term};
+use crate::split::split_at_byte;
+use crn_net::Term;
+use crn_vec::MAX_TEXT;
+
+// The blanks at the start of a text, and the rest.
+#[inline(always)]
+fn split_blanks(text: &[u8]) -> (&[u8], &[u8])
+    ensures { Runs is_blank text.now result.0.now result.1.now }
+{
+    text.split_at(blanks(text))
+}
+
+// The digits at the start of a text, and the rest.
+#[inline(always)]
+fn split_digits(text: &[u8]) -> (&[u8], &[u8])
+    ensures { Runs is_digit text.now result.0.now result.1.now }
+{
+    text.split_at(digits(text))
+}
+
+// Whether a text begins as a name.
+#[inline(always)]
+fn begins_with_letter(text: &[u8]) -> bool {
+    !text.is_empty() && is_letter_byte(text[0])
+}
+
+// The digits at the start of a text, and what follows them, without the blanks before and after them.
+#[inline(always)]
+fn split_number(text: &[u8]) -> (&[u8], &[u8])
+    ensures { Numbered text.now result.0.now result.1.now }
+{
+    // Many places begin with the name.
+    if begins_with_letter(text) {
+        return text.split_at(0);
+    }
+    let (_, start) = split_blanks(text);
+    let (digits, more) = split_digits(start);
+    let (_, rest) = split_blanks(more);
+    (digits, rest)
+}
+
+// The name at the start of a text, and the rest; of a name above the limit perhaps a part.
+#[inline(always)]
+fn split_name(text: &[u8]) -> Option<(&[u8], &[u8])>
+    ensures { StartsNamed text.now result }
+{
+    let size = short_name_bytes(text);
+    if size == 0 || !is_letter_byte(text[0]) {
+        return None;
+    }
+    Some(text.split_at(size))
+}
+
+// The part after a place that ends here, which is `None` after the last one.
+#[inline(always)]
+fn end_of_place(text: &[u8]) -> Option<Option<&[u8]>>
+    ensures { EndsPlace text.now result }
+{
+    match text {
+        [] => Some(None),
+        [b'+', after @ ..] => Some(Some(after)),
+        _ => None,
+    }
+}
+
+// The number of a term with these digits before its name.
+#[inline(always)]
+fn count(digits: &[u8]) -> u32
+    requires { IsTrue (list_all is_digit digits.now) }
+    ensures { result ≡ count_of digits.now }
+{
+    if digits.is_empty() {
+        return 1;
+    }
+    number(digits)
+}
+
+/// The term in the place at the start of a text, and the part after the plus sign that ends the place. Nearly each place
+/// with a term is found so, in one pass; `None` says nothing. The text ends at `end` in the body.
+#[inline(always)]
+pub(crate) fn quick_place(text: &[u8], end: usize) -> Option<(Term, Option<&[u8]>)>
+    requires short { end ≤ MAX_TEXT }
+    requires inside { length text.now ≤ end }
+    ensures { (body : List ℕ) → OccursIn body text.now end → FindsPlace body text.now result }
+{
+    let (digits, named) = split_number(text);
+    let (name, back) = split_name(named)?;
+    let (_, left) = split_blanks(back);
+    let after = end_of_place(left)?;
+    let term = Term {
+        at: (end - back.len() - name.len()) as u32,
+        length: name.len() as u32,
+        count: count(digits),
+    };
+    Some((term, after))
+}
+
+/// The term in the place at the start of a text, if it is one, and the part after the plus sign that ends the place. The
+/// text ends at `end` in the body.
+#[inline(always)]
+pub(crate) fn next_place(text: &[u8], end: usize) -> (Option<Term>, Option<&[u8]>)
+    requires short { end ≤ MAX_TEXT }
+    requires inside { length text.now ≤ end }
+    ensures { (body : List ℕ) → OccursIn body text.now end →
+        ReadsPlace body text.now result.0 result.1 }
+{
+    if let Some((term, after)) = quick_place(text, end) {
+        return (Some(term), after);
+    }
+    let (place, after) = split_at_byte(text, b'+');
+    (read_term(place, end - text.len() + place.len()), after)
+}
