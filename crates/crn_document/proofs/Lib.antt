@@ -19,6 +19,7 @@ mod Places
 mod Titles
 mod FoundLines
 mod NetworkLines
+mod LongLines
 mod Tables
 mod Endings
 mod Texts

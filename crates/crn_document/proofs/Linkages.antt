@@ -22,7 +22,7 @@ use Rattle.crn_check.specs.Check.{IsBuilt}
 use Rattle.crn_check.proofs.CallerLemmas.{formed_on}
 use Rattle.crn_document.specs.declared.linkage.Linkage.{Linkage}
 use Rattle.crn_document.specs.Inner.Parts.{IsKnown, IsLinkage, before, class_counts, is_in_class, members_of}
-use Rattle.crn_document.specs.Inner.Heads.{FitsCounts, known_of}
+use Rattle.crn_document.specs.Inner.Heads.{FitsCounts, HasClassSizes, known_of}
 use Rattle.crn_document.specs.Inner.Records.{IsOwnDue}
 use Rattle.crn_cert.specs.Valid.{ends_at, is_least_of_pair, is_within_terminal, linkage, linkage_count, class_places, pair_places}
 use Rattle.crn_ctext.specs.Meaning.{Known, lengths, pairs_by, pairs_of}
@@ -262,7 +262,7 @@ each_few : (net : Net) (labels : List ℕ) (ks : List ℕ) → length net.reacti
 each_few net labels [] few = tt
 each_few net labels (k ∷ ks) few = ((let m = members_few net labels k in omega (arith, m, few)), each_few net labels ks few)
 
-pub counts_few : (net : Net) (labels : List ℕ) (count : ℕ) → length net.reactions ≤ MAX_REACTIONS → count ≤ MAX_COMPLEXES → (length (class_counts net labels 1 count) ≤ MAX_COMPLEXES) × AllByRecursion (λ r. r ≤ MAX_REACTIONS) (class_counts net labels 1 count)
+counts_few : (net : Net) (labels : List ℕ) (count : ℕ) → length net.reactions ≤ MAX_REACTIONS → count ≤ MAX_COMPLEXES → (length (class_counts net labels 1 count) ≤ MAX_COMPLEXES) × AllByRecursion (λ r. r ≤ MAX_REACTIONS) (class_counts net labels 1 count)
 counts_few net labels count few most =
     let l = length-map-range_with_len (λ j. length (members_of net labels j)) 1 count in
     (omega (arith, l, most), each_few net labels (range_with_len 1 count) few)
@@ -274,5 +274,19 @@ counts_are net earlier k (suc n) =
     ap (λ (t : List ℕ). length (class_places net earlier (suc k)) ∷ t) (ap (λ (j : ℕ). class_counts net (linkage earlier) j n) m ∙ counts_are net earlier (suc k) n ∙ ap (λ (j : ℕ). lengths (map (λ j. class_places net earlier j) (range_with_len j n))) (sym m))
 
 -- the numbers of reactions that are counted are those on which the forms of a head rest
-pub counts_fit : (net : Net) (earlier : Earlier) (l : Linkage) (counts : List ℕ) → IsLinkage earlier l → counts ≡ class_counts net l.labels.now 1 l.count → FitsCounts net earlier counts
-counts_fit net earlier l counts k is = is ∙ ap₂ (λ (ls : List ℕ) (c : ℕ). class_counts net ls 1 c) k.labels_are k.count_is ∙ counts_are net earlier 0 (linkage_count earlier)
+pub counts_fit : (net : Net) (earlier : Earlier) (question : ℕ) (l : Linkage) (counts : List ℕ) → length net.reactions ≤ MAX_REACTIONS → IsLinkage earlier l → counts ≡ class_counts net l.labels.now 1 l.count → FitsCounts net earlier question counts
+counts_fit net earlier question l counts few k is =
+    let b = counts_few net l.labels.now l.count few k.few in
+    record {
+      few = subst (λ (x : List ℕ). length x ≤ MAX_COMPLEXES) (sym is) b.0;
+      each = subst (λ (x : List ℕ). AllByRecursion (λ r. r ≤ MAX_REACTIONS) x) (sym is) b.1;
+      are = λ asks. is ∙ ap₂ (λ (ls : List ℕ) (c : ℕ). class_counts net ls 1 c) k.labels_are k.count_is ∙ counts_are net earlier 0 (linkage_count earlier);
+    }
+
+-- a question whose head does not rest on these numbers needs none
+pub no_counts : (net : Net) (earlier : Earlier) (question : ℕ) (counts : List ℕ) → counts ≡ [] → (HasClassSizes question → ⊥) → FitsCounts net earlier question counts
+no_counts net earlier question counts none never = record {
+  few = subst (λ (x : List ℕ). length x ≤ MAX_COMPLEXES) (sym none) (omega arith);
+  each = subst (λ (x : List ℕ). AllByRecursion (λ r. r ≤ MAX_REACTIONS) x) (sym none) tt;
+  are = λ asks. absurd (never asks);
+}

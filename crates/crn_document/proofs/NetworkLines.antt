@@ -1,10 +1,13 @@
 -- The lines of a network one after another, as steps of a document's course, and the text that they are.
-use Rattle.std.proofs.Common.{◌≡◌, ◌++◌, ◌∷◌, [], ◌∙◌, ℕ, suc, List, sym, ap, false, Result, Ok}
+use Rattle.std.proofs.Common.{◌≡◌, ◌++◌, ◌∷◌, [], ◌∙◌, ◌⊎◌, inl, inr, ℕ, suc, Bool, true, false, List, Option, sym, ap, subst, Result, Ok}
 use Rattle.std.proofs.lemmas.List.{append-nil, append_assoc}
 use Rattle.crn_io.specs.Device.{SourceSeen}
-use Rattle.crn_ctext.specs.Course.{Course, Give, due, ◌>>=◌}
+use Rattle.crn_io.specs.Lines.{IsLine}
+use Rattle.crn_io.specs.Next.{KeptLines}
+use Rattle.crn_ctext.specs.Course.{Course, Give, Gives, due, ◌>>=◌}
 use Rattle.crn_ctext.specs.Blocks.{asks_lines, ended}
 use Rattle.crn_ctext.specs.Steps.{StepGives}
+use Rattle.crn_document.specs.Inner.Opening.{AreKept, HasLongLine, IsKeptLine, IsLongLine}
 use Rattle.crn_document.specs.Inner.Steps.{StepIs}
 use Rattle.crn_document.specs.declared.reading.Reading.{Reading}
 use Rattle.crn_document.specs.declared.stop.CheckStop.{CheckStop}
@@ -20,19 +23,39 @@ unfolding asks_lines
 first_line P count n same p = rw same p
 
 -- no lines
-pub no_lines : (count : ℕ) (text : List ℕ) (at : Reading) (seen : SourceSeen) → count ≡ 0
-    → StepIs (asks_lines count) (λ (t : Unit {0}) (ls : List (List ℕ)). text ≡ text ++ ended ls) (Ok tt) at at seen seen
+pub no_lines : (count : ℕ) (was : Bool) (text : List ℕ) (at : Reading) (seen : SourceSeen) → count ≡ 0
+    → StepIs (asks_lines count) (λ (t : Unit {0}) (ls : List (List ℕ)). AreKept was was text text ls) (Ok tt) at at seen seen
 unfolding asks_lines
-no_lines count text at seen none = rw none (step_gives [] (λ (t : Unit {0}) (ls : List (List ℕ)). text ≡ text ++ ended ls) tt at seen (sym (append-nil text)))
+no_lines count was text at seen none = rw none (step_gives [] (λ (t : Unit {0}) (ls : List (List ℕ)). AreKept was was text text ls) tt at seen (λ e. inl e, λ e. (e, sym (append-nil text))))
+
+-- a line that is due has no LF in it
+pub line_of_due : (line : List ℕ) (n m : ℕ) (old new : KeptLines) (left after : Option (List ℕ)) → StepGives (due false) line n m old new left after → IsLine line
+unfolding Gives
+line_of_due line n m old new left after given = let g = given.gives [] in subst IsLine g.3.0 g.2.whole
+
+-- a line that is kept, and then the others
+kept_then : (was between now : Bool) (a b c line : List ℕ) (ls : List (List ℕ)) → IsLine line → IsKeptLine was between a b line → AreKept between now b c ls → AreKept was now a c (line ∷ ls)
+kept_then was between now a b c line ls is kept more = (
+  λ e. elim (more.0 e) as (λ _. (was ≡ true) ⊎ (IsLongLine line ⊎ HasLongLine ls)) [
+    | inl before ↦ elim (kept.0 before) as (λ _. (was ≡ true) ⊎ (IsLongLine line ⊎ HasLongLine ls)) [ inl first ↦ inl first | inr long ↦ inr (inl (is, long)) ]
+    | inr later ↦ inr (inr later)
+  ],
+  λ e.
+      let later = more.1 e in
+      let here = kept.1 later.0 in (
+        here.0,
+        later.1 ∙ ap (λ (x : List ℕ). x ++ ended ls) here.1 ∙ ap (λ (x : List ℕ). x ++ ended ls) (append_assoc a line (10 ∷ [])) ∙ append_assoc a (line ++ 10 ∷ []) (ended ls),
+      ),
+)
 
 -- one line, and then the others
-pub lines_then : (count n : ℕ) (line a b c : List ℕ) (result : Result (Unit {0}) CheckStop) (old mid new : Reading) (before between now : SourceSeen)
-    → count ≡ suc n → b ≡ a ++ line ++ 10 ∷ []
-    → StepGives (due false) line old.line mid.line old.lines mid.lines before.left between.left → between.faults ≡ before.faults
-    → StepIs (asks_lines n) (λ (t : Unit {0}) (ls : List (List ℕ)). c ≡ b ++ ended ls) result mid new between now
-    → StepIs (asks_lines count) (λ (t : Unit {0}) (ls : List (List ℕ)). c ≡ a ++ ended ls) result old new before now
-lines_then count n line a b c result old mid new before between now same added given quiet rest =
-    first_line (λ d. StepIs d (λ (t : Unit {0}) (ls : List (List ℕ)). c ≡ a ++ ended ls) result old new before now) count n same
-    (step_then_is (due false) (lines_after n) line (λ (t : Unit {0}) (ls : List (List ℕ)). c ≡ a ++ ended ls) result old mid new before between now given quiet
-    (step_map (asks_lines n) (λ (ls : List (List ℕ)). line ∷ ls) (λ (t : Unit {0}) (ls : List (List ℕ)). c ≡ b ++ ended ls) (λ (t : Unit {0}) (ls : List (List ℕ)). c ≡ a ++ ended ls) result mid new between now
-    (λ t ls is. is ∙ ap (λ (x : List ℕ). x ++ ended ls) added ∙ ap (λ (x : List ℕ). x ++ ended ls) (append_assoc a line (10 ∷ [])) ∙ append_assoc a (line ++ 10 ∷ []) (ended ls)) rest))
+pub lines_then : (count n : ℕ) (was between now : Bool) (line a b c : List ℕ) (result : Result (Unit {0}) CheckStop) (old mid new : Reading) (before middle after : SourceSeen)
+    → count ≡ suc n → IsKeptLine was between a b line
+    → StepGives (due false) line old.line mid.line old.lines mid.lines before.left middle.left → middle.faults ≡ before.faults
+    → StepIs (asks_lines n) (λ (t : Unit {0}) (ls : List (List ℕ)). AreKept between now b c ls) result mid new middle after
+    → StepIs (asks_lines count) (λ (t : Unit {0}) (ls : List (List ℕ)). AreKept was now a c ls) result old new before after
+lines_then count n was between now line a b c result old mid new before middle after same kept given quiet rest =
+    first_line (λ d. StepIs d (λ (t : Unit {0}) (ls : List (List ℕ)). AreKept was now a c ls) result old new before after) count n same
+    (step_then_is (due false) (lines_after n) line (λ (t : Unit {0}) (ls : List (List ℕ)). AreKept was now a c ls) result old mid new before middle after given quiet
+    (step_map (asks_lines n) (λ (ls : List (List ℕ)). line ∷ ls) (λ (t : Unit {0}) (ls : List (List ℕ)). AreKept between now b c ls) (λ (t : Unit {0}) (ls : List (List ℕ)). AreKept was now a c ls) result mid new middle after
+    (λ t ls is. kept_then was between now a b c line ls (line_of_due line old.line mid.line old.lines mid.lines before.left middle.left given) kept is) rest))

@@ -1,4 +1,4 @@
-ghost use Rattle.std.specs.Prelude.{◌≡◌, ◌≤◌, ◌+◌, [], ◌∷◌, length, pos, IfOk, OnOk};
+ghost use Rattle.std.specs.Prelude.{◌≡◌, ◌≤◌, ◌+◌, ◌↔◌, [], ◌∷◌, IsTrue, length, pos, IfOk, OnOk};
 ghost use Rattle.std.specs.List.{AllByRecursion};
 ghost use Rattle.crn_vec.specs.declared.limits.TheConstants.{MAX_COMPLEXES, MAX_REACTIONS};
 ghost use Rattle.crn_cert.specs.Questions.{Earlier, Q12, on};
@@ -10,7 +10,7 @@ ghost use Rattle.crn_check.specs.Facts.{HoldsOn, asked};
 ghost use Rattle.crn_check.specs.Check.{IsBuilt};
 ghost use Rattle.crn_document.specs.Inner.Steps.{IsVersion, GoesOn, StepIs};
 ghost use Rattle.crn_document.specs.Inner.Records.{Expects};
-ghost use Rattle.crn_document.specs.Inner.Heads.{FitsCounts, FitsSignals, IsHead, head_forms};
+ghost use Rattle.crn_document.specs.Inner.Heads.{FitsCounts, FitsSignals, HasClassSizes, IsHead, head_forms};
 ghost use Rattle.crn_document.specs.Inner.Parts.{IsKnown, before};
 
 use crate::linkage::linkage_of;
@@ -25,6 +25,7 @@ use crn_check::Facts;
 use crn_ctext::{Due, Expect};
 use crn_io::{NoMemory, Source};
 use crn_net::Network;
+use crn_vec::Nums;
 use std::alloc::Global;
 
 // What the forms of the head of question 13 rest on besides: the number of linked pairs within terminal classes, and
@@ -70,6 +71,28 @@ fn signal_sizes(
     })
 }
 
+// Whether the forms of the head of a question rest on how many reactions each linkage class has.
+fn has_class_sizes(question: u32) -> bool
+    ensures { IsTrue result ↔ HasClassSizes question }
+{
+    question == 6 || question == 10 || question == 11 || question == 12
+}
+
+// How many reactions each linkage class has, and nothing for a question whose head does not rest on it.
+fn class_sizes(alloc: Global, net: &Network, facts: &Facts, question: u32) -> Result<Nums, NoMemory>
+    requires built { IsBuilt question }
+    requires known { IsKnown net.now (before question) facts.now }
+    ensures { IfOk result (λ made. FitsCounts net.now facts.now.earlier question made.list) }
+{
+    if has_class_sizes(question) {
+        let linkage = linkage_of(net, facts, question);
+        let counts = counts_of(alloc, net, linkage.labels, linkage.count)?;
+        return Ok(counts);
+    }
+    let none = Nums::with_room(alloc, 0)?;
+    Ok(none)
+}
+
 // What is due where the head of a question is.
 fn head_expect<'a>(
     version: u32,
@@ -84,11 +107,12 @@ fn head_expect<'a>(
     requires few { length class_reactions.now ≤ MAX_COMPLEXES }
     requires each { AllByRecursion (λ r. r ≤ MAX_REACTIONS) class_reactions.now }
     requires pairs { signals.pairs ≤ MAX_REACTIONS }
-    ensures due { (earlier : Earlier) → FitsCounts net.now earlier class_reactions.now
+    ensures due { (earlier : Earlier)
+        → FitsCounts net.now earlier question class_reactions.now
         → FitsSignals net.now earlier question signals
         → Expects result version after_tree (head_forms net.now earlier question) }
     ensures tag { (earlier : Earlier) (r : Record)
-        → FitsCounts net.now earlier class_reactions.now
+        → FitsCounts net.now earlier question class_reactions.now
         → FitsSignals net.now earlier question signals
         → tag_of result.due (sizes_of result.sizes) r
         ≡ pos (place_of (head_forms net.now earlier question) r.words) ∷ [] }
@@ -122,8 +146,7 @@ pub(crate) fn next_head<S: Source>(
     ensures line { OnOk result (at.new.line ≡ at.old.line + 1) }
     ensures version { at.new.version ≡ at.old.version }
 {
-    let linkage = linkage_of(net, facts, question);
-    let counts = counts_of(at.alloc, net, linkage.labels, linkage.count)?;
+    let counts = class_sizes(at.alloc, net, facts, question)?;
     let signals = signal_sizes(at.alloc, net, facts, question)?;
     let classes = counts.as_slice();
     let expect = head_expect(at.version, after_tree, net, classes, signals, question);

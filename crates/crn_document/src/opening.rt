@@ -4,7 +4,7 @@ ghost use Rattle.crn_vec.specs.declared.limits.TheConstants.{MAX_REACTIONS};
 ghost use Rattle.crn_io.specs.declared.lines.TheConstants.{MAX_NUMBERS};
 ghost use Rattle.crn_ctext.specs.Blocks.{asks_lines, ended, network_line};
 ghost use Rattle.crn_document.specs.Inner.Steps.{CanRead, GoesOn, StepIs};
-ghost use Rattle.crn_document.specs.Inner.Opening.{IsVersionOf, IsCountOf, title_course, count_course, network_course};
+ghost use Rattle.crn_document.specs.Inner.Opening.{AreKept, IsKeptLine, IsVersionOf, IsCountOf, title_course, count_course, network_course};
 
 use crate::network::network_of;
 use crate::reading::{Reading, next_line};
@@ -104,16 +104,34 @@ fn add_line(text: &mut Vec<u8>, line: &[u8]) -> Result<(), NoMemory>
     Ok(())
 }
 
-// The next lines, so many of them, whatever they hold. Each is added to the text with its LF.
+// The most bytes of a line of a canonical text, its LF not counted: of each species on both sides a name, two digits and
+// the mark before it, and the arrow.
+const NETWORK_LINE: usize = 4_446;
+
+// Adds a line with its LF, or notes that no canonical text has it because it is too long.
+fn keep_line(text: &mut Vec<u8>, line: &[u8], long: &mut bool) -> Result<(), NoMemory>
+    ensures { OnOk result
+        (IsKeptLine long.old long.new text.old.items text.new.items line.now) }
+{
+    if line.len() > NETWORK_LINE {
+        *long = true;
+        return Ok(());
+    }
+    add_line(text, line)
+}
+
+// The next lines, so many of them, whatever they hold. Each is added to the text with its LF, so long as no line is too
+// long for a network: then no text is needed, and the longest lines take no memory.
 fn next_lines<S: Source>(
     source: &mut S,
     at: &mut Reading,
     count: u32,
     text: &mut Vec<u8>,
+    long: &mut bool,
 ) -> Result<(), CheckStop>
     requires goes { GoesOn at.old }
     ensures step { StepIs (asks_lines count)
-        (λ _ lines. text.new.items ≡ text.old.items ++ ended lines)
+        (λ _ lines. AreKept long.old long.new text.old.items text.new.items lines)
         result at.old at.new (S.seen source.old) (S.seen source.new) }
     ensures goes { OnOk result (GoesOn at.new) }
     ensures line { OnOk result (at.new.line ≡ at.old.line + count) }
@@ -123,8 +141,8 @@ fn next_lines<S: Source>(
         return Ok(());
     }
     next_line(source, at, false)?;
-    add_line(text, at.lines.line())?;
-    next_lines(source, at, count - 1, text)
+    keep_line(text, at.lines.line(), long)?;
+    next_lines(source, at, count - 1, text, long)
 }
 
 // The lines of the network, so many of them, and the network whose canonical text they are.
@@ -144,7 +162,14 @@ pub(crate) fn next_network<S: Source>(
     ensures version { at.new.version ≡ at.old.version }
 {
     let mut text = Vec::new(at.alloc);
-    next_lines(source, at, count, &mut text)?;
+    let mut long = false;
+    next_lines(source, at, count, &mut text, &mut long)?;
+    if long {
+        return Err(CheckStop::Rejected {
+            code: 22,
+            line: 2 + count,
+        });
+    }
     match network_of(at.alloc, &text)? {
         Some(net) => Ok(net),
         None => Err(CheckStop::Rejected {

@@ -1,9 +1,10 @@
 -- For the contracts of private functions alone.
 -- The head of a question, and what the records below it rest on.
 -- Source: this project's own format. Shapes: questions and the places of forms count from 1.
-use Rattle.std.specs.Prelude.{◌≡◌, ◌≤◌, ◌==◌, ◌||◌, if◌then◌else◌, ℕ, ℤ, pos, List, ◌∷◌}
+use Rattle.std.specs.Prelude.{◌≡◌, ◌≤◌, ◌⊎◌, ◌==◌, ◌||◌, if◌then◌else◌, ℕ, ℤ, pos, List, ◌∷◌, length}
+use Rattle.std.specs.List.{AllByRecursion}
 use Rattle.crn_vec.specs.Network.{Net}
-use Rattle.crn_vec.specs.declared.limits.TheConstants.{MAX_REACTIONS}
+use Rattle.crn_vec.specs.declared.limits.TheConstants.{MAX_COMPLEXES, MAX_REACTIONS}
 use Rattle.crn_cert.specs.Questions.{Earlier}
 use Rattle.crn_ctext.specs.Records.{Record, Form}
 use Rattle.crn_ctext.specs.Questions.{heads}
@@ -43,6 +44,14 @@ pub record FitsSignals (net : Net) (earlier : Earlier) (question : ℕ) (z : Sig
     pub pairs : question ≡ 13 → z.pairs ≡ (sizes_of (known_of net earlier)).pairs
     pub vector : question ≡ 13 → z.vector ≡ (sizes_of (known_of net earlier)).vector
 
--- how many reactions each linkage class has, which some forms of heads rest on
-abbrev pub FitsCounts : Net → Earlier → List ℕ → Type 0
-FitsCounts net earlier counts = counts ≡ (sizes_of (known_of net earlier)).class_reactions
+-- a question the forms of whose head rest on how many reactions each linkage class has
+abbrev pub HasClassSizes : ℕ → Type 0
+HasClassSizes question = (question ≡ 6) ⊎ (question ≡ 10) ⊎ (question ≡ 11) ⊎ (question ≡ 12)
+
+-- how many reactions each linkage class has, for the questions whose heads rest on it
+pub record FitsCounts (net : Net) (earlier : Earlier) (question : ℕ) (counts : List ℕ) : Type 0
+  where
+    pub few : length counts ≤ MAX_COMPLEXES
+    pub each : AllByRecursion (λ r. r ≤ MAX_REACTIONS) counts
+    pub are : HasClassSizes question
+        → counts ≡ (sizes_of (known_of net earlier)).class_reactions

@@ -1,13 +1,15 @@
 -- For the contracts of private functions alone. The first two lines of a document and those of its
 -- network.
 -- Source: this project's own format. Shapes: lines count from 1.
-use Rattle.std.specs.Prelude.{◌≡◌, ◌≤◌, ◌+◌, ℕ, List, Option, Some, None, false}
+use Rattle.std.specs.Prelude.{◌≡◌, ◌≤◌, ◌<◌, ◌+◌, ◌⊎◌, ◌++◌, ℕ, Bool, true, false, List, [], ◌∷◌, length, Option, Some, None}
 use Rattle.crn_vec.specs.Lists.{IsIn}
 use Rattle.crn_vec.specs.Network.{Net}
 use Rattle.crn_vec.specs.declared.limits.TheConstants.{MAX_REACTIONS}
+use Rattle.crn_io.specs.Lines.{IsLine}
 use Rattle.crn_ctext.specs.Course.{Course, due, find, ◌>>=◌}
-use Rattle.crn_ctext.specs.Blocks.{title, network_line, asks_lines, IsNetworkOf}
+use Rattle.crn_ctext.specs.Blocks.{title, network_line, asks_lines, ended, IsNetworkOf}
 use Rattle.crn_ctext.specs.Meaning.{versions}
+use Rattle.crn_document.specs.declared.opening.TheConstants.{NETWORK_LINE}
 
 -- the line is the title of this version
 abbrev pub IsTitleOf : List ℕ → ℕ → Type 0
@@ -38,3 +40,23 @@ count_course = due false >>= (λ line. find 2 22 ℕ (SaysCount line))
 -- so many lines, and the network that they write
 abbrev pub network_course : ℕ → Course Net
 network_course count = asks_lines count >>= (λ lines. find (2 + count) 22 Net (IsNetworkOf lines))
+
+-- a line that is longer than a line of a canonical text
+abbrev pub IsLongLine : List ℕ → Type 0
+IsLongLine line = IsLine line × (NETWORK_LINE < length line)
+
+-- one of these lines is longer
+abbrev pub HasLongLine : List (List ℕ) → Type 0
+HasLongLine [] = ⊥
+HasLongLine (line ∷ lines) = IsLongLine line ⊎ HasLongLine lines
+
+-- a line is added to a text, unless it or a line before it is too long, as marks before and after it
+-- say
+abbrev pub IsKeptLine : Bool → Bool → List ℕ → List ℕ → List ℕ → Type 0
+IsKeptLine was now old new line = (now ≡ true → (was ≡ true) ⊎ (NETWORK_LINE < length line))
+    × (now ≡ false → (was ≡ false) × (new ≡ old ++ line ++ 10 ∷ []))
+
+-- lines are added to a text, unless one of them or a line before them is too long, as these marks say
+abbrev pub AreKept : Bool → Bool → List ℕ → List ℕ → List (List ℕ) → Type 0
+AreKept was now old new lines = (now ≡ true → (was ≡ true) ⊎ HasLongLine lines)
+    × (now ≡ false → (was ≡ false) × (new ≡ old ++ ended lines))

@@ -5,28 +5,21 @@ use Rattle.crn_vec.specs.declared.limits.TheConstants.{MAX_COMPLEXES, MAX_REACTI
 use Rattle.crn_ctext.specs.Records.{Record, Form}
 use Rattle.crn_ctext.specs.Documents.{IsOneOf}
 use Rattle.crn_document.specs.Inner.Records.{asks_for, IsSaid}
-use Rattle.crn_document.specs.Inner.Heads.{IsHead, head_forms}
+use Rattle.crn_document.specs.Inner.Heads.{FitsCounts, IsHead, head_forms}
 use Rattle.crn_document.specs.Inner.Steps.{StepIs}
-use Rattle.crn_document.proofs.Linkages.{counts_few, counts_fit}
 use Rattle.crn_document.proofs.Steps.{step_says}
 use Rattle.crn_document.proofs.Records.{as_expected}
 use Rattle.crn_document.proofs.head.next_head.Goals as goal
 
 pub head_expect-expect-requires-clause-few : goal.head_expect-expect-requires-clause-few
-head_expect-expect-requires-clause-few g c =
-    let l = c.linkage_of-linkage.ensures in
-    let b = counts_few c.args.net.now c.linkage_of-linkage.result.labels.now c.linkage_of-linkage.result.count c.requires.known.network.partial.reactions_limit l.few in
-    subst (λ (x : List ℕ). length x ≤ MAX_COMPLEXES) (sym (c.as_slice-classes.ensures ∙ c.in_ok-counts.ensures)) b.0
+head_expect-expect-requires-clause-few g c = subst (λ (x : List ℕ). length x ≤ MAX_COMPLEXES) (sym c.as_slice-classes.ensures) (let f = c.in_ok-counts.ensures in f.few)
 
 pub head_expect-expect-requires-clause-each : goal.head_expect-expect-requires-clause-each
-head_expect-expect-requires-clause-each g c =
-    let l = c.linkage_of-linkage.ensures in
-    let b = counts_few c.args.net.now c.linkage_of-linkage.result.labels.now c.linkage_of-linkage.result.count c.requires.known.network.partial.reactions_limit l.few in
-    subst (λ (x : List ℕ). AllByRecursion (λ r. r ≤ MAX_REACTIONS) x) (sym (c.as_slice-classes.ensures ∙ c.in_ok-counts.ensures)) b.1
+head_expect-expect-requires-clause-each g c = subst (λ (x : List ℕ). AllByRecursion (λ r. r ≤ MAX_REACTIONS) x) (sym c.as_slice-classes.ensures) (let f = c.in_ok-counts.ensures in f.each)
 
 pub next_record-requires-clause-due : goal.next_record-requires-clause-due
 next_record-requires-clause-due g c =
-    let fits = counts_fit c.args.net.now c.args.facts.now.earlier c.linkage_of-linkage.result c.as_slice-classes.result.now c.linkage_of-linkage.ensures (c.as_slice-classes.ensures ∙ c.in_ok-counts.ensures) in
+    let fits = subst (FitsCounts c.args.net.now c.args.facts.now.earlier c.args.question) (sym c.as_slice-classes.ensures) c.in_ok-counts.ensures in
     let due = (let d = c.head_expect-expect.ensures.due in d c.args.facts.now.earlier fits c.in_ok-signals.ensures) in due.may
 
 pub returns-clause-step : goal.returns-clause-step
@@ -36,7 +29,7 @@ returns-clause-step g c =
     let q = c.args.question in
     let e = c.head_expect-expect.result in
     let numbers = c.next_record.new.at.numbers.list in
-    let fits = counts_fit net earlier c.linkage_of-linkage.result c.as_slice-classes.result.now c.linkage_of-linkage.ensures (c.as_slice-classes.ensures ∙ c.in_ok-counts.ensures) in
+    let fits = subst (FitsCounts net earlier q) (sym c.as_slice-classes.ensures) c.in_ok-counts.ensures in
     let due = (let d = c.head_expect-expect.ensures.due in d earlier fits c.in_ok-signals.ensures) in
     let says : (t : Unit {0}) (h : Record) → IsSaid e numbers h → IsHead net earlier q numbers h
     = λ t h s. record { form = subst (λ (fs : List Form). IsOneOf fs h) due.has s.form; tag = s.numbers ∙ ap (λ (zs : List ℤ). zs ++ h.numbers) (let t = c.head_expect-expect.ensures.tag in t earlier h fits c.in_ok-signals.ensures) } in

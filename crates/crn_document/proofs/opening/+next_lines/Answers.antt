@@ -1,6 +1,7 @@
-use Rattle.std.proofs.Common.{◌≡◌, ◌-◌, ◌++◌, ◌∷◌, [], ◌∙◌, ℕ, List, ap, sym, arith, false}
+use Rattle.std.proofs.Common.{◌-◌, ◌∙◌, ℕ, List, sym, subst, arith, false}
 use Rattle.std.proofs.lemmas.Result.{err_from_is_err_and}
 use Rattle.crn_ctext.specs.Course.{due}
+use Rattle.crn_document.specs.Inner.Opening.{IsKeptLine}
 use Rattle.crn_document.specs.Inner.Steps.{StopIs}
 use Rattle.crn_document.specs.declared.stop.CheckStop.TheVariants as stop
 use Rattle.crn_document.proofs.Steps.{stop_first, step_exits}
@@ -9,7 +10,7 @@ use Rattle.crn_document.proofs.NetworkLines.{lines_after, first_line, no_lines, 
 use Rattle.crn_document.proofs.opening.+next_lines.Goals as goal
 
 pub returns-then-count-eq0-clause-step : goal.returns-then-count-eq0-clause-step
-returns-then-count-eq0-clause-step g t c = no_lines c.args.count _ c.args.at.now _ c.if-count-eq0.true
+returns-then-count-eq0-clause-step g t c = no_lines c.args.count _ _ c.args.at.now _ c.if-count-eq0.true
 
 pub returns-in_err-next_line-clause-step : goal.returns-in_err-next_line-clause-step
 returns-in_err-next_line-clause-step g t c =
@@ -17,15 +18,16 @@ returns-in_err-next_line-clause-step g t c =
     (first_line (λ d. StopIs d c.in_err-next_line.field-0.0 c.args.at.now (g.S.Source.seen c.args.source.now) (g.S.Source.seen c.next_line.new.source)) c.args.count (c.args.count - 1) (omega (arith, c.if-count-eq0.false))
     (stop_first (due false) (lines_after (c.args.count - 1)) _ _ _ _ c.in_err-next_line.ensures.step))
 
-pub returns-in_err-add_line-clause-step : goal.returns-in_err-add_line-clause-step
-returns-in_err-add_line-clause-step g t c =
+pub returns-in_err-keep_line-clause-step : goal.returns-in_err-keep_line-clause-step
+returns-in_err-keep_line-clause-step g t c =
     let s = c.in_ok-next_line.ensures.step in
-    step_exits _ _ _ stop.NoMemory _ _ _ _ (err_from_is_err_and _ c.from_residual-in_err-add_line.ensures.1)
+    step_exits _ _ _ stop.NoMemory _ _ _ _ (err_from_is_err_and _ c.from_residual-in_err-keep_line.ensures.1)
     (first_line (λ d. StopIs d stop.NoMemory c.args.at.now (g.S.Source.seen c.args.source.now) (g.S.Source.seen c.next_line.new.source)) c.args.count (c.args.count - 1) (omega (arith, c.if-count-eq0.false))
     (memory_after (due false) (lines_after (c.args.count - 1)) s.0 c.args.at.now c.next_line.new.at _ _ s.2 s.3 c.in_ok-next_line.ensures.reads))
 
 pub returns-clause-step : goal.returns-clause-step
 returns-clause-step g t c =
     let s = c.in_ok-next_line.ensures.step in
-    let added : c.add_line.new.text.items ≡ c.args.text.now.items ++ s.0 ++ 10 ∷ [] = c.in_ok-add_line.ensures ∙ ap (λ (l : List ℕ). c.args.text.now.items ++ l ++ 10 ∷ []) (c.line.ensures ∙ sym s.1) in
-    lines_then c.args.count (c.args.count - 1) s.0 c.args.text.now.items c.add_line.new.text.items c.next_lines.new.text.items c.next_lines.result c.args.at.now c.next_line.new.at c.next_lines.new.at _ _ _ (omega (arith, c.if-count-eq0.false)) added s.2 s.3 c.next_lines.ensures.step
+    let kept : IsKeptLine c.args.long.now c.keep_line.new.long c.args.text.now.items c.keep_line.new.text.items s.0 =
+    subst (λ (l : List ℕ). IsKeptLine c.args.long.now c.keep_line.new.long c.args.text.now.items c.keep_line.new.text.items l) (c.line.ensures ∙ sym s.1) c.in_ok-keep_line.ensures in
+    lines_then c.args.count (c.args.count - 1) c.args.long.now c.keep_line.new.long c.next_lines.new.long s.0 c.args.text.now.items c.keep_line.new.text.items c.next_lines.new.text.items c.next_lines.result c.args.at.now c.next_line.new.at c.next_lines.new.at _ _ _ (omega (arith, c.if-count-eq0.false)) kept s.2 s.3 c.next_lines.ensures.step
