@@ -4,6 +4,7 @@ mod NodeLaws
 mod KindLaws
 mod TreeEnds
 mod CutLaws
+mod ZeroPlaces
 mod NodeTests
 mod PairLaws
 mod FirstFails

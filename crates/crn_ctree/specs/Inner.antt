@@ -4,3 +4,4 @@ pub mod Pairs
 pub mod Paths
 pub mod Signals
 pub mod Spots
+pub mod Skips

@@ -10,14 +10,16 @@ ghost use Rattle.crn_vec.specs.Systems.{IsCut, MayWeigh, is_signed, kind_at};
 ghost use Rattle.crn_vec.specs.Vectors.{HasSign, column, dot, entry};
 ghost use Rattle.crn_cert.specs.Ranges.{AreFree};
 ghost use Rattle.crn_ctree.specs.Inner.Kinds.{kinds_of, matrix_by, matrix_of, weights_of};
+ghost use Rattle.crn_ctree.specs.Inner.Skips.{AreSkips, FitSkips};
 
 use crate::kinds::kind;
 use crate::pair::times;
 use crate::problem::Problem;
+use crate::skips::{Skips, skips_of};
 use crate::sums::dot;
 use crn_net::Network;
 use crn_shape::Shape;
-use crn_vec::{Sign, counts, may_weigh, opposite, sign_of};
+use crn_vec::{MAX_SPECIES, Sign, counts, may_weigh, opposite, sign_of};
 
 // A part of a prefix.
 #[derive(Clone, Copy)]
@@ -74,13 +76,14 @@ pub(crate) fn columns(net: &Network, system: System) -> usize
 }
 
 // The sum of the products of multipliers and the entries of a reaction's vector.
-fn reaction_sum(net: &Network, u: &[i128], r: usize) -> i128
+fn reaction_sum(net: &Network, u: &[i128], skips: &[u8], r: usize) -> i128
     requires numbers { AreFree (length net.now.names) u.now }
+    requires skips { AreSkips u.now skips.now }
     requires reaction { r < length net.now.reactions }
     ensures { result ≡ dot u.now (column (reaction_system net.now).rows r) }
 {
     let _few = net.species();
-    dot(u, net.reaction_vector(r))
+    dot(u, net.reaction_vector(r), skips)
 }
 
 // The sum of the products of multipliers and the entries of a column of system 5.
@@ -97,26 +100,40 @@ fn shape_sum(shape: &Shape, u: &[i128], j: usize) -> i128
 }
 
 // The sum of the products of multipliers and the entries of a column of a system.
-fn column_sum(net: &Network, system: System, u: &[i128], j: usize) -> i128
+fn column_sum(net: &Network, system: System, u: &[i128], skips: &[u8], j: usize) -> i128
     requires numbers { AreFree (length (matrix_by net.now system).rows) u.now }
+    requires skips { FitSkips system u.now skips.now }
     requires place { j < (matrix_by net.now system).cols }
     ensures { result ≡ dot u.now (column (matrix_by net.now system.entry).rows j) }
 {
     match system {
-        System::Reactions => reaction_sum(net, u, j),
+        System::Reactions => reaction_sum(net, u, skips, j),
         System::Shelves(shape) => shape_sum(shape, u, j),
     }
 }
 
+// The places at which multipliers are not 0, if they are those of the system of the reaction vectors.
+fn skips_by(net: &Network, system: System, u: &[i128]) -> Skips
+    requires { AreFree (length (matrix_by net.now system).rows) u.now }
+    ensures { FitSkips system.entry u.now result }
+{
+    let _few = net.species();
+    match system {
+        System::Reactions => skips_of(u),
+        System::Shelves(_) => [0; MAX_SPECIES + 1],
+    }
+}
+
 // The sign that (-uA, u) has at a coordinate.
-fn weight(net: &Network, system: System, u: &[i128], k: usize) -> Sign
+fn weight(net: &Network, system: System, u: &[i128], skips: &[u8], k: usize) -> Sign
     requires numbers { AreFree (length (matrix_by net.now system).rows) u.now }
+    requires skips { FitSkips system u.now skips.now }
     requires place { k < width (matrix_by net.now system) }
     ensures { HasSign result (entry (weights_of (matrix_by net.now system.entry) u.now) k) }
 {
     let columns = columns(net, system);
     if k < columns {
-        opposite(sign_of(column_sum(net, system, u, k)))
+        opposite(sign_of(column_sum(net, system, u, skips, k)))
     } else {
         sign_of(u[k - columns])
     }
@@ -128,8 +145,9 @@ pub(crate) fn put_weights(net: &Network, system: System, u: &[i128], into: &mut 
     requires room { length into.old ≡ width (matrix_by net.now system) }
     ensures { into.new ≡ map sign (weights_of (matrix_by net.now system.entry) u.now) }
 {
+    let skips = skips_by(net, system, u);
     for k in 0..into.len() {
-        into[k] = weight(net, system, u, k);
+        into[k] = weight(net, system, u, &skips, k);
     }
 }
 
@@ -182,9 +200,10 @@ pub(crate) fn rules_out(
         (kinds_of net.now problem.entry part prefix.now) u.now }
 {
     let system = system_of(problem, part);
+    let skips = skips_by(net, system, u);
     let mut some = false;
     for k in 0..columns(net, system) + rows(net, system) {
-        let sign = weight(net, system, u, k);
+        let sign = weight(net, system, u, &skips, k);
         if !fits(net, problem, part, prefix, k, sign) {
             return false;
         }

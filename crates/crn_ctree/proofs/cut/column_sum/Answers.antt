@@ -4,6 +4,7 @@ use Rattle.std.proofs.lemmas.Int.{to_z-of_z}
 use Rattle.crn_vec.specs.Vectors.{column, dot}
 use Rattle.crn_cert.specs.Ranges.{AreFree}
 use Rattle.crn_ctree.specs.Inner.Kinds.{matrix_by}
+use Rattle.crn_ctree.specs.Inner.Skips.{FitSkips}
 use Rattle.crn_ctree.specs.declared.cut.System.{System}
 use Rattle.crn_ctree.proofs.CutLaws.{free_by}
 use Rattle.crn_ctree.proofs.cut.column_sum.Goals as goal
@@ -11,6 +12,9 @@ use Rattle.crn_ctree.proofs.cut.column_sum.Goals as goal
 pub reaction_sum-requires-clause-numbers : goal.reaction_sum-requires-clause-numbers
 reaction_sum-requires-clause-numbers c =
     free_by c.args.net.now c.args.u.now (subst (λ (s : System). AreFree (length (matrix_by c.args.net.now s).rows) c.args.u.now) c.in-Reactions.is c.requires.numbers)
+
+pub reaction_sum-requires-clause-skips : goal.reaction_sum-requires-clause-skips
+reaction_sum-requires-clause-skips c = subst (λ (s : System). FitSkips s c.args.u.now c.args.skips.now) c.in-Reactions.is c.requires.skips
 
 pub reaction_sum-requires-clause-reaction : goal.reaction_sum-requires-clause-reaction
 reaction_sum-requires-clause-reaction c =

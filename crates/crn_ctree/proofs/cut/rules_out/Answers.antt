@@ -20,6 +20,10 @@ counts_at-requires c =
     let e = ap (λ (a : Mat). width a) (c.system_of-system.ensures.matrix c.args.net.now) in
     omega (arith, e, c.loop-k-test.true, c.loop-k.auto.k-end, c.columns.ensures.count, c.rows.ensures.count)
 
+pub skips_by-skips-requires : goal.skips_by-skips-requires
+skips_by-skips-requires c =
+    subst (λ (a : Mat). AreFree (length a.rows) c.args.u.now) (sym (c.system_of-system.ensures.matrix c.args.net.now)) c.requires
+
 pub weight-sign-requires-clause-numbers : goal.weight-sign-requires-clause-numbers
 weight-sign-requires-clause-numbers c =
     subst (λ (a : Mat). AreFree (length a.rows) c.args.u.now) (sym (c.system_of-system.ensures.matrix c.args.net.now)) c.requires

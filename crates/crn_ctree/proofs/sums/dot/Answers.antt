@@ -1,29 +1,48 @@
-use Rattle.std.proofs.Common.{◌≡◌, ◌≤◌, ◌*◌, ◌+◌, ◌∙◌, length, take, ap₂, sym, arith, to_z}
+use Rattle.std.proofs.Common.{◌≡◌, ◌≤◌, ◌<◌, ◌*◌, ◌+◌, ◌∙◌, length, get_or, take, ap₂, sym, arith, to_z}
 use Rattle.std.specs.Prelude.{ℤ, ◌+ℤ◌, unsigned_abs}
 use Rattle.std.specs.Int.{w128}
 use Rattle.crn_vec.specs.Vectors.{dot}
 use Rattle.crn_vec.specs.declared.limits.TheConstants.{MAX_AMOUNT, WIDE_SOLUTION}
 use Rattle.crn_vec.proofs.CallerLemmas.{held, sum_within, dot_step, within_at}
+use Rattle.crn_ctree.proofs.ZeroPlaces.{dot_skip}
 use Rattle.crn_ctree.proofs.sums.dot.Goals as goal
 
-pub product-sum-requires-clause-x : goal.product-sum-requires-clause-x
-product-sum-requires-clause-x c = within_at WIDE_SOLUTION c.loop-k.k c.args.a.now c.requires.a
+pub places-init : goal.places-init
+places-init c =
+    let s = c.requires.skips.each 0 (omega arith) in
+    record {
+      inside = s.inside;
+      is = sym (dot_skip c.args.a.now c.args.b.now 0 (get_or c.args.skips.now 0 0) c.requires.same (omega arith) s.inside (λ i from lt. s.zero i from lt));
+      small = omega arith;
+    }
 
-pub product-sum-requires-clause-y : goal.product-sum-requires-clause-y
-product-sum-requires-clause-y c = within_at MAX_AMOUNT c.loop-k.k c.args.b.now c.requires.b
+pub times-sum-requires-clause-x : goal.times-sum-requires-clause-x
+times-sum-requires-clause-x c = within_at WIDE_SOLUTION c.places.k c.args.a.now c.requires.a
+
+pub times-sum-requires-clause-y : goal.times-sum-requires-clause-y
+times-sum-requires-clause-y c = within_at MAX_AMOUNT c.places.k c.args.b.now c.requires.b
 
 next_sum : {s p d e : ℤ} → s ≡ d → p ≡ e → d +ℤ e ≡ s +ℤ p
 next_sum f g = ap₂ (λ (x y : ℤ). x +ℤ y) (sym f) (sym g)
 
-pub loop-k-preserved : goal.loop-k-preserved
-loop-k-preserved c =
-    let s = to_z w128 c.loop-k.sum-bits in
-    let p = c.product-sum.result in
+pub places-preserved : goal.places-preserved
+places-preserved c =
+    let s = to_z w128 c.places.sum-bits in
+    let p = c.times-sum.result in
     let a = c.args.a.now in
     let b = c.args.b.now in
-    let k = c.loop-k.k in
+    let k = c.places.k in
     let same : length b ≡ length a = c.requires.same in
+    let lt : k < length a = c.places-test.true in
+    let skip = c.requires.skips.each (k + 1) (omega (arith, lt)) in
+    let n = get_or c.args.skips.now (k + 1) 0 in
     let bound : unsigned_abs (s +ℤ p) ≤ k * (MAX_AMOUNT * WIDE_SOLUTION) + MAX_AMOUNT * WIDE_SOLUTION =
-    sum_within s p (k * (MAX_AMOUNT * WIDE_SOLUTION)) (MAX_AMOUNT * WIDE_SOLUTION) c.loop-k.invariant.1 c.product-sum.ensures.small in
-    let next : dot (take (k + 1) a) (take (k + 1) b) ≡ s +ℤ p = dot_step a b k (omega arith) (omega arith) ∙ next_sum c.loop-k.invariant.0 c.product-sum.ensures.value in
-    rw (held p (omega (arith, c.product-sum.ensures.small)), held (s +ℤ p) (omega (arith, c.requires.few))) (sym next, omega (arith, bound))
+    sum_within s p (k * (MAX_AMOUNT * WIDE_SOLUTION)) (MAX_AMOUNT * WIDE_SOLUTION) c.places.invariant.small c.times-sum.ensures.small in
+    let next : dot (take n a) (take n b) ≡ s +ℤ p =
+    dot_skip a b (k + 1) n same skip.after skip.inside (λ i from before. skip.zero i from before)
+    ∙ dot_step a b k lt (omega (arith, same, lt)) ∙ next_sum c.places.invariant.is c.times-sum.ensures.value in
+    rw (held p (omega (arith, c.times-sum.ensures.small)), held (s +ℤ p) (omega (arith, c.requires.few, same, lt, bound))) (record {
+      inside = skip.inside;
+      is = sym next;
+      small = omega (arith, bound, skip.after);
+    })

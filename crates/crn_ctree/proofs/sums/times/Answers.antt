@@ -1,14 +1,8 @@
-use Rattle.std.proofs.Common.{◌≤◌, ◌*◌, ◌∙◌, refl, sym, ap, arith}
-use Rattle.std.specs.Prelude.{ℤ, ◌*ℤ◌, unsigned_abs}
-use Rattle.std.proofs.Math.IntN.{zero-*ℤ}
+use Rattle.std.proofs.Common.{◌≤◌, ◌*◌, refl, arith}
+use Rattle.std.specs.Prelude.{◌*ℤ◌, unsigned_abs}
 use Rattle.crn_vec.specs.declared.limits.TheConstants.{MAX_AMOUNT, WIDE_SOLUTION}
 use Rattle.crn_vec.proofs.CallerLemmas.{held, product_within}
-use Rattle.crn_ctree.proofs.sums.product.Goals as goal
-
-pub returns-then-is_nought-clause-value : goal.returns-then-is_nought-clause-value
-returns-then-is_nought-clause-value c =
-    let y = c.args.y.now in
-    sym (ap (λ (x : ℤ). x *ℤ y) (c.is_nought.ensures.0 c.if-is_nought.true) ∙ zero-*ℤ y)
+use Rattle.crn_ctree.proofs.sums.times.Goals as goal
 
 pub returns-clause-value : goal.returns-clause-value
 returns-clause-value c =

@@ -1,0 +1,15 @@
+use Rattle.std.proofs.Common.{◌≡◌, ◌≤◌, List, length, sym, ap, subst, ◌∙◌, arith}
+use Rattle.std.specs.Prelude.{ℤ}
+use Rattle.crn_vec.proofs.CallerLemmas.{rows_count}
+use Rattle.crn_cert.specs.Ranges.{AreFree}
+use Rattle.crn_ctree.specs.Inner.Kinds.{matrix_by}
+use Rattle.crn_ctree.specs.Inner.Skips.{FitSkips}
+use Rattle.crn_ctree.specs.declared.cut.System.{System}
+use Rattle.crn_ctree.proofs.cut.skips_by.Goals as goal
+
+pub skips_of-requires : goal.skips_of-requires
+skips_of-requires c =
+    let net = c.args.net.now in
+    let long = c.requires.long in
+    let same = ap (λ (s : System). length (matrix_by net s).rows) c.in-Reactions.is in
+    omega (arith, long, same, rows_count net, c.species-few.ensures.count, c.species-few.ensures.limit)
