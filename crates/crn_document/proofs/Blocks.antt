@@ -24,6 +24,8 @@ use Rattle.crn_ctext.specs.Course as course
 use Rattle.crn_ctext.specs.Blocks.{AfterBlocks, Problem, asks_all, asks_trees, claims, has_tree, is_open, problems, unless}
 use Rattle.crn_ctext.specs.Steps.{StepGives}
 use Rattle.crn_io.specs.Device.{SourceSeen}
+use Rattle.crn_vec.proofs.CallerLemmas.{and_first}
+use Rattle.crn_ctext.proofs.CallerLemmas.{zip_long}
 use Rattle.crn_document.specs.declared.reading.Reading.{Reading}
 use Rattle.crn_document.specs.declared.stop.CheckStop.{CheckStop}
 use Rattle.crn_document.specs.Inner.Steps.{StepIs}
@@ -43,7 +45,7 @@ use Rattle.crn_document.specs.declared.rows.Row.TheVariants.{Comb, Dual, M, Mu, 
 use Rattle.crn_document.specs.Inner.Heads.{IsHead, known_of, class_count}
 use Rattle.crn_document.specs.Inner.Blocks.{HeadHolds, IsAfter, IsBlock, Learns, after_at, after_by, end_course, forms_below, head_course, many_after, parts_after, rows_course, tests_course}
 use Rattle.crn_document.proofs.Fields.{part_within}
-use Rattle.crn_document.proofs.Ranks.{AreRanks, zip_length}
+use Rattle.crn_document.proofs.Ranks.{AreRanks}
 use Rattle.crn_document.proofs.Heads.{said_facts}
 
 -- ---- claims
@@ -104,10 +106,6 @@ sides_may : (pairs : List ℕ) → AllByRecursion MayBeRow (map (λ (r : ℕ). S
 sides_may [] = tt
 sides_may (r ∷ rs) = (tt, sides_may rs)
 
-and_cases : (a b : Bool) → (a && b) ≡ true → a ≡ true
-and_cases true b e = refl
-and_cases false b e = absurd cc
-
 signal_may : (b : Bool) (terminal : ℕ) → (b ≡ true → terminal ≤ MAX_COMPLEXES) → AllByRecursion MayBeRow (if b then Shelves terminal ∷ Mu ∷ M ∷ Weights ∷ [] else [])
 signal_may true terminal few = (few refl, (tt, (tt, (tt, tt))))
 signal_may false terminal few = tt
@@ -115,7 +113,7 @@ signal_may false terminal few = tt
 many_may : (net : Net) (labels exits : List ℕ) (terminal classes n place : ℕ) → (n ≡ 13 → terminal ≤ MAX_COMPLEXES) → classes ≤ MAX_COMPLEXES → AllByRecursion MayBeRow (many_rows net labels exits terminal classes n place)
 many_may net labels exits terminal classes n place most few =
     if_may (n == 11 && place == 1) _ _ (sides_may (pairs_to net labels exits (length net.reactions)))
-    (if_may (n == 12 && place == 1) _ _ (times_may (Tie classes) (length net.complexes - 1) few) (if_may (n == 12 && place == 3) _ _ (times_may (Tie classes) (length net.complexes) few) (signal_may (n == 13 && place == 1) terminal (λ e. most (eqb-true n 13 (and_cases (n == 13) (place == 1) e))))))
+    (if_may (n == 12 && place == 1) _ _ (times_may (Tie classes) (length net.complexes - 1) few) (if_may (n == 12 && place == 3) _ _ (times_may (Tie classes) (length net.complexes) few) (signal_may (n == 13 && place == 1) terminal (λ e. most (eqb-true n 13 (and_first (n == 13) (place == 1) e))))))
 
 pub rows_may : (net : Net) (labels exits : List ℕ) (terminal classes n place : ℕ) (parts : List Part) → (n ≡ 13 → terminal ≤ MAX_COMPLEXES) → classes ≤ MAX_COMPLEXES → AreRanks parts → AllByRecursion MayBeRow (rows_below n place (many_rows net labels exits terminal classes n place) parts)
 rows_may net labels exits terminal classes n place parts most few a =
@@ -394,4 +392,4 @@ forms_are net earlier n head labels count k place parts due lis cis kis pis tis 
 
 pub rows_counted : (forms : List Form) (rows old : List (List ℤ)) (rs : List Record) → old ≡ [] → AreRows forms old rows rs → length rows ≡ length forms
 rows_counted forms rows old rs none r =
-    ap (λ (x : List (List ℤ)). length x) (r.1 ∙ ap (λ (x : List (List ℤ)). x ++ lists rs) none) ∙ length-map rs (λ (r : Record). r.numbers) ∙ zip_length forms rs r.0
+    ap (λ (x : List (List ℤ)). length x) (r.1 ∙ ap (λ (x : List (List ℤ)). x ++ lists rs) none) ∙ length-map rs (λ (r : Record). r.numbers) ∙ zip_long forms rs r.0

@@ -4,20 +4,13 @@ use Rattle.crn_io.specs.Device.{SourceSeen}
 use Rattle.crn_io.specs.Lines.{Place}
 use Rattle.crn_io.specs.Next.{place}
 use Rattle.crn_ctext.specs.Course.{Course, Give, Line, Test, End, ◌>>=◌, Gives, FailsFirst, test}
-use Rattle.crn_ctext.proofs.CallerLemmas.{gives_then, fails_before, fails_then}
+use Rattle.crn_ctext.proofs.CallerLemmas.{gives_then, fails_before, fails_then, gives_parts}
 use Rattle.crn_document.specs.declared.reading.Reading.{Reading}
 use Rattle.crn_document.specs.declared.stop.CheckStop.{CheckStop}
 use Rattle.crn_document.specs.declared.stop.CheckStop.TheVariants as stop
 use Rattle.crn_document.specs.Inner.Steps.{StopIs, StepIs}
 
 -- ---- the parts of a course
-
-pub gives_apart : {A B : Type 0} (c : Course A) (f : A → Course B) (at after : Place) (y : B) → Gives (c >>= f) at y after → (x : A) × (mid : Place) × Gives c at x mid × Gives (f x) mid y after
-unfolding Gives
-gives_apart (Give x) f at after y g = (x, at, (refl, refl), g)
-gives_apart (Line node next) f at after y g = let r = gives_apart (next g.0) f g.1 after y g.3 in (r.0, r.1, (g.0, g.1, g.2, r.2), r.3)
-gives_apart (Test n c X P next) f at after y g = let r = gives_apart (next g.0) f at after y g.2 in (r.0, r.1, (g.0, g.1, r.2), r.3)
-gives_apart (End next) f at after y g = let r = gives_apart next f at after y g.1 in (r.0, r.1, (g.0, r.2), r.3)
 
 -- the first of two courses fails first, or what follows it
 abbrev pub FailsApart : {A B : Type 0} → Course A → (A → Course B) → Place → (n code : ℕ) → Type 0
@@ -57,7 +50,7 @@ follows_on c d e p q = record {
 -- what follows the same course
 pub follows_after : {A B : Type 0} (c : Course A) (f g : A → Course B) → ((x : A) → Follows (f x) (g x)) → Follows (c >>= f) (c >>= g)
 follows_after c f g h = record {
-  gives = λ at after y p. let r = gives_apart c f at after y p in let k = (h r.0).gives in gives_then c g at r.1 after r.0 y r.2 (k r.1 after y r.3);
+  gives = λ at after y p. let r = gives_parts c f at after y p in let k = (h r.0).gives in gives_then c g at r.1 after r.0 y r.2 (k r.1 after y r.3);
   fails = λ at n code p. elim (fails_apart c f at n code p) [
     | inl a ↦ fails_before c g at n code a
     | inr r ↦ let k = (h r.0).fails in fails_then c g at r.1 r.0 n code r.2 (k r.1 n code r.3)
@@ -68,8 +61,8 @@ follows_after c f g h = record {
 pub to_right : {A B C : Type 0} (c : Course A) (f : A → Course B) (g : B → Course C) → Follows ((c >>= f) >>= g) (c >>= (λ x. f x >>= g))
 to_right c f g = record {
   gives = λ at after y h.
-      let p = gives_apart (c >>= f) g at after y h in
-      let q = gives_apart c f at p.1 p.0 p.2 in
+      let p = gives_parts (c >>= f) g at after y h in
+      let q = gives_parts c f at p.1 p.0 p.2 in
       gives_then c (λ x. f x >>= g) at q.1 after q.0 y q.2 (gives_then (f q.0) g q.1 p.1 after p.0 y q.3 p.3);
   fails = λ at n code h. elim (fails_apart (c >>= f) g at n code h) [
     | inl p ↦ elim (fails_apart c f at n code p) [
@@ -77,7 +70,7 @@ to_right c f g = record {
       | inr q ↦ fails_then c (λ x. f x >>= g) at q.1 q.0 n code q.2 (fails_before (f q.0) g q.1 n code q.3)
     ]
     | inr p ↦
-        let q = gives_apart c f at p.1 p.0 p.2 in
+        let q = gives_parts c f at p.1 p.0 p.2 in
         fails_then c (λ x. f x >>= g) at q.1 q.0 n code q.2 (fails_then (f q.0) g q.1 p.1 p.0 n code q.3 p.3)
   ];
 }
@@ -85,8 +78,8 @@ to_right c f g = record {
 pub to_left : {A B C : Type 0} (c : Course A) (f : A → Course B) (g : B → Course C) → Follows (c >>= (λ x. f x >>= g)) ((c >>= f) >>= g)
 to_left c f g = record {
   gives = λ at after y h.
-      let p = gives_apart c (λ x. f x >>= g) at after y h in
-      let q = gives_apart (f p.0) g p.1 after y p.3 in
+      let p = gives_parts c (λ x. f x >>= g) at after y h in
+      let q = gives_parts (f p.0) g p.1 after y p.3 in
       gives_then (c >>= f) g at q.1 after q.0 y (gives_then c f at p.1 q.1 p.0 q.0 p.2 q.2) q.3;
   fails = λ at n code h. elim (fails_apart c (λ x. f x >>= g) at n code h) [
     | inl p ↦ fails_before (c >>= f) g at n code (fails_before c f at n code p)
@@ -101,7 +94,7 @@ to_left c f g = record {
 pub none_after : {A : Type 0} (c : Course A) → Follows (c >>= (λ x. Give x)) c
 unfolding Gives FailsFirst
 none_after {A} c = record {
-  gives = λ at after y h. let p = gives_apart c (λ x. Give x) at after y h in subst (λ (x : A). Gives c at x after) p.3.0 (subst (λ (m : Place). Gives c at p.0 m) p.3.1 p.2);
+  gives = λ at after y h. let p = gives_parts c (λ x. Give x) at after y h in subst (λ (x : A). Gives c at x after) p.3.0 (subst (λ (m : Place). Gives c at p.0 m) p.3.1 p.2);
   fails = λ at n code h. elim (fails_apart c (λ x. Give x) at n code h) [
     | inl p ↦ p
     | inr p ↦ absurd p.3

@@ -1,5 +1,5 @@
 -- The numbers of a record of one field, and the places of tests.
-use Rattle.std.proofs.Common.{◌≡◌, ◌≤◌, ◌<◌, ◌^◌, ◌++◌, ◌∙◌, ℕ, List, [], ◌∷◌, map, refl, sym, subst, ap, ap₂, inl, inr, arith}
+use Rattle.std.proofs.Common.{◌≡◌, ◌≤◌, ◌<◌, ◌^◌, ◌++◌, ◌∙◌, ℕ, List, [], ◌∷◌, map, refl, sym, subst, ap, inl, inr, arith}
 use Rattle.std.specs.Prelude.{ℤ, pos, negsuc, nat_abs}
 use Rattle.std.specs.List.{AllByRecursion}
 use Rattle.std.proofs.lemmas.Int.{ints}
@@ -34,9 +34,6 @@ one_number least greatest [] p = absurd (let e = p.0.0 in omega (arith, e))
 one_number least greatest (pos n ∷ []) p = (n, refl, (omega (arith, ints, p.0.1.0.0), omega (arith, ints, p.0.1.0.1)))
 one_number least greatest (negsuc n ∷ []) p = absurd (omega (arith, ints, p.0.1.0.0))
 one_number least greatest (y ∷ z ∷ zs) p = absurd (let e = p.0.0 in omega (arith, e))
-
-pub record_is : (r : Record) (words : List (List ℕ)) (numbers : List ℤ) → r.words ≡ words → r.numbers ≡ numbers → r ≡ record { words = words; numbers = numbers }
-record_is r words numbers w n = ap₂ (λ (ws : List (List ℕ)) (zs : List ℤ). record { words = ws; numbers = zs }) w n
 
 -- ---- the places of tests
 

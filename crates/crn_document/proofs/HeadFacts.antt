@@ -1,45 +1,33 @@
 -- What the form of a head says of its numbers, of the records below it and of the answer.
-use Rattle.std.proofs.Common.{◌≡◌, ◌≢◌, ◌≤◌, ◌<◌, ◌+◌, ◌-◌, ◌^◌, ◌⊎◌, ◌++◌, ◌∙◌, ℕ, zero, suc, List, [], ◌∷◌, drop, length, map, replicate, refl, sym, subst, ap, ap₂, inl, inr, arith}
-use Rattle.std.specs.Prelude.{ℤ, pos, negsuc, codes, nat_abs, min, slice_index, slice_index_or}
-use Rattle.std.specs.List.{AllByRecursion, AllZip, range_with_len}
-use Rattle.std.proofs.lemmas.Int.{ints}
-use Rattle.std.proofs.lemmas.List.{append-nil, length-map, length-replicate}
-use Rattle.std.proofs.lemmas.List.FromFn.{length-range_with_len, length-map-range_with_len}
-use Rattle.crn_vec.specs.Lists.{IsAscending, IsIn}
-use Rattle.crn_vec.specs.Deficiency.{class_members}
-use Rattle.crn_cert.specs.declared.answer.Gap.TheVariants.{Wide}
-use Rattle.crn_cert.specs.declared.answer.Verdict.TheVariants.{Deficiency, Unknown}
-use Rattle.crn_cert.specs.declared.answer.Proof.TheVariants.{Ranks}
-use Rattle.crn_cert.specs.declared.answer.RankProof.{RankProof}
+use Rattle.std.proofs.Common.{◌≡◌, ◌≤◌, ◌<◌, ◌+◌, ◌-◌, ◌^◌, ◌⊎◌, ◌++◌, ◌∙◌, ℕ, suc, List, [], ◌∷◌, length, map, refl, sym, subst, ap, ap₂, arith}
+use Rattle.std.specs.Prelude.{ℤ, pos, nat_abs}
+use Rattle.std.specs.List.{AllZip, range_with_len}
+use Rattle.std.proofs.lemmas.List.{append-nil, length-map}
+use Rattle.std.proofs.lemmas.List.FromFn.{length-map-range_with_len}
+use Rattle.crn_vec.specs.Lists.{IsAscending}
 use Rattle.crn_vec.specs.Network.{Net, IsNetwork}
-use Rattle.crn_vec.specs.declared.limits.TheConstants.{MAX_BUDGET, MAX_COMPLEXES, MAX_REACTIONS}
-use Rattle.crn_cert.specs.Questions.{Earlier, Q6}
-use Rattle.crn_cert.specs.Formed.{HeadMayBe, IsFormedOf, IsBasisOf, IsWalkList, AreClassProofs}
+use Rattle.crn_vec.specs.declared.limits.TheConstants.{MAX_COMPLEXES}
+use Rattle.crn_vec.proofs.CallerLemmas.{abs_back}
+use Rattle.crn_ctext.proofs.CallerLemmas.{zip_long, record_is}
+use Rattle.crn_cert.specs.Questions.{Earlier}
+use Rattle.crn_cert.specs.Formed.{HeadMayBe, IsFormedOf, IsBasisOf}
 use Rattle.crn_cert.specs.Tests.{AllHold}
-use Rattle.crn_cert.specs.Valid.{head_tests, row_tests, linkage, linkage_count, class_places, class_rank_tests, pair_places, side_tests}
-use Rattle.crn_cert.specs.ConfluenceTests.{tie_tests}
+use Rattle.crn_cert.specs.Valid.{head_tests, row_tests, linkage, linkage_count, class_places, pair_places}
 use Rattle.crn_check.specs.Verdicts.{tight}
-use Rattle.crn_cert.specs.Ranges.{AreFrom, AreFree, AreFreeRows, AreBits}
-use Rattle.crn_ctext.specs.Records.{Record, Form, AreRising, CountAndPart, ClassWide, Rising, Several, TwoOf, Fits, AreOf, AreBetween}
-use Rattle.crn_ctext.specs.Kinds.{small, just, record_form, small_form, free_form}
-use Rattle.crn_ctext.specs.Questions.{Sizes, heads, head, yes, no, no_by, none_by, wide, rests, spent, open_by, class_forms, rank_forms, side_form, later_numbers}
+use Rattle.crn_cert.specs.Ranges.{AreFrom}
+use Rattle.crn_ctext.specs.Records.{Record, Form, AreRising, Rising, Fits, AreOf}
+use Rattle.crn_ctext.specs.Kinds.{small, just, small_form}
 use Rattle.crn_ctext.specs.Blocks.{is_open, below, problems, unless}
 use Rattle.crn_ctext.specs.Documents.{IsOneOf}
-use Rattle.crn_ctext.specs.Meaning.{lengths, meaning, number, nums, lists, pairs_of, problems_by, row, sizes_of, shapes_of, verdict_of, proof_of, class_proofs}
-use Rattle.crn_ctext.specs.Expect.{question_of}
-use Rattle.crn_check.specs.Facts.{KeptFacts, asked}
-use Rattle.crn_check.specs.Check.{AsksForTree, IsBuilt, tree_place}
+use Rattle.crn_ctext.specs.Meaning.{meaning, number, lists, pairs_of, problems_by, sizes_of, shapes_of, verdict_of, proof_of}
+use Rattle.crn_check.specs.Facts.{asked}
+use Rattle.crn_check.specs.Check.{AsksForTree, tree_place}
 use Rattle.crn_document.specs.Inner.Answer.{AreSmall, AreSmallRows, IsHeadOf, verdict_of_head}
-use Rattle.crn_document.specs.Inner.Answers.{FitAnswer, part_proofs, proof_of_head}
-use Rattle.crn_document.specs.Inner.Parts.{IsKnown, before, class_parts}
+use Rattle.crn_document.specs.Inner.Answers.{FitAnswer, proof_of_head}
 use Rattle.crn_document.specs.Inner.Blocks.{HeadHolds, forms_below, parts_after}
-use Rattle.crn_document.specs.declared.rows.Row.{Row}
-use Rattle.crn_document.specs.declared.rows.Row.TheVariants.{Side, Tie}
-use Rattle.crn_document.specs.Inner.Records.{part_rows, row_form}
-use Rattle.crn_document.specs.Inner.Heads.{known_of, head_forms, tagged, class_count, IsHead}
-use Rattle.crn_document.proofs.Fields.{Holds, PartsWithin, fits_from, form_small, naturals, one_field, one_number, record_is, small_list}
-use Rattle.crn_document.proofs.Linkages.{count_few, members_all, members_few, member_few, pairs_known}
-use Rattle.crn_document.proofs.Ranks.{AreRanks, class_fit, class_ranks, class_formed, class_parts_within, class_proofs_are, class_rows_are, drop_none, forms_from, free_row, free_rows, map_replicate, members_are, proofs_from, rank_formed, rank_length, rank_parts, rank_rows_are, rank_small, sizes_are, zip_length}
+use Rattle.crn_document.specs.Inner.Heads.{known_of, head_forms, tagged, class_count}
+use Rattle.crn_document.proofs.Fields.{Holds, PartsWithin, form_small, naturals, one_field, one_number, small_list}
+use Rattle.crn_document.proofs.Ranks.{AreRanks}
 
 pub record HeadFacts (net : Net) (earlier : Earlier) (n : ℕ) (h : Record) (t : List ℤ) : Type 1 where
   pub small : AreSmall t
@@ -86,27 +74,19 @@ small_rows (f ∷ fs) [] s z = absurd z
 small_rows (f ∷ fs) (r ∷ rs) s z = let t = s.0 in (form_small t.0 t.1 t.2 t.3 r t.5 (subst (λ (f : Form). Fits f r) t.4 z.0), small_rows fs rs s.1 z.1)
 
 pub few_rows : (forms : List Form) (rs : List Record) → AllZip Fits forms rs → length (lists rs) ≡ length forms
-few_rows forms rs z = length-map rs (λ (r : Record). r.numbers) ∙ zip_length forms rs z
+few_rows forms rs z = length-map rs (λ (r : Record). r.numbers) ∙ zip_long forms rs z
 
 pub form_of : (word : List ℕ) (count least greatest : ℕ) → greatest < 2 ^ 32 → (w : List ℕ) × (c l g : ℕ) × (small_form word count least greatest ≡ small_form w c l g) × (g < 2 ^ 32)
 form_of word count least greatest lt = (word, count, least, greatest, refl, lt)
 
-pub few_none : (rs : List Record) → AllZip Fits [] rs → rs ≡ []
-few_none [] z = refl
-few_none (r ∷ rs) z = absurd z
-
 pub rising_small : (greatest : ℕ) (zs : List ℤ) → greatest < 2 ^ 32 → AreRising greatest zs → AreSmall zs
 rising_small greatest zs lt a = small_list 1 greatest zs lt a.3
-
-pub abs_pos : (ns : List ℕ) → map nat_abs (map pos ns) ≡ ns
-abs_pos [] = refl
-abs_pos (n ∷ ns) = ap (λ (t : List ℕ). n ∷ t) (abs_pos ns)
 
 pub rising_from : (count greatest : ℕ) (zs : List ℤ) → length zs ≡ count → AreRising greatest zs → AreFrom count 1 greatest (map nat_abs zs)
 rising_from count greatest zs long a = record { long = length-map zs nat_abs ∙ long; each = naturals 1 greatest zs a.3 }
 
 pub rising_ascends : (greatest : ℕ) (zs : List ℤ) → AreRising greatest zs → IsAscending (map nat_abs zs)
-rising_ascends greatest zs a = subst IsAscending (sym (ap (λ (t : List ℤ). map nat_abs t) a.1 ∙ abs_pos a.0)) a.2
+rising_ascends greatest zs a = subst IsAscending (sym (ap (λ (t : List ℤ). map nat_abs t) a.1 ∙ abs_back a.0)) a.2
 
 -- the numbers after the words of such a head
 pub record IsWide (system columns rows : ℕ) (zs : List ℤ) : Type 0 where

@@ -1,45 +1,16 @@
 -- What the heads of questions 1 to 4 say.
-use Rattle.std.proofs.Common.{◌≡◌, ◌≢◌, ◌≤◌, ◌<◌, ◌+◌, ◌-◌, ◌^◌, ◌⊎◌, ◌++◌, ◌∙◌, ℕ, zero, suc, List, [], ◌∷◌, drop, length, map, replicate, refl, sym, subst, ap, ap₂, inl, inr, arith}
-use Rattle.std.specs.Prelude.{ℤ, pos, negsuc, codes, nat_abs, min, slice_index, slice_index_or}
-use Rattle.std.specs.List.{AllByRecursion, AllZip, range_with_len}
-use Rattle.std.proofs.lemmas.Int.{ints}
-use Rattle.std.proofs.lemmas.List.{append-nil, length-map, length-replicate}
-use Rattle.std.proofs.lemmas.List.FromFn.{length-range_with_len, length-map-range_with_len}
-use Rattle.crn_vec.specs.Lists.{IsAscending, IsIn}
-use Rattle.crn_vec.specs.Deficiency.{class_members}
-use Rattle.crn_cert.specs.declared.answer.Gap.TheVariants.{Wide}
-use Rattle.crn_cert.specs.declared.answer.Verdict.TheVariants.{Deficiency, Unknown}
-use Rattle.crn_cert.specs.declared.answer.Proof.TheVariants.{Ranks}
-use Rattle.crn_cert.specs.declared.answer.RankProof.{RankProof}
+use Rattle.std.proofs.Common.{◌≤◌, ◌-◌, ℕ, List, [], ◌∷◌, length, map, refl, inl, inr, arith}
+use Rattle.std.specs.Prelude.{pos, codes, nat_abs}
+use Rattle.std.specs.List.{AllZip}
 use Rattle.crn_vec.specs.Network.{Net, IsNetwork}
-use Rattle.crn_vec.specs.declared.limits.TheConstants.{MAX_BUDGET, MAX_COMPLEXES, MAX_REACTIONS}
-use Rattle.crn_cert.specs.Questions.{Earlier, Q6}
-use Rattle.crn_cert.specs.Formed.{HeadMayBe, IsFormedOf, IsBasisOf, IsWalkList, AreClassProofs}
-use Rattle.crn_cert.specs.Tests.{AllHold}
-use Rattle.crn_cert.specs.Valid.{head_tests, row_tests, linkage, linkage_count, class_places, class_rank_tests, pair_places, side_tests}
-use Rattle.crn_cert.specs.ConfluenceTests.{tie_tests}
-use Rattle.crn_check.specs.Verdicts.{tight}
-use Rattle.crn_cert.specs.Ranges.{AreFrom, AreFree, AreFreeRows, AreBits}
-use Rattle.crn_ctext.specs.Records.{Record, Form, AreRising, CountAndPart, ClassWide, Rising, Several, TwoOf, Fits, AreOf, AreBetween}
-use Rattle.crn_ctext.specs.Kinds.{small, just, record_form, small_form, free_form}
-use Rattle.crn_ctext.specs.Questions.{Sizes, heads, head, yes, no, no_by, none_by, wide, rests, spent, open_by, class_forms, rank_forms, side_form, later_numbers}
-use Rattle.crn_ctext.specs.Blocks.{is_open, below, problems, unless}
-use Rattle.crn_ctext.specs.Documents.{IsOneOf}
-use Rattle.crn_ctext.specs.Meaning.{lengths, meaning, number, nums, lists, pairs_of, problems_by, row, sizes_of, shapes_of, verdict_of, proof_of, class_proofs}
-use Rattle.crn_ctext.specs.Expect.{question_of}
-use Rattle.crn_check.specs.Facts.{KeptFacts, asked}
-use Rattle.crn_check.specs.Check.{AsksForTree, IsBuilt}
-use Rattle.crn_document.specs.Inner.Answer.{AreSmall, AreSmallRows, IsHeadOf, verdict_of_head}
-use Rattle.crn_document.specs.Inner.Answers.{FitAnswer, part_proofs, proof_of_head}
-use Rattle.crn_document.specs.Inner.Parts.{IsKnown, before, class_parts}
-use Rattle.crn_document.specs.Inner.Blocks.{HeadHolds, forms_below, parts_after}
-use Rattle.crn_document.specs.declared.rows.Row.{Row}
-use Rattle.crn_document.specs.declared.rows.Row.TheVariants.{Side, Tie}
-use Rattle.crn_document.specs.Inner.Records.{part_rows, row_form}
-use Rattle.crn_document.specs.Inner.Heads.{known_of, head_forms, tagged, class_count, IsHead}
-use Rattle.crn_document.proofs.Fields.{Holds, PartsWithin, fits_from, form_small, naturals, one_field, one_number, record_is, small_list}
-use Rattle.crn_document.proofs.Linkages.{count_few, members_all, members_few, member_few, pairs_known}
-use Rattle.crn_document.proofs.Ranks.{AreRanks, class_fit, class_ranks, class_formed, class_parts_within, class_proofs_are, class_rows_are, drop_none, forms_from, free_row, free_rows, map_replicate, members_are, proofs_from, rank_formed, rank_length, rank_parts, rank_rows_are, rank_small, sizes_are, zip_length}
+use Rattle.crn_ctext.proofs.CallerLemmas.{zip_long}
+use Rattle.crn_cert.specs.Questions.{Earlier}
+use Rattle.crn_cert.specs.Ranges.{AreFrom}
+use Rattle.crn_ctext.specs.Records.{Record, Form, CountAndPart, Fits}
+use Rattle.crn_ctext.specs.Kinds.{small, small_form}
+use Rattle.crn_ctext.specs.Questions.{head, yes, no}
+use Rattle.crn_ctext.specs.Meaning.{row}
+use Rattle.crn_document.proofs.Fields.{fits_from, one_field, one_number}
 use Rattle.crn_document.proofs.HeadFacts.{Facts, one_small, AreSmallForms, small_rows, few_rows, form_of, same_facts, as_form, FactsAt}
 
 linkage_rows : (c r k : ℕ) (rs : List Record) → AllZip Fits (small_form (codes "label") c 1 k ∷ small_form (codes "up") c 0 r ∷ small_form (codes "depth") c 0 (c - 1) ∷ []) rs
@@ -75,7 +46,7 @@ linkage_facts net earlier k network range =
       heads_same = λ rs p. p;
       fit = λ rs hold z. (few_rows forms rs z, small_rows forms rs smalls z);
       formed = λ rs other hold z. let f = linkage_rows c r k rs z in (range, (f.0, record { names_are = f.1.0; depth_is = f.1.1 }));
-      row_parts = λ rs hold z. let l = zip_length forms rs z in (omega (arith, l), (omega (arith, l), tt));
+      row_parts = λ rs hold z. let l = zip_long forms rs z in (omega (arith, l), (omega (arith, l), tt));
     }
 
 abbrev strong_row_forms : ℕ → ℕ → ℕ → List Form
@@ -136,7 +107,7 @@ strong_facts net earlier k m network range =
       fit = λ rs hold z. (few_rows forms rs z, small_rows forms rs smalls z);
       formed = λ rs other hold z. let f = strong_rows c r k rs z in
           (((omega (arith, range.0, range.1), range.2), (range.0, range.1)), (f.labels, f.exits, record { names_are = f.from; depth_is = f.from_depth }, record { names_are = f.to; depth_is = f.to_depth }, f.levels));
-      row_parts = λ rs hold z. let l = zip_length forms rs z in (omega (arith, l), (omega (arith, l), (omega (arith, l), (omega (arith, l), (omega (arith, l), (omega (arith, l), tt))))));
+      row_parts = λ rs hold z. let l = zip_long forms rs z in (omega (arith, l), (omega (arith, l), (omega (arith, l), (omega (arith, l), (omega (arith, l), (omega (arith, l), tt))))));
     }
 
 reverse_rows : (r : ℕ) (rs : List Record) → AllZip Fits (small_form (codes "back") r 1 r ∷ []) rs → AreFrom r 1 r (map nat_abs (row rs 0))

@@ -1,45 +1,18 @@
 -- What the heads of questions 14 and 15 say.
-use Rattle.std.proofs.Common.{◌≡◌, ◌≢◌, ◌≤◌, ◌<◌, ◌+◌, ◌-◌, ◌^◌, ◌⊎◌, ◌++◌, ◌∙◌, ℕ, zero, suc, List, [], ◌∷◌, drop, length, map, replicate, refl, sym, subst, ap, ap₂, inl, inr, arith}
-use Rattle.std.specs.Prelude.{ℤ, pos, negsuc, codes, nat_abs, min, slice_index, slice_index_or}
-use Rattle.std.specs.List.{AllByRecursion, AllZip, range_with_len}
-use Rattle.std.proofs.lemmas.Int.{ints}
-use Rattle.std.proofs.lemmas.List.{append-nil, length-map, length-replicate}
-use Rattle.std.proofs.lemmas.List.FromFn.{length-range_with_len, length-map-range_with_len}
-use Rattle.crn_vec.specs.Lists.{IsAscending, IsIn}
-use Rattle.crn_vec.specs.Deficiency.{class_members}
-use Rattle.crn_cert.specs.declared.answer.Gap.TheVariants.{Wide}
-use Rattle.crn_cert.specs.declared.answer.Verdict.TheVariants.{Deficiency, Unknown}
-use Rattle.crn_cert.specs.declared.answer.Proof.TheVariants.{Ranks}
-use Rattle.crn_cert.specs.declared.answer.RankProof.{RankProof}
+use Rattle.std.proofs.Common.{◌≡◌, ◌≤◌, ◌+◌, ℕ, List, [], ◌∷◌, length, refl, inl, inr, arith}
+use Rattle.std.specs.Prelude.{ℤ, pos, codes}
+use Rattle.std.specs.List.{AllZip}
 use Rattle.crn_vec.specs.Network.{Net, IsNetwork}
-use Rattle.crn_vec.specs.declared.limits.TheConstants.{MAX_BUDGET, MAX_COMPLEXES, MAX_REACTIONS}
-use Rattle.crn_cert.specs.Questions.{Earlier, Q6}
-use Rattle.crn_cert.specs.Formed.{HeadMayBe, IsFormedOf, IsBasisOf, IsWalkList, AreClassProofs}
-use Rattle.crn_cert.specs.Tests.{AllHold}
-use Rattle.crn_cert.specs.Valid.{head_tests, row_tests, linkage, linkage_count, class_places, class_rank_tests, pair_places, side_tests}
-use Rattle.crn_cert.specs.ConfluenceTests.{tie_tests}
-use Rattle.crn_check.specs.Verdicts.{tight}
-use Rattle.crn_cert.specs.Ranges.{AreFrom, AreFree, AreFreeRows, AreBits}
-use Rattle.crn_ctext.specs.Records.{Record, Form, AreRising, CountAndPart, ClassWide, Rising, Several, TwoOf, Fits, AreOf, AreBetween}
-use Rattle.crn_ctext.specs.Kinds.{small, just, record_form, small_form, free_form}
-use Rattle.crn_ctext.specs.Questions.{Sizes, heads, head, yes, no, no_by, none_by, wide, rests, spent, open_by, class_forms, rank_forms, side_form, later_numbers}
-use Rattle.crn_ctext.specs.Blocks.{is_open, below, problems, unless}
-use Rattle.crn_ctext.specs.Documents.{IsOneOf}
-use Rattle.crn_ctext.specs.Meaning.{lengths, meaning, number, nums, lists, pairs_of, problems_by, row, sizes_of, shapes_of, verdict_of, proof_of, class_proofs}
-use Rattle.crn_ctext.specs.Expect.{question_of}
-use Rattle.crn_check.specs.Facts.{KeptFacts, asked}
-use Rattle.crn_check.specs.Check.{AsksForTree, IsBuilt}
-use Rattle.crn_document.specs.Inner.Answer.{AreSmall, AreSmallRows, IsHeadOf, verdict_of_head}
-use Rattle.crn_document.specs.Inner.Answers.{FitAnswer, part_proofs, proof_of_head}
-use Rattle.crn_document.specs.Inner.Parts.{IsKnown, before, class_parts}
-use Rattle.crn_document.specs.Inner.Blocks.{HeadHolds, forms_below, parts_after}
-use Rattle.crn_document.specs.declared.rows.Row.{Row}
-use Rattle.crn_document.specs.declared.rows.Row.TheVariants.{Side, Tie}
-use Rattle.crn_document.specs.Inner.Records.{part_rows, row_form}
-use Rattle.crn_document.specs.Inner.Heads.{known_of, head_forms, tagged, class_count, IsHead}
-use Rattle.crn_document.proofs.Fields.{Holds, PartsWithin, fits_from, form_small, naturals, one_field, one_number, record_is, small_list}
-use Rattle.crn_document.proofs.Linkages.{count_few, members_all, members_few, member_few, pairs_known}
-use Rattle.crn_document.proofs.Ranks.{AreRanks, class_fit, class_ranks, class_formed, class_parts_within, class_proofs_are, class_rows_are, drop_none, forms_from, free_row, free_rows, map_replicate, members_are, proofs_from, rank_formed, rank_length, rank_parts, rank_rows_are, rank_small, sizes_are, zip_length}
+use Rattle.crn_vec.specs.declared.limits.TheConstants.{MAX_BUDGET}
+use Rattle.crn_ctext.proofs.CallerLemmas.{zip_long}
+use Rattle.crn_cert.specs.Questions.{Earlier}
+use Rattle.crn_cert.specs.Ranges.{AreFree}
+use Rattle.crn_ctext.specs.Records.{Record, Form, AreRising, Fits}
+use Rattle.crn_ctext.specs.Kinds.{small, free_form}
+use Rattle.crn_ctext.specs.Questions.{head, yes, no, wide, spent, open_by}
+use Rattle.crn_ctext.specs.Meaning.{row}
+use Rattle.crn_document.proofs.Fields.{one_field, one_number}
+use Rattle.crn_document.proofs.Ranks.{free_row}
 use Rattle.crn_document.proofs.HeadFacts.{Facts, one_small, wide_numbers, wide_small, wide_basis, same_facts, as_form, FactsAt}
 
 -- the two lists of a no
@@ -93,7 +66,7 @@ no_concordance_facts net earlier = record {
   heads_same = λ rs p. p;
   fit = λ rs hold z. tt;
   formed = λ rs other hold z. (tt, pair_lists (length net.reactions) rs z);
-  row_parts = λ rs hold z. let l = zip_length (pair_forms (length net.reactions)) rs z in (omega (arith, l), tt);
+  row_parts = λ rs hold z. let l = zip_long (pair_forms (length net.reactions)) rs z in (omega (arith, l), tt);
 }
 
 concordance_wide_facts : (net : Net) (earlier : Earlier) (index : ℕ) (basis : List ℤ) → IsNetwork net → 1 ≤ index → index ≤ length net.reactions + length net.names → length basis ≡ length net.reactions → AreRising (length net.reactions + length net.names) basis → Facts net earlier 14 (codes "q14" ∷ open_by (codes "wide")) (pos 2 ∷ pos 0 ∷ pos index ∷ basis)
@@ -181,7 +154,7 @@ no_strongly_facts net earlier = record {
   heads_same = λ rs p. p;
   fit = λ rs hold z. tt;
   formed = λ rs other hold z. (tt, pair_lists (length net.reactions) rs z);
-  row_parts = λ rs hold z. let l = zip_length (pair_forms (length net.reactions)) rs z in (omega (arith, l), tt);
+  row_parts = λ rs hold z. let l = zip_long (pair_forms (length net.reactions)) rs z in (omega (arith, l), tt);
 }
 
 strongly_wide_facts : (net : Net) (earlier : Earlier) (index : ℕ) (basis : List ℤ) → IsNetwork net → 1 ≤ index → index ≤ length net.reactions + length net.names → length basis ≡ length net.reactions → AreRising (length net.reactions + length net.names) basis → Facts net earlier 15 (codes "q15" ∷ open_by (codes "wide")) (pos 2 ∷ pos 0 ∷ pos index ∷ basis)

@@ -1,61 +1,37 @@
 -- What the heads of questions 11 and 12 say.
-use Rattle.std.proofs.Common.{◌≡◌, ◌≢◌, ◌≤◌, ◌<◌, ◌+◌, ◌-◌, ◌^◌, ◌⊎◌, ◌++◌, ◌∙◌, ℕ, zero, suc, List, [], ◌∷◌, drop, length, map, replicate, refl, sym, subst, ap, ap₂, inl, inr, arith}
-use Rattle.std.specs.Prelude.{ℤ, pos, negsuc, codes, nat_abs, min, slice_index, slice_index_or}
-use Rattle.std.specs.List.{AllByRecursion, AllZip, range_with_len}
+use Rattle.std.proofs.Common.{◌≡◌, ◌≢◌, ◌≤◌, ◌<◌, ◌+◌, ◌-◌, ◌^◌, ◌++◌, ◌∙◌, ℕ, zero, suc, List, [], ◌∷◌, drop, length, map, replicate, refl, sym, subst, ap, ap₂, inl, inr, arith}
+use Rattle.std.specs.Prelude.{ℤ, pos, codes, nat_abs, slice_index_or}
+use Rattle.std.specs.List.{AllByRecursion, AllZip}
 use Rattle.std.proofs.lemmas.Int.{ints}
 use Rattle.std.proofs.lemmas.List.{append-nil, length-map, length-replicate}
-use Rattle.std.proofs.lemmas.List.FromFn.{length-range_with_len, length-map-range_with_len}
-use Rattle.crn_vec.specs.Lists.{IsAscending, IsIn}
-use Rattle.crn_vec.specs.Deficiency.{class_members}
-use Rattle.crn_cert.specs.declared.answer.Gap.TheVariants.{Wide}
-use Rattle.crn_cert.specs.declared.answer.Verdict.TheVariants.{Deficiency, Unknown}
-use Rattle.crn_cert.specs.declared.answer.Proof.TheVariants.{Ranks}
-use Rattle.crn_cert.specs.declared.answer.RankProof.{RankProof}
 use Rattle.crn_vec.specs.Network.{Net, IsNetwork}
-use Rattle.crn_vec.specs.declared.limits.TheConstants.{MAX_BUDGET, MAX_COMPLEXES, MAX_REACTIONS}
-use Rattle.crn_cert.specs.Questions.{Earlier, Q6}
-use Rattle.crn_cert.specs.Formed.{HeadMayBe, IsFormedOf, IsBasisOf, IsWalkList, AreClassProofs}
-use Rattle.crn_cert.specs.Tests.{AllHold}
-use Rattle.crn_cert.specs.Valid.{head_tests, row_tests, linkage, linkage_count, class_places, class_rank_tests, pair_places, side_tests}
+use Rattle.crn_vec.specs.declared.limits.TheConstants.{MAX_COMPLEXES}
+use Rattle.crn_ctext.proofs.CallerLemmas.{zip_long, between_bits}
+use Rattle.crn_cert.specs.Questions.{Earlier}
+use Rattle.crn_cert.specs.Formed.{IsWalkList}
+use Rattle.crn_cert.specs.Valid.{linkage, linkage_count, pair_places, side_tests}
 use Rattle.crn_cert.specs.ConfluenceTests.{tie_tests}
-use Rattle.crn_check.specs.Verdicts.{tight}
-use Rattle.crn_cert.specs.Ranges.{AreFrom, AreFree, AreFreeRows, AreBits}
-use Rattle.crn_ctext.specs.Records.{Record, Form, AreRising, CountAndPart, ClassWide, Rising, Several, TwoOf, Fits, AreOf, AreBetween}
-use Rattle.crn_ctext.specs.Kinds.{small, just, record_form, small_form, free_form}
-use Rattle.crn_ctext.specs.Questions.{Sizes, heads, head, yes, no, no_by, none_by, wide, rests, spent, open_by, class_forms, rank_forms, side_form, later_numbers}
-use Rattle.crn_ctext.specs.Blocks.{is_open, below, problems, unless}
-use Rattle.crn_ctext.specs.Documents.{IsOneOf}
-use Rattle.crn_ctext.specs.Meaning.{lengths, meaning, number, nums, lists, pairs_of, problems_by, row, sizes_of, shapes_of, verdict_of, proof_of, class_proofs}
-use Rattle.crn_ctext.specs.Expect.{question_of}
-use Rattle.crn_check.specs.Facts.{KeptFacts, asked}
-use Rattle.crn_check.specs.Check.{AsksForTree, IsBuilt}
-use Rattle.crn_document.specs.Inner.Answer.{AreSmall, AreSmallRows, IsHeadOf, verdict_of_head}
-use Rattle.crn_document.specs.Inner.Answers.{FitAnswer, part_proofs, proof_of_head}
-use Rattle.crn_document.specs.Inner.Parts.{IsKnown, before, class_parts}
-use Rattle.crn_document.specs.Inner.Blocks.{HeadHolds, forms_below, parts_after}
+use Rattle.crn_cert.specs.Ranges.{AreFree, AreFreeRows, AreBits}
+use Rattle.crn_ctext.specs.Records.{Record, Form, AreRising, Several, TwoOf, Fits, AreOf, AreBetween}
+use Rattle.crn_ctext.specs.Kinds.{small, just, record_form, free_form}
+use Rattle.crn_ctext.specs.Questions.{Sizes, head, yes, no_by, none_by, wide, rests, open_by, side_form, later_numbers}
+use Rattle.crn_ctext.specs.Meaning.{lists, row, sizes_of}
+use Rattle.crn_document.specs.Inner.Answer.{AreSmall}
+use Rattle.crn_document.specs.Inner.Blocks.{forms_below}
 use Rattle.crn_document.specs.declared.rows.Row.{Row}
 use Rattle.crn_document.specs.declared.rows.Row.TheVariants.{Side, Tie}
-use Rattle.crn_document.specs.Inner.Records.{part_rows, row_form}
-use Rattle.crn_document.specs.Inner.Heads.{known_of, head_forms, tagged, class_count, IsHead}
-use Rattle.crn_document.proofs.Fields.{Holds, PartsWithin, fits_from, form_small, naturals, one_field, one_number, record_is, small_list}
-use Rattle.crn_document.proofs.Linkages.{count_few, members_all, members_few, member_few, pairs_known}
-use Rattle.crn_document.proofs.Ranks.{AreRanks, class_fit, class_ranks, class_formed, class_parts_within, class_proofs_are, class_rows_are, drop_none, forms_from, free_row, free_rows, map_replicate, members_are, proofs_from, rank_formed, rank_length, rank_parts, rank_rows_are, rank_small, sizes_are, zip_length}
+use Rattle.crn_document.specs.Inner.Records.{row_form}
+use Rattle.crn_document.specs.Inner.Heads.{known_of}
+use Rattle.crn_document.proofs.Fields.{Holds, PartsWithin, naturals, one_field, one_number, small_list}
+use Rattle.crn_document.proofs.Ranks.{drop_none, free_row, free_rows, map_replicate}
 use Rattle.crn_document.proofs.HeadFacts.{Facts, one_small, IsWide, wide_numbers, wide_small, wide_basis, counts_long, ArePairs, same_facts, as_form, FactsAt, class_and_number}
-
--- marks are zeros and ones
-bits : (zs : List ℤ) → AreBetween (pos 0) (pos 1) zs → AllByRecursion (λ x. (x ≡ pos 0) ⊎ (x ≡ pos 1)) zs
-bits [] b = tt
-bits (pos zero ∷ zs) b = (inl refl, bits zs b.1)
-bits (pos (suc zero) ∷ zs) b = (inr refl, bits zs b.1)
-bits (pos (suc (suc n)) ∷ zs) b = absurd (omega (arith, ints, b.0.1))
-bits (negsuc n ∷ zs) b = absurd (omega (arith, ints, b.0.0))
 
 side_marks : (r c : ℕ) (zs : List ℤ) → AreOf Holds (just r ∷ small c 0 1 ∷ []) zs → AreBits c (later_numbers zs)
 side_marks r c zs p =
     let first = one_number r r p.0 p.3 in
     let rest = one_field (small c 0 1) p.1 p.4 in
     let is : zs ≡ pos first.0 ∷ p.1 = p.2 ∙ ap (λ (x : List ℤ). x ++ p.1) first.1 in
-    subst (λ (x : List ℤ). AreBits c (later_numbers x)) (sym is) (record { long = rest.0.0; each = bits p.1 rest.0.1 })
+    subst (λ (x : List ℤ). AreBits c (later_numbers x)) (sym is) (record { long = rest.0.0; each = between_bits p.1 rest.0.1 })
 
 side_rows : (z : Sizes) (ps : List ℕ) (rs : List Record) → AllZip Fits (map (side_form z) ps) rs → AllByRecursion (AreBits z.complexes) (map later_numbers (lists rs))
 side_rows z [] [] f = tt
@@ -80,7 +56,7 @@ regular_facts net earlier pairs =
     let forms = map (side_form z) ps in
     let rows_are : forms ≡ forms_below net earlier 11 (pos 1 ∷ []) = sides_are net labels z ps refl ∙ ap (λ (rows : List Row). map (row_form net labels 0) rows) (sym (append-nil (map (λ (r : ℕ). Side r) ps))) in
     let of_forms : (rs : List Record) → AllZip Fits (forms_below net earlier 11 (pos 1 ∷ [])) rs → AllZip Fits forms rs = λ rs zz. subst (λ (fs : List Form). AllZip Fits fs rs) (sym rows_are) zz in
-    let long : (rs : List Record) → AllZip Fits (forms_below net earlier 11 (pos 1 ∷ [])) rs → length (map later_numbers (lists rs)) ≡ length ps = λ rs zz. length-map (lists rs) later_numbers ∙ length-map rs (λ (r : Record). r.numbers) ∙ zip_length forms rs (of_forms rs zz) ∙ length-map ps (side_form z) in
+    let long : (rs : List Record) → AllZip Fits (forms_below net earlier 11 (pos 1 ∷ [])) rs → length (map later_numbers (lists rs)) ≡ length ps = λ rs zz. length-map (lists rs) later_numbers ∙ length-map rs (λ (r : Record). r.numbers) ∙ zip_long forms rs (of_forms rs zz) ∙ length-map ps (side_form z) in
     record {
       small = (omega arith, tt);
       short = omega arith;
@@ -99,7 +75,7 @@ regular_facts net earlier pairs =
       heads_same = λ rs p. p;
       fit = λ rs hold zz. tt;
       formed = λ rs other hold zz. (tt, record { long = long rs zz; each = side_rows z ps rs (of_forms rs zz) });
-      row_parts = λ rs hold zz. let l = long rs zz in let m = zip_length forms rs (of_forms rs zz) in let n = length-map ps (side_form z) in side_parts net earlier 1 (suc (length rs)) ps (map later_numbers (lists rs)) (omega (arith, l, m, n));
+      row_parts = λ rs hold zz. let l = long rs zz in let m = zip_long forms rs (of_forms rs zz) in let n = length-map ps (side_form z) in side_parts net earlier 1 (suc (length rs)) ps (map later_numbers (lists rs)) (omega (arith, l, m, n));
     }
 
 regular_split_facts : (net : Net) (earlier : Earlier) (k m : ℕ) → IsNetwork net → linkage_count earlier ≤ MAX_COMPLEXES → (1 ≤ k) × (k ≤ linkage_count earlier) → (2 ≤ m) × (m ≤ length net.complexes) → Facts net earlier 11 (codes "q11" ∷ no_by (codes "terminal")) (pos k ∷ pos m ∷ [])
@@ -258,7 +234,7 @@ confluence_facts net earlier =
       fit = λ rs hold zz. tt;
       formed = λ rs other hold zz. (tt, vector_ties net earlier c n rs (of_forms rs zz));
       row_parts = λ rs hold zz.
-          let l = zip_length forms rs (of_forms rs zz) in
+          let l = zip_long forms rs (of_forms rs zz) in
           let r = length-replicate n (free_form (codes "tie") (length net.names + linkage_count earlier)) in
           let t = (let v = vector_ties net earlier c n rs (of_forms rs zz) in v.1.long) in
           (omega arith, tie_parts net (linkage earlier) (linkage_count earlier) _ 2 (suc (length rs)) _ (drop 1 (lists rs)) (omega (arith, l, r, t)));
@@ -341,7 +317,7 @@ plane_facts net earlier a b network first second differ = record {
   heads_same = λ rs p. p;
   fit = λ rs hold z. tt;
   formed = λ rs other hold z. ((first, second, differ), plane_rows (length net.complexes) rs z);
-  row_parts = λ rs hold z. let l = zip_length (free_form (codes "vec") (length net.complexes) ∷ free_form (codes "vec") (length net.complexes) ∷ []) rs z in (omega arith, (omega (arith, l), tt));
+  row_parts = λ rs hold z. let l = zip_long (free_form (codes "vec") (length net.complexes) ∷ free_form (codes "vec") (length net.complexes) ∷ []) rs z in (omega arith, (omega (arith, l), tt));
 }
 
 confluence_wide_facts : (net : Net) (earlier : Earlier) (index : ℕ) (basis : List ℤ) → IsNetwork net → linkage_count earlier ≤ MAX_COMPLEXES → 1 ≤ index → index ≤ length net.complexes + (length net.names + linkage_count earlier) → length basis ≡ length net.complexes → AreRising (length net.complexes + (length net.names + linkage_count earlier)) basis

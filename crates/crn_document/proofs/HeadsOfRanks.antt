@@ -1,46 +1,36 @@
 -- What the heads of questions 5 and 6 say.
-use Rattle.std.proofs.Common.{◌≡◌, ◌≢◌, ◌≤◌, ◌<◌, ◌+◌, ◌-◌, ◌^◌, ◌⊎◌, ◌++◌, ◌∙◌, ℕ, zero, suc, List, [], ◌∷◌, drop, length, map, replicate, refl, sym, subst, ap, ap₂, inl, inr, arith}
-use Rattle.std.specs.Prelude.{ℤ, pos, negsuc, codes, nat_abs, min, slice_index, slice_index_or}
-use Rattle.std.specs.List.{AllByRecursion, AllZip, range_with_len}
+use Rattle.std.proofs.Common.{◌≡◌, ◌≤◌, ◌<◌, ◌+◌, ◌-◌, ◌++◌, ◌∙◌, ℕ, zero, suc, List, [], ◌∷◌, length, map, refl, sym, subst, ap, ap₂, inl, inr, arith}
+use Rattle.std.specs.Prelude.{ℤ, pos, negsuc, codes, nat_abs, min, slice_index}
+use Rattle.std.specs.List.{AllZip, range_with_len}
 use Rattle.std.proofs.lemmas.Int.{ints}
-use Rattle.std.proofs.lemmas.List.{append-nil, length-map, length-replicate}
-use Rattle.std.proofs.lemmas.List.FromFn.{length-range_with_len, length-map-range_with_len}
-use Rattle.crn_vec.specs.Lists.{IsAscending, IsIn}
+use Rattle.std.proofs.lemmas.List.{append-nil, length-map}
+use Rattle.std.proofs.lemmas.List.FromFn.{length-range_with_len}
+use Rattle.crn_vec.specs.Lists.{IsIn}
 use Rattle.crn_vec.specs.Deficiency.{class_members}
 use Rattle.crn_cert.specs.declared.answer.Gap.TheVariants.{Wide}
 use Rattle.crn_cert.specs.declared.answer.Verdict.TheVariants.{Deficiency, Unknown}
 use Rattle.crn_cert.specs.declared.answer.Proof.TheVariants.{Ranks}
 use Rattle.crn_cert.specs.declared.answer.RankProof.{RankProof}
 use Rattle.crn_vec.specs.Network.{Net, IsNetwork}
-use Rattle.crn_vec.specs.declared.limits.TheConstants.{MAX_BUDGET, MAX_COMPLEXES, MAX_REACTIONS}
+use Rattle.crn_vec.specs.declared.limits.TheConstants.{MAX_COMPLEXES, MAX_REACTIONS}
+use Rattle.crn_ctext.proofs.CallerLemmas.{zip_none, zip_long}
 use Rattle.crn_cert.specs.Questions.{Earlier, Q6}
-use Rattle.crn_cert.specs.Formed.{HeadMayBe, IsFormedOf, IsBasisOf, IsWalkList, AreClassProofs}
-use Rattle.crn_cert.specs.Tests.{AllHold}
-use Rattle.crn_cert.specs.Valid.{head_tests, row_tests, linkage, linkage_count, class_places, class_rank_tests, pair_places, side_tests}
-use Rattle.crn_cert.specs.ConfluenceTests.{tie_tests}
-use Rattle.crn_check.specs.Verdicts.{tight}
-use Rattle.crn_cert.specs.Ranges.{AreFrom, AreFree, AreFreeRows, AreBits}
-use Rattle.crn_ctext.specs.Records.{Record, Form, AreRising, CountAndPart, ClassWide, Rising, Several, TwoOf, Fits, AreOf, AreBetween}
-use Rattle.crn_ctext.specs.Kinds.{small, just, record_form, small_form, free_form}
-use Rattle.crn_ctext.specs.Questions.{Sizes, heads, head, yes, no, no_by, none_by, wide, rests, spent, open_by, class_forms, rank_forms, side_form, later_numbers}
-use Rattle.crn_ctext.specs.Blocks.{is_open, below, problems, unless}
-use Rattle.crn_ctext.specs.Documents.{IsOneOf}
-use Rattle.crn_ctext.specs.Meaning.{lengths, meaning, number, nums, lists, pairs_of, problems_by, row, sizes_of, shapes_of, verdict_of, proof_of, class_proofs}
-use Rattle.crn_ctext.specs.Expect.{question_of}
-use Rattle.crn_check.specs.Facts.{KeptFacts, asked}
-use Rattle.crn_check.specs.Check.{AsksForTree, IsBuilt}
-use Rattle.crn_document.specs.Inner.Answer.{AreSmall, AreSmallRows, IsHeadOf, verdict_of_head}
-use Rattle.crn_document.specs.Inner.Answers.{FitAnswer, part_proofs, proof_of_head}
-use Rattle.crn_document.specs.Inner.Parts.{IsKnown, before, class_parts}
-use Rattle.crn_document.specs.Inner.Blocks.{HeadHolds, forms_below, parts_after}
+use Rattle.crn_cert.specs.Formed.{HeadMayBe, AreClassProofs}
+use Rattle.crn_cert.specs.Valid.{linkage, linkage_count, class_places, class_rank_tests}
+use Rattle.crn_ctext.specs.Records.{Record, Form, AreRising, ClassWide, Fits, AreOf, AreBetween}
+use Rattle.crn_ctext.specs.Kinds.{small, just}
+use Rattle.crn_ctext.specs.Questions.{Sizes, head, wide, rests, open_by, class_forms, rank_forms}
+use Rattle.crn_ctext.specs.Meaning.{lengths, nums, lists, sizes_of, shapes_of, class_proofs}
+use Rattle.crn_document.specs.Inner.Answers.{part_proofs}
+use Rattle.crn_document.specs.Inner.Parts.{class_parts}
+use Rattle.crn_document.specs.Inner.Blocks.{forms_below}
 use Rattle.crn_document.specs.declared.rows.Row.{Row}
-use Rattle.crn_document.specs.declared.rows.Row.TheVariants.{Side, Tie}
 use Rattle.crn_document.specs.Inner.Records.{part_rows, row_form}
-use Rattle.crn_document.specs.Inner.Heads.{known_of, head_forms, tagged, class_count, IsHead}
-use Rattle.crn_document.proofs.Fields.{Holds, PartsWithin, fits_from, form_small, naturals, one_field, one_number, record_is, small_list}
-use Rattle.crn_document.proofs.Linkages.{count_few, members_all, members_few, member_few, pairs_known}
-use Rattle.crn_document.proofs.Ranks.{AreRanks, class_fit, class_ranks, class_formed, class_parts_within, class_proofs_are, class_rows_are, drop_none, forms_from, free_row, free_rows, map_replicate, members_are, proofs_from, rank_formed, rank_length, rank_parts, rank_rows_are, rank_small, sizes_are, zip_length}
-use Rattle.crn_document.proofs.HeadFacts.{Facts, one_small, few_rows, few_none, rising_small, wide_numbers, wide_small, wide_basis, counts_long, same_facts, as_form, FactsAt}
+use Rattle.crn_document.specs.Inner.Heads.{known_of}
+use Rattle.crn_document.proofs.Fields.{Holds, PartsWithin, naturals, one_field, one_number, small_list}
+use Rattle.crn_document.proofs.Linkages.{members_all, members_few, member_few}
+use Rattle.crn_document.proofs.Ranks.{class_fit, class_ranks, class_formed, class_parts_within, class_proofs_are, class_rows_are, forms_from, members_are, proofs_from, rank_formed, rank_length, rank_parts, rank_rows_are, rank_small, sizes_are}
+use Rattle.crn_document.proofs.HeadFacts.{Facts, one_small, few_rows, rising_small, wide_numbers, wide_small, wide_basis, counts_long, same_facts, as_form, FactsAt}
 
 rank_wide_facts : (net : Net) (earlier : Earlier) (index : ℕ) (basis : List ℤ) → IsNetwork net → 1 ≤ index → index ≤ length net.names + length net.reactions → length basis ≡ length net.names → AreRising (length net.names + length net.reactions) basis → Facts net earlier 5 (codes "q5" ∷ open_by (codes "wide")) (pos 1 ∷ pos 0 ∷ pos index ∷ basis)
 rank_wide_facts net earlier index basis network low high long rising = record {
@@ -93,7 +83,7 @@ rank_facts net earlier k network range =
       heads_same = λ rs p. p;
       fit = λ rs hold z0. let zz = subst (λ (fs : List Form). AllZip Fits fs rs) (sym below_is) z0 in let l = few_rows forms rs zz in (omega (arith, l, long, count, le), rank_small z k all rs (λ x i. let m = member_few net labels 0 x (subst (λ (xs : List ℕ). IsIn x xs) (sym (members_all net labels)) i) in omega (arith, m, many)) zz);
       formed = λ rs other hold z0. (range, (refl, rank_formed net z k all rs refl (subst (λ (fs : List Form). AllZip Fits fs rs) (sym below_is) z0)));
-      row_parts = λ rs hold z0. let zz = subst (λ (fs : List Form). AllZip Fits fs rs) (sym below_is) z0 in let l = zip_length forms rs zz in rank_parts net all 1 (suc (length rs)) k _ (rank_formed net z k all rs refl zz) (omega (arith, l, long, count, le));
+      row_parts = λ rs hold z0. let zz = subst (λ (fs : List Form). AllZip Fits fs rs) (sym below_is) z0 in let l = zip_long forms rs zz in rank_parts net all 1 (suc (length rs)) k _ (rank_formed net z k all rs refl zz) (omega (arith, l, long, count, le));
     }
 
 place_at : (net : Net) (earlier : Earlier) (a n i : ℕ) → i < n → slice_index (lengths (map (λ k. class_places net earlier k) (range_with_len a n))) i ≡ length (class_places net earlier (a + i))
@@ -132,7 +122,7 @@ deficiency_facts net earlier total ds network few within long between =
       heads_same = λ rs p. p;
       fit = λ rs hold zz. class_fit net earlier z 0 ds rs many hold.1.0.1 (of_forms rs zz);
       formed = λ rs other hold zz. (admitted, subst (λ (list : List RankProof). AreClassProofs net earlier 1 (map nat_abs ds) list) (sym (class_proofs_are net earlier 0 ds rs)) (class_formed net earlier z 0 ds rs refl hold.1.0.1 (of_forms rs zz)));
-      row_parts = λ rs hold zz. let l = zip_length forms rs (of_forms rs zz) in subst (λ (list : List RankProof). PartsWithin (suc (length rs)) (class_rank_tests net earlier 1 1 list)) (sym (class_proofs_are net earlier 0 ds rs)) (class_parts_within net earlier 1 (suc (length rs)) 0 z ds (proofs_from net earlier 1 ds rs) hold.1.0.1 (class_formed net earlier z 0 ds rs refl hold.1.0.1 (of_forms rs zz)) (omega (arith, l)));
+      row_parts = λ rs hold zz. let l = zip_long forms rs (of_forms rs zz) in subst (λ (list : List RankProof). PartsWithin (suc (length rs)) (class_rank_tests net earlier 1 1 list)) (sym (class_proofs_are net earlier 0 ds rs)) (class_parts_within net earlier 1 (suc (length rs)) 0 z ds (proofs_from net earlier 1 ds rs) hold.1.0.1 (class_formed net earlier z 0 ds rs refl hold.1.0.1 (of_forms rs zz)) (omega (arith, l)));
     }
 
 -- what the numbers of a head say whose class is wide
@@ -193,7 +183,7 @@ class_wide_facts net earlier k index basis network few inside low high long risi
       tight_is = λ rs. refl;
       head_parts = tt;
       heads_same = λ rs p. p;
-      fit = λ rs hold z. ap (λ (x : List Record). lists x) (few_none rs z);
+      fit = λ rs hold z. ap (λ (x : List Record). lists x) (zip_none rs z);
       formed = λ rs other hold z. (gap, refl);
       row_parts = λ rs hold z. tt;
     }
@@ -215,7 +205,7 @@ deficiency_rests_facts net earlier = record {
   tight_is = λ rs. refl;
   head_parts = tt;
   heads_same = λ rs p. p;
-  fit = λ rs hold z. ap (λ (x : List Record). lists x) (few_none rs z);
+  fit = λ rs hold z. ap (λ (x : List Record). lists x) (zip_none rs z);
   formed = λ rs other hold z. (refl, refl);
   row_parts = λ rs hold z. tt;
 }

@@ -1,61 +1,34 @@
 -- What the head of question 13 says.
-use Rattle.std.proofs.Common.{◌≡◌, ◌≢◌, ◌≤◌, ◌<◌, ◌+◌, ◌-◌, ◌^◌, ◌⊎◌, ◌++◌, ◌∙◌, ℕ, zero, suc, List, [], ◌∷◌, drop, length, map, replicate, refl, sym, subst, ap, ap₂, inl, inr, arith}
-use Rattle.std.specs.Prelude.{ℤ, pos, negsuc, codes, nat_abs, min, slice_index, slice_index_or}
-use Rattle.std.specs.List.{AllByRecursion, AllZip, range_with_len}
-use Rattle.std.proofs.lemmas.Int.{ints}
-use Rattle.std.proofs.lemmas.List.{append-nil, length-map, length-replicate}
-use Rattle.std.proofs.lemmas.List.FromFn.{length-range_with_len, length-map-range_with_len}
-use Rattle.crn_vec.specs.Lists.{IsAscending, IsIn}
-use Rattle.crn_vec.specs.Deficiency.{class_members}
-use Rattle.crn_cert.specs.declared.answer.Gap.TheVariants.{Wide}
-use Rattle.crn_cert.specs.declared.answer.Verdict.TheVariants.{Deficiency, Unknown}
-use Rattle.crn_cert.specs.declared.answer.Proof.TheVariants.{Ranks}
-use Rattle.crn_cert.specs.declared.answer.RankProof.{RankProof}
+use Rattle.std.proofs.Common.{◌≡◌, ◌≤◌, ◌<◌, ◌+◌, ◌^◌, ◌++◌, ◌∙◌, ℕ, List, [], ◌∷◌, length, map, refl, sym, subst, ap, inl, inr, arith}
+use Rattle.std.specs.Prelude.{ℤ, pos, negsuc, codes, nat_abs, slice_index_or}
+use Rattle.std.specs.List.{AllZip}
+use Rattle.crn_vec.specs.Lists.{IsIn}
 use Rattle.crn_vec.specs.Network.{Net, IsNetwork}
-use Rattle.crn_vec.specs.declared.limits.TheConstants.{MAX_BUDGET, MAX_COMPLEXES, MAX_REACTIONS}
-use Rattle.crn_cert.specs.Questions.{Earlier, Q6}
-use Rattle.crn_cert.specs.Formed.{HeadMayBe, IsFormedOf, IsBasisOf, IsWalkList, AreClassProofs}
-use Rattle.crn_cert.specs.Tests.{AllHold}
-use Rattle.crn_cert.specs.Valid.{head_tests, row_tests, linkage, linkage_count, class_places, class_rank_tests, pair_places, side_tests}
-use Rattle.crn_cert.specs.ConfluenceTests.{tie_tests}
-use Rattle.crn_check.specs.Verdicts.{tight}
-use Rattle.crn_cert.specs.Ranges.{AreFrom, AreFree, AreFreeRows, AreBits}
-use Rattle.crn_ctext.specs.Records.{Record, Form, AreRising, CountAndPart, ClassWide, Rising, Several, TwoOf, Fits, AreOf, AreBetween}
-use Rattle.crn_ctext.specs.Kinds.{small, just, record_form, small_form, free_form}
-use Rattle.crn_ctext.specs.Questions.{Sizes, heads, head, yes, no, no_by, none_by, wide, rests, spent, open_by, class_forms, rank_forms, side_form, later_numbers}
-use Rattle.crn_ctext.specs.Blocks.{is_open, below, problems, unless}
-use Rattle.crn_ctext.specs.Documents.{IsOneOf}
-use Rattle.crn_ctext.specs.Meaning.{lengths, meaning, number, nums, lists, pairs_of, problems_by, row, sizes_of, shapes_of, verdict_of, proof_of, class_proofs}
-use Rattle.crn_ctext.specs.Expect.{question_of}
-use Rattle.crn_check.specs.Facts.{KeptFacts, asked}
-use Rattle.crn_check.specs.Check.{AsksForTree, IsBuilt}
-use Rattle.crn_document.specs.Inner.Answer.{AreSmall, AreSmallRows, IsHeadOf, verdict_of_head}
-use Rattle.crn_document.specs.Inner.Answers.{FitAnswer, part_proofs, proof_of_head}
-use Rattle.crn_document.specs.Inner.Parts.{IsKnown, before, class_parts}
-use Rattle.crn_document.specs.Inner.Blocks.{HeadHolds, forms_below, parts_after}
-use Rattle.crn_document.specs.declared.rows.Row.{Row}
-use Rattle.crn_document.specs.declared.rows.Row.TheVariants.{Side, Tie}
-use Rattle.crn_document.specs.Inner.Records.{part_rows, row_form}
-use Rattle.crn_document.specs.Inner.Heads.{known_of, head_forms, tagged, class_count, IsHead}
-use Rattle.crn_document.proofs.Fields.{Holds, PartsWithin, fits_from, form_small, naturals, one_field, one_number, record_is, small_list}
-use Rattle.crn_document.proofs.Linkages.{count_few, members_all, members_few, member_few, pairs_known}
-use Rattle.crn_document.proofs.Ranks.{AreRanks, class_fit, class_ranks, class_formed, class_parts_within, class_proofs_are, class_rows_are, drop_none, forms_from, free_row, free_rows, map_replicate, members_are, proofs_from, rank_formed, rank_length, rank_parts, rank_rows_are, rank_small, sizes_are, zip_length}
+use Rattle.crn_vec.specs.declared.limits.TheConstants.{MAX_BUDGET}
+use Rattle.crn_cert.specs.Questions.{Earlier}
+use Rattle.crn_cert.specs.Valid.{pair_places}
+use Rattle.crn_cert.specs.Ranges.{AreFree}
+use Rattle.crn_ctext.specs.Records.{Record, Form, AreRising, Fits}
+use Rattle.crn_ctext.specs.Kinds.{small, just, record_form, free_form}
+use Rattle.crn_ctext.specs.Questions.{Sizes, head, yes, no, wide, rests, spent, open_by}
+use Rattle.crn_ctext.specs.Meaning.{pairs_of, row, sizes_of, shapes_of}
+use Rattle.crn_document.specs.Inner.Answer.{IsHeadOf}
+use Rattle.crn_document.specs.Inner.Heads.{known_of, head_forms}
+use Rattle.crn_document.proofs.Fields.{Holds, one_field, one_number}
+use Rattle.crn_document.proofs.Ranks.{free_row}
 use Rattle.crn_document.proofs.HeadFacts.{Facts, one_small, wide_numbers, wide_small, wide_basis, same_facts, as_form, FactsAt}
 use Rattle.std.proofs.Common.{Bool, true, false}
-use Rattle.crn_vec.specs.Confluence.{IsRegular}
-use Rattle.crn_cert.specs.declared.answer.Verdict.{Verdict}
-use Rattle.crn_cert.specs.declared.answer.Verdict.TheVariants.{YesVec}
+use Rattle.crn_ctext.proofs.CallerLemmas.{zip_long, between_shelves, vector_then, spent_place, rests_place}
 use Rattle.crn_cert.specs.Ranges.{IsNarrow}
-use Rattle.crn_cert.specs.Says.{IsTurn, IsShelf}
+use Rattle.crn_cert.specs.Says.{IsTurn}
 use Rattle.crn_cert.specs.Formed.{AreSignalRows, IsSignalGap}
 use Rattle.crn_cert.specs.Valid.{HasVector}
-use Rattle.crn_cert.specs.Questions.{Q2, Q12, Q13, on, terminal_of, vector_given}
-use Rattle.std.specs.Option.{IsSome}
-use Rattle.crn_ctext.specs.Records.{Field, Small, Turn}
+use Rattle.crn_cert.specs.Questions.{Q2, Q12, Q13, on, terminal_of}
+use Rattle.crn_ctext.specs.Records.{Small, Turn}
 use Rattle.crn_ctext.specs.Questions.{rows, wide_signal}
 use Rattle.crn_ctext.specs.Blocks.{place_of}
 use Rattle.crn_ctext.specs.Meaning.{has_vector}
-use Rattle.crn_document.proofs.HeadFacts.{HeadFacts, head_with, FactsOf, ArePairs, UsesPairs, IsWide}
+use Rattle.crn_document.proofs.HeadFacts.{HeadFacts, head_with, FactsOf, ArePairs, IsWide}
 use Rattle.crn_document.proofs.Linkages.{pairs_few}
 
 -- ---- a signal
@@ -64,14 +37,6 @@ use Rattle.crn_document.proofs.Linkages.{pairs_few}
 abbrev signal_forms : (terminal species reactions : ℕ) → List Form
 signal_forms terminal species reactions =
     record_form (codes "shelves") (Small terminal (negsuc 0) (pos 1) ∷ []) ∷ free_form (codes "mu") species ∷ free_form (codes "m") 1 ∷ free_form (codes "weights") reactions ∷ []
-
-shelves_are : (zs : List ℤ) → AreBetween (negsuc 0) (pos 1) zs → AllByRecursion IsShelf zs
-shelves_are [] b = tt
-shelves_are (pos zero ∷ zs) b = (inr (inl refl), shelves_are zs b.1)
-shelves_are (pos (suc zero) ∷ zs) b = (inl refl, shelves_are zs b.1)
-shelves_are (pos (suc (suc n)) ∷ zs) b = absurd (omega (arith, ints, b.0.1))
-shelves_are (negsuc zero ∷ zs) b = (inr (inr refl), shelves_are zs b.1)
-shelves_are (negsuc (suc n) ∷ zs) b = absurd (omega (arith, ints, b.0.0))
 
 one_narrow : (zs : List ℤ) → AreFree 1 zs → IsNarrow (slice_index_or zs 0 (pos 0))
 one_narrow [] f = absurd (let l = f.long in omega (arith, l))
@@ -87,7 +52,7 @@ signal_lists net earlier (a ∷ b ∷ c ∷ d ∷ e ∷ rs) f = absurd f.1.1.1.1
 signal_lists net earlier (a ∷ b ∷ c ∷ d ∷ []) f =
     let s = one_field (Small (terminal_of (on earlier Q2)) (negsuc 0) (pos 1)) a.numbers f.0.1 in
     record {
-      shelves_are = record { long = s.0.0; each = shelves_are a.numbers s.0.1 };
+      shelves_are = record { long = s.0.0; each = between_shelves a.numbers s.0.1 };
       mu_is = free_row (codes "mu") (length net.names) b f.1.0;
       level_is = one_narrow c.numbers (free_row (codes "m") 1 c f.1.1.0);
       weights_are = free_row (codes "weights") (length net.reactions) d f.1.1.1.0;
@@ -120,7 +85,7 @@ signal_facts net earlier turn is = record {
   heads_same = λ rs p. p;
   fit = λ rs hold z. tt;
   formed = λ rs other hold z. (is, signal_lists net earlier rs z);
-  row_parts = λ rs hold z. let l = zip_length (signal_forms (terminal_of (on earlier Q2)) (length net.names) (length net.reactions)) rs z in (omega (arith, l), tt);
+  row_parts = λ rs hold z. let l = zip_long (signal_forms (terminal_of (on earlier Q2)) (length net.names) (length net.reactions)) rs z in (omega (arith, l), tt);
 }
 
 -- ---- a no, and none
@@ -199,14 +164,6 @@ wide_facts net earlier system columns height index basis fits some many low high
 abbrev last_forms : Bool → Sizes → List Form
 last_forms vector z = wide_signal vector z ++ spent (codes "q13") 5 ∷ rests (codes "q13") 6 12 ∷ []
 
-spent_place : (vector : Bool) (z : Sizes) → place_of (last_forms vector z) (codes "q13" ∷ open_by (codes "budget")) ≡ 5
-spent_place true z = refl
-spent_place false z = refl
-
-rests_place : (vector : Bool) (z : Sizes) → place_of (last_forms vector z) (codes "q13" ∷ open_by (codes "rests")) ≡ 6
-rests_place true z = refl
-rests_place false z = refl
-
 spent_facts : (net : Net) (earlier : Earlier) (k : ℕ) → (1 ≤ k) × (k ≤ MAX_BUDGET) → Facts net earlier 13 (codes "q13" ∷ open_by (codes "budget")) (pos k ∷ [])
 spent_facts net earlier k range =
     let known = known_of net earlier in
@@ -259,10 +216,6 @@ rests_facts net earlier =
 
 -- ---- each form
 
-vector_there : (v : Verdict) → has_vector v ≡ true → IsSome (vector_given v)
-vector_there (YesVec vector) e = refl
-vector_there v e = absurd cc
-
 one_turn : (zs : List ℤ) → Holds Turn zs → (turn : ℤ) × IsTurn turn × (zs ≡ turn ∷ [])
 one_turn zs (inl e, narrow) = (pos 1, inl refl, e)
 one_turn zs (inr e, narrow) = (negsuc 0, inr refl, e)
@@ -303,7 +256,7 @@ by_closed net earlier h form (inr (inr none)) fits = absurd none
 
 by_last : (net : Net) (earlier : Earlier) (h : Record) (vector : Bool) → has_vector (on earlier Q12) ≡ vector → IsNetwork net → ArePairs net earlier → (form : Form) → IsIn form (last_forms vector (sizes_of (known_of net earlier))) → Fits form h → FactsOf net earlier 13 h
 by_last net earlier h true v network pairs form (inl e) fits =
-    by_shelves net earlier h network pairs (vector_there (on earlier Q12) v) (as_form h form (wide (codes "q13") 4 5 (length net.names + 1) (length net.complexes + length (pairs_of (known_of net earlier)))) e fits)
+    by_shelves net earlier h network pairs (vector_then (on earlier Q12) v) (as_form h form (wide (codes "q13") 4 5 (length net.names + 1) (length net.complexes + length (pairs_of (known_of net earlier)))) e fits)
 by_last net earlier h true v network pairs form (inr more) fits = by_closed net earlier h form more fits
 by_last net earlier h false v network pairs form more fits = by_closed net earlier h form more fits
 

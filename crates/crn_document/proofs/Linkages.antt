@@ -5,9 +5,10 @@ use Rattle.std.proofs.Common.{cond, ap₂, append_assoc, Result, Ok, Err, OnOk, 
 use Rattle.std.specs.List.{AllByRecursion, range_with_len}
 use Rattle.std.proofs.lemmas.List.Elements.{filter-append}
 use Rattle.std.proofs.lemmas.List.FromFn.{length-range_with_len, length-map-range_with_len}
-use Rattle.crn_vec.specs.Lists.{IsIn, IsAbove, IsAscending}
+use Rattle.crn_vec.specs.Lists.{IsIn, IsAscending}
 use Rattle.crn_vec.specs.Network.{Net}
 use Rattle.crn_vec.specs.declared.limits.TheConstants.{MAX_COMPLEXES, MAX_REACTIONS}
+use Rattle.crn_vec.proofs.CallerLemmas.{filter_few, above_ascending, filter_above, range_above}
 use Rattle.crn_cert.specs.declared.answer.Gap.TheVariants.{Wide, Budget, Rests}
 use Rattle.crn_cert.specs.declared.answer.Verdict.{Verdict}
 use Rattle.crn_cert.specs.declared.answer.Verdict.TheVariants.{Classes, Strong, Unknown}
@@ -19,7 +20,7 @@ use Rattle.crn_ctext.specs.Kinds.{record_form}
 use Rattle.crn_ctext.specs.declared.expect.Due.TheVariants.{Base as DueBase}
 use Rattle.crn_check.specs.Facts.{KeptFacts, HoldsOn}
 use Rattle.crn_check.specs.Check.{IsBuilt}
-use Rattle.crn_check.proofs.CallerLemmas.{formed_on}
+use Rattle.crn_check.proofs.CallerLemmas.{formed_on, terminal_few as terminal_fits}
 use Rattle.crn_document.specs.declared.linkage.Linkage.{Linkage}
 use Rattle.crn_document.specs.Inner.Parts.{IsKnown, IsLinkage, before, class_counts, is_in_class, members_of}
 use Rattle.crn_document.specs.Inner.Heads.{FitsCounts, HasClassSizes, known_of}
@@ -111,13 +112,6 @@ pairs_known net n facts k e =
     let f = formed_on net [] facts.earlier Q2 k.facts_of.formed (holds_second net n facts e k) in
     strong_pairs net f.0 (known_of net facts.earlier) (on facts.earlier Q2) f.1
 
-terminal_fits : (net : Net) (e : Earlier) (v : Verdict) → IsFormedVerdict net e Q2 v → terminal_of v ≤ length net.complexes
-terminal_fits net e (Strong count terminal label exit) h = (let a = h.0.0.1 in let b = h.0.1.1 in omega (arith, a, b))
-terminal_fits net e (Unknown (Wide system class index basis)) h = absurd h.0
-terminal_fits net e (Unknown (Budget nodes)) h = absurd h.0
-terminal_fits net e (Unknown (Rests question)) h = absurd h.0
-terminal_fits net e v h = absurd h.0
-
 -- and there are few terminal classes
 pub terminal_few : (net : Net) (n : ℕ) (facts : KeptFacts) → IsKnown net (before n) facts → n ≡ 13 → terminal_of (on facts.earlier Q2) ≤ MAX_COMPLEXES
 terminal_few net n facts k e =
@@ -142,18 +136,14 @@ le_cons : (b : Bool) (x : ℕ) (xs ys : List ℕ) → length ys ≤ length xs �
 le_cons true x xs ys l = omega (arith, l)
 le_cons false x xs ys l = omega (arith, l)
 
-filter_le : (p : ℕ → Bool) (xs : List ℕ) → length (filter p xs) ≤ length xs
-filter_le p [] = omega arith
-filter_le p (x ∷ xs) = le_cons (p x) x xs (filter p xs) (filter_le p xs)
-
 -- the linked pairs within terminal classes are some of the reactions
 pub pairs_few : (net : Net) (earlier : Earlier) → length (pair_places net earlier) ≤ length net.reactions
 pairs_few net earlier =
     let l = length-range_with_len 1 (length net.reactions) in
-    let f = filter_le (λ r. is_within_terminal earlier (ends_at net r) && is_least_of_pair net r) (range_with_len 1 (length net.reactions)) in omega (arith, l, f)
+    let f = filter_few (λ r. is_within_terminal earlier (ends_at net r) && is_least_of_pair net r) (range_with_len 1 (length net.reactions)) in omega (arith, l, f)
 
 pub members_few : (net : Net) (labels : List ℕ) (k : ℕ) → length (members_of net labels k) ≤ length net.reactions
-members_few net labels k = let l = length-range_with_len 1 (length net.reactions) in let f = filter_le (λ r. is_in_class net labels k r) (range_with_len 1 (length net.reactions)) in omega (arith, l, f)
+members_few net labels k = let l = length-range_with_len 1 (length net.reactions) in let f = filter_few (λ r. is_in_class net labels k r) (range_with_len 1 (length net.reactions)) in omega (arith, l, f)
 
 in_cons : (b : Bool) (n x : ℕ) (xs ys : List ℕ) → (IsIn n ys → IsIn n xs) → IsIn n (cond b (x ∷ ys) ys) → IsIn n (x ∷ xs)
 in_cons true n x xs ys f (inl e) = inl e
@@ -173,29 +163,9 @@ in_range n a (suc m) (inr i) = let l = in_range n (a + 1) m i in omega (arith, l
 pub member_few : (net : Net) (labels : List ℕ) (k n : ℕ) → IsIn n (members_of net labels k) → n ≤ length net.reactions
 member_few net labels k n i = let l = in_range n 1 (length net.reactions) (in_filter (λ r. is_in_class net labels k r) n (range_with_len 1 (length net.reactions)) i) in omega (arith, l)
 
-lower : (k x : ℕ) (xs : List ℕ) → k < x → IsAbove x xs → IsAbove k xs
-lower k x [] lt a = tt
-lower k x (y ∷ xs) lt a = (omega (arith, lt, a.0), a.1)
-
-kept_above : (p : ℕ → Bool) (k : ℕ) (xs : List ℕ) → IsAbove k xs → IsAbove k (filter p xs)
-kept_above p k [] a = tt
-kept_above p k (x ∷ xs) a = by (p x) (kept_above p x xs a.1) (kept_above p k xs (lower k x xs a.0 a.1))
-  where
-    by : (t : Bool) → IsAbove x (filter p xs) → IsAbove k (filter p xs) → IsAbove k (cond t (x ∷ filter p xs) (filter p xs))
-    by true more rest = (a.0, more)
-    by false more rest = rest
-
-range_above : (k a n : ℕ) → k < a → IsAbove k (range_with_len a n)
-range_above k a zero lt = tt
-range_above k a (suc n) lt = (lt, range_above a (a + 1) n (omega arith))
-
-above_ascending : (k : ℕ) (xs : List ℕ) → IsAbove k xs → IsAscending xs
-above_ascending k [] a = tt
-above_ascending k (x ∷ xs) a = a.1
-
 -- the members of a class are ascending
 pub members_ascending : (net : Net) (labels : List ℕ) (k : ℕ) → IsAscending (members_of net labels k)
-members_ascending net labels k = above_ascending 0 (members_of net labels k) (kept_above (λ r. is_in_class net labels k r) 0 (range_with_len 1 (length net.reactions)) (range_above 0 1 (length net.reactions) (omega arith)))
+members_ascending net labels k = above_ascending 0 (members_of net labels k) (filter_above (λ r. is_in_class net labels k r) 0 (range_with_len 1 (length net.reactions)) (range_above 0 1 (length net.reactions) (omega arith)))
 
 all_few : (most : ℕ) (xs : List ℕ) → ((n : ℕ) → IsIn n xs → n ≤ most) → AllByRecursion (λ m. m ≤ most) xs
 all_few most [] h = tt

@@ -1,9 +1,10 @@
 -- Lines that name shared lists.
-use Rattle.std.proofs.Common.{◌≡◌, ◌≤◌, ◌<◌, ◌^◌, ◌++◌, ℕ, List, [], ◌∷◌, inl, inr, false, true, refl, sym, ap, subst, arith, length, ◌∙◌}
-use Rattle.std.specs.Prelude.{ℤ, pos, codes, decimal}
+use Rattle.std.proofs.Common.{◌≡◌, ◌≤◌, ◌<◌, ◌^◌, ◌++◌, ℕ, List, [], ◌∷◌, inl, inr, false, refl, sym, ap, subst, arith}
+use Rattle.std.specs.Prelude.{pos, codes, decimal}
 use Rattle.std.proofs.lemmas.Int.{ints}
 use Rattle.crn_vec.specs.Lists.{IsIn}
 use Rattle.crn_io.specs.Lines.{Place}
+use Rattle.crn_vec.proofs.CallerLemmas.{in_right}
 use Rattle.crn_ctext.specs.Records.{Record, AreBetween, BeginsWith, Fits, IsShaped, Says, record_text}
 use Rattle.crn_ctext.specs.Kinds.{head_words, row_words, known_words, node_forms, small_form, tree_words}
 use Rattle.crn_ctext.specs.Course.{Gives}
@@ -20,10 +21,6 @@ use Rattle.crn_document.specs.Inner.Trees.{NamesTo}
 
 abbrev named : List ℕ → ℕ → Record
 named word place = record { words = word ∷ []; numbers = pos place ∷ [] }
-
-in_right : {A : Type 0} (x : A) (xs ys : List A) → IsIn x ys → IsIn x (xs ++ ys)
-in_right x [] ys h = h
-in_right x (z ∷ xs) ys h = inr (in_right x xs ys h)
 
 -- the known words after those of heads, and after those of rows
 abbrev after_rows : List (List ℕ)

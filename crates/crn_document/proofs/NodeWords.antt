@@ -7,7 +7,7 @@ use Rattle.crn_vec.specs.Lists.{IsIn}
 use Rattle.crn_vec.specs.declared.signs.Sign.{Sign}
 use Rattle.crn_vec.specs.Problems.{Signed}
 use Rattle.crn_cert.specs.Ranges.{AreFree}
-use Rattle.crn_ctext.specs.Records.{Record, Form, Fits, Free, kind_of}
+use Rattle.crn_ctext.specs.Records.{Record, Form, Fits, kind_of}
 use Rattle.crn_ctext.specs.Kinds.{free_form, node_forms, record_form, small, small_form}
 use Rattle.crn_ctext.specs.Questions.{first_number}
 use Rattle.crn_ctext.specs.Blocks.{Node, Split, Flat, CutA, CutB, node_of, word_of}
@@ -21,6 +21,7 @@ use Rattle.crn_ctree.specs.declared.fault.TreeFault.{TreeFault}
 use Rattle.crn_document.specs.Inner.Answer.{AreSmall}
 use Rattle.crn_document.specs.Inner.Trees.{IsNode, JudgeGives}
 use Rattle.crn_document.proofs.Fields.{one_field, one_number}
+use Rattle.crn_document.proofs.Ranks.{free_row}
 
 -- ---- the words of nodes
 
@@ -41,9 +42,6 @@ Cases a s k w zs = (w ≡ codes "split") ⊎ ((w ≡ codes "flat") ⊎ (((w ≡ 
 word_of_form : (r : Record) (form f : Form) → form ≡ f → r.words ≡ form.words → word_of r ≡ kind_of f
 word_of_form r form f e w = ap (λ (ws : List (List ℕ)). slice_index_or ws 0 []) w ∙ ap kind_of e
 
-free_numbers : (word : List ℕ) (s : ℕ) (r : Record) → Fits (free_form word s) r → AreFree s r.numbers
-free_numbers word s r f = let p = one_field (Free s) r.numbers f.1 in record { long = p.0; each = p.1 }
-
 named_number : (word : List ℕ) (k : ℕ) (r : Record) → Fits (small_form word 1 1 k) r → NamesOne k r.numbers
 named_number word k r f = one_number 1 k r.numbers (one_field (small 1 1 k) r.numbers f.1)
 
@@ -63,8 +61,8 @@ node_cases version a s k r (form, i, fits) = by i
     by : IsIn form (node_forms version a s k) → Cases a s k (word_of r) r.numbers
     by (inl e) = inl (word_of_form r form (record_form (codes "split") []) e fits.0)
     by (inr (inl e)) = inr (inl (word_of_form r form (record_form (codes "flat") []) e fits.0))
-    by (inr (inr (inl e))) = inr (inr (inl (word_of_form r form (free_form (codes "cuta") a) e fits.0, free_numbers (codes "cuta") a r (subst (λ (f : Form). Fits f r) e fits))))
-    by (inr (inr (inr (inl e)))) = inr (inr (inr (inl (word_of_form r form (free_form (codes "cutb") s) e fits.0, free_numbers (codes "cutb") s r (subst (λ (f : Form). Fits f r) e fits)))))
+    by (inr (inr (inl e))) = inr (inr (inl (word_of_form r form (free_form (codes "cuta") a) e fits.0, free_row (codes "cuta") a r (subst (λ (f : Form). Fits f r) e fits))))
+    by (inr (inr (inr (inl e)))) = inr (inr (inr (inl (word_of_form r form (free_form (codes "cutb") s) e fits.0, free_row (codes "cutb") s r (subst (λ (f : Form). Fits f r) e fits)))))
     by (inr (inr (inr (inr more)))) = added (version == 2) more
 
 cases_a : (a s k : ℕ) (w : List ℕ) (zs : List ℤ) → Cases a s k w zs → w ≡ codes "cuta" → AreFree a zs

@@ -8,6 +8,8 @@ use Rattle.crn_vec.specs.Kept.{KeptNums}
 use Rattle.crn_vec.specs.Network.{Net}
 use Rattle.crn_vec.specs.Deficiency.{class_members}
 use Rattle.crn_vec.specs.declared.limits.TheConstants.{MAX_COMPLEXES, MAX_REACTIONS}
+use Rattle.crn_vec.proofs.CallerLemmas.{abs_back}
+use Rattle.crn_ctext.proofs.CallerLemmas.{zip_long}
 use Rattle.crn_cert.specs.declared.answer.RankProof.{RankProof}
 use Rattle.crn_cert.specs.Questions.{Earlier}
 use Rattle.crn_cert.specs.Tests.{Test}
@@ -30,12 +32,6 @@ use Rattle.crn_document.proofs.Linkages.{member_few}
 use Rattle.crn_document.proofs.Fields.{PartsWithin, one_field}
 
 -- ---- lists of records in two parts
-
-pub zip_length : (forms : List Form) (rs : List Record) → AllZip Fits forms rs → length rs ≡ length forms
-zip_length [] [] z = refl
-zip_length [] (r ∷ rs) z = absurd z
-zip_length (f ∷ fs) [] z = absurd z
-zip_length (f ∷ fs) (r ∷ rs) z = ap (λ (k : ℕ). suc k) (zip_length fs rs z.1)
 
 zip_prefix : (xs ys : List Form) (rs : List Record) → AllZip Fits (xs ++ ys) rs → AllZip Fits xs (take (length xs) rs)
 zip_prefix [] ys [] z = tt
@@ -143,10 +139,6 @@ free_rows word count (suc n) [] z = absurd z
 free_rows word count (suc n) (r ∷ rs) z =
     let more = free_rows word count n rs z.1 in
     record { long = ap (λ (k : ℕ). suc k) more.long; each = (free_row word count r z.0, more.each) }
-
-abs_back : (ns : List ℕ) → map nat_abs (map pos ns) ≡ ns
-abs_back [] = refl
-abs_back (n ∷ ns) = ap (λ (t : List ℕ). n ∷ t) (abs_back ns)
 
 all_in : (members ns : List ℕ) → AllByRecursion (λ n. IsIn n members) ns → (r : ℕ) → IsIn r ns → IsIn r members
 all_in members [] a r i = absurd i
@@ -273,7 +265,7 @@ class_fit net earlier z j (d ∷ ds) rs few n f =
     let more = forms_from net earlier z (suc (suc j)) ds in
     let le : p.rank ≤ p.count = rank_within (nat_abs d) (length (class_members labels (suc j))) (length net.names) p.count n.0.0 n.0.1 in
     let long : length forms ≡ suc p.count = rank_length z p.rank members le in
-    let all = zip_length (forms ++ more) rs f in
+    let all = zip_long (forms ++ more) rs f in
     let sum = length-append forms more in
     let prefix : AllZip Fits forms (take (suc p.count) rs) = subst (λ (k : ℕ). AllZip Fits forms (take k rs)) long (zip_prefix forms more rs f) in
     let back : AllZip Fits more (drop (suc p.count) rs) = subst (λ (k : ℕ). AllZip Fits more (drop k rs)) long (zip_back forms more rs f) in

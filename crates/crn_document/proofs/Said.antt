@@ -4,26 +4,18 @@ use Rattle.std.specs.Prelude.{ℤ}
 use Rattle.std.proofs.lemmas.List.{append-nil, map-append}
 use Rattle.crn_io.specs.Lines.{Place}
 use Rattle.crn_vec.specs.Network.{Net}
+use Rattle.crn_ctext.proofs.CallerLemmas.{gives_parts}
 use Rattle.crn_cert.specs.declared.answer.Verdict.{Verdict}
 use Rattle.crn_cert.specs.Built.{built}
 use Rattle.crn_cert.specs.Questions.{Earlier, Question}
 use Rattle.crn_ctext.specs.Records.{Record}
 use Rattle.crn_ctext.specs.Kinds.{section_form}
 use Rattle.crn_ctext.specs.Questions.{heads}
-use Rattle.crn_ctext.specs.Course.{Course, Give, Line, Test, End, ◌>>=◌, Gives}
+use Rattle.crn_ctext.specs.Course.{Course, Give, ◌>>=◌, Gives}
 use Rattle.crn_ctext.specs.Blocks.{AfterBlocks, asks, asks_all, asks_block, asks_blocks, asks_trees, after_sections, below, claims, has_tree, head_claims, problems, row_claims, sections}
 use Rattle.crn_ctext.specs.Meaning.{Known, learn_of, meaning, sizes_of, verdict_of, verdicts_said}
 use Rattle.crn_document.specs.Inner.Blocks.{after_at, end_course, head_course, rows_course}
 use Rattle.crn_document.proofs.Sections.{question_course}
-
--- what two courses give one after another, the second gives after the first
-pub gives_cuts : {A B : Type 0} (c : Course A) (f : A → Course B) (at end : Place) (y : B) → Gives (c >>= f) at y end
-    → (x : A) × (mid : Place) × Gives c at x mid × Gives (f x) mid y end
-unfolding Gives
-gives_cuts (Give x) f at end y p = (x, at, (refl, refl), p)
-gives_cuts (Line node next) f at end y p = let r = gives_cuts (next p.0) f p.1 end y p.3 in (r.0, r.1, (p.0, p.1, p.2, r.2), r.3)
-gives_cuts (Test n c X P next) f at end y p = let r = gives_cuts (next p.0) f at end y p.2 in (r.0, r.1, (p.0, p.1, r.2), r.3)
-gives_cuts (End next) f at end y p = let r = gives_cuts next f at end y p.1 in (r.0, r.1, (p.0, r.2), r.3)
 
 give_is : {A : Type 0} (x y : A) (at end : Place) → Gives (Give x) at y end → x ≡ y
 unfolding Gives
@@ -52,14 +44,14 @@ is_after q at y h rs line is = (ap (λ (z : AfterBlocks Known). z.known) (sym is
 block_adds : (version : ℕ) (table : List (List ℤ)) (q : Question) (at y : AfterBlocks Known) (place rest : Place)
     → Gives (asks_block meaning version table q at) place y rest → (h : Record) × (rs : List Record) × IsAfterBlock q at h rs y
 block_adds version table q at y place rest p =
-    let head = gives_cuts (asks version at.line at.by_tree (heads q (sizes_of at.known))) (λ h. head_course version table q at h) place rest y p in
+    let head = gives_parts (asks version at.line at.by_tree (heads q (sizes_of at.known))) (λ h. head_course version table q at h) place rest y p in
     let h = head.0 in
-    let tests = gives_cuts (claims at.line (head_claims meaning q at.known h)) (λ x. rows_course version table q at h) head.1 rest y head.3 in
-    let rows = gives_cuts (asks_all version (at.line + 1) false (below q (meaning.shapes at.known) h)) (λ rs. end_course version table q at h rs) tests.1 rest y tests.3 in
+    let tests = gives_parts (claims at.line (head_claims meaning q at.known h)) (λ x. rows_course version table q at h) head.1 rest y head.3 in
+    let rows = gives_parts (asks_all version (at.line + 1) false (below q (meaning.shapes at.known) h)) (λ rs. end_course version table q at h rs) tests.1 rest y tests.3 in
     let rs = rows.0 in
     let end : Course (AfterBlocks Known) = asks_trees version table (problems meaning q at.known h) (at.line + 1 + length rs) >>= (λ line. Give (after q at h rs line)) in
-    let more = gives_cuts (claims at.line (row_claims meaning q at.known h rs)) (λ x. end) rows.1 rest y rows.3 in
-    let trees = gives_cuts (asks_trees version table (problems meaning q at.known h) (at.line + 1 + length rs)) (λ line. Give (after q at h rs line)) more.1 rest y more.3 in
+    let more = gives_parts (claims at.line (row_claims meaning q at.known h rs)) (λ x. end) rows.1 rest y rows.3 in
+    let trees = gives_parts (asks_trees version table (problems meaning q at.known h) (at.line + 1 + length rs)) (λ line. Give (after q at h rs line)) more.1 rest y more.3 in
     (h, rs, is_after q at y h rs trees.0 (give_is (after q at h rs trees.0) y trees.1 rest trees.3))
 
 -- lines that open sections leave what is known and read
@@ -111,9 +103,9 @@ pub blocks_say : (version : ℕ) (table : List (List ℤ)) (qs : List Question) 
 unfolding asks_blocks
 blocks_say version table [] at y place end p = let s = say_none at y (give_is at y place end p) in ([], s.0, s.1, s.2)
 blocks_say version table (q ∷ qs) at y place end p =
-    let o = gives_cuts (asks_all version at.line at.by_tree (map section_form (sections version q))) (question_course version table q qs at) place end y p in
+    let o = gives_parts (asks_all version at.line at.by_tree (map section_form (sections version q))) (question_course version table q qs at) place end y p in
     let here : AfterBlocks Known = after_sections o.0 at in
-    let b = gives_cuts (asks_block meaning version table q here) (λ mid. asks_blocks meaning version table qs mid) o.1 end y o.3 in
+    let b = gives_parts (asks_block meaning version table q here) (λ mid. asks_blocks meaning version table qs mid) o.1 end y o.3 in
     let mid = b.0 in
     let added = block_adds version table q here mid o.1 b.1 b.2 in
     let h = added.0 in

@@ -1,23 +1,23 @@
 -- What earlier answers give question 13: the strong classes, the confluence vector, and what trees without a signal show.
-use Rattle.std.proofs.Common.{◌≡◌, ◌≢◌, ◌∙◌, ◌+◌, ◌-◌, ℕ, Bool, true, false, List, [], ◌∷◌, length, map, refl, sym, ap, ap₂, subst, inl, inr, arith}
+use Rattle.std.proofs.Common.{◌≡◌, ◌∙◌, ◌+◌, ◌-◌, ℕ, true, List, [], length, refl, sym, ap, ap₂, subst, inl, inr}
 use Rattle.std.specs.Prelude.{ℤ, pos, negsuc, Option, Some, None}
 use Rattle.std.specs.List.{AllByRecursion}
 use Rattle.std.specs.Option.{IsSome, IsSomeAnd}
-use Rattle.crn_vec.specs.Network.{Net, IsNetwork}
+use Rattle.crn_vec.specs.Network.{Net}
 use Rattle.crn_vec.specs.Strong.{IsWeaklyReversible}
-use Rattle.crn_vec.specs.Confluence.{IsRegular, HasConfluenceLine, IsConfluenceVector, IsNormalVector, negative}
+use Rattle.crn_vec.specs.Confluence.{IsRegular, HasConfluenceLine, IsNormalVector, negative}
 use Rattle.crn_vec.specs.Signals.{Shape}
 use Rattle.crn_vec.specs.NetSignals.{HasNoSignal, IsShapeOf, opposite_shape}
-use Rattle.crn_vec.proofs.CallerLemmas.{confluence_vectors_are_one, length-scale, multiples_share_signals, negatives_have_opposite_shapes, reaction_in, shapes_are_one, weakly_reversible_by_reactions}
+use Rattle.crn_vec.proofs.CallerLemmas.{length-scale, negatives_have_opposite_shapes, reaction_in, shapes_are_one, weakly_reversible_by_reactions}
 use Rattle.crn_cert.specs.declared.answer.Verdict.{Verdict}
 use Rattle.crn_cert.specs.declared.answer.Verdict.TheVariants.{No, NoReaction, Yes, YesVec}
 use Rattle.crn_cert.specs.Questions.{Earlier, Q2, Q4, Q12, Q13, on, terminal_of, vector_given}
 use Rattle.crn_cert.specs.Ranges.{IsNarrow}
 use Rattle.crn_cert.specs.FormedVerdicts.{IsFormedVerdict}
 use Rattle.crn_cert.specs.Law.{IsTrueOrOpen}
-use Rattle.crn_cert.specs.Says.{HasNoSignals, IsTrueOf, IsTurn, by_turn}
+use Rattle.crn_cert.specs.Says.{IsTrueOf, IsTurn, by_turn}
 use Rattle.crn_cert.specs.Valid.{HasVector, OfVector}
-use Rattle.crn_cert.proofs.CallerLemmas.{shape_count, shapes_exist}
+use Rattle.crn_cert.proofs.CallerLemmas.{shape_count, shapes_exist, none_at_all}
 use Rattle.crn_ctext.specs.Meaning.{is_yes, pairs_of}
 use Rattle.crn_check.specs.Check.{IsBuilt}
 use Rattle.crn_check.specs.Facts.{HoldsOn, KeptFacts}
@@ -104,14 +104,6 @@ sizes net facts turn s k some is sh =
     }
 
 -- ---- a no
-
--- if g has no signal, and its negative has none in a weakly reversible network, no confluence vector has one
-none_at_all : (net : Net) (g : List ℤ) → IsNetwork net → IsRegular net → HasConfluenceLine net → IsConfluenceVector net g → HasNoSignal net g → (IsWeaklyReversible net.reactions → HasNoSignal net (negative g)) → HasNoSignals net
-none_at_all net g n regular line c none second h d shelves mu level weights sg =
-    elim ((confluence_vectors_are_one net n regular line).one h g d c) [
-      | inl m ↦ none shelves mu level weights (multiples_share_signals net h g (d.space.long ∙ sym c.space.long) m shelves mu level weights sg)
-      | inr m ↦ second m.1 shelves mu level weights (multiples_share_signals net h (negative g) (d.space.long ∙ sym (length-scale (negsuc 0) g ∙ c.space.long)) m.0 shelves mu level weights sg)
-    ]
 
 weak_is : (net : Net) (v : Verdict) → IsTrueOf net Q4 v → IsWeaklyReversible net.reactions → is_yes v ≡ true
 weak_is net Yes h w = refl
