@@ -59,8 +59,8 @@ leaf b xs = record { ptr = b.1.ptr; value = numbers xs }
 
 -- the tree of both influence tables
 abbrev tree : Place → Tree
-tree b = Split' b.0 (Split' b.0 Flat b.0 (CutA (leaf b (pos 0 ∷ pos 1 ∷ []))) None')
-    b.0 (Split' b.0 (CutA (leaf b (pos 1 ∷ pos 0 ∷ []))) b.0 (CutB (leaf b (pos 1 ∷ pos 1 ∷ []))) (Some' b.0 (CutA (leaf b (pos 1 ∷ pos 0 ∷ []))))) None'
+tree b = Split' b.0 (Split' b.0 Flat (CutA (leaf b (pos 0 ∷ pos 1 ∷ []))) None')
+    (Split' b.0 (CutA (leaf b (pos 1 ∷ pos 0 ∷ []))) (CutB (leaf b (pos 1 ∷ pos 1 ∷ []))) (Some' (CutA (leaf b (pos 1 ∷ pos 0 ∷ []))))) None'
 
 abbrev a1 : Answer
 a1 = record { verdict = Classes 1 (nums (1 ∷ 1 ∷ [])); proof = Forest (nums (0 ∷ 1 ∷ [])) (nums (0 ∷ 1 ∷ [])) }

@@ -7,7 +7,7 @@ use Rattle.crn_vec.specs.declared.signs.Sign.TheVariants.{Zero, Plus, Minus}
 use Rattle.crn_vec.specs.Systems.{IsCut}
 use Rattle.crn_vec.specs.Problems.{Signed, all_zero}
 use Rattle.crn_cert.specs.Ranges.{IsNarrow, AreFree}
-use Rattle.crn_cert.specs.declared.tree.Tree.{Tree, Split', CutA, CutB, Flat, Held-Tree-Split-2, None', Some'}
+use Rattle.crn_cert.specs.declared.tree.Tree.{Tree, Split', CutA, CutB, Flat, Held-Children-minus, None', Some'}
 
 -- a tree as contracts see it, apart from memory
 pub data Plan : Type 0 where
@@ -24,14 +24,14 @@ with_minus zero plus (Some minus) = Three zero plus minus
 
 abbrev mutual
   pub plan : Tree → Plan
-  plan (Split' a zero b plus minus) = with_minus (plan zero) (plan plus) (plan_held minus)
+  plan (Split' a zero plus minus) = with_minus (plan zero) (plan plus) (plan_held minus)
   plan (CutA u) = RulesA u.value.list
   plan (CutB u) = RulesB u.value.list
   plan Flat = Level
 
-  pub plan_held : Held-Tree-Split-2 → Option Plan
+  pub plan_held : Held-Children-minus → Option Plan
   plan_held None' = None
-  plan_held (Some' p tree) = Some (plan tree)
+  plan_held (Some' tree) = Some (plan tree)
 
 -- a tree is valid at a prefix: it splits into the children of a prefix that is not full, and each
 -- leaf shows that its prefix is not feasible

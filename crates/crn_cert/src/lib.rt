@@ -22,5 +22,5 @@ pub use place::question_number;
 pub use rank_list::RankList;
 pub use rows::Rows;
 pub use share::{Share, share_of};
-pub use tree::Tree;
+pub use tree::{Children, Tree};
 pub use verdicts::Verdicts;

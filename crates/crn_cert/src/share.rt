@@ -28,10 +28,10 @@ fn add_tree<'a>(tree: &'a Tree, cuts: &mut Vec<&'a [i128]>) -> Result<(), NoMemo
         ≡ map (λ u. u.now) cuts.old.items ++ cuts_of (plan tree.now)) }
 {
     match tree {
-        Tree::Split { zero, plus, minus } => {
-            add_tree(zero, cuts)?;
-            add_tree(plus, cuts)?;
-            match minus {
+        Tree::Split(children) => {
+            add_tree(&children.zero, cuts)?;
+            add_tree(&children.plus, cuts)?;
+            match &children.minus {
                 Some(minus) => add_tree(minus, cuts),
                 None => Ok(()),
             }

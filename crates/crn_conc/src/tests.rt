@@ -153,13 +153,13 @@ fn steps(rt: &(impl Abort + AllocGlobal)) -> Network {
 
 fn nodes(tree: &Tree) -> u64 {
     match tree {
-        Tree::Split { zero, plus, minus } => {
-            let below = match minus {
+        Tree::Split(children) => {
+            let below = match &children.minus {
                 None => 0,
                 Some(minus) => nodes(minus),
             };
-            nodes(zero)
-                .wrapping_add(nodes(plus))
+            nodes(&children.zero)
+                .wrapping_add(nodes(&children.plus))
                 .wrapping_add(below)
                 .wrapping_add(1)
         }

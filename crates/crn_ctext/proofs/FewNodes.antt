@@ -33,8 +33,8 @@ use Rattle.crn_ctext.proofs.DocumentsShort.{node_limit, AreFewNodes, first_few, 
 
 -- a tree has as many records as nodes
 nodes_counted : (tree : Tree) → length (nodes tree) ≡ node_count (plan tree)
-nodes_counted (Split' a zeros b pluses None') = omega (arith, nodes_counted zeros, nodes_counted pluses, length-append (nodes zeros ++ nodes pluses) [], length-append (nodes zeros) (nodes pluses))
-nodes_counted (Split' a zeros b pluses (Some' c minuses)) = omega (arith, nodes_counted zeros, nodes_counted pluses, nodes_counted minuses, length-append (nodes zeros ++ nodes pluses) (nodes minuses), length-append (nodes zeros) (nodes pluses))
+nodes_counted (Split' a zeros pluses None') = omega (arith, nodes_counted zeros, nodes_counted pluses, length-append (nodes zeros ++ nodes pluses) [], length-append (nodes zeros) (nodes pluses))
+nodes_counted (Split' a zeros pluses (Some' minuses)) = omega (arith, nodes_counted zeros, nodes_counted pluses, nodes_counted minuses, length-append (nodes zeros ++ nodes pluses) (nodes minuses), length-append (nodes zeros) (nodes pluses))
 nodes_counted (CutA u) = refl
 nodes_counted (CutB u) = refl
 nodes_counted Flat = refl

@@ -78,7 +78,7 @@ good_tests net table tree f t =
     true_tests (table_of net table) (FitsNode w) (leaf_tests net table) (λ p less. subst (λ (c : ℕ). length p < c) (sym (rows_counted net)) less) 1 [] (plan tree) f (tree_true (table_of net table) (length net.names) [] tree (at_root (length net.names)) f good)
 
 pub some_nodes : (tree : Tree) → nodes tree ≡ [] → ⊥
-some_nodes (Split' a zeros b pluses held) e = cc
+some_nodes (Split' a zeros pluses held) e = cc
 some_nodes (CutA u) e = cc
 some_nodes (CutB u) e = cc
 some_nodes Flat e = cc

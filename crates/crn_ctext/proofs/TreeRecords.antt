@@ -70,13 +70,13 @@ abbrev pub FormedAt : Problem → List Sign → Plan → Type 0
 FormedAt w p t = IsFormedTree w.choices w.count_a w.count_b p t
 
 tree_is : (w : Problem) (Leaf : List Sign → Record → Type 0) (Ok : List Sign → Plan → Type 0) → LeavesGive w Leaf Ok → (more : ℕ) (p : List Sign) (tree : Tree) → more + length p ≡ w.choices → FormedAt w p (plan tree) → Ok p (plan tree) → IsTree Leaf more p (nodes tree)
-tree_is w Leaf Ok g zero p (Split' a zeros b pluses None') e f o = absurd (none_left w.choices p e f.0)
-tree_is w Leaf Ok g zero p (Split' a zeros b pluses (Some' c minuses)) e f o = absurd (none_left w.choices p e f.0)
-tree_is w Leaf Ok g (suc more) p (Split' a zeros b pluses None') e f o =
+tree_is w Leaf Ok g zero p (Split' a zeros pluses None') e f o = absurd (none_left w.choices p e f.0)
+tree_is w Leaf Ok g zero p (Split' a zeros pluses (Some' minuses)) e f o = absurd (none_left w.choices p e f.0)
+tree_is w Leaf Ok g (suc more) p (Split' a zeros pluses None') e f o =
     let h = g.both in
     let k = h p (plan zeros) (plan pluses) o in
     split_both Leaf more p (nodes zeros) (nodes pluses) f.1 (tree_is w Leaf Ok g more (p ++ Zero ∷ []) zeros (next_choice w.choices more p Zero e) f.2 k.0) (tree_is w Leaf Ok g more (p ++ Plus ∷ []) pluses (next_choice w.choices more p Plus e) f.3 k.1)
-tree_is w Leaf Ok g (suc more) p (Split' a zeros b pluses (Some' c minuses)) e f o =
+tree_is w Leaf Ok g (suc more) p (Split' a zeros pluses (Some' minuses)) e f o =
     let h = g.three in
     let k = h p (plan zeros) (plan pluses) (plan minuses) o in
     split_three Leaf more p (nodes zeros) (nodes pluses) (nodes minuses) f.1 (tree_is w Leaf Ok g more (p ++ Zero ∷ []) zeros (next_choice w.choices more p Zero e) f.2 k.0)
@@ -180,9 +180,9 @@ flat_no_split : codes "flat" ≡ codes "split" → ⊥
 flat_no_split e = let h : 102 ≡ 115 = ap (λ (t : List ℕ). slice_index t 0) e in omega (arith, h)
 
 pub tree_true : (w : Problem) (more : ℕ) (p : List Sign) (tree : Tree) → more + length p ≡ w.choices → FormedAt w p (plan tree) → IsTree (Good w) more p (nodes tree) → HaveTrueLeaves w p (plan tree)
-tree_true w zero p (Split' a zeros b pluses None') e f t = absurd (none_left w.choices p e f.0)
-tree_true w zero p (Split' a zeros b pluses (Some' c minuses)) e f t = absurd (none_left w.choices p e f.0)
-tree_true w (suc more) p (Split' a zeros b pluses None') e f t =
+tree_true w zero p (Split' a zeros pluses None') e f t = absurd (none_left w.choices p e f.0)
+tree_true w zero p (Split' a zeros pluses (Some' minuses)) e f t = absurd (none_left w.choices p e f.0)
+tree_true w (suc more) p (Split' a zeros pluses None') e f t =
     let k = split_back w (Good w) (λ p r g. g.0) more p ((nodes zeros ++ nodes pluses) ++ []) t in
     let ez = next_choice w.choices more p Zero e in
     let eq = next_choice w.choices more p Plus e in
@@ -191,7 +191,7 @@ tree_true w (suc more) p (Split' a zeros b pluses None') e f t =
       tree_true w more (p ++ Zero ∷ []) zeros ez f.2 (subst (IsTree (Good w) more (p ++ Zero ∷ [])) (sym s.0) k.4),
       tree_true w more (p ++ Plus ∷ []) pluses eq f.3 (subst (IsTree (Good w) more (p ++ Plus ∷ [])) (sym s.1.0) k.5),
     )
-tree_true w (suc more) p (Split' a zeros b pluses (Some' c minuses)) e f t =
+tree_true w (suc more) p (Split' a zeros pluses (Some' minuses)) e f t =
     let k = split_back w (Good w) (λ p r g. g.0) more p ((nodes zeros ++ nodes pluses) ++ nodes minuses) t in
     let ez = next_choice w.choices more p Zero e in
     let eq = next_choice w.choices more p Plus e in
@@ -245,8 +245,8 @@ split_of alloc w p rs zs qs ms room e zeros pluses last = by last
     all last m = e ∙ ap (λ (x : List Record). split_record ∷ x) (ap₂ (λ (x y : List Record). x ++ y) zeros.1 (ap₂ (λ (x y : List Record). x ++ y) pluses.1 m) ∙ sym (append_assoc (nodes zeros.0) (nodes pluses.0) last))
 
     by : IsLastOf w p ms → IsTreeOf w p rs
-    by (inl z) = (Split' (place alloc) zeros.0 (place alloc) pluses.0 None', all [] z.1, (room, sym (zeros_are p) ∙ z.0, zeros.2, pluses.2))
-    by (inr m) = (Split' (place alloc) zeros.0 (place alloc) pluses.0 (Some' (place alloc) m.1.0), all (nodes m.1.0) m.1.1, (room, sym (zeros_are p) ∙ m.0, zeros.2, pluses.2, m.1.2))
+    by (inl z) = (Split' (place alloc) zeros.0 pluses.0 None', all [] z.1, (room, sym (zeros_are p) ∙ z.0, zeros.2, pluses.2))
+    by (inr m) = (Split' (place alloc) zeros.0 pluses.0 (Some' m.1.0), all (nodes m.1.0) m.1.1, (room, sym (zeros_are p) ∙ m.0, zeros.2, pluses.2, m.1.2))
 
 pub tree_of : Global → (w : Problem) (more : ℕ) (p : List Sign) (rs : List Record) → more + length p ≡ w.choices → IsTree (Leaf w) more p rs → IsTreeOf w p rs
 unfolding IsTree
@@ -271,16 +271,16 @@ words_apart v w a b rs ss i less same =
     omega (arith, h, less)
 
 pub plans_one : (w : Problem) (more : ℕ) (p : List Sign) (tree other : Tree) → more + length p ≡ w.choices → FormedAt w p (plan tree) → FormedAt w p (plan other) → nodes tree ≡ nodes other → plan tree ≡ plan other
-plans_one w zero p (Split' a zeros b pluses None') other e f g same = absurd (none_left w.choices p e f.0)
-plans_one w zero p (Split' a zeros b pluses (Some' c minuses)) other e f g same = absurd (none_left w.choices p e f.0)
-plans_one w (suc more) p (Split' a zeros b pluses None') (Split' a2 zeros2 b2 pluses2 None') e f g same =
+plans_one w zero p (Split' a zeros pluses None') other e f g same = absurd (none_left w.choices p e f.0)
+plans_one w zero p (Split' a zeros pluses (Some' minuses)) other e f g same = absurd (none_left w.choices p e f.0)
+plans_one w (suc more) p (Split' a zeros pluses None') (Split' a2 zeros2 pluses2 None') e f g same =
     let ez = next_choice w.choices more p Zero e in
     let eq = next_choice w.choices more p Plus e in
     let below = (first_same split_record split_record ((nodes zeros ++ nodes pluses) ++ []) ((nodes zeros2 ++ nodes pluses2) ++ []) same).1 in
     let s = same_below w more p (nodes zeros) (nodes pluses) [] (nodes zeros2) (nodes pluses2) [] (tree_formed w more (p ++ Zero ∷ []) zeros ez f.2) (tree_formed w more (p ++ Zero ∷ []) zeros2 ez g.2) (tree_formed w more (p ++ Plus ∷ []) pluses eq f.3) (tree_formed w more (p ++ Plus ∷ []) pluses2 eq g.3)
     (sym (append_assoc (nodes zeros) (nodes pluses) []) ∙ below ∙ append_assoc (nodes zeros2) (nodes pluses2) []) in
     ap₂ (λ (x y : Plan). Both x y) (plans_one w more (p ++ Zero ∷ []) zeros zeros2 ez f.2 g.2 s.0) (plans_one w more (p ++ Plus ∷ []) pluses pluses2 eq f.3 g.3 s.1.0)
-plans_one w (suc more) p (Split' a zeros b pluses (Some' c minuses)) (Split' a2 zeros2 b2 pluses2 (Some' c2 minuses2)) e f g same =
+plans_one w (suc more) p (Split' a zeros pluses (Some' minuses)) (Split' a2 zeros2 pluses2 (Some' minuses2)) e f g same =
     let ez = next_choice w.choices more p Zero e in
     let eq = next_choice w.choices more p Plus e in
     let em = next_choice w.choices more p Minus e in
@@ -288,20 +288,20 @@ plans_one w (suc more) p (Split' a zeros b pluses (Some' c minuses)) (Split' a2 
     let s = same_below w more p (nodes zeros) (nodes pluses) (nodes minuses) (nodes zeros2) (nodes pluses2) (nodes minuses2) (tree_formed w more (p ++ Zero ∷ []) zeros ez f.2) (tree_formed w more (p ++ Zero ∷ []) zeros2 ez g.2) (tree_formed w more (p ++ Plus ∷ []) pluses eq f.3) (tree_formed w more (p ++ Plus ∷ []) pluses2 eq g.3)
     (sym (append_assoc (nodes zeros) (nodes pluses) (nodes minuses)) ∙ below ∙ append_assoc (nodes zeros2) (nodes pluses2) (nodes minuses2)) in
     ap₂ (λ (x : Plan × Plan) (y : Plan). Three x.0 x.1 y) (ap₂ (λ (x y : Plan). (x, y)) (plans_one w more (p ++ Zero ∷ []) zeros zeros2 ez f.2 g.2 s.0) (plans_one w more (p ++ Plus ∷ []) pluses pluses2 eq f.3 g.3 s.1.0)) (plans_one w more (p ++ Minus ∷ []) minuses minuses2 em f.4 g.4 s.1.1)
-plans_one w more p (Split' a zeros b pluses None') (Split' a2 zeros2 b2 pluses2 (Some' c2 minuses2)) e f g same = absurd (let h : true ≡ false = sym f.1 ∙ g.1 in cc)
-plans_one w more p (Split' a zeros b pluses (Some' c minuses)) (Split' a2 zeros2 b2 pluses2 None') e f g same = absurd (let h : true ≡ false = sym g.1 ∙ f.1 in cc)
-plans_one w more p (Split' a zeros b pluses held) (CutA v) e f g same = absurd (words_apart (codes "cuta") (codes "split") v.value.list [] [] ((nodes zeros ++ nodes pluses) ++ nodes_held held) 0 (omega arith) (sym same))
-plans_one w more p (Split' a zeros b pluses held) (CutB v) e f g same = absurd (words_apart (codes "cutb") (codes "split") v.value.list [] [] ((nodes zeros ++ nodes pluses) ++ nodes_held held) 0 (omega arith) (sym same))
-plans_one w more p (Split' a zeros b pluses held) Flat e f g same = absurd (words_apart (codes "flat") (codes "split") [] [] [] ((nodes zeros ++ nodes pluses) ++ nodes_held held) 0 (omega arith) (sym same))
-plans_one w more p (CutA u) (Split' a zeros b pluses held) e f g same = absurd (words_apart (codes "cuta") (codes "split") u.value.list [] [] ((nodes zeros ++ nodes pluses) ++ nodes_held held) 0 (omega arith) same)
+plans_one w more p (Split' a zeros pluses None') (Split' a2 zeros2 pluses2 (Some' minuses2)) e f g same = absurd (let h : true ≡ false = sym f.1 ∙ g.1 in cc)
+plans_one w more p (Split' a zeros pluses (Some' minuses)) (Split' a2 zeros2 pluses2 None') e f g same = absurd (let h : true ≡ false = sym g.1 ∙ f.1 in cc)
+plans_one w more p (Split' a zeros pluses held) (CutA v) e f g same = absurd (words_apart (codes "cuta") (codes "split") v.value.list [] [] ((nodes zeros ++ nodes pluses) ++ nodes_held held) 0 (omega arith) (sym same))
+plans_one w more p (Split' a zeros pluses held) (CutB v) e f g same = absurd (words_apart (codes "cutb") (codes "split") v.value.list [] [] ((nodes zeros ++ nodes pluses) ++ nodes_held held) 0 (omega arith) (sym same))
+plans_one w more p (Split' a zeros pluses held) Flat e f g same = absurd (words_apart (codes "flat") (codes "split") [] [] [] ((nodes zeros ++ nodes pluses) ++ nodes_held held) 0 (omega arith) (sym same))
+plans_one w more p (CutA u) (Split' a zeros pluses held) e f g same = absurd (words_apart (codes "cuta") (codes "split") u.value.list [] [] ((nodes zeros ++ nodes pluses) ++ nodes_held held) 0 (omega arith) same)
 plans_one w more p (CutA u) (CutA v) e f g same = ap RulesA (same_numbers (codes "cuta") u.value.list v.value.list [] [] same)
 plans_one w more p (CutA u) (CutB v) e f g same = absurd (words_apart (codes "cuta") (codes "cutb") u.value.list v.value.list [] [] 3 (omega arith) same)
 plans_one w more p (CutA u) Flat e f g same = absurd (words_apart (codes "cuta") (codes "flat") u.value.list [] [] [] 0 (omega arith) same)
-plans_one w more p (CutB u) (Split' a zeros b pluses held) e f g same = absurd (words_apart (codes "cutb") (codes "split") u.value.list [] [] ((nodes zeros ++ nodes pluses) ++ nodes_held held) 0 (omega arith) same)
+plans_one w more p (CutB u) (Split' a zeros pluses held) e f g same = absurd (words_apart (codes "cutb") (codes "split") u.value.list [] [] ((nodes zeros ++ nodes pluses) ++ nodes_held held) 0 (omega arith) same)
 plans_one w more p (CutB u) (CutA v) e f g same = absurd (words_apart (codes "cuta") (codes "cutb") v.value.list u.value.list [] [] 3 (omega arith) (sym same))
 plans_one w more p (CutB u) (CutB v) e f g same = ap RulesB (same_numbers (codes "cutb") u.value.list v.value.list [] [] same)
 plans_one w more p (CutB u) Flat e f g same = absurd (words_apart (codes "cutb") (codes "flat") u.value.list [] [] [] 0 (omega arith) same)
-plans_one w more p Flat (Split' a zeros b pluses held) e f g same = absurd (words_apart (codes "flat") (codes "split") [] [] [] ((nodes zeros ++ nodes pluses) ++ nodes_held held) 0 (omega arith) same)
+plans_one w more p Flat (Split' a zeros pluses held) e f g same = absurd (words_apart (codes "flat") (codes "split") [] [] [] ((nodes zeros ++ nodes pluses) ++ nodes_held held) 0 (omega arith) same)
 plans_one w more p Flat (CutA v) e f g same = absurd (words_apart (codes "cuta") (codes "flat") v.value.list [] [] [] 0 (omega arith) (sym same))
 plans_one w more p Flat (CutB v) e f g same = absurd (words_apart (codes "cutb") (codes "flat") v.value.list [] [] [] 0 (omega arith) (sym same))
 plans_one w more p Flat Flat e f g same = refl

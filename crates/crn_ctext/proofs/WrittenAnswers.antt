@@ -314,10 +314,10 @@ plain_cuts (r ∷ rs) h = ap (λ (t : List Record). map (λ (r : Record). r.numb
 
 -- the lists of the cut leaves of a tree's nodes are those of its cuts
 tree_cuts : (tree : Tree) → cut_lists (nodes tree) ≡ cuts_of (plan tree)
-tree_cuts (Split' a zeros b pluses None') =
+tree_cuts (Split' a zeros pluses None') =
     cuts_append (nodes zeros ++ nodes pluses) [] ∙ append-nil (cut_lists (nodes zeros ++ nodes pluses)) ∙ cuts_append (nodes zeros) (nodes pluses)
     ∙ ap (λ (t : List (List ℤ)). t ++ cut_lists (nodes pluses)) (tree_cuts zeros) ∙ ap (λ (t : List (List ℤ)). cuts_of (plan zeros) ++ t) (tree_cuts pluses)
-tree_cuts (Split' a zeros b pluses (Some' c minuses)) =
+tree_cuts (Split' a zeros pluses (Some' minuses)) =
     cuts_append (nodes zeros ++ nodes pluses) (nodes minuses) ∙ ap (λ (t : List (List ℤ)). t ++ cut_lists (nodes minuses)) (cuts_append (nodes zeros) (nodes pluses))
     ∙ ap (λ (t : List (List ℤ)). (t ++ cut_lists (nodes pluses)) ++ cut_lists (nodes minuses)) (tree_cuts zeros) ∙ ap (λ (t : List (List ℤ)). (cuts_of (plan zeros) ++ t) ++ cut_lists (nodes minuses)) (tree_cuts pluses)
     ∙ ap (λ (t : List (List ℤ)). (cuts_of (plan zeros) ++ cuts_of (plan pluses)) ++ t) (tree_cuts minuses)

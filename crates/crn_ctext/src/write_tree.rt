@@ -48,11 +48,11 @@ fn put_tree<'a, K: Sink>(
     ensures rest { IfOk result (λ rest. rest.now ≡ leaves_after (nodes tree.now) leaf.now) }
 {
     match tree {
-        Tree::Split { zero, plus, minus } => {
+        Tree::Split(children) => {
             put_all(sink, b"split\n")?;
-            let leaf = put_tree(sink, zero, leaf)?;
-            let leaf = put_tree(sink, plus, leaf)?;
-            match minus {
+            let leaf = put_tree(sink, &children.zero, leaf)?;
+            let leaf = put_tree(sink, &children.plus, leaf)?;
+            match &children.minus {
                 Some(minus) => put_tree(sink, minus, leaf),
                 None => Ok(leaf),
             }

@@ -445,22 +445,14 @@ fn row(rt: &(impl Abort + AllocGlobal), values: &[i128]) -> Rows
 fn both(rt: &(impl Abort + AllocGlobal), zero: Tree, plus: Tree) -> Tree
     ensures { plan result ≡ Both (plan zero) (plan plus) }
 {
-    Tree::Split {
-        zero: Box::new(rt.alloc(), zero).expect(rt, "memory"),
-        plus: Box::new(rt.alloc(), plus).expect(rt, "memory"),
-        minus: None,
-    }
+    Tree::both(rt.alloc(), zero, plus).expect(rt, "memory")
 }
 
 // A split with all its children.
 fn three(rt: &(impl Abort + AllocGlobal), zero: Tree, plus: Tree, minus: Tree) -> Tree
     ensures { plan result ≡ Three (plan zero) (plan plus) (plan minus) }
 {
-    Tree::Split {
-        zero: Box::new(rt.alloc(), zero).expect(rt, "memory"),
-        plus: Box::new(rt.alloc(), plus).expect(rt, "memory"),
-        minus: Some(Box::new(rt.alloc(), minus).expect(rt, "memory")),
-    }
+    Tree::three(rt.alloc(), zero, plus, minus).expect(rt, "memory")
 }
 
 fn rules_a(rt: &(impl Abort + AllocGlobal), values: &[i128]) -> Tree

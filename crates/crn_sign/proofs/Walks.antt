@@ -118,10 +118,10 @@ pub record IsChildTree (w : Signed) (c : List Sign) (tree : Plan) (left after : 
   pub tree_at : IsTreeAt w c tree
   pub ends : EndsWithout w (c ∷ []) (places c tree) left after
 
-pub child_tree : (w : Signed) (c : List Sign) (left after : ℕ) (e : SearchEnd) (t v : Tree) → EndsAt w c left after e → e ≡ Refuted t → v ≡ t → IsChildTree w c (plan v) left after
-child_tree w c left after e t v h is same =
+pub child_tree : (w : Signed) (c : List Sign) (left after : ℕ) (e : SearchEnd) (t : Tree) → EndsAt w c left after e → e ≡ Refuted t → IsChildTree w c (plan t) left after
+child_tree w c left after e t h is =
     let k = subst (λ (x : SearchEnd). EndsAt w c left after x) is h in
-    subst (λ (x : Tree). IsChildTree w c (plan x) left after) (sym same) (record { tree_at = k.0; ends = k.1 })
+    record { tree_at = k.0; ends = k.1 }
 
 -- ---- the children of a prefix
 
@@ -196,6 +196,10 @@ three_trees w p z q m left mid high after lt some zt qt mt =
             (subst (λ (l : List (List Sign)). EndsWithout w (with p Zero ∷ with p Plus ∷ with p Minus ∷ []) l left after) (sym (append_assoc zs qs ms)) all);
       },
     )
+
+-- the same of a tree that is equal to it
+pub tree_as : (w : Signed) (p : List Sign) (tree made : Plan) (left after : ℕ) → made ≡ tree → IsTreeAt w p tree × BelowRoot w p tree left after → IsTreeAt w p made × BelowRoot w p made left after
+tree_as w p tree made left after e h = subst (λ (x : Plan). IsTreeAt w p x × BelowRoot w p x left after) (sym e) h
 
 -- a prefix that is not closed, and neither of whose parts is ruled out, is feasible
 pub feasible_from : (w : Signed) (p q : List Sign) → q ≡ p → w.closed p ≡ false → ((x : List ℤ) × SolvesB w p x) → ((x : List ℤ) × SolvesA w q x) → IsFeasible w p

@@ -151,16 +151,6 @@ fn found_end<P: SignProblem>(
     Ok(SearchEnd::Found { pattern, a, b })
 }
 
-// A tree in memory of its own.
-fn box_of(alloc: Global, tree: Tree) -> Result<Box<Tree>, NoMemory>
-    ensures { IfOk result (λ made. made.value ≡ tree) }
-{
-    match Box::new(alloc, tree) {
-        Ok(made) => Ok(made),
-        Err(e) => Err(NoMemory::from(e)),
-    }
-}
-
 // Visits the prefix with one more option, and all that is visited below it.
 #[cycle(walk)]
 fn child<P: SignProblem>(
@@ -202,29 +192,23 @@ fn split<P: SignProblem>(
 {
     let zeros = is_all_zero(&search.prefix);
     let zero = match child(alloc, problem, search, Sign::Zero)? {
-        SearchEnd::Refuted(tree) => box_of(alloc, tree)?,
+        SearchEnd::Refuted(tree) => tree,
         end => return Ok(end),
     };
     let plus = match child(alloc, problem, search, Sign::Plus)? {
-        SearchEnd::Refuted(tree) => box_of(alloc, tree)?,
+        SearchEnd::Refuted(tree) => tree,
         end => return Ok(end),
     };
     if zeros {
-        return Ok(SearchEnd::Refuted(Tree::Split {
-            zero,
-            plus,
-            minus: None,
-        }));
+        let tree = Tree::both(alloc, zero, plus)?;
+        return Ok(SearchEnd::Refuted(tree));
     }
     let minus = match child(alloc, problem, search, Sign::Minus)? {
-        SearchEnd::Refuted(tree) => box_of(alloc, tree)?,
+        SearchEnd::Refuted(tree) => tree,
         end => return Ok(end),
     };
-    Ok(SearchEnd::Refuted(Tree::Split {
-        zero,
-        plus,
-        minus: Some(minus),
-    }))
+    let tree = Tree::three(alloc, zero, plus, minus)?;
+    Ok(SearchEnd::Refuted(tree))
 }
 
 // Visits a prefix, and all that is visited below it.

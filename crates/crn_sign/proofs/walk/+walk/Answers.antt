@@ -4,7 +4,7 @@ use Rattle.crn_farkas.specs.Decision.{IsSmallCut}
 use Rattle.crn_sign.specs.Inner.Walk.{EndsAt, EndsBelow, IsFoundAt}
 use Rattle.crn_vec.specs.declared.signs.Sign.{Sign}
 use Rattle.crn_vec.specs.Problems.{Signed, all_zero}
-use Rattle.crn_sign.proofs.Walks.{run_out, feasible_from, flat_at, cut_a_at, cut_b_at, found_at, opened_at, child_tree, first_child, second_child, third_child, both_trees, three_trees}
+use Rattle.crn_sign.proofs.Walks.{run_out, feasible_from, flat_at, cut_a_at, cut_b_at, found_at, opened_at, child_tree, first_child, second_child, third_child, both_trees, three_trees, tree_as}
 use Rattle.crn_sign.proofs.walk.+walk.Goals as goal
 
 pub walk-returns-then-search-eq0-clause-answer : goal.walk-returns-then-search-eq0-clause-answer
@@ -38,7 +38,7 @@ pub split-returns-in_default-2 : goal.split-returns-in_default-2
 split-returns-in_default-2 g t c =
     let w : Signed = g.P.SignProblem.signed c.args.problem.now in
     let p : List Sign = c.args.search.now.prefix.items in
-    let z = child_tree w (p ++ Zero ∷ []) c.args.search.now.left c.child.new.search.left c.in_ok-end.end c.in-Refuted.tree c.in_ok-zero-in-Refuted.zero.value c.in_ok-end.ensures.answer c.in-Refuted.is c.in_ok-zero-in-Refuted.ensures in
+    let z = child_tree w (p ++ Zero ∷ []) c.args.search.now.left c.child.new.search.left c.in_ok-end.end c.in-Refuted.tree c.in_ok-end.ensures.answer c.in-Refuted.is in
     let a = subst (λ (q : List Sign). EndsAt w (q ++ Plus ∷ []) c.child.new.search.left c.child-2.new.search.left c.in_ok-end-2.end) c.in_ok-end.ensures.prefix c.in_ok-end-2.ensures.answer in
     record {
       prefix = c.in_ok-end-2.ensures.prefix ∙ c.in_ok-end.ensures.prefix;
@@ -50,18 +50,18 @@ pub split-returns-then-zeros-clause-answer : goal.split-returns-then-zeros-claus
 split-returns-then-zeros-clause-answer g t c =
     let w : Signed = g.P.SignProblem.signed c.args.problem.now in
     let p : List Sign = c.args.search.now.prefix.items in
-    let z = child_tree w (p ++ Zero ∷ []) c.args.search.now.left c.child.new.search.left c.in_ok-end.end c.in-Refuted.tree c.in_ok-zero-in-Refuted.zero.value c.in_ok-end.ensures.answer c.in-Refuted.is c.in_ok-zero-in-Refuted.ensures in
+    let z = child_tree w (p ++ Zero ∷ []) c.args.search.now.left c.child.new.search.left c.in_ok-end.end c.in-Refuted.tree c.in_ok-end.ensures.answer c.in-Refuted.is in
     let a = subst (λ (q : List Sign). EndsAt w (q ++ Plus ∷ []) c.child.new.search.left c.child-2.new.search.left c.in_ok-end-2.end) c.in_ok-end.ensures.prefix c.in_ok-end-2.ensures.answer in
-    let q = child_tree w (p ++ Plus ∷ []) c.child.new.search.left c.child-2.new.search.left c.in_ok-end-2.end c.in-Refuted-2.tree c.in_ok-plus-in-Refuted-2.plus.value a c.in-Refuted-2.is c.in_ok-plus-in-Refuted-2.ensures in
-    both_trees w p _ _ c.args.search.now.left c.child.new.search.left c.child-2.new.search.left c.requires.room (ap all_zero (sym c.deref.ensures.value) ∙ sym c.is_all_zero-zeros.ensures ∙ c.if-zeros.true) z q
+    let q = child_tree w (p ++ Plus ∷ []) c.child.new.search.left c.child-2.new.search.left c.in_ok-end-2.end c.in-Refuted-2.tree a c.in-Refuted-2.is in
+    tree_as w p _ _ _ _ c.in_ok-tree.ensures (both_trees w p _ _ c.args.search.now.left c.child.new.search.left c.child-2.new.search.left c.requires.room (ap all_zero (sym c.deref.ensures.value) ∙ sym c.is_all_zero-zeros.ensures ∙ c.if-zeros.true) z q)
 
 pub split-returns-in_default-3 : goal.split-returns-in_default-3
 split-returns-in_default-3 g t c =
     let w : Signed = g.P.SignProblem.signed c.args.problem.now in
     let p : List Sign = c.args.search.now.prefix.items in
-    let z = child_tree w (p ++ Zero ∷ []) c.args.search.now.left c.child.new.search.left c.in_ok-end.end c.in-Refuted.tree c.in_ok-zero-in-Refuted.zero.value c.in_ok-end.ensures.answer c.in-Refuted.is c.in_ok-zero-in-Refuted.ensures in
+    let z = child_tree w (p ++ Zero ∷ []) c.args.search.now.left c.child.new.search.left c.in_ok-end.end c.in-Refuted.tree c.in_ok-end.ensures.answer c.in-Refuted.is in
     let a = subst (λ (q : List Sign). EndsAt w (q ++ Plus ∷ []) c.child.new.search.left c.child-2.new.search.left c.in_ok-end-2.end) c.in_ok-end.ensures.prefix c.in_ok-end-2.ensures.answer in
-    let q = child_tree w (p ++ Plus ∷ []) c.child.new.search.left c.child-2.new.search.left c.in_ok-end-2.end c.in-Refuted-2.tree c.in_ok-plus-in-Refuted-2.plus.value a c.in-Refuted-2.is c.in_ok-plus-in-Refuted-2.ensures in
+    let q = child_tree w (p ++ Plus ∷ []) c.child.new.search.left c.child-2.new.search.left c.in_ok-end-2.end c.in-Refuted-2.tree a c.in-Refuted-2.is in
     let b = subst (λ (q : List Sign). EndsAt w (q ++ Minus ∷ []) c.child-2.new.search.left c.child-3.new.search.left c.in_ok-end-3.end) (c.in_ok-end-2.ensures.prefix ∙ c.in_ok-end.ensures.prefix) c.in_ok-end-3.ensures.answer in
     record {
       prefix = c.in_ok-end-3.ensures.prefix ∙ c.in_ok-end-2.ensures.prefix ∙ c.in_ok-end.ensures.prefix;
@@ -73,12 +73,12 @@ pub split-returns-clause-answer : goal.split-returns-clause-answer
 split-returns-clause-answer g t c =
     let w : Signed = g.P.SignProblem.signed c.args.problem.now in
     let p : List Sign = c.args.search.now.prefix.items in
-    let z = child_tree w (p ++ Zero ∷ []) c.args.search.now.left c.child.new.search.left c.in_ok-end.end c.in-Refuted.tree c.in_ok-zero-in-Refuted.zero.value c.in_ok-end.ensures.answer c.in-Refuted.is c.in_ok-zero-in-Refuted.ensures in
+    let z = child_tree w (p ++ Zero ∷ []) c.args.search.now.left c.child.new.search.left c.in_ok-end.end c.in-Refuted.tree c.in_ok-end.ensures.answer c.in-Refuted.is in
     let a = subst (λ (q : List Sign). EndsAt w (q ++ Plus ∷ []) c.child.new.search.left c.child-2.new.search.left c.in_ok-end-2.end) c.in_ok-end.ensures.prefix c.in_ok-end-2.ensures.answer in
-    let q = child_tree w (p ++ Plus ∷ []) c.child.new.search.left c.child-2.new.search.left c.in_ok-end-2.end c.in-Refuted-2.tree c.in_ok-plus-in-Refuted-2.plus.value a c.in-Refuted-2.is c.in_ok-plus-in-Refuted-2.ensures in
+    let q = child_tree w (p ++ Plus ∷ []) c.child.new.search.left c.child-2.new.search.left c.in_ok-end-2.end c.in-Refuted-2.tree a c.in-Refuted-2.is in
     let b = subst (λ (q : List Sign). EndsAt w (q ++ Minus ∷ []) c.child-2.new.search.left c.child-3.new.search.left c.in_ok-end-3.end) (c.in_ok-end-2.ensures.prefix ∙ c.in_ok-end.ensures.prefix) c.in_ok-end-3.ensures.answer in
-    let m = child_tree w (p ++ Minus ∷ []) c.child-2.new.search.left c.child-3.new.search.left c.in_ok-end-3.end c.in-Refuted-3.tree c.in_ok-minus-in-Refuted-3.minus.value b c.in-Refuted-3.is c.in_ok-minus-in-Refuted-3.ensures in
-    three_trees w p _ _ _ c.args.search.now.left c.child.new.search.left c.child-2.new.search.left c.child-3.new.search.left c.requires.room (ap all_zero (sym c.deref.ensures.value) ∙ sym c.is_all_zero-zeros.ensures ∙ c.if-zeros.false) z q m
+    let m = child_tree w (p ++ Minus ∷ []) c.child-2.new.search.left c.child-3.new.search.left c.in_ok-end-3.end c.in-Refuted-3.tree b c.in-Refuted-3.is in
+    tree_as w p _ _ _ _ c.in_ok-tree-2.ensures (three_trees w p _ _ _ c.args.search.now.left c.child.new.search.left c.child-2.new.search.left c.child-3.new.search.left c.requires.room (ap all_zero (sym c.deref.ensures.value) ∙ sym c.is_all_zero-zeros.ensures ∙ c.if-zeros.false) z q m)
 
 pub walk-returns-then-len-length-clause-answer : goal.walk-returns-then-len-length-clause-answer
 walk-returns-then-len-length-clause-answer g t c =
