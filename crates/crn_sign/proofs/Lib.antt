@@ -1,4 +1,5 @@
 mod Exchange
 mod MarkLaws
 mod PastLaws
+mod PlaceLaws
 mod Walks

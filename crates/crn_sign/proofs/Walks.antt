@@ -19,7 +19,7 @@ use Rattle.crn_cert.specs.Ranges.{IsNarrow}
 use Rattle.crn_vec.proofs.CallerLemmas.{visits_then, visits_ended, passes_at, passes_first, passes_then}
 use Rattle.crn_sign.specs.declared.end.SearchEnd.{SearchEnd}
 use Rattle.crn_sign.specs.declared.end.SearchEnd.TheVariants.{Found, Refuted, Spent}
-use Rattle.crn_sign.specs.Search.{IsFeasibleBy, IsTreeAt}
+use Rattle.crn_sign.specs.Search.{IsFeasibleBy, IsSearchEnd, IsTreeAt}
 use Rattle.crn_sign.specs.Inner.Walk.{EndsWith, EndsWithout, RunsOut, EndsAt, BelowRoot, EndsBelow, IsFoundAt}
 
 -- another thing that follows from what is known of an Ok
@@ -204,3 +204,9 @@ tree_as w p tree made left after e h = subst (λ (x : Plan). IsTreeAt w p x × B
 -- a prefix that is not closed, and neither of whose parts is ruled out, is feasible
 pub feasible_from : (w : Signed) (p q : List Sign) → q ≡ p → w.closed p ≡ false → ((x : List ℤ) × SolvesB w p x) → ((x : List ℤ) × SolvesA w q x) → IsFeasible w p
 feasible_from w p q e c b a = record { opened = c; part_a = (a.0, subst (λ (t : List Sign). SolvesA w t a.0) e a.1); part_b = b }
+
+-- the end of the visits of the prefix with no choice is that of the search
+pub search_end : (w : Signed) (budget after : ℕ) (e : SearchEnd) → EndsAt w [] budget after e → IsSearchEnd w budget e
+search_end w budget after (Found q a b) h = (h.0, h.1.before, h.1.visits, omega (arith, h.1.count))
+search_end w budget after (Refuted t) h = (h.0, h.1.visits, omega (arith, h.1.count))
+search_end w budget after Spent h = h.passes

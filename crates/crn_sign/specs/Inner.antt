@@ -3,6 +3,7 @@ pub mod Ready
 pub mod RowSigns
 pub mod Marks
 pub mod Pools
+pub mod Places
 pub mod Parts
 pub mod PastCuts
 pub mod Past

@@ -6,6 +6,7 @@ mod fault;
 mod marks;
 mod part;
 mod past;
+mod place;
 mod pool;
 mod problem;
 mod signs;
@@ -15,6 +16,6 @@ mod walk;
 
 pub use end::SearchEnd;
 pub use fault::SearchStop;
-pub use problem::SignProblem;
+pub use problem::{SignProblem, coordinates};
 pub use signs::Signs;
 pub use walk::search;

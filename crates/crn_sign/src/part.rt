@@ -1,4 +1,4 @@
-ghost use Rattle.std.specs.Prelude.{◌≡◌, ◌<◌, ◌≤◌, ℤ, List, length, true, IsTrue, IfOk, OnOk, MatchOption, MatchResult};
+ghost use Rattle.std.specs.Prelude.{◌≡◌, ◌<◌, ◌≤◌, ℤ, List, length, true, false, IsTrue, IfOk, OnOk, MatchOption, MatchResult};
 ghost use Rattle.crn_vec.specs.Elementary.{width};
 ghost use Rattle.crn_vec.specs.Systems.{IsSolution, is_signed, kind_at, signed_count};
 ghost use Rattle.crn_vec.specs.declared.limits.TheConstants.{MAX_SIGNED};
@@ -6,22 +6,18 @@ ghost use Rattle.crn_farkas.specs.Decision.{IsSmallCut, IsSmallSolution};
 ghost use Rattle.crn_farkas.specs.Decision.{IsTargetStop};
 ghost use Rattle.crn_farkas.specs.Solver.{IsCutBy};
 ghost use Rattle.crn_sign.specs.Inner.RowSigns.{AreRowSigns};
-ghost use Rattle.crn_sign.specs.Inner.Marks.{AreRowMarks};
-ghost use Rattle.crn_sign.specs.Inner.Parts.{AreLevels, IsFinder, IsPart, IsRuling};
+ghost use Rattle.crn_sign.specs.Inner.Marks.{AreRowMarks, AreSuited};
+ghost use Rattle.crn_sign.specs.Inner.Parts.{IsFinder, IsPart, IsRuling};
+ghost use Rattle.crn_sign.specs.Inner.Places.{IsPlace};
 
-use crate::marks::{Mark, all_suit, clear, lay, put_zeros, suits};
+use crate::marks::{Mark, clear, lay, put_zeros, suits};
 use crate::past::{Past, PastCuts, empty_cuts, first_again, keep_cut, share};
+use crate::place::{Place, is_met};
 use crate::pool::Pool;
 use crn_farkas::{Alternative, Cut, Decision, Feasibility, Solver, Stop};
 use crn_vec::{Ints, Kind, Matrix, NoMemory, Sign, cuts_exclude_solutions, is_asked, opposite};
 use std::alloc::Global;
 use std::rc::Rc;
-
-/// The marks of a vector (x, Ax).
-#[derive(Drop)]
-pub(crate) struct Marked {
-    pub marks: Vec<Mark>,
-}
 
 /// What finds vectors (x, Ax): a solver, and those that it gave before.
 ///
@@ -38,13 +34,11 @@ pub(crate) struct Finder {
     pub misfits: Vec<usize>,
 }
 
-/// A part of a sign problem: what finds vectors for it, multipliers that ruled its systems out, and
-/// for each length of a prefix the last vector that was tried there.
+/// A part of a sign problem: what finds vectors for it, and multipliers that ruled its systems out.
 #[derive(Drop)]
 pub(crate) struct Part {
     pub finder: Finder,
     pub past: Vec<PastCuts>,
-    pub levels: Vec<Marked>,
 }
 
 // The sign that a coordinate of this kind has to have, if any.
@@ -65,27 +59,6 @@ fn put_opposites(_matrix: &Matrix, signs: &[Sign], into: &mut [Sign])
     for k in 0..into.len() {
         into[k] = opposite(signs[k]);
     }
-}
-
-// The marks of the vector 0.
-fn new_level(alloc: Global, matrix: &Matrix) -> Result<Marked, NoMemory>
-    ensures { IfOk result (λ made. AreRowMarks matrix.now made.marks.items) }
-{
-    let mut marks = vec![in alloc; Mark::Zero; matrix.cols() + matrix.rows()]?;
-    put_zeros(matrix, &mut marks);
-    Ok(Marked { marks })
-}
-
-// A list of marks for no choice, for one, and so on, to all of them.
-fn new_levels(alloc: Global, matrix: &Matrix, choices: usize) -> Result<Vec<Marked>, NoMemory>
-    ensures { IfOk result (λ made. AreLevels matrix.now made.items) }
-{
-    let mut levels = Vec::new(alloc);
-    for _ in 0..choices {
-        levels.push(new_level(alloc, matrix)?)?;
-    }
-    levels.push(new_level(alloc, matrix)?)?;
-    Ok(levels)
 }
 
 impl Finder {
@@ -441,17 +414,6 @@ fn free_at(asked: &mut [Kind], places: &[usize])
     }
 }
 
-// Puts the marks of the level above.
-fn inherit(_matrix: &Matrix, levels: &mut [Marked], depth: usize)
-    requires { AreLevels _matrix.now levels.old }
-    ensures { AreLevels _matrix.now levels.new }
-{
-    if depth < levels.len() && depth > 0 {
-        let (above, below) = levels.split_at_mut(depth);
-        below[0].marks.copy_from_slice(&above[depth - 1].marks);
-    }
-}
-
 impl Part {
     /// A part with nothing found before, for prefixes of at most so many choices.
     pub fn new(alloc: Global, matrix: &Matrix, choices: usize) -> Result<Part, NoMemory>
@@ -460,7 +422,6 @@ impl Part {
         Ok(Part {
             finder: Finder::new(alloc, matrix)?,
             past: empty_cuts(alloc, matrix, choices)?,
-            levels: new_levels(alloc, matrix, choices)?,
         })
     }
 
@@ -507,71 +468,32 @@ impl Part {
         Ok(u)
     }
 
-    // Changes the marked vector of this level until it suits the kinds, or finds a vector by which the
-    // system falls.
-    fn seek(
+    // Changes the marked vector until it suits the kinds, or finds multipliers that rule the system
+    // out.
+    fn decide(
         &mut self,
         alloc: Global,
         matrix: &Matrix,
         kinds: &[Kind],
-        depth: usize,
-    ) -> Result<Option<Cut>, Stop>
-        requires part { IsPart matrix.now self.old }
-        requires kinds { length kinds.now ≡ width matrix.now }
-        ensures part { OnOk result (IsPart matrix.now self.new) }
-        ensures answer { MatchResult result
-            (λ o. MatchOption o (Unit {0})
-            (λ cut. IsCutBy self.new.finder.solver.matrix self.new.finder.solver.basis
-            kinds.now cut.row cut.sign)) (λ s. IsTargetStop matrix.now kinds.now s) }
-    {
-        if depth < self.levels.len() {
-            return self
-                .finder
-                .seek(alloc, matrix, kinds, &mut self.levels[depth].marks);
-        }
-        Ok(None)
-    }
-
-    // Whether the marked vector of this level suits the kinds, so that the system has a solution.
-    fn is_met(&self, _matrix: &Matrix, kinds: &[Kind], depth: usize) -> bool
-        requires part { IsPart _matrix.now self.now }
-        requires kinds { length kinds.now ≡ width _matrix.now }
-        ensures { IsTrue result → (x : List ℤ) × IsSolution _matrix.now kinds.now x }
-    {
-        if depth < self.levels.len() {
-            return all_suit(kinds, &self.levels[depth].marks);
-        }
-        false
-    }
-
-    /// Multipliers that rule the system of these kinds out, or none if it has a solution.
-    ///
-    /// It begins with the signs of the vector that served one level above. Then it tries past
-    /// multipliers, changes that vector by past ones, and asks the solver for the rest.
-    pub fn ruled_out(
-        &mut self,
-        alloc: Global,
-        matrix: &Matrix,
-        kinds: &[Kind],
+        marks: &mut [Mark],
+        suits: &mut bool,
         depth: usize,
     ) -> Result<Option<Rc<Ints>>, Stop>
         requires part { IsPart matrix.now self.old }
         requires kinds { length kinds.now ≡ width matrix.now }
+        requires marks { AreRowMarks matrix.now marks.old }
+        requires open { suits.old ≡ false }
         ensures part { OnOk result (IsPart matrix.now self.new) }
+        ensures marks { OnOk result (AreRowMarks matrix.now marks.new) }
+        ensures suits { OnOk result (IsTrue suits.new → AreSuited kinds.now marks.new) }
         ensures answer { MatchResult result (λ u. IsRuling matrix.now kinds.now u)
             (λ s. IsTargetStop matrix.now kinds.now s) }
     {
-        inherit(matrix, &mut self.levels, depth);
-        if self.is_met(matrix, kinds, depth) {
-            return Ok(None);
-        }
-        if let Some(u) = self.past_cut(matrix, kinds, depth)? {
-            return Ok(Some(u));
-        }
-        if let Some(cut) = self.seek(alloc, matrix, kinds, depth)? {
+        if let Some(cut) = self.finder.seek(alloc, matrix, kinds, marks)? {
             return Ok(Some(self.learn_cut(alloc, matrix, kinds, &cut, depth)?));
         }
-        if self.is_met(matrix, kinds, depth) {
+        if is_met(matrix, kinds, marks) {
+            *suits = true;
             return Ok(None);
         }
         match self.finder.solver.feasibility(kinds)? {
@@ -580,6 +502,43 @@ impl Part {
                 Ok(Some(self.learn_cut(alloc, matrix, kinds, &cut, depth)?))
             }
         }
+    }
+
+    /// Multipliers that rule the system of a prefix of this length out, or none if it has a solution.
+    ///
+    /// If the marks of the vector that served one level above do not suit, it tries past multipliers,
+    /// changes that vector by past ones, and asks the solver for the rest.
+    pub fn ruled_out(
+        &mut self,
+        alloc: Global,
+        matrix: &Matrix,
+        place: &mut Place,
+        depth: usize,
+    ) -> Result<Option<Rc<Ints>>, Stop>
+        requires part { IsPart matrix.now self.old }
+        requires place { IsPlace matrix.now place.old }
+        ensures part { OnOk result (IsPart matrix.now self.new) }
+        ensures place { OnOk result (IsPlace matrix.now place.new) }
+        ensures kinds { OnOk result (place.new.kinds.items ≡ place.old.kinds.items) }
+        ensures answer { MatchResult result (λ u. IsRuling matrix.now place.old.kinds.items u)
+            (λ s. IsTargetStop matrix.now place.old.kinds.items s) }
+    {
+        if place.suits {
+            place.has_solution(matrix);
+            return Ok(None);
+        }
+        if let Some(u) = self.past_cut(matrix, &place.kinds, depth)? {
+            return Ok(Some(u));
+        }
+        let u = self.decide(
+            alloc,
+            matrix,
+            &place.kinds,
+            &mut place.marks,
+            &mut place.suits,
+            depth,
+        )?;
+        Ok(u)
     }
 
     /// A solution of the system of these kinds, which has one.

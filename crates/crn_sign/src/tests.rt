@@ -214,6 +214,31 @@ impl SignProblem for Exchange {
         into[3] = b;
     }
 
+    fn kind_a(&self, prefix: &[Sign], k: usize) -> Kind {
+        match k {
+            0 => column(&[Sign::Plus, Sign::Zero], prefix),
+            1 => column(&[Sign::Zero, Sign::Plus], prefix),
+            _ => Kind::Zero,
+        }
+    }
+
+    fn kind_b(&self, prefix: &[Sign], k: usize) -> Kind {
+        let (a, b) = rows(prefix);
+        match k {
+            2 => a,
+            3 => b,
+            _ => Kind::Free,
+        }
+    }
+
+    fn settled_a(&self, _choices: usize) -> &[usize] {
+        &[0, 1, 2, 3]
+    }
+
+    fn settled_b(&self, _choices: usize) -> &[usize] {
+        &[0, 1, 2, 3]
+    }
+
     fn closed(&self, prefix: &[Sign]) -> bool {
         prefix.len() == self.matrix.rows() && are_zeros(prefix)
     }

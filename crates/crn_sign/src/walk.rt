@@ -3,33 +3,40 @@ ghost use Rattle.crn_vec.specs.Systems.{IsSolution};
 ghost use Rattle.crn_vec.specs.Kept.{KeptInts};
 ghost use Rattle.crn_vec.specs.declared.limits.TheConstants.{MAX_BUDGET};
 ghost use Rattle.crn_vec.specs.Elementary.{NamesWide};
-ghost use Rattle.crn_vec.specs.Problems.{IsFull, IsFeasible, all_zero};
+ghost use Rattle.crn_vec.specs.Problems.{IsFull, IsFeasible, IsLawful, IsPrefix, all_zero};
+ghost use Rattle.crn_vec.specs.declared.signs.Sign.{Sign};
 ghost use Rattle.crn_sign.specs.Search.{IsSearchEnd, IsSearchStop};
 ghost use Rattle.crn_sign.specs.Inner.Walk.{EndsAt, EndsBelow, IsFoundAt, IsWideA, IsWideB};
 ghost use Rattle.crn_sign.specs.Inner.Parts.{IsRuling};
-ghost use Rattle.crn_sign.specs.Inner.Ready.{IsReady, SamePlace};
+ghost use Rattle.crn_sign.specs.Inner.Places.{IsHere};
+ghost use Rattle.crn_sign.specs.Inner.Ready.{AreRooms, HasRooms, IsLevel, IsReady, SamePlace};
 
 use crate::end::SearchEnd;
 use crate::fault::SearchStop;
 use crate::part::Part;
+use crate::place::{Place, begin_a, begin_b, enter_a, enter_b};
 use crate::problem::SignProblem;
 use crate::signs::Signs;
 use crn_cert::Tree;
 use crn_farkas::Stop;
-use crn_vec::{Ints, Kind, NoMemory, Sign};
+use crn_vec::{Ints, NoMemory, Sign};
 use std::alloc::Global;
 use std::rc::Rc;
 
-/// What a search works with: its two parts, the kinds of the prefix that is visited, that prefix,
-/// and the visits that are left.
+/// What a search works with: its two parts, the prefix that is visited, and the visits that are left.
 #[derive(Drop)]
 pub(crate) struct Progress {
     pub a: Part,
     pub b: Part,
-    pub kinds_a: Vec<Kind>,
-    pub kinds_b: Vec<Kind>,
     pub prefix: Vec<Sign>,
     pub left: u32,
+}
+
+/// What both parts know at a prefix.
+#[derive(Drop)]
+pub(crate) struct Level {
+    pub a: Place,
+    pub b: Place,
 }
 
 // The stop of part A's solver as the stop of the search.
@@ -69,24 +76,22 @@ fn rule_out_a<P: SignProblem>(
     alloc: Global,
     problem: &P,
     search: &mut Progress,
+    here: &mut Place,
 ) -> Result<Option<Rc<Ints>>, SearchStop>
-    requires { IsReady (P.signed problem.now) search.old }
+    requires ready { IsReady (P.signed problem.now) search.old }
+    requires here { IsHere (P.signed problem.now).matrix_a
+        ((P.signed problem.now).kinds_a search.old.prefix.items) here.old }
     ensures place { OnOk result (SamePlace search.old search.new) }
     ensures ready { OnOk result (IsReady (P.signed problem.now) search.new) }
-    ensures kinds { OnOk result (search.new.kinds_a.items
-        ≡ (P.signed problem.now).kinds_a search.old.prefix.items) }
-    ensures others { OnOk result (search.new.kinds_b.items ≡ search.old.kinds_b.items) }
+    ensures here { OnOk result (IsHere (P.signed problem.now).matrix_a
+        ((P.signed problem.now).kinds_a search.old.prefix.items) here.new) }
     ensures answer { MatchResult result
         (λ u. IsRuling (P.signed problem.now).matrix_a
         ((P.signed problem.now).kinds_a search.old.prefix.items) u)
         (λ s. IsSearchStop (P.signed problem.now) s) }
 {
-    problem.kinds_a(&search.prefix, &mut search.kinds_a);
     let depth = search.prefix.len();
-    match search
-        .a
-        .ruled_out(alloc, problem.matrix_a(), &search.kinds_a, depth)
-    {
+    match search.a.ruled_out(alloc, problem.matrix_a(), here, depth) {
         Ok(u) => Ok(u),
         Err(stop) => Err(wide_a(stop)),
     }
@@ -97,24 +102,22 @@ fn rule_out_b<P: SignProblem>(
     alloc: Global,
     problem: &P,
     search: &mut Progress,
+    here: &mut Place,
 ) -> Result<Option<Rc<Ints>>, SearchStop>
-    requires { IsReady (P.signed problem.now) search.old }
+    requires ready { IsReady (P.signed problem.now) search.old }
+    requires here { IsHere (P.signed problem.now).matrix_b
+        ((P.signed problem.now).kinds_b search.old.prefix.items) here.old }
     ensures place { OnOk result (SamePlace search.old search.new) }
     ensures ready { OnOk result (IsReady (P.signed problem.now) search.new) }
-    ensures kinds { OnOk result (search.new.kinds_b.items
-        ≡ (P.signed problem.now).kinds_b search.old.prefix.items) }
-    ensures others { OnOk result (search.new.kinds_a.items ≡ search.old.kinds_a.items) }
+    ensures here { OnOk result (IsHere (P.signed problem.now).matrix_b
+        ((P.signed problem.now).kinds_b search.old.prefix.items) here.new) }
     ensures answer { MatchResult result
         (λ u. IsRuling (P.signed problem.now).matrix_b
         ((P.signed problem.now).kinds_b search.old.prefix.items) u)
         (λ s. IsSearchStop (P.signed problem.now) s) }
 {
-    problem.kinds_b(&search.prefix, &mut search.kinds_b);
     let depth = search.prefix.len();
-    match search
-        .b
-        .ruled_out(alloc, problem.matrix_b(), &search.kinds_b, depth)
-    {
+    match search.b.ruled_out(alloc, problem.matrix_b(), here, depth) {
         Ok(u) => Ok(u),
         Err(stop) => Err(wide_b(stop)),
     }
@@ -125,14 +128,12 @@ fn found_end<P: SignProblem>(
     alloc: Global,
     problem: &P,
     search: &mut Progress,
+    here: &Level,
 ) -> Result<SearchEnd, SearchStop>
     requires ready { IsReady (P.signed problem.now) search.old }
+    requires here { IsLevel (P.signed problem.now) search.old.prefix.items here.now }
     requires full { IsFull (P.signed problem.now) search.old.prefix.items }
     requires feasible { IsFeasible (P.signed problem.now) search.old.prefix.items }
-    requires kinds_a { search.old.kinds_a.items
-        ≡ (P.signed problem.now).kinds_a search.old.prefix.items }
-    requires kinds_b { search.old.kinds_b.items
-        ≡ (P.signed problem.now).kinds_b search.old.prefix.items }
     ensures place { OnOk result (SamePlace search.old search.new) }
     ensures ready { OnOk result (IsReady (P.signed problem.now) search.new) }
     ensures answer { MatchResult result
@@ -140,16 +141,41 @@ fn found_end<P: SignProblem>(
         (λ s. IsSearchStop (P.signed problem.now) s) }
 {
     let pattern = Signs::from_slice(alloc, &search.prefix)?;
-    let a = match search.a.solution(problem.matrix_a(), &search.kinds_a) {
+    let a = match search.a.solution(problem.matrix_a(), &here.a.kinds) {
         Ok(a) => a,
         Err(stop) => return Err(wide_a(stop)),
     };
-    let b = match search.b.solution(problem.matrix_b(), &search.kinds_b) {
+    let b = match search.b.solution(problem.matrix_b(), &here.b.kinds) {
         Ok(b) => b,
         Err(stop) => return Err(wide_b(stop)),
     };
     Ok(SearchEnd::Found { pattern, a, b })
 }
+
+// What both parts know at a prefix, from what they know at the prefix with one choice less.
+fn enter<P: SignProblem>(problem: &P, prefix: &[Sign], above: &Level, here: &mut Level)
+    requires lawful { IsLawful (P.signed problem.now) }
+    requires prefix { IsPrefix (P.signed problem.now) prefix.now }
+    requires above { (p : List Sign) × (s : Sign) × (prefix.now ≡ p ++ s ∷ [])
+        × IsLevel (P.signed problem.now) p above.now }
+    requires room { HasRooms (P.signed problem.now) here.old }
+    ensures { IsLevel (P.signed problem.now) prefix.now here.new }
+{
+    enter_a(problem, prefix, &above.a, &mut here.a);
+    enter_b(problem, prefix, &above.b, &mut here.b);
+}
+
+// That a level is that of the prefix, for what is called after this.
+fn at_level<P: SignProblem>(_problem: &P, _search: &Progress, _here: &Level)
+    requires { IsLevel (P.signed _problem.now) _search.now.prefix.items _here.now }
+    ensures { IsLevel (P.signed _problem.now) _search.now.prefix.items _here.now }
+{}
+
+// What both parts know at a prefix leaves room for what they know at another.
+fn keeps_room<P: SignProblem>(_problem: &P, _prefix: &[Sign], _here: &Level)
+    requires { IsLevel (P.signed _problem.now) _prefix.now _here.now }
+    ensures { HasRooms (P.signed _problem.now) _here.now }
+{}
 
 // Visits the prefix with one more option, and all that is visited below it.
 #[cycle(walk)]
@@ -157,19 +183,29 @@ fn child<P: SignProblem>(
     alloc: Global,
     problem: &P,
     search: &mut Progress,
+    above: &Level,
+    levels: &mut [Level],
     option: Sign,
 ) -> Result<SearchEnd, SearchStop>
     requires ready { IsReady (P.signed problem.now) search.old }
     requires room { length search.old.prefix.items < (P.signed problem.now).choices }
+    requires above { IsLevel (P.signed problem.now) search.old.prefix.items above.now }
+    requires levels { AreRooms (P.signed problem.now) search.old.prefix.items levels.old }
     ensures prefix { OnOk result (search.new.prefix.items ≡ search.old.prefix.items) }
     ensures ready { OnOk result (IsReady (P.signed problem.now) search.new) }
+    ensures levels { OnOk result
+        (AreRooms (P.signed problem.now) search.old.prefix.items levels.new) }
     ensures answer { MatchResult result
         (λ e. EndsAt (P.signed problem.now) (search.old.prefix.items ++ option ∷ [])
         search.old.left search.new.left e)
         (λ s. IsSearchStop (P.signed problem.now) s) }
 {
     search.prefix.push_reserved(option);
-    let end = walk(alloc, problem, search)?;
+    let (first, rest) = levels.split_at_mut(1);
+    let here = &mut first[0];
+    enter(problem, &search.prefix, above, here);
+    let end = walk(alloc, problem, search, here, rest)?;
+    keeps_room(problem, &search.prefix, here);
     search.prefix.pop();
     Ok(end)
 }
@@ -180,22 +216,28 @@ fn split<P: SignProblem>(
     alloc: Global,
     problem: &P,
     search: &mut Progress,
+    here: &Level,
+    levels: &mut [Level],
 ) -> Result<SearchEnd, SearchStop>
     requires ready { IsReady (P.signed problem.now) search.old }
     requires room { length search.old.prefix.items < (P.signed problem.now).choices }
+    requires here { IsLevel (P.signed problem.now) search.old.prefix.items here.now }
+    requires levels { AreRooms (P.signed problem.now) search.old.prefix.items levels.old }
     ensures prefix { OnOk result (search.new.prefix.items ≡ search.old.prefix.items) }
     ensures ready { OnOk result (IsReady (P.signed problem.now) search.new) }
+    ensures levels { OnOk result
+        (AreRooms (P.signed problem.now) search.old.prefix.items levels.new) }
     ensures answer { MatchResult result
         (λ e. EndsBelow (P.signed problem.now) search.old.prefix.items
         search.old.left search.new.left e)
         (λ s. IsSearchStop (P.signed problem.now) s) }
 {
     let zeros = is_all_zero(&search.prefix);
-    let zero = match child(alloc, problem, search, Sign::Zero)? {
+    let zero = match child(alloc, problem, search, here, levels, Sign::Zero)? {
         SearchEnd::Refuted(tree) => tree,
         end => return Ok(end),
     };
-    let plus = match child(alloc, problem, search, Sign::Plus)? {
+    let plus = match child(alloc, problem, search, here, levels, Sign::Plus)? {
         SearchEnd::Refuted(tree) => tree,
         end => return Ok(end),
     };
@@ -203,7 +245,7 @@ fn split<P: SignProblem>(
         let tree = Tree::both(alloc, zero, plus)?;
         return Ok(SearchEnd::Refuted(tree));
     }
-    let minus = match child(alloc, problem, search, Sign::Minus)? {
+    let minus = match child(alloc, problem, search, here, levels, Sign::Minus)? {
         SearchEnd::Refuted(tree) => tree,
         end => return Ok(end),
     };
@@ -217,10 +259,18 @@ pub(crate) fn walk<P: SignProblem>(
     alloc: Global,
     problem: &P,
     search: &mut Progress,
+    here: &mut Level,
+    levels: &mut [Level],
 ) -> Result<SearchEnd, SearchStop>
-    requires { IsReady (P.signed problem.now) search.old }
+    requires ready { IsReady (P.signed problem.now) search.old }
+    requires here { IsLevel (P.signed problem.now) search.old.prefix.items here.old }
+    requires levels { AreRooms (P.signed problem.now) search.old.prefix.items levels.old }
     ensures prefix { OnOk result (search.new.prefix.items ≡ search.old.prefix.items) }
     ensures ready { OnOk result (IsReady (P.signed problem.now) search.new) }
+    ensures here { OnOk result
+        (IsLevel (P.signed problem.now) search.old.prefix.items here.new) }
+    ensures levels { OnOk result
+        (AreRooms (P.signed problem.now) search.old.prefix.items levels.new) }
     ensures answer { MatchResult result
         (λ e. EndsAt (P.signed problem.now) search.old.prefix.items
         search.old.left search.new.left e)
@@ -233,17 +283,18 @@ pub(crate) fn walk<P: SignProblem>(
     if problem.closed(&search.prefix) {
         return Ok(SearchEnd::Refuted(Tree::Flat));
     }
-    if let Some(u) = rule_out_b(alloc, problem, search)? {
+    if let Some(u) = rule_out_b(alloc, problem, search, &mut here.b)? {
         return Ok(SearchEnd::Refuted(Tree::CutB(u)));
     }
-    if let Some(u) = rule_out_a(alloc, problem, search)? {
+    if let Some(u) = rule_out_a(alloc, problem, search, &mut here.a)? {
         return Ok(SearchEnd::Refuted(Tree::CutA(u)));
     }
+    at_level(problem, search, here);
     if search.prefix.len() == problem.length() {
-        let end = found_end(alloc, problem, search)?;
+        let end = found_end(alloc, problem, search, here)?;
         return Ok(end);
     }
-    let end = split(alloc, problem, search)?;
+    let end = split(alloc, problem, search, here, levels)?;
     Ok(end)
 }
 
@@ -265,11 +316,42 @@ pub(crate) fn start<P: SignProblem>(
     Ok(Progress {
         a: Part::new(alloc, matrix_a, choices)?,
         b: Part::new(alloc, matrix_b, choices)?,
-        kinds_a: vec![in alloc; Kind::Free; matrix_a.cols() + matrix_a.rows()]?,
-        kinds_b: vec![in alloc; Kind::Free; matrix_b.cols() + matrix_b.rows()]?,
         prefix: Vec::with_capacity(alloc, choices)?,
         left: budget,
     })
+}
+
+// Room for what both parts know at a prefix.
+fn room<P: SignProblem>(alloc: Global, problem: &P) -> Result<Level, NoMemory>
+    ensures { IfOk result (λ made. HasRooms (P.signed problem.now) made) }
+{
+    Ok(Level {
+        a: Place::new(alloc, problem.matrix_a())?,
+        b: Place::new(alloc, problem.matrix_b())?,
+    })
+}
+
+// Room for what both parts know at prefixes with one choice, with two, and so on, to all.
+fn rooms<P: SignProblem>(alloc: Global, problem: &P) -> Result<Vec<Level>, NoMemory>
+    ensures { IfOk result (λ made. AreRooms (P.signed problem.now) [] made.items) }
+{
+    let choices = problem.length();
+    let mut levels = Vec::with_capacity(alloc, choices)?;
+    for _ in 0..choices {
+        levels.push(room(alloc, problem)?)?;
+    }
+    Ok(levels)
+}
+
+// What both parts know at the prefix with no choice.
+fn first_level<P: SignProblem>(alloc: Global, problem: &P) -> Result<Level, NoMemory>
+    ensures { IfOk result (λ made. IsLevel (P.signed problem.now) [] made) }
+{
+    let _ = problem.length();
+    let mut first = room(alloc, problem)?;
+    begin_a(problem, &mut first.a);
+    begin_b(problem, &mut first.b);
+    Ok(first)
 }
 
 /// Searches for a full feasible prefix, with at most so many visits.
@@ -288,6 +370,8 @@ pub fn search<P: SignProblem>(
         (λ s. IsSearchStop (P.signed problem.now) s) }
 {
     let mut search = start(alloc, problem, budget)?;
-    let end = walk(alloc, problem, &mut search)?;
+    let mut first = first_level(alloc, problem)?;
+    let mut levels = rooms(alloc, problem)?;
+    let end = walk(alloc, problem, &mut search, &mut first, &mut levels)?;
     Ok(end)
 }

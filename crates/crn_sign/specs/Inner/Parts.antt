@@ -3,7 +3,6 @@
 use Rattle.std.specs.Prelude.{◌≡◌, ℤ, List, Option, Some, None, length}
 use Rattle.std.specs.Global.{Global}
 use Rattle.std.specs.declared.rc.Rc.{Rc}
-use Rattle.std.specs.List.{AllByRecursion}
 use Rattle.crn_vec.specs.declared.signs.Kind.{Kind}
 use Rattle.crn_vec.specs.Kept.{KeptInts}
 use Rattle.crn_vec.specs.Vectors.{Mat}
@@ -12,8 +11,6 @@ use Rattle.crn_vec.specs.Systems.{IsSolution}
 use Rattle.crn_farkas.specs.Decision.{IsSmallCut}
 use Rattle.crn_sign.specs.declared.part.Part.{Part}
 use Rattle.crn_sign.specs.declared.part.Finder.{Finder}
-use Rattle.crn_sign.specs.declared.part.Marked.{Marked}
-use Rattle.crn_sign.specs.Inner.Marks.{AreRowMarks}
 use Rattle.crn_sign.specs.Inner.PastCuts.{ArePastCuts}
 use Rattle.crn_sign.specs.Inner.Pools.{IsPool}
 
@@ -25,15 +22,10 @@ pub record IsFinder (a : Mat) (f : Finder) : Type 0 where
   pub negatives : length f.negatives.items ≡ width a
   pub asked : length f.asked.items ≡ width a
 
--- each list has the marks of a vector (x, Ax)
-abbrev pub AreLevels : Mat → List Marked → Type 0
-AreLevels a levels = AllByRecursion (λ m. AreRowMarks a m.marks.items) levels
-
 -- what was found is of this matrix
 pub record IsPart (a : Mat) (p : Part) : Type 0 where
   pub finder : IsFinder a p.finder
   pub past : ArePastCuts a p.past.items
-  pub levels : AreLevels a p.levels.items
 
 -- multipliers that rule the system out, or none where it has a solution
 abbrev pub IsRuling : Mat → List Kind → Option (Rc KeptInts Global) → Type 0

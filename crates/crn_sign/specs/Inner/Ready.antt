@@ -1,20 +1,36 @@
 -- For the contracts of private functions alone.
 -- What a search works with, for a problem.
-use Rattle.std.specs.Prelude.{◌≡◌, ◌≤◌, length, vec_capacity}
-use Rattle.crn_vec.specs.Elementary.{width}
+use Rattle.std.specs.Prelude.{◌≡◌, ◌≤◌, ◌+◌, List, length, vec_capacity}
+use Rattle.std.specs.List.{AllByRecursion}
+use Rattle.crn_vec.specs.declared.signs.Sign.{Sign}
 use Rattle.crn_vec.specs.Problems.{Signed, IsPrefix, IsLawful}
 use Rattle.crn_sign.specs.declared.walk.Progress.{Progress}
+use Rattle.crn_sign.specs.declared.walk.Level.{Level}
 use Rattle.crn_sign.specs.Inner.Parts.{IsPart}
+use Rattle.crn_sign.specs.Inner.Places.{HasRoom, IsHere}
 
--- the parts have the problem's matrices, and the lists have room for each prefix and its kinds
+-- the parts have the problem's matrices, and the prefix has room for each choice
 pub record IsReady (w : Signed) (s : Progress) : Type 0 where
   pub lawful : IsLawful w
   pub part_a : IsPart w.matrix_a s.a
   pub part_b : IsPart w.matrix_b s.b
-  pub room_a : length s.kinds_a.items ≡ width w.matrix_a
-  pub room_b : length s.kinds_b.items ≡ width w.matrix_b
   pub prefix : IsPrefix w s.prefix.items
   pub room : w.choices ≤ vec_capacity s.prefix
+
+-- what both parts know at a prefix
+pub record IsLevel (w : Signed) (p : List Sign) (l : Level) : Type 0 where
+  pub a : IsHere w.matrix_a (w.kinds_a p) l.a
+  pub b : IsHere w.matrix_b (w.kinds_b p) l.b
+
+-- room for what both parts know
+pub record HasRooms (w : Signed) (l : Level) : Type 0 where
+  pub a : HasRoom w.matrix_a l.a
+  pub b : HasRoom w.matrix_b l.b
+
+-- room for what is known at prefixes with one choice more, with two, and so on, to all
+pub record AreRooms (w : Signed) (p : List Sign) (levels : List Level) : Type 0 where
+  pub count : length p + length levels ≡ w.choices
+  pub each : AllByRecursion (HasRooms w) levels
 
 -- the same prefix, and as many visits left
 pub record SamePlace (s t : Progress) : Type 0 where

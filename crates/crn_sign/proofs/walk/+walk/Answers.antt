@@ -4,6 +4,9 @@ use Rattle.crn_farkas.specs.Decision.{IsSmallCut}
 use Rattle.crn_sign.specs.Inner.Walk.{EndsAt, EndsBelow, IsFoundAt}
 use Rattle.crn_vec.specs.declared.signs.Sign.{Sign}
 use Rattle.crn_vec.specs.Problems.{Signed, all_zero}
+use Rattle.crn_sign.specs.Inner.Ready.{AreRooms, IsLevel}
+use Rattle.crn_sign.specs.declared.walk.Level.{Level}
+use Rattle.crn_sign.proofs.PlaceLaws.{level_at, level_moved}
 use Rattle.crn_sign.proofs.Walks.{run_out, feasible_from, flat_at, cut_a_at, cut_b_at, found_at, opened_at, child_tree, first_child, second_child, third_child, both_trees, three_trees, tree_as}
 use Rattle.crn_sign.proofs.walk.+walk.Goals as goal
 
@@ -31,6 +34,7 @@ pub split-returns-in_default : goal.split-returns-in_default
 split-returns-in_default g t c = record {
   prefix = c.in_ok-end.ensures.prefix;
   ready = c.in_ok-end.ensures.ready;
+  levels = c.in_ok-end.ensures.levels;
   answer = first_child (g.P.SignProblem.signed c.args.problem.now) c.args.search.now.prefix.items c.args.search.now.left c.child.new.search.left c.in_ok-end.end c.in_default.not-Refuted c.in_ok-end.ensures.answer;
 }
 
@@ -43,6 +47,7 @@ split-returns-in_default-2 g t c =
     record {
       prefix = c.in_ok-end-2.ensures.prefix ∙ c.in_ok-end.ensures.prefix;
       ready = c.in_ok-end-2.ensures.ready;
+      levels = subst (λ (q : List Sign). AreRooms w q c.child-2.new.levels) c.in_ok-end.ensures.prefix c.in_ok-end-2.ensures.levels;
       answer = second_child w p _ c.args.search.now.left c.child.new.search.left c.child-2.new.search.left c.in_ok-end-2.end z c.in_default-2.not-Refuted a;
     }
 
@@ -66,6 +71,7 @@ split-returns-in_default-3 g t c =
     record {
       prefix = c.in_ok-end-3.ensures.prefix ∙ c.in_ok-end-2.ensures.prefix ∙ c.in_ok-end.ensures.prefix;
       ready = c.in_ok-end-3.ensures.ready;
+      levels = subst (λ (q : List Sign). AreRooms w q c.child-3.new.levels) (c.in_ok-end-2.ensures.prefix ∙ c.in_ok-end.ensures.prefix) c.in_ok-end-3.ensures.levels;
       answer = third_child w p _ _ c.args.search.now.left c.child.new.search.left c.child-2.new.search.left c.child-3.new.search.left c.in_ok-end-3.end (ap all_zero (sym c.deref.ensures.value) ∙ sym c.is_all_zero-zeros.ensures ∙ c.if-zeros.false) z q c.in_default-3.not-Refuted b;
     }
 
@@ -98,3 +104,32 @@ walk-returns-clause-answer g t c =
     let long : length c.rule_out_a.new.search.prefix.items ≡ length p = ap (λ (q : List Sign). length q) same in
     let one : c.rule_out_a.new.search.left + 1 ≡ c.args.search.now.left = omega (arith, c.in_ok-u.ensures.place.left, c.in_ok-u-2.ensures.place.left) in
     opened_at w p c.args.search.now.left c.rule_out_a.new.search.left c.split.new.search.left c.in_ok-end-2.end one s (λ (f : length p ≡ w.choices). omega (arith, f, long, c.len.ensures, c.length.ensures.choices, c.if-len-length.false)) e
+
+pub walk-at_level-requires : goal.walk-at_level-requires
+walk-at_level-requires g t c =
+    let w : Signed = g.P.SignProblem.signed c.args.problem.now in
+    let p : List Sign = c.args.search.now.prefix.items in
+    let l : Level = record { a = c.rule_out_a.new.here; b = c.rule_out_b.new.here } in
+    level_moved w p c.rule_out_a.new.search.prefix.items l (c.in_ok-u-2.ensures.place.prefix ∙ c.in_ok-u.ensures.place.prefix)
+    (level_at w p c.rule_out_b.new.search.prefix.items l c.in_ok-u.ensures.place.prefix c.in_ok-u-2.ensures.here c.in_ok-u.ensures.here)
+
+pub walk-returns-in-Some-2-clause-here : goal.walk-returns-in-Some-2-clause-here
+walk-returns-in-Some-2-clause-here g t c =
+    let w : Signed = g.P.SignProblem.signed c.args.problem.now in
+    let p : List Sign = c.args.search.now.prefix.items in
+    let l : Level = record { a = c.rule_out_a.new.here; b = c.rule_out_b.new.here } in
+    level_at w p c.rule_out_b.new.search.prefix.items l c.in_ok-u.ensures.place.prefix c.in_ok-u-2.ensures.here c.in_ok-u.ensures.here
+
+pub walk-returns-then-len-length-clause-here : goal.walk-returns-then-len-length-clause-here
+walk-returns-then-len-length-clause-here g t c =
+    let w : Signed = g.P.SignProblem.signed c.args.problem.now in
+    let p : List Sign = c.args.search.now.prefix.items in
+    let l : Level = record { a = c.rule_out_a.new.here; b = c.rule_out_b.new.here } in
+    level_at w p c.rule_out_b.new.search.prefix.items l c.in_ok-u.ensures.place.prefix c.in_ok-u-2.ensures.here c.in_ok-u.ensures.here
+
+pub walk-returns-clause-here : goal.walk-returns-clause-here
+walk-returns-clause-here g t c =
+    let w : Signed = g.P.SignProblem.signed c.args.problem.now in
+    let p : List Sign = c.args.search.now.prefix.items in
+    let l : Level = record { a = c.rule_out_a.new.here; b = c.rule_out_b.new.here } in
+    level_at w p c.rule_out_b.new.search.prefix.items l c.in_ok-u.ensures.place.prefix c.in_ok-u-2.ensures.here c.in_ok-u.ensures.here

@@ -1,0 +1,20 @@
+use Rattle.std.proofs.Common.{ℕ, List, ◌+◌, drop, arith}
+use Rattle.crn_vec.specs.Problems.{Signed}
+use Rattle.crn_sign.proofs.PlaceLaws.{all_settled, first_of, none_left, settling_room}
+use Rattle.crn_sign.proofs.place.settle_a.Goals as goal
+
+pub settle_one_a-requires : goal.settle_one_a-requires
+settle_one_a-requires g c =
+    let w : Signed = g.P.SignProblem.signed c.args.problem.now in
+    record { prefix = c.requires.prefix; room = settling_room w.matrix_a (w.kinds_a c.args.prefix.now) _ _ c.loop-i.invariant.place }
+
+pub loop-i-preserved : goal.loop-i-preserved
+loop-i-preserved g c =
+    let w : Signed = g.P.SignProblem.signed c.args.problem.now in
+    record { place = c.settle_one_a.ensures (drop (c.loop-i.i + 1) c.args.settled.now) (first_of w.matrix_a (w.kinds_a c.args.prefix.now) c.args.settled.now c.loop-i.i c.loop-i.place c.loop-i-test.true c.loop-i.invariant.place) }
+
+pub returns : goal.returns
+returns g c =
+    let w : Signed = g.P.SignProblem.signed c.args.problem.now in
+    all_settled w.matrix_a (w.kinds_a c.args.prefix.now) c.loop-i.place (c.requires.lawful.long_a c.args.prefix.now c.requires.prefix)
+    (none_left w.matrix_a (w.kinds_a c.args.prefix.now) c.args.settled.now c.loop-i.i c.loop-i.place (omega (arith, c.loop-i-test.false)) c.loop-i.invariant.place)
