@@ -1,3 +1,4 @@
+mod BitLaws
 mod Exchange
 mod MarkLaws
 mod PastLaws

@@ -1,6 +1,7 @@
 pub mod Walk
 pub mod Ready
 pub mod RowSigns
+pub mod Bits
 pub mod Marks
 pub mod Pools
 pub mod Places

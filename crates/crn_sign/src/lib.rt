@@ -1,6 +1,7 @@
 //! The search of a sign problem: a full feasible prefix, or a tree that shows that none is feasible.
 #![tactic(auto)]
 
+mod bits;
 mod end;
 mod fault;
 mod marks;

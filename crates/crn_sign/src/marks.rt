@@ -1,11 +1,11 @@
-ghost use Rattle.std.specs.Prelude.{◌≡◌, ◌<◌, length, true, slice_index_or, IsTrue};
-ghost use Rattle.crn_vec.specs.Vectors.{HasSign};
+ghost use Rattle.std.specs.Prelude.{◌≡◌, ◌<◌, ◌*◌, ℕ, length, true, IsTrue};
+ghost use Rattle.std.specs.Int.{bit_at};
 ghost use Rattle.crn_vec.specs.Elementary.{width};
 ghost use Rattle.crn_sign.specs.Inner.RowSigns.{AreRowSigns};
-ghost use Rattle.crn_sign.specs.Inner.Marks.{AreJoined, AreLaid, AreOpposite, AreRowMarks, AreSuited, Suits, joined, laid};
-ghost use Rattle.crn_sign.specs.declared.marks.Mark.TheVariants.{Any};
-ghost use Rattle.crn_vec.specs.declared.signs.Sign.TheVariants.{Zero, Plus, Minus};
+ghost use Rattle.crn_sign.specs.Inner.Bits.{mark_at, mark_in, none, word_at, word_count};
+ghost use Rattle.crn_sign.specs.Inner.Marks.{AreAsked, AreMadeBy, AreMet, AreOpposite, AreRowMarks, Meets, Suits, joined, kind_mark, laid, negative, sign_mark, sign_there};
 
+use crate::bits::{Bits, NONE, mark_at, put_mark};
 use crn_vec::{Kind, Matrix, Sign};
 
 /// What is known of the sign of a number.
@@ -17,122 +17,199 @@ pub(crate) enum Mark {
     Any,
 }
 
-// The mark of the sum of a great multiple of a number of this sign and a number of this mark.
-fn laid(sign: Sign, mark: Mark) -> Mark
-    ensures { result ≡ laid sign mark }
+/// The number of words of 64 bits for the coordinates of a vector (x, Ax).
+pub(crate) fn word_count(matrix: &Matrix) -> usize
+    ensures { result ≡ word_count matrix.now }
 {
-    match sign {
-        Sign::Zero => mark,
-        Sign::Plus => Mark::Plus,
-        Sign::Minus => Mark::Minus,
+    (matrix.cols() + matrix.rows()) / 64 + 1
+}
+
+// The marks of the sum of a great multiple of numbers of the first marks and numbers of the second.
+fn laid(one: Bits, other: Bits) -> Bits
+    ensures { (i : ℕ) → mark_in result i ≡ laid (mark_in one i) (mark_in other i) }
+{
+    let some = one.plus | one.minus;
+    Bits {
+        plus: one.plus | ((other.plus | some) ^ some),
+        minus: one.minus | ((other.minus | some) ^ some),
     }
 }
 
-// The mark of a sum of multiples of a number of this sign and of a number of this mark.
-fn joined(sign: Sign, mark: Mark) -> Mark
-    ensures { result ≡ joined sign mark }
+// The marks of a sum of multiples of numbers of these marks.
+fn joined(one: Bits, other: Bits) -> Bits
+    ensures { (i : ℕ) → mark_in result i ≡ joined (mark_in one i) (mark_in other i) }
 {
-    match sign {
-        Sign::Zero => mark,
-        Sign::Plus => match mark {
-            Mark::Zero => Mark::Plus,
-            Mark::Plus => Mark::Plus,
-            _ => Mark::Any,
-        },
-        Sign::Minus => match mark {
-            Mark::Zero => Mark::Minus,
-            Mark::Minus => Mark::Minus,
-            _ => Mark::Any,
-        },
+    Bits {
+        plus: one.plus | other.plus,
+        minus: one.minus | other.minus,
     }
+}
+
+// The marks of the negatives.
+fn opposite(one: Bits) -> Bits
+    ensures { (i : ℕ) → mark_in result i ≡ negative (mark_in one i) }
+{
+    Bits {
+        plus: one.minus,
+        minus: one.plus,
+    }
+}
+
+/// The places of 64 at which a mark is not what is asked.
+pub(crate) fn misfits(asked: Bits, marks: Bits) -> u64
+    ensures { (i : ℕ) → bit_at result i ≡ 0 → Meets (mark_in asked i) (mark_in marks i) }
+{
+    let plus = ((asked.plus | asked.minus) ^ asked.minus) ^ marks.plus;
+    let minus = ((asked.plus | asked.minus) ^ asked.plus) ^ marks.minus;
+    (plus | minus) & (asked.plus | asked.minus)
 }
 
 /// Whether each number of this mark is of this kind.
 pub(crate) fn suits(kind: Kind, mark: Mark) -> bool
     ensures { IsTrue result → Suits kind mark }
 {
-    (kind == Kind::Free)
-        | ((kind == Kind::Zero) & (mark == Mark::Zero))
-        | ((kind == Kind::Pos) & (mark == Mark::Plus))
-        | ((kind == Kind::Neg) & (mark == Mark::Minus))
+    match kind {
+        Kind::Free => true,
+        Kind::Pos => mark == Mark::Plus,
+        Kind::Neg => mark == Mark::Minus,
+        Kind::Zero => mark == Mark::Zero,
+        Kind::NonNeg => false,
+    }
 }
 
-/// Whether each vector of these marks has these kinds.
-pub(crate) fn all_suit(kinds: &[Kind], marks: &[Mark]) -> bool
-    ensures { IsTrue result → AreSuited kinds.now marks.now }
+/// Whether each mark is what is asked.
+pub(crate) fn all_meet(asked: &[Bits], marks: &[Bits]) -> bool
+    ensures { IsTrue result → AreMet asked.now marks.now }
 {
-    if kinds.len() != marks.len() {
+    if asked.len() != marks.len() {
         return false;
     }
-    let mut all = true;
-    for k in 0..kinds.len() {
-        all = all & suits(kinds[k], marks[k]);
+    for w in 0..asked.len() {
+        if misfits(asked[w], marks[w]) != 0 {
+            return false;
+        }
     }
-    all
+    true
 }
 
 // Puts the marks that `laid` gives.
-fn put_laid(signs: &[Sign], marks: &mut [Mark])
-    requires { length signs.now ≡ length marks.old }
-    ensures { AreLaid signs.now marks.old marks.new }
+fn put_laid(one: &[Bits], marks: &mut [Bits])
+    requires { length one.now ≡ length marks.old }
+    ensures { AreMadeBy laid one.now marks.old marks.new }
 {
-    for k in 0..marks.len() {
-        marks[k] = laid(signs[k], marks[k]);
+    for w in 0..marks.len() {
+        marks[w] = laid(one[w], marks[w]);
     }
 }
 
 // Puts the marks that `joined` gives.
-fn put_joined(signs: &[Sign], marks: &mut [Mark])
-    requires { length signs.now ≡ length marks.old }
-    ensures { AreJoined signs.now marks.old marks.new }
+fn put_joined(one: &[Bits], marks: &mut [Bits])
+    requires { length one.now ≡ length marks.old }
+    ensures { AreMadeBy joined one.now marks.old marks.new }
 {
-    for k in 0..marks.len() {
-        marks[k] = joined(signs[k], marks[k]);
+    for w in 0..marks.len() {
+        marks[w] = joined(one[w], marks[w]);
+    }
+}
+
+/// Puts the marks of the negative.
+pub(crate) fn put_opposites(_matrix: &Matrix, one: &[Bits], into: &mut [Bits])
+    requires one { AreRowMarks _matrix.now one.now }
+    requires room { length into.old ≡ word_count _matrix.now }
+    ensures { AreRowMarks _matrix.now into.new }
+{
+    for w in 0..into.len() {
+        into[w] = opposite(one[w]);
     }
 }
 
 /// Puts the marks of the vector 0.
-pub(crate) fn put_zeros(_matrix: &Matrix, marks: &mut [Mark])
-    requires { length marks.old ≡ width _matrix.now }
+pub(crate) fn put_zeros(_matrix: &Matrix, marks: &mut [Bits])
+    requires { length marks.old ≡ word_count _matrix.now }
     ensures { AreRowMarks _matrix.now marks.new }
 {
-    for k in 0..marks.len() {
-        marks[k] = Mark::Zero;
+    for w in 0..marks.len() {
+        marks[w] = NONE;
     }
 }
 
-/// Adds a great multiple of a vector of these signs to the vector that is marked.
-pub(crate) fn lay(_matrix: &Matrix, signs: &[Sign], marks: &mut [Mark])
+/// The mark of a number of this sign.
+pub(crate) fn mark_of_sign(sign: Sign) -> Mark
+    ensures { result ≡ sign_mark sign }
+{
+    match sign {
+        Sign::Zero => Mark::Zero,
+        Sign::Plus => Mark::Plus,
+        Sign::Minus => Mark::Minus,
+    }
+}
+
+/// Puts the marks of numbers of these signs.
+pub(crate) fn put_signs(_matrix: &Matrix, signs: &[Sign], into: &mut [Bits])
     requires signs { AreRowSigns _matrix.now signs.now }
+    requires room { length into.old ≡ word_count _matrix.now }
+    ensures { AreRowMarks _matrix.now into.new }
+{
+    for k in 0..signs.len() {
+        put_mark(into, k, mark_of_sign(signs[k]));
+    }
+}
+
+/// What a kind asks.
+pub(crate) fn mark_of_kind(kind: Kind) -> Mark
+    ensures { result ≡ kind_mark kind }
+{
+    match kind {
+        Kind::Pos => Mark::Plus,
+        Kind::Neg => Mark::Minus,
+        Kind::Free => Mark::Zero,
+        Kind::Zero | Kind::NonNeg => Mark::Any,
+    }
+}
+
+/// Puts what the kinds ask.
+pub(crate) fn put_kinds(_matrix: &Matrix, kinds: &[Kind], into: &mut [Bits])
+    requires kinds { length kinds.now ≡ width _matrix.now }
+    requires room { length into.old ≡ word_count _matrix.now }
+    ensures { AreAsked _matrix.now kinds.now into.new }
+{
+    for k in 0..kinds.len() {
+        put_mark(into, k, mark_of_kind(kinds[k]));
+    }
+}
+
+/// Adds a great multiple of a vector of these marks to the vector that is marked.
+pub(crate) fn lay(_matrix: &Matrix, one: &[Bits], marks: &mut [Bits])
+    requires one { AreRowMarks _matrix.now one.now }
     requires marks { AreRowMarks _matrix.now marks.old }
     ensures { AreRowMarks _matrix.now marks.new }
 {
-    put_laid(signs, marks);
+    put_laid(one, marks);
 }
 
-// Whether a sign is the opposite of a mark.
-fn are_opposite(sign: Sign, mark: Mark) -> bool
-    ensures { IsTrue result → AreOpposite sign mark }
+// Whether numbers of these marks are one positive and the other negative.
+fn are_opposite(one: Mark, other: Mark) -> bool
+    ensures { IsTrue result → AreOpposite one other }
 {
-    match sign {
-        Sign::Zero => false,
-        Sign::Plus => mark == Mark::Minus,
-        Sign::Minus => mark == Mark::Plus,
+    match one {
+        Mark::Plus => other == Mark::Minus,
+        Mark::Minus => other == Mark::Plus,
+        _ => false,
     }
 }
 
-/// Adds a multiple of a vector of these signs to one of the vector that is marked, so that the sum
+/// Adds a multiple of a vector of these marks to one of the vector that is marked, so that the sum
 /// is 0 at g, if they have opposite signs there. The answer is whether they have.
-pub(crate) fn clear(_matrix: &Matrix, signs: &[Sign], marks: &mut [Mark], g: usize) -> bool
-    requires signs { AreRowSigns _matrix.now signs.now }
+pub(crate) fn clear(_matrix: &Matrix, one: &[Bits], marks: &mut [Bits], g: usize) -> bool
+    requires one { AreRowMarks _matrix.now one.now }
     requires marks { AreRowMarks _matrix.now marks.old }
     requires goal { g < width _matrix.now }
     ensures { AreRowMarks _matrix.now marks.new }
 {
-    if !are_opposite(signs[g], marks[g]) {
+    if !are_opposite(mark_at(one, g), mark_at(marks, g)) {
         return false;
     }
-    put_joined(signs, marks);
-    marks[g] = Mark::Zero;
+    put_joined(one, marks);
+    put_mark(marks, g, Mark::Zero);
     true
 }

@@ -1,4 +1,4 @@
-ghost use Rattle.std.specs.Prelude.{◌≡◌, ◌<◌, ◌≤◌, ℤ, List, length, true, false, IsTrue, IfOk, OnOk, MatchOption, MatchResult};
+ghost use Rattle.std.specs.Prelude.{◌≡◌, ◌<◌, ◌≤◌, ◌*◌, ℤ, List, length, true, false, IsTrue, IfOk, OnOk, MatchOption, MatchResult};
 ghost use Rattle.crn_vec.specs.Elementary.{width};
 ghost use Rattle.crn_vec.specs.Systems.{IsSolution, is_signed, kind_at, signed_count};
 ghost use Rattle.crn_vec.specs.declared.limits.TheConstants.{MAX_SIGNED};
@@ -6,31 +6,37 @@ ghost use Rattle.crn_farkas.specs.Decision.{IsSmallCut, IsSmallSolution};
 ghost use Rattle.crn_farkas.specs.Decision.{IsTargetStop};
 ghost use Rattle.crn_farkas.specs.Solver.{IsCutBy};
 ghost use Rattle.crn_sign.specs.Inner.RowSigns.{AreRowSigns};
-ghost use Rattle.crn_sign.specs.Inner.Marks.{AreRowMarks, AreSuited};
+ghost use Rattle.crn_sign.specs.Inner.Bits.{word_count};
+ghost use Rattle.crn_sign.specs.Inner.Marks.{AreAsked, AreRowMarks, AreSuited};
 ghost use Rattle.crn_sign.specs.Inner.Parts.{IsFinder, IsPart, IsRuling};
 ghost use Rattle.crn_sign.specs.Inner.Places.{IsPlace};
 
-use crate::marks::{Mark, clear, lay, put_zeros, suits};
+use crate::bits::{Bits, NONE, mark_at, push_places, put_mark};
+use crate::marks::{
+    Mark, clear, lay, misfits, put_opposites, put_signs, put_zeros, suits, word_count,
+};
 use crate::past::{Past, PastCuts, empty_cuts, first_again, keep_cut, share};
 use crate::place::{Place, is_met};
 use crate::pool::Pool;
 use crn_farkas::{Alternative, Cut, Decision, Feasibility, Solver, Stop};
-use crn_vec::{Ints, Kind, Matrix, NoMemory, Sign, cuts_exclude_solutions, is_asked, opposite};
+use crn_vec::{Ints, Kind, Matrix, NoMemory, Sign, cuts_exclude_solutions, is_asked};
 use std::alloc::Global;
 use std::rc::Rc;
 
 /// What finds vectors (x, Ax): a solver, and those that it gave before.
 ///
-/// The signs are the last that the solver wrote, and the negatives theirs. The misfits are coordinates
-/// whose marks did not suit their kinds, and the kinds those that are asked of a vector that changes
-/// these.
+/// The signs are the last that the solver wrote, the ray has them as marks, and the negative those of
+/// its negative. What is wanted are the kinds of the system. The misfits are coordinates whose marks
+/// did not suit their kinds, and asked is what is asked of a vector that changes these.
 #[derive(Drop)]
 pub(crate) struct Finder {
     pub solver: Solver,
     pub pool: Pool,
     pub signs: Vec<Sign>,
-    pub negatives: Vec<Sign>,
-    pub asked: Vec<Kind>,
+    pub ray: Vec<Bits>,
+    pub negative: Vec<Bits>,
+    pub wanted: Vec<Bits>,
+    pub asked: Vec<Bits>,
     pub misfits: Vec<usize>,
 }
 
@@ -50,28 +56,20 @@ fn sign_of_kind(kind: Kind) -> Sign {
     }
 }
 
-// Puts the signs of the negative.
-fn put_opposites(_matrix: &Matrix, signs: &[Sign], into: &mut [Sign])
-    requires signs { AreRowSigns _matrix.now signs.now }
-    requires room { length into.old ≡ length signs.now }
-    ensures { AreRowSigns _matrix.now into.new }
-{
-    for k in 0..into.len() {
-        into[k] = opposite(signs[k]);
-    }
-}
-
 impl Finder {
     fn new(alloc: Global, matrix: &Matrix) -> Result<Finder, NoMemory>
         ensures { IfOk result (λ made. IsFinder matrix.now made) }
     {
         let count = matrix.cols() + matrix.rows();
+        let words = word_count(matrix);
         Ok(Finder {
             solver: Solver::new(alloc, matrix)?,
             pool: Pool::new(alloc, matrix)?,
             signs: vec![in alloc; Sign::Zero; count]?,
-            negatives: vec![in alloc; Sign::Zero; count]?,
-            asked: vec![in alloc; Kind::Free; count]?,
+            ray: vec![in alloc; NONE; words]?,
+            negative: vec![in alloc; NONE; words]?,
+            wanted: vec![in alloc; NONE; words]?,
+            asked: vec![in alloc; NONE; words]?,
             misfits: Vec::new(alloc),
         })
     }
@@ -81,11 +79,12 @@ impl Finder {
         requires finder { IsFinder matrix.now self.old }
         requires signs { AreRowSigns matrix.now self.old.signs.items }
         ensures finder { OnOk result (IsFinder matrix.now self.new) }
-        ensures signs { OnOk result (self.new.signs ≡ self.old.signs) }
+        ensures ray { OnOk result (AreRowMarks matrix.now self.new.ray.items) }
     {
-        put_opposites(matrix, &self.signs, &mut self.negatives);
-        self.pool.keep(alloc, matrix, &self.signs)?;
-        self.pool.keep(alloc, matrix, &self.negatives)
+        put_signs(matrix, &self.signs, &mut self.ray);
+        put_opposites(matrix, &self.ray, &mut self.negative);
+        self.pool.keep(alloc, matrix, &self.ray)?;
+        self.pool.keep(alloc, matrix, &self.negative)
     }
 
     // Asks the solver for a vector that g needs, or for one by which the system has no solution.
@@ -102,7 +101,7 @@ impl Finder {
         requires asked { is_signed (kind_at kinds.now g) ≡ true }
         ensures finder { OnOk result (IsFinder matrix.now self.new) }
         ensures answer { MatchResult result
-            (λ o. MatchOption o (AreRowSigns matrix.now self.new.signs.items)
+            (λ o. MatchOption o (AreRowMarks matrix.now self.new.ray.items)
             (λ cut. IsCutBy self.new.solver.matrix self.new.solver.basis kinds.now cut.row
             cut.sign)) (λ s. IsTargetStop matrix.now kinds.now s) }
     {
@@ -123,7 +122,7 @@ impl Finder {
         alloc: Global,
         matrix: &Matrix,
         kinds: &[Kind],
-        marks: &mut [Mark],
+        marks: &mut [Bits],
         g: usize,
     ) -> Result<Option<Cut>, Stop>
         requires finder { IsFinder matrix.now self.old }
@@ -138,16 +137,19 @@ impl Finder {
             (λ cut. IsCutBy self.new.solver.matrix self.new.solver.basis kinds.now cut.row
             cut.sign)) (λ s. IsTargetStop matrix.now kinds.now s) }
     {
-        if let Some(number) = self.pool.find(matrix, kinds, g, sign_of_kind(kinds[g])) {
+        if let Some(number) = self
+            .pool
+            .find(matrix, &self.wanted, g, sign_of_kind(kinds[g]))
+        {
             if number < self.pool.rays.len() {
-                lay(matrix, &self.pool.rays[number].signs, marks);
+                lay(matrix, &self.pool.rays[number].marks, marks);
                 return Ok(None);
             }
         }
         if let Some(cut) = self.ask(alloc, matrix, kinds, g)? {
             return Ok(Some(cut));
         }
-        lay(matrix, &self.signs, marks);
+        lay(matrix, &self.ray, marks);
         Ok(None)
     }
 
@@ -157,7 +159,7 @@ impl Finder {
         alloc: Global,
         matrix: &Matrix,
         kinds: &[Kind],
-        marks: &mut [Mark],
+        marks: &mut [Bits],
         g: usize,
     ) -> Result<Option<Cut>, Stop>
         requires finder { IsFinder matrix.now self.old }
@@ -171,7 +173,7 @@ impl Finder {
             (λ cut. IsCutBy self.new.solver.matrix self.new.solver.basis kinds.now cut.row
             cut.sign)) (λ s. IsTargetStop matrix.now kinds.now s) }
     {
-        if suits(kinds[g], marks[g]) {
+        if suits(kinds[g], mark_at(marks, g)) {
             return Ok(None);
         }
         if !is_asked(kinds[g]) {
@@ -186,7 +188,7 @@ impl Finder {
         alloc: Global,
         matrix: &Matrix,
         kinds: &[Kind],
-        marks: &mut [Mark],
+        marks: &mut [Bits],
     ) -> Result<Option<Cut>, Stop>
         requires finder { IsFinder matrix.now self.old }
         requires kinds { length kinds.now ≡ width matrix.now }
@@ -211,35 +213,9 @@ impl Finder {
         Ok(None)
     }
 
-    // Sees to the signs of all coordinates, or finds a vector by which the system has no solution.
-    fn raise_all(
-        &mut self,
-        alloc: Global,
-        matrix: &Matrix,
-        kinds: &[Kind],
-        marks: &mut [Mark],
-    ) -> Result<Option<Cut>, Stop>
-        requires finder { IsFinder matrix.now self.old }
-        requires kinds { length kinds.now ≡ width matrix.now }
-        requires marks { AreRowMarks matrix.now marks.old }
-        ensures finder { OnOk result (IsFinder matrix.now self.new) }
-        ensures marks { OnOk result (AreRowMarks matrix.now marks.new) }
-        ensures answer { MatchResult result
-            (λ o. MatchOption o (Unit {0})
-            (λ cut. IsCutBy self.new.solver.matrix self.new.solver.basis kinds.now cut.row
-            cut.sign)) (λ s. IsTargetStop matrix.now kinds.now s) }
-    {
-        for g in 0..kinds.len() {
-            if let Some(cut) = self.raise_at(alloc, matrix, kinds, marks, g)? {
-                return Ok(Some(cut));
-            }
-        }
-        Ok(None)
-    }
-
     // Makes the marked vector 0 at g by a kept vector of this sign there. The answer is whether one is
     // kept.
-    fn clear_by(&mut self, matrix: &Matrix, marks: &mut [Mark], g: usize, sign: Sign) -> bool
+    fn clear_by(&mut self, matrix: &Matrix, marks: &mut [Bits], g: usize, sign: Sign) -> bool
         requires finder { IsFinder matrix.now self.old }
         requires marks { AreRowMarks matrix.now marks.old }
         requires goal { g < width matrix.now }
@@ -248,14 +224,14 @@ impl Finder {
     {
         if let Some(number) = self.pool.find(matrix, &self.asked, g, sign) {
             if number < self.pool.rays.len() {
-                return clear(matrix, &self.pool.rays[number].signs, marks, g);
+                return clear(matrix, &self.pool.rays[number].marks, marks, g);
             }
         }
         false
     }
 
     // Gives the marked vector this sign at g by a kept vector. The answer is whether one is kept.
-    fn lay_by(&mut self, matrix: &Matrix, marks: &mut [Mark], g: usize, sign: Sign) -> bool
+    fn lay_by(&mut self, matrix: &Matrix, marks: &mut [Bits], g: usize, sign: Sign) -> bool
         requires finder { IsFinder matrix.now self.old }
         requires marks { AreRowMarks matrix.now marks.old }
         requires goal { g < width matrix.now }
@@ -264,7 +240,7 @@ impl Finder {
     {
         if let Some(number) = self.pool.find(matrix, &self.asked, g, sign) {
             if number < self.pool.rays.len() {
-                lay(matrix, &self.pool.rays[number].signs, marks);
+                lay(matrix, &self.pool.rays[number].marks, marks);
                 return true;
             }
         }
@@ -272,14 +248,14 @@ impl Finder {
     }
 
     // Makes the marked vector 0 at g, if kept vectors can. The answer is whether they do.
-    fn clear_at(&mut self, matrix: &Matrix, marks: &mut [Mark], g: usize) -> bool
+    fn clear_at(&mut self, matrix: &Matrix, marks: &mut [Bits], g: usize) -> bool
         requires finder { IsFinder matrix.now self.old }
         requires marks { AreRowMarks matrix.now marks.old }
         requires goal { g < width matrix.now }
         ensures finder { IsFinder matrix.now self.new }
         ensures marks { AreRowMarks matrix.now marks.new }
     {
-        match marks[g] {
+        match mark_at(marks, g) {
             Mark::Zero => true,
             Mark::Plus => self.clear_by(matrix, marks, g, Sign::Minus),
             Mark::Minus => self.clear_by(matrix, marks, g, Sign::Plus),
@@ -292,34 +268,35 @@ impl Finder {
         }
     }
 
-    // Lists the coordinates whose marks do not suit their kinds. The answer is whether one of them has
-    // to be 0.
+    // Lists the coordinates whose marks do not suit what is asked, which it keeps, and frees these. The
+    // answer is whether one of them has to be 0.
     fn list_misfits(
         &mut self,
-        _matrix: &Matrix,
-        kinds: &[Kind],
-        marks: &[Mark],
+        matrix: &Matrix,
+        bits: &[Bits],
+        marks: &[Bits],
     ) -> Result<bool, NoMemory>
-        requires finder { IsFinder _matrix.now self.old }
-        ensures finder { OnOk result (IsFinder _matrix.now self.new) }
-    {
-        self.misfits.clear();
-        put_misfits(&mut self.misfits, kinds, marks)
-    }
-
-    // Frees the misfits.
-    fn loosen(&mut self, matrix: &Matrix, kinds: &[Kind])
         requires finder { IsFinder matrix.now self.old }
-        requires kinds { length kinds.now ≡ width matrix.now }
-        ensures finder { IsFinder matrix.now self.new }
+        requires bits { length bits.now ≡ word_count matrix.now }
+        requires marks { AreRowMarks matrix.now marks.now }
+        ensures finder { OnOk result (IsFinder matrix.now self.new) }
     {
-        self.asked.copy_from_slice(kinds);
-        free_at(&mut self.asked, &self.misfits);
+        let _ = matrix.rows();
+        self.misfits.clear();
+        let mut zeros = 0;
+        for w in 0..bits.len() {
+            let wrong = misfits(bits[w], marks[w]);
+            self.wanted[w] = bits[w];
+            self.asked[w] = without(bits[w], wrong);
+            zeros = zeros | (wrong & bits[w].plus & bits[w].minus);
+            push_places(&mut self.misfits, 64 * w, wrong)?;
+        }
+        Ok(zeros != 0)
     }
 
     // Makes the marked vector 0 at the misfits that have to be, if kept vectors can. The answer is
     // whether they do.
-    fn clear_misfits(&mut self, matrix: &Matrix, kinds: &[Kind], marks: &mut [Mark]) -> bool
+    fn clear_misfits(&mut self, matrix: &Matrix, kinds: &[Kind], marks: &mut [Bits]) -> bool
         requires finder { IsFinder matrix.now self.old }
         requires kinds { length kinds.now ≡ width matrix.now }
         requires marks { AreRowMarks matrix.now marks.old }
@@ -333,7 +310,7 @@ impl Finder {
                     if !self.clear_at(matrix, marks, g) {
                         return false;
                     }
-                    self.asked[g] = Kind::Zero;
+                    ask_zero(&mut self.asked, g);
                 }
             }
         }
@@ -346,10 +323,12 @@ impl Finder {
         alloc: Global,
         matrix: &Matrix,
         kinds: &[Kind],
-        marks: &mut [Mark],
+        bits: &[Bits],
+        marks: &mut [Bits],
     ) -> Result<Option<Cut>, Stop>
         requires finder { IsFinder matrix.now self.old }
         requires kinds { length kinds.now ≡ width matrix.now }
+        requires bits { length bits.now ≡ word_count matrix.now }
         requires marks { AreRowMarks matrix.now marks.old }
         ensures finder { OnOk result (IsFinder matrix.now self.new) }
         ensures marks { OnOk result (AreRowMarks matrix.now marks.new) }
@@ -358,59 +337,32 @@ impl Finder {
             (λ cut. IsCutBy self.new.solver.matrix self.new.solver.basis kinds.now cut.row
             cut.sign)) (λ s. IsTargetStop matrix.now kinds.now s) }
     {
-        if self.list_misfits(matrix, kinds, marks)? {
-            self.loosen(matrix, kinds);
+        if self.list_misfits(matrix, bits, marks)? {
             if !self.clear_misfits(matrix, kinds, marks) {
                 put_zeros(matrix, marks);
                 if let Some(cut) = self.raise_misfits(alloc, matrix, kinds, marks)? {
                     return Ok(Some(cut));
                 }
-                return self.raise_all(alloc, matrix, kinds, marks);
+                let _ = self.list_misfits(matrix, bits, marks)?;
             }
         }
         self.raise_misfits(alloc, matrix, kinds, marks)
     }
 }
 
-// Whether a mark does not suit a kind other than free.
-fn is_misfit(kind: Kind, mark: Mark) -> bool {
-    match kind {
-        Kind::Zero => mark != Mark::Zero,
-        Kind::Neg => mark != Mark::Minus,
-        _ => mark != Mark::Plus,
-    }
-}
-
-// Lists the coordinates whose marks do not suit their kinds. The answer is whether one of them has to
-// be 0.
-fn put_misfits(misfits: &mut Vec<usize>, kinds: &[Kind], marks: &[Mark]) -> Result<bool, NoMemory> {
-    let mut zeros = false;
-    if kinds.len() != marks.len() {
-        return Ok(false);
-    }
-    for k in 0..kinds.len() {
-        let kind = kinds[k];
-        if kind != Kind::Free {
-            if is_misfit(kind, marks[k]) {
-                misfits.push(k)?;
-                if kind == Kind::Zero {
-                    zeros = true;
-                }
-            }
-        }
-    }
-    Ok(zeros)
-}
-
-// Frees these coordinates.
-fn free_at(asked: &mut [Kind], places: &[usize])
+// Asks for 0 at a coordinate.
+fn ask_zero(asked: &mut [Bits], g: usize)
+    requires { g < length asked.old * 64 }
     ensures { length asked.new ≡ length asked.old }
 {
-    for i in 0..places.len() {
-        let k = places[i];
-        if k < asked.len() {
-            asked[k] = Kind::Free;
-        }
+    put_mark(asked, g, Mark::Any);
+}
+
+// What is asked without these coordinates.
+fn without(bits: Bits, places: u64) -> Bits {
+    Bits {
+        plus: bits.plus & !places,
+        minus: bits.minus & !places,
     }
 }
 
@@ -431,6 +383,7 @@ impl Part {
         &mut self,
         matrix: &Matrix,
         kinds: &[Kind],
+        asked: &[Bits],
         depth: usize,
     ) -> Result<Option<Rc<Ints>>, NoMemory>
         requires part { IsPart matrix.now self.old }
@@ -440,7 +393,7 @@ impl Part {
             (λ u. IsSmallCut matrix.now kinds.now u.value.list)) }
     {
         if depth < self.past.len() {
-            return first_again(matrix, kinds, &mut self.past[depth]);
+            return first_again(matrix, kinds, asked, &mut self.past[depth]);
         }
         Ok(None)
     }
@@ -464,7 +417,7 @@ impl Part {
         let u = self.finder.solver.multipliers(kinds, cut)?;
         let past = Past::new(alloc, matrix, kinds, u)?;
         let u = share(&past.multipliers)?;
-        keep_cut(&mut self.past, matrix, past, depth)?;
+        keep_cut(alloc, &mut self.past, matrix, past, depth)?;
         Ok(u)
     }
 
@@ -475,12 +428,13 @@ impl Part {
         alloc: Global,
         matrix: &Matrix,
         kinds: &[Kind],
-        marks: &mut [Mark],
+        asked: &[Bits],
+        marks: &mut [Bits],
         suits: &mut bool,
         depth: usize,
     ) -> Result<Option<Rc<Ints>>, Stop>
         requires part { IsPart matrix.now self.old }
-        requires kinds { length kinds.now ≡ width matrix.now }
+        requires asked { AreAsked matrix.now kinds.now asked.now }
         requires marks { AreRowMarks matrix.now marks.old }
         requires open { suits.old ≡ false }
         ensures part { OnOk result (IsPart matrix.now self.new) }
@@ -489,10 +443,10 @@ impl Part {
         ensures answer { MatchResult result (λ u. IsRuling matrix.now kinds.now u)
             (λ s. IsTargetStop matrix.now kinds.now s) }
     {
-        if let Some(cut) = self.finder.seek(alloc, matrix, kinds, marks)? {
+        if let Some(cut) = self.finder.seek(alloc, matrix, kinds, asked, marks)? {
             return Ok(Some(self.learn_cut(alloc, matrix, kinds, &cut, depth)?));
         }
-        if is_met(matrix, kinds, marks) {
+        if is_met(matrix, kinds, asked, marks) {
             *suits = true;
             return Ok(None);
         }
@@ -527,13 +481,14 @@ impl Part {
             place.has_solution(matrix);
             return Ok(None);
         }
-        if let Some(u) = self.past_cut(matrix, &place.kinds, depth)? {
+        if let Some(u) = self.past_cut(matrix, &place.kinds, &place.asked, depth)? {
             return Ok(Some(u));
         }
         let u = self.decide(
             alloc,
             matrix,
             &place.kinds,
+            &place.asked,
             &mut place.marks,
             &mut place.suits,
             depth,

@@ -7,6 +7,8 @@ ghost use Rattle.crn_farkas.specs.Decision.{IsSmallCut, factor};
 ghost use Rattle.crn_sign.specs.Inner.Past.{AllWeigh, AreInside, IsPast, SignsBefore, SomeCounts};
 ghost use Rattle.crn_sign.specs.Inner.PastCuts.{AreAllPast, ArePastCuts, IsPastOf};
 
+use crate::bits::{Bits, NONE, put_mark};
+use crate::marks::{mark_of_sign, word_count};
 use crn_vec::{Ints, Kind, Matrix, NoMemory, Sign, dot, sign_of};
 use std::alloc::Global;
 use std::rc::Rc;
@@ -20,13 +22,12 @@ pub(crate) struct Past {
     pub places: Vec<(usize, Sign)>,
 }
 
-/// The number of multipliers, and the places that refused them and their negatives last. It decides
-/// only what is tried, and in which order.
-#[derive(Clone, Copy)]
+/// The number of multipliers, and the signs of their list by bits. It decides only what is tried, and
+/// in which order.
+#[derive(Drop)]
 pub(crate) struct Trial {
     pub number: usize,
-    pub refused: usize,
-    pub refused_negative: usize,
+    pub bits: Vec<Bits>,
 }
 
 /// What ruled systems of prefixes of one length out.
@@ -267,35 +268,52 @@ impl Past {
     }
 }
 
-// Whether a number of this sign, or its negative, may not be weighed at a place.
-fn is_refused(kinds: &[Kind], places: &[(usize, Sign)], i: usize, stays: bool) -> bool {
-    if i < places.len() {
-        let p = &places[i];
-        if p.0 < kinds.len() {
-            return !may_weigh(kinds[p.0], sign_of_multiple(p.1, stays));
+// Whether numbers of these signs may not be weighed where this is asked.
+fn is_refused(asked: Bits, plus: u64, minus: u64) -> bool {
+    ((plus & !asked.plus) | (minus & !asked.minus)) != 0
+}
+
+// Whether some place has to be positive or negative.
+fn some_count(asked: &[Bits], bits: &[Bits]) -> bool {
+    if asked.len() != bits.len() {
+        return false;
+    }
+    for w in 0..asked.len() {
+        if (bits[w].plus | bits[w].minus) & (asked[w].plus ^ asked[w].minus) != 0 {
+            return true;
         }
     }
     false
 }
 
-// The index of the first place where the multipliers, or their negatives, may not be weighed.
-fn first_refused(kinds: &[Kind], places: &[(usize, Sign)], stays: bool) -> usize {
-    for i in 0..places.len() {
-        if is_refused(kinds, places, i, stays) {
-            return i;
+// Whether the multipliers, or their negatives, may be weighed at all places.
+fn are_near(asked: &[Bits], bits: &[Bits]) -> (bool, bool) {
+    let mut near = true;
+    let mut negatives_near = true;
+    if asked.len() != bits.len() {
+        return (false, false);
+    }
+    for w in 0..asked.len() {
+        let one = bits[w];
+        near = near & !is_refused(asked[w], one.plus, one.minus);
+        negatives_near = negatives_near & !is_refused(asked[w], one.minus, one.plus);
+        if !(near | negatives_near) {
+            return (false, false);
         }
     }
-    places.len()
+    (near, negatives_near)
 }
 
-// Whether the multipliers, or their negatives, may be weighed at all places. The place that refused
-// them last is asked first.
-fn is_near(kinds: &[Kind], places: &[(usize, Sign)], refused: &mut usize, stays: bool) -> bool {
-    if is_refused(kinds, places, *refused, stays) {
-        return false;
+// The marks of the signs of a list.
+fn bits_of(alloc: Global, places: &[(usize, Sign)], count: usize) -> Result<Vec<Bits>, NoMemory> {
+    let mut bits = vec![in alloc; NONE; count]?;
+    for i in 0..places.len() {
+        let p = &places[i];
+        if p.0 / 64 < bits.len() {
+            put_mark(&mut bits, p.0, mark_of_sign(p.1));
+        }
     }
-    *refused = first_refused(kinds, places, stays);
-    *refused == places.len()
+    Ok(bits)
 }
 
 /// Lists for prefixes with no choice, with one, and so on, to all of them.
@@ -322,58 +340,33 @@ pub(crate) fn empty_cuts(
 
 /// Keeps what ruled a system of a prefix of this length out.
 pub(crate) fn keep_cut(
+    alloc: Global,
     past: &mut [PastCuts],
-    _matrix: &Matrix,
+    matrix: &Matrix,
     cut: Past,
     depth: usize,
 ) -> Result<(), NoMemory>
-    requires past { ArePastCuts _matrix.now past.old }
-    requires cut { IsPastOf _matrix.now cut }
-    ensures { OnOk result (ArePastCuts _matrix.now past.new) }
+    requires past { ArePastCuts matrix.now past.old }
+    requires cut { IsPastOf matrix.now cut }
+    ensures { OnOk result (ArePastCuts matrix.now past.new) }
 {
     if depth < past.len() {
         let number = past[depth].items.len();
-        past[depth].trials.push(Trial {
-            number,
-            refused: 0,
-            refused_negative: 0,
-        })?;
+        let bits = bits_of(alloc, &cut.places, word_count(matrix))?;
+        past[depth].trials.push(Trial { number, bits })?;
         past[depth].items.push(cut)?;
     }
     Ok(())
 }
 
-// Whether some place has to be positive or negative.
-fn some_count(kinds: &[Kind], places: &[(usize, Sign)]) -> bool {
-    for i in 0..places.len() {
-        let p = &places[i];
-        if p.0 < kinds.len() {
-            if counts(kinds[p.0], p.1) {
-                return true;
-            }
-        }
-    }
-    false
-}
-
-// Which of the multipliers may rule the system of these kinds out, and whether they stay as they are.
-fn first_near(kinds: &[Kind], past: &[Past], trials: &mut [Trial]) -> Option<(usize, bool)> {
+// Which of the multipliers may rule a system out, and whether they stay as they are.
+fn first_near(asked: &[Bits], trials: &mut [Trial]) -> Option<(usize, bool)> {
     for i in 0..trials.len() {
-        let number = trials[i].number;
-        if number < past.len() {
-            let places = &past[number].places;
-            if is_near(kinds, places, &mut trials[i].refused, true) {
-                if some_count(kinds, places) {
-                    trials.swap(i / 2, i);
-                    return Some((number, true));
-                }
-            }
-            if is_near(kinds, places, &mut trials[i].refused_negative, false) {
-                if some_count(kinds, places) {
-                    trials.swap(i / 2, i);
-                    return Some((number, false));
-                }
-            }
+        let (near, negatives_near) = are_near(asked, &trials[i].bits);
+        if (near | negatives_near) && some_count(asked, &trials[i].bits) {
+            let number = trials[i].number;
+            trials.swap(i / 2, i);
+            return Some((number, near));
         }
     }
     None
@@ -383,6 +376,7 @@ fn first_near(kinds: &[Kind], past: &[Past], trials: &mut [Trial]) -> Option<(us
 pub(crate) fn first_again(
     matrix: &Matrix,
     kinds: &[Kind],
+    asked: &[Bits],
     past: &mut PastCuts,
 ) -> Result<Option<Rc<Ints>>, NoMemory>
     requires past { AreAllPast matrix.now past.old.items.items }
@@ -391,7 +385,7 @@ pub(crate) fn first_again(
     ensures cut { IfOk result (λ o. MatchOption o (Unit {0})
         (λ u. IsSmallCut matrix.now kinds.now u.value.list)) }
 {
-    if let Some((number, stays)) = first_near(kinds, &past.items, &mut past.trials) {
+    if let Some((number, stays)) = first_near(asked, &mut past.trials) {
         if number < past.items.len() {
             return past.items[number].again(matrix, kinds, stays);
         }

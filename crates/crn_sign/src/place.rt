@@ -1,21 +1,24 @@
-ghost use Rattle.std.specs.Prelude.{◌≡◌, ◌<◌, ℕ, ℤ, List, [], ◌∷◌, length, slice_set, IfOk, IsTrue};
+ghost use Rattle.std.specs.Prelude.{◌≡◌, ◌<◌, ◌*◌, ℕ, ℤ, List, [], ◌∷◌, length, slice_set, IfOk, IsTrue};
 ghost use Rattle.crn_vec.specs.Problems.{IsPrefix, IsLawful};
 ghost use Rattle.crn_vec.specs.Systems.{IsSolution, kind_at};
 ghost use Rattle.crn_vec.specs.Elementary.{width};
-ghost use Rattle.crn_sign.specs.Inner.Marks.{AreRowMarks, AreSuited, Suits, mark_at};
+ghost use Rattle.crn_sign.specs.Inner.Bits.{IsMarked, mark_at, word_count};
+ghost use Rattle.crn_sign.specs.Inner.Marks.{AreAsked, AreRowMarks, AreSuited, Suits, kind_mark};
 ghost use Rattle.crn_sign.specs.Inner.Places.{HasRoom, IsHere, IsNext, IsPlace, IsSettling};
 
-use crate::marks::{Mark, all_suit, put_zeros, suits};
+use crate::bits::{Bits, NONE, mark_at, put_mark};
+use crate::marks::{all_meet, mark_of_kind, put_kinds, put_zeros, suits, word_count};
 use crate::problem::SignProblem;
 use crn_vec::{Kind, Matrix, NoMemory, Sign};
 use std::alloc::Global;
 
-/// What a part knows at a prefix: the kinds that it asks, the marks of a vector (x, Ax), and whether
-/// these are known to suit the kinds.
+/// What a part knows at a prefix: the kinds that it asks, the same by bits, the marks of a vector
+/// (x, Ax), and whether these are known to suit the kinds.
 #[derive(Drop)]
 pub(crate) struct Place {
     pub kinds: Vec<Kind>,
-    pub marks: Vec<Mark>,
+    pub asked: Vec<Bits>,
+    pub marks: Vec<Bits>,
     pub suits: bool,
 }
 
@@ -27,7 +30,8 @@ impl Place {
         let count = matrix.cols() + matrix.rows();
         Ok(Place {
             kinds: vec![in alloc; Kind::Free; count]?,
-            marks: vec![in alloc; Mark::Zero; count]?,
+            asked: vec![in alloc; NONE; word_count(matrix)]?,
+            marks: vec![in alloc; NONE; word_count(matrix)]?,
             suits: false,
         })
     }
@@ -44,10 +48,12 @@ impl Place {
         requires room { HasRoom _matrix.now self.old }
         requires above { HasRoom _matrix.now above.now }
         ensures kinds { self.new.kinds.items ≡ above.now.kinds.items }
+        ensures asked { self.new.asked.items ≡ above.now.asked.items }
         ensures marks { self.new.marks.items ≡ above.now.marks.items }
         ensures suits { self.new.suits ≡ above.now.suits }
     {
         self.kinds.copy_from_slice(&above.kinds);
+        self.asked.copy_from_slice(&above.asked);
         self.marks.copy_from_slice(&above.marks);
         self.suits = above.suits;
     }
@@ -55,14 +61,17 @@ impl Place {
     // Puts the kind of a coordinate.
     fn put(&mut self, k: usize, kind: Kind)
         requires inside { k < length self.old.kinds.items }
-        requires marks { length self.old.marks.items ≡ length self.old.kinds.items }
+        requires asked { k < length self.old.asked.items * 64 }
+        requires marks { k < length self.old.marks.items * 64 }
         ensures kinds { self.new.kinds.items ≡ slice_set self.old.kinds.items k kind }
+        ensures asked { IsMarked self.old.asked.items k (kind_mark kind) self.new.asked.items }
         ensures marks { self.new.marks.items ≡ self.old.marks.items }
         ensures suits { IsTrue self.new.suits
             → IsTrue self.old.suits × Suits kind (mark_at self.old.marks.items k) }
     {
         self.kinds[k] = kind;
-        if suits(kind, self.marks[k]) {
+        put_mark(&mut self.asked, k, mark_of_kind(kind));
+        if suits(kind, mark_at(&self.marks, k)) {
             return;
         }
         self.suits = false;
@@ -70,13 +79,13 @@ impl Place {
 }
 
 /// Whether the marks suit the kinds, so that the system has a solution.
-pub(crate) fn is_met(_matrix: &Matrix, kinds: &[Kind], marks: &[Mark]) -> bool
-    requires kinds { length kinds.now ≡ width _matrix.now }
+pub(crate) fn is_met(_matrix: &Matrix, _kinds: &[Kind], asked: &[Bits], marks: &[Bits]) -> bool
+    requires asked { AreAsked _matrix.now _kinds.now asked.now }
     requires marks { AreRowMarks _matrix.now marks.now }
-    ensures suits { IsTrue result → AreSuited kinds.now marks.now }
-    ensures solved { IsTrue result → (x : List ℤ) × IsSolution _matrix.now kinds.now x }
+    ensures suits { IsTrue result → AreSuited _kinds.now marks.now }
+    ensures solved { IsTrue result → (x : List ℤ) × IsSolution _matrix.now _kinds.now x }
 {
-    all_suit(kinds, marks)
+    all_meet(asked, marks)
 }
 
 // Puts the kind of a coordinate of part A that the last choice settles.
@@ -174,6 +183,7 @@ pub(crate) fn begin_a<P: SignProblem>(problem: &P, here: &mut Place)
     ensures { IsHere (P.signed problem.now).matrix_a ((P.signed problem.now).kinds_a []) here.new }
 {
     problem.kinds_a(&[], &mut here.kinds);
+    put_kinds(problem.matrix_a(), &here.kinds, &mut here.asked);
     put_zeros(problem.matrix_a(), &mut here.marks);
     here.suits = false;
 }
@@ -185,6 +195,7 @@ pub(crate) fn begin_b<P: SignProblem>(problem: &P, here: &mut Place)
     ensures { IsHere (P.signed problem.now).matrix_b ((P.signed problem.now).kinds_b []) here.new }
 {
     problem.kinds_b(&[], &mut here.kinds);
+    put_kinds(problem.matrix_b(), &here.kinds, &mut here.asked);
     put_zeros(problem.matrix_b(), &mut here.marks);
     here.suits = false;
 }

@@ -1,9 +1,10 @@
 ghost use Rattle.std.specs.Prelude.{◌≡◌, length, IfOk, OnOk};
 ghost use Rattle.std.specs.List.{AllByRecursion};
-ghost use Rattle.crn_sign.specs.Inner.RowSigns.{AreRowSigns};
+ghost use Rattle.crn_sign.specs.Inner.Marks.{AreRowMarks};
 ghost use Rattle.crn_sign.specs.Inner.Pools.{IsPool};
 
-use crn_vec::{Kind, Matrix, NoMemory, Sign};
+use crate::bits::{Bits, push_places};
+use crn_vec::{Matrix, NoMemory, Sign};
 use std::alloc::Global;
 
 /// The most vectors that a pool keeps.
@@ -12,20 +13,21 @@ const MAX_KEPT: usize = 8192;
 /// The most vectors that a pool keeps for one sign of a coordinate.
 const MAX_SERVERS: usize = 512;
 
-// No part has so many coordinates.
-const MAX_PLACES: usize = 65_536;
+// No vector has so many words.
+const MAX_WORDS: usize = 1024;
 
-/// The signs of a vector (x, Ax).
+/// The marks of a vector (x, Ax).
 #[derive(Drop)]
 pub(crate) struct Ray {
-    pub signs: Vec<Sign>,
+    pub marks: Vec<Bits>,
 }
 
-/// The number of a vector, and the coordinate that refused it last.
+/// The number of a vector, and the word of its marks that refused it last.
 #[derive(Clone, Copy)]
 pub(crate) struct Server {
     pub number: u32,
-    pub refused: u32,
+    pub word: u32,
+    pub bits: Bits,
 }
 
 /// The vectors that are positive at a coordinate, and those that are negative there.
@@ -41,78 +43,77 @@ pub(crate) struct Servers {
 pub(crate) struct Pool {
     pub rays: Vec<Ray>,
     pub servers: Vec<Servers>,
+    pub places: Vec<usize>,
     pub oldest: usize,
 }
 
-// Whether a number of this sign may be taken at a coordinate of this kind.
-fn takes(kind: Kind, sign: Sign) -> bool {
-    (sign == Sign::Zero)
-        | (kind == Kind::Free)
-        | ((kind == Kind::Pos) & (sign == Sign::Plus))
-        | ((kind == Kind::Neg) & (sign == Sign::Minus))
+// Whether numbers of these signs may not be taken where this is asked.
+fn is_refused(asked: Bits, bits: Bits) -> bool {
+    ((bits.plus & asked.minus) | (bits.minus & asked.plus)) != 0
 }
 
-// Whether numbers of these signs may be taken everywhere.
-fn all_take(kinds: &[Kind], signs: &[Sign]) -> bool {
-    if kinds.len() != signs.len() {
-        return false;
+// The first word at which the vector may not be taken, or the number of words.
+fn first_refused(asked: &[Bits], marks: &[Bits]) -> usize {
+    if asked.len() != marks.len() {
+        return 0;
     }
-    let mut all = true;
-    for k in 0..kinds.len() {
-        all = all & takes(kinds[k], signs[k]);
-    }
-    all
-}
-
-// Whether a number of the sign at a coordinate may not be taken there.
-fn is_refused(kinds: &[Kind], signs: &[Sign], k: usize) -> bool {
-    if k < kinds.len() && k < signs.len() {
-        return !takes(kinds[k], signs[k]);
-    }
-    false
-}
-
-// The first coordinate at which the vector may not be taken.
-fn first_refused(kinds: &[Kind], signs: &[Sign]) -> usize {
-    for k in 0..kinds.len() {
-        if is_refused(kinds, signs, k) {
-            return k;
+    for w in 0..asked.len() {
+        if is_refused(asked[w], marks[w]) {
+            return w;
         }
     }
-    0
+    asked.len()
 }
 
-// Whether the vector has this sign at a coordinate, and may be taken everywhere.
-fn serves(kinds: &[Kind], signs: &[Sign], server: &mut Server, g: usize, sign: Sign) -> bool {
-    if is_refused(kinds, signs, server.refused as usize) {
+// Whether the vector may be taken everywhere.
+fn serves(asked: &[Bits], marks: &[Bits], server: &mut Server) -> bool {
+    let word = first_refused(asked, marks);
+    if word < marks.len() {
+        if word < MAX_WORDS {
+            server.word = word as u32;
+            server.bits = marks[word];
+        }
         return false;
     }
-    if g >= signs.len() || signs[g] != sign {
-        return false;
-    }
-    if all_take(kinds, signs) {
-        return true;
-    }
-    let refused = first_refused(kinds, signs);
-    if refused < MAX_PLACES {
-        server.refused = refused as u32;
+    true
+}
+
+// Whether the word that refused a vector last may not be taken.
+fn is_refused_again(asked: &[Bits], server: &Server) -> bool {
+    let word = server.word as usize;
+    word < asked.len() && is_refused(asked[word], server.bits)
+}
+
+// Whether a vector has this sign at a coordinate.
+fn has_sign(marks: &[Bits], g: usize, sign: Sign) -> bool {
+    let w = g / 64;
+    if w < marks.len() {
+        let bits = match sign {
+            Sign::Plus => marks[w].plus,
+            _ => marks[w].minus,
+        };
+        return (bits >> (g % 64)) & 1 == 1;
     }
     false
 }
 
-// The place in a list of the first vector that serves, or the length of the list.
+// The place in a list of the first vector that serves, or the length of the list. The place of an
+// older vector may have gone to another one, which has not this sign at g.
 fn first_serving(
-    kinds: &[Kind],
+    asked: &[Bits],
     rays: &[Ray],
     servers: &mut [Server],
     g: usize,
     sign: Sign,
 ) -> usize {
     for i in 0..servers.len() {
-        let number = servers[i].number as usize;
-        if number < rays.len() {
-            if serves(kinds, &rays[number].signs, &mut servers[i], g, sign) {
-                return i;
+        if !is_refused_again(asked, &servers[i]) {
+            let number = servers[i].number as usize;
+            if number < rays.len() {
+                let marks = &rays[number].marks;
+                if serves(asked, marks, &mut servers[i]) && has_sign(marks, g, sign) {
+                    return i;
+                }
             }
         }
     }
@@ -142,29 +143,59 @@ fn empty_lists(alloc: Global, count: usize) -> Result<Vec<Servers>, NoMemory> {
 }
 
 // Enters a vector in a list, in the place of its last member if the list is full.
-fn enter_one(servers: &mut Vec<Server>, number: usize) -> Result<(), NoMemory> {
-    if number >= MAX_KEPT {
-        return Ok(());
-    }
+fn enter_one(servers: &mut Vec<Server>, server: Server) -> Result<(), NoMemory> {
     if servers.len() >= MAX_SERVERS {
         servers.pop();
     }
-    servers.push(Server {
-        number: number as u32,
-        refused: 0,
-    })?;
+    servers.push(server)?;
     Ok(())
 }
 
-// Enters a vector's number in the list of each of its coordinates.
-fn enter(servers: &mut [Servers], signs: &[Sign], number: usize) -> Result<(), NoMemory> {
-    for k in 0..signs.len() {
+// Enters a vector in the lists of those that are positive at these coordinates.
+fn enter_plus(servers: &mut [Servers], places: &[usize], server: Server) -> Result<(), NoMemory> {
+    for i in 0..places.len() {
+        let k = places[i];
         if k < servers.len() {
-            match signs[k] {
-                Sign::Zero => {}
-                Sign::Plus => enter_one(&mut servers[k].plus, number)?,
-                Sign::Minus => enter_one(&mut servers[k].minus, number)?,
-            }
+            enter_one(&mut servers[k].plus, server)?;
+        }
+    }
+    Ok(())
+}
+
+// Enters a vector in the lists of those that are negative at these coordinates.
+fn enter_minus(servers: &mut [Servers], places: &[usize], server: Server) -> Result<(), NoMemory> {
+    for i in 0..places.len() {
+        let k = places[i];
+        if k < servers.len() {
+            enter_one(&mut servers[k].minus, server)?;
+        }
+    }
+    Ok(())
+}
+
+// Enters a vector in the list of each of its coordinates.
+fn enter(
+    servers: &mut [Servers],
+    places: &mut Vec<usize>,
+    marks: &[Bits],
+    number: usize,
+) -> Result<(), NoMemory> {
+    if number >= MAX_KEPT {
+        return Ok(());
+    }
+    for w in 0..marks.len() {
+        if w < MAX_WORDS {
+            let server = Server {
+                number: number as u32,
+                word: w as u32,
+                bits: marks[w],
+            };
+            places.clear();
+            push_places(places, 64 * w, marks[w].plus)?;
+            enter_plus(servers, places, server)?;
+            places.clear();
+            push_places(places, 64 * w, marks[w].minus)?;
+            enter_minus(servers, places, server)?;
         }
     }
     Ok(())
@@ -178,12 +209,13 @@ impl Pool {
         Ok(Pool {
             rays: Vec::new(alloc),
             servers: empty_lists(alloc, matrix.cols() + matrix.rows())?,
+            places: Vec::new(alloc),
             oldest: 0,
         })
     }
 
     /// The number of a vector that may be taken everywhere, and has this sign at g.
-    pub fn find(&mut self, _matrix: &Matrix, kinds: &[Kind], g: usize, sign: Sign) -> Option<usize>
+    pub fn find(&mut self, _matrix: &Matrix, asked: &[Bits], g: usize, sign: Sign) -> Option<usize>
         requires pool { IsPool _matrix.now self.old }
         ensures pool { IsPool _matrix.now self.new }
     {
@@ -194,29 +226,29 @@ impl Pool {
             Sign::Plus => &mut self.servers[g].plus,
             _ => &mut self.servers[g].minus,
         };
-        let i = first_serving(kinds, &self.rays, list, g, sign);
+        let i = first_serving(asked, &self.rays, list, g, sign);
         bring_forward(list, i)
     }
 
-    /// Keeps the signs of a vector, in the place of the oldest if there is no more room.
-    pub fn keep(&mut self, alloc: Global, _matrix: &Matrix, signs: &[Sign]) -> Result<(), NoMemory>
+    /// Keeps the marks of a vector, if there is room.
+    pub fn keep(&mut self, alloc: Global, _matrix: &Matrix, marks: &[Bits]) -> Result<(), NoMemory>
         requires pool { IsPool _matrix.now self.old }
-        requires signs { AreRowSigns _matrix.now signs.now }
+        requires marks { AreRowMarks _matrix.now marks.now }
         ensures { OnOk result (IsPool _matrix.now self.new) }
     {
         let ray = Ray {
-            signs: Vec::from_slice(alloc, signs)?,
+            marks: Vec::from_slice(alloc, marks)?,
         };
         if self.rays.len() < MAX_KEPT {
             let number = self.rays.len();
             self.rays.push(ray)?;
-            return enter(&mut self.servers, signs, number);
+            return enter(&mut self.servers, &mut self.places, marks, number);
         }
         let number = self.oldest;
         if number < self.rays.len() {
             self.rays[number] = ray;
             self.oldest = if number + 1 < MAX_KEPT { number + 1 } else { 0 };
-            return enter(&mut self.servers, signs, number);
+            return enter(&mut self.servers, &mut self.places, marks, number);
         }
         self.oldest = 0;
         Ok(())

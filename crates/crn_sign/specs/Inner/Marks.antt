@@ -1,15 +1,19 @@
 -- For the contracts of private functions alone.
 -- Marks: what is known of the signs of a vector (x, Ax), coordinate by coordinate.
--- Shapes: `signs`, `marks` and `kinds` have a member for each coordinate.
-use Rattle.std.specs.Prelude.{◌≡◌, ◌<◌, ◌≤ℤ◌, ℕ, ℤ, pos, negsuc, List, length, slice_index_or}
+-- Shapes: `marks` and `asked` have the words of a width, and `kinds` and `signs` a member for each
+-- coordinate.
+use Rattle.std.specs.Prelude.{◌≡◌, ◌<◌, ◌*◌, ◌≤ℤ◌, ℕ, ℤ, pos, negsuc, List, length, slice_index_or}
 use Rattle.crn_vec.specs.declared.signs.Sign.{Sign}
 use Rattle.crn_vec.specs.declared.signs.Sign.TheVariants.{Zero as ZeroSign, Plus as PlusSign, Minus as MinusSign}
 use Rattle.crn_vec.specs.declared.signs.Kind.{Kind}
+use Rattle.crn_vec.specs.declared.signs.Kind.TheVariants.{Pos, Neg, NonNeg, Zero as ZeroKind, Free}
 use Rattle.crn_vec.specs.Vectors.{Mat, entry}
 use Rattle.crn_vec.specs.Elementary.{width, InRowSpace}
 use Rattle.crn_vec.specs.Systems.{HasKind, kind_at}
+use Rattle.crn_sign.specs.declared.bits.Bits.{Bits}
 use Rattle.crn_sign.specs.declared.marks.Mark.{Mark}
 use Rattle.crn_sign.specs.declared.marks.Mark.TheVariants.{Zero, Plus, Minus, Any}
+use Rattle.crn_sign.specs.Inner.Bits.{mark_at, word_count}
 
 -- a number has a mark
 abbrev pub HasMark : Mark → ℤ → Type 0
@@ -18,65 +22,101 @@ HasMark Plus x = pos 1 ≤ℤ x
 HasMark Minus x = x ≤ℤ negsuc 0
 HasMark Any x = Unit {0}
 
--- the mark of coordinate k
-abbrev pub mark_at : List Mark → ℕ → Mark
-mark_at marks k = slice_index_or marks k Zero
-
 -- the sign of coordinate k
 abbrev pub sign_there : List Sign → ℕ → Sign
 sign_there signs k = slice_index_or signs k ZeroSign
 
 -- the marks of a vector (x, Ax)
-pub record AreRowMarks (a : Mat) (marks : List Mark) : Type 0 where
+pub record AreRowMarks (a : Mat) (marks : List Bits) : Type 0 where
   pub y : List ℤ
   pub space : InRowSpace a y
-  pub long : length marks ≡ width a
+  pub long : length marks ≡ word_count a
   pub are : (k : ℕ) → k < width a → HasMark (mark_at marks k) (entry y k)
 
--- the mark of the sum of a great multiple of a number of this sign and a number of this mark
-abbrev pub laid : Sign → Mark → Mark
-laid ZeroSign mark = mark
-laid PlusSign mark = Plus
-laid MinusSign mark = Minus
+-- the mark of the sum of a great multiple of a number of the first mark and a number of the other
+abbrev pub laid : Mark → Mark → Mark
+laid Zero mark = mark
+laid Plus mark = Plus
+laid Minus mark = Minus
+laid Any mark = Any
 
--- the mark of the sum of positive multiples of a number of this sign and of a number of this mark
-abbrev pub joined : Sign → Mark → Mark
-joined ZeroSign mark = mark
-joined PlusSign Zero = Plus
-joined PlusSign Plus = Plus
-joined PlusSign Minus = Any
-joined PlusSign Any = Any
-joined MinusSign Zero = Minus
-joined MinusSign Plus = Any
-joined MinusSign Minus = Minus
-joined MinusSign Any = Any
+-- the mark of the sum of positive multiples of numbers of these marks
+abbrev pub joined : Mark → Mark → Mark
+joined Zero mark = mark
+joined Plus Zero = Plus
+joined Plus Plus = Plus
+joined Plus Minus = Any
+joined Plus Any = Any
+joined Minus Zero = Minus
+joined Minus Plus = Any
+joined Minus Minus = Minus
+joined Minus Any = Any
+joined Any mark = Any
 
--- each mark is laid over with the sign of its coordinate
-pub record AreLaid (signs : List Sign) (old new : List Mark) : Type 0 where
+-- the mark of the negative
+abbrev pub negative : Mark → Mark
+negative Zero = Zero
+negative Plus = Minus
+negative Minus = Plus
+negative Any = Any
+
+-- the mark of a number of a sign
+abbrev pub sign_mark : Sign → Mark
+sign_mark ZeroSign = Zero
+sign_mark PlusSign = Plus
+sign_mark MinusSign = Minus
+
+-- what a kind asks: nothing, a sign, or 0
+abbrev pub kind_mark : Kind → Mark
+kind_mark Pos = Plus
+kind_mark Neg = Minus
+kind_mark NonNeg = Any
+kind_mark ZeroKind = Any
+kind_mark Free = Zero
+
+-- each mark is made of those of two lists at its coordinate
+pub record AreMadeBy (f : Mark → Mark → Mark) (one old new : List Bits) : Type 0 where
   pub count : length new ≡ length old
-  pub each : (k : ℕ) → k < length old → mark_at new k ≡ laid (sign_there signs k) (mark_at old k)
-
--- each mark is joined with the sign of its coordinate
-pub record AreJoined (signs : List Sign) (old new : List Mark) : Type 0 where
-  pub count : length new ≡ length old
-  pub each : (k : ℕ) → k < length old → mark_at new k ≡ joined (sign_there signs k) (mark_at old k)
+  pub each : (k : ℕ) → k < length old * 64 → mark_at new k ≡ f (mark_at one k) (mark_at old k)
 
 -- one is plus and the other minus
-abbrev pub AreOpposite : Sign → Mark → Type 0
-AreOpposite ZeroSign mark = ⊥
-AreOpposite PlusSign Zero = ⊥
-AreOpposite PlusSign Plus = ⊥
-AreOpposite PlusSign Minus = Unit {0}
-AreOpposite PlusSign Any = ⊥
-AreOpposite MinusSign Zero = ⊥
-AreOpposite MinusSign Plus = Unit {0}
-AreOpposite MinusSign Minus = ⊥
-AreOpposite MinusSign Any = ⊥
+abbrev pub AreOpposite : Mark → Mark → Type 0
+AreOpposite Zero mark = ⊥
+AreOpposite Plus Zero = ⊥
+AreOpposite Plus Plus = ⊥
+AreOpposite Plus Minus = Unit {0}
+AreOpposite Plus Any = ⊥
+AreOpposite Minus Zero = ⊥
+AreOpposite Minus Plus = Unit {0}
+AreOpposite Minus Minus = ⊥
+AreOpposite Minus Any = ⊥
+AreOpposite Any mark = ⊥
+
+-- a mark is what is asked: 0 if both signs are asked, and any if none is
+abbrev pub Meets : Mark → Mark → Type 0
+Meets Zero mark = Unit {0}
+Meets Plus mark = mark ≡ Plus
+Meets Minus mark = mark ≡ Minus
+Meets Any mark = mark ≡ Zero
+
+-- each mark is what is asked at its coordinate
+abbrev pub AreMet : List Bits → List Bits → Type 0
+AreMet asked marks = (k : ℕ) → k < length asked * 64 → Meets (mark_at asked k) (mark_at marks k)
+
+-- what is asked is what the kinds ask
+abbrev pub AreMarksOf : List Kind → List Bits → Type 0
+AreMarksOf kinds asked = (k : ℕ) → k < length kinds → mark_at asked k ≡ kind_mark (kind_at kinds k)
+
+-- what is asked of the coordinates of a matrix is what the kinds ask
+pub record AreAsked (a : Mat) (kinds : List Kind) (asked : List Bits) : Type 0 where
+  pub long : length kinds ≡ width a
+  pub count : length asked ≡ word_count a
+  pub each : AreMarksOf kinds asked
 
 -- each number of this mark is of this kind
 abbrev pub Suits : Kind → Mark → Type 0
 Suits kind mark = (x : ℤ) → HasMark mark x → HasKind kind x
 
 -- each number of a mark is of the kind of its coordinate
-abbrev pub AreSuited : List Kind → List Mark → Type 0
+abbrev pub AreSuited : List Kind → List Bits → Type 0
 AreSuited kinds marks = (k : ℕ) → k < length kinds → Suits (kind_at kinds k) (mark_at marks k)

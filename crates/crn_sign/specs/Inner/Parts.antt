@@ -11,6 +11,7 @@ use Rattle.crn_vec.specs.Systems.{IsSolution}
 use Rattle.crn_farkas.specs.Decision.{IsSmallCut}
 use Rattle.crn_sign.specs.declared.part.Part.{Part}
 use Rattle.crn_sign.specs.declared.part.Finder.{Finder}
+use Rattle.crn_sign.specs.Inner.Bits.{word_count}
 use Rattle.crn_sign.specs.Inner.PastCuts.{ArePastCuts}
 use Rattle.crn_sign.specs.Inner.Pools.{IsPool}
 
@@ -19,8 +20,10 @@ pub record IsFinder (a : Mat) (f : Finder) : Type 0 where
   pub matrix : f.solver.matrix ≡ a
   pub pool : IsPool a f.pool
   pub signs : length f.signs.items ≡ width a
-  pub negatives : length f.negatives.items ≡ width a
-  pub asked : length f.asked.items ≡ width a
+  pub ray : length f.ray.items ≡ word_count a
+  pub negative : length f.negative.items ≡ word_count a
+  pub wanted : length f.wanted.items ≡ word_count a
+  pub asked : length f.asked.items ≡ word_count a
 
 -- what was found is of this matrix
 pub record IsPart (a : Mat) (p : Part) : Type 0 where

@@ -9,16 +9,19 @@ use Rattle.crn_vec.specs.Lists.{IsIn}
 use Rattle.crn_vec.specs.Elementary.{width}
 use Rattle.crn_vec.specs.Systems.{kind_at}
 use Rattle.crn_sign.specs.declared.place.Place.{Place}
-use Rattle.crn_sign.specs.Inner.Marks.{AreRowMarks, AreSuited, Suits, mark_at}
+use Rattle.crn_sign.specs.Inner.Bits.{mark_at, word_count}
+use Rattle.crn_sign.specs.Inner.Marks.{AreAsked, AreRowMarks, AreSuited, Suits}
 
 -- the lists have room for the coordinates
 pub record HasRoom (a : Mat) (l : Place) : Type 0 where
   pub kinds : length l.kinds.items ≡ width a
-  pub marks : length l.marks.items ≡ width a
+  pub asked : length l.asked.items ≡ word_count a
+  pub marks : length l.marks.items ≡ word_count a
 
--- the marks are of a vector (x, Ax), and suit the kinds if they are said to
+-- what is asked is what the kinds ask, and the marks are of a vector (x, Ax), and suit the kinds if they are said to
 pub record IsPlace (a : Mat) (l : Place) : Type 0 where
   pub long : length l.kinds.items ≡ width a
+  pub asked : AreAsked a l.kinds.items l.asked.items
   pub marks : AreRowMarks a l.marks.items
   pub suits : IsTrue l.suits → AreSuited l.kinds.items l.marks.items
 
@@ -38,6 +41,7 @@ pub record IsNext (a : Mat) (kinds : List Sign → List Kind) (prefix : List Sig
 -- what is known before the kinds at some coordinates are put
 pub record IsSettling (a : Mat) (kinds : List Kind) (settled : List ℕ) (l : Place) : Type 0 where
   pub long : length l.kinds.items ≡ width a
+  pub asked : AreAsked a l.kinds.items l.asked.items
   pub marks : AreRowMarks a l.marks.items
   pub same : (k : ℕ) → k < width a → (IsIn k settled → ⊥)
       → kind_at l.kinds.items k ≡ kind_at kinds k

@@ -1,6 +1,12 @@
-use Rattle.std.proofs.Common.{refl}
+use Rattle.std.proofs.Common.{refl, subst}
+use Rattle.crn_sign.specs.declared.marks.Mark.{Mark}
+use Rattle.crn_sign.specs.Inner.Bits.{mark_at}
+use Rattle.crn_sign.specs.Inner.Marks.{AreOpposite}
 use Rattle.crn_sign.proofs.MarkLaws.{cleared}
 use Rattle.crn_sign.proofs.marks.clear.Goals as goal
 
 pub returns : goal.returns
-returns c = cleared c.args._matrix.now c.args.signs.now c.args.marks.now c.put_joined.new.marks _ c.args.g c.requires.goal c.requires.signs c.requires.marks (c.if-not-are_opposite.ensures refl) c.put_joined.ensures refl
+returns c =
+    let one = subst (λ (m : Mark). AreOpposite m c.mark_at-2.result) c.mark_at.ensures (c.if-not-are_opposite.ensures refl) in
+    let both = subst (λ (m : Mark). AreOpposite (mark_at c.args.one.now c.args.g) m) c.mark_at-2.ensures one in
+    cleared c.args._matrix.now c.args.one.now c.args.marks.now c.put_joined.new.marks c.put_mark.new.words c.args.g c.requires.goal c.requires.one c.requires.marks both c.put_joined.ensures c.put_mark.ensures

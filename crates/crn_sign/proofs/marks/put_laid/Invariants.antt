@@ -1,6 +1,6 @@
-use Rattle.crn_sign.specs.Inner.Marks.{laid, sign_there}
-use Rattle.crn_sign.proofs.MarkLaws.{IsPut}
+use Rattle.crn_sign.specs.Inner.Marks.{laid}
+use Rattle.crn_sign.proofs.BitLaws.{IsMade}
 use Rattle.crn_sign.proofs.marks.put_laid.Given as goal
 
-abbrev pub invariant-loop-k : goal.invariant-loop-k
-invariant-loop-k l = IsPut (λ j. laid (sign_there l.signs j)) l.fn.marks l.marks l.k
+abbrev pub invariant-loop-w : goal.invariant-loop-w
+invariant-loop-w l = IsMade laid l.one l.fn.marks l.marks l.w

@@ -1,13 +1,15 @@
-use Rattle.std.proofs.Common.{refl, ◌∙◌, arith}
+use Rattle.std.proofs.Common.{arith}
 use Rattle.crn_sign.specs.declared.marks.Mark.TheVariants.{Zero}
-use Rattle.crn_sign.proofs.MarkLaws.{none_marked, put_none, put_step}
+use Rattle.crn_sign.specs.Inner.Bits.{none}
+use Rattle.crn_sign.proofs.BitLaws.{made_none, made_step, none_in}
+use Rattle.crn_sign.proofs.MarkLaws.{none_marked}
 use Rattle.crn_sign.proofs.marks.put_zeros.Goals as goal
 
-pub loop-k-init : goal.loop-k-init
-loop-k-init c = put_none (λ j m. Zero) c.args.marks.now
+pub loop-w-init : goal.loop-w-init
+loop-w-init c = made_none (λ m o. Zero) c.args.marks.now c.args.marks.now
 
-pub loop-k-preserved : goal.loop-k-preserved
-loop-k-preserved c = put_step (λ j m. Zero) c.args.marks.now c.loop-k.marks c.loop-k.k Zero c.loop-k-test.true refl c.loop-k.invariant
+pub loop-w-preserved : goal.loop-w-preserved
+loop-w-preserved c = made_step (λ m o. Zero) c.args.marks.now c.args.marks.now c.loop-w.marks c.loop-w.w none c.loop-w-test.true none_in c.loop-w.invariant
 
 pub returns : goal.returns
-returns c = none_marked c.args._matrix.now c.loop-k.marks (c.loop-k.invariant.count ∙ c.requires) (λ j lt. c.loop-k.invariant.done j (omega (arith, lt, c.loop-k.invariant.count, c.loop-k-test.false)))
+returns c = none_marked c.args._matrix.now c.args.marks.now c.loop-w.marks c.requires (record { count = c.loop-w.invariant.count; each = λ k lt. c.loop-w.invariant.done k (omega (arith, lt, c.loop-w.invariant.count, c.loop-w-test.false)) })

@@ -11,5 +11,5 @@ returns-then-k-len g c =
 pub returns : goal.returns
 returns g c =
     let w : Signed = g.P.SignProblem.signed c.args.problem.now in
-    λ rest h. one_settled w.matrix_a c.args.place.now c.put.new.self c.args.k c.kind_a-kind.result (omega (arith, c.if-k-len.false, c.len.ensures)) c.put.ensures.kinds c.put.ensures.marks c.put.ensures.suits
+    λ rest h. one_settled w.matrix_a c.args.place.now c.put.new.self c.args.k c.kind_a-kind.result (omega (arith, c.if-k-len.false, c.len.ensures)) c.put.ensures.kinds c.put.ensures.asked c.put.ensures.marks c.put.ensures.suits
     (w.kinds_a c.args.prefix.now) rest c.kind_a-kind.ensures h

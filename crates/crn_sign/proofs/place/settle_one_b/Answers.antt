@@ -11,5 +11,5 @@ returns-then-k-len g c =
 pub returns : goal.returns
 returns g c =
     let w : Signed = g.P.SignProblem.signed c.args.problem.now in
-    λ rest h. one_settled w.matrix_b c.args.place.now c.put.new.self c.args.k c.kind_b-kind.result (omega (arith, c.if-k-len.false, c.len.ensures)) c.put.ensures.kinds c.put.ensures.marks c.put.ensures.suits
+    λ rest h. one_settled w.matrix_b c.args.place.now c.put.new.self c.args.k c.kind_b-kind.result (omega (arith, c.if-k-len.false, c.len.ensures)) c.put.ensures.kinds c.put.ensures.asked c.put.ensures.marks c.put.ensures.suits
     (w.kinds_b c.args.prefix.now) rest c.kind_b-kind.ensures h

@@ -3,7 +3,7 @@ use Rattle.crn_vec.specs.declared.signs.Sign.TheVariants.{Zero, Plus, Minus}
 use Rattle.crn_farkas.specs.Decision.{IsSmallCut}
 use Rattle.crn_sign.specs.Inner.Walk.{EndsAt, EndsBelow, IsFoundAt}
 use Rattle.crn_vec.specs.declared.signs.Sign.{Sign}
-use Rattle.crn_vec.specs.Problems.{Signed, all_zero}
+use Rattle.crn_vec.specs.Problems.{Signed, IsFeasible, all_zero}
 use Rattle.crn_sign.specs.Inner.Ready.{AreRooms, IsLevel}
 use Rattle.crn_sign.specs.declared.walk.Level.{Level}
 use Rattle.crn_sign.proofs.PlaceLaws.{level_at, level_moved}
@@ -91,6 +91,15 @@ walk-returns-then-len-length-clause-answer g t c =
     let w : Signed = g.P.SignProblem.signed c.args.problem.now in
     let f = subst (λ (p : List Sign). IsFoundAt w p c.in_ok-end.end) (c.in_ok-u-2.ensures.place.prefix ∙ c.in_ok-u.ensures.place.prefix) c.in_ok-end.ensures.answer in
     found_at w c.args.search.now.prefix.items c.args.search.now.left _ c.in_ok-end.end (omega (arith, c.in_ok-u.ensures.place.left, c.in_ok-u-2.ensures.place.left, c.in_ok-end.ensures.place.left)) f
+
+pub walk-found_end-requires-clause-feasible : goal.walk-found_end-requires-clause-feasible
+walk-found_end-requires-clause-feasible g t c =
+    let w : Signed = g.P.SignProblem.signed c.args.problem.now in
+    let p : List Sign = c.args.search.now.prefix.items in
+    let b = rw c.in_default.is at c.in_ok-u.ensures.answer in
+    let a = rw c.in_default-2.is at c.in_ok-u-2.ensures.answer in
+    let s = feasible_from w p _ c.in_ok-u.ensures.place.prefix (ap (λ (q : List Sign). w.closed q) (sym c.deref.ensures.value) ∙ sym c.closed.ensures ∙ c.if-closed.false) b a in
+    subst (IsFeasible w) (sym (c.in_ok-u-2.ensures.place.prefix ∙ c.in_ok-u.ensures.place.prefix)) s
 
 pub walk-returns-clause-answer : goal.walk-returns-clause-answer
 walk-returns-clause-answer g t c =

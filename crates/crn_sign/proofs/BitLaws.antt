@@ -1,0 +1,113 @@
+-- What holds of marks by words of 64 bits, coordinate by coordinate.
+use Rattle.std.proofs.Common.{◌≡◌, ◌≢◌, ℕ, zero, suc, ◌+◌, ◌*◌, ◌/◌, ◌%◌, ◌<◌, ◌≤◌, min, max, inl, inr, List, length, set, refl, sym, ap, ◌∙◌, arith}
+use Rattle.std.proofs.lemmas.Nat.Bits.{bit_at-zero}
+use Rattle.std.proofs.lemmas.List.{length-set, get_or-set_same, get_or-set_other}
+use Rattle.crn_vec.proofs.CallerLemmas.{eq_or}
+use Rattle.crn_sign.specs.declared.bits.Bits.{Bits}
+use Rattle.crn_sign.specs.declared.marks.Mark.{Mark}
+use Rattle.crn_sign.specs.declared.marks.Mark.TheVariants.{Zero}
+use Rattle.crn_sign.specs.Inner.Bits.{IsMarked, mark_at, mark_in, mark_of, none, word_at}
+use Rattle.crn_sign.specs.Inner.Marks.{Meets, joined, laid, negative}
+
+-- ---- four bits
+
+-- what holds of a bit of 0 and of one of 1
+one_bit : (P : ℕ → Type 0) → P 0 → P 1 → (n : ℕ) → n < 2 → P n
+one_bit P z o zero lt = z
+one_bit P z o (suc zero) lt = o
+one_bit P z o (suc (suc n)) lt = absurd (omega (arith, lt))
+
+two_bits : (P : ℕ → ℕ → Type 0) → P 0 0 → P 0 1 → P 1 0 → P 1 1 → (a b : ℕ) → a < 2 → b < 2 → P a b
+two_bits P p q r s a b la lb = one_bit (λ (n : ℕ). P n b) (one_bit (P 0) p q b lb) (one_bit (P 1) r s b lb) a la
+
+-- the bit of `one | ((other | some) ^ some)`, where some is where one has a bit of either sign
+abbrev pub over : ℕ → ℕ → ℕ → ℕ
+over here some other = max here ((max other some + some) % 2)
+
+abbrev LaysOver : ℕ → ℕ → ℕ → ℕ → Type 0
+LaysOver a b c d = mark_of (over a (max a b) c) (over b (max a b) d) ≡ laid (mark_of a b) (mark_of c d)
+
+pub lays_over : (a b c d : ℕ) → a < 2 → b < 2 → c < 2 → d < 2 → LaysOver a b c d
+lays_over a b c d la lb lc ld = two_bits (λ (x y : ℕ). LaysOver x y c d)
+    (two_bits (LaysOver 0 0) refl refl refl refl c d lc ld) (two_bits (LaysOver 0 1) refl refl refl refl c d lc ld)
+    (two_bits (LaysOver 1 0) refl refl refl refl c d lc ld) (two_bits (LaysOver 1 1) refl refl refl refl c d lc ld) a b la lb
+
+abbrev Joins : ℕ → ℕ → ℕ → ℕ → Type 0
+Joins a b c d = mark_of (max a c) (max b d) ≡ joined (mark_of a b) (mark_of c d)
+
+pub joins : (a b c d : ℕ) → a < 2 → b < 2 → c < 2 → d < 2 → Joins a b c d
+joins a b c d la lb lc ld = two_bits (λ (x y : ℕ). Joins x y c d)
+    (two_bits (Joins 0 0) refl refl refl refl c d lc ld) (two_bits (Joins 0 1) refl refl refl refl c d lc ld)
+    (two_bits (Joins 1 0) refl refl refl refl c d lc ld) (two_bits (Joins 1 1) refl refl refl refl c d lc ld) a b la lb
+
+-- the bit that says that a mark of bits c and d is not what those of a and b ask
+abbrev pub misfit : ℕ → ℕ → ℕ → ℕ → ℕ
+misfit a b c d = min (max (((max a b + b) % 2 + c) % 2) (((max a b + a) % 2 + d) % 2)) (max a b)
+
+abbrev Fits : ℕ → ℕ → ℕ → ℕ → Type 0
+Fits a b c d = misfit a b c d ≡ 0 → Meets (mark_of a b) (mark_of c d)
+
+-- one bit is not the other
+bad : (X : Type 0) → suc zero ≡ zero → X
+bad X e = absurd (omega (arith, e))
+
+pub fits : (a b c d : ℕ) → a < 2 → b < 2 → c < 2 → d < 2 → Fits a b c d
+fits a b c d la lb lc ld = two_bits (λ (x y : ℕ). Fits x y c d)
+    (two_bits (Fits 0 0) (λ e. tt) (λ e. tt) (λ e. tt) (λ e. tt) c d lc ld) (two_bits (Fits 0 1) (bad _) (λ e. refl) (bad _) (bad _) c d lc ld)
+    (two_bits (Fits 1 0) (bad _) (bad _) (λ e. refl) (bad _) c d lc ld) (two_bits (Fits 1 1) (λ e. refl) (bad _) (bad _) (bad _) c d lc ld) a b la lb
+
+-- ---- words, one after another
+
+-- the marks of the words before w are made by f, and the rest are still the old ones
+pub record IsMade (f : Mark → Mark → Mark) (one old marks : List Bits) (w : ℕ) : Type 0 where
+  pub count : length marks ≡ length old
+  pub done : (k : ℕ) → k < w * 64 → mark_at marks k ≡ f (mark_at one k) (mark_at old k)
+  pub rest : (v : ℕ) → w ≤ v → word_at marks v ≡ word_at old v
+
+pub made_none : (f : Mark → Mark → Mark) (one old : List Bits) → IsMade f one old old 0
+made_none f one old = record { count = refl; done = λ k lt. absurd (omega (arith, lt)); rest = λ v le. refl }
+
+pub made_step : (f : Mark → Mark → Mark) (one old marks : List Bits) (w : ℕ) (x : Bits) → w < length old → ((i : ℕ) → mark_in x i ≡ f (mark_in (word_at one w) i) (mark_in (word_at marks w) i)) → IsMade f one old marks w → IsMade f one old (set marks w x) (w + 1)
+made_step f one old marks w x lt is h = record {
+  count = length-set marks w x ∙ h.count;
+  done = λ k k_lt. elim (eq_or (k / 64) w) as (λ _. mark_at (set marks w x) k ≡ f (mark_at one k) (mark_at old k)) [
+    | inl e ↦
+        let i = k % 64 in
+        ap (λ (v : ℕ). mark_in (word_at (set marks w x) v) i) e
+        ∙ ap (λ (b : Bits). mark_in b i) (get_or-set_same marks w x none (omega (arith, lt, h.count)))
+        ∙ is i
+        ∙ ap (λ (b : Bits). f (mark_in (word_at one w) i) (mark_in b i)) (h.rest w (omega arith))
+        ∙ ap (λ (v : ℕ). f (mark_in (word_at one v) i) (mark_in (word_at old v) i)) (sym e)
+    | inr ne ↦ ap (λ (b : Bits). mark_in b (k % 64)) (get_or-set_other marks w (k / 64) x none ne) ∙ h.done k (omega (arith, k_lt, ne))
+  ];
+  rest = λ v le. get_or-set_other marks w v x none (λ e. omega (arith, le, e)) ∙ h.rest v (omega (arith, le));
+}
+
+-- the mark of coordinate k put
+pub marked : (old : List Bits) (k : ℕ) (x : Bits) (m : Mark) → k < length old * 64 → mark_in x (k % 64) ≡ m
+    → ((j : ℕ) → j < 64 → j ≢ k % 64 → mark_in x j ≡ mark_in (word_at old (k / 64)) j) → IsMarked old k m (set old (k / 64) x)
+marked old k x m lt here others =
+    let w = k / 64 in
+    let inside : w < length old = omega (arith, lt) in
+    let same : word_at (set old w x) w ≡ x = get_or-set_same old w x none inside in
+    record {
+      count = length-set old w x;
+      here = ap (λ (b : Bits). mark_in b (k % 64)) same ∙ here;
+      others = λ j ne. elim (eq_or (j / 64) w) as (λ _. mark_at (set old w x) j ≡ mark_at old j) [
+        | inl e ↦
+            let i = j % 64 in
+            ap (λ (v : ℕ). mark_in (word_at (set old w x) v) i) e ∙ ap (λ (b : Bits). mark_in b i) same
+            ∙ others i (omega arith) (λ d. ne (omega (arith, e, d)))
+            ∙ ap (λ (v : ℕ). mark_in (word_at old v) i) (sym e)
+        | inr apart ↦ ap (λ (b : Bits). mark_in b (j % 64)) (get_or-set_other old w (j / 64) x none apart)
+      ];
+    }
+
+pub none_in : (i : ℕ) → mark_in none i ≡ Zero
+none_in i = simp bit_at-zero
+
+abbrev Swaps : ℕ → ℕ → Type 0
+Swaps a b = mark_of b a ≡ negative (mark_of a b)
+
+pub swaps : (a b : ℕ) → a < 2 → b < 2 → Swaps a b
+swaps = two_bits Swaps refl refl refl refl

@@ -1,0 +1,8 @@
+use Rattle.std.specs.Int.{bit_at}
+use Rattle.std.proofs.lemmas.Nat.Bits.{bit_at-lt, bit_at_or, bit_at_xor}
+use Rattle.crn_sign.proofs.BitLaws.{lays_over}
+use Rattle.crn_sign.proofs.marks.laid.Goals as goal
+
+pub returns : goal.returns
+returns c = λ i.
+    simp (bit_at_or, bit_at_xor) (lays_over (bit_at c.args.one.plus i) (bit_at c.args.one.minus i) (bit_at c.args.other.plus i) (bit_at c.args.other.minus i) (bit_at-lt c.args.one.plus i) (bit_at-lt c.args.one.minus i) (bit_at-lt c.args.other.plus i) (bit_at-lt c.args.other.minus i))

@@ -1,0 +1,9 @@
+use Rattle.std.specs.Int.{bit_at}
+use Rattle.std.proofs.lemmas.Nat.Bits.{bit_at-lt, bit_at_and, bit_at_or, bit_at_xor}
+use Rattle.crn_sign.proofs.BitLaws.{fits}
+use Rattle.crn_sign.proofs.marks.misfits.Goals as goal
+
+pub returns : goal.returns
+returns c = λ i e.
+    fits (bit_at c.args.asked.plus i) (bit_at c.args.asked.minus i) (bit_at c.args.marks.plus i) (bit_at c.args.marks.minus i) (bit_at-lt c.args.asked.plus i) (bit_at-lt c.args.asked.minus i) (bit_at-lt c.args.marks.plus i) (bit_at-lt c.args.marks.minus i)
+    (simp (bit_at_and, bit_at_or, bit_at_xor) at e)

@@ -1,0 +1,10 @@
+use Rattle.std.proofs.Common.{◌≡◌, ◌<◌, ℕ, length}
+use Rattle.crn_sign.specs.Inner.Bits.{mark_at}
+use Rattle.crn_sign.specs.Inner.Marks.{sign_mark, sign_there}
+use Rattle.crn_sign.proofs.marks.put_signs.Given as goal
+
+abbrev pub invariant-loop-k : goal.invariant-loop-k
+invariant-loop-k l = record {
+  count : length l.into ≡ length l.fn.into;
+  done : (j : ℕ) → j < l.k → mark_at l.into j ≡ sign_mark (sign_there l.signs j);
+}
