@@ -7,7 +7,6 @@ use Rattle.std.proofs.lemmas.List.{length-drop, get_or-drop}
 use lib.IntN.{*ℤ-zero}
 use Rattle.crn_vec.specs.declared.limits.TheConstants.{WIDE_ENTRY}
 use Rattle.crn_vec.specs.declared.signs.Sign.{Sign}
-use Rattle.crn_vec.specs.declared.signs.Sign.TheVariants.{Zero, Plus, Minus}
 use Rattle.crn_vec.specs.declared.signs.Kind.{Kind}
 use Rattle.crn_vec.specs.declared.signs.Kind.TheVariants.{Free}
 use Rattle.crn_vec.specs.Vectors.{Mat, entry, dot, column, scale, HasSign, AreWithin}
@@ -17,6 +16,7 @@ use Rattle.crn_vec.specs.Systems.{MayWeigh, kind_at}
 use Rattle.crn_vec.proofs.CallerLemmas.{eq_or, zip_from, within_from}
 use Rattle.crn_vec.proofs.CallerLemmas.{entry-scale, length-scale}
 use Rattle.crn_vec.proofs.CallerLemmas.{weigh_zero}
+use Rattle.crn_tab.proofs.CallerLemmas.{sign_some}
 use Rattle.crn_farkas.specs.Decision.{factor, IsSmallCut}
 use Rattle.crn_farkas.proofs.CallerLemmas.{dual_scaled, drop-scale}
 use Rattle.crn_farkas.proofs.CallerLemmas.{scaled_small}
@@ -35,10 +35,6 @@ column_step rows i j lt = rw add-one (column_suc rows i j lt)
 pub within_push : (m : ℕ) (v : List ℤ) (x : ℤ) → AreWithin m v → unsigned_abs x ≤ m → AreWithin m (v ++ x ∷ [])
 within_push m [] x h k = (k, tt)
 within_push m (y ∷ v) x h k = (h.0, within_push m v x h.1 k)
-
-pub length-column : (rows : List (List ℤ)) (j : ℕ) → length (column rows j) ≡ length rows
-length-column [] j = refl
-length-column (r ∷ rows) j = ap suc (length-column rows j)
 
 pub within_72 : (u : List ℤ) → ((k : ℕ) → unsigned_abs (entry u k) < WIDE_ENTRY) → AreWithin (2 ^ 72) u
 within_72 u h = within_from (2 ^ 72) u (λ k lt. let le : WIDE_ENTRY ≤ 2 ^ 72 = lit≤ tt in omega (arith, h k, le))
@@ -105,11 +101,6 @@ sign_in w [] p h i = absurd i
 sign_in w (x ∷ ps) p h (inl e) = subst (λ (y : ℕ × Sign). HasSign y.1 (entry w y.0)) (sym e) h.0
 sign_in w (x ∷ ps) p h (inr i) = sign_in w ps p h.1 i
 
-pub some_sign : (s : Sign) (x : ℤ) → s ≢ Zero → HasSign s x → x ≢ pos 0
-some_sign Zero x n h e = n refl
-some_sign Plus x n h e = omega (arith, ints, h, e)
-some_sign Minus x n h e = omega (arith, ints, h, e)
-
 pub turned_some : (s : Bool) (x : ℤ) → x ≢ pos 0 → factor s *ℤ x ≢ pos 0
 turned_some true (pos zero) n e = n refl
 turned_some true (pos (suc k)) n e = omega (arith, ints, e)
@@ -127,7 +118,7 @@ past_cut a kinds stays u v ps past long weigh some is =
       | inl i ↦ weigh_in kinds stays w ps k weigh past.signs.each i
       | inr z ↦ subst (λ (x : ℤ). MayWeigh (kind_at kinds k) x) (sym (ap (λ (x : ℤ). f *ℤ x) z ∙ *ℤ-zero f)) (weigh_zero (kind_at kinds k))
     ]) in
-    let here : entry (scale f w) some.p.0 ≢ pos 0 = λ e. turned_some stays (entry w some.p.0) (some_sign some.p.1 (entry w some.p.0) some.some (sign_in w ps some.p past.signs.each some.member)) (sym (entry-scale f w some.p.0) ∙ e) in
+    let here : entry (scale f w) some.p.0 ≢ pos 0 = λ e. turned_some stays (entry w some.p.0) (sign_some some.p.1 (entry w some.p.0) some.some (sign_in w ps some.p past.signs.each some.member)) (sym (entry-scale f w some.p.0) ∙ e) in
     record {
       cut = (
         scale f w,
@@ -147,19 +138,10 @@ past_from a kinds u ps c inside signs = record { w = c.cut.0; space = c.cut.1.sp
 pub length-rows : (a : Mat) (kinds : List Kind) (u : List ℤ) → IsSmallCut a kinds u → length u ≡ length a.rows
 length-rows a kinds u c = ap length (sym c.cut.1.rows) ∙ omega (arith, length-drop a.cols c.cut.0, c.cut.1.space.long)
 
-pub all_at : {X : Type 0} (P : X → Type 0) (xs : List X) (d : X) (k : ℕ) → k < length xs → AllByRecursion P xs → P (get_or xs k d)
-all_at P [] d k lt h = absurd (omega (arith, lt))
-all_at P (x ∷ xs) d zero lt h = h.0
-all_at P (x ∷ xs) d (suc k) lt h = all_at P xs d k (omega (arith, lt)) h.1
-
 pub all_set : {X : Type 0} (P : X → Type 0) (xs : List X) (k : ℕ) (x : X) → AllByRecursion P xs → P x → AllByRecursion P (set xs k x)
 all_set P [] k x h p = tt
 all_set P (y ∷ xs) zero x h p = (p, h.1)
 all_set P (y ∷ xs) (suc k) x h p = (h.0, all_set P xs k x h.1 p)
-
-pub all_push : {X : Type 0} (P : X → Type 0) (xs : List X) (x : X) → AllByRecursion P xs → P x → AllByRecursion P (xs ++ x ∷ [])
-all_push P [] x h p = (p, tt)
-all_push P (y ∷ xs) x h p = (h.0, all_push P xs x h.1 p)
 
 pub scale_one : (v : List ℤ) → scale (factor true) v ≡ v
 scale_one [] = refl
