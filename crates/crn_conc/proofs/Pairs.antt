@@ -2,6 +2,7 @@
 use Rattle.std.proofs.Common.{◌≡◌, ℕ, zero, suc, ◌+◌, ◌<◌, ◌≤◌, inl, inr, List, [], ◌∷◌, ◌++◌, length, get_or, take, drop, Bool, true, false, refl, sym, ap, ap₂, ◌∙◌, add-one, arith}
 use Rattle.std.specs.Prelude.{◌||◌, if◌then◌else◌, nat_le}
 use Rattle.std.proofs.lemmas.Bool.{le-leb, lt-leb}
+use Rattle.std.proofs.Math.Bool.{or-false}
 use Rattle.crn_vec.specs.declared.signs.Sign.{Sign}
 use Rattle.crn_vec.specs.declared.signs.Sign.TheVariants.{Zero, Plus, Minus}
 use Rattle.crn_vec.specs.declared.signs.Kind.{Kind}
@@ -57,10 +58,6 @@ drop_here (suc c) (s ∷ p) t q e = let h = drop_here c p t q e in record { insi
 abbrev value : List Sign → List Sign → Bool → Bool → Kind
 value signs q plus minus = if all_zero (drop (length q) signs) then kind_of_sum (plus || some_sign is_plus (products signs q)) (minus || some_sign is_minus (products signs q)) else Free
 
-or_false : (b : Bool) → b ≡ (b || false)
-or_false true = refl
-or_false false = refl
-
 or_step : (a b x : Bool) → ((a || b) || x) ≡ (a || (if b then true else x))
 or_step true b x = refl
 or_step false true x = refl
@@ -90,8 +87,8 @@ pair_here s c ss p t q plus minus h rest =
     ∙ ap₂ (λ (u v : Bool). if all_zero (drop (length q) ss) then kind_of_sum u v else Free) (or_step plus (is_plus (product s t)) (some_sign is_plus (products ss q))) (or_step minus (is_minus (product s t)) (some_sign is_minus (products ss q)))
 
 pairs_value : (c : ℕ) (signs p q : List Sign) (plus minus : Bool) → drop c p ≡ q → kind_after (pairs_from c signs) p plus minus ≡ value signs q plus minus
-pairs_value c [] p [] plus minus e = ap₂ kind_of_sum (or_false plus) (or_false minus)
-pairs_value c [] p (t ∷ q) plus minus e = ap₂ kind_of_sum (or_false plus) (or_false minus)
+pairs_value c [] p [] plus minus e = ap₂ kind_of_sum (sym (or-false plus)) (sym (or-false minus))
+pairs_value c [] p (t ∷ q) plus minus e = ap₂ kind_of_sum (sym (or-false plus)) (sym (or-false minus))
 pairs_value c (Zero ∷ ss) p [] plus minus e = pairs_value (suc c) ss p [] plus minus (drop_still c p e) ∙ none_chosen ss plus minus
 pairs_value c (Plus ∷ ss) p [] plus minus e = pair_end c p (kind_after (pairs_from (suc c) ss) p (plus || is_plus (product Plus (get_or p c Zero))) (minus || is_minus (product Plus (get_or p c Zero)))) e
 pairs_value c (Minus ∷ ss) p [] plus minus e = pair_end c p (kind_after (pairs_from (suc c) ss) p (plus || is_plus (product Minus (get_or p c Zero))) (minus || is_minus (product Minus (get_or p c Zero)))) e
