@@ -1,5 +1,5 @@
 -- The rows that a tableau keeps at first make a tableau.
-use Rattle.std.proofs.Common.{◌≡◌, ◌≢◌, ℕ, zero, suc, ◌+◌, ◌-◌, ◌*◌, ◌<◌, ◌≤◌, inl, inr, List, [], ◌∷◌, ◌++◌, length, get_or, take, drop, map, refl, sym, ap, subst, ◌∙◌, arith, lit<, append_assoc, add-one}
+use Rattle.std.proofs.Common.{◌≡◌, ◌≢◌, ℕ, zero, suc, ◌+◌, ◌-◌, ◌*◌, ◌^◌, ◌<◌, ◌≤◌, inl, inr, List, [], ◌∷◌, ◌++◌, length, get_or, take, drop, map, refl, sym, ap, subst, ◌∙◌, arith, lit<, append_assoc, add-one}
 use Rattle.std.specs.Prelude.{ℤ, pos, neg_ℤ, ◌*ℤ◌, slice_index, unsigned_abs}
 use Rattle.std.specs.Int.{◌∣◌}
 use Rattle.std.proofs.lemmas.Int.{ints}
@@ -11,9 +11,9 @@ use Rattle.crn_vec.specs.Vectors.{Mat, entry, dot, column, AreOfLength, AreWithi
 use Rattle.crn_vec.specs.Elementary.{width, InDualSpace}
 use Rattle.crn_vec.proofs.CallerLemmas.{within_at, past_end, lt_or, length-neg, entry-neg, dot_single, zero_times}
 use Rattle.crn_tab.specs.Tableau.{AreSmall, choose}
-use Rattle.crn_tab.specs.Slots.{IsContent, slot_entry, spread, basis_from, row_at, ArePlaced, IsRowAt, IsTableau}
+use Rattle.crn_tab.specs.Slots.{IsContent, slot_entry, spread, basis_from, row_at, ArePlaced, IsRowAt, IsTableau, AreLowRows}
 use Rattle.crn_tab.specs.Inner.Start.{IsIdentity, start_row, start_rows}
-use Rattle.crn_tab.proofs.Rows.{small_everywhere, row_count}
+use Rattle.crn_tab.proofs.Rows.{everywhere, row_count}
 use Rattle.crn_tab.proofs.Places.{lt_true, lt_false, slot_basic, slot_own, slot_none, length-spread, entry-spread}
 use Rattle.crn_tab.proofs.Finish.{small_list}
 
@@ -127,18 +127,21 @@ one_primitive v k e = record {
   greatest = λ d h. let D : ℕ → Type 0 = λ m. d ∣ m in subst D (ap unsigned_abs e) (h k);
 }
 
-first_small : (r : List ℤ) → AreWithin MAX_AMOUNT r → AreSmall (start_row r)
-first_small r h = small_everywhere (start_row r) (λ k lt. elim (lt_or k (length r)) as (λ _. unsigned_abs (entry (start_row r) k) < WIDE_ENTRY) [
+first_below : (bound : ℕ) (r : List ℤ) → MAX_AMOUNT < bound → 1 < bound → AreWithin MAX_AMOUNT r → (k : ℕ) → unsigned_abs (entry (start_row r) k) < bound
+first_below bound r few some h = everywhere (λ z. unsigned_abs z < bound) (start_row r) (omega arith) (λ k lt. elim (lt_or k (length r)) as (λ _. unsigned_abs (entry (start_row r) k) < bound) [
   | inl low ↦
-      let few : MAX_AMOUNT < WIDE_ENTRY = lit< tt in
       let e : unsigned_abs (entry (start_row r) k) ≡ unsigned_abs (neg_ℤ (entry r k)) = ap unsigned_abs (start_entry r k low) in
       omega (arith, ints, few, e, within_at MAX_AMOUNT k r h)
   | inr high ↦
       let same : k ≡ length r = omega (arith, length-start_row r) in
       let e : unsigned_abs (entry (start_row r) k) ≡ 1 = ap (λ j. unsigned_abs (entry (start_row r) j)) same ∙ ap unsigned_abs (start_last r) in
-      let few : 1 < WIDE_ENTRY = lit< tt in
-      omega (arith, e, few)
+      omega (arith, e, some)
 ])
+
+pub first_low : (a : Mat) → AreOfLength a.cols a.rows → ((i : ℕ) → AreWithin MAX_AMOUNT (get_or a.rows i [])) → AreLowRows (a.cols + 1) (length a.rows) (start_rows a.rows)
+first_low a wide within i lt =
+    let B : List ℤ → Type 0 = λ v. (k : ℕ) → unsigned_abs (entry v k) < 2 ^ 30 in
+    subst B (sym (start_row_at a.cols a.rows i wide lt)) (first_below (2 ^ 30) (get_or a.rows i []) (lit< tt) (lit< tt) (within i))
 
 pub first_tableau : (a : Mat) (at order : List ℕ) → AreOfLength a.cols a.rows → 1 ≤ a.cols → width a ≤ MAX_COORDINATES → ((i : ℕ) → AreWithin MAX_AMOUNT (get_or a.rows i []))
     → IsIdentity (width a) at → IsIdentity (width a) order → IsTableau a at order (start_rows a.rows)
@@ -164,5 +167,5 @@ first_tableau a at order wide some few within p q =
             primitive = one_primitive (start_row r) n last;
           });
       small = small_list (n + 1) (length a.rows) (start_rows a.rows) (omega arith) long
-          (λ i lt. let S : List ℤ → Type 0 = AreSmall in subst S (sym (row_is i lt)) (first_small (get_or a.rows i []) (within i)));
+          (λ i lt. let S : List ℤ → Type 0 = AreSmall in subst S (sym (row_is i lt)) (first_below WIDE_ENTRY (get_or a.rows i []) (lit< tt) (lit< tt) (within i)));
     }

@@ -1,5 +1,5 @@
 -- The exchanged row in its new places.
-use Rattle.std.proofs.Common.{◌≡◌, ◌≢◌, ℕ, zero, suc, ◌+◌, ◌-◌, ◌<◌, ◌≤◌, ◌⊎◌, inl, inr, List, length, sym, ap, subst, ◌∙◌, arith}
+use Rattle.std.proofs.Common.{◌≡◌, ◌≢◌, ℕ, zero, suc, ◌+◌, ◌-◌, ◌^◌, ◌<◌, ◌≤◌, ◌⊎◌, inl, inr, List, length, sym, ap, subst, ◌∙◌, arith}
 use Rattle.std.specs.Prelude.{ℤ, pos, negsuc, ◌-ℤ◌, ◌*ℤ◌, ◌≤ℤ◌, slice_index, unsigned_abs}
 use Rattle.std.specs.Int.{◌∣◌}
 use Rattle.std.proofs.lemmas.Int.{ints}
@@ -10,7 +10,7 @@ use Rattle.crn_vec.specs.Elementary.{width}
 use Rattle.crn_vec.proofs.CallerLemmas.{past_end, lt_or, eq_or}
 use Rattle.crn_tab.specs.Slots.{IsContent, slot_entry, spread, ArePlaced, IsRowAt}
 use Rattle.crn_tab.specs.Tableau.{AreSmall}
-use Rattle.crn_tab.specs.Inner.Rows.{IsLead}
+use Rattle.crn_tab.specs.Inner.Rows.{AreBelow, IsLead}
 use Rattle.crn_tab.proofs.Places.{slot_basic, slot_own, slot_none, length-spread, entry-spread}
 use Rattle.crn_tab.proofs.Spaces.{dual_combined}
 use Rattle.crn_tab.proofs.Exchanges.{Swapped}
@@ -107,6 +107,15 @@ lead_small_at w c row lead h small k = elim (eq_or k c) [
   | inr nc ↦ elim (eq_or k (w - 1)) [
     | inl e ↦ omega (arith, small c, same_size h.sign (entry row c) (entry lead (w - 1)) h.unit h.leaves, ap (λ i. unsigned_abs (entry lead i)) e)
     | inr nn ↦ omega (arith, small k, same_size h.sign (entry row k) (entry lead k) h.unit (h.others k nc nn))
+  ]
+]
+
+pub lead_low_at : (w c : ℕ) (row lead : List ℤ) → IsLead w c row lead → AreBelow (2 ^ 30) row → AreBelow (2 ^ 30) lead
+lead_low_at w c row lead h low k = elim (eq_or k c) [
+  | inl e ↦ omega (arith, low (w - 1), same_size h.sign (entry row (w - 1)) (entry lead c) h.unit h.enters, ap (λ i. unsigned_abs (entry lead i)) e)
+  | inr nc ↦ elim (eq_or k (w - 1)) [
+    | inl e ↦ omega (arith, low c, same_size h.sign (entry row c) (entry lead (w - 1)) h.unit h.leaves, ap (λ i. unsigned_abs (entry lead i)) e)
+    | inr nn ↦ omega (arith, low k, same_size h.sign (entry row k) (entry lead k) h.unit (h.others k nc nn))
   ]
 ]
 

@@ -1,30 +1,62 @@
 -- The places where a row is not 0, as they are listed.
-use Rattle.std.proofs.Common.{◌≡◌, ◌≢◌, ℕ, ◌+◌, ◌<◌, inl, inr, List, [], ◌∷◌, ◌++◌, length, sym, subst, arith}
-use Rattle.std.specs.Prelude.{ℤ, pos}
-use Rattle.crn_vec.proofs.CallerLemmas.{eq_or}
+use Rattle.std.proofs.Common.{◌≡◌, ◌≢◌, ℕ, zero, suc, ◌+◌, ◌<◌, inl, inr, List, [], ◌∷◌, ◌++◌, length, refl, sym, ap, subst, arith}
+use Rattle.std.specs.Prelude.{ℤ, pos, slice_index}
+use Rattle.std.proofs.lemmas.List.{length-append}
+use Rattle.crn_vec.proofs.CallerLemmas.{eq_or, lt_or}
 use Rattle.crn_vec.specs.Lists.{IsIn}
 use Rattle.crn_vec.specs.Vectors.{entry}
 use Rattle.crn_tab.proofs.Numbers.{push_in, push_last, in_push}
 
--- the list holds those of the first c places where the row is not 0, and places of the row alone
+place_in : (xs : List ℕ) (i : ℕ) → i < length xs → IsIn (slice_index xs i) xs
+place_in [] i h = absurd (omega arith)
+place_in (x ∷ xs) zero h = inl refl
+place_in (x ∷ xs) (suc i) h = inr (place_in xs i (omega arith))
+
+pushed_before : (xs : List ℕ) (c j : ℕ) → j < length xs → slice_index (xs ++ c ∷ []) j ≡ slice_index xs j
+pushed_before [] c j h = absurd (omega arith)
+pushed_before (x ∷ xs) c zero h = refl
+pushed_before (x ∷ xs) c (suc j) h = pushed_before xs c j (omega arith)
+
+pushed_last : (xs : List ℕ) (c : ℕ) → slice_index (xs ++ c ∷ []) (length xs) ≡ c
+pushed_last [] c = refl
+pushed_last (x ∷ xs) c = pushed_last xs c
+
+ascending_pushed : (xs : List ℕ) (c : ℕ) → ((k : ℕ) → IsIn k xs → k < c) → ((i j : ℕ) → i < j → j < length xs → slice_index xs i < slice_index xs j)
+    → (i j : ℕ) → i < j → j < length (xs ++ c ∷ []) → slice_index (xs ++ c ∷ []) i < slice_index (xs ++ c ∷ []) j
+ascending_pushed xs c below h i j lt j_lt = elim (lt_or j (length xs)) [
+  | inl inside ↦ omega (arith, h i j lt inside, pushed_before xs c i (omega arith), pushed_before xs c j inside)
+  | inr last ↦
+      let same : j ≡ length xs = omega (arith, length-append xs (c ∷ [])) in
+      omega (arith, below (slice_index xs i) (place_in xs i (omega arith)), pushed_before xs c i (omega arith), ap (slice_index (xs ++ c ∷ [])) same, pushed_last xs c)
+]
+
+-- the list holds those of the first c places where the row is not 0, and such places of the row alone, ascending
 pub record PlacesKept (row : List ℤ) (places : List ℕ) (c : ℕ) : Type 0 where
+  pub ascending : (i j : ℕ) → i < j → j < length places → slice_index places i < slice_index places j
+  pub below : (k : ℕ) → IsIn k places → k < c
   pub inside : (k : ℕ) → IsIn k places → k < length row
   pub all : (k : ℕ) → k < c → entry row k ≢ pos 0 → IsIn k places
 
 pub places_none : (row : List ℤ) (places : List ℕ) → places ≡ [] → PlacesKept row places 0
 places_none row places e = record {
+  ascending = λ i j lt j_lt. absurd (omega (arith, j_lt, ap length e));
+  below = λ k i. absurd (subst (λ (l : List ℕ). IsIn k l) e i);
   inside = λ k i. absurd (subst (λ (l : List ℕ). IsIn k l) e i);
   all = λ k lt some. absurd (omega (arith, lt));
 }
 
 pub place_pushed : (row : List ℤ) (xs ys : List ℕ) (c : ℕ) → PlacesKept row xs c → c < length row → ys ≡ xs ++ c ∷ [] → PlacesKept row ys (c + 1)
 place_pushed row xs ys c h lt e = subst (λ (zs : List ℕ). PlacesKept row zs (c + 1)) (sym e) (record {
+  ascending = ascending_pushed xs c h.below h.ascending;
+  below = λ k i. elim (in_push xs c k i) as (λ _. k < c + 1) [ inl j ↦ omega (arith, h.below k j) | inr f ↦ omega (arith, f) ];
   inside = λ k i. elim (in_push xs c k i) as (λ _. k < length row) [ inl j ↦ h.inside k j | inr f ↦ omega (arith, f, lt) ];
   all = λ k k_lt some. elim (eq_or k c) as (λ _. IsIn k (xs ++ c ∷ [])) [ inl f ↦ push_last xs c k f | inr ne ↦ push_in xs c k (h.all k (omega (arith, k_lt, ne)) some) ];
 })
 
 pub place_passed : (row : List ℤ) (xs : List ℕ) (c : ℕ) → PlacesKept row xs c → entry row c ≡ pos 0 → PlacesKept row xs (c + 1)
 place_passed row xs c h none = record {
+  ascending = h.ascending;
+  below = λ k i. omega (arith, h.below k i);
   inside = h.inside;
   all = λ k k_lt some. elim (eq_or k c) as (λ _. IsIn k xs) [
     | inl f ↦ absurd (some (subst (λ (j : ℕ). entry row j ≡ pos 0) (sym f) none))

@@ -1,13 +1,14 @@
-ghost use Rattle.std.specs.Prelude.{◌≡◌, ◌≢◌, ◌≤◌, ◌<◌, ◌^◌, ◌-◌, ◌*◌, ◌+◌, ℕ, ℤ, pos, List, length, slice_index, vec_capacity};
+ghost use Rattle.std.specs.Prelude.{IsTrue, ◌≡◌, ◌≢◌, ◌≤◌, ◌<◌, ◌^◌, ◌-◌, ◌*◌, ◌+◌, ℕ, ℤ, pos, List, length, slice_index, vec_capacity};
 ghost use Rattle.crn_vec.specs.Vectors.{entry};
 ghost use Rattle.crn_vec.specs.Lists.{IsIn};
 ghost use Rattle.crn_vec.specs.Elementary.{width, IsNamed, WideAt, Exchanged};
-ghost use Rattle.crn_tab.specs.Slots.{row_at, basis_of, IsTableau};
+ghost use Rattle.crn_tab.specs.Slots.{AreLowRows, row_at, basis_of, IsTableau};
 ghost use Rattle.crn_tab.specs.Inner.Rows.{IsKeptRow, AreFilled};
 
+use crate::change::changed_rows;
 use crate::fill::{fill_rows, part};
 use crate::lead::{Lead, make_lead, put_lead, put_places};
-use crate::low::are_low;
+use crate::low::{all_low, are_low};
 use crn_vec::Matrix;
 
 // Row i becomes that of the spare rows, if it has the leaving coordinate.
@@ -46,7 +47,7 @@ fn bring_rows(rows: &mut [i64], spare: &[i64], m: usize, w: usize, c: usize)
 
 // The rows after the exchange of the coordinate at slot c and that of row r. Those that don't have the leaving coordinate stay.
 // The answer is the least coordinate whose new row is wide, and then the rows stay; or else the number of coordinates.
-pub(crate) fn new_rows(
+fn spare_rows(
     rows: &mut [i64],
     spare: &mut [i64],
     m: usize,
@@ -97,6 +98,100 @@ pub(crate) fn new_rows(
     least
 }
 
+// Makes a list with room for so many numbers as long. What it holds is of no use.
+fn fill_spare(spare: &mut Vec<i64>, count: usize)
+    requires few { count ≤ 2 ^ 20 }
+    requires room { count ≤ vec_capacity spare.old }
+    ensures count { length spare.new.items ≡ count }
+    ensures room { vec_capacity spare.new ≡ vec_capacity spare.old }
+{
+    if spare.len() == count {
+        return;
+    }
+    spare.clear();
+    for i in 0..count {
+        spare.push_reserved(i as i64);
+    }
+}
+
+// The same by spare rows, and whether all entries then are low.
+fn wider_rows(
+    rows: &mut [i64],
+    low: &mut bool,
+    spare: &mut Vec<i64>,
+    m: usize,
+    r: usize,
+    c: usize,
+    order: &[usize],
+    lead: &mut [i64],
+    places: &mut Vec<usize>,
+    work: &mut [i128],
+) -> usize
+    requires few { length rows.old ≤ 2 ^ 20 }
+    requires count { length rows.old ≡ m * length lead.old }
+    requires spare_room { length rows.old ≤ vec_capacity spare.old }
+    requires order { length order.now ≡ length lead.old - 1 + m }
+    requires order_below { (s : ℕ) → s < length order.now
+        → slice_index order.now s < length order.now }
+    requires place { c + 1 < length lead.old }
+    requires inside { r < m }
+    requires room { length lead.old ≤ vec_capacity places.old }
+    requires work_count { length work.old ≡ length lead.old }
+    requires row { (i : ℕ) → i < m
+        → IsKeptRow (length lead.old) (row_at (length lead.old) rows.old i) }
+    requires some { entry (row_at (length lead.old) rows.old r) c ≢ pos 0 }
+    ensures filled { AreFilled (length lead.old) m c r rows.old rows.new order.now result }
+    ensures stay { result < length order.now → rows.new ≡ rows.old }
+    ensures low { IsTrue low.new → AreLowRows (length lead.old) m rows.new }
+    ensures room { vec_capacity places.new ≡ vec_capacity places.old }
+    ensures spare_room { vec_capacity spare.new ≡ vec_capacity spare.old }
+{
+    fill_spare(spare, rows.len());
+    let least = spare_rows(rows, spare, m, r, c, order, lead, places, work);
+    *low = all_low(rows);
+    least
+}
+
+// The same, in place where all entries are low.
+pub(crate) fn new_rows(
+    rows: &mut [i64],
+    low: &mut bool,
+    spare: &mut Vec<i64>,
+    m: usize,
+    r: usize,
+    c: usize,
+    order: &[usize],
+    lead: &mut [i64],
+    places: &mut Vec<usize>,
+    work: &mut [i128],
+) -> usize
+    requires few { length rows.old ≤ 2 ^ 20 }
+    requires count { length rows.old ≡ m * length lead.old }
+    requires low { IsTrue low.old → AreLowRows (length lead.old) m rows.old }
+    requires spare_room { length rows.old ≤ vec_capacity spare.old }
+    requires order { length order.now ≡ length lead.old - 1 + m }
+    requires order_below { (s : ℕ) → s < length order.now
+        → slice_index order.now s < length order.now }
+    requires place { c + 1 < length lead.old }
+    requires inside { r < m }
+    requires room { length lead.old ≤ vec_capacity places.old }
+    requires work_count { length work.old ≡ length lead.old }
+    requires row { (i : ℕ) → i < m
+        → IsKeptRow (length lead.old) (row_at (length lead.old) rows.old i) }
+    requires some { entry (row_at (length lead.old) rows.old r) c ≢ pos 0 }
+    ensures filled { AreFilled (length lead.old) m c r rows.old rows.new order.now result }
+    ensures stay { result < length order.now → rows.new ≡ rows.old }
+    ensures low { IsTrue low.new → AreLowRows (length lead.old) m rows.new }
+    ensures room { vec_capacity places.new ≡ vec_capacity places.old }
+    ensures spare_room { vec_capacity spare.new ≡ vec_capacity spare.old }
+{
+    if *low {
+        *low = changed_rows(rows, m, r, c, lead, places);
+        return order.len();
+    }
+    wider_rows(rows, low, spare, m, r, c, order, lead, places, work)
+}
+
 // Exchanges two coordinates: the new slots, and the rows after the exchange.
 // The answer is the number of coordinates, or the least one whose new vector is wide, and then the slots and the rows stay.
 pub(crate) fn exchange(
@@ -104,7 +199,8 @@ pub(crate) fn exchange(
     at: &mut [usize],
     order: &mut [usize],
     rows: &mut [i64],
-    spare: &mut [i64],
+    low: &mut bool,
+    spare: &mut Vec<i64>,
     lead: &mut [i64],
     places: &mut Vec<usize>,
     work: &mut [i128],
@@ -112,7 +208,9 @@ pub(crate) fn exchange(
     enter: usize,
 ) -> usize
     requires tableau { IsTableau matrix.now at.old order.old rows.old }
-    requires same { length spare.old ≡ length rows.old }
+    requires low { IsTrue low.old
+        → AreLowRows (matrix.now.cols + 1) (length matrix.now.rows) rows.old }
+    requires spare_room { length rows.old ≤ vec_capacity spare.old }
     requires lead_count { length lead.old ≡ matrix.now.cols + 1 }
     requires room { matrix.now.cols + 1 ≤ vec_capacity places.old }
     requires work_count { length work.old ≡ matrix.now.cols + 1 }
@@ -134,13 +232,17 @@ pub(crate) fn exchange(
     ensures row { result ≢ width matrix.now → (next : List ℕ)
         → Exchanged (basis_of matrix.now.cols at.old) leave enter next → IsIn result next → ⊥ }
     ensures most { result ≤ width matrix.now }
+    ensures tableau { IsTableau matrix.now at.new order.new rows.new }
+    ensures low { IsTrue low.new
+        → AreLowRows (matrix.now.cols + 1) (length matrix.now.rows) rows.new }
     ensures room { vec_capacity places.new ≡ vec_capacity places.old }
+    ensures spare_room { vec_capacity spare.new ≡ vec_capacity spare.old }
 {
     let n = matrix.cols();
     let m = matrix.rows();
     let c = at[leave];
     let r = at[enter] - n;
-    let least = new_rows(rows, spare, m, r, c, order, lead, places, work);
+    let least = new_rows(rows, low, spare, m, r, c, order, lead, places, work);
     if least < n + m {
         return least;
     }

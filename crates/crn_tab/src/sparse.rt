@@ -101,5 +101,6 @@ pub(crate) fn combine_sparse(
         return false;
     }
     into[c] = negative_times(q, &lead[c]);
-    make_primitive(into, known)
+    make_primitive(into, known);
+    true
 }

@@ -1,4 +1,4 @@
-ghost use Rattle.std.specs.Prelude.{◌≡◌, ◌≤◌, ◌++◌, length, IfOk, OnOk, neg_ℤ, unsigned_abs};
+ghost use Rattle.std.specs.Prelude.{◌≡◌, ◌≤◌, ◌++◌, ◌+◌, length, vec_len, vec_capacity, IfOk, neg_ℤ, unsigned_abs};
 ghost use Rattle.crn_vec.specs.Vectors.{AreWithin};
 ghost use Rattle.crn_tab.specs.Inner.Start.{IsIdentity, start_row, start_rows};
 
@@ -24,16 +24,18 @@ fn negative_of(x: &i128) -> i64
     -(*x as i64)
 }
 
-// Adds what a tableau keeps at first of a row of the matrix.
-fn push_row(rows: &mut Vec<i64>, row: &[i128]) -> Result<(), AllocError>
-    requires { AreWithin MAX_AMOUNT row.now }
-    ensures { OnOk result (rows.new.items ≡ rows.old.items ++ start_row row.now) }
+// Adds what a tableau keeps at first of a row of the matrix, to a list that has room for it.
+fn push_row(rows: &mut Vec<i64>, row: &[i128])
+    requires small { AreWithin MAX_AMOUNT row.now }
+    requires room { vec_len rows.old + (length row.now + 1) ≤ vec_capacity rows.old }
+    ensures items { rows.new.items ≡ rows.old.items ++ start_row row.now }
+    ensures count { vec_len rows.new ≡ vec_len rows.old + (length row.now + 1) }
+    ensures room { vec_capacity rows.new ≡ vec_capacity rows.old }
 {
     for x in row {
-        rows.push(negative_of(x))?;
+        rows.push_reserved(negative_of(x));
     }
-    rows.push(1)?;
-    Ok(())
+    rows.push_reserved(1);
 }
 
 // What a tableau keeps at first: each row of the matrix negative_of, and then a 1.
@@ -42,7 +44,7 @@ pub(crate) fn first_rows(alloc: Global, matrix: &Matrix) -> Result<Vec<i64>, All
 {
     let mut rows = Vec::with_capacity(alloc, matrix.rows() * (matrix.cols() + 1))?;
     for i in 0..matrix.rows() {
-        push_row(&mut rows, matrix.row(i))?;
+        push_row(&mut rows, matrix.row(i));
     }
     Ok(rows)
 }

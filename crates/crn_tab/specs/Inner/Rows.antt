@@ -11,8 +11,9 @@ use Rattle.crn_vec.specs.Vectors.{entry}
 abbrev pub AreBelow : ℕ → List ℤ → Type 0
 AreBelow bound v = (k : ℕ) → unsigned_abs (entry v k) < bound
 
--- the list holds each place where the row is not 0, and places of the row alone
+-- the list holds each place where the row is not 0, and places of the row alone, ascending
 pub record ArePlaces (row : List ℤ) (places : List ℕ) : Type 0 where
+  pub ascending : (i j : ℕ) → i < j → j < length places → slice_index places i < slice_index places j
   pub inside : (k : ℕ) → IsIn k places → k < length row
   pub all : (k : ℕ) → k < length row → entry row k ≢ pos 0 → IsIn k places
 
@@ -61,6 +62,11 @@ pub record IsRowDone (w c i : ℕ) (rows lead spare : List ℤ) (least own : ℕ
   pub z : List ℤ
   pub is : IsNewRow (w - 1) c (row_at w rows i) lead z
   pub kept : (AreSmall z × (row_at w spare i ≡ z)) ⊎ (IsWide z × (least ≤ own))
+
+-- row i is its new row, with small entries
+pub record IsRowChanged (w c i : ℕ) (rows lead new : List ℤ) : Type 0 where
+  pub is : IsNewRow (w - 1) c (row_at w rows i) lead (row_at w new i)
+  pub small : AreSmall (row_at w new i)
 
 -- some new row is wide at this coordinate
 pub record HasWideRow (w m c r : ℕ) (rows lead : List ℤ) (order : List ℕ) (least : ℕ) : Type 0 where

@@ -1,7 +1,10 @@
-use Rattle.std.proofs.Common.{◌≡◌, ◌+◌, ◌-◌, ◌*◌, ◌<◌, ◌≤◌, ℕ, List, ap, sym, subst, ◌∙◌, arith}
+use Rattle.std.proofs.Common.{◌≡◌, ◌+◌, ◌-◌, ◌*◌, ◌<◌, ◌≤◌, ℕ, List, ap, sym, subst, ◌∙◌, arith, to_z}
 use Rattle.std.specs.Prelude.{ℤ, pos, ◌≤ℤ◌, ◌*ℤ◌, neg_ℤ, unsigned_abs}
-use Rattle.std.specs.Int.{w128, ◌∣◌}
-use Rattle.std.proofs.lemmas.Int.{to_z-of_z}
+use Rattle.std.specs.Int.{w64, w128, ◌∣◌}
+use Rattle.std.proofs.lemmas.Int.{ints, to_z-of_z}
+use lib.IntN.{zero-*ℤ}
+use Rattle.crn_vec.specs.declared.limits.TheConstants.{WIDE_ENTRY}
+use Rattle.crn_tab.proofs.Cross.{read as word}
 use Rattle.crn_vec.specs.Vectors.{entry}
 use Rattle.crn_tab.specs.Slots.{row_at}
 use Rattle.crn_tab.specs.Inner.Rows.{IsKeptRow}
@@ -26,6 +29,20 @@ pub quotient-requires-clause-divides : goal.quotient-requires-clause-divides
 quotient-requires-clause-divides c =
     let i = c.args.s - c.args.n in
     read c.args.n c.args.c c.args.l.now i c.args.rows.now c.part-row.result.now c.part-row.ensures (c.requires.whole i (omega (arith, c.requires.slot, c.if-s-n.true)))
+
+-- what an entry of 0 makes
+nothing : (num den : ℤ) (l : ℕ) → num ≡ pos 0 → pos 0 *ℤ den ≡ neg_ℤ (num *ℤ pos l)
+nothing num den l e = omega (arith, ints, zero-*ℤ den, ap (λ (x : ℤ). x *ℤ pos l) e, zero-*ℤ (pos l))
+
+pub returns-then-row-c-eq0 : goal.returns-then-row-c-eq0
+returns-then-row-c-eq0 c =
+    let i = c.args.s - c.args.n in
+    let lt : i < c.args.m = omega (arith, c.requires.slot, c.if-s-n.true) in
+    let kept = c.requires.row i lt in
+    let row = c.part-row.result.now in
+    let small : unsigned_abs (entry row c.args.c) < WIDE_ENTRY = subst (λ (v : List ℤ). unsigned_abs (entry v c.args.c) < WIDE_ENTRY) (sym c.part-row.ensures) (kept.small c.args.c) in
+    let none : entry row c.args.c ≡ pos 0 = sym (word (entry row c.args.c) small) ∙ ap (to_z w64) c.if-row-c-eq0.true in
+    value c.args.n c.args.c c.args.m c.args.l.now c.args.s c.args.rows.now row (pos 0) c.requires.whole c.if-s-n.true lt kept c.part-row.ensures (nothing (entry row c.args.c) (entry row c.args.n) c.args.l.now none)
 
 pub returns-then-s-n : goal.returns-then-s-n
 returns-then-s-n c =

@@ -1,4 +1,4 @@
-use Rattle.std.proofs.Common.{◌≡◌, ◌+◌, ◌<◌, ◌≤◌, ℕ, refl, arith, sym, ap, subst, ◌∙◌, length, vec_len, vec_capacity, Vec, Global, to_z}
+use Rattle.std.proofs.Common.{◌≡◌, ◌+◌, ◌<◌, ℕ, arith, sym, ap, subst, ◌∙◌, length, vec_len, vec_capacity, Vec, Global, to_z}
 use Rattle.std.specs.Int.{w64}
 use Rattle.std.specs.Prelude.{pos}
 use Rattle.crn_vec.specs.Vectors.{entry}

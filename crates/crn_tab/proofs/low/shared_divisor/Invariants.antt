@@ -1,4 +1,4 @@
-use Rattle.std.proofs.Common.{ℕ, ◌<◌}
+use Rattle.std.proofs.Common.{ℕ, ◌<◌, ◌≤◌}
 use Rattle.std.specs.Prelude.{pos, ◌≤ℤ◌, unsigned_abs}
 use Rattle.std.specs.Int.{◌∣◌}
 use Rattle.crn_vec.specs.declared.limits.TheConstants.{WIDE_ENTRY}
@@ -8,6 +8,8 @@ use Rattle.crn_tab.proofs.low.shared_divisor.Given as goal
 abbrev pub invariant-loop-x : goal.invariant-loop-x
 invariant-loop-x l = record {
   greatest : (d : ℕ) → ((k : ℕ) → d ∣ unsigned_abs (entry l.row k)) → d ∣ unsigned_abs l.g;
+  each : (k : ℕ) → k < l.x-index → unsigned_abs l.g ∣ unsigned_abs (entry l.row k);
+  less : unsigned_abs l.g ≤ unsigned_abs l.known;
   some : pos 1 ≤ℤ l.g;
   small : unsigned_abs l.g < WIDE_ENTRY;
 }

@@ -1,7 +1,8 @@
-use Rattle.std.proofs.Common.{◌<◌, ◌≤◌, ◌-◌, ◌+◌, inl, inr, refl, arith}
+use Rattle.std.proofs.Common.{◌<◌, ◌≤◌, ◌-◌, ◌+◌, inl, inr, List, refl, sym, subst, arith}
 use Rattle.std.proofs.Math.ListN.{length-set}
-use Rattle.std.specs.Prelude.{slice_index}
+use Rattle.std.specs.Prelude.{ℤ, slice_index}
 use Rattle.crn_vec.specs.Elementary.{width}
+use Rattle.crn_tab.specs.Slots.{IsTableau}
 use Rattle.crn_tab.proofs.Finish.{kept_row}
 use Rattle.crn_tab.proofs.Here.{here, some_entry, ok_here, wide_here, row_here, least_here}
 use Rattle.crn_tab.proofs.pivot.exchange.Goals as goal
@@ -104,3 +105,17 @@ returns-clause-wide c = λ ne.
       | inr w ↦ omega (arith, w.own, c.requires.tableau.placed.order_below (c.args.matrix.now.cols + 1 - 1 + w.i) (omega (arith, w.inside)))
     ] in
     absurd (ne (omega (arith, le, c.if-least-n.false, c.cols-n.ensures.count, c.rows-m.ensures.count)))
+
+pub returns-then-least-n-clause-tableau : goal.returns-then-least-n-clause-tableau
+returns-then-least-n-clause-tableau c =
+    let same = c.new_rows-least.ensures.stay (omega (arith, c.cols-n.ensures.count, c.rows-m.ensures.count, c.requires.tableau.placed.order_long)) in
+    subst (λ (rows : List ℤ). IsTableau c.args.matrix.now c.args.at.now c.args.order.now rows) (sym same) c.requires.tableau
+
+pub returns-clause-tableau : goal.returns-clause-tableau
+returns-clause-tableau c =
+    let f = rw (c.requires.lead_count, c.cols-n.ensures.count, c.rows-m.ensures.count) at c.new_rows-least.ensures.filled in
+    let le : c.new_rows-least.result ≤ width c.args.matrix.now = elim f.last [
+      | inl h ↦ omega (arith, h.0, c.requires.tableau.placed.order_long)
+      | inr w ↦ omega (arith, w.own, c.requires.tableau.placed.order_below (c.args.matrix.now.cols + 1 - 1 + w.i) (omega (arith, w.inside)))
+    ] in
+    (returns-clause-ok c (omega (arith, le, c.if-least-n.false, c.cols-n.ensures.count, c.rows-m.ensures.count))).0

@@ -1,5 +1,5 @@
-use Rattle.std.proofs.Common.{◌≡◌, ◌<◌, ℕ, inl, inr, length, refl, ap, ◌∙◌, sym, subst, arith, to_z, of_z}
-use Rattle.std.specs.Prelude.{ℤ, pos, neg_ℤ, ◌-ℤ◌, ◌*ℤ◌, unsigned_abs}
+use Rattle.std.proofs.Common.{◌≡◌, ◌<◌, inl, inr, length, refl, ap, ◌∙◌, sym, subst, arith, to_z, of_z}
+use Rattle.std.specs.Prelude.{ℤ, pos, neg_ℤ, ◌*ℤ◌, unsigned_abs}
 use Rattle.std.specs.Int.{w64, ◌∣◌}
 use Rattle.std.proofs.Math.ListN.{length-set}
 use Rattle.crn_vec.specs.Vectors.{entry}
@@ -31,7 +31,7 @@ make_primitive-requires-clause-known c = λ d h.
     (sparse_value c.args.row.now c.args.lead.now into c.args.c c.args.p.now c.args.q.now (to_z w64 (of_z w64 n)) one c.requires.place long (c.if-not-put_differences.ensures.value refl) is k) (h k))
 
 pub returns-clause-combined : goal.returns-clause-combined
-returns-clause-combined c = λ yes.
+returns-clause-combined c = λ _.
     let row = c.args.row.now in
     let into = c.put_differences.new.into in
     let n = c.negative_times.result in
@@ -39,7 +39,7 @@ returns-clause-combined c = λ yes.
     let is : x ≡ neg_ℤ (c.args.q.now *ℤ entry c.args.lead.now c.args.c) = read n c.negative_times.ensures.small ∙ c.negative_times.ensures.value in
     let one : c.args.p.now ≡ pos 1 = sym (read c.args.p.now c.requires.p) ∙ ap (to_z w64) c.if-p-ne1.false in
     let long : length into ≡ length row = omega (arith, c.put_differences.auto.into, c.copy_from_slice.auto.self, c.requires.into_count) in
-    let m = c.make_primitive.ensures.primitive yes in
+    let m = c.make_primitive.ensures.primitive in
     let without : length (put row c.args.c (pos 0)) ≡ length row = length-set row c.args.c (pos 0) in
     let whole : length (put into c.args.c x) ≡ length (put row c.args.c (pos 0)) = length-set into c.args.c x ∙ long ∙ sym without in
     combined_of c.args.p.now c.args.q.now (put row c.args.c (pos 0)) c.args.lead.now (put into c.args.c x) c.make_primitive.new.row m.t (c.requires.lead_count ∙ sym without) whole (c.make_primitive.auto.row ∙ whole)

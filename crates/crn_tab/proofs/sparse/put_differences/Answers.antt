@@ -1,11 +1,9 @@
-use Rattle.std.proofs.Common.{◌≡◌, ◌<◌, ◌⊎◌, ℕ, inl, inr, length, List, sym, ap, subst, ◌∙◌, arith, to_z, of_z}
+use Rattle.std.proofs.Common.{◌≡◌, ◌<◌, ◌⊎◌, inl, inr, length, List, sym, ap, subst, ◌∙◌, arith, to_z, of_z}
 use Rattle.std.specs.Prelude.{ℤ, ◌*ℤ◌, ◌-ℤ◌, slice_index, slice_index_or, slice_set, unsigned_abs}
 use Rattle.std.specs.Int.{w64}
 use Rattle.std.proofs.Math.ListN.{length-set}
 use Rattle.crn_vec.proofs.CallerLemmas.{eq_or}
-use Rattle.crn_vec.specs.Lists.{IsIn}
 use Rattle.crn_vec.specs.Vectors.{entry}
-use Rattle.crn_tab.specs.Inner.Rows.{ArePlaces}
 use Rattle.crn_tab.specs.Tableau.{AreSmall}
 use Rattle.crn_tab.proofs.NewRows.{look}
 use Rattle.crn_tab.proofs.SparseRow.{listed_place, listed_inside, lessened, all_done}

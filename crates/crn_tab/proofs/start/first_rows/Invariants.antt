@@ -1,6 +1,10 @@
-use Rattle.std.proofs.Common.{◌≡◌, take}
+use Rattle.std.proofs.Common.{◌≡◌, ◌*◌, ◌+◌, length, take, vec_len, vec_capacity}
 use Rattle.crn_tab.specs.Inner.Start.{start_rows}
 use Rattle.crn_tab.proofs.start.first_rows.Given as goal
 
 abbrev pub invariant-loop-i : goal.invariant-loop-i
-invariant-loop-i l = l.rows.items ≡ start_rows (take l.i l.matrix.rows)
+invariant-loop-i l = record {
+  items : l.rows.items ≡ start_rows (take l.i l.matrix.rows);
+  count : vec_len l.rows ≡ l.i * (l.matrix.cols + 1);
+  room : vec_capacity l.rows ≡ length l.matrix.rows * (l.matrix.cols + 1);
+}

@@ -1,4 +1,4 @@
-use Rattle.std.proofs.Common.{◌++◌, ◌∷◌, [], List, take, map, ap, sym, ◌∙◌, append_assoc}
+use Rattle.std.proofs.Common.{◌++◌, ◌∷◌, [], List, take, map, ap, sym, ◌∙◌, append_assoc, arith}
 use Rattle.std.specs.Prelude.{ℤ, neg_ℤ}
 use Rattle.std.specs.Int.{w64}
 use Rattle.std.proofs.lemmas.Int.{to_z-of_z}
@@ -9,7 +9,7 @@ use Rattle.crn_tab.proofs.FirstRows.{negatives_step}
 use Rattle.crn_tab.proofs.start.push_row.Goals as goal
 
 pub negative_of-requires : goal.negative_of-requires
-negative_of-requires c = within_at MAX_AMOUNT c.loop-x.x-index c.args.row.now c.requires
+negative_of-requires c = within_at MAX_AMOUNT c.loop-x.x-index c.args.row.now c.requires.small
 
 pub loop-x-preserved : goal.loop-x-preserved
 loop-x-preserved c =
@@ -17,7 +17,11 @@ loop-x-preserved c =
     let r = c.args.row.now in
     let x : ℤ = neg_ℤ (entry r k) in
     let pushed = to_z-of_z w64 c.negative_of.result (record { sfits = c.negative_of.type_inv }) ∙ c.negative_of.ensures in
-    c.in_ok-push.ensures.items ∙ ap (λ (y : ℤ). c.loop-x.rows.items ++ (y ∷ [])) pushed
-    ∙ ap (λ (v : List ℤ). v ++ (x ∷ [])) c.loop-x.invariant
-    ∙ append_assoc c.args.rows.now.items (map neg_ℤ (take k r)) (x ∷ [])
-    ∙ ap (λ (v : List ℤ). c.args.rows.now.items ++ v) (sym (negatives_step r k c.loop-x-test.true))
+    record {
+      items = c.push_reserved.ensures.items ∙ ap (λ (y : ℤ). c.loop-x.rows.items ++ (y ∷ [])) pushed
+          ∙ ap (λ (v : List ℤ). v ++ (x ∷ [])) c.loop-x.invariant.items
+          ∙ append_assoc c.args.rows.now.items (map neg_ℤ (take k r)) (x ∷ [])
+          ∙ ap (λ (v : List ℤ). c.args.rows.now.items ++ v) (sym (negatives_step r k c.loop-x-test.true));
+      count = omega (arith, c.push_reserved.ensures.len, c.loop-x.invariant.count);
+      room = c.push_reserved.ensures.capacity ∙ c.loop-x.invariant.room;
+    }

@@ -1,6 +1,10 @@
-use Rattle.std.proofs.Common.{◌≡◌, ◌++◌, map, take}
+use Rattle.std.proofs.Common.{◌≡◌, ◌++◌, ◌+◌, map, take, vec_len, vec_capacity}
 use Rattle.std.specs.Prelude.{neg_ℤ}
 use Rattle.crn_tab.proofs.start.push_row.Given as goal
 
 abbrev pub invariant-loop-x : goal.invariant-loop-x
-invariant-loop-x l = l.rows.items ≡ l.initial.rows.items ++ map neg_ℤ (take l.x-index l.row)
+invariant-loop-x l = record {
+  items : l.rows.items ≡ l.initial.rows.items ++ map neg_ℤ (take l.x-index l.row);
+  count : vec_len l.rows ≡ vec_len l.initial.rows + l.x-index;
+  room : vec_capacity l.rows ≡ vec_capacity l.fn.rows;
+}

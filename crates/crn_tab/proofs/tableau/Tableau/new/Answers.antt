@@ -4,8 +4,8 @@ use Rattle.crn_vec.specs.Vectors.{Mat}
 use Rattle.crn_vec.specs.Lists.{IsIn}
 use Rattle.crn_vec.specs.Elementary.{width}
 use Rattle.crn_tab.specs.Inner.Start.{IsIdentity}
-use Rattle.crn_tab.specs.Slots.{basis_of, IsTableau}
-use Rattle.crn_tab.proofs.FirstRows.{first_tableau}
+use Rattle.crn_tab.specs.Slots.{basis_of, AreLowRows, IsTableau}
+use Rattle.crn_tab.proofs.FirstRows.{first_tableau, first_low}
 use Rattle.crn_tab.proofs.BasicTest.{first_basis}
 use Rattle.crn_tab.proofs.tableau.Tableau.new.Goals as goal
 
@@ -27,7 +27,8 @@ invariant_of-result c =
     let T : List ℤ → Type 0 = λ rows. IsTableau a at order rows in
     record {
       tableau = subst T (sym c.in_ok-rows.ensures) first;
-      spare_long = omega (arith, c.in_ok-spare.ensures.len, c.len.ensures);
+      low_rows = λ _. let L : List ℤ → Type 0 = λ rows. AreLowRows (a.cols + 1) (length a.rows) rows in subst L (sym c.in_ok-rows.ensures) (first_low a c.cols-n.ensures.shape c.rows-m.ensures.small);
+      spare_fits = omega (arith, c.in_ok-spare.ensures.exact, c.len.ensures);
       lead_long = omega (arith, c.in_ok-lead.ensures.len, c.cols-n.ensures.count);
       places_room = omega (arith, c.in_ok-places.ensures.exact, c.cols-n.ensures.count);
       work_long = omega (arith, c.in_ok-work.ensures.len, c.cols-n.ensures.count);

@@ -1,25 +1,14 @@
-use Rattle.std.proofs.Common.{◌≡◌, ◌≢◌, ◌<◌, ◌≤◌, ◌+◌, ◌-◌, ◌⊎◌, inl, inr, ℕ, List, length, set, refl, ap, ◌∙◌, sym, subst, arith, to_z, of_z}
+use Rattle.std.proofs.Common.{◌≡◌, ◌≢◌, ◌<◌, ◌≤◌, ◌+◌, ◌-◌, ◌⊎◌, inl, inr, ℕ, List, length, set, refl, ap, ◌∙◌, sym, subst, arith}
 use Rattle.std.specs.Prelude.{ℤ, pos, slice_index, unsigned_abs}
-use Rattle.std.specs.Int.{w64}
 use Rattle.std.proofs.Math.ListN.{length-set}
-use Rattle.crn_vec.specs.declared.limits.TheConstants.{WIDE_ENTRY}
 use Rattle.crn_vec.specs.Vectors.{entry}
 use Rattle.crn_tab.specs.Slots.{IsContent, row_at}
-use Rattle.crn_tab.specs.Inner.Rows.{IsKeptRow, IsLead, IsRowDone, IsRowMade, HasWideRow}
+use Rattle.crn_tab.specs.Inner.Rows.{IsKeptRow, IsRowDone, IsRowMade, HasWideRow}
 use Rattle.crn_tab.proofs.Signs.{is_none}
-use Rattle.crn_tab.proofs.NewRows.{look, new_row_none}
-use Rattle.crn_tab.proofs.Rows.{same_rows}
+use Rattle.crn_tab.proofs.NewRows.{new_row_none}
 use Rattle.crn_tab.proofs.LeadRow.{lead_small_at, lead_primitive_at}
-use Rattle.crn_tab.proofs.Cross.{read}
-use Rattle.crn_tab.proofs.pivot.new_rows.Goals as goal
-
--- what was taken out and put back
-restored : (v : List ℤ) (n : ℕ) (x : ℤ) → n < length v → x ≡ entry v n → set (set v n (pos 0)) n x ≡ v
-restored v n x h e = same_rows (set (set v n (pos 0)) n x) v (length-set (set v n (pos 0)) n x ∙ length-set v n (pos 0))
-    (λ k lt. elim (look (set v n (pos 0)) n k x (omega (arith, length-set v n (pos 0)))) [
-      | inl f ↦ f.1 ∙ e ∙ ap (λ i. entry v i) (sym f.0)
-      | inr f ↦ f.1 ∙ (elim (look v n k (pos 0) h) [ inl g ↦ absurd (f.0 g.0) | inr g ↦ g.1 ])
-    ])
+use Rattle.crn_tab.proofs.LeadBack.{put_back, rows_after}
+use Rattle.crn_tab.proofs.pivot.spare_rows.Goals as goal
 
 kept : (w w' m c r : ℕ) (rows spare lead lead' : List ℤ) (order : List ℕ) (least : ℕ) → w' ≡ w → lead' ≡ lead
     → ((i : ℕ) → i < m → i ≢ r → entry (row_at w' rows i) c ≢ pos 0 → IsRowDone w' c i rows lead' spare least (slice_index order (w' - 1 + i)))
@@ -35,21 +24,6 @@ wide_kept w w' m c r rows lead lead' order least e f h =
     let A : ℕ → Type 0 = λ n. (least ≡ length order) ⊎ HasWideRow n m c r rows lead' order least in
     let B : List ℤ → Type 0 = λ l. (least ≡ length order) ⊎ HasWideRow w m c r rows l order least in
     subst B f (subst A e h)
-
-put_back : (lead : List ℤ) (c w : ℕ) (row : List ℤ) → IsLead w c row lead → 1 ≤ w → unsigned_abs (entry lead (length lead - 1)) < WIDE_ENTRY → (n : ℕ) → n ≡ length lead - 1
-    → set (set lead (length lead - 1) (pos 0)) n (to_z w64 (of_z w64 (entry lead (length lead - 1)))) ≡ lead
-put_back lead c w row h some small n e =
-    let x = to_z w64 (of_z w64 (entry lead (length lead - 1))) in
-    ap (λ i. set (set lead (length lead - 1) (pos 0)) i x) e
-    ∙ restored lead (length lead - 1) x (omega (arith, h.long)) (read (entry lead (length lead - 1)) small)
-
-rows_after : (w r : ℕ) (lead lead' : List ℤ) (spare spare' : List ℤ) → lead' ≡ lead → length lead ≡ w → (row_at (length lead') spare' r ≡ lead')
-    → ((j : ℕ) → j ≢ r → row_at (length lead') spare' j ≡ row_at (length lead') spare j)
-    → (row_at w spare' r ≡ lead) × ((j : ℕ) → j ≢ r → row_at w spare' j ≡ row_at w spare j)
-rows_after w r lead lead' spare spare' e f own others =
-    let A : List ℤ → Type 0 = λ l. (row_at (length l) spare' r ≡ l) × ((j : ℕ) → j ≢ r → row_at (length l) spare' j ≡ row_at (length l) spare j) in
-    let B : ℕ → Type 0 = λ n. (row_at n spare' r ≡ lead) × ((j : ℕ) → j ≢ r → row_at n spare' j ≡ row_at n spare j) in
-    subst B f (subst A e (own, others))
 
 pub fill_rows-least-requires-clause-lead_primitive : goal.fill_rows-least-requires-clause-lead_primitive
 fill_rows-least-requires-clause-lead_primitive c =

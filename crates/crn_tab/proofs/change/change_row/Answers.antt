@@ -1,0 +1,15 @@
+use Rattle.std.proofs.Common.{◌++◌, List, length, ap, ◌∙◌, sym}
+use Rattle.std.specs.Prelude.{ℤ}
+use Rattle.crn_tab.specs.Slots.{row_at}
+use Rattle.crn_tab.proofs.Flat.{row_other}
+use Rattle.crn_tab.proofs.change.change_row.Goals as goal
+
+pub returns-clause-others : goal.returns-clause-others
+returns-clause-others c = λ j ne.
+    let w = length c.args.lead.now.entries.now in
+    let prefix = c.split_at_mut-rest.result.0.now in
+    let into = c.split_at_mut-row.result.0.now in
+    let back = c.split_at_mut-row.result.1.now in
+    row_other w c.args.i j prefix into c.new_low_row.new.row back ne c.split_at_mut-rest.ensures.front_len c.split_at_mut-row.ensures.front_len
+    (c.new_low_row.auto.row ∙ c.split_at_mut-row.ensures.front_len)
+    ∙ ap (λ (xs : List ℤ). row_at w xs j) (sym (c.split_at_mut-rest.ensures.value ∙ ap (λ (r : List ℤ). prefix ++ r) c.split_at_mut-row.ensures.value))

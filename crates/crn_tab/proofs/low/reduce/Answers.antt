@@ -1,0 +1,62 @@
+use Rattle.std.proofs.Common.{◌≡◌, ◌^◌, ℕ, List, ap, ◌∙◌, sym, subst, arith, to_z}
+use Rattle.std.specs.Prelude.{ℤ, pos, ◌*ℤ◌, unsigned_abs}
+use Rattle.std.specs.Int.{w64, ◌∣◌}
+use Rattle.std.proofs.lemmas.Int.{ints, unsigned_abs-mul}
+use Rattle.std.proofs.lemmas.Nat.Gcd.{dvd-zero}
+use Rattle.std.proofs.Math.Nat.{one-dvd, dvd-mul_left}
+use Rattle.crn_tab.specs.Inner.Rows.{AreBelow, IsPrimitivePart}
+use Rattle.crn_vec.specs.Vectors.{entry}
+use Rattle.crn_tab.proofs.Cross.{read}
+use Rattle.crn_tab.proofs.Rows.{everywhere}
+use Rattle.crn_tab.proofs.low.reduce.Goals as goal
+
+times_one : (x : ℤ) → x *ℤ pos 1 ≡ x
+times_one x = omega (arith, ints)
+
+times_divides : (z t u : ℤ) → z *ℤ t ≡ u → unsigned_abs t ∣ unsigned_abs u
+times_divides z t u e =
+    let D : ℕ → Type 0 = λ n. unsigned_abs t ∣ n in
+    subst D (sym (unsigned_abs-mul z t) ∙ ap unsigned_abs e) (dvd-mul_left (unsigned_abs t) (unsigned_abs z))
+
+pub returns-then-known-eq1-clause-primitive : goal.returns-then-known-eq1-clause-primitive
+returns-then-known-eq1-clause-primitive c =
+    let row = c.args.row.now in
+    let is : unsigned_abs c.args.known.now ≡ 1 = ap unsigned_abs (sym (read c.args.known.now c.requires.known_small) ∙ ap (to_z w64) c.if-known-eq1.true) in
+    record {
+      t = pos 1;
+      some = omega (arith, ints);
+      content = record {
+        divides = λ k. one-dvd (unsigned_abs (entry row k));
+        greatest = λ d h. subst (λ (n : ℕ). d ∣ n) is (c.requires.known d h);
+      };
+      parts = λ k lt. times_one (entry row k);
+    }
+
+pub returns-then-try_divide-clause-primitive : goal.returns-then-try_divide-clause-primitive
+returns-then-try_divide-clause-primitive c =
+    let row = c.args.row.now in
+    let known = c.args.known.now in
+    let whole = c.try_divide.ensures.whole c.if-try_divide.true in
+    record {
+      t = known;
+      some = c.requires.some;
+      content = record {
+        divides = everywhere (λ x. unsigned_abs known ∣ unsigned_abs x) row (dvd-zero (unsigned_abs known)) (λ k lt. times_divides (entry c.try_divide.new.row k) known (entry row k) (whole k lt));
+        greatest = c.requires.known;
+      };
+      parts = whole;
+    }
+
+pub reduce_by_search-requires-clause-low : goal.reduce_by_search-requires-clause-low
+reduce_by_search-requires-clause-low c = λ yes.
+    let h = c.requires.low yes in (
+      subst (λ (v : List ℤ). AreBelow (2 ^ 30) v) (sym (c.try_divide.ensures.stays c.if-try_divide.false)) h.0,
+      h.1,
+    )
+
+pub reduce_by_search-requires-clause-known : goal.reduce_by_search-requires-clause-known
+reduce_by_search-requires-clause-known c = λ d h.
+    c.requires.known d (subst (λ (v : List ℤ). (k : ℕ) → d ∣ unsigned_abs (entry v k)) (c.try_divide.ensures.stays c.if-try_divide.false) h)
+
+pub returns-clause-primitive : goal.returns-clause-primitive
+returns-clause-primitive c = subst (λ (v : List ℤ). IsPrimitivePart v c.reduce_by_search.new.row) (c.try_divide.ensures.stays c.if-try_divide.false) c.reduce_by_search.ensures.primitive

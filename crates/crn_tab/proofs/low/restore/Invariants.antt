@@ -1,0 +1,10 @@
+use Rattle.std.proofs.Common.{◌≡◌, ℕ, ◌<◌, ◌≤◌}
+use Rattle.std.specs.Prelude.{◌*ℤ◌}
+use Rattle.crn_vec.specs.Vectors.{entry}
+use Rattle.crn_tab.proofs.low.restore.Given as goal
+
+abbrev pub invariant-loop-j : goal.invariant-loop-j
+invariant-loop-j l = record {
+  done : (k : ℕ) → k < l.j → entry l.row k ≡ entry l.initial.row k *ℤ l.by;
+  left : (k : ℕ) → l.j ≤ k → entry l.row k ≡ entry l.initial.row k;
+}

@@ -1,0 +1,246 @@
+ghost use Rattle.std.specs.Prelude.{◌≡◌, ◌≢◌, ◌≤◌, ◌<◌, ◌^◌, ◌-◌, ◌*◌, ◌+◌, ℕ, ℤ, pos, ◌≤ℤ◌, ◌-ℤ◌, ◌*ℤ◌, List, length, unsigned_abs, slice_set, vec_capacity, IsTrue};
+ghost use Rattle.std.specs.Int.{◌∣◌};
+ghost use Rattle.crn_vec.specs.Vectors.{entry};
+ghost use Rattle.crn_tab.specs.Slots.{AreLowRows, IsContent, row_at};
+ghost use Rattle.crn_tab.specs.Tableau.{AreSmall};
+ghost use Rattle.crn_tab.specs.Inner.Rows.{AreBelow, AreFilled, ArePlaces, IsCombined, IsKeptRow, IsNewRow, IsRowChanged};
+
+use crate::combine::{common, over};
+use crate::lead::{Lead, make_lead, put_lead, put_places};
+use crate::low::{are_low, both, is_low, low_cross, low_differences, make_primitive};
+use crn_vec::WIDE_ENTRY;
+
+// Where all entries are low, no new one reaches the bound, so an exchange cannot be refused, and the rows change in place.
+
+// A row of low entries less a low multiple of the lead. The answer is whether what changed is low.
+fn take_lead(row: &mut [i64], lead: &[i64], places: &[usize], q: &i64) -> bool
+    requires few { length row.old ≤ 2 ^ 20 }
+    requires lead_count { length lead.now ≡ length row.old }
+    requires row { AreBelow (2 ^ 30) row.old }
+    requires lead { AreBelow (2 ^ 30) lead.now }
+    requires q { unsigned_abs q.now < 2 ^ 30 }
+    requires places { ArePlaces lead.now places.now }
+    ensures value { (k : ℕ)
+        → entry row.new k ≡ entry row.old k -ℤ (q.now *ℤ entry lead.now k) }
+    ensures small { AreSmall row.new }
+    ensures low { IsTrue result → AreBelow (2 ^ 30) row.new }
+{
+    let mut low = true;
+    for s in 0..places.len() {
+        let k = places[s];
+        let x = low_cross(&1, &row[k], q, &lead[k]);
+        row[k] = x;
+        low = both(low, is_low(&x));
+    }
+    low
+}
+
+// The primitive difference of a row and a multiple of the lead, in place of the row, where the row itself has the factor 1.
+// Whatever divides all of it divides `known`. The answer is whether its entries are low.
+fn change_few(row: &mut [i64], lead: &[i64], places: &[usize], q: &i64, known: &i64) -> bool
+    requires few { length row.old ≤ 2 ^ 20 }
+    requires lead_count { length lead.now ≡ length row.old }
+    requires row { AreBelow (2 ^ 30) row.old }
+    requires lead { AreBelow (2 ^ 30) lead.now }
+    requires q { unsigned_abs q.now < 2 ^ 30 }
+    requires places { ArePlaces lead.now places.now }
+    requires known { (d : ℕ)
+        → ((k : ℕ) → d ∣ unsigned_abs ((pos 1 *ℤ entry row.old k) -ℤ (q.now *ℤ entry lead.now k)))
+        → d ∣ unsigned_abs known.now }
+    requires known_some { pos 1 ≤ℤ known.now }
+    requires known_small { unsigned_abs known.now < WIDE_ENTRY }
+    ensures combined { IsCombined (pos 1) q.now row.old lead.now row.new }
+    ensures small { AreSmall row.new }
+    ensures low { IsTrue result → AreBelow (2 ^ 30) row.new }
+{
+    let low = take_lead(row, lead, places, q);
+    if *known == 1 {
+        return low;
+    }
+    make_primitive(row, known);
+    are_low(row)
+}
+
+// The same with any factor of the row.
+fn change_all(row: &mut [i64], lead: &[i64], p: &i64, q: &i64, known: &i64) -> bool
+    requires lead_count { length lead.now ≡ length row.old }
+    requires row { AreBelow (2 ^ 30) row.old }
+    requires lead { AreBelow (2 ^ 30) lead.now }
+    requires p { unsigned_abs p.now < 2 ^ 30 }
+    requires q { unsigned_abs q.now < 2 ^ 30 }
+    requires known { (d : ℕ)
+        → ((k : ℕ) → d ∣ unsigned_abs ((p.now *ℤ entry row.old k) -ℤ (q.now *ℤ entry lead.now k)))
+        → d ∣ unsigned_abs known.now }
+    requires known_some { pos 1 ≤ℤ known.now }
+    requires known_small { unsigned_abs known.now < WIDE_ENTRY }
+    ensures combined { IsCombined p.now q.now row.old lead.now row.new }
+    ensures small { AreSmall row.new }
+    ensures low { IsTrue result → AreBelow (2 ^ 30) row.new }
+{
+    low_differences(row, lead, p, q);
+    make_primitive(row, known);
+    are_low(row)
+}
+
+// The primitive difference of two rows of low entries, each times a factor, in place of the first.
+fn change(row: &mut [i64], lead: &[i64], places: &[usize], p: &i64, q: &i64, known: &i64) -> bool
+    requires few { length row.old ≤ 2 ^ 20 }
+    requires lead_count { length lead.now ≡ length row.old }
+    requires row { AreBelow (2 ^ 30) row.old }
+    requires lead { AreBelow (2 ^ 30) lead.now }
+    requires p { unsigned_abs p.now < 2 ^ 30 }
+    requires q { unsigned_abs q.now < 2 ^ 30 }
+    requires places { ArePlaces lead.now places.now }
+    requires known { (d : ℕ)
+        → ((k : ℕ) → d ∣ unsigned_abs ((p.now *ℤ entry row.old k) -ℤ (q.now *ℤ entry lead.now k)))
+        → d ∣ unsigned_abs known.now }
+    requires known_some { pos 1 ≤ℤ known.now }
+    requires known_small { unsigned_abs known.now < WIDE_ENTRY }
+    ensures combined { IsCombined p.now q.now row.old lead.now row.new }
+    ensures small { AreSmall row.new }
+    ensures low { IsTrue result → AreBelow (2 ^ 30) row.new }
+{
+    if *p == 1 {
+        return change_few(row, lead, places, q, known);
+    }
+    change_all(row, lead, p, q, known)
+}
+
+// The new row of a row of low entries, in its place. The last place of `lead` is 0 here, and `p` is what was there.
+fn new_low_row(row: &mut [i64], lead: &[i64], places: &[usize], p: &i64, c: usize) -> bool
+    requires few { length row.old ≤ 2 ^ 20 }
+    requires place { c + 1 < length row.old }
+    requires lead_count { length lead.now ≡ length row.old }
+    requires row { AreBelow (2 ^ 30) row.old }
+    requires lead { AreBelow (2 ^ 30) lead.now }
+    requires places { ArePlaces lead.now places.now }
+    requires lead_last { entry lead.now (length row.old - 1) ≡ pos 0 }
+    requires lead_primitive { IsContent (slice_set lead.now (length row.old - 1) p.now) 1 }
+    requires p { unsigned_abs p.now < 2 ^ 30 }
+    requires p_some { pos 1 ≤ℤ p.now }
+    requires den_some { pos 1 ≤ℤ entry row.old (length row.old - 1) }
+    requires primitive { IsContent row.old 1 }
+    ensures new { IsNewRow (length row.old - 1) c row.old
+        (slice_set lead.now (length row.old - 1) p.now) row.new }
+    ensures small { AreSmall row.new }
+    ensures low { IsTrue result → AreBelow (2 ^ 30) row.new }
+{
+    let q = row[c];
+    if q == 0 {
+        return true;
+    }
+    let t = common(&q, p);
+    let mine = over(p, &t);
+    let other = over(&q, &t);
+    // With no common divisor of the factors, what divides the difference divides both of these.
+    let known = common(&lead[c], &row[row.len() - 1]);
+    row[c] = 0;
+    change(row, lead, places, &mine, &other, &known)
+}
+
+// Row i becomes its new row, if it is not that of the entering coordinate.
+fn change_row(rows: &mut [i64], i: usize, lead: &Lead) -> bool
+    requires few { length rows.old ≤ 2 ^ 20 }
+    requires inside { i * length lead.now.entries.now + length lead.now.entries.now ≤ length
+        rows.old }
+    requires place { lead.now.slot + 1 < length lead.now.entries.now }
+    requires row { IsKeptRow (length lead.now.entries.now)
+        (row_at (length lead.now.entries.now) rows.old i) }
+    requires low_row { AreBelow (2 ^ 30) (row_at (length lead.now.entries.now) rows.old i) }
+    requires lead { AreBelow (2 ^ 30) lead.now.entries.now }
+    requires places { ArePlaces lead.now.entries.now lead.now.places.now }
+    requires lead_last { entry lead.now.entries.now (length lead.now.entries.now - 1) ≡ pos 0 }
+    requires lead_primitive { IsContent
+        (slice_set lead.now.entries.now (length lead.now.entries.now - 1) lead.now.own.now) 1 }
+    requires own { unsigned_abs lead.now.own.now < 2 ^ 30 }
+    requires own_some { pos 1 ≤ℤ lead.now.own.now }
+    ensures changed { i ≢ lead.now.row
+        → IsRowChanged (length lead.now.entries.now) lead.now.slot i rows.old
+        (slice_set lead.now.entries.now (length lead.now.entries.now - 1) lead.now.own.now)
+        rows.new }
+    ensures low { IsTrue result → i ≢ lead.now.row
+        → AreBelow (2 ^ 30) (row_at (length lead.now.entries.now) rows.new i) }
+    ensures others { (j : ℕ) → j ≢ i
+        → row_at (length lead.now.entries.now) rows.new j ≡ row_at (length lead.now.entries.now)
+        rows.old j }
+{
+    if i == lead.row {
+        return true;
+    }
+    let w = lead.entries.len();
+    let (_, rest) = rows.split_at_mut(i * w);
+    let (row, _) = rest.split_at_mut(w);
+    new_low_row(row, lead.entries, lead.places, lead.own, lead.slot)
+}
+
+// Each row but that of the entering coordinate becomes its new row. The answer is whether all their entries are low.
+fn change_rows(rows: &mut [i64], m: usize, lead: &Lead) -> bool
+    requires few { length rows.old ≤ 2 ^ 20 }
+    requires count { length rows.old ≡ m * length lead.now.entries.now }
+    requires place { lead.now.slot + 1 < length lead.now.entries.now }
+    requires row { (i : ℕ) → i < m
+        → IsKeptRow (length lead.now.entries.now)
+        (row_at (length lead.now.entries.now) rows.old i) }
+    requires low_rows { AreLowRows (length lead.now.entries.now) m rows.old }
+    requires lead { AreBelow (2 ^ 30) lead.now.entries.now }
+    requires places { ArePlaces lead.now.entries.now lead.now.places.now }
+    requires lead_last { entry lead.now.entries.now (length lead.now.entries.now - 1) ≡ pos 0 }
+    requires lead_primitive { IsContent
+        (slice_set lead.now.entries.now (length lead.now.entries.now - 1) lead.now.own.now) 1 }
+    requires own { unsigned_abs lead.now.own.now < 2 ^ 30 }
+    requires own_some { pos 1 ≤ℤ lead.now.own.now }
+    ensures changed { (i : ℕ) → i < m → i ≢ lead.now.row
+        → IsRowChanged (length lead.now.entries.now) lead.now.slot i rows.old
+        (slice_set lead.now.entries.now (length lead.now.entries.now - 1) lead.now.own.now)
+        rows.new }
+    ensures low { IsTrue result → (i : ℕ) → i < m → i ≢ lead.now.row
+        → AreBelow (2 ^ 30) (row_at (length lead.now.entries.now) rows.new i) }
+{
+    let mut low = true;
+    for i in 0..m {
+        low = both(low, change_row(rows, i, lead));
+    }
+    low
+}
+
+// The rows after the exchange of the coordinate at slot c and that of row r, where all entries are low. The answer is whether they all still are.
+pub(crate) fn changed_rows(
+    rows: &mut [i64],
+    m: usize,
+    r: usize,
+    c: usize,
+    lead: &mut [i64],
+    places: &mut Vec<usize>,
+) -> bool
+    requires few { length rows.old ≤ 2 ^ 20 }
+    requires count { length rows.old ≡ m * length lead.old }
+    requires place { c + 1 < length lead.old }
+    requires inside { r < m }
+    requires room { length lead.old ≤ vec_capacity places.old }
+    requires row { (i : ℕ) → i < m
+        → IsKeptRow (length lead.old) (row_at (length lead.old) rows.old i) }
+    requires low_rows { AreLowRows (length lead.old) m rows.old }
+    requires some { entry (row_at (length lead.old) rows.old r) c ≢ pos 0 }
+    ensures filled { (order : List ℕ)
+        → AreFilled (length lead.old) m c r rows.old rows.new order (length order) }
+    ensures low { IsTrue result → AreLowRows (length lead.old) m rows.new }
+    ensures room { vec_capacity places.new ≡ vec_capacity places.old }
+{
+    make_lead(rows, r, c, lead);
+    let last = lead.len() - 1;
+    let p = lead[last];
+    lead[last] = 0;
+    put_places(places, lead);
+    let made = Lead {
+        row: r,
+        slot: c,
+        own: &p,
+        entries: lead,
+        places,
+        low: true,
+    };
+    let low = change_rows(rows, m, &made);
+    lead[last] = p;
+    put_lead(rows, r, lead);
+    low
+}
