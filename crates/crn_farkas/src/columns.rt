@@ -62,9 +62,9 @@ fn first_shown(tableau: &mut Tableau, kinds: &[Kind], sum: &mut [i128], work: &m
         if let Some(cut) = kept_cut(tableau, kinds) {
             return Shown::Cut(cut);
         }
-        match lowest(tableau, kinds, sum, work) {
+        match lowest(tableau, kinds, sum) {
             None => {
-                if by_units(tableau, kinds, sum, work) {
+                if by_units(tableau, kinds, sum) {
                     return Shown::Solution;
                 }
                 return Shown::Nothing;

@@ -20,18 +20,6 @@ fn times_unit(kind: Kind, x: i128) -> i128 {
     }
 }
 
-// Minus the sum of the products of a row and what the members of the basis have. Over the row's own entry it is what its coordinate has.
-fn pull(kinds: &[Kind], row: &[i128], own: usize) -> i128
-    requires same { length row.now ≡ length kinds.now }
-    requires own { own < length kinds.now }
-{
-    let mut sum = times_unit(kinds[own], row[own]);
-    for k in 0..kinds.len() {
-        sum = sum.wrapping_sub(times_unit(kinds[k], row[k]));
-    }
-    sum
-}
-
 // The quotient, or 0 where there is none.
 fn quotient(x: i128, by: i128) -> i128 {
     match x.checked_div(by) {
@@ -41,17 +29,12 @@ fn quotient(x: i128, by: i128) -> i128 {
 }
 
 // Puts what a coordinate has, rounded, into its place, and gives it in the direction that its kind asks, times 2^20 and rounded.
-fn height(kinds: &[Kind], row: &[i128], own: usize, sum: &mut [i128]) -> i128
-    requires same { length row.now ≡ length kinds.now }
+fn height(kinds: &[Kind], whole: i128, den: i128, own: usize, sum: &mut [i128]) -> i128
     requires sum { length sum.old ≡ length kinds.now }
     requires own { own < length kinds.now }
 {
-    let whole = pull(kinds, row, own);
-    sum[own] = quotient(whole, row[own]);
-    quotient(
-        times_unit(kinds[own], whole).wrapping_mul(1 << 20),
-        row[own],
-    )
+    sum[own] = quotient(whole, den);
+    quotient(times_unit(kinds[own], whole).wrapping_mul(1 << 20), den)
 }
 
 // Whether a coordinate has to be 0.
@@ -64,16 +47,9 @@ fn is_zero(kind: Kind) -> bool {
 
 // What a coordinate outside the basis that has to be positive or negative has, in the direction that its kind asks. It puts what any
 // coordinate has that need not be 0.
-fn height_outside(
-    tableau: &Tableau,
-    kinds: &[Kind],
-    sum: &mut [i128],
-    work: &mut [i128],
-    e: usize,
-) -> Option<i128>
+fn height_outside(tableau: &Tableau, kinds: &[Kind], sum: &mut [i128], e: usize) -> Option<i128>
     requires kinds { length kinds.now ≡ width tableau.now.matrix }
     requires sum { length sum.old ≡ length kinds.now }
-    requires work { length work.old ≡ length kinds.now }
     requires inside { e < width tableau.now.matrix }
     ensures { IfSome result (λ _. IsIn e tableau.now.basis → ⊥) }
 {
@@ -83,29 +59,23 @@ fn height_outside(
     if tableau.is_basic(e) {
         return None;
     }
-    tableau.put_row(e, work);
-    let here = height(kinds, work, e, sum);
+    let (whole, den) = tableau.pull(e, kinds);
+    let here = height(kinds, whole, den, e, sum);
     if is_asked(kinds[e]) { Some(here) } else { None }
 }
 
 // The coordinate outside the basis that has the least in the direction that its kind asks, if that is not something.
 // What the coordinates have, rounded, is put into a list.
-pub(crate) fn lowest(
-    tableau: &Tableau,
-    kinds: &[Kind],
-    sum: &mut [i128],
-    work: &mut [i128],
-) -> Option<usize>
+pub(crate) fn lowest(tableau: &Tableau, kinds: &[Kind], sum: &mut [i128]) -> Option<usize>
     requires kinds { length kinds.now ≡ width tableau.now.matrix }
     requires sum { length sum.old ≡ length kinds.now }
-    requires work { length work.old ≡ length kinds.now }
     ensures { IfSome result (λ e. (e < width tableau.now.matrix) × (IsIn e tableau.now.basis → ⊥)) }
 {
     let mut least = 1;
     let mut at = None;
     for e in 0..kinds.len() {
         sum[e] = times_unit(kinds[e], 1);
-        if let Some(here) = height_outside(tableau, kinds, sum, work, e) {
+        if let Some(here) = height_outside(tableau, kinds, sum, e) {
             if here < least {
                 least = here;
                 at = Some(e);
@@ -171,15 +141,14 @@ fn next_multiple(l: u128, num: i128, den: i128) -> Option<u128>
 }
 
 // A number that makes all that the coordinates have whole, if there is a small one.
-fn multiple(tableau: &Tableau, kinds: &[Kind], work: &mut [i128]) -> Option<u128>
-    requires kinds { length kinds.now ≡ width tableau.now.matrix }
-    requires work { length work.old ≡ length kinds.now }
+fn multiple(tableau: &Tableau, kinds: &[Kind]) -> Option<u128>
+    requires { length kinds.now ≡ width tableau.now.matrix }
 {
     let mut l = 1u128;
     for e in 0..kinds.len() {
         if !is_zero(kinds[e]) && !tableau.is_basic(e) {
-            tableau.put_row(e, work);
-            match next_multiple(l, pull(kinds, work, e), work[e]) {
+            let (whole, den) = tableau.pull(e, kinds);
+            match next_multiple(l, whole, den) {
                 None => return None,
                 Some(next) => l = next,
             }
@@ -189,43 +158,36 @@ fn multiple(tableau: &Tableau, kinds: &[Kind], work: &mut [i128]) -> Option<u128
 }
 
 // Puts what each coordinate has, times a number.
-fn put_multiples(tableau: &Tableau, kinds: &[Kind], l: i128, sum: &mut [i128], work: &mut [i128])
+fn put_multiples(tableau: &Tableau, kinds: &[Kind], l: i128, sum: &mut [i128])
     requires kinds { length kinds.now ≡ width tableau.now.matrix }
     requires sum { length sum.old ≡ length kinds.now }
-    requires work { length work.old ≡ length kinds.now }
 {
     for e in 0..kinds.len() {
         sum[e] = times_unit(kinds[e], l);
         if !is_zero(kinds[e]) && !tableau.is_basic(e) {
-            tableau.put_row(e, work);
-            sum[e] = quotient(pull(kinds, work, e).wrapping_mul(l), work[e]);
+            let (whole, den) = tableau.pull(e, kinds);
+            sum[e] = quotient(whole.wrapping_mul(l), den);
         }
     }
 }
 
 // Whether what the coordinates have makes a solution, which then is in the list. At first it has that rounded.
-pub(crate) fn by_units(
-    tableau: &Tableau,
-    kinds: &[Kind],
-    sum: &mut [i128],
-    work: &mut [i128],
-) -> bool
+pub(crate) fn by_units(tableau: &Tableau, kinds: &[Kind], sum: &mut [i128]) -> bool
     requires kinds { length kinds.now ≡ width tableau.now.matrix }
     requires sum { length sum.old ≡ length kinds.now }
-    requires work { length work.old ≡ length kinds.now }
     ensures { IsTrue result → IsSmallSolution tableau.now.matrix kinds.now
         (take tableau.now.matrix.cols sum.new) }
 {
     if is_solution(tableau.matrix(), kinds, sum) {
         return true;
     }
-    match multiple(tableau, kinds, work) {
+    match multiple(tableau, kinds) {
         None => false,
         Some(l) => {
             if l >= WIDE_ENTRY {
                 return false;
             }
-            put_multiples(tableau, kinds, l as i128, sum, work);
+            put_multiples(tableau, kinds, l as i128, sum);
             is_solution(tableau.matrix(), kinds, sum)
         }
     }

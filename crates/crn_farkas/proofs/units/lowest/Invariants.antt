@@ -8,5 +8,4 @@ abbrev pub invariant-loop-e : goal.invariant-loop-e
 invariant-loop-e l = record {
   at : IfSome l.at (λ e. (e < width l.tableau.matrix) × (IsIn e l.tableau.basis → ⊥));
   sum : length l.sum ≡ length l.kinds;
-  work : length l.work ≡ length l.kinds;
 }
