@@ -5,7 +5,6 @@ use Rattle.std.specs.Int.{◌∣◌}
 use Rattle.std.specs.List.{AllZip, filter, range_with_len}
 use Rattle.std.proofs.lemmas.Int.{ints}
 use Rattle.std.proofs.lemmas.Bool.{eq-eqb}
-use Rattle.std.proofs.lemmas.Nat.Gcd.{dvd-zero}
 use Rattle.std.proofs.lemmas.List.{get_or-take, get_or-drop, length-take-le, length-drop, length-append, get_or_append_left, get_or-append-add}
 use Rattle.std.proofs.Math.Seq.{take-append_seam}
 use lib.IntN.{*ℤ_comm, *ℤ-zero, zero-*ℤ}
@@ -13,40 +12,15 @@ use Rattle.crn_vec.specs.declared.limits.TheConstants.{WIDE_ENTRY}
 use Rattle.crn_vec.specs.Vectors.{Mat, entry, dot, column}
 use Rattle.crn_vec.specs.Lists.{IsIn}
 use Rattle.crn_vec.specs.Rank.{IsZero}
-use Rattle.crn_vec.specs.Elementary.{width, InRowSpace, IsNamed, IsNamedColumn, IsPrimitive, AreProportional}
+use Rattle.crn_vec.specs.Elementary.{width, InRowSpace, IsNamed, IsNamedColumn, AreProportional}
 use Rattle.crn_vec.proofs.CallerLemmas.{eq_or, lt_or, past_end, in_at, at_in, no_zero, orthogonal, zeros, length-zeros, entry-zeros, zip_push}
 use Rattle.crn_vec.proofs.CallerLemmas.{ratios_cross, range_more, filter_yes, filter_no, dot_single}
+use Rattle.crn_farkas.proofs.CallerLemmas.{as_column, column_some, own_some}
 use Rattle.crn_tab.specs.Tableau.{AreSmall, NamesRows, AreEntered}
-use Rattle.crn_tab.proofs.CallerLemmas.{isIn_or, one_row, one_column, as_row}
+use Rattle.crn_tab.proofs.CallerLemmas.{isIn_or, one_column, as_row}
 use Rattle.crn_reg.specs.Inner.Spaces.{IsSolution, IsTieOf, numbers_but, HasNoColumn, IsFirstColumn, HasNoOther, IsColumnPart}
 
 -- ---- entries that are not zero
-
-not_all_zero : (v : List ℤ) → IsPrimitive v → ((k : ℕ) → entry v k ≡ pos 0) → ⊥
-not_all_zero v prim none =
-    let two : 2 ≡ 1 = prim 2 (λ k. (let D : ℕ → Type 0 = λ n. 2 ∣ n in subst D (sym (ap unsigned_abs (none k))) (dvd-zero 2))) in
-    omega (arith, two)
-
-pub as_column : (a : Mat) (basis : List ℕ) (b : ℕ) (v : List ℤ) → IsIn b basis → IsNamed a basis b v → IsNamedColumn a basis b v
-as_column a basis b v i n = elim n.named as (λ _. IsNamedColumn a basis b v) [ inl c ↦ c | inr r ↦ absurd (r.outside i) ]
-
--- the vector that a basis names by a member is not 0 there
-own_column : (a : Mat) (basis : List ℕ) (b : ℕ) (v : List ℤ) → IsIn b basis → IsNamed a basis b v → entry v b ≢ pos 0
-own_column a basis b v i n none =
-    let col = as_column a basis b v i n in
-    not_all_zero v n.primitive (n.basis_is.free v col.space (λ k m. elim (eq_or k b) as (λ _. entry v k ≡ pos 0) [
-      | inl e ↦ ap (entry v) e ∙ none
-      | inr ne ↦ col.zero_on_rest k m ne
-    ]))
-
--- the vector that a basis names by a coordinate outside it is not 0 there
-own_row : (a : Mat) (basis : List ℕ) (e : ℕ) (w : List ℤ) → NamesRows a basis → e < width a → (IsIn e basis → ⊥) → IsNamed a basis e w → entry w e ≢ pos 0
-own_row a basis e w t lt out n none =
-    let r = t.rows e lt out in
-    not_all_zero w n.primitive (λ j.
-    no_zero (entry r.w e) (entry w j)
-    (one_row a basis e w r.w t.wide t.basis_is (as_row a basis e w out n) (as_row a basis e r.w out r.named) j ∙ ap (λ (x : ℤ). x *ℤ entry r.w j) none ∙ zero-*ℤ (entry r.w j))
-    (λ z. omega (arith, ints, z, r.positive)))
 
 -- ---- a column
 
@@ -98,7 +72,7 @@ part_is a basis c v t entered lt i named small =
         primitive = λ d h. named.primitive d (λ k. (let D : ℤ → Type 0 = λ z. d ∣ unsigned_abs z in subst D (same k) (h k)));
         small = λ k. (let S : ℤ → Type 0 = λ z. unsigned_abs z < WIDE_ENTRY in subst S (sym (same k)) (small k));
       };
-      own = λ z. own_column a basis c v i named (sym (same c) ∙ z);
+      own = λ z. column_some a basis c v i named (sym (same c) ∙ z);
       v = v;
       named = col;
       same = same;
@@ -119,7 +93,7 @@ tie_by a basis spared c w tie t none lt ne named small e =
     subst (IsTieOf a spared c) (sym e) (record {
       long = let l : length u ≡ length a.rows = omega (arith, length-drop n w, row.space.long) in l;
       small = λ k. (let S : ℤ → Type 0 = λ z. unsigned_abs z < WIDE_ENTRY in subst S (sym (get_or-drop n w k (pos 0))) (small (n + k)));
-      own = λ z. own_row a basis c w t inside out named (row.space.is c lt ∙ ap neg_ℤ z);
+      own = λ z. own_some a basis c w t inside out named (row.space.is c lt ∙ ap neg_ℤ z);
       others = λ d dl dne. elim (eq_or d spared) as (λ _. (d ≡ spared) ⊎ (dot u (column a.rows d) ≡ pos 0)) [
         | inl f ↦ inl f
         | inr f ↦ inr (let z = row.zero_outside d (none d dl f) dne in let m = row.space.is d dl in omega (arith, ints, z, m))
