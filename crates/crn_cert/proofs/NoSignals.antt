@@ -1,5 +1,5 @@
 -- A regular network whose confluence vectors are multiples of one has no signal if that one has none, nor its negative in a weakly reversible network.
-use Rattle.std.proofs.Common.{◌∙◌, List, length, sym, inl, inr}
+use Rattle.std.proofs.Common.{◌∙◌, List, sym, inl, inr}
 use Rattle.std.specs.Prelude.{ℤ, negsuc}
 use Rattle.crn_vec.specs.Network.{Net, IsNetwork}
 use Rattle.crn_vec.specs.Strong.{IsWeaklyReversible}

@@ -1,5 +1,5 @@
 -- The complexes and reactions of a linkage class.
-use Rattle.std.proofs.Common.{◌≡◌, ◌≢◌, ◌⊎◌, ℕ, zero, suc, ◌+◌, ◌-◌, ◌<◌, ◌≤◌, ◌==◌, inl, inr, Bool, true, false, List, [], ◌∷◌, ◌++◌, length, get_or, map, refl, sym, ap, subst, ◌∙◌, arith}
+use Rattle.std.proofs.Common.{◌≡◌, ◌≢◌, ◌⊎◌, ℕ, zero, suc, ◌+◌, ◌-◌, ◌<◌, ◌≤◌, ◌==◌, inl, inr, Bool, List, [], ◌∷◌, ◌++◌, length, get_or, map, refl, sym, ap, subst, ◌∙◌, arith}
 use Rattle.std.specs.Prelude.{ℤ, filter}
 use Rattle.std.specs.List.{range_with_len}
 use Rattle.std.proofs.lemmas.Bool.{cases_Bool, eqb-true, eq-eqb, ne_eqb}
@@ -9,7 +9,7 @@ use Rattle.crn_vec.specs.Lists.{IsIn, AreDistinct, IsAscending}
 use Rattle.crn_vec.specs.Network.{Net, IsNetwork, reaction_vector, ends}
 use Rattle.crn_vec.specs.Rank.{chosen}
 use Rattle.crn_vec.specs.Deficiency.{IsLabelled, class_reactions, class_vectors, class_members}
-use Rattle.crn_vec.proofs.CallerLemmas.{at_in, inside_at, class_link, in_range, filter_has, filter_from, above_lower, filter_ascending, range_more}
+use Rattle.crn_vec.proofs.CallerLemmas.{at_in, inside_at, class_link, in_range, filter_has, filter_from, filter_ascending, range_more}
 use Rattle.crn_vec.proofs.CallerLemmas.{filter_yes, filter_no, range_ascending, range_bounds, first_stays, first_goes}
 use Rattle.crn_cert.specs.declared.answer.Verdict.TheVariants.{Classes}
 use Rattle.crn_cert.specs.Questions.{Earlier, Q1}
