@@ -3,7 +3,6 @@ use Rattle.std.proofs.Common.{◌≡◌, ◌∙◌, ◌-◌, ◌⊎◌, inl, inr
 use Rattle.std.specs.Prelude.{ℤ, pos}
 use Rattle.std.specs.List.{AllByRecursion, AllZip}
 use Rattle.crn_vec.specs.Network.{Net, IsNetwork}
-use Rattle.crn_vec.specs.Vectors.{entry}
 use Rattle.crn_vec.specs.CutPairs.{IsOnSide}
 use Rattle.crn_vec.specs.Deficiency.{IsLabelled}
 use Rattle.crn_vec.specs.Sums.{AreMarks}
