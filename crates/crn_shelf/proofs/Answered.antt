@@ -3,7 +3,6 @@ use Rattle.std.proofs.Common.{◌≡◌, ◌⊎◌, ℕ, zero, suc, ◌+◌, ◌
 use Rattle.std.specs.Prelude.{ℤ, pos, negsuc, Option, IsTrue}
 use Rattle.std.specs.Option.{IsSome, IsSomeAnd}
 use Rattle.std.specs.List.{AllByRecursion}
-use Rattle.std.proofs.lemmas.Int.{ints}
 use Rattle.std.proofs.lemmas.List.{length-append, length-map}
 use Rattle.crn_vec.specs.declared.limits.TheConstants.{MAX_BUDGET}
 use Rattle.crn_vec.specs.declared.signs.Sign.{Sign}
@@ -20,7 +19,7 @@ use Rattle.crn_vec.specs.Problems.{Signed}
 use Rattle.crn_vec.specs.Concordance.{sign}
 use Rattle.crn_vec.specs.Signals.{Pair, Shape, complex_row, pair_row, shelf_matrix, signals}
 use Rattle.crn_vec.specs.NetSignals.{IsSignalOf, HasNoSignal, IsShapeOf, opposite_pair, opposite_shape}
-use Rattle.crn_vec.proofs.CallerLemmas.{all_at, length-scale, number_is_one, strong_back, strong_then, confluence_vectors_are_one, signals_are_steady, shapes_are_one, multiples_share_signals, signals_feasible, signals_are_of_shape, negatives_have_opposite_shapes}
+use Rattle.crn_vec.proofs.CallerLemmas.{all_at, length-scale, number_is_one, strong_back, strong_then, confluence_vectors_are_one, signals_are_steady, shapes_are_one, signals_feasible, signals_are_of_shape, negatives_have_opposite_shapes}
 use Rattle.crn_vec.proofs.CallerLemmas.{rows_count}
 use Rattle.crn_cert.specs.declared.answer.Answer.{Answer}
 use Rattle.crn_cert.specs.declared.answer.Verdict.TheVariants.{YesSignal}
@@ -28,7 +27,7 @@ use Rattle.crn_cert.specs.declared.answer.Proof.TheVariants.{Nothing}
 use Rattle.crn_cert.specs.declared.tree.Tree.{Tree}
 use Rattle.crn_cert.specs.Questions.{Earlier, Q2, Q12, Q13, on, vector_given, terminal_of}
 use Rattle.crn_cert.specs.Ranges.{AreFree, IsNarrow}
-use Rattle.crn_cert.specs.Says.{IsTrueOf, AreStrongClasses, IsTurn, IsShelf, by_turn, HasNoSignals}
+use Rattle.crn_cert.specs.Says.{IsTrueOf, AreStrongClasses, IsTurn, IsShelf, by_turn}
 use Rattle.crn_cert.specs.Tests.{AllHold}
 use Rattle.crn_cert.specs.Trees.{Plan, Both, Three, RulesA, RulesB, Level, plan, node_count, IsFormedTree}
 use Rattle.crn_cert.specs.Nodes.{Said, Fits}
@@ -38,7 +37,7 @@ use Rattle.crn_cert.specs.Valid.{IsSignalNode, IsNodeOf, HasVector, pair_places}
 use Rattle.crn_cert.specs.Licensed.{IsSignalWide, PassForSignals}
 use Rattle.crn_cert.specs.Answered.{IsAnswer}
 use Rattle.crn_cert.proofs.CallerLemmas.{tests_decide_valid_trees, leaves_nothing, shapes_exist, tops_are_counted, hold_append, hold_parts, count_places, formed_tree}
-use Rattle.crn_cert.proofs.CallerLemmas.{wide_basis}
+use Rattle.crn_cert.proofs.CallerLemmas.{wide_basis, none_at_all}
 use Rattle.crn_sign.specs.declared.end.SearchEnd.TheVariants.{Found, Refuted}
 use Rattle.crn_sign.specs.declared.fault.SearchStop.{SearchStop}
 use Rattle.crn_sign.specs.declared.fault.SearchStop.TheVariants.{WideA, WideB, NoMemory}
@@ -125,14 +124,6 @@ no_signal net g budget tree n regular e shelves mu level weights sg =
     let m = reaction_system net in
     let at = signals_feasible net g e.0 n regular e.1 shelves mu level weights sg in
     leaves_nothing (signals e.0 m) (signals_are_steady e.0 m) (plan tree) [] at.0 e.2.0.valid at.1 at.2
-
--- if g has no signal, and its negative has none in a weakly reversible network, no confluence vector has one
-none_at_all : (net : Net) (g : List ℤ) → IsNetwork net → IsRegular net → HasConfluenceLine net → IsConfluenceVector net g → HasNoSignal net g → (IsWeaklyReversible net.reactions → HasNoSignal net (negative g)) → HasNoSignals net
-none_at_all net g n regular line c none second h d shelves mu level weights sg =
-    elim ((confluence_vectors_are_one net n regular line).one h g d c) [
-      | inl m ↦ none shelves mu level weights (multiples_share_signals net h g (d.space.long ∙ sym c.space.long) m shelves mu level weights sg)
-      | inr m ↦ second m.1 shelves mu level weights (multiples_share_signals net h (negative g) (d.space.long ∙ sym (length-scale (negsuc 0) g ∙ c.space.long)) m.0 shelves mu level weights sg)
-    ]
 
 -- ---- what earlier verdicts give
 
