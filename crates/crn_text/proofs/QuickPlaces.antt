@@ -1,8 +1,7 @@
 -- A place that holds a name, or a number and a name, with blanks around them, read in one pass.
-use Rattle.std.proofs.Common.{◌≡◌, ℕ, suc, ◌+◌, ◌-◌, ◌≤◌, Bool, true, false, eqb, List, [], ◌∷◌, ◌++◌, length, take, get_or, min, Option, Some, None, Bor, refl, sym, ap, ◌∙◌, append_assoc, arith}
-use Rattle.std.specs.Prelude.{◌||◌}
+use Rattle.std.proofs.Common.{◌≡◌, ℕ, ◌+◌, ◌-◌, Bool, true, false, eqb, List, [], ◌∷◌, ◌++◌, length, Option, Some, Bor, refl, ap, ◌∙◌, append_assoc, arith}
 use Rattle.std.specs.List.{list_all, list_any}
-use Rattle.std.proofs.lemmas.Bool.{and_parts, and_from}
+use Rattle.std.proofs.lemmas.Bool.{and_parts}
 use Rattle.std.proofs.lemmas.Bool.Decides.{nat_tests}
 use Rattle.std.proofs.lemmas.List.{length-append}
 use Rattle.std.proofs.lemmas.List.Folds.{list_any-append}
@@ -11,7 +10,7 @@ use Rattle.crn_net.specs.Terms.{name_at}
 use Rattle.crn_net.specs.declared.term.Term.{Term}
 use Rattle.crn_text.specs.Tokens.{Token, token, tokens, tokens_after, is_digit, is_blank}
 use Rattle.crn_text.specs.declared.token.TokenKind.TheVariants.{Number, Name}
-use Rattle.crn_text.specs.Inner.Pieces.{OccursIn, after_split, SplitsAt, Runs, Numbered, IsSpelled, ReadsTerm, ReadsPlace, count_of}
+use Rattle.crn_text.specs.Inner.Pieces.{OccursIn, after_split, Runs, Numbered, IsSpelled, ReadsTerm, ReadsPlace, count_of}
 use Rattle.crn_text.proofs.CanonicalTokens.{stops, letter_no_digit, name_bytes, tokens_number, tokens_name}
 use Rattle.crn_text.proofs.Terms.{occurs_first, occurs_last, piece_at}
 

@@ -28,7 +28,8 @@ pub all_known_more : (text : List ℕ) (read : List (List ℕ)) (line : List ℕ
 all_known_more text read line [] h = tt
 all_known_more text read line (p ∷ ps) h = (known_more text read line p h.0, all_known_more text read line ps h.1)
 
-all_set : {X : Type 0} (P : X → Type 0) (xs : List X) (k : ℕ) (x : X) → AllByRecursion P xs → P x → AllByRecursion P (set xs k x)
+-- one element replaced
+pub all_set : {X : Type 0} (P : X → Type 0) (xs : List X) (k : ℕ) (x : X) → AllByRecursion P xs → P x → AllByRecursion P (set xs k x)
 all_set P [] k x h y = tt
 all_set P (z ∷ xs) zero x h y = (y, h.1)
 all_set P (z ∷ xs) (suc k) x h y = (h.0, all_set P xs k x h.1 y)

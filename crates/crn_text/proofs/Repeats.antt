@@ -9,7 +9,7 @@ use Rattle.std.proofs.lemmas.List.{append-nil, map_push, length-map}
 use Rattle.std.proofs.lemmas.Slice.Eq.{bytes_eq-Decides}
 use Rattle.crn_vec.specs.Lists.{IsIn, firsts}
 use Rattle.crn_vec.specs.Network.{Net, Statement, names_in, said_by, sides_eq, sides_of}
-use Rattle.crn_vec.proofs.CallerLemmas.{in_left, in_flat_map, flat_map_push, map_in, firsts_known, sides_decide}
+use Rattle.crn_vec.proofs.CallerLemmas.{in_flat_map, flat_map_push, map_in, firsts_known, sides_decide}
 use Rattle.crn_net.specs.Grows.{Grows, GrownFrom, Grown, no_net, names_with, complexes_with, reactions_with}
 use Rattle.crn_net.proofs.CallerLemmas.{Grown-names, Grown-reactions, Grown-network, Grown-names_with, Grown-reactions_with}
 use Rattle.crn_text.specs.Sides.{line_statements, all_statements}
@@ -53,7 +53,8 @@ complexes_stay ss s net g i =
     ∙ ap (λ (t : List (List ℤ × List ℤ)). firsts (pointwise int_eq) (flat_map both_of t)) reactions
     ∙ complexes_are net (Grown-network ss net g)
 
-stays : (ss : List Statement) (s : Statement) (net : Net) → Grown ss net → IsIn s ss → Grows net s net
+-- a statement that is there makes the network grow into itself
+pub stays : (ss : List Statement) (s : Statement) (net : Net) → Grown ss net → IsIn s ss → Grows net s net
 stays ss s net g i =
     let network = Grown-network ss net g in
     let names = names_stay ss s net g i in
@@ -72,15 +73,16 @@ stays ss s net g i =
 
 -- ---- statements that are there
 
-all_stay : (ts ss : List Statement) (net : Net) → Grown ss net → ((s : Statement) → IsIn s ts → IsIn s ss) → (statements_fault ss ts ≡ None) × Grown (ss ++ ts) net
-all_stay [] ss net g h = (refl, subst (λ (t : List Statement). Grown t net) (sym (append-nil ss)) g)
-all_stay (t ∷ ts) ss net g h =
-    let one = grows_fine ss t net net g (stays ss t net g (h t (inl refl))) in
-    let more = all_stay ts (ss ++ t ∷ []) net one.1 (λ s i. in_left s ss (t ∷ []) (h s (inr i))) in
-    (rw one.0 more.0, subst (λ (u : List Statement). Grown u net) (append_assoc ss (t ∷ []) ts) more.1)
+-- statements of those that make the network, after any others that make it
+pub any_stay : (ts ss before : List Statement) (net : Net) → Grown ss net → Grown before net → ((s : Statement) → IsIn s ts → IsIn s ss) → (statements_fault before ts ≡ None) × Grown (before ++ ts) net
+any_stay [] ss before net g b h = (refl, subst (λ (t : List Statement). Grown t net) (sym (append-nil before)) b)
+any_stay (t ∷ ts) ss before net g b h =
+    let one = grows_fine before t net net b (stays ss t net g (h t (inl refl))) in
+    let more = any_stay ts ss (before ++ t ∷ []) net g one.1 (λ s i. h s (inr i)) in
+    (rw one.0 more.0, subst (λ (u : List Statement). Grown u net) (append_assoc before (t ∷ []) ts) more.1)
 
 -- a line that was read before adds nothing
 pub line_stays : (read : List (List ℕ)) (line : List ℕ) (done : Unit {0}) (net : Net) → Grown (all_statements read) net → IsIn line read → own_fault line ≡ None → LineGives (all_statements read) line (Ok done) net
 line_stays read line done net g i sound =
-    let p = all_stay (line_statements line) (all_statements read) net g (λ s j. in_flat_map line_statements read line s i j) in
+    let p = any_stay (line_statements line) (all_statements read) (all_statements read) net g g (λ s j. in_flat_map line_statements read line s i j) in
     (rw sound p.0, p.1)

@@ -2,3 +2,4 @@
 pub mod Pieces
 pub mod Flaws
 pub mod Known
+pub mod Said

@@ -1,8 +1,8 @@
-use Rattle.std.proofs.Common.{◌≡◌, ◌≤◌, true, length, sym, ◌∙◌, arith}
-use Rattle.std.specs.List.{list_all, prefix_len}
+use Rattle.std.proofs.Common.{◌≡◌, true, sym, ◌∙◌, arith}
+use Rattle.std.specs.List.{list_all}
 use Rattle.std.proofs.lemmas.List.Sums.{prefix_len-le-length}
 use Rattle.crn_text.specs.Inner.Pieces.{is_unmarked}
-use Rattle.crn_text.proofs.Runs.{passed_none, passed_more}
+use Rattle.crn_text.proofs.Runs.{passed_more}
 use Rattle.crn_text.proofs.bytes.unmarked_bytes.Goals as goal
 
 pub blocks-2-preserved : goal.blocks-2-preserved
