@@ -1,5 +1,6 @@
 pub mod CallerLemmas
 mod KindLists
 mod Pairs
+mod SettledLaws
 mod Signs
 mod Ended

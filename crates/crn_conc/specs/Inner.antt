@@ -1,3 +1,4 @@
 -- For the contracts of private functions alone.
 pub mod Answers
 pub mod Rows
+pub mod Settled

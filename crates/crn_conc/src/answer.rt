@@ -8,10 +8,11 @@ ghost use Rattle.crn_conc.specs.Inner.Answers.{IsStopAnswer, end_answer, wide_an
 
 use crate::influence::Influence;
 use crate::problem::TableProblem;
+use crate::settled::settled_by_each;
 use crate::system::reaction_matrix;
 use crn_cert::{Answer, Gap, Proof, Verdict};
 use crn_net::Network;
-use crn_sign::{SearchEnd, SearchStop, search};
+use crn_sign::{SearchEnd, SearchStop, coordinates, search};
 use crn_vec::{NoMemory, Nums};
 use std::alloc::{AllocError, Global};
 
@@ -84,9 +85,14 @@ pub fn concordant(
     ensures nodes { IfOk result (λ answer. HasFewNodes budget answer.proof) }
 {
     let _ = net.species();
+    let matrix = reaction_matrix(alloc, net)?;
+    let columns = settled_by_each(alloc, table, net.species())?;
+    let coordinates = coordinates(alloc, &matrix)?;
     let problem = TableProblem {
-        matrix: reaction_matrix(alloc, net)?,
+        matrix,
         table,
+        columns,
+        coordinates,
     };
     match search(alloc, &problem, budget) {
         Ok(end) => Ok(end_answer(end, budget)),

@@ -45,7 +45,8 @@ fn is_minus_sign(sign: Sign) -> bool
     }
 }
 
-fn is_zero_sign(sign: Sign) -> bool
+/// Whether the sign is zero.
+pub(crate) fn is_zero_sign(sign: Sign) -> bool
     ensures { result ≡ is_zero sign }
 {
     match sign {
@@ -111,8 +112,8 @@ fn is_late(pairs: &[(usize, Sign)], chosen: usize) -> bool
     pairs[count - 1].0 >= chosen
 }
 
-// The kind of a reaction's column in part A: free until each species with a sign there is chosen.
-fn column(pairs: &[(usize, Sign)], prefix: &[Sign]) -> Kind
+/// The kind of a reaction's column in part A: free until each species with a sign there is chosen.
+pub(crate) fn column(pairs: &[(usize, Sign)], prefix: &[Sign]) -> Kind
     ensures { (signs : List Sign) → pairs.now ≡ pairs_from 0 signs
         → result ≡ column_kind signs prefix.now }
 {
@@ -143,8 +144,8 @@ pub(crate) fn put_columns(table: &Influence, prefix: &[Sign], into: &mut [Kind])
     }
 }
 
-// The kind of a species' row in part B: by its option, and free if it is not chosen yet.
-fn row_kind(prefix: &[Sign], s: usize) -> Kind
+/// The kind of a species' row in part B: by its option, and free if it is not chosen yet.
+pub(crate) fn row_kind(prefix: &[Sign], s: usize) -> Kind
     ensures { (n : ℕ) → s < n → result ≡ kind_at (row_kinds n prefix.now) s }
 {
     if s < prefix.len() {

@@ -5,6 +5,7 @@ mod answer;
 mod influence;
 mod kinds;
 mod problem;
+mod settled;
 mod system;
 #[cfg(test)]
 mod tests;

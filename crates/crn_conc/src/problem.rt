@@ -1,21 +1,55 @@
 ghost use Rattle.std.specs.Prelude.{◌≡◌, ◌≤◌, length};
 ghost use Rattle.crn_vec.specs.declared.limits.TheConstants.{MAX_REACTIONS, MAX_SPECIES};
+ghost use Rattle.std.specs.List.{range_with_len};
+ghost use Rattle.crn_vec.specs.Concordance.{kinds_a_of, kinds_b_of};
+ghost use Rattle.crn_sign.specs.Settled.{SettlesOnly};
+ghost use Rattle.crn_vec.specs.Elementary.{width};
 ghost use Rattle.crn_conc.specs.Inner.Rows.{AreWide};
+ghost use Rattle.crn_conc.specs.Inner.Settled.{AreSettled};
 
 use crate::influence::Influence;
-use crate::kinds::{are_zeros, put_columns, put_rows};
+use crate::kinds::{are_zeros, column, put_columns, put_rows, row_kind};
+use crate::settled::Settled;
 use crn_sign::SignProblem;
 use crn_vec::{Kind, Matrix, Sign};
+use std::slice::from_ref;
 
 /// The sign problem of an influence table: the choices are the species in order.
 #[derive(Drop)]
 pub(crate) struct TableProblem<'a> {
     pub matrix: Matrix,
     pub table: &'a Influence,
+    pub columns: Vec<Settled>,
+    pub coordinates: Vec<usize>,
+    ghost columns_settled: { AreSettled table.now columns.items },
+    ghost coordinates_are: { coordinates.items ≡ range_with_len 0 (width matrix) },
     ghost reactions: { length table.now ≡ matrix.cols },
     ghost species: { AreWide (length matrix.rows) table.now },
     ghost few_reactions: { matrix.cols ≤ MAX_REACTIONS },
     ghost few_species: { length matrix.rows ≤ MAX_SPECIES },
+}
+
+impl TableProblem<'_> {
+    // All coordinates.
+    fn all(&self, _choices: usize) -> &[usize]
+        ensures a { SettlesOnly (kinds_a_of self.now.matrix self.now.table.now)
+            (width self.now.matrix) _choices result.now }
+        ensures b { SettlesOnly (kinds_b_of self.now.matrix)
+            (width self.now.matrix) _choices result.now }
+    {
+        &self.coordinates
+    }
+
+    // The coordinate of the last species that so many choices choose.
+    fn row(&self, choices: usize) -> &[usize]
+        requires some { 1 ≤ choices }
+        requires few { choices ≤ length self.now.matrix.rows }
+        ensures { SettlesOnly (kinds_b_of self.now.matrix)
+            (width self.now.matrix) choices result.now }
+    {
+        let last = self.matrix.cols() + (choices - 1);
+        from_ref(&self.coordinates[last])
+    }
 }
 
 impl SignProblem for TableProblem<'_> {
@@ -46,6 +80,44 @@ impl SignProblem for TableProblem<'_> {
         let (columns, rows) = into.split_at_mut(self.matrix.cols());
         columns.fill(Kind::Free);
         put_rows(prefix, rows);
+    }
+
+    fn kind_a(&self, prefix: &[Sign], k: usize) -> Kind {
+        if k < self.matrix.cols() {
+            column(self.table.pairs(k), prefix)
+        } else {
+            Kind::Zero
+        }
+    }
+
+    fn kind_b(&self, prefix: &[Sign], k: usize) -> Kind {
+        let cols = self.matrix.cols();
+        if k < cols {
+            Kind::Free
+        } else {
+            row_kind(prefix, k - cols)
+        }
+    }
+
+    fn settled_a(&self, choices: usize) -> &[usize] {
+        if choices >= self.columns.len() {
+            return self.all(choices);
+        }
+        let settled = &self.columns[choices];
+        if settled.choices != choices {
+            return self.all(choices);
+        }
+        &settled.reactions
+    }
+
+    fn settled_b(&self, choices: usize) -> &[usize] {
+        if choices == 0 {
+            return self.all(choices);
+        }
+        if choices > self.matrix.rows() {
+            return self.all(choices);
+        }
+        self.row(choices)
     }
 
     fn closed(&self, prefix: &[Sign]) -> bool {

@@ -8,23 +8,23 @@ use Rattle.crn_vec.proofs.CallerLemmas.{if_ok}
 
 pub invariant_of-problem : goal.invariant_of-problem
 invariant_of-problem c =
-    let m = c.in_ok-reaction_matrix.field-0 in
-    let t = fits c.args.net.now m c.args.table.now c.species.ensures.network c.in_ok-reaction_matrix.ensures c.requires.table in
-    record { reactions = t.reactions; species = rows_wide m c.args.table.now t; few_reactions = t.few_reactions; few_species = t.few_species }
+    let m = c.in_ok-matrix.matrix in
+    let t = fits c.args.net.now m c.args.table.now c.species.ensures.network c.in_ok-matrix.ensures c.requires.table in
+    record { columns_settled = c.in_ok-columns.ensures; coordinates_are = c.in_ok-coordinates.ensures; reactions = t.reactions; species = rows_wide m c.args.table.now t; few_reactions = t.few_reactions; few_species = t.few_species }
 
 pub returns-in-Ok-clause-plain : goal.returns-in-Ok-clause-plain
-returns-in-Ok-clause-plain c = λ e. end_by plain c.in_ok-reaction_matrix.field-0 c.args.table.now c.args.budget c.in-Ok.end c.end_answer.result c.species.ensures.network c.requires.low c.requires.high c.in_ok-reaction_matrix.ensures c.end_answer.ensures c.in-Ok.ensures e
+returns-in-Ok-clause-plain c = λ e. end_by plain c.in_ok-matrix.matrix c.args.table.now c.args.budget c.in-Ok.end c.end_answer.result c.species.ensures.network c.requires.low c.requires.high c.in_ok-matrix.ensures c.end_answer.ensures c.in-Ok.ensures e
 
 pub returns-in-Ok-clause-strong : goal.returns-in-Ok-clause-strong
-returns-in-Ok-clause-strong c = λ e. end_by strong c.in_ok-reaction_matrix.field-0 c.args.table.now c.args.budget c.in-Ok.end c.end_answer.result c.species.ensures.network c.requires.low c.requires.high c.in_ok-reaction_matrix.ensures c.end_answer.ensures c.in-Ok.ensures e
+returns-in-Ok-clause-strong c = λ e. end_by strong c.in_ok-matrix.matrix c.args.table.now c.args.budget c.in-Ok.end c.end_answer.result c.species.ensures.network c.requires.low c.requires.high c.in_ok-matrix.ensures c.end_answer.ensures c.in-Ok.ensures e
 
 pub returns-in-Ok-clause-nodes : goal.returns-in-Ok-clause-nodes
-returns-in-Ok-clause-nodes c = few_by c.in_ok-reaction_matrix.field-0 c.args.table.now c.args.budget c.in-Ok.end c.end_answer.result c.end_answer.ensures c.in-Ok.ensures
+returns-in-Ok-clause-nodes c = few_by c.in_ok-matrix.matrix c.args.table.now c.args.budget c.in-Ok.end c.end_answer.result c.end_answer.ensures c.in-Ok.ensures
 
 pub returns-clause-plain : goal.returns-clause-plain
 returns-clause-plain c = λ e. if_ok (IsStopAnswer c.in-Err.stop) (λ (answer : Answer). (earlier : Earlier) → IsAnswer c.args.net.now c.args.budget earlier Q14 answer) c.stop_answer.result
-    (λ answer k. stop_by plain c.in_ok-reaction_matrix.field-0 c.args.table.now c.args.budget c.in-Err.stop answer c.in_ok-reaction_matrix.ensures c.in-Err.ensures e k) c.stop_answer.ensures
+    (λ answer k. stop_by plain c.in_ok-matrix.matrix c.args.table.now c.args.budget c.in-Err.stop answer c.in_ok-matrix.ensures c.in-Err.ensures e k) c.stop_answer.ensures
 
 pub returns-clause-strong : goal.returns-clause-strong
 returns-clause-strong c = λ e. if_ok (IsStopAnswer c.in-Err.stop) (λ (answer : Answer). (earlier : Earlier) → IsAnswer c.args.net.now c.args.budget earlier Q15 answer) c.stop_answer.result
-    (λ answer k. stop_by strong c.in_ok-reaction_matrix.field-0 c.args.table.now c.args.budget c.in-Err.stop answer c.in_ok-reaction_matrix.ensures c.in-Err.ensures e k) c.stop_answer.ensures
+    (λ answer k. stop_by strong c.in_ok-matrix.matrix c.args.table.now c.args.budget c.in-Err.stop answer c.in_ok-matrix.ensures c.in-Err.ensures e k) c.stop_answer.ensures
