@@ -8,7 +8,7 @@ use Rattle.crn_vec.specs.Vectors.{dot, column}
 use Rattle.crn_vec.specs.Rank.{combination_at}
 use Rattle.crn_vec.specs.Deficiency.{vectors, IsPositiveDependence, IsConservationLaw}
 use Rattle.crn_vec.specs.NetSystems.{species_system, reaction_system, positive_kinds}
-use Rattle.crn_vec.proofs.CallerLemmas.{at_in, dot-comm, lt_or}
+use Rattle.crn_vec.proofs.CallerLemmas.{at_in, dot-comm, lt_or, all_given}
 use Rattle.crn_cert.specs.declared.answer.Answer.{Answer}
 use Rattle.crn_cert.specs.Questions.{Earlier, Q7, Q8}
 use Rattle.crn_cert.specs.Ranges.{AreFree}
@@ -24,7 +24,7 @@ use Rattle.crn_cert.specs.Answered.{IsAnswer}
 use Rattle.crn_solve.specs.Inner.Given.{wide_answer, vector_answer}
 use Rattle.crn_conc.proofs.CallerLemmas.{vectors_count, row_is, rows_count, column_is, combined_past}
 use Rattle.crn_conc.proofs.CallerLemmas.{wide_basis}
-use Rattle.crn_solve.proofs.PositiveKinds.{each_from, IsPositiveSolution, positive_solution, IsPositiveCut, positive_cut}
+use Rattle.crn_solve.proofs.PositiveKinds.{IsPositiveSolution, positive_solution, IsPositiveCut, positive_cut}
 
 -- ---- positive dependence
 
@@ -41,7 +41,7 @@ dependence net x n s = record {
 no_dependence : (net : Net) (u : List ℤ) → IsNetwork net → IsPositiveCut (reaction_system net) u → RuleOutDependence net u
 no_dependence net u n c = record {
   long = c.free.long ∙ rows_count net;
-  falls = each_from (λ v. dot u v ≤ℤ pos 0) (vectors net) [] (λ r lt.
+  falls = all_given (λ v. dot u v ≤ℤ pos 0) (vectors net) [] (λ r lt.
       let l : r < length net.reactions = omega (arith, lt, vectors_count net) in
       subst (λ (v : List ℤ). dot u v ≤ℤ pos 0) (column_is net n r l) (c.falls r l));
   some = (get_or (vectors net) c.some [], at_in (vectors net) c.some [] (omega (arith, c.inside, vectors_count net)), subst (λ (v : List ℤ). dot u v ≤ℤ negsuc 0) (column_is net n c.some c.inside) c.below);
@@ -72,7 +72,7 @@ law : (net : Net) (x : List ℤ) → IsPositiveSolution (species_system net) x �
 law net x s = record {
   long = s.free.long;
   positive = s.positive;
-  kept = each_from (λ v. dot x v ≡ pos 0) (vectors net) [] (λ r lt. dot-comm x (get_or (vectors net) r []) ∙ s.rows r lt);
+  kept = all_given (λ v. dot x v ≡ pos 0) (vectors net) [] (λ r lt. dot-comm x (get_or (vectors net) r []) ∙ s.rows r lt);
 }
 
 no_law : (net : Net) (u : List ℤ) → IsNetwork net → IsPositiveCut (species_system net) u → RuleOutConservation net u

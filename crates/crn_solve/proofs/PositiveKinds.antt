@@ -1,7 +1,6 @@
 -- Systems whose columns have to be positive and whose rows zero: their solutions and the multipliers that rule them out.
 use Rattle.std.proofs.Common.{◌≡◌, ◌≢◌, ℕ, zero, suc, ◌+◌, ◌-◌, ◌<◌, inl, inr, List, [], ◌++◌, length, get_or, take, drop, refl, sym, ap, subst, ◌∙◌, arith}
 use Rattle.std.specs.Prelude.{ℤ, pos, negsuc, neg_ℤ, ◌≤ℤ◌, true, false, unsigned_abs}
-use Rattle.std.specs.List.{AllByRecursion}
 use Rattle.std.proofs.Math.ListN.{replicate, get_or-append}
 use Rattle.std.proofs.lemmas.Int.{ints}
 use Rattle.std.proofs.lemmas.Bool.{false≢true}
@@ -14,13 +13,9 @@ use Rattle.crn_vec.specs.Elementary.{width}
 use Rattle.crn_vec.specs.Systems.{HasKind, MayWeigh, is_signed, kind_at, signed_count}
 use Rattle.crn_vec.specs.Deficiency.{IsPositive}
 use Rattle.crn_vec.specs.NetSystems.{positive_kinds}
-use Rattle.crn_vec.proofs.CallerLemmas.{all_from, in_at, kinds_at, lt_or}
+use Rattle.crn_vec.proofs.CallerLemmas.{kinds_at, lt_or, all_given}
 use Rattle.crn_cert.specs.Ranges.{IsNarrow, AreFree}
 use Rattle.crn_farkas.specs.Decision.{IsSmallCut, IsSmallSolution}
-
--- what holds at each place holds of each member
-pub each_from : {A : Type 0} (P : A → Type 0) (xs : List A) (d : A) → ((k : ℕ) → k < length xs → P (get_or xs k d)) → AllByRecursion P xs
-each_from P xs d h = all_from P xs (λ x i. let at = in_at x xs d i in subst P at.2 (h at.0 at.1))
 
 -- ---- kinds
 
@@ -81,8 +76,8 @@ positive_solution a x s =
     let long : length x ≡ a.cols = ap length (sym columns) ∙ length-take-le a.cols v (omega (arith, s.solves.space.long)) in
     let at : (k : ℕ) → k < a.cols → entry v k ≡ entry x k = λ k lt. sym (get_or-take a.cols v k (pos 0) lt) ∙ ap (λ (l : List ℤ). entry l k) columns in
     record {
-      free = record { long = long; each = each_from IsNarrow x (pos 0) (λ k lt. subst IsNarrow (at k (omega (arith, lt, long))) (s.small k)) };
-      positive = each_from (λ y. pos 1 ≤ℤ y) x (pos 0) (λ k lt.
+      free = record { long = long; each = all_given IsNarrow x (pos 0) (λ k lt. subst IsNarrow (at k (omega (arith, lt, long))) (s.small k)) };
+      positive = all_given (λ y. pos 1 ≤ℤ y) x (pos 0) (λ k lt.
           let l : k < a.cols = omega (arith, lt, long) in
           subst (λ (y : ℤ). pos 1 ≤ℤ y) (at k l) (subst (λ (κ : Kind). HasKind κ (entry v k)) (column_kind a k l) (has k)));
       rows = λ i lt.
@@ -121,7 +116,7 @@ positive_cut a u c =
     let inside = signed_column a k rules.some.1 in
     let one = at_least_one (entry w k) (above k inside) rules.some.2 in
     record {
-      free = record { long = long; each = each_from IsNarrow u (pos 0) (λ i lt. narrow (entry u i) (c.small i)) };
+      free = record { long = long; each = all_given IsNarrow u (pos 0) (λ i lt. narrow (entry u i) (c.small i)) };
       falls = λ j lt. omega (arith, ints, above j lt, is j lt);
       some = k;
       inside = inside;

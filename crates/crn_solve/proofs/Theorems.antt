@@ -1,26 +1,15 @@
 -- The answer on the Deficiency Zero Theorem is one of the crate of deficiencies, or rests on the rank; what the answer on the Deficiency One Theorem rests on.
-use Rattle.std.proofs.Common.{◌≡◌, ◌↔◌, ℕ, ◌-◌, sym, subst}
+use Rattle.std.proofs.Common.{◌≡◌, ◌↔◌, ℕ, sym, subst}
 use Rattle.std.specs.Prelude.{IsTrue, Bool}
 use Rattle.crn_vec.specs.Network.{Net}
 use Rattle.crn_vec.specs.Strong.{IsWeaklyReversible}
-use Rattle.crn_vec.proofs.CallerLemmas.{weakly_reversible_by_reactions, reaction_in}
+use Rattle.crn_cert.proofs.CallerLemmas.{weak_yes, weak_no}
 use Rattle.crn_cert.specs.declared.answer.Verdict.{Verdict}
-use Rattle.crn_cert.specs.declared.answer.Verdict.TheVariants.{Yes, NoReaction}
 use Rattle.crn_cert.specs.Questions.{Earlier, Q4, Q5, Q9, IsOpen, IsYes, on}
 use Rattle.crn_cert.specs.Says.{IsTrueOf}
 use Rattle.crn_cert.specs.Answered.{IsAnswer}
 use Rattle.crn_defi.proofs.CallerLemmas.{zero_rests}
 use Rattle.crn_solve.specs.Inner.Given.{rests_answer}
-
-weak_yes : (net : Net) (v : Verdict) → IsTrueOf net Q4 v → IsYes v → IsWeaklyReversible net.reactions
-weak_yes net Yes h y = (weakly_reversible_by_reactions net.reactions).0 h
-weak_yes net (NoReaction r) h y = absurd y
-weak_yes net v h y = absurd h
-
-weak_no : (net : Net) (v : Verdict) → IsTrueOf net Q4 v → IsWeaklyReversible net.reactions → IsYes v
-weak_no net Yes h w = tt
-weak_no net (NoReaction r) h w = absurd (h.3 ((weakly_reversible_by_reactions net.reactions).1 w h.0 h.1 (reaction_in net.reactions (r - 1) (h.0, h.1) h.2.1.0 h.2.1.1)))
-weak_no net v h w = absurd h
 
 -- a true verdict on weak reversibility is a yes if and only if the network is weakly reversible
 pub weak_is : (net : Net) (v : Verdict) (weak : Bool) → IsTrueOf net Q4 v → (IsTrue weak ↔ IsYes v) → (IsTrue weak ↔ IsWeaklyReversible net.reactions)

@@ -1,13 +1,10 @@
-use Rattle.std.proofs.Common.{◌≡◌, ◌∙◌, ℕ, List, sym, subst}
+use Rattle.std.proofs.Common.{◌≡◌, ◌∙◌, List, sym, subst}
 use Rattle.std.specs.Prelude.{ℤ, IsSomeAnd}
-use Rattle.std.specs.List.{AllByRecursion}
-use Rattle.std.proofs.lemmas.Bool.{false≢true}
 use Rattle.crn_vec.specs.Confluence.{IsNormalVector}
 use Rattle.crn_vec.specs.NetSignals.{HasNoSignal}
 use Rattle.crn_cert.specs.declared.answer.Answer.{Answer}
 use Rattle.crn_cert.specs.declared.answer.Verdict.{Verdict}
 use Rattle.crn_cert.specs.Questions.{Earlier, IsOpen, Q2, Q4, Q12, Q13, on, vector_given}
-use Rattle.crn_cert.specs.Ranges.{IsNarrow}
 use Rattle.crn_cert.specs.Says.{IsTrueOf}
 use Rattle.crn_cert.specs.Law.{IsTrueOrOpen}
 use Rattle.crn_cert.specs.Answered.{IsAnswer}
@@ -16,7 +13,7 @@ use Rattle.crn_conc.proofs.CallerLemmas.{if_ok}
 use Rattle.crn_shelf.specs.Given.{GiveVector}
 use Rattle.crn_shelf.specs.Order.{IsForNegative}
 use Rattle.crn_solve.proofs.Theorems.{weak_is}
-use Rattle.crn_solve.proofs.Signals.{signal_rests, inapplicable_given, vector_is_given}
+use Rattle.crn_solve.proofs.Signals.{signal_rests, vector_is_given}
 use Rattle.crn_solve.proofs.signal_answer.signal_answer.Goals as goal
 
 pub signal-requires-clause-regular : goal.signal-requires-clause-regular
