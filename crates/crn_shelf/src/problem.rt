@@ -1,4 +1,6 @@
 ghost use Rattle.std.specs.Prelude.{◌≡◌, ◌≤◌, length, MatchResult};
+ghost use Rattle.std.specs.List.{range_with_len};
+ghost use Rattle.crn_vec.specs.Elementary.{width};
 ghost use Rattle.crn_vec.specs.declared.limits.TheConstants.{MAX_BUDGET};
 ghost use Rattle.crn_vec.specs.NetSystems.{reaction_system};
 ghost use Rattle.crn_vec.specs.Signals.{shelf_matrix, signals};
@@ -8,8 +10,8 @@ use crate::kinds::{put_kinds, put_rows};
 use crate::system::shelf_matrix;
 use crn_conc::reaction_matrix;
 use crn_net::Network;
-use crn_shape::Shape;
-use crn_sign::{SearchEnd, SearchStop, SignProblem, search};
+use crn_shape::{Shape, row_kind};
+use crn_sign::{SearchEnd, SearchStop, SignProblem, coordinates, search};
 use crn_vec::{Kind, Matrix, Sign};
 use std::alloc::Global;
 
@@ -20,6 +22,11 @@ pub(crate) struct ShelfProblem<'a> {
     pub shape: &'a Shape<'a>,
     pub system: Matrix,
     pub matrix: Matrix,
+    pub coordinates_a: Vec<usize>,
+    pub coordinates_b: Vec<usize>,
+    ghost coordinates_a_are: { coordinates_a.items
+        ≡ range_with_len 0 (width (shelf_matrix shape.now)) },
+    ghost coordinates_b_are: { coordinates_b.items ≡ range_with_len 0 (width matrix) },
     ghost part_a: { system ≡ shelf_matrix shape.now },
     ghost species: { length matrix.rows ≡ shape.now.species },
 }
@@ -54,6 +61,27 @@ impl SignProblem for ShelfProblem<'_> {
         put_rows(self.shape.signs(prefix), rows);
     }
 
+    fn kind_a(&self, prefix: &[Sign], k: usize) -> Kind {
+        self.shape.kind(prefix, k)
+    }
+
+    fn kind_b(&self, prefix: &[Sign], k: usize) -> Kind {
+        let cols = self.matrix.cols();
+        if k < cols {
+            Kind::Free
+        } else {
+            row_kind(self.shape.signs(prefix), k - cols)
+        }
+    }
+
+    fn settled_a(&self, _choices: usize) -> &[usize] {
+        &self.coordinates_a
+    }
+
+    fn settled_b(&self, _choices: usize) -> &[usize] {
+        &self.coordinates_b
+    }
+
     fn closed(&self, prefix: &[Sign]) -> bool {
         self.shape.is_closed(prefix)
     }
@@ -74,10 +102,14 @@ pub(crate) fn search_over(
 {
     let system = shelf_matrix(alloc, shape)?;
     let matrix = reaction_matrix(alloc, net)?;
+    let coordinates_a = coordinates(alloc, &system)?;
+    let coordinates_b = coordinates(alloc, &matrix)?;
     let problem = ShelfProblem {
         shape,
         system,
         matrix,
+        coordinates_a,
+        coordinates_b,
     };
     search(alloc, &problem, budget)
 }
