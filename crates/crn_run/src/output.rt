@@ -1,5 +1,6 @@
-ghost use Rattle.std.specs.Prelude.{◌≡◌, ◌↔◌, ◌≤◌, [], IfOk, IsTrue};
+ghost use Rattle.std.specs.Prelude.{◌≡◌, ◌↔◌, ◌≤◌, List, [], IfOk, IsTrue};
 ghost use Rattle.crn_vec.specs.declared.limits.TheConstants.{MAX_BUDGET};
+ghost use Rattle.crn_cert.specs.declared.answer.Answer.{Answer};
 ghost use Rattle.crn_cert.specs.Answers.{verdicts_of};
 ghost use Rattle.crn_cert.specs.Built.{built};
 ghost use Rattle.crn_cert.specs.Formed.{AreFormed};
@@ -21,13 +22,13 @@ ghost use Rattle.crn_run.specs.declared.words.Command.TheVariants.{Report, Certi
 ghost use Rattle.crn_run.specs.declared.status.Status.TheVariants.{Done, Refused, Rejected, Usage};
 
 use crate::status::Status;
-use crn_cert::{Answers, Verdict, share_of};
+use crn_cert::{Answers, Verdict, Verdicts, share_of};
 use crn_ctext::{shares_are_of_records, write_document2, written_documents_are_good};
 use crn_document::Accepted;
 use crn_io::Sink;
 use crn_net::Network;
 use crn_render::{Printed, write_fault, write_report};
-use crn_solve::solve;
+use crn_solve::{solve, solve_verdicts};
 use crn_text::TextCode;
 use std::alloc::Global;
 
@@ -96,32 +97,60 @@ fn has_open(answers: &Answers) -> bool
     false
 }
 
-/// The status of a run that wrote these answers.
-pub(crate) fn status_of(answers: &Answers) -> Status
-    ensures { AreLeftBy result answers.now }
+// Whether some verdict of these is open.
+fn some_open(verdicts: &Verdicts) -> bool
+    ensures { IsTrue result ↔ HasOpen verdicts.now }
 {
-    if has_open(answers) {
+    for question in 0..verdicts.len() {
+        if is_open(verdicts.get(question + 1)) {
+            return true;
+        }
+    }
+    false
+}
+
+// The status of a run that wrote answers, by whether some of them is open.
+fn status_by(is_left: bool) -> Status
+    ensures { (answers : List Answer) → (IsTrue is_left ↔ HasOpen (verdicts_of answers)) →
+        AreLeftBy result answers }
+{
+    if is_left {
         Status::OpenLeft
     } else {
         Status::Done
     }
 }
 
+/// The status of a run that wrote these answers.
+pub(crate) fn status_of(answers: &Answers) -> Status
+    ensures { AreLeftBy result answers.now }
+{
+    let is_left = has_open(answers);
+    status_by(is_left)
+}
+
+// The status of a run that wrote these verdicts.
+fn status_of_verdicts(verdicts: &Verdicts) -> Status
+    ensures { (answers : List Answer) → verdicts.now ≡ verdicts_of answers →
+        AreLeftBy result answers }
+{
+    let is_left = some_open(verdicts);
+    status_by(is_left)
+}
+
 /// Answers the questions on a network, and writes the report. Takes memory, before it writes.
+///
+/// A report says verdicts alone, so no proof is kept.
 pub(crate) fn report<K: Sink>(alloc: Global, net: &Network, budget: u32, sink: &mut K) -> Status
     requires some { 1 ≤ budget }
     requires most { budget ≤ MAX_BUDGET }
     ensures { NetworkGives (Report budget) result net.now (K.seen sink.old) (K.seen sink.new) }
 {
-    let answers = match solve(alloc, net, budget) {
-        Ok(answers) => answers,
-        Err(_) => return Status::NoMemory,
-    };
-    let whole = status_of(&answers);
-    let verdicts = match answers.into_verdicts() {
+    let verdicts = match solve_verdicts(alloc, net, budget) {
         Ok(verdicts) => verdicts,
         Err(_) => return Status::NoMemory,
     };
+    let whole = status_of_verdicts(&verdicts);
     match write_report(net, &verdicts, sink) {
         Ok(()) => whole,
         Err(_) => Status::WriteFault,

@@ -12,12 +12,7 @@ use Rattle.crn_cert.specs.Valid.{AreValid}
 use Rattle.crn_cert.specs.Licensed.{IsTrueOrLicensed, AllTrueOrLicensed}
 use Rattle.crn_cert.specs.Answered.{IsAnswer}
 use Rattle.crn_solve.specs.Inner.Answered.{IsDecidedAnswer}
-
--- an answer to each question, after the earlier verdicts and those of the answers before
-abbrev pub AreAnswers : Net → ℕ → Earlier → List Question → List Answer → Type 0
-AreAnswers net budget earlier [] [] = Unit {0}
-AreAnswers net budget earlier (q ∷ qs) (answer ∷ answers) = IsAnswer net budget earlier q answer × AreAnswers net budget (earlier ++ (q, answer.verdict) ∷ []) qs answers
-AreAnswers net budget earlier qs answers = ⊥
+use Rattle.crn_solve.specs.Inner.Solved.{AreAnswers}
 
 pub are_formed : (net : Net) (budget : ℕ) (earlier : Earlier) (qs : List Question) (answers : List Answer) → AreAnswers net budget earlier qs answers → AreFormed net earlier qs answers
 are_formed net budget earlier [] [] h = tt

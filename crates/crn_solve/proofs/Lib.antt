@@ -10,3 +10,4 @@ mod Theorems
 mod Regularity
 mod SignalSides
 mod Signals
+mod Solved

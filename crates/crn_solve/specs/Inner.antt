@@ -3,3 +3,4 @@ pub mod Answered
 pub mod ClassData
 pub mod Given
 pub mod Sides
+pub mod Solved

@@ -1,8 +1,9 @@
-ghost use Rattle.std.specs.Prelude.{◌≤◌, [], take, zip, IfOk, IsSomeAnd};
+ghost use Rattle.std.specs.Prelude.{◌≡◌, ◌≤◌, ◌<◌, ◌++◌, ◌∷◌, List, [], length, take, zip, IfOk, IsSomeAnd};
 ghost use Rattle.std.specs.List.{AllByRecursion};
 ghost use Rattle.crn_vec.specs.declared.limits.TheConstants.{MAX_BUDGET};
 ghost use Rattle.crn_vec.specs.NetSignals.{HasNoSignal};
 ghost use Rattle.crn_cert.specs.Questions.{IsOpen, Q12, Q13, on, vector_given};
+ghost use Rattle.crn_cert.specs.declared.answer.Answer.{Answer as GivenAnswer};
 ghost use Rattle.crn_cert.specs.Answers.{verdicts_of};
 ghost use Rattle.crn_cert.specs.Built.{built};
 ghost use Rattle.crn_cert.specs.Formed.{AreFormed};
@@ -10,6 +11,7 @@ ghost use Rattle.crn_cert.specs.Valid.{AreValid};
 ghost use Rattle.crn_cert.specs.Licensed.{AllTrueOrLicensed, PassForSignals};
 ghost use Rattle.crn_cert.specs.TreeSizes.{HaveFewNodes};
 ghost use Rattle.crn_shelf.specs.Order.{IsForNegative};
+ghost use Rattle.crn_solve.specs.Inner.Solved.{AreFirstAnswers};
 
 use crate::concordance::{concordant, strongly_concordant};
 use crate::confluence_answer::confluence_answer;
@@ -22,7 +24,7 @@ use crate::reversible::{reversible, weakly_reversible};
 use crate::signal_answer::signal_answer;
 use crate::strong_answer::strong_answer;
 use crate::zero_answer::zero_answer;
-use crn_cert::Answers;
+use crn_cert::{Answer, Answers, Verdicts};
 use crn_defi::one_hypotheses;
 use crn_graph::{linkage, strong};
 use crn_net::Network;
@@ -30,30 +32,11 @@ use crn_reg::regular;
 use crn_vec::NoMemory;
 use std::alloc::Global;
 
-/// The answers to the questions that are built, in order. The budget is the most prefixes that a search may visit.
-///
-/// Each answer is formed and valid, and its verdict is true of the network, or open and licensed with this budget.
-/// The first four are never open. Each tree has at most as many nodes as the budget. A signal is sought for the vector of
-/// question 12 first: if the visits for it exceed the budget, question 13 is open, and it is a yes for the negative only
-/// if the vector has none.
-pub fn solve(alloc: Global, net: &Network, budget: u32) -> Result<Answers, NoMemory>
+// The answers to the questions before the two on concordance.
+fn first_answers(alloc: Global, net: &Network, budget: u32) -> Result<Answers, NoMemory>
     requires some { 1 ≤ budget }
     requires most { budget ≤ MAX_BUDGET }
-    ensures formed { IfOk result (λ answers. AreFormed net.now [] built answers) }
-    ensures valid { IfOk result (λ answers. AreValid net.now [] built answers) }
-    ensures answered { IfOk result (λ answers.
-        AllTrueOrLicensed net.now budget [] built (verdicts_of answers)) }
-    ensures decided { IfOk result (λ answers.
-        AllByRecursion (λ v. IsOpen v → ⊥) (take 4 (verdicts_of answers))) }
-    ensures nodes { IfOk result (λ answers. HaveFewNodes budget answers) }
-    ensures spent { IfOk result (λ answers.
-        let given = zip built (verdicts_of answers) in
-        IsSomeAnd (vector_given (on given Q12)) (λ g. PassForSignals net.now g budget) →
-        IsOpen (on given Q13)) }
-    ensures first { IfOk result (λ answers.
-        let given = zip built (verdicts_of answers) in
-        IsForNegative (on given Q13) →
-        IsSomeAnd (vector_given (on given Q12)) (HasNoSignal net.now)) }
+    ensures { IfOk result (λ answers. AreFirstAnswers net.now budget answers) }
 {
     meets_definition(net);
     let linkage = linkage(alloc, net)?;
@@ -84,8 +67,6 @@ pub fn solve(alloc: Global, net: &Network, budget: u32) -> Result<Answers, NoMem
         &confluence.verdict,
         budget,
     )?;
-    let concordant = concordant(alloc, net, budget)?;
-    let strongly_concordant = strongly_concordant(alloc, net, budget)?;
     let mut answers = Answers::new(alloc)?;
     answers.push(linkage_answer(linkage));
     answers.push(strong_answer(strong));
@@ -100,7 +81,79 @@ pub fn solve(alloc: Global, net: &Network, budget: u32) -> Result<Answers, NoMem
     answers.push(regular);
     answers.push(confluence);
     answers.push(signal);
+    Ok(answers)
+}
+
+/// The answers to the questions that are built, in order. The budget is the most prefixes that a search may visit.
+///
+/// Each answer is formed and valid, and its verdict is true of the network, or open and licensed with this budget.
+/// The first four are never open. Each tree has at most as many nodes as the budget. A signal is sought for the vector of
+/// question 12 first: if the visits for it exceed the budget, question 13 is open, and it is a yes for the negative only
+/// if the vector has none.
+pub fn solve(alloc: Global, net: &Network, budget: u32) -> Result<Answers, NoMemory>
+    requires some { 1 ≤ budget }
+    requires most { budget ≤ MAX_BUDGET }
+    ensures formed { IfOk result (λ answers. AreFormed net.now [] built answers) }
+    ensures valid { IfOk result (λ answers. AreValid net.now [] built answers) }
+    ensures answered { IfOk result (λ answers.
+        AllTrueOrLicensed net.now budget [] built (verdicts_of answers)) }
+    ensures decided { IfOk result (λ answers.
+        AllByRecursion (λ v. IsOpen v → ⊥) (take 4 (verdicts_of answers))) }
+    ensures nodes { IfOk result (λ answers. HaveFewNodes budget answers) }
+    ensures spent { IfOk result (λ answers.
+        let given = zip built (verdicts_of answers) in
+        IsSomeAnd (vector_given (on given Q12)) (λ g. PassForSignals net.now g budget) →
+        IsOpen (on given Q13)) }
+    ensures first { IfOk result (λ answers.
+        let given = zip built (verdicts_of answers) in
+        IsForNegative (on given Q13) →
+        IsSomeAnd (vector_given (on given Q12)) (HasNoSignal net.now)) }
+{
+    let mut answers = first_answers(alloc, net, budget)?;
+    let concordant = concordant(alloc, net, budget)?;
+    let strongly_concordant = strongly_concordant(alloc, net, budget)?;
     answers.push(concordant);
     answers.push(strongly_concordant);
     Ok(answers)
+}
+
+// Adds the verdict of an answer, whose proof is let go.
+fn push_verdict(verdicts: &mut Verdicts, answer: Answer)
+    requires { length verdicts.old < 15 }
+    ensures { verdicts.new ≡ verdicts.old ++ answer.verdict ∷ [] }
+{
+    verdicts.push(answer.verdict);
+}
+
+/// The verdicts on the questions that are built, in order, without proofs. The budget is that of `solve`.
+///
+/// There are answers with these verdicts that are formed and valid. Each verdict is true of the network, or open and
+/// licensed with this budget; what `solve` says of the first four and of question 13 holds of these, too.
+/// It takes less memory than `solve`: the trees of a question are let go before the next search.
+pub fn solve_verdicts(alloc: Global, net: &Network, budget: u32) -> Result<Verdicts, NoMemory>
+    requires some { 1 ≤ budget }
+    requires most { budget ≤ MAX_BUDGET }
+    ensures answers { IfOk result (λ verdicts. (answers : List GivenAnswer)
+        × (verdicts ≡ verdicts_of answers)
+        × AreFormed net.now [] built answers × AreValid net.now [] built answers) }
+    ensures answered { IfOk result (λ verdicts.
+        AllTrueOrLicensed net.now budget [] built verdicts) }
+    ensures decided { IfOk result (λ verdicts.
+        AllByRecursion (λ v. IsOpen v → ⊥) (take 4 verdicts)) }
+    ensures spent { IfOk result (λ verdicts.
+        let given = zip built verdicts in
+        IsSomeAnd (vector_given (on given Q12)) (λ g. PassForSignals net.now g budget) →
+        IsOpen (on given Q13)) }
+    ensures first { IfOk result (λ verdicts.
+        let given = zip built verdicts in
+        IsForNegative (on given Q13) →
+        IsSomeAnd (vector_given (on given Q12)) (HasNoSignal net.now)) }
+{
+    let answers = first_answers(alloc, net, budget)?;
+    let mut verdicts = answers.into_verdicts()?;
+    let concordant = concordant(alloc, net, budget)?;
+    push_verdict(&mut verdicts, concordant);
+    let strongly_concordant = strongly_concordant(alloc, net, budget)?;
+    push_verdict(&mut verdicts, strongly_concordant);
+    Ok(verdicts)
 }

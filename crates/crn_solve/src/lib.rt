@@ -19,4 +19,4 @@ mod systems;
 mod tests;
 mod zero_answer;
 
-pub use answers::solve;
+pub use answers::{solve, solve_verdicts};

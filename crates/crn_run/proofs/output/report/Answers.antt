@@ -2,20 +2,26 @@ use Rattle.std.proofs.Common.{[], List, subst, sym}
 use Rattle.crn_cert.specs.declared.answer.Verdict.{Verdict}
 use Rattle.crn_cert.specs.Built.{built}
 use Rattle.crn_cert.specs.FormedVerdicts.{AreFormedVerdicts}
+use Rattle.crn_cert.specs.Licensed.{AllTrueOrLicensed}
 use Rattle.crn_run.proofs.Outputs.{answers_formed, report_broken, report_gives}
 use Rattle.crn_run.proofs.output.report.Goals as goal
 
 pub write_report-requires : goal.write_report-requires
 write_report-requires g c =
     let net = c.args.net.now in
-    subst (λ (vs : List Verdict). AreFormedVerdicts net [] built vs) (sym c.in-Ok-into_verdicts.ensures) (answers_formed net [] built c.in-Ok.answers c.in-Ok.ensures.formed)
+    let a = c.in-Ok.ensures.answers in
+    subst (λ (vs : List Verdict). AreFormedVerdicts net [] built vs) (sym a.1) (answers_formed net [] built a.0 a.2)
 
 pub returns-in-Ok-write_report : goal.returns-in-Ok-write_report
 returns-in-Ok-write_report g c = λ text spells.
-    report_gives c.args.budget c.status_of-whole.result text c.args.net.now c.in-Ok.answers c.in-Ok-into_verdicts.verdicts _ _ c.in-Ok-into_verdicts.ensures
-    (record { spells = spells; formed = c.in-Ok.ensures.formed; answered = c.in-Ok.ensures.answered }) c.status_of-whole.ensures c.in-Ok-write_report.ensures.all
+    let a = c.in-Ok.ensures.answers in
+    let answered = subst (λ (vs : List Verdict). AllTrueOrLicensed c.args.net.now c.args.budget [] built vs) a.1 c.in-Ok.ensures.answered in
+    report_gives c.args.budget c.status_of_verdicts-whole.result text c.args.net.now a.0 c.in-Ok.verdicts _ _ a.1
+    (record { spells = spells; formed = a.2; answered = answered }) (c.status_of_verdicts-whole.ensures a.0 a.1) c.in-Ok-write_report.ensures.all
 
 pub returns : goal.returns
 returns g c = λ text spells.
-    report_broken c.args.budget c.status_of-whole.result text c.args.net.now c.in-Ok.answers c.in-Ok-into_verdicts.verdicts _ _ c.in-Ok-into_verdicts.ensures
-    (record { spells = spells; formed = c.in-Ok.ensures.formed; answered = c.in-Ok.ensures.answered }) c.status_of-whole.ensures c.in-Err-write_report.ensures.prefix
+    let a = c.in-Ok.ensures.answers in
+    let answered = subst (λ (vs : List Verdict). AllTrueOrLicensed c.args.net.now c.args.budget [] built vs) a.1 c.in-Ok.ensures.answered in
+    report_broken c.args.budget c.status_of_verdicts-whole.result text c.args.net.now a.0 c.in-Ok.verdicts _ _ a.1
+    (record { spells = spells; formed = a.2; answered = answered }) (c.status_of_verdicts-whole.ensures a.0 a.1) c.in-Err-write_report.ensures.prefix

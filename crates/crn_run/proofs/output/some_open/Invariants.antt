@@ -1,0 +1,6 @@
+use Rattle.std.proofs.Common.{take}
+use Rattle.crn_run.specs.Run.{HasOpen}
+use Rattle.crn_run.proofs.output.some_open.Given as goal
+
+abbrev pub invariant-loop-question : goal.invariant-loop-question
+invariant-loop-question l = HasOpen (take l.question l.verdicts) → ⊥

@@ -1,0 +1,32 @@
+use Rattle.std.proofs.Common.{[], ◌∷◌, ◌++◌, List, sym, subst, arith}
+use Rattle.crn_cert.specs.declared.answer.Verdict.{Verdict}
+use Rattle.crn_cert.specs.Built.{built}
+use Rattle.crn_cert.specs.Licensed.{AllTrueOrLicensed}
+use Rattle.crn_solve.specs.Inner.Solved.{FirstAreDecided, IsOpenIfSpent, IsVectorFirst}
+use Rattle.crn_solve.proofs.Solved.{one_more, solved_after, verdicts_counted, verdicts_more}
+use Rattle.crn_solve.proofs.answers.solve_verdicts.Goals as goal
+
+pub push_verdict-requires : goal.push_verdict-requires
+push_verdict-requires c = let n = verdicts_counted c.args.net.now c.args.budget c.in_ok-answers.answers _ c.in_ok-answers.ensures.all c.in_ok-verdicts.ensures in omega (arith, n)
+
+pub push_verdict-requires-2 : goal.push_verdict-requires-2
+push_verdict-requires-2 c =
+    let n = verdicts_counted c.args.net.now c.args.budget c.in_ok-answers.answers _ c.in_ok-answers.ensures.all c.in_ok-verdicts.ensures in
+    omega (arith, n, one_more _ _ _ c.push_verdict.ensures)
+
+pub returns : goal.returns
+returns c =
+    let net = c.args.net.now in
+    let budget = c.args.budget in
+    let one = c.in_ok-concordant.ensures in
+    let two = c.in_ok-strongly_concordant.ensures in
+    let s = solved_after net budget c.in_ok-answers.answers c.in_ok-concordant.concordant c.in_ok-strongly_concordant.strongly_concordant c.in_ok-answers.ensures
+    (record { first = one.answer; first_few = one.nodes; second = two.answer; second_few = two.nodes }) in
+    let e = verdicts_more c.in_ok-answers.answers c.in_ok-concordant.concordant c.in_ok-strongly_concordant.strongly_concordant _ _ _ c.in_ok-verdicts.ensures c.push_verdict.ensures c.push_verdict-2.ensures in
+    record {
+      answers = (c.in_ok-answers.answers ++ c.in_ok-concordant.concordant ∷ c.in_ok-strongly_concordant.strongly_concordant ∷ [], e, s.formed, s.valid);
+      answered = subst (λ (vs : List Verdict). AllTrueOrLicensed net budget [] built vs) (sym e) s.answered;
+      decided = subst FirstAreDecided (sym e) s.decided;
+      spent = subst (IsOpenIfSpent net budget) (sym e) s.spent;
+      first = subst (IsVectorFirst net) (sym e) s.first;
+    }
