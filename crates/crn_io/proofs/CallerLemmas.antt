@@ -10,5 +10,5 @@ pub use Rattle.crn_io.proofs.Joined.{flat_map_step, flat_map_whole, joined_push,
 pub use Rattle.crn_io.proofs.LineEnds.{line_or_not, breaks_or_not, line_is_there, line_breaks_none, line_is_one, break_is_one}
 -- What a call for the next line says of the place of this line.
 pub use Rattle.crn_io.proofs.LinesDue.{due_is, end_is, cause_is, cause_is_one}
--- What two calls take off a source one after the other.
-pub use Rattle.crn_io.proofs.Streams.{Consumes-then}
+-- What no call, and what two calls one after the other, take off a source.
+pub use Rattle.crn_io.proofs.Streams.{Consumes-none, Consumes-then}

@@ -3,7 +3,7 @@
 -- Lists of any kind: members, distinct members, facts of all members, and lists with a member put at the end.
 pub use Rattle.crn_vec.proofs.Lists.{in_left, in_right, in_cases, in_push, in_map, map_in, at_in, in_at, same_place}
 pub use Rattle.crn_vec.proofs.Lists.{distinct_push, map_distinct, map_same, map_twice, append_same, pair, and_cases}
-pub use Rattle.crn_vec.proofs.Lists.{all_in, all_from, all_given, all_at, all_push, all_map, any_default}
+pub use Rattle.crn_vec.proofs.Lists.{all_in, all_from, all_given, all_at, all_push, all_set, all_map, any_default}
 pub use Rattle.crn_vec.proofs.Lists.{distinct_of_map, apart_of, all_append, flat_map_push, in_flat_map, of_flat_map}
 -- Tests that decide: whether two agree, and whether one finds a member.
 pub use Rattle.crn_vec.proofs.Lists.{same_test, any_is, any_true, any_false, any_has, any_push, and_true, and_no, or_right, not_true}
@@ -23,14 +23,17 @@ pub use Rattle.crn_vec.proofs.Statements.{name_decides, row_decides, sides_decid
 pub use Rattle.crn_vec.proofs.Statements.{none_said, has_name, amounts_same}
 -- Lists by their entries: which places are inside, and lists related place by place.
 pub use Rattle.crn_vec.proofs.Entries.{past_end, inside_or, lt_or, eq_or, below_or, look_at, abs_back, zip_from, zip_at, zip_long, within_from, dot_step, zip_push, map_more}
+pub use Rattle.crn_vec.proofs.Entries.{before_one, below_two}
 -- The rows of a list that holds them one after another, and bounds of their entries.
 pub use Rattle.crn_vec.proofs.RowLists.{length-rows_of, row_at, row_inside, rows_of_length, within_at, within_drop, within_take, within_rows}
 pub use Rattle.crn_vec.proofs.RowLists.{within_append, amounts_within, drop_seam, length-rows_after, rows_after}
 -- Numbers that 128 bits hold, and bounds of sums and products.
 pub use Rattle.crn_vec.proofs.Held.{held, product_within, sum_within}
+-- Places that are skipped in sums of products, what a zero adds, and bounds of lists in which places are set.
+pub use Rattle.crn_vec.proofs.ZeroPlaces.{dot_skip, skips_long, zero_adds, nought_adds, within_more, within_set, entry_of_zeros, zeros_within}
 -- Ring laws and signs of whole numbers.
 pub use Rattle.crn_vec.proofs.Ring.{distrib, distrib-right, assoc, left-comm, mul-neg, mul-sub, no_zero, pos_pos, is_zero, one_ne_zero}
-pub use Rattle.crn_vec.proofs.Ring.{neg-mul, cancel_right, swap_factors, ratios_cross, one-mul, zero_times, positive_some}
+pub use Rattle.crn_vec.proofs.Ring.{neg-mul, cancel_right, swap_factors, ratios_cross, one-mul, zero_times, plus_none, positive_some}
 -- Dot products, sums and multiples of vectors, and combinations of rows.
 pub use Rattle.crn_vec.proofs.Sums.{dot-comm, dot_none, dot_zero, dot_single, dot_split, dot-scale, dot-plus, zeros-dot, transposed}
 pub use Rattle.crn_vec.proofs.Sums.{plus, zeros, comb, dots, length-scale, length-plus, length-zeros, length-comb, length-dots}
@@ -86,8 +89,10 @@ pub use Rattle.crn_vec.proofs.NetTables.{networks_have_tables, length-minus}
 pub use Rattle.crn_vec.proofs.NetTables.{vector_at, column_long, row_is, rows_count}
 pub use Rattle.crn_vec.proofs.NetRows.{reaction_long, vectors_count, vector_width, some_species, column_is, combined_past}
 -- The kinds of the rows at a prefix, and the signs of numbers.
-pub use Rattle.crn_vec.proofs.TableKinds.{length-rows, one_at_most, count_at_most, plus-opposite, minus-opposite, sum-opposite, cond-opposite}
+pub use Rattle.crn_vec.proofs.TableKinds.{length-rows, one_at_most, count_at_most, plus-opposite, minus-opposite, sum-opposite, cond-opposite, products_none}
 pub use Rattle.crn_vec.proofs.PrefixKinds.{row_chosen, row_open, rows_are, kinds_more, sign_is}
+-- The sign of a product, and of a negative, by the signs of the numbers.
+pub use Rattle.crn_vec.proofs.SignTables.{product_is, opposite_is}
 -- Labels of strong classes, reaction by reaction.
 pub use Rattle.crn_vec.proofs.EvenLabels.{IsEvenAt, even_at, weak_if_even, uneven_not_weak}
 pub use Rattle.crn_vec.proofs.TableLawful.{tables_are_lawful, tables_are_steady, dot-neg, entry-neg, length-neg, and_first}

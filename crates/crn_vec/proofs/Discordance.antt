@@ -204,7 +204,7 @@ frees_have (suc n) (x ∷ xs) e = (tt, frees_have n xs (omega (arith, e)))
 
 -- ---- vectors (x, Ax)
 
-entry-image : (rows : List (List ℤ)) (x : List ℤ) (i : ℕ) → i < length rows → entry (map (λ row. dot row x) rows) i ≡ dot (get_or rows i []) x
+pub entry-image : (rows : List (List ℤ)) (x : List ℤ) (i : ℕ) → i < length rows → entry (map (λ row. dot row x) rows) i ≡ dot (get_or rows i []) x
 entry-image [] x i lt = absurd (omega (arith, lt))
 entry-image (r ∷ rows) x zero lt = refl
 entry-image (r ∷ rows) x (suc i) lt = entry-image rows x i (omega (arith, lt))

@@ -1,5 +1,5 @@
 -- Lists by their entries: which places are inside, lists related place by place, and dot products of one entry more.
-use Rattle.std.proofs.Common.{◌≡◌, ◌≢◌, ℕ, zero, suc, ◌+◌, ◌<◌, ◌≤◌, ◌⊎◌, inl, inr, List, [], ◌∷◌, ◌++◌, length, map, get_or, take, set, refl, sym, ap, ap₂, ◌∙◌, add-one, arith}
+use Rattle.std.proofs.Common.{◌≡◌, ◌≢◌, ℕ, zero, suc, ◌+◌, ◌-◌, ◌<◌, ◌≤◌, ◌⊎◌, inl, inr, List, [], ◌∷◌, ◌++◌, length, map, get_or, take, set, refl, sym, ap, ap₂, ◌∙◌, add-one, arith}
 use Rattle.std.specs.Prelude.{ℤ, pos, ◌+ℤ◌, ◌*ℤ◌, unsigned_abs, nat_abs, slice_index}
 use Rattle.std.specs.List.{AllZip}
 use Rattle.std.proofs.lemmas.Int.{ints}
@@ -33,6 +33,16 @@ below_or zero zero h = inr refl
 below_or zero (suc n) h = inl (omega arith)
 below_or (suc k) zero h = absurd (omega (arith, h))
 below_or (suc k) (suc n) h = elim (below_or k n (omega (arith, h))) [ inl l ↦ inl (omega (arith, l)) | inr e ↦ inr (ap suc e) ]
+
+-- the place before the next one
+pub before_one : (k : ℕ) → k + 1 - 1 ≡ k
+before_one k = omega arith
+
+-- what holds of 0 and of 1 holds of each number below 2
+pub below_two : (P : ℕ → Type 0) → P 0 → P 1 → (n : ℕ) → n < 2 → P n
+below_two P p q zero h = p
+below_two P p q (suc zero) h = q
+below_two P p q (suc (suc n)) h = absurd (omega (arith, h))
 
 -- a list in which one place was set, place by place
 pub look_at : (v : List ℕ) (c k x : ℕ) → c < length v → ((k ≡ c) × (slice_index (set v c x) k ≡ x)) ⊎ ((k ≢ c) × (slice_index (set v c x) k ≡ slice_index v k))

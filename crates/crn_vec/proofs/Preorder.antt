@@ -9,20 +9,8 @@ use Rattle.crn_vec.specs.Lists.{IsIn}
 use Rattle.crn_vec.specs.Problems.{Signed, IsFull, IsFeasible, children, options_below, all_zero}
 use Rattle.crn_vec.specs.Visits.{Visits, over, fallen, ended, opened, IsReached, first, child, root}
 use Rattle.crn_vec.specs.VisitList.{IsEarlier, IsBefore, AreInPreorder, EndsVisits, VisitsArePreorder}
-
-in_first : (q : List Sign) (xs ys : List (List Sign)) → IsIn q xs → IsIn q (xs ++ ys)
-in_first q [] ys h = absurd h
-in_first q (x ∷ xs) ys (inl e) = inl e
-in_first q (x ∷ xs) ys (inr h) = inr (in_first q xs ys h)
-
-in_then : (q : List Sign) (xs ys : List (List Sign)) → IsIn q ys → IsIn q (xs ++ ys)
-in_then q [] ys h = h
-in_then q (x ∷ xs) ys h = inr (in_then q xs ys h)
-
-in_either : (q : List Sign) (xs ys : List (List Sign)) → IsIn q (xs ++ ys) → IsIn q xs ⊎ IsIn q ys
-in_either q [] ys h = inr h
-in_either q (x ∷ xs) ys (inl e) = inl (inl e)
-in_either q (x ∷ xs) ys (inr h) = elim (in_either q xs ys h) [ inl k ↦ inl (inr k) | inr k ↦ inr k ]
+use Rattle.crn_vec.proofs.Lists.{in_left, in_right, in_cases}
+use Rattle.crn_vec.proofs.VisitsReached.{only_reached}
 
 -- ---- the order
 
@@ -151,7 +139,7 @@ visited_from w (p ∷ due) (p' ∷ l) f (ended s u) q (inr i) = absurd i
 visited_from w (p ∷ due) (p' ∷ l) f (opened s n v) q (inl e) = record { start = q; is_due = inl e; rest = []; is = append_none q }
 visited_from w (p ∷ due) (p' ∷ l) f (opened s n v) q (inr i) =
     let k = visited_from w (children p ++ due) l f v q i in
-    elim (in_either k.start (children p) due k.is_due) [
+    elim (in_cases k.start (children p) due k.is_due) [
       | inl c ↦ let at = child_continues p (all_zero p) k.start c in
           record { start = p; is_due = inl refl; rest = at.0 ∷ k.rest; is = subst (λ (t : List Sign). q ≡ t) (append_assoc p (at.0 ∷ []) k.rest) (subst (λ (t : List Sign). q ≡ t ++ k.rest) at.1 k.is) }
       | inr d ↦ record { start = k.start; is_due = inr d; rest = k.rest; is = k.is }
@@ -163,7 +151,7 @@ before_all p due h q k = subst (λ (t : List Sign). IsBefore p t) (sym k.is) (le
 
 -- a prefix is before all that is visited from its children and from what it is left of
 opened_before : (p : List Sign) (due : List (List Sign)) → ((q : List Sign) → IsIn q due → IsLeft p q) → (q : List Sign) → From (children p ++ due) q → IsBefore p q
-opened_before p due h q k = elim (in_either k.start (children p) due k.is_due) [
+opened_before p due h q k = elim (in_cases k.start (children p) due k.is_due) [
   | inl c ↦ let at = child_continues p (all_zero p) k.start c in
       subst (λ (t : List Sign). IsBefore p t) (sym k.is) (before_far p k.start k.rest (subst (λ (t : List Sign). IsBefore p t) (sym at.1) (before_longer p at.0 [])))
   | inr d ↦ before_all p due h q (record { start = k.start; is_due = d; rest = k.rest; is = k.is })
@@ -211,7 +199,7 @@ due_past w (p ∷ due) (p' ∷ l) f (fallen n v) h q (inr i) = past_then w p l q
 due_past w (p ∷ due) (p' ∷ l) f (ended s u) h q (inl e) = inl (inl e)
 due_past w (p ∷ due) (p' ∷ l) f (ended s u) h q (inr i) = inr (record { r = p; is_in = inl refl; ends = (u, s); before = left_before p q (h.0 q i) })
 due_past w (p ∷ due) (p' ∷ l) f (opened s n v) h q (inl e) = inl (inl e)
-due_past w (p ∷ due) (p' ∷ l) f (opened s n v) h q (inr i) = past_then w p l q (due_past w (children p ++ due) l f v (due_left p (all_zero p) due h.0 h.1) q (in_then q (children p) due i))
+due_past w (p ∷ due) (p' ∷ l) f (opened s n v) h q (inr i) = past_then w p l q (due_past w (children p ++ due) l f v (due_left p (all_zero p) due h.0 h.1) q (in_right q (children p) due i))
 
 children_past : (w : Signed) (due l : List (List Sign)) (f : Bool) → Visits w due l f → AreLeft due → (x q : List Sign) → IsIn x l → IsFeasible w x → (IsFull w x → ⊥) → IsIn q (children x) → IsPast w l q
 children_past w due l f over h x q i s n c = absurd i
@@ -220,7 +208,7 @@ children_past w (p ∷ due) (p' ∷ l) f (fallen m v) h x q (inr i) s n c = past
 children_past w (p ∷ due) (p' ∷ l) f (ended t u) h x q (inl e) s n c = absurd (n (subst (λ (t : List Sign). IsFull w t) (sym e) u))
 children_past w (p ∷ due) (p' ∷ l) f (ended t u) h x q (inr i) s n c = absurd i
 children_past w (p ∷ due) (p' ∷ l) f (opened t m v) h x q (inl e) s n c =
-    past_then w p l q (due_past w (children p ++ due) l f v (due_left p (all_zero p) due h.0 h.1) q (in_first q (children p) due (subst (λ (t : List Sign). IsIn q (children t)) e c)))
+    past_then w p l q (due_past w (children p ++ due) l f v (due_left p (all_zero p) due h.0 h.1) q (in_left q (children p) due (subst (λ (t : List Sign). IsIn q (children t)) e c)))
 children_past w (p ∷ due) (p' ∷ l) f (opened t m v) h x q (inr i) s n c = past_then w p l q (children_past w (children p ++ due) l f v (due_left p (all_zero p) due h.0 h.1) x q i s n c)
 
 root_left : AreLeft root
@@ -233,17 +221,6 @@ all_past w l f v q (child {p} r h s n c) = elim (all_past w l f v p h) [
   | inr e ↦ let at = child_continues p (all_zero p) r c in
       inr (record { r = e.r; is_in = e.is_in; ends = e.ends; before = subst (λ (t : List Sign). IsBefore e.r t) (sym at.1) (before_far e.r p (at.0 ∷ []) e.before) })
 ]
-
--- what is visited is reached, where what is due is
-only_reached : (w : Signed) (due l : List (List Sign)) (f : Bool) → Visits w due l f → ((q : List Sign) → IsIn q due → IsReached w q) → (q : List Sign) → IsIn q l → IsReached w q
-only_reached w due l f over h q i = absurd i
-only_reached w (p ∷ due) (p' ∷ l) f (fallen n v) h q (inl e) = h q (inl e)
-only_reached w (p ∷ due) (p' ∷ l) f (fallen n v) h q (inr i) = only_reached w due l f v (λ r k. h r (inr k)) q i
-only_reached w (p ∷ due) (p' ∷ l) f (ended s u) h q (inl e) = h q (inl e)
-only_reached w (p ∷ due) (p' ∷ l) f (ended s u) h q (inr i) = absurd i
-only_reached w (p ∷ due) (p' ∷ l) f (opened s n v) h q (inl e) = h q (inl e)
-only_reached w (p ∷ due) (p' ∷ l) f (opened s n v) h q (inr i) =
-    only_reached w (children p ++ due) l f v (λ r k. elim (in_either r (children p) due k) as (λ _. IsReached w r) [ inl c ↦ child r (h p (inl refl)) s n c | inr k' ↦ h r (inr k') ]) q i
 
 -- a list that is ended has what ends it
 found_one : (w : Signed) (due l : List (List Sign)) (f : Bool) → Visits w due l f → f ≡ true → (r : List Sign) × IsIn r l × EndsVisits w r

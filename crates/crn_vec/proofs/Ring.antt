@@ -96,3 +96,6 @@ zero_times x y e = ap (λ (z : ℤ). z *ℤ y) e ∙ zero-*ℤ y
 
 pub positive_some : (x : ℤ) → pos 1 ≤ℤ x → x ≢ pos 0
 positive_some x h e = omega (arith, ints, h, e)
+
+pub plus_none : (x : ℤ) → x +ℤ pos 0 ≡ x
+plus_none x = omega (arith, ints)

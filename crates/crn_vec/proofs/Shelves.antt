@@ -4,7 +4,7 @@ use Rattle.std.specs.Prelude.{ℤ, pos, negsuc, neg_ℤ, ◌+ℤ◌, ◌-ℤ◌,
 use Rattle.std.specs.List.{AllZip, AllByRecursion}
 use Rattle.std.proofs.lemmas.Int.{ints}
 use Rattle.std.proofs.lemmas.Bool.{false≢true, eq-eqb, lt-ltb}
-use Rattle.std.proofs.lemmas.List.{length-append, length-replicate, length-take-le, length-drop}
+use Rattle.std.proofs.lemmas.List.{length-append, length-map, length-replicate, length-take-le, length-drop}
 use Rattle.std.proofs.Math.Seq.{take-append_seam, drop-append_seam}
 use lib.IntN.{zero-*ℤ}
 use Rattle.crn_vec.specs.declared.signs.Sign.{Sign}
@@ -152,10 +152,6 @@ map-append : {A B : Type 0} (f : A → B) (xs ys : List A) → map f (xs ++ ys) 
 map-append f [] ys = refl
 map-append f (x ∷ xs) ys = ap (λ t. f x ∷ t) (map-append f xs ys)
 
-length-map : {A B : Type 0} (f : A → B) (xs : List A) → length (map f xs) ≡ length xs
-length-map f [] = refl
-length-map f (x ∷ xs) = ap suc (length-map f xs)
-
 -- ---- middle shelves
 
 middle : (shelves : List Sign) (k : ℕ) → all_zero shelves ≡ true → shelf_at shelves k ≡ Zero
@@ -284,7 +280,7 @@ signal_named net s m st sh p x weights f o sa sb =
     let y : List ℤ = mu ++ level ∷ [] in
     let rows : AllZip HasKind (tops ++ pairs) (map (λ row. dot row y) (map complex_row s.complexes) ++ map (λ row. dot row y) (map (pair_row s) s.pairs)) =
     subst (λ (l : List ℤ). AllZip HasKind (tops ++ pairs) l) (ap (image (shelf_matrix s)) is ∙ rows_image s y) a.rows in
-    let even : length tops ≡ length (map (λ row. dot row y) (map complex_row s.complexes)) = length-map (top_kind shelves) s.tops ∙ sh.tops ∙ sym (length-map (λ row. dot row y) (map complex_row s.complexes) ∙ length-map complex_row s.complexes) in record {
+    let even : length tops ≡ length (map (λ row. dot row y) (map complex_row s.complexes)) = length-map s.tops (top_kind shelves) ∙ sh.tops ∙ sym (length-map (map complex_row s.complexes) (λ row. dot row y) ∙ length-map s.complexes complex_row) in record {
       long_shelves = long_shelves;
       long_mu = long_mu;
       long_weights = b.long;

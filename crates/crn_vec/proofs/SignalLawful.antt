@@ -4,7 +4,7 @@ use Rattle.std.specs.Prelude.{ℤ, Option, Some, None, nat_lt, nat_le, ◌||◌}
 use Rattle.std.specs.List.{AllZip}
 use Rattle.std.proofs.lemmas.Int.{ints}
 use Rattle.std.proofs.lemmas.Bool.{eqb-true, ltb-true, lt-ltb, leb-true}
-use Rattle.std.proofs.lemmas.List.{length-append, length-replicate, take-map, drop-map, append-nil}
+use Rattle.std.proofs.lemmas.List.{length-append, length-map, length-replicate, take-map, drop-map, append-nil}
 use Rattle.crn_vec.specs.declared.limits.TheConstants.{MAX_SPECIES, MAX_COMPLEXES, MAX_SIGNED}
 use Rattle.crn_vec.specs.declared.signs.Sign.{Sign}
 use Rattle.crn_vec.specs.declared.signs.Sign.TheVariants.{Zero, Plus, Minus}
@@ -156,10 +156,6 @@ mirrored_closed s p =
 
 -- ---- lengths and numbers
 
-length-map : {A B : Type 0} (f : A → B) (xs : List A) → length (map f xs) ≡ length xs
-length-map f [] = refl
-length-map f (x ∷ xs) = ap suc (length-map f xs)
-
 pub signals_are_steady : (s : Shape) (m : Mat) → IsSteady (signals s m)
 signals_are_steady s m = record {
   shorter_a = λ p rest x le h. solution_refined (shelf_matrix s) (shelf_kinds s (p ++ rest)) (shelf_kinds s p) x (shelf_longer s p rest) h;
@@ -185,12 +181,12 @@ signals_are_lawful s m f = record {
         length-append (row_kinds s.species q) (Free ∷ []),
         length-rows s.species q,
         length-append (map (top_kind t) s.tops) (map (pair_kind t) s.pairs),
-        length-map (top_kind t) s.tops,
-        length-map (pair_kind t) s.pairs,
+        length-map s.tops (top_kind t),
+        length-map s.pairs (pair_kind t),
         f.tops,
         length-append (map complex_row s.complexes) (map (pair_row s) s.pairs),
-        length-map complex_row s.complexes,
-        length-map (pair_row s) s.pairs,
+        length-map s.complexes complex_row,
+        length-map s.pairs (pair_row s),
       );
   long_b = λ p le. length-append (replicate m.cols Free) (row_kinds (length m.rows) (drop s.count p)) ∙ ap₂ (λ (i j : ℕ). i + j) (length-replicate m.cols Free) (length-rows (length m.rows) (drop s.count p));
   shorter_a = (signals_are_steady s m).shorter_a;
@@ -217,8 +213,8 @@ signals_are_lawful s m f = record {
         count-append (map (top_kind t) s.tops) (map (pair_kind t) s.pairs),
         count_at_most (map (top_kind t) s.tops),
         count_at_most (map (pair_kind t) s.pairs),
-        length-map (top_kind t) s.tops,
-        length-map (pair_kind t) s.pairs,
+        length-map s.tops (top_kind t),
+        length-map s.pairs (pair_kind t),
       );
   few_b = λ p le.
       let q = drop s.count p in

@@ -219,3 +219,8 @@ count-append (κ ∷ ks) qs = omega (arith, count-append ks qs)
 pub count_none : (n : ℕ) (κ : Kind) → is_signed κ ≡ false → signed_count (replicate n κ) ≡ 0
 count_none zero κ e = refl
 count_none (suc n) κ e = omega (arith, count_none n κ e, ap one_if e)
+
+-- there are no products without options
+pub products_none : (ss : List Sign) → products ss [] ≡ []
+products_none [] = refl
+products_none (s ∷ ss) = refl

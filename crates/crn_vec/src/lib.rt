@@ -9,11 +9,15 @@ mod limits;
 mod matrix;
 mod nums;
 mod signs;
+mod skips;
 mod vectors;
 
 pub use fault::NoMemory;
 pub use ints::Ints;
-pub use kinds::{counts, is_asked, may_take, may_weigh, opposite, product, rules_out, sign_asked};
+pub use kinds::{
+    counts, is_asked, kind_of_sign, kind_of_sum, may_take, may_weigh, opposite, product, rules_out,
+    sign_asked, unit_asked,
+};
 pub use laws::{
     base_gives_rank, budgets_that_are_never_spent, confluence_vectors_are_one,
     cuts_exclude_solutions, deficiency_is_one_number, level_is_zero, longer_visits,
@@ -33,5 +37,6 @@ pub use limits::{
 };
 pub use matrix::Matrix;
 pub use nums::Nums;
-pub use signs::{Kind, Sign, agrees, sign_of};
-pub use vectors::{dot, support};
+pub use signs::{Kind, Sign, agrees, has_kind, is_all_zero, is_minus_sign, is_plus_sign, sign_of};
+pub use skips::{Skips, dot_past, is_nought, skips_of};
+pub use vectors::{dot, support, times};

@@ -2,6 +2,8 @@ ghost use Rattle.std.specs.Prelude.{◌≡◌, ◌↔◌, IsTrue, length};
 ghost use Rattle.std.specs.List.{AllZip};
 ghost use Rattle.crn_vec.specs.Vectors.{HasSign};
 ghost use Rattle.crn_vec.specs.Systems.{HasKind};
+ghost use Rattle.crn_vec.specs.Concordance.{is_minus, is_plus};
+ghost use Rattle.crn_vec.specs.Problems.{all_zero};
 
 /// The sign of a whole number.
 #[derive(Clone, Copy, Debug, PartialEq, Eq)]
@@ -34,8 +36,40 @@ pub fn sign_of(value: i128) -> Sign
     Sign::Zero
 }
 
-// Whether a number is of a kind.
-fn has_kind(kind: Kind, value: &i128) -> bool
+/// Whether the sign is plus.
+pub fn is_plus_sign(sign: Sign) -> bool
+    ensures { result ≡ is_plus sign }
+{
+    match sign {
+        Sign::Plus => true,
+        _ => false,
+    }
+}
+
+/// Whether the sign is minus.
+pub fn is_minus_sign(sign: Sign) -> bool
+    ensures { result ≡ is_minus sign }
+{
+    match sign {
+        Sign::Minus => true,
+        _ => false,
+    }
+}
+
+/// Whether each sign is zero.
+pub fn is_all_zero(signs: &[Sign]) -> bool
+    ensures { result ≡ all_zero signs.now }
+{
+    for sign in signs {
+        if *sign != Sign::Zero {
+            return false;
+        }
+    }
+    true
+}
+
+/// Whether a number is of a kind.
+pub fn has_kind(kind: Kind, value: &i128) -> bool
     ensures { IsTrue result ↔ HasKind kind value.now }
 {
     match kind {
