@@ -5,6 +5,7 @@ ghost use Rattle.crn_vec.specs.Matrices.{mat_of};
 use crate::limits::{MAX_AMOUNT, MAX_COORDINATES};
 use std::alloc::{AllocError, Global};
 use std::marker::Model;
+use std::rc::Rc;
 
 // The row in a list of rows of so many entries.
 fn row_of(entries: &[i128], row: usize, cols: usize) -> &[i128]
@@ -22,7 +23,7 @@ fn row_of(entries: &[i128], row: usize, cols: usize) -> &[i128]
 pub struct Matrix {
     rows: usize,
     cols: usize,
-    entries: Vec<i128>,
+    entries: Rc<Vec<i128>>,
 }
 
 impl Model for Matrix {
@@ -31,9 +32,9 @@ impl Model for Matrix {
 
     ghost Value = { Mat };
 
-    ghost view = { λ s. mat_of s.rows s.cols s.entries.items };
+    ghost view = { λ s. mat_of s.rows s.cols s.entries.value.items };
 
-    ghost invariant = { λ s. IsMatrix s.rows s.cols s.entries.items };
+    ghost invariant = { λ s. IsMatrix s.rows s.cols s.entries.value.items };
 }
 
 impl Matrix {
@@ -50,10 +51,26 @@ impl Matrix {
         requires small { AreWithin MAX_AMOUNT entries.now }
         ensures { IfOk result (λ made. made ≡ mat_of rows cols entries.now) }
     {
+        Matrix::from_entries(alloc, rows, cols, Vec::from_slice(alloc, entries)?)
+    }
+
+    /// A matrix that keeps this list of entries, row by row. It may have no rows, but has a column.
+    pub fn from_entries(
+        alloc: Global,
+        rows: usize,
+        cols: usize,
+        entries: Vec<i128>,
+    ) -> Result<Matrix, AllocError>
+        requires count { length entries.items ≡ rows * cols }
+        requires some { 1 ≤ cols }
+        requires few { rows + cols ≤ MAX_COORDINATES }
+        requires small { AreWithin MAX_AMOUNT entries.items }
+        ensures { IfOk result (λ made. made ≡ mat_of rows cols entries.items) }
+    {
         Ok(Matrix {
             rows,
             cols,
-            entries: Vec::from_slice(alloc, entries)?,
+            entries: Rc::new(alloc, entries)?,
         })
     }
 
@@ -95,15 +112,14 @@ impl Matrix {
         row_of(&self.entries, row, self.cols)
     }
 
-    /// Another matrix of the same entries.
+    /// Another matrix of the same entries, in the same memory.
     pub fn copy(&self) -> Result<Matrix, AllocError>
         ensures { IfOk result (λ made. made ≡ self.now) }
     {
-        let alloc = *self.entries.allocator();
         Ok(Matrix {
             rows: self.rows,
             cols: self.cols,
-            entries: Vec::from_slice(alloc, &self.entries)?,
+            entries: self.entries.clone()?,
         })
     }
 }
