@@ -12,7 +12,7 @@ use Rattle.crn_vec.specs.Network.{Net, IsPartialNetwork, IsName, IsAmount, IsVec
 use Rattle.crn_vec.specs.declared.limits.TheConstants.{MAX_SPECIES, MAX_REACTIONS, MAX_AMOUNT}
 use Rattle.crn_net.specs.Views.{net_of, vectors_of, IsRow, AreRows}
 use Rattle.crn_net.specs.Inner.Steps.{Puts, PutsBoth, IsRowFor}
-use Rattle.crn_vec.proofs.CallerLemmas.{in_right, in_cases, in_at, at_in, map_in, all_in, all_from, all_map, same_place, firsts_distinct, firsts_from, firsts_has, firsts_prefix, firsts_all, has_name, none_said, appears_in_order, in_order_appears, ends_below}
+use Rattle.crn_vec.proofs.CallerLemmas.{in_right, in_cases, in_at, at_in, map_in, all_in, all_from, all_map, same_place, firsts_distinct, firsts_from, firsts_has, firsts_prefix, firsts_all, has_name, none_said, appears_in_order, in_order_appears, ends_below, positive_some}
 use Rattle.crn_net.proofs.Rows.{row_length, row_with_zeros, puts_place, puts_all, puts_distinct}
 use Rattle.crn_net.proofs.Growth.{Ready, Wider, rows_distinct, vectors_distinct, both_keep, left_found, right_found}
 use Rattle.crn_net.proofs.Whole.{Covers, RowPlaces, covers_both, amounts_with_zeros, amounts_said}
@@ -144,9 +144,6 @@ right_amount t k lt =
 positive : (a : ℤ) (n : ℕ) → a ≡ pos n → 1 ≤ n → pos 1 ≤ℤ a
 positive a n e le = rw e (omega (arith, ints))
 
-not_positive : (a : ℤ) → a ≡ pos 0 → pos 1 ≤ℤ a → ⊥
-not_positive a e h = let z : pos 1 ≤ℤ pos 0 = subst (λ (u : ℤ). pos 1 ≤ℤ u) e h in absurd (omega (arith, ints, z))
-
 left_holds : (t : Step) (k : ℕ) → k < length t.names' → IsIn (get_or t.names' k []) (map (λ u. u.0) t.s.0) → Holds (new_net t) t.y k
 left_holds t k lt i = positive (amount_at (new_net t) t.y k) (amount_in t.s.0 (get_or t.names' k [])) (left_amount t k lt) (t.said.left (get_or t.names' k []) i).1
 
@@ -157,7 +154,7 @@ left_held : (t : Step) (k : ℕ) → k < length t.names' → Holds (new_net t) t
 left_held t k lt h =
     elim (has_name t.s.0 (get_or t.names' k [])) [
       | inl i ↦ i
-      | inr none ↦ absurd (not_positive (amount_at (new_net t) t.y k) (left_amount t k lt ∙ ap pos (none_said t.s.0 (get_or t.names' k []) none)) h)
+      | inr none ↦ absurd (positive_some (amount_at (new_net t) t.y k) h (left_amount t k lt ∙ ap pos (none_said t.s.0 (get_or t.names' k []) none)))
     ]
 
 -- ---- places
@@ -224,7 +221,7 @@ each_held t k lt =
 order_old : (t : Step) (c s m b : ℕ) → s < m → m < length t.names' → b < c → b < length t.rows → Holds (new_net t) b m → IsHeldBefore (new_net t) c s
 order_old t c s m b sm mn bc old h =
     let count = old_count t in
-    let m_old : m < length t.names = elim (cases_lt m (length t.names)) [ inl lt ↦ lt | inr ge ↦ absurd (not_positive (amount_at (new_net t) b m) (amount_none t b m old ge mn) h) ] in
+    let m_old : m < length t.names = elim (cases_lt m (length t.names)) [ inl lt ↦ lt | inr ge ↦ absurd (positive_some (amount_at (new_net t) b m) h (amount_none t b m old ge mn)) ] in
     let was : Holds (old_net t) b m = subst (λ (u : ℤ). pos 1 ≤ℤ u) (amount_stays t b m old m_old) h in
     let r = t.ready.network.species_in_order (b + 1) s m (omega (arith, count)) sm m_old (b, omega arith, was) in
     let q = r.1 in

@@ -106,8 +106,8 @@ fn put_shares(
     Ok(())
 }
 
-// Shares that add up to the same sums as those of all terms, nearly always one for each name. It takes 12 bytes for
-// each of them, and 4 for each term.
+// Shares that add up to the same sums as those of all terms, nearly always one for each name. It takes 16 bytes for
+// each term: room for a share, and a slot.
 pub(crate) fn merged(
     alloc: Global,
     text: &[u8],

@@ -31,7 +31,8 @@ pub(crate) fn name_of<'a>(text: &'a [u8], term: &Term) -> &'a [u8]
     part(text, term.at, term.length)
 }
 
-// The contribution of a term to the sum of its name. It is small, since a statement may have very many terms.
+// What a term, or several terms of one name, contribute to the sum of the name. It is small, since a statement may have
+// very many terms.
 #[derive(Clone, Copy)]
 pub(crate) struct Share {
     pub(crate) at: u32,

@@ -3,7 +3,7 @@ ghost use Rattle.std.specs.List.{list_any, AllByRecursion};
 ghost use Rattle.crn_vec.specs.Lists.{AreDistinct};
 ghost use Rattle.crn_vec.specs.Network.{IsAmount, JoinsTwo, minus};
 ghost use Rattle.crn_net.specs.Terms.{side_of, statement_of, IsSide};
-ghost use Rattle.crn_net.specs.Inner.Steps.{NotesName, NotesSide, NotesBoth, TellsApart, IsCrowded, NotesSides, NotesRow, NotesReaction, BuildGives};
+ghost use Rattle.crn_net.specs.Inner.Steps.{AreNames, AreSides, AreTables, AreZeros, NotesName, NotesSide, NotesBoth, TellsApart, IsCrowded, NotesSides, NotesRow, NotesReaction, BuildGives};
 
 use crate::buckets::mark_of;
 use crate::fault::NetFault;
@@ -90,12 +90,9 @@ fn note_both(
     left: &[Term],
     right: &[Term],
 ) -> Result<(), NetFault>
-    requires distinct { AreDistinct names.old.keys }
-    requires few { length names.old.keys ≤ MAX_SPECIES }
-    requires left_zeros { rows.old.0 ≡ replicate MAX_SPECIES (pos 0) }
-    requires right_zeros { rows.old.1 ≡ replicate MAX_SPECIES (pos 0) }
-    requires left { IsSide text.now left.now }
-    requires right { IsSide text.now right.now }
+    requires names { AreNames names.old.keys }
+    requires zeros { AreZeros rows.old }
+    requires sides { AreSides text.now left.now right.now }
     ensures notes { let statement = statement_of text.now left.now right.now in
         NotesBoth names.old.keys statement result names.new.keys rows.new }
     ensures kept { take (length names.old.keys) names.new.keys ≡ names.old.keys }
@@ -116,8 +113,7 @@ fn tell_apart(rows: &RowPair) -> Result<(), NetFault>
 
 // Why a statement with too many species is refused. Equal sides are reported first.
 fn crowded_fault(alloc: Global, text: &[u8], left: &[Term], right: &[Term]) -> NetFault
-    requires left { IsSide text.now left.now }
-    requires right { IsSide text.now right.now }
+    requires { AreSides text.now left.now right.now }
     ensures { IsCrowded (statement_of text.now left.now right.now) result }
 {
     match says_same(alloc, text, left, right) {
@@ -136,12 +132,9 @@ fn note_sides(
     left: &[Term],
     right: &[Term],
 ) -> Result<(), NetFault>
-    requires distinct { AreDistinct names.old.keys }
-    requires few { length names.old.keys ≤ MAX_SPECIES }
-    requires left_zeros { rows.old.0 ≡ replicate MAX_SPECIES (pos 0) }
-    requires right_zeros { rows.old.1 ≡ replicate MAX_SPECIES (pos 0) }
-    requires left { IsSide text.now left.now }
-    requires right { IsSide text.now right.now }
+    requires names { AreNames names.old.keys }
+    requires zeros { AreZeros rows.old }
+    requires sides { AreSides text.now left.now right.now }
     ensures notes { let statement = statement_of text.now left.now right.now in
         NotesSides names.old.keys statement result names.new.keys rows.new }
     ensures kept { take (length names.old.keys) names.new.keys ≡ names.old.keys }
@@ -263,12 +256,8 @@ pub(crate) fn build(
     left: &[Term],
     right: &[Term],
 ) -> Result<(), NetFault>
-    requires distinct { AreDistinct names.old.keys }
-    requires names_few { length names.old.keys ≤ MAX_SPECIES }
-    requires rows_few { length rows.old.keys ≤ MAX_COMPLEXES }
-    requires reactions_few { length reactions.old.items ≤ MAX_REACTIONS }
-    requires left { IsSide text.now left.now }
-    requires right { IsSide text.now right.now }
+    requires tables { AreTables names.old.keys rows.old.keys reactions.old.items }
+    requires sides { AreSides text.now left.now right.now }
     ensures gives { let statement = statement_of text.now left.now right.now in
         BuildGives names.old.keys rows.old.keys reactions.old.items statement
         result names.new.keys rows.new.keys reactions.new.items }

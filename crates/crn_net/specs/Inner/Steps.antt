@@ -1,13 +1,36 @@
 -- For the contracts of private functions alone.
 -- What each step of adding a reaction does to the tables: names, rows of amounts, and reactions.
-use Rattle.std.specs.Prelude.{◌≡◌, ◌≤◌, ◌<◌, ◌⊎◌, ℕ, ℤ, List, [], ◌∷◌, ◌++◌, length, map, take, slice_index_or, Result, Ok, Err}
+use Rattle.std.specs.Prelude.{◌≡◌, ◌≤◌, ◌<◌, ◌⊎◌, ℕ, ℤ, List, [], ◌∷◌, ◌++◌, length, map, take, replicate, slice_index_or, pos, Result, Ok, Err}
 use Rattle.std.specs.Str.{bytes_eq}
-use Rattle.crn_vec.specs.Lists.{IsIn, firsts}
+use Rattle.crn_vec.specs.Lists.{IsIn, AreDistinct, firsts}
 use Rattle.crn_vec.specs.Network.{amount_in, amounts_in, names_in, Statement}
 use Rattle.crn_vec.specs.declared.limits.TheConstants.{MAX_SPECIES, MAX_COMPLEXES, MAX_REACTIONS}
+use Rattle.crn_net.specs.Terms.{IsSide}
 use Rattle.crn_net.specs.Views.{IsRow}
+use Rattle.crn_net.specs.declared.term.Term.{Term}
 use Rattle.crn_net.specs.declared.fault.NetFault.{NetFault}
 use Rattle.crn_net.specs.declared.fault.NetFault.TheVariants.{SelfReaction, TooManySpecies, TooManyComplexes, TooManyReactions, NoMemory}
+
+-- what the table of names keeps: each name once, and no more than the limit
+pub record AreNames (names : List (List ℕ)) : Type 0 where
+  pub distinct : AreDistinct names
+  pub few : length names ≤ MAX_SPECIES
+
+-- what the tables of names, rows and reactions keep
+pub record AreTables (known : List (List ℕ)) (rows : List (List ℤ)) (reactions : List (ℕ × ℕ)) : Type 0 where
+  pub names : AreNames known
+  pub rows_few : length rows ≤ MAX_COMPLEXES
+  pub reactions_few : length reactions ≤ MAX_REACTIONS
+
+-- the terms of both sides of a statement
+pub record AreSides (text : List ℕ) (one other : List Term) : Type 0 where
+  pub left : IsSide text one
+  pub right : IsSide text other
+
+-- the rows of both sides before their amounts are added
+pub record AreZeros (rows : List ℤ × List ℤ) : Type 0 where
+  pub left : rows.0 ≡ replicate MAX_SPECIES (pos 0)
+  pub right : rows.1 ≡ replicate MAX_SPECIES (pos 0)
 
 -- each name has the same amount on both sides
 abbrev pub SaysSame : Statement → Type 0

@@ -1,5 +1,5 @@
 -- For the contracts of private functions alone.
--- Sums of names over terms that are sorted by their names.
+-- Shares of terms in the sums of their names, these sums, and shares sorted by their names.
 use Rattle.std.specs.Prelude.{ℕ, ℤ, pos, ◌+ℤ◌, ◌*ℤ◌, if◌then◌else◌, List, take, drop}
 use Rattle.std.specs.List.{fold}
 use Rattle.std.specs.List.Sorted.{IsSortedBy}
