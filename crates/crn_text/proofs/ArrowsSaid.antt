@@ -2,7 +2,7 @@
 use Rattle.std.proofs.Common.{◌≡◌, ℕ, zero, suc, List, [], ◌∷◌, ◌++◌, get_or, set, Option, Some, None, Ok, Bor, sym, ap₂, subst}
 use Rattle.crn_vec.specs.Lists.{IsIn}
 use Rattle.crn_vec.specs.Network.{Net, Statement}
-use Rattle.crn_vec.proofs.CallerLemmas.{in_left, in_right}
+use Rattle.crn_vec.proofs.CallerLemmas.{in_left, in_right, all_set}
 use Rattle.crn_net.specs.Terms.{side_of}
 use Rattle.crn_net.specs.Grows.{Grown}
 use Rattle.crn_net.specs.declared.term.Term.{Term}
@@ -13,7 +13,6 @@ use Rattle.crn_text.specs.Inner.Said.{says, AreIn, IsSaid, AreSaid, HasSaid}
 use Rattle.crn_text.specs.declared.token.TokenKind.{TokenKind}
 use Rattle.crn_text.specs.declared.said.Step.{Step}
 use Rattle.crn_text.proofs.ArrowsRead.{ArrowsRead}
-use Rattle.crn_text.proofs.Remembered.{all_set}
 use Rattle.crn_text.proofs.Repeats.{any_stay}
 
 -- ---- the arrows that are remembered

@@ -6,7 +6,7 @@ use Rattle.std.proofs.lemmas.List.{length-append, length-take, get_or-take, take
 use Rattle.std.proofs.Math.Seq.{drop-append_seam, take-append_seam}
 use Rattle.crn_vec.specs.Lists.{IsIn}
 use Rattle.crn_vec.specs.Network.{Net}
-use Rattle.crn_vec.proofs.CallerLemmas.{in_left, in_right, in_at, all_from}
+use Rattle.crn_vec.proofs.CallerLemmas.{in_left, in_right, in_at, all_from, all_set}
 use Rattle.std.proofs.lemmas.Bool.{eqb-true, ne_eqb}
 use Rattle.crn_text.specs.Tokens.{lines, before_comment}
 use Rattle.crn_text.specs.Sides.{all_statements}
@@ -27,12 +27,6 @@ known_more text read line p (inr i) = inr (in_left (line_at text p) read (line �
 pub all_known_more : (text : List ℕ) (read : List (List ℕ)) (line : List ℕ) (ps : List Place) → AreKnown text read ps → AreKnown text (read ++ line ∷ []) ps
 all_known_more text read line [] h = tt
 all_known_more text read line (p ∷ ps) h = (known_more text read line p h.0, all_known_more text read line ps h.1)
-
--- one element replaced
-pub all_set : {X : Type 0} (P : X → Type 0) (xs : List X) (k : ℕ) (x : X) → AllByRecursion P xs → P x → AllByRecursion P (set xs k x)
-all_set P [] k x h y = tt
-all_set P (z ∷ xs) zero x h y = (y, h.1)
-all_set P (z ∷ xs) (suc k) x h y = (h.0, all_set P xs k x h.1 y)
 
 -- after one more line, whose place is put among the others
 pub known_put : (text : List ℕ) (read : List (List ℕ)) (line : List ℕ) (ps : List Place) (slot : ℕ) (p : Place) → line_at text p ≡ line → AreKnown text read ps → AreKnown text (read ++ line ∷ []) (set ps slot p)

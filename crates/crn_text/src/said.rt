@@ -4,8 +4,11 @@ ghost use Rattle.crn_text.specs.Inner.Said.{says, AreIn, AreSaid};
 
 use crate::token::TokenKind;
 
-// How many arrows are remembered at most. Few of those of a line share a slot.
+// How many arrows are remembered at most.
 const SLOTS: usize = 16;
+
+// 2^64 over the golden ratio, an odd number. The high bits of a product with it hang on all bits of the other factor.
+const SPREAD: u64 = 0x9e37_79b9_7f4a_7c15;
 
 /// An arrow, with the sides before and after it.
 #[derive(Clone, Copy)]
@@ -32,28 +35,30 @@ pub(crate) struct Said<'a> {
     pub(crate) steps: [Option<Step<'a>>; SLOTS],
 }
 
-// A number for a side, which few others of a line share.
-fn mark(side: &[u8]) -> usize {
+// A number for a side, which few others of a line share: its length, its first byte and its last one.
+fn mark(side: &[u8]) -> u64 {
     let length = side.len();
     if length == 0 {
         return 0;
     }
-    let first = usize::from(side[0]);
-    let last = usize::from(side[length - 1]);
-    first
-        .wrapping_mul(7)
-        .wrapping_add(last.wrapping_mul(3))
-        .wrapping_add(length)
+    let first = u64::from(side[0]);
+    let last = u64::from(side[length - 1]);
+    (length as u64)
+        .wrapping_mul(256)
+        .wrapping_add(first)
+        .wrapping_mul(256)
+        .wrapping_add(last)
 }
 
 // The slot of an arrow.
 fn slot(step: &Step<'_>) -> usize
     ensures { result < SLOTS }
 {
-    mark(step.left)
-        .wrapping_mul(5)
+    let mark = mark(step.left)
+        .wrapping_mul(SPREAD)
         .wrapping_add(mark(step.right))
-        % SLOTS
+        .wrapping_mul(SPREAD);
+    (mark >> 60) as usize
 }
 
 // Whether two arrows are of one kind, between the same sides.

@@ -1,6 +1,0 @@
-use Rattle.std.proofs.Common.{◌≡◌, true, take}
-use Rattle.crn_vec.specs.Problems.{all_zero}
-use Rattle.crn_shape.proofs.kinds.is_all_zero.Given as goal
-
-abbrev pub invariant-loop-sign : goal.invariant-loop-sign
-invariant-loop-sign l = all_zero (take l.sign-index l.signs) ≡ true
