@@ -13,7 +13,7 @@ use Rattle.crn_vec.specs.Systems.{kind_at}
 use Rattle.crn_vec.specs.Problems.{opposite, all_zero}
 use Rattle.crn_vec.specs.Concordance.{sign, product, products, is_plus, is_minus, some_sign, kind_of_sum, column_kind, row_kinds, kinds_a_of, kinds_b_of}
 use Rattle.crn_vec.specs.Influence.{strong_table}
-use Rattle.crn_vec.proofs.CallerLemmas.{sign_is, plus-opposite, minus-opposite, sum-opposite, cond-opposite}
+use Rattle.crn_vec.proofs.CallerLemmas.{sign_is, plus-opposite, minus-opposite, sum-opposite, cond-opposite, products_none}
 use Rattle.crn_vec.specs.NetSystems.{reaction_system}
 use Rattle.crn_ctree.specs.Problem.{problem_of, table_of}
 use Rattle.crn_ctree.specs.declared.problem.Problem.{Problem}
@@ -22,43 +22,11 @@ use Rattle.crn_ctree.specs.declared.problem.InfluenceTable.{InfluenceTable}
 use Rattle.crn_ctree.specs.declared.problem.InfluenceTable.TheVariants.{Plain, Strong}
 use Rattle.crn_ctree.specs.Inner.Kinds.{column_from, opposite_kind}
 
--- ---- signs
-
--- a number of each sign
-abbrev number_of : Sign → ℤ
-number_of Zero = pos 0
-number_of Plus = pos 1
-number_of Minus = negsuc 0
-
-has_number : (s : Sign) → HasSign s (number_of s)
-has_number Zero = refl
-has_number Plus = omega (arith, ints)
-has_number Minus = omega (arith, ints)
-
-sign_of_product : (s t : Sign) → sign (number_of s *ℤ number_of t) ≡ product s t
-sign_of_product Zero Zero = refl
-sign_of_product Zero Plus = refl
-sign_of_product Zero Minus = refl
-sign_of_product Plus Zero = refl
-sign_of_product Plus Plus = refl
-sign_of_product Plus Minus = refl
-sign_of_product Minus Zero = refl
-sign_of_product Minus Plus = refl
-sign_of_product Minus Minus = refl
-
--- the sign of all products of numbers of two signs is the product of the signs
-pub product_is : (s t r : Sign) → ((x y : ℤ) → HasSign s x → HasSign t y → HasSign r (x *ℤ y)) → r ≡ product s t
-product_is s t r h = sign_is r (number_of s *ℤ number_of t) (h (number_of s) (number_of t) (has_number s) (has_number t)) ∙ sign_of_product s t
-
 -- ---- the column of a reaction, species by species
 
 or_true : (b : Bool) → (b || true) ≡ true
 or_true true = refl
 or_true false = refl
-
-products_none : (ss : List Sign) → products ss [] ≡ []
-products_none [] = refl
-products_none (s ∷ ss) = refl
 
 pub column_closed : (raised lowered : Bool) (ss : List Sign) → column_from raised lowered (Zero ∷ ss) [] ≡ column_from raised lowered ss []
 column_closed raised lowered ss = ap (λ (l : List Sign). cond (all_zero ss) (kind_of_sum (raised || some_sign is_plus l) (lowered || some_sign is_minus l)) Free) (sym (products_none ss))

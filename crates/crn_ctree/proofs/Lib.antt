@@ -4,7 +4,6 @@ mod NodeLaws
 mod KindLaws
 mod TreeEnds
 mod CutLaws
-mod ZeroPlaces
 mod NodeTests
 mod PairLaws
 mod FirstFails

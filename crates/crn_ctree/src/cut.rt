@@ -10,16 +10,16 @@ ghost use Rattle.crn_vec.specs.Systems.{IsCut, MayWeigh, is_signed, kind_at};
 ghost use Rattle.crn_vec.specs.Vectors.{HasSign, column, dot, entry};
 ghost use Rattle.crn_cert.specs.Ranges.{AreFree};
 ghost use Rattle.crn_ctree.specs.Inner.Kinds.{kinds_of, matrix_by, matrix_of, weights_of};
-ghost use Rattle.crn_ctree.specs.Inner.Skips.{AreSkips, FitSkips};
+ghost use Rattle.crn_ctree.specs.Inner.Skips.{FitSkips};
+ghost use Rattle.crn_vec.specs.Skips.{AreSkips};
 
 use crate::kinds::kind;
-use crate::pair::times;
 use crate::problem::Problem;
-use crate::skips::{Skips, skips_of};
-use crate::sums::dot;
 use crn_net::Network;
 use crn_shape::Shape;
-use crn_vec::{MAX_SPECIES, Sign, counts, may_weigh, opposite, sign_of};
+use crn_vec::{
+    MAX_SPECIES, Sign, Skips, counts, dot_past, may_weigh, opposite, sign_of, skips_of, times,
+};
 
 // A part of a prefix.
 #[derive(Clone, Copy)]
@@ -83,7 +83,7 @@ fn reaction_sum(net: &Network, u: &[i128], skips: &[u8], r: usize) -> i128
     ensures { result ≡ dot u.now (column (reaction_system net.now).rows r) }
 {
     let _few = net.species();
-    dot(u, net.reaction_vector(r), skips)
+    dot_past(u, net.reaction_vector(r), skips)
 }
 
 // The sum of the products of multipliers and the entries of a column of system 5.
@@ -94,7 +94,7 @@ fn shape_sum(shape: &Shape, u: &[i128], j: usize) -> i128
 {
     let mut sum = 0i128;
     for row in 0..shape.rows() {
-        sum += times(&shape.entry(row, j), &u[row]);
+        sum += times(&u[row], &shape.entry(row, j));
     }
     sum
 }

@@ -1,5 +1,5 @@
 ghost use Rattle.std.specs.Prelude.{◌≡◌, ◌<◌, ◌+◌, ◌↔◌, IsTrue, pos, [], length, map, slice_index_or};
-ghost use Rattle.crn_vec.specs.Concordance.{column_kind as kind_of_column, kind_of_sum, kinds_a_of, kinds_b_of, product as product_of, sign};
+ghost use Rattle.crn_vec.specs.Concordance.{column_kind as kind_of_column, kinds_a_of, kinds_b_of, product as product_of, sign};
 ghost use Rattle.crn_vec.specs.Elementary.{width};
 ghost use Rattle.crn_vec.specs.Network.{Net};
 ghost use Rattle.crn_vec.specs.NetSystems.{reaction_system};
@@ -12,30 +12,12 @@ use crate::cut::Part;
 use crate::problem::{InfluenceTable, Problem};
 use crn_net::Network;
 use crn_shape::row_kind;
-use crn_vec::{Kind, Sign, product, sign_of};
-
-/// The kind of a sum with or without positive members, and with or without negative ones.
-pub(crate) fn sum_kind(raised: bool, lowered: bool) -> Kind
-    ensures { result ≡ kind_of_sum raised lowered }
-{
-    match (raised, lowered) {
-        (false, false) => Kind::Zero,
-        (true, false) => Kind::Pos,
-        (false, true) => Kind::Neg,
-        (true, true) => Kind::Free,
-    }
-}
+use crn_vec::{Kind, Sign, is_nought, kind_of_sum, product, sign_of};
 
 pub(crate) fn sign_at(number: &i128) -> Sign
     ensures { HasSign result number.now }
 {
     sign_of(*number)
-}
-
-fn is_nought(number: &i128) -> bool
-    ensures { IsTrue result ↔ (number.now ≡ pos 0) }
-{
-    *number == 0
 }
 
 // The sign of a number times an option.
@@ -50,7 +32,7 @@ fn kind_from(raised: bool, lowered: bool, numbers: &[i128], prefix: &[Sign]) -> 
     ensures { result ≡ column_from raised lowered (map sign numbers.now) prefix.now }
 {
     match numbers {
-        [] => sum_kind(raised, lowered),
+        [] => kind_of_sum(raised, lowered),
         [number, numbers @ ..] => match prefix {
             [] => {
                 if !is_nought(number) {

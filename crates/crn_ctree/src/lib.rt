@@ -13,9 +13,7 @@ mod path;
 mod problem;
 mod shared;
 mod signal;
-mod skips;
 mod spots;
-mod sums;
 mod worked;
 
 pub use check::TreeCheck;

@@ -7,8 +7,7 @@ ghost use Rattle.crn_ctree.specs.Problem.{problem_of};
 use crate::cut::{Part, rules_out};
 use crate::problem::Problem;
 use crn_net::Network;
-use crn_shape::is_all_zero;
-use crn_vec::Sign;
+use crn_vec::{Sign, is_all_zero};
 
 /// A node of a tree, as a line says it.
 #[derive(Clone, Copy)]

@@ -1,8 +1,6 @@
-ghost use Rattle.std.specs.Prelude.{◌≡◌, ◌↔◌, ◌<◌, ◌≤◌, ◌*◌, ◌^◌, ◌*ℤ◌, length, map, unsigned_abs, IsTrue};
-ghost use Rattle.crn_vec.specs.declared.limits.TheConstants.{MAX_AMOUNT, WIDE_SOLUTION};
+ghost use Rattle.std.specs.Prelude.{◌≡◌, ◌↔◌, ◌<◌, ◌^◌, length, map, unsigned_abs, IsTrue};
 ghost use Rattle.crn_vec.specs.Concordance.{IsDiscordant, image, sign};
 ghost use Rattle.crn_vec.specs.NetSystems.{reaction_system};
-ghost use Rattle.crn_vec.specs.Systems.{HasKind};
 ghost use Rattle.crn_vec.specs.Vectors.{entry};
 ghost use Rattle.crn_cert.specs.Ranges.{AreFree};
 ghost use Rattle.crn_ctree.specs.Problem.{table_of};
@@ -11,18 +9,7 @@ ghost use Rattle.crn_ctree.specs.Inner.Pairs.{AreOfColumns};
 use crate::kinds::column_kind;
 use crate::problem::InfluenceTable;
 use crn_net::Network;
-use crn_shape::is_all_zero;
-use crn_vec::{Kind, MAX_SPECIES, Sign, sign_of};
-
-// A product of an entry of a reaction vector and a number of a certificate.
-pub(crate) fn times(x: &i128, y: &i128) -> i128
-    requires x { unsigned_abs x.now ≤ MAX_AMOUNT }
-    requires y { unsigned_abs y.now ≤ WIDE_SOLUTION }
-    ensures value { result ≡ x.now *ℤ y.now }
-    ensures small { unsigned_abs result ≤ MAX_AMOUNT * WIDE_SOLUTION }
-{
-    *x * *y
-}
+use crn_vec::{MAX_SPECIES, Sign, has_kind, is_all_zero, sign_of, times};
 
 // The entry at species s of the sum of the reaction vectors with these weights.
 fn sum_at(net: &Network, weights: &[i128], s: usize) -> i128
@@ -33,7 +20,7 @@ fn sum_at(net: &Network, weights: &[i128], s: usize) -> i128
 {
     let mut sum = 0i128;
     for r in 0..net.reactions() {
-        sum += times(&net.reaction_vector(r)[s], &weights[r]);
+        sum += times(&weights[r], &net.reaction_vector(r)[s]);
     }
     sum
 }
@@ -55,19 +42,6 @@ fn put_signs(net: &Network, weights: &[i128], into: &mut [Sign])
 {
     for s in 0..net.species() {
         into[s] = change_sign(net, weights, s);
-    }
-}
-
-// Whether a number is of a kind.
-pub(crate) fn has_kind(kind: Kind, number: &i128) -> bool
-    ensures { IsTrue result ↔ HasKind kind number.now }
-{
-    match kind {
-        Kind::Pos => *number >= 1,
-        Kind::Neg => *number <= -1,
-        Kind::NonNeg => *number >= 0,
-        Kind::Zero => *number == 0,
-        Kind::Free => true,
     }
 }
 

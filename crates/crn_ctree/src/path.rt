@@ -4,8 +4,7 @@ ghost use Rattle.crn_vec.specs.Visits.{root};
 ghost use Rattle.crn_ctree.specs.Due.{first, rest};
 ghost use Rattle.crn_ctree.specs.Inner.Paths.{due_after, due_by};
 
-use crn_shape::is_all_zero;
-use crn_vec::{NoMemory, Sign};
+use crn_vec::{NoMemory, Sign, is_all_zero};
 use std::alloc::Global;
 use std::marker::Model;
 

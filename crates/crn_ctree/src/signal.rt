@@ -8,10 +8,10 @@ ghost use Rattle.crn_shape.specs.Shapes.{no_pair};
 ghost use Rattle.crn_ctree.specs.Inner.Signals.{AreOnShelves, DoTurn};
 
 use crate::kinds::sign_at;
-use crate::pair::{change_sign, has_kind};
+use crate::pair::change_sign;
 use crn_net::Network;
 use crn_shape::Shape;
-use crn_vec::{MAX_COMPLEXES, Sign, dot};
+use crn_vec::{MAX_COMPLEXES, Sign, dot, has_kind};
 
 /// Writes the signs of numbers.
 pub(crate) fn put_signs(numbers: &[i128], into: &mut [Sign])

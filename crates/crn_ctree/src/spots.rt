@@ -1,11 +1,9 @@
 ghost use Rattle.std.specs.Prelude.{◌≡◌, ◌≤◌, ◌+◌, ◌++◌, ℕ, length, OnOk, IfOk};
 ghost use Rattle.crn_vec.specs.declared.limits.TheConstants.{MAX_COORDINATES};
-ghost use Rattle.crn_vec.specs.Concordance.{is_minus, is_plus, product as product_of};
-ghost use Rattle.crn_vec.specs.Problems.{opposite as opposite_of};
+ghost use Rattle.crn_vec.specs.Concordance.{product as product_of};
 ghost use Rattle.crn_ctree.specs.Inner.Spots.{spots_from, spots_kind};
 
-use crate::kinds::sum_kind;
-use crn_vec::{Kind, NoMemory, Sign};
+use crn_vec::{Kind, NoMemory, Sign, is_minus_sign, is_plus_sign, kind_of_sum, product};
 use std::alloc::Global;
 use std::marker::Model;
 
@@ -67,42 +65,11 @@ impl Spots {
     }
 }
 
-fn opposite(sign: Sign) -> Sign
-    ensures { result ≡ opposite_of sign }
-{
-    match sign {
-        Sign::Zero => Sign::Zero,
-        Sign::Plus => Sign::Minus,
-        Sign::Minus => Sign::Plus,
-    }
-}
-
-fn product(left: Sign, right: Sign) -> Sign
+// The sign of a product of numbers of these signs.
+fn product_sign(left: Sign, right: Sign) -> Sign
     ensures { result ≡ product_of left right }
 {
-    match left {
-        Sign::Zero => Sign::Zero,
-        Sign::Plus => right,
-        Sign::Minus => opposite(right),
-    }
-}
-
-fn is_plus(sign: Sign) -> bool
-    ensures { result ≡ is_plus sign }
-{
-    match sign {
-        Sign::Plus => true,
-        _ => false,
-    }
-}
-
-fn is_minus(sign: Sign) -> bool
-    ensures { result ≡ is_minus sign }
-{
-    match sign {
-        Sign::Minus => true,
-        _ => false,
-    }
+    product(left, right)
 }
 
 /// The kind of a column with these spots at a prefix, after species that raised or lowered it.
@@ -110,13 +77,13 @@ pub(crate) fn spots_kind(raised: bool, lowered: bool, spots: &[Spot], prefix: &[
     ensures { result ≡ spots_kind raised lowered spots.now prefix.now }
 {
     match spots {
-        [] => sum_kind(raised, lowered),
+        [] => kind_of_sum(raised, lowered),
         [spot, spots @ ..] => {
             if spot.place < prefix.len() {
-                let sign = product(spot.sign, prefix[spot.place]);
+                let sign = product_sign(spot.sign, prefix[spot.place]);
                 spots_kind(
-                    raised || is_plus(sign),
-                    lowered || is_minus(sign),
+                    raised || is_plus_sign(sign),
+                    lowered || is_minus_sign(sign),
                     spots,
                     prefix,
                 )

@@ -1,6 +1,7 @@
 use Rattle.std.proofs.Common.{◌≡◌, ◌≤◌, ◌<◌, ◌*◌, ◌+◌, ◌∙◌, length, take, get_or, ap, ap₂, sym, arith, to_z, of_z, take_all}
 use Rattle.std.specs.Prelude.{ℤ, pos, ◌+ℤ◌, ◌*ℤ◌, unsigned_abs}
 use Rattle.std.specs.Int.{w128}
+use Rattle.std.proofs.Math.IntN.{*ℤ_comm}
 use Rattle.crn_vec.specs.Vectors.{dot, column, entry}
 use Rattle.crn_vec.specs.Signals.{shelf_matrix}
 use Rattle.crn_vec.specs.declared.limits.TheConstants.{MAX_AMOUNT, WIDE_SOLUTION}
@@ -8,8 +9,8 @@ use Rattle.crn_vec.proofs.CallerLemmas.{held, sum_within, dot_step, dot-comm, al
 use Rattle.crn_cert.specs.Ranges.{IsNarrow}
 use Rattle.crn_ctree.proofs.cut.shape_sum.Goals as goal
 
-pub times-sum-requires-clause-y : goal.times-sum-requires-clause-y
-times-sum-requires-clause-y c =
+pub times-sum-requires-clause-x : goal.times-sum-requires-clause-x
+times-sum-requires-clause-x c =
     let u = c.args.u.now in
     let lt : c.loop-row.row < length u = omega (arith, c.requires.numbers.long, c.loop-row-test.true, c.rows-row-end.ensures.count) in
     let narrow : IsNarrow (get_or u c.loop-row.row (pos 0)) = all_at IsNarrow u c.loop-row.row (pos 0) c.requires.numbers.each lt in
@@ -32,7 +33,7 @@ loop-row-preserved c =
     let bound : unsigned_abs (s +ℤ p) ≤ r * (MAX_AMOUNT * WIDE_SOLUTION) + MAX_AMOUNT * WIDE_SOLUTION =
     sum_within s p (r * (MAX_AMOUNT * WIDE_SOLUTION)) (MAX_AMOUNT * WIDE_SOLUTION) c.loop-row.invariant.1 c.times-sum.ensures.small in
     let kept : to_z w128 (of_z w128 c.entry.result) ≡ c.entry.result = held c.entry.result (omega (arith, c.entry.ensures.small)) in
-    let product : p ≡ entry col r *ℤ entry u r = c.times-sum.ensures.value ∙ ap (λ (x : ℤ). x *ℤ entry u r) (kept ∙ c.entry.ensures.value ∙ sym (entry-column rows c.args.j r)) in
+    let product : p ≡ entry col r *ℤ entry u r = c.times-sum.ensures.value ∙ *ℤ_comm (entry u r) (to_z w128 (of_z w128 c.entry.result)) ∙ ap (λ (x : ℤ). x *ℤ entry u r) (kept ∙ c.entry.ensures.value ∙ sym (entry-column rows c.args.j r)) in
     let next : dot (take (r + 1) col) (take (r + 1) u) ≡ s +ℤ p = dot_step col u r in_col in_u ∙ next_sum c.loop-row.invariant.0 product in
     rw (held p (omega (arith, c.times-sum.ensures.small)), held (s +ℤ p) (omega (arith, bound, inside, c.rows-row-end.ensures.count, c.rows-row-end.ensures.limit))) (sym next, omega (arith, bound))
 

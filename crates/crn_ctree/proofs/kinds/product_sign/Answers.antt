@@ -1,7 +1,6 @@
 use Rattle.std.proofs.Common.{ap, ◌∙◌}
 use Rattle.crn_vec.specs.Concordance.{product}
-use Rattle.crn_vec.proofs.CallerLemmas.{sign_is}
-use Rattle.crn_ctree.proofs.KindLaws.{product_is}
+use Rattle.crn_vec.proofs.CallerLemmas.{sign_is, product_is}
 use Rattle.crn_ctree.proofs.kinds.product_sign.Goals as goal
 
 pub returns : goal.returns
