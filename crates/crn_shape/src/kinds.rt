@@ -1,24 +1,13 @@
 ghost use Rattle.std.specs.Prelude.{◌≡◌, ◌<◌, ℕ, drop, take};
 ghost use Rattle.crn_vec.specs.Concordance.{kind_of_sign, row_kinds, sign};
-ghost use Rattle.crn_vec.specs.Problems.{all_zero, opposite};
+ghost use Rattle.crn_vec.specs.Problems.{opposite};
 ghost use Rattle.crn_vec.specs.Systems.{kind_at};
 ghost use Rattle.crn_vec.specs.Network.{Net};
 ghost use Rattle.crn_vec.specs.Signals.{pair_kind, pair_kind_by, top_kind};
 ghost use Rattle.crn_shape.specs.Shapes.{pair_of};
 
 use crate::pairs::LinkedPair;
-use crn_vec::{Kind, Sign};
-
-// The kind of the numbers of a sign.
-fn kind_of_sign(sign: Sign) -> Kind
-    ensures { result ≡ kind_of_sign sign }
-{
-    match sign {
-        Sign::Zero => Kind::Zero,
-        Sign::Plus => Kind::Pos,
-        Sign::Minus => Kind::Neg,
-    }
-}
+use crn_vec::{Kind, Sign, kind_of_sign};
 
 // The kind of the numbers with the sign of this one.
 fn kind_of_number(number: i128) -> Kind
@@ -98,18 +87,6 @@ pub(crate) fn signs(prefix: &[Sign], count: usize) -> &[Sign]
 {
     let (_, signs) = prefix.split_at(count.min(prefix.len()));
     signs
-}
-
-/// Whether each sign is zero.
-pub fn is_all_zero(signs: &[Sign]) -> bool
-    ensures { result ≡ all_zero signs.now }
-{
-    for sign in signs {
-        if *sign != Sign::Zero {
-            return false;
-        }
-    }
-    true
 }
 
 /// The kind of a species by its option, and free if it is not chosen yet.

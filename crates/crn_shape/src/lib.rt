@@ -7,7 +7,7 @@ mod rows;
 mod shape;
 mod tops;
 
-pub use kinds::{is_all_zero, row_kind, shelves};
+pub use kinds::{row_kind, shelves};
 pub use pairs::LinkedPair;
 pub use shape::Shape;
 pub use tops::Tops;

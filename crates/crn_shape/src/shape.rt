@@ -12,13 +12,13 @@ ghost use Rattle.crn_cert.specs.Ranges.{IsNarrow};
 ghost use Rattle.crn_shape.specs.Shapes.{AreForShape, no_pair, shape_of};
 ghost use Rattle.crn_shape.specs.Sides.{AreClassesBy, AreSides};
 
-use crate::kinds::{is_all_zero, pair_kind, row_kind, shelves, signs, top_kind};
+use crate::kinds::{pair_kind, row_kind, shelves, signs, top_kind};
 use crate::pairs::{LinkedPair, linked_pairs, negate_sums};
 use crate::rows::entry_with;
 use crate::tops::{Tops, terminal_classes};
 use crn_cert::Rows;
 use crn_net::Network;
-use crn_vec::{Kind, NoMemory, Sign};
+use crn_vec::{Kind, NoMemory, Sign, is_all_zero};
 use std::alloc::Global;
 use std::marker::Model;
 
