@@ -10,7 +10,6 @@ mod Forms
 mod Truths
 mod Asked
 mod Widths
-mod ZeroPlaces
 mod RankParts
 mod Fits
 mod Outside

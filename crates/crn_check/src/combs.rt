@@ -7,29 +7,19 @@ ghost use Rattle.crn_cert.specs.Ranges.{IsFrom, AreFree};
 ghost use Rattle.crn_cert.specs.RankTests.{IsComb, comb_tests, outside, vector_of, vectors_of};
 ghost use Rattle.crn_check.specs.Check.{Judges};
 ghost use Rattle.crn_check.specs.Inner.Bases.{IsBase, AreLabelled, members_of};
-ghost use Rattle.crn_check.specs.Inner.Skips.{AreSkips, AreSkipsOf};
+ghost use Rattle.crn_check.specs.Inner.Skips.{AreSkipsOf};
+ghost use Rattle.crn_vec.specs.Skips.{AreSkips};
 
 use crate::duals::vector_of;
 use crate::fault::CheckFault;
 use crate::members::Members;
-use crate::skips::{Skips, skips_at};
-use crate::sums::is_nought;
+use crate::skips::skips_at;
 use crn_cert::Rows;
 use crn_net::Network;
-use crn_vec::MAX_SPECIES;
+use crn_vec::{MAX_SPECIES, Skips, is_nought, times};
 
 // A number for each species, and more at the places past the last species.
 type Sums = [i128; MAX_SPECIES];
-
-// A product of a number of a certificate and an entry of a reaction's vector.
-pub(crate) fn times(x: &i128, y: &i128) -> i128
-    requires x { unsigned_abs x.now < WIDE_SOLUTION }
-    requires y { unsigned_abs y.now ≤ MAX_AMOUNT }
-    ensures value { result ≡ x.now *ℤ y.now }
-    ensures small { unsigned_abs result ≤ MAX_AMOUNT * WIDE_SOLUTION }
-{
-    *x * *y
-}
 
 // Adds a multiple of a vector to the sums at its places.
 fn add_multiple(sums: &mut Sums, number: &i128, vector: &[i128], skips: &[u8], most: usize)

@@ -8,10 +8,10 @@ ghost use Rattle.crn_check.specs.Inner.Bases.{IsBase};
 ghost use Rattle.crn_check.specs.Inner.Skips.{AreSkipsOf};
 
 use crate::fault::CheckFault;
-use crate::skips::{Skips, skips_at};
-use crate::sums::dot;
+use crate::skips::skips_at;
 use crn_cert::Rows;
 use crn_net::Network;
+use crn_vec::{Skips, dot_past};
 
 // The vector of a reaction, counted from 1.
 pub(crate) fn vector_of(net: &Network, reaction: u32) -> &[i128]
@@ -33,7 +33,7 @@ fn is_dual(net: &Network, base: &[u32], skips: &[Skips], i: usize, dual: &[i128]
 {
     for j in 0..base.len() {
         let places = skips_at(net, base, skips, j);
-        let product = dot(dual, vector_of(net, base[j]), &places);
+        let product = dot_past(dual, vector_of(net, base[j]), &places);
         if i == j && product == 0 {
             return false;
         }

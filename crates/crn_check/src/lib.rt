@@ -28,7 +28,6 @@ mod signal;
 mod skips;
 mod space;
 mod strong;
-mod sums;
 mod terminals;
 #[cfg(test)]
 mod tests;

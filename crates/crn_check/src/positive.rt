@@ -10,11 +10,10 @@ ghost use Rattle.crn_cert.specs.Formed.{RowsPositive};
 ghost use Rattle.crn_cert.specs.Valid.{dependence_rows, conservation_rows};
 ghost use Rattle.crn_check.specs.Check.{Judges};
 
-use crate::combs::times;
 use crate::fault::CheckFault;
 use crn_cert::{Proof, Verdict};
 use crn_net::Network;
-use crn_vec::dot;
+use crn_vec::{dot, times};
 
 // Whether each number is at least 1.
 fn are_positive(values: &[i128]) -> bool

@@ -1,34 +1,13 @@
-ghost use Rattle.std.specs.Prelude.{◌≤◌, ◌<◌, length, slice_index};
+ghost use Rattle.std.specs.Prelude.{◌<◌, length, slice_index};
 ghost use Rattle.crn_vec.specs.declared.limits.TheConstants.{MAX_SPECIES};
 ghost use Rattle.crn_cert.specs.RankTests.{vector_of};
 ghost use Rattle.crn_check.specs.Inner.Bases.{IsBase};
-ghost use Rattle.crn_check.specs.Inner.Skips.{AreSkips, AreSkipsOf};
+ghost use Rattle.crn_check.specs.Inner.Skips.{AreSkipsOf};
+ghost use Rattle.crn_vec.specs.Skips.{AreSkips};
 
 use crate::duals::vector_of;
-use crate::sums::is_nought;
 use crn_net::Network;
-use crn_vec::MAX_SPECIES;
-
-/// From each place of a vector the next at which it is not 0, or the vector's length.
-pub(crate) type Skips = [u8; MAX_SPECIES + 1];
-
-// The places at which a vector is not 0, as most numbers of a reaction's vector are.
-fn skips_of(vector: &[i128]) -> Skips
-    requires { length vector.now ≤ MAX_SPECIES }
-    ensures { AreSkips vector.now result }
-{
-    let mut s = vector.len();
-    let mut skips = [s as u8; MAX_SPECIES + 1];
-    'back: while s > 0 {
-        s -= 1;
-        skips[s] = if is_nought(&vector[s]) {
-            skips[s + 1]
-        } else {
-            s as u8
-        };
-    }
-    skips
-}
+use crn_vec::{MAX_SPECIES, Skips, skips_of};
 
 /// Writes the places at which the vectors of the first members of a base are not 0.
 pub(crate) fn put_skips(net: &Network, base: &[u32], all: &mut [Skips; MAX_SPECIES])

@@ -7,8 +7,8 @@ ghost use Rattle.crn_cert.specs.Ranges.{AreFree, IsFrom};
 ghost use Rattle.crn_cert.specs.ConfluenceTests.{IsInSpace};
 ghost use Rattle.crn_check.specs.Inner.Spaces.{AreSumsZero, IsApart, IsBalanced};
 
-use crate::combs::times;
 use crn_net::Network;
+use crn_vec::times;
 
 // The amount of a species in the combination of the complexes with these numbers.
 fn amount_in(net: &Network, numbers: &[i128], s: usize) -> i128

@@ -1,6 +1,6 @@
 -- The kinds of the coordinates of a part at a prefix.
 use Rattle.std.proofs.Common.{◌≡◌, ℕ, zero, suc, ◌+◌, ◌-◌, ◌<◌, ◌≤◌, List, [], ◌∷◌, length, map, get_or, take, drop, replicate, Bool, true, false, cond, refl, sym, ap, ap₂, ◌∙◌, arith}
-use Rattle.std.specs.Prelude.{ℤ, pos, negsuc, neg_ℤ, ◌-ℤ◌, ◌*ℤ◌, ◌||◌}
+use Rattle.std.specs.Prelude.{ℤ, pos, negsuc, neg_ℤ, ◌-ℤ◌, ◌||◌}
 use Rattle.std.proofs.lemmas.Int.{ints}
 use Rattle.std.proofs.lemmas.List.{take_all, get_or-map, get_or-replicate, get_or_append_left, get_or-append_right, length-map, length-replicate}
 use Rattle.crn_vec.specs.declared.signs.Sign.{Sign}
@@ -8,12 +8,12 @@ use Rattle.crn_vec.specs.declared.signs.Sign.TheVariants.{Zero, Plus, Minus}
 use Rattle.crn_vec.specs.declared.signs.Kind.{Kind}
 use Rattle.crn_vec.specs.declared.signs.Kind.TheVariants.{Free, Zero as ZeroKind}
 use Rattle.crn_vec.specs.Network.{Net, minus, sides_of, reaction_vector}
-use Rattle.crn_vec.specs.Vectors.{Mat, HasSign}
+use Rattle.crn_vec.specs.Vectors.{Mat}
 use Rattle.crn_vec.specs.Systems.{kind_at}
 use Rattle.crn_vec.specs.Problems.{opposite, all_zero}
 use Rattle.crn_vec.specs.Concordance.{sign, product, products, is_plus, is_minus, some_sign, kind_of_sum, column_kind, row_kinds, kinds_a_of, kinds_b_of}
 use Rattle.crn_vec.specs.Influence.{strong_table}
-use Rattle.crn_vec.proofs.CallerLemmas.{sign_is, plus-opposite, minus-opposite, sum-opposite, cond-opposite, products_none}
+use Rattle.crn_vec.proofs.CallerLemmas.{plus-opposite, minus-opposite, sum-opposite, cond-opposite, products_none}
 use Rattle.crn_vec.specs.NetSystems.{reaction_system}
 use Rattle.crn_ctree.specs.Problem.{problem_of, table_of}
 use Rattle.crn_ctree.specs.declared.problem.Problem.{Problem}

@@ -1,21 +1,9 @@
 -- For the contracts of private functions alone.
--- The places at which a vector is not zero, by the way from each place to the next of them.
--- Shapes: places count from 0.
-use Rattle.std.specs.Prelude.{◌≡◌, ◌≤◌, ◌<◌, ℕ, ℤ, pos, List, [], length, slice_index, slice_index_or}
+-- The places at which the vectors of a base are not zero.
+use Rattle.std.specs.Prelude.{◌<◌, ℕ, List, [], length, slice_index, slice_index_or}
 use Rattle.crn_vec.specs.Network.{Net}
-use Rattle.crn_vec.specs.Vectors.{entry}
+use Rattle.crn_vec.specs.Skips.{AreSkips}
 use Rattle.crn_cert.specs.RankTests.{vector_of}
-
--- from place k the next at which the vector is not zero, or one before which there is none
-pub record IsSkip (v : List ℤ) (k next : ℕ) : Type 0 where
-  pub after : k ≤ next
-  pub inside : next ≤ length v
-  pub zero : (i : ℕ) → k ≤ i → i < next → entry v i ≡ pos 0
-
--- such a place from each place of a vector, and from its end
-pub record AreSkips (v : List ℤ) (skips : List ℕ) : Type 0 where
-  pub long : length v < length skips
-  pub each : (k : ℕ) → k ≤ length v → IsSkip v k (slice_index skips k)
 
 -- such places for the vectors of the first members of a base
 abbrev pub AreSkipsOf : Net → List ℕ → List (List ℕ) → Type 0

@@ -1,7 +1,8 @@
-use Rattle.std.proofs.Common.{◌≡◌, ◌≢◌, ◌<◌, length, sym, ap, ◌∙◌, arith, of_z}
-use Rattle.std.specs.Prelude.{pos}
+use Rattle.std.proofs.Common.{◌≡◌, ◌≢◌, ◌<◌, List, length, inr, sym, ap, subst, ◌∙◌, arith, of_z}
+use Rattle.std.specs.Prelude.{ℤ, pos}
 use Rattle.std.specs.Int.{w128}
 use Rattle.std.proofs.lemmas.Int.{ints}
+use Rattle.crn_vec.specs.Skips.{AreSkips}
 use Rattle.crn_cert.specs.RankTests.{vectors_of}
 use Rattle.crn_check.proofs.Decided.{granted, refused}
 use Rattle.crn_check.proofs.RankParts.{product_at, length_vectors, own_next, others_next}
@@ -9,8 +10,11 @@ use Rattle.crn_check.proofs.duals.is_dual.Goals as goal
 use Rattle.crn_check.proofs.duals.is_dual.Goals.{else-i-j-via-then-i-j+else-product-eq0, else-i-j-via-else-i-j, else-i-j-2-via-then-i-j-2+else-product-ne0, else-i-j-2-via-else-i-j-2}
 use Rattle.crn_shape.proofs.CallerLemmas.{narrow_within}
 
-pub dot-product-requires-clause-a : goal.dot-product-requires-clause-a
-dot-product-requires-clause-a c = narrow_within c.args.dual.now c.requires.dual.each
+pub dot_past-product-requires-clause-a : goal.dot_past-product-requires-clause-a
+dot_past-product-requires-clause-a c = narrow_within c.args.dual.now c.requires.dual.each
+
+pub dot_past-product-requires-clause-skips : goal.dot_past-product-requires-clause-skips
+dot_past-product-requires-clause-skips c = inr (subst (λ (v : List ℤ). AreSkips v c.skips_at-places.result) (sym c.vector_of.ensures.value) c.skips_at-places.ensures)
 
 pub returns-then-product-ne0 : goal.returns-then-product-ne0
 returns-then-product-ne0 c =
@@ -18,7 +22,7 @@ returns-then-product-ne0 c =
     let base = c.args.base.now in
     let j = c.loop-j.j in
     let inside : j < length base = omega arith in
-    let is = product_at net base c.args.dual.now c.vector_of.result.now c.dot-product.result j inside c.vector_of.ensures.value c.dot-product.ensures in
+    let is = product_at net base c.args.dual.now c.vector_of.result.now c.dot_past-product.result j inside c.vector_of.ensures.value c.dot_past-product.ensures in
     refused (λ h. c.if-product-ne0.true (ap (of_z w128) (sym is ∙ h.others j (omega (arith, inside, length_vectors net base)) (λ e. c.if-i-j-2.true e))))
 
 pub loop-j-preserved : goal.loop-j-preserved
@@ -29,9 +33,9 @@ loop-j-preserved c =
     let dual = c.args.dual.now in
     let i = c.args.i in
     let j = c.loop-j.j in
-    let p = c.dot-product.result in
+    let p = c.dot_past-product.result in
     let inside : j < length base = omega arith in
-    let is = product_at net base dual c.vector_of.result.now p j inside c.vector_of.ensures.value c.dot-product.ensures in
+    let is = product_at net base dual c.vector_of.result.now p j inside c.vector_of.ensures.value c.dot_past-product.ensures in
     let own : i ≡ j → p ≢ pos 0 = elim c.else-i-j.branch as (λ _. i ≡ j → p ≢ pos 0) [
       | else-i-j-via-then-i-j+else-product-eq0 w ↦ λ e z. w.if-product-eq0.false (ap (of_z w128) z)
       | else-i-j-via-else-i-j w ↦ λ e z. w.if-i-j.false e
