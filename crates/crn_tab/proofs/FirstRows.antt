@@ -9,7 +9,7 @@ use Rattle.std.proofs.Math.Seq.{take-append_seam}
 use Rattle.crn_vec.specs.declared.limits.TheConstants.{MAX_AMOUNT, MAX_COORDINATES, WIDE_ENTRY}
 use Rattle.crn_vec.specs.Vectors.{Mat, entry, dot, column, AreOfLength, AreWithin}
 use Rattle.crn_vec.specs.Elementary.{width, InDualSpace}
-use Rattle.crn_vec.proofs.CallerLemmas.{within_at, past_end, lt_or, length-neg, entry-neg, dot_single, zero_times}
+use Rattle.crn_vec.proofs.CallerLemmas.{within_at, past_end, lt_or, length-neg, entry-neg, dot_single, zero_times, entry-column}
 use Rattle.crn_tab.specs.Tableau.{AreSmall, choose}
 use Rattle.crn_tab.specs.Slots.{IsContent, slot_entry, spread, basis_from, row_at, ArePlaced, IsRowAt, IsTableau, AreLowRows}
 use Rattle.crn_tab.specs.Inner.Start.{IsIdentity, start_row, start_rows}
@@ -88,11 +88,6 @@ identity_placed n count at order p q le = record {
   basis = count_from n 0 at (λ j lt. p.is j (omega (arith, p.long)) ∙ (let e : j ≡ 0 + j = omega arith in e)) (omega (arith, p.long)) ∙ (let e : n - 0 ≡ n = omega arith in e);
 }
 
-entry-column : (rows : List (List ℤ)) (j i : ℕ) → i < length rows → entry (column rows j) i ≡ entry (get_or rows i []) j
-entry-column [] j i lt = absurd (omega arith)
-entry-column (r ∷ rows) j zero lt = refl
-entry-column (r ∷ rows) j (suc i) lt = entry-column rows j i (omega arith)
-
 one_times : (u x : ℤ) → u ≡ pos 1 → u *ℤ x ≡ x
 one_times u x e = ap (λ (t : ℤ). t *ℤ x) e ∙ (let f : pos 1 *ℤ x ≡ x = omega (arith, ints) in f)
 
@@ -116,7 +111,7 @@ first_dual a at i wide id lt =
           ]) in
           let own : entry (drop n w) i ≡ pos 1 = below i ∙ in_at (n + i) (omega arith) ∙ slot_own n i row (n + i) refl ∙ ap (λ k. entry row k) (sym r_long) ∙ start_last r in
           let product : dot (drop n w) (column a.rows j) ≡ entry r j =
-          dot_single (drop n w) (column a.rows j) i others ∙ one_times (entry (drop n w) i) (entry (column a.rows j) i) own ∙ entry-column a.rows j i lt in
+          dot_single (drop n w) (column a.rows j) i others ∙ one_times (entry (drop n w) i) (entry (column a.rows j) i) own ∙ entry-column a.rows j i in
           left ∙ ap neg_ℤ (sym product);
     }
 

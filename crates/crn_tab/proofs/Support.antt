@@ -6,11 +6,7 @@ use Rattle.crn_vec.proofs.CallerLemmas.{eq_or, lt_or}
 use Rattle.crn_vec.specs.Lists.{IsIn}
 use Rattle.crn_vec.specs.Vectors.{entry}
 use Rattle.crn_tab.proofs.Numbers.{push_in, push_last, in_push}
-
-place_in : (xs : List ℕ) (i : ℕ) → i < length xs → IsIn (slice_index xs i) xs
-place_in [] i h = absurd (omega arith)
-place_in (x ∷ xs) zero h = inl refl
-place_in (x ∷ xs) (suc i) h = inr (place_in xs i (omega arith))
+use Rattle.crn_tab.proofs.SparseRow.{place_in}
 
 pushed_before : (xs : List ℕ) (c j : ℕ) → j < length xs → slice_index (xs ++ c ∷ []) j ≡ slice_index xs j
 pushed_before [] c j h = absurd (omega arith)

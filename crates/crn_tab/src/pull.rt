@@ -6,18 +6,9 @@ ghost use Rattle.crn_tab.specs.Slots.{basis_of, IsTableau};
 use crate::fields::Fields;
 use crate::fill::part;
 use crate::tableau::Tableau;
-use crn_vec::Kind;
+use crn_vec::{Kind, unit_asked};
 
-// A number times what a member of the basis of this kind has: 1 or -1, if it has to be positive or negative, and else 0.
-fn times_unit(kind: Kind, x: &i64) -> i64 {
-    match kind {
-        Kind::Pos => *x,
-        Kind::Neg => x.wrapping_neg(),
-        _ => 0,
-    }
-}
-
-// Minus the sum of the products of a row and what the members of the basis have, and the row's own entry.
+// Minus the sum of the products of a row and what the members of the basis have, as their kinds ask, and the row's own entry.
 fn pull_of(fields: &Fields, row: usize, kinds: &[Kind]) -> (i128, i128)
     requires tableau { IsTableau fields.now.matrix.now fields.now.at.now fields.now.order.now
         fields.now.rows.now }
@@ -29,7 +20,8 @@ fn pull_of(fields: &Fields, row: usize, kinds: &[Kind]) -> (i128, i128)
     let kept = part(fields.rows, fields.at[row] - n, n + 1);
     let mut sum = 0i128;
     for s in 0..n {
-        sum = sum.wrapping_sub(times_unit(kinds[fields.order[s]], &kept[s]) as i128);
+        let unit = unit_asked(kinds[fields.order[s]]);
+        sum = sum.wrapping_sub(kept[s].wrapping_mul(unit) as i128);
     }
     (sum, kept[n] as i128)
 }
