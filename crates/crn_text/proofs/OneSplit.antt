@@ -126,7 +126,7 @@ is_split (suc n) (b ∷ bs) le =
 
 -- ---- and in no other way
 
-blanks_prefix : (prefix t : List ℕ) → list_all is_blank prefix ≡ true → tokens (prefix ++ t) ≡ tokens t
+pub blanks_prefix : (prefix t : List ℕ) → list_all is_blank prefix ≡ true → tokens (prefix ++ t) ≡ tokens t
 unfolding tokens_after
 blanks_prefix [] t h = refl
 blanks_prefix (b ∷ prefix) t h =

@@ -13,6 +13,7 @@ use Rattle.crn_text.specs.declared.token.TokenKind.TheVariants.{Number, Name}
 use Rattle.crn_text.specs.Inner.Pieces.{OccursIn, after_split, Runs, Numbered, IsSpelled, ReadsTerm, ReadsPlace, count_of}
 use Rattle.crn_text.proofs.CanonicalTokens.{stops, letter_no_digit, name_bytes, tokens_number, tokens_name}
 use Rattle.crn_text.proofs.Terms.{occurs_first, occurs_last, piece_at}
+use Rattle.crn_text.proofs.OneSplit.{blanks_prefix}
 
 -- ---- no plus sign
 
@@ -40,11 +41,6 @@ blank_no_name b h = grind (arith, nat_tests)
 blank_no_digit : (b : ℕ) → is_blank b ≡ true → is_digit b ≡ false
 blank_no_digit b h = grind (arith, nat_tests)
 
-tokens_blanks : (bs rest : List ℕ) → list_all is_blank bs ≡ true → tokens (bs ++ rest) ≡ tokens rest
-unfolding tokens_after
-tokens_blanks [] rest h = refl
-tokens_blanks (b ∷ bs) rest h = let a = and_parts (is_blank b) (list_all is_blank bs) h in rw a.0 (tokens_blanks bs rest a.1)
-
 all_blank : (bs : List ℕ) → list_all is_blank bs ≡ true → tokens bs ≡ []
 unfolding tokens_after
 all_blank [] h = refl
@@ -65,13 +61,13 @@ number_token [] = []
 number_token (d ∷ ds) = token Number (d ∷ ds) ∷ []
 
 named_tokens : (bs name after : List ℕ) → list_all is_blank bs ≡ true → begins_name name ≡ true → list_all is_blank after ≡ true → tokens (bs ++ (name ++ after)) ≡ token Name name ∷ []
-named_tokens bs name after h n k = tokens_blanks bs (name ++ after) h ∙ tokens_name name after n (blanks_stop after k) ∙ ap (λ (ws : List Token). token Name name ∷ ws) (all_blank after k)
+named_tokens bs name after h n k = blanks_prefix bs (name ++ after) h ∙ tokens_name name after n (blanks_stop after k) ∙ ap (λ (ws : List Token). token Name name ∷ ws) (all_blank after k)
 
 place_tokens : (before ds bs name after : List ℕ) → list_all is_blank before ≡ true → list_all is_digit ds ≡ true → list_all is_blank bs ≡ true → begins_name name ≡ true → list_all is_blank after ≡ true
     → tokens (before ++ (ds ++ (bs ++ (name ++ after)))) ≡ number_token ds ++ token Name name ∷ []
-place_tokens before [] bs name after h d k n a = tokens_blanks before (bs ++ (name ++ after)) h ∙ named_tokens bs name after k n a
+place_tokens before [] bs name after h d k n a = blanks_prefix before (bs ++ (name ++ after)) h ∙ named_tokens bs name after k n a
 place_tokens before (x ∷ ds) bs name after h d k n a =
-    tokens_blanks before ((x ∷ ds) ++ (bs ++ (name ++ after))) h
+    blanks_prefix before ((x ∷ ds) ++ (bs ++ (name ++ after))) h
     ∙ tokens_number (x ∷ ds) (bs ++ (name ++ after)) d (omega arith) (digits_stop bs name after k n)
     ∙ ap (λ (ws : List Token). token Number (x ∷ ds) ∷ ws) (named_tokens bs name after k n a)
 
