@@ -36,7 +36,7 @@ use Rattle.crn_ctext.specs.Meaning.{Known, lengths, reactions_by_class, rank_pro
 use Rattle.crn_cert.specs.Built.{built}
 use Rattle.crn_ctext.specs.Judged.{AreFormedOf}
 use Rattle.crn_ctext.specs.Linked.{records_of}
-use Rattle.crn_ctext.proofs.AnswersApart.{block_apart}
+use Rattle.crn_ctext.proofs.AnswersApart.{block_apart, first_same}
 use Rattle.crn_ctext.specs.Same.{said, said_rank, shown, AreSame}
 use Rattle.crn_ctext.proofs.Joined.{parts, IsLinked, answer, open_as, tied, IsJoinedFor, LinkFor, joined, same_valid}
 use Rattle.crn_ctext.proofs.KnownBefore.{AreKnown, IsStrongTrue, after, formed_right, said_right, known_then, valid_is_true, true_moves, true_then}
@@ -631,9 +631,6 @@ same_by b (q ∷ qs) links known earlier later (a ∷ answers) (c ∷ others) n 
     let more = same_by (after b q) qs links.1 (known_after q known a) (earlier ++ (q, a.verdict) ∷ []) (later ++ (q, c.verdict) ∷ []) answers others (known_next b q known earlier a n d j f.0) (alike_after b q known earlier a n d j f.0) alike f.1 g.1 rest in
     ap₂ (λ (x : Verdict × (Proof × List Plan)) (xs : List (Verdict × (Proof × List Plan))). x ∷ xs) (ap₂ (λ (v : Verdict) (p : Proof × List Plan). (v, p)) verdicts proofs) more
   where
-    first_same : (x y : List Record) (xs ys : List (List Record)) → x ∷ xs ≡ y ∷ ys → (x ≡ y) × (xs ≡ ys)
-    first_same x y xs ys e = (cc, cc)
-
     same_nodes : (x y : Record) (rows others ns ms : List Record) → rows ≡ others → x ∷ (rows ++ ns) ≡ y ∷ (others ++ ms) → ns ≡ ms
     same_nodes x y rows others ns ms e all = let below : rows ++ ns ≡ others ++ ms = cc in append_cancel_left others ns ms (ap (λ (t : List Record). t ++ ns) (sym e) ∙ below)
 

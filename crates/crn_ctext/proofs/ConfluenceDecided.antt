@@ -1,5 +1,5 @@
 -- The tests of regularity and of confluence vectors are decided, whatever the records and the earlier verdicts say.
-use Rattle.std.proofs.Common.{◌≡◌, ◌≤◌, ◌<◌, ◌-◌, ℕ, zero, suc, true, List, [], ◌∷◌, length, sym, subst, inl, inr, arith}
+use Rattle.std.proofs.Common.{◌≡◌, ◌≤◌, ◌<◌, ◌-◌, ℕ, suc, true, List, [], ◌∷◌, length, sym, subst, inl, inr, arith}
 use Rattle.std.specs.Prelude.{◌≢◌, ◌⊎◌, ℤ, pos, ◌≤ℤ◌, unsigned_abs, slice_index}
 use Rattle.std.specs.Int.{◌∣◌}
 use Rattle.std.proofs.lemmas.Bool.{cases_lt}
@@ -14,7 +14,7 @@ use Rattle.crn_vec.specs.CutPairs.{IsBetween, IsFreeStep}
 use Rattle.crn_vec.specs.Elementary.{IsPrimitive}
 use Rattle.crn_vec.specs.Confluence.{IsNonzero, LeadsPositive}
 use Rattle.crn_vec.specs.Sums.{label_marks}
-use Rattle.crn_vec.proofs.CallerLemmas.{past_end}
+use Rattle.crn_vec.proofs.CallerLemmas.{past_end, positive_some}
 use Rattle.crn_cert.specs.declared.answer.Verdict.{Verdict}
 use Rattle.crn_cert.specs.declared.answer.Verdict.TheVariants.{NoVec, NoTerminal, NoDependence, NoCycle, Unknown}
 use Rattle.crn_cert.specs.Questions.{Earlier, Q4, on, IsNo, IsOpen}
@@ -141,12 +141,9 @@ primitive_decided g = by (nonzero_decided g)
 abbrev LeadsAt : List ℤ → ℕ → Type 0
 LeadsAt g k = (pos 1 ≤ℤ entry g k) × ((j : ℕ) → j < k → entry g j ≡ pos 0)
 
-not_positive : (x : ℤ) → x ≡ pos 0 → pos 1 ≤ℤ x → ⊥
-not_positive x e le = omega (arith, ints, e, le)
-
 positive_decided : (g : List ℤ) → IsDecided (LeadsPositive g)
 positive_decided g = moved (λ h. (h.0, h.1.0, h.1.1)) (λ h. (h.0, (h.1, h.2))) (some_number (LeadsAt g)
-    (λ k. both_decided (int_le_decided (pos 1) (entry g k)) (each_below (λ j. entry g j ≡ pos 0) (λ j. int_decided (entry g j) (pos 0)) k)) (length g) (λ k h l. not_positive (entry g k) (past_end g k h) l.0))
+    (λ k. both_decided (int_le_decided (pos 1) (entry g k)) (each_below (λ j. entry g j ≡ pos 0) (λ j. int_decided (entry g j) (pos 0)) k)) (length g) (λ k h l. positive_some (entry g k) l.0 (past_end g k h)))
 
 pub normal_decided : (net : Net) (earlier : Earlier) (g : List ℤ) → IsDecided (IsNormal net earlier g)
 normal_decided net earlier g = moved

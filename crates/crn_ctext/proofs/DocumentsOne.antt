@@ -31,7 +31,7 @@ use Rattle.crn_ctext.proofs.NetworkLines.{ends_in, net_line}
 use Rattle.crn_ctext.proofs.DocumentsRead.{no_ends}
 use Rattle.crn_ctext.proofs.ShortAnswers.{AllPlain, plain_are_short, short_both}
 use Rattle.crn_ctext.proofs.ShortLines.{text_lines_are_short}
-use Rattle.crn_ctext.proofs.AnswersApart.{AllWorded, worded_both, formed_are_worded, parted_worded, answers_apart, same_long}
+use Rattle.crn_ctext.proofs.AnswersApart.{AllWorded, worded_both, formed_are_worded, parted_worded, answers_apart, same_long, first_same}
 use Rattle.crn_ctext.proofs.Written.{first_ended}
 use Rattle.crn_ctext.proofs.DocumentsShort.{formed_plain}
 
@@ -112,9 +112,6 @@ texts_one version net other records others low n k p q e =
     let same : net ≡ other = spelling_unique (canonical other) net other (subst (λ (t : List ℕ). Spells t net) text (spells_its_network net n)) (spells_its_network other k) in
     let said : map record_text records ≡ map record_text others = last_gone (map record_text records) (map record_text others) (codes "end") parts.1 in
     (same, records_one records others p.1 q.1 (plain_are_short records p.0) (plain_are_short others q.0) said)
-  where
-    first_same : (x y : List ℕ) (xs ys : List (List ℕ)) → x ∷ xs ≡ y ∷ ys → (x ≡ y) × (xs ≡ ys)
-    first_same x y xs ys e = (cc, cc)
 
 pub document_one : (net other : Net) (answers others : List (List Record)) → IsNetwork net → IsNetwork other → AreFormedOf net answers → AreFormedOf other others → document net answers ≡ document other others → (net ≡ other) × (answers ≡ others)
 document_one net other answers others n k f g e =
@@ -181,9 +178,6 @@ tables_one table other ws vs e =
     let parts = same_long (map (one_word (codes "vector")) table) (map (one_word (codes "vector")) other) ws vs (length-map table (one_word (codes "vector")) ∙ long ∙ sym (length-map other (one_word (codes "vector")))) head.1 in
     (sym (lists_back table) ∙ ap (λ (rs : List Record). map (λ (r : Record). r.numbers) rs) parts.0 ∙ lists_back other, parts.1)
   where
-    first_same : (x y : Record) (xs ys : List Record) → x ∷ xs ≡ y ∷ ys → (x ≡ y) × (xs ≡ ys)
-    first_same x y xs ys e = (cc, cc)
-
     count : (k j : ℕ) → one_word (codes "vectors") (pos k ∷ []) ≡ one_word (codes "vectors") (pos j ∷ []) → k ≡ j
     count k j e = ap (λ (r : Record). first_number r.numbers) e
 

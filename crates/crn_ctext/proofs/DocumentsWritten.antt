@@ -20,6 +20,7 @@ use Rattle.crn_ctext.proofs.FormKinds.{end_kind, one_due}
 use Rattle.crn_ctext.proofs.Image.{HasNoEnd, AllShort, written_then, record_is_written, give_no_end, no_end_then, asks_no_end}
 use Rattle.crn_ctext.proofs.Shared.{IsVersion, IsTextFor}
 use Rattle.crn_ctext.proofs.BlocksWritten.{all_of, parted, table_part, lists_back, table_no_end, second_written, blocks_are_written, blocks_no_end}
+use Rattle.crn_ctext.proofs.BlocksRead.{last_lines}
 
 -- ---- the lines of a network
 
@@ -83,10 +84,6 @@ table_lists version table (inl one) = ap (λ (v : ℕ). lists_of (table_part v t
 table_lists version table (inr two) = ap (λ (v : ℕ). lists_of (table_part v table)) two ∙ lists_back table
 
 -- ---- the document
-
--- what follows the blocks
-pub last_lines : {Known : Type 0} → ℕ → Net → AfterBlocks Known → Course ReadOf
-last_lines version net after = asks version after.line after.by_tree (end_form ∷ []) >>= (λ last. ends >> Give (record { net = net; blocks = after.blocks }))
 
 end_record : Record
 end_record = one_word (codes "end") []

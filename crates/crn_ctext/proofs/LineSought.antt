@@ -1,6 +1,6 @@
 -- All forms that are due, tried on a line: the first test of the line that fails, or the record that it is.
-use Rattle.std.proofs.Common.{◌≡◌, ◌≢◌, ◌⊎◌, ◌≤◌, ◌<◌, ◌+◌, ◌-◌, ◌++◌, ◌∷◌, ◌&&◌, ℕ, zero, suc, Bool, true, false, List, [], length, take, get_or, refl, sym, ap, ap₂, subst, ◌∙◌, inl, inr, lit≤, arith}
-use Rattle.std.specs.Prelude.{ℤ, pos, not, if◌then◌else◌, slice_index_or, ◌==◌}
+use Rattle.std.proofs.Common.{◌≡◌, ◌⊎◌, ◌≤◌, ◌<◌, ◌+◌, ◌-◌, ◌++◌, ◌∷◌, ◌&&◌, ℕ, zero, suc, Bool, true, false, List, [], length, take, refl, sym, ap, ap₂, subst, ◌∙◌, inl, inr, lit≤, arith}
+use Rattle.std.specs.Prelude.{ℤ, not, slice_index_or, ◌==◌}
 use Rattle.std.specs.Str.{bytes_eq}
 use Rattle.std.proofs.lemmas.Bool.{cases_Bool}
 use Rattle.std.proofs.lemmas.List.{take_more, take_all}
@@ -8,21 +8,19 @@ use Rattle.std.proofs.lemmas.Slice.Eq.{bytes_eq-Decides}
 use Rattle.crn_vec.specs.Lists.{IsIn}
 use Rattle.crn_vec.specs.Kept.{KeptInts}
 use Rattle.crn_vec.proofs.CallerLemmas.{in_left, and_cases}
-use Rattle.crn_io.specs.Lines.{Place}
 use Rattle.crn_cert.specs.Questions.{Question, Q1, Q2, Q3, Q4, Q5, Q6, Q7, Q8, Q9, Q10, Q11, Q12, Q13, Q14, Q15}
-use Rattle.crn_ctext.specs.Records.{Record, Form, Field, Says, BeginsWith, IsWord, IsShaped, Fits, Takes, AreNarrow, AreOf, kind_of}
-use Rattle.crn_ctext.specs.Kinds.{row_words, head_words, tree_words, known_words}
+use Rattle.crn_ctext.specs.Records.{Record, Form, Field, Says, BeginsWith, IsShaped, Fits, Takes, AreOf, kind_of}
+use Rattle.crn_ctext.specs.Kinds.{row_words, tree_words, known_words}
 use Rattle.crn_ctext.specs.Questions.{Sizes, heads}
 use Rattle.crn_ctext.specs.Course.{Gives, FailsFirst}
-use Rattle.crn_ctext.specs.Blocks.{IsRecordOf, word_of}
-use Rattle.crn_ctext.specs.Expect.{text_of, sizes_of, question_of, forms_of, due_forms, misplaced, is_after, tests_of, tag_of, MayBeDue, IsExpectable, IsReadAs, IsRefusedBy}
-use Rattle.crn_ctext.specs.Inner.Forms.{IsForm, IsNthDue, no_form, tag}
-use Rattle.crn_ctext.specs.Inner.Tries.{FitFields, IsTried, AreTried, IsNotShaped, IsSomeShaped, IsNotFit, worst_of}
-use Rattle.crn_ctext.proofs.LineNumbers.{begins_tail, words_one}
+use Rattle.crn_ctext.specs.Expect.{text_of, sizes_of, question_of, forms_of, due_forms, misplaced, is_after, tag_of, MayBeDue, IsExpectable, IsReadAs, IsRefusedBy}
+use Rattle.crn_ctext.specs.Inner.Forms.{IsForm, no_form, tag}
+use Rattle.crn_ctext.specs.Inner.Tries.{FitFields, IsTried, AreTried, IsNotShaped, IsNotFit, worst_of}
+use Rattle.crn_ctext.proofs.LinesRead.{word_one}
+use Rattle.crn_ctext.proofs.WordsApart.{is_among, among_yes}
 use Rattle.crn_ctext.specs.declared.expect.Due.{Due}
 use Rattle.crn_ctext.specs.declared.expect.Due.TheVariants as due
 use Rattle.crn_ctext.specs.declared.expect.Expect.{Expect}
-use Rattle.crn_ctext.specs.declared.word.Word.{Word}
 use Rattle.crn_ctext.specs.declared.record_form.Form.{Form as GivenForm}
 use Rattle.crn_ctext.specs.declared.record_try.Tried.{Tried}
 use Rattle.crn_ctext.specs.declared.record_try.Tried.TheVariants as tried
@@ -87,24 +85,11 @@ all_tried so_far forms i line le h = rw (take_all i forms le) at h
 
 -- ---- words that are due
 
-is_among : List ℕ → List (List ℕ) → Bool
-is_among w [] = false
-is_among w (x ∷ xs) = if bytes_eq w x then true else is_among w xs
-
 among_in : (w : List ℕ) (xs : List (List ℕ)) → is_among w xs ≡ true → IsIn w xs
-unfolding is_among
 among_in w [] e = absurd cc
 among_in w (x ∷ xs) e = elim (cases_Bool (bytes_eq w x)) [
   | inl same ↦ inl ((bytes_eq-Decides w x).0 same)
   | inr other ↦ inr (among_in w xs (rw other at e))
-]
-
-in_among : (w : List ℕ) (xs : List (List ℕ)) → IsIn w xs → is_among w xs ≡ true
-unfolding is_among
-in_among w [] i = absurd i
-in_among w (x ∷ xs) i = elim (cases_Bool (bytes_eq w x)) [
-  | inl same ↦ rw same refl
-  | inr other ↦ rw other (elim i [ inl e ↦ absurd (let h : bytes_eq w x ≡ true = (bytes_eq-Decides w x).1 e in let f : true ≡ false = sym h ∙ other in cc) | inr later ↦ in_among w xs later ])
 ]
 
 -- known, and no word of a tree
@@ -122,7 +107,7 @@ ordinary_is : (v : ℕ) (w : List ℕ) → is_ordinary v w ≡ true → IsOrdina
 unfolding is_ordinary
 ordinary_is v w e =
     let p = and_cases (is_among w (known_words v)) (not (is_among w (tree_words v))) e in
-    (among_in w (known_words v) p.0, λ i. let f : not true ≡ true = subst (λ (t : Bool). not t ≡ true) (in_among w (tree_words v) i) p.1 in cc)
+    (among_in w (known_words v) p.0, λ i. let f : not true ≡ true = subst (λ (t : Bool). not t ≡ true) (among_yes w (tree_words v) i) p.1 in cc)
 
 ordinary_in : (v : ℕ) (forms : List Form) (form : Form) → all_ordinary v forms ≡ true → IsIn form forms → IsOrdinary v (kind_of form)
 unfolding all_ordinary
@@ -131,7 +116,7 @@ ordinary_in v (f ∷ forms) form e (inl same) = subst (λ k. IsOrdinary v (kind_
 ordinary_in v (f ∷ forms) form e (inr later) = ordinary_in v forms form (and_cases (is_ordinary v (kind_of f)) (all_ordinary v forms) e).1 later
 
 heads_ordinary_1 : (q : Question) (z : Sizes) → all_ordinary 1 (heads q z) ≡ true
-unfolding all_ordinary is_ordinary is_among
+unfolding all_ordinary is_ordinary
 heads_ordinary_1 Q1 z = refl
 heads_ordinary_1 Q2 z = refl
 heads_ordinary_1 Q3 z = refl
@@ -149,7 +134,7 @@ heads_ordinary_1 Q14 z = refl
 heads_ordinary_1 Q15 z = refl
 
 heads_ordinary_2 : (q : Question) (z : Sizes) → all_ordinary 2 (heads q z) ≡ true
-unfolding all_ordinary is_ordinary is_among
+unfolding all_ordinary is_ordinary
 heads_ordinary_2 Q1 z = refl
 heads_ordinary_2 Q2 z = refl
 heads_ordinary_2 Q3 z = refl
@@ -178,11 +163,11 @@ row_in v (x ∷ ws) w e (inl same) = subst (IsOrdinary v) (sym same) (ordinary_i
 row_in v (x ∷ ws) w e (inr later) = row_in v ws w (and_cases (is_ordinary v x) (rows_ordinary v ws) e).1 later
 
 rows_1 : rows_ordinary 1 row_words ≡ true
-unfolding rows_ordinary is_ordinary is_among
+unfolding rows_ordinary is_ordinary
 rows_1 = refl
 
 rows_2 : rows_ordinary 2 row_words ≡ true
-unfolding rows_ordinary is_ordinary is_among
+unfolding rows_ordinary is_ordinary
 rows_2 = refl
 
 one_form : (P : Form → Type 0) (form f : Form) → P form → IsIn f (form ∷ []) → P f
@@ -204,7 +189,7 @@ abbrev MayBe : Due → ℕ → Bool → List ℕ → Type 0
 MayBe d v b w = IsIn w (known_words v) × (is_after d b ≡ true → IsIn w (tree_words v) → ⊥)
 
 due_1 : (d : Due) (b : Bool) (z : Sizes) → MayBeDue d 1 → (form : Form) → IsIn form (due_forms d 1 z) → MayBe d 1 b (kind_of form)
-unfolding all_ordinary is_ordinary is_among all_known
+unfolding all_ordinary is_ordinary all_known
 due_1 (due.Head k) b z m form i = let o = ordinary_in 1 (heads (question_of k) z) form (heads_ordinary_1 (question_of k) z) i in (o.0, λ e. o.1)
 due_1 (due.Base count members) b z m form i = let o = ordinary_in 1 (due_forms (due.Base count members) 1 z) form refl i in (o.0, λ e. o.1)
 due_1 (due.Side reaction) b z m form i = let o = ordinary_in 1 (due_forms (due.Side reaction) 1 z) form refl i in (o.0, λ e. o.1)
@@ -217,7 +202,7 @@ due_1 due.Vector b z m form i = absurd (omega (arith, m))
 due_1 (due.Section k) b z m form i = absurd (omega (arith, m.0))
 
 due_2 : (d : Due) (b : Bool) (z : Sizes) → MayBeDue d 2 → (form : Form) → IsIn form (due_forms d 2 z) → MayBe d 2 b (kind_of form)
-unfolding all_ordinary is_ordinary is_among all_known
+unfolding all_ordinary is_ordinary all_known
 due_2 (due.Head k) b z m form i = let o = ordinary_in 2 (heads (question_of k) z) form (heads_ordinary_2 (question_of k) z) i in (o.0, λ e. o.1)
 due_2 (due.Base count members) b z m form i = let o = ordinary_in 2 (due_forms (due.Base count members) 2 z) form refl i in (o.0, λ e. o.1)
 due_2 (due.Side reaction) b z m form i = let o = ordinary_in 2 (due_forms (due.Side reaction) 2 z) form refl i in (o.0, λ e. o.1)
@@ -303,13 +288,6 @@ refused_wide e line x h =
     let shaped = h.1.2 in record {
       fails = λ n at. inr (kind_of form, (h.0.2, may.0), inr (tt, may.1, inr (tt, (form, h.0.1, refl), inr (tt, (h.1.0, shaped.0, h.1.1, shaped.1, shaped.2), inl (refl, refl, λ r w. h.2 w.1.0 w.1.1 r w.0 w.1.2)))));
     }
-
--- words before a space are one
-word_one : (line v w : List ℕ) → BeginsWith line v → BeginsWith line w → v ≡ w
-word_one line v w p q =
-    let a = begins_tail line v p in
-    let b = begins_tail line w q in
-    (words_one v w a.0 b.0 p.0 q.0 a.2 b.2 (sym a.1 ∙ b.1)).0
 
 pub refused_unknown : (e : Expect) (line word : List ℕ) → IsExpectable e → BeginsWith line word → (IsIn word (known_words e.version) → ⊥) → IsRefusedBy e line 23
 unfolding FailsFirst

@@ -19,7 +19,7 @@ use Rattle.crn_ctext.specs.Documents.{one_word, section, is_cut_leaf, cut_lists,
 use Rattle.crn_ctext.proofs.FormKinds.{IsRowKind, HaveKinds, in_passes, heads_kinds, below_kinds, fits_no_cut}
 use Rattle.crn_ctext.proofs.Shared.{IsWrittenFor, named_at, shared_written}
 use Rattle.crn_ctext.proofs.BlocksWritten.{parted}
-use Rattle.crn_ctext.proofs.AnswersApart.{block_apart}
+use Rattle.crn_ctext.proofs.AnswersApart.{block_apart, first_same}
 
 -- ---- the kinds of records of an answer
 
@@ -183,9 +183,6 @@ leaf_one r zero zero a cut e = refl
 leaf_one r zero (suc j) a cut e = absurd (not_named r r j a a cut e)
 leaf_one r (suc k) zero a cut e = absurd (not_named r r k a a cut (sym e))
 leaf_one r (suc k) (suc j) a cut e = ap suc (same_number (naming_word r) (naming_word r) k j e)
-
-first_same : (x y : Record) (xs ys : List Record) → x ∷ xs ≡ y ∷ ys → (x ≡ y) × (xs ≡ ys)
-first_same x y xs ys e = (cc, cc)
 
 leaves_one : (table : List (List ℤ)) (leaf lead : List ℕ) (rs : List Record) → AllKinds rs → AllZip (IsNamed table) leaf (cut_lists rs) → AllZip (IsNamed table) lead (cut_lists rs) → written leaf rs ≡ written lead rs → leaf ≡ lead
 leaves_one table [] [] [] a p q e = refl

@@ -21,7 +21,7 @@ use Rattle.crn_ctext.specs.Blocks.{Problem, is_all_zero, word_of}
 use Rattle.crn_ctext.specs.Documents.{one_word, leaf_forms, IsOneOf, IsTree, IsGoodLeaf}
 use Rattle.crn_ctext.specs.Answers.{nodes, nodes_held}
 use Rattle.crn_ctext.proofs.RanksLinked.{free_fits, free_row, record_is}
-use Rattle.crn_ctext.proofs.AnswersApart.{tree_apart, leaf_no_split}
+use Rattle.crn_ctext.proofs.AnswersApart.{tree_apart, leaf_no_split, first_same}
 use Rattle.crn_ctext.proofs.TreesRead.{valid_tree_is_formed}
 
 -- ---- prefixes
@@ -132,9 +132,6 @@ pub tree_good : (w : Problem) (more : ℕ) (p : List Sign) (tree : Tree) → mor
 tree_good w more p tree e f v = tree_is w (IsGoodLeaf w) (HaveTrueLeaves w) (leaves_valid w) more p tree e f v
 
 -- ---- a tree of valid records has true leaves
-
-first_same : (x y : Record) (xs ys : List Record) → x ∷ xs ≡ y ∷ ys → (x ≡ y) × (xs ≡ ys)
-first_same x y xs ys e = (cc, cc)
 
 -- the one record is a leaf
 leaf_back : (w : Problem) (more : ℕ) (p : List Sign) (r : Record) → (r ≡ split_record → ⊥) → IsTree (IsGoodLeaf w) more p (r ∷ []) → IsGoodLeaf w p r

@@ -16,6 +16,7 @@ use Rattle.crn_ctext.specs.Questions.{Shapes}
 use Rattle.crn_ctext.specs.Answers.{head_of, head_with, verdict_records, later_records, rank_records, side_records, proof_records, proof_nodes, records_below, records, small_record}
 use Rattle.crn_ctext.specs.Documents.{record_lines, written, one_word}
 use Rattle.crn_ctext.specs.Inner.Written.{shapes_with, leaves_after, headings, block, blocks, question_at, head_words, head_numbers}
+use Rattle.crn_vec.proofs.CallerLemmas.{before_one}
 use Rattle.crn_ctext.proofs.WrittenLines.{head_is, lines_append, element_at}
 use Rattle.crn_ctext.proofs.WrittenLeaves.{IsPlain, leaves_append, written_lines, plain_written, plain_leaves}
 
@@ -236,9 +237,6 @@ blocks_short sections pairs (q ∷ qs) [] = refl
 blocks_short sections pairs (q ∷ qs) (a ∷ xs) = ap (λ (t : List Record). block sections pairs q a ++ t) (blocks_short sections pairs qs xs)
 
 -- ---- one round of the loop over answers
-
-before_one : (k : ℕ) → k + 1 - 1 ≡ k
-before_one k = omega arith
 
 -- the question of the number at a place
 pub at_question : (k n : ℕ) → n ≡ number (get_or built (k + 1 - 1) Q1) → question_at n ≡ get_or built k Q1
