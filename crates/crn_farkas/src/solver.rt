@@ -6,6 +6,7 @@ ghost use Rattle.crn_vec.specs.declared.limits.TheConstants.{MAX_SIGNED};
 ghost use Rattle.crn_tab.specs.Tableau.{NamesRows};
 ghost use Rattle.crn_farkas.specs.Solver.{HasKeptCut, IsCutBy, IsAlternative, IsUnsolvable, IsNamedCut, IsNamedDecision, IsNearStop, IsRefusedStop, IsRuledOut, IsFeasibility};
 ghost use Rattle.crn_farkas.specs.Decision.{IsDecision, IsTargetStop};
+ghost use Rattle.crn_farkas.specs.Inner.Sums.{CanDecide};
 
 use crate::alternative::{Alternative, alternative_at};
 use crate::cut::{Cut, kept_cut, multipliers};
@@ -55,12 +56,8 @@ fn answer(
     sum: &mut [i128],
     work: &mut [i128],
 ) -> Result<Decision, Stop>
-    requires kinds { length kinds.now ≡ width tableau.old.matrix }
-    requires few { signed_count kinds.now ≤ MAX_SIGNED }
-    requires room { width tableau.old.matrix ≤ vec_capacity order.old }
-    requires level { length level.old ≡ width tableau.old.matrix }
-    requires sum { length sum.old ≡ width tableau.old.matrix }
-    requires work { length work.old ≡ width tableau.old.matrix }
+    requires lists { CanDecide tableau.old.matrix kinds.now (vec_capacity order.old)
+        level.old sum.old work.old }
     ensures matrix { tableau.new.matrix ≡ tableau.old.matrix }
     ensures room { vec_capacity order.new ≡ vec_capacity order.old }
     ensures answer { MatchResult result (λ d. IsDecision tableau.new.matrix kinds.now d)

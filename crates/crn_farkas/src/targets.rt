@@ -1,12 +1,10 @@
 ghost use Rattle.std.specs.Prelude.{◌≡◌, ◌≤◌, ◌<◌, ◌+◌, ℕ, length, slice_index, take, vec_capacity, MatchResult, MatchOption, IfErr, IfOk, OnOk};
 ghost use Rattle.crn_vec.specs.Lists.{IsIn};
 ghost use Rattle.crn_vec.specs.Elementary.{width};
-ghost use Rattle.crn_vec.specs.Systems.{signed_count};
-ghost use Rattle.crn_vec.specs.declared.limits.TheConstants.{MAX_SIGNED};
 ghost use Rattle.crn_farkas.specs.Decision.{IsSmallSolution, IsDecision, IsTargetStop};
-ghost use Rattle.crn_farkas.specs.Inner.Views.{AreLevels, IsOrder};
+ghost use Rattle.crn_farkas.specs.Inner.Views.{AreLevels};
 ghost use Rattle.crn_farkas.specs.Solver.{IsNamedCut, IsNamedDecision, IsNearStop};
-ghost use Rattle.crn_farkas.specs.Inner.Sums.{IsPartSum, AreZeros};
+ghost use Rattle.crn_farkas.specs.Inner.Sums.{AreZeros, CanDecide, IsDeciding, IsPartSum};
 
 use crate::columns::in_view;
 use crate::decision::Decision;
@@ -28,12 +26,9 @@ fn target(
     work: &mut [i128],
     g: usize,
 ) -> Result<Option<Ints>, Stop>
-    requires kinds { length kinds.now ≡ width tableau.old.matrix }
-    requires few { signed_count kinds.now ≤ MAX_SIGNED }
     requires goal { g < width tableau.old.matrix }
-    requires order { IsOrder (length kinds.now) order.now.places.now order.now.levels.now }
-    requires sum { IsPartSum tableau.old.matrix kinds.now g sum.old }
-    requires work { length work.old ≡ length kinds.now }
+    requires lists { IsDeciding tableau.old.matrix kinds.now order.now.places.now
+        order.now.levels.now g sum.old work.old }
     ensures matrix { tableau.new.matrix ≡ tableau.old.matrix }
     ensures work { OnOk result (length work.new ≡ length work.old) }
     ensures end { MatchResult result
@@ -67,11 +62,8 @@ fn targets(
     sum: &mut [i128],
     work: &mut [i128],
 ) -> Result<Option<Ints>, Stop>
-    requires kinds { length kinds.now ≡ width tableau.old.matrix }
-    requires few { signed_count kinds.now ≤ MAX_SIGNED }
-    requires order { IsOrder (length kinds.now) order.now.places.now order.now.levels.now }
-    requires sum { IsPartSum tableau.old.matrix kinds.now 0 sum.old }
-    requires work { length work.old ≡ length kinds.now }
+    requires lists { IsDeciding tableau.old.matrix kinds.now order.now.places.now
+        order.now.levels.now 0 sum.old work.old }
     ensures matrix { tableau.new.matrix ≡ tableau.old.matrix }
     ensures end { MatchResult result
         (λ cut.
@@ -139,12 +131,8 @@ pub(crate) fn by_targets(
     sum: &mut [i128],
     work: &mut [i128],
 ) -> Result<Decision, Stop>
-    requires kinds { length kinds.now ≡ width tableau.old.matrix }
-    requires few { signed_count kinds.now ≤ MAX_SIGNED }
-    requires room { width tableau.old.matrix ≤ vec_capacity order.old }
-    requires level { length level.old ≡ width tableau.old.matrix }
-    requires sum { length sum.old ≡ width tableau.old.matrix }
-    requires work { length work.old ≡ width tableau.old.matrix }
+    requires lists { CanDecide tableau.old.matrix kinds.now (vec_capacity order.old)
+        level.old sum.old work.old }
     ensures matrix { tableau.new.matrix ≡ tableau.old.matrix }
     ensures room { vec_capacity order.new ≡ vec_capacity order.old }
     ensures answer { MatchResult result (λ d. IsDecision tableau.new.matrix kinds.now d)

@@ -6,18 +6,14 @@ ghost use Rattle.crn_farkas.specs.Decision.{IsSmallSolution};
 use crate::tested::is_solution;
 use crn_frac::{gcd_of, lcm_of_below};
 use crn_tab::Tableau;
-use crn_vec::{Kind, WIDE_ENTRY, is_asked};
+use crn_vec::{Kind, WIDE_ENTRY, is_asked, unit_asked};
 
 // Here each member of the basis that has to be positive has 1, and one that has to be negative has -1. This fixes the vector (x, Ax).
 // Nothing is proved of its numbers, which are computed from the rows and not from the columns: what is made of them is tested.
 
 // A number times the one that a member of the basis has.
 fn times_unit(kind: Kind, x: i128) -> i128 {
-    match kind {
-        Kind::Pos => x,
-        Kind::Neg => x.wrapping_neg(),
-        _ => 0,
-    }
+    x.wrapping_mul(unit_asked(kind) as i128)
 }
 
 // The quotient, or 0 where there is none.
