@@ -31,7 +31,7 @@ use Rattle.crn_cert.specs.Nodes.{Fits, CutsA, CutsB}
 use Rattle.crn_cert.specs.Formed.{IsFormed, AreFormed}
 use Rattle.crn_cert.specs.Valid.{terminals_in, IsValid, AreValid}
 use Rattle.crn_cert.specs.Law.{AreBuilt, AllTrueOrOpen}
-use Rattle.crn_vec.proofs.CallerLemmas.{pair}
+use Rattle.crn_vec.proofs.CallerLemmas.{pair, below_two}
 use Rattle.crn_cert.proofs.Networks.{both_ways}
 use Rattle.crn_cert.proofs.AllLaws.{valid_documents_are_true}
 
@@ -157,11 +157,6 @@ e15 = e14 ++ (Q14, Yes) ∷ []
 
 -- ---- facts of the network
 
-of_two : (P : ℕ → Type 0) → P 0 → P 1 → (c : ℕ) → c < 2 → P c
-of_two P p q zero lt = p
-of_two P p q (suc zero) lt = q
-of_two P p q (suc (suc c)) lt = absurd (omega (arith, lt))
-
 of_reactions : (P : ℕ → ℕ → Type 0) → P 0 1 → P 1 0 → (y z : ℕ) → ReactsTo net.reactions y z → P y z
 of_reactions P p q y z (inl e) = subst (λ (w : ℕ × ℕ). P w.0 w.1) (sym e) p
 of_reactions P p q y z (inr (inl e)) = subst (λ (w : ℕ × ℕ). P w.0 w.1) (sym e) q
@@ -173,10 +168,10 @@ ones = 1 ∷ 1 ∷ []
 numbered : AreNumbered (1 ∷ 1 ∷ []) 1
 numbered =
     record {
-      positive = of_two (λ y. 1 ≤ get_or ones y 0) (omega arith) (omega arith);
-      numbered = λ y k lt some less. absurd (let most = of_two (λ y. get_or ones y 0 ≤ 1) (omega arith) (omega arith) y lt in omega (arith, most, some, less));
+      positive = below_two (λ y. 1 ≤ get_or ones y 0) (omega arith) (omega arith);
+      numbered = λ y k lt some less. absurd (let most = below_two (λ y. get_or ones y 0 ≤ 1) (omega arith) (omega arith) y lt in omega (arith, most, some, less));
       count_is = record {
-        most = of_two (λ y. get_or ones y 0 ≤ 1) (omega arith) (omega arith);
+        most = below_two (λ y. get_or ones y 0 ≤ 1) (omega arith) (omega arith);
         each = λ k some most. (0, omega arith, omega (arith, some, most));
       };
     }
@@ -186,26 +181,26 @@ even = of_reactions (λ y z. get_or ones y 0 ≡ get_or ones z 0) refl refl
 
 -- all complexes have label 1
 labelled : (c : ℕ) → c < 2 → get_or ones c 0 ≡ 1
-labelled = of_two (λ c. get_or ones c 0 ≡ 1) refl refl
+labelled = below_two (λ c. get_or ones c 0 ≡ 1) refl refl
 
 first_of : (labels : List ℕ) → get_or labels 0 0 ≡ get_or labels 1 0 → ((b : ℕ) → b < 1 → get_or labels b 0 ≢ get_or labels 1 0) → ⊥
 first_of labels e first = first 0 (omega arith) e
 
 link_trees : AreLinkTrees net (1 ∷ 1 ∷ []) (0 ∷ 1 ∷ []) (0 ∷ 1 ∷ [])
 link_trees =
-    of_two (IsTree (HangsByLink net (0 ∷ 1 ∷ []) (0 ∷ 1 ∷ [])) (1 ∷ 1 ∷ []) (0 ∷ 1 ∷ []) (0 ∷ 1 ∷ []))
+    below_two (IsTree (HangsByLink net (0 ∷ 1 ∷ []) (0 ∷ 1 ∷ [])) (1 ∷ 1 ∷ []) (0 ∷ 1 ∷ []) (0 ∷ 1 ∷ []))
     (inl (λ b lt. absurd (omega (arith, lt)), refl, refl))
     (inr (first_of ones refl, record { d = 0; joins = inr (omega arith, (omega arith, refl)); deeper = refl }))
 
 from_trees : AreFromTrees net (1 ∷ 1 ∷ []) (0 ∷ 1 ∷ []) (0 ∷ 1 ∷ [])
 from_trees =
-    of_two (IsTree (HangsFrom net (1 ∷ 1 ∷ []) (0 ∷ 1 ∷ []) (0 ∷ 1 ∷ [])) (1 ∷ 1 ∷ []) (0 ∷ 1 ∷ []) (0 ∷ 1 ∷ []))
+    below_two (IsTree (HangsFrom net (1 ∷ 1 ∷ []) (0 ∷ 1 ∷ []) (0 ∷ 1 ∷ [])) (1 ∷ 1 ∷ []) (0 ∷ 1 ∷ []) (0 ∷ 1 ∷ []))
     (inl (λ b lt. absurd (omega (arith, lt)), refl, refl))
     (inr (first_of ones refl, record { d = 0; goes = (omega arith, (omega arith, refl)); class = refl; deeper = refl }))
 
 to_trees : AreToTrees net (1 ∷ 1 ∷ []) (0 ∷ 2 ∷ []) (0 ∷ 1 ∷ [])
 to_trees =
-    of_two (IsTree (HangsTo net (1 ∷ 1 ∷ []) (0 ∷ 2 ∷ []) (0 ∷ 1 ∷ [])) (1 ∷ 1 ∷ []) (0 ∷ 2 ∷ []) (0 ∷ 1 ∷ []))
+    below_two (IsTree (HangsTo net (1 ∷ 1 ∷ []) (0 ∷ 2 ∷ []) (0 ∷ 1 ∷ [])) (1 ∷ 1 ∷ []) (0 ∷ 2 ∷ []) (0 ∷ 1 ∷ []))
     (inl (λ b lt. absurd (omega (arith, lt)), refl, refl))
     (inr (first_of ones refl, record { d = 0; goes = (omega arith, (omega arith, refl)); class = refl; deeper = refl }))
 
@@ -214,7 +209,7 @@ abbrev end_of : ℕ → ℕ × ℕ
 end_of k = get_or net.reactions k (0, 0)
 
 product_label : (k y z : ℕ) → k < 2 → end_of k ≡ pair y z → get_or ones z 0 ≡ 1
-product_label k y z lt = of_two (λ k. end_of k ≡ pair y z → get_or ones z 0 ≡ 1)
+product_label k y z lt = below_two (λ k. end_of k ≡ pair y z → get_or ones z 0 ≡ 1)
     (λ e. let at : 1 ≡ z = ap (λ (w : ℕ × ℕ). w.1) e in subst (λ (c : ℕ). get_or ones c 0 ≡ 1) at refl)
     (λ e. let at : 0 ≡ z = ap (λ (w : ℕ × ℕ). w.1) e in subst (λ (c : ℕ). get_or ones c 0 ≡ 1) at refl) k lt
 
@@ -227,7 +222,7 @@ exits_are (suc k) lt = absurd (omega (arith, lt))
 
 reverses : AreReverses net (2 ∷ 1 ∷ [])
 reverses =
-    of_two (λ r. IsReverse net r (get_or (2 ∷ 1 ∷ []) r 0))
+    below_two (λ r. IsReverse net r (get_or (2 ∷ 1 ∷ []) r 0))
     (record { y = 0; z = 1; goes = (omega arith, refl); back = (omega arith, (omega arith, refl)) })
     (record { y = 1; z = 0; goes = (omega arith, refl); back = (omega arith, (omega arith, refl)) })
 
@@ -272,10 +267,10 @@ side =
     }
 
 tie_of_zero : IsTie net (1 ∷ 1 ∷ []) 1 (λ d. ⊥) 0 (pos 1 ∷ pos 0 ∷ pos 0 ∷ [])
-tie_of_zero = record { own = λ e. omega (arith, ints, e); others = of_two (λ d. d ≢ 0 → ⊥ ⊎ (tie_at net (1 ∷ 1 ∷ []) 1 (pos 1 ∷ pos 0 ∷ pos 0 ∷ []) d ≡ pos 0)) (λ ne. absurd (ne refl)) (λ ne. inr refl) }
+tie_of_zero = record { own = λ e. omega (arith, ints, e); others = below_two (λ d. d ≢ 0 → ⊥ ⊎ (tie_at net (1 ∷ 1 ∷ []) 1 (pos 1 ∷ pos 0 ∷ pos 0 ∷ []) d ≡ pos 0)) (λ ne. absurd (ne refl)) (λ ne. inr refl) }
 
 tie_of_one : IsTie net (1 ∷ 1 ∷ []) 1 (λ d. ⊥) 1 (pos 0 ∷ pos 1 ∷ pos 0 ∷ [])
-tie_of_one = record { own = λ e. omega (arith, ints, e); others = of_two (λ d. d ≢ 1 → ⊥ ⊎ (tie_at net (1 ∷ 1 ∷ []) 1 (pos 0 ∷ pos 1 ∷ pos 0 ∷ []) d ≡ pos 0)) (λ ne. inr refl) (λ ne. absurd (ne refl)) }
+tie_of_one = record { own = λ e. omega (arith, ints, e); others = below_two (λ d. d ≢ 1 → ⊥ ⊎ (tie_at net (1 ∷ 1 ∷ []) 1 (pos 0 ∷ pos 1 ∷ pos 0 ∷ []) d ≡ pos 0)) (λ ne. inr refl) (λ ne. absurd (ne refl)) }
 
 -- ---- cuts of the trees
 
@@ -287,7 +282,7 @@ strong_problem = concordance (reaction_system net) (strong_table net)
 
 dual_list : (u w : List ℤ) → entry w 0 ≡ neg_ℤ (dot (drop 2 w) (column (reaction_system net).rows 0)) → entry w 1 ≡ neg_ℤ (dot (drop 2 w) (column (reaction_system net).rows 1))
     → (j : ℕ) → j < 2 → entry w j ≡ neg_ℤ (dot (drop 2 w) (column (reaction_system net).rows j))
-dual_list u w p q = of_two (λ j. entry w j ≡ neg_ℤ (dot (drop 2 w) (column (reaction_system net).rows j))) p q
+dual_list u w p q = below_two (λ j. entry w j ≡ neg_ℤ (dot (drop 2 w) (column (reaction_system net).rows j))) p q
 
 plain_zero_plus : Fits plain_problem (Zero ∷ Plus ∷ []) (CutsA (pos 0 ∷ pos 1 ∷ []))
 plain_zero_plus = (
@@ -501,8 +496,8 @@ is_network = record {
     reactions = (λ i. elim i [ inl e ↦ absurd (let e' : 0 ≡ 1 = ap (λ (w : ℕ × ℕ). w.0) e in omega (arith, e')) | inr none ↦ none ], (λ i. i, tt));
     apart = ((λ e. omega (arith, e), omega arith, omega arith), ((λ e. omega (arith, e), omega arith, omega arith), tt));
     numbered = first_appearance;
-    each_in_a_reaction = of_two (λ c. IsIn c (0 ∷ 1 ∷ 1 ∷ 0 ∷ [])) (inl refl) (inr (inl refl));
-    each_in_a_complex = of_two (IsHeldBefore net 2) (0, omega arith, omega (arith, ints)) (1, omega arith, omega (arith, ints));
+    each_in_a_reaction = below_two (λ c. IsIn c (0 ∷ 1 ∷ 1 ∷ 0 ∷ [])) (inl refl) (inr (inl refl));
+    each_in_a_complex = below_two (IsHeldBefore net 2) (0, omega arith, omega (arith, ints)) (1, omega arith, omega (arith, ints));
     species_in_order = in_order;
     species_limit = lit≤ tt;
     complexes_limit = lit≤ tt;
