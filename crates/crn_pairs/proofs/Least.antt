@@ -4,7 +4,7 @@ use Rattle.std.specs.Prelude.{filter}
 use Rattle.std.specs.List.{list_any, range_with_len}
 use Rattle.std.proofs.lemmas.Bool.{cases_Bool, eqb-true, eqb-false}
 use Rattle.crn_vec.specs.Network.{Net}
-use Rattle.crn_vec.proofs.CallerLemmas.{range_more, filter_yes, filter_no, or_right}
+use Rattle.crn_vec.proofs.CallerLemmas.{range_more, filter_yes, filter_no, or_right, before_one}
 use Rattle.crn_cert.specs.Valid.{ends_at, is_same_pair, is_least_of_pair}
 use Rattle.crn_pairs.specs.Pairs.{is_within, is_pair, pairs_to}
 
@@ -28,11 +28,8 @@ any_append p (y ∷ ys) x = ap (λ (b : Bool). p y || b) (any_append p ys x) ∙
 abbrev pub joins_same : Net → ℕ → ℕ → Bool
 joins_same net r j = is_same_pair (ends_at net j) (ends_at net (r + 1))
 
-back : (r : ℕ) → r + 1 - 1 ≡ r
-back r = omega arith
-
 ends_back : (net : Net) (r : ℕ) → ends_at net (r + 1) ≡ get_or net.reactions r (0, 0)
-ends_back net r = ap (λ (j : ℕ). get_or net.reactions j (0, 0)) (back r)
+ends_back net r = ap (λ (j : ℕ). get_or net.reactions j (0, 0)) (before_one r)
 
 same_at : (net : Net) (r q : ℕ) → joins_same net r (q + 1) ≡ is_same_pair (get_or net.reactions q (0, 0)) (get_or net.reactions r (0, 0))
 same_at net r q = ap (λ (e : ℕ × ℕ). is_same_pair e (ends_at net (r + 1))) (ends_back net q) ∙ ap (λ (e : ℕ × ℕ). is_same_pair (get_or net.reactions q (0, 0)) e) (ends_back net r)
@@ -57,7 +54,7 @@ pub least_hit : (net : Net) (r q : ℕ) → q < r → is_same_pair (get_or net.r
 least_hit net r q lt h = ap not (any_within (joins_same net r) q (r + 1 - 1) (omega (arith, lt)) (same_at net r q ∙ h))
 
 pub least_none : (net : Net) (r : ℕ) → list_any (joins_same net r) (range_with_len 1 r) ≡ false → is_least_of_pair net (r + 1) ≡ true
-least_none net r h = ap (λ (n : ℕ). not (list_any (joins_same net r) (range_with_len 1 n))) (back r) ∙ ap not h
+least_none net r h = ap (λ (n : ℕ). not (list_any (joins_same net r) (range_with_len 1 n))) (before_one r) ∙ ap not h
 
 pub pair_at : (net : Net) (labels exits : List ℕ) (r : ℕ) → is_pair net labels exits (r + 1) ≡ (is_within labels exits (get_or net.reactions r (0, 0)) && is_least_of_pair net (r + 1))
 pair_at net labels exits r = ap (λ (e : ℕ × ℕ). is_within labels exits e && is_least_of_pair net (r + 1)) (ends_back net r)
