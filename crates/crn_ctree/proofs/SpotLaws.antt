@@ -16,14 +16,17 @@ use Rattle.crn_vec.specs.Elementary.{width}
 use Rattle.crn_vec.specs.Problems.{all_zero}
 use Rattle.crn_vec.specs.Concordance.{column_kind, kind_of_sum, is_plus, is_minus, some_sign, product, products, sign}
 use Rattle.crn_vec.specs.Systems.{IsCut, MayWeigh, is_signed, kind_at}
-use Rattle.crn_ctree.specs.Problem.{table_of}
+use Rattle.crn_cert.specs.Nodes.{Fits}
+use Rattle.crn_ctree.specs.Gives.{is_cut}
+use Rattle.crn_ctree.specs.Problem.{problem_of, table_of}
 use Rattle.crn_ctree.specs.declared.problem.InfluenceTable.{InfluenceTable}
 use Rattle.crn_ctree.specs.declared.problem.InfluenceTable.TheVariants.{Plain, Strong}
 use Rattle.crn_ctree.specs.declared.problem.Problem.{Problem}
 use Rattle.crn_ctree.specs.declared.problem.Problem.TheVariants.{Concordance}
 use Rattle.crn_ctree.specs.declared.cut.Part.{Part}
 use Rattle.crn_ctree.specs.declared.spots.Spot.{Spot}
-use Rattle.crn_ctree.specs.Inner.Kinds.{column_from, kinds_of, matrix_of, opposite_kind, weights_of}
+use Rattle.crn_ctree.specs.declared.cut.Part.TheVariants.{A, B}
+use Rattle.crn_ctree.specs.Inner.Kinds.{column_from, cut_by, kinds_of, matrix_of, opposite_kind, weights_of}
 use Rattle.crn_ctree.specs.Inner.Spots.{AllWeigh, AreBelow, SomeSigned, column_numbers, columns_of, row_spots, rows_by, spots_from, spots_kind}
 use Rattle.crn_vec.proofs.CallerLemmas.{lt_or, past_end, weigh_zero}
 use Rattle.crn_ctree.proofs.KindLaws.{column_closed, column_more, strong_column}
@@ -259,3 +262,14 @@ pub strong_kind : (net : Net) (table : InfluenceTable) (r : ℕ) (p : List Sign)
 strong_kind net table r p κ κ' row e lt h g turned =
     strong_spots net r p κ κ' lt (g ∙ ap (λ (l : List Spot). spots_kind false false l p) (h ∙ ap (λ (q : InfluenceTable). spots_from 0 (map sign (column_numbers net q (get_or net.reactions r (0, 0))))) e)) turned
     ∙ ap (λ (q : InfluenceTable). column_kind (get_or (table_of net q) r []) p) (sym e)
+
+-- ---- cuts that are worked out
+
+pub cut_fits : (net : Net) (problem : Problem) (part : Part) (p : List Sign) (u : List ℤ) (b : Bool)
+    → (IsTrue b ↔ IsCut (matrix_of net problem part) (kinds_of net problem part p) u) → IsTrue b ↔ Fits (problem_of net problem) p (cut_by part u)
+cut_fits net problem A p u b h = h
+cut_fits net problem B p u b h = h
+
+pub cut_is : (part : Part) (u : List ℤ) → is_cut (cut_by part u) ≡ true
+cut_is A u = refl
+cut_is B u = refl

@@ -8,7 +8,7 @@ ghost use Rattle.crn_ctree.specs.Inner.Kinds.{matrix_of, part_of};
 
 use crate::cut::{rows, system_of};
 use crate::fault::TreeFault;
-use crate::known::KnownCuts;
+use crate::known::{KnownCut, KnownCuts};
 use crate::node::{Node, Step, choices, fits};
 use crate::path::Path;
 use crate::problem::Problem;
@@ -124,6 +124,28 @@ impl<'a> TreeCheck<'a> {
             return Err(TreeFault::WrongShape);
         }
         if !cuts.rules_out(cut, self.path.prefix()) {
+            return Err(TreeFault::BadLeaf);
+        }
+        self.path.close();
+        Ok(if self.path.is_complete() {
+            Step::Complete
+        } else {
+            Step::More
+        })
+    }
+
+    /// Tests a cut that is worked out, and answers as `node`.
+    pub fn cut_node(&mut self, cuts: &KnownCuts, cut: &KnownCut) -> Result<Step, TreeFault>
+        requires due { self.old.due ≢ [] }
+        requires problem { self.old.problem ≡ cuts.now.problem }
+        requires cut_net { cut.now.net ≡ cuts.now.net }
+        requires cut_problem { cut.now.problem ≡ cuts.now.problem }
+        ensures gives { NodeGives (problem_of cuts.now.net self.old.problem) self.old.due
+            cut.now.said self.new.due result }
+        ensures choices { self.new.choices ≡ self.old.choices }
+        ensures problem { self.new.problem ≡ self.old.problem }
+    {
+        if !cuts.rules_out_by(cut, self.path.prefix()) {
             return Err(TreeFault::BadLeaf);
         }
         self.path.close();

@@ -1,11 +1,16 @@
-ghost use Rattle.std.specs.Prelude.{◌≡◌, ◌-◌, ◌↔◌, [], length, slice_index_or, IfOk, IsTrue};
+ghost use Rattle.std.specs.Prelude.{◌≡◌, ◌-◌, ◌↔◌, true, [], length, slice_index_or, IfOk, IsTrue};
 ghost use Rattle.crn_vec.specs.Systems.{IsCut};
+ghost use Rattle.crn_cert.specs.Nodes.{AreNumbersFor, Fits};
+ghost use Rattle.crn_ctree.specs.Gives.{is_cut, said_by};
+ghost use Rattle.crn_ctree.specs.Problem.{problem_of};
 ghost use Rattle.crn_ctree.specs.Shared.{IsPlaceIn, place_of};
 ghost use Rattle.crn_ctree.specs.Inner.Kinds.{kinds_of, matrix_of, part_of};
 
+use crate::cut::Part;
+use crate::node::Node;
 use crate::problem::Problem;
 use crate::shared::{SharedCut, SharedTable};
-use crate::worked::Worked;
+use crate::worked::{Worked, WorkedCut};
 use crn_net::Network;
 use crn_vec::{NoMemory, Sign};
 use std::alloc::Global;
@@ -22,6 +27,21 @@ impl<'a> Model for KnownCuts<'a> {
     ghost use Rattle.crn_ctree.specs.Known.{KeptCuts};
 
     ghost Value = { KeptCuts };
+
+    ghost view = { λ s. s.worked };
+}
+
+/// A cut of a sign problem, worked out once, however many nodes say it. Contracts see the network, the problem and what
+/// the cut says.
+#[derive(Drop)]
+pub struct KnownCut<'a> {
+    worked: WorkedCut<'a>,
+}
+
+impl<'a> Model for KnownCut<'a> {
+    ghost use Rattle.crn_ctree.specs.Known.{KeptCut};
+
+    ghost Value = { KeptCut };
 
     ghost view = { λ s. s.worked };
 }
@@ -49,6 +69,34 @@ impl<'a> KnownCuts<'a> {
         ensures { result ≡ length self.now.table }
     {
         self.worked.len()
+    }
+
+    /// Works out a cut that says its multipliers. Takes memory for them, and for each coordinate that they weigh.
+    pub fn work_out(&self, alloc: Global, node: &Node) -> Result<KnownCut<'a>, NoMemory>
+        requires cut { is_cut (said_by node.now) ≡ true }
+        requires numbers { AreNumbersFor (problem_of self.now.net self.now.problem)
+            (said_by node.now) }
+        ensures net { IfOk result (λ made. made.net ≡ self.now.net) }
+        ensures problem { IfOk result (λ made. made.problem ≡ self.now.problem) }
+        ensures said { IfOk result (λ made. made.said ≡ said_by node.now) }
+    {
+        let worked = match node {
+            Node::CutA(u) => self.worked.work_out(alloc, Part::A, u)?,
+            Node::CutB(u) => self.worked.work_out(alloc, Part::B, u)?,
+            Node::Split | Node::Flat => unreachable!(),
+        };
+        Ok(KnownCut { worked })
+    }
+
+    // Whether a cut that is worked out rules its part of a prefix out.
+    pub(crate) fn rules_out_by(&self, cut: &KnownCut, prefix: &[Sign]) -> bool
+        requires net { cut.now.net ≡ self.now.net }
+        requires problem { cut.now.problem ≡ self.now.problem }
+        ensures fits { IsTrue result
+            ↔ Fits (problem_of self.now.net self.now.problem) prefix.now cut.now.said }
+        ensures cut { is_cut cut.now.said ≡ true }
+    {
+        self.worked.rules_out_by(&cut.worked, prefix)
     }
 
     // Whether the vector that a cut names has as many numbers as the part has rows.

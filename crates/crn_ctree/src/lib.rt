@@ -18,7 +18,7 @@ mod worked;
 
 pub use check::TreeCheck;
 pub use fault::TreeFault;
-pub use known::KnownCuts;
+pub use known::{KnownCut, KnownCuts};
 pub use laws::{
     complete_trees_show, complete_where_valid, first_faults_are_those_of_tests,
     first_signal_faults_are_those_of_tests, nodes_of_valid_trees, signal_nodes_are_of_shape,

@@ -1,10 +1,13 @@
-ghost use Rattle.std.specs.Prelude.{◌≡◌, ◌≢◌, ◌≤◌, ◌<◌, ◌-◌, ◌⊎◌, ◌↔◌, [], length, map, slice_index_or, IfOk, IsTrue};
+ghost use Rattle.std.specs.Prelude.{◌≡◌, ◌≢◌, ◌≤◌, ◌<◌, ◌-◌, ◌⊎◌, ◌↔◌, true, [], length, map, slice_index_or, IfOk, IsTrue};
 ghost use Rattle.crn_vec.specs.Concordance.{column_kind as kind_of_column, sign};
 ghost use Rattle.crn_vec.specs.Elementary.{width};
 ghost use Rattle.crn_vec.specs.Systems.{IsCut, kind_at};
-ghost use Rattle.crn_ctree.specs.Problem.{table_of};
+ghost use Rattle.crn_cert.specs.Nodes.{Fits};
+ghost use Rattle.crn_cert.specs.Ranges.{AreFree};
+ghost use Rattle.crn_ctree.specs.Gives.{is_cut};
+ghost use Rattle.crn_ctree.specs.Problem.{problem_of, table_of};
 ghost use Rattle.crn_ctree.specs.Shared.{IsPlaceIn, IsShared, place_of};
-ghost use Rattle.crn_ctree.specs.Inner.Kinds.{kinds_of, matrix_by, matrix_of, part_of};
+ghost use Rattle.crn_ctree.specs.Inner.Kinds.{cut_by, kinds_of, matrix_by, matrix_of, part_of};
 ghost use Rattle.crn_ctree.specs.Inner.Spots.{AllWeigh, AreBelow, SomeSigned, column_numbers, columns_of, row_spots, rows_by, shelf_rows, spots_from};
 
 use crate::cut::{Part, System, columns, put_weights, rows, system_of};
@@ -14,7 +17,7 @@ use crate::shared::{SharedCut, SharedTable};
 use crate::signal::put_signs;
 use crate::spots::{Spot, Spots, spots_kind};
 use crn_net::Network;
-use crn_vec::{Kind, MAX_COORDINATES, MAX_SPECIES, NoMemory, Sign, is_asked, may_weigh};
+use crn_vec::{Ints, Kind, MAX_COORDINATES, MAX_SPECIES, NoMemory, Sign, is_asked, may_weigh};
 use std::alloc::Global;
 use std::marker::Model;
 
@@ -44,7 +47,46 @@ impl<'a> Model for Worked<'a> {
         × (s.shelves.items ≡ shelf_rows s.problem s.table.now) };
 }
 
-// The coordinates of a system that multipliers weigh, none if they are not as many as its rows.
+/// A cut of a sign problem, worked out once: its multipliers, and the coordinates that they weigh.
+#[derive(Drop)]
+pub(crate) struct WorkedCut<'a> {
+    net: &'a Network,
+    problem: Problem<'a>,
+    part: Part,
+    numbers: Ints,
+    row: Spots,
+}
+
+impl<'a> Model for WorkedCut<'a> {
+    ghost use Rattle.std.specs.Prelude.{◌≡◌, length};
+    ghost use Rattle.crn_ctree.specs.Known.{KeptCut};
+    ghost use Rattle.crn_ctree.specs.Inner.Kinds.{cut_by, matrix_of};
+    ghost use Rattle.crn_ctree.specs.Inner.Spots.{row_spots};
+
+    ghost Value = { KeptCut };
+
+    ghost view = { λ s. record {
+      net = s.net.now;
+      problem = s.problem;
+      said = cut_by s.part s.numbers.list;
+    } };
+
+    ghost invariant = { λ s. let a = matrix_of s.net.now s.problem s.part in
+        (length s.numbers.list ≡ length a.rows) × (s.row ≡ row_spots a s.numbers.list) };
+}
+
+// The coordinates of a system that multipliers weigh.
+fn row_of(alloc: Global, net: &Network, system: System, u: &[i128]) -> Result<Spots, NoMemory>
+    requires { AreFree (length (matrix_by net.now system).rows) u.now }
+    ensures { IfOk result (λ made. made ≡ row_spots (matrix_by net.now system.entry) u.now) }
+{
+    let mut room = [Sign::Zero; 2 * MAX_COORDINATES];
+    let (signs, _) = room.split_at_mut(columns(net, system) + rows(net, system));
+    put_weights(net, system, u, signs);
+    Spots::of(alloc, signs)
+}
+
+// The same, and none if they are not as many as its rows.
 fn row_by(alloc: Global, net: &Network, system: System, u: &[i128]) -> Result<Spots, NoMemory>
     requires { IsShared u.now }
     ensures { IfOk result (λ made. made ≡ row_spots (matrix_by net.now system.entry) u.now) }
@@ -52,10 +94,7 @@ fn row_by(alloc: Global, net: &Network, system: System, u: &[i128]) -> Result<Sp
     if u.len() != rows(net, system) {
         return Spots::of(alloc, &[]);
     }
-    let mut room = [Sign::Zero; 2 * MAX_COORDINATES];
-    let (signs, _) = room.split_at_mut(columns(net, system) + rows(net, system));
-    put_weights(net, system, u, signs);
-    Spots::of(alloc, signs)
+    row_of(alloc, net, system, u)
 }
 
 // The coordinates of a system that each vector of a table weighs.
@@ -268,5 +307,41 @@ impl<'a> Worked<'a> {
         let part = cut.part();
         let _ = system_of(self.problem, part);
         self.rule(part, prefix, self.row(cut), false)
+    }
+
+    /// Works a cut of a part with these multipliers out.
+    pub(crate) fn work_out(
+        &self,
+        alloc: Global,
+        part: Part,
+        u: &[i128],
+    ) -> Result<WorkedCut<'a>, NoMemory>
+        requires { AreFree (length (matrix_of self.now.net self.now.problem part).rows) u.now }
+        ensures net { IfOk result (λ made. made.net ≡ self.now.net) }
+        ensures problem { IfOk result (λ made. made.problem ≡ self.now.problem) }
+        ensures said { IfOk result (λ made. made.said ≡ cut_by part u.now) }
+    {
+        let numbers = Ints::from_slice(alloc, u)?;
+        let row = row_of(alloc, self.net, system_of(self.problem, part), u)?;
+        Ok(WorkedCut {
+            net: self.net,
+            problem: self.problem,
+            part,
+            numbers,
+            row,
+        })
+    }
+
+    /// Whether a cut that is worked out rules its part of a prefix out.
+    pub(crate) fn rules_out_by(&self, cut: &WorkedCut, prefix: &[Sign]) -> bool
+        requires net { cut.now.net ≡ self.now.net }
+        requires problem { cut.now.problem ≡ self.now.problem }
+        ensures fits { IsTrue result
+            ↔ Fits (problem_of self.now.net self.now.problem) prefix.now cut.now.said }
+        ensures cut { is_cut cut.now.said ≡ true }
+    {
+        let part = cut.part;
+        let _ = system_of(self.problem, part);
+        self.rule(part, prefix, cut.row.as_slice(), false)
     }
 }

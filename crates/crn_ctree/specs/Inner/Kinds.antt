@@ -10,6 +10,7 @@ use Rattle.crn_vec.specs.Network.{Net}
 use Rattle.crn_vec.specs.Vectors.{Mat, column, dot}
 use Rattle.crn_vec.specs.Problems.{all_zero}
 use Rattle.crn_vec.specs.Concordance.{kind_of_sum, some_sign, is_plus, is_minus, products}
+use Rattle.crn_cert.specs.Nodes.{Said, CutsA, CutsB}
 use Rattle.crn_ctree.specs.Problem.{problem_of}
 use Rattle.crn_ctree.specs.declared.problem.Problem.{Problem}
 use Rattle.crn_vec.specs.NetSystems.{reaction_system}
@@ -60,3 +61,8 @@ weights_of a u = map (λ j. neg_ℤ (dot u (column a.rows j))) (range_with_len 0
 abbrev pub part_of : SharedCut → Part
 part_of (SharedA place) = A
 part_of (SharedB place) = B
+
+-- the cut of a part with these multipliers
+abbrev pub cut_by : Part → List ℤ → Said
+cut_by A u = CutsA u
+cut_by B u = CutsB u
