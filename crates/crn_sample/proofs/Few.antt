@@ -13,7 +13,7 @@ use Rattle.std.proofs.lemmas.List.Folds.{list_all-append}
 use Rattle.crn_vec.specs.Lists.{firsts}
 use Rattle.crn_vec.specs.Network.{Net, Statement, sides_eq, said_by, names_in}
 use Rattle.crn_vec.specs.declared.limits.TheConstants.{MAX_SPECIES, MAX_COMPLEXES, MAX_REACTIONS, MAX_TEXT}
-use Rattle.crn_vec.proofs.CallerLemmas.{firsts_length}
+use Rattle.crn_vec.proofs.CallerLemmas.{firsts_length, and_first}
 use Rattle.crn_text.specs.Tokens.{lines}
 use Rattle.crn_text.specs.Sides.{line_statements, all_statements}
 use Rattle.crn_text.specs.Faults.{both_of, complexes_of, is_empty, is_self, limits_fault, names_of, own_fault, reactions_of, statement_fault, statements_fault}
@@ -40,10 +40,6 @@ is_fine text = nat_le (length text) MAX_TEXT && (are_sound (lines text) && (are_
 
 -- ---- tests
 
-pub first_true : (a b : Bool) → (a && b) ≡ true → a ≡ true
-first_true true b e = refl
-first_true false b e = absurd (let h : false ≡ true = e in cc)
-
 pub second_true : (a b : Bool) → (a && b) ≡ true → b ≡ true
 second_true true b e = e
 second_true false b e = absurd (let h : false ≡ true = e in cc)
@@ -58,7 +54,7 @@ is_none (Some code) e = absurd (let h : false ≡ true = e in cc)
 
 sound_at : (ls : List (List ℕ)) (k : ℕ) → k < length ls → are_sound ls ≡ true → own_fault (get_or ls k []) ≡ None
 sound_at [] k lt e = absurd (omega arith)
-sound_at (line ∷ ls) zero lt e = is_none (own_fault line) (first_true _ _ e)
+sound_at (line ∷ ls) zero lt e = is_none (own_fault line) (and_first _ _ e)
 sound_at (line ∷ ls) (suc k) lt e = sound_at ls k (omega arith) (second_true _ _ e)
 
 -- ---- few statements exceed no limit
@@ -103,7 +99,7 @@ few_prefix all first rest few e =
 apart_in : (all before : List Statement) (s : Statement) (rest : List Statement) → are_apart all ≡ true → all ≡ before ++ (s ∷ rest) → is_self s ≡ false
 apart_in all before s rest h e =
     let split : (are_apart before && (not (is_self s) && are_apart rest)) ≡ true = sym (list_all-append (λ t. not (is_self t)) before (s ∷ rest)) ∙ ap are_apart (sym e) ∙ h in
-    is_false (is_self s) (first_true _ _ (second_true _ _ split))
+    is_false (is_self s) (and_first _ _ (second_true _ _ split))
 
 fine_statements : (all before ss rest : List Statement) → IsFew all → are_apart all ≡ true → all ≡ before ++ (ss ++ rest) → statements_fault before ss ≡ None
 unfolding statement_fault
@@ -147,13 +143,13 @@ fine_parts text e =
     let least = second_true (are_apart ss) (are_few ss) more in
     let numbers = second_true (not (is_empty ss)) (nat_le (length ss) 80 && nat_le (length (names_of ss)) MAX_SPECIES) least in
     record {
-      short = leb-true (length text) MAX_TEXT (first_true (nat_le (length text) MAX_TEXT) (are_sound (lines text) && (are_apart ss && are_few ss)) e);
-      sound = first_true (are_sound (lines text)) (are_apart ss && are_few ss) rest;
-      apart = first_true (are_apart ss) (are_few ss) more;
-      some = first_true (not (is_empty ss)) (nat_le (length ss) 80 && nat_le (length (names_of ss)) MAX_SPECIES) least;
+      short = leb-true (length text) MAX_TEXT (and_first (nat_le (length text) MAX_TEXT) (are_sound (lines text) && (are_apart ss && are_few ss)) e);
+      sound = and_first (are_sound (lines text)) (are_apart ss && are_few ss) rest;
+      apart = and_first (are_apart ss) (are_few ss) more;
+      some = and_first (not (is_empty ss)) (nat_le (length ss) 80 && nat_le (length (names_of ss)) MAX_SPECIES) least;
       few = record {
         names = leb-true (length (names_of ss)) MAX_SPECIES (second_true (nat_le (length ss) 80) (nat_le (length (names_of ss)) MAX_SPECIES) numbers);
-        statements = leb-true (length ss) 80 (first_true (nat_le (length ss) 80) (nat_le (length (names_of ss)) MAX_SPECIES) numbers);
+        statements = leb-true (length ss) 80 (and_first (nat_le (length ss) 80) (nat_le (length (names_of ss)) MAX_SPECIES) numbers);
       };
     }
 

@@ -3,6 +3,7 @@ use Rattle.std.proofs.Common.{◌≡◌, ℕ, zero, suc, ◌<◌, ◌≤◌, ◌
 use Rattle.std.specs.Fmt.{digits}
 use Rattle.std.proofs.lemmas.Bool.{cases_lt}
 use Rattle.crn_vec.specs.Network.{Net}
+use Rattle.crn_vec.proofs.CallerLemmas.{and_first}
 use Rattle.crn_text.specs.Tokens.{first_token, tokens_after}
 use Rattle.crn_text.specs.Faults.{own_fault}
 use Rattle.crn_text.specs.Spells.{Spells, TextGives}
@@ -11,7 +12,7 @@ use Rattle.crn_text.specs.declared.fault.TextFault.{TextFault}
 use Rattle.crn_text.proofs.CallerLemmas.{no_fault}
 use Rattle.crn_sample.specs.Sample.{sample_text}
 use Rattle.crn_sample.specs.declared.limits.TheConstants.{MAX_SAMPLE}
-use Rattle.crn_sample.proofs.Few.{fine_is_spelled, first_true, is_fine, second_true}
+use Rattle.crn_sample.proofs.Few.{fine_is_spelled, is_fine, second_true}
 
 -- the texts of the samples up to this number are fine
 abbrev fine_upto : ℕ → Bool
@@ -26,7 +27,7 @@ fine_at : (n m : ℕ) → fine_upto m ≡ true → n < m → is_fine (sample_tex
 fine_at n zero h lt = absurd (omega arith)
 fine_at n (suc m) h lt = elim (cases_lt n m) [
   | inl less ↦ fine_at n m (second_true _ _ h) less
-  | inr most ↦ let is : m ≡ n = omega arith in subst (λ (k : ℕ). is_fine (sample_text (suc k)) ≡ true) is (first_true _ _ h)
+  | inr most ↦ let is : m ≡ n = omega arith in subst (λ (k : ℕ). is_fine (sample_text (suc k)) ≡ true) is (and_first _ _ h)
 ]
 
 pub sample_spelled : (number : ℕ) → 1 ≤ number → number ≤ MAX_SAMPLE → (net : Net) × Spells (sample_text number) net
