@@ -17,38 +17,6 @@ fn refusal(rt: &HostRuntime, text: &[u8]) -> (u32, u32) {
 }
 
 #[test]
-fn the_first_fault_is_the_answer(rt: HostRuntime) {
-    // The faults that one network text shows by itself are tried on the whole program.
-    let cases = [
-        (
-            "bytes of a comment are free",
-            b"  \t# \x00\xc8\x7f\r\n\r\n".as_slice(),
-            (0, 5),
-        ),
-        (
-            "the same sum in another order",
-            b"A + 2B -> B + A + B",
-            (1, 1),
-        ),
-        ("a sum of 100 after the arrow", b"B -> 60A + 40A", (1, 17)),
-        ("a number and a name", b"99X2", (1, 12)),
-        ("an empty product of both ways", b"B <->", (1, 13)),
-        ("two zeros", b"0 0 -> B", (1, 14)),
-        ("no side after an arrow to the left", b"A -> B <-", (1, 13)),
-        ("an arrow with a space in it", b"A - > B", (1, 18)),
-        ("a stray mark and no arrow", b"A <", (1, 18)),
-        (
-            "a byte that is not ASCII after a stray mark",
-            b"A => B\xff",
-            (1, 11),
-        ),
-    ];
-    for (name, text, want) in cases {
-        assert_eq!(rt; refusal(&rt, text), want, "{name}");
-    }
-}
-
-#[test]
 fn the_canonical_text_is_that_of_the_network(rt: HostRuntime) -> Result<(), Fail> {
     let cases = [
         ("one reaction", b"A -> B".as_slice(), b"A -> B\n".as_slice()),
