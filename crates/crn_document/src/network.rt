@@ -1,11 +1,10 @@
 ghost use Rattle.std.specs.Prelude.{◌≡◌, ◌↔◌, IsTrue, IfOk};
-ghost use Rattle.crn_text.specs.Canonical.{canonical};
 ghost use Rattle.crn_text.specs.declared.fault.TextCode.TheVariants.{NoMemory};
 ghost use Rattle.crn_document.specs.Inner.Network.{IsCanonicalText};
 
-use crn_io::{NoMemory, QuietSink};
+use crn_io::NoMemory;
 use crn_net::Network;
-use crn_text::{TextCode, read, write};
+use crn_text::{TextCode, is_canonical, read};
 use std::alloc::{AllocError, Global};
 
 // Whether memory ran out while a text was read, which is no fault of the text.
@@ -13,17 +12,6 @@ fn is_out_of_memory(code: TextCode) -> bool
     ensures { IsTrue result ↔ (code ≡ NoMemory) }
 {
     matches!(code, TextCode::NoMemory)
-}
-
-// Whether the text is the canonical text of the network.
-fn is_written(alloc: Global, net: &Network, text: &[u8]) -> Result<bool, NoMemory>
-    ensures { IfOk result (λ same. IsTrue same ↔ (canonical net.now ≡ text.now)) }
-{
-    let mut sink = QuietSink::new(alloc, text.len())?;
-    match write(net, &mut sink) {
-        Ok(()) => Ok(sink.bytes() == text),
-        Err(_) => Ok(false),
-    }
 }
 
 /// The network whose canonical text this is, if there is one.
@@ -39,7 +27,7 @@ pub(crate) fn network_of(alloc: Global, text: &[u8]) -> Result<Option<Network>, 
             return Ok(None);
         }
     };
-    if is_written(alloc, &net, text)? {
+    if is_canonical(&net, text) {
         return Ok(Some(net));
     }
     Ok(None)

@@ -1,7 +1,7 @@
 use crn_io::QuietSink;
 use crn_text::{
     TextCode, TextFault, canonical_text_spells_its_network, each_text_is_judged,
-    first_fault_is_one, read, sound_lines_are_statements, spelled_text_has_no_fault,
+    first_fault_is_one, is_canonical, read, sound_lines_are_statements, spelled_text_has_no_fault,
     spelling_is_unique, texts_are_split_in_one_way, write,
 };
 use itoa::Buffer;
@@ -86,6 +86,7 @@ fn the_canonical_text_is_that_of_the_network(rt: HostRuntime) -> Result<(), Fail
         let mut sink = QuietSink::new(rt.alloc(), 100)?;
         assert_eq!(rt; write(&net, &mut sink).is_ok(), true, "{name}");
         assert_eq!(rt; sink.bytes(), want, "{name}");
+        assert_eq!(rt; is_canonical(&net, want), true, "{name}");
     }
     Ok(())
 }

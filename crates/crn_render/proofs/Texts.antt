@@ -1,12 +1,10 @@
 -- Texts that a loop writes: the members of a list, one after another.
-use Rattle.std.proofs.Common.{◌≡◌, ℕ, zero, suc, ◌+◌, ◌<◌, ◌≤◌, List, [], ◌∷◌, ◌++◌, length, take, drop, get_or, refl, ap, ◌∙◌, arith, take_all, codes}
+use Rattle.std.proofs.Common.{◌≡◌, ℕ, zero, suc, ◌+◌, ◌<◌, ◌≤◌, List, [], ◌∷◌, ◌++◌, length, take, drop, get_or, refl, ap, ◌∙◌, arith, take_all}
 use Rattle.std.proofs.lemmas.List.{length-map}
 use Rattle.std.specs.List.{flat_map}
 use Rattle.std.specs.Prelude.{map}
-use Rattle.crn_vec.specs.Network.{Net}
 use Rattle.crn_io.specs.Joined.{joined, with_separator}
-use Rattle.crn_io.proofs.CallerLemmas.{joined_step, joined_whole, with_separator_parts}
-use Rattle.crn_text.specs.Canonical.{complex_text}
+use Rattle.crn_io.proofs.CallerLemmas.{joined_step, joined_whole}
 
 -- a member of a mapped list
 pub get_or_map : {A B : Type 0} (f : A → B) (xs : List A) (i : ℕ) (d : A) (e : B) → i < length xs → get_or (map f xs) i e ≡ f (get_or xs i d)
@@ -34,7 +32,3 @@ pub mapped_all : {A : Type 0} (f : A → List ℕ) (xs : List A) (i : ℕ) → i
 mapped_all f xs i e =
     let le : length (map f xs) ≤ i = simp length-map (omega arith) in
     take_all i (map f xs) le
-
--- a complex after its separator, or alone
-pub complex_parts : (net : Net) (before c : ℕ) → with_separator (codes "; ") before (complex_text net c) ≡ with_separator (codes "; ") before [] ++ complex_text net c
-complex_parts net before c = with_separator_parts (codes "; ") [] (complex_text net c) before

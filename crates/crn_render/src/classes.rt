@@ -5,6 +5,7 @@ ghost use Rattle.crn_render.specs.Details.{members_text, class_line, strong_line
 use crate::parts::{put_complex, put_number};
 use crn_io::{Sink, WriteFault, put_all};
 use crn_net::Network;
+use crn_text::SideText;
 
 // The complexes of a class.
 fn put_members<K: Sink>(
@@ -17,12 +18,13 @@ fn put_members<K: Sink>(
     ensures { Wrote (members_text net.now labels.now class)
         (K.seen sink.old) (K.seen sink.new) result }
 {
+    let mut text = SideText::new();
     let mut shown = 0usize;
     for c in 0..net.complexes() {
         if labels[c] != class {
             continue;
         }
-        put_complex(sink, shown, net, c)?;
+        put_complex(sink, shown, net, c, &mut text)?;
         shown += 1;
     }
     Ok(())

@@ -10,7 +10,7 @@ ghost use Rattle.crn_render.specs.Details.{vector_text, shelf, shelves_text, sid
 
 use crn_io::{Sink, WriteFault, put_all, put_between, put_parts};
 use crn_net::Network;
-use crn_text::write_side;
+use crn_text::{SideText, write_side};
 use itoa::Buffer;
 
 // A number between two texts.
@@ -120,19 +120,20 @@ pub(crate) fn put_shelves<K: Sink>(sink: &mut K, shelves: &[i128]) -> Result<(),
     Ok(())
 }
 
-// Complex c, counted from 0, after a semicolon unless it is the first that is written.
+// Complex c, counted from 0, after a semicolon unless it is the first that is written. The text is a buffer.
 pub(crate) fn put_complex<K: Sink>(
     sink: &mut K,
     before: usize,
     net: &Network,
     c: usize,
+    text: &mut SideText,
 ) -> Result<(), WriteFault>
     requires { c < length net.now.complexes }
     ensures { Wrote (with_separator (codes "; ") before (complex_text net.now c))
         (K.seen sink.old) (K.seen sink.new) result }
 {
-    put_between(sink, b"; ", before, b"")?;
-    write_side(net, c, sink)
+    text.set(net, c);
+    put_between(sink, b"; ", before, text.as_slice())
 }
 
 // All complexes.
@@ -140,8 +141,9 @@ pub(crate) fn put_complexes<K: Sink>(sink: &mut K, net: &Network) -> Result<(), 
     ensures { Wrote (joined (codes "; ") (sides net.now))
         (K.seen sink.old) (K.seen sink.new) result }
 {
+    let mut text = SideText::new();
     for c in 0..net.complexes() {
-        put_complex(sink, c, net, c)?;
+        put_complex(sink, c, net, c, &mut text)?;
     }
     Ok(())
 }
@@ -151,8 +153,9 @@ pub(crate) fn put_walk<K: Sink>(sink: &mut K, net: &Network, walk: &[u32]) -> Re
     requires { AllByRecursion (IsFrom 1 (length net.now.complexes)) walk.now }
     ensures { Wrote (walk_text net.now walk.now) (K.seen sink.old) (K.seen sink.new) result }
 {
+    let mut text = SideText::new();
     for i in 0..walk.len() {
-        put_complex(sink, i, net, walk[i] as usize - 1)?;
+        put_complex(sink, i, net, walk[i] as usize - 1, &mut text)?;
     }
     Ok(())
 }

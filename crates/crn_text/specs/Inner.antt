@@ -3,3 +3,4 @@ pub mod Pieces
 pub mod Flaws
 pub mod Known
 pub mod Said
+pub mod Found

@@ -3,47 +3,18 @@ ghost use Rattle.crn_io.specs.Write.{Wrote};
 ghost use Rattle.crn_io.specs.Joined.{with_separator};
 ghost use Rattle.crn_text.specs.Canonical.{term, complex_text, reaction_line, canonical};
 
-use crn_io::{Sink, WriteFault, put_all, put_between};
+use crate::side_text::SideText;
+use crn_io::{Sink, WriteFault, put_all};
 use crn_net::Network;
-use itoa::Buffer;
-
-// The term of a species with its amount, after a plus sign unless it is the first. An amount of 1 is not written.
-fn put_term<K: Sink>(
-    sink: &mut K,
-    before: usize,
-    amount: i128,
-    name: &[u8],
-) -> Result<(), WriteFault>
-    requires { pos 0 <ℤ amount }
-    ensures { Wrote (with_separator (codes " + ") before (term amount name.now))
-        (K.seen sink.old) (K.seen sink.new) result }
-{
-    if amount == 1 {
-        return put_between(sink, b" + ", before, name);
-    }
-    let mut buffer = Buffer::new();
-    put_between(sink, b" + ", before, buffer.format(amount).as_bytes())?;
-    put_all(sink, name)
-}
 
 /// Writes complex c, counted from 0, as it is in the canonical text. Takes no memory.
 pub fn write_side<K: Sink>(net: &Network, c: usize, sink: &mut K) -> Result<(), WriteFault>
     requires { c < length net.now.complexes }
     ensures { Wrote (complex_text net.now c) (K.seen sink.old) (K.seen sink.new) result }
 {
-    let vector = net.vector(c);
-    let mut shown = 0usize;
-    for s in 0..net.species() {
-        if vector[s] <= 0 {
-            continue;
-        }
-        put_term(sink, shown, vector[s], net.name(s))?;
-        shown += 1;
-    }
-    if shown == 0 {
-        return put_all(sink, b"0");
-    }
-    Ok(())
+    let mut text = SideText::new();
+    text.set(net, c);
+    put_all(sink, text.as_slice())
 }
 
 // The line of a reaction from complex y to complex z.

@@ -1,0 +1,52 @@
+use Rattle.std.proofs.Common.{◌≡◌, ◌<◌, ◌∙◌, ◌++◌, ℕ, List, [], length, get_or, sym, ap, arith, take_all}
+use Rattle.std.specs.Prelude.{codes, pos}
+use Rattle.crn_io.specs.Joined.{with_separator}
+use Rattle.crn_text.specs.Canonical.{term, terms}
+use Rattle.crn_text.proofs.Texts.{read_amount, terms_same, terms_count, side_step, side_some, side_none}
+use Rattle.crn_text.proofs.side_text.SideText.set.Goals as goal
+
+pub loop-s-preserved-then-vector-s-le0 : goal.loop-s-preserved-then-vector-s-le0
+loop-s-preserved-then-vector-s-le0 c =
+    let v = c.vector-vector.result.now in
+    let h = c.loop-s.invariant in
+    let lt : c.loop-s.s < length c.args.net.now.names = omega arith in
+    let lt' : c.loop-s.s < length v = omega arith in
+    let none = rw (read_amount v c.loop-s.s c.vector-vector.ensures.amounts) at c.if-vector-s-le0.true in
+    let same = terms_same c.args.net.now.names v c.loop-s.s lt lt' none in
+    rw same (record { text = h.text; shown = h.shown; few = omega (arith, h.few); short = omega (arith, h.short) })
+
+pub loop-s-preserved : goal.loop-s-preserved
+loop-s-preserved c =
+    let v = c.vector-vector.result.now in
+    let names = c.args.net.now.names in
+    let s = c.loop-s.s in
+    let h = c.loop-s.invariant in
+    let lt : s < length names = omega arith in
+    let lt' : s < length v = omega arith in
+    let some = rw (read_amount v s c.vector-vector.ensures.amounts) at c.if-vector-s-le0.false in
+    let put = rw (c.name.ensures.value, read_amount v s c.vector-vector.ensures.amounts) at c.put_term.ensures.text in
+    let here = with_separator (codes " + ") c.loop-s.shown (term (get_or v s (pos 0)) (get_or names s [])) in
+    record {
+      text = put ∙ ap (λ (t : List ℕ). t ++ here) h.text ∙ sym (side_step names v s c.loop-s.shown lt lt' some h.shown);
+      shown = omega (arith, h.shown, terms_count names v s lt lt' some);
+      few = omega (arith, h.few);
+      short = omega (arith, h.short, c.put_term.ensures.size);
+    }
+
+pub returns-then-shown-eq0 : goal.returns-then-shown-eq0
+returns-then-shown-eq0 c =
+    let v = c.vector-vector.result.now in
+    let names = c.args.net.now.names in
+    let text = rw (take_all c.loop-s.s names (omega arith), take_all c.loop-s.s v (omega arith)) at c.loop-s.invariant.text in
+    let shown = rw (take_all c.loop-s.s names (omega arith), take_all c.loop-s.s v (omega arith)) at c.loop-s.invariant.shown in
+    let none : length (terms names v) ≡ 0 = omega (arith, shown) in
+    rw (← c.vector-vector.ensures.value, side_none names v none, ← text) c.put.ensures
+
+pub returns-else-shown-eq0 : goal.returns-else-shown-eq0
+returns-else-shown-eq0 c =
+    let v = c.vector-vector.result.now in
+    let names = c.args.net.now.names in
+    let text = rw (take_all c.loop-s.s names (omega arith), take_all c.loop-s.s v (omega arith)) at c.loop-s.invariant.text in
+    let shown = rw (take_all c.loop-s.s names (omega arith), take_all c.loop-s.s v (omega arith)) at c.loop-s.invariant.shown in
+    let some : 0 < length (terms names v) = omega (arith, shown) in
+    rw (← c.vector-vector.ensures.value, side_some names v some) text
