@@ -4,22 +4,11 @@ use Rattle.std.specs.Prelude.{ℤ, pos, map}
 use Rattle.std.specs.List.{range_with_len}
 use Rattle.std.proofs.lemmas.List.{length-map}
 use Rattle.std.proofs.lemmas.List.FromFn.{get_or-range_with_len, length-range_with_len}
-use Rattle.crn_vec.specs.Network.{Net, reaction_vector}
-use Rattle.crn_vec.specs.Vectors.{dot, column, entry}
+use Rattle.crn_vec.specs.Network.{Net}
+use Rattle.crn_vec.specs.Vectors.{dot, column}
 use Rattle.crn_vec.specs.Deficiency.{vectors}
-use Rattle.crn_vec.proofs.CallerLemmas.{entry-column, length-column}
 use Rattle.crn_render.specs.Details.{sigma}
 use Rattle.crn_render.proofs.Texts.{get_or_map}
-
--- a species has an entry for each reaction
-pub vectors_count : (net : Net) (s : ℕ) → length (column (vectors net) s) ≡ length net.reactions
-vectors_count net s =
-    let many : length (vectors net) ≡ length net.reactions = simp length-map in
-    length-column (vectors net) s ∙ many
-
--- the entry of a reaction is that of its vector
-pub vector_entry : (net : Net) (s r : ℕ) → r < length net.reactions → entry (column (vectors net) s) r ≡ entry (reaction_vector net (get_or net.reactions r (0, 0))) s
-vector_entry net s r lt = entry-column (vectors net) s r ∙ ap (λ (v : List ℤ). entry v s) (get_or_map (reaction_vector net) net.reactions r (0, 0) [] lt)
 
 -- the sum has an entry for each species
 pub sigma_count : (net : Net) (weights : List ℤ) → length (sigma net weights) ≡ length net.names

@@ -1,24 +1,14 @@
-ghost use Rattle.std.specs.Prelude.{◌≡◌, ◌<◌, ◌≤◌, ◌*◌, ◌^◌, ◌*ℤ◌, length, unsigned_abs};
+ghost use Rattle.std.specs.Prelude.{◌≡◌, ◌<◌, ◌^◌, length, unsigned_abs};
 ghost use Rattle.crn_cert.specs.Ranges.{AreFree};
 ghost use Rattle.crn_io.specs.Write.{Wrote};
 ghost use Rattle.crn_vec.specs.Vectors.{dot, column};
-ghost use Rattle.crn_vec.specs.declared.limits.TheConstants.{MAX_AMOUNT, WIDE_SOLUTION};
 ghost use Rattle.crn_vec.specs.Deficiency.{vectors};
 ghost use Rattle.crn_render.specs.Details.{titled_line, vector_text, sigma};
 
 use crate::parts::{put_entry, put_title};
 use crn_io::{Sink, WriteFault, put_all};
 use crn_net::Network;
-
-// A product of an entry of a reaction vector and a number of a certificate.
-fn times(x: &i128, y: &i128) -> i128
-    requires x { unsigned_abs x.now ≤ MAX_AMOUNT }
-    requires y { unsigned_abs y.now ≤ WIDE_SOLUTION }
-    ensures value { result ≡ x.now *ℤ y.now }
-    ensures small { unsigned_abs result ≤ MAX_AMOUNT * WIDE_SOLUTION }
-{
-    *x * *y
-}
+use crn_vec::times;
 
 // The entry at species s of the sum of the reaction vectors with these weights.
 fn sum_at(net: &Network, weights: &[i128], s: usize) -> i128
@@ -29,7 +19,7 @@ fn sum_at(net: &Network, weights: &[i128], s: usize) -> i128
 {
     let mut sum = 0i128;
     for r in 0..net.reactions() {
-        sum += times(&net.reaction_vector(r)[s], &weights[r]);
+        sum += times(&weights[r], &net.reaction_vector(r)[s]);
     }
     sum
 }

@@ -1,23 +1,24 @@
 use Rattle.std.proofs.Common.{◌≡◌, ◌≤◌, ◌<◌, ◌*◌, ◌+◌, ◌∙◌, length, take, get_or, ap, ap₂, sym, arith, to_z, take_all}
 use Rattle.std.specs.Prelude.{ℤ, pos, ◌+ℤ◌, ◌*ℤ◌, unsigned_abs}
 use Rattle.std.specs.Int.{w128}
+use Rattle.std.proofs.Math.IntN.{*ℤ_comm}
 use Rattle.crn_vec.specs.Vectors.{dot, column, entry}
 use Rattle.crn_vec.specs.Deficiency.{vectors}
 use Rattle.crn_vec.specs.declared.limits.TheConstants.{MAX_AMOUNT, WIDE_SOLUTION}
-use Rattle.crn_vec.proofs.CallerLemmas.{held, sum_within, dot_step, within_at, all_at}
+use Rattle.crn_vec.proofs.CallerLemmas.{held, sum_within, dot_step, within_at, all_at, column_long}
+use Rattle.crn_cert.proofs.CallerLemmas.{vector_entry}
 use Rattle.crn_cert.specs.Ranges.{IsNarrow}
-use Rattle.crn_render.proofs.SumEntries.{vectors_count, vector_entry}
 use Rattle.crn_render.proofs.sigma.sum_at.Goals as goal
 
 pub times-sum-requires-clause-x : goal.times-sum-requires-clause-x
-times-sum-requires-clause-x c = within_at MAX_AMOUNT c.args.s c.reaction_vector.result.now c.reaction_vector.ensures.small
-
-pub times-sum-requires-clause-y : goal.times-sum-requires-clause-y
-times-sum-requires-clause-y c =
+times-sum-requires-clause-x c =
     let w = c.args.weights.now in
     let lt : c.loop-r.r < length w = omega (arith, c.requires.weights.long) in
     let narrow : IsNarrow (get_or w c.loop-r.r (pos 0)) = all_at IsNarrow w c.loop-r.r (pos 0) c.requires.weights.each lt in
     omega (arith, narrow)
+
+pub times-sum-requires-clause-y : goal.times-sum-requires-clause-y
+times-sum-requires-clause-y c = within_at MAX_AMOUNT c.args.s c.reaction_vector.result.now c.reaction_vector.ensures.small
 
 next_sum : {s p d e : ℤ} → s ≡ d → p ≡ e → d +ℤ e ≡ s +ℤ p
 next_sum f g = ap₂ (λ (x y : ℤ). x +ℤ y) (sym f) (sym g)
@@ -31,12 +32,12 @@ loop-r-preserved c =
     let w = c.args.weights.now in
     let r = c.loop-r.r in
     let in_reactions : r < length net.reactions = omega arith in
-    let in_col : r < length col = omega (arith, vectors_count net c.args.s) in
+    let in_col : r < length col = omega (arith, column_long net c.args.s) in
     let in_w : r < length w = omega (arith, c.requires.weights.long) in
     let bound : unsigned_abs (s +ℤ p) ≤ r * (MAX_AMOUNT * WIDE_SOLUTION) + MAX_AMOUNT * WIDE_SOLUTION =
     sum_within s p (r * (MAX_AMOUNT * WIDE_SOLUTION)) (MAX_AMOUNT * WIDE_SOLUTION) c.loop-r.invariant.1 c.times-sum.ensures.small in
     let at : entry c.reaction_vector.result.now c.args.s ≡ entry col r = ap (λ (v : _). entry v c.args.s) c.reaction_vector.ensures.value ∙ sym (vector_entry net c.args.s r in_reactions) in
-    let product : p ≡ entry col r *ℤ entry w r = c.times-sum.ensures.value ∙ ap (λ (x : ℤ). x *ℤ entry w r) at in
+    let product : p ≡ entry col r *ℤ entry w r = c.times-sum.ensures.value ∙ *ℤ_comm (entry w r) (entry c.reaction_vector.result.now c.args.s) ∙ ap (λ (x : ℤ). x *ℤ entry w r) at in
     let next : dot (take (r + 1) col) (take (r + 1) w) ≡ s +ℤ p = dot_step col w r in_col in_w ∙ next_sum c.loop-r.invariant.0 product in
     rw (held p (omega (arith, c.times-sum.ensures.small)), held (s +ℤ p) (omega (arith, c.reactions-r-end.ensures.limit))) (sym next, omega (arith, bound))
 
@@ -47,4 +48,4 @@ pub returns-clause-value : goal.returns-clause-value
 returns-clause-value c =
     let net = c.args.net.now in
     let col = column (vectors net) c.args.s in
-    rw (take_all c.loop-r.r col (omega (arith, vectors_count net c.args.s)), take_all c.loop-r.r c.args.weights.now (omega (arith, c.requires.weights.long))) at c.loop-r.invariant.0
+    rw (take_all c.loop-r.r col (omega (arith, column_long net c.args.s)), take_all c.loop-r.r c.args.weights.now (omega (arith, c.requires.weights.long))) at c.loop-r.invariant.0
