@@ -79,19 +79,32 @@ fn first_shown(tableau: &mut Tableau, kinds: &[Kind], sum: &mut [i128], work: &m
     Shown::Nothing
 }
 
+// The tableau that is given, or else a copy of the kept one.
+fn trial_of(tableau: &Tableau, viewed: Option<Tableau>) -> Result<Tableau, NoMemory>
+    requires { IfSome viewed (λ t. t.matrix ≡ tableau.now.matrix) }
+    ensures { IfOk result (λ t. t.matrix ≡ tableau.now.matrix) }
+{
+    match viewed {
+        Some(trial) => Ok(trial),
+        None => tableau.copy(),
+    }
+}
+
 /// An answer in plain view, where the rows are in the basis as far as they can be: a vector that it names by a coordinate outside
 /// rules the system out, or its members, each with 1 or -1 as its kind asks, make a solution. If neither is so, coordinates that have to be positive
 /// or negative are exchanged for one another, a few times.
 ///
-/// The exchanges are those of a copy, which is kept if it shows a cut. So a search that begins where no answer is in plain view has
+/// The exchanges are those of `viewed`, or else of a copy, which is kept if it shows a cut. So a search that begins where no answer is in plain view has
 /// the basis that it had before.
 pub(crate) fn in_view(
     alloc: Global,
     tableau: &mut Tableau,
+    viewed: Option<Tableau>,
     kinds: &[Kind],
     sum: &mut [i128],
     work: &mut [i128],
 ) -> Result<Option<Decision>, NoMemory>
+    requires viewed { IfSome viewed (λ t. t.matrix ≡ tableau.old.matrix) }
     requires kinds { length kinds.now ≡ width tableau.old.matrix }
     requires sum { length sum.old ≡ length kinds.now }
     requires work { length work.old ≡ length kinds.now }
@@ -102,7 +115,7 @@ pub(crate) fn in_view(
         (λ d. IfSome d (λ d. IsDecision tableau.new.matrix kinds.now d
         × IsNamedDecision tableau.new.matrix tableau.new.basis d)) }
 {
-    let mut trial = tableau.copy()?;
+    let mut trial = trial_of(tableau, viewed)?;
     if trial.enter_rows(trial.cols()).is_err() {
         return Ok(None);
     }

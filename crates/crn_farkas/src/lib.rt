@@ -32,4 +32,4 @@ pub use laws::{
     witnesses_make_solutions,
 };
 pub use solver::Solver;
-pub use system::{System, decide};
+pub use system::{System, decide, decide_by};

@@ -1,4 +1,4 @@
-ghost use Rattle.std.specs.Prelude.{◌≡◌, ◌≤◌, ◌<◌, ◌↔◌, ℕ, true, length, vec_capacity, MatchResult, IfErr, IfOk};
+ghost use Rattle.std.specs.Prelude.{◌≡◌, ◌≤◌, ◌<◌, ◌↔◌, ℕ, true, length, vec_capacity, MatchResult, IfErr, IfOk, IfSome};
 ghost use Rattle.crn_vec.specs.Lists.{IsIn};
 ghost use Rattle.crn_vec.specs.Elementary.{width, IsBasis};
 ghost use Rattle.crn_vec.specs.Systems.{HasOneRowCut, is_signed, kind_at, signed_count};
@@ -50,12 +50,14 @@ impl Model for Solver {
 fn answer(
     alloc: Global,
     tableau: &mut Tableau,
+    viewed: Option<Tableau>,
     kinds: &[Kind],
     order: &mut Vec<usize>,
     level: &mut [usize],
     sum: &mut [i128],
     work: &mut [i128],
 ) -> Result<Decision, Stop>
+    requires viewed { IfSome viewed (λ t. t.matrix ≡ tableau.old.matrix) }
     requires lists { CanDecide tableau.old.matrix kinds.now (vec_capacity order.old)
         level.old sum.old work.old }
     ensures matrix { tableau.new.matrix ≡ tableau.old.matrix }
@@ -69,7 +71,7 @@ fn answer(
 {
     match kept_cut(tableau, kinds) {
         Some(cut) => Ok(Decision::Infeasible(multipliers(alloc, tableau, kinds, work, &cut)?)),
-        None => by_targets(alloc, tableau, kinds, order, level, sum, work),
+        None => by_targets(alloc, tableau, viewed, kinds, order, level, sum, work),
     }
 }
 
@@ -108,10 +110,30 @@ impl Solver {
         ensures named { IfOk result (λ d. IsNamedDecision self.new.matrix self.new.basis d) }
         ensures near { IfErr result (λ s. IsNearStop self.new.basis s) }
     {
+        self.decide_by(None, kinds)
+    }
+
+    /// Decides as `decide` does, but looks for an answer in plain view from the basis of `viewed`, if one is given. It is used up.
+    pub fn decide_by(&mut self, viewed: Option<Tableau>, kinds: &[Kind]) -> Result<Decision, Stop>
+        requires viewed { IfSome viewed (λ t. t.matrix ≡ self.old.matrix) }
+        requires kinds { length kinds.now ≡ width self.old.matrix }
+        requires few { signed_count kinds.now ≤ MAX_SIGNED }
+        ensures matrix { self.new.matrix ≡ self.old.matrix }
+        ensures basis { NamesRows self.new.matrix self.new.basis }
+        ensures answer { MatchResult result (λ d. IsDecision self.old.matrix kinds.now d)
+            (λ s. IsTargetStop self.old.matrix kinds.now s) }
+        ensures kept { HasKeptCut self.old.matrix self.old.basis kinds.now → IsRuledOut result
+            × (self.new.basis ≡ self.old.basis) }
+        ensures from_columns { ((k : ℕ) → IsIn k self.old.basis ↔ (k < self.old.matrix.cols))
+            → HasOneRowCut self.old.matrix kinds.now → IsRuledOut result }
+        ensures named { IfOk result (λ d. IsNamedDecision self.new.matrix self.new.basis d) }
+        ensures near { IfErr result (λ s. IsNearStop self.new.basis s) }
+    {
         let alloc = *self.order.allocator();
         let result = answer(
             alloc,
             &mut self.tableau,
+            viewed,
             kinds,
             &mut self.order,
             &mut self.level,

@@ -1,4 +1,4 @@
-ghost use Rattle.std.specs.Prelude.{◌≡◌, ◌≤◌, ◌<◌, ◌+◌, ℕ, length, slice_index, take, vec_capacity, MatchResult, MatchOption, IfErr, IfOk, OnOk};
+ghost use Rattle.std.specs.Prelude.{◌≡◌, ◌≤◌, ◌<◌, ◌+◌, ℕ, length, slice_index, take, vec_capacity, MatchResult, MatchOption, IfErr, IfOk, IfSome, OnOk};
 ghost use Rattle.crn_vec.specs.Lists.{IsIn};
 ghost use Rattle.crn_vec.specs.Elementary.{width};
 ghost use Rattle.crn_farkas.specs.Decision.{IsSmallSolution, IsDecision, IsTargetStop};
@@ -121,16 +121,18 @@ pub(crate) fn columns_of(alloc: Global, tableau: &Tableau, sum: &[i128]) -> Resu
     Ok(columns)
 }
 
-// Decides a system by what a basis shows or by its targets, one after another, from the basis where the last question left the tableau.
+// Decides a system by what a basis shows, that of `viewed` or else the kept one, or by its targets, one after another, from the basis where the last question left the tableau.
 pub(crate) fn by_targets(
     alloc: Global,
     tableau: &mut Tableau,
+    viewed: Option<Tableau>,
     kinds: &[Kind],
     order: &mut Vec<usize>,
     level: &mut [usize],
     sum: &mut [i128],
     work: &mut [i128],
 ) -> Result<Decision, Stop>
+    requires viewed { IfSome viewed (λ t. t.matrix ≡ tableau.old.matrix) }
     requires lists { CanDecide tableau.old.matrix kinds.now (vec_capacity order.old)
         level.old sum.old work.old }
     ensures matrix { tableau.new.matrix ≡ tableau.old.matrix }
@@ -140,7 +142,7 @@ pub(crate) fn by_targets(
     ensures named { IfOk result (λ d. IsNamedDecision tableau.new.matrix tableau.new.basis d) }
     ensures near { IfErr result (λ s. IsNearStop tableau.new.basis s) }
 {
-    if let Some(decision) = in_view(alloc, tableau, kinds, sum, work)? {
+    if let Some(decision) = in_view(alloc, tableau, viewed, kinds, sum, work)? {
         return Ok(decision);
     }
     put_order(order, kinds);

@@ -4,7 +4,7 @@ use Rattle.crn_vec.specs.Systems.{HasOneRowCut}
 use Rattle.crn_tab.specs.Tableau.{KeptTableau}
 use Rattle.crn_farkas.specs.Solver.{IsRuledOut}
 use Rattle.crn_farkas.proofs.Finals.{one_row_kept}
-use Rattle.crn_farkas.proofs.solver.Solver.decide.Goals as goal
+use Rattle.crn_farkas.proofs.solver.Solver.decide_by.Goals as goal
 
 pub returns-clause-from_columns : goal.returns-clause-from_columns
 returns-clause-from_columns c =
