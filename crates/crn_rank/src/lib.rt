@@ -9,4 +9,4 @@ mod rank_proof;
 #[cfg(test)]
 mod tests;
 
-pub use rank_proof::rank;
+pub use rank_proof::{rank, rank_by};

@@ -32,5 +32,5 @@ pub(crate) fn member_matrix(
     ensures { IfOk result (λ made. made ≡ member_matrix net.now members.now) }
 {
     let entries = entries(alloc, net, members)?;
-    Matrix::new(alloc, members.len(), net.species(), &entries)
+    Matrix::from_entries(alloc, members.len(), net.species(), entries)
 }

@@ -65,8 +65,24 @@ pub fn rank(alloc: Global, net: &Network, members: &[u32]) -> Result<RankProof, 
 {
     let matrix = member_matrix(alloc, net, members)?;
     let mut tableau = Tableau::new(alloc, &matrix)?;
-    if let Err(refused) = tableau.enter_rows(matrix.cols()) {
-        return Err(refused_stop(&tableau, &refused)?);
+    rank_by(alloc, net, members, &mut tableau)
+}
+
+/// The rank as `rank` gives it, by a tableau of the members' matrix, whose rows enter the basis as far as they can.
+pub fn rank_by(
+    alloc: Global,
+    net: &Network,
+    members: &[u32],
+    tableau: &mut Tableau,
+) -> Result<RankProof, Stop>
+    requires members { AreMembers net.now members.now }
+    requires matrix { tableau.old.matrix ≡ member_matrix net.now members.now }
+    ensures matrix { tableau.new.matrix ≡ tableau.old.matrix }
+    ensures proof { IfOk result (λ proof. ProvesRank net.now members.now proof) }
+    ensures stop { IfErr result (λ stop. IsWideStop (member_matrix net.now members.now) stop) }
+{
+    if let Err(refused) = tableau.enter_rows(tableau.cols()) {
+        return Err(refused_stop(tableau, &refused)?);
     }
-    proof_of(alloc, net, &tableau, members)
+    proof_of(alloc, net, tableau, members)
 }
