@@ -17,10 +17,10 @@ use Rattle.crn_vec.specs.Visits.{Visits, over, fallen, ended, opened, Passes, be
 use Rattle.crn_cert.specs.Trees.{Plan, Both, Three, RulesA, RulesB, Level, plan, places}
 use Rattle.crn_cert.specs.Ranges.{IsNarrow}
 use Rattle.crn_vec.proofs.CallerLemmas.{visits_then, visits_ended, passes_at, passes_first, passes_then}
-use Rattle.crn_sign.specs.declared.end.SearchEnd.{SearchEnd}
-use Rattle.crn_sign.specs.declared.end.SearchEnd.TheVariants.{Found, Refuted, Spent}
+use Rattle.crn_sign.specs.declared.walk.Ending.{Ending}
+use Rattle.crn_sign.specs.declared.walk.Ending.TheVariants.{Found, Refuted, Spent}
 use Rattle.crn_sign.specs.Search.{IsFeasibleBy, IsSearchEnd, IsTreeAt}
-use Rattle.crn_sign.specs.Inner.Walk.{EndsWith, EndsWithout, RunsOut, EndsAt, BelowRoot, EndsBelow, IsFoundAt}
+use Rattle.crn_sign.specs.Inner.Walk.{EndsWith, EndsWithout, RunsOut, EndsAt, BelowRoot, EndsBelow, IsFoundAt, IsLeafAt, end_of}
 
 -- another thing that follows from what is known of an Ok
 pub ok_then : {T E : Type 0} (P Q : T → Type 0) (S : E → Type 0) (r : Result T E) → ((e : T) → P e → Q e) → MatchResult r P S → MatchResult r Q S
@@ -42,29 +42,41 @@ narrow_from : (u : List ℤ) → ((k : ℕ) → unsigned_abs (entry u k) < WIDE_
 narrow_from [] h = tt
 narrow_from (x ∷ u) h = (let le : WIDE_ENTRY ≤ WIDE_SOLUTION = lit≤ tt in omega (arith, h 0, le), narrow_from u (λ k. h (suc k)))
 
-pub cut_a_at : (w : Signed) (p : List Sign) (u : List ℤ) (left after : ℕ) → after + 1 ≡ left → IsSmallCut w.matrix_a (w.kinds_a p) u → IsTreeAt w p (RulesA u) × EndsWithout w (p ∷ []) (p ∷ []) left after
-cut_a_at w p u left after e c = (record { valid = c.cut; narrow = narrow_from u c.small }, leaf w p left after e (λ s. cuts_exclude_solutions w.matrix_a (w.kinds_a p) u s.part_a.0 c.cut s.part_a.1))
+-- a leaf by multipliers that rule a part out
+pub leaf_a : (w : Signed) (p : List Sign) (u : List ℤ) → IsSmallCut w.matrix_a (w.kinds_a p) u → IsLeafAt w p (RulesA u)
+leaf_a w p u c = record {
+  tree_at = record { valid = c.cut; narrow = narrow_from u c.small };
+  one = refl;
+  none = λ s. cuts_exclude_solutions w.matrix_a (w.kinds_a p) u s.part_a.0 c.cut s.part_a.1;
+}
 
-pub cut_b_at : (w : Signed) (p : List Sign) (u : List ℤ) (left after : ℕ) → after + 1 ≡ left → IsSmallCut w.matrix_b (w.kinds_b p) u → IsTreeAt w p (RulesB u) × EndsWithout w (p ∷ []) (p ∷ []) left after
-cut_b_at w p u left after e c = (record { valid = c.cut; narrow = narrow_from u c.small }, leaf w p left after e (λ s. cuts_exclude_solutions w.matrix_b (w.kinds_b p) u s.part_b.0 c.cut s.part_b.1))
+pub leaf_b : (w : Signed) (p : List Sign) (u : List ℤ) → IsSmallCut w.matrix_b (w.kinds_b p) u → IsLeafAt w p (RulesB u)
+leaf_b w p u c = record {
+  tree_at = record { valid = c.cut; narrow = narrow_from u c.small };
+  one = refl;
+  none = λ s. cuts_exclude_solutions w.matrix_b (w.kinds_b p) u s.part_b.0 c.cut s.part_b.1;
+}
+
+pub leaf_at : (w : Signed) (p : List Sign) (tree : Plan) (left after : ℕ) → after + 1 ≡ left → IsLeafAt w p tree → IsTreeAt w p tree × EndsWithout w (p ∷ []) (places p tree) left after
+leaf_at w p tree left after e l = (l.tree_at, subst (λ (ps : List (List Sign)). EndsWithout w (p ∷ []) ps left after) (sym l.one) (leaf w p left after e l.none))
 
 feasible_by : (w : Signed) (p : List Sign) (a b : List ℤ) → IsFeasibleBy w p a b → IsFeasible w p
 feasible_by w p a b s = record { opened = s.opened; part_a = (a, (s.part_a.v, s.part_a.solves)); part_b = (b, (s.part_b.v, s.part_b.solves)) }
 
-pub found_at : (w : Signed) (p : List Sign) (left after : ℕ) (e : SearchEnd) → after + 1 ≡ left → IsFoundAt w p e → EndsAt w p left after e
-found_at w p left after (Found q a b) n h =
-    let C : List Sign → Type 0 = λ t. IsFeasibleBy w t a.list b.list × EndsWith w (p ∷ []) left after t in
-    subst C (sym h.0) (h.1, record { before = []; visits = ended (feasible_by w p a.list b.list h.1) h.1.full; count = omega (arith, n) })
+pub found_at : (w : Signed) (p : List Sign) (left after : ℕ) (e : Ending) → after + 1 ≡ left → IsFoundAt w p e → EndsAt w p left after e
+found_at w p left after (Found f) n h =
+    let C : List Sign → Type 0 = λ t. IsFeasibleBy w t f.value.a.list f.value.b.list × EndsWith w (p ∷ []) left after t in
+    subst C (sym h.0) (h.1, record { before = []; visits = ended (feasible_by w p f.value.a.list f.value.b.list h.1) h.1.full; count = omega (arith, n) })
 found_at w p left after (Refuted t) n h = absurd h
 found_at w p left after Spent n h = absurd h
 
 -- from what is visited below a feasible prefix to what is visited with it
-pub opened_at : (w : Signed) (p : List Sign) (left mid after : ℕ) (e : SearchEnd) → mid + 1 ≡ left → IsFeasible w p → ¬ (IsFull w p) → EndsBelow w p mid after e → EndsAt w p left after e
-opened_at w p left mid after (Found q a b) n s f h = (
+pub opened_at : (w : Signed) (p : List Sign) (left mid after : ℕ) (e : Ending) → mid + 1 ≡ left → IsFeasible w p → ¬ (IsFull w p) → EndsBelow w p mid after e → EndsAt w p left after e
+opened_at w p left mid after (Found g) n s f h = (
   h.0,
   record {
     before = p ∷ h.1.before;
-    visits = opened s f (subst (λ (t : List (List Sign)). Visits w t (h.1.before ++ q ∷ []) true) (sym (append-nil (children p))) h.1.visits);
+    visits = opened s f (subst (λ (t : List (List Sign)). Visits w t (h.1.before ++ g.value.pattern ∷ []) true) (sym (append-nil (children p))) h.1.visits);
     count = omega (arith, n, h.1.count);
   },
 )
@@ -85,23 +97,23 @@ opened_at w p left mid after Spent n s f h = record {
 -- ---- one prefix after another
 
 -- an end other than a tree
-abbrev pub EndsEarly : Signed → List (List Sign) → ℕ → ℕ → SearchEnd → Type 0
-EndsEarly w due left after (Found q a b) = IsFeasibleBy w q a.list b.list × EndsWith w due left after q
+abbrev pub EndsEarly : Signed → List (List Sign) → ℕ → ℕ → Ending → Type 0
+EndsEarly w due left after (Found f) = IsFeasibleBy w f.value.pattern f.value.a.list f.value.b.list × EndsWith w due left after f.value.pattern
 EndsEarly w due left after (Refuted t) = ⊥
 EndsEarly w due left after Spent = RunsOut w due left after
 
-pub early_first : (w : Signed) (c : List Sign) (rest : List (List Sign)) (left after : ℕ) (e : SearchEnd) → ((t : Tree) → ¬ (e ≡ Refuted t)) → EndsAt w c left after e → EndsEarly w (c ∷ rest) left after e
-early_first w c rest left after (Found q a b) n h = (h.0, record { before = h.1.before; visits = visits_ended w (c ∷ []) (h.1.before ++ q ∷ []) rest true h.1.visits refl; count = h.1.count })
+pub early_first : (w : Signed) (c : List Sign) (rest : List (List Sign)) (left after : ℕ) (e : Ending) → ((t : Tree) → ¬ (e ≡ Refuted t)) → EndsAt w c left after e → EndsEarly w (c ∷ rest) left after e
+early_first w c rest left after (Found f) n h = (h.0, record { before = h.1.before; visits = visits_ended w (c ∷ []) (h.1.before ++ f.value.pattern ∷ []) rest true h.1.visits refl; count = h.1.count })
 early_first w c rest left after (Refuted t) n h = absurd (n t refl)
 early_first w c rest left after Spent n h = record { passes = passes_first w (c ∷ []) rest left h.passes; none = h.none }
 
-pub early_then : (w : Signed) (c : List Sign) (rest list : List (List Sign)) (left mid after : ℕ) (e : SearchEnd) → EndsWithout w (c ∷ []) list left mid → EndsEarly w rest mid after e → EndsEarly w (c ∷ rest) left after e
-early_then w c rest list left mid after (Found q a b) v h = (
+pub early_then : (w : Signed) (c : List Sign) (rest list : List (List Sign)) (left mid after : ℕ) (e : Ending) → EndsWithout w (c ∷ []) list left mid → EndsEarly w rest mid after e → EndsEarly w (c ∷ rest) left after e
+early_then w c rest list left mid after (Found f) v h = (
   h.0,
   record {
     before = list ++ h.1.before;
-    visits = subst (λ (l : List (List Sign)). Visits w (c ∷ rest) l true) (sym (append_assoc list h.1.before (q ∷ []))) (visits_then w (c ∷ []) list rest (h.1.before ++ q ∷ []) false true v.visits refl h.1.visits);
-    count = omega (arith, v.count, h.1.count, ap length (append_assoc list h.1.before (q ∷ [])), length-append list (h.1.before ++ q ∷ []));
+    visits = subst (λ (l : List (List Sign)). Visits w (c ∷ rest) l true) (sym (append_assoc list h.1.before (f.value.pattern ∷ []))) (visits_then w (c ∷ []) list rest (h.1.before ++ f.value.pattern ∷ []) false true v.visits refl h.1.visits);
+    count = omega (arith, v.count, h.1.count, ap length (append_assoc list h.1.before (f.value.pattern ∷ [])), length-append list (h.1.before ++ f.value.pattern ∷ []));
   },
 )
 early_then w c rest list left mid after (Refuted t) v h = absurd h
@@ -118,9 +130,9 @@ pub record IsChildTree (w : Signed) (c : List Sign) (tree : Plan) (left after : 
   pub tree_at : IsTreeAt w c tree
   pub ends : EndsWithout w (c ∷ []) (places c tree) left after
 
-pub child_tree : (w : Signed) (c : List Sign) (left after : ℕ) (e : SearchEnd) (t : Tree) → EndsAt w c left after e → e ≡ Refuted t → IsChildTree w c (plan t) left after
+pub child_tree : (w : Signed) (c : List Sign) (left after : ℕ) (e : Ending) (t : Tree) → EndsAt w c left after e → e ≡ Refuted t → IsChildTree w c (plan t) left after
 child_tree w c left after e t h is =
-    let k = subst (λ (x : SearchEnd). EndsAt w c left after x) is h in
+    let k = subst (λ (x : Ending). EndsAt w c left after x) is h in
     record { tree_at = k.0; ends = k.1 }
 
 -- ---- the children of a prefix
@@ -145,24 +157,24 @@ children_two p = by (all_zero p) refl
     by true e = record { rest = []; is = children_zero p e }
     by false e = record { rest = with p Minus ∷ []; is = children_some p e }
 
-below_early : (w : Signed) (p : List Sign) (due : List (List Sign)) (left after : ℕ) (e : SearchEnd) → children p ≡ due → EndsEarly w due left after e → EndsBelow w p left after e
-below_early w p due left after (Found q a b) is h = (h.0, subst (λ (d : List (List Sign)). EndsWith w d left after q) (sym is) h.1)
+below_early : (w : Signed) (p : List Sign) (due : List (List Sign)) (left after : ℕ) (e : Ending) → children p ≡ due → EndsEarly w due left after e → EndsBelow w p left after e
+below_early w p due left after (Found f) is h = (h.0, subst (λ (d : List (List Sign)). EndsWith w d left after f.value.pattern) (sym is) h.1)
 below_early w p due left after (Refuted t) is h = absurd h
 below_early w p due left after Spent is h = subst (λ (d : List (List Sign)). RunsOut w d left after) (sym is) h
 
 -- an end at the first child, at the second, and at the third
-pub first_child : (w : Signed) (p : List Sign) (left after : ℕ) (e : SearchEnd) → ((t : Tree) → ¬ (e ≡ Refuted t)) → EndsAt w (with p Zero) left after e → EndsBelow w p left after e
+pub first_child : (w : Signed) (p : List Sign) (left after : ℕ) (e : Ending) → ((t : Tree) → ¬ (e ≡ Refuted t)) → EndsAt w (with p Zero) left after e → EndsBelow w p left after e
 first_child w p left after e n h =
     let two = children_two p in
     below_early w p (with p Zero ∷ with p Plus ∷ two.rest) left after e two.is (early_first w (with p Zero) (with p Plus ∷ two.rest) left after e n h)
 
-pub second_child : (w : Signed) (p : List Sign) (z : Plan) (left mid after : ℕ) (e : SearchEnd) → IsChildTree w (with p Zero) z left mid → ((t : Tree) → ¬ (e ≡ Refuted t)) → EndsAt w (with p Plus) mid after e → EndsBelow w p left after e
+pub second_child : (w : Signed) (p : List Sign) (z : Plan) (left mid after : ℕ) (e : Ending) → IsChildTree w (with p Zero) z left mid → ((t : Tree) → ¬ (e ≡ Refuted t)) → EndsAt w (with p Plus) mid after e → EndsBelow w p left after e
 second_child w p z left mid after e zt n h =
     let two = children_two p in
     below_early w p (with p Zero ∷ with p Plus ∷ two.rest) left after e two.is
     (early_then w (with p Zero) (with p Plus ∷ two.rest) (places (with p Zero) z) left mid after e zt.ends (early_first w (with p Plus) two.rest mid after e n h))
 
-pub third_child : (w : Signed) (p : List Sign) (z q : Plan) (left mid high after : ℕ) (e : SearchEnd) → all_zero p ≡ false → IsChildTree w (with p Zero) z left mid → IsChildTree w (with p Plus) q mid high
+pub third_child : (w : Signed) (p : List Sign) (z q : Plan) (left mid high after : ℕ) (e : Ending) → all_zero p ≡ false → IsChildTree w (with p Zero) z left mid → IsChildTree w (with p Plus) q mid high
     → ((t : Tree) → ¬ (e ≡ Refuted t)) → EndsAt w (with p Minus) high after e → EndsBelow w p left after e
 third_child w p z q left mid high after e some zt qt n h =
     below_early w p (with p Zero ∷ with p Plus ∷ with p Minus ∷ []) left after e (children_some p some)
@@ -206,7 +218,7 @@ pub feasible_from : (w : Signed) (p q : List Sign) → q ≡ p → w.closed p �
 feasible_from w p q e c b a = record { opened = c; part_a = (a.0, subst (λ (t : List Sign). SolvesA w t a.0) e a.1); part_b = b }
 
 -- the end of the visits of the prefix with no choice is that of the search
-pub search_end : (w : Signed) (budget after : ℕ) (e : SearchEnd) → EndsAt w [] budget after e → IsSearchEnd w budget e
-search_end w budget after (Found q a b) h = (h.0, h.1.before, h.1.visits, omega (arith, h.1.count))
+pub search_end : (w : Signed) (budget after : ℕ) (e : Ending) → EndsAt w [] budget after e → IsSearchEnd w budget (end_of e)
+search_end w budget after (Found f) h = (h.0, h.1.before, h.1.visits, omega (arith, h.1.count))
 search_end w budget after (Refuted t) h = (h.0, h.1.visits, omega (arith, h.1.count))
 search_end w budget after Spent h = h.passes

@@ -1,3 +1,4 @@
+pub mod Columns
 pub mod Walk
 pub mod Ready
 pub mod RowSigns

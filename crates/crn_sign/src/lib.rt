@@ -2,6 +2,7 @@
 #![tactic(auto)]
 
 mod bits;
+mod columns;
 mod end;
 mod fault;
 mod marks;

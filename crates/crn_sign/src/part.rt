@@ -1,4 +1,4 @@
-ghost use Rattle.std.specs.Prelude.{◌≡◌, ◌<◌, ◌≤◌, ◌*◌, ℤ, List, length, true, false, IsTrue, IfOk, OnOk, MatchOption, MatchResult};
+ghost use Rattle.std.specs.Prelude.{◌≡◌, ◌<◌, ◌≤◌, ◌*◌, ℤ, List, length, true, false, IsTrue, IfOk, IfErr, OnOk, MatchOption, MatchResult};
 ghost use Rattle.crn_vec.specs.Elementary.{width};
 ghost use Rattle.crn_vec.specs.Systems.{IsSolution, is_signed, kind_at, signed_count};
 ghost use Rattle.crn_vec.specs.declared.limits.TheConstants.{MAX_SIGNED};
@@ -12,6 +12,7 @@ ghost use Rattle.crn_sign.specs.Inner.Parts.{IsFinder, IsPart, IsRuling};
 ghost use Rattle.crn_sign.specs.Inner.Places.{IsPlace};
 
 use crate::bits::{Bits, NONE, mark_at, push_places, put_mark};
+use crate::columns::{Column, columns_of};
 use crate::marks::{
     Mark, clear, lay, misfits, put_opposites, put_signs, put_zeros, suits, word_count,
 };
@@ -27,7 +28,8 @@ use std::rc::Rc;
 ///
 /// The signs are the last that the solver wrote, the ray has them as marks, and the negative those of
 /// its negative. What is wanted are the kinds of the system. The misfits are coordinates whose marks
-/// did not suit their kinds, and asked is what is asked of a vector that changes these.
+/// did not suit their kinds, and asked is what is asked of a vector that changes these, aside the same
+/// as kinds.
 #[derive(Drop)]
 pub(crate) struct Finder {
     pub solver: Solver,
@@ -37,14 +39,17 @@ pub(crate) struct Finder {
     pub negative: Vec<Bits>,
     pub wanted: Vec<Bits>,
     pub asked: Vec<Bits>,
+    pub aside: Vec<Kind>,
     pub misfits: Vec<usize>,
 }
 
-/// A part of a sign problem: what finds vectors for it, and multipliers that ruled its systems out.
+/// A part of a sign problem: what finds vectors for it, and multipliers that ruled its systems out. The
+/// matrix's columns are kept once some multipliers are.
 #[derive(Drop)]
 pub(crate) struct Part {
     pub finder: Finder,
     pub past: Vec<PastCuts>,
+    pub columns: Vec<Column>,
 }
 
 // The sign that a coordinate of this kind has to have, if any.
@@ -70,6 +75,7 @@ impl Finder {
             negative: vec![in alloc; NONE; words]?,
             wanted: vec![in alloc; NONE; words]?,
             asked: vec![in alloc; NONE; words]?,
+            aside: vec![in alloc; Kind::Free; count]?,
             misfits: Vec::new(alloc),
         })
     }
@@ -213,32 +219,135 @@ impl Finder {
         Ok(None)
     }
 
-    // Makes the marked vector 0 at g by a kept vector of this sign there. The answer is whether one is
-    // kept.
-    fn clear_by(&mut self, matrix: &Matrix, marks: &mut [Bits], g: usize, sign: Sign) -> bool
+    // Asks the solver for a vector of this kind at g among those that change misfits. The answer is
+    // whether there is one.
+    fn ask_aside(
+        &mut self,
+        alloc: Global,
+        matrix: &Matrix,
+        g: usize,
+        kind: Kind,
+    ) -> Result<bool, Stop>
         requires finder { IsFinder matrix.now self.old }
-        requires marks { AreRowMarks matrix.now marks.old }
         requires goal { g < width matrix.now }
-        ensures finder { IsFinder matrix.now self.new }
-        ensures marks { AreRowMarks matrix.now marks.new }
+        requires asked { is_signed kind ≡ true }
+        ensures finder { OnOk result (IsFinder matrix.now self.new) }
+        ensures ray { IfOk result (λ found. IsTrue found
+            → AreRowMarks matrix.now self.new.ray.items) }
+        ensures stop { IfErr result (λ s. (kinds : List Kind) → IsTargetStop matrix.now kinds s) }
     {
-        if let Some(number) = self.pool.find(matrix, &self.asked, g, sign) {
-            if number < self.pool.rays.len() {
-                return clear(matrix, &self.pool.rays[number].marks, marks, g);
+        self.aside[g] = kind;
+        match self.solver.alternative(&self.aside, g, &mut self.signs) {
+            Ok(Alternative::Witness) => {
+                self.learn(alloc, matrix)?;
+                Ok(true)
             }
+            Err(Stop::NoMemory) => Err(Stop::NoMemory),
+            _ => Ok(false),
         }
-        false
     }
 
-    // Gives the marked vector this sign at g by a kept vector. The answer is whether one is kept.
-    fn lay_by(&mut self, matrix: &Matrix, marks: &mut [Bits], g: usize, sign: Sign) -> bool
+    // Makes the marked vector 0 at g by a vector of this kind there. The answer is whether there is one.
+    fn clear_by(
+        &mut self,
+        alloc: Global,
+        matrix: &Matrix,
+        marks: &mut [Bits],
+        g: usize,
+        kind: Kind,
+    ) -> Result<bool, Stop>
         requires finder { IsFinder matrix.now self.old }
         requires marks { AreRowMarks matrix.now marks.old }
         requires goal { g < width matrix.now }
+        requires asked { is_signed kind ≡ true }
+        ensures finder { OnOk result (IsFinder matrix.now self.new) }
+        ensures marks { OnOk result (AreRowMarks matrix.now marks.new) }
+        ensures stop { IfErr result (λ s. (kinds : List Kind) → IsTargetStop matrix.now kinds s) }
+    {
+        if let Some(number) = self.pool.find(matrix, &self.asked, g, sign_of_kind(kind)) {
+            if number < self.pool.rays.len() {
+                return Ok(clear(matrix, &self.pool.rays[number].marks, marks, g));
+            }
+        }
+        if self.ask_aside(alloc, matrix, g, kind)? {
+            return Ok(clear(matrix, &self.ray, marks, g));
+        }
+        Ok(false)
+    }
+
+    // Gives the marked vector the sign of this kind at g. The answer is whether there is a vector for it.
+    fn lay_by(
+        &mut self,
+        alloc: Global,
+        matrix: &Matrix,
+        marks: &mut [Bits],
+        g: usize,
+        kind: Kind,
+    ) -> Result<bool, Stop>
+        requires finder { IsFinder matrix.now self.old }
+        requires marks { AreRowMarks matrix.now marks.old }
+        requires goal { g < width matrix.now }
+        requires asked { is_signed kind ≡ true }
+        ensures finder { OnOk result (IsFinder matrix.now self.new) }
+        ensures marks { OnOk result (AreRowMarks matrix.now marks.new) }
+        ensures stop { IfErr result (λ s. (kinds : List Kind) → IsTargetStop matrix.now kinds s) }
+    {
+        if let Some(number) = self.pool.find(matrix, &self.asked, g, sign_of_kind(kind)) {
+            if number < self.pool.rays.len() {
+                lay(matrix, &self.pool.rays[number].marks, marks);
+                return Ok(true);
+            }
+        }
+        if self.ask_aside(alloc, matrix, g, kind)? {
+            lay(matrix, &self.ray, marks);
+            return Ok(true);
+        }
+        Ok(false)
+    }
+
+    // Makes the marked vector 0 at g, if there are vectors for it. The answer is whether there are.
+    fn clear_at(
+        &mut self,
+        alloc: Global,
+        matrix: &Matrix,
+        marks: &mut [Bits],
+        g: usize,
+    ) -> Result<bool, Stop>
+        requires finder { IsFinder matrix.now self.old }
+        requires marks { AreRowMarks matrix.now marks.old }
+        requires goal { g < width matrix.now }
+        ensures finder { OnOk result (IsFinder matrix.now self.new) }
+        ensures marks { OnOk result (AreRowMarks matrix.now marks.new) }
+        ensures stop { IfErr result (λ s. (kinds : List Kind) → IsTargetStop matrix.now kinds s) }
+    {
+        match mark_at(marks, g) {
+            Mark::Zero => Ok(true),
+            Mark::Plus => self.clear_by(alloc, matrix, marks, g, Kind::Neg),
+            Mark::Minus => self.clear_by(alloc, matrix, marks, g, Kind::Pos),
+            Mark::Any => {
+                if !self.lay_by(alloc, matrix, marks, g, Kind::Pos)? {
+                    return Ok(false);
+                }
+                self.clear_by(alloc, matrix, marks, g, Kind::Neg)
+            }
+        }
+    }
+
+    // Gives the marked vector this sign at g by a vector that is kept. The answer is whether one is kept.
+    fn serve_at(
+        &mut self,
+        matrix: &Matrix,
+        asked: &[Bits],
+        marks: &mut [Bits],
+        g: usize,
+        sign: Sign,
+    ) -> bool
+        requires finder { IsFinder matrix.now self.old }
+        requires marks { AreRowMarks matrix.now marks.old }
         ensures finder { IsFinder matrix.now self.new }
         ensures marks { AreRowMarks matrix.now marks.new }
     {
-        if let Some(number) = self.pool.find(matrix, &self.asked, g, sign) {
+        if let Some(number) = self.pool.find(matrix, asked, g, sign) {
             if number < self.pool.rays.len() {
                 lay(matrix, &self.pool.rays[number].marks, marks);
                 return true;
@@ -247,25 +356,49 @@ impl Finder {
         false
     }
 
-    // Makes the marked vector 0 at g, if kept vectors can. The answer is whether they do.
-    fn clear_at(&mut self, matrix: &Matrix, marks: &mut [Bits], g: usize) -> bool
+    // Gives the marked vector the signs that are asked at the coordinates of a word, by vectors that are
+    // kept. The answer is whether such are kept.
+    fn serve_word(&mut self, matrix: &Matrix, asked: &[Bits], marks: &mut [Bits], w: usize) -> bool
         requires finder { IsFinder matrix.now self.old }
+        requires word { w < length asked.now }
+        requires asked { length asked.now ≡ word_count matrix.now }
         requires marks { AreRowMarks matrix.now marks.old }
-        requires goal { g < width matrix.now }
         ensures finder { IsFinder matrix.now self.new }
         ensures marks { AreRowMarks matrix.now marks.new }
     {
-        match mark_at(marks, g) {
-            Mark::Zero => true,
-            Mark::Plus => self.clear_by(matrix, marks, g, Sign::Minus),
-            Mark::Minus => self.clear_by(matrix, marks, g, Sign::Plus),
-            Mark::Any => {
-                if !self.lay_by(matrix, marks, g, Sign::Plus) {
+        let _ = matrix.rows();
+        let bits = asked[w];
+        let mut rest = misfits(bits, marks[w]);
+        'places: while rest != 0 {
+            let i = rest.trailing_zeros() as usize;
+            if has_bit(misfits(bits, marks[w]), i) {
+                if !self.serve_at(matrix, asked, marks, 64 * w + i, sign_asked(bits, i)) {
                     return false;
                 }
-                self.clear_by(matrix, marks, g, Sign::Minus)
+            }
+            rest = rest & (rest - 1);
+        }
+        true
+    }
+
+    // Gives the marked vector the signs that are asked by vectors that are kept, unless some coordinate
+    // has to be made 0. The answer is whether such are kept.
+    fn serve(&mut self, matrix: &Matrix, asked: &[Bits], marks: &mut [Bits]) -> bool
+        requires finder { IsFinder matrix.now self.old }
+        requires asked { length asked.now ≡ word_count matrix.now }
+        requires marks { AreRowMarks matrix.now marks.old }
+        ensures finder { IsFinder matrix.now self.new }
+        ensures marks { AreRowMarks matrix.now marks.new }
+    {
+        if has_zero_misfit(asked, marks) {
+            return false;
+        }
+        for w in 0..asked.len() {
+            if !self.serve_word(matrix, asked, marks, w) {
+                return false;
             }
         }
+        true
     }
 
     // Lists the coordinates whose marks do not suit what is asked, which it keeps, and frees these. The
@@ -294,27 +427,99 @@ impl Finder {
         Ok(zeros != 0)
     }
 
-    // Makes the marked vector 0 at the misfits that have to be, if kept vectors can. The answer is
-    // whether they do.
-    fn clear_misfits(&mut self, matrix: &Matrix, kinds: &[Kind], marks: &mut [Bits]) -> bool
+    // Frees the misfits for vectors that change them.
+    fn loosen(&mut self, _matrix: &Matrix, kinds: &[Kind])
+        requires finder { IsFinder _matrix.now self.old }
+        requires kinds { length kinds.now ≡ width _matrix.now }
+        ensures finder { IsFinder _matrix.now self.new }
+    {
+        self.aside.copy_from_slice(kinds);
+        free_at(&mut self.aside, &self.misfits);
+    }
+
+    // Makes the marked vector 0 at a misfit that has to be. The answer is whether there are vectors for it.
+    fn clear_misfit(
+        &mut self,
+        alloc: Global,
+        matrix: &Matrix,
+        marks: &mut [Bits],
+        g: usize,
+    ) -> Result<bool, Stop>
+        requires finder { IsFinder matrix.now self.old }
+        requires marks { AreRowMarks matrix.now marks.old }
+        requires goal { g < width matrix.now }
+        ensures finder { OnOk result (IsFinder matrix.now self.new) }
+        ensures marks { OnOk result (AreRowMarks matrix.now marks.new) }
+        ensures stop { IfErr result (λ s. (kinds : List Kind) → IsTargetStop matrix.now kinds s) }
+    {
+        if !self.clear_at(alloc, matrix, marks, g)? {
+            return Ok(false);
+        }
+        ask_zero(&mut self.asked, g);
+        self.aside[g] = Kind::Zero;
+        Ok(true)
+    }
+
+    // Makes the marked vector 0 at the misfits that have to be. The answer is whether there are vectors
+    // for it.
+    fn clear_misfits(
+        &mut self,
+        alloc: Global,
+        matrix: &Matrix,
+        kinds: &[Kind],
+        marks: &mut [Bits],
+    ) -> Result<bool, Stop>
         requires finder { IsFinder matrix.now self.old }
         requires kinds { length kinds.now ≡ width matrix.now }
         requires marks { AreRowMarks matrix.now marks.old }
-        ensures finder { IsFinder matrix.now self.new }
-        ensures marks { AreRowMarks matrix.now marks.new }
+        ensures finder { OnOk result (IsFinder matrix.now self.new) }
+        ensures marks { OnOk result (AreRowMarks matrix.now marks.new) }
+        ensures stop { IfErr result (λ s. (kinds : List Kind) → IsTargetStop matrix.now kinds s) }
     {
         for i in 0..self.misfits.len() {
             if i < self.misfits.len() {
                 let g = self.misfits[i];
                 if g < kinds.len() && kinds[g] == Kind::Zero {
-                    if !self.clear_at(matrix, marks, g) {
-                        return false;
+                    if !self.clear_misfit(alloc, matrix, marks, g)? {
+                        return Ok(false);
                     }
-                    ask_zero(&mut self.asked, g);
                 }
             }
         }
-        true
+        Ok(true)
+    }
+
+    // Makes the marked vector 0 at the misfits that have to be, or begins with the vector 0, or finds a
+    // vector by which the system has no solution.
+    fn clear_zeros(
+        &mut self,
+        alloc: Global,
+        matrix: &Matrix,
+        kinds: &[Kind],
+        bits: &[Bits],
+        marks: &mut [Bits],
+    ) -> Result<Option<Cut>, Stop>
+        requires finder { IsFinder matrix.now self.old }
+        requires kinds { length kinds.now ≡ width matrix.now }
+        requires bits { length bits.now ≡ word_count matrix.now }
+        requires marks { AreRowMarks matrix.now marks.old }
+        ensures finder { OnOk result (IsFinder matrix.now self.new) }
+        ensures marks { OnOk result (AreRowMarks matrix.now marks.new) }
+        ensures answer { MatchResult result
+            (λ o. MatchOption o (Unit {0})
+            (λ cut. IsCutBy self.new.solver.matrix self.new.solver.basis kinds.now cut.row
+            cut.sign)) (λ s. IsTargetStop matrix.now kinds.now s) }
+    {
+        self.loosen(matrix, kinds);
+        if self.clear_misfits(alloc, matrix, kinds, marks)? {
+            return Ok(None);
+        }
+        put_zeros(matrix, marks);
+        if let Some(cut) = self.raise_misfits(alloc, matrix, kinds, marks)? {
+            return Ok(Some(cut));
+        }
+        let _ = self.list_misfits(matrix, bits, marks)?;
+        Ok(None)
     }
 
     // Changes the marked vector until it suits the kinds, or finds a vector by which the system has no solution.
@@ -337,17 +542,52 @@ impl Finder {
             (λ cut. IsCutBy self.new.solver.matrix self.new.solver.basis kinds.now cut.row
             cut.sign)) (λ s. IsTargetStop matrix.now kinds.now s) }
     {
-        if self.list_misfits(matrix, bits, marks)? {
-            if !self.clear_misfits(matrix, kinds, marks) {
-                put_zeros(matrix, marks);
-                if let Some(cut) = self.raise_misfits(alloc, matrix, kinds, marks)? {
-                    return Ok(Some(cut));
-                }
-                let _ = self.list_misfits(matrix, bits, marks)?;
-            }
+        if !self.list_misfits(matrix, bits, marks)? {
+            return self.raise_misfits(alloc, matrix, kinds, marks);
+        }
+        if let Some(cut) = self.clear_zeros(alloc, matrix, kinds, bits, marks)? {
+            return Ok(Some(cut));
         }
         self.raise_misfits(alloc, matrix, kinds, marks)
     }
+}
+
+// Frees these coordinates.
+fn free_at(kinds: &mut [Kind], places: &[usize])
+    ensures { length kinds.new ≡ length kinds.old }
+{
+    for i in 0..places.len() {
+        let k = places[i];
+        if k < kinds.len() {
+            kinds[k] = Kind::Free;
+        }
+    }
+}
+
+// Whether one of 64 bits is 1.
+fn has_bit(word: u64, i: usize) -> bool {
+    i < 64 && (word >> i) & 1 == 1
+}
+
+// The sign that is asked at one of 64 coordinates, which has to have one.
+fn sign_asked(bits: Bits, i: usize) -> Sign {
+    if has_bit(bits.plus, i) {
+        Sign::Plus
+    } else {
+        Sign::Minus
+    }
+}
+
+// Whether the marked vector is not 0 where it has to be.
+fn has_zero_misfit(asked: &[Bits], marks: &[Bits]) -> bool {
+    if asked.len() != marks.len() {
+        return true;
+    }
+    let mut wrong = 0;
+    for w in 0..asked.len() {
+        wrong = wrong | (asked[w].plus & asked[w].minus & (marks[w].plus | marks[w].minus));
+    }
+    wrong != 0
 }
 
 // Asks for 0 at a coordinate.
@@ -374,6 +614,7 @@ impl Part {
         Ok(Part {
             finder: Finder::new(alloc, matrix)?,
             past: empty_cuts(alloc, matrix, choices)?,
+            columns: Vec::new(alloc),
         })
     }
 
@@ -398,6 +639,18 @@ impl Part {
         Ok(None)
     }
 
+    // Keeps the columns of the matrix, if none are kept.
+    fn keep_columns(&mut self, alloc: Global, matrix: &Matrix) -> Result<(), NoMemory>
+        requires { IsPart matrix.now self.old }
+        ensures { OnOk result (IsPart matrix.now self.new) }
+    {
+        if !self.columns.is_empty() {
+            return Ok(());
+        }
+        self.columns = columns_of(alloc, matrix)?;
+        Ok(())
+    }
+
     // The multipliers of the vector by which the system has no solution. They are kept.
     fn learn_cut(
         &mut self,
@@ -415,7 +668,8 @@ impl Part {
         ensures cut { IfOk result (λ u. IsSmallCut matrix.now kinds.now u.value.list) }
     {
         let u = self.finder.solver.multipliers(kinds, cut)?;
-        let past = Past::new(alloc, matrix, kinds, u)?;
+        self.keep_columns(alloc, matrix)?;
+        let past = Past::new(alloc, matrix, &self.columns, kinds, u)?;
         let u = share(&past.multipliers)?;
         keep_cut(alloc, &mut self.past, matrix, past, depth)?;
         Ok(u)
@@ -443,6 +697,10 @@ impl Part {
         ensures answer { MatchResult result (λ u. IsRuling matrix.now kinds.now u)
             (λ s. IsTargetStop matrix.now kinds.now s) }
     {
+        if self.finder.serve(matrix, asked, marks) && is_met(matrix, kinds, asked, marks) {
+            *suits = true;
+            return Ok(None);
+        }
         if let Some(cut) = self.finder.seek(alloc, matrix, kinds, asked, marks)? {
             return Ok(Some(self.learn_cut(alloc, matrix, kinds, &cut, depth)?));
         }
@@ -458,10 +716,30 @@ impl Part {
         }
     }
 
+    /// Past multipliers that rule the system of a prefix of this length out, if some do.
+    pub fn known_cut(
+        &mut self,
+        matrix: &Matrix,
+        place: &Place,
+        depth: usize,
+    ) -> Result<Option<Rc<Ints>>, NoMemory>
+        requires part { IsPart matrix.now self.old }
+        requires place { IsPlace matrix.now place.now }
+        ensures part { IsPart matrix.now self.new }
+        ensures cut { IfOk result (λ o. MatchOption o (Unit {0})
+            (λ u. IsSmallCut matrix.now place.now.kinds.items u.value.list)) }
+    {
+        if place.suits {
+            return Ok(None);
+        }
+        let u = self.past_cut(matrix, &place.kinds, &place.asked, depth)?;
+        Ok(u)
+    }
+
     /// Multipliers that rule the system of a prefix of this length out, or none if it has a solution.
     ///
-    /// If the marks of the vector that served one level above do not suit, it tries past multipliers,
-    /// changes that vector by past ones, and asks the solver for the rest.
+    /// If the marks of the vector that served one level above do not suit, it changes that vector by past
+    /// ones, and asks the solver for the rest.
     pub fn ruled_out(
         &mut self,
         alloc: Global,
@@ -480,9 +758,6 @@ impl Part {
         if place.suits {
             place.has_solution(matrix);
             return Ok(None);
-        }
-        if let Some(u) = self.past_cut(matrix, &place.kinds, &place.asked, depth)? {
-            return Ok(Some(u));
         }
         let u = self.decide(
             alloc,

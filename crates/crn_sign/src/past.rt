@@ -1,15 +1,17 @@
 ghost use Rattle.std.specs.Prelude.{◌≡◌, ◌≢◌, ◌<◌, ◌≤◌, ◌+◌, ◌*ℤ◌, ◌↔◌, ℕ, ℤ, List, pos, neg_ℤ, length, drop, false, true, unsigned_abs, IsTrue, IfOk, OnOk, MatchOption};
-ghost use Rattle.crn_vec.specs.Vectors.{AreWithin, Mat, HasSign, column, entry, scale};
+ghost use Rattle.crn_vec.specs.Vectors.{Mat, HasSign, entry, scale};
 ghost use Rattle.crn_vec.specs.Elementary.{InDualSpace, width};
 ghost use Rattle.crn_vec.specs.Systems.{MayWeigh, is_signed};
-ghost use Rattle.crn_vec.specs.declared.limits.TheConstants.{MAX_AMOUNT, WIDE_ENTRY};
+ghost use Rattle.crn_vec.specs.declared.limits.TheConstants.{WIDE_ENTRY};
 ghost use Rattle.crn_farkas.specs.Decision.{IsSmallCut, factor};
+ghost use Rattle.crn_sign.specs.Inner.Columns.{AreColumns};
 ghost use Rattle.crn_sign.specs.Inner.Past.{AllWeigh, AreInside, IsPast, SignsBefore, SomeCounts};
 ghost use Rattle.crn_sign.specs.Inner.PastCuts.{AreAllPast, ArePastCuts, IsPastOf};
 
 use crate::bits::{Bits, NONE, put_mark};
+use crate::columns::{Column, column_product};
 use crate::marks::{mark_of_sign, word_count};
-use crn_vec::{Ints, Kind, Matrix, NoMemory, Sign, dot, sign_of};
+use crn_vec::{Ints, Kind, Matrix, NoMemory, Sign, sign_of};
 use std::alloc::Global;
 use std::rc::Rc;
 
@@ -22,12 +24,14 @@ pub(crate) struct Past {
     pub places: Vec<(usize, Sign)>,
 }
 
-/// The number of multipliers, and the signs of their list by bits. It decides only what is tried, and
-/// in which order.
+/// The number of multipliers, the signs of their list by bits, and the word of these that refused them
+/// and their negatives last. It decides only what is tried, and in which order.
 #[derive(Drop)]
 pub(crate) struct Trial {
     pub number: usize,
     pub bits: Vec<Bits>,
+    pub word: usize,
+    pub here: Bits,
 }
 
 /// What ruled systems of prefixes of one length out.
@@ -109,21 +113,15 @@ fn some_counts(kinds: &[Kind], places: &[(usize, Sign)]) -> bool
     }
 }
 
-// The entries of a column.
-fn column_of(alloc: Global, matrix: &Matrix, col: usize) -> Result<Ints, NoMemory>
-    requires { col < matrix.now.cols }
-    ensures column { IfOk result (λ made. made.list ≡ column matrix.now.rows col) }
-    ensures small { IfOk result (λ made. AreWithin MAX_AMOUNT made.list) }
-{
-    let mut made = Ints::with_room(alloc, matrix.rows())?;
-    for row in 0..matrix.rows() {
-        made.push(matrix.entry(row, col))?;
-    }
-    Ok(made)
-}
-
 // The sign of the list (-uA, u) at a coordinate.
-fn sign_at(alloc: Global, matrix: &Matrix, u: &[i128], c: usize) -> Result<Sign, NoMemory>
+fn sign_at(
+    alloc: Global,
+    matrix: &Matrix,
+    columns: &[Column],
+    u: &[i128],
+    c: usize,
+) -> Result<Sign, NoMemory>
+    requires columns { AreColumns matrix.now columns.now }
     requires long { length u.now ≡ length matrix.now.rows }
     requires small { (k : ℕ) → unsigned_abs (entry u.now k) < WIDE_ENTRY }
     requires inside { c < width matrix.now }
@@ -133,8 +131,8 @@ fn sign_at(alloc: Global, matrix: &Matrix, u: &[i128], c: usize) -> Result<Sign,
     let cols = matrix.cols();
     let _ = matrix.rows();
     if c < cols {
-        let column = column_of(alloc, matrix, c)?;
-        return Ok(opposite(sign_of(dot(u, column.as_slice()))));
+        let sum = column_product(alloc, matrix, columns, u, c)?;
+        return Ok(opposite(sign_of(sum)));
     }
     Ok(sign_of(u[c - cols]))
 }
@@ -156,7 +154,13 @@ pub(crate) fn note(places: &mut Vec<(usize, Sign)>, c: usize, sign: Sign) -> Res
 }
 
 // The places and signs of the list (-uA, u).
-fn places_of(alloc: Global, matrix: &Matrix, u: &[i128]) -> Result<Vec<(usize, Sign)>, NoMemory>
+fn places_of(
+    alloc: Global,
+    matrix: &Matrix,
+    columns: &[Column],
+    u: &[i128],
+) -> Result<Vec<(usize, Sign)>, NoMemory>
+    requires columns { AreColumns matrix.now columns.now }
     requires long { length u.now ≡ length matrix.now.rows }
     requires small { (k : ℕ) → unsigned_abs (entry u.now k) < WIDE_ENTRY }
     ensures inside { IfOk result (λ made. AreInside (width matrix.now) made.items) }
@@ -165,7 +169,7 @@ fn places_of(alloc: Global, matrix: &Matrix, u: &[i128]) -> Result<Vec<(usize, S
 {
     let mut places = Vec::new(alloc);
     for c in 0..matrix.cols() + matrix.rows() {
-        let sign = sign_at(alloc, matrix, u, c)?;
+        let sign = sign_at(alloc, matrix, columns, u, c)?;
         note(&mut places, c, sign)?;
     }
     Ok(places)
@@ -213,13 +217,20 @@ pub(crate) fn share(list: &Rc<Ints>) -> Result<Rc<Ints>, NoMemory>
 
 impl Past {
     /// Keeps multipliers that rule a system of the matrix out.
-    pub fn new(alloc: Global, matrix: &Matrix, _kinds: &[Kind], u: Ints) -> Result<Past, NoMemory>
-        requires { IsSmallCut matrix.now _kinds.now u.list }
+    pub fn new(
+        alloc: Global,
+        matrix: &Matrix,
+        columns: &[Column],
+        _kinds: &[Kind],
+        u: Ints,
+    ) -> Result<Past, NoMemory>
+        requires columns { AreColumns matrix.now columns.now }
+        requires cut { IsSmallCut matrix.now _kinds.now u.list }
         ensures past { IfOk result (λ made. IsPastOf matrix.now made) }
         ensures multipliers { IfOk result (λ made. made.multipliers.value ≡ u) }
     {
         Ok(Past {
-            places: places_of(alloc, matrix, u.as_slice())?,
+            places: places_of(alloc, matrix, columns, u.as_slice())?,
             negatives: shared(alloc, negatives(alloc, u.as_slice())?)?,
             multipliers: shared(alloc, u)?,
         })
@@ -353,20 +364,49 @@ pub(crate) fn keep_cut(
     if depth < past.len() {
         let number = past[depth].items.len();
         let bits = bits_of(alloc, &cut.places, word_count(matrix))?;
-        past[depth].trials.push(Trial { number, bits })?;
+        past[depth].trials.push(Trial {
+            number,
+            bits,
+            word: 0,
+            here: NONE,
+        })?;
         past[depth].items.push(cut)?;
     }
     Ok(())
 }
 
+// Whether neither the multipliers nor their negatives may be weighed where this is asked.
+fn are_refused(asked: Bits, bits: Bits) -> bool {
+    is_refused(asked, bits.plus, bits.minus) && is_refused(asked, bits.minus, bits.plus)
+}
+
+// Whether the word that refused multipliers and their negatives last does so again.
+fn are_refused_again(asked: &[Bits], trial: &Trial) -> bool {
+    trial.word < asked.len() && are_refused(asked[trial.word], trial.here)
+}
+
+// Keeps a word that refuses multipliers and their negatives, if one does.
+fn keep_refusing(asked: &[Bits], trial: &mut Trial) {
+    for w in 0..asked.len() {
+        if w < trial.bits.len() && are_refused(asked[w], trial.bits[w]) {
+            trial.word = w;
+            trial.here = trial.bits[w];
+            return;
+        }
+    }
+}
+
 // Which of the multipliers may rule a system out, and whether they stay as they are.
 fn first_near(asked: &[Bits], trials: &mut [Trial]) -> Option<(usize, bool)> {
     for i in 0..trials.len() {
-        let (near, negatives_near) = are_near(asked, &trials[i].bits);
-        if (near | negatives_near) && some_count(asked, &trials[i].bits) {
-            let number = trials[i].number;
-            trials.swap(i / 2, i);
-            return Some((number, near));
+        if !are_refused_again(asked, &trials[i]) {
+            let (near, negatives_near) = are_near(asked, &trials[i].bits);
+            if (near | negatives_near) && some_count(asked, &trials[i].bits) {
+                let number = trials[i].number;
+                trials.swap(i / 2, i);
+                return Some((number, near));
+            }
+            keep_refusing(asked, &mut trials[i]);
         }
     }
     None

@@ -71,10 +71,9 @@ impl Place {
     {
         self.kinds[k] = kind;
         put_mark(&mut self.asked, k, mark_of_kind(kind));
-        if suits(kind, mark_at(&self.marks, k)) {
-            return;
+        if self.suits && !suits(kind, mark_at(&self.marks, k)) {
+            self.suits = false;
         }
-        self.suits = false;
     }
 }
 

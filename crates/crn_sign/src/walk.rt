@@ -1,12 +1,14 @@
-ghost use Rattle.std.specs.Prelude.{◌≡◌, ◌≤◌, ◌<◌, ◌-◌, ◌++◌, ◌∷◌, [], ◌↔◌, ℕ, ℤ, List, length, true, false, IsTrue, IfOk, OnOk, MatchResult};
+ghost use Rattle.std.specs.Prelude.{◌≡◌, ◌≤◌, ◌<◌, ◌-◌, ◌++◌, ◌∷◌, [], ◌↔◌, ℕ, ℤ, List, length, true, false, IsTrue, IfOk, IfErr, OnOk, MatchOption, MatchResult};
 ghost use Rattle.crn_vec.specs.Systems.{IsSolution};
 ghost use Rattle.crn_vec.specs.Kept.{KeptInts};
+ghost use Rattle.crn_cert.specs.Trees.{plan};
+ghost use Rattle.crn_farkas.specs.Decision.{IsSmallCut};
 ghost use Rattle.crn_vec.specs.declared.limits.TheConstants.{MAX_BUDGET};
 ghost use Rattle.crn_vec.specs.Elementary.{NamesWide};
 ghost use Rattle.crn_vec.specs.Problems.{IsFull, IsFeasible, IsLawful, IsPrefix, all_zero};
 ghost use Rattle.crn_vec.specs.declared.signs.Sign.{Sign};
 ghost use Rattle.crn_sign.specs.Search.{IsSearchEnd, IsSearchStop};
-ghost use Rattle.crn_sign.specs.Inner.Walk.{EndsAt, EndsBelow, IsFoundAt, IsWideA, IsWideB};
+ghost use Rattle.crn_sign.specs.Inner.Walk.{EndsAt, EndsBelow, IsFoundAt, IsLeafAt, IsLeafOrNone, IsWideA, IsWideB, end_of};
 ghost use Rattle.crn_sign.specs.Inner.Parts.{IsRuling};
 ghost use Rattle.crn_sign.specs.Inner.Places.{IsHere};
 ghost use Rattle.crn_sign.specs.Inner.Ready.{AreRooms, HasRooms, IsLevel, IsReady, SamePlace};
@@ -39,6 +41,22 @@ pub(crate) struct Level {
     pub b: Place,
 }
 
+/// A full feasible prefix, with solutions of both its parts.
+#[derive(Drop)]
+pub(crate) struct FullPrefix {
+    pub pattern: Signs,
+    pub a: Ints,
+    pub b: Ints,
+}
+
+/// How the visits of a prefix, and of all below it, ended. It is small, since each visit passes one on.
+#[derive(Drop)]
+pub(crate) enum Ending {
+    Found(Box<FullPrefix>),
+    Refuted(Tree),
+    Spent,
+}
+
 // The stop of part A's solver as the stop of the search.
 fn wide_a(stop: Stop) -> SearchStop
     ensures { IsWideA stop result }
@@ -69,6 +87,71 @@ fn is_all_zero(prefix: &[Sign]) -> bool
         }
     }
     true
+}
+
+// Past multipliers that rule part A of the prefix out, if some do.
+fn known_cut_a<P: SignProblem>(
+    problem: &P,
+    search: &mut Progress,
+    here: &Place,
+) -> Result<Option<Rc<Ints>>, SearchStop>
+    requires ready { IsReady (P.signed problem.now) search.old }
+    requires here { IsHere (P.signed problem.now).matrix_a
+        ((P.signed problem.now).kinds_a search.old.prefix.items) here.now }
+    ensures place { OnOk result (SamePlace search.old search.new) }
+    ensures ready { OnOk result (IsReady (P.signed problem.now) search.new) }
+    ensures cut { IfOk result (λ o. MatchOption o (Unit {0})
+        (λ u. IsSmallCut (P.signed problem.now).matrix_a
+        ((P.signed problem.now).kinds_a search.old.prefix.items) u.value.list)) }
+    ensures stop { IfErr result (λ s. IsSearchStop (P.signed problem.now) s) }
+{
+    let depth = search.prefix.len();
+    let u = search.a.known_cut(problem.matrix_a(), here, depth)?;
+    Ok(u)
+}
+
+// Past multipliers that rule part B of the prefix out, if some do.
+fn known_cut_b<P: SignProblem>(
+    problem: &P,
+    search: &mut Progress,
+    here: &Place,
+) -> Result<Option<Rc<Ints>>, SearchStop>
+    requires ready { IsReady (P.signed problem.now) search.old }
+    requires here { IsHere (P.signed problem.now).matrix_b
+        ((P.signed problem.now).kinds_b search.old.prefix.items) here.now }
+    ensures place { OnOk result (SamePlace search.old search.new) }
+    ensures ready { OnOk result (IsReady (P.signed problem.now) search.new) }
+    ensures cut { IfOk result (λ o. MatchOption o (Unit {0})
+        (λ u. IsSmallCut (P.signed problem.now).matrix_b
+        ((P.signed problem.now).kinds_b search.old.prefix.items) u.value.list)) }
+    ensures stop { IfErr result (λ s. IsSearchStop (P.signed problem.now) s) }
+{
+    let depth = search.prefix.len();
+    let u = search.b.known_cut(problem.matrix_b(), here, depth)?;
+    Ok(u)
+}
+
+// A leaf for the prefix by past multipliers of a part, if some rule it out. No solver is asked.
+fn known_leaf<P: SignProblem>(
+    problem: &P,
+    search: &mut Progress,
+    here: &Level,
+) -> Result<Option<Tree>, SearchStop>
+    requires ready { IsReady (P.signed problem.now) search.old }
+    requires here { IsLevel (P.signed problem.now) search.old.prefix.items here.now }
+    ensures place { OnOk result (SamePlace search.old search.new) }
+    ensures ready { OnOk result (IsReady (P.signed problem.now) search.new) }
+    ensures leaf { IfOk result (λ o. MatchOption o (Unit {0})
+        (λ tree. IsLeafAt (P.signed problem.now) search.old.prefix.items (plan tree))) }
+    ensures stop { IfErr result (λ s. IsSearchStop (P.signed problem.now) s) }
+{
+    if let Some(u) = known_cut_b(problem, search, &here.b)? {
+        return Ok(Some(Tree::CutB(u)));
+    }
+    if let Some(u) = known_cut_a(problem, search, &here.a)? {
+        return Ok(Some(Tree::CutA(u)));
+    }
+    Ok(None)
 }
 
 // Multipliers that rule part A of the prefix out, or none if it has a solution.
@@ -123,13 +206,43 @@ fn rule_out_b<P: SignProblem>(
     }
 }
 
+// A leaf for the prefix, or none if both its parts have solutions. What is known of either part is tried
+// before the solver of one is asked.
+fn rule_out<P: SignProblem>(
+    alloc: Global,
+    problem: &P,
+    search: &mut Progress,
+    here: &mut Level,
+) -> Result<Option<Tree>, SearchStop>
+    requires ready { IsReady (P.signed problem.now) search.old }
+    requires here { IsLevel (P.signed problem.now) search.old.prefix.items here.old }
+    ensures place { OnOk result (SamePlace search.old search.new) }
+    ensures ready { OnOk result (IsReady (P.signed problem.now) search.new) }
+    ensures here { OnOk result
+        (IsLevel (P.signed problem.now) search.old.prefix.items here.new) }
+    ensures answer { MatchResult result
+        (λ o. IsLeafOrNone (P.signed problem.now) search.old.prefix.items o)
+        (λ s. IsSearchStop (P.signed problem.now) s) }
+{
+    if let Some(tree) = known_leaf(problem, search, here)? {
+        return Ok(Some(tree));
+    }
+    if let Some(u) = rule_out_b(alloc, problem, search, &mut here.b)? {
+        return Ok(Some(Tree::CutB(u)));
+    }
+    if let Some(u) = rule_out_a(alloc, problem, search, &mut here.a)? {
+        return Ok(Some(Tree::CutA(u)));
+    }
+    Ok(None)
+}
+
 // The full prefix, which is feasible, with solutions of its parts.
 fn found_end<P: SignProblem>(
     alloc: Global,
     problem: &P,
     search: &mut Progress,
     here: &Level,
-) -> Result<SearchEnd, SearchStop>
+) -> Result<Ending, SearchStop>
     requires ready { IsReady (P.signed problem.now) search.old }
     requires here { IsLevel (P.signed problem.now) search.old.prefix.items here.now }
     requires full { IsFull (P.signed problem.now) search.old.prefix.items }
@@ -149,7 +262,10 @@ fn found_end<P: SignProblem>(
         Ok(b) => b,
         Err(stop) => return Err(wide_b(stop)),
     };
-    Ok(SearchEnd::Found { pattern, a, b })
+    match Box::new(alloc, FullPrefix { pattern, a, b }) {
+        Ok(found) => Ok(Ending::Found(found)),
+        Err(_) => Err(SearchStop::NoMemory),
+    }
 }
 
 // What both parts know at a prefix, from what they know at the prefix with one choice less.
@@ -186,7 +302,7 @@ fn child<P: SignProblem>(
     above: &Level,
     levels: &mut [Level],
     option: Sign,
-) -> Result<SearchEnd, SearchStop>
+) -> Result<Ending, SearchStop>
     requires ready { IsReady (P.signed problem.now) search.old }
     requires room { length search.old.prefix.items < (P.signed problem.now).choices }
     requires above { IsLevel (P.signed problem.now) search.old.prefix.items above.now }
@@ -218,7 +334,7 @@ fn split<P: SignProblem>(
     search: &mut Progress,
     here: &Level,
     levels: &mut [Level],
-) -> Result<SearchEnd, SearchStop>
+) -> Result<Ending, SearchStop>
     requires ready { IsReady (P.signed problem.now) search.old }
     requires room { length search.old.prefix.items < (P.signed problem.now).choices }
     requires here { IsLevel (P.signed problem.now) search.old.prefix.items here.now }
@@ -234,23 +350,23 @@ fn split<P: SignProblem>(
 {
     let zeros = is_all_zero(&search.prefix);
     let zero = match child(alloc, problem, search, here, levels, Sign::Zero)? {
-        SearchEnd::Refuted(tree) => tree,
+        Ending::Refuted(tree) => tree,
         end => return Ok(end),
     };
     let plus = match child(alloc, problem, search, here, levels, Sign::Plus)? {
-        SearchEnd::Refuted(tree) => tree,
+        Ending::Refuted(tree) => tree,
         end => return Ok(end),
     };
     if zeros {
         let tree = Tree::both(alloc, zero, plus)?;
-        return Ok(SearchEnd::Refuted(tree));
+        return Ok(Ending::Refuted(tree));
     }
     let minus = match child(alloc, problem, search, here, levels, Sign::Minus)? {
-        SearchEnd::Refuted(tree) => tree,
+        Ending::Refuted(tree) => tree,
         end => return Ok(end),
     };
     let tree = Tree::three(alloc, zero, plus, minus)?;
-    Ok(SearchEnd::Refuted(tree))
+    Ok(Ending::Refuted(tree))
 }
 
 // Visits a prefix, and all that is visited below it.
@@ -261,7 +377,7 @@ pub(crate) fn walk<P: SignProblem>(
     search: &mut Progress,
     here: &mut Level,
     levels: &mut [Level],
-) -> Result<SearchEnd, SearchStop>
+) -> Result<Ending, SearchStop>
     requires ready { IsReady (P.signed problem.now) search.old }
     requires here { IsLevel (P.signed problem.now) search.old.prefix.items here.old }
     requires levels { AreRooms (P.signed problem.now) search.old.prefix.items levels.old }
@@ -277,17 +393,14 @@ pub(crate) fn walk<P: SignProblem>(
         (λ s. IsSearchStop (P.signed problem.now) s) }
 {
     if search.left == 0 {
-        return Ok(SearchEnd::Spent);
+        return Ok(Ending::Spent);
     }
     search.left -= 1;
     if problem.closed(&search.prefix) {
-        return Ok(SearchEnd::Refuted(Tree::Flat));
+        return Ok(Ending::Refuted(Tree::Flat));
     }
-    if let Some(u) = rule_out_b(alloc, problem, search, &mut here.b)? {
-        return Ok(SearchEnd::Refuted(Tree::CutB(u)));
-    }
-    if let Some(u) = rule_out_a(alloc, problem, search, &mut here.a)? {
-        return Ok(SearchEnd::Refuted(Tree::CutA(u)));
+    if let Some(tree) = rule_out(alloc, problem, search, here)? {
+        return Ok(Ending::Refuted(tree));
     }
     at_level(problem, search, here);
     if search.prefix.len() == problem.length() {
@@ -354,6 +467,20 @@ fn first_level<P: SignProblem>(alloc: Global, problem: &P) -> Result<Level, NoMe
     Ok(first)
 }
 
+// How a search ended, where its visits ended so.
+fn end_of(end: Ending) -> SearchEnd
+    ensures { result ≡ end_of end }
+{
+    match end {
+        Ending::Found(found) => {
+            let FullPrefix { pattern, a, b } = Box::into_inner(found);
+            SearchEnd::Found { pattern, a, b }
+        }
+        Ending::Refuted(tree) => SearchEnd::Refuted(tree),
+        Ending::Spent => SearchEnd::Spent,
+    }
+}
+
 /// Searches for a full feasible prefix, with at most so many visits.
 ///
 /// Its answer is the first full feasible prefix of the visit list, or a tree with one node for each
@@ -373,5 +500,5 @@ pub fn search<P: SignProblem>(
     let mut first = first_level(alloc, problem)?;
     let mut levels = rooms(alloc, problem)?;
     let end = walk(alloc, problem, &mut search, &mut first, &mut levels)?;
-    Ok(end)
+    Ok(end_of(end))
 }

@@ -12,6 +12,7 @@ use Rattle.crn_farkas.specs.Decision.{IsSmallCut}
 use Rattle.crn_sign.specs.declared.part.Part.{Part}
 use Rattle.crn_sign.specs.declared.part.Finder.{Finder}
 use Rattle.crn_sign.specs.Inner.Bits.{word_count}
+use Rattle.crn_sign.specs.Inner.Columns.{AreColumns}
 use Rattle.crn_sign.specs.Inner.PastCuts.{ArePastCuts}
 use Rattle.crn_sign.specs.Inner.Pools.{IsPool}
 
@@ -24,11 +25,13 @@ pub record IsFinder (a : Mat) (f : Finder) : Type 0 where
   pub negative : length f.negative.items ≡ word_count a
   pub wanted : length f.wanted.items ≡ word_count a
   pub asked : length f.asked.items ≡ word_count a
+  pub aside : length f.aside.items ≡ width a
 
 -- what was found is of this matrix
 pub record IsPart (a : Mat) (p : Part) : Type 0 where
   pub finder : IsFinder a p.finder
   pub past : ArePastCuts a p.past.items
+  pub columns : AreColumns a p.columns.items
 
 -- multipliers that rule the system out, or none where it has a solution
 abbrev pub IsRuling : Mat → List Kind → Option (Rc KeptInts Global) → Type 0

@@ -2,17 +2,20 @@
 -- How the visits of a prefix, of its children and of all below them end.
 -- Shapes: `left` visits are allowed where it begins, and `after` where it ends. `due` lists the
 -- prefixes that are to be visited with all below them.
-use Rattle.std.specs.Prelude.{◌≡◌, ◌+◌, ℕ, true, false, List, [], ◌∷◌, ◌++◌, length}
+use Rattle.std.specs.Prelude.{◌≡◌, ◌+◌, ℕ, ℤ, true, false, List, [], ◌∷◌, ◌++◌, length, Option, None, Some}
 use Rattle.crn_vec.specs.declared.signs.Sign.{Sign}
-use Rattle.crn_vec.specs.Problems.{Signed, children}
+use Rattle.crn_vec.specs.Problems.{Signed, IsFeasible, SolvesA, SolvesB, children}
 use Rattle.crn_vec.specs.Visits.{Visits, Passes}
+use Rattle.crn_cert.specs.declared.tree.Tree.{Tree}
 use Rattle.crn_cert.specs.Trees.{Plan, plan, places}
 use Rattle.crn_farkas.specs.declared.fault.Stop.{Stop}
 use Rattle.crn_farkas.specs.declared.fault.Stop.TheVariants.{Wide, NoMemory as StopMemory}
 use Rattle.crn_sign.specs.declared.end.SearchEnd.{SearchEnd}
-use Rattle.crn_sign.specs.declared.end.SearchEnd.TheVariants.{Found, Refuted, Spent}
+use Rattle.crn_sign.specs.declared.end.SearchEnd.TheVariants.{Found as FoundEnd, Refuted as RefutedEnd, Spent as SpentEnd}
 use Rattle.crn_sign.specs.declared.fault.SearchStop.{SearchStop}
 use Rattle.crn_sign.specs.declared.fault.SearchStop.TheVariants.{WideA, WideB, NoMemory}
+use Rattle.crn_sign.specs.declared.walk.Ending.{Ending}
+use Rattle.crn_sign.specs.declared.walk.Ending.TheVariants.{Found, Refuted, Spent}
 use Rattle.crn_sign.specs.Search.{IsFeasibleBy, IsTreeAt}
 
 -- the visits of what is due end with the full feasible prefix q
@@ -32,10 +35,21 @@ pub record RunsOut (w : Signed) (due : List (List Sign)) (left after : ℕ) : Ty
   pub passes : Passes w due left
   pub none : after ≡ 0
 
+-- a tree of one node that is valid at the prefix, which is not feasible
+pub record IsLeafAt (w : Signed) (p : List Sign) (tree : Plan) : Type 0 where
+  pub tree_at : IsTreeAt w p tree
+  pub one : places p tree ≡ p ∷ []
+  pub none : IsFeasible w p → ⊥
+
+-- a leaf for the prefix, or none where both its parts have solutions
+abbrev pub IsLeafOrNone : Signed → List Sign → Option Tree → Type 0
+IsLeafOrNone w p None = ((x : List ℤ) × SolvesB w p x) × ((x : List ℤ) × SolvesA w p x)
+IsLeafOrNone w p (Some tree) = IsLeafAt w p (plan tree)
+
 -- what the visit of a prefix, and of all below it, ends with
-abbrev pub EndsAt : Signed → List Sign → ℕ → ℕ → SearchEnd → Type 0
-EndsAt w p left after (Found q a b) = IsFeasibleBy w q a.list b.list
-    × EndsWith w (p ∷ []) left after q
+abbrev pub EndsAt : Signed → List Sign → ℕ → ℕ → Ending → Type 0
+EndsAt w p left after (Found f) = IsFeasibleBy w f.value.pattern f.value.a.list f.value.b.list
+    × EndsWith w (p ∷ []) left after f.value.pattern
 EndsAt w p left after (Refuted tree) = IsTreeAt w p (plan tree)
     × EndsWithout w (p ∷ []) (places p (plan tree)) left after
 EndsAt w p left after Spent = RunsOut w (p ∷ []) left after
@@ -47,18 +61,25 @@ pub record BelowRoot (w : Signed) (p : List Sign) (tree : Plan) (left after : �
   pub ends : EndsWithout w (children p) rest left after
 
 -- what the visits of a prefix's children, and of all below them, end with
-abbrev pub EndsBelow : Signed → List Sign → ℕ → ℕ → SearchEnd → Type 0
-EndsBelow w p left after (Found q a b) = IsFeasibleBy w q a.list b.list
-    × EndsWith w (children p) left after q
+abbrev pub EndsBelow : Signed → List Sign → ℕ → ℕ → Ending → Type 0
+EndsBelow w p left after (Found f) = IsFeasibleBy w f.value.pattern f.value.a.list f.value.b.list
+    × EndsWith w (children p) left after f.value.pattern
 EndsBelow w p left after (Refuted tree) = IsTreeAt w p (plan tree)
     × BelowRoot w p (plan tree) left after
 EndsBelow w p left after Spent = RunsOut w (children p) left after
 
 -- the full prefix, with solutions of its parts
-abbrev pub IsFoundAt : Signed → List Sign → SearchEnd → Type 0
-IsFoundAt w p (Found q a b) = (q ≡ p) × IsFeasibleBy w p a.list b.list
+abbrev pub IsFoundAt : Signed → List Sign → Ending → Type 0
+IsFoundAt w p (Found f) = (f.value.pattern ≡ p)
+    × IsFeasibleBy w p f.value.a.list f.value.b.list
 IsFoundAt w p (Refuted tree) = ⊥
 IsFoundAt w p Spent = ⊥
+
+-- how a search ended, where its visits ended so
+abbrev pub end_of : Ending → SearchEnd
+end_of (Found f) = FoundEnd f.value.pattern f.value.a f.value.b
+end_of (Refuted tree) = RefutedEnd tree
+end_of Spent = SpentEnd
 
 -- the stop of part A's solver as the stop of the search
 abbrev pub IsWideA : Stop → SearchStop → Type 0

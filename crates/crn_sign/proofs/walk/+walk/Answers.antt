@@ -1,13 +1,12 @@
-use Rattle.std.proofs.Common.{◌≡◌, ◌+◌, List, [], ◌∷◌, ◌++◌, length, sym, ◌∙◌, ap, subst, arith}
+use Rattle.std.proofs.Common.{◌≡◌, ◌+◌, List, [], ◌∷◌, ◌++◌, length, refl, sym, ◌∙◌, ap, subst, arith}
 use Rattle.crn_vec.specs.declared.signs.Sign.TheVariants.{Zero, Plus, Minus}
-use Rattle.crn_farkas.specs.Decision.{IsSmallCut}
+use Rattle.crn_cert.specs.Trees.{plan}
 use Rattle.crn_sign.specs.Inner.Walk.{EndsAt, EndsBelow, IsFoundAt}
 use Rattle.crn_vec.specs.declared.signs.Sign.{Sign}
 use Rattle.crn_vec.specs.Problems.{Signed, IsFeasible, all_zero}
-use Rattle.crn_sign.specs.Inner.Ready.{AreRooms, IsLevel}
-use Rattle.crn_sign.specs.declared.walk.Level.{Level}
-use Rattle.crn_sign.proofs.PlaceLaws.{level_at, level_moved}
-use Rattle.crn_sign.proofs.Walks.{run_out, feasible_from, flat_at, cut_a_at, cut_b_at, found_at, opened_at, child_tree, first_child, second_child, third_child, both_trees, three_trees, tree_as}
+use Rattle.crn_sign.specs.Inner.Ready.{AreRooms}
+use Rattle.crn_sign.proofs.PlaceLaws.{level_moved}
+use Rattle.crn_sign.proofs.Walks.{run_out, feasible_from, flat_at, leaf_at, found_at, opened_at, child_tree, first_child, second_child, third_child, both_trees, three_trees, tree_as}
 use Rattle.crn_sign.proofs.walk.+walk.Goals as goal
 
 pub walk-returns-then-search-eq0-clause-answer : goal.walk-returns-then-search-eq0-clause-answer
@@ -17,18 +16,6 @@ pub walk-returns-then-closed-clause-answer : goal.walk-returns-then-closed-claus
 walk-returns-then-closed-clause-answer g t c =
     let w : Signed = g.P.SignProblem.signed c.args.problem.now in
     flat_at w c.args.search.now.prefix.items c.args.search.now.left _ (omega arith) (ap (λ (p : List Sign). w.closed p) (sym c.deref.ensures.value) ∙ sym c.closed.ensures ∙ c.if-closed.true)
-
-pub walk-returns-in-Some-clause-answer : goal.walk-returns-in-Some-clause-answer
-walk-returns-in-Some-clause-answer g t c =
-    let d = rw c.in-Some.is at c.in_ok-u.ensures.answer in
-    cut_b_at (g.P.SignProblem.signed c.args.problem.now) c.args.search.now.prefix.items c.in-Some.u.value.list c.args.search.now.left _ (omega (arith, c.in_ok-u.ensures.place.left)) d
-
-pub walk-returns-in-Some-2-clause-answer : goal.walk-returns-in-Some-2-clause-answer
-walk-returns-in-Some-2-clause-answer g t c =
-    let d = rw c.in-Some-2.is at c.in_ok-u-2.ensures.answer in
-    let w : Signed = g.P.SignProblem.signed c.args.problem.now in
-    let e = subst (λ (p : List Sign). IsSmallCut w.matrix_a (w.kinds_a p) c.in-Some-2.u.value.list) c.in_ok-u.ensures.place.prefix d in
-    cut_a_at w c.args.search.now.prefix.items c.in-Some-2.u.value.list c.args.search.now.left _ (omega (arith, c.in_ok-u.ensures.place.left, c.in_ok-u-2.ensures.place.left)) e
 
 pub split-returns-in_default : goal.split-returns-in_default
 split-returns-in_default g t c = record {
@@ -86,59 +73,40 @@ split-returns-clause-answer g t c =
     let m = child_tree w (p ++ Minus ∷ []) c.child-2.new.search.left c.child-3.new.search.left c.in_ok-end-3.end c.in-Refuted-3.tree b c.in-Refuted-3.is in
     tree_as w p _ _ _ _ c.in_ok-tree-2.ensures (three_trees w p _ _ _ c.args.search.now.left c.child.new.search.left c.child-2.new.search.left c.child-3.new.search.left c.requires.room (ap all_zero (sym c.deref.ensures.value) ∙ sym c.is_all_zero-zeros.ensures ∙ c.if-zeros.false) z q m)
 
+pub walk-returns-in-Some-clause-answer : goal.walk-returns-in-Some-clause-answer
+walk-returns-in-Some-clause-answer g t c =
+    let w : Signed = g.P.SignProblem.signed c.args.problem.now in
+    let p : List Sign = c.args.search.now.prefix.items in
+    let d = rw c.in-Some.is at c.in_ok-tree.ensures.answer in
+    leaf_at w p (plan c.in-Some.tree) c.args.search.now.left _ (omega (arith, c.in_ok-tree.ensures.place.left)) d
+
 pub walk-returns-then-len-length-clause-answer : goal.walk-returns-then-len-length-clause-answer
 walk-returns-then-len-length-clause-answer g t c =
     let w : Signed = g.P.SignProblem.signed c.args.problem.now in
-    let f = subst (λ (p : List Sign). IsFoundAt w p c.in_ok-end.end) (c.in_ok-u-2.ensures.place.prefix ∙ c.in_ok-u.ensures.place.prefix) c.in_ok-end.ensures.answer in
-    found_at w c.args.search.now.prefix.items c.args.search.now.left _ c.in_ok-end.end (omega (arith, c.in_ok-u.ensures.place.left, c.in_ok-u-2.ensures.place.left, c.in_ok-end.ensures.place.left)) f
+    let f = subst (λ (p : List Sign). IsFoundAt w p c.in_ok-end.end) c.in_ok-tree.ensures.place.prefix c.in_ok-end.ensures.answer in
+    found_at w c.args.search.now.prefix.items c.args.search.now.left _ c.in_ok-end.end (omega (arith, c.in_ok-tree.ensures.place.left, c.in_ok-end.ensures.place.left)) f
 
 pub walk-found_end-requires-clause-feasible : goal.walk-found_end-requires-clause-feasible
 walk-found_end-requires-clause-feasible g t c =
     let w : Signed = g.P.SignProblem.signed c.args.problem.now in
     let p : List Sign = c.args.search.now.prefix.items in
-    let b = rw c.in_default.is at c.in_ok-u.ensures.answer in
-    let a = rw c.in_default-2.is at c.in_ok-u-2.ensures.answer in
-    let s = feasible_from w p _ c.in_ok-u.ensures.place.prefix (ap (λ (q : List Sign). w.closed q) (sym c.deref.ensures.value) ∙ sym c.closed.ensures ∙ c.if-closed.false) b a in
-    subst (IsFeasible w) (sym (c.in_ok-u-2.ensures.place.prefix ∙ c.in_ok-u.ensures.place.prefix)) s
+    let d = rw c.in_default.is at c.in_ok-tree.ensures.answer in
+    let s = feasible_from w p p refl (ap (λ (q : List Sign). w.closed q) (sym c.deref.ensures.value) ∙ sym c.closed.ensures ∙ c.if-closed.false) d.0 d.1 in
+    subst (IsFeasible w) (sym c.in_ok-tree.ensures.place.prefix) s
 
 pub walk-returns-clause-answer : goal.walk-returns-clause-answer
 walk-returns-clause-answer g t c =
     let w : Signed = g.P.SignProblem.signed c.args.problem.now in
     let p : List Sign = c.args.search.now.prefix.items in
-    let b = rw c.in_default.is at c.in_ok-u.ensures.answer in
-    let a = rw c.in_default-2.is at c.in_ok-u-2.ensures.answer in
-    let same = c.in_ok-u-2.ensures.place.prefix ∙ c.in_ok-u.ensures.place.prefix in
-    let s = feasible_from w p _ c.in_ok-u.ensures.place.prefix (ap (λ (q : List Sign). w.closed q) (sym c.deref.ensures.value) ∙ sym c.closed.ensures ∙ c.if-closed.false) b a in
-    let e = subst (λ (q : List Sign). EndsBelow w q c.rule_out_a.new.search.left c.split.new.search.left c.in_ok-end-2.end) same c.in_ok-end-2.ensures.answer in
-    let long : length c.rule_out_a.new.search.prefix.items ≡ length p = ap (λ (q : List Sign). length q) same in
-    let one : c.rule_out_a.new.search.left + 1 ≡ c.args.search.now.left = omega (arith, c.in_ok-u.ensures.place.left, c.in_ok-u-2.ensures.place.left) in
-    opened_at w p c.args.search.now.left c.rule_out_a.new.search.left c.split.new.search.left c.in_ok-end-2.end one s (λ (f : length p ≡ w.choices). omega (arith, f, long, c.len.ensures, c.length.ensures.choices, c.if-len-length.false)) e
+    let d = rw c.in_default.is at c.in_ok-tree.ensures.answer in
+    let same = c.in_ok-tree.ensures.place.prefix in
+    let s = feasible_from w p p refl (ap (λ (q : List Sign). w.closed q) (sym c.deref.ensures.value) ∙ sym c.closed.ensures ∙ c.if-closed.false) d.0 d.1 in
+    let e = subst (λ (q : List Sign). EndsBelow w q c.rule_out.new.search.left c.split.new.search.left c.in_ok-end-2.end) same c.in_ok-end-2.ensures.answer in
+    let long : length c.rule_out.new.search.prefix.items ≡ length p = ap (λ (q : List Sign). length q) same in
+    let one : c.rule_out.new.search.left + 1 ≡ c.args.search.now.left = omega (arith, c.in_ok-tree.ensures.place.left) in
+    opened_at w p c.args.search.now.left c.rule_out.new.search.left c.split.new.search.left c.in_ok-end-2.end one s (λ (f : length p ≡ w.choices). omega (arith, f, long, c.len.ensures, c.length.ensures.choices, c.if-len-length.false)) e
 
 pub walk-at_level-requires : goal.walk-at_level-requires
 walk-at_level-requires g t c =
     let w : Signed = g.P.SignProblem.signed c.args.problem.now in
-    let p : List Sign = c.args.search.now.prefix.items in
-    let l : Level = record { a = c.rule_out_a.new.here; b = c.rule_out_b.new.here } in
-    level_moved w p c.rule_out_a.new.search.prefix.items l (c.in_ok-u-2.ensures.place.prefix ∙ c.in_ok-u.ensures.place.prefix)
-    (level_at w p c.rule_out_b.new.search.prefix.items l c.in_ok-u.ensures.place.prefix c.in_ok-u-2.ensures.here c.in_ok-u.ensures.here)
-
-pub walk-returns-in-Some-2-clause-here : goal.walk-returns-in-Some-2-clause-here
-walk-returns-in-Some-2-clause-here g t c =
-    let w : Signed = g.P.SignProblem.signed c.args.problem.now in
-    let p : List Sign = c.args.search.now.prefix.items in
-    let l : Level = record { a = c.rule_out_a.new.here; b = c.rule_out_b.new.here } in
-    level_at w p c.rule_out_b.new.search.prefix.items l c.in_ok-u.ensures.place.prefix c.in_ok-u-2.ensures.here c.in_ok-u.ensures.here
-
-pub walk-returns-then-len-length-clause-here : goal.walk-returns-then-len-length-clause-here
-walk-returns-then-len-length-clause-here g t c =
-    let w : Signed = g.P.SignProblem.signed c.args.problem.now in
-    let p : List Sign = c.args.search.now.prefix.items in
-    let l : Level = record { a = c.rule_out_a.new.here; b = c.rule_out_b.new.here } in
-    level_at w p c.rule_out_b.new.search.prefix.items l c.in_ok-u.ensures.place.prefix c.in_ok-u-2.ensures.here c.in_ok-u.ensures.here
-
-pub walk-returns-clause-here : goal.walk-returns-clause-here
-walk-returns-clause-here g t c =
-    let w : Signed = g.P.SignProblem.signed c.args.problem.now in
-    let p : List Sign = c.args.search.now.prefix.items in
-    let l : Level = record { a = c.rule_out_a.new.here; b = c.rule_out_b.new.here } in
-    level_at w p c.rule_out_b.new.search.prefix.items l c.in_ok-u.ensures.place.prefix c.in_ok-u-2.ensures.here c.in_ok-u.ensures.here
+    level_moved w c.args.search.now.prefix.items c.rule_out.new.search.prefix.items c.rule_out.new.here c.in_ok-tree.ensures.place.prefix c.in_ok-tree.ensures.here

@@ -4,7 +4,7 @@ use Rattle.std.proofs.lemmas.Int.{to_z-of_z}
 use Rattle.crn_vec.specs.Vectors.{entry, AreWithin}
 use Rattle.crn_vec.specs.declared.limits.TheConstants.{MAX_AMOUNT}
 use Rattle.crn_sign.proofs.PastLaws.{column_step, within_push}
-use Rattle.crn_sign.proofs.past.column_of.Goals as goal
+use Rattle.crn_sign.proofs.columns.column_of.Goals as goal
 
 pub loop-row-preserved : goal.loop-row-preserved
 loop-row-preserved c =

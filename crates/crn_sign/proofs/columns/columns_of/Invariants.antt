@@ -1,0 +1,5 @@
+use Rattle.crn_sign.specs.Inner.Columns.{AreColumns}
+use Rattle.crn_sign.proofs.columns.columns_of.Given as goal
+
+abbrev pub invariant-loop-number : goal.invariant-loop-number
+invariant-loop-number l = AreColumns l.matrix l.made.items

@@ -1,0 +1,9 @@
+use Rattle.crn_sign.specs.Inner.Marks.{AreRowMarks}
+use Rattle.crn_sign.specs.Inner.Parts.{IsFinder}
+use Rattle.crn_sign.proofs.part.Finder.serve.Given as goal
+
+abbrev pub invariant-loop-w : goal.invariant-loop-w
+invariant-loop-w l = record {
+  finder : IsFinder l.matrix l.self;
+  marks : AreRowMarks l.matrix l.marks;
+}

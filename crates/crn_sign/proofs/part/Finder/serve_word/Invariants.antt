@@ -1,0 +1,12 @@
+use Rattle.crn_sign.specs.Inner.Marks.{AreRowMarks}
+use Rattle.crn_sign.specs.Inner.Parts.{IsFinder}
+use Rattle.crn_sign.proofs.part.Finder.serve_word.Given as goal
+
+abbrev pub invariant-places : goal.invariant-places
+invariant-places l = record {
+  finder : IsFinder l.matrix l.self;
+  marks : AreRowMarks l.matrix l.marks;
+}
+
+abbrev pub decreases-places : goal.decreases-places
+decreases-places l = l.rest
