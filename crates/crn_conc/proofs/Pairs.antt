@@ -9,7 +9,7 @@ use Rattle.crn_vec.specs.declared.signs.Kind.{Kind}
 use Rattle.crn_vec.specs.declared.signs.Kind.TheVariants.{Free}
 use Rattle.crn_vec.specs.Problems.{all_zero}
 use Rattle.crn_vec.specs.Concordance.{column_kind, is_minus, is_plus, kind_of_sum, product, products, some_sign}
-use Rattle.crn_vec.proofs.CallerLemmas.{lt_or}
+use Rattle.crn_vec.proofs.CallerLemmas.{lt_or, products_none}
 use Rattle.crn_conc.specs.Inner.Rows.{IsLate, kind_after, pairs_from}
 
 pairs_push : (c n : ℕ) (signs : List Sign) (s : ℕ) → s < length signs → n ≡ c + s → pairs_from c (take (suc s) signs) ≡ pairs_from c (take s signs) ++ pairs_from n (get_or signs s Zero ∷ [])
@@ -62,10 +62,6 @@ or_step : (a b x : Bool) → ((a || b) || x) ≡ (a || (if b then true else x))
 or_step true b x = refl
 or_step false true x = refl
 or_step false false x = refl
-
-products_none : (ss : List Sign) → products ss [] ≡ []
-products_none [] = refl
-products_none (s ∷ ss) = refl
 
 none_chosen : (ss : List Sign) (plus minus : Bool) → value ss [] plus minus ≡ value (Zero ∷ ss) [] plus minus
 none_chosen ss plus minus = ap (λ (l : List Sign). if all_zero ss then kind_of_sum (plus || some_sign is_plus l) (minus || some_sign is_minus l) else Free) (products_none ss)

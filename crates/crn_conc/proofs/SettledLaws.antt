@@ -14,7 +14,7 @@ use Rattle.crn_vec.specs.Elementary.{width}
 use Rattle.crn_vec.specs.Systems.{kind_at}
 use Rattle.crn_vec.specs.Problems.{all_zero, is_zero}
 use Rattle.crn_vec.specs.Concordance.{column_kind, is_minus, is_plus, kind_of_sum, kinds_a_of, kinds_b_of, product, products, row_kinds, some_sign}
-use Rattle.crn_vec.proofs.CallerLemmas.{all_in, at_in, eq_or, in_push, in_range, lt_or}
+use Rattle.crn_vec.proofs.CallerLemmas.{all_in, at_in, in_push, in_range, lt_or, products_none}
 use Rattle.crn_sign.specs.Settled.{SettlesOnly}
 use Rattle.crn_conc.specs.Inner.Settled.{AreSettled, HasSettled, IsKept}
 use Rattle.crn_conc.specs.declared.settled.Settled.{Settled}
@@ -29,10 +29,6 @@ drop_zero [] zero e = refl
 drop_zero [] (suc n) e = refl
 drop_zero (x ∷ ss) zero e = subst (λ (y : Sign). all_zero ss ≡ all_zero (y ∷ ss)) (sym e) refl
 drop_zero (x ∷ ss) (suc n) e = drop_zero ss n e
-
-products_none : (ss : List Sign) → products ss [] ≡ []
-products_none [] = refl
-products_none (s ∷ ss) = refl
 
 some_zero : (test : Sign → Bool) → test Zero ≡ false → (signs p : List Sign) (s : Sign) → get_or signs (length p) Zero ≡ Zero → some_sign test (products signs (p ++ s ∷ [])) ≡ some_sign test (products signs p)
 some_zero test z [] p s e = refl

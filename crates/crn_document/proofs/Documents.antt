@@ -23,7 +23,7 @@ use Rattle.crn_document.specs.Inner.Courses.{IsNew, IsWhole, body_course, whole_
 use Rattle.crn_document.specs.Inner.Ending.{LastIs}
 use Rattle.crn_document.specs.Inner.Opening.{count_course, network_course, title_course}
 use Rattle.crn_document.proofs.Bodies.{last_all, last_then}
-use Rattle.crn_document.proofs.Steps.{none_off}
+use Rattle.crn_io.proofs.CallerLemmas.{Consumes-none}
 use Rattle.crn_document.proofs.Texts.{text_fails, text_gives, text_stops}
 
 -- ---- the parts of a document
@@ -113,7 +113,7 @@ document_gives (Err stop.NoMemory) at before now new p = (text_stops at.lines be
 
 -- where memory runs out before the first line
 pub nothing_read : (seen : SourceSeen) → CheckGives (Err stop.NoMemory) seen seen
-nothing_read seen = (([], omega arith, none_off seen.left), refl)
+nothing_read seen = (([], omega arith, Consumes-none seen.left), refl)
 
 -- the text is the one that the source shows
 same_text : (left : Option (List ℕ)) (pulled text other : List ℕ) → left ≡ Some text → IsTextOf left pulled other → other ≡ text

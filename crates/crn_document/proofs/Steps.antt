@@ -1,15 +1,14 @@
 -- What one call for a line, and steps one after another, do by the course of a document.
-use Rattle.std.proofs.Common.{◌≡◌, ◌≤◌, ◌<◌, ◌+◌, ◌++◌, ℕ, Bool, List, [], length, Option, Some, None, refl, sym, ap, subst, ◌∙◌, arith, Ok, Err, Result}
+use Rattle.std.proofs.Common.{◌≡◌, ◌≤◌, ◌<◌, ◌+◌, ◌++◌, ℕ, Bool, List, [], length, Option, refl, sym, ap, subst, ◌∙◌, arith, Ok, Err, Result}
 use Rattle.std.proofs.lemmas.List.{append-nil}
 use Rattle.crn_io.specs.declared.next.Next.{Next}
 use Rattle.crn_io.specs.declared.next.Next.TheVariants.{Line, Last, End, LineTooLong, DocumentTooLong, Failed}
 use Rattle.crn_io.specs.declared.lines.TheConstants.{MAX_DOCUMENT, MAX_AHEAD}
 use Rattle.crn_io.specs.Device.{SourceSeen, Rose}
 use Rattle.crn_io.specs.Lines.{Place, early}
-use Rattle.crn_io.specs.Pull.{Consumes}
 use Rattle.crn_io.specs.Next.{KeptLines, NextGives, place, code_of}
 use Rattle.crn_ctext.specs.Course.{Course, Give, due, Gives, FailsFirst, ◌>>=◌}
-use Rattle.crn_io.proofs.CallerLemmas.{Consumes-then}
+use Rattle.crn_io.proofs.CallerLemmas.{Consumes-none, Consumes-then}
 use Rattle.crn_ctext.specs.Steps.{StepGives, StepFails}
 use Rattle.crn_ctext.proofs.CallerLemmas.{IsNoLine, line_is_missing, gives_counts, step_then, step_fails_then, step_fails_before}
 use Rattle.crn_document.specs.declared.reading.Reading.{Reading}
@@ -33,23 +32,19 @@ no_line answer node n code old new before now none lt g is =
 
 -- ---- tests, which take nothing off the source
 
-pub none_off : (left : Option (List ℕ)) → Consumes left [] left
-none_off None = refl
-none_off (Some left) = (left, refl, refl)
-
 -- what a course of tests gives everywhere, it gives where the reading is
 pub tests_give : {A : Type 0} (c : Course A) (y : A) (n : ℕ) (lines : KeptLines) (left : Option (List ℕ)) → ((at : Place) → Gives c at y at) → StepGives c y n n lines lines left left
-tests_give c y n lines left g = record { pulled = []; off = none_off left; gives = λ rest. g (place n lines rest) }
+tests_give c y n lines left g = record { pulled = []; off = Consumes-none left; gives = λ rest. g (place n lines rest) }
 
 none_pulled : (lines : KeptLines) → lines.taken < MAX_DOCUMENT → length lines.ahead ≤ MAX_AHEAD → lines.taken + length (lines.ahead ++ []) ≤ MAX_DOCUMENT + MAX_AHEAD
 none_pulled lines taken ahead = let same : length (lines.ahead ++ []) ≡ length lines.ahead = ap length (append-nil lines.ahead) in omega (arith, same, taken, ahead)
 
 -- and where a test fails everywhere, it fails there
 pub tests_fail : {A : Type 0} (c : Course A) (n line code : ℕ) (at : Reading) (left : Option (List ℕ)) → CanRead at → ((place : Place) → FailsFirst c place line code) → StepFails c n at.lines left left line code
-tests_fail c n line code at left can f = record { pulled = []; off = none_off left; bound = none_pulled at.lines can.taken can.ahead; fails = λ rest h. f (place n at.lines rest) }
+tests_fail c n line code at left can f = record { pulled = []; off = Consumes-none left; bound = none_pulled at.lines can.taken can.ahead; fails = λ rest h. f (place n at.lines rest) }
 
 pub stops_here : (at : Reading) (left : Option (List ℕ)) → CanRead at → StepStops at.lines left left
-stops_here at left can = record { pulled = []; off = none_off left; bound = none_pulled at.lines can.taken can.ahead }
+stops_here at left can = record { pulled = []; off = Consumes-none left; bound = none_pulled at.lines can.taken can.ahead }
 
 -- ---- one step after another
 

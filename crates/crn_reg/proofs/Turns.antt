@@ -17,9 +17,6 @@ use Rattle.crn_reg.specs.Inner.Turned.{IsTurned, class_sum, AreZeroBefore, IsFir
 pub sum-negated : (labels : List ℕ) (g : List ℤ) (m : ℕ) → class_sum labels (map neg_ℤ g) m ≡ neg_ℤ (class_sum labels g m)
 sum-negated labels g m = dot-neg (label_marks labels m) g
 
-negated_size : (z : ℤ) → unsigned_abs (neg_ℤ z) ≡ unsigned_abs z
-negated_size z = omega (arith, ints)
-
 -- ---- what a vector and its negative share
 
 turned_entry : (g t : List ℤ) (k : ℕ) → IsTurned g t → (entry t k ≡ entry g k) ⊎ (entry t k ≡ neg_ℤ (entry g k))
@@ -29,7 +26,7 @@ turned_entry g t k (inr e) = inr (ap (λ (l : List ℤ). entry l k) e ∙ entry-
 turned_size : (g t : List ℤ) (k : ℕ) → IsTurned g t → unsigned_abs (entry t k) ≡ unsigned_abs (entry g k)
 turned_size g t k h = elim (turned_entry g t k h) as (λ _. unsigned_abs (entry t k) ≡ unsigned_abs (entry g k)) [
   | inl e ↦ ap unsigned_abs e
-  | inr e ↦ ap unsigned_abs e ∙ negated_size (entry g k)
+  | inr e ↦ let same : unsigned_abs (neg_ℤ (entry g k)) ≡ unsigned_abs (entry g k) = omega (arith, ints) in ap unsigned_abs e ∙ same
 ]
 
 turned_zero : (g t : List ℤ) (k : ℕ) → IsTurned g t → entry g k ≡ pos 0 → entry t k ≡ pos 0

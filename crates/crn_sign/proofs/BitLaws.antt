@@ -2,7 +2,7 @@
 use Rattle.std.proofs.Common.{◌≡◌, ◌≢◌, ℕ, zero, suc, ◌+◌, ◌*◌, ◌/◌, ◌%◌, ◌<◌, ◌≤◌, min, max, inl, inr, List, length, set, refl, sym, ap, ◌∙◌, arith}
 use Rattle.std.proofs.lemmas.Nat.Bits.{bit_at-zero}
 use Rattle.std.proofs.lemmas.List.{length-set, get_or-set_same, get_or-set_other}
-use Rattle.crn_vec.proofs.CallerLemmas.{eq_or}
+use Rattle.crn_vec.proofs.CallerLemmas.{eq_or, below_two}
 use Rattle.crn_sign.specs.declared.bits.Bits.{Bits}
 use Rattle.crn_sign.specs.declared.marks.Mark.{Mark}
 use Rattle.crn_sign.specs.declared.marks.Mark.TheVariants.{Zero}
@@ -12,13 +12,8 @@ use Rattle.crn_sign.specs.Inner.Marks.{Meets, joined, laid, negative}
 -- ---- four bits
 
 -- what holds of a bit of 0 and of one of 1
-one_bit : (P : ℕ → Type 0) → P 0 → P 1 → (n : ℕ) → n < 2 → P n
-one_bit P z o zero lt = z
-one_bit P z o (suc zero) lt = o
-one_bit P z o (suc (suc n)) lt = absurd (omega (arith, lt))
-
 two_bits : (P : ℕ → ℕ → Type 0) → P 0 0 → P 0 1 → P 1 0 → P 1 1 → (a b : ℕ) → a < 2 → b < 2 → P a b
-two_bits P p q r s a b la lb = one_bit (λ (n : ℕ). P n b) (one_bit (P 0) p q b lb) (one_bit (P 1) r s b lb) a la
+two_bits P p q r s a b la lb = below_two (λ (n : ℕ). P n b) (below_two (P 0) p q b lb) (below_two (P 1) r s b lb) a la
 
 -- the bit of `one | ((other | some) ^ some)`, where some is where one has a bit of either sign
 abbrev pub over : ℕ → ℕ → ℕ → ℕ

@@ -2,7 +2,6 @@
 use Rattle.std.proofs.Common.{◌≡◌, ℕ, zero, suc, ◌+◌, ◌<◌, ◌≤◌, inl, inr, List, [], ◌∷◌, length, get_or, take, refl, sym, ap, ap₂, subst, ◌∙◌, arith}
 use Rattle.std.specs.Prelude.{ℤ, pos, negsuc, ◌*ℤ◌, ◌+ℤ◌, ◌≤ℤ◌, unsigned_abs}
 use Rattle.std.proofs.lemmas.Int.{ints}
-use Rattle.std.proofs.lemmas.List.{length-take-le}
 use lib.IntN.{*ℤ-zero}
 use Rattle.crn_vec.specs.declared.signs.Sign.{Sign}
 use Rattle.crn_vec.specs.declared.signs.Sign.TheVariants.{Zero as ZeroSign, Plus as PlusSign, Minus as MinusSign}
@@ -11,7 +10,8 @@ use Rattle.crn_vec.specs.declared.signs.Kind.TheVariants.{Pos, Neg, NonNeg, Zero
 use Rattle.crn_vec.specs.Vectors.{Mat, entry, dot, scale, HasSign}
 use Rattle.crn_vec.specs.Elementary.{width, InRowSpace}
 use Rattle.crn_vec.specs.Systems.{HasKind, IsSolution, kind_at}
-use Rattle.crn_vec.proofs.CallerLemmas.{eq_or, zip_from, zip_at, dot-comm, dot-plus, plus, zeros, length-plus, entry-plus, length-zeros, entry-zeros, zeros-dot, entry-scale, length-scale, dot-scale-right}
+use Rattle.crn_vec.proofs.CallerLemmas.{eq_or, zip_from, zip_at, dot-comm, plus, zeros, entry-plus, length-zeros, entry-zeros, zeros-dot, entry-scale, length-scale}
+use Rattle.crn_farkas.proofs.CallerLemmas.{row_scaled, row_plus}
 use Rattle.crn_sign.specs.declared.bits.Bits.{Bits}
 use Rattle.crn_sign.specs.declared.marks.Mark.{Mark}
 use Rattle.crn_sign.specs.declared.marks.Mark.TheVariants.{Zero, Plus, Minus, Any}
@@ -20,36 +20,6 @@ use Rattle.crn_sign.specs.Inner.Bits.{IsMarked, mark_at, word_count}
 use Rattle.crn_sign.specs.Inner.Marks.{AreAsked, AreMadeBy, AreMet, AreOpposite, AreRowMarks, AreSuited, HasMark, Meets, joined, kind_mark, laid, negative, sign_mark, sign_there}
 
 -- ---- sums in the row space
-
-take-scale : (q : ℤ) (n : ℕ) (v : List ℤ) → take n (scale q v) ≡ scale q (take n v)
-take-scale q zero v = refl
-take-scale q (suc n) [] = refl
-take-scale q (suc n) (x ∷ v) = ap (λ (t : List ℤ). (q *ℤ x) ∷ t) (take-scale q n v)
-
-row_scaled : (a : Mat) (q : ℤ) (v : List ℤ) → InRowSpace a v → InRowSpace a (scale q v)
-row_scaled a q v h = record {
-  long = length-scale q v ∙ h.long;
-  is = λ i lt. entry-scale q v (a.cols + i) ∙ ap (λ (t : ℤ). q *ℤ t) (h.is i lt) ∙ sym (dot-scale-right q _ (take a.cols v)) ∙ ap (dot _) (sym (take-scale q a.cols v));
-}
-
-take-plus : (n : ℕ) (v w : List ℤ) → take n (plus v w) ≡ plus (take n v) (take n w)
-take-plus zero v w = refl
-take-plus (suc n) [] w = refl
-take-plus (suc n) (x ∷ v) [] = refl
-take-plus (suc n) (x ∷ v) (y ∷ w) = ap (λ (t : List ℤ). (x +ℤ y) ∷ t) (take-plus n v w)
-
-row_plus : (a : Mat) (v w : List ℤ) → InRowSpace a v → InRowSpace a w → InRowSpace a (plus v w)
-row_plus a v w h k =
-    let same : length v ≡ length w = h.long ∙ sym k.long in
-    let n = a.cols in
-    let prefixes : length (take n v) ≡ length (take n w) = length-take-le n v (omega (arith, h.long)) ∙ sym (length-take-le n w (omega (arith, k.long))) in
-    record {
-      long = length-plus v w same ∙ h.long;
-      is = λ i lt.
-          let r = get_or a.rows i [] in
-          entry-plus v w (n + i) same ∙ ap₂ (λ (x y : ℤ). x +ℤ y) (h.is i lt ∙ dot-comm r (take n v)) (k.is i lt ∙ dot-comm r (take n w))
-          ∙ sym (dot-plus (take n v) (take n w) r prefixes) ∙ dot-comm (plus (take n v) (take n w)) r ∙ ap (dot r) (sym (take-plus n v w));
-    }
 
 -- p times v plus q times w
 abbrev sum : ℕ → List ℤ → ℕ → List ℤ → List ℤ

@@ -1,5 +1,5 @@
 -- What past multipliers rule out, by signs at the places where the list (-uA, u) is not 0.
-use Rattle.std.proofs.Common.{◌≡◌, ◌≢◌, ℕ, zero, suc, ◌+◌, ◌-◌, ◌≤◌, ◌<◌, ◌⊎◌, inl, inr, List, [], ◌∷◌, ◌++◌, length, get_or, map, take, drop, set, Bool, true, false, refl, sym, ap, ap₂, subst, ◌∙◌, add-one, arith, lit≤, ◌^◌}
+use Rattle.std.proofs.Common.{◌≡◌, ◌≢◌, ℕ, zero, suc, ◌+◌, ◌-◌, ◌≤◌, ◌<◌, ◌⊎◌, inl, inr, List, [], ◌∷◌, ◌++◌, length, get_or, map, take, drop, Bool, true, false, refl, sym, ap, ap₂, subst, ◌∙◌, add-one, arith, lit≤, ◌^◌}
 use Rattle.std.specs.Prelude.{ℤ, pos, negsuc, neg_ℤ, ◌*ℤ◌, unsigned_abs}
 use Rattle.std.specs.List.{AllByRecursion}
 use Rattle.std.proofs.lemmas.Int.{ints}
@@ -137,11 +137,6 @@ past_from a kinds u ps c inside signs = record { w = c.cut.0; space = c.cut.1.sp
 
 pub length-rows : (a : Mat) (kinds : List Kind) (u : List ℤ) → IsSmallCut a kinds u → length u ≡ length a.rows
 length-rows a kinds u c = ap length (sym c.cut.1.rows) ∙ omega (arith, length-drop a.cols c.cut.0, c.cut.1.space.long)
-
-pub all_set : {X : Type 0} (P : X → Type 0) (xs : List X) (k : ℕ) (x : X) → AllByRecursion P xs → P x → AllByRecursion P (set xs k x)
-all_set P [] k x h p = tt
-all_set P (y ∷ xs) zero x h p = (p, h.1)
-all_set P (y ∷ xs) (suc k) x h p = (h.0, all_set P xs k x h.1 p)
 
 pub scale_one : (v : List ℤ) → scale (factor true) v ≡ v
 scale_one [] = refl

@@ -64,12 +64,14 @@ pub trait SignProblem {
         requires inside { k < width (signed self.now).matrix_b }
         ensures { result ≡ kind_at ((signed self.now).kinds_b prefix.now) k };
 
-    /// The coordinates of part A whose kinds the last of so many choices may change.
+    /// The coordinates of part A whose kinds may change with the last option of a prefix of so many choices, in any order. The
+    /// list may be longer: it may have others, too.
     fn settled_a(&self, choices: usize) -> &[usize]
         ensures { SettlesOnly (signed self.now).kinds_a (width (signed self.now).matrix_a)
             choices result.now };
 
-    /// The coordinates of part B whose kinds the last of so many choices may change.
+    /// The coordinates of part B whose kinds may change with the last option of a prefix of so many choices, in any order. The
+    /// list may be longer: it may have others, too.
     fn settled_b(&self, choices: usize) -> &[usize]
         ensures { SettlesOnly (signed self.now).kinds_b (width (signed self.now).matrix_b)
             choices result.now };
