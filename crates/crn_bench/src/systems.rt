@@ -27,7 +27,7 @@ pub fn dependence(alloc: Global, network: &Network) -> Result<Matrix> {
     for i in 0..rows {
         push_row(&mut entries, &network.reactions, i)?;
     }
-    Ok(Matrix::new(alloc, rows, cols, &entries)?)
+    Ok(Matrix::from_entries(alloc, rows, cols, entries)?)
 }
 
 /// Positive on each column, and zero on each row.

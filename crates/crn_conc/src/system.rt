@@ -42,5 +42,5 @@ pub fn reaction_matrix(alloc: Global, net: &Network) -> Result<Matrix, NoMemory>
     ensures { IfOk result (λ made. made ≡ reaction_system net.now) }
 {
     let entries = entries_by_species(alloc, net)?;
-    Matrix::new(alloc, net.species(), net.reactions(), &entries)
+    Matrix::from_entries(alloc, net.species(), net.reactions(), entries)
 }

@@ -86,5 +86,5 @@ pub(crate) fn confluence_matrix(
     let mut entries = Vec::with_capacity(alloc, rows * net.complexes())?;
     put_amounts(&mut entries, net)?;
     put_classes(&mut entries, labels, count)?;
-    Matrix::new(alloc, rows, net.complexes(), &entries)
+    Matrix::from_entries(alloc, rows, net.complexes(), entries)
 }

@@ -61,5 +61,5 @@ pub(crate) fn shelf_matrix(alloc: Global, shape: &Shape) -> Result<Matrix, NoMem
     let mut entries = Vec::with_capacity(alloc, rows * cols)?;
     put_complexes(&mut entries, shape)?;
     put_pairs(&mut entries, shape)?;
-    Matrix::new(alloc, rows, cols, &entries)
+    Matrix::from_entries(alloc, rows, cols, entries)
 }

@@ -62,9 +62,12 @@ rank_given net budget earlier proof answer n h g =
     let second = subst (λ (v : Verdict). IsAnswer net budget earlier Q5 (record { verdict = v; proof = RankRows proof })) (sym g.verdict) first in
     subst (λ (p : Proof). IsAnswer net budget earlier Q5 (record { verdict = answer.verdict; proof = p })) (sym g.proof_is) second
 
+-- system 1 has the vectors of all reactions as its rows
+pub all_members : (net : Net) → member_matrix net (all_places net) ≡ species_system net
+all_members net = ap (λ (rows : List (List ℤ)). let a : Mat = record { cols = length net.names; rows = rows } in a) (all_vectors net)
+
 pub rank_wide : (net : Net) (budget : ℕ) (earlier : Earlier) (index : ℕ) (basis : KeptNums) → NamesWide (member_matrix net (all_places net)) index basis.list → IsAnswer net budget earlier Q5 (wide_answer 1 index basis)
 rank_wide net budget earlier index basis h =
-    let same : member_matrix net (all_places net) ≡ species_system net = ap (λ (rows : List (List ℤ)). let a : Mat = record { cols = length net.names; rows = rows } in a) (all_vectors net) in
-    let wide : NamesWide (species_system net) index basis.list = subst (λ (a : Mat). NamesWide a index basis.list) same h in
+    let wide : NamesWide (species_system net) index basis.list = subst (λ (a : Mat). NamesWide a index basis.list) (all_members net) h in
     let gap : IsWideGap net earlier Q5 1 0 index basis.list = (refl, refl, wide_basis (species_system net) (length net.names) (length net.reactions) index basis.list refl (vectors_count net) wide) in
     record { formed = (gap, refl); valid = tt; answered = (gap, wide) }

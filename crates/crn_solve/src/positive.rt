@@ -1,6 +1,6 @@
-ghost use Rattle.std.specs.Prelude.{◌≡◌, ◌≤◌, ℕ, IfOk, MatchResult};
+ghost use Rattle.std.specs.Prelude.{◌≡◌, ◌≤◌, ℕ, IfOk, IfSome, MatchResult};
 ghost use Rattle.crn_vec.specs.declared.limits.TheConstants.{MAX_SIGNED};
-ghost use Rattle.crn_vec.specs.NetSystems.{positive_kinds};
+ghost use Rattle.crn_vec.specs.NetSystems.{positive_kinds, species_system};
 ghost use Rattle.crn_cert.specs.Questions.{Earlier, Q7, Q8};
 ghost use Rattle.crn_farkas.specs.Decision.{IsDecision, IsStop};
 ghost use Rattle.crn_cert.specs.Answered.{IsAnswer};
@@ -8,17 +8,23 @@ ghost use Rattle.crn_solve.specs.Inner.Given.{vector_answer};
 
 use crate::laws::meets_definition;
 use crate::open::wide_answer;
-use crate::systems::{positive_kinds, species_matrix};
+use crate::systems::positive_kinds;
 use crn_cert::{Answer, Proof, Verdict};
 use crn_conc::reaction_matrix;
-use crn_farkas::{Decision, Stop, System, decide};
+use crn_farkas::{Decision, Stop, System, decide_by};
 use crn_net::Network;
+use crn_tab::Tableau;
 use crn_vec::{Matrix, NoMemory};
 use std::alloc::{AllocError, Global};
 
 // A solution with positive columns and zero rows, or multipliers that rule every one out.
-fn decide_positive(alloc: Global, matrix: &Matrix) -> Result<Decision, Stop>
-    requires { matrix.now.cols ≤ MAX_SIGNED }
+fn decide_positive(
+    alloc: Global,
+    matrix: &Matrix,
+    viewed: Option<Tableau>,
+) -> Result<Decision, Stop>
+    requires viewed { IfSome viewed (λ t. t.matrix ≡ matrix.now) }
+    requires few { matrix.now.cols ≤ MAX_SIGNED }
     ensures { MatchResult result (λ d. IsDecision matrix.now (positive_kinds matrix.now) d)
         (λ s. IsStop matrix.now (positive_kinds matrix.now) s) }
 {
@@ -27,7 +33,7 @@ fn decide_positive(alloc: Global, matrix: &Matrix) -> Result<Decision, Stop>
         matrix,
         kinds: &kinds,
     };
-    decide(alloc, &system)
+    decide_by(alloc, &system, viewed)
 }
 
 // The answer of a decision: yes with the solution, or no with the multipliers.
@@ -51,21 +57,28 @@ pub(crate) fn positively_dependent(alloc: Global, net: &Network) -> Result<Answe
 {
     meets_definition(net);
     let matrix = reaction_matrix(alloc, net)?;
-    match decide_positive(alloc, &matrix) {
+    match decide_positive(alloc, &matrix, None) {
         Ok(decision) => Ok(vector_answer(decision)),
         Err(Stop::Wide { index, basis }) => Ok(wide_answer(2, index, basis)),
         Err(Stop::NoMemory) => Err(AllocError),
     }
 }
 
-/// Question 8: a conservation law with positive weights, or multipliers that rule each one out.
-pub(crate) fn conservative(alloc: Global, net: &Network) -> Result<Answer, NoMemory>
+/// Question 8: a conservation law with positive weights, or multipliers that rule each one out. The matrix is that of
+/// system 1, and the tableau that by which question 5 is answered.
+pub(crate) fn conservative(
+    alloc: Global,
+    net: &Network,
+    matrix: &Matrix,
+    viewed: Tableau,
+) -> Result<Answer, NoMemory>
+    requires matrix { matrix.now ≡ species_system net.now }
+    requires viewed { viewed.matrix ≡ matrix.now }
     ensures { IfOk result (λ answer. (budget : ℕ) (earlier : Earlier) →
         IsAnswer net.now budget earlier Q8 answer) }
 {
     meets_definition(net);
-    let matrix = species_matrix(alloc, net)?;
-    match decide_positive(alloc, &matrix) {
+    match decide_positive(alloc, matrix, Some(viewed)) {
         Ok(decision) => Ok(vector_answer(decision)),
         Err(Stop::Wide { index, basis }) => Ok(wide_answer(1, index, basis)),
         Err(Stop::NoMemory) => Err(AllocError),

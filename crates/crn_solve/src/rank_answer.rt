@@ -1,6 +1,7 @@
 ghost use Rattle.std.specs.Prelude.{◌≡◌, ◌≤◌, ℕ, length, IfOk};
 ghost use Rattle.std.specs.List.{range_with_len};
 ghost use Rattle.crn_vec.specs.declared.limits.TheConstants.{MAX_REACTIONS};
+ghost use Rattle.crn_vec.specs.NetSystems.{species_system};
 ghost use Rattle.crn_cert.specs.Questions.{Earlier, Q5};
 ghost use Rattle.crn_cert.specs.Answered.{IsAnswer};
 ghost use Rattle.crn_solve.specs.Inner.Given.{IsRankAnswer};
@@ -10,7 +11,8 @@ use crate::open::wide_answer;
 use crn_cert::{Answer, Proof, RankProof, Verdict};
 use crn_farkas::Stop;
 use crn_net::Network;
-use crn_rank::rank;
+use crn_rank::rank_by;
+use crn_tab::Tableau;
 use crn_vec::NoMemory;
 use std::alloc::{AllocError, Global};
 
@@ -39,14 +41,20 @@ fn base_answer(proof: RankProof) -> Result<Answer, NoMemory>
     })
 }
 
-/// Question 5: the rank of the reaction vectors, with a base and its proof.
-pub(crate) fn rank_answer(alloc: Global, net: &Network) -> Result<Answer, NoMemory>
-    ensures { IfOk result (λ answer. (budget : ℕ) (earlier : Earlier) →
+/// Question 5: the rank of the reaction vectors, with a base and its proof, by a tableau of system 1.
+pub(crate) fn rank_answer(
+    alloc: Global,
+    net: &Network,
+    tableau: &mut Tableau,
+) -> Result<Answer, NoMemory>
+    requires { tableau.old.matrix ≡ species_system net.now }
+    ensures matrix { tableau.new.matrix ≡ tableau.old.matrix }
+    ensures answer { IfOk result (λ answer. (budget : ℕ) (earlier : Earlier) →
         IsAnswer net.now budget earlier Q5 answer) }
 {
     meets_definition(net);
     let all = all_reactions(alloc, net)?;
-    match rank(alloc, net, &all) {
+    match rank_by(alloc, net, &all, tableau) {
         Ok(proof) => base_answer(proof),
         Err(Stop::Wide { index, basis }) => Ok(wide_answer(1, index, basis)),
         Err(Stop::NoMemory) => Err(AllocError),

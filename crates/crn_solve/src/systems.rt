@@ -27,7 +27,7 @@ pub(crate) fn species_matrix(alloc: Global, net: &Network) -> Result<Matrix, NoM
     ensures { IfOk result (λ made. made ≡ species_system net.now) }
 {
     let entries = entries_by_reaction(alloc, net)?;
-    Matrix::new(alloc, net.reactions(), net.species(), &entries)
+    Matrix::from_entries(alloc, net.reactions(), net.species(), entries)
 }
 
 /// The kinds by which each column has to be positive and each row zero.

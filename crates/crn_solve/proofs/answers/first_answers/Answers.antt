@@ -20,7 +20,7 @@ deficiency_answer-requires-clause-classes c =
 pub deficiency_answer-requires-clause-rank : goal.deficiency_answer-requires-clause-rank
 deficiency_answer-requires-clause-rank c =
     let a5 = c.in_ok-rank.rank in
-    rank_or_open c.args.net.now c.args.budget [] a5.verdict (c.in_ok-rank.ensures c.args.budget []).answered
+    rank_or_open c.args.net.now c.args.budget [] a5.verdict (c.in_ok-rank.ensures.answer c.args.budget []).answered
 
 -- the linkage classes are right, and so are the strong classes
 pub zero_answer-zero-requires-clause-classes : goal.zero_answer-zero-requires-clause-classes
@@ -49,7 +49,7 @@ one_hypotheses-one-requires-clause-q6 c =
 pub zero_answer-zero-requires-clause-rank : goal.zero_answer-zero-requires-clause-rank
 zero_answer-zero-requires-clause-rank c =
     let a5 = c.in_ok-rank.rank in
-    rank_or_open c.args.net.now c.args.budget [] a5.verdict (c.in_ok-rank.ensures c.args.budget []).answered
+    rank_or_open c.args.net.now c.args.budget [] a5.verdict (c.in_ok-rank.ensures.answer c.args.budget []).answered
 
 pub zero_answer-zero-requires-clause-weak : goal.zero_answer-zero-requires-clause-weak
 zero_answer-zero-requires-clause-weak c =
@@ -199,7 +199,7 @@ returns c =
     let d2 = c.strong_answer.ensures.answer net after1 n strong in
     let d3 = c.in_ok-reversible.ensures after2 in
     let d4 = c.weakly_reversible-weakly_reversible.ensures after3 (c.strong_answer.ensures.labels ∙ sym c.as_slice.ensures) d2.true_of in
-    let d5 = c.in_ok-rank.ensures budget after4 in
+    let d5 = c.in_ok-rank.ensures.answer budget after4 in
     let d6 = c.in_ok-deficiency.ensures budget after5 c.linkage_answer.ensures.labels c.linkage_answer.ensures.count refl in
     let d7 = c.in_ok-dependence.ensures budget after6 in
     let d8 = c.in_ok-conservation.ensures budget after7 in

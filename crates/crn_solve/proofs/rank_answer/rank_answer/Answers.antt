@@ -1,4 +1,4 @@
-use Rattle.std.proofs.Common.{◌∙◌, ℕ, List, sym, subst}
+use Rattle.std.proofs.Common.{◌∙◌, ℕ, List, ap, sym, subst}
 use Rattle.crn_vec.specs.Elementary.{NamesWide}
 use Rattle.crn_cert.specs.declared.answer.Answer.{Answer}
 use Rattle.crn_cert.specs.Questions.{Earlier, Q5}
@@ -7,13 +7,18 @@ use Rattle.crn_rank.specs.Rank.{AreMembers, IsWideStop, ProvesRank, member_matri
 use Rattle.crn_cert.specs.Answered.{IsAnswer}
 use Rattle.crn_solve.specs.Inner.Given.{IsRankAnswer}
 use Rattle.crn_conc.proofs.CallerLemmas.{if_ok}
-use Rattle.crn_solve.proofs.RankAnswers.{are_members, base_few, rank_given, rank_wide}
+use Rattle.crn_solve.proofs.RankAnswers.{all_members, are_members, base_few, rank_given, rank_wide}
 use Rattle.crn_solve.proofs.rank_answer.rank_answer.Goals as goal
 
-pub rank-requires : goal.rank-requires
-rank-requires c =
+pub rank_by-requires-clause-members : goal.rank_by-requires-clause-members
+rank_by-requires-clause-members c =
     let net = c.args.net.now in
     subst (AreMembers net) (sym (c.deref.ensures.value ∙ c.in_ok-all.ensures)) (are_members net)
+
+pub rank_by-requires-clause-matrix : goal.rank_by-requires-clause-matrix
+rank_by-requires-clause-matrix c =
+    let net = c.args.net.now in
+    c.requires ∙ sym (ap (member_matrix net) (c.deref.ensures.value ∙ c.in_ok-all.ensures) ∙ all_members net)
 
 pub base_answer-requires : goal.base_answer-requires
 base_answer-requires c =
@@ -21,16 +26,16 @@ base_answer-requires c =
     let proof = c.in-Ok.proof in
     base_few net proof c.meets_definition.ensures (subst (λ (l : List ℕ). ProvesRank net l proof) (c.deref.ensures.value ∙ c.in_ok-all.ensures) c.in-Ok.ensures.proof)
 
-pub returns-in-Ok : goal.returns-in-Ok
-returns-in-Ok c =
+pub returns-in-Ok-clause-answer : goal.returns-in-Ok-clause-answer
+returns-in-Ok-clause-answer c =
     let net = c.args.net.now in
     let proof = c.in-Ok.proof in
     let proven = subst (λ (l : List ℕ). ProvesRank net l proof) (c.deref.ensures.value ∙ c.in_ok-all.ensures) c.in-Ok.ensures.proof in
     if_ok (IsRankAnswer proof) (λ (answer : Answer). (budget : ℕ) (earlier : Earlier) → IsAnswer net budget earlier Q5 answer) c.base_answer.result
     (λ answer g budget earlier. rank_given net budget earlier proof answer c.meets_definition.ensures proven g) c.base_answer.ensures
 
-pub returns-in-Err-Wide : goal.returns-in-Err-Wide
-returns-in-Err-Wide c budget earlier =
+pub returns-in-Err-Wide-clause-answer : goal.returns-in-Err-Wide-clause-answer
+returns-in-Err-Wide-clause-answer c budget earlier =
     let net = c.args.net.now in
     let w = c.in-Err-Wide in
     let named : IsWideStop (member_matrix net c.deref.result.now) (Wide w.index w.basis) = subst (IsWideStop (member_matrix net c.deref.result.now)) w.field-0-is w.ensures.stop in
