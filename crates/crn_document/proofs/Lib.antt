@@ -31,6 +31,7 @@ mod CoursesFollowed
 mod DueTrees
 mod NodeRecords
 mod NodeWords
+mod MetLines
 mod TreesBelow
 mod SignalsKnown
 mod SignalTrees

@@ -1,10 +1,11 @@
 -- The linkage classes that are known before a block, by the verdicts on all questions before it.
 use Rattle.std.proofs.Common.{◌≡◌, ◌≤◌, ◌<◌, ◌+◌, ◌-◌, ◌++◌, ◌∙◌, ℕ, zero, suc, Bool, true, false, List, [], ◌∷◌, length, map, drop, refl, sym, subst, ap, inl, inr, arith}
-use Rattle.std.specs.Prelude.{codes, filter, ◌&&◌, ◌⊎◌}
+use Rattle.std.specs.Prelude.{codes, filter, replicate, ◌&&◌, ◌⊎◌}
 use Rattle.std.proofs.Common.{cond, ap₂, append_assoc, Result, Ok, Err, OnOk, Bor}
 use Rattle.std.specs.List.{AllByRecursion, range_with_len}
 use Rattle.std.proofs.lemmas.List.Elements.{filter-append}
 use Rattle.std.proofs.lemmas.List.FromFn.{length-range_with_len, length-map-range_with_len}
+use Rattle.std.proofs.lemmas.List.{length-replicate}
 use Rattle.crn_vec.specs.Lists.{IsIn, IsAscending}
 use Rattle.crn_vec.specs.Network.{Net}
 use Rattle.crn_vec.specs.declared.limits.TheConstants.{MAX_COMPLEXES, MAX_REACTIONS}
@@ -243,6 +244,9 @@ counts_are net earlier k (suc n) =
     let m : suc k + 1 ≡ suc (suc k) = omega arith in
     ap (λ (t : List ℕ). length (class_places net earlier (suc k)) ∷ t) (ap (λ (j : ℕ). class_counts net (linkage earlier) j n) m ∙ counts_are net earlier (suc k) n ∙ ap (λ (j : ℕ). lengths (map (λ j. class_places net earlier j) (range_with_len j n))) (sym m))
 
+counts_same : (net : Net) (earlier : Earlier) (l : Linkage) (counts : List ℕ) → IsLinkage earlier l → counts ≡ class_counts net l.labels.now 1 l.count → counts ≡ lengths (map (λ j. class_places net earlier j) (range_with_len 1 (linkage_count earlier)))
+counts_same net earlier l counts k is = is ∙ ap₂ (λ (ls : List ℕ) (c : ℕ). class_counts net ls 1 c) k.labels_are k.count_is ∙ counts_are net earlier 0 (linkage_count earlier)
+
 -- the numbers of reactions that are counted are those on which the forms of a head rest
 pub counts_fit : (net : Net) (earlier : Earlier) (question : ℕ) (l : Linkage) (counts : List ℕ) → length net.reactions ≤ MAX_REACTIONS → IsLinkage earlier l → counts ≡ class_counts net l.labels.now 1 l.count → FitsCounts net earlier question counts
 counts_fit net earlier question l counts few k is =
@@ -250,13 +254,31 @@ counts_fit net earlier question l counts few k is =
     record {
       few = subst (λ (x : List ℕ). length x ≤ MAX_COMPLEXES) (sym is) b.0;
       each = subst (λ (x : List ℕ). AllByRecursion (λ r. r ≤ MAX_REACTIONS) x) (sym is) b.1;
-      are = λ asks. is ∙ ap₂ (λ (ls : List ℕ) (c : ℕ). class_counts net ls 1 c) k.labels_are k.count_is ∙ counts_are net earlier 0 (linkage_count earlier);
+      many = λ asks. ap length (counts_same net earlier l counts k is);
+      are = λ six. counts_same net earlier l counts k is;
     }
+
+-- as many zeros serve a question whose head rests on how many classes there are
+pub zeros_fit : (net : Net) (earlier : Earlier) (question : ℕ) (l : Linkage) (counts : List ℕ) → IsLinkage earlier l → counts ≡ replicate l.count 0 → (question ≡ 6 → ⊥) → FitsCounts net earlier question counts
+zeros_fit net earlier question l counts k is never =
+    let long : length counts ≡ l.count = ap length is ∙ length-replicate l.count 0 in
+    let same = ap length (counts_same net earlier l (class_counts net l.labels.now 1 l.count) k refl) in
+    record {
+      few = omega (arith, long, k.few);
+      each = subst (λ (x : List ℕ). AllByRecursion (λ r. r ≤ MAX_REACTIONS) x) (sym is) (all_zeros l.count);
+      many = λ asks. long ∙ sym (length-map-range_with_len (λ j. length (members_of net l.labels.now j)) 1 l.count) ∙ same;
+      are = λ six. absurd (never six);
+    }
+  where
+    all_zeros : (n : ℕ) → AllByRecursion (λ r. r ≤ MAX_REACTIONS) (replicate n 0)
+    all_zeros zero = tt
+    all_zeros (suc n) = (omega arith, all_zeros n)
 
 -- a question whose head does not rest on these numbers needs none
 pub no_counts : (net : Net) (earlier : Earlier) (question : ℕ) (counts : List ℕ) → counts ≡ [] → (HasClassSizes question → ⊥) → FitsCounts net earlier question counts
 no_counts net earlier question counts none never = record {
   few = subst (λ (x : List ℕ). length x ≤ MAX_COMPLEXES) (sym none) (omega arith);
   each = subst (λ (x : List ℕ). AllByRecursion (λ r. r ≤ MAX_REACTIONS) x) (sym none) tt;
-  are = λ asks. absurd (never asks);
+  many = λ asks. absurd (never asks);
+  are = λ six. absurd (never (inl six));
 }

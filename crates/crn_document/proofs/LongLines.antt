@@ -1,10 +1,10 @@
 -- No canonical text has a line that is longer than a line of a network can be.
-use Rattle.std.proofs.Common.{◌≡◌, ◌+◌, ◌-◌, ◌==◌, ◌<◌, ◌≤◌, ◌++◌, ◌∙◌, ℕ, suc, false, inl, inr, List, [], ◌∷◌, length, drop, get_or, sym, ap, subst, append_assoc, arith, length-drop}
+use Rattle.std.proofs.Common.{◌≡◌, ◌+◌, ◌-◌, ◌==◌, ◌<◌, ◌≤◌, ◌++◌, ◌∙◌, ℕ, false, inl, inr, List, [], ◌∷◌, length, drop, get_or, sym, ap, subst, append_assoc, arith}
 use Rattle.std.specs.Prelude.{codes}
 use Rattle.std.specs.List.{AllByRecursion, flat_map}
 use Rattle.std.proofs.Math.Seq.{get_or-append_seam, drop-append_seam}
 use Rattle.std.proofs.lemmas.Bool.{false≢true}
-use Rattle.std.proofs.lemmas.List.{append-nil, length-append, drop-append-le, get_or_append_left, get_or-append_right}
+use Rattle.std.proofs.lemmas.List.{length-append, drop-append-le, get_or_append_left, get_or-append_right}
 use Rattle.crn_vec.specs.Network.{Net, IsNetwork, IsPartialNetwork, IsVector, JoinsTwo}
 use Rattle.crn_vec.proofs.CallerLemmas.{all_at, lt_or}
 use Rattle.crn_io.specs.Lines.{IsLine}

@@ -161,7 +161,7 @@ cases_second a s k word w zs (inr (inr (inr (inr (inr e))))) f p b c d g = e
 
 -- ---- what a node is
 
-abbrev node_word : List (List ℤ) → List ℕ → List ℤ → Node
+abbrev pub node_word : List (List ℤ) → List ℕ → List ℤ → Node
 node_word table w zs =
     if bytes_eq w (codes "split") then Split else (
     if bytes_eq w (codes "flat") then Flat else (
@@ -170,7 +170,7 @@ node_word table w zs =
     if bytes_eq w (codes "refa") then CutA true (slice_index_or table (first_number zs - 1) [])
     else CutB true (slice_index_or table (first_number zs - 1) [])))))
 
-node_is : (table : List (List ℤ)) (r : Record) (word : List ℕ) → word_of r ≡ word → node_of table r ≡ node_word table word r.numbers
+pub node_is : (table : List (List ℤ)) (r : Record) (word : List ℕ) → word_of r ≡ word → node_of table r ≡ node_word table word r.numbers
 node_is table r word e = ap (λ (w : List ℕ). node_word table w r.numbers) e
 
 -- what is judged of the node that a record is

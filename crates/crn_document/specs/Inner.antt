@@ -14,3 +14,4 @@ pub mod Table
 pub mod Ending
 pub mod Opening
 pub mod Trees
+pub mod Met

@@ -17,7 +17,7 @@ pub struct Accepted {
 /// Reads a document to its end and checks it, or says its first fault.
 ///
 /// It holds one line, the network, the shared lists and one block of the document at a time, and of a tree the prefix
-/// that is due, so the memory that it takes does not grow with the document.
+/// that is due and, in version 1, up to 512 lines of cuts. So the memory that it takes has a bound that no document exceeds.
 pub fn check_document<S: Source>(alloc: Global, source: &mut S) -> Result<Accepted, CheckStop>
     ensures gives { CheckGives result (S.seen source.old) (S.seen source.new) }
     ensures numbered { HasFaultNumber result }

@@ -28,8 +28,8 @@ use crn_net::Network;
 use crn_vec::Nums;
 use std::alloc::Global;
 
-// What the forms of the head of question 13 rest on besides: the number of linked pairs within terminal classes, and
-// whether question 12 gives a vector. For the other questions it is 0 and no.
+// What the forms of the head of question 13 rest on besides: whether question 12 gives a vector and, if it does, the
+// number of linked pairs within terminal classes. Otherwise it is 0 and no.
 #[derive(Clone, Copy)]
 struct SignalSizes {
     pairs: u32,
@@ -58,11 +58,11 @@ fn signal_sizes(
     requires known { IsKnown net.now (before question) facts.now }
     ensures { IfOk result (FitsSignals net.now facts.now.earlier question) }
 {
-    if question == 13 {
+    if question == 13 && gives_vector(facts) {
         let pairs = pairs_in(alloc, net, &strong_of(facts))?;
         return Ok(SignalSizes {
             pairs: pairs.as_slice().len() as u32,
-            vector: gives_vector(facts),
+            vector: true,
         });
     }
     Ok(SignalSizes {
@@ -71,14 +71,15 @@ fn signal_sizes(
     })
 }
 
-// Whether the forms of the head of a question rest on how many reactions each linkage class has.
+// Whether the forms of the head of a question rest on how many linkage classes there are.
 fn has_class_sizes(question: u32) -> bool
     ensures { IsTrue result ↔ HasClassSizes question }
 {
     question == 6 || question == 10 || question == 11 || question == 12
 }
 
-// How many reactions each linkage class has, and nothing for a question whose head does not rest on it.
+// How many reactions each linkage class has, for a question whose head rests on that; as many zeros, if it rests on how
+// many classes there are; and else nothing.
 fn class_sizes(alloc: Global, net: &Network, facts: &Facts, question: u32) -> Result<Nums, NoMemory>
     requires built { IsBuilt question }
     requires known { IsKnown net.now (before question) facts.now }
@@ -86,8 +87,12 @@ fn class_sizes(alloc: Global, net: &Network, facts: &Facts, question: u32) -> Re
 {
     if has_class_sizes(question) {
         let linkage = linkage_of(net, facts, question);
-        let counts = counts_of(alloc, net, linkage.labels, linkage.count)?;
-        return Ok(counts);
+        if question == 6 {
+            let counts = counts_of(alloc, net, linkage.labels, linkage.count)?;
+            return Ok(counts);
+        }
+        let zeros = vec![in alloc; 0; linkage.count as usize]?;
+        return Ok(Nums::from_vec(zeros));
     }
     let none = Nums::with_room(alloc, 0)?;
     Ok(none)

@@ -1,5 +1,4 @@
-ghost use Rattle.std.specs.Prelude.{◌≡◌, ◌≤◌, ◌<◌, ◌+◌, ◌++◌, [], ◌∷◌, filter, length, IfOk, OnOk};
-ghost use Rattle.crn_vec.specs.Network.{IsNetwork};
+ghost use Rattle.std.specs.Prelude.{◌≡◌, ◌≤◌, ◌<◌, ◌+◌, ◌++◌, [], ◌∷◌, filter, length, OnOk};
 ghost use Rattle.crn_vec.specs.Deficiency.{class_members};
 ghost use Rattle.crn_vec.specs.declared.limits.TheConstants.{MAX_COMPLEXES, MAX_REACTIONS};
 ghost use Rattle.crn_check.specs.Check.{IsBuilt};
@@ -95,18 +94,17 @@ pub(crate) fn fill_members(
     Ok(())
 }
 
-// The number of reactions of this linkage class, which are listed too.
-pub(crate) fn count_members(
-    net: &Network,
-    labels: &[u32],
-    class: u32,
-    into: &mut Nums,
-) -> Result<u32, NoMemory>
-    requires network { IsNetwork net.now }
-    ensures { IfOk result (λ count. count ≡ length (members_of net.now labels.now class)) }
+// The number of reactions of this linkage class.
+pub(crate) fn count_members(net: &Network, labels: &[u32], class: u32) -> u32
+    ensures { result ≡ length (members_of net.now labels.now class) }
 {
-    fill_members(net, labels, class, into)?;
-    Ok(into.as_slice().len() as u32)
+    let mut count = 0;
+    for r in 0..net.reactions() {
+        if is_member(net, labels, class, r) {
+            count += 1;
+        }
+    }
+    count
 }
 
 // The number of complexes of this linkage class.

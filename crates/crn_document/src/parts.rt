@@ -26,23 +26,16 @@ pub(crate) struct Part {
 }
 
 // The records of the linkage class with this deficiency.
-fn class_part(
-    net: &Network,
-    labels: &[u32],
-    class: u32,
-    deficiency: u32,
-    members: &mut Nums,
-) -> Result<Part, NoMemory>
-    requires network { IsNetwork net.now }
-    requires few { length labels.now ≤ MAX_COMPLEXES }
-    ensures { IfOk result (λ part. part ≡ class_part net.now labels.now class deficiency) }
+fn class_part(net: &Network, labels: &[u32], class: u32, deficiency: u32) -> Part
+    requires { length labels.now ≤ MAX_COMPLEXES }
+    ensures { result ≡ class_part net.now labels.now class deficiency }
 {
     let complexes = complexes_of(labels, class);
-    Ok(Part {
+    Part {
         class,
         rank: complexes.saturating_sub(1).saturating_sub(deficiency),
-        count: count_members(net, labels, class, members)?,
-    })
+        count: count_members(net, labels, class),
+    }
 }
 
 // Adds the records of the linkage classes with these deficiencies, the first of which is of this class.
@@ -51,7 +44,6 @@ fn push_classes(
     labels: &[u32],
     class: u32,
     numbers: &[i128],
-    members: &mut Nums,
     into: &mut Vec<Part>,
 ) -> Result<(), NoMemory>
     requires network { IsNetwork net.now }
@@ -64,8 +56,8 @@ fn push_classes(
     match numbers.split_first() {
         None => Ok(()),
         Some((number, rest)) => {
-            into.push(class_part(net, labels, class, small(*number), members)?)?;
-            push_classes(net, labels, class + 1, rest, members, into)
+            into.push(class_part(net, labels, class, small(*number)))?;
+            push_classes(net, labels, class + 1, rest, into)
         }
     }
 }
@@ -112,15 +104,7 @@ fn classes_parts(
         ≡ parts_at net.now labels.now Q6 (number head.now 0) (later_numbers head.now)) }
 {
     let mut parts = Vec::new(alloc);
-    let mut members = Nums::with_room(alloc, net.reactions())?;
-    push_classes(
-        net,
-        labels,
-        1,
-        deficiencies_in(head),
-        &mut members,
-        &mut parts,
-    )?;
+    push_classes(net, labels, 1, deficiencies_in(head), &mut parts)?;
     Ok(parts)
 }
 
@@ -156,7 +140,6 @@ fn push_counts(
     labels: &[u32],
     class: u32,
     count: u32,
-    members: &mut Nums,
     into: &mut Nums,
 ) -> Result<(), NoMemory>
     requires network { IsNetwork net.now }
@@ -167,9 +150,9 @@ fn push_counts(
     if count == 0 {
         return Ok(());
     }
-    let here = count_members(net, labels, class, members)?;
+    let here = count_members(net, labels, class);
     into.push(here)?;
-    push_counts(net, labels, class + 1, count - 1, members, into)
+    push_counts(net, labels, class + 1, count - 1, into)
 }
 
 // How many reactions each of so many linkage classes has.
@@ -183,8 +166,7 @@ pub(crate) fn counts_of(
     requires few { count ≤ MAX_COMPLEXES }
     ensures { IfOk result (λ made. made.list ≡ class_counts net.now labels.now 1 count) }
 {
-    let mut members = Nums::with_room(alloc, net.reactions())?;
     let mut counts = Nums::with_room(alloc, count as usize)?;
-    push_counts(net, labels, 1, count, &mut members, &mut counts)?;
+    push_counts(net, labels, 1, count, &mut counts)?;
     Ok(counts)
 }

@@ -15,7 +15,8 @@ ghost use Rattle.crn_document.specs.Inner.Steps.{GoesOn, StepIs};
 ghost use Rattle.crn_document.specs.Inner.Trees.{count_a, problem_in};
 
 use crate::block::Checked;
-use crate::node::next_node;
+use crate::met::MetLines;
+use crate::node::{next_node, node_expect};
 use crate::reading::Reading;
 use crate::signal_trees::next_signal_trees;
 use crate::stop::CheckStop;
@@ -55,9 +56,11 @@ pub(crate) fn next_tree<S: Source>(
 {
     let count = count_a(net, problem);
     let cuts = KnownCuts::new(at.alloc, net, problem, table)?;
+    let expect = node_expect(at.version, net, count, cuts.len() as u32);
+    let mut met = MetLines::new(at.alloc, at.version)?;
     let mut check = TreeCheck::new(at.alloc, net, problem)?;
     'nodes: loop {
-        match next_node(source, at, net, &cuts, count, &mut check)? {
+        match next_node(source, at, net, &expect, &cuts, &mut met, &mut check)? {
             Step::More => {}
             Step::Complete => return Ok(()),
         }

@@ -1,7 +1,7 @@
 -- For the contracts of private functions alone.
 -- The head of a question, and what the records below it rest on.
 -- Source: this project's own format. Shapes: questions and the places of forms count from 1.
-use Rattle.std.specs.Prelude.{◌≡◌, ◌≤◌, ◌⊎◌, ◌==◌, ◌||◌, if◌then◌else◌, ℕ, ℤ, pos, List, ◌∷◌, length}
+use Rattle.std.specs.Prelude.{◌≡◌, ◌≤◌, ◌⊎◌, ◌==◌, ◌||◌, if◌then◌else◌, true, ℕ, ℤ, pos, List, ◌∷◌, length}
 use Rattle.std.specs.List.{AllByRecursion}
 use Rattle.crn_vec.specs.Network.{Net}
 use Rattle.crn_vec.specs.declared.limits.TheConstants.{MAX_COMPLEXES, MAX_REACTIONS}
@@ -37,21 +37,24 @@ pub record IsHead (net : Net) (earlier : Earlier) (question : ℕ) (numbers : Li
 abbrev pub class_count : ℕ → List ℤ → ℕ
 class_count question head = if question == 1 || question == 2 then number head 1 else 0
 
--- the sizes on which the forms of the head of question 13 rest besides, 0 and no for other questions
+-- the sizes on which the forms of the head of question 13 rest besides, the number of pairs only if
+-- there is a vector
 pub record FitsSignals (net : Net) (earlier : Earlier) (question : ℕ) (z : SignalSizes) : Type 0
   where
     pub few : z.pairs ≤ MAX_REACTIONS
-    pub pairs : question ≡ 13 → z.pairs ≡ (sizes_of (known_of net earlier)).pairs
+    pub pairs : question ≡ 13 → z.vector ≡ true → z.pairs ≡ (sizes_of (known_of net earlier)).pairs
     pub vector : question ≡ 13 → z.vector ≡ (sizes_of (known_of net earlier)).vector
 
--- a question the forms of whose head rest on how many reactions each linkage class has
+-- a question the forms of whose head rest on how many linkage classes there are
 abbrev pub HasClassSizes : ℕ → Type 0
 HasClassSizes question = (question ≡ 6) ⊎ (question ≡ 10) ⊎ (question ≡ 11) ⊎ (question ≡ 12)
 
--- how many reactions each linkage class has, for the questions whose heads rest on it
+-- how many reactions each linkage class has, for the question whose head rests on it, and as many
+-- numbers for those whose heads rest on how many classes there are
 pub record FitsCounts (net : Net) (earlier : Earlier) (question : ℕ) (counts : List ℕ) : Type 0
   where
     pub few : length counts ≤ MAX_COMPLEXES
     pub each : AllByRecursion (λ r. r ≤ MAX_REACTIONS) counts
-    pub are : HasClassSizes question
-        → counts ≡ (sizes_of (known_of net earlier)).class_reactions
+    pub many : HasClassSizes question
+        → length counts ≡ length (sizes_of (known_of net earlier)).class_reactions
+    pub are : question ≡ 6 → counts ≡ (sizes_of (known_of net earlier)).class_reactions

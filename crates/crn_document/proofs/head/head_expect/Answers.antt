@@ -1,4 +1,4 @@
-use Rattle.std.proofs.Common.{refl, ap, List, [], ◌∷◌, ◌∙◌}
+use Rattle.std.proofs.Common.{refl, sym, ap, List, [], ◌∷◌, length, ◌∙◌}
 use Rattle.std.specs.Prelude.{pos}
 use Rattle.crn_ctext.specs.Records.{Form}
 use Rattle.crn_ctext.specs.Blocks.{place_of}
@@ -11,7 +11,7 @@ use Rattle.crn_document.proofs.head.head_expect.Goals as goal
 pub returns-clause-due : goal.returns-clause-due
 returns-clause-due c = λ earlier fits signals.
     let z = c.head_sizes-sizes.ensures in
-    let same = heads_by_sizes c.args.question c.requires.built (sizes_of c.head_sizes-sizes.result) (known_sizes (known_of c.args.net.now earlier)) z.species z.complexes z.reactions (λ a. z.classes ∙ (let f = fits.are in f a)) (λ e. z.pairs ∙ (let p = signals.pairs in p e)) (λ e. z.vector ∙ (let v = signals.vector in v e)) in record {
+    let same = heads_by_sizes c.args.question c.requires.built (sizes_of c.head_sizes-sizes.result) (known_sizes (known_of c.args.net.now earlier)) z.species z.complexes z.reactions (λ e. z.classes ∙ (let f = fits.are in f e)) (λ a. ap length z.classes ∙ (let f = fits.many in f a)) (λ e t. z.pairs ∙ (let p = signals.pairs in p e (sym z.vector ∙ t))) (λ e. z.vector ∙ (let v = signals.vector in v e)) in record {
       may = record { version = c.requires.version; sizes = z.within; due = number_of_built c.args.question c.requires.built };
       of_version = refl;
       by_tree = refl;
@@ -22,5 +22,5 @@ returns-clause-due c = λ earlier fits signals.
 pub returns-clause-tag : goal.returns-clause-tag
 returns-clause-tag c = λ earlier r fits signals.
     let z = c.head_sizes-sizes.ensures in
-    let same = heads_by_sizes c.args.question c.requires.built (sizes_of c.head_sizes-sizes.result) (known_sizes (known_of c.args.net.now earlier)) z.species z.complexes z.reactions (λ a. z.classes ∙ (let f = fits.are in f a)) (λ e. z.pairs ∙ (let p = signals.pairs in p e)) (λ e. z.vector ∙ (let v = signals.vector in v e)) in
+    let same = heads_by_sizes c.args.question c.requires.built (sizes_of c.head_sizes-sizes.result) (known_sizes (known_of c.args.net.now earlier)) z.species z.complexes z.reactions (λ e. z.classes ∙ (let f = fits.are in f e)) (λ a. ap length z.classes ∙ (let f = fits.many in f a)) (λ e t. z.pairs ∙ (let p = signals.pairs in p e (sym z.vector ∙ t))) (λ e. z.vector ∙ (let v = signals.vector in v e)) in
     ap (λ (fs : List Form). pos (place_of fs r.words) ∷ []) same

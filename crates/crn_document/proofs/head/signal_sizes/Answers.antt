@@ -5,6 +5,8 @@ use Rattle.crn_document.specs.Inner.Parts.{IsKnown, before}
 use Rattle.crn_document.proofs.Linkages.{holds_second, pairs_few, pairs_known}
 use Rattle.crn_document.proofs.SignalsKnown.{held}
 use Rattle.std.proofs.Common.{subst}
+use Rattle.std.proofs.lemmas.Bool.{false≢true}
+use Rattle.crn_document.proofs.head.signal_sizes.Goals.{else-question-eq13-via-then-question-eq13+else-gives_vector, else-question-eq13-via-else-question-eq13}
 use Rattle.crn_document.proofs.head.signal_sizes.Goals as goal
 
 pub strong_of-requires : goal.strong_of-requires
@@ -24,8 +26,8 @@ overflow_cast-result c =
 pub gives_vector-requires : goal.gives_vector-requires
 gives_vector-requires c = (held c.args.net.now c.args.facts.now (subst (λ (n : ℕ). IsKnown c.args.net.now (before n) c.args.facts.now) c.if-question-eq13.true c.requires.known)).confluence
 
-pub returns-then-question-eq13 : goal.returns-then-question-eq13
-returns-then-question-eq13 c =
+pub returns-then-gives_vector : goal.returns-then-gives_vector
+returns-then-gives_vector c =
     let net = c.args.net.now in
     let earlier = c.args.facts.now.earlier in
     let e = c.strong_of.ensures in
@@ -35,9 +37,12 @@ returns-then-question-eq13 c =
     let most = c.requires.known.network.partial.reactions_limit in
     record {
       few = omega (arith, long, few, most);
-      pairs = λ is. long ∙ sym (ap (λ (x : List ℕ). length x) (pairs_known net c.args.question c.args.facts.now c.requires.known (inr is)));
-      vector = λ is. c.gives_vector.ensures;
+      pairs = λ is has. long ∙ sym (ap (λ (x : List ℕ). length x) (pairs_known net c.args.question c.args.facts.now c.requires.known (inr is)));
+      vector = λ is. sym c.if-gives_vector.true ∙ c.gives_vector.ensures;
     }
 
 pub returns : goal.returns
-returns c = record { few = omega arith; pairs = λ is. absurd (c.if-question-eq13.false is); vector = λ is. absurd (c.if-question-eq13.false is) }
+returns c = elim c.else-question-eq13.branch [
+  | else-question-eq13-via-then-question-eq13+else-gives_vector w ↦ record { few = omega arith; pairs = λ is has. absurd (false≢true has); vector = λ is. sym w.if-gives_vector.false ∙ w.gives_vector.ensures }
+  | else-question-eq13-via-else-question-eq13 w ↦ record { few = omega arith; pairs = λ is has. absurd (w.if-question-eq13.false is); vector = λ is. absurd (w.if-question-eq13.false is) }
+]

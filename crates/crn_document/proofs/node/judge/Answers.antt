@@ -1,30 +1,43 @@
-use Rattle.std.proofs.Common.{length, ap, arith}
-use Rattle.crn_ctext.specs.Expect.{text_of}
-use Rattle.crn_ctree.proofs.CallerLemmas.{free_b}
+use Rattle.std.proofs.Common.{length, subst, arith}
+use Rattle.crn_document.specs.declared.node.Heard.{Heard}
+use Rattle.crn_document.specs.Inner.Met.{IsNodeHeard}
 use Rattle.crn_document.specs.Inner.Trees.{count_a}
-use Rattle.crn_document.proofs.NodeRecords.{cut_a_fits}
-use Rattle.crn_document.proofs.NodeWords.{cut_a_numbers, cut_b_numbers, first_names, second_names, names_small}
 use Rattle.crn_document.proofs.node.judge.Goals as goal
 
-pub node-requires-in-CutA-clause-numbers : goal.node-requires-in-CutA-clause-numbers
-node-requires-in-CutA-clause-numbers c =
-    let h = c.requires.node in
+pub judge_new-requires-clause-node : goal.judge_new-requires-clause-node
+judge_new-requires-clause-node c =
+    let net = c.args.net.now in
     let problem = c.args.check.now.problem in
-    cut_a_fits c.args.net.now problem c.args.numbers.now (cut_a_numbers h.0 (count_a c.args.net.now problem) (length c.args.net.now.names) (length c.args.cuts.now.table) c.args.word c.args.numbers.now h.1 h.2 (ap text_of c.in-CutA.is))
-
-pub node-requires-in-CutB-clause-numbers : goal.node-requires-in-CutB-clause-numbers
-node-requires-in-CutB-clause-numbers c =
     let h = c.requires.node in
+    (h.0, h.1, subst (λ (q : Heard). IsNodeHeard h.0 (count_a net problem) (length net.names) (length c.args.cuts.now.table) net problem c.args.met.now.lines.items q c.args.numbers.now h.1) c.in-New.is h.2)
+
+pub index-requires : goal.index-requires
+index-requires c =
+    let net = c.args.net.now in
     let problem = c.args.check.now.problem in
-    free_b c.args.net.now problem c.args.numbers.now (cut_b_numbers h.0 (count_a c.args.net.now problem) (length c.args.net.now.names) (length c.args.cuts.now.table) c.args.word c.args.numbers.now h.1 h.2 (ap text_of c.in-CutB.is))
-
-pub number_of-requires : goal.number_of-requires
-number_of-requires c =
     let h = c.requires.node in
-    names_small (length c.args.cuts.now.table) c.args.numbers.now (omega (arith, c.requires.few)) (first_names h.0 (count_a c.args.net.now c.args.check.now.problem) (length c.args.net.now.names) (length c.args.cuts.now.table) c.args.word c.args.numbers.now h.1 h.2 (ap text_of c.in-RefA.is))
+    let m = subst (λ (q : Heard). IsNodeHeard h.0 (count_a net problem) (length net.names) (length c.args.cuts.now.table) net problem c.args.met.now.lines.items q c.args.numbers.now h.1) c.in-Met.is h.2 in
+    omega (arith, m.inside)
 
-pub number_of-requires-in_default : goal.number_of-requires-in_default
-number_of-requires-in_default c =
+pub judge_met-requires-clause-cut : goal.judge_met-requires-clause-cut
+judge_met-requires-clause-cut c =
+    let net = c.args.net.now in
+    let problem = c.args.check.now.problem in
     let h = c.requires.node in
-    names_small (length c.args.cuts.now.table) c.args.numbers.now (omega (arith, c.requires.few))
-    (second_names h.0 (count_a c.args.net.now c.args.check.now.problem) (length c.args.net.now.names) (length c.args.cuts.now.table) c.args.word c.args.numbers.now h.1 h.2 c.in_default.not-Split c.in_default.not-Flat c.in_default.not-CutA c.in_default.not-CutB c.in_default.not-RefA).1
+    let m = subst (λ (q : Heard). IsNodeHeard h.0 (count_a net problem) (length net.names) (length c.args.cuts.now.table) net problem c.args.met.now.lines.items q c.args.numbers.now h.1) c.in-Met.is h.2 in
+    (h.1, let k = m.cut in k c.index.result.now c.index.ensures)
+
+pub returns-in-New-clause-gives : goal.returns-in-New-clause-gives
+returns-in-New-clause-gives c = λ version r h.
+    let net = c.args.net.now in
+    let problem = c.args.check.now.problem in
+    let g = c.judge_new.ensures.gives in
+    g version r (subst (λ (q : Heard). IsNodeHeard version (count_a net problem) (length net.names) (length c.args.cuts.now.table) net problem c.args.met.now.lines.items q c.args.numbers.now r) c.in-New.is h)
+
+pub returns-in-Met-clause-gives : goal.returns-in-Met-clause-gives
+returns-in-Met-clause-gives c = λ version r h.
+    let net = c.args.net.now in
+    let problem = c.args.check.now.problem in
+    let g = c.judge_met.ensures.gives in
+    let m = subst (λ (q : Heard). IsNodeHeard version (count_a net problem) (length net.names) (length c.args.cuts.now.table) net problem c.args.met.now.lines.items q c.args.numbers.now r) c.in-Met.is h in
+    g c.args.cuts.now.table r (let k = m.cut in k c.index.result.now c.index.ensures)

@@ -1,16 +1,22 @@
-use Rattle.std.proofs.Common.{◌≡◌, ◌≢◌, ◌++◌, ◌∙◌, List, [], ◌∷◌, length, refl, sym, ap, subst, Ok}
+use Rattle.std.proofs.Common.{◌≡◌, ◌≢◌, ◌++◌, ◌∙◌, ℕ, List, [], ◌∷◌, length, refl, sym, ap, subst, Ok}
 use Rattle.std.specs.Prelude.{ℤ}
 use Rattle.std.proofs.lemmas.Result.{err_from_is_err_and}
 use Rattle.crn_vec.specs.declared.signs.Sign.{Sign}
 use Rattle.crn_vec.specs.Visits.{root}
 use Rattle.crn_ctext.specs.Blocks.{asks_tree}
 use Rattle.crn_ctext.specs.Steps.{StepGives}
+use Rattle.crn_vec.specs.Network.{Net}
+use Rattle.crn_ctext.specs.declared.expect.Expect.{Expect}
 use Rattle.crn_ctree.specs.Due.{first}
+use Rattle.crn_ctree.specs.Known.{KeptCuts}
+use Rattle.crn_document.specs.declared.met.MetLine.{MetLine}
+use Rattle.crn_document.specs.Inner.Met.{AreMet}
 use Rattle.crn_ctree.specs.declared.node.Step.{Step}
 use Rattle.crn_ctree.specs.declared.problem.Problem.{Problem}
+use Rattle.crn_document.specs.declared.stop.CheckStop.TheVariants as stop
 use Rattle.crn_document.specs.Inner.Steps.{StepIs, StopIs}
-use Rattle.crn_document.specs.Inner.Trees.{Leaves, asks_due, asks_one, count_a, problem_in}
-use Rattle.crn_document.proofs.Steps.{step_exits}
+use Rattle.crn_document.specs.Inner.Trees.{ExpectsNode, Leaves, asks_due, asks_one, count_a, problem_in}
+use Rattle.crn_document.proofs.Steps.{step_exits, stops_here}
 use Rattle.crn_vec.specs.Problems.{Signed}
 use Rattle.crn_cert.specs.Nodes.{Said, Passing}
 use Rattle.crn_ctree.specs.Problem.{problem_of}
@@ -26,6 +32,19 @@ passes_on v w due after said same some passing taken =
     let t = subst (λ (x : Signed). TakesSome x due after) same taken in
     (said ++ t.0 ∷ [], passing_taken w root due after said t.0 some passing t.1)
 
+-- what is due is that of the table, of the network and of the problem of the cuts
+expects : (e : Expect) (version : ℕ) (net : Net) (problem : Problem) (table : List (List ℤ)) (cuts : KeptCuts) → cuts.net ≡ net → cuts.problem ≡ problem → cuts.table ≡ table → ExpectsNode e version (count_a net problem) (length net.names) (length table)
+    → ExpectsNode e version (count_a cuts.net cuts.problem) (length cuts.net.names) (length cuts.table)
+expects e version net problem table cuts n p t x =
+    subst (λ (m : Net). ExpectsNode e version (count_a m cuts.problem) (length m.names) (length cuts.table)) (sym n)
+    (subst (λ (q : Problem). ExpectsNode e version (count_a net q) (length net.names) (length cuts.table)) (sym p)
+    (subst (λ (u : List (List ℤ)). ExpectsNode e version (count_a net problem) (length net.names) (length u)) (sym t) x))
+
+-- so are the lines that were met
+met_by : (e : Expect) (m n : Net) (p q : Problem) (lines : List MetLine) → m ≡ n → p ≡ q → AreMet e m p lines → AreMet e n q lines
+met_by e m n p q lines same_net same_problem all =
+    subst (λ (k : Net). AreMet e k q lines) same_net (subst (λ (k : Problem). AreMet e m k lines) same_problem all)
+
 pub nodes-init : goal.nodes-init
 nodes-init g c =
     let at = c.args.at.now in
@@ -37,12 +56,27 @@ nodes-init g c =
       version = refl;
       some = λ none. let e : root ≡ [] = sym c.in_ok-check.ensures.due ∙ none in absurd cc;
       choices = c.in_ok-check.ensures.choices ∙ ap (λ (k : Problem). (problem_of net k).choices) (sym c.in_ok-check.ensures.problem);
-      count = (c.count_a-count.ensures.count ∙ ap (λ (k : Problem). count_a net k) (sym c.in_ok-check.ensures.problem), c.count_a-count.ensures.few);
+      node = subst (λ (a : ℕ). ExpectsNode c.node_expect-expect.result at.version a (length net.names) (length table)) c.count_a-count.ensures.count
+          (subst (λ (k : ℕ). ExpectsNode c.node_expect-expect.result at.version c.count_a-count.result (length net.names) k) (c.len.ensures ∙ ap length c.in_ok-cuts.ensures.table) c.node_expect-expect.ensures);
+      met = subst (λ (lines : List MetLine). AreMet c.node_expect-expect.result net c.args.problem lines) (sym c.in_ok-met.ensures) tt;
       problem = c.in_ok-check.ensures.problem;
       passing = ([], subst (λ (d : List (List Sign)). Passing (problem_of net c.args.problem) root [] d) (sym c.in_ok-check.ensures.due) (passing_none (problem_of net c.args.problem)));
       whole = λ result new now q. step_follows (asks_due at.version table p root at.line) (asks_tree at.version table p p.choices [] at.line) (λ t line. line ≡ new.line) result at new (g.S.Source.seen c.args.source.now) now (root_tree at.version table p at.line)
           (subst (λ (d : List (List Sign)). StepIs (asks_due at.version table p d at.line) (λ t line. line ≡ new.line) result at new (g.S.Source.seen c.args.source.now) now) c.in_ok-check.ensures.due q);
     }
+
+pub returns-in_err-check-clause-step : goal.returns-in_err-check-clause-step
+returns-in_err-check-clause-step g c =
+    step_exits _ _ _ stop.NoMemory _ _ _ _ (err_from_is_err_and _ c.from_residual-in_err-check.ensures.1) (stops_here c.args.at.now _ c.requires.goes.reads, refl)
+
+pub next_node-requires-clause-node : goal.next_node-requires-clause-node
+next_node-requires-clause-node g c =
+    expects c.node_expect-expect.result c.nodes.at.version c.args.net.now c.args.problem c.args.table.now c.in_ok-cuts.cuts c.in_ok-cuts.ensures.net c.in_ok-cuts.ensures.problem c.in_ok-cuts.ensures.table (c.nodes.invariant).node
+
+pub next_node-requires-clause-met : goal.next_node-requires-clause-met
+next_node-requires-clause-met g c =
+    let k = c.in_ok-cuts.cuts in
+    met_by c.node_expect-expect.result c.args.net.now k.net c.args.problem k.problem c.nodes.met.lines.items (sym c.in_ok-cuts.ensures.net) (sym c.in_ok-cuts.ensures.problem) (c.nodes.invariant).met
 
 pub returns-in_err-next_node-clause-step : goal.returns-in_err-next_node-clause-step
 returns-in_err-next_node-clause-step g c =
@@ -80,7 +114,8 @@ nodes-preserved g c =
       version = c.next_node.ensures.version ∙ h.version;
       some = subst (λ (step : Step). Leaves step after.due) c.in-More.is c.in_ok-next_node.ensures.leaves;
       choices = c.next_node.ensures.choices ∙ h.choices ∙ ap (λ (k : Problem). (problem_of net k).choices) (sym c.next_node.ensures.problem);
-      count = (h.count.0 ∙ ap (λ (k : Problem). count_a net k) (sym c.next_node.ensures.problem), h.count.1);
+      node = subst (λ (v : ℕ). ExpectsNode c.node_expect-expect.result v (count_a net c.args.problem) (length net.names) (length table)) (sym c.next_node.ensures.version) h.node;
+      met = met_by c.node_expect-expect.result c.in_ok-cuts.cuts.net net c.in_ok-cuts.cuts.problem c.args.problem c.next_node.new.met.lines.items c.in_ok-cuts.ensures.net c.in_ok-cuts.ensures.problem c.in_ok-next_node.ensures.met;
       problem = c.next_node.ensures.problem ∙ h.problem;
       passing = passes_on (problem_of net tree.problem) (problem_of net c.args.problem) tree.due after.due h.passing.0 (ap (problem_of net) h.problem) h.some h.passing.1 c.in_ok-next_node.ensures.taken;
       whole = λ result new now q. whole result new now

@@ -1,14 +1,15 @@
-use Rattle.std.proofs.Common.{◌≡◌, ◌≢◌, ◌≤◌, ◌-◌, List, [], length, Result}
+use Rattle.std.proofs.Common.{◌≡◌, ◌≢◌, ◌-◌, List, [], length, Result}
 use Rattle.crn_vec.specs.Visits.{root}
 use Rattle.crn_cert.specs.Nodes.{Said, Passing}
 use Rattle.crn_ctree.specs.Problem.{problem_of}
 use Rattle.crn_io.specs.Device.{SourceSeen}
-use Rattle.crn_io.specs.declared.lines.TheConstants.{MAX_DOCUMENT, MAX_NUMBERS}
+use Rattle.crn_io.specs.declared.lines.TheConstants.{MAX_DOCUMENT}
 use Rattle.crn_ctext.specs.Blocks.{asks_tree}
 use Rattle.crn_document.specs.declared.reading.Reading.{Reading}
 use Rattle.crn_document.specs.declared.stop.CheckStop.{CheckStop}
 use Rattle.crn_document.specs.Inner.Steps.{GoesOn, StepIs}
-use Rattle.crn_document.specs.Inner.Trees.{asks_due, choices_in, count_a, problem_in}
+use Rattle.crn_document.specs.Inner.Trees.{ExpectsNode, asks_due, choices_in, count_a, problem_in}
+use Rattle.crn_document.specs.Inner.Met.{AreMet}
 use Rattle.crn_document.proofs.tree.next_tree.Given as goal
 
 -- a step through the trees that are due is one through the whole tree
@@ -18,7 +19,8 @@ invariant-nodes g l = record {
   version : l.at.version ≡ l.fn.at.version;
   some : l.check.due ≢ [];
   choices : l.check.choices ≡ (problem_of l.net l.check.problem).choices;
-  count : (l.count ≡ count_a l.net l.check.problem) × (l.count ≤ MAX_NUMBERS);
+  node : ExpectsNode l.expect l.at.version (count_a l.net l.fn.problem) (length l.net.names) (length l.table);
+  met : AreMet l.expect l.net l.fn.problem l.met.lines.items;
   problem : l.check.problem ≡ l.fn.problem;
   passing : (said : List Said) × Passing (problem_of l.net l.fn.problem) root said l.check.due;
   whole : (result : Result (Unit {0}) CheckStop) (new : Reading) (now : SourceSeen)

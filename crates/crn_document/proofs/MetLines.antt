@@ -1,0 +1,121 @@
+-- Lines of a tree that were met before are nodes that are due.
+use Rattle.std.proofs.Common.{◌≡◌, ◌<◌, ◌++◌, ◌∙◌, true, false, ℕ, Option, zero, suc, List, [], ◌∷◌, length, get_or, refl, sym, ap, subst, arith, Result}
+use Rattle.std.specs.Prelude.{ℤ, codes}
+use Rattle.std.proofs.lemmas.List.{length-append}
+use Rattle.std.proofs.Math.Seq.{get_or-append_seam}
+use Rattle.crn_vec.specs.declared.signs.Sign.{Sign}
+use Rattle.crn_vec.specs.Network.{Net}
+use Rattle.crn_vec.specs.Problems.{Signed}
+use Rattle.crn_io.specs.Lines.{Place}
+use Rattle.crn_cert.specs.Nodes.{Said, Splits, Flats, CutsA, CutsB}
+use Rattle.crn_ctext.specs.Records.{Record}
+use Rattle.crn_io.specs.Next.{KeptLines}
+use Rattle.crn_ctext.specs.Course.{Gives, due}
+use Rattle.crn_ctext.specs.Steps.{StepGives}
+use Rattle.crn_ctext.specs.Blocks.{CutA, CutB}
+use Rattle.crn_ctext.specs.Expect.{IsReadAs, forms_of, is_after, misplaced, tests_of, text_of}
+use Rattle.crn_ctext.specs.declared.word.Word.{Word}
+use Rattle.crn_ctext.specs.declared.word.Word.TheVariants as words
+use Rattle.crn_ctext.specs.declared.expect.Expect.{Expect}
+use Rattle.crn_ctext.proofs.CallerLemmas.{step_then}
+use Rattle.crn_ctree.specs.Gives.{NodeGives}
+use Rattle.crn_ctree.specs.Known.{KeptCut}
+use Rattle.crn_ctree.specs.declared.problem.Problem.{Problem as TreeProblem}
+use Rattle.crn_ctree.specs.declared.node.Step.{Step}
+use Rattle.crn_ctree.specs.declared.fault.TreeFault.{TreeFault}
+use Rattle.crn_document.specs.declared.met.MetLine.{MetLine}
+use Rattle.crn_document.specs.declared.node.Heard.{Heard}
+use Rattle.crn_document.specs.declared.node.Heard.TheVariants.{New, Met}
+use Rattle.crn_document.specs.Inner.Met.{AreMet, IsCutOf, IsHeardAs, IsMet, IsMetAt, IsNodeHeard, SaysPlainly, plain_node}
+use Rattle.crn_document.specs.Inner.Trees.{ExpectsNode, IsSaidAs, JudgeGives, asks_node_for}
+use Rattle.crn_document.proofs.NodeRecords.{node_said}
+use Rattle.crn_document.proofs.NodeWords.{node_is}
+use Rattle.crn_document.proofs.Records.{reads_one}
+use Rattle.crn_document.proofs.Steps.{tests_give}
+
+-- ---- a line that is met
+
+-- a line that is one of those that were met is a record, which says its cut
+pub record IsFound (e : Expect) (net : Net) (problem : TreeProblem) (lines : List MetLine) (line : List ℕ) (i : ℕ) : Type 0 where
+  pub r : Record
+  pub gives : (n : ℕ) (at : Place) → Gives (tests_of e n line) at r at
+  pub is : IsMetAt net problem lines i r
+
+pub met_at : (e : Expect) (net : Net) (problem : TreeProblem) (lines : List MetLine) (line : List ℕ) (i : ℕ) → AreMet e net problem lines → i < length lines
+    → ((m : MetLine) → m ≡ get_or lines i m → m.line.items ≡ line) → IsFound e net problem lines line i
+met_at e net problem [] line i all lt same = absurd (omega (arith, lt))
+met_at e net problem (m ∷ ms) line zero all lt same = record {
+  r = (all.0).said;
+  gives = λ n at. subst (λ (l : List ℕ). Gives (tests_of e n l) at (all.0).said at) (same m refl) (let g = (all.0).gives in g n at);
+  is = record { inside = lt; cut = λ k f. subst (λ (x : MetLine). IsCutOf net problem x.cut (all.0).said) (sym f) (all.0).cut };
+}
+met_at e net problem (m ∷ ms) line (suc i) all lt same =
+    let h = met_at e net problem ms line i all.1 (omega (arith, lt)) same in record { r = h.r; gives = h.gives; is = record { inside = lt; cut = (h.is).cut } }
+
+-- ---- a line that is kept
+
+pub met_more : (e : Expect) (net : Net) (problem : TreeProblem) (lines new : List MetLine) (m : MetLine) → new ≡ lines ++ m ∷ [] → AreMet e net problem lines → IsMet e net problem m → AreMet e net problem new
+met_more e net problem lines new m f all one = subst (λ (ls : List MetLine). AreMet e net problem ls) (sym f) (by lines all)
+  where
+    by : (ls : List MetLine) → AreMet e net problem ls → AreMet e net problem (ls ++ m ∷ [])
+    by [] all = (one, tt)
+    by (l ∷ ls) all = (all.0, by ls all.1)
+
+pub met_last : (net : Net) (problem : TreeProblem) (lines new : List MetLine) (m : MetLine) (i : ℕ) (r : Record) → new ≡ lines ++ m ∷ [] → i ≡ length lines → IsCutOf net problem m.cut r → IsMetAt net problem new i r
+met_last net problem lines new m i r f e cut = record {
+  inside = omega (arith, e, ap length f, length-append lines (m ∷ []));
+  cut = λ k g.
+      let last : k ≡ m = g ∙ ap (λ (ls : List MetLine). get_or ls i k) f ∙ ap (λ j. get_or (lines ++ m ∷ []) j k) e ∙ get_or-append_seam lines m [] k in
+      subst (λ (x : MetLine). IsCutOf net problem x.cut r) (sym last) cut;
+}
+
+pub cut_of : (e : Expect) (net : Net) (problem : TreeProblem) (line : List ℕ) (said : Said) (r : Record) (cut : KeptCut) → cut.net ≡ net → cut.problem ≡ problem → cut.said ≡ said → SaysPlainly e line said r → IsCutOf net problem cut r
+cut_of e net problem line said r cut n p s h = record { of_net = n; of_problem = p; node = λ table. let g = h.node in g table ∙ ap plain_node (sym s) }
+
+pub is_met : (e : Expect) (net : Net) (problem : TreeProblem) (line : List ℕ) (said : Said) (r : Record) (m : MetLine) → m.line.items ≡ line → (m.cut).net ≡ net → (m.cut).problem ≡ problem → (m.cut).said ≡ said → SaysPlainly e line said r → IsMet e net problem m
+is_met e net problem line said r m l n p s h = record {
+  said = r;
+  gives = λ k at. subst (λ (x : List ℕ). Gives (tests_of e k x) at r at) (sym l) (let g = h.gives in g k at);
+  cut = cut_of e net problem line said r m.cut n p s h;
+}
+
+-- ---- a line that was read
+
+pub said_as : (e : Expect) (line : List ℕ) (word : Word) (read : List ℤ) (h : IsReadAs e line word read) → IsSaidAs e word read h.said
+said_as e line word read h =
+    let here : Place = record { line = 0; before = 0; left = [] } in
+    let g = h.gives in
+    record {
+      said = record { form = reads_one e.version 0 (is_after e.due e.after_tree) (forms_of e) (misplaced e.due) line here here h.said (g 0 here); numbers = h.numbers };
+      kind = h.kind;
+    }
+
+pub says_a : (e : Expect) (version a s k : ℕ) (line : List ℕ) (word : Word) (read : List ℤ) → ExpectsNode e version a s k → (h : IsReadAs e line word read) → word ≡ words.CutA → SaysPlainly e line (CutsA read) h.said
+says_a e version a s k line word read x h w =
+    let node = node_said e version a s k word read h.said x (said_as e line word read h) in
+    record { gives = h.gives; node = λ table. node_is table h.said (codes "cuta") (h.kind ∙ ap text_of w) ∙ ap (λ (zs : List ℤ). CutA false zs) (sym node.numbers_are) }
+
+pub says_b : (e : Expect) (version a s k : ℕ) (line : List ℕ) (word : Word) (read : List ℤ) → ExpectsNode e version a s k → (h : IsReadAs e line word read) → word ≡ words.CutB → SaysPlainly e line (CutsB read) h.said
+says_b e version a s k line word read x h w =
+    let node = node_said e version a s k word read h.said x (said_as e line word read h) in
+    record { gives = h.gives; node = λ table. node_is table h.said (codes "cutb") (h.kind ∙ ap text_of w) ∙ ap (λ (zs : List ℤ). CutB false zs) (sym node.numbers_are) }
+
+-- all tests of a line that is due hold
+pub line_reads : (e : Expect) (n m : ℕ) (line : List ℕ) (r : Record) (old mid : KeptLines) (left after : Option (List ℕ)) → StepGives (due true) line n m old mid left after
+    → ((k : ℕ) (at : Place) → Gives (tests_of e k line) at r at) → StepGives (asks_node_for e n) r n m old mid left after
+line_reads e n m line r old mid left after s g =
+    step_then (due true) (λ line. tests_of e n line) line r n m m old mid mid left after after s (tests_give (tests_of e n line) r m mid after (λ at. g n at))
+
+-- ---- what is judged
+
+pub plain_gives : (w : Signed) (due after : List (List Sign)) (said : Said) (result : Result Step TreeFault) → NodeGives w due said after result → JudgeGives w due (plain_node said) after result
+plain_gives w due after Splits result g = g
+plain_gives w due after Flats result g = g
+plain_gives w due after (CutsA u) result g = g
+plain_gives w due after (CutsB u) result g = g
+
+-- a node that was heard
+pub node_heard : (e : Expect) (version a s k : ℕ) (net : Net) (problem : TreeProblem) (lines : List MetLine) (heard : Heard) (read : List ℤ) (r : Record) → ExpectsNode e version a s k
+    → IsHeardAs e net problem lines heard read r → IsNodeHeard version a s k net problem lines heard read r
+node_heard e version a s k net problem lines (New word) read r x h = node_said e version a s k word read r x h
+node_heard e version a s k net problem lines (Met i) read r x h = h
