@@ -19,32 +19,14 @@ use Rattle.crn_cert.specs.declared.answer.Proof.TheVariants.{Rank as RankRows}
 use Rattle.crn_cert.specs.Questions.{Earlier, Q5}
 use Rattle.crn_cert.specs.Formed.{IsFormed, IsWideGap}
 use Rattle.crn_cert.specs.Valid.{IsValid}
-use Rattle.crn_cert.proofs.CallerLemmas.{valid_answers_are_true, all_vectors, range_ascending, range_bounds}
+use Rattle.crn_cert.proofs.CallerLemmas.{valid_answers_are_true, all_vectors}
 use Rattle.crn_rank.specs.Rank.{AreMembers, ProvesRank, member_matrix}
 use Rattle.crn_cert.specs.Answered.{IsAnswer}
 use Rattle.crn_solve.specs.Inner.Given.{IsRankAnswer, wide_answer}
 use Rattle.crn_conc.proofs.CallerLemmas.{vectors_count}
+use Rattle.crn_defi.proofs.CallerLemmas.{all_places, rank_is}
 use Rattle.crn_solve.proofs.Ranks.{rank_from}
 use Rattle.crn_conc.proofs.CallerLemmas.{wide_basis}
-
-abbrev pub all_places : Net → List ℕ
-all_places net = range_with_len 1 (length net.reactions)
-
-pub range_more : (a n j : ℕ) → a + n ≡ j → range_with_len a (n + 1) ≡ range_with_len a n ++ j ∷ []
-range_more a zero j e = ap (λ (k : ℕ). k ∷ []) (let f : a ≡ j = omega (arith, e) in f)
-range_more a (suc n) j e =
-    let same : suc n + 1 ≡ suc (n + 1) = omega arith in
-    let more : range_with_len a (suc n + 1) ≡ range_with_len a (suc (n + 1)) = ap (range_with_len a) same in
-    more ∙ ap (λ (l : List ℕ). a ∷ l) (range_more (a + 1) n j (omega (arith, e)))
-
-pub are_members : (net : Net) → AreMembers net (all_places net)
-are_members net = record {
-  ascending = range_ascending 1 (length net.reactions);
-  each = λ r i. let b = range_bounds r 1 (length net.reactions) i in (b.0, omega (arith, b.1));
-}
-
-rank_is : (net : Net) (proof : RankProof) → ProvesRank net (all_places net) proof → IsRank (vectors net) (length proof.base.list)
-rank_is net proof h = subst (λ (vs : List (List ℤ)). IsRank vs (length proof.base.list)) (all_vectors net) h.rank
 
 pub base_few : (net : Net) (proof : RankProof) → IsNetwork net → ProvesRank net (all_places net) proof → length proof.base.list ≤ MAX_REACTIONS
 base_few net proof n h = let r = rank_from net (length proof.base.list) n (rank_is net proof h) in omega (arith, r.1, n.partial.reactions_limit)

@@ -7,7 +7,8 @@ use Rattle.crn_rank.specs.Rank.{AreMembers, IsWideStop, ProvesRank, member_matri
 use Rattle.crn_cert.specs.Answered.{IsAnswer}
 use Rattle.crn_solve.specs.Inner.Given.{IsRankAnswer}
 use Rattle.crn_conc.proofs.CallerLemmas.{if_ok}
-use Rattle.crn_solve.proofs.RankAnswers.{all_members, are_members, base_few, rank_given, rank_wide}
+use Rattle.crn_defi.proofs.CallerLemmas.{are_members}
+use Rattle.crn_solve.proofs.RankAnswers.{all_members, base_few, rank_given, rank_wide}
 use Rattle.crn_solve.proofs.rank_answer.rank_answer.Goals as goal
 
 pub rank_by-requires-clause-members : goal.rank_by-requires-clause-members
