@@ -30,7 +30,7 @@ pub use Rattle.crn_vec.proofs.RowLists.{within_append, amounts_within, drop_seam
 -- Numbers that 128 bits hold, and bounds of sums and products.
 pub use Rattle.crn_vec.proofs.Held.{held, product_within, sum_within}
 -- Places that are skipped in sums of products, what a zero adds, and bounds of lists in which places are set.
-pub use Rattle.crn_vec.proofs.ZeroPlaces.{dot_skip, skips_long, zero_adds, nought_adds, within_more, within_set, entry_of_zeros, zeros_within}
+pub use Rattle.crn_vec.proofs.ZeroPlaces.{dot_skip, zero_adds, nought_adds, within_more, within_set, entry_of_zeros, zeros_within}
 -- Ring laws and signs of whole numbers.
 pub use Rattle.crn_vec.proofs.Ring.{distrib, distrib-right, assoc, left-comm, mul-neg, mul-sub, no_zero, pos_pos, is_zero, one_ne_zero}
 pub use Rattle.crn_vec.proofs.Ring.{neg-mul, cancel_right, swap_factors, ratios_cross, one-mul, zero_times, plus_none, positive_some}

@@ -47,11 +47,6 @@ skipped a b skips same (inr h) k le =
       same = dot_skip a b k (slice_index skips k) same s.after inside (λ i from lt. ap (λ (x : ℤ). entry a i *ℤ x) (s.zero i from lt) ∙ *ℤ-zero (entry a i));
     }
 
--- there is a place to go to from each place, and from the end
-pub skips_long : (a b : List ℤ) (skips : List ℕ) → length b ≡ length a → AreSkips a skips ⊎ AreSkips b skips → length a < length skips
-skips_long a b skips same (inl h) = h.long
-skips_long a b skips same (inr h) = omega (arith, same, h.long)
-
 -- a multiple of a zero adds nothing, and neither does the multiple zero
 pub zero_adds : (x n y : ℤ) → y ≡ pos 0 → x ≡ x +ℤ (n *ℤ y)
 zero_adds x n y e = sym (ap (λ (z : ℤ). x +ℤ (n *ℤ z)) e ∙ ap (λ (z : ℤ). x +ℤ z) (*ℤ-zero n) ∙ plus_none x)

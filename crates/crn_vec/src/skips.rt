@@ -6,7 +6,7 @@ ghost use Rattle.crn_vec.specs.declared.limits.TheConstants.{MAX_AMOUNT, MAX_COO
 use crate::limits::MAX_SPECIES;
 use crate::vectors::times;
 
-/// From each place of a vector the next at which it is not 0, or the vector's length.
+/// From each place of a vector a place, this one or a later one, or the vector's length, before which the vector is 0.
 pub type Skips = [u8; MAX_SPECIES + 1];
 
 /// Whether a number is 0, as most numbers of certificates are.
@@ -16,7 +16,8 @@ pub fn is_nought(number: &i128) -> bool
     *number == 0
 }
 
-/// The places at which a vector with an entry for each species is not 0. It takes no memory.
+/// The skips of a vector with an entry for each species: from each place to the next at which it is not 0. That no place
+/// is nearer than need be is no clause; it would only be slower. It takes no memory.
 pub fn skips_of(vector: &[i128]) -> Skips
     requires { length vector.now ≤ MAX_SPECIES }
     ensures { AreSkips vector.now result }
