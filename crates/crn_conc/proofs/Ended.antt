@@ -1,5 +1,5 @@
 -- The answers that the end of a search over a table, or its stop, gives.
-use Rattle.std.proofs.Common.{◌≡◌, ℕ, zero, suc, ◌<◌, ◌≤◌, ◌⊎◌, inl, inr, List, [], ◌∷◌, length, take, refl, sym, subst, arith, length-take-le}
+use Rattle.std.proofs.Common.{◌≡◌, ℕ, zero, suc, ◌<◌, ◌≤◌, ◌⊎◌, inl, inr, List, [], ◌∷◌, ◌++◌, true, false, length, take, refl, sym, subst, arith, length-take-le}
 use Rattle.std.specs.Prelude.{ℤ, unsigned_abs}
 use Rattle.std.specs.List.{AllByRecursion}
 use Rattle.crn_vec.specs.declared.limits.TheConstants.{MAX_BUDGET, WIDE_SOLUTION}
@@ -12,14 +12,14 @@ use Rattle.crn_vec.specs.Vectors.{Mat, entry}
 use Rattle.crn_vec.specs.Elementary.{NamesWide}
 use Rattle.crn_vec.specs.Concordance.{IsTable, IsDiscordant, concordance}
 use Rattle.crn_vec.specs.Influence.{plain_table, strong_table}
-use Rattle.crn_vec.specs.Visits.{PassesBudget}
-use Rattle.crn_vec.proofs.CallerLemmas.{all_in, networks_have_tables, tables_feasible, rows_count}
+use Rattle.crn_vec.specs.Visits.{PassesBudget, root}
+use Rattle.crn_vec.proofs.CallerLemmas.{all_in, longer_by, networks_have_tables, tables_feasible, rows_count}
 use Rattle.crn_cert.specs.declared.answer.Answer.{Answer}
 use Rattle.crn_cert.specs.declared.tree.Tree.{Tree}
-use Rattle.crn_cert.specs.Questions.{Earlier, Question, Q14, Q15}
+use Rattle.crn_cert.specs.Questions.{Earlier, IsOpen, Question, Q14, Q15}
 use Rattle.crn_cert.specs.Ranges.{AreFree, IsNarrow}
 use Rattle.crn_cert.specs.Tests.{AllHold}
-use Rattle.crn_cert.specs.Trees.{plan, IsFormedTree}
+use Rattle.crn_cert.specs.Trees.{plan, places, IsFormedTree}
 use Rattle.crn_cert.specs.Nodes.{Fits}
 use Rattle.crn_cert.specs.TreeTests.{tree_tests}
 use Rattle.crn_cert.specs.Formed.{IsFormed, IsBasisOf}
@@ -130,6 +130,18 @@ few_open budget (WideA index basis) answer e = subst (λ (a : Answer). HasFewNod
 few_open budget (WideB index basis) answer e = subst (λ (a : Answer). HasFewNodes budget a.proof) (sym e) tt
 few_open budget NoMemory answer e = absurd e
 
+-- a search that ends with a discordance or a tree stays within the budget
+pub end_open : (m : Mat) (table : List (List Sign)) (budget : ℕ) (e : SearchEnd) → IsSearchEnd (concordance m table) budget e → PassesBudget (concordance m table) budget → IsOpen (end_answer budget e).verdict
+end_open m table budget (Found q a b) h pass = absurd (omega (arith, h.3, longer_by (concordance m table) root (h.1 ++ q ∷ []) true budget h.2 pass))
+end_open m table budget (Refuted tree) h pass = absurd (omega (arith, h.2, longer_by (concordance m table) root (places [] (plan tree)) false budget h.1 pass))
+end_open m table budget Spent h pass = tt
+
+-- and one that stops leaves the question open
+pub stop_open : (s : SearchStop) (answer : Answer) → IsStopAnswer s answer → IsOpen answer.verdict
+stop_open (WideA index basis) answer e = subst (λ (a : Answer). IsOpen a.verdict) (sym e) tt
+stop_open (WideB index basis) answer e = subst (λ (a : Answer). IsOpen a.verdict) (sym e) tt
+stop_open NoMemory answer e = absurd e
+
 -- ---- by what the code knows
 
 -- a table of the network fits the matrix that is its system 2
@@ -154,3 +166,8 @@ stop_by {net} {asked} asks m table budget s answer me h te a earlier =
 
 pub few_by : (m : Mat) (table : List (List Sign)) (budget : ℕ) (e : SearchEnd) (answer : Answer) → answer ≡ end_answer budget e → IsSearchEnd (concordance m table) budget e → HasFewNodes budget answer.proof
 few_by m table budget e answer ae h = subst (λ (a : Answer). HasFewNodes budget a.proof) (sym ae) (few_nodes m table budget e h)
+
+pub open_by : (net : Net) (m : Mat) (table : List (List Sign)) (budget : ℕ) (e : SearchEnd) (answer : Answer) → m ≡ reaction_system net → answer ≡ end_answer budget e → IsSearchEnd (concordance m table) budget e
+    → PassesBudget (concordance (reaction_system net) table) budget → IsOpen answer.verdict
+open_by net m table budget e answer me ae h pass =
+    subst (λ (a : Answer). IsOpen a.verdict) (sym ae) (end_open m table budget e h (subst (λ (a : Mat). PassesBudget (concordance a table) budget) (sym me) pass))

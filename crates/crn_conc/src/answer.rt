@@ -1,8 +1,11 @@
 ghost use Rattle.std.specs.Prelude.{◌≡◌, ◌≤◌, ◌⊎◌, IfOk};
 ghost use Rattle.crn_vec.specs.declared.limits.TheConstants.{MAX_BUDGET};
+ghost use Rattle.crn_vec.specs.Concordance.{concordance};
 ghost use Rattle.crn_vec.specs.Influence.{plain_table, strong_table};
+ghost use Rattle.crn_vec.specs.NetSystems.{reaction_system};
+ghost use Rattle.crn_vec.specs.Visits.{PassesBudget};
 ghost use Rattle.crn_cert.specs.Answered.{IsAnswer};
-ghost use Rattle.crn_cert.specs.Questions.{Earlier, Q14, Q15};
+ghost use Rattle.crn_cert.specs.Questions.{Earlier, IsOpen, Q14, Q15};
 ghost use Rattle.crn_cert.specs.TreeSizes.{HasFewNodes};
 ghost use Rattle.crn_conc.specs.Inner.Answers.{IsStopAnswer, end_answer, wide_answer};
 
@@ -68,7 +71,8 @@ fn stop_answer(stop: SearchStop) -> Result<Answer, NoMemory>
 /// Question 14, whether a network is concordant, by its plain table, or question 15, whether it is
 /// strongly concordant, by its strong table.
 ///
-/// A no has a discordance of the table, and a yes a tree that shows that there is none.
+/// A no has a discordance of the table, and a yes a tree that shows that there is none. If the visits exceed the budget, the
+/// question is open.
 pub fn concordant(
     alloc: Global,
     net: &Network,
@@ -83,6 +87,9 @@ pub fn concordant(
     ensures strong { table.now ≡ strong_table net.now → IfOk result
         (λ answer. (earlier : Earlier) → IsAnswer net.now budget earlier Q15 answer) }
     ensures nodes { IfOk result (λ answer. HasFewNodes budget answer.proof) }
+    ensures spent { IfOk result (λ answer.
+        PassesBudget (concordance (reaction_system net.now) table.now) budget
+        → IsOpen answer.verdict) }
 {
     let _ = net.species();
     let matrix = reaction_matrix(alloc, net)?;
