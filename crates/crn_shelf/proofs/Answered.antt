@@ -288,6 +288,14 @@ found_is net earlier g weak turn budget count terminal labels exits q pattern a 
     } in
     subst (IsAnswer net budget earlier Q13) (sym f.is) done
 
+-- a vector for which the search finds a prefix has a signal
+pub found_has_signal : (net : Net) (g : List ℤ) (budget : ℕ) (q : List Sign) (a b : KeptInts) → IsNetwork net → IsRegular net → IsConfluenceVector net g → EndsFor net g budget (Found q a b) → HasNoSignal net g → ⊥
+found_has_signal net g budget q a b n regular c e none =
+    let s = e.0 in
+    let st = e.2.0 in
+    none (take s.count q) (take s.species a.list) (entry a.list s.species) b.list
+    ((signals_are_of_shape net g s n regular c.space e.1).named q a.list b.list st.full st.opened (st.part_a.v, st.part_a.solves) (st.part_b.v, st.part_b.solves))
+
 -- the negative of a confluence vector of a weakly reversible network is one
 pub negative_too : (net : Net) (g : List ℤ) → IsNetwork net → IsRegular net → HasConfluenceLine net → IsWeaklyReversible net.reactions → IsConfluenceVector net g → IsConfluenceVector net (negative g)
 negative_too net g n regular line weak c = ((confluence_vectors_are_one net n regular line).negative_too g c).1 weak

@@ -1,7 +1,7 @@
 ghost use Rattle.std.specs.Prelude.{◌≡◌, ◌≤◌, ◌<◌, ◌↔◌, IsTrue, length, map, true, IfOk};
 ghost use Rattle.std.specs.List.{AllByRecursion};
 ghost use Rattle.crn_vec.specs.declared.limits.TheConstants.{MAX_BUDGET};
-ghost use Rattle.crn_vec.specs.Confluence.{HasConfluenceLine, IsNormalVector, IsRegular};
+ghost use Rattle.crn_vec.specs.Confluence.{HasConfluenceLine, IsNormalVector, IsRegular, negative};
 ghost use Rattle.crn_vec.specs.NetSignals.{HasNoSignal, IsShapeOf};
 ghost use Rattle.crn_vec.specs.Strong.{IsWeaklyReversible};
 ghost use Rattle.crn_cert.specs.Ranges.{IsNarrow};
@@ -155,6 +155,8 @@ fn by_negative(
     ensures answer { IfOk result (λ answer. (earlier : Earlier) →
         GiveVector net.now earlier g.now true → IsAnswer net.now budget earlier Q13 answer) }
     ensures nodes { IfOk result (λ answer. HasFewNodes budget answer.proof) }
+    ensures spent { IfOk result (λ answer.
+        PassForSignals net.now (negative g.now) budget → IsOpen answer.verdict) }
 {
     let _ = net.species();
     let _ = g;
@@ -173,9 +175,9 @@ fn by_negative(
 /// confluence vector g and the sides of question 11.
 ///
 /// It tries g first and, if the network is weakly reversible and g has no signal, -g. The budget
-/// bounds each of the two searches by itself. If the search for g stops early, -g is not tried: the
-/// question is open where the visits for g exceed the budget, and a yes for -g is given only where g
-/// has no signal.
+/// bounds each of the two searches by itself: if the visits of one of them exceed it, the question is
+/// open. If the search for g stops early, -g is not tried, so a yes for -g is given only if g has no
+/// signal.
 pub fn signal(
     alloc: Global,
     net: &Network,
@@ -202,6 +204,8 @@ pub fn signal(
         PassForSignals net.now g.now budget → IsOpen answer.verdict) }
     ensures first { IfOk result (λ answer.
         IsForNegative answer.verdict → HasNoSignal net.now g.now) }
+    ensures second { IfOk result (λ answer. IsTrue weak → HasNoSignal net.now g.now →
+        PassForSignals net.now (negative g.now) budget → IsOpen answer.verdict) }
 {
     let _ = net.species();
     let labels = strong.label.as_slice();

@@ -6,7 +6,8 @@ use Rattle.crn_vec.specs.NetSignals.{IsShapeOf}
 use Rattle.crn_vec.specs.NetSystems.{reaction_system}
 use Rattle.crn_vec.proofs.CallerLemmas.{if_ok, negatives_have_opposite_shapes}
 use Rattle.crn_cert.specs.declared.answer.Answer.{Answer}
-use Rattle.crn_cert.specs.Questions.{Earlier, Q13}
+use Rattle.crn_cert.specs.Questions.{Earlier, IsOpen, Q13}
+use Rattle.crn_cert.specs.Licensed.{PassForSignals}
 use Rattle.crn_cert.specs.Answered.{IsAnswer}
 use Rattle.crn_cert.specs.TreeSizes.{HasFewNodes}
 use Rattle.crn_sign.specs.Search.{IsSearchEnd}
@@ -15,6 +16,7 @@ use Rattle.crn_shelf.specs.Given.{GiveVector}
 use Rattle.crn_shelf.specs.Inner.Shapes.{EndsFor}
 use Rattle.crn_shelf.specs.Inner.Answers.{IsFoundAnswer, IsStopAnswer}
 use Rattle.crn_shelf.proofs.Answered.{found_is, two_is, spent_is, stopped, stops_for, stops_negative, negative_too, no_signal, few_two}
+use Rattle.crn_shelf.proofs.Budgets.{found_within, refuted_within, stop_open}
 use Rattle.crn_shelf.proofs.answer.by_negative.Goals as goal
 
 pub search_over-requires-clause-species : goal.search_over-requires-clause-species
@@ -75,3 +77,31 @@ returns-clause-answer c =
     let h = stops_for net (negative g) c.negate.new.self stop (subst (IsShapeOf net (negative g)) (sym c.negate.ensures) (negatives_have_opposite_shapes net g c.args.shape c.requires.shape)) c.in-Err.ensures in
     if_ok (IsStopAnswer stop) (λ (answer : Answer). (earlier : Earlier) → GiveVector net earlier g true → IsAnswer net c.args.budget earlier Q13 answer) c.stop_answer.result
     (λ answer e earlier v. stopped net earlier g true c.args.budget stop answer n even v (stops_negative net earlier g stop n v.strong_is even h) e) c.stop_answer.ensures
+
+pub returns-in-Ok-Found-clause-spent : goal.returns-in-Ok-Found-clause-spent
+returns-in-Ok-Found-clause-spent c =
+    let net = c.args.net.now in
+    let g = c.args.g.now in
+    let f = c.in-Ok-Found in
+    let u : Shape = c.negate.new.self in
+    let e : EndsFor net (negative g) c.args.budget (Found f.pattern f.a f.b) = (u, subst (IsShapeOf net (negative g)) (sym c.negate.ensures) (negatives_have_opposite_shapes net g c.args.shape c.requires.shape), subst (IsSearchEnd (signals u (reaction_system net)) c.args.budget) f.field-0-is f.ensures) in
+    if_ok (IsFoundAnswer (negsuc 0) c.args.strong.now.terminal (length net.names) c.as_slice.result.now f.a.list f.b.list)
+    (λ (answer : Answer). PassForSignals net (negative g) c.args.budget → IsOpen answer.verdict) c.found_answer.result
+    (λ answer h pass. absurd (found_within net (negative g) c.args.budget f.pattern f.a f.b e pass)) c.found_answer.ensures
+
+pub returns-in-Ok-Refuted-clause-spent : goal.returns-in-Ok-Refuted-clause-spent
+returns-in-Ok-Refuted-clause-spent c =
+    let net = c.args.net.now in
+    let g = c.args.g.now in
+    let r = c.in-Ok-Refuted in
+    let u : Shape = c.negate.new.self in
+    let e : EndsFor net (negative g) c.args.budget (Refuted r.second) = (u, subst (IsShapeOf net (negative g)) (sym c.negate.ensures) (negatives_have_opposite_shapes net g c.args.shape c.requires.shape), subst (IsSearchEnd (signals u (reaction_system net)) c.args.budget) r.field-0-is r.ensures) in
+    λ pass. absurd (refuted_within net (negative g) c.args.budget r.second e pass)
+
+pub returns-in-Ok-Spent-clause-spent : goal.returns-in-Ok-Spent-clause-spent
+returns-in-Ok-Spent-clause-spent c = λ pass. subst (λ (a : Answer). IsOpen a.verdict) (sym c.spent_answer.ensures) tt
+
+pub returns-clause-spent : goal.returns-clause-spent
+returns-clause-spent c =
+    if_ok (IsStopAnswer c.in-Err.stop) (λ (answer : Answer). PassForSignals c.args.net.now (negative c.args.g.now) c.args.budget → IsOpen answer.verdict) c.stop_answer.result
+    (λ answer e pass. stop_open c.in-Err.stop answer e) c.stop_answer.ensures

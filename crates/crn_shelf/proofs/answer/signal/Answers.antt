@@ -1,12 +1,13 @@
 use Rattle.std.proofs.Common.{true, inl, length, refl, sym, subst, ◌∙◌, arith}
-use Rattle.std.specs.Prelude.{pos}
+use Rattle.std.specs.Prelude.{pos, IsTrue}
+use Rattle.crn_vec.specs.Confluence.{negative}
 use Rattle.std.proofs.lemmas.Bool.{false≢true}
 use Rattle.std.proofs.lemmas.Int.{ints}
 use Rattle.crn_vec.specs.NetSystems.{reaction_system}
 use Rattle.crn_vec.specs.NetSignals.{HasNoSignal}
 use Rattle.crn_vec.specs.Signals.{Shape, signals}
 use Rattle.crn_sign.specs.Search.{IsSearchEnd}
-use Rattle.crn_sign.specs.declared.end.SearchEnd.TheVariants.{Spent}
+use Rattle.crn_sign.specs.declared.end.SearchEnd.TheVariants.{Found, Spent}
 use Rattle.crn_cert.specs.declared.answer.Answer.{Answer}
 use Rattle.crn_cert.specs.Questions.{Earlier, IsOpen, Q13}
 use Rattle.crn_cert.specs.Licensed.{PassForSignals}
@@ -16,7 +17,7 @@ use Rattle.crn_shelf.specs.Given.{GiveVector}
 use Rattle.crn_shelf.specs.Inner.Shapes.{EndsFor}
 use Rattle.crn_shelf.specs.Inner.Answers.{IsFoundAnswer, IsStopAnswer}
 use Rattle.crn_shelf.specs.Order.{IsForNegative}
-use Rattle.crn_shelf.proofs.Answered.{found_is, one_is, spent_is, stopped, stops_for, few_one, classes_by, no_signal}
+use Rattle.crn_shelf.proofs.Answered.{found_is, found_has_signal, one_is, spent_is, stopped, stops_for, few_one, classes_by, no_signal}
 use Rattle.crn_shelf.proofs.Budgets.{found_within, refuted_within, stop_open, open_is_no_yes, found_is_first}
 use Rattle.crn_shelf.proofs.answer.signal.Goals as goal
 use Rattle.crn_vec.proofs.CallerLemmas.{if_ok}
@@ -147,3 +148,32 @@ pub returns-in-Err-clause-first : goal.returns-in-Err-clause-first
 returns-in-Err-clause-first c =
     if_ok (IsStopAnswer c.in-Err.stop) (λ (answer : Answer). IsForNegative answer.verdict → HasNoSignal c.args.net.now c.args.g.now) c.stop_answer.result
     (λ answer e yes. absurd (open_is_no_yes answer.verdict (stop_open c.in-Err.stop answer e) yes)) c.stop_answer.ensures
+
+pub returns-in-Ok-Found-clause-second : goal.returns-in-Ok-Found-clause-second
+returns-in-Ok-Found-clause-second c =
+    let net = c.args.net.now in
+    let g = c.args.g.now in
+    let f = c.in-Ok-Found in
+    let e : EndsFor net g c.args.budget (Found f.pattern f.a f.b) = (c.in_ok-shape.shape, c.in_ok-shape.ensures, subst (IsSearchEnd (signals c.in_ok-shape.shape (reaction_system net)) c.args.budget) f.field-0-is f.ensures) in
+    if_ok (IsFoundAnswer (pos 1) c.args.strong.now.terminal (length net.names) c.as_slice.result.now f.a.list f.b.list)
+    (λ (answer : Answer). IsTrue c.args.weak → HasNoSignal net g → PassForSignals net (negative g) c.args.budget → IsOpen answer.verdict) c.found_answer.result
+    (λ answer h weak none pass. absurd (found_has_signal net g c.args.budget f.pattern f.a f.b c.species.ensures.network c.requires.regular c.requires.vector.confluence e none)) c.found_answer.ensures
+
+pub returns-then-weak-clause-second : goal.returns-then-weak-clause-second
+returns-then-weak-clause-second c =
+    let net = c.args.net.now in
+    let g = c.args.g.now in
+    if_ok (λ (answer : Answer). PassForSignals net (negative g) c.args.budget → IsOpen answer.verdict)
+    (λ (answer : Answer). IsTrue c.args.weak → HasNoSignal net g → PassForSignals net (negative g) c.args.budget → IsOpen answer.verdict) c.by_negative.result
+    (λ answer h weak none pass. h pass) c.by_negative.ensures.spent
+
+pub returns-else-weak-clause-second : goal.returns-else-weak-clause-second
+returns-else-weak-clause-second c = λ weak none pass. absurd (false≢true (sym c.if-weak.false ∙ weak))
+
+pub returns-in-Ok-Spent-clause-second : goal.returns-in-Ok-Spent-clause-second
+returns-in-Ok-Spent-clause-second c = λ weak none pass. subst (λ (a : Answer). IsOpen a.verdict) (sym c.spent_answer.ensures) tt
+
+pub returns-in-Err-clause-second : goal.returns-in-Err-clause-second
+returns-in-Err-clause-second c =
+    if_ok (IsStopAnswer c.in-Err.stop) (λ (answer : Answer). IsTrue c.args.weak → HasNoSignal c.args.net.now c.args.g.now → PassForSignals c.args.net.now (negative c.args.g.now) c.args.budget → IsOpen answer.verdict) c.stop_answer.result
+    (λ answer e weak none pass. stop_open c.in-Err.stop answer e) c.stop_answer.ensures
