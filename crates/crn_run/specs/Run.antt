@@ -24,6 +24,7 @@ use Rattle.crn_ctext.specs.Documents.{document2, share_of}
 use Rattle.crn_ctext.specs.Judged.{IsGood, IsFaultOf}
 use Rattle.crn_ctext.specs.Linked.{AreSound, records_of}
 use Rattle.crn_ctext.specs.Meaning.{meaning, verdicts_said}
+use Rattle.crn_solve.specs.Spent.{AreOpenIfSpent}
 use Rattle.crn_sample.specs.Sample.{sample_text}
 use Rattle.crn_render.specs.Report.{render}
 use Rattle.crn_render.specs.Summary.{summary}
@@ -42,11 +43,12 @@ HasOpen [] = ⊥
 HasOpen (v ∷ vs) = IsOpen v ⊎ HasOpen vs
 
 -- the text spells the network, and the answers to its questions are formed, each true of it, or open
--- as it may be with this budget
+-- as it may be with this budget, and open if the visits of its search exceed the budget
 pub record AreAnswersOf (budget : ℕ) (text : List ℕ) (net : Net) (answers : List Answer) : Type 0 where
   pub spells : Spells text net
   pub formed : AreFormed net [] built answers
   pub answered : AllTrueOrLicensed net budget [] built (verdicts_of answers)
+  pub spent : AreOpenIfSpent net budget (verdicts_of answers)
 
 -- none of the answers is open, if a run ends as Done, and some is, if it ends as OpenLeft
 abbrev pub AreLeftBy : Status → List Answer → Type 0

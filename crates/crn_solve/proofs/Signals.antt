@@ -1,10 +1,13 @@
 -- The answer on signals is one of the crate of signals, rests on an open verdict, or says that there is no vector.
-use Rattle.std.proofs.Common.{◌≡◌, ℕ, List, [], ◌∷◌, refl, ap, sym, subst}
-use Rattle.std.specs.Prelude.{◌↔◌, IsTrue, Bool, ℤ}
-use Rattle.std.specs.Option.{IsSome}
+use Rattle.std.proofs.Common.{◌≡◌, ◌⊎◌, ℕ, inl, inr, List, [], ◌∷◌, refl, ap, sym, subst}
+use Rattle.std.specs.Prelude.{◌↔◌, IsTrue, Bool, ℤ, Result, Ok, Err, IfOk}
+use Rattle.std.specs.Option.{IsSome, IsSomeAnd}
 use Rattle.std.proofs.lemmas.Bool.{false≢true}
 use Rattle.crn_vec.specs.Kept.{KeptInts}
 use Rattle.crn_vec.specs.Network.{Net, IsNetwork}
+use Rattle.crn_vec.specs.Strong.{IsWeaklyReversible}
+use Rattle.crn_vec.specs.Confluence.{negative}
+use Rattle.crn_vec.specs.NetSignals.{HasNoSignal}
 use Rattle.crn_cert.specs.declared.answer.Proof.{Proof}
 use Rattle.crn_cert.specs.declared.answer.Proof.TheVariants.{Sides}
 use Rattle.crn_cert.specs.declared.answer.Verdict.{Verdict}
@@ -13,6 +16,7 @@ use Rattle.crn_cert.specs.Questions.{Earlier, Q2, Q4, Q12, Q13, IsOpen, IsYes, o
 use Rattle.crn_cert.specs.Says.{IsTrueOf}
 use Rattle.crn_cert.specs.Valid.{IsValid}
 use Rattle.crn_cert.specs.Law.{IsTrueOrOpen}
+use Rattle.crn_cert.specs.Licensed.{IsLicensedBudget, PassForSignals}
 use Rattle.crn_cert.specs.Answered.{IsAnswer}
 use Rattle.crn_cert.proofs.CallerLemmas.{valid_answers_are_true}
 use Rattle.crn_shelf.specs.Given.{GiveVector}
@@ -47,3 +51,21 @@ sides_are_there net vector p given other = absurd given
 -- what earlier verdicts give to the question on signals
 pub vector_is_given : (net : Net) (earlier : Earlier) (weak : Verdict) (vector : KeptInts) (is_weak : Bool) → IsTrueOf net Q2 (on earlier Q2) → on earlier Q4 ≡ weak → on earlier Q12 ≡ YesVec vector → (IsTrue is_weak ↔ IsYes weak) → GiveVector net earlier vector.list is_weak
 vector_is_given net earlier weak vector is_weak strong four twelve same = record { strong_is = strong; vector_is = ap vector_given twelve; weak_is = subst (λ v. IsYes v ↔ IsTrue is_weak) (sym four) (same.1, same.0) }
+
+-- two facts of a value that is there
+pub if_both : {T E : Type 0} (P Q R : T → Type 0) (r : Result T E) → ((x : T) → P x → Q x → R x) → IfOk r P → IfOk r Q → IfOk r R
+if_both P Q R (Ok x) f h k = f x h k
+if_both P Q R (Err e) f h k = tt
+
+-- more visits than the budget are those for the vector, or those for its negative after the vector has no signal
+spent_by : {net : Net} {budget : ℕ} {g : List ℤ} (weak : Bool) (Open : Type 0) → (IsTrue weak ↔ IsWeaklyReversible net.reactions) → (PassForSignals net g budget → Open)
+    → (IsTrue weak → HasNoSignal net g → PassForSignals net (negative g) budget → Open)
+    → PassForSignals net g budget ⊎ (IsWeaklyReversible net.reactions × HasNoSignal net g × PassForSignals net (negative g) budget) → Open
+spent_by weak Open is one two (inl pass) = one pass
+spent_by weak Open is one two (inr pass) = two (is.1 pass.0) pass.1 pass.2
+
+pub spent_either : (net : Net) (budget : ℕ) (earlier : Earlier) (vector : KeptInts) (g : List ℤ) (weak : Bool) (Open : Type 0) → g ≡ vector.list → (IsTrue weak ↔ IsWeaklyReversible net.reactions) → on earlier Q12 ≡ YesVec vector
+    → (PassForSignals net g budget → Open) → (IsTrue weak → HasNoSignal net g → PassForSignals net (negative g) budget → Open) → IsLicensedBudget net earlier Q13 budget → Open
+spent_either net budget earlier vector g weak Open same is twelve one two pass =
+    let Has : List ℤ → Type 0 = λ (l : List ℤ). PassForSignals net l budget ⊎ (IsWeaklyReversible net.reactions × HasNoSignal net l × PassForSignals net (negative l) budget) in
+    spent_by {net = net} {budget = budget} {g = g} weak Open is one two (subst Has (sym same) (subst (λ (v : Verdict). IsSomeAnd (vector_given v) Has) twelve pass))

@@ -8,11 +8,12 @@ use Rattle.crn_cert.specs.Answered.{IsAnswer}
 use Rattle.crn_cert.specs.Answers.{verdicts_of}
 use Rattle.crn_cert.specs.Built.{built}
 use Rattle.crn_cert.specs.Formed.{AreFormed}
-use Rattle.crn_cert.specs.Licensed.{AllTrueOrLicensed}
-use Rattle.crn_cert.specs.Questions.{Earlier, Question, Q14, Q15}
+use Rattle.crn_cert.specs.Licensed.{AllTrueOrLicensed, IsLicensedBudget}
+use Rattle.crn_cert.specs.Questions.{Earlier, IsOpen, Question, Q13, Q14, Q15}
 use Rattle.crn_cert.specs.TreeSizes.{HasFewNodes, HaveFewNodes}
 use Rattle.crn_cert.specs.Valid.{AreValid}
-use Rattle.crn_solve.specs.Inner.Solved.{AreAnswers, AreFirstAnswers, FirstAreDecided, IsOpenIfSpent, IsVectorFirst, first_questions}
+use Rattle.crn_solve.specs.Spent.{AreOpenIfSpent}
+use Rattle.crn_solve.specs.Inner.Solved.{AreAnswers, AreFirstAnswers, FirstAreDecided, IsVectorFirst, first_questions}
 use Rattle.crn_solve.proofs.AllAnswers.{are_formed, are_valid, are_answered}
 
 -- there are as many answers as questions
@@ -46,7 +47,7 @@ pub record AreSolved (net : Net) (budget : ℕ) (answers : List Answer) : Type 0
   pub answered : AllTrueOrLicensed net budget [] built (verdicts_of answers)
   pub decided : FirstAreDecided (verdicts_of answers)
   pub nodes : HaveFewNodes budget answers
-  pub spent : IsOpenIfSpent net budget (verdicts_of answers)
+  pub spent : AreOpenIfSpent net budget (verdicts_of answers)
   pub first : IsVectorFirst net (verdicts_of answers)
 
 -- the answers to questions 14 and 15 after the others
@@ -55,13 +56,21 @@ pub record AreLast (net : Net) (budget : ℕ) (a b : Answer) : Type 0 where
   pub first_few : HasFewNodes budget a.proof
   pub second : (earlier : Earlier) → IsAnswer net budget earlier Q15 b
   pub second_few : HasFewNodes budget b.proof
+  pub first_spent : (earlier : Earlier) → IsLicensedBudget net earlier Q14 budget → IsOpen a.verdict
+  pub second_spent : (earlier : Earlier) → IsLicensedBudget net earlier Q15 budget → IsOpen b.verdict
+
+-- no question but the last three is licensed by a spent budget
+all_spent : (net : Net) (budget : ℕ) (answers : List Answer) (a b : Answer) → AreFirstAnswers net budget answers → AreLast net budget a b → AreOpenIfSpent net budget (verdicts_of answers ++ a.verdict ∷ b.verdict ∷ [])
+all_spent net budget answers a b f l Q13 pass = f.spent (a.verdict ∷ b.verdict ∷ []) pass
+all_spent net budget answers a b f l Q14 pass = subst IsOpen (sym (f.last a.verdict b.verdict).0) (l.first_spent [] pass)
+all_spent net budget answers a b f l Q15 pass = subst IsOpen (sym (f.last a.verdict b.verdict).1) (l.second_spent [] pass)
+all_spent net budget answers a b f l q pass = absurd pass
 
 pub solved_after : (net : Net) (budget : ℕ) (answers : List Answer) (a b : Answer) → AreFirstAnswers net budget answers → AreLast net budget a b → AreSolved net budget (answers ++ a ∷ b ∷ [])
 solved_after net budget answers a b f l =
     let h14 = l.first in
     let h15 = l.second in
     let decided = f.decided in
-    let spent = f.spent in
     let first = f.first in
     let last = a ∷ b ∷ [] in
     let all : AreAnswers net budget [] built (answers ++ last) = answers_then net budget [] first_questions answers (Q14 ∷ Q15 ∷ []) last f.all (λ e. (h14 e, (h15 (e ++ (Q14, a.verdict) ∷ []), tt))) in
@@ -72,7 +81,7 @@ solved_after net budget answers a b f l =
       answered = are_answered net budget [] built (answers ++ last) all;
       decided = subst FirstAreDecided (sym verdicts) (decided (verdicts_of last));
       nodes = few_then budget answers last f.nodes (l.first_few, (l.second_few, tt));
-      spent = subst (IsOpenIfSpent net budget) (sym verdicts) (spent (verdicts_of last));
+      spent = subst (AreOpenIfSpent net budget) (sym verdicts) (all_spent net budget answers a b f l);
       first = subst (IsVectorFirst net) (sym verdicts) (first (verdicts_of last));
     }
 

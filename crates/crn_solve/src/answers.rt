@@ -8,9 +8,10 @@ ghost use Rattle.crn_cert.specs.Answers.{verdicts_of};
 ghost use Rattle.crn_cert.specs.Built.{built};
 ghost use Rattle.crn_cert.specs.Formed.{AreFormed};
 ghost use Rattle.crn_cert.specs.Valid.{AreValid};
-ghost use Rattle.crn_cert.specs.Licensed.{AllTrueOrLicensed, PassForSignals};
+ghost use Rattle.crn_cert.specs.Licensed.{AllTrueOrLicensed};
 ghost use Rattle.crn_cert.specs.TreeSizes.{HaveFewNodes};
 ghost use Rattle.crn_shelf.specs.Order.{IsForNegative};
+ghost use Rattle.crn_solve.specs.Spent.{AreOpenIfSpent};
 ghost use Rattle.crn_solve.specs.Inner.Solved.{AreFirstAnswers};
 
 use crate::concordance::{concordant, strongly_concordant};
@@ -91,9 +92,9 @@ fn first_answers(alloc: Global, net: &Network, budget: u32) -> Result<Answers, N
 /// The answers to the questions that are built, in order. The budget is the most prefixes that a search may visit.
 ///
 /// Each answer is formed and valid, and its verdict is true of the network, or open and licensed with this budget.
-/// The first four are never open. Each tree has at most as many nodes as the budget. A signal is sought for the vector of
-/// question 12 first: if the visits for it exceed the budget, question 13 is open, and it is a yes for the negative only
-/// if the vector has none.
+/// The first four are never open. Each tree has at most as many nodes as the budget, and a question is open if the visits of
+/// its search exceed it. A signal is sought for the vector of question 12 first, and question 13 is a yes for the negative
+/// only if the vector has none.
 pub fn solve(alloc: Global, net: &Network, budget: u32) -> Result<Answers, NoMemory>
     requires some { 1 ≤ budget }
     requires most { budget ≤ MAX_BUDGET }
@@ -105,9 +106,7 @@ pub fn solve(alloc: Global, net: &Network, budget: u32) -> Result<Answers, NoMem
         AllByRecursion (λ v. IsOpen v → ⊥) (take 4 (verdicts_of answers))) }
     ensures nodes { IfOk result (λ answers. HaveFewNodes budget answers) }
     ensures spent { IfOk result (λ answers.
-        let given = zip built (verdicts_of answers) in
-        IsSomeAnd (vector_given (on given Q12)) (λ g. PassForSignals net.now g budget) →
-        IsOpen (on given Q13)) }
+        AreOpenIfSpent net.now budget (verdicts_of answers)) }
     ensures first { IfOk result (λ answers.
         let given = zip built (verdicts_of answers) in
         IsForNegative (on given Q13) →
@@ -132,7 +131,7 @@ fn push_verdict(verdicts: &mut Verdicts, answer: Answer)
 /// The verdicts on the questions that are built, in order, without proofs. The budget is that of `solve`.
 ///
 /// There are answers with these verdicts that are formed and valid. Each verdict is true of the network, or open and
-/// licensed with this budget; what `solve` says of the first four and of question 13 holds of these, too.
+/// licensed with this budget; what `solve` says of the first four, of spent budgets and of question 13 holds of these, too.
 /// It takes less memory than `solve`: the trees of a question are let go before the next search.
 pub fn solve_verdicts(alloc: Global, net: &Network, budget: u32) -> Result<Verdicts, NoMemory>
     requires some { 1 ≤ budget }
@@ -144,10 +143,7 @@ pub fn solve_verdicts(alloc: Global, net: &Network, budget: u32) -> Result<Verdi
         AllTrueOrLicensed net.now budget [] built verdicts) }
     ensures decided { IfOk result (λ verdicts.
         AllByRecursion (λ v. IsOpen v → ⊥) (take 4 verdicts)) }
-    ensures spent { IfOk result (λ verdicts.
-        let given = zip built verdicts in
-        IsSomeAnd (vector_given (on given Q12)) (λ g. PassForSignals net.now g budget) →
-        IsOpen (on given Q13)) }
+    ensures spent { IfOk result (λ verdicts. AreOpenIfSpent net.now budget verdicts) }
     ensures first { IfOk result (λ verdicts.
         let given = zip built verdicts in
         IsForNegative (on given Q13) →

@@ -1,7 +1,8 @@
 ghost use Rattle.std.specs.Prelude.{◌≤◌, IfOk};
 ghost use Rattle.crn_vec.specs.declared.limits.TheConstants.{MAX_BUDGET};
 ghost use Rattle.crn_cert.specs.Answered.{IsAnswer};
-ghost use Rattle.crn_cert.specs.Questions.{Earlier, Q14, Q15};
+ghost use Rattle.crn_cert.specs.Licensed.{IsLicensedBudget};
+ghost use Rattle.crn_cert.specs.Questions.{Earlier, IsOpen, Q14, Q15};
 ghost use Rattle.crn_cert.specs.TreeSizes.{HasFewNodes};
 
 use crn_cert::Answer;
@@ -17,6 +18,8 @@ pub(crate) fn concordant(alloc: Global, net: &Network, budget: u32) -> Result<An
     ensures answer { IfOk result (λ answer. (earlier : Earlier) →
         IsAnswer net.now budget earlier Q14 answer) }
     ensures nodes { IfOk result (λ answer. HasFewNodes budget answer.proof) }
+    ensures spent { IfOk result (λ answer. (earlier : Earlier) →
+        IsLicensedBudget net.now earlier Q14 budget → IsOpen answer.verdict) }
 {
     let table = concordance_table(alloc, net)?;
     crn_conc::concordant(alloc, net, &table, budget)
@@ -33,6 +36,8 @@ pub(crate) fn strongly_concordant(
     ensures answer { IfOk result (λ answer. (earlier : Earlier) →
         IsAnswer net.now budget earlier Q15 answer) }
     ensures nodes { IfOk result (λ answer. HasFewNodes budget answer.proof) }
+    ensures spent { IfOk result (λ answer. (earlier : Earlier) →
+        IsLicensedBudget net.now earlier Q15 budget → IsOpen answer.verdict) }
 {
     let table = strong_table(alloc, net)?;
     crn_conc::concordant(alloc, net, &table, budget)

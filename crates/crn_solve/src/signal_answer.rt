@@ -5,7 +5,7 @@ ghost use Rattle.crn_cert.specs.Questions.{Earlier, IsOpen, Q2, Q4, Q12, Q13, on
 ghost use Rattle.crn_cert.specs.Says.{AreStrongClasses, IsTrueOf};
 ghost use Rattle.crn_cert.specs.Law.{IsTrueOrOpen};
 ghost use Rattle.crn_cert.specs.Answered.{IsAnswer};
-ghost use Rattle.crn_cert.specs.Licensed.{PassForSignals};
+ghost use Rattle.crn_cert.specs.Licensed.{IsLicensedBudget};
 ghost use Rattle.crn_cert.specs.TreeSizes.{HasFewNodes};
 ghost use Rattle.crn_shelf.specs.Order.{IsForNegative};
 ghost use Rattle.crn_solve.specs.Inner.Given.{inapplicable_answer};
@@ -53,8 +53,8 @@ pub(crate) fn signal_answer(
         IsTrueOf net.now Q2 (on earlier Q2) → on earlier Q4 ≡ weak.now →
         on earlier Q12 ≡ confluence.now → IsAnswer net.now budget earlier Q13 answer) }
     ensures nodes { IfOk result (λ answer. HasFewNodes budget answer.proof) }
-    ensures spent { IfOk result (λ answer.
-        IsSomeAnd (vector_given confluence.now) (λ g. PassForSignals net.now g budget) →
+    ensures spent { IfOk result (λ answer. (earlier : Earlier) →
+        on earlier Q12 ≡ confluence.now → IsLicensedBudget net.now earlier Q13 budget →
         IsOpen answer.verdict) }
     ensures first { IfOk result (λ answer. IsForNegative answer.verdict →
         IsSomeAnd (vector_given confluence.now) (HasNoSignal net.now)) }

@@ -1,7 +1,7 @@
 -- For the contracts of private functions alone. What is known of answers to questions in order.
 -- Source: this project's own.
 -- Shapes: `earlier` holds the verdicts on earlier questions.
-use Rattle.std.specs.Prelude.{ℕ, List, [], ◌∷◌, ◌++◌, take, zip, IsSomeAnd}
+use Rattle.std.specs.Prelude.{◌≡◌, ℕ, List, [], ◌∷◌, ◌++◌, take, zip, IsSomeAnd}
 use Rattle.std.specs.List.{AllByRecursion}
 use Rattle.crn_vec.specs.Network.{Net}
 use Rattle.crn_vec.specs.NetSignals.{HasNoSignal}
@@ -10,8 +10,8 @@ use Rattle.crn_cert.specs.declared.answer.Verdict.{Verdict}
 use Rattle.crn_cert.specs.Answers.{verdicts_of}
 use Rattle.crn_cert.specs.Answered.{IsAnswer}
 use Rattle.crn_cert.specs.Built.{built}
-use Rattle.crn_cert.specs.Licensed.{PassForSignals}
-use Rattle.crn_cert.specs.Questions.{Earlier, Question, IsOpen, on, vector_given, Q1, Q2, Q3, Q4, Q5, Q6, Q7, Q8, Q9, Q10, Q11, Q12, Q13}
+use Rattle.crn_cert.specs.Licensed.{IsLicensedBudget}
+use Rattle.crn_cert.specs.Questions.{Earlier, Question, IsOpen, on, vector_given, Q1, Q2, Q3, Q4, Q5, Q6, Q7, Q8, Q9, Q10, Q11, Q12, Q13, Q14, Q15}
 use Rattle.crn_cert.specs.TreeSizes.{HaveFewNodes}
 use Rattle.crn_shelf.specs.Order.{IsForNegative}
 
@@ -26,11 +26,15 @@ AreAnswers net budget earlier qs answers = ⊥
 abbrev pub FirstAreDecided : List Verdict → Type 0
 FirstAreDecided verdicts = AllByRecursion (λ v. IsOpen v → ⊥) (take 4 verdicts)
 
--- if the visits for the vector of question 12 exceed the budget, question 13 is open
+-- question 13 is open if the visits for the vector of question 12, or then for its negative, exceed the budget
 abbrev pub IsOpenIfSpent : Net → ℕ → List Verdict → Type 0
 IsOpenIfSpent net budget verdicts = let given = zip built verdicts in
-    IsSomeAnd (vector_given (on given Q12)) (λ g. PassForSignals net g budget) →
-    IsOpen (on given Q13)
+    IsLicensedBudget net given Q13 budget → IsOpen (on given Q13)
+
+-- the last two of these verdicts are those on concordance
+abbrev pub AreOnConcordance : Verdict → Verdict → List Verdict → Type 0
+AreOnConcordance concordant strongly verdicts = let given = zip built verdicts in
+    (on given Q14 ≡ concordant) × (on given Q15 ≡ strongly)
 
 -- a signal for the negative of the vector of question 12 is found only if the vector has none
 abbrev pub IsVectorFirst : Net → List Verdict → Type 0
@@ -49,3 +53,5 @@ pub record AreFirstAnswers (net : Net) (budget : ℕ) (answers : List Answer) : 
   pub decided : (more : List Verdict) → FirstAreDecided (verdicts_of answers ++ more)
   pub spent : (more : List Verdict) → IsOpenIfSpent net budget (verdicts_of answers ++ more)
   pub first : (more : List Verdict) → IsVectorFirst net (verdicts_of answers ++ more)
+  pub last : (concordant strongly : Verdict) → AreOnConcordance concordant strongly
+      (verdicts_of answers ++ concordant ∷ strongly ∷ [])

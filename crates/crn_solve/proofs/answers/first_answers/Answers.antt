@@ -1,4 +1,7 @@
-use Rattle.std.proofs.Common.{◌≡◌, [], ◌∷◌, ◌∙◌, List, sym, refl}
+use Rattle.std.proofs.Common.{◌≡◌, [], ◌∷◌, ◌++◌, ◌∙◌, List, sym, refl}
+use Rattle.std.specs.Prelude.{zip}
+use Rattle.crn_cert.specs.Answers.{verdicts_of}
+use Rattle.crn_cert.specs.Built.{built}
 use Rattle.crn_cert.specs.declared.answer.Answer.{Answer}
 use Rattle.crn_cert.specs.Questions.{Earlier, Q1, Q2, Q3, Q4, Q5, Q6, Q7, Q8, Q9, Q10, Q11, Q12, Q13}
 use Rattle.crn_cert.specs.declared.answer.Verdict.TheVariants.{Classes, Strong}
@@ -241,6 +244,7 @@ returns c =
       all = all;
       nodes = first_few net budget a1 a2 a3 a4 a5 a6 a7 a8 a9 a10 a11 a12 a13 all c.in_ok-signal.ensures.nodes;
       decided = λ more. (d1.decided, (d2.decided, (d3.decided, (d4.decided, tt))));
-      spent = λ more. c.in_ok-signal.ensures.spent;
+      spent = λ more. c.in_ok-signal.ensures.spent (zip built (verdicts_of answers ++ more)) refl;
       first = λ more. c.in_ok-signal.ensures.first;
+      last = λ concordant strongly. (refl, refl);
     })

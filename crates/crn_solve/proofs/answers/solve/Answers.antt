@@ -18,6 +18,6 @@ returns c =
     let budget = c.args.budget in
     let one = c.in_ok-concordant.ensures in
     let two = c.in_ok-strongly_concordant.ensures in
-    let s = solved_after net budget c.in_ok-answers.answers _ _ c.in_ok-answers.ensures (record { first = one.answer; first_few = one.nodes; second = two.answer; second_few = two.nodes }) in
+    let s = solved_after net budget c.in_ok-answers.answers _ _ c.in_ok-answers.ensures (record { first = one.answer; first_few = one.nodes; second = two.answer; second_few = two.nodes; first_spent = one.spent; second_spent = two.spent }) in
     let t = subst (λ (answers : List Answer). AreSolved net budget answers) (sym (two_more c.in_ok-answers.answers _ _ _ _ c.push.ensures c.push-2.ensures)) s in
     record { formed = t.formed; valid = t.valid; answered = t.answered; decided = t.decided; nodes = t.nodes; spent = t.spent; first = t.first }

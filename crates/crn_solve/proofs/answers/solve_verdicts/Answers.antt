@@ -2,7 +2,8 @@ use Rattle.std.proofs.Common.{[], ◌∷◌, ◌++◌, List, sym, subst, arith}
 use Rattle.crn_cert.specs.declared.answer.Verdict.{Verdict}
 use Rattle.crn_cert.specs.Built.{built}
 use Rattle.crn_cert.specs.Licensed.{AllTrueOrLicensed}
-use Rattle.crn_solve.specs.Inner.Solved.{FirstAreDecided, IsOpenIfSpent, IsVectorFirst}
+use Rattle.crn_solve.specs.Spent.{AreOpenIfSpent}
+use Rattle.crn_solve.specs.Inner.Solved.{FirstAreDecided, IsVectorFirst}
 use Rattle.crn_solve.proofs.Solved.{one_more, solved_after, verdicts_counted, verdicts_more}
 use Rattle.crn_solve.proofs.answers.solve_verdicts.Goals as goal
 
@@ -21,12 +22,12 @@ returns c =
     let one = c.in_ok-concordant.ensures in
     let two = c.in_ok-strongly_concordant.ensures in
     let s = solved_after net budget c.in_ok-answers.answers c.in_ok-concordant.concordant c.in_ok-strongly_concordant.strongly_concordant c.in_ok-answers.ensures
-    (record { first = one.answer; first_few = one.nodes; second = two.answer; second_few = two.nodes }) in
+    (record { first = one.answer; first_few = one.nodes; second = two.answer; second_few = two.nodes; first_spent = one.spent; second_spent = two.spent }) in
     let e = verdicts_more c.in_ok-answers.answers c.in_ok-concordant.concordant c.in_ok-strongly_concordant.strongly_concordant _ _ _ c.in_ok-verdicts.ensures c.push_verdict.ensures c.push_verdict-2.ensures in
     record {
       answers = (c.in_ok-answers.answers ++ c.in_ok-concordant.concordant ∷ c.in_ok-strongly_concordant.strongly_concordant ∷ [], e, s.formed, s.valid);
       answered = subst (λ (vs : List Verdict). AllTrueOrLicensed net budget [] built vs) (sym e) s.answered;
       decided = subst FirstAreDecided (sym e) s.decided;
-      spent = subst (IsOpenIfSpent net budget) (sym e) s.spent;
+      spent = subst (AreOpenIfSpent net budget) (sym e) s.spent;
       first = subst (IsVectorFirst net) (sym e) s.first;
     }

@@ -1,6 +1,6 @@
 use Rattle.std.proofs.Common.{◌≡◌, ◌∙◌, List, sym, subst}
-use Rattle.std.specs.Prelude.{ℤ, IsSomeAnd}
-use Rattle.crn_vec.specs.Confluence.{IsNormalVector}
+use Rattle.std.specs.Prelude.{ℤ, IsSomeAnd, IsTrue}
+use Rattle.crn_vec.specs.Confluence.{IsNormalVector, negative}
 use Rattle.crn_vec.specs.NetSignals.{HasNoSignal}
 use Rattle.crn_cert.specs.declared.answer.Answer.{Answer}
 use Rattle.crn_cert.specs.declared.answer.Verdict.{Verdict}
@@ -8,12 +8,12 @@ use Rattle.crn_cert.specs.Questions.{Earlier, IsOpen, Q2, Q4, Q12, Q13, on, vect
 use Rattle.crn_cert.specs.Says.{IsTrueOf}
 use Rattle.crn_cert.specs.Law.{IsTrueOrOpen}
 use Rattle.crn_cert.specs.Answered.{IsAnswer}
-use Rattle.crn_cert.specs.Licensed.{PassForSignals}
+use Rattle.crn_cert.specs.Licensed.{IsLicensedBudget, PassForSignals}
 use Rattle.crn_conc.proofs.CallerLemmas.{if_ok}
 use Rattle.crn_shelf.specs.Given.{GiveVector}
 use Rattle.crn_shelf.specs.Order.{IsForNegative}
 use Rattle.crn_solve.proofs.Theorems.{weak_is}
-use Rattle.crn_solve.proofs.Signals.{signal_rests, vector_is_given}
+use Rattle.crn_solve.proofs.Signals.{if_both, signal_rests, spent_either, vector_is_given}
 use Rattle.crn_solve.proofs.signal_answer.signal_answer.Goals as goal
 
 pub signal-requires-clause-regular : goal.signal-requires-clause-regular
@@ -45,7 +45,7 @@ returns-in-YesVec-Sides-clause-answer c =
     (λ answer h earlier strong four twelve. h earlier (subst (λ (l : List ℤ). GiveVector net earlier l b) (sym c.as_slice-g.ensures) (vector_is_given net earlier w c.in-YesVec-Sides.vector b strong four (twelve ∙ c.in-YesVec-Sides.is-0) c.is_yes.ensures))) c.signal.ensures.answer
 
 pub returns-then-is_open-clause-spent : goal.returns-then-is_open-clause-spent
-returns-then-is_open-clause-spent c = λ pass. subst (λ (a : Answer). IsOpen a.verdict) (sym c.rests_answer.ensures) tt
+returns-then-is_open-clause-spent c = λ earlier twelve pass. subst (λ (a : Answer). IsOpen a.verdict) (sym c.rests_answer.ensures) tt
 
 pub returns-then-is_open-clause-first : goal.returns-then-is_open-clause-first
 returns-then-is_open-clause-first c = λ yes. absurd (subst (λ (a : Answer). IsForNegative a.verdict) c.rests_answer.ensures yes)
@@ -55,9 +55,11 @@ returns-in-YesVec-Sides-clause-spent c =
     let net = c.args.net.now in
     let v = c.args.confluence.now in
     let g = c.as_slice-g.result.now in
-    if_ok (λ (answer : Answer). PassForSignals net g c.args.budget → IsOpen answer.verdict)
-    (λ (answer : Answer). IsSomeAnd (vector_given v) (λ (l : List ℤ). PassForSignals net l c.args.budget) → IsOpen answer.verdict) c.signal.result
-    (λ answer h pass. h (subst (λ (l : List ℤ). PassForSignals net l c.args.budget) (sym c.as_slice-g.ensures) (subst (λ (w : Verdict). IsSomeAnd (vector_given w) (λ (l : List ℤ). PassForSignals net l c.args.budget)) c.in-YesVec-Sides.is-0 pass))) c.signal.ensures.spent
+    let weak = weak_is net c.args.weak.now c.is_yes.result c.requires.weak c.is_yes.ensures in
+    if_both (λ (answer : Answer). PassForSignals net g c.args.budget → IsOpen answer.verdict)
+    (λ (answer : Answer). IsTrue c.is_yes.result → HasNoSignal net g → PassForSignals net (negative g) c.args.budget → IsOpen answer.verdict)
+    (λ (answer : Answer). (earlier : Earlier) → on earlier Q12 ≡ v → IsLicensedBudget net earlier Q13 c.args.budget → IsOpen answer.verdict) c.signal.result
+    (λ answer one two earlier twelve. spent_either net c.args.budget earlier c.in-YesVec-Sides.vector g c.is_yes.result (IsOpen answer.verdict) c.as_slice-g.ensures weak (twelve ∙ c.in-YesVec-Sides.is-0) one two) c.signal.ensures.spent c.signal.ensures.second
 
 pub returns-in-YesVec-Sides-clause-first : goal.returns-in-YesVec-Sides-clause-first
 returns-in-YesVec-Sides-clause-first c =
