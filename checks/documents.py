@@ -54,14 +54,15 @@ def document_claims(repository, document, text, reports):
 
 
 def contracts_are_there(repository, readme):
-    """What the table of what is proved names is in its crate."""
+    """What the table of what is proved names is in its crate, or in one of its crates."""
     for line in readme.splitlines():
         cells = [cell.strip() for cell in line.strip().strip("|").split("|")]
-        crate = re.fullmatch(r"`(crn_\w+)`", cells[1]) if line.startswith("|") and len(cells) == 3 else None
-        for name in structure.QUOTED.findall(cells[2]) if crate else []:
-            files = repository.files(crate.group(1), "src", ".rt")
+        is_row = line.startswith("|") and len(cells) == 3 and re.fullmatch(r"`crn_\w+`(?:, `crn_\w+`)*", cells[1])
+        crates = re.findall(r"crn_\w+", cells[1]) if is_row else []
+        for name in structure.QUOTED.findall(cells[2]) if crates else []:
+            files = [file for crate in crates for file in repository.files(crate, "src", ".rt")]
             own = name if name[0].isupper() else name.split("::")[-1]
-            yield f"{crate.group(1)} has {name}", any(is_defined(repository, file, own) for file in files)
+            yield f"{' or '.join(crates)} has {name}", any(is_defined(repository, file, own) for file in files)
 
 
 def lines_are_explained(readme):
