@@ -6,8 +6,8 @@ use Rattle.std.specs.Prelude.{◌≡◌, ◌≤◌, ◌⊎◌, ◌==◌, if◌th
 use Rattle.crn_text.specs.declared.fault.TextCode.{TextCode}
 use Rattle.crn_text.specs.declared.fault.TextCode.TheVariants.{SelfReaction, TooManySpecies, TooManyComplexes, TooManyReactions, NoReaction, NoMemory, NotAscii, NoArrow, EmptySide, BadName, NameTooLong, ZeroCoefficient, CoefficientTooLarge, StrayMark, TextTooLong}
 use Rattle.crn_text.specs.Codes.{code_number, code_name}
-use Rattle.crn_render.specs.declared.fault.Printed.{Printed}
-use Rattle.crn_render.specs.declared.fault.Printed.TheVariants.{Refused, Rejected, Usage}
+use Rattle.crn_render.specs.declared.printed.Printed.{Printed}
+use Rattle.crn_render.specs.declared.printed.Printed.TheVariants.{Refused, Rejected, Usage}
 
 -- ---- names of codes
 

@@ -3,15 +3,15 @@
 
 mod classes;
 mod details;
-mod fault;
 mod laws;
 mod parts;
+mod printed;
 mod report;
 mod sigma;
 mod summary;
 mod words;
 
-pub use fault::{Printed, write_fault};
 pub use laws::{text_codes_have_their_names, true_verdicts_have_one_line};
+pub use printed::{Printed, write_fault};
 pub use report::write_report;
 pub use summary::write_summary;
