@@ -50,7 +50,7 @@ fn levels_of(alloc: Global, order: &[usize]) -> Result<Vec<usize>, NoMemory> {
     Ok(level)
 }
 
-// The sign at b of the vector that the member b names, where it has this sign at g.
+// The sign at b of the vector that the member b names, if it has this sign at g.
 fn sign_of_member(tableau: &Tableau, b: usize, g: usize, asked: Sign) -> Sign
     requires b { b < width tableau.now.matrix }
     requires g { g < width tableau.now.matrix }
@@ -236,7 +236,7 @@ fn replay(
 }
 
 /// Makes the exchanges of a decision by targets from the basis of columns so many times, with none of its other work.
-/// `Solver::decide` falls back on these where the few exchanges that it tries first show nothing.
+/// `Solver::decide` falls back on these if the few exchanges that it tries first show nothing.
 pub fn replay_often(
     alloc: Global,
     matrix: &Matrix,

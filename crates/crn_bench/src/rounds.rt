@@ -112,7 +112,7 @@ pub fn exchange_often(alloc: Global, matrix: &Matrix, rounds: u32) -> Result<Exc
     Ok(counts)
 }
 
-// Whether the kinds are few enough to be asked for.
+// Whether the kinds are few enough for a decision.
 #[tactic(auto, using(crn_vec::proofs::CallerLemmas::count_at_most))]
 pub(crate) fn are_few(kinds: &[Kind]) -> bool
     ensures { IsTrue result → signed_count kinds.now ≤ MAX_SIGNED }

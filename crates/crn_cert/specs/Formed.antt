@@ -177,7 +177,7 @@ HeadRegular net earlier NoDependence = Unit {0}
 HeadRegular net earlier (NoCycle r walk) = IsFrom 1 (reactions net) r
 HeadRegular net earlier verdict = ⊥
 
--- confluence vector: a vector, not regular, only zero, or two vectors that differ in sign at two complexes
+-- confluence vector: a vector, not regular, only zero, or two vectors with two different complexes
 abbrev pub HeadConfluence : Net → Verdict → Type 0
 HeadConfluence net (YesVec vector) = Unit {0}
 HeadConfluence net NotRegular = Unit {0}

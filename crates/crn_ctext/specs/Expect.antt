@@ -144,7 +144,7 @@ abbrev pub misplaced : Due → ℕ
 misplaced (due.Node count_a count_b shared) = 43
 misplaced other = 26
 
--- a word of a tree would go on with the tree of the line before: never where a node is due
+-- a word of a tree would go on with the tree of the line before: never if a node is due
 abbrev pub is_after : Due → Bool → Bool
 is_after (due.Node count_a count_b shared) after_tree = false
 is_after other after_tree = after_tree

@@ -1,4 +1,4 @@
--- Answers and their records: what is asked of the one is asked of the other.
+-- Answers and their records: what is required of the one is required of the other.
 -- Source: this project's own.
 use Rattle.std.specs.Prelude.{◌≡◌, ◌↔◌, ℕ, List, [], ◌∷◌}
 use Rattle.std.specs.Global.{Global}

@@ -1,4 +1,4 @@
--- Shares of answers, and of the records of these answers: what is asked of the one is asked of the
+-- Shares of answers, and of the records of these answers: what is required of the one is required of the
 -- other.
 -- Source: this project's own.
 use Rattle.std.specs.Prelude.{◌≡◌, ◌↔◌, List, []}

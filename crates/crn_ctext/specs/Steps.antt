@@ -1,7 +1,7 @@
 -- What a step of a streaming reader does, by the course that it goes through: for the contracts of
 -- the reader's functions.
 -- Source: this project's own. If it is not known what a source has left, its bytes are those that
--- were taken off it.
+-- were consumed.
 use Rattle.std.specs.Prelude.{◌≡◌, ◌≤◌, ◌+◌, ℕ, List, [], ◌++◌, length, Option, Some, None}
 use Rattle.crn_io.specs.Pull.{Consumes}
 use Rattle.crn_io.specs.Next.{KeptLines, place}
@@ -13,14 +13,14 @@ abbrev pub IsRest : Option (List ℕ) → List ℕ → Type 0
 IsRest None rest = rest ≡ []
 IsRest (Some left) rest = left ≡ rest
 
--- some bytes were taken off the source, and whatever follows them, the course gives this
+-- some bytes of the source were consumed, and whatever follows them, the course gives this
 pub record StepGives {A : Type 0} (course : Course A) (y : A) (n m : ℕ) (old new : KeptLines)
     (left after : Option (List ℕ)) : Type 0 where
   pub pulled : List ℕ
   pub off : Consumes left pulled after
   pub gives : (rest : List ℕ) → Gives course (place n old (pulled ++ rest)) y (place m new rest)
 
--- some bytes were taken off the source, and of them and what is left the course fails first here
+-- some bytes of the source were consumed, and with them and what is left the course fails first here
 pub record StepFails {A : Type 0} (course : Course A) (n : ℕ) (old : KeptLines)
     (left after : Option (List ℕ)) (line code : ℕ) : Type 0 where
   pub pulled : List ℕ

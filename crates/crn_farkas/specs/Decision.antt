@@ -29,7 +29,7 @@ pub record IsSmallSolution (a : Mat) (kinds : List Kind) (x : List ℤ) : Type 0
   pub solves : Solves a kinds x v
   pub small : (k : ℕ) → unsigned_abs (entry v k) < WIDE_SOLUTION
 
--- a wide vector that is named, and only where some coordinate has to be positive or negative
+-- a wide vector that is named, and only if some coordinate has to be positive or negative
 abbrev pub IsTargetStop : Mat → List Kind → Stop → Type 0
 IsTargetStop a kinds (Wide index basis) = NamesWide a index basis.list × HasSigned kinds
 IsTargetStop a kinds NoMemory = Unit {0}

@@ -14,7 +14,7 @@ pub(crate) struct Graph {
     arcs: Vec<Arc>,
     // one more than the place of the latest arc from a complex, and 0 if there is none
     first: Vec<usize>,
-    // the same of the arcs from an arc's complex that stand before it
+    // the same of the arcs from an arc's complex that come before it
     next: Vec<usize>,
 }
 

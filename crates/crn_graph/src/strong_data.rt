@@ -81,7 +81,7 @@ fn find_levels(label: &[u32], rank: &[u32], level: &mut Vec<u32>)
     }
 }
 
-// Gives each class a reaction that leaves it, where there is one.
+// Gives each class a reaction that leaves it, if there is one.
 fn find_exits(net: &Network, label: &[u32], exit: &mut Vec<u32>)
     requires labels { AreFrom (length net.now.complexes) 1 (length exit.old.items) label.now }
     requires none { (k : ℕ) → slice_index exit.old.items k ≡ 0 }

@@ -58,7 +58,7 @@ NextGives answer old new before now = (pulled : List ℕ) × Consumes before.lef
 abbrev pub place : ℕ → KeptLines → List ℕ → Place
 place n lines left = record { line = n; before = lines.taken; left = lines.ahead ++ left }
 
--- the code of an answer that gives no line that ended by LF, where the last test of a line has this code
+-- the code of an answer that gives no line that ended by LF, if the last test of a line has this code
 abbrev pub code_of : ℕ → Next → ℕ
 code_of last DocumentTooLong = 29
 code_of last LineTooLong = 30

@@ -164,7 +164,7 @@ impl<'a> Shape<'a> {
         }
     }
 
-    /// The kind of the row of a complex where these shelves are chosen.
+    /// The kind of the row of a complex if these shelves are chosen.
     pub fn complex_kind(&self, shelves: &[Sign], c: usize) -> Kind
         requires { c < length self.now.complexes }
         ensures { result ≡ top_kind shelves.now (slice_index_or self.now.tops c None) }
@@ -172,7 +172,7 @@ impl<'a> Shape<'a> {
         top_kind(shelves, self.tops.of[c])
     }
 
-    /// The kind of the row of a linked pair where these shelves are chosen.
+    /// The kind of the row of a linked pair if these shelves are chosen.
     pub fn pair_kind(&self, shelves: &[Sign], i: usize) -> Kind
         requires { i < length self.now.pairs }
         ensures { result ≡ pair_kind shelves.now (slice_index_or self.now.pairs i no_pair) }

@@ -1,5 +1,5 @@
 -- What a search over the prefixes of a sign problem ends with, and why it stops.
--- Source: this project's own. The parts of a prefix are linear systems that ask a sign of each
+-- Source: this project's own. The parts of a prefix are linear systems that require a sign of each
 -- coordinate, as in Minty (1974) and Rockafellar (1969).
 -- Shapes: a prefix has a sign for each of the first choices; `a` has a number for each column of
 -- part A's matrix, and `b` one for each column of part B's.

@@ -90,7 +90,7 @@ pub record AreWrongAt (Named : List ℤ → Type 0) (May : Kind → ℤ → Type
   pub at : slice_index level c ≡ here
   pub wrong : (w : List ℤ) → Named w → May (kind_at kinds c) (entry w c) → ⊥
 
--- at the first so many coordinates the list has the weights that it may, and some where one has to be positive or negative
+-- at the first so many coordinates the list has the weights that it may, and one of them is not 0 and at a coordinate that has to be positive or negative
 abbrev pub RulesBelow : List Kind → ℕ → List ℤ → Type 0
 RulesBelow kinds count w = ((c : ℕ) → c < count → MayWeigh (kind_at kinds c) (entry w c)) × ((c : ℕ) × (c < count) × (is_signed (kind_at kinds c) ≡ true) × (entry w c ≢ pos 0))
 

@@ -11,7 +11,7 @@ use Rattle.crn_text.specs.declared.fault.TextCode.{TextCode}
 use Rattle.crn_text.specs.declared.fault.TextCode.TheVariants.{NoReaction, NoMemory, TextTooLong}
 use Rattle.crn_text.specs.declared.fault.TextFault.{TextFault}
 
--- The text spells the network: no line is wrong by itself, its names are those of the text in order of first
+-- The text spells the network: no line has a fault of its own, its names are those of the text in order of first
 -- appearance, and its reactions, as amounts by name, are the statements with every later repeat dropped.
 pub record Spells (text : List ℕ) (net : Net) : Type 0 where
   pub short : length text ≤ MAX_TEXT

@@ -31,7 +31,7 @@ kind_after (q ∷ qs) p plus minus =
     else kind_after qs p (plus || is_plus (product q.1 (slice_index_or p q.0 Zero)))
     (minus || is_minus (product q.1 (slice_index_or p q.0 Zero)))
 
--- one of these species is not chosen yet, where so many are
+-- one of these species is not chosen yet, if so many are
 pub record IsLate (pairs : List (ℕ × Sign)) (chosen : ℕ) : Type 0 where
   pub k : ℕ
   pub inside : k < length pairs

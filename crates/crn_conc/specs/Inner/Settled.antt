@@ -19,6 +19,6 @@ abbrev pub HasSettled : List (List Sign) → Settled → Type 0
 HasSettled table l = (r : ℕ) → r < length table → (IsIn r l.reactions.items → ⊥)
     → IsKept (slice_index_or table r []) l.choices
 
--- each of these lists tells what its choice settles
+-- each of these lists holds what its choice settles
 abbrev pub AreSettled : List (List Sign) → List Settled → Type 0
 AreSettled table columns = (l : Settled) → IsIn l columns → HasSettled table l

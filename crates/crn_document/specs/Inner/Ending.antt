@@ -31,7 +31,7 @@ EndStepIs course y (Ok t) old before now =
     × HasNoneLeft now.left × (now.faults ≡ before.faults)
 EndStepIs course y (Err stop) old before now = StopIs course stop old before now
 
--- the same, where the answer says what the course gives
+-- the same, if the answer says what the course gives
 abbrev pub LastIs : {A T : Type 0} → Course A → (T → A → Type 0) → Result T CheckStop → Reading
     → SourceSeen → SourceSeen → Type 0
 LastIs {A} {T} course Says (Ok t) old before now =

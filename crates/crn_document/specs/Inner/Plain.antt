@@ -8,7 +8,7 @@ use Rattle.crn_ctext.specs.declared.expect.Due.TheVariants as due
 use Rattle.crn_document.specs.declared.plain.Plain.{Plain}
 use Rattle.crn_document.specs.declared.plain.Plain.TheVariants.{Finish, Table, Vector}
 
--- what is due where the record of this kind is
+-- what is due if the record of this kind is
 abbrev pub due_of : Plain → Due
 due_of Finish = due.Finish
 due_of Table = due.Table

@@ -63,7 +63,7 @@ pub record IsWrongHere (a : Mat) (basis : List ℕ) (view : View) (g : ℕ) (kin
   pub at : slice_index level c ≡ here
   pub wrong : (y : List ℤ) → IsSeen a basis view g (kind_at kinds g) y → IsRight view (kind_at kinds c) (entry y c) → ⊥
 
--- the coordinate is in the basis, where a column that is looked at counts as left for g
+-- the coordinate is in the basis; a column that is looked at counts as left for g
 abbrev pub IsViewed : List ℕ → View → ℕ → Type 0
 IsViewed basis Row c = IsIn c basis
 IsViewed basis (Column b) c = IsIn c basis × (c ≢ b)

@@ -23,7 +23,7 @@ pub record Goes (net : Net) (way : Way) (r y z : ℕ) : Type 0 where
   pub is : IsReactionNumber net r a b
   pub allows : Allows way a b y z
 
--- what stands past the end of a list of arcs
+-- what is read past the end of a list of arcs
 abbrev pub no_arc : Arc
 no_arc = record { from = 0; to = 0; reaction = 0 }
 

@@ -1,6 +1,6 @@
 -- For the contracts of private functions alone.
 -- The search that ranks strong classes: what holds of its path, of the parts of the path, and of the arcs that it has followed.
--- Shapes: complexes, parts and what stands on the path are counted from 0; a place is counted from 1, and is 0 for a complex that is not reached; ranks are counted from 1, and are 0 until they are known.
+-- Shapes: complexes, parts and what is on the path are counted from 0; a place is counted from 1, and is 0 for a complex that is not reached; ranks are counted from 1, and are 0 until they are known.
 use Rattle.std.specs.Prelude.{◌≡◌, ◌≤◌, ◌<◌, ◌+◌, ◌-◌, ◌*◌, ◌⊎◌, ℕ, List, length, slice_index, set, sum_by}
 use Rattle.crn_vec.specs.Walks.{LeadsTo}
 use Rattle.crn_graph.specs.declared.arcs.Arc.{Arc}
@@ -18,7 +18,7 @@ rank_at s y = slice_index s.rank.items y
 abbrev pub place_at : Ranking → ℕ → ℕ
 place_at s y = slice_index s.place.items y
 
--- the complex that stands so far along the path
+-- the complex so far along the path
 abbrev pub path_at : Ranking → ℕ → ℕ
 path_at s i = slice_index s.path.items i
 

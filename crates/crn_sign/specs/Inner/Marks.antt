@@ -66,7 +66,7 @@ sign_mark ZeroSign = Zero
 sign_mark PlusSign = Plus
 sign_mark MinusSign = Minus
 
--- what a kind asks: nothing, a sign, or 0
+-- what a kind requires: nothing, a sign, or 0
 abbrev pub kind_mark : Kind → Mark
 kind_mark Pos = Plus
 kind_mark Neg = Minus
@@ -92,22 +92,22 @@ AreOpposite Minus Minus = ⊥
 AreOpposite Minus Any = ⊥
 AreOpposite Any mark = ⊥
 
--- a mark is what is asked: 0 if both signs are asked, and any if none is
+-- a mark is what is required: 0 if both signs are, and any if none is
 abbrev pub Meets : Mark → Mark → Type 0
 Meets Zero mark = Unit {0}
 Meets Plus mark = mark ≡ Plus
 Meets Minus mark = mark ≡ Minus
 Meets Any mark = mark ≡ Zero
 
--- each mark is what is asked at its coordinate
+-- each mark is what is required at its coordinate
 abbrev pub AreMet : List Bits → List Bits → Type 0
 AreMet asked marks = (k : ℕ) → k < length asked * 64 → Meets (mark_at asked k) (mark_at marks k)
 
--- what is asked is what the kinds ask
+-- what is asked is what the kinds require
 abbrev pub AreMarksOf : List Kind → List Bits → Type 0
 AreMarksOf kinds asked = (k : ℕ) → k < length kinds → mark_at asked k ≡ kind_mark (kind_at kinds k)
 
--- what is asked of the coordinates of a matrix is what the kinds ask
+-- what is asked of the coordinates of a matrix is what the kinds require
 pub record AreAsked (a : Mat) (kinds : List Kind) (asked : List Bits) : Type 0 where
   pub long : length kinds ≡ width a
   pub count : length asked ≡ word_count a

@@ -33,7 +33,7 @@ pub record IsPart (a : Mat) (p : Part) : Type 0 where
   pub past : ArePastCuts a p.past.items
   pub columns : AreColumns a p.columns.items
 
--- multipliers that rule the system out, or none where it has a solution
+-- multipliers that rule the system out, or none if it has a solution
 abbrev pub IsRuling : Mat → List Kind → Option (Rc KeptInts Global) → Type 0
 IsRuling a kinds None = (x : List ℤ) × IsSolution a kinds x
 IsRuling a kinds (Some u) = IsSmallCut a kinds u.value.list

@@ -18,7 +18,7 @@ pub record HasRoom (a : Mat) (l : Place) : Type 0 where
   pub asked : length l.asked.items ≡ word_count a
   pub marks : length l.marks.items ≡ word_count a
 
--- what is asked is what the kinds ask, and the marks are of a vector (x, Ax), and suit the kinds if they are said to
+-- what is asked is what the kinds require, and the marks are of a vector (x, Ax), and suit the kinds if they are said to
 pub record IsPlace (a : Mat) (l : Place) : Type 0 where
   pub long : length l.kinds.items ≡ width a
   pub asked : AreAsked a l.kinds.items l.asked.items

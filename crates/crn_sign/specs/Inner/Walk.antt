@@ -41,7 +41,7 @@ pub record IsLeafAt (w : Signed) (p : List Sign) (tree : Plan) : Type 0 where
   pub one : places p tree ≡ p ∷ []
   pub none : IsFeasible w p → ⊥
 
--- a leaf for the prefix, or none where both its parts have solutions
+-- a leaf for the prefix, or none if both its parts have solutions
 abbrev pub IsLeafOrNone : Signed → List Sign → Option Tree → Type 0
 IsLeafOrNone w p None = ((x : List ℤ) × SolvesB w p x) × ((x : List ℤ) × SolvesA w p x)
 IsLeafOrNone w p (Some tree) = IsLeafAt w p (plan tree)
@@ -75,7 +75,7 @@ IsFoundAt w p (Found f) = (f.value.pattern ≡ p)
 IsFoundAt w p (Refuted tree) = ⊥
 IsFoundAt w p Spent = ⊥
 
--- how a search ended, where its visits ended so
+-- how a search ended whose visits ended so
 abbrev pub end_of : Ending → SearchEnd
 end_of (Found f) = FoundEnd f.value.pattern f.value.a f.value.b
 end_of (Refuted tree) = RefutedEnd tree

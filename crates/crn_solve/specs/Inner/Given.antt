@@ -25,7 +25,7 @@ rests_answer question = record { verdict = Unknown (Rests question); proof = Not
 abbrev pub irregular_answer : Answer
 irregular_answer = record { verdict = NotRegular; proof = Nothing }
 
--- nothing to ask for a signal, as there is no confluence vector up to multiples
+-- no signal to look for, as there is no confluence vector up to multiples
 abbrev pub inapplicable_answer : Answer
 inapplicable_answer = record { verdict = NotApplicable; proof = Nothing }
 

@@ -1,4 +1,4 @@
--- For the contracts of private functions alone. What a pass over a kept row shows of the vectors that it stands for.
+-- For the contracts of private functions alone. What a pass over a kept row shows of the vectors that it represents.
 use Rattle.std.specs.Prelude.{pos, ℤ, ◌*ℤ◌, ◌≡◌, ◌≤ℤ◌}
 use Rattle.crn_vec.specs.Vectors.{HasSign}
 use Rattle.crn_vec.specs.declared.signs.Sign.{Sign}

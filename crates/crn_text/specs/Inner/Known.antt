@@ -10,10 +10,10 @@ use Rattle.crn_text.specs.declared.known.Place.{Place}
 abbrev pub line_at : List ℕ → Place → List ℕ
 line_at text p = take p.length (drop p.at text)
 
--- at each place stands an empty line or one of those that were read
+-- at each place is an empty line or one of those that were read
 abbrev pub AreKnown : List ℕ → List (List ℕ) → List Place → Type 0
 AreKnown text read places = AllByRecursion (λ p. IsIn (line_at text p) ([] ∷ read)) places
 
--- none of these lines is wrong by itself
+-- none of these lines has a fault of its own
 abbrev pub AreSound : List (List ℕ) → Type 0
 AreSound read = AllByRecursion (λ line. own_fault line ≡ None) read
