@@ -2,7 +2,8 @@
 use Rattle.std.proofs.Common.{◌≡◌, ◌⊎◌, ℕ, ◌<◌, List, [], ◌∷◌, length, refl, sym, ap, subst, ◌∙◌, inl, inr, arith}
 use Rattle.crn_io.specs.declared.lines.TheConstants.{MAX_DOCUMENT}
 use Rattle.crn_io.specs.Lines.{Place, IsLineAt, BreaksLine, document_too_long, line_too_long, otherwise, LacksLine, HasMore, early}
-use Rattle.crn_ctext.specs.Course.{Course, Give, Line, Test, End, ◌>>=◌, Gives, FailsFirst, IsSettled}
+use Rattle.crn_ctext.specs.Course.{Course, Give, Line, Test, End, ◌>>=◌, Gives, FailsFirst}
+use Rattle.crn_ctext.specs.Inner.Courses.{IsSettled}
 use Rattle.crn_io.proofs.CallerLemmas.{line_or_not, breaks_or_not, line_is_there, line_breaks_none, line_is_one, break_is_one}
 
 -- whether something is left is decided

@@ -9,7 +9,8 @@ use Rattle.crn_vec.specs.Network.{Net, IsNetwork}
 use Rattle.crn_io.specs.declared.lines.TheConstants.{MAX_DOCUMENT, MAX_SHARED}
 use Rattle.crn_io.specs.Lines.{beginning}
 use Rattle.crn_ctext.specs.Records.{Record}
-use Rattle.crn_ctext.specs.Course.{Gives, IsSettled}
+use Rattle.crn_ctext.specs.Course.{Gives}
+use Rattle.crn_ctext.specs.Inner.Courses.{IsSettled}
 use Rattle.crn_ctext.specs.Blocks.{ReadOf, title, course}
 use Rattle.crn_ctext.specs.Documents.{Share, FitsShare, cut_lists, IsNamed, written, IsShareable, AreFormed, AreValid, IsGoodLeaf, IsDocumentOf, document, document2}
 use Rattle.crn_cert.specs.declared.answer.Verdict.{Verdict}

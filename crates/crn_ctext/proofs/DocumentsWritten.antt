@@ -9,7 +9,8 @@ use Rattle.crn_text.specs.Canonical.{canonical, reaction_line, complex_text}
 use Rattle.crn_ctext.specs.Records.{Record, record_text}
 use Rattle.crn_ctext.specs.Kinds.{end_form}
 use Rattle.crn_cert.specs.Questions.{Question}
-use Rattle.crn_ctext.specs.Course.{Course, Give, ◌>>=◌, ◌>>◌, find, ends, Gives, IsWrittenBy}
+use Rattle.crn_ctext.specs.Course.{Course, Give, ◌>>=◌, ◌>>◌, find, ends, Gives}
+use Rattle.crn_ctext.specs.Inner.Courses.{IsWrittenBy}
 use Rattle.crn_ctext.specs.Blocks.{Meaning, AfterBlocks, asks, asks_blocks, asks_table, lists_of, asks_lines, title, network_line, ended, ReadOf, IsNetworkOf, course}
 use Rattle.crn_ctext.specs.Documents.{one_word, opening, record_lines, IsShareable, AreValid}
 use Rattle.crn_io.specs.declared.lines.TheConstants.{MAX_DOCUMENT, MAX_SHARED}

@@ -18,7 +18,8 @@ use Rattle.crn_ctext.specs.Records.{Record, Form}
 use Rattle.crn_ctext.specs.Kinds.{node_forms, section_form, table_form, vector_form, end_form}
 use Rattle.crn_cert.specs.Questions.{Question}
 use Rattle.crn_ctext.specs.Questions.{heads, first_number}
-use Rattle.crn_ctext.specs.Course.{Course, Give, ◌>>=◌, due, find, test, ends, IsSettled}
+use Rattle.crn_ctext.specs.Course.{Course, Give, ◌>>=◌, due, find, test, ends}
+use Rattle.crn_ctext.specs.Inner.Courses.{IsSettled}
 use Rattle.crn_cert.specs.Tests.{Test as Claim}
 use Rattle.crn_ctext.specs.Blocks.{Problem, Meaning, head_claims, row_claims, problems, is_open, unless, either, asks, asks_node, asks_all, claims, Node, Split, Flat, CutA, CutB, node_of, leaf, asks_leaf, goes_on, if_signed, is_all_zero, asks_tree, asks_trees, sections, below, has_tree, AfterBlocks, asks_block, after_sections, asks_blocks, asks_table, lists_of, asks_lines, title, network_line, ended, IsNetworkOf, ReadOf, course}
 use Rattle.crn_ctext.proofs.Decided.{IsDecided, if_decided, nat_decided, bool_decided, bytes_decided, some_decided}

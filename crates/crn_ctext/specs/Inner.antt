@@ -1,4 +1,5 @@
 -- Definitions for the contracts of private functions alone: nobody outside the crate has to read them.
+pub mod Courses
 pub mod Forms
 pub mod Line
 pub mod Rows
