@@ -3,7 +3,7 @@ use Rattle.std.proofs.Common.{◌≡◌, ℕ, ◌+◌, ◌<◌, ◌≤◌, List,
 use Rattle.std.specs.Prelude.{pos, slice_set}
 use Rattle.std.proofs.lemmas.List.{get_or-map, get_or-set_same, get_or-set_other, length-map, ext_get_or}
 use Rattle.crn_vec.proofs.CallerLemmas.{eq_or}
-use Rattle.crn_shape.specs.Shapes.{opposite_linked}
+use Rattle.crn_shape.specs.Inner.Pairs.{opposite_linked}
 use Rattle.crn_shape.specs.declared.pairs.LinkedPair.{LinkedPair}
 
 -- a linked pair past the end

@@ -15,8 +15,8 @@ use Rattle.crn_vec.proofs.CallerLemmas.{inside_at, reaction_in, few_pairs}
 use Rattle.crn_cert.proofs.CallerLemmas.{widths, tops_below}
 use Rattle.crn_shape.specs.Sides.{IsSideOf, AreSides}
 use Rattle.crn_shape.specs.declared.pairs.LinkedPair.{LinkedPair}
-use Rattle.crn_shape.specs.Shapes.{IsPairIn, AreForShape, opposite_linked, pair_of, shape_of}
-use Rattle.crn_shape.specs.Inner.Pairs.{IsSide, IsPairFor}
+use Rattle.crn_shape.specs.Shapes.{IsPairIn, AreForShape, pair_of, shape_of}
+use Rattle.crn_shape.specs.Inner.Pairs.{IsSide, IsPairFor, opposite_linked}
 
 sides_by : (net : Net) (places : List ℕ) (sides : List (List ℤ)) → ((r : ℕ) → IsIn r places → IsFirstOfPair net.reactions r) → AllZip (IsSideOf net) places sides → AllByRecursion (IsSide net) sides
 sides_by net [] [] first h = tt

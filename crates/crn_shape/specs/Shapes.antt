@@ -1,7 +1,7 @@
 -- The shape of a network by the numbers of its terminal classes and by its linked pairs.
 -- Source: this project's own.
 -- Shapes: complexes and reactions count from 0.
-use Rattle.std.specs.Prelude.{◌≡◌, ◌≤◌, ◌<◌, ◌^◌, ℕ, pos, neg_ℤ, Option, List, length, map, slice_index_or, unsigned_abs}
+use Rattle.std.specs.Prelude.{◌≡◌, ◌≤◌, ◌<◌, ◌^◌, ℕ, pos, Option, List, length, map, slice_index_or, unsigned_abs}
 use Rattle.std.specs.List.{AllByRecursion}
 use Rattle.crn_vec.specs.declared.limits.TheConstants.{MAX_COMPLEXES}
 use Rattle.crn_vec.specs.Network.{Net}
@@ -47,7 +47,3 @@ pub record AreForShape (net : Net) (tops : List (Option ℕ)) (count : ℕ) (pai
   pub few : count ≤ MAX_COMPLEXES
   pub few_pairs : length pairs < length net.complexes
   pub pairs_in : AllByRecursion (IsPairIn net) pairs
-
--- the same linked pair with the opposite sum
-abbrev pub opposite_linked : LinkedPair → LinkedPair
-opposite_linked p = record { reaction = p.reaction; top = p.top; sum = neg_ℤ p.sum }

@@ -3,8 +3,8 @@ ghost use Rattle.std.specs.List.{AllByRecursion, AllZip};
 ghost use Rattle.crn_vec.specs.Confluence.{IsRegular};
 ghost use Rattle.crn_vec.specs.NetSignals.{AreTops, top_at};
 ghost use Rattle.crn_cert.specs.Ranges.{IsNarrow};
-ghost use Rattle.crn_shape.specs.Shapes.{IsPairIn, opposite_linked};
-ghost use Rattle.crn_shape.specs.Inner.Pairs.{IsFirstAcross, IsPairFor, IsSide};
+ghost use Rattle.crn_shape.specs.Shapes.{IsPairIn};
+ghost use Rattle.crn_shape.specs.Inner.Pairs.{IsFirstAcross, IsPairFor, IsSide, opposite_linked};
 
 use crate::tops::Tops;
 use crn_cert::Rows;

@@ -2,7 +2,7 @@
 -- The pairs of a shape, found from the marks of their sides.
 -- Source: this project's own.
 -- Shapes: complexes and reactions count from 0.
-use Rattle.std.specs.Prelude.{◌≢◌, ◌<◌, ℕ, ℤ, Option, List, length}
+use Rattle.std.specs.Prelude.{◌≢◌, ◌<◌, ℕ, ℤ, neg_ℤ, Option, List, length}
 use Rattle.crn_vec.specs.Network.{Net}
 use Rattle.crn_vec.specs.Vectors.{entry}
 use Rattle.crn_vec.specs.CutPairs.{IsFirstOfPair}
@@ -32,3 +32,7 @@ abbrev pub IsPairFor : Net → List ℤ → List (Option ℕ) → List ℤ → L
 IsPairFor net g tops marks p = (p.reaction < length net.reactions)
     × ((r : ℕ) → IsFirstOfPair net.reactions r → IsSideOf net r marks
     → IsPairOf net g tops r (pair_of net p))
+
+-- the same linked pair with the opposite sum
+abbrev pub opposite_linked : LinkedPair → LinkedPair
+opposite_linked p = record { reaction = p.reaction; top = p.top; sum = neg_ℤ p.sum }
