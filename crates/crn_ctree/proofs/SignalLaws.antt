@@ -18,7 +18,7 @@ use Rattle.crn_vec.specs.Signals.{Pair, Shape, complex_at, shelf_at, shelf_of, H
 use Rattle.crn_vec.proofs.CallerLemmas.{dot_none, mul-sub, past_end, lt_or, eq_or, kind_has, has_kind, pair_has, has_pair, top_full, pair_full}
 use Rattle.crn_shape.proofs.CallerLemmas.{narrow_within, dot_within}
 use Rattle.crn_cert.specs.Ranges.{IsNarrow}
-use Rattle.crn_ctree.specs.Inner.Signals.{AreOnShelves, DoTurn}
+use Rattle.crn_ctree.specs.Inner.Signals.{AreOnShelves, AreRightRises}
 
 -- ---- sizes
 
@@ -70,42 +70,42 @@ lie_kinds shelves n mu level (top ∷ tops) (y ∷ ys) e b h = (
 abbrev pub change : Shape → List ℤ → Pair → ℤ
 change s mu pair = dot (complex_at s pair.high) mu -ℤ dot (complex_at s pair.low) mu
 
-abbrev Turns : Shape → List Sign → List ℤ → List Pair → Type 0
-Turns s shelves mu pairs = AllByRecursion (λ pair. HasPairSign (shelf_at shelves pair.top) pair.sum (change s mu pair)) pairs
+abbrev RisesHaveSigns : Shape → List Sign → List ℤ → List Pair → Type 0
+RisesHaveSigns s shelves mu pairs = AllByRecursion (λ pair. HasPairSign (shelf_at shelves pair.top) pair.sum (change s mu pair)) pairs
 
-abbrev TurnKinds : Shape → List Sign → List ℤ → List Pair → Type 0
-TurnKinds s shelves mu pairs = AllByRecursion (λ pair. HasKind (pair_kind shelves pair) (change s mu pair)) pairs
+abbrev RisesHaveKinds : Shape → List Sign → List ℤ → List Pair → Type 0
+RisesHaveKinds s shelves mu pairs = AllByRecursion (λ pair. HasKind (pair_kind shelves pair) (change s mu pair)) pairs
 
 abbrev PairsBelow : Shape → List Pair → Type 0
 PairsBelow s pairs = AllByRecursion (λ pair. (pair.top < s.count) × (pair.low < length s.complexes) × (pair.high < length s.complexes)) pairs
 
-kinds_turn : (s : Shape) (shelves : List Sign) (mu : List ℤ) (pairs : List Pair) → length shelves ≡ s.count → PairsBelow s pairs → TurnKinds s shelves mu pairs → Turns s shelves mu pairs
-kinds_turn s shelves mu [] e b h = tt
-kinds_turn s shelves mu (pair ∷ pairs) e b h = (
+rises_have_signs : (s : Shape) (shelves : List Sign) (mu : List ℤ) (pairs : List Pair) → length shelves ≡ s.count → PairsBelow s pairs → RisesHaveKinds s shelves mu pairs → RisesHaveSigns s shelves mu pairs
+rises_have_signs s shelves mu [] e b h = tt
+rises_have_signs s shelves mu (pair ∷ pairs) e b h = (
   has_pair (shelf_at shelves pair.top) pair.sum (change s mu pair) (subst (λ (κ : Kind). HasKind κ (change s mu pair)) (pair_full shelves s.count pair e b.0.0) h.0),
-  kinds_turn s shelves mu pairs e b.1 h.1,
+  rises_have_signs s shelves mu pairs e b.1 h.1,
 )
 
-turn_kinds : (s : Shape) (shelves : List Sign) (mu : List ℤ) (pairs : List Pair) → length shelves ≡ s.count → PairsBelow s pairs → Turns s shelves mu pairs → TurnKinds s shelves mu pairs
-turn_kinds s shelves mu [] e b h = tt
-turn_kinds s shelves mu (pair ∷ pairs) e b h = (
+rises_have_kinds : (s : Shape) (shelves : List Sign) (mu : List ℤ) (pairs : List Pair) → length shelves ≡ s.count → PairsBelow s pairs → RisesHaveSigns s shelves mu pairs → RisesHaveKinds s shelves mu pairs
+rises_have_kinds s shelves mu [] e b h = tt
+rises_have_kinds s shelves mu (pair ∷ pairs) e b h = (
   subst (λ (κ : Kind). HasKind κ (change s mu pair)) (sym (pair_full shelves s.count pair e b.0.0)) (pair_has (shelf_at shelves pair.top) pair.sum (change s mu pair) h.0),
-  turn_kinds s shelves mu pairs e b.1 h.1,
+  rises_have_kinds s shelves mu pairs e b.1 h.1,
 )
 
 -- ---- the four tests
 
 pub signal_is : (net : Net) (s : Shape) (numbers mu : List ℤ) (m : ℤ) (weights : List ℤ) → IsShape net s → length numbers ≡ s.count → length mu ≡ length net.names → length weights ≡ length net.reactions
-    → AreOnShelves s (map sign numbers) mu m → DoTurn s (map sign numbers) mu → (k : ℕ) × (entry mu k ≢ pos 0) → map sign mu ≡ map sign (image (reaction_system net) weights)
+    → AreOnShelves s (map sign numbers) mu m → AreRightRises s (map sign numbers) mu → (k : ℕ) × (entry mu k ≢ pos 0) → map sign mu ≡ map sign (image (reaction_system net) weights)
     → IsSignal s (reaction_system net) (map sign numbers) mu m weights
-signal_is net s numbers mu m weights sh long even wide on turn some same =
+signal_is net s numbers mu m weights sh long even wide on rises some same =
     let e : length (map sign numbers) ≡ s.count = length-map numbers sign ∙ long in
     record {
       long_shelves = e;
       long_mu = even ∙ sym sh.species;
       long_weights = wide;
       lies = kinds_lie (map sign numbers) s.count mu m s.tops s.complexes e sh.tops_below on;
-      over_pairs = kinds_turn s (map sign numbers) mu s.pairs e sh.pairs_below turn;
+      over_pairs = rises_have_signs s (map sign numbers) mu s.pairs e sh.pairs_below rises;
       some = some;
       same = same;
     }
@@ -113,8 +113,8 @@ signal_is net s numbers mu m weights sh long even wide on turn some same =
 pub signal_lies : (net : Net) (s : Shape) (numbers mu : List ℤ) (m : ℤ) (weights : List ℤ) → IsShape net s → IsSignal s (reaction_system net) (map sign numbers) mu m weights → AreOnShelves s (map sign numbers) mu m
 signal_lies net s numbers mu m weights sh h = lie_kinds (map sign numbers) s.count mu m s.tops s.complexes h.long_shelves sh.tops_below h.lies
 
-pub signal_turns : (net : Net) (s : Shape) (numbers mu : List ℤ) (m : ℤ) (weights : List ℤ) → IsShape net s → IsSignal s (reaction_system net) (map sign numbers) mu m weights → DoTurn s (map sign numbers) mu
-signal_turns net s numbers mu m weights sh h = turn_kinds s (map sign numbers) mu s.pairs h.long_shelves sh.pairs_below h.over_pairs
+pub signal_rises : (net : Net) (s : Shape) (numbers mu : List ℤ) (m : ℤ) (weights : List ℤ) → IsShape net s → IsSignal s (reaction_system net) (map sign numbers) mu m weights → AreRightRises s (map sign numbers) mu
+signal_rises net s numbers mu m weights sh h = rises_have_kinds s (map sign numbers) mu s.pairs h.long_shelves sh.pairs_below h.over_pairs
 
 -- ---- numbers that are all zero
 

@@ -5,7 +5,7 @@ ghost use Rattle.crn_vec.specs.Signals.{IsShape, IsSignal, complex_at};
 ghost use Rattle.crn_vec.specs.Vectors.{dot, entry};
 ghost use Rattle.crn_cert.specs.Ranges.{AreFree, IsNarrow};
 ghost use Rattle.crn_shape.specs.Shapes.{no_pair};
-ghost use Rattle.crn_ctree.specs.Inner.Signals.{AreOnShelves, DoTurn};
+ghost use Rattle.crn_ctree.specs.Inner.Signals.{AreOnShelves, AreRightRises};
 
 use crate::kinds::sign_at;
 use crate::pair::change_sign;
@@ -70,9 +70,9 @@ fn are_on_shelves(shape: &Shape, shelves: &[Sign], mu: &[i128], level: &i128) ->
 }
 
 // Whether over each linked pair the numbers of the species rise or fall as its shelf and its sum require.
-fn do_turn(shape: &Shape, shelves: &[Sign], mu: &[i128]) -> bool
+fn are_right_rises(shape: &Shape, shelves: &[Sign], mu: &[i128]) -> bool
     requires { AreFree shape.now.species mu.now }
-    ensures { IsTrue result ↔ DoTurn shape.now shelves.now mu.now }
+    ensures { IsTrue result ↔ AreRightRises shape.now shelves.now mu.now }
 {
     for i in 0..shape.pairs() {
         if !has_kind(shape.pair_kind(shelves, i), &rise(shape, mu, i)) {
@@ -140,7 +140,7 @@ pub fn check_signal(
     if !are_on_shelves(shape, chosen, mu, &m) {
         return false;
     }
-    if !do_turn(shape, chosen, mu) {
+    if !are_right_rises(shape, chosen, mu) {
         return false;
     }
     if !is_some(mu) {

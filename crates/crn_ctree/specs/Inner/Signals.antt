@@ -14,6 +14,6 @@ AreOnShelves s shelves mu level = AllZip (λ top y.
     HasKind (top_kind shelves top) (dot y mu -ℤ level)) s.tops s.complexes
 
 -- over each linked pair the difference is of the kind of its row
-abbrev pub DoTurn : Shape → List Sign → List ℤ → Type 0
-DoTurn s shelves mu = AllByRecursion (λ pair. HasKind (pair_kind shelves pair)
+abbrev pub AreRightRises : Shape → List Sign → List ℤ → Type 0
+AreRightRises s shelves mu = AllByRecursion (λ pair. HasKind (pair_kind shelves pair)
     (dot (complex_at s pair.high) mu -ℤ dot (complex_at s pair.low) mu)) s.pairs

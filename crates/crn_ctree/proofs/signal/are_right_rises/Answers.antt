@@ -7,7 +7,7 @@ use Rattle.crn_vec.specs.Systems.{HasKind}
 use Rattle.crn_vec.proofs.CallerLemmas.{all_at, all_given}
 use Rattle.crn_shape.specs.Shapes.{no_pair}
 use Rattle.crn_ctree.proofs.SignalLaws.{change, has_both, kind_next}
-use Rattle.crn_ctree.proofs.signal.do_turn.Goals as goal
+use Rattle.crn_ctree.proofs.signal.are_right_rises.Goals as goal
 
 pub returns-then-not-has_kind : goal.returns-then-not-has_kind
 returns-then-not-has_kind c =
