@@ -1,8 +1,9 @@
 -- Runs of bytes of one class, a block at a time.
-use Rattle.std.proofs.Common.{◌≡◌, ℕ, zero, suc, ◌+◌, ◌≤◌, Bool, true, List, [], ◌∷◌, length, take, drop, sym, ap, arith}
+use Rattle.std.proofs.Common.{◌≡◌, ℕ, zero, suc, ◌+◌, ◌<◌, ◌≤◌, Bool, true, List, [], ◌∷◌, length, take, drop, refl, sym, ap, ◌∙◌, arith}
 use Rattle.std.specs.List.{list_all, prefix_len}
-use Rattle.std.proofs.lemmas.Bool.{and_parts}
-use Rattle.std.proofs.lemmas.List.{take-append-drop, take-take, length-drop, length-take}
+use Rattle.std.proofs.lemmas.Bool.{and_parts, eq-eqb, ne_eqb}
+use Rattle.std.proofs.lemmas.List.{take-append-drop, take-take, length-drop, length-take, length-take-le}
+use Rattle.std.proofs.lemmas.List.Folds.{prefix_len-append}
 use Rattle.std.proofs.lemmas.List.Sums.{prefix_len-le-length}
 use Rattle.crn_text.specs.Inner.Pieces.{Runs}
 use Rattle.crn_text.proofs.Tokens.{all_prefix}
@@ -47,3 +48,20 @@ runs_from p text run rest n is front back = record {
   whole = rw (front, back) (sym (take-append-drop n text));
   all = rw (front, is) (all_prefix p text);
 }
+
+-- a run that ends among the first n elements
+pub run_near : {X : Type 0} (p : X → Bool) (n : ℕ) (xs : List X) → n ≤ length xs → prefix_len p (take n xs) < n → prefix_len p (take n xs) ≡ prefix_len p xs
+run_near p n xs fits ends =
+    let size = length-take-le n xs fits in
+    let parts = prefix_len-append p (take n xs) (drop n xs) in
+    let no = ne_eqb (prefix_len p (take n xs)) (length (take n xs)) (λ e. absurd (omega arith)) in
+    sym (ap (prefix_len p) (sym (take-append-drop n xs)) ∙ parts ∙ rw no refl)
+
+-- a run of at least n elements
+pub run_far : {X : Type 0} (p : X → Bool) (n : ℕ) (xs : List X) → n ≤ length xs → n ≤ prefix_len p (take n xs) → n + prefix_len p (drop n xs) ≡ prefix_len p xs
+run_far p n xs fits goes =
+    let size = length-take-le n xs fits in
+    let most = prefix_len-le-length p (take n xs) in
+    let parts = prefix_len-append p (take n xs) (drop n xs) in
+    let yes = eq-eqb (prefix_len p (take n xs)) (length (take n xs)) (omega arith) in
+    sym (ap (prefix_len p) (sym (take-append-drop n xs)) ∙ parts ∙ rw (yes, size) refl)

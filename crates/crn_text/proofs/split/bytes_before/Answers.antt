@@ -1,16 +1,20 @@
-use Rattle.std.proofs.Common.{◌≡◌, ℕ, true, eqb, length, get_or, inl, inr, refl, sym, arith}
+use Rattle.std.proofs.Common.{eqb, ◌∙◌, arith}
 use Rattle.std.specs.Prelude.{not}
-use Rattle.std.proofs.lemmas.Bool.{cases_Bool}
-use Rattle.std.proofs.lemmas.List.Sums.{prefix_len_is}
+use Rattle.std.proofs.lemmas.List.Sums.{prefix_len-le-length}
+use Rattle.crn_text.proofs.Runs.{run_near, run_far}
 use Rattle.crn_text.proofs.split.bytes_before.Goals as goal
 
-misses : (byte b : ℕ) → (eqb b byte ≡ true → ⊥) → not (eqb b byte) ≡ true
-misses byte b h = elim (cases_Bool (eqb b byte)) [ inl hit ↦ absurd (h hit) | inr miss ↦ rw miss refl ]
+pub returns-then-near-lt-NEAR : goal.returns-then-near-lt-NEAR
+returns-then-near-lt-NEAR c =
+    let near = c.near_bytes_before-near.ensures in
+    let ends = c.if-near-lt-NEAR.true in
+    near ∙ run_near (λ b. not (eqb b c.args.byte)) 64 c.args.text.now c.if-text-lt-NEAR.false (rw (← near) ends)
 
-pub returns-in-Some : goal.returns-in-Some
-returns-in-Some c =
-    let found = c.in-Some.ensures in
-    sym (prefix_len_is (λ b. not (eqb b c.args.byte)) c.args.text.now c.in-Some.place 0 (let lt = found.0.high in omega (arith, lt)) (λ k lt. misses c.args.byte (get_or c.args.text.now k 0) (found.0.before k (omega arith) lt)) (λ lt. rw found.1 refl))
+pub overflow_add-result : goal.overflow_add-result
+overflow_add-result c = omega (arith, c.far_bytes_before-2.ensures, prefix_len-le-length (λ b. not (eqb b c.args.byte)) c.split_at.result.1.now, c.split_at.ensures.back_len)
 
-pub returns-in-None : goal.returns-in-None
-returns-in-None c = sym (prefix_len_is (λ b. not (eqb b c.args.byte)) c.args.text.now (length c.args.text.now) 0 (omega arith) (λ k lt. misses c.args.byte (get_or c.args.text.now k 0) (c.in-None.ensures k (omega arith) lt)) (λ lt. absurd (omega (arith, lt))))
+pub returns : goal.returns
+returns c =
+    let near = c.near_bytes_before-near.ensures in
+    let goes = c.if-near-lt-NEAR.false in
+    rw (c.far_bytes_before-2.ensures, c.split_at.ensures.back) (run_far (λ b. not (eqb b c.args.byte)) 64 c.args.text.now c.if-text-lt-NEAR.false (rw (← near) goes))
