@@ -1,7 +1,7 @@
 -- The tables of shares: the first distinct lists, one cut after another, and the numbers of lists.
-use Rattle.std.proofs.Common.{Bor, ◌≡◌, ◌⊎◌, ◌≤◌, ◌<◌, inl, inr, ℕ, zero, suc, ◌+◌, ◌-◌, Bool, true, false, ◌||◌, if◌then◌else◌, List, [], ◌∷◌, ◌++◌, length, map, take, get_or, slice_get, Some, refl, sym, ap, ◌∙◌, take_all, append_assoc, add-one, arith}
+use Rattle.std.proofs.Common.{Bor, ◌≡◌, ◌⊎◌, ◌≤◌, ◌<◌, inl, inr, ℕ, zero, suc, ◌+◌, ◌-◌, Bool, true, false, ◌||◌, if◌then◌else◌, List, [], ◌∷◌, ◌++◌, length, map, take, get_or, slice_get, Some, refl, sym, ap, ap₂, subst, ◌∙◌, take_all, append_assoc, add-one, arith}
 use Rattle.std.specs.Prelude.{ℤ}
-use Rattle.std.specs.List.{list_any, position}
+use Rattle.std.specs.List.{list_any, position, AllByRecursion, IsDistinct}
 use Rattle.std.proofs.lemmas.List.Quantifiers.{position-Some}
 use Rattle.std.specs.Ordering.{int_eq}
 use Rattle.std.specs.Cmp.Lexicographic.{pointwise}
@@ -146,6 +146,96 @@ number_zero k (t ∷ ts) u e = elim (cases_Bool (same u t.now)) [
       let rest : list_any (λ t. same u t.now) ts ≡ false = rw miss at e in
       rw h (number_zero (k + 1) ts u rest)
 ]
+
+-- keys that are apart
+abbrev AreApart : List (Bor (List ℤ)) → Type 0
+AreApart ts = IsDistinct (λ x y. same x.now y.now) ts
+
+all_got : {A : Type 0} (P : A → Type 0) (ts : List A) (i : ℕ) (x : A) → AllByRecursion P ts → slice_get ts i ≡ Some x → P x
+all_got P [] i x all e = absurd cc
+all_got P (t ∷ ts) zero x all e = let f : t ≡ x = cc in subst P f all.0
+all_got P (t ∷ ts) (suc i) x all e = all_got P ts i x all.1 e
+
+number_got : (k : ℕ) (ts : List (Bor (List ℤ))) (u : List ℤ) (i : ℕ) (x : Bor (List ℤ)) → AreApart ts → slice_get ts i ≡ Some x → same u x.now ≡ true → number_in k (map (λ u. u.now) ts) u ≡ k + i
+unfolding IsDistinct
+number_got k [] u i x apart e hit = absurd cc
+number_got k (t ∷ ts) u zero x apart e hit =
+    let f : t ≡ x = cc in
+    let h : same t.now u ≡ true = flip u t.now (subst (λ (y : Bor (List ℤ)). same u y.now ≡ true) (sym f) hit) in
+    rw h (omega arith)
+number_got k (t ∷ ts) u (suc i) x apart e hit =
+    let miss : same t.now x.now ≡ false = all_got (λ y. same t.now y.now ≡ false) ts i x apart.0 e in
+    let h : same t.now u ≡ false = subst (λ (v : List ℤ). same t.now v ≡ false) (sym ((signed_items u x.now).0 hit)) miss in
+    let rest = number_got (k + 1) ts u i x apart.1 e hit in
+    rw h (omega (arith, rest))
+
+-- the number of a list that is the key at a place
+pub number_at : (ts : List (Bor (List ℤ))) (u : List ℤ) (i : ℕ) (x : Bor (List ℤ)) → IsDistinct (λ x y. same x.now y.now) ts → slice_get ts i ≡ Some x → same u x.now ≡ true → number_in 1 (map (λ u. u.now) ts) u ≡ i + 1
+number_at ts u i x apart e hit = number_got 1 ts u i x apart e hit ∙ omega arith
+
+got_at : {A : Type 0} (ts : List A) (i : ℕ) (d : A) → i < length ts → slice_get ts i ≡ Some (get_or ts i d)
+got_at [] i d lt = absurd (omega (arith, lt))
+got_at (t ∷ ts) zero d lt = refl
+got_at (t ∷ ts) (suc i) d lt = got_at ts i d (omega (arith, lt))
+
+key_is_in : (ts : List (Bor (List ℤ))) (i : ℕ) (x : Bor (List ℤ)) → slice_get ts i ≡ Some x → IsIn x.now (map (λ u. u.now) ts)
+key_is_in [] i x e = absurd cc
+key_is_in (t ∷ ts) zero x e = let f : t ≡ x = cc in inl (ap (λ (y : Bor (List ℤ)). y.now) (sym f))
+key_is_in (t ∷ ts) (suc i) x e = inr (key_is_in ts i x e)
+
+-- the list at a place of the keys has the number of the place, and is known
+pub number_of_key : (keys lists : List (Bor (List ℤ))) (u : List ℤ) (i : ℕ) (d : Bor (List ℤ)) → lists ≡ keys → IsDistinct (λ x y. same x.now y.now) keys → i < length lists → (get_or lists i d).now ≡ u
+    → (number_in 1 (map (λ u. u.now) keys) u ≡ i + 1) × IsIn u (map (λ u. u.now) keys)
+number_of_key keys lists u i d e apart lt is =
+    let x = get_or lists i d in
+    let got : slice_get keys i ≡ Some x = subst (λ (ks : List (Bor (List ℤ))). slice_get ks i ≡ Some x) e (got_at lists i d lt) in
+    let hit : same u x.now ≡ true = (signed_items u x.now).1 (sym is) in
+    (number_at keys u i x apart got hit, subst (λ (v : List ℤ). IsIn v (map (λ u. u.now) keys)) is (key_is_in keys i x got))
+
+-- a list that is known is not added
+pub known_stays : (ks : List (List ℤ)) (u : List ℤ) → IsIn u ks → ks ≡ insert_key same ks u
+known_stays ks u h = let there : list_any (same u) ks ≡ true = in_any ks u h in rw there refl
+
+-- more lists at the end change the number of no list before them
+number_later : (k : ℕ) (ts es : List (List ℤ)) (u : List ℤ) → IsIn u ts → number_in k (ts ++ es) u ≡ number_in k ts u
+number_later k [] es u h = absurd h
+number_later k (t ∷ ts) es u h = elim (cases_Bool (same t u)) [
+  | inl hit ↦ rw hit refl
+  | inr miss ↦
+      let rest : IsIn u ts = elim h [ inl e ↦ absurd (true≢false (sym ((signed_items t u).1 (sym e)) ∙ miss)) | inr later ↦ later ] in
+      rw miss (number_later (k + 1) ts es u rest)
+]
+
+numbers_later : (ts es us : List (List ℤ)) → ((u : List ℤ) → IsIn u us → IsIn u ts) → map (number_in 1 (ts ++ es)) us ≡ map (number_in 1 ts) us
+numbers_later ts es [] all = refl
+numbers_later ts es (u ∷ us) all =
+    let first = number_later 1 ts es u (all u (inl refl)) in
+    let rest = numbers_later ts es us (λ v h. all v (inr h)) in
+    rw (first, rest) refl
+
+either_insert : (ks : List (List ℤ)) (u : List ℤ) → (insert_key same ks u ≡ ks) ⊎ (insert_key same ks u ≡ ks ++ u ∷ [])
+either_insert ks u = elim (cases_Bool (list_any (same u) ks)) [ inl hit ↦ inl (rw hit refl) | inr miss ↦ inr (rw miss refl) ]
+
+-- one cut more changes the number of no cut before it
+pub numbers_stay : (most : ℕ) (us : List (List ℤ)) (u : List ℤ) (old new : List (List ℤ)) → old ≡ take most (firsts same us) → (most ≤ length old → new ≡ old) → (length old < most → new ≡ insert_key same old u)
+    → map (number_in 1 new) us ≡ map (number_in 1 old) us
+numbers_stay most us u old new is full room = elim (cases_lt (length old) most) [
+  | inl lt ↦
+      let few : length (take most (firsts same us)) < most = rw is at lt in
+      let was : old ≡ firsts same us = is ∙ whole_table most (firsts same us) few in
+      let all : (v : List ℤ) → IsIn v us → IsIn v old = λ v h. subst (λ (ks : List (List ℤ)). IsIn v ks) (sym was) (firsts_has same signed_items us v h) in
+      elim (either_insert old u) [
+        | inl same_keys ↦ ap (λ (ks : List (List ℤ)). map (number_in 1 ks) us) (room lt ∙ same_keys)
+        | inr one_more ↦ ap (λ (ks : List (List ℤ)). map (number_in 1 ks) us) (room lt ∙ one_more) ∙ numbers_later old (u ∷ []) us all
+      ]
+  | inr le ↦ ap (λ (ks : List (List ℤ)). map (number_in 1 ks) us) (full le)
+]
+
+-- the numbers of one cut more
+pub numbers_step : (ts ts' us us' : List (List ℤ)) (u : List ℤ) (old new : List ℕ) (n : ℕ) → us' ≡ us ++ u ∷ [] → old ≡ map (number_in 1 ts) us → map (number_in 1 ts') us ≡ map (number_in 1 ts) us
+    → n ≡ number_in 1 ts' u → new ≡ old ++ n ∷ [] → new ≡ map (number_in 1 ts') us'
+numbers_step ts ts' us us' u old new n more was stays number is =
+    is ∙ ap₂ (λ (a : List ℕ) (b : ℕ). a ++ b ∷ []) (was ∙ sym stays) number ∙ sym (map-append (number_in 1 ts') us (u ∷ [])) ∙ ap (map (number_in 1 ts')) (sym more)
 
 -- a set whose keys refer to a table has no more keys than the table
 pub few_keys : (most : ℕ) (keys : List (Bor (List ℤ))) (fs : List (List ℤ)) → map (λ u. u.now) keys ≡ take most fs → length keys ≤ most

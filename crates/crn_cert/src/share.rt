@@ -1,8 +1,8 @@
-ghost use Rattle.std.specs.Prelude.{◌≡◌, ◌≤◌, ◌<◌, ◌++◌, length, map, take, OnOk, IfOk};
+ghost use Rattle.std.specs.Prelude.{◌≡◌, ◌↔◌, ◌≤◌, ◌<◌, ◌++◌, [], IsTrue, length, map, take, OnOk, IfOk, IfSome};
 ghost use Rattle.std.specs.Ordering.{int_eq};
 ghost use Rattle.std.specs.Cmp.Lexicographic.{pointwise};
 ghost use Rattle.indexmap.specs.IndexSet.{insert_key};
-ghost use Rattle.crn_vec.specs.Lists.{firsts};
+ghost use Rattle.crn_vec.specs.Lists.{IsIn, firsts};
 ghost use Rattle.crn_cert.specs.Trees.{plan};
 ghost use Rattle.crn_cert.specs.Shares.{cuts_of, cuts_in, all_cuts, number_in, share_of as share};
 
@@ -74,50 +74,168 @@ fn cuts_in_order<'a>(alloc: Global, answers: &'a Answers) -> Result<Vec<&'a [i12
     Ok(cuts)
 }
 
-// Adds a list if it is new and there is room for it.
-fn add_list<'a>(lists: &mut IndexSet<&'a [i128]>, cut: &'a [i128]) -> Result<(), NoMemory>
-    ensures full { MAX_SHARED ≤ length lists.old.keys → OnOk result (lists.new ≡ lists.old) }
-    ensures room { length lists.old.keys < MAX_SHARED → OnOk result (map (λ u. u.now) lists.new.keys
-        ≡ insert_key (pointwise int_eq) (map (λ u. u.now) lists.old.keys) cut.now) }
-{
-    if lists.len() < MAX_SHARED {
-        let _ = lists.insert(cut)?;
-    }
-    Ok(())
+// How many marks of lists there are.
+const MARKS: usize = 1_024;
+
+// The first distinct lists, no more than a document shares. Most cuts have the list of a cut before, so it is looked for
+// by its mark before the set is asked; of two lists with one mark the last is found.
+#[derive(Drop)]
+struct Lists<'a> {
+    set: IndexSet<&'a [i128]>,
+    places: [u16; MARKS],
 }
 
-// The first distinct lists of these, no more than a document shares.
-fn first_lists<'a>(alloc: Global, cuts: &[&'a [i128]]) -> Result<IndexSet<&'a [i128]>, NoMemory>
-    ensures { IfOk result (λ lists. map (λ u. u.now) lists.keys
+// The last bits of a number, in which most numbers differ.
+fn last_bits(x: &i128) -> u64 {
+    (x.cast_unsigned() % 65_536) as u64
+}
+
+// Mixes some bits into the mark of the numbers before them.
+fn mixed(mark: u64, bits: u64) -> u64 {
+    (mark.rotate_left(5) ^ bits).wrapping_mul(0x9e37_79b9_7f4a_7c15)
+}
+
+// The mark of the numbers before, and of these.
+fn mark_after(mark: u64, list: &[i128]) -> u64 {
+    match list {
+        [a, b, c, d, list @ ..] => {
+            let bits = last_bits(a).rotate_left(16) ^ last_bits(b);
+            let bits = bits.rotate_left(16) ^ last_bits(c);
+            let bits = bits.rotate_left(16) ^ last_bits(d);
+            mark_after(mixed(mark, bits), list)
+        }
+        [x, list @ ..] => mark_after(mixed(mark, last_bits(x)), list),
+        [] => mark,
+    }
+}
+
+// A mark for a list, which few other lists have.
+fn mark_of(list: &[i128]) -> usize
+    ensures { result < MARKS }
+{
+    (mark_after(0, list) >> 32) as usize % MARKS
+}
+
+// Whether two lists are the same, by few steps where they are short.
+fn are_same(left: &[i128], right: &[i128]) -> bool
+    ensures { IsTrue result ↔ (left.now ≡ right.now) }
+{
+    match left {
+        [] => right.is_empty(),
+        [a, b, c, d, left @ ..] => match right {
+            [e, f, g, h, right @ ..] => {
+                if *a != *e {
+                    return false;
+                }
+                if *b != *f {
+                    return false;
+                }
+                if *c != *g {
+                    return false;
+                }
+                if *d != *h {
+                    return false;
+                }
+                are_same(left, right)
+            }
+            _ => false,
+        },
+        [a, left @ ..] => match right {
+            [] => false,
+            [b, right @ ..] => {
+                if *a != *b {
+                    return false;
+                }
+                are_same(left, right)
+            }
+        },
+    }
+}
+
+impl<'a> Lists<'a> {
+    // No lists. It takes no memory.
+    fn new(alloc: Global) -> Lists<'a>
+        ensures { result.set.keys ≡ [] }
+    {
+        Lists {
+            set: IndexSet::new(alloc),
+            places: [0; MARKS],
+        }
+    }
+
+    // The number of a list, counted from 1, if its mark finds it.
+    fn find(&self, mark: usize, list: &[i128]) -> Option<u32>
+        requires { mark < MARKS }
+        ensures number { IfSome result
+            (λ n. n ≡ number_in 1 (map (λ u. u.now) self.now.set.keys) list.now) }
+        ensures known { IfSome result
+            (λ _. IsIn list.now (map (λ u. u.now) self.now.set.keys)) }
+    {
+        let i = usize::from(self.places[mark]);
+        let lists = self.set.as_slice();
+        if i < lists.len() && are_same(lists[i], list) {
+            return Some(i as u32 + 1);
+        }
+        None
+    }
+
+    // The number of a list, counted from 1, or 0. It is added if it is new and there is room for it.
+    fn add(&mut self, mark: usize, list: &'a [i128]) -> Result<u32, NoMemory>
+        requires mark { mark < MARKS }
+        requires few { length self.old.set.keys ≤ MAX_SHARED }
+        ensures full { MAX_SHARED ≤ length self.old.set.keys
+            → OnOk result (self.new.set.keys ≡ self.old.set.keys) }
+        ensures room { length self.old.set.keys < MAX_SHARED
+            → OnOk result (map (λ u. u.now) self.new.set.keys
+            ≡ insert_key (pointwise int_eq) (map (λ u. u.now) self.old.set.keys) list.now) }
+        ensures number { IfOk result
+            (λ n. n ≡ number_in 1 (map (λ u. u.now) self.new.set.keys) list.now) }
+    {
+        if self.set.len() < MAX_SHARED {
+            let (i, _) = self.set.insert_full(list)?;
+            self.places[mark] = i.min(MAX_SHARED) as u16;
+            return Ok(i as u32 + 1);
+        }
+        match self.set.get_index_of(list) {
+            Some(i) => Ok(i as u32 + 1),
+            None => Ok(0),
+        }
+    }
+
+    // The same, by few steps if the mark of the list finds it.
+    fn number(&mut self, list: &'a [i128]) -> Result<u32, NoMemory>
+        requires few { length self.old.set.keys ≤ MAX_SHARED }
+        ensures full { MAX_SHARED ≤ length self.old.set.keys
+            → OnOk result (self.new.set.keys ≡ self.old.set.keys) }
+        ensures room { length self.old.set.keys < MAX_SHARED
+            → OnOk result (map (λ u. u.now) self.new.set.keys
+            ≡ insert_key (pointwise int_eq) (map (λ u. u.now) self.old.set.keys) list.now) }
+        ensures number { IfOk result
+            (λ n. n ≡ number_in 1 (map (λ u. u.now) self.new.set.keys) list.now) }
+    {
+        let mark = mark_of(list);
+        match self.find(mark, list) {
+            Some(n) => Ok(n),
+            None => self.add(mark, list),
+        }
+    }
+}
+
+// For each cut the number of its list, or 0. The lists are the first distinct ones, no more than a document shares.
+fn numbers_of<'a>(
+    alloc: Global,
+    cuts: &[&'a [i128]],
+    lists: &mut Lists<'a>,
+) -> Result<Nums, NoMemory>
+    requires { lists.old.set.keys ≡ [] }
+    ensures lists { OnOk result (map (λ u. u.now) lists.new.set.keys
         ≡ take MAX_SHARED (firsts (pointwise int_eq) (map (λ u. u.now) cuts.now))) }
-{
-    let mut lists = IndexSet::new(alloc);
-    for cut in cuts {
-        add_list(&mut lists, cut)?;
-    }
-    Ok(lists)
-}
-
-// The number of a list among these, counted from 1, or 0.
-fn number_of(lists: &IndexSet<&[i128]>, cut: &[i128]) -> u32
-    requires { length lists.now.keys ≤ MAX_SHARED }
-    ensures { result ≡ number_in 1 (map (λ u. u.now) lists.now.keys) cut.now }
-{
-    match lists.get_index_of(cut) {
-        Some(i) => i as u32 + 1,
-        None => 0,
-    }
-}
-
-// For each cut the number of its list, or 0.
-fn numbers_of(alloc: Global, lists: &IndexSet<&[i128]>, cuts: &[&[i128]]) -> Result<Nums, NoMemory>
-    requires { length lists.now.keys ≤ MAX_SHARED }
-    ensures { IfOk result (λ made. made.list
-        ≡ map (number_in 1 (map (λ u. u.now) lists.now.keys)) (map (λ u. u.now) cuts.now)) }
+    ensures numbers { IfOk result (λ made. made.list
+        ≡ map (number_in 1 (map (λ u. u.now) lists.new.set.keys)) (map (λ u. u.now) cuts.now)) }
 {
     let mut leaf = Nums::with_room(alloc, cuts.len())?;
     for cut in cuts {
-        leaf.push(number_of(lists, cut))?;
+        leaf.push(lists.number(cut)?)?;
     }
     Ok(leaf)
 }
@@ -141,8 +259,8 @@ pub fn share_of(alloc: Global, answers: &Answers) -> Result<Share, NoMemory>
     ensures leaf { IfOk result (λ made. made.leaf.list ≡ (share MAX_SHARED answers.now).leaf) }
 {
     let cuts = cuts_in_order(alloc, answers)?;
-    let lists = first_lists(alloc, &cuts)?;
-    let table = rows_of(alloc, &lists)?;
-    let leaf = numbers_of(alloc, &lists, &cuts)?;
+    let mut lists = Lists::new(alloc);
+    let leaf = numbers_of(alloc, &cuts, &mut lists)?;
+    let table = rows_of(alloc, &lists.set)?;
     Ok(Share { table, leaf })
 }
