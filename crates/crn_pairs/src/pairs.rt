@@ -43,6 +43,10 @@ fn is_same_pair(net: &Network, q: usize, r: usize) -> bool
 {
     let (a, b) = (net.reactant(q), net.product(q));
     let (y, z) = (net.reactant(r), net.product(r));
+    let _ = net.complexes();
+    if a + b != y + z {
+        return false;
+    }
     (a == y && b == z) || (a == z && b == y)
 }
 
