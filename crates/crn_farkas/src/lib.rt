@@ -17,8 +17,6 @@ mod sum;
 mod system;
 mod targets;
 mod tested;
-#[cfg(test)]
-mod tests;
 mod units;
 mod view;
 

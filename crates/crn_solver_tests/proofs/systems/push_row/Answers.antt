@@ -4,7 +4,7 @@ use Rattle.std.specs.Int.{w128}
 use Rattle.std.proofs.lemmas.Int.{to_z-of_z}
 use Rattle.crn_vec.specs.declared.limits.TheConstants.{MAX_AMOUNT}
 use Rattle.crn_vec.specs.Vectors.{AreWithin}
-use Rattle.crn_farkas.proofs.tests.push_row.Goals as goal
+use Rattle.crn_solver_tests.proofs.systems.push_row.Goals as goal
 
 within_push : (xs : List ℤ) (x : ℤ) → AreWithin MAX_AMOUNT xs → unsigned_abs x ≤ MAX_AMOUNT → AreWithin MAX_AMOUNT (xs ++ x ∷ [])
 within_push [] x h s = (s, tt)
