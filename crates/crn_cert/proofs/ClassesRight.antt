@@ -52,7 +52,7 @@ record Parent (net : Net) (labels depth : List ℕ) (Joined : ℕ → ℕ → Ty
   deeper : get_or depth c 0 ≡ suc (get_or depth d 0)
   joined : Joined c d
 
--- every complex has a root, where each is a first one or has a parent
+-- every complex has a root, if each is a first one or has a parent
 root_at : (net : Net) (labels depth : List ℕ) (Joined : ℕ → ℕ → Type 0) → ((x : ℕ) → Joined x x) → ((x y z : ℕ) → Joined x y → Joined y z → Joined x z)
     → ((c : ℕ) → c < length net.complexes → IsFirst labels c ⊎ Parent net labels depth Joined c) → (n c : ℕ) → c < length net.complexes → get_or depth c 0 ≤ n → Root labels Joined c
 root_at net labels depth J here join tree n c lt le = elim (tree c lt) [

@@ -67,7 +67,7 @@ list_falls_more (y ∷ x) f zero lt p h more = omega (arith, ints, falls_more y 
 list_falls_more (y ∷ x) f (suc s) lt p h more =
     omega (arith, ints, falls y (f 0) p.0 (h 0), *ℤ_comm (f 0) y, list_falls_more x (λ j. f (suc j)) s (omega (arith, lt)) p.1 (λ j. h (suc j)) more)
 
--- a species is one of the network's, where a combination makes some of it
+-- a species is one of the network's, if a combination makes some of it
 abbrev Short : ℕ → List (List ℤ) → Type 0
 Short n vs = AllByRecursion (λ v. length v ≤ n) vs
 

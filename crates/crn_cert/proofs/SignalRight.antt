@@ -33,7 +33,7 @@ use Rattle.crn_cert.proofs.TreeLaws.{leaves_nothing}
 use Rattle.crn_cert.proofs.TreesRight.{tree_right}
 use Rattle.crn_cert.proofs.TestLists.{hold_parts}
 
--- what question 12 says where it gives a vector with the property
+-- what question 12 says if it gives a vector with the property
 record VectorKnown (net : Net) (Has : List ℤ → Type 0) : Type 0 where
   g : List ℤ
   regular : IsRegular net
@@ -75,7 +75,7 @@ no_signal_by net g n regular choices rows_a rows_b part tree f t shelves mu leve
     let at = signals_feasible net g shape.0 n regular shape.1 shelves mu level weights sg in
     leaves_nothing w (signals_are_steady shape.0 m) tree [] at.0 valid at.1 at.2
 
--- where g has no signal, and its negative has none in a weakly reversible network, no confluence vector has one
+-- if g has no signal, and its negative has none in a weakly reversible network, no confluence vector has one
 none_at_all : (net : Net) (g : List ℤ) → IsNetwork net → IsRegular net → HasConfluenceLine net → IsConfluenceVector net g → HasNoSignal net g → (IsWeaklyReversible net.reactions → HasNoSignal net (negative g))
     → (h : List ℤ) → IsConfluenceVector net h → HasNoSignal net h
 none_at_all net g n regular line c none second h d shelves mu level weights sg =

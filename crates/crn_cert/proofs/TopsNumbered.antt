@@ -58,7 +58,7 @@ zero_found es (suc p) j lt = elim (cases_Bool (get_or es p 0 == 0)) as (λ _. (q
       ]
 ]
 
--- the number of the terminal class with this label, where it is terminal
+-- the number of the terminal class with this label, if it is terminal
 unfoldable pub top_for : List ℕ → ℕ → Option ℕ
 top_for es l = cond (get_or es (l - 1) 0 == 0) (Some (zeros_below es (l - 1))) None
 

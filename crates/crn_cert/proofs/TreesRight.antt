@@ -25,7 +25,7 @@ use Rattle.crn_cert.specs.Law.{IsTrueOrOpen, ValidIsTrue}
 use Rattle.crn_cert.proofs.TreeLaws.{leaves_nothing}
 use Rattle.crn_cert.proofs.TestLists.{hold_parts}
 
--- where what holds of each node gives its test in a problem
+-- if what holds of each node gives its test in a problem
 pub tree_right : (w : Signed) (Holds : List Sign → Said → Type 0) → ((p : List Sign) (said : Said) → Holds p said → Fits w p said)
     → (choices rows_a rows_b part : ℕ) (p : List Sign) (tree : Plan) → IsFormedTree choices rows_a rows_b p tree → AllHold (tree_tests Holds part p tree) → IsValid w p tree
 tree_right w Holds fits choices rows_a rows_b part p (Both zero plus) f t =

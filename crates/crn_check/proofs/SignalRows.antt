@@ -77,7 +77,7 @@ rows_by_shape net e (YesSignal turn shelves mu level weights) p s (Err fault) n 
     elim h [ inl here ↦ inl ((λ is. here.0 (by.1 is)), here.1, here.2) | inr later ↦ absurd later.1 ]
 rows_by_shape net e v p s r n conf sh h = absurd sh
 
--- all tests of the answer, where those of its head hold
+-- all tests of the answer, if those of its head hold
 rows_judge : (net : Net) (e : Earlier) (a : Answer) (s : Shape) (r : Result Unit CheckFault) → IsNetwork net → IsTrueOrOpen net Q12 (on e Q12) → IsShapeFor net e a.verdict s → AllHold (head_tests net e Q13 a.verdict) → Judges (shape_tests net s a.verdict) r → Judges (tests_of net e Q13 a) r
 rows_judge net e a s r n conf sh heads h = judges_go (head_tests net e Q13 a.verdict) (row_tests net e Q13 a.verdict a.proof) r heads (rows_by_shape net e a.verdict a.proof s r n conf sh h)
 

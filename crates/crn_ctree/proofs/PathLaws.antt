@@ -1,4 +1,4 @@
--- The path of options stands for the prefixes still due.
+-- The path of options represents the prefixes still due.
 use Rattle.std.proofs.Common.{◌≡◌, ◌≢◌, Bool, true, false, cond, List, [], ◌∷◌, ◌++◌, refl, sym, ap, ◌∙◌, append_assoc}
 use Rattle.std.proofs.lemmas.List.{append-nil}
 use Rattle.crn_vec.specs.declared.signs.Sign.{Sign}

@@ -1,4 +1,4 @@
--- A list of vectors of one length has an independent part that tells which weights all of them give nothing to, and independent relations for the rest.
+-- A list of vectors of one length has an independent part that shows which weights all of them give nothing to, and independent relations for the rest.
 use Rattle.std.proofs.Common.{◌≡◌, ◌⊎◌, ℕ, suc, ◌+◌, inl, inr, List, [], ◌∷◌, length, map, refl, sym, ap, ◌∙◌, arith}
 use Rattle.std.specs.Prelude.{ℤ, pos, ◌*ℤ◌}
 use Rattle.std.specs.List.{range_with_len}

@@ -168,7 +168,7 @@ terminals_some net count links strong_count terminal labels exits levels known f
     (in_range m 1 (length exits) (s.right.positive f.t f.inside) (omega (arith, s.count_is.most f.t f.inside, s.classes)))
     (terminal_passes labels exits links k f.t f.inside (sym f.same ∙ y.2) f.none)
 
--- a complex that stands for all terminal strong classes of a linkage class
+-- a complex that represents all terminal strong classes of a linkage class
 one_class : (net : Net) (y t : ℕ) → IsComplex net t → SameClass net.reactions y t → IsTerminal net.reactions t → ((z : ℕ) → IsComplex net z → SameClass net.reactions y z → IsTerminal net.reactions z → SameStrong net.reactions t z)
     → HasTerminalClasses net y 1
 one_class net y t complex same terminal all = (

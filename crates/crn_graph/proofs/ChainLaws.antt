@@ -13,7 +13,7 @@ chained_none arcs first next l none = record {
   nexts = λ p lt. absurd (omega arith);
 }
 
--- the chain of y, where the arc at the limit is not from y
+-- the chain of y, if the arc at the limit is not from y
 passed : (arcs : List Arc) (y limit chain : ℕ) → IsNext arcs y limit chain → ((arc_at arcs limit).from ≡ y → ⊥) → IsNext arcs y (limit + 1) chain
 passed arcs y limit chain h ne = record {
   inside = omega (arith, h.inside);

@@ -62,7 +62,7 @@ pub record IsClassed (arcs : List Arc) (s t : Search) (count c : ℕ) : Type 0 w
   pub newest : t.newest ≡ count + 1
   pub start : first_found t ≡ c
 
--- where a complex stands: its label is old, or new, or it has none
+-- the label of a complex is old, or new, or there is none
 data Stands (s t : Search) (count y : ℕ) : Type 0 where
   kept : 1 ≤ label_at s y → label_at t y ≡ label_at s y → Stands s t count y
   fresh : label_at s y ≡ 0 → label_at t y ≡ count + 1 → Stands s t count y
@@ -88,7 +88,7 @@ stays arcs s t count c k f h one = h.keeps.label f.0 (omega (arith, f.2, one)) �
 reached_from : (arcs : List Arc) (s t : Search) (count c y : ℕ) → IsClassed arcs s t count c → label_at t y ≡ count + 1 → LeadsTo (Steps arcs) c y
 reached_from arcs s t count c y h e = subst (λ (x : ℕ). LeadsTo (Steps arcs) x y) h.start (h.spreading.reached y (e ∙ sym h.newest))
 
--- where arcs lead from each complex back, walks do
+-- if arcs lead from each complex back, walks do
 walks_back : (arcs : List Arc) (c y : ℕ) → IsReturning arcs → LeadsTo (Steps arcs) c y → LeadsTo (Steps arcs) y c
 walks_back arcs c y h walk = leads_keeps (Steps arcs) (λ v. LeadsTo (Steps arcs) v c) (λ v w step p. leads_then (Steps arcs) w v c (h step.0 v w step.1) p) c y walk (leads_here (Steps arcs) c)
 

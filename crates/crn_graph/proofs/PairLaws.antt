@@ -26,7 +26,7 @@ use Rattle.crn_graph.proofs.ClassLaws.{all_followed}
 
 -- ---- pairs
 
--- a step between a and b, where a and b are no step between c and d, is no step between c and d
+-- a step between a and b, if a and b are no step between c and d, is no step between c and d
 still_free : (c d a b y z : ℕ) → IsBetween a b y z → (IsBetween c d a b → ⊥) → IsBetween c d y z → ⊥
 still_free c d a b y z h free t = free (elim h [
   | inl g ↦ subst (λ (v : ℕ). IsBetween c d v b) g.0 (subst (λ (v : ℕ). IsBetween c d y v) g.1 t)

@@ -133,7 +133,7 @@ closed_more s t u low rank y p h lt one at e =
 
 -- ---- the end of an arc from the last part
 
--- what is known where an arc from y to z is followed, y being the last complex with arcs to be followed
+-- what is known if an arc from y to z is followed, y being the last complex with arcs to be followed
 pub record IsAtEnd (arcs : List Arc) (s : Ranking) (y z : ℕ) : Type 0 where
   pub old : IsRanking arcs s
   pub last : IsOpenEnd s
@@ -230,7 +230,7 @@ open_inside arcs s i h lt =
     let g = h.path.inside (place_at s (open_at s i) - 1) (omega (arith, f.0, on.0)) in
     omega (arith, f.1, g)
 
--- where the path has a part, not all complexes are ranked
+-- if the path has a part, not all complexes are ranked
 pub count_room : (arcs : List Arc) (s : Ranking) → IsRanking arcs s → 1 ≤ s.parts → s.count < length s.rank.items
 count_room arcs s h some =
     let i = h.parts.inside 0 (omega (arith, some)) in

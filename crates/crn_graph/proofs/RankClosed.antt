@@ -26,7 +26,7 @@ pub record IsClass (arcs : List Arc) (s : Ranking) (rank : List ℕ) : Type 0 wh
 abbrev begin : Ranking → ℕ
 begin s = start_at s (s.parts - 1)
 
--- where a complex stands: in the class, or elsewhere with its old rank
+-- where a complex is: in the class, or elsewhere with its old rank
 data Stands (s : Ranking) (rank : List ℕ) (y : ℕ) : Type 0 where
   member : IsOnPath s y → begin s < place_at s y → get_or rank y 0 ≡ s.count + 1 → Stands s rank y
   other : (IsOnPath s y → place_at s y ≤ begin s) → get_or rank y 0 ≡ rank_at s y → Stands s rank y

@@ -27,7 +27,7 @@ few_open s path h = elim (cases_eq s.left 0) [
       omega (arith, p, on.0, ne)
 ]
 
--- where a complex is not reached, not all places of the path are taken
+-- if a complex is not reached, not all places of the path are taken
 pub path_room : (s : Ranking) (y : ℕ) → AreLongRanks (length s.rank.items) s → IsPath s → y < length s.rank.items → place_at s y ≡ 0 → s.held < length s.rank.items
 path_room s y long h lt free = let fewer = zeros-set s.place.items y 1 (omega (arith, lt, long.place)) free (omega arith) in omega (arith, fewer, h.room)
 

@@ -161,7 +161,7 @@ found_spreads arcs s t d z r h arc its lt unset f =
       ];
     }
 
--- where a complex has no label, not all places of the queue are taken
+-- if a complex has no label, not all places of the queue are taken
 pub room_left : (arcs : List Arc) (s : Search) (z : ℕ) → IsSpreading arcs s → z < length s.label.items → label_at s z ≡ 0 → s.found < length s.label.items
 room_left arcs s z h lt unset = let fewer = zeros-set s.label.items z 1 lt unset (omega arith) in omega (arith, fewer, h.room)
 
@@ -264,7 +264,7 @@ on_done s t n h = record {
 
 -- ---- the chain of a complex
 
--- the arcs from y that stand at a chain or after it lead to complexes with labels
+-- the arcs from y that are at a chain or after it lead to complexes with labels
 pub record IsPast (arcs : List Arc) (s : Search) (y chain : ℕ) : Type 0 where
   pub inside : chain ≤ length arcs
   pub its_own : (p : ℕ) → p + 1 ≡ chain → (arc_at arcs p).from ≡ y

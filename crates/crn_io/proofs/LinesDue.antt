@@ -93,7 +93,7 @@ cause_is LineTooLong n old new left rest bytes lt all q sound = long_at n old ne
 cause_is DocumentTooLong n old new left rest bytes lt all q sound = document_at n old new left rest bytes lt all q
 cause_is Failed n old new left rest bytes lt all q sound = sound refl
 
--- where a line is due, the answer gives it, or the first test that fails has its code
+-- if a line is due, the answer gives it, or the first test that fails has its code
 pub due_is : (answer : Next) (node : Bool) (n : ℕ) (old new : KeptLines) (left rest bytes : List ℕ) → old.taken < MAX_DOCUMENT → old.ahead ++ left ≡ bytes ++ rest
     → NextIs answer old.taken bytes (Some rest) new → DueIs answer node (place n old left) (place (n + 1) new rest) new.line
 due_is Line node n old new left rest bytes lt all q = line_at n old new left rest bytes all q

@@ -163,7 +163,7 @@ inside_in a basis k h = any_true (λ b. b == (a.cols + k)) (a.cols + k) (λ y. D
 pub inside_out : (a : Mat) (basis : List ℕ) (k : ℕ) → is_inside a basis k ≡ false → ¬ IsIn (a.cols + k) basis
 inside_out a basis k h = any_false (λ b. b == (a.cols + k)) (a.cols + k) (λ y. Decides-eqb y (a.cols + k)) basis h
 
--- whether a coordinate is in the basis, as the code asks it
+-- whether a coordinate is in the basis, as the code tests it
 pub asked_yes : (a : Mat) (basis : List ℕ) (first k : ℕ) → first ≡ a.cols → IsIn (first + k) basis → is_inside a basis k ≡ true
 asked_yes a basis first k e i = inside_yes a basis k (subst (λ (n : ℕ). IsIn (n + k) basis) e i)
 
