@@ -1,6 +1,5 @@
 -- What a sink that counts says of a text that was written to it.
-use Rattle.std.proofs.Common.{◌≡◌, ◌<◌, ◌≤◌, ◌^◌, ◌-◌, ℕ, List, length, Result, Ok, Err, ◌∙◌, sym, arith}
-use Rattle.std.specs.Prelude.{Option, None}
+use Rattle.std.proofs.Common.{◌≡◌, ◌<◌, ◌≤◌, ◌^◌, ◌-◌, ℕ, List, length, Result, Ok, Err, arith}
 use Rattle.crn_io.specs.Write.{Wrote}
 use Rattle.crn_io.specs.declared.lines.TheConstants.{MAX_DOCUMENT}
 use Rattle.crn_ctext.specs.Inner.Written.{counter_seen}

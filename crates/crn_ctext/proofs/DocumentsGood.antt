@@ -1,8 +1,7 @@
 -- A document is good if and only if it is read to its end: the built questions, both versions.
 use Rattle.std.proofs.Common.{◌≡◌, ◌<◌, ◌≤◌, ◌++◌, ℕ, List, [], ◌∷◌, length, refl, sym, ap, ap₂, subst, inl, inr, ◌∙◌, arith}
-use Rattle.std.specs.Prelude.{ℤ, slice_index, Bool, true, false}
+use Rattle.std.specs.Prelude.{ℤ, slice_index}
 use Rattle.std.specs.List.{AllByRecursion, AllZip}
-use Rattle.std.proofs.lemmas.List.{append-nil}
 use Rattle.std.specs.Fmt.{digits}
 use Rattle.crn_vec.specs.Lists.{IsIn}
 use Rattle.crn_vec.specs.Network.{Net, IsNetwork}

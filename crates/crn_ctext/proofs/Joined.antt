@@ -3,7 +3,6 @@ use Rattle.std.proofs.Common.{◌↔◌, ◌≡◌, ◌++◌, ◌∙◌, ℕ, Bo
 use Rattle.std.proofs.lemmas.List.{append_cancel_left}
 use Rattle.crn_vec.specs.Kept.{KeptNums}
 use Rattle.crn_vec.specs.declared.signs.Sign.{Sign}
-use Rattle.crn_cert.specs.Trees.{Plan}
 use Rattle.crn_cert.specs.declared.answer.Gap.TheVariants.{Wide}
 use Rattle.crn_cert.specs.declared.answer.Verdict.{Verdict}
 use Rattle.crn_cert.specs.declared.answer.Verdict.TheVariants.{Unknown}

@@ -1,12 +1,12 @@
 -- The numbers of a line's bytes, each after a space, one after another.
 use Rattle.std.proofs.Common.{◌≡◌, ◌≢◌, ◌≤◌, ◌<◌, ◌+◌, ◌++◌, ℕ, List, [], ◌∷◌, length, take, drop, get_or, map, refl, sym, ap, ap₂, subst, ◌∙◌, inl, inr, append_assoc, arith}
-use Rattle.std.specs.Prelude.{ℤ}
+use Rattle.std.specs.Prelude.{ℤ, pos}
 use Rattle.std.specs.List.{AllZip}
 use Rattle.std.proofs.lemmas.List.{append-nil, take-append-drop, map-append, length-append, length_push}
-use Rattle.crn_ctext.specs.Records.{IsSpelled, IsWord, BeginsWith}
-use Rattle.crn_ctext.specs.Inner.Line.{capped, HasNumber, HasNoNumber, spaced, SaysNumbers, Came, IsTail}
+use Rattle.crn_ctext.specs.Records.{IsSpelled}
+use Rattle.crn_ctext.specs.Inner.Line.{capped, BeginsWithZero, EndsAt, HasNumber, HasNoNumber, spaced, SaysNumbers, Came, IsTail}
 use Rattle.crn_ctext.proofs.Spelled.{spelled_one}
-use Rattle.crn_ctext.proofs.LineNumbers.{tail_at, tail_begins, words_one, spelled_is_word}
+use Rattle.crn_ctext.proofs.LineNumbers.{tail_at, tail_begins, words_one, spelled_is_word, zero_number}
 
 pub spaced_tail : (texts : List (List ℕ)) → IsTail (spaced texts)
 spaced_tail [] = inl refl
@@ -91,6 +91,17 @@ came_more before left zs old now new value width c e lt space n is = (
   is ∙ ap₂ (λ (s t : List ℤ). s ++ t) e (ap (λ z. z ∷ []) n.is) ∙ append_assoc old (map capped zs) (capped n.number ∷ []) ∙ ap (λ (t : List ℤ). old ++ t) (sym (map-append capped zs (n.number ∷ []))),
   length_push zs n.number,
 )
+
+zero_ends : (after : List ℕ) → IsTail after → EndsAt (48 ∷ after) 1
+zero_ends after (inl none) = λ lt. absurd (let z : length after ≡ 0 = ap length none in omega (arith, lt, z))
+zero_ends after (inr more) = λ lt. ap (λ (t : List ℕ). get_or t 0 0) more.1
+
+-- a 0 comes next
+pub came_zero : (before left after : List ℕ) (zs : List ℤ) (old now new : List ℤ) → Came before left zs → now ≡ old ++ map capped zs → BeginsWithZero left after → new ≡ now ++ pos 0 ∷ []
+    → (ys : List ℤ) × Came before after ys × (new ≡ old ++ map capped ys) × (length ys ≡ length zs + 1)
+came_zero before left after zs old now new c e h is =
+    let n = zero_number (48 ∷ after) (omega arith) refl (zero_ends after h.tail) in
+    came_more before (32 ∷ 48 ∷ after) zs old now new (pos 0) 1 (subst (λ (t : List ℕ). Came before t zs) h.is c) e (omega arith) refl n is
 
 -- nothing is left
 pub came_all : (before left : List ℕ) (zs : List ℤ) → Came before left zs → length left ≡ 0 → SaysNumbers before zs

@@ -1,12 +1,12 @@
 -- Numbers as they are held while a line is read: what is asked of them holds of the numbers of the line.
-use Rattle.std.proofs.Common.{◌≡◌, ◌≤◌, ◌<◌, ◌+◌, ◌-◌, ◌++◌, ℕ, zero, suc, true, false, List, [], ◌∷◌, length, map, min, refl, sym, ap, ap₂, subst, ◌∙◌, inl, inr, arith}
+use Rattle.std.proofs.Common.{◌≡◌, ◌≤◌, ◌<◌, ◌+◌, ◌++◌, ℕ, zero, suc, true, false, List, [], ◌∷◌, length, map, refl, sym, ap, ap₂, subst, ◌∙◌, inl, inr, arith}
 use Rattle.std.specs.Prelude.{ℤ, pos, negsuc, ◌≤ℤ◌, unsigned_abs, slice_index}
 use Rattle.std.specs.List.{AllByRecursion}
 use Rattle.std.proofs.lemmas.Int.{ints}
 use Rattle.std.proofs.lemmas.List.{length-map, append-nil}
 use Rattle.crn_vec.specs.Lists.{IsIn}
-use Rattle.crn_vec.specs.declared.limits.TheConstants.{MAX_SPECIES, MAX_COMPLEXES, MAX_REACTIONS, WIDE_SOLUTION}
-use Rattle.crn_ctext.specs.Records.{Field, Small, Several, Free, FreeSeveral, Rising, Members, CountAndPart, TwoOf, Turn, ClassWide, Takes, IsNarrow, AreNarrow, AreOf, AreBetween, AreRising}
+use Rattle.crn_vec.specs.declared.limits.TheConstants.{MAX_REACTIONS, WIDE_SOLUTION}
+use Rattle.crn_ctext.specs.Records.{Field, Small, Several, Free, FreeSeveral, Rising, Members, CountAndPart, TwoOf, Turn, ClassWide, Takes, IsNarrow, AreNarrow, AreOf, AreBetween}
 use Rattle.crn_ctext.specs.Inner.Line.{capped}
 use Rattle.crn_ctext.specs.Inner.Shapes.{IsBounded, HasBounds, has_free, fields_of, IsJudged}
 use Rattle.crn_ctext.specs.declared.record_shape.Shape.{Shape}

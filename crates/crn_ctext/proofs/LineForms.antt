@@ -1,10 +1,9 @@
 -- The forms that are due, and the lines that are records of them.
-use Rattle.std.proofs.Common.{◌≡◌, ◌≢◌, ◌⊎◌, ◌≤◌, ◌<◌, ◌+◌, ◌++◌, ℕ, zero, suc, Bool, true, false, List, [], ◌∷◌, length, map, take, drop, get_or, refl, sym, ap, ap₂, subst, ◌∙◌, inl, inr, append_assoc, arith}
-use Rattle.std.specs.Prelude.{ℤ, pos, Option, Some, None, slice_index_or}
-use Rattle.std.specs.List.{AllByRecursion, AllZip, join_with_byte}
-use Rattle.crn_ctext.specs.Records.{Record, Form}
+use Rattle.std.proofs.Common.{◌≡◌, ℕ, [], sym, ap, ◌∙◌}
+use Rattle.std.specs.Prelude.{Option, Some, None}
+use Rattle.crn_ctext.specs.Records.{Record}
 use Rattle.crn_ctext.specs.Expect.{sizes_of, forms_of, tag_of}
-use Rattle.crn_ctext.specs.Inner.Forms.{IsForm, IsNth, IsNthDue, no_form, tag}
+use Rattle.crn_ctext.specs.Inner.Forms.{IsNth, IsNthDue, tag}
 use Rattle.crn_ctext.specs.declared.expect.Expect.{Expect}
 use Rattle.crn_ctext.specs.declared.record_form.Form.{Form as GivenForm}
 

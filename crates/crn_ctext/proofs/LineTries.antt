@@ -1,19 +1,18 @@
 -- A line, and a form that is tried on it.
-use Rattle.std.proofs.Common.{◌≡◌, ◌≢◌, ◌⊎◌, ◌≤◌, ◌<◌, ◌+◌, ◌++◌, ℕ, zero, suc, Bool, true, false, List, [], ◌∷◌, length, map, take, drop, get_or, refl, sym, ap, ap₂, subst, ◌∙◌, inl, inr, append_assoc, arith}
-use Rattle.std.specs.Prelude.{ℤ, pos, negsuc, slice_index_or, ◌==◌, if◌then◌else◌}
-use Rattle.std.specs.List.{AllByRecursion, AllZip, join_with_byte}
+use Rattle.std.proofs.Common.{◌≡◌, ◌≤◌, ◌<◌, ◌+◌, ◌++◌, ℕ, suc, Bool, true, false, List, [], ◌∷◌, length, take, drop, get_or, refl, sym, ap, ap₂, subst, ◌∙◌, inl, inr, append_assoc, arith}
+use Rattle.std.specs.Prelude.{ℤ, pos, slice_index_or, ◌==◌, if◌then◌else◌}
+use Rattle.std.specs.List.{join_with_byte}
 use Rattle.std.proofs.lemmas.List.{append-nil, take-append-drop, length-append, length-map}
 use Rattle.std.proofs.lemmas.Grind.{flat_map-append}
-use Rattle.crn_ctext.specs.Records.{Record, Form, Field, Small, Several, Free, FreeSeveral, Rising, Members, CountAndPart, TwoOf, Turn, ClassWide, Takes, AreOf, IsSpelled, Says, IsWord, BeginsWith, IsShaped, Fits, kind_of}
+use Rattle.crn_ctext.specs.Records.{Record, Form, Field, Small, Several, Free, FreeSeveral, Rising, Members, CountAndPart, TwoOf, Turn, ClassWide, Takes, AreOf, Says, IsWord, BeginsWith, kind_of}
 use Rattle.crn_ctext.specs.Expect.{text_of}
 use Rattle.crn_ctext.specs.Inner.Line.{spaced, SaysNumbers, IsTail}
-use Rattle.crn_ctext.specs.Inner.Forms.{IsForm, later, field_most, most_of, tag}
+use Rattle.crn_ctext.specs.Inner.Forms.{IsForm, later, field_most, most_of}
 use Rattle.crn_ctext.specs.Inner.Shapes.{fields_of}
-use Rattle.crn_ctext.specs.Inner.Tries.{SaysAfter, FitFields, IsFit, IsTried, IsNotShaped, IsSomeShaped, IsNotFit}
+use Rattle.crn_ctext.specs.Inner.Tries.{SaysAfter, FitFields, IsFit, IsTried, IsNotShaped, IsSomeShaped}
 use Rattle.crn_ctext.specs.declared.record_form.Form.{Form as GivenForm}
 use Rattle.crn_ctext.specs.declared.record_shape.Fit.{Fit}
 use Rattle.crn_ctext.specs.declared.record_shape.Fit.TheVariants as fit
-use Rattle.crn_ctext.specs.declared.record_try.Tried.{Tried}
 use Rattle.crn_ctext.specs.declared.record_try.Tried.TheVariants as tried
 use Rattle.crn_ctext.specs.declared.word.Word.{Word}
 use Rattle.crn_ctext.specs.declared.word.Word.TheVariants as word

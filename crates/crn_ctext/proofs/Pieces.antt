@@ -1,5 +1,5 @@
 -- What a call that writes several pieces did, where the pieces are given by an equation.
-use Rattle.std.proofs.Common.{◌≡◌, ℕ, List, ◌++◌, Result, Err, refl, sym, ap, ◌∙◌, append_assoc}
+use Rattle.std.proofs.Common.{◌≡◌, ℕ, List, ◌++◌, Result, Err}
 use Rattle.crn_io.specs.Device.{SinkSeen}
 use Rattle.crn_io.specs.Write.{WroteAll, WrotePrefix, Wrote}
 use Rattle.crn_io.proofs.CallerLemmas.{WrotePrefix-more, WrotePrefix-step, Wrote-prefix, Wrote-then}

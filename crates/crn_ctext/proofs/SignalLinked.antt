@@ -29,7 +29,7 @@ use Rattle.crn_cert.specs.Formed.{IsBasisOf, AreSignalRows, IsSignalTree, IsForm
 use Rattle.crn_cert.specs.Valid.{pair_places, HasVector, IsSignalNode, IsNodeOf, IsValid}
 use Rattle.crn_cert.proofs.CallerLemmas.{shape_count, hold_append, hold_parts}
 use Rattle.crn_ctext.specs.Records.{Record, Form, Turn, AreBetween, Takes, Fits}
-use Rattle.crn_ctext.specs.Questions.{Sizes, wide, wide_signal, spent, rests, rows, heads, open_by}
+use Rattle.crn_ctext.specs.Questions.{Sizes, wide, wide_signal, spent, rests, rows, open_by}
 use Rattle.crn_ctext.specs.Blocks.{Problem, below, place_of}
 use Rattle.crn_ctext.specs.Documents.{IsFormed, IsTree, AreTrees, IsGoodLeaf, IsOneOf, leaf_forms}
 use Rattle.crn_ctext.specs.Documents as documents

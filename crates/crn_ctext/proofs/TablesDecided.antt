@@ -1,9 +1,8 @@
 -- The tests of trees of influence tables, and of pairs that show a table discordant, are decided, whatever the records hold.
-use Rattle.std.proofs.Common.{◌≡◌, ◌≤◌, ◌<◌, ◌+◌, ◌++◌, ◌∙◌, ℕ, zero, suc, Bool, true, false, List, [], ◌∷◌, length, drop, refl, sym, ap, subst, inl, inr, arith}
-use Rattle.std.specs.Prelude.{ℤ, pos, negsuc, ◌≤ℤ◌, ◌≢◌, neg_ℤ}
+use Rattle.std.proofs.Common.{◌≡◌, ◌≤◌, ◌<◌, ◌++◌, ◌∙◌, ℕ, zero, suc, true, List, [], ◌∷◌, length, drop, refl, sym, ap, inl, inr, arith}
+use Rattle.std.specs.Prelude.{ℤ, pos, negsuc, ◌≢◌, neg_ℤ}
 use Rattle.std.specs.List.{AllZip}
 use Rattle.std.proofs.lemmas.Bool.{cases_lt}
-use Rattle.std.proofs.lemmas.Int.{ints}
 use Rattle.std.proofs.lemmas.List.{length-append, drop_at}
 use Rattle.crn_vec.specs.Vectors.{Mat, entry, dot, column}
 use Rattle.crn_vec.specs.Elementary.{InDualSpace}

@@ -8,7 +8,7 @@ use Rattle.crn_cert.specs.Questions.{Earlier, Q1, Q2, Q4, Q5, Q6, Q7, Q11, on, c
 use Rattle.crn_cert.specs.Tests.{Test, test}
 use Rattle.crn_cert.specs.ClassTests.{of_class, AreSideMarks}
 use Rattle.crn_cert.specs.ConfluenceTests.{IsInSpace, DoTerminalsGather, tie_tests}
-use Rattle.crn_cert.specs.Valid.{linkage, linkage_count, strong, exits, classes_to, terminals_in, HaveOneBefore, HaveOneEach, IsFirstSplit, IsLeft, WithDeficiencies, ends_at, is_least_of_pair, pair_places, IsWithinTerminal, side_tests, IsNormal, IsApartAt}
+use Rattle.crn_cert.specs.Valid.{linkage, linkage_count, strong, exits, classes_to, terminals_in, HaveOneBefore, HaveOneEach, IsFirstSplit, WithDeficiencies, ends_at, is_least_of_pair, pair_places, IsWithinTerminal, side_tests, IsNormal, IsApartAt}
 use Rattle.crn_ctext.proofs.Alike.{all_said, labels_alike, counts_alike, exits_alike, ranks_alike, deficiencies_alike, yes_alike, no_alike, open_alike}
 
 -- ---- terminal classes

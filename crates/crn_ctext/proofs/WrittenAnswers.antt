@@ -21,10 +21,10 @@ use Rattle.crn_ctext.proofs.SignalLinked.{signal_trees}
 use Rattle.crn_ctext.proofs.CutLists.{one_tree_cuts, signal_cuts}
 use Rattle.crn_cert.specs.Built.{built}
 use Rattle.crn_cert.specs.Formed.{AreFormed, RowsMayBe, RowsLinkage, RowsStrong, IsFormed as IsFormedAnswer}
-use Rattle.crn_cert.specs.Questions.{Earlier, Question, Q1, Q2, Q3, Q4, Q5, Q6, Q7, Q8, Q9, Q10, questions, Q11, Q12, Q13, Q14, Q15, on}
+use Rattle.crn_cert.specs.Questions.{Earlier, Question, Q1, Q2, Q3, Q4, Q5, Q6, Q7, Q8, Q9, Q10, Q11, Q12, Q13, Q14, Q15, on}
 use Rattle.crn_cert.specs.Valid.{pair_places}
 use Rattle.crn_cert.specs.declared.answer.Verdict.{Verdict}
-use Rattle.crn_cert.specs.declared.answer.Verdict.TheVariants.{Classes, Strong, Rank, Unknown}
+use Rattle.crn_cert.specs.declared.answer.Verdict.TheVariants.{Classes, Strong, Unknown}
 use Rattle.crn_cert.specs.declared.answer.Proof.{Proof}
 use Rattle.crn_cert.specs.declared.answer.Proof.TheVariants as proof
 use Rattle.crn_cert.specs.declared.answer.Answer.{Answer}

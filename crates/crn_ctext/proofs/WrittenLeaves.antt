@@ -1,9 +1,10 @@
 -- Records with the numbers of their cut leaves, as they are written one after another.
-use Rattle.std.proofs.Common.{◌≡◌, ℕ, zero, suc, ◌==◌, ℤ, pos, Bool, true, false, if◌then◌else◌, List, [], ◌∷◌, ◌++◌, map, codes, refl, sym, ap, ◌∙◌, append_assoc}
-use Rattle.std.specs.List.{AllByRecursion, flat_map}
+use Rattle.std.proofs.Common.{◌≡◌, ℕ, zero, suc, ◌==◌, ℤ, pos, Bool, true, false, if◌then◌else◌, List, [], ◌∷◌, ◌++◌, codes, refl, sym, ap, ◌∙◌}
+use Rattle.std.specs.Prelude.{decimal}
+use Rattle.std.specs.List.{AllByRecursion}
 use Rattle.std.proofs.Math.Dec.{eqb-suc-zero}
 use Rattle.std.proofs.lemmas.List.{append-nil}
-use Rattle.crn_ctext.specs.Records.{Record, record_text}
+use Rattle.crn_ctext.specs.Records.{Record}
 use Rattle.crn_ctext.specs.Documents.{record_lines, one_word, is_cut_leaf, leaf_written, first_leaf, later_leaves, written, naming_word}
 use Rattle.crn_ctext.specs.Inner.Written.{line, leaves_after}
 use Rattle.crn_ctext.proofs.WrittenLines.{line_of_word, lines_append}
@@ -76,13 +77,21 @@ cut_line word name u (suc k) e =
     line_of_word (naming_word (one_word word u)) (pos (suc k) ∷ []) ∙ ap (λ (n : List ℕ). line n (pos (suc k) ∷ [])) e
     ∙ ap (λ (b : Bool). if b then line word u else line name (pos (suc k) ∷ [])) (sym (eqb-suc-zero k))
 
+-- the line that names a list
+name_line : (name : List ℕ) (k : ℕ) → line name (pos k ∷ []) ≡ name ++ (32 ∷ decimal k) ++ codes "\n"
+name_line name k = ap (λ (t : List ℕ). name ++ (32 ∷ t) ++ codes "\n") (append-nil (decimal k))
+
+cut_or_name : (b : Bool) (x name : List ℕ) (k : ℕ) → (if b then x else line name (pos k ∷ [])) ≡ (if b then x else (name ++ (32 ∷ decimal k) ++ codes "\n"))
+cut_or_name true x name k = refl
+cut_or_name false x name k = name_line name k
+
 pub cuta_line : (u : List ℤ) (leaf : List ℕ) (k : ℕ) → k ≡ first_leaf leaf
-    → record_lines (written leaf (one_word (codes "cuta") u ∷ [])) ≡ (if k == 0 then line (codes "cuta") u else line (codes "refa") (pos k ∷ []))
-cuta_line u leaf k e = rw e (cut_line (codes "cuta") (codes "refa") u (first_leaf leaf) refl)
+    → record_lines (written leaf (one_word (codes "cuta") u ∷ [])) ≡ (if k == 0 then line (codes "cuta") u else (codes "refa " ++ decimal k ++ codes "\n"))
+cuta_line u leaf k e = rw e (cut_line (codes "cuta") (codes "refa") u (first_leaf leaf) refl ∙ cut_or_name (first_leaf leaf == 0) (line (codes "cuta") u) (codes "refa") (first_leaf leaf))
 
 pub cutb_line : (u : List ℤ) (leaf : List ℕ) (k : ℕ) → k ≡ first_leaf leaf
-    → record_lines (written leaf (one_word (codes "cutb") u ∷ [])) ≡ (if k == 0 then line (codes "cutb") u else line (codes "refb") (pos k ∷ []))
-cutb_line u leaf k e = rw e (cut_line (codes "cutb") (codes "refb") u (first_leaf leaf) refl)
+    → record_lines (written leaf (one_word (codes "cutb") u ∷ [])) ≡ (if k == 0 then line (codes "cutb") u else (codes "refb " ++ decimal k ++ codes "\n"))
+cutb_line u leaf k e = rw e (cut_line (codes "cutb") (codes "refb") u (first_leaf leaf) refl ∙ cut_or_name (first_leaf leaf == 0) (line (codes "cutb") u) (codes "refb") (first_leaf leaf))
 
 -- ---- a split
 

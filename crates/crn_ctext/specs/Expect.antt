@@ -1,6 +1,6 @@
 -- What is due at a line of a document, and what reading the line against it gives.
 -- Source: this project's own format. Shapes: words and lines are lists of bytes; questions, sections and lines count from 1.
-use Rattle.std.specs.Prelude.{◌≡◌, ◌≤◌, ◌<◌, ◌-◌, ◌⊎◌, ◌==◌, ◌++◌, ℕ, ℤ, pos, unsigned_abs, Bool, true, false, if◌then◌else◌, List, [], ◌∷◌, length, map, codes, slice_index_or}
+use Rattle.std.specs.Prelude.{◌≡◌, ◌≤◌, ◌<◌, ◌-◌, ◌⊎◌, ◌++◌, ℕ, ℤ, pos, unsigned_abs, Bool, false, if◌then◌else◌, List, [], ◌∷◌, length, map, codes, slice_index_or}
 use Rattle.std.specs.List.{AllByRecursion, flat_map, list_any}
 use Rattle.std.specs.Str.{bytes_eq}
 use Rattle.crn_vec.specs.Lists.{IsIn, IsAscending}

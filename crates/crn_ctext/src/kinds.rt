@@ -4,6 +4,7 @@ ghost use Rattle.crn_ctext.specs.Kinds.{known_words};
 ghost use Rattle.crn_ctext.specs.Expect.{texts};
 ghost use Rattle.crn_ctext.specs.Inner.Rows.{is_row_of, words_of, asked_words, IsTable};
 
+use crate::same::are_same;
 use crate::word::Word;
 
 // The table of record kinds, and what is made from it: an expression with an arm or a row for each kind. A row has the
@@ -112,7 +113,7 @@ fn has_text(rows: &[Kind], word: &[u8]) -> bool
     ensures { IsTrue result ↔ IsIn word.now (texts rows.now) }
 {
     for row in rows {
-        if same(row.word.text(), word) {
+        if are_same(row.word.text(), word) {
             return true;
         }
     }
@@ -158,19 +159,13 @@ fn is_of(kind: &Kind, version: u32, trees: bool) -> bool
     kind.version <= version && (kind.tree || !trees)
 }
 
-fn same(left: &[u8], right: &[u8]) -> bool
-    ensures { IsTrue result ↔ (left.now ≡ right.now) }
-{
-    left == right
-}
-
 // Whether some kind has the word.
 fn has_word(rows: &[Kind], word: &[u8], version: u32, trees: bool) -> bool
     ensures { IsTrue result ↔ IsIn word.now (words_of version trees rows.now) }
 {
     for row in rows {
         if is_of(row, version, trees) {
-            if same(row.word.text(), word) {
+            if are_same(row.word.text(), word) {
                 return true;
             }
         }

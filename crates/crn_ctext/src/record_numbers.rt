@@ -1,7 +1,7 @@
-ghost use Rattle.std.specs.Prelude.{◌≡◌, ◌≤◌, ◌<◌, ◌+◌, ◌++◌, ◌∷◌, [], ℤ, List, IsTrue, ◌↔◌, length, map, MatchBool, MatchOption, min, take};
+ghost use Rattle.std.specs.Prelude.{◌≡◌, ◌≤◌, ◌<◌, ◌+◌, ◌++◌, ◌∷◌, [], ℤ, List, IsTrue, ◌↔◌, length, map, IfSome, MatchBool, MatchOption, min, take};
 ghost use Rattle.std.specs.Str.Parse.{AllDigits, digits_value};
 ghost use Rattle.crn_vec.specs.declared.limits.TheConstants.{WIDE_SOLUTION};
-ghost use Rattle.crn_ctext.specs.Inner.Line.{HasDigits, HasNatural, HasNoNatural, HasNumber, HasNoNumber, EndsAt, SaysNumbers, capped};
+ghost use Rattle.crn_ctext.specs.Inner.Line.{BeginsWithZero, HasDigits, HasNatural, HasNoNatural, HasNumber, HasNoNumber, EndsAt, SaysNumbers, capped};
 
 use crn_vec::{Ints, WIDE_SOLUTION};
 
@@ -107,6 +107,20 @@ pub(crate) fn add(into: &mut Ints, value: i128)
     }
 }
 
+// What follows a 0 and the space before it, if the bytes begin with that number, as most do.
+fn after_zero(bytes: &[u8]) -> Option<&[u8]>
+    ensures { IfSome result (λ after. BeginsWithZero bytes.now after.now) }
+{
+    match bytes {
+        [b' ', b'0', after @ ..] => match after {
+            [] => Some(after),
+            [b' ', ..] => Some(after),
+            _ => None,
+        },
+        _ => None,
+    }
+}
+
 /// Adds the numbers of a line, each after a space, if they are at most so many.
 pub(crate) fn numbers(line: &[u8], most: usize, into: &mut Ints) -> bool
     requires { most ≤ into.old.spare }
@@ -120,6 +134,12 @@ pub(crate) fn numbers(line: &[u8], most: usize, into: &mut Ints) -> bool
     while !left.is_empty() {
         if count == most {
             return false;
+        }
+        if let Some(after) = after_zero(left) {
+            add(into, 0);
+            count += 1;
+            left = after;
+            continue;
         }
         if left[0] != b' ' {
             return false;

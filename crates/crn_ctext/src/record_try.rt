@@ -11,6 +11,7 @@ use crate::expect::Expect;
 use crate::record_form::{Form, due_form};
 use crate::record_numbers::{add, numbers};
 use crate::record_shape::{Fit, judge};
+use crate::same::are_same;
 use crate::word::Word;
 use crn_io::MAX_NUMBERS;
 use crn_vec::Ints;
@@ -27,12 +28,6 @@ pub(crate) enum Tried {
     Fits,
 }
 
-fn same(left: &[u8], right: &[u8]) -> bool
-    ensures { IsTrue result ↔ (left.now ≡ right.now) }
-{
-    left == right
-}
-
 // The bytes after these, if a space or nothing is there.
 fn after<'a>(bytes: &'a [u8], first: &[u8]) -> Option<&'a [u8]>
     ensures { IsAfter bytes.now first.now result }
@@ -41,7 +36,7 @@ fn after<'a>(bytes: &'a [u8], first: &[u8]) -> Option<&'a [u8]>
         return None;
     }
     let (begin, rest) = bytes.split_at(first.len());
-    if !same(begin, first) {
+    if !are_same(begin, first) {
         return None;
     }
     if rest.is_empty() {

@@ -1,12 +1,13 @@
-ghost use Rattle.std.specs.Prelude.{◌≡◌, ◌∷◌, [], pos, if◌then◌else◌, ◌==◌, IfOk};
+ghost use Rattle.std.specs.Prelude.{◌≡◌, ◌++◌, codes, decimal, if◌then◌else◌, ◌==◌, IfOk};
 ghost use Rattle.crn_io.specs.Write.{Wrote};
 ghost use Rattle.crn_ctext.specs.Answers.{nodes, proof_nodes};
 ghost use Rattle.crn_ctext.specs.Documents.{record_lines, written, first_leaf, later_leaves};
 ghost use Rattle.crn_ctext.specs.Inner.Written.{line, leaves_after};
 
-use crate::write_record::{put_free, put_small};
+use crate::write_record::put_free;
 use crn_cert::{Proof, Tree};
-use crn_io::{Sink, WriteFault, put_all};
+use crn_io::{Sink, WriteFault, put_all, put_parts};
+use itoa::Buffer;
 
 // The number of the next leaf, 0 if there is none, and those after it.
 fn next_leaf(leaf: &[u32]) -> (u32, &[u32])
@@ -19,7 +20,16 @@ fn next_leaf(leaf: &[u32]) -> (u32, &[u32])
     }
 }
 
-// A cut: its word and its numbers, or the word that names a list and the number of the list.
+// The line that names a list: its word and a space, and the number of the list.
+fn put_name<K: Sink>(sink: &mut K, name: &[u8], number: u32) -> Result<(), WriteFault>
+    ensures { Wrote (name.now ++ decimal number ++ codes "\n")
+        (K.seen sink.old) (K.seen sink.new) result }
+{
+    let mut buffer = Buffer::new();
+    put_parts(sink, &[name, buffer.format(number).as_bytes(), b"\n"])
+}
+
+// A cut: its word and its numbers, or the line that names its list.
 fn put_cut<K: Sink>(
     sink: &mut K,
     word: &[u8],
@@ -28,13 +38,14 @@ fn put_cut<K: Sink>(
     number: u32,
 ) -> Result<(), WriteFault>
     ensures { Wrote
-        (if number == 0 then line word.now numbers.now else line name.now (pos number ∷ []))
+        (if number == 0 then line word.now numbers.now
+        else (name.now ++ decimal number ++ codes "\n"))
         (K.seen sink.old) (K.seen sink.new) result }
 {
     if number == 0 {
         return put_free(sink, word, numbers);
     }
-    put_small(sink, name, &[number])
+    put_name(sink, name, number)
 }
 
 // The nodes of a tree, and the numbers of the leaves after it.
@@ -59,12 +70,12 @@ fn put_tree<'a, K: Sink>(
         }
         Tree::CutA(list) => {
             let (number, rest) = next_leaf(leaf);
-            put_cut(sink, b"cuta", list.as_slice(), b"refa", number)?;
+            put_cut(sink, b"cuta", list.as_slice(), b"refa ", number)?;
             Ok(rest)
         }
         Tree::CutB(list) => {
             let (number, rest) = next_leaf(leaf);
-            put_cut(sink, b"cutb", list.as_slice(), b"refb", number)?;
+            put_cut(sink, b"cutb", list.as_slice(), b"refb ", number)?;
             Ok(rest)
         }
         Tree::Flat => {

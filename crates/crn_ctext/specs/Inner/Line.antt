@@ -52,6 +52,11 @@ pub record HasNumber (bytes : List ℕ) (value : ℤ) (count : ℕ) : Type 0 whe
 abbrev pub HasNoNumber : List ℕ → Type 0
 HasNoNumber bytes = (word : List ℕ) (z : ℤ) → BeginsWith bytes word → IsSpelled word z → ⊥
 
+-- the bytes are a space, a 0 that is a number, and these
+pub record BeginsWithZero (bytes after : List ℕ) : Type 0 where
+  pub is : bytes ≡ 32 ∷ 48 ∷ after
+  pub tail : IsTail after
+
 -- each text after a space
 abbrev pub spaced : List (List ℕ) → List ℕ
 spaced texts = flat_map (λ t. 32 ∷ t) texts

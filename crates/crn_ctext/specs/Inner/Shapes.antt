@@ -3,7 +3,7 @@
 -- Source: this project's own. Shapes: reactions, complexes and classes count from 1.
 use Rattle.std.specs.Prelude.{◌≡◌, ◌≤◌, ◌<◌, ◌↔◌, ℕ, ℤ, pos, unsigned_abs, Bool, true, false, Option, Some, None, List, [], ◌∷◌, length, map, suc, slice_index_or}
 use Rattle.std.specs.Borrow.{Bor}
-use Rattle.crn_vec.specs.Lists.{IsIn, IsAbove, IsAscending}
+use Rattle.crn_vec.specs.Lists.{IsIn, IsAscending}
 use Rattle.crn_vec.specs.declared.limits.TheConstants.{MAX_SPECIES, MAX_COMPLEXES, MAX_REACTIONS, WIDE_SOLUTION}
 use Rattle.crn_io.specs.declared.lines.TheConstants.{MAX_NUMBERS}
 use Rattle.std.specs.List.{AllByRecursion}

@@ -1,7 +1,7 @@
 -- For the contracts of private functions alone.
 -- What trying one form on a line gives, and several.
 -- Source: this project's own. Shapes: forms count from 0.
-use Rattle.std.specs.Prelude.{◌≡◌, ◌⊎◌, ◌++◌, ◌+◌, ◌≤◌, ℕ, ℤ, Option, Some, None, Result, Ok, Err, List, [], ◌∷◌, length, take}
+use Rattle.std.specs.Prelude.{◌≡◌, ◌++◌, ℕ, ℤ, Option, Some, None, Result, Ok, Err, List}
 use Rattle.std.specs.Borrow.{Bor}
 use Rattle.crn_vec.specs.Lists.{IsIn}
 use Rattle.crn_ctext.specs.Records.{Record, Form, Field, Says, BeginsWith, IsShaped, Fits, Takes, AreNarrow, AreOf, kind_of}

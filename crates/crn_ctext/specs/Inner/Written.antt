@@ -2,7 +2,7 @@
 -- How a document is written piece by piece.
 -- Source: this project's own. Shapes: questions are numbered from 1. `leaf` has for each cut leaf
 -- that is still to be written the number of its list, or 0; beyond its end each is 0.
-use Rattle.std.specs.Prelude.{ℕ, ℤ, pos, ◌-◌, ◌^◌, Option, Some, None, Bool, true, false, if◌then◌else◌, List, [], ◌∷◌, ◌++◌, length, map, take, drop, codes, slice_index_or}
+use Rattle.std.specs.Prelude.{ℕ, ℤ, ◌-◌, ◌^◌, Some, None, Bool, true, false, if◌then◌else◌, List, [], ◌∷◌, ◌++◌, length, map, take, drop, codes, slice_index_or}
 use Rattle.std.specs.List.{flat_map}
 use Rattle.std.specs.Fmt.{signed_decimal}
 use Rattle.crn_io.specs.Device.{SinkSeen}

@@ -1,8 +1,8 @@
-use Rattle.std.proofs.Common.{◌≡◌, ◌<◌, ◌+◌, length, ap, subst, ◌∙◌, arith, drop}
+use Rattle.std.proofs.Common.{◌<◌, length, ap, subst, ◌∙◌, arith, drop}
 use Rattle.std.proofs.lemmas.Bool.Decides.{nat_tests}
-use Rattle.crn_ctext.specs.Inner.Line.{HasNumber, HasNoNumber, Came}
+use Rattle.crn_ctext.specs.Inner.Line.{HasNumber, HasNoNumber}
 use Rattle.crn_ctext.proofs.LineNumbers.{held}
-use Rattle.crn_ctext.proofs.LineCame.{came_fails, came_many, no_space_fails, no_number_fails, came_more, came_all}
+use Rattle.crn_ctext.proofs.LineCame.{came_fails, came_many, no_space_fails, no_number_fails, came_more, came_zero, came_all}
 use Rattle.crn_ctext.proofs.record_numbers.numbers.Goals as goal
 
 pub returns-then-count-most-clause-numbers : goal.returns-then-count-most-clause-numbers
@@ -26,10 +26,16 @@ loop-left-preserved c =
     let inv = c.loop-left.invariant in
     let left = c.loop-left.left.now in
     let some : 0 < length left = grind (arith, nat_tests, c.loop-left-test.ensures) in
-    let field = subst (λ t. HasNumber t c.in-Some.value c.in-Some.width) c.split_at.ensures.back c.in-Some.ensures in
-    let more = came_more c.args.line.now left inv.0 _ _ _ c.in-Some.value c.in-Some.width inv.1 inv.2 some c.if-left-ne32.false field (rw (held field.number c.in-Some.value field.is) at c.add.ensures.list) in
-    let after = c.split_at-in-Some.ensures.back ∙ ap (drop c.in-Some.width) c.split_at.ensures.back in
+    let field = subst (λ t. HasNumber t c.in-Some-number.value c.in-Some-number.width) c.split_at.ensures.back c.in-Some-number.ensures in
+    let more = came_more c.args.line.now left inv.0 _ _ _ c.in-Some-number.value c.in-Some-number.width inv.1 inv.2 some c.if-left-ne32.false field (rw (held field.number c.in-Some-number.value field.is) at c.add-in-Some-number.ensures.list) in
+    let after = c.split_at-in-Some-number.ensures.back ∙ ap (drop c.in-Some-number.width) c.split_at.ensures.back in
     (more.0, rw after more.1, more.2, omega (arith, more.3), omega arith, omega arith)
+
+pub loop-left-preserved-in-Some : goal.loop-left-preserved-in-Some
+loop-left-preserved-in-Some c =
+    let inv = c.loop-left.invariant in
+    let more = came_zero c.args.line.now c.loop-left.left.now c.in-Some.after.now inv.0 _ _ _ inv.1 inv.2 c.in-Some.ensures c.add.ensures.list in
+    (more.0, more.1, more.2, omega (arith, more.3), omega arith, omega arith)
 
 pub returns-clause-numbers : goal.returns-clause-numbers
 returns-clause-numbers c =

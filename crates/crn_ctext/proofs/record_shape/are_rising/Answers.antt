@@ -1,9 +1,9 @@
-use Rattle.std.proofs.Common.{◌≡◌, ◌≤◌, ◌<◌, ◌+◌, ◌↔◌, List, drop, ◌∷◌, pos, ℤ, get_or, sym, subst, arith, to_z, of_z}
+use Rattle.std.proofs.Common.{◌+◌, ◌↔◌, drop, pos, get_or, subst, arith}
 use Rattle.std.specs.Prelude.{◌≤ℤ◌, ◌<ℤ◌}
 use Rattle.std.proofs.lemmas.List.{drop_more}
 use Rattle.std.proofs.lemmas.Int.{ints}
 use Rattle.crn_ctext.specs.Records.{AreRising}
-use Rattle.crn_ctext.proofs.LineShapes.{RisesAbove, rises_low, rises_high, rises_more, chain}
+use Rattle.crn_ctext.proofs.LineShapes.{RisesAbove, rises_low, rises_more, chain}
 use Rattle.crn_ctext.proofs.record_shape.are_rising.Goals as goal
 
 pub returns-then-number-low : goal.returns-then-number-low

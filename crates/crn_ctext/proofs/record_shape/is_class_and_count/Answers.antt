@@ -1,6 +1,5 @@
-use Rattle.std.proofs.Common.{[], ◌∷◌, pos}
-use Rattle.crn_ctext.specs.Records.{Small}
-use Rattle.crn_ctext.specs.Kinds.{small, just}
+use Rattle.std.proofs.Common.{[], ◌∷◌}
+use Rattle.crn_ctext.specs.Kinds.{small}
 use Rattle.crn_ctext.proofs.LineShapes.{missing, through, chain, alone}
 use Rattle.crn_ctext.proofs.record_shape.is_class_and_count.Goals as goal
 

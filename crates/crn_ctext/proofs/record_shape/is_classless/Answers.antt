@@ -1,7 +1,7 @@
-use Rattle.std.proofs.Common.{[], ◌∷◌, pos}
+use Rattle.std.proofs.Common.{[], ◌∷◌}
 use Rattle.crn_ctext.specs.Records.{Rising}
-use Rattle.crn_ctext.specs.Kinds.{small, just}
-use Rattle.crn_ctext.proofs.LineShapes.{missing, through, chain, alone}
+use Rattle.crn_ctext.specs.Kinds.{small}
+use Rattle.crn_ctext.proofs.LineShapes.{missing, through}
 use Rattle.crn_ctext.proofs.record_shape.is_classless.Goals as goal
 
 pub returns-in-None : goal.returns-in-None

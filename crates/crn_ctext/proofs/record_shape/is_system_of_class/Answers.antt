@@ -1,6 +1,5 @@
-use Rattle.std.proofs.Common.{[], ◌∷◌, pos}
+use Rattle.std.proofs.Common.{[], ◌∷◌}
 use Rattle.crn_ctext.specs.Records.{ClassWide}
-use Rattle.crn_ctext.specs.Kinds.{small, just}
 use Rattle.crn_ctext.proofs.LineShapes.{missing, through, chain, alone}
 use Rattle.crn_ctext.proofs.record_shape.is_system_of_class.Goals as goal
 

@@ -1,4 +1,4 @@
-use Rattle.std.proofs.Common.{◌++◌, ap, sym, subst, ◌∙◌, arith}
+use Rattle.std.proofs.Common.{◌++◌, ap, subst, ◌∙◌, arith}
 use Rattle.crn_ctext.specs.Records.{Takes, AreOf}
 use Rattle.crn_ctext.specs.Inner.Forms.{tag}
 use Rattle.crn_ctext.specs.Inner.Shapes.{fields_of}

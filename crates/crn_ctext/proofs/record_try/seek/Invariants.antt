@@ -1,4 +1,4 @@
-use Rattle.std.proofs.Common.{◌≡◌, ◌≤◌, ◌+◌, ◌-◌, [], length, take}
+use Rattle.std.proofs.Common.{◌≡◌, ◌≤◌, ◌-◌, [], length, take}
 use Rattle.crn_ctext.specs.Expect.{forms_of}
 use Rattle.crn_ctext.specs.Inner.Tries.{AreTried}
 use Rattle.crn_ctext.proofs.record_try.seek.Given as goal

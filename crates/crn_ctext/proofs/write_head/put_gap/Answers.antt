@@ -1,7 +1,5 @@
-use Rattle.std.proofs.Common.{◌∙◌, pos, map, codes, [], ◌∷◌}
 use Rattle.std.proofs.lemmas.Result.{err_from_is_err_and}
-use Rattle.crn_io.proofs.CallerLemmas.{WroteAll-then, WroteAll-step, WrotePrefix-then, WrotePrefix-more, WrotePrefix-step, Wrote-all, Wrote-prefix, Wrote-then}
-use Rattle.crn_ctext.proofs.Pieces.{stops_first, stops_later, ends_with, wrote_as}
+use Rattle.crn_ctext.proofs.Pieces.{stops_first, ends_with}
 use Rattle.crn_ctext.proofs.WrittenLines.{wide_numbers}
 use Rattle.crn_ctext.proofs.write_head.put_gap.Goals as goal
 

@@ -1,7 +1,7 @@
-use Rattle.std.proofs.Common.{◌∙◌, pos, map, codes, [], ◌∷◌, arith, take_all, get_or, ◌≡◌, sym}
+use Rattle.std.proofs.Common.{arith, take_all}
 use Rattle.std.proofs.lemmas.Result.{err_from_is_err_and}
-use Rattle.crn_io.proofs.CallerLemmas.{WroteAll-then, WroteAll-step, WrotePrefix-then, WrotePrefix-more, WrotePrefix-step, Wrote-all, Wrote-prefix, Wrote-then}
-use Rattle.crn_ctext.proofs.Pieces.{stops_first, stops_later, ends_with, wrote_as}
+use Rattle.crn_io.proofs.CallerLemmas.{WroteAll-step, WrotePrefix-step, Wrote-all, Wrote-prefix}
+use Rattle.crn_ctext.proofs.Pieces.{wrote_as}
 use Rattle.crn_io.proofs.CallerLemmas.{flat_map_step, flat_map_whole}
 use Rattle.crn_cert.specs.declared.answer.RankProof.{RankProof}
 use Rattle.crn_ctext.specs.Answers.{rank_records}

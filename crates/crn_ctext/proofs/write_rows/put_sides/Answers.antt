@@ -1,7 +1,7 @@
-use Rattle.std.proofs.Common.{◌∙◌, pos, map, codes, [], ◌∷◌, arith, take_all, ap, List}
+use Rattle.std.proofs.Common.{◌∙◌, arith, take_all, ap, List}
 use Rattle.std.proofs.lemmas.Result.{err_from_is_err_and}
-use Rattle.crn_io.proofs.CallerLemmas.{WroteAll-then, WroteAll-step, WrotePrefix-then, WrotePrefix-more, WrotePrefix-step, Wrote-all, Wrote-prefix, Wrote-then}
-use Rattle.crn_ctext.proofs.Pieces.{stops_first, stops_later, ends_with, wrote_as}
+use Rattle.crn_io.proofs.CallerLemmas.{WroteAll-step, Wrote-all}
+use Rattle.crn_ctext.proofs.Pieces.{stops_later}
 use Rattle.crn_ctext.specs.Records.{Record}
 use Rattle.crn_ctext.specs.Documents.{record_lines}
 use Rattle.crn_ctext.proofs.WrittenLines.{sides_step, sides_whole, lines_append, lines_append3, sides_of_none}

@@ -1,12 +1,12 @@
-use Rattle.std.proofs.Common.{◌≡◌, ◌∙◌, sym, ap, refl, List, ℕ, [], codes}
+use Rattle.std.proofs.Common.{◌∙◌, sym, refl, []}
 use Rattle.std.proofs.lemmas.List.{append-nil}
 use Rattle.std.proofs.lemmas.Result.{err_from_is_err_and}
-use Rattle.crn_io.proofs.CallerLemmas.{WroteAll-then, WrotePrefix-then, WrotePrefix-more, Wrote-all, Wrote-prefix, Wrote-then}
+use Rattle.crn_io.proofs.CallerLemmas.{WroteAll-then, WrotePrefix-then, WrotePrefix-more, Wrote-all, Wrote-prefix}
 use Rattle.crn_cert.specs.declared.tree.Tree.{back-Children-minus}
 use Rattle.crn_ctext.specs.Answers.{nodes, nodes_held}
 use Rattle.crn_ctext.specs.Documents.{record_lines, written}
 use Rattle.crn_ctext.specs.Inner.Written.{leaves_after}
-use Rattle.crn_ctext.proofs.Pieces.{stops_first, stops_later, ends_with, wrote_as}
+use Rattle.crn_ctext.proofs.Pieces.{ends_with, wrote_as}
 use Rattle.crn_ctext.proofs.WrittenLeaves.{cuta_line, cutb_line, split_lines, split_leaves}
 use Rattle.crn_ctext.proofs.write_tree.+put_tree.Goals as goal
 

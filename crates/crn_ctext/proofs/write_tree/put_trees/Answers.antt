@@ -1,4 +1,4 @@
-use Rattle.std.proofs.Common.{◌≡◌, ◌∙◌, sym, ap, refl, List, ℕ, [], ◌++◌}
+use Rattle.std.proofs.Common.{◌∙◌, sym, ap, List, ℕ, ◌++◌}
 use Rattle.std.proofs.lemmas.Result.{err_from_is_err_and}
 use Rattle.crn_io.proofs.CallerLemmas.{WrotePrefix-more, Wrote-prefix}
 use Rattle.crn_ctext.specs.Answers.{nodes}
