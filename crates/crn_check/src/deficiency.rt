@@ -14,6 +14,7 @@ use crate::facts::Facts;
 use crate::fault::CheckFault;
 use crate::members::Members;
 use crate::ranks::check_members;
+use crate::skips::no_skips;
 use crate::weak::labels_in;
 use crn_cert::{Proof, RankList, Verdict};
 use crn_net::Network;
@@ -149,9 +150,10 @@ fn check_classes(net: &Network, facts: &Facts, list: &RankList) -> Result<(), Ch
     ensures { Judges (class_rank_tests net.now facts.now.earlier 1 1 list.now) result }
 {
     let mut part = 1;
+    let mut skips = no_skips();
     for k in 0..list.len() {
         let proof = list.row(k);
-        check_members(net, &of_class(net, facts, k + 1), part, proof)?;
+        check_members(net, &of_class(net, facts, k + 1), part, proof, &mut skips)?;
         part += 1 + proof.duals.len() as u32 + proof.combs.len() as u32;
     }
     Ok(())

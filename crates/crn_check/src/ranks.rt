@@ -11,17 +11,18 @@ use crate::combs::check_combs;
 use crate::duals::check_duals;
 use crate::fault::CheckFault;
 use crate::members::Members;
-use crate::skips::put_skips;
+use crate::skips::{no_skips, put_skips};
 use crn_cert::{Proof, RankProof, Verdict};
 use crn_net::Network;
-use crn_vec::MAX_SPECIES;
+use crn_vec::{MAX_SPECIES, Skips};
 
-// The tests of the rank of the members; the base is record `part`.
+// The tests of the rank of the members; the base is record `part`. What was in `skips` is overwritten.
 pub(crate) fn check_members(
     net: &Network,
     members: &Members,
     part: u32,
     proof: &RankProof,
+    skips: &mut [Skips; MAX_SPECIES],
 ) -> Result<(), CheckFault>
     requires network { IsNetwork net.now }
     requires members { AreLabelled net.now members.now }
@@ -32,11 +33,10 @@ pub(crate) fn check_members(
         proof.now.duals proof.now.combs) result }
 {
     let base = proof.base.as_slice();
-    let mut skips = [[0; MAX_SPECIES + 1]; MAX_SPECIES];
-    put_skips(net, base, &mut skips);
-    check_duals(net, base, &skips, &proof.duals, part + 1)?;
+    put_skips(net, base, skips);
+    check_duals(net, base, skips, &proof.duals, part + 1)?;
     let first = part + 1 + base.len() as u32;
-    check_combs(net, members, base, &skips, &proof.combs, first)
+    check_combs(net, members, base, skips, &proof.combs, first)
 }
 
 // The tests of the records on the rank.
@@ -46,7 +46,9 @@ pub(crate) fn check_rank(net: &Network, verdict: &Verdict, proof: &Proof) -> Res
     ensures { Judges (rank_rows net.now verdict.now proof.now) result }
 {
     match (verdict, proof) {
-        (Verdict::Rank { .. }, Proof::Rank(proof)) => check_members(net, &Members::All, 1, proof),
+        (Verdict::Rank { .. }, Proof::Rank(proof)) => {
+            check_members(net, &Members::All, 1, proof, &mut no_skips())
+        }
         _ => Ok(()),
     }
 }

@@ -9,6 +9,11 @@ use crate::duals::vector_of;
 use crn_net::Network;
 use crn_vec::{MAX_SPECIES, Skips, skips_of};
 
+/// Room for the skips of a base.
+pub(crate) fn no_skips() -> [Skips; MAX_SPECIES] {
+    [[0; MAX_SPECIES + 1]; MAX_SPECIES]
+}
+
 /// Writes the places at which the vectors of the first members of a base are not 0.
 pub(crate) fn put_skips(net: &Network, base: &[u32], all: &mut [Skips; MAX_SPECIES])
     requires { IsBase net.now base.now }
