@@ -7,8 +7,6 @@ mod output;
 mod runner;
 mod status;
 mod summary;
-#[cfg(test)]
-mod tests;
 mod words;
 
 pub use crn_sample::sample;

@@ -1,7 +1,7 @@
 // Networks and texts at the limits, and one above them.
 use super::reports::ROW;
 use super::runs::{decided_report, ends_so, is_reported, push};
-use crate::Status;
+use crn_run::Status;
 use crn_vec::MAX_TEXT;
 use std::process::Abort;
 

@@ -1,6 +1,6 @@
 // Reports, and why texts are refused.
 use super::runs::{ends_so, has_in_turn, is_reported, run_on};
-use crate::Status;
+use crn_run::Status;
 use std::process::Abort;
 
 // The report of `A -> B`. Other multipliers and another positive law would do as well.
@@ -336,5 +336,61 @@ fn a_search_visits_no_more_than_its_budget(rt: HostRuntime) {
             ends_with(&rt, line, text, *status, end),
             "{line} on {text}"
         );
+    }
+}
+
+// Each row: the text, and parts of its report. Another order of exchanges may decide the last.
+const DEFICIENCIES: &[(&str, &[&str])] = &[
+    (
+        "B -> C\nA -> 2A -> 3A\n",
+        &[
+            "\nQ6 deficiency: 1, classes 0 1\n",
+            "\nQ10 deficiency one theorem: hypotheses hold\n",
+        ],
+    ),
+    (
+        "B -> 2B -> 3B\nA -> 2A -> 3A -> 4A\n",
+        &[
+            "\nQ6 deficiency: 3, classes 1 2\n",
+            "\nQ10 deficiency one theorem: hypotheses fail, class 2 has deficiency 2\n",
+        ],
+    ),
+    (
+        "A -> 2A -> 3A -> 4A\nB -> 2B\nB -> 3B\n",
+        &[
+            "\nQ6 deficiency: 3, classes 2 1\n",
+            "\nQ10 deficiency one theorem: hypotheses fail, class 2 has 2 terminal classes\n",
+        ],
+    ),
+    (
+        "A -> 2A -> 3A -> 4A\nA + B -> 2A + B\n",
+        &[
+            "\nQ6 deficiency: 3, classes 2 0\n",
+            "\nQ10 deficiency one theorem: hypotheses fail, class 1 has deficiency 2\n",
+        ],
+    ),
+    (
+        "A -> B\nC -> D\nC -> E\n",
+        &[
+            "\nQ10 deficiency one theorem: hypotheses fail, class 2 has 2 terminal classes\nQ11 regular: no, class 2 has 2 terminal classes\n",
+        ],
+    ),
+    (
+        WIDE_CLASS,
+        &[
+            "\nQ6 deficiency: open, wide\n  system 3 class 2\n  index ",
+            "\nQ10 deficiency one theorem: open, rests on Q6\n",
+        ],
+    ),
+];
+
+// The first class is nothing from each species, the second eleven steps that make 99 of the next from one.
+const WIDE_CLASS: &str =
+    "A -> 0\nB -> 0\nC -> 0\nD -> 0\nE -> 0\nF -> 0\nG -> 0\nH -> 0\nI -> 0\nJ -> 0\nK -> 0\nL -> 0\n2A -> A + 99B -> A + 98B + 99C -> A + 98B + 98C + 99D -> A + 98B + 98C + 98D + 99E -> A + 98B + 98C + 98D + 98E + 99F -> A + 98B + 98C + 98D + 98E + 98F + 99G -> A + 98B + 98C + 98D + 98E + 98F + 98G + 99H -> A + 98B + 98C + 98D + 98E + 98F + 98G + 98H + 99I -> A + 98B + 98C + 98D + 98E + 98F + 98G + 98H + 98I + 99J -> A + 98B + 98C + 98D + 98E + 98F + 98G + 98H + 98I + 98J + 99K -> A + 98B + 98C + 98D + 98E + 98F + 98G + 98H + 98I + 98J + 98K + 99L\n";
+
+#[test]
+fn classes_have_their_deficiencies(rt: HostRuntime) {
+    for (text, parts) in DEFICIENCIES {
+        assert!(rt; has_parts(&rt, text, parts), "{text}");
     }
 }

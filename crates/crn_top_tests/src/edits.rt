@@ -1,6 +1,6 @@
 // Edits of a document of `A <-> B`, in both versions.
 use super::runs::{ends_so, push};
-use crate::Status;
+use crn_run::Status;
 use std::process::Abort;
 
 // The lines of a good document of `A <-> B` in version 1.
@@ -420,6 +420,7 @@ const SHARED_EDITS: &[(usize, &str, usize, &str)] = &[
     (53, "refa 1 1\n", 54, "24 BadField at line 54"),
     // a list that is shared has another length than the cut that names it
     (5, "vector 0 1 0\n", 6, "46 WrongShape at line 54"),
+    (5, "vector 0\n", 6, "46 WrongShape at line 54"),
     (56, "refa 3\n", 57, "41 BadLeaf at line 57"),
     (57, "", 58, "43 TreeEndsEarly at line 58"),
 ];

@@ -2,8 +2,8 @@
 use super::edits::both_ways;
 use super::reports::{ROW, TWO_SITES};
 use super::runs::words_of;
-use crate::{Status, run};
 use crn_io::{MemSink, MemSource, Pull, QuietSink, QuietSource, Source};
+use crn_run::{Status, run};
 use std::process::Abort;
 
 // A source of `A -> B` that gives at most so many bytes a pull and fails at these pulls, a sink that takes at most so

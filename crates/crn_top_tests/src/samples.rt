@@ -1,8 +1,8 @@
 // Summaries of sample networks.
 use super::runs::{ends_so, has_in_turn, run_on, words_of};
-use crate::{Status, run, sample};
 use crn_io::{MemSource, Pull, QuietSink, Source};
 use crn_net::Network;
+use crn_run::{Status, run, sample};
 use std::process::Abort;
 
 // Each row: the words, and the summary. For eight steps the sizes are 1 + 9 + 8 species, 9 + 8 complexes and three

@@ -1,7 +1,7 @@
 // Certificates, and what `check` says of them.
 use super::reports::{ELEVEN, NINE, THROUGH, TWELVE, TWO_SITES};
 use super::runs::{ends_so, has_in_turn, run_on};
-use crate::Status;
+use crn_run::Status;
 use std::process::Abort;
 
 // Each row: what it shows, the text, how its certificate starts, and parts that follow, one after another.
@@ -89,7 +89,7 @@ fn a_text_with_a_fault_is_not_certified(rt: HostRuntime) {
     assert!(rt; ends_so(&rt, "crnt certify", b"A -> A", Status::Refused, want));
 }
 
-const ROUNDS: &[&str] = &[
+pub const ROUNDS: &[&str] = &[
     "A -> B",
     "A <-> B",
     "A+A->B\r\n2A -> B\r\n",
@@ -137,83 +137,42 @@ fn a_certificate_of_open_searches_is_accepted(rt: HostRuntime) {
 }
 
 // Edelstein's network, whose confluence vector has a signal only for its negative.
-const EDELSTEIN: &str = "A <-> 2A\nA + B <-> C\nC <-> B\n";
+pub const EDELSTEIN: &str = "A <-> 2A\nA + B <-> C\nC <-> B\n";
 
-// Each row: the answer to question 13 in place of that of the network's certificate, worked out by hand, and the fault at
-// its last line, if it has one.
-const SIGNALS: &[(&str, Option<&str>)] = &[
-    (
-        "q13 yes -1\nshelves 1 -1\nmu 6 -2 2\nm 5\nweights 1 0 0 0 0 1\n",
-        None,
-    ),
-    (
-        "q13 yes -1\nshelves 1 -1\nmu 6 -2 2\nm 6\nweights 1 0 0 0 0 1\n",
-        Some("45 BadEvidence"),
-    ),
-    (
-        "q13 yes 1\nshelves 1 -1\nmu 6 -2 2\nm 5\nweights 1 0 0 0 0 1\n",
-        Some("45 BadEvidence"),
-    ),
-];
-
-// The certificate of a network up to question 13, this answer to it, and the rest.
-fn with_signal(rt: &(impl Abort + AllocGlobal), text: &str, answer: &str) -> (String, usize) {
-    let (_, sink) = run_on(rt, "crnt certify", text.as_bytes(), 65_536);
-    let certificate = std::str::from_utf8(sink.bytes()).unwrap_or("");
-    let (before, rest) = certificate.split_once("\nq13 ").unwrap_or(("", ""));
-    let (_, after) = rest.split_once("\nsection ").unwrap_or(("", ""));
-    let document = format!(in rt.alloc(); "{before}\n{answer}section {after}").expect(rt, "memory");
-    let lines = before.lines().count().wrapping_add(answer.lines().count());
-    (document, lines)
-}
-
-// Whether a document with this answer to question 13 is accepted, or rejected at the last line of the answer.
-fn is_judged(rt: &(impl Abort + AllocGlobal), answer: &str, fault: Option<&str>) -> bool {
-    let (document, last) = with_signal(rt, EDELSTEIN, answer);
-    let (status, sink) = run_on(rt, "crnt check", document.as_bytes(), 65_536);
-    match fault {
-        None => status == Status::Done,
-        Some(name) => {
-            let want = format!(in rt.alloc(); "rejected {name} at line {last}\n").expect(
-                rt, "memory",
-            );
-            status == Status::Rejected && sink.bytes() == want.as_bytes()
-        }
-    }
-}
-
-#[test]
-fn a_signal_is_accepted_if_it_is_one_for_its_vector(rt: HostRuntime) {
-    for (answer, fault) in SIGNALS {
-        assert!(rt; is_judged(&rt, answer, *fault), "{answer}");
-    }
-}
-
-// Each row: a text, its answers to questions 14 and 15 in place of those of its certificate, and the end of the report.
-// The pairs were worked out by hand.
-const OTHER_ANSWERS: &[(&str, &str, &str)] = &[
+// Each row: a text, the answers in place of the last ones of its certificate, how these begin, and the end of the report.
+// The signal and the pairs were worked out by hand.
+const OTHER_ANSWERS: &[(&str, &str, &str, &str)] = &[
     (
         EDELSTEIN,
+        "\nq14 ",
         "q14 no\nalpha 3 1 3 1 1 -1\nweights 1 0 0 0 0 1\nq15 open budget 1\nend\n",
         "\nQ14 concordant: no\n  sigma: 1 -1 1\n  alpha: 3 1 3 1 1 -1\nQ15 strongly concordant: open, budget 1\nopen: 1\n",
     ),
     (
+        EDELSTEIN,
+        "\nq13 ",
+        "q13 yes -1\nshelves 1 -1\nmu 6 -2 2\nm 5\nweights 1 0 0 0 0 1\nsection concordance\nq14 open wide 2 0 1 1 2 3 4 5 6\nq15 open budget 1\nend\n",
+        "\nQ13 signal: yes\n  turn: -1\n  shelves: upper lower\n  mu: 6 -2 2\n  m: 5\nQ14 concordant: open, wide\n  system 2\n  index 1\n  basis: 1 2 3 4 5 6\nQ15 strongly concordant: open, budget 1\nopen: 2\n",
+    ),
+    (
         "A -> 2A\nA -> 0\n",
+        "\nq14 ",
         "q14 no\nalpha 1 1\nweights 1 0\nq15 open budget 100000\nend\n",
         "\nQ14 concordant: no\n  sigma: 1\n  alpha: 1 1\nQ15 strongly concordant: open, budget 100000\nopen: 1\n",
     ),
     (
         TWO_SITES,
+        "\nq14 ",
         "q14 open budget 1\nq15 open budget 1\nend\n",
         "\nQ14 concordant: open, budget 1\nQ15 strongly concordant: open, budget 1\nopen: 2\n",
     ),
 ];
 
-// The certificate of a network up to question 14, and this end.
-fn with_end(rt: &(impl Abort + AllocGlobal), text: &str, end: &str) -> String {
+// The certificate of a network up to an answer, and this end.
+fn with_end(rt: &(impl Abort + AllocGlobal), text: &str, head: &str, end: &str) -> String {
     let (_, sink) = run_on(rt, "crnt certify", text.as_bytes(), 65_536);
     let certificate = std::str::from_utf8(sink.bytes()).unwrap_or("");
-    let (before, _) = certificate.split_once("\nq14 ").unwrap_or(("", ""));
+    let (before, _) = certificate.split_once(head).unwrap_or(("", ""));
     format!(in rt.alloc(); "{before}\n{end}").expect(rt, "memory")
 }
 
@@ -225,9 +184,9 @@ fn is_accepted(rt: &(impl Abort + AllocGlobal), document: &str, end: &str) -> bo
 }
 
 #[test]
-fn other_answers_on_concordance_are_accepted(rt: HostRuntime) {
-    for (text, end, last) in OTHER_ANSWERS {
-        let document = with_end(&rt, text, end);
+fn other_answers_are_accepted_with_their_lines(rt: HostRuntime) {
+    for (text, head, end, last) in OTHER_ANSWERS {
+        let document = with_end(&rt, text, head, end);
         assert!(rt; is_accepted(&rt, document.as_str(), last), "{end}");
     }
 }

@@ -1,6 +1,6 @@
 // Words that are a command, and words that are none.
 use super::runs::{ends_so, words_of};
-use crate::{Command, DEFAULT_BUDGET, MAX_BUDGET, Status, command_of};
+use crn_run::{Command, DEFAULT_BUDGET, MAX_BUDGET, Status, command_of};
 use std::process::Abort;
 
 const USAGE: &[u8] =

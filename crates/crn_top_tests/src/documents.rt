@@ -1,6 +1,6 @@
 // Documents of `A <-> B -> C`, written by hand, and lines that end or are too long.
 use super::runs::{edited, ends_so, push};
-use crate::Status;
+use crn_run::Status;
 use std::process::Abort;
 
 // The document of `A <-> B -> C` in version 2.

@@ -1,6 +1,6 @@
 // Runs of the program in the tests.
-use crate::{Status, run};
 use crn_io::{QuietSink, QuietSource};
+use crn_run::{Status, run};
 use std::process::Abort;
 
 // The words of a command line, split at spaces.
