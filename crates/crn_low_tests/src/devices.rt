@@ -1,12 +1,12 @@
 ghost use Rattle.std.specs.Prelude.{◌≡◌, true};
 
 use crn_io::{
-    Lines, MemSink, MemSource, Next, Pull, Push, QuietSink, QuietSource, ReadStop, Sink, Source,
-    StdSink, StdSource, WriteFault, put_all, put_between, put_parts, read_all,
+    Bytes, Lines, MemSink, MemSource, Next, Pull, Push, QuietSink, QuietSource, ReadStop, Sink,
+    Source, StdSink, StdSource, WriteFault, put_all, put_between, put_parts, read_all,
 };
 use std::io;
 use std::io::Read;
-use std::test::Fail;
+use std::process::Abort;
 
 // A reader that gives one byte and fails from then on.
 #[derive(Drop)]
@@ -25,88 +25,93 @@ impl Read for Halting {
     }
 }
 
-#[test]
-fn all_is_read_up_to_the_limit(rt: HostRuntime) -> Result<(), Fail> {
-    let text = b"A -> B".as_slice();
-    let cases = [
-        ("in one pull", text, 64, [].as_slice(), 100, Ok(text)),
-        ("one byte a pull", text, 1, [].as_slice(), 100, Ok(text)),
-        (
-            "no bytes",
-            b"".as_slice(),
-            1,
-            [].as_slice(),
-            0,
-            Ok(b"".as_slice()),
-        ),
-        ("as many as the limit", text, 4, [].as_slice(), 6, Ok(text)),
-        (
-            "one more than the limit",
-            text,
-            4,
-            [].as_slice(),
-            5,
-            Err(ReadStop::TooLong),
-        ),
-        (
-            "a fault in mid-stream",
-            text,
-            4,
-            [2].as_slice(),
-            100,
-            Err(ReadStop::Failed),
-        ),
-        (
-            "a fault after the last byte",
-            text,
-            6,
-            [2].as_slice(),
-            100,
-            Err(ReadStop::Failed),
-        ),
-        (
-            "no pull after one past the limit",
-            text,
-            6,
-            [2].as_slice(),
-            5,
-            Err(ReadStop::TooLong),
-        ),
-        (
-            "a fault at another call",
-            text,
-            6,
-            [3].as_slice(),
-            100,
-            Ok(text),
-        ),
-    ];
-    for (name, bytes, most, failing, limit, want) in cases {
-        let mut source = MemSource::new(rt.alloc(), bytes, most, failing)?;
-        let got = read_all(rt.alloc(), &mut source, limit);
-        match (&got, want) {
-            (Ok(bytes), Ok(want)) => assert_eq!(rt; bytes.as_slice(), want, "{name}"),
-            (Err(stop), Err(want)) => assert_eq!(rt; *stop, want, "{name}"),
-            _ => assert!(rt; false, "{name}"),
-        }
+const TEXT: &[u8] = b"A -> B";
+
+// What a reading shows: the bytes of a source, how many it gives a pull, the pulls that fail, the limit, and what is read.
+type Reading = (
+    &'static str,
+    &'static [u8],
+    usize,
+    &'static [u32],
+    usize,
+    Result<&'static [u8], ReadStop>,
+);
+
+const READINGS: &[Reading] = &[
+    ("in one pull", TEXT, 64, &[], 100, Ok(TEXT)),
+    ("one byte a pull", TEXT, 1, &[], 100, Ok(TEXT)),
+    ("no bytes", b"", 1, &[], 0, Ok(b"")),
+    ("as many as the limit", TEXT, 4, &[], 6, Ok(TEXT)),
+    (
+        "one more than the limit",
+        TEXT,
+        4,
+        &[],
+        5,
+        Err(ReadStop::TooLong),
+    ),
+    (
+        "a fault in mid-stream",
+        TEXT,
+        4,
+        &[2],
+        100,
+        Err(ReadStop::Failed),
+    ),
+    (
+        "a fault after the last byte",
+        TEXT,
+        6,
+        &[2],
+        100,
+        Err(ReadStop::Failed),
+    ),
+    (
+        "no pull after one past the limit",
+        TEXT,
+        6,
+        &[2],
+        5,
+        Err(ReadStop::TooLong),
+    ),
+    ("a fault at another call", TEXT, 6, &[3], 100, Ok(TEXT)),
+];
+
+fn is_read(got: &Result<Bytes, ReadStop>, want: &Result<&[u8], ReadStop>) -> bool {
+    match (got, want) {
+        (Ok(bytes), Ok(want)) => bytes.as_slice() == *want,
+        (Err(stop), Err(want)) => *stop == *want,
+        _ => false,
     }
-    Ok(())
+}
+
+fn reads(rt: &(impl Abort + AllocGlobal), row: &Reading) -> bool {
+    let (_, bytes, most, failing, limit, want) = row;
+    assert!(rt; *most >= 1);
+    let mut source = MemSource::new(rt.alloc(), bytes, *most, failing).expect(rt, "memory");
+    is_read(&read_all(rt.alloc(), &mut source, *limit), want)
 }
 
 #[test]
-fn nothing_is_pulled_after_a_fault(rt: HostRuntime) -> Result<(), Fail> {
-    let mut source = MemSource::new(rt.alloc(), b"ABC", 1, &[2])?;
+fn all_is_read_up_to_the_limit(rt: HostRuntime) {
+    for row in READINGS {
+        assert!(rt; reads(&rt, row), "{}", row.0);
+    }
+}
+
+#[test]
+fn nothing_is_pulled_after_a_fault(rt: HostRuntime) {
+    let mut source = MemSource::new(rt.alloc(), b"ABC", 1, &[2]).expect(&rt, "memory");
     let got = read_all(rt.alloc(), &mut source, 100);
     assert_eq!(rt; got.is_err_and(|stop| stop == ReadStop::Failed), true);
     let mut buffer = [0u8; 3];
     assert_eq!(rt; source.pull(&mut buffer), Pull::Got(1));
     assert_eq!(rt; buffer[0], b'B', "the next byte after the fault");
-    Ok(())
 }
 
 #[test]
-fn a_source_in_memory_goes_on_after_a_listed_call(rt: HostRuntime) -> Result<(), Fail> {
-    let mut source = MemSource::new(rt.alloc(), b"ABC", 2, &[2])?;
+fn a_source_in_memory_goes_on_after_a_listed_call(rt: HostRuntime) {
+    let mut source = MemSource::new(rt.alloc(), b"ABC", 2, &[2]).expect(&rt, "memory");
     let mut buffer = [0u8; 3];
     for (want, prefix) in [
         (Pull::Got(2), b"AB".as_slice()),
@@ -118,77 +123,80 @@ fn a_source_in_memory_goes_on_after_a_listed_call(rt: HostRuntime) -> Result<(),
         assert_eq!(rt; source.pull(&mut buffer), want);
         assert_eq!(rt; &buffer[..prefix.len().min(3)], prefix);
     }
-    Ok(())
+}
+
+const REPORT: &[u8] = b"crn report";
+
+// What a writing shows: a piece, how many bytes a sink takes a push, the pushes that fail, the answer, and what it took.
+type Writing = (
+    &'static str,
+    &'static [u8],
+    usize,
+    &'static [u32],
+    Result<(), WriteFault>,
+    &'static [u8],
+);
+
+const WRITINGS: &[Writing] = &[
+    ("in one push", REPORT, 64, &[], Ok(()), REPORT),
+    ("one byte a push", REPORT, 1, &[], Ok(()), REPORT),
+    ("an empty piece without a push", b"", 1, &[1], Ok(()), b""),
+    (
+        "a fault in mid-stream",
+        REPORT,
+        7,
+        &[2],
+        Err(WriteFault),
+        b"crn rep",
+    ),
+    (
+        "a fault at the first byte",
+        REPORT,
+        7,
+        &[1],
+        Err(WriteFault),
+        b"",
+    ),
+    ("a fault at another call", REPORT, 7, &[3], Ok(()), REPORT),
+];
+
+fn writes(rt: &(impl Abort + AllocGlobal), row: &Writing) -> bool {
+    let (_, piece, most, failing, want, took) = row;
+    assert!(rt; *most >= 1);
+    let mut sink = MemSink::new(rt.alloc(), *most, failing).expect(rt, "memory");
+    put_all(&mut sink, piece) == *want && sink.bytes() == *took
 }
 
 #[test]
-fn all_is_written_up_to_a_fault(rt: HostRuntime) -> Result<(), Fail> {
-    let fault = Err(WriteFault);
-    let text = b"crn report".as_slice();
-    let cases = [
-        ("in one push", text, 64, [].as_slice(), Ok(()), text),
-        ("one byte a push", text, 1, [].as_slice(), Ok(()), text),
-        (
-            "an empty piece without a push",
-            b"".as_slice(),
-            1,
-            [1].as_slice(),
-            Ok(()),
-            b"".as_slice(),
-        ),
-        (
-            "a fault in mid-stream",
-            text,
-            7,
-            [2].as_slice(),
-            fault,
-            b"crn rep".as_slice(),
-        ),
-        (
-            "a fault at the first byte",
-            text,
-            7,
-            [1].as_slice(),
-            fault,
-            b"".as_slice(),
-        ),
-        (
-            "a fault at another call",
-            text,
-            7,
-            [3].as_slice(),
-            Ok(()),
-            text,
-        ),
-    ];
-    for (name, piece, most, failing, want, took) in cases {
-        let mut sink = MemSink::new(rt.alloc(), most, failing)?;
-        assert_eq!(rt; put_all(&mut sink, piece), want, "{name}");
-        assert_eq!(rt; sink.bytes(), took, "{name}");
+fn all_is_written_up_to_a_fault(rt: HostRuntime) {
+    for row in WRITINGS {
+        assert!(rt; writes(&rt, row), "{}", row.0);
     }
-    let mut sink = MemSink::new(rt.alloc(), 2, &[5])?;
+}
+
+#[test]
+fn parts_are_written_one_after_another(rt: HostRuntime) {
+    let mut sink = MemSink::new(rt.alloc(), 2, &[5]).expect(&rt, "memory");
     assert_eq!(rt;
         put_parts(&mut sink, &[b"open", b"", b": ", b"0\n"]),
         Ok(())
     );
-    assert_eq!(rt; put_parts(&mut sink, &[b"more", b"last"]), fault);
+    assert_eq!(rt; put_parts(&mut sink, &[b"more", b"last"]), Err(WriteFault));
     assert_eq!(rt; sink.bytes(), b"open: 0\n".as_slice());
-    Ok(())
 }
 
 #[test]
-fn pieces_are_written_with_a_separator_between_each_two(rt: HostRuntime) -> Result<(), Fail> {
-    let mut sink = MemSink::new(rt.alloc(), 2, &[])?;
+fn pieces_are_written_with_a_separator_between_each_two(rt: HostRuntime) {
+    let mut sink = MemSink::new(rt.alloc(), 2, &[]).expect(&rt, "memory");
     for (before, name) in [(0, b"A".as_slice()), (1, b"B2"), (2, b"")] {
         assert_eq!(rt; put_between(&mut sink, b", ", before, name), Ok(()));
     }
     assert_eq!(rt; sink.bytes(), b"A, B2, ".as_slice());
-    Ok(())
 }
 
 #[test]
-fn a_quiet_sink_takes_what_fits(rt: HostRuntime) -> Result<(), Fail> {
-    let mut sink = QuietSink::new(rt.alloc(), 6)?;
+fn a_quiet_sink_takes_what_fits(rt: HostRuntime) {
+    let mut sink = QuietSink::new(rt.alloc(), 6).expect(&rt, "memory");
     assert_eq!(rt; put_all(&mut sink, b"A ->"), Ok(()));
     assert_eq!(rt;
         put_all(&mut sink, b" BC"),
@@ -202,11 +210,10 @@ fn a_quiet_sink_takes_what_fits(rt: HostRuntime) -> Result<(), Fail> {
     );
     assert_eq!(rt; sink.push(b"C"), Push::Failed);
     assert_eq!(rt; sink.bytes(), b"A -> B".as_slice());
-    Ok(())
 }
 
 #[test]
-fn a_quiet_source_gives_its_bytes(rt: HostRuntime) -> Result<(), Fail> {
+fn a_quiet_source_gives_its_bytes(rt: HostRuntime) {
     let mut source = QuietSource::new(b"A -> B");
     let mut buffer = [0u8; 4];
     assert_eq!(rt; source.pull(&mut buffer), Pull::Got(4));
@@ -216,11 +223,10 @@ fn a_quiet_source_gives_its_bytes(rt: HostRuntime) -> Result<(), Fail> {
         rest.is_ok_and(|bytes| bytes.as_slice() == b" B".as_slice()),
         true
     );
-    Ok(())
 }
 
 #[test]
-fn readers_and_writers_of_std_are_devices(rt: HostRuntime) -> Result<(), Fail> {
+fn readers_and_writers_of_std_are_devices(rt: HostRuntime) {
     let got = read_all(rt.alloc(), &mut StdSource::new(b"A -> B".as_slice()), 6);
     assert_eq!(rt;
         got.is_ok_and(|bytes| bytes.as_slice() == b"A -> B".as_slice()),
@@ -241,7 +247,6 @@ fn readers_and_writers_of_std_are_devices(rt: HostRuntime) -> Result<(), Fail> {
     assert_eq!(rt; room.as_slice(), b"A -> B".as_slice());
     let full = put_all(&mut StdSink::new(room.as_mut_slice()), b"C <-> D");
     assert_eq!(rt; full, Err(WriteFault), "a write of no bytes");
-    Ok(())
 }
 
 // Whether the next calls give these answers and lines, and no more calls may follow them.
@@ -272,84 +277,99 @@ const END: (Next, &[u8]) = (Next::End, b"");
 
 const FAILED: (Next, &[u8]) = (Next::Failed, b"");
 
-#[test]
-fn lines_are_given_one_after_another(rt: HostRuntime) -> Result<(), Fail> {
-    let ended = b"ab\n\n".as_slice();
-    let open_end = b"ab\n\ncd".as_slice();
-    let cases = [
-        ("LF at the end", ended, 64, [AB, EMPTY, END].as_slice()),
-        ("bytes one by one", ended, 1, &[AB, EMPTY, END]),
-        (
-            "an LF and the next byte at once",
-            ended,
-            2,
-            &[AB, EMPTY, END],
-        ),
-        ("no LF at the end", open_end, 64, &[AB, EMPTY, CD]),
-        ("no LF, bytes one by one", open_end, 1, &[AB, EMPTY, CD]),
-        ("an empty document", b"", 64, &[END]),
-        ("one LF", b"\n", 64, &[EMPTY, END]),
-    ];
-    for (name, text, most, wanted) in cases {
-        let mut source = MemSource::new(rt.alloc(), text, most, &[])?;
-        let mut lines = Lines::new(rt.alloc())?;
-        assert!(rt; ends_after(&mut lines, &mut source, wanted), "{name}");
-    }
-    Ok(())
+// Each row: what it shows, a text, the most bytes a pull, and the answers of the calls.
+const CALLS: &[(&str, &[u8], usize, &[(Next, &[u8])])] = &[
+    ("LF at the end", b"ab\n\n", 64, &[AB, EMPTY, END]),
+    ("bytes one by one", b"ab\n\n", 1, &[AB, EMPTY, END]),
+    (
+        "an LF and the next byte at once",
+        b"ab\n\n",
+        2,
+        &[AB, EMPTY, END],
+    ),
+    ("no LF at the end", b"ab\n\ncd", 64, &[AB, EMPTY, CD]),
+    ("no LF, bytes one by one", b"ab\n\ncd", 1, &[AB, EMPTY, CD]),
+    ("an empty document", b"", 64, &[END]),
+    ("one LF", b"\n", 64, &[EMPTY, END]),
+];
+
+fn gives(
+    rt: &(impl Abort + AllocGlobal),
+    text: &[u8],
+    most: usize,
+    wanted: &[(Next, &[u8])],
+) -> bool {
+    assert!(rt; most >= 1);
+    let mut source = MemSource::new(rt.alloc(), text, most, &[]).expect(rt, "memory");
+    let mut lines = Lines::new(rt.alloc()).expect(rt, "memory");
+    ends_after(&mut lines, &mut source, wanted)
 }
 
 #[test]
-fn a_line_is_as_long_as_the_limit_and_no_longer(rt: HostRuntime) -> Result<(), Fail> {
-    let cases = [
-        (16_384, b"\nab".as_slice(), 4_096, Next::Line, 16_384),
-        (16_384, b"\nab", 7, Next::Line, 16_384),
-        (16_384, b"", 64, Next::Last, 16_384),
-        (16_385, b"\nab", 4_096, Next::LineTooLong, 0),
-        (16_385, b"\nab", 1, Next::LineTooLong, 0),
-        (16_385, b"", 64, Next::LineTooLong, 0),
-    ];
-    for (count, tail, most, answer, length) in cases {
-        let mut text = vec![in rt.alloc(); b'a'; count]?;
-        text.extend_from_slice(tail)?;
-        let mut source = MemSource::new(rt.alloc(), &text, most, &[])?;
-        let mut lines = Lines::new(rt.alloc())?;
-        let given = lines.next(&mut source);
-        assert_eq!(rt; given, answer, "{count} bytes, {most} bytes a pull");
-        assert_eq!(rt;
-            lines.line().len(),
-            length,
-            "{count} bytes, {most} bytes a pull"
-        );
+fn lines_are_given_one_after_another(rt: HostRuntime) {
+    for (name, text, most, wanted) in CALLS {
+        assert!(rt; gives(&rt, text, *most, wanted), "{name}");
     }
-    Ok(())
+}
+
+// Each row: how many bytes come before a tail, the most bytes a pull, and the answer and the length of the line.
+const LENGTHS: &[(usize, &[u8], usize, Next, usize)] = &[
+    (16_384, b"\nab", 4_096, Next::Line, 16_384),
+    (16_384, b"\nab", 7, Next::Line, 16_384),
+    (16_384, b"", 64, Next::Last, 16_384),
+    (16_385, b"\nab", 4_096, Next::LineTooLong, 0),
+    (16_385, b"\nab", 1, Next::LineTooLong, 0),
+    (16_385, b"", 64, Next::LineTooLong, 0),
+];
+
+fn is_so_long(rt: &(impl Abort + AllocGlobal), row: &(usize, &[u8], usize, Next, usize)) -> bool {
+    let (count, tail, most, answer, length) = row;
+    assert!(rt; *most >= 1);
+    let mut text = vec![in rt.alloc(); b'a'; *count].expect(rt, "memory");
+    text.extend_from_slice(tail).expect(rt, "memory");
+    let mut source = MemSource::new(rt.alloc(), &text, *most, &[]).expect(rt, "memory");
+    let mut lines = Lines::new(rt.alloc()).expect(rt, "memory");
+    lines.next(&mut source) == *answer && lines.line().len() == *length
 }
 
 #[test]
-fn lines_end_with_a_fault_and_nothing_is_pulled_after_it(rt: HostRuntime) -> Result<(), Fail> {
-    let text = b"ab\n\ncd".as_slice();
-    let cases = [
-        (1, 1, [FAILED].as_slice(), b"ab\n\ncd".as_slice()),
-        (1, 2, &[FAILED], b"b\n\ncd"),
-        (1, 3, &[FAILED], b"\n\ncd"),
-        (1, 4, &[AB, FAILED], b"\ncd"),
-        (1, 5, &[AB, EMPTY, FAILED], b"cd"),
-        (1, 6, &[AB, EMPTY, FAILED], b"d"),
-        (1, 7, &[AB, EMPTY, FAILED], b""),
-        (4, 1, &[FAILED], b"ab\n\ncd"),
-        (4, 2, &[AB, EMPTY, FAILED], b"cd"),
-        (64, 2, &[AB, EMPTY, FAILED], b""),
-    ];
-    for (most, call, wanted, left) in cases {
-        let mut source = MemSource::new(rt.alloc(), text, most, &[call])?;
-        let mut lines = Lines::new(rt.alloc())?;
-        let as_wanted = ends_after(&mut lines, &mut source, wanted);
-        assert!(rt; as_wanted, "call {call} fails, {most} bytes a call");
-        let rest = read_all(rt.alloc(), &mut source, 100);
-        let is_left = rest.is_ok_and(|bytes| bytes.as_slice() == left);
+fn a_line_is_as_long_as_the_limit_and_no_longer(rt: HostRuntime) {
+    for row in LENGTHS {
+        assert!(rt; is_so_long(&rt, row), "{} bytes, {} a pull", row.0, row.2);
+    }
+}
+
+// Each row: the most bytes a pull, the pull that fails, the answers of the calls, and what is left.
+const STOPS: &[(usize, u32, &[(Next, &[u8])], &[u8])] = &[
+    (1, 1, &[FAILED], b"ab\n\ncd"),
+    (1, 2, &[FAILED], b"b\n\ncd"),
+    (1, 3, &[FAILED], b"\n\ncd"),
+    (1, 4, &[AB, FAILED], b"\ncd"),
+    (1, 5, &[AB, EMPTY, FAILED], b"cd"),
+    (1, 6, &[AB, EMPTY, FAILED], b"d"),
+    (1, 7, &[AB, EMPTY, FAILED], b""),
+    (4, 1, &[FAILED], b"ab\n\ncd"),
+    (4, 2, &[AB, EMPTY, FAILED], b"cd"),
+    (64, 2, &[AB, EMPTY, FAILED], b""),
+];
+
+fn stops(rt: &(impl Abort + AllocGlobal), row: &(usize, u32, &[(Next, &[u8])], &[u8])) -> bool {
+    let (most, call, wanted, left) = row;
+    assert!(rt; *most >= 1);
+    let mut source = MemSource::new(rt.alloc(), b"ab\n\ncd", *most, &[*call]).expect(rt, "memory");
+    let mut lines = Lines::new(rt.alloc()).expect(rt, "memory");
+    ends_after(&mut lines, &mut source, wanted)
+        && is_read(&read_all(rt.alloc(), &mut source, 100), &Ok(*left))
+}
+
+#[test]
+fn lines_end_with_a_fault_and_nothing_is_pulled_after_it(rt: HostRuntime) {
+    for row in STOPS {
         assert!(rt;
-            is_left,
-            "left after call {call} failed, {most} bytes a call"
+            stops(&rt, row),
+            "call {} fails, {} bytes a call",
+            row.1,
+            row.0
         );
     }
-    Ok(())
 }

@@ -11,43 +11,52 @@ use crn_vec::{
     visits_are_in_preorder, visits_are_one_list, visits_are_reached,
     weak_reversibility_is_by_reactions, weights_tell_cuts,
 };
-use std::test::Fail;
 
 #[test]
-fn lists_take_and_give_back(rt: HostRuntime) -> Result<(), Fail> {
-    let mut ints = Ints::with_room(rt.alloc(), 1)?;
-    ints.push(-7)?;
-    ints.push(8)?;
-    assert_eq!(rt; ints.copy()?.as_slice(), [-7, 8].as_slice());
+fn ints_take_and_give_back(rt: HostRuntime) {
+    let mut ints = Ints::with_room(rt.alloc(), 1).expect(&rt, "memory");
+    ints.push(-7).expect(&rt, "memory");
+    ints.push(8).expect(&rt, "memory");
+    let copy = ints.copy().expect(&rt, "memory");
+    assert_eq!(rt; copy.as_slice(), [-7, 8].as_slice());
     ints.clear();
     assert_eq!(rt; ints.as_slice().len(), 0);
-    assert_eq!(rt;
-        Ints::from_slice(rt.alloc(), &[3])?.as_slice(),
-        [3].as_slice()
-    );
-    let own = Ints::from_slice(rt.alloc(), &[3, 4])?.into_vec();
-    assert_eq!(rt; Ints::from_vec(own).as_slice(), [3, 4].as_slice());
-    let own = Nums::from_slice(rt.alloc(), &[5, 6])?.into_vec();
-    assert_eq!(rt; Nums::from_vec(own).as_slice(), [5, 6].as_slice());
-    let mut nums = Nums::with_room(rt.alloc(), 1)?;
-    nums.push(7)?;
-    nums.push(8)?;
-    assert_eq!(rt; nums.copy()?.as_slice(), [7, 8].as_slice());
-    nums.clear();
-    assert_eq!(rt; nums.as_slice().len(), 0);
-    assert_eq!(rt;
-        Nums::from_slice(rt.alloc(), &[3])?.as_slice(),
-        [3].as_slice()
-    );
-    Ok(())
 }
 
 #[test]
-fn matrices_give_their_rows(rt: HostRuntime) -> Result<(), Fail> {
-    let matrix = Matrix::new(rt.alloc(), 2, 3, &[1, 2, 3, -4, 5, 99])?;
+fn ints_are_made_of_lists(rt: HostRuntime) {
+    let ints = Ints::from_slice(rt.alloc(), &[3, 4]).expect(&rt, "memory");
+    assert_eq!(rt;
+        Ints::from_vec(ints.into_vec()).as_slice(),
+        [3, 4].as_slice()
+    );
+}
+
+#[test]
+fn nums_take_and_give_back(rt: HostRuntime) {
+    let mut nums = Nums::with_room(rt.alloc(), 1).expect(&rt, "memory");
+    nums.push(7).expect(&rt, "memory");
+    nums.push(8).expect(&rt, "memory");
+    let copy = nums.copy().expect(&rt, "memory");
+    assert_eq!(rt; copy.as_slice(), [7, 8].as_slice());
+    nums.clear();
+    assert_eq!(rt; nums.as_slice().len(), 0);
+}
+
+#[test]
+fn nums_are_made_of_lists(rt: HostRuntime) {
+    let nums = Nums::from_slice(rt.alloc(), &[5, 6]).expect(&rt, "memory");
+    assert_eq!(rt;
+        Nums::from_vec(nums.into_vec()).as_slice(),
+        [5, 6].as_slice()
+    );
+}
+
+#[test]
+fn matrices_give_their_rows(rt: HostRuntime) {
+    let matrix = Matrix::new(rt.alloc(), 2, 3, &[1, 2, 3, -4, 5, 99]).expect(&rt, "memory");
     assert_eq!(rt; (matrix.rows(), matrix.cols()), (2, 3));
     assert_eq!(rt; matrix.row(1), [-4, 5, 99].as_slice());
-    Ok(())
 }
 
 #[test]

@@ -147,42 +147,64 @@ fn cuts(rt: &impl Abort, matrix: &Matrix, t: &Tableau, k: usize, kinds: &[Kind])
     t.row_cuts(k, kinds)
 }
 
+// Each row: what it shows, the coordinate of a vector, its sign, the first level that counts, and the least wrong level.
+const WRONGS: &[(&str, usize, Sign, usize, usize)] = &[
+    ("minus one where it may not be", 2, Sign::Plus, 0, 1),
+    ("the other sign", 2, Sign::Minus, 0, 0),
+    ("after the first", 2, Sign::Minus, 1, 3),
+    ("not zero where it has to be", 0, Sign::Plus, 0, 2),
+    ("its own sign", 0, Sign::Minus, 0, 0),
+    ("not zero again", 1, Sign::Plus, 1, 2),
+];
+
+// The vectors (1, -1, 1) of the row, (1, 0, -1) and (0, 1, 1) of the columns.
 #[test]
-fn rows_and_columns_are_passed_by_their_slots(rt: HostRuntime) {
-    // The vectors (1, -1, 1) of the row, (1, 0, -1) and (0, 1, 1) of the columns.
+fn wrong_levels_are_found_by_slots(rt: HostRuntime) {
     let matrix = Matrix::new(rt.alloc(), 1, 2, &[-1, 1]).expect(&rt, "memory");
     let t = Tableau::new(rt.alloc(), &matrix).expect(&rt, "memory");
-    let (pos, neg, zero) = (Kind::Pos, Kind::Neg, Kind::Zero);
-    let asked = [pos, pos, zero];
-    let cases = [
-        ("minus one where it may not be", 2, Sign::Plus, 0, 1),
-        ("the other sign", 2, Sign::Minus, 0, 0),
-        ("after the first", 2, Sign::Minus, 1, 3),
-        ("not zero where it has to be", 0, Sign::Plus, 0, 2),
-        ("its own sign", 0, Sign::Minus, 0, 0),
-        ("not zero again", 1, Sign::Plus, 1, 2),
-    ];
-    for (name, k, sign, from, want) in cases {
-        assert_eq!(rt;
-            wrong(&rt, &matrix, &t, k, sign, &asked, from),
-            want,
-            "{name}"
-        );
+    let asked = [Kind::Pos, Kind::Pos, Kind::Zero];
+    for (name, k, sign, from, want) in WRONGS {
+        let found = wrong(&rt, &matrix, &t, *k, *sign, &asked, *from);
+        assert!(rt; found == *want, "{name}");
     }
-    let mixed = [pos, pos, zero];
-    let plain = [pos, neg, zero];
-    let negatives = [neg, pos, zero];
-    let none = [zero, zero, zero];
-    let free = [pos, neg, Kind::Free];
-    let cases = [
-        ("a weight of each sign", mixed.as_slice(), None),
-        ("as it is", plain.as_slice(), Some(Sign::Plus)),
-        ("its negative", negatives.as_slice(), Some(Sign::Minus)),
-        ("nothing is asked", none.as_slice(), None),
-        ("no weight where it may have none", free.as_slice(), None),
-    ];
-    for (name, kinds, want) in cases {
-        assert_eq!(rt; cuts(&rt, &matrix, &t, 2, kinds), want, "{name}");
+}
+
+// Each row: what it shows, the kinds, and the sign with which the row cuts.
+const CUTS: &[(&str, &[Kind], Option<Sign>)] = &[
+    (
+        "a weight of each sign",
+        &[Kind::Pos, Kind::Pos, Kind::Zero],
+        None,
+    ),
+    (
+        "as it is",
+        &[Kind::Pos, Kind::Neg, Kind::Zero],
+        Some(Sign::Plus),
+    ),
+    (
+        "its negative",
+        &[Kind::Neg, Kind::Pos, Kind::Zero],
+        Some(Sign::Minus),
+    ),
+    (
+        "nothing is asked",
+        &[Kind::Zero, Kind::Zero, Kind::Zero],
+        None,
+    ),
+    (
+        "no weight where it may have none",
+        &[Kind::Pos, Kind::Neg, Kind::Free],
+        None,
+    ),
+];
+
+#[test]
+fn rows_cut_by_their_slots(rt: HostRuntime) {
+    let matrix = Matrix::new(rt.alloc(), 1, 2, &[-1, 1]).expect(&rt, "memory");
+    let t = Tableau::new(rt.alloc(), &matrix).expect(&rt, "memory");
+    for (name, kinds, want) in CUTS {
+        let found = cuts(&rt, &matrix, &t, 2, kinds);
+        assert!(rt; found == *want, "{name}");
     }
 }
 
