@@ -4,14 +4,6 @@
 #[cfg(test)]
 mod classes;
 #[cfg(test)]
-mod documents;
-#[cfg(test)]
 mod lines;
 #[cfg(test)]
 mod networks;
-#[cfg(test)]
-mod regularity;
-#[cfg(test)]
-mod reports;
-#[cfg(test)]
-mod trees;

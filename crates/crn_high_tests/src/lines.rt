@@ -4,7 +4,6 @@ use crn_ctext::{Due, Expect, Sizes, Word, read_record};
 use crn_io::MAX_NUMBERS;
 use crn_vec::Ints;
 use std::process::Abort;
-use std::test::Fail;
 
 // The number of the refusal, or 0.
 fn code(rt: &(impl Abort + AllocGlobal), expect: &Expect, line: &[u8]) -> u32
@@ -112,23 +111,22 @@ fn a_row_of_free_numbers(rt: HostRuntime) {
 }
 
 #[test]
-fn a_long_number_and_many(rt: HostRuntime) -> Result<(), Fail> {
+fn a_long_number_and_many(rt: HostRuntime) {
     let alloc = rt.alloc();
     let expect = expect!(Due::Vector, 2, false);
-    let mut long = Vec::from_slice(alloc, b"vector ")?;
+    let mut long = Vec::from_slice(alloc, b"vector ").expect(&rt, "memory");
     for _ in 0..500 {
-        long.push(b'7')?;
+        long.push(b'7').expect(&rt, "memory");
     }
     assert_eq!(rt; code(&rt, &expect, &long), 25);
-    let mut many = Vec::from_slice(alloc, b"vector")?;
+    let mut many = Vec::from_slice(alloc, b"vector").expect(&rt, "memory");
     for _ in 0..400 {
-        many.extend_from_slice(b" 7")?;
+        many.extend_from_slice(b" 7").expect(&rt, "memory");
     }
     assert_eq!(rt; code(&rt, &expect, &many), 0);
-    many.extend_from_slice(b" 7")?;
+    many.extend_from_slice(b" 7").expect(&rt, "memory");
     assert_eq!(rt; code(&rt, &expect, &many), 24);
     assert_eq!(rt; code(&rt, &expect, b"vector"), 24);
-    Ok(())
 }
 
 const THE_HEAD_OF_QUESTION_2: &[(&[u8], u32)] = &[
@@ -206,8 +204,8 @@ fn a_node(rt: HostRuntime) {
 }
 
 #[test]
-fn the_numbers_of_a_head(rt: HostRuntime) -> Result<(), Fail> {
-    let mut into = Ints::with_room(rt.alloc(), MAX_NUMBERS)?;
+fn the_numbers_of_a_head(rt: HostRuntime) {
+    let mut into = Ints::with_room(rt.alloc(), MAX_NUMBERS).expect(&rt, "memory");
     let expect = expect!(Due::Head(10), 1, false);
     let word = read_record(&expect, b"q10 no class 1 2", &mut into);
     assert_eq!(rt; word, Ok(Word::Q10));
@@ -217,5 +215,4 @@ fn the_numbers_of_a_head(rt: HostRuntime) -> Result<(), Fail> {
     let word = read_record(&expect, b"q13 open wide 5 0 4 1 3 5", &mut into);
     assert_eq!(rt; word, Ok(Word::Q13));
     assert_eq!(rt; into.as_slice(), [4, 5, 0, 4, 1, 3, 5].as_slice());
-    Ok(())
 }

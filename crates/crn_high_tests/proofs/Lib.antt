@@ -1,2 +1,0 @@
-mod RegularFacts
-mod BaseFacts
