@@ -28,11 +28,11 @@ use Rattle.crn_cert.specs.Given.{GiveClasses}
 use Rattle.crn_cert.proofs.CallerLemmas.{wide_basis}
 use Rattle.crn_tab.specs.Tableau.{AreSmall}
 use Rattle.crn_reg.specs.Inner.Spaces.{IsSolution, IsFirstPlace, IsTieOf, AreTies, numbers_but, IsLine, ArePlane, IsOnlyZero}
-use Rattle.crn_reg.specs.Inner.Turned.{IsTurned, GathersFirst}
+use Rattle.crn_reg.specs.Inner.Normal.{IsSameOrNegative, GathersFirst}
 use Rattle.crn_reg.specs.Inner.Verdicts.{wide_answer}
 use Rattle.crn_reg.proofs.Named.{but_yes, but_no}
 use Rattle.crn_reg.proofs.Solutions.{row_count, tests_by_solution, space_by_solution, solution_by_space, gathers, vector_by}
-use Rattle.crn_reg.proofs.Turns.{turned_kept, turned_first}
+use Rattle.crn_reg.proofs.Negatives.{either_kept, either_first}
 
 -- ---- what is known of the network, and what earlier verdicts give
 
@@ -141,14 +141,14 @@ by_strong earlier links count labels exit_list P g h =
 
 pub line_answer : (net : Net) (budget : ℕ) (earlier : Earlier) (links : List ℕ) (count strong_count terminal : ℕ) (labels exit_list : List ℕ) (weak : Bool) (x : List ℤ) (vector : KeptInts) (ties : List (List ℤ))
     → Known net links count strong_count terminal labels exit_list weak → Given earlier links count labels exit_list weak → IsLine (confluence_system net links count) x ties
-    → IsTurned x vector.list → (IsTrue weak → LeadsPositive vector.list) → (weak ≡ false → GathersFirst labels exit_list vector.list) → IsAnswer net budget earlier Q12 (record { verdict = YesVec vector; proof = Ties ties })
-line_answer net budget earlier links count strong_count terminal labels exit_list weak x vector ties k e line turned leads first_gathers =
+    → IsSameOrNegative x vector.list → (IsTrue weak → LeadsPositive vector.list) → (weak ≡ false → GathersFirst labels exit_list vector.list) → IsAnswer net budget earlier Q12 (record { verdict = YesVec vector; proof = Ties ties })
+line_answer net budget earlier links count strong_count terminal labels exit_list weak x vector ties k e line either leads first_gathers =
     let a = confluence_system net links count in
     let n = length net.complexes in
     let g = vector.list in
     let place = line.place in
-    let kept = turned_kept a x g turned line.kept in
-    let first = turned_first x g place turned line.first in
+    let kept = either_kept a x g either line.kept in
+    let first = either_first x g place either line.first in
     let space = space_by_solution net links count g k.network k.linkage_is kept.solution in
     let some : IsNonzero g = (place, first.some) in
     let one : HasConfluenceLine net = record { some = (g, space, some); one = λ h i sh si. line.one h i (solution_by_space net links count h k.linkage_is sh) (solution_by_space net links count i k.linkage_is si) } in

@@ -103,10 +103,10 @@ two_independent g h i k ne (x ∷ y ∷ []) long none =
     let two = b *ℤ c -ℤ e *ℤ a in
     let at_i : (x *ℤ a) +ℤ (y *ℤ b) ≡ pos 0 = omega (arith, ints, none i) in
     let at_k : (x *ℤ c) +ℤ (y *ℤ e) ≡ pos 0 = omega (arith, ints, none k) in
-    let turned_i : (y *ℤ b) +ℤ (x *ℤ a) ≡ pos 0 = omega (arith, ints, at_i) in
-    let turned_k : (y *ℤ e) +ℤ (x *ℤ c) ≡ pos 0 = omega (arith, ints, at_k) in
+    let swapped_i : (y *ℤ b) +ℤ (x *ℤ a) ≡ pos 0 = omega (arith, ints, at_i) in
+    let swapped_k : (y *ℤ e) +ℤ (x *ℤ c) ≡ pos 0 = omega (arith, ints, at_k) in
     let first : x ≡ pos 0 = no_zero one x (*ℤ_comm one x ∙ crossed x y a b c e at_i at_k) (λ z. ne (omega (arith, ints, z))) in
-    let second : y ≡ pos 0 = no_zero two y (*ℤ_comm two y ∙ crossed y x b a e c turned_i turned_k) (λ z. ne (omega (arith, ints, z, *ℤ_comm b c, *ℤ_comm e a))) in
+    let second : y ≡ pos 0 = no_zero two y (*ℤ_comm two y ∙ crossed y x b a e c swapped_i swapped_k) (λ z. ne (omega (arith, ints, z, *ℤ_comm b c, *ℤ_comm e a))) in
     zero_more x (y ∷ []) first (zero_more y [] second (λ j. refl))
 
 both_in : (net : Net) (g h : List ℤ) (i k : ℕ) → InConfluenceSpace net g → InConfluenceSpace net h → entry g i *ℤ entry h k ≢ entry g k *ℤ entry h i → AreSpaceVectors net (g ∷ h ∷ [])

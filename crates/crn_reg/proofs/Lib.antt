@@ -2,8 +2,8 @@ mod ConfluenceAnswers
 mod Dimension
 mod FirstPairs
 mod Named
+mod Negatives
 mod RegularAnswers
 mod Rows
 mod SidesMore
 mod Solutions
-mod Turns

@@ -23,7 +23,7 @@ use Rattle.crn_cert.specs.Says.{AreLinkageClasses, AreStrongClasses}
 use Rattle.crn_cert.specs.ConfluenceTests.{IsInSpace, DoTerminalsGather}
 use Rattle.crn_cert.proofs.CallerLemmas.{range_bounds}
 use Rattle.crn_reg.specs.Inner.Spaces.{IsSolution}
-use Rattle.crn_reg.specs.Inner.Turned.{class_sum, AreZeroBefore, GathersFirst}
+use Rattle.crn_reg.specs.Inner.Normal.{class_sum, AreZeroBefore, GathersFirst}
 
 -- ---- the rows of the system
 
@@ -263,7 +263,7 @@ gathers_zero labels exits g h l p some gather back m lt e =
     let z = no_zero (entry h k) (class_sum labels g (suc m)) zero_product some.1 in
     omega (arith, ints, z)
 
--- a solution whose multiples are all the solutions gathers, if it is turned
+-- a solution whose multiples are all the solutions gathers: in a network that is not weakly reversible, by its first sum that is not zero
 pub gathers : (net : Net) (count terminal : ℕ) (labels exits : List ℕ) (g : List ℤ) (weak : Bool) → IsNetwork net → IsRegular net → HasConfluenceLine net → AreStrongClasses net count terminal labels exits → InConfluenceSpace net g → IsNonzero g
     → (IsTrue weak → IsWeaklyReversible net.reactions) → (weak ≡ false → GathersFirst labels exits g) → DoTerminalsGather labels exits g
 gathers net count terminal labels exits g weak n regular line s space some is first =

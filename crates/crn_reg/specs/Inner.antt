@@ -1,5 +1,5 @@
 -- For the contracts of private functions alone.
+pub mod Normal
 pub mod Pairs
 pub mod Spaces
-pub mod Turned
 pub mod Verdicts

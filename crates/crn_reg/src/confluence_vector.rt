@@ -11,8 +11,8 @@ ghost use Rattle.crn_reg.specs.Inner.Verdicts.{wide_answer};
 
 use crate::laws::meets_definition;
 use crate::matrix::confluence_matrix;
+use crate::normal::normal_vector;
 use crate::space::{Space, find_space};
-use crate::turn::turned_vector;
 use crn_cert::{Answer, Gap, Proof, Verdict};
 use crn_farkas::Stop;
 use crn_graph::{LinkageData, StrongData};
@@ -65,7 +65,7 @@ fn answer_of(
         },
         Space::Line { vector, ties } => Answer {
             verdict: Verdict::YesVec {
-                vector: turned_vector(
+                vector: normal_vector(
                     vector,
                     strong.label.as_slice(),
                     strong.exit.as_slice(),

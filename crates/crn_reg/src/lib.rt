@@ -5,12 +5,12 @@ mod columns;
 mod confluence_vector;
 mod laws;
 mod matrix;
+mod normal;
 mod pairs;
 mod regularity;
 mod sides;
 mod space;
 mod ties;
-mod turn;
 
 pub use confluence_vector::confluence;
 pub use laws::{

@@ -6,7 +6,7 @@ use Rattle.crn_vec.specs.Vectors.{dot, entry}
 use Rattle.crn_vec.specs.Sums.{label_marks}
 use Rattle.crn_vec.specs.declared.limits.TheConstants.{WIDE_ENTRY}
 use Rattle.crn_vec.proofs.CallerLemmas.{held, sum_within, dot_step}
-use Rattle.crn_reg.proofs.turn.class_sum.Goals as goal
+use Rattle.crn_reg.proofs.normal.class_sum.Goals as goal
 
 next_sum : {s p d e : ℤ} → s ≡ d → p ≡ e → d +ℤ e ≡ s +ℤ p
 next_sum f g = ap₂ (λ (x y : ℤ). x +ℤ y) (sym f) (sym g)

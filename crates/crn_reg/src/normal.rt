@@ -2,7 +2,7 @@ ghost use Rattle.std.specs.Prelude.{◌≡◌, ◌≤◌, ◌<◌, ◌==◌, if�
 ghost use Rattle.crn_vec.specs.declared.limits.TheConstants.{MAX_COMPLEXES, WIDE_ENTRY};
 ghost use Rattle.crn_vec.specs.Confluence.{IsNonzero, LeadsPositive};
 ghost use Rattle.crn_tab.specs.Tableau.{AreSmall};
-ghost use Rattle.crn_reg.specs.Inner.Turned.{class_sum, IsTurned, IsFirstSum, IsFirstEntry, GathersFirst};
+ghost use Rattle.crn_reg.specs.Inner.Normal.{class_sum, IsSameOrNegative, IsFirstSum, IsFirstEntry, GathersFirst};
 
 use crate::space::first_place;
 use crn_vec::Ints;
@@ -93,13 +93,13 @@ fn leading_number(vector: &[i128], labels: &[u32], exits: &[u32], weak: bool) ->
 
 /// The vector, or its negative: of a weakly reversible network the one whose first entry that is not zero is positive,
 /// and of any other the one whose first sum over a terminal class that is not zero is positive, if there is one.
-pub(crate) fn turned_vector(vector: Ints, labels: &[u32], exits: &[u32], weak: bool) -> Ints
+pub(crate) fn normal_vector(vector: Ints, labels: &[u32], exits: &[u32], weak: bool) -> Ints
     requires long { length vector.list ≡ length labels.now }
     requires few { length labels.now ≤ MAX_COMPLEXES }
     requires exits { length exits.now ≤ MAX_COMPLEXES }
     requires small { AreSmall vector.list }
     requires some { IsNonzero vector.list }
-    ensures is { IsTurned vector.list result.list }
+    ensures is { IsSameOrNegative vector.list result.list }
     ensures leads { IsTrue weak → LeadsPositive result.list }
     ensures gathers { weak ≡ false → GathersFirst labels.now exits.now result.list }
 {

@@ -7,8 +7,8 @@ use Rattle.crn_vec.specs.Vectors.{dot, entry}
 use Rattle.crn_vec.specs.Sums.{label_marks}
 
 -- the list itself, or its negative
-abbrev pub IsTurned : List ℤ → List ℤ → Type 0
-IsTurned g turned = (turned ≡ g) ⊎ (turned ≡ map neg_ℤ g)
+abbrev pub IsSameOrNegative : List ℤ → List ℤ → Type 0
+IsSameOrNegative g h = (h ≡ g) ⊎ (h ≡ map neg_ℤ g)
 
 -- the sum over strong class m, which is counted from 1
 abbrev pub class_sum : List ℕ → List ℤ → ℕ → ℤ

@@ -1,6 +1,6 @@
 use Rattle.std.proofs.Common.{length, ap, ◌∙◌, arith}
-use Rattle.crn_reg.proofs.Turns.{negated_by}
-use Rattle.crn_reg.proofs.turn.negate.Goals as goal
+use Rattle.crn_reg.proofs.Negatives.{negated_by}
+use Rattle.crn_reg.proofs.normal.negate.Goals as goal
 
 pub returns : goal.returns
 returns c =

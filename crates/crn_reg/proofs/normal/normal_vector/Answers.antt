@@ -2,9 +2,9 @@ use Rattle.std.proofs.Common.{List, sym, subst, arith}
 use Rattle.std.specs.Prelude.{ℤ}
 use Rattle.std.proofs.lemmas.Int.{ints}
 use Rattle.crn_vec.specs.Confluence.{LeadsPositive}
-use Rattle.crn_reg.specs.Inner.Turned.{IsFirstEntry, IsFirstSum, GathersFirst}
-use Rattle.crn_reg.proofs.Turns.{leads_kept, leads_negated, gathers_kept, gathers_negated}
-use Rattle.crn_reg.proofs.turn.turned_vector.Goals as goal
+use Rattle.crn_reg.specs.Inner.Normal.{IsFirstEntry, IsFirstSum, GathersFirst}
+use Rattle.crn_reg.proofs.Negatives.{leads_kept, leads_negated, gathers_kept, gathers_negated}
+use Rattle.crn_reg.proofs.normal.normal_vector.Goals as goal
 
 pub returns-then-first-lt0-clause-leads : goal.returns-then-first-lt0-clause-leads
 returns-then-first-lt0-clause-leads c y =

@@ -10,7 +10,7 @@ use Rattle.crn_vec.specs.Sums.{label_marks}
 use Rattle.crn_vec.specs.Confluence.{IsNonzero, LeadsPositive}
 use Rattle.crn_vec.proofs.CallerLemmas.{lt_or, entry-neg, dot-neg}
 use Rattle.crn_reg.specs.Inner.Spaces.{IsKeptSolution, IsFirstPlace}
-use Rattle.crn_reg.specs.Inner.Turned.{IsTurned, class_sum, AreZeroBefore, IsFirstSum, GathersFirst, IsFirstEntry}
+use Rattle.crn_reg.specs.Inner.Normal.{IsSameOrNegative, class_sum, AreZeroBefore, IsFirstSum, GathersFirst, IsFirstEntry}
 
 -- ---- the negative of a list
 
@@ -19,46 +19,46 @@ sum-negated labels g m = dot-neg (label_marks labels m) g
 
 -- ---- what a vector and its negative share
 
-turned_entry : (g t : List ℤ) (k : ℕ) → IsTurned g t → (entry t k ≡ entry g k) ⊎ (entry t k ≡ neg_ℤ (entry g k))
-turned_entry g t k (inl e) = inl (ap (λ (l : List ℤ). entry l k) e)
-turned_entry g t k (inr e) = inr (ap (λ (l : List ℤ). entry l k) e ∙ entry-neg g k)
+either_entry : (g t : List ℤ) (k : ℕ) → IsSameOrNegative g t → (entry t k ≡ entry g k) ⊎ (entry t k ≡ neg_ℤ (entry g k))
+either_entry g t k (inl e) = inl (ap (λ (l : List ℤ). entry l k) e)
+either_entry g t k (inr e) = inr (ap (λ (l : List ℤ). entry l k) e ∙ entry-neg g k)
 
-turned_size : (g t : List ℤ) (k : ℕ) → IsTurned g t → unsigned_abs (entry t k) ≡ unsigned_abs (entry g k)
-turned_size g t k h = elim (turned_entry g t k h) as (λ _. unsigned_abs (entry t k) ≡ unsigned_abs (entry g k)) [
+either_size : (g t : List ℤ) (k : ℕ) → IsSameOrNegative g t → unsigned_abs (entry t k) ≡ unsigned_abs (entry g k)
+either_size g t k h = elim (either_entry g t k h) as (λ _. unsigned_abs (entry t k) ≡ unsigned_abs (entry g k)) [
   | inl e ↦ ap unsigned_abs e
   | inr e ↦ let same : unsigned_abs (neg_ℤ (entry g k)) ≡ unsigned_abs (entry g k) = omega (arith, ints) in ap unsigned_abs e ∙ same
 ]
 
-turned_zero : (g t : List ℤ) (k : ℕ) → IsTurned g t → entry g k ≡ pos 0 → entry t k ≡ pos 0
-turned_zero g t k h z = elim (turned_entry g t k h) as (λ _. entry t k ≡ pos 0) [
+either_zero : (g t : List ℤ) (k : ℕ) → IsSameOrNegative g t → entry g k ≡ pos 0 → entry t k ≡ pos 0
+either_zero g t k h z = elim (either_entry g t k h) as (λ _. entry t k ≡ pos 0) [
   | inl e ↦ e ∙ z
   | inr e ↦ e ∙ ap neg_ℤ z
 ]
 
-turned_some : (g t : List ℤ) (k : ℕ) → IsTurned g t → entry g k ≢ pos 0 → entry t k ≢ pos 0
-turned_some g t k h ne z = elim (turned_entry g t k h) as (λ _. ⊥) [
+either_some : (g t : List ℤ) (k : ℕ) → IsSameOrNegative g t → entry g k ≢ pos 0 → entry t k ≢ pos 0
+either_some g t k h ne z = elim (either_entry g t k h) as (λ _. ⊥) [
   | inl e ↦ ne (sym e ∙ z)
   | inr e ↦ ne (omega (arith, ints, e, z))
 ]
 
-turned_dot : (g t m : List ℤ) → IsTurned g t → dot m g ≡ pos 0 → dot m t ≡ pos 0
-turned_dot g t m (inl e) z = ap (dot m) e ∙ z
-turned_dot g t m (inr e) z = ap (dot m) e ∙ dot-neg m g ∙ ap neg_ℤ z
+either_dot : (g t m : List ℤ) → IsSameOrNegative g t → dot m g ≡ pos 0 → dot m t ≡ pos 0
+either_dot g t m (inl e) z = ap (dot m) e ∙ z
+either_dot g t m (inr e) z = ap (dot m) e ∙ dot-neg m g ∙ ap neg_ℤ z
 
-turned_long : (g t : List ℤ) → IsTurned g t → length t ≡ length g
-turned_long g t (inl e) = ap length e
-turned_long g t (inr e) = ap length e ∙ length-map g neg_ℤ
+either_long : (g t : List ℤ) → IsSameOrNegative g t → length t ≡ length g
+either_long g t (inl e) = ap length e
+either_long g t (inr e) = ap length e ∙ length-map g neg_ℤ
 
-pub turned_kept : (a : Mat) (g t : List ℤ) → IsTurned g t → IsKeptSolution a g → IsKeptSolution a t
-turned_kept a g t h s =
+pub either_kept : (a : Mat) (g t : List ℤ) → IsSameOrNegative g t → IsKeptSolution a g → IsKeptSolution a t
+either_kept a g t h s =
     record {
-      solution = record { long = turned_long g t h ∙ s.solution.long; zero = λ r i. turned_dot g t r h (s.solution.zero r i) };
-      primitive = λ d e. s.primitive d (λ k. (let D : ℕ → Type 0 = λ n. d ∣ n in subst D (turned_size g t k h) (e k)));
-      small = λ k. (let S : ℕ → Type 0 = λ n. n < WIDE_ENTRY in subst S (sym (turned_size g t k h)) (s.small k));
+      solution = record { long = either_long g t h ∙ s.solution.long; zero = λ r i. either_dot g t r h (s.solution.zero r i) };
+      primitive = λ d e. s.primitive d (λ k. (let D : ℕ → Type 0 = λ n. d ∣ n in subst D (either_size g t k h) (e k)));
+      small = λ k. (let S : ℕ → Type 0 = λ n. n < WIDE_ENTRY in subst S (sym (either_size g t k h)) (s.small k));
     }
 
-pub turned_first : (g t : List ℤ) (p : ℕ) → IsTurned g t → IsFirstPlace g p → IsFirstPlace t p
-turned_first g t p h f = record { some = turned_some g t p h f.some; before = λ k lt. turned_zero g t k h (f.before k lt) }
+pub either_first : (g t : List ℤ) (p : ℕ) → IsSameOrNegative g t → IsFirstPlace g p → IsFirstPlace t p
+either_first g t p h f = record { some = either_some g t p h f.some; before = λ k lt. either_zero g t k h (f.before k lt) }
 
 -- ---- the first sum
 
