@@ -29,8 +29,6 @@ mod skips;
 mod space;
 mod strong;
 mod terminals;
-#[cfg(test)]
-mod tests;
 mod ties;
 mod trees;
 mod ways;

@@ -1,8 +1,0 @@
-use Rattle.std.proofs.Common.{[]}
-use Rattle.crn_check.proofs.tests.ranks.open_known.Goals as goal
-
-pub check_answer-requires-clause-formed : goal.check_answer-requires-clause-formed
-check_answer-requires-clause-formed g c = c.linkage_answer-linked.ensures []
-
-pub check_answer-requires-2-clause-formed : goal.check_answer-requires-2-clause-formed
-check_answer-requires-2-clause-formed g c = c.open_rank-open.ensures []
