@@ -30,8 +30,6 @@ mod sizes;
 mod stop;
 mod strong;
 mod table;
-#[cfg(test)]
-mod tests;
 mod tree;
 
 pub use check::{Accepted, check_document};

@@ -1,8 +1,0 @@
-mod concordance;
-mod faults;
-mod good;
-mod open_answers;
-mod regular;
-mod signals;
-mod trees;
-mod worked;
