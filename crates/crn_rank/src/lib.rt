@@ -6,7 +6,5 @@ mod combs;
 mod duals;
 mod matrix;
 mod rank_proof;
-#[cfg(test)]
-mod tests;
 
 pub use rank_proof::{rank, rank_by};
