@@ -7,8 +7,6 @@ mod kinds;
 mod problem;
 mod settled;
 mod system;
-#[cfg(test)]
-mod tests;
 
 pub use answer::concordant;
 pub use influence::{Influence, concordance_table, strong_table};
