@@ -8,8 +8,6 @@ mod laws;
 mod one;
 mod split;
 mod terminals;
-#[cfg(test)]
-mod tests;
 mod zero;
 
 pub use deficiency::deficiencies;
