@@ -5,7 +5,5 @@ mod answer;
 mod kinds;
 mod problem;
 mod system;
-#[cfg(test)]
-mod tests;
 
 pub use answer::signal;
