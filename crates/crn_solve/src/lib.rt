@@ -15,8 +15,6 @@ mod reversible;
 mod signal_answer;
 mod strong_answer;
 mod systems;
-#[cfg(test)]
-mod tests;
 mod zero_answer;
 
 pub use answers::{solve, solve_verdicts};
