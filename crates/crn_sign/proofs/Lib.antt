@@ -1,5 +1,4 @@
 mod BitLaws
-mod Exchange
 mod MarkLaws
 mod PastLaws
 mod PlaceLaws

@@ -12,8 +12,6 @@ mod place;
 mod pool;
 mod problem;
 mod signs;
-#[cfg(test)]
-mod tests;
 mod walk;
 
 pub use end::SearchEnd;
