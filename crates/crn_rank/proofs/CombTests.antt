@@ -13,16 +13,20 @@ use Rattle.crn_vec.specs.Elementary.{IsNamed}
 use Rattle.crn_vec.specs.Rank.{chosen}
 use Rattle.crn_vec.specs.Network.{Net}
 use Rattle.crn_vec.proofs.CallerLemmas.{eq_or, lt_or, past_end, dot_zero, dot_step, mul-neg, entry-column, length-column, all_map, dot-last}
-use Rattle.crn_farkas.proofs.CallerLemmas.{own_some}
 use Rattle.crn_cert.specs.Tests.{AllHold}
 use Rattle.crn_cert.specs.Ranges.{IsNarrow, AreFree}
 use Rattle.crn_cert.specs.RankTests.{vector_of, IsComb, comb_tests}
-use Rattle.crn_tab.specs.Tableau.{AreSmall, NamesRows, AreEntered}
+use Rattle.crn_tab.specs.Tableau.{NamesRows, AreEntered}
 use Rattle.crn_tab.proofs.CallerLemmas.{as_row}
-use Rattle.crn_rank.specs.Inner.Rows.{picked, is_inside, rows_inside, kept_or_negative, numbers_of, IsCombOf}
+use Rattle.crn_rank.specs.Inner.Rows.{picked, is_inside, rows_inside, comb_numbers, IsCombOf}
 use Rattle.crn_rank.proofs.PickedRows.{at, picked_yes, picked_no, inside_out}
 
 -- ---- a number and its negative
+
+-- the number, or its negative
+abbrev kept_or_negative : Bool → ℤ → ℤ
+kept_or_negative true x = x
+kept_or_negative false x = neg_ℤ x
 
 kept_product : (b : Bool) (x y : ℤ) → kept_or_negative b x *ℤ y ≡ kept_or_negative b (x *ℤ y)
 kept_product true x y = refl
@@ -116,7 +120,7 @@ is_comb a basis k comb t entered lt miss c =
     let u = drop n w in
     let at_u : (q : ℕ) → entry u q ≡ entry w (n + q) = λ q. get_or-drop n w q (pos 0) in
     let u_long : length u ≡ m = omega (arith, length-drop n w, named.space.long) in
-    let b = c.stays in
+    let b = true in
     let none : (q : ℕ) → q < length u → is_inside a basis q ≡ false → q ≢ k → entry u q ≡ pos 0 = λ q q_lt q_out ne.
     at_u q ∙ named.zero_outside (n + q) (inside_out a basis q q_out) (λ f. ne (omega (arith, f))) in
     subst (IsComb vs (get_or a.rows k [])) (sym c.is) (record {
@@ -147,19 +151,18 @@ is_comb a basis k comb t entered lt miss c =
     same_map f g (p ∷ ps) h = ap₂ (λ (x : ℤ) (t : List ℤ). x ∷ t) (h p) (same_map f g ps h)
 
 -- the numbers that the code puts for a row are those of a combination
-pub comb_by : (a : Mat) (basis : List ℕ) (k count first : ℕ) (stays : Bool) (w comb : List ℤ) → NamesRows a basis → count ≡ length a.rows → k < count → ¬ IsIn (a.cols + k) basis → first ≡ a.cols
-    → IsNamed a basis (first + k) w → AreSmall w → (entry w (first + k) ≢ pos 0 → pos 1 ≤ℤ kept_or_negative stays (entry w (first + k))) → comb ≡ numbers_of a basis k stays w count → IsCombOf a basis count k comb
-comb_by a basis k count first stays w comb t rows lt out is n small sign e =
-    let N : ℕ → Type 0 = λ f. IsNamed a basis (f + k) w in
-    let S : ℕ → Type 0 = λ f. entry w (f + k) ≢ pos 0 → pos 1 ≤ℤ kept_or_negative stays (entry w (f + k)) in
-    let named = subst N is n in
+pub comb_by : (a : Mat) (basis : List ℕ) (k own count : ℕ) (places : List ℕ) (comb : List ℤ) → NamesRows a basis → count ≡ length a.rows → k < count → ¬ IsIn (a.cols + k) basis → own ≡ a.cols + k
+    → places ≡ rows_inside a basis count → ((w : List ℤ) → IsNamed a basis own w → pos 1 ≤ℤ entry w own → comb ≡ comb_numbers a own w places) → IsCombOf a basis count k comb
+comb_by a basis k own count places comb t rows lt out is inside e =
+    let h = t.rows (a.cols + k) (omega (arith, rows, lt)) out in
+    let E : ℕ → List ℕ → Type 0 = λ f ps. (w : List ℤ) → IsNamed a basis f w → pos 1 ≤ℤ entry w f → comb ≡ comb_numbers a f w ps in
+    let here : E (a.cols + k) (rows_inside a basis count) = subst (E (a.cols + k)) inside (subst (λ (f : ℕ). E f places) is e) in
     record {
-      w = w;
-      named = named;
-      small = small;
-      stays = stays;
-      positive = subst S is sign (own_some a basis (a.cols + k) w t (omega (arith, rows, lt)) out named);
-      is = e;
+      w = h.w;
+      named = h.named;
+      small = h.small;
+      positive = h.positive;
+      is = here h.w h.named h.positive;
     }
 
 -- ---- form
@@ -168,10 +171,10 @@ comb_free : (a : Mat) (basis : List ℕ) (end k : ℕ) (comb : List ℤ) → IsC
 comb_free a basis end k comb c =
     let places = rows_inside a basis end in
     let narrow : (b : Bool) (q : ℕ) → IsNarrow (kept_or_negative b (entry c.w q)) = λ b q. (let s = c.small q in omega (arith, s, kept_size b (entry c.w q))) in
-    let f : ℕ → ℤ = λ q. kept_or_negative (not c.stays) (entry c.w (a.cols + q)) in
+    let f : ℕ → ℤ = λ q. neg_ℤ (entry c.w (a.cols + q)) in
     subst (AreFree (suc (length places))) (sym c.is) (record {
       long = ap suc (length-map places f);
-      each = (narrow c.stays (a.cols + k), all_map IsNarrow f places (λ q i. narrow (not c.stays) (a.cols + q)));
+      each = (narrow true (a.cols + k), all_map IsNarrow f places (λ q i. narrow false (a.cols + q)));
     })
 
 pub combs_free : (a : Mat) (basis : List ℕ) (end : ℕ) (places : List ℕ) (combs : List (List ℤ)) → AllZip (IsCombOf a basis end) places combs → AllByRecursion (AreFree (suc (length (rows_inside a basis end)))) combs

@@ -169,6 +169,3 @@ asked_yes a basis first k e i = inside_yes a basis k (subst (λ (n : ℕ). IsIn 
 
 pub asked_no : (a : Mat) (basis : List ℕ) (first k : ℕ) → first ≡ a.cols → ¬ IsIn (first + k) basis → is_inside a basis k ≡ false
 asked_no a basis first k e out = inside_no a basis k (λ i. out (subst (λ (n : ℕ). IsIn (n + k) basis) (sym e) i))
-
-pub picked_few : (p : ℕ → Bool) (m : ℕ) → length (picked p m) ≤ m
-picked_few p m = omega (arith, picked_count p m)

@@ -27,3 +27,24 @@ pub(crate) fn base_members(
     }
     Ok(base)
 }
+
+// The rows whose coordinates are in the basis.
+pub(crate) fn places_inside(
+    alloc: Global,
+    tableau: &Tableau,
+    count: usize,
+) -> Result<Vec<usize>, NoMemory>
+    requires { count ≡ length tableau.now.matrix.rows }
+    ensures { IfOk result
+        (λ made. made.items ≡ rows_inside tableau.now.matrix tableau.now.basis count) }
+{
+    tableau.names_rows();
+    let first = tableau.cols();
+    let mut places = Vec::with_capacity(alloc, first)?;
+    for k in 0..count {
+        if tableau.is_basic(first + k) {
+            places.push(k)?;
+        }
+    }
+    Ok(places)
+}

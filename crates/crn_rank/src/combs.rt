@@ -1,97 +1,62 @@
-ghost use Rattle.std.specs.Prelude.{◌≡◌, ◌≢◌, ◌≤◌, ◌<◌, ◌+◌, pos, ◌≤ℤ◌, unsigned_abs, length, IfOk};
+ghost use Rattle.std.specs.Prelude.{◌≡◌, ◌<◌, ◌+◌, neg_ℤ, ℕ, ℤ, pos, ◌≤ℤ◌, List, unsigned_abs, length, slice_index, IfOk};
 ghost use Rattle.std.specs.List.{AllZip};
 ghost use Rattle.crn_vec.specs.Lists.{IsIn};
-ghost use Rattle.crn_vec.specs.Elementary.{width};
-ghost use Rattle.crn_tab.specs.Tableau.{AreSmall};
-ghost use Rattle.crn_rank.specs.Inner.Rows.{IsCombOf, kept_or_negative, numbers_of, rows_outside};
+ghost use Rattle.crn_vec.specs.Vectors.{entry};
+ghost use Rattle.crn_vec.specs.Elementary.{width, IsNamed};
+ghost use Rattle.crn_rank.specs.Inner.Rows.{IsCombOf, comb_numbers, rows_inside, rows_outside};
 
+use crate::base::places_inside;
 use crn_cert::Rows;
 use crn_tab::Tableau;
 use crn_vec::{Ints, NoMemory, WIDE_ENTRY};
 use std::alloc::Global;
 
-// The number, or its negative.
-fn or_negative(x: &i128, stays: bool) -> i128
-    requires { unsigned_abs x.now < WIDE_ENTRY }
-    ensures { result ≡ kept_or_negative stays x.now }
+// The negative of a number below the bound of an entry.
+fn negative(x: i128) -> i128
+    requires { unsigned_abs x < WIDE_ENTRY }
+    ensures { result ≡ neg_ℤ x }
 {
-    if stays { *x } else { -*x }
+    -x
 }
 
-// Whether a number that is not zero is positive, else its negative is.
-fn is_positive(x: &i128) -> bool
-    ensures { x.now ≢ pos 0 → pos 1 ≤ℤ kept_or_negative result x.now }
-{
-    *x > 0
-}
-
-// The numbers of a vector: its own, and with the opposite sign those at the rows in the basis.
-fn numbers(
-    alloc: Global,
-    tableau: &Tableau,
-    vector: &[i128],
-    k: usize,
-    stays: bool,
-    count: usize,
-    rank: usize,
-) -> Result<Ints, NoMemory>
-    requires count { count ≡ length tableau.now.matrix.rows }
-    requires row { k < count }
-    requires rank { rank ≤ count }
-    requires long { length vector.now ≡ width tableau.now.matrix }
-    requires small { AreSmall vector.now }
-    ensures { IfOk result
-        (λ made.
-        made.list ≡ numbers_of tableau.now.matrix tableau.now.basis k stays vector.now count) }
+// The numbers of the vector that the basis names by a coordinate outside it: its own, which is positive, and with the
+// opposite sign those at some rows.
+fn numbers(alloc: Global, tableau: &Tableau, inside: &[usize], own: usize) -> Result<Ints, NoMemory>
+    requires own { own < width tableau.now.matrix }
+    requires outside { IsIn own tableau.now.basis → ⊥ }
+    requires inside { (i : ℕ) → i < length inside.now
+        → slice_index inside.now i < length tableau.now.matrix.rows }
+    ensures { IfOk result (λ made. (w : List ℤ)
+        → IsNamed tableau.now.matrix tableau.now.basis own w → pos 1 ≤ℤ entry w own
+        → made.list ≡ comb_numbers tableau.now.matrix own w inside.now) }
 {
     tableau.names_rows();
     let first = tableau.cols();
-    let mut made = Ints::with_room(alloc, rank + 1)?;
-    made.push(or_negative(&vector[first + k], stays))?;
-    for q in 0..count {
-        if tableau.is_basic(first + q) {
-            made.push(or_negative(&vector[first + q], !stays))?;
-        }
+    let mut made = Ints::with_room(alloc, inside.len() + 1)?;
+    made.push(tableau.number(own, own))?;
+    for i in 0..inside.len() {
+        made.push(negative(tableau.number(own, first + inside[i])))?;
     }
     Ok(made)
 }
 
 // The member of row k, whose coordinate is outside the basis, as a combination of those in it.
-fn comb_of(
-    alloc: Global,
-    tableau: &Tableau,
-    work: &mut [i128],
-    k: usize,
-    count: usize,
-    rank: usize,
-) -> Result<Ints, NoMemory>
-    requires count { count ≡ length tableau.now.matrix.rows }
-    requires row { k < count }
-    requires rank { rank ≤ count }
+fn comb_of(alloc: Global, tableau: &Tableau, inside: &[usize], k: usize) -> Result<Ints, NoMemory>
+    requires row { k < length tableau.now.matrix.rows }
     requires outside { IsIn (tableau.now.matrix.cols + k) tableau.now.basis → ⊥ }
-    requires work { length work.old ≡ width tableau.now.matrix }
-    ensures work { length work.new ≡ length work.old }
-    ensures comb { IfOk result
-        (λ made. IsCombOf tableau.now.matrix tableau.now.basis count k made.list) }
+    requires inside { inside.now ≡ rows_inside tableau.now.matrix tableau.now.basis
+        (length tableau.now.matrix.rows) }
+    ensures { IfOk result
+        (λ made. IsCombOf tableau.now.matrix tableau.now.basis
+        (length tableau.now.matrix.rows) k made.list) }
 {
     tableau.names_rows();
-    let own = tableau.cols() + k;
-    tableau.put_row(own, work);
-    let stays = is_positive(&work[own]);
-    numbers(alloc, tableau, work, k, stays, count, rank)
+    numbers(alloc, tableau, inside, tableau.cols() + k)
 }
 
 // A combination for each member whose coordinate is outside the basis.
-pub(crate) fn combs(
-    alloc: Global,
-    tableau: &Tableau,
-    work: &mut [i128],
-    count: usize,
-    rank: usize,
-) -> Result<Rows, NoMemory>
+pub(crate) fn combs(alloc: Global, tableau: &Tableau, count: usize) -> Result<Rows, NoMemory>
     requires count { count ≡ length tableau.now.matrix.rows }
-    requires rank { rank ≤ count }
-    requires work { length work.old ≡ width tableau.now.matrix }
     ensures { IfOk result
         (λ made.
         AllZip (IsCombOf tableau.now.matrix tableau.now.basis count)
@@ -99,10 +64,11 @@ pub(crate) fn combs(
 {
     tableau.names_rows();
     let first = tableau.cols();
+    let inside = places_inside(alloc, tableau, count)?;
     let mut combs = Rows::new(alloc)?;
     for k in 0..count {
         if !tableau.is_basic(first + k) {
-            combs.push(comb_of(alloc, tableau, work, k, count, rank)?)?;
+            combs.push(comb_of(alloc, tableau, &inside, k)?)?;
         }
     }
     Ok(combs)

@@ -1,4 +1,4 @@
-ghost use Rattle.std.specs.Prelude.{◌≡◌, IfOk, IfErr};
+ghost use Rattle.std.specs.Prelude.{◌≡◌, IfOk, IfErr, OnOk};
 ghost use Rattle.crn_tab.specs.Tableau.{AreEntered, IsRefused};
 ghost use Rattle.crn_rank.specs.Rank.{AreMembers, IsWideStop, ProvesRank, member_matrix};
 
@@ -43,13 +43,7 @@ fn proof_of(
     let mut work = vec![in alloc; 0i128; tableau.coordinates()]?;
     let base = base_members(alloc, tableau, members)?;
     let duals = duals(alloc, tableau, &mut work, members.len())?;
-    let combs = combs(
-        alloc,
-        tableau,
-        &mut work,
-        members.len(),
-        base.as_slice().len(),
-    )?;
+    let combs = combs(alloc, tableau, members.len())?;
     Ok(RankProof { base, duals, combs })
 }
 
@@ -80,6 +74,8 @@ pub fn rank_by(
     ensures matrix { tableau.new.matrix ≡ tableau.old.matrix }
     ensures proof { IfOk result (λ proof. ProvesRank net.now members.now proof) }
     ensures stop { IfErr result (λ stop. IsWideStop (member_matrix net.now members.now) stop) }
+    ensures entered { OnOk result
+        (AreEntered tableau.new.matrix tableau.new.basis tableau.new.matrix.cols) }
 {
     if let Err(refused) = tableau.enter_rows(tableau.cols()) {
         return Err(refused_stop(tableau, &refused)?);

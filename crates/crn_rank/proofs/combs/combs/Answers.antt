@@ -1,4 +1,4 @@
-use Rattle.std.proofs.Common.{◌≡◌, ◌+◌, ℕ, not, List, length, ap, sym, subst, ◌∙◌}
+use Rattle.std.proofs.Common.{◌≡◌, ◌+◌, ℕ, not, List, ap, sym, subst, ◌∙◌}
 use Rattle.std.specs.Prelude.{ℤ}
 use Rattle.std.specs.List.{AllZip}
 use Rattle.std.proofs.lemmas.Bool.{false≢true}
@@ -17,13 +17,7 @@ loop-k-preserved c =
     let P : ℕ → List ℤ → Type 0 = IsCombOf a basis c.args.count in
     let Z : List (List ℤ) → Type 0 = λ ls. AllZip P (rows_outside a basis (k + 1)) ls in
     elim c.if-not-is_basic.branch [
-      | then-not-is_basic+in_ok-comb_of+in_ok-push w ↦ record {
-        work = ap length w.work-is ∙ w.comb_of.ensures.work ∙ c.loop-k.invariant.work;
-        combs = subst Z (sym (w.combs-is ∙ w.in_ok-push.ensures.ok))
-            (zip_yes P (is_outside a basis) c.loop-k.combs k w.in_ok-comb_of.field-0.list (ap not (asked_no a basis first k is (λ i. false≢true (sym w.if-not-is_basic.true ∙ c.is_basic.ensures.1 i)))) c.loop-k.invariant.combs w.in_ok-comb_of.ensures.comb);
-      }
-      | else-not-is_basic w ↦ record {
-        work = ap length w.work-is ∙ c.loop-k.invariant.work;
-        combs = subst Z (sym w.combs-is) (zip_no P (is_outside a basis) c.loop-k.combs k (ap not (asked_yes a basis first k is (c.is_basic.ensures.0 w.if-not-is_basic.false))) c.loop-k.invariant.combs);
-      }
+      | then-not-is_basic+in_ok-comb_of+in_ok-push w ↦ subst Z (sym (w.combs-is ∙ w.in_ok-push.ensures.ok))
+          (zip_yes P (is_outside a basis) c.loop-k.combs k w.in_ok-comb_of.field-0.list (ap not (asked_no a basis first k is (λ i. false≢true (sym w.if-not-is_basic.true ∙ c.is_basic.ensures.1 i)))) c.loop-k.invariant (subst (λ (n : ℕ). IsCombOf a basis n k w.in_ok-comb_of.field-0.list) (sym c.requires.count) w.in_ok-comb_of.ensures))
+      | else-not-is_basic w ↦ subst Z (sym w.combs-is) (zip_no P (is_outside a basis) c.loop-k.combs k (ap not (asked_yes a basis first k is (c.is_basic.ensures.0 w.if-not-is_basic.false))) c.loop-k.invariant)
     ]

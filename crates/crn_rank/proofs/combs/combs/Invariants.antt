@@ -1,11 +1,6 @@
-use Rattle.std.proofs.Common.{◌≡◌, length}
 use Rattle.std.specs.List.{AllZip}
-use Rattle.crn_vec.specs.Elementary.{width}
 use Rattle.crn_rank.specs.Inner.Rows.{IsCombOf, rows_outside}
 use Rattle.crn_rank.proofs.combs.combs.Given as goal
 
 abbrev pub invariant-loop-k : goal.invariant-loop-k
-invariant-loop-k l = record {
-  work : length l.work ≡ width l.tableau.matrix;
-  combs : AllZip (IsCombOf l.tableau.matrix l.tableau.basis l.count) (rows_outside l.tableau.matrix l.tableau.basis l.k) l.combs;
-}
+invariant-loop-k l = AllZip (IsCombOf l.tableau.matrix l.tableau.basis l.count) (rows_outside l.tableau.matrix l.tableau.basis l.k) l.combs

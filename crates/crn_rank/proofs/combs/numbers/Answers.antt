@@ -1,33 +1,36 @@
-use Rattle.std.proofs.Common.{◌≡◌, ◌+◌, ◌++◌, ◌∷◌, [], ℕ, not, List, ap, sym, ◌∙◌}
-use Rattle.std.specs.Prelude.{ℤ}
+use Rattle.std.proofs.Common.{◌≡◌, ◌+◌, ◌<◌, ◌++◌, ◌∷◌, [], ℕ, List, length, map, take, get_or, refl, ap, ◌∙◌, arith, to_z, of_z}
+use Rattle.std.specs.Prelude.{ℤ, neg_ℤ}
 use Rattle.std.specs.Int.{w128}
 use Rattle.std.proofs.lemmas.Int.{to_z-of_z}
-use Rattle.std.proofs.lemmas.Bool.{false≢true}
+use Rattle.std.proofs.lemmas.List.{length-map, take_all}
 use Rattle.crn_vec.specs.Vectors.{entry}
-use Rattle.crn_vec.specs.Kept.{KeptInts}
-use Rattle.crn_rank.specs.Inner.Rows.{is_inside, kept_or_negative}
-use Rattle.crn_rank.proofs.PickedRows.{map_yes, map_no, asked_yes, asked_no}
+use Rattle.crn_vec.proofs.CallerLemmas.{map_more}
 use Rattle.crn_rank.proofs.combs.numbers.Goals as goal
-use Rattle.crn_rank.proofs.combs.numbers.Goals.{then-is_basic+in_ok-push-2, else-is_basic}
 
-pub loop-q-preserved : goal.loop-q-preserved
-loop-q-preserved c =
+pub loop-i-init : goal.loop-i-init
+loop-i-init c = λ w named positive.
+    let x = c.number.result in
+    let read : to_z w128 (of_z w128 x) ≡ x = to_z-of_z w128 x (record { sfits = c.number.type_inv }) in
+    c.in_ok-push.ensures.ok ∙ ap (λ (l : List ℤ). l ++ to_z w128 (of_z w128 x) ∷ []) c.in_ok-made.ensures.empty ∙ ap (λ (z : ℤ). z ∷ []) (read ∙ c.number.ensures.is w named positive)
+
+pub loop-i-preserved : goal.loop-i-preserved
+loop-i-preserved c = λ w named positive.
+    let inside = c.args.inside.now in
     let a = c.args.tableau.now.matrix in
-    let basis = c.args.tableau.now.basis in
-    let v = c.args.vector.now in
-    let q = c.loop-q.q in
-    let first = c.cols-first.result in
-    let is : first ≡ a.cols = c.cols-first.ensures in
-    let own = kept_or_negative c.args.stays (entry v (a.cols + c.args.k)) in
-    let f : ℕ → ℤ = λ j. kept_or_negative (not c.args.stays) (entry v (a.cols + j)) in
-    elim c.if-is_basic.branch [
-      | then-is_basic+in_ok-push-2 w ↦
-          let x = w.or_negative-then-is_basic.result in
-          let pushed = to_z-of_z w128 x (record { sfits = w.or_negative-then-is_basic.type_inv }) ∙ w.or_negative-then-is_basic.ensures ∙ ap (λ (n : ℕ). kept_or_negative (not c.args.stays) (entry v (n + q))) is in
-          ap (λ (m : KeptInts). m.list) w.made-is ∙ w.in_ok-push-2.ensures.ok ∙ ap (λ (z : ℤ). c.loop-q.made.list ++ z ∷ []) pushed
-          ∙ ap (λ (l : List ℤ). l ++ f q ∷ []) c.loop-q.invariant
-          ∙ ap (λ (l : List ℤ). own ∷ l) (sym (map_yes f (is_inside a basis) q (asked_yes a basis first q is (c.is_basic.ensures.0 w.if-is_basic.true))))
-      | else-is_basic w ↦
-          ap (λ (m : KeptInts). m.list) w.made-is ∙ c.loop-q.invariant
-          ∙ ap (λ (l : List ℤ). own ∷ l) (sym (map_no f (is_inside a basis) q (asked_no a basis first q is (λ i. false≢true (sym w.if-is_basic.false ∙ c.is_basic.ensures.1 i)))))
-    ]
+    let i = c.loop-i.i in
+    let y = c.negative.result in
+    let f : ℕ → ℤ = λ q. neg_ℤ (entry w (a.cols + q)) in
+    let x = c.number-in-loop-i.result in
+    let read : to_z w128 (of_z w128 x) ≡ x = to_z-of_z w128 x (record { sfits = c.number-in-loop-i.type_inv }) in
+    let pushed : to_z w128 (of_z w128 y) ≡ y = to_z-of_z w128 y (record { sfits = c.negative.type_inv }) in
+    let value : y ≡ f (get_or inside i 0) = c.negative.ensures ∙ ap neg_ℤ (read ∙ c.number-in-loop-i.ensures.is w named positive ∙ ap (λ (n : ℕ). entry w (n + get_or inside i 0)) c.cols-first.ensures) in
+    let lt : i < length inside = omega (arith, c.loop-i-test.true) in
+    let more = map_more f inside i 0 (take i (map f inside)) (take i (map f inside) ++ to_z w128 (of_z w128 y) ∷ []) (to_z w128 (of_z w128 y)) lt refl refl (pushed ∙ value) in
+    c.in_ok-push-2.ensures.ok ∙ ap (λ (l : List ℤ). l ++ to_z w128 (of_z w128 y) ∷ []) (c.loop-i.invariant w named positive) ∙ ap (λ (l : List ℤ). entry w c.args.own ∷ l) more
+
+pub returns : goal.returns
+returns c = λ w named positive.
+    let inside = c.args.inside.now in
+    let f : ℕ → ℤ = λ q. neg_ℤ (entry w (c.args.tableau.now.matrix.cols + q)) in
+    let all : take c.loop-i.i (map f inside) ≡ map f inside = take_all c.loop-i.i (map f inside) (omega (arith, length-map inside f, c.loop-i-test.false)) in
+    c.loop-i.invariant w named positive ∙ ap (λ (l : List ℤ). entry w c.args.own ∷ l) all

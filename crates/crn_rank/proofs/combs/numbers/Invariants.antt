@@ -1,6 +1,9 @@
-use Rattle.std.proofs.Common.{◌≡◌}
-use Rattle.crn_rank.specs.Inner.Rows.{numbers_of}
+use Rattle.std.proofs.Common.{◌≡◌, ◌+◌, ◌∷◌, List, map, take}
+use Rattle.std.specs.Prelude.{ℤ, pos, neg_ℤ, ◌≤ℤ◌}
+use Rattle.crn_vec.specs.Vectors.{entry}
+use Rattle.crn_vec.specs.Elementary.{IsNamed}
 use Rattle.crn_rank.proofs.combs.numbers.Given as goal
 
-abbrev pub invariant-loop-q : goal.invariant-loop-q
-invariant-loop-q l = l.made.list ≡ numbers_of l.tableau.matrix l.tableau.basis l.k l.stays l.vector l.q
+abbrev pub invariant-loop-i : goal.invariant-loop-i
+invariant-loop-i l = (w : List ℤ) → IsNamed l.tableau.matrix l.tableau.basis l.own w → pos 1 ≤ℤ entry w l.own
+    → l.made.list ≡ entry w l.own ∷ take l.i (map (λ q. neg_ℤ (entry w (l.tableau.matrix.cols + q))) l.inside)
