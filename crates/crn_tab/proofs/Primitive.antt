@@ -3,12 +3,12 @@ use Rattle.std.proofs.Common.{◌≡◌, ◌≢◌, ℕ, ◌*◌, ◌<◌, ◌�
 use Rattle.std.specs.Prelude.{ℤ, pos, ◌-ℤ◌, ◌*ℤ◌, ◌≤ℤ◌, unsigned_abs}
 use Rattle.std.specs.Int.{◌∣◌}
 use Rattle.std.proofs.lemmas.Int.{ints, unsigned_abs-mul}
-use Rattle.std.proofs.Math.Nat.{one-dvd, one-mul, mul-dvd-mul_right, dvd_of_mul-dvd-mul_right, pos_of_dvd_of_pos}
+use Rattle.std.proofs.Math.Nat.{one-dvd, one-mul, mul-le-mul, mul-dvd-mul_right, dvd_of_mul-dvd-mul_right, pos_of_dvd_of_pos}
 use lib.IntN.{*ℤ-zero}
-use Rattle.crn_vec.proofs.CallerLemmas.{past_end, inside_or, zero_times}
+use Rattle.crn_vec.proofs.CallerLemmas.{past_end, inside_or, lt_or, zero_times}
 use Rattle.crn_vec.specs.Vectors.{entry}
 use Rattle.crn_tab.specs.Slots.{IsContent}
-use Rattle.crn_tab.specs.Inner.Rows.{IsCombined}
+use Rattle.crn_tab.specs.Inner.Rows.{IsCombined, IsPrimitivePart}
 
 pub abs_some : (x : ℤ) → x ≢ pos 0 → 1 ≤ unsigned_abs x
 abs_some x h = omega (arith, ints, h)
@@ -33,6 +33,18 @@ no_more p q x y e f =
 
 pub none_left : (p q t z w v : ℤ) → z ≡ pos 0 → w ≡ pos 0 → v ≡ pos 0 → z *ℤ t ≡ (p *ℤ w) -ℤ (q *ℤ v)
 none_left p q t z w v e f g = zero_times z t e ∙ sym (no_more p q w v f g)
+
+-- what a row divided by its content has is no larger than what it had
+pub part_below : (b : ℕ) (u z : List ℤ) → length z ≡ length u → 1 ≤ b → IsPrimitivePart u z → ((k : ℕ) → unsigned_abs (entry u k) < b) → (k : ℕ) → unsigned_abs (entry z k) < b
+part_below b u z long some p h k = elim (lt_or k (length u)) as (λ _. unsigned_abs (entry z k) < b) [
+  | inl lt ↦
+      let a = unsigned_abs (entry z k) in
+      let t_some : 1 ≤ unsigned_abs p.t = (let x = p.some in omega (arith, ints, x)) in
+      let a_le : a ≤ a = omega arith in
+      let more : a * 1 ≤ a * unsigned_abs p.t = mul-le-mul a_le t_some in
+      omega (arith, more, unsigned_abs-mul (entry z k) p.t, ap unsigned_abs (p.parts k lt), h k)
+  | inr le ↦ let e = past_end z k (omega (arith, le, long)) in omega (arith, some, ap unsigned_abs e)
+]
 
 -- the products u, divided by their content, are the primitive difference
 pub combined_of : (p q : ℤ) (w v u z : List ℤ) (t : ℤ) → length v ≡ length w → length u ≡ length w → length z ≡ length w

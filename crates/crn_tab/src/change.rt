@@ -57,8 +57,7 @@ fn change_few(row: &mut [i64], lead: &[i64], places: &[usize], q: &i64, known: &
     if *known == 1 {
         return low;
     }
-    make_primitive(row, known);
-    are_low(row)
+    make_primitive(row, known) || are_low(row)
 }
 
 // The same with any factor of the row.
@@ -78,8 +77,7 @@ fn change_all(row: &mut [i64], lead: &[i64], p: &i64, q: &i64, known: &i64) -> b
     ensures low { IsTrue result → AreBelow (2 ^ 30) row.new }
 {
     low_differences(row, lead, p, q);
-    make_primitive(row, known);
-    are_low(row)
+    make_primitive(row, known) || are_low(row)
 }
 
 // The primitive difference of two rows of low entries, each times a factor, in place of the first.

@@ -18,6 +18,9 @@ fn weighs(sign: Sign, x: &i64, kind: Kind) -> bool
     ensures yes { IsTrue result → (y : ℤ) → Follows sign x.now y → MayWeigh kind y }
     ensures no { result ≡ false → (y : ℤ) → Follows sign x.now y → MayWeigh kind y → ⊥ }
 {
+    if *x == 0 {
+        return true;
+    }
     may_weigh(kind, follower(sign, x))
 }
 

@@ -37,8 +37,14 @@ returns-then-known-eq1-clause-combined c =
     })
     (omega (arith, ints)) (λ k lt. times_one (entry new k))
 
-pub returns-clause-combined : goal.returns-clause-combined
-returns-clause-combined c =
+pub returns-then-make_primitive-clause-combined : goal.returns-then-make_primitive-clause-combined
+returns-then-make_primitive-clause-combined c =
+    let m = c.make_primitive.ensures.primitive in
+    combined_of (pos 1) c.args.q.now c.args.row.now c.args.lead.now c.take_lead-low.new.row c.make_primitive.new.row m.t c.requires.lead_count (omega arith) (omega arith)
+    (value c.args.q.now c.args.row.now c.args.lead.now c.take_lead-low.new.row c.take_lead-low.ensures.value) m.content m.some (λ k lt. m.parts k (omega arith))
+
+pub returns-else-make_primitive-clause-combined : goal.returns-else-make_primitive-clause-combined
+returns-else-make_primitive-clause-combined c =
     let m = c.make_primitive.ensures.primitive in
     combined_of (pos 1) c.args.q.now c.args.row.now c.args.lead.now c.take_lead-low.new.row c.make_primitive.new.row m.t c.requires.lead_count (omega arith) (omega arith)
     (value c.args.q.now c.args.row.now c.args.lead.now c.take_lead-low.new.row c.take_lead-low.ensures.value) m.content m.some (λ k lt. m.parts k (omega arith))
