@@ -5,6 +5,7 @@ mod ClassRanks
 mod DeficiencyAnswers
 mod ZeroAnswers
 mod TerminalCounts
+mod OneTerminal
 mod OneAnswers
 mod Splits
 mod Parts

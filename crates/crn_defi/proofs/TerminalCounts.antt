@@ -14,7 +14,7 @@ use Rattle.crn_vec.proofs.CallerLemmas.{range_bounds, any_has}
 use Rattle.crn_cert.specs.Says.{AreLinkageClasses, AreStrongClasses}
 use Rattle.crn_cert.specs.ClassTests.{of_class, DoLevelsFall}
 use Rattle.crn_cert.specs.Valid.{is_in_both, is_terminal_in, terminals_of}
-use Rattle.crn_defi.specs.Inner.Terminals.{HaveOneUpTo}
+use Rattle.crn_defi.specs.Inner.Terminals.{AreClassNumbers, HaveOneUpTo}
 use Rattle.crn_defi.proofs.Places.{one_label}
 
 -- ---- tests of lists
@@ -59,7 +59,7 @@ one_counted p xs a b e i j h g = only_one (filter p xs) a b (length-filter p xs 
 -- ---- a terminal strong class that has a complex of a linkage class
 
 -- a complex of a terminal strong class makes the class pass the test
-terminal_passes : (labels exits links : List ℕ) (k c : ℕ) → c < length labels → get_or links c 0 ≡ k → get_or exits (get_or labels c 0 - 1) 0 ≡ 0 → is_terminal_in labels exits links k (get_or labels c 0) ≡ true
+pub terminal_passes : (labels exits links : List ℕ) (k c : ℕ) → c < length labels → get_or links c 0 ≡ k → get_or exits (get_or labels c 0 - 1) 0 ≡ 0 → is_terminal_in labels exits links k (get_or labels c 0) ≡ true
 terminal_passes labels exits links k c lt e none =
     let m = get_or labels c 0 in
     and_true (get_or exits (m - 1) 0 == 0) (list_any (is_in_both labels links m k) (range_with_len 0 (length labels))) (eq-eqb (get_or exits (m - 1) 0) 0 none)
@@ -67,14 +67,14 @@ terminal_passes labels exits links k c lt e none =
     (and_true (get_or labels c 0 == m) (get_or links c 0 == k) (eq-eqb m m refl) (eq-eqb (get_or links c 0) k e)))
 
 -- a class that passes has such a complex
-record Passing (labels exits links : List ℕ) (k m : ℕ) : Type 0 where
-  c : ℕ
-  inside : c < length labels
-  strong_is : get_or labels c 0 ≡ m
-  link_is : get_or links c 0 ≡ k
-  none : get_or exits (get_or labels c 0 - 1) 0 ≡ 0
+pub record Passing (labels exits links : List ℕ) (k m : ℕ) : Type 0 where
+  pub c : ℕ
+  pub inside : c < length labels
+  pub strong_is : get_or labels c 0 ≡ m
+  pub link_is : get_or links c 0 ≡ k
+  pub none : get_or exits (get_or labels c 0 - 1) 0 ≡ 0
 
-passes_by : (labels exits links : List ℕ) (k m : ℕ) → is_terminal_in labels exits links k m ≡ true → Passing labels exits links k m
+pub passes_by : (labels exits links : List ℕ) (k m : ℕ) → is_terminal_in labels exits links k m ≡ true → Passing labels exits links k m
 passes_by labels exits links k m h =
     let b = and_cases (get_or exits (m - 1) 0 == 0) (list_any (is_in_both labels links m k) (range_with_len 0 (length labels))) h in
     let f = any_some (is_in_both labels links m k) (range_with_len 0 (length labels)) b.1 in
@@ -96,6 +96,10 @@ pub record Known (net : Net) (count : ℕ) (links : List ℕ) (strong_count term
   pub network : IsNetwork net
   pub linkage_is : AreLinkageClasses net count links
   pub strong_is : AreStrongClasses net strong_count terminal labels exits
+
+-- the labels of the strong classes are numbers of classes
+pub class_numbers : (net : Net) (count terminal : ℕ) (labels exits : List ℕ) → AreStrongClasses net count terminal labels exits → AreClassNumbers labels (length exits)
+class_numbers net count terminal labels exits s = λ y lt. (s.right.positive y lt, omega (arith, s.count_is.most y lt, s.classes))
 
 -- complexes that are reached have the label of their linkage class
 reached_label : (net : Net) (links : List ℕ) → IsNetwork net → IsLabelled net links → (y z : ℕ) → Reaches net.reactions y z → get_or links y 0 ≡ get_or links z 0

@@ -3,7 +3,7 @@
 -- Source: this project's own.
 -- Shapes: labels and classes count from 1, complexes from 0. `strong` and `linkage` hold a label
 -- for each complex, `exits` for each strong class 0 or a reaction that leaves it.
-use Rattle.std.specs.Prelude.{◌≡◌, ◌≢◌, ◌≤◌, ◌-◌, ℕ, List, length, sum}
+use Rattle.std.specs.Prelude.{◌≡◌, ◌≢◌, ◌≤◌, ◌<◌, ◌-◌, ℕ, List, length, slice_index, sum}
 use Rattle.crn_vec.specs.declared.limits.TheConstants.{MAX_COMPLEXES}
 use Rattle.crn_vec.specs.Deficiency.{AreAtMostOne}
 use Rattle.crn_cert.specs.declared.answer.Verdict.{Verdict}
@@ -11,6 +11,16 @@ use Rattle.crn_cert.specs.declared.answer.Verdict.TheVariants.{Deficiency, Yes, 
 use Rattle.crn_cert.specs.declared.answer.Gap.TheVariants.{Rests}
 use Rattle.crn_cert.specs.Ranges.{IsFrom}
 use Rattle.crn_cert.specs.Valid.{terminals_of, IsFirstLarge}
+
+-- each label is one of so many classes
+abbrev pub AreClassNumbers : List ℕ → ℕ → Type 0
+AreClassNumbers labels count = (y : ℕ) → y < length labels
+    → (1 ≤ slice_index labels y) × (slice_index labels y ≤ count)
+
+-- complex y is of linkage class k, and of a strong class without an exit
+abbrev pub IsOfTerminal : List ℕ → List ℕ → List ℕ → ℕ → ℕ → Type 0
+IsOfTerminal strong exits linkage k y = (slice_index linkage y ≡ k)
+    × (slice_index exits (slice_index strong y - 1) ≡ 0)
 
 -- the linkage classes up to the last have one terminal strong class each
 abbrev pub HaveOneUpTo : List ℕ → List ℕ → List ℕ → ℕ → ℕ → Type 0

@@ -1,8 +1,16 @@
-use Rattle.std.proofs.Common.{ℕ, List, length, ap, subst, arith}
+use Rattle.std.proofs.Common.{ℕ, List, length, ap, sym, subst, arith}
+use Rattle.crn_defi.specs.Inner.Terminals.{AreClassNumbers}
 use Rattle.crn_defi.proofs.Counted.{labels_few}
-use Rattle.crn_defi.proofs.TerminalCounts.{Known}
+use Rattle.crn_defi.proofs.TerminalCounts.{Known, class_numbers}
 use Rattle.crn_defi.proofs.Splits.{Finds, split_of, number_of, tests_of}
 use Rattle.crn_defi.proofs.split.first_split.Goals as goal
+
+pub first_with_more-requires-clause-labels : goal.first_with_more-requires-clause-labels
+first_with_more-requires-clause-labels c =
+    let s = c.requires.strong_classes in
+    let labels = class_numbers c.args.net.now c.args.strong.now.count c.args.strong.now.terminal c.args.strong.now.label.list c.args.strong.now.exit.list s in
+    let one = subst (λ (ls : List ℕ). AreClassNumbers ls (length c.args.strong.now.exit.list)) (sym c.as_slice.ensures) labels in
+    subst (λ (es : List ℕ). AreClassNumbers c.as_slice.result.now (length es)) (sym c.as_slice-2.ensures) one
 
 pub first_with_more-requires-clause-small : goal.first_with_more-requires-clause-small
 first_with_more-requires-clause-small c =
