@@ -1,5 +1,5 @@
 -- What the form of a head says of its numbers, of the records below it and of the answer.
-use Rattle.std.proofs.Common.{◌≡◌, ◌≤◌, ◌<◌, ◌+◌, ◌-◌, ◌^◌, ◌⊎◌, ◌++◌, ◌∙◌, ℕ, suc, List, [], ◌∷◌, length, map, refl, sym, subst, ap, ap₂, arith}
+use Rattle.std.proofs.Common.{◌≡◌, ◌≤◌, ◌<◌, ◌+◌, ◌^◌, ◌⊎◌, ◌++◌, ◌∙◌, ℕ, suc, List, [], ◌∷◌, length, map, refl, sym, subst, ap, ap₂, arith}
 use Rattle.std.specs.Prelude.{ℤ, pos, nat_abs}
 use Rattle.std.specs.List.{AllZip, range_with_len}
 use Rattle.std.proofs.lemmas.List.{append-nil, length-map}

@@ -1,5 +1,5 @@
 -- What the head of each question says, and on which sizes its forms rest.
-use Rattle.std.proofs.Common.{◌≡◌, ◌≤◌, ◌+◌, ◌++◌, ◌∙◌, ℕ, zero, List, [], ◌∷◌, length, refl, sym, subst, ap, ap₂, inl, inr, arith}
+use Rattle.std.proofs.Common.{◌≡◌, ◌≤◌, ◌+◌, ◌++◌, ◌∙◌, ℕ, List, [], ◌∷◌, length, refl, sym, subst, ap, ap₂, inl, inr, arith}
 use Rattle.std.specs.Prelude.{Bool, true, false, ℤ, codes, min}
 use Rattle.crn_vec.specs.Network.{Net}
 use Rattle.crn_cert.specs.Questions.{Earlier, Q13}

@@ -6,7 +6,7 @@ use Rattle.crn_vec.specs.Network.{Net, IsNetwork}
 use Rattle.crn_cert.specs.Questions.{Earlier}
 use Rattle.crn_cert.specs.Ranges.{AreFree}
 use Rattle.crn_ctext.specs.Records.{Record, AreRising, Fits}
-use Rattle.crn_ctext.specs.Kinds.{small, free_form}
+use Rattle.crn_ctext.specs.Kinds.{free_form}
 use Rattle.crn_ctext.specs.Questions.{head, yes, no, wide, open_by}
 use Rattle.crn_ctext.specs.Meaning.{row}
 use Rattle.crn_document.proofs.Ranks.{free_row}

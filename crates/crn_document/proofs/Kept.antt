@@ -1,5 +1,5 @@
 -- What is kept after a block: the sides of question 11, and with which verdicts.
-use Rattle.std.proofs.Common.{w32, to_z, of_z, ◌≡◌, ◌∙◌, ◌<◌, ◌≤◌, ◌==◌, ◌++◌, ℕ, Bool, true, false, if◌then◌else◌, List, [], ◌∷◌, refl, sym, ap, subst, inl, inr, arith}
+use Rattle.std.proofs.Common.{w32, to_z, of_z, ◌≡◌, ◌∙◌, ◌<◌, ◌==◌, ◌++◌, ℕ, Bool, false, if◌then◌else◌, List, [], ◌∷◌, refl, sym, ap, subst, inl, inr, arith}
 use Rattle.std.specs.Prelude.{ℤ}
 use Rattle.std.specs.List.{AllByRecursion}
 use Rattle.std.specs.Option.{IsSome}
@@ -11,7 +11,7 @@ use Rattle.crn_cert.specs.declared.answer.Proof.{Proof}
 use Rattle.crn_cert.specs.declared.answer.Proof.TheVariants.{Sides}
 use Rattle.crn_cert.specs.declared.answer.Verdict.{Verdict}
 use Rattle.crn_cert.specs.declared.answer.Verdict.TheVariants.{NotApplicable, Yes, YesSignal, YesVec}
-use Rattle.crn_cert.specs.Questions.{Earlier, Question, Q11, Q12, Q13, IsYes, number, on, vector_given}
+use Rattle.crn_cert.specs.Questions.{Earlier, Question, Q11, Q12, IsYes, number, on, vector_given}
 use Rattle.crn_cert.specs.Formed.{HeadMayBe, IsFormed, IsFormedOf}
 use Rattle.crn_cert.specs.FormedVerdicts.{IsFormedVerdict}
 use Rattle.crn_cert.specs.Says.{IsTurn}
@@ -19,7 +19,6 @@ use Rattle.crn_cert.specs.Tests.{AllHold}
 use Rattle.crn_cert.specs.Valid.{HasVector, confluence_head, head_tests, tests_of}
 use Rattle.crn_check.specs.Check.{AsksForTree, HoldsNeeds, HoldsNoSignal, IsBuilt, shown_by_tree}
 use Rattle.crn_check.specs.Facts.{KeptFacts, asked}
-use Rattle.crn_check.specs.Verdicts.{tight}
 use Rattle.crn_check.proofs.CallerLemmas.{formed_on, sides_of_answer}
 use Rattle.crn_shape.specs.Sides.{AreSides}
 use Rattle.crn_document.specs.Inner.Blocks.{KeepSides}

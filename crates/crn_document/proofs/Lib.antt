@@ -37,4 +37,5 @@ mod SignalsKnown
 mod SignalTrees
 mod Kept
 mod SignalSaid
+mod Digits
 mod Naming

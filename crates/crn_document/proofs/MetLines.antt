@@ -24,9 +24,9 @@ use Rattle.crn_ctree.specs.declared.problem.Problem.{Problem as TreeProblem}
 use Rattle.crn_ctree.specs.declared.node.Step.{Step}
 use Rattle.crn_ctree.specs.declared.fault.TreeFault.{TreeFault}
 use Rattle.crn_document.specs.declared.met.MetLine.{MetLine}
-use Rattle.crn_document.specs.declared.node.Heard.{Heard}
-use Rattle.crn_document.specs.declared.node.Heard.TheVariants.{New, Met}
-use Rattle.crn_document.specs.Inner.Met.{AreMet, IsCutOf, IsHeardAs, IsMet, IsMetAt, IsNodeHeard, SaysPlainly, plain_node}
+use Rattle.crn_document.specs.declared.node.NodeLine.{NodeLine}
+use Rattle.crn_document.specs.declared.node.NodeLine.TheVariants.{Known, Read}
+use Rattle.crn_document.specs.Inner.Met.{AreMet, IsCutOf, IsNodeLineAs, IsMet, IsMetAt, IsDueNodeLine, SaysPlainly, plain_node}
 use Rattle.crn_document.specs.Inner.Trees.{ExpectsNode, IsSaidAs, JudgeGives, asks_node_for}
 use Rattle.crn_document.proofs.NodeRecords.{node_said}
 use Rattle.crn_document.proofs.NodeWords.{node_is}
@@ -114,8 +114,8 @@ plain_gives w due after Flats result g = g
 plain_gives w due after (CutsA u) result g = g
 plain_gives w due after (CutsB u) result g = g
 
--- a node that was heard
-pub node_heard : (e : Expect) (version a s k : ℕ) (net : Net) (problem : TreeProblem) (lines : List MetLine) (heard : Heard) (read : List ℤ) (r : Record) → ExpectsNode e version a s k
-    → IsHeardAs e net problem lines heard read r → IsNodeHeard version a s k net problem lines heard read r
-node_heard e version a s k net problem lines (New word) read r x h = node_said e version a s k word read r x h
-node_heard e version a s k net problem lines (Met i) read r x h = h
+-- a node that was node_line
+pub due_node_line : (e : Expect) (version a s k : ℕ) (net : Net) (problem : TreeProblem) (lines : List MetLine) (node_line : NodeLine) (read : List ℤ) (r : Record) → ExpectsNode e version a s k
+    → IsNodeLineAs e net problem lines node_line read r → IsDueNodeLine version a s k net problem lines node_line read r
+due_node_line e version a s k net problem lines (Read word) read r x h = node_said e version a s k word read r x h
+due_node_line e version a s k net problem lines (Known i) read r x h = h

@@ -1,12 +1,12 @@
--- Lines that name shared lists.
-use Rattle.std.proofs.Common.{◌≡◌, ◌≤◌, ◌<◌, ◌^◌, ◌++◌, ℕ, List, [], ◌∷◌, inl, inr, false, refl, sym, ap, subst, arith}
+-- Lines that are splits, or name shared lists.
+use Rattle.std.proofs.Common.{◌≡◌, ◌≤◌, ◌<◌, ◌^◌, ◌++◌, ◌==◌, if◌then◌else◌, ℕ, List, [], ◌∷◌, inl, inr, false, refl, sym, ap, subst, arith}
 use Rattle.std.specs.Prelude.{pos, codes, decimal}
 use Rattle.std.proofs.lemmas.Int.{ints}
 use Rattle.crn_vec.specs.Lists.{IsIn}
 use Rattle.crn_io.specs.Lines.{Place}
 use Rattle.crn_vec.proofs.CallerLemmas.{in_right}
 use Rattle.crn_ctext.specs.Records.{Record, AreBetween, BeginsWith, Fits, IsShaped, Says, record_text}
-use Rattle.crn_ctext.specs.Kinds.{head_words, row_words, known_words, node_forms, small_form, tree_words}
+use Rattle.crn_ctext.specs.Kinds.{head_words, row_words, known_words, node_forms, record_form, small_form, tree_words}
 use Rattle.crn_ctext.specs.Course.{Gives}
 use Rattle.crn_ctext.specs.Blocks.{reads}
 use Rattle.crn_ctext.specs.Expect.{IsReadAs, due_forms, is_after, misplaced, sizes_of, tag_of, tests_of}
@@ -15,7 +15,7 @@ use Rattle.crn_ctext.specs.declared.expect.Due.TheVariants as due_kinds
 use Rattle.crn_ctext.specs.declared.expect.Expect.{Expect}
 use Rattle.crn_ctext.specs.declared.word.Word.TheVariants as words
 use Rattle.crn_ctext.proofs.CallerLemmas.{AreShort, text_says}
-use Rattle.crn_document.specs.Inner.Trees.{NamesTo}
+use Rattle.crn_document.specs.Inner.Trees.{HasNodeDue, NamesTo}
 
 -- ---- the record
 
@@ -90,4 +90,36 @@ reads_b e k place line h low high lt same = record {
   gives = λ n at. subst (λ (l : List ℕ). Gives (tests_of e n l) at (named (codes "refb") place) at) (sym same) (at_node e n h.a h.b k (record_text (named (codes "refb") place)) (named (codes "refb") place) at h.second h.due (gives_b n h.a h.b k place at low high lt));
   kind = refl;
   numbers = ap (λ (x : Due). tag_of x (sizes_of e.sizes) (named (codes "refb") place) ++ pos place ∷ []) (sym h.due);
+}
+
+-- ---- splits
+
+abbrev split_record : Record
+split_record = record { words = codes "split" ∷ []; numbers = [] }
+
+-- the known words from those of trees on
+abbrev from_trees : ℕ → List (List ℕ)
+from_trees v = tree_words v ++ codes "end" ∷ (if v == 2 then codes "vectors" ∷ codes "vector" ∷ codes "section" ∷ [] else [])
+
+known_split : (v : ℕ) → IsIn (codes "split") (known_words v)
+known_split v = in_right (codes "split") head_words (row_words ++ from_trees v) (in_right (codes "split") row_words (from_trees v) (inl refl))
+
+gives_split : (v n a b k : ℕ) (at : Place) → Gives (reads v n false (node_forms v a b k) 43 (codes "split")) at split_record at
+unfolding Gives
+gives_split v n a b k at =
+    let says : Says (codes "split") split_record = text_says split_record tt in
+    let form = record_form (codes "split") [] in
+    let is : IsIn form (node_forms v a b k) = inl refl in
+    let shaped : IsShaped form split_record = (refl, refl) in
+    let fits : Fits form split_record = (refl, refl) in
+    let begins : BeginsWith (codes "split") (codes "split") = (((λ e. absurd (omega (arith, e))), ((λ e. absurd (omega (arith, e))), ((λ e. absurd (omega (arith, e))), ((λ e. absurd (omega (arith, e))), ((λ e. absurd (omega (arith, e))), tt))))), inl refl) in
+    (codes "split", (begins, known_split v), (tt, (λ e. absurd cc), (tt, (form, is, refl), (tt, (form, split_record, is, says, shaped), (split_record, (says, (form, is, fits)), (refl, refl))))))
+
+pub reads_split : (e : Expect) (k : ℕ) (line : List ℕ) → HasNodeDue e k → line ≡ codes "split" → IsReadAs e line words.Split []
+reads_split e k line h same = record {
+  said = split_record;
+  gives = λ n at. subst (λ (l : List ℕ). Gives (tests_of e n l) at split_record at) (sym same)
+      (subst (λ (x : Due). Gives (reads e.version n (is_after x e.after_tree) (due_forms x e.version (sizes_of e.sizes)) (misplaced x) (codes "split")) at split_record at) (sym h.due) (gives_split e.version n h.a h.b k at));
+  kind = refl;
+  numbers = ap (λ (x : Due). tag_of x (sizes_of e.sizes) split_record ++ []) (sym h.due);
 }

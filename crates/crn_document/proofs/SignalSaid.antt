@@ -2,7 +2,6 @@
 use Rattle.std.proofs.Common.{◌≡◌, ◌∙◌, ◌⊎◌, ℕ, List, [], ◌∷◌, refl, sym, ap, inl, inr}
 use Rattle.std.specs.Prelude.{ℤ, pos, negsuc, slice_index_or}
 use Rattle.crn_cert.specs.declared.answer.Gap.TheVariants.{Rests}
-use Rattle.crn_cert.specs.declared.answer.Verdict.{Verdict}
 use Rattle.crn_cert.specs.declared.answer.Verdict.TheVariants.{Unknown}
 use Rattle.crn_cert.specs.Questions.{Q13}
 use Rattle.crn_ctext.specs.Records.{Record}

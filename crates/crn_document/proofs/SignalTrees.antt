@@ -1,5 +1,5 @@
 -- The tree for the vector of question 12 with a turn is the tree over the shape of that vector.
-use Rattle.std.proofs.Common.{◌≡◌, ◌+◌, ℕ, Bool, true, false, List, [], ◌∷◌, length, refl, sym, subst, Result, Ok, Err}
+use Rattle.std.proofs.Common.{◌≡◌, ◌+◌, ℕ, Bool, true, false, List, [], ◌∷◌, length, refl, subst, Result, Ok, Err}
 use Rattle.std.specs.Prelude.{ℤ, pos, negsuc}
 use Rattle.crn_io.specs.Device.{SourceSeen}
 use Rattle.crn_vec.specs.Network.{Net}

@@ -23,7 +23,6 @@ mod quick;
 mod reading;
 mod record;
 mod rows;
-mod same;
 mod signal;
 mod signal_trees;
 mod sizes;

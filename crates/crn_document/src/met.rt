@@ -1,7 +1,7 @@
 ghost use Rattle.std.specs.Prelude.{◌≡◌, ◌<◌, ◌++◌, ◌∷◌, [], length, slice_index_or, IfOk, IfSome};
 ghost use Rattle.crn_document.specs.declared.met.MetLine.{MetLine};
 
-use crate::same::are_same;
+use crn_ctext::are_same;
 use crn_ctree::KnownCut;
 use crn_io::NoMemory;
 use std::alloc::Global;
@@ -22,27 +22,35 @@ pub(crate) struct MetLine<'a> {
 }
 
 /// Lines of one tree that say cuts, each of which may come again. In version 2 there are none, since a list that is
-/// written more than once can be shared. A line is found by its mark; of two lines with one mark the last is found.
+/// written more than once can be shared. A line is found by its mark; of two lines with one mark the first is kept.
 #[derive(Drop)]
 pub(crate) struct MetLines<'a> {
+    // of each mark the number of its line, counted from 1, or 0
     places: Vec<u16>,
     pub(crate) lines: Vec<MetLine<'a>>,
 }
 
-// Mixes eight bytes, or one, into the mark of the bytes before them.
+// Mixes eight bytes into the mark of the bytes before them.
 fn mixed(mark: u64, word: u64) -> u64 {
     (mark.rotate_left(5) ^ word).wrapping_mul(0x9e37_79b9_7f4a_7c15)
 }
 
-// The mark of the bytes before, and of these.
+// The mark of the bytes before, and of all eights of these.
 fn mark_after(mark: u64, line: &[u8]) -> u64 {
     match line {
         [a, b, c, d, e, f, g, h, line @ ..] => {
             let word = u64::from_le_bytes([*a, *b, *c, *d, *e, *f, *g, *h]);
             mark_after(mixed(mark, word), line)
         }
-        [byte, line @ ..] => mark_after(mixed(mark, u64::from(*byte)), line),
-        [] => mark,
+        _ => mark,
+    }
+}
+
+// The last eight bytes, if there are so many.
+fn last_eight(line: &[u8]) -> u64 {
+    match line {
+        [.., a, b, c, d, e, f, g, h] => u64::from_le_bytes([*a, *b, *c, *d, *e, *f, *g, *h]),
+        _ => 0,
     }
 }
 
@@ -50,7 +58,7 @@ fn mark_after(mark: u64, line: &[u8]) -> u64 {
 fn mark_of(line: &[u8]) -> usize
     ensures { result < MARKS }
 {
-    (mark_after(0, line) >> 32) as usize % MARKS
+    (mark_after(last_eight(line), line) >> 32) as usize % MARKS
 }
 
 impl<'a> MetLines<'a> {
@@ -74,7 +82,7 @@ impl<'a> MetLines<'a> {
         if self.lines.is_empty() || MAX_MET_LINE < line.len() {
             return None;
         }
-        let i = usize::from(*self.places.get(mark_of(line))?);
+        let i = usize::from(*self.places.get(mark_of(line))?).checked_sub(1)?;
         let met = self.lines.get(i)?;
         if are_same(&met.line, line) {
             return Some(i);
@@ -82,9 +90,15 @@ impl<'a> MetLines<'a> {
         None
     }
 
-    /// Whether one more line would be kept.
+    /// Whether this line would be kept: there is room, and no line with its mark is kept.
     pub(crate) fn has_room(&self, line: &[u8]) -> bool {
-        !self.places.is_empty() && self.lines.len() < MAX_MET && line.len() <= MAX_MET_LINE
+        if MAX_MET <= self.lines.len() || MAX_MET_LINE < line.len() {
+            return false;
+        }
+        match self.places.get(mark_of(line)) {
+            Some(place) => *place == 0,
+            None => false,
+        }
     }
 
     /// Keeps a line.
@@ -103,7 +117,7 @@ impl<'a> MetLines<'a> {
         let bytes = Vec::from_slice(alloc, line)?;
         self.lines.push(MetLine { line: bytes, cut })?;
         if let Some(place) = self.places.get_mut(mark_of(line)) {
-            *place = i.min(MAX_MET) as u16;
+            *place = i.min(MAX_MET - 1) as u16 + 1;
         }
         Ok(i)
     }

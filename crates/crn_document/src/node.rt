@@ -10,7 +10,7 @@ ghost use Rattle.crn_ctree.specs.Gives.{SharedGives, is_cut, said_by};
 ghost use Rattle.crn_ctree.specs.Problem.{problem_of};
 ghost use Rattle.crn_ctree.specs.Shared.{IsPlaceIn, said_by_shared};
 ghost use Rattle.crn_document.specs.Inner.Answer.{AreSmall};
-ghost use Rattle.crn_document.specs.Inner.Met.{AreMet, IsCutOf, IsHeardAs, IsNodeHeard, SaysPlainly};
+ghost use Rattle.crn_document.specs.Inner.Met.{AreMet, IsCutOf, IsNodeLineAs, IsDueNodeLine, SaysPlainly};
 ghost use Rattle.crn_document.specs.Inner.Steps.{IsVersion, GoesOn, StepIs};
 ghost use Rattle.crn_document.specs.Inner.Trees.{ExpectsNode, IsNode, IsSaidAs, JudgeGives, Leaves, TakesSome, after_node, asks_node_for, asks_one, count_a as count_a_of, problem_in};
 
@@ -44,11 +44,12 @@ pub(crate) fn node_expect(version: u32, net: &Network, count_a: u32, shared: u32
     }
 }
 
-/// What a line of a tree is: a record of this word, or the line at this place of those that were met.
+/// What a line of a tree is: a record of this word, which was read, or the cut of the line at this place of those that
+/// were met.
 #[derive(Clone, Copy)]
-pub(crate) enum Heard {
-    New(Word),
-    Met(usize),
+pub(crate) enum NodeLine {
+    Read(Word),
+    Known(usize),
 }
 
 // Keeps the line of a cut that says its multipliers, if there is room, with the cut worked out.
@@ -60,29 +61,29 @@ fn keep<'a>(
     line: &[u8],
     word: Word,
     node: &Node,
-) -> Result<Heard, NoMemory>
+) -> Result<NodeLine, NoMemory>
     requires cut { is_cut (said_by node.now) ≡ true }
     requires numbers { AreNumbersFor (problem_of cuts.now.net cuts.now.problem) (said_by node.now) }
     requires says { (r : Record) × SaysPlainly expect.now line.now (said_by node.now) r }
     requires met { AreMet expect.now cuts.now.net cuts.now.problem met.old.lines.items }
-    ensures heard { (r : Record) (read : List ℤ)
+    ensures node_line { (r : Record) (read : List ℤ)
         → SaysPlainly expect.now line.now (said_by node.now) r → IsSaidAs expect.now word read r
-        → IfOk result (λ heard. IsHeardAs expect.now cuts.now.net cuts.now.problem
-        met.new.lines.items heard read r) }
+        → IfOk result (λ l. IsNodeLineAs expect.now cuts.now.net cuts.now.problem
+        met.new.lines.items l read r) }
     ensures met { OnOk result
         (AreMet expect.now cuts.now.net cuts.now.problem met.new.lines.items) }
 {
     let _ = expect.version;
     if !met.has_room(line) {
-        return Ok(Heard::New(word));
+        return Ok(NodeLine::Read(word));
     }
     let cut = cuts.work_out(alloc, node)?;
     let i = met.add(alloc, line, cut)?;
-    Ok(Heard::Met(i))
+    Ok(NodeLine::Known(i))
 }
 
 // Keeps a line that was read, if it says a cut and there is room.
-fn meet<'a>(
+fn keep_cut<'a>(
     alloc: Global,
     expect: &Expect,
     cuts: &KnownCuts<'a>,
@@ -90,38 +91,38 @@ fn meet<'a>(
     line: &[u8],
     word: Word,
     numbers: &[i128],
-) -> Result<Heard, NoMemory>
+) -> Result<NodeLine, NoMemory>
     requires node { let a = count_a_of cuts.now.net cuts.now.problem in (version shared : ℕ)
         × ExpectsNode expect.now version a (length cuts.now.net.names) shared }
     requires read { IsReadAs expect.now line.now word numbers.now }
     requires met { AreMet expect.now cuts.now.net cuts.now.problem met.old.lines.items }
-    ensures heard { (h : IsReadAs expect.now line.now word numbers.now)
-        → IfOk result (λ heard. IsHeardAs expect.now cuts.now.net cuts.now.problem
-        met.new.lines.items heard numbers.now h.said) }
+    ensures node_line { (h : IsReadAs expect.now line.now word numbers.now)
+        → IfOk result (λ l. IsNodeLineAs expect.now cuts.now.net cuts.now.problem
+        met.new.lines.items l numbers.now h.said) }
     ensures met { OnOk result
         (AreMet expect.now cuts.now.net cuts.now.problem met.new.lines.items) }
 {
     match word {
         Word::CutA => keep(alloc, expect, cuts, met, line, word, &Node::CutA(numbers)),
         Word::CutB => keep(alloc, expect, cuts, met, line, word, &Node::CutB(numbers)),
-        _ => Ok(Heard::New(word)),
+        _ => Ok(NodeLine::Read(word)),
     }
 }
 
 // The next line, which has to be a node of a tree. The numbers of one that was not met before are put into the list.
-fn next_heard<'a, S: Source>(
+fn next_node_line<'a, S: Source>(
     source: &mut S,
     at: &mut Reading,
     expect: &Expect,
     cuts: &KnownCuts<'a>,
     met: &mut MetLines<'a>,
-) -> Result<Heard, CheckStop>
+) -> Result<NodeLine, CheckStop>
     requires goes { GoesOn at.old }
     requires node { let a = count_a_of cuts.now.net cuts.now.problem in (version shared : ℕ)
         × ExpectsNode expect.now version a (length cuts.now.net.names) shared }
     requires met { AreMet expect.now cuts.now.net cuts.now.problem met.old.lines.items }
     ensures step { StepIs (asks_node_for expect.now at.old.line)
-        (λ heard r. IsHeardAs expect.now cuts.now.net cuts.now.problem met.new.lines.items heard
+        (λ l r. IsNodeLineAs expect.now cuts.now.net cuts.now.problem met.new.lines.items l
         at.new.numbers.list r)
         result at.old at.new (S.seen source.old) (S.seen source.new) }
     ensures met { OnOk result
@@ -134,13 +135,13 @@ fn next_heard<'a, S: Source>(
     at.numbers.clear();
     let line = at.lines.line();
     if let Some(i) = met.find(line) {
-        return Ok(Heard::Met(i));
+        return Ok(NodeLine::Known(i));
     }
     match read_node(expect, line, &mut at.numbers) {
         Ok(word) => {
             let numbers = at.numbers.as_slice();
-            let heard = meet(at.alloc, expect, cuts, met, line, word, numbers)?;
-            Ok(heard)
+            let node_line = keep_cut(at.alloc, expect, cuts, met, line, word, numbers)?;
+            Ok(node_line)
         }
         Err(code) => Err(CheckStop::Rejected {
             code: code.number(),
@@ -222,13 +223,13 @@ fn judge_met(
     check.cut_node(cuts, cut)
 }
 
-// Tests the node that was heard with these numbers at the prefix that is due, and takes it if it passes.
+// Tests the node of a line with these numbers at the prefix that is due, and takes it if it passes.
 fn judge(
     net: &Network,
     cuts: &KnownCuts,
     met: &MetLines,
     check: &mut TreeCheck,
-    heard: Heard,
+    node_line: NodeLine,
     numbers: &[i128],
 ) -> Result<Step, TreeFault>
     requires few { length cuts.now.table ≤ MAX_SHARED }
@@ -236,19 +237,20 @@ fn judge(
     requires due { check.old.due ≢ [] }
     requires choices { check.old.choices ≡ (problem_of net.now check.old.problem).choices }
     requires node { let a = count_a_of net.now check.old.problem in (version : ℕ) × (r : Record)
-        × IsNodeHeard version a (length net.now.names) (length cuts.now.table) net.now
-        check.old.problem met.now.lines.items heard numbers.now r }
+        × IsDueNodeLine version a (length net.now.names) (length cuts.now.table) net.now
+        check.old.problem met.now.lines.items node_line numbers.now r }
     ensures gives { (version : ℕ) (r : Record)
-        → IsNodeHeard version (count_a_of net.now check.old.problem) (length net.now.names)
-        (length cuts.now.table) net.now check.old.problem met.now.lines.items heard numbers.now r
+        → IsDueNodeLine version (count_a_of net.now check.old.problem) (length net.now.names)
+        (length cuts.now.table) net.now check.old.problem met.now.lines.items node_line
+        numbers.now r
         → JudgeGives (problem_of net.now check.old.problem) check.old.due (node_of cuts.now.table r)
         check.new.due result }
     ensures choices { check.new.choices ≡ check.old.choices }
     ensures problem { check.new.problem ≡ check.old.problem }
 {
-    match heard {
-        Heard::New(word) => judge_new(net, cuts, check, word, numbers),
-        Heard::Met(i) => judge_met(net, cuts, check, &met.lines[i].cut),
+    match node_line {
+        NodeLine::Read(word) => judge_new(net, cuts, check, word, numbers),
+        NodeLine::Known(i) => judge_met(net, cuts, check, &met.lines[i].cut),
     }
 }
 
@@ -287,8 +289,8 @@ pub(crate) fn next_node<'a, S: Source>(
     ensures line { OnOk result (at.new.line ≡ at.old.line + 1) }
     ensures version { at.new.version ≡ at.old.version }
 {
-    let heard = next_heard(source, at, expect, cuts, met)?;
-    match judge(net, cuts, met, check, heard, at.numbers.as_slice()) {
+    let node_line = next_node_line(source, at, expect, cuts, met)?;
+    match judge(net, cuts, met, check, node_line, at.numbers.as_slice()) {
         Ok(step) => Ok(step),
         Err(fault) => Err(CheckStop::Rejected {
             code: fault.code(),

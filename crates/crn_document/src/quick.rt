@@ -1,23 +1,49 @@
 ghost use Rattle.std.specs.Prelude.{◌≡◌, ◌↔◌, ◌≤◌, ◌+◌, ◌++◌, [], None, ◌∷◌, IsTrue, length, codes, decimal, pos, IfSome, IfOk, IfErr};
 ghost use Rattle.crn_io.specs.declared.lines.TheConstants.{MAX_NUMBERS};
 ghost use Rattle.crn_ctext.specs.Expect.{IsExpectable, IsReadAs, IsRefusedBy, code_of};
-ghost use Rattle.crn_document.specs.Inner.Trees.{NamesTo};
+ghost use Rattle.crn_document.specs.Inner.Trees.{HasNodeDue, NamesTo};
 
 use crn_ctext::{DocCode, Due, Expect, Word, read_record};
 use crn_vec::Ints;
-use itoa::Buffer;
 
 // The longest line that names a list of those that a document may share.
 const MAX_NAMING: usize = 9;
+
+// Whether these digits spell the number. The last digit comes first.
+fn spells(digits: &[u8], number: u32) -> bool
+    ensures { IsTrue result ↔ (digits.now ≡ decimal number) }
+{
+    match digits {
+        [] => false,
+        [digits @ .., last] => {
+            if *last != b'0' + (number % 10) as u8 {
+                return false;
+            }
+            if number < 10 {
+                return digits.is_empty();
+            }
+            spells(digits, number / 10)
+        }
+    }
+}
+
+// Whether the line is that of a split.
+fn is_split(line: &[u8]) -> bool
+    ensures { IsTrue result ↔ (line.now ≡ codes "split") }
+{
+    match line {
+        [b's', b'p', b'l', b'i', b't'] => true,
+        _ => false,
+    }
+}
 
 // Whether the line names this list for a cut of part A.
 fn names_a(line: &[u8], place: u32) -> bool
     ensures { IsTrue result ↔ (line.now ≡ codes "refa " ++ decimal place) }
 {
-    let mut buffer = Buffer::new();
-    match line.strip_prefix(b"refa ") {
-        Some(digits) => digits == buffer.format(place).as_bytes(),
-        None => false,
+    match line {
+        [b'r', b'e', b'f', b'a', b' ', digits @ ..] => spells(digits, place),
+        _ => false,
     }
 }
 
@@ -25,10 +51,9 @@ fn names_a(line: &[u8], place: u32) -> bool
 fn names_b(line: &[u8], place: u32) -> bool
     ensures { IsTrue result ↔ (line.now ≡ codes "refb " ++ decimal place) }
 {
-    let mut buffer = Buffer::new();
-    match line.strip_prefix(b"refb ") {
-        Some(digits) => digits == buffer.format(place).as_bytes(),
-        None => false,
+    match line {
+        [b'r', b'e', b'f', b'b', b' ', digits @ ..] => spells(digits, place),
+        _ => false,
     }
 }
 
@@ -85,7 +110,30 @@ fn read_naming(expect: &Expect, shared: u32, line: &[u8], into: &mut Ints) -> Op
     None
 }
 
-/// Reads a line as `read_record` does, and lines that name shared lists, as most leaves of a tree do, by fewer steps.
+// Reads a line where a node is due as `read_record` does.
+fn read_due(expect: &Expect, shared: u32, line: &[u8], into: &mut Ints) -> Result<Word, DocCode>
+    requires due { IsExpectable expect.now }
+    requires node { HasNodeDue expect.now shared }
+    requires empty { into.old.list ≡ [] }
+    requires room { MAX_NUMBERS ≤ into.old.spare }
+    ensures ok { IfOk result (λ word. IsReadAs expect.now line.now word into.new.list) }
+    ensures spare { into.new.spare + length into.new.list ≡ into.old.spare }
+    ensures err { IfErr result
+        (λ code. IsRefusedBy expect.now line.now (code_of code) × (into.new ≡ into.old)) }
+{
+    if is_split(line) {
+        return Ok(Word::Split);
+    }
+    if expect.version != 2 {
+        return read_record(expect, line, into);
+    }
+    match read_naming(expect, shared, line, into) {
+        Some(word) => Ok(word),
+        None => read_record(expect, line, into),
+    }
+}
+
+/// Reads a line as `read_record` does, and splits and lines that name shared lists, as most of a tree are, by fewer steps.
 pub(crate) fn read_node(expect: &Expect, line: &[u8], into: &mut Ints) -> Result<Word, DocCode>
     requires due { IsExpectable expect.now }
     requires empty { into.old.list ≡ [] }
@@ -95,14 +143,8 @@ pub(crate) fn read_node(expect: &Expect, line: &[u8], into: &mut Ints) -> Result
     ensures err { IfErr result
         (λ code. IsRefusedBy expect.now line.now (code_of code) × (into.new ≡ into.old)) }
 {
-    if expect.version != 2 {
-        return read_record(expect, line, into);
-    }
     match expect.due {
-        Due::Node { shared, .. } => match read_naming(expect, shared, line, into) {
-            Some(word) => Ok(word),
-            None => read_record(expect, line, into),
-        },
+        Due::Node { shared, .. } => read_due(expect, shared, line, into),
         _ => read_record(expect, line, into),
     }
 }

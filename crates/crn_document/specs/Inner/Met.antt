@@ -13,8 +13,8 @@ use Rattle.crn_ctext.specs.declared.expect.Expect.{Expect}
 use Rattle.crn_ctree.specs.Known.{KeptCut}
 use Rattle.crn_ctree.specs.declared.problem.Problem.{Problem as TreeProblem}
 use Rattle.crn_document.specs.declared.met.MetLine.{MetLine}
-use Rattle.crn_document.specs.declared.node.Heard.{Heard}
-use Rattle.crn_document.specs.declared.node.Heard.TheVariants.{New, Met}
+use Rattle.crn_document.specs.declared.node.NodeLine.{NodeLine}
+use Rattle.crn_document.specs.declared.node.NodeLine.TheVariants.{Known, Read}
 use Rattle.crn_document.specs.Inner.Trees.{IsNode, IsSaidAs}
 
 -- the node that says this and names no shared list
@@ -47,9 +47,10 @@ pub record IsMetAt (net : Net) (problem : TreeProblem) (lines : List MetLine) (i
   pub cut : (m : MetLine) → m ≡ slice_index_or lines i m → IsCutOf net problem m.cut r
 
 -- a line was read as this record, or met
-abbrev pub IsHeardAs : Expect → Net → TreeProblem → List MetLine → Heard → List ℤ → Record → Type 0
-IsHeardAs e net problem lines (New word) read r = IsSaidAs e word read r
-IsHeardAs e net problem lines (Met i) read r = IsMetAt net problem lines i r
+abbrev pub IsNodeLineAs : Expect → Net → TreeProblem → List MetLine → NodeLine → List ℤ → Record
+    → Type 0
+IsNodeLineAs e net problem lines (Read word) read r = IsSaidAs e word read r
+IsNodeLineAs e net problem lines (Known i) read r = IsMetAt net problem lines i r
 
 -- all tests of the line hold, and its record says this and names no shared list
 pub record SaysPlainly (e : Expect) (line : List ℕ) (said : Said) (r : Record) : Type 0 where
@@ -57,7 +58,8 @@ pub record SaysPlainly (e : Expect) (line : List ℕ) (said : Said) (r : Record)
   pub node : (table : List (List ℤ)) → node_of table r ≡ plain_node said
 
 -- the record is a node that is due, read with its word or met
-abbrev pub IsNodeHeard : (version count_a species shared : ℕ) → Net → TreeProblem → List MetLine
-    → Heard → List ℤ → Record → Type 0
-IsNodeHeard version a s k net problem lines (New word) numbers r = IsNode version a s k word numbers r
-IsNodeHeard version a s k net problem lines (Met i) numbers r = IsMetAt net problem lines i r
+abbrev pub IsDueNodeLine : (version count_a species shared : ℕ) → Net → TreeProblem → List MetLine
+    → NodeLine → List ℤ → Record → Type 0
+IsDueNodeLine version a s k net problem lines (Read word) numbers r =
+    IsNode version a s k word numbers r
+IsDueNodeLine version a s k net problem lines (Known i) numbers r = IsMetAt net problem lines i r

@@ -44,6 +44,12 @@ pub record ExpectsNode (e : Expect) (version count_a species shared : ℕ) : Typ
   pub of_version : e.version ≡ version
   pub due : e.due ≡ due_kinds.Node count_a species shared
 
+-- a node is due in a document with so many shared lists
+pub record HasNodeDue (e : Expect) (shared : ℕ) : Type 0 where
+  pub a : ℕ
+  pub b : ℕ
+  pub due : e.due ≡ due_kinds.Node a b shared
+
 -- a node is due in a document of version 2 with so many shared lists
 pub record NamesTo (e : Expect) (shared : ℕ) : Type 0 where
   pub a : ℕ

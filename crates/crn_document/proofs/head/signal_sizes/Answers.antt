@@ -1,5 +1,5 @@
-use Rattle.std.proofs.Common.{◌≡◌, ◌∙◌, ◌≤◌, ℕ, List, length, ap, ap₂, arith, inr, sym}
-use Rattle.crn_cert.specs.Valid.{exits, pair_places, strong}
+use Rattle.std.proofs.Common.{◌≡◌, ◌∙◌, ℕ, List, length, ap, ap₂, arith, inr, sym}
+use Rattle.crn_cert.specs.Valid.{pair_places}
 use Rattle.crn_pairs.specs.Pairs.{pairs_to}
 use Rattle.crn_document.specs.Inner.Parts.{IsKnown, before}
 use Rattle.crn_document.proofs.Linkages.{holds_second, pairs_few, pairs_known}

@@ -4,11 +4,11 @@ use Rattle.std.proofs.Common.{ap, ◌∙◌}
 use Rattle.crn_ctree.specs.Known.{KeptCut}
 use Rattle.crn_document.proofs.node.keep.Goals as goal
 
-pub returns-then-not-has_room-clause-heard : goal.returns-then-not-has_room-clause-heard
-returns-then-not-has_room-clause-heard c = λ r read says said. said
+pub returns-then-not-has_room-clause-node_line : goal.returns-then-not-has_room-clause-node_line
+returns-then-not-has_room-clause-node_line c = λ r read says said. said
 
-pub returns-clause-heard : goal.returns-clause-heard
-returns-clause-heard c = λ r read says heard.
+pub returns-clause-node_line : goal.returns-clause-node_line
+returns-clause-node_line c = λ r read says node_line.
     let k = c.args.cuts.now in
     let said = said_by c.args.node.now in
     let m = c.in_ok-i.ensures.added in

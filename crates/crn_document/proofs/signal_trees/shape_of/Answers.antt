@@ -1,6 +1,6 @@
 use Rattle.std.proofs.lemmas.Int.{to_z-of_z}
-use Rattle.std.proofs.Common.{w32, to_z, of_z, ◌≡◌, ◌∙◌, ℕ, List, length, ap, inl, inr, sym, subst}
-use Rattle.std.specs.Prelude.{ℤ, Option}
+use Rattle.std.proofs.Common.{w32, to_z, of_z, ◌∙◌, ℕ, List, length, ap, inl, inr, sym, subst}
+use Rattle.std.specs.Prelude.{ℤ}
 use Rattle.std.specs.List.{AllByRecursion}
 use Rattle.crn_vec.specs.NetSignals.{IsShapeOf}
 use Rattle.crn_vec.specs.Signals.{Shape}

@@ -1,4 +1,4 @@
-use Rattle.std.proofs.Common.{◌≡◌, [], ◌∷◌, ◌∙◌, inl, sym, ap, subst, ℕ, OnOk}
+use Rattle.std.proofs.Common.{◌≡◌, [], ◌∷◌, sym, ap, subst, ℕ, OnOk}
 use Rattle.crn_cert.specs.Says.{IsTrueOf}
 use Rattle.crn_ctext.specs.Meaning.{problems_by}
 use Rattle.crn_ctree.specs.declared.problem.InfluenceTable.TheVariants.{Plain, Strong}

@@ -5,7 +5,7 @@ use Rattle.crn_document.specs.Inner.Trees.{count_a}
 use Rattle.crn_document.proofs.MetLines.{said_as, says_a, says_b}
 use Rattle.crn_document.proofs.NodeRecords.{cut_a_fits, node_said}
 use Rattle.crn_document.proofs.NodeWords.{cut_a_numbers, cut_b_numbers}
-use Rattle.crn_document.proofs.node.meet.Goals as goal
+use Rattle.crn_document.proofs.node.keep_cut.Goals as goal
 
 pub keep-requires-clause-numbers : goal.keep-requires-clause-numbers
 keep-requires-clause-numbers c =
@@ -41,19 +41,19 @@ keep-requires-in-CutB-clause-says c =
     let h = c.requires.read in
     (h.said, says_b c.args.expect.now x.0 (count_a k.net k.problem) (length k.net.names) x.1 c.args.line.now c.args.word c.args.numbers.now x.2 h c.in-CutB.is)
 
-pub returns-in-CutA-clause-heard : goal.returns-in-CutA-clause-heard
-returns-in-CutA-clause-heard c = λ h.
+pub returns-in-CutA-clause-node_line : goal.returns-in-CutA-clause-node_line
+returns-in-CutA-clause-node_line c = λ h.
     let k = c.args.cuts.now in
     let x = c.requires.node in
-    let g = c.keep.ensures.heard in
+    let g = c.keep.ensures.node_line in
     g h.said c.args.numbers.now (says_a c.args.expect.now x.0 (count_a k.net k.problem) (length k.net.names) x.1 c.args.line.now c.args.word c.args.numbers.now x.2 h c.in-CutA.is) (said_as c.args.expect.now c.args.line.now c.args.word c.args.numbers.now h)
 
-pub returns-in-CutB-clause-heard : goal.returns-in-CutB-clause-heard
-returns-in-CutB-clause-heard c = λ h.
+pub returns-in-CutB-clause-node_line : goal.returns-in-CutB-clause-node_line
+returns-in-CutB-clause-node_line c = λ h.
     let k = c.args.cuts.now in
     let x = c.requires.node in
-    let g = c.keep-in-CutB.ensures.heard in
+    let g = c.keep-in-CutB.ensures.node_line in
     g h.said c.args.numbers.now (says_b c.args.expect.now x.0 (count_a k.net k.problem) (length k.net.names) x.1 c.args.line.now c.args.word c.args.numbers.now x.2 h c.in-CutB.is) (said_as c.args.expect.now c.args.line.now c.args.word c.args.numbers.now h)
 
-pub returns-in_default-clause-heard : goal.returns-in_default-clause-heard
-returns-in_default-clause-heard c = λ h. said_as c.args.expect.now c.args.line.now c.args.word c.args.numbers.now h
+pub returns-in_default-clause-node_line : goal.returns-in_default-clause-node_line
+returns-in_default-clause-node_line c = λ h. said_as c.args.expect.now c.args.line.now c.args.word c.args.numbers.now h

@@ -6,11 +6,11 @@ use Rattle.crn_ctext.proofs.CallerLemmas.{step_fails_then}
 use Rattle.crn_ctext.specs.Course.{due, Gives, FailsFirst}
 use Rattle.crn_ctext.specs.Expect.{IsReadAs, tests_of}
 use Rattle.crn_document.specs.declared.stop.CheckStop.TheVariants as stop
-use Rattle.crn_document.specs.Inner.Met.{IsHeardAs}
+use Rattle.crn_document.specs.Inner.Met.{IsNodeLineAs}
 use Rattle.crn_document.specs.Inner.Trees.{asks_node_for}
 use Rattle.crn_document.proofs.MetLines.{line_reads, met_at}
 use Rattle.crn_document.proofs.Steps.{memory_stops, stop_first, step_exits, tests_fail}
-use Rattle.crn_document.proofs.node.next_heard.Goals as goal
+use Rattle.crn_document.proofs.node.next_node_line.Goals as goal
 
 pub returns-in_err-next_line-clause-step : goal.returns-in_err-next_line-clause-step
 returns-in_err-next_line-clause-step g c =
@@ -30,11 +30,11 @@ returns-in-Some-clause-step g c =
     let gives : (k : ℕ) (at : Place) → Gives (tests_of e k s.0) at m.r at = λ k at. subst (λ (l : List ℕ). Gives (tests_of e k l) at m.r at) line (let q = m.gives in q k at) in
     (m.r, m.is, line_reads e old.line mid.line s.0 m.r old.lines mid.lines before.left now.left s.2 gives, s.3)
 
-pub meet-requires-clause-read : goal.meet-requires-clause-read
-meet-requires-clause-read g c = subst (λ (zs : List ℤ). IsReadAs c.args.expect.now c.line-line.result.now c.in-Ok.word zs) (sym c.as_slice-numbers.ensures) c.in-Ok.ensures.ok
+pub keep_cut-requires-clause-read : goal.keep_cut-requires-clause-read
+keep_cut-requires-clause-read g c = subst (λ (zs : List ℤ). IsReadAs c.args.expect.now c.line-line.result.now c.in-Ok.word zs) (sym c.as_slice-numbers.ensures) c.in-Ok.ensures.ok
 
-pub returns-in_err-heard-in-Ok-clause-step : goal.returns-in_err-heard-in-Ok-clause-step
-returns-in_err-heard-in-Ok-clause-step g c =
+pub returns-in_err-node_line-in-Ok-clause-step : goal.returns-in_err-node_line-in-Ok-clause-step
+returns-in_err-node_line-in-Ok-clause-step g c =
     let e = c.args.expect.now in
     let old = c.args.at.now in
     let mid = c.next_line.new.at in
@@ -44,11 +44,11 @@ returns-in_err-heard-in-Ok-clause-step g c =
     let line : c.line-line.result.now ≡ s.0 = c.line-line.ensures ∙ sym s.1 in
     let r = c.in-Ok.ensures.ok in
     let gives : (k : ℕ) (at : Place) → Gives (tests_of e k s.0) at r.said at = λ k at. subst (λ (l : List ℕ). Gives (tests_of e k l) at r.said at) line (let q = r.gives in q k at) in
-    step_exits _ _ _ stop.NoMemory _ _ _ _ (err_from_is_err_and _ c.from_residual-in_err-heard-in-Ok.ensures.1)
+    step_exits _ _ _ stop.NoMemory _ _ _ _ (err_from_is_err_and _ c.from_residual-in_err-node_line-in-Ok.ensures.1)
     (memory_stops (asks_node_for e old.line) r.said old mid _ _ (line_reads e old.line mid.line s.0 r.said old.lines mid.lines before.left now.left s.2 gives) s.3 c.in_ok-next_line.ensures.reads)
 
-pub returns-in_ok-heard-in-Ok-clause-step : goal.returns-in_ok-heard-in-Ok-clause-step
-returns-in_ok-heard-in-Ok-clause-step g c =
+pub returns-in_ok-node_line-in-Ok-clause-step : goal.returns-in_ok-node_line-in-Ok-clause-step
+returns-in_ok-node_line-in-Ok-clause-step g c =
     let e = c.args.expect.now in
     let old = c.args.at.now in
     let mid = c.next_line.new.at in
@@ -58,9 +58,9 @@ returns-in_ok-heard-in-Ok-clause-step g c =
     let line : c.line-line.result.now ≡ s.0 = c.line-line.ensures ∙ sym s.1 in
     let h : IsReadAs e c.line-line.result.now c.in-Ok.word c.as_slice-numbers.result.now = subst (λ (zs : List ℤ). IsReadAs e c.line-line.result.now c.in-Ok.word zs) (sym c.as_slice-numbers.ensures) c.in-Ok.ensures.ok in
     let gives : (k : ℕ) (at : Place) → Gives (tests_of e k s.0) at h.said at = λ k at. subst (λ (l : List ℕ). Gives (tests_of e k l) at h.said at) line (let q = h.gives in q k at) in
-    let heard = let q = c.in_ok-heard-in-Ok.ensures.heard in q h in (
+    let node_line = let q = c.in_ok-node_line-in-Ok.ensures.node_line in q h in (
       h.said,
-      subst (λ (zs : List ℤ). IsHeardAs e c.args.cuts.now.net c.args.cuts.now.problem c.meet.new.met.lines.items c.in_ok-heard-in-Ok.heard zs h.said) c.as_slice-numbers.ensures heard,
+      subst (λ (zs : List ℤ). IsNodeLineAs e c.args.cuts.now.net c.args.cuts.now.problem c.keep_cut.new.met.lines.items c.in_ok-node_line-in-Ok.node_line zs h.said) c.as_slice-numbers.ensures node_line,
       line_reads e old.line mid.line s.0 h.said old.lines mid.lines before.left now.left s.2 gives,
       s.3,
     )
