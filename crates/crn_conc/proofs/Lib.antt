@@ -1,6 +1,5 @@
 pub mod CallerLemmas
-mod KindLists
-mod Pairs
+mod ColumnBits
 mod SettledLaws
 mod Signs
 mod Ended

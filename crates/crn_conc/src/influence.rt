@@ -1,76 +1,82 @@
-ghost use Rattle.std.specs.Prelude.{◌≡◌, ◌<◌, ◌-ℤ◌, ◌++◌, ◌∷◌, ℤ, [], length, map, slice_index_or, IfOk, OnOk};
+ghost use Rattle.std.specs.Prelude.{◌≡◌, ◌≢◌, ◌<◌, ◌-ℤ◌, ℤ, [], length, map, slice_index_or, IfOk};
 ghost use Rattle.crn_vec.specs.Concordance.{sign};
 ghost use Rattle.crn_vec.specs.Network.{minus};
 ghost use Rattle.crn_vec.specs.Influence.{plain_table, strong_table};
-ghost use Rattle.crn_conc.specs.Inner.Rows.{pairs_from};
+ghost use Rattle.crn_sign.specs.Options.{AreBitsOf};
+ghost use Rattle.crn_conc.specs.Inner.Rows.{IsLast};
 
 use crn_net::Network;
+use crn_sign::{Bits, bits_of_signs};
 use crn_vec::{NoMemory, Sign, sign_of};
 use std::alloc::Global;
 use std::marker::Model;
 
-// The signs of the species for one reaction, and those that are not zero with their species, in
-// order.
+// The signs of the species for one reaction, the same by bits, and how many species there are up to the
+// last one with a sign.
 #[derive(Drop)]
 struct SignRow {
     signs: Vec<Sign>,
-    pairs: Vec<(usize, Sign)>,
+    bits: Bits,
+    last: usize,
 }
 
 impl Model for SignRow {
-    ghost use Rattle.std.specs.Prelude.{◌≡◌, List};
+    ghost use Rattle.std.specs.Prelude.{List};
     ghost use Rattle.crn_vec.specs.declared.signs.Sign.{Sign};
-    ghost use Rattle.crn_conc.specs.Inner.Rows.{pairs_from};
+    ghost use Rattle.crn_sign.specs.Options.{AreBitsOf};
+    ghost use Rattle.crn_conc.specs.Inner.Rows.{IsLast};
 
     ghost Value = { List Sign };
 
     ghost view = { λ s. s.signs.items };
 
-    ghost invariant = { λ s. s.pairs.items ≡ pairs_from 0 s.signs.items };
+    ghost invariant = { λ s. AreBitsOf s.bits s.signs.items × IsLast s.signs.items s.last };
 }
 
-// Puts a species and its sign at the end, unless the sign is zero.
-fn put_pair(pairs: &mut Vec<(usize, Sign)>, s: usize, sign: Sign) -> Result<(), NoMemory>
-    ensures { OnOk result (pairs.new.items ≡ pairs.old.items ++ pairs_from s (sign ∷ [])) }
+// The next place if the sign before it is not zero, else the last one.
+fn last_with(sign: Sign, next: usize, last: usize) -> usize
+    ensures zero { sign ≡ Sign.Zero → result ≡ last }
+    ensures some { sign ≢ Sign.Zero → result ≡ next }
 {
     match sign {
-        Sign::Zero => Ok(()),
-        Sign::Plus => {
-            pairs.push((s, Sign::Plus))?;
-            Ok(())
-        }
-        Sign::Minus => {
-            pairs.push((s, Sign::Minus))?;
-            Ok(())
-        }
+        Sign::Zero => last,
+        _ => next,
     }
 }
 
-// The pairs of species and signs, without the signs that are zero.
-fn pairs_of(alloc: Global, signs: &[Sign]) -> Result<Vec<(usize, Sign)>, NoMemory>
-    ensures { IfOk result (λ made. made.items ≡ pairs_from 0 signs.now) }
+// How many signs there are up to the last one that is not zero.
+fn last_sign(signs: &[Sign]) -> usize
+    ensures { IsLast signs.now result }
 {
-    let mut pairs = Vec::new(alloc);
-    for s in 0..signs.len() {
-        put_pair(&mut pairs, s, signs[s])?;
+    let mut last = 0;
+    for k in 0..signs.len() {
+        last = last_with(signs[k], k + 1, last);
     }
-    Ok(pairs)
+    last
 }
 
 impl SignRow {
     // A row of these signs.
-    fn new(alloc: Global, signs: Vec<Sign>) -> Result<SignRow, NoMemory>
-        ensures { IfOk result (λ made. made ≡ signs.items) }
+    fn new(signs: Vec<Sign>) -> SignRow
+        ensures { result ≡ signs.items }
     {
-        let pairs = pairs_of(alloc, &signs)?;
-        Ok(SignRow { signs, pairs })
+        let bits = bits_of_signs(&signs);
+        let last = last_sign(&signs);
+        SignRow { signs, bits, last }
     }
 
-    // The species whose signs are not zero, with these signs.
-    fn pairs(&self) -> &[(usize, Sign)]
-        ensures { result.now ≡ pairs_from 0 self.now }
+    // The bits of the signs.
+    fn bits(&self) -> Bits
+        ensures { AreBitsOf result self.now }
     {
-        &self.pairs
+        self.bits
+    }
+
+    // How many signs there are up to the last one that is not zero.
+    fn last(&self) -> usize
+        ensures { IsLast self.now result }
+    {
+        self.last
     }
 }
 
@@ -105,12 +111,20 @@ impl Influence {
         &self.rows[reaction].signs
     }
 
-    /// The species that have a sign other than zero for a reaction, with these signs, in order.
-    pub(crate) fn pairs(&self, reaction: usize) -> &[(usize, Sign)]
+    /// The bits of the signs of the species for a reaction.
+    pub(crate) fn bits(&self, reaction: usize) -> Bits
         requires { reaction < length self.now }
-        ensures { result.now ≡ pairs_from 0 (slice_index_or self.now reaction []) }
+        ensures { AreBitsOf result (slice_index_or self.now reaction []) }
     {
-        self.rows[reaction].pairs()
+        self.rows[reaction].bits()
+    }
+
+    /// How many species there are up to the last one with a sign for a reaction.
+    pub(crate) fn last(&self, reaction: usize) -> usize
+        requires { reaction < length self.now }
+        ensures { IsLast (slice_index_or self.now reaction []) result }
+    {
+        self.rows[reaction].last()
     }
 
     /// The sign of a species for a reaction, both counted from 0.
@@ -151,8 +165,7 @@ fn signs_of(alloc: Global, numbers: &[i128]) -> Result<SignRow, NoMemory>
     for s in 0..numbers.len() {
         signs.push(sign_at(&numbers[s]))?;
     }
-    let row = SignRow::new(alloc, signs)?;
-    Ok(row)
+    Ok(SignRow::new(signs))
 }
 
 // The signs of the first numbers less the second, place by place.
@@ -164,8 +177,7 @@ fn signs_of_differences(alloc: Global, left: &[i128], right: &[i128]) -> Result<
     for s in 0..left.len() {
         signs.push(sign_of_difference(&left[s], &right[s]))?;
     }
-    let row = SignRow::new(alloc, signs)?;
-    Ok(row)
+    Ok(SignRow::new(signs))
 }
 
 /// The plain table: plus if the reactant holds the species, else zero.

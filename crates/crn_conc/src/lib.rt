@@ -10,4 +10,5 @@ mod system;
 
 pub use answer::concordant;
 pub use influence::{Influence, concordance_table, strong_table};
+pub use kinds::asked_of_row;
 pub use system::reaction_matrix;

@@ -8,10 +8,10 @@ ghost use Rattle.crn_conc.specs.Inner.Rows.{AreWide};
 ghost use Rattle.crn_conc.specs.Inner.Settled.{AreSettled};
 
 use crate::influence::Influence;
-use crate::kinds::{are_zeros, column, put_columns, put_rows, row_kind};
+use crate::kinds::{asked_of_column, asked_of_row};
 use crate::settled::Settled;
-use crn_sign::SignProblem;
-use crn_vec::{Kind, Matrix, Sign};
+use crn_sign::{Asked, Bits, FREE, SignProblem, asked_of_sign};
+use crn_vec::{Matrix, Sign, is_all_zero};
 use std::slice::from_ref;
 
 /// The sign problem of an influence table: the choices are the species in order.
@@ -70,32 +70,20 @@ impl SignProblem for TableProblem<'_> {
         &self.matrix
     }
 
-    fn kinds_a(&self, prefix: &[Sign], into: &mut [Kind]) {
-        let (columns, rows) = into.split_at_mut(self.matrix.cols());
-        put_columns(self.table, prefix, columns);
-        rows.fill(Kind::Zero);
-    }
-
-    fn kinds_b(&self, prefix: &[Sign], into: &mut [Kind]) {
-        let (columns, rows) = into.split_at_mut(self.matrix.cols());
-        columns.fill(Kind::Free);
-        put_rows(prefix, rows);
-    }
-
-    fn kind_a(&self, prefix: &[Sign], k: usize) -> Kind {
+    fn asked_a(&self, prefix: &[Sign], bits: Bits, k: usize) -> Asked {
         if k < self.matrix.cols() {
-            column(self.table.pairs(k), prefix)
+            asked_of_column(self.table.bits(k), self.table.last(k), bits, prefix.len())
         } else {
-            Kind::Zero
+            asked_of_sign(Sign::Zero)
         }
     }
 
-    fn kind_b(&self, prefix: &[Sign], k: usize) -> Kind {
+    fn asked_b(&self, prefix: &[Sign], _bits: Bits, k: usize) -> Asked {
         let cols = self.matrix.cols();
         if k < cols {
-            Kind::Free
+            FREE
         } else {
-            row_kind(prefix, k - cols)
+            asked_of_row(prefix, k - cols)
         }
     }
 
@@ -121,6 +109,6 @@ impl SignProblem for TableProblem<'_> {
     }
 
     fn closed(&self, prefix: &[Sign]) -> bool {
-        prefix.len() == self.matrix.rows() && are_zeros(prefix)
+        prefix.len() == self.matrix.rows() && is_all_zero(prefix)
     }
 }

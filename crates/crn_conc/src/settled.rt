@@ -1,10 +1,10 @@
 ghost use Rattle.std.specs.Prelude.{◌≡◌, ℕ, false, IfOk, OnOk};
 ghost use Rattle.crn_vec.specs.Lists.{IsIn};
+ghost use Rattle.crn_vec.specs.Problems.{is_zero};
 ghost use Rattle.crn_conc.specs.Inner.Settled.{AreSettled, HasSettled, IsKept};
 
 use crate::influence::Influence;
-use crate::kinds::{are_zeros, is_zero_sign};
-use crn_vec::{NoMemory, Sign};
+use crn_vec::{NoMemory, Sign, is_all_zero};
 use std::alloc::Global;
 
 /// The reactions whose columns the last of so many choices settles.
@@ -12,6 +12,16 @@ use std::alloc::Global;
 pub(crate) struct Settled {
     pub choices: usize,
     pub reactions: Vec<usize>,
+}
+
+// Whether the sign is zero.
+fn is_zero_sign(sign: Sign) -> bool
+    ensures { result ≡ is_zero sign }
+{
+    match sign {
+        Sign::Zero => true,
+        _ => false,
+    }
 }
 
 // Whether the last of so many choices is that of the last species with a sign.
@@ -28,7 +38,7 @@ fn is_last(signs: &[Sign], choices: usize) -> bool
         return false;
     }
     let (_, rest) = signs.split_at(choices);
-    are_zeros(rest)
+    is_all_zero(rest)
 }
 
 // Lists a reaction of these signs if the last of so many choices settles its column.

@@ -1,4 +1,5 @@
 mod SystemRows
 mod Searched
+mod ShelfKinds
 mod Answered
 mod Budgets

@@ -1,27 +1,20 @@
-ghost use Rattle.std.specs.Prelude.{◌≡◌, length};
-ghost use Rattle.crn_vec.specs.Concordance.{row_kinds};
-ghost use Rattle.crn_vec.specs.Elementary.{width};
-ghost use Rattle.crn_vec.specs.Signals.{shelf_kinds, shelf_matrix};
+ghost use Rattle.std.specs.Prelude.{◌≡◌, ◌≢◌};
+ghost use Rattle.crn_vec.specs.declared.signs.Kind.{Kind};
+ghost use Rattle.crn_sign.specs.Options.{asked_kind};
 
-use crn_shape::{Shape, row_kind};
+use crn_sign::{Asked, FREE, asked_of_sign};
 use crn_vec::{Kind, Sign};
 
-/// Writes the kinds of part A at a prefix.
-pub(crate) fn put_kinds(shape: &Shape, prefix: &[Sign], into: &mut [Kind])
-    requires { length into.old ≡ width (shelf_matrix shape.now) }
-    ensures { into.new ≡ shelf_kinds shape.now prefix.now }
+/// What asks for a number of a kind.
+pub(crate) fn asked_of_kind(kind: Kind) -> Asked
+    requires { kind ≢ Kind.NonNeg }
+    ensures { asked_kind result ≡ kind }
 {
-    let _ = shape.complexes();
-    for k in 0..into.len() {
-        into[k] = shape.kind(prefix, k);
-    }
-}
-
-/// Writes the kinds of the species by their options.
-pub(crate) fn put_rows(prefix: &[Sign], into: &mut [Kind])
-    ensures { into.new ≡ row_kinds (length into.old) prefix.now }
-{
-    for s in 0..into.len() {
-        into[s] = row_kind(prefix, s);
+    match kind {
+        Kind::Zero => asked_of_sign(Sign::Zero),
+        Kind::Pos => asked_of_sign(Sign::Plus),
+        Kind::Neg => asked_of_sign(Sign::Minus),
+        Kind::Free => FREE,
+        Kind::NonNeg => unreachable!(),
     }
 }

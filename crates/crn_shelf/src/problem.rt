@@ -6,13 +6,13 @@ ghost use Rattle.crn_vec.specs.NetSystems.{reaction_system};
 ghost use Rattle.crn_vec.specs.Signals.{shelf_matrix, signals};
 ghost use Rattle.crn_sign.specs.Search.{IsSearchEnd, IsSearchStop};
 
-use crate::kinds::{put_kinds, put_rows};
+use crate::kinds::asked_of_kind;
 use crate::system::shelf_matrix;
-use crn_conc::reaction_matrix;
+use crn_conc::{asked_of_row, reaction_matrix};
 use crn_net::Network;
-use crn_shape::{Shape, row_kind};
-use crn_sign::{SearchEnd, SearchStop, SignProblem, coordinates, search};
-use crn_vec::{Kind, Matrix, Sign};
+use crn_shape::Shape;
+use crn_sign::{Asked, Bits, FREE, SearchEnd, SearchStop, SignProblem, coordinates, search};
+use crn_vec::{Matrix, Sign};
 use std::alloc::Global;
 
 /// The sign problem of signals: the choices are the shelves of the terminal strong classes, then the
@@ -51,26 +51,16 @@ impl SignProblem for ShelfProblem<'_> {
         &self.matrix
     }
 
-    fn kinds_a(&self, prefix: &[Sign], into: &mut [Kind]) {
-        put_kinds(self.shape, prefix, into);
+    fn asked_a(&self, prefix: &[Sign], _bits: Bits, k: usize) -> Asked {
+        asked_of_kind(self.shape.kind(prefix, k))
     }
 
-    fn kinds_b(&self, prefix: &[Sign], into: &mut [Kind]) {
-        let (columns, rows) = into.split_at_mut(self.matrix.cols());
-        columns.fill(Kind::Free);
-        put_rows(self.shape.signs(prefix), rows);
-    }
-
-    fn kind_a(&self, prefix: &[Sign], k: usize) -> Kind {
-        self.shape.kind(prefix, k)
-    }
-
-    fn kind_b(&self, prefix: &[Sign], k: usize) -> Kind {
+    fn asked_b(&self, prefix: &[Sign], _bits: Bits, k: usize) -> Asked {
         let cols = self.matrix.cols();
         if k < cols {
-            Kind::Free
+            FREE
         } else {
-            row_kind(self.shape.signs(prefix), k - cols)
+            asked_of_row(self.shape.signs(prefix), k - cols)
         }
     }
 

@@ -1,13 +1,17 @@
 -- What holds of marks by words of 64 bits, coordinate by coordinate.
-use Rattle.std.proofs.Common.{◌≡◌, ◌≢◌, ℕ, zero, suc, ◌+◌, ◌*◌, ◌/◌, ◌%◌, ◌<◌, ◌≤◌, min, max, inl, inr, List, length, set, refl, sym, ap, ◌∙◌, arith}
+use Rattle.std.proofs.Common.{◌≡◌, ◌≢◌, ℕ, zero, suc, ◌+◌, ◌*◌, ◌/◌, ◌%◌, ◌<◌, ◌≤◌, min, max, inl, inr, List, length, set, refl, sym, ap, subst, ◌∙◌, arith}
+use Rattle.std.specs.Prelude.{ℤ, pos, negsuc, ◌≤ℤ◌}
+use Rattle.std.proofs.lemmas.Int.{ints}
 use Rattle.std.proofs.lemmas.Nat.Bits.{bit_at-zero}
 use Rattle.std.proofs.lemmas.List.{length-set, get_or-set_same, get_or-set_other}
-use Rattle.crn_vec.proofs.CallerLemmas.{eq_or, below_two}
+use Rattle.crn_vec.specs.Systems.{MayWeigh}
+use Rattle.crn_vec.proofs.CallerLemmas.{eq_or, below_two, weigh_zero}
 use Rattle.crn_sign.specs.declared.bits.Bits.{Bits}
 use Rattle.crn_sign.specs.declared.marks.Mark.{Mark}
-use Rattle.crn_sign.specs.declared.marks.Mark.TheVariants.{Zero}
+use Rattle.crn_sign.specs.declared.marks.Mark.TheVariants.{Zero, Plus, Minus, Any}
 use Rattle.crn_sign.specs.Inner.Bits.{IsMarked, mark_at, mark_in, mark_of, none, word_at}
-use Rattle.crn_sign.specs.Inner.Marks.{Meets, joined, laid, negative}
+use Rattle.crn_sign.specs.Inner.Marks.{Meets, joined, kind_of_mark, laid, negative}
+use Rattle.crn_sign.specs.Inner.Past.{Counts, Weighs}
 
 -- ---- four bits
 
@@ -106,3 +110,49 @@ Swaps a b = mark_of b a ≡ negative (mark_of a b)
 
 pub swaps : (a b : ℕ) → a < 2 → b < 2 → Swaps a b
 swaps = two_bits Swaps refl refl refl refl
+
+-- ---- what may be weighed
+
+-- the bit that says that a number of a mark of bits c and d may not be weighed where a and b ask
+abbrev pub refusal : ℕ → ℕ → ℕ → ℕ → ℕ
+refusal a b c d = max ((max c a + a) % 2) ((max d b + b) % 2)
+
+abbrev Weighed : ℕ → ℕ → ℕ → ℕ → Type 0
+Weighed a b c d = refusal a b c d ≡ 0 → Weighs (mark_of a b) (mark_of c d)
+
+above_zero : (x : ℤ) → pos 1 ≤ℤ x → pos 0 ≤ℤ x
+above_zero x h = omega (arith, ints, h)
+
+below_zero : (x : ℤ) → x ≤ℤ negsuc 0 → x ≤ℤ pos 0
+below_zero x h = omega (arith, ints, h)
+
+zero_weighs : (m : Mark) (x : ℤ) → x ≡ pos 0 → MayWeigh (kind_of_mark m) x
+zero_weighs m x e = subst (MayWeigh (kind_of_mark m)) (sym e) (weigh_zero (kind_of_mark m))
+
+pub weighed : (a b c d : ℕ) → a < 2 → b < 2 → c < 2 → d < 2 → Weighed a b c d
+weighed a b c d la lb lc ld = two_bits (λ (x y : ℕ). Weighed x y c d)
+    (two_bits (Weighed 0 0) (λ e. zero_weighs Zero) (bad _) (bad _) (bad _) c d lc ld) (two_bits (Weighed 0 1) (λ e. zero_weighs Minus) (λ e. below_zero) (bad _) (bad _) c d lc ld)
+    (two_bits (Weighed 1 0) (λ e. zero_weighs Plus) (bad _) (λ e. above_zero) (bad _) c d lc ld) (two_bits (Weighed 1 1) (λ e. zero_weighs Any) (λ e x h. tt) (λ e x h. tt) (λ e x h. tt) c d lc ld) a b la lb
+
+-- the bit that says that a sign is asked by a and b, and that c and d are the mark of a sign
+abbrev pub count_bit : ℕ → ℕ → ℕ → ℕ → ℕ
+count_bit a b c d = min ((c + d) % 2) ((a + b) % 2)
+
+abbrev Counted : ℕ → ℕ → ℕ → ℕ → Type 0
+Counted a b c d = count_bit a b c d ≡ 1 → Counts (mark_of a b) (mark_of c d)
+
+plus_some : (x : ℤ) → pos 1 ≤ℤ x → x ≢ pos 0
+plus_some x h e = omega (arith, ints, h, e)
+
+minus_some : (x : ℤ) → x ≤ℤ negsuc 0 → x ≢ pos 0
+minus_some x h e = omega (arith, ints, h, e)
+
+low : (X : Type 0) → zero ≡ suc zero → X
+low X e = absurd (omega (arith, e))
+
+pub counted : (a b c d : ℕ) → a < 2 → b < 2 → c < 2 → d < 2 → Counted a b c d
+counted a b c d la lb lc ld = two_bits (λ (x y : ℕ). Counted x y c d)
+    (two_bits (Counted 0 0) (low _) (low _) (low _) (low _) c d lc ld)
+    (two_bits (Counted 0 1) (low _) (λ e. record { signed = refl; some = minus_some }) (λ e. record { signed = refl; some = plus_some }) (low _) c d lc ld)
+    (two_bits (Counted 1 0) (low _) (λ e. record { signed = refl; some = minus_some }) (λ e. record { signed = refl; some = plus_some }) (low _) c d lc ld)
+    (two_bits (Counted 1 1) (low _) (low _) (low _) (low _) c d lc ld) a b la lb

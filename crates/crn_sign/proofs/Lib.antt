@@ -1,5 +1,6 @@
 mod BitLaws
 mod MarkLaws
+mod OptionLaws
 mod PastLaws
 mod PlaceLaws
 mod Walks

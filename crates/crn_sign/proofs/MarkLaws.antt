@@ -1,12 +1,15 @@
 -- What is known of the signs of sums of vectors (x, Ax), and that suitable signs make a solution.
-use Rattle.std.proofs.Common.{◌≡◌, ℕ, zero, suc, ◌+◌, ◌<◌, ◌≤◌, inl, inr, List, [], ◌∷◌, length, get_or, take, refl, sym, ap, ap₂, subst, ◌∙◌, arith}
+use Rattle.std.proofs.Common.{◌≡◌, ℕ, zero, suc, ◌+◌, ◌<◌, ◌≤◌, inl, inr, List, [], ◌∷◌, length, map, get_or, take, refl, sym, ap, ap₂, subst, ◌∙◌, arith}
 use Rattle.std.specs.Prelude.{ℤ, pos, negsuc, ◌*ℤ◌, ◌+ℤ◌, ◌≤ℤ◌, unsigned_abs}
+use Rattle.std.specs.List.{range_with_len}
 use Rattle.std.proofs.lemmas.Int.{ints}
+use Rattle.std.proofs.lemmas.List.{get_or-map, length-map}
+use Rattle.std.proofs.lemmas.List.FromFn.{get_or-range_with_len, length-range_with_len}
 use lib.IntN.{*ℤ-zero}
 use Rattle.crn_vec.specs.declared.signs.Sign.{Sign}
 use Rattle.crn_vec.specs.declared.signs.Sign.TheVariants.{Zero as ZeroSign, Plus as PlusSign, Minus as MinusSign}
 use Rattle.crn_vec.specs.declared.signs.Kind.{Kind}
-use Rattle.crn_vec.specs.declared.signs.Kind.TheVariants.{Pos, Neg, NonNeg, Zero as ZeroKind, Free}
+use Rattle.crn_vec.specs.declared.signs.Kind.TheVariants.{Free}
 use Rattle.crn_vec.specs.Vectors.{Mat, entry, dot, scale, HasSign}
 use Rattle.crn_vec.specs.Elementary.{width, InRowSpace}
 use Rattle.crn_vec.specs.Systems.{HasKind, IsSolution, kind_at}
@@ -17,7 +20,7 @@ use Rattle.crn_sign.specs.declared.marks.Mark.{Mark}
 use Rattle.crn_sign.specs.declared.marks.Mark.TheVariants.{Zero, Plus, Minus, Any}
 use Rattle.crn_sign.specs.Inner.RowSigns.{AreRowSigns}
 use Rattle.crn_sign.specs.Inner.Bits.{IsMarked, mark_at, word_count}
-use Rattle.crn_sign.specs.Inner.Marks.{AreAsked, AreMadeBy, AreMet, AreOpposite, AreRowMarks, AreSuited, HasMark, Meets, joined, kind_mark, laid, negative, sign_mark, sign_there}
+use Rattle.crn_sign.specs.Inner.Marks.{AreMadeBy, AreMet, AreOpposite, AreRowMarks, AreSuited, HasMark, Meets, joined, kind_of_mark, kinds_of, laid, negative, sign_mark, sign_there}
 
 -- ---- sums in the row space
 
@@ -55,7 +58,7 @@ scaled_mark (suc p) Minus (pos (suc x)) lt h = absurd (omega (arith, ints, h))
 scaled_mark (suc p) Minus (negsuc x) lt h = omega (arith, ints)
 scaled_mark (suc p) Any x lt h = tt
 
-plain_mark : (m : Mark) (x : ℤ) → HasMark m x → HasMark m (pos 1 *ℤ x)
+pub plain_mark : (m : Mark) (x : ℤ) → HasMark m x → HasMark m (pos 1 *ℤ x)
 plain_mark m x h = scaled_mark 1 m x (omega arith) h
 
 -- a great multiple outweighs a number
@@ -174,7 +177,7 @@ cleared a one old mid new g lt s m o j is =
       ];
     }
 
-negated_mark : (m : Mark) (x : ℤ) → HasMark m x → HasMark (negative m) (negsuc 0 *ℤ x)
+pub negated_mark : (m : Mark) (x : ℤ) → HasMark m x → HasMark (negative m) (negsuc 0 *ℤ x)
 negated_mark Zero x h = ap (λ (t : ℤ). negsuc 0 *ℤ t) h
 negated_mark Plus x h = omega (arith, ints, h)
 negated_mark Minus x h = omega (arith, ints, h)
@@ -193,7 +196,7 @@ negatives a one into new s long n =
           (subst (HasMark (negative (mark_at one k))) (sym (entry-scale (negsuc 0) s.y k)) (negated_mark (mark_at one k) (entry s.y k) (s.are k lt)));
     }
 
-signed_mark : (s : Sign) (x : ℤ) → HasSign s x → HasMark (sign_mark s) x
+pub signed_mark : (s : Sign) (x : ℤ) → HasSign s x → HasMark (sign_mark s) x
 signed_mark ZeroSign x h = h
 signed_mark PlusSign x h = h
 signed_mark MinusSign x h = h
@@ -233,19 +236,33 @@ none_marked a into marks long n =
 
 -- ---- kinds
 
-met_kind : (kind : Kind) (m : Mark) (x : ℤ) → Meets (kind_mark kind) m → HasMark m x → HasKind kind x
-met_kind Pos m x e h = subst (λ (t : Mark). HasMark t x) e h
-met_kind Neg m x e h = subst (λ (t : Mark). HasMark t x) e h
-met_kind NonNeg m x e h =
-    let z : x ≡ pos 0 = subst (λ (t : Mark). HasMark t x) e h in
-    omega (arith, ints, z)
-met_kind ZeroKind m x e h = subst (λ (t : Mark). HasMark t x) e h
-met_kind Free m x e h = tt
+pub kinds_by : (a : Mat) (asked : List Bits) → map (λ (k : ℕ). kind_of_mark (mark_at asked k)) (range_with_len 0 (width a)) ≡ kinds_of a asked
+unfolding kinds_of
+kinds_by a asked = refl
 
--- marks that are what is asked suit the kinds that ask it
-pub met_suited : (a : Mat) (kinds : List Kind) (asked marks : List Bits) → AreAsked a kinds asked → AreMet asked marks → AreSuited kinds marks
-met_suited a kinds asked marks q met = λ k lt x h.
-    met_kind (kind_at kinds k) (mark_at marks k) x (subst (λ (t : Mark). Meets t (mark_at marks k)) (q.each k lt) (met k (omega (arith, lt, q.long, q.count)))) h
+pub kinds_long : (a : Mat) (asked : List Bits) → length (kinds_of a asked) ≡ width a
+unfolding kinds_of
+kinds_long a asked = length-map (range_with_len 0 (width a)) (λ (k : ℕ). kind_of_mark (mark_at asked k)) ∙ length-range_with_len 0 (width a)
+
+-- the kind that is asked of a coordinate
+pub kind_asked : (a : Mat) (asked : List Bits) (k : ℕ) → k < width a → kind_at (kinds_of a asked) k ≡ kind_of_mark (mark_at asked k)
+unfolding kinds_of
+kind_asked a asked k lt =
+    let f = λ (j : ℕ). kind_of_mark (mark_at asked j) in
+    get_or-map f (range_with_len 0 (width a)) k 0 Free (omega (arith, lt, length-range_with_len 0 (width a)))
+    ∙ ap f (get_or-range_with_len 0 (width a) k 0 lt ∙ (omega arith))
+
+met_kind : (q m : Mark) (x : ℤ) → Meets q m → HasMark m x → HasKind (kind_of_mark q) x
+met_kind Zero m x e h = tt
+met_kind Plus m x e h = subst (λ (t : Mark). HasMark t x) e h
+met_kind Minus m x e h = subst (λ (t : Mark). HasMark t x) e h
+met_kind Any m x e h = subst (λ (t : Mark). HasMark t x) e h
+
+-- marks that are what is asked suit the kinds that are asked
+pub met_suited : (a : Mat) (asked marks : List Bits) → length asked ≡ word_count a → AreMet asked marks → AreSuited (kinds_of a asked) marks
+met_suited a asked marks count met = λ k lt x h.
+    let at : k < width a = omega (arith, lt, kinds_long a asked) in
+    subst (λ (t : Kind). HasKind t x) (sym (kind_asked a asked k at)) (met_kind (mark_at asked k) (mark_at marks k) x (met k (omega (arith, at, count))) h)
 
 -- suitable marks make a solution
 pub suited_solution : (a : Mat) (kinds : List Kind) (marks : List Bits) → length kinds ≡ width a → AreRowMarks a marks → AreSuited kinds marks → (x : List ℤ) × IsSolution a kinds x
@@ -260,9 +277,3 @@ suited_solution a kinds marks long m suited = (
     },
   ),
 )
-
--- inside a list, what stands for a member past its end does not matter
-pub same_or : (xs : List Kind) (k : ℕ) (d e : Kind) → k < length xs → get_or xs k d ≡ get_or xs k e
-same_or [] k d e lt = absurd (omega (arith, lt))
-same_or (x ∷ xs) zero d e lt = refl
-same_or (x ∷ xs) (suc k) d e lt = same_or xs k d e (omega (arith, lt))

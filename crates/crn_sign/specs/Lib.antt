@@ -1,3 +1,4 @@
 pub mod Search
 pub mod Settled
+pub mod Options
 pub mod Inner

@@ -1,9 +1,12 @@
-ghost use Rattle.std.specs.Prelude.{◌≡◌, ◌≢◌, ◌<◌, ◌≤◌, ◌+◌, ◌*◌, ℕ, length};
+ghost use Rattle.std.specs.Prelude.{◌≡◌, ◌≢◌, ◌<◌, ◌≤◌, ◌+◌, ◌*◌, ◌++◌, ◌∷◌, [], ℕ, List, length};
 ghost use Rattle.std.specs.Int.{bit_at};
+ghost use Rattle.crn_vec.specs.Systems.{one_if};
+ghost use Rattle.crn_sign.specs.Options.{AreBitsOf};
 ghost use Rattle.crn_sign.specs.Inner.Bits.{IsMarked, mark_at, mark_in, mark_of};
 
 use crate::marks::Mark;
-use crn_vec::NoMemory;
+use crate::problem::Asked;
+use crn_vec::{NoMemory, Sign};
 
 /// The marks of 64 coordinates: where a number may be positive, and where it may be negative. A
 /// coordinate of neither is 0, and one of both has any sign.
@@ -11,8 +14,10 @@ use crn_vec::NoMemory;
 /// The signs of a vector are such marks, and so are the kinds that are asked, where a coordinate of
 /// neither is free and one of both is 0.
 #[derive(Clone, Copy)]
-pub(crate) struct Bits {
+pub struct Bits {
+    /// The coordinates that may be positive.
     pub plus: u64,
+    /// The coordinates that may be negative.
     pub minus: u64,
 }
 
@@ -81,6 +86,71 @@ fn with_mark(bits: Bits, i: usize, mark: Mark) -> Bits
             minus: with_bit(bits.minus, i),
         },
     }
+}
+
+// The word with a bit that is 1 or 0.
+fn put_bit(word: u64, i: usize, is_set: bool) -> u64
+    requires { i < 64 }
+    ensures here { bit_at result i ≡ one_if is_set }
+    ensures others { (j : ℕ) → j < 64 → j ≢ i → bit_at result j ≡ bit_at word j }
+{
+    if is_set {
+        with_bit(word, i)
+    } else {
+        without_bit(word, i)
+    }
+}
+
+// The marks of 64 coordinates with what is asked of one of them.
+fn with_asked(bits: Bits, i: usize, asked: Asked) -> Bits
+    requires { i < 64 }
+    ensures here { mark_in result i ≡ mark_of (one_if asked.plus) (one_if asked.minus) }
+    ensures others { (j : ℕ) → j < 64 → j ≢ i → mark_in result j ≡ mark_in bits j }
+{
+    Bits {
+        plus: put_bit(bits.plus, i, asked.plus),
+        minus: put_bit(bits.minus, i, asked.minus),
+    }
+}
+
+/// Asks this of a coordinate.
+pub(crate) fn put_asked(words: &mut [Bits], k: usize, asked: Asked)
+    requires { k < length words.old * 64 }
+    ensures { IsMarked words.old k (mark_of (one_if asked.plus) (one_if asked.minus)) words.new }
+{
+    words[k / 64] = with_asked(words[k / 64], k % 64, asked);
+}
+
+/// The bits of the first signs of a list with one more sign, which had so many before.
+pub fn with_sign(bits: Bits, count: usize, sign: Sign) -> Bits
+    ensures { (signs : List Sign) → AreBitsOf bits signs → length signs ≡ count
+        → AreBitsOf result (signs ++ sign ∷ []) }
+{
+    if count >= 64 {
+        return bits;
+    }
+    match sign {
+        Sign::Zero => bits,
+        Sign::Plus => Bits {
+            plus: with_bit(bits.plus, count),
+            minus: bits.minus,
+        },
+        Sign::Minus => Bits {
+            plus: bits.plus,
+            minus: with_bit(bits.minus, count),
+        },
+    }
+}
+
+/// The bits of the first signs of a list.
+pub fn bits_of_signs(signs: &[Sign]) -> Bits
+    ensures { AreBitsOf result signs.now }
+{
+    let mut bits = NONE;
+    for k in 0..signs.len() {
+        bits = with_sign(bits, k, signs[k]);
+    }
+    bits
 }
 
 /// The mark of a coordinate.

@@ -14,8 +14,9 @@ mod problem;
 mod signs;
 mod walk;
 
+pub use bits::{Bits, bits_of_signs, with_sign};
 pub use end::SearchEnd;
 pub use fault::SearchStop;
-pub use problem::{SignProblem, coordinates};
+pub use problem::{Asked, FREE, SignProblem, asked_of_sign, coordinates};
 pub use signs::Signs;
 pub use walk::search;

@@ -1,12 +1,13 @@
-ghost use Rattle.std.specs.Prelude.{◌≡◌, ◌<◌, ◌*◌, ℕ, length, true, IsTrue};
+ghost use Rattle.std.specs.Prelude.{◌≡◌, ◌<◌, ◌*◌, ℕ, length, true, IsTrue, IfOk};
 ghost use Rattle.std.specs.Int.{bit_at};
 ghost use Rattle.crn_vec.specs.Elementary.{width};
 ghost use Rattle.crn_sign.specs.Inner.RowSigns.{AreRowSigns};
 ghost use Rattle.crn_sign.specs.Inner.Bits.{mark_at, mark_in, none, word_at, word_count};
-ghost use Rattle.crn_sign.specs.Inner.Marks.{AreAsked, AreMadeBy, AreMet, AreOpposite, AreRowMarks, Meets, Suits, joined, kind_mark, laid, negative, sign_mark, sign_there};
+ghost use Rattle.crn_sign.specs.Inner.Marks.{AreMadeBy, AreMet, AreOpposite, AreRowMarks, Meets, joined, kind_of_mark, kinds_of, laid, negative, sign_mark, sign_there};
 
 use crate::bits::{Bits, NONE, mark_at, put_mark};
-use crn_vec::{Kind, Matrix, Sign};
+use crn_vec::{Kind, Matrix, NoMemory, Sign};
+use std::alloc::Global;
 
 /// What is known of the sign of a number.
 #[derive(Clone, Copy, PartialEq, Eq)]
@@ -45,8 +46,8 @@ fn joined(one: Bits, other: Bits) -> Bits
     }
 }
 
-// The marks of the negatives.
-fn opposite(one: Bits) -> Bits
+/// The marks of the negatives.
+pub(crate) fn opposite(one: Bits) -> Bits
     ensures { (i : ℕ) → mark_in result i ≡ negative (mark_in one i) }
 {
     Bits {
@@ -62,19 +63,6 @@ pub(crate) fn misfits(asked: Bits, marks: Bits) -> u64
     let plus = ((asked.plus | asked.minus) ^ asked.minus) ^ marks.plus;
     let minus = ((asked.plus | asked.minus) ^ asked.plus) ^ marks.minus;
     (plus | minus) & (asked.plus | asked.minus)
-}
-
-/// Whether each number of this mark is of this kind.
-pub(crate) fn suits(kind: Kind, mark: Mark) -> bool
-    ensures { IsTrue result → Suits kind mark }
-{
-    match kind {
-        Kind::Free => true,
-        Kind::Pos => mark == Mark::Plus,
-        Kind::Neg => mark == Mark::Minus,
-        Kind::Zero => mark == Mark::Zero,
-        Kind::NonNeg => false,
-    }
 }
 
 /// Whether each mark is what is asked.
@@ -155,27 +143,34 @@ pub(crate) fn put_signs(_matrix: &Matrix, signs: &[Sign], into: &mut [Bits])
     }
 }
 
-/// What a kind asks.
-pub(crate) fn mark_of_kind(kind: Kind) -> Mark
-    ensures { result ≡ kind_mark kind }
+// The kind that a mark asks.
+fn kind_of_mark(mark: Mark) -> Kind
+    ensures { result ≡ kind_of_mark mark }
 {
-    match kind {
-        Kind::Pos => Mark::Plus,
-        Kind::Neg => Mark::Minus,
-        Kind::Free => Mark::Zero,
-        Kind::Zero | Kind::NonNeg => Mark::Any,
+    match mark {
+        Mark::Zero => Kind::Free,
+        Mark::Plus => Kind::Pos,
+        Mark::Minus => Kind::Neg,
+        Mark::Any => Kind::Zero,
     }
 }
 
-/// Puts what the kinds ask.
-pub(crate) fn put_kinds(_matrix: &Matrix, kinds: &[Kind], into: &mut [Bits])
-    requires kinds { length kinds.now ≡ width _matrix.now }
-    requires room { length into.old ≡ word_count _matrix.now }
-    ensures { AreAsked _matrix.now kinds.now into.new }
+/// The kinds that are asked.
+pub(crate) fn kinds_of(
+    alloc: Global,
+    matrix: &Matrix,
+    asked: &[Bits],
+) -> Result<Vec<Kind>, NoMemory>
+    requires { length asked.now ≡ word_count matrix.now }
+    ensures kinds { IfOk result (λ made. made.items ≡ kinds_of matrix.now asked.now) }
+    ensures long { IfOk result (λ made. length made.items ≡ width matrix.now) }
 {
-    for k in 0..kinds.len() {
-        put_mark(into, k, mark_of_kind(kinds[k]));
+    let count = matrix.cols() + matrix.rows();
+    let mut kinds = Vec::with_capacity(alloc, count)?;
+    for k in 0..count {
+        kinds.push(kind_of_mark(mark_at(asked, k)))?;
     }
+    Ok(kinds)
 }
 
 /// Adds a great multiple of a vector of these marks to the vector that is marked.

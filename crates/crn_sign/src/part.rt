@@ -7,20 +7,20 @@ ghost use Rattle.crn_farkas.specs.Decision.{IsTargetStop};
 ghost use Rattle.crn_farkas.specs.Solver.{IsCutBy};
 ghost use Rattle.crn_sign.specs.Inner.RowSigns.{AreRowSigns};
 ghost use Rattle.crn_sign.specs.Inner.Bits.{word_count};
-ghost use Rattle.crn_sign.specs.Inner.Marks.{AreAsked, AreRowMarks, AreSuited};
+ghost use Rattle.crn_sign.specs.Inner.Marks.{AreRowMarks, AreSuited, kinds_of};
 ghost use Rattle.crn_sign.specs.Inner.Parts.{IsFinder, IsPart, IsRuling};
 ghost use Rattle.crn_sign.specs.Inner.Places.{IsPlace};
 
 use crate::bits::{Bits, NONE, mark_at, push_places, put_mark};
 use crate::columns::{Column, columns_of};
 use crate::marks::{
-    Mark, clear, lay, misfits, put_opposites, put_signs, put_zeros, suits, word_count,
+    Mark, clear, kinds_of, lay, misfits, put_opposites, put_signs, put_zeros, word_count,
 };
 use crate::past::{Past, PastCuts, empty_cuts, first_again, keep_cut, share};
 use crate::place::{Place, is_met};
 use crate::pool::Pool;
 use crn_farkas::{Alternative, Cut, Decision, Feasibility, Solver, Stop};
-use crn_vec::{Ints, Kind, Matrix, NoMemory, Sign, cuts_exclude_solutions, is_asked};
+use crn_vec::{Ints, Kind, Matrix, NoMemory, Sign, cuts_exclude_solutions};
 use std::alloc::Global;
 use std::rc::Rc;
 
@@ -28,8 +28,7 @@ use std::rc::Rc;
 ///
 /// The signs are the last that the solver wrote, the ray has them as marks, and the negative those of
 /// its negative. What is wanted are the kinds of the system. The misfits are coordinates whose marks
-/// did not suit their kinds, and asked is what is asked of a vector that changes these, aside the same
-/// as kinds.
+/// did not suit their kinds, and asked is what is asked of a vector that changes these.
 #[derive(Drop)]
 pub(crate) struct Finder {
     pub solver: Solver,
@@ -39,7 +38,6 @@ pub(crate) struct Finder {
     pub negative: Vec<Bits>,
     pub wanted: Vec<Bits>,
     pub asked: Vec<Bits>,
-    pub aside: Vec<Kind>,
     pub misfits: Vec<usize>,
 }
 
@@ -52,12 +50,11 @@ pub(crate) struct Part {
     pub columns: Vec<Column>,
 }
 
-// The sign that a coordinate of this kind has to have, if any.
+// The sign of the numbers of a kind that is positive or negative.
 fn sign_of_kind(kind: Kind) -> Sign {
     match kind {
         Kind::Pos => Sign::Plus,
-        Kind::Neg => Sign::Minus,
-        _ => Sign::Zero,
+        _ => Sign::Minus,
     }
 }
 
@@ -75,7 +72,6 @@ impl Finder {
             negative: vec![in alloc; NONE; words]?,
             wanted: vec![in alloc; NONE; words]?,
             asked: vec![in alloc; NONE; words]?,
-            aside: vec![in alloc; Kind::Free; count]?,
             misfits: Vec::new(alloc),
         })
     }
@@ -98,20 +94,22 @@ impl Finder {
         &mut self,
         alloc: Global,
         matrix: &Matrix,
-        kinds: &[Kind],
+        bits: &[Bits],
         g: usize,
     ) -> Result<Option<Cut>, Stop>
         requires finder { IsFinder matrix.now self.old }
-        requires kinds { length kinds.now ≡ width matrix.now }
-        requires goal { g < length kinds.now }
-        requires asked { is_signed (kind_at kinds.now g) ≡ true }
+        requires bits { length bits.now ≡ word_count matrix.now }
+        requires goal { g < width matrix.now }
+        requires asked { is_signed (kind_at (kinds_of matrix.now bits.now) g) ≡ true }
         ensures finder { OnOk result (IsFinder matrix.now self.new) }
         ensures answer { MatchResult result
             (λ o. MatchOption o (AreRowMarks matrix.now self.new.ray.items)
-            (λ cut. IsCutBy self.new.solver.matrix self.new.solver.basis kinds.now cut.row
-            cut.sign)) (λ s. IsTargetStop matrix.now kinds.now s) }
+            (λ cut. IsCutBy self.new.solver.matrix self.new.solver.basis
+            (kinds_of matrix.now bits.now) cut.row cut.sign))
+            (λ s. IsTargetStop matrix.now (kinds_of matrix.now bits.now) s) }
     {
-        match self.solver.alternative(kinds, g, &mut self.signs) {
+        let kinds = kinds_of(alloc, matrix, bits)?;
+        match self.solver.alternative(&kinds, g, &mut self.signs) {
             Ok(Alternative::Cut(cut)) => Ok(Some(cut)),
             Ok(Alternative::Witness) => {
                 self.learn(alloc, matrix)?;
@@ -127,32 +125,31 @@ impl Finder {
         &mut self,
         alloc: Global,
         matrix: &Matrix,
-        kinds: &[Kind],
+        bits: &[Bits],
         marks: &mut [Bits],
         g: usize,
+        sign: Sign,
     ) -> Result<Option<Cut>, Stop>
         requires finder { IsFinder matrix.now self.old }
-        requires kinds { length kinds.now ≡ width matrix.now }
+        requires bits { length bits.now ≡ word_count matrix.now }
         requires marks { AreRowMarks matrix.now marks.old }
-        requires goal { g < length kinds.now }
-        requires asked { is_signed (kind_at kinds.now g) ≡ true }
+        requires goal { g < width matrix.now }
+        requires asked { is_signed (kind_at (kinds_of matrix.now bits.now) g) ≡ true }
         ensures finder { OnOk result (IsFinder matrix.now self.new) }
         ensures marks { OnOk result (AreRowMarks matrix.now marks.new) }
         ensures answer { MatchResult result
             (λ o. MatchOption o (Unit {0})
-            (λ cut. IsCutBy self.new.solver.matrix self.new.solver.basis kinds.now cut.row
-            cut.sign)) (λ s. IsTargetStop matrix.now kinds.now s) }
+            (λ cut. IsCutBy self.new.solver.matrix self.new.solver.basis
+            (kinds_of matrix.now bits.now) cut.row cut.sign))
+            (λ s. IsTargetStop matrix.now (kinds_of matrix.now bits.now) s) }
     {
-        if let Some(number) = self
-            .pool
-            .find(matrix, &self.wanted, g, sign_of_kind(kinds[g]))
-        {
+        if let Some(number) = self.pool.find(matrix, &self.wanted, g, sign) {
             if number < self.pool.rays.len() {
                 lay(matrix, &self.pool.rays[number].marks, marks);
                 return Ok(None);
             }
         }
-        if let Some(cut) = self.ask(alloc, matrix, kinds, g)? {
+        if let Some(cut) = self.ask(alloc, matrix, bits, g)? {
             return Ok(Some(cut));
         }
         lay(matrix, &self.ray, marks);
@@ -164,28 +161,31 @@ impl Finder {
         &mut self,
         alloc: Global,
         matrix: &Matrix,
-        kinds: &[Kind],
+        bits: &[Bits],
         marks: &mut [Bits],
         g: usize,
     ) -> Result<Option<Cut>, Stop>
         requires finder { IsFinder matrix.now self.old }
-        requires kinds { length kinds.now ≡ width matrix.now }
+        requires bits { length bits.now ≡ word_count matrix.now }
         requires marks { AreRowMarks matrix.now marks.old }
-        requires goal { g < length kinds.now }
+        requires goal { g < width matrix.now }
         ensures finder { OnOk result (IsFinder matrix.now self.new) }
         ensures marks { OnOk result (AreRowMarks matrix.now marks.new) }
         ensures answer { MatchResult result
             (λ o. MatchOption o (Unit {0})
-            (λ cut. IsCutBy self.new.solver.matrix self.new.solver.basis kinds.now cut.row
-            cut.sign)) (λ s. IsTargetStop matrix.now kinds.now s) }
+            (λ cut. IsCutBy self.new.solver.matrix self.new.solver.basis
+            (kinds_of matrix.now bits.now) cut.row cut.sign))
+            (λ s. IsTargetStop matrix.now (kinds_of matrix.now bits.now) s) }
     {
-        if suits(kinds[g], mark_at(marks, g)) {
+        let asked = mark_at(bits, g);
+        if mark_at(marks, g) == asked {
             return Ok(None);
         }
-        if !is_asked(kinds[g]) {
-            return Ok(None);
+        match asked {
+            Mark::Plus => self.raise(alloc, matrix, bits, marks, g, Sign::Plus),
+            Mark::Minus => self.raise(alloc, matrix, bits, marks, g, Sign::Minus),
+            _ => Ok(None),
         }
-        self.raise(alloc, matrix, kinds, marks, g)
     }
 
     // Sees to the signs of the misfits, or finds a vector by which the system has no solution.
@@ -193,24 +193,25 @@ impl Finder {
         &mut self,
         alloc: Global,
         matrix: &Matrix,
-        kinds: &[Kind],
+        bits: &[Bits],
         marks: &mut [Bits],
     ) -> Result<Option<Cut>, Stop>
         requires finder { IsFinder matrix.now self.old }
-        requires kinds { length kinds.now ≡ width matrix.now }
+        requires bits { length bits.now ≡ word_count matrix.now }
         requires marks { AreRowMarks matrix.now marks.old }
         ensures finder { OnOk result (IsFinder matrix.now self.new) }
         ensures marks { OnOk result (AreRowMarks matrix.now marks.new) }
         ensures answer { MatchResult result
             (λ o. MatchOption o (Unit {0})
-            (λ cut. IsCutBy self.new.solver.matrix self.new.solver.basis kinds.now cut.row
-            cut.sign)) (λ s. IsTargetStop matrix.now kinds.now s) }
+            (λ cut. IsCutBy self.new.solver.matrix self.new.solver.basis
+            (kinds_of matrix.now bits.now) cut.row cut.sign))
+            (λ s. IsTargetStop matrix.now (kinds_of matrix.now bits.now) s) }
     {
         for i in 0..self.misfits.len() {
             if i < self.misfits.len() {
                 let g = self.misfits[i];
-                if g < kinds.len() {
-                    if let Some(cut) = self.raise_at(alloc, matrix, kinds, marks, g)? {
+                if g < self.signs.len() {
+                    if let Some(cut) = self.raise_at(alloc, matrix, bits, marks, g)? {
                         return Ok(Some(cut));
                     }
                 }
@@ -236,8 +237,9 @@ impl Finder {
             → AreRowMarks matrix.now self.new.ray.items) }
         ensures stop { IfErr result (λ s. (kinds : List Kind) → IsTargetStop matrix.now kinds s) }
     {
-        self.aside[g] = kind;
-        match self.solver.alternative(&self.aside, g, &mut self.signs) {
+        let mut kinds = kinds_of(alloc, matrix, &self.asked)?;
+        kinds[g] = kind;
+        match self.solver.alternative(&kinds, g, &mut self.signs) {
             Ok(Alternative::Witness) => {
                 self.learn(alloc, matrix)?;
                 Ok(true)
@@ -427,16 +429,6 @@ impl Finder {
         Ok(zeros != 0)
     }
 
-    // Frees the misfits for vectors that change them.
-    fn loosen(&mut self, _matrix: &Matrix, kinds: &[Kind])
-        requires finder { IsFinder _matrix.now self.old }
-        requires kinds { length kinds.now ≡ width _matrix.now }
-        ensures finder { IsFinder _matrix.now self.new }
-    {
-        self.aside.copy_from_slice(kinds);
-        free_at(&mut self.aside, &self.misfits);
-    }
-
     // Makes the marked vector 0 at a misfit that has to be. The answer is whether there are vectors for it.
     fn clear_misfit(
         &mut self,
@@ -456,7 +448,6 @@ impl Finder {
             return Ok(false);
         }
         ask_zero(&mut self.asked, g);
-        self.aside[g] = Kind::Zero;
         Ok(true)
     }
 
@@ -466,11 +457,11 @@ impl Finder {
         &mut self,
         alloc: Global,
         matrix: &Matrix,
-        kinds: &[Kind],
+        bits: &[Bits],
         marks: &mut [Bits],
     ) -> Result<bool, Stop>
         requires finder { IsFinder matrix.now self.old }
-        requires kinds { length kinds.now ≡ width matrix.now }
+        requires bits { length bits.now ≡ word_count matrix.now }
         requires marks { AreRowMarks matrix.now marks.old }
         ensures finder { OnOk result (IsFinder matrix.now self.new) }
         ensures marks { OnOk result (AreRowMarks matrix.now marks.new) }
@@ -479,7 +470,7 @@ impl Finder {
         for i in 0..self.misfits.len() {
             if i < self.misfits.len() {
                 let g = self.misfits[i];
-                if g < kinds.len() && kinds[g] == Kind::Zero {
+                if g < self.signs.len() && mark_at(bits, g) == Mark::Any {
                     if !self.clear_misfit(alloc, matrix, marks, g)? {
                         return Ok(false);
                     }
@@ -495,27 +486,25 @@ impl Finder {
         &mut self,
         alloc: Global,
         matrix: &Matrix,
-        kinds: &[Kind],
         bits: &[Bits],
         marks: &mut [Bits],
     ) -> Result<Option<Cut>, Stop>
         requires finder { IsFinder matrix.now self.old }
-        requires kinds { length kinds.now ≡ width matrix.now }
         requires bits { length bits.now ≡ word_count matrix.now }
         requires marks { AreRowMarks matrix.now marks.old }
         ensures finder { OnOk result (IsFinder matrix.now self.new) }
         ensures marks { OnOk result (AreRowMarks matrix.now marks.new) }
         ensures answer { MatchResult result
             (λ o. MatchOption o (Unit {0})
-            (λ cut. IsCutBy self.new.solver.matrix self.new.solver.basis kinds.now cut.row
-            cut.sign)) (λ s. IsTargetStop matrix.now kinds.now s) }
+            (λ cut. IsCutBy self.new.solver.matrix self.new.solver.basis
+            (kinds_of matrix.now bits.now) cut.row cut.sign))
+            (λ s. IsTargetStop matrix.now (kinds_of matrix.now bits.now) s) }
     {
-        self.loosen(matrix, kinds);
-        if self.clear_misfits(alloc, matrix, kinds, marks)? {
+        if self.clear_misfits(alloc, matrix, bits, marks)? {
             return Ok(None);
         }
         put_zeros(matrix, marks);
-        if let Some(cut) = self.raise_misfits(alloc, matrix, kinds, marks)? {
+        if let Some(cut) = self.raise_misfits(alloc, matrix, bits, marks)? {
             return Ok(Some(cut));
         }
         let _ = self.list_misfits(matrix, bits, marks)?;
@@ -527,40 +516,27 @@ impl Finder {
         &mut self,
         alloc: Global,
         matrix: &Matrix,
-        kinds: &[Kind],
         bits: &[Bits],
         marks: &mut [Bits],
     ) -> Result<Option<Cut>, Stop>
         requires finder { IsFinder matrix.now self.old }
-        requires kinds { length kinds.now ≡ width matrix.now }
         requires bits { length bits.now ≡ word_count matrix.now }
         requires marks { AreRowMarks matrix.now marks.old }
         ensures finder { OnOk result (IsFinder matrix.now self.new) }
         ensures marks { OnOk result (AreRowMarks matrix.now marks.new) }
         ensures answer { MatchResult result
             (λ o. MatchOption o (Unit {0})
-            (λ cut. IsCutBy self.new.solver.matrix self.new.solver.basis kinds.now cut.row
-            cut.sign)) (λ s. IsTargetStop matrix.now kinds.now s) }
+            (λ cut. IsCutBy self.new.solver.matrix self.new.solver.basis
+            (kinds_of matrix.now bits.now) cut.row cut.sign))
+            (λ s. IsTargetStop matrix.now (kinds_of matrix.now bits.now) s) }
     {
         if !self.list_misfits(matrix, bits, marks)? {
-            return self.raise_misfits(alloc, matrix, kinds, marks);
+            return self.raise_misfits(alloc, matrix, bits, marks);
         }
-        if let Some(cut) = self.clear_zeros(alloc, matrix, kinds, bits, marks)? {
+        if let Some(cut) = self.clear_zeros(alloc, matrix, bits, marks)? {
             return Ok(Some(cut));
         }
-        self.raise_misfits(alloc, matrix, kinds, marks)
-    }
-}
-
-// Frees these coordinates.
-fn free_at(kinds: &mut [Kind], places: &[usize])
-    ensures { length kinds.new ≡ length kinds.old }
-{
-    for i in 0..places.len() {
-        let k = places[i];
-        if k < kinds.len() {
-            kinds[k] = Kind::Free;
-        }
+        self.raise_misfits(alloc, matrix, bits, marks)
     }
 }
 
@@ -623,18 +599,17 @@ impl Part {
     fn past_cut(
         &mut self,
         matrix: &Matrix,
-        kinds: &[Kind],
         asked: &[Bits],
         depth: usize,
     ) -> Result<Option<Rc<Ints>>, NoMemory>
         requires part { IsPart matrix.now self.old }
-        requires kinds { length kinds.now ≡ width matrix.now }
+        requires asked { length asked.now ≡ word_count matrix.now }
         ensures part { IsPart matrix.now self.new }
         ensures cut { IfOk result (λ o. MatchOption o (Unit {0})
-            (λ u. IsSmallCut matrix.now kinds.now u.value.list)) }
+            (λ u. IsSmallCut matrix.now (kinds_of matrix.now asked.now) u.value.list)) }
     {
-        if depth < self.past.len() {
-            return first_again(matrix, kinds, asked, &mut self.past[depth]);
+        if depth < self.past.len() && !self.past[depth].trials.is_empty() {
+            return first_again(matrix, asked, &mut self.past[depth]);
         }
         Ok(None)
     }
@@ -656,22 +631,24 @@ impl Part {
         &mut self,
         alloc: Global,
         matrix: &Matrix,
-        kinds: &[Kind],
+        asked: &[Bits],
         cut: &Cut,
         depth: usize,
     ) -> Result<Rc<Ints>, NoMemory>
         requires part { IsPart matrix.now self.old }
-        requires kinds { length kinds.now ≡ width matrix.now }
-        requires cut { IsCutBy self.old.finder.solver.matrix self.old.finder.solver.basis kinds.now
-            cut.now.row cut.now.sign }
+        requires asked { length asked.now ≡ word_count matrix.now }
+        requires cut { IsCutBy self.old.finder.solver.matrix self.old.finder.solver.basis
+            (kinds_of matrix.now asked.now) cut.now.row cut.now.sign }
         ensures part { OnOk result (IsPart matrix.now self.new) }
-        ensures cut { IfOk result (λ u. IsSmallCut matrix.now kinds.now u.value.list) }
+        ensures cut { IfOk result
+            (λ u. IsSmallCut matrix.now (kinds_of matrix.now asked.now) u.value.list) }
     {
-        let u = self.finder.solver.multipliers(kinds, cut)?;
+        let kinds = kinds_of(alloc, matrix, asked)?;
+        let u = self.finder.solver.multipliers(&kinds, cut)?;
         self.keep_columns(alloc, matrix)?;
-        let past = Past::new(alloc, matrix, &self.columns, kinds, u)?;
+        let past = Past::new(alloc, matrix, &self.columns, &kinds, u)?;
         let u = share(&past.multipliers)?;
-        keep_cut(alloc, &mut self.past, matrix, past, depth)?;
+        keep_cut(&mut self.past, matrix, past, depth)?;
         Ok(u)
     }
 
@@ -681,37 +658,39 @@ impl Part {
         &mut self,
         alloc: Global,
         matrix: &Matrix,
-        kinds: &[Kind],
         asked: &[Bits],
         marks: &mut [Bits],
         suits: &mut bool,
         depth: usize,
     ) -> Result<Option<Rc<Ints>>, Stop>
         requires part { IsPart matrix.now self.old }
-        requires asked { AreAsked matrix.now kinds.now asked.now }
+        requires asked { length asked.now ≡ word_count matrix.now }
         requires marks { AreRowMarks matrix.now marks.old }
         requires open { suits.old ≡ false }
         ensures part { OnOk result (IsPart matrix.now self.new) }
         ensures marks { OnOk result (AreRowMarks matrix.now marks.new) }
-        ensures suits { OnOk result (IsTrue suits.new → AreSuited kinds.now marks.new) }
-        ensures answer { MatchResult result (λ u. IsRuling matrix.now kinds.now u)
-            (λ s. IsTargetStop matrix.now kinds.now s) }
+        ensures suits { OnOk result
+            (IsTrue suits.new → AreSuited (kinds_of matrix.now asked.now) marks.new) }
+        ensures answer { MatchResult result
+            (λ u. IsRuling matrix.now (kinds_of matrix.now asked.now) u)
+            (λ s. IsTargetStop matrix.now (kinds_of matrix.now asked.now) s) }
     {
-        if self.finder.serve(matrix, asked, marks) && is_met(matrix, kinds, asked, marks) {
+        if self.finder.serve(matrix, asked, marks) && is_met(matrix, asked, marks) {
             *suits = true;
             return Ok(None);
         }
-        if let Some(cut) = self.finder.seek(alloc, matrix, kinds, asked, marks)? {
-            return Ok(Some(self.learn_cut(alloc, matrix, kinds, &cut, depth)?));
+        if let Some(cut) = self.finder.seek(alloc, matrix, asked, marks)? {
+            return Ok(Some(self.learn_cut(alloc, matrix, asked, &cut, depth)?));
         }
-        if is_met(matrix, kinds, asked, marks) {
+        if is_met(matrix, asked, marks) {
             *suits = true;
             return Ok(None);
         }
-        match self.finder.solver.feasibility(kinds)? {
+        let kinds = kinds_of(alloc, matrix, asked)?;
+        match self.finder.solver.feasibility(&kinds)? {
             Feasibility::Solvable => Ok(None),
             Feasibility::Unsolvable(cut) => {
-                Ok(Some(self.learn_cut(alloc, matrix, kinds, &cut, depth)?))
+                Ok(Some(self.learn_cut(alloc, matrix, asked, &cut, depth)?))
             }
         }
     }
@@ -727,12 +706,12 @@ impl Part {
         requires place { IsPlace matrix.now place.now }
         ensures part { IsPart matrix.now self.new }
         ensures cut { IfOk result (λ o. MatchOption o (Unit {0})
-            (λ u. IsSmallCut matrix.now place.now.kinds.items u.value.list)) }
+            (λ u. IsSmallCut matrix.now (kinds_of matrix.now place.now.asked.items) u.value.list)) }
     {
         if place.suits {
             return Ok(None);
         }
-        let u = self.past_cut(matrix, &place.kinds, &place.asked, depth)?;
+        let u = self.past_cut(matrix, &place.asked, depth)?;
         Ok(u)
     }
 
@@ -751,9 +730,10 @@ impl Part {
         requires place { IsPlace matrix.now place.old }
         ensures part { OnOk result (IsPart matrix.now self.new) }
         ensures place { OnOk result (IsPlace matrix.now place.new) }
-        ensures kinds { OnOk result (place.new.kinds.items ≡ place.old.kinds.items) }
-        ensures answer { MatchResult result (λ u. IsRuling matrix.now place.old.kinds.items u)
-            (λ s. IsTargetStop matrix.now place.old.kinds.items s) }
+        ensures asked { OnOk result (place.new.asked.items ≡ place.old.asked.items) }
+        ensures answer { MatchResult result
+            (λ u. IsRuling matrix.now (kinds_of matrix.now place.old.asked.items) u)
+            (λ s. IsTargetStop matrix.now (kinds_of matrix.now place.old.asked.items) s) }
     {
         if place.suits {
             place.has_solution(matrix);
@@ -762,7 +742,6 @@ impl Part {
         let u = self.decide(
             alloc,
             matrix,
-            &place.kinds,
             &place.asked,
             &mut place.marks,
             &mut place.suits,
@@ -771,19 +750,20 @@ impl Part {
         Ok(u)
     }
 
-    /// A solution of the system of these kinds, which has one.
-    pub fn solution(&mut self, _matrix: &Matrix, kinds: &[Kind]) -> Result<Ints, Stop>
-        requires part { IsPart _matrix.now self.old }
-        requires kinds { length kinds.now ≡ width _matrix.now }
-        requires few { signed_count kinds.now ≤ MAX_SIGNED }
-        requires some { (x : List ℤ) × IsSolution _matrix.now kinds.now x }
-        ensures part { OnOk result (IsPart _matrix.now self.new) }
+    /// A solution of the system of which this is asked, which has one.
+    pub fn solution(&mut self, alloc: Global, matrix: &Matrix, asked: &[Bits]) -> Result<Ints, Stop>
+        requires part { IsPart matrix.now self.old }
+        requires asked { length asked.now ≡ word_count matrix.now }
+        requires few { signed_count (kinds_of matrix.now asked.now) ≤ MAX_SIGNED }
+        requires some { (x : List ℤ) × IsSolution matrix.now (kinds_of matrix.now asked.now) x }
+        ensures part { OnOk result (IsPart matrix.now self.new) }
         ensures answer { MatchResult result
-            (λ x. IsSmallSolution _matrix.now kinds.now x.list)
-            (λ s. IsTargetStop _matrix.now kinds.now s) }
+            (λ x. IsSmallSolution matrix.now (kinds_of matrix.now asked.now) x.list)
+            (λ s. IsTargetStop matrix.now (kinds_of matrix.now asked.now) s) }
     {
+        let kinds = kinds_of(alloc, matrix, asked)?;
         cuts_exclude_solutions();
-        match self.finder.solver.decide(kinds) {
+        match self.finder.solver.decide(&kinds) {
             Ok(Decision::Feasible(x)) => Ok(x),
             Ok(Decision::Infeasible(_)) => unreachable!(),
             Err(stop) => Err(stop),

@@ -1,35 +1,36 @@
-ghost use Rattle.std.specs.Prelude.{◌≡◌, ◌≢◌, ◌<◌, ◌≤◌, ◌+◌, ◌*ℤ◌, ◌↔◌, ℕ, ℤ, List, pos, neg_ℤ, length, drop, false, true, unsigned_abs, IsTrue, IfOk, OnOk, MatchOption};
+ghost use Rattle.std.specs.Prelude.{◌≡◌, ◌<◌, ◌*◌, ◌*ℤ◌, ℕ, ℤ, List, neg_ℤ, length, drop, false, unsigned_abs, IsTrue, IfOk, OnOk, MatchOption};
+ghost use Rattle.std.specs.Int.{bit_at};
 ghost use Rattle.crn_vec.specs.Vectors.{Mat, HasSign, entry, scale};
 ghost use Rattle.crn_vec.specs.Elementary.{InDualSpace, width};
-ghost use Rattle.crn_vec.specs.Systems.{MayWeigh, is_signed};
 ghost use Rattle.crn_vec.specs.declared.limits.TheConstants.{WIDE_ENTRY};
 ghost use Rattle.crn_farkas.specs.Decision.{IsSmallCut, factor};
 ghost use Rattle.crn_sign.specs.Inner.Columns.{AreColumns};
-ghost use Rattle.crn_sign.specs.Inner.Past.{AllWeigh, AreInside, IsPast, SignsBefore, SomeCounts};
+ghost use Rattle.crn_sign.specs.Inner.Bits.{IsMarked, mark_in, word_count};
+ghost use Rattle.crn_sign.specs.Inner.Marks.{kinds_of, sign_mark};
+ghost use Rattle.crn_sign.specs.Inner.Past.{AllWeigh, AreMarksOf, Counts, SomeCounts, Weighs, mark_of_multiple};
 ghost use Rattle.crn_sign.specs.Inner.PastCuts.{AreAllPast, ArePastCuts, IsPastOf};
 
 use crate::bits::{Bits, NONE, put_mark};
 use crate::columns::{Column, column_product};
-use crate::marks::{mark_of_sign, word_count};
+use crate::marks::{mark_of_sign, opposite as negatives_of, word_count};
 use crn_vec::{Ints, Kind, Matrix, NoMemory, Sign, sign_of};
 use std::alloc::Global;
 use std::rc::Rc;
 
-/// Multipliers u that ruled a system out, their negatives, and the places and signs of the list
-/// (-uA, u). The leaves that they rule out share these lists.
+/// Multipliers u that ruled a system out, their negatives, and the marks of the list (-uA, u). The
+/// leaves that they rule out share these lists.
 #[derive(Drop)]
 pub(crate) struct Past {
     pub multipliers: Rc<Ints>,
     pub negatives: Rc<Ints>,
-    pub places: Vec<(usize, Sign)>,
+    pub marks: Vec<Bits>,
 }
 
-/// The number of multipliers, the signs of their list by bits, and the word of these that refused them
-/// and their negatives last. It decides only what is tried, and in which order.
+/// The number of multipliers, and the word of their marks that refused them and their negatives last.
+/// It decides only what is tried, and in which order.
 #[derive(Drop)]
 pub(crate) struct Trial {
     pub number: usize,
-    pub bits: Vec<Bits>,
     pub word: usize,
     pub here: Bits,
 }
@@ -52,65 +53,55 @@ fn opposite(sign: Sign) -> Sign
     }
 }
 
-/// The sign of a number, or of its negative.
-pub(crate) fn sign_of_multiple(sign: Sign, stays: bool) -> Sign
-    ensures { (x : ℤ) → HasSign sign x → HasSign result (factor stays *ℤ x) }
+// The marks of numbers, or of their negatives.
+fn marks_of_multiple(marks: Bits, stays: bool) -> Bits
+    ensures { (i : ℕ) → mark_in result i ≡ mark_of_multiple stays (mark_in marks i) }
 {
-    if stays { sign } else { opposite(sign) }
+    if stays { marks } else { negatives_of(marks) }
 }
 
-// Whether a number of this sign may be weighed at a coordinate of this kind.
-fn may_weigh(kind: Kind, sign: Sign) -> bool
-    ensures { (x : ℤ) → HasSign sign x → (IsTrue result ↔ MayWeigh kind x) }
+// The places of 64 at which numbers of these marks may not be weighed where this is asked.
+fn refused(asked: Bits, marks: Bits) -> u64
+    ensures { (i : ℕ) → bit_at result i ≡ 0 → Weighs (mark_in asked i) (mark_in marks i) }
 {
-    match kind {
-        Kind::Pos | Kind::NonNeg => sign != Sign::Minus,
-        Kind::Neg => sign != Sign::Plus,
-        Kind::Zero => true,
-        Kind::Free => sign == Sign::Zero,
+    ((marks.plus | asked.plus) ^ asked.plus) | ((marks.minus | asked.minus) ^ asked.minus)
+}
+
+// The places of 64 that have to be positive or negative, and at which numbers of these marks are.
+fn counted(asked: Bits, marks: Bits) -> u64
+    ensures { (i : ℕ) → bit_at result i ≡ 1 → Counts (mark_in asked i) (mark_in marks i) }
+{
+    (marks.plus ^ marks.minus) & (asked.plus ^ asked.minus)
+}
+
+// Whether numbers of these marks, or their negatives, may be weighed where this is asked.
+fn all_weigh(asked: &[Bits], marks: &[Bits], stays: bool) -> bool
+    ensures { IsTrue result → AllWeigh asked.now stays marks.now }
+{
+    if asked.len() != marks.len() {
+        return false;
     }
-}
-
-// Whether the kind is positive or negative, and the sign is not zero.
-fn counts(kind: Kind, sign: Sign) -> bool
-    ensures { IsTrue result ↔ ((is_signed kind ≡ true) × (sign ≢ Sign.Zero)) }
-{
-    match kind {
-        Kind::Pos | Kind::Neg => sign != Sign::Zero,
-        _ => false,
-    }
-}
-
-// Whether numbers of these signs, or their negatives, may be weighed at these places.
-fn all_weigh(kinds: &[Kind], places: &[(usize, Sign)], stays: bool) -> bool
-    requires { AreInside (length kinds.now) places.now }
-    ensures { IsTrue result → AllWeigh kinds.now stays places.now }
-{
-    match places {
-        [] => true,
-        [p, rest @ ..] => {
-            if !may_weigh(kinds[p.0], sign_of_multiple(p.1, stays)) {
-                return false;
-            }
-            all_weigh(kinds, rest, stays)
+    for w in 0..asked.len() {
+        if refused(asked[w], marks_of_multiple(marks[w], stays)) != 0 {
+            return false;
         }
     }
+    true
 }
 
 // Whether some place has to be positive or negative.
-fn some_counts(kinds: &[Kind], places: &[(usize, Sign)]) -> bool
-    requires { AreInside (length kinds.now) places.now }
-    ensures { IsTrue result → SomeCounts kinds.now places.now }
+fn some_counts(asked: &[Bits], marks: &[Bits]) -> bool
+    ensures { IsTrue result → SomeCounts asked.now marks.now }
 {
-    match places {
-        [] => false,
-        [p, rest @ ..] => {
-            if counts(kinds[p.0], p.1) {
+    for w in 0..asked.len() {
+        if w < marks.len() {
+            let places = counted(asked[w], marks[w]);
+            if places != 0 {
                 return true;
             }
-            some_counts(kinds, rest)
         }
     }
+    false
 }
 
 // The sign of the list (-uA, u) at a coordinate.
@@ -137,42 +128,33 @@ fn sign_at(
     Ok(sign_of(u[c - cols]))
 }
 
-/// Adds a place with its sign, unless the sign is zero.
-pub(crate) fn note(places: &mut Vec<(usize, Sign)>, c: usize, sign: Sign) -> Result<(), NoMemory>
-    ensures signs { OnOk result ((w : List ℤ) → SignsBefore c places.old.items w
-        → HasSign sign (entry w c) → SignsBefore (c + 1) places.new.items w) }
-    ensures inside { OnOk result ((n : ℕ) → AreInside n places.old.items → c < n
-        → AreInside n places.new.items) }
+// Puts the mark of numbers of a sign.
+fn put_sign(marks: &mut Vec<Bits>, c: usize, sign: Sign)
+    requires { c < length marks.old.items * 64 }
+    ensures { IsMarked marks.old.items c (sign_mark sign) marks.new.items }
 {
-    match sign {
-        Sign::Zero => Ok(()),
-        _ => {
-            places.push((c, sign))?;
-            Ok(())
-        }
-    }
+    put_mark(marks, c, mark_of_sign(sign));
 }
 
-// The places and signs of the list (-uA, u).
-fn places_of(
+// The marks of the list (-uA, u).
+fn marks_of(
     alloc: Global,
     matrix: &Matrix,
     columns: &[Column],
     u: &[i128],
-) -> Result<Vec<(usize, Sign)>, NoMemory>
+) -> Result<Vec<Bits>, NoMemory>
     requires columns { AreColumns matrix.now columns.now }
     requires long { length u.now ≡ length matrix.now.rows }
     requires small { (k : ℕ) → unsigned_abs (entry u.now k) < WIDE_ENTRY }
-    ensures inside { IfOk result (λ made. AreInside (width matrix.now) made.items) }
-    ensures signs { (w : List ℤ) → InDualSpace matrix.now w → drop matrix.now.cols w ≡ u.now
-        → IfOk result (λ made. SignsBefore (width matrix.now) made.items w) }
+    ensures { (w : List ℤ) → InDualSpace matrix.now w → drop matrix.now.cols w ≡ u.now
+        → IfOk result (λ made. AreMarksOf matrix.now w made.items) }
 {
-    let mut places = Vec::new(alloc);
+    let mut marks = vec![in alloc; NONE; word_count(matrix)]?;
     for c in 0..matrix.cols() + matrix.rows() {
         let sign = sign_at(alloc, matrix, columns, u, c)?;
-        note(&mut places, c, sign)?;
+        put_sign(&mut marks, c, sign);
     }
-    Ok(places)
+    Ok(marks)
 }
 
 // The number or its negative.
@@ -230,19 +212,18 @@ impl Past {
         ensures multipliers { IfOk result (λ made. made.multipliers.value ≡ u) }
     {
         Ok(Past {
-            places: places_of(alloc, matrix, columns, u.as_slice())?,
+            marks: marks_of(alloc, matrix, columns, u.as_slice())?,
             negatives: shared(alloc, negatives(alloc, u.as_slice())?)?,
             multipliers: shared(alloc, u)?,
         })
     }
 
-    // Whether the list, or its negative, rules the system of these kinds out.
-    fn rules_out(&self, kinds: &[Kind], stays: bool) -> bool
-        requires { AreInside (length kinds.now) self.now.places.items }
-        ensures weigh { IsTrue result → AllWeigh kinds.now stays self.now.places.items }
-        ensures some { IsTrue result → SomeCounts kinds.now self.now.places.items }
+    // Whether the list, or its negative, rules the system of which this is asked out.
+    fn rules_out(&self, asked: &[Bits], stays: bool) -> bool
+        ensures weigh { IsTrue result → AllWeigh asked.now stays self.now.marks.items }
+        ensures some { IsTrue result → SomeCounts asked.now self.now.marks.items }
     {
-        all_weigh(kinds, &self.places, stays) && some_counts(kinds, &self.places)
+        all_weigh(asked, &self.marks, stays) && some_counts(asked, &self.marks)
     }
 
     // The multipliers, or their negatives.
@@ -259,19 +240,19 @@ impl Past {
         Ok(made)
     }
 
-    /// The multipliers, or their negatives, if they rule the system of these kinds out.
+    /// The multipliers, or their negatives, if they rule the system of which this is asked out.
     pub fn again(
         &self,
         matrix: &Matrix,
-        kinds: &[Kind],
+        asked: &[Bits],
         stays: bool,
     ) -> Result<Option<Rc<Ints>>, NoMemory>
         requires past { IsPastOf matrix.now self.now }
-        requires kinds { length kinds.now ≡ width matrix.now }
+        requires asked { length asked.now ≡ word_count matrix.now }
         ensures { IfOk result (λ o. MatchOption o (Unit {0})
-            (λ u. IsSmallCut matrix.now kinds.now u.value.list)) }
+            (λ u. IsSmallCut matrix.now (kinds_of matrix.now asked.now) u.value.list)) }
     {
-        if self.rules_out(kinds, stays) {
+        if self.rules_out(asked, stays) {
             let u = self.multiple(matrix, stays)?;
             return Ok(Some(u));
         }
@@ -282,19 +263,6 @@ impl Past {
 // Whether numbers of these signs may not be weighed where this is asked.
 fn is_refused(asked: Bits, plus: u64, minus: u64) -> bool {
     ((plus & !asked.plus) | (minus & !asked.minus)) != 0
-}
-
-// Whether some place has to be positive or negative.
-fn some_count(asked: &[Bits], bits: &[Bits]) -> bool {
-    if asked.len() != bits.len() {
-        return false;
-    }
-    for w in 0..asked.len() {
-        if (bits[w].plus | bits[w].minus) & (asked[w].plus ^ asked[w].minus) != 0 {
-            return true;
-        }
-    }
-    false
 }
 
 // Whether the multipliers, or their negatives, may be weighed at all places.
@@ -313,18 +281,6 @@ fn are_near(asked: &[Bits], bits: &[Bits]) -> (bool, bool) {
         }
     }
     (near, negatives_near)
-}
-
-// The marks of the signs of a list.
-fn bits_of(alloc: Global, places: &[(usize, Sign)], count: usize) -> Result<Vec<Bits>, NoMemory> {
-    let mut bits = vec![in alloc; NONE; count]?;
-    for i in 0..places.len() {
-        let p = &places[i];
-        if p.0 / 64 < bits.len() {
-            put_mark(&mut bits, p.0, mark_of_sign(p.1));
-        }
-    }
-    Ok(bits)
 }
 
 /// Lists for prefixes with no choice, with one, and so on, to all of them.
@@ -351,22 +307,19 @@ pub(crate) fn empty_cuts(
 
 /// Keeps what ruled a system of a prefix of this length out.
 pub(crate) fn keep_cut(
-    alloc: Global,
     past: &mut [PastCuts],
-    matrix: &Matrix,
+    _matrix: &Matrix,
     cut: Past,
     depth: usize,
 ) -> Result<(), NoMemory>
-    requires past { ArePastCuts matrix.now past.old }
-    requires cut { IsPastOf matrix.now cut }
-    ensures { OnOk result (ArePastCuts matrix.now past.new) }
+    requires past { ArePastCuts _matrix.now past.old }
+    requires cut { IsPastOf _matrix.now cut }
+    ensures { OnOk result (ArePastCuts _matrix.now past.new) }
 {
     if depth < past.len() {
         let number = past[depth].items.len();
-        let bits = bits_of(alloc, &cut.places, word_count(matrix))?;
         past[depth].trials.push(Trial {
             number,
-            bits,
             word: 0,
             here: NONE,
         })?;
@@ -386,48 +339,63 @@ fn are_refused_again(asked: &[Bits], trial: &Trial) -> bool {
 }
 
 // Keeps a word that refuses multipliers and their negatives, if one does.
-fn keep_refusing(asked: &[Bits], trial: &mut Trial) {
+fn keep_refusing(asked: &[Bits], marks: &[Bits], trial: &mut Trial) {
     for w in 0..asked.len() {
-        if w < trial.bits.len() && are_refused(asked[w], trial.bits[w]) {
+        if w < marks.len() && are_refused(asked[w], marks[w]) {
             trial.word = w;
-            trial.here = trial.bits[w];
+            trial.here = marks[w];
             return;
         }
     }
 }
 
+// Whether the multipliers may rule a system out as they are, or their negatives, if either may. It is
+// apart from the loop over trials, most of which are refused again.
+#[inline(never)]
+fn near(asked: &[Bits], past: &[Past], trial: &mut Trial) -> Option<bool> {
+    let number = trial.number;
+    if number < past.len() {
+        let marks = &past[number].marks;
+        let (near, negatives_near) = are_near(asked, marks);
+        if (near | negatives_near) && some_counts(asked, marks) {
+            return Some(near);
+        }
+        keep_refusing(asked, marks, trial);
+    }
+    None
+}
+
 // Which of the multipliers may rule a system out, and whether they stay as they are.
-fn first_near(asked: &[Bits], trials: &mut [Trial]) -> Option<(usize, bool)> {
+fn first_near(asked: &[Bits], past: &[Past], trials: &mut [Trial]) -> Option<(usize, bool)> {
     for i in 0..trials.len() {
         if !are_refused_again(asked, &trials[i]) {
-            let (near, negatives_near) = are_near(asked, &trials[i].bits);
-            if (near | negatives_near) && some_count(asked, &trials[i].bits) {
+            if let Some(stays) = near(asked, past, &mut trials[i]) {
                 let number = trials[i].number;
                 trials.swap(i / 2, i);
-                return Some((number, near));
+                return Some((number, stays));
             }
-            keep_refusing(asked, &mut trials[i]);
         }
     }
     None
 }
 
-/// The first of these multipliers, or of their negatives, that rule the system of these kinds out.
+/// The first of these multipliers, or of their negatives, that rule the system out of which this is
+/// asked.
+#[inline(never)]
 pub(crate) fn first_again(
     matrix: &Matrix,
-    kinds: &[Kind],
     asked: &[Bits],
     past: &mut PastCuts,
 ) -> Result<Option<Rc<Ints>>, NoMemory>
     requires past { AreAllPast matrix.now past.old.items.items }
-    requires kinds { length kinds.now ≡ width matrix.now }
+    requires asked { length asked.now ≡ word_count matrix.now }
     ensures past { past.new.items ≡ past.old.items }
     ensures cut { IfOk result (λ o. MatchOption o (Unit {0})
-        (λ u. IsSmallCut matrix.now kinds.now u.value.list)) }
+        (λ u. IsSmallCut matrix.now (kinds_of matrix.now asked.now) u.value.list)) }
 {
-    if let Some((number, stays)) = first_near(asked, &mut past.trials) {
+    if let Some((number, stays)) = first_near(asked, &past.items, &mut past.trials) {
         if number < past.items.len() {
-            return past.items[number].again(matrix, kinds, stays);
+            return past.items[number].again(matrix, asked, stays);
         }
     }
     Ok(None)

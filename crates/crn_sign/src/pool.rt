@@ -97,8 +97,20 @@ fn has_sign(marks: &[Bits], g: usize, sign: Sign) -> bool {
     false
 }
 
-// The place in a list of the first vector that serves, or the length of the list. The place of an
-// older vector may have gone to another one, which has not this sign at g.
+// Whether a vector has this sign at g, and may be taken everywhere. The place of an older vector may
+// have gone to another one, which has not this sign at g. It is apart from the loop over servers, most
+// of which are refused again.
+#[inline(never)]
+fn takes(asked: &[Bits], rays: &[Ray], server: &mut Server, g: usize, sign: Sign) -> bool {
+    let number = server.number as usize;
+    if number < rays.len() {
+        let marks = &rays[number].marks;
+        return serves(asked, marks, server) && has_sign(marks, g, sign);
+    }
+    false
+}
+
+// The place in a list of the first vector that serves, or the length of the list.
 fn first_serving(
     asked: &[Bits],
     rays: &[Ray],
@@ -107,14 +119,8 @@ fn first_serving(
     sign: Sign,
 ) -> usize {
     for i in 0..servers.len() {
-        if !is_refused_again(asked, &servers[i]) {
-            let number = servers[i].number as usize;
-            if number < rays.len() {
-                let marks = &rays[number].marks;
-                if serves(asked, marks, &mut servers[i]) && has_sign(marks, g, sign) {
-                    return i;
-                }
-            }
+        if !is_refused_again(asked, &servers[i]) && takes(asked, rays, &mut servers[i], g, sign) {
+            return i;
         }
     }
     servers.len()

@@ -1,11 +1,14 @@
 ghost use Rattle.std.specs.Prelude.{◌≡◌, ◌≤◌, ◌<◌, length, IfOk};
 ghost use Rattle.std.specs.List.{range_with_len};
+ghost use Rattle.crn_vec.specs.Concordance.{kind_of_sign};
 ghost use Rattle.crn_vec.specs.Elementary.{width};
 ghost use Rattle.crn_vec.specs.Problems.{Signed, IsPrefix, IsLawful};
 ghost use Rattle.crn_vec.specs.Systems.{kind_at};
+ghost use Rattle.crn_sign.specs.Options.{AreBitsOf, asked_kind};
 ghost use Rattle.crn_sign.specs.Settled.{SettlesOnly};
 
-use crn_vec::{Kind, Matrix, NoMemory, Sign};
+use crate::bits::Bits;
+use crn_vec::{Matrix, NoMemory, Sign};
 use std::alloc::Global;
 
 /// The coordinates of a part with this matrix, counted from 0.
@@ -18,6 +21,31 @@ pub fn coordinates(alloc: Global, matrix: &Matrix) -> Result<Vec<usize>, NoMemor
         made.push(k)?;
     }
     Ok(made)
+}
+
+/// What is asked of a coordinate: a number of the sign that is set, 0 if both are, or nothing.
+#[derive(Clone, Copy)]
+pub struct Asked {
+    /// A positive number, or 0.
+    pub plus: bool,
+    /// A negative number, or 0.
+    pub minus: bool,
+}
+
+/// Nothing is asked.
+pub const FREE: Asked = Asked {
+    plus: false,
+    minus: false,
+};
+
+/// What asks for a number of a sign.
+pub fn asked_of_sign(sign: Sign) -> Asked
+    ensures { asked_kind result ≡ kind_of_sign sign }
+{
+    Asked {
+        plus: sign != Sign::Minus,
+        minus: sign != Sign::Plus,
+    }
 }
 
 /// Choices of signs one after another, each of which fixes more of two linear systems.
@@ -40,29 +68,19 @@ pub trait SignProblem {
     fn matrix_b(&self) -> &Matrix
         ensures { result.now ≡ (signed self.now).matrix_b };
 
-    /// Writes the kinds that a prefix asks of part A: those of the columns, then those of the rows.
-    fn kinds_a(&self, prefix: &[Sign], into: &mut [Kind])
+    /// What a prefix asks of a coordinate of part A, counted from 0. The bits are those of the prefix.
+    fn asked_a(&self, prefix: &[Sign], bits: Bits, k: usize) -> Asked
         requires prefix { IsPrefix (signed self.now) prefix.now }
-        requires room { length into.old ≡ width (signed self.now).matrix_a }
-        ensures { into.new ≡ (signed self.now).kinds_a prefix.now };
-
-    /// Writes the kinds that a prefix asks of part B: those of the columns, then those of the rows.
-    fn kinds_b(&self, prefix: &[Sign], into: &mut [Kind])
-        requires prefix { IsPrefix (signed self.now) prefix.now }
-        requires room { length into.old ≡ width (signed self.now).matrix_b }
-        ensures { into.new ≡ (signed self.now).kinds_b prefix.now };
-
-    /// The kind that a prefix asks of a coordinate of part A, counted from 0.
-    fn kind_a(&self, prefix: &[Sign], k: usize) -> Kind
-        requires prefix { IsPrefix (signed self.now) prefix.now }
+        requires bits { AreBitsOf bits prefix.now }
         requires inside { k < width (signed self.now).matrix_a }
-        ensures { result ≡ kind_at ((signed self.now).kinds_a prefix.now) k };
+        ensures { kind_at ((signed self.now).kinds_a prefix.now) k ≡ asked_kind result };
 
-    /// The kind that a prefix asks of a coordinate of part B, counted from 0.
-    fn kind_b(&self, prefix: &[Sign], k: usize) -> Kind
+    /// What a prefix asks of a coordinate of part B, counted from 0. The bits are those of the prefix.
+    fn asked_b(&self, prefix: &[Sign], bits: Bits, k: usize) -> Asked
         requires prefix { IsPrefix (signed self.now) prefix.now }
+        requires bits { AreBitsOf bits prefix.now }
         requires inside { k < width (signed self.now).matrix_b }
-        ensures { result ≡ kind_at ((signed self.now).kinds_b prefix.now) k };
+        ensures { kind_at ((signed self.now).kinds_b prefix.now) k ≡ asked_kind result };
 
     /// The coordinates of part A whose kinds may change with the last option of a prefix of so many choices, in any order. The
     /// list may be longer: it may have others, too.

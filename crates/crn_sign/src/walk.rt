@@ -7,12 +7,14 @@ ghost use Rattle.crn_vec.specs.declared.limits.TheConstants.{MAX_BUDGET};
 ghost use Rattle.crn_vec.specs.Elementary.{NamesWide};
 ghost use Rattle.crn_vec.specs.Problems.{IsFull, IsFeasible, IsLawful, IsPrefix, all_zero};
 ghost use Rattle.crn_vec.specs.declared.signs.Sign.{Sign};
+ghost use Rattle.crn_sign.specs.Options.{AreBitsOf};
 ghost use Rattle.crn_sign.specs.Search.{IsSearchEnd, IsSearchStop};
 ghost use Rattle.crn_sign.specs.Inner.Walk.{EndsAt, EndsBelow, IsFoundAt, IsLeafAt, IsLeafOrNone, IsWideA, IsWideB, end_of};
 ghost use Rattle.crn_sign.specs.Inner.Parts.{IsRuling};
 ghost use Rattle.crn_sign.specs.Inner.Places.{IsHere};
 ghost use Rattle.crn_sign.specs.Inner.Ready.{AreRooms, HasRooms, IsLevel, IsReady, SamePlace};
 
+use crate::bits::{Bits, NONE, with_sign};
 use crate::end::SearchEnd;
 use crate::fault::SearchStop;
 use crate::part::Part;
@@ -25,12 +27,14 @@ use crn_vec::{Ints, NoMemory, Sign};
 use std::alloc::Global;
 use std::rc::Rc;
 
-/// What a search works with: its two parts, the prefix that is visited, and the visits that are left.
+/// What a search works with: its two parts, the prefix that is visited, the same by bits, and the
+/// visits that are left.
 #[derive(Drop)]
 pub(crate) struct Progress {
     pub a: Part,
     pub b: Part,
     pub prefix: Vec<Sign>,
+    pub bits: Bits,
     pub left: u32,
 }
 
@@ -254,11 +258,11 @@ fn found_end<P: SignProblem>(
         (λ s. IsSearchStop (P.signed problem.now) s) }
 {
     let pattern = Signs::from_slice(alloc, &search.prefix)?;
-    let a = match search.a.solution(problem.matrix_a(), &here.a.kinds) {
+    let a = match search.a.solution(alloc, problem.matrix_a(), &here.a.asked) {
         Ok(a) => a,
         Err(stop) => return Err(wide_a(stop)),
     };
-    let b = match search.b.solution(problem.matrix_b(), &here.b.kinds) {
+    let b = match search.b.solution(alloc, problem.matrix_b(), &here.b.asked) {
         Ok(b) => b,
         Err(stop) => return Err(wide_b(stop)),
     };
@@ -269,16 +273,17 @@ fn found_end<P: SignProblem>(
 }
 
 // What both parts know at a prefix, from what they know at the prefix with one choice less.
-fn enter<P: SignProblem>(problem: &P, prefix: &[Sign], above: &Level, here: &mut Level)
+fn enter<P: SignProblem>(problem: &P, prefix: &[Sign], bits: Bits, above: &Level, here: &mut Level)
     requires lawful { IsLawful (P.signed problem.now) }
     requires prefix { IsPrefix (P.signed problem.now) prefix.now }
+    requires bits { AreBitsOf bits prefix.now }
     requires above { (p : List Sign) × (s : Sign) × (prefix.now ≡ p ++ s ∷ [])
         × IsLevel (P.signed problem.now) p above.now }
     requires room { HasRooms (P.signed problem.now) here.old }
     ensures { IsLevel (P.signed problem.now) prefix.now here.new }
 {
-    enter_a(problem, prefix, &above.a, &mut here.a);
-    enter_b(problem, prefix, &above.b, &mut here.b);
+    enter_a(problem, prefix, bits, &above.a, &mut here.a);
+    enter_b(problem, prefix, bits, &above.b, &mut here.b);
 }
 
 // That a level is that of the prefix, for what is called after this.
@@ -316,13 +321,16 @@ fn child<P: SignProblem>(
         search.old.left search.new.left e)
         (λ s. IsSearchStop (P.signed problem.now) s) }
 {
+    let bits = search.bits;
+    search.bits = with_sign(bits, search.prefix.len(), option);
     search.prefix.push_reserved(option);
     let (first, rest) = levels.split_at_mut(1);
     let here = &mut first[0];
-    enter(problem, &search.prefix, above, here);
+    enter(problem, &search.prefix, search.bits, above, here);
     let end = walk(alloc, problem, search, here, rest)?;
     keeps_room(problem, &search.prefix, here);
     search.prefix.pop();
+    search.bits = bits;
     Ok(end)
 }
 
@@ -430,6 +438,7 @@ pub(crate) fn start<P: SignProblem>(
         a: Part::new(alloc, matrix_a, choices)?,
         b: Part::new(alloc, matrix_b, choices)?,
         prefix: Vec::with_capacity(alloc, choices)?,
+        bits: NONE,
         left: budget,
     })
 }

@@ -2,11 +2,12 @@
 -- Marks: what is known of the signs of a vector (x, Ax), coordinate by coordinate.
 -- Shapes: `marks` and `asked` have the words of a width, and `kinds` and `signs` a member for each
 -- coordinate.
-use Rattle.std.specs.Prelude.{◌≡◌, ◌<◌, ◌*◌, ◌≤ℤ◌, ℕ, ℤ, pos, negsuc, List, length, slice_index_or}
+use Rattle.std.specs.Prelude.{◌≡◌, ◌<◌, ◌*◌, ◌≤ℤ◌, ℕ, ℤ, pos, negsuc, List, length, map, slice_index_or}
+use Rattle.std.specs.List.{range_with_len}
 use Rattle.crn_vec.specs.declared.signs.Sign.{Sign}
 use Rattle.crn_vec.specs.declared.signs.Sign.TheVariants.{Zero as ZeroSign, Plus as PlusSign, Minus as MinusSign}
 use Rattle.crn_vec.specs.declared.signs.Kind.{Kind}
-use Rattle.crn_vec.specs.declared.signs.Kind.TheVariants.{Pos, Neg, NonNeg, Zero as ZeroKind, Free}
+use Rattle.crn_vec.specs.declared.signs.Kind.TheVariants.{Pos, Neg, Zero as ZeroKind, Free}
 use Rattle.crn_vec.specs.Vectors.{Mat, entry}
 use Rattle.crn_vec.specs.Elementary.{width, InRowSpace}
 use Rattle.crn_vec.specs.Systems.{HasKind, kind_at}
@@ -66,13 +67,16 @@ sign_mark ZeroSign = Zero
 sign_mark PlusSign = Plus
 sign_mark MinusSign = Minus
 
--- what a kind requires: nothing, a sign, or 0
-abbrev pub kind_mark : Kind → Mark
-kind_mark Pos = Plus
-kind_mark Neg = Minus
-kind_mark NonNeg = Any
-kind_mark ZeroKind = Any
-kind_mark Free = Zero
+-- the kind that a mark asks: any number, a positive or a negative one, or 0
+abbrev pub kind_of_mark : Mark → Kind
+kind_of_mark Zero = Free
+kind_of_mark Plus = Pos
+kind_of_mark Minus = Neg
+kind_of_mark Any = ZeroKind
+
+-- the kinds that are asked of the coordinates of a matrix
+unfoldable pub kinds_of : Mat → List Bits → List Kind
+kinds_of a asked = map (λ k. kind_of_mark (mark_at asked k)) (range_with_len 0 (width a))
 
 -- each mark is made of those of two lists at its coordinate
 pub record AreMadeBy (f : Mark → Mark → Mark) (one old new : List Bits) : Type 0 where
@@ -102,16 +106,6 @@ Meets Any mark = mark ≡ Zero
 -- each mark is what is required at its coordinate
 abbrev pub AreMet : List Bits → List Bits → Type 0
 AreMet asked marks = (k : ℕ) → k < length asked * 64 → Meets (mark_at asked k) (mark_at marks k)
-
--- what is asked is what the kinds require
-abbrev pub AreMarksOf : List Kind → List Bits → Type 0
-AreMarksOf kinds asked = (k : ℕ) → k < length kinds → mark_at asked k ≡ kind_mark (kind_at kinds k)
-
--- what is asked of the coordinates of a matrix is what the kinds require
-pub record AreAsked (a : Mat) (kinds : List Kind) (asked : List Bits) : Type 0 where
-  pub long : length kinds ≡ width a
-  pub count : length asked ≡ word_count a
-  pub each : AreMarksOf kinds asked
 
 -- each number of this mark is of this kind
 abbrev pub Suits : Kind → Mark → Type 0

@@ -25,7 +25,6 @@ pub record IsFinder (a : Mat) (f : Finder) : Type 0 where
   pub negative : length f.negative.items ≡ word_count a
   pub wanted : length f.wanted.items ≡ word_count a
   pub asked : length f.asked.items ≡ word_count a
-  pub aside : length f.aside.items ≡ width a
 
 -- what was found is of this matrix
 pub record IsPart (a : Mat) (p : Part) : Type 0 where

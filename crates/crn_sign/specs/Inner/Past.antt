@@ -1,45 +1,48 @@
 -- For the contracts of private functions alone.
--- What is kept of past decisions of a part: multipliers u, and the places and signs of the list
--- (-uA, u).
--- Shapes: a place is a coordinate, counted from 0, and the sign of the list there.
-use Rattle.std.specs.Prelude.{◌≡◌, ◌≢◌, ◌<◌, ◌*ℤ◌, ◌⊎◌, ℕ, ℤ, pos, Bool, true, List, map, drop, unsigned_abs}
-use Rattle.std.specs.List.{AllByRecursion}
+-- What is kept of past decisions of a part: multipliers u, and the marks of the list (-uA, u).
+-- Shapes: `asked` and `marks` have the words of a width.
+use Rattle.std.specs.Prelude.{◌≡◌, ◌≢◌, ◌<◌, ◌*◌, ℕ, ℤ, pos, Bool, true, false, List, drop, length, unsigned_abs}
 use Rattle.crn_vec.specs.declared.limits.TheConstants.{WIDE_ENTRY}
-use Rattle.crn_vec.specs.declared.signs.Sign.{Sign}
-use Rattle.crn_vec.specs.declared.signs.Sign.TheVariants.{Zero}
-use Rattle.crn_vec.specs.declared.signs.Kind.{Kind}
-use Rattle.crn_vec.specs.Vectors.{Mat, entry, HasSign}
-use Rattle.crn_vec.specs.Lists.{IsIn}
-use Rattle.crn_vec.specs.Elementary.{width, InDualSpace}
-use Rattle.crn_vec.specs.Systems.{MayWeigh, kind_at, is_signed}
-use Rattle.crn_farkas.specs.Decision.{factor}
+use Rattle.crn_vec.specs.Vectors.{Mat, entry}
+use Rattle.crn_vec.specs.Elementary.{InDualSpace}
+use Rattle.crn_vec.specs.Systems.{MayWeigh, is_signed}
+use Rattle.crn_sign.specs.declared.bits.Bits.{Bits}
+use Rattle.crn_sign.specs.declared.marks.Mark.{Mark}
+use Rattle.crn_sign.specs.Inner.Bits.{mark_at, word_count}
+use Rattle.crn_sign.specs.Inner.Marks.{HasMark, kind_of_mark, negative}
 
--- the places are below n
-abbrev pub AreInside : ℕ → List (ℕ × Sign) → Type 0
-AreInside n places = AllByRecursion (λ p. p.0 < n) places
+-- the marks of a list, which has no number but 0 past its end
+pub record AreMarksOf (a : Mat) (w : List ℤ) (marks : List Bits) : Type 0 where
+  pub long : length marks ≡ word_count a
+  pub are : (k : ℕ) → HasMark (mark_at marks k) (entry w k)
 
--- the places hold the signs of a list, which is 0 at its other places before c
-pub record SignsBefore (c : ℕ) (places : List (ℕ × Sign)) (v : List ℤ) : Type 0 where
-  pub each : AllByRecursion (λ p. HasSign p.1 (entry v p.0)) places
-  pub rest : (k : ℕ) → k < c → IsIn k (map (λ p. p.0) places) ⊎ (entry v k ≡ pos 0)
-
--- multipliers below the bound, and the signs of the list (-uA, u)
-pub record IsPast (a : Mat) (u : List ℤ) (places : List (ℕ × Sign)) : Type 0 where
+-- multipliers below the bound, and the marks of the list (-uA, u)
+pub record IsPast (a : Mat) (u : List ℤ) (marks : List Bits) : Type 0 where
   pub w : List ℤ
   pub space : InDualSpace a w
   pub rows : drop a.cols w ≡ u
   pub small : (k : ℕ) → unsigned_abs (entry u k) < WIDE_ENTRY
-  pub inside : AreInside (width a) places
-  pub signs : SignsBefore (width a) places w
+  pub marks_are : AreMarksOf a w marks
 
--- numbers of these signs, or their negatives, may be weighed at these places
-abbrev pub AllWeigh : List Kind → Bool → List (ℕ × Sign) → Type 0
-AllWeigh kinds stays places = AllByRecursion
-    (λ p. (x : ℤ) → HasSign p.1 x → MayWeigh (kind_at kinds p.0) (factor stays *ℤ x)) places
+-- the mark of the number, or of its negative
+abbrev pub mark_of_multiple : Bool → Mark → Mark
+mark_of_multiple true mark = mark
+mark_of_multiple false mark = negative mark
 
--- some place has to be positive or negative
-pub record SomeCounts (kinds : List Kind) (places : List (ℕ × Sign)) : Type 0 where
-  pub p : ℕ × Sign
-  pub member : IsIn p places
-  pub asked : is_signed (kind_at kinds p.0) ≡ true
-  pub some : p.1 ≢ Zero
+-- numbers of a mark may be weighed where this is asked
+abbrev pub Weighs : Mark → Mark → Type 0
+Weighs asked mark = (x : ℤ) → HasMark mark x → MayWeigh (kind_of_mark asked) x
+
+-- a sign is asked, and no number of the mark is 0
+pub record Counts (asked mark : Mark) : Type 0 where
+  pub signed : is_signed (kind_of_mark asked) ≡ true
+  pub some : (x : ℤ) → HasMark mark x → x ≢ pos 0
+
+-- numbers of these marks, or their negatives, may be weighed everywhere
+abbrev pub AllWeigh : List Bits → Bool → List Bits → Type 0
+AllWeigh asked stays marks = (k : ℕ) → k < length asked * 64
+    → Weighs (mark_at asked k) (mark_of_multiple stays (mark_at marks k))
+
+-- some coordinate has to be positive or negative, and numbers of its mark are not 0
+abbrev pub SomeCounts : List Bits → List Bits → Type 0
+SomeCounts asked marks = (k : ℕ) × Counts (mark_at asked k) (mark_at marks k)

@@ -10,7 +10,7 @@ use Rattle.crn_sign.specs.Inner.Past.{IsPast}
 
 -- multipliers that ruled out a system of the matrix, and their negatives
 pub record IsPastOf (a : Mat) (q : Past) : Type 0 where
-  pub past : IsPast a q.multipliers.value.list q.places.items
+  pub past : IsPast a q.multipliers.value.list q.marks.items
   pub negatives : q.negatives.value.list ≡ scale (factor false) q.multipliers.value.list
 
 -- each of these ruled out a system of the matrix

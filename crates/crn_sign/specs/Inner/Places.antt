@@ -10,25 +10,25 @@ use Rattle.crn_vec.specs.Elementary.{width}
 use Rattle.crn_vec.specs.Systems.{kind_at}
 use Rattle.crn_sign.specs.declared.place.Place.{Place}
 use Rattle.crn_sign.specs.Inner.Bits.{mark_at, word_count}
-use Rattle.crn_sign.specs.Inner.Marks.{AreAsked, AreRowMarks, AreSuited, Suits}
+use Rattle.crn_sign.specs.Inner.Marks.{AreRowMarks, AreSuited, kind_of_mark, kinds_of}
 
 -- the lists have room for the coordinates
 pub record HasRoom (a : Mat) (l : Place) : Type 0 where
-  pub kinds : length l.kinds.items ≡ width a
+  pub width_is : l.width ≡ width a
   pub asked : length l.asked.items ≡ word_count a
   pub marks : length l.marks.items ≡ word_count a
 
--- what is asked is what the kinds require, and the marks are of a vector (x, Ax), and suit the kinds if they are said to
+-- the marks are of a vector (x, Ax), and suit the kinds that are asked if they are said to
 pub record IsPlace (a : Mat) (l : Place) : Type 0 where
-  pub long : length l.kinds.items ≡ width a
-  pub asked : AreAsked a l.kinds.items l.asked.items
+  pub width_is : l.width ≡ width a
+  pub asked : length l.asked.items ≡ word_count a
   pub marks : AreRowMarks a l.marks.items
-  pub suits : IsTrue l.suits → AreSuited l.kinds.items l.marks.items
+  pub suits : IsTrue l.suits → AreSuited (kinds_of a l.asked.items) l.marks.items
 
 -- and the kinds are these
 pub record IsHere (a : Mat) (kinds : List Kind) (l : Place) : Type 0 where
   pub place : IsPlace a l
-  pub kinds_are : l.kinds.items ≡ kinds
+  pub kinds_are : kinds_of a l.asked.items ≡ kinds
 
 -- what is known one level above the prefix
 pub record IsNext (a : Mat) (kinds : List Sign → List Kind) (prefix : List Sign) (l : Place)
@@ -38,12 +38,18 @@ pub record IsNext (a : Mat) (kinds : List Sign → List Kind) (prefix : List Sig
   pub prefix_is : prefix ≡ p ++ s ∷ []
   pub here : IsHere a (kinds p) l
 
--- what is known before the kinds at some coordinates are put
+-- the kind of a coordinate is asked, and else all is as before
+pub record IsSettledAt (a : Mat) (kinds : List Kind) (k : ℕ) (old new : Place) : Type 0 where
+  pub width_is : new.width ≡ old.width
+  pub count : length new.asked.items ≡ length old.asked.items
+  pub marks : new.marks.items ≡ old.marks.items
+  pub here : k < width a → kind_of_mark (mark_at new.asked.items k) ≡ kind_at kinds k
+  pub others : (j : ℕ) → (j ≡ k → ⊥) → mark_at new.asked.items j ≡ mark_at old.asked.items j
+
+-- what is known before the kinds at some coordinates are asked
 pub record IsSettling (a : Mat) (kinds : List Kind) (settled : List ℕ) (l : Place) : Type 0 where
-  pub long : length l.kinds.items ≡ width a
-  pub asked : AreAsked a l.kinds.items l.asked.items
+  pub width_is : l.width ≡ width a
+  pub asked : length l.asked.items ≡ word_count a
   pub marks : AreRowMarks a l.marks.items
   pub same : (k : ℕ) → k < width a → (IsIn k settled → ⊥)
-      → kind_at l.kinds.items k ≡ kind_at kinds k
-  pub suits : IsTrue l.suits → (k : ℕ) → k < width a → (IsIn k settled → ⊥)
-      → Suits (kind_at kinds k) (mark_at l.marks.items k)
+      → kind_of_mark (mark_at l.asked.items k) ≡ kind_at kinds k

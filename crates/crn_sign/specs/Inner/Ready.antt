@@ -4,6 +4,7 @@ use Rattle.std.specs.Prelude.{◌≡◌, ◌≤◌, ◌+◌, List, length, vec_c
 use Rattle.std.specs.List.{AllByRecursion}
 use Rattle.crn_vec.specs.declared.signs.Sign.{Sign}
 use Rattle.crn_vec.specs.Problems.{Signed, IsPrefix, IsLawful}
+use Rattle.crn_sign.specs.Options.{AreBitsOf}
 use Rattle.crn_sign.specs.declared.walk.Progress.{Progress}
 use Rattle.crn_sign.specs.declared.walk.Level.{Level}
 use Rattle.crn_sign.specs.Inner.Parts.{IsPart}
@@ -15,6 +16,7 @@ pub record IsReady (w : Signed) (s : Progress) : Type 0 where
   pub part_a : IsPart w.matrix_a s.a
   pub part_b : IsPart w.matrix_b s.b
   pub prefix : IsPrefix w s.prefix.items
+  pub bits : AreBitsOf s.bits s.prefix.items
   pub room : w.choices ≤ vec_capacity s.prefix
 
 -- what both parts know at a prefix

@@ -21,4 +21,4 @@ returns c =
     let left = c.args.left.now in
     let right = c.args.right.now in
     let long : length (minus left right) ≡ length left = length-minus (length left) left right refl c.requires in
-    c.in_ok-row.ensures ∙ c.loop-s.invariant ∙ take_all c.loop-s.s (map sign (minus left right)) (omega (arith, long, c.loop-s-test.false, length-map (minus left right) sign))
+    c.new.ensures ∙ c.loop-s.invariant ∙ take_all c.loop-s.s (map sign (minus left right)) (omega (arith, long, c.loop-s-test.false, length-map (minus left right) sign))

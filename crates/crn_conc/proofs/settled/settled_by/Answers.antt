@@ -1,4 +1,4 @@
-use Rattle.std.proofs.Common.{ℕ, List, [], ◌∷◌, ◌+◌, ◌<◌, inl, inr, get_or, sym, ap, subst, add-one, arith}
+use Rattle.std.proofs.Common.{ℕ, List, [], inl, inr, get_or, sym, subst, arith}
 use Rattle.crn_vec.specs.declared.signs.Sign.{Sign}
 use Rattle.crn_vec.proofs.CallerLemmas.{below_or}
 use Rattle.crn_vec.specs.Lists.{IsIn}

@@ -1,8 +1,3 @@
-use Rattle.std.proofs.Common.{List, [], ◌∷◌, ◌++◌, sym, subst}
-use Rattle.std.specs.List.{AllByRecursion}
-use Rattle.crn_vec.proofs.CallerLemmas.{all_in, all_append}
-use Rattle.crn_conc.specs.declared.settled.Settled.{Settled}
-use Rattle.crn_conc.specs.Inner.Settled.{HasSettled}
 use Rattle.crn_conc.proofs.SettledLaws.{all_put}
 use Rattle.crn_conc.proofs.settled.settled_by_each.Goals as goal
 

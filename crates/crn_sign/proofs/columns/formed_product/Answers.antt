@@ -1,4 +1,4 @@
-use Rattle.std.proofs.Common.{◌≡◌, ◌∙◌, List, ℤ, length, ap, sym}
+use Rattle.std.proofs.Common.{◌∙◌, List, ℤ, length, ap, sym}
 use Rattle.std.specs.Int.{w128}
 use Rattle.std.proofs.lemmas.Int.{to_z-of_z}
 use Rattle.crn_vec.specs.Vectors.{dot}

@@ -1,15 +1,25 @@
-use Rattle.std.proofs.Common.{◌∙◌, sym, arith}
-use Rattle.crn_vec.specs.Problems.{Signed}
-use Rattle.crn_sign.proofs.PlaceLaws.{none_settled, one_settled}
+use Rattle.std.proofs.Common.{refl, sym, ap, ◌∙◌, arith}
+use Rattle.crn_sign.specs.Inner.Marks.{kind_of_mark}
+use Rattle.crn_sign.proofs.PlaceLaws.{asked_mark}
 use Rattle.crn_sign.proofs.place.settle_one_b.Goals as goal
 
-pub returns-then-k-len : goal.returns-then-k-len
-returns-then-k-len g c =
-    let w : Signed = g.P.SignProblem.signed c.args.problem.now in
-    λ rest h. none_settled w.matrix_b (w.kinds_b c.args.prefix.now) c.args.k rest c.args.place.now (omega (arith, c.if-k-len.true, c.len.ensures)) h
+pub put-requires : goal.put-requires
+put-requires g c = omega (arith, c.if-k-place.false, c.requires.room.width_is, c.requires.room.asked)
+
+pub returns-then-k-place : goal.returns-then-k-place
+returns-then-k-place g c = record {
+  width_is = refl;
+  count = refl;
+  marks = refl;
+  here = λ lt. absurd (omega (arith, lt, c.if-k-place.true, c.requires.room.width_is));
+  others = λ j ne. refl;
+}
 
 pub returns : goal.returns
-returns g c =
-    let w : Signed = g.P.SignProblem.signed c.args.problem.now in
-    λ rest h. one_settled w.matrix_b c.args.place.now c.put.new.self c.args.k c.kind_b-kind.result (omega (arith, c.if-k-len.false, c.len.ensures)) c.put.ensures.kinds c.put.ensures.asked c.put.ensures.marks c.put.ensures.suits
-    (w.kinds_b c.args.prefix.now) rest c.kind_b-kind.ensures h
+returns g c = record {
+  width_is = c.put.ensures.width;
+  count = c.put.ensures.asked.count;
+  marks = c.put.ensures.marks;
+  here = λ lt. ap kind_of_mark c.put.ensures.asked.here ∙ asked_mark c.asked_b-asked.result ∙ sym c.asked_b-asked.ensures;
+  others = c.put.ensures.asked.others;
+}

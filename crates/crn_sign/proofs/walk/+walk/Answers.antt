@@ -1,11 +1,12 @@
-use Rattle.std.proofs.Common.{◌≡◌, ◌+◌, List, [], ◌∷◌, ◌++◌, length, refl, sym, ◌∙◌, ap, subst, arith}
+use Rattle.std.proofs.Common.{◌≡◌, ◌+◌, List, [], ◌∷◌, ◌++◌, length, refl, sym, ◌∙◌, ap, subst, arith, rules}
 use Rattle.crn_vec.specs.declared.signs.Sign.TheVariants.{Zero, Plus, Minus}
 use Rattle.crn_cert.specs.Trees.{plan}
 use Rattle.crn_sign.specs.Inner.Walk.{EndsAt, EndsBelow, IsFoundAt}
 use Rattle.crn_vec.specs.declared.signs.Sign.{Sign}
 use Rattle.crn_vec.specs.Problems.{Signed, IsFeasible, all_zero}
+use Rattle.crn_sign.specs.Options.{AreBitsOf}
 use Rattle.crn_sign.specs.Inner.Ready.{AreRooms}
-use Rattle.crn_sign.proofs.PlaceLaws.{level_moved}
+use Rattle.crn_sign.proofs.PlaceLaws.{level_moved, taken_back}
 use Rattle.crn_sign.proofs.Walks.{run_out, feasible_from, flat_at, leaf_at, found_at, opened_at, child_tree, first_child, second_child, third_child, both_trees, three_trees, tree_as}
 use Rattle.crn_sign.proofs.walk.+walk.Goals as goal
 
@@ -110,3 +111,15 @@ pub walk-at_level-requires : goal.walk-at_level-requires
 walk-at_level-requires g t c =
     let w : Signed = g.P.SignProblem.signed c.args.problem.now in
     level_moved w c.args.search.now.prefix.items c.rule_out.new.search.prefix.items c.rule_out.new.here c.in_ok-tree.ensures.place.prefix c.in_ok-tree.ensures.here
+
+pub child-returns-clause-ready : goal.child-returns-clause-ready
+child-returns-clause-ready g t c =
+    let same : c.pop.new.self.items ≡ c.args.search.now.prefix.items =
+    taken_back c.args.search.now.prefix.items c.walk.new.search.prefix.items c.pop.new.self.items c.args.option _ (c.in_ok-end.ensures.prefix ∙ c.push_reserved.ensures.items) (omega (arith, c.walk.new.search.prefix.ok.0)) c.pop.ensures.rest in record {
+      lawful = search rules;
+      part_a = search rules;
+      part_b = search rules;
+      prefix = search rules;
+      bits = subst (λ (p : List Sign). AreBitsOf c.args.search.now.bits p) (sym same) c.requires.ready.bits;
+      room = search rules;
+    }

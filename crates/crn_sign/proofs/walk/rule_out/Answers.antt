@@ -1,4 +1,4 @@
-use Rattle.std.proofs.Common.{◌≡◌, List, ℤ, ◌∙◌, subst}
+use Rattle.std.proofs.Common.{List, ℤ, ◌∙◌, subst}
 use Rattle.crn_vec.specs.declared.signs.Sign.{Sign}
 use Rattle.crn_vec.specs.Problems.{Signed, SolvesA, SolvesB}
 use Rattle.crn_farkas.specs.Decision.{IsSmallCut}

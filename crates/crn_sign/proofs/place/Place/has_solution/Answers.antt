@@ -1,7 +1,9 @@
-use Rattle.crn_sign.proofs.MarkLaws.{suited_solution}
+use Rattle.crn_sign.proofs.MarkLaws.{kinds_long, suited_solution}
+use Rattle.crn_sign.specs.Inner.Marks.{kinds_of}
 use Rattle.crn_sign.proofs.place.Place.has_solution.Goals as goal
 
 pub returns : goal.returns
 returns c =
+    let a = c.args._matrix.now in
     let l = c.args.self.now in
-    suited_solution c.args._matrix.now l.kinds.items l.marks.items c.requires.place.long c.requires.place.marks (c.requires.place.suits c.requires.suits)
+    suited_solution a (kinds_of a l.asked.items) l.marks.items (kinds_long a l.asked.items) c.requires.place.marks (c.requires.place.suits c.requires.suits)

@@ -1,9 +1,0 @@
-use Rattle.std.proofs.Common.{◌∙◌, arith}
-use Rattle.crn_conc.proofs.kinds.row_kind.Goals as goal
-use Rattle.crn_vec.proofs.CallerLemmas.{row_chosen, row_open}
-
-pub returns-then-s-prefix : goal.returns-then-s-prefix
-returns-then-s-prefix c = λ n lt. c.kind_of_option.ensures ∙ row_chosen n c.args.s c.args.prefix.now lt c.if-s-prefix.true
-
-pub returns-else-s-prefix : goal.returns-else-s-prefix
-returns-else-s-prefix c = λ n lt. row_open n c.args.s c.args.prefix.now lt (omega (arith, c.if-s-prefix.false))

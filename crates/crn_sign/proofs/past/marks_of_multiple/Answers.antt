@@ -1,0 +1,10 @@
+use Rattle.std.proofs.Common.{Bool, ap, sym, ◌∙◌}
+use Rattle.crn_sign.specs.Inner.Bits.{mark_in}
+use Rattle.crn_sign.specs.Inner.Past.{mark_of_multiple}
+use Rattle.crn_sign.proofs.past.marks_of_multiple.Goals as goal
+
+pub returns-then-stays : goal.returns-then-stays
+returns-then-stays c = λ i. ap (λ (b : Bool). mark_of_multiple b (mark_in c.args.marks i)) (sym c.if-stays.true)
+
+pub returns-else-stays : goal.returns-else-stays
+returns-else-stays c = λ i. c.opposite.ensures i ∙ ap (λ (b : Bool). mark_of_multiple b (mark_in c.args.marks i)) (sym c.if-stays.false)
