@@ -35,13 +35,13 @@ none_joined q xs ys a b = list_any-append q xs ys ∙ rw (a, b) refl
 
 -- ---- the tokens of the place
 
-blank_no_name : (b : ℕ) → is_blank b ≡ true → is_name_byte b ≡ false
+pub blank_no_name : (b : ℕ) → is_blank b ≡ true → is_name_byte b ≡ false
 blank_no_name b h = grind (arith, nat_tests)
 
 blank_no_digit : (b : ℕ) → is_blank b ≡ true → is_digit b ≡ false
 blank_no_digit b h = grind (arith, nat_tests)
 
-all_blank : (bs : List ℕ) → list_all is_blank bs ≡ true → tokens bs ≡ []
+pub all_blank : (bs : List ℕ) → list_all is_blank bs ≡ true → tokens bs ≡ []
 unfolding tokens_after
 all_blank [] h = refl
 all_blank (b ∷ bs) h = let a = and_parts (is_blank b) (list_all is_blank bs) h in rw a.0 (all_blank bs a.1)

@@ -1,7 +1,6 @@
 -- The places of lines that are remembered, and the loop over the lines with them.
 use Rattle.std.proofs.Common.{◌≡◌, ℕ, zero, suc, ◌+◌, ◌-◌, ◌<◌, ◌≤◌, List, [], ◌∷◌, ◌++◌, length, take, drop, get_or, set, Option, Some, None, Ok, Bor, sym, ap, subst, ◌∙◌, append_assoc, inl, inr, arith, true, false, Bool, not, ◌==◌, if◌then◌else◌, take_while, refl}
 use Rattle.std.specs.Prelude.{◌||◌}
-use Rattle.std.specs.List.{AllByRecursion}
 use Rattle.std.proofs.lemmas.List.{length-append, length-take, get_or-take, take_more}
 use Rattle.std.proofs.Math.Seq.{drop-append_seam, take-append_seam}
 use Rattle.crn_vec.specs.Lists.{IsIn}

@@ -3,4 +3,5 @@ pub mod Pieces
 pub mod Flaws
 pub mod Known
 pub mod Said
+pub mod Held
 pub mod Found

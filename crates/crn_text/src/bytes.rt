@@ -27,7 +27,7 @@ fn is_byte_of_name(byte: u8) -> bool
     is_letter_byte(byte) || is_digit_byte(byte)
 }
 
-fn is_blank_byte(byte: u8) -> bool
+pub(crate) fn is_blank_byte(byte: u8) -> bool
     ensures { result ≡ is_blank byte }
 {
     byte == b' ' || byte == b'\t'
