@@ -108,6 +108,7 @@ def claims(root):
         "numbers": numbers_are_counted(root, documents),
         "definitions": structure.definitions_are_on_the_pages(repository, pages),
         "public definitions": structure.public_definitions_are_on_the_pages(repository, pages),
+        "readers": structure.public_definitions_have_readers(repository),
         "helpers": structure.helpers_are_in_their_files(repository, pages),
         "citations": structure.citations_are_true(repository, pages),
         "reading path": structure.lines_are_counted(repository, pages[0]),

@@ -189,6 +189,8 @@ BREAKS = [
      "IsCount n result", "IsStep n result", "definitions"),
     ("a definition that nothing cites is neither inner nor has a row", VIEW,
      "-- a counter", "-- two\nabbrev pub two : ℕ\ntwo = 2\n\n-- a counter", "public definitions"),
+    ("a definition that nothing cites is no inner one", VIEW,
+     "-- a counter", "-- two\nabbrev pub two : ℕ\ntwo = 2\n\n-- a counter", "readers"),
     ("a definition has no sentence", SPECS, "-- the next number\n", "", "files"),
     ("an inner file does not say so", INNER,
      "-- For the contracts of private functions alone.\n", "", "files"),

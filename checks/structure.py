@@ -70,6 +70,24 @@ def public_definitions_are_on_the_pages(repository, pages):
                     yield f"{definition} has a row, or is an inner definition", definition in named
 
 
+def public_definitions_have_readers(repository):
+    """Each definition outside specs/Inner is reached by a public contract, or by what another crate cites."""
+    starts = dict(repository.cited_by_contracts())
+    for crate in repository.crates.needs:
+        folders = [("src", ".rt"), ("specs", ".antt"), ("proofs", ".antt")]
+        for file in (file for folder, ending in folders for file in repository.files(crate, folder, ending)):
+            for target, _ in repository.imports(file).values():
+                if not target.file.startswith(f"{crate}/") and repository.is_there(target):
+                    starts.setdefault(target, file)
+    reached = repository.reached_from(starts)
+    for crate in repository.crates.needs:
+        for file in repository.files(crate, "specs", ".antt"):
+            for name in repository.definitions(file):
+                definition = Definition(file, name)
+                if not definition.is_inner:
+                    yield f"{definition} is read outside, or is an inner definition", definition in reached
+
+
 def helpers_are_in_their_files(repository, pages):
     """Each helper that a row lists is in a file that the row names."""
     for page in pages:
