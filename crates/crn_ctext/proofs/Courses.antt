@@ -42,7 +42,7 @@ each_is_judged (End next) s at lt = elim (breaks_or_not at 28 (HasMore at) lt (m
   ]
 ]
 
--- where nothing is left no test of a line fails
+-- if nothing is left, no test of a line fails
 end_breaks_none : (at : Place) (code : ℕ) → (HasMore at → ⊥) → BreaksLine at 28 (HasMore at) code → ⊥
 end_breaks_none at code none (document_too_long d) = none (λ e. absurd (let l : length at.left ≡ 0 = ap length e in omega (arith, l, d.2)))
 end_breaks_none at code none (line_too_long d l) = none (λ e. absurd (let n : length at.left ≡ 0 = ap length e in omega (arith, n, l.0)))

@@ -59,7 +59,7 @@ breaks End node n old new bytes rest none d = d
 breaks LineTooLong node n old new bytes rest none d = d
 breaks DocumentTooLong node n old new bytes rest none d = d
 
--- where none came, the course fails first here
+-- if none came, the course fails first here
 pub line_is_missing : (answer : Next) (node : Bool) (n : ℕ) (old new : KeptLines) (before now : SourceSeen) → IsNoLine answer → old.taken < MAX_DOCUMENT → NextGives answer old new before now
     → StepFails (due node) n old before.left now.left n (code_of (early node) answer)
 line_is_missing answer node n old new before now none lt g = record {

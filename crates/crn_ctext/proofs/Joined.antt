@@ -83,7 +83,7 @@ IsTiedFor b q = (known : Known) (earlier : Earlier) (v : Verdict) (p : Proof) �
 
 -- ---- an answer by what it gives for its records and they for it
 
--- the records of each formed answer to the question are formed, and valid if and only if it is, where the verdict on strong classes is true; they say its verdict, and answers with the same records are the same
+-- the records of each formed answer to the question are formed, and valid if and only if it is, if the verdict on strong classes is true; they say its verdict, and answers with the same records are the same
 pub record IsJoinedFor (b : Bool) (q : Question) : Type 1 where
   pub formed : (known : Known) (earlier : Earlier) (v : Verdict) (p : Proof) → AreKnown b known.earlier → IsAlike known earlier → IsFormedOf known.net earlier q v p → IsFormed meaning q known (records q (shapes_of known) (answer v p)) (parts q known (answer v p))
   pub there : (known : Known) (earlier : Earlier) (v : Verdict) (p : Proof) → AreKnown b known.earlier → IsAlike known earlier → IsFormedOf known.net earlier q v p → IsValid known.net earlier q (answer v p)

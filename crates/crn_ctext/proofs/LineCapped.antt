@@ -129,7 +129,7 @@ solid_fits fields zs held s b e t =
     let fits = subst (AreOf Takes fields) same t in
     (fits, solid_both fields zs s fits, same)
 
--- a field of free numbers asks for their count alone
+-- a field of free numbers requires their count alone
 abbrev pub IsFree : Field → Type 0
 IsFree (Free count) = Unit {0}
 IsFree (FreeSeveral fewest most) = Unit {0}

@@ -1,4 +1,4 @@
--- What a call that writes several pieces did, where the pieces are given by an equation.
+-- What a call that writes several pieces did, if the pieces are given by an equation.
 use Rattle.std.proofs.Common.{◌≡◌, ℕ, List, ◌++◌, Result, Err}
 use Rattle.crn_io.specs.Device.{SinkSeen}
 use Rattle.crn_io.specs.Write.{WroteAll, WrotePrefix, Wrote}

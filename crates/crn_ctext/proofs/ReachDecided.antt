@@ -23,7 +23,7 @@ leads_from_past : (n : ℕ) (Step : ℕ → ℕ → Type 0) → ((y z : ℕ) →
 leads_from_past n Step inside y z past ([], e) = e
 leads_from_past n Step inside y z past (x ∷ xs, s) = absurd (let lt = inside y x s.0 in omega (arith, lt, past))
 
--- where marks say what is led to, and no step leads out, it is decided
+-- if marks say what is led to, and no step leads out, it is decided
 leads_decided : (n : ℕ) (Step : ℕ → ℕ → Type 0) → ((y z : ℕ) → Step y z → (y < n) × (z < n)) → ((y : ℕ) → y < n → (marks : List ℤ) × (length marks ≡ n) × AreMarks (LeadsTo Step y) marks) → (y z : ℕ) → IsDecided (LeadsTo Step y z)
 leads_decided n Step inside marked y z = elim (cases_lt y n) [
   | inr past ↦ moved (λ e. subst (λ (v : ℕ). LeadsTo Step y v) e (leads_here Step y)) (λ w. leads_from_past n Step (λ a b s. (inside a b s).0) y z past w) (nat_decided y z)

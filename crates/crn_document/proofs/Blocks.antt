@@ -27,7 +27,7 @@ use Rattle.crn_io.specs.Device.{SourceSeen}
 use Rattle.crn_vec.proofs.CallerLemmas.{and_first}
 use Rattle.crn_ctext.proofs.CallerLemmas.{zip_long}
 use Rattle.crn_document.specs.declared.reading.Reading.{Reading}
-use Rattle.crn_document.specs.declared.stop.CheckStop.{CheckStop}
+use Rattle.crn_document.specs.declared.fault.CheckStop.{CheckStop}
 use Rattle.crn_document.specs.Inner.Steps.{StepIs}
 use Rattle.crn_document.proofs.Steps.{step_map, step_then_is}
 use Rattle.crn_ctext.specs.Meaning.{Known, lists, problems_by, sizes_of, shapes_of, verdict_of, proof_of, meaning}

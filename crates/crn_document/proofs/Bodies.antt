@@ -14,7 +14,7 @@ use Rattle.crn_ctext.specs.Blocks.{AfterBlocks, ReadOf, asks_blocks, asks_table,
 use Rattle.crn_ctext.specs.Meaning.{Known, meaning, verdicts_said}
 use Rattle.crn_ctext.specs.Steps.{StepGives}
 use Rattle.crn_document.specs.declared.reading.Reading.{Reading}
-use Rattle.crn_document.specs.declared.stop.CheckStop.{CheckStop}
+use Rattle.crn_document.specs.declared.fault.CheckStop.{CheckStop}
 use Rattle.crn_document.specs.Inner.Blocks.{IsAfter, after_at, after_by}
 use Rattle.crn_document.specs.Inner.Courses.{IsSaidIn, body_course, last_course}
 use Rattle.crn_document.specs.Inner.Ending.{EndStepIs, LastIs, asks_end}

@@ -28,8 +28,8 @@ use Rattle.crn_ctext.specs.Blocks.{AfterBlocks, IsNetworkOf, asks, asks_all, ask
 use Rattle.crn_ctext.specs.Meaning.{Known, gap_of, head_claims_of, meaning, proof_by, proof_of, row_claims_of, shapes_of, sizes_of, verdict_by, verdict_of}
 use Rattle.crn_document.specs.Check.{CheckGives, HasFaultNumber, IsFaultNumber}
 use Rattle.crn_document.specs.declared.check.Accepted.{Accepted}
-use Rattle.crn_document.specs.declared.stop.CheckStop.{CheckStop}
-use Rattle.crn_document.specs.declared.stop.CheckStop.TheVariants as stop
+use Rattle.crn_document.specs.declared.fault.CheckStop.{CheckStop}
+use Rattle.crn_document.specs.declared.fault.CheckStop.TheVariants as stop
 use Rattle.crn_document.specs.Inner.Blocks.{after_at}
 use Rattle.crn_document.specs.Inner.Courses.{last_course, whole_course}
 use Rattle.crn_document.specs.Inner.Ending.{ends_with}

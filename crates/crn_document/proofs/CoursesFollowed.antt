@@ -6,8 +6,8 @@ use Rattle.crn_io.specs.Next.{place}
 use Rattle.crn_ctext.specs.Course.{Course, Give, Line, Test, End, ◌>>=◌, Gives, FailsFirst, test}
 use Rattle.crn_ctext.proofs.CallerLemmas.{gives_then, fails_before, fails_then, gives_parts}
 use Rattle.crn_document.specs.declared.reading.Reading.{Reading}
-use Rattle.crn_document.specs.declared.stop.CheckStop.{CheckStop}
-use Rattle.crn_document.specs.declared.stop.CheckStop.TheVariants as stop
+use Rattle.crn_document.specs.declared.fault.CheckStop.{CheckStop}
+use Rattle.crn_document.specs.declared.fault.CheckStop.TheVariants as stop
 use Rattle.crn_document.specs.Inner.Steps.{StopIs, StepIs}
 
 -- ---- the parts of a course

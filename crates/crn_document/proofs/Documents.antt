@@ -17,8 +17,8 @@ use Rattle.crn_ctext.proofs.CallerLemmas.{first_is_one, gives_one, gives_or_fail
 use Rattle.crn_document.specs.Check.{CheckGives, IsAnswered, IsAccepted, IsTextOf}
 use Rattle.crn_document.specs.declared.check.Accepted.{Accepted}
 use Rattle.crn_document.specs.declared.reading.Reading.{Reading}
-use Rattle.crn_document.specs.declared.stop.CheckStop.{CheckStop}
-use Rattle.crn_document.specs.declared.stop.CheckStop.TheVariants as stop
+use Rattle.crn_document.specs.declared.fault.CheckStop.{CheckStop}
+use Rattle.crn_document.specs.declared.fault.CheckStop.TheVariants as stop
 use Rattle.crn_document.specs.Inner.Courses.{IsNew, IsWhole, body_course, whole_course}
 use Rattle.crn_document.specs.Inner.Ending.{LastIs}
 use Rattle.crn_document.specs.Inner.Opening.{count_course, network_course, title_course}
@@ -111,7 +111,7 @@ document_gives (Err (stop.Rejected code line)) at before now new p =
 document_gives (Err stop.Failed) at before now new p = (text_stops at.lines before now new.ahead new.taken p.0, p.1, p.2)
 document_gives (Err stop.NoMemory) at before now new p = (text_stops at.lines before now new.ahead new.taken p.0, p.1)
 
--- where memory runs out before the first line
+-- if memory runs out before the first line
 pub nothing_read : (seen : SourceSeen) → CheckGives (Err stop.NoMemory) seen seen
 nothing_read seen = (([], omega arith, Consumes-none seen.left), refl)
 

@@ -12,7 +12,7 @@ use Rattle.crn_ctext.specs.Blocks.{Problem, Node, Split, Flat, CutA, CutB, asks_
 use Rattle.crn_ctext.specs.Steps.{StepGives}
 use Rattle.crn_ctree.specs.Due.{first, rest}
 use Rattle.crn_document.specs.declared.reading.Reading.{Reading}
-use Rattle.crn_document.specs.declared.stop.CheckStop.{CheckStop}
+use Rattle.crn_document.specs.declared.fault.CheckStop.{CheckStop}
 use Rattle.crn_document.specs.Inner.Steps.{StopIs, StepIs}
 use Rattle.crn_document.specs.Inner.Trees.{after_node, asks_due, asks_one, node_test}
 use Rattle.crn_document.proofs.Steps.{step_gives, step_then_is, stop_first}

@@ -13,7 +13,7 @@ use Rattle.crn_ctext.specs.Blocks.{ReadOf}
 use Rattle.crn_ctext.specs.Steps.{IsRest, StepGives, StepFails, StepEnds}
 use Rattle.crn_ctext.proofs.CallerLemmas.{step_ends_then}
 use Rattle.crn_document.specs.declared.reading.Reading.{Reading}
-use Rattle.crn_document.specs.declared.stop.CheckStop.{CheckStop}
+use Rattle.crn_document.specs.declared.fault.CheckStop.{CheckStop}
 use Rattle.crn_document.specs.Inner.Ending.{EndStepIs, ends_with}
 use Rattle.crn_document.specs.Inner.Steps.{StopIs}
 use Rattle.crn_document.proofs.Steps.{stop_after}
@@ -35,7 +35,7 @@ gives_end : (read : ReadOf) (at after : Place) → (HasMore at → ⊥) → at �
 unfolding Gives
 gives_end read at after none same = (none, (refl, same))
 
--- where nothing is left, the course gives what was read
+-- if nothing is left, the course gives what was read
 pub nothing_left : (read : ReadOf) (n : ℕ) (old new : KeptLines) (before now : SourceSeen) → old.taken < MAX_DOCUMENT → NextGives End old new before now
     → ((m : ℕ) × (kept : KeptLines) × StepEnds (ends_with read) read n m old kept before.left now.left) × HasNoneLeft now.left × (now.faults ≡ before.faults)
 nothing_left read n old new before now lt g = (
@@ -92,7 +92,7 @@ fails_end : (read : ReadOf) (n : ℕ) (old : KeptLines) (bytes : List ℕ) (code
 unfolding FailsFirst
 fails_end read n old bytes code p = inl (refl, p)
 
--- where something is left, the course fails first here
+-- if something is left, the course fails first here
 pub something_left : (answer : Next) (read : ReadOf) (n : ℕ) (old new : KeptLines) (before now : SourceSeen) → IsNoEnd answer → old.taken < MAX_DOCUMENT → NextGives answer old new before now
     → StepFails (ends_with read) n old before.left now.left n (code_of 28 answer) × (now.faults ≡ before.faults)
 something_left answer read n old new before now none lt g = (

@@ -6,7 +6,7 @@ use Rattle.crn_ctext.specs.Course.{Course, Gives, FailsFirst, find, ◌>>=◌}
 use Rattle.crn_ctext.specs.Steps.{StepGives}
 use Rattle.crn_document.specs.Inner.Steps.{CanRead, StepIs, StopIs}
 use Rattle.crn_document.specs.declared.reading.Reading.{Reading}
-use Rattle.crn_document.specs.declared.stop.CheckStop.TheVariants as stop
+use Rattle.crn_document.specs.declared.fault.CheckStop.TheVariants as stop
 use Rattle.crn_document.proofs.Steps.{stop_after, step_then_is, stops_here, tests_give, tests_fail}
 
 -- the value that passes is found

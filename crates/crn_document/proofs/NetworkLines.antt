@@ -10,7 +10,7 @@ use Rattle.crn_ctext.specs.Steps.{StepGives}
 use Rattle.crn_document.specs.Inner.Opening.{AreKept, HasLongLine, IsKeptLine, IsLongLine}
 use Rattle.crn_document.specs.Inner.Steps.{StepIs}
 use Rattle.crn_document.specs.declared.reading.Reading.{Reading}
-use Rattle.crn_document.specs.declared.stop.CheckStop.{CheckStop}
+use Rattle.crn_document.specs.declared.fault.CheckStop.{CheckStop}
 use Rattle.crn_document.proofs.Steps.{step_gives, step_map, step_then_is}
 
 -- what follows the first of several lines

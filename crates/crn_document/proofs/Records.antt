@@ -1,4 +1,4 @@
--- What is due where a record is, in the words of a document's course.
+-- What is due if a record is, in the words of a document's course.
 use Rattle.std.proofs.Common.{◌≡◌, ◌+◌, ◌++◌, ◌∙◌, ℕ, Bool, false, List, [], ◌∷◌, refl, sym, subst, ap, inl, inr, Result, Ok, append_assoc}
 use Rattle.std.proofs.lemmas.List.{append-nil}
 use Rattle.std.specs.List.{AllZip}
@@ -19,7 +19,7 @@ use Rattle.crn_document.specs.Inner.Records.{asks_for, Expects, IsOwnDue, IsPart
 use Rattle.crn_ctext.specs.Steps.{StepGives}
 use Rattle.crn_ctext.specs.Meaning.{lists}
 use Rattle.crn_document.specs.declared.reading.Reading.{Reading}
-use Rattle.crn_document.specs.declared.stop.CheckStop.{CheckStop}
+use Rattle.crn_document.specs.declared.fault.CheckStop.{CheckStop}
 use Rattle.crn_document.specs.Inner.Steps.{IsVersion, StepIs}
 use Rattle.crn_document.proofs.Steps.{step_gives, step_then_is, step_map}
 
@@ -34,7 +34,7 @@ as_expected P e version n after forms x p =
     (subst (λ (b : Bool). P (course_by version n b (forms_of e) (misplaced e.due))) x.by_tree
     (subst (λ (v : ℕ). P (course_by v n (is_after e.due e.after_tree) (forms_of e) (misplaced e.due))) x.of_version p)))
 
--- what a record below a head that is due says, where there are so many complexes
+-- what a record below a head that is due says, if there are so many complexes
 pub record DueFacts (complexes : ℕ) (form : Form) (d : Due) : Type 0 where
   pub has : (version : ℕ) (z : Sizes) → z.complexes ≡ complexes → due_forms d version z ≡ form ∷ []
   pub may : (version : ℕ) → MayBeDue d version

@@ -13,7 +13,7 @@ use Rattle.crn_ctext.specs.Blocks.{AfterBlocks, asks, asks_all, asks_block, asks
 use Rattle.crn_ctext.specs.Meaning.{Known, meaning}
 use Rattle.crn_check.specs.Facts.{asked}
 use Rattle.crn_document.specs.declared.reading.Reading.{Reading}
-use Rattle.crn_document.specs.declared.stop.CheckStop.{CheckStop}
+use Rattle.crn_document.specs.declared.fault.CheckStop.{CheckStop}
 use Rattle.crn_ctext.specs.Steps.{StepGives}
 use Rattle.crn_document.specs.Inner.Blocks.{IsOpened, after_by, still_by_tree}
 use Rattle.crn_document.specs.Inner.Steps.{StepIs, StopIs}

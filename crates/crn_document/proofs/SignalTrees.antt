@@ -19,8 +19,8 @@ use Rattle.crn_ctext.proofs.CallerLemmas.{HoldTogether, IsLike, step_fails_like,
 use Rattle.crn_ctree.proofs.CallerLemmas.{signal_nodes}
 use Rattle.crn_check.specs.Facts.{KeptFacts}
 use Rattle.crn_document.specs.declared.reading.Reading.{Reading}
-use Rattle.crn_document.specs.declared.stop.CheckStop.{CheckStop}
-use Rattle.crn_document.specs.declared.stop.CheckStop.TheVariants as stop
+use Rattle.crn_document.specs.declared.fault.CheckStop.{CheckStop}
+use Rattle.crn_document.specs.declared.fault.CheckStop.TheVariants as stop
 use Rattle.crn_document.specs.Inner.Heads.{known_of}
 use Rattle.crn_document.specs.Inner.Parts.{IsKnown, before}
 use Rattle.crn_document.specs.Inner.Signals.{vector_or_none}

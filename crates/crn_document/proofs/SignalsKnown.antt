@@ -42,7 +42,7 @@ held net facts k = let n = needs_at facts.earlier 13 thirteen k.so_far in record
 
 -- ---- the confluence vector
 
--- the vector of question 12, where it gives one
+-- the vector of question 12, if it gives one
 pub record VectorKnown (net : Net) (g : List ℤ) : Type 0 where
   pub regular : IsRegular net
   pub line : HasConfluenceLine net

@@ -12,8 +12,8 @@ use Rattle.crn_io.proofs.CallerLemmas.{Consumes-none, Consumes-then}
 use Rattle.crn_ctext.specs.Steps.{StepGives, StepFails}
 use Rattle.crn_ctext.proofs.CallerLemmas.{IsNoLine, line_is_missing, gives_counts, step_then, step_fails_then, step_fails_before}
 use Rattle.crn_document.specs.declared.reading.Reading.{Reading}
-use Rattle.crn_document.specs.declared.stop.CheckStop.{CheckStop}
-use Rattle.crn_document.specs.declared.stop.CheckStop.TheVariants as stop
+use Rattle.crn_document.specs.declared.fault.CheckStop.{CheckStop}
+use Rattle.crn_document.specs.declared.fault.CheckStop.TheVariants as stop
 use Rattle.crn_document.specs.Inner.Steps.{CanRead, StepStops, StopIs, StepIs}
 
 -- the count of faults is as before at an answer that is no line and no fault
@@ -90,7 +90,7 @@ pub step_gives : {A T : Type 0} (y : A) (Says : T → A → Type 0) (t : T) (at 
 unfolding Gives
 step_gives y Says t at seen says = (y, says, tests_give (Give y) y at.line at.lines seen.left (λ place. (refl, refl)), refl)
 
--- where memory runs out after a step
+-- if memory runs out after a step
 pub memory_stops : {A : Type 0} (c : Course A) (x : A) (old mid : Reading) (before now : SourceSeen) → StepGives c x old.line mid.line old.lines mid.lines before.left now.left → now.faults ≡ before.faults → CanRead mid
     → StepStops old.lines before.left now.left × (now.faults ≡ before.faults)
 memory_stops c x old mid before now p same can = (stops_then c x old.line mid.line old.lines mid.lines before.left now.left now.left p (stops_here mid now.left can), same)

@@ -14,7 +14,7 @@ use Rattle.crn_ctext.specs.Course.{Course, Give, ◌>>=◌}
 use Rattle.crn_ctext.specs.Blocks.{asks, asks_all, asks_table}
 use Rattle.crn_ctext.specs.Steps.{StepGives}
 use Rattle.crn_document.specs.declared.reading.Reading.{Reading}
-use Rattle.crn_document.specs.declared.stop.CheckStop.{CheckStop}
+use Rattle.crn_document.specs.declared.fault.CheckStop.{CheckStop}
 use Rattle.crn_document.specs.declared.plain.Plain.TheVariants.{Table, Vector}
 use Rattle.crn_document.specs.Inner.Plain.{IsPlain}
 use Rattle.crn_document.specs.Inner.Steps.{IsVersion, StopIs, StepIs}

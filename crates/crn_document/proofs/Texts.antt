@@ -10,8 +10,8 @@ use Rattle.crn_ctext.specs.Course.{Course, Give, Line, Test, End, ◌>>=◌, Giv
 use Rattle.crn_ctext.specs.Steps.{IsRest, StepFails, StepEnds}
 use Rattle.crn_document.specs.Check.{IsRead, IsTextOf, PullsDocument}
 use Rattle.crn_document.specs.declared.reading.Reading.{Reading}
-use Rattle.crn_document.specs.declared.stop.CheckStop.{CheckStop}
-use Rattle.crn_document.specs.declared.stop.CheckStop.TheVariants as stop
+use Rattle.crn_document.specs.declared.fault.CheckStop.{CheckStop}
+use Rattle.crn_document.specs.declared.fault.CheckStop.TheVariants as stop
 use Rattle.crn_document.specs.Inner.Steps.{StepStops, StopIs}
 use Rattle.crn_document.specs.Inner.Ending.{EndStepIs}
 
@@ -62,7 +62,7 @@ at_start start text none zero = ap (λ (t : List ℕ). record { line = 1; before
 few_pulled : (start : KeptLines) (pulled : List ℕ) → start.ahead ≡ [] → start.taken ≡ 0 → start.taken + length (start.ahead ++ pulled) ≤ MAX_DOCUMENT + MAX_AHEAD → length pulled ≤ MAX_DOCUMENT + MAX_AHEAD
 few_pulled start pulled none zero le = let same : length (start.ahead ++ pulled) ≡ length pulled = ap (λ (t : List ℕ). length (t ++ pulled)) none in omega (arith, same, zero, le)
 
--- where a course goes through from the first line to the end, a text was read that gives this
+-- if a course goes through from the first line to the end, a text was read that gives this
 pub text_gives : {A : Type 0} (c : Course A) (y : A) (m : ℕ) (start kept : KeptLines) (before now : SourceSeen) → start.ahead ≡ [] → start.taken ≡ 0
     → StepEnds c y 1 m start kept before.left now.left → now.faults ≡ before.faults
     → (text : List ℕ) × IsRead text before now × ((after : Place) × Gives c (beginning text) y after)
@@ -73,7 +73,7 @@ text_gives c y m start kept before now none zero p same =
       (place m kept r.0, subst (λ (at : Place). Gives c at y (place m kept r.0)) (at_start start (p.pulled ++ r.0) none zero) (let g = p.gives in g r.0 r.1)),
     )
 
--- and where it fails first somewhere, a text was read that fails first there
+-- and if it fails first somewhere, a text was read that fails first there
 pub text_fails : {A : Type 0} (c : Course A) (start : KeptLines) (before now : SourceSeen) (line code : ℕ) → start.ahead ≡ [] → start.taken ≡ 0
     → StepFails c 1 start before.left now.left line code → now.faults ≡ before.faults
     → (text : List ℕ) × IsRead text before now × FailsFirst c (beginning text) line code

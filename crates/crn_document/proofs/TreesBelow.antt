@@ -8,7 +8,7 @@ use Rattle.crn_ctext.specs.Meaning.{Known, is_yes, problems_by, signal_problems}
 use Rattle.crn_check.specs.Facts.{asked}
 use Rattle.crn_check.specs.Check.{AsksForTree, IsBuilt, tree_place}
 use Rattle.crn_document.specs.declared.reading.Reading.{Reading}
-use Rattle.crn_document.specs.declared.stop.CheckStop.{CheckStop}
+use Rattle.crn_document.specs.declared.fault.CheckStop.{CheckStop}
 use Rattle.crn_document.specs.Inner.Steps.{StepIs, StopIs}
 use Rattle.crn_ctext.specs.Steps.{StepGives}
 use Rattle.crn_document.proofs.Steps.{step_gives, step_map, step_then_is, stop_first}

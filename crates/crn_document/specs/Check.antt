@@ -13,8 +13,8 @@ use Rattle.crn_ctext.specs.Judged.{IsReadOf, IsFaultOf}
 use Rattle.crn_ctext.specs.Linked.{AreSound}
 use Rattle.crn_check.specs.Verdicts.{tight}
 use Rattle.crn_document.specs.declared.check.Accepted.{Accepted}
-use Rattle.crn_document.specs.declared.stop.CheckStop.{CheckStop}
-use Rattle.crn_document.specs.declared.stop.CheckStop.TheVariants.{Rejected, Failed, NoMemory}
+use Rattle.crn_document.specs.declared.fault.CheckStop.{CheckStop}
+use Rattle.crn_document.specs.declared.fault.CheckStop.TheVariants.{Rejected, Failed, NoMemory}
 
 -- the bytes that a document is: those that the source had left, if it shows them, and else those
 -- that were pulled

@@ -18,6 +18,7 @@ ghost use Rattle.crn_document.specs.Inner.Heads.{IsHead, class_count, known_of};
 ghost use Rattle.crn_document.specs.Inner.Blocks.{HeadHolds, IsAfter, IsBlock, IsReady, Learns, after_at, after_by, end_course, head_course, parts_after, rows_course, tests_course};
 
 use crate::answer::{answer_of, bare_verdict};
+use crate::fault::CheckStop;
 use crate::head::next_head;
 use crate::linkage::linkage_of;
 use crate::numbers::number_of;
@@ -25,7 +26,6 @@ use crate::parts::{Part, parts_of};
 use crate::reading::Reading;
 use crate::rows::{Below, next_rows, rows_below};
 use crate::signal_trees::shape_of;
-use crate::stop::CheckStop;
 use crate::tree::{ends_in_tree, next_trees};
 use crn_cert::{Answer, Proof, Rows, Verdict, Verdicts};
 use crn_check::{CheckFault, Facts, accept_tree, check_answer, check_head, check_signal_answer};

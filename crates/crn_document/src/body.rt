@@ -7,9 +7,9 @@ ghost use Rattle.crn_document.specs.Inner.Ending.{LastIs};
 
 use crate::block::Checked;
 use crate::ending::next_end;
+use crate::fault::CheckStop;
 use crate::questions::next_blocks;
 use crate::reading::Reading;
-use crate::stop::CheckStop;
 use crate::table::next_table;
 use crn_cert::{Rows, Verdicts};
 use crn_check::Facts;

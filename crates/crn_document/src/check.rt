@@ -1,7 +1,7 @@
 ghost use Rattle.crn_document.specs.Check.{CheckGives, HasFaultNumber, IsAnswered};
 
 use crate::document::{begin, next_document};
-use crate::stop::CheckStop;
+use crate::fault::CheckStop;
 use crn_cert::Verdicts;
 use crn_io::Source;
 use crn_net::Network;

@@ -4,9 +4,9 @@ ghost use Rattle.crn_document.specs.Inner.Ending.{LastIs};
 
 use crate::body::next_body;
 use crate::check::Accepted;
+use crate::fault::CheckStop;
 use crate::opening::{next_count, next_network, next_version};
 use crate::reading::Reading;
-use crate::stop::CheckStop;
 use crn_io::{Lines, MAX_NUMBERS, NoMemory, Source};
 use crn_vec::Ints;
 use std::alloc::Global;

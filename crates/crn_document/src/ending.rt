@@ -2,9 +2,9 @@ ghost use Rattle.crn_ctext.specs.Blocks.{ReadOf};
 ghost use Rattle.crn_document.specs.Inner.Steps.{CanRead, GoesOn};
 ghost use Rattle.crn_document.specs.Inner.Ending.{EndStepIs, asks_end, ends_with};
 
+use crate::fault::CheckStop;
 use crate::plain::{Plain, next_plain};
 use crate::reading::Reading;
-use crate::stop::CheckStop;
 use crn_io::{Next, Source};
 
 // Nothing is left of the document.

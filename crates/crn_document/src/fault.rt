@@ -1,5 +1,5 @@
 ghost use Rattle.std.specs.Prelude.{◌≡◌};
-ghost use Rattle.crn_document.specs.declared.stop.CheckStop.TheVariants.{NoMemory};
+ghost use Rattle.crn_document.specs.declared.fault.CheckStop.TheVariants.{NoMemory};
 
 use std::alloc::AllocError;
 

@@ -13,12 +13,12 @@ ghost use Rattle.crn_document.specs.Inner.Records.{Expects};
 ghost use Rattle.crn_document.specs.Inner.Heads.{FitsCounts, FitsSignals, HasClassSizes, IsHead, head_forms};
 ghost use Rattle.crn_document.specs.Inner.Parts.{IsKnown, before};
 
+use crate::fault::CheckStop;
 use crate::linkage::linkage_of;
 use crate::parts::counts_of;
 use crate::reading::Reading;
 use crate::record::next_record;
 use crate::sizes::head_sizes;
-use crate::stop::CheckStop;
 use crate::strong::{pairs_in, strong_of};
 use crn_cert::Verdict;
 use crn_check::Facts;
@@ -98,7 +98,7 @@ fn class_sizes(alloc: Global, net: &Network, facts: &Facts, question: u32) -> Re
     Ok(none)
 }
 
-// What is due where the head of a question is.
+// What is due if the head of a question is.
 fn head_expect<'a>(
     version: u32,
     after_tree: bool,

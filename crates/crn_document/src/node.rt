@@ -14,19 +14,19 @@ ghost use Rattle.crn_document.specs.Inner.Met.{AreMet, IsCutOf, IsNodeLineAs, Is
 ghost use Rattle.crn_document.specs.Inner.Steps.{IsVersion, GoesOn, StepIs};
 ghost use Rattle.crn_document.specs.Inner.Trees.{ExpectsNode, IsNode, IsSaidAs, JudgeGives, Leaves, TakesSome, after_node, asks_node_for, asks_one, count_a as count_a_of, problem_in};
 
+use crate::fault::CheckStop;
 use crate::met::MetLines;
 use crate::numbers::number_of;
 use crate::quick::read_node;
 use crate::reading::{Reading, next_line};
 use crate::sizes::net_sizes;
-use crate::stop::CheckStop;
 use crn_ctext::{Due, Expect, Word};
 use crn_ctree::{KnownCut, KnownCuts, Node, SharedCut, Step, TreeCheck, TreeFault};
 use crn_io::{NoMemory, Source};
 use crn_net::Network;
 use std::alloc::Global;
 
-/// What is due where a node of a tree is, in which cuts of part A have so many numbers.
+/// What is due if a node of a tree is, in which cuts of part A have so many numbers.
 pub(crate) fn node_expect(version: u32, net: &Network, count_a: u32, shared: u32) -> Expect<'static>
     requires version { IsVersion version }
     requires few { count_a ≤ MAX_NUMBERS }

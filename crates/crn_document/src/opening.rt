@@ -6,9 +6,9 @@ ghost use Rattle.crn_ctext.specs.Blocks.{asks_lines, ended, network_line};
 ghost use Rattle.crn_document.specs.Inner.Steps.{CanRead, GoesOn, StepIs};
 ghost use Rattle.crn_document.specs.Inner.Opening.{AreKept, IsKeptLine, IsVersionOf, IsCountOf, title_course, count_course, network_course};
 
+use crate::fault::CheckStop;
 use crate::network::network_of;
 use crate::reading::{Reading, next_line};
-use crate::stop::CheckStop;
 use crn_io::{NoMemory, Source};
 use crn_net::Network;
 use crn_vec::MAX_REACTIONS;

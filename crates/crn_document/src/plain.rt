@@ -6,9 +6,9 @@ ghost use Rattle.crn_document.specs.Inner.Steps.{IsVersion, GoesOn, StepIs};
 ghost use Rattle.crn_document.specs.Inner.Records.{Expects};
 ghost use Rattle.crn_document.specs.Inner.Plain.{IsPlain, MayBeIn, due_of, plain_form};
 
+use crate::fault::CheckStop;
 use crate::reading::Reading;
 use crate::record::next_record;
-use crate::stop::CheckStop;
 use crn_ctext::{Due, Expect, Sizes};
 use crn_io::Source;
 
@@ -20,7 +20,7 @@ pub(crate) enum Plain {
     Vector,
 }
 
-// What is due where the record of this kind is.
+// What is due if the record of this kind is.
 fn plain_due(plain: Plain) -> Due<'static>
     ensures { result ≡ due_of plain }
 {
@@ -47,7 +47,7 @@ fn no_sizes() -> Sizes<'static>
     }
 }
 
-// What is due in a document of this version where the record of this kind is.
+// What is due in a document of this version if the record of this kind is.
 fn plain_expect(version: u32, after_tree: bool, plain: Plain) -> Expect<'static>
     requires version { IsVersion version }
     requires may { MayBeIn plain version }

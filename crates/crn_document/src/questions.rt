@@ -14,10 +14,10 @@ ghost use Rattle.crn_document.specs.Inner.Records.{Expects};
 ghost use Rattle.crn_document.specs.Inner.Blocks.{IsAfter, IsAt, IsOpened, IsReady, after_by};
 
 use crate::block::{Checked, next_block};
+use crate::fault::CheckStop;
 use crate::reading::Reading;
 use crate::record::next_record;
 use crate::sizes::net_sizes;
-use crate::stop::CheckStop;
 use crn_cert::question_number;
 use crn_ctext::{Due, Expect};
 use crn_ctree::SharedTable;
@@ -55,7 +55,7 @@ fn section_before(question: u32) -> u32
     }
 }
 
-// What is due where this section opens before a question.
+// What is due if this section opens before a question.
 fn section_expect(net: &Network, section: u32, after_tree: bool) -> Expect<'static>
     requires { (1 ≤ section) × (section ≤ 6) }
     ensures { Expects result 2 after_tree

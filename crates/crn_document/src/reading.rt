@@ -3,7 +3,7 @@ ghost use Rattle.crn_io.specs.Lines.{early};
 ghost use Rattle.crn_ctext.specs.Course.{due};
 ghost use Rattle.crn_document.specs.Inner.Steps.{CanRead, IsCounted, StepIs};
 
-use crate::stop::CheckStop;
+use crate::fault::CheckStop;
 use crn_io::{Lines, Next, Source};
 use crn_vec::Ints;
 use std::alloc::Global;

@@ -3,8 +3,8 @@ ghost use Rattle.crn_ctext.specs.Expect.{IsExpectable};
 ghost use Rattle.crn_document.specs.Inner.Steps.{GoesOn, StepIs};
 ghost use Rattle.crn_document.specs.Inner.Records.{asks_for, IsSaid};
 
+use crate::fault::CheckStop;
 use crate::reading::{Reading, next_line};
-use crate::stop::CheckStop;
 use crn_ctext::{Expect, read_record};
 use crn_io::Source;
 

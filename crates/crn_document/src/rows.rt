@@ -14,12 +14,12 @@ ghost use Rattle.crn_cert.specs.Questions.{Q2, on, terminal_of};
 ghost use Rattle.crn_cert.specs.Valid.{strong, exits};
 ghost use Rattle.crn_check.specs.Check.{IsBuilt};
 
+use crate::fault::CheckStop;
 use crate::linkage::fill_members;
 use crate::parts::Part;
 use crate::reading::Reading;
 use crate::record::next_record;
 use crate::sizes::net_sizes;
-use crate::stop::CheckStop;
 use crate::strong::{pairs_in, strong_of};
 use crn_cert::Rows;
 use crn_check::Facts;
@@ -323,7 +323,7 @@ fn row_due<'a>(below: &Below, row: Row, members: &'a [u32]) -> Due<'a>
     }
 }
 
-// What is due where the record of this kind is.
+// What is due if the record of this kind is.
 fn row_expect<'a>(version: u32, below: &Below, row: Row, members: &'a [u32]) -> Expect<'a>
     requires version { IsVersion version }
     requires few { below.now.classes ≤ MAX_COMPLEXES }

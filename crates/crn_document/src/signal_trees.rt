@@ -15,8 +15,8 @@ ghost use Rattle.crn_document.specs.Inner.Signals.{vector_or_none};
 ghost use Rattle.crn_document.specs.Inner.Steps.{GoesOn, StepIs};
 
 use crate::block::Checked;
+use crate::fault::CheckStop;
 use crate::reading::Reading;
-use crate::stop::CheckStop;
 use crate::strong::strong_of;
 use crate::tree::next_tree;
 use crn_cert::Verdict;

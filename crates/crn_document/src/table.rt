@@ -6,9 +6,9 @@ ghost use Rattle.crn_ctext.specs.Blocks.{asks, asks_all, asks_table};
 ghost use Rattle.crn_document.specs.Inner.Steps.{GoesOn, StepIs};
 ghost use Rattle.crn_document.specs.Inner.Table.{AreKept, IsCount, IsTable};
 
+use crate::fault::CheckStop;
 use crate::plain::{Plain, next_plain};
 use crate::reading::Reading;
-use crate::stop::CheckStop;
 use crn_ctree::SharedTable;
 use crn_io::Source;
 

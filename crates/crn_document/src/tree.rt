@@ -15,11 +15,11 @@ ghost use Rattle.crn_document.specs.Inner.Steps.{GoesOn, StepIs};
 ghost use Rattle.crn_document.specs.Inner.Trees.{count_a, problem_in};
 
 use crate::block::Checked;
+use crate::fault::CheckStop;
 use crate::met::MetLines;
 use crate::node::{next_node, node_expect};
 use crate::reading::Reading;
 use crate::signal_trees::next_signal_trees;
-use crate::stop::CheckStop;
 use crn_ctree::{InfluenceTable, KnownCuts, Problem, SharedTable, Step, TreeCheck};
 use crn_io::Source;
 use crn_net::Network;

@@ -134,7 +134,7 @@ both_levels (κ ∷ kinds) = omega (arith, one_level (is_early_kind κ), both_le
 
 -- ---- what stops a decision
 
--- where the basis is the columns, it names one row that rules the system out
+-- if the basis is the columns, it names one row that rules the system out
 pub one_row_kept : (a : Mat) (basis : List ℕ) (kinds : List Kind) → ((k : ℕ) → IsIn k basis ↔ (k < a.cols)) → HasOneRowCut a kinds → HasKeptCut a basis kinds
 one_row_kept a basis kinds law h =
     let n = a.cols in

@@ -36,7 +36,7 @@ fn exchange(tableau: &mut Tableau, leave: usize, enter: usize) -> bool
     tableau.pivot(leave, enter).is_ok()
 }
 
-// Exchanges a coordinate that is below what its kind asks for the member that helps it most. False if there is no such exchange.
+// Exchanges a coordinate that is below what its kind requires for the member that helps it most. False if there is no such exchange.
 fn improve(tableau: &mut Tableau, kinds: &[Kind], work: &mut [i128], e: usize) -> bool
     requires kinds { length kinds.now ≡ width tableau.old.matrix }
     requires work { length work.old ≡ length kinds.now }
@@ -90,8 +90,8 @@ fn trial_of(tableau: &Tableau, viewed: Option<Tableau>) -> Result<Tableau, NoMem
     }
 }
 
-/// An answer in plain view, where the rows are in the basis as far as they can be: a vector that it names by a coordinate outside
-/// rules the system out, or its members, each with 1 or -1 as its kind asks, make a solution. If neither is so, coordinates that have to be positive
+/// An answer in plain view, with the rows in the basis as far as they go: a vector that it names by a coordinate outside
+/// rules the system out, or its members, each with 1 or -1 as its kind requires, make a solution. If neither is so, coordinates that have to be positive
 /// or negative are exchanged for one another, a few times.
 ///
 /// The exchanges are those of `viewed`, or else of a copy, which is kept if it shows a cut. So a search that begins where no answer is in plain view has

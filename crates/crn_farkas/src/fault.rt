@@ -10,7 +10,7 @@ pub enum Stop {
     Wide {
         /// The coordinate, counted from 1.
         index: u32,
-        /// The coordinates of the basis, ascending and counted from 1, where `Solver::basis` counts from 0.
+        /// The coordinates of the basis, ascending and counted from 1, while `Solver::basis` counts from 0.
         basis: Nums,
     },
     NoMemory,

@@ -1,4 +1,4 @@
-//! Linear systems that ask a sign of each coordinate: a solution, or multipliers that rule every solution out.
+//! Linear systems that require a sign of each coordinate: a solution, or multipliers that rule every solution out.
 #![tactic(auto)]
 
 mod alternative;

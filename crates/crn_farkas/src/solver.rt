@@ -20,7 +20,7 @@ use crn_vec::{Ints, Kind, Matrix, NoMemory, Nums, Sign};
 use std::alloc::Global;
 use std::marker::Model;
 
-/// A matrix that is asked for one list of kinds after another: each question begins with the basis where the last one ended.
+/// A matrix whose systems are decided for one list of kinds after another: each question begins with the basis where the last one ended.
 ///
 /// It keeps a copy of the matrix, and room for all that a decision works in.
 #[derive(Drop)]
@@ -216,7 +216,7 @@ impl Solver {
         multipliers(alloc, &self.tableau, kinds, &mut self.work, cut)
     }
 
-    /// The coordinates of the kept basis, ascending and counted from 0, where `Stop::Wide` counts from 1.
+    /// The coordinates of the kept basis, ascending and counted from 0, while `Stop::Wide` counts from 1.
     pub fn basis(&self) -> Result<Nums, NoMemory>
         ensures list { IfOk result (λ made. made.list ≡ self.now.basis) }
         ensures is { IsBasis self.now.matrix self.now.basis }

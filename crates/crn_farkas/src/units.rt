@@ -16,7 +16,7 @@ fn times_unit(kind: Kind, x: i128) -> i128 {
     x.wrapping_mul(unit_asked(kind) as i128)
 }
 
-// The quotient, or 0 where there is none.
+// The quotient, or 0 if there is none.
 fn quotient(x: i128, by: i128) -> i128 {
     match x.checked_div(by) {
         Some(y) => y,
@@ -24,7 +24,7 @@ fn quotient(x: i128, by: i128) -> i128 {
     }
 }
 
-// Puts what a coordinate has, rounded, into its place, and gives it in the direction that its kind asks, times 2^20 and rounded.
+// Puts what a coordinate has, rounded, into its place, and gives it in the direction that its kind requires, times 2^20 and rounded.
 fn height(kinds: &[Kind], whole: i128, den: i128, own: usize, sum: &mut [i128]) -> i128
     requires sum { length sum.old ≡ length kinds.now }
     requires own { own < length kinds.now }
@@ -41,7 +41,7 @@ fn is_zero(kind: Kind) -> bool {
     }
 }
 
-// What a coordinate outside the basis that has to be positive or negative has, in the direction that its kind asks. It puts what any
+// What a coordinate outside the basis that has to be positive or negative has, in the direction that its kind requires. It puts what any
 // coordinate has that need not be 0.
 fn height_outside(tableau: &Tableau, kinds: &[Kind], sum: &mut [i128], e: usize) -> Option<i128>
     requires kinds { length kinds.now ≡ width tableau.now.matrix }
@@ -60,7 +60,7 @@ fn height_outside(tableau: &Tableau, kinds: &[Kind], sum: &mut [i128], e: usize)
     if is_asked(kinds[e]) { Some(here) } else { None }
 }
 
-// The coordinate outside the basis that has the least in the direction that its kind asks, if that is not something.
+// The coordinate outside the basis that has the least in the direction that its kind requires, if that is not something.
 // What the coordinates have, rounded, is put into a list.
 pub(crate) fn lowest(tableau: &Tableau, kinds: &[Kind], sum: &mut [i128]) -> Option<usize>
     requires kinds { length kinds.now ≡ width tableau.now.matrix }
@@ -81,7 +81,7 @@ pub(crate) fn lowest(tableau: &Tableau, kinds: &[Kind], sum: &mut [i128]) -> Opt
     at
 }
 
-// How much more a coordinate has, in the direction that its kind asks, for one more that a member of the basis has, times the row's own entry.
+// How much more a coordinate has, in the direction that its kind requires, for one more that a member of the basis has, times the row's own entry.
 fn gain(kinds: &[Kind], row: &[i128], own: usize, k: usize) -> i128
     requires same { length row.now ≡ length kinds.now }
     requires own { own < length kinds.now }

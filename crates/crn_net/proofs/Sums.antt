@@ -32,7 +32,7 @@ added text name s = cond (bytes_eq (name_in text s) name) s.count (pos 0)
 
 -- ---- in another order
 
--- what is added, and apart from it what is taken off
+-- what is added, and apart from it what is subtracted
 parted : (f : Share → ℤ) (start : ℤ) (xs : List Share) → fold (λ a s. a +ℤ f s) start xs +ℤ pos (sum_by (λ s. down (f s)) xs) ≡ start +ℤ pos (sum_by (λ s. up (f s)) xs)
 parted f start [] = refl
 parted f start (x ∷ xs) =

@@ -1,6 +1,6 @@
 -- What adding the reaction of a statement does to a network, over plain lists.
 -- Shapes: a statement is two sides, each a list of names with numbers. Complexes are lists of amounts, one for each
--- species; where a statement brings new names, they get zeros for these at their end.
+-- species; if a statement brings new names, they get zeros for these at their end.
 use Rattle.std.specs.Prelude.{◌≡◌, ◌≤◌, ◌<◌, ◌-◌, ℕ, ℤ, pos, List, [], ◌∷◌, ◌++◌, length, map, replicate, Result, Ok, Err}
 use Rattle.std.specs.Str.{bytes_eq}
 use Rattle.std.specs.Ordering.{int_eq}

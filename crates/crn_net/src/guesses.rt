@@ -4,7 +4,7 @@ ghost use Rattle.std.specs.Prelude.{◌<◌, ◌^◌};
 const SIZE: usize = 1024;
 
 // Guesses where the entries of a table are, each under a mark of the entry. Entries may share a mark, so a guess
-// may be wrong: whoever asks looks whether the entry is there, and in the table itself where it does not.
+// may be wrong: a look-up tests whether the entry is there, and if it is not, searches the table.
 #[derive(Drop)]
 pub(crate) struct Guesses {
     places: [u8; SIZE],

@@ -38,7 +38,7 @@ fn add_name(names: &mut Names, name: &[u8]) -> Result<usize, NetFault>
     Ok(place)
 }
 
-// The same, where the place may have been guessed.
+// The same, if the place may have been guessed.
 fn note_name(names: &mut Names, guesses: &mut Guesses, name: &[u8]) -> Result<usize, NetFault>
     requires few { length names.old.keys ≤ MAX_SPECIES }
     requires short { length name.now ≤ MAX_NAME }
@@ -171,7 +171,7 @@ fn is_row_at(rows: &Complexes, place: usize, row: &Amounts) -> bool
     place < rows.len() && rows.as_slice()[place] == *row
 }
 
-// The same, where the place may have been guessed.
+// The same, if the place may have been guessed.
 fn note_row(rows: &mut Complexes, guesses: &mut Guesses, row: Amounts) -> Result<usize, NetFault>
     requires few { length rows.old.keys ≤ MAX_COMPLEXES }
     ensures notes { NotesRow rows.old.keys row result rows.new.keys }
@@ -223,7 +223,7 @@ fn is_reaction_at(reactions: &[(usize, usize)], place: usize, reaction: (usize, 
     place < reactions.len() && reactions[place].0 == reaction.0 && reactions[place].1 == reaction.1
 }
 
-// The same, where the place of the reaction may have been guessed.
+// The same, if the place of the reaction may have been guessed.
 fn note_reaction(
     reactions: &mut Vec<(usize, usize)>,
     guesses: &mut Guesses,

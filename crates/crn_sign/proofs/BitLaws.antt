@@ -39,7 +39,7 @@ joins a b c d la lb lc ld = two_bits (λ (x y : ℕ). Joins x y c d)
     (two_bits (Joins 0 0) refl refl refl refl c d lc ld) (two_bits (Joins 0 1) refl refl refl refl c d lc ld)
     (two_bits (Joins 1 0) refl refl refl refl c d lc ld) (two_bits (Joins 1 1) refl refl refl refl c d lc ld) a b la lb
 
--- the bit that says that a mark of bits c and d is not what those of a and b ask
+-- the bit that says that a mark of bits c and d is not what those of a and b require
 abbrev pub misfit : ℕ → ℕ → ℕ → ℕ → ℕ
 misfit a b c d = min (max (((max a b + b) % 2 + c) % 2) (((max a b + a) % 2 + d) % 2)) (max a b)
 

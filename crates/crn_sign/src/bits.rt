@@ -11,7 +11,7 @@ use crn_vec::{NoMemory, Sign};
 /// The marks of 64 coordinates: where a number may be positive, and where it may be negative. A
 /// coordinate of neither is 0, and one of both has any sign.
 ///
-/// The signs of a vector are such marks, and so are the kinds that are asked, where a coordinate of
+/// The signs of a vector are such marks, and so are the kinds that are asked, in which a coordinate of
 /// neither is free and one of both is 0.
 #[derive(Clone, Copy)]
 pub struct Bits {

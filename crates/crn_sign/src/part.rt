@@ -119,7 +119,7 @@ impl Finder {
         }
     }
 
-    // Gives the marked vector the sign that is asked at g by a vector that is kept, or asks the solver
+    // Gives the marked vector the sign that is asked at g by a vector that is kept, or by one of the solver
     // for one.
     fn raise(
         &mut self,
@@ -718,7 +718,7 @@ impl Part {
     /// Multipliers that rule the system of a prefix of this length out, or none if it has a solution.
     ///
     /// If the marks of the vector that served one level above do not suit, it changes that vector by past
-    /// ones, and asks the solver for the rest.
+    /// ones, and by the solver for the rest.
     pub fn ruled_out(
         &mut self,
         alloc: Global,

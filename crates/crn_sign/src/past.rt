@@ -60,7 +60,7 @@ fn marks_of_multiple(marks: Bits, stays: bool) -> Bits
     if stays { marks } else { negatives_of(marks) }
 }
 
-// The places of 64 at which numbers of these marks may not be weighed where this is asked.
+// The places of 64 at which numbers of these marks may not be weighed if this is asked.
 fn refused(asked: Bits, marks: Bits) -> u64
     ensures { (i : ℕ) → bit_at result i ≡ 0 → Weighs (mark_in asked i) (mark_in marks i) }
 {
@@ -260,7 +260,7 @@ impl Past {
     }
 }
 
-// Whether numbers of these signs may not be weighed where this is asked.
+// Whether numbers of these signs may not be weighed if this is asked.
 fn is_refused(asked: Bits, plus: u64, minus: u64) -> bool {
     ((plus & !asked.plus) | (minus & !asked.minus)) != 0
 }

@@ -47,7 +47,7 @@ pub(crate) struct Pool {
     pub oldest: usize,
 }
 
-// Whether numbers of these signs may not be taken where this is asked.
+// Whether numbers of these signs may not be taken if this is asked.
 fn is_refused(asked: Bits, bits: Bits) -> bool {
     ((bits.plus & asked.minus) | (bits.minus & asked.plus)) != 0
 }

@@ -476,7 +476,7 @@ fn first_level<P: SignProblem>(alloc: Global, problem: &P) -> Result<Level, NoMe
     Ok(first)
 }
 
-// How a search ended, where its visits ended so.
+// How a search ended whose visits ended so.
 fn end_of(end: Ending) -> SearchEnd
     ensures { result ≡ end_of end }
 {
@@ -493,7 +493,7 @@ fn end_of(end: Ending) -> SearchEnd
 /// Searches for a full feasible prefix, with at most so many visits.
 ///
 /// Its answer is the first full feasible prefix of the visit list, or a tree with one node for each
-/// visit, in their order, or `Spent`. It keeps one solver for each part, and before it asks them it
+/// visit, in their order, or `Spent`. It keeps one solver for each part, and before it uses them it
 /// tries what they gave at other prefixes: multipliers, and vectors that add up to solutions.
 pub fn search<P: SignProblem>(
     alloc: Global,

@@ -27,7 +27,7 @@ use Rattle.crn_solve.specs.Inner.Sides.{GiveSides}
 pub signal_rests : (net : Net) (budget : ℕ) (earlier : Earlier) (v : Verdict) → IsOpen v → on earlier Q12 ≡ v → IsAnswer net budget earlier Q13 (rests_answer 12)
 signal_rests net budget earlier v o is = record { formed = (refl, refl); valid = tt; answered = (refl, subst IsOpen (sym is) o, tt) }
 
--- without a vector there is nothing to ask for
+-- without a vector there is nothing to look for
 no_signals : (net : Net) (weak v : Verdict) → IsNetwork net → IsTrueOf net Q4 weak → IsTrueOrOpen net Q12 v → (IsOpen v → ⊥) → (IsSome (vector_given v) → ⊥) → IsTrueOf net Q13 inapplicable_answer.verdict
 no_signals net weak v n w h not_open no_vector =
     let own : Earlier = (Q4, weak) ∷ (Q12, v) ∷ [] in

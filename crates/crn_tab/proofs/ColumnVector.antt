@@ -100,7 +100,7 @@ meets a at order rows col k i z t member k_lt own i_lt space rest =
     ap (λ (x : ℤ). x *ℤ entry z col +ℤ entry row n *ℤ entry z k) (sym at_col) ∙ ap (λ (x : ℤ). entry w col *ℤ entry z col +ℤ x *ℤ entry z k) (sym at_k)
     ∙ sym (dot_pair w z col k ne others) ∙ orthogonal a w z (t.each i i_lt).dual space
 
--- from a z + d y = 0 and v d = - (a l): v z = l y, where d is not 0
+-- from a z + d y = 0 and v d = - (a l): v z = l y, if d is not 0
 crossed : (a d z y v l : ℤ) → d ≢ pos 0 → a *ℤ z +ℤ d *ℤ y ≡ pos 0 → v *ℤ d ≡ neg_ℤ (a *ℤ l) → v *ℤ z ≡ l *ℤ y
 crossed a d z y v l ne e f =
     let first : d *ℤ (v *ℤ z) ≡ z *ℤ (v *ℤ d) = ap (λ (t : ℤ). d *ℤ t) (*ℤ_comm v z) ∙ left-comm d z v ∙ ap (λ (t : ℤ). z *ℤ t) (*ℤ_comm d v) in
@@ -175,7 +175,7 @@ smaller y d a l t some e h =
     let same : y * d ≡ a * l * t = e ∙ sym (mul_assoc a l t) in
     dvd_of_mul-dvd-mul_right d some (subst (λ m. m ∣ a * l * t) (mul_comm t d) (subst (D (t * d)) same first))
 
--- it is primitive where the scale is the least
+-- it is primitive if the scale is the least
 pub column_primitive : (a : Mat) (at order : List ℕ) (rows : List ℤ) (col l : ℕ) (v : List ℤ) → IsTableau a at order rows → IsColumn a at rows col l v
     → IsScale a.cols (slice_index at col) rows (length a.rows) l → IsPrimitive v
 column_primitive a at order rows col l v t is s d divides =

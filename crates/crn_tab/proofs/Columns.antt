@@ -89,7 +89,7 @@ some_own_column a basis b w h nw prim = elim (is_none (entry w b)) [
   ])))
 ]
 
--- where a coordinate of the basis names a small vector, it names no wide one
+-- if a coordinate of the basis names a small vector, it names no wide one
 pub small_column : (a : Mat) (basis : List ℕ) (b : ℕ) (w : List ℤ) → IsIn b basis → IsNamed a basis b w → AreSmall w → ¬ WideAt a basis b
 small_column a basis b w member mine small (v, named, (j, big)) = elim named.named [
   | inr row ↦ row.outside member
@@ -148,7 +148,7 @@ column_elementary a basis b w member named = elim named.named as (λ _. IsElemen
       }
 ]
 
--- where a basis and a coordinate name a wide vector, some primitive elementary vector is wide
+-- if a basis and a coordinate name a wide vector, some primitive elementary vector is wide
 pub wide_shown : (a : Mat) (basis : List ℕ) (k : ℕ) → AreOfLength a.cols a.rows → WideAt a basis k → IsWideMatrix a
 wide_shown a basis k long wide =
     let v : List ℤ = wide.0 in

@@ -42,7 +42,7 @@ put_twice v n x h e = same_rows (put (put v n x) n (pos 0)) v (length-set (put v
 one_zero : (a b : ℤ) → a *ℤ pos 1 ≡ (pos 1 *ℤ a) -ℤ (pos 0 *ℤ b)
 one_zero a b = omega (arith, ints, zero-*ℤ b)
 
--- where the leaving coordinate is not in the row, the row stays
+-- if the leaving coordinate is not in the row, the row stays
 pub new_row_none : (n c : ℕ) (old lead : List ℤ) → c < length old → entry old c ≡ pos 0 → IsContent old 1 → IsNewRow n c old lead old
 new_row_none n c old lead lt e h = record {
   p = pos 1;

@@ -120,7 +120,7 @@ basis_suc j n (s ∷ at) (suc k) h =
     basis_suc (suc j) n at k (omega arith) ∙ ap (λ i. basis_from (suc j) n (take k at) ++ choose (nat_lt (slice_index at k) n) (i ∷ []) []) (let e : suc j + k ≡ j + suc k = omega arith in e) in
     basis_more (nat_lt s n) j (basis_from (suc j) n (take (suc k) at)) (basis_from (suc j) n (take k at)) (choose (nat_lt (slice_index at k) n) ((j + suc k) ∷ []) []) rest
 
--- one more coordinate joins the basis where its slot is below n
+-- one more coordinate joins the basis if its slot is below n
 pub basis_joins : (n : ℕ) (at : List ℕ) (k : ℕ) → k < length at → slice_index at k < n → basis_of n (take (k + 1) at) ≡ basis_of n (take k at) ++ (k ∷ [])
 basis_joins n at k h lt = rw add-one (basis_suc 0 n at k h ∙ ap (λ b. basis_of n (take k at) ++ choose b ((0 + k) ∷ []) []) (lt_true (slice_index at k) n lt)
     ∙ ap (λ i. basis_of n (take k at) ++ (i ∷ [])) (let e : 0 + k ≡ k = omega arith in e))

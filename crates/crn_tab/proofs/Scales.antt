@@ -15,7 +15,7 @@ use Rattle.crn_tab.proofs.Signs.{gcd_by}
 times : (a l k : ℕ) → l ∣ k → a * l ∣ a * k
 times a l k h = subst (λ n. n ∣ a * k) (mul_comm l a) (subst (λ n. l * a ∣ n) (mul_comm k a) (mul-dvd-mul_right l h a))
 
--- with d = q g and g the greatest common divisor of a and d: d divides a x exactly where q divides x
+-- with d = q g and g the greatest common divisor of a and d: d divides a x if and only if q divides x
 pub whole_from : (a d q g x : ℕ) → IsGcd a d g → q * g ≡ d → q ∣ x → d ∣ a * x
 whole_from a d q g x is e h =
     let D : ℕ → ℕ → Type 0 = λ m n. m ∣ n in

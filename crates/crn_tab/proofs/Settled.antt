@@ -50,7 +50,7 @@ other_part d m a b h first =
       ]
     ]
 
--- what divides each entry of p x - q y, where p and q have no common divisor, divides x at n:
+-- what divides each entry of p x - q y, if p and q have no common divisor, divides x at n:
 -- there y is 0, and with a multiple of p in place of that it is the primitive row v
 pub settled : (d n h : ℕ) (p q : ℤ) (x y v : List ℤ) → IsGcd (unsigned_abs p) (unsigned_abs q) 1
     → ((k : ℕ) → d ∣ unsigned_abs ((p *ℤ entry x k) -ℤ (q *ℤ entry y k))) → entry y n ≡ pos 0

@@ -97,7 +97,7 @@ some_own a basis k w wide h nw prim = elim (is_none (entry w k)) [
       absurd (omega (arith, two))
 ]
 
--- where a coordinate outside the basis names a small vector, it names no wide one
+-- if a coordinate outside the basis names a small vector, it names no wide one
 pub small_name : (a : Mat) (basis : List ℕ) (k : ℕ) (w : List ℤ) → AreOfLength a.cols a.rows → ¬ IsIn k basis → IsNamed a basis k w → AreSmall w → ¬ WideAt a basis k
 small_name a basis k w wide out mine small (v, named, (j, big)) = elim named.named [
   | inl column ↦ out column.member

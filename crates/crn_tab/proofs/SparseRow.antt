@@ -1,4 +1,4 @@
--- A row less a low multiple of the lead, where the row has the factor 1.
+-- A row less a low multiple of the lead, if the row has the factor 1.
 use Rattle.std.proofs.Common.{◌≡◌, ℕ, zero, suc, ◌^◌, ◌<◌, ◌⊎◌, inl, inr, List, [], ◌∷◌, length, refl, sym, ap, subst, ◌∙◌, arith, to_z, of_z}
 use Rattle.std.specs.Prelude.{ℤ, pos, neg_ℤ, ◌-ℤ◌, ◌*ℤ◌, FitsSigned, slice_index, slice_index_or, unsigned_abs}
 use Rattle.std.specs.Int.{w64}

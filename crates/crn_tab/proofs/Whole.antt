@@ -1,4 +1,4 @@
--- What a tableau keeps, where other lists hold the same.
+-- What a tableau keeps, if other lists hold the same.
 use Rattle.std.proofs.Common.{◌≡◌, ◌≤◌, ◌+◌, ◌++◌, ℕ, List, Bool, length, take, drop, ap, sym, subst, ◌∙◌}
 use Rattle.std.specs.Prelude.{ℤ, IsTrue}
 use Rattle.std.proofs.Math.Seq.{take-append_seam}

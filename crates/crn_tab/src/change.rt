@@ -35,7 +35,7 @@ fn take_lead(row: &mut [i64], lead: &[i64], places: &[usize], q: &i64) -> bool
     low
 }
 
-// The primitive difference of a row and a multiple of the lead, in place of the row, where the row itself has the factor 1.
+// The primitive difference of a row and a multiple of the lead, in place of the row, if the row itself has the factor 1.
 // Whatever divides all of it divides `known`. The answer is whether its entries are low.
 fn change_few(row: &mut [i64], lead: &[i64], places: &[usize], q: &i64, known: &i64) -> bool
     requires few { length row.old ≤ 2 ^ 20 }
@@ -201,7 +201,7 @@ fn change_rows(rows: &mut [i64], m: usize, lead: &Lead) -> bool
     low
 }
 
-// The rows after the exchange of the coordinate at slot c and that of row r, where all entries are low. The answer is whether they all still are.
+// The rows after the exchange of the coordinate at slot c and that of row r, if all entries are low. The answer is whether they all still are.
 pub(crate) fn changed_rows(
     rows: &mut [i64],
     m: usize,

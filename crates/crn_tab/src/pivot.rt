@@ -152,7 +152,7 @@ fn wider_rows(
     least
 }
 
-// The same, in place where all entries are low.
+// The same, in place if all entries are low.
 pub(crate) fn new_rows(
     rows: &mut [i64],
     low: &mut bool,

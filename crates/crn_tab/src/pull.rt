@@ -8,7 +8,7 @@ use crate::fill::part;
 use crate::tableau::Tableau;
 use crn_vec::{Kind, unit_asked};
 
-// Minus the sum of the products of a row and what the members of the basis have, as their kinds ask, and the row's own entry.
+// Minus the sum of the products of a row and what the members of the basis have, as their kinds require, and the row's own entry.
 fn pull_of(fields: &Fields, row: usize, kinds: &[Kind]) -> (i128, i128)
     requires tableau { IsTableau fields.now.matrix.now fields.now.at.now fields.now.order.now
         fields.now.rows.now }
@@ -27,7 +27,7 @@ fn pull_of(fields: &Fields, row: usize, kinds: &[Kind]) -> (i128, i128)
 }
 
 impl Tableau {
-    /// What a coordinate outside the basis has where each member of the basis has 1 or -1, as its kind asks, or 0 if it asks neither:
+    /// What a coordinate outside the basis has if each member of the basis has 1 or -1, as its kind requires, or 0 if it requires neither:
     /// a numerator, and the denominator.
     ///
     /// Nothing is promised of these numbers: they choose an exchange or are put together to what is tested. It takes no memory.

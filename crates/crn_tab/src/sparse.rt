@@ -62,7 +62,7 @@ fn put_differences(row: &[i64], lead: &[i64], places: &[usize], q: &i64, into: &
     true
 }
 
-// The primitive difference of a row without its entry at c and a low multiple of the lead, into a list of its length, where the row itself has the factor 1.
+// The primitive difference of a row without its entry at c and a low multiple of the lead, into a list of its length, if the row itself has the factor 1.
 // It goes over the places of the lead, so a lead with few makes few steps. If the answer is no, the list holds nothing of use.
 pub(crate) fn combine_sparse(
     row: &[i64],

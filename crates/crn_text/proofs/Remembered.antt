@@ -57,7 +57,7 @@ sound_front text number left net h =
 pub follows_size : (text : List ℕ) (rest : Bor (List ℕ)) → Follows text (Some rest) → length rest.now ≤ length text
 follows_size text rest f = omega (arith, ap length f.1, length-append f.0 rest.now)
 
--- the line stands where what is left begins
+-- the line is where what is left begins
 pub line_stands : (text line : List ℕ) (rest : Bor (List ℕ)) (next : Option (Bor (List ℕ))) → Follows text (Some rest) → SplitsAt 10 rest.now line next → take (length line) (drop (length text - length rest.now) text) ≡ line
 line_stands text line rest next f split =
     let at : length text - length rest.now ≡ length f.0 = omega (arith, ap length f.1, length-append f.0 rest.now) in

@@ -7,14 +7,14 @@ use crn_vec::MAX_TEXT;
 // How many lines are remembered at most. Of a network's lines few share a slot.
 const SLOTS: usize = 256;
 
-/// Where a line of a text stands: its first byte, counted from 0, and how many bytes it has.
+/// Where a line of a text is: its first byte, counted from 0, and how many bytes it has.
 #[derive(Clone, Copy)]
 pub(crate) struct Place {
     at: u32,
     length: u32,
 }
 
-/// Where lines stand that were read before, each in the slot of its bytes. A later line takes the slot of an earlier
+/// Where lines are that were read before, each in the slot of its bytes. A later line takes the slot of an earlier
 /// one, so a line that is not found here may have been read all the same.
 #[derive(Drop)]
 pub(crate) struct Known {
@@ -64,7 +64,7 @@ impl Known {
         bytes_at(text, self.places[slot(line)]) == line
     }
 
-    /// Remembers a line that stands at this place in the text.
+    /// Remembers a line that is at this place in the text.
     pub(crate) fn put(&mut self, line: &[u8], at: usize)
         requires short { length line.now ≤ MAX_TEXT }
         requires inside { at ≤ MAX_TEXT }

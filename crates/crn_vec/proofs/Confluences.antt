@@ -26,7 +26,7 @@ use Rattle.crn_vec.proofs.Carried.{length-column, gain_made}
 
 -- ---- marks of classes along reactions
 
--- a mark is 1 where the property holds
+-- a mark is 1 if the property holds
 mark_is : (P : ℕ → Type 0) (m : List ℤ) → AreMarks P m → (y : ℕ) → y < length m → P y → entry m y ≡ pos 1
 mark_is P m r y l p = elim (r y l) [ inl h ↦ h.1 | inr h ↦ absurd (h.0 p) ]
 
@@ -141,7 +141,7 @@ carried_gathers net s t lt term =
     let m = terminal_at net s t lt term in
     (gain net.reactions s.bs (entry m.marks), carried_over net s (SameStrong net.reactions t) m.marks m.long m.right, gain_raised net.reactions s.bs (entry m.marks) s.positive.positive m.raised)
 
--- where nothing flows into a terminal class, it is its linkage class
+-- if nothing flows into a terminal class, it is its linkage class
 none_enters : (net : Net) (s : Setting net) (t : ℕ) → IsComplex net t → (m : Terminal net t) → gain net.reactions s.bs (entry m.marks) ≡ pos 0
     → (z : ℕ) → SameClass net.reactions t z → SameStrong net.reactions t z
 none_enters net s t lt m none z walk =
@@ -161,7 +161,7 @@ one_of : (P : ℕ → Type 0) (Same : ℕ → ℕ → Type 0) → IsNumberOf P S
 one_of P Same ([], r, e) = absurd (omega arith)
 one_of P Same (t ∷ ts, r, e) = (t, r.members t (inl refl))
 
--- where each terminal class is its linkage class, the network is weakly reversible
+-- if each terminal class is its linkage class, the network is weakly reversible
 all_strong : (net : Net) (s : Setting net) → ((t : ℕ) → IsComplex net t → IsTerminal net.reactions t → (z : ℕ) → SameClass net.reactions t z → SameStrong net.reactions t z)
     → IsWeaklyReversible net.reactions
 all_strong net s whole =
@@ -227,7 +227,7 @@ sums_ratio net s g h P x y k sg sh over_g over_h =
     let there : dot over_g.marks h ≡ y = sums_one h P P (dot over_g.marks h) y (λ z p. p) (λ z p. p) (sum_by h P over_g.marks (over_g.long ∙ l) over_g.right) over_h in
     ap (λ (z : ℤ). z *ℤ entry h k) (sym over_g.is) ∙ ratio ∙ ap (λ (z : ℤ). z *ℤ entry g k) there
 
--- where every terminal sum of a confluence vector is zero, the network is weakly reversible
+-- if every terminal sum of a confluence vector is zero, the network is weakly reversible
 still_vector : (net : Net) (s : Setting net) (g : List ℤ) → IsConfluenceVector net g → IsStill net g → IsWeaklyReversible net.reactions
 still_vector net s g c still =
     still_flow net s (λ t x lt term over.

@@ -88,7 +88,7 @@ pub all_given : {A : Type 0} (P : A → Type 0) (xs : List A) (d : A) → ((k : 
 all_given P [] d h = tt
 all_given P (x ∷ xs) d h = (h 0 (omega arith), all_given P xs d (λ k lt. h (suc k) (omega (arith, lt))))
 
--- what is said past the end tells nothing of a place inside
+-- what is said past the end says nothing of a place inside
 pub any_default : {A : Type 0} (d e : A) (xs : List A) (k : ℕ) → k < length xs → get_or xs k d ≡ get_or xs k e
 any_default d e [] k h = absurd (omega arith)
 any_default d e (x ∷ xs) zero h = refl

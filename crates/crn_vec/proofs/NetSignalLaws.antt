@@ -47,7 +47,7 @@ top_inside [] y k e = absurd cc
 top_inside (o ∷ tops) zero k e = omega arith
 top_inside (o ∷ tops) (suc y) k e = let h = top_inside tops y k e in omega (arith, h)
 
--- both number a complex alike where they do so for all earlier ones
+-- both number a complex alike if they do so for all earlier ones
 top_next : (net : Net) (ts us : List (Option ℕ)) (m n y : ℕ) → AreTops net ts m → AreTops net us n → ((x : ℕ) → x < y → top_at ts x ≡ top_at us x) → top_at ts y ≡ top_at us y
 top_next net ts us m n y t u before = elim (option_or (top_at ts y)) as (λ _. top_at ts y ≡ top_at us y) [
   | inl a ↦ elim (option_or (top_at us y)) as (λ _. top_at ts y ≡ top_at us y) [

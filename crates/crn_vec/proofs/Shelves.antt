@@ -1,4 +1,4 @@
--- A signal is there exactly where some full prefix of its problem is feasible.
+-- A signal is there if and only if some full prefix of its problem is feasible.
 use Rattle.std.proofs.Common.{◌≡◌, ◌≢◌, ℕ, zero, suc, ◌+◌, ◌<◌, ◌⊎◌, inl, inr, List, [], ◌∷◌, ◌++◌, length, map, take, drop, replicate, Bool, true, false, ◌&&◌, cond, refl, sym, ap, ap₂, subst, ◌∙◌, arith, eqb}
 use Rattle.std.specs.Prelude.{ℤ, pos, negsuc, neg_ℤ, ◌+ℤ◌, ◌-ℤ◌, ◌*ℤ◌, Option, Some, None, nat_lt, nat_le, ◌||◌}
 use Rattle.std.specs.List.{AllZip, AllByRecursion}

@@ -31,7 +31,7 @@ zip_back R [] xs' v h = h
 zip_back R (x ∷ xs) xs' [] h = absurd h
 zip_back R (x ∷ xs) xs' (y ∷ v) h = zip_back R xs xs' v h.1
 
--- kinds that ask at least as much, place by place
+-- kinds that require at least as much, place by place
 abbrev pub Refines : Kind → Kind → Type 0
 Refines κ' κ = (κ ≡ Free) ⊎ (κ' ≡ κ)
 

@@ -75,8 +75,7 @@ abbrev pub negative : List ℤ → List ℤ
 negative g = scale (neg_ℤ (pos 1)) g
 
 -- there is a confluence vector, every two are multiples of each other, and the negative of one is
--- one if and only if
--- the network is weakly reversible
+-- one if and only if the network is weakly reversible
 pub record AreConfluencesOne (net : Net) : Type 0 where
   pub some : (g : List ℤ) × IsConfluenceVector net g
   pub one : (g h : List ℤ) → IsConfluenceVector net g → IsConfluenceVector net h

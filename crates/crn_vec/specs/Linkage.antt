@@ -6,15 +6,11 @@
 -- from 1.
 use Rattle.std.specs.Prelude.{◌≡◌, ◌≤◌, ◌<◌, ◌⊎◌, ℕ, List, length, slice_index}
 use Rattle.crn_vec.specs.Lists.{IsIn}
-use Rattle.crn_vec.specs.Walks.{IsAlong, LeadsTo, AreLabelsOf}
+use Rattle.crn_vec.specs.Walks.{LeadsTo, AreLabelsOf}
 
 -- a reaction goes from one to the other, in either direction
 abbrev pub IsLinked : List (ℕ × ℕ) → ℕ → ℕ → Type 0
 IsLinked reactions y z = IsIn (y, z) reactions ⊎ IsIn (z, y) reactions
-
--- a walk from y over these steps ends at z
-abbrev pub IsWalk : List (ℕ × ℕ) → ℕ → List ℕ → ℕ → Type 0
-IsWalk reactions y steps z = IsAlong (IsLinked reactions) y steps z
 
 -- some walk along links leads from y to z
 abbrev pub SameClass : List (ℕ × ℕ) → ℕ → ℕ → Type 0

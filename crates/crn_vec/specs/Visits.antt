@@ -44,7 +44,7 @@ IsVisitList w visits found = Visits w root visits found
 abbrev pub PassesBudget : Signed → ℕ → Type 0
 PassesBudget w budget = Passes w root budget
 
--- the prefixes that an unbounded search comes to: the empty one, and the children of those that
+-- the prefixes that an unbounded search comes to: the empty one, and the children of those that are
 -- feasible
 pub data IsReached (w : Signed) : List Sign → Type 0 where
   first : IsReached w []

@@ -9,7 +9,7 @@ use Rattle.crn_ctext.specs.Course.{Course, Give, ◌>>=◌, ends}
 use Rattle.crn_ctext.specs.Blocks.{ReadOf, asks}
 use Rattle.crn_ctext.specs.Steps.{StepEnds}
 use Rattle.crn_document.specs.declared.reading.Reading.{Reading}
-use Rattle.crn_document.specs.declared.stop.CheckStop.{CheckStop}
+use Rattle.crn_document.specs.declared.fault.CheckStop.{CheckStop}
 use Rattle.crn_document.specs.Inner.Steps.{StopIs}
 
 -- nothing is left, and this was read

@@ -9,8 +9,8 @@ use Rattle.crn_io.specs.declared.lines.TheConstants.{MAX_DOCUMENT, MAX_AHEAD, MA
 use Rattle.crn_ctext.specs.Course.{Course}
 use Rattle.crn_ctext.specs.Steps.{StepGives, StepFails}
 use Rattle.crn_document.specs.declared.reading.Reading.{Reading}
-use Rattle.crn_document.specs.declared.stop.CheckStop.{CheckStop}
-use Rattle.crn_document.specs.declared.stop.CheckStop.TheVariants.{Rejected, Failed, NoMemory}
+use Rattle.crn_document.specs.declared.fault.CheckStop.{CheckStop}
+use Rattle.crn_document.specs.declared.fault.CheckStop.TheVariants.{Rejected, Failed, NoMemory}
 
 -- another line may be asked for
 pub record CanRead (at : Reading) : Type 0 where

@@ -3,7 +3,7 @@ use Rattle.std.proofs.lemmas.Result.{err_from_is_err_and}
 use Rattle.crn_check.specs.Facts.{asked}
 use Rattle.crn_check.proofs.CallerLemmas.{answer_treeless}
 use Rattle.crn_document.specs.declared.parts.Part.{Part}
-use Rattle.crn_document.specs.declared.stop.CheckStop.TheVariants as stop
+use Rattle.crn_document.specs.declared.fault.CheckStop.TheVariants as stop
 use Rattle.crn_document.specs.Inner.Answers.{FitAnswer}
 use Rattle.crn_document.specs.Inner.Blocks.{tests_course}
 use Rattle.crn_document.specs.Inner.Parts.{before}

@@ -13,7 +13,7 @@ use Rattle.crn_document.proofs.Linkages.{terminal_few}
 use Rattle.crn_vec.specs.declared.limits.TheConstants.{MAX_COMPLEXES}
 use Rattle.crn_check.specs.Facts.{asked}
 use Rattle.crn_document.specs.declared.rows.Row.{Row}
-use Rattle.crn_document.specs.declared.stop.CheckStop.TheVariants as stop
+use Rattle.crn_document.specs.declared.fault.CheckStop.TheVariants as stop
 use Rattle.crn_document.specs.Inner.Blocks.{IsAfter, after_at, end_course, forms_below, parts_after}
 use Rattle.crn_document.specs.Inner.Parts.{parts_below}
 use Rattle.crn_document.specs.Inner.Records.{MayBeRow, row_form}

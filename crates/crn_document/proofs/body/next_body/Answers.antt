@@ -1,6 +1,6 @@
 use Rattle.std.proofs.Common.{refl}
 use Rattle.std.proofs.lemmas.Result.{err_from_is_err_and}
-use Rattle.crn_document.specs.declared.stop.CheckStop.TheVariants as stop
+use Rattle.crn_document.specs.declared.fault.CheckStop.TheVariants as stop
 use Rattle.crn_document.proofs.Bodies.{last_exits}
 use Rattle.crn_document.proofs.Steps.{stops_here}
 use Rattle.crn_document.proofs.body.next_body.Goals as goal

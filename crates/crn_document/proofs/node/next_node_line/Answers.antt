@@ -5,7 +5,7 @@ use Rattle.crn_io.specs.Lines.{Place}
 use Rattle.crn_ctext.proofs.CallerLemmas.{step_fails_then}
 use Rattle.crn_ctext.specs.Course.{due, Gives, FailsFirst}
 use Rattle.crn_ctext.specs.Expect.{IsReadAs, tests_of}
-use Rattle.crn_document.specs.declared.stop.CheckStop.TheVariants as stop
+use Rattle.crn_document.specs.declared.fault.CheckStop.TheVariants as stop
 use Rattle.crn_document.specs.Inner.Met.{IsNodeLineAs}
 use Rattle.crn_document.specs.Inner.Trees.{asks_node_for}
 use Rattle.crn_document.proofs.MetLines.{line_reads, met_at}

@@ -3,7 +3,7 @@ use Rattle.std.proofs.lemmas.Result.{err_from_is_err_and}
 use Rattle.crn_ctext.specs.Course.{due}
 use Rattle.crn_document.specs.Inner.Opening.{IsKeptLine}
 use Rattle.crn_document.specs.Inner.Steps.{StopIs}
-use Rattle.crn_document.specs.declared.stop.CheckStop.TheVariants as stop
+use Rattle.crn_document.specs.declared.fault.CheckStop.TheVariants as stop
 use Rattle.crn_document.proofs.Steps.{stop_first, step_exits}
 use Rattle.crn_document.proofs.FoundLines.{memory_after}
 use Rattle.crn_document.proofs.NetworkLines.{lines_after, first_line, no_lines, lines_then}

@@ -5,7 +5,7 @@ use Rattle.crn_vec.specs.Network.{Net}
 use Rattle.crn_ctext.specs.Course.{find}
 use Rattle.crn_ctext.specs.Blocks.{asks_lines, ended, IsNetworkOf}
 use Rattle.crn_document.specs.Inner.Network.{IsCanonicalText}
-use Rattle.crn_document.specs.declared.stop.CheckStop.TheVariants as stop
+use Rattle.crn_document.specs.declared.fault.CheckStop.TheVariants as stop
 use Rattle.crn_document.proofs.Steps.{stop_first, step_exits}
 use Rattle.crn_document.proofs.FoundLines.{lines_found, lines_refused, memory_after}
 use Rattle.crn_document.proofs.LongLines.{no_long_line}

@@ -4,7 +4,7 @@ use Rattle.crn_io.specs.Device.{SourceSeen}
 use Rattle.crn_ctext.specs.Kinds.{vector_form}
 use Rattle.crn_ctext.specs.Blocks.{asks_all}
 use Rattle.crn_document.specs.declared.reading.Reading.{Reading}
-use Rattle.crn_document.specs.declared.stop.CheckStop.{CheckStop}
+use Rattle.crn_document.specs.declared.fault.CheckStop.{CheckStop}
 use Rattle.crn_document.specs.Inner.Steps.{GoesOn, StepIs}
 use Rattle.crn_document.specs.Inner.Table.{AreKept}
 use Rattle.crn_document.proofs.table.next_vectors.Given as goal

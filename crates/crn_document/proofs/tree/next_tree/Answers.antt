@@ -13,7 +13,7 @@ use Rattle.crn_document.specs.declared.met.MetLine.{MetLine}
 use Rattle.crn_document.specs.Inner.Met.{AreMet}
 use Rattle.crn_ctree.specs.declared.node.Step.{Step}
 use Rattle.crn_ctree.specs.declared.problem.Problem.{Problem}
-use Rattle.crn_document.specs.declared.stop.CheckStop.TheVariants as stop
+use Rattle.crn_document.specs.declared.fault.CheckStop.TheVariants as stop
 use Rattle.crn_document.specs.Inner.Steps.{StepIs, StopIs}
 use Rattle.crn_document.specs.Inner.Trees.{ExpectsNode, Leaves, asks_due, asks_one, count_a, problem_in}
 use Rattle.crn_document.proofs.Steps.{step_exits, stops_here}
