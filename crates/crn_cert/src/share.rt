@@ -116,7 +116,7 @@ fn mark_of(list: &[i128]) -> usize
     (mark_after(0, list) >> 32) as usize % MARKS
 }
 
-// Whether two lists are the same, by few steps where they are short.
+// Whether two lists are the same, by few steps if they are short.
 fn are_same(left: &[i128], right: &[i128]) -> bool
     ensures { IsTrue result ↔ (left.now ≡ right.now) }
 {

@@ -7,7 +7,7 @@ fn same_eights(left: [u8; 8], right: [u8; 8]) -> bool
     u64::from_le_bytes(left) == u64::from_le_bytes(right)
 }
 
-/// Whether two lists of bytes are the same, by few steps where they are short.
+/// Whether two lists of bytes are the same, by few steps if they are short.
 pub fn are_same(left: &[u8], right: &[u8]) -> bool
     ensures { IsTrue result ↔ (left.now ≡ right.now) }
 {

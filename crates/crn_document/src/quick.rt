@@ -110,7 +110,7 @@ fn read_naming(expect: &Expect, shared: u32, line: &[u8], into: &mut Ints) -> Op
     None
 }
 
-// Reads a line where a node is due as `read_record` does.
+// Reads a line as a node that is due, as `read_record` does.
 fn read_due(expect: &Expect, shared: u32, line: &[u8], into: &mut Ints) -> Result<Word, DocCode>
     requires due { IsExpectable expect.now }
     requires node { HasNodeDue expect.now shared }

@@ -34,10 +34,6 @@ column_suc (r ∷ rows) (suc i) j lt = ap (λ (t : List ℤ). entry r j ∷ t) (
 pub column_step : (rows : List (List ℤ)) (i j : ℕ) → i < length rows → column (take (i + 1) rows) j ≡ column (take i rows) j ++ entry (get_or rows i []) j ∷ []
 column_step rows i j lt = rw add-one (column_suc rows i j lt)
 
-pub within_push : (m : ℕ) (v : List ℤ) (x : ℤ) → AreWithin m v → unsigned_abs x ≤ m → AreWithin m (v ++ x ∷ [])
-within_push m [] x h k = (k, tt)
-within_push m (y ∷ v) x h k = (h.0, within_push m v x h.1 k)
-
 pub within_72 : (u : List ℤ) → ((k : ℕ) → unsigned_abs (entry u k) < WIDE_ENTRY) → AreWithin (2 ^ 72) u
 within_72 u h = within_from (2 ^ 72) u (λ k lt. let le : WIDE_ENTRY ≤ 2 ^ 72 = lit≤ tt in omega (arith, h k, le))
 

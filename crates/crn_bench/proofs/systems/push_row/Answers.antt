@@ -1,14 +1,10 @@
-use Rattle.std.proofs.Common.{◌≤◌, ◌++◌, ◌∷◌, [], List, sym, subst, arith, to_z, of_z}
-use Rattle.std.specs.Prelude.{ℤ, unsigned_abs}
+use Rattle.std.proofs.Common.{◌∷◌, [], sym, subst, arith, to_z, of_z}
 use Rattle.std.specs.Int.{w128}
 use Rattle.std.proofs.lemmas.Int.{to_z-of_z}
 use Rattle.crn_vec.specs.declared.limits.TheConstants.{MAX_AMOUNT}
 use Rattle.crn_vec.specs.Vectors.{AreWithin}
+use Rattle.crn_vec.proofs.CallerLemmas.{within_append}
 use Rattle.crn_bench.proofs.systems.push_row.Goals as goal
-
-within_push : (xs : List ℤ) (x : ℤ) → AreWithin MAX_AMOUNT xs → unsigned_abs x ≤ MAX_AMOUNT → AreWithin MAX_AMOUNT (xs ++ x ∷ [])
-within_push [] x h s = (s, tt)
-within_push (y ∷ xs) x h s = (h.0, within_push xs x h.1 s)
 
 pub loop-j-preserved : goal.loop-j-preserved
 loop-j-preserved c =
@@ -16,6 +12,6 @@ loop-j-preserved c =
     let items = c.in_ok-push.ensures.items in
     let len = c.in_ok-push.ensures.len in
     record {
-      within = subst (λ v. AreWithin MAX_AMOUNT v) (sym items) (within_push c.loop-j.entries.items (to_z w128 (of_z w128 c.change.result)) c.loop-j.invariant.within (rw same c.change.ensures));
+      within = subst (λ v. AreWithin MAX_AMOUNT v) (sym items) (within_append MAX_AMOUNT c.loop-j.entries.items (to_z w128 (of_z w128 c.change.result) ∷ []) c.loop-j.invariant.within (rw same c.change.ensures, tt));
       count = omega (arith, len, c.loop-j.invariant.count);
     }

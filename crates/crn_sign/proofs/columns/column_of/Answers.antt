@@ -3,7 +3,8 @@ use Rattle.std.specs.Int.{w128}
 use Rattle.std.proofs.lemmas.Int.{to_z-of_z}
 use Rattle.crn_vec.specs.Vectors.{entry, AreWithin}
 use Rattle.crn_vec.specs.declared.limits.TheConstants.{MAX_AMOUNT}
-use Rattle.crn_sign.proofs.PastLaws.{column_step, within_push}
+use Rattle.crn_vec.proofs.CallerLemmas.{within_append}
+use Rattle.crn_sign.proofs.PastLaws.{column_step}
 use Rattle.crn_sign.proofs.columns.column_of.Goals as goal
 
 pub loop-row-preserved : goal.loop-row-preserved
@@ -14,5 +15,5 @@ loop-row-preserved c =
     let pushed = to_z-of_z w128 c.entry.result (record { sfits = c.entry.type_inv }) in
     let is = c.in_ok-push.ensures.ok ∙ ap (λ (x : ℤ). c.loop-row.made.list ++ (x ∷ [])) pushed in (
       is ∙ ap (λ (x : ℤ). c.loop-row.made.list ++ (x ∷ [])) c.entry.ensures.value ∙ ap (λ (v : List ℤ). v ++ (entry (get_or rows i []) c.args.col ∷ [])) c.loop-row.invariant.0 ∙ sym (column_step rows i c.args.col lt),
-      subst (λ (v : List ℤ). AreWithin MAX_AMOUNT v) (sym is) (within_push MAX_AMOUNT c.loop-row.made.list c.entry.result c.loop-row.invariant.1 c.entry.ensures.small),
+      subst (λ (v : List ℤ). AreWithin MAX_AMOUNT v) (sym is) (within_append MAX_AMOUNT c.loop-row.made.list (c.entry.result ∷ []) c.loop-row.invariant.1 (c.entry.ensures.small, tt)),
     )
