@@ -59,15 +59,21 @@ def definitions_are_on_the_pages(repository, pages):
         yield f"{definition} is no inner definition (cited by {cause})", not definition.is_inner
 
 
-def public_definitions_are_on_the_pages(repository, pages):
-    """So has each other definition that other crates may cite."""
-    named = named_on(pages, repository)
+def definitions_outside_inner(repository):
+    """Each definition of specs/ that is not in specs/Inner."""
     for crate in repository.crates.needs:
         for file in repository.files(crate, "specs", ".antt"):
             for name in repository.definitions(file):
                 definition = Definition(file, name)
                 if not definition.is_inner:
-                    yield f"{definition} has a row, or is an inner definition", definition in named
+                    yield definition
+
+
+def public_definitions_are_on_the_pages(repository, pages):
+    """So has each other definition that other crates may cite."""
+    named = named_on(pages, repository)
+    for definition in definitions_outside_inner(repository):
+        yield f"{definition} has a row, or is an inner definition", definition in named
 
 
 def public_definitions_have_readers(repository):
@@ -80,12 +86,8 @@ def public_definitions_have_readers(repository):
                 if not target.file.startswith(f"{crate}/") and repository.is_there(target):
                     starts.setdefault(target, file)
     reached = repository.reached_from(starts)
-    for crate in repository.crates.needs:
-        for file in repository.files(crate, "specs", ".antt"):
-            for name in repository.definitions(file):
-                definition = Definition(file, name)
-                if not definition.is_inner:
-                    yield f"{definition} is read outside, or is an inner definition", definition in reached
+    for definition in definitions_outside_inner(repository):
+        yield f"{definition} is read outside, or is an inner definition", definition in reached
 
 
 def helpers_are_in_their_files(repository, pages):
