@@ -27,9 +27,9 @@ use Rattle.crn_check.proofs.Judging.{judges_go}
 
 -- ---- the vector of question 12 with a turn
 
-turned_space : (net : Net) (g : List ℤ) (turn : ℤ) → InConfluenceSpace net g → InConfluenceSpace net (by_turn turn g)
-turned_space net g (pos n) s = s
-turned_space net g (negsuc n) s = negative_space net g s
+signed_space : (net : Net) (g : List ℤ) (turn : ℤ) → InConfluenceSpace net g → InConfluenceSpace net (by_turn turn g)
+signed_space net g (pos n) s = s
+signed_space net g (negsuc n) s = negative_space net g s
 
 -- the vector of question 12, of which this shape is that with the turn
 record VectorOf (net : Net) (v : Verdict) (turn : ℤ) (s : Shape) : Type 0 where
@@ -44,7 +44,7 @@ vector_of net (YesVec vector) turn s h sh = record {
   g = vector.list;
   given = refl;
   regular = h.0;
-  space = turned_space net vector.list turn h.2.confluence.space;
+  space = signed_space net vector.list turn h.2.confluence.space;
   shape = sh;
 }
 vector_of net v turn s h sh = absurd sh

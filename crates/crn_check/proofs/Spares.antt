@@ -352,15 +352,15 @@ rows_12 net es (Unknown gap) p = alike _ _ refl
 rows_12 net es v p = alike _ _ refl
 
 -- the tests of a tree for the vector that is known, if one is, with a turn
-abbrev turned_tests : Net → ℤ → ℕ → Plan → Option (List ℤ) → List {1} Test
-turned_tests net turn part tree known = tree_tests (λ p said. IsSomeAnd known (λ g. IsSignalNode net (by_turn turn g) p said)) part [] tree
+abbrev opposite_tests : Net → ℤ → ℕ → Plan → Option (List ℤ) → List {1} Test
+opposite_tests net turn part tree known = tree_tests (λ p said. IsSomeAnd known (λ g. IsSignalNode net (by_turn turn g) p said)) part [] tree
 
 rows_13 : (net : Net) (es : Earlier) (v : Verdict) (p : Proof) → row_tests net (all_tight es) Q13 (tight v) (tight_proof p) ≡ row_tests net es Q13 v p
 rows_13 net es (YesSignal turn shelves mu level weights) p =
     ap (λ (known : Option (List ℤ)). test 4 45 (IsSomeAnd known (λ g. IsSignalOf net (by_turn turn g) (map sign shelves.list) mu.list level weights.list)) ∷ []) (vector_known_tight es)
-rows_13 net es No (One tree) = ap (turned_tests net (pos 1) 1 (plan tree)) (vector_known_tight es)
+rows_13 net es No (One tree) = ap (opposite_tests net (pos 1) 1 (plan tree)) (vector_known_tight es)
 rows_13 net es No (Two tree second) =
-    ap (λ (known : Option (List ℤ)). turned_tests net (pos 1) 1 (plan tree) known ++ turned_tests net (negsuc 0) (1 + node_count (plan tree)) (plan second) known) (vector_known_tight es)
+    ap (λ (known : Option (List ℤ)). opposite_tests net (pos 1) 1 (plan tree) known ++ opposite_tests net (negsuc 0) (1 + node_count (plan tree)) (plan second) known) (vector_known_tight es)
 rows_13 net es No p = refl
 rows_13 net es (Unknown gap) p = refl
 rows_13 net es v p = refl

@@ -14,7 +14,6 @@ use crate::confluence::{check_confluence, check_confluence_head};
 use crate::deficiency::{check_deficiency, check_deficiency_head};
 use crate::facts::Facts;
 use crate::fault::CheckFault;
-use crate::laws::meets_definition;
 use crate::linkage::check_linkage;
 use crate::one::check_one_head;
 use crate::positive::{check_conservation, check_dependence};
@@ -114,12 +113,12 @@ pub fn check_answer(
     ensures judged { let earlier = facts.old.earlier in
         Judges (tests_of net.now earlier (asked question) answer.now) result }
     ensures sound { OnOk result (IsTrueOrOpen net.now (asked question) answer.now.verdict) }
-    ensures kept { OnOk result (facts.new.earlier
+    ensures accepted { OnOk result (facts.new.earlier
         ≡ facts.old.earlier ++ (asked question, tight answer.now.verdict) ∷ []) }
     ensures same { OnErr result (facts.new ≡ facts.old) }
     ensures facts { AreFactsOf net.now facts.new }
 {
-    meets_definition(net);
+    net.meets_definition();
     check_head(net, facts, question, &answer.verdict)?;
     check_rows(net, facts, question, answer)?;
     facts.accept(question, &answer.verdict);
@@ -143,12 +142,12 @@ pub fn check_signal_answer(
     requires shape { IsShapeFor net.now facts.old.earlier answer.now.verdict shape.now }
     ensures judged { Judges (tests_of net.now facts.old.earlier Q13 answer.now) result }
     ensures sound { OnOk result (IsTrueOrOpen net.now Q13 answer.now.verdict) }
-    ensures kept { OnOk result (facts.new.earlier
+    ensures accepted { OnOk result (facts.new.earlier
         ≡ facts.old.earlier ++ (Q13, tight answer.now.verdict) ∷ []) }
     ensures same { OnErr result (facts.new ≡ facts.old) }
     ensures facts { AreFactsOf net.now facts.new }
 {
-    meets_definition(net);
+    net.meets_definition();
     check_head(net, facts, 13, &answer.verdict)?;
     check_signal_rows(net, shape, &answer.verdict)?;
     facts.accept(13, &answer.verdict);
@@ -175,7 +174,7 @@ pub fn accept_tree(net: &Network, facts: &mut Facts, question: u32)
     requires facts { AreFactsOf net.now facts.old }
     requires later { HoldsNoneFrom question facts.old.earlier }
     requires shown { IsTrueOf net.now (asked question) (shown_by_tree (asked question)) }
-    ensures kept { let q = asked question in
+    ensures accepted { let q = asked question in
         facts.new.earlier ≡ facts.old.earlier ++ (q, shown_by_tree q) ∷ [] }
     ensures facts { AreFactsOf net.now facts.new }
 {

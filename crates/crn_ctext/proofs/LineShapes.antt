@@ -123,8 +123,8 @@ members_passed members numbers i j lt a none = rw (drop_more members i 0 lt)
 pub chain : {P Q R : Type 0} → P ↔ Q → Q ↔ R → P ↔ R
 chain a b = ((λ p. b.0 (a.0 p)), (λ r. a.1 (b.1 r)))
 
-pub turned : {P Q : Type 0} → P ↔ Q → Q ↔ P
-turned a = (a.1, a.0)
+pub swapped : {P Q : Type 0} → P ↔ Q → Q ↔ P
+swapped a = (a.1, a.0)
 
 -- what an answer says of the rest it says of the whole
 pub through : {P Q R : Type 0} → P ↔ Q → R ↔ Q → P ↔ R

@@ -11,7 +11,7 @@ use Rattle.crn_vec.specs.declared.signs.Kind.{Kind}
 use Rattle.crn_vec.specs.declared.signs.Kind.TheVariants.{Pos, Neg, NonNeg, Zero, Free}
 use Rattle.crn_vec.specs.Systems.{MayWeigh, HasWeight, AreRuling, IsCut, is_signed, kind_at}
 use Rattle.crn_vec.specs.Concordance.{HasPositive, HasNegative, IsNought, GoesWith, IsDiscordant, shares, image}
-use Rattle.crn_vec.proofs.CallerLemmas.{listed, length-listed, entry-listed, weights_tell_cuts, cut_long}
+use Rattle.crn_vec.proofs.CallerLemmas.{listed, length-listed, entry-listed, weights_decide_cuts, cut_long}
 use Rattle.crn_ctext.proofs.Decided.{IsDecided, both_decided, one_decided, not_decided, if_decided, moved, nat_decided, bool_decided, int_decided, int_le_decided, all_decided}
 use Rattle.crn_ctext.proofs.TestsDecided.{some_below}
 
@@ -76,7 +76,7 @@ weights_dual a u long =
 
 pub cut_decided : (a : Mat) (kinds : List Kind) (u : List ℤ) → IsDecided (IsCut a kinds u)
 cut_decided a kinds u = elim (nat_decided (length u) (length a.rows)) [
-  | inl long ↦ let both = weights_tell_cuts a kinds u (weights a u) (weights_dual a u long) (rows_are a u) in moved both.1 both.0 (ruling_decided kinds (weights a u))
+  | inl long ↦ let both = weights_decide_cuts a kinds u (weights a u) (weights_dual a u long) (rows_are a u) in moved both.1 both.0 (ruling_decided kinds (weights a u))
   | inr apart ↦ inr (λ cut. apart (cut_long a kinds u cut))
 ]
 

@@ -13,7 +13,7 @@ use Rattle.crn_vec.specs.Vectors.{Mat, dot, entry, column}
 use Rattle.crn_vec.specs.Elementary.{InDualSpace, width}
 use Rattle.crn_vec.specs.Systems.{AreRuling, IsCut, MayWeigh, is_signed, kind_at}
 use Rattle.crn_vec.specs.Concordance.{column_kind, row_kinds, kinds_a_of, kinds_b_of}
-use Rattle.crn_vec.proofs.CallerLemmas.{zip_from, kinds_at, weights_tell_cuts, networks_have_tables, lt_or, past_end, rows_count, length-rows}
+use Rattle.crn_vec.proofs.CallerLemmas.{zip_from, kinds_at, weights_decide_cuts, networks_have_tables, lt_or, past_end, rows_count, length-rows}
 use Rattle.crn_cert.specs.Ranges.{AreFree}
 use Rattle.crn_ctree.specs.Problem.{problem_of, table_of}
 use Rattle.crn_ctree.specs.declared.problem.InfluenceTable.{InfluenceTable}
@@ -147,19 +147,19 @@ counts_last kinds w n same h not = elim (lt_or h.0 n) as (λ _. CountsTo kinds w
 
 -- ---- cuts
 
-cut_tells : (a : Mat) (kinds : List Kind) (u : List ℤ) → length u ≡ length a.rows → IsCut a kinds u ↔ AreRuling kinds (weights_of a u)
-cut_tells a kinds u e = weights_tell_cuts a kinds u (weights_of a u) (weights_dual a u e) (weights_end a u)
+cut_decides : (a : Mat) (kinds : List Kind) (u : List ℤ) → length u ≡ length a.rows → IsCut a kinds u ↔ AreRuling kinds (weights_of a u)
+cut_decides a kinds u e = weights_decide_cuts a kinds u (weights_of a u) (weights_dual a u e) (weights_end a u)
 
 pub cut_from : (a : Mat) (kinds : List Kind) (u : List ℤ) (n : ℕ) → length u ≡ length a.rows → length kinds ≡ width a → n ≡ width a → MayWeighTo kinds (weights_of a u) n → CountsTo kinds (weights_of a u) n → IsCut a kinds u
 cut_from a kinds u n e long f h some =
-    (cut_tells a kinds u e).1 (zip_from MayWeigh Free (pos 0) kinds (weights_of a u) (weights_long a u e ∙ sym long) (λ k lt. h k (omega (arith, lt, long, f))), (some.0, some.2, some.3))
+    (cut_decides a kinds u e).1 (zip_from MayWeigh Free (pos 0) kinds (weights_of a u) (weights_long a u e ∙ sym long) (λ k lt. h k (omega (arith, lt, long, f))), (some.0, some.2, some.3))
 
 pub cut_weighs : (a : Mat) (kinds : List Kind) (u : List ℤ) → length u ≡ length a.rows → IsCut a kinds u → (k : ℕ) → MayWeigh (kind_at kinds k) (entry (weights_of a u) k)
-cut_weighs a kinds u e cut = kinds_at MayWeigh kinds (weights_of a u) refl ((cut_tells a kinds u e).0 cut).0
+cut_weighs a kinds u e cut = kinds_at MayWeigh kinds (weights_of a u) refl ((cut_decides a kinds u e).0 cut).0
 
 pub cut_counts : (a : Mat) (kinds : List Kind) (u : List ℤ) (n : ℕ) → length u ≡ length a.rows → n ≡ width a → IsCut a kinds u → CountsTo kinds (weights_of a u) n
 cut_counts a kinds u n e f cut =
-    let some = ((cut_tells a kinds u e).0 cut).1 in
+    let some = ((cut_decides a kinds u e).0 cut).1 in
     elim (lt_or some.0 n) as (λ _. CountsTo kinds (weights_of a u) n) [
       | inl below ↦ (some.0, below, some.1, some.2)
       | inr above ↦ absurd (some.2 (past_end (weights_of a u) some.0 (omega (arith, above, f, weights_long a u e))))

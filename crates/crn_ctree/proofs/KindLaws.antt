@@ -80,24 +80,24 @@ product-opposite Minus Zero = refl
 product-opposite Minus Plus = refl
 product-opposite Minus Minus = refl
 
-some_turned : (test test' : Sign → Bool) → ((s : Sign) → test (opposite s) ≡ test' s) → (ss p : List Sign) → some_sign test (products (map opposite ss) p) ≡ some_sign test' (products ss p)
-some_turned test test' h [] p = refl
-some_turned test test' h (s ∷ ss) [] = refl
-some_turned test test' h (s ∷ ss) (t ∷ p) = ap₂ (λ (b c : Bool). cond b true c) (ap test (product-opposite s t) ∙ h (product s t)) (some_turned test test' h ss p)
+some_negative : (test test' : Sign → Bool) → ((s : Sign) → test (opposite s) ≡ test' s) → (ss p : List Sign) → some_sign test (products (map opposite ss) p) ≡ some_sign test' (products ss p)
+some_negative test test' h [] p = refl
+some_negative test test' h (s ∷ ss) [] = refl
+some_negative test test' h (s ∷ ss) (t ∷ p) = ap₂ (λ (b c : Bool). cond b true c) (ap test (product-opposite s t) ∙ h (product s t)) (some_negative test test' h ss p)
 
-zeros_turned : (n : ℕ) (ss : List Sign) → all_zero (drop n (map opposite ss)) ≡ all_zero (drop n ss)
-zeros_turned (suc n) [] = refl
-zeros_turned (suc n) (s ∷ ss) = zeros_turned n ss
-zeros_turned zero [] = refl
-zeros_turned zero (Zero ∷ ss) = zeros_turned zero ss
-zeros_turned zero (Plus ∷ ss) = refl
-zeros_turned zero (Minus ∷ ss) = refl
+zeros_negative : (n : ℕ) (ss : List Sign) → all_zero (drop n (map opposite ss)) ≡ all_zero (drop n ss)
+zeros_negative (suc n) [] = refl
+zeros_negative (suc n) (s ∷ ss) = zeros_negative n ss
+zeros_negative zero [] = refl
+zeros_negative zero (Zero ∷ ss) = zeros_negative zero ss
+zeros_negative zero (Plus ∷ ss) = refl
+zeros_negative zero (Minus ∷ ss) = refl
 
-column_turned : (ss p : List Sign) → column_kind (map opposite ss) p ≡ opposite_kind (column_kind ss p)
-column_turned ss p =
+column_negative : (ss p : List Sign) → column_kind (map opposite ss) p ≡ opposite_kind (column_kind ss p)
+column_negative ss p =
     let k : kind_of_sum (some_sign is_plus (products (map opposite ss) p)) (some_sign is_minus (products (map opposite ss) p)) ≡ opposite_kind (kind_of_sum (some_sign is_plus (products ss p)) (some_sign is_minus (products ss p))) =
-    ap₂ kind_of_sum (some_turned is_plus is_minus plus-opposite ss p) (some_turned is_minus is_plus minus-opposite ss p) ∙ sum-opposite (some_sign is_plus (products ss p)) (some_sign is_minus (products ss p)) in
-    ap₂ (λ (b : Bool) (κ : Kind). cond b κ Free) (zeros_turned (length p) ss) k ∙ cond-opposite (all_zero (drop (length p) ss)) (kind_of_sum (some_sign is_plus (products ss p)) (some_sign is_minus (products ss p)))
+    ap₂ kind_of_sum (some_negative is_plus is_minus plus-opposite ss p) (some_negative is_minus is_plus minus-opposite ss p) ∙ sum-opposite (some_sign is_plus (products ss p)) (some_sign is_minus (products ss p)) in
+    ap₂ (λ (b : Bool) (κ : Kind). cond b κ Free) (zeros_negative (length p) ss) k ∙ cond-opposite (all_zero (drop (length p) ss)) (kind_of_sum (some_sign is_plus (products ss p)) (some_sign is_minus (products ss p)))
 
 sign_of_negative : (x y : ℤ) → y ≡ neg_ℤ x → sign y ≡ opposite (sign x)
 sign_of_negative (pos zero) (pos zero) e = refl
@@ -109,19 +109,19 @@ sign_of_negative (negsuc n) (pos zero) e = absurd (omega (arith, ints, e))
 sign_of_negative (negsuc n) (pos (suc m)) e = refl
 sign_of_negative (negsuc n) (negsuc m) e = absurd (omega (arith, ints, e))
 
-signs_turned : (xs ys : List ℤ) → map sign (minus xs ys) ≡ map opposite (map sign (minus ys xs))
-signs_turned [] [] = refl
-signs_turned [] (y ∷ ys) = refl
-signs_turned (x ∷ xs) [] = refl
-signs_turned (x ∷ xs) (y ∷ ys) = ap₂ (λ (s : Sign) (l : List Sign). s ∷ l) (sign_of_negative (y -ℤ x) (x -ℤ y) (omega (arith, ints))) (signs_turned xs ys)
+signs_negative : (xs ys : List ℤ) → map sign (minus xs ys) ≡ map opposite (map sign (minus ys xs))
+signs_negative [] [] = refl
+signs_negative [] (y ∷ ys) = refl
+signs_negative (x ∷ xs) [] = refl
+signs_negative (x ∷ xs) (y ∷ ys) = ap₂ (λ (s : Sign) (l : List Sign). s ∷ l) (sign_of_negative (y -ℤ x) (x -ℤ y) (omega (arith, ints))) (signs_negative xs ys)
 
 -- the kind of a reaction's column in the strong table
 pub strong_column : (net : Net) (r : ℕ) (v : List ℤ) (p : List Sign) (κ κ' : Kind) → r < length net.reactions → v ≡ reaction_vector net (get_or net.reactions r (0, 0)) → κ ≡ column_from false false (map sign v) p → κ' ≡ opposite_kind κ → κ' ≡ column_kind (get_or (strong_table net) r []) p
 strong_column net r v p κ κ' lt e h g =
     let s = sides_of net (get_or net.reactions r (0, 0)) in
-    g ∙ ap opposite_kind h ∙ sym (column_turned (map sign v) p)
+    g ∙ ap opposite_kind h ∙ sym (column_negative (map sign v) p)
     ∙ ap (λ (u : List ℤ). column_kind (map opposite (map sign u)) p) e
-    ∙ ap (λ (l : List Sign). column_kind l p) (sym (signs_turned s.0 s.1) ∙ sym (get_or-map (λ (r : ℕ × ℕ). map sign (minus (sides_of net r).0 (sides_of net r).1)) net.reactions r (0, 0) [] lt))
+    ∙ ap (λ (l : List Sign). column_kind l p) (sym (signs_negative s.0 s.1) ∙ sym (get_or-map (λ (r : ℕ × ℕ). map sign (minus (sides_of net r).0 (sides_of net r).1)) net.reactions r (0, 0) [] lt))
 
 -- ---- the kinds of all coordinates
 

@@ -259,8 +259,8 @@ plain_kind net table r p κ row e lt h g =
 pub strong_kind : (net : Net) (table : InfluenceTable) (r : ℕ) (p : List Sign) (κ κ' : Kind) (row : List Spot) → table ≡ Strong → r < length net.reactions
     → row ≡ spots_from 0 (map sign (column_numbers net table (get_or net.reactions r (0, 0)))) → κ ≡ spots_kind false false row p → κ' ≡ opposite_kind κ
     → κ' ≡ column_kind (get_or (table_of net table) r []) p
-strong_kind net table r p κ κ' row e lt h g turned =
-    strong_spots net r p κ κ' lt (g ∙ ap (λ (l : List Spot). spots_kind false false l p) (h ∙ ap (λ (q : InfluenceTable). spots_from 0 (map sign (column_numbers net q (get_or net.reactions r (0, 0))))) e)) turned
+strong_kind net table r p κ κ' row e lt h g away =
+    strong_spots net r p κ κ' lt (g ∙ ap (λ (l : List Spot). spots_kind false false l p) (h ∙ ap (λ (q : InfluenceTable). spots_from 0 (map sign (column_numbers net q (get_or net.reactions r (0, 0))))) e)) away
     ∙ ap (λ (q : InfluenceTable). column_kind (get_or (table_of net q) r []) p) (sym e)
 
 -- ---- cuts that are worked out

@@ -4,7 +4,6 @@ ghost use Rattle.crn_rank.specs.Rank.{ProvesRank};
 ghost use Rattle.crn_defi.specs.Inner.ClassRanks.{IsClass, IsClassRank, IsClassStop, reactions_of};
 
 use crate::classes::{complexes_of, reactions_of};
-use crate::laws::meets_definition;
 use crn_cert::RankProof;
 use crn_farkas::Stop;
 use crn_net::Network;
@@ -44,7 +43,7 @@ fn class_rank_by(_net: &Network, label: &[u32], class: u32, proof: RankProof) ->
     requires proves { ProvesRank _net.now (reactions_of _net.now label.now class) proof }
     ensures { IsClassRank _net.now label.now class result.deficiency result.proof }
 {
-    meets_definition(_net);
+    _net.meets_definition();
     let rank = proof.base.as_slice().len() as u32;
     ClassRank {
         deficiency: complexes_of(label, class) - 1 - rank,

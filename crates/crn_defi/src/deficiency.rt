@@ -8,7 +8,6 @@ ghost use Rattle.crn_cert.specs.Given.{GiveRank};
 ghost use Rattle.crn_defi.specs.Inner.ClassRanks.{AreClassRanks, IsStop, wide_answer};
 
 use crate::class_rank::{ClassStop, class_rank};
-use crate::laws::meets_definition;
 use crn_cert::{Answer, Gap, Proof, RankList, Verdict};
 use crn_graph::LinkageData;
 use crn_net::Network;
@@ -50,7 +49,7 @@ pub(crate) fn deficiency(net: &Network, linkage: &LinkageData, rank: u32) -> u32
     requires rank { IsRank (vectors net.now) rank }
     ensures { result + linkage.now.count + rank ≡ length net.now.complexes }
 {
-    meets_definition(net);
+    net.meets_definition();
     net.complexes() as u32 - linkage.count - rank
 }
 
@@ -84,7 +83,7 @@ pub fn deficiencies(
         GiveRank earlier linkage.now.label.list linkage.now.count rank →
         IsAnswer net.now budget earlier Q6 answer) }
 {
-    meets_definition(net);
+    net.meets_definition();
     let total = deficiency(net, linkage, rank);
     match class_ranks(alloc, net, linkage) {
         Ok(found) => Ok(Answer {

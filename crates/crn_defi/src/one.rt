@@ -9,7 +9,6 @@ ghost use Rattle.crn_cert.specs.Answered.{IsAnswer};
 ghost use Rattle.crn_cert.specs.Given.{GiveClasses};
 ghost use Rattle.crn_defi.specs.Inner.Terminals.{IsFewOrOpen, IsLarge, IsVerdictAfter, IsVerdictOn};
 
-use crate::laws::meets_definition;
 use crate::terminals::first_with_more;
 use crn_cert::{Answer, Gap, Proof, Verdict};
 use crn_graph::{LinkageData, StrongData};
@@ -90,7 +89,7 @@ pub fn one_hypotheses(
         on earlier Q6 ≡ q6.now →
         IsAnswer net.now budget earlier Q10 result }
 {
-    meets_definition(net);
+    net.meets_definition();
     let split = first_with_more(
         strong.label.as_slice(),
         strong.exit.as_slice(),

@@ -7,7 +7,6 @@ ghost use Rattle.crn_cert.specs.ClassTests.{DoLevelsFall};
 ghost use Rattle.crn_cert.specs.Valid.{HaveOneEach, IsFirstSplit};
 ghost use Rattle.crn_cert.specs.Given.{GiveClasses};
 
-use crate::laws::meets_definition;
 use crate::terminals::first_with_more;
 use crn_graph::{LinkageData, StrongData};
 use crn_net::Network;
@@ -29,7 +28,7 @@ pub fn first_split(net: &Network, linkage: &LinkageData, strong: &StrongData) ->
     ensures class { IfSome result (λ found. IsFrom 1 linkage.now.count found.0) }
     ensures number { IfSome result (λ found. IsFrom 2 (length net.now.complexes) found.1) }
 {
-    meets_definition(net);
+    net.meets_definition();
     first_with_more(
         strong.label.as_slice(),
         strong.exit.as_slice(),

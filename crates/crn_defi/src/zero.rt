@@ -8,7 +8,6 @@ ghost use Rattle.crn_cert.specs.Answered.{IsAnswer};
 ghost use Rattle.crn_cert.specs.Given.{GiveRank};
 
 use crate::deficiency::deficiency;
-use crate::laws::meets_definition;
 use crn_cert::{Answer, Proof, Verdict};
 use crn_graph::LinkageData;
 use crn_net::Network;
@@ -24,7 +23,7 @@ pub fn zero_hypotheses(net: &Network, linkage: &LinkageData, weak: bool, rank: u
         (IsTrue weak ↔ IsYes (on earlier Q4)) →
         IsAnswer net.now budget earlier Q9 result }
 {
-    meets_definition(net);
+    net.meets_definition();
     let number = deficiency(net, linkage, rank);
     let verdict = if number == 0 {
         Verdict::YesWeak { weak }

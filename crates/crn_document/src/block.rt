@@ -62,7 +62,7 @@ fn check_records(
     requires treeless { AsksForTree question → HoldsNoTree answer.now.proof }
     ensures judged { let earlier = checked.old.facts.earlier in IfOk result
         (Judges (tests_of net.now earlier (asked question) answer.now)) }
-    ensures kept { IfOk result (λ judged. OnOk judged (checked.new.facts.earlier
+    ensures accepted { IfOk result (λ judged. OnOk judged (checked.new.facts.earlier
         ≡ checked.old.facts.earlier ++ (asked question, tight answer.now.verdict) ∷ [])) }
     ensures facts { AreFactsOf net.now checked.new.facts }
     ensures verdicts { checked.new.verdicts ≡ checked.old.verdicts }
@@ -168,7 +168,7 @@ fn accept_shown<S: Source>(
         StepIs (asks_trees at.old.version table.now due at.old.line)
         (λ _ line. line ≡ at.new.line)
         result at.old at.new (S.seen source.old) (S.seen source.new) }
-    ensures kept { OnOk result (checked.new.facts.earlier
+    ensures accepted { OnOk result (checked.new.facts.earlier
         ≡ checked.old.facts.earlier
         ++ (asked question, shown_by_tree (asked question)) ∷ []) }
     ensures goes { OnOk result (GoesOn at.new) }

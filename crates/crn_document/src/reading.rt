@@ -37,7 +37,7 @@ pub(crate) fn next_line<S: Source>(
     ensures step { StepIs (due node) (λ _ line. line ≡ at.new.lines.line) result at.old at.new
         (S.seen source.old) (S.seen source.new) }
     ensures reads { OnOk result (CanRead at.new) }
-    ensures kept { (at.new.version ≡ at.old.version) × (at.new.numbers ≡ at.old.numbers) }
+    ensures same { (at.new.version ≡ at.old.version) × (at.new.numbers ≡ at.old.numbers) }
     ensures line { OnOk result (at.new.line ≡ at.old.line + 1) }
     ensures taken { OnOk result
         (at.new.lines.taken ≡ at.old.lines.taken + length at.new.lines.line + 1) }

@@ -13,7 +13,7 @@ use Rattle.crn_vec.specs.Vectors.{Mat, entry, HasSign, scale}
 use Rattle.crn_vec.specs.Lists.{IsIn}
 use Rattle.crn_vec.specs.Elementary.{width, InDualSpace, IsNamed, IsNamedRow}
 use Rattle.crn_vec.specs.Systems.{HasWeight, IsCut, MayWeigh, kind_at, is_signed}
-use Rattle.crn_vec.proofs.CallerLemmas.{kinds_at, weights_tell_cuts, lt_or, past_end, zip_from, entry-scale, no_zero}
+use Rattle.crn_vec.proofs.CallerLemmas.{kinds_at, weights_decide_cuts, lt_or, past_end, zip_from, entry-scale, no_zero}
 use Rattle.crn_tab.specs.Tableau.{NamesRows, RulesBelow}
 use lib.IntN.{zero-*ℤ}
 use Rattle.crn_tab.proofs.CallerLemmas.{one_row, as_row}
@@ -38,7 +38,7 @@ pub cut_of_ruling : (a : Mat) (kinds : List Kind) (w : List ℤ) → InDualSpace
 cut_of_ruling a kinds w space long rules = (w, record { space = space; rows = refl; each = zip_from MayWeigh Free (pos 0) kinds w (space.long ∙ sym long) (λ k lt. rules.0 k); some = rules.1 })
 
 pub ruling_of_cut : (a : Mat) (kinds : List Kind) (w : List ℤ) → InDualSpace a w → IsCut a kinds (drop a.cols w) → IsRuling kinds w
-ruling_of_cut a kinds w space cut = let r = (weights_tell_cuts a kinds (drop a.cols w) w space refl).0 cut in (kinds_at MayWeigh kinds w refl r.0, r.1)
+ruling_of_cut a kinds w space cut = let r = (weights_decide_cuts a kinds (drop a.cols w) w space refl).0 cut in (kinds_at MayWeigh kinds w refl r.0, r.1)
 
 pub kind_past : (kinds : List Kind) (k : ℕ) → length kinds ≤ k → kind_at kinds k ≡ Free
 kind_past [] k h = refl

@@ -168,7 +168,7 @@ fn is_level(kind: Kind, early: bool) -> bool
 // Adds the coordinates that are early, or those that are not, to a list that has room for them.
 pub(crate) fn push_level(order: &mut Vec<usize>, kinds: &[Kind], early: bool)
     requires { vec_len order.old + level_count early kinds.now ≤ vec_capacity order.old }
-    ensures kept { (c : ℕ) → IsIn c order.old.items → IsIn c order.new.items }
+    ensures same { (c : ℕ) → IsIn c order.old.items → IsIn c order.new.items }
     ensures added { (c : ℕ) → c < length kinds.now → is_early_kind (kind_at kinds.now c) ≡ early
         → IsIn c order.new.items }
     ensures below { (c : ℕ) → IsIn c order.new.items → IsIn c order.old.items

@@ -208,7 +208,7 @@ impl Solver {
     pub fn multipliers(&mut self, kinds: &[Kind], cut: &Cut) -> Result<Ints, NoMemory>
         requires kinds { length kinds.now ≡ width self.old.matrix }
         requires cut { IsCutBy self.old.matrix self.old.basis kinds.now cut.now.row cut.now.sign }
-        ensures kept { self.new ≡ self.old }
+        ensures same { self.new ≡ self.old }
         ensures named { IfOk result
             (λ u. IsNamedCut self.new.matrix self.new.basis kinds.now u.list) }
     {

@@ -9,7 +9,7 @@ use crn_vec::{
     tables_are_discordant_where_a_prefix_is_feasible, tables_are_steady,
     tables_meet_the_laws_of_sign_problems, terminal_classes_are_by_reactions,
     visits_are_in_preorder, visits_are_one_list, visits_are_reached,
-    weak_reversibility_is_by_reactions, weights_tell_cuts,
+    weak_reversibility_is_by_reactions, weights_decide_cuts,
 };
 
 #[test]
@@ -64,7 +64,7 @@ fn laws_hold() {
     base_gives_rank();
     rank_is_one_number();
     cuts_exclude_solutions();
-    weights_tell_cuts();
+    weights_decide_cuts();
     weak_reversibility_is_by_reactions();
     terminal_classes_are_by_reactions();
     marks_are_sides();

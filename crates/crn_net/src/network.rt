@@ -57,6 +57,13 @@ impl Network {
         }
     }
 
+    /// A network meets its definition. It is called for what it says, and costs nothing.
+    pub fn meets_definition(&self)
+        ensures { IsNetwork self.now }
+    {
+        let _ = self.species();
+    }
+
     /// The number of species.
     pub fn species(&self) -> usize
         ensures count { result ≡ length self.now.names }

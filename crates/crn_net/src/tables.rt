@@ -29,7 +29,7 @@ fn add_name(names: &mut Names, name: &[u8]) -> Result<usize, NetFault>
     requires few { length names.old.keys ≤ MAX_SPECIES }
     requires short { length name.now ≤ MAX_NAME }
     ensures notes { NotesName names.old.keys name.now result names.new.keys }
-    ensures kept { take (length names.old.keys) names.new.keys ≡ names.old.keys }
+    ensures same { take (length names.old.keys) names.new.keys ≡ names.old.keys }
 {
     let (place, _) = names.insert_full(Name::new(name))?;
     if place >= MAX_SPECIES {
@@ -43,7 +43,7 @@ fn note_name(names: &mut Names, guesses: &mut Guesses, name: &[u8]) -> Result<us
     requires few { length names.old.keys ≤ MAX_SPECIES }
     requires short { length name.now ≤ MAX_NAME }
     ensures notes { NotesName names.old.keys name.now result names.new.keys }
-    ensures kept { take (length names.old.keys) names.new.keys ≡ names.old.keys }
+    ensures same { take (length names.old.keys) names.new.keys ≡ names.old.keys }
 {
     let mark = mark_of(name);
     let guess = guesses.place(mark);
@@ -72,7 +72,7 @@ fn note_side(
     requires side { IsSide text.now side.now }
     ensures notes { NotesSide names.old.keys (side_of text.now side.now)
         result names.new.keys row.new }
-    ensures kept { take (length names.old.keys) names.new.keys ≡ names.old.keys }
+    ensures same { take (length names.old.keys) names.new.keys ≡ names.old.keys }
 {
     for term in side {
         let place = note_name(names, guesses, name_of(text, term))?;
@@ -95,7 +95,7 @@ fn note_both(
     requires sides { AreSides text.now left.now right.now }
     ensures notes { let statement = statement_of text.now left.now right.now in
         NotesBoth names.old.keys statement result names.new.keys rows.new }
-    ensures kept { take (length names.old.keys) names.new.keys ≡ names.old.keys }
+    ensures same { take (length names.old.keys) names.new.keys ≡ names.old.keys }
 {
     note_side(names, guesses, &mut rows.0, text, left)?;
     note_side(names, guesses, &mut rows.1, text, right)
@@ -137,7 +137,7 @@ fn note_sides(
     requires sides { AreSides text.now left.now right.now }
     ensures notes { let statement = statement_of text.now left.now right.now in
         NotesSides names.old.keys statement result names.new.keys rows.new }
-    ensures kept { take (length names.old.keys) names.new.keys ≡ names.old.keys }
+    ensures same { take (length names.old.keys) names.new.keys ≡ names.old.keys }
 {
     match note_both(names, guesses, rows, text, left, right) {
         Ok(()) => tell_apart(rows),
@@ -150,7 +150,7 @@ fn note_sides(
 fn add_row(rows: &mut Complexes, row: Amounts) -> Result<usize, NetFault>
     requires few { length rows.old.keys ≤ MAX_COMPLEXES }
     ensures notes { NotesRow rows.old.keys row result rows.new.keys }
-    ensures kept { take (length rows.old.keys) rows.new.keys ≡ rows.old.keys }
+    ensures same { take (length rows.old.keys) rows.new.keys ≡ rows.old.keys }
 {
     if let Some(place) = rows.get_index_of(&row) {
         return Ok(place);
@@ -175,7 +175,7 @@ fn is_row_at(rows: &Complexes, place: usize, row: &Amounts) -> bool
 fn note_row(rows: &mut Complexes, guesses: &mut Guesses, row: Amounts) -> Result<usize, NetFault>
     requires few { length rows.old.keys ≤ MAX_COMPLEXES }
     ensures notes { NotesRow rows.old.keys row result rows.new.keys }
-    ensures kept { take (length rows.old.keys) rows.new.keys ≡ rows.old.keys }
+    ensures same { take (length rows.old.keys) rows.new.keys ≡ rows.old.keys }
 {
     let mark = row.mark();
     let guess = guesses.place(mark);
@@ -261,9 +261,9 @@ pub(crate) fn build(
     ensures gives { let statement = statement_of text.now left.now right.now in
         BuildGives names.old.keys rows.old.keys reactions.old.items statement
         result names.new.keys rows.new.keys reactions.new.items }
-    ensures names_kept { take (length names.old.keys) names.new.keys ≡ names.old.keys }
-    ensures rows_kept { take (length rows.old.keys) rows.new.keys ≡ rows.old.keys }
-    ensures reactions_kept { OnErr result (reactions.new.items ≡ reactions.old.items) }
+    ensures same_names { take (length names.old.keys) names.new.keys ≡ names.old.keys }
+    ensures same_rows { take (length rows.old.keys) rows.new.keys ≡ rows.old.keys }
+    ensures same_reactions { OnErr result (reactions.new.items ≡ reactions.old.items) }
 {
     let mut sides = (Amounts::zeros(), Amounts::zeros());
     note_sides(names, &mut guesses.names, &mut sides, text, left, right)?;

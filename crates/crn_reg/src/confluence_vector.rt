@@ -9,7 +9,6 @@ ghost use Rattle.crn_cert.specs.Given.{GiveClasses};
 ghost use Rattle.crn_reg.specs.Inner.Spaces.{GivesSpace};
 ghost use Rattle.crn_reg.specs.Inner.Verdicts.{wide_answer};
 
-use crate::laws::meets_definition;
 use crate::matrix::confluence_matrix;
 use crate::normal::normal_vector;
 use crate::space::{Space, find_space};
@@ -57,7 +56,7 @@ fn answer_of(
         (IsTrue weak ↔ IsYes (on earlier Q4)) →
         IsAnswer _net.now budget earlier Q12 result }
 {
-    meets_definition(_net);
+    _net.meets_definition();
     match space {
         Space::Zero { ties } => Answer {
             verdict: Verdict::OnlyZero,
@@ -113,7 +112,7 @@ pub fn confluence(
         (IsTrue weak ↔ IsYes (on earlier Q4)) →
         IsAnswer net.now budget earlier Q12 answer) }
 {
-    meets_definition(net);
+    net.meets_definition();
     let matrix = confluence_matrix(alloc, net, linkage.label.as_slice(), linkage.count)?;
     match find_space(alloc, &matrix) {
         Ok(space) => Ok(answer_of(net, linkage, strong, weak, space)),

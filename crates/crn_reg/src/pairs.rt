@@ -3,7 +3,6 @@ ghost use Rattle.crn_vec.specs.CutPairs.{ArePairs};
 ghost use Rattle.crn_cert.specs.Says.{AreStrongClasses, from_zero};
 ghost use Rattle.crn_pairs.specs.Pairs.{pairs_to};
 
-use crate::laws::meets_definition;
 use crn_graph::StrongData;
 use crn_net::Network;
 use crn_pairs::is_pair;
@@ -19,7 +18,7 @@ pub(crate) fn pairs(alloc: Global, net: &Network, strong: &StrongData) -> Result
         (length net.now.reactions)) }
     ensures pairs { IfOk result (λ made. ArePairs net.now.reactions (from_zero made.items)) }
 {
-    meets_definition(net);
+    net.meets_definition();
     let labels = strong.label.as_slice();
     let exits = strong.exit.as_slice();
     let mut pairs = Vec::with_capacity(alloc, net.reactions())?;

@@ -7,7 +7,6 @@ ghost use Rattle.crn_cert.specs.Answered.{IsAnswer};
 ghost use Rattle.crn_cert.specs.Given.{GiveClasses};
 ghost use Rattle.crn_reg.specs.Inner.Verdicts.{plain, by_dependence};
 
-use crate::laws::meets_definition;
 use crate::pairs::pairs;
 use crate::sides::{Sides, find_sides};
 use crn_cert::{Answer, Gap, Proof, Rows, Verdict};
@@ -63,7 +62,7 @@ pub fn regular(
         on earlier Q7 ≡ q7.now →
         IsAnswer net.now budget earlier Q11 answer) }
 {
-    meets_definition(net);
+    net.meets_definition();
     if let Some((class, count)) = first_split(net, linkage, strong) {
         return Ok(plain(Verdict::NoTerminal { class, count }));
     }

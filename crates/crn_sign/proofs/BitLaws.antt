@@ -10,7 +10,7 @@ use Rattle.crn_sign.specs.declared.bits.Bits.{Bits}
 use Rattle.crn_sign.specs.declared.marks.Mark.{Mark}
 use Rattle.crn_sign.specs.declared.marks.Mark.TheVariants.{Zero, Plus, Minus, Any}
 use Rattle.crn_sign.specs.Inner.Bits.{IsMarked, mark_at, mark_in, mark_of, none, word_at}
-use Rattle.crn_sign.specs.Inner.Marks.{Meets, joined, kind_of_mark, laid, negative}
+use Rattle.crn_sign.specs.Inner.Marks.{Meets, united, kind_of_mark, laid, negative}
 use Rattle.crn_sign.specs.Inner.Past.{Counts, Weighs}
 
 -- ---- four bits
@@ -32,7 +32,7 @@ lays_over a b c d la lb lc ld = two_bits (λ (x y : ℕ). LaysOver x y c d)
     (two_bits (LaysOver 1 0) refl refl refl refl c d lc ld) (two_bits (LaysOver 1 1) refl refl refl refl c d lc ld) a b la lb
 
 abbrev Joins : ℕ → ℕ → ℕ → ℕ → Type 0
-Joins a b c d = mark_of (max a c) (max b d) ≡ joined (mark_of a b) (mark_of c d)
+Joins a b c d = mark_of (max a c) (max b d) ≡ united (mark_of a b) (mark_of c d)
 
 pub joins : (a b c d : ℕ) → a < 2 → b < 2 → c < 2 → d < 2 → Joins a b c d
 joins a b c d la lb lc ld = two_bits (λ (x y : ℕ). Joins x y c d)

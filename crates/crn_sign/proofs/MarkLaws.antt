@@ -20,7 +20,7 @@ use Rattle.crn_sign.specs.declared.marks.Mark.{Mark}
 use Rattle.crn_sign.specs.declared.marks.Mark.TheVariants.{Zero, Plus, Minus, Any}
 use Rattle.crn_sign.specs.Inner.RowSigns.{AreRowSigns}
 use Rattle.crn_sign.specs.Inner.Bits.{IsMarked, mark_at, word_count}
-use Rattle.crn_sign.specs.Inner.Marks.{AreMadeBy, AreMet, AreOpposite, AreRowMarks, AreSuited, HasMark, Meets, joined, kind_of_mark, kinds_of, laid, negative, sign_mark, sign_there}
+use Rattle.crn_sign.specs.Inner.Marks.{AreMadeBy, AreMet, AreOpposite, AreRowMarks, AreSuited, HasMark, Meets, united, kind_of_mark, kinds_of, laid, negative, sign_mark, sign_there}
 
 -- ---- sums in the row space
 
@@ -82,20 +82,20 @@ laid_mark n Plus m x y le h k = great_plus n x y le h
 laid_mark n Minus m x y le h k = great_minus n x y le h
 laid_mark n Any m x y le h k = tt
 
-joined_sum : (s m : Mark) (x y : ℤ) → HasMark s x → HasMark m y → HasMark (joined s m) (x +ℤ y)
-joined_sum Zero m x y h k = plus_zero m x y h k
-joined_sum Plus Zero x y h k = omega (arith, ints, h, k)
-joined_sum Plus Plus x y h k = omega (arith, ints, h, k)
-joined_sum Plus Minus x y h k = tt
-joined_sum Plus Any x y h k = tt
-joined_sum Minus Zero x y h k = omega (arith, ints, h, k)
-joined_sum Minus Plus x y h k = tt
-joined_sum Minus Minus x y h k = omega (arith, ints, h, k)
-joined_sum Minus Any x y h k = tt
-joined_sum Any m x y h k = tt
+united_sum : (s m : Mark) (x y : ℤ) → HasMark s x → HasMark m y → HasMark (united s m) (x +ℤ y)
+united_sum Zero m x y h k = plus_zero m x y h k
+united_sum Plus Zero x y h k = omega (arith, ints, h, k)
+united_sum Plus Plus x y h k = omega (arith, ints, h, k)
+united_sum Plus Minus x y h k = tt
+united_sum Plus Any x y h k = tt
+united_sum Minus Zero x y h k = omega (arith, ints, h, k)
+united_sum Minus Plus x y h k = tt
+united_sum Minus Minus x y h k = omega (arith, ints, h, k)
+united_sum Minus Any x y h k = tt
+united_sum Any m x y h k = tt
 
-joined_mark : (p q : ℕ) (s m : Mark) (x y : ℤ) → 1 ≤ p → 1 ≤ q → HasMark s x → HasMark m y → HasMark (joined s m) ((pos p *ℤ x) +ℤ (pos q *ℤ y))
-joined_mark p q s m x y pl ql h k = joined_sum s m (pos p *ℤ x) (pos q *ℤ y) (scaled_mark p s x pl h) (scaled_mark q m y ql k)
+united_mark : (p q : ℕ) (s m : Mark) (x y : ℤ) → 1 ≤ p → 1 ≤ q → HasMark s x → HasMark m y → HasMark (united s m) ((pos p *ℤ x) +ℤ (pos q *ℤ y))
+united_mark p q s m x y pl ql h k = united_sum s m (pos p *ℤ x) (pos q *ℤ y) (scaled_mark p s x pl h) (scaled_mark q m y ql k)
 
 -- opposite numbers cancel each other
 cancels : (x y : ℤ) → pos 1 ≤ℤ x → y ≤ℤ negsuc 0 → (pos (unsigned_abs y) *ℤ x) +ℤ (pos (unsigned_abs x) *ℤ y) ≡ pos 0
@@ -156,7 +156,7 @@ lay_over a one old new s m l =
     }
 
 -- a multiple added so that the sum is 0 at g
-pub cleared : (a : Mat) (one old mid new : List Bits) (g : ℕ) → g < width a → AreRowMarks a one → AreRowMarks a old → AreOpposite (mark_at one g) (mark_at old g) → AreMadeBy joined one old mid
+pub cleared : (a : Mat) (one old mid new : List Bits) (g : ℕ) → g < width a → AreRowMarks a one → AreRowMarks a old → AreOpposite (mark_at one g) (mark_at old g) → AreMadeBy united one old mid
     → IsMarked mid g Zero new → AreRowMarks a new
 cleared a one old mid new g lt s m o j is =
     let p = unsigned_abs (entry m.y g) in
@@ -172,8 +172,8 @@ cleared a one old mid new g lt s m o j is =
         | inl e ↦ subst (λ (t : Mark). HasMark t (entry y k)) (sym (ap (mark_at new) e ∙ is.here))
             (ap (entry y) e ∙ at g ∙ cancel (mark_at one g) (mark_at old g) (entry s.y g) (entry m.y g) o (s.are g lt) (m.are g lt))
         | inr ne ↦ subst (λ (t : Mark). HasMark t (entry y k)) (sym (is.others k ne ∙ j.each k (omega (arith, k_lt, m.long))))
-            (subst (HasMark (joined (mark_at one k) (mark_at old k))) (sym (at k))
-            (joined_mark p q (mark_at one k) (mark_at old k) (entry s.y k) (entry m.y k) some.1 some.0 (s.are k k_lt) (m.are k k_lt)))
+            (subst (HasMark (united (mark_at one k) (mark_at old k))) (sym (at k))
+            (united_mark p q (mark_at one k) (mark_at old k) (entry s.y k) (entry m.y k) some.1 some.0 (s.are k k_lt) (m.are k k_lt)))
       ];
     }
 

@@ -89,13 +89,13 @@ at_row a u w c rows le =
 
 -- ---- a hit
 
-pub turned_some : (s : Bool) (x : ℤ) → x ≢ pos 0 → factor s *ℤ x ≢ pos 0
-turned_some true (pos zero) n e = n refl
-turned_some true (pos (suc k)) n e = omega (arith, ints, e)
-turned_some true (negsuc k) n e = omega (arith, ints, e)
-turned_some false (pos zero) n e = n refl
-turned_some false (pos (suc k)) n e = omega (arith, ints, e)
-turned_some false (negsuc k) n e = omega (arith, ints, e)
+pub negative_some : (s : Bool) (x : ℤ) → x ≢ pos 0 → factor s *ℤ x ≢ pos 0
+negative_some true (pos zero) n e = n refl
+negative_some true (pos (suc k)) n e = omega (arith, ints, e)
+negative_some true (negsuc k) n e = omega (arith, ints, e)
+negative_some false (pos zero) n e = n refl
+negative_some false (pos (suc k)) n e = omega (arith, ints, e)
+negative_some false (negsuc k) n e = omega (arith, ints, e)
 
 -- the mark of a number, or of its negative
 multiple_mark : (stays : Bool) (m : Mark) (x : ℤ) → HasMark m x → HasMark (mark_of_multiple stays m) (factor stays *ℤ x)
@@ -120,7 +120,7 @@ past_cut a asked stays u v marks past count weigh some is =
       | inl lt ↦ omega (arith, lt, past.space.long)
       | inr le ↦ absurd (there (get_or_past w k (pos 0) le))
     ] in
-    let here : entry (scale f w) k ≢ pos 0 = λ e. turned_some stays (entry w k) there (sym (entry-scale f w k) ∙ e) in
+    let here : entry (scale f w) k ≢ pos 0 = λ e. negative_some stays (entry w k) there (sym (entry-scale f w k) ∙ e) in
     record {
       cut = (
         scale f w,

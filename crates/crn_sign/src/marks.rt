@@ -3,7 +3,7 @@ ghost use Rattle.std.specs.Int.{bit_at};
 ghost use Rattle.crn_vec.specs.Elementary.{width};
 ghost use Rattle.crn_sign.specs.Inner.RowSigns.{AreRowSigns};
 ghost use Rattle.crn_sign.specs.Inner.Bits.{mark_at, mark_in, none, word_at, word_count};
-ghost use Rattle.crn_sign.specs.Inner.Marks.{AreMadeBy, AreMet, AreOpposite, AreRowMarks, Meets, joined, kind_of_mark, kinds_of, laid, negative, sign_mark, sign_there};
+ghost use Rattle.crn_sign.specs.Inner.Marks.{AreMadeBy, AreMet, AreOpposite, AreRowMarks, Meets, united, kind_of_mark, kinds_of, laid, negative, sign_mark, sign_there};
 
 use crate::bits::{Bits, NONE, mark_at, put_mark};
 use crn_vec::{Kind, Matrix, NoMemory, Sign};
@@ -37,8 +37,8 @@ fn laid(one: Bits, other: Bits) -> Bits
 }
 
 // The marks of a sum of multiples of numbers of these marks.
-fn joined(one: Bits, other: Bits) -> Bits
-    ensures { (i : ℕ) → mark_in result i ≡ joined (mark_in one i) (mark_in other i) }
+fn united(one: Bits, other: Bits) -> Bits
+    ensures { (i : ℕ) → mark_in result i ≡ united (mark_in one i) (mark_in other i) }
 {
     Bits {
         plus: one.plus | other.plus,
@@ -90,13 +90,13 @@ fn put_laid(one: &[Bits], marks: &mut [Bits])
     }
 }
 
-// Puts the marks that `joined` gives.
-fn put_joined(one: &[Bits], marks: &mut [Bits])
+// Puts the marks that `united` gives.
+fn put_united(one: &[Bits], marks: &mut [Bits])
     requires { length one.now ≡ length marks.old }
-    ensures { AreMadeBy joined one.now marks.old marks.new }
+    ensures { AreMadeBy united one.now marks.old marks.new }
 {
     for w in 0..marks.len() {
-        marks[w] = joined(one[w], marks[w]);
+        marks[w] = united(one[w], marks[w]);
     }
 }
 
@@ -204,7 +204,7 @@ pub(crate) fn clear(_matrix: &Matrix, one: &[Bits], marks: &mut [Bits], g: usize
     if !are_opposite(mark_at(one, g), mark_at(marks, g)) {
         return false;
     }
-    put_joined(one, marks);
+    put_united(one, marks);
     put_mark(marks, g, Mark::Zero);
     true
 }

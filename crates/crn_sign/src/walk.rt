@@ -5,7 +5,7 @@ ghost use Rattle.crn_cert.specs.Trees.{plan};
 ghost use Rattle.crn_farkas.specs.Decision.{IsSmallCut};
 ghost use Rattle.crn_vec.specs.declared.limits.TheConstants.{MAX_BUDGET};
 ghost use Rattle.crn_vec.specs.Elementary.{NamesWide};
-ghost use Rattle.crn_vec.specs.Problems.{IsFull, IsFeasible, IsLawful, IsPrefix, all_zero};
+ghost use Rattle.crn_vec.specs.Problems.{IsFull, IsFeasible, IsLawful, IsPrefix};
 ghost use Rattle.crn_vec.specs.declared.signs.Sign.{Sign};
 ghost use Rattle.crn_sign.specs.Options.{AreBitsOf};
 ghost use Rattle.crn_sign.specs.Search.{IsSearchEnd, IsSearchStop};
@@ -23,7 +23,7 @@ use crate::problem::SignProblem;
 use crate::signs::Signs;
 use crn_cert::Tree;
 use crn_farkas::Stop;
-use crn_vec::{Ints, NoMemory, Sign};
+use crn_vec::{Ints, NoMemory, Sign, is_all_zero};
 use std::alloc::Global;
 use std::rc::Rc;
 
@@ -79,18 +79,6 @@ fn wide_b(stop: Stop) -> SearchStop
         Stop::Wide { index, basis } => SearchStop::WideB { index, basis },
         Stop::NoMemory => SearchStop::NoMemory,
     }
-}
-
-// Whether each option is zero.
-fn is_all_zero(prefix: &[Sign]) -> bool
-    ensures { result ≡ all_zero prefix.now }
-{
-    for sign in prefix {
-        if *sign != Sign::Zero {
-            return false;
-        }
-    }
-    true
 }
 
 // Past multipliers that rule part A of the prefix out, if some do.

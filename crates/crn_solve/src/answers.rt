@@ -17,7 +17,6 @@ ghost use Rattle.crn_solve.specs.Inner.Solved.{AreFirstAnswers};
 use crate::concordance::{concordant, strongly_concordant};
 use crate::confluence_answer::confluence_answer;
 use crate::deficiency_answer::deficiency_answer;
-use crate::laws::meets_definition;
 use crate::linkage_answer::linkage_answer;
 use crate::positive::{conservative, positively_dependent};
 use crate::rank_answer::rank_answer;
@@ -41,7 +40,7 @@ fn first_answers(alloc: Global, net: &Network, budget: u32) -> Result<Answers, N
     requires most { budget ≤ MAX_BUDGET }
     ensures { IfOk result (λ answers. AreFirstAnswers net.now budget answers) }
 {
-    meets_definition(net);
+    net.meets_definition();
     let linkage = linkage(alloc, net)?;
     let strong = strong(alloc, net)?;
     let reversible = reversible(alloc, net)?;

@@ -6,7 +6,6 @@ ghost use Rattle.crn_cert.specs.Given.{GiveClasses};
 ghost use Rattle.crn_cert.specs.Answered.{IsAnswer};
 ghost use Rattle.crn_solve.specs.Inner.Given.{irregular_answer};
 
-use crate::laws::meets_definition;
 use crate::open::rests_answer;
 use crate::parts::{is_open, is_yes};
 use crn_cert::{Answer, Proof, Verdict};
@@ -46,7 +45,7 @@ pub(crate) fn confluence_answer(
         on earlier Q4 ≡ weak.now → on earlier Q11 ≡ regular.now →
         IsAnswer net.now budget earlier Q12 answer) }
 {
-    meets_definition(net);
+    net.meets_definition();
     if is_yes(regular) {
         return confluence(alloc, net, linkage, strong, is_yes(weak));
     }

@@ -5,7 +5,6 @@ mod answers;
 mod concordance;
 mod confluence_answer;
 mod deficiency_answer;
-mod laws;
 mod linkage_answer;
 mod open;
 mod parts;

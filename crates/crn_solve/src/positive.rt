@@ -6,7 +6,6 @@ ghost use Rattle.crn_farkas.specs.Decision.{IsDecision, IsStop};
 ghost use Rattle.crn_cert.specs.Answered.{IsAnswer};
 ghost use Rattle.crn_solve.specs.Inner.Given.{vector_answer};
 
-use crate::laws::meets_definition;
 use crate::open::wide_answer;
 use crate::systems::positive_kinds;
 use crn_cert::{Answer, Proof, Verdict};
@@ -55,7 +54,7 @@ pub(crate) fn positively_dependent(alloc: Global, net: &Network) -> Result<Answe
     ensures { IfOk result (λ answer. (budget : ℕ) (earlier : Earlier) →
         IsAnswer net.now budget earlier Q7 answer) }
 {
-    meets_definition(net);
+    net.meets_definition();
     let matrix = reaction_matrix(alloc, net)?;
     match decide_positive(alloc, &matrix, None) {
         Ok(decision) => Ok(vector_answer(decision)),
@@ -77,7 +76,7 @@ pub(crate) fn conservative(
     ensures { IfOk result (λ answer. (budget : ℕ) (earlier : Earlier) →
         IsAnswer net.now budget earlier Q8 answer) }
 {
-    meets_definition(net);
+    net.meets_definition();
     match decide_positive(alloc, matrix, Some(viewed)) {
         Ok(decision) => Ok(vector_answer(decision)),
         Err(Stop::Wide { index, basis }) => Ok(wide_answer(1, index, basis)),

@@ -6,7 +6,6 @@ ghost use Rattle.crn_cert.specs.Questions.{Earlier, Q5};
 ghost use Rattle.crn_cert.specs.Answered.{IsAnswer};
 ghost use Rattle.crn_solve.specs.Inner.Given.{IsRankAnswer};
 
-use crate::laws::meets_definition;
 use crate::open::wide_answer;
 use crn_cert::{Answer, Proof, RankProof, Verdict};
 use crn_farkas::Stop;
@@ -52,7 +51,7 @@ pub(crate) fn rank_answer(
     ensures answer { IfOk result (λ answer. (budget : ℕ) (earlier : Earlier) →
         IsAnswer net.now budget earlier Q5 answer) }
 {
-    meets_definition(net);
+    net.meets_definition();
     let all = all_reactions(alloc, net)?;
     match rank_by(alloc, net, &all, tableau) {
         Ok(proof) => base_answer(proof),

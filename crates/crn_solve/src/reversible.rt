@@ -5,7 +5,6 @@ ghost use Rattle.crn_cert.specs.ClassTests.{AreEven};
 ghost use Rattle.crn_cert.specs.Valid.{strong};
 ghost use Rattle.crn_solve.specs.Inner.Answered.{IsDecidedAnswer, IsFirstLeaving};
 
-use crate::laws::meets_definition;
 use crn_cert::{Answer, Proof, Verdict};
 use crn_graph::{Reverses, back};
 use crn_net::Network;
@@ -49,7 +48,7 @@ pub(crate) fn weakly_reversible(net: &Network, label: &[u32]) -> Answer
     ensures { (earlier : Earlier) → strong earlier ≡ label.now → IsTrueOf net.now Q2 (on earlier Q2)
         → IsDecidedAnswer net.now earlier Q4 result }
 {
-    meets_definition(net);
+    net.meets_definition();
     let verdict = match first_leaving(net, label) {
         Some(reaction) => Verdict::NoReaction { reaction },
         None => Verdict::Yes,

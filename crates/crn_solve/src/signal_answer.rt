@@ -11,7 +11,6 @@ ghost use Rattle.crn_shelf.specs.Order.{IsForNegative};
 ghost use Rattle.crn_solve.specs.Inner.Given.{inapplicable_answer};
 ghost use Rattle.crn_solve.specs.Inner.Sides.{GiveSides};
 
-use crate::laws::meets_definition;
 use crate::open::rests_answer;
 use crate::parts::{is_open, is_yes};
 use crn_cert::{Answer, Proof, Verdict};
@@ -59,7 +58,7 @@ pub(crate) fn signal_answer(
     ensures first { IfOk result (λ answer. IsForNegative answer.verdict →
         IsSomeAnd (vector_given confluence.now) (HasNoSignal net.now)) }
 {
-    meets_definition(net);
+    net.meets_definition();
     if is_open(confluence) {
         return Ok(rests_answer(12));
     }

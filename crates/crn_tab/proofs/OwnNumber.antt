@@ -30,7 +30,7 @@ named_number a at order rows k j x t lt j_lt out h =
     record {
       is = λ w named positive. elim (one_vector a (basis_of n at) k v w t.wide own.named named) as (λ _. x ≡ entry w j) [
         | inl same ↦ here ∙ same j
-        | inr turned ↦ absurd (omega (arith, ints, first, positive, turned k))
+        | inr opposite ↦ absurd (omega (arith, ints, first, positive, opposite k))
       ];
       small = omega (arith, own.bounded j, ap unsigned_abs here);
     }

@@ -51,7 +51,7 @@ pub use Rattle.crn_vec.proofs.Orthogonal.{listed, length-listed, entry-listed, l
 pub use Rattle.crn_vec.proofs.KindLaws.{Quiet, quiet_part, agree, dual_after, row_after, settled_dual, settled_row, take_zero, weigh_zero}
 pub use Rattle.crn_vec.proofs.KindLaws.{kind_takes, kind_from, kind_weighs, take_sum, sum_some, product_some, up_up, down_down}
 -- A system with a cut has no solution, and the weights decide whether there is a cut.
-pub use Rattle.crn_vec.proofs.Cuts.{kinds_at, dual_one, cut_long, cuts_exclude_solutions, weights_tell_cuts}
+pub use Rattle.crn_vec.proofs.Cuts.{kinds_at, dual_one, cut_long, cuts_exclude_solutions, weights_decide_cuts}
 -- Numbering by first appearance, read from left to right.
 pub use Rattle.crn_vec.proofs.Appearance.{IsNumberedInOrder, appears_in_order, in_order_appears}
 -- The ends of the reactions of a network.

@@ -28,7 +28,7 @@ pub use laws::{
     tables_are_discordant_where_a_prefix_is_feasible, tables_are_steady,
     tables_meet_the_laws_of_sign_problems, terminal_classes_are_by_reactions,
     visits_are_in_preorder, visits_are_one_list, visits_are_reached,
-    weak_reversibility_is_by_reactions, weights_tell_cuts,
+    weak_reversibility_is_by_reactions, weights_decide_cuts,
 };
 pub use limits::{
     DEFAULT_BUDGET, MAX_AMOUNT, MAX_BUDGET, MAX_BUDGET_DIGITS, MAX_COMPLEXES, MAX_COORDINATES,

@@ -22,7 +22,7 @@ fn words(rt: &HostRuntime) -> io::Result<Vec<String>> {
 
 // How the program ends: as the run did, unless the bytes that were gathered last could not be written.
 fn ended(status: Status, is_flushed: bool) -> Status
-    ensures kept { is_flushed ≡ true → result ≡ status }
+    ensures same { is_flushed ≡ true → result ≡ status }
     ensures fault { is_flushed ≡ false → result ≡ Status.WriteFault }
 {
     if is_flushed {

@@ -42,17 +42,17 @@ laid Minus mark = Minus
 laid Any mark = Any
 
 -- the mark of the sum of positive multiples of numbers of these marks
-abbrev pub joined : Mark → Mark → Mark
-joined Zero mark = mark
-joined Plus Zero = Plus
-joined Plus Plus = Plus
-joined Plus Minus = Any
-joined Plus Any = Any
-joined Minus Zero = Minus
-joined Minus Plus = Any
-joined Minus Minus = Minus
-joined Minus Any = Any
-joined Any mark = Any
+abbrev pub united : Mark → Mark → Mark
+united Zero mark = mark
+united Plus Zero = Plus
+united Plus Plus = Plus
+united Plus Minus = Any
+united Plus Any = Any
+united Minus Zero = Minus
+united Minus Plus = Any
+united Minus Minus = Minus
+united Minus Any = Any
+united Any mark = Any
 
 -- the mark of the negative
 abbrev pub negative : Mark → Mark

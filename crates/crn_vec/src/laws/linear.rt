@@ -1,5 +1,5 @@
 ghost use Rattle.crn_vec.specs.Rank.{BaseGivesRank, RankIsOneNumber};
-ghost use Rattle.crn_vec.specs.Systems.{CutsExcludeSolutions, WeightsTellCuts};
+ghost use Rattle.crn_vec.specs.Systems.{CutsExcludeSolutions, WeightsDecideCuts};
 
 /// If every vector of a list depends on independent members of it, then their number is the rank of the list.
 pub fn base_gives_rank()
@@ -17,6 +17,6 @@ pub fn cuts_exclude_solutions()
 {}
 
 /// Of a list (-uA, u), the weights alone decide whether the multipliers u rule a system out, as `rules_out` does.
-pub fn weights_tell_cuts()
-    ensures { WeightsTellCuts }
+pub fn weights_decide_cuts()
+    ensures { WeightsDecideCuts }
 {}

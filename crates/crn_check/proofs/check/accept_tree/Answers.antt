@@ -20,8 +20,8 @@ accept-requires-clause-number c = elim c.requires.tree [
 pub accept-requires-clause-fits : goal.accept-requires-clause-fits
 accept-requires-clause-fits c = subst DoesFit (sym c.shown_verdict.ensures) (shown_fits c.args.question c.requires.tree)
 
-pub returns-clause-kept : goal.returns-clause-kept
-returns-clause-kept c =
+pub returns-clause-accepted : goal.returns-clause-accepted
+returns-clause-accepted c =
     c.accept.ensures ∙ ap (λ (v : Verdict). c.args.facts.now.earlier ++ (asked c.args.question, v) ∷ []) (ap tight c.shown_verdict.ensures ∙ shown_tight c.args.question c.requires.tree)
 
 pub returns-clause-facts : goal.returns-clause-facts

@@ -90,7 +90,7 @@ returns-in-Ok-clause-step c = λ h rs seen b.
     let a = c.in_ok-answer.answer in
     let is = said_answer net facts.earlier n head c.args.parts.now rows h rs c.in_ok-answer.answer b c.requires.parts c.in_ok-answer.ensures.verdict c.in_ok-answer.ensures.proof in
     let judged : AllHold (tests_of net facts.earlier (asked n) a) = subst (λ (r : Result (Unit {0}) CheckFault). Judges (tests_of net facts.earlier (asked n) a) r) c.in-Ok.is c.in_ok-check_records.ensures.judged in
-    let kept = subst (λ (r : Result (Unit {0}) CheckFault). OnOk r (c.check_records.new.checked.facts.earlier ≡ facts.earlier ++ (asked n, tight a.verdict) ∷ [])) c.in-Ok.is c.in_ok-check_records.ensures.kept in
+    let kept = subst (λ (r : Result (Unit {0}) CheckFault). OnOk r (c.check_records.new.checked.facts.earlier ≡ facts.earlier ++ (asked n, tight a.verdict) ∷ [])) c.in-Ok.is c.in_ok-check_records.ensures.accepted in
     let new : c.keep_sides.new.checked.facts.earlier ≡ facts.earlier ++ (asked n, tight a.verdict) ∷ [] = ap (λ (f : KeptFacts). f.earlier) c.keep_sides.ensures.facts ∙ kept in
     let y = block_learns net n facts head rows h rs a c.keep_sides.new.checked.facts.earlier c.args.line c.requires.built c.requires.ready.known c.requires.heads b is judged new in
     (tt, y.0, tests_give (tests_course net facts.earlier n c.args.line h rs) tt c.args.at.now.line c.args.at.now.lines seen.left y.1, refl)
@@ -109,7 +109,7 @@ returns-in-Ok-clause-ready c =
     let is = said_answer net facts.earlier n head c.args.parts.now rows h rs c.in_ok-answer.answer b c.requires.parts c.in_ok-answer.ensures.verdict c.in_ok-answer.ensures.proof in
     let known = c.requires.ready.known in
     let judged : AllHold (tests_of net facts.earlier (asked n) a) = subst (λ (r : Result (Unit {0}) CheckFault). Judges (tests_of net facts.earlier (asked n) a) r) c.in-Ok.is c.in_ok-check_records.ensures.judged in
-    let kept = subst (λ (r : Result (Unit {0}) CheckFault). OnOk r (c.check_records.new.checked.facts.earlier ≡ facts.earlier ++ (asked n, tight a.verdict) ∷ [])) c.in-Ok.is c.in_ok-check_records.ensures.kept in
+    let kept = subst (λ (r : Result (Unit {0}) CheckFault). OnOk r (c.check_records.new.checked.facts.earlier ≡ facts.earlier ++ (asked n, tight a.verdict) ∷ [])) c.in-Ok.is c.in_ok-check_records.ensures.accepted in
     let new : c.keep_sides.new.checked.facts.earlier ≡ facts.earlier ++ (asked n, tight a.verdict) ∷ [] = ap (λ (f : KeptFacts). f.earlier) c.keep_sides.ensures.facts ∙ kept in
     let tight_is = answer_tight net n facts head rows h rs a c.requires.built known b is in
     let formed = answer_formed net n facts head rows h rs a c.requires.treeless c.requires.built known c.requires.heads b is in

@@ -23,12 +23,12 @@ returns-clause-ready g c = record {
   known = record {
     network = c.requires.ready.known.network;
     facts_of = c.accept_tree.ensures.facts;
-    so_far = so_far_next (before c.args.question) (asked c.args.question) c.args.checked.now.facts.earlier c.accept_tree.new.facts.earlier (shown_by_tree (asked c.args.question)) c.requires.ready.known.so_far c.accept_tree.ensures.kept;
+    so_far = so_far_next (before c.args.question) (asked c.args.question) c.args.checked.now.facts.earlier c.accept_tree.new.facts.earlier (shown_by_tree (asked c.args.question)) c.requires.ready.known.so_far c.accept_tree.ensures.accepted;
   };
   kept =
       let q = asked c.args.question in
       kept_next q c.args.checked.now.facts.earlier c.accept_tree.new.facts.earlier c.args.checked.now.verdicts c.push.new.self (shown_by_tree q) c.requires.ready.kept
-      (c.accept_tree.ensures.kept ∙ ap (λ (v : Verdict). c.args.checked.now.facts.earlier ++ (q, v) ∷ []) (sym (shown_tight c.args.question c.requires.tree)))
+      (c.accept_tree.ensures.accepted ∙ ap (λ (v : Verdict). c.args.checked.now.facts.earlier ++ (q, v) ∷ []) (sym (shown_tight c.args.question c.requires.tree)))
       (c.push.ensures ∙ ap (λ (v : Verdict). c.args.checked.now.verdicts ++ v ∷ []) c.shown_verdict.ensures);
-  sides = sides_after_trees c.args.net.now c.args.question c.args.checked.now.facts c.accept_tree.new.facts.earlier c.args.checked.now.sides c.requires.ready.sides c.requires.built c.requires.ready.known c.requires.tree c.accept_tree.ensures.kept;
+  sides = sides_after_trees c.args.net.now c.args.question c.args.checked.now.facts c.accept_tree.new.facts.earlier c.args.checked.now.sides c.requires.ready.sides c.requires.built c.requires.ready.known c.requires.tree c.accept_tree.ensures.accepted;
 }

@@ -64,7 +64,7 @@ returns-then-ends_in_tree-clause-step g c = λ h rs blocks b.
     let some = c.ends_in_tree.ensures.some c.if-ends_in_tree.true in
     let one = sym c.number_of.ensures ∙ some.1 in
     let long = block_length net facts.earlier n head rows h rs b in
-    let y = block_shown net n facts head rows h rs new line c.requires.built c.requires.ready.known b some.0 one c.in_ok-accept_shown.ensures.kept in
+    let y = block_shown net n facts head rows h rs new line c.requires.built c.requires.ready.known b some.0 one c.in_ok-accept_shown.ensures.accepted in
     let trees : problems_by (asked n) (known_of net facts.earlier) (tree_place n) ≡ problems meaning (asked n) (known_of net facts.earlier) h = ap (λ (k : ℕ). problems_by (asked n) (known_of net facts.earlier) k) (sym one) ∙ trees_due net n facts head rows h rs c.requires.built c.requires.ready.known b in
     subst (λ (t : Bool). StepIs (end_course at.version table (asked n) (after_at net facts.earlier line blocks) h rs) (λ (u : Unit {0}) y. IsAfter net new t last.line y) (Ok tt) at last before now) (tree_below n some.0 (known_of net facts.earlier))
     (block_then net facts.earlier new n line at.version (tree_place n) table h rs blocks (Ok tt) at last before now trees y.0 (omega (arith, long, c.requires.line)) refl

@@ -25,6 +25,6 @@ returns-clause-below c = λ i lt.
 
 pub returns-clause-all : goal.returns-clause-all
 returns-clause-all c = λ k lt. elim (early_or (kind_at c.args.kinds.now k)) [
-  | inl e ↦ c.push_level-2.ensures.kept k (c.push_level.ensures.added k lt e)
+  | inl e ↦ c.push_level-2.ensures.same k (c.push_level.ensures.added k lt e)
   | inr e ↦ c.push_level-2.ensures.added k lt e
 ]

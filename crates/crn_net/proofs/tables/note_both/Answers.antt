@@ -19,4 +19,4 @@ note_side-requires-2-clause-distinct c = subst AreDistinct (sym c.in_ok-note_sid
 pub returns-clause-notes : goal.returns-clause-notes
 returns-clause-notes c =
     right_ends c.args.names.now.keys c.note_side.new.names.keys c.note_side-2.new.names.keys (statement_of c.args.text.now c.args.left.now c.args.right.now) c.note_side.new.row c.note_side-2.new.row c.note_side-2.result
-    c.in_ok-note_side.ensures.notes c.note_side-2.ensures.notes c.note_side-2.ensures.kept
+    c.in_ok-note_side.ensures.notes c.note_side-2.ensures.notes c.note_side-2.ensures.same

@@ -22,11 +22,11 @@ returns-then-is_yes c =
     let net = c.args.net.now in
     let l = c.args.linkage.now in
     let s = c.args.strong.now in
-    let turned = c.is_yes-then-is_yes.result in
-    if_ok (λ (answer : Answer). (budget : ℕ) (earlier : Earlier) → GiveClasses earlier l.label.list l.count s.label.list s.exit.list → IsYes (on earlier Q11) → (IsTrue turned ↔ IsYes (on earlier Q4)) → IsAnswer net budget earlier Q12 answer)
+    let is_yes = c.is_yes-then-is_yes.result in
+    if_ok (λ (answer : Answer). (budget : ℕ) (earlier : Earlier) → GiveClasses earlier l.label.list l.count s.label.list s.exit.list → IsYes (on earlier Q11) → (IsTrue is_yes ↔ IsYes (on earlier Q4)) → IsAnswer net budget earlier Q12 answer)
     (λ (answer : Answer). (budget : ℕ) (earlier : Earlier) → GiveClasses earlier l.label.list l.count s.label.list s.exit.list → on earlier Q4 ≡ c.args.weak.now → on earlier Q11 ≡ c.args.regular.now → IsAnswer net budget earlier Q12 answer) c.confluence.result
     (λ answer h budget earlier gives weak is. h budget earlier gives (subst IsYes (sym is) (c.is_yes.ensures.0 c.if-is_yes.true))
-    (subst (λ (v : Verdict). IsTrue turned ↔ IsYes v) (sym weak) c.is_yes-then-is_yes.ensures)) c.confluence.ensures
+    (subst (λ (v : Verdict). IsTrue is_yes ↔ IsYes v) (sym weak) c.is_yes-then-is_yes.ensures)) c.confluence.ensures
 
 pub returns-then-is_open : goal.returns-then-is_open
 returns-then-is_open c budget earlier gives weak is =

@@ -24,9 +24,9 @@ returns-then-is_err c =
     let g = build_stops c.self.inside.names.keys c.self.inside.rows.keys c.self.inside.reactions.items s c.build-added.new.names.keys c.build-added.new.rows.keys c.build-added.new.reactions.items c.build-added.result ready err c.build-added.ensures.gives in
     let species : c.len-species.result ≡ length c.self.inside.names.keys = omega arith in
     let complexes : c.len-complexes.result ≡ length c.self.inside.rows.keys = omega arith in
-    let names : c.truncate.new.self.keys ≡ c.self.inside.names.keys = c.truncate.ensures.keys ∙ ap (λ (n : ℕ). take n c.build-added.new.names.keys) species ∙ c.build-added.ensures.names_kept in
-    let rows : c.truncate-then-is_err.new.self.keys ≡ c.self.inside.rows.keys = c.truncate-then-is_err.ensures.keys ∙ ap (λ (n : ℕ). take n c.build-added.new.rows.keys) complexes ∙ c.build-added.ensures.rows_kept in
-    let reactions : c.build-added.new.reactions.items ≡ c.self.inside.reactions.items = at_err c.build-added.result err c.build-added.ensures.reactions_kept in
+    let names : c.truncate.new.self.keys ≡ c.self.inside.names.keys = c.truncate.ensures.keys ∙ ap (λ (n : ℕ). take n c.build-added.new.names.keys) species ∙ c.build-added.ensures.same_names in
+    let rows : c.truncate-then-is_err.new.self.keys ≡ c.self.inside.rows.keys = c.truncate-then-is_err.ensures.keys ∙ ap (λ (n : ℕ). take n c.build-added.new.rows.keys) complexes ∙ c.build-added.ensures.same_rows in
+    let reactions : c.build-added.new.reactions.items ≡ c.self.inside.reactions.items = at_err c.build-added.result err c.build-added.ensures.same_reactions in
     rw (names, rows, reactions) (subst (λ (net : Net). AddGives net s c.build-added.result (net_of c.self.inside.names.keys c.self.inside.rows.keys c.self.inside.reactions.items)) c.self.view_is g)
 
 pub returns-else-is_err : goal.returns-else-is_err

@@ -1,7 +1,7 @@
 use Rattle.std.specs.Int.{bit_at}
 use Rattle.std.proofs.lemmas.Nat.Bits.{bit_at-lt, bit_at_or}
 use Rattle.crn_sign.proofs.BitLaws.{joins}
-use Rattle.crn_sign.proofs.marks.joined.Goals as goal
+use Rattle.crn_sign.proofs.marks.united.Goals as goal
 
 pub returns : goal.returns
 returns c = λ i.
