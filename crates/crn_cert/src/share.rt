@@ -85,26 +85,25 @@ struct Lists<'a> {
     places: [u16; MARKS],
 }
 
-// The last bits of a number, in which most numbers differ.
+// The last 64 bits of a number, in which most numbers differ.
 fn last_bits(x: &i128) -> u64 {
-    (x.cast_unsigned() % 65_536) as u64
+    (x.cast_unsigned() % (1 << 64)) as u64
 }
 
-// Mixes some bits into the mark of the numbers before them.
-fn mixed(mark: u64, bits: u64) -> u64 {
-    (mark.rotate_left(5) ^ bits).wrapping_mul(0x9e37_79b9_7f4a_7c15)
+// The mark of the numbers before, and of this one. Two short lists of numbers from -4 to 4 have different marks.
+fn mark_with(mark: u64, x: &i128) -> u64 {
+    mark.wrapping_mul(9).wrapping_add(last_bits(x))
 }
 
 // The mark of the numbers before, and of these.
 fn mark_after(mark: u64, list: &[i128]) -> u64 {
     match list {
-        [a, b, c, d, list @ ..] => {
-            let bits = last_bits(a).rotate_left(16) ^ last_bits(b);
-            let bits = bits.rotate_left(16) ^ last_bits(c);
-            let bits = bits.rotate_left(16) ^ last_bits(d);
-            mark_after(mixed(mark, bits), list)
+        [a, b, c, d, e, f, g, h, list @ ..] => {
+            let mark = mark_with(mark_with(mark_with(mark_with(mark, a), b), c), d);
+            let mark = mark_with(mark_with(mark_with(mark_with(mark, e), f), g), h);
+            mark_after(mark, list)
         }
-        [x, list @ ..] => mark_after(mixed(mark, last_bits(x)), list),
+        [x, list @ ..] => mark_after(mark_with(mark, x), list),
         [] => mark,
     }
 }
@@ -113,7 +112,7 @@ fn mark_after(mark: u64, list: &[i128]) -> u64 {
 fn mark_of(list: &[i128]) -> usize
     ensures { result < MARKS }
 {
-    (mark_after(0, list) >> 32) as usize % MARKS
+    (mark_after(0, list).wrapping_mul(0x9e37_79b9_7f4a_7c15) >> 32) as usize % MARKS
 }
 
 // Whether two lists are the same, by few steps if they are short.
