@@ -1,6 +1,7 @@
 mod Pieces
 mod WrittenLines
 mod WrittenLeaves
+mod NameLines
 mod WrittenBlocks
 mod CutLists
 mod WrittenAnswers
@@ -74,6 +75,7 @@ mod DueSteps
 mod WordsApart
 mod FormedExamples
 mod LineNumbers
+mod DigitGroups
 mod LineCame
 mod LineShapes
 mod LineCapped

@@ -1,9 +1,12 @@
-ghost use Rattle.std.specs.Prelude.{◌≡◌, ◌≤◌, ◌<◌, ◌+◌, ◌++◌, ◌∷◌, [], ℤ, List, IsTrue, ◌↔◌, length, map, IfSome, MatchBool, MatchOption, min, take};
+ghost use Rattle.std.specs.Prelude.{◌≡◌, ◌≤◌, ◌<◌, ◌+◌, ◌-◌, ◌*◌, ◌++◌, ◌∷◌, [], ℤ, List, IsTrue, ◌↔◌, length, map, IfSome, MatchBool, MatchOption, min, take};
 ghost use Rattle.std.specs.Str.Parse.{AllDigits, digits_value};
 ghost use Rattle.crn_vec.specs.declared.limits.TheConstants.{WIDE_SOLUTION};
 ghost use Rattle.crn_ctext.specs.Inner.Line.{BeginsWithZero, HasDigits, HasNatural, HasNoNatural, HasNumber, HasNoNumber, EndsAt, SaysNumbers, capped};
 
 use crn_vec::{Ints, WIDE_SOLUTION};
+
+// From here on digits are read eight at a time.
+const SHORT: u64 = 100_000;
 
 // From here on a value is held in 128 bits.
 const LONG: u64 = 1_000_000_000_000_000_000;
@@ -26,6 +29,97 @@ fn long_digits(bytes: &[u8], read: usize, start: u128) -> (u128, usize)
     (value, bytes.len())
 }
 
+// Whether a byte is a decimal digit.
+fn is_digit(byte: u8) -> bool
+    ensures { IsTrue result ↔ (48 ≤ byte) × (byte ≤ 57) }
+{
+    b'0' <= byte && byte <= b'9'
+}
+
+// The value of digits that have this value, and of one after them.
+fn with_digit(value: u64, byte: u8) -> u64
+    requires short { value < 10000000 }
+    requires digit { (48 ≤ byte) × (byte ≤ 57) }
+    ensures value { result ≡ value * 10 + (byte - 48) }
+    ensures digit { (48 ≤ byte) × (byte ≤ 57) }
+{
+    value * 10 + u64::from(byte - b'0')
+}
+
+// The value of the first eight bytes, if all of them are digits.
+fn eight_digits(bytes: &[u8]) -> Option<u64>
+    ensures within { IfSome result (λ _. 8 ≤ length bytes.now) }
+    ensures digits { IfSome result (λ _. AllDigits 10 (take 8 bytes.now)) }
+    ensures value { IfSome result (λ value. value ≡ digits_value 10 (take 8 bytes.now)) }
+    ensures short { IfSome result (λ value. value < 100000000) }
+{
+    match bytes {
+        [a, b, c, d, e, f, g, h, ..] => {
+            let first = is_digit(*a) & is_digit(*b) & is_digit(*c) & is_digit(*d);
+            let last = is_digit(*e) & is_digit(*f) & is_digit(*g) & is_digit(*h);
+            if !(first & last) {
+                return None;
+            }
+            let one = with_digit(0, *a);
+            let two = with_digit(one, *b);
+            let three = with_digit(two, *c);
+            let four = with_digit(three, *d);
+            let five = with_digit(four, *e);
+            let six = with_digit(five, *f);
+            let seven = with_digit(six, *g);
+            Some(with_digit(seven, *h))
+        }
+        _ => None,
+    }
+}
+
+// The digits at the start, of which so many were read already, with this value.
+fn middle_digits(bytes: &[u8], read: usize, start: u64) -> (u128, usize)
+    requires within { read ≤ length bytes.now }
+    requires digits { AllDigits 10 (take read bytes.now) }
+    requires start { start ≡ digits_value 10 (take read bytes.now) }
+    ensures { HasDigits bytes.now result.0 result.1 }
+{
+    let mut value = start;
+    for i in read..bytes.len() {
+        let byte = bytes[i];
+        if byte < b'0' || b'9' < byte {
+            return (u128::from(value), i);
+        }
+        if LONG <= value {
+            return long_digits(bytes, i, u128::from(value));
+        }
+        value = value * 10 + u64::from(byte - b'0');
+    }
+    (u128::from(value), bytes.len())
+}
+
+// The same, eight at a time while there are so many.
+#[inline(never)]
+fn more_digits(bytes: &[u8], read: usize, start: u64) -> (u128, usize)
+    requires within { read ≤ length bytes.now }
+    requires digits { AllDigits 10 (take read bytes.now) }
+    requires start { start ≡ digits_value 10 (take read bytes.now) }
+    requires short { start < 1000000 }
+    ensures { HasDigits bytes.now result.0 result.1 }
+{
+    let (_, rest) = bytes.split_at(read);
+    match eight_digits(rest) {
+        None => middle_digits(bytes, read, start),
+        Some(more) => {
+            let value = start * 100_000_000 + more;
+            let (_, rest) = rest.split_at(8);
+            match eight_digits(rest) {
+                None => middle_digits(bytes, read + 8, value),
+                Some(more) => {
+                    let value = u128::from(value) * 100_000_000 + u128::from(more);
+                    long_digits(bytes, read + 16, value.min(WIDE_SOLUTION))
+                }
+            }
+        }
+    }
+}
+
 // The digits at the start: their value, and how many they are.
 fn digits(bytes: &[u8]) -> (u128, usize)
     ensures { HasDigits bytes.now result.0 result.1 }
@@ -35,8 +129,8 @@ fn digits(bytes: &[u8]) -> (u128, usize)
         if *byte < b'0' || b'9' < *byte {
             return (u128::from(value), i);
         }
-        if LONG <= value {
-            return long_digits(bytes, i, u128::from(value));
+        if SHORT <= value {
+            return more_digits(bytes, i, value);
         }
         value = value * 10 + u64::from(*byte - b'0');
     }
@@ -52,6 +146,7 @@ fn ends_at(bytes: &[u8], count: usize) -> bool
 }
 
 // The natural number above 0 before the first space, and how many bytes it has.
+#[inline(always)]
 fn natural(bytes: &[u8]) -> Option<(u128, usize)>
     ensures { MatchOption result (HasNoNatural bytes.now) (λ r. HasNatural bytes.now r.0 r.1) }
 {

@@ -1,4 +1,4 @@
-ghost use Rattle.std.specs.Prelude.{◌≡◌, ◌++◌, codes, decimal, if◌then◌else◌, ◌==◌, IfOk};
+ghost use Rattle.std.specs.Prelude.{◌≡◌, [], ◌∷◌, ◌++◌, codes, decimal, if◌then◌else◌, ◌==◌, IfOk};
 ghost use Rattle.crn_io.specs.Write.{Wrote};
 ghost use Rattle.crn_ctext.specs.Answers.{nodes, proof_nodes};
 ghost use Rattle.crn_ctext.specs.Documents.{record_lines, written, first_leaf, later_leaves};
@@ -20,32 +20,36 @@ fn next_leaf(leaf: &[u32]) -> (u32, &[u32])
     }
 }
 
-// The line that names a list: its word and a space, and the number of the list.
-fn put_name<K: Sink>(sink: &mut K, name: &[u8], number: u32) -> Result<(), WriteFault>
-    ensures { Wrote (name.now ++ decimal number ++ codes "\n")
+// The line that names a list for this part, by the number of the list. A short one is one piece.
+fn put_name<K: Sink>(sink: &mut K, part: u8, number: u32) -> Result<(), WriteFault>
+    ensures { Wrote (codes "ref" ++ part ∷ 32 ∷ decimal number ++ codes "\n")
         (K.seen sink.old) (K.seen sink.new) result }
 {
+    if number < 10 {
+        let units = b'0' + number as u8;
+        return put_all(sink, &[b'r', b'e', b'f', part, b' ', units, b'\n']);
+    }
+    if number < 100 {
+        let tens = b'0' + (number / 10) as u8;
+        let units = b'0' + (number % 10) as u8;
+        return put_all(sink, &[b'r', b'e', b'f', part, b' ', tens, units, b'\n']);
+    }
     let mut buffer = Buffer::new();
-    put_parts(sink, &[name, buffer.format(number).as_bytes(), b"\n"])
+    let digits = buffer.format(number).as_bytes();
+    put_parts(sink, &[&[b'r', b'e', b'f', part, b' '], digits, b"\n"])
 }
 
-// A cut: its word and its numbers, or the line that names its list.
-fn put_cut<K: Sink>(
-    sink: &mut K,
-    word: &[u8],
-    numbers: &[i128],
-    name: &[u8],
-    number: u32,
-) -> Result<(), WriteFault>
+// A cut of this part: its word and its numbers, or the line that names its list.
+fn put_cut<K: Sink>(sink: &mut K, part: u8, numbers: &[i128], number: u32) -> Result<(), WriteFault>
     ensures { Wrote
-        (if number == 0 then line word.now numbers.now
-        else (name.now ++ decimal number ++ codes "\n"))
+        (if number == 0 then line (codes "cut" ++ part ∷ []) numbers.now
+        else (codes "ref" ++ part ∷ 32 ∷ decimal number ++ codes "\n"))
         (K.seen sink.old) (K.seen sink.new) result }
 {
     if number == 0 {
-        return put_free(sink, word, numbers);
+        return put_free(sink, &[b'c', b'u', b't', part], numbers);
     }
-    put_name(sink, name, number)
+    put_name(sink, part, number)
 }
 
 // The nodes of a tree, and the numbers of the leaves after it.
@@ -70,12 +74,12 @@ fn put_tree<'a, K: Sink>(
         }
         Tree::CutA(list) => {
             let (number, rest) = next_leaf(leaf);
-            put_cut(sink, b"cuta", list.as_slice(), b"refa ", number)?;
+            put_cut(sink, b'a', list.as_slice(), number)?;
             Ok(rest)
         }
         Tree::CutB(list) => {
             let (number, rest) = next_leaf(leaf);
-            put_cut(sink, b"cutb", list.as_slice(), b"refb ", number)?;
+            put_cut(sink, b'b', list.as_slice(), number)?;
             Ok(rest)
         }
         Tree::Flat => {

@@ -1,3 +1,4 @@
+use Rattle.std.proofs.Common.{arith}
 use Rattle.crn_ctext.proofs.LineNumbers.{all_digits_more, digits_value_next}
 use Rattle.crn_ctext.proofs.record_numbers.digits.Goals as goal
 
@@ -6,4 +7,5 @@ loop-i-preserved c =
     let inv = c.loop-i.invariant in record {
       digits = all_digits_more c.args.bytes.now c.loop-i.i c.loop-i-test.true inv.digits c.if-byte-lt48.false c.if-byte-gt57.false;
       is = digits_value_next c.args.bytes.now c.loop-i.i c.loop-i.value c.from-in-loop-i.result c.loop-i-test.true inv.is c.if-byte-lt48.false c.if-byte-gt57.false c.from-in-loop-i.ensures;
+      short = omega arith;
     }

@@ -1,4 +1,4 @@
-use Rattle.std.proofs.Common.{◌≡◌, take}
+use Rattle.std.proofs.Common.{◌≡◌, ◌<◌, take}
 use Rattle.std.specs.Str.Parse.{AllDigits, digits_value}
 use Rattle.crn_ctext.proofs.record_numbers.digits.Given as goal
 
@@ -6,4 +6,5 @@ abbrev pub invariant-loop-i : goal.invariant-loop-i
 invariant-loop-i l = record {
   digits : AllDigits 10 (take l.i l.bytes);
   is : l.value ≡ digits_value 10 (take l.i l.bytes);
+  short : l.value < 1000000;
 }

@@ -1,0 +1,11 @@
+use Rattle.std.proofs.Common.{arith}
+use Rattle.crn_ctext.proofs.LineNumbers.{all_digits_more, digits_value_next}
+use Rattle.crn_ctext.proofs.record_numbers.middle_digits.Goals as goal
+
+pub loop-i-preserved : goal.loop-i-preserved
+loop-i-preserved c =
+    let inv = c.loop-i.invariant in record {
+      digits = all_digits_more c.args.bytes.now c.loop-i.i (omega arith) inv.digits c.if-byte-lt48.false c.if-byte-gt57.false;
+      is = digits_value_next c.args.bytes.now c.loop-i.i c.loop-i.value c.from-in-loop-i.result (omega arith) inv.is c.if-byte-lt48.false c.if-byte-gt57.false c.from-in-loop-i.ensures;
+      within = omega arith;
+    }

@@ -1,0 +1,10 @@
+use Rattle.std.proofs.Common.{◌≡◌, ◌≤◌, take, length}
+use Rattle.std.specs.Str.Parse.{AllDigits, digits_value}
+use Rattle.crn_ctext.proofs.record_numbers.middle_digits.Given as goal
+
+abbrev pub invariant-loop-i : goal.invariant-loop-i
+invariant-loop-i l = record {
+  digits : AllDigits 10 (take l.i l.bytes);
+  is : l.value ≡ digits_value 10 (take l.i l.bytes);
+  within : l.i ≤ length l.bytes;
+}
