@@ -11,7 +11,7 @@ use Rattle.crn_vec.specs.Vectors.{Mat, entry, dot, column, AreOfLength, AreWithi
 use Rattle.crn_vec.specs.Elementary.{width, InDualSpace}
 use Rattle.crn_vec.proofs.CallerLemmas.{within_at, past_end, lt_or, length-neg, entry-neg, dot_single, zero_times, entry-column}
 use Rattle.crn_tab.specs.Tableau.{AreSmall, choose}
-use Rattle.crn_tab.specs.Slots.{IsContent, slot_entry, spread, basis_from, row_at, ArePlaced, IsRowAt, IsTableau, AreLowRows}
+use Rattle.crn_tab.specs.Slots.{IsContent, slot_entry, spread, basis_from, row_at, ArePlaced, IsRowAt, IsTableau, AreLowRows, AreShortRows}
 use Rattle.crn_tab.specs.Inner.Start.{IsIdentity, start_row, start_rows}
 use Rattle.crn_tab.proofs.Rows.{everywhere, row_count}
 use Rattle.crn_tab.proofs.Places.{lt_true, lt_false, slot_basic, slot_own, slot_none, length-spread, entry-spread}
@@ -137,6 +137,11 @@ pub first_low : (a : Mat) → AreOfLength a.cols a.rows → ((i : ℕ) → AreWi
 first_low a wide within i lt =
     let B : List ℤ → Type 0 = λ v. (k : ℕ) → unsigned_abs (entry v k) < 2 ^ 30 in
     subst B (sym (start_row_at a.cols a.rows i wide lt)) (first_below (2 ^ 30) (get_or a.rows i []) (lit< tt) (lit< tt) (within i))
+
+pub first_short : (a : Mat) → AreOfLength a.cols a.rows → ((i : ℕ) → AreWithin MAX_AMOUNT (get_or a.rows i [])) → AreShortRows (a.cols + 1) (length a.rows) (start_rows a.rows)
+first_short a wide within i lt =
+    let B : List ℤ → Type 0 = λ v. (k : ℕ) → unsigned_abs (entry v k) < 2 ^ 14 in
+    subst B (sym (start_row_at a.cols a.rows i wide lt)) (first_below (2 ^ 14) (get_or a.rows i []) (lit< tt) (lit< tt) (within i))
 
 pub first_tableau : (a : Mat) (at order : List ℕ) → AreOfLength a.cols a.rows → 1 ≤ a.cols → width a ≤ MAX_COORDINATES → ((i : ℕ) → AreWithin MAX_AMOUNT (get_or a.rows i []))
     → IsIdentity (width a) at → IsIdentity (width a) order → IsTableau a at order (start_rows a.rows)

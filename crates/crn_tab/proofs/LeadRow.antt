@@ -110,8 +110,8 @@ lead_small_at w c row lead h small k = elim (eq_or k c) [
   ]
 ]
 
-pub lead_low_at : (w c : ℕ) (row lead : List ℤ) → IsLead w c row lead → AreBelow (2 ^ 30) row → AreBelow (2 ^ 30) lead
-lead_low_at w c row lead h low k = elim (eq_or k c) [
+pub lead_below_at : (b w c : ℕ) (row lead : List ℤ) → IsLead w c row lead → AreBelow b row → AreBelow b lead
+lead_below_at b w c row lead h low k = elim (eq_or k c) [
   | inl e ↦ omega (arith, low (w - 1), same_size h.sign (entry row (w - 1)) (entry lead c) h.unit h.enters, ap (λ i. unsigned_abs (entry lead i)) e)
   | inr nc ↦ elim (eq_or k (w - 1)) [
     | inl e ↦ omega (arith, low c, same_size h.sign (entry row c) (entry lead (w - 1)) h.unit h.leaves, ap (λ i. unsigned_abs (entry lead i)) e)

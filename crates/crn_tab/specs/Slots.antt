@@ -64,11 +64,18 @@ pub record IsTableau (a : Mat) (at order : List ℕ) (rows : List ℤ) : Type 0 
 abbrev pub AreLowRows : ℕ → ℕ → List ℤ → Type 0
 AreLowRows w m rows = (i : ℕ) → i < m → (k : ℕ) → unsigned_abs (entry (row_at w rows i) k) < 2 ^ 30
 
--- the rows make a tableau, low if it says so, and the working lists have what an exchange needs
-pub record IsWhole (a : Mat) (at order : List ℕ) (rows lead : List ℤ) (low : Bool) (spare_room room : ℕ) (work : List ℤ) : Type 0 where
+-- each entry of the first so many rows is short, below 2^14 in absolute value
+abbrev pub AreShortRows : ℕ → ℕ → List ℤ → Type 0
+AreShortRows w m rows = (i : ℕ) → i < m → (k : ℕ) → unsigned_abs (entry (row_at w rows i) k) < 2 ^ 14
+
+-- the rows make a tableau, low or short if it says so, and the working lists have what an exchange needs
+pub record IsWhole (a : Mat) (at order : List ℕ) (rows lead : List ℤ) (low short : Bool) (spare_room room : ℕ) (work narrow_lead narrow_work : List ℤ) : Type 0 where
   pub tableau : IsTableau a at order rows
   pub low_rows : IsTrue low → AreLowRows (a.cols + 1) (length a.rows) rows
+  pub short_rows : IsTrue short → AreShortRows (a.cols + 1) (length a.rows) rows
   pub spare_fits : length rows ≤ spare_room
   pub lead_long : length lead ≡ a.cols + 1
   pub places_room : a.cols + 1 ≤ room
   pub work_long : length work ≡ a.cols + 1
+  pub narrow_long : length narrow_lead ≡ a.cols + 1
+  pub narrow_work_long : length narrow_work ≡ a.cols + 1

@@ -1,13 +1,14 @@
-ghost use Rattle.std.specs.Prelude.{◌≡◌, ◌≢◌, ◌≤◌, ◌<◌, ◌^◌, ◌-◌, ◌*◌, ◌+◌, ℕ, ℤ, pos, ◌≤ℤ◌, ◌-ℤ◌, ◌*ℤ◌, List, length, unsigned_abs, slice_set, vec_capacity, IsTrue};
+ghost use Rattle.std.specs.Prelude.{◌≡◌, ◌≢◌, ◌≤◌, ◌<◌, ◌^◌, ◌-◌, ◌*◌, ◌+◌, ℕ, ℤ, pos, ◌≤ℤ◌, ◌-ℤ◌, ◌*ℤ◌, List, length, unsigned_abs, slice_set, vec_capacity, IsTrue, false};
 ghost use Rattle.std.specs.Int.{◌∣◌};
 ghost use Rattle.crn_vec.specs.Vectors.{entry};
-ghost use Rattle.crn_tab.specs.Slots.{AreLowRows, IsContent, row_at};
+ghost use Rattle.crn_tab.specs.Slots.{AreLowRows, AreShortRows, IsContent, row_at};
 ghost use Rattle.crn_tab.specs.Tableau.{AreSmall};
 ghost use Rattle.crn_tab.specs.Inner.Rows.{AreBelow, AreFilled, ArePlaces, IsCombined, IsKeptRow, IsNewRow, IsRowChanged};
 
 use crate::combine::{common, over};
 use crate::lead::{Lead, make_lead, put_lead, put_places};
 use crate::low::{are_low, both, is_low, low_cross, low_differences, make_primitive};
+use crate::short::{are_short, change_short, is_short, narrow, put_narrow_if};
 use crn_vec::WIDE_ENTRY;
 
 // Where all entries are low, no new one reaches the bound, so an exchange cannot be refused, and the rows change in place.
@@ -81,7 +82,14 @@ fn change_all(row: &mut [i64], lead: &[i64], p: &i64, q: &i64, known: &i64) -> b
 }
 
 // The primitive difference of two rows of low entries, each times a factor, in place of the first.
-fn change(row: &mut [i64], lead: &[i64], places: &[usize], p: &i64, q: &i64, known: &i64) -> bool
+fn change_low(
+    row: &mut [i64],
+    lead: &[i64],
+    places: &[usize],
+    p: &i64,
+    q: &i64,
+    known: &i64,
+) -> bool
     requires few { length row.old ≤ 2 ^ 20 }
     requires lead_count { length lead.now ≡ length row.old }
     requires row { AreBelow (2 ^ 30) row.old }
@@ -104,25 +112,109 @@ fn change(row: &mut [i64], lead: &[i64], places: &[usize], p: &i64, q: &i64, kno
     change_all(row, lead, p, q, known)
 }
 
-// The new row of a row of low entries, in its place. The last place of `lead` is 0 here, and `p` is what was there.
-fn new_low_row(row: &mut [i64], lead: &[i64], places: &[usize], p: &i64, c: usize) -> bool
+// Whether an exchange goes over all places of a row: over those of a lead with few it goes one by one.
+fn is_dense(p: &i64, places: &[usize], count: usize) -> bool {
+    *p != 1 || places.len() > count / 8
+}
+
+// The primitive difference of two rows of short entries, each times a factor, in place of the first. If the answer is no, the row stays.
+fn change_if_short(
+    row: &mut [i64],
+    lead: &Lead,
+    p: &i64,
+    q: &i64,
+    known: &i64,
+    work: &mut [i32],
+) -> bool
+    requires lead_count { length lead.now.entries.now ≡ length row.old }
+    requires work_count { length work.old ≡ length row.old }
+    requires short { IsTrue lead.now.short → (lead.now.narrow.now ≡ lead.now.entries.now)
+        × AreBelow (2 ^ 14) lead.now.entries.now × AreBelow (2 ^ 14) row.old }
+    requires known { (d : ℕ)
+        → ((k : ℕ) → d ∣ unsigned_abs
+        ((p.now *ℤ entry row.old k) -ℤ (q.now *ℤ entry lead.now.entries.now k)))
+        → d ∣ unsigned_abs known.now }
+    requires known_some { pos 1 ≤ℤ known.now }
+    ensures combined { IsTrue result
+        → IsCombined p.now q.now row.old lead.now.entries.now row.new }
+    ensures short { IsTrue result → AreBelow (2 ^ 14) row.new }
+    ensures stays { result ≡ false → row.new ≡ row.old }
+{
+    if !lead.short || !is_dense(p, lead.places, row.len()) {
+        return false;
+    }
+    if !is_short(p) || !is_short(q) || !is_short(known) {
+        return false;
+    }
+    change_short(row, lead.narrow, &narrow(p), &narrow(q), known, work)
+}
+
+// The primitive difference of two rows of low entries, each times a factor, in place of the first. `short` stays only if the entries are short, too.
+fn change(
+    row: &mut [i64],
+    short: &mut bool,
+    lead: &Lead,
+    p: &i64,
+    q: &i64,
+    known: &i64,
+    work: &mut [i32],
+) -> bool
     requires few { length row.old ≤ 2 ^ 20 }
-    requires place { c + 1 < length row.old }
-    requires lead_count { length lead.now ≡ length row.old }
+    requires lead_count { length lead.now.entries.now ≡ length row.old }
+    requires work_count { length work.old ≡ length row.old }
+    requires short { IsTrue lead.now.short → (lead.now.narrow.now ≡ lead.now.entries.now)
+        × AreBelow (2 ^ 14) lead.now.entries.now × AreBelow (2 ^ 14) row.old }
     requires row { AreBelow (2 ^ 30) row.old }
-    requires lead { AreBelow (2 ^ 30) lead.now }
-    requires places { ArePlaces lead.now places.now }
-    requires lead_last { entry lead.now (length row.old - 1) ≡ pos 0 }
-    requires lead_primitive { IsContent (slice_set lead.now (length row.old - 1) p.now) 1 }
+    requires lead { AreBelow (2 ^ 30) lead.now.entries.now }
     requires p { unsigned_abs p.now < 2 ^ 30 }
-    requires p_some { pos 1 ≤ℤ p.now }
-    requires den_some { pos 1 ≤ℤ entry row.old (length row.old - 1) }
-    requires primitive { IsContent row.old 1 }
-    ensures new { IsNewRow (length row.old - 1) c row.old
-        (slice_set lead.now (length row.old - 1) p.now) row.new }
+    requires q { unsigned_abs q.now < 2 ^ 30 }
+    requires places { ArePlaces lead.now.entries.now lead.now.places.now }
+    requires known { (d : ℕ)
+        → ((k : ℕ) → d ∣ unsigned_abs
+        ((p.now *ℤ entry row.old k) -ℤ (q.now *ℤ entry lead.now.entries.now k)))
+        → d ∣ unsigned_abs known.now }
+    requires known_some { pos 1 ≤ℤ known.now }
+    requires known_small { unsigned_abs known.now < WIDE_ENTRY }
+    ensures combined { IsCombined p.now q.now row.old lead.now.entries.now row.new }
     ensures small { AreSmall row.new }
     ensures low { IsTrue result → AreBelow (2 ^ 30) row.new }
+    ensures short { IsTrue short.new → IsTrue short.old × AreBelow (2 ^ 14) row.new }
 {
+    if change_if_short(row, lead, p, q, known, work) {
+        return true;
+    }
+    let low = change_low(row, lead.entries, lead.places, p, q, known);
+    *short = *short && are_short(row);
+    low
+}
+
+// The new row of a row of low entries, in its place. `short` stays only if its entries are short.
+fn new_low_row(row: &mut [i64], short: &mut bool, lead: &Lead, work: &mut [i32]) -> bool
+    requires few { length row.old ≤ 2 ^ 20 }
+    requires place { lead.now.slot + 1 < length row.old }
+    requires lead_count { length lead.now.entries.now ≡ length row.old }
+    requires work_count { length work.old ≡ length row.old }
+    requires short { IsTrue lead.now.short → (lead.now.narrow.now ≡ lead.now.entries.now)
+        × AreBelow (2 ^ 14) lead.now.entries.now × AreBelow (2 ^ 14) row.old }
+    requires short_row { IsTrue short.old → AreBelow (2 ^ 14) row.old }
+    requires row { AreBelow (2 ^ 30) row.old }
+    requires lead { AreBelow (2 ^ 30) lead.now.entries.now }
+    requires places { ArePlaces lead.now.entries.now lead.now.places.now }
+    requires lead_last { entry lead.now.entries.now (length row.old - 1) ≡ pos 0 }
+    requires lead_primitive { IsContent
+        (slice_set lead.now.entries.now (length row.old - 1) lead.now.own.now) 1 }
+    requires p { unsigned_abs lead.now.own.now < 2 ^ 30 }
+    requires p_some { pos 1 ≤ℤ lead.now.own.now }
+    requires den_some { pos 1 ≤ℤ entry row.old (length row.old - 1) }
+    requires primitive { IsContent row.old 1 }
+    ensures new { IsNewRow (length row.old - 1) lead.now.slot row.old
+        (slice_set lead.now.entries.now (length row.old - 1) lead.now.own.now) row.new }
+    ensures small { AreSmall row.new }
+    ensures low { IsTrue result → AreBelow (2 ^ 30) row.new }
+    ensures short { IsTrue short.new → IsTrue short.old × AreBelow (2 ^ 14) row.new }
+{
+    let c = lead.slot;
+    let p = lead.own;
     let q = row[c];
     if q == 0 {
         return true;
@@ -131,14 +223,20 @@ fn new_low_row(row: &mut [i64], lead: &[i64], places: &[usize], p: &i64, c: usiz
     let mine = over(p, &t);
     let other = over(&q, &t);
     // With no common divisor of the factors, what divides the difference divides both of these.
-    let known = common(&lead[c], &row[row.len() - 1]);
+    let known = common(&lead.entries[c], &row[row.len() - 1]);
     row[c] = 0;
-    change(row, lead, places, &mine, &other, &known)
+    change(row, short, lead, &mine, &other, &known, work)
 }
 
 // Row i becomes its new row, if it is not that of the entering coordinate.
-fn change_row(rows: &mut [i64], i: usize, lead: &Lead) -> bool
+fn change_row(rows: &mut [i64], short: &mut bool, i: usize, lead: &Lead, work: &mut [i32]) -> bool
     requires few { length rows.old ≤ 2 ^ 20 }
+    requires work_count { length work.old ≡ length lead.now.entries.now }
+    requires short { IsTrue lead.now.short → (lead.now.narrow.now ≡ lead.now.entries.now)
+        × AreBelow (2 ^ 14) lead.now.entries.now
+        × AreBelow (2 ^ 14) (row_at (length lead.now.entries.now) rows.old i) }
+    requires short_row { IsTrue short.old
+        → AreBelow (2 ^ 14) (row_at (length lead.now.entries.now) rows.old i) }
     requires inside { i * length lead.now.entries.now + length lead.now.entries.now ≤ length
         rows.old }
     requires place { lead.now.slot + 1 < length lead.now.entries.now }
@@ -158,6 +256,9 @@ fn change_row(rows: &mut [i64], i: usize, lead: &Lead) -> bool
         rows.new }
     ensures low { IsTrue result → i ≢ lead.now.row
         → AreBelow (2 ^ 30) (row_at (length lead.now.entries.now) rows.new i) }
+    ensures short { IsTrue short.new → IsTrue short.old
+        × (i ≢ lead.now.row
+        → AreBelow (2 ^ 14) (row_at (length lead.now.entries.now) rows.new i)) }
     ensures others { (j : ℕ) → j ≢ i
         → row_at (length lead.now.entries.now) rows.new j ≡ row_at (length lead.now.entries.now)
         rows.old j }
@@ -168,12 +269,18 @@ fn change_row(rows: &mut [i64], i: usize, lead: &Lead) -> bool
     let w = lead.entries.len();
     let (_, rest) = rows.split_at_mut(i * w);
     let (row, _) = rest.split_at_mut(w);
-    new_low_row(row, lead.entries, lead.places, lead.own, lead.slot)
+    new_low_row(row, short, lead, work)
 }
 
 // Each row but that of the entering coordinate becomes its new row. The answer is whether all their entries are low.
-fn change_rows(rows: &mut [i64], m: usize, lead: &Lead) -> bool
+fn change_rows(rows: &mut [i64], short: &mut bool, m: usize, lead: &Lead, work: &mut [i32]) -> bool
     requires few { length rows.old ≤ 2 ^ 20 }
+    requires work_count { length work.old ≡ length lead.now.entries.now }
+    requires short { IsTrue lead.now.short → (lead.now.narrow.now ≡ lead.now.entries.now)
+        × AreBelow (2 ^ 14) lead.now.entries.now
+        × AreShortRows (length lead.now.entries.now) m rows.old }
+    requires short_rows { IsTrue short.old
+        → AreShortRows (length lead.now.entries.now) m rows.old }
     requires count { length rows.old ≡ m * length lead.now.entries.now }
     requires place { lead.now.slot + 1 < length lead.now.entries.now }
     requires row { (i : ℕ) → i < m
@@ -193,10 +300,13 @@ fn change_rows(rows: &mut [i64], m: usize, lead: &Lead) -> bool
         rows.new }
     ensures low { IsTrue result → (i : ℕ) → i < m → i ≢ lead.now.row
         → AreBelow (2 ^ 30) (row_at (length lead.now.entries.now) rows.new i) }
+    ensures short { IsTrue short.new → IsTrue short.old
+        × ((i : ℕ) → i < m → i ≢ lead.now.row
+        → AreBelow (2 ^ 14) (row_at (length lead.now.entries.now) rows.new i)) }
 {
     let mut low = true;
     for i in 0..m {
-        low = both(low, change_row(rows, i, lead));
+        low = both(low, change_row(rows, short, i, lead, work));
     }
     low
 }
@@ -204,11 +314,14 @@ fn change_rows(rows: &mut [i64], m: usize, lead: &Lead) -> bool
 // The rows after the exchange of the coordinate at slot c and that of row r, if all entries are low. The answer is whether they all still are.
 pub(crate) fn changed_rows(
     rows: &mut [i64],
+    short: &mut bool,
     m: usize,
     r: usize,
     c: usize,
     lead: &mut [i64],
     places: &mut Vec<usize>,
+    narrow_lead: &mut [i32],
+    work: &mut [i32],
 ) -> bool
     requires few { length rows.old ≤ 2 ^ 20 }
     requires count { length rows.old ≡ m * length lead.old }
@@ -218,10 +331,14 @@ pub(crate) fn changed_rows(
     requires row { (i : ℕ) → i < m
         → IsKeptRow (length lead.old) (row_at (length lead.old) rows.old i) }
     requires low_rows { AreLowRows (length lead.old) m rows.old }
+    requires short_rows { IsTrue short.old → AreShortRows (length lead.old) m rows.old }
+    requires narrow_count { length narrow_lead.old ≡ length lead.old }
+    requires narrow_work { length work.old ≡ length lead.old }
     requires some { entry (row_at (length lead.old) rows.old r) c ≢ pos 0 }
     ensures filled { (order : List ℕ)
         → AreFilled (length lead.old) m c r rows.old rows.new order (length order) }
     ensures low { IsTrue result → AreLowRows (length lead.old) m rows.new }
+    ensures short { IsTrue short.new → AreShortRows (length lead.old) m rows.new }
     ensures room { vec_capacity places.new ≡ vec_capacity places.old }
 {
     make_lead(rows, r, c, lead);
@@ -229,6 +346,7 @@ pub(crate) fn changed_rows(
     let p = lead[last];
     lead[last] = 0;
     put_places(places, lead);
+    put_narrow_if(*short, lead, narrow_lead);
     let made = Lead {
         row: r,
         slot: c,
@@ -236,8 +354,10 @@ pub(crate) fn changed_rows(
         entries: lead,
         places,
         low: true,
+        short: *short,
+        narrow: narrow_lead,
     };
-    let low = change_rows(rows, m, &made);
+    let low = change_rows(rows, short, m, &made, work);
     lead[last] = p;
     put_lead(rows, r, lead);
     low

@@ -2,13 +2,14 @@ ghost use Rattle.std.specs.Prelude.{IsTrue, ◌≡◌, ◌≢◌, ◌≤◌, ◌
 ghost use Rattle.crn_vec.specs.Vectors.{entry};
 ghost use Rattle.crn_vec.specs.Lists.{IsIn};
 ghost use Rattle.crn_vec.specs.Elementary.{width, IsNamed, WideAt, Exchanged};
-ghost use Rattle.crn_tab.specs.Slots.{AreLowRows, row_at, basis_of, IsTableau};
+ghost use Rattle.crn_tab.specs.Slots.{AreLowRows, AreShortRows, row_at, basis_of, IsTableau};
 ghost use Rattle.crn_tab.specs.Inner.Rows.{IsKeptRow, AreFilled};
 
 use crate::change::changed_rows;
 use crate::fill::{fill_rows, part};
 use crate::lead::{Lead, make_lead, put_lead, put_places};
 use crate::low::{all_low, are_low};
+use crate::short::are_still_short;
 use crn_vec::Matrix;
 
 // Row i becomes that of the spare rows, if it has the leaving coordinate.
@@ -87,6 +88,8 @@ fn spare_rows(
         entries: lead,
         places,
         low: are_low(lead),
+        short: false,
+        narrow: &[],
     };
     let least = fill_rows(rows, spare, m, &made, order, work);
     if least < order.len() {
@@ -156,6 +159,7 @@ fn wider_rows(
 pub(crate) fn new_rows(
     rows: &mut [i64],
     low: &mut bool,
+    short: &mut bool,
     spare: &mut Vec<i64>,
     m: usize,
     r: usize,
@@ -164,9 +168,14 @@ pub(crate) fn new_rows(
     lead: &mut [i64],
     places: &mut Vec<usize>,
     work: &mut [i128],
+    narrow_lead: &mut [i32],
+    narrow_work: &mut [i32],
 ) -> usize
     requires few { length rows.old ≤ 2 ^ 20 }
     requires count { length rows.old ≡ m * length lead.old }
+    requires short { IsTrue short.old → AreShortRows (length lead.old) m rows.old }
+    requires narrow_count { length narrow_lead.old ≡ length lead.old }
+    requires narrow_work { length narrow_work.old ≡ length lead.old }
     requires low { IsTrue low.old → AreLowRows (length lead.old) m rows.old }
     requires spare_room { length rows.old ≤ vec_capacity spare.old }
     requires order { length order.now ≡ length lead.old - 1 + m }
@@ -182,13 +191,16 @@ pub(crate) fn new_rows(
     ensures filled { AreFilled (length lead.old) m c r rows.old rows.new order.now result }
     ensures stay { result < length order.now → rows.new ≡ rows.old }
     ensures low { IsTrue low.new → AreLowRows (length lead.old) m rows.new }
+    ensures short { IsTrue short.new → AreShortRows (length lead.old) m rows.new }
     ensures room { vec_capacity places.new ≡ vec_capacity places.old }
     ensures spare_room { vec_capacity spare.new ≡ vec_capacity spare.old }
 {
     if *low {
-        *low = changed_rows(rows, m, r, c, lead, places);
+        *low = changed_rows(rows, short, m, r, c, lead, places, narrow_lead, narrow_work);
+        *short = are_still_short(*short, rows);
         return order.len();
     }
+    *short = false;
     wider_rows(rows, low, spare, m, r, c, order, lead, places, work)
 }
 
@@ -200,16 +212,23 @@ pub(crate) fn exchange(
     order: &mut [usize],
     rows: &mut [i64],
     low: &mut bool,
+    short: &mut bool,
     spare: &mut Vec<i64>,
     lead: &mut [i64],
     places: &mut Vec<usize>,
     work: &mut [i128],
+    narrow_lead: &mut [i32],
+    narrow_work: &mut [i32],
     leave: usize,
     enter: usize,
 ) -> usize
     requires tableau { IsTableau matrix.now at.old order.old rows.old }
     requires low { IsTrue low.old
         → AreLowRows (matrix.now.cols + 1) (length matrix.now.rows) rows.old }
+    requires short { IsTrue short.old
+        → AreShortRows (matrix.now.cols + 1) (length matrix.now.rows) rows.old }
+    requires narrow_count { length narrow_lead.old ≡ matrix.now.cols + 1 }
+    requires narrow_work { length narrow_work.old ≡ matrix.now.cols + 1 }
     requires spare_room { length rows.old ≤ vec_capacity spare.old }
     requires lead_count { length lead.old ≡ matrix.now.cols + 1 }
     requires room { matrix.now.cols + 1 ≤ vec_capacity places.old }
@@ -235,6 +254,8 @@ pub(crate) fn exchange(
     ensures tableau { IsTableau matrix.now at.new order.new rows.new }
     ensures low { IsTrue low.new
         → AreLowRows (matrix.now.cols + 1) (length matrix.now.rows) rows.new }
+    ensures short { IsTrue short.new
+        → AreShortRows (matrix.now.cols + 1) (length matrix.now.rows) rows.new }
     ensures room { vec_capacity places.new ≡ vec_capacity places.old }
     ensures spare_room { vec_capacity spare.new ≡ vec_capacity spare.old }
 {
@@ -242,7 +263,21 @@ pub(crate) fn exchange(
     let m = matrix.rows();
     let c = at[leave];
     let r = at[enter] - n;
-    let least = new_rows(rows, low, spare, m, r, c, order, lead, places, work);
+    let least = new_rows(
+        rows,
+        low,
+        short,
+        spare,
+        m,
+        r,
+        c,
+        order,
+        lead,
+        places,
+        work,
+        narrow_lead,
+        narrow_work,
+    );
     if least < n + m {
         return least;
     }

@@ -4,7 +4,7 @@ use Rattle.std.proofs.Math.ListN.{length-set}
 use Rattle.crn_vec.proofs.CallerLemmas.{eq_or}
 use Rattle.crn_tab.specs.Slots.{IsContent, row_at}
 use Rattle.crn_tab.specs.Inner.Rows.{AreBelow, IsRowChanged}
-use Rattle.crn_tab.proofs.LeadRow.{lead_small_at, lead_low_at, lead_primitive_at}
+use Rattle.crn_tab.proofs.LeadRow.{lead_small_at, lead_below_at, lead_primitive_at}
 use Rattle.crn_tab.proofs.LeadBack.{put_back, rows_after}
 use Rattle.crn_tab.proofs.change.changed_rows.Goals as goal
 
@@ -65,6 +65,6 @@ returns-clause-low c = λ yes i lt.
     let others = low_at w (length lead0) c.args.m c.args.r c.change_rows-low.new.rows width (c.change_rows-low.ensures.low yes) in
     let B : List ℤ → Type 0 = AreBelow (2 ^ 30) in
     elim (eq_or i c.args.r) as (λ _. AreBelow (2 ^ 30) (row_at w c.put_lead.new.rows i)) [
-      | inl e ↦ subst B (sym (ap (row_at w c.put_lead.new.rows) e ∙ at_places.0)) (lead_low_at w c.args.c (row_at w rows c.args.r) lead c.make_lead.ensures (c.requires.low_rows c.args.r c.requires.inside))
+      | inl e ↦ subst B (sym (ap (row_at w c.put_lead.new.rows) e ∙ at_places.0)) (lead_below_at (2 ^ 30) w c.args.c (row_at w rows c.args.r) lead c.make_lead.ensures (c.requires.low_rows c.args.r c.requires.inside))
       | inr ne ↦ subst B (sym (at_places.1 i ne)) (others i lt ne)
     ]

@@ -1,0 +1,7 @@
+use Rattle.std.proofs.Common.{ℕ, ◌<◌, ◌^◌}
+use Rattle.std.specs.Prelude.{unsigned_abs}
+use Rattle.crn_vec.specs.Vectors.{entry}
+use Rattle.crn_tab.proofs.short.all_short.Given as goal
+
+abbrev pub invariant-loop-x : goal.invariant-loop-x
+invariant-loop-x l = (k : ℕ) → k < l.x-index → unsigned_abs (entry l.rows k) < 2 ^ 14
