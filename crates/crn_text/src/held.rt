@@ -108,14 +108,22 @@ fn moved(term: &Term, by: u32) -> Term
     }
 }
 
+// Moves the terms of a side to where the side begins so many bytes later.
+fn move_all(terms: &mut [Term], by: u32)
+    ensures { terms.new ≡ map (λ t. moved by t) terms.old }
+{
+    for term in terms.iter_mut() {
+        *term = moved(term, by);
+    }
+}
+
 // Replaces the terms in the buffer by those of a side that begins so many bytes later.
 fn put_moved(known: &[Term], by: u32, terms: &mut Vec<Term>) -> Result<(), AllocError>
     ensures { IfOk result (λ done. terms.new.items ≡ map (λ t. moved by t) known.now) }
 {
     terms.clear();
-    for term in known {
-        terms.push(moved(term, by))?;
-    }
+    terms.extend_from_slice(known)?;
+    move_all(terms, by);
     Ok(())
 }
 

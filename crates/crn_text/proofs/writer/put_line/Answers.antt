@@ -2,23 +2,23 @@ use Rattle.std.proofs.lemmas.Result.{err_from_is_err_and}
 use Rattle.crn_io.proofs.CallerLemmas.{WroteAll-then, WrotePrefix-then, WrotePrefix-more, Wrote-prefix, Wrote-then}
 use Rattle.crn_text.proofs.writer.put_line.Goals as goal
 
-pub returns-in_err-write_side : goal.returns-in_err-write_side
-returns-in_err-write_side g c =
+pub returns-in_err-put_side : goal.returns-in_err-put_side
+returns-in_err-put_side g c =
     let p = err_from_is_err_and c.from_residual.result c.from_residual.ensures.1 in
-    Wrote-prefix p.1 (WrotePrefix-more _ (WrotePrefix-more _ (WrotePrefix-more _ c.in_err-write_side.ensures.prefix)))
+    Wrote-prefix p.1 (WrotePrefix-more _ (WrotePrefix-more _ (WrotePrefix-more _ c.in_err-put_side.ensures.prefix)))
 
 pub returns-in_err-put_all : goal.returns-in_err-put_all
 returns-in_err-put_all g c =
     let p = err_from_is_err_and c.from_residual-in_err-put_all.result c.from_residual-in_err-put_all.ensures.1 in
-    Wrote-prefix p.1 (WrotePrefix-more _ (WrotePrefix-more _ (WrotePrefix-then c.in_ok-write_side.ensures.all c.in_err-put_all.ensures.writes.prefix)))
+    Wrote-prefix p.1 (WrotePrefix-more _ (WrotePrefix-more _ (WrotePrefix-then c.in_ok-put_side.ensures.all c.in_err-put_all.ensures.writes.prefix)))
 
-pub returns-in_err-write_side-2 : goal.returns-in_err-write_side-2
-returns-in_err-write_side-2 g c =
-    let p = err_from_is_err_and c.from_residual-in_err-write_side-2.result c.from_residual-in_err-write_side-2.ensures.1 in
-    let first = WroteAll-then c.in_ok-write_side.ensures.all c.in_ok-put_all.ensures.writes.all in
-    Wrote-prefix p.1 (WrotePrefix-more _ (WrotePrefix-then first c.in_err-write_side-2.ensures.prefix))
+pub returns-in_err-put_side-2 : goal.returns-in_err-put_side-2
+returns-in_err-put_side-2 g c =
+    let p = err_from_is_err_and c.from_residual-in_err-put_side-2.result c.from_residual-in_err-put_side-2.ensures.1 in
+    let first = WroteAll-then c.in_ok-put_side.ensures.all c.in_ok-put_all.ensures.writes.all in
+    Wrote-prefix p.1 (WrotePrefix-more _ (WrotePrefix-then first c.in_err-put_side-2.ensures.prefix))
 
 pub returns : goal.returns
 returns g c =
-    let first = WroteAll-then c.in_ok-write_side.ensures.all c.in_ok-put_all.ensures.writes.all in
-    Wrote-then (WroteAll-then first c.in_ok-write_side-2.ensures.all) c.put_all-2.ensures.writes
+    let first = WroteAll-then c.in_ok-put_side.ensures.all c.in_ok-put_all.ensures.writes.all in
+    Wrote-then (WroteAll-then first c.in_ok-put_side-2.ensures.all) c.put_all-2.ensures.writes

@@ -1,0 +1,6 @@
+use Rattle.std.proofs.Common.{◌≡◌, ◌++◌, take, drop, map}
+use Rattle.crn_text.specs.Inner.Held.{moved}
+use Rattle.crn_text.proofs.held.move_all.Given as goal
+
+abbrev pub invariant-loop-term : goal.invariant-loop-term
+invariant-loop-term l = l.terms ≡ map (λ t. moved l.by t) (take l.term-index l.fn.terms) ++ drop l.term-index l.fn.terms
