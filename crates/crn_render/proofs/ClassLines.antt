@@ -1,8 +1,8 @@
 -- The lines of classes that a loop writes, and the members of a class.
-use Rattle.std.proofs.Common.{◌≡◌, ℕ, zero, suc, ◌+◌, ◌<◌, ◌==◌, List, [], ◌∷◌, ◌++◌, length, take, drop, get_or, refl, sym, ap, ◌∙◌, append_assoc, add-one, add-zero, zero-add, ◌-◌, arith}
+use Rattle.std.proofs.Common.{◌≡◌, ◌≢◌, ℕ, zero, suc, ◌+◌, ◌<◌, ◌==◌, List, [], ◌∷◌, ◌++◌, length, take, drop, get_or, refl, sym, ap, ◌∙◌, append_assoc, add-one, add-zero, zero-add, ◌-◌, arith}
 use Rattle.std.proofs.lemmas.List.{append-nil, length-append, length-map}
 use Rattle.std.proofs.lemmas.Bool.Decides.{nat_tests}
-use Rattle.std.specs.List.{flat_map}
+use Rattle.std.specs.List.{flat_map, AllByRecursion}
 use Rattle.std.specs.Prelude.{codes, if◌then◌else◌}
 use Rattle.crn_vec.specs.Network.{Net}
 use Rattle.crn_io.specs.Joined.{joined, with_separator}
@@ -71,6 +71,21 @@ members_whole net k labels i n p q is e =
     let text = get_or (sides net) i [] in
     let all : of_label k labels (sides net) ≡ (before ++ text ∷ []) ++ after = of_label_whole k labels (sides net) i p q' ∙ rw (one_of k (get_or labels i 0) text is) refl in
     rw (← side_at net i q) (ap (joined (codes "; ")) all ∙ rw e (joined_more (codes "; ") before after text))
+
+-- complexes of other classes add nothing
+pub members_none : (k n : ℕ) (labels : List ℕ) (texts : List (List ℕ)) → AllByRecursion (λ l. l ≢ k) (take n labels) → of_label k (take n labels) (take n texts) ≡ []
+members_none k zero labels texts other = refl
+members_none k (suc n) [] texts other = refl
+members_none k (suc n) (l ∷ labels) [] other = refl
+members_none k (suc n) (l ∷ labels) (text ∷ texts) other = rw (none_of k l text other.0) (members_none k n labels texts other.1)
+
+pub members_skip : (k i n : ℕ) (labels : List ℕ) (texts : List (List ℕ)) → AllByRecursion (λ l. l ≢ k) (take n (drop i labels)) → of_label k (take (i + n) labels) (take (i + n) texts) ≡ of_label k (take i labels) (take i texts)
+members_skip k zero n labels texts other = let e : zero + n ≡ n = omega arith in rw e (members_none k n labels texts other)
+members_skip k (suc i) n [] texts other = let e : suc i + n ≡ suc (i + n) = omega arith in rw e refl
+members_skip k (suc i) n (l ∷ labels) [] other = let e : suc i + n ≡ suc (i + n) = omega arith in rw e refl
+members_skip k (suc i) n (l ∷ labels) (text ∷ texts) other =
+    let e : suc i + n ≡ suc (i + n) = omega arith in
+    rw e (ap (λ (t : List (List ℕ)). if_label k l text ++ t) (members_skip k i n labels texts other))
 
 -- ---- the lines of classes
 

@@ -1,2 +1,3 @@
 -- For the contracts of private functions alone.
 pub mod Reading
+pub mod Members

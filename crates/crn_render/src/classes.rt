@@ -1,11 +1,63 @@
-ghost use Rattle.std.specs.Prelude.{◌≡◌, ◌<◌, ◌≤◌, ◌++◌, ◌-◌, codes, length, slice_index};
+ghost use Rattle.std.specs.Prelude.{◌≡◌, ◌≢◌, ◌↔◌, ◌<◌, ◌≤◌, ◌++◌, ◌-◌, codes, length, slice_index, IsTrue, IfSome};
 ghost use Rattle.crn_io.specs.Write.{Wrote};
 ghost use Rattle.crn_render.specs.Details.{members_text, class_line, strong_line, terminal_text, lines_from};
+ghost use Rattle.crn_render.specs.Inner.Members.{AreOthers, IsFirst};
 
 use crate::parts::{put_complex, put_number};
 use crn_io::{Sink, WriteFault, put_all};
 use crn_net::Network;
 use crn_text::SideText;
+
+// Whether a label is not that of a class.
+fn is_other(label: u32, class: u32) -> bool
+    ensures { IsTrue result ↔ (label ≢ class) }
+{
+    label != class
+}
+
+// Whether both hold, by one test.
+fn both(left: bool, right: bool) -> bool
+    ensures { IsTrue result ↔ (IsTrue left × IsTrue right) }
+{
+    left & right
+}
+
+// The labels after the first eight, if none of these is that of a class.
+fn after_eight(labels: &[u32], class: u32) -> Option<&[u32]>
+    ensures { IfSome result (λ rest. AreOthers 8 class labels.now rest.now) }
+{
+    match labels {
+        [a, b, c, d, e, f, g, h, rest @ ..] => {
+            let ab = both(is_other(*a, class), is_other(*b, class));
+            let cd = both(is_other(*c, class), is_other(*d, class));
+            let ef = both(is_other(*e, class), is_other(*f, class));
+            let gh = both(is_other(*g, class), is_other(*h, class));
+            if both(both(ab, cd), both(ef, gh)) {
+                return Some(rest);
+            }
+            None
+        }
+        _ => None,
+    }
+}
+
+// How many labels come before the first one of a class.
+fn others(labels: &[u32], class: u32) -> usize
+    ensures { IsFirst class labels.now result }
+{
+    if let Some(rest) = after_eight(labels, class) {
+        return 8 + others(rest, class);
+    }
+    match labels {
+        [label, rest @ ..] => {
+            if *label == class {
+                return 0;
+            }
+            1 + others(rest, class)
+        }
+        [] => 0,
+    }
+}
 
 // The complexes of a class. The text is a buffer.
 fn put_members<K: Sink>(
@@ -20,12 +72,12 @@ fn put_members<K: Sink>(
         (K.seen sink.old) (K.seen sink.new) result }
 {
     let mut shown = 0usize;
-    for c in 0..net.complexes() {
-        if labels[c] != class {
-            continue;
-        }
+    let mut c = others(labels, class);
+    while c < labels.len() {
         put_complex(sink, shown, net, c, text)?;
         shown += 1;
+        let (_, rest) = labels.split_at(c + 1);
+        c += 1 + others(rest, class);
     }
     Ok(())
 }

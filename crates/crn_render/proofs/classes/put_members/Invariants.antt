@@ -1,4 +1,4 @@
-use Rattle.std.proofs.Common.{◌≡◌, ◌≤◌, take, length, codes}
+use Rattle.std.proofs.Common.{◌≡◌, ◌≤◌, ◌<◌, ◌-◌, take, length, get_or, codes}
 use Rattle.crn_io.specs.Joined.{joined}
 use Rattle.crn_io.specs.Write.{WroteAll}
 use Rattle.crn_render.specs.Details.{of_label, sides}
@@ -6,5 +6,13 @@ use Rattle.crn_render.proofs.classes.put_members.Given as goal
 
 abbrev pub invariant-loop-c : goal.invariant-loop-c
 invariant-loop-c g l =
-    let written = of_label l.class (take l.c l.labels) (take l.c (sides l.net)) in
-    WroteAll (joined (codes "; ") written) (g.K.Sink.seen l.initial.sink) (g.K.Sink.seen l.sink) × (l.shown ≡ length written) × (l.shown ≤ l.c)
+    let written = of_label l.class (take l.c l.labels) (take l.c (sides l.net)) in record {
+      wrote : WroteAll (joined (codes "; ") written) (g.K.Sink.seen l.initial.sink) (g.K.Sink.seen l.sink);
+      shown : l.shown ≡ length written;
+      few : l.shown ≤ l.c;
+      within : l.c ≤ length l.labels;
+      next : l.c < length l.labels → get_or l.labels l.c 0 ≡ l.class;
+    }
+
+abbrev pub decreases-loop-c : goal.decreases-loop-c
+decreases-loop-c g l = length l.labels - l.c
