@@ -1,5 +1,6 @@
-ghost use Rattle.std.specs.Prelude.{◌≡◌, ◌≤◌, ◌<◌, ◌⊎◌, ◌↔◌, ℕ, ℤ, length};
+ghost use Rattle.std.specs.Prelude.{◌≡◌, ◌≤◌, ◌<◌, ◌⊎◌, ◌↔◌, ℕ, ℤ, length, slice_index, slice_index_or};
 ghost use Rattle.crn_vec.specs.Vectors.{HasSign};
+ghost use Rattle.crn_vec.specs.declared.signs.Kind.TheVariants.{Pos};
 ghost use Rattle.crn_vec.specs.Lists.{IsIn};
 ghost use Rattle.crn_vec.specs.Elementary.{width};
 ghost use Rattle.crn_vec.specs.Systems.{MayTake, MayWeigh};
@@ -41,6 +42,32 @@ fn least_wrong(sign: Sign, x: &i64, kind: Kind, level: usize, from: usize, best:
         return best;
     }
     level
+}
+
+// The same at coordinate c. Of the many numbers that are 0 nothing else is read.
+fn wrong_at(
+    sign: Sign,
+    x: &i64,
+    kinds: &[Kind],
+    level: &[usize],
+    c: usize,
+    from: usize,
+    best: usize,
+) -> usize
+    requires kinds { c < length kinds.now }
+    requires level { c < length level.now }
+    ensures lower { result ≤ best }
+    ensures from { from ≤ best → from ≤ result }
+    ensures right { (y : ℤ) → Follows sign x.now y → from ≤ slice_index level.now c
+        → slice_index level.now c < result → MayWeigh (slice_index_or kinds.now c Pos) y }
+    ensures wrong { (result ≡ best)
+        ⊎ ((result ≡ slice_index level.now c) × ((y : ℤ) → Follows sign x.now y
+        → MayWeigh (slice_index_or kinds.now c Pos) y → ⊥)) }
+{
+    if *x == 0 {
+        return best;
+    }
+    least_wrong(sign, x, kinds[c], level[c], from, best)
 }
 
 // The kind whose weights are what a part of a solution may have at a coordinate of the given kind.
@@ -87,8 +114,7 @@ fn wrong_row(
     let kept = part(fields.rows, fields.at[row] - n, n + 1);
     let mut best = least_wrong(sign, &kept[n], kinds[row], level[row], from, end);
     for s in 0..n {
-        let c = fields.order[s];
-        best = least_wrong(sign, &kept[s], kinds[c], level[c], from, best);
+        best = wrong_at(sign, &kept[s], kinds, level, fields.order[s], from, best);
     }
     best
 }

@@ -63,7 +63,7 @@ loop-s-preserved c =
     let s = c.loop-s.s in
     let is = kept_is a.cols c.cols-n.result (slice_index at e) c.args.fields.now.rows.now c.part-kept.result.now c.cols-n.ensures.count c.part-kept.ensures in
     let s_lt : s < a.cols = omega (arith, c.loop-s-test.true, c.cols-n.ensures.count) in
-    let next = c.least_wrong-best-in-loop-s in
+    let next = c.wrong_at-best in
     record {
       low = next.ensures.from c.loop-s.invariant.low;
       high = omega (arith, next.ensures.lower, c.loop-s.invariant.high);
