@@ -33,18 +33,15 @@ fn is_within(net: &Network, labels: &[u32], exits: &[u32], r: usize) -> bool
     number_at(labels, y) == number_at(labels, z) && exit_of(labels, exits, y) == 0
 }
 
-// Whether two reactions, counted from 0, join the same two complexes.
-fn is_same_pair(net: &Network, q: usize, r: usize) -> bool
-    requires one { q < length net.now.reactions }
-    requires two { r < length net.now.reactions }
-    ensures { result
-        ≡ is_same_pair (slice_index_or net.now.reactions q (0, 0))
-        (slice_index_or net.now.reactions r (0, 0)) }
+// Whether a reaction, counted from 0, joins complexes y and z. The sum of their numbers is that of few other pairs.
+fn joins(net: &Network, q: usize, y: usize, z: usize, sum: usize) -> bool
+    requires reaction { q < length net.now.reactions }
+    requires sum { sum ≡ y + z }
+    ensures { result ≡ is_same_pair (slice_index_or net.now.reactions q (0, 0)) (y, z) }
 {
     let (a, b) = (net.reactant(q), net.product(q));
-    let (y, z) = (net.reactant(r), net.product(r));
     let _ = net.complexes();
-    if a + b != y + z {
+    if a + b != sum {
         return false;
     }
     (a == y && b == z) || (a == z && b == y)
@@ -55,8 +52,11 @@ fn is_least_of_pair(net: &Network, r: usize) -> bool
     requires { r < length net.now.reactions }
     ensures { result ≡ is_least_of_pair net.now (r + 1) }
 {
+    let (y, z) = (net.reactant(r), net.product(r));
+    let _ = net.complexes();
+    let sum = y + z;
     for q in 0..r {
-        if is_same_pair(net, q, r) {
+        if joins(net, q, y, z, sum) {
             return false;
         }
     }

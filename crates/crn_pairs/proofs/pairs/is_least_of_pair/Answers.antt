@@ -1,9 +1,20 @@
-use Rattle.std.proofs.Common.{sym, ◌∙◌}
+use Rattle.std.proofs.Common.{◌≡◌, ℕ, get_or, sym, ap, ap₂, ◌∙◌}
+use Rattle.crn_vec.specs.Network.{Net}
+use Rattle.crn_cert.specs.Valid.{is_same_pair}
 use Rattle.crn_pairs.proofs.Least.{least_hit, least_more}
 use Rattle.crn_pairs.proofs.pairs.is_least_of_pair.Goals as goal
 
-pub returns-then-is_same_pair : goal.returns-then-is_same_pair
-returns-then-is_same_pair c = sym (least_hit c.args.net.now c.args.r c.loop-q.q c.loop-q-test.true (sym c.is_same_pair.ensures ∙ c.if-is_same_pair.true))
+ends : (net : Net) (r y z : ℕ) → y ≡ (get_or net.reactions r (0, 0)).0 → z ≡ (get_or net.reactions r (0, 0)).1 → (y, z) ≡ get_or net.reactions r (0, 0)
+ends net r y z e f = ap₂ (λ (a b : ℕ). (a, b)) e f
+
+pub returns-then-joins : goal.returns-then-joins
+returns-then-joins c =
+    let e = ends c.args.net.now c.args.r c.reactant-y.result c.product-z.result c.reactant-y.ensures.value c.product-z.ensures.value in
+    sym (least_hit c.args.net.now c.args.r c.loop-q.q c.loop-q-test.true
+    (ap (is_same_pair (get_or c.args.net.now.reactions c.loop-q.q (0, 0))) (sym e) ∙ sym c.joins.ensures ∙ c.if-joins.true))
 
 pub loop-q-preserved : goal.loop-q-preserved
-loop-q-preserved c = least_more c.args.net.now c.args.r c.loop-q.q c.loop-q.invariant (sym c.is_same_pair.ensures ∙ c.if-is_same_pair.false)
+loop-q-preserved c =
+    let e = ends c.args.net.now c.args.r c.reactant-y.result c.product-z.result c.reactant-y.ensures.value c.product-z.ensures.value in
+    least_more c.args.net.now c.args.r c.loop-q.q c.loop-q.invariant
+    (ap (is_same_pair (get_or c.args.net.now.reactions c.loop-q.q (0, 0))) (sym e) ∙ sym c.joins.ensures ∙ c.if-joins.false)
