@@ -18,15 +18,15 @@ use Rattle.crn_sign.specs.Options.{asked_kind, kind_by}
 use Rattle.crn_sign.specs.Settled.{SettlesOnly}
 use Rattle.crn_sign.specs.Inner.Bits.{mark_at, mark_of, word_count}
 use Rattle.crn_sign.specs.Inner.Marks.{AreRowMarks, kind_of_mark, kinds_of}
-use Rattle.crn_sign.specs.Inner.Places.{HasRoom, IsHere, IsNext, IsPlace, IsSettledAt, IsSettling}
-use Rattle.crn_sign.specs.Inner.Ready.{IsLevel}
+use Rattle.crn_sign.specs.Inner.Places.{HasRoom, IsAround, IsAsked, IsHere, IsPlace, IsSettledAt, IsSettling}
+use Rattle.crn_sign.specs.Inner.Ready.{AreAround, AreAsked, AreMarked, HasRooms, IsLevel}
 use Rattle.crn_sign.proofs.MarkLaws.{kind_asked, kinds_long}
 
 pub room_of : (a : Mat) (l : Place) → IsPlace a l → HasRoom a l
 room_of a l h = record { width_is = h.width_is; asked = h.asked; marks = h.marks.long }
 
 pub settling_room : (a : Mat) (kinds : List Kind) (settled : List ℕ) (l : Place) → IsSettling a kinds settled l → HasRoom a l
-settling_room a kinds settled l h = record { width_is = h.width_is; asked = h.asked; marks = h.marks.long }
+settling_room a kinds settled l h = h.room
 
 mark_by : (p m : Bool) → kind_of_mark (mark_of (one_if p) (one_if m)) ≡ kind_by p m
 mark_by false false = refl
@@ -43,12 +43,13 @@ pub kinds_are : (a : Mat) (kinds : List Kind) (asked : List Bits) → length kin
 kinds_are a kinds asked long same = ext_get_or Free (kinds_of a asked) kinds (kinds_long a asked ∙ sym long)
     (λ k lt. let at : k < width a = omega (arith, lt, kinds_long a asked) in kind_asked a asked k at ∙ same k at)
 
+settled_room : (a : Mat) (kinds : List Kind) (k : ℕ) (old new : Place) → IsSettledAt a kinds k old new → HasRoom a old → HasRoom a new
+settled_room a kinds k old new s h = record { width_is = s.width_is ∙ h.width_is; asked = s.count ∙ h.asked; marks = ap (λ (l : List Bits). length l) s.marks ∙ h.marks }
+
 -- one kind is asked
 pub one_settled : (a : Mat) (kinds : List Kind) (k : ℕ) (rest : List ℕ) (old new : Place) → IsSettledAt a kinds k old new → IsSettling a kinds (k ∷ rest) old → IsSettling a kinds rest new
 one_settled a kinds k rest old new s h = record {
-  width_is = s.width_is ∙ h.width_is;
-  asked = s.count ∙ h.asked;
-  marks = subst (AreRowMarks a) (sym s.marks) h.marks;
+  room = settled_room a kinds k old new s h.room;
   same = λ j lt out. elim (eq_or j k) as (λ _. kind_of_mark (mark_at new.asked.items j) ≡ kind_at kinds j) [
     | inl e ↦ subst (λ (i : ℕ). kind_of_mark (mark_at new.asked.items i) ≡ kind_at kinds i) (sym e) (s.here (subst (λ (i : ℕ). i < width a) e lt))
     | inr ne ↦ ap kind_of_mark (s.others j ne) ∙ h.same j lt (λ i. elim i [ inl e ↦ ne e | inr i ↦ out i ])
@@ -76,22 +77,26 @@ begun_step a kinds k old new lt s h = record {
   ];
 }
 
--- what is known one level above is known but for what the last choice settles
-pub next_settling : (a : Mat) (kinds : List Sign → List Kind) (prefix : List Sign) (above here : Place) (depth : ℕ) (settled : List ℕ) → IsNext a kinds prefix above → SettlesOnly kinds (width a) depth settled → depth ≡ length prefix
-    → here.width ≡ width a → here.asked.items ≡ above.asked.items → here.marks.items ≡ above.marks.items → IsSettling a (kinds prefix) settled here
-next_settling a kinds prefix above here depth settled n only de ws qs ms =
-    let p = n.p in
-    let same_long : length p + 1 ≡ depth = omega (arith, de, ap (λ (l : List Sign). length l) n.prefix_is, length-append p (n.s ∷ [])) in
-    let law : (k : ℕ) → k < width a → (IsIn k settled → ⊥) → kind_at (kinds prefix) k ≡ kind_at (kinds p) k = λ k lt out.
-    ap (λ (q : List Sign). kind_at (kinds q) k) n.prefix_is ∙ only p n.s k same_long lt out in
-    record {
-      width_is = ws;
-      asked = ap (λ (l : List Bits). length l) qs ∙ n.here.place.asked;
-      marks = subst (AreRowMarks a) (sym ms) n.here.place.marks;
-      same = λ k lt out.
-          ap (λ (l : List Bits). kind_of_mark (mark_at l k)) qs ∙ sym (kind_asked a above.asked.items k lt)
-          ∙ ap (λ (l : List Kind). kind_at l k) n.here.kinds_are ∙ sym (law k lt out);
-    }
+-- what is asked one level above is right around the prefix there
+pub around_above : (a : Mat) (kinds : List Sign → List Kind) (p : List Sign) (above here : Place) → kinds_of a above.asked.items ≡ kinds p → HasRoom a here → here.asked.items ≡ above.asked.items → IsAround a kinds p here
+around_above a kinds p above here are room same = record {
+  room = room;
+  same = λ k lt law. ap (λ (l : List Bits). kind_of_mark (mark_at l k)) same ∙ sym (kind_asked a above.asked.items k lt) ∙ ap (λ (ks : List Kind). kind_at ks k) are;
+}
+
+-- what is asked at a prefix is right around the one with one choice less
+pub around_below : (a : Mat) (kinds : List Sign → List Kind) (p q : List Sign) (s : Sign) (l : Place) → q ≡ p ++ s ∷ [] → IsAsked a (kinds q) l → IsAround a kinds p l
+around_below a kinds p q s l e h = record {
+  room = h.room;
+  same = λ k lt law. sym (kind_asked a l.asked.items k lt) ∙ ap (λ (ks : List Kind). kind_at ks k) h.kinds_are ∙ ap (λ (r : List Sign). kind_at (kinds r) k) e ∙ law s;
+}
+
+-- what is asked around a prefix is that of one with one choice more, but for what the choice settles
+pub around_settling : (a : Mat) (kinds : List Sign → List Kind) (p q : List Sign) (s : Sign) (here : Place) (depth : ℕ) (settled : List ℕ) → q ≡ p ++ s ∷ [] → IsAround a kinds p here → SettlesOnly kinds (width a) depth settled → depth ≡ length q
+    → IsSettling a (kinds q) settled here
+around_settling a kinds p q s here depth settled e h only de =
+    let long : length p + 1 ≡ depth = omega (arith, de, ap (λ (l : List Sign). length l) e, length-append p (s ∷ [])) in
+    record { room = h.room; same = λ k lt out. h.same k lt (λ t. only p t k long lt out) ∙ sym (only p s k long lt out) ∙ ap (λ (r : List Sign). kind_at (kinds r) k) (sym e) }
 
 -- the next kind to ask, and none left
 pub first_of : (a : Mat) (kinds : List Kind) (settled : List ℕ) (i : ℕ) (l : Place) → i < length settled → IsSettling a kinds (drop i settled) l → IsSettling a kinds (get_or settled i 0 ∷ drop (i + 1) settled) l
@@ -104,7 +109,29 @@ none_left a kinds settled i l past h = subst (λ (s : List ℕ). IsSettling a ki
 pub all_settled : (a : Mat) (kinds : List Kind) (l : Place) → length kinds ≡ width a → IsSettling a kinds [] l → kinds_of a l.asked.items ≡ kinds
 all_settled a kinds l long h = kinds_are a kinds l.asked.items long (λ k lt. h.same k lt (λ i. i))
 
+pub asked_at : (a : Mat) (kinds : List Kind) (l : Place) → IsHere a kinds l → IsAsked a kinds l
+asked_at a kinds l h = record { room = room_of a l h.place; kinds_are = h.kinds_are }
+
 -- ---- both parts
+
+pub level_asked : (w : Signed) (p : List Sign) (l : Level) → IsLevel w p l → AreAsked w p l
+level_asked w p l h = record { a = asked_at w.matrix_a (w.kinds_a p) l.a h.a; b = asked_at w.matrix_b (w.kinds_b p) l.b h.b }
+
+pub level_marked : (w : Signed) (p : List Sign) (l : Level) → IsLevel w p l → AreMarked w l
+level_marked w p l h = record { a = h.a.place.marks; b = h.b.place.marks }
+
+-- what is asked, and what was taken over for it
+pub taken_level : (w : Signed) (p : List Sign) (old new : Level) → IsPlace w.matrix_a new.a → IsPlace w.matrix_b new.b → new.a.asked.items ≡ old.a.asked.items → new.b.asked.items ≡ old.b.asked.items → AreAsked w p old → IsLevel w p new
+taken_level w p old new a b ea eb h = record {
+  a = record { place = a; kinds_are = ap (λ (q : List Bits). kinds_of w.matrix_a q) ea ∙ h.a.kinds_are };
+  b = record { place = b; kinds_are = ap (λ (q : List Bits). kinds_of w.matrix_b q) eb ∙ h.b.kinds_are };
+}
+
+pub asked_room : (w : Signed) (p : List Sign) (l : Level) → AreAsked w p l → HasRooms w l
+asked_room w p l h = record { a = h.a.room; b = h.b.room }
+
+pub asked_around : (w : Signed) (p q : List Sign) (s : Sign) (l : Level) → q ≡ p ++ s ∷ [] → AreAsked w q l → AreAround w p l
+asked_around w p q s l e h = record { a = around_below w.matrix_a w.kinds_a p q s l.a e h.a; b = around_below w.matrix_b w.kinds_b p q s l.b e h.b }
 
 pub level_at : (w : Signed) (p q : List Sign) (l : Level) → q ≡ p → IsHere w.matrix_a (w.kinds_a q) l.a → IsHere w.matrix_b (w.kinds_b p) l.b → IsLevel w p l
 level_at w p q l e a b = record { a = subst (λ (r : List Sign). IsHere w.matrix_a (w.kinds_a r) l.a) e a; b = b }

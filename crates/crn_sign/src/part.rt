@@ -373,24 +373,24 @@ impl Finder {
         let mut rest = misfits(bits, marks[w]);
         'places: while rest != 0 {
             let i = rest.trailing_zeros() as usize;
-            if has_bit(misfits(bits, marks[w]), i) {
-                if !self.serve_at(matrix, asked, marks, 64 * w + i, sign_asked(bits, i)) {
-                    return false;
-                }
+            if !self.serve_at(matrix, asked, marks, 64 * w + i, sign_asked(bits, i)) {
+                return false;
             }
-            rest = rest & (rest - 1);
+            rest = rest & (rest - 1) & misfits(bits, marks[w]);
         }
         true
     }
 
     // Gives the marked vector the signs that are asked by vectors that are kept, unless some coordinate
-    // has to be made 0. The answer is whether such are kept.
+    // has to be made 0. The answer is whether it suits then.
+    #[inline(never)]
     fn serve(&mut self, matrix: &Matrix, asked: &[Bits], marks: &mut [Bits]) -> bool
         requires finder { IsFinder matrix.now self.old }
         requires asked { length asked.now ≡ word_count matrix.now }
         requires marks { AreRowMarks matrix.now marks.old }
         ensures finder { IsFinder matrix.now self.new }
         ensures marks { AreRowMarks matrix.now marks.new }
+        ensures suits { IsTrue result → AreSuited (kinds_of matrix.now asked.now) marks.new }
     {
         if has_zero_misfit(asked, marks) {
             return false;
@@ -400,7 +400,7 @@ impl Finder {
                 return false;
             }
         }
-        true
+        is_met(matrix, asked, marks)
     }
 
     // Lists the coordinates whose marks do not suit what is asked, which it keeps, and frees these. The
@@ -654,6 +654,7 @@ impl Part {
 
     // Changes the marked vector until it suits the kinds, or finds multipliers that rule the system
     // out.
+    #[inline(never)]
     fn decide(
         &mut self,
         alloc: Global,
@@ -675,10 +676,6 @@ impl Part {
             (λ u. IsRuling matrix.now (kinds_of matrix.now asked.now) u)
             (λ s. IsTargetStop matrix.now (kinds_of matrix.now asked.now) s) }
     {
-        if self.finder.serve(matrix, asked, marks) && is_met(matrix, asked, marks) {
-            *suits = true;
-            return Ok(None);
-        }
         if let Some(cut) = self.finder.seek(alloc, matrix, asked, marks)? {
             return Ok(Some(self.learn_cut(alloc, matrix, asked, &cut, depth)?));
         }
@@ -703,7 +700,7 @@ impl Part {
         depth: usize,
     ) -> Result<Option<Rc<Ints>>, NoMemory>
         requires part { IsPart matrix.now self.old }
-        requires place { IsPlace matrix.now place.now }
+        requires asked { length place.now.asked.items ≡ word_count matrix.now }
         ensures part { IsPart matrix.now self.new }
         ensures cut { IfOk result (λ o. MatchOption o (Unit {0})
             (λ u. IsSmallCut matrix.now (kinds_of matrix.now place.now.asked.items) u.value.list)) }
@@ -736,6 +733,11 @@ impl Part {
             (λ s. IsTargetStop matrix.now (kinds_of matrix.now place.old.asked.items) s) }
     {
         if place.suits {
+            place.has_solution(matrix);
+            return Ok(None);
+        }
+        if self.finder.serve(matrix, &place.asked, &mut place.marks) {
+            place.suits = true;
             place.has_solution(matrix);
             return Ok(None);
         }

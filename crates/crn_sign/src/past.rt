@@ -218,14 +218,6 @@ impl Past {
         })
     }
 
-    // Whether the list, or its negative, rules the system of which this is asked out.
-    fn rules_out(&self, asked: &[Bits], stays: bool) -> bool
-        ensures weigh { IsTrue result → AllWeigh asked.now stays self.now.marks.items }
-        ensures some { IsTrue result → SomeCounts asked.now self.now.marks.items }
-    {
-        all_weigh(asked, &self.marks, stays) && some_counts(asked, &self.marks)
-    }
-
     // The multipliers, or their negatives.
     fn multiple(&self, _matrix: &Matrix, stays: bool) -> Result<Rc<Ints>, NoMemory>
         requires { IsPastOf _matrix.now self.now }
@@ -240,19 +232,33 @@ impl Past {
         Ok(made)
     }
 
-    /// The multipliers, or their negatives, if they rule the system of which this is asked out.
-    pub fn again(
-        &self,
-        matrix: &Matrix,
-        asked: &[Bits],
-        stays: bool,
-    ) -> Result<Option<Rc<Ints>>, NoMemory>
+    // Whether the list, or else its negative, rules the system of which this is asked out, and which does.
+    fn ruling(&self, asked: &[Bits]) -> Option<bool>
+        ensures weigh { MatchOption result (Unit {0})
+            (λ stays. AllWeigh asked.now stays self.now.marks.items) }
+        ensures some { MatchOption result (Unit {0})
+            (λ stays. SomeCounts asked.now self.now.marks.items) }
+    {
+        if !some_counts(asked, &self.marks) {
+            return None;
+        }
+        if all_weigh(asked, &self.marks, true) {
+            return Some(true);
+        }
+        if all_weigh(asked, &self.marks, false) {
+            return Some(false);
+        }
+        None
+    }
+
+    // The multipliers, or their negatives, if they rule the system of which this is asked out.
+    fn again(&self, matrix: &Matrix, asked: &[Bits]) -> Result<Option<Rc<Ints>>, NoMemory>
         requires past { IsPastOf matrix.now self.now }
         requires asked { length asked.now ≡ word_count matrix.now }
         ensures { IfOk result (λ o. MatchOption o (Unit {0})
             (λ u. IsSmallCut matrix.now (kinds_of matrix.now asked.now) u.value.list)) }
     {
-        if self.rules_out(asked, stays) {
+        if let Some(stays) = self.ruling(asked) {
             let u = self.multiple(matrix, stays)?;
             return Ok(Some(u));
         }
@@ -263,24 +269,6 @@ impl Past {
 // Whether numbers of these signs may not be weighed if this is asked.
 fn is_refused(asked: Bits, plus: u64, minus: u64) -> bool {
     ((plus & !asked.plus) | (minus & !asked.minus)) != 0
-}
-
-// Whether the multipliers, or their negatives, may be weighed at all places.
-fn are_near(asked: &[Bits], bits: &[Bits]) -> (bool, bool) {
-    let mut near = true;
-    let mut negatives_near = true;
-    if asked.len() != bits.len() {
-        return (false, false);
-    }
-    for w in 0..asked.len() {
-        let one = bits[w];
-        near = near & !is_refused(asked[w], one.plus, one.minus);
-        negatives_near = negatives_near & !is_refused(asked[w], one.minus, one.plus);
-        if !(near | negatives_near) {
-            return (false, false);
-        }
-    }
-    (near, negatives_near)
 }
 
 /// Lists for prefixes with no choice, with one, and so on, to all of them.
@@ -349,34 +337,51 @@ fn keep_refusing(asked: &[Bits], marks: &[Bits], trial: &mut Trial) {
     }
 }
 
-// Whether the multipliers may rule a system out as they are, or their negatives, if either may. It is
-// apart from the loop over trials, most of which are refused again.
-#[inline(never)]
-fn near(asked: &[Bits], past: &[Past], trial: &mut Trial) -> Option<bool> {
+// The multipliers of a trial, or their negatives, if they rule a system out.
+fn tried(
+    matrix: &Matrix,
+    asked: &[Bits],
+    past: &[Past],
+    trial: &mut Trial,
+) -> Result<Option<Rc<Ints>>, NoMemory>
+    requires past { AreAllPast matrix.now past.now }
+    requires asked { length asked.now ≡ word_count matrix.now }
+    ensures { IfOk result (λ o. MatchOption o (Unit {0})
+        (λ u. IsSmallCut matrix.now (kinds_of matrix.now asked.now) u.value.list)) }
+{
     let number = trial.number;
     if number < past.len() {
-        let marks = &past[number].marks;
-        let (near, negatives_near) = are_near(asked, marks);
-        if (near | negatives_near) && some_counts(asked, marks) {
-            return Some(near);
+        let cut = past[number].again(matrix, asked)?;
+        if cut.is_none() {
+            keep_refusing(asked, &past[number].marks, trial);
         }
-        keep_refusing(asked, marks, trial);
+        return Ok(cut);
     }
-    None
+    Ok(None)
 }
 
-// Which of the multipliers may rule a system out, and whether they stay as they are.
-fn first_near(asked: &[Bits], past: &[Past], trials: &mut [Trial]) -> Option<(usize, bool)> {
+// The first of these multipliers, or of their negatives, that rule a system out. Trials that are refused
+// again are passed over.
+fn first_tried(
+    matrix: &Matrix,
+    asked: &[Bits],
+    past: &[Past],
+    trials: &mut [Trial],
+) -> Result<Option<Rc<Ints>>, NoMemory>
+    requires past { AreAllPast matrix.now past.now }
+    requires asked { length asked.now ≡ word_count matrix.now }
+    ensures { IfOk result (λ o. MatchOption o (Unit {0})
+        (λ u. IsSmallCut matrix.now (kinds_of matrix.now asked.now) u.value.list)) }
+{
     for i in 0..trials.len() {
         if !are_refused_again(asked, &trials[i]) {
-            if let Some(stays) = near(asked, past, &mut trials[i]) {
-                let number = trials[i].number;
+            if let Some(u) = tried(matrix, asked, past, &mut trials[i])? {
                 trials.swap(i / 2, i);
-                return Some((number, stays));
+                return Ok(Some(u));
             }
         }
     }
-    None
+    Ok(None)
 }
 
 /// The first of these multipliers, or of their negatives, that rule the system out of which this is
@@ -393,10 +398,5 @@ pub(crate) fn first_again(
     ensures cut { IfOk result (λ o. MatchOption o (Unit {0})
         (λ u. IsSmallCut matrix.now (kinds_of matrix.now asked.now) u.value.list)) }
 {
-    if let Some((number, stays)) = first_near(asked, &past.items, &mut past.trials) {
-        if number < past.items.len() {
-            return past.items[number].again(matrix, asked, stays);
-        }
-    }
-    Ok(None)
+    first_tried(matrix, asked, &past.items, &mut past.trials)
 }

@@ -1,11 +1,12 @@
-ghost use Rattle.std.specs.Prelude.{◌≡◌, ◌<◌, ◌*◌, ℤ, List, [], length, IfOk, IsTrue};
+ghost use Rattle.std.specs.Prelude.{◌≡◌, ◌<◌, ◌*◌, ◌++◌, ◌∷◌, ℤ, List, [], length, IfOk, IsTrue};
+ghost use Rattle.crn_vec.specs.declared.signs.Sign.{Sign};
 ghost use Rattle.crn_vec.specs.Problems.{IsPrefix, IsLawful};
 ghost use Rattle.crn_vec.specs.Systems.{IsSolution, one_if};
 ghost use Rattle.crn_vec.specs.Elementary.{width};
 ghost use Rattle.crn_sign.specs.Options.{AreBitsOf};
 ghost use Rattle.crn_sign.specs.Inner.Bits.{IsMarked, mark_of, word_count};
 ghost use Rattle.crn_sign.specs.Inner.Marks.{AreRowMarks, AreSuited, kinds_of};
-ghost use Rattle.crn_sign.specs.Inner.Places.{HasRoom, IsHere, IsNext, IsPlace, IsSettledAt, IsSettling};
+ghost use Rattle.crn_sign.specs.Inner.Places.{HasRoom, IsAround, IsAsked, IsFor, IsHere, IsPlace, IsSettledAt, IsSettling};
 
 use crate::bits::{Bits, NONE, put_asked};
 use crate::marks::{all_meet, put_zeros, word_count};
@@ -44,15 +45,23 @@ impl Place {
             × IsSolution _matrix.now (kinds_of _matrix.now self.now.asked.items) x }
     {}
 
-    // Takes over what is asked and the marks one level above.
-    fn copy(&mut self, _matrix: &Matrix, above: &Place)
-        requires room { HasRoom _matrix.now self.old }
-        requires above { HasRoom _matrix.now above.now }
+    /// Takes over what is asked one level above.
+    pub fn ask_as(&mut self, above: &Place)
+        requires { length self.old.asked.items ≡ length above.now.asked.items }
         ensures width { self.new.width ≡ self.old.width }
         ensures asked { self.new.asked.items ≡ above.now.asked.items }
-        ensures marks { self.new.marks.items ≡ above.now.marks.items }
+        ensures marks { self.new.marks.items ≡ self.old.marks.items }
     {
         self.asked.copy_from_slice(&above.asked);
+    }
+
+    /// Takes over the marks one level above.
+    pub fn take(&mut self, _matrix: &Matrix, above: &Place)
+        requires here { IsFor _matrix.now above.now self.old }
+        requires above { AreRowMarks _matrix.now above.now.marks.items }
+        ensures here { IsPlace _matrix.now self.new }
+        ensures asked { self.new.asked.items ≡ self.old.asked.items }
+    {
         self.marks.copy_from_slice(&above.marks);
     }
 
@@ -77,17 +86,14 @@ impl Place {
         put_asked(&mut self.asked, k, asked);
     }
 
-    // Notes whether the marks suit what is asked.
-    fn look(&mut self, matrix: &Matrix)
-        requires asked { length self.old.asked.items ≡ word_count matrix.now }
-        requires marks { AreRowMarks matrix.now self.old.marks.items }
-        ensures width { self.new.width ≡ self.old.width }
+    /// Notes whether the marks one level above suit what is asked.
+    pub fn look(&mut self, matrix: &Matrix, above: &Place)
+        requires room { HasRoom matrix.now self.old }
+        requires above { AreRowMarks matrix.now above.now.marks.items }
+        ensures here { IsFor matrix.now above.now self.new }
         ensures asked { self.new.asked.items ≡ self.old.asked.items }
-        ensures marks { self.new.marks.items ≡ self.old.marks.items }
-        ensures suits { IsTrue self.new.suits
-            → AreSuited (kinds_of matrix.now self.old.asked.items) self.old.marks.items }
     {
-        self.suits = is_met(matrix, &self.asked, &self.marks);
+        self.suits = is_met(matrix, &self.asked, &above.marks);
     }
 }
 
@@ -136,13 +142,12 @@ fn settle_a<P: SignProblem>(
     requires bits { AreBitsOf bits prefix.now }
     requires place { IsSettling (P.signed problem.now).matrix_a
         ((P.signed problem.now).kinds_a prefix.now) settled.now place.old }
-    ensures { IsHere (P.signed problem.now).matrix_a
+    ensures { IsAsked (P.signed problem.now).matrix_a
         ((P.signed problem.now).kinds_a prefix.now) place.new }
 {
     for i in 0..settled.len() {
         settle_one_a(problem, prefix, bits, settled[i], place);
     }
-    place.look(problem.matrix_a());
 }
 
 // Asks what a prefix asks of a coordinate of part B.
@@ -179,54 +184,39 @@ fn settle_b<P: SignProblem>(
     requires bits { AreBitsOf bits prefix.now }
     requires place { IsSettling (P.signed problem.now).matrix_b
         ((P.signed problem.now).kinds_b prefix.now) settled.now place.old }
-    ensures { IsHere (P.signed problem.now).matrix_b
+    ensures { IsAsked (P.signed problem.now).matrix_b
         ((P.signed problem.now).kinds_b prefix.now) place.new }
 {
     for i in 0..settled.len() {
         settle_one_b(problem, prefix, bits, settled[i], place);
     }
-    place.look(problem.matrix_b());
 }
 
-/// What part A knows at a prefix, from what it knows at the prefix with one choice less.
-pub(crate) fn enter_a<P: SignProblem>(
-    problem: &P,
-    prefix: &[Sign],
-    bits: Bits,
-    above: &Place,
-    here: &mut Place,
-)
+/// Asks what a prefix asks of part A, where what is asked is that of the prefix with one choice less, or
+/// of one that differs in the last choice.
+pub(crate) fn enter_a<P: SignProblem>(problem: &P, prefix: &[Sign], bits: Bits, here: &mut Place)
     requires lawful { IsLawful (P.signed problem.now) }
     requires prefix { IsPrefix (P.signed problem.now) prefix.now }
     requires bits { AreBitsOf bits prefix.now }
-    requires above { IsNext (P.signed problem.now).matrix_a (P.signed problem.now).kinds_a
-        prefix.now above.now }
-    requires room { HasRoom (P.signed problem.now).matrix_a here.old }
-    ensures { IsHere (P.signed problem.now).matrix_a
+    requires here { (p : List Sign) × (s : Sign) × (prefix.now ≡ p ++ s ∷ [])
+        × IsAround (P.signed problem.now).matrix_a (P.signed problem.now).kinds_a p here.old }
+    ensures { IsAsked (P.signed problem.now).matrix_a
         ((P.signed problem.now).kinds_a prefix.now) here.new }
 {
-    here.copy(problem.matrix_a(), above);
     settle_a(problem, prefix, bits, problem.settled_a(prefix.len()), here);
 }
 
-/// What part B knows at a prefix, from what it knows at the prefix with one choice less.
-pub(crate) fn enter_b<P: SignProblem>(
-    problem: &P,
-    prefix: &[Sign],
-    bits: Bits,
-    above: &Place,
-    here: &mut Place,
-)
+/// Asks what a prefix asks of part B, where what is asked is that of the prefix with one choice less, or
+/// of one that differs in the last choice.
+pub(crate) fn enter_b<P: SignProblem>(problem: &P, prefix: &[Sign], bits: Bits, here: &mut Place)
     requires lawful { IsLawful (P.signed problem.now) }
     requires prefix { IsPrefix (P.signed problem.now) prefix.now }
     requires bits { AreBitsOf bits prefix.now }
-    requires above { IsNext (P.signed problem.now).matrix_b (P.signed problem.now).kinds_b
-        prefix.now above.now }
-    requires room { HasRoom (P.signed problem.now).matrix_b here.old }
-    ensures { IsHere (P.signed problem.now).matrix_b
+    requires here { (p : List Sign) × (s : Sign) × (prefix.now ≡ p ++ s ∷ [])
+        × IsAround (P.signed problem.now).matrix_b (P.signed problem.now).kinds_b p here.old }
+    ensures { IsAsked (P.signed problem.now).matrix_b
         ((P.signed problem.now).kinds_b prefix.now) here.new }
 {
-    here.copy(problem.matrix_b(), above);
     settle_b(problem, prefix, bits, problem.settled_b(prefix.len()), here);
 }
 

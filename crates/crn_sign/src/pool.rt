@@ -52,28 +52,19 @@ fn is_refused(asked: Bits, bits: Bits) -> bool {
     ((bits.plus & asked.minus) | (bits.minus & asked.plus)) != 0
 }
 
-// The first word at which the vector may not be taken, or the number of words.
-fn first_refused(asked: &[Bits], marks: &[Bits]) -> usize {
+// Whether the vector may be taken everywhere. A word at which it may not is kept.
+fn serves(asked: &[Bits], marks: &[Bits], server: &mut Server) -> bool {
     if asked.len() != marks.len() {
-        return 0;
+        return false;
     }
     for w in 0..asked.len() {
         if is_refused(asked[w], marks[w]) {
-            return w;
+            if w < MAX_WORDS {
+                server.word = w as u32;
+                server.bits = marks[w];
+            }
+            return false;
         }
-    }
-    asked.len()
-}
-
-// Whether the vector may be taken everywhere.
-fn serves(asked: &[Bits], marks: &[Bits], server: &mut Server) -> bool {
-    let word = first_refused(asked, marks);
-    if word < marks.len() {
-        if word < MAX_WORDS {
-            server.word = word as u32;
-            server.bits = marks[word];
-        }
-        return false;
     }
     true
 }
@@ -98,9 +89,7 @@ fn has_sign(marks: &[Bits], g: usize, sign: Sign) -> bool {
 }
 
 // Whether a vector has this sign at g, and may be taken everywhere. The place of an older vector may
-// have gone to another one, which has not this sign at g. It is apart from the loop over servers, most
-// of which are refused again.
-#[inline(never)]
+// have gone to another one, which has not this sign at g.
 fn takes(asked: &[Bits], rays: &[Ray], server: &mut Server, g: usize, sign: Sign) -> bool {
     let number = server.number as usize;
     if number < rays.len() {

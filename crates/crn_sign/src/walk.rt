@@ -11,8 +11,8 @@ ghost use Rattle.crn_sign.specs.Options.{AreBitsOf};
 ghost use Rattle.crn_sign.specs.Search.{IsSearchEnd, IsSearchStop};
 ghost use Rattle.crn_sign.specs.Inner.Walk.{EndsAt, EndsBelow, IsFoundAt, IsLeafAt, IsLeafOrNone, IsWideA, IsWideB, end_of};
 ghost use Rattle.crn_sign.specs.Inner.Parts.{IsRuling};
-ghost use Rattle.crn_sign.specs.Inner.Places.{IsHere};
-ghost use Rattle.crn_sign.specs.Inner.Ready.{AreRooms, HasRooms, IsLevel, IsReady, SamePlace};
+ghost use Rattle.crn_sign.specs.Inner.Places.{IsAsked, IsHere, IsPlace};
+ghost use Rattle.crn_sign.specs.Inner.Ready.{AreAround, AreAsked, AreFor, AreMarked, AreRooms, AreRoomsBelow, HasRooms, IsLevel, IsReady, SamePlace};
 
 use crate::bits::{Bits, NONE, with_sign};
 use crate::end::SearchEnd;
@@ -88,7 +88,7 @@ fn known_cut_a<P: SignProblem>(
     here: &Place,
 ) -> Result<Option<Rc<Ints>>, SearchStop>
     requires ready { IsReady (P.signed problem.now) search.old }
-    requires here { IsHere (P.signed problem.now).matrix_a
+    requires here { IsAsked (P.signed problem.now).matrix_a
         ((P.signed problem.now).kinds_a search.old.prefix.items) here.now }
     ensures place { OnOk result (SamePlace search.old search.new) }
     ensures ready { OnOk result (IsReady (P.signed problem.now) search.new) }
@@ -109,7 +109,7 @@ fn known_cut_b<P: SignProblem>(
     here: &Place,
 ) -> Result<Option<Rc<Ints>>, SearchStop>
     requires ready { IsReady (P.signed problem.now) search.old }
-    requires here { IsHere (P.signed problem.now).matrix_b
+    requires here { IsAsked (P.signed problem.now).matrix_b
         ((P.signed problem.now).kinds_b search.old.prefix.items) here.now }
     ensures place { OnOk result (SamePlace search.old search.new) }
     ensures ready { OnOk result (IsReady (P.signed problem.now) search.new) }
@@ -123,26 +123,58 @@ fn known_cut_b<P: SignProblem>(
     Ok(u)
 }
 
-// A leaf for the prefix by past multipliers of a part, if some rule it out. No solver is asked.
-fn known_leaf<P: SignProblem>(
+// Notes whether what served one level above suits what both parts are asked.
+fn look<P: SignProblem>(problem: &P, _prefix: &[Sign], above: &Level, here: &mut Level)
+    requires asked { AreAsked (P.signed problem.now) _prefix.now here.old }
+    requires above { AreMarked (P.signed problem.now) above.now }
+    ensures asked { AreAsked (P.signed problem.now) _prefix.now here.new }
+    ensures here { AreFor (P.signed problem.now) above.now here.new }
+{
+    here.a.look(problem.matrix_a(), &above.a);
+    here.b.look(problem.matrix_b(), &above.b);
+}
+
+// Takes over what served one level above.
+fn take<P: SignProblem>(problem: &P, above: &Level, here: &mut Level)
+    requires here { AreFor (P.signed problem.now) above.now here.old }
+    requires above { AreMarked (P.signed problem.now) above.now }
+    ensures a { IsPlace (P.signed problem.now).matrix_a here.new.a }
+    ensures b { IsPlace (P.signed problem.now).matrix_b here.new.b }
+    ensures asked_a { here.new.a.asked.items ≡ here.old.a.asked.items }
+    ensures asked_b { here.new.b.asked.items ≡ here.old.b.asked.items }
+{
+    here.a.take(problem.matrix_a(), &above.a);
+    here.b.take(problem.matrix_b(), &above.b);
+}
+
+// A leaf for the prefix by past multipliers of a part, if some rule it out, or else what both parts know
+// at the prefix. No solver is asked.
+fn arrive<P: SignProblem>(
     problem: &P,
     search: &mut Progress,
-    here: &Level,
+    above: &Level,
+    here: &mut Level,
 ) -> Result<Option<Tree>, SearchStop>
     requires ready { IsReady (P.signed problem.now) search.old }
-    requires here { IsLevel (P.signed problem.now) search.old.prefix.items here.now }
+    requires above { AreMarked (P.signed problem.now) above.now }
+    requires here { AreAsked (P.signed problem.now) search.old.prefix.items here.old }
     ensures place { OnOk result (SamePlace search.old search.new) }
     ensures ready { OnOk result (IsReady (P.signed problem.now) search.new) }
-    ensures leaf { IfOk result (λ o. MatchOption o (Unit {0})
+    ensures asked { OnOk result
+        (AreAsked (P.signed problem.now) search.old.prefix.items here.new) }
+    ensures leaf { IfOk result (λ o. MatchOption o
+        (IsLevel (P.signed problem.now) search.old.prefix.items here.new)
         (λ tree. IsLeafAt (P.signed problem.now) search.old.prefix.items (plan tree))) }
     ensures stop { IfErr result (λ s. IsSearchStop (P.signed problem.now) s) }
 {
+    look(problem, &search.prefix, above, here);
     if let Some(u) = known_cut_b(problem, search, &here.b)? {
         return Ok(Some(Tree::CutB(u)));
     }
     if let Some(u) = known_cut_a(problem, search, &here.a)? {
         return Ok(Some(Tree::CutA(u)));
     }
+    take(problem, above, here);
     Ok(None)
 }
 
@@ -204,19 +236,23 @@ fn rule_out<P: SignProblem>(
     alloc: Global,
     problem: &P,
     search: &mut Progress,
+    above: &Level,
     here: &mut Level,
 ) -> Result<Option<Tree>, SearchStop>
     requires ready { IsReady (P.signed problem.now) search.old }
-    requires here { IsLevel (P.signed problem.now) search.old.prefix.items here.old }
+    requires above { AreMarked (P.signed problem.now) above.now }
+    requires here { AreAsked (P.signed problem.now) search.old.prefix.items here.old }
     ensures place { OnOk result (SamePlace search.old search.new) }
     ensures ready { OnOk result (IsReady (P.signed problem.now) search.new) }
-    ensures here { OnOk result
-        (IsLevel (P.signed problem.now) search.old.prefix.items here.new) }
+    ensures asked { OnOk result
+        (AreAsked (P.signed problem.now) search.old.prefix.items here.new) }
+    ensures here { IfOk result (λ o. MatchOption o
+        (IsLevel (P.signed problem.now) search.old.prefix.items here.new) (λ tree. Unit {0})) }
     ensures answer { MatchResult result
         (λ o. IsLeafOrNone (P.signed problem.now) search.old.prefix.items o)
         (λ s. IsSearchStop (P.signed problem.now) s) }
 {
-    if let Some(tree) = known_leaf(problem, search, here)? {
+    if let Some(tree) = arrive(problem, search, above, here)? {
         return Ok(Some(tree));
     }
     if let Some(u) = rule_out_b(alloc, problem, search, &mut here.b)? {
@@ -260,18 +296,27 @@ fn found_end<P: SignProblem>(
     }
 }
 
-// What both parts know at a prefix, from what they know at the prefix with one choice less.
-fn enter<P: SignProblem>(problem: &P, prefix: &[Sign], bits: Bits, above: &Level, here: &mut Level)
+// Asks both parts what the prefix asks, where they were asked for it but for its last choice.
+fn enter<P: SignProblem>(problem: &P, prefix: &[Sign], bits: Bits, here: &mut Level)
     requires lawful { IsLawful (P.signed problem.now) }
     requires prefix { IsPrefix (P.signed problem.now) prefix.now }
     requires bits { AreBitsOf bits prefix.now }
-    requires above { (p : List Sign) × (s : Sign) × (prefix.now ≡ p ++ s ∷ [])
-        × IsLevel (P.signed problem.now) p above.now }
-    requires room { HasRooms (P.signed problem.now) here.old }
-    ensures { IsLevel (P.signed problem.now) prefix.now here.new }
+    requires here { (p : List Sign) × (s : Sign) × (prefix.now ≡ p ++ s ∷ [])
+        × AreAround (P.signed problem.now) p here.old }
+    ensures { AreAsked (P.signed problem.now) prefix.now here.new }
 {
-    enter_a(problem, prefix, bits, &above.a, &mut here.a);
-    enter_b(problem, prefix, bits, &above.b, &mut here.b);
+    enter_a(problem, prefix, bits, &mut here.a);
+    enter_b(problem, prefix, bits, &mut here.b);
+}
+
+// Asks both parts what is asked one level above, to begin with.
+fn surround<P: SignProblem>(_problem: &P, _prefix: &[Sign], above: &Level, here: &mut Level)
+    requires above { IsLevel (P.signed _problem.now) _prefix.now above.now }
+    requires room { HasRooms (P.signed _problem.now) here.old }
+    ensures { AreAround (P.signed _problem.now) _prefix.now here.new }
+{
+    here.a.ask_as(&above.a);
+    here.b.ask_as(&above.b);
 }
 
 // That a level is that of the prefix, for what is called after this.
@@ -280,9 +325,9 @@ fn at_level<P: SignProblem>(_problem: &P, _search: &Progress, _here: &Level)
     ensures { IsLevel (P.signed _problem.now) _search.now.prefix.items _here.now }
 {}
 
-// What both parts know at a prefix leaves room for what they know at another.
-fn keeps_room<P: SignProblem>(_problem: &P, _prefix: &[Sign], _here: &Level)
-    requires { IsLevel (P.signed _problem.now) _prefix.now _here.now }
+// A level that is asked leaves room for another prefix.
+fn leaves_room<P: SignProblem>(_problem: &P, _search: &Progress, _here: &Level)
+    requires { AreAround (P.signed _problem.now) _search.now.prefix.items _here.now }
     ensures { HasRooms (P.signed _problem.now) _here.now }
 {}
 
@@ -293,17 +338,21 @@ fn child<P: SignProblem>(
     problem: &P,
     search: &mut Progress,
     above: &Level,
-    levels: &mut [Level],
+    next: &mut Level,
+    rest: &mut [Level],
     option: Sign,
 ) -> Result<Ending, SearchStop>
     requires ready { IsReady (P.signed problem.now) search.old }
     requires room { length search.old.prefix.items < (P.signed problem.now).choices }
-    requires above { IsLevel (P.signed problem.now) search.old.prefix.items above.now }
-    requires levels { AreRooms (P.signed problem.now) search.old.prefix.items levels.old }
+    requires above { AreMarked (P.signed problem.now) above.now }
+    requires next { AreAround (P.signed problem.now) search.old.prefix.items next.old }
+    requires rest { AreRoomsBelow (P.signed problem.now) search.old.prefix.items rest.old }
     ensures prefix { OnOk result (search.new.prefix.items ≡ search.old.prefix.items) }
     ensures ready { OnOk result (IsReady (P.signed problem.now) search.new) }
-    ensures levels { OnOk result
-        (AreRooms (P.signed problem.now) search.old.prefix.items levels.new) }
+    ensures next { OnOk result
+        (AreAround (P.signed problem.now) search.old.prefix.items next.new) }
+    ensures rest { OnOk result
+        (AreRoomsBelow (P.signed problem.now) search.old.prefix.items rest.new) }
     ensures answer { MatchResult result
         (λ e. EndsAt (P.signed problem.now) (search.old.prefix.items ++ option ∷ [])
         search.old.left search.new.left e)
@@ -312,11 +361,8 @@ fn child<P: SignProblem>(
     let bits = search.bits;
     search.bits = with_sign(bits, search.prefix.len(), option);
     search.prefix.push_reserved(option);
-    let (first, rest) = levels.split_at_mut(1);
-    let here = &mut first[0];
-    enter(problem, &search.prefix, search.bits, above, here);
-    let end = walk(alloc, problem, search, here, rest)?;
-    keeps_room(problem, &search.prefix, here);
+    enter(problem, &search.prefix, search.bits, next);
+    let end = walk(alloc, problem, search, above, next, rest)?;
     search.prefix.pop();
     search.bits = bits;
     Ok(end)
@@ -329,27 +375,31 @@ fn split<P: SignProblem>(
     problem: &P,
     search: &mut Progress,
     here: &Level,
-    levels: &mut [Level],
+    next: &mut Level,
+    rest: &mut [Level],
 ) -> Result<Ending, SearchStop>
     requires ready { IsReady (P.signed problem.now) search.old }
     requires room { length search.old.prefix.items < (P.signed problem.now).choices }
-    requires here { IsLevel (P.signed problem.now) search.old.prefix.items here.now }
-    requires levels { AreRooms (P.signed problem.now) search.old.prefix.items levels.old }
+    requires here { AreMarked (P.signed problem.now) here.now }
+    requires next { AreAround (P.signed problem.now) search.old.prefix.items next.old }
+    requires rest { AreRoomsBelow (P.signed problem.now) search.old.prefix.items rest.old }
     ensures prefix { OnOk result (search.new.prefix.items ≡ search.old.prefix.items) }
     ensures ready { OnOk result (IsReady (P.signed problem.now) search.new) }
-    ensures levels { OnOk result
-        (AreRooms (P.signed problem.now) search.old.prefix.items levels.new) }
+    ensures next { OnOk result
+        (AreAround (P.signed problem.now) search.old.prefix.items next.new) }
+    ensures rest { OnOk result
+        (AreRoomsBelow (P.signed problem.now) search.old.prefix.items rest.new) }
     ensures answer { MatchResult result
         (λ e. EndsBelow (P.signed problem.now) search.old.prefix.items
         search.old.left search.new.left e)
         (λ s. IsSearchStop (P.signed problem.now) s) }
 {
     let zeros = is_all_zero(&search.prefix);
-    let zero = match child(alloc, problem, search, here, levels, Sign::Zero)? {
+    let zero = match child(alloc, problem, search, here, next, rest, Sign::Zero)? {
         Ending::Refuted(tree) => tree,
         end => return Ok(end),
     };
-    let plus = match child(alloc, problem, search, here, levels, Sign::Plus)? {
+    let plus = match child(alloc, problem, search, here, next, rest, Sign::Plus)? {
         Ending::Refuted(tree) => tree,
         end => return Ok(end),
     };
@@ -357,7 +407,7 @@ fn split<P: SignProblem>(
         let tree = Tree::both(alloc, zero, plus)?;
         return Ok(Ending::Refuted(tree));
     }
-    let minus = match child(alloc, problem, search, here, levels, Sign::Minus)? {
+    let minus = match child(alloc, problem, search, here, next, rest, Sign::Minus)? {
         Ending::Refuted(tree) => tree,
         end => return Ok(end),
     };
@@ -367,20 +417,23 @@ fn split<P: SignProblem>(
 
 // Visits a prefix, and all that is visited below it.
 #[cycle(walk)]
+#[inline(always)]
 pub(crate) fn walk<P: SignProblem>(
     alloc: Global,
     problem: &P,
     search: &mut Progress,
+    above: &Level,
     here: &mut Level,
     levels: &mut [Level],
 ) -> Result<Ending, SearchStop>
     requires ready { IsReady (P.signed problem.now) search.old }
-    requires here { IsLevel (P.signed problem.now) search.old.prefix.items here.old }
+    requires above { AreMarked (P.signed problem.now) above.now }
+    requires here { AreAsked (P.signed problem.now) search.old.prefix.items here.old }
     requires levels { AreRooms (P.signed problem.now) search.old.prefix.items levels.old }
     ensures prefix { OnOk result (search.new.prefix.items ≡ search.old.prefix.items) }
     ensures ready { OnOk result (IsReady (P.signed problem.now) search.new) }
     ensures here { OnOk result
-        (IsLevel (P.signed problem.now) search.old.prefix.items here.new) }
+        (AreAsked (P.signed problem.now) search.old.prefix.items here.new) }
     ensures levels { OnOk result
         (AreRooms (P.signed problem.now) search.old.prefix.items levels.new) }
     ensures answer { MatchResult result
@@ -395,7 +448,7 @@ pub(crate) fn walk<P: SignProblem>(
     if problem.closed(&search.prefix) {
         return Ok(Ending::Refuted(Tree::Flat));
     }
-    if let Some(tree) = rule_out(alloc, problem, search, here)? {
+    if let Some(tree) = rule_out(alloc, problem, search, above, here)? {
         return Ok(Ending::Refuted(tree));
     }
     at_level(problem, search, here);
@@ -403,7 +456,11 @@ pub(crate) fn walk<P: SignProblem>(
         let end = found_end(alloc, problem, search, here)?;
         return Ok(end);
     }
-    let end = split(alloc, problem, search, here, levels)?;
+    let (first, rest) = levels.split_at_mut(1);
+    let next = &mut first[0];
+    surround(problem, &search.prefix, here, next);
+    let end = split(alloc, problem, search, here, next, rest)?;
+    leaves_room(problem, search, next);
     Ok(end)
 }
 
@@ -494,8 +551,9 @@ pub fn search<P: SignProblem>(
         (λ s. IsSearchStop (P.signed problem.now) s) }
 {
     let mut search = start(alloc, problem, budget)?;
+    let above = first_level(alloc, problem)?;
     let mut first = first_level(alloc, problem)?;
     let mut levels = rooms(alloc, problem)?;
-    let end = walk(alloc, problem, &mut search, &mut first, &mut levels)?;
+    let end = walk(alloc, problem, &mut search, &above, &mut first, &mut levels)?;
     Ok(end_of(end))
 }

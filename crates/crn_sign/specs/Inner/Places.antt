@@ -30,13 +30,23 @@ pub record IsHere (a : Mat) (kinds : List Kind) (l : Place) : Type 0 where
   pub place : IsPlace a l
   pub kinds_are : kinds_of a l.asked.items ≡ kinds
 
--- what is known one level above the prefix
-pub record IsNext (a : Mat) (kinds : List Sign → List Kind) (prefix : List Sign) (l : Place)
+-- what is asked is of these kinds
+pub record IsAsked (a : Mat) (kinds : List Kind) (l : Place) : Type 0 where
+  pub room : HasRoom a l
+  pub kinds_are : kinds_of a l.asked.items ≡ kinds
+
+-- the marks one level above suit what is asked if they are said to
+pub record IsFor (a : Mat) (above l : Place) : Type 0 where
+  pub room : HasRoom a l
+  pub suits : IsTrue l.suits → AreSuited (kinds_of a l.asked.items) above.marks.items
+
+-- what is asked is right of all coordinates whose kinds one choice more leaves as they are
+pub record IsAround (a : Mat) (kinds : List Sign → List Kind) (p : List Sign) (l : Place)
     : Type 0 where
-  pub p : List Sign
-  pub s : Sign
-  pub prefix_is : prefix ≡ p ++ s ∷ []
-  pub here : IsHere a (kinds p) l
+  pub room : HasRoom a l
+  pub same : (k : ℕ) → k < width a
+      → ((s : Sign) → kind_at (kinds (p ++ s ∷ [])) k ≡ kind_at (kinds p) k)
+      → kind_of_mark (mark_at l.asked.items k) ≡ kind_at (kinds p) k
 
 -- the kind of a coordinate is asked, and else all is as before
 pub record IsSettledAt (a : Mat) (kinds : List Kind) (k : ℕ) (old new : Place) : Type 0 where
@@ -48,8 +58,6 @@ pub record IsSettledAt (a : Mat) (kinds : List Kind) (k : ℕ) (old new : Place)
 
 -- what is known before the kinds at some coordinates are asked
 pub record IsSettling (a : Mat) (kinds : List Kind) (settled : List ℕ) (l : Place) : Type 0 where
-  pub width_is : l.width ≡ width a
-  pub asked : length l.asked.items ≡ word_count a
-  pub marks : AreRowMarks a l.marks.items
+  pub room : HasRoom a l
   pub same : (k : ℕ) → k < width a → (IsIn k settled → ⊥)
       → kind_of_mark (mark_at l.asked.items k) ≡ kind_at kinds k

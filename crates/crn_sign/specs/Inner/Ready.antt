@@ -8,7 +8,8 @@ use Rattle.crn_sign.specs.Options.{AreBitsOf}
 use Rattle.crn_sign.specs.declared.walk.Progress.{Progress}
 use Rattle.crn_sign.specs.declared.walk.Level.{Level}
 use Rattle.crn_sign.specs.Inner.Parts.{IsPart}
-use Rattle.crn_sign.specs.Inner.Places.{HasRoom, IsHere}
+use Rattle.crn_sign.specs.Inner.Marks.{AreRowMarks}
+use Rattle.crn_sign.specs.Inner.Places.{HasRoom, IsAround, IsAsked, IsFor, IsHere}
 
 -- the parts have the problem's matrices, and the prefix has room for each choice
 pub record IsReady (w : Signed) (s : Progress) : Type 0 where
@@ -24,6 +25,26 @@ pub record IsLevel (w : Signed) (p : List Sign) (l : Level) : Type 0 where
   pub a : IsHere w.matrix_a (w.kinds_a p) l.a
   pub b : IsHere w.matrix_b (w.kinds_b p) l.b
 
+-- what both parts are asked at a prefix
+pub record AreAsked (w : Signed) (p : List Sign) (l : Level) : Type 0 where
+  pub a : IsAsked w.matrix_a (w.kinds_a p) l.a
+  pub b : IsAsked w.matrix_b (w.kinds_b p) l.b
+
+-- both parts have the marks of a vector
+pub record AreMarked (w : Signed) (l : Level) : Type 0 where
+  pub a : AreRowMarks w.matrix_a l.a.marks.items
+  pub b : AreRowMarks w.matrix_b l.b.marks.items
+
+-- the marks one level above suit what both parts are asked if they are said to
+pub record AreFor (w : Signed) (above l : Level) : Type 0 where
+  pub a : IsFor w.matrix_a above.a l.a
+  pub b : IsFor w.matrix_b above.b l.b
+
+-- what both parts are asked is right of what one choice more leaves as it is
+pub record AreAround (w : Signed) (p : List Sign) (l : Level) : Type 0 where
+  pub a : IsAround w.matrix_a w.kinds_a p l.a
+  pub b : IsAround w.matrix_b w.kinds_b p l.b
+
 -- room for what both parts know
 pub record HasRooms (w : Signed) (l : Level) : Type 0 where
   pub a : HasRoom w.matrix_a l.a
@@ -32,6 +53,11 @@ pub record HasRooms (w : Signed) (l : Level) : Type 0 where
 -- room for what is known at prefixes with one choice more, with two, and so on, to all
 pub record AreRooms (w : Signed) (p : List Sign) (levels : List Level) : Type 0 where
   pub count : length p + length levels ≡ w.choices
+  pub each : AllByRecursion (HasRooms w) levels
+
+-- room for what is known at prefixes with two choices more, with three, and so on, to all
+pub record AreRoomsBelow (w : Signed) (p : List Sign) (levels : List Level) : Type 0 where
+  pub count : length p + 1 + length levels ≡ w.choices
   pub each : AllByRecursion (HasRooms w) levels
 
 -- the same prefix, and as many visits left

@@ -1,9 +1,10 @@
-use Rattle.std.proofs.Common.{length, refl, ◌∙◌}
+use Rattle.std.proofs.Common.{length, refl}
 use Rattle.crn_vec.specs.Problems.{Signed}
-use Rattle.crn_sign.proofs.PlaceLaws.{next_settling}
+use Rattle.crn_sign.proofs.PlaceLaws.{around_settling}
 use Rattle.crn_sign.proofs.place.enter_b.Goals as goal
 
 pub settle_b-requires-clause-place : goal.settle_b-requires-clause-place
 settle_b-requires-clause-place g c =
     let w : Signed = g.P.SignProblem.signed c.args.problem.now in
-    next_settling w.matrix_b w.kinds_b c.args.prefix.now c.args.above.now c.copy.new.self (length c.args.prefix.now) c.settled_b.result.now c.requires.above c.settled_b.ensures refl (c.copy.ensures.width ∙ c.requires.room.width_is) c.copy.ensures.asked c.copy.ensures.marks
+    let h = c.requires.here in
+    around_settling w.matrix_b w.kinds_b h.0 c.args.prefix.now h.1 c.args.here.now (length c.args.prefix.now) c.settled_b.result.now h.2 h.3 c.settled_b.ensures refl

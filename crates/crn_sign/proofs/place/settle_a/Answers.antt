@@ -1,9 +1,5 @@
-use Rattle.std.proofs.Common.{List, ◌+◌, length, drop, sym, ap, subst, ◌∙◌, arith}
-use Rattle.crn_vec.specs.Vectors.{Mat}
+use Rattle.std.proofs.Common.{◌+◌, drop, arith}
 use Rattle.crn_vec.specs.Problems.{Signed}
-use Rattle.crn_sign.specs.declared.bits.Bits.{Bits}
-use Rattle.crn_sign.specs.Inner.Bits.{word_count}
-use Rattle.crn_sign.specs.Inner.Marks.{AreRowMarks, AreSuited, kinds_of}
 use Rattle.crn_sign.proofs.PlaceLaws.{all_settled, first_of, none_left, one_settled, settling_room}
 use Rattle.crn_sign.proofs.place.settle_a.Goals as goal
 
@@ -18,32 +14,9 @@ loop-i-preserved g c =
     let kinds = w.kinds_a c.args.prefix.now in
     record { place = one_settled w.matrix_a kinds _ (drop (c.loop-i.i + 1) c.args.settled.now) c.loop-i.place _ c.settle_one_a.ensures (first_of w.matrix_a kinds c.args.settled.now c.loop-i.i c.loop-i.place c.loop-i-test.true c.loop-i.invariant.place) }
 
-pub look-requires : goal.look-requires
-look-requires g c =
-    let w : Signed = g.P.SignProblem.signed c.args.problem.now in
-    let h = c.loop-i.invariant.place in
-    let e = c.matrix_a.ensures in
-    record {
-      asked = h.asked ∙ ap (λ (a : Mat). word_count a) (sym e);
-      marks = subst (λ (a : Mat). AreRowMarks a c.loop-i.place.marks.items) (sym e) h.marks;
-    }
-
 pub returns : goal.returns
 returns g c =
     let w : Signed = g.P.SignProblem.signed c.args.problem.now in
     let kinds = w.kinds_a c.args.prefix.now in
     let h = none_left w.matrix_a kinds c.args.settled.now c.loop-i.i c.loop-i.place (omega (arith, c.loop-i-test.false)) c.loop-i.invariant.place in
-    let new = c.look.new.self in
-    let l = c.look.ensures in
-    record {
-      place = record {
-        width_is = l.width ∙ h.width_is;
-        asked = ap (λ (q : List Bits). length q) l.asked ∙ h.asked;
-        marks = subst (AreRowMarks w.matrix_a) (sym l.marks) h.marks;
-        suits = λ t.
-            subst (λ (q : List Bits). AreSuited (kinds_of w.matrix_a q) new.marks.items) (sym l.asked)
-            (subst (λ (m : List Bits). AreSuited (kinds_of w.matrix_a c.loop-i.place.asked.items) m) (sym l.marks)
-            (subst (λ (a : Mat). AreSuited (kinds_of a c.loop-i.place.asked.items) c.loop-i.place.marks.items) c.matrix_a.ensures (l.suits t)));
-      };
-      kinds_are = ap (λ (q : List Bits). kinds_of w.matrix_a q) l.asked ∙ all_settled w.matrix_a kinds c.loop-i.place (c.requires.lawful.long_a c.args.prefix.now c.requires.prefix) h;
-    }
+    record { room = h.room; kinds_are = all_settled w.matrix_a kinds c.loop-i.place (c.requires.lawful.long_a c.args.prefix.now c.requires.prefix) h }

@@ -5,8 +5,8 @@ use Rattle.crn_sign.specs.Inner.Walk.{EndsAt, EndsBelow, IsFoundAt}
 use Rattle.crn_vec.specs.declared.signs.Sign.{Sign}
 use Rattle.crn_vec.specs.Problems.{Signed, IsFeasible, all_zero}
 use Rattle.crn_sign.specs.Options.{AreBitsOf}
-use Rattle.crn_sign.specs.Inner.Ready.{AreRooms}
-use Rattle.crn_sign.proofs.PlaceLaws.{level_moved, taken_back}
+use Rattle.crn_sign.specs.Inner.Ready.{AreAround, AreRoomsBelow}
+use Rattle.crn_sign.proofs.PlaceLaws.{asked_around, level_moved, taken_back}
 use Rattle.crn_sign.proofs.Walks.{run_out, feasible_from, flat_at, leaf_at, found_at, opened_at, child_tree, first_child, second_child, third_child, both_trees, three_trees, tree_as}
 use Rattle.crn_sign.proofs.walk.+walk.Goals as goal
 
@@ -22,7 +22,8 @@ pub split-returns-in_default : goal.split-returns-in_default
 split-returns-in_default g t c = record {
   prefix = c.in_ok-end.ensures.prefix;
   ready = c.in_ok-end.ensures.ready;
-  levels = c.in_ok-end.ensures.levels;
+  next = c.in_ok-end.ensures.next;
+  rest = c.in_ok-end.ensures.rest;
   answer = first_child (g.P.SignProblem.signed c.args.problem.now) c.args.search.now.prefix.items c.args.search.now.left c.child.new.search.left c.in_ok-end.end c.in_default.not-Refuted c.in_ok-end.ensures.answer;
 }
 
@@ -35,7 +36,8 @@ split-returns-in_default-2 g t c =
     record {
       prefix = c.in_ok-end-2.ensures.prefix ∙ c.in_ok-end.ensures.prefix;
       ready = c.in_ok-end-2.ensures.ready;
-      levels = subst (λ (q : List Sign). AreRooms w q c.child-2.new.levels) c.in_ok-end.ensures.prefix c.in_ok-end-2.ensures.levels;
+      next = subst (λ (q : List Sign). AreAround w q c.child-2.new.next) c.in_ok-end.ensures.prefix c.in_ok-end-2.ensures.next;
+      rest = subst (λ (q : List Sign). AreRoomsBelow w q c.child-2.new.rest) c.in_ok-end.ensures.prefix c.in_ok-end-2.ensures.rest;
       answer = second_child w p _ c.args.search.now.left c.child.new.search.left c.child-2.new.search.left c.in_ok-end-2.end z c.in_default-2.not-Refuted a;
     }
 
@@ -59,7 +61,8 @@ split-returns-in_default-3 g t c =
     record {
       prefix = c.in_ok-end-3.ensures.prefix ∙ c.in_ok-end-2.ensures.prefix ∙ c.in_ok-end.ensures.prefix;
       ready = c.in_ok-end-3.ensures.ready;
-      levels = subst (λ (q : List Sign). AreRooms w q c.child-3.new.levels) (c.in_ok-end-2.ensures.prefix ∙ c.in_ok-end.ensures.prefix) c.in_ok-end-3.ensures.levels;
+      next = subst (λ (q : List Sign). AreAround w q c.child-3.new.next) (c.in_ok-end-2.ensures.prefix ∙ c.in_ok-end.ensures.prefix) c.in_ok-end-3.ensures.next;
+      rest = subst (λ (q : List Sign). AreRoomsBelow w q c.child-3.new.rest) (c.in_ok-end-2.ensures.prefix ∙ c.in_ok-end.ensures.prefix) c.in_ok-end-3.ensures.rest;
       answer = third_child w p _ _ c.args.search.now.left c.child.new.search.left c.child-2.new.search.left c.child-3.new.search.left c.in_ok-end-3.end (ap all_zero (sym c.deref.ensures.value) ∙ sym c.is_all_zero-zeros.ensures ∙ c.if-zeros.false) z q c.in_default-3.not-Refuted b;
     }
 
@@ -110,7 +113,7 @@ walk-returns-clause-answer g t c =
 pub walk-at_level-requires : goal.walk-at_level-requires
 walk-at_level-requires g t c =
     let w : Signed = g.P.SignProblem.signed c.args.problem.now in
-    level_moved w c.args.search.now.prefix.items c.rule_out.new.search.prefix.items c.rule_out.new.here c.in_ok-tree.ensures.place.prefix c.in_ok-tree.ensures.here
+    level_moved w c.args.search.now.prefix.items c.rule_out.new.search.prefix.items c.rule_out.new.here c.in_ok-tree.ensures.place.prefix (rw c.in_default.is at c.in_ok-tree.ensures.here)
 
 pub child-returns-clause-ready : goal.child-returns-clause-ready
 child-returns-clause-ready g t c =
@@ -123,3 +126,11 @@ child-returns-clause-ready g t c =
       bits = subst (λ (p : List Sign). AreBitsOf c.args.search.now.bits p) (sym same) c.requires.ready.bits;
       room = search rules;
     }
+
+pub child-enter-requires-clause-here : goal.child-enter-requires-clause-here
+child-enter-requires-clause-here g t c = (c.args.search.now.prefix.items, c.args.option, c.deref.ensures.value ∙ c.push_reserved.ensures.items, c.requires.next)
+
+pub child-returns-clause-next : goal.child-returns-clause-next
+child-returns-clause-next g t c =
+    let w : Signed = g.P.SignProblem.signed c.args.problem.now in
+    asked_around w c.args.search.now.prefix.items _ c.args.option c.walk.new.here c.push_reserved.ensures.items c.in_ok-end.ensures.here

@@ -1,10 +1,10 @@
-use Rattle.std.proofs.Common.{List, ℤ, ◌∙◌, subst}
+use Rattle.std.proofs.Common.{List, ℤ, ◌∙◌, sym, subst}
 use Rattle.crn_vec.specs.declared.signs.Sign.{Sign}
 use Rattle.crn_vec.specs.Problems.{Signed, SolvesA, SolvesB}
 use Rattle.crn_farkas.specs.Decision.{IsSmallCut}
 use Rattle.crn_sign.specs.declared.walk.Level.{Level}
 use Rattle.crn_sign.specs.Inner.Places.{IsHere}
-use Rattle.crn_sign.proofs.PlaceLaws.{level_at}
+use Rattle.crn_sign.proofs.PlaceLaws.{asked_at, level_asked, level_at}
 use Rattle.crn_sign.proofs.Walks.{leaf_a, leaf_b}
 use Rattle.crn_sign.proofs.walk.rule_out.Goals as goal
 
@@ -31,13 +31,42 @@ returns-clause-answer g c =
       subst (λ (p : List Sign). (x : List ℤ) × SolvesA w p x) (c.in_ok-u.ensures.place.prefix ∙ c.in_ok-tree.ensures.place.prefix) a,
     )
 
-pub returns-in-Some-3-clause-here : goal.returns-in-Some-3-clause-here
-returns-in-Some-3-clause-here g c =
+pub rule_out_b-requires-clause-here : goal.rule_out_b-requires-clause-here
+rule_out_b-requires-clause-here g c =
+    let w : Signed = g.P.SignProblem.signed c.args.problem.now in
+    let l = rw c.in_default.is at c.in_ok-tree.ensures.leaf in
+    subst (λ (p : List Sign). IsHere w.matrix_b (w.kinds_b p) c.arrive.new.here.b) (sym c.in_ok-tree.ensures.place.prefix) l.b
+
+pub rule_out_a-requires-clause-here : goal.rule_out_a-requires-clause-here
+rule_out_a-requires-clause-here g c =
+    let w : Signed = g.P.SignProblem.signed c.args.problem.now in
+    let l = rw c.in_default.is at c.in_ok-tree.ensures.leaf in
+    subst (λ (p : List Sign). IsHere w.matrix_a (w.kinds_a p) c.arrive.new.here.a) (sym (c.in_ok-u.ensures.place.prefix ∙ c.in_ok-tree.ensures.place.prefix)) l.a
+
+pub returns-in-Some-2-clause-asked : goal.returns-in-Some-2-clause-asked
+returns-in-Some-2-clause-asked g c =
+    let w : Signed = g.P.SignProblem.signed c.args.problem.now in
+    let p : List Sign = c.args.search.now.prefix.items in
+    record {
+      a = c.in_ok-tree.ensures.asked.a;
+      b = asked_at w.matrix_b (w.kinds_b p) c.rule_out_b.new.here (subst (λ (r : List Sign). IsHere w.matrix_b (w.kinds_b r) c.rule_out_b.new.here) c.in_ok-tree.ensures.place.prefix c.in_ok-u.ensures.here);
+    }
+
+pub returns-in-Some-3-clause-asked : goal.returns-in-Some-3-clause-asked
+returns-in-Some-3-clause-asked g c =
     let w : Signed = g.P.SignProblem.signed c.args.problem.now in
     let p : List Sign = c.args.search.now.prefix.items in
     let l : Level = record { a = c.rule_out_a.new.here; b = c.rule_out_b.new.here } in
-    level_at w p c.rule_out_b.new.search.prefix.items l (c.in_ok-u.ensures.place.prefix ∙ c.in_ok-tree.ensures.place.prefix) c.in_ok-u-2.ensures.here
-    (subst (λ (r : List Sign). IsHere w.matrix_b (w.kinds_b r) c.rule_out_b.new.here) c.in_ok-tree.ensures.place.prefix c.in_ok-u.ensures.here)
+    level_asked w p l (level_at w p c.rule_out_b.new.search.prefix.items l (c.in_ok-u.ensures.place.prefix ∙ c.in_ok-tree.ensures.place.prefix) c.in_ok-u-2.ensures.here
+    (subst (λ (r : List Sign). IsHere w.matrix_b (w.kinds_b r) c.rule_out_b.new.here) c.in_ok-tree.ensures.place.prefix c.in_ok-u.ensures.here))
+
+pub returns-clause-asked : goal.returns-clause-asked
+returns-clause-asked g c =
+    let w : Signed = g.P.SignProblem.signed c.args.problem.now in
+    let p : List Sign = c.args.search.now.prefix.items in
+    let l : Level = record { a = c.rule_out_a.new.here; b = c.rule_out_b.new.here } in
+    level_asked w p l (level_at w p c.rule_out_b.new.search.prefix.items l (c.in_ok-u.ensures.place.prefix ∙ c.in_ok-tree.ensures.place.prefix) c.in_ok-u-2.ensures.here
+    (subst (λ (r : List Sign). IsHere w.matrix_b (w.kinds_b r) c.rule_out_b.new.here) c.in_ok-tree.ensures.place.prefix c.in_ok-u.ensures.here))
 
 pub returns-clause-here : goal.returns-clause-here
 returns-clause-here g c =
