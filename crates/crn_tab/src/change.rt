@@ -112,11 +112,6 @@ fn change_low(
     change_all(row, lead, p, q, known)
 }
 
-// Whether an exchange goes over all places of a row: over those of a lead with few it goes one by one.
-fn is_dense(p: &i64, places: &[usize], count: usize) -> bool {
-    *p != 1 || places.len() > count / 8
-}
-
 // The primitive difference of two rows of short entries, each times a factor, in place of the first. If the answer is no, the row stays.
 fn change_if_short(
     row: &mut [i64],
@@ -140,7 +135,7 @@ fn change_if_short(
     ensures short { IsTrue result → AreBelow (2 ^ 14) row.new }
     ensures stays { result ≡ false → row.new ≡ row.old }
 {
-    if !lead.short || !is_dense(p, lead.places, row.len()) {
+    if !lead.short {
         return false;
     }
     if !is_short(p) || !is_short(q) || !is_short(known) {

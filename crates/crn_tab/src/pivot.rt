@@ -1,15 +1,15 @@
-ghost use Rattle.std.specs.Prelude.{IsTrue, ◌≡◌, ◌≢◌, ◌≤◌, ◌<◌, ◌^◌, ◌-◌, ◌*◌, ◌+◌, ℕ, ℤ, pos, List, length, slice_index, vec_capacity};
+ghost use Rattle.std.specs.Prelude.{IsTrue, ◌⊎◌, ◌≡◌, ◌≢◌, ◌≤◌, ◌<◌, ◌^◌, ◌-◌, ◌*◌, ◌+◌, ℕ, ℤ, pos, List, length, slice_index, vec_capacity};
 ghost use Rattle.crn_vec.specs.Vectors.{entry};
 ghost use Rattle.crn_vec.specs.Lists.{IsIn};
 ghost use Rattle.crn_vec.specs.Elementary.{width, IsNamed, WideAt, Exchanged};
 ghost use Rattle.crn_tab.specs.Slots.{AreLowRows, AreShortRows, row_at, basis_of, IsTableau};
-ghost use Rattle.crn_tab.specs.Inner.Rows.{IsKeptRow, AreFilled};
+ghost use Rattle.crn_tab.specs.Inner.Rows.{AreBelow, IsKeptRow, AreFilled};
 
 use crate::change::changed_rows;
 use crate::fill::{fill_rows, part};
 use crate::lead::{Lead, make_lead, put_lead, put_places};
 use crate::low::{all_low, are_low};
-use crate::short::are_still_short;
+use crate::short::{are_still_short, is_dense_row};
 use crn_vec::Matrix;
 
 // Row i becomes that of the spare rows, if it has the leaving coordinate.
@@ -155,6 +155,16 @@ fn wider_rows(
     least
 }
 
+// Whether the rows are short, as is said or as they show, if most of row r is not 0. Of a row with few places an exchange takes as many steps, and then
+// it is not asked.
+fn are_short_for(short: bool, rows: &[i64], r: usize, w: usize) -> bool
+    requires few { length rows.now ≤ 2 ^ 20 }
+    requires inside { r * w + w ≤ length rows.now }
+    ensures { IsTrue result → IsTrue short ⊎ AreBelow (2 ^ 14) rows.now }
+{
+    is_dense_row(part(rows, r, w)) && are_still_short(short, rows)
+}
+
 // The same, in place if all entries are low.
 pub(crate) fn new_rows(
     rows: &mut [i64],
@@ -196,8 +206,8 @@ pub(crate) fn new_rows(
     ensures spare_room { vec_capacity spare.new ≡ vec_capacity spare.old }
 {
     if *low {
+        *short = are_short_for(*short, rows, r, lead.len());
         *low = changed_rows(rows, short, m, r, c, lead, places, narrow_lead, narrow_work);
-        *short = are_still_short(*short, rows);
         return order.len();
     }
     *short = false;

@@ -81,6 +81,17 @@ pub(crate) fn are_still_short(short: bool, rows: &[i64]) -> bool
     short || all_short(rows)
 }
 
+// Whether more than a quarter of a row is not 0.
+pub(crate) fn is_dense_row(row: &[i64]) -> bool {
+    let mut some = 0usize;
+    for x in row {
+        if *x != 0 {
+            some = some.wrapping_add(1);
+        }
+    }
+    some > row.len() / 4
+}
+
 // The same numbers, of 64 bits.
 fn put_wide(row: &[i32], into: &mut [i64])
     requires { length into.old ≡ length row.now }
