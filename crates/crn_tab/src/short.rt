@@ -81,15 +81,21 @@ pub(crate) fn are_still_short(short: bool, rows: &[i64]) -> bool
     short || all_short(rows)
 }
 
-// Whether more than a quarter of a row is not 0.
+// A row of fewer entries takes as many steps by numbers of 64 bits.
+const MANY_ENTRIES: usize = 48;
+
+// Whether a row has many entries, and more than three eighths of them are not 0.
 pub(crate) fn is_dense_row(row: &[i64]) -> bool {
+    if row.len() < MANY_ENTRIES {
+        return false;
+    }
     let mut some = 0usize;
     for x in row {
         if *x != 0 {
             some = some.wrapping_add(1);
         }
     }
-    some > row.len() / 4
+    some > row.len() / 8 * 3
 }
 
 // The same numbers, of 64 bits.
