@@ -12,6 +12,8 @@ use Rattle.crn_cert.specs.Trees.{Plan, plan, IsValid, AreNarrow, places}
 use Rattle.crn_farkas.specs.Decision.{IsSmallSolution}
 use Rattle.crn_sign.specs.declared.end.SearchEnd.{SearchEnd}
 use Rattle.crn_sign.specs.declared.end.SearchEnd.TheVariants.{Found, Refuted, Spent}
+use Rattle.crn_sign.specs.declared.end.SearchOutcome.{SearchOutcome}
+use Rattle.crn_sign.specs.declared.end.SearchOutcome.TheVariants.{Found as FoundOutcome, Refuted as RefutedOutcome, Spent as SpentOutcome}
 use Rattle.crn_sign.specs.declared.fault.SearchStop.{SearchStop}
 use Rattle.crn_sign.specs.declared.fault.SearchStop.TheVariants.{WideA, WideB, NoMemory}
 
@@ -36,6 +38,16 @@ IsSearchEnd w budget (Found q a b) = IsFeasibleBy w q a.list b.list
 IsSearchEnd w budget (Refuted tree) = IsTreeAt w [] (plan tree)
     × IsVisitList w (places [] (plan tree)) false × (length (places [] (plan tree)) ≤ budget)
 IsSearchEnd w budget Spent = PassesBudget w budget
+
+-- how a search ended, without the tree
+abbrev pub outcome_of : SearchEnd → SearchOutcome
+outcome_of (Found q a b) = FoundOutcome q a b
+outcome_of (Refuted tree) = RefutedOutcome
+outcome_of Spent = SpentOutcome
+
+-- there is an end of the search, and this is what it is without the tree
+abbrev pub IsOutcome : Signed → ℕ → SearchOutcome → Type 0
+IsOutcome w budget outcome = (e : SearchEnd) × (outcome ≡ outcome_of e) × IsSearchEnd w budget e
 
 -- a wide vector of one part's matrix by name, or memory runs out
 abbrev pub IsSearchStop : Signed → SearchStop → Type 0

@@ -19,3 +19,21 @@ pub enum SearchEnd {
     /// The visits exceed the budget.
     Spent,
 }
+
+/// How a search ended of which no tree is kept.
+#[derive(Drop)]
+pub enum SearchOutcome {
+    /// The first full feasible prefix, with solutions of both its parts.
+    Found {
+        /// The options of the prefix.
+        pattern: Signs,
+        /// Numbers of the columns of part A's matrix.
+        a: Ints,
+        /// Numbers of the columns of part B's matrix.
+        b: Ints,
+    },
+    /// No full prefix is feasible.
+    Refuted,
+    /// The visits exceed the budget.
+    Spent,
+}

@@ -15,8 +15,8 @@ mod signs;
 mod walk;
 
 pub use bits::{Bits, bits_of_signs, with_sign};
-pub use end::SearchEnd;
+pub use end::{SearchEnd, SearchOutcome};
 pub use fault::SearchStop;
 pub use problem::{Asked, FREE, SignProblem, asked_of_sign, coordinates};
 pub use signs::Signs;
-pub use walk::search;
+pub use walk::{search, search_outcome};

@@ -1,21 +1,21 @@
 ghost use Rattle.std.specs.Prelude.{◌≡◌, ◌≤◌, ◌<◌, ◌-◌, ◌++◌, ◌∷◌, [], ◌↔◌, ℕ, ℤ, List, length, true, false, IsTrue, IfOk, IfErr, OnOk, MatchOption, MatchResult};
 ghost use Rattle.crn_vec.specs.Systems.{IsSolution};
 ghost use Rattle.crn_vec.specs.Kept.{KeptInts};
-ghost use Rattle.crn_cert.specs.Trees.{plan};
+ghost use Rattle.crn_cert.specs.Trees.{plan, Both, Three};
 ghost use Rattle.crn_farkas.specs.Decision.{IsSmallCut};
 ghost use Rattle.crn_vec.specs.declared.limits.TheConstants.{MAX_BUDGET};
 ghost use Rattle.crn_vec.specs.Elementary.{NamesWide};
 ghost use Rattle.crn_vec.specs.Problems.{IsFull, IsFeasible, IsLawful, IsPrefix};
 ghost use Rattle.crn_vec.specs.declared.signs.Sign.{Sign};
 ghost use Rattle.crn_sign.specs.Options.{AreBitsOf};
-ghost use Rattle.crn_sign.specs.Search.{IsSearchEnd, IsSearchStop};
-ghost use Rattle.crn_sign.specs.Inner.Walk.{EndsAt, EndsBelow, IsFoundAt, IsLeafAt, IsLeafOrNone, IsWideA, IsWideB, end_of};
+ghost use Rattle.crn_sign.specs.Search.{IsOutcome, IsSearchEnd, IsSearchStop};
+ghost use Rattle.crn_sign.specs.Inner.Walk.{EndsAt, EndsBelow, IsFoundAt, IsLeafAt, IsLeafOrNone, IsWideA, IsWideB, Keeps, end_of, outcome_at};
 ghost use Rattle.crn_sign.specs.Inner.Parts.{IsRuling};
 ghost use Rattle.crn_sign.specs.Inner.Places.{IsAsked, IsHere, IsPlace};
 ghost use Rattle.crn_sign.specs.Inner.Ready.{AreAround, AreAsked, AreFor, AreMarked, AreRooms, AreRoomsBelow, HasRooms, IsLevel, IsReady, SamePlace};
 
 use crate::bits::{Bits, NONE, with_sign};
-use crate::end::SearchEnd;
+use crate::end::{SearchEnd, SearchOutcome};
 use crate::fault::SearchStop;
 use crate::part::Part;
 use crate::place::{Place, begin_a, begin_b, enter_a, enter_b};
@@ -331,6 +331,27 @@ fn leaves_room<P: SignProblem>(_problem: &P, _search: &Progress, _here: &Level)
     ensures { HasRooms (P.signed _problem.now) _here.now }
 {}
 
+// The tree of two children, or nothing that shows them if trees are not kept.
+fn both(alloc: Global, keeps: bool, zero: Tree, plus: Tree) -> Result<Tree, NoMemory>
+    ensures { IfOk result (λ made. Keeps keeps made (Both (plan zero) (plan plus))) }
+{
+    if keeps {
+        return Tree::both(alloc, zero, plus);
+    }
+    Ok(Tree::Flat)
+}
+
+// The tree of three children, or nothing that shows them if trees are not kept.
+fn three(alloc: Global, keeps: bool, zero: Tree, plus: Tree, minus: Tree) -> Result<Tree, NoMemory>
+    ensures { IfOk result
+        (λ made. Keeps keeps made (Three (plan zero) (plan plus) (plan minus))) }
+{
+    if keeps {
+        return Tree::three(alloc, zero, plus, minus);
+    }
+    Ok(Tree::Flat)
+}
+
 // Visits the prefix with one more option, and all that is visited below it.
 #[cycle(walk)]
 fn child<P: SignProblem>(
@@ -340,6 +361,7 @@ fn child<P: SignProblem>(
     above: &Level,
     next: &mut Level,
     rest: &mut [Level],
+    keeps: bool,
     option: Sign,
 ) -> Result<Ending, SearchStop>
     requires ready { IsReady (P.signed problem.now) search.old }
@@ -354,7 +376,7 @@ fn child<P: SignProblem>(
     ensures rest { OnOk result
         (AreRoomsBelow (P.signed problem.now) search.old.prefix.items rest.new) }
     ensures answer { MatchResult result
-        (λ e. EndsAt (P.signed problem.now) (search.old.prefix.items ++ option ∷ [])
+        (λ e. EndsAt keeps (P.signed problem.now) (search.old.prefix.items ++ option ∷ [])
         search.old.left search.new.left e)
         (λ s. IsSearchStop (P.signed problem.now) s) }
 {
@@ -362,7 +384,7 @@ fn child<P: SignProblem>(
     search.bits = with_sign(bits, search.prefix.len(), option);
     search.prefix.push_reserved(option);
     enter(problem, &search.prefix, search.bits, next);
-    let end = walk(alloc, problem, search, above, next, rest)?;
+    let end = walk(alloc, problem, search, above, next, rest, keeps)?;
     search.prefix.pop();
     search.bits = bits;
     Ok(end)
@@ -377,6 +399,7 @@ fn split<P: SignProblem>(
     here: &Level,
     next: &mut Level,
     rest: &mut [Level],
+    keeps: bool,
 ) -> Result<Ending, SearchStop>
     requires ready { IsReady (P.signed problem.now) search.old }
     requires room { length search.old.prefix.items < (P.signed problem.now).choices }
@@ -390,28 +413,28 @@ fn split<P: SignProblem>(
     ensures rest { OnOk result
         (AreRoomsBelow (P.signed problem.now) search.old.prefix.items rest.new) }
     ensures answer { MatchResult result
-        (λ e. EndsBelow (P.signed problem.now) search.old.prefix.items
+        (λ e. EndsBelow keeps (P.signed problem.now) search.old.prefix.items
         search.old.left search.new.left e)
         (λ s. IsSearchStop (P.signed problem.now) s) }
 {
     let zeros = is_all_zero(&search.prefix);
-    let zero = match child(alloc, problem, search, here, next, rest, Sign::Zero)? {
+    let zero = match child(alloc, problem, search, here, next, rest, keeps, Sign::Zero)? {
         Ending::Refuted(tree) => tree,
         end => return Ok(end),
     };
-    let plus = match child(alloc, problem, search, here, next, rest, Sign::Plus)? {
+    let plus = match child(alloc, problem, search, here, next, rest, keeps, Sign::Plus)? {
         Ending::Refuted(tree) => tree,
         end => return Ok(end),
     };
     if zeros {
-        let tree = Tree::both(alloc, zero, plus)?;
+        let tree = both(alloc, keeps, zero, plus)?;
         return Ok(Ending::Refuted(tree));
     }
-    let minus = match child(alloc, problem, search, here, next, rest, Sign::Minus)? {
+    let minus = match child(alloc, problem, search, here, next, rest, keeps, Sign::Minus)? {
         Ending::Refuted(tree) => tree,
         end => return Ok(end),
     };
-    let tree = Tree::three(alloc, zero, plus, minus)?;
+    let tree = three(alloc, keeps, zero, plus, minus)?;
     Ok(Ending::Refuted(tree))
 }
 
@@ -425,6 +448,7 @@ pub(crate) fn walk<P: SignProblem>(
     above: &Level,
     here: &mut Level,
     levels: &mut [Level],
+    keeps: bool,
 ) -> Result<Ending, SearchStop>
     requires ready { IsReady (P.signed problem.now) search.old }
     requires above { AreMarked (P.signed problem.now) above.now }
@@ -437,7 +461,7 @@ pub(crate) fn walk<P: SignProblem>(
     ensures levels { OnOk result
         (AreRooms (P.signed problem.now) search.old.prefix.items levels.new) }
     ensures answer { MatchResult result
-        (λ e. EndsAt (P.signed problem.now) search.old.prefix.items
+        (λ e. EndsAt keeps (P.signed problem.now) search.old.prefix.items
         search.old.left search.new.left e)
         (λ s. IsSearchStop (P.signed problem.now) s) }
 {
@@ -459,7 +483,7 @@ pub(crate) fn walk<P: SignProblem>(
     let (first, rest) = levels.split_at_mut(1);
     let next = &mut first[0];
     surround(problem, &search.prefix, here, next);
-    let end = split(alloc, problem, search, here, next, rest)?;
+    let end = split(alloc, problem, search, here, next, rest, keeps)?;
     leaves_room(problem, search, next);
     Ok(end)
 }
@@ -535,6 +559,47 @@ fn end_of(end: Ending) -> SearchEnd
     }
 }
 
+// The same without the tree.
+fn outcome_at(end: Ending) -> SearchOutcome
+    ensures { result ≡ outcome_at end }
+{
+    match end {
+        Ending::Found(found) => {
+            let FullPrefix { pattern, a, b } = Box::into_inner(found);
+            SearchOutcome::Found { pattern, a, b }
+        }
+        Ending::Refuted(_) => SearchOutcome::Refuted,
+        Ending::Spent => SearchOutcome::Spent,
+    }
+}
+
+// How at most so many visits end, the first of which is that of the prefix with no choice.
+fn visit_all<P: SignProblem>(
+    alloc: Global,
+    problem: &P,
+    budget: u32,
+    keeps: bool,
+) -> Result<Ending, SearchStop>
+    ensures { MatchResult result
+        (λ e. (after : ℕ) × EndsAt keeps (P.signed problem.now) [] budget after e)
+        (λ s. IsSearchStop (P.signed problem.now) s) }
+{
+    let mut search = start(alloc, problem, budget)?;
+    let above = first_level(alloc, problem)?;
+    let mut first = first_level(alloc, problem)?;
+    let mut levels = rooms(alloc, problem)?;
+    let end = walk(
+        alloc,
+        problem,
+        &mut search,
+        &above,
+        &mut first,
+        &mut levels,
+        keeps,
+    )?;
+    Ok(end)
+}
+
 /// Searches for a full feasible prefix, with at most so many visits.
 ///
 /// Its answer is the first full feasible prefix of the visit list, or a tree with one node for each
@@ -550,10 +615,21 @@ pub fn search<P: SignProblem>(
     ensures { MatchResult result (λ e. IsSearchEnd (P.signed problem.now) budget e)
         (λ s. IsSearchStop (P.signed problem.now) s) }
 {
-    let mut search = start(alloc, problem, budget)?;
-    let above = first_level(alloc, problem)?;
-    let mut first = first_level(alloc, problem)?;
-    let mut levels = rooms(alloc, problem)?;
-    let end = walk(alloc, problem, &mut search, &above, &mut first, &mut levels)?;
+    let end = visit_all(alloc, problem, budget, true)?;
     Ok(end_of(end))
+}
+
+/// The outcome of the same search. It keeps no tree, and takes less memory.
+pub fn search_outcome<P: SignProblem>(
+    alloc: Global,
+    problem: &P,
+    budget: u32,
+) -> Result<SearchOutcome, SearchStop>
+    requires low { 1 ≤ budget }
+    requires high { budget ≤ MAX_BUDGET }
+    ensures { MatchResult result (λ o. IsOutcome (P.signed problem.now) budget o)
+        (λ s. IsSearchStop (P.signed problem.now) s) }
+{
+    let end = visit_all(alloc, problem, budget, false)?;
+    Ok(outcome_at(end))
 }

@@ -2,7 +2,7 @@
 -- How the visits of a prefix, of its children and of all below them end.
 -- Shapes: `left` visits are allowed where it begins, and `after` where it ends. `due` lists the
 -- prefixes that are to be visited with all below them.
-use Rattle.std.specs.Prelude.{◌≡◌, ◌+◌, ℕ, ℤ, true, false, List, [], ◌∷◌, ◌++◌, length, Option, None, Some}
+use Rattle.std.specs.Prelude.{◌≡◌, ◌+◌, ℕ, ℤ, true, false, List, [], ◌∷◌, ◌++◌, length, Bool, Option, None, Some}
 use Rattle.crn_vec.specs.declared.signs.Sign.{Sign}
 use Rattle.crn_vec.specs.Problems.{Signed, IsFeasible, SolvesA, SolvesB, children}
 use Rattle.crn_vec.specs.Visits.{Visits, Passes}
@@ -12,6 +12,8 @@ use Rattle.crn_farkas.specs.declared.fault.Stop.{Stop}
 use Rattle.crn_farkas.specs.declared.fault.Stop.TheVariants.{Wide, NoMemory as StopMemory}
 use Rattle.crn_sign.specs.declared.end.SearchEnd.{SearchEnd}
 use Rattle.crn_sign.specs.declared.end.SearchEnd.TheVariants.{Found as FoundEnd, Refuted as RefutedEnd, Spent as SpentEnd}
+use Rattle.crn_sign.specs.declared.end.SearchOutcome.{SearchOutcome}
+use Rattle.crn_sign.specs.declared.end.SearchOutcome.TheVariants.{Found as FoundOutcome, Refuted as RefutedOutcome, Spent as SpentOutcome}
 use Rattle.crn_sign.specs.declared.fault.SearchStop.{SearchStop}
 use Rattle.crn_sign.specs.declared.fault.SearchStop.TheVariants.{WideA, WideB, NoMemory}
 use Rattle.crn_sign.specs.declared.walk.Ending.{Ending}
@@ -46,13 +48,18 @@ abbrev pub IsLeafOrNone : Signed → List Sign → Option Tree → Type 0
 IsLeafOrNone w p None = ((x : List ℤ) × SolvesB w p x) × ((x : List ℤ) × SolvesA w p x)
 IsLeafOrNone w p (Some tree) = IsLeafAt w p (plan tree)
 
+-- the tree that is walked is given, if it is to be kept
+abbrev pub Keeps : Bool → Tree → Plan → Type 0
+Keeps keeps given walked = keeps ≡ true → plan given ≡ walked
+
 -- what the visit of a prefix, and of all below it, ends with
-abbrev pub EndsAt : Signed → List Sign → ℕ → ℕ → Ending → Type 0
-EndsAt w p left after (Found f) = IsFeasibleBy w f.value.pattern f.value.a.list f.value.b.list
+abbrev pub EndsAt : Bool → Signed → List Sign → ℕ → ℕ → Ending → Type 0
+EndsAt keeps w p left after (Found f) =
+    IsFeasibleBy w f.value.pattern f.value.a.list f.value.b.list
     × EndsWith w (p ∷ []) left after f.value.pattern
-EndsAt w p left after (Refuted tree) = IsTreeAt w p (plan tree)
-    × EndsWithout w (p ∷ []) (places p (plan tree)) left after
-EndsAt w p left after Spent = RunsOut w (p ∷ []) left after
+EndsAt keeps w p left after (Refuted given) = (tree : Plan) × Keeps keeps given tree
+    × IsTreeAt w p tree × EndsWithout w (p ∷ []) (places p tree) left after
+EndsAt keeps w p left after Spent = RunsOut w (p ∷ []) left after
 
 -- the visits of a tree's nodes below its root
 pub record BelowRoot (w : Signed) (p : List Sign) (tree : Plan) (left after : ℕ) : Type 0 where
@@ -61,12 +68,13 @@ pub record BelowRoot (w : Signed) (p : List Sign) (tree : Plan) (left after : �
   pub ends : EndsWithout w (children p) rest left after
 
 -- what the visits of a prefix's children, and of all below them, end with
-abbrev pub EndsBelow : Signed → List Sign → ℕ → ℕ → Ending → Type 0
-EndsBelow w p left after (Found f) = IsFeasibleBy w f.value.pattern f.value.a.list f.value.b.list
+abbrev pub EndsBelow : Bool → Signed → List Sign → ℕ → ℕ → Ending → Type 0
+EndsBelow keeps w p left after (Found f) =
+    IsFeasibleBy w f.value.pattern f.value.a.list f.value.b.list
     × EndsWith w (children p) left after f.value.pattern
-EndsBelow w p left after (Refuted tree) = IsTreeAt w p (plan tree)
-    × BelowRoot w p (plan tree) left after
-EndsBelow w p left after Spent = RunsOut w (children p) left after
+EndsBelow keeps w p left after (Refuted given) = (tree : Plan) × Keeps keeps given tree
+    × IsTreeAt w p tree × BelowRoot w p tree left after
+EndsBelow keeps w p left after Spent = RunsOut w (children p) left after
 
 -- the full prefix, with solutions of its parts
 abbrev pub IsFoundAt : Signed → List Sign → Ending → Type 0
@@ -74,6 +82,12 @@ IsFoundAt w p (Found f) = (f.value.pattern ≡ p)
     × IsFeasibleBy w p f.value.a.list f.value.b.list
 IsFoundAt w p (Refuted tree) = ⊥
 IsFoundAt w p Spent = ⊥
+
+-- how a search ended whose visits ended so, without the tree
+abbrev pub outcome_at : Ending → SearchOutcome
+outcome_at (Found f) = FoundOutcome f.value.pattern f.value.a f.value.b
+outcome_at (Refuted given) = RefutedOutcome
+outcome_at Spent = SpentOutcome
 
 -- how a search ended whose visits ended so
 abbrev pub end_of : Ending → SearchEnd

@@ -1,0 +1,12 @@
+use Rattle.std.proofs.Common.{sym, subst}
+use Rattle.crn_vec.specs.Problems.{Signed}
+use Rattle.crn_sign.specs.declared.end.SearchOutcome.{SearchOutcome}
+use Rattle.crn_sign.specs.Search.{IsOutcome}
+use Rattle.crn_sign.proofs.Walks.{search_outcome}
+use Rattle.crn_sign.proofs.walk.search_outcome.Goals as goal
+
+pub returns : goal.returns
+returns g c =
+    let w : Signed = g.P.SignProblem.signed c.args.problem.now in
+    let h = c.in_ok-end.ensures in
+    subst (λ (o : SearchOutcome). IsOutcome w c.args.budget o) (sym c.outcome_at.ensures) (search_outcome c.args.alloc w c.args.budget h.0 c.in_ok-end.end h.1)

@@ -1,0 +1,15 @@
+use Rattle.std.proofs.Common.{ℕ, List, [], subst}
+use Rattle.crn_vec.specs.declared.signs.Sign.{Sign}
+use Rattle.crn_vec.specs.Problems.{Signed}
+use Rattle.crn_sign.specs.Inner.Walk.{EndsAt}
+use Rattle.crn_sign.proofs.walk.visit_all.Goals as goal
+
+pub returns : goal.returns
+returns g c =
+    let w : Signed = g.P.SignProblem.signed c.args.problem.now in
+    let k = c.args.keeps in
+    let e = c.in_ok-end.end in
+    let after = c.walk.new.search.left in
+    let s = c.in_ok-search.ensures in
+    let at = subst (λ (n : ℕ). EndsAt k w c.in_ok-search.search.prefix.items n after e) s.left c.in_ok-end.ensures.answer in
+    (after, subst (λ (p : List Sign). EndsAt k w p c.args.budget after e) s.prefix at)
