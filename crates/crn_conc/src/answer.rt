@@ -7,6 +7,9 @@ ghost use Rattle.crn_vec.specs.Visits.{PassesBudget};
 ghost use Rattle.crn_cert.specs.Answered.{IsAnswer};
 ghost use Rattle.crn_cert.specs.Questions.{Earlier, IsOpen, Q14, Q15};
 ghost use Rattle.crn_cert.specs.TreeSizes.{HasFewNodes};
+ghost use Rattle.crn_sign.specs.Search.{outcome_of};
+ghost use Rattle.crn_sign.specs.declared.end.SearchEnd.{SearchEnd as GivenEnd};
+ghost use Rattle.crn_conc.specs.Answers.{HasAnswer};
 ghost use Rattle.crn_conc.specs.Inner.Answers.{IsStopAnswer, end_answer, wide_answer};
 
 use crate::influence::Influence;
@@ -15,7 +18,7 @@ use crate::settled::settled_by_each;
 use crate::system::reaction_matrix;
 use crn_cert::{Answer, Gap, Proof, Verdict};
 use crn_net::Network;
-use crn_sign::{SearchEnd, SearchStop, coordinates, search};
+use crn_sign::{SearchEnd, SearchOutcome, SearchStop, coordinates, search, search_outcome};
 use crn_vec::{NoMemory, Nums};
 use std::alloc::{AllocError, Global};
 
@@ -68,6 +71,20 @@ fn stop_answer(stop: SearchStop) -> Result<Answer, NoMemory>
     }
 }
 
+// The verdict that the outcome of a search gives.
+fn outcome_verdict(outcome: SearchOutcome, budget: u32) -> Verdict
+    ensures { (e : GivenEnd) → outcome ≡ outcome_of e → result ≡ (end_answer budget e).verdict }
+{
+    match outcome {
+        SearchOutcome::Found { a, b, .. } => Verdict::NoPair {
+            alpha: a,
+            weights: b,
+        },
+        SearchOutcome::Refuted => Verdict::Yes,
+        SearchOutcome::Spent => Verdict::Unknown(Gap::Budget { nodes: budget }),
+    }
+}
+
 /// Question 14, whether a network is concordant, by its plain table, or question 15, whether it is
 /// strongly concordant, by its strong table.
 ///
@@ -104,5 +121,42 @@ pub fn concordant(
     match search(alloc, &problem, budget) {
         Ok(end) => Ok(end_answer(end, budget)),
         Err(stop) => stop_answer(stop),
+    }
+}
+
+/// The verdict of the same answer, by a search that keeps no tree.
+pub fn concordant_verdict(
+    alloc: Global,
+    net: &Network,
+    table: &Influence,
+    budget: u32,
+) -> Result<Verdict, NoMemory>
+    requires low { 1 ≤ budget }
+    requires high { budget ≤ MAX_BUDGET }
+    requires table { (table.now ≡ plain_table net.now) ⊎ (table.now ≡ strong_table net.now) }
+    ensures plain { table.now ≡ plain_table net.now → IfOk result
+        (λ verdict. HasAnswer net.now budget Q14 verdict) }
+    ensures strong { table.now ≡ strong_table net.now → IfOk result
+        (λ verdict. HasAnswer net.now budget Q15 verdict) }
+    ensures spent { IfOk result (λ verdict.
+        PassesBudget (concordance (reaction_system net.now) table.now) budget
+        → IsOpen verdict) }
+{
+    let _ = net.species();
+    let matrix = reaction_matrix(alloc, net)?;
+    let columns = settled_by_each(alloc, table, net.species())?;
+    let coordinates = coordinates(alloc, &matrix)?;
+    let problem = TableProblem {
+        matrix,
+        table,
+        columns,
+        coordinates,
+    };
+    match search_outcome(alloc, &problem, budget) {
+        Ok(outcome) => Ok(outcome_verdict(outcome, budget)),
+        Err(stop) => {
+            let answer = stop_answer(stop)?;
+            Ok(answer.verdict)
+        }
     }
 }

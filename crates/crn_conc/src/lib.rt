@@ -8,7 +8,7 @@ mod problem;
 mod settled;
 mod system;
 
-pub use answer::concordant;
+pub use answer::{concordant, concordant_verdict};
 pub use influence::{Influence, concordance_table, strong_table};
 pub use kinds::asked_of_row;
 pub use system::reaction_matrix;
