@@ -93,3 +93,7 @@ two_more xs ys zs x y one two = two ∙ ap (λ t. t ++ y ∷ []) one ∙ append_
 pub verdicts_more : (answers : List Answer) (a b : Answer) (vs ws us : List Verdict) → vs ≡ verdicts_of answers → ws ≡ vs ++ a.verdict ∷ [] → us ≡ ws ++ b.verdict ∷ [] → us ≡ verdicts_of (answers ++ a ∷ b ∷ [])
 verdicts_more answers a b vs ws us e one two =
     two_more vs ws us a.verdict b.verdict one two ∙ ap (λ t. t ++ a.verdict ∷ b.verdict ∷ []) e ∙ sym (map-append (λ (x : Answer). x.verdict) answers (a ∷ b ∷ []))
+
+-- the same of verdicts that are those of the answers
+pub verdicts_with : (answers : List Answer) (a b : Answer) (v u : Verdict) (vs ws us : List Verdict) → v ≡ a.verdict → u ≡ b.verdict → vs ≡ verdicts_of answers → ws ≡ vs ++ v ∷ [] → us ≡ ws ++ u ∷ [] → us ≡ verdicts_of (answers ++ a ∷ b ∷ [])
+verdicts_with answers a b v u vs ws us x y e one two = verdicts_more answers a b vs ws us e (one ∙ ap (λ (t : Verdict). vs ++ t ∷ []) x) (two ∙ ap (λ (t : Verdict). ws ++ t ∷ []) y)

@@ -14,7 +14,9 @@ ghost use Rattle.crn_shelf.specs.Order.{IsForNegative};
 ghost use Rattle.crn_solve.specs.Spent.{AreOpenIfSpent};
 ghost use Rattle.crn_solve.specs.Inner.Solved.{AreFirstAnswers};
 
-use crate::concordance::{concordant, strongly_concordant};
+use crate::concordance::{
+    concordant, concordant_verdict, strongly_concordant, strongly_concordant_verdict,
+};
 use crate::confluence_answer::confluence_answer;
 use crate::deficiency_answer::deficiency_answer;
 use crate::linkage_answer::linkage_answer;
@@ -25,7 +27,7 @@ use crate::signal_answer::signal_answer;
 use crate::strong_answer::strong_answer;
 use crate::systems::species_matrix;
 use crate::zero_answer::zero_answer;
-use crn_cert::{Answer, Answers, Verdicts};
+use crn_cert::{Answers, Verdict, Verdicts};
 use crn_defi::one_hypotheses;
 use crn_graph::{linkage, strong};
 use crn_net::Network;
@@ -119,19 +121,20 @@ pub fn solve(alloc: Global, net: &Network, budget: u32) -> Result<Answers, NoMem
     Ok(answers)
 }
 
-// Adds the verdict of an answer, whose proof is let go.
-fn push_verdict(verdicts: &mut Verdicts, answer: Answer)
+// Adds a verdict.
+fn push_verdict(verdicts: &mut Verdicts, verdict: Verdict)
     requires { length verdicts.old < 15 }
-    ensures { verdicts.new ≡ verdicts.old ++ answer.verdict ∷ [] }
+    ensures { verdicts.new ≡ verdicts.old ++ verdict ∷ [] }
 {
-    verdicts.push(answer.verdict);
+    verdicts.push(verdict);
 }
 
 /// The verdicts on the questions that are built, in order, without proofs. The budget is that of `solve`.
 ///
 /// There are answers with these verdicts that are formed and valid. Each verdict is true of the network, or open and
 /// licensed with this budget; what `solve` says of the first four, of spent budgets and of question 13 holds of these, too.
-/// It takes less memory than `solve`: the trees of a question are let go before the next search.
+/// It takes less memory than `solve`: the searches of questions 14 and 15 keep no trees, and those of question 13 are let go
+/// before them.
 pub fn solve_verdicts(alloc: Global, net: &Network, budget: u32) -> Result<Verdicts, NoMemory>
     requires some { 1 ≤ budget }
     requires most { budget ≤ MAX_BUDGET }
@@ -150,9 +153,9 @@ pub fn solve_verdicts(alloc: Global, net: &Network, budget: u32) -> Result<Verdi
 {
     let answers = first_answers(alloc, net, budget)?;
     let mut verdicts = answers.into_verdicts()?;
-    let concordant = concordant(alloc, net, budget)?;
+    let concordant = concordant_verdict(alloc, net, budget)?;
     push_verdict(&mut verdicts, concordant);
-    let strongly_concordant = strongly_concordant(alloc, net, budget)?;
+    let strongly_concordant = strongly_concordant_verdict(alloc, net, budget)?;
     push_verdict(&mut verdicts, strongly_concordant);
     Ok(verdicts)
 }

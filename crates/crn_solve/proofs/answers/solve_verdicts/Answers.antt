@@ -1,10 +1,11 @@
 use Rattle.std.proofs.Common.{[], ◌∷◌, ◌++◌, List, sym, subst, arith}
 use Rattle.crn_cert.specs.declared.answer.Verdict.{Verdict}
+use Rattle.crn_cert.specs.Questions.{IsOpen}
 use Rattle.crn_cert.specs.Built.{built}
 use Rattle.crn_cert.specs.Licensed.{AllTrueOrLicensed}
 use Rattle.crn_solve.specs.Spent.{AreOpenIfSpent}
 use Rattle.crn_solve.specs.Inner.Solved.{FirstAreDecided, IsVectorFirst}
-use Rattle.crn_solve.proofs.Solved.{one_more, solved_after, verdicts_counted, verdicts_more}
+use Rattle.crn_solve.proofs.Solved.{one_more, solved_after, verdicts_counted, verdicts_with}
 use Rattle.crn_solve.proofs.answers.solve_verdicts.Goals as goal
 
 pub push_verdict-requires : goal.push_verdict-requires
@@ -21,11 +22,20 @@ returns c =
     let budget = c.args.budget in
     let one = c.in_ok-concordant.ensures in
     let two = c.in_ok-strongly_concordant.ensures in
-    let s = solved_after net budget c.in_ok-answers.answers c.in_ok-concordant.concordant c.in_ok-strongly_concordant.strongly_concordant c.in_ok-answers.ensures
-    (record { first = one.answer; first_few = one.nodes; second = two.answer; second_few = two.nodes; first_spent = one.spent; second_spent = two.spent }) in
-    let e = verdicts_more c.in_ok-answers.answers c.in_ok-concordant.concordant c.in_ok-strongly_concordant.strongly_concordant _ _ _ c.in_ok-verdicts.ensures c.push_verdict.ensures c.push_verdict-2.ensures in
+    let h = one.answer in
+    let k = two.answer in
+    let s = solved_after net budget c.in_ok-answers.answers h.answer k.answer c.in_ok-answers.ensures
+    (record {
+      first = h.is;
+      first_few = h.few;
+      second = k.is;
+      second_few = k.few;
+      first_spent = λ earlier spent. subst IsOpen h.verdict_is (one.spent earlier spent);
+      second_spent = λ earlier spent. subst IsOpen k.verdict_is (two.spent earlier spent);
+    }) in
+    let e = verdicts_with c.in_ok-answers.answers h.answer k.answer c.in_ok-concordant.concordant c.in_ok-strongly_concordant.strongly_concordant _ _ _ h.verdict_is k.verdict_is c.in_ok-verdicts.ensures c.push_verdict.ensures c.push_verdict-2.ensures in
     record {
-      answers = (c.in_ok-answers.answers ++ c.in_ok-concordant.concordant ∷ c.in_ok-strongly_concordant.strongly_concordant ∷ [], e, s.formed, s.valid);
+      answers = (c.in_ok-answers.answers ++ h.answer ∷ k.answer ∷ [], e, s.formed, s.valid);
       answered = subst (λ (vs : List Verdict). AllTrueOrLicensed net budget [] built vs) (sym e) s.answered;
       decided = subst FirstAreDecided (sym e) s.decided;
       spent = subst (AreOpenIfSpent net budget) (sym e) s.spent;
