@@ -22,7 +22,7 @@ use Rattle.crn_sign.specs.declared.end.SearchEnd.TheVariants.{Found as FoundEnd,
 use Rattle.crn_sign.specs.declared.walk.Ending.{Ending}
 use Rattle.crn_sign.specs.declared.walk.Ending.TheVariants.{Found, Refuted, Spent}
 use Rattle.crn_sign.specs.Search.{IsFeasibleBy, IsOutcome, IsSearchEnd, IsTreeAt}
-use Rattle.crn_sign.specs.Inner.Walk.{EndsWith, EndsWithout, RunsOut, EndsAt, BelowRoot, EndsBelow, IsFoundAt, IsLeafAt, Keeps, end_of, outcome_at}
+use Rattle.crn_sign.specs.Inner.Walk.{EndsWith, EndsWithout, RunsOut, EndsAt, EndsBelow, IsFoundAt, IsLeafAt, Keeps, end_of, outcome_at}
 
 -- another thing that follows from what is known of an Ok
 pub ok_then : {T E : Type 0} (P Q : T → Type 0) (S : E → Type 0) (r : Result T E) → ((e : T) → P e → Q e) → MatchResult r P S → MatchResult r Q S
