@@ -81,7 +81,7 @@ no_conservation net u short cut (x, law) =
     let vs = vectors net in
     let f : ℕ → ℤ = λ j. dot u (column vs j) in
     let none : dot (listed (length x) f) x ≡ pos 0 =
-    sym (across u x vs) ∙ dot_zero u (dots vs x) (λ k. ap (λ (z : ℤ). entry u k *ℤ z) (laws_none vs x law.kept k) ∙ *ℤ-zero (entry u k)) in
+    sym (across u x vs) ∙ dot_zero u (dots vs x) (λ k. ap (λ (z : ℤ). entry u k *ℤ z) (laws_none vs x law.conserved k) ∙ *ℤ-zero (entry u k)) in
     let s = cut.some.0 in
     elim (lt_or s (length net.names)) [
       | inr past ↦ absurd (cut.some.1 (dot_zero u (column vs s) (λ k. ap (λ (z : ℤ). entry u k *ℤ z) (past_none (length net.names) vs s short past k) ∙ *ℤ-zero (entry u k))))

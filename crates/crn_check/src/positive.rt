@@ -67,7 +67,7 @@ fn is_dependence(net: &Network, numbers: &[i128]) -> bool
     true
 }
 
-// Whether the weights are positive and each reaction keeps the total.
+// Whether the weights are positive and each reaction conserves the total.
 fn is_conservation(net: &Network, weights: &[i128]) -> bool
     requires { AreFree (length net.now.names) weights.now }
     ensures { IsTrue result ↔ IsConservationLaw net.now weights.now }

@@ -16,7 +16,7 @@ use Rattle.crn_vec.specs.Problems.{all_zero, is_zero}
 use Rattle.crn_vec.specs.Concordance.{column_kind, is_minus, is_plus, kind_of_sum, kinds_a_of, kinds_b_of, product, products, row_kinds, some_sign}
 use Rattle.crn_vec.proofs.CallerLemmas.{all_in, at_in, in_push, in_range, lt_or, products_none}
 use Rattle.crn_sign.specs.Settled.{SettlesOnly}
-use Rattle.crn_conc.specs.Inner.Settled.{AreSettled, HasSettled, IsKept}
+use Rattle.crn_conc.specs.Inner.Settled.{AreSettled, HasSettled, LeavesKind}
 use Rattle.crn_conc.specs.declared.settled.Settled.{Settled}
 
 -- ---- one column
@@ -63,18 +63,18 @@ late_kept signs p s e =
     ap (λ (b : Bool). if b then kind_of_sum (some_sign is_plus (products signs q)) (some_sign is_minus (products signs q)) else Free) (ap (λ (n : ℕ). all_zero (drop n signs)) (more_long p s) ∙ e)
     ∙ sym (ap (λ (b : Bool). if b then kind_of_sum (some_sign is_plus (products signs p)) (some_sign is_minus (products signs p)) else Free) (drop_some signs (length p) e))
 
-pub kept_past : (signs : List Sign) (choices : ℕ) → length signs < choices → IsKept signs choices
+pub kept_past : (signs : List Sign) (choices : ℕ) → length signs < choices → LeavesKind signs choices
 kept_past signs choices lt p s e = zero_kept signs p s (get_or_past signs (length p) Zero (omega (arith, lt, e)))
 
-pub kept_first : (signs : List Sign) (choices : ℕ) → choices ≡ 0 → IsKept signs choices
+pub kept_first : (signs : List Sign) (choices : ℕ) → choices ≡ 0 → LeavesKind signs choices
 kept_first signs choices z p s e = absurd (omega (arith, z, e))
 
-pub kept_zero : (signs : List Sign) (choices k : ℕ) → k + 1 ≡ choices → get_or signs k Zero ≡ Zero → IsKept signs choices
+pub kept_zero : (signs : List Sign) (choices k : ℕ) → k + 1 ≡ choices → get_or signs k Zero ≡ Zero → LeavesKind signs choices
 kept_zero signs choices k is z p s e =
     let same : k ≡ length p = omega (arith, is, e) in
     zero_kept signs p s (subst (λ (n : ℕ). get_or signs n Zero ≡ Zero) same z)
 
-pub kept_late : (signs : List Sign) (choices : ℕ) → all_zero (drop choices signs) ≡ false → IsKept signs choices
+pub kept_late : (signs : List Sign) (choices : ℕ) → all_zero (drop choices signs) ≡ false → LeavesKind signs choices
 kept_late signs choices late p s e =
     let same : choices ≡ suc (length p) = omega (arith, e) in
     late_kept signs p s (subst (λ (n : ℕ). all_zero (drop n signs) ≡ false) same late)

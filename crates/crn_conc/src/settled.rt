@@ -1,7 +1,7 @@
 ghost use Rattle.std.specs.Prelude.{◌≡◌, ℕ, false, IfOk, OnOk};
 ghost use Rattle.crn_vec.specs.Lists.{IsIn};
 ghost use Rattle.crn_vec.specs.Problems.{is_zero};
-ghost use Rattle.crn_conc.specs.Inner.Settled.{AreSettled, HasSettled, IsKept};
+ghost use Rattle.crn_conc.specs.Inner.Settled.{AreSettled, HasSettled, LeavesKind};
 
 use crate::influence::Influence;
 use crn_vec::{NoMemory, Sign, is_all_zero};
@@ -26,7 +26,7 @@ fn is_zero_sign(sign: Sign) -> bool
 
 // Whether the last of so many choices is that of the last species with a sign.
 fn is_last(signs: &[Sign], choices: usize) -> bool
-    ensures { result ≡ false → IsKept signs.now choices }
+    ensures { result ≡ false → LeavesKind signs.now choices }
 {
     if choices == 0 {
         return false;
@@ -48,7 +48,7 @@ fn put_settled(
     choices: usize,
     r: usize,
 ) -> Result<(), NoMemory>
-    ensures kept { OnOk result ((IsIn r reactions.new.items → ⊥) → IsKept signs.now choices) }
+    ensures same { OnOk result ((IsIn r reactions.new.items → ⊥) → LeavesKind signs.now choices) }
     ensures more { OnOk result
         ((k : ℕ) → (IsIn k reactions.new.items → ⊥) → IsIn k reactions.old.items → ⊥) }
 {

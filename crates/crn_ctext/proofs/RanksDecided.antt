@@ -114,7 +114,7 @@ no_dependence_decided net u = moved (λ h. record { long = h.0; falls = h.1.0; s
     (all_decided (λ v. dot u v ≤ℤ pos 0) (λ v. int_le_decided (dot u v) (pos 0)) (vectors net)) (some_decided (λ v. dot u v ≤ℤ negsuc 0) (λ v. int_le_decided (dot u v) (negsuc 0)) (vectors net))))
 
 pub law_decided : (net : Net) (x : List ℤ) → IsDecided (IsConservationLaw net x)
-law_decided net x = moved (λ h. record { long = h.0; positive = h.1.0; kept = h.1.1 }) (λ h. (h.long, (h.positive, h.kept))) (both_decided (nat_decided (length x) (length net.names)) (both_decided (positive_decided x)
+law_decided net x = moved (λ h. record { long = h.0; positive = h.1.0; conserved = h.1.1 }) (λ h. (h.long, (h.positive, h.conserved))) (both_decided (nat_decided (length x) (length net.names)) (both_decided (positive_decided x)
     (all_decided (λ v. dot x v ≡ pos 0) (λ v. int_decided (dot x v) (pos 0)) (vectors net))))
 
 -- past all places a combination is not above zero

@@ -44,7 +44,7 @@ pub record IsTaken (w : Signed) (due : List (List Sign)) (said : Said) (after : 
 pub record IsRefused (w : Signed) (due : List (List Sign)) (said : Said) (after : List (List Sign))
     : Type 0 where
   pub fails : Fits w (first due) said → ⊥
-  pub kept : after ≡ due
+  pub same : after ≡ due
 
 -- a node that fits is taken, and completes the tree if nothing is due then; of those that do not
 -- fit, a cut is a bad leaf, and another node is not allowed

@@ -12,7 +12,7 @@ use Rattle.crn_vec.specs.Vectors.{entry, dot, column, AreOfLength}
 use Rattle.crn_vec.specs.Rank.{IsZero, combination_at, IsIndependent}
 use Rattle.crn_vec.specs.Deficiency.{IsDeficiency}
 use Rattle.crn_vec.specs.Confluence.{InConfluenceSpace}
-use Rattle.crn_vec.proofs.CallerLemmas.{all_in, all_from, lt_or, past_end, length-column, dot-comm, dot-zero, dots, comb, transposed, Zero, Related, too_many, unit, gain, gain_kept, gain_made, class_link}
+use Rattle.crn_vec.proofs.CallerLemmas.{all_in, all_from, lt_or, past_end, length-column, dot-comm, dot-zero, dots, comb, transposed, Zero, Related, too_many, unit, gain, gain_same, gain_made, class_link}
 use Rattle.crn_vec.proofs.CallerLemmas.{in_range}
 use Rattle.crn_defi.proofs.Places.{range_distinct, taken, taken_vectors, taken_in}
 use Rattle.crn_defi.proofs.Weights.{unit_here, unit_other, marks, one_marked, AreWithinList, rows, rows_wide, rows_count, rows_weighed, of_label, none_left, zero_both, zero_from}
@@ -149,7 +149,7 @@ few_three net roots rs gs network root from free space apart = elim (lt_or (leng
       let back_zero : Zero back = none_left root.labels roots back back_long root.apart (λ t i.
       let l = get_or root.labels t 0 in
       let m = of_label root.labels l in
-      let kept : gain rs prefix m ≡ pos 0 = gain_kept rs prefix m (λ y z q. ap (unit l) (even y z q)) in
+      let kept : gain rs prefix m ≡ pos 0 = gain_same rs prefix m (λ y z q. ap (unit l) (even y z q)) in
       let gone : dot own (dots gs (weights n m)) ≡ pos 0 = dots_none gs (weights n m) own (λ g q. class_none net roots root g t (space g q) i) in
       omega (arith, ints, none m, kept, gone)) in
       let back_none : (m : ℕ → ℤ) → dot back (map m roots) ≡ pos 0 = λ m. dot-comm back (map m roots) ∙ dot-zero (map m roots) back back_zero in

@@ -12,7 +12,7 @@ use Rattle.crn_vec.specs.Vectors.{entry, dot, column, AreOfLength}
 use Rattle.crn_vec.specs.Rank.{IsZero, combination_at, IsIndependent}
 use Rattle.crn_vec.specs.Deficiency.{IsDeficiency, vectors}
 use Rattle.crn_vec.specs.Confluence.{InConfluenceSpace}
-use Rattle.crn_vec.proofs.CallerLemmas.{in_map, map_in, in_left, in_right, all_in, all_from, eq_or, lt_or, past_end, length-column, vector_long, length-minus, dot-comm, dots, comb, length-comb, entry-comb, transposed, null, unit, gain, gain_kept, gain_made, class_link, leads_keeps}
+use Rattle.crn_vec.proofs.CallerLemmas.{in_map, map_in, in_left, in_right, all_in, all_from, eq_or, lt_or, past_end, length-column, vector_long, length-minus, dot-comm, dots, comb, length-comb, entry-comb, transposed, null, unit, gain, gain_same, gain_made, class_link, leads_keeps}
 use Rattle.crn_vec.proofs.CallerLemmas.{in_range}
 use Rattle.crn_defi.proofs.Places.{range_distinct}
 use Rattle.crn_defi.proofs.Weights.{unit_here, unit_other, marks, step, one_marked, step_marked, rows, rows_wide, rows_count, of_label, zero_from}
@@ -113,7 +113,7 @@ carried_in net roots fs a network root from none =
                   | inl e ↦ inl (root.same y z lt inside e, entry-weights n m z inside ∙ ap (unit l) (sym e) ∙ unit_here l)
                   | inr ne ↦ inr (λ s. ne (root.together y z lt inside s), entry-weights n m z inside ∙ unit_other l (get_or root.labels z 0) ne)
                 ];
-            is = dot-comm (weights n m) g ∙ carried_weighed n fs a m joins ∙ gain_kept fs a m (λ u v i.
+            is = dot-comm (weights n m) g ∙ carried_weighed n fs a m joins ∙ gain_same fs a m (λ u v i.
                 let j = joins (u, v) i in
                 ap (unit l) (root.together u v j.1 j.2 (class_link net.reactions u v (inl (from (u, v) i)))));
           };

@@ -10,7 +10,7 @@ use Rattle.crn_vec.specs.Network.{Net, IsNetwork, JoinsTwo, reaction_vector}
 use Rattle.crn_vec.specs.Walks.{AreApart}
 use Rattle.crn_vec.specs.Vectors.{entry, dot, column, AreOfLength}
 use Rattle.crn_vec.specs.Rank.{IsZero, combination_at, IsIndependent}
-use Rattle.crn_vec.proofs.CallerLemmas.{lt_or, mul-sub, dot-comm, dot-zero, dots, comb, transposed, Zero, Related, too_many, unit, gain, gain_kept, gain_made}
+use Rattle.crn_vec.proofs.CallerLemmas.{lt_or, mul-sub, dot-comm, dot-zero, dots, comb, transposed, Zero, Related, too_many, unit, gain, gain_same, gain_made}
 
 -- ---- marks of a complex among complexes
 
@@ -154,7 +154,7 @@ few_together net labels xs ts rs network d within even inside apart joins free =
       let prefix_long : length prefix ≡ k = omega (arith, long, length-take k c) in
       let back_zero : Zero back = none_left labels ts back back_long apart (λ t i.
       let l = get_or labels t 0 in
-      let kept : gain rs prefix (of_label labels l) ≡ pos 0 = gain_kept rs prefix (of_label labels l) (λ y z i. ap (unit l) (even y z i)) in
+      let kept : gain rs prefix (of_label labels l) ≡ pos 0 = gain_same rs prefix (of_label labels l) (λ y z i. ap (unit l) (even y z i)) in
       omega (arith, ints, none (of_label labels l), kept)) in
       let still : (s : ℕ) → combination_at prefix (map (reaction_vector net) rs) s ≡ pos 0 = λ s.
       let m = entry (column net.complexes s) in

@@ -7,7 +7,7 @@ use Rattle.crn_io.specs.Next.{KeptLines}
 use Rattle.crn_ctext.specs.Course.{Course, Give, Gives, due, ◌>>=◌}
 use Rattle.crn_ctext.specs.Blocks.{asks_lines, ended}
 use Rattle.crn_ctext.specs.Steps.{StepGives}
-use Rattle.crn_document.specs.Inner.Opening.{AreKept, HasLongLine, IsKeptLine, IsLongLine}
+use Rattle.crn_document.specs.Inner.Opening.{AreAdded, HasLongLine, IsAddedLine, IsLongLine}
 use Rattle.crn_document.specs.Inner.Steps.{StepIs}
 use Rattle.crn_document.specs.declared.reading.Reading.{Reading}
 use Rattle.crn_document.specs.declared.fault.CheckStop.{CheckStop}
@@ -24,9 +24,9 @@ first_line P count n same p = rw same p
 
 -- no lines
 pub no_lines : (count : ℕ) (was : Bool) (text : List ℕ) (at : Reading) (seen : SourceSeen) → count ≡ 0
-    → StepIs (asks_lines count) (λ (t : Unit {0}) (ls : List (List ℕ)). AreKept was was text text ls) (Ok tt) at at seen seen
+    → StepIs (asks_lines count) (λ (t : Unit {0}) (ls : List (List ℕ)). AreAdded was was text text ls) (Ok tt) at at seen seen
 unfolding asks_lines
-no_lines count was text at seen none = rw none (step_gives [] (λ (t : Unit {0}) (ls : List (List ℕ)). AreKept was was text text ls) tt at seen (λ e. inl e, λ e. (e, sym (append-nil text))))
+no_lines count was text at seen none = rw none (step_gives [] (λ (t : Unit {0}) (ls : List (List ℕ)). AreAdded was was text text ls) tt at seen (λ e. inl e, λ e. (e, sym (append-nil text))))
 
 -- a line that is due has no LF in it
 pub line_of_due : (line : List ℕ) (n m : ℕ) (old new : KeptLines) (left after : Option (List ℕ)) → StepGives (due false) line n m old new left after → IsLine line
@@ -34,7 +34,7 @@ unfolding Gives
 line_of_due line n m old new left after given = let g = given.gives [] in subst IsLine g.3.0 g.2.whole
 
 -- a line that is kept, and then the others
-kept_then : (was between now : Bool) (a b c line : List ℕ) (ls : List (List ℕ)) → IsLine line → IsKeptLine was between a b line → AreKept between now b c ls → AreKept was now a c (line ∷ ls)
+kept_then : (was between now : Bool) (a b c line : List ℕ) (ls : List (List ℕ)) → IsLine line → IsAddedLine was between a b line → AreAdded between now b c ls → AreAdded was now a c (line ∷ ls)
 kept_then was between now a b c line ls is kept more = (
   λ e. elim (more.0 e) as (λ _. (was ≡ true) ⊎ (IsLongLine line ⊎ HasLongLine ls)) [
     | inl before ↦ elim (kept.0 before) as (λ _. (was ≡ true) ⊎ (IsLongLine line ⊎ HasLongLine ls)) [ inl first ↦ inl first | inr long ↦ inr (inl (is, long)) ]
@@ -50,12 +50,12 @@ kept_then was between now a b c line ls is kept more = (
 
 -- one line, and then the others
 pub lines_then : (count n : ℕ) (was between now : Bool) (line a b c : List ℕ) (result : Result (Unit {0}) CheckStop) (old mid new : Reading) (before middle after : SourceSeen)
-    → count ≡ suc n → IsKeptLine was between a b line
+    → count ≡ suc n → IsAddedLine was between a b line
     → StepGives (due false) line old.line mid.line old.lines mid.lines before.left middle.left → middle.faults ≡ before.faults
-    → StepIs (asks_lines n) (λ (t : Unit {0}) (ls : List (List ℕ)). AreKept between now b c ls) result mid new middle after
-    → StepIs (asks_lines count) (λ (t : Unit {0}) (ls : List (List ℕ)). AreKept was now a c ls) result old new before after
+    → StepIs (asks_lines n) (λ (t : Unit {0}) (ls : List (List ℕ)). AreAdded between now b c ls) result mid new middle after
+    → StepIs (asks_lines count) (λ (t : Unit {0}) (ls : List (List ℕ)). AreAdded was now a c ls) result old new before after
 lines_then count n was between now line a b c result old mid new before middle after same kept given quiet rest =
-    first_line (λ d. StepIs d (λ (t : Unit {0}) (ls : List (List ℕ)). AreKept was now a c ls) result old new before after) count n same
-    (step_then_is (due false) (lines_after n) line (λ (t : Unit {0}) (ls : List (List ℕ)). AreKept was now a c ls) result old mid new before middle after given quiet
-    (step_map (asks_lines n) (λ (ls : List (List ℕ)). line ∷ ls) (λ (t : Unit {0}) (ls : List (List ℕ)). AreKept between now b c ls) (λ (t : Unit {0}) (ls : List (List ℕ)). AreKept was now a c ls) result mid new middle after
+    first_line (λ d. StepIs d (λ (t : Unit {0}) (ls : List (List ℕ)). AreAdded was now a c ls) result old new before after) count n same
+    (step_then_is (due false) (lines_after n) line (λ (t : Unit {0}) (ls : List (List ℕ)). AreAdded was now a c ls) result old mid new before middle after given quiet
+    (step_map (asks_lines n) (λ (ls : List (List ℕ)). line ∷ ls) (λ (t : Unit {0}) (ls : List (List ℕ)). AreAdded between now b c ls) (λ (t : Unit {0}) (ls : List (List ℕ)). AreAdded was now a c ls) result mid new middle after
     (λ t ls is. kept_then was between now a b c line ls (line_of_due line old.line mid.line old.lines mid.lines before.left middle.left given) kept is) rest))

@@ -4,7 +4,7 @@ ghost use Rattle.crn_vec.specs.declared.limits.TheConstants.{MAX_REACTIONS};
 ghost use Rattle.crn_io.specs.declared.lines.TheConstants.{MAX_NUMBERS};
 ghost use Rattle.crn_ctext.specs.Blocks.{asks_lines, ended, network_line};
 ghost use Rattle.crn_document.specs.Inner.Steps.{CanRead, GoesOn, StepIs};
-ghost use Rattle.crn_document.specs.Inner.Opening.{AreKept, IsKeptLine, IsVersionOf, IsCountOf, title_course, count_course, network_course};
+ghost use Rattle.crn_document.specs.Inner.Opening.{AreAdded, IsAddedLine, IsVersionOf, IsCountOf, title_course, count_course, network_course};
 
 use crate::fault::CheckStop;
 use crate::network::network_of;
@@ -111,7 +111,7 @@ const NETWORK_LINE: usize = 4_446;
 // Adds a line with its LF, or notes that no canonical text has it because it is too long.
 fn keep_line(text: &mut Vec<u8>, line: &[u8], long: &mut bool) -> Result<(), NoMemory>
     ensures { OnOk result
-        (IsKeptLine long.old long.new text.old.items text.new.items line.now) }
+        (IsAddedLine long.old long.new text.old.items text.new.items line.now) }
 {
     if line.len() > NETWORK_LINE {
         *long = true;
@@ -131,7 +131,7 @@ fn next_lines<S: Source>(
 ) -> Result<(), CheckStop>
     requires goes { GoesOn at.old }
     ensures step { StepIs (asks_lines count)
-        (λ _ lines. AreKept long.old long.new text.old.items text.new.items lines)
+        (λ _ lines. AreAdded long.old long.new text.old.items text.new.items lines)
         result at.old at.new (S.seen source.old) (S.seen source.new) }
     ensures goes { OnOk result (GoesOn at.new) }
     ensures line { OnOk result (at.new.line ≡ at.old.line + count) }

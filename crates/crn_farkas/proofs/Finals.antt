@@ -59,19 +59,19 @@ solution_from a kinds v x long few p e = record {
 
 -- ---- the order of settling
 
-pub record LevelKept (olds xs : List ℕ) (kinds : List Kind) (early : Bool) (c : ℕ) : Type 0 where
+pub record LevelUpTo (olds xs : List ℕ) (kinds : List Kind) (early : Bool) (c : ℕ) : Type 0 where
   pub kept : (k : ℕ) → IsIn k olds → IsIn k xs
   pub added : (k : ℕ) → k < c → is_early_kind (kind_at kinds k) ≡ early → IsIn k xs
   pub below : (k : ℕ) → IsIn k xs → IsIn k olds ⊎ (k < length kinds)
 
-pub level_pushed : (olds xs ys : List ℕ) (kinds : List Kind) (early : Bool) (c : ℕ) → LevelKept olds xs kinds early c → c < length kinds → ys ≡ xs ++ c ∷ [] → LevelKept olds ys kinds early (c + 1)
-level_pushed olds xs ys kinds early c l lt e = subst (λ (zs : List ℕ). LevelKept olds zs kinds early (c + 1)) (sym e) (record {
+pub level_pushed : (olds xs ys : List ℕ) (kinds : List Kind) (early : Bool) (c : ℕ) → LevelUpTo olds xs kinds early c → c < length kinds → ys ≡ xs ++ c ∷ [] → LevelUpTo olds ys kinds early (c + 1)
+level_pushed olds xs ys kinds early c l lt e = subst (λ (zs : List ℕ). LevelUpTo olds zs kinds early (c + 1)) (sym e) (record {
   kept = λ k i. push_in xs c k (l.kept k i);
   added = λ k k_lt s. elim (eq_or k c) as (λ _. IsIn k (xs ++ c ∷ [])) [ inl f ↦ push_last xs c k f | inr ne ↦ push_in xs c k (l.added k (omega (arith, k_lt, ne)) s) ];
   below = λ k i. elim (in_push xs c k i) as (λ _. IsIn k olds ⊎ (k < length kinds)) [ inl h ↦ l.below k h | inr f ↦ inr (omega (arith, f, lt)) ];
 })
 
-pub level_passed : (olds xs : List ℕ) (kinds : List Kind) (early : Bool) (c : ℕ) → LevelKept olds xs kinds early c → ¬ (is_early_kind (kind_at kinds c) ≡ early) → LevelKept olds xs kinds early (c + 1)
+pub level_passed : (olds xs : List ℕ) (kinds : List Kind) (early : Bool) (c : ℕ) → LevelUpTo olds xs kinds early c → ¬ (is_early_kind (kind_at kinds c) ≡ early) → LevelUpTo olds xs kinds early (c + 1)
 level_passed olds xs kinds early c l out = record {
   kept = l.kept;
   added = λ k k_lt s. elim (eq_or k c) as (λ _. IsIn k xs) [

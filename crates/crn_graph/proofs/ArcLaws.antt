@@ -21,8 +21,8 @@ at_new arcs x = get_or_push arcs x no_arc (length arcs) refl
 long : (arcs : List Arc) (x : Arc) → length (arcs ++ x ∷ []) ≡ length arcs + 1
 long arcs x = length-append arcs (x ∷ [])
 
-pub arc_kept : (arcs : List Arc) (x : Arc) (r y z : ℕ) → HasArc arcs r y z → HasArc (arcs ++ x ∷ []) r y z
-arc_kept arcs x r y z h =
+pub arc_same : (arcs : List Arc) (x : Arc) (r y z : ℕ) → HasArc arcs r y z → HasArc (arcs ++ x ∷ []) r y z
+arc_same arcs x r y z h =
     let e = at_old arcs x h.place h.inside in
     record {
       place = h.place;
@@ -59,21 +59,21 @@ has_at arcs r r' y y' z z' p q s h = record { place = h.place; inside = h.inside
 
 pub adds_along : (a b reaction : ℕ) (old : List Arc) (x : Arc) → x.from ≡ a → x.to ≡ b → x.reaction ≡ reaction → Adds Along a b reaction old (old ++ x ∷ [])
 adds_along a b reaction old x f t r = record {
-  kept = arc_kept old x;
+  same = arc_same old x;
   made = λ y z h. has_at (old ++ x ∷ []) x.reaction reaction x.from y x.to z r (f ∙ sym h.0) (t ∙ sym h.1) (arc_made old x);
   only = λ q y z h. elim (arc_only old x q y z h) [ inl g ↦ inl g | inr g ↦ inr (sym g.0 ∙ r, (sym g.1 ∙ f, sym g.2 ∙ t)) ];
 }
 
 pub adds_against : (a b reaction : ℕ) (old : List Arc) (x : Arc) → x.from ≡ b → x.to ≡ a → x.reaction ≡ reaction → Adds Against a b reaction old (old ++ x ∷ [])
 adds_against a b reaction old x f t r = record {
-  kept = arc_kept old x;
+  same = arc_same old x;
   made = λ y z h. has_at (old ++ x ∷ []) x.reaction reaction x.from y x.to z r (f ∙ sym h.0) (t ∙ sym h.1) (arc_made old x);
   only = λ q y z h. elim (arc_only old x q y z h) [ inl g ↦ inl g | inr g ↦ inr (sym g.0 ∙ r, (sym g.1 ∙ f, sym g.2 ∙ t)) ];
 }
 
 -- both arcs, as a reaction allows them in both directions
 record AddsBoth (a b reaction : ℕ) (old new : List Arc) : Type 0 where
-  kept : (r y z : ℕ) → HasArc old r y z → HasArc new r y z
+  same : (r y z : ℕ) → HasArc old r y z → HasArc new r y z
   made : (y z : ℕ) → IsBetween a b y z → HasArc new reaction y z
   only : (r y z : ℕ) → HasArc new r y z → HasArc old r y z ⊎ ((r ≡ reaction) × IsBetween a b y z)
 
@@ -82,9 +82,9 @@ adds_both a b reaction old x x' f t r f' t' r' =
     let mid = old ++ x ∷ [] in
     let new = mid ++ x' ∷ [] in
     record {
-      kept = λ q y z h. arc_kept mid x' q y z (arc_kept old x q y z h);
+      same = λ q y z h. arc_same mid x' q y z (arc_same old x q y z h);
       made = λ y z h. elim h [
-        | inl g ↦ arc_kept mid x' reaction y z (has_at mid x.reaction reaction x.from y x.to z r (f ∙ sym g.0) (t ∙ sym g.1) (arc_made old x))
+        | inl g ↦ arc_same mid x' reaction y z (has_at mid x.reaction reaction x.from y x.to z r (f ∙ sym g.0) (t ∙ sym g.1) (arc_made old x))
         | inr g ↦ has_at new x'.reaction reaction x'.from y x'.to z r' (f' ∙ sym g.0) (t' ∙ sym g.1) (arc_made mid x')
       ];
       only = λ q y z h. elim (arc_only mid x' q y z h) [
@@ -96,20 +96,20 @@ adds_both a b reaction old x x' f t r f' t' r' =
 pub adds_links : (a b reaction : ℕ) (old : List Arc) (x x' : Arc) → x.from ≡ a → x.to ≡ b → x.reaction ≡ reaction → x'.from ≡ b → x'.to ≡ a → x'.reaction ≡ reaction → Adds Links a b reaction old ((old ++ x ∷ []) ++ x' ∷ [])
 adds_links a b reaction old x x' f t r f' t' r' =
     let both = adds_both a b reaction old x x' f t r f' t' r' in
-    record { kept = both.kept; made = both.made; only = both.only }
+    record { same = both.same; made = both.made; only = both.only }
 
 pub adds_round : (c d a b reaction : ℕ) (old : List Arc) (x x' : Arc) → (IsBetween c d a b → ⊥) → x.from ≡ a → x.to ≡ b → x.reaction ≡ reaction → x'.from ≡ b → x'.to ≡ a → x'.reaction ≡ reaction → Adds (Round c d) a b reaction old ((old ++ x ∷ []) ++ x' ∷ [])
 adds_round c d a b reaction old x x' free f t r f' t' r' =
     let both = adds_both a b reaction old x x' f t r f' t' r' in
     record {
-      kept = both.kept;
+      same = both.same;
       made = λ y z h. both.made y z h.0;
       only = λ q y z h. elim (both.only q y z h) [ inl g ↦ inl g | inr g ↦ inr (g.0, (g.1, free)) ];
     }
 
 pub adds_none : (c d a b reaction : ℕ) (old : List Arc) → IsBetween c d a b → Adds (Round c d) a b reaction old old
 adds_none c d a b reaction old between = record {
-  kept = λ q y z h. h;
+  same = λ q y z h. h;
   made = λ y z h. absurd (h.1 between);
   only = λ q y z h. inl h;
 }
@@ -136,7 +136,7 @@ arcs_more net way count a b old new lt ea eb h adds =
         | inr g ↦ record { a = a; b = b; is = subst (λ (k : ℕ). IsReactionNumber net k a b) (sym g.0) is; allows = g.1 }
       ];
       whole = λ q y z le g. elim (cases_eq q (count + 1)) [
-        | inr ne ↦ adds.kept q y z (h.whole q y z (omega arith) g)
+        | inr ne ↦ adds.same q y z (h.whole q y z (omega arith) g)
         | inl f ↦
             let place : q - 1 ≡ count = omega (arith, f) in
             let ga : g.a ≡ a = ap (λ (r : ℕ × ℕ). r.0) (sym g.is.1.1 ∙ ap at place) ∙ sym ea in

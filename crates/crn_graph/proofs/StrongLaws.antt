@@ -12,7 +12,7 @@ use Rattle.crn_graph.specs.Inner.Search.{Steps}
 use Rattle.crn_graph.specs.Inner.Linkage.{IsReturning}
 use Rattle.crn_graph.specs.Inner.Strong.{AreStrong}
 use Rattle.crn_graph.specs.Inner.Ranks.{AreRanks}
-use Rattle.crn_graph.proofs.ArcLaws.{arc_kept, arc_made, arc_only}
+use Rattle.crn_graph.proofs.ArcLaws.{arc_same, arc_made, arc_only}
 
 -- ---- arcs of equal rank, one arc after another
 
@@ -47,7 +47,7 @@ equal_more ranks arcs count equal x h lt is e = record {
   ];
   whole = λ p lp f. elim (cases_eq p count) [
     | inl q ↦ subst (λ (v : Arc). HasArc (equal ++ x ∷ []) v.reaction v.from v.to) (is ∙ ap (arc_at arcs) (sym q)) (arc_made equal x)
-    | inr other ↦ arc_kept equal x (arc_at arcs p).reaction (arc_at arcs p).from (arc_at arcs p).to (h.whole p (omega (arith, lp, other)) f)
+    | inr other ↦ arc_same equal x (arc_at arcs p).reaction (arc_at arcs p).from (arc_at arcs p).to (h.whole p (omega (arith, lp, other)) f)
   ];
 }
 

@@ -27,13 +27,13 @@ ascending_pushed xs c below h i j lt j_lt = elim (lt_or j (length xs)) [
 ]
 
 -- the list holds those of the first c places where the row is not 0, and such places of the row alone, ascending
-pub record PlacesKept (row : List ℤ) (places : List ℕ) (c : ℕ) : Type 0 where
+pub record PlacesUpTo (row : List ℤ) (places : List ℕ) (c : ℕ) : Type 0 where
   pub ascending : (i j : ℕ) → i < j → j < length places → slice_index places i < slice_index places j
   pub below : (k : ℕ) → IsIn k places → k < c
   pub inside : (k : ℕ) → IsIn k places → k < length row
   pub all : (k : ℕ) → k < c → entry row k ≢ pos 0 → IsIn k places
 
-pub places_none : (row : List ℤ) (places : List ℕ) → places ≡ [] → PlacesKept row places 0
+pub places_none : (row : List ℤ) (places : List ℕ) → places ≡ [] → PlacesUpTo row places 0
 places_none row places e = record {
   ascending = λ i j lt j_lt. absurd (omega (arith, j_lt, ap length e));
   below = λ k i. absurd (subst (λ (l : List ℕ). IsIn k l) e i);
@@ -41,15 +41,15 @@ places_none row places e = record {
   all = λ k lt some. absurd (omega (arith, lt));
 }
 
-pub place_pushed : (row : List ℤ) (xs ys : List ℕ) (c : ℕ) → PlacesKept row xs c → c < length row → ys ≡ xs ++ c ∷ [] → PlacesKept row ys (c + 1)
-place_pushed row xs ys c h lt e = subst (λ (zs : List ℕ). PlacesKept row zs (c + 1)) (sym e) (record {
+pub place_pushed : (row : List ℤ) (xs ys : List ℕ) (c : ℕ) → PlacesUpTo row xs c → c < length row → ys ≡ xs ++ c ∷ [] → PlacesUpTo row ys (c + 1)
+place_pushed row xs ys c h lt e = subst (λ (zs : List ℕ). PlacesUpTo row zs (c + 1)) (sym e) (record {
   ascending = ascending_pushed xs c h.below h.ascending;
   below = λ k i. elim (in_push xs c k i) as (λ _. k < c + 1) [ inl j ↦ omega (arith, h.below k j) | inr f ↦ omega (arith, f) ];
   inside = λ k i. elim (in_push xs c k i) as (λ _. k < length row) [ inl j ↦ h.inside k j | inr f ↦ omega (arith, f, lt) ];
   all = λ k k_lt some. elim (eq_or k c) as (λ _. IsIn k (xs ++ c ∷ [])) [ inl f ↦ push_last xs c k f | inr ne ↦ push_in xs c k (h.all k (omega (arith, k_lt, ne)) some) ];
 })
 
-pub place_passed : (row : List ℤ) (xs : List ℕ) (c : ℕ) → PlacesKept row xs c → entry row c ≡ pos 0 → PlacesKept row xs (c + 1)
+pub place_passed : (row : List ℤ) (xs : List ℕ) (c : ℕ) → PlacesUpTo row xs c → entry row c ≡ pos 0 → PlacesUpTo row xs (c + 1)
 place_passed row xs c h none = record {
   ascending = h.ascending;
   below = λ k i. omega (arith, h.below k i);

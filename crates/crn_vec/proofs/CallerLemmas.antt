@@ -67,7 +67,7 @@ pub use Rattle.crn_vec.proofs.Reached.{terminal_by_reactions}
 -- Marks of sides, and cut pairs.
 pub use Rattle.crn_vec.proofs.SideLaws.{is_between, marking_is_cut, marks_are_sides, free_back, along_map, cut_back}
 -- Unit vectors, and what walks gain of a vector over the complexes.
-pub use Rattle.crn_vec.proofs.Flows.{unit, dot_unit, gain, flow, flow_sum, gain_kept, gain_raised, none_gained}
+pub use Rattle.crn_vec.proofs.Flows.{unit, dot_unit, gain, flow, flow_sum, gain_same, gain_raised, none_gained}
 -- Sums over the complexes with a property, and over the complexes of a label.
 pub use Rattle.crn_vec.proofs.SumLaws.{sum_by, sums_for, sums_one, sum_scaled, dot_ratio}
 pub use Rattle.crn_vec.proofs.LabelMarks.{label_sum, label_sum_is, length-label_marks, label_mark}

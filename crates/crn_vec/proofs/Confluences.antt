@@ -19,7 +19,7 @@ use Rattle.crn_vec.proofs.KindLaws.{up_up}
 use Rattle.crn_vec.proofs.Orthogonal.{length-listed}
 use Rattle.crn_vec.proofs.Sums.{dot-comm, dot-scale, dot_zero, entry-scale, length-scale}
 use Rattle.crn_vec.proofs.WalkLaws.{class_then, class_back, class_link, strong_then, strong_back, strong_here, strong_class, leads_keeps, reaches_then, reaches_step, weakly_reversible_by_reactions}
-use Rattle.crn_vec.proofs.Flows.{gain, unit, flow, flow_sum, gain_kept, gain_raised, none_gained}
+use Rattle.crn_vec.proofs.Flows.{gain, unit, flow, flow_sum, gain_same, gain_raised, none_gained}
 use Rattle.crn_vec.proofs.Reached.{inside_at, terminal_marks}
 use Rattle.crn_vec.proofs.SumLaws.{sums_one, sums_for, sum_by, sum_scaled, dot_ratio}
 use Rattle.crn_vec.proofs.Carried.{length-column, gain_made}
@@ -34,9 +34,9 @@ mark_says : (P : ℕ → Type 0) (m : List ℤ) → AreMarks P m → (y : ℕ) �
 mark_says P m r y l e = elim (r y l) [ inl h ↦ h.0 | inr h ↦ absurd (omega (arith, ints, h.1, e)) ]
 
 -- marks of a property that goes along reactions both ways are kept
-class_kept : (n : ℕ) (rs : List (ℕ × ℕ)) (P : ℕ → Type 0) (m : List ℤ) → AllByRecursion (JoinsTwo n) rs → length m ≡ n → AreMarks P m
+class_same : (n : ℕ) (rs : List (ℕ × ℕ)) (P : ℕ → Type 0) (m : List ℤ) → AllByRecursion (JoinsTwo n) rs → length m ≡ n → AreMarks P m
     → ((y z : ℕ) → IsIn (y, z) rs → P y → P z) → ((y z : ℕ) → IsIn (y, z) rs → P z → P y) → (y z : ℕ) → IsIn (y, z) rs → entry m y ≡ entry m z
-class_kept n rs P m inside l r on back y z i =
+class_same n rs P m inside l r on back y z i =
     let at = inside_at n rs inside y z i in
     elim (r y (omega (arith, at.0, l))) [
       | inl p ↦ p.1 ∙ sym (mark_is P m r z (omega (arith, at.1, l)) (on y z i p.0))
@@ -108,10 +108,10 @@ carried_classes net s y lt =
     let over = s.line.some.1.classes y lt in
     let m = over.marks in
     let long : length m ≡ length net.complexes = over.long ∙ s.line.some.1.long in
-    let kept = class_kept (length net.complexes) rs (SameClass rs y) m (inside net s) long over.right
+    let same = class_same (length net.complexes) rs (SameClass rs y) m (inside net s) long over.right
     (λ v w i p. class_then rs y v w p (class_link rs v w (inl i)))
     (λ v w i p. class_then rs y w v p (class_link rs w v (inr i))) in
-    subst (λ (x : ℤ). SumsTo (carried net s) (SameClass rs y) x) (gain_kept rs s.bs (entry m) kept) (carried_over net s (SameClass rs y) m long over.right)
+    subst (λ (x : ℤ). SumsTo (carried net s) (SameClass rs y) x) (gain_same rs s.bs (entry m) same) (carried_over net s (SameClass rs y) m long over.right)
 
 carried_space : (net : Net) (s : Setting net) → InConfluenceSpace net (carried net s)
 carried_space net s = record { long = carried_long net s; balance = carried_balance net s; classes = carried_classes net s }

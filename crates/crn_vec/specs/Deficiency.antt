@@ -32,13 +32,13 @@ pub record IsPositiveDependence (net : Net) (a : List ℤ) : Type 0 where
 abbrev pub IsPositivelyDependent : Net → Type 0
 IsPositivelyDependent net = (a : List ℤ) × IsPositiveDependence net a
 
--- a positive weight for each species, such that every reaction keeps the total weight
+-- a positive weight for each species, such that every reaction conserves the total weight
 pub record IsConservationLaw (net : Net) (x : List ℤ) : Type 0 where
   pub long : length x ≡ length net.names
   pub positive : IsPositive x
-  pub kept : AllByRecursion (λ v. dot x v ≡ pos 0) (vectors net)
+  pub conserved : AllByRecursion (λ v. dot x v ≡ pos 0) (vectors net)
 
--- every reaction keeps some total of positive weights
+-- every reaction conserves some total of positive weights
 abbrev pub IsConservative : Net → Type 0
 IsConservative net = (x : List ℤ) × IsConservationLaw net x
 

@@ -52,11 +52,11 @@ HasLongLine (line ∷ lines) = IsLongLine line ⊎ HasLongLine lines
 
 -- a line is added to a text, unless it or a line before it is too long, as marks before and after it
 -- say
-abbrev pub IsKeptLine : Bool → Bool → List ℕ → List ℕ → List ℕ → Type 0
-IsKeptLine was now old new line = (now ≡ true → (was ≡ true) ⊎ (NETWORK_LINE < length line))
+abbrev pub IsAddedLine : Bool → Bool → List ℕ → List ℕ → List ℕ → Type 0
+IsAddedLine was now old new line = (now ≡ true → (was ≡ true) ⊎ (NETWORK_LINE < length line))
     × (now ≡ false → (was ≡ false) × (new ≡ old ++ line ++ 10 ∷ []))
 
 -- lines are added to a text, unless one of them or a line before them is too long, as these marks say
-abbrev pub AreKept : Bool → Bool → List ℕ → List ℕ → List (List ℕ) → Type 0
-AreKept was now old new lines = (now ≡ true → (was ≡ true) ⊎ HasLongLine lines)
+abbrev pub AreAdded : Bool → Bool → List ℕ → List ℕ → List (List ℕ) → Type 0
+AreAdded was now old new lines = (now ≡ true → (was ≡ true) ⊎ HasLongLine lines)
     × (now ≡ false → (was ≡ false) × (new ≡ old ++ ended lines))

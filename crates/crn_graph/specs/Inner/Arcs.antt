@@ -41,7 +41,7 @@ pub record HasArc (arcs : List Arc) (r y z : ℕ) : Type 0 where
 
 -- the new list has the arcs of the old one, and those of a reaction from a to b
 pub record Adds (way : Way) (a b reaction : ℕ) (old new : List Arc) : Type 0 where
-  pub kept : (r y z : ℕ) → HasArc old r y z → HasArc new r y z
+  pub same : (r y z : ℕ) → HasArc old r y z → HasArc new r y z
   pub made : (y z : ℕ) → Allows way a b y z → HasArc new reaction y z
   pub only : (r y z : ℕ) → HasArc new r y z → HasArc old r y z ⊎ ((r ≡ reaction) × Allows way a b y z)
 

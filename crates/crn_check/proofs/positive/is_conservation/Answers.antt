@@ -9,7 +9,7 @@ use Rattle.crn_check.proofs.positive.is_conservation.Goals as goal
 pub returns-then-weight_change-ne0 : goal.returns-then-weight_change-ne0
 returns-then-weight_change-ne0 c =
     let net = c.args.net.now in
-    refused (λ h. c.if-weight_change-ne0.true (ap (of_z w128) (c.weight_change.ensures ∙ each_reaction net (λ v. dot c.args.weights.now v ≡ pos 0) h.kept c.loop-r.r (omega arith))))
+    refused (λ h. c.if-weight_change-ne0.true (ap (of_z w128) (c.weight_change.ensures ∙ each_reaction net (λ v. dot c.args.weights.now v ≡ pos 0) h.conserved c.loop-r.r (omega arith))))
 
 pub returns : goal.returns
 returns c =
@@ -17,5 +17,5 @@ returns c =
     granted (record {
       long = c.requires.long;
       positive = c.are_positive.ensures.0 c.if-not-are_positive.false;
-      kept = all_reactions net (λ v. dot c.args.weights.now v ≡ pos 0) (λ r lt. c.loop-r.invariant r (omega (arith, lt)));
+      conserved = all_reactions net (λ v. dot c.args.weights.now v ≡ pos 0) (λ r lt. c.loop-r.invariant r (omega (arith, lt)));
     })

@@ -1,7 +1,7 @@
 use Rattle.std.proofs.Common.{◌-◌, ◌∙◌, ℕ, List, sym, subst, arith, false}
 use Rattle.std.proofs.lemmas.Result.{err_from_is_err_and}
 use Rattle.crn_ctext.specs.Course.{due}
-use Rattle.crn_document.specs.Inner.Opening.{IsKeptLine}
+use Rattle.crn_document.specs.Inner.Opening.{IsAddedLine}
 use Rattle.crn_document.specs.Inner.Steps.{StopIs}
 use Rattle.crn_document.specs.declared.fault.CheckStop.TheVariants as stop
 use Rattle.crn_document.proofs.Steps.{stop_first, step_exits}
@@ -28,6 +28,6 @@ returns-in_err-keep_line-clause-step g t c =
 pub returns-clause-step : goal.returns-clause-step
 returns-clause-step g t c =
     let s = c.in_ok-next_line.ensures.step in
-    let kept : IsKeptLine c.args.long.now c.keep_line.new.long c.args.text.now.items c.keep_line.new.text.items s.0 =
-    subst (λ (l : List ℕ). IsKeptLine c.args.long.now c.keep_line.new.long c.args.text.now.items c.keep_line.new.text.items l) (c.line.ensures ∙ sym s.1) c.in_ok-keep_line.ensures in
+    let kept : IsAddedLine c.args.long.now c.keep_line.new.long c.args.text.now.items c.keep_line.new.text.items s.0 =
+    subst (λ (l : List ℕ). IsAddedLine c.args.long.now c.keep_line.new.long c.args.text.now.items c.keep_line.new.text.items l) (c.line.ensures ∙ sym s.1) c.in_ok-keep_line.ensures in
     lines_then c.args.count (c.args.count - 1) c.args.long.now c.keep_line.new.long c.next_lines.new.long s.0 c.args.text.now.items c.keep_line.new.text.items c.next_lines.new.text.items c.next_lines.result c.args.at.now c.next_line.new.at c.next_lines.new.at _ _ _ (omega (arith, c.if-count-eq0.false)) kept s.2 s.3 c.next_lines.ensures.step

@@ -4,13 +4,13 @@ use Rattle.crn_vec.specs.declared.signs.Kind.TheVariants.{Pos, Free}
 use Rattle.crn_vec.specs.Systems.{kind_at}
 use Rattle.crn_vec.proofs.CallerLemmas.{any_default}
 use Rattle.crn_farkas.specs.Inner.Views.{is_early_kind}
-use Rattle.crn_farkas.proofs.Finals.{LevelKept, level_pushed, level_passed, level_is, level_not, level_step, level_prefix}
+use Rattle.crn_farkas.proofs.Finals.{LevelUpTo, level_pushed, level_passed, level_is, level_not, level_step, level_prefix}
 use Rattle.crn_farkas.proofs.level.push_level.Goals as goal
 use Rattle.crn_farkas.proofs.level.push_level.Goals.{then-is_level, else-is_level}
 
 pub loop-c-init : goal.loop-c-init
 loop-c-init c = record {
-  kept = record { kept = λ k i. i; added = λ k lt s. absurd (omega (arith, lt)); below = λ k i. inl i };
+  so_far = record { kept = λ k i. i; added = λ k lt s. absurd (omega (arith, lt)); below = λ k i. inl i };
   count = omega arith;
   room = refl;
 }
@@ -38,7 +38,7 @@ loop-c-preserved c =
           let same = ap vec_len w.order-is in
           let room = ap vec_capacity w.order-is in
           record {
-            kept = level_pushed c.args.order.now.items c.loop-c.order.items c.if-is_level.order.items kinds early k c.loop-c.invariant.kept lt
+            so_far = level_pushed c.args.order.now.items c.loop-c.order.items c.if-is_level.order.items kinds early k c.loop-c.invariant.so_far lt
                 (ap (λ (v : Vec ℕ Global). v.items) w.order-is ∙ w.push_reserved.ensures.items);
             count = omega (arith, same, w.push_reserved.ensures.len, c.loop-c.invariant.count, here, step);
             room = room ∙ w.push_reserved.ensures.capacity ∙ c.loop-c.invariant.room;
@@ -48,7 +48,7 @@ loop-c-preserved c =
           let here = level_not early (is_early_kind (kind_at kinds k)) not in
           let same = ap vec_len w.order-is in
           record {
-            kept = subst (λ (v : Vec ℕ Global). LevelKept c.args.order.now.items v.items kinds early (k + 1)) (sym w.order-is) (level_passed c.args.order.now.items c.loop-c.order.items kinds early k c.loop-c.invariant.kept not);
+            so_far = subst (λ (v : Vec ℕ Global). LevelUpTo c.args.order.now.items v.items kinds early (k + 1)) (sym w.order-is) (level_passed c.args.order.now.items c.loop-c.order.items kinds early k c.loop-c.invariant.so_far not);
             count = omega (arith, same, c.loop-c.invariant.count, here, step);
             room = ap vec_capacity w.order-is ∙ c.loop-c.invariant.room;
           }

@@ -4,6 +4,6 @@ use Rattle.crn_tab.proofs.combine.keep.Goals as goal
 
 pub returns : goal.returns
 returns c = (
-  same_rows c.loop-j.row c.args.work.now (omega arith) (λ k lt. c.loop-j.invariant.kept k (omega arith)),
+  same_rows c.loop-j.row c.args.work.now (omega arith) (λ k lt. c.loop-j.invariant.so_far k (omega arith)),
   small_everywhere c.args.work.now (λ k lt. c.loop-j.invariant.small k (omega arith)),
 )

@@ -19,9 +19,9 @@ loop-j-preserved c =
     let value : x ≡ (c.args.p.now *ℤ entry c.args.row.now j) -ℤ (c.args.q.now *ℤ entry c.args.lead.now j) =
     narrowed c.cross-x.result small ∙ c.cross-x.ensures.value ∙ ap (λ (y : ℤ). (c.args.p.now *ℤ y) -ℤ (c.args.q.now *ℤ entry c.args.lead.now j)) (c.loop-j.invariant.left j (omega arith)) in
     record {
-      kept = λ k lt. elim (look row j k x inside) [
+      so_far = λ k lt. elim (look row j k x inside) [
         | inl r ↦ r.1 ∙ value ∙ ap (λ i. (c.args.p.now *ℤ entry c.args.row.now i) -ℤ (c.args.q.now *ℤ entry c.args.lead.now i)) (sym r.0)
-        | inr r ↦ r.1 ∙ c.loop-j.invariant.kept k (omega (arith, r.0, lt))
+        | inr r ↦ r.1 ∙ c.loop-j.invariant.so_far k (omega (arith, r.0, lt))
       ];
       small = λ k lt. elim (look row j k x inside) [
         | inl r ↦ omega (arith, small, ap unsigned_abs (r.1 ∙ narrowed c.cross-x.result small))
@@ -60,7 +60,7 @@ returns c =
     let count : length c.loop-j.row ≡ length row = omega (arith, c.loop-j.auto.row) in
     let value : (k : ℕ) → k < length row → entry z k ≡ (p *ℤ entry row k) -ℤ (q *ℤ entry lead k) = λ k lt. entry-differences p q row lead k c.requires.lead_count in
     let same : c.loop-j.row ≡ z = same_rows c.loop-j.row z (omega (arith, count, long))
-    (λ k lt. c.loop-j.invariant.kept k (omega (arith, lt, count)) ∙ sym (value k (omega (arith, lt, count)))) in (
+    (λ k lt. c.loop-j.invariant.so_far k (omega (arith, lt, count)) ∙ sym (value k (omega (arith, lt, count)))) in (
       z,
       long,
       value,
