@@ -399,7 +399,7 @@ valid_7 : IsValid net e7 Q7 a7
 valid_7 = (record { long = refl; positive = (omega (arith, ints), (omega (arith, ints), tt)); zero_sum = zero_sum }, tt)
 
 valid_8 : IsValid net e8 Q8 a8
-valid_8 = (record { long = refl; positive = (omega (arith, ints), (omega (arith, ints), tt)); kept = (refl, (refl, tt)) }, tt)
+valid_8 = (record { long = refl; positive = (omega (arith, ints), (omega (arith, ints), tt)); conserved = (refl, (refl, tt)) }, tt)
 
 valid_9 : IsValid net e9 Q9 a9
 valid_9 = (refl, ((refl, (λ t. tt, λ y. refl)), tt))

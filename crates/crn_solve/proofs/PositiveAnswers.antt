@@ -72,7 +72,7 @@ law : (net : Net) (x : List ℤ) → IsPositiveSolution (species_system net) x �
 law net x s = record {
   long = s.free.long;
   positive = s.positive;
-  kept = all_given (λ v. dot x v ≡ pos 0) (vectors net) [] (λ r lt. dot-comm x (get_or (vectors net) r []) ∙ s.rows r lt);
+  conserved = all_given (λ v. dot x v ≡ pos 0) (vectors net) [] (λ r lt. dot-comm x (get_or (vectors net) r []) ∙ s.rows r lt);
 }
 
 no_law : (net : Net) (u : List ℤ) → IsNetwork net → IsPositiveCut (species_system net) u → RuleOutConservation net u
