@@ -1,7 +1,7 @@
 #!/usr/bin/env python3
 """Tries the launcher `crnt` on a small repository with a toolchain and a program of its own, so that nothing is proved.
 
-The `rt` there writes down each call, fails where a file says so, and copies the program to where the real one lies.
+The `rt` there writes down each call, fails if a file says so, and copies the program to where the real one lies.
 """
 
 import os
@@ -96,14 +96,14 @@ class Repository:
         return self.calls.read_text().splitlines()
 
     def run(self, words, where=None, launcher=None, **changes):
-        """The status, both outputs and the calls of rt, where no stream is a terminal."""
+        """The status, both outputs and the calls of rt, if no stream is a terminal."""
         done = subprocess.run(self.command(words, launcher), input=b"text", capture_output=True,
                               env={**self.environment, **changes}, cwd=where or self.root, timeout=SECONDS)
         return done.returncode, done.stdout, done.stderr.decode(), self.called()
 
     def run_on_a_terminal(self, words, typed=None, interrupt=None, **changes):
-        """The status, standard output and what the terminal shows, where standard error is a terminal. It is standard
-        input too where something is typed. After so many seconds all that runs is interrupted, as by Ctrl-C."""
+        """The status, standard output and what the terminal shows, if standard error is a terminal. It is standard
+        input too if something is typed. After this many seconds all that runs is interrupted, as by Ctrl-C."""
         ours, theirs = pty.openpty()
         stdin = subprocess.PIPE if typed is None else theirs
         child = subprocess.Popen(self.command(words, None), stdin=stdin, stdout=subprocess.PIPE, stderr=theirs,
@@ -146,7 +146,7 @@ def builds(repository, folder):
     yield "hands on streams and status", (status, out) == (3, b"text"), (status, out)
 
     seen = repository.run(["report"])
-    yield "is quiet where the program is up to date", seen == QUIET, seen
+    yield "is quiet if the program is up to date", seen == QUIET, seen
     seen = repository.run(["report"], where="/")
     yield "works from any folder", seen == QUIET, seen
     link = folder / "link"
@@ -163,25 +163,25 @@ def builds_again(repository):
     repository.age()
     repository.source("middle").write_text("changed")
     _, _, err, calls = repository.run(["report"])
-    yield "builds where a source is newer", calls == BUILD and "has changed" in err, (calls, err)
+    yield "builds if a source is newer", calls == BUILD and "has changed" in err, (calls, err)
     repository.age()
     repository.source("aside").unlink()
     _, _, _, calls = repository.run(["report"])
-    yield "builds where a source has gone", calls == BUILD, calls
+    yield "builds if a source has gone", calls == BUILD, calls
     repository.age()
     (repository.root / "crates" / "aside" / "specs").rmdir()
     _, _, _, calls = repository.run(["report"])
-    yield "builds where a folder of sources has gone", calls == BUILD, calls
+    yield "builds if a folder of sources has gone", calls == BUILD, calls
     repository.age()
     (repository.root / "crates" / "aside" / "specs").mkdir()
     _, _, _, calls = repository.run(["report"])
-    yield "builds where a folder of sources is new", calls == BUILD, calls
+    yield "builds if a folder of sources is new", calls == BUILD, calls
     put_script(repository.root / "crates" / "crnt" / "out" / "crnt", PROGRAM)
     _, _, _, calls = repository.run(["report"])
-    yield "builds where somebody else built the program", calls == BUILD, calls
+    yield "builds if somebody else built the program", calls == BUILD, calls
     (repository.root / "crates" / "crnt" / "out" / "built").unlink()
     _, _, _, calls = repository.run(["report"])
-    yield "builds where nothing says how the program was built", calls == BUILD, calls
+    yield "builds if nothing says how the program was built", calls == BUILD, calls
 
 
 def doubts(repository, folder):
@@ -193,17 +193,17 @@ def doubts(repository, folder):
         return f"{only}:{repository.path}"
 
     status, out, _, calls = repository.run(["report"], PATH=failing("find"))
-    yield "builds where find fails", (status, out, calls) == (3, b"text", BUILD), (status, out, calls)
+    yield "builds if find fails", (status, out, calls) == (3, b"text", BUILD), (status, out, calls)
     seen = repository.run(["report"], PATH=failing("ls"))
-    yield "asks the toolchain where ls fails", seen == (3, b"text", "", ["version"]), seen
+    yield "asks the toolchain if ls fails", seen == (3, b"text", "", ["version"]), seen
     status, out, err, calls = repository.run(["report"], launcher=folder / "link", PATH=failing("readlink"))
-    yield "ends with 70 where readlink fails on a link", (status, out, calls) == (70, b"", []), (status, out, err, calls)
+    yield "ends with 70 if readlink fails on a link", (status, out, calls) == (70, b"", []), (status, out, err, calls)
     seen = repository.run(["report"], PATH=failing("readlink"))
-    yield "needs no readlink where there is no link", seen == QUIET, seen
+    yield "needs no readlink if there is no link", seen == QUIET, seen
     for tool in ["ls", "awk", "mktemp", "touch"]:
         repository.source("low").write_text(f"changed before {tool} fails")
         status, out, err, calls = repository.run(["report"], PATH=failing(tool))
-        yield f"ends with 70 where {tool} fails at a build", (status, out) == (70, b""), (status, out, err, calls)
+        yield f"ends with 70 if {tool} fails at a build", (status, out) == (70, b""), (status, out, err, calls)
         status, _, _, calls = repository.run(["report"])
         yield f"builds after {tool} failed", (status, calls) == (3, BUILD), (status, calls)
 
@@ -219,7 +219,7 @@ def doubts(repository, folder):
     yield "knows its folder without dirname, and runs without a toolchain what is up to date", seen == QUIET, seen
     (bare / "find").unlink()
     status, out, err, calls = repository.run(["report"], PATH=str(bare))
-    yield "ends with 70 where there is no find and no toolchain", (status, out, calls) == (70, b"", []), (status, out, calls)
+    yield "ends with 70 if there is no find and no toolchain", (status, out, calls) == (70, b"", []), (status, out, calls)
 
 
 def toolchains(repository, folder):
@@ -231,7 +231,7 @@ def toolchains(repository, folder):
     yield "asks it once", seen == QUIET, seen
     put_script(rt, RT)
     _, _, err, calls = repository.run(["report"], VERSION="2")
-    yield "builds where the toolchain has changed", calls == ["version", *BUILD], calls
+    yield "builds if the toolchain has changed", calls == ["version", *BUILD], calls
     yield "says that the toolchain has changed", "the toolchain has changed" in err, err
     seen = repository.run(["report"], VERSION="2")
     yield "runs what the new toolchain built", seen == QUIET, seen
@@ -241,7 +241,7 @@ def toolchains(repository, folder):
     other.mkdir()
     put_script(other / "rt", "#!/bin/sh\nexit 1\n")
     status, out, err, _ = repository.run(["report"], PATH=f"{other}:{repository.path}")
-    yield "ends with 70 where another toolchain says no version", (status, out) == (70, b""), (status, out, err)
+    yield "ends with 70 if another toolchain says no version", (status, out) == (70, b""), (status, out, err)
     status, _, _, calls = repository.run(["report"])
     yield "builds with the first toolchain again", (status, calls) == (3, BUILD), (status, calls)
 
@@ -252,7 +252,7 @@ def copies(repository, folder):
     put_script(copy.parent / "crates" / "crnt" / "out" / "crnt", DECOY)
     shutil.copy(repository.root / "crnt", copy)
     status, out, err, calls = repository.run(["report"], launcher=copy)
-    yield "ends with 70 where it was copied", (status, out, calls) == (70, b"", []), (status, out, calls)
+    yield "ends with 70 if it was copied", (status, out, calls) == (70, b"", []), (status, out, calls)
     yield "says that it is a copy, and how to make a link", "is a copy" in err and "ln -s" in err, err
 
 
@@ -263,7 +263,7 @@ def terminals(repository):
         good = seen[:2] == (status, b"text") and seen[2].count("\n") == 1 and hint in seen[2]
         yield f"explains the status {status} at a terminal in one line", good, seen
         seen = repository.run(["report"], STATUS=str(status))
-        yield f"says nothing of the status {status} where there is no terminal", seen == (status, b"text", "", []), seen
+        yield f"says nothing of the status {status} if there is no terminal", seen == (status, b"text", "", []), seen
     for status in ["1", "2", "3"]:
         _, _, shown = repository.run_on_a_terminal(["report"], STATUS=status)
         found = re.search(r'/(docs/.*), "(.*)"$', shown.strip())
@@ -282,7 +282,7 @@ def terminals(repository):
     yield "hands on what is typed", (status, out) == (3, b"A -> B\n"), (status, out, shown)
     for words in [[], ["report", "file"], ["--help"]]:
         _, _, shown = repository.run_on_a_terminal(words, typed=b"\x04")
-        yield f"says nothing of typing where nothing is read: {words}", "Ctrl-D" not in shown, shown
+        yield f"says nothing of typing if nothing is read: {words}", "Ctrl-D" not in shown, shown
 
     yield from searches(repository)
 
@@ -290,7 +290,7 @@ def terminals(repository):
     with subprocess.Popen(repository.command(["report"], None), stdin=subprocess.DEVNULL, stdout=subprocess.PIPE,
                           stderr=subprocess.PIPE, env=environment) as child:
         seen = child.communicate(timeout=SECONDS)
-    yield "gives its place to the program where there is no terminal", seen == (b"%d\n" % child.pid, b""), seen
+    yield "gives its place to the program if there is no terminal", seen == (b"%d\n" % child.pid, b""), seen
     for seen in [repository.run_on_a_terminal(["report"], STATUS="killed"), repository.run(["report"], STATUS="killed")]:
         yield "ends by the signal that ends the program", seen[0] == -9, seen
     repository.source("low").write_text("changed for the terminal")
@@ -307,11 +307,11 @@ def searches(repository):
         yield f"says at a terminal that a search goes on: {words}", (status, out, shown) == (0, b"", err), shown
     for words in [["check"], ["report", "file"]]:
         _, _, shown = repository.run_on_a_terminal(words, STATUS="slow")
-        yield f"says of no budget where there is none: {words}", "still at work" not in shown, shown
+        yield f"says of no budget if there is none: {words}", "still at work" not in shown, shown
     _, _, shown = repository.run_on_a_terminal(["report"], typed=b"", STATUS="slow")
-    yield "says of no budget where a text is typed", "still at work" not in shown, shown
+    yield "says of no budget if a text is typed", "still at work" not in shown, shown
     seen = repository.run(["report"], STATUS="slow")
-    yield "says nothing of a search where there is no terminal", seen == (0, b"", "", []), seen
+    yield "says nothing of a search if there is no terminal", seen == (0, b"", "", []), seen
     seen = repository.run_on_a_terminal(["report"], interrupt=0.5, STATUS="slow")
     yield "says nothing of a search that is interrupted", (seen[0], seen[2]) == (-2, ""), seen
 
@@ -322,7 +322,7 @@ def failures(repository, folder):
     broken = repository.root / "crates" / "middle" / "broken"
     broken.write_text("")
     status, out, err, calls = repository.run(["report"])
-    yield "ends with 70 where a crate is not proved", (status, out, calls) == (70, b"", BUILD[:3]), (status, out, calls)
+    yield "ends with 70 if a crate is not proved", (status, out, calls) == (70, b"", BUILD[:3]), (status, out, calls)
     yield "shows the log of what failed", "middle was not proved" in err and "what rt says" in err, err
     broken.unlink()
     status, _, _, calls = repository.run(["report"])
@@ -332,11 +332,11 @@ def failures(repository, folder):
     bare = folder / "bare"
     bare.mkdir()
     status, out, err, _ = repository.run(["report"], PATH=str(bare))
-    yield "ends with 70 where there is no program and no toolchain", \
+    yield "ends with 70 if there is no program and no toolchain", \
         (status, out) == (70, b"") and "rt is not on the path" in err, (status, err)
     (repository.root / "crates.txt").write_text("low:\n")
     status, out, err, calls = repository.run(["report"])
-    yield "ends with 70 where crates.txt has no crnt", (status, out, calls) == (70, b"", []), (status, err, calls)
+    yield "ends with 70 if crates.txt has no crnt", (status, out, calls) == (70, b"", []), (status, err, calls)
 
 
 def main():

@@ -18,7 +18,7 @@ from second_search import cleared, independent, kernel, primitive
 # the questions that the program answers: all that follows here, in end_to_end.py and in the benches goes by this list
 BUILT = list(range(1, 16))
 
-BUDGET = 20_000  # of a search, where none is said
+BUDGET = 20_000  # of a search, if none is said
 MAX_SPECIES, MAX_COMPLEXES, MAX_REACTIONS, MAX_AMOUNT, MAX_NAME = 60, 160, 240, 99, 32
 MAX_LINE, MAX_SHARED, MAX_NUMBERS = 16_384, 4_096, 400
 FREE, WIDE = 2**72, 2**62
@@ -96,7 +96,7 @@ def amounts_of(terms):
 
 
 def read_network(text):
-    """The network that a text of ASCII spells, or None where it spells none."""
+    """The network that a text of ASCII spells, or None if it spells none."""
     statements = []
     for line in text.split("\n"):
         line = line.removesuffix("\r").split("#")[0]
@@ -590,7 +590,7 @@ def word_of(question, line):
 
 
 def sample(number, budget=BUDGET):
-    """The status and the bytes with which `sample` answers this number, where no system is wide."""
+    """The status and the bytes with which `sample` answers this number, if no system is wide."""
     net = read_network(sample_text(number))
     v = Verdicts(net)
     words = [word_of(question, own_lines(v, question, budget)[0]) for question in BUILT]
@@ -776,7 +776,7 @@ def is_discordance(v, question, lines):
 
 
 def judged(text, status, out, budget=BUDGET):
-    """What is wrong with the report of a text that spells a network, and with its status; nothing where all is right."""
+    """What is wrong with the report of a text that spells a network, and with its status; nothing if all is right."""
     net = read_network(text.decode("latin-1"))
     v, lines = Verdicts(net), out.decode("latin-1").split("\n")
     head = head_lines(net)

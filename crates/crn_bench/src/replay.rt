@@ -235,7 +235,7 @@ fn replay(
     Ok(())
 }
 
-/// Makes the exchanges of a decision by targets from the basis of columns so many times, with none of its other work.
+/// Makes the exchanges of a decision by targets from the basis of columns this many times, with none of its other work.
 /// `Solver::decide` falls back on these if the few exchanges that it tries first show nothing.
 pub fn replay_often(
     alloc: Global,

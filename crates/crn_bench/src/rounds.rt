@@ -99,7 +99,7 @@ fn sweep(matrix: &Matrix, tableau: &mut Tableau, counts: &mut Exchanges)
     }
 }
 
-/// Goes so many times from the basis of columns to rows, and back.
+/// Goes this many times from the basis of columns to rows, and back.
 pub fn exchange_often(alloc: Global, matrix: &Matrix, rounds: u32) -> Result<Exchanges, NoMemory> {
     let mut tableau = Tableau::new(alloc, matrix)?;
     let mut counts = Exchanges {
@@ -120,7 +120,7 @@ pub(crate) fn are_few(kinds: &[Kind]) -> bool
     kinds.len() <= MAX_SIGNED
 }
 
-/// Decides a system so many times, each time from the basis of columns.
+/// Decides a system this many times, each time from the basis of columns.
 pub fn decide_often(
     alloc: Global,
     matrix: &Matrix,

@@ -61,7 +61,7 @@ cycle_by_tests net network strong exits r walk long right out w same none =
       z = w.z;
       goes = w.goes;
       pair = record { linked = inl (named_in net r w.y w.z w.goes); within = right.same w.y w.z ly lz same; terminal = (out.terminal w.y ly).0 none };
-      joined = λ c. c.cut (walk_free (IsFreeStep net.reactions w.y w.z) w.y w.z walk w.leads);
+      no_cut_pair = λ c. c.cut (walk_free (IsFreeStep net.reactions w.y w.z) w.y w.z walk w.leads);
       shown = w.leads;
     }
 

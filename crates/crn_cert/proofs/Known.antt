@@ -118,7 +118,7 @@ regular_yes net v y h = absurd y
 pub regular_no : (net : Net) (v : Verdict) → IsNo v → IsTrueOrOpen net Q11 v → IsRegular net → ⊥
 regular_no net (NoTerminal k count) n h = split_not_regular net k count h
 regular_no net NoDependence n h = λ r. h.1 r.dependent
-regular_no net (NoCycle r walk) n h = λ g. h.1.joined (g.cut_pairs h.1.y h.1.z h.1.pair)
+regular_no net (NoCycle r walk) n h = λ g. h.1.no_cut_pair (g.cut_pairs h.1.y h.1.z h.1.pair)
 regular_no net (NoReaction reaction) n h = absurd h
 regular_no net (NoVec multipliers) n h = absurd h
 regular_no net v n h = absurd n

@@ -177,7 +177,7 @@ pub record IsCycle (net : Net) (r : ℕ) (walk : List ℕ) : Type 0 where
   pub z : ℕ
   pub goes : IsReactionNumber net r y z
   pub pair : IsTerminalPair net.reactions y z
-  pub joined : IsCutPair net.reactions y z → ⊥
+  pub no_cut_pair : IsCutPair net.reactions y z → ⊥
   pub shown : WalkLeads (IsFreeStep net.reactions y z) y walk z
 
 -- the network is regular, or fails to be so in this way first

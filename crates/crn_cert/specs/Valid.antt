@@ -64,7 +64,7 @@ abbrev pub is_terminal_in : List ℕ → List ℕ → List ℕ → ℕ → ℕ �
 is_terminal_in strong exits linkage k m = (slice_index exits (m - 1) == 0)
     && list_any (is_in_both strong linkage m k) (range_with_len 0 (length strong))
 
--- the number of terminal strong classes of linkage class k, among so many strong classes
+-- the number of terminal strong classes of linkage class k, among this many strong classes
 abbrev pub terminals_of : List ℕ → List ℕ → List ℕ → ℕ → ℕ → ℕ
 terminals_of strong exits linkage count k =
     count_by (is_terminal_in strong exits linkage k) (classes_to count)

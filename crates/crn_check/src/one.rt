@@ -39,7 +39,7 @@ fn have_sum(classes: &[u32], x: u32) -> bool
     are_small(classes) && sum_of(classes) == x as usize
 }
 
-// Whether each deficiency before the last of so many is at most 1.
+// Whether each of this many deficiencies but the last is at most 1.
 fn are_small_to(classes: &[u32], last: usize) -> bool
     requires { last ≤ length classes.now }
     ensures { IsTrue result ↔ AreSmallTo classes.now last }

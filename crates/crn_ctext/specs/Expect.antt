@@ -114,7 +114,7 @@ free_words =
     codes "dual" ∷ codes "comb" ∷ codes "vec" ∷ codes "cut" ∷ codes "tie" ∷ codes "mu" ∷ codes "m"
     ∷ codes "weights" ∷ codes "alpha" ∷ []
 
--- so many numbers: free ones if the word says so, and else from the least to the greatest
+-- this many numbers: free ones if the word says so, and else from the least to the greatest
 abbrev pub part_field : List ℕ → (count : ℕ) → (least greatest : ℤ) → Field
 part_field word count least greatest =
     if list_any (bytes_eq word) free_words then Free count else Small count least greatest

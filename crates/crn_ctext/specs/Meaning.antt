@@ -172,7 +172,7 @@ verdict_of q z h rs =
 
 -- ---- a proof
 
--- a base, so many duals, and combinations
+-- a base, this many duals, and combinations
 abbrev pub rank_proof : ℕ → List Record → RankProof
 rank_proof rank rs =
     record {

@@ -21,7 +21,7 @@ pub struct Sizes<'a> {
 pub enum Due<'a> {
     /// The head of a question.
     Head(u32),
-    /// A base of so many of these reactions, which are ascending.
+    /// A base of this many of these reactions, which are ascending.
     Base {
         count: u32,
         members: &'a [u32],
@@ -32,14 +32,14 @@ pub enum Due<'a> {
     },
     /// A walk over complexes.
     Walk,
-    /// A record of this word with so many numbers: free ones if the word says so, and else from the least to the greatest.
+    /// A record of this word with this many numbers: free ones if the word says so, and else from the least to the greatest.
     Part {
         word: Word,
         count: u32,
         least: i128,
         greatest: i128,
     },
-    /// A node of a tree. Cuts of its two parts have so many numbers, and so many lists are shared.
+    /// A node of a tree. Cuts of its two parts have this many numbers, and this many lists are shared.
     Node {
         count_a: u32,
         count_b: u32,

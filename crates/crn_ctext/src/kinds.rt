@@ -9,7 +9,7 @@ use crate::word::Word;
 
 // The table of record kinds, and what is made from it: an expression with an arm or a row for each kind. A row has the
 // word, the first version that has it, whether it is a word of trees, and whether the numbers of a record of this kind,
-// below a head, are free. Nodes of trees and shared lists are not asked.
+// below a head, are free. It says nothing of nodes of trees and of shared lists.
 macro_rules! kinds {
     (@text $word:expr; $($kind:ident $text:literal $version:literal $tree:literal $free:literal)*) => {
         match $word {
@@ -94,7 +94,7 @@ pub struct Kind {
     pub version: u32,
     /// Whether it is a node of a tree.
     pub tree: bool,
-    /// Whether the numbers of a row of this kind, below a head, are free. Nodes of trees and shared lists are not asked.
+    /// Whether the numbers of a row of this kind, below a head, are free. It says nothing of nodes of trees and of shared lists.
     pub free: bool,
 }
 

@@ -73,7 +73,7 @@ fn is_free(word: Word) -> bool
     kinds!(is_free word)
 }
 
-// A record of this word with so many numbers.
+// A record of this word with this many numbers.
 fn part<'a>(i: u32, word: Word, count: u32, range: Range) -> Option<Form<'a>>
     requires few { count ≤ MAX_NUMBERS }
     requires least { unsigned_abs range.least < WIDE_SOLUTION }

@@ -10,7 +10,7 @@ use crate::record_shape::{Range, Shape};
 use crate::word::Word;
 use crn_vec::MAX_BUDGET;
 
-// A system with so many columns and rows.
+// A system with this many columns and rows.
 macro_rules! wide {
     ($system:literal, $columns:expr, $rows:expr) => {
         Shape::Wide {

@@ -11,7 +11,7 @@ const SHORT: u64 = 100_000;
 // From here on a value is held in 128 bits.
 const LONG: u64 = 1_000_000_000_000_000_000;
 
-// The digits at the start, of which so many were read already, with this value.
+// The digits at the start, of which this many were read already, with this value.
 fn long_digits(bytes: &[u8], read: usize, start: u128) -> (u128, usize)
     requires within { read ≤ length bytes.now }
     requires digits { AllDigits 10 (take read bytes.now) }
@@ -73,7 +73,7 @@ fn eight_digits(bytes: &[u8]) -> Option<u64>
     }
 }
 
-// The digits at the start, of which so many were read already, with this value.
+// The digits at the start, of which this many were read already, with this value.
 fn middle_digits(bytes: &[u8], read: usize, start: u64) -> (u128, usize)
     requires within { read ≤ length bytes.now }
     requires digits { AllDigits 10 (take read bytes.now) }
@@ -94,7 +94,7 @@ fn middle_digits(bytes: &[u8], read: usize, start: u64) -> (u128, usize)
     (u128::from(value), bytes.len())
 }
 
-// The same, eight at a time while there are so many.
+// The same, eight at a time while there are this many.
 #[inline(never)]
 fn more_digits(bytes: &[u8], read: usize, start: u64) -> (u128, usize)
     requires within { read ≤ length bytes.now }
@@ -137,7 +137,7 @@ fn digits(bytes: &[u8]) -> (u128, usize)
     (u128::from(value), bytes.len())
 }
 
-// Whether a space or nothing is after so many bytes.
+// Whether a space or nothing is after this many bytes.
 fn ends_at(bytes: &[u8], count: usize) -> bool
     requires { count ≤ length bytes.now }
     ensures { IsTrue result ↔ EndsAt bytes.now count }
@@ -216,7 +216,7 @@ fn after_zero(bytes: &[u8]) -> Option<&[u8]>
     }
 }
 
-/// Adds the numbers of a line, each after a space, if they are at most so many.
+/// Adds the numbers of a line, each after a space, if they are at most this many.
 pub(crate) fn numbers(line: &[u8], most: usize, into: &mut Ints) -> bool
     requires { most ≤ into.old.spare }
     ensures numbers { MatchBool result

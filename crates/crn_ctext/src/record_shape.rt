@@ -258,7 +258,7 @@ fn is_indexed(numbers: &[i128], columns: u32, coordinates: u32) -> bool
     }
 }
 
-// The place, from 0, that the first number is of, if there are so many.
+// The place, from 0, that the first number is of, if there are this many.
 fn place_in(numbers: &[i128], count: usize) -> Option<usize>
     requires { 0 < length numbers.now }
     ensures { IsPlaceIn numbers.now count result }

@@ -80,7 +80,7 @@ fn judge_read(form: &Form, read: &Ints) -> Fit
     judge(&form.shape, numbers)
 }
 
-// Reads the numbers of a line as the form has them. Where they do not fit, the list is as before.
+// Reads the numbers of a line as the form has them. If they do not fit, the list is as before.
 fn read_fit(form: &Form, line: &[u8], into: &mut Ints) -> Fit
     requires empty { into.old.list ≡ [] }
     requires room { MAX_NUMBERS ≤ into.old.spare }
@@ -125,7 +125,7 @@ fn read_words(form: &Form, rest: &[u8], into: &mut Ints) -> Fit
     }
 }
 
-// Tries one form on a line. Where the line is no record of it, the list is as before.
+// Tries one form on a line. If the line is not a record of it, the list is as before.
 fn try_form(form: &Form, line: &[u8], into: &mut Ints) -> Tried
     requires empty { into.old.list ≡ [] }
     requires room { MAX_NUMBERS ≤ into.old.spare }

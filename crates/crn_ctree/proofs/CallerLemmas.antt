@@ -5,6 +5,6 @@ pub use Rattle.crn_ctree.proofs.NodeTests.{free_a, free_b, free_shape}
 -- Nodes that fit one after another, and one more that is taken, fit one after another.
 pub use Rattle.crn_ctree.proofs.TreeEnds.{passing_none, passing_taken}
 -- When nothing is due after them, and what they show then.
-pub use Rattle.crn_ctree.proofs.TreeEnds.{complete_where_valid, complete_trees_show}
+pub use Rattle.crn_ctree.proofs.TreeEnds.{complete_if_and_only_if_valid, complete_trees_show}
 -- The tests of the trees of question 13 by the shape of the network and of the vector of question 12.
 pub use Rattle.crn_ctree.proofs.SignalTrees.{signal_nodes, first_signal_faults}

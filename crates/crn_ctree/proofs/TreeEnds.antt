@@ -6,7 +6,7 @@ use Rattle.crn_vec.specs.Problems.{Signed}
 use Rattle.crn_vec.specs.Visits.{root}
 use Rattle.crn_cert.specs.Nodes.{Said, Passing, done, then, rest_after}
 use Rattle.crn_ctree.specs.Gives.{IsTaken}
-use Rattle.crn_ctree.specs.Laws.{CompleteWhereValid, CompleteTreesShow}
+use Rattle.crn_ctree.specs.Laws.{CompleteIfAndOnlyIfValid, CompleteTreesShow}
 use Rattle.crn_vec.specs.NetSystems.{reaction_system}
 use Rattle.std.specs.Prelude.{ℤ}
 use Rattle.crn_vec.specs.Network.{Net, IsNetwork}
@@ -36,8 +36,8 @@ passing_one : (w : Signed) (due a b : List (List Sign)) (said : List Said) → P
 passing_one w due a b [] done done = refl
 passing_one w due a b (node ∷ said) (then {p} {rest} f g) (then f' g') = passing_one w (rest_after p rest node) a b said g g'
 
-pub complete_where_valid : CompleteWhereValid
-complete_where_valid w said due h = (
+pub complete_if_and_only_if_valid : CompleteIfAndOnlyIfValid
+complete_if_and_only_if_valid w said due h = (
   λ e. (those_of_trees w).tree said (subst (λ (d : List (List Sign)). Passing w root said d) e h),
   λ t. passing_one w root due [] said h (subst (λ (s : List Said). Passing w root s []) (sym t.are) ((those_of_trees w).leaves t.tree t.valid)),
 )

@@ -25,8 +25,8 @@ use Rattle.crn_ctree.specs.declared.problem.Problem.{Problem}
 use Rattle.crn_ctree.specs.declared.problem.Problem.TheVariants.{Concordance, Signals}
 
 -- of nodes that fit one after another, nothing is due if and only if they are those of a valid tree
-abbrev pub CompleteWhereValid : Type 0
-CompleteWhereValid = (w : Signed) (said : List Said) (due : List (List Sign))
+abbrev pub CompleteIfAndOnlyIfValid : Type 0
+CompleteIfAndOnlyIfValid = (w : Signed) (said : List Said) (due : List (List Sign))
     → Passing w root said due → (due ≡ []) ↔ AreOfTree w [] said
 
 -- what a complete tree of a sign problem shows: the table is concordant; the vector of the shape has

@@ -1,5 +1,5 @@
 ghost use Rattle.crn_cert.specs.Nodes.{NodesOfValidTrees};
-ghost use Rattle.crn_ctree.specs.Laws.{CompleteTreesShow, CompleteWhereValid, FirstFaultsAreThoseOfTests, FirstSignalFaultsAreThoseOfTests, SignalNodesAreOfShape};
+ghost use Rattle.crn_ctree.specs.Laws.{CompleteTreesShow, CompleteIfAndOnlyIfValid, FirstFaultsAreThoseOfTests, FirstSignalFaultsAreThoseOfTests, SignalNodesAreOfShape};
 
 /// The nodes that leave nothing due are just those of a valid tree.
 pub fn nodes_of_valid_trees()
@@ -7,8 +7,8 @@ pub fn nodes_of_valid_trees()
 {}
 
 /// After nodes that fit one after another, nothing is due if and only if they are those of a valid tree.
-pub fn complete_where_valid()
-    ensures { CompleteWhereValid }
+pub fn complete_if_and_only_if_valid()
+    ensures { CompleteIfAndOnlyIfValid }
 {}
 
 /// Nodes that fit one after another until nothing is due show the table of the problem concordant, or that the vector

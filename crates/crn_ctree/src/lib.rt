@@ -20,7 +20,7 @@ pub use check::TreeCheck;
 pub use fault::TreeFault;
 pub use known::{KnownCut, KnownCuts};
 pub use laws::{
-    complete_trees_show, complete_where_valid, first_faults_are_those_of_tests,
+    complete_if_and_only_if_valid, complete_trees_show, first_faults_are_those_of_tests,
     first_signal_faults_are_those_of_tests, nodes_of_valid_trees, signal_nodes_are_of_shape,
 };
 pub use node::{Node, Step};

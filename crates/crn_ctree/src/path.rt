@@ -53,7 +53,7 @@ fn lead_on(options: &mut Vec<Sign>) -> bool
 }
 
 impl Path {
-    /// The path to the root, with room for so many choices.
+    /// The path to the root, with room for this many choices.
     pub fn new(alloc: Global, choices: usize) -> Result<Path, NoMemory>
         ensures due { IfOk result (λ made. made.due ≡ root) }
         ensures choices { IfOk result (λ made. made.choices ≡ choices) }

@@ -16,7 +16,7 @@ use Rattle.crn_ctext.specs.Steps.{StepGives}
 use Rattle.crn_document.specs.declared.reading.Reading.{Reading}
 use Rattle.crn_document.specs.declared.fault.CheckStop.{CheckStop}
 use Rattle.crn_document.specs.Inner.Blocks.{IsAfter, after_at, after_by}
-use Rattle.crn_document.specs.Inner.Courses.{IsSaidIn, body_course, last_course}
+use Rattle.crn_document.specs.Inner.Courses.{IsSaidIn, rest_course, last_course}
 use Rattle.crn_document.specs.Inner.Ending.{EndStepIs, LastIs, asks_end}
 use Rattle.crn_document.specs.Inner.Steps.{StopIs}
 use Rattle.crn_document.proofs.Endings.{step_then_ends}
@@ -87,7 +87,7 @@ pub parts_end : (net : Net) (earlier : Earlier) (by_tree : Bool) (verdicts : Lis
     → IsAfter net earlier by_tree last.line y
     → StepGives (asks_blocks meaning old.version (lists_of rs) built (after_at net [] (old.line + length rs) [])) y mid.line last.line mid.lines last.lines between.left more.left → more.faults ≡ between.faults
     → ((read : ReadOf) → EndStepIs (asks_end last.version last.line by_tree read) read result last more now)
-    → LastIs (body_course old.version old.line net) (λ t read. IsSaidIn net verdicts read) result old before now
+    → LastIs (rest_course old.version old.line net) (λ t read. IsSaidIn net verdicts read) result old before now
 parts_end net earlier by_tree verdicts rs y result old mid last before between more now version kept p same after b quiet ends =
     let blocks_said = built_blocks_say old.version (lists_of rs) net (old.line + length rs) y (place mid.line mid.lines (b.pulled ++ [])) (place last.line last.lines []) in
     let said : map (λ e. e.1) y.known.earlier ≡ verdicts_said built (meaning.start net) y.blocks = blocks_said (let g = b.gives in g []) in

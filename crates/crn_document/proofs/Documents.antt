@@ -19,7 +19,7 @@ use Rattle.crn_document.specs.declared.check.Accepted.{Accepted}
 use Rattle.crn_document.specs.declared.reading.Reading.{Reading}
 use Rattle.crn_document.specs.declared.fault.CheckStop.{CheckStop}
 use Rattle.crn_document.specs.declared.fault.CheckStop.TheVariants as stop
-use Rattle.crn_document.specs.Inner.Courses.{IsNew, IsWhole, body_course, whole_course}
+use Rattle.crn_document.specs.Inner.Courses.{IsNew, IsWhole, rest_course, whole_course}
 use Rattle.crn_document.specs.Inner.Ending.{LastIs}
 use Rattle.crn_document.specs.Inner.Opening.{count_course, network_course, title_course}
 use Rattle.crn_document.proofs.Bodies.{last_all, last_then}
@@ -30,7 +30,7 @@ use Rattle.crn_document.proofs.Texts.{text_fails, text_gives, text_stops}
 
 -- what follows the network
 abbrev pub after_network : (version count : ℕ) → Net → Course ReadOf
-after_network version count net = body_course version (3 + count) net
+after_network version count net = rest_course version (3 + count) net
 
 -- what follows the number of its lines
 abbrev pub after_count : (version count : ℕ) → Course ReadOf
@@ -67,11 +67,11 @@ network_then version count net result old mid before between now p same q =
 
 -- the parts after the network that was read, by what the reading counts
 pub body_at : (P : Course ReadOf → Type 0) (version v count k line : ℕ) (net n : Net) → v ≡ version → count ≡ k → line ≡ 3 + k → net ≡ n
-    → P (body_course v line n) → P (after_network version count net)
+    → P (rest_course v line n) → P (after_network version count net)
 body_at P version v count k line net n same number here is p =
-    subst (λ (x : Net). P (body_course version (3 + count) x)) (sym is)
-    (subst (λ (l : ℕ). P (body_course version l n)) (here ∙ ap (λ (j : ℕ). 3 + j) (sym number))
-    (subst (λ (w : ℕ). P (body_course w line n)) same p))
+    subst (λ (x : Net). P (rest_course version (3 + count) x)) (sym is)
+    (subst (λ (l : ℕ). P (rest_course version l n)) (here ∙ ap (λ (j : ℕ). 3 + j) (sym number))
+    (subst (λ (w : ℕ). P (rest_course w line n)) same p))
 
 -- ---- the text
 

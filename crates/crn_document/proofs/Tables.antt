@@ -18,7 +18,7 @@ use Rattle.crn_document.specs.declared.fault.CheckStop.{CheckStop}
 use Rattle.crn_document.specs.declared.plain.Plain.TheVariants.{Table, Vector}
 use Rattle.crn_document.specs.Inner.Plain.{IsPlain}
 use Rattle.crn_document.specs.Inner.Steps.{IsVersion, StopIs, StepIs}
-use Rattle.crn_document.specs.Inner.Table.{AreKept, IsCount, IsTable, MovesBy}
+use Rattle.crn_document.specs.Inner.Table.{AreListed, IsCount, IsTable, MovesBy}
 use Rattle.crn_document.proofs.Steps.{step_gives, step_then_is, step_map, stop_first}
 use Rattle.crn_document.proofs.Records.{rows_after, first_row}
 use Rattle.crn_document.proofs.Fields.{Holds, one_field}
@@ -50,16 +50,16 @@ shared_is numbers r p =
 pub kept_then : (version : ℕ) (form : Form) (forms all : List Form) (r : Record) (a b k : List (List ℤ)) (result : Result (Unit {0}) CheckStop) (old mid new : Reading) (before between now : SourceSeen)
     → all ≡ form ∷ forms → mid.version ≡ version → mid.line ≡ old.line + 1 → b ≡ a ++ r.numbers ∷ []
     → StepGives (asks version old.line false (form ∷ [])) r old.line mid.line old.lines mid.lines before.left between.left → between.faults ≡ before.faults
-    → StepIs (asks_all mid.version mid.line false forms) (λ t rs. AreKept mid new b k rs) result mid new between now
-    → StepIs (asks_all version old.line false all) (λ t rs. AreKept old new a k rs) result old new before now
+    → StepIs (asks_all mid.version mid.line false forms) (λ t rs. AreListed mid new b k rs) result mid new between now
+    → StepIs (asks_all version old.line false all) (λ t rs. AreListed old new a k rs) result old new before now
 kept_then version form forms all r a b k result old mid new before between now is v l row p same q =
-    first_row (λ d. StepIs d (λ t rs. AreKept old new a k rs) result old new before now) version old.line form forms all is
-    (step_then_is (asks version old.line false (form ∷ [])) (rows_after version old.line forms) r (λ t rs. AreKept old new a k rs) result old mid new before between now p same
-    (step_map (asks_all version (old.line + 1) false forms) (λ rs. r ∷ rs) (λ t rs. AreKept mid new b k rs) (λ t rs. AreKept old new a k rs) result mid new between now more
-    (subst (λ (j : ℕ). StepIs (asks_all version j false forms) (λ t rs. AreKept mid new b k rs) result mid new between now) l
-    (subst (λ (j : ℕ). StepIs (asks_all j mid.line false forms) (λ t rs. AreKept mid new b k rs) result mid new between now) v q))))
+    first_row (λ d. StepIs d (λ t rs. AreListed old new a k rs) result old new before now) version old.line form forms all is
+    (step_then_is (asks version old.line false (form ∷ [])) (rows_after version old.line forms) r (λ t rs. AreListed old new a k rs) result old mid new before between now p same
+    (step_map (asks_all version (old.line + 1) false forms) (λ rs. r ∷ rs) (λ t rs. AreListed mid new b k rs) (λ t rs. AreListed old new a k rs) result mid new between now more
+    (subst (λ (j : ℕ). StepIs (asks_all version j false forms) (λ t rs. AreListed mid new b k rs) result mid new between now) l
+    (subst (λ (j : ℕ). StepIs (asks_all j mid.line false forms) (λ t rs. AreListed mid new b k rs) result mid new between now) v q))))
   where
-    more : (t : Unit {0}) (rs : List Record) → AreKept mid new b k rs → AreKept old new a k (r ∷ rs)
+    more : (t : Unit {0}) (rs : List Record) → AreListed mid new b k rs → AreListed old new a k (r ∷ rs)
     more t rs h = (let m = h.0 in omega (arith, m, l), h.1 ∙ ap (λ (x : List (List ℤ)). x ++ lists rs) row ∙ append_assoc a (r.numbers ∷ []) (lists rs))
 
 -- what stops the first record stops all
@@ -69,11 +69,11 @@ stops_first version n form forms all e old before now is p =
     first_row (λ d. StopIs d e old before now) version n form forms all is (stop_first (asks version n false (form ∷ [])) (rows_after version n forms) e old before now p)
 
 -- no records
-pub kept_none : (version n : ℕ) (all : List Form) (kept : List (List ℤ)) (at : Reading) (seen : SourceSeen) → all ≡ [] → StepIs (asks_all version n false all) (λ (t : Unit {0}) rs. AreKept at at kept kept rs) (Ok tt) at at seen seen
+pub kept_none : (version n : ℕ) (all : List Form) (kept : List (List ℤ)) (at : Reading) (seen : SourceSeen) → all ≡ [] → StepIs (asks_all version n false all) (λ (t : Unit {0}) rs. AreListed at at kept kept rs) (Ok tt) at at seen seen
 unfolding asks_all
 kept_none version n all kept at seen none =
-    subst (λ (fs : List Form). StepIs (asks_all version n false fs) (λ (t : Unit {0}) rs. AreKept at at kept kept rs) (Ok tt) at at seen seen) (sym none)
-    (step_gives [] (λ (t : Unit {0}) (rs : List Record). AreKept at at kept kept rs) tt at seen (omega arith, sym (append-nil kept)))
+    subst (λ (fs : List Form). StepIs (asks_all version n false fs) (λ (t : Unit {0}) rs. AreListed at at kept kept rs) (Ok tt) at at seen seen) (sym none)
+    (step_gives [] (λ (t : Unit {0}) (rs : List Record). AreListed at at kept kept rs) tt at seen (omega arith, sym (append-nil kept)))
 
 -- ---- shared lists
 

@@ -323,7 +323,7 @@ fn rank_answer(alloc: Global, head: &[i128], rows: &Rows) -> Result<Answer, NoMe
     })
 }
 
-// Adds the proofs of these ranks by the last so many records.
+// Adds the proofs of these ranks by the last records, `last` in number.
 fn push_proofs(
     alloc: Global,
     rows: &Rows,

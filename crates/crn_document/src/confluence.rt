@@ -136,7 +136,7 @@ pub(crate) fn ints_at(alloc: Global, rows: &Rows, i: usize) -> Result<Ints, NoMe
     Ok(no_ints(alloc))
 }
 
-// The records after so many.
+// The records without the first `count`.
 fn rows_after(alloc: Global, rows: &Rows, count: usize) -> Result<Rows, NoMemory>
     ensures { IfOk result (λ made. made ≡ drop count rows.now) }
 {

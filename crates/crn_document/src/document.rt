@@ -2,11 +2,11 @@ ghost use Rattle.std.specs.Prelude.{◌≡◌, IfOk};
 ghost use Rattle.crn_document.specs.Inner.Courses.{IsNew, IsWhole, whole_course};
 ghost use Rattle.crn_document.specs.Inner.Ending.{LastIs};
 
-use crate::body::next_body;
 use crate::check::Accepted;
 use crate::fault::CheckStop;
 use crate::opening::{next_count, next_network, next_version};
 use crate::reading::Reading;
+use crate::rest::next_rest;
 use crn_io::{Lines, MAX_NUMBERS, NoMemory, Source};
 use crn_vec::Ints;
 use std::alloc::Global;
@@ -36,6 +36,6 @@ pub(crate) fn next_document<S: Source>(
     next_version(source, at)?;
     let count = next_count(source, at)?;
     let net = next_network(source, at, count)?;
-    let verdicts = next_body(source, at, &net)?;
+    let verdicts = next_rest(source, at, &net)?;
     Ok(Accepted { net, verdicts })
 }

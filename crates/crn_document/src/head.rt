@@ -28,8 +28,8 @@ use crn_net::Network;
 use crn_vec::Nums;
 use std::alloc::Global;
 
-// What the forms of the head of question 13 rest on besides: whether question 12 gives a vector and, if it does, the
-// number of linked pairs within terminal classes. Otherwise it is 0 and no.
+// What else the forms of the head of question 13 depend on: whether question 12 gives a vector and, if it does, the
+// number of linked pairs within terminal classes. Otherwise the number is 0 and there is no vector.
 #[derive(Clone, Copy)]
 struct SignalSizes {
     pairs: u32,

@@ -3,7 +3,6 @@
 
 mod answer;
 mod block;
-mod body;
 mod check;
 mod concordance;
 mod confluence;
@@ -23,6 +22,7 @@ mod questions;
 mod quick;
 mod reading;
 mod record;
+mod rest;
 mod rows;
 mod signal;
 mod signal_trees;

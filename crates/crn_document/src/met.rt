@@ -46,7 +46,7 @@ fn mark_after(mark: u64, line: &[u8]) -> u64 {
     }
 }
 
-// The last eight bytes, if there are so many.
+// The last eight bytes, if there are this many.
 fn last_eight(line: &[u8]) -> u64 {
     match line {
         [.., a, b, c, d, e, f, g, h] => u64::from_le_bytes([*a, *b, *c, *d, *e, *f, *g, *h]),

@@ -26,7 +26,7 @@ use crn_io::{NoMemory, Source};
 use crn_net::Network;
 use std::alloc::Global;
 
-/// What is due if a node of a tree is, in which cuts of part A have so many numbers.
+/// What is due if a node of a tree is; cuts of part A in it have `count_a` numbers.
 pub(crate) fn node_expect(version: u32, net: &Network, count_a: u32, shared: u32) -> Expect<'static>
     requires version { IsVersion version }
     requires few { count_a ≤ MAX_NUMBERS }

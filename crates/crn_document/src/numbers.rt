@@ -67,7 +67,7 @@ pub(crate) fn no_ints(alloc: Global) -> Ints
     Ints::from_vec(Vec::new(alloc))
 }
 
-// The numbers of a head after so many.
+// The numbers of a head without the first `count`.
 pub(crate) fn after(head: &[i128], count: usize) -> &[i128]
     ensures { result.now ≡ drop count head.now }
 {

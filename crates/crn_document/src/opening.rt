@@ -21,7 +21,7 @@ fn is_line(line: &[u8], text: &[u8]) -> bool
     line == text
 }
 
-// Whether the line says that the network has so many lines.
+// Whether the line says that the network has this many lines.
 fn says_count(line: &[u8], count: u32) -> bool
     ensures { IsTrue result ↔ (line.now ≡ network_line count) }
 {
@@ -120,7 +120,7 @@ fn keep_line(text: &mut Vec<u8>, line: &[u8], long: &mut bool) -> Result<(), NoM
     add_line(text, line)
 }
 
-// The next lines, so many of them, whatever they hold. Each is added to the text with its LF, so long as no line is too
+// The next `count` lines, whatever they hold. Each is added to the text with its LF, so long as no line is too
 // long for a network: then no text is needed, and the longest lines take no memory.
 fn next_lines<S: Source>(
     source: &mut S,
@@ -145,7 +145,7 @@ fn next_lines<S: Source>(
     next_lines(source, at, count - 1, text, long)
 }
 
-// The lines of the network, so many of them, and the network whose canonical text they are.
+// The next `count` lines, which are those of the network, and the network whose canonical text they are.
 pub(crate) fn next_network<S: Source>(
     source: &mut S,
     at: &mut Reading,

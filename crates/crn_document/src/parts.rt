@@ -134,7 +134,7 @@ pub(crate) fn parts_of(
     }
 }
 
-// Adds how many reactions each of so many linkage classes has, from this class on.
+// Adds how many reactions each of this many linkage classes has, from this class on.
 fn push_counts(
     net: &Network,
     labels: &[u32],
@@ -155,7 +155,7 @@ fn push_counts(
     push_counts(net, labels, class + 1, count - 1, into)
 }
 
-// How many reactions each of so many linkage classes has.
+// How many reactions each of this many linkage classes has.
 pub(crate) fn counts_of(
     alloc: Global,
     net: &Network,

@@ -69,7 +69,7 @@ fn section_expect(net: &Network, section: u32, after_tree: bool) -> Expect<'stat
     }
 }
 
-// The line that opens a section before this question, if it opens one, after a tree or not. Tells whether the line
+// The line that opens a section before this question, if it opens one, after a tree or not. Says whether the line
 // before the next one ended a tree.
 fn next_section<S: Source>(
     source: &mut S,

@@ -45,7 +45,7 @@ pub(crate) enum Row {
     // So many reactions of a linkage class, or of the network for class 0.
     Base { class: u32, rank: u32 },
     Dual,
-    // After a base of so many reactions.
+    // After a base of this many reactions.
     Comb { rank: u32 },
     // A number for each reaction, or for each species.
     VecOfReactions,
@@ -57,9 +57,9 @@ pub(crate) enum Row {
     // The side of the product of a reaction.
     Side { reaction: u32 },
     Walk,
-    // A number for each species and for each of so many linkage classes.
+    // A number for each species and for each of this many linkage classes.
     Tie { classes: u32 },
-    // The lists of a signal: a shelf of each of so many terminal classes, a number for each species, and one number.
+    // The lists of a signal: a shelf of each of this many terminal classes, a number for each species, and one number.
     Shelves { terminal: u32 },
     Mu,
     M,
@@ -127,7 +127,7 @@ fn fixed_rows(question: u32, place: u32) -> &'static [Row]
     pair_rows(question, place)
 }
 
-// Adds the same record so many times.
+// Adds the same record this many times.
 fn push_times(into: &mut Vec<Row>, row: Row, count: u32) -> Result<(), NoMemory>
     ensures { OnOk result (into.new.items ≡ into.old.items ++ replicate count row) }
 {
@@ -258,7 +258,7 @@ pub(crate) struct Below<'a> {
     pub(crate) classes: u32,
 }
 
-// A record of this word, with so many numbers from the least to the greatest.
+// A record of this word, with this many numbers from the least to the greatest.
 fn part(word: Word, count: usize, least: u32, greatest: u32) -> Due<'static>
     requires { count ≤ MAX_NUMBERS }
     ensures { result ≡ DuePart word count (pos least) (pos greatest) }

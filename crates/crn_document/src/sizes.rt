@@ -6,7 +6,7 @@ ghost use Rattle.crn_ctext.specs.Expect.{AreSizes, sizes_of};
 use crn_ctext::Sizes;
 use crn_net::Network;
 
-// The sizes of a network with so many reactions in each linkage class, so many linked pairs within terminal classes, and
+// The sizes of a network with this many reactions in each linkage class, this many linked pairs within terminal classes, and
 // a confluence vector or none. The forms of heads depend on no other sizes, which are 0 here.
 pub(crate) fn head_sizes<'a>(
     net: &Network,

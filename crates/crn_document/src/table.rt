@@ -4,7 +4,7 @@ ghost use Rattle.crn_ctext.specs.Kinds.{table_form, vector_form};
 ghost use Rattle.crn_ctext.specs.Questions.{first_number};
 ghost use Rattle.crn_ctext.specs.Blocks.{asks, asks_all, asks_table};
 ghost use Rattle.crn_document.specs.Inner.Steps.{GoesOn, StepIs};
-ghost use Rattle.crn_document.specs.Inner.Table.{AreKept, IsCount, IsTable};
+ghost use Rattle.crn_document.specs.Inner.Table.{AreListed, IsCount, IsTable};
 
 use crate::fault::CheckStop;
 use crate::plain::{Plain, next_plain};
@@ -58,7 +58,7 @@ fn next_vector<S: Source>(
     Ok(())
 }
 
-// The next lines, which have to be so many shared lists. They are added to the table.
+// The next lines, which have to be this many shared lists. They are added to the table.
 fn next_vectors<S: Source>(
     source: &mut S,
     at: &mut Reading,
@@ -68,7 +68,7 @@ fn next_vectors<S: Source>(
     requires goes { GoesOn at.old }
     requires second { at.old.version ≡ 2 }
     ensures step { StepIs (asks_all at.old.version at.old.line false (replicate count vector_form))
-        (λ _ rs. AreKept at.old at.new table.old table.new rs)
+        (λ _ rs. AreListed at.old at.new table.old table.new rs)
         result at.old at.new (S.seen source.old) (S.seen source.new) }
     ensures goes { OnOk result (GoesOn at.new) }
     ensures version { at.new.version ≡ at.old.version }

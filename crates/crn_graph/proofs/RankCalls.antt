@@ -7,7 +7,7 @@ use Rattle.crn_graph.specs.declared.arcs.Arc.{Arc}
 use Rattle.crn_graph.specs.declared.ranks.Ranking.{Ranking}
 use Rattle.crn_graph.specs.Inner.Arcs.{arc_at, AreInside}
 use Rattle.crn_graph.specs.Inner.Search.{Steps, zeros}
-use Rattle.crn_graph.specs.Inner.Ranks.{rank_at, place_at, path_at, start_at, open_at, rest_at, IsOnPath, IsPath, IsRanking, KeepsPlaces, HasEntered, HasCome, IsJoined, HasClosed, IsOpenEnd, IsUnranked, AreRanks}
+use Rattle.crn_graph.specs.Inner.Ranks.{rank_at, place_at, path_at, start_at, open_at, rest_at, IsOnPath, IsPath, IsRanking, KeepsPlaces, HasEntered, HasCome, HasMerged, HasClosed, IsOpenEnd, IsUnranked, AreRanks}
 use Rattle.crn_graph.proofs.SearchLaws.{IsWritten, written, zeros-set, zeros_few}
 use Rattle.crn_graph.proofs.RankCounts.{few_parts, few_open, path_room, leads_last}
 use Rattle.crn_graph.proofs.RankEntered.{IsEntered, writes, other_than, entered_ranks, entered_keeps, entered_settled}
@@ -173,7 +173,7 @@ come_new arcs s t y z h free e =
       few = omega (arith, e.left, e.parts);
     }
 
-pub come_joined : (arcs : List Arc) (s : Ranking) (y z n : ℕ) → IsAtEnd arcs s y z → IsOnPath s z → IsJoined (place_at s z) s n → start_at s (n - 1) < place_at s z → HasCome arcs s (record s { parts = n }) y z
+pub come_joined : (arcs : List Arc) (s : Ranking) (y z n : ℕ) → IsAtEnd arcs s y z → IsOnPath s z → HasMerged (place_at s z) s n → start_at s (n - 1) < place_at s z → HasCome arcs s (record s { parts = n }) y z
 come_joined arcs s y z n h on' j low =
     let on = end_on arcs s y z h in
     record {

@@ -11,12 +11,12 @@ use Rattle.crn_graph.specs.declared.ranks.Ranking.{Ranking}
 use Rattle.crn_graph.specs.Inner.Arcs.{arc_at}
 use Rattle.crn_graph.specs.Inner.Graph.{IsNext}
 use Rattle.crn_graph.specs.Inner.Search.{Steps}
-use Rattle.crn_graph.specs.Inner.Ranks.{place_at, path_at, start_at, open_at, rest_at, IsRest, IsOnPath, IsSettled, IsRanking, IsJoined}
+use Rattle.crn_graph.specs.Inner.Ranks.{place_at, path_at, start_at, open_at, rest_at, IsRest, IsOnPath, IsSettled, IsRanking, HasMerged}
 use Rattle.crn_graph.proofs.RankCounts.{leads_last}
 
 -- ---- parts that are joined
 
-pub joined_ranks : (arcs : List Arc) (s : Ranking) (place n : ℕ) → IsRanking arcs s → IsJoined place s n → ((i : ℕ) → i < s.held → start_at s (n - 1) ≤ i → LeadsTo (Steps arcs) (path_at s i) (path_at s (start_at s (n - 1)))) → IsRanking arcs (record s { parts = n })
+pub joined_ranks : (arcs : List Arc) (s : Ranking) (place n : ℕ) → IsRanking arcs s → HasMerged place s n → ((i : ℕ) → i < s.held → start_at s (n - 1) ≤ i → LeadsTo (Steps arcs) (path_at s i) (path_at s (start_at s (n - 1)))) → IsRanking arcs (record s { parts = n })
 joined_ranks arcs s place n h j back = record {
   long = record { rank = refl; place = h.long.place; path = h.long.path; start = h.long.start; waiting = h.long.waiting; rest = h.long.rest };
   path = record { inside = h.path.inside; placed = h.path.placed; unranked = h.path.unranked; on = h.path.on; fresh = h.path.fresh; room = h.path.room };
@@ -51,7 +51,7 @@ joined_ranks arcs s place n h j back = record {
 }
 
 -- a complex of the path that is reached from the last part leads to all from its part on
-pub joins_back : (arcs : List Arc) (s : Ranking) (y z n : ℕ) → IsRanking arcs s → 1 ≤ s.parts → IsOnPath s y → start_at s (s.parts - 1) < place_at s y → IsOnPath s z → Steps arcs y z → IsJoined (place_at s z) s n → start_at s (n - 1) < place_at s z
+pub joins_back : (arcs : List Arc) (s : Ranking) (y z n : ℕ) → IsRanking arcs s → 1 ≤ s.parts → IsOnPath s y → start_at s (s.parts - 1) < place_at s y → IsOnPath s z → Steps arcs y z → HasMerged (place_at s z) s n → start_at s (n - 1) < place_at s z
     → (i : ℕ) → i < s.held → LeadsTo (Steps arcs) (path_at s i) (path_at s (start_at s (n - 1)))
 joins_back arcs s y z n h some on last on' step j low i lt =
     let S = Steps arcs in
@@ -64,7 +64,7 @@ joins_back arcs s y z n h some on last on' step j low i lt =
     (λ k more lk. let g = j.gone k (omega (arith, more, j.some)) lk in omega (arith, g, on'.0))) in
     leads_then S (path_at s i) z (path_at s (start_at s (n - 1))) over end
 
-pub joined_settled : (arcs : List Arc) (s : Ranking) (y z n : ℕ) → IsRanking arcs s → 1 ≤ place_at s z → IsJoined (place_at s z) s n → start_at s (n - 1) < place_at s z → IsSettled (record s { parts = n }) y z
+pub joined_settled : (arcs : List Arc) (s : Ranking) (y z n : ℕ) → IsRanking arcs s → 1 ≤ place_at s z → HasMerged (place_at s z) s n → start_at s (n - 1) < place_at s z → IsSettled (record s { parts = n }) y z
 joined_settled arcs s y z n h reached j low = inr (
   reached,
   λ k lk less. elim (cases_eq k (n - 1)) [

@@ -2,7 +2,7 @@ ghost use Rattle.std.specs.Prelude.{◌≡◌, ◌≤◌, ◌<◌, ◌+◌, ◌-
 ghost use Rattle.crn_vec.specs.declared.limits.TheConstants.{MAX_COMPLEXES};
 ghost use Rattle.crn_graph.specs.Inner.Arcs.{arc_at, AreInside};
 ghost use Rattle.crn_graph.specs.Inner.Graph.{IsNext};
-ghost use Rattle.crn_graph.specs.Inner.Ranks.{AreLongRanks, IsPath, IsRanking, HasEntered, HasCome, IsJoined, HasClosed, IsOpenEnd, KeepsPlaces, IsUnranked, AreRanks, weight, rank_at, place_at, path_at, start_at, open_at, rest_at};
+ghost use Rattle.crn_graph.specs.Inner.Ranks.{AreLongRanks, IsPath, IsRanking, HasEntered, HasCome, HasMerged, HasClosed, IsOpenEnd, KeepsPlaces, IsUnranked, AreRanks, weight, rank_at, place_at, path_at, start_at, open_at, rest_at};
 
 use crate::graph::Graph;
 use crn_vec::NoMemory;
@@ -91,7 +91,7 @@ impl Ranking {
         requires first { start_at self.old 0 < place }
         requires room { self.old.parts ≤ length self.old.start.items }
         ensures rest { self.new ≡ record self.old { parts = self.new.parts } }
-        ensures joined { IsJoined place self.old self.new.parts }
+        ensures merged { HasMerged place self.old self.new.parts }
         ensures last { start_at self.old (self.new.parts - 1) < place }
     {
         while self.start[self.parts - 1] >= place {

@@ -18,7 +18,7 @@ pub(crate) struct Search {
     // the complexes of the newest search in the order in which they were found
     queue: Vec<usize>,
     pub(crate) found: usize,
-    // so many of them had their arcs followed
+    // this many of them had their arcs followed
     done: usize,
     newest: u32,
 }
@@ -40,7 +40,7 @@ impl Search {
     }
 
     // Finds the complex to which the arc at a place goes, unless it has been found.
-    fn visit(&mut self, graph: &Graph, place: usize)
+    fn find(&mut self, graph: &Graph, place: usize)
         requires spreading { IsSpreading graph.now.arcs self.old }
         requires long { length self.old.label.items ≡ graph.now.complexes }
         requires small { graph.now.complexes ≤ MAX_COMPLEXES }
@@ -74,7 +74,7 @@ impl Search {
     {
         let mut chain = graph.first(self.queue[self.done]);
         while chain > 0 {
-            self.visit(graph, chain - 1);
+            self.find(graph, chain - 1);
             chain = graph.next(chain - 1);
         }
         self.done += 1;

@@ -4,7 +4,7 @@ use crn_net::Network;
 use itoa::Buffer;
 use std::process::Abort;
 
-// The species of all test networks. Complex i is so many of one of them.
+// The species of all test networks. Complex i is this many of one of them.
 const NAMES: &[u8] = b"ABCDEFGHIJKLMNOPQRSTUVWXYZabcdefghijklmnopqrstuvwxyz";
 
 fn put_complex(rt: &impl Abort, text: &mut Vec<u8>, i: u32) {

@@ -8,7 +8,7 @@ abbrev pub joined : List ℕ → List (List ℕ) → List ℕ
 joined separator [] = []
 joined separator (x ∷ xs) = x ++ flat_map (λ y. separator ++ y) xs
 
--- a text with so many others before it: after the separator, unless it is the first
+-- a text with this many others before it: after the separator, unless it is the first
 abbrev pub with_separator : List ℕ → ℕ → List ℕ → List ℕ
 with_separator separator zero x = x
 with_separator separator (suc before) x = separator ++ x

@@ -8,7 +8,7 @@ use Rattle.crn_io.specs.declared.lines.TheConstants.{MAX_LINE, MAX_DOCUMENT}
 abbrev pub IsLine : List ℕ → Type 0
 IsLine bytes = All (λ b. (b == 10) ≡ false) bytes
 
--- where a reading is: at the line of this number, with so many bytes before it, and these left
+-- where a reading is: at the line of this number, with this many bytes before it, and these left
 pub record Place : Type 0 where
   pub line : ℕ
   pub before : ℕ

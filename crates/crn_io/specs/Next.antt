@@ -19,7 +19,7 @@ pub record KeptLines : Type 0 where
   -- another line may be asked for
   pub goes_on : Bool
 
--- What the next line is, after lines of so many bytes: by its first bytes, of which the answer was found, and by what the
+-- What the next line is, after lines of this many bytes: by its first bytes, of which the answer was found, and by what the
 -- source has left after them.
 abbrev pub NextIs : Next → ℕ → List ℕ → Option (List ℕ) → KeptLines → Type 0
 -- the line and its LF, and the rest of the bytes is ahead
@@ -64,15 +64,15 @@ code_of last DocumentTooLong = 29
 code_of last LineTooLong = 30
 code_of last answer = last
 
--- Where a line is due, the answer gives the line that is there, or the first test of a line that fails there has the
+-- If a line is due, the answer gives the line that is there, or the first test of a line that fails there has the
 -- code of the answer.
 abbrev pub DueIs : Next → (node : Bool) → (at after : Place) → List ℕ → Type 0
 DueIs Line node at after line = IsLineAt at line after
 DueIs Failed node at after line = Unit {0}
 DueIs answer node at after line = BreaksLine at (early node) (LacksLine at) (code_of (early node) answer)
 
--- After the last line, the answer is that nothing is left and nothing is, or the first test that fails there has the
--- code of the answer.
+-- After the last line, the answer is that nothing is left, and nothing is left; or the first test that fails there has
+-- the code of the answer.
 abbrev pub EndIs : Next → Place → Type 0
 EndIs End at = HasMore at → ⊥
 EndIs Failed at = Unit {0}

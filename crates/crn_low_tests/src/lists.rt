@@ -1,12 +1,12 @@
 use crn_vec::{
     Ints, Kind, Matrix, Nums, Sign, agrees, base_gives_rank, budgets_that_are_never_spent,
     confluence_vectors_are_one, counts, cuts_exclude_solutions, deficiency_is_one_number, dot,
-    level_is_zero, longer_visits, marks_are_sides, may_take, may_weigh, multiples_share_signals,
+    feasible_prefixes_decide_discordance, feasible_prefixes_decide_signals, level_is_zero,
+    longer_visits, marks_are_sides, may_take, may_weigh, multiples_share_signals,
     negatives_have_opposite_shapes, networks_are_lawful, networks_have_tables,
     no_problem_lacks_visits, opposite, product, rank_is_one_number, rules_out, shapes_are_one,
-    sign_of, signals_are_of_shape, signals_are_steady, signals_are_where_a_prefix_is_feasible,
-    signals_meet_the_laws_of_sign_problems, signals_of_networks_are_feasible, support,
-    tables_are_discordant_where_a_prefix_is_feasible, tables_are_steady,
+    sign_of, signals_are_of_shape, signals_are_steady, signals_meet_the_laws_of_sign_problems,
+    signals_of_networks_are_feasible, support, tables_are_steady,
     tables_meet_the_laws_of_sign_problems, terminal_classes_are_by_reactions,
     visits_are_in_preorder, visits_are_one_list, visits_are_reached,
     weak_reversibility_is_by_reactions, weights_decide_cuts,
@@ -77,12 +77,12 @@ fn laws_hold() {
     budgets_that_are_never_spent();
     tables_meet_the_laws_of_sign_problems();
     tables_are_steady();
-    tables_are_discordant_where_a_prefix_is_feasible();
+    feasible_prefixes_decide_discordance();
     networks_have_tables();
     signals_meet_the_laws_of_sign_problems();
     signals_are_steady();
     level_is_zero();
-    signals_are_where_a_prefix_is_feasible();
+    feasible_prefixes_decide_signals();
     shapes_are_one();
     negatives_have_opposite_shapes();
     multiples_share_signals();
@@ -112,7 +112,7 @@ fn signs_by_table(rt: HostRuntime) {
 }
 
 #[test]
-fn agrees_exactly_where_each_value_has_its_kind(rt: HostRuntime) {
+fn agrees_if_and_only_if_each_value_has_its_kind(rt: HostRuntime) {
     let kinds = [Kind::Pos, Kind::Neg, Kind::NonNeg, Kind::Zero, Kind::Free];
     for (values, want) in [
         ([1, -1, 0, 0, -5], true),

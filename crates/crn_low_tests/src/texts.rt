@@ -147,7 +147,7 @@ fn two_hundred_and_forty_reactions_are_the_most(rt: HostRuntime) {
     assert_eq!(rt; refusal(&rt, &text), (240, 4));
 }
 
-// The line `0 -> A -> 2A` and so on, with so many arrows.
+// The line `0 -> A -> 2A` and so on, with this many arrows.
 fn put_chain(rt: &impl Abort, text: &mut Vec<u8>, arrows: u32) {
     text.extend_from_slice(b"0").expect(rt, "memory");
     for i in 0..arrows {
@@ -156,7 +156,7 @@ fn put_chain(rt: &impl Abort, text: &mut Vec<u8>, arrows: u32) {
     }
 }
 
-// Whether the network of a text has so many species, complexes and reactions.
+// Whether the network of a text has this many species, complexes and reactions.
 fn has_sizes(
     rt: &(impl Abort + AllocGlobal),
     text: &[u8],
@@ -181,7 +181,7 @@ fn a_chain_is_as_many_statements(rt: HostRuntime) {
     assert_eq!(rt; refusal(&rt, &text), (1, 17));
 }
 
-// The sum of so many species, all different, and its decay.
+// The sum of this many species, all different, and its decay.
 fn put_species(rt: &impl Abort, text: &mut Vec<u8>, count: u32) {
     for s in 0..count {
         if s != 0 {
@@ -270,7 +270,7 @@ fn sums_of_very_many_terms_are_tried_as_they_are_read(rt: HostRuntime) {
     }
 }
 
-// Terms of so many names, in steps from one to another, each with this amount: how many terms, how many names, the step
+// Terms of this many names, in steps from one to another, each with this amount: how many terms, how many names, the step
 // and the amount.
 type Sum = (u32, u32, u32, u32);
 

@@ -9,7 +9,7 @@ use Rattle.std.proofs.lemmas.List.{take_more, map_push}
 use Rattle.std.proofs.lemmas.List.Sums.{fold-append}
 use Rattle.crn_vec.specs.Network.{amount_in}
 use Rattle.crn_net.specs.Terms.{side_of}
-use Rattle.crn_net.specs.declared.sides.Share.{Share}
+use Rattle.crn_net.specs.declared.side_sums.Share.{Share}
 use Rattle.crn_net.specs.declared.term.Term.{Term}
 use Rattle.crn_net.specs.Inner.Sums.{share_of, name_in, sum_in, no_share}
 use Rattle.crn_net.proofs.Sums.{added, left_added, right_added}

@@ -21,7 +21,7 @@ use mir.Syntax.{w32}
 use mir.Val.{SFits}
 use Rattle.crn_vec.specs.Network.{amount_in}
 use Rattle.crn_vec.specs.declared.limits.TheConstants.{MAX_AMOUNT, MAX_TERMS}
-use Rattle.crn_net.specs.declared.sides.Share.{Share}
+use Rattle.crn_net.specs.declared.side_sums.Share.{Share}
 use Rattle.crn_net.specs.declared.term.Term.{Term}
 use Rattle.crn_net.specs.Inner.Sums.{share_of, name_in, sum_in, AreByName}
 use Rattle.crn_net.specs.Terms.{name_at, side_of}

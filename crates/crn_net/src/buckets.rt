@@ -4,7 +4,7 @@ ghost use Rattle.crn_vec.specs.Network.{amount_in};
 ghost use Rattle.crn_net.specs.Terms.{side_of};
 ghost use Rattle.crn_net.specs.Inner.BucketSums.{mark};
 
-use crate::sides::name_of;
+use crate::side_sums::name_of;
 use crate::term::Term;
 use crn_vec::MAX_AMOUNT;
 use std::alloc::{AllocError, Global};

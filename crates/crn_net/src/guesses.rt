@@ -1,6 +1,6 @@
 ghost use Rattle.std.specs.Prelude.{◌<◌, ◌^◌};
 
-// How many guesses there are. Of 60 names few share one.
+// The number of guesses. Of 60 names, few share one.
 const SIZE: usize = 1024;
 
 // Guesses where the entries of a table are, each under a mark of the entry. Entries may share a mark, so a guess

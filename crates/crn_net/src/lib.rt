@@ -11,7 +11,7 @@ mod name;
 mod network;
 mod row;
 mod same;
-mod sides;
+mod side_sums;
 mod tables;
 mod term;
 
@@ -19,5 +19,5 @@ pub use builder::NetBuilder;
 pub use fault::NetFault;
 pub use laws::statements_fix_what_has_grown;
 pub use network::Network;
-pub use sides::sums_fit;
+pub use side_sums::sums_fit;
 pub use term::Term;

@@ -5,7 +5,7 @@ ghost use Rattle.crn_net.specs.Terms.{side_of};
 ghost use Rattle.crn_net.specs.Inner.Sums.{share_of, name_in, sum_in, no_share};
 
 use crate::buckets::mark_of;
-use crate::sides::Share;
+use crate::side_sums::Share;
 use crate::term::Term;
 use crn_vec::{MAX_AMOUNT, MAX_TERMS};
 use std::alloc::{AllocError, Global};

@@ -11,7 +11,7 @@ use crate::guesses::{Guesses, TableGuesses};
 use crate::name::{Name, Names};
 use crate::row::{Amounts, Complexes, Row};
 use crate::same::are_same;
-use crate::sides::{name_of, says_same};
+use crate::side_sums::{name_of, says_same};
 use crate::term::Term;
 use crn_vec::{MAX_COMPLEXES, MAX_NAME, MAX_REACTIONS, MAX_SPECIES};
 use std::alloc::{AllocError, Global};

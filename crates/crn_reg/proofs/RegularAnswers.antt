@@ -133,7 +133,7 @@ cycle_is net pairs walk r are i h =
       z = w.z;
       goes = w.goes;
       pair = subst (λ (p : ℕ × ℕ). IsTerminalPair net.reactions p.0 p.1) first f.pair;
-      joined = subst (λ (p : ℕ × ℕ). IsCutPair net.reactions p.0 p.1 → ⊥) second h.no_pair;
+      no_cut_pair = subst (λ (p : ℕ × ℕ). IsCutPair net.reactions p.0 p.1 → ⊥) second h.no_pair;
       shown = w.leads;
     }
 

@@ -8,15 +8,15 @@ use Rattle.crn_vec.specs.Network.{Net}
 use Rattle.crn_io.specs.Joined.{joined, with_separator}
 use Rattle.crn_io.proofs.CallerLemmas.{joined_push, joined_more}
 use Rattle.crn_text.specs.Canonical.{side, complex_text}
-use Rattle.crn_render.specs.Details.{sides, of_label, lines_from}
+use Rattle.crn_render.specs.Details.{complex_texts, of_label, lines_from}
 use Rattle.crn_render.proofs.Texts.{get_or_map}
 
 -- ---- the sides of a network
 
-pub side_at : (net : Net) (c : ℕ) → c < length net.complexes → get_or (sides net) c [] ≡ complex_text net c
+pub side_at : (net : Net) (c : ℕ) → c < length net.complexes → get_or (complex_texts net) c [] ≡ complex_text net c
 side_at net c lt = get_or_map (side net.names) net.complexes c [] [] lt
 
-pub sides_count : (net : Net) → length (sides net) ≡ length net.complexes
+pub sides_count : (net : Net) → length (complex_texts net) ≡ length net.complexes
 sides_count net = simp length-map
 
 -- ---- the members of a class
@@ -55,21 +55,21 @@ pub members_count : (k : ℕ) (labels : List ℕ) (texts : List (List ℕ)) (i :
 members_count k labels texts i p q is = rw (members_push k labels texts i p q is) (length-append _ _)
 
 -- one member more
-pub members_step : (net : Net) (k : ℕ) (labels : List ℕ) (i n : ℕ) → i < length labels → i < length net.complexes → get_or labels i 0 ≡ k → n ≡ length (of_label k (take i labels) (take i (sides net)))
-    → joined (codes "; ") (of_label k (take (i + 1) labels) (take (i + 1) (sides net))) ≡ joined (codes "; ") (of_label k (take i labels) (take i (sides net))) ++ with_separator (codes "; ") n (complex_text net i)
+pub members_step : (net : Net) (k : ℕ) (labels : List ℕ) (i n : ℕ) → i < length labels → i < length net.complexes → get_or labels i 0 ≡ k → n ≡ length (of_label k (take i labels) (take i (complex_texts net)))
+    → joined (codes "; ") (of_label k (take (i + 1) labels) (take (i + 1) (complex_texts net))) ≡ joined (codes "; ") (of_label k (take i labels) (take i (complex_texts net))) ++ with_separator (codes "; ") n (complex_text net i)
 members_step net k labels i n p q is e =
-    let q' : i < length (sides net) = omega (arith, sides_count net) in
-    rw (← side_at net i q, members_push k labels (sides net) i p q' is, e) (joined_push (codes "; ") (of_label k (take i labels) (take i (sides net))) (get_or (sides net) i []))
+    let q' : i < length (complex_texts net) = omega (arith, sides_count net) in
+    rw (← side_at net i q, members_push k labels (complex_texts net) i p q' is, e) (joined_push (codes "; ") (of_label k (take i labels) (take i (complex_texts net))) (get_or (complex_texts net) i []))
 
 -- the members before one, that one, and those after it
-pub members_whole : (net : Net) (k : ℕ) (labels : List ℕ) (i n : ℕ) → i < length labels → i < length net.complexes → get_or labels i 0 ≡ k → n ≡ length (of_label k (take i labels) (take i (sides net)))
-    → joined (codes "; ") (of_label k labels (sides net)) ≡ (joined (codes "; ") (of_label k (take i labels) (take i (sides net))) ++ with_separator (codes "; ") n (complex_text net i)) ++ flat_map (λ y. codes "; " ++ y) (of_label k (drop (suc i) labels) (drop (suc i) (sides net)))
+pub members_whole : (net : Net) (k : ℕ) (labels : List ℕ) (i n : ℕ) → i < length labels → i < length net.complexes → get_or labels i 0 ≡ k → n ≡ length (of_label k (take i labels) (take i (complex_texts net)))
+    → joined (codes "; ") (of_label k labels (complex_texts net)) ≡ (joined (codes "; ") (of_label k (take i labels) (take i (complex_texts net))) ++ with_separator (codes "; ") n (complex_text net i)) ++ flat_map (λ y. codes "; " ++ y) (of_label k (drop (suc i) labels) (drop (suc i) (complex_texts net)))
 members_whole net k labels i n p q is e =
-    let q' : i < length (sides net) = omega (arith, sides_count net) in
-    let before = of_label k (take i labels) (take i (sides net)) in
-    let after = of_label k (drop (suc i) labels) (drop (suc i) (sides net)) in
-    let text = get_or (sides net) i [] in
-    let all : of_label k labels (sides net) ≡ (before ++ text ∷ []) ++ after = of_label_whole k labels (sides net) i p q' ∙ rw (one_of k (get_or labels i 0) text is) refl in
+    let q' : i < length (complex_texts net) = omega (arith, sides_count net) in
+    let before = of_label k (take i labels) (take i (complex_texts net)) in
+    let after = of_label k (drop (suc i) labels) (drop (suc i) (complex_texts net)) in
+    let text = get_or (complex_texts net) i [] in
+    let all : of_label k labels (complex_texts net) ≡ (before ++ text ∷ []) ++ after = of_label_whole k labels (complex_texts net) i p q' ∙ rw (one_of k (get_or labels i 0) text is) refl in
     rw (← side_at net i q) (ap (joined (codes "; ")) all ∙ rw e (joined_more (codes "; ") before after text))
 
 -- complexes of other classes add nothing

@@ -22,9 +22,9 @@ use Rattle.crn_render.specs.Words.{numbers_text}
 abbrev pub vector_text : List ℤ → List ℕ
 vector_text zs = joined (codes " ") (map signed_decimal zs)
 
--- all complexes in order, as the canonical text writes them
-abbrev pub sides : Net → List (List ℕ)
-sides net = map (side net.names) net.complexes
+-- the texts of all complexes in order, as the canonical text writes them
+abbrev pub complex_texts : Net → List (List ℕ)
+complex_texts net = map (side net.names) net.complexes
 
 -- the complexes with these numbers, in this order
 abbrev pub walk_text : Net → List ℕ → List ℕ
@@ -52,7 +52,7 @@ of_label k labels texts = []
 
 -- the complexes of class k in order
 abbrev pub members_text : Net → List ℕ → ℕ → List ℕ
-members_text net labels k = joined (codes "; ") (of_label k labels (sides net))
+members_text net labels k = joined (codes "; ") (of_label k labels (complex_texts net))
 
 -- linkage class k and its complexes
 unfoldable pub class_line : Net → List ℕ → ℕ → List ℕ
@@ -68,7 +68,7 @@ unfoldable pub strong_line : Net → List ℕ → List ℕ → ℕ → List ℕ
 strong_line net labels exits k = titled_line (codes "strong " ++ decimal k)
     (members_text net labels k ++ terminal_text (slice_index exits (k - 1)))
 
--- the lines of so many classes, the first of them k
+-- the lines of this many classes, the first of them k
 abbrev pub lines_from : (ℕ → List ℕ) → (k count : ℕ) → List ℕ
 lines_from line k zero = []
 lines_from line k (suc n) = line k ++ lines_from line (k + 1) n

@@ -9,7 +9,7 @@ use Rattle.crn_cert.specs.Questions.{Question}
 use Rattle.crn_cert.specs.declared.answer.Verdict.{Verdict}
 use Rattle.crn_cert.specs.declared.answer.Verdict.TheVariants.{Unknown}
 use Rattle.crn_render.specs.Words.{question_line}
-use Rattle.crn_render.specs.Details.{details, sides}
+use Rattle.crn_render.specs.Details.{details, complex_texts}
 
 -- ---- the head
 
@@ -25,7 +25,7 @@ species_line net = codes "species " ++ decimal (length net.names) ++ codes ": "
 -- the number of complexes, and the complexes
 unfoldable pub complexes_line : Net → List ℕ
 complexes_line net = codes "complexes " ++ decimal (length net.complexes) ++ codes ": "
-    ++ joined (codes "; ") (sides net) ++ codes "\n"
+    ++ joined (codes "; ") (complex_texts net) ++ codes "\n"
 
 -- the number of reactions
 unfoldable pub reactions_line : Net → List ℕ

@@ -53,35 +53,35 @@ no_words Q11 = codes "no, "
 no_words q = codes "hypotheses fail, "
 
 -- the words of a verdict
-abbrev pub words : Question → Verdict → List ℕ
-words q (Classes count label) = decimal count
-words q (Strong count terminal label exit) =
+abbrev pub verdict_words : Question → Verdict → List ℕ
+verdict_words q (Classes count label) = decimal count
+verdict_words q (Strong count terminal label exit) =
     decimal count ++ codes ", terminal " ++ decimal terminal
-words q (Rank rank base) = decimal rank
-words q (Deficiency total classes) =
+verdict_words q (Rank rank base) = decimal rank
+verdict_words q (Deficiency total classes) =
     decimal total ++ codes ", classes " ++ numbers_text classes.list
-words q Yes = yes_words q
-words q (YesWeak weak) = weak_words weak
-words q (YesVec vector) = codes "yes"
-words q (YesSignal turn shelves mu m weights) = codes "yes"
-words q No = codes "no"
-words q (NoReaction reaction) = codes "no"
-words q (NoVec multipliers) = codes "no"
-words q (NoNumber number) = codes "hypotheses fail, deficiency " ++ decimal number
-words q (NoTerminal class count) = no_words q ++ codes "class " ++ decimal class
+verdict_words q Yes = yes_words q
+verdict_words q (YesWeak weak) = weak_words weak
+verdict_words q (YesVec vector) = codes "yes"
+verdict_words q (YesSignal turn shelves mu m weights) = codes "yes"
+verdict_words q No = codes "no"
+verdict_words q (NoReaction reaction) = codes "no"
+verdict_words q (NoVec multipliers) = codes "no"
+verdict_words q (NoNumber number) = codes "hypotheses fail, deficiency " ++ decimal number
+verdict_words q (NoTerminal class count) = no_words q ++ codes "class " ++ decimal class
     ++ codes " has " ++ decimal count ++ codes " terminal classes"
-words q (NoClass class number) = no_words q ++ codes "class " ++ decimal class
+verdict_words q (NoClass class number) = no_words q ++ codes "class " ++ decimal class
     ++ codes " has deficiency " ++ decimal number
-words q (NoSum total) = no_words q ++ codes "class deficiencies sum to " ++ decimal total
-words q NoDependence = no_words q ++ codes "not positively dependent"
-words q (NoCycle reaction walk) = no_words q ++ codes "a cycle in a terminal class"
-words q (NoPair alpha weights) = codes "no"
-words q NotRegular = codes "not applicable, not regular"
-words q OnlyZero = codes "not applicable, no vector but zero"
-words q (Plane first second one two) = codes "not applicable, two independent vectors"
-words q NotApplicable = codes "not applicable"
-words q (Unknown gap) = gap_words gap
+verdict_words q (NoSum total) = no_words q ++ codes "class deficiencies sum to " ++ decimal total
+verdict_words q NoDependence = no_words q ++ codes "not positively dependent"
+verdict_words q (NoCycle reaction walk) = no_words q ++ codes "a cycle in a terminal class"
+verdict_words q (NoPair alpha weights) = codes "no"
+verdict_words q NotRegular = codes "not applicable, not regular"
+verdict_words q OnlyZero = codes "not applicable, no vector but zero"
+verdict_words q (Plane first second one two) = codes "not applicable, two independent vectors"
+verdict_words q NotApplicable = codes "not applicable"
+verdict_words q (Unknown gap) = gap_words gap
 
 -- the line of a question: its title, and the words of its verdict
 abbrev pub question_line : Question → Verdict → List ℕ
-question_line q verdict = title q ++ codes ": " ++ words q verdict ++ codes "\n"
+question_line q verdict = title q ++ codes ": " ++ verdict_words q verdict ++ codes "\n"

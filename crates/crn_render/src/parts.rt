@@ -6,7 +6,7 @@ ghost use Rattle.crn_io.specs.Joined.{joined, with_separator};
 ghost use Rattle.crn_io.specs.Write.{Wrote};
 ghost use Rattle.crn_text.specs.Canonical.{complex_text};
 ghost use Rattle.crn_render.specs.Words.{numbers_text};
-ghost use Rattle.crn_render.specs.Details.{vector_text, shelf, shelves_text, sides, walk_text, arrow_text, reaction_text};
+ghost use Rattle.crn_render.specs.Details.{vector_text, shelf, shelves_text, complex_texts, walk_text, arrow_text, reaction_text};
 
 use crn_io::{Sink, WriteFault, put_all, put_between, put_parts};
 use crn_net::Network;
@@ -138,7 +138,7 @@ pub(crate) fn put_complex<K: Sink>(
 
 // All complexes.
 pub(crate) fn put_complexes<K: Sink>(sink: &mut K, net: &Network) -> Result<(), WriteFault>
-    ensures { Wrote (joined (codes "; ") (sides net.now))
+    ensures { Wrote (joined (codes "; ") (complex_texts net.now))
         (K.seen sink.old) (K.seen sink.new) result }
 {
     let mut text = SideText::new();

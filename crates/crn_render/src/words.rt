@@ -1,6 +1,6 @@
 ghost use Rattle.std.specs.Prelude.{◌≡◌, ◌<◌, ◌++◌, codes, decimal};
 ghost use Rattle.crn_io.specs.Write.{Wrote};
-ghost use Rattle.crn_render.specs.Words.{title as title_text, numbers_text, gap_words, yes_words as yes_text, weak_words as weak_text, no_words as no_text, words, question_line};
+ghost use Rattle.crn_render.specs.Words.{title as title_text, numbers_text, gap_words, yes_words as yes_text, weak_words as weak_text, no_words as no_text, verdict_words, question_line};
 ghost use Rattle.crn_render.specs.Inner.Reading.{question_at};
 
 use crate::parts::{put_digits, put_number, put_number_after, put_numbers};
@@ -162,7 +162,7 @@ fn put_sum<K: Sink>(sink: &mut K, before: &[u8], sum: u32) -> Result<(), WriteFa
 // The words of a verdict on the question at a place.
 fn put_words<K: Sink>(sink: &mut K, place: usize, verdict: &Verdict) -> Result<(), WriteFault>
     requires { place < 15 }
-    ensures { Wrote (words (question_at place) verdict.now)
+    ensures { Wrote (verdict_words (question_at place) verdict.now)
         (K.seen sink.old) (K.seen sink.new) result }
 {
     let no = no_words(place);

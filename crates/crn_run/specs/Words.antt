@@ -7,7 +7,7 @@ use Rattle.crn_sample.specs.declared.limits.TheConstants.{MAX_SAMPLE, MAX_SAMPLE
 use Rattle.crn_run.specs.declared.words.Command.{Command}
 use Rattle.crn_run.specs.declared.words.Command.TheVariants.{Report, Certify, Check, Sample}
 
--- the text is so many digits at most, without a sign, and writes a number from 1 to the greatest
+-- the text is this many digits at most, without a sign, and writes a number from 1 to the greatest
 pub record IsNumberWithin (most_digits greatest : ℕ) (text : List ℕ) (number : ℕ) : Type 0 where
   pub digits : IsNumeral 10 text
   pub short : length text ≤ most_digits

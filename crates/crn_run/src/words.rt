@@ -161,7 +161,7 @@ fn budget_meant(word: Option<&str>) -> Option<u32>
     }
 }
 
-// The number that digits write, if they are not more than so many and it is from 1 to the greatest.
+// The number that digits write, if they are not more than this many and it is from 1 to the greatest.
 fn number_within(digits: &str, most_digits: usize, greatest: u32) -> Option<u32>
     ensures { MatchOption result
         ((n : ℕ) → IsNumberWithin most_digits greatest digits.now n → ⊥)

@@ -13,7 +13,7 @@ step_text i =
     ++ codes "\n" ++ numbered (codes "C") i ++ codes " -> E + " ++ numbered (codes "S") i
     ++ codes "\n"
 
--- the text of the sample network of so many steps: the two lines of each step from the first on
+-- the text of the sample network of this many steps: the two lines of each step from the first on
 abbrev pub sample_text : ℕ → List ℕ
 sample_text zero = []
 sample_text (suc before) = sample_text before ++ step_text (before + 1)

@@ -30,7 +30,7 @@ fn text_of(alloc: Global, number: u32) -> Result<String, NoMemory>
     Ok(text)
 }
 
-/// The network of so many steps. Takes memory for it and for its text.
+/// The network of this many steps. Takes memory for it and for its text.
 ///
 /// In step i, counted from 1, the enzyme E binds S(i-1) to C(i), which gives E and S(i): its lines are
 /// `E + S(i-1) <-> C(i)` and `C(i) -> E + S(i)`.

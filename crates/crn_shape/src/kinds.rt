@@ -73,7 +73,7 @@ pub(crate) fn pair_kind(shelves: &[Sign], pair: &LinkedPair) -> Kind
     }
 }
 
-/// The first options of a prefix, at most so many.
+/// The first options of a prefix, at most this many.
 pub fn shelves(prefix: &[Sign], count: usize) -> &[Sign]
     ensures { result.now ≡ take count prefix.now }
 {
@@ -81,7 +81,7 @@ pub fn shelves(prefix: &[Sign], count: usize) -> &[Sign]
     shelves
 }
 
-/// The options of a prefix after so many.
+/// The options of a prefix after this many.
 pub(crate) fn signs(prefix: &[Sign], count: usize) -> &[Sign]
     ensures { result.now ≡ drop count prefix.now }
 {

@@ -9,7 +9,7 @@ use crn_net::Network;
 use crn_vec::NoMemory;
 use std::alloc::Global;
 
-// How many of the first so many exits are 0, those of terminal classes.
+// How many of the exits before a place are 0, which are those of terminal classes.
 fn zeros_below(exits: &[u32], last: usize) -> usize
     requires { last ≤ length exits.now }
     ensures count { result ≡ zeros_below exits.now last }

@@ -5,7 +5,7 @@ ghost use Rattle.crn_sign.specs.Options.{asked_kind};
 use crn_sign::{Asked, FREE, asked_of_sign};
 use crn_vec::{Kind, Sign};
 
-/// What asks for a number of a kind.
+/// What requires a number of a kind.
 pub(crate) fn asked_of_kind(kind: Kind) -> Asked
     requires { kind ≢ Kind.NonNeg }
     ensures { asked_kind result ≡ kind }

@@ -54,7 +54,7 @@ pub(crate) fn digits(bytes: &[u8]) -> usize
     bytes.iter().take_while(|b| is_digit_byte(**b)).count()
 }
 
-// Whether all bytes may be of a name. All are looked at, also after one that is not, so that many are tested at a time.
+// Whether all bytes may be of a name. All are looked at, even after one that is not, so that many are tested at a time.
 fn are_of_name(bytes: &[u8]) -> bool
     ensures { result ≡ list_all is_name_byte bytes.now }
 {

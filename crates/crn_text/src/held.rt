@@ -11,15 +11,15 @@ use crn_vec::MAX_TEXT;
 use std::alloc::{AllocError, Global};
 use std::marker::Model;
 
-// The least and the most bytes of a side that is remembered. A shorter one is read as fast.
+// The least and the most bytes of a side that is remembered. A shorter one is read just as fast.
 const LEAST: usize = 32;
 
 const MOST: usize = 1024;
 
-// How many sides are remembered at most.
+// The most sides that are remembered.
 const SIDES: usize = 255;
 
-// How many guesses there are. Of a network's sides few share one.
+// The number of guesses. Few sides of a network share one.
 const GUESSES: usize = 1024;
 
 // How many bytes of a side decide its guess.
@@ -97,7 +97,7 @@ fn before_blanks(text: &[u8]) -> &[u8]
     left
 }
 
-// The term of a side where the side begins so many bytes later.
+// The term of a side where the side begins this many bytes later.
 fn moved(term: &Term, by: u32) -> Term
     ensures { result ≡ moved by term.now }
 {
@@ -108,7 +108,7 @@ fn moved(term: &Term, by: u32) -> Term
     }
 }
 
-// Moves the terms of a side to where the side begins so many bytes later.
+// Moves the terms of a side to where the side begins this many bytes later.
 fn move_all(terms: &mut [Term], by: u32)
     ensures { terms.new ≡ map (λ t. moved by t) terms.old }
 {
@@ -117,7 +117,7 @@ fn move_all(terms: &mut [Term], by: u32)
     }
 }
 
-// Replaces the terms in the buffer by those of a side that begins so many bytes later.
+// Replaces the terms in the buffer by those of a side that begins this many bytes later.
 fn put_moved(known: &[Term], by: u32, terms: &mut Vec<Term>) -> Result<(), AllocError>
     ensures { IfOk result (λ done. terms.new.items ≡ map (λ t. moved by t) known.now) }
 {

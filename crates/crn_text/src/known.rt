@@ -4,7 +4,7 @@ ghost use Rattle.crn_text.specs.Inner.Known.{line_at, AreKnown};
 
 use crn_vec::MAX_TEXT;
 
-// How many lines are remembered at most. Of a network's lines few share a slot.
+// The most lines that are remembered. Few lines of a network share a slot.
 const SLOTS: usize = 256;
 
 /// Where a line of a text is: its first byte, counted from 0, and how many bytes it has.

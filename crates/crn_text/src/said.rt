@@ -7,7 +7,7 @@ use crate::token::TokenKind;
 // How many arrows are remembered at most.
 const SLOTS: usize = 16;
 
-// 2^64 over the golden ratio, an odd number. The high bits of a product with it hang on all bits of the other factor.
+// 2^64 over the golden ratio, an odd number. The high bits of a product with it depend on all bits of the other factor.
 const SPREAD: u64 = 0x9e37_79b9_7f4a_7c15;
 
 /// An arrow, with the sides before and after it.

@@ -31,7 +31,7 @@ fn with_answer(
     (document, before.lines().count())
 }
 
-// Whether a document is accepted, or rejected for its fault, so many lines after the first ones.
+// Whether a document is accepted, or rejected for its fault, this many lines after the first ones.
 fn is_judged(
     rt: &(impl Abort + AllocGlobal),
     document: &str,

@@ -6,7 +6,7 @@ use crn_io::{MemSink, MemSource, Pull, QuietSink, QuietSource, Source};
 use crn_run::{Status, run};
 use std::process::Abort;
 
-// A source of `A -> B` that gives at most so many bytes a pull and fails at these pulls, a sink that takes at most so
+// A source of `A -> B` that gives at most this many bytes a pull and fails at these pulls, a sink that takes at most this
 // many bytes a push and fails at these pushes, and how a report ends: its status, and the most bytes that are written.
 struct Devices {
     name: &'static str,
@@ -102,7 +102,7 @@ fn nothing_is_pulled_after_a_read_fault(rt: HostRuntime) {
     assert_eq!(rt; buffer[0], b' ', "the next byte after the fault");
 }
 
-// How a command ends over a source of this text that gives so many bytes a pull and fails at one of its pulls, and how
+// How a command ends over a source of this text that gives this many bytes a pull and fails at one of its pulls, and how
 // many bytes are written.
 fn end_by_pull(
     rt: &(impl Abort + AllocGlobal),
@@ -164,7 +164,7 @@ fn ends_by_push(rt: &(impl Abort + AllocGlobal), failing: u32) -> Status {
     status
 }
 
-// A push takes at most 7 bytes, so that there are at least so many pushes.
+// A push takes at most 7 bytes, so that there are at least this many pushes.
 #[test]
 fn each_push_may_fail(rt: HostRuntime) {
     for failing in 0..ROW.len() as u32 {

@@ -455,7 +455,7 @@ fn no_line_of_a_document_ends_with_a_carriage_return(rt: HostRuntime) {
     }
 }
 
-// The document with a line that starts so and has so many bytes in the place of the first `label`.
+// The document with a line that starts so and has this many bytes in the place of the first `label`.
 fn with_a_long_line(rt: &(impl Abort + AllocGlobal), start: &str, length: usize) -> String {
     let mut line = start.to_string(rt.alloc()).expect(rt, "memory");
     for _ in line.len()..length {

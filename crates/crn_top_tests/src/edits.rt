@@ -368,7 +368,7 @@ const TREE_EDITS: &[(usize, &str, usize, &str, usize)] = &[
     (57, "end", 58, "27 EndsEarly", 58),
 ];
 
-// Whether an edit of these lines, which come so many lines later than in version 1, is rejected where it is.
+// Whether an edit of these lines, which come this many lines later than in version 1, is rejected where it is.
 fn is_rejected_in(
     rt: &(impl Abort + AllocGlobal),
     lines: &[&str],

@@ -192,7 +192,7 @@ fn open_in(report: &str) -> usize {
         .count()
 }
 
-// Whether a report counts so many open questions at its end.
+// Whether a report counts this many open questions at its end.
 fn ends_with_count(rt: &(impl Abort + AllocGlobal), report: &str, count: usize) -> bool {
     let last = format!(in rt.alloc(); "\nopen: {count}\n").expect(rt, "memory");
     report.ends_with(last.as_str())

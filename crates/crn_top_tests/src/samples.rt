@@ -50,7 +50,7 @@ fn a_sample_is_made_without_its_source(rt: HostRuntime) {
     assert_eq!(rt; source.pull(&mut buffer), Pull::Got(1), "the first pull");
 }
 
-// Whether a network has so many species, complexes and reactions.
+// Whether a network has this many species, complexes and reactions.
 fn has_sizes(net: &Network, species: usize, complexes: usize, reactions: usize) -> bool {
     net.species() == species && net.complexes() == complexes && net.reactions() == reactions
 }

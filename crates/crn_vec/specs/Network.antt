@@ -71,7 +71,7 @@ Holds net c s = pos 1 ≤ℤ amount_at net c s
 abbrev pub IsHeldBefore : Net → ℕ → ℕ → Type 0
 IsHeldBefore net c s = (b : ℕ) × (b < c) × Holds net b s
 
--- the reaction joins two different complexes of so many
+-- the reaction joins two different complexes of this many
 abbrev pub JoinsTwo : ℕ → ℕ × ℕ → Type 0
 JoinsTwo count r = (r.0 ≡ r.1 → ⊥) × (r.0 < count) × (r.1 < count)
 

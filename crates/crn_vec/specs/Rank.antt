@@ -28,7 +28,7 @@ pub record DependsOn (v : List ℤ) (vs : List (List ℤ)) : Type 0 where
   pub long : length c ≡ length vs
   pub is : (k : ℕ) → d *ℤ entry v k ≡ combination_at c vs k
 
--- different places of a list of so many members, in order
+-- different places of a list of this many members, in order
 pub record IsChoice (count : ℕ) (places : List ℕ) : Type 0 where
   pub ascending : IsAscending places
   pub below : (k : ℕ) → IsIn k places → k < count

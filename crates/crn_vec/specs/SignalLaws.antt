@@ -36,8 +36,8 @@ pub record SignalWhereFeasible (s : Shape) (m : Mat) : Type 0 where
       × IsSignal s m shelves mu level weights
 
 -- signals and full feasible prefixes agree
-abbrev pub SignalsWhereFeasible : Type 0
-SignalsWhereFeasible = (net : Net) (s : Shape) (m : Mat) → IsPartialNetwork net
+abbrev pub FeasiblePrefixesDecideSignals : Type 0
+FeasiblePrefixesDecideSignals = (net : Net) (s : Shape) (m : Mat) → IsPartialNetwork net
     → IsStoichiometric net m → IsShape net s → SignalWhereFeasible s m
 
 -- the limits of a network hold, and there are fewer cut pairs than complexes

@@ -26,6 +26,6 @@ pub record DiscordantWhereFeasible (m : Mat) (table : List (List Sign)) : Type 0
       → (alpha : List ℤ) × (weights : List ℤ) × IsDiscordant m table alpha weights
 
 -- discordances and full feasible prefixes agree
-abbrev pub TablesFeasibleWhereDiscordant : Type 0
-TablesFeasibleWhereDiscordant = (m : Mat) (table : List (List Sign)) → IsTable m table
+abbrev pub FeasiblePrefixesDecideDiscordance : Type 0
+FeasiblePrefixesDecideDiscordance = (m : Mat) (table : List (List Sign)) → IsTable m table
     → DiscordantWhereFeasible m table

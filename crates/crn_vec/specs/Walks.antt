@@ -38,6 +38,6 @@ pub record AreRepresentatives (Has : ℕ → Type 0) (Same : ℕ → ℕ → Typ
   pub apart : AreApart Same ys
   pub each : (z : ℕ) → Has z → (y : ℕ) × IsIn y ys × Same y z
 
--- the complexes with the property lie in so many classes
+-- the complexes with the property lie in this many classes
 abbrev pub IsNumberOf : (ℕ → Type 0) → (ℕ → ℕ → Type 0) → ℕ → Type 0
 IsNumberOf Has Same n = (ys : List ℕ) × AreRepresentatives Has Same ys × (length ys ≡ n)

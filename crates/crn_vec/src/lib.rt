@@ -20,15 +20,14 @@ pub use kinds::{
 };
 pub use laws::{
     base_gives_rank, budgets_that_are_never_spent, confluence_vectors_are_one,
-    cuts_exclude_solutions, deficiency_is_one_number, level_is_zero, longer_visits,
-    marks_are_sides, multiples_share_signals, negatives_have_opposite_shapes, networks_are_lawful,
+    cuts_exclude_solutions, deficiency_is_one_number, feasible_prefixes_decide_discordance,
+    feasible_prefixes_decide_signals, level_is_zero, longer_visits, marks_are_sides,
+    multiples_share_signals, negatives_have_opposite_shapes, networks_are_lawful,
     networks_have_tables, no_problem_lacks_visits, rank_is_one_number, shapes_are_one,
-    signals_are_of_shape, signals_are_steady, signals_are_where_a_prefix_is_feasible,
-    signals_meet_the_laws_of_sign_problems, signals_of_networks_are_feasible,
-    tables_are_discordant_where_a_prefix_is_feasible, tables_are_steady,
-    tables_meet_the_laws_of_sign_problems, terminal_classes_are_by_reactions,
-    visits_are_in_preorder, visits_are_one_list, visits_are_reached,
-    weak_reversibility_is_by_reactions, weights_decide_cuts,
+    signals_are_of_shape, signals_are_steady, signals_meet_the_laws_of_sign_problems,
+    signals_of_networks_are_feasible, tables_are_steady, tables_meet_the_laws_of_sign_problems,
+    terminal_classes_are_by_reactions, visits_are_in_preorder, visits_are_one_list,
+    visits_are_reached, weak_reversibility_is_by_reactions, weights_decide_cuts,
 };
 pub use limits::{
     DEFAULT_BUDGET, MAX_AMOUNT, MAX_BUDGET, MAX_BUDGET_DIGITS, MAX_COMPLEXES, MAX_COORDINATES,

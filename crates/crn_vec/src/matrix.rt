@@ -7,7 +7,7 @@ use std::alloc::{AllocError, Global};
 use std::marker::Model;
 use std::rc::Rc;
 
-// The row in a list of rows of so many entries.
+// The row in a list of rows of this many entries.
 fn row_of(entries: &[i128], row: usize, cols: usize) -> &[i128]
     requires few { length entries.now ≤ 2 ^ 20 }
     requires inside { row * cols + cols ≤ length entries.now }

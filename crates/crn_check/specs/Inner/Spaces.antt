@@ -14,7 +14,7 @@ use Rattle.crn_cert.specs.ConfluenceTests.{IsInSpace}
 abbrev pub IsBalanced : Net → List ℤ → Type 0
 IsBalanced net g = (s : ℕ) → combination_at g net.complexes s ≡ pos 0
 
--- g sums to zero over each of so many classes
+-- g sums to zero over each of this many classes
 abbrev pub AreSumsZero : List ℕ → ℕ → List ℤ → Type 0
 AreSumsZero labels count g = (k : ℕ) → 1 ≤ k → k ≤ count → dot (label_marks labels k) g ≡ pos 0
 

@@ -16,7 +16,7 @@ abbrev pub later : List (List ℕ) → List (List ℕ)
 later [] = []
 later (w ∷ words) = words
 
--- at most so many numbers are of a field
+-- at most this many numbers are of a field
 abbrev pub field_most : Field → ℕ
 field_most (Small count least greatest) = count
 field_most (Several fewest most least greatest) = most
@@ -29,7 +29,7 @@ field_most (TwoOf greatest) = 2
 field_most Turn = 1
 field_most (ClassWide species reactions) = 2 + species
 
--- at most so many numbers are of these fields
+-- at most this many numbers are of these fields
 abbrev pub most_of : List Field → ℕ
 most_of [] = 0
 most_of (field ∷ fields) = field_most field + most_of fields

@@ -8,14 +8,14 @@ use Rattle.std.specs.Str.Parse.{AllDigits, digits_value}
 use Rattle.crn_vec.specs.declared.limits.TheConstants.{WIDE_SOLUTION}
 use Rattle.crn_ctext.specs.Records.{IsNatural, IsSpelled, BeginsWith}
 
--- so many digits begin the bytes, and no more; their value is this, but for one that is too great
+-- this many digits begin the bytes, and no more; their value is this, but for one that is too great
 pub record HasDigits (bytes : List ℕ) (value count : ℕ) : Type 0 where
   pub within : count ≤ length bytes
   pub digits : AllDigits 10 (take count bytes)
   pub is : value ≡ min (digits_value 10 (take count bytes)) WIDE_SOLUTION
   pub stops : count < length bytes → digit_value (slice_index bytes count) < 10 → ⊥
 
--- after so many bytes there is a space, or nothing
+-- after this many bytes there is a space, or nothing
 abbrev pub EndsAt : List ℕ → ℕ → Type 0
 EndsAt bytes count = count < length bytes → slice_index bytes count ≡ 32
 
@@ -28,7 +28,7 @@ abbrev pub capped : ℤ → ℤ
 capped (pos n) = pos (min n WIDE_SOLUTION)
 capped (negsuc n) = negsuc (min n (WIDE_SOLUTION - 1))
 
--- the bytes before the first space, which are so many, are a natural number above 0, held as this
+-- the bytes before the first space, which are this many, are a natural number above 0, held as this
 pub record HasNatural (bytes : List ℕ) (value count : ℕ) : Type 0 where
   pub within : count ≤ length bytes
   pub ends : EndsAt bytes count
@@ -40,7 +40,7 @@ pub record HasNatural (bytes : List ℕ) (value count : ℕ) : Type 0 where
 abbrev pub HasNoNatural : List ℕ → Type 0
 HasNoNatural bytes = (word : List ℕ) (n : ℕ) → BeginsWith bytes word → IsNatural word n → ⊥
 
--- the bytes before the first space, which are so many, are a number, held as this
+-- the bytes before the first space, which are this many, are a number, held as this
 pub record HasNumber (bytes : List ℕ) (value : ℤ) (count : ℕ) : Type 0 where
   pub within : count ≤ length bytes
   pub ends : EndsAt bytes count

@@ -69,7 +69,7 @@ abbrev pub IsPlaceIn : List ℤ → (count : ℕ) → Option ℕ → Type 0
 IsPlaceIn numbers count None = (k : ℕ) → slice_index_or numbers 0 (pos 0) ≡ pos (suc k) → k < count → ⊥
 IsPlaceIn numbers count (Some k) = (k < count) × (slice_index_or numbers 0 (pos 0) ≡ pos (suc k))
 
--- The numbers `zs`, held as `held`, fit the fields, or but for free ones that are too great, or not at all.
+-- The numbers `zs`, held as `held`, fit the fields, or fit them but for free ones that are too great, or do not fit.
 abbrev pub IsJudged : Fit → List Field → (zs held : List ℤ) → Type 0
 IsJudged fit.Misfit fields zs held = AreOf Takes fields zs → ⊥
 IsJudged fit.TooWide fields zs held =

@@ -57,7 +57,8 @@ IsTried tried.TooWide place form line read = BeginsWith line (kind_of form) × I
 IsTried tried.Fits place form line read = BeginsWith line (kind_of form)
     × ((r : Record) × Says line r × IsShaped form r × Fits form r × (read ≡ tag place ++ r.numbers))
 
--- what trying all of some forms gave, none of which the line is a record of: none has its word, or some, or some but for free numbers that are too great
+-- the outcome of trying some forms, of none of which the line is a record: no form has its word; or
+-- some form has; or some form fits but for free numbers that are too great
 abbrev pub AreTried : Tried → List Form → List ℕ → Type 0
 AreTried tried.OtherWord forms line = (form : Form) → IsIn form forms
     → ((word : List ℕ) → BeginsWith line word → kind_of form ≡ word → ⊥) × IsNotShaped line form

@@ -12,7 +12,7 @@ use Rattle.crn_cert.specs.declared.answer.Gap.TheVariants.{Rests}
 use Rattle.crn_cert.specs.Ranges.{IsFrom}
 use Rattle.crn_cert.specs.Valid.{terminals_of, IsFirstLarge}
 
--- each label is one of so many classes
+-- each label is one of this many classes
 abbrev pub AreClassNumbers : List ℕ → ℕ → Type 0
 AreClassNumbers labels count = (y : ℕ) → y < length labels
     → (1 ≤ slice_index labels y) × (slice_index labels y ≤ count)

@@ -113,7 +113,7 @@ row_count Q7 place = if place == 3 then 0 else 1
 row_count Q8 place = if place == 3 then 0 else 1
 row_count q place = 0
 
--- a base, so many duals, and combinations
+-- a base, this many duals, and combinations
 abbrev pub rank_proof_by : ℕ → List (List ℤ) → RankProof
 rank_proof_by rank rows = record {
   base = nums (slice_index_or rows 0 []);

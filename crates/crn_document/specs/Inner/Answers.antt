@@ -14,7 +14,7 @@ use Rattle.crn_document.specs.declared.signal.Signal.{Signal}
 use Rattle.crn_document.specs.Inner.Answer.{AreSmall, AreSmallRows, rank_proof_by, row_count}
 use Rattle.crn_document.specs.Inner.Parts.{FitParts}
 
--- a base of small numbers and so many records, if the head is decided
+-- a base of small numbers and this many records, if the head is decided
 abbrev pub FitRank : (place rank : ℕ) → List (List ℤ) → Type 0
 FitRank (suc zero) rank rows = (suc rank ≤ length rows) × AreSmall (slice_index_or rows 0 [])
 FitRank place rank rows = Unit {0}

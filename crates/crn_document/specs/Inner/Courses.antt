@@ -32,8 +32,8 @@ last_course version net after =
     ends_with (record { net = net; blocks = after.blocks }))
 
 -- what follows the network
-abbrev pub body_course : (version line : ℕ) → Net → Course ReadOf
-body_course version line net = asks_table version line >>= (λ table.
+abbrev pub rest_course : (version line : ℕ) → Net → Course ReadOf
+rest_course version line net = asks_table version line >>= (λ table.
     asks_blocks meaning version (lists_of table) built
     (after_at net [] (line + length table) []) >>= (λ after.
     last_course version net after))

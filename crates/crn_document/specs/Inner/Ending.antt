@@ -22,7 +22,7 @@ asks_end version n after read =
     asks version n after (end_form ∷ []) >>= (λ last. ends_with read)
 
 -- The course gives this and ends where the source does, or the answer says why not. What is kept of
--- the lines then is not looked at any more.
+-- the lines is not looked at after that.
 abbrev pub EndStepIs : {A T : Type 0} → Course A → A → Result T CheckStop → Reading → SourceSeen
     → SourceSeen → Type 0
 EndStepIs course y (Ok t) old before now =

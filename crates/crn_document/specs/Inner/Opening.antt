@@ -20,11 +20,11 @@ abbrev pub IsVersionOf : List ℕ → Option ℕ → Type 0
 IsVersionOf line (Some version) = IsTitleOf line version
 IsVersionOf line None = (version : ℕ) → IsTitleOf line version → ⊥
 
--- the line says so many reactions
+-- the line says this many reactions
 abbrev pub SaysCount : List ℕ → ℕ → Type 0
 SaysCount line count = (1 ≤ count) × (count ≤ MAX_REACTIONS) × (line ≡ network_line count)
 
--- the line says so many reactions, or none
+-- the line says this many reactions, or none
 abbrev pub IsCountOf : List ℕ → Option ℕ → Type 0
 IsCountOf line (Some count) = SaysCount line count
 IsCountOf line None = (count : ℕ) → SaysCount line count → ⊥
@@ -37,7 +37,7 @@ title_course = due false >>= (λ line. find 1 21 ℕ (IsTitleOf line))
 abbrev pub count_course : Course ℕ
 count_course = due false >>= (λ line. find 2 22 ℕ (SaysCount line))
 
--- so many lines, and the network that they write
+-- this many lines, and the network that they write
 abbrev pub network_course : ℕ → Course Net
 network_course count = asks_lines count >>= (λ lines. find (2 + count) 22 Net (IsNetworkOf lines))
 

@@ -78,7 +78,7 @@ abbrev pub parts_below : Net → List ℕ → (question : ℕ) → List ℤ → 
 parts_below net labels question head =
     parts_at net labels (asked question) (number head 0) (later_numbers head)
 
--- how many reactions each of so many linkage classes has, from this one on
+-- how many reactions each of this many linkage classes has, from this one on
 abbrev pub class_counts : Net → List ℕ → (k count : ℕ) → List ℕ
 class_counts net labels k count =
     map (λ j. length (members_of net labels j)) (range_with_len k count)

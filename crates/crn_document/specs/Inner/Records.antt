@@ -41,7 +41,7 @@ pub record IsSaid (e : Expect) (read : List ℤ) (r : Record) : Type 0 where
   pub form : IsOneOf (forms_of e) r
   pub numbers : read ≡ tag_of e.due (sizes_of e.sizes) r ++ r.numbers
 
--- the form of a record below a head of so many classes, if complexes have these labels
+-- the form of a record below a head of this many classes, if complexes have these labels
 abbrev pub row_form : Net → List ℕ → ℕ → Row → Form
 row_form net labels n Label = small_form (codes "label") (length net.complexes) 1 n
 row_form net labels n Up = small_form (codes "up") (length net.complexes) 0 (length net.reactions)
@@ -102,14 +102,14 @@ fixed_rows question place =
     if question == 12 && place == 4 then VecOfComplexes ∷ VecOfComplexes ∷ []
     else pair_rows question place)))))))))
 
--- the lists of a signal over so many terminal classes, by the question and the place of the head's
+-- the lists of a signal over this many terminal classes, by the question and the place of the head's
 -- form
 abbrev pub signal_rows : (terminal question place : ℕ) → List Row
 signal_rows terminal question place =
     if question == 13 && place == 1 then Shelves terminal ∷ Mu ∷ M ∷ Weights ∷ [] else []
 
 -- the sides, ties and lists of a signal below a head, by its question and the place of its form,
--- if complexes have these labels of strong classes, these have these exits, and there are so many
+-- if complexes have these labels of strong classes, these have these exits, and there are this many
 -- terminal classes and linkage classes
 abbrev pub many_rows : Net → (labels exits : List ℕ) → (terminal classes question place : ℕ)
     → List Row
@@ -144,7 +144,7 @@ abbrev pub AreMembers : Net → List ℕ → Row → List ℕ → Type 0
 AreMembers net labels (Base class rank) members = members ≡ members_of net labels class
 AreMembers net labels other members = Unit {0}
 
--- what is due is a base, a side or a walk of this form, if there are so many complexes
+-- what is due is a base, a side or a walk of this form, if there are this many complexes
 abbrev pub IsOwnDue : (complexes : ℕ) → Form → Due → Type 0
 IsOwnDue complexes form (DueBase count members) =
     (record_form (codes "base") (Members count members.now ∷ []) ≡ form)
@@ -165,7 +165,7 @@ pub record IsPartDue (form : Form) (d : Due) : Type 0 where
   pub has : record_form (text_of word) (part_field (text_of word) count least greatest ∷ []) ≡ form
   pub may : (version : ℕ) → MayBeDue (Part word count least greatest) version
 
--- what is due is a record of this form, if there are so many complexes
+-- what is due is a record of this form, if there are this many complexes
 abbrev pub IsRowDue : (complexes : ℕ) → Form → Due → Type 0
 IsRowDue complexes form d = IsOwnDue complexes form d ⊎ IsPartDue form d
 

@@ -16,8 +16,8 @@ abbrev pub MovesBy : Reading → Reading → List Record → Type 0
 MovesBy old new rs = new.line ≡ old.line + length rs
 
 -- the next line is after these records, and their numbers were added to these lists
-abbrev pub AreKept : Reading → Reading → (before after : List (List ℤ)) → List Record → Type 0
-AreKept old new before after rs = MovesBy old new rs × (after ≡ before ++ lists rs)
+abbrev pub AreListed : Reading → Reading → (before after : List (List ℤ)) → List Record → Type 0
+AreListed old new before after rs = MovesBy old new rs × (after ≡ before ++ lists rs)
 
 -- the next line is after these records, of which all but the first are these lists
 abbrev pub IsTable : Reading → Reading → List (List ℤ) → List Record → Type 0

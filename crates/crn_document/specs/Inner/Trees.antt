@@ -37,20 +37,20 @@ pub record IsSaidAs (e : Expect) (word : Word) (read : List ℤ) (r : Record) : 
   pub said : IsSaid e read r
   pub kind : word_of r ≡ text_of word
 
--- a node is due in a document of this version with so many shared lists; its cuts of part A have
+-- a node is due in a document of this version with this many shared lists; its cuts of part A have
 -- `count_a` numbers, and those of part B one for each species
 pub record ExpectsNode (e : Expect) (version count_a species shared : ℕ) : Type 0 where
   pub may : IsExpectable e
   pub of_version : e.version ≡ version
   pub due : e.due ≡ due_kinds.Node count_a species shared
 
--- a node is due in a document with so many shared lists
+-- a node is due in a document with this many shared lists
 pub record HasNodeDue (e : Expect) (shared : ℕ) : Type 0 where
   pub a : ℕ
   pub b : ℕ
   pub due : e.due ≡ due_kinds.Node a b shared
 
--- a node is due in a document of version 2 with so many shared lists
+-- a node is due in a document of version 2 with this many shared lists
 pub record NamesTo (e : Expect) (shared : ℕ) : Type 0 where
   pub a : ℕ
   pub b : ℕ

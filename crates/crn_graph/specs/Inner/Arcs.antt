@@ -60,7 +60,7 @@ pub record AreArcsWithin (net : Net) (way : Way) (ranks : List ℕ) (arcs : List
   pub sound : (r y z : ℕ) → HasArc arcs r y z → Goes net way r y z × (slice_index ranks y ≡ slice_index ranks z)
   pub whole : (r y z : ℕ) → Goes net way r y z → slice_index ranks y ≡ slice_index ranks z → HasArc arcs r y z
 
--- every arc stays among so many complexes
+-- every arc stays among this many complexes
 pub record AreInside (complexes : ℕ) (arcs : List Arc) : Type 0 where
   pub from : (p : ℕ) → p < length arcs → (arc_at arcs p).from < complexes
   pub to : (p : ℕ) → p < length arcs → (arc_at arcs p).to < complexes

@@ -26,7 +26,7 @@ pub record IsJoined (arcs : List Arc) (s : Search) (y : ℕ) : Type 0 where
 abbrev pub IsPlaced : List Arc → Search → ℕ → Type 0
 IsPlaced arcs s y = (IsFirst s.label.items y × (up_at s y ≡ 0) × (depth_at s y ≡ 0)) ⊎ IsJoined arcs s y
 
--- so many classes are labelled, those of the complexes before `next`
+-- this many classes are labelled, those of the complexes before `next`
 pub record AreClassesTo (arcs : List Arc) (s : Search) (count next : ℕ) : Type 0 where
   pub long : AreLong s
   pub few : count ≤ next

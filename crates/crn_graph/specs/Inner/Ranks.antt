@@ -34,7 +34,7 @@ open_at s i = slice_index s.waiting.items i
 abbrev pub rest_at : Ranking → ℕ → ℕ
 rest_at s y = slice_index s.rest.items y
 
--- each list has a place for each of so many complexes
+-- each list has a place for each of this many complexes
 pub record AreLongRanks (n : ℕ) (s : Ranking) : Type 0 where
   pub rank : length s.rank.items ≡ n
   pub place : length s.place.items ≡ n
@@ -128,7 +128,7 @@ pub record HasEntered (s t : Ranking) (y : ℕ) : Type 0 where
   pub count : t.count ≡ s.count
 
 -- the parts after that of a place are joined to it
-pub record IsJoined (place : ℕ) (s : Ranking) (parts : ℕ) : Type 0 where
+pub record HasMerged (place : ℕ) (s : Ranking) (parts : ℕ) : Type 0 where
   pub some : 1 ≤ parts
   pub fewer : parts ≤ s.parts
   pub gone : (j : ℕ) → parts ≤ j → j < s.parts → place ≤ start_at s j

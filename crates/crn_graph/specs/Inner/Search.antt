@@ -29,7 +29,7 @@ up_at s y = slice_index s.up.items y
 abbrev pub depth_at : Search → ℕ → ℕ
 depth_at s y = slice_index s.depth.items y
 
--- the complex that was found after so many others
+-- the complex that was found after this many others
 abbrev pub found_at : Search → ℕ → ℕ
 found_at s i = slice_index s.queue.items i
 

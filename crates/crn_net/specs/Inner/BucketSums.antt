@@ -15,7 +15,7 @@ mark_after m (b ∷ bs) = mark_after ((m * 11400714819323198485 % 2 ^ 64 + b) % 
 abbrev pub mark : List ℕ → ℕ
 mark name = mark_after 0 name
 
--- the number of a term, if its name is in this one of so many buckets
+-- the number of a term, if its name is in this one of this many buckets
 abbrev pub in_bucket : List ℕ → ℕ → ℕ → Term → ℕ
 in_bucket text size bucket t =
     if mark (name_at text t) % size == bucket then t.count else 0

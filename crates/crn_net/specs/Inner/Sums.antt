@@ -6,7 +6,7 @@ use Rattle.std.specs.List.Sorted.{IsSortedBy}
 use Rattle.std.specs.Str.{bytes_eq}
 use Rattle.std.specs.Ordering.{nat_cmp, is_lt}
 use Rattle.std.specs.Cmp.Lexicographic.{slice_cmp}
-use Rattle.crn_net.specs.declared.sides.Share.{Share}
+use Rattle.crn_net.specs.declared.side_sums.Share.{Share}
 use Rattle.crn_net.specs.declared.term.Term.{Term}
 
 -- the share of a term in the sum of its name: its number with a sign

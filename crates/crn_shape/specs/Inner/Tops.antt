@@ -4,7 +4,7 @@
 -- Shapes: labels count from 1; the exit of a class is 0 if and only if it is terminal.
 use Rattle.std.specs.Prelude.{◌==◌, ◌+◌, ◌-◌, ℕ, zero, suc, if◌then◌else◌, Option, Some, None, List, slice_index}
 
--- how many of the first so many exits are 0
+-- how many of the exits before a place are 0
 abbrev pub zeros_below : List ℕ → ℕ → ℕ
 zeros_below exits zero = 0
 zeros_below exits (suc k) = zeros_below exits k + (if slice_index exits k == 0 then 1 else 0)

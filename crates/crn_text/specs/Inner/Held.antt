@@ -6,7 +6,7 @@ use Rattle.crn_net.specs.declared.term.Term.{Term}
 use Rattle.crn_text.specs.Tokens.{tokens}
 use Rattle.crn_text.specs.Inner.Pieces.{ReadsTerms}
 
--- the term where its side begins so many bytes later
+-- the term where its side begins this many bytes later
 abbrev pub moved : ℕ → Term → Term
 moved by t = record { at = (t.at + by) % 2 ^ 32; length = t.length; count = t.count }
 

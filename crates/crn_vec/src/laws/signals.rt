@@ -1,5 +1,5 @@
 ghost use Rattle.crn_vec.specs.NetSignals.{MultiplesShareSignals, NetworksAreLawful, ShapesAreOne, NegativesHaveOppositeShapes, SignalsAreOfShape, SignalsAreFeasible};
-ghost use Rattle.crn_vec.specs.SignalLaws.{LevelIsZero, SignalsAreLawful, SignalsAreSteady, SignalsWhereFeasible};
+ghost use Rattle.crn_vec.specs.SignalLaws.{LevelIsZero, SignalsAreLawful, SignalsAreSteady, FeasiblePrefixesDecideSignals};
 
 /// The sign problem of signals meets the laws of sign problems.
 pub fn signals_meet_the_laws_of_sign_problems()
@@ -18,8 +18,8 @@ pub fn level_is_zero()
 {}
 
 /// There is a signal if and only if some full prefix of its sign problem is feasible.
-pub fn signals_are_where_a_prefix_is_feasible()
-    ensures { SignalsWhereFeasible }
+pub fn feasible_prefixes_decide_signals()
+    ensures { FeasiblePrefixesDecideSignals }
 {}
 
 /// A network has at most one shape for each vector over its complexes.

@@ -1,5 +1,5 @@
 ghost use Rattle.crn_vec.specs.Influence.{NetworksHaveTables};
-ghost use Rattle.crn_vec.specs.TableLaws.{TablesAreLawful, TablesAreSteady, TablesFeasibleWhereDiscordant};
+ghost use Rattle.crn_vec.specs.TableLaws.{TablesAreLawful, TablesAreSteady, FeasiblePrefixesDecideDiscordance};
 
 /// The sign problem of an influence table meets the laws of sign problems.
 pub fn tables_meet_the_laws_of_sign_problems()
@@ -12,8 +12,8 @@ pub fn tables_are_steady()
 {}
 
 /// A table has a discordance if and only if some full prefix of its sign problem is feasible.
-pub fn tables_are_discordant_where_a_prefix_is_feasible()
-    ensures { TablesFeasibleWhereDiscordant }
+pub fn feasible_prefixes_decide_discordance()
+    ensures { FeasiblePrefixesDecideDiscordance }
 {}
 
 /// Both influence tables of a network fit its system 2, which combines its reaction vectors.

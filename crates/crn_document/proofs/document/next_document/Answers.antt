@@ -62,7 +62,7 @@ returns-in_err-verdicts g c = record {
       let zero = g.S.Source.seen c.next_version.new.source in
       let one = g.S.Source.seen c.next_count.new.source in
       let two = g.S.Source.seen c.next_network.new.source in
-      let now = g.S.Source.seen c.next_body.new.source in
+      let now = g.S.Source.seen c.next_rest.new.source in
       last_exits whole_course IsWhole c.from_residual-in_err-verdicts.result e c.args.at.now _ _ (err_from_is_err_and c.from_residual-in_err-verdicts.result c.from_residual-in_err-verdicts.ensures.1)
       (title_then s.0 (Err e) c.args.at.now first _ zero now s.2 s.3
       (count_then s.0 t.0 (Err e) first second zero one now t.2 t.3
@@ -83,7 +83,7 @@ returns g c = record {
       let zero = g.S.Source.seen c.next_version.new.source in
       let one = g.S.Source.seen c.next_count.new.source in
       let two = g.S.Source.seen c.next_network.new.source in
-      let now = g.S.Source.seen c.next_body.new.source in
+      let now = g.S.Source.seen c.next_rest.new.source in
       let accepted : Accepted = record { net = c.in_ok-net.net; verdicts = c.in_ok-verdicts.verdicts } in
       title_then s.0 (Ok accepted) c.args.at.now first _ zero now s.2 s.3
       (count_then s.0 t.0 (Ok accepted) first second zero one now t.2 t.3

@@ -1,12 +1,12 @@
 use Rattle.std.proofs.Common.{◌≡◌, ◌≤◌, ◌<◌, ◌-◌, take, length, get_or, codes}
 use Rattle.crn_io.specs.Joined.{joined}
 use Rattle.crn_io.specs.Write.{WroteAll}
-use Rattle.crn_render.specs.Details.{of_label, sides}
+use Rattle.crn_render.specs.Details.{of_label, complex_texts}
 use Rattle.crn_render.proofs.classes.put_members.Given as goal
 
 abbrev pub invariant-loop-c : goal.invariant-loop-c
 invariant-loop-c g l =
-    let written = of_label l.class (take l.c l.labels) (take l.c (sides l.net)) in record {
+    let written = of_label l.class (take l.c l.labels) (take l.c (complex_texts l.net)) in record {
       wrote : WroteAll (joined (codes "; ") written) (g.K.Sink.seen l.initial.sink) (g.K.Sink.seen l.sink);
       shown : l.shown ≡ length written;
       few : l.shown ≤ l.c;

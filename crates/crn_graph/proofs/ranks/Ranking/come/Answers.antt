@@ -2,7 +2,7 @@ use Rattle.std.proofs.Common.{◌<◌, ◌-◌, ℕ, length, sym, ap, subst, ari
 use Rattle.std.proofs.lemmas.List.{get_or_read}
 use Rattle.crn_graph.specs.declared.arcs.Arc.{Arc}
 use Rattle.crn_graph.specs.declared.ranks.Ranking.{Ranking}
-use Rattle.crn_graph.specs.Inner.Ranks.{HasCome, IsJoined, start_at}
+use Rattle.crn_graph.specs.Inner.Ranks.{HasCome, HasMerged, start_at}
 use Rattle.crn_graph.proofs.RankCalls.{at_end, come_new, come_joined, come_ranked, enter_room, held_room}
 use Rattle.crn_graph.proofs.ranks.Ranking.come.Goals as goal
 
@@ -66,7 +66,7 @@ returns c =
     let rank = get_or_read s.rank.items z c.index-2.result.now lt c.index-2.ensures 0 in
     let again = get_or_read s.place.items z c.index-first.result.now lp c.index-first.ensures 0 in
     let end = at_end arcs s y z c.args.place c.requires.ranking c.requires.last c.requires.some c.requires.here c.requires.inside c.requires.from (ap (λ (a : Arc). a.to) c.arc-z.ensures.value) lt in
-    let joined = subst (λ (p : ℕ). IsJoined p s n) again c.join.ensures.joined in
+    let joined = subst (λ (p : ℕ). HasMerged p s n) again c.join.ensures.merged in
     let low = subst (λ (p : ℕ). start_at s (n - 1) < p) again c.join.ensures.last in
     let come = come_joined arcs s y z n end (omega (arith, read, c.if-index-eq0.false), omega (arith, rank, c.if-index-gt0.false)) joined low in
     subst (HasCome arcs s c.join.new.self y) (ap (λ (a : Arc). a.to) c.arc-z.ensures.value) (subst (λ (t : Ranking). HasCome arcs s t y z) (sym c.join.ensures.rest) come)

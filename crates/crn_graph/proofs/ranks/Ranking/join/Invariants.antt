@@ -1,11 +1,11 @@
 use Rattle.std.proofs.Common.{◌≡◌}
-use Rattle.crn_graph.specs.Inner.Ranks.{IsJoined}
+use Rattle.crn_graph.specs.Inner.Ranks.{HasMerged}
 use Rattle.crn_graph.proofs.ranks.Ranking.join.Given as goal
 
 abbrev pub invariant-loop-self : goal.invariant-loop-self
 invariant-loop-self l = record {
   rest : l.self ≡ record l.fn.self { parts = l.self.parts };
-  joined : IsJoined l.place l.fn.self l.self.parts;
+  merged : HasMerged l.place l.fn.self l.self.parts;
 }
 
 abbrev pub decreases-loop-self : goal.decreases-loop-self

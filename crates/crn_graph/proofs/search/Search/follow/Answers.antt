@@ -12,10 +12,10 @@ loop-chain-preserved c =
     let one : c.loop-chain.chain ≡ place + 1 = omega (arith, c.loop-chain-test.true) in
     let past : IsPast c.args.graph.now.arcs c.loop-chain.self y (place + 1) = subst (IsPast c.args.graph.now.arcs c.loop-chain.self y) one h.past in
     record {
-      spreading = c.visit.ensures.spreading;
-      on = on_then s c.loop-chain.self c.visit.new.self c.requires.spreading.some h.on c.visit.ensures.on;
-      done = c.visit.ensures.done ∙ h.done;
-      past = past_more c.args.graph.now.arcs c.loop-chain.self c.visit.new.self y place c.next-chain.result past c.visit.ensures.on c.visit.ensures.found c.next-chain.ensures;
+      spreading = c.find.ensures.spreading;
+      on = on_then s c.loop-chain.self c.find.new.self c.requires.spreading.some h.on c.find.ensures.on;
+      done = c.find.ensures.done ∙ h.done;
+      past = past_more c.args.graph.now.arcs c.loop-chain.self c.find.new.self y place c.next-chain.result past c.find.ensures.on c.find.ensures.found c.next-chain.ensures;
     }
 
 pub returns-clause-spreading : goal.returns-clause-spreading

@@ -1,5 +1,5 @@
 use Rattle.crn_vec.proofs.Shelves.{shelves_feasible}
-use Rattle.crn_vec.proofs.laws.signals.signals_are_where_a_prefix_is_feasible.Goals as goal
+use Rattle.crn_vec.proofs.laws.signals.feasible_prefixes_decide_signals.Goals as goal
 
 pub returns : goal.returns
 returns c = shelves_feasible

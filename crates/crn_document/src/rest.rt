@@ -2,7 +2,7 @@ ghost use Rattle.std.specs.Prelude.{◌≡◌, [], false, IfOk};
 ghost use Rattle.crn_vec.specs.Network.{IsNetwork};
 ghost use Rattle.crn_document.specs.Inner.Steps.{GoesOn};
 ghost use Rattle.crn_document.specs.Inner.Blocks.{IsReady};
-ghost use Rattle.crn_document.specs.Inner.Courses.{IsSaidIn, body_course};
+ghost use Rattle.crn_document.specs.Inner.Courses.{IsSaidIn, rest_course};
 ghost use Rattle.crn_document.specs.Inner.Ending.{LastIs};
 
 use crate::block::Checked;
@@ -43,7 +43,7 @@ fn next_parts<S: Source>(
     requires ready { IsReady net.now [] checked.old }
     requires empty { checked.old.facts.earlier ≡ [] }
     requires first { checked.old.by_tree ≡ false }
-    ensures step { LastIs (body_course at.old.version at.old.line net.now)
+    ensures step { LastIs (rest_course at.old.version at.old.line net.now)
         (λ _ read. IsSaidIn net.now checked.new.verdicts read)
         result at.old (S.seen source.old) (S.seen source.new) }
 {
@@ -53,14 +53,14 @@ fn next_parts<S: Source>(
 }
 
 // What follows the network of a document, to its end, and the verdicts that its blocks say.
-pub(crate) fn next_body<S: Source>(
+pub(crate) fn next_rest<S: Source>(
     source: &mut S,
     at: &mut Reading,
     net: &Network,
 ) -> Result<Verdicts, CheckStop>
     requires goes { GoesOn at.old }
     requires network { IsNetwork net.now }
-    ensures step { LastIs (body_course at.old.version at.old.line net.now)
+    ensures step { LastIs (rest_course at.old.version at.old.line net.now)
         (λ verdicts read. IsSaidIn net.now verdicts read)
         result at.old (S.seen source.old) (S.seen source.new) }
 {

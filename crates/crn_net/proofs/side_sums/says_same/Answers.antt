@@ -4,9 +4,9 @@ use Rattle.std.proofs.lemmas.Int.{ints}
 use Rattle.crn_vec.specs.Network.{amount_in}
 use Rattle.crn_net.specs.Terms.{side_of}
 use Rattle.crn_net.specs.Inner.Sums.{sum_in}
-use Rattle.crn_net.specs.declared.sides.Share.{Share}
+use Rattle.crn_net.specs.declared.side_sums.Share.{Share}
 use Rattle.crn_net.proofs.Sums.{numbers_most}
-use Rattle.crn_net.proofs.sides.says_same.Goals as goal
+use Rattle.crn_net.proofs.side_sums.says_same.Goals as goal
 
 pub merged-requires-clause-left : goal.merged-requires-clause-left
 merged-requires-clause-left c = numbers_most c.args.text.now c.args.left.now c.requires.left.amounts

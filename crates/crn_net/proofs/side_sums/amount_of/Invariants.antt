@@ -1,7 +1,7 @@
 use Rattle.std.proofs.Common.{◌≡◌, take}
 use Rattle.crn_vec.specs.Network.{amount_in}
 use Rattle.crn_net.specs.Terms.{side_of}
-use Rattle.crn_net.proofs.sides.amount_of.Given as goal
+use Rattle.crn_net.proofs.side_sums.amount_of.Given as goal
 
 abbrev pub invariant-loop-term : goal.invariant-loop-term
 invariant-loop-term l = l.sum ≡ amount_in (side_of l.text (take l.term-index l.side)) l.name

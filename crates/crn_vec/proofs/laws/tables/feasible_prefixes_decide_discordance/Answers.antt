@@ -1,5 +1,5 @@
 use Rattle.crn_vec.proofs.Discordance.{tables_feasible}
-use Rattle.crn_vec.proofs.laws.tables.tables_are_discordant_where_a_prefix_is_feasible.Goals as goal
+use Rattle.crn_vec.proofs.laws.tables.feasible_prefixes_decide_discordance.Goals as goal
 
 pub returns : goal.returns
 returns c = tables_feasible

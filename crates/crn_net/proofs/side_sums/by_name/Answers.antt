@@ -6,7 +6,7 @@ use Rattle.std.proofs.lemmas.Fn.{always_returns_same}
 use Rattle.std.proofs.lemmas.List.Sorted.{ranks_by}
 use Rattle.crn_net.specs.Inner.Sums.{name_in}
 use Rattle.crn_net.proofs.Sums.{sum_in_any_order}
-use Rattle.crn_net.proofs.sides.by_name.Goals as goal
+use Rattle.crn_net.proofs.side_sums.by_name.Goals as goal
 
 pub returns-clause-by_name : goal.returns-clause-by_name
 returns-clause-by_name c =

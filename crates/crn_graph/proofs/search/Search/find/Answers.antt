@@ -3,7 +3,7 @@ use Rattle.std.proofs.lemmas.List.{get_or_read}
 use Rattle.crn_graph.specs.Inner.Arcs.{HasArc}
 use Rattle.crn_graph.specs.Inner.Search.{label_at}
 use Rattle.crn_graph.proofs.SearchLaws.{room_left, has_found, found_spreads, found_on}
-use Rattle.crn_graph.proofs.search.Search.visit.Goals as goal
+use Rattle.crn_graph.proofs.search.Search.find.Goals as goal
 
 pub index_mut-requires-4 : goal.index_mut-requires-4
 index_mut-requires-4 c =

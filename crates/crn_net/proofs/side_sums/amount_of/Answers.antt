@@ -4,7 +4,7 @@ use Rattle.crn_net.specs.Terms.{name_at}
 use Rattle.crn_net.specs.declared.term.Term.{Term}
 use Rattle.crn_net.proofs.Members.{amount_part}
 use Rattle.crn_net.proofs.Amounts.{amount_yes}
-use Rattle.crn_net.proofs.sides.amount_of.Goals as goal
+use Rattle.crn_net.proofs.side_sums.amount_of.Goals as goal
 
 abbrev none : Term
 none = record { at = 0; length = 0; count = 0 }

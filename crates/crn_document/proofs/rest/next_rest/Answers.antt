@@ -3,7 +3,7 @@ use Rattle.std.proofs.lemmas.Result.{err_from_is_err_and}
 use Rattle.crn_document.specs.declared.fault.CheckStop.TheVariants as stop
 use Rattle.crn_document.proofs.Bodies.{last_exits}
 use Rattle.crn_document.proofs.Steps.{stops_here}
-use Rattle.crn_document.proofs.body.next_body.Goals as goal
+use Rattle.crn_document.proofs.rest.next_rest.Goals as goal
 
 pub returns-in_err-checked : goal.returns-in_err-checked
 returns-in_err-checked g c = record {

@@ -10,7 +10,7 @@ use Rattle.crn_document.specs.Inner.Courses.{last_course}
 use Rattle.crn_document.specs.Inner.Steps.{StopIs}
 use Rattle.crn_document.proofs.Bodies.{after_table, blocks_begin, last_exits, parts_end}
 use Rattle.crn_document.proofs.Steps.{stop_after, stop_first}
-use Rattle.crn_document.proofs.body.next_parts.Goals as goal
+use Rattle.crn_document.proofs.rest.next_parts.Goals as goal
 
 pub returns-in_err-table : goal.returns-in_err-table
 returns-in_err-table g c = record {

@@ -1,7 +1,7 @@
 use Rattle.std.proofs.Common.{refl, arith}
 use Rattle.crn_net.proofs.Amounts.{amounts_most}
 use Rattle.crn_net.proofs.Sums.{total_fits}
-use Rattle.crn_net.proofs.sides.sums_fit.Goals as goal
+use Rattle.crn_net.proofs.side_sums.sums_fit.Goals as goal
 
 pub total-requires : goal.total-requires
 total-requires c = total_fits c.args.side.now c.requires.numbers c.requires.few
