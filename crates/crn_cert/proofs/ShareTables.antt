@@ -7,7 +7,7 @@ use Rattle.std.specs.Ordering.{int_eq}
 use Rattle.std.specs.Cmp.Lexicographic.{pointwise}
 use Rattle.std.specs.Cmp.Rules.{signed_items}
 use Rattle.std.proofs.lemmas.Bool.{cases_Bool, cases_lt, true≢false}
-use Rattle.std.proofs.lemmas.List.{append-nil, map-append, length-append, length-map, length-take, take-append-le, take_more}
+use Rattle.std.proofs.lemmas.List.{append-nil, map-append, length-append, length-take, take-append-le}
 use Rattle.indexmap.specs.IndexSet.{insert_key}
 use Rattle.crn_vec.specs.Lists.{IsIn, firsts}
 use Rattle.crn_vec.proofs.CallerLemmas.{firsts_known, firsts_new, firsts_from, firsts_has}
@@ -71,7 +71,7 @@ either : (us : List (List ℤ)) (u : List ℤ) → (firsts same (us ++ u ∷ [])
 either us u = elim (known_or_new us u) [ inl known ↦ inl known.1 | inr added ↦ inr added.1 ]
 
 -- the table with one cut more
-pub next_table : (most : ℕ) (us : List (List ℤ)) (u : List ℤ) (old new : List (List ℤ)) → old ≡ take most (firsts same us) → (most ≤ length old → new ≡ old) → (length old < most → new ≡ insert_key same old u)
+next_table : (most : ℕ) (us : List (List ℤ)) (u : List ℤ) (old new : List (List ℤ)) → old ≡ take most (firsts same us) → (most ≤ length old → new ≡ old) → (length old < most → new ≡ insert_key same old u)
     → new ≡ take most (firsts same (us ++ u ∷ []))
 next_table most us u old new is full room = elim (cases_lt (length old) most) [
   | inl lt ↦
@@ -111,10 +111,6 @@ pub keys_seen : (ks : List (Bor (List ℤ))) (k : Bor (List ℤ)) → map (λ u.
 keys_seen ks k =
     if_seen (list_any (λ t. same k.now t.now) ks) ks k
     ∙ ap (λ (b : Bool). if b then map (λ u. u.now) ks else map (λ u. u.now) ks ++ k.now ∷ []) (any_seen k ks)
-
--- the cuts that references refer to, one more
-pub seen_more : (ks : List (Bor (List ℤ))) (i : ℕ) (d : Bor (List ℤ)) → i < length ks → map (λ u. u.now) (take (i + 1) ks) ≡ map (λ u. u.now) (take i ks) ++ (get_or ks i d).now ∷ []
-seen_more ks i d lt = ap (map (λ u. u.now)) (take_more ks i d lt) ∙ map-append (λ u. u.now) (take i ks) (get_or ks i d ∷ [])
 
 -- ---- numbers of lists
 
@@ -217,7 +213,7 @@ either_insert : (ks : List (List ℤ)) (u : List ℤ) → (insert_key same ks u 
 either_insert ks u = elim (cases_Bool (list_any (same u) ks)) [ inl hit ↦ inl (rw hit refl) | inr miss ↦ inr (rw miss refl) ]
 
 -- one cut more changes the number of no cut before it
-pub numbers_stay : (most : ℕ) (us : List (List ℤ)) (u : List ℤ) (old new : List (List ℤ)) → old ≡ take most (firsts same us) → (most ≤ length old → new ≡ old) → (length old < most → new ≡ insert_key same old u)
+numbers_stay : (most : ℕ) (us : List (List ℤ)) (u : List ℤ) (old new : List (List ℤ)) → old ≡ take most (firsts same us) → (most ≤ length old → new ≡ old) → (length old < most → new ≡ insert_key same old u)
     → map (number_in 1 new) us ≡ map (number_in 1 old) us
 numbers_stay most us u old new is full room = elim (cases_lt (length old) most) [
   | inl lt ↦
@@ -232,11 +228,19 @@ numbers_stay most us u old new is full room = elim (cases_lt (length old) most) 
 ]
 
 -- the numbers of one cut more
-pub numbers_step : (ts ts' us us' : List (List ℤ)) (u : List ℤ) (old new : List ℕ) (n : ℕ) → us' ≡ us ++ u ∷ [] → old ≡ map (number_in 1 ts) us → map (number_in 1 ts') us ≡ map (number_in 1 ts) us
-    → n ≡ number_in 1 ts' u → new ≡ old ++ n ∷ [] → new ≡ map (number_in 1 ts') us'
-numbers_step ts ts' us us' u old new n more was stays number is =
-    is ∙ ap₂ (λ (a : List ℕ) (b : ℕ). a ++ b ∷ []) (was ∙ sym stays) number ∙ sym (map-append (number_in 1 ts') us (u ∷ [])) ∙ ap (map (number_in 1 ts')) (sym more)
+numbers_step : (ts ts' us : List (List ℤ)) (u : List ℤ) (old new : List ℕ) (n : ℕ) → old ≡ map (number_in 1 ts) us → map (number_in 1 ts') us ≡ map (number_in 1 ts) us
+    → n ≡ number_in 1 ts' u → new ≡ old ++ n ∷ [] → new ≡ map (number_in 1 ts') (us ++ u ∷ [])
+numbers_step ts ts' us u old new n was stays number is =
+    is ∙ ap₂ (λ (a : List ℕ) (b : ℕ). a ++ b ∷ []) (was ∙ sym stays) number ∙ sym (map-append (number_in 1 ts') us (u ∷ []))
 
--- a set whose keys refer to a table has no more keys than the table
-pub few_keys : (most : ℕ) (keys : List (Bor (List ℤ))) (fs : List (List ℤ)) → map (λ u. u.now) keys ≡ take most fs → length keys ≤ most
-few_keys most keys fs e = let f = ap length e in omega (arith, f, length-map keys (λ u. u.now), length-take most fs)
+-- the share of one cut more
+pub share_more : (most : ℕ) (us : List (List ℤ)) (u : List ℤ) (old new : List (List ℤ)) (leaf leaf' : List ℕ) (n : ℕ)
+    → old ≡ take most (firsts same us) → leaf ≡ map (number_in 1 (take most (firsts same us))) us
+    → (most ≤ length old → new ≡ old) → (length old < most → new ≡ insert_key same old u) → n ≡ number_in 1 new u → leaf' ≡ leaf ++ n ∷ []
+    → (new ≡ take most (firsts same (us ++ u ∷ []))) × (leaf' ≡ map (number_in 1 (take most (firsts same (us ++ u ∷ [])))) (us ++ u ∷ []))
+share_more most us u old new leaf leaf' n table numbers full room number is =
+    let next = next_table most us u old new table full room in
+    let was : leaf ≡ map (number_in 1 old) us = numbers ∙ ap (λ (ts : List (List ℤ)). map (number_in 1 ts) us) (sym table) in
+    let stays = numbers_stay most us u old new table full room in
+    let all = numbers_step old new us u leaf leaf' n was stays number is in
+    (next, all ∙ ap (λ (ts : List (List ℤ)). map (number_in 1 ts) (us ++ u ∷ [])) next)

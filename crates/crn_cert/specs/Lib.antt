@@ -21,3 +21,4 @@ pub mod Heads
 pub mod Law
 pub mod Answers
 pub mod Shares
+pub mod Inner

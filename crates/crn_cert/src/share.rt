@@ -1,10 +1,11 @@
-ghost use Rattle.std.specs.Prelude.{◌≡◌, ◌↔◌, ◌≤◌, ◌<◌, ◌++◌, [], IsTrue, length, map, take, OnOk, IfOk, IfSome};
+ghost use Rattle.std.specs.Prelude.{◌≡◌, ◌↔◌, ◌≤◌, ◌<◌, ◌++◌, ℤ, List, [], ◌∷◌, IsTrue, length, map, OnOk, IfOk, IfSome};
 ghost use Rattle.std.specs.Ordering.{int_eq};
 ghost use Rattle.std.specs.Cmp.Lexicographic.{pointwise};
 ghost use Rattle.indexmap.specs.IndexSet.{insert_key};
-ghost use Rattle.crn_vec.specs.Lists.{IsIn, firsts};
+ghost use Rattle.crn_vec.specs.Lists.{IsIn};
 ghost use Rattle.crn_cert.specs.Trees.{plan};
 ghost use Rattle.crn_cert.specs.Shares.{cuts_of, cuts_in, all_cuts, number_in, share_of as share};
+ghost use Rattle.crn_cert.specs.Inner.Numbered.{AreNumbered};
 
 use crate::answer::Proof;
 use crate::answers::Answers;
@@ -20,58 +21,6 @@ use std::alloc::Global;
 pub struct Share {
     pub table: Rows,
     pub leaf: Nums,
-}
-
-// Adds the lists of the cuts of a tree, in preorder.
-fn add_tree<'a>(tree: &'a Tree, cuts: &mut Vec<&'a [i128]>) -> Result<(), NoMemory>
-    ensures { OnOk result (map (λ u. u.now) cuts.new.items
-        ≡ map (λ u. u.now) cuts.old.items ++ cuts_of (plan tree.now)) }
-{
-    match tree {
-        Tree::Split(children) => {
-            add_tree(&children.zero, cuts)?;
-            add_tree(&children.plus, cuts)?;
-            match &children.minus {
-                Some(minus) => add_tree(minus, cuts),
-                None => Ok(()),
-            }
-        }
-        Tree::CutA(list) => {
-            cuts.push(list.as_slice())?;
-            Ok(())
-        }
-        Tree::CutB(list) => {
-            cuts.push(list.as_slice())?;
-            Ok(())
-        }
-        Tree::Flat => Ok(()),
-    }
-}
-
-// Adds the lists of the cuts of a proof's trees.
-fn add_proof<'a>(proof: &'a Proof, cuts: &mut Vec<&'a [i128]>) -> Result<(), NoMemory>
-    ensures { OnOk result (map (λ u. u.now) cuts.new.items
-        ≡ map (λ u. u.now) cuts.old.items ++ cuts_in proof.now) }
-{
-    match proof {
-        Proof::One(tree) => add_tree(tree, cuts),
-        Proof::Two(tree, second) => {
-            add_tree(tree, cuts)?;
-            add_tree(second, cuts)
-        }
-        _ => Ok(()),
-    }
-}
-
-// The lists of all cuts of the answers.
-fn cuts_in_order<'a>(alloc: Global, answers: &'a Answers) -> Result<Vec<&'a [i128]>, NoMemory>
-    ensures { IfOk result (λ cuts. map (λ u. u.now) cuts.items ≡ all_cuts answers.now) }
-{
-    let mut cuts = Vec::new(alloc);
-    for k in 0..answers.len() {
-        add_proof(&answers.get(k + 1).proof, &mut cuts)?;
-    }
-    Ok(cuts)
 }
 
 // How many marks of lists there are.
@@ -220,23 +169,90 @@ impl<'a> Lists<'a> {
     }
 }
 
-// For each cut the number of its list, or 0. The lists are the first distinct ones, no more than a document shares.
-fn numbers_of<'a>(
-    alloc: Global,
-    cuts: &[&'a [i128]],
-    lists: &mut Lists<'a>,
-) -> Result<Nums, NoMemory>
-    requires { lists.old.set.keys ≡ [] }
-    ensures lists { OnOk result (map (λ u. u.now) lists.new.set.keys
-        ≡ take MAX_SHARED (firsts (pointwise int_eq) (map (λ u. u.now) cuts.now))) }
-    ensures numbers { IfOk result (λ made. made.list
-        ≡ map (number_in 1 (map (λ u. u.now) lists.new.set.keys)) (map (λ u. u.now) cuts.now)) }
-{
-    let mut leaf = Nums::with_room(alloc, cuts.len())?;
-    for cut in cuts {
-        leaf.push(lists.number(cut)?)?;
+// The first distinct lists of cuts, no more than a document shares, and for each cut the number of its list, or 0.
+#[derive(Drop)]
+struct Numbered<'a> {
+    lists: Lists<'a>,
+    leaf: Nums,
+}
+
+impl<'a> Numbered<'a> {
+    // Those of no cuts.
+    fn new(alloc: Global) -> Result<Numbered<'a>, NoMemory>
+        ensures { IfOk result (λ made. AreNumbered made.lists.set.keys made.leaf.list []) }
+    {
+        Ok(Numbered {
+            lists: Lists::new(alloc),
+            leaf: Nums::with_room(alloc, 0)?,
+        })
     }
-    Ok(leaf)
+
+    // Those of one cut more.
+    fn add(&mut self, list: &'a [i128]) -> Result<(), NoMemory>
+        requires few { length self.old.lists.set.keys ≤ MAX_SHARED }
+        ensures few { OnOk result (length self.new.lists.set.keys ≤ MAX_SHARED) }
+        ensures added { OnOk result ((us : List (List ℤ)) →
+            AreNumbered self.old.lists.set.keys self.old.leaf.list us →
+            AreNumbered self.new.lists.set.keys self.new.leaf.list (us ++ list.now ∷ [])) }
+    {
+        let number = self.lists.number(list)?;
+        self.leaf.push(number)?;
+        Ok(())
+    }
+
+    // Those of the cuts of a tree more, in preorder.
+    fn add_tree(&mut self, tree: &'a Tree) -> Result<(), NoMemory>
+        requires few { length self.old.lists.set.keys ≤ MAX_SHARED }
+        ensures few { OnOk result (length self.new.lists.set.keys ≤ MAX_SHARED) }
+        ensures added { OnOk result ((us : List (List ℤ)) →
+            AreNumbered self.old.lists.set.keys self.old.leaf.list us →
+            AreNumbered self.new.lists.set.keys self.new.leaf.list
+            (us ++ cuts_of (plan tree.now))) }
+    {
+        match tree {
+            Tree::Split(children) => {
+                self.add_tree(&children.zero)?;
+                self.add_tree(&children.plus)?;
+                if let Some(minus) = &children.minus {
+                    self.add_tree(minus)?;
+                }
+                Ok(())
+            }
+            Tree::CutA(list) => self.add(list.as_slice()),
+            Tree::CutB(list) => self.add(list.as_slice()),
+            Tree::Flat => Ok(()),
+        }
+    }
+
+    // Those of the cuts of a proof's trees more.
+    fn add_proof(&mut self, proof: &'a Proof) -> Result<(), NoMemory>
+        requires few { length self.old.lists.set.keys ≤ MAX_SHARED }
+        ensures few { OnOk result (length self.new.lists.set.keys ≤ MAX_SHARED) }
+        ensures added { OnOk result ((us : List (List ℤ)) →
+            AreNumbered self.old.lists.set.keys self.old.leaf.list us →
+            AreNumbered self.new.lists.set.keys self.new.leaf.list (us ++ cuts_in proof.now)) }
+    {
+        match proof {
+            Proof::One(tree) => self.add_tree(tree),
+            Proof::Two(tree, second) => {
+                self.add_tree(tree)?;
+                self.add_tree(second)
+            }
+            _ => Ok(()),
+        }
+    }
+}
+
+// The lists and numbers of all cuts of the answers.
+fn number_all<'a>(alloc: Global, answers: &'a Answers) -> Result<Numbered<'a>, NoMemory>
+    ensures { IfOk result
+        (λ made. AreNumbered made.lists.set.keys made.leaf.list (all_cuts answers.now)) }
+{
+    let mut made = Numbered::new(alloc)?;
+    for k in 0..answers.len() {
+        made.add_proof(&answers.get(k + 1).proof)?;
+    }
+    Ok(made)
 }
 
 // The lists in their own memory.
@@ -252,14 +268,12 @@ fn rows_of(alloc: Global, lists: &IndexSet<&[i128]>) -> Result<Rows, NoMemory>
 
 /// The share of answers: the first distinct lists of their cuts, no more than a document shares, and for each cut the number of its list.
 ///
-/// It keeps a reference to each cut's list while it runs.
+/// It keeps a reference to each list of the share while it runs.
 pub fn share_of(alloc: Global, answers: &Answers) -> Result<Share, NoMemory>
     ensures table { IfOk result (λ made. made.table ≡ (share MAX_SHARED answers.now).table) }
     ensures leaf { IfOk result (λ made. made.leaf.list ≡ (share MAX_SHARED answers.now).leaf) }
 {
-    let cuts = cuts_in_order(alloc, answers)?;
-    let mut lists = Lists::new(alloc);
-    let leaf = numbers_of(alloc, &cuts, &mut lists)?;
+    let Numbered { lists, leaf } = number_all(alloc, answers)?;
     let table = rows_of(alloc, &lists.set)?;
     Ok(Share { table, leaf })
 }

@@ -1,0 +1,2 @@
+-- Definitions for the contracts of private functions alone: nobody outside the crate has to read them.
+pub mod Numbered
