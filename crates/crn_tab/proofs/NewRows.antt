@@ -1,12 +1,12 @@
 -- The new row of an exchange, from its difference.
-use Rattle.std.proofs.Common.{◌≡◌, ◌≢◌, ℕ, zero, suc, ◌+◌, ◌-◌, ◌<◌, ◌⊎◌, inl, inr, List, [], ◌∷◌, length, refl, sym, ap, ◌∙◌, arith}
-use Rattle.std.specs.Prelude.{ℤ, pos, ◌-ℤ◌, ◌*ℤ◌, ◌≤ℤ◌, ◌<ℤ◌}
+use Rattle.std.proofs.Common.{◌≡◌, ◌≢◌, ℕ, zero, suc, ◌+◌, ◌-◌, ◌<◌, ◌≤◌, ◌⊎◌, inl, inr, List, [], ◌∷◌, length, refl, sym, ap, ◌∙◌, arith}
+use Rattle.std.specs.Prelude.{ℤ, pos, ◌-ℤ◌, ◌*ℤ◌, ◌≤ℤ◌, ◌<ℤ◌, unsigned_abs}
 use Rattle.std.proofs.lemmas.Int.{ints}
 use Rattle.std.proofs.Math.ListN.{length-set}
 use lib.IntN.{*ℤ-zero, zero-*ℤ}
 use Rattle.crn_vec.proofs.CallerLemmas.{pos_pos}
 use Rattle.crn_vec.specs.Vectors.{entry}
-use Rattle.crn_tab.specs.Inner.Rows.{put, IsNewRow}
+use Rattle.crn_tab.specs.Inner.Rows.{AreBelow, put, IsNewRow}
 use Rattle.crn_tab.specs.Slots.{IsContent}
 use Rattle.crn_tab.proofs.Rows.{same_rows}
 
@@ -26,6 +26,13 @@ put_same v c x h = elim (look v c c x h) [ inl r ↦ r.1 | inr r ↦ absurd (r.0
 
 pub put_other : (v : List ℤ) (c k : ℕ) (x : ℤ) → c < length v → k ≢ c → entry (put v c x) k ≡ entry v k
 put_other v c k x h ne = elim (look v c k x h) [ inl r ↦ absurd (ne r.0) | inr r ↦ r.1 ]
+
+-- a list of numbers below a bound is so with a 0 written, too
+pub below_without : (b : ℕ) (v : List ℤ) (c : ℕ) → 1 ≤ b → c < length v → AreBelow b v → AreBelow b (put v c (pos 0))
+below_without b v c some lt h k = elim (look v c k (pos 0) lt) [
+  | inl r ↦ omega (arith, ints, some, ap unsigned_abs r.1)
+  | inr r ↦ omega (arith, h k, ap unsigned_abs r.1)
+]
 
 -- to write what is there changes nothing
 pub put_was : (v : List ℤ) (c : ℕ) (x : ℤ) → c < length v → entry v c ≡ x → put v c x ≡ v

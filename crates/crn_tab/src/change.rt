@@ -7,16 +7,43 @@ ghost use Rattle.crn_tab.specs.Inner.Rows.{AreBelow, AreFilled, ArePlaces, IsCom
 
 use crate::combine::{common, over};
 use crate::lead::{Lead, make_lead, put_lead, put_places};
-use crate::low::{are_low, both, is_low, low_cross, low_differences, make_primitive};
-use crate::short::{are_short, change_short, is_short, narrow, put_narrow_if};
+use crate::low::{LOW_ENTRY, are_low, both, is_below, low_cross, low_differences, make_primitive};
+use crate::short::{
+    SHORT_ENTRY, change_short, is_narrow, is_short, look_again, narrow, put_narrow_if,
+};
 use crn_vec::WIDE_ENTRY;
 
 // Where all entries are low, no new one reaches the bound, so an exchange cannot be refused, and the rows change in place.
 
-// A row of low entries less a low multiple of the lead. The answer is whether what changed is low.
-fn take_lead(row: &mut [i64], lead: &[i64], places: &[usize], q: &i64) -> bool
+// A row of entries below a bound less a low multiple of the lead. The answer is whether what changed is below the bound.
+fn take_lead(row: &mut [i64], lead: &[i64], places: &[usize], q: &i64, bound: &i64) -> bool
     requires few { length row.old ≤ 2 ^ 20 }
     requires lead_count { length lead.now ≡ length row.old }
+    requires bound { unsigned_abs bound.now ≤ 2 ^ 30 }
+    requires row { AreBelow (unsigned_abs bound.now) row.old }
+    requires lead { AreBelow (2 ^ 30) lead.now }
+    requires q { unsigned_abs q.now < 2 ^ 30 }
+    requires places { ArePlaces lead.now places.now }
+    ensures value { (k : ℕ)
+        → entry row.new k ≡ entry row.old k -ℤ (q.now *ℤ entry lead.now k) }
+    ensures small { AreSmall row.new }
+    ensures below { IsTrue result → AreBelow (unsigned_abs bound.now) row.new }
+{
+    let mut below = true;
+    for s in 0..places.len() {
+        let k = places[s];
+        let x = low_cross(&1, &row[k], q, &lead[k]);
+        row[k] = x;
+        below = both(below, is_below(&x, bound));
+    }
+    below
+}
+
+// The same of a row of low entries. The answer is whether they are low, and `short` stays only if they are short.
+fn take_places(row: &mut [i64], short: &mut bool, lead: &[i64], places: &[usize], q: &i64) -> bool
+    requires few { length row.old ≤ 2 ^ 20 }
+    requires lead_count { length lead.now ≡ length row.old }
+    requires short { IsTrue short.old → AreBelow (2 ^ 14) row.old }
     requires row { AreBelow (2 ^ 30) row.old }
     requires lead { AreBelow (2 ^ 30) lead.now }
     requires q { unsigned_abs q.now < 2 ^ 30 }
@@ -25,22 +52,28 @@ fn take_lead(row: &mut [i64], lead: &[i64], places: &[usize], q: &i64) -> bool
         → entry row.new k ≡ entry row.old k -ℤ (q.now *ℤ entry lead.now k) }
     ensures small { AreSmall row.new }
     ensures low { IsTrue result → AreBelow (2 ^ 30) row.new }
+    ensures short { IsTrue short.new → IsTrue short.old × AreBelow (2 ^ 14) row.new }
 {
-    let mut low = true;
-    for s in 0..places.len() {
-        let k = places[s];
-        let x = low_cross(&1, &row[k], q, &lead[k]);
-        row[k] = x;
-        low = both(low, is_low(&x));
+    if !*short {
+        return take_lead(row, lead, places, q, &LOW_ENTRY);
     }
-    low
+    *short = take_lead(row, lead, places, q, &SHORT_ENTRY);
+    *short || are_low(row)
 }
 
 // The primitive difference of a row and a multiple of the lead, in place of the row, if the row itself has the factor 1.
-// Whatever divides all of it divides `known`. The answer is whether its entries are low.
-fn change_few(row: &mut [i64], lead: &[i64], places: &[usize], q: &i64, known: &i64) -> bool
+// Whatever divides all of it divides `known`. The answer is whether its entries are low, and `short` stays only if they are short.
+fn change_few(
+    row: &mut [i64],
+    short: &mut bool,
+    lead: &[i64],
+    places: &[usize],
+    q: &i64,
+    known: &i64,
+) -> bool
     requires few { length row.old ≤ 2 ^ 20 }
     requires lead_count { length lead.now ≡ length row.old }
+    requires short { IsTrue short.old → AreBelow (2 ^ 14) row.old }
     requires row { AreBelow (2 ^ 30) row.old }
     requires lead { AreBelow (2 ^ 30) lead.now }
     requires q { unsigned_abs q.now < 2 ^ 30 }
@@ -53,12 +86,15 @@ fn change_few(row: &mut [i64], lead: &[i64], places: &[usize], q: &i64, known: &
     ensures combined { IsCombined (pos 1) q.now row.old lead.now row.new }
     ensures small { AreSmall row.new }
     ensures low { IsTrue result → AreBelow (2 ^ 30) row.new }
+    ensures short { IsTrue short.new → IsTrue short.old × AreBelow (2 ^ 14) row.new }
 {
-    let low = take_lead(row, lead, places, q);
+    let low = take_places(row, short, lead, places, q);
     if *known == 1 {
         return low;
     }
-    make_primitive(row, known) || are_low(row)
+    let low = make_primitive(row, known);
+    look_again(short, row);
+    low || are_low(row)
 }
 
 // The same with any factor of the row.
@@ -81,9 +117,10 @@ fn change_all(row: &mut [i64], lead: &[i64], p: &i64, q: &i64, known: &i64) -> b
     make_primitive(row, known) || are_low(row)
 }
 
-// The primitive difference of two rows of low entries, each times a factor, in place of the first.
+// The primitive difference of two rows of low entries, each times a factor, in place of the first. `short` stays only if the entries are short, too.
 fn change_low(
     row: &mut [i64],
+    short: &mut bool,
     lead: &[i64],
     places: &[usize],
     p: &i64,
@@ -92,6 +129,7 @@ fn change_low(
 ) -> bool
     requires few { length row.old ≤ 2 ^ 20 }
     requires lead_count { length lead.now ≡ length row.old }
+    requires short { IsTrue short.old → AreBelow (2 ^ 14) row.old }
     requires row { AreBelow (2 ^ 30) row.old }
     requires lead { AreBelow (2 ^ 30) lead.now }
     requires p { unsigned_abs p.now < 2 ^ 30 }
@@ -105,11 +143,14 @@ fn change_low(
     ensures combined { IsCombined p.now q.now row.old lead.now row.new }
     ensures small { AreSmall row.new }
     ensures low { IsTrue result → AreBelow (2 ^ 30) row.new }
+    ensures short { IsTrue short.new → IsTrue short.old × AreBelow (2 ^ 14) row.new }
 {
     if *p == 1 {
-        return change_few(row, lead, places, q, known);
+        return change_few(row, short, lead, places, q, known);
     }
-    change_all(row, lead, p, q, known)
+    let low = change_all(row, lead, p, q, known);
+    look_again(short, row);
+    low
 }
 
 // The primitive difference of two rows of short entries, each times a factor, in place of the first. If the answer is no, the row stays.
@@ -144,7 +185,7 @@ fn change_if_short(
     change_short(row, lead.narrow, &narrow(p), &narrow(q), known, work)
 }
 
-// The primitive difference of two rows of low entries, each times a factor, in place of the first. `short` stays only if the entries are short, too.
+// The same, by numbers of 32 bits if that can be.
 fn change(
     row: &mut [i64],
     short: &mut bool,
@@ -159,6 +200,7 @@ fn change(
     requires work_count { length work.old ≡ length row.old }
     requires short { IsTrue lead.now.short → (lead.now.narrow.now ≡ lead.now.entries.now)
         × AreBelow (2 ^ 14) lead.now.entries.now × AreBelow (2 ^ 14) row.old }
+    requires short_row { IsTrue short.old → AreBelow (2 ^ 14) row.old }
     requires row { AreBelow (2 ^ 30) row.old }
     requires lead { AreBelow (2 ^ 30) lead.now.entries.now }
     requires p { unsigned_abs p.now < 2 ^ 30 }
@@ -178,9 +220,7 @@ fn change(
     if change_if_short(row, lead, p, q, known, work) {
         return true;
     }
-    let low = change_low(row, lead.entries, lead.places, p, q, known);
-    *short = *short && are_short(row);
-    low
+    change_low(row, short, lead.entries, lead.places, p, q, known)
 }
 
 // The new row of a row of low entries, in its place. `short` stays only if its entries are short.
@@ -341,7 +381,8 @@ pub(crate) fn changed_rows(
     let p = lead[last];
     lead[last] = 0;
     put_places(places, lead);
-    put_narrow_if(*short, lead, narrow_lead);
+    let by_narrow = is_narrow(short, rows, places.len(), lead.len());
+    put_narrow_if(by_narrow, lead, narrow_lead);
     let made = Lead {
         row: r,
         slot: c,
@@ -349,7 +390,7 @@ pub(crate) fn changed_rows(
         entries: lead,
         places,
         low: true,
-        short: *short,
+        short: by_narrow,
         narrow: narrow_lead,
     };
     let low = change_rows(rows, short, m, &made, work);

@@ -9,7 +9,6 @@ use crate::change::changed_rows;
 use crate::fill::{fill_rows, part};
 use crate::lead::{Lead, make_lead, put_lead, put_places};
 use crate::low::{all_low, are_low};
-use crate::short::{are_still_short, is_dense_row};
 use crn_vec::Matrix;
 
 // Row i becomes that of the spare rows, if it has the leaving coordinate.
@@ -155,16 +154,6 @@ fn wider_rows(
     least
 }
 
-// Whether the rows are short, as is said or as they show, if most of row r is not 0. Of a row with few places an exchange takes as many steps, and then
-// it is not asked.
-fn are_short_for(short: bool, rows: &[i64], r: usize, w: usize) -> bool
-    requires few { length rows.now ≤ 2 ^ 20 }
-    requires inside { r * w + w ≤ length rows.now }
-    ensures { IsTrue result → IsTrue short ⊎ AreBelow (2 ^ 14) rows.now }
-{
-    is_dense_row(part(rows, r, w)) && are_still_short(short, rows)
-}
-
 // The same, in place if all entries are low.
 pub(crate) fn new_rows(
     rows: &mut [i64],
@@ -206,7 +195,6 @@ pub(crate) fn new_rows(
     ensures spare_room { vec_capacity spare.new ≡ vec_capacity spare.old }
 {
     if *low {
-        *short = are_short_for(*short, rows, r, lead.len());
         *low = changed_rows(rows, short, m, r, c, lead, places, narrow_lead, narrow_work);
         return order.len();
     }

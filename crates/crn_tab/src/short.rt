@@ -6,7 +6,7 @@ ghost use Rattle.crn_tab.specs.Inner.Rows.{AreBelow, IsCombined};
 use crate::low::{both, divisor_with};
 
 // Of numbers below this, the difference of two products fits 32 bits, of which a vector holds twice as many as of 64.
-const SHORT_ENTRY: i64 = 1 << 14;
+pub(crate) const SHORT_ENTRY: i64 = 1 << 14;
 
 // The same bound, for numbers of 32 bits.
 const SHORT_PART: i32 = 1 << 14;
@@ -74,28 +74,27 @@ pub(crate) fn put_narrow_if(short: bool, row: &[i64], into: &mut [i32])
     }
 }
 
-// Whether rows are short, as is said, or else as they show.
-pub(crate) fn are_still_short(short: bool, rows: &[i64]) -> bool
-    ensures { IsTrue result → IsTrue short ⊎ AreBelow (2 ^ 14) rows.now }
+// Looks whether a row that was short still is.
+pub(crate) fn look_again(short: &mut bool, row: &[i64])
+    ensures { IsTrue short.new → IsTrue short.old × AreBelow (2 ^ 14) row.now }
 {
-    short || all_short(rows)
+    *short = *short && are_short(row);
 }
 
 // A row of fewer entries takes as many steps by numbers of 64 bits.
 const MANY_ENTRIES: usize = 48;
 
-// Whether a row has many entries, and more than three eighths of them are not 0.
-pub(crate) fn is_dense_row(row: &[i64]) -> bool {
-    if row.len() < MANY_ENTRIES {
+// Whether rows are made by numbers of 32 bits: the lead has many entries, more than three eighths of them are not 0, and all rows are short,
+// as is said, or else as they show.
+pub(crate) fn is_narrow(short: &mut bool, rows: &[i64], places: usize, entries: usize) -> bool
+    ensures narrow { IsTrue result → IsTrue short.new }
+    ensures short { IsTrue short.new → IsTrue short.old ⊎ AreBelow (2 ^ 14) rows.now }
+{
+    if entries < MANY_ENTRIES || places <= entries / 8 * 3 {
         return false;
     }
-    let mut some = 0usize;
-    for x in row {
-        if *x != 0 {
-            some = some.wrapping_add(1);
-        }
-    }
-    some > row.len() / 8 * 3
+    *short = *short || all_short(rows);
+    *short
 }
 
 // The same numbers, of 64 bits.

@@ -1,4 +1,4 @@
-ghost use Rattle.std.specs.Prelude.{◌≡◌, ◌≤◌, ◌<◌, ◌⊎◌, ◌↔◌, ℕ, ℤ, length, slice_index, slice_index_or};
+ghost use Rattle.std.specs.Prelude.{◌≡◌, ◌≤◌, ◌<◌, ◌⊎◌, ◌↔◌, ℕ, ℤ, IsTrue, false, length, slice_index, slice_index_or};
 ghost use Rattle.crn_vec.specs.Vectors.{HasSign};
 ghost use Rattle.crn_vec.specs.declared.signs.Kind.TheVariants.{Pos};
 ghost use Rattle.crn_vec.specs.Lists.{IsIn};
@@ -11,7 +11,7 @@ ghost use Rattle.crn_tab.specs.Slots.{basis_of, IsTableau};
 use crate::fields::Fields;
 use crate::fill::part;
 use crate::tableau::Tableau;
-use crn_vec::{Kind, Sign, may_weigh, opposite, product, sign_of};
+use crn_vec::{Kind, Sign, is_minus_sign, is_plus_sign, may_weigh, opposite, product, sign_of};
 
 // The sign of a number that follows another.
 pub(crate) fn follower(sign: Sign, x: &i64) -> Sign
@@ -20,8 +20,38 @@ pub(crate) fn follower(sign: Sign, x: &i64) -> Sign
     product(sign, sign_of(*x as i128))
 }
 
+// Whether numbers of a sign may not be in a list that rules a system out. It takes no branch, since signs in a row follow no pattern.
+fn is_barred(kind: Kind, sign: Sign) -> bool
+    ensures yes { IsTrue result → (x : ℤ) → HasSign sign x → MayWeigh kind x → ⊥ }
+    ensures no { result ≡ false → (x : ℤ) → HasSign sign x → MayWeigh kind x }
+{
+    let bars_plus = !may_weigh(kind, Sign::Plus);
+    let bars_minus = !may_weigh(kind, Sign::Minus);
+    (is_plus_sign(sign) & bars_plus) | (is_minus_sign(sign) & bars_minus)
+}
+
+// The lower of two levels, of which the second counts only if it is so.
+fn lower_level(best: usize, level: usize, counts: bool, end: usize) -> usize
+    requires { best ≤ end }
+    ensures lower { result ≤ best }
+    ensures counts { IsTrue counts → result ≤ level }
+    ensures one { (result ≡ best) ⊎ ((result ≡ level) × IsTrue counts) }
+{
+    let other = if counts { level } else { end };
+    best.min(other)
+}
+
 // The least level so far of a wrong coordinate: this one's, if it is lower and what follows x may not be there.
-fn least_wrong(sign: Sign, x: &i64, kind: Kind, level: usize, from: usize, best: usize) -> usize
+fn least_wrong(
+    sign: Sign,
+    x: &i64,
+    kind: Kind,
+    level: usize,
+    from: usize,
+    best: usize,
+    end: usize,
+) -> usize
+    requires { best ≤ end }
     ensures lower { result ≤ best }
     ensures from { from ≤ best → from ≤ result }
     ensures right { (y : ℤ) → Follows sign x.now y → from ≤ level → level < result
@@ -29,22 +59,11 @@ fn least_wrong(sign: Sign, x: &i64, kind: Kind, level: usize, from: usize, best:
     ensures wrong { (result ≡ best)
         ⊎ ((result ≡ level) × ((y : ℤ) → Follows sign x.now y → MayWeigh kind y → ⊥)) }
 {
-    if *x == 0 {
-        return best;
-    }
-    if level < from {
-        return best;
-    }
-    if level >= best {
-        return best;
-    }
-    if may_weigh(kind, follower(sign, x)) {
-        return best;
-    }
-    level
+    let wrong = is_barred(kind, follower(sign, x));
+    lower_level(best, level, wrong & (from <= level), end)
 }
 
-// The same at coordinate c. Of the many numbers that are 0 nothing else is read.
+// The same at coordinate c.
 fn wrong_at(
     sign: Sign,
     x: &i64,
@@ -53,7 +72,9 @@ fn wrong_at(
     c: usize,
     from: usize,
     best: usize,
+    end: usize,
 ) -> usize
+    requires range { best ≤ end }
     requires kinds { c < length kinds.now }
     requires level { c < length level.now }
     ensures lower { result ≤ best }
@@ -64,10 +85,7 @@ fn wrong_at(
         ⊎ ((result ≡ slice_index level.now c) × ((y : ℤ) → Follows sign x.now y
         → MayWeigh (slice_index_or kinds.now c Pos) y → ⊥)) }
 {
-    if *x == 0 {
-        return best;
-    }
-    least_wrong(sign, x, kinds[c], level[c], from, best)
+    least_wrong(sign, x, kinds[c], level[c], from, best, end)
 }
 
 // The kind whose weights are what a part of a solution may have at a coordinate of the given kind.
@@ -112,9 +130,18 @@ fn wrong_row(
 {
     let n = fields.matrix.cols();
     let kept = part(fields.rows, fields.at[row] - n, n + 1);
-    let mut best = least_wrong(sign, &kept[n], kinds[row], level[row], from, end);
+    let mut best = least_wrong(sign, &kept[n], kinds[row], level[row], from, end, end);
     for s in 0..n {
-        best = wrong_at(sign, &kept[s], kinds, level, fields.order[s], from, best);
+        best = wrong_at(
+            sign,
+            &kept[s],
+            kinds,
+            level,
+            fields.order[s],
+            from,
+            best,
+            end,
+        );
     }
     best
 }
@@ -151,11 +178,19 @@ fn wrong_column(
     let m = fields.matrix.rows();
     let place = fields.at[col];
     let other = opposite(sign);
-    let mut best = least_wrong(sign, &1, dual(kinds[col]), level[col], from, end);
+    let mut best = least_wrong(sign, &1, dual(kinds[col]), level[col], from, end, end);
     for i in 0..m {
         let c = fields.order[n + i];
         let kept = part(fields.rows, i, n + 1);
-        best = least_wrong(other, &kept[place], dual(kinds[c]), level[c], from, best);
+        best = least_wrong(
+            other,
+            &kept[place],
+            dual(kinds[c]),
+            level[c],
+            from,
+            best,
+            end,
+        );
     }
     best
 }

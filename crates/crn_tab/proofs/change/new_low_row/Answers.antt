@@ -1,12 +1,11 @@
-use Rattle.std.proofs.Common.{◌≡◌, ◌-◌, ◌<◌, ◌≤◌, ◌^◌, ℕ, inl, inr, length, List, ap, ◌∙◌, sym, arith, to_z, of_z}
+use Rattle.std.proofs.Common.{◌≡◌, ◌-◌, ◌<◌, ◌≤◌, ◌^◌, ℕ, length, ap, ◌∙◌, sym, arith, to_z, of_z}
 use Rattle.std.specs.Prelude.{ℤ, pos, ◌*ℤ◌, ◌≤ℤ◌, unsigned_abs}
 use Rattle.std.specs.Int.{w64}
-use Rattle.std.proofs.lemmas.Int.{ints}
 use Rattle.crn_vec.specs.Vectors.{entry}
-use Rattle.crn_tab.specs.Inner.Rows.{AreBelow, put}
+use Rattle.crn_tab.specs.Inner.Rows.{put}
 use Rattle.crn_tab.proofs.Cross.{read}
 use Rattle.crn_tab.proofs.LowCross.{read_low, part_le}
-use Rattle.crn_tab.proofs.NewRows.{new_row_none, look}
+use Rattle.crn_tab.proofs.NewRows.{below_without, new_row_none}
 use Rattle.crn_tab.proofs.Lowered.{lowered, divides_both, new_row_lowered}
 use Rattle.crn_tab.proofs.change.new_low_row.Goals as goal
 
@@ -16,12 +15,6 @@ returns-then-q-eq0-clause-new c =
     let bits : of_z w64 (entry old c.args.lead.now.slot) ≡ 0 = c.if-q-eq0.true in
     let is : entry old c.args.lead.now.slot ≡ pos 0 = sym (read_low (entry old c.args.lead.now.slot) (c.requires.row c.args.lead.now.slot)) ∙ ap (to_z w64) bits in
     new_row_none (length old - 1) c.args.lead.now.slot old (put c.args.lead.now.entries.now (length old - 1) c.args.lead.now.own.now) (omega (arith, c.requires.place)) is c.requires.primitive
-
-below_without : (b : ℕ) (v : List ℤ) (c : ℕ) → 1 ≤ b → c < length v → AreBelow b v → AreBelow b (put v c (pos 0))
-below_without b v c some lt h k = elim (look v c k (pos 0) lt) [
-  | inl r ↦ omega (arith, ints, some, ap unsigned_abs r.1)
-  | inr r ↦ omega (arith, h k, ap unsigned_abs r.1)
-]
 
 pub over-mine-requires-clause-divides : goal.over-mine-requires-clause-divides
 over-mine-requires-clause-divides c = rw (read c.common-t.result c.common-t.ensures.small) c.common-t.ensures.gcd.1

@@ -50,15 +50,15 @@ pub low_cross-x-requires-clause-x : goal.low_cross-x-requires-clause-x
 low_cross-x-requires-clause-x c =
     let k = slice_index_or c.args.places.now c.loop-s.s 0 in
     let was = c.loop-s.invariant.left k (fresh c.args.lead.now c.args.places.now c.loop-s.s c.requires.places c.loop-s-test.true) in
-    omega (arith, ap unsigned_abs was, c.requires.row k)
+    omega (arith, ap unsigned_abs was, c.requires.bound, c.requires.row k)
 
 pub loop-s-init : goal.loop-s-init
 loop-s-init c = record {
   each = λ k. inl refl;
   done = λ i lt. absurd (omega (arith, lt));
   left = λ k h. refl;
-  small = λ k. omega (arith, c.requires.row k);
-  low = λ yes. c.requires.row;
+  small = λ k. omega (arith, c.requires.bound, c.requires.row k);
+  below = λ yes. c.requires.row;
   long = refl;
 }
 
@@ -101,11 +101,11 @@ loop-s-preserved c =
         | inl r ↦ omega (arith, ap unsigned_abs (r.1 ∙ read_x), c.low_cross-x.ensures.small)
         | inr r ↦ omega (arith, ap unsigned_abs r.1, c.loop-s.invariant.small j)
       ];
-      low = λ yes j.
-          let h = c.both-low.ensures yes in
+      below = λ yes j.
+          let h = c.both-below.ensures yes in
           elim (look row k j x inside) [
-            | inl r ↦ omega (arith, ap unsigned_abs r.1, c.is_low.ensures h.1)
-            | inr r ↦ omega (arith, ap unsigned_abs r.1, c.loop-s.invariant.low h.0 j)
+            | inl r ↦ omega (arith, ap unsigned_abs r.1, c.is_below.ensures h.1)
+            | inr r ↦ omega (arith, ap unsigned_abs r.1, c.loop-s.invariant.below h.0 j)
           ];
       long = length-set row k x ∙ c.loop-s.invariant.long;
     }

@@ -1,5 +1,5 @@
-use Rattle.std.proofs.Common.{◌≡◌, ℕ, ◌<◌, ◌^◌, ◌⊎◌, length}
-use Rattle.std.specs.Prelude.{◌*ℤ◌, ◌-ℤ◌, slice_index, IsTrue}
+use Rattle.std.proofs.Common.{◌≡◌, ℕ, ◌<◌, ◌⊎◌, length}
+use Rattle.std.specs.Prelude.{◌*ℤ◌, ◌-ℤ◌, slice_index, unsigned_abs, IsTrue}
 use Rattle.crn_vec.specs.Vectors.{entry}
 use Rattle.crn_tab.specs.Inner.Rows.{AreBelow}
 use Rattle.crn_tab.specs.Tableau.{AreSmall}
@@ -11,6 +11,6 @@ invariant-loop-s l = record {
   done : (i : ℕ) → i < l.s → entry l.row (slice_index l.places i) ≡ entry l.initial.row (slice_index l.places i) -ℤ (l.q *ℤ entry l.lead (slice_index l.places i));
   left : (k : ℕ) → ((i : ℕ) → i < l.s → slice_index l.places i ≡ k → ⊥) → entry l.row k ≡ entry l.initial.row k;
   small : AreSmall l.row;
-  low : IsTrue l.low → AreBelow (2 ^ 30) l.row;
+  below : IsTrue l.below → AreBelow (unsigned_abs l.bound) l.row;
   long : length l.row ≡ length l.initial.row;
 }
