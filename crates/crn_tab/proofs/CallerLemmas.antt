@@ -7,7 +7,7 @@ pub use Rattle.crn_tab.proofs.Numbers.{push_in, push_last, in_push}
 -- Numbers and their signs: a factor that is not 0 cancels, and a sign goes over to a multiple.
 pub use Rattle.crn_tab.proofs.Columns.{cancel_left}
 pub use Rattle.crn_tab.proofs.CutScans.{sign_some}
-pub use Rattle.crn_tab.proofs.OwnSign.{sign_carried}
+pub use Rattle.crn_tab.proofs.OwnSign.{sign_carried, sign_put}
 -- A sum of products of which all but one are 0.
 -- The vectors that a basis names: one for each coordinate, up to a factor, in the rows or in the columns.
 pub use Rattle.crn_tab.proofs.Signs.{one_row}

@@ -1,15 +1,16 @@
 -- The kept row of a coordinate outside the basis is positive there, and its signs are those of every vector named so.
-use Rattle.std.proofs.Common.{◌≡◌, ℕ, zero, suc, ◌+◌, ◌-◌, ◌<◌, inl, inr, List, sym, ap, subst, ◌∙◌, arith}
+use Rattle.std.proofs.Common.{◌≡◌, ℕ, zero, suc, ◌+◌, ◌-◌, ◌<◌, inl, inr, List, length, set, get_or, sym, ap, subst, ◌∙◌, arith}
 use Rattle.std.specs.Prelude.{ℤ, pos, negsuc, ◌*ℤ◌, ◌≤ℤ◌, slice_index}
 use Rattle.std.proofs.lemmas.Int.{ints}
+use Rattle.std.proofs.lemmas.List.{get_or-set_same, get_or-set_other}
 use lib.IntN.{*ℤ-zero}
 use Rattle.crn_vec.specs.declared.signs.Sign.{Sign}
 use Rattle.crn_vec.specs.declared.signs.Sign.TheVariants.{Zero, Plus, Minus}
 use Rattle.crn_vec.specs.Vectors.{Mat, entry, HasSign}
 use Rattle.crn_vec.specs.Lists.{IsIn}
 use Rattle.crn_vec.specs.Elementary.{width, IsNamed, IsNamedRow}
-use Rattle.crn_vec.proofs.CallerLemmas.{no_zero}
-use Rattle.crn_tab.specs.Tableau.{NamesRows}
+use Rattle.crn_vec.proofs.CallerLemmas.{no_zero, eq_or, one-mul}
+use Rattle.crn_tab.specs.Tableau.{IsRowOfSign, NamesRows}
 use Rattle.crn_tab.specs.Slots.{slot_entry, spread, basis_of, row_at, IsTableau}
 use Rattle.crn_tab.proofs.Places.{entry-spread, slot_own}
 use Rattle.crn_tab.proofs.Signs.{one_row, no_wide}
@@ -78,3 +79,34 @@ named_sign a at order rows k j s t lt j_lt out h w named positive =
     let here : HasSign s (entry v j) = subst (HasSign s) (sym e) h in
     sign_carried s (entry w k) (entry v k) (entry v j) (entry w j) positive (own_positive a at order rows k t lt own)
     (one_row a (basis_of n at) k v w t.wide own.named.basis_is (as_row a (basis_of n at) k v out own.named) named j) here
+
+-- the sign of the entry that a program looks at
+pub sign_made : (n n' i i' j : ℕ) (part row : List ℤ) (x : ℤ) (s : Sign) → n' ≡ n → i' ≡ i → part ≡ row → x ≡ slot_entry n' i' part j → HasSign s x → HasSign s (slot_entry n i row j)
+sign_made n n' i i' j part row x s e f g h k =
+    let A : ℕ → Type 0 = λ m. x ≡ slot_entry m i' part j in
+    let B : ℕ → Type 0 = λ m. x ≡ slot_entry n m part j in
+    let C : List ℤ → Type 0 = λ v. x ≡ slot_entry n i v j in
+    subst (HasSign s) (subst C g (subst B f (subst A e h))) k
+
+-- the sign at j of the vectors that k names, if they have this sign at k
+pub row_signed : (a : Mat) (at order : List ℕ) (rows : List ℤ) (k j : ℕ) (s r sign : Sign) (w : List ℤ) → IsTableau a at order rows → k < width a → j < width a → ¬ IsIn k (basis_of a.cols at)
+    → HasSign s (slot_entry a.cols (slice_index at k - a.cols) (row_at (a.cols + 1) rows (slice_index at k - a.cols)) (slice_index at j))
+    → ((x y : ℤ) → HasSign sign x → HasSign s y → HasSign r (x *ℤ y)) → IsRowOfSign a (basis_of a.cols at) k sign w → HasSign r (entry w j)
+row_signed a at order rows k j s r sign w t lt j_lt out h product named =
+    let n = a.cols in
+    let i = slice_index at k - n in
+    let row = row_at (n + 1) rows i in
+    let own = row_of a at order rows k t lt out in
+    let v = spread n i row at in
+    let e : entry v j ≡ slot_entry n i row (slice_index at j) = entry-spread n i row at j (omega (arith, t.placed.at_long)) in
+    let both : HasSign r (entry w k *ℤ entry v j) = product (entry w k) (entry v j) named.1 (subst (HasSign s) (sym e) h) in
+    sign_carried r (pos 1) (entry v k) (entry w k *ℤ entry v j) (entry w j) (omega (arith, ints)) (own_positive a at order rows k t lt own)
+    (one-mul (entry w k *ℤ entry v j) ∙ sym (one_row a (basis_of n at) k w v t.wide own.named.basis_is named.0 (as_row a (basis_of n at) k v out own.named) j)) both
+
+-- one more sign
+pub sign_put : (signs : List Sign) (y : List ℤ) (c : ℕ) (s : Sign) → c < length signs → ((k : ℕ) → k < c → HasSign (get_or signs k Zero) (entry y k)) → HasSign s (entry y c)
+    → (k : ℕ) → k < c + 1 → HasSign (get_or (set signs c s) k Zero) (entry y k)
+sign_put signs y c s lt before here k k_lt = elim (eq_or k c) as (λ _. HasSign (get_or (set signs c s) k Zero) (entry y k)) [
+  | inl e ↦ subst (λ (j : ℕ). HasSign (get_or (set signs c s) j Zero) (entry y j)) (sym e) (subst (λ (t : Sign). HasSign t (entry y c)) (sym (get_or-set_same signs c s Zero lt)) here)
+  | inr ne ↦ subst (λ (t : Sign). HasSign t (entry y k)) (sym (get_or-set_other signs c k s Zero ne)) (before k (omega (arith, k_lt, ne)))
+]

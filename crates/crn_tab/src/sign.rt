@@ -1,15 +1,16 @@
-ghost use Rattle.std.specs.Prelude.{◌≡◌, ◌≤◌, ◌<◌, ℕ, ℤ, pos, ◌≤ℤ◌, List};
+ghost use Rattle.std.specs.Prelude.{◌≡◌, ◌≤◌, ◌<◌, ℕ, ℤ, pos, ◌≤ℤ◌, List, length, slice_index_or};
 ghost use Rattle.crn_vec.specs.Vectors.{entry, HasSign};
+ghost use Rattle.crn_vec.specs.declared.signs.Sign.TheVariants.{Zero};
 ghost use Rattle.crn_vec.specs.Lists.{IsIn};
 ghost use Rattle.crn_vec.specs.Elementary.{width, IsNamedRow};
 ghost use Rattle.crn_tab.specs.Slots.{basis_of, IsTableau};
-ghost use Rattle.crn_tab.specs.Tableau.{NamesRows};
+ghost use Rattle.crn_tab.specs.Tableau.{IsRowOfSign, NamesRows};
 
 use crate::fields::Fields;
 use crate::fill::part;
 use crate::row::slot_of;
 use crate::tableau::Tableau;
-use crn_vec::{Sign, sign_of};
+use crn_vec::{Sign, product, sign_of};
 
 // The sign of an entry of the vector that a coordinate outside the basis names, positive at that coordinate.
 fn sign_at(fields: &Fields, row: usize, col: usize) -> Sign
@@ -25,6 +26,27 @@ fn sign_at(fields: &Fields, row: usize, col: usize) -> Sign
     let n = fields.matrix.cols();
     let i = fields.at[row] - n;
     sign_of(slot_of(part(fields.rows, i, n + 1), n, i, fields.at[col]))
+}
+
+// The signs of the vectors that a coordinate outside the basis names, if they have this one there.
+fn put_row_signs(fields: &Fields, row: usize, sign: Sign, signs: &mut [Sign])
+    requires tableau { IsTableau fields.now.matrix.now fields.now.at.now fields.now.order.now
+        fields.now.rows.now }
+    requires inside { row < width fields.now.matrix.now }
+    requires outside { IsIn row (basis_of fields.now.matrix.now.cols fields.now.at.now) → ⊥ }
+    requires room { length signs.old ≡ width fields.now.matrix.now }
+    ensures count { length signs.new ≡ length signs.old }
+    ensures signs { (w : List ℤ)
+        → IsRowOfSign fields.now.matrix.now
+        (basis_of fields.now.matrix.now.cols fields.now.at.now) row sign w → (k : ℕ)
+        → k < width fields.now.matrix.now → HasSign (slice_index_or signs.new k Zero) (entry w k) }
+{
+    let n = fields.matrix.cols();
+    let i = fields.at[row] - n;
+    let kept = part(fields.rows, i, n + 1);
+    for c in 0..signs.len() {
+        signs[c] = product(sign, sign_of(slot_of(kept, n, i, fields.at[c])));
+    }
 }
 
 // What the slots and rows of a tableau say of its basis.
@@ -45,6 +67,20 @@ impl Tableau {
             → pos 1 ≤ℤ entry w row → HasSign result (entry w col) }
     {
         sign_at(&self.fields(), row, col)
+    }
+
+    /// Writes the signs of the vectors that the basis names by a coordinate outside it, and of this sign there, into a list of their length.
+    /// It goes over the row once, and takes no memory.
+    pub fn put_signs(&self, row: usize, sign: Sign, signs: &mut [Sign])
+        requires inside { row < width self.now.matrix }
+        requires outside { IsIn row self.now.basis → ⊥ }
+        requires room { length signs.old ≡ width self.now.matrix }
+        ensures count { length signs.new ≡ length signs.old }
+        ensures signs { (w : List ℤ) → IsRowOfSign self.now.matrix self.now.basis row sign w
+            → (k : ℕ) → k < width self.now.matrix
+            → HasSign (slice_index_or signs.new k Zero) (entry w k) }
+    {
+        put_row_signs(&self.fields(), row, sign, signs);
     }
 
     /// The basis of a tableau is one, and names a vector without a wide entry by each coordinate outside it.

@@ -1,12 +1,11 @@
-use Rattle.std.proofs.Common.{◌≡◌, ℕ, ◌+◌, ◌-◌, List, ap, subst, arith}
-use Rattle.std.specs.Prelude.{ℤ, slice_index}
+use Rattle.std.proofs.Common.{◌+◌, ◌-◌, ap, subst, arith}
+use Rattle.std.specs.Prelude.{slice_index}
 use Rattle.std.specs.Int.{w128}
 use Rattle.std.proofs.lemmas.Int.{to_z-of_z}
-use Rattle.crn_vec.specs.declared.signs.Sign.{Sign}
 use Rattle.crn_vec.specs.Vectors.{HasSign}
 use Rattle.crn_tab.specs.Slots.{slot_entry, row_at}
 use Rattle.crn_tab.proofs.RowVector.{row_of}
-use Rattle.crn_tab.proofs.OwnSign.{named_sign}
+use Rattle.crn_tab.proofs.OwnSign.{named_sign, sign_made}
 use Rattle.crn_tab.proofs.sign.sign_at.Goals as goal
 
 pub overflow_sub-i : goal.overflow_sub-i
@@ -25,14 +24,6 @@ slot_of-requires-clause-long c =
     let e = rw c.cols-n.ensures.count at c.part.ensures in
     rw (c.cols-n.ensures.count, e) h.long
 
--- the entry that the code looks at
-made : (n n' i i' j : ℕ) (part row : List ℤ) (x : ℤ) (s : Sign) → n' ≡ n → i' ≡ i → part ≡ row → x ≡ slot_entry n' i' part j → HasSign s x → HasSign s (slot_entry n i row j)
-made n n' i i' j part row x s e f g h k =
-    let A : ℕ → Type 0 = λ m. x ≡ slot_entry m i' part j in
-    let B : ℕ → Type 0 = λ m. x ≡ slot_entry n m part j in
-    let C : List ℤ → Type 0 = λ v. x ≡ slot_entry n i v j in
-    subst (HasSign s) (subst C g (subst B f (subst A e h))) k
-
 pub returns : goal.returns
 returns c =
     let n = c.args.fields.now.matrix.now.cols in
@@ -40,6 +31,6 @@ returns c =
     let row = rw c.cols-n.ensures.count at c.part.ensures in
     let unwrapped = subst (HasSign c.sign_of.result) (to_z-of_z w128 c.slot_of.result (record { sfits = c.slot_of.type_inv })) c.sign_of.ensures in
     let is : HasSign c.sign_of.result (slot_entry n i (row_at (n + 1) c.args.fields.now.rows.now i) (slice_index c.args.fields.now.at.now c.args.col)) =
-    made n c.cols-n.result i (slice_index c.args.fields.now.at.now c.args.row - c.cols-n.result) (slice_index c.args.fields.now.at.now c.args.col) c.part.result.now (row_at (n + 1) c.args.fields.now.rows.now i) c.slot_of.result c.sign_of.result
+    sign_made n c.cols-n.result i (slice_index c.args.fields.now.at.now c.args.row - c.cols-n.result) (slice_index c.args.fields.now.at.now c.args.col) c.part.result.now (row_at (n + 1) c.args.fields.now.rows.now i) c.slot_of.result c.sign_of.result
     c.cols-n.ensures.count (ap (λ m. slice_index c.args.fields.now.at.now c.args.row - m) c.cols-n.ensures.count) row c.slot_of.ensures unwrapped in
     named_sign c.args.fields.now.matrix.now c.args.fields.now.at.now c.args.fields.now.order.now c.args.fields.now.rows.now c.args.row c.args.col c.sign_of.result c.requires.tableau c.requires.inside c.requires.place c.requires.outside is
