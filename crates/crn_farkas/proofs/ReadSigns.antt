@@ -8,21 +8,13 @@ use Rattle.crn_vec.specs.Lists.{IsIn}
 use Rattle.crn_vec.specs.Elementary.{width, IsNamedRow, IsNamedColumn}
 use Rattle.crn_vec.proofs.CallerLemmas.{mul-neg, one-mul, positive_some}
 use Rattle.crn_tab.specs.Tableau.{NamesRows}
-use Rattle.crn_tab.proofs.CallerLemmas.{one_row, as_row, sign_carried}
+use Rattle.crn_tab.proofs.CallerLemmas.{as_row, sign_carried}
 use Rattle.crn_farkas.proofs.Pairs.{pair, other_some}
 use Rattle.crn_farkas.proofs.SignRules.{sign_divided, sign_of_factor, minus_sum}
 
 -- what a program read of the kept row of e, that each vector named so and positive at e has this sign at c
 abbrev pub IsReadSign : Mat → List ℕ → ℕ → ℕ → Sign → Type 0
 IsReadSign a basis e c s = (w : List ℤ) → IsNamedRow a basis e w → pos 1 ≤ℤ entry w e → HasSign s (entry w c)
-
-pub row_sign : (a : Mat) (basis : List ℕ) (g c : ℕ) (s r asked : Sign) (y : List ℤ) → NamesRows a basis → g < width a → ¬ IsIn g basis → IsReadSign a basis g c s
-    → ((p q : ℤ) → HasSign asked p → HasSign s q → HasSign r (p *ℤ q)) → IsNamedRow a basis g y → HasSign asked (entry y g) → HasSign r (entry y c)
-row_sign a basis g c s r asked y t lt out read product named at_g =
-    let v = t.rows g lt out in
-    let w = as_row a basis g v.w out v.named in
-    let both : HasSign r (entry y g *ℤ entry v.w c) = product (entry y g) (entry v.w c) at_g (read v.w w v.positive) in
-    sign_divided r (entry v.w g) (entry y c) v.positive (subst (HasSign r) (one_row a basis g v.w y t.wide t.basis_is w named c) both)
 
 pub column_sign : (a : Mat) (basis : List ℕ) (b c : ℕ) (s p r lead : Sign) (y : List ℤ) → NamesRows a basis → c < width a → ¬ IsIn c basis → IsReadSign a basis c b s
     → ((x z : ℤ) → HasSign s x → HasSign lead z → HasSign p (x *ℤ z)) → ((x : ℤ) → HasSign p x → HasSign r (neg_ℤ x))

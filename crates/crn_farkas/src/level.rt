@@ -70,28 +70,6 @@ pub(crate) fn seen_lead(tableau: &Tableau, view: View, kind: Kind, g: usize) -> 
     }
 }
 
-// The sign at c of the vectors that a view shows.
-pub(crate) fn seen_sign(
-    tableau: &Tableau,
-    view: View,
-    _kind: Kind,
-    g: usize,
-    lead: Sign,
-    c: usize,
-) -> Sign
-    requires view { IsView tableau.now.matrix tableau.now.basis view g }
-    requires goal { g < width tableau.now.matrix }
-    requires place { c < width tableau.now.matrix }
-    ensures { (y : List ℤ) → IsSeen tableau.now.matrix tableau.now.basis view g _kind y
-        → HasSign lead (entry y (lead_at view g)) → HasSign result (entry y c) }
-{
-    tableau.names_rows();
-    match view {
-        View::Row => product(lead, tableau.sign(g, c)),
-        View::Column(b) => column_sign(tableau, b, lead, c),
-    }
-}
-
 // The least level, from one on and below another, of a coordinate at which the vectors that a view shows are wrong, or else the end.
 fn wrong_level(
     tableau: &Tableau,
