@@ -1,9 +1,9 @@
-ghost use Rattle.std.specs.Prelude.{IsTrue, ◌⊎◌, ◌≡◌, ◌≢◌, ◌≤◌, ◌<◌, ◌^◌, ◌-◌, ◌*◌, ◌+◌, ℕ, ℤ, pos, List, length, slice_index, vec_capacity};
+ghost use Rattle.std.specs.Prelude.{IsTrue, ◌≡◌, ◌≢◌, ◌≤◌, ◌<◌, ◌^◌, ◌-◌, ◌*◌, ◌+◌, ℕ, ℤ, pos, List, length, slice_index, vec_capacity};
 ghost use Rattle.crn_vec.specs.Vectors.{entry};
 ghost use Rattle.crn_vec.specs.Lists.{IsIn};
 ghost use Rattle.crn_vec.specs.Elementary.{width, IsNamed, WideAt, Exchanged};
 ghost use Rattle.crn_tab.specs.Slots.{AreLowRows, AreShortRows, row_at, basis_of, IsTableau};
-ghost use Rattle.crn_tab.specs.Inner.Rows.{AreBelow, IsKeptRow, AreFilled};
+ghost use Rattle.crn_tab.specs.Inner.Rows.{IsKeptRow, AreFilled};
 
 use crate::change::changed_rows;
 use crate::fill::{fill_rows, part};
