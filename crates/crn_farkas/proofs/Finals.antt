@@ -1,5 +1,5 @@
 -- From the parts of a decision to what it says.
-use Rattle.std.proofs.Common.{◌≡◌, ◌≢◌, ℕ, zero, suc, ◌+◌, ◌-◌, ◌<◌, ◌≤◌, ◌⊎◌, ◌↔◌, inl, inr, List, [], ◌∷◌, ◌++◌, length, get_or, take, refl, sym, ap, subst, ◌∙◌, add-one, arith, replicate}
+use Rattle.std.proofs.Common.{◌≡◌, ◌≢◌, ℕ, zero, suc, ◌+◌, ◌-◌, ◌<◌, ◌≤◌, ◌⊎◌, ◌↔◌, inl, inr, List, [], ◌∷◌, length, get_or, take, refl, sym, ap, subst, ◌∙◌, add-one, arith, replicate}
 use Rattle.std.specs.Prelude.{ℤ, pos, unsigned_abs, Bool, true, false, Result, Ok, Err}
 use Rattle.std.specs.Result.{MatchResult}
 use Rattle.std.proofs.lemmas.Int.{ints}
@@ -12,7 +12,7 @@ use Rattle.crn_vec.specs.Vectors.{Mat, entry}
 use Rattle.crn_vec.specs.Lists.{IsIn}
 use Rattle.crn_vec.specs.Elementary.{width, IsNamedRow}
 use Rattle.crn_vec.specs.Systems.{HasKind, MayTake, kind_at, HasOneRowCut, signed_count, HasSigned}
-use Rattle.crn_vec.proofs.CallerLemmas.{eq_or, lt_or, past_end, zip_from, kind_from, take_zero, dot-zero, Zero as AllZero}
+use Rattle.crn_vec.proofs.CallerLemmas.{lt_or, past_end, zip_from, kind_from, take_zero, dot-zero, Zero as AllZero}
 use Rattle.crn_farkas.specs.declared.fault.Stop.{Stop}
 use Rattle.crn_farkas.specs.declared.fault.Stop.TheVariants.{Wide, NoMemory}
 use Rattle.crn_farkas.specs.declared.decision.Decision.{Decision}
@@ -20,7 +20,6 @@ use Rattle.crn_farkas.specs.Inner.Views.{is_early_kind, level_of, level_count}
 use Rattle.crn_farkas.specs.Solver.{HasKeptCut, IsNearStop, IsRuledOut}
 use Rattle.crn_farkas.specs.Decision.{IsSmallSolution, IsDecision, IsTargetStop, IsStop}
 use Rattle.crn_farkas.specs.Inner.Sums.{IsPartSum, AreZeros, IsGoalStop}
-use Rattle.crn_tab.proofs.CallerLemmas.{push_in, push_last, in_push}
 use Rattle.crn_farkas.proofs.PartSums.{part_bound}
 
 -- a list filled with zeros
@@ -58,28 +57,6 @@ solution_from a kinds v x long few p e = record {
 }
 
 -- ---- the order of settling
-
-pub record LevelUpTo (olds xs : List ℕ) (kinds : List Kind) (early : Bool) (c : ℕ) : Type 0 where
-  pub kept : (k : ℕ) → IsIn k olds → IsIn k xs
-  pub added : (k : ℕ) → k < c → is_early_kind (kind_at kinds k) ≡ early → IsIn k xs
-  pub below : (k : ℕ) → IsIn k xs → IsIn k olds ⊎ (k < length kinds)
-
-pub level_pushed : (olds xs ys : List ℕ) (kinds : List Kind) (early : Bool) (c : ℕ) → LevelUpTo olds xs kinds early c → c < length kinds → ys ≡ xs ++ c ∷ [] → LevelUpTo olds ys kinds early (c + 1)
-level_pushed olds xs ys kinds early c l lt e = subst (λ (zs : List ℕ). LevelUpTo olds zs kinds early (c + 1)) (sym e) (record {
-  kept = λ k i. push_in xs c k (l.kept k i);
-  added = λ k k_lt s. elim (eq_or k c) as (λ _. IsIn k (xs ++ c ∷ [])) [ inl f ↦ push_last xs c k f | inr ne ↦ push_in xs c k (l.added k (omega (arith, k_lt, ne)) s) ];
-  below = λ k i. elim (in_push xs c k i) as (λ _. IsIn k olds ⊎ (k < length kinds)) [ inl h ↦ l.below k h | inr f ↦ inr (omega (arith, f, lt)) ];
-})
-
-pub level_passed : (olds xs : List ℕ) (kinds : List Kind) (early : Bool) (c : ℕ) → LevelUpTo olds xs kinds early c → ¬ (is_early_kind (kind_at kinds c) ≡ early) → LevelUpTo olds xs kinds early (c + 1)
-level_passed olds xs kinds early c l out = record {
-  kept = l.kept;
-  added = λ k k_lt s. elim (eq_or k c) as (λ _. IsIn k xs) [
-    | inl f ↦ absurd (out (subst (λ (j : ℕ). is_early_kind (kind_at kinds j) ≡ early) f s))
-    | inr ne ↦ l.added k (omega (arith, k_lt, ne)) s
-  ];
-  below = l.below;
-}
 
 pub early_or : (κ : Kind) → (is_early_kind κ ≡ true) ⊎ (is_early_kind κ ≡ false)
 early_or Pos = inr refl
@@ -123,7 +100,7 @@ level_all early [] (suc c) h = refl
 level_all early (κ ∷ kinds) zero h = absurd (omega arith)
 level_all early (κ ∷ kinds) (suc c) h = ap (λ (n : ℕ). level_of early (is_early_kind κ) + n) (level_all early kinds c (omega arith))
 
-one_level : (e : Bool) → level_of true e + level_of false e ≡ 1
+pub one_level : (e : Bool) → level_of true e + level_of false e ≡ 1
 one_level true = refl
 one_level false = refl
 

@@ -8,6 +8,7 @@ mod Witnesses
 mod PartSums
 mod Finals
 mod Levels
+mod Placing
 mod Marks
 mod Witnessing
 mod WideStops

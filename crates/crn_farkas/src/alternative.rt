@@ -11,7 +11,7 @@ use crate::cut::Cut;
 use crate::fault::Stop;
 use crate::goal::{settled_cut, settled_view};
 use crate::level::{Order, column_sign, seen_lead};
-use crate::targets::{put_levels, put_order};
+use crate::targets::put_order;
 use crate::view::View;
 use crn_tab::Tableau;
 use crn_vec::{Kind, Sign};
@@ -80,8 +80,7 @@ pub(crate) fn alternative_at(
         (λ d. IsAlternative tableau.new.matrix tableau.new.basis kinds.now g signs.new d) }
     ensures refused { IfErr result (λ s. IsRefusedStop tableau.new.matrix tableau.new.basis s) }
 {
-    put_order(order, kinds);
-    put_levels(order, level);
+    put_order(order, level, kinds);
     let settling = Order {
         places: order,
         levels: level,

@@ -13,7 +13,7 @@ use crate::fault::Stop;
 use crate::feasibility::Feasibility;
 use crate::goal::{settled_cut, settled_view};
 use crate::level::{Order, column_sign, lead_sign};
-use crate::targets::{put_levels, put_order};
+use crate::targets::put_order;
 use crate::view::View;
 use crn_tab::Tableau;
 use crn_vec::{Kind, counts, is_asked, sign_asked};
@@ -125,8 +125,7 @@ fn by_signs(
         (λ s. IsTargetStop tableau.new.matrix kinds.now s) }
     ensures refused { IfErr result (λ s. IsRefusedStop tableau.new.matrix tableau.new.basis s) }
 {
-    put_order(order, kinds);
-    put_levels(order, level);
+    put_order(order, level, kinds);
     marks.fill(false);
     let settling = Order {
         places: order,

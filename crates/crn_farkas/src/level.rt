@@ -1,9 +1,9 @@
-ghost use Rattle.std.specs.Prelude.{◌≡◌, ◌≤◌, ◌<◌, ℕ, ℤ, pos, ◌≢◌, List, true, length, slice_index, MatchOption, ◌+◌, ◌⊎◌, ◌↔◌, IsTrue, vec_len, vec_capacity};
+ghost use Rattle.std.specs.Prelude.{◌≡◌, ◌≤◌, ◌<◌, ℤ, pos, ◌≢◌, List, true, length, MatchOption, ◌⊎◌, ◌↔◌, IsTrue};
 ghost use Rattle.crn_vec.specs.Vectors.{entry, HasSign};
 ghost use Rattle.crn_vec.specs.Lists.{IsIn};
 ghost use Rattle.crn_vec.specs.Elementary.{width, IsNamedColumn};
 ghost use Rattle.crn_vec.specs.Systems.{kind_at, is_signed};
-ghost use Rattle.crn_farkas.specs.Inner.Views.{IsView, IsSeen, IsSettled, IsFirstWrong, IsRightBetween, IsWrongHere, is_early_kind, lead_at, level_count, IsOrder};
+ghost use Rattle.crn_farkas.specs.Inner.Views.{IsView, IsSeen, IsSettled, IsFirstWrong, IsRightBetween, IsWrongHere, is_early_kind, lead_at, IsOrder};
 
 use crate::view::View;
 use crn_tab::Tableau;
@@ -134,29 +134,11 @@ pub(crate) fn first_wrong(
 }
 
 // Whether a coordinate of this kind is one of those that cross at most once while others are settled, or is not.
-fn is_level(kind: Kind, early: bool) -> bool
+pub(crate) fn is_level(kind: Kind, early: bool) -> bool
     ensures { IsTrue result ↔ (is_early_kind kind ≡ early) }
 {
     match kind {
         Kind::Zero | Kind::Free => early,
         _ => !early,
-    }
-}
-
-// Adds the coordinates that are early, or those that are not, to a list that has room for them.
-pub(crate) fn push_level(order: &mut Vec<usize>, kinds: &[Kind], early: bool)
-    requires { vec_len order.old + level_count early kinds.now ≤ vec_capacity order.old }
-    ensures same { (c : ℕ) → IsIn c order.old.items → IsIn c order.new.items }
-    ensures added { (c : ℕ) → c < length kinds.now → is_early_kind (kind_at kinds.now c) ≡ early
-        → IsIn c order.new.items }
-    ensures below { (c : ℕ) → IsIn c order.new.items → IsIn c order.old.items
-        ⊎ (c < length kinds.now) }
-    ensures count { vec_len order.new ≡ vec_len order.old + level_count early kinds.now }
-    ensures room { vec_capacity order.new ≡ vec_capacity order.old }
-{
-    for c in 0..kinds.len() {
-        if is_level(kinds[c], early) {
-            order.push_reserved(c);
-        }
     }
 }

@@ -1,8 +1,7 @@
-ghost use Rattle.std.specs.Prelude.{◌≡◌, ◌≤◌, ◌<◌, ◌+◌, ℕ, length, slice_index, take, vec_capacity, MatchResult, MatchOption, IfErr, IfOk, IfSome, OnOk};
-ghost use Rattle.crn_vec.specs.Lists.{IsIn};
+ghost use Rattle.std.specs.Prelude.{◌≡◌, ◌≤◌, ◌<◌, ◌+◌, ◌-◌, length, true, false, IsTrue, slice_set, take, vec_capacity, MatchResult, MatchOption, IfErr, IfOk, IfSome, OnOk};
 ghost use Rattle.crn_vec.specs.Elementary.{width};
 ghost use Rattle.crn_farkas.specs.Decision.{IsSmallSolution, IsDecision, IsTargetStop};
-ghost use Rattle.crn_farkas.specs.Inner.Views.{AreLevels};
+ghost use Rattle.crn_farkas.specs.Inner.Views.{IsOrder, level_count};
 ghost use Rattle.crn_farkas.specs.Solver.{IsNamedCut, IsNamedDecision, IsNearStop};
 ghost use Rattle.crn_farkas.specs.Inner.Sums.{AreZeros, CanDecide, IsDeciding, IsPartSum};
 
@@ -10,7 +9,7 @@ use crate::columns::in_view;
 use crate::decision::Decision;
 use crate::fault::Stop;
 use crate::goal::{Part, part_of};
-use crate::level::{Order, push_level};
+use crate::level::{Order, is_level};
 use crate::sum::add;
 use crn_tab::Tableau;
 use crn_vec::{Ints, Kind, NoMemory, is_asked};
@@ -80,28 +79,89 @@ fn targets(
     Ok(None)
 }
 
-// Puts the coordinates in the order of settling, into a list that has room for them: first those that are zero or free, which cross at most once.
-pub(crate) fn put_order(order: &mut Vec<usize>, kinds: &[Kind])
-    requires { length kinds.now ≤ vec_capacity order.old }
-    ensures below { (i : ℕ) → i < length order.new.items
-        → slice_index order.new.items i < length kinds.now }
-    ensures all { (c : ℕ) → c < length kinds.now → IsIn c order.new.items }
-    ensures room { vec_capacity order.new ≡ vec_capacity order.old }
+// How many coordinates are zero or free.
+fn count_early(kinds: &[Kind]) -> usize
+    ensures { result ≡ level_count true kinds.now }
 {
-    order.clear();
-    push_level(order, kinds, true);
-    push_level(order, kinds, false);
+    let mut count = 0usize;
+    for c in 0..kinds.len() {
+        count = next_if(is_level(kinds[c], true), count, kinds.len());
+    }
+    count
 }
 
-// Puts the level of each coordinate, the first place of the order where it is. It goes from the last place to the first.
-pub(crate) fn put_levels(order: &[usize], level: &mut [usize])
-    requires { (j : ℕ) → j < length order.now → slice_index order.now j < length level.old }
-    ensures { AreLevels order.now level.new }
+// One more, which is no more than the end, if it is so.
+fn next_if(more: bool, count: usize, end: usize) -> usize
+    requires { count < end }
+    ensures yes { IsTrue more → result ≡ count + 1 }
+    ensures no { more ≡ false → result ≡ count }
 {
-    for i in 0..order.len() {
-        let j = order.len() - 1 - i;
-        level[order[j]] = j;
+    if more { count + 1 } else { count }
+}
+
+// The place of coordinate c, if so many before it are zero or free, and so many in all: the next one of theirs, or of the others.
+fn place_for(first: bool, early: usize, total: usize, c: usize, end: usize) -> usize
+    requires early { early ≤ c }
+    requires end { total + (c - early) ≤ end }
+    ensures yes { IsTrue first → result ≡ early }
+    ensures no { first ≡ false → result ≡ total + (c - early) }
+{
+    let other = total + (c - early);
+    if first { early } else { other }
+}
+
+// Puts a coordinate at a place, which is its level.
+fn put_place(order: &mut [usize], level: &mut [usize], place: usize, c: usize)
+    requires order { place < length order.old }
+    requires level { c < length level.old }
+    ensures order { order.new ≡ slice_set order.old place c }
+    ensures level { level.new ≡ slice_set level.old c place }
+{
+    order[place] = c;
+    level[c] = place;
+}
+
+// Puts the coordinates in the order of settling, and their levels: first those that are zero or free, which cross at most once.
+// Which of the two comes next follows no pattern, so no branch is taken on it.
+fn place_all(order: &mut [usize], level: &mut [usize], kinds: &[Kind])
+    requires order { length order.old ≡ length kinds.now }
+    requires level { length level.old ≡ length kinds.now }
+    ensures { IsOrder (length kinds.now) order.new level.new }
+{
+    let total = count_early(kinds);
+    let mut early = 0usize;
+    for c in 0..kinds.len() {
+        let first = is_level(kinds[c], true);
+        let place = place_for(first, early, total, c, kinds.len());
+        put_place(order, level, place, c);
+        early = next_if(first, early, kinds.len());
     }
+}
+
+// Makes a list with room for so many numbers as long. What it holds is of no use.
+fn fill_places(order: &mut Vec<usize>, count: usize)
+    requires { count ≤ vec_capacity order.old }
+    ensures count { length order.new.items ≡ count }
+    ensures room { vec_capacity order.new ≡ vec_capacity order.old }
+{
+    if order.len() == count {
+        return;
+    }
+    order.clear();
+    for c in 0..count {
+        order.push_reserved(c);
+    }
+}
+
+// The order of settling of coordinates of these kinds, with their levels, into lists that have room for them.
+pub(crate) fn put_order(order: &mut Vec<usize>, level: &mut [usize], kinds: &[Kind])
+    requires room { length kinds.now ≤ vec_capacity order.old }
+    requires level { length level.old ≡ length kinds.now }
+    ensures order { IsOrder (length kinds.now) order.new.items level.new }
+    ensures room { vec_capacity order.new ≡ vec_capacity order.old }
+{
+    fill_places(order, kinds.len());
+    place_all(order, level, kinds);
 }
 
 // Puts a zero at each place.
@@ -145,8 +205,7 @@ pub(crate) fn by_targets(
     if let Some(decision) = in_view(alloc, tableau, viewed, kinds, sum, work)? {
         return Ok(decision);
     }
-    put_order(order, kinds);
-    put_levels(order, level);
+    put_order(order, level, kinds);
     put_zeros(sum);
     let settling = Order {
         places: order,

@@ -4,19 +4,14 @@ use Rattle.crn_vec.specs.Elementary.{width}
 use Rattle.crn_vec.specs.Systems.{kind_at}
 use Rattle.crn_vec.specs.Vectors.{Mat, entry, HasSign}
 use Rattle.crn_farkas.specs.declared.view.View.{View}
-use Rattle.crn_farkas.specs.Inner.Views.{AreLevels, IsOrder, IsView, IsSeen, IsRightEverywhere}
+use Rattle.crn_farkas.specs.Inner.Views.{IsOrder, IsView, IsSeen, IsRightEverywhere}
 use Rattle.crn_farkas.proofs.Witnessing.{witness_signs, cut_signs}
 use Rattle.crn_farkas.proofs.alternative.alternative_at.Goals as goal
 
 pub settled_view-requires-clause-order : goal.settled_view-requires-clause-order
 settled_view-requires-clause-order c =
-    let levels = c.put_levels.new.level in
-    subst (λ (l : List ℕ). IsOrder (length c.args.kinds.now) l levels) (sym c.deref-2.ensures.value) (record {
-      below = c.put_order.ensures.below;
-      all = c.put_order.ensures.all;
-      long = c.put_levels.auto.level ∙ c.requires.level ∙ sym c.requires.kinds;
-      are = subst (λ (l : List ℕ). AreLevels l levels) c.deref.ensures.value c.put_levels.ensures;
-    })
+    let levels = c.put_order.new.level in
+    subst (λ (l : List ℕ). IsOrder (length c.args.kinds.now) l levels) (sym c.deref.ensures.value) c.put_order.ensures.order
 
 pub returns-in-Row-clause-answer : goal.returns-in-Row-clause-answer
 returns-in-Row-clause-answer c =

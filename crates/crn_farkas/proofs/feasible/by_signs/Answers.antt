@@ -1,19 +1,14 @@
 use Rattle.std.proofs.Common.{◌∙◌, ℕ, List, length, ap, subst, sym, rules}
 use Rattle.crn_vec.specs.Elementary.{width}
-use Rattle.crn_farkas.specs.Inner.Views.{AreLevels, IsOrder}
+use Rattle.crn_farkas.specs.Inner.Views.{IsOrder}
 use Rattle.crn_farkas.specs.Inner.Sums.{HasPartSum}
 use Rattle.crn_farkas.proofs.Marks.{marks_none, solution_by_marks}
 use Rattle.crn_farkas.proofs.feasible.by_signs.Goals as goal
 
 pub settle_everywhere-requires-clause-order : goal.settle_everywhere-requires-clause-order
 settle_everywhere-requires-clause-order c =
-    let levels = c.put_levels.new.level in
-    subst (λ (l : List ℕ). IsOrder (length c.args.kinds.now) l levels) (sym c.deref-2.ensures.value) (record {
-      below = c.put_order.ensures.below;
-      all = c.put_order.ensures.all;
-      long = c.put_levels.auto.level ∙ c.requires.level ∙ sym c.requires.kinds;
-      are = subst (λ (l : List ℕ). AreLevels l levels) c.deref.ensures.value c.put_levels.ensures;
-    })
+    let levels = c.put_order.new.level in
+    subst (λ (l : List ℕ). IsOrder (length c.args.kinds.now) l levels) (sym c.deref.ensures.value) c.put_order.ensures.order
 
 pub settle_everywhere-requires-clause-sum : goal.settle_everywhere-requires-clause-sum
 settle_everywhere-requires-clause-sum c = marks_none c.args.tableau.now.matrix c.args.kinds.now (length c.args.marks.now) c.fill.new.self c.requires.kinds (c.fill.ensures.after (λ y e. e))
