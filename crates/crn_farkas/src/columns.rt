@@ -50,7 +50,7 @@ fn improve(tableau: &mut Tableau, kinds: &[Kind], work: &mut [i128], e: usize) -
     }
 }
 
-// What a basis shows, after some exchanges. Where an answer is found, it mostly is after fewer than an eighth as many as there are coordinates.
+// What a basis shows, after some exchanges. If an answer is found, it is mostly after fewer exchanges than an eighth of the number of coordinates.
 fn first_shown(tableau: &mut Tableau, kinds: &[Kind], sum: &mut [i128], work: &mut [i128]) -> Shown
     requires kinds { length kinds.now ≡ width tableau.old.matrix }
     requires sum { length sum.old ≡ length kinds.now }

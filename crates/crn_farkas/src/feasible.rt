@@ -39,7 +39,7 @@ fn mark(tableau: &Tableau, kinds: &[Kind], marks: &mut [bool], b: usize, g: usiz
     }
 }
 
-// Sees to one more coordinate that has to be positive or negative, or finds a vector that rules the system out.
+// Handles one more coordinate that has to be positive or negative, or finds a vector that rules the system out.
 fn settle_at(
     tableau: &mut Tableau,
     kinds: &[Kind],
@@ -77,7 +77,7 @@ fn settle_at(
     }
 }
 
-// Sees to each coordinate that has to be positive or negative, or finds a vector that rules the system out.
+// Handles each coordinate that has to be positive or negative, or finds a vector that rules the system out.
 fn settle_everywhere(
     tableau: &mut Tableau,
     kinds: &[Kind],

@@ -22,7 +22,7 @@ use std::alloc::Global;
 pub(crate) enum Part {
     /// Multipliers that rule the system out.
     Cut(Ints),
-    /// The lent list has a vector (x, Ax), or minus it if it does not stay, that is right everywhere and not 0 at the coordinate.
+    /// The lent list has a vector (x, Ax) whose multiple by 1, or by -1 if `stays` is false, is right everywhere and not 0 at the coordinate.
     Witness { stays: bool },
 }
 

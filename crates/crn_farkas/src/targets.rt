@@ -99,7 +99,7 @@ fn next_if(more: bool, count: usize, end: usize) -> usize
     if more { count + 1 } else { count }
 }
 
-// The place of coordinate c, if so many before it are zero or free, and so many in all: the next one of theirs, or of the others.
+// The place of coordinate c, if this many before it are zero or free, and this many in all: the next one of theirs, or of the others.
 fn place_for(first: bool, early: usize, total: usize, c: usize, end: usize) -> usize
     requires early { early ≤ c }
     requires end { total + (c - early) ≤ end }
@@ -138,7 +138,7 @@ fn place_all(order: &mut [usize], level: &mut [usize], kinds: &[Kind])
     }
 }
 
-// Makes a list with room for so many numbers as long. What it holds is of no use.
+// Makes a list with room for this many numbers as long. What it holds is of no use.
 fn fill_places(order: &mut Vec<usize>, count: usize)
     requires { count ≤ vec_capacity order.old }
     ensures count { length order.new.items ≡ count }

@@ -60,8 +60,8 @@ fn height_outside(tableau: &Tableau, kinds: &[Kind], sum: &mut [i128], e: usize)
     if is_asked(kinds[e]) { Some(here) } else { None }
 }
 
-// The coordinate outside the basis that has the least in the direction that its kind requires, if that is not something.
-// What the coordinates have, rounded, is put into a list.
+// The coordinate outside the basis that has the least in the direction that its kind requires, if that, times 2^20 and
+// rounded, is at most 0. What the coordinates have, rounded, is put into a list.
 pub(crate) fn lowest(tableau: &Tableau, kinds: &[Kind], sum: &mut [i128]) -> Option<usize>
     requires kinds { length kinds.now ≡ width tableau.now.matrix }
     requires sum { length sum.old ≡ length kinds.now }
@@ -81,7 +81,8 @@ pub(crate) fn lowest(tableau: &Tableau, kinds: &[Kind], sum: &mut [i128]) -> Opt
     at
 }
 
-// How much more a coordinate has, in the direction that its kind requires, for one more that a member of the basis has, times the row's own entry.
+// By how much a coordinate grows, in the direction that its kind requires, if a member of the basis grows by 1; times the
+// row's own entry.
 fn gain(kinds: &[Kind], row: &[i128], own: usize, k: usize) -> i128
     requires same { length row.now ≡ length kinds.now }
     requires own { own < length kinds.now }
@@ -167,7 +168,7 @@ fn put_multiples(tableau: &Tableau, kinds: &[Kind], l: i128, sum: &mut [i128])
     }
 }
 
-// Whether what the coordinates have makes a solution, which then is in the list. At first it has that rounded.
+// Whether the numbers of the coordinates make a solution, which is then in the list. At first the list has them rounded.
 pub(crate) fn by_units(tableau: &Tableau, kinds: &[Kind], sum: &mut [i128]) -> bool
     requires kinds { length kinds.now ≡ width tableau.now.matrix }
     requires sum { length sum.old ≡ length kinds.now }

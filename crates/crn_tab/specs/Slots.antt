@@ -24,7 +24,7 @@ basis_from k n (s ∷ at) = choose (nat_lt s n) (k ∷ basis_from (suc k) n at) 
 abbrev pub basis_of : ℕ → List ℕ → List ℕ
 basis_of n at = basis_from 0 n at
 
--- each of so many coordinates has a slot, and each slot a coordinate
+-- each of this many coordinates has a slot, and each slot a coordinate
 pub record ArePlaced (n count : ℕ) (at order : List ℕ) : Type 0 where
   pub at_long : length at ≡ count
   pub order_long : length order ≡ count
@@ -46,7 +46,7 @@ pub record IsRowAt (a : Mat) (at : List ℕ) (i : ℕ) (row : List ℤ) : Type 0
   pub positive : pos 1 ≤ℤ entry row a.cols
   pub primitive : IsContent row 1
 
--- row i of a list of rows of so many entries
+-- row i of a list of rows of this many entries
 abbrev pub row_at : ℕ → List ℤ → ℕ → List ℤ
 row_at w rows i = take w (drop (i * w) rows)
 
@@ -60,11 +60,11 @@ pub record IsTableau (a : Mat) (at order : List ℕ) (rows : List ℤ) : Type 0 
   pub each : (i : ℕ) → i < length a.rows → IsRowAt a at i (row_at (a.cols + 1) rows i)
   pub small : AreSmall rows
 
--- each entry of the first so many rows is low, below 2^30 in absolute value
+-- each entry of the first `m` rows is low, below 2^30 in absolute value
 abbrev pub AreLowRows : ℕ → ℕ → List ℤ → Type 0
 AreLowRows w m rows = (i : ℕ) → i < m → (k : ℕ) → unsigned_abs (entry (row_at w rows i) k) < 2 ^ 30
 
--- each entry of the first so many rows is short, below 2^14 in absolute value
+-- each entry of the first `m` rows is short, below 2^14 in absolute value
 abbrev pub AreShortRows : ℕ → ℕ → List ℤ → Type 0
 AreShortRows w m rows = (i : ℕ) → i < m → (k : ℕ) → unsigned_abs (entry (row_at w rows i) k) < 2 ^ 14
 

@@ -53,7 +53,7 @@ pub record IsRefused (a : Mat) (basis : List ℕ) (leave enter index : ℕ) : Ty
 abbrev pub IsZeroBefore : Mat → List ℕ → ℕ → ℕ → Type 0
 IsZeroBefore a basis first e = (w : List ℤ) → IsNamedRow a basis e w → (k : ℕ) → k < first → entry w k ≡ pos 0
 
--- of the coordinates from first on and below so many, those outside the basis name vectors that are zero before first,
+-- of the coordinates from `first` on and before `end`, those outside the basis name vectors that are zero before first,
 -- so that each of these coordinates is in the basis or depends on such coordinates in it
 abbrev pub AreEnteredBelow : Mat → List ℕ → ℕ → ℕ → Type 0
 AreEnteredBelow a basis first end = (e : ℕ) → first ≤ e → e < end → (IsIn e basis → ⊥) → IsZeroBefore a basis first e
@@ -90,7 +90,7 @@ pub record AreWrongAt (Named : List ℤ → Type 0) (May : Kind → ℤ → Type
   pub at : slice_index level c ≡ here
   pub wrong : (w : List ℤ) → Named w → May (kind_at kinds c) (entry w c) → ⊥
 
--- at the first so many coordinates the list has the weights that it may, and one of them is not 0 and at a coordinate that has to be positive or negative
+-- at the first `count` coordinates the list has the weights that it may, and one of them is not 0 and at a coordinate that has to be positive or negative
 abbrev pub RulesBelow : List Kind → ℕ → List ℤ → Type 0
 RulesBelow kinds count w = ((c : ℕ) → c < count → MayWeigh (kind_at kinds c) (entry w c)) × ((c : ℕ) × (c < count) × (is_signed (kind_at kinds c) ≡ true) × (entry w c ≢ pos 0))
 

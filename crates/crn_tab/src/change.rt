@@ -13,7 +13,7 @@ use crate::short::{
 };
 use crn_vec::WIDE_ENTRY;
 
-// Where all entries are low, no new one reaches the bound, so an exchange cannot be refused, and the rows change in place.
+// If all entries are low, no new one reaches the bound, so an exchange cannot be refused, and the rows change in place.
 
 // A row of entries below a bound less a low multiple of the lead. The answer is whether what changed is below the bound.
 fn take_lead(row: &mut [i64], lead: &[i64], places: &[usize], q: &i64, bound: &i64) -> bool
@@ -174,7 +174,7 @@ fn change_if_short(
     ensures combined { IsTrue result
         → IsCombined p.now q.now row.old lead.now.entries.now row.new }
     ensures short { IsTrue result → AreBelow (2 ^ 14) row.new }
-    ensures stays { result ≡ false → row.new ≡ row.old }
+    ensures same { result ≡ false → row.new ≡ row.old }
 {
     if !lead.short {
         return false;

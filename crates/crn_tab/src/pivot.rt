@@ -19,7 +19,7 @@ fn bring_row(rows: &mut [i64], spare: &[i64], i: usize, w: usize, c: usize)
     requires place { c < w }
     ensures changed { entry (row_at w rows.old i) c ≢ pos 0
         → row_at w rows.new i ≡ row_at w spare.now i }
-    ensures stays { entry (row_at w rows.old i) c ≡ pos 0
+    ensures same { entry (row_at w rows.old i) c ≡ pos 0
         → row_at w rows.new i ≡ row_at w rows.old i }
     ensures others { (j : ℕ) → j ≢ i → row_at w rows.new j ≡ row_at w rows.old j }
 {
@@ -37,7 +37,7 @@ fn bring_rows(rows: &mut [i64], spare: &[i64], m: usize, w: usize, c: usize)
     requires place { c < w }
     ensures changed { (i : ℕ) → i < m → entry (row_at w rows.old i) c ≢ pos 0
         → row_at w rows.new i ≡ row_at w spare.now i }
-    ensures stays { (i : ℕ) → i < m → entry (row_at w rows.old i) c ≡ pos 0
+    ensures same { (i : ℕ) → i < m → entry (row_at w rows.old i) c ≡ pos 0
         → row_at w rows.new i ≡ row_at w rows.old i }
 {
     for i in 0..m {
@@ -100,7 +100,7 @@ fn spare_rows(
     least
 }
 
-// Makes a list with room for so many numbers as long. What it holds is of no use.
+// Makes a list with room for this many numbers as long. What it holds is of no use.
 fn fill_spare(spare: &mut Vec<i64>, count: usize)
     requires few { count ≤ 2 ^ 20 }
     requires room { count ≤ vec_capacity spare.old }
@@ -117,7 +117,7 @@ fn fill_spare(spare: &mut Vec<i64>, count: usize)
 }
 
 // The same by spare rows, and whether all entries then are low.
-fn wider_rows(
+fn long_rows(
     rows: &mut [i64],
     low: &mut bool,
     spare: &mut Vec<i64>,
@@ -199,7 +199,7 @@ pub(crate) fn new_rows(
         return order.len();
     }
     *short = false;
-    wider_rows(rows, low, spare, m, r, c, order, lead, places, work)
+    long_rows(rows, low, spare, m, r, c, order, lead, places, work)
 }
 
 // Exchanges two coordinates: the new slots, and the rows after the exchange.

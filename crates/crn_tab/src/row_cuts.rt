@@ -13,7 +13,7 @@ use crate::tableau::Tableau;
 use crate::wrong::follower;
 use crn_vec::{Kind, Sign, is_asked, may_weigh};
 
-// Whether what follows a number may be in a list that rules a system out.
+// Whether a number, times this sign, may be in a list that rules a system out.
 fn weighs(sign: Sign, x: &i64, kind: Kind) -> bool
     ensures yes { IsTrue result → (y : ℤ) → Follows sign x.now y → MayWeigh kind y }
     ensures no { result ≡ false → (y : ℤ) → Follows sign x.now y → MayWeigh kind y → ⊥ }

@@ -11,7 +11,7 @@ pub(crate) const SHORT_ENTRY: i64 = 1 << 14;
 // The same bound, for numbers of 32 bits.
 const SHORT_PART: i32 = 1 << 14;
 
-// So many entries of the difference of two rows mostly show its greatest common divisor.
+// This many entries of the difference of two rows are mostly enough to find its greatest common divisor.
 const FIRST_ENTRIES: usize = 8;
 
 // Whether the absolute value is below the bound of short numbers.
@@ -32,7 +32,7 @@ pub(crate) fn are_short(row: &[i64]) -> bool
     short
 }
 
-// The same of many rows. Where they are not short, that mostly shows soon.
+// The same of many rows. If they are not short, this is mostly found soon.
 fn all_short(rows: &[i64]) -> bool
     ensures { IsTrue result → AreBelow (2 ^ 14) rows.now }
 {
@@ -98,7 +98,7 @@ pub(crate) fn is_narrow(short: &mut bool, rows: &[i64], places: usize, entries: 
 }
 
 // The same numbers, of 64 bits.
-fn put_wide(row: &[i32], into: &mut [i64])
+fn put_long(row: &[i32], into: &mut [i64])
     requires { length into.old ≡ length row.now }
     ensures { into.new ≡ row.now }
 {
@@ -241,13 +241,13 @@ pub(crate) fn change_short(
     requires known_short { unsigned_abs known.now < 2 ^ 14 }
     ensures combined { IsTrue result → IsCombined p.now q.now row.old lead.now row.new }
     ensures short { IsTrue result → AreBelow (2 ^ 14) row.new }
-    ensures stays { result ≡ false → row.new ≡ row.old }
+    ensures same { result ≡ false → row.new ≡ row.old }
 {
     put_narrow(row, work);
     let by = narrow(&first_divisor(work, lead, p, q, known));
     if !put_quotients(work, lead, p, q, &by) {
         return false;
     }
-    put_wide(work, row);
+    put_long(work, row);
     true
 }

@@ -5,7 +5,7 @@ ghost use Rattle.crn_tab.specs.Inner.Start.{IsIdentity, start_row, start_rows};
 use crn_vec::{MAX_AMOUNT, Matrix};
 use std::alloc::{AllocError, Global};
 
-// The list of so many numbers from 0 on.
+// The list of this many numbers from 0 on.
 pub(crate) fn identity(alloc: Global, count: usize) -> Result<Vec<usize>, AllocError>
     ensures { IfOk result (λ v. IsIdentity count v.items) }
 {
@@ -38,7 +38,7 @@ fn push_row(rows: &mut Vec<i64>, row: &[i128])
     rows.push_reserved(1);
 }
 
-// What a tableau keeps at first: each row of the matrix negative_of, and then a 1.
+// What a tableau keeps at first: the negative of each row of the matrix, and then a 1.
 pub(crate) fn first_rows(alloc: Global, matrix: &Matrix) -> Result<Vec<i64>, AllocError>
     ensures { IfOk result (λ v. v.items ≡ start_rows matrix.now.rows) }
 {

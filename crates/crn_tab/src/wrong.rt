@@ -13,7 +13,7 @@ use crate::fill::part;
 use crate::tableau::Tableau;
 use crn_vec::{Kind, Sign, is_minus_sign, is_plus_sign, may_weigh, opposite, product, sign_of};
 
-// The sign of a number that follows another.
+// The sign of a number, times this sign.
 pub(crate) fn follower(sign: Sign, x: &i64) -> Sign
     ensures { (y : ℤ) → Follows sign x.now y → HasSign result y }
 {

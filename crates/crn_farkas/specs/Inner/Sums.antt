@@ -63,7 +63,7 @@ pub record IsDeciding (a : Mat) (kinds : List Kind) (places levels : List ℕ) (
   pub part : IsPartSum a kinds g sum
   pub work_long : length work ≡ length kinds
 
--- so many zeros
+-- this many zeros
 pub record AreZeros (count : ℕ) (v : List ℤ) : Type 0 where
   pub long : length v ≡ count
   pub zero : (k : ℕ) → entry v k ≡ pos 0

@@ -44,7 +44,7 @@ IsRightEverywhere a basis view g kinds = (y : List ℤ) → IsSeen a basis view 
 abbrev pub AreLevels : List ℕ → List ℕ → Type 0
 AreLevels order level = (j : ℕ) → j < length order → (slice_index level (slice_index order j) ≤ j) × (slice_index order (slice_index level (slice_index order j)) ≡ slice_index order j)
 
--- the order of settling: it has each of so many coordinates and no others, and each has its level
+-- the order of settling: it has each of this many coordinates and no others, and each has its level
 pub record IsOrder (count : ℕ) (places levels : List ℕ) : Type 0 where
   pub below : (i : ℕ) → i < length places → slice_index places i < count
   pub all : (c : ℕ) → c < count → IsIn c places

@@ -61,7 +61,7 @@ pub record IsKeptRow (w : ℕ) (row : List ℤ) : Type 0 where
 pub record IsRowDone (w c i : ℕ) (rows lead spare : List ℤ) (least own : ℕ) : Type 0 where
   pub z : List ℤ
   pub is : IsNewRow (w - 1) c (row_at w rows i) lead z
-  pub kept : (AreSmall z × (row_at w spare i ≡ z)) ⊎ (IsWide z × (least ≤ own))
+  pub fits : (AreSmall z × (row_at w spare i ≡ z)) ⊎ (IsWide z × (least ≤ own))
 
 -- row i is its new row, with small entries
 pub record IsRowChanged (w c i : ℕ) (rows lead new : List ℤ) : Type 0 where
@@ -92,7 +92,7 @@ pub record IsLead (w c : ℕ) (row lead : List ℤ) : Type 0 where
 pub record IsRowMade (w c i : ℕ) (rows lead : List ℤ) (least own : ℕ) : Type 0 where
   pub z : List ℤ
   pub is : IsNewRow (w - 1) c (row_at w rows i) lead z
-  pub kept : AreSmall z ⊎ (IsWide z × (least ≤ own))
+  pub fits : AreSmall z ⊎ (IsWide z × (least ≤ own))
 
 -- all new rows but row r are made, and are in their places with the lead as row r, or some new row is wide
 pub record AreFilled (w m c r : ℕ) (rows new : List ℤ) (order : List ℕ) (least : ℕ) : Type 0 where

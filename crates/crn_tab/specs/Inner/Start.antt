@@ -1,7 +1,7 @@
 -- For the contracts of private functions alone. What a tableau keeps at first, when its basis is the columns.
 use Rattle.std.specs.Prelude.{List, [], length, map, neg_ℤ, pos, slice_index, ℕ, ℤ, ◌++◌, ◌<◌, ◌∷◌, ◌≡◌}
 
--- each of so many numbers is at its own place
+-- each of this many numbers is at its own place
 pub record IsIdentity (count : ℕ) (at : List ℕ) : Type 0 where
   pub long : length at ≡ count
   pub is : (k : ℕ) → k < count → slice_index at k ≡ k

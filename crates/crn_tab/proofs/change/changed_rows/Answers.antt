@@ -102,7 +102,7 @@ returns-clause-filled c = λ order.
     record {
       lead = lead;
       is = c.make_lead.ensures;
-      made = λ i lt ne. record { z = row_at w c.change_rows-low.new.rows i; is = (changed i lt ne).is; kept = inl (changed i lt ne).small };
+      made = λ i lt ne. record { z = row_at w c.change_rows-low.new.rows i; is = (changed i lt ne).is; fits = inl (changed i lt ne).small };
       last = inl (refl, at_places.0, λ i lt ne. at_places.1 i ne);
     }
 

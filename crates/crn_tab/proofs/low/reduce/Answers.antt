@@ -50,13 +50,13 @@ returns-then-try_divide-clause-primitive c =
 pub reduce_by_search-requires-clause-low : goal.reduce_by_search-requires-clause-low
 reduce_by_search-requires-clause-low c = λ yes.
     let h = c.requires.low yes in (
-      subst (λ (v : List ℤ). AreBelow (2 ^ 30) v) (sym (c.try_divide.ensures.stays c.if-try_divide.false)) h.0,
+      subst (λ (v : List ℤ). AreBelow (2 ^ 30) v) (sym (c.try_divide.ensures.same c.if-try_divide.false)) h.0,
       h.1,
     )
 
 pub reduce_by_search-requires-clause-known : goal.reduce_by_search-requires-clause-known
 reduce_by_search-requires-clause-known c = λ d h.
-    c.requires.known d (subst (λ (v : List ℤ). (k : ℕ) → d ∣ unsigned_abs (entry v k)) (c.try_divide.ensures.stays c.if-try_divide.false) h)
+    c.requires.known d (subst (λ (v : List ℤ). (k : ℕ) → d ∣ unsigned_abs (entry v k)) (c.try_divide.ensures.same c.if-try_divide.false) h)
 
 pub returns-clause-primitive : goal.returns-clause-primitive
-returns-clause-primitive c = subst (λ (v : List ℤ). IsPrimitivePart v c.reduce_by_search.new.row) (c.try_divide.ensures.stays c.if-try_divide.false) c.reduce_by_search.ensures.primitive
+returns-clause-primitive c = subst (λ (v : List ℤ). IsPrimitivePart v c.reduce_by_search.new.row) (c.try_divide.ensures.same c.if-try_divide.false) c.reduce_by_search.ensures.primitive

@@ -49,8 +49,8 @@ loop-j-preserved c =
       long = length-set row j x ∙ c.loop-j.invariant.long;
     }
 
-pub returns-in-None-clause-stays : goal.returns-in-None-clause-stays
-returns-in-None-clause-stays c = λ _.
+pub returns-in-None-clause-same : goal.returns-in-None-clause-same
+returns-in-None-clause-same c = λ _.
     let row = c.restore.new.row in
     same_rows row c.args.row.now (c.restore.auto.row ∙ c.loop-j.invariant.long)
     (λ k lt. elim (lt_or k c.loop-j.j) [

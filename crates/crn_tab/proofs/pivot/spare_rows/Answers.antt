@@ -46,10 +46,10 @@ brought_at w w' m c rows spare new e changed stays =
 
 -- a row without the leaving coordinate is its own new row
 stays_made : (w c i : ℕ) (rows lead : List ℤ) (least own : ℕ) → c + 1 < w → IsKeptRow w (row_at w rows i) → entry (row_at w rows i) c ≡ pos 0 → IsRowMade w c i rows lead least own
-stays_made w c i rows lead least own lt k e = record { z = row_at w rows i; is = new_row_none (w - 1) c (row_at w rows i) lead (omega (arith, lt, k.long)) e k.primitive; kept = inl k.small }
+stays_made w c i rows lead least own lt k e = record { z = row_at w rows i; is = new_row_none (w - 1) c (row_at w rows i) lead (omega (arith, lt, k.long)) e k.primitive; fits = inl k.small }
 
 done_made : (w c i : ℕ) (rows lead spare : List ℤ) (least own : ℕ) → IsRowDone w c i rows lead spare least own → IsRowMade w c i rows lead least own
-done_made w c i rows lead spare least own d = record { z = d.z; is = d.is; kept = elim d.kept [ inl f ↦ inl f.0 | inr f ↦ inr f ] }
+done_made w c i rows lead spare least own d = record { z = d.z; is = d.is; fits = elim d.fits [ inl f ↦ inl f.0 | inr f ↦ inr f ] }
 
 -- the new row, with the place where it then is
 record Placed (w c i : ℕ) (rows lead new : List ℤ) (least own count : ℕ) : Type 0 where
@@ -74,7 +74,7 @@ placed w m c r i rows lead spare new order least c_lt rows_kept done below long 
       let d = done i lt ne (some_entry (entry (row_at w rows i) c) some) in
       record {
         made = done_made w c i rows lead spare least (slice_index order (w - 1 + i)) d;
-        here = λ all. elim d.kept as (λ _. row_at w new i ≡ d.z) [
+        here = λ all. elim d.fits as (λ _. row_at w new i ≡ d.z) [
           | inl f ↦ changed all (some_entry (entry (row_at w rows i) c) some) ∙ f.1
           | inr f ↦ absurd (omega (arith, f.1, all, below (w - 1 + i) (omega (arith, lt, long))))
         ];
@@ -120,7 +120,7 @@ returns-clause-filled c =
     let again = put_back lead c.args.c w (row_at w rows c.args.r) c.make_lead.ensures some (small (length lead - 1)) (length lead - 1) refl in
     let at_places = rows_after w c.args.r lead _ c.bring_rows.new.rows c.put_lead.new.rows again c.make_lead.ensures.long c.put_lead.ensures.own c.put_lead.ensures.others in
     let done = kept w (length lead0) c.args.m c.args.c c.args.r rows c.fill_rows-least.new.spare lead _ order least width back c.fill_rows-least.ensures.done in
-    let brought = brought_at w _ c.args.m c.args.c rows c.fill_rows-least.new.spare c.bring_rows.new.rows (ap (length {A = ℤ}) again ∙ c.make_lead.ensures.long) c.bring_rows.ensures.changed c.bring_rows.ensures.stays in
+    let brought = brought_at w _ c.args.m c.args.c rows c.fill_rows-least.new.spare c.bring_rows.new.rows (ap (length {A = ℤ}) again ∙ c.make_lead.ensures.long) c.bring_rows.ensures.changed c.bring_rows.ensures.same in
     let each : (i : ℕ) → i < c.args.m → i ≢ c.args.r → Placed w c.args.c i rows lead c.put_lead.new.rows least (slice_index order (w - 1 + i)) (length order) = λ i lt ne.
     placed w c.args.m c.args.c c.args.r i rows lead c.fill_rows-least.new.spare c.put_lead.new.rows order least c.requires.place c.requires.row done c.requires.order_below c.requires.order
     (λ _ some. at_places.1 i ne ∙ brought.0 i lt some) (λ _ none. at_places.1 i ne ∙ brought.1 i lt none) lt ne in

@@ -51,12 +51,12 @@ returns-clause-combined c = λ _.
     let short : unsigned_abs by < 2 ^ 14 = omega (arith, ap unsigned_abs is, c.first_divisor.ensures.short) in
     let value = rw (read_short by (omega (arith, short)), c.put_narrow.ensures) at c.if-not-put_quotients.ensures.value refl in
     let greatest = rw c.put_narrow.ensures at c.first_divisor.ensures.greatest in
-    combined_by p q by row lead c.put_wide.new.into c.requires.lead_count (omega arith) (subst (λ (z : ℤ). pos 1 ≤ℤ z) (sym is) c.first_divisor.ensures.some)
-    (λ k lt. subst (λ (v : List ℤ). entry v k *ℤ by ≡ (p *ℤ entry row k) -ℤ (q *ℤ entry lead k)) (sym c.put_wide.ensures) (value k lt))
+    combined_by p q by row lead c.put_long.new.into c.requires.lead_count (omega arith) (subst (λ (z : ℤ). pos 1 ≤ℤ z) (sym is) c.first_divisor.ensures.some)
+    (λ k lt. subst (λ (v : List ℤ). entry v k *ℤ by ≡ (p *ℤ entry row k) -ℤ (q *ℤ entry lead k)) (sym c.put_long.ensures) (value k lt))
     (λ d h. subst (λ (z : ℤ). d ∣ unsigned_abs z) (sym is) (greatest d h))
 
 pub returns-clause-short : goal.returns-clause-short
 returns-clause-short c = λ _ k.
     let short = c.if-not-put_quotients.ensures.short refl in
-    everywhere (λ z. unsigned_abs z < 2 ^ 14) c.put_wide.new.into (lit< tt)
-    (λ k lt. subst (λ (v : List ℤ). unsigned_abs (entry v k) < 2 ^ 14) (sym c.put_wide.ensures) (short k (omega arith))) k
+    everywhere (λ z. unsigned_abs z < 2 ^ 14) c.put_long.new.into (lit< tt)
+    (λ k lt. subst (λ (v : List ℤ). unsigned_abs (entry v k) < 2 ^ 14) (sym c.put_long.ensures) (short k (omega arith))) k

@@ -1,6 +1,6 @@
 use Rattle.std.proofs.Common.{arith}
 use Rattle.crn_tab.proofs.Rows.{same_rows}
-use Rattle.crn_tab.proofs.short.put_wide.Goals as goal
+use Rattle.crn_tab.proofs.short.put_long.Goals as goal
 
 pub returns : goal.returns
 returns c = same_rows c.loop-j.into c.args.row.now (omega arith) (λ k lt. c.loop-j.invariant k (omega arith))
