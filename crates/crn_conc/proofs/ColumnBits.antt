@@ -33,7 +33,7 @@ some_at test [] p e = absurd (false≢true e)
 some_at test (x ∷ s) [] e = absurd (false≢true e)
 some_at test (x ∷ s) (y ∷ p) e = some_step test x y s p (test (product x y)) refl (some_at test s p) e
 
-product_zero : (x : Sign) → product x Zero ≡ Zero
+pub product_zero : (x : Sign) → product x Zero ≡ Zero
 product_zero Zero = refl
 product_zero Plus = refl
 product_zero Minus = refl

@@ -1,6 +1,7 @@
 -- The answers that the end of a search over a table, or its stop, gives.
-use Rattle.std.proofs.Common.{◌≡◌, ℕ, zero, suc, ◌<◌, ◌≤◌, ◌⊎◌, inl, inr, List, [], ◌∷◌, ◌++◌, true, false, length, take, refl, sym, subst, arith, length-take-le}
-use Rattle.std.specs.Prelude.{ℤ, unsigned_abs}
+use Rattle.std.proofs.Common.{◌≡◌, ℕ, zero, suc, ◌+◌, ◌<◌, ◌≤◌, ◌⊎◌, inl, inr, List, [], ◌∷◌, ◌++◌, true, false, length, take, refl, sym, subst, arith, length-take-le}
+use Rattle.std.specs.Prelude.{ℤ, unsigned_abs, Option, Some, None}
+use Rattle.std.specs.Option.{IfSome}
 use Rattle.std.specs.List.{AllByRecursion}
 use Rattle.crn_vec.specs.declared.limits.TheConstants.{MAX_BUDGET, WIDE_SOLUTION}
 use Rattle.crn_vec.specs.declared.signs.Sign.{Sign}
@@ -13,7 +14,7 @@ use Rattle.crn_vec.specs.Elementary.{NamesWide}
 use Rattle.crn_vec.specs.Concordance.{IsTable, IsDiscordant, concordance}
 use Rattle.crn_vec.specs.Influence.{plain_table, strong_table}
 use Rattle.crn_vec.specs.Visits.{PassesBudget, root}
-use Rattle.crn_vec.proofs.CallerLemmas.{all_in, longer_by, networks_have_tables, tables_feasible, rows_count}
+use Rattle.crn_vec.proofs.CallerLemmas.{all_in, longer_by, networks_have_tables, tables_feasible, rows_count, some_species}
 use Rattle.crn_cert.specs.declared.answer.Answer.{Answer}
 use Rattle.crn_cert.specs.declared.tree.Tree.{Tree}
 use Rattle.crn_cert.specs.Questions.{Earlier, IsOpen, Question, Q14, Q15}
@@ -33,8 +34,10 @@ use Rattle.crn_sign.specs.declared.fault.SearchStop.{SearchStop}
 use Rattle.crn_sign.specs.declared.fault.SearchStop.TheVariants.{WideA, WideB, NoMemory}
 use Rattle.crn_sign.specs.Search.{IsSearchEnd, IsSearchStop}
 use Rattle.crn_cert.specs.TreeSizes.{HasFewNodes}
-use Rattle.crn_conc.specs.Inner.Answers.{IsStopAnswer, end_answer, wide_answer}
+use Rattle.crn_conc.specs.declared.answer.WideName.{WideName}
+use Rattle.crn_conc.specs.Inner.Answers.{IsNameOf, IsNamed, IsStopAnswer, end_answer, wide_answer}
 use Rattle.crn_conc.specs.Inner.Rows.{AreWide}
+use Rattle.crn_conc.proofs.Starts.{start_passes}
 
 -- the question that a table of the network answers
 pub data Asks (net : Net) : List (List Sign) → Question → Type 0 where
@@ -116,7 +119,7 @@ ended asks budget earlier Spent n low high h = spent_answer asks budget earlier 
 pub stopped : {net : Net} {table : List (List Sign)} {q : Question} → Asks net table q → (budget : ℕ) (earlier : Earlier) (s : SearchStop) (answer : Answer) → IsSearchStop (concordance (reaction_system net) table) s → IsStopAnswer s answer → IsAnswer net budget earlier q answer
 stopped {net} {table} {q} asks budget earlier (WideA index basis) answer h e =
     subst (IsAnswer net budget earlier q) (sym e) (open_answer asks budget earlier index basis (wide_basis (reaction_system net) (length net.reactions) (length net.names) index basis.list refl (rows_count net) h) h)
-stopped {net} {table} {q} asks budget earlier (WideB index basis) answer h e =
+stopped {net} {table} {q} asks budget earlier (WideB index basis is_first) answer h e =
     subst (IsAnswer net budget earlier q) (sym e) (open_answer asks budget earlier index basis (wide_basis (reaction_system net) (length net.reactions) (length net.names) index basis.list refl (rows_count net) h) h)
 stopped asks budget earlier NoMemory answer h e = absurd e
 
@@ -127,7 +130,7 @@ few_nodes m table budget Spent h = tt
 
 pub few_open : (budget : ℕ) (s : SearchStop) (answer : Answer) → IsStopAnswer s answer → HasFewNodes budget answer.proof
 few_open budget (WideA index basis) answer e = subst (λ (a : Answer). HasFewNodes budget a.proof) (sym e) tt
-few_open budget (WideB index basis) answer e = subst (λ (a : Answer). HasFewNodes budget a.proof) (sym e) tt
+few_open budget (WideB index basis is_first) answer e = subst (λ (a : Answer). HasFewNodes budget a.proof) (sym e) tt
 few_open budget NoMemory answer e = absurd e
 
 -- a search that ends with a discordance or a tree stays within the budget
@@ -139,8 +142,30 @@ end_open m table budget Spent h pass = tt
 -- and one that stops leaves the question open
 pub stop_open : (s : SearchStop) (answer : Answer) → IsStopAnswer s answer → IsOpen answer.verdict
 stop_open (WideA index basis) answer e = subst (λ (a : Answer). IsOpen a.verdict) (sym e) tt
-stop_open (WideB index basis) answer e = subst (λ (a : Answer). IsOpen a.verdict) (sym e) tt
+stop_open (WideB index basis is_first) answer e = subst (λ (a : Answer). IsOpen a.verdict) (sym e) tt
 stop_open NoMemory answer e = absurd e
+
+-- ---- what both searches begin with
+
+name_wide : (m : Mat) (table : List (List Sign)) (s : SearchStop) (name : WideName) → IsSearchStop (concordance m table) s → IsNameOf s name → NamesWide m name.index name.basis.list
+name_wide m table (WideA index basis) name h n = subst (λ (i : ℕ). NamesWide m i name.basis.list) (sym n.0) (subst (λ (l : List ℕ). NamesWide m index l) (sym n.1) h)
+name_wide m table (WideB index basis is_first) name h n = subst (λ (i : ℕ). NamesWide m i name.basis.list) (sym n.0) (subst (λ (l : List ℕ). NamesWide m index l) (sym n.1) h)
+name_wide m table NoMemory name h n = absurd n
+
+-- the wide vector that stopped a search is one of system 2
+pub stop_names : (net : Net) (m : Mat) (table : List (List Sign)) (s : SearchStop) (shared : Option WideName) → m ≡ reaction_system net → IsSearchStop (concordance m table) s → IfSome shared (IsNameOf s) → IsNamed net shared
+stop_names net m table s None e h n = tt
+stop_names net m table s (Some name) e h n = subst (λ (a : Mat). NamesWide a name.index name.basis.list) e (name_wide m table s name h n)
+
+-- the answer that names a wide vector
+pub named_by : {net : Net} {asked : List (List Sign)} {q : Question} → Asks net asked q → (budget index : ℕ) (basis : KeptNums) (answer : Answer) → NamesWide (reaction_system net) index basis.list → answer ≡ wide_answer index basis
+    → (earlier : Earlier) → IsAnswer net budget earlier q answer
+named_by asks budget index basis answer h e earlier = stopped asks budget earlier (WideB index basis true) answer h e
+
+-- the answer of a search whose budget is spent by the visits that it begins with
+pub spent_by : {net : Net} {asked : List (List Sign)} {q : Question} → Asks net asked q → (budget : ℕ) (answer : Answer) → 1 ≤ budget → budget ≤ MAX_BUDGET → answer ≡ end_answer budget Spent
+    → PassesBudget (concordance (reaction_system net) asked) budget → (earlier : Earlier) → IsAnswer net budget earlier q answer
+spent_by {net} {asked} {q} asks budget answer low high e pass earlier = subst (IsAnswer net budget earlier q) (sym e) (spent_answer asks budget earlier low high pass)
 
 -- ---- by what the code knows
 
@@ -171,3 +196,9 @@ pub open_by : (net : Net) (m : Mat) (table : List (List Sign)) (budget : ℕ) (e
     → PassesBudget (concordance (reaction_system net) table) budget → IsOpen answer.verdict
 open_by net m table budget e answer me ae h pass =
     subst (λ (a : Answer). IsOpen a.verdict) (sym ae) (end_open m table budget e h (subst (λ (a : Mat). PassesBudget (concordance a table) budget) (sym me) pass))
+
+-- the visits that each search begins with exceed the budget
+pub soon_spent : (net : Net) (table : List (List Sign)) (budget : ℕ) → IsNetwork net → (table ≡ plain_table net) ⊎ (table ≡ strong_table net) → budget ≤ length net.names + 1 → PassesBudget (concordance (reaction_system net) table) budget
+soon_spent net table budget n is le =
+    let few : 1 ≤ length (reaction_system net).rows = omega (arith, some_species net n, rows_count net) in
+    start_passes (reaction_system net) table (fits net (reaction_system net) table n refl is) budget few (omega (arith, le, rows_count net))

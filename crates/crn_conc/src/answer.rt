@@ -1,4 +1,4 @@
-ghost use Rattle.std.specs.Prelude.{◌≡◌, ◌≤◌, ◌⊎◌, IfOk};
+ghost use Rattle.std.specs.Prelude.{◌≡◌, ◌≤◌, ◌⊎◌, IfOk, IfSome};
 ghost use Rattle.crn_vec.specs.declared.limits.TheConstants.{MAX_BUDGET};
 ghost use Rattle.crn_vec.specs.Concordance.{concordance};
 ghost use Rattle.crn_vec.specs.Influence.{plain_table, strong_table};
@@ -10,20 +10,45 @@ ghost use Rattle.crn_cert.specs.TreeSizes.{HasFewNodes};
 ghost use Rattle.crn_sign.specs.Search.{outcome_of};
 ghost use Rattle.crn_sign.specs.declared.end.SearchEnd.{SearchEnd as GivenEnd};
 ghost use Rattle.crn_conc.specs.Answers.{HasAnswer};
-ghost use Rattle.crn_conc.specs.Inner.Answers.{IsStopAnswer, end_answer, wide_answer};
+ghost use Rattle.crn_conc.specs.Inner.Answers.{IsNameOf, IsNamed, IsStopAnswer, end_answer, wide_answer};
 
 use crate::influence::Influence;
 use crate::problem::TableProblem;
 use crate::settled::settled_by_each;
-use crate::system::reaction_matrix;
 use crn_cert::{Answer, Gap, Proof, Verdict};
 use crn_net::Network;
 use crn_sign::{SearchEnd, SearchOutcome, SearchStop, coordinates, search, search_outcome};
-use crn_vec::{NoMemory, Nums};
+use crn_vec::{Matrix, NoMemory, Nums};
 use std::alloc::{AllocError, Global};
 
+// The name of a wide vector of system 2.
+#[derive(Drop)]
+pub(crate) struct WideName {
+    pub index: u32,
+    pub basis: Nums,
+}
+
+// The answer of the search over one table of a network, and the wide vector that stopped it, if the search over the other table
+// stops at it, too.
+//
+// Each search first visits the prefixes of zeros, at which 0 solves both parts, and then that with a plus at the last species
+// alone. There part B is decided first, and its kinds do not depend on the table. So the first system of part B that is
+// left to the solver is the same for both tables.
+#[derive(Drop)]
+pub(crate) struct Searched {
+    pub answer: Answer,
+    pub shared: Option<WideName>,
+}
+
+// The verdict of such an answer, and the same wide vector.
+#[derive(Drop)]
+pub(crate) struct SearchedVerdict {
+    pub verdict: Verdict,
+    pub shared: Option<WideName>,
+}
+
 // The answer that the end of a search gives.
-fn end_answer(end: SearchEnd, budget: u32) -> Answer
+pub(crate) fn end_answer(end: SearchEnd, budget: u32) -> Answer
     ensures { result ≡ end_answer budget end }
 {
     match end {
@@ -46,7 +71,7 @@ fn end_answer(end: SearchEnd, budget: u32) -> Answer
 }
 
 // The open answer that names a wide vector of system 2.
-fn wide_answer(index: u32, basis: Nums) -> Answer
+pub(crate) fn wide_answer(index: u32, basis: Nums) -> Answer
     ensures { result ≡ wide_answer index basis }
 {
     Answer {
@@ -60,19 +85,45 @@ fn wide_answer(index: u32, basis: Nums) -> Answer
     }
 }
 
+// The name of the wide vector that stopped part B, if it is that of the other table's search.
+fn shared_name(index: u32, basis: &Nums, is_first: bool) -> Result<Option<WideName>, NoMemory>
+    ensures { IfOk result (λ made. IfSome made
+        (λ name. (name.index ≡ index) × (name.basis.list ≡ basis.now.list))) }
+{
+    if !is_first {
+        return Ok(None);
+    }
+    let basis = basis.copy()?;
+    Ok(Some(WideName { index, basis }))
+}
+
 // The answer that the stop of a search gives.
-fn stop_answer(stop: SearchStop) -> Result<Answer, NoMemory>
-    ensures { IfOk result (λ answer. IsStopAnswer stop answer) }
+fn stop_answer(stop: SearchStop) -> Result<Searched, NoMemory>
+    ensures answer { IfOk result (λ made. IsStopAnswer stop made.answer) }
+    ensures shared { IfOk result (λ made. IfSome made.shared (IsNameOf stop)) }
 {
     match stop {
-        SearchStop::WideA { index, basis } => Ok(wide_answer(index, basis)),
-        SearchStop::WideB { index, basis } => Ok(wide_answer(index, basis)),
+        SearchStop::WideA { index, basis } => Ok(Searched {
+            answer: wide_answer(index, basis),
+            shared: None,
+        }),
+        SearchStop::WideB {
+            index,
+            basis,
+            is_first,
+        } => {
+            let shared = shared_name(index, &basis, is_first)?;
+            Ok(Searched {
+                answer: wide_answer(index, basis),
+                shared,
+            })
+        }
         SearchStop::NoMemory => Err(AllocError),
     }
 }
 
 // The verdict that the outcome of a search gives.
-fn outcome_verdict(outcome: SearchOutcome, budget: u32) -> Verdict
+pub(crate) fn outcome_verdict(outcome: SearchOutcome, budget: u32) -> Verdict
     ensures { (e : GivenEnd) → outcome ≡ outcome_of e → result ≡ (end_answer budget e).verdict }
 {
     match outcome {
@@ -85,33 +136,31 @@ fn outcome_verdict(outcome: SearchOutcome, budget: u32) -> Verdict
     }
 }
 
-/// Question 14, whether a network is concordant, by its plain table, or question 15, whether it is
-/// strongly concordant, by its strong table.
-///
-/// A no has a discordance of the table, and a yes a tree that shows that there is none. If the visits exceed the budget, the
-/// question is open.
-pub fn concordant(
+// The answer that the search over a table gives.
+pub(crate) fn answer_by<'a>(
     alloc: Global,
     net: &Network,
-    table: &Influence,
+    matrix: &'a Matrix,
+    table: &'a Influence,
     budget: u32,
-) -> Result<Answer, NoMemory>
+) -> Result<Searched, NoMemory>
+    requires matrix { matrix.now ≡ reaction_system net.now }
     requires low { 1 ≤ budget }
     requires high { budget ≤ MAX_BUDGET }
     requires table { (table.now ≡ plain_table net.now) ⊎ (table.now ≡ strong_table net.now) }
     ensures plain { table.now ≡ plain_table net.now → IfOk result
-        (λ answer. (earlier : Earlier) → IsAnswer net.now budget earlier Q14 answer) }
+        (λ made. (earlier : Earlier) → IsAnswer net.now budget earlier Q14 made.answer) }
     ensures strong { table.now ≡ strong_table net.now → IfOk result
-        (λ answer. (earlier : Earlier) → IsAnswer net.now budget earlier Q15 answer) }
-    ensures nodes { IfOk result (λ answer. HasFewNodes budget answer.proof) }
-    ensures spent { IfOk result (λ answer.
+        (λ made. (earlier : Earlier) → IsAnswer net.now budget earlier Q15 made.answer) }
+    ensures nodes { IfOk result (λ made. HasFewNodes budget made.answer.proof) }
+    ensures spent { IfOk result (λ made.
         PassesBudget (concordance (reaction_system net.now) table.now) budget
-        → IsOpen answer.verdict) }
+        → IsOpen made.answer.verdict) }
+    ensures shared { IfOk result (λ made. IsNamed net.now made.shared) }
 {
     let _ = net.species();
-    let matrix = reaction_matrix(alloc, net)?;
     let columns = settled_by_each(alloc, table, net.species())?;
-    let coordinates = coordinates(alloc, &matrix)?;
+    let coordinates = coordinates(alloc, matrix)?;
     let problem = TableProblem {
         matrix,
         table,
@@ -119,33 +168,38 @@ pub fn concordant(
         coordinates,
     };
     match search(alloc, &problem, budget) {
-        Ok(end) => Ok(end_answer(end, budget)),
+        Ok(end) => Ok(Searched {
+            answer: end_answer(end, budget),
+            shared: None,
+        }),
         Err(stop) => stop_answer(stop),
     }
 }
 
-/// The verdict of the same answer, by a search that keeps no tree.
-pub fn concordant_verdict(
+// The verdict of the same answer, by a search that keeps no tree.
+pub(crate) fn verdict_by<'a>(
     alloc: Global,
     net: &Network,
-    table: &Influence,
+    matrix: &'a Matrix,
+    table: &'a Influence,
     budget: u32,
-) -> Result<Verdict, NoMemory>
+) -> Result<SearchedVerdict, NoMemory>
+    requires matrix { matrix.now ≡ reaction_system net.now }
     requires low { 1 ≤ budget }
     requires high { budget ≤ MAX_BUDGET }
     requires table { (table.now ≡ plain_table net.now) ⊎ (table.now ≡ strong_table net.now) }
     ensures plain { table.now ≡ plain_table net.now → IfOk result
-        (λ verdict. HasAnswer net.now budget Q14 verdict) }
+        (λ made. HasAnswer net.now budget Q14 made.verdict) }
     ensures strong { table.now ≡ strong_table net.now → IfOk result
-        (λ verdict. HasAnswer net.now budget Q15 verdict) }
-    ensures spent { IfOk result (λ verdict.
+        (λ made. HasAnswer net.now budget Q15 made.verdict) }
+    ensures spent { IfOk result (λ made.
         PassesBudget (concordance (reaction_system net.now) table.now) budget
-        → IsOpen verdict) }
+        → IsOpen made.verdict) }
+    ensures shared { IfOk result (λ made. IsNamed net.now made.shared) }
 {
     let _ = net.species();
-    let matrix = reaction_matrix(alloc, net)?;
     let columns = settled_by_each(alloc, table, net.species())?;
-    let coordinates = coordinates(alloc, &matrix)?;
+    let coordinates = coordinates(alloc, matrix)?;
     let problem = TableProblem {
         matrix,
         table,
@@ -153,10 +207,17 @@ pub fn concordant_verdict(
         coordinates,
     };
     match search_outcome(alloc, &problem, budget) {
-        Ok(outcome) => Ok(outcome_verdict(outcome, budget)),
+        Ok(outcome) => Ok(SearchedVerdict {
+            verdict: outcome_verdict(outcome, budget),
+            shared: None,
+        }),
         Err(stop) => {
-            let answer = stop_answer(stop)?;
-            Ok(answer.verdict)
+            let stopped = stop_answer(stop)?;
+            let answer = stopped.answer;
+            Ok(SearchedVerdict {
+                verdict: answer.verdict,
+                shared: stopped.shared,
+            })
         }
     }
 }

@@ -2,13 +2,16 @@
 #![tactic(auto)]
 
 mod answer;
+mod concordance_answer;
 mod influence;
 mod kinds;
 mod problem;
 mod settled;
 mod system;
 
-pub use answer::{concordant, concordant_verdict};
+pub use concordance_answer::{
+    ConcordanceAnswers, ConcordanceVerdicts, concordance_verdicts, decide_concordance,
+};
 pub use influence::{Influence, concordance_table, strong_table};
 pub use kinds::asked_of_row;
 pub use system::reaction_matrix;

@@ -17,25 +17,25 @@ use std::slice::from_ref;
 /// The sign problem of an influence table: the choices are the species in order.
 #[derive(Drop)]
 pub(crate) struct TableProblem<'a> {
-    pub matrix: Matrix,
+    pub matrix: &'a Matrix,
     pub table: &'a Influence,
     pub columns: Vec<Settled>,
     pub coordinates: Vec<usize>,
     ghost columns_settled: { AreSettled table.now columns.items },
-    ghost coordinates_are: { coordinates.items ≡ range_with_len 0 (width matrix) },
-    ghost reactions: { length table.now ≡ matrix.cols },
-    ghost species: { AreWide (length matrix.rows) table.now },
-    ghost few_reactions: { matrix.cols ≤ MAX_REACTIONS },
-    ghost few_species: { length matrix.rows ≤ MAX_SPECIES },
+    ghost coordinates_are: { coordinates.items ≡ range_with_len 0 (width matrix.now) },
+    ghost reactions: { length table.now ≡ matrix.now.cols },
+    ghost species: { AreWide (length matrix.now.rows) table.now },
+    ghost few_reactions: { matrix.now.cols ≤ MAX_REACTIONS },
+    ghost few_species: { length matrix.now.rows ≤ MAX_SPECIES },
 }
 
 impl TableProblem<'_> {
     // All coordinates.
     fn all(&self, _choices: usize) -> &[usize]
-        ensures a { SettlesOnly (kinds_a_of self.now.matrix self.now.table.now)
-            (width self.now.matrix) _choices result.now }
-        ensures b { SettlesOnly (kinds_b_of self.now.matrix)
-            (width self.now.matrix) _choices result.now }
+        ensures a { SettlesOnly (kinds_a_of self.now.matrix.now self.now.table.now)
+            (width self.now.matrix.now) _choices result.now }
+        ensures b { SettlesOnly (kinds_b_of self.now.matrix.now)
+            (width self.now.matrix.now) _choices result.now }
     {
         &self.coordinates
     }
@@ -43,9 +43,9 @@ impl TableProblem<'_> {
     // The coordinate of the last species that so many choices choose.
     fn row(&self, choices: usize) -> &[usize]
         requires some { 1 ≤ choices }
-        requires few { choices ≤ length self.now.matrix.rows }
-        ensures { SettlesOnly (kinds_b_of self.now.matrix)
-            (width self.now.matrix) choices result.now }
+        requires few { choices ≤ length self.now.matrix.now.rows }
+        ensures { SettlesOnly (kinds_b_of self.now.matrix.now)
+            (width self.now.matrix.now) choices result.now }
     {
         let last = self.matrix.cols() + (choices - 1);
         from_ref(&self.coordinates[last])
@@ -55,7 +55,7 @@ impl TableProblem<'_> {
 impl SignProblem for TableProblem<'_> {
     ghost use Rattle.crn_vec.specs.Concordance.{concordance};
 
-    ghost signed = { λ p. concordance p.matrix p.table.now };
+    ghost signed = { λ p. concordance p.matrix.now p.table.now };
 
     fn length(&self) -> usize {
         let _ = self.matrix.cols();
@@ -63,11 +63,11 @@ impl SignProblem for TableProblem<'_> {
     }
 
     fn matrix_a(&self) -> &Matrix {
-        &self.matrix
+        self.matrix
     }
 
     fn matrix_b(&self) -> &Matrix {
-        &self.matrix
+        self.matrix
     }
 
     fn asked_a(&self, prefix: &[Sign], bits: Bits, k: usize) -> Asked {

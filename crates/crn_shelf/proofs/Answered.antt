@@ -208,7 +208,7 @@ wide_two net earlier g weak budget index basis v h =
 
 pub stopped : (net : Net) (earlier : Earlier) (g : List ℤ) (weak : Bool) (budget : ℕ) (stop : SearchStop) (answer : Answer) → IsNetwork net → length g ≡ length net.complexes → GiveVector net earlier g weak → StopsFor net g stop → IsStopAnswer stop answer → IsAnswer net budget earlier Q13 answer
 stopped net earlier g weak budget (WideA index basis) answer n even v h e = subst (IsAnswer net budget earlier Q13) (sym e) (wide_five net earlier g weak budget index basis h.0 n even v h.1 h.2)
-stopped net earlier g weak budget (WideB index basis) answer n even v h e = subst (IsAnswer net budget earlier Q13) (sym e) (wide_two net earlier g weak budget index basis v h)
+stopped net earlier g weak budget (WideB index basis is_first) answer n even v h e = subst (IsAnswer net budget earlier Q13) (sym e) (wide_two net earlier g weak budget index basis v h)
 stopped net earlier g weak budget NoMemory answer n even v h e = absurd e
 
 -- what stops the search for the negative of g stops that for g
@@ -217,7 +217,7 @@ stops_negative net earlier g (WideA index basis) n known even h =
     let x = shapes_exist net earlier g n known even in
     let same : h.0 ≡ opposite_shape x.shape = shapes_are_one net (negative g) h.0 (opposite_shape x.shape) h.1 (negatives_have_opposite_shapes net g x.shape x.is) in
     (x.shape, x.is, subst (λ (a : Mat). NamesWide a index basis.list) (ap shelf_matrix same ∙ same_system x.shape) h.2)
-stops_negative net earlier g (WideB index basis) n known even h = h
+stops_negative net earlier g (WideB index basis is_first) n known even h = h
 stops_negative net earlier g NoMemory n known even h = tt
 
 -- ---- yes
@@ -312,7 +312,7 @@ few_two net g h budget tree second e f = (few_one net g budget tree e, few_one n
 
 pub stops_for : (net : Net) (g : List ℤ) (s : Shape) (stop : SearchStop) → IsShapeOf net g s → IsSearchStop (signals s (reaction_system net)) stop → StopsFor net g stop
 stops_for net g s (WideA index basis) sh h = (s, sh, h)
-stops_for net g s (WideB index basis) sh h = h
+stops_for net g s (WideB index basis is_first) sh h = h
 stops_for net g s NoMemory sh h = tt
 
 pub classes_by : (net : Net) (count terminal : ℕ) (labels exits ls es : List ℕ) → ls ≡ labels → es ≡ exits → AreStrongClasses net count terminal labels exits → AreClassesBy net ls es

@@ -37,7 +37,7 @@ refuted_within net g budget tree e = within net g budget e.0 (places [] (plan tr
 
 pub stop_open : (stop : SearchStop) (answer : Answer) → IsStopAnswer stop answer → IsOpen answer.verdict
 stop_open (WideA index basis) answer e = subst (λ (a : Answer). IsOpen a.verdict) (sym e) tt
-stop_open (WideB index basis) answer e = subst (λ (a : Answer). IsOpen a.verdict) (sym e) tt
+stop_open (WideB index basis is_first) answer e = subst (λ (a : Answer). IsOpen a.verdict) (sym e) tt
 stop_open NoMemory answer e = absurd e
 
 -- an open verdict is no yes for the negative

@@ -107,7 +107,7 @@ fn stop_answer(stop: SearchStop) -> Result<Answer, NoMemory>
 {
     match stop {
         SearchStop::WideA { index, basis } => Ok(wide_answer(5, index, basis)),
-        SearchStop::WideB { index, basis } => Ok(wide_answer(2, index, basis)),
+        SearchStop::WideB { index, basis, .. } => Ok(wide_answer(2, index, basis)),
         SearchStop::NoMemory => Err(AllocError),
     }
 }

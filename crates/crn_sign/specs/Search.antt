@@ -52,5 +52,5 @@ IsOutcome w budget outcome = (e : SearchEnd) × (outcome ≡ outcome_of e) × Is
 -- a wide vector of one part's matrix by name, or memory runs out
 abbrev pub IsSearchStop : Signed → SearchStop → Type 0
 IsSearchStop w (WideA index basis) = NamesWide w.matrix_a index basis.list
-IsSearchStop w (WideB index basis) = NamesWide w.matrix_b index basis.list
+IsSearchStop w (WideB index basis is_first) = NamesWide w.matrix_b index basis.list
 IsSearchStop w NoMemory = Unit {0}

@@ -18,6 +18,11 @@ pub enum SearchStop {
         index: u32,
         /// The coordinates of the basis, ascending and counted from 1.
         basis: Nums,
+        /// Whether its system was the first of part B that was left to the solver.
+        ///
+        /// The solver then began at the basis of the columns, and nothing was kept for it: the stop depends on the matrix of
+        /// part B and on the system alone.
+        is_first: bool,
     },
     NoMemory,
 }

@@ -42,12 +42,14 @@ pub(crate) struct Finder {
 }
 
 /// A part of a sign problem: what finds vectors for it, and multipliers that ruled its systems out. The
-/// matrix's columns are kept once some multipliers are.
+/// matrix's columns are kept once some multipliers are. It has decided once the solver was asked
+/// about a system and did not stop.
 #[derive(Drop)]
 pub(crate) struct Part {
     pub finder: Finder,
     pub past: Vec<PastCuts>,
     pub columns: Vec<Column>,
+    pub has_decided: bool,
 }
 
 // The sign of the numbers of a kind that is positive or negative.
@@ -591,6 +593,7 @@ impl Part {
             finder: Finder::new(alloc, matrix)?,
             past: empty_cuts(alloc, matrix, choices)?,
             columns: Vec::new(alloc),
+            has_decided: false,
         })
     }
 
@@ -749,6 +752,7 @@ impl Part {
             &mut place.suits,
             depth,
         )?;
+        self.has_decided = true;
         Ok(u)
     }
 

@@ -71,12 +71,17 @@ fn wide_a(stop: Stop) -> SearchStop
     }
 }
 
-// The stop of part B's solver as the stop of the search.
-fn wide_b(stop: Stop) -> SearchStop
-    ensures { IsWideB stop result }
+// The stop of part B's solver, at the first system that is left to it or at a later one, as the stop of
+// the search.
+fn wide_b(stop: Stop, is_first: bool) -> SearchStop
+    ensures { IsWideB is_first stop result }
 {
     match stop {
-        Stop::Wide { index, basis } => SearchStop::WideB { index, basis },
+        Stop::Wide { index, basis } => SearchStop::WideB {
+            index,
+            basis,
+            is_first,
+        },
         Stop::NoMemory => SearchStop::NoMemory,
     }
 }
@@ -226,7 +231,7 @@ fn rule_out_b<P: SignProblem>(
     let depth = search.prefix.len();
     match search.b.ruled_out(alloc, problem.matrix_b(), here, depth) {
         Ok(u) => Ok(u),
-        Err(stop) => Err(wide_b(stop)),
+        Err(stop) => Err(wide_b(stop, !search.b.has_decided)),
     }
 }
 
@@ -288,7 +293,7 @@ fn found_end<P: SignProblem>(
     };
     let b = match search.b.solution(alloc, problem.matrix_b(), &here.b.asked) {
         Ok(b) => b,
-        Err(stop) => return Err(wide_b(stop)),
+        Err(stop) => return Err(wide_b(stop, false)),
     };
     match Box::new(alloc, FullPrefix { pattern, a, b }) {
         Ok(found) => Ok(Ending::Found(found)),

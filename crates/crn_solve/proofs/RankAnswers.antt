@@ -1,13 +1,10 @@
 -- The answer on the rank that a proof or a stop gives.
-use Rattle.std.proofs.Common.{◌≡◌, ℕ, zero, suc, ◌+◌, ◌≤◌, List, [], ◌∷◌, ◌++◌, length, refl, sym, ap, subst, ◌∙◌, arith}
+use Rattle.std.proofs.Common.{◌≡◌, ℕ, ◌≤◌, List, length, refl, sym, ap, subst, arith}
 use Rattle.std.specs.Prelude.{ℤ}
-use Rattle.std.specs.List.{range_with_len}
 use Rattle.crn_vec.specs.Kept.{KeptNums}
 use Rattle.crn_vec.specs.Network.{Net, IsNetwork}
 use Rattle.crn_vec.specs.Vectors.{Mat}
 use Rattle.crn_vec.specs.Elementary.{NamesWide}
-use Rattle.crn_vec.specs.Rank.{IsRank}
-use Rattle.crn_vec.specs.Deficiency.{vectors}
 use Rattle.crn_vec.specs.NetSystems.{species_system}
 use Rattle.crn_vec.specs.declared.limits.TheConstants.{MAX_REACTIONS}
 use Rattle.crn_cert.specs.declared.answer.Answer.{Answer}
@@ -20,7 +17,7 @@ use Rattle.crn_cert.specs.Questions.{Earlier, Q5}
 use Rattle.crn_cert.specs.Formed.{IsFormed, IsWideGap}
 use Rattle.crn_cert.specs.Valid.{IsValid}
 use Rattle.crn_cert.proofs.CallerLemmas.{valid_answers_are_true, all_vectors}
-use Rattle.crn_rank.specs.Rank.{AreMembers, ProvesRank, member_matrix}
+use Rattle.crn_rank.specs.Rank.{ProvesRank, member_matrix}
 use Rattle.crn_cert.specs.Answered.{IsAnswer}
 use Rattle.crn_solve.specs.Inner.Given.{IsRankAnswer, wide_answer}
 use Rattle.crn_conc.proofs.CallerLemmas.{vectors_count}

@@ -1,8 +1,10 @@
-ghost use Rattle.std.specs.Prelude.{◌≡◌, ◌≤◌, ◌<◌, ◌++◌, ◌∷◌, List, [], length, take, zip, IfOk, IsSomeAnd};
+ghost use Rattle.std.specs.Prelude.{◌≡◌, ◌≤◌, ◌<◌, ◌++◌, ◌∷◌, ℕ, List, [], length, take, zip, IfOk, IsSomeAnd};
 ghost use Rattle.std.specs.List.{AllByRecursion};
 ghost use Rattle.crn_vec.specs.declared.limits.TheConstants.{MAX_BUDGET};
 ghost use Rattle.crn_vec.specs.NetSignals.{HasNoSignal};
-ghost use Rattle.crn_cert.specs.Questions.{IsOpen, Q12, Q13, on, vector_given};
+ghost use Rattle.crn_vec.specs.NetSystems.{reaction_system};
+ghost use Rattle.crn_cert.specs.Answered.{IsAnswer};
+ghost use Rattle.crn_cert.specs.Questions.{Earlier, IsOpen, Q5, Q8, Q12, Q13, on, vector_given};
 ghost use Rattle.crn_cert.specs.declared.answer.Answer.{Answer as GivenAnswer};
 ghost use Rattle.crn_cert.specs.Answers.{verdicts_of};
 ghost use Rattle.crn_cert.specs.Built.{built};
@@ -14,9 +16,7 @@ ghost use Rattle.crn_shelf.specs.Order.{IsForNegative};
 ghost use Rattle.crn_solve.specs.Spent.{AreOpenIfSpent};
 ghost use Rattle.crn_solve.specs.Inner.Solved.{AreFirstAnswers};
 
-use crate::concordance::{
-    concordant, concordant_verdict, strongly_concordant, strongly_concordant_verdict,
-};
+use crate::concordance::{concordance_verdicts, decide_concordance};
 use crate::confluence_answer::confluence_answer;
 use crate::deficiency_answer::deficiency_answer;
 use crate::linkage_answer::linkage_answer;
@@ -27,32 +27,63 @@ use crate::signal_answer::signal_answer;
 use crate::strong_answer::strong_answer;
 use crate::systems::species_matrix;
 use crate::zero_answer::zero_answer;
-use crn_cert::{Answers, Verdict, Verdicts};
+use crn_cert::{Answer, Answers, Verdict, Verdicts};
+use crn_conc::reaction_matrix;
 use crn_defi::one_hypotheses;
 use crn_graph::{linkage, strong};
 use crn_net::Network;
 use crn_reg::regular;
 use crn_tab::Tableau;
-use crn_vec::NoMemory;
+use crn_vec::{Matrix, NoMemory};
 use std::alloc::Global;
 
+// The answers to questions 5 and 8.
+#[derive(Drop)]
+struct OnSpecies {
+    rank: Answer,
+    conservation: Answer,
+}
+
+// The answers to the questions before the two on concordance, and the matrix of system 2.
+#[derive(Drop)]
+struct First {
+    answers: Answers,
+    matrix: Matrix,
+}
+
+// The answers to questions 5 and 8, which share the matrix of system 1. It is let go before that of
+// system 2 is made.
+fn on_species(alloc: Global, net: &Network) -> Result<OnSpecies, NoMemory>
+    ensures rank { IfOk result (λ made. (budget : ℕ) (earlier : Earlier) →
+        IsAnswer net.now budget earlier Q5 made.rank) }
+    ensures conservation { IfOk result (λ made. (budget : ℕ) (earlier : Earlier) →
+        IsAnswer net.now budget earlier Q8 made.conservation) }
+{
+    let matrix = species_matrix(alloc, net)?;
+    let mut tableau = Tableau::new(alloc, &matrix)?;
+    let rank = rank_answer(alloc, net, &mut tableau)?;
+    let conservation = conservative(alloc, net, &matrix, tableau)?;
+    Ok(OnSpecies { rank, conservation })
+}
+
 // The answers to the questions before the two on concordance.
-fn first_answers(alloc: Global, net: &Network, budget: u32) -> Result<Answers, NoMemory>
+fn first_answers(alloc: Global, net: &Network, budget: u32) -> Result<First, NoMemory>
     requires some { 1 ≤ budget }
     requires most { budget ≤ MAX_BUDGET }
-    ensures { IfOk result (λ answers. AreFirstAnswers net.now budget answers) }
+    ensures answers { IfOk result (λ made. AreFirstAnswers net.now budget made.answers) }
+    ensures matrix { IfOk result (λ made. made.matrix ≡ reaction_system net.now) }
 {
     net.meets_definition();
     let linkage = linkage(alloc, net)?;
     let strong = strong(alloc, net)?;
     let reversible = reversible(alloc, net)?;
     let weakly_reversible = weakly_reversible(net, strong.label.as_slice());
-    let matrix = species_matrix(alloc, net)?;
-    let mut tableau = Tableau::new(alloc, &matrix)?;
-    let rank = rank_answer(alloc, net, &mut tableau)?;
+    let on_species = on_species(alloc, net)?;
+    let rank = on_species.rank;
+    let conservation = on_species.conservation;
     let deficiency = deficiency_answer(alloc, net, &linkage, &rank.verdict)?;
-    let dependence = positively_dependent(alloc, net)?;
-    let conservation = conservative(alloc, net, &matrix, tableau)?;
+    let matrix = reaction_matrix(alloc, net)?;
+    let dependence = positively_dependent(alloc, net, &matrix)?;
     let zero = zero_answer(net, &linkage, &weakly_reversible.verdict, &rank.verdict);
     let one = one_hypotheses(net, &linkage, &strong, &deficiency.verdict);
     let regular = regular(alloc, net, &linkage, &strong, &dependence.verdict)?;
@@ -87,7 +118,7 @@ fn first_answers(alloc: Global, net: &Network, budget: u32) -> Result<Answers, N
     answers.push(regular);
     answers.push(confluence);
     answers.push(signal);
-    Ok(answers)
+    Ok(First { answers, matrix })
 }
 
 /// The answers to the questions that are built, in order. The budget is the most prefixes that a search may visit.
@@ -113,11 +144,12 @@ pub fn solve(alloc: Global, net: &Network, budget: u32) -> Result<Answers, NoMem
         IsForNegative (on given Q13) →
         IsSomeAnd (vector_given (on given Q12)) (HasNoSignal net.now)) }
 {
-    let mut answers = first_answers(alloc, net, budget)?;
-    let concordant = concordant(alloc, net, budget)?;
-    let strongly_concordant = strongly_concordant(alloc, net, budget)?;
-    answers.push(concordant);
-    answers.push(strongly_concordant);
+    let first = first_answers(alloc, net, budget)?;
+    let mut answers = first.answers;
+    let matrix = first.matrix;
+    let on_tables = decide_concordance(alloc, net, &matrix, budget)?;
+    answers.push(on_tables.plain);
+    answers.push(on_tables.strong);
     Ok(answers)
 }
 
@@ -151,11 +183,11 @@ pub fn solve_verdicts(alloc: Global, net: &Network, budget: u32) -> Result<Verdi
         IsForNegative (on given Q13) →
         IsSomeAnd (vector_given (on given Q12)) (HasNoSignal net.now)) }
 {
-    let answers = first_answers(alloc, net, budget)?;
-    let mut verdicts = answers.into_verdicts()?;
-    let concordant = concordant_verdict(alloc, net, budget)?;
-    push_verdict(&mut verdicts, concordant);
-    let strongly_concordant = strongly_concordant_verdict(alloc, net, budget)?;
-    push_verdict(&mut verdicts, strongly_concordant);
+    let first = first_answers(alloc, net, budget)?;
+    let mut verdicts = first.answers.into_verdicts()?;
+    let matrix = first.matrix;
+    let on_tables = concordance_verdicts(alloc, net, &matrix, budget)?;
+    push_verdict(&mut verdicts, on_tables.plain);
+    push_verdict(&mut verdicts, on_tables.strong);
     Ok(verdicts)
 }

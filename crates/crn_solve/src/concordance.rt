@@ -1,77 +1,57 @@
-ghost use Rattle.std.specs.Prelude.{◌≤◌, IfOk};
+ghost use Rattle.std.specs.Prelude.{◌≡◌, ◌≤◌, IfOk};
 ghost use Rattle.crn_vec.specs.declared.limits.TheConstants.{MAX_BUDGET};
+ghost use Rattle.crn_vec.specs.NetSystems.{reaction_system};
 ghost use Rattle.crn_cert.specs.Answered.{IsAnswer};
 ghost use Rattle.crn_cert.specs.Licensed.{IsLicensedBudget};
 ghost use Rattle.crn_cert.specs.Questions.{Earlier, IsOpen, Q14, Q15};
 ghost use Rattle.crn_cert.specs.TreeSizes.{HasFewNodes};
 ghost use Rattle.crn_conc.specs.Answers.{HasAnswer};
 
-use crn_cert::{Answer, Verdict};
-use crn_conc::{concordance_table, strong_table};
+use crn_conc::{ConcordanceAnswers, ConcordanceVerdicts};
 use crn_net::Network;
-use crn_vec::NoMemory;
+use crn_vec::{Matrix, NoMemory};
 use std::alloc::Global;
 
-/// Question 14: a discordance of the network, or a tree that shows that there is none.
-pub(crate) fn concordant(alloc: Global, net: &Network, budget: u32) -> Result<Answer, NoMemory>
-    requires some { 1 ≤ budget }
-    requires most { budget ≤ MAX_BUDGET }
-    ensures answer { IfOk result (λ answer. (earlier : Earlier) →
-        IsAnswer net.now budget earlier Q14 answer) }
-    ensures nodes { IfOk result (λ answer. HasFewNodes budget answer.proof) }
-    ensures spent { IfOk result (λ answer. (earlier : Earlier) →
-        IsLicensedBudget net.now earlier Q14 budget → IsOpen answer.verdict) }
-{
-    let table = concordance_table(alloc, net)?;
-    crn_conc::concordant(alloc, net, &table, budget)
-}
-
-/// Question 15: a discordance of the strong table, or a tree that shows that there is none.
-pub(crate) fn strongly_concordant(
+/// Questions 14 and 15: for each a discordance, or a tree that shows that there is none. The matrix is that of system 2.
+pub(crate) fn decide_concordance(
     alloc: Global,
     net: &Network,
+    matrix: &Matrix,
     budget: u32,
-) -> Result<Answer, NoMemory>
+) -> Result<ConcordanceAnswers, NoMemory>
+    requires matrix { matrix.now ≡ reaction_system net.now }
     requires some { 1 ≤ budget }
     requires most { budget ≤ MAX_BUDGET }
-    ensures answer { IfOk result (λ answer. (earlier : Earlier) →
-        IsAnswer net.now budget earlier Q15 answer) }
-    ensures nodes { IfOk result (λ answer. HasFewNodes budget answer.proof) }
-    ensures spent { IfOk result (λ answer. (earlier : Earlier) →
-        IsLicensedBudget net.now earlier Q15 budget → IsOpen answer.verdict) }
+    ensures plain { IfOk result (λ made. (earlier : Earlier) →
+        IsAnswer net.now budget earlier Q14 made.plain) }
+    ensures strong { IfOk result (λ made. (earlier : Earlier) →
+        IsAnswer net.now budget earlier Q15 made.strong) }
+    ensures plain_nodes { IfOk result (λ made. HasFewNodes budget made.plain.proof) }
+    ensures strong_nodes { IfOk result (λ made. HasFewNodes budget made.strong.proof) }
+    ensures plain_spent { IfOk result (λ made. (earlier : Earlier) →
+        IsLicensedBudget net.now earlier Q14 budget → IsOpen made.plain.verdict) }
+    ensures strong_spent { IfOk result (λ made. (earlier : Earlier) →
+        IsLicensedBudget net.now earlier Q15 budget → IsOpen made.strong.verdict) }
 {
-    let table = strong_table(alloc, net)?;
-    crn_conc::concordant(alloc, net, &table, budget)
+    crn_conc::decide_concordance(alloc, net, matrix, budget)
 }
 
-/// The verdict on question 14, by a search that keeps no tree.
-pub(crate) fn concordant_verdict(
+/// The verdicts on questions 14 and 15, by searches that keep no trees.
+pub(crate) fn concordance_verdicts(
     alloc: Global,
     net: &Network,
+    matrix: &Matrix,
     budget: u32,
-) -> Result<Verdict, NoMemory>
+) -> Result<ConcordanceVerdicts, NoMemory>
+    requires matrix { matrix.now ≡ reaction_system net.now }
     requires some { 1 ≤ budget }
     requires most { budget ≤ MAX_BUDGET }
-    ensures answer { IfOk result (λ verdict. HasAnswer net.now budget Q14 verdict) }
-    ensures spent { IfOk result (λ verdict. (earlier : Earlier) →
-        IsLicensedBudget net.now earlier Q14 budget → IsOpen verdict) }
+    ensures plain { IfOk result (λ made. HasAnswer net.now budget Q14 made.plain) }
+    ensures strong { IfOk result (λ made. HasAnswer net.now budget Q15 made.strong) }
+    ensures plain_spent { IfOk result (λ made. (earlier : Earlier) →
+        IsLicensedBudget net.now earlier Q14 budget → IsOpen made.plain) }
+    ensures strong_spent { IfOk result (λ made. (earlier : Earlier) →
+        IsLicensedBudget net.now earlier Q15 budget → IsOpen made.strong) }
 {
-    let plain = concordance_table(alloc, net)?;
-    crn_conc::concordant_verdict(alloc, net, &plain, budget)
-}
-
-/// The verdict on question 15, by a search that keeps no tree.
-pub(crate) fn strongly_concordant_verdict(
-    alloc: Global,
-    net: &Network,
-    budget: u32,
-) -> Result<Verdict, NoMemory>
-    requires some { 1 ≤ budget }
-    requires most { budget ≤ MAX_BUDGET }
-    ensures answer { IfOk result (λ verdict. HasAnswer net.now budget Q15 verdict) }
-    ensures spent { IfOk result (λ verdict. (earlier : Earlier) →
-        IsLicensedBudget net.now earlier Q15 budget → IsOpen verdict) }
-{
-    let strong = strong_table(alloc, net)?;
-    crn_conc::concordant_verdict(alloc, net, &strong, budget)
+    crn_conc::concordance_verdicts(alloc, net, matrix, budget)
 }

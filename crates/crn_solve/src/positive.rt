@@ -1,6 +1,6 @@
 ghost use Rattle.std.specs.Prelude.{◌≡◌, ◌≤◌, ℕ, IfOk, IfSome, MatchResult};
 ghost use Rattle.crn_vec.specs.declared.limits.TheConstants.{MAX_SIGNED};
-ghost use Rattle.crn_vec.specs.NetSystems.{positive_kinds, species_system};
+ghost use Rattle.crn_vec.specs.NetSystems.{positive_kinds, reaction_system, species_system};
 ghost use Rattle.crn_cert.specs.Questions.{Earlier, Q7, Q8};
 ghost use Rattle.crn_farkas.specs.Decision.{IsDecision, IsStop};
 ghost use Rattle.crn_cert.specs.Answered.{IsAnswer};
@@ -9,7 +9,6 @@ ghost use Rattle.crn_solve.specs.Inner.Given.{vector_answer};
 use crate::open::wide_answer;
 use crate::systems::positive_kinds;
 use crn_cert::{Answer, Proof, Verdict};
-use crn_conc::reaction_matrix;
 use crn_farkas::{Decision, Stop, System, decide_by};
 use crn_net::Network;
 use crn_tab::Tableau;
@@ -49,14 +48,19 @@ fn vector_answer(decision: Decision) -> Answer
     }
 }
 
-/// Question 7: a positive dependence of the reaction vectors, or multipliers that rule each one out.
-pub(crate) fn positively_dependent(alloc: Global, net: &Network) -> Result<Answer, NoMemory>
+/// Question 7: a positive dependence of the reaction vectors, or multipliers that rule each one out. The matrix is that of
+/// system 2.
+pub(crate) fn positively_dependent(
+    alloc: Global,
+    net: &Network,
+    matrix: &Matrix,
+) -> Result<Answer, NoMemory>
+    requires { matrix.now ≡ reaction_system net.now }
     ensures { IfOk result (λ answer. (budget : ℕ) (earlier : Earlier) →
         IsAnswer net.now budget earlier Q7 answer) }
 {
     net.meets_definition();
-    let matrix = reaction_matrix(alloc, net)?;
-    match decide_positive(alloc, &matrix, None) {
+    match decide_positive(alloc, matrix, None) {
         Ok(decision) => Ok(vector_answer(decision)),
         Err(Stop::Wide { index, basis }) => Ok(wide_answer(2, index, basis)),
         Err(Stop::NoMemory) => Err(AllocError),

@@ -52,5 +52,5 @@ two_answer tree second = record { verdict = No; proof = Two tree second }
 -- open by the wide vector that stopped the search
 abbrev pub IsStopAnswer : SearchStop → Answer → Type 0
 IsStopAnswer (WideA index basis) answer = answer ≡ wide_answer 5 index basis
-IsStopAnswer (WideB index basis) answer = answer ≡ wide_answer 2 index basis
+IsStopAnswer (WideB index basis is_first) answer = answer ≡ wide_answer 2 index basis
 IsStopAnswer NoMemory answer = ⊥

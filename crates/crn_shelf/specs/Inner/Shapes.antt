@@ -21,5 +21,5 @@ EndsFor net g budget e = (s : Shape) × IsShapeOf net g s
 abbrev pub StopsFor : Net → List ℤ → SearchStop → Type 0
 StopsFor net g (WideA index basis) = (s : Shape) × IsShapeOf net g s
     × NamesWide (shelf_matrix s) index basis.list
-StopsFor net g (WideB index basis) = NamesWide (reaction_system net) index basis.list
+StopsFor net g (WideB index basis is_first) = NamesWide (reaction_system net) index basis.list
 StopsFor net g NoMemory = Unit {0}

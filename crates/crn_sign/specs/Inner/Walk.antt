@@ -100,7 +100,8 @@ abbrev pub IsWideA : Stop → SearchStop → Type 0
 IsWideA (Wide index basis) s = s ≡ WideA index basis
 IsWideA StopMemory s = s ≡ NoMemory
 
--- the stop of part B's solver as the stop of the search
-abbrev pub IsWideB : Stop → SearchStop → Type 0
-IsWideB (Wide index basis) s = s ≡ WideB index basis
-IsWideB StopMemory s = s ≡ NoMemory
+-- the stop of part B's solver, at the first system that is left to it or at a later one, as the stop
+-- of the search
+abbrev pub IsWideB : Bool → Stop → SearchStop → Type 0
+IsWideB is_first (Wide index basis) s = s ≡ WideB index basis is_first
+IsWideB is_first StopMemory s = s ≡ NoMemory

@@ -22,8 +22,8 @@ deficiency_answer-requires-clause-classes c =
 
 pub deficiency_answer-requires-clause-rank : goal.deficiency_answer-requires-clause-rank
 deficiency_answer-requires-clause-rank c =
-    let a5 = c.in_ok-rank.rank in
-    rank_or_open c.args.net.now c.args.budget [] a5.verdict (c.in_ok-rank.ensures.answer c.args.budget []).answered
+    let a5 = c.in_ok-on_species.on_species.rank in
+    rank_or_open c.args.net.now c.args.budget [] a5.verdict (c.in_ok-on_species.ensures.rank c.args.budget []).answered
 
 -- the linkage classes are right, and so are the strong classes
 pub zero_answer-zero-requires-clause-classes : goal.zero_answer-zero-requires-clause-classes
@@ -44,15 +44,15 @@ one_hypotheses-one-requires-clause-strong_classes c =
 pub one_hypotheses-one-requires-clause-q6 : goal.one_hypotheses-one-requires-clause-q6
 one_hypotheses-one-requires-clause-q6 c =
     let l = c.in_ok-linkage.linkage in
-    let a5 = c.in_ok-rank.rank in
+    let a5 = c.in_ok-on_species.on_species.rank in
     let a6 = c.in_ok-deficiency.deficiency in
     let earlier : Earlier = (Q1, Classes l.count l.label) ∷ (Q5, a5.verdict) ∷ [] in
     true_or_open c.args.net.now c.args.budget earlier Q6 a6.verdict (c.in_ok-deficiency.ensures c.args.budget earlier refl refl refl).answered
 
 pub zero_answer-zero-requires-clause-rank : goal.zero_answer-zero-requires-clause-rank
 zero_answer-zero-requires-clause-rank c =
-    let a5 = c.in_ok-rank.rank in
-    rank_or_open c.args.net.now c.args.budget [] a5.verdict (c.in_ok-rank.ensures.answer c.args.budget []).answered
+    let a5 = c.in_ok-on_species.on_species.rank in
+    rank_or_open c.args.net.now c.args.budget [] a5.verdict (c.in_ok-on_species.ensures.rank c.args.budget []).answered
 
 pub zero_answer-zero-requires-clause-weak : goal.zero_answer-zero-requires-clause-weak
 zero_answer-zero-requires-clause-weak c =
@@ -150,8 +150,8 @@ signal_answer-requires-clause-confluence c =
     let gives : GiveClasses earlier l.label.list l.count s.label.list s.exit.list = record { labels_are = refl; count_is = refl; strong_are = refl; exits_are = refl; strong_count = sym c.in_ok-strong.ensures.exit_numbers.long } in
     true_or_open c.args.net.now c.args.budget earlier Q12 a12.verdict (c.in_ok-confluence.ensures c.args.budget earlier gives refl refl).answered
 
-pub returns : goal.returns
-returns c =
+pub returns-clause-answers : goal.returns-clause-answers
+returns-clause-answers c =
     let net = c.args.net.now in
     let budget = c.args.budget in
     let n = c.meets_definition.ensures in
@@ -159,10 +159,10 @@ returns c =
     let a2 = c.strong_answer.result in
     let a3 = c.in_ok-reversible.reversible in
     let a4 = c.weakly_reversible-weakly_reversible.result in
-    let a5 = c.in_ok-rank.rank in
+    let a5 = c.in_ok-on_species.on_species.rank in
     let a6 = c.in_ok-deficiency.deficiency in
     let a7 = c.in_ok-dependence.dependence in
-    let a8 = c.in_ok-conservation.conservation in
+    let a8 = c.in_ok-on_species.on_species.conservation in
     let a9 = c.zero_answer-zero.result in
     let a10 = c.one_hypotheses-one.result in
     let a11 = c.in_ok-regular.regular in
@@ -202,10 +202,10 @@ returns c =
     let d2 = c.strong_answer.ensures.answer net after1 n strong in
     let d3 = c.in_ok-reversible.ensures after2 in
     let d4 = c.weakly_reversible-weakly_reversible.ensures after3 (c.strong_answer.ensures.labels ∙ sym c.as_slice.ensures) d2.true_of in
-    let d5 = c.in_ok-rank.ensures.answer budget after4 in
+    let d5 = c.in_ok-on_species.ensures.rank budget after4 in
     let d6 = c.in_ok-deficiency.ensures budget after5 c.linkage_answer.ensures.labels c.linkage_answer.ensures.count refl in
     let d7 = c.in_ok-dependence.ensures budget after6 in
-    let d8 = c.in_ok-conservation.ensures budget after7 in
+    let d8 = c.in_ok-on_species.ensures.conservation budget after7 in
     let d9 = c.zero_answer-zero.ensures budget after8 c.linkage_answer.ensures.labels c.linkage_answer.ensures.count refl refl in
     let exits_long = s.exit_numbers.long in
     let gives9 : GiveClasses after9 c.in_ok-linkage.linkage.label.list c.in_ok-linkage.linkage.count c.in_ok-strong.strong.label.list c.in_ok-strong.strong.exit.list = record {

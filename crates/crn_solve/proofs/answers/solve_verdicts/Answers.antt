@@ -9,33 +9,32 @@ use Rattle.crn_solve.proofs.Solved.{one_more, solved_after, verdicts_counted, ve
 use Rattle.crn_solve.proofs.answers.solve_verdicts.Goals as goal
 
 pub push_verdict-requires : goal.push_verdict-requires
-push_verdict-requires c = let n = verdicts_counted c.args.net.now c.args.budget c.in_ok-answers.answers _ c.in_ok-answers.ensures.all c.in_ok-verdicts.ensures in omega (arith, n)
+push_verdict-requires c = let n = verdicts_counted c.args.net.now c.args.budget c.in_ok-first.first.answers _ c.in_ok-first.ensures.answers.all c.in_ok-verdicts.ensures in omega (arith, n)
 
 pub push_verdict-requires-2 : goal.push_verdict-requires-2
 push_verdict-requires-2 c =
-    let n = verdicts_counted c.args.net.now c.args.budget c.in_ok-answers.answers _ c.in_ok-answers.ensures.all c.in_ok-verdicts.ensures in
+    let n = verdicts_counted c.args.net.now c.args.budget c.in_ok-first.first.answers _ c.in_ok-first.ensures.answers.all c.in_ok-verdicts.ensures in
     omega (arith, n, one_more _ _ _ c.push_verdict.ensures)
 
 pub returns : goal.returns
 returns c =
     let net = c.args.net.now in
     let budget = c.args.budget in
-    let one = c.in_ok-concordant.ensures in
-    let two = c.in_ok-strongly_concordant.ensures in
-    let h = one.answer in
-    let k = two.answer in
-    let s = solved_after net budget c.in_ok-answers.answers h.answer k.answer c.in_ok-answers.ensures
+    let on_tables = c.in_ok-on_tables.ensures in
+    let h = on_tables.plain in
+    let k = on_tables.strong in
+    let s = solved_after net budget c.in_ok-first.first.answers h.answer k.answer c.in_ok-first.ensures.answers
     (record {
       first = h.is;
       first_few = h.few;
       second = k.is;
       second_few = k.few;
-      first_spent = λ earlier spent. subst IsOpen h.verdict_is (one.spent earlier spent);
-      second_spent = λ earlier spent. subst IsOpen k.verdict_is (two.spent earlier spent);
+      first_spent = λ earlier spent. subst IsOpen h.verdict_is (on_tables.plain_spent earlier spent);
+      second_spent = λ earlier spent. subst IsOpen k.verdict_is (on_tables.strong_spent earlier spent);
     }) in
-    let e = verdicts_with c.in_ok-answers.answers h.answer k.answer c.in_ok-concordant.concordant c.in_ok-strongly_concordant.strongly_concordant _ _ _ h.verdict_is k.verdict_is c.in_ok-verdicts.ensures c.push_verdict.ensures c.push_verdict-2.ensures in
+    let e = verdicts_with c.in_ok-first.first.answers h.answer k.answer c.in_ok-on_tables.on_tables.plain c.in_ok-on_tables.on_tables.strong _ _ _ h.verdict_is k.verdict_is c.in_ok-verdicts.ensures c.push_verdict.ensures c.push_verdict-2.ensures in
     record {
-      answers = (c.in_ok-answers.answers ++ h.answer ∷ k.answer ∷ [], e, s.formed, s.valid);
+      answers = (c.in_ok-first.first.answers ++ h.answer ∷ k.answer ∷ [], e, s.formed, s.valid);
       answered = subst (λ (vs : List Verdict). AllTrueOrLicensed net budget [] built vs) (sym e) s.answered;
       decided = subst FirstAreDecided (sym e) s.decided;
       spent = subst (AreOpenIfSpent net budget) (sym e) s.spent;

@@ -11,14 +11,14 @@ use Rattle.crn_solve.proofs.positive.positively_dependent.Goals as goal
 pub returns-in-Ok : goal.returns-in-Ok
 returns-in-Ok c budget earlier =
     let net = c.args.net.now in
-    let d = subst (λ (a : Mat). IsDecision a (positive_kinds a) c.in-Ok.decision) c.in_ok-matrix.ensures c.in-Ok.ensures in
+    let d = subst (λ (a : Mat). IsDecision a (positive_kinds a) c.in-Ok.decision) c.requires c.in-Ok.ensures in
     subst (IsAnswer net budget earlier Q7) (sym c.vector_answer.ensures) (dependence_decided net budget earlier c.in-Ok.decision c.meets_definition.ensures d)
 
 pub returns-in-Err-Wide : goal.returns-in-Err-Wide
 returns-in-Err-Wide c budget earlier =
     let net = c.args.net.now in
     let w = c.in-Err-Wide in
-    let a = c.in_ok-matrix.matrix in
+    let a = c.args.matrix.now in
     let named : IsStop a (positive_kinds a) (Wide w.index w.basis) = subst (IsStop a (positive_kinds a)) w.field-0-is w.ensures in
-    let s = subst (λ (b : Mat). IsStop b (positive_kinds b) (Wide w.index w.basis)) c.in_ok-matrix.ensures named in
+    let s = subst (λ (b : Mat). IsStop b (positive_kinds b) (Wide w.index w.basis)) c.requires named in
     subst (IsAnswer net budget earlier Q7) (sym c.wide_answer.ensures) (dependence_wide net budget earlier w.index w.basis s)

@@ -10,12 +10,12 @@ returns-then-k-cols c =
     let p = c.args.self.now in
     let signs : List Sign = get_or p.table.now c.args.k [] in
     let inside : c.args.k < length p.table.now = omega (arith, c.if-k-cols.true, c.cols.ensures.count, p.reactions) in
-    let wide : length signs ≡ length p.matrix.rows = p.species signs (at_in p.table.now c.args.k [] inside) in
+    let wide : length signs ≡ length p.matrix.now.rows = p.species signs (at_in p.table.now c.args.k [] inside) in
     let most : MAX_SPECIES ≤ 64 = lit≤ tt in
-    column_in_a p.matrix p.table.now c.args.prefix.now c.args.k inside
+    column_in_a p.matrix.now p.table.now c.args.prefix.now c.args.k inside
     ∙ c.asked_of_column.ensures signs c.args.prefix.now c.bits.ensures c.last.ensures c.requires.bits (omega (arith, wide, p.few_species, most)) refl
 
 pub returns-else-k-cols : goal.returns-else-k-cols
 returns-else-k-cols c =
     let p = c.args.self.now in
-    row_in_a p.matrix p.table.now c.args.prefix.now c.args.k p.reactions (omega (arith, c.if-k-cols.false, c.cols.ensures.count)) c.requires.inside ∙ sym c.asked_of_sign.ensures
+    row_in_a p.matrix.now p.table.now c.args.prefix.now c.args.k p.reactions (omega (arith, c.if-k-cols.false, c.cols.ensures.count)) c.requires.inside ∙ sym c.asked_of_sign.ensures

@@ -11,5 +11,5 @@ returns c =
     let l = c.index-settled.result.now in
     let lt : c.args.choices < length p.columns.items = omega (arith, c.len.ensures) in
     let is : l.choices ≡ c.args.choices = omega arith in
-    subst (λ (list : List ℕ). SettlesOnly (kinds_a_of p.matrix p.table.now) (width p.matrix) c.args.choices list) (sym c.deref.ensures.value)
-    (columns_settle p.matrix p.table.now l c.args.choices p.reactions is (settled_at p.table.now p.columns.items l c.args.choices lt (sym c.index-settled.ensures) p.columns_settled))
+    subst (λ (list : List ℕ). SettlesOnly (kinds_a_of p.matrix.now p.table.now) (width p.matrix.now) c.args.choices list) (sym c.deref.ensures.value)
+    (columns_settle p.matrix.now p.table.now l c.args.choices p.reactions is (settled_at p.table.now p.columns.items l c.args.choices lt (sym c.index-settled.ensures) p.columns_settled))
