@@ -3,8 +3,11 @@
 
 ghost use Rattle.std.specs.Prelude.{◌≡◌, true, false};
 
-use crn_io::{StdSink, StdSource};
+mod sink;
+
+use crn_io::StdSource;
 use crn_run::{Status, run};
+use sink::WholeSink;
 use std::io::{BufWriter, Write};
 use std::process::ExitCode;
 use std::{env, io};
@@ -35,7 +38,7 @@ fn ended(status: Status, is_flushed: bool) -> Status
 // Runs over standard input and a writer.
 fn run_over(rt: &HostRuntime, words: &[String], writer: &mut impl Write) -> Status {
     let mut source = StdSource::new(rt.reader());
-    let mut sink = StdSink::new(writer);
+    let mut sink = WholeSink::new(writer);
     run(rt.alloc(), words, &mut source, &mut sink)
 }
 
