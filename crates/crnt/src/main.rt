@@ -16,7 +16,9 @@ use std::{env, io};
 const NO_WORDS: u8 = 8;
 
 /// So many bytes of output are gathered before they are written.
-const BLOCK: usize = 65_536;
+///
+/// When the C library takes back a block of twice the size, it joins all small blocks that were given back before.
+const BLOCK: usize = 32_768;
 
 // The words of the command line, the program's name first.
 fn words(rt: &HostRuntime) -> io::Result<Vec<String>> {
