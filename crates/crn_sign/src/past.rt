@@ -26,13 +26,14 @@ pub(crate) struct Past {
     pub marks: Vec<Bits>,
 }
 
-/// The number of multipliers, and the word of their marks that refused them and their negatives last.
-/// It decides only what is tried, and in which order.
+/// The number of multipliers, the word of their marks that refused them and their negatives last, and
+/// the marks of both there. It decides only what is tried, and in which order.
 #[derive(Drop)]
 pub(crate) struct Trial {
     pub number: usize,
     pub word: usize,
     pub here: Bits,
+    pub negatives: Bits,
 }
 
 /// What ruled systems of prefixes of one length out.
@@ -266,11 +267,6 @@ impl Past {
     }
 }
 
-// Whether numbers of these signs may not be weighed if this is asked.
-fn is_refused(asked: Bits, plus: u64, minus: u64) -> bool {
-    ((plus & !asked.plus) | (minus & !asked.minus)) != 0
-}
-
 /// Lists for prefixes with no choice, with one, and so on, to all of them.
 pub(crate) fn empty_cuts(
     alloc: Global,
@@ -310,28 +306,30 @@ pub(crate) fn keep_cut(
             number,
             word: 0,
             here: NONE,
+            negatives: NONE,
         })?;
         past[depth].items.push(cut)?;
     }
     Ok(())
 }
 
-// Whether neither the multipliers nor their negatives may be weighed where this is asked.
-fn are_refused(asked: Bits, bits: Bits) -> bool {
-    is_refused(asked, bits.plus, bits.minus) && is_refused(asked, bits.minus, bits.plus)
+// Whether neither numbers of these marks nor their negatives may be weighed where this is asked.
+fn are_refused(asked: Bits, here: Bits, negatives: Bits) -> bool {
+    refused(asked, here) != 0 && refused(asked, negatives) != 0
 }
 
 // Whether the word that refused multipliers and their negatives last does so again.
 fn are_refused_again(asked: &[Bits], trial: &Trial) -> bool {
-    trial.word < asked.len() && are_refused(asked[trial.word], trial.here)
+    trial.word < asked.len() && are_refused(asked[trial.word], trial.here, trial.negatives)
 }
 
 // Keeps a word that refuses multipliers and their negatives, if one does.
 fn keep_refusing(asked: &[Bits], marks: &[Bits], trial: &mut Trial) {
     for w in 0..asked.len() {
-        if w < marks.len() && are_refused(asked[w], marks[w]) {
+        if w < marks.len() && are_refused(asked[w], marks[w], negatives_of(marks[w])) {
             trial.word = w;
             trial.here = marks[w];
+            trial.negatives = negatives_of(marks[w]);
             return;
         }
     }

@@ -129,7 +129,9 @@ fn settle_one_a<P: SignProblem>(
     place.put(k, asked);
 }
 
-// Asks what a prefix asks of the coordinates of part A that its last choice settles.
+// Asks what a prefix asks of the coordinates of part A that its last choice settles. It is a call of its
+// own: within a visit it runs out of registers.
+#[inline(never)]
 fn settle_a<P: SignProblem>(
     problem: &P,
     prefix: &[Sign],

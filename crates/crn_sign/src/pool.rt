@@ -4,6 +4,7 @@ ghost use Rattle.crn_sign.specs.Inner.Marks.{AreRowMarks};
 ghost use Rattle.crn_sign.specs.Inner.Pools.{IsPool};
 
 use crate::bits::{Bits, push_places};
+use crate::marks::opposite;
 use crn_vec::{Matrix, NoMemory, Sign};
 use std::alloc::Global;
 
@@ -22,12 +23,13 @@ pub(crate) struct Ray {
     pub marks: Vec<Bits>,
 }
 
-/// The number of a vector, and the word of its marks that refused it last.
+/// The number of a vector, the word of its marks that refused it last, and what may not be asked there:
+/// the marks of its negative.
 #[derive(Clone, Copy)]
 pub(crate) struct Server {
     pub number: u32,
     pub word: u32,
-    pub bits: Bits,
+    pub barred: Bits,
 }
 
 /// The vectors that are positive at a coordinate, and those that are negative there.
@@ -52,6 +54,11 @@ fn is_refused(asked: Bits, bits: Bits) -> bool {
     ((bits.plus & asked.minus) | (bits.minus & asked.plus)) != 0
 }
 
+// Whether something is asked that is barred.
+fn is_barred(asked: Bits, barred: Bits) -> bool {
+    ((barred.plus & asked.plus) | (barred.minus & asked.minus)) != 0
+}
+
 // Whether the vector may be taken everywhere. A word at which it may not is kept.
 fn serves(asked: &[Bits], marks: &[Bits], server: &mut Server) -> bool {
     if asked.len() != marks.len() {
@@ -61,7 +68,7 @@ fn serves(asked: &[Bits], marks: &[Bits], server: &mut Server) -> bool {
         if is_refused(asked[w], marks[w]) {
             if w < MAX_WORDS {
                 server.word = w as u32;
-                server.bits = marks[w];
+                server.barred = opposite(marks[w]);
             }
             return false;
         }
@@ -72,7 +79,7 @@ fn serves(asked: &[Bits], marks: &[Bits], server: &mut Server) -> bool {
 // Whether the word that refused a vector last may not be taken.
 fn is_refused_again(asked: &[Bits], server: &Server) -> bool {
     let word = server.word as usize;
-    word < asked.len() && is_refused(asked[word], server.bits)
+    word < asked.len() && is_barred(asked[word], server.barred)
 }
 
 // Whether a vector has this sign at a coordinate.
@@ -183,7 +190,7 @@ fn enter(
             let server = Server {
                 number: number as u32,
                 word: w as u32,
-                bits: marks[w],
+                barred: opposite(marks[w]),
             };
             places.clear();
             push_places(places, 64 * w, marks[w].plus)?;
