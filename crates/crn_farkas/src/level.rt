@@ -1,9 +1,9 @@
-ghost use Rattle.std.specs.Prelude.{◌≡◌, ◌≤◌, ◌<◌, ℤ, pos, ◌≢◌, List, true, length, MatchOption, ◌⊎◌, ◌↔◌, IsTrue};
+ghost use Rattle.std.specs.Prelude.{◌≡◌, ◌≤◌, ◌<◌, ℤ, pos, ◌≢◌, List, true, length, MatchOption, ◌⊎◌};
 ghost use Rattle.crn_vec.specs.Vectors.{entry, HasSign};
 ghost use Rattle.crn_vec.specs.Lists.{IsIn};
 ghost use Rattle.crn_vec.specs.Elementary.{width, IsNamedColumn};
 ghost use Rattle.crn_vec.specs.Systems.{kind_at, is_signed};
-ghost use Rattle.crn_farkas.specs.Inner.Views.{IsView, IsSeen, IsSettled, IsFirstWrong, IsRightBetween, IsWrongHere, is_early_kind, lead_at, IsOrder};
+ghost use Rattle.crn_farkas.specs.Inner.Views.{IsView, IsSeen, IsSettled, IsFirstWrong, IsRightBetween, IsWrongHere, lead_at, IsOrder};
 
 use crate::view::View;
 use crn_tab::Tableau;
@@ -131,14 +131,4 @@ pub(crate) fn first_wrong(
 {
     let end = wrong_level(tableau, view, kinds, order.levels, g, done, k);
     if end < k { Some(end) } else { None }
-}
-
-// Whether a coordinate of this kind is one of those that cross at most once while others are settled, or is not.
-pub(crate) fn is_level(kind: Kind, early: bool) -> bool
-    ensures { IsTrue result ↔ (is_early_kind kind ≡ early) }
-{
-    match kind {
-        Kind::Zero | Kind::Free => early,
-        _ => !early,
-    }
 }

@@ -1,7 +1,7 @@
-ghost use Rattle.std.specs.Prelude.{◌≡◌, ◌≤◌, ◌<◌, ◌+◌, ◌-◌, length, true, false, IsTrue, slice_set, take, vec_capacity, MatchResult, MatchOption, IfErr, IfOk, IfSome, OnOk};
+ghost use Rattle.std.specs.Prelude.{◌≡◌, ◌≤◌, ◌<◌, ◌+◌, ◌-◌, ◌↔◌, length, true, false, IsTrue, slice_set, take, vec_capacity, MatchResult, MatchOption, IfErr, IfOk, IfSome, OnOk};
 ghost use Rattle.crn_vec.specs.Elementary.{width};
 ghost use Rattle.crn_farkas.specs.Decision.{IsSmallSolution, IsDecision, IsTargetStop};
-ghost use Rattle.crn_farkas.specs.Inner.Views.{IsOrder, level_count};
+ghost use Rattle.crn_farkas.specs.Inner.Views.{IsOrder, is_early_kind, level_count};
 ghost use Rattle.crn_farkas.specs.Solver.{IsNamedCut, IsNamedDecision, IsNearStop};
 ghost use Rattle.crn_farkas.specs.Inner.Sums.{AreZeros, CanDecide, IsDeciding, IsPartSum};
 
@@ -9,7 +9,7 @@ use crate::columns::in_view;
 use crate::decision::Decision;
 use crate::fault::Stop;
 use crate::goal::{Part, part_of};
-use crate::level::{Order, is_level};
+use crate::level::Order;
 use crate::sum::add;
 use crn_tab::Tableau;
 use crn_vec::{Ints, Kind, NoMemory, is_asked};
@@ -79,13 +79,23 @@ fn targets(
     Ok(None)
 }
 
+// Whether a coordinate of this kind is zero or free. Those are settled first, as they cross at most once.
+fn is_early(kind: Kind) -> bool
+    ensures { IsTrue result ↔ (is_early_kind kind ≡ true) }
+{
+    match kind {
+        Kind::Zero | Kind::Free => true,
+        _ => false,
+    }
+}
+
 // How many coordinates are zero or free.
 fn count_early(kinds: &[Kind]) -> usize
     ensures { result ≡ level_count true kinds.now }
 {
     let mut count = 0usize;
     for c in 0..kinds.len() {
-        count = next_if(is_level(kinds[c], true), count, kinds.len());
+        count = next_if(is_early(kinds[c]), count, kinds.len());
     }
     count
 }
@@ -121,7 +131,7 @@ fn put_place(order: &mut [usize], level: &mut [usize], place: usize, c: usize)
     level[c] = place;
 }
 
-// Puts the coordinates in the order of settling, and their levels: first those that are zero or free, which cross at most once.
+// Puts the coordinates in the order of settling, and their levels: first those that are zero or free.
 // Which of the two comes next follows no pattern, so no branch is taken on it.
 fn place_all(order: &mut [usize], level: &mut [usize], kinds: &[Kind])
     requires order { length order.old ≡ length kinds.now }
@@ -131,7 +141,7 @@ fn place_all(order: &mut [usize], level: &mut [usize], kinds: &[Kind])
     let total = count_early(kinds);
     let mut early = 0usize;
     for c in 0..kinds.len() {
-        let first = is_level(kinds[c], true);
+        let first = is_early(kinds[c]);
         let place = place_for(first, early, total, c, kinds.len());
         put_place(order, level, place, c);
         early = next_if(first, early, kinds.len());

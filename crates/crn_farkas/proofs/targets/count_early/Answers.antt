@@ -19,10 +19,10 @@ loop-c-preserved c =
     let lt : k < length kinds = c.loop-c-test.true in
     let kind = any_default Free Pos kinds k lt in
     elim (early_or (kind_at kinds k)) [
-      | inl e ↦ omega (arith, c.next_if-count.ensures.yes (c.is_level.ensures.1 (sym (ap is_early_kind kind) ∙ e)), c.loop-c.invariant, level_step true kinds k lt, level_is true (is_early_kind (kind_at kinds k)) e)
+      | inl e ↦ omega (arith, c.next_if-count.ensures.yes (c.is_early.ensures.1 (sym (ap is_early_kind kind) ∙ e)), c.loop-c.invariant, level_step true kinds k lt, level_is true (is_early_kind (kind_at kinds k)) e)
       | inr e ↦ omega (
         arith,
-        c.next_if-count.ensures.no (not_said c.is_level.result (λ t. false≢true (sym e ∙ ap is_early_kind kind ∙ c.is_level.ensures.0 t))),
+        c.next_if-count.ensures.no (not_said c.is_early.result (λ t. false≢true (sym e ∙ ap is_early_kind kind ∙ c.is_early.ensures.0 t))),
         c.loop-c.invariant,
         level_step true kinds k lt,
         level_not true (is_early_kind (kind_at kinds k)) (λ f. false≢true (sym e ∙ f)),

@@ -29,8 +29,8 @@ put_place-requires-clause-order c =
     let lt : k < length kinds = c.loop-c-test.true in
     let kind = any_default Free Pos kinds k lt in
     let step = placed_step kinds c.loop-c.order c.loop-c.level k c.place_for-place.result lt c.loop-c.invariant.order_long c.loop-c.invariant.level_long c.loop-c.invariant.placed
-    (λ e. c.place_for-place.ensures.yes (c.is_level-first.ensures.1 (sym (ap is_early_kind kind) ∙ e)) ∙ c.loop-c.invariant.early)
-    (λ e. omega (arith, c.place_for-place.ensures.no (not_said c.is_level-first.result (λ t. false≢true (sym e ∙ ap is_early_kind kind ∙ c.is_level-first.ensures.0 t))), c.loop-c.invariant.early, counted kinds k (omega (arith, lt)), c.count_early-total.ensures)) in
+    (λ e. c.place_for-place.ensures.yes (c.is_early-first.ensures.1 (sym (ap is_early_kind kind) ∙ e)) ∙ c.loop-c.invariant.early)
+    (λ e. omega (arith, c.place_for-place.ensures.no (not_said c.is_early-first.result (λ t. false≢true (sym e ∙ ap is_early_kind kind ∙ c.is_early-first.ensures.0 t))), c.loop-c.invariant.early, counted kinds k (omega (arith, lt)), c.count_early-total.ensures)) in
     omega (arith, step.0, c.loop-c.invariant.order_long)
 
 pub loop-c-preserved : goal.loop-c-preserved
@@ -42,8 +42,8 @@ loop-c-preserved c =
     let level = c.loop-c.level in
     let lt : k < length kinds = c.loop-c-test.true in
     let kind = any_default Free Pos kinds k lt in
-    let early = λ (e : is_early_kind (kind_at kinds k) ≡ true). c.is_level-first.ensures.1 (sym (ap is_early_kind kind) ∙ e) in
-    let other = λ (e : is_early_kind (kind_at kinds k) ≡ false). not_said c.is_level-first.result (λ t. false≢true (sym e ∙ ap is_early_kind kind ∙ c.is_level-first.ensures.0 t)) in
+    let early = λ (e : is_early_kind (kind_at kinds k) ≡ true). c.is_early-first.ensures.1 (sym (ap is_early_kind kind) ∙ e) in
+    let other = λ (e : is_early_kind (kind_at kinds k) ≡ false). not_said c.is_early-first.result (λ t. false≢true (sym e ∙ ap is_early_kind kind ∙ c.is_early-first.ensures.0 t)) in
     let step = placed_step kinds order level k q lt c.loop-c.invariant.order_long c.loop-c.invariant.level_long c.loop-c.invariant.placed
     (λ e. c.place_for-place.ensures.yes (early e) ∙ c.loop-c.invariant.early)
     (λ e. omega (arith, c.place_for-place.ensures.no (other e), c.loop-c.invariant.early, counted kinds k (omega (arith, lt)), c.count_early-total.ensures)) in
