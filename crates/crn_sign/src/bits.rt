@@ -36,8 +36,8 @@ fn mark_of(plus: u64, minus: u64) -> Mark
     }
 }
 
-// The mark of one of 64 coordinates.
-fn mark_in(bits: Bits, i: usize) -> Mark
+/// The mark of one of 64 coordinates.
+pub(crate) fn mark_in(bits: Bits, i: usize) -> Mark
     requires { i < 64 }
     ensures { result ≡ mark_in bits i }
 {
@@ -53,9 +53,10 @@ fn with_bit(word: u64, i: usize) -> u64
     word | (1 << i)
 }
 
-// The word with a bit that is 0.
-fn without_bit(word: u64, i: usize) -> u64
+/// The word with a bit that is 0.
+pub(crate) fn without_bit(word: u64, i: usize) -> u64
     requires { i < 64 }
+    ensures less { result ≤ word }
     ensures clear { bit_at result i ≡ 0 }
     ensures others { (j : ℕ) → j < 64 → j ≢ i → bit_at result j ≡ bit_at word j }
 {

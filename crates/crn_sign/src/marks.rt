@@ -1,11 +1,13 @@
-ghost use Rattle.std.specs.Prelude.{◌≡◌, ◌<◌, ◌*◌, ℕ, length, true, IsTrue, IfOk};
+ghost use Rattle.std.specs.Prelude.{◌≡◌, ◌≢◌, ◌<◌, ◌≤◌, ◌+◌, ◌*◌, ◌/◌, ℕ, length, true, IsTrue, IfOk};
 ghost use Rattle.std.specs.Int.{bit_at};
 ghost use Rattle.crn_vec.specs.Elementary.{width};
+ghost use Rattle.crn_vec.specs.Systems.{kind_at};
+ghost use Rattle.crn_vec.specs.declared.signs.Kind.{Kind};
 ghost use Rattle.crn_sign.specs.Inner.RowSigns.{AreRowSigns};
 ghost use Rattle.crn_sign.specs.Inner.Bits.{mark_at, mark_in, none, word_at, word_count};
 ghost use Rattle.crn_sign.specs.Inner.Marks.{AreMadeBy, AreMet, AreOpposite, AreRowMarks, Meets, united, kind_of_mark, kinds_of, laid, negative, sign_mark, sign_there};
 
-use crate::bits::{Bits, NONE, mark_at, put_mark};
+use crate::bits::{Bits, NONE, mark_at, mark_in, put_mark, without_bit};
 use crn_vec::{Kind, Matrix, NoMemory, Sign};
 use std::alloc::Global;
 
@@ -155,6 +157,43 @@ fn kind_of_mark(mark: Mark) -> Kind
     }
 }
 
+// The places of 64 at which something is asked.
+fn asked_places(bits: Bits) -> u64
+    ensures { (i : ℕ) → bit_at result i ≡ 0 → kind_of_mark (mark_in bits i) ≡ Kind.Free }
+{
+    bits.plus | bits.minus
+}
+
+// Puts the kind of a coordinate, if there is such a coordinate.
+fn put_kind(kinds: &mut Vec<Kind>, k: usize, kind: Kind)
+    ensures count { length kinds.new.items ≡ length kinds.old.items }
+    ensures here { k < length kinds.old.items → kind_at kinds.new.items k ≡ kind }
+    ensures others { (j : ℕ) → j ≢ k → kind_at kinds.new.items j ≡ kind_at kinds.old.items j }
+{
+    if k < kinds.len() {
+        kinds[k] = kind;
+    }
+}
+
+// Puts the kinds that are asked of the coordinates of a word, which are free so far.
+fn put_kinds(kinds: &mut Vec<Kind>, bits: Bits, w: usize)
+    requires word { w ≤ 1024 }
+    requires free { (i : ℕ) → i < 64 → 64 * w + i < length kinds.old.items
+        → kind_at kinds.old.items (64 * w + i) ≡ Kind.Free }
+    ensures count { length kinds.new.items ≡ length kinds.old.items }
+    ensures here { (i : ℕ) → i < 64 → 64 * w + i < length kinds.old.items
+        → kind_at kinds.new.items (64 * w + i) ≡ kind_of_mark (mark_in bits i) }
+    ensures others { (k : ℕ) → k / 64 ≢ w
+        → kind_at kinds.new.items k ≡ kind_at kinds.old.items k }
+{
+    let mut rest = asked_places(bits);
+    'bits: while rest != 0 {
+        let i = rest.trailing_zeros() as usize;
+        put_kind(kinds, 64 * w + i, kind_of_mark(mark_in(bits, i)));
+        rest = without_bit(rest, i);
+    }
+}
+
 /// The kinds that are asked.
 pub(crate) fn kinds_of(
     alloc: Global,
@@ -166,9 +205,9 @@ pub(crate) fn kinds_of(
     ensures long { IfOk result (λ made. length made.items ≡ width matrix.now) }
 {
     let count = matrix.cols() + matrix.rows();
-    let mut kinds = Vec::with_capacity(alloc, count)?;
-    for k in 0..count {
-        kinds.push(kind_of_mark(mark_at(asked, k)))?;
+    let mut kinds = vec![in alloc; Kind::Free; count]?;
+    for w in 0..asked.len() {
+        put_kinds(&mut kinds, asked[w], w);
     }
     Ok(kinds)
 }

@@ -1,27 +1,58 @@
-use Rattle.std.proofs.Common.{◌≡◌, ℕ, List, [], ◌∷◌, ◌++◌, length, map, sym, ap, ◌∙◌, arith}
-use Rattle.std.specs.List.{range_with_len}
-use Rattle.std.proofs.lemmas.List.{map-append}
+use Rattle.std.proofs.Common.{◌≡◌, ◌<◌, ◌+◌, ◌*◌, ◌/◌, ◌%◌, ℕ, List, length, inl, inr, sym, ap, ◌∙◌, arith}
+use Rattle.std.proofs.lemmas.List.{length-replicate, get_or-replicate}
+use Rattle.std.proofs.lemmas.List.FromFn.{fill_by_all}
+use lib.ListN.{replicate}
 use Rattle.crn_vec.specs.declared.signs.Kind.{Kind}
-use Rattle.crn_vec.proofs.CallerLemmas.{range_more}
-use Rattle.crn_sign.specs.Inner.Bits.{mark_at}
-use Rattle.crn_sign.specs.Inner.Marks.{kind_of_mark, kinds_of}
-use Rattle.crn_sign.proofs.MarkLaws.{kinds_by, kinds_long}
+use Rattle.crn_vec.specs.declared.signs.Kind.TheVariants.{Free}
+use Rattle.crn_vec.specs.Elementary.{width}
+use Rattle.crn_vec.specs.Systems.{kind_at}
+use Rattle.crn_vec.proofs.CallerLemmas.{eq_or}
+use Rattle.crn_sign.specs.Inner.Bits.{mark_at, mark_in, word_at}
+use Rattle.crn_sign.specs.Inner.Marks.{kind_of_mark}
+use Rattle.crn_sign.proofs.MarkLaws.{kinds_by}
 use Rattle.crn_sign.proofs.marks.kinds_of.Goals as goal
 
-pub mark_at-requires : goal.mark_at-requires
-mark_at-requires c = omega (arith, c.loop-k-test.true, c.cols.ensures.count, c.rows.ensures.count, c.requires)
+pub loop-w-init : goal.loop-w-init
+loop-w-init c =
+    let n : c.cols.result + c.rows.result ≡ width c.args.matrix.now = omega (arith, c.cols.ensures.count, c.rows.ensures.count) in
+    let made : c.in_ok-kinds.kinds.items ≡ replicate (c.cols.result + c.rows.result) Free = (let free = c.in_ok-kinds.ensures.items_if_clones_equal in free (λ y e. e)) in
+    record {
+      count = ap (λ (l : List Kind). length l) made ∙ length-replicate (c.cols.result + c.rows.result) Free ∙ n;
+      done = λ k lt before. absurd (omega (arith, before));
+      rest = λ k lt from. ap (λ (l : List Kind). kind_at l k) made ∙ get_or-replicate (c.cols.result + c.rows.result) k Free Free (omega (arith, lt, n));
+    }
 
-pub loop-k-preserved : goal.loop-k-preserved
-loop-k-preserved c =
-    let k = c.loop-k.k in
-    let f = λ (j : ℕ). kind_of_mark (mark_at c.args.asked.now j) in
-    let pushed : c.kind_of_mark.result ≡ f k = c.kind_of_mark.ensures ∙ ap kind_of_mark c.mark_at.ensures in
-    c.in_ok-push.ensures.items ∙ ap (λ (x : Kind). c.loop-k.kinds.items ++ x ∷ []) pushed ∙ ap (λ (l : List Kind). l ++ f k ∷ []) c.loop-k.invariant
-    ∙ sym (map-append f (range_with_len 0 k) (k ∷ [])) ∙ ap (λ (l : List ℕ). map f l) (sym (range_more 0 k k (omega arith)))
+pub put_kinds-requires : goal.put_kinds-requires
+put_kinds-requires c = record {
+  word = omega (arith, c.loop-w-test.true, c.requires, c.cols.ensures, c.rows.ensures);
+  free = λ i lt inside. c.loop-w.invariant.rest (64 * c.loop-w.w + i) (omega (arith, inside, c.loop-w.invariant.count)) (omega (arith, lt));
+}
+
+pub loop-w-preserved : goal.loop-w-preserved
+loop-w-preserved c =
+    let a = c.args.matrix.now in
+    let w = c.loop-w.w in
+    let put = c.put_kinds.ensures in
+    let new = c.put_kinds.new.kinds.items in
+    let f = λ (k : ℕ). kind_of_mark (mark_at c.args.asked.now k) in
+    record {
+      count = put.count ∙ c.loop-w.invariant.count;
+      done = λ k lt before. elim (eq_or (k / 64) w) as (λ _. kind_at new k ≡ f k) [
+        | inl e ↦ let at : 64 * w + k % 64 ≡ k = omega (arith, e) in
+            ap (λ (x : ℕ). kind_at new x) (sym at) ∙ put.here (k % 64) (omega arith) (omega (arith, at, lt, c.loop-w.invariant.count))
+            ∙ ap (λ (x : ℕ). kind_of_mark (mark_in (word_at c.args.asked.now x) (k % 64))) (sym e)
+        | inr ne ↦ put.others k ne ∙ c.loop-w.invariant.done k lt (omega (arith, before, ne))
+      ];
+      rest = λ k lt from. put.others k (λ e. absurd (omega (arith, from, e))) ∙ c.loop-w.invariant.rest k lt (omega (arith, from));
+    }
 
 pub returns : goal.returns
 returns c =
     let a = c.args.matrix.now in
-    let is : c.loop-k.kinds.items ≡ kinds_of a c.args.asked.now =
-    c.loop-k.invariant ∙ ap (λ (n : ℕ). map (λ (k : ℕ). kind_of_mark (mark_at c.args.asked.now k)) (range_with_len 0 n)) (omega (arith, c.loop-k-test.false, c.cols.ensures.count, c.rows.ensures.count)) ∙ kinds_by a c.args.asked.now in
-    record { kinds = is; long = ap (λ (l : List Kind). length l) is ∙ kinds_long a c.args.asked.now }
+    let f = λ (k : ℕ). kind_of_mark (mark_at c.args.asked.now k) in
+    let all : (k : ℕ) → k < width a → kind_at c.loop-w.kinds.items k ≡ f k =
+    λ k lt. c.loop-w.invariant.done k lt (omega (arith, lt, c.loop-w-test.false, c.requires)) in
+    record {
+      kinds = fill_by_all f c.loop-w.kinds.items (width a) Free c.loop-w.invariant.count all ∙ kinds_by a c.args.asked.now;
+      long = c.loop-w.invariant.count;
+    }

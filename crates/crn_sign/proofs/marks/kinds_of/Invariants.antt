@@ -1,8 +1,14 @@
-use Rattle.std.proofs.Common.{◌≡◌, ℕ, map}
-use Rattle.std.specs.List.{range_with_len}
+use Rattle.std.proofs.Common.{◌≡◌, ◌<◌, ◌≤◌, ◌/◌, ℕ, length}
+use Rattle.crn_vec.specs.declared.signs.Kind.TheVariants.{Free}
+use Rattle.crn_vec.specs.Systems.{kind_at}
+use Rattle.crn_vec.specs.Elementary.{width}
 use Rattle.crn_sign.specs.Inner.Bits.{mark_at}
 use Rattle.crn_sign.specs.Inner.Marks.{kind_of_mark}
 use Rattle.crn_sign.proofs.marks.kinds_of.Given as goal
 
-abbrev pub invariant-loop-k : goal.invariant-loop-k
-invariant-loop-k l = l.kinds.items ≡ map (λ (k : ℕ). kind_of_mark (mark_at l.asked k)) (range_with_len 0 l.k)
+abbrev pub invariant-loop-w : goal.invariant-loop-w
+invariant-loop-w l = record {
+  count : length l.kinds.items ≡ width l.matrix;
+  done : (k : ℕ) → k < width l.matrix → k / 64 < l.w → kind_at l.kinds.items k ≡ kind_of_mark (mark_at l.asked k);
+  rest : (k : ℕ) → k < width l.matrix → l.w ≤ k / 64 → kind_at l.kinds.items k ≡ Free;
+}
