@@ -38,8 +38,8 @@ some_zero test z (x ∷ ss) [] s e =
 some_zero test z (x ∷ ss) (t ∷ p) s e = ap (λ (b : Bool). if test (product x t) then true else b) (some_zero test z ss p s e)
 
 -- a choice of a species that has no sign
-pub zero_kept : (signs p : List Sign) (s : Sign) → get_or signs (length p) Zero ≡ Zero → column_kind signs (p ++ s ∷ []) ≡ column_kind signs p
-zero_kept signs p s e =
+pub zero_leaves : (signs p : List Sign) (s : Sign) → get_or signs (length p) Zero ≡ Zero → column_kind signs (p ++ s ∷ []) ≡ column_kind signs p
+zero_leaves signs p s e =
     let q = p ++ s ∷ [] in
     let plus = some_sign is_plus (products signs q) in
     let minus = some_sign is_minus (products signs q) in
@@ -57,27 +57,27 @@ drop_some (Minus ∷ ss) zero e = refl
 drop_some (x ∷ ss) (suc n) e = drop_some ss n e
 
 -- a choice before that of a species that has a sign
-pub late_kept : (signs p : List Sign) (s : Sign) → all_zero (drop (suc (length p)) signs) ≡ false → column_kind signs (p ++ s ∷ []) ≡ column_kind signs p
-late_kept signs p s e =
+pub late_leaves : (signs p : List Sign) (s : Sign) → all_zero (drop (suc (length p)) signs) ≡ false → column_kind signs (p ++ s ∷ []) ≡ column_kind signs p
+late_leaves signs p s e =
     let q = p ++ s ∷ [] in
     ap (λ (b : Bool). if b then kind_of_sum (some_sign is_plus (products signs q)) (some_sign is_minus (products signs q)) else Free) (ap (λ (n : ℕ). all_zero (drop n signs)) (more_long p s) ∙ e)
     ∙ sym (ap (λ (b : Bool). if b then kind_of_sum (some_sign is_plus (products signs p)) (some_sign is_minus (products signs p)) else Free) (drop_some signs (length p) e))
 
-pub kept_past : (signs : List Sign) (choices : ℕ) → length signs < choices → LeavesKind signs choices
-kept_past signs choices lt p s e = zero_kept signs p s (get_or_past signs (length p) Zero (omega (arith, lt, e)))
+pub leaves_past : (signs : List Sign) (choices : ℕ) → length signs < choices → LeavesKind signs choices
+leaves_past signs choices lt p s e = zero_leaves signs p s (get_or_past signs (length p) Zero (omega (arith, lt, e)))
 
-pub kept_first : (signs : List Sign) (choices : ℕ) → choices ≡ 0 → LeavesKind signs choices
-kept_first signs choices z p s e = absurd (omega (arith, z, e))
+pub leaves_first : (signs : List Sign) (choices : ℕ) → choices ≡ 0 → LeavesKind signs choices
+leaves_first signs choices z p s e = absurd (omega (arith, z, e))
 
-pub kept_zero : (signs : List Sign) (choices k : ℕ) → k + 1 ≡ choices → get_or signs k Zero ≡ Zero → LeavesKind signs choices
-kept_zero signs choices k is z p s e =
+pub leaves_zero : (signs : List Sign) (choices k : ℕ) → k + 1 ≡ choices → get_or signs k Zero ≡ Zero → LeavesKind signs choices
+leaves_zero signs choices k is z p s e =
     let same : k ≡ length p = omega (arith, is, e) in
-    zero_kept signs p s (subst (λ (n : ℕ). get_or signs n Zero ≡ Zero) same z)
+    zero_leaves signs p s (subst (λ (n : ℕ). get_or signs n Zero ≡ Zero) same z)
 
-pub kept_late : (signs : List Sign) (choices : ℕ) → all_zero (drop choices signs) ≡ false → LeavesKind signs choices
-kept_late signs choices late p s e =
+pub leaves_late : (signs : List Sign) (choices : ℕ) → all_zero (drop choices signs) ≡ false → LeavesKind signs choices
+leaves_late signs choices late p s e =
     let same : choices ≡ suc (length p) = omega (arith, e) in
-    late_kept signs p s (subst (λ (n : ℕ). all_zero (drop n signs) ≡ false) same late)
+    late_leaves signs p s (subst (λ (n : ℕ). all_zero (drop n signs) ≡ false) same late)
 
 -- ---- part A
 
@@ -114,19 +114,19 @@ pub row_in_b : (m : Mat) (p : List Sign) (k : ℕ) → m.cols ≤ k → kind_at 
 row_in_b m p k past = get_or-append_right (replicate m.cols Free) (row_kinds (length m.rows) p) m.cols k Free (length-replicate m.cols Free) past
 
 -- one choice more settles the row of its species
-pub row_kept : (n : ℕ) (p : List Sign) (s : Sign) (j : ℕ) → j ≢ length p → kind_at (row_kinds n (p ++ s ∷ [])) j ≡ kind_at (row_kinds n p) j
-row_kept zero p s j ne = refl
-row_kept (suc n) [] s zero ne = absurd (ne refl)
-row_kept (suc n) [] s (suc j) ne = refl
-row_kept (suc n) (t ∷ p) s zero ne = refl
-row_kept (suc n) (t ∷ p) s (suc j) ne = row_kept n p s j (λ e. ne (ap suc e))
+pub row_same : (n : ℕ) (p : List Sign) (s : Sign) (j : ℕ) → j ≢ length p → kind_at (row_kinds n (p ++ s ∷ [])) j ≡ kind_at (row_kinds n p) j
+row_same zero p s j ne = refl
+row_same (suc n) [] s zero ne = absurd (ne refl)
+row_same (suc n) [] s (suc j) ne = refl
+row_same (suc n) (t ∷ p) s zero ne = refl
+row_same (suc n) (t ∷ p) s (suc j) ne = row_same n p s j (λ e. ne (ap suc e))
 
 pub rows_settle : (m : Mat) (choices k : ℕ) (list : List ℕ) → k + 1 ≡ m.cols + choices → list ≡ k ∷ [] → SettlesOnly (kinds_b_of m) (width m) choices list
 rows_settle m choices k list is e p s j le lt out =
     let other : j ≢ k = λ same. out (subst (λ (l : List ℕ). IsIn j l) (sym e) (inl same)) in
     elim (lt_or j m.cols) as (λ _. kind_at (kinds_b_of m (p ++ s ∷ [])) j ≡ kind_at (kinds_b_of m p) j) [
       | inl inside ↦ column_in_b m (p ++ s ∷ []) j inside ∙ sym (column_in_b m p j inside)
-      | inr past ↦ row_in_b m (p ++ s ∷ []) j past ∙ row_kept (length m.rows) p s (j - m.cols) (λ same. other (omega (arith, same, past, le, is))) ∙ sym (row_in_b m p j past)
+      | inr past ↦ row_in_b m (p ++ s ∷ []) j past ∙ row_same (length m.rows) p s (j - m.cols) (λ same. other (omega (arith, same, past, le, is))) ∙ sym (row_in_b m p j past)
     ]
 
 pub zero_sign : (s : Sign) → is_zero s ≡ true → s ≡ Zero

@@ -8,7 +8,7 @@ use Rattle.crn_cert.specs.Answered.{IsAnswer}
 use Rattle.crn_cert.specs.Questions.{Earlier, Question}
 use Rattle.crn_cert.specs.TreeSizes.{HasFewNodes}
 
--- an answer has this verdict, after every list of earlier verdicts, and trees of at most so many nodes
+-- an answer has this verdict, after every list of earlier verdicts, and trees of at most this many nodes
 pub record HasAnswer (net : Net) (budget : ℕ) (q : Question) (verdict : Verdict) : Type 0 where
   pub answer : Answer
   pub verdict_is : verdict ≡ answer.verdict

@@ -40,7 +40,7 @@ impl TableProblem<'_> {
         &self.coordinates
     }
 
-    // The coordinate of the last species that so many choices choose.
+    // The coordinate of the last species that this many choices choose.
     fn row(&self, choices: usize) -> &[usize]
         requires some { 1 ≤ choices }
         requires few { choices ≤ length self.now.matrix.now.rows }

@@ -7,7 +7,7 @@ use crate::influence::Influence;
 use crn_vec::{NoMemory, Sign, is_all_zero};
 use std::alloc::Global;
 
-/// The reactions whose columns the last of so many choices settles.
+/// The reactions whose columns the last of `choices` choices settles.
 #[derive(Drop)]
 pub(crate) struct Settled {
     pub choices: usize,
@@ -24,7 +24,7 @@ fn is_zero_sign(sign: Sign) -> bool
     }
 }
 
-// Whether the last of so many choices is that of the last species with a sign.
+// Whether the last of `choices` choices is that of the last species with a sign.
 fn is_last(signs: &[Sign], choices: usize) -> bool
     ensures { result ≡ false → LeavesKind signs.now choices }
 {
@@ -41,7 +41,7 @@ fn is_last(signs: &[Sign], choices: usize) -> bool
     is_all_zero(rest)
 }
 
-// Lists a reaction of these signs if the last of so many choices settles its column.
+// Lists a reaction of these signs if the last of `choices` choices settles its column.
 fn put_settled(
     reactions: &mut Vec<usize>,
     signs: &[Sign],
@@ -59,7 +59,7 @@ fn put_settled(
     Ok(())
 }
 
-// The reactions that the last of so many choices settles.
+// The reactions that the last of `choices` choices settles.
 fn settled_by(alloc: Global, table: &Influence, choices: usize) -> Result<Settled, NoMemory>
     ensures { IfOk result (λ made. HasSettled table.now made) }
 {

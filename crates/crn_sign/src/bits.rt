@@ -114,7 +114,7 @@ fn with_asked(bits: Bits, i: usize, asked: Asked) -> Bits
     }
 }
 
-/// Asks this of a coordinate.
+/// Requires this of a coordinate.
 pub(crate) fn put_asked(words: &mut [Bits], k: usize, asked: Asked)
     requires { k < length words.old * 64 }
     ensures { IsMarked words.old k (mark_of (one_if asked.plus) (one_if asked.minus)) words.new }
@@ -122,7 +122,7 @@ pub(crate) fn put_asked(words: &mut [Bits], k: usize, asked: Asked)
     words[k / 64] = with_asked(words[k / 64], k % 64, asked);
 }
 
-/// The bits of the first signs of a list with one more sign, which had so many before.
+/// The bits of the first signs of a list with one more sign, which had this many before.
 pub fn with_sign(bits: Bits, count: usize, sign: Sign) -> Bits
     ensures { (signs : List Sign) → AreBitsOf bits signs → length signs ≡ count
         → AreBitsOf result (signs ++ sign ∷ []) }

@@ -145,7 +145,7 @@ pub(crate) fn put_signs(_matrix: &Matrix, signs: &[Sign], into: &mut [Bits])
     }
 }
 
-// The kind that a mark asks.
+// The kind that a mark requires.
 fn kind_of_mark(mark: Mark) -> Kind
     ensures { result ≡ kind_of_mark mark }
 {

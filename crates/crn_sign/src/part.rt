@@ -568,7 +568,7 @@ fn has_zero_misfit(asked: &[Bits], marks: &[Bits]) -> bool {
     wrong != 0
 }
 
-// Asks for 0 at a coordinate.
+// Requires 0 at a coordinate.
 fn ask_zero(asked: &mut [Bits], g: usize)
     requires { g < length asked.old * 64 }
     ensures { length asked.new ≡ length asked.old }
@@ -585,7 +585,7 @@ fn without(bits: Bits, places: u64) -> Bits {
 }
 
 impl Part {
-    /// A part with nothing found before, for prefixes of at most so many choices.
+    /// A part with nothing found before, for prefixes of at most this many choices.
     pub fn new(alloc: Global, matrix: &Matrix, choices: usize) -> Result<Part, NoMemory>
         ensures { IfOk result (λ made. IsPart matrix.now made) }
     {
@@ -756,7 +756,7 @@ impl Part {
         Ok(u)
     }
 
-    /// A solution of the system of which this is asked, which has one.
+    /// A solution of the system with these kinds, which has one.
     pub fn solution(&mut self, alloc: Global, matrix: &Matrix, asked: &[Bits]) -> Result<Ints, Stop>
         requires part { IsPart matrix.now self.old }
         requires asked { length asked.now ≡ word_count matrix.now }

@@ -188,7 +188,7 @@ fn shared(alloc: Global, list: Ints) -> Result<Rc<Ints>, NoMemory>
     }
 }
 
-/// The same list once more, in the same memory.
+/// Another reference to the same list.
 pub(crate) fn share(list: &Rc<Ints>) -> Result<Rc<Ints>, NoMemory>
     ensures { IfOk result (λ made. made.value ≡ list.now.value) }
 {
@@ -233,7 +233,7 @@ impl Past {
         Ok(made)
     }
 
-    // Whether the list, or else its negative, rules the system of which this is asked out, and which does.
+    // Whether the list, or else its negative, rules the system with these kinds out, and which does.
     fn ruling(&self, asked: &[Bits]) -> Option<bool>
         ensures weigh { MatchOption result (Unit {0})
             (λ stays. AllWeigh asked.now stays self.now.marks.items) }
@@ -252,7 +252,7 @@ impl Past {
         None
     }
 
-    // The multipliers, or their negatives, if they rule the system of which this is asked out.
+    // The multipliers, or their negatives, if they rule the system with these kinds out.
     fn again(&self, matrix: &Matrix, asked: &[Bits]) -> Result<Option<Rc<Ints>>, NoMemory>
         requires past { IsPastOf matrix.now self.now }
         requires asked { length asked.now ≡ word_count matrix.now }

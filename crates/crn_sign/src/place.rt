@@ -14,7 +14,7 @@ use crate::problem::{Asked, SignProblem};
 use crn_vec::{Matrix, NoMemory, Sign};
 use std::alloc::Global;
 
-/// What a part knows at a prefix: what its kinds ask, the marks of a vector (x, Ax), and whether
+/// What a part knows at a prefix: what its kinds require, the marks of a vector (x, Ax), and whether
 /// these are known to suit the kinds. The width is the number of coordinates.
 #[derive(Drop)]
 pub(crate) struct Place {
@@ -75,7 +75,7 @@ impl Place {
         put_zeros(matrix, &mut self.marks);
     }
 
-    // Asks this of a coordinate.
+    // Requires this of a coordinate.
     fn put(&mut self, k: usize, asked: Asked)
         requires { k < length self.old.asked.items * 64 }
         ensures width { self.new.width ≡ self.old.width }
@@ -108,7 +108,7 @@ pub(crate) fn is_met(_matrix: &Matrix, asked: &[Bits], marks: &[Bits]) -> bool
     all_meet(asked, marks)
 }
 
-// Asks what a prefix asks of a coordinate of part A.
+// Requires of a coordinate of part A what a prefix requires.
 fn settle_one_a<P: SignProblem>(
     problem: &P,
     prefix: &[Sign],
@@ -129,7 +129,7 @@ fn settle_one_a<P: SignProblem>(
     place.put(k, asked);
 }
 
-// Asks what a prefix asks of the coordinates of part A that its last choice settles. It is a call of its
+// Requires of the coordinates of part A that its last choice settles what a prefix requires. It is a call of its
 // own: within a visit it runs out of registers.
 #[inline(never)]
 fn settle_a<P: SignProblem>(
@@ -152,7 +152,7 @@ fn settle_a<P: SignProblem>(
     }
 }
 
-// Asks what a prefix asks of a coordinate of part B.
+// Requires of a coordinate of part B what a prefix requires.
 fn settle_one_b<P: SignProblem>(
     problem: &P,
     prefix: &[Sign],
@@ -173,7 +173,7 @@ fn settle_one_b<P: SignProblem>(
     place.put(k, asked);
 }
 
-// Asks what a prefix asks of the coordinates of part B that its last choice settles.
+// Requires of the coordinates of part B that its last choice settles what a prefix requires.
 fn settle_b<P: SignProblem>(
     problem: &P,
     prefix: &[Sign],
@@ -194,8 +194,8 @@ fn settle_b<P: SignProblem>(
     }
 }
 
-/// Asks what a prefix asks of part A, where what is asked is that of the prefix with one choice less, or
-/// of one that differs in the last choice.
+/// Requires of part A what a prefix requires. Before, it required what the prefix without its last choice does, or one
+/// with another last choice.
 pub(crate) fn enter_a<P: SignProblem>(problem: &P, prefix: &[Sign], bits: Bits, here: &mut Place)
     requires lawful { IsLawful (P.signed problem.now) }
     requires prefix { IsPrefix (P.signed problem.now) prefix.now }
@@ -208,8 +208,8 @@ pub(crate) fn enter_a<P: SignProblem>(problem: &P, prefix: &[Sign], bits: Bits, 
     settle_a(problem, prefix, bits, problem.settled_a(prefix.len()), here);
 }
 
-/// Asks what a prefix asks of part B, where what is asked is that of the prefix with one choice less, or
-/// of one that differs in the last choice.
+/// Requires of part B what a prefix requires. Before, it required what the prefix without its last choice does, or one
+/// with another last choice.
 pub(crate) fn enter_b<P: SignProblem>(problem: &P, prefix: &[Sign], bits: Bits, here: &mut Place)
     requires lawful { IsLawful (P.signed problem.now) }
     requires prefix { IsPrefix (P.signed problem.now) prefix.now }

@@ -14,7 +14,7 @@ const MAX_KEPT: usize = 8192;
 /// The most vectors that a pool keeps for one sign of a coordinate.
 const MAX_SERVERS: usize = 512;
 
-// No vector has so many words.
+// No vector has this many words.
 const MAX_WORDS: usize = 1024;
 
 /// The marks of a vector (x, Ax).
@@ -96,7 +96,7 @@ fn has_sign(marks: &[Bits], g: usize, sign: Sign) -> bool {
 }
 
 // Whether a vector has this sign at g, and may be taken everywhere. The place of an older vector may
-// have gone to another one, which has not this sign at g.
+// hold another one by now, which does not have this sign at g.
 fn takes(asked: &[Bits], rays: &[Ray], server: &mut Server, g: usize, sign: Sign) -> bool {
     let number = server.number as usize;
     if number < rays.len() {

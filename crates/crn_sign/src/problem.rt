@@ -38,7 +38,7 @@ pub const FREE: Asked = Asked {
     minus: false,
 };
 
-/// What asks for a number of a sign.
+/// What requires a number of a sign.
 pub fn asked_of_sign(sign: Sign) -> Asked
     ensures { asked_kind result ≡ kind_of_sign sign }
 {
@@ -68,28 +68,28 @@ pub trait SignProblem {
     fn matrix_b(&self) -> &Matrix
         ensures { result.now ≡ (signed self.now).matrix_b };
 
-    /// What a prefix asks of a coordinate of part A, counted from 0. The bits are those of the prefix.
+    /// What a prefix requires of a coordinate of part A, counted from 0. The bits are those of the prefix.
     fn asked_a(&self, prefix: &[Sign], bits: Bits, k: usize) -> Asked
         requires prefix { IsPrefix (signed self.now) prefix.now }
         requires bits { AreBitsOf bits prefix.now }
         requires inside { k < width (signed self.now).matrix_a }
         ensures { kind_at ((signed self.now).kinds_a prefix.now) k ≡ asked_kind result };
 
-    /// What a prefix asks of a coordinate of part B, counted from 0. The bits are those of the prefix.
+    /// What a prefix requires of a coordinate of part B, counted from 0. The bits are those of the prefix.
     fn asked_b(&self, prefix: &[Sign], bits: Bits, k: usize) -> Asked
         requires prefix { IsPrefix (signed self.now) prefix.now }
         requires bits { AreBitsOf bits prefix.now }
         requires inside { k < width (signed self.now).matrix_b }
         ensures { kind_at ((signed self.now).kinds_b prefix.now) k ≡ asked_kind result };
 
-    /// The coordinates of part A whose kinds may change with the last option of a prefix of so many choices, in any order. The
-    /// list may be longer: it may have others, too.
+    /// The coordinates of part A whose kinds may change with the last option of a prefix of this many choices, in any order. The
+    /// list may also have others.
     fn settled_a(&self, choices: usize) -> &[usize]
         ensures { SettlesOnly (signed self.now).kinds_a (width (signed self.now).matrix_a)
             choices result.now };
 
-    /// The coordinates of part B whose kinds may change with the last option of a prefix of so many choices, in any order. The
-    /// list may be longer: it may have others, too.
+    /// The coordinates of part B whose kinds may change with the last option of a prefix of this many choices, in any order. The
+    /// list may also have others.
     fn settled_b(&self, choices: usize) -> &[usize]
         ensures { SettlesOnly (signed self.now).kinds_b (width (signed self.now).matrix_b)
             choices result.now };

@@ -301,7 +301,7 @@ fn found_end<P: SignProblem>(
     }
 }
 
-// Asks both parts what the prefix asks, where they were asked for it but for its last choice.
+// Requires of both parts what the prefix requires; all but its last choice was required already.
 fn enter<P: SignProblem>(problem: &P, prefix: &[Sign], bits: Bits, here: &mut Level)
     requires lawful { IsLawful (P.signed problem.now) }
     requires prefix { IsPrefix (P.signed problem.now) prefix.now }
@@ -314,7 +314,7 @@ fn enter<P: SignProblem>(problem: &P, prefix: &[Sign], bits: Bits, here: &mut Le
     enter_b(problem, prefix, bits, &mut here.b);
 }
 
-// Asks both parts what is asked one level above, to begin with.
+// Requires of both parts, to begin with, what is required one level above.
 fn surround<P: SignProblem>(_problem: &P, _prefix: &[Sign], above: &Level, here: &mut Level)
     requires above { IsLevel (P.signed _problem.now) _prefix.now above.now }
     requires room { HasRooms (P.signed _problem.now) here.old }
@@ -578,7 +578,7 @@ fn outcome_at(end: Ending) -> SearchOutcome
     }
 }
 
-// How at most so many visits end, the first of which is that of the prefix with no choice.
+// How at most this many visits end, the first of which is that of the prefix with no choice.
 fn visit_all<P: SignProblem>(
     alloc: Global,
     problem: &P,
@@ -605,7 +605,7 @@ fn visit_all<P: SignProblem>(
     Ok(end)
 }
 
-/// Searches for a full feasible prefix, with at most so many visits.
+/// Searches for a full feasible prefix, with at most this many visits.
 ///
 /// Its answer is the first full feasible prefix of the visit list, or a tree with one node for each
 /// visit, in their order, or `Spent`. It keeps one solver for each part, and before it uses them it

@@ -11,11 +11,11 @@ use Rattle.crn_vec.specs.Problems.{all_zero}
 use Rattle.crn_vec.specs.Systems.{one_if}
 use Rattle.crn_sign.specs.Options.{sign_at}
 
--- each row of the table has so many signs
+-- each row of the table has this many signs
 abbrev pub AreWide : ℕ → List (List Sign) → Type 0
 AreWide n table = (signs : List Sign) → IsIn signs table → length signs ≡ n
 
--- the signs after the first so many are all zero, and those after fewer are not
+-- the signs from place `last` on are all zero, and those after fewer are not
 pub record IsLast (signs : List Sign) (last : ℕ) : Type 0 where
   pub after : (n : ℕ) → last ≤ n → all_zero (drop n signs) ≡ true
   pub before : (n : ℕ) → n < last → all_zero (drop n signs) ≡ false

@@ -67,7 +67,7 @@ sign_mark ZeroSign = Zero
 sign_mark PlusSign = Plus
 sign_mark MinusSign = Minus
 
--- the kind that a mark asks: any number, a positive or a negative one, or 0
+-- the kind that a mark requires: any number, a positive or a negative one, or 0
 abbrev pub kind_of_mark : Mark → Kind
 kind_of_mark Zero = Free
 kind_of_mark Plus = Pos
