@@ -55,8 +55,8 @@ def work_of_program(text, visits):
     with source_of(text) as source:
         _, calls = instructions_and_calls(commands("report")[0], source)
     count = lambda name: calls.get(name, 0)
-    decisions, looked = count("crn_farkas::goal::settled_view"), calls.get("crn_sign::pool::Pool::find")
-    hits = None if looked is None else looked - decisions
+    decisions, looked = calls.get("crn_farkas::solver::Solver::alternative"), calls.get("crn_sign::pool::Pool::find")
+    hits = None if None in (decisions, looked) else looked - decisions
     return [visits, decisions, hits, count("crn_tab::tableau::Tableau::pivot")]
 
 
