@@ -340,6 +340,8 @@ def failures(repository, folder):
 
 
 def main():
+    # A shell that starts this in the background has it ignore the signal, and what it runs would ignore it too.
+    signal.signal(signal.SIGINT, signal.default_int_handler)
     tally = Tally("launcher")
     with tempfile.TemporaryDirectory() as name:
         folder = Path(name)
