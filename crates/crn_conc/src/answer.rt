@@ -19,7 +19,7 @@ use crn_cert::{Answer, Gap, Proof, Verdict};
 use crn_net::Network;
 use crn_sign::{SearchEnd, SearchOutcome, SearchStop, coordinates, search, search_outcome};
 use crn_vec::{Matrix, NoMemory, Nums};
-use std::alloc::{AllocError, Global};
+use std::alloc::Global;
 
 // The name of a wide vector of system 2.
 #[derive(Drop)]
@@ -118,7 +118,7 @@ fn stop_answer(stop: SearchStop) -> Result<Searched, NoMemory>
                 shared,
             })
         }
-        SearchStop::NoMemory => Err(AllocError),
+        SearchStop::NoMemory => Err(NoMemory),
     }
 }
 

@@ -8,6 +8,8 @@ pub use Rattle.crn_ctext.proofs.Courses.{gives_then, fails_before, fails_then}
 pub use Rattle.crn_ctext.proofs.DocumentsGood.{settled, read_documents_are_good, good_documents_are_read}
 -- A call for the next line is a step of the course at which a line is due.
 pub use Rattle.crn_ctext.proofs.DueSteps.{line_is_due, IsNoLine, line_is_missing}
+-- A line of a split begins with a known word.
+pub use Rattle.crn_ctext.proofs.TreesWritten.{split_known}
 -- A place counts the same bytes before and after what a course reads.
 pub use Rattle.crn_ctext.proofs.StepsThen.{gives_counts}
 -- Steps of a reader one after another, and the text of a whole document.

@@ -8,8 +8,8 @@ use crn_cert::RankProof;
 use crn_farkas::Stop;
 use crn_net::Network;
 use crn_rank::rank;
-use crn_vec::Nums;
-use std::alloc::{AllocError, Global};
+use crn_vec::{NoMemory, Nums};
+use std::alloc::Global;
 
 /// Why the rank of a linkage class is not found.
 #[derive(Drop)]
@@ -19,12 +19,12 @@ pub(crate) enum ClassStop {
     NoMemory,
 }
 
-impl From<AllocError> for ClassStop {
+impl From<NoMemory> for ClassStop {
     ghost use Rattle.crn_defi.specs.declared.class_rank.ClassStop.{ClassStop};
 
     ghost from_gives = { λ _ e. e ≡ ClassStop.NoMemory };
 
-    fn from(_: AllocError) -> ClassStop {
+    fn from(_: NoMemory) -> ClassStop {
         ClassStop::NoMemory
     }
 }

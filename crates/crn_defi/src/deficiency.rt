@@ -12,7 +12,7 @@ use crn_cert::{Answer, Gap, Proof, RankList, Verdict};
 use crn_graph::LinkageData;
 use crn_net::Network;
 use crn_vec::{NoMemory, Nums};
-use std::alloc::{AllocError, Global};
+use std::alloc::Global;
 
 // The deficiencies of the linkage classes in order, and the proofs of their ranks.
 #[derive(Drop)]
@@ -100,6 +100,6 @@ pub fn deficiencies(
                 basis,
             },
         ) => Ok(wide_answer(class, index, basis)),
-        Err(ClassStop::NoMemory) => Err(AllocError),
+        Err(ClassStop::NoMemory) => Err(NoMemory),
     }
 }

@@ -1,5 +1,5 @@
 -- Lines that are splits, or name shared lists.
-use Rattle.std.proofs.Common.{◌≡◌, ◌≤◌, ◌<◌, ◌^◌, ◌++◌, ◌==◌, if◌then◌else◌, ℕ, List, [], ◌∷◌, inl, inr, false, refl, sym, ap, subst, arith}
+use Rattle.std.proofs.Common.{◌≡◌, ◌≤◌, ◌<◌, ◌^◌, ◌++◌, ℕ, List, [], ◌∷◌, inl, inr, false, refl, sym, ap, subst, arith}
 use Rattle.std.specs.Prelude.{pos, codes, decimal}
 use Rattle.std.proofs.lemmas.Int.{ints}
 use Rattle.crn_vec.specs.Lists.{IsIn}
@@ -14,7 +14,7 @@ use Rattle.crn_ctext.specs.declared.expect.Due.{Due}
 use Rattle.crn_ctext.specs.declared.expect.Due.TheVariants as due_kinds
 use Rattle.crn_ctext.specs.declared.expect.Expect.{Expect}
 use Rattle.crn_ctext.specs.declared.word.Word.TheVariants as words
-use Rattle.crn_ctext.proofs.CallerLemmas.{AreShort, text_says}
+use Rattle.crn_ctext.proofs.CallerLemmas.{AreShort, split_known, text_says}
 use Rattle.crn_document.specs.Inner.Trees.{HasNodeDue, NamesTo}
 
 -- ---- the record
@@ -97,13 +97,6 @@ reads_b e k place line h low high lt same = record {
 abbrev split_record : Record
 split_record = record { words = codes "split" ∷ []; numbers = [] }
 
--- the known words from those of trees on
-abbrev from_trees : ℕ → List (List ℕ)
-from_trees v = tree_words v ++ codes "end" ∷ (if v == 2 then codes "vectors" ∷ codes "vector" ∷ codes "section" ∷ [] else [])
-
-known_split : (v : ℕ) → IsIn (codes "split") (known_words v)
-known_split v = in_right (codes "split") head_words (row_words ++ from_trees v) (in_right (codes "split") row_words (from_trees v) (inl refl))
-
 gives_split : (v n a b k : ℕ) (at : Place) → Gives (reads v n false (node_forms v a b k) 43 (codes "split")) at split_record at
 unfolding Gives
 gives_split v n a b k at =
@@ -113,7 +106,7 @@ gives_split v n a b k at =
     let shaped : IsShaped form split_record = (refl, refl) in
     let fits : Fits form split_record = (refl, refl) in
     let begins : BeginsWith (codes "split") (codes "split") = (((λ e. absurd (omega (arith, e))), ((λ e. absurd (omega (arith, e))), ((λ e. absurd (omega (arith, e))), ((λ e. absurd (omega (arith, e))), ((λ e. absurd (omega (arith, e))), tt))))), inl refl) in
-    (codes "split", (begins, known_split v), (tt, (λ e. absurd cc), (tt, (form, is, refl), (tt, (form, split_record, is, says, shaped), (split_record, (says, (form, is, fits)), (refl, refl))))))
+    (codes "split", (begins, split_known v), (tt, (λ e. absurd cc), (tt, (form, is, refl), (tt, (form, split_record, is, says, shaped), (split_record, (says, (form, is, fits)), (refl, refl))))))
 
 pub reads_split : (e : Expect) (k : ℕ) (line : List ℕ) → HasNodeDue e k → line ≡ codes "split" → IsReadAs e line words.Split []
 reads_split e k line h same = record {

@@ -1,7 +1,7 @@
 ghost use Rattle.std.specs.Prelude.{◌≡◌};
 ghost use Rattle.crn_document.specs.declared.fault.CheckStop.TheVariants.{NoMemory};
 
-use std::alloc::AllocError;
+use crn_vec::NoMemory;
 
 /// Why a document is not accepted.
 #[derive(Clone, Copy, Debug, PartialEq, Eq)]
@@ -14,10 +14,10 @@ pub enum CheckStop {
     NoMemory,
 }
 
-impl From<AllocError> for CheckStop {
+impl From<NoMemory> for CheckStop {
     ghost from_gives = { λ _ e. e ≡ NoMemory };
 
-    fn from(_: AllocError) -> CheckStop {
+    fn from(_: NoMemory) -> CheckStop {
         CheckStop::NoMemory
     }
 }

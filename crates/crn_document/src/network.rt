@@ -5,7 +5,7 @@ ghost use Rattle.crn_document.specs.Inner.Network.{IsCanonicalText};
 use crn_io::NoMemory;
 use crn_net::Network;
 use crn_text::{TextCode, is_canonical, read};
-use std::alloc::{AllocError, Global};
+use std::alloc::Global;
 
 // Whether memory ran out while a text was read, which is no fault of the text.
 fn is_out_of_memory(code: TextCode) -> bool
@@ -22,7 +22,7 @@ pub(crate) fn network_of(alloc: Global, text: &[u8]) -> Result<Option<Network>, 
         Ok(net) => net,
         Err(fault) => {
             if is_out_of_memory(fault.code) {
-                return Err(AllocError);
+                return Err(NoMemory);
             }
             return Ok(None);
         }

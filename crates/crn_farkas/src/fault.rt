@@ -1,7 +1,6 @@
 ghost use Rattle.std.specs.Prelude.{◌≡◌};
 
-use crn_vec::Nums;
-use std::alloc::AllocError;
+use crn_vec::{NoMemory, Nums};
 
 /// Why a system is not decided.
 #[derive(Drop)]
@@ -16,12 +15,12 @@ pub enum Stop {
     NoMemory,
 }
 
-impl From<AllocError> for Stop {
+impl From<NoMemory> for Stop {
     ghost use Rattle.crn_farkas.specs.declared.fault.Stop.{Stop};
 
     ghost from_gives = { λ _ e. e ≡ Stop.NoMemory };
 
-    fn from(_: AllocError) -> Stop {
+    fn from(_: NoMemory) -> Stop {
         Stop::NoMemory
     }
 }

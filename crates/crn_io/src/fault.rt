@@ -1,7 +1,5 @@
-use std::alloc::AllocError;
-
 /// Memory ran out.
-pub type NoMemory = AllocError;
+pub use std::alloc::AllocError as NoMemory;
 
 /// Why not all was read, in the order in which the causes are met.
 #[derive(Clone, Copy, Debug, PartialEq, Eq)]

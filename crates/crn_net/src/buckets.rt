@@ -6,8 +6,8 @@ ghost use Rattle.crn_net.specs.Inner.BucketSums.{mark};
 
 use crate::side_sums::name_of;
 use crate::term::Term;
-use crn_vec::MAX_AMOUNT;
-use std::alloc::{AllocError, Global};
+use crn_vec::{MAX_AMOUNT, NoMemory};
+use std::alloc::Global;
 
 // A number for a name, which few other names share.
 pub(crate) fn mark_of(name: &[u8]) -> usize
@@ -29,7 +29,7 @@ pub(crate) fn buckets_fit(
     text: &[u8],
     side: &[Term],
     size: usize,
-) -> Result<bool, AllocError>
+) -> Result<bool, NoMemory>
     requires some { 1 ≤ size }
     requires numbers { AllByRecursion (λ t. t.count ≤ MAX_AMOUNT) side.now }
     ensures { let amount = amount_in (side_of text.now side.now) in

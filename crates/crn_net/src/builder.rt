@@ -9,9 +9,9 @@ use crate::network::Network;
 use crate::row::Complexes;
 use crate::tables::{build, differences, full_rows};
 use crate::term::Term;
-use crn_vec::{MAX_COMPLEXES, MAX_REACTIONS, MAX_SPECIES};
+use crn_vec::{MAX_COMPLEXES, MAX_REACTIONS, MAX_SPECIES, NoMemory};
 use indexmap::IndexSet;
-use std::alloc::{AllocError, Global};
+use std::alloc::Global;
 use std::marker::Model;
 
 /// Collects the reactions of a network. Contracts see it as the network built so far.
@@ -39,7 +39,7 @@ impl Model for NetBuilder {
 
 impl NetBuilder {
     /// A builder without reactions. It takes the memory for the largest network at once.
-    pub fn new(alloc: Global) -> Result<NetBuilder, AllocError>
+    pub fn new(alloc: Global) -> Result<NetBuilder, NoMemory>
         ensures { IfOk result (λ made. made ≡ no_net) }
     {
         Ok(NetBuilder {

@@ -1,7 +1,8 @@
 ghost use Rattle.std.specs.Prelude.{◌≡◌};
 ghost use Rattle.crn_net.specs.declared.fault.NetFault.TheVariants.{NoMemory};
 
-use std::alloc::{AllocError, AllocFailed};
+use crn_vec::NoMemory;
+use std::alloc::AllocFailed;
 use thiserror::Error;
 
 /// Why a reaction is not added, or a network is not built. The variants are in the order in which the causes are tried.
@@ -21,10 +22,10 @@ pub enum NetFault {
     NoMemory,
 }
 
-impl From<AllocError> for NetFault {
+impl From<NoMemory> for NetFault {
     ghost from_gives = { λ _ e. e ≡ NoMemory };
 
-    fn from(_: AllocError) -> NetFault {
+    fn from(_: NoMemory) -> NetFault {
         NetFault::NoMemory
     }
 }

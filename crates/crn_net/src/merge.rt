@@ -7,8 +7,8 @@ ghost use Rattle.crn_net.specs.Inner.Sums.{share_of, name_in, sum_in, no_share};
 use crate::buckets::mark_of;
 use crate::side_sums::Share;
 use crate::term::Term;
-use crn_vec::{MAX_AMOUNT, MAX_TERMS};
-use std::alloc::{AllocError, Global};
+use crn_vec::{MAX_AMOUNT, MAX_TERMS, NoMemory};
+use std::alloc::Global;
 
 // In how many slots a name is looked for.
 const TRIES: usize = 16;
@@ -57,7 +57,7 @@ fn put_share(
     shares: &mut Vec<Share>,
     slots: &mut [u32],
     share: Share,
-) -> Result<(), AllocError>
+) -> Result<(), NoMemory>
     requires some { 1 ≤ length slots.old }
     requires few { length shares.old.items ≤ 2 * MAX_TERMS }
     ensures slots { length slots.new ≡ length slots.old }
@@ -89,7 +89,7 @@ fn put_shares(
     slots: &mut [u32],
     side: &[Term],
     sign: i32,
-) -> Result<(), AllocError>
+) -> Result<(), NoMemory>
     requires some { 1 ≤ length slots.old }
     requires few { length shares.old.items + length side.now ≤ 2 * MAX_TERMS }
     requires sign { nat_abs sign ≡ 1 }
@@ -113,7 +113,7 @@ pub(crate) fn merged(
     text: &[u8],
     left: &[Term],
     right: &[Term],
-) -> Result<Vec<Share>, AllocError>
+) -> Result<Vec<Share>, NoMemory>
     requires left { AllByRecursion (λ t. t.count ≤ MAX_AMOUNT) left.now }
     requires right { AllByRecursion (λ t. t.count ≤ MAX_AMOUNT) right.now }
     requires left_few { length left.now ≤ MAX_TERMS }
@@ -132,7 +132,7 @@ pub(crate) fn merged(
 }
 
 // The shares that are not zero, in the same order.
-pub(crate) fn without_zeros(alloc: Global, shares: &[Share]) -> Result<Vec<Share>, AllocError>
+pub(crate) fn without_zeros(alloc: Global, shares: &[Share]) -> Result<Vec<Share>, NoMemory>
     requires few { length shares.now ≤ 2 * MAX_TERMS }
     ensures sums { IfOk result (λ kept. (text name : List ℕ) →
         sum_in text kept.items name ≡ sum_in text shares.now name) }

@@ -8,8 +8,8 @@ ghost use Rattle.crn_net.specs.Inner.Steps.{SaysSame};
 use crate::buckets::buckets_fit;
 use crate::merge::{merged, without_zeros};
 use crate::term::Term;
-use crn_vec::{MAX_AMOUNT, MAX_TERMS};
-use std::alloc::{AllocError, Global};
+use crn_vec::{MAX_AMOUNT, MAX_TERMS, NoMemory};
+use std::alloc::Global;
 
 // The least number of buckets that sums are tried in.
 const MIN_BUCKETS: usize = 1024;
@@ -134,7 +134,7 @@ pub(crate) fn says_same(
     text: &[u8],
     left: &[Term],
     right: &[Term],
-) -> Result<bool, AllocError>
+) -> Result<bool, NoMemory>
     requires left { IsSide text.now left.now }
     requires right { IsSide text.now right.now }
     ensures { let statement = statement_of text.now left.now right.now in
@@ -160,7 +160,7 @@ fn total(side: &[Term]) -> u32
 /// Whether each name's sum on the side is within the limit of an amount, as `NetBuilder::add` requires.
 ///
 /// If all numbers together exceed the limit, it takes up to 16 bytes for each term, or 1,024 if that is more.
-pub fn sums_fit(alloc: Global, text: &[u8], side: &[Term]) -> Result<bool, AllocError>
+pub fn sums_fit(alloc: Global, text: &[u8], side: &[Term]) -> Result<bool, NoMemory>
     requires numbers { AllByRecursion (λ t. t.count ≤ MAX_AMOUNT) side.now }
     requires few { length side.now ≤ MAX_TERMS }
     ensures { let amount = amount_in (side_of text.now side.now) in

@@ -13,8 +13,8 @@ use crate::row::{Amounts, Complexes, Row};
 use crate::same::are_same;
 use crate::side_sums::{name_of, says_same};
 use crate::term::Term;
-use crn_vec::{MAX_COMPLEXES, MAX_NAME, MAX_REACTIONS, MAX_SPECIES};
-use std::alloc::{AllocError, Global};
+use crn_vec::{MAX_COMPLEXES, MAX_NAME, MAX_REACTIONS, MAX_SPECIES, NoMemory};
+use std::alloc::Global;
 
 // Whether a name is at a place.
 fn is_name_at(names: &Names, place: usize, name: &[u8]) -> bool
@@ -274,7 +274,7 @@ pub(crate) fn build(
 }
 
 // The rows with numbers as large as a network's vectors have them.
-pub(crate) fn full_rows(alloc: Global, rows: &[Amounts]) -> Result<Vec<Row>, AllocError>
+pub(crate) fn full_rows(alloc: Global, rows: &[Amounts]) -> Result<Vec<Row>, NoMemory>
     ensures { IfOk result (λ made. made.items ≡ rows.now) }
 {
     let mut made = Vec::with_capacity(alloc, rows.len())?;
@@ -302,7 +302,7 @@ pub(crate) fn differences(
     alloc: Global,
     rows: &[Row],
     reactions: &[(usize, usize)],
-) -> Result<Vec<Row>, AllocError>
+) -> Result<Vec<Row>, NoMemory>
     requires amounts { AllByRecursion (λ row. AllByRecursion IsAmount row) rows.now }
     requires places { AllByRecursion (JoinsTwo (length rows.now)) reactions.now }
     ensures { let row = λ (c : ℕ). slice_index_or rows.now c [] in

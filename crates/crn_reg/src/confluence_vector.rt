@@ -17,7 +17,7 @@ use crn_farkas::Stop;
 use crn_graph::{LinkageData, StrongData};
 use crn_net::Network;
 use crn_vec::{NoMemory, Nums};
-use std::alloc::{AllocError, Global};
+use std::alloc::Global;
 
 // The open answer that names a wide vector of the confluence system.
 fn wide_answer(index: u32, basis: Nums) -> Answer
@@ -117,6 +117,6 @@ pub fn confluence(
     match find_space(alloc, &matrix) {
         Ok(space) => Ok(answer_of(net, linkage, strong, weak, space)),
         Err(Stop::Wide { index, basis }) => Ok(wide_answer(index, basis)),
-        Err(Stop::NoMemory) => Err(AllocError),
+        Err(Stop::NoMemory) => Err(NoMemory),
     }
 }

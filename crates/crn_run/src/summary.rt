@@ -21,7 +21,7 @@ use crn_io::{NoMemory, QuietSink, QuietSource, Sink};
 use crn_net::Network;
 use crn_render::write_summary;
 use crn_solve::solve;
-use std::alloc::{AllocError, Global};
+use std::alloc::Global;
 
 // The document of a network and of answers, with equal lists written once, in a sink of just its length.
 fn document_of(alloc: Global, net: &Network, answers: &Answers) -> Result<QuietSink, NoMemory>
@@ -49,7 +49,7 @@ fn accept_document(alloc: Global, document: &[u8]) -> Result<(), NoMemory>
     match check_document(alloc, &mut source) {
         Ok(_) => Ok(()),
         Err(stop) => match stop {
-            CheckStop::NoMemory => Err(AllocError),
+            CheckStop::NoMemory => Err(NoMemory),
             _ => unreachable!(),
         },
     }

@@ -8,8 +8,8 @@ ghost use Rattle.crn_run.specs.declared.words.Command.{Command};
 use clap::error::ErrorKind;
 use clap::{Arg, ArgAction};
 use crn_sample::{MAX_SAMPLE, MAX_SAMPLE_DIGITS};
-use crn_vec::{DEFAULT_BUDGET, MAX_BUDGET, MAX_BUDGET_DIGITS};
-use std::alloc::{AllocError, Global};
+use crn_vec::{DEFAULT_BUDGET, MAX_BUDGET, MAX_BUDGET_DIGITS, NoMemory};
+use std::alloc::Global;
 
 /// What the words of a command line ask for.
 ///
@@ -26,7 +26,7 @@ pub enum Command {
 ///
 /// The words begin with the program's name. They are read with clap, as a positional `command`, a
 /// positional `count` that may be left out, and an option `--budget`. A word `--` is in no command.
-pub fn command_of(alloc: Global, words: &[String]) -> Result<Option<Command>, AllocError>
+pub fn command_of(alloc: Global, words: &[String]) -> Result<Option<Command>, NoMemory>
     ensures { let said = map string_bytes words.now in IfOk result (λ found.
         MatchOption found ((c : Command) → IsCommand said c → ⊥) (λ c. IsCommand said c)) }
 {
@@ -59,7 +59,7 @@ fn has_two_dashes(words: &[String]) -> bool
 
 // The one command, as clap reads it.
 #[tactic(auto, unfolding(crate::specs::Inner::Parse::crnt_app))]
-fn parser<'a>(alloc: Global) -> Result<clap::Command<'a>, AllocError>
+fn parser<'a>(alloc: Global) -> Result<clap::Command<'a>, NoMemory>
     ensures app { IfOk result (λ c. app_of c ≡ crnt_app) }
 {
     let command = Arg::new(alloc, "command")
@@ -76,7 +76,7 @@ fn parser<'a>(alloc: Global) -> Result<clap::Command<'a>, AllocError>
 }
 
 // The values that clap reads from the words, or none if it refuses them.
-fn parse<'a>(alloc: Global, words: &'a [String]) -> Result<Option<Said<'a>>, AllocError>
+fn parse<'a>(alloc: Global, words: &'a [String]) -> Result<Option<Said<'a>>, NoMemory>
     ensures { let said = map string_bytes words.now in IfOk result (λ found.
         MatchOption found (IsRead said → ⊥) (λ s. IsRead said
         × Gives said (text_in s.command) (text_in s.count) (text_in s.budget))) }
@@ -89,7 +89,7 @@ fn parse<'a>(alloc: Global, words: &'a [String]) -> Result<Option<Said<'a>>, All
             budget: matches.get_str("budget"),
         })),
         Err(error) => match error.kind() {
-            ErrorKind::OutOfMemory => Err(AllocError),
+            ErrorKind::OutOfMemory => Err(NoMemory),
             _ => Ok(None),
         },
     }

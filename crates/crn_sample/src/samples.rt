@@ -6,7 +6,7 @@ ghost use Rattle.crn_sample.specs.declared.limits.TheConstants.{MAX_SAMPLE};
 use crn_net::Network;
 use crn_text::{TextCode, read};
 use crn_vec::NoMemory;
-use std::alloc::{AllocError, Global};
+use std::alloc::Global;
 use std::fmt::Write;
 
 // The two lines of a step.
@@ -44,7 +44,7 @@ pub fn sample(alloc: Global, number: u32) -> Result<Network, NoMemory>
         Ok(net) => Ok(net),
         // The text has no fault, as `sample_texts_spell_networks` says.
         Err(fault) => match fault.code {
-            TextCode::NoMemory => Err(AllocError),
+            TextCode::NoMemory => Err(NoMemory),
             _ => unreachable!(),
         },
     }

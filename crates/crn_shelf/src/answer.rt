@@ -24,7 +24,7 @@ use crn_net::Network;
 use crn_shape::{Shape, shelves};
 use crn_sign::{SearchEnd, SearchStop};
 use crn_vec::{Ints, NoMemory, Nums, Sign};
-use std::alloc::{AllocError, Global};
+use std::alloc::Global;
 
 // A shelf as a number: 1 is upper, 0 middle, -1 lower.
 fn shelf_number(shelf: Sign) -> i128
@@ -108,7 +108,7 @@ fn stop_answer(stop: SearchStop) -> Result<Answer, NoMemory>
     match stop {
         SearchStop::WideA { index, basis } => Ok(wide_answer(5, index, basis)),
         SearchStop::WideB { index, basis, .. } => Ok(wide_answer(2, index, basis)),
-        SearchStop::NoMemory => Err(AllocError),
+        SearchStop::NoMemory => Err(NoMemory),
     }
 }
 

@@ -3,7 +3,7 @@ use Rattle.std.proofs.Common.{◌≡◌, ◌≢◌, ℕ, zero, suc, ◌+◌, ◌
 use Rattle.std.specs.Prelude.{ℤ, pos, negsuc, neg_ℤ, ◌*ℤ◌, unsigned_abs}
 use Rattle.std.proofs.lemmas.Int.{ints}
 use Rattle.std.proofs.lemmas.List.{length-drop, length-replicate, get_or-drop, get_or_past}
-use Rattle.crn_vec.specs.declared.limits.TheConstants.{WIDE_ENTRY}
+use Rattle.crn_vec.specs.declared.limits.TheConstants.{WIDE_ENTRY, WIDE_SOLUTION}
 use Rattle.crn_vec.specs.declared.signs.Sign.{Sign}
 use Rattle.crn_vec.specs.declared.signs.Kind.{Kind}
 use Rattle.crn_vec.specs.declared.signs.Kind.TheVariants.{Free}
@@ -34,8 +34,8 @@ column_suc (r ∷ rows) (suc i) j lt = ap (λ (t : List ℤ). entry r j ∷ t) (
 pub column_step : (rows : List (List ℤ)) (i j : ℕ) → i < length rows → column (take (i + 1) rows) j ≡ column (take i rows) j ++ entry (get_or rows i []) j ∷ []
 column_step rows i j lt = rw add-one (column_suc rows i j lt)
 
-pub within_72 : (u : List ℤ) → ((k : ℕ) → unsigned_abs (entry u k) < WIDE_ENTRY) → AreWithin (2 ^ 72) u
-within_72 u h = within_from (2 ^ 72) u (λ k lt. let le : WIDE_ENTRY ≤ 2 ^ 72 = lit≤ tt in omega (arith, h k, le))
+pub within_solution : (u : List ℤ) → ((k : ℕ) → unsigned_abs (entry u k) < WIDE_ENTRY) → AreWithin (WIDE_SOLUTION) u
+within_solution u h = within_from (WIDE_SOLUTION) u (λ k lt. let le : WIDE_ENTRY ≤ WIDE_SOLUTION = lit≤ tt in omega (arith, h k, le))
 
 -- ---- marks, coordinate by coordinate
 

@@ -13,7 +13,7 @@ use crn_farkas::{Decision, Stop, System, decide_by};
 use crn_net::Network;
 use crn_tab::Tableau;
 use crn_vec::{Matrix, NoMemory};
-use std::alloc::{AllocError, Global};
+use std::alloc::Global;
 
 // A solution with positive columns and zero rows, or multipliers that rule every one out.
 fn decide_positive(
@@ -63,7 +63,7 @@ pub(crate) fn positively_dependent(
     match decide_positive(alloc, matrix, None) {
         Ok(decision) => Ok(vector_answer(decision)),
         Err(Stop::Wide { index, basis }) => Ok(wide_answer(2, index, basis)),
-        Err(Stop::NoMemory) => Err(AllocError),
+        Err(Stop::NoMemory) => Err(NoMemory),
     }
 }
 
@@ -84,6 +84,6 @@ pub(crate) fn conservative(
     match decide_positive(alloc, matrix, Some(viewed)) {
         Ok(decision) => Ok(vector_answer(decision)),
         Err(Stop::Wide { index, basis }) => Ok(wide_answer(1, index, basis)),
-        Err(Stop::NoMemory) => Err(AllocError),
+        Err(Stop::NoMemory) => Err(NoMemory),
     }
 }

@@ -13,7 +13,7 @@ use crn_net::Network;
 use crn_rank::rank_by;
 use crn_tab::Tableau;
 use crn_vec::NoMemory;
-use std::alloc::{AllocError, Global};
+use std::alloc::Global;
 
 // All reactions, counted from 1.
 fn all_reactions(alloc: Global, net: &Network) -> Result<Vec<u32>, NoMemory>
@@ -56,6 +56,6 @@ pub(crate) fn rank_answer(
     match rank_by(alloc, net, &all, tableau) {
         Ok(proof) => base_answer(proof),
         Err(Stop::Wide { index, basis }) => Ok(wide_answer(1, index, basis)),
-        Err(Stop::NoMemory) => Err(AllocError),
+        Err(Stop::NoMemory) => Err(NoMemory),
     }
 }

@@ -1,6 +1,6 @@
 ghost use Rattle.std.specs.Prelude.{◌≡◌};
 
-use std::alloc::AllocError;
+use crn_vec::NoMemory;
 
 /// A vector of an exchanged basis exceeds the bound of what a tableau keeps.
 #[derive(Clone, Copy, Debug, PartialEq, Eq)]
@@ -28,12 +28,12 @@ pub enum ColumnStop {
     NoMemory,
 }
 
-impl From<AllocError> for ColumnStop {
+impl From<NoMemory> for ColumnStop {
     ghost use Rattle.crn_tab.specs.declared.fault.ColumnStop.{ColumnStop};
 
     ghost from_gives = { λ _ e. e ≡ ColumnStop.NoMemory };
 
-    fn from(_: AllocError) -> ColumnStop {
+    fn from(_: NoMemory) -> ColumnStop {
         ColumnStop::NoMemory
     }
 }

@@ -2,11 +2,11 @@ ghost use Rattle.std.specs.Prelude.{◌≡◌, ◌≤◌, ◌++◌, ◌+◌, len
 ghost use Rattle.crn_vec.specs.Vectors.{AreWithin};
 ghost use Rattle.crn_tab.specs.Inner.Start.{IsIdentity, start_row, start_rows};
 
-use crn_vec::{MAX_AMOUNT, Matrix};
-use std::alloc::{AllocError, Global};
+use crn_vec::{MAX_AMOUNT, Matrix, NoMemory};
+use std::alloc::Global;
 
 // The list of this many numbers from 0 on.
-pub(crate) fn identity(alloc: Global, count: usize) -> Result<Vec<usize>, AllocError>
+pub(crate) fn identity(alloc: Global, count: usize) -> Result<Vec<usize>, NoMemory>
     ensures { IfOk result (λ v. IsIdentity count v.items) }
 {
     let mut v = Vec::with_capacity(alloc, count)?;
@@ -39,7 +39,7 @@ fn push_row(rows: &mut Vec<i64>, row: &[i128])
 }
 
 // What a tableau keeps at first: the negative of each row of the matrix, and then a 1.
-pub(crate) fn first_rows(alloc: Global, matrix: &Matrix) -> Result<Vec<i64>, AllocError>
+pub(crate) fn first_rows(alloc: Global, matrix: &Matrix) -> Result<Vec<i64>, NoMemory>
     ensures { IfOk result (λ v. v.items ≡ start_rows matrix.now.rows) }
 {
     let mut rows = Vec::with_capacity(alloc, matrix.rows() * (matrix.cols() + 1))?;

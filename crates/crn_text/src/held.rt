@@ -7,8 +7,8 @@ ghost use Rattle.crn_text.specs.Inner.Held.{moved, FindsTerms, IsTrimmed};
 use crate::bytes::{blanks, is_blank_byte};
 use crate::side::read_side;
 use crn_net::Term;
-use crn_vec::MAX_TEXT;
-use std::alloc::{AllocError, Global};
+use crn_vec::{MAX_TEXT, NoMemory};
+use std::alloc::Global;
 use std::marker::Model;
 
 // The least and the most bytes of a side that is remembered. A shorter one is read just as fast.
@@ -45,7 +45,7 @@ impl Model for HeldSide {
 }
 
 impl HeldSide {
-    fn new(alloc: Global, side: &[u8], terms: &[Term]) -> Result<HeldSide, AllocError>
+    fn new(alloc: Global, side: &[u8], terms: &[Term]) -> Result<HeldSide, NoMemory>
         requires { ReadsTerms side.now side.now terms.now true }
     {
         let bytes = Vec::from_slice(alloc, side)?;
@@ -118,7 +118,7 @@ fn move_all(terms: &mut [Term], by: u32)
 }
 
 // Replaces the terms in the buffer by those of a side that begins this many bytes later.
-fn put_moved(known: &[Term], by: u32, terms: &mut Vec<Term>) -> Result<(), AllocError>
+fn put_moved(known: &[Term], by: u32, terms: &mut Vec<Term>) -> Result<(), NoMemory>
     ensures { IfOk result (λ done. terms.new.items ≡ map (λ t. moved by t) known.now) }
 {
     terms.clear();
@@ -151,7 +151,7 @@ impl Held {
     }
 
     // Remembers a side, whose terms are those that were read last.
-    fn put(&mut self, side: &[u8]) -> Result<(), AllocError>
+    fn put(&mut self, side: &[u8]) -> Result<(), NoMemory>
         requires { ReadsTerms side.now side.now self.old.terms.items true }
         ensures { self.new.terms.items ≡ self.old.terms.items }
     {
@@ -165,7 +165,7 @@ impl Held {
     }
 
     // Reads a side, and remembers it if it passes all tests.
-    fn read(&mut self, side: &[u8]) -> Result<bool, AllocError>
+    fn read(&mut self, side: &[u8]) -> Result<bool, NoMemory>
         requires { length side.now ≤ MAX_TEXT }
         ensures { ReadsSide side.now side.now self.new.terms.items result }
     {
@@ -183,7 +183,7 @@ impl Held {
         side: &[u8],
         end: usize,
         terms: &mut Vec<Term>,
-    ) -> Result<bool, AllocError>
+    ) -> Result<bool, NoMemory>
         requires short { length body.now ≤ MAX_TEXT }
         requires occurs { OccursIn body.now side.now end }
         ensures { ReadsSide body.now side.now terms.new.items result }
@@ -212,7 +212,7 @@ pub(crate) fn hold_side(
     end: usize,
     terms: &mut Vec<Term>,
     held: &mut Held,
-) -> Result<bool, AllocError>
+) -> Result<bool, NoMemory>
     requires short { length body.now ≤ MAX_TEXT }
     requires occurs { OccursIn body.now side.now end }
     ensures { ReadsSide body.now side.now terms.new.items result }

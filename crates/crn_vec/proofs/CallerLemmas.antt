@@ -22,7 +22,7 @@ pub use Rattle.crn_vec.proofs.Firsts.{firsts_firsts, firsts_prefix, firsts_lengt
 pub use Rattle.crn_vec.proofs.Statements.{name_decides, row_decides, sides_decide, reaction_decides}
 pub use Rattle.crn_vec.proofs.Statements.{none_said, has_name, amounts_same}
 -- Lists by their entries: which places are inside, and lists related place by place.
-pub use Rattle.crn_vec.proofs.Entries.{past_end, inside_or, lt_or, eq_or, below_or, look_at, abs_back, zip_from, zip_at, zip_long, within_from, dot_step, zip_push, map_more}
+pub use Rattle.crn_vec.proofs.Entries.{past_end, inside_or, lt_or, eq_or, below_or, look_at, abs_back, zip_from, zip_at, zip_long, within_from, dot_step, next_sum, zip_push, map_more}
 pub use Rattle.crn_vec.proofs.Entries.{before_one, below_two}
 -- The rows of a list that holds them one after another, and bounds of their entries.
 pub use Rattle.crn_vec.proofs.RowLists.{length-rows_of, row_at, row_inside, rows_of_length, within_at, within_drop, within_take, within_rows}

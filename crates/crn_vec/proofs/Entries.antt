@@ -94,6 +94,10 @@ dot_suc (x ∷ v) (y ∷ w) (suc k) h g = omega (arith, ints, dot_suc v w k (ome
 pub dot_step : (v w : List ℤ) (k : ℕ) → k < length v → k < length w → dot (take (k + 1) v) (take (k + 1) w) ≡ dot (take k v) (take k w) +ℤ (entry v k *ℤ entry w k)
 dot_step v w k h g = rw add-one (dot_suc v w k h g)
 
+-- a sum and a product that are known, together
+pub next_sum : {s p d e : ℤ} → s ≡ d → p ≡ e → d +ℤ e ≡ s +ℤ p
+next_sum f g = ap₂ (λ (x y : ℤ). x +ℤ y) (sym f) (sym g)
+
 -- ---- one place more
 
 pub zip_push : {A B : Type 0} (R : A → B → Type 0) (xs : List A) (ys : List B) (x : A) (y : B) → AllZip R xs ys → R x y → AllZip R (xs ++ x ∷ []) (ys ++ y ∷ [])

@@ -1,2 +1,2 @@
 /// The one error of this crate: it runs out of memory.
-pub type NoMemory = std::alloc::AllocError;
+pub use std::alloc::AllocError as NoMemory;

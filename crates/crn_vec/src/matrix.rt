@@ -2,8 +2,9 @@ ghost use Rattle.std.specs.Prelude.{◌≡◌, ◌≤◌, ◌<◌, ◌+◌, ◌*
 ghost use Rattle.crn_vec.specs.Vectors.{AreOfLength, AreWithin, entry};
 ghost use Rattle.crn_vec.specs.Matrices.{mat_of};
 
+use crate::fault::NoMemory;
 use crate::limits::{MAX_AMOUNT, MAX_COORDINATES};
-use std::alloc::{AllocError, Global};
+use std::alloc::Global;
 use std::marker::Model;
 use std::rc::Rc;
 
@@ -44,7 +45,7 @@ impl Matrix {
         rows: usize,
         cols: usize,
         entries: &[i128],
-    ) -> Result<Matrix, AllocError>
+    ) -> Result<Matrix, NoMemory>
         requires count { length entries.now ≡ rows * cols }
         requires some { 1 ≤ cols }
         requires few { rows + cols ≤ MAX_COORDINATES }
@@ -60,7 +61,7 @@ impl Matrix {
         rows: usize,
         cols: usize,
         entries: Vec<i128>,
-    ) -> Result<Matrix, AllocError>
+    ) -> Result<Matrix, NoMemory>
         requires count { length entries.items ≡ rows * cols }
         requires some { 1 ≤ cols }
         requires few { rows + cols ≤ MAX_COORDINATES }
@@ -113,7 +114,7 @@ impl Matrix {
     }
 
     /// Another matrix of the same entries, in the same memory.
-    pub fn copy(&self) -> Result<Matrix, AllocError>
+    pub fn copy(&self) -> Result<Matrix, NoMemory>
         ensures { IfOk result (λ made. made ≡ self.now) }
     {
         Ok(Matrix {

@@ -1,16 +1,13 @@
-use Rattle.std.proofs.Common.{◌≡◌, ◌≤◌, ◌<◌, ◌*◌, ◌+◌, ◌∙◌, List, length, take, ap, ap₂, sym, arith, to_z, take_all}
+use Rattle.std.proofs.Common.{◌≡◌, ◌≤◌, ◌<◌, ◌*◌, ◌+◌, ◌∙◌, List, length, take, ap, sym, arith, to_z, take_all}
 use Rattle.std.specs.Prelude.{ℤ, ◌+ℤ◌, ◌*ℤ◌, unsigned_abs}
 use Rattle.std.specs.Int.{w128}
 use Rattle.crn_vec.specs.Vectors.{dot, column, entry}
 use Rattle.crn_vec.specs.declared.limits.TheConstants.{MAX_AMOUNT, WIDE_SOLUTION}
-use Rattle.crn_vec.proofs.CallerLemmas.{held, sum_within, dot_step, within_at, entry-column, length-column, amounts_within}
+use Rattle.crn_vec.proofs.CallerLemmas.{held, sum_within, dot_step, next_sum, within_at, entry-column, length-column, amounts_within}
 use Rattle.crn_check.proofs.space.amount_in.Goals as goal
 
 pub times-sum-requires-clause-y : goal.times-sum-requires-clause-y
 times-sum-requires-clause-y c = within_at MAX_AMOUNT c.args.s c.vector.result.now (amounts_within c.vector.result.now c.vector.ensures.amounts)
-
-next_sum : {s p d e : ℤ} → s ≡ d → p ≡ e → d +ℤ e ≡ s +ℤ p
-next_sum f g = ap₂ (λ (x y : ℤ). x +ℤ y) (sym f) (sym g)
 
 pub loop-c-preserved : goal.loop-c-preserved
 loop-c-preserved c =

@@ -1,14 +1,11 @@
-use Rattle.std.proofs.Common.{◌≡◌, ◌≤◌, ◌*◌, ◌+◌, ◌<◌, ◌∙◌, length, take, ap, ap₂, sym, arith, to_z, take_all}
+use Rattle.std.proofs.Common.{◌≡◌, ◌≤◌, ◌*◌, ◌+◌, ◌<◌, ◌∙◌, length, take, ap, sym, arith, to_z, take_all}
 use Rattle.std.specs.Prelude.{ℤ, ◌+ℤ◌, ◌*ℤ◌, unsigned_abs}
 use Rattle.std.specs.Int.{w128}
 use Rattle.crn_vec.specs.Vectors.{dot, entry}
 use Rattle.crn_vec.specs.Sums.{label_marks}
 use Rattle.crn_vec.specs.declared.limits.TheConstants.{WIDE_SOLUTION}
-use Rattle.crn_vec.proofs.CallerLemmas.{held, sum_within, dot_step, length-label_marks, label_mark}
+use Rattle.crn_vec.proofs.CallerLemmas.{held, sum_within, dot_step, next_sum, length-label_marks, label_mark}
 use Rattle.crn_check.proofs.space.class_sum.Goals as goal
-
-next_sum : {s p d e : ℤ} → s ≡ d → p ≡ e → d +ℤ e ≡ s +ℤ p
-next_sum f g = ap₂ (λ (x y : ℤ). x +ℤ y) (sym f) (sym g)
 
 pub loop-c-preserved : goal.loop-c-preserved
 loop-c-preserved c =

@@ -1,11 +1,11 @@
-use Rattle.std.proofs.Common.{◌≡◌, ◌≤◌, ◌<◌, ◌*◌, ◌+◌, ◌∙◌, length, take, get_or, ap, ap₂, sym, arith, to_z, of_z, take_all}
+use Rattle.std.proofs.Common.{◌≡◌, ◌≤◌, ◌<◌, ◌*◌, ◌+◌, ◌∙◌, length, take, get_or, ap, sym, arith, to_z, of_z, take_all}
 use Rattle.std.specs.Prelude.{ℤ, pos, ◌+ℤ◌, ◌*ℤ◌, unsigned_abs}
 use Rattle.std.specs.Int.{w128}
 use Rattle.std.proofs.Math.IntN.{*ℤ_comm}
 use Rattle.crn_vec.specs.Vectors.{dot, column, entry}
 use Rattle.crn_vec.specs.Signals.{shelf_matrix}
 use Rattle.crn_vec.specs.declared.limits.TheConstants.{MAX_AMOUNT, WIDE_SOLUTION}
-use Rattle.crn_vec.proofs.CallerLemmas.{held, sum_within, dot_step, dot-comm, all_at, entry-column, length-column}
+use Rattle.crn_vec.proofs.CallerLemmas.{held, sum_within, dot_step, next_sum, dot-comm, all_at, entry-column, length-column}
 use Rattle.crn_cert.specs.Ranges.{IsNarrow}
 use Rattle.crn_ctree.proofs.cut.shape_sum.Goals as goal
 
@@ -15,9 +15,6 @@ times-sum-requires-clause-x c =
     let lt : c.loop-row.row < length u = omega (arith, c.requires.numbers.long, c.loop-row-test.true, c.rows-row-end.ensures.count) in
     let narrow : IsNarrow (get_or u c.loop-row.row (pos 0)) = all_at IsNarrow u c.loop-row.row (pos 0) c.requires.numbers.each lt in
     omega (arith, narrow)
-
-next_sum : {s p d e : ℤ} → s ≡ d → p ≡ e → d +ℤ e ≡ s +ℤ p
-next_sum f g = ap₂ (λ (x y : ℤ). x +ℤ y) (sym f) (sym g)
 
 pub loop-row-preserved : goal.loop-row-preserved
 loop-row-preserved c =

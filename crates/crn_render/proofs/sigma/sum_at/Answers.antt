@@ -1,11 +1,11 @@
-use Rattle.std.proofs.Common.{◌≡◌, ◌≤◌, ◌<◌, ◌*◌, ◌+◌, ◌∙◌, length, take, get_or, ap, ap₂, sym, arith, to_z, take_all}
+use Rattle.std.proofs.Common.{◌≡◌, ◌≤◌, ◌<◌, ◌*◌, ◌+◌, ◌∙◌, length, take, get_or, ap, sym, arith, to_z, take_all}
 use Rattle.std.specs.Prelude.{ℤ, pos, ◌+ℤ◌, ◌*ℤ◌, unsigned_abs}
 use Rattle.std.specs.Int.{w128}
 use Rattle.std.proofs.Math.IntN.{*ℤ_comm}
 use Rattle.crn_vec.specs.Vectors.{dot, column, entry}
 use Rattle.crn_vec.specs.Deficiency.{vectors}
 use Rattle.crn_vec.specs.declared.limits.TheConstants.{MAX_AMOUNT, WIDE_SOLUTION}
-use Rattle.crn_vec.proofs.CallerLemmas.{held, sum_within, dot_step, within_at, all_at, column_long}
+use Rattle.crn_vec.proofs.CallerLemmas.{held, sum_within, dot_step, next_sum, within_at, all_at, column_long}
 use Rattle.crn_cert.proofs.CallerLemmas.{vector_entry}
 use Rattle.crn_cert.specs.Ranges.{IsNarrow}
 use Rattle.crn_render.proofs.sigma.sum_at.Goals as goal
@@ -19,9 +19,6 @@ times-sum-requires-clause-x c =
 
 pub times-sum-requires-clause-y : goal.times-sum-requires-clause-y
 times-sum-requires-clause-y c = within_at MAX_AMOUNT c.args.s c.reaction_vector.result.now c.reaction_vector.ensures.small
-
-next_sum : {s p d e : ℤ} → s ≡ d → p ≡ e → d +ℤ e ≡ s +ℤ p
-next_sum f g = ap₂ (λ (x y : ℤ). x +ℤ y) (sym f) (sym g)
 
 pub loop-r-preserved : goal.loop-r-preserved
 loop-r-preserved c =

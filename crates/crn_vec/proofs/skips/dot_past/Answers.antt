@@ -1,10 +1,10 @@
-use Rattle.std.proofs.Common.{◌≡◌, ◌≤◌, ◌<◌, ◌*◌, ◌+◌, ◌∙◌, length, get_or, take, ap₂, sym, arith, to_z}
-use Rattle.std.specs.Prelude.{ℤ, ◌+ℤ◌, unsigned_abs}
+use Rattle.std.proofs.Common.{◌≡◌, ◌≤◌, ◌<◌, ◌*◌, ◌+◌, ◌∙◌, length, get_or, take, sym, arith, to_z}
+use Rattle.std.specs.Prelude.{◌+ℤ◌, unsigned_abs}
 use Rattle.std.specs.Int.{w128}
 use Rattle.crn_vec.specs.Vectors.{dot}
 use Rattle.crn_vec.specs.declared.limits.TheConstants.{MAX_AMOUNT, WIDE_SOLUTION}
 use Rattle.crn_vec.proofs.Held.{held, sum_within}
-use Rattle.crn_vec.proofs.Entries.{dot_step}
+use Rattle.crn_vec.proofs.Entries.{dot_step, next_sum}
 use Rattle.crn_vec.proofs.RowLists.{within_at}
 use Rattle.crn_vec.proofs.ZeroPlaces.{skipped}
 use Rattle.crn_vec.proofs.skips.dot_past.Goals as goal
@@ -19,9 +19,6 @@ times-sum-requires-clause-x c = within_at WIDE_SOLUTION c.places.k c.args.a.now 
 
 pub times-sum-requires-clause-y : goal.times-sum-requires-clause-y
 times-sum-requires-clause-y c = within_at MAX_AMOUNT c.places.k c.args.b.now c.requires.b
-
-next_sum : {s p d e : ℤ} → s ≡ d → p ≡ e → d +ℤ e ≡ s +ℤ p
-next_sum f g = ap₂ (λ (x y : ℤ). x +ℤ y) (sym f) (sym g)
 
 pub places-preserved : goal.places-preserved
 places-preserved c =
