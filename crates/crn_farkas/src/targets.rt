@@ -12,7 +12,7 @@ use crate::goal::{Part, part_of};
 use crate::level::Order;
 use crate::sum::add;
 use crn_tab::Tableau;
-use crn_vec::{Ints, Kind, NoMemory, is_asked};
+use crn_vec::{Ints, Kind, NoMemory, is_asked, set_length};
 use std::alloc::Global;
 
 // Makes the sum not 0 at one more coordinate that has to be positive or negative, or finds multipliers.
@@ -148,21 +148,6 @@ fn place_all(order: &mut [usize], level: &mut [usize], kinds: &[Kind])
     }
 }
 
-// Makes a list with room for this many numbers as long. What it holds is of no use.
-fn fill_places(order: &mut Vec<usize>, count: usize)
-    requires { count ≤ vec_capacity order.old }
-    ensures count { length order.new.items ≡ count }
-    ensures room { vec_capacity order.new ≡ vec_capacity order.old }
-{
-    if order.len() == count {
-        return;
-    }
-    order.clear();
-    for c in 0..count {
-        order.push_reserved(c);
-    }
-}
-
 // The order of settling of coordinates of these kinds, with their levels, into lists that have room for them.
 pub(crate) fn put_order(order: &mut Vec<usize>, level: &mut [usize], kinds: &[Kind])
     requires room { length kinds.now ≤ vec_capacity order.old }
@@ -170,7 +155,7 @@ pub(crate) fn put_order(order: &mut Vec<usize>, level: &mut [usize], kinds: &[Ki
     ensures order { IsOrder (length kinds.now) order.new.items level.new }
     ensures room { vec_capacity order.new ≡ vec_capacity order.old }
 {
-    fill_places(order, kinds.len());
+    set_length(order, kinds.len(), 0);
     place_all(order, level, kinds);
 }
 

@@ -9,7 +9,7 @@ use crate::change::changed_rows;
 use crate::fill::{fill_rows, part};
 use crate::lead::{Lead, make_lead, put_lead, put_places};
 use crate::low::{all_low, are_low};
-use crn_vec::Matrix;
+use crn_vec::{Matrix, set_length};
 
 // Row i becomes that of the spare rows, if it has the leaving coordinate.
 fn bring_row(rows: &mut [i64], spare: &[i64], i: usize, w: usize, c: usize)
@@ -100,22 +100,6 @@ fn spare_rows(
     least
 }
 
-// Makes a list with room for this many numbers as long. What it holds is of no use.
-fn fill_spare(spare: &mut Vec<i64>, count: usize)
-    requires few { count ≤ 2 ^ 20 }
-    requires room { count ≤ vec_capacity spare.old }
-    ensures count { length spare.new.items ≡ count }
-    ensures room { vec_capacity spare.new ≡ vec_capacity spare.old }
-{
-    if spare.len() == count {
-        return;
-    }
-    spare.clear();
-    for i in 0..count {
-        spare.push_reserved(i as i64);
-    }
-}
-
 // The same by spare rows, and whether all entries then are low.
 fn long_rows(
     rows: &mut [i64],
@@ -148,7 +132,7 @@ fn long_rows(
     ensures room { vec_capacity places.new ≡ vec_capacity places.old }
     ensures spare_room { vec_capacity spare.new ≡ vec_capacity spare.old }
 {
-    fill_spare(spare, rows.len());
+    set_length(spare, rows.len(), 0);
     let least = spare_rows(rows, spare, m, r, c, order, lead, places, work);
     *low = all_low(rows);
     least

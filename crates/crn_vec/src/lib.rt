@@ -5,6 +5,7 @@ mod fault;
 mod ints;
 mod kinds;
 mod laws;
+mod lengths;
 mod limits;
 mod matrix;
 mod nums;
@@ -29,6 +30,7 @@ pub use laws::{
     terminal_classes_are_by_reactions, visits_are_in_preorder, visits_are_one_list,
     visits_are_reached, weak_reversibility_is_by_reactions, weights_decide_cuts,
 };
+pub use lengths::set_length;
 pub use limits::{
     DEFAULT_BUDGET, MAX_AMOUNT, MAX_BUDGET, MAX_BUDGET_DIGITS, MAX_COMPLEXES, MAX_COORDINATES,
     MAX_NAME, MAX_REACTIONS, MAX_SIGNED, MAX_SPECIES, MAX_TERMS, MAX_TEXT, WIDE_ENTRY,
