@@ -16,6 +16,7 @@ use crate::influence::Influence;
 use crate::problem::TableProblem;
 use crate::settled::settled_by_each;
 use crn_cert::{Answer, Gap, Proof, Verdict};
+use crn_farkas::Solver;
 use crn_net::Network;
 use crn_sign::{SearchEnd, SearchOutcome, SearchStop, coordinates, search, search_outcome};
 use crn_vec::{Matrix, NoMemory, Nums};
@@ -142,9 +143,11 @@ pub(crate) fn answer_by<'a>(
     net: &Network,
     matrix: &'a Matrix,
     table: &'a Influence,
+    solver: Solver,
     budget: u32,
 ) -> Result<Searched, NoMemory>
     requires matrix { matrix.now ≡ reaction_system net.now }
+    requires solver { solver.matrix ≡ matrix.now }
     requires low { 1 ≤ budget }
     requires high { budget ≤ MAX_BUDGET }
     requires table { (table.now ≡ plain_table net.now) ⊎ (table.now ≡ strong_table net.now) }
@@ -167,7 +170,7 @@ pub(crate) fn answer_by<'a>(
         columns,
         coordinates,
     };
-    match search(alloc, &problem, budget) {
+    match search(alloc, &problem, solver, budget) {
         Ok(end) => Ok(Searched {
             answer: end_answer(end, budget),
             shared: None,
@@ -182,9 +185,11 @@ pub(crate) fn verdict_by<'a>(
     net: &Network,
     matrix: &'a Matrix,
     table: &'a Influence,
+    solver: Solver,
     budget: u32,
 ) -> Result<SearchedVerdict, NoMemory>
     requires matrix { matrix.now ≡ reaction_system net.now }
+    requires solver { solver.matrix ≡ matrix.now }
     requires low { 1 ≤ budget }
     requires high { budget ≤ MAX_BUDGET }
     requires table { (table.now ≡ plain_table net.now) ⊎ (table.now ≡ strong_table net.now) }
@@ -206,7 +211,7 @@ pub(crate) fn verdict_by<'a>(
         columns,
         coordinates,
     };
-    match search_outcome(alloc, &problem, budget) {
+    match search_outcome(alloc, &problem, solver, budget) {
         Ok(outcome) => Ok(SearchedVerdict {
             verdict: outcome_verdict(outcome, budget),
             shared: None,

@@ -13,6 +13,7 @@ ghost use Rattle.crn_conc.specs.Inner.Answers.{IsNamed};
 use crate::answer::{WideName, answer_by, end_answer, outcome_verdict, verdict_by, wide_answer};
 use crate::influence::{concordance_table, strong_table};
 use crn_cert::{Answer, Verdict};
+use crn_farkas::Solver;
 use crn_net::Network;
 use crn_sign::{SearchEnd, SearchOutcome};
 use crn_vec::{Matrix, NoMemory};
@@ -74,7 +75,8 @@ fn strong_answer(
         return Ok(wide_answer(name.index, name.basis));
     }
     let table = strong_table(alloc, net)?;
-    let searched = answer_by(alloc, net, matrix, &table, budget)?;
+    let solver = Solver::new(alloc, matrix)?;
+    let searched = answer_by(alloc, net, matrix, &table, solver, budget)?;
     Ok(searched.answer)
 }
 
@@ -100,12 +102,13 @@ fn strong_verdict(
         return Ok(answer.verdict);
     }
     let strong = strong_table(alloc, net)?;
-    let searched = verdict_by(alloc, net, matrix, &strong, budget)?;
+    let solver = Solver::new(alloc, matrix)?;
+    let searched = verdict_by(alloc, net, matrix, &strong, solver, budget)?;
     Ok(searched.verdict)
 }
 
 /// Question 14, whether a network is concordant, and question 15, whether it is strongly concordant. The
-/// matrix is that of system 2.
+/// matrix is that of system 2, and the solver its, which question 7 may have led to a basis. Question 15 begins with one of its own.
 ///
 /// A no has a discordance of the plain or the strong table, and a yes a tree that shows that there is none. If the visits
 /// exceed the budget, the question is open.
@@ -113,9 +116,11 @@ pub fn decide_concordance(
     alloc: Global,
     net: &Network,
     matrix: &Matrix,
+    solver: Solver,
     budget: u32,
 ) -> Result<ConcordanceAnswers, NoMemory>
     requires matrix { matrix.now ≡ reaction_system net.now }
+    requires solver { solver.matrix ≡ matrix.now }
     requires low { 1 ≤ budget }
     requires high { budget ≤ MAX_BUDGET }
     ensures plain { IfOk result
@@ -137,7 +142,7 @@ pub fn decide_concordance(
         return Ok(ConcordanceAnswers { plain, strong });
     }
     let table = concordance_table(alloc, net)?;
-    let searched = answer_by(alloc, net, matrix, &table, budget)?;
+    let searched = answer_by(alloc, net, matrix, &table, solver, budget)?;
     let strong = strong_answer(alloc, net, matrix, budget, searched.shared)?;
     Ok(ConcordanceAnswers {
         plain: searched.answer,
@@ -150,9 +155,11 @@ pub fn concordance_verdicts(
     alloc: Global,
     net: &Network,
     matrix: &Matrix,
+    solver: Solver,
     budget: u32,
 ) -> Result<ConcordanceVerdicts, NoMemory>
     requires matrix { matrix.now ≡ reaction_system net.now }
+    requires solver { solver.matrix ≡ matrix.now }
     requires low { 1 ≤ budget }
     requires high { budget ≤ MAX_BUDGET }
     ensures plain { IfOk result (λ made. HasAnswer net.now budget Q14 made.plain) }
@@ -170,7 +177,7 @@ pub fn concordance_verdicts(
         return Ok(ConcordanceVerdicts { plain, strong });
     }
     let table = concordance_table(alloc, net)?;
-    let searched = verdict_by(alloc, net, matrix, &table, budget)?;
+    let searched = verdict_by(alloc, net, matrix, &table, solver, budget)?;
     let strong = strong_verdict(alloc, net, matrix, budget, searched.shared)?;
     Ok(ConcordanceVerdicts {
         plain: searched.verdict,

@@ -14,7 +14,7 @@ use crate::decision::Decision;
 use crate::fault::Stop;
 use crate::feasibility::Feasibility;
 use crate::feasible::feasibility;
-use crate::targets::by_targets;
+use crate::targets::{by_targets, by_view};
 use crn_tab::Tableau;
 use crn_vec::{Ints, Kind, Matrix, NoMemory, Nums, Sign};
 use std::alloc::Global;
@@ -46,7 +46,7 @@ impl Model for Solver {
         s.level.items s.sum.items s.work.items s.marks.items };
 }
 
-// Decides a system by a vector that the basis names, if one rules it out, or else by its targets.
+// Decides a system by a vector that the basis names, if one rules it out, or else by what a basis shows or by its targets.
 fn answer(
     alloc: Global,
     tableau: &mut Tableau,
@@ -71,7 +71,34 @@ fn answer(
 {
     match kept_cut(tableau, kinds) {
         Some(cut) => Ok(Decision::Infeasible(multipliers(alloc, tableau, kinds, work, &cut)?)),
-        None => by_targets(alloc, tableau, viewed, kinds, order, level, sum, work),
+        None => by_view(alloc, tableau, viewed, kinds, order, level, sum, work),
+    }
+}
+
+// Decides a system by a vector that the basis names, if one rules it out, or else by its targets.
+fn settled_answer(
+    alloc: Global,
+    tableau: &mut Tableau,
+    kinds: &[Kind],
+    order: &mut Vec<usize>,
+    level: &mut [usize],
+    sum: &mut [i128],
+    work: &mut [i128],
+) -> Result<Decision, Stop>
+    requires lists { CanDecide tableau.old.matrix kinds.now (vec_capacity order.old)
+        level.old sum.old work.old }
+    ensures matrix { tableau.new.matrix ≡ tableau.old.matrix }
+    ensures room { vec_capacity order.new ≡ vec_capacity order.old }
+    ensures answer { MatchResult result (λ d. IsDecision tableau.new.matrix kinds.now d)
+        (λ s. IsTargetStop tableau.new.matrix kinds.now s) }
+    ensures kept { HasKeptCut tableau.old.matrix tableau.old.basis kinds.now → IsRuledOut result
+        × (tableau.new ≡ tableau.old) }
+    ensures named { IfOk result (λ d. IsNamedDecision tableau.new.matrix tableau.new.basis d) }
+    ensures near { IfErr result (λ s. IsNearStop tableau.new.basis s) }
+{
+    match kept_cut(tableau, kinds) {
+        Some(cut) => Ok(Decision::Infeasible(multipliers(alloc, tableau, kinds, work, &cut)?)),
+        None => by_targets(alloc, tableau, kinds, order, level, sum, work),
     }
 }
 
@@ -134,6 +161,36 @@ impl Solver {
             alloc,
             &mut self.tableau,
             viewed,
+            kinds,
+            &mut self.order,
+            &mut self.level,
+            &mut self.sum,
+            &mut self.work,
+        );
+        self.tableau.names_rows();
+        result
+    }
+
+    /// Decides as `decide` does, but looks for no answer in plain view: if no vector of this basis rules the system out,
+    /// coordinate after coordinate is settled. That is the shorter way if the rows can't enter the basis.
+    pub fn settle(&mut self, kinds: &[Kind]) -> Result<Decision, Stop>
+        requires kinds { length kinds.now ≡ width self.old.matrix }
+        requires few { signed_count kinds.now ≤ MAX_SIGNED }
+        ensures matrix { self.new.matrix ≡ self.old.matrix }
+        ensures basis { NamesRows self.new.matrix self.new.basis }
+        ensures answer { MatchResult result (λ d. IsDecision self.old.matrix kinds.now d)
+            (λ s. IsTargetStop self.old.matrix kinds.now s) }
+        ensures kept { HasKeptCut self.old.matrix self.old.basis kinds.now → IsRuledOut result
+            × (self.new.basis ≡ self.old.basis) }
+        ensures from_columns { ((k : ℕ) → IsIn k self.old.basis ↔ (k < self.old.matrix.cols))
+            → HasOneRowCut self.old.matrix kinds.now → IsRuledOut result }
+        ensures named { IfOk result (λ d. IsNamedDecision self.new.matrix self.new.basis d) }
+        ensures near { IfErr result (λ s. IsNearStop self.new.basis s) }
+    {
+        let alloc = *self.order.allocator();
+        let result = settled_answer(
+            alloc,
+            &mut self.tableau,
             kinds,
             &mut self.order,
             &mut self.level,

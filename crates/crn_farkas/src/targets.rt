@@ -176,8 +176,39 @@ pub(crate) fn columns_of(alloc: Global, tableau: &Tableau, sum: &[i128]) -> Resu
     Ok(columns)
 }
 
-// Decides a system by what a basis shows, that of `viewed` or else the kept one, or by its targets, one after another, from the basis where the last question left the tableau.
+// Decides a system by its targets, one after another, from the basis where the last question left the tableau.
 pub(crate) fn by_targets(
+    alloc: Global,
+    tableau: &mut Tableau,
+    kinds: &[Kind],
+    order: &mut Vec<usize>,
+    level: &mut [usize],
+    sum: &mut [i128],
+    work: &mut [i128],
+) -> Result<Decision, Stop>
+    requires lists { CanDecide tableau.old.matrix kinds.now (vec_capacity order.old)
+        level.old sum.old work.old }
+    ensures matrix { tableau.new.matrix ≡ tableau.old.matrix }
+    ensures room { vec_capacity order.new ≡ vec_capacity order.old }
+    ensures answer { MatchResult result (λ d. IsDecision tableau.new.matrix kinds.now d)
+        (λ s. IsTargetStop tableau.new.matrix kinds.now s) }
+    ensures named { IfOk result (λ d. IsNamedDecision tableau.new.matrix tableau.new.basis d) }
+    ensures near { IfErr result (λ s. IsNearStop tableau.new.basis s) }
+{
+    put_order(order, level, kinds);
+    put_zeros(sum);
+    let settling = Order {
+        places: order,
+        levels: level,
+    };
+    match targets(alloc, tableau, kinds, &settling, sum, work)? {
+        Some(cut) => Ok(Decision::Infeasible(cut)),
+        None => Ok(Decision::Feasible(columns_of(alloc, tableau, sum)?)),
+    }
+}
+
+// Decides a system by what a basis shows, that of `viewed` or else the kept one, or else by its targets.
+pub(crate) fn by_view(
     alloc: Global,
     tableau: &mut Tableau,
     viewed: Option<Tableau>,
@@ -200,14 +231,5 @@ pub(crate) fn by_targets(
     if let Some(decision) = in_view(alloc, tableau, viewed, kinds, sum, work)? {
         return Ok(decision);
     }
-    put_order(order, level, kinds);
-    put_zeros(sum);
-    let settling = Order {
-        places: order,
-        levels: level,
-    };
-    match targets(alloc, tableau, kinds, &settling, sum, work)? {
-        Some(cut) => Ok(Decision::Infeasible(cut)),
-        None => Ok(Decision::Feasible(columns_of(alloc, tableau, sum)?)),
-    }
+    by_targets(alloc, tableau, kinds, order, level, sum, work)
 }

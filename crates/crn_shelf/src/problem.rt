@@ -9,6 +9,7 @@ ghost use Rattle.crn_sign.specs.Search.{IsSearchEnd, IsSearchStop};
 use crate::kinds::asked_of_kind;
 use crate::system::shelf_matrix;
 use crn_conc::{asked_of_row, reaction_matrix};
+use crn_farkas::Solver;
 use crn_net::Network;
 use crn_shape::Shape;
 use crn_sign::{Asked, Bits, FREE, SearchEnd, SearchStop, SignProblem, coordinates, search};
@@ -92,6 +93,7 @@ pub(crate) fn search_over(
 {
     let system = shelf_matrix(alloc, shape)?;
     let matrix = reaction_matrix(alloc, net)?;
+    let solver = Solver::new(alloc, &matrix)?;
     let coordinates_a = coordinates(alloc, &system)?;
     let coordinates_b = coordinates(alloc, &matrix)?;
     let problem = ShelfProblem {
@@ -101,5 +103,5 @@ pub(crate) fn search_over(
         coordinates_a,
         coordinates_b,
     };
-    search(alloc, &problem, budget)
+    search(alloc, &problem, solver, budget)
 }

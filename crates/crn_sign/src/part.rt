@@ -61,13 +61,14 @@ fn sign_of_kind(kind: Kind) -> Sign {
 }
 
 impl Finder {
-    fn new(alloc: Global, matrix: &Matrix) -> Result<Finder, NoMemory>
+    fn new(alloc: Global, matrix: &Matrix, solver: Solver) -> Result<Finder, NoMemory>
+        requires { solver.matrix ≡ matrix.now }
         ensures { IfOk result (λ made. IsFinder matrix.now made) }
     {
         let count = matrix.cols() + matrix.rows();
         let words = word_count(matrix);
         Ok(Finder {
-            solver: Solver::new(alloc, matrix)?,
+            solver,
             pool: Pool::new(alloc, matrix)?,
             signs: vec![in alloc; Sign::Zero; count]?,
             ray: vec![in alloc; NONE; words]?,
@@ -586,11 +587,17 @@ fn without(bits: Bits, places: u64) -> Bits {
 
 impl Part {
     /// A part with nothing found before, for prefixes of at most this many choices.
-    pub fn new(alloc: Global, matrix: &Matrix, choices: usize) -> Result<Part, NoMemory>
+    pub fn new(
+        alloc: Global,
+        matrix: &Matrix,
+        solver: Solver,
+        choices: usize,
+    ) -> Result<Part, NoMemory>
+        requires { solver.matrix ≡ matrix.now }
         ensures { IfOk result (λ made. IsPart matrix.now made) }
     {
         Ok(Part {
-            finder: Finder::new(alloc, matrix)?,
+            finder: Finder::new(alloc, matrix, solver)?,
             past: empty_cuts(alloc, matrix, choices)?,
             columns: Vec::new(alloc),
             has_decided: false,

@@ -22,7 +22,7 @@ use crate::place::{Place, begin_a, begin_b, enter_a, enter_b};
 use crate::problem::SignProblem;
 use crate::signs::Signs;
 use crn_cert::Tree;
-use crn_farkas::Stop;
+use crn_farkas::{Solver, Stop};
 use crn_vec::{Ints, NoMemory, Sign, is_all_zero};
 use std::alloc::Global;
 use std::rc::Rc;
@@ -497,8 +497,10 @@ pub(crate) fn walk<P: SignProblem>(
 pub(crate) fn start<P: SignProblem>(
     alloc: Global,
     problem: &P,
+    solver_b: Solver,
     budget: u32,
 ) -> Result<Progress, SearchStop>
+    requires { solver_b.matrix ≡ (P.signed problem.now).matrix_b }
     ensures ready { IfOk result (λ made. IsReady (P.signed problem.now) made) }
     ensures prefix { IfOk result (λ made. made.prefix.items ≡ []) }
     ensures left { IfOk result (λ made. made.left ≡ budget) }
@@ -508,9 +510,10 @@ pub(crate) fn start<P: SignProblem>(
     let choices = problem.length();
     let matrix_a = problem.matrix_a();
     let matrix_b = problem.matrix_b();
+    let solver_a = Solver::new(alloc, matrix_a)?;
     Ok(Progress {
-        a: Part::new(alloc, matrix_a, choices)?,
-        b: Part::new(alloc, matrix_b, choices)?,
+        a: Part::new(alloc, matrix_a, solver_a, choices)?,
+        b: Part::new(alloc, matrix_b, solver_b, choices)?,
         prefix: Vec::with_capacity(alloc, choices)?,
         bits: NONE,
         left: budget,
@@ -582,14 +585,16 @@ fn outcome_at(end: Ending) -> SearchOutcome
 fn visit_all<P: SignProblem>(
     alloc: Global,
     problem: &P,
+    solver_b: Solver,
     budget: u32,
     keeps: bool,
 ) -> Result<Ending, SearchStop>
+    requires { solver_b.matrix ≡ (P.signed problem.now).matrix_b }
     ensures { MatchResult result
         (λ e. (after : ℕ) × EndsAt keeps (P.signed problem.now) [] budget after e)
         (λ s. IsSearchStop (P.signed problem.now) s) }
 {
-    let mut search = start(alloc, problem, budget)?;
+    let mut search = start(alloc, problem, solver_b, budget)?;
     let above = first_level(alloc, problem)?;
     let mut first = first_level(alloc, problem)?;
     let mut levels = rooms(alloc, problem)?;
@@ -609,18 +614,21 @@ fn visit_all<P: SignProblem>(
 ///
 /// Its answer is the first full feasible prefix of the visit list, or a tree with one node for each
 /// visit, in their order, or `Spent`. It keeps one solver for each part, and before it uses them it
-/// tries what they gave at other prefixes: multipliers, and vectors that add up to solutions.
+/// tries what they gave at other prefixes: multipliers, and vectors that add up to solutions. Part B's
+/// solver is handed in: other questions on its matrix may have led it to a basis from which less is left to do.
 pub fn search<P: SignProblem>(
     alloc: Global,
     problem: &P,
+    solver_b: Solver,
     budget: u32,
 ) -> Result<SearchEnd, SearchStop>
+    requires solver { solver_b.matrix ≡ (P.signed problem.now).matrix_b }
     requires low { 1 ≤ budget }
     requires high { budget ≤ MAX_BUDGET }
     ensures { MatchResult result (λ e. IsSearchEnd (P.signed problem.now) budget e)
         (λ s. IsSearchStop (P.signed problem.now) s) }
 {
-    let end = visit_all(alloc, problem, budget, true)?;
+    let end = visit_all(alloc, problem, solver_b, budget, true)?;
     Ok(end_of(end))
 }
 
@@ -628,13 +636,15 @@ pub fn search<P: SignProblem>(
 pub fn search_outcome<P: SignProblem>(
     alloc: Global,
     problem: &P,
+    solver_b: Solver,
     budget: u32,
 ) -> Result<SearchOutcome, SearchStop>
+    requires solver { solver_b.matrix ≡ (P.signed problem.now).matrix_b }
     requires low { 1 ≤ budget }
     requires high { budget ≤ MAX_BUDGET }
     ensures { MatchResult result (λ o. IsOutcome (P.signed problem.now) budget o)
         (λ s. IsSearchStop (P.signed problem.now) s) }
 {
-    let end = visit_all(alloc, problem, budget, false)?;
+    let end = visit_all(alloc, problem, solver_b, budget, false)?;
     Ok(outcome_at(end))
 }

@@ -20,6 +20,7 @@ use crate::concordance::{concordance_verdicts, decide_concordance};
 use crate::confluence_answer::confluence_answer;
 use crate::deficiency_answer::deficiency_answer;
 use crate::linkage_answer::linkage_answer;
+use crate::parts::is_open;
 use crate::positive::{conservative, positively_dependent};
 use crate::rank_answer::rank_answer;
 use crate::reversible::{reversible, weakly_reversible};
@@ -30,6 +31,7 @@ use crate::zero_answer::zero_answer;
 use crn_cert::{Answer, Answers, Verdict, Verdicts};
 use crn_conc::reaction_matrix;
 use crn_defi::one_hypotheses;
+use crn_farkas::Solver;
 use crn_graph::{linkage, strong};
 use crn_net::Network;
 use crn_reg::regular;
@@ -44,11 +46,13 @@ struct OnSpecies {
     conservation: Answer,
 }
 
-// The answers to the questions before the two on concordance, and the matrix of system 2.
+// The answers to the questions before the two on concordance, and the matrix of system 2 with the solver by which
+// question 7 was decided.
 #[derive(Drop)]
 struct First {
     answers: Answers,
     matrix: Matrix,
+    solver: Solver,
 }
 
 // The answers to questions 5 and 8, which share the matrix of system 1. It is let go before that of
@@ -62,7 +66,12 @@ fn on_species(alloc: Global, net: &Network) -> Result<OnSpecies, NoMemory>
     let matrix = species_matrix(alloc, net)?;
     let mut tableau = Tableau::new(alloc, &matrix)?;
     let rank = rank_answer(alloc, net, &mut tableau)?;
-    let conservation = conservative(alloc, net, &matrix, tableau)?;
+    let viewed = if is_open(&rank.verdict) {
+        None
+    } else {
+        Some(tableau)
+    };
+    let conservation = conservative(alloc, net, &matrix, viewed)?;
     Ok(OnSpecies { rank, conservation })
 }
 
@@ -72,6 +81,7 @@ fn first_answers(alloc: Global, net: &Network, budget: u32) -> Result<First, NoM
     requires most { budget ≤ MAX_BUDGET }
     ensures answers { IfOk result (λ made. AreFirstAnswers net.now budget made.answers) }
     ensures matrix { IfOk result (λ made. made.matrix ≡ reaction_system net.now) }
+    ensures solver { IfOk result (λ made. made.solver.matrix ≡ made.matrix) }
 {
     net.meets_definition();
     let linkage = linkage(alloc, net)?;
@@ -83,7 +93,9 @@ fn first_answers(alloc: Global, net: &Network, budget: u32) -> Result<First, NoM
     let conservation = on_species.conservation;
     let deficiency = deficiency_answer(alloc, net, &linkage, &rank.verdict)?;
     let matrix = reaction_matrix(alloc, net)?;
-    let dependence = positively_dependent(alloc, net, &matrix)?;
+    let decided = positively_dependent(alloc, net, &matrix, &rank.verdict)?;
+    let dependence = decided.answer;
+    let solver = decided.solver;
     let zero = zero_answer(net, &linkage, &weakly_reversible.verdict, &rank.verdict);
     let one = one_hypotheses(net, &linkage, &strong, &deficiency.verdict);
     let regular = regular(alloc, net, &linkage, &strong, &dependence.verdict)?;
@@ -118,7 +130,11 @@ fn first_answers(alloc: Global, net: &Network, budget: u32) -> Result<First, NoM
     answers.push(regular);
     answers.push(confluence);
     answers.push(signal);
-    Ok(First { answers, matrix })
+    Ok(First {
+        answers,
+        matrix,
+        solver,
+    })
 }
 
 /// The answers to the questions that are built, in order. The budget is the most prefixes that a search may visit.
@@ -147,7 +163,7 @@ pub fn solve(alloc: Global, net: &Network, budget: u32) -> Result<Answers, NoMem
     let first = first_answers(alloc, net, budget)?;
     let mut answers = first.answers;
     let matrix = first.matrix;
-    let on_tables = decide_concordance(alloc, net, &matrix, budget)?;
+    let on_tables = decide_concordance(alloc, net, &matrix, first.solver, budget)?;
     answers.push(on_tables.plain);
     answers.push(on_tables.strong);
     Ok(answers)
@@ -186,7 +202,7 @@ pub fn solve_verdicts(alloc: Global, net: &Network, budget: u32) -> Result<Verdi
     let first = first_answers(alloc, net, budget)?;
     let mut verdicts = first.answers.into_verdicts()?;
     let matrix = first.matrix;
-    let on_tables = concordance_verdicts(alloc, net, &matrix, budget)?;
+    let on_tables = concordance_verdicts(alloc, net, &matrix, first.solver, budget)?;
     push_verdict(&mut verdicts, on_tables.plain);
     push_verdict(&mut verdicts, on_tables.strong);
     Ok(verdicts)

@@ -8,18 +8,22 @@ ghost use Rattle.crn_cert.specs.TreeSizes.{HasFewNodes};
 ghost use Rattle.crn_conc.specs.Answers.{HasAnswer};
 
 use crn_conc::{ConcordanceAnswers, ConcordanceVerdicts};
+use crn_farkas::Solver;
 use crn_net::Network;
 use crn_vec::{Matrix, NoMemory};
 use std::alloc::Global;
 
-/// Questions 14 and 15: for each a discordance, or a tree that shows that there is none. The matrix is that of system 2.
+/// Questions 14 and 15: for each a discordance, or a tree that shows that there is none. The matrix is that of system 2, and the
+/// solver the one by which question 7 is answered.
 pub(crate) fn decide_concordance(
     alloc: Global,
     net: &Network,
     matrix: &Matrix,
+    solver: Solver,
     budget: u32,
 ) -> Result<ConcordanceAnswers, NoMemory>
     requires matrix { matrix.now ≡ reaction_system net.now }
+    requires solver { solver.matrix ≡ matrix.now }
     requires some { 1 ≤ budget }
     requires most { budget ≤ MAX_BUDGET }
     ensures plain { IfOk result (λ made. (earlier : Earlier) →
@@ -33,7 +37,7 @@ pub(crate) fn decide_concordance(
     ensures strong_spent { IfOk result (λ made. (earlier : Earlier) →
         IsLicensedBudget net.now earlier Q15 budget → IsOpen made.strong.verdict) }
 {
-    crn_conc::decide_concordance(alloc, net, matrix, budget)
+    crn_conc::decide_concordance(alloc, net, matrix, solver, budget)
 }
 
 /// The verdicts on questions 14 and 15, by searches that keep no trees.
@@ -41,9 +45,11 @@ pub(crate) fn concordance_verdicts(
     alloc: Global,
     net: &Network,
     matrix: &Matrix,
+    solver: Solver,
     budget: u32,
 ) -> Result<ConcordanceVerdicts, NoMemory>
     requires matrix { matrix.now ≡ reaction_system net.now }
+    requires solver { solver.matrix ≡ matrix.now }
     requires some { 1 ≤ budget }
     requires most { budget ≤ MAX_BUDGET }
     ensures plain { IfOk result (λ made. HasAnswer net.now budget Q14 made.plain) }
@@ -53,5 +59,5 @@ pub(crate) fn concordance_verdicts(
     ensures strong_spent { IfOk result (λ made. (earlier : Earlier) →
         IsLicensedBudget net.now earlier Q15 budget → IsOpen made.strong) }
 {
-    crn_conc::concordance_verdicts(alloc, net, matrix, budget)
+    crn_conc::concordance_verdicts(alloc, net, matrix, solver, budget)
 }

@@ -74,8 +74,8 @@ regular-requires-clause-strong_classes c =
 
 pub regular-requires-clause-q7 : goal.regular-requires-clause-q7
 regular-requires-clause-q7 c =
-    let a7 = c.in_ok-dependence.dependence in
-    true_or_open c.args.net.now c.args.budget [] Q7 a7.verdict (c.in_ok-dependence.ensures c.args.budget []).answered
+    let a7 = c.in_ok-decided.decided.answer in
+    true_or_open c.args.net.now c.args.budget [] Q7 a7.verdict (c.in_ok-decided.ensures.answer c.args.budget []).answered
 
 pub confluence_answer-requires-clause-classes : goal.confluence_answer-requires-clause-classes
 confluence_answer-requires-clause-classes c =
@@ -99,7 +99,7 @@ pub confluence_answer-requires-clause-regular : goal.confluence_answer-requires-
 confluence_answer-requires-clause-regular c =
     let l = c.in_ok-linkage.linkage in
     let s = c.in_ok-strong.strong in
-    let a7 = c.in_ok-dependence.dependence in
+    let a7 = c.in_ok-decided.decided.answer in
     let a11 = c.in_ok-regular.regular in
     let earlier : Earlier = (Q1, Classes l.count l.label) ∷ (Q2, Strong s.count s.terminal s.label s.exit) ∷ (Q7, a7.verdict) ∷ [] in
     let gives : GiveClasses earlier l.label.list l.count s.label.list s.exit.list = record { labels_are = refl; count_is = refl; strong_are = refl; exits_are = refl; strong_count = sym c.in_ok-strong.ensures.exit_numbers.long } in
@@ -127,7 +127,7 @@ signal_answer-requires-clause-sides c =
     let le = c.in_ok-linkage.ensures in
     let e = c.in_ok-strong.ensures in
     let a4 = c.weakly_reversible-weakly_reversible.result in
-    let a7 = c.in_ok-dependence.dependence in
+    let a7 = c.in_ok-decided.decided.answer in
     let a11 = c.in_ok-regular.regular in
     let a12 = c.in_ok-confluence.confluence in
     let right = strong_right net s n e.count e.terminal_number e.labels e.numbered e.from_forest e.from_trees e.to_forest e.to_trees e.levels e.falls e.exit_numbers e.exits e.terminal in
@@ -161,7 +161,7 @@ returns-clause-answers c =
     let a4 = c.weakly_reversible-weakly_reversible.result in
     let a5 = c.in_ok-on_species.on_species.rank in
     let a6 = c.in_ok-deficiency.deficiency in
-    let a7 = c.in_ok-dependence.dependence in
+    let a7 = c.in_ok-decided.decided.answer in
     let a8 = c.in_ok-on_species.on_species.conservation in
     let a9 = c.zero_answer-zero.result in
     let a10 = c.one_hypotheses-one.result in
@@ -204,7 +204,7 @@ returns-clause-answers c =
     let d4 = c.weakly_reversible-weakly_reversible.ensures after3 (c.strong_answer.ensures.labels ∙ sym c.as_slice.ensures) d2.true_of in
     let d5 = c.in_ok-on_species.ensures.rank budget after4 in
     let d6 = c.in_ok-deficiency.ensures budget after5 c.linkage_answer.ensures.labels c.linkage_answer.ensures.count refl in
-    let d7 = c.in_ok-dependence.ensures budget after6 in
+    let d7 = c.in_ok-decided.ensures.answer budget after6 in
     let d8 = c.in_ok-on_species.ensures.conservation budget after7 in
     let d9 = c.zero_answer-zero.ensures budget after8 c.linkage_answer.ensures.labels c.linkage_answer.ensures.count refl refl in
     let exits_long = s.exit_numbers.long in

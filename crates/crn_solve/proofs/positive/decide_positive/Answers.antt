@@ -1,5 +1,12 @@
-use Rattle.std.proofs.Common.{◌≡◌, ap, ◌∙◌, arith}
+use Rattle.std.proofs.Common.{◌≡◌, ◌<◌, ℕ, ◌↔◌, ap, sym, subst, ◌∙◌, arith}
+use Rattle.std.specs.Result.{MatchResult}
+use Rattle.crn_vec.specs.Lists.{IsIn}
+use Rattle.crn_vec.specs.Vectors.{Mat}
 use Rattle.crn_vec.specs.Systems.{signed_count}
+use Rattle.crn_farkas.specs.declared.decision.Decision.{Decision}
+use Rattle.crn_farkas.specs.declared.fault.Stop.{Stop}
+use Rattle.crn_farkas.specs.Decision.{IsDecision, IsStop}
+use Rattle.crn_farkas.proofs.CallerLemmas.{decision_from}
 use Rattle.crn_solve.proofs.PositiveKinds.{kinds_signed}
 use Rattle.crn_solve.proofs.positive.decide_positive.Goals as goal
 

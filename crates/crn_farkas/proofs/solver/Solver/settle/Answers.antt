@@ -1,0 +1,14 @@
+use Rattle.std.proofs.Common.{◌<◌, ◌↔◌, ℕ, subst}
+use Rattle.crn_vec.specs.Lists.{IsIn}
+use Rattle.crn_vec.specs.Systems.{HasOneRowCut}
+use Rattle.crn_tab.specs.Tableau.{KeptTableau}
+use Rattle.crn_farkas.specs.Solver.{IsRuledOut}
+use Rattle.crn_farkas.proofs.Finals.{one_row_kept}
+use Rattle.crn_farkas.proofs.solver.Solver.settle.Goals as goal
+
+pub returns-clause-from_columns : goal.returns-clause-from_columns
+returns-clause-from_columns c =
+    let t = c.self.inside.tableau in
+    let kinds = c.args.kinds.now in
+    let P : KeptTableau → Type 0 = λ v. ((k : ℕ) → IsIn k v.basis ↔ (k < v.matrix.cols)) → HasOneRowCut v.matrix kinds → IsRuledOut c.settled_answer-result.result in
+    subst P c.self.view_is (λ columns one. (c.settled_answer-result.ensures.kept (one_row_kept t.matrix t.basis kinds columns one)).0)
