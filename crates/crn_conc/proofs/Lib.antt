@@ -1,6 +1,7 @@
 pub mod CallerLemmas
-mod ColumnBits
+mod LastSigns
 mod SettledLaws
+mod SumLaws
 mod Signs
 mod Starts
 mod Ended

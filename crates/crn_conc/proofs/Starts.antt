@@ -15,7 +15,7 @@ use Rattle.crn_vec.specs.Problems.{IsFeasible, all_zero, options_below}
 use Rattle.crn_vec.specs.Concordance.{IsTable, column_kind, concordance, is_minus, is_plus, kind_of_sum, kinds_a_of, kinds_b_of, products, row_kinds, some_sign}
 use Rattle.crn_vec.specs.Visits.{Passes, PassesBudget, begun, past, below}
 use Rattle.crn_vec.proofs.CallerLemmas.{all_append, dot-comm, entry-zeros, length-zeros, zeros, zeros-dot}
-use Rattle.crn_conc.proofs.ColumnBits.{product_zero}
+use Rattle.crn_conc.proofs.LastSigns.{product_zero}
 
 -- 0 is of the kind
 abbrev IsQuiet : Kind → Type 0

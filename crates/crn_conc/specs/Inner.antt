@@ -1,4 +1,4 @@
 -- For the contracts of private functions alone.
 pub mod Answers
 pub mod Rows
-pub mod Settled
+pub mod Columns

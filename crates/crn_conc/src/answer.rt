@@ -12,9 +12,9 @@ ghost use Rattle.crn_sign.specs.declared.end.SearchEnd.{SearchEnd as GivenEnd};
 ghost use Rattle.crn_conc.specs.Answers.{HasAnswer};
 ghost use Rattle.crn_conc.specs.Inner.Answers.{IsNameOf, IsNamed, IsStopAnswer, end_answer, wide_answer};
 
+use crate::chosen::columns_by_choice;
 use crate::influence::Influence;
 use crate::problem::TableProblem;
-use crate::settled::settled_by_each;
 use crn_cert::{Answer, Gap, Proof, Verdict};
 use crn_farkas::Solver;
 use crn_net::Network;
@@ -162,7 +162,7 @@ pub(crate) fn answer_by<'a>(
     ensures shared { IfOk result (λ made. IsNamed net.now made.shared) }
 {
     let _ = net.species();
-    let columns = settled_by_each(alloc, table, net.species())?;
+    let columns = columns_by_choice(alloc, matrix, table)?;
     let coordinates = coordinates(alloc, matrix)?;
     let problem = TableProblem {
         matrix,
@@ -203,7 +203,7 @@ pub(crate) fn verdict_by<'a>(
     ensures shared { IfOk result (λ made. IsNamed net.now made.shared) }
 {
     let _ = net.species();
-    let columns = settled_by_each(alloc, table, net.species())?;
+    let columns = columns_by_choice(alloc, matrix, table)?;
     let coordinates = coordinates(alloc, matrix)?;
     let problem = TableProblem {
         matrix,

@@ -2,35 +2,31 @@ ghost use Rattle.std.specs.Prelude.{◌≡◌, ◌≢◌, ◌<◌, ◌-ℤ◌, �
 ghost use Rattle.crn_vec.specs.Concordance.{sign};
 ghost use Rattle.crn_vec.specs.Network.{minus};
 ghost use Rattle.crn_vec.specs.Influence.{plain_table, strong_table};
-ghost use Rattle.crn_sign.specs.Options.{AreBitsOf};
 ghost use Rattle.crn_conc.specs.Inner.Rows.{IsLast};
 
 use crn_net::Network;
-use crn_sign::{Bits, bits_of_signs};
 use crn_vec::{NoMemory, Sign, sign_of};
 use std::alloc::Global;
 use std::marker::Model;
 
-// The signs of the species for one reaction, the same by bits, and how many species there are up to the
-// last one with a sign.
+// The signs of the species for one reaction, and how many species there are up to the last one with a
+// sign.
 #[derive(Drop)]
 struct SignRow {
     signs: Vec<Sign>,
-    bits: Bits,
     last: usize,
 }
 
 impl Model for SignRow {
     ghost use Rattle.std.specs.Prelude.{List};
     ghost use Rattle.crn_vec.specs.declared.signs.Sign.{Sign};
-    ghost use Rattle.crn_sign.specs.Options.{AreBitsOf};
     ghost use Rattle.crn_conc.specs.Inner.Rows.{IsLast};
 
     ghost Value = { List Sign };
 
     ghost view = { λ s. s.signs.items };
 
-    ghost invariant = { λ s. AreBitsOf s.bits s.signs.items × IsLast s.signs.items s.last };
+    ghost invariant = { λ s. IsLast s.signs.items s.last };
 }
 
 // The next place if the sign before it is not zero, else the last one.
@@ -60,16 +56,8 @@ impl SignRow {
     fn new(signs: Vec<Sign>) -> SignRow
         ensures { result ≡ signs.items }
     {
-        let bits = bits_of_signs(&signs);
         let last = last_sign(&signs);
-        SignRow { signs, bits, last }
-    }
-
-    // The bits of the signs.
-    fn bits(&self) -> Bits
-        ensures { AreBitsOf result self.now }
-    {
-        self.bits
+        SignRow { signs, last }
     }
 
     // How many signs there are up to the last one that is not zero.
@@ -109,14 +97,6 @@ impl Influence {
         ensures { result.now ≡ slice_index_or self.now reaction [] }
     {
         &self.rows[reaction].signs
-    }
-
-    /// The bits of the signs of the species for a reaction.
-    pub(crate) fn bits(&self, reaction: usize) -> Bits
-        requires { reaction < length self.now }
-        ensures { AreBitsOf result (slice_index_or self.now reaction []) }
-    {
-        self.rows[reaction].bits()
     }
 
     /// How many species there are up to the last one with a sign for a reaction.

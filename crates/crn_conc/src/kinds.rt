@@ -1,72 +1,71 @@
-ghost use Rattle.std.specs.Prelude.{◌≡◌, ◌<◌, ◌≤◌, ℕ, List, length};
-ghost use Rattle.crn_vec.specs.Concordance.{column_kind, is_minus, is_plus, kind_of_sum, products, row_kinds, some_sign};
+ghost use Rattle.std.specs.Prelude.{◌≡◌, ◌<◌, ℕ, length};
+ghost use Rattle.crn_vec.specs.Concordance.{row_kinds};
 ghost use Rattle.crn_vec.specs.Systems.{kind_at};
-ghost use Rattle.crn_sign.specs.Options.{AreBitsOf, asked_kind};
-ghost use Rattle.crn_conc.specs.Inner.Rows.{AreTested, IsLast};
+ghost use Rattle.crn_sign.specs.Options.{asked_kind, none, word_at};
+ghost use Rattle.crn_conc.specs.Inner.Columns.{AreMade, IsAskedOf, IsExtended};
 
-use crn_sign::{Asked, Bits, FREE, asked_of_sign};
+use crn_sign::{Asked, Bits, FREE, NONE, asked_of_sign};
 use crn_vec::Sign;
 
-// The places of 64 at which the product of a sign and its option is plus.
-fn plus_products(signs: Bits, options: Bits) -> u64
-    ensures { (s p : List Sign) → AreBitsOf signs s → AreBitsOf options p
-        → AreTested is_plus result s p }
+// Which of 64 sums have a positive member and which have a negative one, with one option more, that of
+// a species with these signs.
+fn extended(above: Bits, signs: Bits, option: Sign) -> Bits
+    ensures { IsExtended above signs option result }
 {
-    (signs.plus & options.plus) | (signs.minus & options.minus)
-}
-
-// The places of 64 at which the product of a sign and its option is minus.
-fn minus_products(signs: Bits, options: Bits) -> u64
-    ensures { (s p : List Sign) → AreBitsOf signs s → AreBitsOf options p
-        → AreTested is_minus result s p }
-{
-    (signs.plus & options.minus) | (signs.minus & options.plus)
-}
-
-// Whether some product of a sign and its option is plus.
-fn some_plus(signs: Bits, options: Bits) -> bool
-    ensures { (s p : List Sign) → AreBitsOf signs s → AreBitsOf options p → length s ≤ 64
-        → some_sign is_plus (products s p) ≡ result }
-{
-    let places = plus_products(signs, options);
-    if places == 0 {
-        return false;
-    }
-    true
-}
-
-// Whether some product of a sign and its option is minus.
-fn some_minus(signs: Bits, options: Bits) -> bool
-    ensures { (s p : List Sign) → AreBitsOf signs s → AreBitsOf options p → length s ≤ 64
-        → some_sign is_minus (products s p) ≡ result }
-{
-    let places = minus_products(signs, options);
-    if places == 0 {
-        return false;
-    }
-    true
-}
-
-// What is asked of a sum with or without positive members, and with or without negative ones.
-fn asked_of_sum(plus: bool, minus: bool) -> Asked
-    ensures { asked_kind result ≡ kind_of_sum plus minus }
-{
-    Asked {
-        plus: !minus,
-        minus: !plus,
+    match option {
+        Sign::Zero => above,
+        Sign::Plus => Bits {
+            plus: above.plus | signs.plus,
+            minus: above.minus | signs.minus,
+        },
+        Sign::Minus => Bits {
+            plus: above.plus | signs.minus,
+            minus: above.minus | signs.plus,
+        },
     }
 }
 
-/// What is asked of a reaction's column in part A: nothing until the last species with a sign there is
-/// chosen.
-pub(crate) fn asked_of_column(signs: Bits, last: usize, options: Bits, chosen: usize) -> Asked
-    ensures { (s p : List Sign) → AreBitsOf signs s → IsLast s last → AreBitsOf options p
-        → length s ≤ 64 → length p ≡ chosen → column_kind s p ≡ asked_kind result }
+// What is asked of 64 coordinates: of those that are settled, the sign of the sum.
+fn asked_of_sums(settled: Bits, sums: Bits) -> Bits
+    ensures { IsAskedOf settled sums result }
 {
-    if chosen < last {
-        return FREE;
+    Bits {
+        plus: (settled.plus | sums.minus) ^ sums.minus,
+        minus: (settled.minus | sums.plus) ^ sums.plus,
     }
-    asked_of_sum(some_plus(signs, options), some_minus(signs, options))
+}
+
+/// Puts the sums of no option.
+pub(crate) fn put_no_sums(sums: &mut [Bits])
+    ensures { AreMade (λ w x. x ≡ none) sums.old sums.new }
+{
+    for w in 0..sums.len() {
+        sums[w] = NONE;
+    }
+}
+
+/// Puts the sums with one option more, that of a species with these signs.
+pub(crate) fn put_extended(above: &[Bits], signs: &[Bits], option: Sign, sums: &mut [Bits])
+    requires above { length above.now ≡ length sums.old }
+    requires signs { length signs.now ≡ length sums.old }
+    ensures { AreMade (λ w x. IsExtended (word_at above.now w) (word_at signs.now w) option x)
+        sums.old sums.new }
+{
+    for w in 0..sums.len() {
+        sums[w] = extended(above[w], signs[w], option);
+    }
+}
+
+/// Puts what is asked of the coordinates that are settled.
+pub(crate) fn put_asked_of_sums(settled: &[Bits], sums: &[Bits], asked: &mut [Bits])
+    requires settled { length settled.now ≡ length asked.old }
+    requires sums { length sums.now ≡ length asked.old }
+    ensures { AreMade (λ w x. IsAskedOf (word_at settled.now w) (word_at sums.now w) x)
+        asked.old asked.new }
+{
+    for w in 0..asked.len() {
+        asked[w] = asked_of_sums(settled[w], sums[w]);
+    }
 }
 
 /// What is asked of a species' row in part B: its option, and nothing if it is not chosen yet.

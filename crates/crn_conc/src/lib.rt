@@ -2,11 +2,11 @@
 #![tactic(auto)]
 
 mod answer;
+mod chosen;
 mod concordance_answer;
 mod influence;
 mod kinds;
 mod problem;
-mod settled;
 mod system;
 
 pub use concordance_answer::{

@@ -1,16 +1,16 @@
 ghost use Rattle.std.specs.Prelude.{◌≡◌, ◌≤◌, length};
 ghost use Rattle.crn_vec.specs.declared.limits.TheConstants.{MAX_REACTIONS, MAX_SPECIES};
 ghost use Rattle.std.specs.List.{range_with_len};
-ghost use Rattle.crn_vec.specs.Concordance.{kinds_a_of, kinds_b_of};
+ghost use Rattle.crn_vec.specs.Concordance.{kinds_b_of};
 ghost use Rattle.crn_sign.specs.Settled.{SettlesOnly};
 ghost use Rattle.crn_vec.specs.Elementary.{width};
 ghost use Rattle.crn_conc.specs.Inner.Rows.{AreWide};
-ghost use Rattle.crn_conc.specs.Inner.Settled.{AreSettled};
+ghost use Rattle.crn_conc.specs.Inner.Columns.{AreChosen};
 
+use crate::chosen::Chosen;
 use crate::influence::Influence;
-use crate::kinds::{asked_of_column, asked_of_row};
-use crate::settled::Settled;
-use crn_sign::{Asked, Bits, FREE, SignProblem, asked_of_sign};
+use crate::kinds::{asked_of_row, put_asked_of_sums, put_extended, put_no_sums};
+use crn_sign::{Asked, Bits, FREE, SignProblem};
 use crn_vec::{Matrix, Sign, is_all_zero};
 use std::slice::from_ref;
 
@@ -19,9 +19,9 @@ use std::slice::from_ref;
 pub(crate) struct TableProblem<'a> {
     pub matrix: &'a Matrix,
     pub table: &'a Influence,
-    pub columns: Vec<Settled>,
+    pub columns: Vec<Chosen>,
     pub coordinates: Vec<usize>,
-    ghost columns_settled: { AreSettled table.now columns.items },
+    ghost columns_are: { AreChosen matrix.now table.now columns.items },
     ghost coordinates_are: { coordinates.items ≡ range_with_len 0 (width matrix.now) },
     ghost reactions: { length table.now ≡ matrix.now.cols },
     ghost species: { AreWide (length matrix.now.rows) table.now },
@@ -32,9 +32,7 @@ pub(crate) struct TableProblem<'a> {
 impl TableProblem<'_> {
     // All coordinates.
     fn all(&self, _choices: usize) -> &[usize]
-        ensures a { SettlesOnly (kinds_a_of self.now.matrix.now self.now.table.now)
-            (width self.now.matrix.now) _choices result.now }
-        ensures b { SettlesOnly (kinds_b_of self.now.matrix.now)
+        ensures { SettlesOnly (kinds_b_of self.now.matrix.now)
             (width self.now.matrix.now) _choices result.now }
     {
         &self.coordinates
@@ -54,8 +52,11 @@ impl TableProblem<'_> {
 
 impl SignProblem for TableProblem<'_> {
     ghost use Rattle.crn_vec.specs.Concordance.{concordance};
+    ghost use Rattle.crn_conc.specs.Inner.Columns.{AreSums};
 
     ghost signed = { λ p. concordance p.matrix.now p.table.now };
+
+    ghost are_sums = { λ p q words. AreSums p.matrix.now p.table.now q words };
 
     fn length(&self) -> usize {
         let _ = self.matrix.cols();
@@ -70,32 +71,25 @@ impl SignProblem for TableProblem<'_> {
         self.matrix
     }
 
-    fn asked_a(&self, prefix: &[Sign], bits: Bits, k: usize) -> Asked {
-        if k < self.matrix.cols() {
-            asked_of_column(self.table.bits(k), self.table.last(k), bits, prefix.len())
-        } else {
-            asked_of_sign(Sign::Zero)
-        }
+    fn begin_a(&self, sums: &mut [Bits], asked: &mut [Bits]) {
+        put_no_sums(sums);
+        put_asked_of_sums(&self.columns[0].settled, sums, asked);
     }
 
-    fn asked_b(&self, prefix: &[Sign], _bits: Bits, k: usize) -> Asked {
+    fn settle_a(&self, prefix: &[Sign], above: &[Bits], sums: &mut [Bits], asked: &mut [Bits]) {
+        let choices = prefix.len();
+        let chosen = &self.columns[choices];
+        put_extended(above, &chosen.signs, prefix[choices - 1], sums);
+        put_asked_of_sums(&chosen.settled, sums, asked);
+    }
+
+    fn asked_b(&self, prefix: &[Sign], k: usize) -> Asked {
         let cols = self.matrix.cols();
         if k < cols {
             FREE
         } else {
             asked_of_row(prefix, k - cols)
         }
-    }
-
-    fn settled_a(&self, choices: usize) -> &[usize] {
-        if choices >= self.columns.len() {
-            return self.all(choices);
-        }
-        let settled = &self.columns[choices];
-        if settled.choices != choices {
-            return self.all(choices);
-        }
-        &settled.reactions
     }
 
     fn settled_b(&self, choices: usize) -> &[usize] {

@@ -1,5 +1,5 @@
 ghost use Rattle.std.specs.Prelude.{◌≡◌, ◌↔◌, IsTrue, IfOk};
-ghost use Rattle.crn_text.specs.declared.fault.TextCode.TheVariants.{NoMemory};
+ghost use Rattle.crn_text.specs.declared.fault.TextCode.TheVariants.{NoMemory as OutOfMemory};
 ghost use Rattle.crn_document.specs.Inner.Network.{IsCanonicalText};
 
 use crn_io::NoMemory;
@@ -9,7 +9,7 @@ use std::alloc::Global;
 
 // Whether memory ran out while a text was read, which is no fault of the text.
 fn is_out_of_memory(code: TextCode) -> bool
-    ensures { IsTrue result ↔ (code ≡ NoMemory) }
+    ensures { IsTrue result ↔ (code ≡ OutOfMemory) }
 {
     matches!(code, TextCode::NoMemory)
 }

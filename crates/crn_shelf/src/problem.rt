@@ -3,7 +3,8 @@ ghost use Rattle.std.specs.List.{range_with_len};
 ghost use Rattle.crn_vec.specs.Elementary.{width};
 ghost use Rattle.crn_vec.specs.declared.limits.TheConstants.{MAX_BUDGET};
 ghost use Rattle.crn_vec.specs.NetSystems.{reaction_system};
-ghost use Rattle.crn_vec.specs.Signals.{shelf_matrix, signals};
+ghost use Rattle.crn_vec.specs.Signals.{shelf_kinds, shelf_matrix, signals};
+ghost use Rattle.crn_sign.specs.Options.{AskKinds, word_count};
 ghost use Rattle.crn_sign.specs.Search.{IsSearchEnd, IsSearchStop};
 
 use crate::kinds::asked_of_kind;
@@ -12,7 +13,9 @@ use crn_conc::{asked_of_row, reaction_matrix};
 use crn_farkas::Solver;
 use crn_net::Network;
 use crn_shape::Shape;
-use crn_sign::{Asked, Bits, FREE, SearchEnd, SearchStop, SignProblem, coordinates, search};
+use crn_sign::{
+    Asked, Bits, FREE, SearchEnd, SearchStop, SignProblem, coordinates, put_asked, search,
+};
 use crn_vec::{Matrix, Sign};
 use std::alloc::Global;
 
@@ -23,19 +26,31 @@ pub(crate) struct ShelfProblem<'a> {
     pub shape: &'a Shape<'a>,
     pub system: Matrix,
     pub matrix: Matrix,
-    pub coordinates_a: Vec<usize>,
     pub coordinates_b: Vec<usize>,
-    ghost coordinates_a_are: { coordinates_a.items
-        ≡ range_with_len 0 (width (shelf_matrix shape.now)) },
     ghost coordinates_b_are: { coordinates_b.items ≡ range_with_len 0 (width matrix) },
     ghost part_a: { system ≡ shelf_matrix shape.now },
     ghost species: { length matrix.rows ≡ shape.now.species },
+}
+
+impl ShelfProblem<'_> {
+    // Requires of all coordinates of part A what a prefix requires.
+    fn ask(&self, prefix: &[Sign], asked: &mut [Bits])
+        requires { length asked.old ≡ word_count self.now.system }
+        ensures { AskKinds self.now.system (shelf_kinds self.now.shape.now prefix.now) asked.new }
+    {
+        let count = self.system.cols() + self.system.rows();
+        for k in 0..count {
+            put_asked(asked, k, asked_of_kind(self.shape.kind(prefix, k)));
+        }
+    }
 }
 
 impl SignProblem for ShelfProblem<'_> {
     ghost use Rattle.crn_vec.specs.Signals.{signals};
 
     ghost signed = { λ p. signals p.shape.now p.matrix };
+
+    ghost are_sums = { λ p q words. Unit {0} };
 
     fn length(&self) -> usize {
         let _ = self.shape.complexes();
@@ -52,21 +67,21 @@ impl SignProblem for ShelfProblem<'_> {
         &self.matrix
     }
 
-    fn asked_a(&self, prefix: &[Sign], _bits: Bits, k: usize) -> Asked {
-        asked_of_kind(self.shape.kind(prefix, k))
+    fn begin_a(&self, _sums: &mut [Bits], asked: &mut [Bits]) {
+        self.ask(&[], asked);
     }
 
-    fn asked_b(&self, prefix: &[Sign], _bits: Bits, k: usize) -> Asked {
+    fn settle_a(&self, prefix: &[Sign], _above: &[Bits], _sums: &mut [Bits], asked: &mut [Bits]) {
+        self.ask(prefix, asked);
+    }
+
+    fn asked_b(&self, prefix: &[Sign], k: usize) -> Asked {
         let cols = self.matrix.cols();
         if k < cols {
             FREE
         } else {
             asked_of_row(self.shape.signs(prefix), k - cols)
         }
-    }
-
-    fn settled_a(&self, _choices: usize) -> &[usize] {
-        &self.coordinates_a
     }
 
     fn settled_b(&self, _choices: usize) -> &[usize] {
@@ -94,13 +109,11 @@ pub(crate) fn search_over(
     let system = shelf_matrix(alloc, shape)?;
     let matrix = reaction_matrix(alloc, net)?;
     let solver = Solver::new(alloc, &matrix)?;
-    let coordinates_a = coordinates(alloc, &system)?;
     let coordinates_b = coordinates(alloc, &matrix)?;
     let problem = ShelfProblem {
         shape,
         system,
         matrix,
-        coordinates_a,
         coordinates_b,
     };
     search(alloc, &problem, solver, budget)

@@ -1,14 +1,17 @@
 -- What holds of marks by words of 64 bits, coordinate by coordinate.
 use Rattle.std.proofs.Common.{◌≡◌, ◌≢◌, ℕ, zero, suc, ◌+◌, ◌*◌, ◌/◌, ◌%◌, ◌<◌, ◌≤◌, min, max, inl, inr, List, length, set, refl, sym, ap, subst, ◌∙◌, arith}
 use Rattle.std.specs.Prelude.{ℤ, pos, negsuc, ◌≤ℤ◌}
+use Rattle.std.specs.Int.{bit_at}
 use Rattle.std.proofs.lemmas.Int.{ints}
 use Rattle.std.proofs.lemmas.Nat.Bits.{bit_at-zero}
 use Rattle.std.proofs.lemmas.List.{length-set, get_or-set_same, get_or-set_other}
-use Rattle.crn_vec.specs.Systems.{MayWeigh}
+use Rattle.crn_vec.specs.Systems.{MayWeigh, one_if}
 use Rattle.crn_vec.proofs.CallerLemmas.{eq_or, below_two, weigh_zero}
 use Rattle.crn_sign.specs.declared.bits.Bits.{Bits}
+use Rattle.crn_sign.specs.declared.problem.Asked.{Asked}
 use Rattle.crn_sign.specs.declared.marks.Mark.{Mark}
 use Rattle.crn_sign.specs.declared.marks.Mark.TheVariants.{Zero, Plus, Minus, Any}
+use Rattle.crn_sign.specs.Options.{IsPut}
 use Rattle.crn_sign.specs.Inner.Bits.{IsMarked, mark_at, mark_in, mark_of, none, word_at}
 use Rattle.crn_sign.specs.Inner.Marks.{Meets, united, kind_of_mark, laid, negative}
 use Rattle.crn_sign.specs.Inner.Past.{Counts, Weighs}
@@ -100,6 +103,34 @@ marked old k x m lt here others =
             ∙ ap (λ (v : ℕ). mark_in (word_at old v) i) (sym e)
         | inr apart ↦ ap (λ (b : Bits). mark_in b (j % 64)) (get_or-set_other old w (j / 64) x none apart)
       ];
+    }
+
+-- one bit put leaves the others
+put_others : (f : Bits → ℕ) (old : List Bits) (k j : ℕ) (x : Bits) → k < length old * 64 → ((i : ℕ) → i < 64 → i ≢ k % 64 → bit_at (f x) i ≡ bit_at (f (word_at old (k / 64))) i)
+    → j ≢ k → bit_at (f (word_at (set old (k / 64) x) (j / 64))) (j % 64) ≡ bit_at (f (word_at old (j / 64))) (j % 64)
+put_others f old k j x lt others ne =
+    let w = k / 64 in
+    let inside : w < length old = omega (arith, lt) in
+    elim (eq_or (j / 64) w) as (λ _. bit_at (f (word_at (set old w x) (j / 64))) (j % 64) ≡ bit_at (f (word_at old (j / 64))) (j % 64)) [
+      | inl e ↦
+          let i = j % 64 in
+          ap (λ (v : ℕ). bit_at (f (word_at (set old w x) v)) i) e ∙ ap (λ (b : Bits). bit_at (f b) i) (get_or-set_same old w x none inside)
+          ∙ others i (omega arith) (λ d. ne (omega (arith, e, d)))
+          ∙ ap (λ (v : ℕ). bit_at (f (word_at old v)) i) (sym e)
+      | inr apart ↦ ap (λ (b : Bits). bit_at (f b) (j % 64)) (get_or-set_other old w (j / 64) x none apart)
+    ]
+
+-- the bits of coordinate k put
+pub bits_put : (old : List Bits) (k : ℕ) (x : Bits) (asked : Asked) → k < length old * 64 → bit_at x.plus (k % 64) ≡ one_if asked.plus → bit_at x.minus (k % 64) ≡ one_if asked.minus
+    → ((j : ℕ) → j < 64 → j ≢ k % 64 → (bit_at x.plus j ≡ bit_at (word_at old (k / 64)).plus j) × (bit_at x.minus j ≡ bit_at (word_at old (k / 64)).minus j)) → IsPut old k asked (set old (k / 64) x)
+bits_put old k x asked lt plus minus others =
+    let same = get_or-set_same old (k / 64) x none (omega (arith, lt)) in
+    record {
+      count = length-set old (k / 64) x;
+      plus = ap (λ (b : Bits). bit_at b.plus (k % 64)) same ∙ plus;
+      minus = ap (λ (b : Bits). bit_at b.minus (k % 64)) same ∙ minus;
+      other_plus = λ j ne. put_others (λ b. b.plus) old k j x lt (λ i i_lt apart. (others i i_lt apart).0) ne;
+      other_minus = λ j ne. put_others (λ b. b.minus) old k j x lt (λ i i_lt apart. (others i i_lt apart).1) ne;
     }
 
 pub none_in : (i : ℕ) → mark_in none i ≡ Zero

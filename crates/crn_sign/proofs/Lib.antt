@@ -1,6 +1,6 @@
+pub mod CallerLemmas
 mod BitLaws
 mod MarkLaws
-mod OptionLaws
 mod PastLaws
 mod PlaceLaws
 mod Walks

@@ -1,5 +1,5 @@
 -- What a part knows at a prefix, while kinds are asked and after.
-use Rattle.std.proofs.Common.{◌≡◌, ℕ, ◌+◌, ◌-◌, ◌<◌, ◌≤◌, inl, inr, List, [], ◌∷◌, ◌++◌, length, get_or, take, drop, drop-cons, Bool, true, false, refl, sym, ap, ap₂, subst, ◌∙◌, add-one, arith}
+use Rattle.std.proofs.Common.{◌≡◌, ◌≢◌, ℕ, zero, suc, ◌+◌, ◌-◌, ◌<◌, ◌≤◌, inl, inr, List, [], ◌∷◌, ◌++◌, length, get_or, take, drop, drop-cons, Bool, true, false, refl, sym, ap, ap₂, subst, ◌∙◌, add-one, arith}
 use Rattle.std.proofs.lemmas.List.{length-append, ext_get_or, drop_all, take-append-le, take_all}
 use Rattle.crn_vec.specs.declared.signs.Sign.{Sign}
 use Rattle.crn_vec.specs.declared.signs.Kind.{Kind}
@@ -13,12 +13,12 @@ use Rattle.crn_sign.specs.declared.bits.Bits.{Bits}
 use Rattle.crn_sign.specs.declared.place.Place.{Place}
 use Rattle.crn_sign.specs.declared.walk.Level.{Level}
 use Rattle.crn_sign.specs.declared.problem.Asked.{Asked}
-use Rattle.crn_sign.specs.Options.{asked_kind, kind_by}
+use Rattle.crn_sign.specs.Options.{AskKinds, IsPut, asked_kind, kind_by, kind_in, kind_of_bits, minus_at, plus_at, word_count}
 use Rattle.crn_sign.specs.Settled.{SettlesOnly}
-use Rattle.crn_sign.specs.Inner.Bits.{mark_at, mark_of, word_count}
+use Rattle.crn_sign.specs.Inner.Bits.{mark_of}
 use Rattle.crn_sign.specs.Inner.Marks.{AreRowMarks, kind_of_mark, kinds_of}
 use Rattle.crn_sign.specs.Inner.Places.{HasRoom, IsAround, IsAsked, IsHere, IsPlace, IsSettledAt, IsSettling}
-use Rattle.crn_sign.specs.Inner.Ready.{AreAround, AreAsked, AreMarked, HasRooms, IsLevel}
+use Rattle.crn_sign.specs.Inner.Ready.{AreAround, AreAsked, AreMarked, IsLevel}
 use Rattle.crn_sign.proofs.MarkLaws.{kind_asked, kinds_long}
 
 pub room_of : (a : Mat) (l : Place) → IsPlace a l → HasRoom a l
@@ -27,20 +27,32 @@ room_of a l h = record { width_is = h.width_is; asked = h.asked; marks = h.marks
 pub settling_room : (a : Mat) (kinds : List Kind) (settled : List ℕ) (l : Place) → IsSettling a kinds settled l → HasRoom a l
 settling_room a kinds settled l h = h.room
 
-mark_by : (p m : Bool) → kind_of_mark (mark_of (one_if p) (one_if m)) ≡ kind_by p m
-mark_by false false = refl
-mark_by false true = refl
-mark_by true false = refl
-mark_by true true = refl
+kind_by_bits : (p m : ℕ) → kind_of_mark (mark_of p m) ≡ kind_of_bits p m
+kind_by_bits zero zero = refl
+kind_by_bits zero (suc m) = refl
+kind_by_bits (suc p) zero = refl
+kind_by_bits (suc p) (suc m) = refl
 
--- the mark that asks
-pub asked_mark : (asked : Asked) → kind_of_mark (mark_of (one_if asked.plus) (one_if asked.minus)) ≡ asked_kind asked
-asked_mark asked = mark_by asked.plus asked.minus
+-- the kind that words ask
+kind_there : (a : Mat) (asked : List Bits) (k : ℕ) → k < width a → kind_at (kinds_of a asked) k ≡ kind_in asked k
+kind_there a asked k lt = kind_asked a asked k lt ∙ kind_by_bits (plus_at asked k) (minus_at asked k)
+
+bits_by : (p m : Bool) → kind_of_bits (one_if p) (one_if m) ≡ kind_by p m
+bits_by false false = refl
+bits_by false true = refl
+bits_by true false = refl
+bits_by true true = refl
+
+pub put_here : (old : List Bits) (k : ℕ) (asked : Asked) (new : List Bits) → IsPut old k asked new → kind_in new k ≡ asked_kind asked
+put_here old k asked new h = ap₂ (λ (p m : ℕ). kind_of_bits p m) h.plus h.minus ∙ bits_by asked.plus asked.minus
+
+pub put_other : (old : List Bits) (k : ℕ) (asked : Asked) (new : List Bits) → IsPut old k asked new → (j : ℕ) → j ≢ k → kind_in new j ≡ kind_in old j
+put_other old k asked new h j ne = ap₂ (λ (p m : ℕ). kind_of_bits p m) (h.other_plus j ne) (h.other_minus j ne)
 
 -- the kinds that are asked are these, coordinate by coordinate
-pub kinds_are : (a : Mat) (kinds : List Kind) (asked : List Bits) → length kinds ≡ width a → ((k : ℕ) → k < width a → kind_of_mark (mark_at asked k) ≡ kind_at kinds k) → kinds_of a asked ≡ kinds
+pub kinds_are : (a : Mat) (kinds : List Kind) (asked : List Bits) → length kinds ≡ width a → ((k : ℕ) → k < width a → kind_in asked k ≡ kind_at kinds k) → kinds_of a asked ≡ kinds
 kinds_are a kinds asked long same = ext_get_or Free (kinds_of a asked) kinds (kinds_long a asked ∙ sym long)
-    (λ k lt. let at : k < width a = omega (arith, lt, kinds_long a asked) in kind_asked a asked k at ∙ same k at)
+    (λ k lt. let at : k < width a = omega (arith, lt, kinds_long a asked) in kind_there a asked k at ∙ same k at)
 
 settled_room : (a : Mat) (kinds : List Kind) (k : ℕ) (old new : Place) → IsSettledAt a kinds k old new → HasRoom a old → HasRoom a new
 settled_room a kinds k old new s h = record { width_is = s.width_is ∙ h.width_is; asked = s.count ∙ h.asked; marks = ap (λ (l : List Bits). length l) s.marks ∙ h.marks }
@@ -49,9 +61,9 @@ settled_room a kinds k old new s h = record { width_is = s.width_is ∙ h.width_
 pub one_settled : (a : Mat) (kinds : List Kind) (k : ℕ) (rest : List ℕ) (old new : Place) → IsSettledAt a kinds k old new → IsSettling a kinds (k ∷ rest) old → IsSettling a kinds rest new
 one_settled a kinds k rest old new s h = record {
   room = settled_room a kinds k old new s h.room;
-  same = λ j lt out. elim (eq_or j k) as (λ _. kind_of_mark (mark_at new.asked.items j) ≡ kind_at kinds j) [
-    | inl e ↦ subst (λ (i : ℕ). kind_of_mark (mark_at new.asked.items i) ≡ kind_at kinds i) (sym e) (s.here (subst (λ (i : ℕ). i < width a) e lt))
-    | inr ne ↦ ap kind_of_mark (s.others j ne) ∙ h.same j lt (λ i. elim i [ inl e ↦ ne e | inr i ↦ out i ])
+  same = λ j lt out. elim (eq_or j k) as (λ _. kind_in new.asked.items j ≡ kind_at kinds j) [
+    | inl e ↦ subst (λ (i : ℕ). kind_in new.asked.items i ≡ kind_at kinds i) (sym e) (s.here (subst (λ (i : ℕ). i < width a) e lt))
+    | inr ne ↦ s.others j ne ∙ h.same j lt (λ i. elim i [ inl e ↦ ne e | inr i ↦ out i ])
   ];
 }
 
@@ -60,7 +72,7 @@ pub record IsBegun (a : Mat) (kinds : List Kind) (k : ℕ) (l : Place) : Type 0 
   pub width_is : l.width ≡ width a
   pub asked : length l.asked.items ≡ word_count a
   pub marks : AreRowMarks a l.marks.items
-  pub done : (j : ℕ) → j < k → kind_of_mark (mark_at l.asked.items j) ≡ kind_at kinds j
+  pub done : (j : ℕ) → j < k → kind_in l.asked.items j ≡ kind_at kinds j
 
 pub begun_room : (a : Mat) (kinds : List Kind) (k : ℕ) (l : Place) → IsBegun a kinds k l → HasRoom a l
 begun_room a kinds k l h = record { width_is = h.width_is; asked = h.asked; marks = h.marks.long }
@@ -70,9 +82,9 @@ begun_step a kinds k old new lt s h = record {
   width_is = s.width_is ∙ h.width_is;
   asked = s.count ∙ h.asked;
   marks = subst (AreRowMarks a) (sym s.marks) h.marks;
-  done = λ j j_lt. elim (eq_or j k) as (λ _. kind_of_mark (mark_at new.asked.items j) ≡ kind_at kinds j) [
-    | inl e ↦ subst (λ (i : ℕ). kind_of_mark (mark_at new.asked.items i) ≡ kind_at kinds i) (sym e) (s.here lt)
-    | inr ne ↦ ap kind_of_mark (s.others j ne) ∙ h.done j (omega (arith, j_lt, ne))
+  done = λ j j_lt. elim (eq_or j k) as (λ _. kind_in new.asked.items j ≡ kind_at kinds j) [
+    | inl e ↦ subst (λ (i : ℕ). kind_in new.asked.items i ≡ kind_at kinds i) (sym e) (s.here lt)
+    | inr ne ↦ s.others j ne ∙ h.done j (omega (arith, j_lt, ne))
   ];
 }
 
@@ -80,14 +92,14 @@ begun_step a kinds k old new lt s h = record {
 pub around_above : (a : Mat) (kinds : List Sign → List Kind) (p : List Sign) (above here : Place) → kinds_of a above.asked.items ≡ kinds p → HasRoom a here → here.asked.items ≡ above.asked.items → IsAround a kinds p here
 around_above a kinds p above here are room same = record {
   room = room;
-  same = λ k lt law. ap (λ (l : List Bits). kind_of_mark (mark_at l k)) same ∙ sym (kind_asked a above.asked.items k lt) ∙ ap (λ (ks : List Kind). kind_at ks k) are;
+  same = λ k lt law. ap (λ (l : List Bits). kind_in l k) same ∙ sym (kind_there a above.asked.items k lt) ∙ ap (λ (ks : List Kind). kind_at ks k) are;
 }
 
 -- what is asked at a prefix is right around the one with one choice less
 pub around_below : (a : Mat) (kinds : List Sign → List Kind) (p q : List Sign) (s : Sign) (l : Place) → q ≡ p ++ s ∷ [] → IsAsked a (kinds q) l → IsAround a kinds p l
 around_below a kinds p q s l e h = record {
   room = h.room;
-  same = λ k lt law. sym (kind_asked a l.asked.items k lt) ∙ ap (λ (ks : List Kind). kind_at ks k) h.kinds_are ∙ ap (λ (r : List Sign). kind_at (kinds r) k) e ∙ law s;
+  same = λ k lt law. sym (kind_there a l.asked.items k lt) ∙ ap (λ (ks : List Kind). kind_at ks k) h.kinds_are ∙ ap (λ (r : List Sign). kind_at (kinds r) k) e ∙ law s;
 }
 
 -- what is asked around a prefix is that of one with one choice more, but for what the choice settles
@@ -126,11 +138,16 @@ taken_level w p old new a b ea eb h = record {
   b = record { place = b; kinds_are = ap (λ (q : List Bits). kinds_of w.matrix_b q) eb ∙ h.b.kinds_are };
 }
 
-pub asked_room : (w : Signed) (p : List Sign) (l : Level) → AreAsked w p l → HasRooms w l
-asked_room w p l h = record { a = h.a.room; b = h.b.room }
+-- a list after all of it was written
+pub written : (n : ℕ) (new old : List Bits) → length new ≡ n → take n (new ++ drop (length new) old) ≡ new
+written n new old e = take-append-le n new (drop (length new) old) (omega (arith, e)) ∙ take_all n new (omega (arith, e))
 
-pub asked_around : (w : Signed) (p q : List Sign) (s : Sign) (l : Level) → q ≡ p ++ s ∷ [] → AreAsked w q l → AreAround w p l
-asked_around w p q s l e h = record { a = around_below w.matrix_a w.kinds_a p q s l.a e h.a; b = around_below w.matrix_b w.kinds_b p q s l.b e h.b }
+-- the kinds that a problem asked
+pub asked_kinds : (a : Mat) (kinds : List Kind) (asked : List Bits) → length kinds ≡ width a → AskKinds a kinds asked → kinds_of a asked ≡ kinds
+asked_kinds a kinds asked long h = kinds_are a kinds asked long h.each
+
+pub asked_around : (w : Signed) (p q : List Sign) (s : Sign) (l : Level) → q ≡ p ++ s ∷ [] → length l.sums.items ≡ word_count w.matrix_a → AreAsked w q l → AreAround w p l
+asked_around w p q s l e count h = record { a = h.a.room; b = around_below w.matrix_b w.kinds_b p q s l.b e h.b; sums = count }
 
 pub level_at : (w : Signed) (p q : List Sign) (l : Level) → q ≡ p → IsHere w.matrix_a (w.kinds_a q) l.a → IsHere w.matrix_b (w.kinds_b p) l.b → IsLevel w p l
 level_at w p q l e a b = record { a = subst (λ (r : List Sign). IsHere w.matrix_a (w.kinds_a r) l.a) e a; b = b }

@@ -1,25 +1,21 @@
--- Signs by bits, and the kinds that are asked of coordinates.
+-- Words by bits, and the kinds that are asked of coordinates.
 -- Source: this project's own.
--- Shapes: bit k of a word stands for member k of a list, counted from 0; only the first 64 have one.
-use Rattle.std.specs.Prelude.{◌≡◌, ◌<◌, ℕ, Bool, true, false, List, slice_index_or}
+-- Shapes: coordinate k is bit k % 64 of word k / 64, counted from 0.
+use Rattle.std.specs.Prelude.{◌≡◌, ◌≢◌, ◌<◌, ◌+◌, ◌/◌, ◌%◌, ℕ, zero, suc, Bool, true, false, List, length, slice_index_or}
 use Rattle.std.specs.Int.{bit_at}
 use Rattle.crn_vec.specs.declared.signs.Sign.{Sign}
 use Rattle.crn_vec.specs.declared.signs.Sign.TheVariants.{Zero}
 use Rattle.crn_vec.specs.declared.signs.Kind.{Kind}
 use Rattle.crn_vec.specs.declared.signs.Kind.TheVariants.{Pos, Neg, Zero as ZeroKind, Free}
-use Rattle.crn_vec.specs.Systems.{one_if}
-use Rattle.crn_vec.specs.Concordance.{is_minus, is_plus}
+use Rattle.crn_vec.specs.Systems.{kind_at, one_if}
+use Rattle.crn_vec.specs.Vectors.{Mat}
+use Rattle.crn_vec.specs.Elementary.{width}
 use Rattle.crn_sign.specs.declared.bits.Bits.{Bits}
 use Rattle.crn_sign.specs.declared.problem.Asked.{Asked}
 
 -- sign k of a list, zero past its end
 abbrev pub sign_at : List Sign → ℕ → Sign
 sign_at signs k = slice_index_or signs k Zero
-
--- the bits say which of the first 64 signs are plus, and which are minus
-pub record AreBitsOf (bits : Bits) (signs : List Sign) : Type 0 where
-  pub plus : (k : ℕ) → k < 64 → bit_at bits.plus k ≡ one_if (is_plus (sign_at signs k))
-  pub minus : (k : ℕ) → k < 64 → bit_at bits.minus k ≡ one_if (is_minus (sign_at signs k))
 
 -- the kind that is asked of a coordinate: a positive or a negative number, 0, or any
 abbrev pub kind_by : Bool → Bool → Kind
@@ -31,3 +27,47 @@ kind_by true true = ZeroKind
 -- the kind that is asked
 abbrev pub asked_kind : Asked → Kind
 asked_kind asked = kind_by asked.plus asked.minus
+
+-- 64 coordinates of which nothing is asked
+abbrev pub none : Bits
+none = record { plus = 0; minus = 0 }
+
+-- a word of a list
+abbrev pub word_at : List Bits → ℕ → Bits
+word_at words w = slice_index_or words w none
+
+-- how many words the coordinates of a vector (x, Ax) take
+abbrev pub word_count : Mat → ℕ
+word_count a = width a / 64 + 1
+
+-- the bit for plus of a coordinate
+abbrev pub plus_at : List Bits → ℕ → ℕ
+plus_at words k = bit_at (word_at words (k / 64)).plus (k % 64)
+
+-- the bit for minus of a coordinate
+abbrev pub minus_at : List Bits → ℕ → ℕ
+minus_at words k = bit_at (word_at words (k / 64)).minus (k % 64)
+
+-- the kind that a bit for plus and one for minus ask
+abbrev pub kind_of_bits : ℕ → ℕ → Kind
+kind_of_bits zero zero = Free
+kind_of_bits (suc p) zero = Pos
+kind_of_bits zero (suc m) = Neg
+kind_of_bits (suc p) (suc m) = ZeroKind
+
+-- the kind that words ask of a coordinate
+abbrev pub kind_in : List Bits → ℕ → Kind
+kind_in asked k = kind_of_bits (plus_at asked k) (minus_at asked k)
+
+-- the words ask these kinds of the coordinates of a matrix
+pub record AskKinds (a : Mat) (kinds : List Kind) (asked : List Bits) : Type 0 where
+  pub count : length asked ≡ word_count a
+  pub each : (k : ℕ) → k < width a → kind_in asked k ≡ kind_at kinds k
+
+-- the bits of coordinate k are these, and the others are as before
+pub record IsPut (old : List Bits) (k : ℕ) (asked : Asked) (new : List Bits) : Type 0 where
+  pub count : length new ≡ length old
+  pub plus : plus_at new k ≡ one_if asked.plus
+  pub minus : minus_at new k ≡ one_if asked.minus
+  pub other_plus : (j : ℕ) → j ≢ k → plus_at new j ≡ plus_at old j
+  pub other_minus : (j : ℕ) → j ≢ k → minus_at new j ≡ minus_at old j

@@ -1,12 +1,12 @@
-ghost use Rattle.std.specs.Prelude.{◌≡◌, ◌≢◌, ◌<◌, ◌≤◌, ◌+◌, ◌*◌, ◌++◌, ◌∷◌, [], ℕ, List, length};
+ghost use Rattle.std.specs.Prelude.{◌≡◌, ◌≢◌, ◌<◌, ◌≤◌, ◌+◌, ◌*◌, ℕ, length};
 ghost use Rattle.std.specs.Int.{bit_at};
 ghost use Rattle.crn_vec.specs.Systems.{one_if};
-ghost use Rattle.crn_sign.specs.Options.{AreBitsOf};
+ghost use Rattle.crn_sign.specs.Options.{IsPut};
 ghost use Rattle.crn_sign.specs.Inner.Bits.{IsMarked, mark_at, mark_in, mark_of};
 
 use crate::marks::Mark;
 use crate::problem::Asked;
-use crn_vec::{NoMemory, Sign};
+use crn_vec::NoMemory;
 
 /// The marks of 64 coordinates: where a number may be positive, and where it may be negative. A
 /// coordinate of neither is 0, and one of both has any sign.
@@ -22,7 +22,7 @@ pub struct Bits {
 }
 
 /// The marks of 64 coordinates that are 0.
-pub(crate) const NONE: Bits = Bits { plus: 0, minus: 0 };
+pub const NONE: Bits = Bits { plus: 0, minus: 0 };
 
 // The mark of a bit that says plus and one that says minus.
 fn mark_of(plus: u64, minus: u64) -> Mark
@@ -102,11 +102,13 @@ fn put_bit(word: u64, i: usize, is_set: bool) -> u64
     }
 }
 
-// The marks of 64 coordinates with what is asked of one of them.
+// The words of 64 coordinates with what is asked of one of them.
 fn with_asked(bits: Bits, i: usize, asked: Asked) -> Bits
     requires { i < 64 }
-    ensures here { mark_in result i ≡ mark_of (one_if asked.plus) (one_if asked.minus) }
-    ensures others { (j : ℕ) → j < 64 → j ≢ i → mark_in result j ≡ mark_in bits j }
+    ensures plus { bit_at result.plus i ≡ one_if asked.plus }
+    ensures minus { bit_at result.minus i ≡ one_if asked.minus }
+    ensures others { (j : ℕ) → j < 64 → j ≢ i → (bit_at result.plus j ≡ bit_at bits.plus j)
+        × (bit_at result.minus j ≡ bit_at bits.minus j) }
 {
     Bits {
         plus: put_bit(bits.plus, i, asked.plus),
@@ -115,43 +117,11 @@ fn with_asked(bits: Bits, i: usize, asked: Asked) -> Bits
 }
 
 /// Requires this of a coordinate.
-pub(crate) fn put_asked(words: &mut [Bits], k: usize, asked: Asked)
+pub fn put_asked(words: &mut [Bits], k: usize, asked: Asked)
     requires { k < length words.old * 64 }
-    ensures { IsMarked words.old k (mark_of (one_if asked.plus) (one_if asked.minus)) words.new }
+    ensures { IsPut words.old k asked words.new }
 {
     words[k / 64] = with_asked(words[k / 64], k % 64, asked);
-}
-
-/// The bits of the first signs of a list with one more sign, which had this many before.
-pub fn with_sign(bits: Bits, count: usize, sign: Sign) -> Bits
-    ensures { (signs : List Sign) → AreBitsOf bits signs → length signs ≡ count
-        → AreBitsOf result (signs ++ sign ∷ []) }
-{
-    if count >= 64 {
-        return bits;
-    }
-    match sign {
-        Sign::Zero => bits,
-        Sign::Plus => Bits {
-            plus: with_bit(bits.plus, count),
-            minus: bits.minus,
-        },
-        Sign::Minus => Bits {
-            plus: bits.plus,
-            minus: with_bit(bits.minus, count),
-        },
-    }
-}
-
-/// The bits of the first signs of a list.
-pub fn bits_of_signs(signs: &[Sign]) -> Bits
-    ensures { AreBitsOf result signs.now }
-{
-    let mut bits = NONE;
-    for k in 0..signs.len() {
-        bits = with_sign(bits, k, signs[k]);
-    }
-    bits
 }
 
 /// The mark of a coordinate.

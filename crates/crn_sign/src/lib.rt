@@ -14,9 +14,10 @@ mod problem;
 mod signs;
 mod walk;
 
-pub use bits::{Bits, bits_of_signs, with_sign};
+pub use bits::{Bits, NONE, put_asked};
 pub use end::{SearchEnd, SearchOutcome};
 pub use fault::SearchStop;
+pub use marks::word_count;
 pub use problem::{Asked, FREE, SignProblem, asked_of_sign, coordinates};
 pub use signs::Signs;
 pub use walk::{search, search_outcome};

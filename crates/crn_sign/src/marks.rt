@@ -21,7 +21,7 @@ pub(crate) enum Mark {
 }
 
 /// The number of words of 64 bits for the coordinates of a vector (x, Ax).
-pub(crate) fn word_count(matrix: &Matrix) -> usize
+pub fn word_count(matrix: &Matrix) -> usize
     ensures { result ≡ word_count matrix.now }
 {
     (matrix.cols() + matrix.rows()) / 64 + 1

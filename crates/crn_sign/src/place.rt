@@ -1,10 +1,9 @@
 ghost use Rattle.std.specs.Prelude.{◌≡◌, ◌<◌, ◌*◌, ◌++◌, ◌∷◌, ℤ, List, [], length, IfOk, IsTrue};
 ghost use Rattle.crn_vec.specs.declared.signs.Sign.{Sign};
 ghost use Rattle.crn_vec.specs.Problems.{IsPrefix, IsLawful};
-ghost use Rattle.crn_vec.specs.Systems.{IsSolution, one_if};
+ghost use Rattle.crn_vec.specs.Systems.{IsSolution};
 ghost use Rattle.crn_vec.specs.Elementary.{width};
-ghost use Rattle.crn_sign.specs.Options.{AreBitsOf};
-ghost use Rattle.crn_sign.specs.Inner.Bits.{IsMarked, mark_of, word_count};
+ghost use Rattle.crn_sign.specs.Options.{IsPut, word_count};
 ghost use Rattle.crn_sign.specs.Inner.Marks.{AreRowMarks, AreSuited, kinds_of};
 ghost use Rattle.crn_sign.specs.Inner.Places.{HasRoom, IsAround, IsAsked, IsFor, IsHere, IsPlace, IsSettledAt, IsSettling};
 
@@ -79,8 +78,7 @@ impl Place {
     fn put(&mut self, k: usize, asked: Asked)
         requires { k < length self.old.asked.items * 64 }
         ensures width { self.new.width ≡ self.old.width }
-        ensures asked { IsMarked self.old.asked.items k
-            (mark_of (one_if asked.plus) (one_if asked.minus)) self.new.asked.items }
+        ensures asked { IsPut self.old.asked.items k asked self.new.asked.items }
         ensures marks { self.new.marks.items ≡ self.old.marks.items }
     {
         put_asked(&mut self.asked, k, asked);
@@ -108,60 +106,9 @@ pub(crate) fn is_met(_matrix: &Matrix, asked: &[Bits], marks: &[Bits]) -> bool
     all_meet(asked, marks)
 }
 
-// Requires of a coordinate of part A what a prefix requires.
-fn settle_one_a<P: SignProblem>(
-    problem: &P,
-    prefix: &[Sign],
-    bits: Bits,
-    k: usize,
-    place: &mut Place,
-)
-    requires prefix { IsPrefix (P.signed problem.now) prefix.now }
-    requires bits { AreBitsOf bits prefix.now }
-    requires room { HasRoom (P.signed problem.now).matrix_a place.old }
-    ensures { IsSettledAt (P.signed problem.now).matrix_a
-        ((P.signed problem.now).kinds_a prefix.now) k place.old place.new }
-{
-    if k >= place.width {
-        return;
-    }
-    let asked = problem.asked_a(prefix, bits, k);
-    place.put(k, asked);
-}
-
-// Requires of the coordinates of part A that its last choice settles what a prefix requires. It is a call of its
-// own: within a visit it runs out of registers.
-#[inline(never)]
-fn settle_a<P: SignProblem>(
-    problem: &P,
-    prefix: &[Sign],
-    bits: Bits,
-    settled: &[usize],
-    place: &mut Place,
-)
-    requires lawful { IsLawful (P.signed problem.now) }
-    requires prefix { IsPrefix (P.signed problem.now) prefix.now }
-    requires bits { AreBitsOf bits prefix.now }
-    requires place { IsSettling (P.signed problem.now).matrix_a
-        ((P.signed problem.now).kinds_a prefix.now) settled.now place.old }
-    ensures { IsAsked (P.signed problem.now).matrix_a
-        ((P.signed problem.now).kinds_a prefix.now) place.new }
-{
-    for i in 0..settled.len() {
-        settle_one_a(problem, prefix, bits, settled[i], place);
-    }
-}
-
 // Requires of a coordinate of part B what a prefix requires.
-fn settle_one_b<P: SignProblem>(
-    problem: &P,
-    prefix: &[Sign],
-    bits: Bits,
-    k: usize,
-    place: &mut Place,
-)
+fn settle_one_b<P: SignProblem>(problem: &P, prefix: &[Sign], k: usize, place: &mut Place)
     requires prefix { IsPrefix (P.signed problem.now) prefix.now }
-    requires bits { AreBitsOf bits prefix.now }
     requires room { HasRoom (P.signed problem.now).matrix_b place.old }
     ensures { IsSettledAt (P.signed problem.now).matrix_b
         ((P.signed problem.now).kinds_b prefix.now) k place.old place.new }
@@ -169,69 +116,49 @@ fn settle_one_b<P: SignProblem>(
     if k >= place.width {
         return;
     }
-    let asked = problem.asked_b(prefix, bits, k);
+    let asked = problem.asked_b(prefix, k);
     place.put(k, asked);
 }
 
 // Requires of the coordinates of part B that its last choice settles what a prefix requires.
-fn settle_b<P: SignProblem>(
-    problem: &P,
-    prefix: &[Sign],
-    bits: Bits,
-    settled: &[usize],
-    place: &mut Place,
-)
+fn settle_b<P: SignProblem>(problem: &P, prefix: &[Sign], settled: &[usize], place: &mut Place)
     requires lawful { IsLawful (P.signed problem.now) }
     requires prefix { IsPrefix (P.signed problem.now) prefix.now }
-    requires bits { AreBitsOf bits prefix.now }
     requires place { IsSettling (P.signed problem.now).matrix_b
         ((P.signed problem.now).kinds_b prefix.now) settled.now place.old }
     ensures { IsAsked (P.signed problem.now).matrix_b
         ((P.signed problem.now).kinds_b prefix.now) place.new }
 {
     for i in 0..settled.len() {
-        settle_one_b(problem, prefix, bits, settled[i], place);
+        settle_one_b(problem, prefix, settled[i], place);
     }
-}
-
-/// Requires of part A what a prefix requires. Before, it required what the prefix without its last choice does, or one
-/// with another last choice.
-pub(crate) fn enter_a<P: SignProblem>(problem: &P, prefix: &[Sign], bits: Bits, here: &mut Place)
-    requires lawful { IsLawful (P.signed problem.now) }
-    requires prefix { IsPrefix (P.signed problem.now) prefix.now }
-    requires bits { AreBitsOf bits prefix.now }
-    requires here { (p : List Sign) × (s : Sign) × (prefix.now ≡ p ++ s ∷ [])
-        × IsAround (P.signed problem.now).matrix_a (P.signed problem.now).kinds_a p here.old }
-    ensures { IsAsked (P.signed problem.now).matrix_a
-        ((P.signed problem.now).kinds_a prefix.now) here.new }
-{
-    settle_a(problem, prefix, bits, problem.settled_a(prefix.len()), here);
 }
 
 /// Requires of part B what a prefix requires. Before, it required what the prefix without its last choice does, or one
 /// with another last choice.
-pub(crate) fn enter_b<P: SignProblem>(problem: &P, prefix: &[Sign], bits: Bits, here: &mut Place)
+pub(crate) fn enter_b<P: SignProblem>(problem: &P, prefix: &[Sign], here: &mut Place)
     requires lawful { IsLawful (P.signed problem.now) }
     requires prefix { IsPrefix (P.signed problem.now) prefix.now }
-    requires bits { AreBitsOf bits prefix.now }
     requires here { (p : List Sign) × (s : Sign) × (prefix.now ≡ p ++ s ∷ [])
         × IsAround (P.signed problem.now).matrix_b (P.signed problem.now).kinds_b p here.old }
     ensures { IsAsked (P.signed problem.now).matrix_b
         ((P.signed problem.now).kinds_b prefix.now) here.new }
 {
-    settle_b(problem, prefix, bits, problem.settled_b(prefix.len()), here);
+    settle_b(problem, prefix, problem.settled_b(prefix.len()), here);
 }
 
-/// What part A knows at the prefix with no choice.
-pub(crate) fn begin_a<P: SignProblem>(problem: &P, here: &mut Place)
+/// What part A knows at the prefix with no choice, and the sums of that prefix.
+pub(crate) fn begin_a<P: SignProblem>(problem: &P, sums: &mut [Bits], here: &mut Place)
     requires lawful { IsLawful (P.signed problem.now) }
+    requires sums { length sums.old ≡ word_count (P.signed problem.now).matrix_a }
     requires room { HasRoom (P.signed problem.now).matrix_a here.old }
-    ensures { IsHere (P.signed problem.now).matrix_a ((P.signed problem.now).kinds_a []) here.new }
+    ensures count { length sums.new ≡ length sums.old }
+    ensures sums { P.are_sums problem.now [] sums.new }
+    ensures here { IsHere (P.signed problem.now).matrix_a
+        ((P.signed problem.now).kinds_a []) here.new }
 {
     here.forget(problem.matrix_a());
-    for k in 0..here.width {
-        settle_one_a(problem, &[], NONE, k, here);
-    }
+    problem.begin_a(sums, &mut here.asked);
     here.suits = false;
 }
 
@@ -243,7 +170,7 @@ pub(crate) fn begin_b<P: SignProblem>(problem: &P, here: &mut Place)
 {
     here.forget(problem.matrix_b());
     for k in 0..here.width {
-        settle_one_b(problem, &[], NONE, k, here);
+        settle_one_b(problem, &[], k, here);
     }
     here.suits = false;
 }

@@ -1,10 +1,12 @@
-ghost use Rattle.std.specs.Prelude.{◌≡◌, ◌≤◌, ◌<◌, length, IfOk};
+ghost use Rattle.std.specs.Prelude.{◌≡◌, ◌≤◌, ◌<◌, ◌++◌, ◌∷◌, [], List, length, IfOk};
 ghost use Rattle.std.specs.List.{range_with_len};
 ghost use Rattle.crn_vec.specs.Concordance.{kind_of_sign};
 ghost use Rattle.crn_vec.specs.Elementary.{width};
 ghost use Rattle.crn_vec.specs.Problems.{Signed, IsPrefix, IsLawful};
 ghost use Rattle.crn_vec.specs.Systems.{kind_at};
-ghost use Rattle.crn_sign.specs.Options.{AreBitsOf, asked_kind};
+ghost use Rattle.crn_vec.specs.declared.signs.Sign.{Sign};
+ghost use Rattle.crn_sign.specs.declared.bits.Bits.{Bits};
+ghost use Rattle.crn_sign.specs.Options.{AskKinds, asked_kind, word_count};
 ghost use Rattle.crn_sign.specs.Settled.{SettlesOnly};
 
 use crate::bits::Bits;
@@ -55,6 +57,10 @@ pub trait SignProblem {
     /// The problem as contracts see it.
     ghost signed: { Self → Signed };
 
+    /// Whether words are the sums of a prefix: what the problem keeps of its options, so that those of a prefix with one option
+    /// more are made of them.
+    ghost are_sums: { Self → List Sign → List Bits → Type 0 };
+
     /// The number of choices. Its contract has the laws that each search depends on.
     fn length(&self) -> usize
         ensures choices { result ≡ (signed self.now).choices }
@@ -68,25 +74,33 @@ pub trait SignProblem {
     fn matrix_b(&self) -> &Matrix
         ensures { result.now ≡ (signed self.now).matrix_b };
 
-    /// What a prefix requires of a coordinate of part A, counted from 0. The bits are those of the prefix.
-    fn asked_a(&self, prefix: &[Sign], bits: Bits, k: usize) -> Asked
-        requires prefix { IsPrefix (signed self.now) prefix.now }
-        requires bits { AreBitsOf bits prefix.now }
-        requires inside { k < width (signed self.now).matrix_a }
-        ensures { kind_at ((signed self.now).kinds_a prefix.now) k ≡ asked_kind result };
+    /// Puts what the prefix with no option requires of part A, and its sums.
+    fn begin_a(&self, sums: &mut [Bits], asked: &mut [Bits])
+        requires sums { length sums.old ≡ word_count (signed self.now).matrix_a }
+        requires asked { length asked.old ≡ word_count (signed self.now).matrix_a }
+        ensures count { length sums.new ≡ length sums.old }
+        ensures sums { are_sums self.now [] sums.new }
+        ensures asked { AskKinds (signed self.now).matrix_a
+            ((signed self.now).kinds_a []) asked.new };
 
-    /// What a prefix requires of a coordinate of part B, counted from 0. The bits are those of the prefix.
-    fn asked_b(&self, prefix: &[Sign], bits: Bits, k: usize) -> Asked
+    /// Puts what a prefix requires of part A, and its sums, given those of the prefix without its last option.
+    fn settle_a(&self, prefix: &[Sign], above: &[Bits], sums: &mut [Bits], asked: &mut [Bits])
         requires prefix { IsPrefix (signed self.now) prefix.now }
-        requires bits { AreBitsOf bits prefix.now }
+        requires above { (p : List Sign) × (s : Sign) × (prefix.now ≡ p ++ s ∷ [])
+            × are_sums self.now p above.now }
+        requires long { length above.now ≡ word_count (signed self.now).matrix_a }
+        requires sums { length sums.old ≡ word_count (signed self.now).matrix_a }
+        requires asked { length asked.old ≡ word_count (signed self.now).matrix_a }
+        ensures count { length sums.new ≡ length sums.old }
+        ensures sums { are_sums self.now prefix.now sums.new }
+        ensures asked { AskKinds (signed self.now).matrix_a
+            ((signed self.now).kinds_a prefix.now) asked.new };
+
+    /// What a prefix requires of a coordinate of part B, counted from 0.
+    fn asked_b(&self, prefix: &[Sign], k: usize) -> Asked
+        requires prefix { IsPrefix (signed self.now) prefix.now }
         requires inside { k < width (signed self.now).matrix_b }
         ensures { kind_at ((signed self.now).kinds_b prefix.now) k ≡ asked_kind result };
-
-    /// The coordinates of part A whose kinds may change with the last option of a prefix of this many choices, in any order. The
-    /// list may also have others.
-    fn settled_a(&self, choices: usize) -> &[usize]
-        ensures { SettlesOnly (signed self.now).kinds_a (width (signed self.now).matrix_a)
-            choices result.now };
 
     /// The coordinates of part B whose kinds may change with the last option of a prefix of this many choices, in any order. The
     /// list may also have others.

@@ -7,18 +7,18 @@ ghost use Rattle.crn_vec.specs.declared.limits.TheConstants.{MAX_BUDGET};
 ghost use Rattle.crn_vec.specs.Elementary.{NamesWide};
 ghost use Rattle.crn_vec.specs.Problems.{IsFull, IsFeasible, IsLawful, IsPrefix};
 ghost use Rattle.crn_vec.specs.declared.signs.Sign.{Sign};
-ghost use Rattle.crn_sign.specs.Options.{AreBitsOf};
 ghost use Rattle.crn_sign.specs.Search.{IsOutcome, IsSearchEnd, IsSearchStop};
 ghost use Rattle.crn_sign.specs.Inner.Walk.{EndsAt, EndsBelow, IsFoundAt, IsLeafAt, IsLeafOrNone, IsWideA, IsWideB, Keeps, end_of, outcome_at};
 ghost use Rattle.crn_sign.specs.Inner.Parts.{IsRuling};
 ghost use Rattle.crn_sign.specs.Inner.Places.{IsAsked, IsHere, IsPlace};
-ghost use Rattle.crn_sign.specs.Inner.Ready.{AreAround, AreAsked, AreFor, AreMarked, AreRooms, AreRoomsBelow, HasRooms, IsLevel, IsReady, SamePlace};
+ghost use Rattle.crn_sign.specs.Inner.Ready.{AreAround, AreAsked, AreFor, AreMarked, AreRooms, AreRoomsBelow, HasRooms, HasSums, IsLevel, IsReady, SamePlace};
 
-use crate::bits::{Bits, NONE, with_sign};
+use crate::bits::{Bits, NONE};
 use crate::end::{SearchEnd, SearchOutcome};
 use crate::fault::SearchStop;
+use crate::marks::word_count;
 use crate::part::Part;
-use crate::place::{Place, begin_a, begin_b, enter_a, enter_b};
+use crate::place::{Place, begin_a, begin_b, enter_b};
 use crate::problem::SignProblem;
 use crate::signs::Signs;
 use crn_cert::Tree;
@@ -27,22 +27,21 @@ use crn_vec::{Ints, NoMemory, Sign, is_all_zero};
 use std::alloc::Global;
 use std::rc::Rc;
 
-/// What a search works with: its two parts, the prefix that is visited, the same by bits, and the
-/// visits that are left.
+/// What a search works with: its two parts, the prefix that is visited, and the visits that are left.
 #[derive(Drop)]
 pub(crate) struct Progress {
     pub a: Part,
     pub b: Part,
     pub prefix: Vec<Sign>,
-    pub bits: Bits,
     pub left: u32,
 }
 
-/// What both parts know at a prefix.
+/// What both parts know at a prefix, and its sums, of which part A is asked.
 #[derive(Drop)]
 pub(crate) struct Level {
     pub a: Place,
     pub b: Place,
+    pub sums: Vec<Bits>,
 }
 
 /// A full feasible prefix, with solutions of both its parts.
@@ -134,6 +133,7 @@ fn look<P: SignProblem>(problem: &P, _prefix: &[Sign], above: &Level, here: &mut
     requires above { AreMarked (P.signed problem.now) above.now }
     ensures asked { AreAsked (P.signed problem.now) _prefix.now here.new }
     ensures here { AreFor (P.signed problem.now) above.now here.new }
+    ensures sums { here.new.sums.items ≡ here.old.sums.items }
 {
     here.a.look(problem.matrix_a(), &above.a);
     here.b.look(problem.matrix_b(), &above.b);
@@ -147,6 +147,7 @@ fn take<P: SignProblem>(problem: &P, above: &Level, here: &mut Level)
     ensures b { IsPlace (P.signed problem.now).matrix_b here.new.b }
     ensures asked_a { here.new.a.asked.items ≡ here.old.a.asked.items }
     ensures asked_b { here.new.b.asked.items ≡ here.old.b.asked.items }
+    ensures sums { here.new.sums.items ≡ here.old.sums.items }
 {
     here.a.take(problem.matrix_a(), &above.a);
     here.b.take(problem.matrix_b(), &above.b);
@@ -167,6 +168,7 @@ fn arrive<P: SignProblem>(
     ensures ready { OnOk result (IsReady (P.signed problem.now) search.new) }
     ensures asked { OnOk result
         (AreAsked (P.signed problem.now) search.old.prefix.items here.new) }
+    ensures sums { OnOk result (here.new.sums.items ≡ here.old.sums.items) }
     ensures leaf { IfOk result (λ o. MatchOption o
         (IsLevel (P.signed problem.now) search.old.prefix.items here.new)
         (λ tree. IsLeafAt (P.signed problem.now) search.old.prefix.items (plan tree))) }
@@ -251,6 +253,7 @@ fn rule_out<P: SignProblem>(
     ensures ready { OnOk result (IsReady (P.signed problem.now) search.new) }
     ensures asked { OnOk result
         (AreAsked (P.signed problem.now) search.old.prefix.items here.new) }
+    ensures sums { OnOk result (here.new.sums.items ≡ here.old.sums.items) }
     ensures here { IfOk result (λ o. MatchOption o
         (IsLevel (P.signed problem.now) search.old.prefix.items here.new) (λ tree. Unit {0})) }
     ensures answer { MatchResult result
@@ -302,25 +305,25 @@ fn found_end<P: SignProblem>(
 }
 
 // Requires of both parts what the prefix requires; all but its last choice was required already.
-fn enter<P: SignProblem>(problem: &P, prefix: &[Sign], bits: Bits, here: &mut Level)
+fn enter<P: SignProblem>(problem: &P, prefix: &[Sign], above: &Level, here: &mut Level)
     requires lawful { IsLawful (P.signed problem.now) }
     requires prefix { IsPrefix (P.signed problem.now) prefix.now }
-    requires bits { AreBitsOf bits prefix.now }
     requires here { (p : List Sign) × (s : Sign) × (prefix.now ≡ p ++ s ∷ [])
-        × AreAround (P.signed problem.now) p here.old }
-    ensures { AreAsked (P.signed problem.now) prefix.now here.new }
+        × AreAround (P.signed problem.now) p here.old
+        × HasSums (P.signed problem.now) (P.are_sums problem.now) p above.now }
+    ensures asked { AreAsked (P.signed problem.now) prefix.now here.new }
+    ensures sums { HasSums (P.signed problem.now) (P.are_sums problem.now) prefix.now here.new }
 {
-    enter_a(problem, prefix, bits, &mut here.a);
-    enter_b(problem, prefix, bits, &mut here.b);
+    problem.settle_a(prefix, &above.sums, &mut here.sums, &mut here.a.asked);
+    enter_b(problem, prefix, &mut here.b);
 }
 
-// Requires of both parts, to begin with, what is required one level above.
+// Requires of part B, to begin with, what is required one level above.
 fn surround<P: SignProblem>(_problem: &P, _prefix: &[Sign], above: &Level, here: &mut Level)
     requires above { IsLevel (P.signed _problem.now) _prefix.now above.now }
     requires room { HasRooms (P.signed _problem.now) here.old }
     ensures { AreAround (P.signed _problem.now) _prefix.now here.new }
 {
-    here.a.ask_as(&above.a);
     here.b.ask_as(&above.b);
 }
 
@@ -372,6 +375,8 @@ fn child<P: SignProblem>(
     requires ready { IsReady (P.signed problem.now) search.old }
     requires room { length search.old.prefix.items < (P.signed problem.now).choices }
     requires above { AreMarked (P.signed problem.now) above.now }
+    requires sums { HasSums (P.signed problem.now) (P.are_sums problem.now)
+        search.old.prefix.items above.now }
     requires next { AreAround (P.signed problem.now) search.old.prefix.items next.old }
     requires rest { AreRoomsBelow (P.signed problem.now) search.old.prefix.items rest.old }
     ensures prefix { OnOk result (search.new.prefix.items ≡ search.old.prefix.items) }
@@ -385,13 +390,10 @@ fn child<P: SignProblem>(
         search.old.left search.new.left e)
         (λ s. IsSearchStop (P.signed problem.now) s) }
 {
-    let bits = search.bits;
-    search.bits = with_sign(bits, search.prefix.len(), option);
     search.prefix.push_reserved(option);
-    enter(problem, &search.prefix, search.bits, next);
+    enter(problem, &search.prefix, above, next);
     let end = walk(alloc, problem, search, above, next, rest, keeps)?;
     search.prefix.pop();
-    search.bits = bits;
     Ok(end)
 }
 
@@ -409,6 +411,8 @@ fn split<P: SignProblem>(
     requires ready { IsReady (P.signed problem.now) search.old }
     requires room { length search.old.prefix.items < (P.signed problem.now).choices }
     requires here { AreMarked (P.signed problem.now) here.now }
+    requires sums { HasSums (P.signed problem.now) (P.are_sums problem.now)
+        search.old.prefix.items here.now }
     requires next { AreAround (P.signed problem.now) search.old.prefix.items next.old }
     requires rest { AreRoomsBelow (P.signed problem.now) search.old.prefix.items rest.old }
     ensures prefix { OnOk result (search.new.prefix.items ≡ search.old.prefix.items) }
@@ -458,11 +462,14 @@ pub(crate) fn walk<P: SignProblem>(
     requires ready { IsReady (P.signed problem.now) search.old }
     requires above { AreMarked (P.signed problem.now) above.now }
     requires here { AreAsked (P.signed problem.now) search.old.prefix.items here.old }
+    requires sums { HasSums (P.signed problem.now) (P.are_sums problem.now)
+        search.old.prefix.items here.old }
     requires levels { AreRooms (P.signed problem.now) search.old.prefix.items levels.old }
     ensures prefix { OnOk result (search.new.prefix.items ≡ search.old.prefix.items) }
     ensures ready { OnOk result (IsReady (P.signed problem.now) search.new) }
     ensures here { OnOk result
         (AreAsked (P.signed problem.now) search.old.prefix.items here.new) }
+    ensures sums { OnOk result (here.new.sums.items ≡ here.old.sums.items) }
     ensures levels { OnOk result
         (AreRooms (P.signed problem.now) search.old.prefix.items levels.new) }
     ensures answer { MatchResult result
@@ -510,12 +517,12 @@ pub(crate) fn start<P: SignProblem>(
     let choices = problem.length();
     let matrix_a = problem.matrix_a();
     let matrix_b = problem.matrix_b();
+    let prefix = Vec::with_capacity(alloc, choices)?;
     let solver_a = Solver::new(alloc, matrix_a)?;
     Ok(Progress {
         a: Part::new(alloc, matrix_a, solver_a, choices)?,
         b: Part::new(alloc, matrix_b, solver_b, choices)?,
-        prefix: Vec::with_capacity(alloc, choices)?,
-        bits: NONE,
+        prefix,
         left: budget,
     })
 }
@@ -527,6 +534,7 @@ fn room<P: SignProblem>(alloc: Global, problem: &P) -> Result<Level, NoMemory>
     Ok(Level {
         a: Place::new(alloc, problem.matrix_a())?,
         b: Place::new(alloc, problem.matrix_b())?,
+        sums: vec![in alloc; NONE; word_count(problem.matrix_a())]?,
     })
 }
 
@@ -544,11 +552,13 @@ fn rooms<P: SignProblem>(alloc: Global, problem: &P) -> Result<Vec<Level>, NoMem
 
 // What both parts know at the prefix with no choice.
 fn first_level<P: SignProblem>(alloc: Global, problem: &P) -> Result<Level, NoMemory>
-    ensures { IfOk result (λ made. IsLevel (P.signed problem.now) [] made) }
+    ensures level { IfOk result (λ made. IsLevel (P.signed problem.now) [] made) }
+    ensures sums { IfOk result
+        (λ made. HasSums (P.signed problem.now) (P.are_sums problem.now) [] made) }
 {
     let _ = problem.length();
     let mut first = room(alloc, problem)?;
-    begin_a(problem, &mut first.a);
+    begin_a(problem, &mut first.sums, &mut first.a);
     begin_b(problem, &mut first.b);
     Ok(first)
 }

@@ -9,8 +9,8 @@ use Rattle.crn_vec.specs.Lists.{IsIn}
 use Rattle.crn_vec.specs.Elementary.{width}
 use Rattle.crn_vec.specs.Systems.{kind_at}
 use Rattle.crn_sign.specs.declared.place.Place.{Place}
-use Rattle.crn_sign.specs.Inner.Bits.{mark_at, word_count}
-use Rattle.crn_sign.specs.Inner.Marks.{AreRowMarks, AreSuited, kind_of_mark, kinds_of}
+use Rattle.crn_sign.specs.Options.{kind_in, word_count}
+use Rattle.crn_sign.specs.Inner.Marks.{AreRowMarks, AreSuited, kinds_of}
 
 -- the lists have room for the coordinates
 pub record HasRoom (a : Mat) (l : Place) : Type 0 where
@@ -46,18 +46,18 @@ pub record IsAround (a : Mat) (kinds : List Sign → List Kind) (p : List Sign) 
   pub room : HasRoom a l
   pub same : (k : ℕ) → k < width a
       → ((s : Sign) → kind_at (kinds (p ++ s ∷ [])) k ≡ kind_at (kinds p) k)
-      → kind_of_mark (mark_at l.asked.items k) ≡ kind_at (kinds p) k
+      → kind_in l.asked.items k ≡ kind_at (kinds p) k
 
 -- the kind of a coordinate is asked, and else all is as before
 pub record IsSettledAt (a : Mat) (kinds : List Kind) (k : ℕ) (old new : Place) : Type 0 where
   pub width_is : new.width ≡ old.width
   pub count : length new.asked.items ≡ length old.asked.items
   pub marks : new.marks.items ≡ old.marks.items
-  pub here : k < width a → kind_of_mark (mark_at new.asked.items k) ≡ kind_at kinds k
-  pub others : (j : ℕ) → (j ≡ k → ⊥) → mark_at new.asked.items j ≡ mark_at old.asked.items j
+  pub here : k < width a → kind_in new.asked.items k ≡ kind_at kinds k
+  pub others : (j : ℕ) → (j ≡ k → ⊥) → kind_in new.asked.items j ≡ kind_in old.asked.items j
 
 -- what is known before the kinds at some coordinates are asked
 pub record IsSettling (a : Mat) (kinds : List Kind) (settled : List ℕ) (l : Place) : Type 0 where
   pub room : HasRoom a l
   pub same : (k : ℕ) → k < width a → (IsIn k settled → ⊥)
-      → kind_of_mark (mark_at l.asked.items k) ≡ kind_at kinds k
+      → kind_in l.asked.items k ≡ kind_at kinds k

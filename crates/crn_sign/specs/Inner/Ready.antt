@@ -4,7 +4,8 @@ use Rattle.std.specs.Prelude.{◌≡◌, ◌≤◌, ◌+◌, List, length, vec_c
 use Rattle.std.specs.List.{AllByRecursion}
 use Rattle.crn_vec.specs.declared.signs.Sign.{Sign}
 use Rattle.crn_vec.specs.Problems.{Signed, IsPrefix, IsLawful}
-use Rattle.crn_sign.specs.Options.{AreBitsOf}
+use Rattle.crn_sign.specs.declared.bits.Bits.{Bits}
+use Rattle.crn_sign.specs.Options.{word_count}
 use Rattle.crn_sign.specs.declared.walk.Progress.{Progress}
 use Rattle.crn_sign.specs.declared.walk.Level.{Level}
 use Rattle.crn_sign.specs.Inner.Parts.{IsPart}
@@ -17,7 +18,6 @@ pub record IsReady (w : Signed) (s : Progress) : Type 0 where
   pub part_a : IsPart w.matrix_a s.a
   pub part_b : IsPart w.matrix_b s.b
   pub prefix : IsPrefix w s.prefix.items
-  pub bits : AreBitsOf s.bits s.prefix.items
   pub room : w.choices ≤ vec_capacity s.prefix
 
 -- what both parts know at a prefix
@@ -40,15 +40,24 @@ pub record AreFor (w : Signed) (above l : Level) : Type 0 where
   pub a : IsFor w.matrix_a above.a l.a
   pub b : IsFor w.matrix_b above.b l.b
 
--- what both parts are asked is right of what one choice more leaves as it is
+-- the sums of a prefix, as its problem says what they are
+pub record HasSums (w : Signed) (are_sums : List Sign → List Bits → Type 0) (p : List Sign) (l : Level)
+    : Type 0 where
+  pub count : length l.sums.items ≡ word_count w.matrix_a
+  pub are : are_sums p l.sums.items
+
+-- room for what part A is asked, and what part B is asked is right of what one choice more leaves as
+-- it is
 pub record AreAround (w : Signed) (p : List Sign) (l : Level) : Type 0 where
-  pub a : IsAround w.matrix_a w.kinds_a p l.a
+  pub a : HasRoom w.matrix_a l.a
   pub b : IsAround w.matrix_b w.kinds_b p l.b
+  pub sums : length l.sums.items ≡ word_count w.matrix_a
 
 -- room for what both parts know
 pub record HasRooms (w : Signed) (l : Level) : Type 0 where
   pub a : HasRoom w.matrix_a l.a
   pub b : HasRoom w.matrix_b l.b
+  pub sums : length l.sums.items ≡ word_count w.matrix_a
 
 -- room for what is known at prefixes with one choice more, with two, and so on, to all
 pub record AreRooms (w : Signed) (p : List Sign) (levels : List Level) : Type 0 where

@@ -15,7 +15,7 @@ pub invariant_of-problem : goal.invariant_of-problem
 invariant_of-problem c =
     let m = c.args.matrix.now in
     let t = fits c.args.net.now m c.args.table.now c.species.ensures.network c.requires.matrix c.requires.table in
-    record { columns_settled = c.in_ok-columns.ensures; coordinates_are = c.in_ok-coordinates.ensures; reactions = t.reactions; species = rows_wide m c.args.table.now t; few_reactions = t.few_reactions; few_species = t.few_species }
+    record { columns_are = c.in_ok-columns.ensures; coordinates_are = c.in_ok-coordinates.ensures; reactions = t.reactions; species = rows_wide m c.args.table.now t; few_reactions = t.few_reactions; few_species = t.few_species }
 
 pub returns-in-Ok-clause-plain : goal.returns-in-Ok-clause-plain
 returns-in-Ok-clause-plain c = λ e. end_by plain c.args.matrix.now c.args.table.now c.args.budget c.in-Ok.end c.end_answer.result c.species.ensures.network c.requires.low c.requires.high c.requires.matrix c.end_answer.ensures c.in-Ok.ensures e

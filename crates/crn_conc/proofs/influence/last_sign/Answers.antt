@@ -1,5 +1,5 @@
 use Rattle.std.proofs.Common.{arith}
-use Rattle.crn_conc.proofs.ColumnBits.{last_more, last_of}
+use Rattle.crn_conc.proofs.LastSigns.{last_more, last_of}
 use Rattle.crn_conc.proofs.influence.last_sign.Goals as goal
 
 pub loop-k-preserved : goal.loop-k-preserved

@@ -1,4 +1,4 @@
-use Rattle.crn_conc.proofs.ColumnBits.{IsLastOf}
+use Rattle.crn_conc.proofs.LastSigns.{IsLastOf}
 use Rattle.crn_conc.proofs.influence.last_sign.Given as goal
 
 abbrev pub invariant-loop-k : goal.invariant-loop-k

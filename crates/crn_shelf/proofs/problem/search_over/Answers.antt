@@ -1,7 +1,5 @@
 use Rattle.std.proofs.Common.{length, ap, ◌∙◌, sym}
-use Rattle.std.specs.List.{range_with_len}
 use Rattle.crn_vec.specs.Vectors.{Mat}
-use Rattle.crn_vec.specs.Elementary.{width}
 use Rattle.crn_vec.specs.Signals.{signals}
 use Rattle.crn_vec.proofs.CallerLemmas.{rows_count}
 use Rattle.crn_sign.specs.Search.{IsSearchEnd, IsSearchStop}
@@ -10,7 +8,6 @@ use Rattle.crn_shelf.proofs.problem.search_over.Goals as goal
 
 pub invariant_of-problem : goal.invariant_of-problem
 invariant_of-problem c = record {
-  coordinates_a_are = c.in_ok-coordinates_a.ensures ∙ ap (λ (a : Mat). range_with_len 0 (width a)) c.in_ok-system.ensures;
   coordinates_b_are = c.in_ok-coordinates_b.ensures;
   part_a = c.in_ok-system.ensures;
   species = ap (λ (a : Mat). length a.rows) c.in_ok-matrix.ensures ∙ rows_count c.args.net.now ∙ sym c.requires.species;

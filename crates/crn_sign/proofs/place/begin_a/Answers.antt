@@ -1,41 +1,25 @@
-use Rattle.std.proofs.Common.{◌<◌, List, [], length, ap, subst, ◌∙◌, arith}
+use Rattle.std.proofs.Common.{◌≡◌, ◌++◌, List, [], length, take, drop, ap, subst, ◌∙◌, arith}
 use Rattle.crn_vec.specs.Vectors.{Mat}
 use Rattle.crn_vec.specs.Problems.{Signed}
-use Rattle.crn_vec.specs.Elementary.{width}
 use Rattle.crn_sign.specs.declared.bits.Bits.{Bits}
-use Rattle.crn_sign.specs.Inner.Marks.{AreRowMarks}
-use Rattle.crn_sign.proofs.OptionLaws.{no_signs}
-use Rattle.crn_sign.proofs.PlaceLaws.{begun_room, begun_step, kinds_are}
+use Rattle.crn_sign.specs.Inner.Marks.{AreRowMarks, kinds_of}
+use Rattle.crn_sign.proofs.PlaceLaws.{asked_kinds, written}
 use Rattle.crn_sign.proofs.place.begin_a.Goals as goal
 
-pub loop-k-init : goal.loop-k-init
-loop-k-init g c =
+pub returns-clause-here : goal.returns-clause-here
+returns-clause-here g c =
     let w : Signed = g.P.SignProblem.signed c.args.problem.now in
+    let asks = c.begin_a.ensures.asked in
+    let old = c.forget.new.self.asked in
+    let new = c.begin_a.new.asked in
+    let long : length new ≡ old.len = omega (arith, asks.count, ap (λ (q : List Bits). length q) c.forget.ensures.asked, c.requires.room.asked, old.ok.0) in
+    let is : take old.len (new ++ drop (length new) old.items) ≡ new = written old.len new old.items long in
     record {
-      here = record {
+      place = record {
         width_is = c.forget.ensures.width ∙ c.requires.room.width_is;
-        asked = ap (λ (q : List Bits). length q) c.forget.ensures.asked ∙ c.requires.room.asked;
+        asked = ap (λ (q : List Bits). length q) is ∙ asks.count;
         marks = subst (λ (a : Mat). AreRowMarks a c.forget.new.self.marks.items) c.matrix_a.ensures c.forget.ensures.marks;
-        done = λ j lt. absurd (omega (arith, lt));
+        suits = λ t. absurd (cc);
       };
-    }
-
-pub settle_one_a-requires : goal.settle_one_a-requires
-settle_one_a-requires g c =
-    let w : Signed = g.P.SignProblem.signed c.args.problem.now in
-    record { prefix = omega arith; bits = no_signs; room = begun_room w.matrix_a (w.kinds_a []) _ _ c.loop-k.invariant.here }
-
-pub loop-k-preserved : goal.loop-k-preserved
-loop-k-preserved g c =
-    let w : Signed = g.P.SignProblem.signed c.args.problem.now in
-    let lt : c.loop-k.k < width w.matrix_a = omega (arith, c.loop-k-test.true, c.loop-k.invariant.here.width_is) in
-    record { here = begun_step w.matrix_a (w.kinds_a []) c.loop-k.k c.loop-k.here _ lt c.settle_one_a.ensures c.loop-k.invariant.here }
-
-pub returns : goal.returns
-returns g c =
-    let w : Signed = g.P.SignProblem.signed c.args.problem.now in
-    let h = c.loop-k.invariant.here in
-    record {
-      place = record { width_is = h.width_is; asked = h.asked; marks = h.marks; suits = λ t. absurd (cc) };
-      kinds_are = kinds_are w.matrix_a (w.kinds_a []) c.loop-k.here.asked.items (c.requires.lawful.long_a [] (omega arith)) (λ k lt. h.done k (omega (arith, lt, h.width_is, c.loop-k-test.false)));
+      kinds_are = ap (λ (q : List Bits). kinds_of w.matrix_a q) is ∙ asked_kinds w.matrix_a (w.kinds_a []) new (c.requires.lawful.long_a [] (omega arith)) asks;
     }

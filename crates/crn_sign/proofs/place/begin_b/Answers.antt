@@ -4,7 +4,6 @@ use Rattle.crn_vec.specs.Problems.{Signed}
 use Rattle.crn_vec.specs.Elementary.{width}
 use Rattle.crn_sign.specs.declared.bits.Bits.{Bits}
 use Rattle.crn_sign.specs.Inner.Marks.{AreRowMarks}
-use Rattle.crn_sign.proofs.OptionLaws.{no_signs}
 use Rattle.crn_sign.proofs.PlaceLaws.{begun_room, begun_step, kinds_are}
 use Rattle.crn_sign.proofs.place.begin_b.Goals as goal
 
@@ -23,7 +22,7 @@ loop-k-init g c =
 pub settle_one_b-requires : goal.settle_one_b-requires
 settle_one_b-requires g c =
     let w : Signed = g.P.SignProblem.signed c.args.problem.now in
-    record { prefix = omega arith; bits = no_signs; room = begun_room w.matrix_b (w.kinds_b []) _ _ c.loop-k.invariant.here }
+    record { prefix = omega arith; room = begun_room w.matrix_b (w.kinds_b []) _ _ c.loop-k.invariant.here }
 
 pub loop-k-preserved : goal.loop-k-preserved
 loop-k-preserved g c =

@@ -6,7 +6,7 @@ use Rattle.crn_sign.proofs.place.settle_b.Goals as goal
 pub settle_one_b-requires : goal.settle_one_b-requires
 settle_one_b-requires g c =
     let w : Signed = g.P.SignProblem.signed c.args.problem.now in
-    record { prefix = c.requires.prefix; bits = c.requires.bits; room = settling_room w.matrix_b (w.kinds_b c.args.prefix.now) _ _ c.loop-i.invariant.place }
+    record { prefix = c.requires.prefix; room = settling_room w.matrix_b (w.kinds_b c.args.prefix.now) _ _ c.loop-i.invariant.place }
 
 pub loop-i-preserved : goal.loop-i-preserved
 loop-i-preserved g c =

@@ -1,6 +1,5 @@
-use Rattle.std.proofs.Common.{refl, sym, ap, ◌∙◌, arith}
-use Rattle.crn_sign.specs.Inner.Marks.{kind_of_mark}
-use Rattle.crn_sign.proofs.PlaceLaws.{asked_mark}
+use Rattle.std.proofs.Common.{refl, sym, ◌∙◌, arith}
+use Rattle.crn_sign.proofs.PlaceLaws.{put_here, put_other}
 use Rattle.crn_sign.proofs.place.settle_one_b.Goals as goal
 
 pub put-requires : goal.put-requires
@@ -16,10 +15,14 @@ returns-then-k-place g c = record {
 }
 
 pub returns : goal.returns
-returns g c = record {
-  width_is = c.put.ensures.width;
-  count = c.put.ensures.asked.count;
-  marks = c.put.ensures.marks;
-  here = λ lt. ap kind_of_mark c.put.ensures.asked.here ∙ asked_mark c.asked_b-asked.result ∙ sym c.asked_b-asked.ensures;
-  others = c.put.ensures.asked.others;
-}
+returns g c =
+    let old = c.args.place.now.asked.items in
+    let new = c.put.new.self.asked.items in
+    let is = c.put.ensures.asked in
+    record {
+      width_is = c.put.ensures.width;
+      count = is.count;
+      marks = c.put.ensures.marks;
+      here = λ lt. put_here old c.args.k c.asked_b-asked.result new is ∙ sym c.asked_b-asked.ensures;
+      others = put_other old c.args.k c.asked_b-asked.result new is;
+    }

@@ -1,9 +1,9 @@
 use Rattle.std.proofs.Common.{◌≡◌, ◌+◌, List, [], ◌∷◌, ◌++◌, length, refl, sym, ◌∙◌, ap, subst, arith, rules}
 use Rattle.crn_vec.specs.declared.signs.Sign.TheVariants.{Zero, Plus, Minus}
+use Rattle.crn_sign.specs.declared.bits.Bits.{Bits}
 use Rattle.crn_sign.specs.Inner.Walk.{EndsAt, EndsBelow, IsFoundAt}
 use Rattle.crn_vec.specs.declared.signs.Sign.{Sign}
 use Rattle.crn_vec.specs.Problems.{Signed, IsFeasible, all_zero}
-use Rattle.crn_sign.specs.Options.{AreBitsOf}
 use Rattle.crn_sign.specs.Inner.Ready.{AreAround, AreRoomsBelow}
 use Rattle.crn_sign.proofs.PlaceLaws.{asked_around, level_moved, taken_back}
 use Rattle.crn_sign.proofs.Walks.{run_out, feasible_from, flat_at, leaf_at, found_at, opened_at, child_tree, first_child, second_child, third_child, both_trees, three_trees}
@@ -122,14 +122,13 @@ child-returns-clause-ready g t c =
       part_a = search rules;
       part_b = search rules;
       prefix = search rules;
-      bits = subst (λ (p : List Sign). AreBitsOf c.args.search.now.bits p) (sym same) c.requires.ready.bits;
       room = search rules;
     }
 
 pub child-enter-requires-clause-here : goal.child-enter-requires-clause-here
-child-enter-requires-clause-here g t c = (c.args.search.now.prefix.items, c.args.option, c.deref.ensures.value ∙ c.push_reserved.ensures.items, c.requires.next)
+child-enter-requires-clause-here g t c = (c.args.search.now.prefix.items, c.args.option, c.deref.ensures.value ∙ c.push_reserved.ensures.items, c.requires.next, c.requires.sums)
 
 pub child-returns-clause-next : goal.child-returns-clause-next
 child-returns-clause-next g t c =
     let w : Signed = g.P.SignProblem.signed c.args.problem.now in
-    asked_around w c.args.search.now.prefix.items _ c.args.option c.walk.new.here c.push_reserved.ensures.items c.in_ok-end.ensures.here
+    asked_around w c.args.search.now.prefix.items _ c.args.option c.walk.new.here c.push_reserved.ensures.items (ap (λ (l : List Bits). length l) c.in_ok-end.ensures.sums ∙ c.enter.ensures.sums.count) c.in_ok-end.ensures.here

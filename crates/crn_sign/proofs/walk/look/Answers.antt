@@ -1,4 +1,4 @@
-use Rattle.std.proofs.Common.{List, sym, ap, subst, ◌∙◌}
+use Rattle.std.proofs.Common.{List, refl, sym, ap, subst, ◌∙◌}
 use Rattle.crn_vec.specs.Vectors.{Mat}
 use Rattle.crn_vec.specs.Problems.{Signed}
 use Rattle.crn_sign.specs.declared.bits.Bits.{Bits}
@@ -33,4 +33,5 @@ returns g c =
         b = record { room = b.room; kinds_are = ap (λ (q : List Bits). kinds_of w.matrix_b q) c.look-2.ensures.asked ∙ c.requires.asked.b.kinds_are };
       };
       here = record { a = a; b = b };
+      sums = refl;
     }

@@ -56,7 +56,7 @@ pub returns-in-Some-3-clause-asked : goal.returns-in-Some-3-clause-asked
 returns-in-Some-3-clause-asked g c =
     let w : Signed = g.P.SignProblem.signed c.args.problem.now in
     let p : List Sign = c.args.search.now.prefix.items in
-    let l : Level = record { a = c.rule_out_a.new.here; b = c.rule_out_b.new.here } in
+    let l : Level = record { a = c.rule_out_a.new.here; b = c.rule_out_b.new.here; sums = c.arrive.new.here.sums } in
     level_asked w p l (level_at w p c.rule_out_b.new.search.prefix.items l (c.in_ok-u.ensures.place.prefix ∙ c.in_ok-tree.ensures.place.prefix) c.in_ok-u-2.ensures.here
     (subst (λ (r : List Sign). IsHere w.matrix_b (w.kinds_b r) c.rule_out_b.new.here) c.in_ok-tree.ensures.place.prefix c.in_ok-u.ensures.here))
 
@@ -64,7 +64,7 @@ pub returns-clause-asked : goal.returns-clause-asked
 returns-clause-asked g c =
     let w : Signed = g.P.SignProblem.signed c.args.problem.now in
     let p : List Sign = c.args.search.now.prefix.items in
-    let l : Level = record { a = c.rule_out_a.new.here; b = c.rule_out_b.new.here } in
+    let l : Level = record { a = c.rule_out_a.new.here; b = c.rule_out_b.new.here; sums = c.arrive.new.here.sums } in
     level_asked w p l (level_at w p c.rule_out_b.new.search.prefix.items l (c.in_ok-u.ensures.place.prefix ∙ c.in_ok-tree.ensures.place.prefix) c.in_ok-u-2.ensures.here
     (subst (λ (r : List Sign). IsHere w.matrix_b (w.kinds_b r) c.rule_out_b.new.here) c.in_ok-tree.ensures.place.prefix c.in_ok-u.ensures.here))
 
@@ -72,6 +72,6 @@ pub returns-clause-here : goal.returns-clause-here
 returns-clause-here g c =
     let w : Signed = g.P.SignProblem.signed c.args.problem.now in
     let p : List Sign = c.args.search.now.prefix.items in
-    let l : Level = record { a = c.rule_out_a.new.here; b = c.rule_out_b.new.here } in
+    let l : Level = record { a = c.rule_out_a.new.here; b = c.rule_out_b.new.here; sums = c.arrive.new.here.sums } in
     level_at w p c.rule_out_b.new.search.prefix.items l (c.in_ok-u.ensures.place.prefix ∙ c.in_ok-tree.ensures.place.prefix) c.in_ok-u-2.ensures.here
     (subst (λ (r : List Sign). IsHere w.matrix_b (w.kinds_b r) c.rule_out_b.new.here) c.in_ok-tree.ensures.place.prefix c.in_ok-u.ensures.here)

@@ -1,4 +1,4 @@
-use Rattle.std.proofs.Common.{sym, subst}
+use Rattle.std.proofs.Common.{refl, sym, subst}
 use Rattle.crn_vec.specs.Vectors.{Mat}
 use Rattle.crn_sign.specs.Inner.Marks.{AreRowMarks}
 use Rattle.crn_sign.specs.Inner.Places.{IsFor, IsPlace}
@@ -26,4 +26,5 @@ returns g c = record {
   b = subst (λ (m : Mat). IsPlace m c.take-2.new.self) c.matrix_b.ensures c.take-2.ensures.here;
   asked_a = c.take.ensures.asked;
   asked_b = c.take-2.ensures.asked;
+  sums = refl;
 }

@@ -11,7 +11,7 @@ use Rattle.crn_solve.proofs.positive.conservative.Goals as goal
 pub returns-in-Ok : goal.returns-in-Ok
 returns-in-Ok c budget earlier =
     let net = c.args.net.now in
-    let d = subst (λ (a : Mat). IsDecision a (positive_kinds a) c.in-Ok.decision) c.requires.matrix c.in-Ok.ensures in
+    let d = subst (λ (a : Mat). IsDecision a (positive_kinds a) c.in-Ok.decision) c.requires.matrix c.in-Ok.ensures.answer in
     subst (IsAnswer net budget earlier Q8) (sym c.vector_answer.ensures) (law_decided net budget earlier c.in-Ok.decision c.meets_definition.ensures d)
 
 pub returns-in-Err-Wide : goal.returns-in-Err-Wide
@@ -19,6 +19,6 @@ returns-in-Err-Wide c budget earlier =
     let net = c.args.net.now in
     let w = c.in-Err-Wide in
     let a = c.args.matrix.now in
-    let named : IsStop a (positive_kinds a) (Wide w.index w.basis) = subst (IsStop a (positive_kinds a)) w.field-0-is w.ensures in
+    let named : IsStop a (positive_kinds a) (Wide w.index w.basis) = subst (IsStop a (positive_kinds a)) w.field-0-is w.ensures.answer in
     let s = subst (λ (b : Mat). IsStop b (positive_kinds b) (Wide w.index w.basis)) c.requires.matrix named in
     subst (IsAnswer net budget earlier Q8) (sym c.wide_answer.ensures) (law_wide net budget earlier w.index w.basis s)

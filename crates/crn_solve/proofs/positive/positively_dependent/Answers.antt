@@ -1,4 +1,4 @@
-use Rattle.std.proofs.Common.{subst, sym}
+use Rattle.std.proofs.Common.{subst, sym, ◌∙◌}
 use Rattle.crn_vec.specs.Vectors.{Mat}
 use Rattle.crn_vec.specs.NetSystems.{positive_kinds}
 use Rattle.crn_cert.specs.Questions.{Q7}
@@ -6,19 +6,20 @@ use Rattle.crn_farkas.specs.declared.fault.Stop.TheVariants.{Wide}
 use Rattle.crn_farkas.specs.Decision.{IsDecision, IsStop}
 use Rattle.crn_cert.specs.Answered.{IsAnswer}
 use Rattle.crn_solve.proofs.PositiveAnswers.{dependence_decided, dependence_wide}
+use Rattle.crn_solve.proofs.positive.positively_dependent.Goals.{in-Ok, in-Err-Wide}
 use Rattle.crn_solve.proofs.positive.positively_dependent.Goals as goal
 
-pub returns-in-Ok : goal.returns-in-Ok
-returns-in-Ok c budget earlier =
+pub returns-clause-answer : goal.returns-clause-answer
+returns-clause-answer c budget earlier =
     let net = c.args.net.now in
-    let d = subst (λ (a : Mat). IsDecision a (positive_kinds a) c.in-Ok.decision) c.requires c.in-Ok.ensures in
-    subst (IsAnswer net budget earlier Q7) (sym c.vector_answer.ensures) (dependence_decided net budget earlier c.in-Ok.decision c.meets_definition.ensures d)
-
-pub returns-in-Err-Wide : goal.returns-in-Err-Wide
-returns-in-Err-Wide c budget earlier =
-    let net = c.args.net.now in
-    let w = c.in-Err-Wide in
     let a = c.args.matrix.now in
-    let named : IsStop a (positive_kinds a) (Wide w.index w.basis) = subst (IsStop a (positive_kinds a)) w.field-0-is w.ensures in
-    let s = subst (λ (b : Mat). IsStop b (positive_kinds b) (Wide w.index w.basis)) c.requires named in
-    subst (IsAnswer net budget earlier Q7) (sym c.wide_answer.ensures) (dependence_wide net budget earlier w.index w.basis s)
+    elim c.match-decide_positive.branch as (λ _. IsAnswer net budget earlier Q7 c.match-decide_positive.answer) [
+      | in-Ok w ↦
+          let d = subst (λ (b : Mat). IsDecision b (positive_kinds b) w.in-Ok.decision) c.requires w.in-Ok.ensures.answer in
+          subst (IsAnswer net budget earlier Q7) (sym (w.answer-is ∙ w.vector_answer-answer.ensures)) (dependence_decided net budget earlier w.in-Ok.decision c.meets_definition.ensures d)
+      | in-Err-Wide w ↦
+          let e = w.in-Err-Wide in
+          let named : IsStop a (positive_kinds a) (Wide e.index e.basis) = subst (IsStop a (positive_kinds a)) e.field-0-is e.ensures.answer in
+          let s = subst (λ (b : Mat). IsStop b (positive_kinds b) (Wide e.index e.basis)) c.requires named in
+          subst (IsAnswer net budget earlier Q7) (sym (w.answer-is ∙ w.wide_answer-answer.ensures)) (dependence_wide net budget earlier e.index e.basis s)
+    ]

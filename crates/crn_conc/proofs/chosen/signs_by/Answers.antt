@@ -1,0 +1,46 @@
+use Rattle.std.proofs.Common.{◌≡◌, ◌+◌, ◌<◌, ◌++◌, ℕ, List, length, take, drop, sym, ap, subst, ◌∙◌, arith}
+use Rattle.crn_vec.specs.declared.signs.Sign.{Sign}
+use Rattle.crn_vec.specs.Elementary.{width}
+use Rattle.crn_vec.specs.Concordance.{is_minus, is_plus}
+use Rattle.crn_sign.specs.declared.bits.Bits.{Bits}
+use Rattle.crn_sign.specs.Options.{IsPut, sign_at}
+use Rattle.crn_conc.specs.Inner.Columns.{signs_at}
+use Rattle.crn_conc.proofs.SumLaws.{IsFilling, filling_none, filling_step, written}
+use Rattle.crn_conc.proofs.chosen.signs_by.Goals as goal
+
+pub loop-k-init : goal.loop-k-init
+loop-k-init c = record {
+  count = omega (arith, c.in_ok-words.ensures.len, c.word_count.ensures);
+  done = λ d e. filling_none _ _ _;
+}
+
+pub put_asked-requires : goal.put_asked-requires
+put_asked-requires c = omega (arith, c.deref_mut.ensures.len, ap (λ (l : List Bits). length l) c.deref_mut.ensures.value, c.loop-k.invariant.count, c.loop-k-test.true, c.cols.ensures.count, c.rows.ensures.count)
+
+pub loop-k-preserved : goal.loop-k-preserved
+loop-k-preserved c =
+    let table = c.args.table.now in
+    let old = c.loop-k.words in
+    let new = c.put_asked.new.words in
+    let asked = c.bits_of_sign.result in
+    let put : IsPut old.items c.loop-k.k asked new = subst (λ (l : List Bits). IsPut l c.loop-k.k asked new) c.deref_mut.ensures.value c.put_asked.ensures in
+    let long : length new ≡ old.len = omega (arith, put.count, c.deref_mut.ensures.len, ap (λ (l : List Bits). length l) c.deref_mut.ensures.value) in
+    let is : take old.len (new ++ drop (length new) old.items) ≡ new = written old.len new old.items long in
+    record {
+      count = ap (λ (l : List Bits). length l) is ∙ put.count ∙ c.loop-k.invariant.count;
+      done = λ d e.
+          let f = λ (j : ℕ). is_plus (sign_at (signs_at table j) d) in
+          let g = λ (j : ℕ). is_minus (sign_at (signs_at table j) d) in
+          let s = c.last_sign_at.ensures d e in
+          subst (λ (l : List Bits). IsFilling f g l (c.loop-k.k + 1)) (sym is)
+          (filling_step f g old.items new c.loop-k.k asked put (c.bits_of_sign.ensures.plus ∙ ap is_plus s) (c.bits_of_sign.ensures.minus ∙ ap is_minus s) (c.loop-k.invariant.done d e));
+    }
+
+pub returns : goal.returns
+returns c = λ d e.
+    let h = c.loop-k.invariant.done d e in
+    record {
+      count = c.loop-k.invariant.count;
+      plus = λ k lt. h.plus k (omega (arith, lt, c.loop-k-test.false, c.cols.ensures.count, c.rows.ensures.count));
+      minus = λ k lt. h.minus k (omega (arith, lt, c.loop-k-test.false, c.cols.ensures.count, c.rows.ensures.count));
+    }

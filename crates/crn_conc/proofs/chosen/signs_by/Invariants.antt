@@ -1,0 +1,12 @@
+use Rattle.std.proofs.Common.{◌≡◌, ◌+◌, ℕ, length}
+use Rattle.crn_vec.specs.Concordance.{is_minus, is_plus}
+use Rattle.crn_sign.specs.Options.{sign_at, word_count}
+use Rattle.crn_conc.specs.Inner.Columns.{signs_at}
+use Rattle.crn_conc.proofs.SumLaws.{IsFilling}
+use Rattle.crn_conc.proofs.chosen.signs_by.Given as goal
+
+abbrev pub invariant-loop-k : goal.invariant-loop-k
+invariant-loop-k l = record {
+  count : length l.words.items ≡ word_count l.matrix;
+  done : (d : ℕ) → d + 1 ≡ l.choices → IsFilling (λ j. is_plus (sign_at (signs_at l.table j) d)) (λ j. is_minus (sign_at (signs_at l.table j) d)) l.words.items l.k;
+}

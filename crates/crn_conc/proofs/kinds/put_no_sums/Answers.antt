@@ -1,0 +1,14 @@
+use Rattle.std.proofs.Common.{◌≡◌, ℕ, refl, arith}
+use Rattle.crn_sign.specs.declared.bits.Bits.{Bits}
+use Rattle.crn_sign.specs.Options.{none}
+use Rattle.crn_conc.proofs.SumLaws.{all_made, making_none, making_step}
+use Rattle.crn_conc.proofs.kinds.put_no_sums.Goals as goal
+
+pub loop-w-init : goal.loop-w-init
+loop-w-init c = making_none (λ w x. x ≡ none) c.args.sums.now
+
+pub loop-w-preserved : goal.loop-w-preserved
+loop-w-preserved c = making_step (λ w x. x ≡ none) c.args.sums.now c.loop-w.sums c.loop-w.w none c.loop-w-test.true refl c.loop-w.invariant
+
+pub returns : goal.returns
+returns c = all_made (λ w x. x ≡ none) c.args.sums.now c.loop-w.sums c.loop-w.w (omega (arith, c.loop-w.invariant.count, c.loop-w-test.false)) c.loop-w.invariant

@@ -1,0 +1,4 @@
+-- What other crates may cite of this crate's proofs.
+
+-- What words ask after one coordinate was put.
+pub use Rattle.crn_sign.proofs.PlaceLaws.{put_here, put_other}
