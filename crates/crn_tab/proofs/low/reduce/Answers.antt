@@ -18,16 +18,17 @@ times_divides z t u e =
     let D : ℕ → Type 0 = λ n. unsigned_abs t ∣ n in
     subst D (sym (unsigned_abs-mul z t) ∙ ap unsigned_abs e) (dvd-mul_left (unsigned_abs t) (unsigned_abs z))
 
-pub returns-then-known-eq1-clause-primitive : goal.returns-then-known-eq1-clause-primitive
-returns-then-known-eq1-clause-primitive c =
+pub returns-then-g-eq1-clause-primitive : goal.returns-then-g-eq1-clause-primitive
+returns-then-g-eq1-clause-primitive c =
     let row = c.args.row.now in
-    let is : unsigned_abs c.args.known.now ≡ 1 = ap unsigned_abs (sym (read c.args.known.now c.requires.known_small) ∙ ap (to_z w64) c.if-known-eq1.true) in
+    let g = c.first_divisor-g in
+    let is : unsigned_abs g.result ≡ 1 = ap unsigned_abs (sym (read g.result g.ensures.small) ∙ ap (to_z w64) c.if-g-eq1.true) in
     record {
       t = pos 1;
       some = omega (arith, ints);
       content = record {
         divides = λ k. one-dvd (unsigned_abs (entry row k));
-        greatest = λ d h. subst (λ (n : ℕ). d ∣ n) is (c.requires.known d h);
+        greatest = λ d h. subst (λ (n : ℕ). d ∣ n) is (g.ensures.greatest d h);
       };
       parts = λ k lt. times_one (entry row k);
     }
@@ -35,14 +36,15 @@ returns-then-known-eq1-clause-primitive c =
 pub returns-then-try_divide-clause-primitive : goal.returns-then-try_divide-clause-primitive
 returns-then-try_divide-clause-primitive c =
     let row = c.args.row.now in
-    let known = c.args.known.now in
-    let whole = c.try_divide.ensures.whole c.if-try_divide.true in
+    let g = c.first_divisor-g in
+    let t = g.result in
+    let whole = rw (read t g.ensures.small) at (c.try_divide.ensures.whole c.if-try_divide.true) in
     record {
-      t = known;
-      some = c.requires.some;
+      t = t;
+      some = g.ensures.some;
       content = record {
-        divides = everywhere (λ x. unsigned_abs known ∣ unsigned_abs x) row (dvd-zero (unsigned_abs known)) (λ k lt. times_divides (entry c.try_divide.new.row k) known (entry row k) (whole k lt));
-        greatest = c.requires.known;
+        divides = everywhere (λ x. unsigned_abs t ∣ unsigned_abs x) row (dvd-zero (unsigned_abs t)) (λ k lt. times_divides (entry c.try_divide.new.row k) t (entry row k) (whole k lt));
+        greatest = g.ensures.greatest;
       };
       parts = whole;
     }
@@ -51,12 +53,12 @@ pub reduce_by_search-requires-clause-low : goal.reduce_by_search-requires-clause
 reduce_by_search-requires-clause-low c = λ yes.
     let h = c.requires.low yes in (
       subst (λ (v : List ℤ). AreBelow (2 ^ 30) v) (sym (c.try_divide.ensures.same c.if-try_divide.false)) h.0,
-      h.1,
+      omega (arith, ap unsigned_abs (read c.first_divisor-g.result c.first_divisor-g.ensures.small), c.first_divisor-g.ensures.less, h.1),
     )
 
 pub reduce_by_search-requires-clause-known : goal.reduce_by_search-requires-clause-known
-reduce_by_search-requires-clause-known c = λ d h.
-    c.requires.known d (subst (λ (v : List ℤ). (k : ℕ) → d ∣ unsigned_abs (entry v k)) (c.try_divide.ensures.same c.if-try_divide.false) h)
+reduce_by_search-requires-clause-known c = rw (read c.first_divisor-g.result c.first_divisor-g.ensures.small) (λ d h.
+    c.first_divisor-g.ensures.greatest d (subst (λ (v : List ℤ). (k : ℕ) → d ∣ unsigned_abs (entry v k)) (c.try_divide.ensures.same c.if-try_divide.false) h))
 
 pub returns-clause-primitive : goal.returns-clause-primitive
 returns-clause-primitive c = subst (λ (v : List ℤ). IsPrimitivePart v c.reduce_by_search.new.row) (c.try_divide.ensures.same c.if-try_divide.false) c.reduce_by_search.ensures.primitive

@@ -11,13 +11,6 @@ use Rattle.crn_tab.proofs.NewRows.{look}
 use Rattle.crn_tab.proofs.Rows.{same_rows}
 use Rattle.crn_tab.proofs.low.try_divide.Goals as goal
 
-pub whole_quotient-requires-clause-low : goal.whole_quotient-requires-clause-low
-whole_quotient-requires-clause-low c = λ yes.
-    let h = c.requires.low yes in (
-      omega (arith, ap unsigned_abs (c.loop-j.invariant.left c.loop-j.j (omega arith)), h.0 c.loop-j.j),
-      h.1,
-    )
-
 pub restore-requires-clause-small : goal.restore-requires-clause-small
 restore-requires-clause-small c = λ k lt. omega (arith, ap unsigned_abs (c.loop-j.invariant.done k lt), c.requires.small k)
 
