@@ -7,14 +7,8 @@ use Rattle.std.specs.Cmp.Lexicographic.{pointwise}
 use Rattle.std.specs.Cmp.Rules.{signed_items}
 use Rattle.std.proofs.lemmas.Bool.{cases_Bool}
 use Rattle.crn_vec.specs.Lists.{IsIn, firsts}
-use Rattle.crn_vec.proofs.CallerLemmas.{firsts_from, all_in, all_from}
+use Rattle.crn_vec.proofs.CallerLemmas.{firsts_from, all_in, all_from, in_take}
 use Rattle.crn_cert.specs.Shares.{HasAt, IsShareable, number_in, share_of_cuts, SharesFit}
-
-take_from : {A : Type 0} (n : ℕ) (xs : List A) (y : A) → IsIn y (take n xs) → IsIn y xs
-take_from zero xs y h = absurd h
-take_from (suc n) [] y h = absurd h
-take_from (suc n) (x ∷ xs) y (inl e) = inl e
-take_from (suc n) (x ∷ xs) y (inr h) = inr (take_from n xs y h)
 
 take_few : {A : Type 0} (n : ℕ) (xs : List A) → length (take n xs) ≤ n
 take_few zero xs = omega arith
@@ -58,7 +52,7 @@ shares_fit most room cuts h =
     let table : List (List ℤ) = take most (firsts (pointwise int_eq) cuts) in
     record {
       few = take_few most (firsts (pointwise int_eq) cuts);
-      lists = all_from (IsShareable room) table (λ y i. all_in (IsShareable room) cuts y h (firsts_from (pointwise int_eq) cuts y (take_from most (firsts (pointwise int_eq) cuts) y i)));
+      lists = all_from (IsShareable room) table (λ y i. all_in (IsShareable room) cuts y h (firsts_from (pointwise int_eq) cuts y (in_take most (firsts (pointwise int_eq) cuts) y i)));
       leaves = all_found table cuts;
     }
 

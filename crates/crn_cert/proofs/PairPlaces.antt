@@ -6,7 +6,7 @@ use Rattle.crn_vec.specs.Lists.{IsIn, IsAscending}
 use Rattle.crn_vec.specs.Network.{Net, IsNetwork}
 use Rattle.crn_vec.specs.CutPairs.{IsBetween, IsFirstOfPair}
 use Rattle.crn_vec.proofs.CallerLemmas.{eq_or}
-use Rattle.crn_vec.proofs.CallerLemmas.{reaction_in, inside_at, in_range, filter_has, range_above, range_bounds, filter_above, above_ascending, and_cases, and_true}
+use Rattle.crn_vec.proofs.CallerLemmas.{reaction_in, inside_at, in_range, filter_from, filter_has, range_above, range_bounds, filter_above, above_ascending, and_cases, and_true}
 use Rattle.crn_vec.proofs.CallerLemmas.{or_right, not_true}
 use Rattle.crn_cert.specs.Questions.{Earlier, Q2, on, count_of}
 use Rattle.crn_cert.specs.Says.{from_zero}
@@ -35,21 +35,6 @@ any_at test a (suc n) c le lt e = elim (eq_or c a) as (λ _. (test a || list_any
     after (suc c) zero l ne = omega arith
     after zero (suc a) l ne = absurd (omega (arith, l))
     after (suc c) (suc a) l ne = let h = after c a (omega (arith, l)) (λ e. ne (ap suc e)) in omega (arith, h)
-
-filter_from : (p : ℕ → Bool) (xs : List ℕ) (y : ℕ) → IsIn y (filter p xs) → IsIn y xs × (p y ≡ true)
-filter_from p [] y h = absurd h
-filter_from p (x ∷ xs) y h =
-    elim (cases_Bool (p x)) as (λ _. IsIn y (x ∷ xs) × (p y ≡ true)) [
-      | inl hit ↦
-          let step : filter p (x ∷ xs) ≡ x ∷ filter p xs = rw hit refl in
-          elim (subst (λ (z : List ℕ). IsIn y z) step h) as (λ _. IsIn y (x ∷ xs) × (p y ≡ true)) [
-            | inl e ↦ (inl e, ap p e ∙ hit)
-            | inr i ↦ let r = filter_from p xs y i in (inr r.0, r.1)
-          ]
-      | inr miss ↦
-          let step : filter p (x ∷ xs) ≡ filter p xs = rw miss refl in
-          let r = filter_from p xs y (subst (λ (z : List ℕ). IsIn y z) step h) in (inr r.0, r.1)
-    ]
 
 into_zero : (rs : List ℕ) (r : ℕ) → IsIn r rs → IsIn (r - 1) (from_zero rs)
 into_zero [] r i = absurd i

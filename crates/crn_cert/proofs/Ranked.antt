@@ -12,8 +12,8 @@ use Rattle.crn_vec.specs.Rank.{IsIndependent, DependsOn, IsRank, chosen}
 use Rattle.crn_vec.proofs.CallerLemmas.{listed, length-listed}
 use Rattle.crn_vec.proofs.CallerLemmas.{unit, dot_unit}
 use Rattle.crn_vec.proofs.CallerLemmas.{entry-column, length-column}
-use Rattle.crn_vec.proofs.CallerLemmas.{base_gives_rank}
-use Rattle.crn_vec.proofs.CallerLemmas.{eq_or, filter_has, ascending_suc, above_zero, ascending_tail, above_in}
+use Rattle.crn_vec.proofs.CallerLemmas.{base_gives_rank, chosen-suc}
+use Rattle.crn_vec.proofs.CallerLemmas.{eq_or, filter_has, ascending_suc, above_zero, ascending_tail, above_in, below_suc}
 use Rattle.crn_cert.specs.Tests.{AllHold}
 use Rattle.crn_cert.specs.Ranges.{AreFree}
 use Rattle.crn_cert.specs.RankTests.{vector_of, vectors_of, IsDual, IsComb, outside, dual_tests, comb_tests, rank_tests}
@@ -103,15 +103,6 @@ record Placed (base members : List ℕ) : Type 0 where
   long : length places ≡ length base
   same : (f : ℕ → List ℤ) → chosen places (map f members) ≡ map f base
 
-in_suc : (p : ℕ) (xs : List ℕ) (n : ℕ) → ((q : ℕ) → IsIn q xs → q < n) → IsIn p (map suc xs) → p < suc n
-in_suc p [] n h i = absurd i
-in_suc p (x ∷ xs) n h (inl e) = let l = h x (inl refl) in omega (arith, l, e)
-in_suc p (x ∷ xs) n h (inr i) = in_suc p xs n (λ q j. h q (inr j)) i
-
-chosen_suc : (v : List ℤ) (vs : List (List ℤ)) (ps : List ℕ) → chosen (map suc ps) (v ∷ vs) ≡ chosen ps vs
-chosen_suc v vs [] = refl
-chosen_suc v vs (p ∷ ps) = ap (λ (t : List (List ℤ)). get_or vs p [] ∷ t) (chosen_suc v vs ps)
-
 placed : (base members : List ℕ) → IsAscending base → IsAscending members → ((r : ℕ) → IsIn r base → IsIn r members) → Placed base members
 placed [] members a m i = record { places = []; ascending = tt; below = λ p h. absurd h; long = refl; same = λ f. refl }
 placed (b ∷ bs) [] a m i = absurd (i b (inl refl))
@@ -121,9 +112,9 @@ placed (b ∷ bs) (x ∷ xs) a m i = elim (eq_or b x) [
       record {
         places = 0 ∷ map suc rest.places;
         ascending = above_zero rest.places rest.ascending;
-        below = λ p h. elim h [ inl z ↦ omega (arith, z) | inr j ↦ in_suc p rest.places (length xs) rest.below j ];
+        below = λ p h. elim h [ inl z ↦ omega (arith, z) | inr j ↦ below_suc (length xs) rest.places rest.below p j ];
         long = omega (arith, length-map rest.places suc, rest.long);
-        same = λ f. ap (λ (t : List (List ℤ)). f x ∷ t) (chosen_suc (f x) (map f xs) rest.places ∙ rest.same f) ∙ ap (λ (n : ℕ). f n ∷ map f bs) (sym e);
+        same = λ f. ap (λ (t : List (List ℤ)). f x ∷ t) (chosen-suc rest.places (f x) (map f xs) ∙ rest.same f) ∙ ap (λ (n : ℕ). f n ∷ map f bs) (sym e);
       }
   | inr ne ↦
       let later : (r : ℕ) → IsIn r (b ∷ bs) → IsIn r xs = λ r h.
@@ -137,9 +128,9 @@ placed (b ∷ bs) (x ∷ xs) a m i = elim (eq_or b x) [
       record {
         places = map suc rest.places;
         ascending = ascending_suc rest.places rest.ascending;
-        below = λ p h. in_suc p rest.places (length xs) rest.below h;
+        below = λ p h. below_suc (length xs) rest.places rest.below p h;
         long = length-map rest.places suc ∙ rest.long;
-        same = λ f. chosen_suc (f x) (map f xs) rest.places ∙ rest.same f;
+        same = λ f. chosen-suc rest.places (f x) (map f xs) ∙ rest.same f;
       }
 ]
 

@@ -7,7 +7,7 @@ use Rattle.std.proofs.lemmas.List.FromFn.{length-range_with_len}
 use Rattle.crn_vec.specs.declared.limits.TheConstants.{MAX_REACTIONS}
 use Rattle.crn_vec.specs.Lists.{IsIn, IsAscending}
 use Rattle.crn_vec.specs.Network.{Net, IsNetwork}
-use Rattle.crn_vec.proofs.CallerLemmas.{all_from, filter_few, filter_ascending, first_stays, first_goes, in_range}
+use Rattle.crn_vec.proofs.CallerLemmas.{all_from, filter_few, filter_from, filter_has, filter_ascending, in_range}
 use Rattle.crn_cert.specs.declared.answer.RankProof.{RankProof}
 use Rattle.crn_cert.specs.Ranges.{IsFrom}
 use Rattle.crn_cert.specs.Formed.{IsRankProof}
@@ -17,13 +17,6 @@ use Rattle.crn_check.specs.declared.members.Members.{Members}
 use Rattle.crn_check.specs.declared.members.Members.TheVariants.{All}
 use Rattle.crn_check.specs.Inner.Bases.{IsBase, is_member, members_of}
 use Rattle.crn_check.proofs.Outside.{outside_long}
-
-filter_in : (p : ℕ → Bool) (xs : List ℕ) (r : ℕ) → IsIn r (filter p xs) → IsIn r xs
-filter_in p [] r i = i
-filter_in p (x ∷ xs) r i = elim (cases_Bool (p x)) [
-  | inl hit ↦ elim (subst (IsIn r) (first_stays p x xs hit) i) [ inl e ↦ inl e | inr later ↦ inr (filter_in p xs r later) ]
-  | inr miss ↦ inr (filter_in p xs r (subst (IsIn r) (first_goes p x xs miss) i))
-]
 
 members_few : (net : Net) (m : Members) → length (members_of net m) ≤ length net.reactions
 members_few net m = let few = filter_few (is_member net m) (range_with_len 1 (length net.reactions)) in omega (arith, few, length-range_with_len 1 (length net.reactions))
@@ -46,7 +39,7 @@ pub base_is : (net : Net) (m : Members) (rank : ℕ) (proof : RankProof) → IsN
 base_is net m rank proof n h = record {
   network = n;
   members = all_from (IsFrom 1 (length net.reactions)) proof.base.list (λ r i.
-      let b = range_bounds r 1 (length net.reactions) (filter_in (is_member net m) (range_with_len 1 (length net.reactions)) r (h.from r i)) in
+      let b = range_bounds r 1 (length net.reactions) (filter_from (is_member net m) (range_with_len 1 (length net.reactions)) r (h.from r i)).0 in
       (b.0, omega (arith, b.1)));
   count = base_few net m rank proof n h;
 }
@@ -64,13 +57,5 @@ all_members net = go (range_with_len 1 (length net.reactions))
 
 -- ---- members by their numbers
 
-in_filter : (p : ℕ → Bool) (xs : List ℕ) (r : ℕ) → IsIn r xs → p r ≡ true → IsIn r (filter p xs)
-in_filter p [] r i hit = absurd i
-in_filter p (x ∷ xs) r (inl e) hit = subst (IsIn r) (sym (first_stays p x xs (subst (λ (y : ℕ). p y ≡ true) e hit))) (inl e)
-in_filter p (x ∷ xs) r (inr later) hit = elim (cases_Bool (p x)) [
-  | inl has ↦ subst (IsIn r) (sym (first_stays p x xs has)) (inr (in_filter p xs r later hit))
-  | inr miss ↦ subst (IsIn r) (sym (first_goes p x xs miss)) (in_filter p xs r later hit)
-]
-
 pub member_in : (net : Net) (m : Members) (r : ℕ) → 1 ≤ r → r ≤ length net.reactions → is_member net m r ≡ true → IsIn r (members_of net m)
-member_in net m r one most hit = in_filter (is_member net m) (range_with_len 1 (length net.reactions)) r (in_range r 1 (length net.reactions) one (omega (arith, most))) hit
+member_in net m r one most hit = filter_has (is_member net m) (range_with_len 1 (length net.reactions)) r (in_range r 1 (length net.reactions) one (omega (arith, most))) hit

@@ -7,7 +7,7 @@ use Rattle.std.proofs.lemmas.Bool.Decides.{Decides-eqb}
 use Rattle.std.proofs.lemmas.List.{drop_more}
 use Rattle.crn_vec.specs.Lists.{IsIn, IsAbove, IsAscending}
 use Rattle.crn_vec.specs.Network.{Net}
-use Rattle.crn_vec.proofs.CallerLemmas.{any_is, above_ascending, above_lower}
+use Rattle.crn_vec.proofs.CallerLemmas.{any_is, above_ascending, above_lower, above_in}
 use Rattle.crn_cert.specs.RankTests.{IsComb, comb_tests, outside, vector_of}
 use Rattle.crn_check.specs.declared.fault.CheckFault.{CheckFault}
 use Rattle.crn_check.specs.declared.members.Members.{Members}
@@ -17,11 +17,6 @@ use Rattle.crn_check.proofs.Judging.{judges_pass}
 
 has_not : (base : List ℕ) (r : ℕ) → (IsIn r base → ⊥) → list_any (λ b. b == r) base ≡ false
 has_not base r none = elim (any_is (λ (b : ℕ). b == r) r (λ b. Decides-eqb b r) base) [ inl a ↦ absurd (none a.1) | inr b ↦ b.0 ]
-
-above_in : (k : ℕ) (xs : List ℕ) (x : ℕ) → IsAbove k xs → IsIn x xs → k < x
-above_in k [] x h i = absurd i
-above_in k (y ∷ ys) x h (inl e) = omega (arith, h.0, e)
-above_in k (y ∷ ys) x h (inr later) = let more = above_in y ys x h.1 later in omega (arith, h.0, more)
 
 -- ---- how many members are outside
 
@@ -56,16 +51,16 @@ outside_long (b ∷ bs) (m ∷ ms) up more sub = elim (sub b (inl refl)) [
       let here = outside_in (b ∷ bs) m ms (rw hit refl) in
       let above : IsAbove b ms = subst (λ (k : ℕ). IsAbove k ms) (sym is) more in
       let rest = outside_long bs ms (above_ascending b bs up) (above_ascending m ms more) (λ c i. elim (sub c (inr i)) [
-        | inl same ↦ absurd (let lt = above_in b bs c up i in omega (arith, lt, same, is))
+        | inl same ↦ absurd (let lt = above_in b bs up c i in omega (arith, lt, same, is))
         | inr later ↦ later
       ]) in
       let e = ap (λ (l : List ℕ). length l) (here ∙ outside_less b bs ms above) in
       omega (arith, e, rest)
   | inr later ↦
-      let lt = above_in m ms b more later in
+      let lt = above_in m ms more b later in
       let none : IsIn m (b ∷ bs) → ⊥ = λ i. elim i [
         | inl same ↦ omega (arith, lt, same)
-        | inr i ↦ let gt = above_in b bs m up i in omega (arith, lt, gt)
+        | inr i ↦ let gt = above_in b bs up m i in omega (arith, lt, gt)
       ] in
       let e = ap (λ (l : List ℕ). length l) (outside_out (b ∷ bs) m ms (has_not (b ∷ bs) m none)) in
       let rest = outside_long (b ∷ bs) ms up (above_ascending m ms more) (λ c i. elim (sub c i) [

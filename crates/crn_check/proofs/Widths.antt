@@ -8,13 +8,10 @@ use Rattle.crn_vec.specs.Network.{Net, IsNetwork, JoinsTwo, sides_of, reaction_v
 use Rattle.crn_vec.specs.Vectors.{entry, column}
 use Rattle.crn_vec.specs.Rank.{combination_at}
 use Rattle.crn_vec.specs.Deficiency.{vectors}
-use Rattle.crn_vec.proofs.CallerLemmas.{all_at, past_end, dot_zero, vector_long, length-minus, vectors_count, vector_at}
+use Rattle.crn_vec.proofs.CallerLemmas.{at_in, past_end, dot_zero, reaction_long, vectors_count, vector_width as width_at}
 
 pub vector_width : (net : Net) → IsNetwork net → (r : ℕ) → r < length net.reactions → length (reaction_vector net (get_or net.reactions r (0, 0))) ≡ length net.names
-vector_width net n r lt =
-    let e = get_or net.reactions r (0, 0) in
-    let j : JoinsTwo (length net.complexes) e = all_at (JoinsTwo (length net.complexes)) net.reactions r (0, 0) n.partial.apart lt in
-    length-minus (length net.names) (sides_of net e).1 (sides_of net e).0 (vector_long (length net.names) net.complexes n.partial.vectors e.1 j.2) (vector_long (length net.names) net.complexes n.partial.vectors e.0 j.1)
+vector_width net n r lt = reaction_long net n (get_or net.reactions r (0, 0)) (at_in net.reactions r (0, 0) lt)
 
 column_past : (vs : List (List ℤ)) (n s : ℕ) → ((j : ℕ) → j < length vs → length (get_or vs j []) ≡ n) → n ≤ s → (k : ℕ) → entry (column vs s) k ≡ pos 0
 column_past [] n s h le k = refl
@@ -28,9 +25,7 @@ combination_past c vs n s h le = dot_zero c (column vs s) (λ i. ap (λ (x : ℤ
 -- ---- all reactions
 
 pub widths_of_all : (net : Net) → IsNetwork net → (j : ℕ) → j < length (vectors net) → length (get_or (vectors net) j []) ≡ length net.names
-widths_of_all net n j lt =
-    let less : j < length net.reactions = omega (arith, lt, vectors_count net) in
-    ap (λ (v : List ℤ). length v) (vector_at net j less) ∙ vector_width net n j less
+widths_of_all net n j lt = width_at net n j (omega (arith, lt, vectors_count net))
 
 pub all_reactions : (net : Net) (P : List ℤ → Type 0) → ((r : ℕ) → r < length net.reactions → P (reaction_vector net (get_or net.reactions r (0, 0)))) → AllByRecursion P (vectors net)
 all_reactions net P h = go net.reactions h

@@ -14,7 +14,7 @@ use Rattle.crn_vec.specs.Systems.{HasKind, IsSolution}
 use Rattle.crn_vec.specs.Problems.{IsFeasible, all_zero, options_below}
 use Rattle.crn_vec.specs.Concordance.{IsTable, column_kind, concordance, is_minus, is_plus, kind_of_sum, kinds_a_of, kinds_b_of, products, row_kinds, some_sign}
 use Rattle.crn_vec.specs.Visits.{Passes, PassesBudget, begun, past, below}
-use Rattle.crn_vec.proofs.CallerLemmas.{all_append, dot-comm, entry-zeros, length-zeros, zeros, zeros-dot}
+use Rattle.crn_vec.proofs.CallerLemmas.{all_append, dot-zeros, entry-zeros, length-rows, length-zeros, take-zeros, zeros}
 use Rattle.crn_conc.proofs.LastSigns.{product_zero}
 
 -- 0 is of the kind
@@ -22,14 +22,6 @@ abbrev IsQuiet : Kind → Type 0
 IsQuiet kind = HasKind kind (pos 0)
 
 -- ---- the vector 0
-
-dot_zeros : (r : List ℤ) (n : ℕ) → dot r (zeros n) ≡ pos 0
-dot_zeros r n = dot-comm r (zeros n) ∙ zeros-dot n r
-
-take_zeros : (n m : ℕ) → (k : ℕ) × (take n (zeros m) ≡ zeros k)
-take_zeros zero m = (0, refl)
-take_zeros (suc n) zero = (0, refl)
-take_zeros (suc n) (suc m) = let t = take_zeros n m in (suc t.0, ap (λ (l : List ℤ). pos 0 ∷ l) t.1)
 
 quiet_zip : (kinds : List Kind) (n : ℕ) → length kinds ≡ n → AllByRecursion IsQuiet kinds → AllZip HasKind kinds (zeros n)
 quiet_zip [] zero e h = tt
@@ -39,14 +31,14 @@ quiet_zip (kind ∷ kinds) (suc n) e h = (h.0, quiet_zip kinds n (omega (arith, 
 
 zeros_solve : (a : Mat) (kinds : List Kind) → length kinds ≡ width a → AllByRecursion IsQuiet kinds → (x : List ℤ) × IsSolution a kinds x
 zeros_solve a kinds long h =
-    let t = take_zeros a.cols (width a) in (
+    let t = take-zeros a.cols (width a) in (
       take a.cols (zeros (width a)),
       (
         zeros (width a),
         record {
           space = record {
             long = length-zeros (width a);
-            is = λ i lt. entry-zeros (width a) (a.cols + i) ∙ sym (ap (dot (get_or a.rows i [])) t.1 ∙ dot_zeros (get_or a.rows i []) t.0);
+            is = λ i lt. entry-zeros (width a) (a.cols + i) ∙ sym (ap (dot (get_or a.rows i [])) t.1 ∙ dot-zeros t.0 (get_or a.rows i []));
           };
           columns = refl;
           each = quiet_zip kinds (width a) long h;
@@ -89,11 +81,6 @@ quiet_same : (n : ℕ) (kind : Kind) → IsQuiet kind → AllByRecursion IsQuiet
 quiet_same zero kind h = tt
 quiet_same (suc n) kind h = (h, quiet_same n kind h)
 
-length-row_kinds : (n : ℕ) (p : List Sign) → length (row_kinds n p) ≡ n
-length-row_kinds zero p = refl
-length-row_kinds (suc n) [] = ap suc (length-row_kinds n [])
-length-row_kinds (suc n) (s ∷ p) = ap suc (length-row_kinds n p)
-
 -- ---- visits
 
 not_full : (k n : ℕ) (b : Bool) → k < n → ((k == n) && b) ≡ false
@@ -110,7 +97,7 @@ zeros_feasible m table t p e lt =
       opened = not_full (length p) (length m.rows) (all_zero p) lt;
       part_a = zeros_solve m (kinds_a_of m table p) (omega (arith, a, length-map table (λ signs. column_kind signs p), length-replicate (length m.rows) ZeroKind, t.reactions))
           (all_append IsQuiet (map (λ signs. column_kind signs p) table) (replicate (length m.rows) ZeroKind) (quiet_columns table p e) (quiet_same (length m.rows) ZeroKind refl));
-      part_b = zeros_solve m (kinds_b_of m p) (omega (arith, b, length-replicate m.cols Free, length-row_kinds (length m.rows) p))
+      part_b = zeros_solve m (kinds_b_of m p) (omega (arith, b, length-replicate m.cols Free, length-rows (length m.rows) p))
           (all_append IsQuiet (replicate m.cols Free) (row_kinds (length m.rows) p) (quiet_same m.cols Free tt) (quiet_rows (length m.rows) p e));
     }
 

@@ -25,7 +25,7 @@ fn extended(above: Bits, signs: Bits, option: Sign) -> Bits
     }
 }
 
-// What is asked of 64 coordinates: of those that are settled, the sign of the sum.
+// What is required of 64 coordinates: of those that are settled, the sign of the sum.
 fn asked_of_sums(settled: Bits, sums: Bits) -> Bits
     ensures { IsAskedOf settled sums result }
 {
@@ -56,7 +56,7 @@ pub(crate) fn put_extended(above: &[Bits], signs: &[Bits], option: Sign, sums: &
     }
 }
 
-/// Puts what is asked of the coordinates that are settled.
+/// Puts what is required of the coordinates that are settled.
 pub(crate) fn put_asked_of_sums(settled: &[Bits], sums: &[Bits], asked: &mut [Bits])
     requires settled { length settled.now ≡ length asked.old }
     requires sums { length sums.now ≡ length asked.old }
@@ -68,7 +68,7 @@ pub(crate) fn put_asked_of_sums(settled: &[Bits], sums: &[Bits], asked: &mut [Bi
     }
 }
 
-/// What is asked of a species' row in part B: its option, and nothing if it is not chosen yet.
+/// What is required of a species' row in part B: its option, or nothing if it is not chosen yet.
 pub fn asked_of_row(prefix: &[Sign], s: usize) -> Asked
     ensures { (n : ℕ) → s < n → kind_at (row_kinds n prefix.now) s ≡ asked_kind result }
 {

@@ -20,6 +20,7 @@ use Rattle.crn_ctext.specs.Documents.{section, written, table_records, Share, Fi
 use Rattle.crn_ctext.specs.Meaning.{Known, pairs_of, sizes_of, shapes_of, problem_over, table_problem, problems_by, meaning}
 use Rattle.crn_ctext.specs.Judged.{AreFormedOf}
 use Rattle.crn_ctext.proofs.Written.{IsShortLine, first_ended}
+use Rattle.crn_ctext.proofs.AnswersApart.{zip_long}
 use Rattle.crn_ctext.proofs.Shared.{IsWrittenFor, shared_written}
 use Rattle.crn_ctext.proofs.BlocksWritten.{all_of, parted}
 use Rattle.crn_ctext.proofs.DocumentsWritten.{network_lines, text_lines, text_of, text_ended, ended_append}
@@ -260,12 +261,6 @@ section_light version q = by (version == 2)
     by true = opened q
     by false = omega arith
 
-zip_long : {A B : Type 0} (R : A → B → Type 0) (xs : List A) (ys : List B) → AllZip R xs ys → length xs ≡ length ys
-zip_long R [] [] z = refl
-zip_long R [] (y ∷ ys) z = absurd z
-zip_long R (x ∷ xs) [] z = absurd z
-zip_long R (x ∷ xs) (y ∷ ys) z = let more = zip_long R xs ys z.1 in omega (arith, more)
-
 -- the most nodes of the trees of an answer to the question
 abbrev pub node_limit : Question → ℕ
 node_limit Q13 = 2 * MAX_BUDGET
@@ -381,7 +376,7 @@ plain_parts (x ∷ xs) ys p = let more = plain_parts xs ys p.1 in ((p.0, more.0)
 
 block_light : (q : Question) (known : Known) (rs : List Record) (p : Parts rs) → IsSmall known → IsFew q → IsFormed meaning q known rs p → length p.nodes ≤ node_limit q → AllPlain rs → weight rs ≤ 9688 * suc (most q) + node_weight q
 block_light q known rs p small few f nodes plain =
-    let long : length (below q (shapes_of known) p.head) ≡ length p.rows = zip_long Fits (below q (shapes_of known) p.head) p.rows f.rows in
+    let long : length (below q (shapes_of known) p.head) ≡ length p.rows = sym (zip_long (below q (shapes_of known) p.head) p.rows f.rows) in
     let size : weight rs ≡ weight ((p.head ∷ p.rows) ++ p.nodes) = ap weight p.all in
     let parts = plain_parts (p.head ∷ p.rows) p.nodes (subst AllPlain p.all plain) in
     let prefix = plain_weight (p.head ∷ p.rows) parts.0 in

@@ -3,6 +3,7 @@ use Rattle.std.proofs.Common.{◌↔◌, ◌≡◌, ◌++◌, ◌∙◌, ℕ, Bo
 use Rattle.std.proofs.lemmas.List.{append_cancel_left}
 use Rattle.crn_vec.specs.Kept.{KeptNums}
 use Rattle.crn_vec.specs.declared.signs.Sign.{Sign}
+use Rattle.crn_vec.proofs.CallerLemmas.{tail_is}
 use Rattle.crn_cert.specs.declared.answer.Gap.TheVariants.{Wide}
 use Rattle.crn_cert.specs.declared.answer.Verdict.{Verdict}
 use Rattle.crn_cert.specs.declared.answer.Verdict.TheVariants.{Unknown}
@@ -168,9 +169,6 @@ joined b Q15 l = l
 
 -- ---- the parts of one block
 
-rest_same : (x y : Record) (xs ys : List Record) → x ∷ xs ≡ y ∷ ys → xs ≡ ys
-rest_same x y xs ys e = cc
-
 -- what is valid of one cut into parts is valid of the other
 pub same_valid : (q : Question) (known : Known) (rs : List Record) (p u : Parts rs) → IsFormed meaning q known rs p → IsFormed meaning q known rs u → documents.IsValid meaning q known rs p
     → documents.IsValid meaning q known rs u × (meaning.learn q known p.head p.rows ≡ meaning.learn q known u.head u.rows)
@@ -178,7 +176,7 @@ same_valid q known rs p u f g v =
     let same = (block_apart meaning q known rs rs [] [] p u f g refl).1 in
     let heads = subst (λ (h : Record). AllHold (head_claims meaning q known h)) same.0 v.head in
     let rows = subst (λ (h : Record). AllHold (row_claims meaning q known h u.rows)) same.0 (subst (λ (r : List Record). AllHold (row_claims meaning q known p.head r)) same.1 v.rows) in
-    let below : p.rows ++ p.nodes ≡ u.rows ++ u.nodes = rest_same p.head u.head (p.rows ++ p.nodes) (u.rows ++ u.nodes) (sym p.all ∙ u.all) in
+    let below : p.rows ++ p.nodes ≡ u.rows ++ u.nodes = tail_is p.head u.head (p.rows ++ p.nodes) (u.rows ++ u.nodes) (sym p.all ∙ u.all) in
     let nodes : p.nodes ≡ u.nodes = append_cancel_left u.rows p.nodes u.nodes (ap (λ (t : List Record). t ++ p.nodes) (sym same.1) ∙ below) in
     let trees = subst (λ (h : Record). AreTrees IsGoodLeaf (problems meaning q known h) u.nodes) same.0 (subst (λ (ns : List Record). AreTrees IsGoodLeaf (problems meaning q known p.head) ns) nodes v.trees) in
     (record { head = heads; rows = rows; trees = trees }, ap₂ (λ (h : Record) (r : List Record). meaning.learn q known h r) same.0 same.1)

@@ -2,9 +2,9 @@
 use Rattle.std.proofs.Common.{◌≡◌, ◌⊎◌, ℕ, Bool, true, false, List, subst, sym, inl, inr}
 use Rattle.crn_ctext.specs.Kinds.{tree_words, known_words}
 use Rattle.crn_ctext.specs.Inner.Rows.{words_of, asked_words, IsTable}
-use Rattle.crn_ctext.specs.declared.kinds.Kind.{Kind}
+use Rattle.crn_ctext.specs.declared.kinds.RecordKind.{RecordKind}
 
-pub asked : (v : ℕ) (trees : Bool) (rows : List Kind) → (v ≡ 1) ⊎ (v ≡ 2) → IsTable rows → words_of v trees rows ≡ asked_words v trees
+pub asked : (v : ℕ) (trees : Bool) (rows : List RecordKind) → (v ≡ 1) ⊎ (v ≡ 2) → IsTable rows → words_of v trees rows ≡ asked_words v trees
 asked v false rows (inl e) t = subst (λ k. words_of k false rows ≡ known_words k) (sym e) t.first
 asked v false rows (inr e) t = subst (λ k. words_of k false rows ≡ known_words k) (sym e) t.second
 asked v true rows (inl e) t = subst (λ k. words_of k true rows ≡ tree_words k) (sym e) t.first_trees

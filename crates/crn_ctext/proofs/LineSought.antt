@@ -7,7 +7,7 @@ use Rattle.std.proofs.lemmas.List.{take_more, take_all}
 use Rattle.std.proofs.lemmas.Slice.Eq.{bytes_eq-Decides}
 use Rattle.crn_vec.specs.Lists.{IsIn}
 use Rattle.crn_vec.specs.Kept.{KeptInts}
-use Rattle.crn_vec.proofs.CallerLemmas.{in_left, and_cases}
+use Rattle.crn_vec.proofs.CallerLemmas.{in_left, in_right, in_push, and_cases}
 use Rattle.crn_cert.specs.Questions.{Question, Q1, Q2, Q3, Q4, Q5, Q6, Q7, Q8, Q9, Q10, Q11, Q12, Q13, Q14, Q15}
 use Rattle.crn_ctext.specs.Records.{Record, Form, Field, Says, BeginsWith, IsShaped, Fits, Takes, AreOf, kind_of}
 use Rattle.crn_ctext.specs.Kinds.{row_words, tree_words, known_words}
@@ -27,16 +27,6 @@ use Rattle.crn_ctext.specs.declared.record_try.Tried.TheVariants as tried
 
 -- ---- members
 
-in_push : {A : Type 0} (x y : A) (xs : List A) → IsIn x (xs ++ y ∷ []) → IsIn x xs ⊎ (x ≡ y)
-in_push x y [] (inl e) = inr e
-in_push x y [] (inr i) = absurd i
-in_push x y (z ∷ xs) (inl e) = inl (inl e)
-in_push x y (z ∷ xs) (inr i) = elim (in_push x y xs i) [ inl h ↦ inl (inr h) | inr e ↦ inr e ]
-
-in_last : {A : Type 0} (y : A) (xs ys : List A) → IsIn y (xs ++ y ∷ ys)
-in_last y [] ys = inl refl
-in_last y (z ∷ xs) ys = inr (in_last y xs ys)
-
 pub nth_in : (forms : List Form) (i : ℕ) → i < length forms → IsIn (slice_index_or forms i no_form) forms
 nth_in [] i lt = absurd (omega (arith, lt))
 nth_in (f ∷ forms) zero lt = inl refl
@@ -44,7 +34,7 @@ nth_in (f ∷ forms) (suc i) lt = inr (nth_in forms i (omega (arith, lt)))
 
 -- what holds of some forms and of one more
 each_push : (P : Form → Type 0) (forms : List Form) (form : Form) → ((f : Form) → IsIn f forms → P f) → P form → (f : Form) → IsIn f (forms ++ form ∷ []) → P f
-each_push P forms form all one f i = elim (in_push f form forms i) [ inl h ↦ all f h | inr e ↦ subst P (sym e) one ]
+each_push P forms form all one f i = elim (in_push f forms form i) [ inl h ↦ all f h | inr e ↦ subst P (sym e) one ]
 
 -- ---- forms that were tried
 
@@ -60,21 +50,21 @@ more_tried so_far tried.Fits place forms form line read ne h t = absurd (ne refl
 more_tried tried.Fits t place forms form line read ne h i = absurd h
 more_tried tried.OtherWord tried.OtherWord place forms form line read ne h t = each_push (λ f. ((word : List ℕ) → BeginsWith line word → kind_of f ≡ word → ⊥) × IsNotShaped line f) forms form h t
 more_tried tried.OtherWord tried.Misfit place forms form line read ne h t =
-    ((form, in_last form forms [], t.0), each_push (IsNotShaped line) forms form (λ f i. (h f i).1) t.1)
+    ((form, in_right form forms (form ∷ []) (inl refl), t.0), each_push (IsNotShaped line) forms form (λ f i. (h f i).1) t.1)
 more_tried tried.OtherWord tried.TooWide place forms form line read ne h t =
-    ((form, in_last form forms [], t.0), (form, in_last form forms [], t.1), each_push (IsNotFit line) forms form (λ f i. not_fit line f (h f i).1) t.2)
+    ((form, in_right form forms (form ∷ []) (inl refl), t.0), (form, in_right form forms (form ∷ []) (inl refl), t.1), each_push (IsNotFit line) forms form (λ f i. not_fit line f (h f i).1) t.2)
 more_tried tried.Misfit tried.OtherWord place forms form line read ne h t =
     ((h.0.0, in_left h.0.0 forms (form ∷ []) h.0.1, h.0.2), each_push (IsNotShaped line) forms form h.1 t.1)
 more_tried tried.Misfit tried.Misfit place forms form line read ne h t =
-    ((form, in_last form forms [], t.0), each_push (IsNotShaped line) forms form h.1 t.1)
+    ((form, in_right form forms (form ∷ []) (inl refl), t.0), each_push (IsNotShaped line) forms form h.1 t.1)
 more_tried tried.Misfit tried.TooWide place forms form line read ne h t =
-    ((form, in_last form forms [], t.0), (form, in_last form forms [], t.1), each_push (IsNotFit line) forms form (λ f i. not_fit line f (h.1 f i)) t.2)
+    ((form, in_right form forms (form ∷ []) (inl refl), t.0), (form, in_right form forms (form ∷ []) (inl refl), t.1), each_push (IsNotFit line) forms form (λ f i. not_fit line f (h.1 f i)) t.2)
 more_tried tried.TooWide tried.OtherWord place forms form line read ne h t =
     ((h.0.0, in_left h.0.0 forms (form ∷ []) h.0.1, h.0.2), (h.1.0, in_left h.1.0 forms (form ∷ []) h.1.1, h.1.2), each_push (IsNotFit line) forms form h.2 (not_fit line form t.1))
 more_tried tried.TooWide tried.Misfit place forms form line read ne h t =
     ((h.0.0, in_left h.0.0 forms (form ∷ []) h.0.1, h.0.2), (h.1.0, in_left h.1.0 forms (form ∷ []) h.1.1, h.1.2), each_push (IsNotFit line) forms form h.2 (not_fit line form t.1))
 more_tried tried.TooWide tried.TooWide place forms form line read ne h t =
-    ((form, in_last form forms [], t.0), (form, in_last form forms [], t.1), each_push (IsNotFit line) forms form h.2 t.2)
+    ((form, in_right form forms (form ∷ []) (inl refl), t.0), (form, in_right form forms (form ∷ []) (inl refl), t.1), each_push (IsNotFit line) forms form h.2 t.2)
 
 pub tried_next : (so_far t : Tried) (place : ℕ) (forms : List Form) (i : ℕ) (line : List ℕ) (read : List ℤ) → i < length forms → (t ≡ tried.Fits → ⊥) → AreTried so_far (take i forms) line → IsTried t place (slice_index_or forms i no_form) line read
     → AreTried (worst_of so_far t) (take (i + 1) forms) line

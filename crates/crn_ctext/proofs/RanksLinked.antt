@@ -8,7 +8,7 @@ use Rattle.std.proofs.Math.Numerals.{add-one}
 use Rattle.crn_vec.specs.Lists.{IsIn, IsAscending}
 use Rattle.crn_vec.specs.Network.{Net}
 use Rattle.crn_vec.specs.Deficiency.{class_members}
-use Rattle.crn_vec.proofs.CallerLemmas.{eq_or, above_in, above_ascending, all_from, abs_back}
+use Rattle.crn_vec.proofs.CallerLemmas.{eq_or, above_in, above_ascending, all_from, abs_back, all_in}
 use Rattle.crn_cert.specs.declared.answer.RankProof.{RankProof}
 use Rattle.crn_cert.specs.Questions.{Earlier}
 use Rattle.crn_cert.specs.Tests.{Test}
@@ -65,11 +65,6 @@ no_more (x ∷ xs) (y ∷ ys) a b h = elim (eq_or x y) [
 -- the reactions of a class by labels
 abbrev places_by : Net → List ℕ → ℕ → List ℕ
 places_by net labels k = filter (λ r. slice_index labels (slice_index_or net.reactions (r - 1) (0, 0)).0 == k) (range_with_len 1 (length net.reactions))
-
-each_in : (P : ℕ → Type 0) (xs : List ℕ) → AllByRecursion P xs → (r : ℕ) → IsIn r xs → P r
-each_in P [] a r i = absurd i
-each_in P (x ∷ xs) a r (inl e) = subst P (sym e) a.0
-each_in P (x ∷ xs) a r (inr i) = each_in P xs a.1 r i
 
 -- ---- rows of free numbers
 
@@ -136,7 +131,7 @@ base_row rank members r f =
     let p = f.1 in
     let t = p.3.0 in
     let all : r.numbers ≡ map pos t.0 = p.2 ∙ ap (λ (x : List ℤ). p.0 ++ x) p.4 ∙ append-nil p.0 ∙ t.1 in
-    (t.0, record_is r (codes "base" ∷ []) (map pos t.0) f.0 all, t.2, t.3, each_in (λ k. IsIn k members) t.0 t.4)
+    (t.0, record_is r (codes "base" ∷ []) (map pos t.0) f.0 all, t.2, t.3, λ k i. all_in (λ k. IsIn k members) t.0 k t.4 i)
 
 -- a combination has one number more than the rank
 wider : (rank : ℕ) → suc rank ≡ 1 + rank

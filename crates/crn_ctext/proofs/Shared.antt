@@ -124,12 +124,6 @@ zip_cuts R ls [] ys z = ([], ls, refl, tt, z)
 zip_cuts R [] (x ∷ xs) ys z = absurd z
 zip_cuts R (l ∷ ls) (x ∷ xs) ys z = let more = zip_cuts R ls xs ys z.1 in (l ∷ more.0, more.1, ap (λ t. l ∷ t) more.2, (z.0, more.3), more.4)
 
-pub zip_append : {A B : Type 0} (R : A → B → Type 0) (ks ms : List A) (xs ys : List B) → AllZip R ks xs → AllZip R ms ys → AllZip R (ks ++ ms) (xs ++ ys)
-zip_append R [] ms [] ys p q = q
-zip_append R [] ms (x ∷ xs) ys p q = absurd p
-zip_append R (k ∷ ks) ms [] ys p q = absurd p
-zip_append R (k ∷ ks) ms (x ∷ xs) ys p q = (p.0, zip_append R ks ms xs ys p.1 q)
-
 -- ---- records that are no cut leaves
 
 abbrev pub NoCuts : List Record → Type 0

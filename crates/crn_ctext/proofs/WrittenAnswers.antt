@@ -15,6 +15,7 @@ use Rattle.crn_ctext.specs.Documents as documents
 use Rattle.crn_ctext.specs.Shares.{as_share}
 use Rattle.std.proofs.lemmas.List.{append-nil}
 use Rattle.crn_vec.specs.Network.{Net, IsNetwork}
+use Rattle.crn_vec.proofs.CallerLemmas.{all_append}
 use Rattle.crn_cert.proofs.CallerLemmas.{shares_fit as cut_shares_fit, IsTreeless, rows_linkage, rows_strong, rows_reversible, rows_weak, rows_rank, rows_deficiency, rows_dependence, rows_conservation, rows_zero, rows_one, rows_regular, rows_confluence}
 use Rattle.crn_ctext.proofs.TablesLinked.{TableRows, tree_or_none}
 use Rattle.crn_ctext.proofs.SignalLinked.{signal_trees}
@@ -173,10 +174,6 @@ plain_for Q13 s = signal_plain
 plain_for Q14 s = concordant_plain
 plain_for Q15 s = strongly_plain
 
-both_all : (P : List ℤ → Type 0) (xs ys : List (List ℤ)) → AllByRecursion P xs → AllByRecursion P ys → AllByRecursion P (xs ++ ys)
-both_all P [] ys a b = b
-both_all P (x ∷ xs) ys a b = (a.0, both_all P xs ys a.1 b)
-
 cuts_by : (net : Net) (earlier : Earlier) (qs : List Question) (xs : List Answer) → IsNetwork net → AllByRecursion ShortFor qs → AreFormed net earlier qs xs → AllByRecursion (IsShareable MAX_NUMBERS) (all_cuts xs)
 cuts_by net earlier [] [] n s h = tt
 cuts_by net earlier [] (a ∷ xs) n s h = absurd h
@@ -184,7 +181,7 @@ cuts_by net earlier (q ∷ qs) [] n s h = absurd h
 cuts_by net earlier (q ∷ qs) (a ∷ xs) n s h =
     let p = plain_for q s.0 in
     let cuts = p.cuts in
-    both_all (IsShareable MAX_NUMBERS) (cuts_in a.proof) (all_cuts xs) (cuts net earlier a.verdict a.proof n h.0.1) (cuts_by net (earlier ++ (q, a.verdict) ∷ []) qs xs n s.1 h.1)
+    all_append (IsShareable MAX_NUMBERS) (cuts_in a.proof) (all_cuts xs) (cuts net earlier a.verdict a.proof n h.0.1) (cuts_by net (earlier ++ (q, a.verdict) ∷ []) qs xs n s.1 h.1)
 
 pub built_short : AllByRecursion ShortFor built
 built_short = (rows_linkage, (rows_strong, (rows_reversible, (rows_weak, (rows_rank, (rows_deficiency, (rows_dependence, (rows_conservation, (rows_zero, (rows_one, (rows_regular, (rows_confluence, (tt, (tt, (tt, tt)))))))))))))))

@@ -15,7 +15,7 @@ use Rattle.crn_ctext.specs.Course.{Course, Gives, FailsFirst}
 use Rattle.crn_ctext.specs.Blocks.{reads, place_of, word_of}
 use Rattle.crn_ctext.specs.declared.word.Word.{Word}
 use Rattle.crn_ctext.specs.declared.word.Word.TheVariants as word
-use Rattle.crn_ctext.specs.declared.kinds.Kind.{Kind}
+use Rattle.crn_ctext.specs.declared.kinds.RecordKind.{RecordKind}
 use Rattle.crn_ctext.specs.declared.fault.DocCode.{DocCode}
 use Rattle.crn_ctext.specs.declared.fault.DocCode.TheVariants as code
 use Rattle.crn_ctext.specs.declared.expect.Sizes.{Sizes as GivenSizes}
@@ -75,8 +75,8 @@ text_of word.RefA = codes "refa"
 text_of word.RefB = codes "refb"
 
 -- the words of these kinds
-abbrev pub texts : List Kind → List (List ℕ)
-texts kinds = map (λ (k : Kind). text_of k.word) kinds
+abbrev pub texts : List RecordKind → List (List ℕ)
+texts kinds = map (λ (k : RecordKind). text_of k.word) kinds
 
 -- the number of a refusal
 abbrev pub code_of : DocCode → ℕ

@@ -22,7 +22,7 @@ macro_rules! kinds {
         }
     };
     (@rows $count:expr; $($kind:ident $text:literal $version:literal $tree:literal $free:literal)*) => {
-        [$(Kind {
+        [$(RecordKind {
             word: Word::$kind,
             version: $version,
             tree: $tree,
@@ -87,7 +87,7 @@ pub(crate) use kinds;
 
 /// A record kind.
 #[derive(Clone, Copy)]
-pub struct Kind {
+pub struct RecordKind {
     /// The word that begins its lines.
     pub word: Word,
     /// The first version of documents that has it.
@@ -100,7 +100,7 @@ pub struct Kind {
 
 /// A table of record kinds.
 pub struct Kinds<const N: usize> {
-    pub rows: [Kind; N],
+    pub rows: [RecordKind; N],
 }
 
 /// The record kinds of documents.
@@ -109,7 +109,7 @@ pub const KINDS: Kinds<48> = Kinds {
 };
 
 // Whether some kind has the word.
-fn has_text(rows: &[Kind], word: &[u8]) -> bool
+fn has_text(rows: &[RecordKind], word: &[u8]) -> bool
     ensures { IsTrue result ↔ IsIn word.now (texts rows.now) }
 {
     for row in rows {
@@ -121,7 +121,7 @@ fn has_text(rows: &[Kind], word: &[u8]) -> bool
 }
 
 // Whether no two kinds have one word.
-fn are_apart(rows: &[Kind]) -> bool
+fn are_apart(rows: &[RecordKind]) -> bool
     ensures { IsTrue result ↔ AreDistinct (texts rows.now) }
 {
     for (i, row) in rows.iter().enumerate() {
@@ -153,14 +153,14 @@ pub fn kinds_are_distinct() -> bool
 }
 
 // Whether the kind is one of this version, and of a tree if only those are asked for.
-fn is_of(kind: &Kind, version: u32, trees: bool) -> bool
+fn is_of(kind: &RecordKind, version: u32, trees: bool) -> bool
     ensures { result ≡ is_row_of version trees kind.now }
 {
     kind.version <= version && (kind.tree || !trees)
 }
 
 // Whether some kind has the word.
-fn has_word(rows: &[Kind], word: &[u8], version: u32, trees: bool) -> bool
+fn has_word(rows: &[RecordKind], word: &[u8], version: u32, trees: bool) -> bool
     ensures { IsTrue result ↔ IsIn word.now (words_of version trees rows.now) }
 {
     for row in rows {
@@ -174,7 +174,7 @@ fn has_word(rows: &[Kind], word: &[u8], version: u32, trees: bool) -> bool
 }
 
 // Whether this version of documents has the word, by their table.
-fn has_known(rows: &[Kind], word: &[u8], version: u32, trees: bool) -> bool
+fn has_known(rows: &[RecordKind], word: &[u8], version: u32, trees: bool) -> bool
     requires table { IsTable rows.now }
     requires version { (version ≡ 1) ⊎ (version ≡ 2) }
     ensures { IsTrue result ↔ IsIn word.now (asked_words version trees) }

@@ -42,7 +42,7 @@ macro_rules! forms {
     };
 }
 
-// So many numbers from the least to the greatest.
+// This many numbers from the least to the greatest.
 macro_rules! some {
     ($count:expr, $least:literal, $greatest:expr) => {
         Shape::Small {

@@ -21,18 +21,18 @@ pub(crate) struct Range {
 #[derive(Clone, Copy)]
 pub(crate) enum Shape<'a> {
     Empty,
-    /// So many of a range.
+    /// This many of a range.
     Small {
         count: u32,
         range: Range,
     },
     /// From 2 numbers on, each from 1 to this.
     Walk(u32),
-    /// So many free numbers.
+    /// This many free numbers.
     Free(u32),
     /// Free numbers of a shared list.
     Vector,
-    /// So many of these, ascending.
+    /// This many of these, ascending.
     Members {
         count: u32,
         members: &'a [u32],

@@ -14,6 +14,7 @@ use Rattle.crn_cert.specs.RankTests.{rank_tests}
 use Rattle.crn_vec.specs.Vectors.{Mat}
 use Rattle.crn_vec.specs.Elementary.{NamesWide}
 use Rattle.crn_vec.specs.NetSystems.{class_system}
+use Rattle.crn_vec.proofs.CallerLemmas.{filter_few}
 use Rattle.crn_rank.specs.Rank.{AreMembers, member_matrix, ProvesRank}
 use Rattle.crn_cert.specs.Formed.{IsRankProof, IsClassProof, AreClassProofs}
 use Rattle.crn_cert.specs.Valid.{linkage, class_places, IsClassNumber, AreClassNumbers, class_rank_tests}
@@ -99,19 +100,12 @@ class_each net labels j (d ∷ ds) (q ∷ proofs) h (suc k) lt =
 
 -- ---- deficiencies are at most the number of complexes
 
-pub filter_short : {A : Type 0} (p : A → Bool) (xs : List A) → length (filter p xs) ≤ length xs
-filter_short p [] = omega arith
-filter_short p (x ∷ xs) = elim (cases_Bool (p x)) as (λ _. length (filter p (x ∷ xs)) ≤ length (x ∷ xs)) [
-  | inl hit ↦ rw hit (let r = filter_short p xs in omega (arith, r))
-  | inr miss ↦ rw miss (let r = filter_short p xs in omega (arith, r))
-]
-
 pub class_bounds : (net : Net) (labels : List ℕ) (k : ℕ) (ds : List ℕ) (proofs : List RankProof) → IsLabelled net labels → AreClassRanks net labels k ds proofs → AllByRecursion (λ x. (0 ≤ x) × (x ≤ length net.complexes)) ds
 class_bounds net labels k [] proofs l h = tt
 class_bounds net labels k (d ∷ ds) [] l h = absurd h
 class_bounds net labels k (d ∷ ds) (q ∷ proofs) l h =
-    ((omega arith, omega (arith, h.0.left, filter_short (λ m. m == k) labels, l.long)), class_bounds net labels (suc k) ds proofs l h.1)
+    ((omega arith, omega (arith, h.0.left, filter_few (λ m. m == k) labels, l.long)), class_bounds net labels (suc k) ds proofs l h.1)
 
 -- a class has at most as many complexes as the network
 pub class_short : (net : Net) (labels : List ℕ) (k : ℕ) → IsLabelled net labels → length (class_members labels k) ≤ length net.complexes
-class_short net labels k l = omega (arith, filter_short (λ m. m == k) labels, l.long)
+class_short net labels k l = omega (arith, filter_few (λ m. m == k) labels, l.long)

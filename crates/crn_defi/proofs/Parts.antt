@@ -8,7 +8,7 @@ use lib.IntN.{zero-*ℤ}
 use Rattle.crn_vec.specs.Lists.{IsIn, IsAbove, IsAscending}
 use Rattle.crn_vec.specs.Vectors.{entry, column}
 use Rattle.crn_vec.specs.Rank.{IsZero, combination_at, IsIndependent, IsChoice, chosen, IsRank}
-use Rattle.crn_vec.proofs.CallerLemmas.{in_map, map_twice, lt_or, eq_or, zeros, length-zeros, zeros-dot, ascending_suc, above_zero}
+use Rattle.crn_vec.proofs.CallerLemmas.{below_suc, chosen-suc, long_take, lt_or, eq_or, zeros, length-zeros, zeros-dot, ascending_suc, above_zero}
 
 -- the first list is the second with members left out
 abbrev pub IsPart : {A : Type 0} → List A → List A → Type 0
@@ -142,13 +142,6 @@ record Placed (us vs : List (List ℤ)) : Type 0 where
   are : chosen places vs ≡ us
   long : length places ≡ length us
 
--- the places in a list of one vector more at its head
-chosen_later : (places : List ℕ) (v : List ℤ) (vs : List (List ℤ)) → chosen (map suc places) (v ∷ vs) ≡ chosen places vs
-chosen_later places v vs = map_twice suc (λ (k : ℕ). get_or (v ∷ vs) k []) places
-
-below_suc : (n : ℕ) (places : List ℕ) → ((k : ℕ) → IsIn k places → k < n) → (k : ℕ) → IsIn k (map suc places) → k < suc n
-below_suc n places h k i = let m = in_map suc places k i in let b = h m.0 m.1 in omega (arith, b, m.2)
-
 placed : (us vs : List (List ℤ)) → IsPart us vs → Placed us vs
 placed [] vs h = record { places = []; choice = record { ascending = tt; below = λ k i. absurd i }; are = refl; long = refl }
 placed (u ∷ us) [] h = absurd h
@@ -160,7 +153,7 @@ placed (u ∷ us) (v ∷ vs) (inl h) =
         ascending = above_zero r.places r.choice.ascending;
         below = λ k i. elim i [ inl e ↦ omega (arith, e) | inr j ↦ below_suc (length vs) r.places r.choice.below k j ];
       };
-      are = ap₂ (λ (w : List ℤ) (ws : List (List ℤ)). w ∷ ws) (sym h.0) (chosen_later r.places v vs ∙ r.are);
+      are = ap₂ (λ (w : List ℤ) (ws : List (List ℤ)). w ∷ ws) (sym h.0) (chosen-suc r.places v vs ∙ r.are);
       long = omega (arith, r.long, length-map r.places suc);
     }
 placed (u ∷ us) (v ∷ vs) (inr h) =
@@ -171,14 +164,9 @@ placed (u ∷ us) (v ∷ vs) (inr h) =
         ascending = ascending_suc r.places r.choice.ascending;
         below = below_suc (length vs) r.places r.choice.below;
       };
-      are = chosen_later r.places v vs ∙ r.are;
+      are = chosen-suc r.places v vs ∙ r.are;
       long = length-map r.places suc ∙ r.long;
     }
-
-long_take : {A : Type 0} (n : ℕ) (xs : List A) → n ≤ length xs → length (take n xs) ≡ n
-long_take zero xs h = refl
-long_take (suc n) [] h = absurd (omega arith)
-long_take (suc n) (x ∷ xs) h = let r = long_take n xs (omega (arith, h)) in omega (arith, r)
 
 -- independent vectors that are a part of a list are at most its rank
 pub part_few : (us vs : List (List ℤ)) (s : ℕ) → IsRank vs s → IsPart us vs → IsIndependent us → length us ≤ s

@@ -8,7 +8,7 @@ use Rattle.crn_vec.specs.Network.{Net}
 use Rattle.crn_vec.specs.Linkage.{SameClass}
 use Rattle.crn_vec.specs.Walks.{AreApart, AreRepresentatives}
 use Rattle.crn_vec.specs.Deficiency.{IsComplex}
-use Rattle.crn_vec.proofs.CallerLemmas.{lt_or, class_then, class_back}
+use Rattle.crn_vec.proofs.CallerLemmas.{lt_or, class_then, class_back, apart_map}
 use Rattle.crn_defi.proofs.Weights.{HaveLabels}
 
 -- complexes of a network, one for each linkage class, and the labels that name for each complex that of its class
@@ -29,10 +29,6 @@ one_each Same back (x ∷ xs) u v apart (inl e) (inl f) s = e ∙ sym f
 one_each Same back (x ∷ xs) u v apart (inl e) (inr j) s = absurd (apart.0 v j (subst (λ (w : ℕ). Same w v) e s))
 one_each Same back (x ∷ xs) u v apart (inr i) (inl f) s = absurd (apart.0 u i (back u x (subst (λ (w : ℕ). Same u w) f s)))
 one_each Same back (x ∷ xs) u v apart (inr i) (inr j) s = one_each Same back xs u v apart.1 i j s
-
-apart_too : (P Q : ℕ → ℕ → Type 0) (xs : List ℕ) → AreApart P xs → ((x y : ℕ) → IsIn x xs → IsIn y xs → Q x y → P x y) → AreApart Q xs
-apart_too P Q [] apart h = tt
-apart_too P Q (x ∷ xs) apart h = (λ y i q. apart.0 y i (h x y (inl refl) (inr i) q), apart_too P Q xs apart.1 (λ y z i j. h y z (inr i) (inr j)))
 
 -- the representative of a complex, by the place of the complex
 abbrev root_by : (net : Net) (ys : List ℕ) → AreRepresentatives (IsComplex net) (SameClass net.reactions) ys → (y : ℕ) → (y < length net.complexes) ⊎ (length net.complexes ≤ y) → ℕ
@@ -59,7 +55,7 @@ rooted net ys h =
       labels = labels;
       long = length-map (range_with_len 0 n) root ∙ length-range_with_len 0 n;
       inside = inside;
-      apart = apart_too (SameClass rs) (λ a b. get_or labels a 0 ≡ get_or labels b 0) ys h.apart (λ x y i j e. same x y (inside x i) (inside y j) e);
+      apart = apart_map (SameClass rs) (λ a b. get_or labels a 0 ≡ get_or labels b 0) ys (λ x y i j e. same x y (inside x i) (inside y j) e) h.apart;
       root = λ y lt. subst (λ (w : ℕ). IsIn w ys) (sym (is y lt)) (of y lt).0;
       own = λ t i.
           let lt = inside t i in

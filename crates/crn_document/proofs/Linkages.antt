@@ -9,7 +9,7 @@ use Rattle.std.proofs.lemmas.List.{length-replicate}
 use Rattle.crn_vec.specs.Lists.{IsIn, IsAscending}
 use Rattle.crn_vec.specs.Network.{Net}
 use Rattle.crn_vec.specs.declared.limits.TheConstants.{MAX_COMPLEXES, MAX_REACTIONS}
-use Rattle.crn_vec.proofs.CallerLemmas.{filter_few, above_ascending, filter_above, range_above}
+use Rattle.crn_vec.proofs.CallerLemmas.{filter_few, above_ascending, filter_above, range_above, filter_from, range_bounds}
 use Rattle.crn_cert.specs.declared.answer.Gap.TheVariants.{Wide, Budget, Rests}
 use Rattle.crn_cert.specs.declared.answer.Verdict.{Verdict}
 use Rattle.crn_cert.specs.declared.answer.Verdict.TheVariants.{Classes, Strong, Unknown}
@@ -146,23 +146,9 @@ pairs_few net earlier =
 pub members_few : (net : Net) (labels : List ℕ) (k : ℕ) → length (members_of net labels k) ≤ length net.reactions
 members_few net labels k = let l = length-range_with_len 1 (length net.reactions) in let f = filter_few (λ r. is_in_class net labels k r) (range_with_len 1 (length net.reactions)) in omega (arith, l, f)
 
-in_cons : (b : Bool) (n x : ℕ) (xs ys : List ℕ) → (IsIn n ys → IsIn n xs) → IsIn n (cond b (x ∷ ys) ys) → IsIn n (x ∷ xs)
-in_cons true n x xs ys f (inl e) = inl e
-in_cons true n x xs ys f (inr i) = inr (f i)
-in_cons false n x xs ys f i = inr (f i)
-
-in_filter : (p : ℕ → Bool) (n : ℕ) (xs : List ℕ) → IsIn n (filter p xs) → IsIn n xs
-in_filter p n [] i = absurd i
-in_filter p n (x ∷ xs) i = in_cons (p x) n x xs (filter p xs) (in_filter p n xs) i
-
-in_range : (n a m : ℕ) → IsIn n (range_with_len a m) → n < a + m
-in_range n a zero i = absurd i
-in_range n a (suc m) (inl e) = omega (arith, e)
-in_range n a (suc m) (inr i) = let l = in_range n (a + 1) m i in omega (arith, l)
-
 -- the members of a class are reactions
 pub member_few : (net : Net) (labels : List ℕ) (k n : ℕ) → IsIn n (members_of net labels k) → n ≤ length net.reactions
-member_few net labels k n i = let l = in_range n 1 (length net.reactions) (in_filter (λ r. is_in_class net labels k r) n (range_with_len 1 (length net.reactions)) i) in omega (arith, l)
+member_few net labels k n i = let l = range_bounds n 1 (length net.reactions) (filter_from (λ r. is_in_class net labels k r) (range_with_len 1 (length net.reactions)) n i).0 in omega (arith, l.1)
 
 -- the members of a class are ascending
 pub members_ascending : (net : Net) (labels : List ℕ) (k : ℕ) → IsAscending (members_of net labels k)

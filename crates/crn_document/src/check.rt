@@ -14,7 +14,7 @@ pub struct Accepted {
     pub verdicts: Verdicts,
 }
 
-/// Reads a document to its end and checks it, or says its first fault.
+/// Reads a document to its end and checks it, or names its first fault.
 ///
 /// It holds one line, the network, the shared lists and one block of the document at a time, and of a tree the prefix
 /// that is due and, in version 1, up to 512 lines of cuts. So the memory that it takes has a bound that no document exceeds.

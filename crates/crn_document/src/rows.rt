@@ -42,7 +42,7 @@ pub(crate) enum Row {
     Level,
     Exit,
     Back,
-    // So many reactions of a linkage class, or of the network for class 0.
+    // This many reactions of a linkage class, or of the network for class 0.
     Base { class: u32, rank: u32 },
     Dual,
     // After a base of this many reactions.

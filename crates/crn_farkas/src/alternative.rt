@@ -16,7 +16,7 @@ use crate::view::View;
 use crn_tab::Tableau;
 use crn_vec::{Kind, Sign};
 
-/// One of the two vectors of which a coordinate that has to be positive or negative always has exactly one.
+/// One of two vectors: a coordinate that has to be positive or negative always has exactly one of them.
 #[derive(Clone, Copy)]
 pub enum Alternative {
     /// A vector (x, Ax) that is one of those that add up to a solution, and not 0 at the coordinate.
@@ -58,7 +58,7 @@ fn put_signs(tableau: &Tableau, view: View, kinds: &[Kind], g: usize, signs: &mu
     }
 }
 
-// Which vector a coordinate that has to be positive or negative has, and the signs of that vector.
+// Which of the two vectors a coordinate has that has to be positive or negative, and the signs of that vector.
 pub(crate) fn alternative_at(
     tableau: &mut Tableau,
     kinds: &[Kind],

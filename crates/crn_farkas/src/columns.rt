@@ -16,7 +16,7 @@ use std::alloc::Global;
 /// What a basis shows of a system.
 #[derive(Clone, Copy)]
 pub(crate) enum Shown {
-    /// Its members, each with the number asked, make a solution.
+    /// Its members, each with the number that its kind requires, make a solution.
     Solution,
     /// A vector that it names rules the system out.
     Cut(Cut),

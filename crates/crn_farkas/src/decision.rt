@@ -1,6 +1,6 @@
 use crn_vec::Ints;
 
-/// What a linear system has.
+/// What decides a linear system.
 #[derive(Drop)]
 pub enum Decision {
     /// A solution.

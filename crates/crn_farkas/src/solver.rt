@@ -140,7 +140,7 @@ impl Solver {
         self.decide_by(None, kinds)
     }
 
-    /// Decides as `decide` does, but looks for an answer in plain view from the basis of `viewed`, if one is given. It is used up.
+    /// Decides as `decide` does, but looks for an answer in plain view from the basis of `viewed`, if one is given; `viewed` is used up.
     pub fn decide_by(&mut self, viewed: Option<Tableau>, kinds: &[Kind]) -> Result<Decision, Stop>
         requires viewed { IfSome viewed (λ t. t.matrix ≡ self.old.matrix) }
         requires kinds { length kinds.now ≡ width self.old.matrix }
@@ -229,7 +229,7 @@ impl Solver {
         result
     }
 
-    /// Which vector a coordinate that has to be positive or negative has, counted from 0, and the signs of that vector.
+    /// Which of the two vectors a coordinate has that has to be positive or negative, counted from 0, and the signs of that vector.
     ///
     /// Exactly one of the two is there, of any size. It forms no vector, and takes memory only to name a wide one.
     pub fn alternative(

@@ -17,13 +17,13 @@ pub flat_map_step : {X : Type 0} (f : X → List ℕ) (xs : List X) (i : ℕ) (d
 flat_map_step f xs i d lt = rw add-one (flat_map_take f xs i d lt)
 
 -- the texts before one, that one, and those after it
-pub flat_map_whole : {X : Type 0} (f : X → List ℕ) (xs : List X) (i : ℕ) (d : X) → i < length xs → flat_map f xs ≡ (flat_map f (take i xs) ++ f (get_or xs i d)) ++ flat_map f (drop (suc i) xs)
+pub flat_map_whole : {X Y : Type 0} (f : X → List Y) (xs : List X) (i : ℕ) (d : X) → i < length xs → flat_map f xs ≡ (flat_map f (take i xs) ++ f (get_or xs i d)) ++ flat_map f (drop (suc i) xs)
 flat_map_whole f [] i d lt = absurd (omega arith)
 flat_map_whole f (x ∷ xs) zero d lt = refl
-flat_map_whole f (x ∷ xs) (suc i) d lt =
-    ap (λ (t : List ℕ). f x ++ t) (flat_map_whole f xs i d (omega arith))
+flat_map_whole {X} {Y} f (x ∷ xs) (suc i) d lt =
+    ap (λ (t : List Y). f x ++ t) (flat_map_whole f xs i d (omega arith))
     ∙ sym (append_assoc (f x) (flat_map f (take i xs) ++ f (get_or xs i d)) (flat_map f (drop (suc i) xs)))
-    ∙ ap (λ (t : List ℕ). t ++ flat_map f (drop (suc i) xs)) (sym (append_assoc (f x) (flat_map f (take i xs)) (f (get_or xs i d))))
+    ∙ ap (λ (t : List Y). t ++ flat_map f (drop (suc i) xs)) (sym (append_assoc (f x) (flat_map f (take i xs)) (f (get_or xs i d))))
 
 -- ---- texts with a separator between them
 

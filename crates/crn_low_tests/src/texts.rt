@@ -203,7 +203,7 @@ fn sixty_species_are_the_most(rt: HostRuntime) {
     assert_eq!(rt; refusal(&rt, &text), (1, 2));
 }
 
-// So many terms of A, and one of another name or number, joined by plus signs.
+// This many terms of A, and one of another name or number, joined by plus signs.
 fn put_long_side(rt: &impl Abort, text: &mut Vec<u8>, count: u32, last: &[u8]) {
     for _ in 0..count {
         text.extend_from_slice(b"A+").expect(rt, "memory");
@@ -239,7 +239,7 @@ fn a_side_of_very_many_terms_has_the_first_fault_of_its_line(rt: HostRuntime) {
     }
 }
 
-// So many rounds of as many names, joined by plus signs, on the one side of a line.
+// This many rounds of this many names, joined by plus signs, on one side of a line.
 fn put_rounds(rt: &impl Abort, text: &mut Vec<u8>, rounds: u32, names: u32) {
     for round in 0..rounds {
         for s in 0..names {

@@ -12,7 +12,7 @@ use Rattle.crn_vec.specs.Lists.{IsIn}
 use Rattle.crn_vec.specs.Elementary.{IsNamed}
 use Rattle.crn_vec.specs.Rank.{chosen}
 use Rattle.crn_vec.specs.Network.{Net}
-use Rattle.crn_vec.proofs.CallerLemmas.{eq_or, lt_or, past_end, dot_zero, dot_step, mul-neg, entry-column, length-column, all_map, dot-last}
+use Rattle.crn_vec.proofs.CallerLemmas.{eq_or, lt_or, past_end, dot_zero, dot_step, mul-neg, entry-column, length-column, all_map, dot-last, column-chosen}
 use Rattle.crn_cert.specs.Tests.{AllHold}
 use Rattle.crn_cert.specs.Ranges.{IsNarrow, AreFree}
 use Rattle.crn_cert.specs.RankTests.{vector_of, IsComb, comb_tests}
@@ -95,10 +95,6 @@ sum_split p u col k (suc m) lu lc miss none =
 
 -- ---- columns
 
-chosen_column : (places : List ℕ) (vs : List (List ℤ)) (i : ℕ) → column (chosen places vs) i ≡ map (entry (column vs i)) places
-chosen_column [] vs i = refl
-chosen_column (p ∷ places) vs i = ap₂ (λ (x : ℤ) (t : List ℤ). x ∷ t) (sym (entry-column vs i p)) (chosen_column places vs i)
-
 past_columns : (n : ℕ) (rows : List (List ℤ)) (i : ℕ) → AreOfLength n rows → n ≤ i → (k : ℕ) → entry (column rows i) k ≡ pos 0
 past_columns n [] i w le k = refl
 past_columns n (r ∷ rows) i w le zero = past_end r i (omega (arith, w.0, le))
@@ -141,7 +137,7 @@ is_comb a basis k comb t entered lt miss c =
           let left : kept_or_negative b (entry w e) *ℤ entry (get_or a.rows k []) i ≡ kept_or_negative b (entry u k *ℤ entry col k) =
           ap₂ (λ (x y : ℤ). kept_or_negative b x *ℤ y) (sym (at_u k)) (sym (entry-column a.rows i k)) ∙ kept_product b (entry u k) (entry col k) in
           let right : dot (map (λ q. kept_or_negative (not b) (entry w (n + q))) places) (column vs i) ≡ kept_or_negative (not b) S =
-          ap₂ dot (same_map (λ q. kept_or_negative (not b) (entry w (n + q))) (λ q. kept_or_negative (not b) (entry u q)) places (λ q. ap (kept_or_negative (not b)) (sym (at_u q)))) (chosen_column places a.rows i)
+          ap₂ dot (same_map (λ q. kept_or_negative (not b) (entry w (n + q))) (λ q. kept_or_negative (not b) (entry u q)) places (λ q. ap (kept_or_negative (not b)) (sym (at_u q)))) (column-chosen places a.rows i)
           ∙ kept_sum (not b) (entry u) (entry col) places in
           left ∙ kept_other b S (entry u k *ℤ entry col k) sum ∙ sym right;
     })

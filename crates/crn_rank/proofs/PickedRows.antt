@@ -4,11 +4,11 @@ use Rattle.std.specs.Prelude.{ℤ}
 use Rattle.std.specs.List.{AllZip, filter, list_any}
 use Rattle.std.proofs.lemmas.Bool.{cases_Bool}
 use Rattle.std.proofs.lemmas.Bool.Decides.{Decides-eqb}
-use Rattle.std.proofs.lemmas.List.{length-append, map-append}
+use Rattle.std.proofs.lemmas.List.{length-append, map-append, take_all}
 use Rattle.std.proofs.lemmas.List.Elements.{filter_more}
 use Rattle.crn_vec.specs.Lists.{IsIn, IsAscending, AreDistinct}
 use Rattle.crn_vec.specs.Vectors.{Mat}
-use Rattle.crn_vec.proofs.CallerLemmas.{in_left, in_right, in_push, in_map, map_in, same_place, eq_or, any_is, any_true, any_false, above_ascending, above_in, ascending_push}
+use Rattle.crn_vec.proofs.CallerLemmas.{in_left, in_right, in_push, in_map, map_in, same_place, eq_or, any_is, any_true, any_false, above_ascending, above_in, ascending_push, zip_push}
 use Rattle.crn_cert.specs.RankTests.{outside}
 use Rattle.crn_rank.specs.Inner.Rows.{picked, is_inside}
 
@@ -81,12 +81,6 @@ map_yes f p k h = ap (map f) (picked_yes p k h) ∙ map-append f (picked p k) (k
 pub map_no : {B : Type 0} (f : ℕ → B) (p : ℕ → Bool) (k : ℕ) → p k ≡ false → map f (picked p (k + 1)) ≡ map f (picked p k)
 map_no f p k h = ap (map f) (picked_no p k h)
 
-zip_push : (P : ℕ → List ℤ → Type 0) (ks : List ℕ) (ls : List (List ℤ)) (k : ℕ) (l : List ℤ) → AllZip P ks ls → P k l → AllZip P (ks ++ k ∷ []) (ls ++ l ∷ [])
-zip_push P [] [] k l h p = (p, tt)
-zip_push P [] (m ∷ ls) k l h p = absurd h
-zip_push P (j ∷ ks) [] k l h p = absurd h
-zip_push P (j ∷ ks) (m ∷ ls) k l h p = (h.0, zip_push P ks ls k l h.1 p)
-
 pub zip_yes : (P : ℕ → List ℤ → Type 0) (p : ℕ → Bool) (ls : List (List ℤ)) (k : ℕ) (l : List ℤ) → p k ≡ true → AllZip P (picked p k) ls → P k l → AllZip P (picked p (k + 1)) (ls ++ l ∷ [])
 zip_yes P p ls k l hit h here = subst (λ (ks : List ℕ). AllZip P ks (ls ++ l ∷ [])) (sym (picked_yes p k hit)) (zip_push P (picked p k) ls k l h here)
 
@@ -99,10 +93,6 @@ zip_no P p ls k miss h = subst (λ (ks : List ℕ). AllZip P ks ls) (sym (picked
 pub ascending_distinct : (xs : List ℕ) → IsAscending xs → AreDistinct xs
 ascending_distinct [] h = tt
 ascending_distinct (x ∷ xs) h = (λ i. let l = above_in x xs h x i in omega (arith, l), ascending_distinct xs (above_ascending x xs h))
-
-take_whole : (xs : List ℕ) → take (length xs) xs ≡ xs
-take_whole [] = refl
-take_whole (x ∷ xs) = ap (λ (l : List ℕ). x ∷ l) (take_whole xs)
 
 -- the member at a place
 abbrev pub at : List ℕ → ℕ → ℕ
@@ -147,7 +137,7 @@ outside_picked p members up =
         | inr no' ↦ b.0 ∙ sym no'
       ]
     ] in
-    ap (filter t) (sym (take_whole members)) ∙ filter_picked t members m (omega arith) ∙ ap (map (at members)) (picked_same (λ k. t (at members k)) (λ k. not (p k)) m (λ k lt. ap not (tests k lt)))
+    ap (filter t) (sym (take_all (length members) members (omega arith))) ∙ filter_picked t members m (omega arith) ∙ ap (map (at members)) (picked_same (λ k. t (at members k)) (λ k. not (p k)) m (λ k lt. ap not (tests k lt)))
 
 -- ---- rows whose coordinates are in a basis
 

@@ -14,7 +14,7 @@ use std::alloc::Global;
 pub(crate) enum Sides {
     /// They are: the side of each.
     All(Rows),
-    /// The pair of this reaction is none, as the walk shows.
+    /// The pair of this reaction is not a cut pair, as the walk shows.
     Cycle { reaction: u32, walk: Nums },
 }
 

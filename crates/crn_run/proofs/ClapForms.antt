@@ -18,6 +18,7 @@ use Rattle.crn_run.specs.Words.{AreWithBudget, WriteBudget}
 use Rattle.crn_run.proofs.ClapWords.{IsValue, at, budget, budget_rule, first_none, holding, joined, joined_fault, joined_walked, none_then, parted, parted_fault, parted_walked, rules, second_none, shape, value_of}
 use Rattle.crn_run.proofs.ClapSteps.{IsPlace, first_place, second_place, waiting_fault, waiting_walked}
 use Rattle.crn_run.proofs.ClapReads.{Asked, SayAsked, reads_asked, rows_in, words_of}
+use Rattle.crn_vec.proofs.CallerLemmas.{head_is, tail_is}
 
 -- ---- from the walk to the parse
 
@@ -227,23 +228,17 @@ name_is_read c program (Some k) is count = read_as c program (Some k) _ (Named [
 
 -- ---- the places of a budget
 
-head_of : {x y : Text} {xs ys : List Text} → x ∷ xs ≡ y ∷ ys → x ≡ y
-head_of e = cc
-
-tail_of : {x y : Text} {xs ys : List Text} → x ∷ xs ≡ y ∷ ys → xs ≡ ys
-tail_of e = cc
-
 parts_of_one : (c : Text) (before after : List Text) → c ∷ [] ≡ before ++ after → ((before ≡ []) × (after ≡ c ∷ [])) ⊎ ((before ≡ c ∷ []) × (after ≡ []))
 parts_of_one c [] after e = inl (refl, sym e)
-parts_of_one c (x ∷ []) after e = inr (ap (λ (t : Text). t ∷ []) (sym (head_of e)), sym (tail_of e))
-parts_of_one c (x ∷ y ∷ ys) after e = absurd (let h : [] ≡ y ∷ (ys ++ after) = tail_of e in cc)
+parts_of_one c (x ∷ []) after e = inr (ap (λ (t : Text). t ∷ []) (sym (head_is _ _ _ _ e)), sym (tail_is _ _ _ _ e))
+parts_of_one c (x ∷ y ∷ ys) after e = absurd (let h : [] ≡ y ∷ (ys ++ after) = tail_is _ _ _ _ e in cc)
 
 parts_of_two : (c k : Text) (before after : List Text) → c ∷ k ∷ [] ≡ before ++ after
     → ((before ≡ []) × (after ≡ c ∷ k ∷ [])) ⊎ ((before ≡ c ∷ []) × (after ≡ k ∷ [])) ⊎ ((before ≡ c ∷ k ∷ []) × (after ≡ []))
 parts_of_two c k [] after e = inl (refl, sym e)
-parts_of_two c k (x ∷ xs) after e = elim (parts_of_one k xs after (tail_of e)) [
-  | inl (a, b) ↦ inr (inl (ap₂ (λ (t : Text) (ts : List Text). t ∷ ts) (sym (head_of e)) a, b))
-  | inr (a, b) ↦ inr (inr (ap₂ (λ (t : Text) (ts : List Text). t ∷ ts) (sym (head_of e)) a, b))
+parts_of_two c k (x ∷ xs) after e = elim (parts_of_one k xs after (tail_is _ _ _ _ e)) [
+  | inl (a, b) ↦ inr (inl (ap₂ (λ (t : Text) (ts : List Text). t ∷ ts) (sym (head_is _ _ _ _ e)) a, b))
+  | inr (a, b) ↦ inr (inr (ap₂ (λ (t : Text) (ts : List Text). t ∷ ts) (sym (head_is _ _ _ _ e)) a, b))
 ]
 
 -- words with a budget before, between or after them

@@ -6,7 +6,7 @@ use Rattle.std.proofs.lemmas.Int.{ints}
 use Rattle.std.proofs.lemmas.Nat.Bits.{bit_at-zero}
 use Rattle.std.proofs.lemmas.List.{length-set, get_or-set_same, get_or-set_other}
 use Rattle.crn_vec.specs.Systems.{MayWeigh, one_if}
-use Rattle.crn_vec.proofs.CallerLemmas.{eq_or, below_two, weigh_zero}
+use Rattle.crn_vec.proofs.CallerLemmas.{eq_or, below_two, weigh_zero, positive_some}
 use Rattle.crn_sign.specs.declared.bits.Bits.{Bits}
 use Rattle.crn_sign.specs.declared.problem.Asked.{Asked}
 use Rattle.crn_sign.specs.declared.marks.Mark.{Mark}
@@ -172,9 +172,6 @@ count_bit a b c d = min ((c + d) % 2) ((a + b) % 2)
 abbrev Counted : ℕ → ℕ → ℕ → ℕ → Type 0
 Counted a b c d = count_bit a b c d ≡ 1 → Counts (mark_of a b) (mark_of c d)
 
-plus_some : (x : ℤ) → pos 1 ≤ℤ x → x ≢ pos 0
-plus_some x h e = omega (arith, ints, h, e)
-
 minus_some : (x : ℤ) → x ≤ℤ negsuc 0 → x ≢ pos 0
 minus_some x h e = omega (arith, ints, h, e)
 
@@ -184,6 +181,6 @@ low X e = absurd (omega (arith, e))
 pub counted : (a b c d : ℕ) → a < 2 → b < 2 → c < 2 → d < 2 → Counted a b c d
 counted a b c d la lb lc ld = two_bits (λ (x y : ℕ). Counted x y c d)
     (two_bits (Counted 0 0) (low _) (low _) (low _) (low _) c d lc ld)
-    (two_bits (Counted 0 1) (low _) (λ e. record { signed = refl; some = minus_some }) (λ e. record { signed = refl; some = plus_some }) (low _) c d lc ld)
-    (two_bits (Counted 1 0) (low _) (λ e. record { signed = refl; some = minus_some }) (λ e. record { signed = refl; some = plus_some }) (low _) c d lc ld)
+    (two_bits (Counted 0 1) (low _) (λ e. record { signed = refl; some = minus_some }) (λ e. record { signed = refl; some = positive_some }) (low _) c d lc ld)
+    (two_bits (Counted 1 0) (low _) (λ e. record { signed = refl; some = minus_some }) (λ e. record { signed = refl; some = positive_some }) (low _) c d lc ld)
     (two_bits (Counted 1 1) (low _) (low _) (low _) (low _) c d lc ld) a b la lb

@@ -13,7 +13,7 @@ use Rattle.crn_vec.specs.declared.signs.Kind.TheVariants.{Free}
 use Rattle.crn_vec.specs.Vectors.{Mat, entry, dot, scale, HasSign}
 use Rattle.crn_vec.specs.Elementary.{width, InRowSpace}
 use Rattle.crn_vec.specs.Systems.{HasKind, IsSolution, kind_at}
-use Rattle.crn_vec.proofs.CallerLemmas.{eq_or, zip_from, zip_at, dot-comm, plus, zeros, entry-plus, length-zeros, entry-zeros, zeros-dot, entry-scale, length-scale}
+use Rattle.crn_vec.proofs.CallerLemmas.{eq_or, zip_from, zip_at, dot-comm, plus, zeros, entry-plus, length-zeros, entry-zeros, take-zeros, dot-zeros, entry-scale, length-scale}
 use Rattle.crn_farkas.proofs.CallerLemmas.{row_scaled, row_plus}
 use Rattle.crn_sign.specs.declared.bits.Bits.{Bits}
 use Rattle.crn_sign.specs.declared.marks.Mark.{Mark}
@@ -212,23 +212,15 @@ from_signs a signs marks s long each = record {
       (signed_mark (sign_there signs k) (entry s.y k) (zip_at HasSign ZeroSign (pos 0) signs s.y s.are k (omega (arith, lt, s.long))));
 }
 
-dot_zeros : (r : List ℤ) (n : ℕ) → dot r (zeros n) ≡ pos 0
-dot_zeros r n = dot-comm r (zeros n) ∙ zeros-dot n r
-
-take_zeros : (n m : ℕ) → (k : ℕ) × (take n (zeros m) ≡ zeros k)
-take_zeros zero m = (0, refl)
-take_zeros (suc n) zero = (0, refl)
-take_zeros (suc n) (suc m) = let t = take_zeros n m in (suc t.0, ap (λ (l : List ℤ). pos 0 ∷ l) t.1)
-
 -- the vector 0
 pub none_marked : (a : Mat) (into marks : List Bits) → length into ≡ word_count a → AreMadeBy (λ m o. Zero) into into marks → AreRowMarks a marks
 none_marked a into marks long n =
-    let t = take_zeros a.cols (width a) in
+    let t = take-zeros a.cols (width a) in
     record {
       y = zeros (width a);
       space = record {
         long = length-zeros (width a);
-        is = λ i lt. entry-zeros (width a) (a.cols + i) ∙ sym (ap (dot (get_or a.rows i [])) t.1 ∙ dot_zeros (get_or a.rows i []) t.0);
+        is = λ i lt. entry-zeros (width a) (a.cols + i) ∙ sym (ap (dot (get_or a.rows i [])) t.1 ∙ dot-zeros t.0 (get_or a.rows i []));
       };
       long = n.count ∙ long;
       are = λ k lt. subst (λ (m : Mark). HasMark m (entry (zeros (width a)) k)) (sym (n.each k (omega (arith, lt, long)))) (entry-zeros (width a) k);

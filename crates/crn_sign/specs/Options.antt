@@ -1,4 +1,4 @@
--- Words by bits, and the kinds that are asked of coordinates.
+-- Words by bits, and the kinds that are required of coordinates.
 -- Source: this project's own.
 -- Shapes: coordinate k is bit k % 64 of word k / 64, counted from 0.
 use Rattle.std.specs.Prelude.{◌≡◌, ◌≢◌, ◌<◌, ◌+◌, ◌/◌, ◌%◌, ℕ, zero, suc, Bool, true, false, List, length, slice_index_or}
@@ -17,18 +17,18 @@ use Rattle.crn_sign.specs.declared.problem.Asked.{Asked}
 abbrev pub sign_at : List Sign → ℕ → Sign
 sign_at signs k = slice_index_or signs k Zero
 
--- the kind that is asked of a coordinate: a positive or a negative number, 0, or any
+-- the kind that is required of a coordinate: a positive or a negative number, 0, or any
 abbrev pub kind_by : Bool → Bool → Kind
 kind_by false false = Free
 kind_by true false = Pos
 kind_by false true = Neg
 kind_by true true = ZeroKind
 
--- the kind that is asked
+-- the kind that is required
 abbrev pub asked_kind : Asked → Kind
 asked_kind asked = kind_by asked.plus asked.minus
 
--- 64 coordinates of which nothing is asked
+-- 64 coordinates of which nothing is required
 abbrev pub none : Bits
 none = record { plus = 0; minus = 0 }
 

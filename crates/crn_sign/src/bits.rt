@@ -11,7 +11,7 @@ use crn_vec::NoMemory;
 /// The marks of 64 coordinates: where a number may be positive, and where it may be negative. A
 /// coordinate of neither is 0, and one of both has any sign.
 ///
-/// The signs of a vector are such marks, and so are the kinds that are asked, in which a coordinate of
+/// The signs of a vector are such marks, and so are the kinds that are required, in which a coordinate of
 /// neither is free and one of both is 0.
 #[derive(Clone, Copy)]
 pub struct Bits {
@@ -102,7 +102,7 @@ fn put_bit(word: u64, i: usize, is_set: bool) -> u64
     }
 }
 
-// The words of 64 coordinates with what is asked of one of them.
+// The words of 64 coordinates with what is required of one of them.
 fn with_asked(bits: Bits, i: usize, asked: Asked) -> Bits
     requires { i < 64 }
     ensures plus { bit_at result.plus i ≡ one_if asked.plus }

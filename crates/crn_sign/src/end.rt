@@ -20,7 +20,7 @@ pub enum SearchEnd {
     Spent,
 }
 
-/// How a search ended of which no tree is kept.
+/// How a search ended that keeps no tree.
 #[derive(Drop)]
 pub enum SearchOutcome {
     /// The first full feasible prefix, with solutions of both its parts.

@@ -58,7 +58,7 @@ pub(crate) fn opposite(one: Bits) -> Bits
     }
 }
 
-/// The places of 64 at which a mark is not what is asked.
+/// The places of 64 at which a mark is not what is required.
 pub(crate) fn misfits(asked: Bits, marks: Bits) -> u64
     ensures { (i : ℕ) → bit_at result i ≡ 0 → Meets (mark_in asked i) (mark_in marks i) }
 {
@@ -67,7 +67,7 @@ pub(crate) fn misfits(asked: Bits, marks: Bits) -> u64
     (plus | minus) & (asked.plus | asked.minus)
 }
 
-/// Whether each mark is what is asked.
+/// Whether each mark is what is required.
 pub(crate) fn all_meet(asked: &[Bits], marks: &[Bits]) -> bool
     ensures { IsTrue result → AreMet asked.now marks.now }
 {
@@ -157,7 +157,7 @@ fn kind_of_mark(mark: Mark) -> Kind
     }
 }
 
-// The places of 64 at which something is asked.
+// The places of 64 at which something is required.
 fn asked_places(bits: Bits) -> u64
     ensures { (i : ℕ) → bit_at result i ≡ 0 → kind_of_mark (mark_in bits i) ≡ Kind.Free }
 {
@@ -175,7 +175,7 @@ fn put_kind(kinds: &mut Vec<Kind>, k: usize, kind: Kind)
     }
 }
 
-// Puts the kinds that are asked of the coordinates of a word, which are free so far.
+// Puts the kinds that are required of the coordinates of a word, which are free so far.
 fn put_kinds(kinds: &mut Vec<Kind>, bits: Bits, w: usize)
     requires word { w ≤ 1024 }
     requires free { (i : ℕ) → i < 64 → 64 * w + i < length kinds.old.items
@@ -194,7 +194,7 @@ fn put_kinds(kinds: &mut Vec<Kind>, bits: Bits, w: usize)
     }
 }
 
-/// The kinds that are asked.
+/// The kinds that are required.
 pub(crate) fn kinds_of(
     alloc: Global,
     matrix: &Matrix,

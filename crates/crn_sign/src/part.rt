@@ -28,7 +28,7 @@ use std::rc::Rc;
 ///
 /// The signs are the last that the solver wrote, the ray has them as marks, and the negative those of
 /// its negative. What is wanted are the kinds of the system. The misfits are coordinates whose marks
-/// did not suit their kinds, and asked is what is asked of a vector that changes these.
+/// did not suit their kinds, and asked is what is required of a vector that changes these.
 #[derive(Drop)]
 pub(crate) struct Finder {
     pub solver: Solver,
@@ -122,7 +122,7 @@ impl Finder {
         }
     }
 
-    // Gives the marked vector the sign that is asked at g by a vector that is kept, or by one of the solver
+    // Gives the marked vector the sign that is required at g by a vector that is kept, or by one of the solver
     // for one.
     fn raise(
         &mut self,
@@ -361,7 +361,7 @@ impl Finder {
         false
     }
 
-    // Gives the marked vector the signs that are asked at the coordinates of a word, by vectors that are
+    // Gives the marked vector the signs that are required at the coordinates of a word, by vectors that are
     // kept. The answer is whether such are kept.
     fn serve_word(&mut self, matrix: &Matrix, asked: &[Bits], marks: &mut [Bits], w: usize) -> bool
         requires finder { IsFinder matrix.now self.old }
@@ -384,7 +384,7 @@ impl Finder {
         true
     }
 
-    // Gives the marked vector the signs that are asked by vectors that are kept, unless some coordinate
+    // Gives the marked vector the signs that are required by vectors that are kept, unless some coordinate
     // has to be made 0. The answer is whether it suits then.
     #[inline(never)]
     fn serve(&mut self, matrix: &Matrix, asked: &[Bits], marks: &mut [Bits]) -> bool
@@ -406,7 +406,7 @@ impl Finder {
         is_met(matrix, asked, marks)
     }
 
-    // Lists the coordinates whose marks do not suit what is asked, which it keeps, and frees these. The
+    // Lists the coordinates whose marks do not suit what is required, which it keeps, and frees these. The
     // answer is whether one of them has to be 0.
     fn list_misfits(
         &mut self,
@@ -548,7 +548,7 @@ fn has_bit(word: u64, i: usize) -> bool {
     i < 64 && (word >> i) & 1 == 1
 }
 
-// The sign that is asked at one of 64 coordinates, which has to have one.
+// The sign that is required at one of 64 coordinates, which has to have one.
 fn sign_asked(bits: Bits, i: usize) -> Sign {
     if has_bit(bits.plus, i) {
         Sign::Plus
@@ -577,7 +577,7 @@ fn ask_zero(asked: &mut [Bits], g: usize)
     put_mark(asked, g, Mark::Any);
 }
 
-// What is asked without these coordinates.
+// What is required without these coordinates.
 fn without(bits: Bits, places: u64) -> Bits {
     Bits {
         plus: bits.plus & !places,

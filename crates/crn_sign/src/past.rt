@@ -61,7 +61,7 @@ fn marks_of_multiple(marks: Bits, stays: bool) -> Bits
     if stays { marks } else { negatives_of(marks) }
 }
 
-// The places of 64 at which numbers of these marks may not be weighed if this is asked.
+// The places of 64 at which numbers of these marks may not be weighed if this is required.
 fn refused(asked: Bits, marks: Bits) -> u64
     ensures { (i : ℕ) → bit_at result i ≡ 0 → Weighs (mark_in asked i) (mark_in marks i) }
 {
@@ -75,7 +75,7 @@ fn counted(asked: Bits, marks: Bits) -> u64
     (marks.plus ^ marks.minus) & (asked.plus ^ asked.minus)
 }
 
-// Whether numbers of these marks, or their negatives, may be weighed where this is asked.
+// Whether numbers of these marks, or their negatives, may be weighed where this is required.
 fn all_weigh(asked: &[Bits], marks: &[Bits], stays: bool) -> bool
     ensures { IsTrue result → AllWeigh asked.now stays marks.now }
 {
@@ -313,7 +313,7 @@ pub(crate) fn keep_cut(
     Ok(())
 }
 
-// Whether neither numbers of these marks nor their negatives may be weighed where this is asked.
+// Whether neither numbers of these marks nor their negatives may be weighed where this is required.
 fn are_refused(asked: Bits, here: Bits, negatives: Bits) -> bool {
     refused(asked, here) != 0 && refused(asked, negatives) != 0
 }

@@ -44,7 +44,7 @@ impl Place {
             × IsSolution _matrix.now (kinds_of _matrix.now self.now.asked.items) x }
     {}
 
-    /// Takes over what is asked one level above.
+    /// Takes over what was required one level above.
     pub fn ask_as(&mut self, above: &Place)
         requires { length self.old.asked.items ≡ length above.now.asked.items }
         ensures width { self.new.width ≡ self.old.width }
@@ -84,7 +84,7 @@ impl Place {
         put_asked(&mut self.asked, k, asked);
     }
 
-    /// Notes whether the marks one level above suit what is asked.
+    /// Notes whether the marks one level above suit what is required here.
     pub fn look(&mut self, matrix: &Matrix, above: &Place)
         requires room { HasRoom matrix.now self.old }
         requires above { AreRowMarks matrix.now above.now.marks.items }
@@ -95,7 +95,7 @@ impl Place {
     }
 }
 
-/// Whether the marks suit what is asked, so that the system has a solution.
+/// Whether the marks suit what is required, so that the system has a solution.
 pub(crate) fn is_met(_matrix: &Matrix, asked: &[Bits], marks: &[Bits]) -> bool
     requires asked { length asked.now ≡ word_count _matrix.now }
     requires marks { AreRowMarks _matrix.now marks.now }

@@ -23,7 +23,7 @@ pub(crate) struct Ray {
     pub marks: Vec<Bits>,
 }
 
-/// The number of a vector, the word of its marks that refused it last, and what may not be asked there:
+/// The number of a vector, the word of its marks that refused it last, and what may not be required there:
 /// the marks of its negative.
 #[derive(Clone, Copy)]
 pub(crate) struct Server {
@@ -49,12 +49,12 @@ pub(crate) struct Pool {
     pub oldest: usize,
 }
 
-// Whether numbers of these signs may not be taken if this is asked.
+// Whether numbers of these signs may not be taken if this is required.
 fn is_refused(asked: Bits, bits: Bits) -> bool {
     ((bits.plus & asked.minus) | (bits.minus & asked.plus)) != 0
 }
 
-// Whether something is asked that is barred.
+// Whether something is required that is barred.
 fn is_barred(asked: Bits, barred: Bits) -> bool {
     ((barred.plus & asked.plus) | (barred.minus & asked.minus)) != 0
 }
@@ -132,7 +132,7 @@ fn bring_forward(servers: &mut [Server], i: usize) -> Option<usize> {
     None
 }
 
-// So many empty lists.
+// This many empty lists.
 fn empty_lists(alloc: Global, count: usize) -> Result<Vec<Servers>, NoMemory> {
     let mut servers = Vec::with_capacity(alloc, count)?;
     for _ in 0..count {

@@ -25,7 +25,7 @@ pub fn coordinates(alloc: Global, matrix: &Matrix) -> Result<Vec<usize>, NoMemor
     Ok(made)
 }
 
-/// What is asked of a coordinate: a number of the sign that is set, 0 if both are, or nothing.
+/// What is required of a coordinate: a number of the sign that is set, 0 if both are, or nothing.
 #[derive(Clone, Copy)]
 pub struct Asked {
     /// A positive number, or 0.
@@ -34,7 +34,7 @@ pub struct Asked {
     pub minus: bool,
 }
 
-/// Nothing is asked.
+/// Nothing is required.
 pub const FREE: Asked = Asked {
     plus: false,
     minus: false,

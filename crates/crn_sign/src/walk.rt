@@ -36,7 +36,7 @@ pub(crate) struct Progress {
     pub left: u32,
 }
 
-/// What both parts know at a prefix, and its sums, of which part A is asked.
+/// What both parts know at a prefix, and its sums, by which part A is settled.
 #[derive(Drop)]
 pub(crate) struct Level {
     pub a: Place,
@@ -127,7 +127,7 @@ fn known_cut_b<P: SignProblem>(
     Ok(u)
 }
 
-// Notes whether what served one level above suits what both parts are asked.
+// Notes whether what served one level above suits what is required of both parts.
 fn look<P: SignProblem>(problem: &P, _prefix: &[Sign], above: &Level, here: &mut Level)
     requires asked { AreAsked (P.signed problem.now) _prefix.now here.old }
     requires above { AreMarked (P.signed problem.now) above.now }
@@ -333,7 +333,7 @@ fn at_level<P: SignProblem>(_problem: &P, _search: &Progress, _here: &Level)
     ensures { IsLevel (P.signed _problem.now) _search.now.prefix.items _here.now }
 {}
 
-// A level that is asked leaves room for another prefix.
+// A level of which something is required leaves room for another prefix.
 fn leaves_room<P: SignProblem>(_problem: &P, _search: &Progress, _here: &Level)
     requires { AreAround (P.signed _problem.now) _search.now.prefix.items _here.now }
     ensures { HasRooms (P.signed _problem.now) _here.now }

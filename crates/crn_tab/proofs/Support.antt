@@ -2,10 +2,10 @@
 use Rattle.std.proofs.Common.{◌≡◌, ◌≢◌, ℕ, zero, suc, ◌+◌, ◌<◌, inl, inr, List, [], ◌∷◌, ◌++◌, length, refl, sym, ap, subst, arith}
 use Rattle.std.specs.Prelude.{ℤ, pos, slice_index}
 use Rattle.std.proofs.lemmas.List.{length-append}
-use Rattle.crn_vec.proofs.CallerLemmas.{eq_or, lt_or}
+use Rattle.crn_vec.proofs.CallerLemmas.{eq_or, lt_or, in_push}
 use Rattle.crn_vec.specs.Lists.{IsIn}
 use Rattle.crn_vec.specs.Vectors.{entry}
-use Rattle.crn_tab.proofs.Numbers.{push_in, push_last, in_push}
+use Rattle.crn_tab.proofs.Numbers.{push_in, push_last}
 use Rattle.crn_tab.proofs.SparseRow.{place_in}
 
 pushed_before : (xs : List ℕ) (c j : ℕ) → j < length xs → slice_index (xs ++ c ∷ []) j ≡ slice_index xs j
@@ -44,8 +44,8 @@ places_none row places e = record {
 pub place_pushed : (row : List ℤ) (xs ys : List ℕ) (c : ℕ) → PlacesUpTo row xs c → c < length row → ys ≡ xs ++ c ∷ [] → PlacesUpTo row ys (c + 1)
 place_pushed row xs ys c h lt e = subst (λ (zs : List ℕ). PlacesUpTo row zs (c + 1)) (sym e) (record {
   ascending = ascending_pushed xs c h.below h.ascending;
-  below = λ k i. elim (in_push xs c k i) as (λ _. k < c + 1) [ inl j ↦ omega (arith, h.below k j) | inr f ↦ omega (arith, f) ];
-  inside = λ k i. elim (in_push xs c k i) as (λ _. k < length row) [ inl j ↦ h.inside k j | inr f ↦ omega (arith, f, lt) ];
+  below = λ k i. elim (in_push k xs c i) as (λ _. k < c + 1) [ inl j ↦ omega (arith, h.below k j) | inr f ↦ omega (arith, f) ];
+  inside = λ k i. elim (in_push k xs c i) as (λ _. k < length row) [ inl j ↦ h.inside k j | inr f ↦ omega (arith, f, lt) ];
   all = λ k k_lt some. elim (eq_or k c) as (λ _. IsIn k (xs ++ c ∷ [])) [ inl f ↦ push_last xs c k f | inr ne ↦ push_in xs c k (h.all k (omega (arith, k_lt, ne)) some) ];
 })
 

@@ -45,7 +45,7 @@ fn numbers_after(
 
 impl Tableau {
     /// The basis with a coordinate in place of a member, ascending and counted from 1, as it names the vector of an exchange that was not made.
-    /// With one coordinate for both it is the basis itself.
+    /// If the two are one coordinate, it is the basis itself.
     pub fn basis_after(&self, leave: usize, enter: usize) -> Result<Nums, NoMemory>
         requires { enter < width self.now.matrix }
         ensures { IfOk result (λ made. IsNumbered self.now.basis leave enter made.list) }

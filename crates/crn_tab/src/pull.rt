@@ -30,7 +30,7 @@ impl Tableau {
     /// What a coordinate outside the basis has if each member of the basis has 1 or -1, as its kind requires, or 0 if it requires neither:
     /// a numerator, and the denominator.
     ///
-    /// Nothing is promised of these numbers: they choose an exchange or are put together to what is tested. It takes no memory.
+    /// Nothing is promised of these numbers: they choose an exchange or make up a list that is tested. It takes no memory.
     pub fn pull(&self, row: usize, kinds: &[Kind]) -> (i128, i128)
         requires inside { row < width self.now.matrix }
         requires outside { IsIn row self.now.basis → ⊥ }

@@ -83,7 +83,7 @@ impl Tableau {
         put_row_signs(&self.fields(), row, sign, signs);
     }
 
-    /// The basis of a tableau is one, and names a vector without a wide entry by each coordinate outside it.
+    /// What a tableau keeps as its basis is a basis, and names a vector without a wide entry by each coordinate outside it.
     pub fn names_rows(&self)
         ensures { NamesRows self.now.matrix self.now.basis }
     {

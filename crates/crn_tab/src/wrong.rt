@@ -196,8 +196,8 @@ fn wrong_column(
 }
 
 impl Tableau {
-    /// The least level, from one level on and below another, of a coordinate at which the vectors that the basis names by a coordinate
-    /// outside it, and of this sign there, do not have the weight that its kind requires. If there is none, it is the end.
+    /// The least level, between two given ones, of a coordinate at which the vectors that the basis names by a coordinate
+    /// outside it, and of this sign there, do not have the weight that its kind requires. If there is none, it is the upper one.
     /// `kinds` and `level` have a member for each coordinate. It goes over the basis once, and takes no memory.
     pub fn wrong_in_row(
         &self,
@@ -224,8 +224,8 @@ impl Tableau {
         wrong_row(&self.fields(), row, sign, kinds, level, from, end)
     }
 
-    /// The least level, from one level on and below another, of a coordinate at which the vectors that the basis names by a coordinate
-    /// in it, and of this sign there, do not have what its kind lets a part of a solution have. If there is none, it is the end.
+    /// The least level, between two given ones, of a coordinate at which the vectors that the basis names by a coordinate
+    /// in it, and of this sign there, do not have what its kind lets a part of a solution have. If there is none, it is the upper one.
     /// `kinds` and `level` have a member for each coordinate. It goes over the rows once, and takes no memory.
     pub fn wrong_in_column(
         &self,

@@ -15,6 +15,7 @@ use Rattle.crn_vec.specs.Network.{Net, IsNetwork, Statement, JoinsTwo, sides_of,
 use Rattle.crn_vec.specs.declared.limits.TheConstants.{MAX_SPECIES, MAX_COMPLEXES, MAX_REACTIONS}
 use Rattle.crn_net.specs.Grows.{with_zeros, both_with_zeros}
 use Rattle.crn_vec.proofs.CallerLemmas.{in_right, in_map, map_in, map_same, map_twice, all_in, same_place, firsts_distinct, firsts_has, firsts_map, firsts_prefix, firsts_length, row_decides, sides_decide, same_test, in_flat_map, append_same, all_at, amounts_same}
+use Rattle.crn_io.proofs.CallerLemmas.{flat_map_whole}
 use Rattle.crn_text.specs.Tokens.{lines}
 use Rattle.crn_text.specs.Sides.{line_statements, all_statements}
 use Rattle.crn_text.specs.Faults.{own_fault, statement_fault, statements_fault, is_self, names_of, reactions_of, complexes_of, both_of}
@@ -23,13 +24,6 @@ use Rattle.crn_text.specs.declared.fault.TextCode.{TextCode}
 use Rattle.crn_net.proofs.CallerLemmas.{said_with_zeros, with_zeros_test}
 use Rattle.crn_text.proofs.Complexes.{all_kept, flat_map_map, complexes_are}
 use Rattle.crn_text.proofs.Statements.{self_same}
-
-flat_whole : {A B : Type 0} (f : A → List B) (xs : List A) (i : ℕ) (d : A) → i < length xs → flat_map f xs ≡ (flat_map f (take i xs) ++ f (get_or xs i d)) ++ flat_map f (drop (suc i) xs)
-flat_whole f [] i d lt = absurd (omega arith)
-flat_whole f (x ∷ xs) zero d lt = refl
-flat_whole {A} {B} f (x ∷ xs) (suc i) d lt =
-    ap (λ (t : List B). f x ++ t) (flat_whole f xs i d (omega arith)) ∙ sym (append_assoc (f x) (flat_map f (take i xs) ++ f (get_or xs i d)) (flat_map f (drop (suc i) xs)))
-    ∙ ap (λ (t : List B). t ++ flat_map f (drop (suc i) xs)) (sym (append_assoc (f x) (flat_map f (take i xs)) (f (get_or xs i d))))
 
 -- ---- the statements of a prefix of the text
 
@@ -133,16 +127,13 @@ prefix_of net all prefix rest h e =
       reactions = h.reactions ∙ ap (λ (t : List Statement). firsts sides_eq (map (said_by net.names) t)) whole;
     }
 
-in_middle : (s : Statement) (prefix rest : List Statement) → IsIn s (prefix ++ s ∷ rest)
-in_middle s prefix rest = in_right s prefix (s ∷ rest) (inl refl)
-
 fine_statements : (net : Net) (all prefix ss rest : List Statement) → Prefix net all [] → all ≡ prefix ++ (ss ++ rest) → statements_fault prefix ss ≡ None
 unfolding statement_fault
 fine_statements net all prefix [] rest h e = refl
 fine_statements net all prefix (s ∷ ss) rest h e =
     let more : all ≡ (prefix ++ s ∷ []) ++ (ss ++ rest) = e ∙ sym (append_assoc prefix (s ∷ []) (ss ++ rest)) in
     let f = prefix_of net all (prefix ++ s ∷ []) (ss ++ rest) h more in
-    let self : is_self s ≡ false = no_self net all s h (subst (λ (t : List Statement). IsIn s t) (sym e) (in_middle s prefix (ss ++ rest))) in
+    let self : is_self s ≡ false = no_self net all s h (subst (λ (t : List Statement). IsIn s t) (sym e) (in_right s prefix (s ∷ (ss ++ rest)) (inl refl))) in
     let species : nat_lt MAX_SPECIES (length (names_of (prefix ++ s ∷ []))) ≡ false = le-ltb MAX_SPECIES _ (names_few net (prefix ++ s ∷ []) (ss ++ rest) f) in
     let complexes : nat_lt MAX_COMPLEXES (length (complexes_of (prefix ++ s ∷ []))) ≡ false = le-ltb MAX_COMPLEXES _ (complexes_few net (prefix ++ s ∷ []) (ss ++ rest) f) in
     let reactions : nat_lt MAX_REACTIONS (length (reactions_of (prefix ++ s ∷ []))) ≡ false = le-ltb MAX_REACTIONS _ (reactions_few net (prefix ++ s ∷ []) (ss ++ rest) f) in
@@ -153,7 +144,7 @@ fine_line text net h k lt =
     let all : List Statement = all_statements (lines text) in
     let prefix : Prefix net all [] = record { network = h.network; names = h.names ∙ ap names_of (sym (append-nil all)); reactions = h.reactions ∙ ap (λ (t : List Statement). firsts sides_eq (map (said_by net.names) t)) (sym (append-nil all)) } in
     let line : List ℕ = get_or (lines text) k [] in
-    let split : all ≡ all_statements (take k (lines text)) ++ (line_statements line ++ all_statements (drop (suc k) (lines text))) = flat_whole line_statements (lines text) k [] lt ∙ append_assoc (all_statements (take k (lines text))) (line_statements line) (all_statements (drop (suc k) (lines text))) in
+    let split : all ≡ all_statements (take k (lines text)) ++ (line_statements line ++ all_statements (drop (suc k) (lines text))) = flat_map_whole line_statements (lines text) k [] lt ∙ append_assoc (all_statements (take k (lines text))) (line_statements line) (all_statements (drop (suc k) (lines text))) in
     let own : own_fault line ≡ None = all_at (λ l. own_fault l ≡ None) (lines text) k [] h.sound lt in
     rw own (fine_statements net all (all_statements (take k (lines text))) (line_statements line) (all_statements (drop (suc k) (lines text))) prefix split)
 

@@ -272,7 +272,7 @@ const EDITS: &[(usize, &str, usize, &str)] = &[
     (38, "q13 yes 1\n", 39, "37 WrongVerdict at line 39"),
     (38, "q13 yes 2\n", 39, "24 BadField at line 39"),
     (38, "q13 open rests 11\n", 39, "24 BadField at line 39"),
-    // question 12 gives no vector, so that system 5 is none
+    // question 12 gives no vector, so there is no system 5
     (
         38,
         "q13 open wide 5 0 1 1 2 3\n",

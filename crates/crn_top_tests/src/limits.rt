@@ -163,7 +163,7 @@ fn a_hundred_amounts_of_one_species_have_their_deficiency(rt: HostRuntime) {
     assert!(rt; report.as_str().ends_with(LADDER));
 }
 
-// So many lines, each from one of seventeen amounts of A to another.
+// This many lines, each from one of seventeen amounts of A to another.
 fn jumps(rt: &(impl Abort + AllocGlobal), lines: u32) -> String {
     let mut text = String::new(rt.alloc());
     let mut left = lines;

@@ -1,4 +1,4 @@
-// Words that are a command, and words that are none.
+// Words that are a command, and words that are not one.
 use super::runs::{ends_so, words_of};
 use crn_run::{Command, DEFAULT_BUDGET, MAX_BUDGET, Status, command_of};
 use std::process::Abort;

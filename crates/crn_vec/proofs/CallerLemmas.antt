@@ -5,6 +5,8 @@ pub use Rattle.crn_vec.proofs.Lists.{in_left, in_right, in_cases, in_push, in_ma
 pub use Rattle.crn_vec.proofs.Lists.{distinct_push, map_distinct, map_same, map_twice, append_same, pair, and_cases}
 pub use Rattle.crn_vec.proofs.Lists.{all_in, all_from, all_given, all_at, all_push, all_set, all_map, any_default}
 pub use Rattle.crn_vec.proofs.Lists.{distinct_of_map, apart_of, all_append, flat_map_push, in_flat_map, of_flat_map}
+pub use Rattle.crn_vec.proofs.Lists.{in_take, long_take, below_suc}
+pub use Rattle.crn_vec.proofs.Level.{head_is, tail_is}
 -- Tests that decide: whether two agree, and whether one finds a member.
 pub use Rattle.crn_vec.proofs.Lists.{same_test, any_is, any_true, any_false, any_has, any_push, and_true, and_no, or_right, not_true}
 -- What holds of an answer that is there.
@@ -36,14 +38,14 @@ pub use Rattle.crn_vec.proofs.Ring.{distrib, distrib-right, assoc, left-comm, mu
 pub use Rattle.crn_vec.proofs.Ring.{neg-mul, cancel_right, swap_factors, ratios_cross, one-mul, zero_times, plus_none, positive_some}
 -- Dot products, sums and multiples of vectors, and combinations of rows.
 pub use Rattle.crn_vec.proofs.Sums.{dot-comm, dot_none, dot_zero, dot_single, dot_split, dot-scale, dot-plus, zeros-dot, transposed}
-pub use Rattle.crn_vec.proofs.Sums.{plus, zeros, comb, dots, length-scale, length-plus, length-zeros, length-comb, length-dots}
+pub use Rattle.crn_vec.proofs.Sums.{plus, zeros, comb, dots, length-scale, length-plus, length-zeros, take-zeros, length-comb, length-dots}
 pub use Rattle.crn_vec.proofs.Sums.{entry-zeros, entry-scale, take-scale, entry-plus, entry-comb, entry-dots}
 -- A homogeneous system has a solution that is not zero, or no more unknowns than equations.
-pub use Rattle.crn_vec.proofs.Null.{Zero, Solves, Free, Fixed, null, dot-zero, dot-scale-right}
+pub use Rattle.crn_vec.proofs.Null.{Zero, Solves, Free, Fixed, null, dot-zero, dot-zeros, dot-scale-right}
 -- More vectors than they have entries are dependent.
 pub use Rattle.crn_vec.proofs.Many.{Related, too_many}
 -- The number of independent vectors, and the rank.
-pub use Rattle.crn_vec.proofs.Ranks.{base_gives_rank, rank_is_one_number, length-chosen, chosen_at}
+pub use Rattle.crn_vec.proofs.Ranks.{base_gives_rank, rank_is_one_number, length-chosen, chosen_at, chosen-suc}
 -- The two spaces of a matrix are orthogonal, and signs of dot products.
 pub use Rattle.crn_vec.proofs.Orthogonal.{part, dot_not_below, dot_above, dot_above_two, negative_at, dot_opposite, across, orthogonal}
 pub use Rattle.crn_vec.proofs.Orthogonal.{listed, length-listed, entry-listed, listed-sum, listed_zeros}
@@ -72,7 +74,9 @@ pub use Rattle.crn_vec.proofs.Flows.{unit, dot_unit, gain, flow, flow_sum, gain_
 pub use Rattle.crn_vec.proofs.SumLaws.{sum_by, sums_for, sums_one, sum_scaled, dot_ratio}
 pub use Rattle.crn_vec.proofs.LabelMarks.{label_sum, label_sum_is, length-label_marks, label_mark}
 -- Columns and vectors of a network.
-pub use Rattle.crn_vec.proofs.Carried.{entry-column, length-column, vector_long, gain_made}
+pub use Rattle.crn_vec.proofs.Carried.{entry-column, length-column, column-chosen, vector_long, gain_made}
+-- Numbers that are apart by one relation are so by another.
+pub use Rattle.crn_vec.proofs.Numbers.{apart_map}
 -- The deficiency is one number, and so is the confluence vector of a regular network up to multiples.
 pub use Rattle.crn_vec.proofs.Numbers.{number_is_one, deficiency_is_one}
 pub use Rattle.crn_vec.proofs.Confluences.{confluence_vectors_are_one, negative_sum, negative_space}
@@ -89,7 +93,7 @@ pub use Rattle.crn_vec.proofs.NetTables.{networks_have_tables, length-minus}
 pub use Rattle.crn_vec.proofs.NetTables.{vector_at, column_long, row_is, rows_count}
 pub use Rattle.crn_vec.proofs.NetRows.{reaction_long, vectors_count, vector_width, some_species, column_is, combined_past}
 -- The kinds of the rows at a prefix, and the signs of numbers.
-pub use Rattle.crn_vec.proofs.TableKinds.{length-rows, one_at_most, count_at_most, plus-opposite, minus-opposite, sum-opposite, cond-opposite, products_none}
+pub use Rattle.crn_vec.proofs.TableKinds.{zip_append, length-rows, one_at_most, count_at_most, plus-opposite, minus-opposite, sum-opposite, cond-opposite, products_none}
 pub use Rattle.crn_vec.proofs.PrefixKinds.{row_chosen, row_open, rows_are, kinds_more, sign_is}
 -- The sign of a product, and of a negative, by the signs of the numbers.
 pub use Rattle.crn_vec.proofs.SignTables.{product_is, opposite_is}

@@ -16,7 +16,7 @@ use Rattle.crn_vec.specs.Systems.{HasKind, IsSolution}
 use Rattle.crn_vec.proofs.Entries.{zip_long}
 use Rattle.crn_vec.specs.Problems.{IsFull, IsFeasible, all_zero, SolvesA, SolvesB}
 use Rattle.crn_vec.specs.Concordance.{IsTable, IsDiscordant, GoesWith, IsNought, HasPositive, HasNegative, image, shares, signed_by, product, products, is_plus, is_minus, some_sign, kind_of_sum, column_kind, kind_of_sign, row_kinds, concordance}
-use Rattle.crn_vec.specs.TableLaws.{DiscordantWhereFeasible}
+use Rattle.crn_vec.specs.TableLaws.{DiscordantIfFeasible}
 use Rattle.crn_vec.proofs.TableKinds.{zip_append, zip_prefix, zip_back, length-columns}
 
 -- the sign of a number
@@ -323,5 +323,5 @@ discordant_named m table t p alpha weights f o sa sb =
 pub discordant_by : (m : Mat) (table : List (List Sign)) → IsTable m table → (p : List Sign) → IsFull (concordance m table) p → IsFeasible (concordance m table) p → (alpha : List ℤ) × (weights : List ℤ) × IsDiscordant m table alpha weights
 discordant_by m table t p f s = (s.part_a.0, s.part_b.0, discordant_named m table t p s.part_a.0 s.part_b.0 f s.opened s.part_a.1 s.part_b.1)
 
-pub tables_feasible : (m : Mat) (table : List (List Sign)) → IsTable m table → DiscordantWhereFeasible m table
+pub tables_feasible : (m : Mat) (table : List (List Sign)) → IsTable m table → DiscordantIfFeasible m table
 tables_feasible m table t = record { named = discordant_named m table t; feasible = feasible_by m table t; discordant = discordant_by m table t }

@@ -67,8 +67,8 @@ filter_no p (y ∷ xs) x miss = elim (cases_Bool (p y)) as (λ _. filter p (y �
 
 -- ---- how many pass
 
-pub filter_few : (p : ℕ → Bool) (xs : List ℕ) → length (filter p xs) ≤ length xs
-filter_few p xs = omega (arith, length-filter_both p (λ (x : ℕ). not (p x)) (λ x. refl) xs)
+pub filter_few : {A : Type 0} (p : A → Bool) (xs : List A) → length (filter p xs) ≤ length xs
+filter_few {A} p xs = omega (arith, length-filter_both p (λ (x : A). not (p x)) (λ x. refl) xs)
 
 pub count_yes : (p : ℕ → Bool) (xs : List ℕ) (x : ℕ) → p x ≡ true → count_by p (xs ++ x ∷ []) ≡ count_by p xs + 1
 count_yes p xs x h = omega (arith, length-filter p (xs ++ x ∷ []), ap length (filter_yes p xs x h), length-append (filter p xs) (x ∷ []), length-filter p xs)

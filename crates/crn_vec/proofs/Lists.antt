@@ -1,5 +1,5 @@
 -- Lists of any kind: members, distinct members, facts of all members, lists with a member put at the end, and pairs.
-use Rattle.std.proofs.Common.{◌≡◌, ◌⊎◌, ℕ, Bool, true, false, zero, suc, ◌<◌, List, [], ◌∷◌, ◌++◌, length, get_or, map, set, refl, sym, ap, subst, ◌∙◌, inl, inr, arith}
+use Rattle.std.proofs.Common.{◌≡◌, ◌⊎◌, ℕ, Bool, true, false, zero, suc, ◌<◌, ◌≤◌, List, [], ◌∷◌, ◌++◌, length, get_or, map, take, set, refl, sym, ap, subst, ◌∙◌, inl, inr, arith}
 use Rattle.std.specs.Prelude.{◌&&◌, ◌||◌, not, Result, Ok, Err, IfOk}
 use Rattle.std.specs.List.{AllByRecursion, list_any, flat_map}
 use Rattle.std.specs.Bool.{Decides}
@@ -27,6 +27,18 @@ in_cases x (y ∷ xs) ys (inr h) = elim (in_cases x xs ys h) [ inl a ↦ inl (in
 pub in_push : {A : Type 0} (y : A) (xs : List A) (x : A) → IsIn y (xs ++ x ∷ []) → IsIn y xs ⊎ (y ≡ x)
 in_push y xs x h = elim (in_cases y xs (x ∷ []) h) [ inl a ↦ inl a | inr b ↦ elim b [ inl e ↦ inr e | inr c ↦ absurd c ] ]
 
+-- a member of the first members of a list is one of the list
+pub in_take : {A : Type 0} (n : ℕ) (xs : List A) (x : A) → IsIn x (take n xs) → IsIn x xs
+in_take zero xs x h = absurd h
+in_take (suc n) [] x h = absurd h
+in_take (suc n) (y ∷ xs) x (inl e) = inl e
+in_take (suc n) (y ∷ xs) x (inr h) = inr (in_take n xs x h)
+
+pub long_take : {A : Type 0} (n : ℕ) (xs : List A) → n ≤ length xs → length (take n xs) ≡ n
+long_take zero xs h = refl
+long_take (suc n) [] h = absurd (omega arith)
+long_take (suc n) (x ∷ xs) h = let r = long_take n xs (omega (arith, h)) in omega (arith, r)
+
 pub distinct_push : {A : Type 0} (xs : List A) (x : A) → AreDistinct xs → (IsIn x xs → ⊥) → AreDistinct (xs ++ x ∷ [])
 distinct_push [] x h free = (λ i. i, tt)
 distinct_push (y ∷ xs) x h free = (λ i. elim (in_push y xs x i) [ inl a ↦ h.0 a | inr e ↦ free (inl (sym e)) ], distinct_push xs x h.1 (λ i. free (inr i)))
@@ -35,6 +47,10 @@ pub in_map : {A B : Type 0} (f : A → B) (xs : List A) (y : B) → IsIn y (map 
 in_map f [] y h = absurd h
 in_map f (x ∷ xs) y (inl e) = (x, inl refl, e)
 in_map f (x ∷ xs) y (inr h) = let r = in_map f xs y h in (r.0, inr r.1, r.2)
+
+-- numbers below a bound, each with 1 added, are below the bound with 1 added
+pub below_suc : (n : ℕ) (places : List ℕ) → ((k : ℕ) → IsIn k places → k < n) → (k : ℕ) → IsIn k (map suc places) → k < suc n
+below_suc n places h k i = let m = in_map suc places k i in let b = h m.0 m.1 in omega (arith, b, m.2)
 
 pub map_in : {A B : Type 0} (f : A → B) (xs : List A) (x : A) → IsIn x xs → IsIn (f x) (map f xs)
 map_in f [] x h = absurd h

@@ -1,5 +1,5 @@
 -- Independent vectors that depend on others are no more than those, and the rank is one number.
-use Rattle.std.proofs.Common.{◌≡◌, ℕ, zero, suc, ◌<◌, ◌≤◌, inl, inr, List, [], ◌∷◌, ◌++◌, length, get_or, take, drop, refl, ap, subst, ◌∙◌, arith, length-append}
+use Rattle.std.proofs.Common.{◌≡◌, ℕ, zero, suc, ◌<◌, ◌≤◌, inl, inr, List, [], ◌∷◌, ◌++◌, length, get_or, map, take, drop, refl, ap, subst, ◌∙◌, arith, length-append}
 use Rattle.std.specs.Prelude.{ℤ, pos, ◌≤ℤ◌, ◌*ℤ◌}
 use Rattle.std.proofs.lemmas.Int.{ints}
 use lib.IntN.{*ℤ_comm, zero-*ℤ}
@@ -7,10 +7,15 @@ use Rattle.crn_vec.specs.Vectors.{entry, dot, column, AreOfLength}
 use Rattle.crn_vec.specs.Lists.{IsIn, IsAbove, IsAscending}
 use Rattle.crn_vec.specs.Rank.{IsZero, combination_at, IsIndependent, DependsOn, chosen, IsRank, BaseGivesRank, RankIsOneNumber}
 use Rattle.crn_vec.proofs.Ring.{assoc, no_zero}
+use Rattle.crn_vec.proofs.Lists.{in_take, long_take, map_twice}
 use Rattle.crn_vec.proofs.Entries.{lt_or}
 use Rattle.crn_vec.proofs.Sums.{zeros, length-zeros, zeros-dot, dots, comb, transposed}
 use Rattle.crn_vec.proofs.Null.{Zero}
 use Rattle.crn_vec.proofs.Many.{Related, too_many}
+
+-- the places in a list of one vector more at its head
+pub chosen-suc : (places : List ℕ) (v : List ℤ) (vs : List (List ℤ)) → chosen (map suc places) (v ∷ vs) ≡ chosen places vs
+chosen-suc places v vs = map_twice suc (λ (k : ℕ). get_or (v ∷ vs) k []) places
 
 -- d u is the combination of bs with the coefficients q, for the members of three lists as long
 abbrev pub Tabled : List (List ℤ) → List (List ℤ) → List ℤ → List (List ℤ) → Type 0
@@ -154,17 +159,6 @@ ascending_take zero xs h = tt
 ascending_take (suc n) [] h = tt
 ascending_take (suc n) (x ∷ xs) h = above_take n x xs h
 
-in_take : (n k : ℕ) (xs : List ℕ) → IsIn k (take n xs) → IsIn k xs
-in_take zero k xs h = absurd h
-in_take (suc n) k [] h = absurd h
-in_take (suc n) k (x ∷ xs) (inl e) = inl e
-in_take (suc n) k (x ∷ xs) (inr h) = inr (in_take n k xs h)
-
-long_take : (n : ℕ) (xs : List ℕ) → n ≤ length xs → length (take n xs) ≡ n
-long_take zero xs h = refl
-long_take (suc n) [] h = absurd (omega arith)
-long_take (suc n) (x ∷ xs) h = omega (arith, long_take n xs (let g : n ≤ length xs = omega arith in g))
-
 chosen_split : (n : ℕ) (places : List ℕ) (vs : List (List ℤ)) → chosen places vs ≡ chosen (take n places) vs ++ chosen (drop n places) vs
 chosen_split zero places vs = refl
 chosen_split (suc n) [] vs = refl
@@ -174,7 +168,7 @@ not_less : (vs : List (List ℤ)) (s t : ℕ) → IsRank vs s → IsRank vs t �
 not_less vs s t r q = elim (lt_or s t) as (λ _. t ≤ s) [
   | inr le ↦ le
   | inl lt ↦ absurd (r.greatest (take (suc s) q.places)
-      (record { ascending = ascending_take (suc s) q.places q.choice.ascending; below = λ k i. q.choice.below k (in_take (suc s) k q.places i) })
+      (record { ascending = ascending_take (suc s) q.places q.choice.ascending; below = λ k i. q.choice.below k (in_take (suc s) q.places k i) })
       (long_take (suc s) q.places (omega (arith, q.count)))
       (independent_prefix (chosen (take (suc s) q.places) vs) (chosen (drop (suc s) q.places) vs) (subst IsIndependent (chosen_split (suc s) q.places vs) q.independent)))
 ]

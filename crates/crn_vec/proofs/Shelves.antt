@@ -19,7 +19,7 @@ use Rattle.crn_vec.specs.Concordance.{sign, image, kind_of_sign, row_kinds, kind
 use Rattle.crn_vec.proofs.TableKinds.{zip_append, zip_prefix, zip_back, length-rows}
 use Rattle.crn_vec.proofs.Discordance.{solution_of, parts_of, rows_have, rows_are, frees_have, length-image}
 use Rattle.crn_vec.specs.Signals.{Pair, Shape, complex_at, shelf_at, shelf_of, HasPairSign, IsSignal, complex_row, pair_row, shelf_matrix, top_kind, pair_kind_by, pair_kind, signals, IsStoichiometric, IsShape}
-use Rattle.crn_vec.specs.SignalLaws.{SignalWhereFeasible}
+use Rattle.crn_vec.specs.SignalLaws.{SignalIfFeasible}
 use Rattle.crn_vec.proofs.Level.{minus-dot, all_at, level_zero}
 
 -- ---- rows of the matrix over (mu, level)
@@ -298,5 +298,5 @@ signal_named net s m st sh p x weights f o sa sb =
 pub signal_by : (net : Net) (s : Shape) (m : Mat) → IsStoichiometric net m → IsShape net s → (p : List Sign) → IsFull (signals s m) p → IsFeasible (signals s m) p → (shelves : List Sign) × (mu : List ℤ) × (level : ℤ) × (weights : List ℤ) × IsSignal s m shelves mu level weights
 signal_by net s m st sh p f sd = (take s.count p, take s.species sd.part_a.0, entry sd.part_a.0 s.species, sd.part_b.0, signal_named net s m st sh p sd.part_a.0 sd.part_b.0 f sd.opened sd.part_a.1 sd.part_b.1)
 
-pub shelves_feasible : (net : Net) (s : Shape) (m : Mat) → IsPartialNetwork net → IsStoichiometric net m → IsShape net s → SignalWhereFeasible s m
+pub shelves_feasible : (net : Net) (s : Shape) (m : Mat) → IsPartialNetwork net → IsStoichiometric net m → IsShape net s → SignalIfFeasible s m
 shelves_feasible net s m part st sh = record { feasible = feasible_by net s m part st sh; named = signal_named net s m st sh; signal = signal_by net s m st sh }

@@ -72,6 +72,11 @@ pub length-zeros : (k : ℕ) → length (zeros k) ≡ k
 length-zeros zero = refl
 length-zeros (suc k) = omega (arith, length-zeros k)
 
+pub take-zeros : (n m : ℕ) → (k : ℕ) × (take n (zeros m) ≡ zeros k)
+take-zeros zero m = (0, refl)
+take-zeros (suc n) zero = (0, refl)
+take-zeros (suc n) (suc m) = let t = take-zeros n m in (suc t.0, ap (λ (l : List ℤ). pos 0 ∷ l) t.1)
+
 pub length-comb : (n : ℕ) (us : List ℤ) (rows : List (List ℤ)) → AreOfLength n rows → length (comb n us rows) ≡ n
 length-comb n [] rows w = length-zeros n
 length-comb n (u ∷ us) [] w = length-zeros n

@@ -23,7 +23,7 @@ abbrev pub SignalsAreSteady : Type 0
 SignalsAreSteady = (s : Shape) (m : Mat) → IsSteady (signals s m)
 
 -- there is a signal if and only if some full prefix of the problem is feasible
-pub record SignalWhereFeasible (s : Shape) (m : Mat) : Type 0 where
+pub record SignalIfFeasible (s : Shape) (m : Mat) : Type 0 where
   pub feasible : (shelves : List Sign) (mu : List ℤ) (level : ℤ) (weights : List ℤ)
       → IsSignal s m shelves mu level weights
       → (p : List Sign) × IsFull (signals s m) p × IsFeasible (signals s m) p
@@ -38,7 +38,7 @@ pub record SignalWhereFeasible (s : Shape) (m : Mat) : Type 0 where
 -- signals and full feasible prefixes agree
 abbrev pub FeasiblePrefixesDecideSignals : Type 0
 FeasiblePrefixesDecideSignals = (net : Net) (s : Shape) (m : Mat) → IsPartialNetwork net
-    → IsStoichiometric net m → IsShape net s → SignalWhereFeasible s m
+    → IsStoichiometric net m → IsShape net s → SignalIfFeasible s m
 
 -- the limits of a network hold, and there are fewer cut pairs than complexes
 pub record IsFew (s : Shape) (m : Mat) : Type 0 where

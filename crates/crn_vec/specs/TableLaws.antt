@@ -15,7 +15,7 @@ abbrev pub TablesAreSteady : Type 0
 TablesAreSteady = (m : Mat) (table : List (List Sign)) → IsSteady (concordance m table)
 
 -- a table has a discordance if and only if some full prefix of its problem is feasible
-pub record DiscordantWhereFeasible (m : Mat) (table : List (List Sign)) : Type 0 where
+pub record DiscordantIfFeasible (m : Mat) (table : List (List Sign)) : Type 0 where
   pub feasible : (alpha weights : List ℤ) → IsDiscordant m table alpha weights
       → (p : List Sign) × IsFull (concordance m table) p × IsFeasible (concordance m table) p
   -- the solutions of both parts of a full open prefix are a discordance
@@ -28,4 +28,4 @@ pub record DiscordantWhereFeasible (m : Mat) (table : List (List Sign)) : Type 0
 -- discordances and full feasible prefixes agree
 abbrev pub FeasiblePrefixesDecideDiscordance : Type 0
 FeasiblePrefixesDecideDiscordance = (m : Mat) (table : List (List Sign)) → IsTable m table
-    → DiscordantWhereFeasible m table
+    → DiscordantIfFeasible m table

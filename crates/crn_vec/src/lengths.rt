@@ -1,7 +1,7 @@
 ghost use Rattle.std.specs.Prelude.{◌≡◌, ◌≤◌, length, vec_capacity};
 
-/// Makes a list this long, with this value at each place if it was shorter or longer, within the room that it has. A list that is
-/// this long already stays as it is. It takes no memory.
+/// Makes a list this long, within the room that it has: if it was shorter or longer, each place gets this value; if not, it
+/// stays as it is. It takes no memory.
 pub fn set_length<T: Copy>(list: &mut Vec<T>, count: usize, value: T)
     requires { count ≤ vec_capacity list.old }
     ensures count { length list.new.items ≡ count }

@@ -15,7 +15,7 @@ use std::{env, io};
 /// The exit status if the words can't be got, which is not a status of a run.
 const NO_WORDS: u8 = 8;
 
-/// So many bytes of output are gathered before they are written.
+/// How many bytes of output are gathered before they are written.
 ///
 /// When the C library takes back a block of twice the size, it joins all small blocks that were given back before.
 const BLOCK: usize = 32_768;

@@ -1,5 +1,5 @@
 -- For the contracts of private functions alone.
--- What part A of a table's problem is asked, by words.
+-- What is required of part A of a table's problem, by words.
 -- Source: this project's own.
 -- Shapes: coordinates count from 0; coordinate k is bit k % 64 of word k / 64. The choices are the
 -- species in order.
@@ -31,7 +31,7 @@ pub record IsExtended (above signs : Bits) (option : Sign) (new : Bits) : Type 0
   pub minus : (i : ℕ) (x : Bool) (s : Sign) → bit_at above.minus i ≡ one_if x → HasSignIn signs i s
       → bit_at new.minus i ≡ one_if (if x then true else is_minus (product s option))
 
--- the kind of the sum is asked of each coordinate that is settled, and nothing of the others
+-- the kind of the sum is required of each coordinate that is settled, and nothing of the others
 abbrev pub IsAskedOf : Bits → Bits → Bits → Type 0
 IsAskedOf settled sums new = (i : ℕ) (b x y : Bool) → bit_at settled.plus i ≡ one_if b
     → bit_at settled.minus i ≡ one_if b → bit_at sums.plus i ≡ one_if x

@@ -51,7 +51,7 @@ pub record IsForm (f : GivenForm) (form : Form) : Type 0 where
 abbrev pub no_form : Form
 no_form = record { place = 0; words = []; fields = [] }
 
--- of these forms the one of this number is given, or there is none
+-- the form of this number is given, or there is none
 abbrev pub IsNth : List Form → ℕ → Option GivenForm → Type 0
 IsNth forms i None = length forms ≤ i
 IsNth forms i (Some f) = (i < length forms) × IsForm f (slice_index_or forms i no_form) × (f.place ≡ 0)

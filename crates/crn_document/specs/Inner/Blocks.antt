@@ -51,7 +51,7 @@ abbrev pub IsAfter : Net → Earlier → (by_tree : Bool) → (line : ℕ) → A
 IsAfter net earlier by_tree line y =
     (blocks : List (List Record)) × (y ≡ after_by net earlier by_tree line blocks)
 
--- after the lines that open sections the line before is no tree's, unless there are none
+-- after lines that open sections, if there are any, the line before is not one of a tree
 abbrev pub still_by_tree : List Record → Bool → Bool
 still_by_tree [] by_tree = by_tree
 still_by_tree (r ∷ rs) by_tree = false

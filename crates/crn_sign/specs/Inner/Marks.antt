@@ -74,7 +74,7 @@ kind_of_mark Plus = Pos
 kind_of_mark Minus = Neg
 kind_of_mark Any = ZeroKind
 
--- the kinds that are asked of the coordinates of a matrix
+-- the kinds that are required of the coordinates of a matrix
 unfoldable pub kinds_of : Mat → List Bits → List Kind
 kinds_of a asked = map (λ k. kind_of_mark (mark_at asked k)) (range_with_len 0 (width a))
 

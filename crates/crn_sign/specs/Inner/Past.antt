@@ -29,11 +29,11 @@ abbrev pub mark_of_multiple : Bool → Mark → Mark
 mark_of_multiple true mark = mark
 mark_of_multiple false mark = negative mark
 
--- numbers of a mark may be weighed where this is asked
+-- numbers of a mark may be weighed where this is required
 abbrev pub Weighs : Mark → Mark → Type 0
 Weighs asked mark = (x : ℤ) → HasMark mark x → MayWeigh (kind_of_mark asked) x
 
--- a sign is asked, and no number of the mark is 0
+-- a sign is required, and no number of the mark is 0
 pub record Counts (asked mark : Mark) : Type 0 where
   pub signed : is_signed (kind_of_mark asked) ≡ true
   pub some : (x : ℤ) → HasMark mark x → x ≢ pos 0

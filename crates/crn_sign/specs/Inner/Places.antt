@@ -18,7 +18,7 @@ pub record HasRoom (a : Mat) (l : Place) : Type 0 where
   pub asked : length l.asked.items ≡ word_count a
   pub marks : length l.marks.items ≡ word_count a
 
--- the marks are of a vector (x, Ax), and suit the kinds that are asked if they are said to
+-- the marks are of a vector (x, Ax), and suit the kinds that are required if they are said to
 pub record IsPlace (a : Mat) (l : Place) : Type 0 where
   pub width_is : l.width ≡ width a
   pub asked : length l.asked.items ≡ word_count a
@@ -30,17 +30,17 @@ pub record IsHere (a : Mat) (kinds : List Kind) (l : Place) : Type 0 where
   pub place : IsPlace a l
   pub kinds_are : kinds_of a l.asked.items ≡ kinds
 
--- what is asked is of these kinds
+-- what is required is of these kinds
 pub record IsAsked (a : Mat) (kinds : List Kind) (l : Place) : Type 0 where
   pub room : HasRoom a l
   pub kinds_are : kinds_of a l.asked.items ≡ kinds
 
--- the marks one level above suit what is asked if they are said to
+-- the marks one level above suit what is required if they are said to
 pub record IsFor (a : Mat) (above l : Place) : Type 0 where
   pub room : HasRoom a l
   pub suits : IsTrue l.suits → AreSuited (kinds_of a l.asked.items) above.marks.items
 
--- what is asked is right of all coordinates whose kinds one choice more leaves as they are
+-- what is required is right of all coordinates whose kinds one choice more leaves as they are
 pub record IsAround (a : Mat) (kinds : List Sign → List Kind) (p : List Sign) (l : Place)
     : Type 0 where
   pub room : HasRoom a l
@@ -48,7 +48,7 @@ pub record IsAround (a : Mat) (kinds : List Sign → List Kind) (p : List Sign) 
       → ((s : Sign) → kind_at (kinds (p ++ s ∷ [])) k ≡ kind_at (kinds p) k)
       → kind_in l.asked.items k ≡ kind_at (kinds p) k
 
--- the kind of a coordinate is asked, and else all is as before
+-- the kind of a coordinate is required, and all else is as before
 pub record IsSettledAt (a : Mat) (kinds : List Kind) (k : ℕ) (old new : Place) : Type 0 where
   pub width_is : new.width ≡ old.width
   pub count : length new.asked.items ≡ length old.asked.items
@@ -56,7 +56,7 @@ pub record IsSettledAt (a : Mat) (kinds : List Kind) (k : ℕ) (old new : Place)
   pub here : k < width a → kind_in new.asked.items k ≡ kind_at kinds k
   pub others : (j : ℕ) → (j ≡ k → ⊥) → kind_in new.asked.items j ≡ kind_in old.asked.items j
 
--- what is known before the kinds at some coordinates are asked
+-- what is known before the kinds at some coordinates are required
 pub record IsSettling (a : Mat) (kinds : List Kind) (settled : List ℕ) (l : Place) : Type 0 where
   pub room : HasRoom a l
   pub same : (k : ℕ) → k < width a → (IsIn k settled → ⊥)

@@ -25,7 +25,7 @@ pub record IsLevel (w : Signed) (p : List Sign) (l : Level) : Type 0 where
   pub a : IsHere w.matrix_a (w.kinds_a p) l.a
   pub b : IsHere w.matrix_b (w.kinds_b p) l.b
 
--- what both parts are asked at a prefix
+-- what is required of both parts at a prefix
 pub record AreAsked (w : Signed) (p : List Sign) (l : Level) : Type 0 where
   pub a : IsAsked w.matrix_a (w.kinds_a p) l.a
   pub b : IsAsked w.matrix_b (w.kinds_b p) l.b
@@ -35,7 +35,7 @@ pub record AreMarked (w : Signed) (l : Level) : Type 0 where
   pub a : AreRowMarks w.matrix_a l.a.marks.items
   pub b : AreRowMarks w.matrix_b l.b.marks.items
 
--- the marks one level above suit what both parts are asked if they are said to
+-- the marks one level above suit what is required of both parts if they are said to
 pub record AreFor (w : Signed) (above l : Level) : Type 0 where
   pub a : IsFor w.matrix_a above.a l.a
   pub b : IsFor w.matrix_b above.b l.b
@@ -46,8 +46,8 @@ pub record HasSums (w : Signed) (are_sums : List Sign → List Bits → Type 0) 
   pub count : length l.sums.items ≡ word_count w.matrix_a
   pub are : are_sums p l.sums.items
 
--- room for what part A is asked, and what part B is asked is right of what one choice more leaves as
--- it is
+-- room for what is required of part A, and what is required of part B is right of what one choice more
+-- leaves as it is
 pub record AreAround (w : Signed) (p : List Sign) (l : Level) : Type 0 where
   pub a : HasRoom w.matrix_a l.a
   pub b : IsAround w.matrix_b w.kinds_b p l.b
