@@ -46,3 +46,5 @@ pub use Rattle.crn_cert.proofs.RankLaws.{class_ascending, vector_entry, numbers_
 pub use Rattle.crn_cert.proofs.AllLaws.{same_question}
 -- No signal of one confluence vector, and none of its negative, is no signal at all.
 pub use Rattle.crn_cert.proofs.NoSignals.{none_at_all}
+-- Nodes in preorder are those of one tree.
+pub use Rattle.crn_cert.proofs.Preorders.{same_tree}

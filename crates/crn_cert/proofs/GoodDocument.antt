@@ -1,11 +1,10 @@
 -- The certificate of A <-> B, worked by hand: its fifteen answers are formed and valid, so their verdicts are true.
-use Rattle.std.proofs.Common.{◌≡◌, ◌≢◌, ◌⊎◌, ℕ, zero, suc, ◌<◌, ◌≤◌, ◌-◌, true, List, [], ◌∷◌, ◌++◌, get_or, drop, refl, sym, ap, subst, inl, inr, arith, lit≤, Box, Global}
+use Rattle.std.proofs.Common.{◌≡◌, ◌≢◌, ◌⊎◌, ℕ, zero, suc, ◌<◌, ◌≤◌, ◌-◌, true, List, [], ◌∷◌, ◌++◌, get_or, drop, refl, sym, ap, subst, inl, inr, arith, lit≤}
 use Rattle.std.specs.Prelude.{ℤ, pos, negsuc, ◌*ℤ◌, neg_ℤ}
 use Rattle.std.proofs.lemmas.Int.{ints}
 use Rattle.std.proofs.lemmas.Bool.{false≢true}
 use Rattle.crn_vec.specs.declared.limits.TheConstants.{WIDE_SOLUTION}
 use Rattle.crn_vec.specs.declared.signs.Sign.TheVariants.{Zero, Plus, Minus}
-use Rattle.std.specs.declared.rc.Rc.{Rc}
 use Rattle.crn_vec.specs.Lists.{IsIn}
 use Rattle.crn_vec.specs.Kept.{KeptNums, KeptInts}
 use Rattle.crn_vec.specs.Network.{Net, IsNetwork, IsHeldBefore}
@@ -17,7 +16,7 @@ use Rattle.crn_vec.specs.NetSystems.{reaction_system}
 use Rattle.crn_vec.specs.Problems.{Signed}
 use Rattle.crn_vec.specs.Concordance.{concordance}
 use Rattle.crn_vec.specs.Influence.{plain_table, strong_table}
-use Rattle.crn_cert.specs.declared.tree.Tree.{Tree, Split', CutA, CutB, Flat, None', Some'}
+use Rattle.crn_cert.specs.Trees.{Plan, Both, Three, RulesA, RulesB, Level}
 use Rattle.crn_cert.specs.declared.answer.Verdict.TheVariants.{Classes, Strong, Rank, Deficiency, Yes, YesWeak, YesVec, OnlyZero, NotApplicable}
 use Rattle.crn_cert.specs.declared.answer.Proof.TheVariants.{Nothing, Forest, Strong as StrongTrees, Back, Rank as RankRows, Ranks, Sides, Ties, One}
 use Rattle.crn_cert.specs.declared.answer.RankProof.{RankProof}
@@ -49,18 +48,10 @@ numbers xs = record { list = xs; spare = 0 }
 abbrev rank_one : RankProof
 rank_one = record { base = nums (1 ∷ []); duals = (negsuc 0 ∷ pos 0 ∷ []) ∷ []; combs = (pos 1 ∷ negsuc 0 ∷ []) ∷ [] }
 
--- where the parts of a tree lie in memory
-abbrev Place : Type 0
-Place = Box (Unit {0}) Global × Rc KeptInts Global
-
--- the multipliers of a leaf
-abbrev leaf : Place → List ℤ → Rc KeptInts Global
-leaf b xs = record { ptr = b.1.ptr; value = numbers xs }
-
 -- the tree of both influence tables
-abbrev tree : Place → Tree
-tree b = Split' b.0 (Split' b.0 Flat (CutA (leaf b (pos 0 ∷ pos 1 ∷ []))) None')
-    (Split' b.0 (CutA (leaf b (pos 1 ∷ pos 0 ∷ []))) (CutB (leaf b (pos 1 ∷ pos 1 ∷ []))) (Some' (CutA (leaf b (pos 1 ∷ pos 0 ∷ []))))) None'
+abbrev tree : Plan
+tree = Both (Both Level (RulesA (pos 0 ∷ pos 1 ∷ [])))
+    (Three (RulesA (pos 1 ∷ pos 0 ∷ [])) (RulesB (pos 1 ∷ pos 1 ∷ [])) (RulesA (pos 1 ∷ pos 0 ∷ [])))
 
 abbrev a1 : Answer
 a1 = record { verdict = Classes 1 (nums (1 ∷ 1 ∷ [])); proof = Forest (nums (0 ∷ 1 ∷ [])) (nums (0 ∷ 1 ∷ [])) }
@@ -101,14 +92,14 @@ a12 = record { verdict = OnlyZero; proof = Ties ((pos 1 ∷ pos 0 ∷ pos 0 ∷ 
 abbrev a13 : Answer
 a13 = record { verdict = NotApplicable; proof = Nothing }
 
-abbrev a14 : Place → Answer
-a14 b = record { verdict = Yes; proof = One (tree b) }
+abbrev a14 : Answer
+a14 = record { verdict = Yes; proof = One tree }
 
-abbrev a15 : Place → Answer
-a15 b = record { verdict = Yes; proof = One (tree b) }
+abbrev a15 : Answer
+a15 = record { verdict = Yes; proof = One tree }
 
-abbrev answers : Place → List Answer
-answers b = a1 ∷ a2 ∷ a3 ∷ a4 ∷ a5 ∷ a6 ∷ a7 ∷ a8 ∷ a9 ∷ a10 ∷ a11 ∷ a12 ∷ a13 ∷ a14 b ∷ a15 b ∷ []
+abbrev answers : List Answer
+answers = a1 ∷ a2 ∷ a3 ∷ a4 ∷ a5 ∷ a6 ∷ a7 ∷ a8 ∷ a9 ∷ a10 ∷ a11 ∷ a12 ∷ a13 ∷ a14 ∷ a15 ∷ []
 
 abbrev e1 : Earlier
 e1 = []
@@ -416,14 +407,14 @@ valid_12 = (tt, (tie_of_zero, (tie_of_one, tt)))
 valid_13 : IsValid net e13 Q13 a13
 valid_13 = ((false≢true, λ h. h), tt)
 
-valid_14 : (b : Place) → IsValid net e14 Q14 (a14 b)
-valid_14 b = (omega arith, (omega arith, (refl, (plain_zero_plus, (omega arith, (plain_plus_zero, (plain_plus_plus, (plain_plus_minus, tt))))))))
+valid_14 : IsValid net e14 Q14 (a14)
+valid_14 = (omega arith, (omega arith, (refl, (plain_zero_plus, (omega arith, (plain_plus_zero, (plain_plus_plus, (plain_plus_minus, tt))))))))
 
-valid_15 : (b : Place) → IsValid net e15 Q15 (a15 b)
-valid_15 b = (omega arith, (omega arith, (refl, (strong_zero_plus, (omega arith, (strong_plus_zero, (strong_plus_plus, (strong_plus_minus, tt))))))))
+valid_15 : IsValid net e15 Q15 (a15)
+valid_15 = (omega arith, (omega arith, (refl, (strong_zero_plus, (omega arith, (strong_plus_zero, (strong_plus_plus, (strong_plus_minus, tt))))))))
 
-valid_answers : (b : Place) → AreValid net [] questions (answers b)
-valid_answers b = (valid_1, (valid_2, (valid_3, (valid_4, (valid_5, (valid_6, (valid_7, (valid_8, (valid_9, (valid_10, (valid_11, (valid_12, (valid_13, (valid_14 b, (valid_15 b, tt)))))))))))))))
+valid_answers : AreValid net [] questions answers
+valid_answers = (valid_1, (valid_2, (valid_3, (valid_4, (valid_5, (valid_6, (valid_7, (valid_8, (valid_9, (valid_10, (valid_11, (valid_12, (valid_13, (valid_14, (valid_15, tt)))))))))))))))
 
 -- ---- form
 
@@ -475,14 +466,14 @@ formed_12 = (tt, record { long = refl; each = (record { long = refl; each = (sma
 formed_13 : IsFormed net e13 Q13 a13
 formed_13 = (tt, tt)
 
-formed_14 : (b : Place) → IsFormed net e14 Q14 (a14 b)
-formed_14 b = (tt, (omega arith, refl, (omega arith, refl, tt, record { long = refl; each = (small_0, (small_1, tt)) }), (omega arith, refl, record { long = refl; each = (small_1, (small_0, tt)) }, record { long = refl; each = (small_1, (small_1, tt)) }, record { long = refl; each = (small_1, (small_0, tt)) })))
+formed_14 : IsFormed net e14 Q14 (a14)
+formed_14 = (tt, (omega arith, refl, (omega arith, refl, tt, record { long = refl; each = (small_0, (small_1, tt)) }), (omega arith, refl, record { long = refl; each = (small_1, (small_0, tt)) }, record { long = refl; each = (small_1, (small_1, tt)) }, record { long = refl; each = (small_1, (small_0, tt)) })))
 
-formed_15 : (b : Place) → IsFormed net e15 Q15 (a15 b)
-formed_15 b = (tt, (omega arith, refl, (omega arith, refl, tt, record { long = refl; each = (small_0, (small_1, tt)) }), (omega arith, refl, record { long = refl; each = (small_1, (small_0, tt)) }, record { long = refl; each = (small_1, (small_1, tt)) }, record { long = refl; each = (small_1, (small_0, tt)) })))
+formed_15 : IsFormed net e15 Q15 (a15)
+formed_15 = (tt, (omega arith, refl, (omega arith, refl, tt, record { long = refl; each = (small_0, (small_1, tt)) }), (omega arith, refl, record { long = refl; each = (small_1, (small_0, tt)) }, record { long = refl; each = (small_1, (small_1, tt)) }, record { long = refl; each = (small_1, (small_0, tt)) })))
 
-formed_answers : (b : Place) → AreFormed net [] questions (answers b)
-formed_answers b = (formed_1, (formed_2, (formed_3, (formed_4, (formed_5, (formed_6, (formed_7, (formed_8, (formed_9, (formed_10, (formed_11, (formed_12, (formed_13, (formed_14 b, (formed_15 b, tt)))))))))))))))
+formed_answers : AreFormed net [] questions answers
+formed_answers = (formed_1, (formed_2, (formed_3, (formed_4, (formed_5, (formed_6, (formed_7, (formed_8, (formed_9, (formed_10, (formed_11, (formed_12, (formed_13, (formed_14, (formed_15, tt)))))))))))))))
 
 -- ---- truth
 
@@ -566,5 +557,5 @@ are_built = (
 )
 
 -- the verdicts are true of the network
-all_true : (b : Place) → AllTrueOrOpen net questions (answers b)
-all_true b = valid_documents_are_true questions net (answers b) are_built is_network (formed_answers b) (valid_answers b)
+all_true : AllTrueOrOpen net questions answers
+all_true = valid_documents_are_true questions net answers are_built is_network formed_answers valid_answers

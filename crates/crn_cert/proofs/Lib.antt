@@ -36,3 +36,4 @@ mod Treeless
 mod TestLists
 mod WideGaps
 mod TreeSizes
+mod Preorders

@@ -7,12 +7,16 @@ use Rattle.std.specs.Ordering.{int_eq}
 use Rattle.std.specs.Cmp.Lexicographic.{pointwise}
 use Rattle.std.specs.Cmp.Rules.{signed_items}
 use Rattle.std.proofs.lemmas.Bool.{cases_Bool, cases_lt, true≢false}
-use Rattle.std.proofs.lemmas.List.{append-nil, map-append, length-append, length-take, take-append-le}
+use Rattle.std.proofs.lemmas.List.{append-nil, map-append, length-append, length-take, take-append-le, take_more}
 use Rattle.indexmap.specs.IndexSet.{insert_key}
 use Rattle.crn_vec.specs.Lists.{IsIn, firsts}
 use Rattle.crn_vec.proofs.CallerLemmas.{firsts_known, firsts_new, firsts_from, firsts_has}
 use Rattle.crn_cert.specs.declared.answer.Answer.{Answer}
-use Rattle.crn_cert.specs.Shares.{cuts_in, all_cuts, number_in}
+use Rattle.crn_cert.specs.declared.tree_node.TreeNode.{TreeNode}
+use Rattle.crn_cert.specs.Trees.{Plan, Both, Three, RulesA, RulesB, Level}
+use Rattle.crn_cert.specs.Preorder.{Listed, ListsBoth, ListsThree, ListsA, ListsB, ListsLevel, listed, preorder}
+use Rattle.crn_cert.specs.Shares.{cuts_of, cuts_in, all_cuts, number_in}
+use Rattle.crn_cert.specs.Inner.Numbered.{cuts_listed}
 
 abbrev same : List ℤ → List ℤ → Bool
 same = pointwise int_eq
@@ -29,6 +33,36 @@ pub cuts_step : (xs : List Answer) (k : ℕ) (a : Answer) → slice_get xs (k + 
 cuts_step xs k a e =
     let f : k + 1 - 1 ≡ k = omega arith in
     rw add-one (cuts_next xs k a (ap (λ (j : ℕ). slice_get xs j) (sym f) ∙ e))
+
+-- ---- the cuts of nodes
+
+cuts_apart : (xs ys : List Listed) → cuts_listed (xs ++ ys) ≡ cuts_listed xs ++ cuts_listed ys
+cuts_apart [] ys = refl
+cuts_apart (ListsBoth ∷ xs) ys = cuts_apart xs ys
+cuts_apart (ListsThree ∷ xs) ys = cuts_apart xs ys
+cuts_apart (ListsA u ∷ xs) ys = ap (λ (t : List (List ℤ)). u ∷ t) (cuts_apart xs ys)
+cuts_apart (ListsB u ∷ xs) ys = ap (λ (t : List (List ℤ)). u ∷ t) (cuts_apart xs ys)
+cuts_apart (ListsLevel ∷ xs) ys = cuts_apart xs ys
+
+-- the cuts of one node more
+pub cuts_node : (nodes : List TreeNode) (i : ℕ) (node : TreeNode) → i < length nodes → node ≡ get_or nodes i node → cuts_listed (map listed (take (i + 1) nodes)) ≡ cuts_listed (map listed (take i nodes)) ++ cuts_listed (listed node ∷ [])
+cuts_node nodes i node lt is =
+    ap (λ (ns : List TreeNode). cuts_listed (map listed ns)) (take_more nodes i node lt ∙ ap (λ (n : TreeNode). take i nodes ++ n ∷ []) (sym is))
+    ∙ ap cuts_listed (map-append listed (take i nodes) (node ∷ []))
+    ∙ cuts_apart (map listed (take i nodes)) (listed node ∷ [])
+
+abbrev both_lists : List (List ℤ) → List (List ℤ) → List (List ℤ)
+both_lists xs ys = xs ++ ys
+
+-- the cuts of a tree's nodes are the tree's
+pub cuts_all : (tree : Plan) → cuts_listed (preorder tree) ≡ cuts_of tree
+cuts_all (Both z q) = cuts_apart (preorder z) (preorder q) ∙ ap₂ both_lists (cuts_all z) (cuts_all q)
+cuts_all (Three z q m) =
+    cuts_apart (preorder z ++ preorder q) (preorder m)
+    ∙ ap₂ both_lists (cuts_apart (preorder z) (preorder q) ∙ ap₂ both_lists (cuts_all z) (cuts_all q)) (cuts_all m)
+cuts_all (RulesA u) = refl
+cuts_all (RulesB u) = refl
+cuts_all Level = refl
 
 -- ---- tables
 

@@ -22,7 +22,7 @@ use Rattle.crn_cert.specs.declared.answer.Proof.TheVariants.{Nothing, One, Two}
 use Rattle.crn_cert.specs.Questions.{Earlier, Q4, Q12, Q13, on, vector_given, IsOpen}
 use Rattle.crn_cert.specs.Says.{IsTrueOf, IsTurn, by_turn}
 use Rattle.crn_cert.specs.Tests.{AllHold}
-use Rattle.crn_cert.specs.Trees.{Plan, Both, Three, RulesA, RulesB, Level, plan, node_count, IsValid, IsFormedTree}
+use Rattle.crn_cert.specs.Trees.{Plan, Both, Three, RulesA, RulesB, Level, node_count, IsValid, IsFormedTree}
 use Rattle.crn_cert.specs.Nodes.{Said, Fits}
 use Rattle.crn_cert.specs.TreeTests.{tree_tests}
 use Rattle.crn_cert.specs.Formed.{IsFormedOf}
@@ -117,17 +117,17 @@ signal_law net earlier n weak conf (YesSignal turn shelves mu level weights) Not
     )
 signal_law net earlier n weak conf No (One tree) f t =
     let v = on earlier Q12 in
-    let k = vector_known net v (λ g. AllHold (tree_tests (IsSignalNode net g) 1 [] (plan tree))) conf (nodes_given v (pos 1) net 1 (plan tree) t.0 t.1) in
-    let none = no_signal_by net k.g n k.regular _ _ _ 1 (plan tree) f.1.1 k.has in
+    let k = vector_known net v (λ g. AllHold (tree_tests (IsSignalNode net g) 1 [] tree)) conf (nodes_given v (pos 1) net 1 tree t.0 t.1) in
+    let none = no_signal_by net k.g n k.regular _ _ _ 1 tree f.1.1 k.has in
     (k.regular, k.line, none_at_all net k.g n k.regular k.line k.normal.confluence none (λ w. absurd (f.1.0 (weak_no net (on earlier Q4) weak w))))
 signal_law net earlier n weak conf No (Two tree second) f t =
     let v = on earlier Q12 in
-    let last = 1 + node_count (plan tree) in
-    let split = hold_parts (tree_tests (λ p said. OfVector earlier (pos 1) (λ g. IsSignalNode net g p said)) 1 [] (plan tree)) (tree_tests (λ p said. OfVector earlier (negsuc 0) (λ g. IsSignalNode net g p said)) last [] (plan second)) t.1 in
-    let k = vector_known net v (λ g. AllHold (tree_tests (IsSignalNode net g) 1 [] (plan tree)) × AllHold (tree_tests (IsSignalNode net (negative g)) last [] (plan second))) conf
-    (both_given v (λ g. AllHold (tree_tests (IsSignalNode net g) 1 [] (plan tree))) (λ g. AllHold (tree_tests (IsSignalNode net (negative g)) last [] (plan second))) (nodes_given v (pos 1) net 1 (plan tree) t.0 split.0) (nodes_given v (negsuc 0) net last (plan second) t.0 split.1)) in
-    let none = no_signal_by net k.g n k.regular _ _ _ 1 (plan tree) f.1.1 k.has.0 in
-    (k.regular, k.line, none_at_all net k.g n k.regular k.line k.normal.confluence none (λ w. no_signal_by net (negative k.g) n k.regular _ _ _ last (plan second) f.1.2 k.has.1))
+    let last = 1 + node_count tree in
+    let split = hold_parts (tree_tests (λ p said. OfVector earlier (pos 1) (λ g. IsSignalNode net g p said)) 1 [] tree) (tree_tests (λ p said. OfVector earlier (negsuc 0) (λ g. IsSignalNode net g p said)) last [] second) t.1 in
+    let k = vector_known net v (λ g. AllHold (tree_tests (IsSignalNode net g) 1 [] tree) × AllHold (tree_tests (IsSignalNode net (negative g)) last [] second)) conf
+    (both_given v (λ g. AllHold (tree_tests (IsSignalNode net g) 1 [] tree)) (λ g. AllHold (tree_tests (IsSignalNode net (negative g)) last [] second)) (nodes_given v (pos 1) net 1 tree t.0 split.0) (nodes_given v (negsuc 0) net last second t.0 split.1)) in
+    let none = no_signal_by net k.g n k.regular _ _ _ 1 tree f.1.1 k.has.0 in
+    (k.regular, k.line, none_at_all net k.g n k.regular k.line k.normal.confluence none (λ w. no_signal_by net (negative k.g) n k.regular _ _ _ last second f.1.2 k.has.1))
 signal_law net earlier n weak conf NotApplicable Nothing f t = none_known net (on earlier Q12) conf t.0.0 t.0.1
 signal_law net earlier n weak conf v p f t = absurd f.1
 

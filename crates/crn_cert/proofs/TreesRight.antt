@@ -16,7 +16,7 @@ use Rattle.crn_cert.specs.declared.answer.Proof.{Proof}
 use Rattle.crn_cert.specs.declared.answer.Proof.TheVariants.{Nothing, One}
 use Rattle.crn_cert.specs.Questions.{Earlier, Q14, Q15}
 use Rattle.crn_cert.specs.Tests.{AllHold}
-use Rattle.crn_cert.specs.Trees.{Plan, Both, Three, RulesA, RulesB, Level, plan, node_count, IsValid, IsFormedTree}
+use Rattle.crn_cert.specs.Trees.{Plan, Both, Three, RulesA, RulesB, Level, node_count, IsValid, IsFormedTree}
 use Rattle.crn_cert.specs.Nodes.{Said, Fits}
 use Rattle.crn_cert.specs.TreeTests.{tree_tests}
 use Rattle.crn_cert.specs.Formed.{IsFormedOf}
@@ -57,7 +57,7 @@ concordant_law : (net : Net) (earlier : Earlier) → IsNetwork net → (v : Verd
 concordant_law net earlier n (Unknown gap) p f t = tt
 concordant_law net earlier n Yes (One tree) f t =
     let w = concordance (reaction_system net) (plain_table net) in
-    concordant_by net (plain_table net) (networks_have_tables net n).plain (plan tree) (tree_right w (Fits w) (λ p said h. h) _ _ _ 1 [] (plan tree) f.1 t)
+    concordant_by net (plain_table net) (networks_have_tables net n).plain tree (tree_right w (Fits w) (λ p said h. h) _ _ _ 1 [] tree f.1 t)
 concordant_law net earlier n (NoPair alpha weights) Nothing f t = t.0
 concordant_law net earlier n v p f t = absurd f.1
 
@@ -68,7 +68,7 @@ strongly_law : (net : Net) (earlier : Earlier) → IsNetwork net → (v : Verdic
 strongly_law net earlier n (Unknown gap) p f t = tt
 strongly_law net earlier n Yes (One tree) f t =
     let w = concordance (reaction_system net) (strong_table net) in
-    concordant_by net (strong_table net) (networks_have_tables net n).strong (plan tree) (tree_right w (Fits w) (λ p said h. h) _ _ _ 1 [] (plan tree) f.1 t)
+    concordant_by net (strong_table net) (networks_have_tables net n).strong tree (tree_right w (Fits w) (λ p said h. h) _ _ _ 1 [] tree f.1 t)
 strongly_law net earlier n (NoPair alpha weights) Nothing f t = t.0
 strongly_law net earlier n v p f t = absurd f.1
 

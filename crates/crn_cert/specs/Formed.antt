@@ -19,7 +19,7 @@ use Rattle.crn_cert.specs.declared.answer.RankProof.{RankProof}
 use Rattle.crn_cert.specs.Questions.{Earlier, Question, Q1, Q2, Q3, Q4, Q5, Q6, Q7, Q8, Q9, Q10, Q11, Q12, Q13, Q14, Q15, number, rests_on, on, terminal_of, IsYes}
 use Rattle.crn_cert.specs.Ranges.{IsFrom, IsNarrow, AreFrom, AreFree, AreFreeRows, AreBits}
 use Rattle.crn_cert.specs.Says.{IsTurn, IsShelf}
-use Rattle.crn_cert.specs.Trees.{Plan, plan, IsFormedTree}
+use Rattle.crn_cert.specs.Trees.{Plan, IsFormedTree}
 use Rattle.crn_cert.specs.Valid.{linkage, linkage_count, class_places, pair_places, HasVector}
 
 -- ---- sizes
@@ -358,9 +358,9 @@ AreSignalTrees net earlier trees = ⊥
 abbrev pub RowsSignal : Net → Earlier → Verdict → Proof → Type 0
 RowsSignal net earlier (YesSignal turn shelves mu level weights) Nothing =
     AreSignalRows net earlier shelves.list mu.list level weights.list
-RowsSignal net earlier No (One tree) = AreSignalTrees net earlier (plan tree ∷ [])
+RowsSignal net earlier No (One tree) = AreSignalTrees net earlier (tree ∷ [])
 RowsSignal net earlier No (Two tree second) =
-    AreSignalTrees net earlier (plan tree ∷ plan second ∷ [])
+    AreSignalTrees net earlier (tree ∷ second ∷ [])
 RowsSignal net earlier NotApplicable Nothing = Unit {0}
 RowsSignal net earlier verdict proof = ⊥
 
@@ -371,7 +371,7 @@ AreTableTrees net trees = ⊥
 
 -- concordance: a tree over the species, or two lists of a number for each reaction
 abbrev pub RowsConcordant : Net → Verdict → Proof → Type 0
-RowsConcordant net Yes (One tree) = AreTableTrees net (plan tree ∷ [])
+RowsConcordant net Yes (One tree) = AreTableTrees net (tree ∷ [])
 RowsConcordant net (NoPair alpha weights) Nothing = AreFree (reactions net) alpha.list
     × AreFree (reactions net) weights.list
 RowsConcordant net verdict proof = ⊥

@@ -1,5 +1,7 @@
 pub mod Ranges
 pub mod Trees
+pub mod Preorder
+pub mod PlanCode
 pub mod Nodes
 pub mod TreeSizes
 pub mod TreeLaw

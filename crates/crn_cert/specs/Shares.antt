@@ -11,7 +11,7 @@ use Rattle.crn_cert.specs.declared.answer.Proof.{Proof}
 use Rattle.crn_cert.specs.declared.answer.Proof.TheVariants.{One, Two}
 use Rattle.crn_cert.specs.declared.answer.Answer.{Answer}
 use Rattle.crn_cert.specs.Ranges.{IsNarrow}
-use Rattle.crn_cert.specs.Trees.{Plan, Both, Three, RulesA, RulesB, Level, plan}
+use Rattle.crn_cert.specs.Trees.{Plan, Both, Three, RulesA, RulesB, Level}
 
 -- the lists of the cuts of a tree, in preorder
 abbrev pub cuts_of : Plan → List (List ℤ)
@@ -23,8 +23,8 @@ cuts_of Level = []
 
 -- the lists of the cuts of the trees of a proof, in preorder
 abbrev pub cuts_in : Proof → List (List ℤ)
-cuts_in (One tree) = cuts_of (plan tree)
-cuts_in (Two tree second) = cuts_of (plan tree) ++ cuts_of (plan second)
+cuts_in (One tree) = cuts_of tree
+cuts_in (Two tree second) = cuts_of tree ++ cuts_of second
 cuts_in proof = []
 
 -- the lists of all cuts of answers, in their order

@@ -5,13 +5,13 @@ use Rattle.std.specs.List.{AllByRecursion}
 use Rattle.crn_cert.specs.declared.answer.Proof.{Proof}
 use Rattle.crn_cert.specs.declared.answer.Proof.TheVariants.{One, Two}
 use Rattle.crn_cert.specs.declared.answer.Answer.{Answer}
-use Rattle.crn_cert.specs.Trees.{plan, node_count}
+use Rattle.crn_cert.specs.Trees.{node_count}
 
 -- each tree of the proof has at most `most` nodes
 abbrev pub HasFewNodes : ℕ → Proof → Type 0
-HasFewNodes most (One tree) = node_count (plan tree) ≤ most
-HasFewNodes most (Two tree second) = (node_count (plan tree) ≤ most)
-    × (node_count (plan second) ≤ most)
+HasFewNodes most (One tree) = node_count tree ≤ most
+HasFewNodes most (Two tree second) = (node_count tree ≤ most)
+    × (node_count second ≤ most)
 HasFewNodes most proof = Unit {0}
 
 -- each tree of these answers has at most `most` nodes

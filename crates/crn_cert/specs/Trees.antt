@@ -7,31 +7,15 @@ use Rattle.crn_vec.specs.declared.signs.Sign.TheVariants.{Zero, Plus, Minus}
 use Rattle.crn_vec.specs.Systems.{IsCut}
 use Rattle.crn_vec.specs.Problems.{Signed, all_zero}
 use Rattle.crn_cert.specs.Ranges.{IsNarrow, AreFree}
-use Rattle.crn_cert.specs.declared.tree.Tree.{Tree, Split', CutA, CutB, Flat, Held-Children-minus, None', Some'}
 
--- a tree as contracts see it, apart from memory
+-- a tree as contracts see it: the trees of the children of a prefix of zeros or of any other prefix,
+-- multipliers that rule a part out, or a closed prefix
 pub data Plan : Type 0 where
   Both : Plan → Plan → Plan
   Three : Plan → Plan → Plan → Plan
   RulesA : List ℤ → Plan
   RulesB : List ℤ → Plan
   Level : Plan
-
--- a split into two children, or into three if there is a tree for minus
-abbrev pub with_minus : Plan → Plan → Option Plan → Plan
-with_minus zero plus None = Both zero plus
-with_minus zero plus (Some minus) = Three zero plus minus
-
-abbrev mutual
-  pub plan : Tree → Plan
-  plan (Split' a zero plus minus) = with_minus (plan zero) (plan plus) (plan_held minus)
-  plan (CutA u) = RulesA u.value.list
-  plan (CutB u) = RulesB u.value.list
-  plan Flat = Level
-
-  pub plan_held : Held-Children-minus → Option Plan
-  plan_held None' = None
-  plan_held (Some' tree) = Some (plan tree)
 
 -- a tree is valid at a prefix: it splits into the children of a prefix that is not full, and each
 -- leaf shows that its prefix is not feasible

@@ -27,7 +27,7 @@ use Rattle.crn_cert.specs.Questions.{Earlier, Question, Q1, Q2, Q3, Q4, Q5, Q6, 
 use Rattle.crn_cert.specs.Says.{by_turn, IsReactionNumber, HasNoReverse, RuleOutDependence, RuleOutConservation}
 use Rattle.crn_cert.specs.Tests.{Test, test, AllHold}
 use Rattle.crn_cert.specs.ClassTests.{AreNumbered, AreEven, AreLinkTrees, AreFromTrees, AreToTrees, DoLevelsFall, AreAllExits, zeros_in, of_class, AreReverses, AreSideMarks, IsWayRound}
-use Rattle.crn_cert.specs.Trees.{Plan, plan, node_count}
+use Rattle.crn_cert.specs.Trees.{Plan, node_count}
 use Rattle.crn_cert.specs.Nodes.{Said, Fits}
 use Rattle.crn_cert.specs.TreeTests.{tree_tests}
 use Rattle.crn_cert.specs.RankTests.{rank_tests}
@@ -391,9 +391,9 @@ signal_rows net earlier (YesSignal turn shelves mu level weights) proof =
     test 4 45
     (OfVector earlier turn
     (λ g. IsSignalOf net g (map sign shelves.list) mu.list level weights.list)) ∷ []
-signal_rows net earlier No (One tree) = signal_tree_tests net earlier (plan tree ∷ [])
+signal_rows net earlier No (One tree) = signal_tree_tests net earlier (tree ∷ [])
 signal_rows net earlier No (Two tree second) =
-    signal_tree_tests net earlier (plan tree ∷ plan second ∷ [])
+    signal_tree_tests net earlier (tree ∷ second ∷ [])
 signal_rows net earlier verdict proof = []
 
 -- ---- concordance: the pair or the tree
@@ -401,7 +401,7 @@ signal_rows net earlier verdict proof = []
 -- the nodes of the tree, or the two lists of numbers
 abbrev pub table_rows : Net → List (List Sign) → Verdict → Proof → List Test
 table_rows net table Yes (One tree) =
-    tree_tests (Fits (concordance (reaction_system net) table)) 1 [] (plan tree)
+    tree_tests (Fits (concordance (reaction_system net) table)) 1 [] tree
 table_rows net table (NoPair alpha weights) proof =
     test 2 45 (IsDiscordant (reaction_system net) table alpha.list weights.list) ∷ []
 table_rows net table verdict proof = []

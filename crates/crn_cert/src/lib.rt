@@ -9,6 +9,7 @@ mod rank_list;
 mod rows;
 mod share;
 mod tree;
+mod tree_node;
 mod verdicts;
 
 pub use answer::{Answer, Gap, Proof, RankProof, Verdict};
@@ -22,5 +23,6 @@ pub use place::question_number;
 pub use rank_list::RankList;
 pub use rows::Rows;
 pub use share::{Share, share_of};
-pub use tree::{Children, Tree};
+pub use tree::Tree;
+pub use tree_node::TreeNode;
 pub use verdicts::Verdicts;

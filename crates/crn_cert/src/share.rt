@@ -3,14 +3,15 @@ ghost use Rattle.std.specs.Ordering.{int_eq};
 ghost use Rattle.std.specs.Cmp.Lexicographic.{pointwise};
 ghost use Rattle.indexmap.specs.IndexSet.{insert_key};
 ghost use Rattle.crn_vec.specs.Lists.{IsIn};
-ghost use Rattle.crn_cert.specs.Trees.{plan};
+ghost use Rattle.crn_cert.specs.Preorder.{listed};
 ghost use Rattle.crn_cert.specs.Shares.{cuts_of, cuts_in, all_cuts, number_in, share_of as share};
-ghost use Rattle.crn_cert.specs.Inner.Numbered.{AreNumbered};
+ghost use Rattle.crn_cert.specs.Inner.Numbered.{AreNumbered, cuts_listed};
 
 use crate::answer::Proof;
 use crate::answers::Answers;
 use crate::rows::Rows;
 use crate::tree::Tree;
+use crate::tree_node::TreeNode;
 use crn_io::MAX_SHARED;
 use crn_vec::{Ints, NoMemory, Nums};
 use indexmap::IndexSet;
@@ -44,13 +45,18 @@ fn mark_with(mark: u64, x: &i128) -> u64 {
     mark.wrapping_mul(9).wrapping_add(last_bits(x))
 }
 
-// The mark of the numbers before, and of these.
+// The mark of four numbers.
+fn mark_of_four(a: &i128, b: &i128, c: &i128, d: &i128) -> u64 {
+    mark_with(mark_with(mark_with(last_bits(a), b), c), d)
+}
+
+// The mark of the numbers before, and of these. Each four are summed on their own, so that few sums wait for others.
 fn mark_after(mark: u64, list: &[i128]) -> u64 {
     match list {
         [a, b, c, d, e, f, g, h, list @ ..] => {
-            let mark = mark_with(mark_with(mark_with(mark_with(mark, a), b), c), d);
-            let mark = mark_with(mark_with(mark_with(mark_with(mark, e), f), g), h);
-            mark_after(mark, list)
+            let first = mark_of_four(a, b, c, d).wrapping_mul(6_561);
+            let both = first.wrapping_add(mark_of_four(e, f, g, h));
+            mark_after(mark.wrapping_mul(43_046_721).wrapping_add(both), list)
         }
         [x, list @ ..] => mark_after(mark_with(mark, x), list),
         [] => mark,
@@ -200,6 +206,22 @@ impl<'a> Numbered<'a> {
         Ok(())
     }
 
+    // Those of the cut of a node more, if it is one.
+    fn add_node(&mut self, node: &'a TreeNode) -> Result<(), NoMemory>
+        requires few { length self.old.lists.set.keys ≤ MAX_SHARED }
+        ensures few { OnOk result (length self.new.lists.set.keys ≤ MAX_SHARED) }
+        ensures added { OnOk result ((us : List (List ℤ)) →
+            AreNumbered self.old.lists.set.keys self.old.leaf.list us →
+            AreNumbered self.new.lists.set.keys self.new.leaf.list
+            (us ++ cuts_listed (listed node.now ∷ []))) }
+    {
+        match node {
+            TreeNode::CutA(list) => self.add(list.as_slice()),
+            TreeNode::CutB(list) => self.add(list.as_slice()),
+            _ => Ok(()),
+        }
+    }
+
     // Those of the cuts of a tree more, in preorder.
     fn add_tree(&mut self, tree: &'a Tree) -> Result<(), NoMemory>
         requires few { length self.old.lists.set.keys ≤ MAX_SHARED }
@@ -207,21 +229,12 @@ impl<'a> Numbered<'a> {
         ensures added { OnOk result ((us : List (List ℤ)) →
             AreNumbered self.old.lists.set.keys self.old.leaf.list us →
             AreNumbered self.new.lists.set.keys self.new.leaf.list
-            (us ++ cuts_of (plan tree.now))) }
+            (us ++ cuts_of tree.now)) }
     {
-        match tree {
-            Tree::Split(children) => {
-                self.add_tree(&children.zero)?;
-                self.add_tree(&children.plus)?;
-                if let Some(minus) = &children.minus {
-                    self.add_tree(minus)?;
-                }
-                Ok(())
-            }
-            Tree::CutA(list) => self.add(list.as_slice()),
-            Tree::CutB(list) => self.add(list.as_slice()),
-            Tree::Flat => Ok(()),
+        for node in tree.nodes() {
+            self.add_node(node)?;
         }
+        Ok(())
     }
 
     // Those of the cuts of a proof's trees more.

@@ -1,55 +1,43 @@
-ghost use Rattle.std.specs.Prelude.{◌≡◌, IfOk};
-ghost use Rattle.crn_cert.specs.Trees.{plan, Both, Three};
+use crate::tree_node::TreeNode;
+use std::marker::Model;
 
-use crn_vec::{Ints, NoMemory};
-use std::alloc::Global;
-use std::rc::Rc;
-
-/// A tree that shows that no full prefix of a sign problem is feasible.
+/// A tree that shows that no full prefix of a sign problem is feasible: its nodes in one list, each before those of its children.
 #[derive(Drop)]
-#[cycle(tree)]
-pub enum Tree {
-    /// A tree for each child of the prefix.
-    Split(Box<Children>),
-    /// Multipliers that rule part A of the prefix out, one for each row. Leaves with the same list may share it.
-    CutA(Rc<Ints>),
-    /// Multipliers that rule part B of the prefix out, one for each row.
-    CutB(Rc<Ints>),
-    /// The prefix is closed.
-    Flat,
+pub struct Tree {
+    nodes: Vec<TreeNode>,
 }
 
-/// The trees of a prefix's children, in one block of memory. A prefix of zeros has no child for minus.
-#[derive(Drop)]
-#[cycle(tree)]
-pub struct Children {
-    pub zero: Tree,
-    pub plus: Tree,
-    pub minus: Option<Tree>,
+impl Model for Tree {
+    ghost use Rattle.crn_cert.specs.Trees.{Plan};
+    ghost use Rattle.crn_cert.specs.PlanCode.{plan_code};
+
+    ghost Value = { Plan };
+
+    ghost coded = { plan_code };
+
+    ghost use Rattle.crn_cert.specs.Preorder.{AreNodesOf, tree_of};
+
+    ghost view = { λ s. tree_of s.nodes.items };
+
+    ghost invariant = { λ s. AreNodesOf (tree_of s.nodes.items) s.nodes.items };
 }
 
 impl Tree {
-    /// The tree of a prefix of zeros, from those of its two children.
-    pub fn both(alloc: Global, zero: Tree, plus: Tree) -> Result<Tree, NoMemory>
-        ensures { IfOk result (λ made. plan made ≡ Both (plan zero) (plan plus)) }
+    ghost use Rattle.crn_cert.specs.Trees.{Plan};
+    ghost use Rattle.crn_cert.specs.Preorder.{AreNodesOf};
+
+    /// The tree of these nodes. It takes no memory.
+    pub fn new(nodes: Vec<TreeNode>) -> Tree
+        requires { (tree : Plan) × AreNodesOf tree nodes.items }
+        ensures { AreNodesOf result nodes.items }
     {
-        let children = Children {
-            zero,
-            plus,
-            minus: None,
-        };
-        Ok(Tree::Split(Box::new(alloc, children)?))
+        Tree { nodes }
     }
 
-    /// The tree of any other prefix, from those of its three children.
-    pub fn three(alloc: Global, zero: Tree, plus: Tree, minus: Tree) -> Result<Tree, NoMemory>
-        ensures { IfOk result (λ made. plan made ≡ Three (plan zero) (plan plus) (plan minus)) }
+    /// The nodes, each before those of its children.
+    pub fn nodes(&self) -> &[TreeNode]
+        ensures { AreNodesOf self.now result.now }
     {
-        let children = Children {
-            zero,
-            plus,
-            minus: Some(minus),
-        };
-        Ok(Tree::Split(Box::new(alloc, children)?))
+        &self.nodes
     }
 }

@@ -25,7 +25,7 @@ use Rattle.crn_cert.specs.ClassTests.{AreSideMarks}
 use Rattle.crn_cert.specs.ConfluenceTests.{IsInSpace, DoTerminalsGather, least_from, others_than, tie_tests}
 use Rattle.crn_cert.specs.Valid.{head_tests, row_tests, strong, linkage, linkage_count, exits, classes_to, HaveOneBefore, HaveOneEach, IsFirstSplit, WithDeficiencies, terminals_in, class_places, IsLeft, IsFirstLarge, class_rank_tests, IsWithinTerminal, is_least_of_pair, pair_places, side_tests, IsNormal, IsApartAt, IsSignalNode, table_rows}
 use Rattle.crn_cert.specs.Says.{by_turn}
-use Rattle.crn_cert.specs.Trees.{Plan, plan, node_count, IsFormedTree}
+use Rattle.crn_cert.specs.Trees.{Plan, node_count, IsFormedTree}
 use Rattle.crn_cert.specs.TreeTests.{tree_tests}
 use Rattle.crn_cert.specs.RankTests.{rank_tests}
 use Rattle.crn_cert.specs.Ranges.{IsFrom, AreFrom, AreFreeRows}
@@ -358,9 +358,9 @@ opposite_tests net turn part tree known = tree_tests (λ p said. IsSomeAnd known
 rows_13 : (net : Net) (es : Earlier) (v : Verdict) (p : Proof) → row_tests net (all_tight es) Q13 (tight v) (tight_proof p) ≡ row_tests net es Q13 v p
 rows_13 net es (YesSignal turn shelves mu level weights) p =
     ap (λ (known : Option (List ℤ)). test 4 45 (IsSomeAnd known (λ g. IsSignalOf net (by_turn turn g) (map sign shelves.list) mu.list level weights.list)) ∷ []) (vector_known_tight es)
-rows_13 net es No (One tree) = ap (opposite_tests net (pos 1) 1 (plan tree)) (vector_known_tight es)
+rows_13 net es No (One tree) = ap (opposite_tests net (pos 1) 1 tree) (vector_known_tight es)
 rows_13 net es No (Two tree second) =
-    ap (λ (known : Option (List ℤ)). opposite_tests net (pos 1) 1 (plan tree) known ++ opposite_tests net (negsuc 0) (1 + node_count (plan tree)) (plan second) known) (vector_known_tight es)
+    ap (λ (known : Option (List ℤ)). opposite_tests net (pos 1) 1 tree known ++ opposite_tests net (negsuc 0) (1 + node_count tree) second known) (vector_known_tight es)
 rows_13 net es No p = refl
 rows_13 net es (Unknown gap) p = refl
 rows_13 net es v p = refl
@@ -646,12 +646,12 @@ forms_13 net es (YesSignal turn shelves mu level weights) Nothing = (
 )
 forms_13 net es (YesSignal turn shelves mu level weights) p = (λ h. absurd h.1, λ h. absurd h.1)
 forms_13 net es No (One tree) = (
-  λ h. (h.0, subst (λ (A : Type 0). A) (one_tree_tight net es (plan tree)) h.1),
-  λ h. (h.0, subst (λ (A : Type 0). A) (sym (one_tree_tight net es (plan tree))) h.1),
+  λ h. (h.0, subst (λ (A : Type 0). A) (one_tree_tight net es tree) h.1),
+  λ h. (h.0, subst (λ (A : Type 0). A) (sym (one_tree_tight net es tree)) h.1),
 )
 forms_13 net es No (Two tree second) = (
-  λ h. (h.0, subst (λ (A : Type 0). A) (two_trees_tight net es (plan tree) (plan second)) h.1),
-  λ h. (h.0, subst (λ (A : Type 0). A) (sym (two_trees_tight net es (plan tree) (plan second))) h.1),
+  λ h. (h.0, subst (λ (A : Type 0). A) (two_trees_tight net es tree second) h.1),
+  λ h. (h.0, subst (λ (A : Type 0). A) (sym (two_trees_tight net es tree second)) h.1),
 )
 forms_13 net es No p = (λ h. absurd h.1, λ h. absurd h.1)
 forms_13 net es NotApplicable Nothing = (λ h. h, λ h. h)

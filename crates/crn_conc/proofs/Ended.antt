@@ -16,11 +16,10 @@ use Rattle.crn_vec.specs.Influence.{plain_table, strong_table}
 use Rattle.crn_vec.specs.Visits.{PassesBudget, root}
 use Rattle.crn_vec.proofs.CallerLemmas.{all_in, longer_by, networks_have_tables, tables_feasible, rows_count, some_species}
 use Rattle.crn_cert.specs.declared.answer.Answer.{Answer}
-use Rattle.crn_cert.specs.declared.tree.Tree.{Tree}
 use Rattle.crn_cert.specs.Questions.{Earlier, IsOpen, Question, Q14, Q15}
 use Rattle.crn_cert.specs.Ranges.{AreFree, IsNarrow}
 use Rattle.crn_cert.specs.Tests.{AllHold}
-use Rattle.crn_cert.specs.Trees.{plan, places, IsFormedTree}
+use Rattle.crn_cert.specs.Trees.{Plan, places, IsFormedTree}
 use Rattle.crn_cert.specs.Nodes.{Fits}
 use Rattle.crn_cert.specs.TreeTests.{tree_tests}
 use Rattle.crn_cert.specs.Formed.{IsFormed, IsBasisOf}
@@ -64,8 +63,8 @@ solution_free a kinds x s = subst (AreFree a.cols) s.solves.columns (record {
 
 -- ---- the answers
 
-yes_answer : {net : Net} {table : List (List Sign)} {q : Question} → Asks net table q → (budget : ℕ) (earlier : Earlier) (tree : Tree) → IsNetwork net → IsFormedTree (length net.names) (length net.names) (length net.names) [] (plan tree)
-    → AllHold (tree_tests (Fits (concordance (reaction_system net) table)) 1 [] (plan tree)) → IsAnswer net budget earlier q (end_answer budget (Refuted tree))
+yes_answer : {net : Net} {table : List (List Sign)} {q : Question} → Asks net table q → (budget : ℕ) (earlier : Earlier) (tree : Plan) → IsNetwork net → IsFormedTree (length net.names) (length net.names) (length net.names) [] tree
+    → AllHold (tree_tests (Fits (concordance (reaction_system net) table)) 1 [] tree) → IsAnswer net budget earlier q (end_answer budget (Refuted tree))
 yes_answer {net} plain budget earlier tree n f t =
     let answer : Answer = end_answer budget (Refuted tree) in
     let formed : IsFormed net earlier Q14 answer = (tt, f) in
@@ -111,9 +110,9 @@ ended {net} {table} asks budget earlier (Found p a b) n low high h =
 ended {net} {table} asks budget earlier (Refuted tree) n low high h =
     let m = reaction_system net in
     let w = concordance m table in
-    let formed = formed_tree w [] (plan tree) h.0.valid h.0.narrow in
-    let tests = (tests_decide_valid_trees w (length m.rows) (length m.rows) 1 [] (plan tree) formed).1 h.0.valid in
-    yes_answer asks budget earlier tree n (subst (λ (k : ℕ). IsFormedTree k k k [] (plan tree)) (rows_count net) formed) tests
+    let formed = formed_tree w [] tree h.0.valid h.0.narrow in
+    let tests = (tests_decide_valid_trees w (length m.rows) (length m.rows) 1 [] tree formed).1 h.0.valid in
+    yes_answer asks budget earlier tree n (subst (λ (k : ℕ). IsFormedTree k k k [] tree) (rows_count net) formed) tests
 ended asks budget earlier Spent n low high h = spent_answer asks budget earlier low high h
 
 pub stopped : {net : Net} {table : List (List Sign)} {q : Question} → Asks net table q → (budget : ℕ) (earlier : Earlier) (s : SearchStop) (answer : Answer) → IsSearchStop (concordance (reaction_system net) table) s → IsStopAnswer s answer → IsAnswer net budget earlier q answer
@@ -125,7 +124,7 @@ stopped asks budget earlier NoMemory answer h e = absurd e
 
 pub few_nodes : (m : Mat) (table : List (List Sign)) (budget : ℕ) (e : SearchEnd) → IsSearchEnd (concordance m table) budget e → HasFewNodes budget (end_answer budget e).proof
 few_nodes m table budget (Found p a b) h = tt
-few_nodes m table budget (Refuted tree) h = omega (arith, h.2, count_places [] (plan tree))
+few_nodes m table budget (Refuted tree) h = omega (arith, h.2, count_places [] tree)
 few_nodes m table budget Spent h = tt
 
 pub few_open : (budget : ℕ) (s : SearchStop) (answer : Answer) → IsStopAnswer s answer → HasFewNodes budget answer.proof
@@ -136,7 +135,7 @@ few_open budget NoMemory answer e = absurd e
 -- a search that ends with a discordance or a tree stays within the budget
 pub end_open : (m : Mat) (table : List (List Sign)) (budget : ℕ) (e : SearchEnd) → IsSearchEnd (concordance m table) budget e → PassesBudget (concordance m table) budget → IsOpen (end_answer budget e).verdict
 end_open m table budget (Found q a b) h pass = absurd (omega (arith, h.3, longer_by (concordance m table) root (h.1 ++ q ∷ []) true budget h.2 pass))
-end_open m table budget (Refuted tree) h pass = absurd (omega (arith, h.2, longer_by (concordance m table) root (places [] (plan tree)) false budget h.1 pass))
+end_open m table budget (Refuted tree) h pass = absurd (omega (arith, h.2, longer_by (concordance m table) root (places [] tree) false budget h.1 pass))
 end_open m table budget Spent h pass = tt
 
 -- and one that stops leaves the question open

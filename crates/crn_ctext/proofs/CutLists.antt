@@ -10,7 +10,7 @@ use Rattle.crn_vec.proofs.CallerLemmas.{all_append, some_species, inside_at, rea
 use Rattle.crn_io.specs.declared.lines.TheConstants.{MAX_NUMBERS}
 use Rattle.crn_cert.specs.declared.answer.Proof.{Proof}
 use Rattle.crn_cert.specs.Ranges.{AreFree}
-use Rattle.crn_cert.specs.Trees.{Plan, Both, Three, RulesA, RulesB, Level, plan, IsFormedTree}
+use Rattle.crn_cert.specs.Trees.{Plan, Both, Three, RulesA, RulesB, Level, IsFormedTree}
 use Rattle.crn_cert.specs.Shares.{IsShareable, cuts_of, cuts_in}
 use Rattle.crn_cert.specs.Questions.{Earlier, Q2, on, terminal_of}
 use Rattle.crn_cert.specs.Valid.{ends_at, is_within_terminal, is_least_of_pair, pair_places}
@@ -70,5 +70,5 @@ signal_cuts net earlier p n (inr (inr t)) =
     let c = terminal_of (on earlier Q2) + length net.names in
     let a = length net.complexes + length (pair_places net earlier) in
     let b = length net.names in
-    subst (λ (x : Proof). AllByRecursion (IsShareable MAX_NUMBERS) (cuts_in x)) (sym t.2) (all_append (IsShareable MAX_NUMBERS) (cuts_of (plan t.0)) (cuts_of (plan t.1))
-    (formed_cuts c a b MAX_NUMBERS [] (plan t.0) (shelf_fit net earlier n) (species_fit net n) t.4) (formed_cuts c a b MAX_NUMBERS [] (plan t.1) (shelf_fit net earlier n) (species_fit net n) t.5))
+    subst (λ (x : Proof). AllByRecursion (IsShareable MAX_NUMBERS) (cuts_in x)) (sym t.2) (all_append (IsShareable MAX_NUMBERS) (cuts_of t.0) (cuts_of t.1)
+    (formed_cuts c a b MAX_NUMBERS [] t.0 (shelf_fit net earlier n) (species_fit net n) t.4) (formed_cuts c a b MAX_NUMBERS [] t.1 (shelf_fit net earlier n) (species_fit net n) t.5))

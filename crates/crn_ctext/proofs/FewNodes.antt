@@ -9,11 +9,10 @@ use Rattle.crn_cert.specs.declared.answer.Verdict.{Verdict}
 use Rattle.crn_cert.specs.declared.answer.Proof.{Proof}
 use Rattle.crn_cert.specs.declared.answer.Proof.TheVariants as proof
 use Rattle.crn_cert.specs.declared.answer.Answer.{Answer}
-use Rattle.crn_cert.specs.declared.tree.Tree.{Tree, Split', CutA, CutB, Flat, None', Some'}
 use Rattle.crn_cert.specs.Questions.{Earlier, Question, Q1, Q2, Q3, Q4, Q5, Q6, Q7, Q8, Q9, Q10, Q11, Q12, Q13, Q14, Q15}
 use Rattle.crn_cert.specs.Built.{built}
 use Rattle.crn_cert.specs.Formed.{RowsMayBe, AreFormed}
-use Rattle.crn_cert.specs.Trees.{plan, node_count}
+use Rattle.crn_cert.specs.Trees.{Plan, Both, Three, RulesA, RulesB, Level, node_count}
 use Rattle.crn_cert.specs.TreeSizes.{HasFewNodes, HaveFewNodes}
 use Rattle.crn_cert.proofs.CallerLemmas.{IsTreeless}
 use Rattle.crn_ctext.specs.Answers.{nodes, proof_nodes, all_records}
@@ -32,12 +31,12 @@ use Rattle.crn_ctext.proofs.DocumentsShort.{node_limit, AreFewNodes, first_few, 
 -- ---- one answer
 
 -- a tree has as many records as nodes
-nodes_counted : (tree : Tree) → length (nodes tree) ≡ node_count (plan tree)
-nodes_counted (Split' a zeros pluses None') = omega (arith, nodes_counted zeros, nodes_counted pluses, length-append (nodes zeros ++ nodes pluses) [], length-append (nodes zeros) (nodes pluses))
-nodes_counted (Split' a zeros pluses (Some' minuses)) = omega (arith, nodes_counted zeros, nodes_counted pluses, nodes_counted minuses, length-append (nodes zeros ++ nodes pluses) (nodes minuses), length-append (nodes zeros) (nodes pluses))
-nodes_counted (CutA u) = refl
-nodes_counted (CutB u) = refl
-nodes_counted Flat = refl
+nodes_counted : (tree : Plan) → length (nodes tree) ≡ node_count tree
+nodes_counted (Both zeros pluses) = omega (arith, nodes_counted zeros, nodes_counted pluses, length-append (nodes zeros) (nodes pluses))
+nodes_counted (Three zeros pluses minuses) = omega (arith, nodes_counted zeros, nodes_counted pluses, nodes_counted minuses, length-append (nodes zeros ++ nodes pluses) (nodes minuses), length-append (nodes zeros) (nodes pluses))
+nodes_counted (RulesA u) = refl
+nodes_counted (RulesB u) = refl
+nodes_counted Level = refl
 
 -- a proof without trees has no nodes
 no_nodes : (p : Proof) → IsTreeless p → length (proof_nodes p) ≡ 0
@@ -56,17 +55,17 @@ no_nodes (proof.Two tree second) h = absurd h
 one_few : (most : ℕ) (net : Net) (p : Proof) → IsTreeOrNone net p → HasFewNodes most p → length (proof_nodes p) ≤ most
 one_few most net p (inl none) h = subst (λ (x : Proof). length (proof_nodes x) ≤ most) (sym none) (omega arith)
 one_few most net p (inr t) h =
-    let few : node_count (plan t.0) ≤ most = subst (HasFewNodes most) t.1 h in
+    let few : node_count t.0 ≤ most = subst (HasFewNodes most) t.1 h in
     subst (λ (x : Proof). length (proof_nodes x) ≤ most) (sym t.1) (omega (arith, few, nodes_counted t.0))
 
 -- the trees of an answer on signals
 signals_few : (net : Net) (earlier : Earlier) (p : Proof) → HasSignalTrees net earlier p → HasFewNodes MAX_BUDGET p → length (proof_nodes p) ≤ 2 * MAX_BUDGET
 signals_few net earlier p (inl none) h = subst (λ (x : Proof). length (proof_nodes x) ≤ 2 * MAX_BUDGET) (sym none) (omega arith)
 signals_few net earlier p (inr (inl t)) h =
-    let few : node_count (plan t.0) ≤ MAX_BUDGET = subst (HasFewNodes MAX_BUDGET) t.1 h in
+    let few : node_count t.0 ≤ MAX_BUDGET = subst (HasFewNodes MAX_BUDGET) t.1 h in
     subst (λ (x : Proof). length (proof_nodes x) ≤ 2 * MAX_BUDGET) (sym t.1) (omega (arith, few, nodes_counted t.0))
 signals_few net earlier p (inr (inr t)) h =
-    let few : (node_count (plan t.0) ≤ MAX_BUDGET) × (node_count (plan t.1) ≤ MAX_BUDGET) = subst (HasFewNodes MAX_BUDGET) t.2 h in
+    let few : (node_count t.0 ≤ MAX_BUDGET) × (node_count t.1 ≤ MAX_BUDGET) = subst (HasFewNodes MAX_BUDGET) t.2 h in
     subst (λ (x : Proof). length (proof_nodes x) ≤ 2 * MAX_BUDGET) (sym t.2) (omega (arith, few.0, few.1, nodes_counted t.0, nodes_counted t.1, length-append (nodes t.0) (nodes t.1)))
 
 -- an answer to the question has no more nodes than its bound, if each of its trees has no more than a budget

@@ -68,8 +68,8 @@ shared_answers_one net other answers others share another n k f g fits gits e =
 
 -- what is read of a document is true or open
 pub read_true : ReadDocumentsAreTrue
-read_true alloc bytes read p =
+read_true bytes read p =
     let g = read_is_of bytes read p in
     let n : IsNetwork read.net = subst IsNetwork g.1 g.0.network in
     let valid = subst (λ (net : Net). documents.AreValid meaning built (meaning.start net) g.0.answers) g.1 g.0.valid in
-    (n, subst (λ (vs : List Verdict). AreSound read.net built vs) g.3 (records_true alloc read.net g.0.answers n valid))
+    (n, subst (λ (vs : List Verdict). AreSound read.net built vs) g.3 (records_true read.net g.0.answers n valid))

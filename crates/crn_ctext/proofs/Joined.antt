@@ -1,5 +1,5 @@
 -- An answer and its records, in one or the other of two ways: by equations, if no tree follows them, or by what each gives for the other.
-use Rattle.std.proofs.Common.{◌↔◌, ◌≡◌, ◌++◌, ◌∙◌, ℕ, Bool, true, false, List, [], ◌∷◌, refl, sym, ap, ap₂, subst}
+use Rattle.std.proofs.Common.{◌↔◌, ◌≡◌, ◌++◌, ◌∙◌, ℕ, Bool, true, false, List, [], refl, sym, ap, ap₂, subst}
 use Rattle.std.proofs.lemmas.List.{append_cancel_left}
 use Rattle.crn_vec.specs.Kept.{KeptNums}
 use Rattle.crn_vec.specs.declared.signs.Sign.{Sign}

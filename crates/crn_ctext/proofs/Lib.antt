@@ -5,6 +5,7 @@ mod NameLines
 mod WrittenBlocks
 mod CutLists
 mod WrittenAnswers
+mod NodesWritten
 mod PairsWritten
 mod Counted
 pub mod CallerLemmas

@@ -1,5 +1,5 @@
 -- Formed records of the built questions are the records of formed answers.
-use Rattle.std.proofs.Common.{◌≡◌, ◌++◌, ◌∙◌, Bool, false, List, [], ◌∷◌, refl, sym, ap, ap₂, subst, Global}
+use Rattle.std.proofs.Common.{◌≡◌, ◌++◌, ◌∙◌, Bool, false, List, [], ◌∷◌, refl, sym, ap, ap₂, subst}
 use Rattle.crn_vec.specs.Network.{Net}
 use Rattle.crn_cert.specs.declared.answer.Verdict.{Verdict}
 use Rattle.crn_cert.specs.declared.answer.Answer.{Answer}
@@ -29,9 +29,9 @@ use Rattle.crn_ctext.proofs.SignalsAnswered.{TellParts, concordance_answered, st
 abbrev pub IsReadable : Question → Type 0
 IsReadable q = (known : Known) (h : Record) (rows nodes : List Record) → IsOneOf (heads q (sizes_of known)) h → FromParts known q h rows nodes
 
--- the same of a question whose answers may have trees, which lie in the memory of an allocator
+-- the same of a question whose answers may have trees
 abbrev pub IsTellable : Question → Type 0
-IsTellable q = Global → (known : Known) (h : Record) (rows nodes : List Record) → IsOneOf (heads q (sizes_of known)) h → TellParts known q h rows nodes
+IsTellable q = (known : Known) (h : Record) (rows nodes : List Record) → IsOneOf (heads q (sizes_of known)) h → TellParts known q h rows nodes
 
 -- the same of a question that rests on the strong classes
 abbrev pub IsReadableAfter : Bool → Question → Type 0
@@ -39,7 +39,7 @@ IsReadableAfter b q = (known : Known) (h : Record) (rows nodes : List Record) �
 
 -- the same of one that rests on them and whose answers may have trees
 abbrev pub IsTellableAfter : Bool → Question → Type 0
-IsTellableAfter b q = Global → (known : Known) (h : Record) (rows nodes : List Record) → AreKnown b known.earlier → IsOneOf (heads q (sizes_of known)) h → TellParts known q h rows nodes
+IsTellableAfter b q = (known : Known) (h : Record) (rows nodes : List Record) → AreKnown b known.earlier → IsOneOf (heads q (sizes_of known)) h → TellParts known q h rows nodes
 
 abbrev pub ReadFor : Bool → Question → Type 0
 ReadFor b Q11 = IsReadableAfter b Q11
@@ -54,7 +54,7 @@ AreReadFor b [] = Unit {0}
 AreReadFor b (q ∷ qs) = ReadFor b q × AreReadFor (after b q) qs
 
 read_after : (b : Bool) (q : Question) → IsReadableAfter b q → IsTellableAfter b q
-read_after b q r alloc known h rows nodes k o z t = let a = r known h rows nodes k o z t in (a.0, a.1, a.2, a.3, a.4, a.5, a.7)
+read_after b q r known h rows nodes k o z t = let a = r known h rows nodes k o z t in (a.0, a.1, a.2, a.3, a.4, a.5, a.7)
 
 tellable : (b : Bool) (q : Question) → IsReadable q → IsTellableAfter b q
 tellable b q r = read_after b q (λ known h rows nodes k o. r known h rows nodes o)
@@ -73,22 +73,22 @@ shown b Q10 r = tellable b Q10 r
 shown b Q11 r = read_after b Q11 r
 shown b Q12 r = tellable b Q12 r
 shown b Q13 r = r
-shown b Q14 r = λ alloc known h rows nodes k o. r alloc known h rows nodes o
-shown b Q15 r = λ alloc known h rows nodes k o. r alloc known h rows nodes o
+shown b Q14 r = λ known h rows nodes k o. r known h rows nodes o
+shown b Q15 r = λ known h rows nodes k o. r known h rows nodes o
 
-answers_by : Global → (b : Bool) (qs : List Question) → AreReadFor b qs → (known : Known) (answers : List (List Record)) → AreKnown b known.earlier → documents.AreFormed meaning qs known answers
+answers_by : (b : Bool) (qs : List Question) → AreReadFor b qs → (known : Known) (answers : List (List Record)) → AreKnown b known.earlier → documents.AreFormed meaning qs known answers
     → (given : List Answer) × ((earlier : Earlier) → IsAlike known earlier → AreFormed known.net earlier qs given) × (all_records meaning qs known given ≡ answers) × (verdicts_said qs known answers ≡ verdicts_of given)
 unfolding documents.AreFormed all_records
-answers_by alloc b [] r known answers k f = ([], (λ earlier e. tt), sym f, refl)
-answers_by alloc b (q ∷ qs) r known [] k f = absurd f
-answers_by alloc b (q ∷ qs) r known (rs ∷ more) k f =
+answers_by b [] r known answers k f = ([], (λ earlier e. tt), sym f, refl)
+answers_by b (q ∷ qs) r known [] k f = absurd f
+answers_by b (q ∷ qs) r known (rs ∷ more) k f =
     let p = f.0 in
     let formed = f.1 in
-    let one = shown b q r.0 alloc known p.head p.rows p.nodes k formed.head formed.rows formed.trees in
+    let one = shown b q r.0 known p.head p.rows p.nodes k formed.head formed.rows formed.trees in
     let a : Answer = record { verdict = one.0; proof = one.1 } in
     let here : IsFormedOf known.net known.earlier q one.0 one.1 = let g = one.2 in g known.earlier refl in
     let right : IsRight q (verdict_of q (sizes_of known) p.head p.rows) = subst (IsRight q) (sym one.6) (formed_right known.net known.earlier q one.0 one.1 here) in
-    let rest = answers_by alloc (after b q) qs r.1 (meaning.learn q known p.head p.rows) more (known_then b q known.earlier (verdict_of q (sizes_of known) p.head p.rows) k right) f.2 in
+    let rest = answers_by (after b q) qs r.1 (meaning.learn q known p.head p.rows) more (known_then b q known.earlier (verdict_of q (sizes_of known) p.head p.rows) k right) f.2 in
     let learned : meaning.learn q known (head_of q a.verdict) (records_below (shapes_of known) a) ≡ meaning.learn q known p.head p.rows = ap₂ (λ (h : Record) (rows : List Record). meaning.learn q known h rows) (sym one.3) (sym one.4) in
     let block : records q (shapes_of known) a ≡ rs = ap₂ (λ (h : Record) (t : List Record). h ∷ t) (sym one.3) (ap₂ (λ (x y : List Record). x ++ y) (sym one.4) (sym one.5)) ∙ sym p.all in
     let later : all_records meaning qs (meaning.learn q known (head_of q a.verdict) (records_below (shapes_of known) a)) rest.0 ≡ more = ap (λ (k : Known). all_records meaning qs k rest.0) learned ∙ rest.2 in
@@ -98,7 +98,7 @@ answers_by alloc b (q ∷ qs) r known (rs ∷ more) k f =
     ∙ ap₂ (λ (v : Verdict) (vs : List Verdict). v ∷ vs) (alone ∙ one.6) (ap (λ (k : Known). verdicts_said qs k more) learns ∙ rest.3) in
     (a ∷ rest.0, (λ earlier e. let g = one.2 in let h = rest.1 in (g earlier e, h (earlier ++ (q, a.verdict) ∷ []) (alike_then known.earlier earlier q (verdict_of q (sizes_of known) p.head p.rows) a.verdict e (ap said one.6)))), ap₂ (λ (x : List Record) (xs : List (List Record)). x ∷ xs) block later, said_all)
 
-pub records_answered : Global → (net : Net) (answers : List (List Record)) → documents.AreFormed meaning built (meaning.start net) answers → (given : List Answer) × AreFormed net [] built given × (all_records meaning built (meaning.start net) given ≡ answers) × (verdicts_said built (meaning.start net) answers ≡ verdicts_of given)
-records_answered alloc net answers f =
-    let r = answers_by alloc false built (linkage_answered, (strong_answered, (reversible_answered, (weak_answered, (rank_answered, (deficiency_answered, (dependence_answered, (conservation_answered, (zero_answered, (one_answered, (regular_answered, (confluence_answered, ((λ alloc known h rows nodes k o. signal_answered alloc known h rows nodes k o), (concordance_answered, (strong_concordance_answered, tt))))))))))))))) (meaning.start net) answers tt f in
+pub records_answered : (net : Net) (answers : List (List Record)) → documents.AreFormed meaning built (meaning.start net) answers → (given : List Answer) × AreFormed net [] built given × (all_records meaning built (meaning.start net) given ≡ answers) × (verdicts_said built (meaning.start net) answers ≡ verdicts_of given)
+records_answered net answers f =
+    let r = answers_by false built (linkage_answered, (strong_answered, (reversible_answered, (weak_answered, (rank_answered, (deficiency_answered, (dependence_answered, (conservation_answered, (zero_answered, (one_answered, (regular_answered, (confluence_answered, ((λ known h rows nodes k o. signal_answered known h rows nodes k o), (concordance_answered, (strong_concordance_answered, tt))))))))))))))) (meaning.start net) answers tt f in
     (r.0, (let g = r.1 in g [] refl), r.2, r.3)

@@ -18,10 +18,9 @@ use Rattle.crn_cert.specs.declared.answer.Verdict.{Verdict}
 use Rattle.crn_cert.specs.declared.answer.Verdict.TheVariants.{Yes, YesVec, YesSignal, No, NotApplicable, Unknown}
 use Rattle.crn_cert.specs.declared.answer.Proof.{Proof}
 use Rattle.crn_cert.specs.declared.answer.Proof.TheVariants.{Nothing, One, Two}
-use Rattle.crn_cert.specs.declared.tree.Tree.{Tree}
 use Rattle.crn_cert.specs.Questions.{Earlier, Q2, Q4, Q12, Q13, on, terminal_of, vector_given, IsOpen, IsYes}
 use Rattle.crn_cert.specs.Tests.{Test, test, AllHold}
-use Rattle.crn_cert.specs.Trees.{Plan, plan, node_count, IsFormedTree}
+use Rattle.crn_cert.specs.Trees.{Plan, node_count, IsFormedTree}
 use Rattle.crn_cert.specs.Nodes.{Said, Splits, Flats, CutsA, CutsB, Fits as FitsNode}
 use Rattle.crn_cert.specs.TreeTests.{tree_tests}
 use Rattle.crn_cert.specs.Says.{IsTrueOf, by_turn, IsTurn, IsShelf}
@@ -291,15 +290,15 @@ leaf_tests known earlier e turn = record {
   closed = λ p. ((λ h. same_type (sym (node_is known earlier e turn p Flats)) h), (λ h. same_type (node_is known earlier e turn p Flats) h));
 }
 
-abbrev Tested : Net → Earlier → ℤ → ℕ → Tree → Type 0
-Tested net earlier turn part tree = AllHold (tree_tests (IsNodeOf net earlier turn) part [] (plan tree))
+abbrev Tested : Net → Earlier → ℤ → ℕ → Plan → Type 0
+Tested net earlier turn part tree = AllHold (tree_tests (IsNodeOf net earlier turn) part [] tree)
 
 abbrev Good : Known → ℤ → List Record → Type 0
 Good known turn rs = IsTree (IsGoodLeaf (signal_problem known turn)) (choices_of known) [] rs
 
-tested_good : (known : Known) (earlier : Earlier) (turn : ℤ) (part : ℕ) (tree : Tree) → IsAlike known earlier → FormedAt (signal_problem known turn) [] (plan tree) → Tested known.net earlier turn part tree → Good known turn (nodes tree)
+tested_good : (known : Known) (earlier : Earlier) (turn : ℤ) (part : ℕ) (tree : Plan) → IsAlike known earlier → FormedAt (signal_problem known turn) [] tree → Tested known.net earlier turn part tree → Good known turn (nodes tree)
 tested_good known earlier turn part tree e f hold =
-    tree_good (signal_problem known turn) (choices_of known) [] tree (at_root (choices_of known)) f (tests_true (signal_problem known turn) (IsNodeOf known.net earlier turn) (leaf_tests known earlier e turn) part [] (plan tree) hold)
+    tree_good (signal_problem known turn) (choices_of known) [] tree (at_root (choices_of known)) f (tests_true (signal_problem known turn) (IsNodeOf known.net earlier turn) (leaf_tests known earlier e turn) part [] tree hold)
 
 some_map : (o : Option (List ℤ)) (P Q : List ℤ → Type 0) → ((g : List ℤ) → P g → Q g) → IsSomeAnd o P → IsSomeAnd o Q
 some_map None P Q f h = h
@@ -324,19 +323,19 @@ splits_by known turn true_ shape p less =
         let room : length p < s.count + s.species = omega (arith, less, species, shape_count known.net known.earlier (by_turn turn g) s true_ is) in
         room
 
-good_tested : (known : Known) (earlier : Earlier) (turn : ℤ) (part : ℕ) (tree : Tree) → IsTrueOf known.net Q2 (on known.earlier Q2) → IsAlike known earlier → FormedAt (signal_problem known turn) [] (plan tree) → Good known turn (nodes tree) → Tested known.net earlier turn part tree
+good_tested : (known : Known) (earlier : Earlier) (turn : ℤ) (part : ℕ) (tree : Plan) → IsTrueOf known.net Q2 (on known.earlier Q2) → IsAlike known earlier → FormedAt (signal_problem known turn) [] tree → Good known turn (nodes tree) → Tested known.net earlier turn part tree
 good_tested known earlier turn part tree true_ e f good =
     let leaves = tree_true (signal_problem known turn) (choices_of known) [] tree (at_root (choices_of known)) f good in
-    let shape : ShapeKnown known turn = from_some_leaf (ShapeKnown known turn) (signal_problem known turn) (λ p u h. shape_by known turn p (CutsA u) h) (λ p u h. shape_by known turn p (CutsB u) h) (λ p h. shape_by known turn p Flats h) [] (plan tree) leaves in
-    true_tests (signal_problem known turn) (IsNodeOf known.net earlier turn) (leaf_tests known earlier e turn) (λ p less. same_type (node_is known earlier e turn p Splits) (splits_by known turn true_ shape p less)) part [] (plan tree) f leaves
+    let shape : ShapeKnown known turn = from_some_leaf (ShapeKnown known turn) (signal_problem known turn) (λ p u h. shape_by known turn p (CutsA u) h) (λ p u h. shape_by known turn p (CutsB u) h) (λ p h. shape_by known turn p Flats h) [] tree leaves in
+    true_tests (signal_problem known turn) (IsNodeOf known.net earlier turn) (leaf_tests known earlier e turn) (λ p less. same_type (node_is known earlier e turn p Splits) (splits_by known turn true_ shape p less)) part [] tree f leaves
 
 -- ---- one tree, or two
 
 -- the records of one tree, and of two
-one_formed : (known : Known) (tree : Tree) → FormedAt (signal_problem known (pos 1)) [] (plan tree) → AreTrees (λ (problem : Problem) (prefix : List Sign) (r : Record). IsOneOf (leaf_forms problem) r) (signal_problems known false) (nodes tree)
+one_formed : (known : Known) (tree : Plan) → FormedAt (signal_problem known (pos 1)) [] tree → AreTrees (λ (problem : Problem) (prefix : List Sign) (r : Record). IsOneOf (leaf_forms problem) r) (signal_problems known false) (nodes tree)
 one_formed known tree f = (nodes tree, [], sym (append-nil (nodes tree)), tree_formed (signal_problem known (pos 1)) (choices_of known) [] tree (at_root (choices_of known)) f, refl)
 
-two_formed : (known : Known) (tree second : Tree) → FormedAt (signal_problem known (pos 1)) [] (plan tree) → FormedAt (signal_problem known (negsuc 0)) [] (plan second) → AreTrees (λ (problem : Problem) (prefix : List Sign) (r : Record). IsOneOf (leaf_forms problem) r) (signal_problems known true) (nodes tree ++ nodes second)
+two_formed : (known : Known) (tree second : Plan) → FormedAt (signal_problem known (pos 1)) [] tree → FormedAt (signal_problem known (negsuc 0)) [] second → AreTrees (λ (problem : Problem) (prefix : List Sign) (r : Record). IsOneOf (leaf_forms problem) r) (signal_problems known true) (nodes tree ++ nodes second)
 two_formed known tree second f g = (
   nodes tree,
   nodes second,
@@ -345,16 +344,16 @@ two_formed known tree second f g = (
   (nodes second, [], sym (append-nil (nodes second)), tree_formed (signal_problem known (negsuc 0)) (choices_of known) [] second (at_root (choices_of known)) g, refl),
 )
 
-one_good : (known : Known) (tree : Tree) → Good known (pos 1) (nodes tree) → AreTrees IsGoodLeaf (signal_problems known false) (nodes tree)
+one_good : (known : Known) (tree : Plan) → Good known (pos 1) (nodes tree) → AreTrees IsGoodLeaf (signal_problems known false) (nodes tree)
 one_good known tree g = (nodes tree, [], sym (append-nil (nodes tree)), g, refl)
 
-two_good : (known : Known) (tree second : Tree) → Good known (pos 1) (nodes tree) → Good known (negsuc 0) (nodes second) → AreTrees IsGoodLeaf (signal_problems known true) (nodes tree ++ nodes second)
+two_good : (known : Known) (tree second : Plan) → Good known (pos 1) (nodes tree) → Good known (negsuc 0) (nodes second) → AreTrees IsGoodLeaf (signal_problems known true) (nodes tree ++ nodes second)
 two_good known tree second g h = (nodes tree, nodes second, refl, g, (nodes second, [], sym (append-nil (nodes second)), h, refl))
 
-good_one : (known : Known) (tree : Tree) → AreTrees IsGoodLeaf (signal_problems known false) (nodes tree) → Good known (pos 1) (nodes tree)
+good_one : (known : Known) (tree : Plan) → AreTrees IsGoodLeaf (signal_problems known false) (nodes tree) → Good known (pos 1) (nodes tree)
 good_one known tree t = subst (Good known (pos 1)) (sym (t.2 ∙ ap (λ (x : List Record). t.0 ++ x) t.4 ∙ append-nil t.0)) t.3
 
-good_two : (known : Known) (tree second : Tree) → FormedAt (signal_problem known (pos 1)) [] (plan tree) → AreTrees IsGoodLeaf (signal_problems known true) (nodes tree ++ nodes second) → Good known (pos 1) (nodes tree) × Good known (negsuc 0) (nodes second)
+good_two : (known : Known) (tree second : Plan) → FormedAt (signal_problem known (pos 1)) [] tree → AreTrees IsGoodLeaf (signal_problems known true) (nodes tree ++ nodes second) → Good known (pos 1) (nodes tree) × Good known (negsuc 0) (nodes second)
 good_two known tree second f t =
     let w = t.4 in
     let back : t.1 ≡ w.0 = w.2 ∙ ap (λ (x : List Record). w.0 ++ x) w.4 ∙ append-nil w.0 in
@@ -377,12 +376,12 @@ AnyLeaf problem prefix r = IsOneOf (leaf_forms problem) r
 
 signal_formed : (known : Known) (earlier : Earlier) (v : Verdict) (p : Proof) → IsStrong (on known.earlier Q2) → IsAlike known earlier → IsFormedOf known.net earlier Q13 v p → IsFormed meaning Q13 known (records Q13 (shapes_of known) (answer v p)) (parts Q13 known (answer v p))
 signal_formed known earlier No (One tree) k e f =
-    record { head = (_, inr (inl refl), (refl, refl)); rows = tt; trees = by_weak AnyLeaf known false (nodes tree) (not_weak_known known earlier e f.1.0) (one_formed known tree (tree_known known earlier (pos 1) (plan tree) k e f.1.1)) }
+    record { head = (_, inr (inl refl), (refl, refl)); rows = tt; trees = by_weak AnyLeaf known false (nodes tree) (not_weak_known known earlier e f.1.0) (one_formed known tree (tree_known known earlier (pos 1) tree k e f.1.1)) }
 signal_formed known earlier No (Two tree second) k e f =
     record {
       head = (_, inr (inl refl), (refl, refl));
       rows = tt;
-      trees = by_weak AnyLeaf known true (nodes tree ++ nodes second) (weak_known known earlier e f.1.0) (two_formed known tree second (tree_known known earlier (pos 1) (plan tree) k e f.1.1) (tree_known known earlier (negsuc 0) (plan second) k e f.1.2));
+      trees = by_weak AnyLeaf known true (nodes tree ++ nodes second) (weak_known known earlier e f.1.0) (two_formed known tree second (tree_known known earlier (pos 1) tree k e f.1.1) (tree_known known earlier (negsuc 0) second k e f.1.2));
     }
 signal_formed known earlier No p k e f = absurd f.1
 signal_formed known earlier (YesSignal turn shelves mu level weights) p k e f = let l = signal_linked known earlier (YesSignal turn shelves mu level weights) p k e f (λ o. absurd cc) in l.formed
@@ -403,16 +402,16 @@ signal_there known earlier No (One tree) k e f v =
     record {
       head = (vector_there known earlier e v.0, tt);
       rows = tt;
-      trees = by_weak IsGoodLeaf known false (nodes tree) (not_weak_known known earlier e f.1.0) (one_good known tree (tested_good known earlier (pos 1) 1 tree e (tree_known known earlier (pos 1) (plan tree) k e f.1.1) v.1));
+      trees = by_weak IsGoodLeaf known false (nodes tree) (not_weak_known known earlier e f.1.0) (one_good known tree (tested_good known earlier (pos 1) 1 tree e (tree_known known earlier (pos 1) tree k e f.1.1) v.1));
     }
 signal_there known earlier No (Two tree second) k e f v =
-    let last = 1 + node_count (plan tree) in
-    let both = hold_parts (tree_tests (IsNodeOf known.net earlier (pos 1)) 1 [] (plan tree)) (tree_tests (IsNodeOf known.net earlier (negsuc 0)) last [] (plan second)) v.1 in
+    let last = 1 + node_count tree in
+    let both = hold_parts (tree_tests (IsNodeOf known.net earlier (pos 1)) 1 [] tree) (tree_tests (IsNodeOf known.net earlier (negsuc 0)) last [] second) v.1 in
     record {
       head = (vector_there known earlier e v.0, tt);
       rows = tt;
       trees = by_weak IsGoodLeaf known true (nodes tree ++ nodes second) (weak_known known earlier e f.1.0)
-          (two_good known tree second (tested_good known earlier (pos 1) 1 tree e (tree_known known earlier (pos 1) (plan tree) k e f.1.1) both.0) (tested_good known earlier (negsuc 0) last second e (tree_known known earlier (negsuc 0) (plan second) k e f.1.2) both.1));
+          (two_good known tree second (tested_good known earlier (pos 1) 1 tree e (tree_known known earlier (pos 1) tree k e f.1.1) both.0) (tested_good known earlier (negsuc 0) last second e (tree_known known earlier (negsuc 0) second k e f.1.2) both.1));
     }
 signal_there known earlier No p k e f v = absurd f.1
 signal_there known earlier (YesSignal turn shelves mu level weights) p k e f v = linked_there known earlier Q13 (answer (YesSignal turn shelves mu level weights) p) refl (signal_linked known earlier (YesSignal turn shelves mu level weights) p k e f (λ o. absurd cc)) v
@@ -427,16 +426,16 @@ signal_back : (known : Known) (earlier : Earlier) (v : Verdict) (p : Proof) → 
 signal_back known earlier No (One tree) k s e f v =
     let head = v.head in
     let trees = to_weak IsGoodLeaf known false (nodes tree) (not_weak_known known earlier e f.1.0) v.trees in
-    (vector_back known earlier e head.0, good_tested known earlier (pos 1) 1 tree s e (tree_known known earlier (pos 1) (plan tree) k e f.1.1) (good_one known tree trees))
+    (vector_back known earlier e head.0, good_tested known earlier (pos 1) 1 tree s e (tree_known known earlier (pos 1) tree k e f.1.1) (good_one known tree trees))
 signal_back known earlier No (Two tree second) k s e f v =
     let head = v.head in
-    let last = 1 + node_count (plan tree) in
-    let first = tree_known known earlier (pos 1) (plan tree) k e f.1.1 in
+    let last = 1 + node_count tree in
+    let first = tree_known known earlier (pos 1) tree k e f.1.1 in
     let trees = to_weak IsGoodLeaf known true (nodes tree ++ nodes second) (weak_known known earlier e f.1.0) v.trees in
     let both = good_two known tree second first trees in (
       vector_back known earlier e head.0,
-      hold_append (tree_tests (IsNodeOf known.net earlier (pos 1)) 1 [] (plan tree)) (tree_tests (IsNodeOf known.net earlier (negsuc 0)) last [] (plan second))
-          (good_tested known earlier (pos 1) 1 tree s e first both.0) (good_tested known earlier (negsuc 0) last second s e (tree_known known earlier (negsuc 0) (plan second) k e f.1.2) both.1),
+      hold_append (tree_tests (IsNodeOf known.net earlier (pos 1)) 1 [] tree) (tree_tests (IsNodeOf known.net earlier (negsuc 0)) last [] second)
+          (good_tested known earlier (pos 1) 1 tree s e first both.0) (good_tested known earlier (negsuc 0) last second s e (tree_known known earlier (negsuc 0) second k e f.1.2) both.1),
     )
 signal_back known earlier No p k s e f v = absurd f.1
 signal_back known earlier (YesSignal turn shelves mu level weights) p k s e f v = linked_back known earlier Q13 (answer (YesSignal turn shelves mu level weights) p) (signal_linked known earlier (YesSignal turn shelves mu level weights) p k e f (λ o. absurd cc)) v
@@ -456,8 +455,8 @@ signal_says known earlier v p k e f = absurd f.0
 -- the trees of a proof: none, one, or two, by whether the network is weakly reversible
 abbrev pub HasSignalTrees : Net → Earlier → Proof → Type 0
 HasSignalTrees net earlier p = (p ≡ Nothing)
-    ⊎ (((tree : Tree) × (p ≡ One tree) × (IsYes (on earlier Q4) → ⊥) × IsSignalTree net earlier (plan tree))
-    ⊎ ((tree : Tree) × (second : Tree) × (p ≡ Two tree second) × IsYes (on earlier Q4) × IsSignalTree net earlier (plan tree) × IsSignalTree net earlier (plan second)))
+    ⊎ (((tree : Plan) × (p ≡ One tree) × (IsYes (on earlier Q4) → ⊥) × IsSignalTree net earlier tree)
+    ⊎ ((tree : Plan) × (second : Plan) × (p ≡ Two tree second) × IsYes (on earlier Q4) × IsSignalTree net earlier tree × IsSignalTree net earlier second))
 
 -- the lists of a verdict on signals and of its proof
 pub signal_trees : (net : Net) (earlier : Earlier) (v : Verdict) (p : Proof) → RowsMayBe net earlier Q13 v p → HasSignalTrees net earlier p
@@ -471,7 +470,7 @@ signal_trees net earlier NotApplicable p h = absurd h
 signal_trees net earlier (Unknown gap) p h = inl h
 signal_trees net earlier v p h = absurd h
 
-no_more : (tree : Tree) (rs : List Record) → nodes tree ++ rs ≡ [] → ⊥
+no_more : (tree : Plan) (rs : List Record) → nodes tree ++ rs ≡ [] → ⊥
 no_more tree rs e = by (nodes tree) (some_nodes tree) e
   where
     by : (ns : List Record) → (ns ≡ [] → ⊥) → ns ++ rs ≡ [] → ⊥
@@ -488,16 +487,16 @@ shown_by known earlier later p r k d e (inr (inl a)) (inr (inr b)) n = absurd (l
 shown_by known earlier later p r k d e (inr (inr a)) (inr (inl b)) n = absurd (let h : true ≡ false = sym (weak_known known earlier d a.3) ∙ not_weak_known known later e b.2 in cc)
 shown_by known earlier later p r k d e (inr (inl a)) (inr (inl b)) n =
     let same : nodes a.0 ≡ nodes b.0 = sym (ap proof_nodes a.1) ∙ n ∙ ap proof_nodes b.1 in
-    let one = plans_one (signal_problem known (pos 1)) (choices_of known) [] a.0 b.0 (at_root (choices_of known)) (tree_known known earlier (pos 1) (plan a.0) k d a.3) (tree_known known later (pos 1) (plan b.0) k e b.3) same in
+    let one = plans_one (signal_problem known (pos 1)) (choices_of known) [] a.0 b.0 (at_root (choices_of known)) (tree_known known earlier (pos 1) a.0 k d a.3) (tree_known known later (pos 1) b.0 k e b.3) same in
     ap shown a.1 ∙ ap (λ t. (Nothing, t ∷ [])) one ∙ sym (ap shown b.1)
 shown_by known earlier later p r k d e (inr (inr a)) (inr (inr b)) n =
     let same : nodes a.0 ++ nodes a.1 ≡ nodes b.0 ++ nodes b.1 = sym (ap proof_nodes a.2) ∙ n ∙ ap proof_nodes b.2 in
-    let f = tree_known known earlier (pos 1) (plan a.0) k d a.4 in
-    let g = tree_known known later (pos 1) (plan b.0) k e b.4 in
+    let f = tree_known known earlier (pos 1) a.0 k d a.4 in
+    let g = tree_known known later (pos 1) b.0 k e b.4 in
     let apart = tree_apart (signal_problem known (pos 1)) (choices_of known) [] (nodes a.0) (nodes b.0) (nodes a.1) (nodes b.1) (tree_formed (signal_problem known (pos 1)) (choices_of known) [] a.0 (at_root (choices_of known)) f)
     (tree_formed (signal_problem known (pos 1)) (choices_of known) [] b.0 (at_root (choices_of known)) g) same in
     let one = plans_one (signal_problem known (pos 1)) (choices_of known) [] a.0 b.0 (at_root (choices_of known)) f g apart.0 in
-    let two = plans_one (signal_problem known (negsuc 0)) (choices_of known) [] a.1 b.1 (at_root (choices_of known)) (tree_known known earlier (negsuc 0) (plan a.1) k d a.5) (tree_known known later (negsuc 0) (plan b.1) k e b.5) apart.1 in
+    let two = plans_one (signal_problem known (negsuc 0)) (choices_of known) [] a.1 b.1 (at_root (choices_of known)) (tree_known known earlier (negsuc 0) a.1 k d a.5) (tree_known known later (negsuc 0) b.1 k e b.5) apart.1 in
     ap shown a.2 ∙ ap₂ (λ (t u : Plan). (Nothing, t ∷ u ∷ [])) one two ∙ sym (ap shown b.2)
 
 pub signal_joined : IsJoinedFor true Q13

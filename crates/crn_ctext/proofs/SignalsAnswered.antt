@@ -1,5 +1,5 @@
 -- Formed records of questions 13 to 15 are the records of formed answers.
-use Rattle.std.proofs.Common.{◌≡◌, ◌+◌, ◌++◌, ◌∙◌, ℕ, zero, suc, Bool, true, false, List, [], ◌∷◌, length, map, refl, sym, ap, ap₂, subst, inl, inr, arith, Global}
+use Rattle.std.proofs.Common.{◌≡◌, ◌+◌, ◌++◌, ◌∙◌, ℕ, zero, suc, Bool, true, false, List, [], ◌∷◌, length, map, refl, sym, ap, ap₂, subst, inl, inr, arith}
 use Rattle.std.specs.Prelude.{◌⊎◌, ℤ, pos, negsuc, codes}
 use Rattle.std.proofs.lemmas.Int.{ints}
 use Rattle.std.specs.List.{AllByRecursion, AllZip}
@@ -16,7 +16,6 @@ use Rattle.crn_cert.specs.Questions.{Earlier, Question, Q2, Q4, Q12, Q13, Q14, Q
 use Rattle.std.specs.Prelude.{Option}
 use Rattle.std.specs.Option.{IsSome}
 use Rattle.crn_cert.specs.Says.{IsTurn, IsShelf}
-use Rattle.crn_cert.specs.Trees.{plan}
 use Rattle.crn_cert.specs.Formed.{IsBasisOf, AreShelves, IsFormedOf}
 use Rattle.crn_cert.specs.Ranges.{IsNarrow, AreFree}
 use Rattle.crn_ctext.specs.Records.{Record, Form, Small, Turn, AreBetween, Fits}
@@ -51,55 +50,55 @@ TellParts known q head rows nodes = AllZip Fits (below q (shapes_of known) head)
 shown_at : (known : Known) (q : Question) (head other : Record) (rows nodes : List Record) → head ≡ other → TellParts known q other rows nodes → TellParts known q head rows nodes
 shown_at known q head other rows nodes e f = subst (λ (h : Record). TellParts known q h rows nodes) (sym e) f
 
-pub concordance_answered : Global → (known : Known) (h : Record) (rows nodes : List Record) → IsOneOf (heads Q14 (sizes_of known)) h → TellParts known Q14 h rows nodes
+pub concordance_answered : (known : Known) (h : Record) (rows nodes : List Record) → IsOneOf (heads Q14 (sizes_of known)) h → TellParts known Q14 h rows nodes
 unfolding kept kept_ints
-concordance_answered alloc known h rows nodes (form, inl e, fits) =
+concordance_answered known h rows nodes (form, inl e, fits) =
     let net = known.net in
     let f : Fits (head (codes "q14") 1 yes []) h = subst (λ (f : Form). Fits f h) e fits in
     shown_at known Q14 h (head_with Q14 yes []) rows nodes (record_is h (codes "q14" ∷ yes) [] f.0 f.1) (λ z t.
-    let tree = tree_of alloc (table_of net (plain_table net)) (length net.names) [] t.0 (at_root (length net.names)) t.3 in
+    let tree = tree_of (table_of net (plain_table net)) (length net.names) [] t.0 (at_root (length net.names)) t.3 in
     (Yes, One tree.0, (λ earlier e. (tt, tree.2)), refl, zip_none rows z, t.2 ∙ ap (λ (x : List Record). t.0 ++ x) t.4 ∙ append-nil t.0 ∙ tree.1, refl))
-concordance_answered alloc known h rows nodes (form, inr (inl e), fits) =
+concordance_answered known h rows nodes (form, inr (inl e), fits) =
     let f : Fits (head (codes "q14") 2 no []) h = subst (λ (f : Form). Fits f h) e fits in
     shown_at known Q14 h (head_with Q14 no []) rows nodes (record_is h (codes "q14" ∷ no) [] f.0 f.1) (λ z t.
     let a = free_pair (codes "alpha") (codes "weights") (length known.net.reactions) rows z in
     (NoPair (kept_ints a.0) (kept_ints a.1), Nothing, (λ earlier e. (tt, (a.3.0, a.3.1))), refl, a.2, t, ap (λ (rs : List Record). verdict_of Q14 (sizes_of known) (head_with Q14 no []) rs) a.2))
-concordance_answered alloc known h rows nodes (form, inr (inr (inl e)), fits) =
+concordance_answered known h rows nodes (form, inr (inr (inl e)), fits) =
     let f : Fits (wide (codes "q14") 3 2 (length known.net.reactions) (length known.net.names)) h = subst (λ (f : Form). Fits f h) e fits in
     let b = wide_back 2 (length known.net.reactions) (length known.net.names) h.numbers f.1 in
     shown_at known Q14 h (open_head Q14 (Wide 2 0 b.0 (kept b.1))) rows nodes (record_is h (codes "q14" ∷ open_by (codes "wide")) (map pos (2 ∷ 0 ∷ b.0 ∷ b.1)) f.0 b.2) (λ z t.
     (Unknown (Wide 2 0 b.0 (kept b.1)), Nothing, (λ earlier e. ((refl, refl, b.3), refl)), refl, zip_none rows z, t, open_by_wide known Q14 2 0 b.0 b.1 rows))
-concordance_answered alloc known h rows nodes (form, inr (inr (inr (inl e))), fits) =
+concordance_answered known h rows nodes (form, inr (inr (inr (inl e))), fits) =
     let f : Fits (spent (codes "q14") 4) h = subst (λ (f : Form). Fits f h) e fits in
     let n = one_number 1 MAX_BUDGET h.numbers f.1 in
     shown_at known Q14 h (open_head Q14 (Budget n.0)) rows nodes (record_is h (codes "q14" ∷ open_by (codes "budget")) (pos n.0 ∷ []) f.0 n.1) (λ z t.
     (Unknown (Budget n.0), Nothing, (λ earlier e. (n.2, refl)), refl, zip_none rows z, t, refl))
-concordance_answered alloc known h rows nodes (form, inr (inr (inr (inr none))), fits) = absurd none
+concordance_answered known h rows nodes (form, inr (inr (inr (inr none))), fits) = absurd none
 
-pub strong_concordance_answered : Global → (known : Known) (h : Record) (rows nodes : List Record) → IsOneOf (heads Q15 (sizes_of known)) h → TellParts known Q15 h rows nodes
+pub strong_concordance_answered : (known : Known) (h : Record) (rows nodes : List Record) → IsOneOf (heads Q15 (sizes_of known)) h → TellParts known Q15 h rows nodes
 unfolding kept kept_ints
-strong_concordance_answered alloc known h rows nodes (form, inl e, fits) =
+strong_concordance_answered known h rows nodes (form, inl e, fits) =
     let net = known.net in
     let f : Fits (head (codes "q15") 1 yes []) h = subst (λ (f : Form). Fits f h) e fits in
     shown_at known Q15 h (head_with Q15 yes []) rows nodes (record_is h (codes "q15" ∷ yes) [] f.0 f.1) (λ z t.
-    let tree = tree_of alloc (table_of net (strong_table net)) (length net.names) [] t.0 (at_root (length net.names)) t.3 in
+    let tree = tree_of (table_of net (strong_table net)) (length net.names) [] t.0 (at_root (length net.names)) t.3 in
     (Yes, One tree.0, (λ earlier e. (tt, tree.2)), refl, zip_none rows z, t.2 ∙ ap (λ (x : List Record). t.0 ++ x) t.4 ∙ append-nil t.0 ∙ tree.1, refl))
-strong_concordance_answered alloc known h rows nodes (form, inr (inl e), fits) =
+strong_concordance_answered known h rows nodes (form, inr (inl e), fits) =
     let f : Fits (head (codes "q15") 2 no []) h = subst (λ (f : Form). Fits f h) e fits in
     shown_at known Q15 h (head_with Q15 no []) rows nodes (record_is h (codes "q15" ∷ no) [] f.0 f.1) (λ z t.
     let a = free_pair (codes "alpha") (codes "weights") (length known.net.reactions) rows z in
     (NoPair (kept_ints a.0) (kept_ints a.1), Nothing, (λ earlier e. (tt, (a.3.0, a.3.1))), refl, a.2, t, ap (λ (rs : List Record). verdict_of Q15 (sizes_of known) (head_with Q15 no []) rs) a.2))
-strong_concordance_answered alloc known h rows nodes (form, inr (inr (inl e)), fits) =
+strong_concordance_answered known h rows nodes (form, inr (inr (inl e)), fits) =
     let f : Fits (wide (codes "q15") 3 2 (length known.net.reactions) (length known.net.names)) h = subst (λ (f : Form). Fits f h) e fits in
     let b = wide_back 2 (length known.net.reactions) (length known.net.names) h.numbers f.1 in
     shown_at known Q15 h (open_head Q15 (Wide 2 0 b.0 (kept b.1))) rows nodes (record_is h (codes "q15" ∷ open_by (codes "wide")) (map pos (2 ∷ 0 ∷ b.0 ∷ b.1)) f.0 b.2) (λ z t.
     (Unknown (Wide 2 0 b.0 (kept b.1)), Nothing, (λ earlier e. ((refl, refl, b.3), refl)), refl, zip_none rows z, t, open_by_wide known Q15 2 0 b.0 b.1 rows))
-strong_concordance_answered alloc known h rows nodes (form, inr (inr (inr (inl e))), fits) =
+strong_concordance_answered known h rows nodes (form, inr (inr (inr (inl e))), fits) =
     let f : Fits (spent (codes "q15") 4) h = subst (λ (f : Form). Fits f h) e fits in
     let n = one_number 1 MAX_BUDGET h.numbers f.1 in
     shown_at known Q15 h (open_head Q15 (Budget n.0)) rows nodes (record_is h (codes "q15" ∷ open_by (codes "budget")) (pos n.0 ∷ []) f.0 n.1) (λ z t.
     (Unknown (Budget n.0), Nothing, (λ earlier e. (n.2, refl)), refl, zip_none rows z, t, refl))
-strong_concordance_answered alloc known h rows nodes (form, inr (inr (inr (inr none))), fits) = absurd none
+strong_concordance_answered known h rows nodes (form, inr (inr (inr (inr none))), fits) = absurd none
 
 -- ---- signals
 
@@ -185,20 +184,20 @@ no_later : (known : Known) (earlier : Earlier) → IsAlike known earlier → is_
 no_later known earlier e h y = let both : true ≡ false = sym (weak_known known earlier e y) ∙ h in cc
 
 -- a no has one tree, or two
-no_signal_by : Global → (known : Known) (rows nodes : List Record) → IsStrong (on known.earlier Q2) → (weak : Bool) → is_yes (on known.earlier Q4) ≡ weak → rows ≡ [] → AreTrees Leaf (signal_problems known weak) nodes → IsShown known Q13 (head_with Q13 no []) rows nodes
-no_signal_by alloc known rows nodes k false weak none t =
+no_signal_by : (known : Known) (rows nodes : List Record) → IsStrong (on known.earlier Q2) → (weak : Bool) → is_yes (on known.earlier Q4) ≡ weak → rows ≡ [] → AreTrees Leaf (signal_problems known weak) nodes → IsShown known Q13 (head_with Q13 no []) rows nodes
+no_signal_by known rows nodes k false weak none t =
     let c = choices_of known in
-    let tree = tree_of alloc (signal_problem known (pos 1)) c [] t.0 (at_root c) t.3 in
-    (No, One tree.0, (λ earlier e. (tt, (no_later known earlier e weak, known_tree known earlier (pos 1) (plan tree.0) k e tree.2))), refl, none, t.2 ∙ ap (λ (x : List Record). t.0 ++ x) t.4 ∙ append-nil t.0 ∙ tree.1, refl)
-no_signal_by alloc known rows nodes k true weak none t =
+    let tree = tree_of (signal_problem known (pos 1)) c [] t.0 (at_root c) t.3 in
+    (No, One tree.0, (λ earlier e. (tt, (no_later known earlier e weak, known_tree known earlier (pos 1) tree.0 k e tree.2))), refl, none, t.2 ∙ ap (λ (x : List Record). t.0 ++ x) t.4 ∙ append-nil t.0 ∙ tree.1, refl)
+no_signal_by known rows nodes k true weak none t =
     let c = choices_of known in
     let u = t.4 in
-    let tree = tree_of alloc (signal_problem known (pos 1)) c [] t.0 (at_root c) t.3 in
-    let second = tree_of alloc (signal_problem known (negsuc 0)) c [] u.0 (at_root c) u.3 in
+    let tree = tree_of (signal_problem known (pos 1)) c [] t.0 (at_root c) t.3 in
+    let second = tree_of (signal_problem known (negsuc 0)) c [] u.0 (at_root c) u.3 in
     let last : t.1 ≡ nodes_of second.0 = u.2 ∙ ap (λ (x : List Record). u.0 ++ x) u.4 ∙ append-nil u.0 ∙ second.1 in (
       No,
       Two tree.0 second.0,
-      (λ earlier e. (tt, (yes_later known earlier e weak, known_tree known earlier (pos 1) (plan tree.0) k e tree.2, known_tree known earlier (negsuc 0) (plan second.0) k e second.2))),
+      (λ earlier e. (tt, (yes_later known earlier e weak, known_tree known earlier (pos 1) tree.0 k e tree.2, known_tree known earlier (negsuc 0) second.0 k e second.2))),
       refl,
       none,
       t.2 ∙ ap₂ (λ (x y : List Record). x ++ y) tree.1 last,
@@ -252,21 +251,21 @@ signal_last known h rows nodes k true given (form, inr (inl e), fits) = signal_s
 signal_last known h rows nodes k true given (form, inr (inr (inl e)), fits) = signal_rests_by known h rows nodes (subst (λ (f : Form). Fits f h) e fits)
 signal_last known h rows nodes k true given (form, inr (inr (inr none)), fits) = absurd none
 
-pub signal_answered : Global → (known : Known) (h : Record) (rows nodes : List Record) → IsStrong (on known.earlier Q2) → IsOneOf (heads Q13 (sizes_of known)) h → TellParts known Q13 h rows nodes
+pub signal_answered : (known : Known) (h : Record) (rows nodes : List Record) → IsStrong (on known.earlier Q2) → IsOneOf (heads Q13 (sizes_of known)) h → TellParts known Q13 h rows nodes
 unfolding kept
-signal_answered alloc known h rows nodes k (form, inl e, fits) =
+signal_answered known h rows nodes k (form, inl e, fits) =
     let f : Fits (head (codes "q13") 1 yes (Turn ∷ [])) h = subst (λ (f : Form). Fits f h) e fits in
     let turn = turn_numbers h.numbers f.1 in
     shown_at known Q13 h (head_with Q13 yes (turn.0 ∷ [])) rows nodes (record_is h (codes "q13" ∷ yes) (turn.0 ∷ []) f.0 turn.1) (signal_by known turn.0 rows nodes turn.2)
-signal_answered alloc known h rows nodes k (form, inr (inl e), fits) =
+signal_answered known h rows nodes k (form, inr (inl e), fits) =
     let f : Fits (head (codes "q13") 2 no []) h = subst (λ (f : Form). Fits f h) e fits in
-    shown_at known Q13 h (head_with Q13 no []) rows nodes (record_is h (codes "q13" ∷ no) [] f.0 f.1) (λ z t. no_signal_by alloc known rows nodes k (is_yes (on known.earlier Q4)) refl (zip_none rows z) t)
-signal_answered alloc known h rows nodes k (form, inr (inr (inl e)), fits) =
+    shown_at known Q13 h (head_with Q13 no []) rows nodes (record_is h (codes "q13" ∷ no) [] f.0 f.1) (λ z t. no_signal_by known rows nodes k (is_yes (on known.earlier Q4)) refl (zip_none rows z) t)
+signal_answered known h rows nodes k (form, inr (inr (inl e)), fits) =
     let f : Fits (head (codes "q13") 3 (codes "none" ∷ []) []) h = subst (λ (f : Form). Fits f h) e fits in
     shown_at known Q13 h (head_with Q13 (codes "none" ∷ []) []) rows nodes (record_is h (codes "q13" ∷ codes "none" ∷ []) [] f.0 f.1) (λ z t. (NotApplicable, Nothing, (λ earlier e. (tt, tt)), refl, zip_none rows z, t, refl))
-signal_answered alloc known h rows nodes k (form, inr (inr (inr (inl e))), fits) =
+signal_answered known h rows nodes k (form, inr (inr (inr (inl e))), fits) =
     let f : Fits (wide (codes "q13") 4 2 (length known.net.reactions) (length known.net.names)) h = subst (λ (f : Form). Fits f h) e fits in
     let b = wide_back 2 (length known.net.reactions) (length known.net.names) h.numbers f.1 in
     shown_at known Q13 h (open_head Q13 (Wide 2 0 b.0 (kept b.1))) rows nodes (record_is h (codes "q13" ∷ open_by (codes "wide")) (map pos (2 ∷ 0 ∷ b.0 ∷ b.1)) f.0 b.2) (λ z t.
     (Unknown (Wide 2 0 b.0 (kept b.1)), Nothing, (λ earlier e. (inl (refl, refl, b.3), refl)), refl, zip_none rows z, t, open_by_wide known Q13 2 0 b.0 b.1 rows))
-signal_answered alloc known h rows nodes k (form, inr (inr (inr (inr i))), fits) = signal_last known h rows nodes k (has_vector (on known.earlier Q12)) refl (form, i, fits)
+signal_answered known h rows nodes k (form, inr (inr (inr (inr i))), fits) = signal_last known h rows nodes k (has_vector (on known.earlier Q12)) refl (form, i, fits)

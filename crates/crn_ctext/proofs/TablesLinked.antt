@@ -19,10 +19,9 @@ use Rattle.crn_cert.specs.declared.answer.Verdict.{Verdict}
 use Rattle.crn_cert.specs.declared.answer.Verdict.TheVariants.{Yes, NoPair, Unknown}
 use Rattle.crn_cert.specs.declared.answer.Proof.{Proof}
 use Rattle.crn_cert.specs.declared.answer.Proof.TheVariants.{Nothing, One}
-use Rattle.crn_cert.specs.declared.tree.Tree.{Tree, Split', CutA, CutB, Flat}
 use Rattle.crn_cert.specs.Questions.{Earlier, Q14, Q15}
 use Rattle.crn_cert.specs.Tests.{AllHold}
-use Rattle.crn_cert.specs.Trees.{plan, IsFormedTree}
+use Rattle.crn_cert.specs.Trees.{Plan, Both, Three, RulesA, RulesB, Level, IsFormedTree}
 use Rattle.crn_cert.specs.Nodes.{Fits as FitsNode}
 use Rattle.crn_cert.specs.TreeTests.{tree_tests}
 use Rattle.crn_cert.specs.Formed.{IsBasisOf, IsFormedOf, RowsConcordant}
@@ -56,32 +55,33 @@ at_root n = omega arith
 abbrev OneTree : Net → List (List Sign) → List Record → Type 0
 OneTree net table rs = AreTrees IsGoodLeaf (table_of net table ∷ []) rs
 
-abbrev TreeTestsHold : Net → List (List Sign) → Tree → Type 0
-TreeTestsHold net table tree = AllHold (tree_tests (FitsNode (table_problem net table)) 1 [] (plan tree))
+abbrev TreeTestsHold : Net → List (List Sign) → Plan → Type 0
+TreeTestsHold net table tree = AllHold (tree_tests (FitsNode (table_problem net table)) 1 [] tree)
 
 -- a tree over the species
-abbrev pub IsOverSpecies : Net → Tree → Type 0
-IsOverSpecies net tree = IsFormedTree (length net.names) (length net.names) (length net.names) [] (plan tree)
+abbrev pub IsOverSpecies : Net → Plan → Type 0
+IsOverSpecies net tree = IsFormedTree (length net.names) (length net.names) (length net.names) [] tree
 
 leaf_tests : (net : Net) (table : List (List Sign)) → AreLeafTests (table_of net table) (FitsNode (table_problem net table))
 leaf_tests net table = record { part_a = λ p u. ((λ h. h), (λ h. h)); part_b = λ p u. ((λ h. h), (λ h. h)); closed = λ p. ((λ h. h), (λ h. h)) }
 
-tests_good : (net : Net) (table : List (List Sign)) (tree : Tree) → IsOverSpecies net tree → TreeTestsHold net table tree → OneTree net table (nodes tree)
+tests_good : (net : Net) (table : List (List Sign)) (tree : Plan) → IsOverSpecies net tree → TreeTestsHold net table tree → OneTree net table (nodes tree)
 tests_good net table tree f hold =
-    (nodes tree, [], sym (append-nil (nodes tree)), tree_good (table_of net table) (length net.names) [] tree (at_root (length net.names)) f (tests_true (table_of net table) (FitsNode (table_problem net table)) (leaf_tests net table) 1 [] (plan tree) hold), refl)
+    (nodes tree, [], sym (append-nil (nodes tree)), tree_good (table_of net table) (length net.names) [] tree (at_root (length net.names)) f (tests_true (table_of net table) (FitsNode (table_problem net table)) (leaf_tests net table) 1 [] tree hold), refl)
 
-good_tests : (net : Net) (table : List (List Sign)) (tree : Tree) → IsOverSpecies net tree → OneTree net table (nodes tree) → TreeTestsHold net table tree
+good_tests : (net : Net) (table : List (List Sign)) (tree : Plan) → IsOverSpecies net tree → OneTree net table (nodes tree) → TreeTestsHold net table tree
 good_tests net table tree f t =
     let w : Signed = table_problem net table in
     let all : t.0 ≡ nodes tree = sym (t.2 ∙ ap (λ (x : List Record). t.0 ++ x) t.4 ∙ append-nil t.0) in
     let good : IsTree (IsGoodLeaf (table_of net table)) (length net.names) [] (nodes tree) = subst (λ (rs : List Record). IsTree (IsGoodLeaf (table_of net table)) (length net.names) [] rs) all t.3 in
-    true_tests (table_of net table) (FitsNode w) (leaf_tests net table) (λ p less. subst (λ (c : ℕ). length p < c) (sym (rows_counted net)) less) 1 [] (plan tree) f (tree_true (table_of net table) (length net.names) [] tree (at_root (length net.names)) f good)
+    true_tests (table_of net table) (FitsNode w) (leaf_tests net table) (λ p less. subst (λ (c : ℕ). length p < c) (sym (rows_counted net)) less) 1 [] tree f (tree_true (table_of net table) (length net.names) [] tree (at_root (length net.names)) f good)
 
-pub some_nodes : (tree : Tree) → nodes tree ≡ [] → ⊥
-some_nodes (Split' a zeros pluses held) e = cc
-some_nodes (CutA u) e = cc
-some_nodes (CutB u) e = cc
-some_nodes Flat e = cc
+pub some_nodes : (tree : Plan) → nodes tree ≡ [] → ⊥
+some_nodes (Both zeros pluses) e = cc
+some_nodes (Three zeros pluses minuses) e = cc
+some_nodes (RulesA u) e = cc
+some_nodes (RulesB u) e = cc
+some_nodes Level e = cc
 
 -- ---- the two kinds of proofs
 
@@ -91,7 +91,7 @@ TableRows net (Unknown gap) p = p ≡ Nothing
 TableRows net v p = RowsConcordant net v p
 
 abbrev pub IsTreeOrNone : Net → Proof → Type 0
-IsTreeOrNone net p = (p ≡ Nothing) ⊎ ((tree : Tree) × (p ≡ One tree) × IsOverSpecies net tree)
+IsTreeOrNone net p = (p ≡ Nothing) ⊎ ((tree : Plan) × (p ≡ One tree) × IsOverSpecies net tree)
 
 pub tree_or_none : (net : Net) (v : Verdict) (p : Proof) → TableRows net v p → IsTreeOrNone net p
 tree_or_none net Yes (One tree) h = inr (tree, refl, h)

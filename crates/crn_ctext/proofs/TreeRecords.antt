@@ -1,16 +1,12 @@
 -- Trees of a sign problem as records: those of a formed tree are formed, they are valid if and only if its leaves are true, and formed records are those of a formed tree.
-use Rattle.std.proofs.Common.{◌↔◌, ◌≡◌, ◌⊎◌, ◌<◌, ◌+◌, ◌++◌, ◌∙◌, ℕ, zero, suc, true, false, List, [], ◌∷◌, length, refl, sym, ap, ap₂, subst, inl, inr, arith, append_assoc, Box, Global}
+use Rattle.std.proofs.Common.{◌↔◌, ◌≡◌, ◌⊎◌, ◌<◌, ◌+◌, ◌++◌, ◌∙◌, ℕ, zero, suc, true, false, List, [], ◌∷◌, length, refl, sym, ap, ap₂, subst, inl, inr, arith, append_assoc}
 use Rattle.std.specs.Prelude.{ℤ, codes, slice_index, slice_index_or}
-use Rattle.std.proofs.lemmas.List.{length-append}
-use denote.RawPtr.{null_ptr}
-use Rattle.crn_vec.specs.Kept.{KeptInts}
+use Rattle.std.proofs.lemmas.List.{append-nil, length-append}
 use Rattle.crn_vec.specs.declared.signs.Sign.{Sign}
 use Rattle.crn_vec.specs.declared.signs.Sign.TheVariants.{Zero, Plus, Minus}
 use Rattle.crn_vec.specs.Problems.{all_zero}
 use Rattle.crn_cert.specs.Ranges.{AreFree}
-use Rattle.std.specs.declared.rc.Rc.{Rc}
-use Rattle.crn_cert.specs.declared.tree.Tree.{Tree, Split', CutA, CutB, Flat, None', Some'}
-use Rattle.crn_cert.specs.Trees.{Plan, Both, Three, RulesA, RulesB, Level, plan, node_count, IsFormedTree}
+use Rattle.crn_cert.specs.Trees.{Plan, Both, Three, RulesA, RulesB, Level, node_count, IsFormedTree}
 use Rattle.crn_cert.specs.Nodes.{Said, Splits, Flats, CutsA, CutsB}
 use Rattle.crn_cert.specs.Tests.{AllHold}
 use Rattle.crn_cert.specs.TreeTests.{tree_tests}
@@ -19,7 +15,7 @@ use Rattle.crn_ctext.specs.Records.{Record, Form, Fits}
 use Rattle.crn_ctext.specs.Kinds.{record_form, free_form}
 use Rattle.crn_ctext.specs.Blocks.{Problem, is_all_zero, word_of}
 use Rattle.crn_ctext.specs.Documents.{one_word, leaf_forms, IsOneOf, IsTree, IsGoodLeaf}
-use Rattle.crn_ctext.specs.Answers.{nodes, nodes_held}
+use Rattle.crn_ctext.specs.Answers.{nodes}
 use Rattle.crn_ctext.proofs.RanksLinked.{free_fits, free_row, record_is}
 use Rattle.crn_ctext.proofs.AnswersApart.{tree_apart, leaf_no_split, first_same}
 use Rattle.crn_ctext.proofs.TreesRead.{valid_tree_is_formed}
@@ -43,9 +39,9 @@ none_left n p e less = omega (arith, e, less)
 abbrev split_record : Record
 split_record = one_word (codes "split") []
 
-split_both : (Leaf : List Sign → Record → Type 0) (more : ℕ) (p : List Sign) (zs qs : List Record) → all_zero p ≡ true → IsTree Leaf more (p ++ Zero ∷ []) zs → IsTree Leaf more (p ++ Plus ∷ []) qs → IsTree Leaf (suc more) p (split_record ∷ ((zs ++ qs) ++ []))
+split_both : (Leaf : List Sign → Record → Type 0) (more : ℕ) (p : List Sign) (zs qs : List Record) → all_zero p ≡ true → IsTree Leaf more (p ++ Zero ∷ []) zs → IsTree Leaf more (p ++ Plus ∷ []) qs → IsTree Leaf (suc more) p (split_record ∷ (zs ++ qs))
 unfolding IsTree
-split_both Leaf more p zs qs z a b = inr (zs, qs, [], ap (λ (t : List Record). split_record ∷ t) (append_assoc zs qs []), a, b, inl (zeros_are p ∙ z, refl))
+split_both Leaf more p zs qs z a b = inr (zs, qs, [], ap (λ (t : List Record). split_record ∷ t) (sym (ap (λ (t : List Record). zs ++ t) (append-nil qs))), a, b, inl (zeros_are p ∙ z, refl))
 
 split_three : (Leaf : List Sign → Record → Type 0) (more : ℕ) (p : List Sign) (zs qs ms : List Record) → all_zero p ≡ false → IsTree Leaf more (p ++ Zero ∷ []) zs → IsTree Leaf more (p ++ Plus ∷ []) qs → IsTree Leaf more (p ++ Minus ∷ []) ms → IsTree Leaf (suc more) p (split_record ∷ ((zs ++ qs) ++ ms))
 unfolding IsTree
@@ -69,21 +65,21 @@ record LeavesGive (w : Problem) (Leaf : List Sign → Record → Type 0) (Ok : L
 abbrev pub FormedAt : Problem → List Sign → Plan → Type 0
 FormedAt w p t = IsFormedTree w.choices w.count_a w.count_b p t
 
-tree_is : (w : Problem) (Leaf : List Sign → Record → Type 0) (Ok : List Sign → Plan → Type 0) → LeavesGive w Leaf Ok → (more : ℕ) (p : List Sign) (tree : Tree) → more + length p ≡ w.choices → FormedAt w p (plan tree) → Ok p (plan tree) → IsTree Leaf more p (nodes tree)
-tree_is w Leaf Ok g zero p (Split' a zeros pluses None') e f o = absurd (none_left w.choices p e f.0)
-tree_is w Leaf Ok g zero p (Split' a zeros pluses (Some' minuses)) e f o = absurd (none_left w.choices p e f.0)
-tree_is w Leaf Ok g (suc more) p (Split' a zeros pluses None') e f o =
+tree_is : (w : Problem) (Leaf : List Sign → Record → Type 0) (Ok : List Sign → Plan → Type 0) → LeavesGive w Leaf Ok → (more : ℕ) (p : List Sign) (tree : Plan) → more + length p ≡ w.choices → FormedAt w p tree → Ok p tree → IsTree Leaf more p (nodes tree)
+tree_is w Leaf Ok g zero p (Both zeros pluses) e f o = absurd (none_left w.choices p e f.0)
+tree_is w Leaf Ok g zero p (Three zeros pluses minuses) e f o = absurd (none_left w.choices p e f.0)
+tree_is w Leaf Ok g (suc more) p (Both zeros pluses) e f o =
     let h = g.both in
-    let k = h p (plan zeros) (plan pluses) o in
+    let k = h p zeros pluses o in
     split_both Leaf more p (nodes zeros) (nodes pluses) f.1 (tree_is w Leaf Ok g more (p ++ Zero ∷ []) zeros (next_choice w.choices more p Zero e) f.2 k.0) (tree_is w Leaf Ok g more (p ++ Plus ∷ []) pluses (next_choice w.choices more p Plus e) f.3 k.1)
-tree_is w Leaf Ok g (suc more) p (Split' a zeros pluses (Some' minuses)) e f o =
+tree_is w Leaf Ok g (suc more) p (Three zeros pluses minuses) e f o =
     let h = g.three in
-    let k = h p (plan zeros) (plan pluses) (plan minuses) o in
+    let k = h p zeros pluses minuses o in
     split_three Leaf more p (nodes zeros) (nodes pluses) (nodes minuses) f.1 (tree_is w Leaf Ok g more (p ++ Zero ∷ []) zeros (next_choice w.choices more p Zero e) f.2 k.0)
     (tree_is w Leaf Ok g more (p ++ Plus ∷ []) pluses (next_choice w.choices more p Plus e) f.3 k.1.0) (tree_is w Leaf Ok g more (p ++ Minus ∷ []) minuses (next_choice w.choices more p Minus e) f.4 k.1.1)
-tree_is w Leaf Ok g more p (CutA u) e f o = let h = g.cut_a in one_leaf Leaf more p (one_word (codes "cuta") u.value.list) (h p u.value.list f o)
-tree_is w Leaf Ok g more p (CutB u) e f o = let h = g.cut_b in one_leaf Leaf more p (one_word (codes "cutb") u.value.list) (h p u.value.list f o)
-tree_is w Leaf Ok g more p Flat e f o = let h = g.flat in one_leaf Leaf more p (one_word (codes "flat") []) (h p o)
+tree_is w Leaf Ok g more p (RulesA u) e f o = let h = g.cut_a in one_leaf Leaf more p (one_word (codes "cuta") u) (h p u f o)
+tree_is w Leaf Ok g more p (RulesB u) e f o = let h = g.cut_b in one_leaf Leaf more p (one_word (codes "cutb") u) (h p u f o)
+tree_is w Leaf Ok g more p Level e f o = let h = g.flat in one_leaf Leaf more p (one_word (codes "flat") []) (h p o)
 
 abbrev pub Leaf : Problem → List Sign → Record → Type 0
 Leaf w p r = IsOneOf (leaf_forms w) r
@@ -124,11 +120,11 @@ leaves_valid w = record {
 }
 
 -- the records of a formed tree are formed
-pub tree_formed : (w : Problem) (more : ℕ) (p : List Sign) (tree : Tree) → more + length p ≡ w.choices → FormedAt w p (plan tree) → IsTree (Leaf w) more p (nodes tree)
+pub tree_formed : (w : Problem) (more : ℕ) (p : List Sign) (tree : Plan) → more + length p ≡ w.choices → FormedAt w p tree → IsTree (Leaf w) more p (nodes tree)
 tree_formed w more p tree e f = tree_is w (Leaf w) (λ p t. Unit {0}) (leaves_formed w) more p tree e f tt
 
 -- those of one with true leaves are valid
-pub tree_good : (w : Problem) (more : ℕ) (p : List Sign) (tree : Tree) → more + length p ≡ w.choices → FormedAt w p (plan tree) → HaveTrueLeaves w p (plan tree) → IsTree (IsGoodLeaf w) more p (nodes tree)
+pub tree_good : (w : Problem) (more : ℕ) (p : List Sign) (tree : Plan) → more + length p ≡ w.choices → FormedAt w p tree → HaveTrueLeaves w p tree → IsTree (IsGoodLeaf w) more p (nodes tree)
 tree_good w more p tree e f v = tree_is w (IsGoodLeaf w) (HaveTrueLeaves w) (leaves_valid w) more p tree e f v
 
 -- ---- a tree of valid records has true leaves
@@ -176,19 +172,19 @@ cut_b_no_split e = let h : 99 ≡ 115 = ap (λ (t : List ℕ). slice_index t 0) 
 flat_no_split : codes "flat" ≡ codes "split" → ⊥
 flat_no_split e = let h : 102 ≡ 115 = ap (λ (t : List ℕ). slice_index t 0) e in omega (arith, h)
 
-pub tree_true : (w : Problem) (more : ℕ) (p : List Sign) (tree : Tree) → more + length p ≡ w.choices → FormedAt w p (plan tree) → IsTree (Good w) more p (nodes tree) → HaveTrueLeaves w p (plan tree)
-tree_true w zero p (Split' a zeros pluses None') e f t = absurd (none_left w.choices p e f.0)
-tree_true w zero p (Split' a zeros pluses (Some' minuses)) e f t = absurd (none_left w.choices p e f.0)
-tree_true w (suc more) p (Split' a zeros pluses None') e f t =
-    let k = split_back w (Good w) (λ p r g. g.0) more p ((nodes zeros ++ nodes pluses) ++ []) t in
+pub tree_true : (w : Problem) (more : ℕ) (p : List Sign) (tree : Plan) → more + length p ≡ w.choices → FormedAt w p tree → IsTree (Good w) more p (nodes tree) → HaveTrueLeaves w p tree
+tree_true w zero p (Both zeros pluses) e f t = absurd (none_left w.choices p e f.0)
+tree_true w zero p (Three zeros pluses minuses) e f t = absurd (none_left w.choices p e f.0)
+tree_true w (suc more) p (Both zeros pluses) e f t =
+    let k = split_back w (Good w) (λ p r g. g.0) more p (nodes zeros ++ nodes pluses) t in
     let ez = next_choice w.choices more p Zero e in
     let eq = next_choice w.choices more p Plus e in
     let s = same_below w more p (nodes zeros) (nodes pluses) [] k.0 k.1 k.2 (tree_formed w more (p ++ Zero ∷ []) zeros ez f.2) (formed_of w more (p ++ Zero ∷ []) k.0 k.4) (tree_formed w more (p ++ Plus ∷ []) pluses eq f.3) (formed_of w more (p ++ Plus ∷ []) k.1 k.5)
-    (sym (append_assoc (nodes zeros) (nodes pluses) []) ∙ k.3) in (
+    (ap (λ (x : List Record). nodes zeros ++ x) (append-nil (nodes pluses)) ∙ k.3) in (
       tree_true w more (p ++ Zero ∷ []) zeros ez f.2 (subst (IsTree (Good w) more (p ++ Zero ∷ [])) (sym s.0) k.4),
       tree_true w more (p ++ Plus ∷ []) pluses eq f.3 (subst (IsTree (Good w) more (p ++ Plus ∷ [])) (sym s.1.0) k.5),
     )
-tree_true w (suc more) p (Split' a zeros pluses (Some' minuses)) e f t =
+tree_true w (suc more) p (Three zeros pluses minuses) e f t =
     let k = split_back w (Good w) (λ p r g. g.0) more p ((nodes zeros ++ nodes pluses) ++ nodes minuses) t in
     let ez = next_choice w.choices more p Zero e in
     let eq = next_choice w.choices more p Plus e in
@@ -201,57 +197,49 @@ tree_true w (suc more) p (Split' a zeros pluses (Some' minuses)) e f t =
         tree_true w more (p ++ Minus ∷ []) minuses (next_choice w.choices more p Minus e) f.4 (subst (IsTree (Good w) more (p ++ Minus ∷ [])) (sym s.1.1) last),
       ),
     )
-tree_true w more p (CutA u) e f t = (leaf_back w more p (one_word (codes "cuta") u.value.list) (no_split (codes "cuta") u.value.list cut_a_no_split) t).1
-tree_true w more p (CutB u) e f t = (leaf_back w more p (one_word (codes "cutb") u.value.list) (no_split (codes "cutb") u.value.list cut_b_no_split) t).1
-tree_true w more p Flat e f t = (leaf_back w more p (one_word (codes "flat") []) (no_split (codes "flat") [] flat_no_split) t).1
+tree_true w more p (RulesA u) e f t = (leaf_back w more p (one_word (codes "cuta") u) (no_split (codes "cuta") u cut_a_no_split) t).1
+tree_true w more p (RulesB u) e f t = (leaf_back w more p (one_word (codes "cutb") u) (no_split (codes "cutb") u cut_b_no_split) t).1
+tree_true w more p Level e f t = (leaf_back w more p (one_word (codes "flat") []) (no_split (codes "flat") [] flat_no_split) t).1
 
 -- ---- a tree of formed records
 
--- where the parts of a tree lie
-place : Global → Box (Unit {0}) Global
-place alloc = record { ptr = null_ptr; alloc = alloc; value = tt }
-
-kept : List ℤ → Rc KeptInts Global
-kept u = record { ptr = null_ptr; value = record { list = u; spare = 0 } }
-
 -- the records are those of a formed tree
 abbrev pub IsTreeOf : Problem → List Sign → List Record → Type 0
-IsTreeOf w p rs = (tree : Tree) × (rs ≡ nodes tree) × FormedAt w p (plan tree)
+IsTreeOf w p rs = (tree : Plan) × (rs ≡ nodes tree) × FormedAt w p tree
 
 leaf_of : (w : Problem) (p : List Sign) (rs : List Record) (r : Record) → rs ≡ r ∷ [] → Leaf w p r → IsTreeOf w p rs
-unfolding kept
 leaf_of w p rs r e (form, inl i, f) =
     let g : Fits (record_form (codes "flat") []) r = subst (λ (x : Form). Fits x r) i f in
-    (Flat, e ∙ ap (λ (x : Record). x ∷ []) (record_is r (codes "flat" ∷ []) [] g.0 g.1), tt)
+    (Level, e ∙ ap (λ (x : Record). x ∷ []) (record_is r (codes "flat" ∷ []) [] g.0 g.1), tt)
 leaf_of w p rs r e (form, inr (inl i), f) =
     let g = free_row (codes "cuta") w.count_a r (subst (λ (x : Form). Fits x r) i f) in
-    (CutA (kept r.numbers), e ∙ ap (λ (x : Record). x ∷ []) g.0, g.1)
+    (RulesA r.numbers, e ∙ ap (λ (x : Record). x ∷ []) g.0, g.1)
 leaf_of w p rs r e (form, inr (inr (inl i)), f) =
     let g = free_row (codes "cutb") w.count_b r (subst (λ (x : Form). Fits x r) i f) in
-    (CutB (kept r.numbers), e ∙ ap (λ (x : Record). x ∷ []) g.0, g.1)
+    (RulesB r.numbers, e ∙ ap (λ (x : Record). x ∷ []) g.0, g.1)
 leaf_of w p rs r e (form, inr (inr (inr none)), f) = absurd none
 
 -- the last child of a split
 abbrev IsLastOf : Problem → List Sign → List Record → Type 0
 IsLastOf w p ms = ((is_all_zero p ≡ true) × (ms ≡ [])) ⊎ ((is_all_zero p ≡ false) × IsTreeOf w (p ++ Minus ∷ []) ms)
 
-split_of : Global → (w : Problem) (p : List Sign) (rs zs qs ms : List Record) → length p < w.choices → rs ≡ split_record ∷ (zs ++ (qs ++ ms)) → IsTreeOf w (p ++ Zero ∷ []) zs → IsTreeOf w (p ++ Plus ∷ []) qs → IsLastOf w p ms → IsTreeOf w p rs
-split_of alloc w p rs zs qs ms room e zeros pluses last = by last
+split_of : (w : Problem) (p : List Sign) (rs zs qs ms : List Record) → length p < w.choices → rs ≡ split_record ∷ (zs ++ (qs ++ ms)) → IsTreeOf w (p ++ Zero ∷ []) zs → IsTreeOf w (p ++ Plus ∷ []) qs → IsLastOf w p ms → IsTreeOf w p rs
+split_of w p rs zs qs ms room e zeros pluses last = by last
   where
-    all : (last : List Record) → ms ≡ last → rs ≡ split_record ∷ ((nodes zeros.0 ++ nodes pluses.0) ++ last)
-    all last m = e ∙ ap (λ (x : List Record). split_record ∷ x) (ap₂ (λ (x y : List Record). x ++ y) zeros.1 (ap₂ (λ (x y : List Record). x ++ y) pluses.1 m) ∙ sym (append_assoc (nodes zeros.0) (nodes pluses.0) last))
+    all : (last : List Record) → ms ≡ last → rs ≡ split_record ∷ (nodes zeros.0 ++ (nodes pluses.0 ++ last))
+    all last m = e ∙ ap (λ (x : List Record). split_record ∷ x) (ap₂ (λ (x y : List Record). x ++ y) zeros.1 (ap₂ (λ (x y : List Record). x ++ y) pluses.1 m))
 
     by : IsLastOf w p ms → IsTreeOf w p rs
-    by (inl z) = (Split' (place alloc) zeros.0 pluses.0 None', all [] z.1, (room, sym (zeros_are p) ∙ z.0, zeros.2, pluses.2))
-    by (inr m) = (Split' (place alloc) zeros.0 pluses.0 (Some' m.1.0), all (nodes m.1.0) m.1.1, (room, sym (zeros_are p) ∙ m.0, zeros.2, pluses.2, m.1.2))
+    by (inl z) = (Both zeros.0 pluses.0, all [] z.1 ∙ ap (λ (x : List Record). split_record ∷ (nodes zeros.0 ++ x)) (append-nil (nodes pluses.0)), (room, sym (zeros_are p) ∙ z.0, zeros.2, pluses.2))
+    by (inr m) = (Three zeros.0 pluses.0 m.1.0, all (nodes m.1.0) m.1.1 ∙ ap (λ (x : List Record). split_record ∷ x) (sym (append_assoc (nodes zeros.0) (nodes pluses.0) (nodes m.1.0))), (room, sym (zeros_are p) ∙ m.0, zeros.2, pluses.2, m.1.2))
 
-pub tree_of : Global → (w : Problem) (more : ℕ) (p : List Sign) (rs : List Record) → more + length p ≡ w.choices → IsTree (Leaf w) more p rs → IsTreeOf w p rs
+pub tree_of : (w : Problem) (more : ℕ) (p : List Sign) (rs : List Record) → more + length p ≡ w.choices → IsTree (Leaf w) more p rs → IsTreeOf w p rs
 unfolding IsTree
-tree_of alloc w zero p rs e t = leaf_of w p rs t.0 t.1 t.2
-tree_of alloc w (suc more) p rs e (inl t) = leaf_of w p rs t.0 t.1 t.2
-tree_of alloc w (suc more) p rs e (inr t) =
-    split_of alloc w p rs t.0 t.1 t.2 (omega (arith, e)) t.3 (tree_of alloc w more (p ++ Zero ∷ []) t.0 (next_choice w.choices more p Zero e) t.4) (tree_of alloc w more (p ++ Plus ∷ []) t.1 (next_choice w.choices more p Plus e) t.5)
-    (elim t.6 [ inl z ↦ inl z | inr m ↦ inr (m.0, tree_of alloc w more (p ++ Minus ∷ []) t.2 (next_choice w.choices more p Minus e) m.1) ])
+tree_of w zero p rs e t = leaf_of w p rs t.0 t.1 t.2
+tree_of w (suc more) p rs e (inl t) = leaf_of w p rs t.0 t.1 t.2
+tree_of w (suc more) p rs e (inr t) =
+    split_of w p rs t.0 t.1 t.2 (omega (arith, e)) t.3 (tree_of w more (p ++ Zero ∷ []) t.0 (next_choice w.choices more p Zero e) t.4) (tree_of w more (p ++ Plus ∷ []) t.1 (next_choice w.choices more p Plus e) t.5)
+    (elim t.6 [ inl z ↦ inl z | inr m ↦ inr (m.0, tree_of w more (p ++ Minus ∷ []) t.2 (next_choice w.choices more p Minus e) m.1) ])
 
 -- ---- trees with the same records
 
@@ -267,17 +255,17 @@ words_apart v w a b rs ss i less same =
     let h : slice_index v i ≡ slice_index w i = ap (λ (ws : List (List ℕ)). slice_index (slice_index_or ws 0 []) i) (same_words (one_word v a) (one_word w b) rs ss same) in
     omega (arith, h, less)
 
-pub plans_one : (w : Problem) (more : ℕ) (p : List Sign) (tree other : Tree) → more + length p ≡ w.choices → FormedAt w p (plan tree) → FormedAt w p (plan other) → nodes tree ≡ nodes other → plan tree ≡ plan other
-plans_one w zero p (Split' a zeros pluses None') other e f g same = absurd (none_left w.choices p e f.0)
-plans_one w zero p (Split' a zeros pluses (Some' minuses)) other e f g same = absurd (none_left w.choices p e f.0)
-plans_one w (suc more) p (Split' a zeros pluses None') (Split' a2 zeros2 pluses2 None') e f g same =
+pub plans_one : (w : Problem) (more : ℕ) (p : List Sign) (tree other : Plan) → more + length p ≡ w.choices → FormedAt w p tree → FormedAt w p other → nodes tree ≡ nodes other → tree ≡ other
+plans_one w zero p (Both zeros pluses) other e f g same = absurd (none_left w.choices p e f.0)
+plans_one w zero p (Three zeros pluses minuses) other e f g same = absurd (none_left w.choices p e f.0)
+plans_one w (suc more) p (Both zeros pluses) (Both zeros2 pluses2) e f g same =
     let ez = next_choice w.choices more p Zero e in
     let eq = next_choice w.choices more p Plus e in
-    let below = (first_same split_record split_record ((nodes zeros ++ nodes pluses) ++ []) ((nodes zeros2 ++ nodes pluses2) ++ []) same).1 in
+    let below = (first_same split_record split_record (nodes zeros ++ nodes pluses) (nodes zeros2 ++ nodes pluses2) same).1 in
     let s = same_below w more p (nodes zeros) (nodes pluses) [] (nodes zeros2) (nodes pluses2) [] (tree_formed w more (p ++ Zero ∷ []) zeros ez f.2) (tree_formed w more (p ++ Zero ∷ []) zeros2 ez g.2) (tree_formed w more (p ++ Plus ∷ []) pluses eq f.3) (tree_formed w more (p ++ Plus ∷ []) pluses2 eq g.3)
-    (sym (append_assoc (nodes zeros) (nodes pluses) []) ∙ below ∙ append_assoc (nodes zeros2) (nodes pluses2) []) in
+    (ap (λ (x : List Record). nodes zeros ++ x) (append-nil (nodes pluses)) ∙ below ∙ sym (ap (λ (x : List Record). nodes zeros2 ++ x) (append-nil (nodes pluses2)))) in
     ap₂ (λ (x y : Plan). Both x y) (plans_one w more (p ++ Zero ∷ []) zeros zeros2 ez f.2 g.2 s.0) (plans_one w more (p ++ Plus ∷ []) pluses pluses2 eq f.3 g.3 s.1.0)
-plans_one w (suc more) p (Split' a zeros pluses (Some' minuses)) (Split' a2 zeros2 pluses2 (Some' minuses2)) e f g same =
+plans_one w (suc more) p (Three zeros pluses minuses) (Three zeros2 pluses2 minuses2) e f g same =
     let ez = next_choice w.choices more p Zero e in
     let eq = next_choice w.choices more p Plus e in
     let em = next_choice w.choices more p Minus e in
@@ -285,23 +273,29 @@ plans_one w (suc more) p (Split' a zeros pluses (Some' minuses)) (Split' a2 zero
     let s = same_below w more p (nodes zeros) (nodes pluses) (nodes minuses) (nodes zeros2) (nodes pluses2) (nodes minuses2) (tree_formed w more (p ++ Zero ∷ []) zeros ez f.2) (tree_formed w more (p ++ Zero ∷ []) zeros2 ez g.2) (tree_formed w more (p ++ Plus ∷ []) pluses eq f.3) (tree_formed w more (p ++ Plus ∷ []) pluses2 eq g.3)
     (sym (append_assoc (nodes zeros) (nodes pluses) (nodes minuses)) ∙ below ∙ append_assoc (nodes zeros2) (nodes pluses2) (nodes minuses2)) in
     ap₂ (λ (x : Plan × Plan) (y : Plan). Three x.0 x.1 y) (ap₂ (λ (x y : Plan). (x, y)) (plans_one w more (p ++ Zero ∷ []) zeros zeros2 ez f.2 g.2 s.0) (plans_one w more (p ++ Plus ∷ []) pluses pluses2 eq f.3 g.3 s.1.0)) (plans_one w more (p ++ Minus ∷ []) minuses minuses2 em f.4 g.4 s.1.1)
-plans_one w more p (Split' a zeros pluses None') (Split' a2 zeros2 pluses2 (Some' minuses2)) e f g same = absurd (let h : true ≡ false = sym f.1 ∙ g.1 in cc)
-plans_one w more p (Split' a zeros pluses (Some' minuses)) (Split' a2 zeros2 pluses2 None') e f g same = absurd (let h : true ≡ false = sym g.1 ∙ f.1 in cc)
-plans_one w more p (Split' a zeros pluses held) (CutA v) e f g same = absurd (words_apart (codes "cuta") (codes "split") v.value.list [] [] ((nodes zeros ++ nodes pluses) ++ nodes_held held) 0 (omega arith) (sym same))
-plans_one w more p (Split' a zeros pluses held) (CutB v) e f g same = absurd (words_apart (codes "cutb") (codes "split") v.value.list [] [] ((nodes zeros ++ nodes pluses) ++ nodes_held held) 0 (omega arith) (sym same))
-plans_one w more p (Split' a zeros pluses held) Flat e f g same = absurd (words_apart (codes "flat") (codes "split") [] [] [] ((nodes zeros ++ nodes pluses) ++ nodes_held held) 0 (omega arith) (sym same))
-plans_one w more p (CutA u) (Split' a zeros pluses held) e f g same = absurd (words_apart (codes "cuta") (codes "split") u.value.list [] [] ((nodes zeros ++ nodes pluses) ++ nodes_held held) 0 (omega arith) same)
-plans_one w more p (CutA u) (CutA v) e f g same = ap RulesA (same_numbers (codes "cuta") u.value.list v.value.list [] [] same)
-plans_one w more p (CutA u) (CutB v) e f g same = absurd (words_apart (codes "cuta") (codes "cutb") u.value.list v.value.list [] [] 3 (omega arith) same)
-plans_one w more p (CutA u) Flat e f g same = absurd (words_apart (codes "cuta") (codes "flat") u.value.list [] [] [] 0 (omega arith) same)
-plans_one w more p (CutB u) (Split' a zeros pluses held) e f g same = absurd (words_apart (codes "cutb") (codes "split") u.value.list [] [] ((nodes zeros ++ nodes pluses) ++ nodes_held held) 0 (omega arith) same)
-plans_one w more p (CutB u) (CutA v) e f g same = absurd (words_apart (codes "cuta") (codes "cutb") v.value.list u.value.list [] [] 3 (omega arith) (sym same))
-plans_one w more p (CutB u) (CutB v) e f g same = ap RulesB (same_numbers (codes "cutb") u.value.list v.value.list [] [] same)
-plans_one w more p (CutB u) Flat e f g same = absurd (words_apart (codes "cutb") (codes "flat") u.value.list [] [] [] 0 (omega arith) same)
-plans_one w more p Flat (Split' a zeros pluses held) e f g same = absurd (words_apart (codes "flat") (codes "split") [] [] [] ((nodes zeros ++ nodes pluses) ++ nodes_held held) 0 (omega arith) same)
-plans_one w more p Flat (CutA v) e f g same = absurd (words_apart (codes "cuta") (codes "flat") v.value.list [] [] [] 0 (omega arith) (sym same))
-plans_one w more p Flat (CutB v) e f g same = absurd (words_apart (codes "cutb") (codes "flat") v.value.list [] [] [] 0 (omega arith) (sym same))
-plans_one w more p Flat Flat e f g same = refl
+plans_one w more p (Both zeros pluses) (Three zeros2 pluses2 minuses2) e f g same = absurd (let h : true ≡ false = sym f.1 ∙ g.1 in cc)
+plans_one w more p (Three zeros pluses minuses) (Both zeros2 pluses2) e f g same = absurd (let h : true ≡ false = sym g.1 ∙ f.1 in cc)
+plans_one w more p (Both zeros pluses) (RulesA v) e f g same = absurd (words_apart (codes "cuta") (codes "split") v [] [] (nodes zeros ++ nodes pluses) 0 (omega arith) (sym same))
+plans_one w more p (Three zeros pluses minuses) (RulesA v) e f g same = absurd (words_apart (codes "cuta") (codes "split") v [] [] ((nodes zeros ++ nodes pluses) ++ nodes minuses) 0 (omega arith) (sym same))
+plans_one w more p (Both zeros pluses) (RulesB v) e f g same = absurd (words_apart (codes "cutb") (codes "split") v [] [] (nodes zeros ++ nodes pluses) 0 (omega arith) (sym same))
+plans_one w more p (Three zeros pluses minuses) (RulesB v) e f g same = absurd (words_apart (codes "cutb") (codes "split") v [] [] ((nodes zeros ++ nodes pluses) ++ nodes minuses) 0 (omega arith) (sym same))
+plans_one w more p (Both zeros pluses) Level e f g same = absurd (words_apart (codes "flat") (codes "split") [] [] [] (nodes zeros ++ nodes pluses) 0 (omega arith) (sym same))
+plans_one w more p (Three zeros pluses minuses) Level e f g same = absurd (words_apart (codes "flat") (codes "split") [] [] [] ((nodes zeros ++ nodes pluses) ++ nodes minuses) 0 (omega arith) (sym same))
+plans_one w more p (RulesA u) (Both zeros pluses) e f g same = absurd (words_apart (codes "cuta") (codes "split") u [] [] (nodes zeros ++ nodes pluses) 0 (omega arith) same)
+plans_one w more p (RulesA u) (Three zeros pluses minuses) e f g same = absurd (words_apart (codes "cuta") (codes "split") u [] [] ((nodes zeros ++ nodes pluses) ++ nodes minuses) 0 (omega arith) same)
+plans_one w more p (RulesA u) (RulesA v) e f g same = ap RulesA (same_numbers (codes "cuta") u v [] [] same)
+plans_one w more p (RulesA u) (RulesB v) e f g same = absurd (words_apart (codes "cuta") (codes "cutb") u v [] [] 3 (omega arith) same)
+plans_one w more p (RulesA u) Level e f g same = absurd (words_apart (codes "cuta") (codes "flat") u [] [] [] 0 (omega arith) same)
+plans_one w more p (RulesB u) (Both zeros pluses) e f g same = absurd (words_apart (codes "cutb") (codes "split") u [] [] (nodes zeros ++ nodes pluses) 0 (omega arith) same)
+plans_one w more p (RulesB u) (Three zeros pluses minuses) e f g same = absurd (words_apart (codes "cutb") (codes "split") u [] [] ((nodes zeros ++ nodes pluses) ++ nodes minuses) 0 (omega arith) same)
+plans_one w more p (RulesB u) (RulesA v) e f g same = absurd (words_apart (codes "cuta") (codes "cutb") v u [] [] 3 (omega arith) (sym same))
+plans_one w more p (RulesB u) (RulesB v) e f g same = ap RulesB (same_numbers (codes "cutb") u v [] [] same)
+plans_one w more p (RulesB u) Level e f g same = absurd (words_apart (codes "cutb") (codes "flat") u [] [] [] 0 (omega arith) same)
+plans_one w more p Level (Both zeros pluses) e f g same = absurd (words_apart (codes "flat") (codes "split") [] [] [] (nodes zeros ++ nodes pluses) 0 (omega arith) same)
+plans_one w more p Level (Three zeros pluses minuses) e f g same = absurd (words_apart (codes "flat") (codes "split") [] [] [] ((nodes zeros ++ nodes pluses) ++ nodes minuses) 0 (omega arith) same)
+plans_one w more p Level (RulesA v) e f g same = absurd (words_apart (codes "cuta") (codes "flat") v [] [] [] 0 (omega arith) (sym same))
+plans_one w more p Level (RulesB v) e f g same = absurd (words_apart (codes "cutb") (codes "flat") v [] [] [] 0 (omega arith) (sym same))
+plans_one w more p Level Level e f g same = refl
 
 -- ---- the tests of a tree
 

@@ -1,5 +1,5 @@
 -- What valid records of the built questions say is true.
-use Rattle.std.proofs.Common.{List, [], ◌∷◌, refl, sym, subst, inl, inr, Global}
+use Rattle.std.proofs.Common.{List, [], ◌∷◌, refl, sym, subst, inl, inr}
 use Rattle.crn_vec.specs.Network.{Net, IsNetwork}
 use Rattle.crn_cert.specs.declared.answer.Verdict.{Verdict}
 use Rattle.crn_cert.specs.declared.answer.Answer.{Answer}
@@ -74,8 +74,8 @@ sound_by net (q ∷ qs) (a ∷ answers) t = (t.0, sound_by net qs answers t.1)
 answers_true : (net : Net) (answers : List Answer) → IsNetwork net → AreFormed net [] built answers → AreValid net [] built answers → AreSound net built (verdicts_of answers)
 answers_true net answers n f v = sound_by net built answers (valid_documents_are_true built net answers built_in_order n f v)
 
-pub records_true : Global → (net : Net) (answers : List (List Record)) → IsNetwork net → documents.AreValid meaning built (meaning.start net) answers → AreSound net built (verdicts_said built (meaning.start net) answers)
-records_true alloc net answers n v =
-    let g = records_answered alloc net answers (valid_are_formed meaning built (meaning.start net) answers v) in
+pub records_true : (net : Net) (answers : List (List Record)) → IsNetwork net → documents.AreValid meaning built (meaning.start net) answers → AreSound net built (verdicts_said built (meaning.start net) answers)
+records_true net answers n v =
+    let g = records_answered net answers (valid_are_formed meaning built (meaning.start net) answers v) in
     let w = records_valid net g.0 g.1 (subst (λ (x : List (List Record)). documents.AreValid meaning built (meaning.start net) x) (sym g.2) v) in
     subst (λ (vs : List Verdict). AreSound net built vs) (sym g.3) (answers_true net g.0 n g.1 w)

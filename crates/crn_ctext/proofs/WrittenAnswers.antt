@@ -8,12 +8,10 @@ use Rattle.std.proofs.lemmas.List.Elements.{filter-append}
 use Rattle.crn_vec.specs.Lists.{firsts}
 use Rattle.crn_io.specs.declared.lines.TheConstants.{MAX_SHARED, MAX_NUMBERS}
 use Rattle.crn_cert.specs.Ranges as ranges
-use Rattle.crn_cert.specs.Trees.{plan}
 use Rattle.crn_cert.specs.Shares.{Shared, HasAt, IsShareable, FitsAnswers, cuts_of, cuts_in, all_cuts, number_in, share_of_cuts, share_of}
-use Rattle.crn_cert.specs.declared.tree.Tree.{Tree, Split', CutA, CutB, Flat, None', Some'}
 use Rattle.crn_ctext.specs.Documents as documents
 use Rattle.crn_ctext.specs.Shares.{as_share}
-use Rattle.std.proofs.lemmas.List.{append-nil}
+use Rattle.crn_cert.specs.Trees.{Plan, Both, Three, RulesA, RulesB, Level}
 use Rattle.crn_vec.specs.Network.{Net, IsNetwork}
 use Rattle.crn_vec.proofs.CallerLemmas.{all_append}
 use Rattle.crn_cert.proofs.CallerLemmas.{shares_fit as cut_shares_fit, IsTreeless, rows_linkage, rows_strong, rows_reversible, rows_weak, rows_rank, rows_deficiency, rows_dependence, rows_conservation, rows_zero, rows_one, rows_regular, rows_confluence}
@@ -310,17 +308,17 @@ plain_cuts [] h = refl
 plain_cuts (r ∷ rs) h = ap (λ (t : List Record). map (λ (r : Record). r.numbers) t) (skip_by (is_cut_leaf r) r (filter is_cut_leaf rs) h.0) ∙ plain_cuts rs h.1
 
 -- the lists of the cut leaves of a tree's nodes are those of its cuts
-tree_cuts : (tree : Tree) → cut_lists (nodes tree) ≡ cuts_of (plan tree)
-tree_cuts (Split' a zeros pluses None') =
-    cuts_append (nodes zeros ++ nodes pluses) [] ∙ append-nil (cut_lists (nodes zeros ++ nodes pluses)) ∙ cuts_append (nodes zeros) (nodes pluses)
-    ∙ ap (λ (t : List (List ℤ)). t ++ cut_lists (nodes pluses)) (tree_cuts zeros) ∙ ap (λ (t : List (List ℤ)). cuts_of (plan zeros) ++ t) (tree_cuts pluses)
-tree_cuts (Split' a zeros pluses (Some' minuses)) =
+tree_cuts : (tree : Plan) → cut_lists (nodes tree) ≡ cuts_of tree
+tree_cuts (Both zeros pluses) =
+    cuts_append (nodes zeros) (nodes pluses)
+    ∙ ap (λ (t : List (List ℤ)). t ++ cut_lists (nodes pluses)) (tree_cuts zeros) ∙ ap (λ (t : List (List ℤ)). cuts_of zeros ++ t) (tree_cuts pluses)
+tree_cuts (Three zeros pluses minuses) =
     cuts_append (nodes zeros ++ nodes pluses) (nodes minuses) ∙ ap (λ (t : List (List ℤ)). t ++ cut_lists (nodes minuses)) (cuts_append (nodes zeros) (nodes pluses))
-    ∙ ap (λ (t : List (List ℤ)). (t ++ cut_lists (nodes pluses)) ++ cut_lists (nodes minuses)) (tree_cuts zeros) ∙ ap (λ (t : List (List ℤ)). (cuts_of (plan zeros) ++ t) ++ cut_lists (nodes minuses)) (tree_cuts pluses)
-    ∙ ap (λ (t : List (List ℤ)). (cuts_of (plan zeros) ++ cuts_of (plan pluses)) ++ t) (tree_cuts minuses)
-tree_cuts (CutA u) = refl
-tree_cuts (CutB u) = refl
-tree_cuts Flat = refl
+    ∙ ap (λ (t : List (List ℤ)). (t ++ cut_lists (nodes pluses)) ++ cut_lists (nodes minuses)) (tree_cuts zeros) ∙ ap (λ (t : List (List ℤ)). (cuts_of zeros ++ t) ++ cut_lists (nodes minuses)) (tree_cuts pluses)
+    ∙ ap (λ (t : List (List ℤ)). (cuts_of zeros ++ cuts_of pluses) ++ t) (tree_cuts minuses)
+tree_cuts (RulesA u) = refl
+tree_cuts (RulesB u) = refl
+tree_cuts Level = refl
 
 proof_cuts : (p : Proof) → cut_lists (proof_nodes p) ≡ cuts_in p
 proof_cuts proof.Nothing = refl
@@ -332,7 +330,7 @@ proof_cuts (proof.Ranks ps) = refl
 proof_cuts (proof.Sides rows) = refl
 proof_cuts (proof.Ties rows) = refl
 proof_cuts (proof.One tree) = tree_cuts tree
-proof_cuts (proof.Two tree second) = cuts_append (nodes tree) (nodes second) ∙ ap (λ (t : List (List ℤ)). t ++ cut_lists (nodes second)) (tree_cuts tree) ∙ ap (λ (t : List (List ℤ)). cuts_of (plan tree) ++ t) (tree_cuts second)
+proof_cuts (proof.Two tree second) = cuts_append (nodes tree) (nodes second) ∙ ap (λ (t : List (List ℤ)). t ++ cut_lists (nodes second)) (tree_cuts tree) ∙ ap (λ (t : List (List ℤ)). cuts_of tree ++ t) (tree_cuts second)
 
 answer_cuts : (q : Question) (s : Shapes) (a : Answer) → cut_lists (records q s a) ≡ cuts_in a.proof
 answer_cuts q s a =

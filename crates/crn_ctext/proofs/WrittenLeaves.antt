@@ -92,22 +92,3 @@ cuta_line u leaf k e = rw e (cut_line (codes "cuta") (codes "refa") u (first_lea
 pub cutb_line : (u : List ℤ) (leaf : List ℕ) (k : ℕ) → k ≡ first_leaf leaf
     → record_lines (written leaf (one_word (codes "cutb") u ∷ [])) ≡ (if k == 0 then line (codes "cutb") u else (codes "refb " ++ decimal k ++ codes "\n"))
 cutb_line u leaf k e = rw e (cut_line (codes "cutb") (codes "refb") u (first_leaf leaf) refl ∙ cut_or_name (first_leaf leaf == 0) (line (codes "cutb") u) (codes "refb") (first_leaf leaf))
-
--- ---- a split
-
--- the lines of a split: its own, and those of the trees of its children
-pub split_lines : (leaf leaf' leaf'' : List ℕ) (zeros pluses minuses : List Record) → leaf' ≡ leaves_after zeros leaf → leaf'' ≡ leaves_after pluses leaf'
-    → record_lines (written leaf (one_word (codes "split") [] ∷ zeros ++ pluses ++ minuses))
-    ≡ ((codes "split\n" ++ record_lines (written leaf zeros)) ++ record_lines (written leaf' pluses)) ++ record_lines (written leaf'' minuses)
-split_lines leaf leaf' leaf'' zeros pluses minuses e f =
-    written_lines leaf ((one_word (codes "split") [] ∷ zeros) ++ pluses) minuses
-    ∙ ap (λ (t : List ℕ). t ++ record_lines (written (leaves_after ((one_word (codes "split") [] ∷ zeros) ++ pluses) leaf) minuses)) (written_lines leaf (one_word (codes "split") [] ∷ zeros) pluses)
-    ∙ ap (λ (t : List ℕ). ((codes "split\n" ++ record_lines (written leaf zeros)) ++ record_lines (written (leaves_after zeros leaf) pluses)) ++ record_lines (written t minuses)) (leaves_append leaf (one_word (codes "split") [] ∷ zeros) pluses ∙ ap (λ (t : List ℕ). leaves_after pluses t) (sym e) ∙ sym f)
-    ∙ ap (λ (t : List ℕ). ((codes "split\n" ++ record_lines (written leaf zeros)) ++ record_lines (written t pluses)) ++ record_lines (written leaf'' minuses)) (sym e)
-
--- the numbers of the leaves after a split
-pub split_leaves : (leaf leaf' leaf'' : List ℕ) (zeros pluses minuses : List Record) → leaf' ≡ leaves_after zeros leaf → leaf'' ≡ leaves_after pluses leaf'
-    → leaves_after (one_word (codes "split") [] ∷ zeros ++ pluses ++ minuses) leaf ≡ leaves_after minuses leaf''
-split_leaves leaf leaf' leaf'' zeros pluses minuses e f =
-    leaves_append leaf ((one_word (codes "split") [] ∷ zeros) ++ pluses) minuses
-    ∙ ap (λ (t : List ℕ). leaves_after minuses t) (leaves_append leaf (one_word (codes "split") [] ∷ zeros) pluses ∙ ap (λ (t : List ℕ). leaves_after pluses t) (sym e) ∙ sym f)

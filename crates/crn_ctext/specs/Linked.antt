@@ -1,7 +1,6 @@
 -- Answers and their records: what is required of the one is required of the other.
 -- Source: this project's own.
 use Rattle.std.specs.Prelude.{◌≡◌, ◌↔◌, ℕ, List, [], ◌∷◌}
-use Rattle.std.specs.Global.{Global}
 use Rattle.crn_vec.specs.Network.{Net, IsNetwork}
 use Rattle.crn_vec.specs.declared.limits.TheConstants.{MAX_BUDGET}
 use Rattle.crn_cert.specs.declared.answer.Verdict.{Verdict}
@@ -39,11 +38,10 @@ ValidAnswersHaveValidRecords =
     → AreValid net [] built answers
     ↔ documents.AreValid meaning built (meaning.start net) (records_of net answers)
 
--- formed records are those of formed answers, whose verdicts are the ones that the records say; the
--- trees of answers lie in the memory of an allocator
+-- formed records are those of formed answers, whose verdicts are the ones that the records say
 abbrev pub FormedRecordsAreOfAnswers : Type 0
-FormedRecordsAreOfAnswers = Global → (net : Net) (answers : List (List Record))
-    → AreFormedOf net answers
+FormedRecordsAreOfAnswers =
+    (net : Net) (answers : List (List Record)) → AreFormedOf net answers
     → (given : List Answer) × AreFormed net [] built given × (records_of net given ≡ answers)
     × (verdicts_said built (meaning.start net) answers ≡ verdicts_of given)
 
@@ -56,13 +54,13 @@ AreSound net (q ∷ qs) (v ∷ vs) = IsTrueOrOpen net q v × AreSound net qs vs
 -- what valid records say is true or open
 abbrev pub ValidRecordsAreTrue : Type 0
 ValidRecordsAreTrue =
-    Global → (net : Net) (answers : List (List Record)) → IsNetwork net
+    (net : Net) (answers : List (List Record)) → IsNetwork net
     → documents.AreValid meaning built (meaning.start net) answers
     → AreSound net built (verdicts_said built (meaning.start net) answers)
 
 -- what is read of a document is a network, and verdicts that are true of it or open
 abbrev pub ReadDocumentsAreTrue : Type 0
-ReadDocumentsAreTrue = Global → (bytes : List ℕ) (read : ReadOf) → IsReadOf bytes read
+ReadDocumentsAreTrue = (bytes : List ℕ) (read : ReadOf) → IsReadOf bytes read
     → IsNetwork read.net × AreSound read.net built (verdicts_said built (meaning.start read.net) read.blocks)
 
 -- the document of a network and of valid answers, whose trees have no more nodes than a budget may

@@ -1,6 +1,6 @@
--- Answers without what no record says: spare room of lists, and how trees are held.
+-- Answers without what no record says: spare room of lists.
 -- Source: this project's own.
--- Shapes: an answer is a verdict and a proof; a tree is seen as its plan.
+-- Shapes: an answer is a verdict and a proof.
 use Rattle.std.specs.Prelude.{◌≡◌, List, [], ◌∷◌, map}
 use Rattle.crn_vec.specs.Kept.{KeptInts, KeptNums}
 use Rattle.crn_cert.specs.declared.answer.Gap.{Gap}
@@ -11,7 +11,7 @@ use Rattle.crn_cert.specs.declared.answer.RankProof.{RankProof}
 use Rattle.crn_cert.specs.declared.answer.Proof.{Proof}
 use Rattle.crn_cert.specs.declared.answer.Proof.TheVariants as proof
 use Rattle.crn_cert.specs.declared.answer.Answer.{Answer}
-use Rattle.crn_cert.specs.Trees.{Plan, plan}
+use Rattle.crn_cert.specs.Trees.{Plan}
 
 -- ---- without spare room
 
@@ -49,7 +49,7 @@ said verdict = verdict
 abbrev pub said_rank : RankProof → RankProof
 said_rank p = record { base = bare p.base; duals = p.duals; combs = p.combs }
 
--- a proof without spare room, and the plans of its trees
+-- a proof without spare room, and its trees
 abbrev pub shown : Proof → Proof × List Plan
 shown (proof.Forest up depth) = (proof.Forest (bare up) (bare depth), [])
 shown (proof.Strong from from_depth to to_depth level) =
@@ -57,8 +57,8 @@ shown (proof.Strong from from_depth to to_depth level) =
 shown (proof.Back back) = (proof.Back (bare back), [])
 shown (proof.Rank p) = (proof.Rank (said_rank p), [])
 shown (proof.Ranks ps) = (proof.Ranks (map said_rank ps), [])
-shown (proof.One tree) = (proof.Nothing, plan tree ∷ [])
-shown (proof.Two tree other) = (proof.Nothing, plan tree ∷ plan other ∷ [])
+shown (proof.One tree) = (proof.Nothing, tree ∷ [])
+shown (proof.Two tree other) = (proof.Nothing, tree ∷ other ∷ [])
 shown p = (p, [])
 
 -- an answer without what no record says

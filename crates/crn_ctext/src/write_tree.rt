@@ -2,10 +2,11 @@ ghost use Rattle.std.specs.Prelude.{◌≡◌, [], ◌∷◌, ◌++◌, codes, d
 ghost use Rattle.crn_io.specs.Write.{Wrote};
 ghost use Rattle.crn_ctext.specs.Answers.{nodes, proof_nodes};
 ghost use Rattle.crn_ctext.specs.Documents.{record_lines, written, first_leaf, later_leaves};
-ghost use Rattle.crn_ctext.specs.Inner.Written.{line, leaves_after};
+ghost use Rattle.crn_cert.specs.Preorder.{listed};
+ghost use Rattle.crn_ctext.specs.Inner.Written.{line, leaves_after, node_record};
 
 use crate::write_record::put_free;
-use crn_cert::{Proof, Tree};
+use crn_cert::{Proof, Tree, TreeNode};
 use crn_io::{Sink, WriteFault, put_all, put_parts};
 use itoa::Buffer;
 
@@ -52,6 +53,39 @@ fn put_cut<K: Sink>(sink: &mut K, part: u8, numbers: &[i128], number: u32) -> Re
     put_name(sink, part, number)
 }
 
+// A node of a tree, and the numbers of the leaves after it.
+fn put_node<'a, K: Sink>(
+    sink: &mut K,
+    node: &TreeNode,
+    leaf: &'a [u32],
+) -> Result<&'a [u32], WriteFault>
+    ensures wrote { Wrote (record_lines (written leaf.now (node_record (listed node.now) ∷ [])))
+        (K.seen sink.old) (K.seen sink.new) result }
+    ensures rest { IfOk result
+        (λ rest. rest.now ≡ leaves_after (node_record (listed node.now) ∷ []) leaf.now) }
+{
+    match node {
+        TreeNode::CutA(list) => {
+            let (number, rest) = next_leaf(leaf);
+            put_cut(sink, b'a', list.as_slice(), number)?;
+            Ok(rest)
+        }
+        TreeNode::CutB(list) => {
+            let (number, rest) = next_leaf(leaf);
+            put_cut(sink, b'b', list.as_slice(), number)?;
+            Ok(rest)
+        }
+        TreeNode::Flat => {
+            put_all(sink, b"flat\n")?;
+            Ok(leaf)
+        }
+        TreeNode::SplitTwo | TreeNode::SplitThree => {
+            put_all(sink, b"split\n")?;
+            Ok(leaf)
+        }
+    }
+}
+
 // The nodes of a tree, and the numbers of the leaves after it.
 fn put_tree<'a, K: Sink>(
     sink: &mut K,
@@ -62,31 +96,11 @@ fn put_tree<'a, K: Sink>(
         (K.seen sink.old) (K.seen sink.new) result }
     ensures rest { IfOk result (λ rest. rest.now ≡ leaves_after (nodes tree.now) leaf.now) }
 {
-    match tree {
-        Tree::Split(children) => {
-            put_all(sink, b"split\n")?;
-            let leaf = put_tree(sink, &children.zero, leaf)?;
-            let leaf = put_tree(sink, &children.plus, leaf)?;
-            match &children.minus {
-                Some(minus) => put_tree(sink, minus, leaf),
-                None => Ok(leaf),
-            }
-        }
-        Tree::CutA(list) => {
-            let (number, rest) = next_leaf(leaf);
-            put_cut(sink, b'a', list.as_slice(), number)?;
-            Ok(rest)
-        }
-        Tree::CutB(list) => {
-            let (number, rest) = next_leaf(leaf);
-            put_cut(sink, b'b', list.as_slice(), number)?;
-            Ok(rest)
-        }
-        Tree::Flat => {
-            put_all(sink, b"flat\n")?;
-            Ok(leaf)
-        }
+    let mut rest = leaf;
+    for node in tree.nodes() {
+        rest = put_node(sink, node, rest)?;
     }
+    Ok(rest)
 }
 
 // The trees of a proof, and the numbers of the leaves after them.

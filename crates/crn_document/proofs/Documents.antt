@@ -102,7 +102,7 @@ document_gives (Ok accepted) at before now new p =
       blocks = blocks;
       gives = gives;
       verdicts = p.1.2;
-      sound = sound_untight accepted.net built accepted.verdicts (subst (λ (vs : List Verdict). AreSound accepted.net built vs) (sym p.1.2) (let s = read_true at.alloc t.0 read gives in s.1));
+      sound = sound_untight accepted.net built accepted.verdicts (subst (λ (vs : List Verdict). AreSound accepted.net built vs) (sym p.1.2) (let s = read_true t.0 read gives in s.1));
     }
 document_gives (Err (stop.Rejected code line)) at before now new p =
     let step = from_first (λ n. StepFails whole_course n at.lines before.left now.left line code) at new p.0 in

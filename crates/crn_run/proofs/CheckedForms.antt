@@ -1,5 +1,5 @@
 -- The verdicts of an accepted document are formed.
-use Rattle.std.proofs.Common.{◌≡◌, ◌++◌, List, [], ◌∷◌, map, refl, sym, ap, ap₂, subst, ◌∙◌, inl, inr, Global}
+use Rattle.std.proofs.Common.{◌≡◌, ◌++◌, List, [], ◌∷◌, map, refl, sym, ap, ap₂, subst, ◌∙◌, inl, inr}
 use Rattle.crn_vec.specs.Lists.{IsIn}
 use Rattle.crn_vec.specs.Network.{Net}
 use Rattle.crn_cert.specs.declared.answer.Answer.{Answer}
@@ -67,8 +67,8 @@ formed_verdicts law net es fs (q ∷ qs) (a ∷ answers) (v ∷ vs) sub same for
     more_tight es q a.verdict ∙ ap₂ (λ (e : Earlier) (w : Verdict). e ++ (q, w) ∷ []) same alike ∙ sym (more_tight fs q v) in
     (law net fs q v a.proof ((formed_tight net fs q v a.proof (sub q (inl refl))).0 here), formed_verdicts law net (es ++ (q, a.verdict) ∷ []) (fs ++ (q, v) ∷ []) qs answers vs (λ p is. sub p (inr is)) next formed.1 others)
 
-pub accepted_formed : FormedAnswersHaveFormedVerdicts → FormedRecordsAreOfAnswers → Global → (net : Net) (blocks : List (List Record)) (vs : List Verdict)
+pub accepted_formed : FormedAnswersHaveFormedVerdicts → FormedRecordsAreOfAnswers → (net : Net) (blocks : List (List Record)) (vs : List Verdict)
     → (answers : List (List Record)) × AreFormedOf net answers × (verdicts_in net answers ≡ verdicts_in net blocks) → map tight vs ≡ verdicts_in net blocks → AreFormedVerdicts net [] built vs
-accepted_formed law given alloc net blocks vs (records, formed, says) said =
-    let (answers, are, same, saying) = given alloc net records formed in
+accepted_formed law given net blocks vs (records, formed, says) said =
+    let (answers, are, same, saying) = given net records formed in
     formed_verdicts law net [] [] built answers vs (λ q is. is) refl are (said ∙ sym says ∙ saying)

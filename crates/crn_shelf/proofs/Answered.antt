@@ -24,12 +24,11 @@ use Rattle.crn_vec.proofs.CallerLemmas.{rows_count}
 use Rattle.crn_cert.specs.declared.answer.Answer.{Answer}
 use Rattle.crn_cert.specs.declared.answer.Verdict.TheVariants.{YesSignal}
 use Rattle.crn_cert.specs.declared.answer.Proof.TheVariants.{Nothing}
-use Rattle.crn_cert.specs.declared.tree.Tree.{Tree}
 use Rattle.crn_cert.specs.Questions.{Earlier, Q2, Q12, Q13, on, vector_given, terminal_of}
 use Rattle.crn_cert.specs.Ranges.{AreFree, IsNarrow}
 use Rattle.crn_cert.specs.Says.{IsTrueOf, AreStrongClasses, IsTurn, IsShelf, by_turn}
 use Rattle.crn_cert.specs.Tests.{AllHold}
-use Rattle.crn_cert.specs.Trees.{Plan, Both, Three, RulesA, RulesB, Level, plan, node_count, IsFormedTree}
+use Rattle.crn_cert.specs.Trees.{Plan, Both, Three, RulesA, RulesB, Level, node_count, IsFormedTree}
 use Rattle.crn_cert.specs.Nodes.{Said, Fits}
 use Rattle.crn_cert.specs.TreeTests.{tree_tests}
 use Rattle.crn_cert.specs.Formed.{IsSignalTree, IsWideGap, AreSignalRows}
@@ -104,26 +103,26 @@ record TreeFor (net : Net) (earlier : Earlier) (g : List ℤ) (t : Plan) : Type 
   formed : IsSignalTree net earlier t
   tests : (part : ℕ) → AllHold (tree_tests (IsSignalNode net g) part [] t)
 
-tree_for : (net : Net) (earlier : Earlier) (g : List ℤ) (budget : ℕ) (tree : Tree) → IsNetwork net → IsTrueOf net Q2 (on earlier Q2) → length g ≡ length net.complexes → EndsFor net g budget (Refuted tree) → TreeFor net earlier g (plan tree)
+tree_for : (net : Net) (earlier : Earlier) (g : List ℤ) (budget : ℕ) (tree : Plan) → IsNetwork net → IsTrueOf net Q2 (on earlier Q2) → length g ≡ length net.complexes → EndsFor net g budget (Refuted tree) → TreeFor net earlier g tree
 tree_for net earlier g budget tree n known even e =
     let s = e.0 in
     let m = reaction_system net in
     let w : Signed = signals s m in
     let z = sizes net earlier g s n known even e.1 in
     let at = e.2.0 in
-    let formed = formed_tree w [] (plan tree) at.valid at.narrow in
+    let formed = formed_tree w [] tree at.valid at.narrow in
     record {
-      formed = formed_as [] (plan tree) (s.count + s.species) (length (shelf_matrix s).rows) (length m.rows) (terminal_of (on earlier Q2) + length net.names) (length net.complexes + length (pair_places net earlier)) (length net.names)
+      formed = formed_as [] tree (s.count + s.species) (length (shelf_matrix s).rows) (length m.rows) (terminal_of (on earlier Q2) + length net.names) (length net.complexes + length (pair_places net earlier)) (length net.names)
           (ap₂ (λ (a b : ℕ). a + b) z.count e.1.shape.species) z.rows (rows_count net) formed;
-      tests = λ part. holds_too (Fits w) (IsSignalNode net g) (λ p said f. (s, e.1, f)) part [] (plan tree)
-          ((tests_decide_valid_trees w (length (shelf_matrix s).rows) (length m.rows) part [] (plan tree) formed).1 at.valid);
+      tests = λ part. holds_too (Fits w) (IsSignalNode net g) (λ p said f. (s, e.1, f)) part [] tree
+          ((tests_decide_valid_trees w (length (shelf_matrix s).rows) (length m.rows) part [] tree formed).1 at.valid);
     }
 
-pub no_signal : (net : Net) (g : List ℤ) (budget : ℕ) (tree : Tree) → IsNetwork net → IsRegular net → EndsFor net g budget (Refuted tree) → HasNoSignal net g
+pub no_signal : (net : Net) (g : List ℤ) (budget : ℕ) (tree : Plan) → IsNetwork net → IsRegular net → EndsFor net g budget (Refuted tree) → HasNoSignal net g
 no_signal net g budget tree n regular e shelves mu level weights sg =
     let m = reaction_system net in
     let at = signals_feasible net g e.0 n regular e.1 shelves mu level weights sg in
-    leaves_nothing (signals e.0 m) (signals_are_steady e.0 m) (plan tree) [] at.0 e.2.0.valid at.1 at.2
+    leaves_nothing (signals e.0 m) (signals_are_steady e.0 m) tree [] at.0 e.2.0.valid at.1 at.2
 
 -- ---- what earlier verdicts give
 
@@ -139,28 +138,28 @@ nodes_of net earlier g weak turn part t v h =
 
 -- ---- no
 
-pub one_is : (net : Net) (earlier : Earlier) (g : List ℤ) (weak : Bool) (budget : ℕ) (tree : Tree) → IsNetwork net → IsRegular net → HasConfluenceLine net → IsNormalVector net g → (IsWeaklyReversible net.reactions → IsTrue weak) → (IsTrue weak → ⊥) → GiveVector net earlier g weak → EndsFor net g budget (Refuted tree)
+pub one_is : (net : Net) (earlier : Earlier) (g : List ℤ) (weak : Bool) (budget : ℕ) (tree : Plan) → IsNetwork net → IsRegular net → HasConfluenceLine net → IsNormalVector net g → (IsWeaklyReversible net.reactions → IsTrue weak) → (IsTrue weak → ⊥) → GiveVector net earlier g weak → EndsFor net g budget (Refuted tree)
     → IsAnswer net budget earlier Q13 (one_answer tree)
 one_is net earlier g weak budget tree n regular line normal to not v e =
     let t = tree_for net earlier g budget tree n v.strong_is normal.confluence.space.long e in
     record {
       formed = (tt, ((λ yes. not (v.weak_is.0 yes)), t.formed));
-      valid = (has_vector net earlier g weak v, nodes_of net earlier g weak (pos 1) 1 (plan tree) v (t.tests 1));
+      valid = (has_vector net earlier g weak v, nodes_of net earlier g weak (pos 1) 1 tree v (t.tests 1));
       answered = (regular, line, none_at_all net g n regular line normal.confluence (no_signal net g budget tree n regular e) (λ w. absurd (not (to w))));
     }
 
-pub two_is : (net : Net) (earlier : Earlier) (g : List ℤ) (budget : ℕ) (tree second : Tree) → IsNetwork net → IsRegular net → HasConfluenceLine net → IsNormalVector net g → GiveVector net earlier g true → EndsFor net g budget (Refuted tree) → EndsFor net (negative g) budget (Refuted second)
+pub two_is : (net : Net) (earlier : Earlier) (g : List ℤ) (budget : ℕ) (tree second : Plan) → IsNetwork net → IsRegular net → HasConfluenceLine net → IsNormalVector net g → GiveVector net earlier g true → EndsFor net g budget (Refuted tree) → EndsFor net (negative g) budget (Refuted second)
     → IsAnswer net budget earlier Q13 (two_answer tree second)
 two_is net earlier g budget tree second n regular line normal v e f =
     let t = tree_for net earlier g budget tree n v.strong_is normal.confluence.space.long e in
     let u = tree_for net earlier (negative g) budget second n v.strong_is (length-scale (negsuc 0) g ∙ normal.confluence.space.long) f in
-    let last = 1 + node_count (plan tree) in
+    let last = 1 + node_count tree in
     record {
       formed = (tt, (v.weak_is.1 refl, t.formed, u.formed));
       valid = (
         has_vector net earlier g true v,
-        hold_append (tree_tests (IsNodeOf net earlier (pos 1)) 1 [] (plan tree)) (tree_tests (IsNodeOf net earlier (negsuc 0)) last [] (plan second))
-            (nodes_of net earlier g true (pos 1) 1 (plan tree) v (t.tests 1)) (nodes_of net earlier g true (negsuc 0) last (plan second) v (u.tests last)),
+        hold_append (tree_tests (IsNodeOf net earlier (pos 1)) 1 [] tree) (tree_tests (IsNodeOf net earlier (negsuc 0)) last [] second)
+            (nodes_of net earlier g true (pos 1) 1 tree v (t.tests 1)) (nodes_of net earlier g true (negsuc 0) last second v (u.tests last)),
       );
       answered = (regular, line, none_at_all net g n regular line normal.confluence (no_signal net g budget tree n regular e) (λ w. no_signal net (negative g) budget second n regular f));
     }
@@ -302,10 +301,10 @@ negative_too net g n regular line weak c = ((confluence_vectors_are_one net n re
 
 -- ---- nodes
 
-pub few_one : (net : Net) (g : List ℤ) (budget : ℕ) (tree : Tree) → EndsFor net g budget (Refuted tree) → node_count (plan tree) ≤ budget
-few_one net g budget tree e = omega (arith, e.2.2, count_places [] (plan tree))
+pub few_one : (net : Net) (g : List ℤ) (budget : ℕ) (tree : Plan) → EndsFor net g budget (Refuted tree) → node_count tree ≤ budget
+few_one net g budget tree e = omega (arith, e.2.2, count_places [] tree)
 
-pub few_two : (net : Net) (g h : List ℤ) (budget : ℕ) (tree second : Tree) → EndsFor net g budget (Refuted tree) → EndsFor net h budget (Refuted second) → HasFewNodes budget (two_answer tree second).proof
+pub few_two : (net : Net) (g h : List ℤ) (budget : ℕ) (tree second : Plan) → EndsFor net g budget (Refuted tree) → EndsFor net h budget (Refuted second) → HasFewNodes budget (two_answer tree second).proof
 few_two net g h budget tree second e f = (few_one net g budget tree e, few_one net h budget second f)
 
 -- ---- the shape

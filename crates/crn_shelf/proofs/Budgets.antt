@@ -13,10 +13,9 @@ use Rattle.crn_vec.proofs.CallerLemmas.{longer_by, shapes_are_one}
 use Rattle.crn_cert.specs.declared.answer.Answer.{Answer}
 use Rattle.crn_cert.specs.declared.answer.Verdict.{Verdict}
 use Rattle.crn_cert.specs.declared.answer.Verdict.TheVariants.{Unknown}
-use Rattle.crn_cert.specs.declared.tree.Tree.{Tree}
 use Rattle.crn_cert.specs.Licensed.{PassForSignals}
 use Rattle.crn_cert.specs.Questions.{IsOpen}
-use Rattle.crn_cert.specs.Trees.{plan, places}
+use Rattle.crn_cert.specs.Trees.{Plan, places}
 use Rattle.crn_sign.specs.declared.end.SearchEnd.TheVariants.{Found, Refuted}
 use Rattle.crn_sign.specs.declared.fault.SearchStop.{SearchStop}
 use Rattle.crn_sign.specs.declared.fault.SearchStop.TheVariants.{WideA, WideB, NoMemory}
@@ -32,8 +31,8 @@ within net g budget s visits found sh v few pass =
 pub found_within : (net : Net) (g : List ℤ) (budget : ℕ) (q : List Sign) (a b : KeptInts) → EndsFor net g budget (Found q a b) → PassForSignals net g budget → ⊥
 found_within net g budget q a b e = within net g budget e.0 (e.2.1 ++ q ∷ []) true e.1 e.2.2 e.2.3
 
-pub refuted_within : (net : Net) (g : List ℤ) (budget : ℕ) (tree : Tree) → EndsFor net g budget (Refuted tree) → PassForSignals net g budget → ⊥
-refuted_within net g budget tree e = within net g budget e.0 (places [] (plan tree)) false e.1 e.2.1 e.2.2
+pub refuted_within : (net : Net) (g : List ℤ) (budget : ℕ) (tree : Plan) → EndsFor net g budget (Refuted tree) → PassForSignals net g budget → ⊥
+refuted_within net g budget tree e = within net g budget e.0 (places [] tree) false e.1 e.2.1 e.2.2
 
 pub stop_open : (stop : SearchStop) (answer : Answer) → IsStopAnswer stop answer → IsOpen answer.verdict
 stop_open (WideA index basis) answer e = subst (λ (a : Answer). IsOpen a.verdict) (sym e) tt

@@ -8,7 +8,7 @@ use Rattle.crn_vec.specs.declared.signs.Sign.{Sign}
 use Rattle.crn_vec.specs.Elementary.{NamesWide}
 use Rattle.crn_vec.specs.Problems.{Signed, IsFull}
 use Rattle.crn_vec.specs.Visits.{IsVisitList, PassesBudget}
-use Rattle.crn_cert.specs.Trees.{Plan, plan, IsValid, AreNarrow, places}
+use Rattle.crn_cert.specs.Trees.{Plan, IsValid, AreNarrow, places}
 use Rattle.crn_farkas.specs.Decision.{IsSmallSolution}
 use Rattle.crn_sign.specs.declared.end.SearchEnd.{SearchEnd}
 use Rattle.crn_sign.specs.declared.end.SearchEnd.TheVariants.{Found, Refuted, Spent}
@@ -35,8 +35,8 @@ abbrev pub IsSearchEnd : Signed → ℕ → SearchEnd → Type 0
 IsSearchEnd w budget (Found q a b) = IsFeasibleBy w q a.list b.list
     × (before : List (List Sign)) × IsVisitList w (before ++ q ∷ []) true
     × (length (before ++ q ∷ []) ≤ budget)
-IsSearchEnd w budget (Refuted tree) = IsTreeAt w [] (plan tree)
-    × IsVisitList w (places [] (plan tree)) false × (length (places [] (plan tree)) ≤ budget)
+IsSearchEnd w budget (Refuted tree) = IsTreeAt w [] tree
+    × IsVisitList w (places [] tree) false × (length (places [] tree) ≤ budget)
 IsSearchEnd w budget Spent = PassesBudget w budget
 
 -- how a search ended, without the tree

@@ -1,14 +1,13 @@
 ghost use Rattle.std.specs.Prelude.{◌≡◌, ◌≤◌, ◌<◌, ◌-◌, ◌++◌, ◌∷◌, [], ◌↔◌, ℕ, ℤ, List, length, true, false, IsTrue, IfOk, IfErr, OnOk, MatchOption, MatchResult};
 ghost use Rattle.crn_vec.specs.Systems.{IsSolution};
 ghost use Rattle.crn_vec.specs.Kept.{KeptInts};
-ghost use Rattle.crn_cert.specs.Trees.{plan, Both, Three};
 ghost use Rattle.crn_farkas.specs.Decision.{IsSmallCut};
 ghost use Rattle.crn_vec.specs.declared.limits.TheConstants.{MAX_BUDGET};
 ghost use Rattle.crn_vec.specs.Elementary.{NamesWide};
 ghost use Rattle.crn_vec.specs.Problems.{IsFull, IsFeasible, IsLawful, IsPrefix};
 ghost use Rattle.crn_vec.specs.declared.signs.Sign.{Sign};
 ghost use Rattle.crn_sign.specs.Search.{IsOutcome, IsSearchEnd, IsSearchStop};
-ghost use Rattle.crn_sign.specs.Inner.Walk.{EndsAt, EndsBelow, IsFoundAt, IsLeafAt, IsLeafOrNone, IsWideA, IsWideB, Keeps, end_of, outcome_at};
+ghost use Rattle.crn_sign.specs.Inner.Walk.{EndsAt, EndsBelow, HasTree, IsEndOf, IsFoundAt, IsLeafAt, IsLeafOrNone, IsWideA, IsWideB, outcome_at, split_node};
 ghost use Rattle.crn_sign.specs.Inner.Parts.{IsRuling};
 ghost use Rattle.crn_sign.specs.Inner.Places.{IsAsked, IsHere, IsPlace};
 ghost use Rattle.crn_sign.specs.Inner.Ready.{AreAround, AreAsked, AreFor, AreMarked, AreRooms, AreRoomsBelow, HasRooms, HasSums, IsLevel, IsReady, SamePlace};
@@ -21,7 +20,7 @@ use crate::part::Part;
 use crate::place::{Place, begin_a, begin_b, enter_b};
 use crate::problem::SignProblem;
 use crate::signs::Signs;
-use crn_cert::Tree;
+use crn_cert::{Tree, TreeNode};
 use crn_farkas::{Solver, Stop};
 use crn_vec::{Ints, NoMemory, Sign, is_all_zero};
 use std::alloc::Global;
@@ -56,7 +55,7 @@ pub(crate) struct FullPrefix {
 #[derive(Drop)]
 pub(crate) enum Ending {
     Found(Box<FullPrefix>),
-    Refuted(Tree),
+    Refuted,
     Spent,
 }
 
@@ -160,7 +159,7 @@ fn arrive<P: SignProblem>(
     search: &mut Progress,
     above: &Level,
     here: &mut Level,
-) -> Result<Option<Tree>, SearchStop>
+) -> Result<Option<TreeNode>, SearchStop>
     requires ready { IsReady (P.signed problem.now) search.old }
     requires above { AreMarked (P.signed problem.now) above.now }
     requires here { AreAsked (P.signed problem.now) search.old.prefix.items here.old }
@@ -171,15 +170,15 @@ fn arrive<P: SignProblem>(
     ensures sums { OnOk result (here.new.sums.items ≡ here.old.sums.items) }
     ensures leaf { IfOk result (λ o. MatchOption o
         (IsLevel (P.signed problem.now) search.old.prefix.items here.new)
-        (λ tree. IsLeafAt (P.signed problem.now) search.old.prefix.items (plan tree))) }
+        (λ node. IsLeafAt (P.signed problem.now) search.old.prefix.items node)) }
     ensures stop { IfErr result (λ s. IsSearchStop (P.signed problem.now) s) }
 {
     look(problem, &search.prefix, above, here);
     if let Some(u) = known_cut_b(problem, search, &here.b)? {
-        return Ok(Some(Tree::CutB(u)));
+        return Ok(Some(TreeNode::CutB(u)));
     }
     if let Some(u) = known_cut_a(problem, search, &here.a)? {
-        return Ok(Some(Tree::CutA(u)));
+        return Ok(Some(TreeNode::CutA(u)));
     }
     take(problem, above, here);
     Ok(None)
@@ -245,7 +244,7 @@ fn rule_out<P: SignProblem>(
     search: &mut Progress,
     above: &Level,
     here: &mut Level,
-) -> Result<Option<Tree>, SearchStop>
+) -> Result<Option<TreeNode>, SearchStop>
     requires ready { IsReady (P.signed problem.now) search.old }
     requires above { AreMarked (P.signed problem.now) above.now }
     requires here { AreAsked (P.signed problem.now) search.old.prefix.items here.old }
@@ -255,19 +254,19 @@ fn rule_out<P: SignProblem>(
         (AreAsked (P.signed problem.now) search.old.prefix.items here.new) }
     ensures sums { OnOk result (here.new.sums.items ≡ here.old.sums.items) }
     ensures here { IfOk result (λ o. MatchOption o
-        (IsLevel (P.signed problem.now) search.old.prefix.items here.new) (λ tree. Unit {0})) }
+        (IsLevel (P.signed problem.now) search.old.prefix.items here.new) (λ node. Unit {0})) }
     ensures answer { MatchResult result
         (λ o. IsLeafOrNone (P.signed problem.now) search.old.prefix.items o)
         (λ s. IsSearchStop (P.signed problem.now) s) }
 {
-    if let Some(tree) = arrive(problem, search, above, here)? {
-        return Ok(Some(tree));
+    if let Some(node) = arrive(problem, search, above, here)? {
+        return Ok(Some(node));
     }
     if let Some(u) = rule_out_b(alloc, problem, search, &mut here.b)? {
-        return Ok(Some(Tree::CutB(u)));
+        return Ok(Some(TreeNode::CutB(u)));
     }
     if let Some(u) = rule_out_a(alloc, problem, search, &mut here.a)? {
-        return Ok(Some(Tree::CutA(u)));
+        return Ok(Some(TreeNode::CutA(u)));
     }
     Ok(None)
 }
@@ -339,25 +338,30 @@ fn leaves_room<P: SignProblem>(_problem: &P, _search: &Progress, _here: &Level)
     ensures { HasRooms (P.signed _problem.now) _here.now }
 {}
 
-// The tree of two children, or nothing that shows them if trees are not kept.
-fn both(alloc: Global, keeps: bool, zero: Tree, plus: Tree) -> Result<Tree, NoMemory>
-    ensures { IfOk result (λ made. Keeps keeps made (Both (plan zero) (plan plus))) }
+// Lists a node, if nodes are to be kept.
+#[inline(always)]
+fn list_node(nodes: &mut Vec<TreeNode>, keeps: bool, node: TreeNode) -> Result<(), NoMemory>
+    ensures { IfOk result
+        (λ _. keeps ≡ true → nodes.new.items ≡ nodes.old.items ++ node ∷ []) }
 {
-    if keeps {
-        return Tree::both(alloc, zero, plus);
+    if !keeps {
+        return Ok(());
     }
-    Ok(Tree::Flat)
+    match nodes.push(node) {
+        Ok(()) => Ok(()),
+        Err(_) => Err(NoMemory),
+    }
 }
 
-// The tree of three children, or nothing that shows them if trees are not kept.
-fn three(alloc: Global, keeps: bool, zero: Tree, plus: Tree, minus: Tree) -> Result<Tree, NoMemory>
-    ensures { IfOk result
-        (λ made. Keeps keeps made (Three (plan zero) (plan plus) (plan minus))) }
+// The node of a prefix that is split.
+fn split_node(zeros: bool) -> TreeNode
+    ensures { result ≡ split_node zeros }
 {
-    if keeps {
-        return Tree::three(alloc, zero, plus, minus);
+    if zeros {
+        TreeNode::SplitTwo
+    } else {
+        TreeNode::SplitThree
     }
-    Ok(Tree::Flat)
 }
 
 // Visits the prefix with one more option, and all that is visited below it.
@@ -369,6 +373,7 @@ fn child<P: SignProblem>(
     above: &Level,
     next: &mut Level,
     rest: &mut [Level],
+    nodes: &mut Vec<TreeNode>,
     keeps: bool,
     option: Sign,
 ) -> Result<Ending, SearchStop>
@@ -387,12 +392,12 @@ fn child<P: SignProblem>(
         (AreRoomsBelow (P.signed problem.now) search.old.prefix.items rest.new) }
     ensures answer { MatchResult result
         (λ e. EndsAt keeps (P.signed problem.now) (search.old.prefix.items ++ option ∷ [])
-        search.old.left search.new.left e)
+        search.old.left search.new.left nodes.old.items nodes.new.items e)
         (λ s. IsSearchStop (P.signed problem.now) s) }
 {
     search.prefix.push_reserved(option);
     enter(problem, &search.prefix, above, next);
-    let end = walk(alloc, problem, search, above, next, rest, keeps)?;
+    let end = walk(alloc, problem, search, above, next, rest, nodes, keeps)?;
     search.prefix.pop();
     Ok(end)
 }
@@ -406,6 +411,7 @@ fn split<P: SignProblem>(
     here: &Level,
     next: &mut Level,
     rest: &mut [Level],
+    nodes: &mut Vec<TreeNode>,
     keeps: bool,
 ) -> Result<Ending, SearchStop>
     requires ready { IsReady (P.signed problem.now) search.old }
@@ -423,28 +429,54 @@ fn split<P: SignProblem>(
         (AreRoomsBelow (P.signed problem.now) search.old.prefix.items rest.new) }
     ensures answer { MatchResult result
         (λ e. EndsBelow keeps (P.signed problem.now) search.old.prefix.items
-        search.old.left search.new.left e)
+        search.old.left search.new.left nodes.old.items nodes.new.items e)
         (λ s. IsSearchStop (P.signed problem.now) s) }
 {
     let zeros = is_all_zero(&search.prefix);
-    let zero = match child(alloc, problem, search, here, next, rest, keeps, Sign::Zero)? {
-        Ending::Refuted(tree) => tree,
+    list_node(nodes, keeps, split_node(zeros))?;
+    match child(
+        alloc,
+        problem,
+        search,
+        here,
+        next,
+        rest,
+        nodes,
+        keeps,
+        Sign::Zero,
+    )? {
+        Ending::Refuted => {}
         end => return Ok(end),
-    };
-    let plus = match child(alloc, problem, search, here, next, rest, keeps, Sign::Plus)? {
-        Ending::Refuted(tree) => tree,
-        end => return Ok(end),
-    };
-    if zeros {
-        let tree = both(alloc, keeps, zero, plus)?;
-        return Ok(Ending::Refuted(tree));
     }
-    let minus = match child(alloc, problem, search, here, next, rest, keeps, Sign::Minus)? {
-        Ending::Refuted(tree) => tree,
+    match child(
+        alloc,
+        problem,
+        search,
+        here,
+        next,
+        rest,
+        nodes,
+        keeps,
+        Sign::Plus,
+    )? {
+        Ending::Refuted => {}
         end => return Ok(end),
-    };
-    let tree = three(alloc, keeps, zero, plus, minus)?;
-    Ok(Ending::Refuted(tree))
+    }
+    if zeros {
+        return Ok(Ending::Refuted);
+    }
+    let end = child(
+        alloc,
+        problem,
+        search,
+        here,
+        next,
+        rest,
+        nodes,
+        keeps,
+        Sign::Minus,
+    )?;
+    Ok(end)
 }
 
 // Visits a prefix, and all that is visited below it.
@@ -457,6 +489,7 @@ pub(crate) fn walk<P: SignProblem>(
     above: &Level,
     here: &mut Level,
     levels: &mut [Level],
+    nodes: &mut Vec<TreeNode>,
     keeps: bool,
 ) -> Result<Ending, SearchStop>
     requires ready { IsReady (P.signed problem.now) search.old }
@@ -474,7 +507,7 @@ pub(crate) fn walk<P: SignProblem>(
         (AreRooms (P.signed problem.now) search.old.prefix.items levels.new) }
     ensures answer { MatchResult result
         (λ e. EndsAt keeps (P.signed problem.now) search.old.prefix.items
-        search.old.left search.new.left e)
+        search.old.left search.new.left nodes.old.items nodes.new.items e)
         (λ s. IsSearchStop (P.signed problem.now) s) }
 {
     if search.left == 0 {
@@ -482,10 +515,12 @@ pub(crate) fn walk<P: SignProblem>(
     }
     search.left -= 1;
     if problem.closed(&search.prefix) {
-        return Ok(Ending::Refuted(Tree::Flat));
+        list_node(nodes, keeps, TreeNode::Flat)?;
+        return Ok(Ending::Refuted);
     }
-    if let Some(tree) = rule_out(alloc, problem, search, above, here)? {
-        return Ok(Ending::Refuted(tree));
+    if let Some(node) = rule_out(alloc, problem, search, above, here)? {
+        list_node(nodes, keeps, node)?;
+        return Ok(Ending::Refuted);
     }
     at_level(problem, search, here);
     if search.prefix.len() == problem.length() {
@@ -495,7 +530,7 @@ pub(crate) fn walk<P: SignProblem>(
     let (first, rest) = levels.split_at_mut(1);
     let next = &mut first[0];
     surround(problem, &search.prefix, here, next);
-    let end = split(alloc, problem, search, here, next, rest, keeps)?;
+    let end = split(alloc, problem, search, here, next, rest, nodes, keeps)?;
     leaves_room(problem, search, next);
     Ok(end)
 }
@@ -563,16 +598,17 @@ fn first_level<P: SignProblem>(alloc: Global, problem: &P) -> Result<Level, NoMe
     Ok(first)
 }
 
-// How a search ended whose visits ended so.
-fn end_of(end: Ending) -> SearchEnd
-    ensures { result ≡ end_of end }
+// How a search ended whose visits ended so, and listed these nodes.
+fn end_of(end: Ending, nodes: Vec<TreeNode>) -> SearchEnd
+    requires { HasTree end nodes.items }
+    ensures { IsEndOf end nodes.items result }
 {
     match end {
         Ending::Found(found) => {
             let FullPrefix { pattern, a, b } = Box::into_inner(found);
             SearchEnd::Found { pattern, a, b }
         }
-        Ending::Refuted(tree) => SearchEnd::Refuted(tree),
+        Ending::Refuted => SearchEnd::Refuted(Tree::new(nodes)),
         Ending::Spent => SearchEnd::Spent,
     }
 }
@@ -586,7 +622,7 @@ fn outcome_at(end: Ending) -> SearchOutcome
             let FullPrefix { pattern, a, b } = Box::into_inner(found);
             SearchOutcome::Found { pattern, a, b }
         }
-        Ending::Refuted(_) => SearchOutcome::Refuted,
+        Ending::Refuted => SearchOutcome::Refuted,
         Ending::Spent => SearchOutcome::Spent,
     }
 }
@@ -597,11 +633,13 @@ fn visit_all<P: SignProblem>(
     problem: &P,
     solver_b: Solver,
     budget: u32,
+    nodes: &mut Vec<TreeNode>,
     keeps: bool,
 ) -> Result<Ending, SearchStop>
     requires { solver_b.matrix ≡ (P.signed problem.now).matrix_b }
     ensures { MatchResult result
-        (λ e. (after : ℕ) × EndsAt keeps (P.signed problem.now) [] budget after e)
+        (λ e. (after : ℕ) × EndsAt keeps (P.signed problem.now) [] budget after
+        nodes.old.items nodes.new.items e)
         (λ s. IsSearchStop (P.signed problem.now) s) }
 {
     let mut search = start(alloc, problem, solver_b, budget)?;
@@ -615,6 +653,7 @@ fn visit_all<P: SignProblem>(
         &above,
         &mut first,
         &mut levels,
+        nodes,
         keeps,
     )?;
     Ok(end)
@@ -638,8 +677,9 @@ pub fn search<P: SignProblem>(
     ensures { MatchResult result (λ e. IsSearchEnd (P.signed problem.now) budget e)
         (λ s. IsSearchStop (P.signed problem.now) s) }
 {
-    let end = visit_all(alloc, problem, solver_b, budget, true)?;
-    Ok(end_of(end))
+    let mut nodes = Vec::with_capacity(alloc, 0)?;
+    let end = visit_all(alloc, problem, solver_b, budget, &mut nodes, true)?;
+    Ok(end_of(end, nodes))
 }
 
 /// The outcome of the same search. It keeps no tree, and takes less memory.
@@ -655,6 +695,7 @@ pub fn search_outcome<P: SignProblem>(
     ensures { MatchResult result (λ o. IsOutcome (P.signed problem.now) budget o)
         (λ s. IsSearchStop (P.signed problem.now) s) }
 {
-    let end = visit_all(alloc, problem, solver_b, budget, false)?;
+    let mut nodes = Vec::with_capacity(alloc, 0)?;
+    let end = visit_all(alloc, problem, solver_b, budget, &mut nodes, false)?;
     Ok(outcome_at(end))
 }

@@ -10,7 +10,7 @@ use Rattle.crn_cert.specs.declared.answer.Gap.TheVariants.{Wide, Budget}
 use Rattle.crn_cert.specs.declared.answer.Verdict.TheVariants.{YesSignal, No, Unknown}
 use Rattle.crn_cert.specs.declared.answer.Proof.TheVariants.{Nothing, One, Two}
 use Rattle.crn_cert.specs.declared.answer.Answer.{Answer}
-use Rattle.crn_cert.specs.declared.tree.Tree.{Tree}
+use Rattle.crn_cert.specs.Trees.{Plan}
 use Rattle.crn_sign.specs.declared.fault.SearchStop.{SearchStop}
 use Rattle.crn_sign.specs.declared.fault.SearchStop.TheVariants.{WideA, WideB, NoMemory}
 
@@ -42,11 +42,11 @@ wide_answer system index basis =
     record { verdict = Unknown (Wide system 0 index basis); proof = Nothing }
 
 -- no, with the tree for the vector alone
-abbrev pub one_answer : Tree → Answer
+abbrev pub one_answer : Plan → Answer
 one_answer tree = record { verdict = No; proof = One tree }
 
 -- no, with the trees for the vector and its negative
-abbrev pub two_answer : Tree → Tree → Answer
+abbrev pub two_answer : Plan → Plan → Answer
 two_answer tree second = record { verdict = No; proof = Two tree second }
 
 -- open by the wide vector that stopped the search

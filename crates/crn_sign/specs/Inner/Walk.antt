@@ -1,13 +1,16 @@
 -- For the contracts of private functions alone.
 -- How the visits of a prefix, of its children and of all below them end.
--- Shapes: `left` visits are allowed where it begins, and `after` where it ends. `due` lists the
--- prefixes that are to be visited with all below them.
-use Rattle.std.specs.Prelude.{◌≡◌, ◌+◌, ℕ, ℤ, true, false, List, [], ◌∷◌, ◌++◌, length, Bool, Option, None, Some}
+-- Shapes: `left` visits are allowed where it begins, and `after` where it ends; `old` are the nodes
+-- that are listed where it begins, and `new` those where it ends. `due` lists the prefixes that are to
+-- be visited with all below them.
+use Rattle.std.specs.Prelude.{◌≡◌, ◌+◌, ℕ, ℤ, true, false, List, [], ◌∷◌, ◌++◌, length, map, Bool, Option, None, Some}
 use Rattle.crn_vec.specs.declared.signs.Sign.{Sign}
 use Rattle.crn_vec.specs.Problems.{Signed, IsFeasible, SolvesA, SolvesB, children}
 use Rattle.crn_vec.specs.Visits.{Visits, Passes}
-use Rattle.crn_cert.specs.declared.tree.Tree.{Tree}
-use Rattle.crn_cert.specs.Trees.{Plan, plan, places}
+use Rattle.crn_cert.specs.declared.tree_node.TreeNode.{TreeNode}
+use Rattle.crn_cert.specs.declared.tree_node.TreeNode.TheVariants.{SplitTwo, SplitThree}
+use Rattle.crn_cert.specs.Trees.{Plan, places}
+use Rattle.crn_cert.specs.Preorder.{AreNodesOf, listed, preorder}
 use Rattle.crn_farkas.specs.declared.fault.Stop.{Stop}
 use Rattle.crn_farkas.specs.declared.fault.Stop.TheVariants.{Wide, NoMemory as StopMemory}
 use Rattle.crn_sign.specs.declared.end.SearchEnd.{SearchEnd}
@@ -37,29 +40,36 @@ pub record RunsOut (w : Signed) (due : List (List Sign)) (left after : ℕ) : Ty
   pub passes : Passes w due left
   pub none : after ≡ 0
 
--- a tree of one node that is valid at the prefix, which is not feasible
-pub record IsLeafAt (w : Signed) (p : List Sign) (tree : Plan) : Type 0 where
+-- the node of a tree of one node that is valid at the prefix, which is not feasible
+pub record IsLeafAt (w : Signed) (p : List Sign) (node : TreeNode) : Type 0 where
+  pub tree : Plan
+  pub nodes : AreNodesOf tree (node ∷ [])
   pub tree_at : IsTreeAt w p tree
   pub one : places p tree ≡ p ∷ []
   pub none : IsFeasible w p → ⊥
 
 -- a leaf for the prefix, or none if both its parts have solutions
-abbrev pub IsLeafOrNone : Signed → List Sign → Option Tree → Type 0
+abbrev pub IsLeafOrNone : Signed → List Sign → Option TreeNode → Type 0
 IsLeafOrNone w p None = ((x : List ℤ) × SolvesB w p x) × ((x : List ℤ) × SolvesA w p x)
-IsLeafOrNone w p (Some tree) = IsLeafAt w p (plan tree)
+IsLeafOrNone w p (Some node) = IsLeafAt w p node
 
--- the tree that is walked is given, if it is to be kept
-abbrev pub Keeps : Bool → Tree → Plan → Type 0
-Keeps keeps given walked = keeps ≡ true → plan given ≡ walked
+-- the node of a prefix that is split, which is one of zeros or any other
+abbrev pub split_node : Bool → TreeNode
+split_node true = SplitTwo
+split_node false = SplitThree
+
+-- the nodes of the tree that is walked are listed, if nodes are to be kept
+abbrev pub Lists : Bool → List TreeNode → List TreeNode → Plan → Type 0
+Lists keeps old new tree = keeps ≡ true → map listed new ≡ map listed old ++ preorder tree
 
 -- what the visit of a prefix, and of all below it, ends with
-abbrev pub EndsAt : Bool → Signed → List Sign → ℕ → ℕ → Ending → Type 0
-EndsAt keeps w p left after (Found f) =
+abbrev pub EndsAt : Bool → Signed → List Sign → ℕ → ℕ → List TreeNode → List TreeNode → Ending → Type 0
+EndsAt keeps w p left after old new (Found f) =
     IsFeasibleBy w f.value.pattern f.value.a.list f.value.b.list
     × EndsWith w (p ∷ []) left after f.value.pattern
-EndsAt keeps w p left after (Refuted given) = (tree : Plan) × Keeps keeps given tree
+EndsAt keeps w p left after old new Refuted = (tree : Plan) × Lists keeps old new tree
     × IsTreeAt w p tree × EndsWithout w (p ∷ []) (places p tree) left after
-EndsAt keeps w p left after Spent = RunsOut w (p ∷ []) left after
+EndsAt keeps w p left after old new Spent = RunsOut w (p ∷ []) left after
 
 -- the visits of a tree's nodes below its root
 pub record BelowRoot (w : Signed) (p : List Sign) (tree : Plan) (left after : ℕ) : Type 0 where
@@ -68,32 +78,38 @@ pub record BelowRoot (w : Signed) (p : List Sign) (tree : Plan) (left after : �
   pub ends : EndsWithout w (children p) rest left after
 
 -- what the visits of a prefix's children, and of all below them, end with
-abbrev pub EndsBelow : Bool → Signed → List Sign → ℕ → ℕ → Ending → Type 0
-EndsBelow keeps w p left after (Found f) =
+abbrev pub EndsBelow : Bool → Signed → List Sign → ℕ → ℕ → List TreeNode → List TreeNode → Ending → Type 0
+EndsBelow keeps w p left after old new (Found f) =
     IsFeasibleBy w f.value.pattern f.value.a.list f.value.b.list
     × EndsWith w (children p) left after f.value.pattern
-EndsBelow keeps w p left after (Refuted given) = (tree : Plan) × Keeps keeps given tree
+EndsBelow keeps w p left after old new Refuted = (tree : Plan) × Lists keeps old new tree
     × IsTreeAt w p tree × BelowRoot w p tree left after
-EndsBelow keeps w p left after Spent = RunsOut w (children p) left after
+EndsBelow keeps w p left after old new Spent = RunsOut w (children p) left after
 
 -- the full prefix, with solutions of its parts
 abbrev pub IsFoundAt : Signed → List Sign → Ending → Type 0
 IsFoundAt w p (Found f) = (f.value.pattern ≡ p)
     × IsFeasibleBy w p f.value.a.list f.value.b.list
-IsFoundAt w p (Refuted tree) = ⊥
+IsFoundAt w p Refuted = ⊥
 IsFoundAt w p Spent = ⊥
 
 -- how a search ended whose visits ended so, without the tree
 abbrev pub outcome_at : Ending → SearchOutcome
 outcome_at (Found f) = FoundOutcome f.value.pattern f.value.a f.value.b
-outcome_at (Refuted given) = RefutedOutcome
+outcome_at Refuted = RefutedOutcome
 outcome_at Spent = SpentOutcome
 
--- how a search ended whose visits ended so
-abbrev pub end_of : Ending → SearchEnd
-end_of (Found f) = FoundEnd f.value.pattern f.value.a f.value.b
-end_of (Refuted tree) = RefutedEnd tree
-end_of Spent = SpentEnd
+-- the nodes are those of a tree, if visits that ended so walked one
+abbrev pub HasTree : Ending → List TreeNode → Type 0
+HasTree (Found f) nodes = Unit {0}
+HasTree Refuted nodes = (tree : Plan) × AreNodesOf tree nodes
+HasTree Spent nodes = Unit {0}
+
+-- how a search ended whose visits ended so, and listed these nodes
+abbrev pub IsEndOf : Ending → List TreeNode → SearchEnd → Type 0
+IsEndOf (Found f) nodes e = e ≡ FoundEnd f.value.pattern f.value.a f.value.b
+IsEndOf Refuted nodes e = (tree : Plan) × (e ≡ RefutedEnd tree) × AreNodesOf tree nodes
+IsEndOf Spent nodes e = e ≡ SpentEnd
 
 -- the stop of part A's solver as the stop of the search
 abbrev pub IsWideA : Stop → SearchStop → Type 0

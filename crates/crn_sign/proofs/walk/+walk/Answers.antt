@@ -1,12 +1,14 @@
 use Rattle.std.proofs.Common.{◌≡◌, ◌+◌, List, [], ◌∷◌, ◌++◌, length, refl, sym, ◌∙◌, ap, subst, arith, rules}
 use Rattle.crn_vec.specs.declared.signs.Sign.TheVariants.{Zero, Plus, Minus}
 use Rattle.crn_sign.specs.declared.bits.Bits.{Bits}
-use Rattle.crn_sign.specs.Inner.Walk.{EndsAt, EndsBelow, IsFoundAt}
+use Rattle.crn_cert.specs.declared.tree_node.TreeNode.{TreeNode}
+use Rattle.crn_cert.specs.Preorder.{ListsBoth, ListsThree, listed}
+use Rattle.crn_sign.specs.Inner.Walk.{EndsAt, EndsBelow, IsFoundAt, split_node}
 use Rattle.crn_vec.specs.declared.signs.Sign.{Sign}
 use Rattle.crn_vec.specs.Problems.{Signed, IsFeasible, all_zero}
 use Rattle.crn_sign.specs.Inner.Ready.{AreAround, AreRoomsBelow}
 use Rattle.crn_sign.proofs.PlaceLaws.{asked_around, level_moved, taken_back}
-use Rattle.crn_sign.proofs.Walks.{run_out, feasible_from, flat_at, leaf_at, found_at, opened_at, child_tree, first_child, second_child, third_child, both_trees, three_trees}
+use Rattle.crn_sign.proofs.Walks.{run_out, feasible_from, leaf_flat, leaf_at, ListsOne, lists_one, found_at, opened_at, child_tree, first_child, second_child, third_child, both_trees}
 use Rattle.crn_sign.proofs.walk.+walk.Goals as goal
 
 pub walk-returns-then-search-eq0-clause-answer : goal.walk-returns-then-search-eq0-clause-answer
@@ -15,7 +17,9 @@ walk-returns-then-search-eq0-clause-answer g t c = run_out (g.P.SignProblem.sign
 pub walk-returns-then-closed-clause-answer : goal.walk-returns-then-closed-clause-answer
 walk-returns-then-closed-clause-answer g t c =
     let w : Signed = g.P.SignProblem.signed c.args.problem.now in
-    flat_at c.args.keeps w c.args.search.now.prefix.items c.args.search.now.left _ (omega arith) (ap (λ (p : List Sign). w.closed p) (sym c.deref.ensures.value) ∙ sym c.closed.ensures ∙ c.if-closed.true)
+    let p : List Sign = c.args.search.now.prefix.items in
+    let l = leaf_flat w p (ap (λ (q : List Sign). w.closed q) (sym c.deref.ensures.value) ∙ sym c.closed.ensures ∙ c.if-closed.true) in
+    leaf_at c.args.keeps w p _ c.args.search.now.left _ c.args.nodes.now.items c.list_node.new.nodes.items (omega arith) c.in_ok-list_node.ensures l
 
 pub split-returns-in_default : goal.split-returns-in_default
 split-returns-in_default g t c = record {
@@ -23,96 +27,102 @@ split-returns-in_default g t c = record {
   ready = c.in_ok-end.ensures.ready;
   next = c.in_ok-end.ensures.next;
   rest = c.in_ok-end.ensures.rest;
-  answer = first_child c.args.keeps (g.P.SignProblem.signed c.args.problem.now) c.args.search.now.prefix.items c.args.search.now.left c.child.new.search.left c.in_ok-end.end c.in_default.not-Refuted c.in_ok-end.ensures.answer;
+  answer = first_child c.args.keeps (g.P.SignProblem.signed c.args.problem.now) c.args.search.now.prefix.items c.args.search.now.left c.child.new.search.left c.args.nodes.now.items c.list_node.new.nodes.items c.child.new.nodes.items c.in_ok-end.end c.in_default.not-Refuted c.in_ok-end.ensures.answer;
 }
 
 pub split-returns-in_default-2 : goal.split-returns-in_default-2
 split-returns-in_default-2 g t c =
     let w : Signed = g.P.SignProblem.signed c.args.problem.now in
     let p : List Sign = c.args.search.now.prefix.items in
-    let z = child_tree c.args.keeps w (p ++ Zero ∷ []) c.args.search.now.left c.child.new.search.left c.in_ok-end.end c.in-Refuted.tree c.in_ok-end.ensures.answer c.in-Refuted.is in
-    let a = subst (λ (q : List Sign). EndsAt c.args.keeps w (q ++ Plus ∷ []) c.child.new.search.left c.child-2.new.search.left c.in_ok-end-2.end) c.in_ok-end.ensures.prefix c.in_ok-end-2.ensures.answer in
+    let first : List TreeNode = c.child.new.nodes.items in
+    let new : List TreeNode = c.child-2.new.nodes.items in
+    let z = child_tree c.args.keeps w (p ++ Zero ∷ []) c.args.search.now.left c.child.new.search.left c.list_node.new.nodes.items first c.in_ok-end.end c.in_ok-end.ensures.answer c.in-Refuted.is in
+    let a = subst (λ (q : List Sign). EndsAt c.args.keeps w (q ++ Plus ∷ []) c.child.new.search.left c.child-2.new.search.left first new c.in_ok-end-2.end) c.in_ok-end.ensures.prefix c.in_ok-end-2.ensures.answer in
     record {
       prefix = c.in_ok-end-2.ensures.prefix ∙ c.in_ok-end.ensures.prefix;
       ready = c.in_ok-end-2.ensures.ready;
       next = subst (λ (q : List Sign). AreAround w q c.child-2.new.next) c.in_ok-end.ensures.prefix c.in_ok-end-2.ensures.next;
       rest = subst (λ (q : List Sign). AreRoomsBelow w q c.child-2.new.rest) c.in_ok-end.ensures.prefix c.in_ok-end-2.ensures.rest;
-      answer = second_child c.args.keeps w p _ c.args.search.now.left c.child.new.search.left c.child-2.new.search.left c.in_ok-end-2.end z c.in_default-2.not-Refuted a;
+      answer = second_child c.args.keeps w p c.args.search.now.left c.child.new.search.left c.child-2.new.search.left c.args.nodes.now.items c.list_node.new.nodes.items first new c.in_ok-end-2.end z c.in_default-2.not-Refuted a;
     }
 
 pub split-returns-then-zeros-clause-answer : goal.split-returns-then-zeros-clause-answer
 split-returns-then-zeros-clause-answer g t c =
     let w : Signed = g.P.SignProblem.signed c.args.problem.now in
     let p : List Sign = c.args.search.now.prefix.items in
-    let z = child_tree c.args.keeps w (p ++ Zero ∷ []) c.args.search.now.left c.child.new.search.left c.in_ok-end.end c.in-Refuted.tree c.in_ok-end.ensures.answer c.in-Refuted.is in
-    let a = subst (λ (q : List Sign). EndsAt c.args.keeps w (q ++ Plus ∷ []) c.child.new.search.left c.child-2.new.search.left c.in_ok-end-2.end) c.in_ok-end.ensures.prefix c.in_ok-end-2.ensures.answer in
-    let q = child_tree c.args.keeps w (p ++ Plus ∷ []) c.child.new.search.left c.child-2.new.search.left c.in_ok-end-2.end c.in-Refuted-2.tree a c.in-Refuted-2.is in
-    both_trees c.args.keeps w p _ _ c.in_ok-tree.tree c.args.search.now.left c.child.new.search.left c.child-2.new.search.left c.in_ok-tree.ensures c.requires.room (ap all_zero (sym c.deref.ensures.value) ∙ sym c.is_all_zero-zeros.ensures ∙ c.if-zeros.true) z q
-
-pub split-returns-in_default-3 : goal.split-returns-in_default-3
-split-returns-in_default-3 g t c =
-    let w : Signed = g.P.SignProblem.signed c.args.problem.now in
-    let p : List Sign = c.args.search.now.prefix.items in
-    let z = child_tree c.args.keeps w (p ++ Zero ∷ []) c.args.search.now.left c.child.new.search.left c.in_ok-end.end c.in-Refuted.tree c.in_ok-end.ensures.answer c.in-Refuted.is in
-    let a = subst (λ (q : List Sign). EndsAt c.args.keeps w (q ++ Plus ∷ []) c.child.new.search.left c.child-2.new.search.left c.in_ok-end-2.end) c.in_ok-end.ensures.prefix c.in_ok-end-2.ensures.answer in
-    let q = child_tree c.args.keeps w (p ++ Plus ∷ []) c.child.new.search.left c.child-2.new.search.left c.in_ok-end-2.end c.in-Refuted-2.tree a c.in-Refuted-2.is in
-    let b = subst (λ (q : List Sign). EndsAt c.args.keeps w (q ++ Minus ∷ []) c.child-2.new.search.left c.child-3.new.search.left c.in_ok-end-3.end) (c.in_ok-end-2.ensures.prefix ∙ c.in_ok-end.ensures.prefix) c.in_ok-end-3.ensures.answer in
-    record {
-      prefix = c.in_ok-end-3.ensures.prefix ∙ c.in_ok-end-2.ensures.prefix ∙ c.in_ok-end.ensures.prefix;
-      ready = c.in_ok-end-3.ensures.ready;
-      next = subst (λ (q : List Sign). AreAround w q c.child-3.new.next) (c.in_ok-end-2.ensures.prefix ∙ c.in_ok-end.ensures.prefix) c.in_ok-end-3.ensures.next;
-      rest = subst (λ (q : List Sign). AreRoomsBelow w q c.child-3.new.rest) (c.in_ok-end-2.ensures.prefix ∙ c.in_ok-end.ensures.prefix) c.in_ok-end-3.ensures.rest;
-      answer = third_child c.args.keeps w p _ _ c.args.search.now.left c.child.new.search.left c.child-2.new.search.left c.child-3.new.search.left c.in_ok-end-3.end (ap all_zero (sym c.deref.ensures.value) ∙ sym c.is_all_zero-zeros.ensures ∙ c.if-zeros.false) z q c.in_default-3.not-Refuted b;
-    }
+    let old : List TreeNode = c.args.nodes.now.items in
+    let root : List TreeNode = c.list_node.new.nodes.items in
+    let first : List TreeNode = c.child.new.nodes.items in
+    let new : List TreeNode = c.child-2.new.nodes.items in
+    let one : ListsOne c.args.keeps old root ListsBoth = lists_one c.args.keeps old root _ ListsBoth (ap listed (c.split_node.ensures ∙ ap split_node c.if-zeros.true)) c.in_ok-list_node.ensures in
+    let z = child_tree c.args.keeps w (p ++ Zero ∷ []) c.args.search.now.left c.child.new.search.left root first c.in_ok-end.end c.in_ok-end.ensures.answer c.in-Refuted.is in
+    let a = subst (λ (q : List Sign). EndsAt c.args.keeps w (q ++ Plus ∷ []) c.child.new.search.left c.child-2.new.search.left first new c.in_ok-end-2.end) c.in_ok-end.ensures.prefix c.in_ok-end-2.ensures.answer in
+    let q = child_tree c.args.keeps w (p ++ Plus ∷ []) c.child.new.search.left c.child-2.new.search.left first new c.in_ok-end-2.end a c.in-Refuted-2.is in
+    both_trees c.args.keeps w p c.args.search.now.left c.child.new.search.left c.child-2.new.search.left old root first new one c.requires.room (ap all_zero (sym c.deref.ensures.value) ∙ sym c.is_all_zero-zeros.ensures ∙ c.if-zeros.true) z q
 
 pub split-returns-clause-answer : goal.split-returns-clause-answer
 split-returns-clause-answer g t c =
     let w : Signed = g.P.SignProblem.signed c.args.problem.now in
     let p : List Sign = c.args.search.now.prefix.items in
-    let z = child_tree c.args.keeps w (p ++ Zero ∷ []) c.args.search.now.left c.child.new.search.left c.in_ok-end.end c.in-Refuted.tree c.in_ok-end.ensures.answer c.in-Refuted.is in
-    let a = subst (λ (q : List Sign). EndsAt c.args.keeps w (q ++ Plus ∷ []) c.child.new.search.left c.child-2.new.search.left c.in_ok-end-2.end) c.in_ok-end.ensures.prefix c.in_ok-end-2.ensures.answer in
-    let q = child_tree c.args.keeps w (p ++ Plus ∷ []) c.child.new.search.left c.child-2.new.search.left c.in_ok-end-2.end c.in-Refuted-2.tree a c.in-Refuted-2.is in
-    let b = subst (λ (q : List Sign). EndsAt c.args.keeps w (q ++ Minus ∷ []) c.child-2.new.search.left c.child-3.new.search.left c.in_ok-end-3.end) (c.in_ok-end-2.ensures.prefix ∙ c.in_ok-end.ensures.prefix) c.in_ok-end-3.ensures.answer in
-    let m = child_tree c.args.keeps w (p ++ Minus ∷ []) c.child-2.new.search.left c.child-3.new.search.left c.in_ok-end-3.end c.in-Refuted-3.tree b c.in-Refuted-3.is in
-    three_trees c.args.keeps w p _ _ _ c.in_ok-tree-2.tree c.args.search.now.left c.child.new.search.left c.child-2.new.search.left c.child-3.new.search.left c.in_ok-tree-2.ensures c.requires.room (ap all_zero (sym c.deref.ensures.value) ∙ sym c.is_all_zero-zeros.ensures ∙ c.if-zeros.false) z q m
+    let old : List TreeNode = c.args.nodes.now.items in
+    let root : List TreeNode = c.list_node.new.nodes.items in
+    let first : List TreeNode = c.child.new.nodes.items in
+    let second : List TreeNode = c.child-2.new.nodes.items in
+    let new : List TreeNode = c.child-3.new.nodes.items in
+    let one : ListsOne c.args.keeps old root ListsThree = lists_one c.args.keeps old root _ ListsThree (ap listed (c.split_node.ensures ∙ ap split_node c.if-zeros.false)) c.in_ok-list_node.ensures in
+    let z = child_tree c.args.keeps w (p ++ Zero ∷ []) c.args.search.now.left c.child.new.search.left root first c.in_ok-end.end c.in_ok-end.ensures.answer c.in-Refuted.is in
+    let a = subst (λ (q : List Sign). EndsAt c.args.keeps w (q ++ Plus ∷ []) c.child.new.search.left c.child-2.new.search.left first second c.in_ok-end-2.end) c.in_ok-end.ensures.prefix c.in_ok-end-2.ensures.answer in
+    let q = child_tree c.args.keeps w (p ++ Plus ∷ []) c.child.new.search.left c.child-2.new.search.left first second c.in_ok-end-2.end a c.in-Refuted-2.is in
+    let b = subst (λ (q : List Sign). EndsAt c.args.keeps w (q ++ Minus ∷ []) c.child-2.new.search.left c.child-3.new.search.left second new c.in_ok-end-3.end) (c.in_ok-end-2.ensures.prefix ∙ c.in_ok-end.ensures.prefix) c.in_ok-end-3.ensures.answer in
+    third_child c.args.keeps w p c.args.search.now.left c.child.new.search.left c.child-2.new.search.left c.child-3.new.search.left old root first second new c.in_ok-end-3.end one c.requires.room (ap all_zero (sym c.deref.ensures.value) ∙ sym c.is_all_zero-zeros.ensures ∙ c.if-zeros.false) z q b
+
+pub split-returns-clause-next : goal.split-returns-clause-next
+split-returns-clause-next g t c =
+    let w : Signed = g.P.SignProblem.signed c.args.problem.now in
+    subst (λ (q : List Sign). AreAround w q c.child-3.new.next) (c.in_ok-end-2.ensures.prefix ∙ c.in_ok-end.ensures.prefix) c.in_ok-end-3.ensures.next
+
+pub split-returns-clause-rest : goal.split-returns-clause-rest
+split-returns-clause-rest g t c =
+    let w : Signed = g.P.SignProblem.signed c.args.problem.now in
+    subst (λ (q : List Sign). AreRoomsBelow w q c.child-3.new.rest) (c.in_ok-end-2.ensures.prefix ∙ c.in_ok-end.ensures.prefix) c.in_ok-end-3.ensures.rest
 
 pub walk-returns-in-Some-clause-answer : goal.walk-returns-in-Some-clause-answer
 walk-returns-in-Some-clause-answer g t c =
     let w : Signed = g.P.SignProblem.signed c.args.problem.now in
     let p : List Sign = c.args.search.now.prefix.items in
-    let d = rw c.in-Some.is at c.in_ok-tree.ensures.answer in
-    leaf_at c.args.keeps w p c.in-Some.tree c.args.search.now.left _ (omega (arith, c.in_ok-tree.ensures.place.left)) d
+    let d = rw c.in-Some.is at c.in_ok-node.ensures.answer in
+    leaf_at c.args.keeps w p c.in-Some.node c.args.search.now.left _ c.args.nodes.now.items c.list_node-in-Some.new.nodes.items (omega (arith, c.in_ok-node.ensures.place.left)) c.in_ok-list_node-2.ensures d
 
 pub walk-returns-then-len-length-clause-answer : goal.walk-returns-then-len-length-clause-answer
 walk-returns-then-len-length-clause-answer g t c =
     let w : Signed = g.P.SignProblem.signed c.args.problem.now in
-    let f = subst (λ (p : List Sign). IsFoundAt w p c.in_ok-end.end) c.in_ok-tree.ensures.place.prefix c.in_ok-end.ensures.answer in
-    found_at c.args.keeps w c.args.search.now.prefix.items c.args.search.now.left _ c.in_ok-end.end (omega (arith, c.in_ok-tree.ensures.place.left, c.in_ok-end.ensures.place.left)) f
+    let f = subst (λ (p : List Sign). IsFoundAt w p c.in_ok-end.end) c.in_ok-node.ensures.place.prefix c.in_ok-end.ensures.answer in
+    found_at c.args.keeps w c.args.search.now.prefix.items c.args.search.now.left _ c.args.nodes.now.items c.args.nodes.now.items c.in_ok-end.end (omega (arith, c.in_ok-node.ensures.place.left, c.in_ok-end.ensures.place.left)) f
 
 pub walk-found_end-requires-clause-feasible : goal.walk-found_end-requires-clause-feasible
 walk-found_end-requires-clause-feasible g t c =
     let w : Signed = g.P.SignProblem.signed c.args.problem.now in
     let p : List Sign = c.args.search.now.prefix.items in
-    let d = rw c.in_default.is at c.in_ok-tree.ensures.answer in
+    let d = rw c.in_default.is at c.in_ok-node.ensures.answer in
     let s = feasible_from w p p refl (ap (λ (q : List Sign). w.closed q) (sym c.deref.ensures.value) ∙ sym c.closed.ensures ∙ c.if-closed.false) d.0 d.1 in
-    subst (IsFeasible w) (sym c.in_ok-tree.ensures.place.prefix) s
+    subst (IsFeasible w) (sym c.in_ok-node.ensures.place.prefix) s
 
 pub walk-returns-clause-answer : goal.walk-returns-clause-answer
 walk-returns-clause-answer g t c =
     let w : Signed = g.P.SignProblem.signed c.args.problem.now in
     let p : List Sign = c.args.search.now.prefix.items in
-    let d = rw c.in_default.is at c.in_ok-tree.ensures.answer in
-    let same = c.in_ok-tree.ensures.place.prefix in
+    let d = rw c.in_default.is at c.in_ok-node.ensures.answer in
+    let same = c.in_ok-node.ensures.place.prefix in
     let s = feasible_from w p p refl (ap (λ (q : List Sign). w.closed q) (sym c.deref.ensures.value) ∙ sym c.closed.ensures ∙ c.if-closed.false) d.0 d.1 in
-    let e = subst (λ (q : List Sign). EndsBelow c.args.keeps w q c.rule_out.new.search.left c.split.new.search.left c.in_ok-end-2.end) same c.in_ok-end-2.ensures.answer in
+    let e = subst (λ (q : List Sign). EndsBelow c.args.keeps w q c.rule_out.new.search.left c.split.new.search.left c.args.nodes.now.items c.split.new.nodes.items c.in_ok-end-2.end) same c.in_ok-end-2.ensures.answer in
     let long : length c.rule_out.new.search.prefix.items ≡ length p = ap (λ (q : List Sign). length q) same in
-    let one : c.rule_out.new.search.left + 1 ≡ c.args.search.now.left = omega (arith, c.in_ok-tree.ensures.place.left) in
-    opened_at c.args.keeps w p c.args.search.now.left c.rule_out.new.search.left c.split.new.search.left c.in_ok-end-2.end one s (λ (f : length p ≡ w.choices). omega (arith, f, long, c.len.ensures, c.length.ensures.choices, c.if-len-length.false)) e
+    let one : c.rule_out.new.search.left + 1 ≡ c.args.search.now.left = omega (arith, c.in_ok-node.ensures.place.left) in
+    opened_at c.args.keeps w p c.args.search.now.left c.rule_out.new.search.left c.split.new.search.left c.args.nodes.now.items c.split.new.nodes.items c.in_ok-end-2.end one s (λ (f : length p ≡ w.choices). omega (arith, f, long, c.len.ensures, c.length.ensures.choices, c.if-len-length.false)) e
 
 pub walk-at_level-requires : goal.walk-at_level-requires
 walk-at_level-requires g t c =
     let w : Signed = g.P.SignProblem.signed c.args.problem.now in
-    level_moved w c.args.search.now.prefix.items c.rule_out.new.search.prefix.items c.rule_out.new.here c.in_ok-tree.ensures.place.prefix (rw c.in_default.is at c.in_ok-tree.ensures.here)
+    level_moved w c.args.search.now.prefix.items c.rule_out.new.search.prefix.items c.rule_out.new.here c.in_ok-node.ensures.place.prefix (rw c.in_default.is at c.in_ok-node.ensures.here)
 
 pub child-returns-clause-ready : goal.child-returns-clause-ready
 child-returns-clause-ready g t c =

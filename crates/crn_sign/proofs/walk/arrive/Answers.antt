@@ -1,4 +1,4 @@
-use Rattle.std.proofs.Common.{List, subst}
+use Rattle.std.proofs.Common.{List, refl, subst}
 use Rattle.crn_vec.specs.declared.signs.Sign.{Sign}
 use Rattle.crn_vec.specs.Problems.{Signed}
 use Rattle.crn_farkas.specs.Decision.{IsSmallCut}
@@ -11,14 +11,14 @@ pub returns-in-Some-clause-leaf : goal.returns-in-Some-clause-leaf
 returns-in-Some-clause-leaf g c =
     let w : Signed = g.P.SignProblem.signed c.args.problem.now in
     let d = rw c.in-Some.is at c.in_ok-u.ensures.cut in
-    leaf_b w c.args.search.now.prefix.items c.in-Some.u.value.list d
+    leaf_b w c.args.search.now.prefix.items c.in-Some.u.value.list _ refl d
 
 pub returns-in-Some-2-clause-leaf : goal.returns-in-Some-2-clause-leaf
 returns-in-Some-2-clause-leaf g c =
     let w : Signed = g.P.SignProblem.signed c.args.problem.now in
     let d = rw c.in-Some-2.is at c.in_ok-u-2.ensures.cut in
     let e = subst (λ (p : List Sign). IsSmallCut w.matrix_a (w.kinds_a p) c.in-Some-2.u.value.list) c.in_ok-u.ensures.place.prefix d in
-    leaf_a w c.args.search.now.prefix.items c.in-Some-2.u.value.list e
+    leaf_a w c.args.search.now.prefix.items c.in-Some-2.u.value.list _ refl e
 
 pub returns-clause-leaf : goal.returns-clause-leaf
 returns-clause-leaf g c =

@@ -9,4 +9,4 @@ pub returns : goal.returns
 returns g c =
     let w : Signed = g.P.SignProblem.signed c.args.problem.now in
     let h = c.in_ok-end.ensures in
-    subst (λ (o : SearchOutcome). IsOutcome w c.args.budget o) (sym c.outcome_at.ensures) (search_outcome c.args.alloc w c.args.budget h.0 c.in_ok-end.end h.1)
+    subst (λ (o : SearchOutcome). IsOutcome w c.args.budget o) (sym c.outcome_at.ensures) (search_outcome w c.args.budget h.0 _ _ c.in_ok-end.end h.1)

@@ -10,6 +10,8 @@ returns g c =
     let k = c.args.keeps in
     let e = c.in_ok-end.end in
     let after = c.walk.new.search.left in
+    let old = c.args.nodes.now.items in
+    let new = c.walk.new.nodes.items in
     let s = c.in_ok-search.ensures in
-    let at = subst (λ (n : ℕ). EndsAt k w c.in_ok-search.search.prefix.items n after e) s.left c.in_ok-end.ensures.answer in
-    (after, subst (λ (p : List Sign). EndsAt k w p c.args.budget after e) s.prefix at)
+    let at = subst (λ (n : ℕ). EndsAt k w c.in_ok-search.search.prefix.items n after old new e) s.left c.in_ok-end.ensures.answer in
+    (after, subst (λ (p : List Sign). EndsAt k w p c.args.budget after old new e) s.prefix at)

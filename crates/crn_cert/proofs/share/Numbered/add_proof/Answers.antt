@@ -1,7 +1,6 @@
 use Rattle.std.proofs.Common.{◌∙◌, ◌++◌, List, ap, sym, subst, append_assoc}
 use Rattle.std.specs.Prelude.{ℤ}
 use Rattle.std.proofs.lemmas.Result.{on_ok_weaker}
-use Rattle.crn_cert.specs.Trees.{plan}
 use Rattle.crn_cert.specs.Shares.{cuts_of, cuts_in}
 use Rattle.crn_cert.specs.Inner.Numbered.{AreNumbered}
 use Rattle.crn_cert.proofs.share.Numbered.add_proof.Goals as goal
@@ -9,8 +8,8 @@ use Rattle.crn_cert.proofs.share.Numbered.add_proof.Goals as goal
 pub returns-in_ok-add_tree-in-Two-clause-added :
     goal.returns-in_ok-add_tree-in-Two-clause-added
 returns-in_ok-add_tree-in-Two-clause-added c =
-    let first = cuts_of (plan c.in-Two.tree) in
-    let second = cuts_of (plan c.in-Two.second) in
+    let first = cuts_of c.in-Two.tree in
+    let second = cuts_of c.in-Two.second in
     let made = c.add_tree-in-Two-2.new.self in
     on_ok_weaker c.add_tree-in-Two-2.result
     (λ added us h.

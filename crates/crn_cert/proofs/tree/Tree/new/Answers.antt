@@ -1,0 +1,14 @@
+use Rattle.std.proofs.Common.{◌≡◌, ◌∙◌, List, sym, ap}
+use Rattle.crn_cert.specs.Preorder.{Listed, tree_of, preorder, trees_of, first_tree}
+use Rattle.crn_cert.specs.PlanCode.{plan_back}
+use Rattle.crn_cert.proofs.tree.Tree.new.Goals as goal
+
+pub invariant_of-result : goal.invariant_of-result
+invariant_of-result c =
+    let same : tree_of c.args.nodes.items ≡ c.requires.0 = ap (λ (ls : List Listed). first_tree (trees_of ls)) c.requires.1 ∙ plan_back c.requires.0 in
+    c.requires.1 ∙ ap preorder (sym same)
+
+pub returns : goal.returns
+returns c =
+    let same : tree_of c.args.nodes.items ≡ c.requires.0 = ap (λ (ls : List Listed). first_tree (trees_of ls)) c.requires.1 ∙ plan_back c.requires.0 in
+    c.requires.1 ∙ ap preorder (sym same)

@@ -1,0 +1,11 @@
+use Rattle.std.proofs.Common.{◌≡◌, take}
+use Rattle.crn_io.specs.Write.{WroteAll}
+use Rattle.crn_ctext.specs.Documents.{record_lines, written}
+use Rattle.crn_ctext.specs.Inner.Written.{leaves_after}
+use Rattle.crn_ctext.proofs.NodesWritten.{node_records}
+use Rattle.crn_ctext.proofs.write_tree.put_tree.Given as goal
+
+abbrev pub invariant-loop-node : goal.invariant-loop-node
+invariant-loop-node g l =
+    let done = node_records (take l.node-index l.node-items) in
+    WroteAll (record_lines (written l.leaf done)) (g.K.Sink.seen l.initial.sink) (g.K.Sink.seen l.sink) × (l.rest ≡ leaves_after done l.leaf)
