@@ -35,6 +35,8 @@ pub use Rattle.crn_cert.proofs.Treeless.{IsTreeless, rows_linkage, rows_strong, 
 pub use Rattle.crn_cert.proofs.TestLists.{hold_append, hold_parts}
 -- A basis and an index that name a wide vector have the form that an open answer requires.
 pub use Rattle.crn_cert.proofs.WideGaps.{wide_basis}
+-- Lists of small numbers are lists of numbers of a certificate.
+pub use Rattle.crn_cert.proofs.Narrow.{narrow_all}
 -- Trees by their prefixes.
 pub use Rattle.crn_cert.proofs.TreeSizes.{count_places, formed_tree}
 -- The verdict on weak reversibility.

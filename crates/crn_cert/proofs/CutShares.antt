@@ -6,7 +6,7 @@ use Rattle.std.specs.Ordering.{int_eq}
 use Rattle.std.specs.Cmp.Lexicographic.{pointwise}
 use Rattle.std.specs.Cmp.Rules.{signed_items}
 use Rattle.std.proofs.lemmas.Bool.{cases_Bool}
-use Rattle.crn_vec.specs.Lists.{IsIn, firsts}
+use Rattle.crn_vec.specs.Lists.{firsts}
 use Rattle.crn_vec.proofs.CallerLemmas.{firsts_from, all_in, all_from, in_take}
 use Rattle.crn_cert.specs.Shares.{HasAt, IsShareable, number_in, share_of_cuts, SharesFit}
 

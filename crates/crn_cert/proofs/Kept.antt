@@ -1,5 +1,5 @@
 -- The tests of confluence vectors and ties, against the definitions.
-use Rattle.std.proofs.Common.{◌≡◌, ◌≢◌, ℕ, zero, suc, ◌+◌, ◌-◌, ◌<◌, ◌≤◌, List, [], ◌∷◌, length, get_or, map, refl, sym, ap, subst, ◌∙◌, inl, inr, arith}
+use Rattle.std.proofs.Common.{◌≡◌, ◌≢◌, ℕ, zero, suc, ◌-◌, ◌<◌, ◌≤◌, List, [], ◌∷◌, length, get_or, map, refl, sym, ap, subst, ◌∙◌, inl, inr, arith}
 use Rattle.std.specs.Prelude.{ℤ, pos, ◌≤ℤ◌}
 use Rattle.std.specs.List.{AllByRecursion, range_with_len}
 use Rattle.crn_vec.specs.Network.{Net}
@@ -12,15 +12,11 @@ use Rattle.crn_vec.specs.Confluence.{InConfluenceSpace, HasConfluenceLine, HasNo
 use Rattle.crn_vec.specs.NetSystems.{confluence_system, by_species}
 use Rattle.crn_vec.proofs.CallerLemmas.{lt_or, past_end}
 use Rattle.crn_vec.proofs.CallerLemmas.{dot-comm, dots}
-use Rattle.crn_vec.proofs.CallerLemmas.{label_sum, label_sum_is, all_append}
+use Rattle.crn_vec.proofs.CallerLemmas.{label_sum, label_sum_is, all_append, all_range}
 use Rattle.crn_cert.specs.ConfluenceTests.{IsInSpace, DoTerminalsGather, IsTie}
 use Rattle.crn_cert.proofs.Ties.{IsKept, AreTied, zero_by_tie, one_line}
 
 -- ---- lists
-
-all_range : {A : Type 0} (P : A → Type 0) (f : ℕ → A) (a n : ℕ) → ((k : ℕ) → a ≤ k → k < a + n → P (f k)) → AllByRecursion P (map f (range_with_len a n))
-all_range P f a zero h = tt
-all_range P f a (suc n) h = (h a (omega arith) (omega arith), all_range P f (a + 1) n (λ k l m. h k (omega (arith, l)) (omega (arith, m))))
 
 dots_none : (rows : List (List ℤ)) (g : List ℤ) → AllByRecursion (λ r. dot r g ≡ pos 0) rows → (k : ℕ) → entry (dots rows g) k ≡ pos 0
 dots_none [] g h k = refl

@@ -24,6 +24,7 @@ mod Heads
 mod PairPlaces
 mod TopsNumbered
 mod TerminalCounts
+mod Narrow
 mod NoSignals
 mod ShapesExist
 mod VerdictsFormed

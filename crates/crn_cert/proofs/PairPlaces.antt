@@ -1,13 +1,12 @@
 -- The pairs that are computed from true strong classes are the linked pairs of terminal classes, each by its least reaction.
-use Rattle.std.proofs.Common.{◌≡◌, ℕ, zero, suc, ◌+◌, ◌-◌, ◌<◌, ◌≤◌, Bool, true, false, List, [], ◌∷◌, length, get_or, refl, sym, ap, subst, ◌∙◌, inl, inr, arith, ◌==◌, ◌&&◌, ◌||◌, not}
-use Rattle.std.specs.List.{range_with_len, list_any, filter}
+use Rattle.std.proofs.Common.{◌≡◌, ℕ, ◌+◌, ◌-◌, ◌<◌, ◌≤◌, Bool, true, false, List, [], ◌∷◌, length, get_or, refl, sym, ap, subst, ◌∙◌, inl, inr, arith, ◌==◌, ◌&&◌, ◌||◌, not}
+use Rattle.std.specs.List.{range_with_len, list_any}
 use Rattle.std.proofs.lemmas.Bool.{cases_Bool, eq-eqb, eqb-true}
 use Rattle.crn_vec.specs.Lists.{IsIn, IsAscending}
 use Rattle.crn_vec.specs.Network.{Net, IsNetwork}
 use Rattle.crn_vec.specs.CutPairs.{IsBetween, IsFirstOfPair}
-use Rattle.crn_vec.proofs.CallerLemmas.{eq_or}
 use Rattle.crn_vec.proofs.CallerLemmas.{reaction_in, inside_at, in_range, filter_from, filter_has, range_above, range_bounds, filter_above, above_ascending, and_cases, and_true}
-use Rattle.crn_vec.proofs.CallerLemmas.{or_right, not_true}
+use Rattle.crn_vec.proofs.CallerLemmas.{or_right, not_true, any_has}
 use Rattle.crn_cert.specs.Questions.{Earlier, Q2, on, count_of}
 use Rattle.crn_cert.specs.Says.{from_zero}
 use Rattle.crn_cert.specs.ClassTests.{of_class}
@@ -22,19 +21,6 @@ use Rattle.crn_cert.proofs.RankLaws.{from_zero_ascending}
 or_left : (a b : Bool) → a ≡ true → (a || b) ≡ true
 or_left true b e = refl
 or_left false b e = cc
-
-any_at : (test : ℕ → Bool) (a n c : ℕ) → a ≤ c → c < a + n → test c ≡ true → list_any test (range_with_len a n) ≡ true
-any_at test a zero c le lt e = absurd (omega (arith, le, lt))
-any_at test a (suc n) c le lt e = elim (eq_or c a) as (λ _. (test a || list_any test (range_with_len (a + 1) n)) ≡ true) [
-  | inl same ↦ or_left (test a) (list_any test (range_with_len (a + 1) n)) (subst (λ (k : ℕ). test k ≡ true) same e)
-  | inr ne ↦ or_right (test a) (list_any test (range_with_len (a + 1) n)) (any_at test (a + 1) n c (after c a le ne) (omega (arith, lt)) e)
-]
-  where
-    after : (c a : ℕ) → a ≤ c → (c ≡ a → ⊥) → a + 1 ≤ c
-    after zero zero l ne = absurd (ne refl)
-    after (suc c) zero l ne = omega arith
-    after zero (suc a) l ne = absurd (omega (arith, l))
-    after (suc c) (suc a) l ne = let h = after c a (omega (arith, l)) (λ e. ne (ap suc e)) in omega (arith, h)
 
 into_zero : (rs : List ℕ) (r : ℕ) → IsIn r rs → IsIn (r - 1) (from_zero rs)
 into_zero [] r i = absurd i
@@ -93,7 +79,7 @@ first_of net earlier n known k i =
           let q_at : ends_at net (q + 1) ≡ (y, z) = ap (λ (j : ℕ). get_or rs j (0, 0)) (omega arith) ∙ goes.1 in
           let same : is_same_pair (ends_at net (q + 1)) (ends_at net (k + 1)) ≡ true = ap (λ (e : ℕ × ℕ). is_same_pair e (ends_at net (k + 1))) q_at ∙ ap (λ (e : ℕ × ℕ). is_same_pair (y, z) e) at ∙ same_pair (y, z) p between in
           not_true (list_any (λ j. is_same_pair (ends_at net j) (ends_at net (k + 1))) (range_with_len 1 (k + 1 - 1))) t.1
-          (any_at (λ j. is_same_pair (ends_at net j) (ends_at net (k + 1))) 1 (k + 1 - 1) (q + 1) (omega arith) (omega (arith, less)) same);
+          (any_has (λ j. is_same_pair (ends_at net j) (ends_at net (k + 1))) (range_with_len 1 (k + 1 - 1)) (q + 1) (in_range (q + 1) 1 (k + 1 - 1) (omega arith) (omega (arith, less))) same);
     }
 
 place_of_first : (net : Net) (earlier : Earlier) → IsNetwork net → StrongKnown net (count_of (on earlier Q2)) (strong earlier) (exits earlier) → (k : ℕ) → IsFirstOfPair net.reactions k → IsIn (k + 1) (pair_places net earlier)

@@ -10,11 +10,11 @@ use Rattle.std.proofs.lemmas.Bool.{cases_Bool, cases_lt, true≢false}
 use Rattle.std.proofs.lemmas.List.{append-nil, map-append, length-append, length-take, take-append-le, take_more}
 use Rattle.indexmap.specs.IndexSet.{insert_key}
 use Rattle.crn_vec.specs.Lists.{IsIn, firsts}
-use Rattle.crn_vec.proofs.CallerLemmas.{firsts_known, firsts_new, firsts_from, firsts_has}
+use Rattle.crn_vec.proofs.CallerLemmas.{firsts_known, firsts_new, firsts_from, firsts_has, any_true}
 use Rattle.crn_cert.specs.declared.answer.Answer.{Answer}
 use Rattle.crn_cert.specs.declared.tree_node.TreeNode.{TreeNode}
 use Rattle.crn_cert.specs.Trees.{Plan, Both, Three, RulesA, RulesB, Level}
-use Rattle.crn_cert.specs.Preorder.{Listed, ListsBoth, ListsThree, ListsA, ListsB, ListsLevel, listed, preorder}
+use Rattle.crn_cert.specs.Preorder.{Listed, ListedSplitTwo, ListedSplitThree, ListedCutA, ListedCutB, ListedFlat, listed, preorder}
 use Rattle.crn_cert.specs.Shares.{cuts_of, cuts_in, all_cuts, number_in}
 use Rattle.crn_cert.specs.Inner.Numbered.{cuts_listed}
 
@@ -38,11 +38,11 @@ cuts_step xs k a e =
 
 cuts_apart : (xs ys : List Listed) → cuts_listed (xs ++ ys) ≡ cuts_listed xs ++ cuts_listed ys
 cuts_apart [] ys = refl
-cuts_apart (ListsBoth ∷ xs) ys = cuts_apart xs ys
-cuts_apart (ListsThree ∷ xs) ys = cuts_apart xs ys
-cuts_apart (ListsA u ∷ xs) ys = ap (λ (t : List (List ℤ)). u ∷ t) (cuts_apart xs ys)
-cuts_apart (ListsB u ∷ xs) ys = ap (λ (t : List (List ℤ)). u ∷ t) (cuts_apart xs ys)
-cuts_apart (ListsLevel ∷ xs) ys = cuts_apart xs ys
+cuts_apart (ListedSplitTwo ∷ xs) ys = cuts_apart xs ys
+cuts_apart (ListedSplitThree ∷ xs) ys = cuts_apart xs ys
+cuts_apart (ListedCutA u ∷ xs) ys = ap (λ (t : List (List ℤ)). u ∷ t) (cuts_apart xs ys)
+cuts_apart (ListedCutB u ∷ xs) ys = ap (λ (t : List (List ℤ)). u ∷ t) (cuts_apart xs ys)
+cuts_apart (ListedFlat ∷ xs) ys = cuts_apart xs ys
 
 -- the cuts of one node more
 pub cuts_node : (nodes : List TreeNode) (i : ℕ) (node : TreeNode) → i < length nodes → node ≡ get_or nodes i node → cuts_listed (map listed (take (i + 1) nodes)) ≡ cuts_listed (map listed (take i nodes)) ++ cuts_listed (listed node ∷ [])
@@ -67,11 +67,7 @@ cuts_all Level = refl
 -- ---- tables
 
 any_in : (ts : List (List ℤ)) (u : List ℤ) → list_any (same u) ts ≡ true → IsIn u ts
-any_in [] u e = absurd cc
-any_in (t ∷ ts) u e = elim (cases_Bool (same u t)) [
-  | inl hit ↦ inl ((signed_items u t).0 hit)
-  | inr miss ↦ let rest : list_any (same u) ts ≡ true = rw miss at e in inr (any_in ts u rest)
-]
+any_in ts u e = any_true (same u) u (λ t. let is = signed_items u t in (λ hit. sym (is.0 hit), λ e. is.1 (sym e))) ts e
 
 in_any : (ts : List (List ℤ)) (u : List ℤ) → IsIn u ts → list_any (same u) ts ≡ true
 in_any [] u h = absurd h

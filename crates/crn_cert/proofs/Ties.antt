@@ -1,8 +1,8 @@
 -- Ties show that the confluence space is a line, or holds only zero.
-use Rattle.std.proofs.Common.{◌≡◌, ◌≢◌, ℕ, zero, suc, ◌<◌, ◌≤◌, List, [], ◌∷◌, length, refl, sym, ap, subst, ◌∙◌, inl, inr, arith}
+use Rattle.std.proofs.Common.{◌≡◌, ◌≢◌, ℕ, ◌<◌, ◌≤◌, List, length, sym, ap, subst, ◌∙◌, inl, inr, arith}
 use Rattle.std.specs.Prelude.{ℤ, pos, ◌+ℤ◌, ◌-ℤ◌, ◌*ℤ◌}
 use Rattle.std.proofs.lemmas.Int.{ints}
-use lib.IntN.{*ℤ_comm, *ℤ-zero, zero-*ℤ}
+use lib.IntN.{*ℤ_comm, *ℤ-zero}
 use Rattle.crn_vec.specs.Network.{Net}
 use Rattle.crn_vec.specs.Vectors.{entry, dot}
 use Rattle.crn_vec.specs.Elementary.{AreProportional}
@@ -10,19 +10,10 @@ use Rattle.crn_vec.specs.NetSystems.{confluence_system}
 use Rattle.crn_vec.proofs.CallerLemmas.{no_zero, assoc, left-comm, mul-sub}
 use Rattle.crn_vec.proofs.CallerLemmas.{eq_or, past_end, lt_or}
 use Rattle.crn_vec.proofs.CallerLemmas.{listed, length-listed, entry-listed, across}
-use Rattle.crn_vec.proofs.CallerLemmas.{dots, dot_zero, ratios_cross, dot_single, zero_times}
+use Rattle.crn_vec.proofs.CallerLemmas.{dots, dot_zero, ratios_cross, dot_single, zero_times, dot_two}
 use Rattle.crn_cert.specs.ConfluenceTests.{IsTie, tie_at}
 
 -- ---- sums with one or two places
-
-pub dot_two : (v w : List ℤ) (c d : ℕ) → c ≢ d → ((i : ℕ) → i ≢ c → i ≢ d → entry v i *ℤ entry w i ≡ pos 0) → dot v w ≡ (entry v c *ℤ entry w c) +ℤ (entry v d *ℤ entry w d)
-dot_two [] w c d ne h = omega (arith, ints, zero-*ℤ (entry w c), zero-*ℤ (entry w d))
-dot_two (x ∷ v) [] c d ne h = omega (arith, ints, *ℤ-zero (entry (x ∷ v) c), *ℤ-zero (entry (x ∷ v) d))
-dot_two (x ∷ v) (y ∷ w) zero zero ne h = absurd (ne refl)
-dot_two (x ∷ v) (y ∷ w) zero (suc d) ne h = omega (arith, ints, dot_single v w d (λ i n. h (suc i) (λ e. omega arith) (λ e. n (omega (arith, e)))))
-dot_two (x ∷ v) (y ∷ w) (suc c) zero ne h = omega (arith, ints, dot_single v w c (λ i n. h (suc i) (λ e. n (omega (arith, e))) (λ e. omega arith)))
-dot_two (x ∷ v) (y ∷ w) (suc c) (suc d) ne h =
-    omega (arith, ints, h 0 (λ e. omega arith) (λ e. omega arith), dot_two v w c d (λ e. ne (ap suc e)) (λ i m n. h (suc i) (λ e. m (omega (arith, e))) (λ e. n (omega (arith, e)))))
 
 -- ---- a tie on a vector of the space
 

@@ -38,14 +38,14 @@ AreNumbersFor w Flats = Unit {0}
 AreNumbersFor w (CutsA u) = AreFree (length w.matrix_a.rows) u
 AreNumbersFor w (CutsB u) = AreFree (length w.matrix_b.rows) u
 
--- the prefixes that are due after a node
+-- the prefixes that are due after a node at the prefix p, before which `rest` were due as well
 abbrev pub rest_after : List Sign → List (List Sign) → Said → List (List Sign)
 rest_after p rest Splits = children p ++ rest
 rest_after p rest Flats = rest
 rest_after p rest (CutsA u) = rest
 rest_after p rest (CutsB u) = rest
 
--- the nodes fit the prefixes that are due, one after another, and leave these due
+-- the nodes fit the prefixes that are due first, one after another, and leave those that are due last
 pub data Passing (w : Signed) : List (List Sign) → List Said → List (List Sign) → Type 0 where
   done : {due : List (List Sign)} → Passing w due [] due
   then : {p : List Sign} {rest last : List (List Sign)} {node : Said} {more : List Said}
@@ -58,11 +58,11 @@ pub record AreOfTree (w : Signed) (p : List Sign) (said : List Said) : Type 0 wh
   pub valid : IsValid w p tree
   pub are : said ≡ nodes tree
 
--- nodes that fit from the root and leave nothing due are the nodes of a valid tree, and conversely
+-- nodes fit from the root and leave nothing due if and only if they are those of a valid tree
 pub record AreThoseOfTrees (w : Signed) : Type 0 where
   pub leaves : (tree : Plan) → IsValid w [] tree → Passing w root (nodes tree) []
   pub tree : (said : List Said) → Passing w root said [] → AreOfTree w [] said
 
--- in each sign problem the lists of nodes that leave nothing due are those of valid trees
+-- in each sign problem nodes leave nothing due if and only if they are those of a valid tree
 abbrev pub NodesOfValidTrees : Type 0
 NodesOfValidTrees = (w : Signed) → AreThoseOfTrees w

@@ -1,42 +1,42 @@
--- How the logic tells trees apart: by their nodes in preorder. It says nothing of what a tree means.
+-- The logic tells trees apart by their nodes in preorder. This says nothing of what a tree means.
 -- Source: this project's own.
 use Rattle.std.specs.Prelude.{◌≡◌, ℕ, zero, suc, ℤ, List, [], ◌∷◌, ◌++◌, refl}
 use Rattle.std.specs.Coded.{Coded, code_by, coded×, coded_ℕ, coded_ℤ, coded_list}
 use mathlib.Core.Path.{◌∙◌, sym, ap}
 use mathlib.Core.List.{append_assoc, append-nil}
 use Rattle.crn_cert.specs.Trees.{Plan, Both, Three, RulesA, RulesB, Level}
-use Rattle.crn_cert.specs.Preorder.{Listed, ListsBoth, ListsThree, ListsA, ListsB, ListsLevel, preorder, split_two, split_three, trees_of, first_tree}
+use Rattle.crn_cert.specs.Preorder.{Listed, ListedSplitTwo, ListedSplitThree, ListedCutA, ListedCutB, ListedFlat, preorder, split_two, split_three, trees_of, first_tree}
 
--- a listed node as a number and its multipliers
+-- a listed node as a number for what it is, and its multipliers
 abbrev node_number : Listed → ℕ × List ℤ
-node_number ListsLevel = (0, [])
-node_number ListsBoth = (1, [])
-node_number ListsThree = (2, [])
-node_number (ListsA u) = (3, u)
-node_number (ListsB u) = (4, u)
+node_number ListedFlat = (0, [])
+node_number ListedSplitTwo = (1, [])
+node_number ListedSplitThree = (2, [])
+node_number (ListedCutA u) = (3, u)
+node_number (ListedCutB u) = (4, u)
 
 -- the listed node of a number and multipliers
 abbrev numbered_node : ℕ × List ℤ → Listed
-numbered_node (zero, u) = ListsLevel
-numbered_node (suc zero, u) = ListsBoth
-numbered_node (suc (suc zero), u) = ListsThree
-numbered_node (suc (suc (suc zero)), u) = ListsA u
-numbered_node (suc (suc (suc (suc n))), u) = ListsB u
+numbered_node (zero, u) = ListedFlat
+numbered_node (suc zero, u) = ListedSplitTwo
+numbered_node (suc (suc zero), u) = ListedSplitThree
+numbered_node (suc (suc (suc zero)), u) = ListedCutA u
+numbered_node (suc (suc (suc (suc n))), u) = ListedCutB u
 
--- it is the one that has them
+-- that is the node itself
 pub number_back : (node : Listed) → numbered_node (node_number node) ≡ node
-number_back ListsLevel = refl
-number_back ListsBoth = refl
-number_back ListsThree = refl
-number_back (ListsA u) = refl
-number_back (ListsB u) = refl
+number_back ListedFlat = refl
+number_back ListedSplitTwo = refl
+number_back ListedSplitThree = refl
+number_back (ListedCutA u) = refl
+number_back (ListedCutB u) = refl
 
 -- a listed node is stored as that pair
 abbrev pub listed_code : Coded Listed
 listed_code =
     code_by (ℕ × List ℤ) (coded× coded_ℕ (coded_list coded_ℤ)) node_number numbered_node number_back
 
--- the nodes of a tree, and more, are those of the tree and of the trees of these
+-- the trees of a tree's nodes and of more nodes are the tree, and then the trees of those
 pub trees_back : (tree : Plan) (more : List Listed)
     → trees_of (preorder tree ++ more) ≡ tree ∷ trees_of more
 trees_back (Both z q) more =

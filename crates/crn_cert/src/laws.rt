@@ -1,5 +1,6 @@
 ghost use Rattle.crn_cert.specs.Heads.{HeadsDependOnNoLists};
 ghost use Rattle.crn_cert.specs.FormedVerdicts.{FormedAnswersHaveFormedVerdicts};
+ghost use Rattle.crn_cert.specs.Preorder.{NodesAreOfOneTree};
 ghost use Rattle.crn_cert.specs.Shares.{SharesFit};
 ghost use Rattle.crn_cert.specs.TreeLaw.{TestsDecideValidTrees, ValidTreesLeaveNothing};
 ghost use Rattle.crn_cert.specs.Law.{PairPlacesArePairs, ShapesExist, TestedMarksAreSides, ValidAnswersAreTrue, ValidDocumentsAreTrue};
@@ -52,4 +53,9 @@ pub fn tests_decide_valid_trees()
 /// The share of cuts that lines may hold fits them.
 pub fn shares_fit()
     ensures { SharesFit }
+{}
+
+/// The nodes of a tree in preorder are those of no other tree.
+pub fn nodes_are_of_one_tree()
+    ensures { NodesAreOfOneTree }
 {}

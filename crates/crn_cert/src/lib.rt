@@ -15,9 +15,10 @@ mod verdicts;
 pub use answer::{Answer, Gap, Proof, RankProof, Verdict};
 pub use answers::Answers;
 pub use laws::{
-    formed_answers_have_formed_verdicts, heads_depend_on_no_lists, pair_places_are_pairs,
-    shapes_exist, shares_fit, tested_marks_are_sides, tests_decide_valid_trees,
-    valid_answers_are_true, valid_documents_are_true, valid_trees_leave_nothing,
+    formed_answers_have_formed_verdicts, heads_depend_on_no_lists, nodes_are_of_one_tree,
+    pair_places_are_pairs, shapes_exist, shares_fit, tested_marks_are_sides,
+    tests_decide_valid_trees, valid_answers_are_true, valid_documents_are_true,
+    valid_trees_leave_nothing,
 };
 pub use place::question_number;
 pub use rank_list::RankList;

@@ -27,8 +27,8 @@ pub struct Share {
 // How many marks of lists there are.
 const MARKS: usize = 1_024;
 
-// The first distinct lists, no more than a document shares. Most cuts have the list of a cut before, so it is looked for
-// by its mark before the set is asked; of two lists with one mark the last is found.
+// The first distinct lists, no more than a document shares. Most cuts have the list of an earlier cut, so a list is first
+// looked for by its mark, and in the set if that does not find it. Of lists with the same mark the last is found.
 #[derive(Drop)]
 struct Lists<'a> {
     set: IndexSet<&'a [i128]>,
@@ -40,7 +40,7 @@ fn last_bits(x: &i128) -> u64 {
     (x.cast_unsigned() % (1 << 64)) as u64
 }
 
-// The mark of the numbers before, and of this one. Two short lists of numbers from -4 to 4 have different marks.
+// The mark of a list with one more number at its end. Two short lists of one length with numbers from -4 to 4 have different marks.
 fn mark_with(mark: u64, x: &i128) -> u64 {
     mark.wrapping_mul(9).wrapping_add(last_bits(x))
 }
@@ -50,7 +50,7 @@ fn mark_of_four(a: &i128, b: &i128, c: &i128, d: &i128) -> u64 {
     mark_with(mark_with(mark_with(last_bits(a), b), c), d)
 }
 
-// The mark of the numbers before, and of these. Each four are summed on their own, so that few sums wait for others.
+// The mark of a list with these numbers at its end. Every four are summed on their own, so that few sums wait for others.
 fn mark_after(mark: u64, list: &[i128]) -> u64 {
     match list {
         [a, b, c, d, e, f, g, h, list @ ..] => {
@@ -63,7 +63,7 @@ fn mark_after(mark: u64, list: &[i128]) -> u64 {
     }
 }
 
-// A mark for a list, which few other lists have.
+// The mark of a list. Few other lists have the same.
 fn mark_of(list: &[i128]) -> usize
     ensures { result < MARKS }
 {
@@ -183,7 +183,7 @@ struct Numbered<'a> {
 }
 
 impl<'a> Numbered<'a> {
-    // Those of no cuts.
+    // No cuts have been added.
     fn new(alloc: Global) -> Result<Numbered<'a>, NoMemory>
         ensures { IfOk result (λ made. AreNumbered made.lists.set.keys made.leaf.list []) }
     {
@@ -193,7 +193,7 @@ impl<'a> Numbered<'a> {
         })
     }
 
-    // Those of one cut more.
+    // Adds a cut.
     fn add(&mut self, list: &'a [i128]) -> Result<(), NoMemory>
         requires few { length self.old.lists.set.keys ≤ MAX_SHARED }
         ensures few { OnOk result (length self.new.lists.set.keys ≤ MAX_SHARED) }
@@ -206,7 +206,7 @@ impl<'a> Numbered<'a> {
         Ok(())
     }
 
-    // Those of the cut of a node more, if it is one.
+    // Adds the cut of a node, if it has one.
     fn add_node(&mut self, node: &'a TreeNode) -> Result<(), NoMemory>
         requires few { length self.old.lists.set.keys ≤ MAX_SHARED }
         ensures few { OnOk result (length self.new.lists.set.keys ≤ MAX_SHARED) }
@@ -222,7 +222,7 @@ impl<'a> Numbered<'a> {
         }
     }
 
-    // Those of the cuts of a tree more, in preorder.
+    // Adds the cuts of a tree, in preorder.
     fn add_tree(&mut self, tree: &'a Tree) -> Result<(), NoMemory>
         requires few { length self.old.lists.set.keys ≤ MAX_SHARED }
         ensures few { OnOk result (length self.new.lists.set.keys ≤ MAX_SHARED) }
@@ -237,7 +237,7 @@ impl<'a> Numbered<'a> {
         Ok(())
     }
 
-    // Those of the cuts of a proof's trees more.
+    // Adds the cuts of a proof's trees.
     fn add_proof(&mut self, proof: &'a Proof) -> Result<(), NoMemory>
         requires few { length self.old.lists.set.keys ≤ MAX_SHARED }
         ensures few { OnOk result (length self.new.lists.set.keys ≤ MAX_SHARED) }

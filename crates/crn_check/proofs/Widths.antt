@@ -4,19 +4,14 @@ use Rattle.std.specs.Prelude.{ℤ, pos, ◌*ℤ◌}
 use Rattle.std.specs.List.{AllByRecursion}
 use Rattle.std.proofs.Math.IntN.{*ℤ-zero}
 use Rattle.crn_vec.specs.Lists.{IsIn}
-use Rattle.crn_vec.specs.Network.{Net, IsNetwork, JoinsTwo, sides_of, reaction_vector}
+use Rattle.crn_vec.specs.Network.{Net, IsNetwork, reaction_vector}
 use Rattle.crn_vec.specs.Vectors.{entry, column}
 use Rattle.crn_vec.specs.Rank.{combination_at}
 use Rattle.crn_vec.specs.Deficiency.{vectors}
-use Rattle.crn_vec.proofs.CallerLemmas.{at_in, past_end, dot_zero, reaction_long, vectors_count, vector_width as width_at}
+use Rattle.crn_vec.proofs.CallerLemmas.{at_in, dot_zero, reaction_long, vectors_count, vector_width as width_at, column_past}
 
 pub vector_width : (net : Net) → IsNetwork net → (r : ℕ) → r < length net.reactions → length (reaction_vector net (get_or net.reactions r (0, 0))) ≡ length net.names
 vector_width net n r lt = reaction_long net n (get_or net.reactions r (0, 0)) (at_in net.reactions r (0, 0) lt)
-
-column_past : (vs : List (List ℤ)) (n s : ℕ) → ((j : ℕ) → j < length vs → length (get_or vs j []) ≡ n) → n ≤ s → (k : ℕ) → entry (column vs s) k ≡ pos 0
-column_past [] n s h le k = refl
-column_past (v ∷ vs) n s h le zero = past_end v s (omega (arith, h 0 (omega arith)))
-column_past (v ∷ vs) n s h le (suc k) = column_past vs n s (λ j lt. h (suc j) (omega (arith, lt))) le k
 
 -- no combination of vectors has an entry past their width
 pub combination_past : (c : List ℤ) (vs : List (List ℤ)) (n s : ℕ) → ((j : ℕ) → j < length vs → length (get_or vs j []) ≡ n) → n ≤ s → combination_at c vs s ≡ pos 0
@@ -57,10 +52,3 @@ place_of_vector net v h = go net.reactions h
     go [] h = absurd h
     go (e ∷ rs) (inl is) = (0, omega arith, is)
     go (e ∷ rs) (inr later) = let f = go rs later in (suc f.0, omega (arith, f.1), f.2)
-
--- ---- lists of numbers
-
--- what holds of each entry holds of all members
-pub all_entries : (P : ℤ → Type 0) (xs : List ℤ) → ((k : ℕ) → k < length xs → P (entry xs k)) → AllByRecursion P xs
-all_entries P [] h = tt
-all_entries P (x ∷ xs) h = (h 0 (omega arith), all_entries P xs (λ k lt. h (suc k) (omega (arith, lt))))

@@ -1,44 +1,22 @@
 -- Which kinds one choice more leaves as they are.
-use Rattle.std.proofs.Common.{◌≡◌, ◌≢◌, ℕ, zero, suc, ◌+◌, ◌-◌, ◌<◌, ◌≤◌, inl, inr, List, [], ◌∷◌, ◌++◌, length, map, get_or, replicate, refl, sym, ap, subst, ◌∙◌, arith}
+use Rattle.std.proofs.Common.{◌≡◌, ◌≢◌, ℕ, zero, suc, ◌+◌, ◌-◌, ◌<◌, inl, inr, List, [], ◌∷◌, ◌++◌, length, get_or, refl, sym, ap, subst, ◌∙◌, arith}
 use Rattle.std.specs.List.{range_with_len}
-use Rattle.std.proofs.lemmas.List.{get_or_append_left, get_or-append_right, get_or-map, get_or-replicate, length-map, length-replicate}
 use Rattle.std.proofs.lemmas.List.FromFn.{get_or-range_with_len, length-range_with_len}
 use Rattle.crn_vec.specs.declared.signs.Sign.{Sign}
 use Rattle.crn_vec.specs.declared.signs.Kind.{Kind}
-use Rattle.crn_vec.specs.declared.signs.Kind.TheVariants.{Free, Zero as ZeroKind}
 use Rattle.crn_vec.specs.Vectors.{Mat}
 use Rattle.crn_vec.specs.Lists.{IsIn}
 use Rattle.crn_vec.specs.Elementary.{width}
 use Rattle.crn_vec.specs.Systems.{kind_at}
-use Rattle.crn_vec.specs.Concordance.{column_kind, kinds_a_of, kinds_b_of, row_kinds}
-use Rattle.crn_vec.proofs.CallerLemmas.{in_range, lt_or}
+use Rattle.crn_vec.specs.Concordance.{kinds_b_of, row_kinds}
+use Rattle.crn_vec.proofs.CallerLemmas.{in_range, lt_or, column_in_b, row_in_b}
 use Rattle.crn_sign.specs.Settled.{SettlesOnly}
-
--- ---- part A
-
-pub column_in_a : (m : Mat) (table : List (List Sign)) (p : List Sign) (k : ℕ) → k < length table → kind_at (kinds_a_of m table p) k ≡ column_kind (get_or table k []) p
-column_in_a m table p k lt =
-    let f = λ (signs : List Sign). column_kind signs p in
-    get_or_append_left (map f table) (replicate (length m.rows) ZeroKind) Free k (omega (arith, lt, length-map table f)) ∙ get_or-map f table k [] Free lt
-
-pub row_in_a : (m : Mat) (table : List (List Sign)) (p : List Sign) (k : ℕ) → length table ≡ m.cols → m.cols ≤ k → k < width m → kind_at (kinds_a_of m table p) k ≡ ZeroKind
-row_in_a m table p k long past lt =
-    let f = λ (signs : List Sign). column_kind signs p in
-    get_or-append_right (map f table) (replicate (length m.rows) ZeroKind) m.cols k Free (length-map table f ∙ long) past
-    ∙ get_or-replicate (length m.rows) (k - m.cols) ZeroKind Free (omega (arith, past, lt))
 
 -- all coordinates may be settled
 pub all_settle : (kinds : List Sign → List Kind) (n choices : ℕ) (list : List ℕ) → list ≡ range_with_len 0 n → SettlesOnly kinds n choices list
 all_settle kinds n choices list is p s k e lt out = absurd (out (subst (λ (l : List ℕ). IsIn k l) (sym is) (in_range k 0 n (omega arith) (omega (arith, lt)))))
 
 -- ---- part B
-
-pub column_in_b : (m : Mat) (p : List Sign) (k : ℕ) → k < m.cols → kind_at (kinds_b_of m p) k ≡ Free
-column_in_b m p k lt =
-    get_or_append_left (replicate m.cols Free) (row_kinds (length m.rows) p) Free k (omega (arith, lt, length-replicate m.cols Free)) ∙ get_or-replicate m.cols k Free Free lt
-
-pub row_in_b : (m : Mat) (p : List Sign) (k : ℕ) → m.cols ≤ k → kind_at (kinds_b_of m p) k ≡ kind_at (row_kinds (length m.rows) p) (k - m.cols)
-row_in_b m p k past = get_or-append_right (replicate m.cols Free) (row_kinds (length m.rows) p) m.cols k Free (length-replicate m.cols Free) past
 
 -- one choice more settles the row of its species
 pub row_same : (n : ℕ) (p : List Sign) (s : Sign) (j : ℕ) → j ≢ length p → kind_at (row_kinds n (p ++ s ∷ [])) j ≡ kind_at (row_kinds n p) j

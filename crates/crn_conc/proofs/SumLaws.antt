@@ -1,8 +1,8 @@
 -- What a prefix requires of part A of a table's problem, by words that the prefix with one option less gives.
-use Rattle.std.proofs.Common.{◌≡◌, ◌≢◌, ℕ, zero, suc, ◌+◌, ◌-◌, ◌*◌, ◌/◌, ◌%◌, ◌<◌, ◌≤◌, max, inl, inr, List, [], ◌∷◌, ◌++◌, length, get_or, take, drop, set, Bool, true, false, refl, sym, ap, ap₂, subst, ◌∙◌, arith}
+use Rattle.std.proofs.Common.{◌≡◌, ◌≢◌, ℕ, zero, suc, ◌+◌, ◌-◌, ◌*◌, ◌/◌, ◌%◌, ◌<◌, ◌≤◌, max, inl, inr, List, [], ◌∷◌, ◌++◌, length, get_or, drop, set, Bool, true, false, refl, sym, ap, ap₂, subst, ◌∙◌, arith}
 use Rattle.std.specs.Prelude.{if◌then◌else◌, bit_or, bit_xor}
 use Rattle.std.specs.Int.{bit_at}
-use Rattle.std.proofs.lemmas.List.{get_or_append_left, get_or-append_right, get_or_past, get_or-set_same, get_or-set_other, length-append, length-set, take-append-le, take_all}
+use Rattle.std.proofs.lemmas.List.{get_or_append_left, get_or-append_right, get_or_past, get_or-set_same, get_or-set_other, length-append, length-set}
 use Rattle.std.proofs.lemmas.Nat.Bits.{bit_at-zero, bit_at_or, bit_at_xor}
 use Rattle.crn_vec.specs.declared.signs.Sign.{Sign}
 use Rattle.crn_vec.specs.declared.signs.Sign.TheVariants.{Zero, Plus, Minus}
@@ -12,13 +12,12 @@ use Rattle.crn_vec.specs.Elementary.{width}
 use Rattle.crn_vec.specs.Systems.{kind_at, one_if}
 use Rattle.crn_vec.specs.Problems.{all_zero}
 use Rattle.crn_vec.specs.Concordance.{column_kind, is_minus, is_plus, kind_of_sum, kinds_a_of, product, products, some_sign}
-use Rattle.crn_vec.proofs.CallerLemmas.{eq_or, lt_or, products_none}
+use Rattle.crn_vec.proofs.CallerLemmas.{eq_or, lt_or, products_none, column_in_a, row_in_a}
 use Rattle.crn_sign.specs.declared.bits.Bits.{Bits}
 use Rattle.crn_sign.specs.declared.problem.Asked.{Asked}
 use Rattle.crn_sign.specs.Options.{AskKinds, IsPut, kind_of_bits, minus_at, none, plus_at, sign_at, word_at, word_count}
 use Rattle.crn_conc.specs.declared.chosen.Chosen.{Chosen}
 use Rattle.crn_conc.specs.Inner.Columns.{AreChosen, AreMade, AreSettled, AreSignsOf, AreSums, HasSignIn, IsAskedOf, IsChosen, IsExtended, signs_at}
-use Rattle.crn_conc.proofs.SettledLaws.{column_in_a, row_in_a}
 
 -- ---- one option more
 
@@ -154,7 +153,7 @@ column_none (s ∷ p) = refl
 column_at : (m : Mat) (table : List (List Sign)) (p : List Sign) (k : ℕ) → length table ≡ m.cols → k < width m → kind_at (kinds_a_of m table p) k ≡ column_kind (signs_at table k) p
 column_at m table p k long lt = elim (lt_or k m.cols) as (λ _. kind_at (kinds_a_of m table p) k ≡ column_kind (signs_at table k) p) [
   | inl inside ↦ column_in_a m table p k (omega (arith, inside, long))
-  | inr past ↦ row_in_a m table p k long past lt ∙ sym (ap (λ (l : List Sign). column_kind l p) (get_or_past table k [] (omega (arith, past, long))) ∙ column_none p)
+  | inr past ↦ row_in_a m table p m.cols k long past lt ∙ sym (ap (λ (l : List Sign). column_kind l p) (get_or_past table k [] (omega (arith, past, long))) ∙ column_none p)
 ]
 
 -- the word of a coordinate is there
@@ -224,10 +223,6 @@ filling_step f g old new k asked put p m h = record {
     | inr ne ↦ put.other_minus j ne ∙ h.minus j (omega (arith, lt, ne))
   ];
 }
-
--- a list after all of it was written
-pub written : (n : ℕ) (new old : List Bits) → length new ≡ n → take n (new ++ drop (length new) old) ≡ new
-written n new old e = take-append-le n new (drop (length new) old) (omega (arith, e)) ∙ take_all n new (omega (arith, e))
 
 -- what is kept for the numbers of choices before n
 pub record AreSoFar (a : Mat) (table : List (List Sign)) (columns : List Chosen) (n : ℕ) : Type 0 where

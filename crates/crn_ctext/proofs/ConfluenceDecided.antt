@@ -2,8 +2,6 @@
 use Rattle.std.proofs.Common.{◌≡◌, ◌≤◌, ◌<◌, ◌-◌, ℕ, suc, true, List, [], ◌∷◌, length, sym, subst, inl, inr, arith}
 use Rattle.std.specs.Prelude.{◌≢◌, ◌⊎◌, ℤ, pos, ◌≤ℤ◌, unsigned_abs, slice_index}
 use Rattle.std.specs.Int.{◌∣◌}
-use Rattle.std.proofs.lemmas.Bool.{cases_lt}
-use Rattle.std.proofs.lemmas.Int.{ints}
 use Rattle.std.proofs.lemmas.Nat.Gcd.{dvd-zero, le_of_dvd, dvd_of_mod-eq-zero, mod-eq-zero_of_dvd}
 use Rattle.crn_vec.specs.Network.{Net}
 use Rattle.crn_vec.specs.Vectors.{entry, dot}
@@ -14,7 +12,7 @@ use Rattle.crn_vec.specs.CutPairs.{IsBetween, IsFreeStep}
 use Rattle.crn_vec.specs.Elementary.{IsPrimitive}
 use Rattle.crn_vec.specs.Confluence.{IsNonzero, LeadsPositive}
 use Rattle.crn_vec.specs.Sums.{label_marks}
-use Rattle.crn_vec.proofs.CallerLemmas.{past_end, positive_some}
+use Rattle.crn_vec.proofs.CallerLemmas.{past_end, positive_some, abs_some}
 use Rattle.crn_cert.specs.declared.answer.Verdict.{Verdict}
 use Rattle.crn_cert.specs.declared.answer.Verdict.TheVariants.{NoVec, NoTerminal, NoDependence, NoCycle, Unknown}
 use Rattle.crn_cert.specs.Questions.{Earlier, Q4, on, IsNo, IsOpen}
@@ -121,9 +119,6 @@ divides_none d x e = subst (λ (z : ℤ). d ∣ unsigned_abs z) (sym e) (dvd-zer
 divides_all_decided : (g : List ℤ) (d : ℕ) → IsDecided (DividesAll g d)
 divides_all_decided g d = each_number (λ k. d ∣ unsigned_abs (entry g k)) (λ k. divides_decided d (unsigned_abs (entry g k))) (length g) (λ k h. divides_none d (entry g k) (past_end g k h))
 
-some_size : (x : ℤ) → x ≢ pos 0 → 0 < unsigned_abs x
-some_size x other = elim (cases_lt 0 (unsigned_abs x)) [ inl more ↦ more | inr none ↦ absurd (other (omega (arith, ints, none))) ]
-
 primitive_decided : (g : List ℤ) → IsDecided (IsPrimitive g)
 primitive_decided g = by (nonzero_decided g)
   where
@@ -134,7 +129,7 @@ primitive_decided g = by (nonzero_decided g)
     by (inr none) = inr (λ h. let two : 2 ≡ 1 = h 2 (λ k. divides_none 2 (entry g k) (all_zero none k)) in omega (arith, two))
     by (inl some) =
         let n = unsigned_abs (entry g some.0) in
-        let size : 0 < n = some_size (entry g some.0) some.1 in
+        let size : 0 < n = omega (arith, abs_some (entry g some.0) some.1) in
         each_number (λ d. DividesAll g d → d ≡ 1) (λ d. if_decided (divides_all_decided g d) (nat_decided d 1)) (suc n) (λ d past all. absurd (let le : d ≤ n = le_of_dvd size (all some.0) in omega (arith, le, past)))
 
 -- the entry is the first that is not zero, and is positive

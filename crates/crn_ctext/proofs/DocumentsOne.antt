@@ -5,7 +5,7 @@ use Rattle.std.specs.List.{AllByRecursion, AllZip}
 use Rattle.std.specs.Str.{bytes_eq}
 use Rattle.crn_ctext.specs.Questions.{first_number}
 use Rattle.std.specs.Fmt.{digits}
-use Rattle.std.proofs.lemmas.List.{append_cancel_left, length-map}
+use Rattle.std.proofs.lemmas.List.{append_cancel_left, length-map, append_cancel_right}
 use Rattle.std.proofs.lemmas.Fmt.{decimal_injective}
 use Rattle.crn_vec.specs.Network.{Net, IsNetwork}
 use Rattle.crn_text.specs.Canonical.{canonical}
@@ -76,23 +76,6 @@ records_one (r ∷ rs) (s ∷ ss) a b c d e =
 
 -- ---- documents
 
-last_gone : (xs ys : List (List ℕ)) (z : List ℕ) → xs ++ z ∷ [] ≡ ys ++ z ∷ [] → xs ≡ ys
-last_gone [] [] z e = refl
-last_gone [] (y ∷ ys) z e = absurd (let rest : [] ≡ ys ++ z ∷ [] = cc in nothing ys rest)
-  where
-    nothing : (ys : List (List ℕ)) → [] ≡ ys ++ z ∷ [] → ⊥
-    nothing [] e = cc
-    nothing (y ∷ ys) e = cc
-last_gone (x ∷ xs) [] z e = absurd (let rest : xs ++ z ∷ [] ≡ [] = cc in nothing xs rest)
-  where
-    nothing : (ys : List (List ℕ)) → ys ++ z ∷ [] ≡ [] → ⊥
-    nothing [] e = cc
-    nothing (y ∷ ys) e = cc
-last_gone (x ∷ xs) (y ∷ ys) z e =
-    let first : x ≡ y = cc in
-    let rest : xs ++ z ∷ [] ≡ ys ++ z ∷ [] = cc in
-    ap₂ (λ (u : List ℕ) (us : List (List ℕ)). u ∷ us) first (last_gone xs ys z rest)
-
 -- plain records with words, which their texts determine
 abbrev Texts : List Record → Type 0
 Texts rs = AllPlain rs × AllWorded rs
@@ -110,7 +93,7 @@ texts_one version net other records others low n k p q e =
     let parts = same_long (network_lines net) (network_lines other) (map record_text records ++ codes "end" ∷ []) (map record_text others ++ codes "end" ∷ []) (length-map net.reactions (net_line net) ∙ count ∙ sym (length-map other.reactions (net_line other))) after.1 in
     let text : canonical net ≡ canonical other = canonical_ended net ∙ ap ended parts.0 ∙ sym (canonical_ended other) in
     let same : net ≡ other = spelling_unique (canonical other) net other (subst (λ (t : List ℕ). Spells t net) text (spells_its_network net n)) (spells_its_network other k) in
-    let said : map record_text records ≡ map record_text others = last_gone (map record_text records) (map record_text others) (codes "end") parts.1 in
+    let said : map record_text records ≡ map record_text others = append_cancel_right (map record_text records) (map record_text others) (codes "end" ∷ []) parts.1 in
     (same, records_one records others p.1 q.1 (plain_are_short records p.0) (plain_are_short others q.0) said)
 
 pub document_one : (net other : Net) (answers others : List (List Record)) → IsNetwork net → IsNetwork other → AreFormedOf net answers → AreFormedOf other others → document net answers ≡ document other others → (net ≡ other) × (answers ≡ others)

@@ -6,6 +6,7 @@ use Rattle.std.proofs.lemmas.Int.{ints}
 use Rattle.std.proofs.lemmas.List.{length-map, append-nil}
 use Rattle.crn_vec.specs.Lists.{IsIn}
 use Rattle.crn_vec.specs.declared.limits.TheConstants.{MAX_REACTIONS, WIDE_SOLUTION}
+use Rattle.crn_vec.proofs.CallerLemmas.{all_in}
 use Rattle.crn_ctext.specs.Records.{Field, Small, Several, Free, FreeSeveral, Rising, Members, CountAndPart, TwoOf, Turn, ClassWide, Takes, IsNarrow, AreNarrow, AreOf, AreBetween}
 use Rattle.crn_ctext.specs.Inner.Line.{capped}
 use Rattle.crn_ctext.specs.Inner.Shapes.{IsBounded, HasBounds, has_free, fields_of, IsJudged}
@@ -51,14 +52,9 @@ all_between a b (z ∷ zs) p q h = (between_narrow a b z p q h.0.0 h.0.1, all_be
 all_up_to : (greatest : ℕ) (zs : List ℤ) → greatest < WIDE_SOLUTION → AreBetween (pos 1) (pos greatest) zs → AllNarrow zs
 all_up_to greatest zs lt h = all_between (pos 1) (pos greatest) zs (omega arith) lt h
 
-in_bound : (k n : ℕ) (ms : List ℕ) → AllByRecursion (λ m. m ≤ k) ms → IsIn n ms → n ≤ k
-in_bound k n [] h i = absurd i
-in_bound k n (m ∷ ms) h (inl same) = omega (arith, same, h.0)
-in_bound k n (m ∷ ms) h (inr later) = in_bound k n ms h.1 later
-
 all_members : (members ns : List ℕ) → AllByRecursion (λ m. m ≤ MAX_REACTIONS) members → AllByRecursion (λ n. IsIn n members) ns → AllNarrow (map pos ns)
 all_members members [] h i = tt
-all_members members (n ∷ ns) h i = (let le = in_bound MAX_REACTIONS n members h i.0 in omega (arith, le), all_members members ns h i.1)
+all_members members (n ∷ ns) h i = (let le = all_in (λ m. m ≤ MAX_REACTIONS) members n h i.0 in omega (arith, le), all_members members ns h i.1)
 
 at_bound : (k i : ℕ) (rs : List ℕ) → AllByRecursion (λ r. r ≤ k) rs → slice_index rs i ≤ k
 at_bound k i [] h = omega arith

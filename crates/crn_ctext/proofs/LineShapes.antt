@@ -1,6 +1,6 @@
 -- The numbers of a record, one after another.
 use Rattle.std.proofs.Common.{◌≡◌, ◌≢◌, ◌⊎◌, ◌≤◌, ◌<◌, ◌+◌, ◌++◌, ◌↔◌, ℕ, suc, List, [], ◌∷◌, length, map, drop, get_or, refl, sym, ap, ap₂, subst, ◌∙◌, inl, inr, arith}
-use Rattle.std.specs.Prelude.{ℤ, pos, negsuc, ◌≤ℤ◌, ◌<ℤ◌, IsTrue, false, slice_index}
+use Rattle.std.specs.Prelude.{ℤ, pos, negsuc, ◌≤ℤ◌, ◌<ℤ◌, slice_index}
 use Rattle.std.proofs.lemmas.List.{append-nil, drop_more, drop_all}
 use Rattle.std.proofs.lemmas.Bool.{cases_lt}
 use Rattle.std.specs.List.{AllByRecursion}
@@ -129,9 +129,6 @@ swapped a = (a.1, a.0)
 -- what an answer says of the rest it says of the whole
 pub through : {P Q R : Type 0} → P ↔ Q → R ↔ Q → P ↔ R
 through a b = ((λ p. b.1 (a.0 p)), (λ r. a.1 (b.0 r)))
-
-pub missing : {P : Type 0} → (P → ⊥) → IsTrue false ↔ P
-missing none = ((λ e. absurd cc), (λ p. absurd (none p)))
 
 -- one field takes all numbers
 pub alone : (field : Field) (zs : List ℤ) → AreOf Takes (field ∷ []) zs ↔ Takes field zs

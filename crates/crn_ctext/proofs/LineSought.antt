@@ -1,10 +1,10 @@
 -- All forms that are due, tried on a line: the first test of the line that fails, or the record that it is.
 use Rattle.std.proofs.Common.{◌≡◌, ◌⊎◌, ◌≤◌, ◌<◌, ◌+◌, ◌++◌, ◌∷◌, ◌&&◌, ℕ, zero, suc, Bool, true, false, List, [], length, take, refl, sym, ap, ap₂, subst, ◌∙◌, inl, inr, lit≤, arith}
 use Rattle.std.specs.Prelude.{ℤ, not, slice_index_or, ◌==◌}
-use Rattle.std.specs.Str.{bytes_eq}
 use Rattle.std.proofs.lemmas.Bool.{cases_Bool}
 use Rattle.std.proofs.lemmas.List.{take_more, take_all}
-use Rattle.std.proofs.lemmas.Slice.Eq.{bytes_eq-Decides}
+use Rattle.std.specs.List.{list_any}
+use Rattle.std.specs.Str.{bytes_eq}
 use Rattle.crn_vec.specs.Lists.{IsIn}
 use Rattle.crn_vec.specs.Kept.{KeptInts}
 use Rattle.crn_vec.proofs.CallerLemmas.{in_left, in_right, in_push, and_cases}
@@ -17,13 +17,14 @@ use Rattle.crn_ctext.specs.Expect.{text_of, sizes_of, question_of, forms_of, due
 use Rattle.crn_ctext.specs.Inner.Forms.{IsForm, no_form, tag}
 use Rattle.crn_ctext.specs.Inner.Tries.{FitFields, IsTried, AreTried, IsNotShaped, IsNotFit, worst_of}
 use Rattle.crn_ctext.proofs.LinesRead.{word_one}
-use Rattle.crn_ctext.proofs.WordsApart.{is_among, among_yes}
+use Rattle.crn_ctext.proofs.WordsApart.{among_yes}
 use Rattle.crn_ctext.specs.declared.expect.Due.{Due}
 use Rattle.crn_ctext.specs.declared.expect.Due.TheVariants as due
 use Rattle.crn_ctext.specs.declared.expect.Expect.{Expect}
 use Rattle.crn_ctext.specs.declared.record_form.Form.{Form as GivenForm}
 use Rattle.crn_ctext.specs.declared.record_try.Tried.{Tried}
 use Rattle.crn_ctext.specs.declared.record_try.Tried.TheVariants as tried
+use Rattle.crn_ctext.proofs.Shared.{in_by_test}
 
 -- ---- members
 
@@ -75,16 +76,9 @@ all_tried so_far forms i line le h = rw (take_all i forms le) at h
 
 -- ---- words that are due
 
-among_in : (w : List ℕ) (xs : List (List ℕ)) → is_among w xs ≡ true → IsIn w xs
-among_in w [] e = absurd cc
-among_in w (x ∷ xs) e = elim (cases_Bool (bytes_eq w x)) [
-  | inl same ↦ inl ((bytes_eq-Decides w x).0 same)
-  | inr other ↦ inr (among_in w xs (rw other at e))
-]
-
 -- known, and no word of a tree
 is_ordinary : ℕ → List ℕ → Bool
-is_ordinary v w = is_among w (known_words v) && not (is_among w (tree_words v))
+is_ordinary v w = list_any (bytes_eq w) (known_words v) && not (list_any (bytes_eq w) (tree_words v))
 
 all_ordinary : ℕ → List Form → Bool
 all_ordinary v [] = true
@@ -96,8 +90,8 @@ IsOrdinary v w = IsIn w (known_words v) × (IsIn w (tree_words v) → ⊥)
 ordinary_is : (v : ℕ) (w : List ℕ) → is_ordinary v w ≡ true → IsOrdinary v w
 unfolding is_ordinary
 ordinary_is v w e =
-    let p = and_cases (is_among w (known_words v)) (not (is_among w (tree_words v))) e in
-    (among_in w (known_words v) p.0, λ i. let f : not true ≡ true = subst (λ (t : Bool). not t ≡ true) (among_yes w (tree_words v) i) p.1 in cc)
+    let p = and_cases (list_any (bytes_eq w) (known_words v)) (not (list_any (bytes_eq w) (tree_words v))) e in
+    (in_by_test w (known_words v) p.0, λ i. let f : not true ≡ true = subst (λ (t : Bool). not t ≡ true) (among_yes w (tree_words v) i) p.1 in cc)
 
 ordinary_in : (v : ℕ) (forms : List Form) (form : Form) → all_ordinary v forms ≡ true → IsIn form forms → IsOrdinary v (kind_of form)
 unfolding all_ordinary
@@ -166,13 +160,13 @@ one_form P form f p (inr i) = absurd i
 
 all_known : ℕ → List Form → Bool
 all_known v [] = true
-all_known v (form ∷ forms) = is_among (kind_of form) (known_words v) && all_known v forms
+all_known v (form ∷ forms) = list_any (bytes_eq (kind_of form)) (known_words v) && all_known v forms
 
 known_in : (v : ℕ) (forms : List Form) (form : Form) → all_known v forms ≡ true → IsIn form forms → IsIn (kind_of form) (known_words v)
 unfolding all_known
 known_in v [] form e i = absurd i
-known_in v (f ∷ forms) form e (inl same) = subst (λ k. IsIn (kind_of k) (known_words v)) (sym same) (among_in (kind_of f) (known_words v) (and_cases (is_among (kind_of f) (known_words v)) (all_known v forms) e).0)
-known_in v (f ∷ forms) form e (inr later) = known_in v forms form (and_cases (is_among (kind_of f) (known_words v)) (all_known v forms) e).1 later
+known_in v (f ∷ forms) form e (inl same) = subst (λ k. IsIn (kind_of k) (known_words v)) (sym same) (in_by_test (kind_of f) (known_words v) (and_cases (list_any (bytes_eq (kind_of f)) (known_words v)) (all_known v forms) e).0)
+known_in v (f ∷ forms) form e (inr later) = known_in v forms form (and_cases (list_any (bytes_eq (kind_of f)) (known_words v)) (all_known v forms) e).1 later
 
 -- a form that is due may be there: its word is known, and no word of a tree after one
 abbrev MayBe : Due → ℕ → Bool → List ℕ → Type 0

@@ -10,7 +10,7 @@ use Rattle.std.specs.List.{AllByRecursion, AllZip, filter, range_with_len}
 use Rattle.crn_vec.specs.Network.{Net, IsNetwork}
 use Rattle.crn_vec.specs.Deficiency.{class_members}
 use Rattle.crn_vec.specs.declared.limits.TheConstants.{MAX_SPECIES, MAX_COMPLEXES, MAX_REACTIONS}
-use Rattle.crn_vec.proofs.CallerLemmas.{filter_few}
+use Rattle.crn_vec.proofs.CallerLemmas.{filter_few, all_range}
 use Rattle.crn_cert.specs.declared.answer.Gap.{Gap}
 use Rattle.crn_cert.specs.declared.answer.Verdict.{Verdict}
 use Rattle.crn_cert.specs.declared.answer.Verdict.TheVariants.{NotApplicable, Unknown, Strong}
@@ -120,10 +120,6 @@ class_sizes known = lengths (complexes_by_class known)
 abbrev pub IsMemberList : List ℕ → Type 0
 IsMemberList members = (length members ≤ 240) × AllByRecursion (λ n. IsSlim (pos n)) members
 
-each_class : (P : List ℕ → Type 0) (f : ℕ → List ℕ) → ((k : ℕ) → P (f k)) → (a n : ℕ) → AllByRecursion P (map f (range_with_len a n))
-each_class P f p a zero = tt
-each_class P f p a (suc n) = (p a, each_class P f p (a + 1) n)
-
 each_length : (P : ℕ → Type 0) (lists : List (List ℕ)) → AllByRecursion (λ list. P (length list)) lists → AllByRecursion P (lengths lists)
 each_length P [] a = tt
 each_length P (list ∷ lists) a = (a.0, each_length P lists a.1)
@@ -165,12 +161,12 @@ pairs_few known s = by (on known.earlier Q2)
     by v = (omega arith, tt)
 
 pub lists_small : (known : Known) → IsSmall known → AllByRecursion IsMemberList (class_lists known)
-lists_small known s = each_class IsMemberList (λ k. class_places known.net known.earlier k) (class_members_few known s) 1 (linkage_count known.earlier)
+lists_small known s = all_range IsMemberList (λ k. class_places known.net known.earlier k) 1 (linkage_count known.earlier) (λ k from below. class_members_few known s k)
 
 pub sizes_small : (known : Known) → IsSmall known → AllByRecursion (λ c. c ≤ 160) (class_sizes known)
 sizes_small known s =
     let c = s.labels in
-    each_length (λ c. c ≤ 160) (complexes_by_class known) (each_class (λ list. length list ≤ 160) (λ k. class_members (linkage known.earlier) k) (λ k. omega (arith, c, filter_few (λ (l : ℕ). l == k) (linkage known.earlier))) 1 (linkage_count known.earlier))
+    each_length (λ c. c ≤ 160) (complexes_by_class known) (all_range (λ list. length list ≤ 160) (λ k. class_members (linkage known.earlier) k) 1 (linkage_count known.earlier) (λ k from below. omega (arith, c, filter_few (λ (l : ℕ). l == k) (linkage known.earlier))))
 
 -- there is one of each for each class
 pub sizes_counted : (known : Known) → length (class_sizes known) ≡ linkage_count known.earlier

@@ -133,10 +133,6 @@ base_row rank members r f =
     let all : r.numbers ≡ map pos t.0 = p.2 ∙ ap (λ (x : List ℤ). p.0 ++ x) p.4 ∙ append-nil p.0 ∙ t.1 in
     (t.0, record_is r (codes "base" ∷ []) (map pos t.0) f.0 all, t.2, t.3, λ k i. all_in (λ k. IsIn k members) t.0 k t.4 i)
 
--- a combination has one number more than the rank
-wider : (rank : ℕ) → suc rank ≡ 1 + rank
-wider rank = omega arith
-
 pub rank_fits : (known : Known) (members : List ℕ) (rank : ℕ) (p : RankProof) → IsRankProof known.net members rank p → AllZip Fits (rank_forms (sizes_of known) rank members) (rank_records p)
 rank_fits known members rank p f =
     let long = f.long in
@@ -145,7 +141,7 @@ rank_fits known members rank p f =
     let duals = f.duals in
     let combs = f.combs in
     let other = length members - rank in
-    let last : AllZip Fits (replicate other (free_form (codes "comb") (1 + rank))) (map (one_word (codes "comb")) p.combs) = subst (λ (w : ℕ). AllZip Fits (replicate other (free_form (codes "comb") w)) (map (one_word (codes "comb")) p.combs)) (wider rank) (free_rows_fit (codes "comb") other (suc rank) p.combs combs) in (
+    let last : AllZip Fits (replicate other (free_form (codes "comb") (1 + rank))) (map (one_word (codes "comb")) p.combs) = subst (λ (w : ℕ). AllZip Fits (replicate other (free_form (codes "comb") w)) (map (one_word (codes "comb")) p.combs)) (let w : suc rank ≡ 1 + rank = omega arith in w) (free_rows_fit (codes "comb") other (suc rank) p.combs combs) in (
       base_fits rank members p.base.list long up from,
       zip_both (replicate rank (free_form (codes "dual") (length known.net.names))) (replicate other (free_form (codes "comb") (1 + rank))) (map (one_word (codes "dual")) p.duals) (map (one_word (codes "comb")) p.combs)
           (free_rows_fit (codes "dual") rank (length known.net.names) p.duals duals) last,
@@ -162,7 +158,7 @@ rank_back known members rank (r ∷ rows) z =
     let duals = free_rows_back (codes "dual") rank (length known.net.names) parts.0 parts.3 in
     let combs = free_rows_back (codes "comb") other (1 + rank) parts.1 parts.4 in
     let all : rows ≡ map (one_word (codes "dual")) duals.0 ++ map (one_word (codes "comb")) combs.0 = parts.2 ∙ ap₂ (λ (x y : List Record). x ++ y) duals.1 combs.1 in
-    let narrow : AreFreeRows other (suc rank) combs.0 = subst (λ (w : ℕ). AreFreeRows other w combs.0) (sym (wider rank)) combs.2 in
+    let narrow : AreFreeRows other (suc rank) combs.0 = subst (λ (w : ℕ). AreFreeRows other w combs.0) (let w : 1 + rank ≡ suc rank = omega arith in w) combs.2 in
     (first.0, duals.0, combs.0, ap₂ (λ (x : Record) (xs : List Record). x ∷ xs) first.1 all, record { long = first.2; ascending = first.3; from = first.4; duals = duals.2; combs = narrow })
 
 lists_back : (us vs : List (List ℤ)) → lists (map (one_word (codes "dual")) us ++ map (one_word (codes "comb")) vs) ≡ us ++ vs

@@ -6,9 +6,9 @@ use Rattle.std.specs.Str.{bytes_eq}
 use Rattle.std.proofs.lemmas.Bool.{cases_Bool}
 use Rattle.std.proofs.lemmas.Slice.Eq.{bytes_eq-Decides}
 use Rattle.crn_vec.specs.Lists.{IsIn}
+use Rattle.crn_vec.proofs.CallerLemmas.{any_true}
 use Rattle.crn_ctext.specs.Records.{Record, Says, record_text}
 use Rattle.crn_ctext.specs.Documents.{is_cut_leaf, cut_lists, IsNamed, IsShareable, leaf_written, first_leaf, later_leaves, written}
-use Rattle.crn_ctext.proofs.Decided.{bytes_decided}
 use Rattle.crn_ctext.proofs.Texts.{AreShort}
 
 -- the versions: the first has no shared lists
@@ -54,11 +54,7 @@ shareable_at (t ∷ ts) (suc k) s le = shareable_at ts k s.1 (omega (arith, le))
 
 -- a word of a list, by a test
 pub in_by_test : (w : List ℕ) (xs : List (List ℕ)) → list_any (bytes_eq w) xs ≡ true → IsIn w xs
-in_by_test w [] e = absurd cc
-in_by_test w (x ∷ xs) e = elim (bytes_decided w x) [ inl same ↦ inl same | inr other ↦ inr (in_by_test w xs (sym (later other) ∙ e)) ]
-  where
-    later : (w ≡ x → ⊥) → list_any (bytes_eq w) (x ∷ xs) ≡ list_any (bytes_eq w) xs
-    later other = elim (cases_Bool (bytes_eq w x)) [ inl same ↦ absurd (other ((bytes_eq-Decides w x).0 same)) | inr apart ↦ rw apart refl ]
+in_by_test w xs e = any_true (bytes_eq w) w (λ x. let is = bytes_eq-Decides w x in (λ hit. sym (is.0 hit), λ same. is.1 (sym same))) xs e
 
 -- ---- what is written for a list of records
 

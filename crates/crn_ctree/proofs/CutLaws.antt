@@ -1,5 +1,5 @@
 -- The weights of multipliers at the coordinates of a part, and when they rule the part of a prefix out.
-use Rattle.std.proofs.Common.{◌≡◌, ◌≢◌, ℕ, zero, suc, ◌+◌, ◌-◌, ◌<◌, ◌≤◌, inl, inr, List, [], ◌∷◌, ◌++◌, length, map, get_or, drop, replicate, true, refl, sym, ap, subst, ◌∙◌, arith}
+use Rattle.std.proofs.Common.{◌≡◌, ◌≢◌, ℕ, ◌+◌, ◌-◌, ◌<◌, ◌≤◌, inl, inr, List, ◌++◌, length, map, get_or, drop, replicate, true, refl, sym, ap, subst, ◌∙◌, arith}
 use Rattle.std.specs.Prelude.{ℤ, pos, neg_ℤ, ◌↔◌}
 use Rattle.std.specs.List.{range_with_len}
 use Rattle.std.proofs.lemmas.List.{get_or_append_left, get_or-append_right, length-map, length-append, length-replicate}
@@ -13,7 +13,7 @@ use Rattle.crn_vec.specs.Vectors.{Mat, dot, entry, column}
 use Rattle.crn_vec.specs.Elementary.{InDualSpace, width}
 use Rattle.crn_vec.specs.Systems.{AreRuling, IsCut, MayWeigh, is_signed, kind_at}
 use Rattle.crn_vec.specs.Concordance.{column_kind, row_kinds, kinds_a_of, kinds_b_of}
-use Rattle.crn_vec.proofs.CallerLemmas.{zip_from, kinds_at, weights_decide_cuts, networks_have_tables, lt_or, past_end, rows_count, length-rows}
+use Rattle.crn_vec.proofs.CallerLemmas.{zip_from, kinds_at, weights_decide_cuts, networks_have_tables, lt_or, past_end, rows_count, length-rows, drop_seam}
 use Rattle.crn_cert.specs.Ranges.{AreFree}
 use Rattle.crn_ctree.specs.Problem.{problem_of, table_of}
 use Rattle.crn_ctree.specs.declared.problem.InfluenceTable.{InfluenceTable}
@@ -46,14 +46,10 @@ weight_right a u k le = sym (get_or-append_right (map (column_weight a u) (range
 pub weights_long : (a : Mat) (u : List ℤ) → length u ≡ length a.rows → length (weights_of a u) ≡ width a
 weights_long a u e = omega (arith, e, columns_long a u, length-append (map (column_weight a u) (range_with_len 0 a.cols)) u)
 
-drop_first : {A : Type 0} (xs ys : List A) (n : ℕ) → length xs ≡ n → drop n (xs ++ ys) ≡ ys
-drop_first [] ys zero e = refl
-drop_first [] ys (suc n) e = absurd (omega (arith, e))
-drop_first (x ∷ xs) ys zero e = absurd (omega (arith, e))
-drop_first (x ∷ xs) ys (suc n) e = drop_first xs ys n (omega (arith, e))
-
 weights_end : (a : Mat) (u : List ℤ) → drop a.cols (weights_of a u) ≡ u
-weights_end a u = drop_first (map (column_weight a u) (range_with_len 0 a.cols)) u a.cols (columns_long a u)
+weights_end a u =
+    let before = map (column_weight a u) (range_with_len 0 a.cols) in
+    ap (λ (n : ℕ). drop n (before ++ u)) (sym (columns_long a u)) ∙ drop_seam before u
 
 weights_dual : (a : Mat) (u : List ℤ) → length u ≡ length a.rows → InDualSpace a (weights_of a u)
 weights_dual a u e = record {

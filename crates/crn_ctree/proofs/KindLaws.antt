@@ -1,17 +1,15 @@
 -- The kinds of the coordinates of a part at a prefix.
-use Rattle.std.proofs.Common.{◌≡◌, ℕ, zero, suc, ◌+◌, ◌-◌, ◌<◌, ◌≤◌, List, [], ◌∷◌, length, map, get_or, take, drop, replicate, Bool, true, false, cond, refl, sym, ap, ap₂, ◌∙◌, arith}
+use Rattle.std.proofs.Common.{◌≡◌, ℕ, zero, suc, ◌-◌, ◌<◌, ◌≤◌, List, [], ◌∷◌, length, map, get_or, take, drop, Bool, true, false, cond, refl, sym, ap, ap₂, ◌∙◌, arith}
 use Rattle.std.specs.Prelude.{ℤ, pos, negsuc, neg_ℤ, ◌-ℤ◌, ◌||◌}
 use Rattle.std.proofs.lemmas.Int.{ints}
-use Rattle.std.proofs.lemmas.List.{take_all, get_or-map, get_or-replicate, get_or_append_left, get_or-append_right, length-map, length-replicate}
+use Rattle.std.proofs.lemmas.List.{take_all, get_or-map, length-map}
 use Rattle.crn_vec.specs.declared.signs.Sign.{Sign}
 use Rattle.crn_vec.specs.declared.signs.Sign.TheVariants.{Zero, Plus, Minus}
 use Rattle.crn_vec.specs.declared.signs.Kind.{Kind}
-use Rattle.crn_vec.specs.declared.signs.Kind.TheVariants.{Free, Zero as ZeroKind}
+use Rattle.crn_vec.specs.declared.signs.Kind.TheVariants.{Free}
 use Rattle.crn_vec.specs.Network.{Net, minus, sides_of, reaction_vector}
-use Rattle.crn_vec.specs.Vectors.{Mat}
-use Rattle.crn_vec.specs.Systems.{kind_at}
 use Rattle.crn_vec.specs.Problems.{opposite, all_zero}
-use Rattle.crn_vec.specs.Concordance.{sign, product, products, is_plus, is_minus, some_sign, kind_of_sum, column_kind, row_kinds, kinds_a_of, kinds_b_of}
+use Rattle.crn_vec.specs.Concordance.{sign, product, products, is_plus, is_minus, some_sign, kind_of_sum, column_kind}
 use Rattle.crn_vec.specs.Influence.{strong_table}
 use Rattle.crn_vec.proofs.CallerLemmas.{plus-opposite, minus-opposite, sum-opposite, cond-opposite, products_none}
 use Rattle.crn_vec.specs.NetSystems.{reaction_system}
@@ -128,24 +126,6 @@ strong_column net r v p κ κ' lt e h g =
 pub table_long : (net : Net) (table : InfluenceTable) → length (table_of net table) ≡ length net.reactions
 table_long net Plain = length-map net.reactions (λ r. map sign (sides_of net r).0)
 table_long net Strong = length-map net.reactions (λ r. map sign (minus (sides_of net r).0 (sides_of net r).1))
-
-pub column_at : (m : Mat) (table : List (List Sign)) (p : List Sign) (k : ℕ) → k < length table → column_kind (get_or table k []) p ≡ kind_at (kinds_a_of m table p) k
-column_at m table p k lt =
-    sym (get_or-map (λ signs. column_kind signs p) table k [] Free lt)
-    ∙ sym (get_or_append_left (map (λ signs. column_kind signs p) table) (replicate (length m.rows) ZeroKind) Free k (omega (arith, lt, length-map table (λ signs. column_kind signs p))))
-
-pub zero_at : (m : Mat) (table : List (List Sign)) (p : List Sign) (n k : ℕ) → length table ≡ n → n ≤ k → k < n + length m.rows → ZeroKind ≡ kind_at (kinds_a_of m table p) k
-zero_at m table p n k e le lt =
-    sym (get_or-replicate (length m.rows) (k - n) ZeroKind Free (omega (arith, le, lt)))
-    ∙ sym (get_or-append_right (map (λ signs. column_kind signs p) table) (replicate (length m.rows) ZeroKind) n k Free (length-map table (λ signs. column_kind signs p) ∙ e) le)
-
-pub free_at : (m : Mat) (p : List Sign) (k : ℕ) → k < m.cols → Free ≡ kind_at (kinds_b_of m p) k
-free_at m p k lt =
-    sym (get_or-replicate m.cols k Free Free lt)
-    ∙ sym (get_or_append_left (replicate m.cols Free) (row_kinds (length m.rows) p) Free k (omega (arith, lt, length-replicate m.cols Free)))
-
-pub row_at : (m : Mat) (p : List Sign) (k : ℕ) → m.cols ≤ k → kind_at (row_kinds (length m.rows) p) (k - m.cols) ≡ kind_at (kinds_b_of m p) k
-row_at m p k le = sym (get_or-append_right (replicate m.cols Free) (row_kinds (length m.rows) p) m.cols k Free (length-replicate m.cols Free) le)
 
 -- part B is over system 2 in each problem
 pub part_b_is : (net : Net) (problem : Problem) → (problem_of net problem).matrix_b ≡ reaction_system net

@@ -15,5 +15,4 @@ pub use Rattle.crn_defi.proofs.SpaceSome.{SpaceBase, space_some}
 pub use Rattle.crn_defi.proofs.Parts.{zero_more}
 pub use Rattle.crn_defi.proofs.Counted.{one_independent}
 -- Ascending numbers below a bound are few; independent vectors are no more than their entries, and one that is not 0 is independent.
-pub use Rattle.crn_defi.proofs.Counted.{above_few, ascending_few, few_independent, zero_entry, same_if_none}
-pub use Rattle.crn_defi.proofs.Weights.{zero_from}
+pub use Rattle.crn_defi.proofs.Counted.{ascending_few, few_independent, zero_entry, same_if_none}

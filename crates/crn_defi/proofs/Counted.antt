@@ -5,7 +5,7 @@ use Rattle.std.specs.List.{range_with_len}
 use Rattle.std.proofs.lemmas.Int.{ints}
 use Rattle.std.proofs.lemmas.List.{length-map}
 use Rattle.std.proofs.lemmas.List.FromFn.{length-range_with_len}
-use Rattle.crn_vec.specs.Lists.{IsIn, IsAbove, IsAscending}
+use Rattle.crn_vec.specs.Lists.{IsIn, IsAscending}
 use Rattle.crn_vec.specs.Network.{Net, IsNetwork, JoinsTwo, minus, reaction_vector}
 use Rattle.crn_vec.specs.Linkage.{SameClass, IsLabelCount}
 use Rattle.crn_vec.specs.Walks.{AreApart, IsNumberOf}
@@ -13,11 +13,11 @@ use Rattle.crn_vec.specs.Vectors.{entry, AreOfLength}
 use Rattle.crn_vec.specs.Rank.{IsZero, IsIndependent, IsChoice, IsRank}
 use Rattle.crn_vec.specs.Deficiency.{vectors, IsComplex, IsLabelled, class_reactions, class_vectors, class_members}
 use Rattle.crn_vec.proofs.CallerLemmas.{all_in, all_from, same_place, vector_long, length-minus, lt_or, no_zero, is_zero, comb, entry-comb, Zero, too_many, in_range}
-use Rattle.crn_vec.proofs.CallerLemmas.{filter_distinct}
+use Rattle.crn_vec.proofs.CallerLemmas.{filter_distinct, zero_from, above_few}
 use Rattle.crn_cert.specs.Ranges.{IsFrom}
 use Rattle.crn_cert.specs.Says.{AreLinkageClasses}
 use Rattle.crn_defi.specs.Inner.ClassRanks.{IsClass}
-use Rattle.crn_defi.proofs.Weights.{zero_from, few_together}
+use Rattle.crn_defi.proofs.Weights.{few_together}
 use Rattle.crn_defi.proofs.Places.{range_distinct, complexes_at, size_is, in_class, one_label, class_reaction, taken, taken_vectors, taken_in}
 
 -- ---- one complex of each class
@@ -133,10 +133,6 @@ class_rank_leaves net labels k s n l (root, lt, e) r =
 
 -- ---- ascending numbers below n are at most n
 
-pub above_few : (xs : List ℕ) (k n : ℕ) → IsAbove k xs → ((x : ℕ) → IsIn x xs → x < n) → k < n → k + length xs < n
-above_few [] k n a h lt = omega (arith, lt)
-above_few (x ∷ xs) k n a h lt = let r = above_few xs x n a.1 (λ y i. h y (inr i)) (h x (inl refl)) in omega (arith, r, a.0)
-
 pub ascending_few : (xs : List ℕ) (n : ℕ) → IsAscending xs → ((x : ℕ) → IsIn x xs → x < n) → length xs ≤ n
 ascending_few [] n a h = omega arith
 ascending_few (x ∷ xs) n a h = let r = above_few xs x n a (λ y i. h y (inr i)) (h x (inl refl)) in omega (arith, r)
@@ -152,7 +148,7 @@ pub few_independent : (n : ℕ) (vs : List (List ℤ)) → AreOfLength n vs → 
 few_independent n vs long free = elim (lt_or n (length vs)) as (λ _. length vs ≤ n) [
   | inl more ↦
       let r = too_many n vs long more in
-      absurd (r.nonzero (zero_from r.c (free r.c r.long (λ k. sym (entry-comb n r.c vs k long) ∙ zero_entry (comb n r.c vs) r.none k))))
+      absurd (r.nonzero (zero_from r.c (λ i lt. free r.c r.long (λ k. sym (entry-comb n r.c vs k long) ∙ zero_entry (comb n r.c vs) r.none k) i)))
   | inr le ↦ le
 ]
 

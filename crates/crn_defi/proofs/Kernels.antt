@@ -9,9 +9,8 @@ use Rattle.crn_vec.specs.Lists.{IsIn}
 use Rattle.crn_vec.specs.Vectors.{entry, dot, column, AreOfLength}
 use Rattle.crn_vec.specs.Rank.{IsZero, combination_at, IsIndependent}
 use Rattle.crn_vec.proofs.CallerLemmas.{lt_or, past_end, length-column, no_zero, dot-comm, dot-zero, dots, comb, length-comb, entry-comb, transposed, Zero, Solves, null, Related}
-use Rattle.crn_vec.proofs.CallerLemmas.{in_range}
+use Rattle.crn_vec.proofs.CallerLemmas.{in_range, zero_from}
 use Rattle.crn_defi.proofs.Counted.{zero_entry}
-use Rattle.crn_defi.proofs.Weights.{zero_from}
 use Rattle.crn_defi.proofs.Parts.{IsPart, part_later, zero_more, spread}
 use Rattle.crn_defi.proofs.SpaceFew.{dots_none}
 
@@ -44,7 +43,7 @@ free_or n vs wide =
         c = f.solution;
         long = f.long;
         nonzero = f.nonzero;
-        none = zero_from (comb n f.solution vs) (λ k. elim (lt_or k n) as (λ _. entry (comb n f.solution vs) k ≡ pos 0) [
+        none = zero_from (comb n f.solution vs) (λ k lt. elim (lt_or k n) as (λ _. entry (comb n f.solution vs) k ≡ pos 0) [
           | inl lt ↦ entry-comb n f.solution vs k wide ∙ columns_solved vs f.solution ks f.solves k (in_range k 0 n (omega arith) (omega (arith, lt)))
           | inr le ↦ past_end (comb n f.solution vs) k (omega (arith, length-comb n f.solution vs wide, le))
         ]);
@@ -112,9 +111,9 @@ head_counts : (n : ℕ) (v : List ℤ) (us : List (List ℤ)) (x : ℤ) (c : Lis
 head_counts n v us x c wide free long some none e =
     some (
       e,
-      zero_from c (free c long (λ k.
+      zero_from c (λ i lt. free c long (λ k.
           let f : x *ℤ entry v k ≡ pos 0 *ℤ entry v k = ap (λ (t : ℤ). t *ℤ entry v k) e in
-          omega (arith, ints, none k, f, zero-*ℤ (entry v k)))),
+          omega (arith, ints, none k, f, zero-*ℤ (entry v k))) i),
     )
 
 -- the part of the list without its first vector, and one relation more

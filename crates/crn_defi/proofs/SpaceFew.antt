@@ -13,9 +13,9 @@ use Rattle.crn_vec.specs.Rank.{IsZero, combination_at, IsIndependent}
 use Rattle.crn_vec.specs.Deficiency.{IsDeficiency}
 use Rattle.crn_vec.specs.Confluence.{InConfluenceSpace}
 use Rattle.crn_vec.proofs.CallerLemmas.{all_in, all_from, lt_or, past_end, length-column, dot-comm, dot-zero, dots, comb, transposed, Zero, Related, too_many, unit, gain, gain_same, gain_made, class_link}
-use Rattle.crn_vec.proofs.CallerLemmas.{in_range}
+use Rattle.crn_vec.proofs.CallerLemmas.{in_range, zero_from}
 use Rattle.crn_defi.proofs.Places.{range_distinct, taken, taken_vectors, taken_in}
-use Rattle.crn_defi.proofs.Weights.{unit_here, unit_other, marks, one_marked, AreWithinList, rows, rows_wide, rows_count, rows_weighed, of_label, none_left, zero_both, zero_from}
+use Rattle.crn_defi.proofs.Weights.{unit_here, unit_other, marks, one_marked, AreWithinList, rows, rows_wide, rows_count, rows_weighed, of_label, none_left, zero_both}
 use Rattle.crn_defi.proofs.Rooted.{Rooted, rooted}
 
 -- ---- weights of all complexes
@@ -158,7 +158,7 @@ few_three net roots rs gs network root from free space apart = elim (lt_or (leng
       let gone : dot own (dots gs (weights n m)) ≡ pos 0 = dots_none gs (weights n m) own (λ g q. species_none net g s (space g q) (length-column net.complexes s)) in
       omega (arith, ints, none m, gone, back_none m, gain_made net (length net.names) rs prefix s network.partial.vectors (all_from (JoinsTwo n) rs joins)) in
       let prefix_is_zero : IsZero prefix = free prefix (omega (arith, prefix_long, length-map rs (reaction_vector net))) still in
-      let prefix_zero : Zero prefix = zero_from prefix prefix_is_zero in
+      let prefix_zero : Zero prefix = zero_from prefix (λ k lt. prefix_is_zero k) in
       let own_still : (y : ℕ) → combination_at own gs y ≡ pos 0 = λ y.
       elim (lt_or y n) as (λ _. combination_at own gs y ≡ pos 0) [
         | inl lt ↦
@@ -167,7 +167,7 @@ few_three net roots rs gs network root from free space apart = elim (lt_or (leng
             omega (arith, ints, none (unit y), back_none (unit y), kept, read)
         | inr le ↦ column_none gs y own (λ g q. past_end g y (omega (arith, (space g q).long, le)))
       ] in
-      let own_zero : Zero own = zero_from own (apart own own_long own_still) in
+      let own_zero : Zero own = zero_from own (λ k lt. apart own own_long own_still k) in
       absurd (r.nonzero (zero_both c j own_zero (zero_both rest k prefix_zero back_zero)))
 ]
 

@@ -13,9 +13,9 @@ use Rattle.crn_vec.specs.Rank.{IsZero, combination_at, IsIndependent}
 use Rattle.crn_vec.specs.Deficiency.{IsDeficiency, vectors}
 use Rattle.crn_vec.specs.Confluence.{InConfluenceSpace}
 use Rattle.crn_vec.proofs.CallerLemmas.{in_map, map_in, in_left, in_right, all_in, all_from, eq_or, lt_or, past_end, length-column, vector_long, length-minus, dot-comm, dots, comb, length-comb, entry-comb, transposed, null, unit, gain, gain_same, gain_made, class_link, leads_keeps}
-use Rattle.crn_vec.proofs.CallerLemmas.{in_range}
+use Rattle.crn_vec.proofs.CallerLemmas.{in_range, zero_from}
 use Rattle.crn_defi.proofs.Places.{range_distinct}
-use Rattle.crn_defi.proofs.Weights.{unit_here, unit_other, marks, step, one_marked, step_marked, rows, rows_wide, rows_count, of_label, zero_from}
+use Rattle.crn_defi.proofs.Weights.{unit_here, unit_other, marks, step, one_marked, step_marked, rows, rows_wide, rows_count, of_label}
 use Rattle.crn_defi.proofs.Rooted.{Rooted, rooted}
 use Rattle.crn_defi.proofs.Parts.{in_part, part_then, part_map, part_few, mapped}
 use Rattle.crn_defi.proofs.SpaceFew.{weights, length-weights, entry-weights, weights_again, space_few}
@@ -77,7 +77,7 @@ steps_reach net roots fs network root kept =
                 leads_keeps (IsLinked net.reactions) (λ z. entry w z ≡ pos 0) zero_on t y (root.same t y (root.inside t i) lt (root.own t i)) (at_root t i)
             | inr le ↦ past_end w y (omega (arith, f.long, le))
           ] in
-          absurd (f.nonzero (zero_from w all))
+          absurd (f.nonzero (zero_from w (λ k lt. all k)))
     ]
 
 -- ---- a relation of reaction vectors, carried into the complexes, is in the confluence space

@@ -1,6 +1,6 @@
 -- The terminal strong classes of each linkage class.
-use Rattle.std.proofs.Common.{◌≡◌, ℕ, zero, suc, ◌-◌, ◌<◌, ◌≤◌, ◌==◌, ◌⊎◌, inl, inr, Bool, true, false, List, [], ◌∷◌, length, get_or, refl, sym, ap, subst, ◌∙◌, arith}
-use Rattle.std.specs.Prelude.{◌||◌, filter, count_by}
+use Rattle.std.proofs.Common.{◌≡◌, ℕ, zero, suc, ◌-◌, ◌<◌, ◌≤◌, ◌==◌, ◌⊎◌, inl, inr, Bool, true, List, [], ◌∷◌, length, get_or, refl, sym, ap, subst, ◌∙◌, arith}
+use Rattle.std.specs.Prelude.{filter, count_by}
 use Rattle.std.specs.List.{list_any, range_with_len}
 use Rattle.std.proofs.lemmas.Bool.{eqb-true, eq-eqb}
 use Rattle.std.proofs.lemmas.List.Sums.{length-filter}
@@ -10,7 +10,7 @@ use Rattle.crn_vec.specs.Linkage.{SameClass}
 use Rattle.crn_vec.specs.Strong.{ReactsTo, Reaches, SameStrong, IsTerminal, LeavesClass}
 use Rattle.crn_vec.specs.Deficiency.{IsComplex, IsLabelled, HasTerminalClasses, HasOneTerminalEach}
 use Rattle.crn_vec.proofs.CallerLemmas.{leads_keeps, reaction_in, inside_at, in_range, filter_has, filter_from, and_cases, and_true}
-use Rattle.crn_vec.proofs.CallerLemmas.{range_bounds, any_has}
+use Rattle.crn_vec.proofs.CallerLemmas.{range_bounds, any_has, any_some}
 use Rattle.crn_cert.specs.Says.{AreLinkageClasses, AreStrongClasses}
 use Rattle.crn_cert.specs.ClassTests.{of_class, DoLevelsFall}
 use Rattle.crn_cert.specs.Valid.{is_in_both, is_terminal_in, terminals_of}
@@ -18,14 +18,6 @@ use Rattle.crn_defi.specs.Inner.Terminals.{AreClassNumbers, HaveOneUpTo}
 use Rattle.crn_defi.proofs.Places.{one_label}
 
 -- ---- tests of lists
-
-any_some : (p : ℕ → Bool) (xs : List ℕ) → list_any p xs ≡ true → (x : ℕ) × IsIn x xs × (p x ≡ true)
-any_some p [] e = cc
-any_some p (x ∷ xs) e = by_first p x xs (any_some p xs) (p x) refl e
-  where
-    by_first : (p : ℕ → Bool) (x : ℕ) (xs : List ℕ) → (list_any p xs ≡ true → (y : ℕ) × IsIn y xs × (p y ≡ true)) → (b : Bool) → p x ≡ b → (b || list_any p xs) ≡ true → (y : ℕ) × IsIn y (x ∷ xs) × (p y ≡ true)
-    by_first p x xs later true h e = (x, inl refl, h)
-    by_first p x xs later false h e = let r = later e in (r.0, inr r.1, r.2)
 
 -- ---- how many pass a test
 

@@ -3,7 +3,7 @@ use Rattle.std.proofs.Common.{◌≡◌, ◌≤◌, ◌+◌, ◌-◌, ◌++◌, 
 use Rattle.std.specs.Prelude.{ℤ, if◌then◌else◌}
 use Rattle.std.specs.List.{AllByRecursion, AllZip, flat_map}
 use Rattle.std.proofs.lemmas.Bool.{eqb-true}
-use Rattle.std.proofs.lemmas.List.{length-map}
+use Rattle.std.proofs.lemmas.List.{length-map, map-append}
 use Rattle.crn_io.specs.Lines.{Place}
 use Rattle.crn_vec.specs.Network.{Net}
 use Rattle.crn_vec.specs.declared.limits.TheConstants.{MAX_COMPLEXES}
@@ -17,6 +17,7 @@ use Rattle.crn_cert.specs.Tests.{Test, AllHold, FailsFirst}
 use Rattle.crn_cert.specs.Valid.{HasVector, exits, head_tests, linkage, linkage_count, row_tests, strong, tests_of}
 use Rattle.crn_pairs.specs.Pairs.{pairs_to}
 use Rattle.crn_cert.specs.Formed.{IsFormed, IsFormedOf}
+use Rattle.crn_cert.proofs.CallerLemmas.{hold_parts}
 use Rattle.crn_ctext.specs.Records.{Record, Form, Fits}
 use Rattle.crn_ctext.specs.Questions.{Shapes, later_numbers}
 use Rattle.crn_ctext.specs.Course.{Course, Give, ◌>>=◌, Gives}
@@ -60,10 +61,6 @@ unfolding claims course.FailsFirst
 claims_fail n [] part code place f = absurd f
 claims_fail n (c ∷ cs) part code place (inl f) = inl (ap (λ (k : ℕ). n + k) (sym f.1), sym f.2, λ x. f.0)
 claims_fail n (c ∷ cs) part code place (inr f) = inr (tt, f.0, claims_fail n cs part code place f.1)
-
-hold_after : (hs ts : List {1} Test) → AllHold (hs ++ ts) → AllHold ts
-hold_after [] ts h = h
-hold_after (t ∷ hs) ts h = hold_after hs ts h.1
 
 fail_after : (hs ts : List {1} Test) (part code : ℕ) → AllHold hs → FailsFirst (hs ++ ts) part code → FailsFirst ts part code
 fail_after [] ts part code h f = f
@@ -122,19 +119,15 @@ rows_may net labels exits terminal classes n place parts most few a =
 
 -- ---- what is known
 
-map_push : {A B : Type 0} (f : A → B) (xs : List A) (x : A) → map f (xs ++ x ∷ []) ≡ map f xs ++ f x ∷ []
-map_push f [] x = refl
-map_push f (y ∷ ys) x = ap (λ (t : List _). f y ∷ t) (map_push f ys x)
-
 pub so_far_next : (qs : List Question) (q : Question) (old new : Earlier) (v : Verdict) → map (λ (e : Question × Verdict). e.0) old ≡ qs → new ≡ old ++ (q, v) ∷ [] → map (λ (e : Question × Verdict). e.0) new ≡ qs ++ q ∷ []
 so_far_next qs q old new v so_far same =
-    ap (λ (es : Earlier). map (λ (e : Question × Verdict). e.0) es) same ∙ map_push (λ (e : Question × Verdict). e.0) old (q, v)
+    ap (λ (es : Earlier). map (λ (e : Question × Verdict). e.0) es) same ∙ map-append (λ (e : Question × Verdict). e.0) old ((q, v) ∷ [])
     ∙ ap (λ (xs : List Question). xs ++ q ∷ []) so_far
 
 pub kept_next : (q : Question) (old new : Earlier) (vs ws : List Verdict) (v : Verdict) → map tight vs ≡ map (λ (e : Question × Verdict). e.1) old → new ≡ old ++ (q, tight v) ∷ [] → ws ≡ vs ++ v ∷ [] → map tight ws ≡ map (λ (e : Question × Verdict). e.1) new
 kept_next q old new vs ws v is same all =
-    ap (λ (x : List Verdict). map tight x) all ∙ map_push tight vs v ∙ ap (λ (x : List Verdict). x ++ tight v ∷ []) is
-    ∙ sym (ap (λ (es : Earlier). map (λ (e : Question × Verdict). e.1) es) same ∙ map_push (λ (e : Question × Verdict). e.1) old (q, tight v))
+    ap (λ (x : List Verdict). map tight x) all ∙ map-append tight vs (v ∷ []) ∙ ap (λ (x : List Verdict). x ++ tight v ∷ []) is
+    ∙ sym (ap (λ (es : Earlier). map (λ (e : Question × Verdict). e.1) es) same ∙ map-append (λ (e : Question × Verdict). e.1) old ((q, tight v) ∷ []))
 
 -- ---- after the records of a block
 
@@ -184,7 +177,7 @@ answer_formed net n facts head rows h rs a other built known hold b is =
 
 pub answer_holds : (net : Net) (earlier : Earlier) (n : ℕ) (head : List ℤ) (rs : List Record) (a : Answer) → IsAnswerOf net earlier n head rs a → AllHold (tests_of net earlier (asked n) a) → AllHold (row_tests net earlier (asked n) (said_verdict n head rs) (said_proof net earlier n head rs))
 answer_holds net earlier n head rs a is h =
-    other_answer (λ v p. AllHold (row_tests net earlier (asked n) v p)) net earlier n head rs a is (hold_after (head_tests net earlier (asked n) a.verdict) (row_tests net earlier (asked n) a.verdict a.proof) h)
+    other_answer (λ v p. AllHold (row_tests net earlier (asked n) v p)) net earlier n head rs a is (hold_parts (head_tests net earlier (asked n) a.verdict) (row_tests net earlier (asked n) a.verdict a.proof) h).1
 
 -- the tests of its head hold
 pub answer_heads : (net : Net) (n : ℕ) (facts : KeptFacts) (head : List ℤ) (rows : List (List ℤ)) (h : Record) (rs : List Record) (a : Answer) → IsBuilt n → IsKnown net (before n) facts → HeadHolds net facts.earlier n head → IsBlock net facts.earlier n head rows h rs → IsAnswerOf net facts.earlier n head rs a

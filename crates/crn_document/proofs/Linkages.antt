@@ -1,5 +1,5 @@
 -- The linkage classes that are known before a block, by the verdicts on all questions before it.
-use Rattle.std.proofs.Common.{◌≡◌, ◌≤◌, ◌<◌, ◌+◌, ◌-◌, ◌++◌, ◌∙◌, ℕ, zero, suc, Bool, true, false, List, [], ◌∷◌, length, map, drop, refl, sym, subst, ap, inl, inr, arith}
+use Rattle.std.proofs.Common.{◌≡◌, ◌≤◌, ◌+◌, ◌-◌, ◌++◌, ◌∙◌, ℕ, zero, suc, Bool, true, false, List, [], ◌∷◌, length, map, drop, refl, sym, subst, ap, inl, inr, arith}
 use Rattle.std.specs.Prelude.{codes, filter, replicate, ◌&&◌, ◌⊎◌}
 use Rattle.std.proofs.Common.{cond, ap₂, append_assoc, Result, Ok, Err, OnOk, Bor}
 use Rattle.std.specs.List.{AllByRecursion, range_with_len}
@@ -9,7 +9,7 @@ use Rattle.std.proofs.lemmas.List.{length-replicate}
 use Rattle.crn_vec.specs.Lists.{IsIn, IsAscending}
 use Rattle.crn_vec.specs.Network.{Net}
 use Rattle.crn_vec.specs.declared.limits.TheConstants.{MAX_COMPLEXES, MAX_REACTIONS}
-use Rattle.crn_vec.proofs.CallerLemmas.{filter_few, above_ascending, filter_above, range_above, filter_from, range_bounds}
+use Rattle.crn_vec.proofs.CallerLemmas.{filter_few, above_ascending, filter_above, range_above, filter_from, range_bounds, all_from, range_more}
 use Rattle.crn_cert.specs.declared.answer.Gap.TheVariants.{Wide, Budget, Rests}
 use Rattle.crn_cert.specs.declared.answer.Verdict.{Verdict}
 use Rattle.crn_cert.specs.declared.answer.Verdict.TheVariants.{Classes, Strong, Unknown}
@@ -122,16 +122,10 @@ terminal_few net n facts k e =
 
 -- ---- the members of a class, one reaction after another
 
-range_more : (a n : ℕ) → range_with_len a (suc n) ≡ range_with_len a n ++ (a + n) ∷ []
-range_more a zero = ap (λ (k : ℕ). k ∷ []) (omega arith)
-range_more a (suc n) = ap (λ (t : List ℕ). a ∷ t) (range_more (a + 1) n ∙ ap (λ (k : ℕ). range_with_len (a + 1) n ++ k ∷ []) (omega arith))
-
 pub filter_step : (net : Net) (labels : List ℕ) (k n : ℕ) → filter (λ r. is_in_class net labels k r) (range_with_len 1 (n + 1)) ≡ filter (λ r. is_in_class net labels k r) (range_with_len 1 n) ++ filter (λ r. is_in_class net labels k r) ((n + 1) ∷ [])
 filter_step net labels k n =
     let p : ℕ → Bool = λ r. is_in_class net labels k r in
-    let m : n + 1 ≡ suc n = omega arith in
-    let w : 1 + n ≡ n + 1 = omega arith in
-    ap (λ (j : ℕ). filter p (range_with_len 1 j)) m ∙ ap (λ (t : List ℕ). filter p t) (range_more 1 n) ∙ filter-append p (range_with_len 1 n) ((1 + n) ∷ []) ∙ ap (λ (j : ℕ). filter p (range_with_len 1 n) ++ filter p (j ∷ [])) w
+    ap (λ (t : List ℕ). filter p t) (range_more 1 n (n + 1) (omega arith)) ∙ filter-append p (range_with_len 1 n) ((n + 1) ∷ [])
 
 le_cons : (b : Bool) (x : ℕ) (xs ys : List ℕ) → length ys ≤ length xs → length (cond b (x ∷ ys) ys) ≤ length (x ∷ xs)
 le_cons true x xs ys l = omega (arith, l)
@@ -154,15 +148,11 @@ member_few net labels k n i = let l = range_bounds n 1 (length net.reactions) (f
 pub members_ascending : (net : Net) (labels : List ℕ) (k : ℕ) → IsAscending (members_of net labels k)
 members_ascending net labels k = above_ascending 0 (members_of net labels k) (filter_above (λ r. is_in_class net labels k r) 0 (range_with_len 1 (length net.reactions)) (range_above 0 1 (length net.reactions) (omega arith)))
 
-all_few : (most : ℕ) (xs : List ℕ) → ((n : ℕ) → IsIn n xs → n ≤ most) → AllByRecursion (λ m. m ≤ most) xs
-all_few most [] h = tt
-all_few most (x ∷ xs) h = (h x (inl refl), all_few most xs (λ n i. h n (inr i)))
-
 -- a base of the members of a class may be due
 pub base_due : (net : Net) (labels : List ℕ) (c k rank : ℕ) (members : Bor (List ℕ)) → length net.reactions ≤ MAX_REACTIONS → rank ≤ MAX_REACTIONS → members.now ≡ members_of net labels k → IsOwnDue c (record_form (codes "base") (Members rank (members_of net labels k) ∷ [])) (DueBase rank members)
 base_due net labels c k rank members few le is = (
   ap (λ (ms : List ℕ). record_form (codes "base") (Members rank ms ∷ [])) is,
-  λ version. (omega (arith, le), subst IsAscending (sym is) (members_ascending net labels k), subst (λ (ms : List ℕ). AllByRecursion (λ m. m ≤ MAX_REACTIONS) ms) (sym is) (all_few MAX_REACTIONS (members_of net labels k) (λ n i. let l = member_few net labels k n i in omega (arith, l, few)))),
+  λ version. (omega (arith, le), subst IsAscending (sym is) (members_ascending net labels k), subst (λ (ms : List ℕ). AllByRecursion (λ m. m ≤ MAX_REACTIONS) ms) (sym is) (all_from (λ m. m ≤ MAX_REACTIONS) (members_of net labels k) (λ n i. let l = member_few net labels k n i in omega (arith, l, few)))),
 )
 
 -- class 0 has all reactions

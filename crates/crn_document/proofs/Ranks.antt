@@ -1,5 +1,5 @@
 -- The records that prove ranks: their forms, the proofs that they are, and the places of their tests.
-use Rattle.std.proofs.Common.{◌≡◌, ◌≤◌, ◌<◌, ◌+◌, ◌-◌, ◌++◌, ◌∙◌, ℕ, zero, suc, Bool, true, false, cond, ◌==◌, List, [], ◌∷◌, length, map, take, drop, replicate, refl, sym, subst, ap, ap₂, append_assoc, inl, inr, arith}
+use Rattle.std.proofs.Common.{◌≡◌, ◌≤◌, ◌<◌, ◌+◌, ◌-◌, ◌++◌, ◌∙◌, ℕ, zero, suc, Bool, true, false, cond, ◌==◌, List, [], ◌∷◌, length, map, take, drop, replicate, refl, sym, subst, ap, ap₂, append_assoc, arith}
 use Rattle.std.specs.Prelude.{ℤ, pos, codes, nat_abs, min, slice_index_or}
 use Rattle.std.specs.List.{AllByRecursion, AllZip, range_with_len, flat_map}
 use Rattle.std.proofs.lemmas.List.{length-map, map-append, length-replicate, length-append, drop-take, drop-drop}
@@ -8,7 +8,7 @@ use Rattle.crn_vec.specs.Kept.{KeptNums}
 use Rattle.crn_vec.specs.Network.{Net}
 use Rattle.crn_vec.specs.Deficiency.{class_members}
 use Rattle.crn_vec.specs.declared.limits.TheConstants.{MAX_COMPLEXES, MAX_REACTIONS}
-use Rattle.crn_vec.proofs.CallerLemmas.{abs_back}
+use Rattle.crn_vec.proofs.CallerLemmas.{abs_back, all_in}
 use Rattle.crn_ctext.proofs.CallerLemmas.{zip_long}
 use Rattle.crn_cert.specs.declared.answer.RankProof.{RankProof}
 use Rattle.crn_cert.specs.Questions.{Earlier}
@@ -140,11 +140,6 @@ free_rows word count (suc n) (r ∷ rs) z =
     let more = free_rows word count n rs z.1 in
     record { long = ap (λ (k : ℕ). suc k) more.long; each = (free_row word count r z.0, more.each) }
 
-all_in : (members ns : List ℕ) → AllByRecursion (λ n. IsIn n members) ns → (r : ℕ) → IsIn r ns → IsIn r members
-all_in members [] a r i = absurd i
-all_in members (n ∷ ns) a r (inl e) = subst (λ (m : ℕ). IsIn m members) (sym e) a.0
-all_in members (n ∷ ns) a r (inr i) = all_in members ns a.1 r i
-
 all_small : (members ns : List ℕ) → ((n : ℕ) → IsIn n members → n ≤ MAX_REACTIONS) → AllByRecursion (λ n. IsIn n members) ns → AreSmall (map pos ns)
 all_small members [] few a = tt
 all_small members (n ∷ ns) few a = (let l = few n a.0 in omega (arith, l), all_small members ns few a.1)
@@ -164,7 +159,7 @@ base_row rank members r f =
     let same : map nat_abs r.numbers ≡ ns = ap (λ (zs : List ℤ). map nat_abs zs) t.1 ∙ abs_back ns in record {
       long = ap (λ (xs : List ℕ). length xs) same ∙ t.2;
       ascending = subst IsAscending (sym same) t.3;
-      from = λ x i. all_in members ns t.4 x (subst (λ (xs : List ℕ). IsIn x xs) same i);
+      from = λ x i. all_in (λ n. IsIn n members) ns x t.4 (subst (λ (xs : List ℕ). IsIn x xs) same i);
       small = λ few. subst AreSmall (sym t.1) (all_small members ns few t.4);
     }
 

@@ -5,8 +5,7 @@ use Rattle.std.proofs.lemmas.Bool.{false≢true}
 use Rattle.crn_vec.specs.declared.signs.Kind.{Kind}
 use Rattle.crn_vec.specs.Lists.{IsIn}
 use Rattle.crn_vec.specs.Systems.{kind_at}
-use Rattle.crn_vec.proofs.CallerLemmas.{eq_or, lt_or, look_at}
-use Rattle.crn_tab.proofs.CallerLemmas.{place_in}
+use Rattle.crn_vec.proofs.CallerLemmas.{eq_or, lt_or, look_at, at_in}
 use Rattle.crn_farkas.specs.Inner.Views.{IsOrder, is_early_kind, level_count}
 use Rattle.crn_farkas.proofs.Finals.{early_or, level_is, level_not, level_step, level_prefix, level_all, one_level, both_levels}
 
@@ -63,7 +62,7 @@ placed_order order level n start order_long level_long le h =
       all = λ c lt.
           let t = h.there c lt in
           let inside : slice_index level c < length order = elim t.0 [ inl below ↦ omega (arith, below, le, order_long) | inr r ↦ omega (arith, r.1, order_long) ] in
-          subst (λ (k : ℕ). IsIn k order) t.1 (place_in order (slice_index level c) inside);
+          subst (λ (k : ℕ). IsIn k order) t.1 (at_in order (slice_index level c) 0 inside);
       long = level_long;
       are = λ j lt.
           let b = h.back j (given j (omega (arith, lt, order_long))) in

@@ -1,8 +1,9 @@
 use crn_cert::{
     Answer, Answers, Gap, Proof, RankList, RankProof, Rows, Verdict, Verdicts,
-    formed_answers_have_formed_verdicts, heads_depend_on_no_lists, pair_places_are_pairs,
-    shapes_exist, shares_fit, tested_marks_are_sides, tests_decide_valid_trees,
-    valid_answers_are_true, valid_documents_are_true, valid_trees_leave_nothing,
+    formed_answers_have_formed_verdicts, heads_depend_on_no_lists, nodes_are_of_one_tree,
+    pair_places_are_pairs, shapes_exist, shares_fit, tested_marks_are_sides,
+    tests_decide_valid_trees, valid_answers_are_true, valid_documents_are_true,
+    valid_trees_leave_nothing,
 };
 use crn_vec::{Ints, Nums};
 use std::process::Abort;
@@ -125,4 +126,5 @@ fn laws_hold() {
     formed_answers_have_formed_verdicts();
     tests_decide_valid_trees();
     shares_fit();
+    nodes_are_of_one_tree();
 }

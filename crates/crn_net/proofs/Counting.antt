@@ -14,11 +14,10 @@ use Rattle.crn_net.specs.declared.fault.NetFault.TheVariants.{SelfReaction, TooM
 use Rattle.crn_net.specs.declared.term.Term.{Term}
 use Rattle.crn_net.specs.Terms.{name_at, side_of}
 use Rattle.crn_net.specs.Inner.Steps.{NotesName, NotesSide, IsRowFor}
-use Rattle.crn_vec.proofs.CallerLemmas.{in_at, in_right, same_place, distinct_push, firsts_has, none_said}
+use Rattle.crn_vec.proofs.CallerLemmas.{in_at, in_right, same_place, distinct_push, firsts_has, none_said, entry_of_zeros}
 use Rattle.crn_net.proofs.Amounts.{amount_yes, amount_no}
 use Rattle.crn_net.proofs.Members.{amount_part}
 use Rattle.crn_net.proofs.Names.{no_more, names_known, names_new, names_over, names_of_side, kept_push, kept_all}
-use Rattle.crn_net.proofs.Rows.{zeros_at}
 
 -- place by place: the row holds the amounts of the names on the side, and then 0
 pub record IsCounted (names : List (List ℕ)) (side : List (List ℕ × ℕ)) (row : List ℤ) : Type 0 where
@@ -114,8 +113,8 @@ noting_none old text side distinct few = record {
   kept = kept_all old;
   counted = record {
     long = length-replicate MAX_SPECIES (pos 0);
-    amounts = λ k lt. zeros_at MAX_SPECIES k;
-    rest = λ k le. zeros_at MAX_SPECIES k;
+    amounts = λ k lt. entry_of_zeros MAX_SPECIES k;
+    rest = λ k le. entry_of_zeros MAX_SPECIES k;
   };
 }
 

@@ -11,14 +11,13 @@ use Rattle.std.proofs.Math.Seq.{take-append_seam, get_or-append_seam}
 use Rattle.crn_vec.specs.Lists.{IsIn, firsts}
 use Rattle.crn_vec.specs.Network.{Net, IsPartialNetwork, IsVector, Statement, amounts_in, amount_in, names_in}
 use Rattle.crn_vec.specs.declared.limits.TheConstants.{MAX_SPECIES, MAX_COMPLEXES, MAX_REACTIONS}
-use Rattle.crn_vec.proofs.CallerLemmas.{in_at, any_is, row_decides, reaction_decides, map_twice, map_same, all_in}
+use Rattle.crn_vec.proofs.CallerLemmas.{in_at, any_is, row_decides, reaction_decides, map_twice, map_same, all_in, entry_of_zeros}
 use Rattle.crn_net.specs.Grows.{Grows, AddGives, IsSelf, with_zeros, names_with, complexes_with, reactions_with}
 use Rattle.crn_net.specs.Views.{net_of, IsRow, AreRows}
 use Rattle.crn_net.specs.Inner.Steps.{SaysSame, Puts, IsRowFor, PutsBoth, Built, IsOver}
 use Rattle.crn_net.specs.declared.fault.NetFault.TheVariants.{TooManyReactions}
 use Rattle.crn_net.proofs.Adding.{built_grows, build_stops, says_self}
 use Rattle.crn_net.proofs.Growth.{Ready, Wider, left_over_limit, right_over_limit}
-use Rattle.crn_net.proofs.Rows.{zeros_at}
 use Rattle.crn_net.proofs.Species.{IsSaid, wider_names}
 
 -- ---- rows
@@ -30,7 +29,7 @@ row_of n v is few =
       ap (λ (k : ℕ). take k (v ++ zeros)) (sym is) ∙ take-append_seam v zeros,
       record {
         long = omega (arith, is, few, length-append v zeros, length-replicate (MAX_SPECIES - length v) (pos 0));
-        rest = λ k le. get_or-append_right v zeros n k (pos 0) is le ∙ zeros_at (MAX_SPECIES - length v) (k - n);
+        rest = λ k le. get_or-append_right v zeros n k (pos 0) is le ∙ entry_of_zeros (MAX_SPECIES - length v) (k - n);
       },
     )
 

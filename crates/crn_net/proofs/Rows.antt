@@ -4,16 +4,13 @@ use Rattle.std.specs.Prelude.{ℤ, pos}
 use Rattle.std.specs.Bool.{Decides}
 use Rattle.std.specs.List.{AllByRecursion}
 use Rattle.std.proofs.lemmas.Bool.{cases_lt}
-use Rattle.std.proofs.lemmas.List.{get_or-replicate, get_or_past, length-replicate, ext_get_or, get_or-take, length-take-le, length-append, get_or_append_left, get_or-append_right, length_push}
+use Rattle.std.proofs.lemmas.List.{length-replicate, ext_get_or, get_or-take, length-take-le, length-append, get_or_append_left, get_or-append_right, length_push}
 use Rattle.crn_vec.specs.Lists.{IsIn, AreDistinct, firsts}
 use Rattle.crn_vec.specs.declared.limits.TheConstants.{MAX_SPECIES}
 use Rattle.crn_net.specs.Views.{vectors_of, IsRow, AreRows}
 use Rattle.crn_net.specs.Grows.{with_zeros}
 use Rattle.crn_net.specs.Inner.Steps.{Puts}
-use Rattle.crn_vec.proofs.CallerLemmas.{map_twice, map_same, all_in, all_push, at_in, distinct_push, firsts_known, firsts_new, firsts_all}
-
-pub zeros_at : (n k : ℕ) → get_or (replicate n (pos 0)) k (pos 0) ≡ pos 0
-zeros_at n k = elim (cases_lt k n) [ inl lt ↦ get_or-replicate n k (pos 0) (pos 0) lt | inr le ↦ get_or_past (replicate n (pos 0)) k (pos 0) (omega (arith, length-replicate n (pos 0))) ]
+use Rattle.crn_vec.proofs.CallerLemmas.{map_twice, map_same, all_in, all_push, at_in, distinct_push, firsts_known, firsts_new, firsts_all, entry_of_zeros}
 
 -- ---- rows as vectors
 
@@ -40,7 +37,7 @@ row_with_zeros n m a le few p =
     let other : length (take m a) ≡ m = length-take-le m a (omega arith) in
     ext_get_or (pos 0) (with_zeros m (take n a)) (take m a) (whole ∙ sym other) (λ k lt. elim (cases_lt k n) [
       | inl below ↦ get_or_append_left (take n a) zeros (pos 0) k (omega arith) ∙ get_or-take n a k (pos 0) below ∙ sym (get_or-take m a k (pos 0) (omega arith))
-      | inr above ↦ get_or-append_right (take n a) zeros n k (pos 0) prefix above ∙ zeros_at (m - length (take n a)) (k - n) ∙ sym (get_or-take m a k (pos 0) (omega arith) ∙ p.rest k above)
+      | inr above ↦ get_or-append_right (take n a) zeros n k (pos 0) prefix above ∙ entry_of_zeros (m - length (take n a)) (k - n) ∙ sym (get_or-take m a k (pos 0) (omega arith) ∙ p.rest k above)
     ])
 
 -- the vectors of rows, with zeros for the new names

@@ -7,10 +7,9 @@ use Rattle.std.proofs.lemmas.Int.{ints}
 use Rattle.crn_vec.specs.Lists.{IsIn}
 use Rattle.crn_vec.specs.Network.{IsAmount, ends, amount_in, amounts_in}
 use Rattle.crn_vec.specs.declared.limits.TheConstants.{MAX_AMOUNT}
-use Rattle.crn_vec.proofs.CallerLemmas.{IsNumberedInOrder, in_left, in_right, in_push, in_at, all_from, all_map, all_append}
+use Rattle.crn_vec.proofs.CallerLemmas.{IsNumberedInOrder, in_left, in_right, in_push, in_at, all_from, all_map, all_append, entry_of_zeros}
 use Rattle.crn_net.specs.Grows.{with_zeros}
 use Rattle.crn_net.specs.Inner.Steps.{Puts}
-use Rattle.crn_net.proofs.Rows.{zeros_at}
 
 -- ---- numbering
 
@@ -78,7 +77,7 @@ covers_both before middle after y z rs rs' h s (inr p) =
 -- ---- amounts
 
 in_zeros : (n : ℕ) (x : ℤ) → IsIn x (replicate n (pos 0)) → x ≡ pos 0
-in_zeros n x i = let r = in_at x (replicate n (pos 0)) (pos 0) i in sym r.2 ∙ zeros_at n r.0
+in_zeros n x i = let r = in_at x (replicate n (pos 0)) (pos 0) i in sym r.2 ∙ entry_of_zeros n r.0
 
 all_zeros : (n : ℕ) → AllByRecursion IsAmount (replicate n (pos 0))
 all_zeros n = all_from IsAmount (replicate n (pos 0)) (λ x i. let e = in_zeros n x i in subst IsAmount (sym e) (omega (arith, ints), omega (arith, ints)))

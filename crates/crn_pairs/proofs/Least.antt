@@ -1,10 +1,9 @@
 -- Least reactions of pairs, one reaction after another.
-use Rattle.std.proofs.Common.{◌≡◌, ℕ, zero, suc, ◌+◌, ◌-◌, ◌<◌, ◌==◌, ◌&&◌, ◌||◌, not, inl, inr, Bool, true, false, List, [], ◌∷◌, ◌++◌, get_or, refl, sym, ap, ◌∙◌, arith}
+use Rattle.std.proofs.Common.{◌≡◌, ℕ, ◌+◌, ◌-◌, ◌<◌, ◌&&◌, ◌||◌, not, Bool, true, false, List, [], ◌∷◌, ◌++◌, get_or, refl, ap, ◌∙◌, arith}
 use Rattle.std.specs.Prelude.{filter}
 use Rattle.std.specs.List.{list_any, range_with_len}
-use Rattle.std.proofs.lemmas.Bool.{cases_Bool, eqb-true, eqb-false}
 use Rattle.crn_vec.specs.Network.{Net}
-use Rattle.crn_vec.proofs.CallerLemmas.{range_more, filter_yes, filter_no, or_right, before_one}
+use Rattle.crn_vec.proofs.CallerLemmas.{range_more, filter_yes, filter_no, before_one, any_has, in_range}
 use Rattle.crn_cert.specs.Valid.{ends_at, is_same_pair, is_least_of_pair}
 use Rattle.crn_pairs.specs.Pairs.{is_within, is_pair, pairs_to}
 
@@ -39,19 +38,8 @@ least_more net r q h miss =
     ap (list_any (joins_same net r)) (range_more 1 q (q + 1) (omega arith)) ∙ any_append (joins_same net r) (range_with_len 1 q) (q + 1)
     ∙ ap (λ (b : Bool). b || joins_same net r (q + 1)) h ∙ same_at net r q ∙ miss
 
--- a test that holds for a number holds in each range that has it
-any_within : (p : ℕ → Bool) (q n : ℕ) → q < n → p (q + 1) ≡ true → list_any p (range_with_len 1 n) ≡ true
-any_within p q zero lt h = absurd (omega (arith, lt))
-any_within p q (suc n) lt h =
-    let more : list_any p (range_with_len 1 (suc n)) ≡ (list_any p (range_with_len 1 n) || p (n + 1)) =
-    ap (λ (k : ℕ). list_any p (range_with_len 1 k)) (let s : suc n ≡ n + 1 = omega arith in s) ∙ ap (list_any p) (range_more 1 n (n + 1) (omega arith)) ∙ any_append p (range_with_len 1 n) (n + 1) in
-    elim (cases_Bool (q == n)) as (λ _. list_any p (range_with_len 1 (suc n)) ≡ true) [
-      | inl e ↦ more ∙ or_right (list_any p (range_with_len 1 n)) (p (n + 1)) (ap (λ (k : ℕ). p (k + 1)) (sym (eqb-true q n e)) ∙ h)
-      | inr e ↦ more ∙ ap (λ (b : Bool). b || p (n + 1)) (any_within p q n (let ne = eqb-false q n e in omega (arith, lt, ne)) h)
-    ]
-
 pub least_hit : (net : Net) (r q : ℕ) → q < r → is_same_pair (get_or net.reactions q (0, 0)) (get_or net.reactions r (0, 0)) ≡ true → is_least_of_pair net (r + 1) ≡ false
-least_hit net r q lt h = ap not (any_within (joins_same net r) q (r + 1 - 1) (omega (arith, lt)) (same_at net r q ∙ h))
+least_hit net r q lt h = ap not (any_has (joins_same net r) (range_with_len 1 (r + 1 - 1)) (q + 1) (in_range (q + 1) 1 (r + 1 - 1) (omega arith) (omega (arith, lt))) (same_at net r q ∙ h))
 
 pub least_none : (net : Net) (r : ℕ) → list_any (joins_same net r) (range_with_len 1 r) ≡ false → is_least_of_pair net (r + 1) ≡ true
 least_none net r h = ap (λ (n : ℕ). not (list_any (joins_same net r) (range_with_len 1 n))) (before_one r) ∙ ap not h

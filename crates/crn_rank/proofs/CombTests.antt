@@ -7,12 +7,12 @@ use Rattle.std.proofs.lemmas.Bool.{cases_Bool}
 use Rattle.std.proofs.lemmas.Bool.Decides.{nat_tests}
 use Rattle.std.proofs.lemmas.List.{get_or-drop, length-drop, length-map, map-append, take_all}
 use lib.IntN.{*ℤ_comm, *ℤ-zero, zero-*ℤ}
-use Rattle.crn_vec.specs.Vectors.{Mat, entry, dot, column, AreOfLength}
+use Rattle.crn_vec.specs.Vectors.{Mat, entry, dot, column}
 use Rattle.crn_vec.specs.Lists.{IsIn}
 use Rattle.crn_vec.specs.Elementary.{IsNamed}
 use Rattle.crn_vec.specs.Rank.{chosen}
 use Rattle.crn_vec.specs.Network.{Net}
-use Rattle.crn_vec.proofs.CallerLemmas.{eq_or, lt_or, past_end, dot_zero, dot_step, mul-neg, entry-column, length-column, all_map, dot-last, column-chosen}
+use Rattle.crn_vec.proofs.CallerLemmas.{eq_or, lt_or, dot_zero, dot_step, mul-neg, entry-column, length-column, all_map, dot-last, column-chosen, column_past, row_count}
 use Rattle.crn_cert.specs.Tests.{AllHold}
 use Rattle.crn_cert.specs.Ranges.{IsNarrow, AreFree}
 use Rattle.crn_cert.specs.RankTests.{vector_of, IsComb, comb_tests}
@@ -95,11 +95,6 @@ sum_split p u col k (suc m) lu lc miss none =
 
 -- ---- columns
 
-past_columns : (n : ℕ) (rows : List (List ℤ)) (i : ℕ) → AreOfLength n rows → n ≤ i → (k : ℕ) → entry (column rows i) k ≡ pos 0
-past_columns n [] i w le k = refl
-past_columns n (r ∷ rows) i w le zero = past_end r i (omega (arith, w.0, le))
-past_columns n (r ∷ rows) i w le (suc k) = past_columns n rows i w.1 le k
-
 -- ---- a row
 
 pub is_comb : (a : Mat) (basis : List ℕ) (k : ℕ) (comb : List ℤ) → NamesRows a basis → AreEntered a basis a.cols → k < length a.rows → is_inside a basis k ≡ false
@@ -128,7 +123,7 @@ is_comb a basis k comb t entered lt miss c =
             | inl low ↦
                 let minus : neg_ℤ (dot u col) ≡ pos 0 = sym (named.space.is i low) ∙ entered e (omega arith) (omega (arith, lt)) out w named i low in
                 omega (arith, ints, minus)
-            | inr high ↦ dot_zero u col (λ j. ap (λ (x : ℤ). entry u j *ℤ x) (past_columns n a.rows i t.wide high j) ∙ *ℤ-zero (entry u j))
+            | inr high ↦ dot_zero u col (λ j. ap (λ (x : ℤ). entry u j *ℤ x) (column_past a.rows n i (λ q q_lt. row_count n a.rows q t.wide q_lt) high j) ∙ *ℤ-zero (entry u j))
           ] in
           let whole : dot (take m u) (take m col) ≡ dot u col = ap₂ dot (take_all m u (omega (arith, u_long))) (take_all m col (omega (arith, c_long))) in
           let S = dot (map (entry u) places) (map (entry col) places) in

@@ -10,8 +10,9 @@ use Rattle.crn_vec.specs.Rank.{chosen}
 use Rattle.crn_vec.proofs.CallerLemmas.{dot-comm, zip_at, zip_long, same_place, at_in, chosen_at}
 use Rattle.crn_farkas.proofs.CallerLemmas.{as_column, column_some}
 use Rattle.crn_cert.specs.Tests.{AllHold}
-use Rattle.crn_cert.specs.Ranges.{IsNarrow, AreFree}
+use Rattle.crn_cert.specs.Ranges.{AreFree}
 use Rattle.crn_cert.specs.RankTests.{IsDual, dual_tests}
+use Rattle.crn_cert.proofs.CallerLemmas.{narrow_all}
 use Rattle.crn_rank.specs.Inner.Rows.{IsDualOf}
 
 -- the product of a dual with a row
@@ -57,10 +58,6 @@ duals_hold a basis places duals part inside distinct h =
     tests_by (chosen places a.rows) part 0 duals (λ k lt. subst (λ (n : ℕ). IsDual (chosen places a.rows) n (get_or duals k [])) (let e : k ≡ 0 + k = omega arith in e) (is_dual a basis places duals inside distinct h k lt))
 
 -- ---- form
-
-pub narrow_all : (xs : List ℤ) → ((k : ℕ) → k < length xs → unsigned_abs (entry xs k) < WIDE_ENTRY) → AllByRecursion IsNarrow xs
-narrow_all [] h = tt
-narrow_all (x ∷ xs) h = (let l = h 0 (omega arith) in omega (arith, l), narrow_all xs (λ k lt. h (suc k) (omega (arith, lt))))
 
 dual_free : (a : Mat) (basis : List ℕ) (k : ℕ) (dual : List ℤ) → IsDualOf a basis k dual → IsIn (a.cols + k) basis → AreFree a.cols dual
 dual_free a basis k dual d i =

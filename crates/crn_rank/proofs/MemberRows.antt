@@ -1,26 +1,25 @@
 -- The rows of the members: how many, how long, and one after another in a list.
-use Rattle.std.proofs.Common.{◌≡◌, ℕ, ◌+◌, ◌-◌, ◌*◌, ◌≤◌, inl, inr, List, [], ◌∷◌, length, get_or, refl, ap, ap₂, ◌∙◌, arith}
+use Rattle.std.proofs.Common.{◌≡◌, ℕ, ◌-◌, ◌*◌, ◌≤◌, inl, inr, List, [], ◌∷◌, length, get_or, refl, ap, ap₂, ◌∙◌, arith, suc}
 use Rattle.std.specs.Prelude.{ℤ}
 use Rattle.std.specs.List.{flat_map}
 use Rattle.std.proofs.Math.Nat.{mul-le-mul_right}
-use Rattle.crn_vec.specs.Lists.{IsIn, IsAbove}
+use Rattle.crn_vec.specs.Lists.{IsIn}
 use Rattle.crn_vec.specs.Network.{Net, IsNetwork, JoinsTwo}
 use Rattle.crn_vec.specs.Vectors.{Mat}
 use Rattle.crn_vec.specs.Matrices.{mat_of}
 use Rattle.crn_vec.specs.declared.limits.TheConstants.{MAX_REACTIONS}
-use Rattle.crn_vec.proofs.CallerLemmas.{all_at, length-minus, vector_long, rows_after}
+use Rattle.crn_vec.proofs.CallerLemmas.{all_at, length-minus, vector_long, rows_after, above_few}
 use Rattle.crn_cert.specs.RankTests.{vector_of}
 use Rattle.crn_rank.specs.Rank.{AreMembers, member_matrix}
 
 -- ---- how many members
 
-above_few : (xs : List ℕ) (k n : ℕ) → IsAbove k xs → ((x : ℕ) → IsIn x xs → x ≤ n) → k ≤ n → k + length xs ≤ n
-above_few [] k n a h le = omega (arith, le)
-above_few (x ∷ xs) k n a h le = let r = above_few xs x n a.1 (λ y i. h y (inr i)) (h x (inl refl)) in omega (arith, r, a.0)
-
 pub members_few : (net : Net) (members : List ℕ) → AreMembers net members → length members ≤ length net.reactions
 members_few net [] h = omega arith
-members_few net (x ∷ xs) h = let r = above_few xs x (length net.reactions) h.ascending (λ y i. (h.each y (inr i)).1) (h.each x (inl refl)).1 in omega (arith, r, (h.each x (inl refl)).0)
+members_few net (x ∷ xs) h =
+    let most = length net.reactions in
+    let r = above_few xs x (suc most) h.ascending (λ y i. let e = (h.each y (inr i)).1 in omega (arith, e)) (let e = (h.each x (inl refl)).1 in omega (arith, e)) in
+    omega (arith, r, (h.each x (inl refl)).0)
 
 -- so many rows of so many entries are few
 pub entries_few : (net : Net) (members : List ℕ) → IsNetwork net → AreMembers net members → length members * length net.names ≤ MAX_REACTIONS * length net.names

@@ -7,7 +7,7 @@ use Rattle.crn_vec.specs.Vectors.{Mat}
 use Rattle.crn_vec.specs.Lists.{IsIn, IsAscending}
 use Rattle.crn_vec.specs.Network.{Net}
 use Rattle.crn_vec.specs.Rank.{IsRank, chosen}
-use Rattle.crn_vec.proofs.CallerLemmas.{in_map, at_in, zip_long}
+use Rattle.crn_vec.proofs.CallerLemmas.{in_map, at_in, zip_long, above_in}
 use Rattle.crn_cert.specs.declared.answer.RankProof.{RankProof}
 use Rattle.crn_cert.specs.Tests.{AllHold}
 use Rattle.crn_cert.specs.Ranges.{AreFree}
@@ -20,16 +20,11 @@ use Rattle.crn_rank.proofs.PickedRows.{at, picked_below, picked_has, picked_asce
 use Rattle.crn_rank.proofs.DualTests.{AreInside, duals_hold, duals_free}
 use Rattle.crn_rank.proofs.CombTests.{is_comb, combs_free, combs_hold, zip_map}
 
-above_in : (k q : ℕ) (xs : List ℕ) → IsAscending (k ∷ xs) → IsIn q xs → k < q
-above_in k q [] h i = absurd i
-above_in k q (x ∷ xs) h (inl e) = omega (arith, h.0, e)
-above_in k q (x ∷ xs) h (inr i) = let l = above_in x q xs h.1 i in omega (arith, h.0, l)
-
 -- the members at ascending places ascend
 at_up : (members : List ℕ) (i j : ℕ) → IsAscending members → i < j → j < length members → at members i < at members j
 at_up [] i j h lt inside = absurd (omega (arith, inside))
 at_up (x ∷ xs) i zero h lt inside = absurd (omega (arith, lt))
-at_up (x ∷ xs) zero (suc j) h lt inside = above_in x (get_or xs j 0) xs h (at_in xs j 0 (omega (arith, inside)))
+at_up (x ∷ xs) zero (suc j) h lt inside = above_in x xs h (get_or xs j 0) (at_in xs j 0 (omega (arith, inside)))
 at_up (x ∷ xs) (suc i) (suc j) h lt inside = at_up xs i j (tail x xs h) (omega (arith, lt)) (omega (arith, inside))
   where
     tail : (x : ℕ) (xs : List ℕ) → IsAscending (x ∷ xs) → IsAscending xs

@@ -4,21 +4,19 @@ use Rattle.std.specs.Prelude.{slice_get}
 use Rattle.std.proofs.lemmas.List.{take_all, map-id}
 use Rattle.crn_cert.specs.declared.answer.Verdict.{Verdict}
 use Rattle.crn_cert.specs.Questions.{IsOpen}
+use Rattle.crn_vec.proofs.CallerLemmas.{some_is}
 use Rattle.crn_run.specs.Run.{HasOpen}
-
-one : {T : Type 0} {x a : T} → Some x ≡ Some a → x ≡ a
-one e = cc
 
 -- an open verdict at a place
 pub open_at : {T : Type 0} (f : T → Verdict) (xs : List T) (i : ℕ) (a : T) → slice_get xs i ≡ Some a → IsOpen (f a) → HasOpen (map f xs)
 open_at {T} f [] i a e o = absurd (let h : None ≡ Some a = e in cc)
-open_at {T} f (x ∷ xs) zero a e o = inl (let h : x ≡ a = one e in subst (λ (y : T). IsOpen (f y)) (sym h) o)
+open_at {T} f (x ∷ xs) zero a e o = inl (let h : x ≡ a = some_is x a e in subst (λ (y : T). IsOpen (f y)) (sym h) o)
 open_at {T} f (x ∷ xs) (suc i) a e o = inr (open_at f xs i a e o)
 
 -- none of the first is open, nor is the next
 next_none : {T : Type 0} (f : T → Verdict) (xs : List T) (i : ℕ) (a : T) → slice_get xs i ≡ Some a → (IsOpen (f a) → ⊥) → (HasOpen (map f (take i xs)) → ⊥) → HasOpen (map f (take (suc i) xs)) → ⊥
 next_none {T} f [] i a e none before o = let h : None ≡ Some a = e in cc
-next_none {T} f (x ∷ xs) zero a e none before (inl o) = none (let h : x ≡ a = one e in subst (λ (y : T). IsOpen (f y)) h o)
+next_none {T} f (x ∷ xs) zero a e none before (inl o) = none (let h : x ≡ a = some_is x a e in subst (λ (y : T). IsOpen (f y)) h o)
 next_none {T} f (x ∷ xs) zero a e none before (inr o) = before o
 next_none {T} f (x ∷ xs) (suc i) a e none before (inl o) = before (inl o)
 next_none {T} f (x ∷ xs) (suc i) a e none before (inr o) = next_none f xs i a e none (λ p. before (inr p)) o

@@ -13,13 +13,13 @@ use Rattle.std.proofs.lemmas.List.Folds.{list_all-append}
 use Rattle.crn_vec.specs.Lists.{firsts}
 use Rattle.crn_vec.specs.Network.{Net, Statement, sides_eq, said_by, names_in}
 use Rattle.crn_vec.specs.declared.limits.TheConstants.{MAX_SPECIES, MAX_COMPLEXES, MAX_REACTIONS, MAX_TEXT}
-use Rattle.crn_vec.proofs.CallerLemmas.{firsts_length, and_first}
+use Rattle.crn_vec.proofs.CallerLemmas.{firsts_length, and_first, and_cases}
 use Rattle.crn_text.specs.Tokens.{lines}
 use Rattle.crn_text.specs.Sides.{line_statements, all_statements}
 use Rattle.crn_text.specs.Faults.{both_of, complexes_of, is_empty, is_self, limits_fault, names_of, own_fault, reactions_of, statement_fault, statements_fault}
 use Rattle.crn_text.specs.Spells.{Spells, fault_on}
 use Rattle.crn_text.specs.declared.fault.TextCode.{TextCode}
-use Rattle.crn_text.proofs.CallerLemmas.{judged}
+use Rattle.crn_text.proofs.CallerLemmas.{judged, flat_map_whole}
 
 -- ---- what is computed of a text
 
@@ -40,10 +40,6 @@ is_fine text = nat_le (length text) MAX_TEXT && (are_sound (lines text) && (are_
 
 -- ---- tests
 
-pub second_true : (a b : Bool) → (a && b) ≡ true → b ≡ true
-second_true true b e = e
-second_true false b e = absurd (let h : false ≡ true = e in cc)
-
 is_false : (b : Bool) → not b ≡ true → b ≡ false
 is_false true e = absurd (let h : false ≡ true = e in cc)
 is_false false e = refl
@@ -55,7 +51,7 @@ is_none (Some code) e = absurd (let h : false ≡ true = e in cc)
 sound_at : (ls : List (List ℕ)) (k : ℕ) → k < length ls → are_sound ls ≡ true → own_fault (get_or ls k []) ≡ None
 sound_at [] k lt e = absurd (omega arith)
 sound_at (line ∷ ls) zero lt e = is_none (own_fault line) (and_first _ _ e)
-sound_at (line ∷ ls) (suc k) lt e = sound_at ls k (omega arith) (second_true _ _ e)
+sound_at (line ∷ ls) (suc k) lt e = sound_at ls k (omega arith) (and_cases _ _ e).1
 
 -- ---- few statements exceed no limit
 
@@ -99,7 +95,7 @@ few_prefix all first rest few e =
 apart_in : (all before : List Statement) (s : Statement) (rest : List Statement) → are_apart all ≡ true → all ≡ before ++ (s ∷ rest) → is_self s ≡ false
 apart_in all before s rest h e =
     let split : (are_apart before && (not (is_self s) && are_apart rest)) ≡ true = sym (list_all-append (λ t. not (is_self t)) before (s ∷ rest)) ∙ ap are_apart (sym e) ∙ h in
-    is_false (is_self s) (and_first _ _ (second_true _ _ split))
+    is_false (is_self s) (and_first _ _ (and_cases _ _ split).1)
 
 fine_statements : (all before ss rest : List Statement) → IsFew all → are_apart all ≡ true → all ≡ before ++ (ss ++ rest) → statements_fault before ss ≡ None
 unfolding statement_fault
@@ -110,15 +106,13 @@ fine_statements all before (s ∷ ss) rest few apart e =
     let limits : limits_fault (before ++ s ∷ []) ≡ None = no_limit (before ++ s ∷ []) (few_prefix all (before ++ s ∷ []) (ss ++ rest) few more) in
     rw (self, limits) (fine_statements all (before ++ s ∷ []) ss rest few apart more)
 
-flat_whole : {A B : Type 0} (f : A → List B) (xs : List A) (i : ℕ) (d : A) → i < length xs → flat_map f xs ≡ flat_map f (take i xs) ++ (f (get_or xs i d) ++ flat_map f (drop (suc i) xs))
-flat_whole f [] i d lt = absurd (omega arith)
-flat_whole f (x ∷ xs) zero d lt = refl
-flat_whole {A} {B} f (x ∷ xs) (suc i) d lt =
-    ap (λ (t : List B). f x ++ t) (flat_whole f xs i d (omega arith)) ∙ sym (append_assoc (f x) (flat_map f (take i xs)) (f (get_or xs i d) ++ flat_map f (drop (suc i) xs)))
-
 fine_line : (ls : List (List ℕ)) (k : ℕ) → k < length ls → are_sound ls ≡ true → are_apart (all_statements ls) ≡ true → IsFew (all_statements ls) → fault_on ls k ≡ None
 fine_line ls k lt sound apart few =
-    rw (sound_at ls k lt sound) (fine_statements (all_statements ls) (all_statements (take k ls)) (line_statements (get_or ls k [])) (all_statements (drop (suc k) ls)) few apart (flat_whole line_statements ls k [] lt))
+    let before = all_statements (take k ls) in
+    let own = line_statements (get_or ls k []) in
+    let rest = all_statements (drop (suc k) ls) in
+    let whole : all_statements ls ≡ before ++ (own ++ rest) = flat_map_whole line_statements ls k [] lt ∙ append_assoc before own rest in
+    rw (sound_at ls k lt sound) (fine_statements (all_statements ls) before own rest few apart whole)
 
 -- ---- the whole text
 
@@ -138,17 +132,17 @@ fine_parts : (text : List ℕ) → is_fine text ≡ true → IsFine text
 unfolding is_fine
 fine_parts text e =
     let ss : List Statement = all_statements (lines text) in
-    let rest = second_true (nat_le (length text) MAX_TEXT) (are_sound (lines text) && (are_apart ss && are_few ss)) e in
-    let more = second_true (are_sound (lines text)) (are_apart ss && are_few ss) rest in
-    let least = second_true (are_apart ss) (are_few ss) more in
-    let numbers = second_true (not (is_empty ss)) (nat_le (length ss) 80 && nat_le (length (names_of ss)) MAX_SPECIES) least in
+    let rest = (and_cases (nat_le (length text) MAX_TEXT) (are_sound (lines text) && (are_apart ss && are_few ss)) e).1 in
+    let more = (and_cases (are_sound (lines text)) (are_apart ss && are_few ss) rest).1 in
+    let least = (and_cases (are_apart ss) (are_few ss) more).1 in
+    let numbers = (and_cases (not (is_empty ss)) (nat_le (length ss) 80 && nat_le (length (names_of ss)) MAX_SPECIES) least).1 in
     record {
       short = leb-true (length text) MAX_TEXT (and_first (nat_le (length text) MAX_TEXT) (are_sound (lines text) && (are_apart ss && are_few ss)) e);
       sound = and_first (are_sound (lines text)) (are_apart ss && are_few ss) rest;
       apart = and_first (are_apart ss) (are_few ss) more;
       some = and_first (not (is_empty ss)) (nat_le (length ss) 80 && nat_le (length (names_of ss)) MAX_SPECIES) least;
       few = record {
-        names = leb-true (length (names_of ss)) MAX_SPECIES (second_true (nat_le (length ss) 80) (nat_le (length (names_of ss)) MAX_SPECIES) numbers);
+        names = leb-true (length (names_of ss)) MAX_SPECIES (and_cases (nat_le (length ss) 80) (nat_le (length (names_of ss)) MAX_SPECIES) numbers).1;
         statements = leb-true (length ss) 80 (and_first (nat_le (length ss) 80) (nat_le (length (names_of ss)) MAX_SPECIES) numbers);
       };
     }

@@ -3,7 +3,7 @@ use Rattle.std.proofs.Common.{◌≡◌, ℕ, zero, suc, ◌<◌, ◌≤◌, ◌
 use Rattle.std.specs.Fmt.{digits}
 use Rattle.std.proofs.lemmas.Bool.{cases_lt}
 use Rattle.crn_vec.specs.Network.{Net}
-use Rattle.crn_vec.proofs.CallerLemmas.{and_first}
+use Rattle.crn_vec.proofs.CallerLemmas.{and_first, and_cases}
 use Rattle.crn_text.specs.Tokens.{first_token, tokens_after}
 use Rattle.crn_text.specs.Faults.{own_fault}
 use Rattle.crn_text.specs.Spells.{Spells, TextGives}
@@ -12,7 +12,7 @@ use Rattle.crn_text.specs.declared.fault.TextFault.{TextFault}
 use Rattle.crn_text.proofs.CallerLemmas.{no_fault}
 use Rattle.crn_sample.specs.Sample.{sample_text}
 use Rattle.crn_sample.specs.declared.limits.TheConstants.{MAX_SAMPLE}
-use Rattle.crn_sample.proofs.Few.{fine_is_spelled, is_fine, second_true}
+use Rattle.crn_sample.proofs.Few.{fine_is_spelled, is_fine}
 
 -- the texts of the samples up to this number are fine
 abbrev fine_upto : ℕ → Bool
@@ -26,7 +26,7 @@ all_fine = refl
 fine_at : (n m : ℕ) → fine_upto m ≡ true → n < m → is_fine (sample_text (suc n)) ≡ true
 fine_at n zero h lt = absurd (omega arith)
 fine_at n (suc m) h lt = elim (cases_lt n m) [
-  | inl less ↦ fine_at n m (second_true _ _ h) less
+  | inl less ↦ fine_at n m (and_cases _ _ h).1 less
   | inr most ↦ let is : m ≡ n = omega arith in subst (λ (k : ℕ). is_fine (sample_text (suc k)) ≡ true) is (and_first _ _ h)
 ]
 

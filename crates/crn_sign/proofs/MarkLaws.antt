@@ -13,7 +13,7 @@ use Rattle.crn_vec.specs.declared.signs.Kind.TheVariants.{Free}
 use Rattle.crn_vec.specs.Vectors.{Mat, entry, dot, scale, HasSign}
 use Rattle.crn_vec.specs.Elementary.{width, InRowSpace}
 use Rattle.crn_vec.specs.Systems.{HasKind, IsSolution, kind_at}
-use Rattle.crn_vec.proofs.CallerLemmas.{eq_or, zip_from, zip_at, dot-comm, plus, zeros, entry-plus, length-zeros, entry-zeros, take-zeros, dot-zeros, entry-scale, length-scale}
+use Rattle.crn_vec.proofs.CallerLemmas.{eq_or, zip_from, zip_at, plus, zeros, entry-plus, length-zeros, entry-zeros, take-zeros, dot-zeros, entry-scale, length-scale}
 use Rattle.crn_farkas.proofs.CallerLemmas.{row_scaled, row_plus}
 use Rattle.crn_sign.specs.declared.bits.Bits.{Bits}
 use Rattle.crn_sign.specs.declared.marks.Mark.{Mark}

@@ -138,10 +138,6 @@ taken_level w p old new a b ea eb h = record {
   b = record { place = b; kinds_are = ap (λ (q : List Bits). kinds_of w.matrix_b q) eb ∙ h.b.kinds_are };
 }
 
--- a list after all of it was written
-pub written : (n : ℕ) (new old : List Bits) → length new ≡ n → take n (new ++ drop (length new) old) ≡ new
-written n new old e = take-append-le n new (drop (length new) old) (omega (arith, e)) ∙ take_all n new (omega (arith, e))
-
 -- the kinds that a problem asked
 pub asked_kinds : (a : Mat) (kinds : List Kind) (asked : List Bits) → length kinds ≡ width a → AskKinds a kinds asked → kinds_of a asked ≡ kinds
 asked_kinds a kinds asked long h = kinds_are a kinds asked long h.each

@@ -1,13 +1,10 @@
 -- How the visits of a prefix, of its children and of all below them end.
-use Rattle.std.proofs.Common.{◌≡◌, ℕ, suc, ◌+◌, ◌≤◌, ◌<◌, List, [], ◌∷◌, ◌++◌, length, map, Bool, true, false, refl, sym, ap, subst, ◌∙◌, arith, lit≤}
-use Rattle.std.specs.Prelude.{ℤ, unsigned_abs}
-use Rattle.std.specs.List.{AllByRecursion}
+use Rattle.std.proofs.Common.{◌≡◌, ℕ, suc, ◌+◌, ◌<◌, List, [], ◌∷◌, ◌++◌, length, map, Bool, true, false, refl, sym, ap, subst, ◌∙◌, arith}
+use Rattle.std.specs.Prelude.{ℤ}
 use Rattle.std.proofs.lemmas.List.{append_assoc, append-nil, length-append, map-append}
 use Rattle.std.proofs.lemmas.Bool.{false≢true}
-use Rattle.crn_vec.specs.declared.limits.TheConstants.{WIDE_ENTRY, WIDE_SOLUTION}
 use Rattle.crn_vec.specs.declared.signs.Sign.{Sign}
 use Rattle.crn_vec.specs.declared.signs.Sign.TheVariants.{Zero, Plus, Minus}
-use Rattle.crn_vec.specs.Vectors.{entry}
 use Rattle.crn_vec.proofs.CallerLemmas.{cuts_exclude_solutions}
 use Rattle.crn_farkas.specs.Decision.{IsSmallCut}
 use Rattle.crn_cert.specs.declared.tree_node.TreeNode.{TreeNode}
@@ -15,29 +12,28 @@ use Rattle.crn_cert.specs.declared.tree_node.TreeNode.TheVariants.{Flat}
 use Rattle.crn_vec.specs.Problems.{Signed, IsFull, IsFeasible, children, all_zero, options_below, SolvesA, SolvesB}
 use Rattle.crn_vec.specs.Visits.{Visits, over, fallen, ended, opened, Passes, begun, below}
 use Rattle.crn_cert.specs.Trees.{Plan, Both, Three, RulesA, RulesB, Level, places}
-use Rattle.crn_cert.specs.Preorder.{Listed, ListsBoth, ListsThree, ListsA, ListsB, listed, preorder}
-use Rattle.crn_cert.specs.Ranges.{IsNarrow}
+use Rattle.crn_cert.specs.Preorder.{Listed, ListedSplitTwo, ListedSplitThree, ListedCutA, ListedCutB, listed, preorder}
 use Rattle.crn_vec.proofs.CallerLemmas.{visits_then, visits_ended, passes_at, passes_first, passes_then}
-use Rattle.crn_cert.proofs.CallerLemmas.{same_tree}
+use Rattle.crn_cert.proofs.CallerLemmas.{same_tree, narrow_all}
 use Rattle.crn_sign.specs.declared.end.SearchEnd.{SearchEnd}
 use Rattle.crn_sign.specs.declared.end.SearchEnd.TheVariants.{Found as FoundEnd, Refuted as RefutedEnd, Spent as SpentEnd}
 use Rattle.crn_sign.specs.declared.walk.Ending.{Ending}
 use Rattle.crn_sign.specs.declared.walk.Ending.TheVariants.{Found, Refuted, Spent}
 use Rattle.crn_sign.specs.Search.{IsFeasibleBy, IsOutcome, IsSearchEnd, IsTreeAt}
-use Rattle.crn_sign.specs.Inner.Walk.{EndsWith, EndsWithout, RunsOut, EndsAt, EndsBelow, HasTree, IsEndOf, IsFoundAt, IsLeafAt, Lists, outcome_at}
+use Rattle.crn_sign.specs.Inner.Walk.{EndsWith, EndsWithout, RunsOut, EndsAt, EndsBelow, HasTree, IsEndOf, IsFoundAt, IsLeafAt, Appends, outcome_at}
 
 -- ---- nodes
 
 -- one node is listed, if nodes are kept
-abbrev pub ListsOne : Bool → List TreeNode → List TreeNode → Listed → Type 0
-ListsOne k old new one = k ≡ true → map listed new ≡ map listed old ++ one ∷ []
+abbrev pub AppendsOne : Bool → List TreeNode → List TreeNode → Listed → Type 0
+AppendsOne k old new one = k ≡ true → map listed new ≡ map listed old ++ one ∷ []
 
-pub lists_one : (k : Bool) (old new : List TreeNode) (node : TreeNode) (one : Listed) → listed node ≡ one → (k ≡ true → new ≡ old ++ node ∷ []) → ListsOne k old new one
-lists_one k old new node one is h on = ap (λ (ns : List TreeNode). map listed ns) (h on) ∙ map-append listed old (node ∷ []) ∙ ap (λ (l : Listed). map listed old ++ l ∷ []) is
+pub appends_one : (k : Bool) (old new : List TreeNode) (node : TreeNode) (one : Listed) → listed node ≡ one → (k ≡ true → new ≡ old ++ node ∷ []) → AppendsOne k old new one
+appends_one k old new node one is h on = ap (λ (ns : List TreeNode). map listed ns) (h on) ∙ map-append listed old (node ∷ []) ∙ ap (λ (l : Listed). map listed old ++ l ∷ []) is
 
 -- the nodes of one tree after those of another
-joined : (o a b z q : List Listed) → a ≡ o ++ z → b ≡ a ++ q → b ≡ o ++ (z ++ q)
-joined o a b z q x y = y ∙ ap (λ (l : List Listed). l ++ q) x ∙ append_assoc o z q
+nodes_after : (old mid new : List TreeNode) (xs ys : List Listed) → map listed mid ≡ map listed old ++ xs → map listed new ≡ map listed mid ++ ys → map listed new ≡ map listed old ++ (xs ++ ys)
+nodes_after old mid new xs ys first next = next ∙ ap (λ (l : List Listed). l ++ ys) first ∙ append_assoc (map listed old) xs ys
 
 -- ---- one prefix
 
@@ -57,25 +53,21 @@ leaf_flat w p c = record {
   none = λ s. false≢true (sym s.opened ∙ c);
 }
 
-narrow_from : (u : List ℤ) → ((k : ℕ) → unsigned_abs (entry u k) < WIDE_ENTRY) → AllByRecursion IsNarrow u
-narrow_from [] h = tt
-narrow_from (x ∷ u) h = (let le : WIDE_ENTRY ≤ WIDE_SOLUTION = lit≤ tt in omega (arith, h 0, le), narrow_from u (λ k. h (suc k)))
-
 -- a leaf by multipliers that rule a part out
-pub leaf_a : (w : Signed) (p : List Sign) (u : List ℤ) (node : TreeNode) → listed node ≡ ListsA u → IsSmallCut w.matrix_a (w.kinds_a p) u → IsLeafAt w p node
+pub leaf_a : (w : Signed) (p : List Sign) (u : List ℤ) (node : TreeNode) → listed node ≡ ListedCutA u → IsSmallCut w.matrix_a (w.kinds_a p) u → IsLeafAt w p node
 leaf_a w p u node is c = record {
   tree = RulesA u;
   nodes = ap (λ (l : Listed). l ∷ []) is;
-  tree_at = record { valid = c.cut; narrow = narrow_from u c.small };
+  tree_at = record { valid = c.cut; narrow = narrow_all u (λ k lt. c.small k) };
   one = refl;
   none = λ s. cuts_exclude_solutions w.matrix_a (w.kinds_a p) u s.part_a.0 c.cut s.part_a.1;
 }
 
-pub leaf_b : (w : Signed) (p : List Sign) (u : List ℤ) (node : TreeNode) → listed node ≡ ListsB u → IsSmallCut w.matrix_b (w.kinds_b p) u → IsLeafAt w p node
+pub leaf_b : (w : Signed) (p : List Sign) (u : List ℤ) (node : TreeNode) → listed node ≡ ListedCutB u → IsSmallCut w.matrix_b (w.kinds_b p) u → IsLeafAt w p node
 leaf_b w p u node is c = record {
   tree = RulesB u;
   nodes = ap (λ (l : Listed). l ∷ []) is;
-  tree_at = record { valid = c.cut; narrow = narrow_from u c.small };
+  tree_at = record { valid = c.cut; narrow = narrow_all u (λ k lt. c.small k) };
   one = refl;
   none = λ s. cuts_exclude_solutions w.matrix_b (w.kinds_b p) u s.part_b.0 c.cut s.part_b.1;
 }
@@ -83,7 +75,7 @@ leaf_b w p u node is c = record {
 pub leaf_at : (k : Bool) (w : Signed) (p : List Sign) (node : TreeNode) (left after : ℕ) (old new : List TreeNode) → after + 1 ≡ left → (k ≡ true → new ≡ old ++ node ∷ []) → IsLeafAt w p node → EndsAt k w p left after old new Refuted
 leaf_at k w p node left after old new e h l = (
   l.tree,
-  λ on. lists_one k old new node (listed node) refl h on ∙ ap (λ (ls : List Listed). map listed old ++ ls) l.nodes,
+  λ on. appends_one k old new node (listed node) refl h on ∙ ap (λ (ls : List Listed). map listed old ++ ls) l.nodes,
   l.tree_at,
   subst (λ (ps : List (List Sign)). EndsWithout w (p ∷ []) ps left after) (sym l.one) (leaf w p left after e l.none),
 )
@@ -159,14 +151,14 @@ without_then w c rest xs ys left mid after v u = record {
 -- the tree of a child, whose nodes are listed if nodes are kept
 pub record IsChildTree (k : Bool) (w : Signed) (c : List Sign) (left after : ℕ) (old new : List TreeNode) : Type 0 where
   pub tree : Plan
-  pub lists : Lists k old new tree
+  pub appends : Appends k old new tree
   pub tree_at : IsTreeAt w c tree
   pub ends : EndsWithout w (c ∷ []) (places c tree) left after
 
 pub child_tree : (k : Bool) (w : Signed) (c : List Sign) (left after : ℕ) (old new : List TreeNode) (e : Ending) → EndsAt k w c left after old new e → e ≡ Refuted → IsChildTree k w c left after old new
 child_tree k w c left after old new e h is =
     let q = subst (λ (x : Ending). EndsAt k w c left after old new x) is h in
-    record { tree = q.0; lists = q.1; tree_at = q.2; ends = q.3 }
+    record { tree = q.0; appends = q.1; tree_at = q.2; ends = q.3 }
 
 -- ---- the children of a prefix
 
@@ -208,11 +200,11 @@ second_child k w p left mid after old root first new e zt n h =
     below_early k w p (with p Zero ∷ with p Plus ∷ two.rest) left after old new e two.is
     (early_then w (with p Zero) (with p Plus ∷ two.rest) (places (with p Zero) zt.tree) left mid after e zt.ends (early_first k w (with p Plus) two.rest mid after first new e n h))
 
-pub both_trees : (k : Bool) (w : Signed) (p : List Sign) (left mid after : ℕ) (old root first new : List TreeNode) → ListsOne k old root ListsBoth → length p < w.choices → all_zero p ≡ true
+pub both_trees : (k : Bool) (w : Signed) (p : List Sign) (left mid after : ℕ) (old root first new : List TreeNode) → AppendsOne k old root ListedSplitTwo → length p < w.choices → all_zero p ≡ true
     → IsChildTree k w (with p Zero) left mid root first → IsChildTree k w (with p Plus) mid after first new → EndsBelow k w p left after old new Refuted
 both_trees k w p left mid after old root first new one lt zeros zt qt = (
   Both zt.tree qt.tree,
-  λ on. joined (map listed old) (map listed root) (map listed new) (ListsBoth ∷ []) (preorder zt.tree ++ preorder qt.tree) (one on) (joined (map listed root) (map listed first) (map listed new) (preorder zt.tree) (preorder qt.tree) (zt.lists on) (qt.lists on)),
+  λ on. nodes_after old root new (ListedSplitTwo ∷ []) (preorder zt.tree ++ preorder qt.tree) (one on) (nodes_after root first new (preorder zt.tree) (preorder qt.tree) (zt.appends on) (qt.appends on)),
   record { valid = (lt, zeros, zt.tree_at.valid, qt.tree_at.valid); narrow = (zt.tree_at.narrow, qt.tree_at.narrow) },
   record {
     rest = places (with p Zero) zt.tree ++ places (with p Plus) qt.tree;
@@ -222,7 +214,7 @@ both_trees k w p left mid after old root first new one lt zeros zt qt = (
   },
 )
 
-three_trees : (k : Bool) (w : Signed) (p : List Sign) (left mid high after : ℕ) (old root first second new : List TreeNode) → ListsOne k old root ListsThree → length p < w.choices → all_zero p ≡ false
+three_trees : (k : Bool) (w : Signed) (p : List Sign) (left mid high after : ℕ) (old root first second new : List TreeNode) → AppendsOne k old root ListedSplitThree → length p < w.choices → all_zero p ≡ false
     → IsChildTree k w (with p Zero) left mid root first → IsChildTree k w (with p Plus) mid high first second → IsChildTree k w (with p Minus) high after second new → EndsBelow k w p left after old new Refuted
 three_trees k w p left mid high after old root first second new one lt some zt qt mt =
     let zs = places (with p Zero) zt.tree in
@@ -233,8 +225,8 @@ three_trees k w p left mid high after old root first second new one lt some zt q
     let ml = preorder mt.tree in
     let all = without_then w (with p Zero) (with p Plus ∷ with p Minus ∷ []) zs (qs ++ ms) left mid after zt.ends (without_then w (with p Plus) (with p Minus ∷ []) qs ms mid high after qt.ends mt.ends) in (
       Three zt.tree qt.tree mt.tree,
-      λ on. joined (map listed old) (map listed root) (map listed new) (ListsThree ∷ []) (zl ++ ql ++ ml) (one on)
-          (joined (map listed root) (map listed second) (map listed new) (zl ++ ql) ml (joined (map listed root) (map listed first) (map listed second) zl ql (zt.lists on) (qt.lists on)) (mt.lists on)),
+      λ on. nodes_after old root new (ListedSplitThree ∷ []) (zl ++ ql ++ ml) (one on)
+          (nodes_after root second new (zl ++ ql) ml (nodes_after root first second zl ql (zt.appends on) (qt.appends on)) (mt.appends on)),
       record { valid = (lt, some, zt.tree_at.valid, qt.tree_at.valid, mt.tree_at.valid); narrow = (zt.tree_at.narrow, qt.tree_at.narrow, mt.tree_at.narrow) },
       record {
         rest = zs ++ qs ++ ms;
@@ -251,7 +243,7 @@ third_early k w p left mid high after old root first second new e some zt qt n h
     (early_then w (with p Zero) (with p Plus ∷ with p Minus ∷ []) (places (with p Zero) zt.tree) left mid after e zt.ends
     (early_then w (with p Plus) (with p Minus ∷ []) (places (with p Plus) qt.tree) mid high after e qt.ends (early_first k w (with p Minus) [] high after second new e n h)))
 
-pub third_child : (k : Bool) (w : Signed) (p : List Sign) (left mid high after : ℕ) (old root first second new : List TreeNode) (e : Ending) → ListsOne k old root ListsThree → length p < w.choices → all_zero p ≡ false
+pub third_child : (k : Bool) (w : Signed) (p : List Sign) (left mid high after : ℕ) (old root first second new : List TreeNode) (e : Ending) → AppendsOne k old root ListedSplitThree → length p < w.choices → all_zero p ≡ false
     → IsChildTree k w (with p Zero) left mid root first → IsChildTree k w (with p Plus) mid high first second → EndsAt k w (with p Minus) high after second new e → EndsBelow k w p left after old new e
 third_child k w p left mid high after old root first second new (Found f) one lt some zt qt h = third_early k w p left mid high after old root first second new (Found f) some zt qt (λ (r : Found f ≡ Refuted). cc) h
 third_child k w p left mid high after old root first second new Refuted one lt some zt qt h = three_trees k w p left mid high after old root first second new one lt some zt qt (child_tree k w (with p Minus) high after second new Refuted h refl)

@@ -3,6 +3,7 @@ use Rattle.std.proofs.Common.{◌≡◌, ℕ, List, Some, None, refl, sym, ap, s
 use Rattle.crn_vec.specs.Network.{Net}
 use Rattle.crn_vec.specs.Rank.{IsRank}
 use Rattle.crn_vec.specs.Deficiency.{vectors}
+use Rattle.crn_vec.proofs.CallerLemmas.{some_is}
 use Rattle.crn_cert.specs.declared.answer.Verdict.{Verdict}
 use Rattle.crn_cert.specs.declared.answer.Verdict.TheVariants.{Rank, Unknown}
 use Rattle.crn_cert.specs.Questions.{Earlier, Q5, Q6, IsOpen, on, rank_of}
@@ -14,15 +15,12 @@ use Rattle.crn_cert.specs.Answered.{IsAnswer}
 use Rattle.crn_solve.specs.Inner.Answered.{IsRankOrOpen}
 use Rattle.crn_solve.specs.Inner.Given.{rests_answer}
 
-same : {a b : ℕ} → Some a ≡ Some b → a ≡ b
-same e = cc
-
 none : {b : ℕ} {A : Type 0} → None ≡ Some b → A
 none e = absurd cc
 
 -- the verdict on the rank is the rank, or open
 pub rank_or_open : (net : Net) (budget : ℕ) (earlier : Earlier) (v : Verdict) → IsTrueOrLicensed net budget earlier Q5 v → IsRankOrOpen net v
-rank_or_open net budget earlier (Rank rank base) h = record { rank = λ s e. subst (IsRank (vectors net)) (same e) h.rank_is; or_open = λ e. none (sym e) }
+rank_or_open net budget earlier (Rank rank base) h = record { rank = λ s e. subst (IsRank (vectors net)) (some_is rank s e) h.rank_is; or_open = λ e. none (sym e) }
 rank_or_open net budget earlier (Unknown gap) h = record { rank = λ s e. none e; or_open = λ e. tt }
 rank_or_open net budget earlier v h = absurd h
 

@@ -1,5 +1,5 @@
 -- Whether a coordinate is in the basis, by its slot.
-use Rattle.std.proofs.Common.{◌≡◌, ℕ, zero, suc, ◌<◌, ◌≤◌, List, [], ◌∷◌, length, get_or, refl, ap, arith, nat_lt}
+use Rattle.std.proofs.Common.{◌≡◌, ℕ, ◌<◌, ◌≤◌, List, length, ap, arith, nat_lt}
 use Rattle.std.specs.Prelude.{slice_index, IsTrue, ◌↔◌}
 use Rattle.crn_vec.specs.Lists.{IsIn}
 use Rattle.crn_tab.specs.Inner.Start.{IsIdentity}
@@ -24,8 +24,3 @@ first_basis n count at id le k = (
       omega (arith, slot_below n at k h, m.inside, same, id.long, id.is k (omega (arith, m.inside, same, id.long))),
   λ lt. in_basis n at k (omega (arith, id.long)) (omega (arith, id.is k (omega arith))),
 )
-
-pub any_default : (at : List ℕ) (k d : ℕ) → k < length at → get_or at k d ≡ slice_index at k
-any_default [] k d h = absurd (omega arith)
-any_default (x ∷ at) zero d h = refl
-any_default (x ∷ at) (suc k) d h = any_default at k d (omega arith)

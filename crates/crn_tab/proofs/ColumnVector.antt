@@ -7,10 +7,10 @@ use Rattle.std.proofs.lemmas.Nat.Gcd.{dvd_antisymm, le_of_dvd}
 use Rattle.std.proofs.Math.Nat.{dvd-mul_right, div-mul_cancel, mul-dvd-mul_right, dvd_of_mul-dvd-mul_right, mul_comm, mul_assoc, pos_of_dvd_of_pos, eq_of_mul-eq-mul_left}
 use lib.IntN.{*ℤ_comm, *ℤ-zero, zero-*ℤ}
 use Rattle.crn_frac.proofs.CallerLemmas.{exact}
-use Rattle.crn_vec.specs.Vectors.{Mat, entry, dot}
+use Rattle.crn_vec.specs.Vectors.{Mat, entry}
 use Rattle.crn_vec.specs.Lists.{IsIn}
 use Rattle.crn_vec.specs.Elementary.{width, InRowSpace, IsPrimitive, IsNamed, WideAt}
-use Rattle.crn_vec.proofs.CallerLemmas.{left-comm, mul-neg, past_end, lt_or, eq_or, orthogonal, dot_single}
+use Rattle.crn_vec.proofs.CallerLemmas.{left-comm, mul-neg, past_end, lt_or, eq_or, orthogonal, dot_two}
 use Rattle.crn_tab.specs.Tableau.{choose}
 use Rattle.crn_tab.specs.Slots.{spread, basis_of, row_at, IsTableau}
 use Rattle.crn_tab.specs.Inner.Columns.{MakesWhole, IsScale, HasWideScale, column_entry, column_of}
@@ -69,16 +69,6 @@ entry-column n c rows l [] k h = absurd (omega arith)
 entry-column n c rows l (s ∷ at) zero h = refl
 entry-column n c rows l (s ∷ at) (suc k) h = entry-column n c rows l at k (omega arith)
 
--- all products but those at i and k are 0
-dot_pair : (v w : List ℤ) (i k : ℕ) → i ≢ k → ((j : ℕ) → j ≢ i → j ≢ k → entry v j *ℤ entry w j ≡ pos 0) → dot v w ≡ entry v i *ℤ entry w i +ℤ entry v k *ℤ entry w k
-dot_pair [] w i k ne h = omega (arith, ints, zero-*ℤ (entry w i), zero-*ℤ (entry w k))
-dot_pair (x ∷ v) [] i k ne h = omega (arith, ints, *ℤ-zero (entry (x ∷ v) i), *ℤ-zero (entry (x ∷ v) k))
-dot_pair (x ∷ v) (y ∷ w) zero zero ne h = absurd (ne refl)
-dot_pair (x ∷ v) (y ∷ w) zero (suc k) ne h = omega (arith, ints, dot_single v w k (λ j nj. h (suc j) (λ e. omega arith) (λ e. nj (omega arith))))
-dot_pair (x ∷ v) (y ∷ w) (suc i) zero ne h = omega (arith, ints, dot_single v w i (λ j nj. h (suc j) (λ e. nj (omega arith)) (λ e. omega arith)))
-dot_pair (x ∷ v) (y ∷ w) (suc i) (suc k) ne h =
-    omega (arith, ints, h 0 (λ e. omega arith) (λ e. omega arith), dot_pair v w i k (λ e. ne (ap suc e)) (λ j ni nk. h (suc j) (λ e. ni (omega arith)) (λ e. nk (omega arith))))
-
 -- a row and a column of one basis: only their two coordinates meet
 pub meets : (a : Mat) (at order : List ℕ) (rows : List ℤ) (col k i : ℕ) (z : List ℤ) → IsTableau a at order rows → IsIn col (basis_of a.cols at) → k < width a → slice_index at k ≡ a.cols + i → i < length a.rows
     → InRowSpace a z → ((j : ℕ) → IsIn j (basis_of a.cols at) → j ≢ col → entry z j ≡ pos 0)
@@ -98,7 +88,7 @@ meets a at order rows col k i z t member k_lt own i_lt space rest =
     let at_col : entry w col ≡ entry row (slice_index at col) = entry-spread n i row at col (omega (arith, t.placed.at_long, col_lt)) ∙ slot_basic n i row (slice_index at col) c_lt in
     let at_k : entry w k ≡ entry row n = at_own n (width a) at order i row k t.placed k_lt own in
     ap (λ (x : ℤ). x *ℤ entry z col +ℤ entry row n *ℤ entry z k) (sym at_col) ∙ ap (λ (x : ℤ). entry w col *ℤ entry z col +ℤ x *ℤ entry z k) (sym at_k)
-    ∙ sym (dot_pair w z col k ne others) ∙ orthogonal a w z (t.each i i_lt).dual space
+    ∙ sym (dot_two w z col k ne others) ∙ orthogonal a w z (t.each i i_lt).dual space
 
 -- from a z + d y = 0 and v d = - (a l): v z = l y, if d is not 0
 crossed : (a d z y v l : ℤ) → d ≢ pos 0 → a *ℤ z +ℤ d *ℤ y ≡ pos 0 → v *ℤ d ≡ neg_ℤ (a *ℤ l) → v *ℤ z ≡ l *ℤ y

@@ -9,11 +9,11 @@ use Rattle.std.proofs.Math.Seq.{take-append_seam}
 use Rattle.crn_vec.specs.declared.limits.TheConstants.{MAX_AMOUNT, MAX_COORDINATES, WIDE_ENTRY}
 use Rattle.crn_vec.specs.Vectors.{Mat, entry, dot, column, AreOfLength, AreWithin}
 use Rattle.crn_vec.specs.Elementary.{width, InDualSpace}
-use Rattle.crn_vec.proofs.CallerLemmas.{within_at, past_end, lt_or, length-neg, entry-neg, dot_single, zero_times, entry-column}
+use Rattle.crn_vec.proofs.CallerLemmas.{within_at, past_end, lt_or, length-neg, entry-neg, dot_single, zero_times, entry-column, row_count}
 use Rattle.crn_tab.specs.Tableau.{AreSmall, choose}
 use Rattle.crn_tab.specs.Slots.{IsContent, slot_entry, spread, basis_from, row_at, ArePlaced, IsRowAt, IsTableau, AreLowRows, AreShortRows}
 use Rattle.crn_tab.specs.Inner.Start.{IsIdentity, start_row, start_rows}
-use Rattle.crn_tab.proofs.Rows.{everywhere, row_count}
+use Rattle.crn_tab.proofs.Rows.{everywhere}
 use Rattle.crn_tab.proofs.Places.{lt_true, lt_false, slot_basic, slot_own, slot_none, length-spread, entry-spread}
 use Rattle.crn_tab.proofs.Finish.{small_list}
 

@@ -1,19 +1,14 @@
 -- A lead from a row whose places c and w - 1 were swapped.
-use Rattle.std.proofs.Common.{◌≡◌, ◌≢◌, ℕ, ◌-◌, inl, inr, List, length, refl, ap, ◌∙◌, arith, to_z, of_z, false, true}
-use Rattle.std.specs.Prelude.{ℤ, pos, negsuc, neg_ℤ, ◌*ℤ◌, ◌≤ℤ◌, int_lt}
+use Rattle.std.proofs.Common.{◌≡◌, ◌≢◌, ℕ, ◌-◌, inl, inr, List, length, refl, ap, ◌∙◌, arith, to_z, of_z, false, true, sym}
+use Rattle.std.specs.Prelude.{ℤ, pos, negsuc, neg_ℤ, ◌≤ℤ◌, int_lt}
 use Rattle.std.specs.List.{SwappedAt}
 use Rattle.std.specs.Int.{w64}
 use Rattle.std.proofs.lemmas.Int.{ints}
 use Rattle.crn_vec.specs.Vectors.{entry}
+use Rattle.crn_vec.proofs.CallerLemmas.{minus_one, one-mul}
 use Rattle.crn_tab.specs.Tableau.{AreSmall}
 use Rattle.crn_tab.specs.Inner.Rows.{IsLead}
 use Rattle.crn_tab.proofs.Cross.{read}
-
-one : (x : ℤ) → x ≡ pos 1 *ℤ x
-one x = omega (arith, ints)
-
-pub minus_one : (x : ℤ) → neg_ℤ x ≡ negsuc 0 *ℤ x
-minus_one x = omega (arith, ints)
 
 no_less : (n : ℕ) → int_lt (pos n) (pos 0) ≡ true → ⊥
 no_less n h = grind (arith, ints)
@@ -36,9 +31,9 @@ plain w c row copy lead e long same s small some sign =
       sign = pos 1;
       unit = inl refl;
       long = same ∙ ap length e ∙ long;
-      leaves = last ∙ one (entry row c);
-      enters = s.0 (pos 0) ∙ ap (λ (v : List ℤ). entry v (w - 1)) e ∙ one (entry row (w - 1));
-      others = λ k nc nn. s.2 k (pos 0) nc nn ∙ ap (λ (v : List ℤ). entry v k) e ∙ one (entry row k);
+      leaves = last ∙ sym (one-mul (entry row c));
+      enters = s.0 (pos 0) ∙ ap (λ (v : List ℤ). entry v (w - 1)) e ∙ sym (one-mul (entry row (w - 1)));
+      others = λ k nc nn. s.2 k (pos 0) nc nn ∙ ap (λ (v : List ℤ). entry v k) e ∙ sym (one-mul (entry row k));
       positive = rw last (not_less (entry row c) test some);
     }
 
@@ -54,8 +49,8 @@ lead_made w c row copy swapped lead e long same long' s small neg sign =
       sign = negsuc 0;
       unit = inr refl;
       long = long' ∙ same ∙ ap length e ∙ long;
-      leaves = neg (w - 1) ∙ ap neg_ℤ last ∙ minus_one (entry row c);
-      enters = neg c ∙ ap neg_ℤ first ∙ minus_one (entry row (w - 1));
-      others = λ k nc nn. neg k ∙ ap neg_ℤ (s.2 k (pos 0) nc nn ∙ ap (λ (v : List ℤ). entry v k) e) ∙ minus_one (entry row k);
+      leaves = neg (w - 1) ∙ ap neg_ℤ last ∙ sym (minus_one (entry row c));
+      enters = neg c ∙ ap neg_ℤ first ∙ sym (minus_one (entry row (w - 1)));
+      others = λ k nc nn. neg k ∙ ap neg_ℤ (s.2 k (pos 0) nc nn ∙ ap (λ (v : List ℤ). entry v k) e) ∙ sym (minus_one (entry row k));
       positive = rw (neg (w - 1), last) (less (entry row c) test);
     }

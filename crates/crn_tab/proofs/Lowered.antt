@@ -4,11 +4,11 @@ use Rattle.std.specs.Prelude.{ℤ, pos, negsuc, ◌-ℤ◌, ◌*ℤ◌, ◌≤�
 use Rattle.std.specs.Int.{IsGcd, ◌∣◌}
 use Rattle.std.proofs.lemmas.Int.{ints, unsigned_abs-mul}
 use Rattle.std.proofs.lemmas.Nat.Gcd.{IsGcd-swap}
-use Rattle.std.proofs.Math.Nat.{one-dvd, one-mul, mul-dvd-mul_right, dvd_of_mul-dvd-mul_right}
 use Rattle.std.proofs.Math.IntN.{negsuc-*ℤ-pos}
 use lib.IntN.{zero-*ℤ}
 use Rattle.crn_vec.proofs.CallerLemmas.{left-comm}
 use Rattle.crn_vec.specs.Vectors.{entry}
+use Rattle.crn_frac.proofs.CallerLemmas.{reduced}
 use Rattle.crn_tab.specs.Inner.Rows.{put, IsCombined, IsNewRow}
 use Rattle.crn_tab.specs.Slots.{IsContent}
 use Rattle.crn_tab.proofs.NewRows.{put_same, put_other, put_twice}
@@ -21,23 +21,11 @@ pub record Lowered (p q a b t : ℤ) : Type 0 where
   pub second : b *ℤ t ≡ q
   pub lowest : IsGcd (unsigned_abs a) (unsigned_abs b) 1
 
-lowest_parts : (p q a b t : ℤ) → IsGcd (unsigned_abs q) (unsigned_abs p) (unsigned_abs t) → pos 1 ≤ℤ t → a *ℤ t ≡ p → b *ℤ t ≡ q → IsGcd (unsigned_abs a) (unsigned_abs b) 1
-lowest_parts p q a b t h some first second =
-    let g = unsigned_abs t in (
-      one-dvd (unsigned_abs a),
-      one-dvd (unsigned_abs b),
-      λ d x y.
-          let D : ℕ → Type 0 = λ m. d * g ∣ m in
-          let left : d * g ∣ unsigned_abs p = subst D (sym (unsigned_abs-mul a t) ∙ ap unsigned_abs first) (mul-dvd-mul_right d x g) in
-          let right : d * g ∣ unsigned_abs q = subst D (sym (unsigned_abs-mul b t) ∙ ap unsigned_abs second) (mul-dvd-mul_right d y g) in
-          dvd_of_mul-dvd-mul_right d (omega (arith, ints, some)) (subst D (sym (one-mul g)) (h.2 (d * g) right left)),
-    )
-
 pub lowered : (p q a b t s : ℤ) → s ≡ t → IsGcd (unsigned_abs q) (unsigned_abs p) (unsigned_abs t) → pos 1 ≤ℤ t → a *ℤ s ≡ p → b *ℤ s ≡ q → Lowered p q a b t
 lowered p q a b t s e h some first second =
     let one : a *ℤ t ≡ p = ap (λ (x : ℤ). a *ℤ x) (sym e) ∙ first in
     let two : b *ℤ t ≡ q = ap (λ (x : ℤ). b *ℤ x) (sym e) ∙ second in
-    record { some = some; first = one; second = two; lowest = lowest_parts p q a b t h some one two }
+    record { some = some; first = one; second = two; lowest = reduced p q t a b (IsGcd-swap (unsigned_abs q) (unsigned_abs p) (unsigned_abs t) h) (omega (arith, ints, some)) one two }
 
 pub factor_some : (a t p : ℤ) → a *ℤ t ≡ p → pos 1 ≤ℤ p → pos 1 ≤ℤ t → pos 1 ≤ℤ a
 factor_some (pos zero) t p e hp ht = absurd (omega (arith, ints, e, hp, zero-*ℤ t))

@@ -5,13 +5,10 @@ use Rattle.std.specs.Int.{◌∣◌}
 use Rattle.std.proofs.lemmas.Int.{ints, unsigned_abs-mul}
 use Rattle.std.proofs.Math.Nat.{one-dvd, one-mul, mul-le-mul, mul-dvd-mul_right, dvd_of_mul-dvd-mul_right, pos_of_dvd_of_pos}
 use lib.IntN.{*ℤ-zero}
-use Rattle.crn_vec.proofs.CallerLemmas.{past_end, inside_or, lt_or, zero_times}
+use Rattle.crn_vec.proofs.CallerLemmas.{past_end, inside_or, lt_or, zero_times, abs_some}
 use Rattle.crn_vec.specs.Vectors.{entry}
 use Rattle.crn_tab.specs.Slots.{IsContent}
 use Rattle.crn_tab.specs.Inner.Rows.{IsCombined, IsPrimitivePart}
-
-pub abs_some : (x : ℤ) → x ≢ pos 0 → 1 ≤ unsigned_abs x
-abs_some x h = omega (arith, ints, h)
 
 pub content_some : (v : List ℤ) (g k : ℕ) → IsContent v g → entry v k ≢ pos 0 → 1 ≤ g
 content_some v g k h ne = pos_of_dvd_of_pos (h.divides k) (abs_some (entry v k) ne)

@@ -1,9 +1,9 @@
 -- Rows by their entries.
-use Rattle.std.proofs.Common.{◌≡◌, ℕ, zero, suc, ◌<◌, inl, inr, List, [], ◌∷◌, length, get_or, sym, subst, arith, lit<}
+use Rattle.std.proofs.Common.{◌≡◌, ℕ, ◌<◌, inl, inr, List, length, sym, subst, lit<}
 use Rattle.std.specs.Prelude.{ℤ, pos, unsigned_abs}
 use Rattle.std.proofs.lemmas.List.{ext_get_or}
 use Rattle.crn_vec.specs.declared.limits.TheConstants.{WIDE_ENTRY}
-use Rattle.crn_vec.specs.Vectors.{AreOfLength, entry}
+use Rattle.crn_vec.specs.Vectors.{entry}
 use Rattle.crn_vec.proofs.CallerLemmas.{past_end, inside_or}
 use Rattle.crn_tab.specs.Tableau.{AreSmall}
 
@@ -19,8 +19,3 @@ everywhere P v z h k = elim (inside_or v k) [
 
 pub small_everywhere : (v : List ℤ) → ((k : ℕ) → k < length v → unsigned_abs (entry v k) < WIDE_ENTRY) → AreSmall v
 small_everywhere v h = everywhere (λ z. unsigned_abs z < WIDE_ENTRY) v (lit< tt) h
-
-pub row_count : (n : ℕ) (rows : List (List ℤ)) (i : ℕ) → AreOfLength n rows → i < length rows → length (get_or rows i []) ≡ n
-row_count n [] i w lt = absurd (omega arith)
-row_count n (r ∷ rows) zero w lt = w.0
-row_count n (r ∷ rows) (suc i) w lt = row_count n rows i w.1 (omega arith)

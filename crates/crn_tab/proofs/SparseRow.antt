@@ -4,7 +4,7 @@ use Rattle.std.specs.Prelude.{ℤ, pos, neg_ℤ, ◌-ℤ◌, ◌*ℤ◌, FitsSig
 use Rattle.std.specs.Int.{w64}
 use Rattle.std.proofs.lemmas.Int.{ints, to_z-of_z, fits_signed_from_abs}
 use lib.IntN.{*ℤ-zero}
-use Rattle.crn_vec.proofs.CallerLemmas.{past_end, inside_or}
+use Rattle.crn_vec.proofs.CallerLemmas.{past_end, inside_or, at_in, in_at}
 use Rattle.crn_vec.specs.declared.limits.TheConstants.{WIDE_ENTRY}
 use Rattle.crn_vec.specs.Lists.{IsIn}
 use Rattle.crn_vec.specs.Vectors.{entry}
@@ -14,24 +14,13 @@ use Rattle.crn_tab.proofs.LowCross.{product_low, read_low}
 use Rattle.crn_tab.proofs.NewRows.{look, put_same, put_other}
 use Rattle.crn_tab.proofs.Signs.{is_none}
 
--- a member is inside, and a place of the list has a member
-pub place_in : (xs : List ℕ) (i : ℕ) → i < length xs → IsIn (slice_index xs i) xs
-place_in [] i h = absurd (omega arith)
-place_in (x ∷ xs) zero h = inl refl
-place_in (x ∷ xs) (suc i) h = inr (place_in xs i (omega arith))
-
 pub listed_place : (places : List ℕ) (s : ℕ) → s < length places → slice_index places s ≡ slice_index_or places s 0
 listed_place [] s h = absurd (omega arith)
 listed_place (x ∷ xs) zero h = refl
 listed_place (x ∷ xs) (suc s) h = listed_place xs s (omega arith)
 
 pub listed_inside : (row : List ℤ) (places : List ℕ) (s : ℕ) → ArePlaces row places → s < length places → slice_index_or places s 0 < length row
-listed_inside row places s h lt = h.inside (slice_index_or places s 0) (subst (λ (j : ℕ). IsIn j places) (listed_place places s lt) (place_in places s lt))
-
-pub in_place : (k : ℕ) (xs : List ℕ) → IsIn k xs → (i : ℕ) × (i < length xs) × (slice_index xs i ≡ k)
-in_place k [] h = absurd h
-in_place k (x ∷ xs) (inl e) = (0, omega arith, sym e)
-in_place k (x ∷ xs) (inr h) = let r = in_place k xs h in (suc r.0, omega (arith, r.1), r.2)
+listed_inside row places s h lt = h.inside (slice_index_or places s 0) (subst (λ (j : ℕ). IsIn j places) (listed_place places s lt) (at_in places s 0 lt))
 
 pub record Lessened (x q y : ℤ) : Type 0 where
   pub read_x : to_z w64 (of_z w64 x) ≡ x
@@ -87,7 +76,7 @@ all_done row lead into places q long h each done k =
       | inl lt ↦ elim (is_none (entry lead k)) [
         | inl none ↦ stays none
         | inr some ↦
-            let r = in_place k places (h.all k lt (λ e. let z : unsigned_abs (entry lead k) ≡ 0 = ap unsigned_abs e in omega (arith, some, z))) in
+            let r = in_at k places 0 (h.all k lt (λ e. let z : unsigned_abs (entry lead k) ≡ 0 = ap unsigned_abs e in omega (arith, some, z))) in
             subst (λ (j : ℕ). entry into j ≡ entry row j -ℤ (q *ℤ entry lead j)) r.2 (done r.0 r.1)
       ]
     ]

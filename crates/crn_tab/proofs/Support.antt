@@ -2,11 +2,9 @@
 use Rattle.std.proofs.Common.{◌≡◌, ◌≢◌, ℕ, zero, suc, ◌+◌, ◌<◌, inl, inr, List, [], ◌∷◌, ◌++◌, length, refl, sym, ap, subst, arith}
 use Rattle.std.specs.Prelude.{ℤ, pos, slice_index}
 use Rattle.std.proofs.lemmas.List.{length-append}
-use Rattle.crn_vec.proofs.CallerLemmas.{eq_or, lt_or, in_push}
+use Rattle.crn_vec.proofs.CallerLemmas.{eq_or, lt_or, in_push, at_in, in_left, in_right}
 use Rattle.crn_vec.specs.Lists.{IsIn}
 use Rattle.crn_vec.specs.Vectors.{entry}
-use Rattle.crn_tab.proofs.Numbers.{push_in, push_last}
-use Rattle.crn_tab.proofs.SparseRow.{place_in}
 
 pushed_before : (xs : List ℕ) (c j : ℕ) → j < length xs → slice_index (xs ++ c ∷ []) j ≡ slice_index xs j
 pushed_before [] c j h = absurd (omega arith)
@@ -23,7 +21,7 @@ ascending_pushed xs c below h i j lt j_lt = elim (lt_or j (length xs)) [
   | inl inside ↦ omega (arith, h i j lt inside, pushed_before xs c i (omega arith), pushed_before xs c j inside)
   | inr last ↦
       let same : j ≡ length xs = omega (arith, length-append xs (c ∷ [])) in
-      omega (arith, below (slice_index xs i) (place_in xs i (omega arith)), pushed_before xs c i (omega arith), ap (slice_index (xs ++ c ∷ [])) same, pushed_last xs c)
+      omega (arith, below (slice_index xs i) (at_in xs i 0 (omega arith)), pushed_before xs c i (omega arith), ap (slice_index (xs ++ c ∷ [])) same, pushed_last xs c)
 ]
 
 -- the list holds those of the first c places where the row is not 0, and such places of the row alone, ascending
@@ -46,7 +44,7 @@ place_pushed row xs ys c h lt e = subst (λ (zs : List ℕ). PlacesUpTo row zs (
   ascending = ascending_pushed xs c h.below h.ascending;
   below = λ k i. elim (in_push k xs c i) as (λ _. k < c + 1) [ inl j ↦ omega (arith, h.below k j) | inr f ↦ omega (arith, f) ];
   inside = λ k i. elim (in_push k xs c i) as (λ _. k < length row) [ inl j ↦ h.inside k j | inr f ↦ omega (arith, f, lt) ];
-  all = λ k k_lt some. elim (eq_or k c) as (λ _. IsIn k (xs ++ c ∷ [])) [ inl f ↦ push_last xs c k f | inr ne ↦ push_in xs c k (h.all k (omega (arith, k_lt, ne)) some) ];
+  all = λ k k_lt some. elim (eq_or k c) as (λ _. IsIn k (xs ++ c ∷ [])) [ inl f ↦ in_right k xs (c ∷ []) (inl f) | inr ne ↦ in_left k xs (c ∷ []) (h.all k (omega (arith, k_lt, ne)) some) ];
 })
 
 pub place_passed : (row : List ℤ) (xs : List ℕ) (c : ℕ) → PlacesUpTo row xs c → entry row c ≡ pos 0 → PlacesUpTo row xs (c + 1)

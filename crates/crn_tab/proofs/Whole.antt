@@ -1,13 +1,8 @@
 -- What a tableau keeps, if other lists hold the same.
-use Rattle.std.proofs.Common.{◌≡◌, ◌≤◌, ◌+◌, ◌++◌, ℕ, List, Bool, length, take, drop, ap, sym, subst, ◌∙◌}
+use Rattle.std.proofs.Common.{◌≡◌, ◌≤◌, ◌+◌, ℕ, List, Bool, length, sym, subst}
 use Rattle.std.specs.Prelude.{ℤ, IsTrue}
-use Rattle.std.proofs.Math.Seq.{take-append_seam}
 use Rattle.crn_vec.specs.Vectors.{Mat}
 use Rattle.crn_tab.specs.Slots.{AreLowRows, AreShortRows, IsTableau, IsWhole}
-
--- a list in place of one of its length
-pub written : {A : Type 0} (n : ℕ) (new old : List A) → length new ≡ n → take n (new ++ drop (length new) old) ≡ new
-written n new old e = ap (λ k. take k (new ++ drop (length new) old)) (sym e) ∙ take-append_seam new (drop (length new) old)
 
 pub whole : (a a' : Mat) (at at' order order' : List ℕ) (rows rows' lead : List ℤ) (low short : Bool) (spare_room room : ℕ) (work narrow_lead narrow_work : List ℤ) → a' ≡ a → at' ≡ at → order' ≡ order → rows' ≡ rows
     → IsTableau a at order rows → (IsTrue low → AreLowRows (a.cols + 1) (length a.rows) rows) → (IsTrue short → AreShortRows (a.cols + 1) (length a.rows) rows) → length rows ≤ spare_room → length lead ≡ a.cols + 1 → a.cols + 1 ≤ room → length work ≡ a.cols + 1 → length narrow_lead ≡ a.cols + 1 → length narrow_work ≡ a.cols + 1

@@ -17,3 +17,5 @@ pub use Rattle.crn_text.proofs.CanonicalLines.{no_lf}
 -- The digits of a number, and a number that grows with each digit.
 pub use Rattle.crn_text.proofs.CanonicalTokens.{digit_is}
 pub use Rattle.crn_text.proofs.Numbers.{value_grows}
+-- A list that a map joins, split at one member.
+pub use Rattle.crn_io.proofs.CallerLemmas.{flat_map_whole}

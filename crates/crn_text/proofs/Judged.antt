@@ -6,7 +6,7 @@ use Rattle.std.proofs.lemmas.Bool.{cases_Bool, cases_lt, ltb-false}
 use Rattle.std.proofs.lemmas.List.{append-nil, take_all, take_more}
 use Rattle.crn_vec.specs.Network.{Net, Statement}
 use Rattle.crn_vec.specs.declared.limits.TheConstants.{MAX_SPECIES, MAX_COMPLEXES, MAX_REACTIONS, MAX_TEXT}
-use Rattle.crn_vec.proofs.CallerLemmas.{flat_map_push}
+use Rattle.crn_vec.proofs.CallerLemmas.{flat_map_push, option_or}
 use Rattle.crn_net.specs.Grows.{Grown, IsSelf, no_net, names_with, complexes_with, reactions_with}
 use Rattle.crn_net.proofs.CallerLemmas.{Grown-none, Grown-more, Grown-network, IsSaid, may_grow}
 use Rattle.crn_text.specs.Tokens.{lines}
@@ -94,15 +94,11 @@ record FirstLine (ls : List (List ℕ)) (n : ℕ) : Type 0 where
   earlier : AreFaultless ls at
   fault : fault_on ls at ≡ Some code
 
-some_or_none : (o : Option TextCode) → (o ≡ None) ⊎ ((code : TextCode) × (o ≡ Some code))
-some_or_none None = inl refl
-some_or_none (Some code) = inr (code, refl)
-
 first_line : (ls : List (List ℕ)) (n : ℕ) → AreFaultless ls n ⊎ FirstLine ls n
 first_line ls zero = inl (λ k lt. absurd (omega (arith, lt)))
 first_line ls (suc n) = elim (first_line ls n) [
   | inr found ↦ inr (record { at = found.at; code = found.code; below = let lt = found.below in omega arith; earlier = found.earlier; fault = found.fault })
-  | inl none ↦ elim (some_or_none (fault_on ls n)) [
+  | inl none ↦ elim (option_or (fault_on ls n)) [
     | inl fine ↦ inl (λ k lt. elim (cases_lt k n) [ inl less ↦ none k less | inr most ↦ let is : n ≡ k = omega arith in subst (λ (m : ℕ). fault_on ls m ≡ None) is fine ])
     | inr found ↦ inr (record { at = n; code = found.0; below = omega arith; earlier = none; fault = found.1 })
   ]

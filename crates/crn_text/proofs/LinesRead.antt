@@ -1,8 +1,8 @@
 -- One line of a text after another.
 use Rattle.std.proofs.Common.{◌≡◌, ℕ, zero, suc, ◌+◌, ◌<◌, ◌≤◌, Bool, true, false, List, [], ◌∷◌, ◌++◌, length, take, drop, get_or, Option, Some, None, Result, Ok, Err, Bor, refl, sym, ap, subst, ◌∙◌, inl, inr, below_more, arith}
-use Rattle.crn_vec.proofs.CallerLemmas.{flat_map_push}
+use Rattle.crn_vec.proofs.CallerLemmas.{flat_map_push, all_given}
 use Rattle.std.specs.Prelude.{map, ◌⊎◌}
-use Rattle.std.specs.List.{AllByRecursion, list_all}
+use Rattle.std.specs.List.{list_all}
 use Rattle.std.proofs.lemmas.List.{append-nil, length-drop, take_all, take_more}
 use Rattle.crn_vec.specs.Lists.{firsts}
 use Rattle.crn_vec.specs.Network.{Net, Statement, IsNetwork, sides_eq, said_by}
@@ -98,10 +98,6 @@ pub none_own : (own more : Option TextCode) → or_else own more ≡ None → ow
 none_own None more h = refl
 none_own (Some code) more h = absurd cc
 
-all_sound : (P : List ℕ → Type 0) (ls : List (List ℕ)) → ((k : ℕ) → k < length ls → P (get_or ls k [])) → AllByRecursion P ls
-all_sound P [] h = tt
-all_sound P (l ∷ ls) h = (h 0 (omega arith), all_sound P ls (λ k lt. h (suc k) (omega (arith, lt))))
-
 no_first : {A : Type 0} (same : A → A → Bool) (xs : List A) → firsts same xs ≡ [] → xs ≡ []
 no_first same [] h = refl
 no_first same (x ∷ xs) h = absurd cc
@@ -115,7 +111,7 @@ text_ok text old made short h f =
     let network = rw f.0 at f.1 in
     rw f.0 (record {
       short = short;
-      sound = all_sound (λ line. own_fault line ≡ None) (lines text) (λ k lt. none_own _ _ (h.0 k lt));
+      sound = all_given (λ line. own_fault line ≡ None) (lines text) [] (λ k lt. none_own _ _ (h.0 k lt));
       names = Grown-names (all_statements (lines text)) old h.1;
       reactions = Grown-reactions (all_statements (lines text)) old h.1;
       network = network;

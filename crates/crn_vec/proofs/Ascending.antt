@@ -1,6 +1,6 @@
 -- Ascending lists of numbers, and ranges.
 use Rattle.std.proofs.Common.{◌≡◌, ℕ, zero, suc, ◌+◌, ◌<◌, ◌≤◌, List, [], ◌∷◌, ◌++◌, length, get_or, map, inl, inr, refl, sym, ap, ◌∙◌, arith}
-use Rattle.std.specs.List.{range_with_len}
+use Rattle.std.specs.List.{range_with_len, AllByRecursion}
 use Rattle.crn_vec.specs.Lists.{IsIn, IsAbove, IsAscending}
 use Rattle.crn_vec.proofs.Lists.{at_in}
 use Rattle.crn_vec.proofs.Entries.{eq_or}
@@ -38,6 +38,11 @@ above_push m (x ∷ xs) k h lt all = (h.0, above_push x xs k h.1 (all x (inl ref
 pub ascending_push : (xs : List ℕ) (k : ℕ) → IsAscending xs → ((c : ℕ) → IsIn c xs → c < k) → IsAscending (xs ++ k ∷ [])
 ascending_push [] k h all = tt
 ascending_push (x ∷ xs) k h all = above_push x xs k h (all x (inl refl)) (λ c i. all c (inr i))
+
+-- numbers above k and below n are fewer than n - k
+pub above_few : (xs : List ℕ) (k n : ℕ) → IsAbove k xs → ((x : ℕ) → IsIn x xs → x < n) → k < n → k + length xs < n
+above_few [] k n a h lt = omega (arith, lt)
+above_few (x ∷ xs) k n a h lt = let r = above_few xs x n a.1 (λ y i. h y (inr i)) (h x (inl refl)) in omega (arith, r, a.0)
 
 -- two ascending lists of the same members are one
 pub same_members : (xs ys : List ℕ) → IsAscending xs → IsAscending ys → ((x : ℕ) → IsIn x xs → IsIn x ys) → ((x : ℕ) → IsIn x ys → IsIn x xs) → xs ≡ ys
@@ -85,6 +90,10 @@ pub range_bounds : (r a n : ℕ) → IsIn r (range_with_len a n) → (a ≤ r) �
 range_bounds r a zero i = absurd i
 range_bounds r a (suc n) (inl e) = (omega (arith, e), omega (arith, e))
 range_bounds r a (suc n) (inr i) = let h = range_bounds r (a + 1) n i in (omega (arith, h.0), omega (arith, h.1))
+
+pub all_range : {A : Type 0} (P : A → Type 0) (f : ℕ → A) (a n : ℕ) → ((k : ℕ) → a ≤ k → k < a + n → P (f k)) → AllByRecursion P (map f (range_with_len a n))
+all_range P f a zero h = tt
+all_range P f a (suc n) h = (h a (omega arith) (omega arith), all_range P f (a + 1) n (λ k l m. h k (omega (arith, l)) (omega (arith, m))))
 
 pub in_range : (x a n : ℕ) → a ≤ x → x < a + n → IsIn x (range_with_len a n)
 in_range x a zero l m = absurd (omega (arith, l, m))

@@ -5,16 +5,16 @@ pub use Rattle.crn_vec.proofs.Lists.{in_left, in_right, in_cases, in_push, in_ma
 pub use Rattle.crn_vec.proofs.Lists.{distinct_push, map_distinct, map_same, map_twice, append_same, pair, and_cases}
 pub use Rattle.crn_vec.proofs.Lists.{all_in, all_from, all_given, all_at, all_push, all_set, all_map, any_default}
 pub use Rattle.crn_vec.proofs.Lists.{distinct_of_map, apart_of, all_append, flat_map_push, in_flat_map, of_flat_map}
-pub use Rattle.crn_vec.proofs.Lists.{in_take, long_take, below_suc}
+pub use Rattle.crn_vec.proofs.Lists.{in_take, long_take, below_suc, written}
 pub use Rattle.crn_vec.proofs.Level.{head_is, tail_is}
 -- Tests that decide: whether two agree, and whether one finds a member.
-pub use Rattle.crn_vec.proofs.Lists.{same_test, any_is, any_true, any_false, any_has, any_push, and_true, and_no, or_right, not_true}
+pub use Rattle.crn_vec.proofs.Lists.{same_test, any_is, any_true, any_false, any_some, any_has, any_push, and_true, and_no, or_right, not_true, refused}
 -- What holds of an answer that is there.
 pub use Rattle.crn_vec.proofs.Lists.{if_ok}
 -- Ascending lists of numbers, ranges, and the members of a list that pass a test.
-pub use Rattle.crn_vec.proofs.Ascending.{above_in, above_ascending, above_lower, ascending_tail, ascending_at, above_suc, ascending_suc, above_zero}
+pub use Rattle.crn_vec.proofs.Ascending.{above_in, above_few, above_ascending, above_lower, ascending_tail, ascending_at, above_suc, ascending_suc, above_zero}
 pub use Rattle.crn_vec.proofs.Ascending.{above_push, ascending_push, same_members}
-pub use Rattle.crn_vec.proofs.Ascending.{range_above, range_ascending, range_bounds, in_range, range_more}
+pub use Rattle.crn_vec.proofs.Ascending.{range_above, range_ascending, range_bounds, in_range, range_more, all_range}
 pub use Rattle.crn_vec.proofs.Filters.{filter_from, filter_has, filter_distinct, filter_yes, filter_no, filter_above, filter_ascending}
 pub use Rattle.crn_vec.proofs.Filters.{first_stays, first_goes, filter_few, count_yes, count_no}
 -- The members of a list, each once, in order of first appearance.
@@ -28,20 +28,20 @@ pub use Rattle.crn_vec.proofs.Entries.{past_end, inside_or, lt_or, eq_or, below_
 pub use Rattle.crn_vec.proofs.Entries.{before_one, below_two}
 -- The rows of a list that holds them one after another, and bounds of their entries.
 pub use Rattle.crn_vec.proofs.RowLists.{length-rows_of, row_at, row_inside, rows_of_length, within_at, within_drop, within_take, within_rows}
-pub use Rattle.crn_vec.proofs.RowLists.{within_append, amounts_within, drop_seam, length-rows_after, rows_after}
+pub use Rattle.crn_vec.proofs.RowLists.{within_append, amounts_within, row_count, drop_seam, length-rows_after, rows_after}
 -- Numbers that 128 bits hold, and bounds of sums and products.
 pub use Rattle.crn_vec.proofs.Held.{held, product_within, sum_within}
 -- Places that are skipped in sums of products, what a zero adds, and bounds of lists in which places are set.
 pub use Rattle.crn_vec.proofs.ZeroPlaces.{dot_skip, zero_adds, nought_adds, within_more, within_set, entry_of_zeros, zeros_within}
 -- Ring laws and signs of whole numbers.
 pub use Rattle.crn_vec.proofs.Ring.{distrib, distrib-right, assoc, left-comm, mul-neg, mul-sub, no_zero, pos_pos, is_zero, one_ne_zero}
-pub use Rattle.crn_vec.proofs.Ring.{neg-mul, cancel_right, swap_factors, ratios_cross, one-mul, zero_times, plus_none, positive_some}
+pub use Rattle.crn_vec.proofs.Ring.{neg-mul, cancel_right, swap_factors, ratios_cross, one-mul, minus_one, zero_times, plus_none, abs_some, positive_some}
 -- Dot products, sums and multiples of vectors, and combinations of rows.
-pub use Rattle.crn_vec.proofs.Sums.{dot-comm, dot_none, dot_zero, dot_single, dot_split, dot-scale, dot-plus, zeros-dot, transposed}
+pub use Rattle.crn_vec.proofs.Sums.{dot-comm, dot_none, dot_zero, dot_single, dot_two, dot_split, dot-scale, dot-plus, zeros-dot, transposed}
 pub use Rattle.crn_vec.proofs.Sums.{plus, zeros, comb, dots, length-scale, length-plus, length-zeros, take-zeros, length-comb, length-dots}
 pub use Rattle.crn_vec.proofs.Sums.{entry-zeros, entry-scale, take-scale, entry-plus, entry-comb, entry-dots}
 -- A homogeneous system has a solution that is not zero, or no more unknowns than equations.
-pub use Rattle.crn_vec.proofs.Null.{Zero, Solves, Free, Fixed, null, dot-zero, dot-zeros, dot-scale-right}
+pub use Rattle.crn_vec.proofs.Null.{Zero, zero_from, Solves, Free, Fixed, null, dot-zero, dot-zeros, dot-scale-right}
 -- More vectors than they have entries are dependent.
 pub use Rattle.crn_vec.proofs.Many.{Related, too_many}
 -- The number of independent vectors, and the rank.
@@ -74,7 +74,7 @@ pub use Rattle.crn_vec.proofs.Flows.{unit, dot_unit, gain, flow, flow_sum, gain_
 pub use Rattle.crn_vec.proofs.SumLaws.{sum_by, sums_for, sums_one, sum_scaled, dot_ratio}
 pub use Rattle.crn_vec.proofs.LabelMarks.{label_sum, label_sum_is, length-label_marks, label_mark}
 -- Columns and vectors of a network.
-pub use Rattle.crn_vec.proofs.Carried.{entry-column, length-column, column-chosen, vector_long, gain_made}
+pub use Rattle.crn_vec.proofs.Carried.{entry-column, entry-minus, length-column, column_past, column-chosen, vector_long, gain_made}
 -- Numbers that are apart by one relation are so by another.
 pub use Rattle.crn_vec.proofs.Numbers.{apart_map}
 -- The deficiency is one number, and so is the confluence vector of a regular network up to multiples.
@@ -93,14 +93,14 @@ pub use Rattle.crn_vec.proofs.NetTables.{networks_have_tables, length-minus}
 pub use Rattle.crn_vec.proofs.NetTables.{vector_at, column_long, row_is, rows_count}
 pub use Rattle.crn_vec.proofs.NetRows.{reaction_long, vectors_count, vector_width, some_species, column_is, combined_past}
 -- The kinds of the rows at a prefix, and the signs of numbers.
-pub use Rattle.crn_vec.proofs.TableKinds.{zip_append, length-rows, one_at_most, count_at_most, plus-opposite, minus-opposite, sum-opposite, cond-opposite, products_none}
+pub use Rattle.crn_vec.proofs.TableKinds.{column_in_a, row_in_a, column_in_b, row_in_b, zip_append, length-rows, one_at_most, count_at_most, plus-opposite, minus-opposite, sum-opposite, cond-opposite, products_none}
 pub use Rattle.crn_vec.proofs.PrefixKinds.{row_chosen, row_open, rows_are, kinds_more, sign_is}
 -- The sign of a product, and of a negative, by the signs of the numbers.
 pub use Rattle.crn_vec.proofs.SignTables.{product_is, opposite_is}
 -- Labels of strong classes, reaction by reaction.
 pub use Rattle.crn_vec.proofs.EvenLabels.{IsEvenAt, even_at, weak_if_even, uneven_not_weak}
 pub use Rattle.crn_vec.proofs.TableLawful.{tables_are_lawful, tables_are_steady, dot-neg, entry-neg, length-neg, and_first}
-pub use Rattle.crn_vec.proofs.Discordance.{tables_feasible, entry-after, share_sign}
+pub use Rattle.crn_vec.proofs.Discordance.{tables_feasible, entry-after, share_sign, zeros_signs, some_or_zeros, some_not_zero, columns_have, columns_go}
 -- The sign problem of the signals of a network, and the shape that it uses.
 pub use Rattle.crn_vec.proofs.NetSignalLaws.{top_inside, some_is, none_some, option_or, shapes_are_one, multiples_share_signals, signals_feasible}
 pub use Rattle.crn_vec.proofs.BothOrders.{signals_are_of_shape}

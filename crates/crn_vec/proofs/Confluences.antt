@@ -14,7 +14,7 @@ use Rattle.crn_vec.specs.Strong.{Reaches, SameStrong, IsTerminal, StaysStrong, I
 use Rattle.crn_vec.specs.Sums.{AreMarks, SumsTo}
 use Rattle.crn_vec.specs.Deficiency.{IsComplex, IsPositiveDependence}
 use Rattle.crn_vec.specs.Confluence.{IsRegular, InConfluenceSpace, HasConfluenceLine, IsNonzero, GathersAt, IsConfluenceVector, ArePositiveMultiples, negative, ConfluenceVectorsAreOne}
-use Rattle.crn_vec.proofs.Ring.{no_zero, mul-neg, is_zero, neg-mul}
+use Rattle.crn_vec.proofs.Ring.{no_zero, mul-neg, is_zero, neg-mul, minus_one}
 use Rattle.crn_vec.proofs.KindLaws.{up_up}
 use Rattle.crn_vec.proofs.Orthogonal.{length-listed}
 use Rattle.crn_vec.proofs.Sums.{dot-comm, dot-scale, dot_zero, entry-scale, length-scale}
@@ -238,9 +238,6 @@ still_vector net s g c still =
     no_zero (entry g j) x (*ℤ_comm (entry g j) x ∙ ratio ∙ ap (λ (z : ℤ). z *ℤ entry (carried net s) j) none ∙ zero-*ℤ (entry (carried net s) j)) c.some.1)
 
 -- ---- the negative
-
-minus_one : (x : ℤ) → neg_ℤ (pos 1) *ℤ x ≡ neg_ℤ x
-minus_one x = omega (arith, ints)
 
 pub negative_sum : (g : List ℤ) (P : ℕ → Type 0) (x : ℤ) → SumsTo g P x → SumsTo (negative g) P (neg_ℤ x)
 negative_sum g P x over = subst (λ (z : ℤ). SumsTo (negative g) P z) (minus_one x) (sum_scaled (neg_ℤ (pos 1)) g P x over)

@@ -4,7 +4,7 @@ use Rattle.std.specs.Prelude.{ℤ, pos, negsuc}
 use Rattle.std.specs.List.{AllZip, AllByRecursion}
 use Rattle.std.proofs.lemmas.Int.{ints}
 use Rattle.std.proofs.lemmas.Bool.{false≢true, eq-eqb}
-use Rattle.std.proofs.lemmas.List.{length-append, length-replicate, length-drop, get_or-drop, ext_get_or}
+use Rattle.std.proofs.lemmas.List.{length-append, length-replicate, length-drop, get_or-drop, ext_get_or, length-map}
 use Rattle.std.proofs.Math.Seq.{take-append_seam}
 use Rattle.crn_vec.specs.declared.signs.Sign.{Sign}
 use Rattle.crn_vec.specs.declared.signs.Sign.TheVariants.{Zero, Plus, Minus}
@@ -15,22 +15,9 @@ use Rattle.crn_vec.specs.Elementary.{InRowSpace}
 use Rattle.crn_vec.specs.Systems.{HasKind, IsSolution}
 use Rattle.crn_vec.proofs.Entries.{zip_long}
 use Rattle.crn_vec.specs.Problems.{IsFull, IsFeasible, all_zero, SolvesA, SolvesB}
-use Rattle.crn_vec.specs.Concordance.{IsTable, IsDiscordant, GoesWith, IsNought, HasPositive, HasNegative, image, shares, signed_by, product, products, is_plus, is_minus, some_sign, kind_of_sum, column_kind, kind_of_sign, row_kinds, concordance}
+use Rattle.crn_vec.specs.Concordance.{IsTable, IsDiscordant, GoesWith, IsNought, HasPositive, HasNegative, image, shares, signed_by, product, products, is_plus, is_minus, some_sign, kind_of_sum, column_kind, kind_of_sign, row_kinds, concordance, sign}
 use Rattle.crn_vec.specs.TableLaws.{DiscordantIfFeasible}
 use Rattle.crn_vec.proofs.TableKinds.{zip_append, zip_prefix, zip_back, length-columns}
-
--- the sign of a number
-abbrev pub sign : ℤ → Sign
-sign (pos zero) = Zero
-sign (pos (suc n)) = Plus
-sign (negsuc n) = Minus
-
-abbrev pub signs_of : List ℤ → List Sign
-signs_of xs = map sign xs
-
-pub length-signs : (xs : List ℤ) → length (signs_of xs) ≡ length xs
-length-signs [] = refl
-length-signs (x ∷ xs) = ap suc (length-signs xs)
 
 pub length-image : (m : Mat) (z : List ℤ) → length (image m z) ≡ length m.rows
 length-image m z = by m.rows
@@ -49,18 +36,18 @@ share_sign Minus (pos zero) = refl
 share_sign Minus (pos (suc n)) = refl
 share_sign Minus (negsuc n) = refl
 
-signs-shares : (ss : List Sign) (xs : List ℤ) → signs_of (shares ss xs) ≡ products ss (signs_of xs)
+signs-shares : (ss : List Sign) (xs : List ℤ) → map sign (shares ss xs) ≡ products ss (map sign xs)
 signs-shares [] xs = refl
 signs-shares (s ∷ ss) [] = refl
 signs-shares (s ∷ ss) (x ∷ xs) = ap₂ (λ (t : Sign) (ts : List Sign). t ∷ ts) (share_sign s x) (signs-shares ss xs)
 
-plus_has : (xs : List ℤ) → some_sign is_plus (signs_of xs) ≡ true → HasPositive xs
+plus_has : (xs : List ℤ) → some_sign is_plus (map sign xs) ≡ true → HasPositive xs
 plus_has [] e = absurd (false≢true e)
 plus_has (pos zero ∷ xs) e = inr (plus_has xs e)
 plus_has (pos (suc n) ∷ xs) e = inl (omega (arith, ints))
 plus_has (negsuc n ∷ xs) e = inr (plus_has xs e)
 
-has_plus : (xs : List ℤ) → HasPositive xs → some_sign is_plus (signs_of xs) ≡ true
+has_plus : (xs : List ℤ) → HasPositive xs → some_sign is_plus (map sign xs) ≡ true
 has_plus [] h = absurd h
 has_plus (pos zero ∷ xs) (inl h) = absurd (omega (arith, ints, h))
 has_plus (pos zero ∷ xs) (inr h) = has_plus xs h
@@ -68,13 +55,13 @@ has_plus (pos (suc n) ∷ xs) h = refl
 has_plus (negsuc n ∷ xs) (inl h) = absurd (omega (arith, ints, h))
 has_plus (negsuc n ∷ xs) (inr h) = has_plus xs h
 
-minus_has : (xs : List ℤ) → some_sign is_minus (signs_of xs) ≡ true → HasNegative xs
+minus_has : (xs : List ℤ) → some_sign is_minus (map sign xs) ≡ true → HasNegative xs
 minus_has [] e = absurd (false≢true e)
 minus_has (pos zero ∷ xs) e = inr (minus_has xs e)
 minus_has (pos (suc n) ∷ xs) e = inr (minus_has xs e)
 minus_has (negsuc n ∷ xs) e = inl (omega (arith, ints))
 
-has_minus : (xs : List ℤ) → HasNegative xs → some_sign is_minus (signs_of xs) ≡ true
+has_minus : (xs : List ℤ) → HasNegative xs → some_sign is_minus (map sign xs) ≡ true
 has_minus [] h = absurd h
 has_minus (pos zero ∷ xs) (inl h) = absurd (omega (arith, ints, h))
 has_minus (pos zero ∷ xs) (inr h) = has_minus xs h
@@ -83,13 +70,13 @@ has_minus (pos (suc n) ∷ xs) (inr h) = has_minus xs h
 has_minus (negsuc n ∷ xs) h = refl
 
 -- no plus and no minus: all are 0
-none_is : (xs : List ℤ) → some_sign is_plus (signs_of xs) ≡ false → some_sign is_minus (signs_of xs) ≡ false → AllByRecursion IsNought xs
+none_is : (xs : List ℤ) → some_sign is_plus (map sign xs) ≡ false → some_sign is_minus (map sign xs) ≡ false → AllByRecursion IsNought xs
 none_is [] p m = tt
 none_is (pos zero ∷ xs) p m = (refl, none_is xs p m)
 none_is (pos (suc n) ∷ xs) p m = absurd (false≢true (sym p))
 none_is (negsuc n ∷ xs) p m = absurd (false≢true (sym m))
 
-nought_none : (xs : List ℤ) → AllByRecursion IsNought xs → (some_sign is_plus (signs_of xs) ≡ false) × (some_sign is_minus (signs_of xs) ≡ false)
+nought_none : (xs : List ℤ) → AllByRecursion IsNought xs → (some_sign is_plus (map sign xs) ≡ false) × (some_sign is_minus (map sign xs) ≡ false)
 nought_none [] h = (refl, refl)
 nought_none (pos zero ∷ xs) h = nought_none xs h.1
 nought_none (pos (suc n) ∷ xs) h = absurd (omega (arith, ints, h.0))
@@ -98,10 +85,10 @@ nought_none (negsuc n ∷ xs) h = absurd (omega (arith, ints, h.0))
 -- ---- one reaction
 
 -- the kind of a full prefix's column, by the shares
-column_full : (ss : List Sign) (xs : List ℤ) → length ss ≡ length xs → column_kind ss (signs_of xs) ≡ kind_of_sum (some_sign is_plus (signs_of (shares ss xs))) (some_sign is_minus (signs_of (shares ss xs)))
+column_full : (ss : List Sign) (xs : List ℤ) → length ss ≡ length xs → column_kind ss (map sign xs) ≡ kind_of_sum (some_sign is_plus (map sign (shares ss xs))) (some_sign is_minus (map sign (shares ss xs)))
 column_full ss xs e =
-    let none : drop (length (signs_of xs)) ss ≡ [] = ap (λ (n : ℕ). drop n ss) (length-signs xs ∙ sym e) ∙ drop_all ss in
-    ap (λ (l : List Sign). cond (all_zero l) (kind_of_sum (some_sign is_plus (products ss (signs_of xs))) (some_sign is_minus (products ss (signs_of xs)))) Free) none
+    let none : drop (length (map sign xs)) ss ≡ [] = ap (λ (n : ℕ). drop n ss) (length-map xs sign ∙ sym e) ∙ drop_all ss in
+    ap (λ (l : List Sign). cond (all_zero l) (kind_of_sum (some_sign is_plus (products ss (map sign xs))) (some_sign is_minus (products ss (map sign xs)))) Free) none
     ∙ ap₂ kind_of_sum (ap (some_sign is_plus) (sym (signs-shares ss xs))) (ap (some_sign is_minus) (sym (signs-shares ss xs)))
   where
     drop_all : (l : List Sign) → drop (length l) l ≡ []
@@ -109,10 +96,10 @@ column_full ss xs e =
     drop_all (s ∷ l) = drop_all l
 
 -- a number that goes with shares is of the kind of their sum
-goes_kind : (shs : List ℤ) (x : ℤ) → GoesWith shs x → HasKind (kind_of_sum (some_sign is_plus (signs_of shs)) (some_sign is_minus (signs_of shs))) x
-goes_kind shs x g = by (some_sign is_plus (signs_of shs)) (some_sign is_minus (signs_of shs)) refl refl x refl
+goes_kind : (shs : List ℤ) (x : ℤ) → GoesWith shs x → HasKind (kind_of_sum (some_sign is_plus (map sign shs)) (some_sign is_minus (map sign shs))) x
+goes_kind shs x g = by (some_sign is_plus (map sign shs)) (some_sign is_minus (map sign shs)) refl refl x refl
   where
-    by : (p m : Bool) → some_sign is_plus (signs_of shs) ≡ p → some_sign is_minus (signs_of shs) ≡ m → (y : ℤ) → x ≡ y → HasKind (kind_of_sum p m) y
+    by : (p m : Bool) → some_sign is_plus (map sign shs) ≡ p → some_sign is_minus (map sign shs) ≡ m → (y : ℤ) → x ≡ y → HasKind (kind_of_sum p m) y
     by true true ep em y e = tt
     by false false ep em (pos zero) e = refl
     by false false ep em (pos (suc n)) e = absurd (false≢true (sym ep ∙ has_plus shs (g.up (omega (arith, ints, e)))))
@@ -131,22 +118,22 @@ goes_kind shs x g = by (some_sign is_plus (signs_of shs)) (some_sign is_minus (s
     ]
 
 -- and a number of that kind goes with the shares
-kind_goes : (shs : List ℤ) (x : ℤ) → HasKind (kind_of_sum (some_sign is_plus (signs_of shs)) (some_sign is_minus (signs_of shs))) x → GoesWith shs x
-kind_goes shs x h = by (some_sign is_plus (signs_of shs)) (some_sign is_minus (signs_of shs)) refl refl h
+kind_goes : (shs : List ℤ) (x : ℤ) → HasKind (kind_of_sum (some_sign is_plus (map sign shs)) (some_sign is_minus (map sign shs))) x → GoesWith shs x
+kind_goes shs x h = by (some_sign is_plus (map sign shs)) (some_sign is_minus (map sign shs)) refl refl h
   where
-    by : (p m : Bool) → some_sign is_plus (signs_of shs) ≡ p → some_sign is_minus (signs_of shs) ≡ m → HasKind (kind_of_sum p m) x → GoesWith shs x
+    by : (p m : Bool) → some_sign is_plus (map sign shs) ≡ p → some_sign is_minus (map sign shs) ≡ m → HasKind (kind_of_sum p m) x → GoesWith shs x
     by true true ep em k = record { up = λ _. plus_has shs ep; down = λ _. minus_has shs em; still = λ _. inr (plus_has shs ep, minus_has shs em) }
     by false false ep em k = record { up = λ u. absurd (omega (arith, ints, u, k)); down = λ d. absurd (omega (arith, ints, d, k)); still = λ _. inl (none_is shs ep em) }
     by true false ep em k = record { up = λ _. plus_has shs ep; down = λ d. absurd (omega (arith, ints, d, k)); still = λ z. absurd (omega (arith, ints, z, k)) }
     by false true ep em k = record { up = λ u. absurd (omega (arith, ints, u, k)); down = λ _. minus_has shs em; still = λ z. absurd (omega (arith, ints, z, k)) }
 
-columns_have : (table : List (List Sign)) (alpha xs : List ℤ) → AllByRecursion (λ ss. length ss ≡ length xs) table → AllZip (λ ss x. GoesWith (shares ss xs) x) table alpha → AllZip HasKind (map (λ ss. column_kind ss (signs_of xs)) table) alpha
+pub columns_have : (table : List (List Sign)) (alpha xs : List ℤ) → AllByRecursion (λ ss. length ss ≡ length xs) table → AllZip (λ ss x. GoesWith (shares ss xs) x) table alpha → AllZip HasKind (map (λ ss. column_kind ss (map sign xs)) table) alpha
 columns_have [] [] xs l h = tt
 columns_have [] (x ∷ alpha) xs l h = absurd h
 columns_have (ss ∷ table) [] xs l h = absurd h
 columns_have (ss ∷ table) (x ∷ alpha) xs l h = (subst (λ (κ : Kind). HasKind κ x) (sym (column_full ss xs l.0)) (goes_kind (shares ss xs) x h.0), columns_have table alpha xs l.1 h.1)
 
-columns_go : (table : List (List Sign)) (alpha xs : List ℤ) → AllByRecursion (λ ss. length ss ≡ length xs) table → AllZip HasKind (map (λ ss. column_kind ss (signs_of xs)) table) alpha → AllZip (λ ss x. GoesWith (shares ss xs) x) table alpha
+pub columns_go : (table : List (List Sign)) (alpha xs : List ℤ) → AllByRecursion (λ ss. length ss ≡ length xs) table → AllZip HasKind (map (λ ss. column_kind ss (map sign xs)) table) alpha → AllZip (λ ss x. GoesWith (shares ss xs) x) table alpha
 columns_go [] [] xs l h = tt
 columns_go [] (x ∷ alpha) xs l h = absurd h
 columns_go (ss ∷ table) [] xs l h = absurd h
@@ -159,7 +146,7 @@ sign_has (pos zero) = refl
 sign_has (pos (suc n)) = omega (arith, ints)
 sign_has (negsuc n) = omega (arith, ints)
 
-pub rows_have : (n : ℕ) (xs : List ℤ) → length xs ≡ n → AllZip HasKind (row_kinds n (signs_of xs)) xs
+pub rows_have : (n : ℕ) (xs : List ℤ) → length xs ≡ n → AllZip HasKind (row_kinds n (map sign xs)) xs
 rows_have zero [] e = tt
 rows_have zero (x ∷ xs) e = absurd (omega (arith, e))
 rows_have (suc n) [] e = absurd (omega (arith, e))
@@ -176,7 +163,7 @@ sign_is Minus (pos n) h = absurd (omega (arith, ints, h))
 sign_is Minus (negsuc n) h = refl
 
 -- the options of a full prefix are the signs of the changes
-pub rows_are : (n : ℕ) (p : List Sign) (xs : List ℤ) → length p ≡ n → AllZip HasKind (row_kinds n p) xs → p ≡ signs_of xs
+pub rows_are : (n : ℕ) (p : List Sign) (xs : List ℤ) → length p ≡ n → AllZip HasKind (row_kinds n p) xs → p ≡ map sign xs
 rows_are zero [] [] e h = refl
 rows_are zero [] (x ∷ xs) e h = absurd h
 rows_are zero (s ∷ p) xs e h = absurd (omega (arith, e))
@@ -259,22 +246,27 @@ parts_of m ks qs x e s =
 
 -- ---- both directions
 
-pub zeros_signs : (xs : List ℤ) → all_zero (signs_of xs) ≡ true → AllByRecursion IsNought xs
+pub zeros_signs : (xs : List ℤ) → all_zero (map sign xs) ≡ true → AllByRecursion IsNought xs
 zeros_signs [] e = tt
 zeros_signs (pos zero ∷ xs) e = (refl, zeros_signs xs e)
 zeros_signs (pos (suc n) ∷ xs) e = absurd (false≢true e)
 zeros_signs (negsuc n ∷ xs) e = absurd (false≢true e)
 
-some_or_zeros : (xs : List ℤ) → (all_zero (signs_of xs) ≡ true) ⊎ (HasPositive xs ⊎ HasNegative xs)
+pub some_or_zeros : (xs : List ℤ) → (all_zero (map sign xs) ≡ true) ⊎ (HasPositive xs ⊎ HasNegative xs)
 some_or_zeros [] = inl refl
 some_or_zeros (pos zero ∷ xs) = elim (some_or_zeros xs) [ inl e ↦ inl e | inr (inl h) ↦ inr (inl (inr h)) | inr (inr h) ↦ inr (inr (inr h)) ]
 some_or_zeros (pos (suc n) ∷ xs) = inr (inl (inl (omega (arith, ints))))
 some_or_zeros (negsuc n ∷ xs) = inr (inr (inl (omega (arith, ints))))
 
-not_zeros : (xs : List ℤ) → HasPositive xs ⊎ HasNegative xs → (b : Bool) → all_zero (signs_of xs) ≡ b → b ≡ false
-not_zeros xs h false e = refl
-not_zeros xs (inl h) true e = absurd (false≢true (sym (nought_none xs (zeros_signs xs e)).0 ∙ has_plus xs h))
-not_zeros xs (inr h) true e = absurd (false≢true (sym (nought_none xs (zeros_signs xs e)).1 ∙ has_minus xs h))
+pub some_not_zero : (xs : List ℤ) → HasPositive xs ⊎ HasNegative xs → all_zero (map sign xs) ≡ false
+some_not_zero [] (inl h) = absurd h
+some_not_zero [] (inr h) = absurd h
+some_not_zero (pos zero ∷ xs) (inl (inl h)) = absurd (omega (arith, ints, h))
+some_not_zero (pos zero ∷ xs) (inl (inr h)) = some_not_zero xs (inl h)
+some_not_zero (pos zero ∷ xs) (inr (inl h)) = absurd (omega (arith, ints, h))
+some_not_zero (pos zero ∷ xs) (inr (inr h)) = some_not_zero xs (inr h)
+some_not_zero (pos (suc n) ∷ xs) h = refl
+some_not_zero (negsuc n ∷ xs) h = refl
 
 pub and_false : (a b : Bool) → b ≡ false → (a && b) ≡ false
 and_false true b e = e
@@ -288,17 +280,17 @@ pub feasible_by : (m : Mat) (table : List (List Sign)) → IsTable m table → (
 feasible_by m table t alpha weights d =
     let sigma = image m weights in
     let long : length sigma ≡ length m.rows = length-image m weights in (
-      signs_of sigma,
-      length-signs sigma ∙ long,
+      map sign sigma,
+      length-map sigma sign ∙ long,
       record {
-        opened = and_false (eqb (length (signs_of sigma)) (length m.rows)) (all_zero (signs_of sigma)) (not_zeros sigma d.some (all_zero (signs_of sigma)) refl);
+        opened = and_false (eqb (length (map sign sigma)) (length m.rows)) (all_zero (map sign sigma)) (some_not_zero sigma d.some);
         part_a = (
           alpha,
-          solution_of m (map (λ ss. column_kind ss (signs_of sigma)) table) (replicate (length m.rows) ZeroKind) alpha d.long_alpha
+          solution_of m (map (λ ss. column_kind ss (map sign sigma)) table) (replicate (length m.rows) ZeroKind) alpha d.long_alpha
               (columns_have table alpha sigma (rows_of_table table (length m.rows) sigma long t.species) d.goes)
               (noughts_have (length m.rows) (image m alpha) (length-image m alpha) d.balanced),
         );
-        part_b = (weights, solution_of m (replicate m.cols Free) (row_kinds (length m.rows) (signs_of sigma)) weights d.long_weights (frees_have m.cols weights d.long_weights) (rows_have (length m.rows) sigma long));
+        part_b = (weights, solution_of m (replicate m.cols Free) (row_kinds (length m.rows) (map sign sigma)) weights d.long_weights (frees_have m.cols weights d.long_weights) (rows_have (length m.rows) sigma long));
       },
     )
 
@@ -307,7 +299,7 @@ discordant_named m table t p alpha weights f o sa sb =
     let sigma = image m weights in
     let a = parts_of m (map (λ ss. column_kind ss p) table) (replicate (length m.rows) ZeroKind) alpha (length-columns table p ∙ t.reactions) sa in
     let b = parts_of m (replicate m.cols Free) (row_kinds (length m.rows) p) weights (length-replicate m.cols Free) sb in
-    let is : p ≡ signs_of sigma = rows_are (length m.rows) p sigma f b.rows in
+    let is : p ≡ map sign sigma = rows_are (length m.rows) p sigma f b.rows in
     let open_is : (eqb (length p) (length m.rows) && all_zero p) ≡ false = o in record {
       long_alpha = a.long;
       long_weights = b.long;

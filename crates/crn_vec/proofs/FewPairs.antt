@@ -17,7 +17,7 @@ use Rattle.crn_vec.specs.NetSignals.{IsPairOf, IsShapeOf, NetworksAreLawful}
 use Rattle.crn_vec.proofs.Lists.{at_in}
 use Rattle.crn_vec.proofs.Entries.{lt_or, past_end, zip_at, zip_long}
 use Rattle.crn_vec.proofs.Sums.{comb, dots, dot-comm, dot_zero, transposed, entry-dots, length-dots}
-use Rattle.crn_vec.proofs.Null.{Zero, dot-zero}
+use Rattle.crn_vec.proofs.Null.{Zero, dot-zero, zero_from}
 use Rattle.crn_vec.proofs.Many.{too_many}
 use Rattle.crn_vec.proofs.Flows.{unit, dot_unit}
 use Rattle.crn_vec.proofs.Orthogonal.{listed, length-listed, entry-listed}
@@ -69,10 +69,6 @@ single (c ∷ cs) (v ∷ vs) zero h =
 single (c ∷ cs) (v ∷ vs) (suc i) h =
     let first : c *ℤ v ≡ pos 0 = ap (λ (t : ℤ). c *ℤ t) (h 0 (λ e. omega (arith, e))) ∙ *ℤ-zero c in
     omega (arith, ints, first, single cs vs i (λ j ne. h (suc j) (λ e. ne (omega (arith, e)))))
-
-zero_from : (c : List ℤ) → ((i : ℕ) → entry c i ≡ pos 0) → Zero c
-zero_from [] h = tt
-zero_from (x ∷ c) h = (h 0, zero_from c (λ i. h (suc i)))
 
 -- ---- pairs of a shape
 
@@ -242,7 +238,7 @@ few_pairs net g s n regular even sh = elim (lt_or (length s.pairs) (length net.c
       let size = length net.complexes in
       let rows = point size 0 ∷ map (edge size) s.pairs in
       let r = too_many size rows (point_long size 0, edges_long size s.pairs) (omega (arith, most, length-map s.pairs (edge size))) in
-      absurd (r.nonzero (zero_from r.c (all_zeros net g s n regular even sh r.c (omega (arith, r.long, length-map s.pairs (edge size))) r.none)))
+      absurd (r.nonzero (zero_from r.c (λ k lt. all_zeros net g s n regular even sh r.c (omega (arith, r.long, length-map s.pairs (edge size))) r.none k)))
 ]
 
 pub networks_are_lawful : NetworksAreLawful

@@ -1,12 +1,13 @@
 -- Lists of any kind: members, distinct members, facts of all members, lists with a member put at the end, and pairs.
-use Rattle.std.proofs.Common.{◌≡◌, ◌⊎◌, ℕ, Bool, true, false, zero, suc, ◌<◌, ◌≤◌, List, [], ◌∷◌, ◌++◌, length, get_or, map, take, set, refl, sym, ap, subst, ◌∙◌, inl, inr, arith}
+use Rattle.std.proofs.Common.{◌≡◌, ◌⊎◌, ℕ, Bool, true, false, zero, suc, ◌<◌, ◌≤◌, List, [], ◌∷◌, ◌++◌, length, get_or, map, take, set, refl, sym, ap, subst, ◌∙◌, inl, inr, arith, drop, ◌↔◌, IsTrue}
 use Rattle.std.specs.Prelude.{◌&&◌, ◌||◌, not, Result, Ok, Err, IfOk}
 use Rattle.std.specs.List.{AllByRecursion, list_any, flat_map}
 use Rattle.std.specs.Bool.{Decides}
-use Rattle.std.proofs.lemmas.Bool.{cases_Bool}
+use Rattle.std.proofs.lemmas.Bool.{cases_Bool, false≢true}
 use Rattle.std.proofs.lemmas.List.{append-nil}
 use Rattle.std.proofs.lemmas.List.Concat.{flat_map-append}
 use Rattle.std.proofs.lemmas.List.Folds.{list_any-append}
+use Rattle.std.proofs.Math.Seq.{take-append_seam}
 use Rattle.crn_vec.specs.Lists.{IsIn, AreDistinct}
 
 pub in_left : {A : Type 0} (x : A) (xs ys : List A) → IsIn x xs → IsIn x (xs ++ ys)
@@ -126,6 +127,10 @@ pub all_map : {A B : Type 0} (P : B → Type 0) (f : A → B) (xs : List A) → 
 all_map P f [] h = tt
 all_map P f (x ∷ xs) h = (h x (inl refl), all_map P f xs (λ y i. h y (inr i)))
 
+-- a list after all of it was written
+pub written : {A : Type 0} (n : ℕ) (new old : List A) → length new ≡ n → take n (new ++ drop (length new) old) ≡ new
+written n new old e = ap (λ k. take k (new ++ drop (length new) old)) (sym e) ∙ take-append_seam new (drop (length new) old)
+
 -- the first parts of two equal lists are equal if they are as long
 pub append_same : {A : Type 0} (a b c d : List A) → length a ≡ length b → a ++ c ≡ b ++ d → a ≡ b
 append_same [] [] c d l e = refl
@@ -161,6 +166,10 @@ and_no false b h = refl
 pub not_true : (a : Bool) → not a ≡ true → a ≡ true → ⊥
 not_true true e f = cc
 not_true false e f = cc
+
+-- a test that fails decides what does not hold
+pub refused : {P : Type 0} → (P → ⊥) → (IsTrue false ↔ P)
+refused fails = (λ met. absurd (false≢true met), λ h. absurd (fails h))
 
 pub or_right : (a b : Bool) → b ≡ true → (a || b) ≡ true
 or_right true b h = refl
@@ -221,6 +230,14 @@ any_true p x d xs h = elim (any_is p x d xs) [ inl a ↦ a.1 | inr b ↦ absurd 
 
 pub any_false : {A : Type 0} (p : A → Bool) (x : A) (d : (y : A) → Decides (p y) (y ≡ x)) (xs : List A) → list_any p xs ≡ false → IsIn x xs → ⊥
 any_false p x d xs h = elim (any_is p x d xs) [ inl a ↦ absurd (let e = a.0 in cc) | inr b ↦ b.1 ]
+
+-- a test that finds a member finds one that passes
+pub any_some : {A : Type 0} (p : A → Bool) (xs : List A) → list_any p xs ≡ true → (x : A) × IsIn x xs × (p x ≡ true)
+any_some p [] e = absurd cc
+any_some p (x ∷ xs) e = elim (cases_Bool (p x)) [
+  | inl hit ↦ (x, inl refl, hit)
+  | inr miss ↦ let rest : list_any p xs ≡ true = rw miss at e in let r = any_some p xs rest in (r.0, inr r.1, r.2)
+]
 
 -- a test of the members finds one that passes, and one more at the end
 pub any_has : (p : ℕ → Bool) (xs : List ℕ) (x : ℕ) → IsIn x xs → p x ≡ true → list_any p xs ≡ true

@@ -31,14 +31,14 @@ use Rattle.crn_vec.proofs.Shelves.{feasible_by}
 
 -- ---- terminal classes are numbered in one way
 
-pub option_or : (o : Option ℕ) → (o ≡ None) ⊎ ((k : ℕ) × (o ≡ Some k))
+pub option_or : {A : Type 0} (o : Option A) → (o ≡ None) ⊎ ((k : A) × (o ≡ Some k))
 option_or None = inl refl
 option_or (Some k) = inr (k, refl)
 
-pub some_is : (k l : ℕ) → Some k ≡ Some l → k ≡ l
+pub some_is : {A : Type 0} (k l : A) → Some k ≡ Some l → k ≡ l
 some_is k l e = cc
 
-pub none_some : (o : Option ℕ) (k : ℕ) → o ≡ None → o ≡ Some k → ⊥
+pub none_some : {A : Type 0} (o : Option A) (k : A) → o ≡ None → o ≡ Some k → ⊥
 none_some o k e f = cc
 
 -- what is numbered is a complex

@@ -1,9 +1,9 @@
 -- A system of homogeneous equations has a solution that is not zero, or only zero, and then no more unknowns than equations.
-use Rattle.std.proofs.Common.{◌≡◌, ℕ, ◌≤◌, ℤ, pos, ◌+ℤ◌, ◌-ℤ◌, ◌*ℤ◌, neg_ℤ, ◌⊎◌, inl, inr, arith, List, [], ◌∷◌, ap, refl, suc, zero, length}
+use Rattle.std.proofs.Common.{◌≡◌, ℕ, ◌≤◌, ℤ, pos, ◌+ℤ◌, ◌-ℤ◌, ◌*ℤ◌, neg_ℤ, ◌⊎◌, inl, inr, arith, List, [], ◌∷◌, ap, refl, suc, zero, length, ◌<◌}
 use Rattle.std.proofs.lemmas.Int.{ints}
 use lib.IntN.{*ℤ_comm, *ℤ-zero}
 use Rattle.crn_vec.proofs.Ring.{no_zero, distrib, left-comm, mul-neg, is_zero, one_ne_zero}
-use Rattle.crn_vec.specs.Vectors.{dot, AreOfLength, scale}
+use Rattle.crn_vec.specs.Vectors.{dot, AreOfLength, scale, entry}
 use Rattle.crn_vec.proofs.Sums.{plus, zeros, dot-scale, dot-plus, length-scale, length-plus, length-zeros}
 
 abbrev pub Zero : List ℤ → Type 0
@@ -13,6 +13,10 @@ Zero (x ∷ xs) = (x ≡ pos 0) × Zero xs
 abbrev pub Solves : List (List ℤ) → List ℤ → Type 0
 Solves [] c = Unit {0}
 Solves (r ∷ rs) c = (dot r c ≡ pos 0) × Solves rs c
+
+pub zero_from : (x : List ℤ) → ((k : ℕ) → k < length x → entry x k ≡ pos 0) → Zero x
+zero_from [] h = tt
+zero_from (y ∷ x) h = (h 0 (omega arith), zero_from x (λ k lt. h (suc k) (omega (arith, lt))))
 
 pub dot-zeros : (k : ℕ) (r : List ℤ) → dot r (zeros k) ≡ pos 0
 dot-zeros zero [] = refl

@@ -1,6 +1,7 @@
 -- Ring laws and signs of whole numbers.
-use Rattle.std.proofs.Common.{◌≡◌, ◌≢◌, ◌∙◌, sym, ◌+◌, ◌*◌, arith, ap, refl, suc, zero, ℤ, pos, negsuc, ◌+ℤ◌, ◌-ℤ◌, ◌*ℤ◌, ◌<ℤ◌, ◌≤ℤ◌, neg_ℤ, ◌⊎◌, inl, inr}
+use Rattle.std.proofs.Common.{◌≡◌, ◌≢◌, ◌∙◌, sym, ◌+◌, ◌*◌, arith, ap, refl, suc, zero, ℤ, pos, negsuc, ◌+ℤ◌, ◌-ℤ◌, ◌*ℤ◌, ◌<ℤ◌, ◌≤ℤ◌, neg_ℤ, ◌⊎◌, inl, inr, ◌≤◌}
 use Rattle.std.proofs.lemmas.Int.{ints}
+use Rattle.std.specs.Prelude.{unsigned_abs}
 use borrow.Author.Differences.{up, down, sum_is_lem, product_is, neg_is}
 use lib.IntN.{*ℤ_comm, zero-*ℤ}
 
@@ -91,8 +92,14 @@ neg-mul a b = *ℤ_comm (neg_ℤ a) b ∙ mul-neg b a ∙ ap neg_ℤ (*ℤ_comm 
 pub one-mul : (x : ℤ) → pos 1 *ℤ x ≡ x
 one-mul x = omega (arith, ints)
 
+pub minus_one : (x : ℤ) → negsuc 0 *ℤ x ≡ neg_ℤ x
+minus_one x = omega (arith, ints)
+
 pub zero_times : (x y : ℤ) → x ≡ pos 0 → x *ℤ y ≡ pos 0
 zero_times x y e = ap (λ (z : ℤ). z *ℤ y) e ∙ zero-*ℤ y
+
+pub abs_some : (x : ℤ) → x ≢ pos 0 → 1 ≤ unsigned_abs x
+abs_some x h = omega (arith, ints, h)
 
 pub positive_some : (x : ℤ) → pos 1 ≤ℤ x → x ≢ pos 0
 positive_some x h e = omega (arith, ints, h, e)

@@ -62,7 +62,12 @@ amounts_within (negsuc n ∷ v) h = absurd (omega (arith, ints, h.0.0))
 
 -- ---- lists of equal lengths one after another
 
-pub drop_seam : (xs ys : List ℤ) → drop (length xs) (xs ++ ys) ≡ ys
+pub row_count : (n : ℕ) (rows : List (List ℤ)) (i : ℕ) → AreOfLength n rows → i < length rows → length (get_or rows i []) ≡ n
+row_count n [] i w lt = absurd (omega arith)
+row_count n (r ∷ rows) zero w lt = w.0
+row_count n (r ∷ rows) (suc i) w lt = row_count n rows i w.1 (omega arith)
+
+pub drop_seam : {A : Type 0} (xs ys : List A) → drop (length xs) (xs ++ ys) ≡ ys
 drop_seam [] ys = refl
 drop_seam (x ∷ xs) ys = drop_seam xs ys
 

@@ -1,6 +1,6 @@
 -- A signal is there if and only if some full prefix of its problem is feasible.
 use Rattle.std.proofs.Common.{◌≡◌, ◌≢◌, ℕ, zero, suc, ◌+◌, ◌<◌, ◌⊎◌, inl, inr, List, [], ◌∷◌, ◌++◌, length, map, take, drop, replicate, Bool, true, false, ◌&&◌, cond, refl, sym, ap, ap₂, subst, ◌∙◌, arith, eqb}
-use Rattle.std.specs.Prelude.{ℤ, pos, negsuc, neg_ℤ, ◌+ℤ◌, ◌-ℤ◌, ◌*ℤ◌, Option, Some, None, nat_lt, nat_le, ◌||◌}
+use Rattle.std.specs.Prelude.{ℤ, pos, negsuc, ◌+ℤ◌, ◌-ℤ◌, ◌*ℤ◌, Option, Some, None, nat_lt, nat_le, ◌||◌}
 use Rattle.std.specs.List.{AllZip, AllByRecursion}
 use Rattle.std.proofs.lemmas.Int.{ints}
 use Rattle.std.proofs.lemmas.Bool.{false≢true, eq-eqb, lt-ltb}
@@ -21,6 +21,7 @@ use Rattle.crn_vec.proofs.Discordance.{solution_of, parts_of, rows_have, rows_ar
 use Rattle.crn_vec.specs.Signals.{Pair, Shape, complex_at, shelf_at, shelf_of, HasPairSign, IsSignal, complex_row, pair_row, shelf_matrix, top_kind, pair_kind_by, pair_kind, signals, IsStoichiometric, IsShape}
 use Rattle.crn_vec.specs.SignalLaws.{SignalIfFeasible}
 use Rattle.crn_vec.proofs.Level.{minus-dot, all_at, level_zero}
+use Rattle.crn_vec.proofs.Ring.{minus_one}
 
 -- ---- rows of the matrix over (mu, level)
 
@@ -29,11 +30,6 @@ dot-last [] [] a b e = omega (arith, ints)
 dot-last [] (u ∷ mu) a b e = absurd (omega (arith, e))
 dot-last (x ∷ xs) [] a b e = absurd (omega (arith, e))
 dot-last (x ∷ xs) (u ∷ mu) a b e = omega (arith, ints, dot-last xs mu a b (omega (arith, e)))
-
-minus_one : (x : ℤ) → negsuc 0 *ℤ x ≡ neg_ℤ x
-minus_one (pos zero) = refl
-minus_one (pos (suc n)) = omega (arith, ints)
-minus_one (negsuc n) = omega (arith, ints)
 
 complex_dot : (y mu : List ℤ) (level : ℤ) → length y ≡ length mu → dot (complex_row y) (mu ++ level ∷ []) ≡ dot y mu -ℤ level
 complex_dot y mu level e = omega (arith, ints, dot-last y mu (negsuc 0) level e, minus_one level)

@@ -29,6 +29,16 @@ dot_single (x ∷ v) (y ∷ w) zero h = omega (arith, ints, dot_zero v w (λ i. 
 dot_single (x ∷ v) (y ∷ w) (suc k) h =
     omega (arith, ints, h 0 (λ e. omega arith), dot_single v w k (λ i ne. h (suc i) (λ e. ne (omega arith))))
 
+-- all products but those at c and d are 0
+pub dot_two : (v w : List ℤ) (c d : ℕ) → c ≢ d → ((i : ℕ) → i ≢ c → i ≢ d → entry v i *ℤ entry w i ≡ pos 0) → dot v w ≡ (entry v c *ℤ entry w c) +ℤ (entry v d *ℤ entry w d)
+dot_two [] w c d ne h = omega (arith, ints, zero-*ℤ (entry w c), zero-*ℤ (entry w d))
+dot_two (x ∷ v) [] c d ne h = omega (arith, ints, *ℤ-zero (entry (x ∷ v) c), *ℤ-zero (entry (x ∷ v) d))
+dot_two (x ∷ v) (y ∷ w) zero zero ne h = absurd (ne refl)
+dot_two (x ∷ v) (y ∷ w) zero (suc d) ne h = omega (arith, ints, dot_single v w d (λ i n. h (suc i) (λ e. omega arith) (λ e. n (omega (arith, e)))))
+dot_two (x ∷ v) (y ∷ w) (suc c) zero ne h = omega (arith, ints, dot_single v w c (λ i n. h (suc i) (λ e. n (omega (arith, e))) (λ e. omega arith)))
+dot_two (x ∷ v) (y ∷ w) (suc c) (suc d) ne h =
+    omega (arith, ints, h 0 (λ e. omega arith) (λ e. omega arith), dot_two v w c d (λ e. ne (ap suc e)) (λ i m n. h (suc i) (λ e. m (omega (arith, e))) (λ e. n (omega (arith, e)))))
+
 pub dot_split : (n : ℕ) (v w : List ℤ) → dot v w ≡ dot (take n v) (take n w) +ℤ dot (drop n v) (drop n w)
 dot_split zero v w = omega (arith, ints)
 dot_split (suc n) [] w = omega (arith, ints)

@@ -1,17 +1,19 @@
 -- The kinds of a table's problem: at longer prefixes, and at mirrored ones.
-use Rattle.std.proofs.Common.{◌≡◌, ℕ, zero, suc, ◌+◌, ◌≤◌, ◌⊎◌, inl, inr, List, [], ◌∷◌, ◌++◌, length, map, drop, take, replicate, Bool, true, false, cond, refl, sym, ap, ap₂, subst, ◌∙◌, arith}
+use Rattle.std.proofs.Common.{◌≡◌, ℕ, zero, suc, ◌+◌, ◌≤◌, ◌⊎◌, inl, inr, List, [], ◌∷◌, ◌++◌, length, map, drop, take, replicate, Bool, true, false, cond, refl, sym, ap, ap₂, subst, ◌∙◌, arith, get_or, ◌-◌, ◌<◌}
 use Rattle.std.specs.Prelude.{ℤ, neg_ℤ}
 use Rattle.std.specs.List.{AllZip}
 use Rattle.std.proofs.lemmas.Int.{ints}
 use Rattle.std.proofs.lemmas.Bool.{false≢true}
+use Rattle.std.proofs.lemmas.List.{get_or_append_left, get_or-append_right, get_or-map, get_or-replicate, length-map, length-replicate}
 use Rattle.crn_vec.specs.declared.signs.Sign.{Sign}
 use Rattle.crn_vec.specs.declared.signs.Sign.TheVariants.{Zero, Plus, Minus}
 use Rattle.crn_vec.specs.declared.signs.Kind.{Kind}
 use Rattle.crn_vec.specs.declared.signs.Kind.TheVariants.{Pos, Neg, NonNeg, Free, Zero as ZeroKind}
-use Rattle.crn_vec.specs.Systems.{HasKind, is_signed, one_if, signed_count}
+use Rattle.crn_vec.specs.Systems.{HasKind, is_signed, one_if, signed_count, kind_at}
 use Rattle.crn_vec.specs.Problems.{opposite, mirror, all_zero}
 use Rattle.crn_vec.proofs.Mirrors.{length-mirror}
-use Rattle.crn_vec.specs.Concordance.{product, products, is_plus, is_minus, some_sign, kind_of_sum, column_kind, kind_of_sign, row_kinds}
+use Rattle.crn_vec.specs.Concordance.{product, products, is_plus, is_minus, some_sign, kind_of_sum, column_kind, kind_of_sign, row_kinds, kinds_a_of, kinds_b_of}
+use Rattle.crn_vec.specs.Vectors.{Mat}
 
 -- ---- lists related place by place
 
@@ -224,3 +226,23 @@ count_none (suc n) κ e = omega (arith, count_none n κ e, ap one_if e)
 pub products_none : (ss : List Sign) → products ss [] ≡ []
 products_none [] = refl
 products_none (s ∷ ss) = refl
+
+-- ---- kinds by coordinates
+
+pub column_in_a : (m : Mat) (table : List (List Sign)) (p : List Sign) (k : ℕ) → k < length table → kind_at (kinds_a_of m table p) k ≡ column_kind (get_or table k []) p
+column_in_a m table p k lt =
+    let f = λ (signs : List Sign). column_kind signs p in
+    get_or_append_left (map f table) (replicate (length m.rows) ZeroKind) Free k (omega (arith, lt, length-map table f)) ∙ get_or-map f table k [] Free lt
+
+pub row_in_a : (m : Mat) (table : List (List Sign)) (p : List Sign) (n k : ℕ) → length table ≡ n → n ≤ k → k < n + length m.rows → kind_at (kinds_a_of m table p) k ≡ ZeroKind
+row_in_a m table p n k long past lt =
+    let f = λ (signs : List Sign). column_kind signs p in
+    get_or-append_right (map f table) (replicate (length m.rows) ZeroKind) n k Free (length-map table f ∙ long) past
+    ∙ get_or-replicate (length m.rows) (k - n) ZeroKind Free (omega (arith, past, lt))
+
+pub column_in_b : (m : Mat) (p : List Sign) (k : ℕ) → k < m.cols → kind_at (kinds_b_of m p) k ≡ Free
+column_in_b m p k lt =
+    get_or_append_left (replicate m.cols Free) (row_kinds (length m.rows) p) Free k (omega (arith, lt, length-replicate m.cols Free)) ∙ get_or-replicate m.cols k Free Free lt
+
+pub row_in_b : (m : Mat) (p : List Sign) (k : ℕ) → m.cols ≤ k → kind_at (kinds_b_of m p) k ≡ kind_at (row_kinds (length m.rows) p) (k - m.cols)
+row_in_b m p k past = get_or-append_right (replicate m.cols Free) (row_kinds (length m.rows) p) m.cols k Free (length-replicate m.cols Free) past

@@ -13,7 +13,7 @@ use Rattle.crn_pairs.specs.Pairs.{pairs_to}
 use Rattle.crn_cert.specs.declared.answer.Verdict.{Verdict}
 use Rattle.crn_cert.specs.declared.answer.Gap.{Gap}
 use Rattle.crn_cert.specs.declared.answer.Answer.{Answer}
-use Rattle.crn_cert.specs.Preorder.{Listed, ListsBoth, ListsThree, ListsA, ListsB, ListsLevel}
+use Rattle.crn_cert.specs.Preorder.{Listed, ListedSplitTwo, ListedSplitThree, ListedCutA, ListedCutB, ListedFlat}
 use Rattle.crn_ctext.specs.Records.{Record}
 use Rattle.crn_ctext.specs.Questions.{Shapes, opens}
 use Rattle.crn_ctext.specs.Answers.{head_of, open_head, records, small_record}
@@ -75,11 +75,11 @@ shapes_with pairs = record {
 
 -- the record of a node
 abbrev pub node_record : Listed → Record
-node_record ListsBoth = one_word (codes "split") []
-node_record ListsThree = one_word (codes "split") []
-node_record (ListsA u) = one_word (codes "cuta") u
-node_record (ListsB u) = one_word (codes "cutb") u
-node_record ListsLevel = one_word (codes "flat") []
+node_record ListedSplitTwo = one_word (codes "split") []
+node_record ListedSplitThree = one_word (codes "split") []
+node_record (ListedCutA u) = one_word (codes "cuta") u
+node_record (ListedCutB u) = one_word (codes "cutb") u
+node_record ListedFlat = one_word (codes "flat") []
 
 -- the numbers of the leaves after these records
 abbrev pub leaves_after : List Record → List ℕ → List ℕ

@@ -40,7 +40,7 @@ pub record RunsOut (w : Signed) (due : List (List Sign)) (left after : ℕ) : Ty
   pub passes : Passes w due left
   pub none : after ≡ 0
 
--- the node of a tree of one node that is valid at the prefix, which is not feasible
+-- the node alone is a tree that is valid at the prefix, and the prefix is not feasible
 pub record IsLeafAt (w : Signed) (p : List Sign) (node : TreeNode) : Type 0 where
   pub tree : Plan
   pub nodes : AreNodesOf tree (node ∷ [])
@@ -53,21 +53,21 @@ abbrev pub IsLeafOrNone : Signed → List Sign → Option TreeNode → Type 0
 IsLeafOrNone w p None = ((x : List ℤ) × SolvesB w p x) × ((x : List ℤ) × SolvesA w p x)
 IsLeafOrNone w p (Some node) = IsLeafAt w p node
 
--- the node of a prefix that is split, which is one of zeros or any other
+-- the node of a prefix that is split, by whether it has zeros alone
 abbrev pub split_node : Bool → TreeNode
 split_node true = SplitTwo
 split_node false = SplitThree
 
--- the nodes of the tree that is walked are listed, if nodes are to be kept
-abbrev pub Lists : Bool → List TreeNode → List TreeNode → Plan → Type 0
-Lists keeps old new tree = keeps ≡ true → map listed new ≡ map listed old ++ preorder tree
+-- if nodes are kept, those of the tree were put at the end of the old ones
+abbrev pub Appends : Bool → List TreeNode → List TreeNode → Plan → Type 0
+Appends keeps old new tree = keeps ≡ true → map listed new ≡ map listed old ++ preorder tree
 
 -- what the visit of a prefix, and of all below it, ends with
 abbrev pub EndsAt : Bool → Signed → List Sign → ℕ → ℕ → List TreeNode → List TreeNode → Ending → Type 0
 EndsAt keeps w p left after old new (Found f) =
     IsFeasibleBy w f.value.pattern f.value.a.list f.value.b.list
     × EndsWith w (p ∷ []) left after f.value.pattern
-EndsAt keeps w p left after old new Refuted = (tree : Plan) × Lists keeps old new tree
+EndsAt keeps w p left after old new Refuted = (tree : Plan) × Appends keeps old new tree
     × IsTreeAt w p tree × EndsWithout w (p ∷ []) (places p tree) left after
 EndsAt keeps w p left after old new Spent = RunsOut w (p ∷ []) left after
 
@@ -82,7 +82,7 @@ abbrev pub EndsBelow : Bool → Signed → List Sign → ℕ → ℕ → List Tr
 EndsBelow keeps w p left after old new (Found f) =
     IsFeasibleBy w f.value.pattern f.value.a.list f.value.b.list
     × EndsWith w (children p) left after f.value.pattern
-EndsBelow keeps w p left after old new Refuted = (tree : Plan) × Lists keeps old new tree
+EndsBelow keeps w p left after old new Refuted = (tree : Plan) × Appends keeps old new tree
     × IsTreeAt w p tree × BelowRoot w p tree left after
 EndsBelow keeps w p left after old new Spent = RunsOut w (children p) left after
 
@@ -99,7 +99,7 @@ outcome_at (Found f) = FoundOutcome f.value.pattern f.value.a f.value.b
 outcome_at Refuted = RefutedOutcome
 outcome_at Spent = SpentOutcome
 
--- the nodes are those of a tree, if visits that ended so walked one
+-- the nodes are those of a tree, if visits that ended so made one
 abbrev pub HasTree : Ending → List TreeNode → Type 0
 HasTree (Found f) nodes = Unit {0}
 HasTree Refuted nodes = (tree : Plan) × AreNodesOf tree nodes

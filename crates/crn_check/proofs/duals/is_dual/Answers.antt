@@ -3,8 +3,9 @@ use Rattle.std.specs.Prelude.{ℤ, pos}
 use Rattle.std.specs.Int.{w128}
 use Rattle.std.proofs.lemmas.Int.{ints}
 use Rattle.crn_vec.specs.Skips.{AreSkips}
+use Rattle.crn_vec.proofs.CallerLemmas.{refused}
 use Rattle.crn_cert.specs.RankTests.{vectors_of}
-use Rattle.crn_check.proofs.Decided.{granted, refused}
+use Rattle.crn_check.proofs.Decided.{granted}
 use Rattle.crn_check.proofs.RankParts.{product_at, length_vectors, own_next, others_next}
 use Rattle.crn_check.proofs.duals.is_dual.Goals as goal
 use Rattle.crn_check.proofs.duals.is_dual.Goals.{else-i-j-via-then-i-j+else-product-eq0, else-i-j-via-else-i-j, else-i-j-2-via-then-i-j-2+else-product-ne0, else-i-j-2-via-else-i-j-2}

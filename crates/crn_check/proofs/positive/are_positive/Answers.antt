@@ -1,8 +1,8 @@
 use Rattle.std.proofs.Common.{arith}
 use Rattle.std.specs.Prelude.{pos, ◌≤ℤ◌}
+use Rattle.crn_vec.proofs.CallerLemmas.{all_given}
 use Rattle.crn_check.proofs.Decided.{granted}
-use Rattle.crn_check.proofs.Widths.{all_entries}
 use Rattle.crn_check.proofs.positive.are_positive.Goals as goal
 
 pub returns : goal.returns
-returns c = granted (all_entries (λ x. pos 1 ≤ℤ x) c.args.values.now (λ k lt. c.loop-value.invariant k (omega arith)))
+returns c = granted (all_given (λ x. pos 1 ≤ℤ x) c.args.values.now (pos 0) (λ k lt. c.loop-value.invariant k (omega arith)))

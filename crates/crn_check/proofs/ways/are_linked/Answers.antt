@@ -1,9 +1,10 @@
 use Rattle.std.proofs.Common.{◌≡◌, ◌<◌, length, sym, ◌∙◌, arith}
 use Rattle.std.proofs.lemmas.Bool.{false≢true}
 use Rattle.crn_vec.specs.CutPairs.{IsBetween}
+use Rattle.crn_vec.proofs.CallerLemmas.{refused}
 use Rattle.crn_cert.proofs.CallerLemmas.{goes_at}
 use Rattle.crn_check.proofs.Counted.{one_more}
-use Rattle.crn_check.proofs.Decided.{granted, refused}
+use Rattle.crn_check.proofs.Decided.{granted}
 use Rattle.crn_check.proofs.Rounds.{linked_by, links_by}
 use Rattle.crn_check.proofs.ways.are_linked.Goals as goal
 

@@ -2,10 +2,11 @@ use Rattle.std.proofs.Common.{◌≡◌, ◌+◌, ◌<◌, ◌++◌, ℕ, List, 
 use Rattle.crn_vec.specs.declared.signs.Sign.{Sign}
 use Rattle.crn_vec.specs.Elementary.{width}
 use Rattle.crn_vec.specs.Concordance.{is_minus, is_plus}
+use Rattle.crn_vec.proofs.CallerLemmas.{written}
 use Rattle.crn_sign.specs.declared.bits.Bits.{Bits}
 use Rattle.crn_sign.specs.Options.{IsPut, sign_at}
 use Rattle.crn_conc.specs.Inner.Columns.{signs_at}
-use Rattle.crn_conc.proofs.SumLaws.{IsFilling, filling_none, filling_step, written}
+use Rattle.crn_conc.proofs.SumLaws.{IsFilling, filling_none, filling_step}
 use Rattle.crn_conc.proofs.chosen.signs_by.Goals as goal
 
 pub loop-k-init : goal.loop-k-init

@@ -3,8 +3,7 @@ use Rattle.std.specs.Prelude.{pos}
 use Rattle.std.proofs.lemmas.List.{take_all, length-map}
 use Rattle.crn_vec.specs.Network.{minus}
 use Rattle.crn_vec.specs.Concordance.{sign}
-use Rattle.crn_vec.proofs.CallerLemmas.{length-minus, map_more}
-use Rattle.crn_conc.proofs.Signs.{entry-minus}
+use Rattle.crn_vec.proofs.CallerLemmas.{length-minus, map_more, entry-minus}
 use Rattle.crn_conc.proofs.influence.signs_of_differences.Goals as goal
 
 pub loop-s-preserved : goal.loop-s-preserved
@@ -14,7 +13,7 @@ loop-s-preserved c =
     let s = c.loop-s.s in
     let long : length (minus left right) ≡ length left = length-minus (length left) left right refl c.requires in
     map_more sign (minus left right) s (pos 0) c.loop-s.signs.items c.push.new.self.items c.sign_of_difference.result (omega (arith, long, c.loop-s-test.true)) c.loop-s.invariant c.in_ok-push.ensures.items
-    (c.sign_of_difference.ensures ∙ ap sign (sym (entry-minus left right s c.loop-s-test.true c.requires)))
+    (c.sign_of_difference.ensures ∙ ap sign (sym (entry-minus left right s (sym c.requires))))
 
 pub returns : goal.returns
 returns c =

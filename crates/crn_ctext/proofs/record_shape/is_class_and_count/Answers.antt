@@ -1,10 +1,11 @@
 use Rattle.std.proofs.Common.{[], ◌∷◌}
+use Rattle.crn_vec.proofs.CallerLemmas.{refused}
 use Rattle.crn_ctext.specs.Kinds.{small}
-use Rattle.crn_ctext.proofs.LineShapes.{missing, through, chain, alone}
+use Rattle.crn_ctext.proofs.LineShapes.{through, chain, alone}
 use Rattle.crn_ctext.proofs.record_shape.is_class_and_count.Goals as goal
 
 pub returns-in-None : goal.returns-in-None
-returns-in-None c = missing (c.in-None.ensures (small 1 2 c.args.complexes ∷ []))
+returns-in-None c = refused (c.in-None.ensures (small 1 2 c.args.complexes ∷ []))
 
 pub returns-in-Some : goal.returns-in-Some
 returns-in-Some c = through c.are_naturals.ensures (chain (c.in-Some.ensures (small 1 2 c.args.complexes ∷ [])) (alone (small 1 2 c.args.complexes) c.in-Some.count.now))

@@ -1,10 +1,11 @@
 use Rattle.std.proofs.Common.{arith}
 use Rattle.std.proofs.lemmas.Bool.Decides.{nat_tests}
-use Rattle.crn_ctext.proofs.LineShapes.{chain, missing, class_wide, no_class_wide}
+use Rattle.crn_vec.proofs.CallerLemmas.{refused}
+use Rattle.crn_ctext.proofs.LineShapes.{chain, class_wide, no_class_wide}
 use Rattle.crn_ctext.proofs.record_shape.is_class_wide.Goals as goal
 
 pub returns-in-None : goal.returns-in-None
-returns-in-None c = missing (no_class_wide c.args.species c.args.reactions.now c.args.numbers.now c.in-None.ensures)
+returns-in-None c = refused (no_class_wide c.args.species c.args.reactions.now c.args.numbers.now c.in-None.ensures)
 
 pub returns-in-Some : goal.returns-in-Some
 returns-in-Some c = let found = c.in-Some.ensures in

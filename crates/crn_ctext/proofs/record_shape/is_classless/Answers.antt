@@ -1,11 +1,12 @@
 use Rattle.std.proofs.Common.{[], ◌∷◌}
+use Rattle.crn_vec.proofs.CallerLemmas.{refused}
 use Rattle.crn_ctext.specs.Records.{Rising}
 use Rattle.crn_ctext.specs.Kinds.{small}
-use Rattle.crn_ctext.proofs.LineShapes.{missing, through}
+use Rattle.crn_ctext.proofs.LineShapes.{through}
 use Rattle.crn_ctext.proofs.record_shape.is_classless.Goals as goal
 
 pub returns-in-None : goal.returns-in-None
-returns-in-None c = missing (c.in-None.ensures (small 1 1 c.args.coordinates ∷ Rising c.args.columns c.args.coordinates ∷ []))
+returns-in-None c = refused (c.in-None.ensures (small 1 1 c.args.coordinates ∷ Rising c.args.columns c.args.coordinates ∷ []))
 
 pub returns-in-Some : goal.returns-in-Some
 returns-in-Some c = through c.is_indexed.ensures (c.in-Some.ensures (small 1 1 c.args.coordinates ∷ Rising c.args.columns c.args.coordinates ∷ []))

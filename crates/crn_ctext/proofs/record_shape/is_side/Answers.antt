@@ -1,10 +1,11 @@
 use Rattle.std.proofs.Common.{[], ◌∷◌}
+use Rattle.crn_vec.proofs.CallerLemmas.{refused}
 use Rattle.crn_ctext.specs.Kinds.{small}
-use Rattle.crn_ctext.proofs.LineShapes.{missing, through, chain, alone}
+use Rattle.crn_ctext.proofs.LineShapes.{through, chain, alone}
 use Rattle.crn_ctext.proofs.record_shape.is_side.Goals as goal
 
 pub returns-in-None : goal.returns-in-None
-returns-in-None c = missing (c.in-None.ensures (small c.args.complexes 0 1 ∷ []))
+returns-in-None c = refused (c.in-None.ensures (small c.args.complexes 0 1 ∷ []))
 
 pub returns-in-Some : goal.returns-in-Some
 returns-in-Some c = through c.are_naturals.ensures (chain (c.in-Some.ensures (small c.args.complexes 0 1 ∷ [])) (alone (small c.args.complexes 0 1) c.in-Some.marks.now))

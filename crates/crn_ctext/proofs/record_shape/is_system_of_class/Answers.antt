@@ -1,10 +1,11 @@
 use Rattle.std.proofs.Common.{[], ◌∷◌}
+use Rattle.crn_vec.proofs.CallerLemmas.{refused}
 use Rattle.crn_ctext.specs.Records.{ClassWide}
-use Rattle.crn_ctext.proofs.LineShapes.{missing, through, chain, alone}
+use Rattle.crn_ctext.proofs.LineShapes.{through, chain, alone}
 use Rattle.crn_ctext.proofs.record_shape.is_system_of_class.Goals as goal
 
 pub returns-in-None : goal.returns-in-None
-returns-in-None c = missing (c.in-None.ensures (ClassWide c.args.species c.args.reactions.now ∷ []))
+returns-in-None c = refused (c.in-None.ensures (ClassWide c.args.species c.args.reactions.now ∷ []))
 
 pub returns-in-Some : goal.returns-in-Some
 returns-in-Some c = through c.is_class_wide.ensures (chain (c.in-Some.ensures (ClassWide c.args.species c.args.reactions.now ∷ [])) (alone (ClassWide c.args.species c.args.reactions.now) c.in-Some.rest.now))

@@ -1,11 +1,12 @@
 use Rattle.std.proofs.Common.{[], ◌∷◌}
+use Rattle.crn_vec.proofs.CallerLemmas.{refused}
 use Rattle.crn_ctext.specs.Records.{Rising}
 use Rattle.crn_ctext.specs.Kinds.{small, just}
-use Rattle.crn_ctext.proofs.LineShapes.{missing, through}
+use Rattle.crn_ctext.proofs.LineShapes.{through}
 use Rattle.crn_ctext.proofs.record_shape.is_wide.Goals as goal
 
 pub returns-in-None : goal.returns-in-None
-returns-in-None c = missing (c.in-None.ensures (just 0 ∷ small 1 1 c.args.coordinates ∷ Rising c.args.columns c.args.coordinates ∷ []))
+returns-in-None c = refused (c.in-None.ensures (just 0 ∷ small 1 1 c.args.coordinates ∷ Rising c.args.columns c.args.coordinates ∷ []))
 
 pub returns-in-Some : goal.returns-in-Some
 returns-in-Some c = through c.is_classless.ensures (c.in-Some.ensures (just 0 ∷ small 1 1 c.args.coordinates ∷ Rising c.args.columns c.args.coordinates ∷ []))

@@ -1,9 +1,8 @@
-use Rattle.std.proofs.Common.{◌≡◌, ◌≤◌, ◌-◌, ◌∙◌, length, ap, arith}
+use Rattle.std.proofs.Common.{◌≡◌, ◌≤◌, ◌-◌, ◌∙◌, length, ap, arith, sym}
 use Rattle.crn_vec.specs.NetSystems.{reaction_system}
 use Rattle.crn_vec.specs.Systems.{kind_at}
 use Rattle.crn_vec.specs.Concordance.{row_kinds}
-use Rattle.crn_vec.proofs.CallerLemmas.{rows_count}
-use Rattle.crn_ctree.proofs.KindLaws.{row_at}
+use Rattle.crn_vec.proofs.CallerLemmas.{rows_count, row_in_b}
 use Rattle.crn_ctree.proofs.kinds.kind_of_signs.Goals as goal
 
 pub returns-else-k-reactions : goal.returns-else-k-reactions
@@ -15,4 +14,4 @@ returns-else-k-reactions c =
     let place : k - c.reactions-reactions.result ≡ s = ap (λ n. k - n) c.reactions-reactions.ensures.count in
     c.row_kind.ensures (length (reaction_system net).rows) (omega (arith, c.requires, le, place, rows_count net))
     ∙ ap (λ n. kind_at (row_kinds (length (reaction_system net).rows) c.args.signs.now) n) place
-    ∙ row_at (reaction_system net) c.args.signs.now k le
+    ∙ sym (row_in_b (reaction_system net) c.args.signs.now k le)

@@ -1,12 +1,12 @@
-use Rattle.std.proofs.Common.{◌≤◌, length, arith}
+use Rattle.std.proofs.Common.{◌≤◌, length, arith, sym}
 use Rattle.crn_vec.specs.NetSystems.{reaction_system}
-use Rattle.crn_vec.proofs.CallerLemmas.{rows_count}
+use Rattle.crn_vec.proofs.CallerLemmas.{rows_count, row_in_a}
 use Rattle.crn_ctree.specs.Problem.{table_of}
-use Rattle.crn_ctree.proofs.KindLaws.{zero_at, table_long}
+use Rattle.crn_ctree.proofs.KindLaws.{table_long}
 use Rattle.crn_ctree.proofs.kinds.kind_of_table.Goals as goal
 
 pub returns-else-k-reactions : goal.returns-else-k-reactions
 returns-else-k-reactions c =
     let net = c.args.net.now in
     let le : length net.reactions ≤ c.args.k = omega (arith, c.if-k-reactions.false, c.reactions.ensures.count) in
-    zero_at (reaction_system net) (table_of net c.args.table) c.args.prefix.now (length net.reactions) c.args.k (table_long net c.args.table) le (omega (arith, c.requires, rows_count net))
+    sym (row_in_a (reaction_system net) (table_of net c.args.table) c.args.prefix.now (length net.reactions) c.args.k (table_long net c.args.table) le (omega (arith, c.requires, rows_count net)))

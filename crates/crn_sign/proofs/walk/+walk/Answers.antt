@@ -2,13 +2,13 @@ use Rattle.std.proofs.Common.{◌≡◌, ◌+◌, List, [], ◌∷◌, ◌++◌,
 use Rattle.crn_vec.specs.declared.signs.Sign.TheVariants.{Zero, Plus, Minus}
 use Rattle.crn_sign.specs.declared.bits.Bits.{Bits}
 use Rattle.crn_cert.specs.declared.tree_node.TreeNode.{TreeNode}
-use Rattle.crn_cert.specs.Preorder.{ListsBoth, ListsThree, listed}
+use Rattle.crn_cert.specs.Preorder.{ListedSplitTwo, ListedSplitThree, listed}
 use Rattle.crn_sign.specs.Inner.Walk.{EndsAt, EndsBelow, IsFoundAt, split_node}
 use Rattle.crn_vec.specs.declared.signs.Sign.{Sign}
 use Rattle.crn_vec.specs.Problems.{Signed, IsFeasible, all_zero}
 use Rattle.crn_sign.specs.Inner.Ready.{AreAround, AreRoomsBelow}
 use Rattle.crn_sign.proofs.PlaceLaws.{asked_around, level_moved, taken_back}
-use Rattle.crn_sign.proofs.Walks.{run_out, feasible_from, leaf_flat, leaf_at, ListsOne, lists_one, found_at, opened_at, child_tree, first_child, second_child, third_child, both_trees}
+use Rattle.crn_sign.proofs.Walks.{run_out, feasible_from, leaf_flat, leaf_at, AppendsOne, appends_one, found_at, opened_at, child_tree, first_child, second_child, third_child, both_trees}
 use Rattle.crn_sign.proofs.walk.+walk.Goals as goal
 
 pub walk-returns-then-search-eq0-clause-answer : goal.walk-returns-then-search-eq0-clause-answer
@@ -54,7 +54,7 @@ split-returns-then-zeros-clause-answer g t c =
     let root : List TreeNode = c.list_node.new.nodes.items in
     let first : List TreeNode = c.child.new.nodes.items in
     let new : List TreeNode = c.child-2.new.nodes.items in
-    let one : ListsOne c.args.keeps old root ListsBoth = lists_one c.args.keeps old root _ ListsBoth (ap listed (c.split_node.ensures ∙ ap split_node c.if-zeros.true)) c.in_ok-list_node.ensures in
+    let one : AppendsOne c.args.keeps old root ListedSplitTwo = appends_one c.args.keeps old root _ ListedSplitTwo (ap listed (c.split_node.ensures ∙ ap split_node c.if-zeros.true)) c.in_ok-list_node.ensures in
     let z = child_tree c.args.keeps w (p ++ Zero ∷ []) c.args.search.now.left c.child.new.search.left root first c.in_ok-end.end c.in_ok-end.ensures.answer c.in-Refuted.is in
     let a = subst (λ (q : List Sign). EndsAt c.args.keeps w (q ++ Plus ∷ []) c.child.new.search.left c.child-2.new.search.left first new c.in_ok-end-2.end) c.in_ok-end.ensures.prefix c.in_ok-end-2.ensures.answer in
     let q = child_tree c.args.keeps w (p ++ Plus ∷ []) c.child.new.search.left c.child-2.new.search.left first new c.in_ok-end-2.end a c.in-Refuted-2.is in
@@ -69,7 +69,7 @@ split-returns-clause-answer g t c =
     let first : List TreeNode = c.child.new.nodes.items in
     let second : List TreeNode = c.child-2.new.nodes.items in
     let new : List TreeNode = c.child-3.new.nodes.items in
-    let one : ListsOne c.args.keeps old root ListsThree = lists_one c.args.keeps old root _ ListsThree (ap listed (c.split_node.ensures ∙ ap split_node c.if-zeros.false)) c.in_ok-list_node.ensures in
+    let one : AppendsOne c.args.keeps old root ListedSplitThree = appends_one c.args.keeps old root _ ListedSplitThree (ap listed (c.split_node.ensures ∙ ap split_node c.if-zeros.false)) c.in_ok-list_node.ensures in
     let z = child_tree c.args.keeps w (p ++ Zero ∷ []) c.args.search.now.left c.child.new.search.left root first c.in_ok-end.end c.in_ok-end.ensures.answer c.in-Refuted.is in
     let a = subst (λ (q : List Sign). EndsAt c.args.keeps w (q ++ Plus ∷ []) c.child.new.search.left c.child-2.new.search.left first second c.in_ok-end-2.end) c.in_ok-end.ensures.prefix c.in_ok-end-2.ensures.answer in
     let q = child_tree c.args.keeps w (p ++ Plus ∷ []) c.child.new.search.left c.child-2.new.search.left first second c.in_ok-end-2.end a c.in-Refuted-2.is in

@@ -1,10 +1,12 @@
 use Rattle.std.proofs.Common.{◌≡◌, ◌-◌, ◌<◌, ◌≤◌, ◌^◌, ℕ, length, ap, ◌∙◌, sym, arith, to_z, of_z}
 use Rattle.std.specs.Prelude.{ℤ, pos, ◌*ℤ◌, ◌≤ℤ◌, unsigned_abs}
 use Rattle.std.specs.Int.{w64}
+use Rattle.std.proofs.lemmas.Int.{ints}
 use Rattle.crn_vec.specs.Vectors.{entry}
+use Rattle.crn_frac.proofs.CallerLemmas.{smaller}
 use Rattle.crn_tab.specs.Inner.Rows.{put}
 use Rattle.crn_tab.proofs.Cross.{read}
-use Rattle.crn_tab.proofs.LowCross.{read_low, part_le}
+use Rattle.crn_tab.proofs.LowCross.{read_low}
 use Rattle.crn_tab.proofs.NewRows.{below_without, new_row_none}
 use Rattle.crn_tab.proofs.Lowered.{lowered, divides_both, new_row_lowered}
 use Rattle.crn_tab.proofs.change.new_low_row.Goals as goal
@@ -35,7 +37,7 @@ change-requires-clause-short c = λ yes.
 
 -- a factor of a low number, as its quotient is kept
 part_low : (z t s u : ℤ) → s ≡ t → z *ℤ s ≡ u → pos 1 ≤ℤ t → unsigned_abs u < 2 ^ 30 → unsigned_abs z < 2 ^ 30
-part_low z t s u e is some low = omega (arith, low, part_le z t u (ap (λ (x : ℤ). z *ℤ x) (sym e) ∙ is) some)
+part_low z t s u e is some low = omega (arith, low, smaller u t z (omega (arith, ints, some)) (ap (λ (x : ℤ). z *ℤ x) (sym e) ∙ is))
 
 pub change-requires-clause-p : goal.change-requires-clause-p
 change-requires-clause-p c =

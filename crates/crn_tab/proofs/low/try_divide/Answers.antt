@@ -2,11 +2,12 @@ use Rattle.std.proofs.Common.{◌≡◌, ◌<◌, inl, inr, length, sym, ap, ◌
 use Rattle.std.specs.Prelude.{ℤ, ◌*ℤ◌, unsigned_abs}
 use Rattle.std.specs.Int.{w64}
 use Rattle.std.proofs.Math.ListN.{length-set}
+use Rattle.std.proofs.lemmas.Int.{ints}
 use Rattle.crn_vec.proofs.CallerLemmas.{lt_or}
 use Rattle.crn_vec.specs.declared.limits.TheConstants.{WIDE_ENTRY}
 use Rattle.crn_vec.specs.Vectors.{entry}
+use Rattle.crn_frac.proofs.CallerLemmas.{smaller}
 use Rattle.crn_tab.proofs.Cross.{read}
-use Rattle.crn_tab.proofs.LowCross.{part_le}
 use Rattle.crn_tab.proofs.NewRows.{look}
 use Rattle.crn_tab.proofs.Rows.{same_rows}
 use Rattle.crn_tab.proofs.low.try_divide.Goals as goal
@@ -22,7 +23,7 @@ loop-j-preserved c =
     let y = c.in-Some.y in
     let was : entry row j ≡ entry c.args.row.now j = c.loop-j.invariant.left j (omega arith) in
     let is : y *ℤ by ≡ entry c.args.row.now j = c.in-Some.ensures ∙ was in
-    let low : unsigned_abs y < WIDE_ENTRY = omega (arith, part_le y by (entry c.args.row.now j) is c.requires.some, c.requires.small j) in
+    let low : unsigned_abs y < WIDE_ENTRY = omega (arith, smaller (entry c.args.row.now j) by y (omega (arith, ints, c.requires.some)) is, c.requires.small j) in
     let x = to_z w64 (of_z w64 y) in
     let same : x ≡ y = read y low in
     let inside : j < length row = omega (arith, c.loop-j-test.true, c.loop-j.auto.row) in

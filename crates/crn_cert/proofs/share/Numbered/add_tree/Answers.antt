@@ -1,4 +1,4 @@
-use Rattle.std.proofs.Common.{◌≡◌, ◌∙◌, ◌++◌, List, length, map, take, ap, sym, subst, append_assoc, take_all, arith}
+use Rattle.std.proofs.Common.{◌≡◌, ◌∙◌, ◌++◌, List, map, take, ap, sym, subst, append_assoc, take_all, arith}
 use Rattle.std.specs.Prelude.{ℤ}
 use Rattle.crn_cert.specs.Preorder.{listed}
 use Rattle.crn_cert.specs.Shares.{cuts_of}

@@ -2,7 +2,7 @@ use Rattle.std.proofs.Common.{ℕ, List, ◌-◌, ◌<◌, ◌≤◌, length, dr
 use Rattle.crn_vec.specs.declared.signs.Sign.{Sign}
 use Rattle.crn_vec.specs.Systems.{kind_at}
 use Rattle.crn_vec.specs.Concordance.{row_kinds}
-use Rattle.crn_conc.proofs.CallerLemmas.{column_in_b, row_in_b}
+use Rattle.crn_vec.proofs.CallerLemmas.{column_in_b, row_in_b}
 use Rattle.crn_shelf.proofs.problem.ShelfProblemSignProblem.asked_b.Goals as goal
 
 pub returns-then-k-cols : goal.returns-then-k-cols

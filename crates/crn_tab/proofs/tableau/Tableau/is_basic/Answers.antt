@@ -2,9 +2,10 @@ use Rattle.std.proofs.Common.{◌≡◌, ◌<◌, ℕ, length, ap, sym, subst, �
 use Rattle.std.specs.Prelude.{slice_index, IsTrue, ◌↔◌}
 use Rattle.crn_vec.specs.Lists.{IsIn}
 use Rattle.crn_vec.specs.Elementary.{width}
+use Rattle.crn_vec.proofs.CallerLemmas.{any_default}
 use Rattle.crn_tab.specs.Tableau.{KeptTableau}
 use Rattle.crn_tab.specs.Slots.{basis_of}
-use Rattle.crn_tab.proofs.BasicTest.{basic_test, any_default}
+use Rattle.crn_tab.proofs.BasicTest.{basic_test}
 use Rattle.crn_tab.proofs.tableau.Tableau.is_basic.Goals as goal
 
 pub returns : goal.returns
@@ -16,5 +17,5 @@ returns c =
     let lt : k < width c.self.inside.matrix = omega (arith, c.requires, ap (λ (v : KeptTableau). width v.matrix) c.self.view_is) in
     let in_at : k < length at = omega (arith, lt, c.self.invariant.tableau.placed.at_long) in
     let T : ℕ → ℕ → Type 0 = λ s m. IsTrue (nat_lt s m) ↔ IsIn k (basis_of n at) in
-    let slot : c.index.result.now ≡ slice_index at k = c.index.ensures ∙ any_default at k c.index.result.now in_at in
+    let slot : c.index.result.now ≡ slice_index at k = c.index.ensures ∙ any_default c.index.result.now 0 at k in_at in
     subst V c.self.view_is (subst (T c.index.result.now) (sym c.cols.ensures.count) (subst (λ s. T s n) (sym slot) (basic_test n at k in_at)))
