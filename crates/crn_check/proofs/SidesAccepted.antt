@@ -1,5 +1,5 @@
 -- The sides of a valid yes to question 11 are those of the linked pairs within terminal classes.
-use Rattle.std.proofs.Common.{◌≡◌, ℕ, List, subst}
+use Rattle.std.proofs.Common.{◌≡◌, List, subst}
 use Rattle.std.specs.Prelude.{ℤ}
 use Rattle.crn_vec.specs.Network.{Net, IsNetwork}
 use Rattle.crn_vec.specs.Deficiency.{IsLabelled}

@@ -1,13 +1,12 @@
 -- What the facts hold on the strong classes and on the vector of question 12, for the shape of the network and of that vector with a turn.
-use Rattle.std.proofs.Common.{◌≡◌, List, [], length, refl, sym, subst}
+use Rattle.std.proofs.Common.{◌≡◌, List, [], length, sym, subst}
 use Rattle.std.specs.Prelude.{ℤ, Option, Some}
 use Rattle.std.specs.Option.{IsSomeAnd}
 use Rattle.std.specs.List.{AllByRecursion}
 use Rattle.crn_vec.specs.Network.{Net}
 use Rattle.crn_vec.specs.Confluence.{IsRegular}
 use Rattle.crn_vec.specs.Signals.{Shape}
-use Rattle.crn_vec.specs.NetSignals.{IsShapeOf, opposite_shape}
-use Rattle.crn_vec.proofs.CallerLemmas.{negatives_have_opposite_shapes}
+use Rattle.crn_vec.specs.NetSignals.{IsShapeOf}
 use Rattle.crn_cert.specs.declared.answer.Verdict.{Verdict}
 use Rattle.crn_cert.specs.declared.answer.Verdict.TheVariants.{Strong, YesVec}
 use Rattle.crn_cert.specs.FormedVerdicts.{IsFormedVerdict}

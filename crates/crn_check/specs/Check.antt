@@ -13,7 +13,6 @@ use Rattle.crn_cert.specs.declared.answer.Verdict.{Verdict}
 use Rattle.crn_cert.specs.declared.answer.Verdict.TheVariants.{Yes, No, YesSignal}
 use Rattle.crn_cert.specs.Built.{built}
 use Rattle.crn_cert.specs.Questions.{Earlier, Question, Q1, Q2, Q4, Q5, Q6, Q7, Q9, Q10, Q11, Q12, Q13, number}
-use Rattle.crn_cert.specs.Says.{by_turn}
 use Rattle.crn_cert.specs.Tests.{Test, AllHold, FailsFirst}
 use Rattle.crn_cert.specs.Valid.{OfVector}
 use Rattle.crn_check.specs.declared.fault.CheckFault.{CheckFault}

@@ -1,5 +1,5 @@
 -- What a prefix requires of part A of a table's problem, by words that the prefix with one option less gives.
-use Rattle.std.proofs.Common.{◌≡◌, ◌≢◌, ℕ, zero, suc, ◌+◌, ◌-◌, ◌*◌, ◌/◌, ◌%◌, ◌<◌, ◌≤◌, max, inl, inr, List, [], ◌∷◌, ◌++◌, length, get_or, drop, set, Bool, true, false, refl, sym, ap, ap₂, subst, ◌∙◌, arith}
+use Rattle.std.proofs.Common.{◌≡◌, ℕ, zero, suc, ◌+◌, ◌-◌, ◌/◌, ◌%◌, ◌<◌, ◌≤◌, max, inl, inr, List, [], ◌∷◌, ◌++◌, length, get_or, drop, set, Bool, true, false, refl, sym, ap, ap₂, subst, ◌∙◌, arith}
 use Rattle.std.specs.Prelude.{if◌then◌else◌, bit_or, bit_xor}
 use Rattle.std.specs.Int.{bit_at}
 use Rattle.std.proofs.lemmas.List.{get_or_append_left, get_or-append_right, get_or_past, get_or-set_same, get_or-set_other, length-append, length-set}
@@ -17,7 +17,7 @@ use Rattle.crn_sign.specs.declared.bits.Bits.{Bits}
 use Rattle.crn_sign.specs.declared.problem.Asked.{Asked}
 use Rattle.crn_sign.specs.Options.{AskKinds, IsPut, kind_of_bits, minus_at, none, plus_at, sign_at, word_at, word_count}
 use Rattle.crn_conc.specs.declared.chosen.Chosen.{Chosen}
-use Rattle.crn_conc.specs.Inner.Columns.{AreChosen, AreMade, AreSettled, AreSignsOf, AreSums, HasSignIn, IsAskedOf, IsChosen, IsExtended, signs_at}
+use Rattle.crn_conc.specs.Inner.Columns.{AreMade, AreSettled, AreSignsOf, AreSums, IsAskedOf, IsChosen, IsExtended, signs_at}
 
 -- ---- one option more
 

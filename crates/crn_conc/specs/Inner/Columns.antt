@@ -13,7 +13,7 @@ use Rattle.crn_vec.specs.Systems.{one_if}
 use Rattle.crn_vec.specs.Problems.{all_zero}
 use Rattle.crn_vec.specs.Concordance.{is_minus, is_plus, kind_of_sum, product, products, some_sign}
 use Rattle.crn_sign.specs.declared.bits.Bits.{Bits}
-use Rattle.crn_sign.specs.Options.{kind_of_bits, minus_at, none, plus_at, sign_at, word_at, word_count}
+use Rattle.crn_sign.specs.Options.{kind_of_bits, minus_at, plus_at, sign_at, word_at, word_count}
 use Rattle.crn_conc.specs.declared.chosen.Chosen.{Chosen}
 
 -- ---- 64 coordinates

@@ -3,7 +3,6 @@ use Rattle.std.proofs.lemmas.List.{get_or_past}
 use Rattle.crn_vec.specs.declared.signs.Sign.{Sign}
 use Rattle.crn_vec.specs.declared.signs.Sign.TheVariants.{Zero}
 use Rattle.crn_sign.specs.Options.{sign_at}
-use Rattle.crn_conc.specs.Inner.Columns.{signs_at}
 use Rattle.crn_conc.proofs.SumLaws.{no_sign, signs_past}
 use Rattle.crn_conc.proofs.chosen.last_sign_at.Goals as goal
 

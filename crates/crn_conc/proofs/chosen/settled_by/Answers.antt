@@ -1,5 +1,4 @@
-use Rattle.std.proofs.Common.{◌≡◌, ◌+◌, ◌<◌, ◌++◌, ℕ, List, length, take, drop, sym, ap, subst, ◌∙◌, arith}
-use Rattle.crn_vec.specs.Elementary.{width}
+use Rattle.std.proofs.Common.{◌≡◌, ◌+◌, ◌++◌, ℕ, List, length, take, drop, sym, ap, subst, ◌∙◌, arith}
 use Rattle.crn_vec.specs.Problems.{all_zero}
 use Rattle.crn_vec.proofs.CallerLemmas.{written}
 use Rattle.crn_sign.specs.declared.bits.Bits.{Bits}

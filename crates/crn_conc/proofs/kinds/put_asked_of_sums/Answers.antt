@@ -1,5 +1,4 @@
-use Rattle.std.proofs.Common.{ℕ, arith}
-use Rattle.crn_sign.specs.declared.bits.Bits.{Bits}
+use Rattle.std.proofs.Common.{arith}
 use Rattle.crn_sign.specs.Options.{word_at}
 use Rattle.crn_conc.specs.Inner.Columns.{IsAskedOf}
 use Rattle.crn_conc.proofs.SumLaws.{all_made, making_none, making_step}

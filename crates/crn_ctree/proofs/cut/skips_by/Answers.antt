@@ -1,9 +1,6 @@
-use Rattle.std.proofs.Common.{◌≡◌, ◌≤◌, List, length, sym, ap, subst, ◌∙◌, arith}
-use Rattle.std.specs.Prelude.{ℤ}
+use Rattle.std.proofs.Common.{length, ap, arith}
 use Rattle.crn_vec.proofs.CallerLemmas.{rows_count}
-use Rattle.crn_cert.specs.Ranges.{AreFree}
 use Rattle.crn_ctree.specs.Inner.Kinds.{matrix_by}
-use Rattle.crn_ctree.specs.Inner.Skips.{FitSkips}
 use Rattle.crn_ctree.specs.declared.cut.System.{System}
 use Rattle.crn_ctree.proofs.cut.skips_by.Goals as goal
 

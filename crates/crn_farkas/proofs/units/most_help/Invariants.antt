@@ -1,4 +1,3 @@
-use Rattle.std.proofs.Common.{◌≡◌, length}
 use Rattle.std.specs.Prelude.{IfSome}
 use Rattle.crn_vec.specs.Lists.{IsIn}
 use Rattle.crn_farkas.proofs.units.most_help.Given as goal

@@ -1,4 +1,4 @@
-use Rattle.std.proofs.Common.{◌<◌, ℕ, List, [], length, sym, ap, subst, ◌∙◌, arith}
+use Rattle.std.proofs.Common.{◌<◌, List, [], length, sym, ap, subst, ◌∙◌, arith}
 use Rattle.crn_sign.specs.declared.bits.Bits.{Bits}
 use Rattle.crn_conc.specs.Inner.Columns.{AreSettled, AreSums, IsChosen}
 use Rattle.crn_conc.proofs.SumLaws.{asks_of, no_sums}
