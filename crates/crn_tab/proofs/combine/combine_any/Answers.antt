@@ -8,7 +8,6 @@ use Rattle.crn_vec.specs.Vectors.{entry}
 use Rattle.crn_tab.proofs.Divided.{each_difference}
 use Rattle.crn_tab.proofs.NewRows.{look}
 use Rattle.crn_tab.proofs.Primitive.{combined_of}
-use Rattle.crn_tab.proofs.Cross.{read}
 use Rattle.crn_tab.proofs.combine.combine_any.Goals as goal
 
 small_without : (v : List ℤ) (c : ℕ) → c < length v → AreSmall v → AreSmall (put v c (pos 0))
@@ -52,9 +51,7 @@ pub combine-requires-clause-row : goal.combine-requires-clause-row
 combine-requires-clause-row c = rw c.copy_from_slice-2.ensures.after (small_without c.args.old.now c.args.c c.requires.place c.requires.old)
 
 pub combine-requires-clause-known : goal.combine-requires-clause-known
-combine-requires-clause-known c =
-    let known : c.unsigned_abs.result ≡ unsigned_abs c.args.known.now = c.unsigned_abs.ensures.value ∙ ap unsigned_abs (read c.args.known.now c.requires.known_small) in
-    rw (c.copy_from_slice-2.ensures.after, known) c.requires.known
+combine-requires-clause-known c = rw c.copy_from_slice-2.ensures.after c.requires.known
 
 pub combine-requires-clause-some : goal.combine-requires-clause-some
 combine-requires-clause-some c =

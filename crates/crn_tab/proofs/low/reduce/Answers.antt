@@ -1,22 +1,18 @@
 use Rattle.std.proofs.Common.{◌≡◌, ◌^◌, ℕ, List, ap, ◌∙◌, sym, subst, arith, to_z}
 use Rattle.std.specs.Prelude.{ℤ, pos, ◌*ℤ◌, unsigned_abs}
 use Rattle.std.specs.Int.{w64, ◌∣◌}
-use Rattle.std.proofs.lemmas.Int.{ints, unsigned_abs-mul}
+use Rattle.std.proofs.lemmas.Int.{ints}
 use Rattle.std.proofs.lemmas.Nat.Gcd.{dvd-zero}
-use Rattle.std.proofs.Math.Nat.{one-dvd, dvd-mul_left}
+use Rattle.std.proofs.Math.Nat.{one-dvd}
 use Rattle.crn_tab.specs.Inner.Rows.{AreBelow, IsPrimitivePart}
 use Rattle.crn_vec.specs.Vectors.{entry}
 use Rattle.crn_tab.proofs.Cross.{read}
 use Rattle.crn_tab.proofs.Rows.{everywhere}
+use Rattle.crn_tab.proofs.WideProducts.{times_divides}
 use Rattle.crn_tab.proofs.low.reduce.Goals as goal
 
 times_one : (x : ℤ) → x *ℤ pos 1 ≡ x
 times_one x = omega (arith, ints)
-
-times_divides : (z t u : ℤ) → z *ℤ t ≡ u → unsigned_abs t ∣ unsigned_abs u
-times_divides z t u e =
-    let D : ℕ → Type 0 = λ n. unsigned_abs t ∣ n in
-    subst D (sym (unsigned_abs-mul z t) ∙ ap unsigned_abs e) (dvd-mul_left (unsigned_abs t) (unsigned_abs z))
 
 pub returns-then-g-eq1-clause-primitive : goal.returns-then-g-eq1-clause-primitive
 returns-then-g-eq1-clause-primitive c =

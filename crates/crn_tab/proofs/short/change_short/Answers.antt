@@ -1,9 +1,7 @@
 use Rattle.std.proofs.Common.{◌≡◌, ◌<◌, ◌^◌, ℕ, List, length, sym, ap, ◌∙◌, arith, subst, refl, lit<}
 use Rattle.std.specs.Prelude.{ℤ, pos, ◌≤ℤ◌, ◌*ℤ◌, ◌-ℤ◌, unsigned_abs}
 use Rattle.std.specs.Int.{◌∣◌}
-use Rattle.std.proofs.lemmas.Int.{unsigned_abs-mul}
 use Rattle.std.proofs.lemmas.Nat.Gcd.{dvd-zero}
-use Rattle.std.proofs.Math.Nat.{dvd-mul_left}
 use Rattle.crn_vec.specs.Vectors.{entry}
 use Rattle.crn_tab.specs.Slots.{IsContent}
 use Rattle.crn_tab.specs.Inner.Rows.{IsCombined}
@@ -13,12 +11,8 @@ use Rattle.crn_tab.proofs.Primitive.{combined_of}
 use Rattle.crn_tab.proofs.LowCross.{read_low}
 use Rattle.crn_tab.proofs.ShortCross.{read_short}
 use Rattle.crn_tab.proofs.Rows.{everywhere}
+use Rattle.crn_tab.proofs.WideProducts.{times_divides}
 use Rattle.crn_tab.proofs.short.change_short.Goals as goal
-
-times_divides : (z t u : ℤ) → z *ℤ t ≡ u → unsigned_abs t ∣ unsigned_abs u
-times_divides z t u e =
-    let D : ℕ → Type 0 = λ n. unsigned_abs t ∣ n in
-    subst D (sym (unsigned_abs-mul z t) ∙ ap unsigned_abs e) (dvd-mul_left (unsigned_abs t) (unsigned_abs z))
 
 -- quotients of the difference of two rows by a number that divides all of it, and that all of what does divides
 combined_by : (p q g : ℤ) (row lead new : List ℤ) → length lead ≡ length row → length new ≡ length row → pos 1 ≤ℤ g

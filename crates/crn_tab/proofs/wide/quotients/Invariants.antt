@@ -1,0 +1,12 @@
+use Rattle.std.proofs.Common.{◌≡◌, ℕ, ◌<◌, length}
+use Rattle.std.specs.Prelude.{◌*ℤ◌, unsigned_abs}
+use Rattle.crn_vec.specs.declared.limits.TheConstants.{WIDE_ENTRY}
+use Rattle.crn_vec.specs.Vectors.{entry}
+use Rattle.crn_tab.proofs.wide.quotients.Given as goal
+
+abbrev pub invariant-loop-j : goal.invariant-loop-j
+invariant-loop-j l = record {
+  done : (k : ℕ) → k < l.j → entry l.row k *ℤ l.by ≡ entry l.work k;
+  small : (k : ℕ) → k < l.j → unsigned_abs (entry l.row k) < WIDE_ENTRY;
+  long : length l.row ≡ length l.work;
+}
