@@ -21,7 +21,8 @@ use Rattle.crn_ctext.specs.Questions.{heads, first_number}
 use Rattle.crn_ctext.specs.Course.{Course, Give, ◌>>=◌, due, find, test, ends}
 use Rattle.crn_ctext.specs.Inner.Courses.{IsSettled}
 use Rattle.crn_cert.specs.Tests.{Test as Claim}
-use Rattle.crn_ctext.specs.Blocks.{Problem, Meaning, head_claims, row_claims, problems, is_open, unless, either, asks, asks_node, asks_all, claims, Node, Split, Flat, CutA, CutB, node_of, leaf, asks_leaf, goes_on, if_signed, is_all_zero, asks_tree, asks_trees, sections, below, has_tree, AfterBlocks, asks_block, after_sections, asks_blocks, asks_table, lists_of, asks_lines, title, network_line, ended, IsNetworkOf, ReadOf, course}
+use Rattle.crn_vec.specs.Problems.{all_zero}
+use Rattle.crn_ctext.specs.Blocks.{Problem, Meaning, head_claims, row_claims, problems, is_open, unless, either, asks, asks_node, asks_all, claims, Node, Split, Flat, CutA, CutB, node_of, leaf, asks_leaf, goes_on, if_signed, asks_tree, asks_trees, sections, below, has_tree, AfterBlocks, asks_block, after_sections, asks_blocks, asks_table, lists_of, asks_lines, title, network_line, ended, IsNetworkOf, ReadOf, course}
 use Rattle.crn_ctext.proofs.Decided.{IsDecided, if_decided, nat_decided, bool_decided, bytes_decided, some_decided}
 use Rattle.crn_ctext.proofs.Courses.{settled_then, settled_with, GivesOnly, gives_only_then}
 use Rattle.crn_ctext.proofs.LinesRead.{HaveWords, reads_settled}
@@ -138,7 +139,7 @@ tree_settled version table p (suc more) prefix n d =
     settled_then (asks_leaf version table p n) (λ node. goes_on p prefix n node (children n)) (asks_leaf_settled version table p n) (λ node. goes_on_settled p prefix n node (children n) d
     (settled_then (asks_tree version table p more (prefix ++ Zero ∷ []) (n + 1)) (λ k. asks_tree version table p more (prefix ++ Plus ∷ []) k >>= (λ m. last m)) (tree_settled version table p more (prefix ++ Zero ∷ []) (n + 1) d)
     (λ k. settled_then (asks_tree version table p more (prefix ++ Plus ∷ []) k) (λ m. last m) (tree_settled version table p more (prefix ++ Plus ∷ []) k d)
-    (λ m. either_settled (is_all_zero prefix) (Give m) (asks_tree version table p more (prefix ++ Minus ∷ []) m) (give_settled m) (tree_settled version table p more (prefix ++ Minus ∷ []) m d)))))
+    (λ m. either_settled (all_zero prefix) (Give m) (asks_tree version table p more (prefix ++ Minus ∷ []) m) (give_settled m) (tree_settled version table p more (prefix ++ Minus ∷ []) m d)))))
   where
     last : ℕ → Course ℕ
     last m = if_signed prefix m (asks_tree version table p more (prefix ++ Minus ∷ []) m)

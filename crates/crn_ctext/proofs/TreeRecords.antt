@@ -13,7 +13,7 @@ use Rattle.crn_cert.specs.TreeTests.{tree_tests}
 use Rattle.crn_cert.proofs.CallerLemmas.{hold_append, hold_parts}
 use Rattle.crn_ctext.specs.Records.{Record, Form, Fits}
 use Rattle.crn_ctext.specs.Kinds.{record_form, free_form}
-use Rattle.crn_ctext.specs.Blocks.{Problem, is_all_zero, word_of}
+use Rattle.crn_ctext.specs.Blocks.{Problem, word_of}
 use Rattle.crn_ctext.specs.Documents.{one_word, leaf_forms, IsOneOf, IsTree, IsGoodLeaf}
 use Rattle.crn_ctext.specs.Answers.{nodes}
 use Rattle.crn_ctext.proofs.RanksLinked.{free_fits, free_row, record_is}
@@ -21,12 +21,6 @@ use Rattle.crn_ctext.proofs.AnswersApart.{tree_apart, leaf_no_split, first_same}
 use Rattle.crn_ctext.proofs.TreesRead.{valid_tree_is_formed}
 
 -- ---- prefixes
-
-pub zeros_are : (p : List Sign) → is_all_zero p ≡ all_zero p
-zeros_are [] = refl
-zeros_are (Zero ∷ p) = zeros_are p
-zeros_are (Plus ∷ p) = refl
-zeros_are (Minus ∷ p) = refl
 
 next_choice : (n more : ℕ) (p : List Sign) (s : Sign) → suc more + length p ≡ n → more + length (p ++ s ∷ []) ≡ n
 next_choice n more p s e = omega (arith, e, length-append p (s ∷ []))
@@ -41,11 +35,11 @@ split_record = one_word (codes "split") []
 
 split_both : (Leaf : List Sign → Record → Type 0) (more : ℕ) (p : List Sign) (zs qs : List Record) → all_zero p ≡ true → IsTree Leaf more (p ++ Zero ∷ []) zs → IsTree Leaf more (p ++ Plus ∷ []) qs → IsTree Leaf (suc more) p (split_record ∷ (zs ++ qs))
 unfolding IsTree
-split_both Leaf more p zs qs z a b = inr (zs, qs, [], ap (λ (t : List Record). split_record ∷ t) (sym (ap (λ (t : List Record). zs ++ t) (append-nil qs))), a, b, inl (zeros_are p ∙ z, refl))
+split_both Leaf more p zs qs z a b = inr (zs, qs, [], ap (λ (t : List Record). split_record ∷ t) (sym (ap (λ (t : List Record). zs ++ t) (append-nil qs))), a, b, inl (z, refl))
 
 split_three : (Leaf : List Sign → Record → Type 0) (more : ℕ) (p : List Sign) (zs qs ms : List Record) → all_zero p ≡ false → IsTree Leaf more (p ++ Zero ∷ []) zs → IsTree Leaf more (p ++ Plus ∷ []) qs → IsTree Leaf more (p ++ Minus ∷ []) ms → IsTree Leaf (suc more) p (split_record ∷ ((zs ++ qs) ++ ms))
 unfolding IsTree
-split_three Leaf more p zs qs ms z a b c = inr (zs, qs, ms, ap (λ (t : List Record). split_record ∷ t) (append_assoc zs qs ms), a, b, inr (zeros_are p ∙ z, c))
+split_three Leaf more p zs qs ms z a b c = inr (zs, qs, ms, ap (λ (t : List Record). split_record ∷ t) (append_assoc zs qs ms), a, b, inr (z, c))
 
 one_leaf : (Leaf : List Sign → Record → Type 0) (more : ℕ) (p : List Sign) (r : Record) → Leaf p r → IsTree Leaf more p (r ∷ [])
 unfolding IsTree
@@ -139,7 +133,7 @@ leaf_back w (suc more) p r other (inr t) = absurd (other (first_same r split_rec
 -- what is below a split
 abbrev Below : (List Sign → Record → Type 0) → ℕ → List Sign → List Record → Type 0
 Below Leaf more p rest = (zeros : List Record) × (pluses : List Record) × (minuses : List Record) × (rest ≡ zeros ++ (pluses ++ minuses)) × IsTree Leaf more (p ++ Zero ∷ []) zeros × IsTree Leaf more (p ++ Plus ∷ []) pluses
-    × (((is_all_zero p ≡ true) × (minuses ≡ [])) ⊎ ((is_all_zero p ≡ false) × IsTree Leaf more (p ++ Minus ∷ []) minuses))
+    × (((all_zero p ≡ true) × (minuses ≡ [])) ⊎ ((all_zero p ≡ false) × IsTree Leaf more (p ++ Minus ∷ []) minuses))
 
 split_back : (w : Problem) (Fine : List Sign → Record → Type 0) → ((p : List Sign) (r : Record) → Fine p r → Leaf w p r) → (more : ℕ) (p : List Sign) (rest : List Record) → IsTree Fine (suc more) p (split_record ∷ rest) → Below Fine more p rest
 unfolding IsTree
@@ -190,7 +184,7 @@ tree_true w (suc more) p (Three zeros pluses minuses) e f t =
     let eq = next_choice w.choices more p Plus e in
     let s = same_below w more p (nodes zeros) (nodes pluses) (nodes minuses) k.0 k.1 k.2 (tree_formed w more (p ++ Zero ∷ []) zeros ez f.2) (formed_of w more (p ++ Zero ∷ []) k.0 k.4) (tree_formed w more (p ++ Plus ∷ []) pluses eq f.3) (formed_of w more (p ++ Plus ∷ []) k.1 k.5)
     (sym (append_assoc (nodes zeros) (nodes pluses) (nodes minuses)) ∙ k.3) in
-    let last : IsTree (Good w) more (p ++ Minus ∷ []) k.2 = elim k.6 [ inl z ↦ absurd (let h : true ≡ false = sym z.0 ∙ zeros_are p ∙ f.1 in cc) | inr m ↦ m.1 ] in (
+    let last : IsTree (Good w) more (p ++ Minus ∷ []) k.2 = elim k.6 [ inl z ↦ absurd (let h : true ≡ false = sym z.0 ∙ f.1 in cc) | inr m ↦ m.1 ] in (
       tree_true w more (p ++ Zero ∷ []) zeros ez f.2 (subst (IsTree (Good w) more (p ++ Zero ∷ [])) (sym s.0) k.4),
       (
         tree_true w more (p ++ Plus ∷ []) pluses eq f.3 (subst (IsTree (Good w) more (p ++ Plus ∷ [])) (sym s.1.0) k.5),
@@ -221,7 +215,7 @@ leaf_of w p rs r e (form, inr (inr (inr none)), f) = absurd none
 
 -- the last child of a split
 abbrev IsLastOf : Problem → List Sign → List Record → Type 0
-IsLastOf w p ms = ((is_all_zero p ≡ true) × (ms ≡ [])) ⊎ ((is_all_zero p ≡ false) × IsTreeOf w (p ++ Minus ∷ []) ms)
+IsLastOf w p ms = ((all_zero p ≡ true) × (ms ≡ [])) ⊎ ((all_zero p ≡ false) × IsTreeOf w (p ++ Minus ∷ []) ms)
 
 split_of : (w : Problem) (p : List Sign) (rs zs qs ms : List Record) → length p < w.choices → rs ≡ split_record ∷ (zs ++ (qs ++ ms)) → IsTreeOf w (p ++ Zero ∷ []) zs → IsTreeOf w (p ++ Plus ∷ []) qs → IsLastOf w p ms → IsTreeOf w p rs
 split_of w p rs zs qs ms room e zeros pluses last = by last
@@ -230,8 +224,8 @@ split_of w p rs zs qs ms room e zeros pluses last = by last
     all last m = e ∙ ap (λ (x : List Record). split_record ∷ x) (ap₂ (λ (x y : List Record). x ++ y) zeros.1 (ap₂ (λ (x y : List Record). x ++ y) pluses.1 m))
 
     by : IsLastOf w p ms → IsTreeOf w p rs
-    by (inl z) = (Both zeros.0 pluses.0, all [] z.1 ∙ ap (λ (x : List Record). split_record ∷ (nodes zeros.0 ++ x)) (append-nil (nodes pluses.0)), (room, sym (zeros_are p) ∙ z.0, zeros.2, pluses.2))
-    by (inr m) = (Three zeros.0 pluses.0 m.1.0, all (nodes m.1.0) m.1.1 ∙ ap (λ (x : List Record). split_record ∷ x) (sym (append_assoc (nodes zeros.0) (nodes pluses.0) (nodes m.1.0))), (room, sym (zeros_are p) ∙ m.0, zeros.2, pluses.2, m.1.2))
+    by (inl z) = (Both zeros.0 pluses.0, all [] z.1 ∙ ap (λ (x : List Record). split_record ∷ (nodes zeros.0 ++ x)) (append-nil (nodes pluses.0)), (room, z.0, zeros.2, pluses.2))
+    by (inr m) = (Three zeros.0 pluses.0 m.1.0, all (nodes m.1.0) m.1.1 ∙ ap (λ (x : List Record). split_record ∷ x) (sym (append_assoc (nodes zeros.0) (nodes pluses.0) (nodes m.1.0))), (room, m.0, zeros.2, pluses.2, m.1.2))
 
 pub tree_of : (w : Problem) (more : ℕ) (p : List Sign) (rs : List Record) → more + length p ≡ w.choices → IsTree (Leaf w) more p rs → IsTreeOf w p rs
 unfolding IsTree

@@ -8,7 +8,8 @@ use Rattle.crn_vec.specs.declared.signs.Sign.TheVariants.{Zero, Plus, Minus}
 use Rattle.crn_cert.specs.Nodes.{Said, Flats, CutsA, CutsB}
 use Rattle.crn_ctext.specs.Course.{Course, Give, Line, Test, End, ◌>>=◌, ◌>>◌, test, Gives, FailsFirst}
 use Rattle.crn_ctext.specs.Steps.{StepGives, StepFails}
-use Rattle.crn_ctext.specs.Blocks.{Node, Split, Flat, CutA, CutB, leaf, asks_leaf, goes_on, if_signed, either, is_all_zero, asks_tree}
+use Rattle.crn_vec.specs.Problems.{all_zero}
+use Rattle.crn_ctext.specs.Blocks.{Node, Split, Flat, CutA, CutB, leaf, asks_leaf, goes_on, if_signed, either, asks_tree}
 use Rattle.crn_ctext.specs.Meaning.{problem_with}
 use Rattle.crn_ctext.proofs.Courses.{gives_then, fails_before, fails_then}
 
@@ -129,7 +130,7 @@ children_like : (prefix : List Sign) (n : ℕ) (tree other : Sign → ℕ → Co
 children_like prefix n tree other like =
     like_then (tree Zero (n + 1)) (other Zero (n + 1)) (λ k. tree Plus k >>= (λ m. if_signed prefix m (tree Minus m))) (λ k. other Plus k >>= (λ m. if_signed prefix m (other Minus m)))
     (like Zero (n + 1)) (λ k. like_then (tree Plus k) (other Plus k) (λ m. if_signed prefix m (tree Minus m)) (λ m. if_signed prefix m (other Minus m))
-    (like Plus k) (λ m. like_either (is_all_zero prefix) (Give m) (tree Minus m) (other Minus m) (like Minus m)))
+    (like Plus k) (λ m. like_either (all_zero prefix) (Give m) (tree Minus m) (other Minus m) (like Minus m)))
 
 -- the trees of two problems with these choices and numbers of multipliers
 pub trees_like : (version : ℕ) (table : List (List ℤ)) (c a b : ℕ) (H K : List Sign → Said → Type 0) → HoldTogether H K → (more : ℕ) (prefix : List Sign) (n : ℕ)

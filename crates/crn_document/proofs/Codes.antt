@@ -23,7 +23,8 @@ use Rattle.crn_ctext.specs.Questions.{Shapes, first_number, heads}
 use Rattle.crn_ctext.specs.Course.{Course, Give, Line, Test, End, ◌>>=◌, FailsFirst, due, ends, find, test}
 use Rattle.crn_vec.specs.declared.signs.Sign.{Sign}
 use Rattle.crn_vec.specs.declared.signs.Sign.TheVariants.{Zero, Plus, Minus}
-use Rattle.crn_ctext.specs.Blocks.{Node, Split, Flat, CutA, CutB, Problem, node_of, leaf, asks_node, asks_leaf, goes_on, if_signed, is_all_zero, asks_tree}
+use Rattle.crn_vec.specs.Problems.{all_zero}
+use Rattle.crn_ctext.specs.Blocks.{Node, Split, Flat, CutA, CutB, Problem, node_of, leaf, asks_node, asks_leaf, goes_on, if_signed, asks_tree}
 use Rattle.crn_ctext.specs.Blocks.{AfterBlocks, IsNetworkOf, asks, asks_all, asks_block, asks_blocks, asks_lines, asks_table, asks_trees, after_sections, below, claims, either, has_tree, head_claims, is_open, lists_of, place_of, problems, row_claims, sections, unless}
 use Rattle.crn_ctext.specs.Meaning.{Known, gap_of, head_claims_of, meaning, proof_by, proof_of, row_claims_of, shapes_of, sizes_of, verdict_by, verdict_of}
 use Rattle.crn_document.specs.Check.{CheckGives, HasFaultNumber, IsFaultNumber}
@@ -416,7 +417,7 @@ tree_numbered version table p (suc more) prefix n =
     numbered_then (asks_leaf version table p n) (λ node. goes_on p prefix n node (children n)) (asked_numbered version table p n) (λ node. goes_numbered p prefix n node (children n)
     (numbered_then (asks_tree version table p more (prefix ++ Zero ∷ []) (n + 1)) (λ k. asks_tree version table p more (prefix ++ Plus ∷ []) k >>= (λ m. last m)) (tree_numbered version table p more (prefix ++ Zero ∷ []) (n + 1))
     (λ k. numbered_then (asks_tree version table p more (prefix ++ Plus ∷ []) k) (λ m. last m) (tree_numbered version table p more (prefix ++ Plus ∷ []) k)
-    (λ m. either_numbered (is_all_zero prefix) (Give m) (asks_tree version table p more (prefix ++ Minus ∷ []) m) (give_numbered m) (tree_numbered version table p more (prefix ++ Minus ∷ []) m)))))
+    (λ m. either_numbered (all_zero prefix) (Give m) (asks_tree version table p more (prefix ++ Minus ∷ []) m) (give_numbered m) (tree_numbered version table p more (prefix ++ Minus ∷ []) m)))))
   where
     last : ℕ → Course ℕ
     last m = if_signed prefix m (asks_tree version table p more (prefix ++ Minus ∷ []) m)

@@ -8,7 +8,7 @@ use Rattle.crn_vec.specs.Problems.{all_zero, children, options_below}
 use Rattle.crn_vec.specs.Visits.{root}
 use Rattle.crn_io.specs.Device.{SourceSeen}
 use Rattle.crn_ctext.specs.Course.{Course, Give, ◌>>=◌, test}
-use Rattle.crn_ctext.specs.Blocks.{Problem, Node, Split, Flat, CutA, CutB, asks_leaf, asks_tree, either, goes_on, is_all_zero, leaf}
+use Rattle.crn_ctext.specs.Blocks.{Problem, Node, Split, Flat, CutA, CutB, asks_leaf, asks_tree, either, goes_on, leaf}
 use Rattle.crn_ctext.specs.Steps.{StepGives}
 use Rattle.crn_ctree.specs.Due.{first, rest}
 use Rattle.crn_document.specs.declared.reading.Reading.{Reading}
@@ -19,12 +19,6 @@ use Rattle.crn_document.proofs.Steps.{step_gives, step_then_is, stop_first}
 use Rattle.crn_document.proofs.CoursesFollowed.{Follows, follows_on, follows_after, to_right, to_left, none_after, test_holds, test_breaks, step_follows, stop_follows}
 
 -- ---- prefixes
-
-same_zero : (p : List Sign) → all_zero p ≡ is_all_zero p
-same_zero [] = refl
-same_zero (Zero ∷ p) = same_zero p
-same_zero (Plus ∷ p) = refl
-same_zero (Minus ∷ p) = refl
 
 child_more : (choices more : ℕ) (prefix : List Sign) (s : Sign) → choices - length prefix ≡ suc more → choices - length (prefix ++ s ∷ []) ≡ more
 child_more choices more prefix s e = let l : length (prefix ++ s ∷ []) ≡ length prefix + 1 = length-append prefix (s ∷ []) in omega (arith, e, l)
@@ -72,16 +66,15 @@ split_course version table p i j k none prefix n =
     either none (Give m) (asks_tree version table p k (prefix ++ Minus ∷ []) m)))
 
 children_follow : (version : ℕ) (table : List (List ℤ)) (p : Problem) (more : ℕ) (prefix : List Sign) (due : List (List Sign)) (n : ℕ) → p.choices - length prefix ≡ suc more
-    → Follows (asks_due version table p (children prefix ++ due) (n + 1)) (split_course version table p more more more (is_all_zero prefix) prefix n >>= (λ m. asks_due version table p due m))
+    → Follows (asks_due version table p (children prefix ++ due) (n + 1)) (split_course version table p more more more (all_zero prefix) prefix n >>= (λ m. asks_due version table p due m))
 children_follow version table p more prefix due n e =
     let c = asks_due version table p (children prefix ++ due) (n + 1) in
     let r = λ (m : ℕ). asks_due version table p due m in
     let left = λ (s : Sign). p.choices - length (prefix ++ s ∷ []) in
-    subst (λ (b : Bool). Follows c (split_course version table p more more more b prefix n >>= r)) (same_zero prefix)
-    (subst (λ (k : ℕ). Follows c (split_course version table p more more k (all_zero prefix) prefix n >>= r)) (child_more p.choices more prefix Minus e)
+    subst (λ (k : ℕ). Follows c (split_course version table p more more k (all_zero prefix) prefix n >>= r)) (child_more p.choices more prefix Minus e)
     (subst (λ (k : ℕ). Follows c (split_course version table p more k (left Minus) (all_zero prefix) prefix n >>= r)) (child_more p.choices more prefix Plus e)
     (subst (λ (k : ℕ). Follows c (split_course version table p k (left Plus) (left Minus) (all_zero prefix) prefix n >>= r)) (child_more p.choices more prefix Zero e)
-    (children_by version table p (all_zero prefix) prefix due n))))
+    (children_by version table p (all_zero prefix) prefix due n)))
 
 -- ---- a node and what it leaves due
 
@@ -95,10 +88,10 @@ full_node version table p prefix due n e (CutB shared u) = to_left (leaf p prefi
 
 -- and at another one
 inner_node : (version : ℕ) (table : List (List ℤ)) (p : Problem) (more : ℕ) (prefix : List Sign) (due : List (List Sign)) (n : ℕ) → p.choices - length prefix ≡ suc more → (node : Node)
-    → Follows (node_test p prefix n node >>= (λ x. asks_due version table p (after_node prefix due node) (n + 1))) (goes_on p prefix n node (split_course version table p more more more (is_all_zero prefix) prefix n) >>= (λ m. asks_due version table p due m))
+    → Follows (node_test p prefix n node >>= (λ x. asks_due version table p (after_node prefix due node) (n + 1))) (goes_on p prefix n node (split_course version table p more more more (all_zero prefix) prefix n) >>= (λ m. asks_due version table p due m))
 inner_node version table p more prefix due n e Split =
     let c = asks_due version table p (children prefix ++ due) (n + 1) in
-    follows_on (test n 42 (length prefix < p.choices) >>= (λ x. c)) c (split_course version table p more more more (is_all_zero prefix) prefix n >>= (λ m. asks_due version table p due m))
+    follows_on (test n 42 (length prefix < p.choices) >>= (λ x. c)) c (split_course version table p more more more (all_zero prefix) prefix n >>= (λ m. asks_due version table p due m))
     (test_holds n 42 (length prefix < p.choices) c (omega (arith, e))) (children_follow version table p more prefix due n e)
 inner_node version table p more prefix due n e Flat = to_left (leaf p prefix n Flat) (λ x. Give (n + 1)) (λ m. asks_due version table p due m)
 inner_node version table p more prefix due n e (CutA shared u) = to_left (leaf p prefix n (CutA shared u)) (λ x. Give (n + 1)) (λ m. asks_due version table p due m)
@@ -127,7 +120,7 @@ node_first version table p prefix due n = by (p.choices - length prefix) refl
   where
     by : (more : ℕ) → p.choices - length prefix ≡ more → Follows (asks_one version table p prefix n >>= (λ node. asks_due version table p (after_node prefix due node) (n + 1))) (asks_tree version table p more prefix n >>= (λ m. asks_due version table p due m))
     by zero e = node_in version table p prefix due n (λ node. leaf p prefix n node >>= (λ x. Give (n + 1))) (full_node version table p prefix due n e)
-    by (suc more) e = node_in version table p prefix due n (λ node. goes_on p prefix n node (split_course version table p more more more (is_all_zero prefix) prefix n)) (inner_node version table p more prefix due n e)
+    by (suc more) e = node_in version table p prefix due n (λ node. goes_on p prefix n node (split_course version table p more more more (all_zero prefix) prefix n)) (inner_node version table p more prefix due n e)
 
 -- the tree of the root is all that is due at first
 pub root_tree : (version : ℕ) (table : List (List ℤ)) (p : Problem) (n : ℕ) → Follows (asks_due version table p root n) (asks_tree version table p p.choices [] n)
