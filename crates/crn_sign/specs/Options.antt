@@ -48,18 +48,18 @@ plus_at words k = bit_at (word_at words (k / 64)).plus (k % 64)
 abbrev pub minus_at : List Bits → ℕ → ℕ
 minus_at words k = bit_at (word_at words (k / 64)).minus (k % 64)
 
--- the kind that a bit for plus and one for minus ask
+-- the kind that a bit for plus and one for minus require
 abbrev pub kind_of_bits : ℕ → ℕ → Kind
 kind_of_bits zero zero = Free
 kind_of_bits (suc p) zero = Pos
 kind_of_bits zero (suc m) = Neg
 kind_of_bits (suc p) (suc m) = ZeroKind
 
--- the kind that words ask of a coordinate
+-- the kind that words require of a coordinate
 abbrev pub kind_in : List Bits → ℕ → Kind
 kind_in asked k = kind_of_bits (plus_at asked k) (minus_at asked k)
 
--- the words ask these kinds of the coordinates of a matrix
+-- the words require these kinds of the coordinates of a matrix
 pub record AskKinds (a : Mat) (kinds : List Kind) (asked : List Bits) : Type 0 where
   pub count : length asked ≡ word_count a
   pub each : (k : ℕ) → k < width a → kind_in asked k ≡ kind_at kinds k

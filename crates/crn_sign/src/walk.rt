@@ -26,9 +26,10 @@ use crn_vec::{Ints, NoMemory, Sign, is_all_zero};
 use std::alloc::Global;
 use std::rc::Rc;
 
-/// What a search works with: its two parts, the prefix that is visited, and the visits that are left.
+/// What a search works with: memory, its two parts, the prefix that is visited, and the visits that are left.
 #[derive(Drop)]
 pub(crate) struct Progress {
+    pub alloc: Global,
     pub a: Part,
     pub b: Part,
     pub prefix: Vec<Sign>,
@@ -186,7 +187,6 @@ fn arrive<P: SignProblem>(
 
 // Multipliers that rule part A of the prefix out, or none if it has a solution.
 fn rule_out_a<P: SignProblem>(
-    alloc: Global,
     problem: &P,
     search: &mut Progress,
     here: &mut Place,
@@ -204,7 +204,10 @@ fn rule_out_a<P: SignProblem>(
         (λ s. IsSearchStop (P.signed problem.now) s) }
 {
     let depth = search.prefix.len();
-    match search.a.ruled_out(alloc, problem.matrix_a(), here, depth) {
+    match search
+        .a
+        .ruled_out(search.alloc, problem.matrix_a(), here, depth)
+    {
         Ok(u) => Ok(u),
         Err(stop) => Err(wide_a(stop)),
     }
@@ -212,7 +215,6 @@ fn rule_out_a<P: SignProblem>(
 
 // Multipliers that rule part B of the prefix out, or none if it has a solution.
 fn rule_out_b<P: SignProblem>(
-    alloc: Global,
     problem: &P,
     search: &mut Progress,
     here: &mut Place,
@@ -230,7 +232,10 @@ fn rule_out_b<P: SignProblem>(
         (λ s. IsSearchStop (P.signed problem.now) s) }
 {
     let depth = search.prefix.len();
-    match search.b.ruled_out(alloc, problem.matrix_b(), here, depth) {
+    match search
+        .b
+        .ruled_out(search.alloc, problem.matrix_b(), here, depth)
+    {
         Ok(u) => Ok(u),
         Err(stop) => Err(wide_b(stop, !search.b.has_decided)),
     }
@@ -239,7 +244,6 @@ fn rule_out_b<P: SignProblem>(
 // A leaf for the prefix, or none if both its parts have solutions. What is known of either part is tried
 // before the solver of one is asked.
 fn rule_out<P: SignProblem>(
-    alloc: Global,
     problem: &P,
     search: &mut Progress,
     above: &Level,
@@ -262,10 +266,10 @@ fn rule_out<P: SignProblem>(
     if let Some(node) = arrive(problem, search, above, here)? {
         return Ok(Some(node));
     }
-    if let Some(u) = rule_out_b(alloc, problem, search, &mut here.b)? {
+    if let Some(u) = rule_out_b(problem, search, &mut here.b)? {
         return Ok(Some(TreeNode::CutB(u)));
     }
-    if let Some(u) = rule_out_a(alloc, problem, search, &mut here.a)? {
+    if let Some(u) = rule_out_a(problem, search, &mut here.a)? {
         return Ok(Some(TreeNode::CutA(u)));
     }
     Ok(None)
@@ -273,7 +277,6 @@ fn rule_out<P: SignProblem>(
 
 // The full prefix, which is feasible, with solutions of its parts.
 fn found_end<P: SignProblem>(
-    alloc: Global,
     problem: &P,
     search: &mut Progress,
     here: &Level,
@@ -288,16 +291,22 @@ fn found_end<P: SignProblem>(
         (λ e. IsFoundAt (P.signed problem.now) search.old.prefix.items e)
         (λ s. IsSearchStop (P.signed problem.now) s) }
 {
-    let pattern = Signs::from_slice(alloc, &search.prefix)?;
-    let a = match search.a.solution(alloc, problem.matrix_a(), &here.a.asked) {
+    let pattern = Signs::from_slice(search.alloc, &search.prefix)?;
+    let a = match search
+        .a
+        .solution(search.alloc, problem.matrix_a(), &here.a.asked)
+    {
         Ok(a) => a,
         Err(stop) => return Err(wide_a(stop)),
     };
-    let b = match search.b.solution(alloc, problem.matrix_b(), &here.b.asked) {
+    let b = match search
+        .b
+        .solution(search.alloc, problem.matrix_b(), &here.b.asked)
+    {
         Ok(b) => b,
         Err(stop) => return Err(wide_b(stop, false)),
     };
-    match Box::new(alloc, FullPrefix { pattern, a, b }) {
+    match Box::new(search.alloc, FullPrefix { pattern, a, b }) {
         Ok(found) => Ok(Ending::Found(found)),
         Err(_) => Err(SearchStop::NoMemory),
     }
@@ -367,7 +376,6 @@ fn split_node(zeros: bool) -> TreeNode
 // Visits the prefix with one more option, and all that is visited below it.
 #[cycle(walk)]
 fn child<P: SignProblem>(
-    alloc: Global,
     problem: &P,
     search: &mut Progress,
     above: &Level,
@@ -397,7 +405,7 @@ fn child<P: SignProblem>(
 {
     search.prefix.push_reserved(option);
     enter(problem, &search.prefix, above, next);
-    let end = walk(alloc, problem, search, above, next, rest, nodes, keeps)?;
+    let end = walk(problem, search, above, next, rest, nodes, keeps)?;
     search.prefix.pop();
     Ok(end)
 }
@@ -405,7 +413,6 @@ fn child<P: SignProblem>(
 // Visits the children of a feasible prefix that is not full, and all that is visited below them.
 #[cycle(walk)]
 fn split<P: SignProblem>(
-    alloc: Global,
     problem: &P,
     search: &mut Progress,
     here: &Level,
@@ -434,48 +441,18 @@ fn split<P: SignProblem>(
 {
     let zeros = is_all_zero(&search.prefix);
     list_node(nodes, keeps, split_node(zeros))?;
-    match child(
-        alloc,
-        problem,
-        search,
-        here,
-        next,
-        rest,
-        nodes,
-        keeps,
-        Sign::Zero,
-    )? {
+    match child(problem, search, here, next, rest, nodes, keeps, Sign::Zero)? {
         Ending::Refuted => {}
         end => return Ok(end),
     }
-    match child(
-        alloc,
-        problem,
-        search,
-        here,
-        next,
-        rest,
-        nodes,
-        keeps,
-        Sign::Plus,
-    )? {
+    match child(problem, search, here, next, rest, nodes, keeps, Sign::Plus)? {
         Ending::Refuted => {}
         end => return Ok(end),
     }
     if zeros {
         return Ok(Ending::Refuted);
     }
-    let end = child(
-        alloc,
-        problem,
-        search,
-        here,
-        next,
-        rest,
-        nodes,
-        keeps,
-        Sign::Minus,
-    )?;
+    let end = child(problem, search, here, next, rest, nodes, keeps, Sign::Minus)?;
     Ok(end)
 }
 
@@ -483,7 +460,6 @@ fn split<P: SignProblem>(
 #[cycle(walk)]
 #[inline(always)]
 pub(crate) fn walk<P: SignProblem>(
-    alloc: Global,
     problem: &P,
     search: &mut Progress,
     above: &Level,
@@ -518,19 +494,19 @@ pub(crate) fn walk<P: SignProblem>(
         list_node(nodes, keeps, TreeNode::Flat)?;
         return Ok(Ending::Refuted);
     }
-    if let Some(node) = rule_out(alloc, problem, search, above, here)? {
+    if let Some(node) = rule_out(problem, search, above, here)? {
         list_node(nodes, keeps, node)?;
         return Ok(Ending::Refuted);
     }
     at_level(problem, search, here);
     if search.prefix.len() == problem.length() {
-        let end = found_end(alloc, problem, search, here)?;
+        let end = found_end(problem, search, here)?;
         return Ok(end);
     }
     let (first, rest) = levels.split_at_mut(1);
     let next = &mut first[0];
     surround(problem, &search.prefix, here, next);
-    let end = split(alloc, problem, search, here, next, rest, nodes, keeps)?;
+    let end = split(problem, search, here, next, rest, nodes, keeps)?;
     leaves_room(problem, search, next);
     Ok(end)
 }
@@ -555,6 +531,7 @@ pub(crate) fn start<P: SignProblem>(
     let prefix = Vec::with_capacity(alloc, choices)?;
     let solver_a = Solver::new(alloc, matrix_a)?;
     Ok(Progress {
+        alloc,
         a: Part::new(alloc, matrix_a, solver_a, choices)?,
         b: Part::new(alloc, matrix_b, solver_b, choices)?,
         prefix,
@@ -647,7 +624,6 @@ fn visit_all<P: SignProblem>(
     let mut first = first_level(alloc, problem)?;
     let mut levels = rooms(alloc, problem)?;
     let end = walk(
-        alloc,
         problem,
         &mut search,
         &above,
