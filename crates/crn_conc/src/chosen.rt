@@ -9,7 +9,7 @@ use crn_sign::{Asked, Bits, FREE, NONE, put_asked, word_count};
 use crn_vec::{Matrix, NoMemory, Sign};
 use std::alloc::Global;
 
-/// What the coordinates of part A depend on after so many choices, by words: the signs of the species
+/// What the coordinates of part A depend on after this many choices, by words: the signs of the species
 /// that was chosen last, and which coordinates are settled, as no other species has a sign there.
 #[derive(Drop)]
 pub(crate) struct Chosen {
@@ -108,7 +108,7 @@ fn settled_by(
     Ok(words)
 }
 
-// What the coordinates of part A depend on after so many choices.
+// What the coordinates of part A depend on after this many choices.
 fn chosen_after(
     alloc: Global,
     matrix: &Matrix,

@@ -1,6 +1,6 @@
 -- The lines of classes that a loop writes, and the members of a class.
 use Rattle.std.proofs.Common.{◌≡◌, ◌≢◌, ℕ, zero, suc, ◌+◌, ◌<◌, ◌==◌, List, [], ◌∷◌, ◌++◌, length, take, drop, get_or, refl, sym, ap, ◌∙◌, append_assoc, add-one, add-zero, zero-add, ◌-◌, arith}
-use Rattle.std.proofs.lemmas.List.{append-nil, length-append, length-map}
+use Rattle.std.proofs.lemmas.List.{get_or-map, append-nil, length-append, length-map}
 use Rattle.std.proofs.lemmas.Bool.Decides.{nat_tests}
 use Rattle.std.specs.List.{flat_map, AllByRecursion}
 use Rattle.std.specs.Prelude.{codes, if◌then◌else◌}
@@ -9,12 +9,11 @@ use Rattle.crn_io.specs.Joined.{joined, with_separator}
 use Rattle.crn_io.proofs.CallerLemmas.{joined_push, joined_more}
 use Rattle.crn_text.specs.Canonical.{side, complex_text}
 use Rattle.crn_render.specs.Details.{complex_texts, of_label, lines_from}
-use Rattle.crn_render.proofs.Texts.{get_or_map}
 
 -- ---- the sides of a network
 
 pub side_at : (net : Net) (c : ℕ) → c < length net.complexes → get_or (complex_texts net) c [] ≡ complex_text net c
-side_at net c lt = get_or_map (side net.names) net.complexes c [] [] lt
+side_at net c lt = get_or-map (side net.names) net.complexes c [] [] lt
 
 pub sides_count : (net : Net) → length (complex_texts net) ≡ length net.complexes
 sides_count net = simp length-map

@@ -2,13 +2,12 @@
 use Rattle.std.proofs.Common.{◌≡◌, ◌<◌, ◌∙◌, ℕ, List, [], length, get_or, ap, arith}
 use Rattle.std.specs.Prelude.{ℤ, pos, map}
 use Rattle.std.specs.List.{range_with_len}
-use Rattle.std.proofs.lemmas.List.{length-map}
+use Rattle.std.proofs.lemmas.List.{get_or-map, length-map}
 use Rattle.std.proofs.lemmas.List.FromFn.{get_or-range_with_len, length-range_with_len}
 use Rattle.crn_vec.specs.Network.{Net}
 use Rattle.crn_vec.specs.Vectors.{dot, column}
 use Rattle.crn_vec.specs.Deficiency.{vectors}
 use Rattle.crn_render.specs.Details.{sigma}
-use Rattle.crn_render.proofs.Texts.{get_or_map}
 
 -- the sum has an entry for each species
 pub sigma_count : (net : Net) (weights : List ℤ) → length (sigma net weights) ≡ length net.names
@@ -21,5 +20,5 @@ sigma_entry net weights s lt =
     let many : s < length (range_with_len 0 (length net.names)) = simp length-range_with_len lt in
     let many' : s < length columns = simp (length-map, length-range_with_len) lt in
     let at : get_or (range_with_len 0 (length net.names)) s 0 ≡ s = get_or-range_with_len 0 (length net.names) s 0 lt ∙ omega arith in
-    get_or_map (λ (row : List ℤ). dot row weights) columns s [] (pos 0) many'
-    ∙ ap (λ (row : List ℤ). dot row weights) (get_or_map (column (vectors net)) (range_with_len 0 (length net.names)) s 0 [] many ∙ ap (column (vectors net)) at)
+    get_or-map (λ (row : List ℤ). dot row weights) columns s [] (pos 0) many'
+    ∙ ap (λ (row : List ℤ). dot row weights) (get_or-map (column (vectors net)) (range_with_len 0 (length net.names)) s 0 [] many ∙ ap (column (vectors net)) at)

@@ -1,23 +1,17 @@
 -- Texts that a loop writes: the members of a list, one after another.
-use Rattle.std.proofs.Common.{◌≡◌, ℕ, zero, suc, ◌+◌, ◌<◌, ◌≤◌, List, [], ◌∷◌, ◌++◌, length, take, drop, get_or, refl, ap, ◌∙◌, arith, take_all}
-use Rattle.std.proofs.lemmas.List.{length-map}
+use Rattle.std.proofs.Common.{◌≡◌, ℕ, suc, ◌+◌, ◌<◌, ◌≤◌, List, [], ◌++◌, length, take, drop, get_or, ap, ◌∙◌, arith, take_all}
+use Rattle.std.proofs.lemmas.List.{get_or-map, length-map}
 use Rattle.std.specs.List.{flat_map}
 use Rattle.std.specs.Prelude.{map}
 use Rattle.crn_io.specs.Joined.{joined, with_separator}
 use Rattle.crn_io.proofs.CallerLemmas.{joined_step, joined_whole}
-
--- a member of a mapped list
-pub get_or_map : {A B : Type 0} (f : A → B) (xs : List A) (i : ℕ) (d : A) (e : B) → i < length xs → get_or (map f xs) i e ≡ f (get_or xs i d)
-get_or_map f [] i d e lt = absurd (omega arith)
-get_or_map f (x ∷ xs) zero d e lt = refl
-get_or_map f (x ∷ xs) (suc i) d e lt = get_or_map f xs i d e (omega arith)
 
 -- one member more
 pub mapped_step : {A : Type 0} (separator : List ℕ) (f : A → List ℕ) (xs : List A) (i : ℕ) (d : A) → i < length xs
     → joined separator (take (i + 1) (map f xs)) ≡ joined separator (take i (map f xs)) ++ with_separator separator i (f (get_or xs i d))
 mapped_step separator f xs i d lt =
     let in_map : i < length (map f xs) = simp length-map lt in
-    joined_step separator (map f xs) i in_map ∙ ap (λ (t : List ℕ). joined separator (take i (map f xs)) ++ with_separator separator i t) (get_or_map f xs i d [] lt)
+    joined_step separator (map f xs) i in_map ∙ ap (λ (t : List ℕ). joined separator (take i (map f xs)) ++ with_separator separator i t) (get_or-map f xs i d [] lt)
 
 -- the members before one, that one, and those after it
 pub mapped_whole : {A : Type 0} (separator : List ℕ) (f : A → List ℕ) (xs : List A) (i : ℕ) (d : A) → i < length xs
@@ -25,7 +19,7 @@ pub mapped_whole : {A : Type 0} (separator : List ℕ) (f : A → List ℕ) (xs 
 mapped_whole separator f xs i d lt =
     let in_map : i < length (map f xs) = simp length-map lt in
     joined_whole separator (map f xs) i in_map
-    ∙ ap (λ (t : List ℕ). (joined separator (take i (map f xs)) ++ with_separator separator i t) ++ flat_map (λ y. separator ++ y) (drop (suc i) (map f xs))) (get_or_map f xs i d [] lt)
+    ∙ ap (λ (t : List ℕ). (joined separator (take i (map f xs)) ++ with_separator separator i t) ++ flat_map (λ y. separator ++ y) (drop (suc i) (map f xs))) (get_or-map f xs i d [] lt)
 
 -- all members
 pub mapped_all : {A : Type 0} (f : A → List ℕ) (xs : List A) (i : ℕ) → i ≡ length xs → take i (map f xs) ≡ map f xs
