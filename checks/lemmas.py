@@ -1,9 +1,9 @@
 #!/usr/bin/env python3
-"""Finds lemmas on lists, numbers, vectors and sums that stand in two crates.
+"""Finds lemmas on lists, numbers, vectors and sums that are in two crates.
 
 The statement of a lemma is on these alone if all its constants are of the toolchain's libraries or of `crn_vec`. Two
 statements are the same if they differ only in the names of variables, the order of premises, parentheses, the sides of
-equations and the types of members. Such a lemma stands once, in a crate that the others depend on, and they cite it at
+equations and the types of members. Such a lemma is there once, in a crate that the others depend on, and they cite it at
 that crate's door; a door that passes a lemma on by `pub use` states nothing. Answers of functions are not read."""
 
 import re
@@ -164,7 +164,7 @@ def lemmas(root):
 
 
 def copies(root):
-    """For each lemma the places where it stands, and whether it does only in crates that have no crate in common."""
+    """For each lemma the places where it is, and whether these are only in crates that have no crate in common."""
     crates = read_crates(root)
     known = {crate: {crate, *crates.reached(crate)} for crate in crates.needs}
     for places in lemmas(root).values():
@@ -176,7 +176,7 @@ def main():
     """`lemmas.py [ROOT]`, where ROOT is the top of the repository that is read: this one, if none is given."""
     tally = Tally("lemmas")
     for places, is_once in copies(Path(sys.argv[1]).resolve() if len(sys.argv) > 1 else ROOT):
-        tally.count(f"a lemma stands in one crate alone: {' and '.join(places)}", is_once)
+        tally.count(f"a lemma is in one crate alone: {' and '.join(places)}", is_once)
     return tally.end()
 
 

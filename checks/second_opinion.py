@@ -874,7 +874,7 @@ def wide(system, columns, rows):
 
 
 def is_basis(ns, columns, rows):
-    """A coordinate and an ascending basis of a system with so many columns and rows."""
+    """A coordinate and an ascending basis of a system with this many columns and rows."""
     rising = all(a < b for a, b in zip(ns[1:], ns[2:]))
     return len(ns) == 1 + columns and rising and all(1 <= n <= columns + rows for n in ns)
 
