@@ -73,6 +73,10 @@ def measured(name, command, text, visits, piped=False):
 
 
 print(f"questions {ASKED}, budget 100,000, {runs} runs each, {machine()}\n")
+print("""The names are those of `benches/texts.py`: `futile6` and `futile9` are the futile cycles of six and nine sites with all steps
+of the kinase first; `rand40` is the random reversible network of 40 species, `dense` the random network of 34 species with
+amounts up to 3, and `copies4` four copies of a motif.
+""")
 pair = ["yardstick", "ratio"]
 heads = ["network", "command", "bytes", "visits", "least time, s", *pair, "million instructions", *pair, "most memory, MB"]
 put_heads(heads + pair[:1], words=2)
@@ -91,7 +95,11 @@ for name, text, is_certified in [*texts.searches(), *texts.growth()]:
             measured(name, "certify", text, visits)
             measured(name, "check", certificate, visits, piped=True)
             measured(f"{name}, version 1", "check", texts.first_version(certificate), visits, piped=True)
-print()
+print("""
+The visits of both are those that the yardstick counts, as the problem alone decides them. Of the program, decisions are
+calls of `Solver::alternative`, pool hits are look-ups of kept vectors after which no solver was asked, past multipliers
+not among them, and exchanges are those of all questions. The yardstick counts its own.
+""")
 put_heads(["network", "by", "visits", "decisions", "pool hits", "exchanges"], words=2)
 for name, by, counts in works:
     put_row([name, by, *("?" if count is None else f"{count:,}" for count in counts)])
