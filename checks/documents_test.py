@@ -2,10 +2,9 @@
 """Breaks each rule of `documents.py` in a small repository that keeps all of them: each break has to be seen."""
 
 import sys
-import tempfile
-from pathlib import Path
 
 import documents
+from small_repository import repository_of
 from tally import Tally
 
 SOURCE = "crates/crn_low/src/count.rt"
@@ -226,11 +225,7 @@ BREAKS = [
 
 def failures(files):
     """The rules that a repository of these files breaks."""
-    with tempfile.TemporaryDirectory() as folder:
-        root = Path(folder)
-        for name, text in files.items():
-            (root / name).parent.mkdir(parents=True, exist_ok=True)
-            (root / name).write_text(text)
+    with repository_of(files) as root:
         return {place for place, _, holds in documents.claims(root) if not holds}
 
 

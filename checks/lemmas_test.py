@@ -2,10 +2,9 @@
 """Plants lemmas in a small repository: each copy that `lemmas.py` looks for has to be found, and nothing else."""
 
 import sys
-import tempfile
-from pathlib import Path
 
 import lemmas
+from small_repository import repository_of
 from tally import Tally
 
 USES = """\
@@ -49,11 +48,7 @@ PLANTED = [
 
 def found(files):
     """The copies that are found in a repository of these files."""
-    with tempfile.TemporaryDirectory() as folder:
-        root = Path(folder)
-        for name, text in files.items():
-            (root / name).parent.mkdir(parents=True, exist_ok=True)
-            (root / name).write_text(text)
+    with repository_of(files) as root:
         return [places for places, is_once in lemmas.copies(root) if not is_once]
 
 
