@@ -8,11 +8,5 @@ pub use Rattle.crn_defi.proofs.TestFacts.{all_places, are_members, rank_is}
 pub use Rattle.crn_defi.proofs.Callers.{linkage_right, strong_right}
 -- Ranges and filters with one more member at the end, and tests that find a member, or none.
 pub use Rattle.crn_vec.proofs.CallerLemmas.{in_range, filter_from as filter_of, range_more, filter_yes, filter_no, and_true}
--- Independent vectors of the confluence space: no more than the deficiency says, and as many.
-pub use Rattle.crn_defi.proofs.SpaceFew.{space_few}
-pub use Rattle.crn_defi.proofs.SpaceSome.{SpaceBase, space_some}
--- Lists of coefficients that are zero, and a vector that is not zero.
-pub use Rattle.crn_defi.proofs.Parts.{zero_more}
-pub use Rattle.crn_defi.proofs.Counted.{one_independent}
 -- Ascending numbers below a bound are few; independent vectors are no more than their entries, and one that is not 0 is independent.
-pub use Rattle.crn_defi.proofs.Counted.{ascending_few, few_independent, zero_entry, same_if_none}
+pub use Rattle.crn_space.proofs.CallerLemmas.{ascending_few, few_independent, one_independent, same_if_none}

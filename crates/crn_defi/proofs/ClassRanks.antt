@@ -20,7 +20,8 @@ use Rattle.crn_cert.specs.Valid.{linkage, class_places, IsClassNumber, AreClassN
 use Rattle.crn_cert.proofs.CallerLemmas.{hold_append}
 use Rattle.crn_defi.specs.Inner.ClassRanks.{reactions_of, IsClass, IsClassRank, AreClassRanks}
 use Rattle.crn_defi.proofs.Places.{class_reaction, class_some, vectors_are, reactions_count, reactions_ascend, reactions_inside}
-use Rattle.crn_defi.proofs.Counted.{rank_from, class_rank_leaves}
+use Rattle.crn_defi.proofs.Counted.{class_rank_leaves}
+use Rattle.crn_space.proofs.CallerLemmas.{rank_from}
 
 -- ---- one class
 

@@ -1,4 +1,3 @@
-mod Weights
 mod Places
 mod Counted
 mod ClassRanks
@@ -8,12 +7,6 @@ mod TerminalCounts
 mod OneTerminal
 mod OneAnswers
 mod Splits
-mod Parts
-mod ClassSums
-mod Rooted
-mod SpaceFew
-mod Kernels
-mod SpaceSome
 mod Callers
 mod TestFacts
 pub mod CallerLemmas

@@ -25,7 +25,7 @@ use Rattle.crn_cert.specs.Answered.{IsAnswer}
 use Rattle.crn_cert.specs.Given.{GiveClasses}
 use Rattle.crn_cert.specs.Valid.{is_terminal_in, terminals_of}
 use Rattle.crn_defi.specs.Inner.Terminals.{HaveOneUpTo, IsFirstWithMore, IsVerdictOn, IsFewOrOpen, IsVerdictAfter}
-use Rattle.crn_defi.proofs.Counted.{labels_few}
+use Rattle.crn_space.proofs.CallerLemmas.{labels_few}
 use Rattle.crn_defi.proofs.ClassRanks.{class_short}
 use Rattle.crn_defi.proofs.TerminalCounts.{Known, terminals_some, one_terminal_each}
 

@@ -1,27 +1,21 @@
 -- The complexes and reactions of a linkage class.
-use Rattle.std.proofs.Common.{◌≡◌, ◌≢◌, ◌⊎◌, ℕ, zero, suc, ◌+◌, ◌-◌, ◌<◌, ◌≤◌, ◌==◌, inl, inr, Bool, List, [], ◌∷◌, ◌++◌, length, get_or, map, refl, sym, ap, subst, ◌∙◌, arith}
-use Rattle.std.specs.Prelude.{ℤ, filter}
+use Rattle.std.proofs.Common.{◌≡◌, ◌≢◌, ◌⊎◌, ℕ, suc, ◌+◌, ◌-◌, ◌<◌, ◌≤◌, ◌==◌, inl, inr, Bool, List, [], ◌∷◌, ◌++◌, length, get_or, refl, sym, ap, ◌∙◌, arith}
+use Rattle.std.specs.Prelude.{filter}
 use Rattle.std.specs.List.{range_with_len}
 use Rattle.std.proofs.lemmas.Bool.{cases_Bool, eqb-true, eq-eqb, ne_eqb}
-use Rattle.std.proofs.lemmas.List.{get_or-map, length-map}
+use Rattle.std.proofs.lemmas.List.{length-map}
 use Rattle.crn_vec.specs.Kept.{KeptNums}
-use Rattle.crn_vec.specs.Lists.{IsIn, AreDistinct, IsAscending}
+use Rattle.crn_vec.specs.Lists.{IsIn, IsAscending}
 use Rattle.crn_vec.specs.Network.{Net, IsNetwork, reaction_vector, ends}
-use Rattle.crn_vec.specs.Rank.{chosen}
 use Rattle.crn_vec.specs.Deficiency.{IsLabelled, class_reactions, class_vectors, class_members}
-use Rattle.crn_vec.proofs.CallerLemmas.{at_in, inside_at, class_link, in_range, filter_has, filter_from, filter_ascending, range_more}
+use Rattle.crn_vec.proofs.CallerLemmas.{in_range, filter_has, filter_from, filter_ascending, range_more}
 use Rattle.crn_vec.proofs.CallerLemmas.{filter_yes, filter_no, range_ascending, range_bounds, first_stays, first_goes}
 use Rattle.crn_cert.specs.declared.answer.Verdict.TheVariants.{Classes}
 use Rattle.crn_cert.specs.Questions.{Earlier, Q1}
 use Rattle.crn_cert.specs.RankTests.{vector_of, vectors_of}
 use Rattle.crn_cert.proofs.CallerLemmas.{class_vectors_are}
+use Rattle.crn_space.proofs.CallerLemmas.{one_label}
 use Rattle.crn_defi.specs.Inner.ClassRanks.{reactions_of, IsClass}
-
--- ---- ranges and filters
-
-pub range_distinct : (a n : ℕ) → AreDistinct (range_with_len a n)
-range_distinct a zero = tt
-range_distinct a (suc n) = (λ i. let b = range_bounds a (a + 1) n i in omega (arith, b.0), range_distinct (a + 1) n)
 
 -- ---- the complexes of a class
 
@@ -49,12 +43,6 @@ pub in_class : (labels : List ℕ) (k y : ℕ) → y < length labels → get_or 
 in_class labels k y lt e = filter_has (λ y. get_or labels y 0 == k) (range_with_len 0 (length labels)) y (in_range y 0 (length labels) (omega arith) (omega (arith, lt))) (eq-eqb (get_or labels y 0) k e)
 
 -- ---- the reactions of a class
-
--- the two complexes of a reaction have one label
-pub one_label : (net : Net) (labels : List ℕ) → IsNetwork net → IsLabelled net labels → (y z : ℕ) → IsIn (y, z) net.reactions → get_or labels y 0 ≡ get_or labels z 0
-one_label net labels n l y z i =
-    let at = inside_at (length net.complexes) net.reactions n.partial.apart y z i in
-    l.right.together y z (omega (arith, at.0, l.long)) (omega (arith, at.1, l.long)) (class_link net.reactions y z (inl i))
 
 pub class_reaction : (net : Net) (labels : List ℕ) (k : ℕ) (r : ℕ × ℕ) → IsIn r (class_reactions net labels k) → IsIn r net.reactions × (get_or labels r.0 0 ≡ k)
 class_reaction net labels k r i = let f = filter_from (λ r. get_or labels r.0 0 == k) net.reactions r i in (f.0, eqb-true (get_or labels r.0 0) k f.1)
@@ -99,22 +87,6 @@ reactions_inside net labels k r i =
     let f = filter_from (λ r. get_or labels (get_or net.reactions (r - 1) (0, 0)).0 0 == k) (range_with_len 1 (length net.reactions)) r i in
     let b = range_bounds r 1 (length net.reactions) f.0 in
     (b.0, omega (arith, b.1))
-
--- ---- chosen reactions
-
-abbrev pub taken : List ℕ → List (ℕ × ℕ) → List (ℕ × ℕ)
-taken places qs = map (λ k. get_or qs k (0, 0)) places
-
-pub taken_vectors : (net : Net) (qs : List (ℕ × ℕ)) (places : List ℕ) → ((k : ℕ) → IsIn k places → k < length qs) → map (reaction_vector net) (taken places qs) ≡ chosen places (map (reaction_vector net) qs)
-taken_vectors net qs [] below = refl
-taken_vectors net qs (p ∷ places) below =
-    ap (λ (v : List ℤ). v ∷ map (reaction_vector net) (taken places qs)) (sym (get_or-map (reaction_vector net) qs p (0, 0) [] (below p (inl refl))))
-    ∙ ap (λ (t : List (List ℤ)). get_or (map (reaction_vector net) qs) p [] ∷ t) (taken_vectors net qs places (λ k i. below k (inr i)))
-
-pub taken_in : (qs : List (ℕ × ℕ)) (places : List ℕ) → ((k : ℕ) → IsIn k places → k < length qs) → (r : ℕ × ℕ) → IsIn r (taken places qs) → IsIn r qs
-taken_in qs [] below r i = absurd i
-taken_in qs (p ∷ places) below r (inl e) = subst (λ (q : ℕ × ℕ). IsIn q qs) (sym e) (at_in qs p (0, 0) (below p (inl refl)))
-taken_in qs (p ∷ places) below r (inr i) = taken_in qs places (λ k j. below k (inr j)) r i
 
 -- ---- one more at the end
 

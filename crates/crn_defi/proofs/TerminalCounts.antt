@@ -15,7 +15,7 @@ use Rattle.crn_cert.specs.Says.{AreLinkageClasses, AreStrongClasses}
 use Rattle.crn_cert.specs.ClassTests.{of_class, DoLevelsFall}
 use Rattle.crn_cert.specs.Valid.{is_in_both, is_terminal_in, terminals_of}
 use Rattle.crn_defi.specs.Inner.Terminals.{AreClassNumbers, HaveOneUpTo}
-use Rattle.crn_defi.proofs.Places.{one_label}
+use Rattle.crn_space.proofs.CallerLemmas.{one_label}
 
 -- ---- tests of lists
 

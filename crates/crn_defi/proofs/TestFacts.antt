@@ -16,7 +16,7 @@ use Rattle.crn_cert.proofs.CallerLemmas.{all_vectors}
 use Rattle.crn_rank.specs.Rank.{AreMembers, ProvesRank}
 use Rattle.crn_cert.specs.Answered.{IsAnswer}
 use Rattle.crn_cert.specs.Given.{GiveRank}
-use Rattle.crn_defi.proofs.Counted.{rank_from}
+use Rattle.crn_space.proofs.CallerLemmas.{rank_from}
 use Rattle.crn_defi.proofs.Callers.{true_or_open}
 
 -- ---- the rank

@@ -4,14 +4,12 @@
 mod class_rank;
 mod classes;
 mod deficiency;
-mod laws;
 mod one;
 mod split;
 mod terminals;
 mod zero;
 
 pub use deficiency::deficiencies;
-pub use laws::class_deficiencies_sum_to_at_most_the_deficiency;
 pub use one::one_hypotheses;
 pub use split::first_split;
 pub use zero::zero_hypotheses;

@@ -1,5 +1,4 @@
 mod ConfluenceAnswers
-mod Dimension
 mod FirstPairs
 mod Named
 mod Negatives

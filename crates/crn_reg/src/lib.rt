@@ -13,8 +13,5 @@ mod space;
 mod ties;
 
 pub use confluence_vector::confluence;
-pub use laws::{
-    confluence_dimension_is_the_deficiency, deficiency_one_leaves_a_line,
-    deficiency_zero_leaves_only_zero, reversible_networks_are_weakly_reversible,
-};
+pub use laws::reversible_networks_are_weakly_reversible;
 pub use regularity::regular;

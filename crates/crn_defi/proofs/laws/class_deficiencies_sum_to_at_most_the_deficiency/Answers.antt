@@ -1,5 +1,0 @@
-use Rattle.crn_defi.proofs.ClassSums.{class_deficiencies_sum_to_at_most}
-use Rattle.crn_defi.proofs.laws.class_deficiencies_sum_to_at_most_the_deficiency.Goals as goal
-
-pub returns : goal.returns
-returns c = class_deficiencies_sum_to_at_most

@@ -1,0 +1,11 @@
+mod Dependence
+mod Hypotheses
+mod Systems
+mod Totals
+mod Renumberings
+mod Statements
+mod SharedDependence
+mod SharedWalks
+mod SharedClasses
+mod SharedRank
+mod SharedConcordance

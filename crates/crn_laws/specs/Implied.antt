@@ -1,0 +1,32 @@
+-- What a verdict on a network says of others.
+-- Source: Feinberg, Foundations of Chemical Reaction Network Theory (2019); on confluence vectors
+-- and regularity, after Feinberg (1988, 1995).
+use Rattle.std.specs.Prelude.{◌↔◌, ℕ, List}
+use Rattle.crn_vec.specs.Network.{Net, IsNetwork}
+use Rattle.crn_vec.specs.Linkage.{IsLinked}
+use Rattle.crn_vec.specs.Strong.{IsWeaklyReversible}
+use Rattle.crn_vec.specs.CutPairs.{IsCutPair}
+use Rattle.crn_vec.specs.Deficiency.{IsPositivelyDependent, HasOneTerminalEach, AreDeficiencies, IsDeficiencyOne}
+use Rattle.crn_vec.specs.Confluence.{IsRegular}
+
+-- a weakly reversible network is positively dependent
+abbrev pub WeaklyReversibleAreDependent : Type 0
+WeaklyReversibleAreDependent = (net : Net) → IsNetwork net → IsWeaklyReversible net.reactions
+    → IsPositivelyDependent net
+
+-- in a weakly reversible network each linkage class has one terminal strong class
+abbrev pub WeaklyReversibleHaveOneTerminalEach : Type 0
+WeaklyReversibleHaveOneTerminalEach = (net : Net) → IsWeaklyReversible net.reactions
+    → HasOneTerminalEach net
+
+-- a weakly reversible network is regular if and only if all its linked pairs are cut pairs
+abbrev pub WeaklyReversibleAreRegularByCutPairs : Type 0
+WeaklyReversibleAreRegularByCutPairs = (net : Net) → IsNetwork net
+    → IsWeaklyReversible net.reactions
+    → IsRegular net ↔ ((y z : ℕ) → IsLinked net.reactions y z → IsCutPair net.reactions y z)
+
+-- if the deficiency is 0, those of the linkage classes are some list, and each linkage class has one
+-- terminal strong class, then the hypotheses of the Deficiency One Theorem hold
+abbrev pub DeficiencyZeroGivesDeficiencyOne : Type 0
+DeficiencyZeroGivesDeficiencyOne = (net : Net) (classes : List ℕ) → IsNetwork net
+    → AreDeficiencies net 0 classes → HasOneTerminalEach net → IsDeficiencyOne net

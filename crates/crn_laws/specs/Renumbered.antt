@@ -1,0 +1,72 @@
+-- The same network in another order: its species, complexes and reactions are numbered anew, as
+-- they are if the lines of its text are put in another order.
+-- Source: this project's own.
+-- Shapes: species, complexes and reactions count from 0.
+use Rattle.std.specs.Prelude.{◌≡◌, ◌<◌, ◌↔◌, ℕ, List, length}
+use Rattle.crn_vec.specs.Lists.{IsIn}
+use Rattle.crn_vec.specs.Network.{Net, IsNetwork, Statement, amount_at}
+use Rattle.crn_vec.specs.Rank.{IsRank}
+use Rattle.crn_vec.specs.Strong.{IsReaction, IsReversible, IsWeaklyReversible}
+use Rattle.crn_vec.specs.Deficiency.{vectors, IsDeficiency, IsPositivelyDependent, IsConservative, HasOneTerminalEach}
+use Rattle.crn_vec.specs.Confluence.{IsRegular}
+use Rattle.crn_vec.specs.Influence.{IsConcordantNet, IsStronglyConcordantNet}
+use Rattle.crn_text.specs.Tokens.{lines}
+use Rattle.crn_text.specs.Sides.{all_statements}
+use Rattle.crn_text.specs.Spells.{Spells}
+
+-- a one-to-one map of the numbers below n onto those below m, and the map back
+pub record Renumbering (n m : ℕ) : Type 0 where
+  pub to : ℕ → ℕ
+  pub back : ℕ → ℕ
+  pub to_below : (k : ℕ) → k < n → to k < m
+  pub back_below : (k : ℕ) → k < m → back k < n
+  pub back_to : (k : ℕ) → k < n → back (to k) ≡ k
+  pub to_back : (k : ℕ) → k < m → to (back k) ≡ k
+
+-- the other network is this one with its species, complexes and reactions numbered anew: each
+-- complex has the same amounts, and each reaction the same two complexes
+pub record IsRenumbered (net other : Net) : Type 0 where
+  pub species : Renumbering (length net.names) (length other.names)
+  pub complexes : Renumbering (length net.complexes) (length other.complexes)
+  pub reactions : Renumbering (length net.reactions) (length other.reactions)
+  pub amounts : (c s : ℕ) → c < length net.complexes → s < length net.names
+      → amount_at other (complexes.to c) (species.to s) ≡ amount_at net c s
+  pub ends : (r y z : ℕ) → IsReaction net.reactions r y z
+      → IsReaction other.reactions (reactions.to r) (complexes.to y) (complexes.to z)
+
+-- each statement of one text is a statement of the other
+abbrev pub SayTheSame : List ℕ → List ℕ → Type 0
+SayTheSame text another = (s : Statement)
+    → IsIn s (all_statements (lines text)) ↔ IsIn s (all_statements (lines another))
+
+-- texts with the same statements, in any order, spell the same network in another order
+abbrev pub StatementsInAnyOrder : Type 0
+StatementsInAnyOrder = (text another : List ℕ) (net other : Net) → Spells text net
+    → Spells another other → SayTheSame text another → IsRenumbered net other
+
+-- a property of a network and of each that is the same in another order, or of none of them
+abbrev pub IsShared : (Net → Type 0) → Type 0
+IsShared Has = (net other : Net) → IsNetwork net → IsNetwork other → IsRenumbered net other
+    → Has net ↔ Has other
+
+-- renumbered networks have the same rank of their reaction vectors, and the same deficiency
+pub record RenumberedShareNumbers : Type 0 where
+  pub rank : (s : ℕ) → IsShared (λ net. IsRank (vectors net) s)
+  pub deficiency : (d : ℕ) → IsShared (λ net. IsDeficiency net d)
+
+-- all or none are reversible, weakly reversible, with one terminal class each, or regular
+pub record RenumberedShareClasses : Type 0 where
+  pub reversible : IsShared (λ net. IsReversible net.reactions)
+  pub weakly_reversible : IsShared (λ net. IsWeaklyReversible net.reactions)
+  pub terminal : IsShared HasOneTerminalEach
+  pub regular : IsShared IsRegular
+
+-- all or none are positively dependent, or conservative
+pub record RenumberedShareDependence : Type 0 where
+  pub dependent : IsShared IsPositivelyDependent
+  pub conservative : IsShared IsConservative
+
+-- all or none are concordant, or strongly concordant
+pub record RenumberedShareConcordance : Type 0 where
+  pub concordant : IsShared IsConcordantNet
+  pub strongly_concordant : IsShared IsStronglyConcordantNet

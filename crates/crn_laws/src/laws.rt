@@ -1,0 +1,65 @@
+ghost use Rattle.crn_laws.specs.Implied.{
+  DeficiencyZeroGivesDeficiencyOne,
+  WeaklyReversibleAreDependent,
+  WeaklyReversibleAreRegularByCutPairs,
+  WeaklyReversibleHaveOneTerminalEach,
+};
+ghost use Rattle.crn_laws.specs.Renumbered.{
+  RenumberedShareClasses,
+  RenumberedShareConcordance,
+  RenumberedShareDependence,
+  RenumberedShareNumbers,
+  StatementsInAnyOrder,
+};
+ghost use Rattle.crn_laws.specs.Systems.{NetworksHaveFullRows};
+
+/// A weakly reversible network is positively dependent.
+pub fn weakly_reversible_networks_are_positively_dependent()
+    ensures { WeaklyReversibleAreDependent }
+{}
+
+/// Each linkage class of a weakly reversible network has one terminal strong class.
+pub fn weakly_reversible_networks_have_one_terminal_class_each()
+    ensures { WeaklyReversibleHaveOneTerminalEach }
+{}
+
+/// A weakly reversible network is regular if and only if all its linked pairs are cut pairs, whatever its deficiency is.
+pub fn weakly_reversible_networks_are_regular_by_cut_pairs()
+    ensures { WeaklyReversibleAreRegularByCutPairs }
+{}
+
+/// If question 6 gives deficiency 0, and each linkage class has one terminal strong class, as in a weakly reversible
+/// network, the hypotheses of the Deficiency One Theorem hold.
+pub fn deficiency_zero_and_one_terminal_class_each_give_deficiency_one()
+    ensures { DeficiencyZeroGivesDeficiencyOne }
+{}
+
+/// The rows of each system of a network have an entry for each column, as laws on wide vectors require.
+pub fn systems_have_rows_of_one_length()
+    ensures { NetworksHaveFullRows }
+{}
+
+/// Texts with the same statements, in any order and each once or more often, spell the same network in another order.
+pub fn statements_in_any_order_spell_renumbered_networks()
+    ensures { StatementsInAnyOrder }
+{}
+
+/// Networks that are the same in another order have the same rank and the same deficiency.
+pub fn renumbered_networks_share_rank_and_deficiency()
+    ensures { RenumberedShareNumbers }
+{}
+
+/// All or none of them are reversible, weakly reversible, with one terminal strong class in each linkage class, or regular.
+pub fn renumbered_networks_share_reversibility_and_regularity()
+    ensures { RenumberedShareClasses }
+{}
+
+/// All or none of them are positively dependent, or conservative.
+pub fn renumbered_networks_share_dependence_and_conservation()
+    ensures { RenumberedShareDependence }
+{}
+
+/// All or none of them are concordant, or strongly concordant.
+pub fn renumbered_networks_share_concordance()
+    ensures { RenumberedShareConcordance }
+{}

@@ -1,0 +1,15 @@
+//! What the definitions say of one another, by laws alone: functions without a body.
+#![tactic(auto)]
+
+mod laws;
+
+pub use laws::{
+    deficiency_zero_and_one_terminal_class_each_give_deficiency_one,
+    renumbered_networks_share_concordance, renumbered_networks_share_dependence_and_conservation,
+    renumbered_networks_share_rank_and_deficiency,
+    renumbered_networks_share_reversibility_and_regularity,
+    statements_in_any_order_spell_renumbered_networks, systems_have_rows_of_one_length,
+    weakly_reversible_networks_are_positively_dependent,
+    weakly_reversible_networks_are_regular_by_cut_pairs,
+    weakly_reversible_networks_have_one_terminal_class_each,
+};

@@ -1,0 +1,2 @@
+pub mod ClassSums
+pub mod Dimension
