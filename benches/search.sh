@@ -1,5 +1,5 @@
 #!/usr/bin/env bash
-# Measures the searches of questions 13 to 15 at the greatest budget beside a plain Rust program that does the same with
+# Measures the searches of questions 13 to 15, most at the greatest budget, beside a plain Rust program that does the same with
 # nothing proved, on long searches and along the futile cycle of 1 to 12 sites: the least time of several runs, counts of
 # instructions by valgrind, which are the same whatever else the machine does, how many prefixes are visited, and the most
 # memory; `check` reads from a pipe. The start of the process is in all of these. First it has each of the two check what
@@ -23,45 +23,44 @@ import texts
 from measure import ASKED, answer, differ, instructions, instructions_and_calls, least_seconds, megabytes, put_heads, put_row, ratio, same, source_of, machine
 
 program, yardstick, runs, word = sys.argv[1], sys.argv[2], int(sys.argv[3]), sys.argv[4]
-BUDGET = ["--budget", "100000"]
 
 
-def commands(name):
-    options = [] if name == "check" else BUDGET
+def commands(name, budget):
+    options = [] if name == "check" else ["--budget", str(budget)]
     return [[program, name, *options], [yardstick, name, *options, ASKED]]
 
 
-def agree(name, text):
+def agree(name, text, budget):
     """The answers to one text, which are the same but for what is free."""
-    answers = [answer(command, text) for command in commands("report")]
-    certificates = [answer(command, text)[1] for command in commands("certify")]
+    answers = [answer(command, text) for command in commands("report", budget)]
+    certificates = [answer(command, text)[1] for command in commands("certify", budget)]
     if not same(answers[0], answers[-1]):
         differ(name, text, answers)
     for (_, report), certificate in zip(answers, certificates):
-        for command in commands("check"):
+        for command in commands("check", budget):
             checked = answer(command, certificate)
             if checked != (0, report):
                 differ(name, certificate, [checked, (0, report)])
     return certificates[0]
 
 
-def work_of_yardstick(text):
+def work_of_yardstick(text, budget):
     """Visits, decisions, pool hits and exchanges, as it counts them."""
-    return [int(count) for count in answer([yardstick, "work", *BUDGET, ASKED], text)[1].split()]
+    return [int(count) for count in answer([yardstick, "work", "--budget", str(budget), ASKED], text)[1].split()]
 
 
-def work_of_program(text, visits):
+def work_of_program(text, budget, visits):
     """The same by calls. The visits are those of any program: the problem alone decides them."""
     with source_of(text) as source:
-        _, calls = instructions_and_calls(commands("report")[0], source)
+        _, calls = instructions_and_calls(commands("report", budget)[0], source)
     count = lambda name: calls.get(name, 0)
     decisions, looked = calls.get("crn_farkas::solver::Solver::alternative"), calls.get("crn_sign::pool::Pool::find")
     hits = None if None in (decisions, looked) else looked - decisions
     return [visits, decisions, hits, count("crn_tab::tableau::Tableau::pivot")]
 
 
-def measured(name, command, text, visits, piped=False):
-    both = commands(command)
+def measured(name, command, text, budget, visits, piped=False):
+    both = commands(command, budget)
     with source_of(text) as source:
         seconds = least_seconds(both, source, runs)
         counts = [instructions(words, source) for words in both]
@@ -72,29 +71,30 @@ def measured(name, command, text, visits, piped=False):
     put_row(row + memory)
 
 
-print(f"questions {ASKED}, budget 100,000, {runs} runs each, {machine()}\n")
+print(f"questions {ASKED}, budget 100,000 if a row names no other, {runs} runs each, {machine()}\n")
 print("""The names are those of `benches/texts.py`: `futile6` and `futile9` are the futile cycles of six and nine sites with all steps
 of the kinase first; `rand40` is the random reversible network of 40 species, `dense` the random network of 34 species with
-amounts up to 3, and `copies4` four copies of a motif.
+amounts up to 3, and `copies4` four copies of a motif. The searches for a signal of `signal8` show that there is none, and that of
+`signal9` spends the budget; `negative8` spends it for the negative of its vector, which itself has no signal.
 """)
 pair = ["yardstick", "ratio"]
 heads = ["network", "command", "bytes", "visits", "least time, s", *pair, "million instructions", *pair, "most memory, MB"]
 put_heads(heads + pair[:1], words=2)
 if not word:
-    measured("nothing: the start alone", "report", b"", "0")
+    measured("nothing: the start alone", "report", b"", texts.MAX_BUDGET, "0")
 works = []
-for name, text, is_certified in [*texts.searches(), *texts.growth()]:
+for name, text, is_certified, budget in [*texts.searches(), *texts.growth()]:
     if word in name:
         text = text.encode()
-        certificate = agree(name, text)
-        work = work_of_yardstick(text)
+        certificate = agree(name, text, budget)
+        work = work_of_yardstick(text, budget)
         visits = f"{work[0]:,}"
-        works += [(name, "program", work_of_program(text, work[0])), (name, "yardstick", work)]
-        measured(name, "report", text, visits)
+        works += [(name, "program", work_of_program(text, budget, work[0])), (name, "yardstick", work)]
+        measured(name, "report", text, budget, visits)
         if is_certified:
-            measured(name, "certify", text, visits)
-            measured(name, "check", certificate, visits, piped=True)
-            measured(f"{name}, version 1", "check", texts.first_version(certificate), visits, piped=True)
+            measured(name, "certify", text, budget, visits)
+            measured(name, "check", certificate, budget, visits, piped=True)
+            measured(f"{name}, version 1", "check", texts.first_version(certificate), budget, visits, piped=True)
 print("""
 The visits of both are those that the yardstick counts, as the problem alone decides them. Of the program, decisions are
 calls of `Solver::alternative`, pool hits are look-ups of kept vectors after which no solver was asked, past multipliers

@@ -5,6 +5,7 @@ import random
 import string
 
 MAX_TEXT = 2_097_152
+MAX_BUDGET = 100_000
 
 
 def repeated(line, head=""):
@@ -87,7 +88,7 @@ def cases():
 
 
 def random_reversible(species=40, lines=60):
-    """So many lines `A + B <-> C` of random species: the network that benches/linear.sh calls random40."""
+    """So many lines `A + B <-> C` of random species."""
     state, text = 1, ""
     for _ in range(lines):
         numbers = []
@@ -134,20 +135,39 @@ def copies(count):
     return "".join(line.format(copy) for line in lines for copy in range(count))
 
 
+def with_pairs(count, lines):
+    """So many reactions `A + D <-> E` with a D and an E of their own, and then these lines."""
+    return "".join(f"A + D{i} <-> E{i}\n" for i in range(1, count + 1)) + lines
+
+
+def without_signal(count):
+    """So many pairs and a chain in which A makes more of itself: neither its confluence vector nor the negative has a signal."""
+    return with_pairs(count, "A <-> 2A <-> 3A\n")
+
+
+def negative_signal(count):
+    """So many pairs and Schlögl's network: its confluence vector has no signal, but the negative has one."""
+    return with_pairs(count, "2A <-> 3A\nA <-> 0\n")
+
+
 def searches():
-    """Triples of a name, a text that spells a network whose searches are long, and whether it is certified."""
+    """Rows of a name, a text that spells a network whose searches are long, whether it is certified, and the budget."""
     return [
-        ("futile6", futile_by_steps(6), False),
-        ("futile9", futile_by_steps(9), False),
-        ("rand40", random_reversible(), False),
-        ("dense", dense(), False),
-        ("copies4", copies(4), True),
+        ("futile6", futile_by_steps(6), False, MAX_BUDGET),
+        ("futile9", futile_by_steps(9), False, MAX_BUDGET),
+        ("rand40", random_reversible(), False, MAX_BUDGET),
+        ("dense", dense(), False, MAX_BUDGET),
+        ("copies4", copies(4), True, MAX_BUDGET),
+        ("signal8, budget 20,000", without_signal(8), True, 20_000),
+        ("signal8", without_signal(8), True, MAX_BUDGET),
+        ("signal9", without_signal(9), True, MAX_BUDGET),
+        ("negative8", negative_signal(8), True, MAX_BUDGET),
     ]
 
 
 def growth():
     """The same of the futile cycle from one site to twelve, whose last network has 39 species and 72 reactions."""
-    return [(f"futile cycle, {sites} site{'s' * (sites > 1)}", futile(sites), True) for sites in range(1, 13)]
+    return [(f"futile cycle, {sites} site{'s' * (sites > 1)}", futile(sites), True, MAX_BUDGET) for sites in range(1, 13)]
 
 
 def networks():

@@ -1,8 +1,7 @@
 #!/usr/bin/env bash
 # Measures the whole benchmark in one run beside the yardstick, a plain Rust program that answers the same with nothing
 # proved: reports of large texts, certificates and their check, the searches of questions 13 to 15, their growth along the
-# futile cycle of 1 to 12 sites, each with the most memory of both; and the linear part, if its program is built. It ends
-# where the two programs do not answer the same.
+# futile cycle of 1 to 12 sites, each with the most memory of both. It ends where the two programs do not answer the same.
 # Not part of the checks: times depend on the machine, and it takes an hour or more, most of it in valgrind.
 #
 #     benches/whole.sh [RUNS]
@@ -16,10 +15,4 @@ printf '\n## Certificates\n'
 benches/certificates.sh "${1:-5}"
 printf '\n## Searches\n'
 benches/search.sh "${1:-5}"
-printf '\n## Linear systems\n'
-if [ -x crates/crn_bench/out/crn_bench ]; then
-    benches/linear.sh "${1:-5}"
-else
-    echo "not measured: crn_bench is not built"
-fi
 printf '\nin all %d seconds\n' "$SECONDS"

@@ -3,3 +3,5 @@ mod Searched
 mod ShelfKinds
 mod Answered
 mod Budgets
+mod Gradual
+mod Joins

@@ -2,6 +2,7 @@
 #![tactic(auto)]
 
 mod answer;
+mod choice;
 mod kinds;
 mod problem;
 mod system;

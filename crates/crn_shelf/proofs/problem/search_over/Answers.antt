@@ -8,6 +8,7 @@ use Rattle.crn_shelf.proofs.problem.search_over.Goals as goal
 
 pub invariant_of-problem : goal.invariant_of-problem
 invariant_of-problem c = record {
+  choices_are = c.in_ok-choices.ensures;
   coordinates_b_are = c.in_ok-coordinates_b.ensures;
   part_a = c.in_ok-system.ensures;
   species = ap (λ (a : Mat). length a.rows) c.in_ok-matrix.ensures ∙ rows_count c.args.net.now ∙ sym c.requires.species;

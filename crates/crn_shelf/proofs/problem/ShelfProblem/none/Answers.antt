@@ -1,0 +1,13 @@
+use Rattle.std.proofs.Common.{List, [], ◌∷◌, ◌++◌, sym, ap, ◌∙◌, arith}
+use Rattle.std.proofs.lemmas.List.{drop_all, length-append}
+use Rattle.crn_vec.specs.declared.signs.Sign.{Sign}
+use Rattle.crn_vec.specs.Concordance.{kinds_b_of}
+use Rattle.crn_vec.specs.Systems.{kind_at}
+use Rattle.crn_shelf.proofs.problem.ShelfProblem.none.Goals as goal
+
+pub returns : goal.returns
+returns c = λ p s k le lt out.
+    let problem = c.args.self.now in
+    let shelves = problem.shape.now.count in
+    ap (λ (r : List Sign). kind_at (kinds_b_of problem.matrix r) k)
+    (drop_all shelves (p ++ s ∷ []) (omega (arith, le, c.requires, length-append p (s ∷ []))) ∙ sym (drop_all shelves p (omega (arith, le, c.requires))))
