@@ -19,12 +19,14 @@ use Rattle.crn_cert.specs.Questions.{IsOpen}
 use Rattle.crn_cert.specs.Formed.{AreFormed}
 use Rattle.crn_cert.specs.Valid.{AreValid}
 use Rattle.crn_cert.specs.Licensed.{AllTrueOrLicensed}
+use Rattle.crn_cert.specs.TreeSizes.{HaveFewNodes}
 use Rattle.crn_ctext.specs.Records.{Record}
 use Rattle.crn_ctext.specs.Documents.{document2, share_of}
 use Rattle.crn_ctext.specs.Judged.{IsGood, IsFaultOf}
 use Rattle.crn_ctext.specs.Linked.{AreSound, records_of}
 use Rattle.crn_ctext.specs.Meaning.{meaning, verdicts_said}
 use Rattle.crn_solve.specs.Spent.{AreOpenIfSpent}
+use Rattle.crn_solve.specs.Turns.{PreferTheVector}
 use Rattle.crn_sample.specs.Sample.{sample_text}
 use Rattle.crn_render.specs.Report.{render}
 use Rattle.crn_render.specs.Summary.{summary}
@@ -42,13 +44,15 @@ abbrev pub HasOpen : List Verdict → Type 0
 HasOpen [] = ⊥
 HasOpen (v ∷ vs) = IsOpen v ⊎ HasOpen vs
 
--- the text spells the network, and the answers to its questions are formed, each true of it, or open
--- as it may be with this budget, and open if the visits of its search exceed the budget
+-- The text spells the network, and the answers to its questions are formed, each true of it, or open
+-- as it may be with this budget, and open if the visits of its search exceed the budget; a signal is
+-- that of the negative of the confluence vector only if the vector has none.
 pub record AreAnswersOf (budget : ℕ) (text : List ℕ) (net : Net) (answers : List Answer) : Type 0 where
   pub spells : Spells text net
   pub formed : AreFormed net [] built answers
   pub answered : AllTrueOrLicensed net budget [] built (verdicts_of answers)
   pub spent : AreOpenIfSpent net budget (verdicts_of answers)
+  pub first : PreferTheVector net (verdicts_of answers)
 
 -- none of the answers is open, if a run ends as Done, and some is, if it ends as OpenLeft
 abbrev pub AreLeftBy : Status → List Answer → Type 0
@@ -58,10 +62,12 @@ AreLeftBy status answers = ⊥
 
 -- ---- texts that are written
 
--- the report of the network that the text spells, with the verdicts of these answers
+-- the report of the network that the text spells, with the verdicts of these answers, of which each
+-- decided one is valid
 pub record IsReportOf (budget : ℕ) (text out : List ℕ) (answers : List Answer) : Type 0 where
   pub net : Net
   pub says : AreAnswersOf budget text net answers
+  pub valid : AreValid net [] built answers
   pub written : out ≡ render built net (verdicts_of answers)
 
 -- the document of a network and of answers, in version 2, with equal lists written once
@@ -70,20 +76,23 @@ certificate net answers =
     document2 built net (records_of net answers) (share_of (records_of net answers))
 
 -- the document of the network that the text spells and of these answers, of which each decided one
--- is valid; it is a good document
+-- is valid, and none has a tree of more nodes than the budget; it is a good document
 pub record IsCertificateOf (budget : ℕ) (text out : List ℕ) (answers : List Answer) : Type 0 where
   pub net : Net
   pub says : AreAnswersOf budget text net answers
   pub valid : AreValid net [] built answers
+  pub few : HaveFewNodes budget answers
   pub written : out ≡ certificate net answers
   pub good : IsGood out
 
 -- the summary of the sample network of this number and of the verdicts of these answers, of which
--- each decided one is valid; the document of the network and of the answers is a good one
+-- each decided one is valid, and none has a tree of more nodes than the budget; the document of the
+-- network and of the answers is a good one
 pub record IsSummaryOf (number budget : ℕ) (out : List ℕ) (answers : List Answer) : Type 0 where
   pub net : Net
   pub says : AreAnswersOf budget (sample_text number) net answers
   pub valid : AreValid net [] built answers
+  pub few : HaveFewNodes budget answers
   pub written : out ≡ summary number net (verdicts_of answers)
   pub good : IsGood (certificate net answers)
 

@@ -1,10 +1,9 @@
-ghost use Rattle.std.specs.Prelude.{◌≡◌, ◌≤◌, ◌<◌, ◌++◌, ◌∷◌, ℕ, List, [], length, take, zip, IfOk, IsSomeAnd};
+ghost use Rattle.std.specs.Prelude.{◌≡◌, ◌≤◌, ◌<◌, ◌++◌, ◌∷◌, ℕ, List, [], length, take, IfOk};
 ghost use Rattle.std.specs.List.{AllByRecursion};
 ghost use Rattle.crn_vec.specs.declared.limits.TheConstants.{MAX_BUDGET};
-ghost use Rattle.crn_vec.specs.NetSignals.{HasNoSignal};
 ghost use Rattle.crn_vec.specs.NetSystems.{reaction_system};
 ghost use Rattle.crn_cert.specs.Answered.{IsAnswer};
-ghost use Rattle.crn_cert.specs.Questions.{Earlier, IsOpen, Q5, Q8, Q12, Q13, on, vector_given};
+ghost use Rattle.crn_cert.specs.Questions.{Earlier, IsOpen, Q5, Q8};
 ghost use Rattle.crn_cert.specs.declared.answer.Answer.{Answer as GivenAnswer};
 ghost use Rattle.crn_cert.specs.Answers.{verdicts_of};
 ghost use Rattle.crn_cert.specs.Built.{built};
@@ -12,8 +11,8 @@ ghost use Rattle.crn_cert.specs.Formed.{AreFormed};
 ghost use Rattle.crn_cert.specs.Valid.{AreValid};
 ghost use Rattle.crn_cert.specs.Licensed.{AllTrueOrLicensed};
 ghost use Rattle.crn_cert.specs.TreeSizes.{HaveFewNodes};
-ghost use Rattle.crn_shelf.specs.Order.{IsForNegative};
 ghost use Rattle.crn_solve.specs.Spent.{AreOpenIfSpent};
+ghost use Rattle.crn_solve.specs.Turns.{PreferTheVector};
 ghost use Rattle.crn_solve.specs.Inner.Solved.{AreFirstAnswers};
 
 use crate::concordance::{concordance_verdicts, decide_concordance};
@@ -155,10 +154,7 @@ pub fn solve(alloc: Global, net: &Network, budget: u32) -> Result<Answers, NoMem
     ensures nodes { IfOk result (λ answers. HaveFewNodes budget answers) }
     ensures spent { IfOk result (λ answers.
         AreOpenIfSpent net.now budget (verdicts_of answers)) }
-    ensures first { IfOk result (λ answers.
-        let given = zip built (verdicts_of answers) in
-        IsForNegative (on given Q13) →
-        IsSomeAnd (vector_given (on given Q12)) (HasNoSignal net.now)) }
+    ensures first { IfOk result (λ answers. PreferTheVector net.now (verdicts_of answers)) }
 {
     let first = first_answers(alloc, net, budget)?;
     let mut answers = first.answers;
@@ -194,10 +190,7 @@ pub fn solve_verdicts(alloc: Global, net: &Network, budget: u32) -> Result<Verdi
     ensures decided { IfOk result (λ verdicts.
         AllByRecursion (λ v. IsOpen v → ⊥) (take 4 verdicts)) }
     ensures spent { IfOk result (λ verdicts. AreOpenIfSpent net.now budget verdicts) }
-    ensures first { IfOk result (λ verdicts.
-        let given = zip built verdicts in
-        IsForNegative (on given Q13) →
-        IsSomeAnd (vector_given (on given Q12)) (HasNoSignal net.now)) }
+    ensures first { IfOk result (λ verdicts. PreferTheVector net.now verdicts) }
 {
     let first = first_answers(alloc, net, budget)?;
     let mut verdicts = first.answers.into_verdicts()?;

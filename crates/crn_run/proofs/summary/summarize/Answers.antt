@@ -10,15 +10,17 @@ check_answers-requires-clause-few g c = have_more c.args.budget MAX_BUDGET c.in-
 pub returns-in-Ok-write_summary : goal.returns-in-Ok-write_summary
 returns-in-Ok-write_summary g c = λ text.
     summary_gives c.args.number c.args.budget c.status_of-whole.result text c.args.net.now c.in-Ok.answers c.in-Ok-into_verdicts.verdicts _ _ c.in-Ok-into_verdicts.ensures (record {
-      says = record { spells = c.requires.spells; formed = c.in-Ok.ensures.formed; answered = c.in-Ok.ensures.answered; spent = c.in-Ok.ensures.spent };
+      says = record { spells = c.requires.spells; formed = c.in-Ok.ensures.formed; answered = c.in-Ok.ensures.answered; spent = c.in-Ok.ensures.spent; first = c.in-Ok.ensures.first };
       valid = c.in-Ok.ensures.valid;
+      few = c.in-Ok.ensures.nodes;
       good = c.check_answers.ensures;
     }) c.status_of-whole.ensures c.in-Ok-write_summary.ensures.all
 
 pub returns : goal.returns
 returns g c = λ text.
     summary_broken c.args.number c.args.budget c.status_of-whole.result text c.args.net.now c.in-Ok.answers c.in-Ok-into_verdicts.verdicts _ _ c.in-Ok-into_verdicts.ensures (record {
-      says = record { spells = c.requires.spells; formed = c.in-Ok.ensures.formed; answered = c.in-Ok.ensures.answered; spent = c.in-Ok.ensures.spent };
+      says = record { spells = c.requires.spells; formed = c.in-Ok.ensures.formed; answered = c.in-Ok.ensures.answered; spent = c.in-Ok.ensures.spent; first = c.in-Ok.ensures.first };
       valid = c.in-Ok.ensures.valid;
+      few = c.in-Ok.ensures.nodes;
       good = c.check_answers.ensures;
     }) c.status_of-whole.ensures c.in-Err-write_summary.ensures.prefix
