@@ -1,5 +1,0 @@
-use Rattle.std.proofs.Common.{◌≡◌, true}
-use Rattle.crn_low_tests.proofs.devices.ends_after.Given as goal
-
-abbrev pub invariant-calls : goal.invariant-calls
-invariant-calls l = l.lines.goes_on ≡ true

@@ -1,0 +1,37 @@
+//! The tests of the crates below, which see their public items alone. A crate with tests of its own is proved twice.
+#![tactic(auto)]
+
+#[cfg(test)]
+mod answers;
+#[cfg(test)]
+mod classes;
+#[cfg(test)]
+mod devices;
+#[cfg(test)]
+mod documents;
+#[cfg(test)]
+mod faults;
+#[cfg(test)]
+mod fractions;
+#[cfg(test)]
+mod lines;
+#[cfg(test)]
+mod lists;
+#[cfg(test)]
+mod reports;
+#[cfg(test)]
+mod runs;
+#[cfg(test)]
+mod samples;
+#[cfg(test)]
+mod statuses;
+#[cfg(test)]
+mod streams;
+#[cfg(test)]
+mod systems;
+#[cfg(test)]
+mod tableaus;
+#[cfg(test)]
+mod versions;
+#[cfg(test)]
+mod words;
