@@ -1,0 +1,72 @@
+"""What theory concludes from a report: the rows of docs/conclusions.json, whose head says how they are evaluated."""
+
+from __future__ import annotations
+
+import json
+from dataclasses import dataclass
+from functools import lru_cache
+from pathlib import Path
+from typing import Any, NamedTuple
+
+from .report import Report
+
+FILE = "conclusions.json"
+
+
+class Source(NamedTuple):
+    """How a source is cited, and what it is."""
+
+    cite: str
+    text: str
+
+
+@dataclass(frozen=True)
+class Conclusion:
+    """A row that applies to a report. `concludes` is empty where nothing follows; `rests_on` has the lines of the report."""
+
+    id: str
+    title: str
+    kinetics: str
+    concludes: str
+    does_not_follow: tuple[str, ...]
+    theorem: str
+    sources: tuple[Source, ...]
+    provided: str
+    rests_on: tuple[str, ...]
+
+
+@lru_cache(maxsize=None)
+def data() -> dict[str, Any]:
+    """The data file: the copy in an installed package, or the repository's own."""
+    here = Path(__file__).resolve()
+    places = [here.parent / FILE, here.parents[3] / "docs" / FILE]
+    found: dict[str, Any] = json.loads(next(place for place in places if place.is_file()).read_text("utf-8"))
+    return found
+
+
+def parts_of(report: Report, question: int) -> list[str]:
+    """What a line says, in parts: `hypotheses hold` and `weakly reversible`."""
+    return report.said(question).split(", ")
+
+
+def holds(report: Report, condition: dict[str, Any]) -> bool:
+    """Whether a condition of a row holds."""
+    wanted = condition.get("says", condition.get("says_not"))
+    begins: bool = parts_of(report, condition["question"])[: len(wanted)] == wanted
+    return begins if "says" in condition else not begins
+
+
+def line_of(report: Report, question: int) -> str:
+    return f"Q{question} {report.verdicts[question - 1].title}: {report.said(question)}"
+
+
+def conclude(report: Report) -> list[Conclusion]:
+    """The rows that apply to a report, those from which nothing follows among them, in the order of the questions."""
+    sources, found = data()["sources"], []
+    for row in data()["rows"]:
+        if all(holds(report, condition) for condition in row["requires"]):
+            lines = tuple(dict.fromkeys(line_of(report, condition["question"]) for condition in row["requires"]))
+            found.append(Conclusion(row["id"], row["title"], row["kinetics"], row["concludes"], tuple(row["does_not_follow"]),
+                                    row["theorem"], tuple(Source(**sources[key]) for key in row["source"]), row["provided"],
+                                    lines))
+    return found
