@@ -1,0 +1,436 @@
+// The page: what its controls do.
+import { Program } from './program.js';
+import { networkIn, readReactions, readReport } from './report.js';
+import { candidates } from './cures.js';
+import { reordered } from './order.js';
+import { PRINTED, complexPicture, escaped, speciesPicture } from './picture.js';
+import { Pointer } from './pointer.js';
+import { conclusionsView, linesView, summary } from './view.js';
+import { readFault, refusalView, rejectionView } from './faults.js';
+
+const $ = id => document.getElementById(id);
+const data = JSON.parse($('data').textContent);
+const moduleBytes = () => Uint8Array.from(atob($('module').textContent.trim()), mark => mark.charCodeAt(0));
+const bytesOf = text => new TextEncoder().encode(text), textOf = bytes => new TextDecoder('utf-8', { ignoreBOM: true }).decode(bytes);
+const show = (id, shown) => { $(id).hidden = !shown; };
+
+// The most bytes of a text that are shown and handed on: the program reads no more of a network text.
+const MOST_TEXT = 2097153;
+// A search that needs more visits than these shows its progress.
+const QUICK = 1000;
+
+const STATUS = { 4: 'a budget is a whole number from 1 to 100,000', 6: 'what is to be written is too long for the page', 7: 'memory ran out; close other pages, or run the program itself', 8: 'the words could not be read' };
+
+let program, helper; // of the report; of certificates, samples and proposals
+let opened = null; // the bytes of a file, until something else is typed: a text area would change its line ends
+let name = 'network'; // what files to save are called
+let now = null; // what is shown: the report and the reactions
+let turn = 0; // of the run that may still say something
+let proposed = null; // a line that the program accepts in the place of the refused one
+let made = null; // the certificate that was made
+
+// ---- the text
+
+const typed = () => opened || bytesOf($('text').value);
+
+function setText(text, bytes = null) {
+    $('text').value = text;
+    opened = bytes;
+    $('text').scrollTop = 0;
+    changed(0);
+}
+
+function showNumbers() {
+    const count = Math.min($('text').value.split('\n').length, 20000);
+    $('numbers').textContent = Array.from({ length: count }, (_, at) => at + 1).join('\n');
+    follow();
+}
+
+function follow() {
+    $('numbers').scrollTop = $('text').scrollTop;
+    if (!$('stripe').hidden) $('stripe').style.top = `${8 + ($('stripe').dataset.line - 1) * 21 - $('text').scrollTop}px`;
+}
+
+function markLine(line) {
+    show('stripe', line > 0);
+    $('stripe').dataset.line = line;
+    $('text').setAttribute('aria-invalid', String(line !== null));
+    $('text').setAttribute('aria-describedby', line === null ? 'status' : 'status refusal');
+    follow();
+}
+
+let waiting; // for a pause in typing
+function changed(pause = 180) {
+    clearTimeout(waiting);
+    showNumbers();
+    show('shared', false);
+    show('save-certificate', false);
+    $('certified').textContent = '';
+    show('rejection', false);
+    waiting = setTimeout(read, pause);
+}
+
+// ---- reports
+
+function say(text, mood = '') {
+    $('status').className = mood;
+    $('status').textContent = text;
+}
+
+const seconds = since => Math.round((performance.now() - since) / 1000);
+const spent = done => `${done.milliseconds < 10 ? done.milliseconds.toFixed(1) : Math.round(done.milliseconds)} ms`;
+const byBudget = report => report.open.filter(question => /^budget/.test(question.parts[1] || ''));
+
+// Reads the text: a report by a short search at once, and then by one as long as the budget allows.
+async function read() {
+    const mine = ++turn, text = typed(), budget = $('budget').value;
+    for (const id of ['halted', 'refusal', 'progress']) show(id, false);
+    show('stale', !$('shown').hidden);
+    say('reading …');
+    try {
+        // Whatever is no budget is left to the program to refuse.
+        const isLong = /^\d{1,6}$/.test(budget) && Number(budget) > QUICK && Number(budget) <= 100000;
+        const quick = isLong ? String(QUICK) : budget;
+        let done = await program.run(['report', '--budget', quick], text);
+        if (mine !== turn || !done) return;
+        if (done.status > 1) return await refuse(done, text, mine);
+        const network = await program.run(['certify', '--budget', '1'], text);
+        if (mine !== turn || !network) return;
+        showReport(textOf(done.out), textOf(network.out));
+        if (quick !== budget && byBudget(now.report).length) {
+            done = await search(text, budget, mine);
+            if (mine !== turn) return;
+            if (done) showReport(textOf(done.out), textOf(network.out));
+        }
+        if (done) sayDone(done);
+    } catch (error) {
+        if (mine === turn) say(`The program stopped: ${error.message}`, 'bad');
+    } finally {
+        if (mine === turn) finish(text);
+    }
+}
+
+// Says that the run has ended, to whoever waits for it.
+function finish(text) {
+    show('progress', false);
+    document.body.dataset.done = String(turn);
+    document.body.dataset.length = String(text.length);
+}
+
+// The long search, with a line that says how long it has taken. Nothing if it is stopped.
+async function search(text, budget, mine) {
+    const numbers = byBudget(now.report).map(question => question.number), began = performance.now();
+    const questions = numbers.length === 1 ? `question ${numbers[0]}` : `questions ${numbers.slice(0, -1).join(', ')} and ${numbers[numbers.length - 1]}`;
+    const tell = () => { $('at-work').textContent = `Searching for ${questions}: up to ${Number(budget).toLocaleString('en')} visits each, ${seconds(began)} s so far.`; };
+    tell();
+    show('progress', true);
+    say('all other questions are answered');
+    const clock = setInterval(tell, 1000);
+    try {
+        const done = await program.run(['report', '--budget', budget], text);
+        if (mine === turn && !done) {
+            $('halted-text').textContent = `Stopped. What is shown is the report with a budget of ${QUICK.toLocaleString('en')}, in which ${questions} ${numbers.length === 1 ? 'is' : 'are'} open.`;
+            show('halted', true);
+            say('done, with an open question', 'open');
+        }
+        return done;
+    } finally {
+        clearInterval(clock);
+        if (mine === turn) show('progress', false);
+    }
+}
+
+function sayDone(done) {
+    const count = now.report.open.length;
+    say(count ? `done, with ${count} open ${count === 1 ? 'question' : 'questions'} (${spent(done)})` : `done (${spent(done)})`, count ? 'open' : 'good');
+}
+
+function showReport(text, certificate) {
+    const report = readReport(text);
+    now = { report, reactions: readReactions(certificate, report.complexes) };
+    markLine(null);
+    for (const id of ['stale', 'refusal']) show(id, false);
+    show('shown', true);
+    $('summary').textContent = summary(report);
+    $('conclusions').innerHTML = conclusionsView(report, data.conclusions);
+    $('lines').innerHTML = linesView(report, now.reactions, data.conclusions);
+    $('unfold').textContent = 'Unfold all';
+    $('report').textContent = text;
+    draw();
+}
+
+async function refuse(done, text, mine) {
+    const fault = done.status === 2 && readFault(textOf(done.out));
+    if (!fault) return say(STATUS[done.status] || `the program ended with status ${done.status}`, 'bad');
+    const lines = textOf(text).split('\n'), line = fault.line ? lines[fault.line - 1].replace(/\r$/, '') : '';
+    say(textOf(done.out).trim(), 'bad');
+    proposed = null;
+    markLine(fault.line);
+    $('refusal').innerHTML = refusalView(fault, line, null, data.cures);
+    show('refusal', true);
+    for (const meant of fault.line && line.length < 1000 ? candidates(data.cures, fault.code, line) : []) {
+        const tried = await helper.run(['certify', '--budget', '1'], bytesOf(meant));
+        if (mine !== turn) return;
+        if (tried && (tried.status <= 1 || /^refused 5 /.test(textOf(tried.out)))) {
+            proposed = { line: fault.line, text: meant };
+            $('refusal').innerHTML = refusalView(fault, line, meant, data.cures);
+            return;
+        }
+    }
+}
+
+function takeProposal() {
+    const lines = textOf(typed()).split('\n');
+    lines[proposed.line - 1] = proposed.text;
+    name = 'network';
+    setText(lines.join('\n'));
+    $('text').focus();
+}
+
+// ---- pictures
+
+let zoom = null; // how large the picture is drawn, or as it fits
+let drawn = null;
+
+const ruler = document.createElement('canvas').getContext('2d');
+const measure = text => {
+    ruler.font = '13px "DejaVu Sans Mono", ui-monospace, Menlo, Consolas, monospace';
+    return ruler.measureText(text).width;
+};
+
+function draw() {
+    const kind = document.querySelector('input[name=drawn]:checked').value;
+    const width = $('picture').clientWidth - 18;
+    drawn = (kind === 'complexes' ? complexPicture : speciesPicture)(now.report, now.reactions, measure, width);
+    $('picture').innerHTML = drawn.svg;
+    pointer.show(now.report, now.reactions);
+    zoom = null;
+    resize();
+    $('legend').textContent = kind === 'complexes'
+        ? 'Each box is a complex, each frame a linkage class. A double border, in green, marks a terminal strong class. An arrow with two tips is a reaction with its reverse.'
+        : 'Round: species. Square: reactions, by their numbers. An arrow ends at what a reaction makes; a dashed one is at a species that it both uses and makes. Numbers are amounts, if not 1.';
+}
+
+function resize() {
+    const fits = Math.min(1, ($('picture').clientWidth - 18) / drawn.width), scale = zoom ?? Math.max(fits, 0.75);
+    const image = $('picture').firstElementChild;
+    image.setAttribute('width', Math.round(drawn.width * scale));
+    image.setAttribute('height', Math.round(drawn.height * scale));
+    return scale;
+}
+
+function zoomBy(factor) {
+    zoom = Math.min(4, Math.max(0.1, resize() * factor));
+    resize();
+}
+
+// ---- certificates and samples
+
+const asked = new Map(); // which run on the side may still say something, by where it says it
+
+// Runs on the side. Says what is at work and for how long, and gives what was done; nothing if it was stopped, or if another
+// run took its place.
+async function aside(said, stop, words, text) {
+    const mine = (asked.get(said) || 0) + 1, began = performance.now();
+    asked.set(said, mine);
+    const tell = (words, mood = '') => {
+        if (asked.get(said) !== mine) return;
+        $(said).className = mood;
+        $(said).textContent = words;
+    };
+    tell('at work …');
+    show(stop, true);
+    const clock = setInterval(() => tell(`at work, ${seconds(began)} s so far`), 1000);
+    try {
+        const done = await helper.run(words, text);
+        if (!done) tell('stopped');
+        return asked.get(said) === mine ? done : null;
+    } catch (error) {
+        tell(`The program stopped: ${error.message}`, 'bad');
+        return null;
+    } finally {
+        clearInterval(clock);
+        if (asked.get(said) === mine) show(stop, false);
+    }
+}
+
+function sayCertified(text, mood) {
+    $('certified').className = mood;
+    $('certified').textContent = text;
+}
+
+async function certify() {
+    show('rejection', false);
+    show('save-certificate', false);
+    const text = typed(), done = await aside('certified', 'stop-certificate', ['certify', '--budget', $('budget').value], text);
+    if (!done) return;
+    if (done.status > 1) return sayCertified(done.status === 2 ? 'the text is refused, so there is nothing to certify' : STATUS[done.status], 'bad');
+    made = done.out;
+    show('save-certificate', true);
+    sayCertified(`made: ${made.length.toLocaleString('en')} bytes${done.status ? ', with open questions' : ''}`, done.status ? 'open' : 'good');
+}
+
+async function check(bytes) {
+    show('rejection', false);
+    show('save-certificate', false);
+    const done = await aside('certified', 'stop-certificate', ['check'], bytes);
+    if (!done) return;
+    const out = textOf(done.out), fault = done.status === 3 && readFault(out);
+    if (fault) {
+        sayCertified(out.trim(), 'bad');
+        $('rejection').innerHTML = rejectionView(fault, textOf(bytes).split('\n')[fault.line - 1] || '', data.rejections);
+        return show('rejection', true);
+    }
+    if (done.status !== 0) return sayCertified(STATUS[done.status] || `the program ended with status ${done.status}`, 'bad');
+    const document_ = textOf(bytes);
+    clearTimeout(waiting);
+    program.stop();
+    turn++;
+    $('text').value = networkIn(document_);
+    opened = null;
+    showNumbers();
+    for (const id of ['halted', 'progress', 'shared']) show(id, false);
+    showReport(out, document_);
+    say('as the certificate says', 'good');
+    sayCertified('the certificate is good; its network and its report are shown', 'good');
+}
+
+async function trySample() {
+    show('sampled', true);
+    const done = await aside('sampled', 'stop-sample', ['sample', $('steps').value], new Uint8Array(0));
+    if (done) $('sampled').textContent = done.status === 4 ? 'a sample has 1 to 19 steps' : textOf(done.out) || STATUS[done.status];
+}
+
+// ---- files, links, examples
+
+function save(file, bytes, type = 'text/plain') {
+    const link = document.createElement('a');
+    link.href = URL.createObjectURL(new Blob([bytes], { type }));
+    link.download = file;
+    link.click();
+    setTimeout(() => URL.revokeObjectURL(link.href), 10000);
+}
+
+async function openFile(file) {
+    const bytes = new Uint8Array(await file.arrayBuffer());
+    if (textOf(bytes.subarray(0, 16)) === 'crn certificate ') return check(bytes);
+    name = file.name.replace(/\.\w+$/, '') || 'network';
+    const kept = bytes.subarray(0, MOST_TEXT);
+    setText(textOf(kept), kept);
+}
+
+function share() {
+    const text = textOf(typed());
+    show('shared', true);
+    if (text.length > 100000) {
+        $('link').value = '';
+        $('copied').textContent = 'This text is too long for a link.';
+        return;
+    }
+    const { href } = new URL(`#text=${encodeURIComponent(text)}`, location.href);
+    $('link').value = href;
+    $('link').select();
+    copyTo(href, 'copied', 'The link is copied.', 'Copy the link from here.');
+}
+
+function copyTo(text, said, done, failed) {
+    const tell = words => { $(said).textContent = words; };
+    if (!navigator.clipboard) return tell(failed);
+    navigator.clipboard.writeText(text).then(() => tell(done), () => tell(failed));
+}
+
+// What the address asks for after its `#`: a text, or an example.
+function fromLink() {
+    const asked = new URLSearchParams(location.hash.slice(1));
+    if (asked.has('budget')) $('budget').value = asked.get('budget');
+    if (asked.has('text')) { name = 'network'; setText(asked.get('text')); return true; }
+    const example = data.examples.find(one => one.name === asked.get('example'));
+    if (example) take(example);
+    return Boolean(example);
+}
+
+function take(example) {
+    name = example.name;
+    setText(example.text);
+}
+
+function listExamples() {
+    const wanted = $('find').value.toLowerCase();
+    const found = data.examples.filter(one => `${one.title} ${one.says}`.toLowerCase().includes(wanted));
+    $('list').innerHTML = found.map(one => `<li><button data-example="${escaped(one.name)}"><b>${escaped(one.title)}</b>${escaped(one.says)}</button></li>`).join('') || '<li>No example has these words.</li>';
+}
+
+// ---- what is where
+
+const pointer = new Pointer($('picture'), $('pointed'));
+let orders = 0;
+
+function wire() {
+    const on = (id, event, act) => $(id).addEventListener(event, act);
+    on('text', 'input', () => { opened = null; name = 'network'; orders = 0; changed(); });
+    on('text', 'scroll', follow);
+    on('text', 'keydown', event => { if (event.key === 'Enter' && (event.ctrlKey || event.metaKey)) { event.preventDefault(); read(); } });
+    on('budget', 'change', read);
+    on('stop', 'click', () => program.stop());
+    on('go-on', 'click', read);
+    on('choose', 'click', () => { $('find').value = ''; listExamples(); $('examples').showModal(); });
+    on('find', 'input', listExamples);
+    on('close', 'click', () => $('examples').close());
+    on('list', 'click', event => {
+        const button = event.target.closest('[data-example]');
+        if (!button) return;
+        $('examples').close();
+        take(data.examples.find(one => one.name === button.dataset.example));
+    });
+    for (const [id, act] of [['open', openFile], ['check', async file => check(new Uint8Array(await file.arrayBuffer()))]]) {
+        on(id, 'change', event => {
+            const [file] = event.target.files;
+            if (file) act(file);
+            event.target.value = '';
+        });
+    }
+    on('share', 'click', share);
+    on('refusal', 'click', event => { if (event.target.id === 'take') takeProposal(); });
+    on('certify', 'click', certify);
+    on('save-certificate', 'click', () => save(`${name}.cert`, made));
+    on('sample', 'click', trySample);
+    for (const id of ['stop-certificate', 'stop-sample']) on(id, 'click', () => helper.stop());
+    on('lines', 'click', event => {
+        const { budget, reorder } = event.target.dataset;
+        if (budget) { $('budget').value = budget; read(); }
+        if (reorder !== undefined) { setText(reordered($('text').value, orders++)); }
+    });
+    on('unfold', 'click', () => {
+        const open = $('unfold').textContent === 'Unfold all';
+        for (const line of $('lines').querySelectorAll('.verdict')) line.open = open;
+        $('unfold').textContent = open ? 'Fold all' : 'Unfold all';
+    });
+    on('copy', 'click', () => copyTo($('report').textContent, 'said-copy', 'Copied.', 'This browser does not let the page copy; select the text.'));
+    on('save-report', 'click', () => save(`${name}.report`, $('report').textContent));
+    on('save-picture', 'click', () => save(`${name}.svg`, drawn.svg.replace('<defs>', `<style>${PRINTED}</style><defs>`), 'image/svg+xml'));
+    on('smaller', 'click', () => zoomBy(1 / 1.25));
+    on('larger', 'click', () => zoomBy(1.25));
+    on('fit', 'click', () => { zoom = Math.min(1, ($('picture').clientWidth - 18) / drawn.width); resize(); });
+    for (const radio of document.querySelectorAll('input[name=drawn]')) radio.addEventListener('change', draw);
+    document.addEventListener('dragover', event => event.preventDefault());
+    document.addEventListener('drop', event => {
+        event.preventDefault();
+        if (event.dataTransfer.files[0]) openFile(event.dataTransfer.files[0]);
+    });
+    addEventListener('hashchange', fromLink);
+}
+
+function start() {
+    const module = moduleBytes();
+    if (!Program.serves(module)) {
+        $('unable').textContent = 'This browser cannot run the program: it lacks a part of WebAssembly, or workers. Firefox 98, Chrome or Edge 85, Safari 15.4 and later versions have them.';
+        return;
+    }
+    [program, helper] = [new Program(module), new Program(module)];
+    show('unable', false);
+    document.querySelector('main').hidden = false;
+    wire();
+    if (!fromLink()) take(data.examples.find(one => one.name === 'two_site_futile_cycle'));
+}
+
+start();

@@ -1,0 +1,246 @@
+// Tests of the page that it makes by itself, in whatever browser opens it: `jobs` has what the program on a machine wrote. It
+// runs in the page, after the page's own script, whose names it uses.
+
+const bytesIn = coded => Uint8Array.from(atob(coded), mark => mark.charCodeAt(0));
+const verdictLines = report => report.split('\n').filter(line => /^Q\d/.test(line)).map(line => line.replace(/^(Q\d+ [a-z ]+): /, '$1|'));
+
+class Test {
+    passed = 0; failed = [];
+
+    expect(name, holds, more = '') {
+        if (holds) this.passed++;
+        else this.failed.push(`${name} ${String(more).slice(0, 300)}`);
+    }
+
+    // Each group of tests by itself, so that one that throws is told like one that fails.
+    async group(name, tests) {
+        try { await tests(); } catch (error) { this.expect(name, false, `threw ${error.message}`); }
+    }
+}
+
+async function waitFor(holds, milliseconds = 60000) {
+    const end = performance.now() + milliseconds;
+    while (!holds()) {
+        if (performance.now() > end) throw new Error(`waited in vain: ${holds}`);
+        await new Promise(resolve => setTimeout(resolve, 10));
+    }
+}
+
+// Hands the page a text as if typed, or the bytes of a file, and waits until it is read.
+async function enter(text, bytes = null) {
+    setText(text, bytes);
+    clearTimeout(waiting);
+    await read();
+}
+
+const boxesOf = selector => [...$('picture').querySelectorAll(selector)].map(node => node.querySelector('.box').getBBox());
+const overlaps = boxes => boxes.reduce((count, a, i) => count + boxes.slice(i + 1).filter(b => a.x < b.x + b.width && b.x < a.x + a.width && a.y < b.y + b.height && b.y < a.y + a.height).length, 0);
+
+function pick(kind) {
+    const radio = document.querySelector(`input[name=drawn][value=${kind}]`);
+    if (!radio.checked) radio.click();
+}
+
+async function testExample(test, { name, text, report, titles, reactions }) {
+    await enter(text);
+    test.expect(`the report of ${name}`, $('report').textContent === report, $('report').textContent);
+    const shown = [...$('lines').querySelectorAll('summary')].map(line => [...line.children].map(part => part.textContent).join('|'));
+    test.expect(`the lines of ${name}`, JSON.stringify(shown) === JSON.stringify(verdictLines(report)), shown);
+    const heads = [...$('conclusions').querySelectorAll('h3')].map(head => head.textContent);
+    test.expect(`what follows for ${name}`, JSON.stringify([...heads].sort()) === JSON.stringify([...titles].sort()), heads);
+    test.expect(`each line of ${name} has evidence or says what does not follow`, [...$('lines').querySelectorAll('.inside')].every(inside => inside.textContent.trim()));
+    const numbers = list => new Set([...list].flatMap(part => part.dataset.reactions.split(' ')));
+    pick('complexes');
+    test.expect(`the complexes of ${name}`, $('picture').querySelectorAll('[data-complex]').length === now.report.complexes.length);
+    test.expect(`the classes of ${name}`, $('picture').querySelectorAll('.frame').length === now.report.classes.length);
+    test.expect(`the reactions of ${name}`, numbers($('picture').querySelectorAll('.edge')).size === reactions);
+    const terminal = now.report.strong.filter(strong => strong.terminal).flatMap(strong => strong.members).length;
+    test.expect(`the terminal classes of ${name}`, $('picture').querySelectorAll('.terminal').length === terminal);
+    test.expect(`no complex of ${name} lies on another`, overlaps(boxesOf('.node')) === 0);
+    pick('species');
+    test.expect(`the species of ${name}`, $('picture').querySelectorAll('[data-species]').length === now.report.species.length);
+    test.expect(`the reactions of ${name} between species`, numbers($('picture').querySelectorAll('.reaction')).size === reactions);
+    test.expect(`no species of ${name} lies on another`, overlaps(boxesOf('.node')) === 0);
+    for (const part of $('picture').querySelectorAll('.part')) {
+        part.dispatchEvent(new Event('click', { bubbles: true }));
+        if (!$('pointed').querySelector('.title') || /undefined|NaN|null/.test($('pointed').textContent)) test.expect(`what is told in ${name}`, false, $('pointed').textContent);
+    }
+    pick('complexes');
+    for (const part of $('picture').querySelectorAll('.part')) {
+        part.dispatchEvent(new Event('click', { bubbles: true }));
+        if (!$('pointed').querySelector('.title') || /undefined|NaN|null/.test($('pointed').textContent)) test.expect(`what is told in ${name}`, false, $('pointed').textContent);
+    }
+    test.expect(`nothing is missing in the words of ${name}`, !/undefined|NaN|null/.test($('shown').textContent.replace(report, '')));
+}
+
+async function testRefusal(test, { name, text, line }) {
+    const bytes = bytesIn(text);
+    await enter(textOf(bytes), bytes);
+    test.expect(`the refusal of ${name}`, $('status').textContent === line.trim(), $('status').textContent);
+    const at = Number(/line (\d+)/.exec(line)[1]);
+    test.expect(`its line is marked: ${name}`, $('stripe').hidden === !at && (!at || $('stripe').dataset.line === String(at)));
+    test.expect(`what it means is said: ${name}`, !$('refusal').hidden && $('refusal').textContent.length > 20 && $('text').getAttribute('aria-invalid') === 'true');
+    if (!$('take') || !at) return;
+    const meant = proposed.text;
+    $('take').click();
+    clearTimeout(waiting);
+    await read();
+    test.expect(`the proposal is accepted: ${name}`, $('text').value.split('\n')[at - 1] === meant && !$('status').textContent.endsWith(`at line ${at}`), `${meant}: ${$('status').textContent}`);
+}
+
+async function testCertificates(test, { examples, damaged }) {
+    const saved = [];
+    const save_ = save;
+    save = (file, bytes) => saved.push([file, typeof bytes === 'string' ? bytes : textOf(bytes)]);
+    for (const { name, text, certificate, report } of examples) {
+        await enter(text);
+        await certify();
+        $('save-certificate').click();
+        const [, kept] = saved.pop() || [];
+        test.expect(`the certificate of ${name}`, kept === textOf(bytesIn(certificate)));
+        await enter('A -> B');
+        await check(bytesIn(certificate));
+        test.expect(`it is checked: ${name}`, /the certificate is good/.test($('certified').textContent) && $('report').textContent === report, $('certified').textContent);
+    }
+    save = save_;
+    for (const { name, text, line } of damaged) {
+        await check(bytesIn(text));
+        test.expect(`it is rejected: ${name}`, $('certified').textContent === line.trim() && !$('rejection').hidden, `${$('certified').textContent} for ${line}`);
+        test.expect(`why is said: ${name}`, $('rejection').querySelector('li') !== null, $('rejection').textContent);
+    }
+}
+
+async function testSearch(test, { text, quick, whole, order }) {
+    $('budget').value = '100000';
+    const searched = enter(text);
+    await waitFor(() => !$('progress').hidden);
+    test.expect('a long search says what it looks for', /^Searching for question.*100,000 visits each, \d+ s so far/.test($('at-work').textContent), $('at-work').textContent);
+    test.expect('what is known is shown meanwhile', $('report').textContent === quick);
+    $('stop').click();
+    await searched;
+    test.expect('a search is stopped', !$('halted').hidden && /^Stopped/.test($('halted-text').textContent) && $('progress').hidden);
+    test.expect('its questions are open', /with an open question/.test($('status').textContent) && $('report').textContent === quick, $('status').textContent);
+    $('go-on').click();
+    await waitFor(() => $('progress').hidden && $('report').textContent === whole, 120000);
+    test.expect('it goes on', $('halted').hidden && /^done/.test($('status').textContent), $('status').textContent);
+    const again = enter(text);
+    await waitFor(() => !$('progress').hidden);
+    await enter('A <-> B');
+    await again;
+    test.expect('another text ends a search', /^species 2: A B$/m.test($('report').textContent) && $('progress').hidden && $('halted').hidden);
+    const making = certify();
+    await waitFor(() => !$('stop-certificate').hidden);
+    $('stop-certificate').click();
+    await making;
+    test.expect('the making of a certificate is stopped', $('certified').textContent === 'stopped' && $('stop-certificate').hidden, $('certified').textContent);
+    $('budget').value = '20000';
+    await enter(order.text);
+    const advice = [...$('lines').querySelectorAll('[data-reorder]')];
+    test.expect('an open question says what to try', advice.length > 0 && $('lines').querySelector('[data-budget]') !== null);
+    advice[0].click();
+    clearTimeout(waiting);
+    await read();
+    test.expect('another order answers it', $('report').textContent.endsWith('open: 0\n'), $('status').textContent);
+    test.expect('the lines are the same in another order', [...$('text').value.trim().split('\n')].sort().join() === [...order.text.trim().split('\n')].sort().join());
+}
+
+async function testWords(test, { samples, reports }) {
+    for (const { budget, text, report } of reports) {
+        $('budget').value = budget;
+        await enter(text);
+        test.expect(`the budget ${budget}`, report === null ? /from 1 to 100,000/.test($('status').textContent) : $('report').textContent === report, $('status').textContent);
+    }
+    $('budget').value = '20000';
+    for (const { steps, out } of samples) {
+        $('steps').value = steps;
+        await trySample();
+        test.expect(`the sample ${steps}`, out === null ? /1 to 19/.test($('sampled').textContent) : $('sampled').textContent === out, $('sampled').textContent);
+    }
+}
+
+async function testFiles(test, { files }) {
+    const give = (id, bytes, name) => {
+        const list = new DataTransfer();
+        list.items.add(new File([bytes], name));
+        $(id).files = list.files;
+        $(id).dispatchEvent(new Event('change'));
+    };
+    for (const { name, text, said } of files) {
+        const before = turn;
+        document.body.dataset.done = '';
+        give('open', bytesIn(text), 'a.crn');
+        await waitFor(() => turn > before && document.body.dataset.done === String(turn));
+        const shown = said.startsWith('refused') ? $('status').textContent : $('report').textContent.trim();
+        test.expect(`the file ${name}`, shown === said.trim(), shown);
+    }
+}
+
+// Whatever is opened, the page says what the program says of it.
+async function testBytes(test, { bytes }) {
+    for (const { name, text, said, rejected } of bytes) {
+        await enter(textOf(bytesIn(text)), bytesIn(text));
+        const shown = said.startsWith('refused') ? $('status').textContent : $('report').textContent.trim();
+        test.expect(`the bytes ${name}`, shown === said.trim(), shown);
+        await check(bytesIn(text));
+        test.expect(`the bytes ${name} as a certificate`, $('certified').textContent === rejected.trim() && !$('rejection').hidden, $('certified').textContent);
+    }
+    await enter('A -> \ud800 B');
+    test.expect('half a character', $('status').textContent === 'refused 11 NotAscii at line 1', $('status').textContent);
+    await openFile(new File(['crn certificate 2\nnetwork 1\nA -> \n'], 'a.txt'));
+    test.expect('a certificate is opened as one', /^rejected \d+ /.test($('certified').textContent), $('certified').textContent);
+}
+
+// A module whose one call stops at once, as if the program had a fault.
+const STOPS = Uint8Array.of(0, 0x61, 0x73, 0x6d, 1, 0, 0, 0, 1, 12, 1, 0x60, 7, 0x7e, 0x7e, 0x7e, 0x7e, 0x7e, 0x7e, 0x7e, 1, 0x7f, 3, 2, 1, 0, 5, 3, 1, 0, 1,
+    7, 25, 2, 6, ...bytesOf('memory'), 2, 0, 12, ...bytesOf('crn_page_run'), 0, 0, 10, 5, 1, 3, 0, 0, 11);
+
+async function testStops(test) {
+    const kept = [program, helper];
+    [program, helper] = [new Program(STOPS), new Program(STOPS)];
+    await enter('A -> B');
+    test.expect('a program that stops is told of', /^The program stopped: /.test($('status').textContent) && !$('stale').hidden, $('status').textContent);
+    await certify();
+    test.expect('and so where a certificate is made', /^The program stopped: /.test($('certified').textContent), $('certified').textContent);
+    [program, helper] = kept;
+    await enter('A -> B');
+    test.expect('and the page goes on', /^done/.test($('status').textContent), $('status').textContent);
+}
+
+async function testLinks(test) {
+    const text = '# ü + & = % #\nA + B <-> 2C -> 0\n';
+    await enter(text);
+    share();
+    const link = $('link').value;
+    test.expect('a link to the network', link.includes('#text=') && !$('shared').hidden, link);
+    await enter('A -> B');
+    location.hash = new URL(link).hash;
+    await waitFor(() => $('text').value === text);
+    clearTimeout(waiting);
+    await read();
+    test.expect('it leads to the network', /^reactions 3$/m.test($('report').textContent));
+    const image = drawn.svg.replace('<defs>', `<style>${PRINTED}</style><defs>`);
+    const parsed = new DOMParser().parseFromString(image, 'image/svg+xml');
+    test.expect('a saved picture is SVG', parsed.documentElement.localName === 'svg' && !parsed.querySelector('parsererror'));
+}
+
+async function selftest(jobs) {
+    const test = new Test(), begun = performance.now();
+    await waitFor(() => document.body.dataset.done);
+    for (const example of jobs.examples) await test.group(example.name, () => testExample(test, example));
+    for (const refused of jobs.refused) await test.group(refused.name, () => testRefusal(test, refused));
+    await test.group('certificates', () => testCertificates(test, jobs));
+    await test.group('searches', () => testSearch(test, jobs.search));
+    await test.group('words', () => testWords(test, jobs));
+    await test.group('files', () => testFiles(test, jobs));
+    await test.group('bytes', () => testBytes(test, jobs));
+    await test.group('links', () => testLinks(test));
+    await test.group('a program that stops', () => testStops(test));
+    const said = `selftest: ${test.passed} passed, ${test.failed.length} failed, in ${Math.round((performance.now() - begun) / 1000)} s, by ${navigator.userAgent}`;
+    document.body.innerHTML = '<pre id="said"></pre>';
+    document.getElementById('said').textContent = [said, ...test.failed].join('\n');
+    document.title = said;
+    // Firefox writes what is dumped to its standard output, if its profile says so.
+    if (window.dump) for (const failed of test.failed) dump(`FAILED ${failed}\n`);
+    if (window.dump) dump(`${said}\n`);
+    return { said, passed: test.passed, failed: test.failed };
+}
