@@ -4,6 +4,7 @@
 The `rt` there writes down each call, fails if a file says so, and copies the program to where the real one lies.
 """
 
+import hashlib
 import os
 import pty
 import re
@@ -25,7 +26,15 @@ RT = """#!/bin/sh
 if [ "$1" = version ]; then echo version >>"$CALLS"; echo "toolchain $VERSION"; exit; fi
 echo "$(basename "$PWD") $*" >>"$CALLS"
 echo "what rt says"
-if [ -e "$PWD/broken" ]; then exit 1; fi
+if [ -e "$PWD/src/broken" ]; then exit 1; fi
+if [ "$1" = ci ]; then
+    for name in crates/*; do
+        if [ -e "$name/src/broken" ]; then exit 1; fi
+        echo "rt: $(basename "$name") proved"
+    done
+    mkdir -p crates/crnt/out && cp "$PROGRAM" crates/crnt/out/crnt
+    exit
+fi
 if [ "$1" = run ]; then mkdir -p out; cp "$PROGRAM" out/crnt; shift 2; exec out/crnt "$@"; fi
 """
 
@@ -50,7 +59,8 @@ middle: low clap # a library of the kit
 crnt status=4: middle
 """
 
-BUILD = ["version", "low lib", "middle lib", "crnt run -- build"]
+BUILD = ["version", "repository ci"]
+OVER_KEPT_WORK = ["version", "low lib", "middle lib", "crnt run -- build"]
 
 
 def put_script(path, text):
@@ -69,8 +79,17 @@ class Repository:
             for kind in ["src", "specs"]:
                 (self.root / "crates" / name / kind).mkdir(parents=True)
             self.source(name).write_text("")
+        for kind in ["specs", "proofs"]:
+            (self.root / "crates" / "low" / kind).mkdir(exist_ok=True)
+            (self.root / "crates" / "low" / kind / "Lib.antt").write_text("")
         (self.root / "crates.txt").write_text(CRATES)
+        (self.root / "HANDLES").write_text("Handles allowed: none.\n")
         shutil.copy(ROOT / "crnt", self.root / "crnt")
+        (self.root / "release").mkdir()
+        for name in ["build", "crates", "sum"]:
+            shutil.copy(ROOT / "release" / name, self.root / "release" / name)
+        (self.root / "checks").mkdir()
+        shutil.copy(ROOT / "checks" / "release", self.root / "checks" / "release")
         self.tools.mkdir()
         put_script(self.tools / "rt", RT)
         put_script(folder / "program", PROGRAM)
@@ -132,6 +151,7 @@ def tries(repository, folder):
     yield from toolchains(repository, folder)
     yield from copies(repository, folder)
     yield from terminals(repository)
+    yield from ships(repository, folder)
     yield from failures(repository, folder)
 
 
@@ -141,8 +161,9 @@ QUIET = (3, b"text", "", [])
 def builds(repository, folder):
     status, out, err, calls = repository.run(["report"])
     yield "builds a program that is missing, the lowest crate first", calls == BUILD, calls
-    yield "says how many crates are proved", "3 crates are proved once" in err, err
-    yield "says which crate is being proved", "crnt: proving middle (2 of 3)" in err and "what rt says" not in err, err
+    yield "says how many crates are proved", "3 crates are proved and a program is built" in err, err
+    yield "says which crates are proved, and how many are left", \
+        "crnt: low is proved, 1 to go\ncrnt: middle is proved, 0 to go\n" in err and "what rt says" not in err, err
     yield "hands on streams and status", (status, out) == (3, b"text"), (status, out)
 
     seen = repository.run(["report"])
@@ -182,6 +203,152 @@ def builds_again(repository):
     (repository.root / "crates" / "crnt" / "out" / "built").unlink()
     _, _, _, calls = repository.run(["report"])
     yield "builds if nothing says how the program was built", calls == BUILD, calls
+
+
+def ships(repository, folder):
+    """The repository ships a program of its sources."""
+    seen = gate_compares(repository)
+    yield "the gate finds that no program is shipped", seen[0] == 1, seen
+    gate_compares(repository, "--write")
+    seen = gate_compares(repository)
+    yield "the gate finds what was written", seen == (0, "release: 3 passed, 0 failed\n"), seen
+    program = Path(repository.environment["PROGRAM"])
+    was = program.read_text()
+    program.write_text(f"{was}\n# other bytes\n")
+    seen = gate_compares(repository)
+    yield "the gate finds that another program was built", seen[0] == 1 and "checks/release --write" in seen[1], seen
+    version = repository.environment["VERSION"]
+    repository.environment["VERSION"] = "another"
+    seen = gate_compares(repository)
+    good = seen[0] == 0 and seen[1].endswith("release: 2 passed, 0 failed, 1 skipped\n") and "toolchain another" in seen[1]
+    yield "the gate compares no bytes of two toolchains, and says so", good, seen
+    repository.environment["VERSION"] = version
+    program.write_text(was)
+    repository.age()
+    yield from ships_at_once(repository, folder)
+    yield from ships_its_sources_alone(repository)
+    yield from refusals(repository, folder)
+    shutil.rmtree(repository.root / "crates" / "crnt" / "out")
+    for name in [SHIPPED, "built"]:
+        (repository.root / "release" / name).unlink()
+    repository.run(["report"])
+
+
+SHIPPED = "crnt-x86_64-linux-gnu"
+AT_ONCE = (3, b"text", "", ["version"])
+
+
+def gate_compares(repository, *words):
+    """The status and the output of checks/release over the program that rt would have built."""
+    done = subprocess.run([repository.root / "checks" / "release", *words, repository.environment["PROGRAM"]],
+                          capture_output=True, env=repository.environment, timeout=SECONDS)
+    return done.returncode, done.stdout.decode()
+
+
+def run_fresh(repository, **changes):
+    """What a run gives where nothing has been built."""
+    shutil.rmtree(repository.root / "crates" / "crnt" / "out", ignore_errors=True)
+    return repository.run(["report"], **changes)
+
+
+def without_toolchain(folder):
+    """A path with the common tools of Unix and no rt."""
+    bare = folder / "common tools alone"
+    if not bare.is_dir():
+        bare.mkdir()
+        for tool in ["awk", "cat", "chmod", "cp", "cut", "dirname", "find", "ls", "mkdir", "mv", "rm", "sed", "sha256sum", "sort",
+                     "touch", "tr", "uname", "xargs"]:
+            (bare / tool).symlink_to(shutil.which(tool))
+    return str(bare)
+
+
+def ships_at_once(repository, folder):
+    """The shipped program answers with nothing built, with a toolchain and without."""
+    out = repository.root / "crates" / "crnt" / "out"
+    seen = run_fresh(repository)
+    yield "runs the shipped program with nothing built", seen == AT_ONCE, seen
+    seen = repository.run(["report"])
+    yield "then runs a copy of it at once", seen == QUIET and (out / "crnt").is_file(), seen
+    seen = run_fresh(repository, PATH=without_toolchain(folder))
+    yield "needs no toolchain for it", seen == QUIET, seen
+    seen = repository.run(["report"], PATH=without_toolchain(folder))
+    yield "needs none the next time", seen == QUIET, seen
+    seen = repository.run(["report"])
+    yield "asks a toolchain that has come for its version", seen == AT_ONCE, seen
+    shutil.rmtree(out)
+    out.write_text("no folder")
+    seen = repository.run(["report"])
+    yield "runs it where it is if nothing can be written", seen == QUIET, seen
+    out.unlink()
+
+
+def ships_its_sources_alone(repository):
+    """The shipped program runs as long as it and its sources are as they were."""
+    for what, path, changed in [("a source", "crates/low/src/lib.rt", "changed"), ("a definition", "crates/low/specs/Lib.antt", "changed"),
+                                ("a proof", "crates/low/proofs/Lib.antt", "changed"), ("a new file", "crates/low/specs/New.antt", ""),
+                                ("the list of crates", "crates.txt", CRATES.replace("clap", "")), ("the handles", "HANDLES", "")]:
+        file = repository.root / path
+        was = file.read_text() if file.exists() else None
+        file.write_text(changed)
+        _, _, err, calls = run_fresh(repository)
+        yield f"builds if {what} is not that of the shipped program", calls == BUILD and "of other sources" in err, (calls, err)
+        seen = gate_compares(repository)
+        yield f"the gate finds that {what} has changed", seen[0] == 1 and "checks/release --write" in seen[1], seen
+        file.unlink()
+        if was is not None:
+            file.write_text(was)
+        seen = run_fresh(repository)
+        yield f"runs the shipped program again once {what} is as it was", seen == AT_ONCE, seen
+    repository.source("aside").write_text("// no crate of the program")
+    seen = run_fresh(repository)
+    yield "runs it though a crate has changed that the program does not depend on", seen == AT_ONCE, seen
+
+
+def refusals(repository, folder):
+    """Why the shipped program may not run. With a toolchain one is built; without it the launcher says why, and what is missing."""
+    shipped = repository.root / "release" / SHIPPED
+    built = repository.root / "release" / "built"
+    was, lines = shipped.read_text(), built.read_text().splitlines()
+    bare = without_toolchain(folder)
+
+    def tool_that(name, body):
+        only = folder / f"another {name}"
+        only.mkdir(exist_ok=True)
+        put_script(only / name, f"#!/bin/sh\n{body}\n")
+        return only
+
+    def refused(what, reason, first=None):
+        """Tries it with a toolchain and without; `first` is a folder that comes first on the path."""
+        path = "" if first is None else f"{first}:"
+        _, _, err, calls = run_fresh(repository, PATH=path + repository.path)
+        yield f"builds if {what}", calls == BUILD and reason in err, (calls, err)
+        status, out, err, calls = run_fresh(repository, PATH=path + bare)
+        said = reason in err and "its command rt is not on the path" in err
+        seen = (status, out, calls, said)
+        yield f"ends with 70 if {what} and there is no toolchain", seen == (70, b"", [], True), (seen, err)
+
+    source = repository.source("low").read_text()
+    repository.source("low").write_text("changed")
+    yield from refused("the shipped program is stale", "of other sources")
+    repository.source("low").write_text(source)
+    arm = tool_that("uname", "echo Linux aarch64")
+    yield from refused("the processor is another", "needs Linux on x86-64, and this is Linux aarch64", arm)
+    unreadable = tool_that("sha256sum", 'echo "sha256sum: a source: Permission denied" >&2; exit 1')
+    yield from refused("the sources cannot be read", "the sources or the shipped program cannot be read", unreadable)
+    shipped.unlink()
+    yield from refused("the shipped program is not there", "the sources or the shipped program cannot be read")
+    put_script(shipped, was + "# another byte\n")
+    yield from refused("the shipped program is another", "not the one that release/built names")
+    seen = gate_compares(repository)
+    yield "the gate finds another program", seen[0] == 1 and "release/ is not" in seen[1], seen
+    put_script(shipped, "#!/bin/sh\necho \"version 'GLIBC_2.34' not found\" >&2\nexit 1\n")
+    sum_of = hashlib.sha256(shipped.read_bytes()).hexdigest()
+    built.write_text("\n".join([lines[0], sum_of, lines[2]]) + "\n")
+    reason = "needs the GNU C library 2.34 or later, and does not run here (version 'GLIBC_2.34' not found)"
+    yield from refused("the C library is too old", reason)
+    built.write_text(lines[0] + "\n")
+    _, _, _, calls = run_fresh(repository)
+    yield "builds if the record of the shipped program is cut short", calls == BUILD, calls
 
 
 def doubts(repository, folder):
@@ -319,14 +486,21 @@ def searches(repository):
 def failures(repository, folder):
     repository.age()
     repository.source("low").write_text("changed")
-    broken = repository.root / "crates" / "middle" / "broken"
-    broken.write_text("")
-    status, out, err, calls = repository.run(["report"])
-    yield "ends with 70 if a crate is not proved", (status, out, calls) == (70, b"", BUILD[:3]), (status, out, calls)
-    yield "shows the log of what failed", "middle was not proved" in err and "what rt says" in err, err
-    broken.unlink()
-    status, _, _, calls = repository.run(["report"])
-    yield "tries again after a failure", (status, calls) == (3, BUILD), (status, calls)
+    broken = repository.root / "crates" / "middle" / "src" / "broken"
+    kept = repository.root / "crates" / "low" / "out" / "incremental"
+    for is_kept, wanted, said in [(False, BUILD, "was not built"), (True, OVER_KEPT_WORK, "middle was not proved")]:
+        if is_kept:
+            kept.mkdir(parents=True)
+            repository.source("low").write_text("changed over kept work")
+        broken.write_text("")
+        status, out, err, calls = repository.run(["report"])
+        yield "ends with 70 if a crate is not proved", (status, out, calls) == (70, b"", wanted[:3]), (status, out, calls)
+        yield "shows the log of what failed", said in err and "what rt says" in err, err
+        broken.unlink()
+        status, _, err, calls = repository.run(["report"])
+        yield "tries again after a failure", (status, calls) == (3, wanted), (status, calls)
+    yield "says which crate is being proved over kept work", "crnt: proving middle (2 of 3)" in err, err
+    shutil.rmtree(kept)
 
     shutil.rmtree(repository.root / "crates" / "crnt" / "out")
     bare = folder / "bare"
