@@ -2,9 +2,8 @@
 """Reads the documents and the crates.
 
 The documents: their links lead somewhere, the definitions and contracts that they name are there, the reports that they
-show are stored reports, README explains each line of the one that it shows first, what they count is as many as they
-say, and they cite nothing that is not in the repository. The definitions pages name every
-definition that a public contract reaches. The crates: what one may cite of another, the lines of clauses, and who may
+show are stored reports, what they count is as many as they say, they have no more words than their budget, and they cite
+nothing that is not in the repository. The definitions pages name every definition that a public contract reaches. The crates: what one may cite of another, the lines of clauses, and who may
 depend on whom (`structure.py`)."""
 
 import re
@@ -16,6 +15,8 @@ from sources import Repository
 from tally import Tally
 
 ROOT = Path(__file__).resolve().parent.parent
+MOST_README = 1_500
+MOST_WORDS = 62_000
 
 LINK = re.compile(r"\]\(([^)#:]+)(?:#[^)]*)?\)")
 REPORT = re.compile(r"^```\n(crn report 1\n.*?)^```", re.MULTILINE | re.DOTALL)
@@ -53,9 +54,9 @@ def document_claims(repository, document, text, reports):
         yield f"no citation of {citation}", False
 
 
-def contracts_are_there(repository, readme):
-    """What the table of what is proved names is in its crate, or in one of its crates."""
-    for line in readme.splitlines():
+def contracts_are_there(repository, proved):
+    """What the tables of what is proved name is in its crate, or in one of its crates."""
+    for line in proved.splitlines():
         cells = [cell.strip() for cell in line.strip().strip("|").split("|")]
         is_row = line.startswith("|") and len(cells) == 3 and re.fullmatch(r"`crn_\w+`(?:, `crn_\w+`)*", cells[1])
         crates = re.findall(r"crn_\w+", cells[1]) if is_row else []
@@ -65,22 +66,18 @@ def contracts_are_there(repository, readme):
             yield f"{' or '.join(crates)} has {name}", any(is_defined(repository, file, own) for file in files)
 
 
-def lines_are_explained(readme):
-    """Each line of the report that is shown first, but for the indented ones, has its row in the table below it, in order."""
-    [report, *_] = REPORT.findall(readme) or [""]
-    lines = [line for line in report.splitlines() if not line.startswith(" ")]
-    below = readme.partition(report)[2] if report else ""
-    rows = re.findall(r"^\| `([^`]+)` \| .* \|$", below.partition("\n\n## ")[0], re.MULTILINE)
-    for at, line in enumerate(lines):
-        yield f"{line!r} is explained", at < len(rows) and rows[at] == line
-    yield "no other line is explained", len(rows) <= len(lines)
+def words_are_few(root, documents):
+    """README and all documents together have at most as many words as they may."""
+    words = {document: len(document.read_text().split()) for document in documents}
+    readme, total = words[root / "README.md"], sum(words.values())
+    yield f"README has {readme} words, at most {MOST_README}", readme <= MOST_README
+    yield f"the documents have {total} words, at most {MOST_WORDS}", total <= MOST_WORDS
 
 
 def numbers_are_counted(root, documents):
-    """The wrong programs and the example networks are as many as the documents say."""
+    """The example networks are as many as the documents say."""
     counts = {
-        r"(\d+) wrong programs under": len([*root.glob("crates/*/must-fail/*.edit")]),
-        r"(\d+) (?:networks of examples/networks|networks with their reports)": len([*root.glob("examples/networks/*.crn")]),
+        r"(\d+) networks (?:of examples/networks|with their reports)": len([*root.glob("examples/networks/*.crn")]),
         r"Of the (\d+) files": len([*root.glob("examples/networks/*.crn")]),
     }
     for document in documents:
@@ -91,21 +88,22 @@ def numbers_are_counted(root, documents):
 
 def claims(root):
     """All that is asked: where, what, and whether it holds."""
-    documents = sorted([*root.glob("*.md"), *root.glob("docs/**/*.md"), *root.glob("examples/**/*.md")])
+    folders = ["*.md", "docs/**/*.md", "examples/**/*.md", "benches/*.md", "companions/**/*.md", "page/*.md"]
+    documents = sorted(document for folder in folders for document in root.glob(folder))
     reports = {path.read_text() for path in root.glob("examples/networks/*.report")}
     repository = Repository(root)
-    readme = (root / "README.md").read_text()
-    for claim, holds in [*contracts_are_there(repository, readme), *lines_are_explained(readme)]:
-        yield "README.md", claim, holds
+    proved = (root / "docs/PROVED.md").read_text()
+    for claim, holds in contracts_are_there(repository, proved):
+        yield "docs/PROVED.md", claim, holds
     for document in documents:
         for claim, holds in document_claims(repository, document, document.read_text(), reports):
             yield str(document.relative_to(root)), claim, holds
 
     pages = [path.read_text() for path in [root / "docs/DEFINITIONS.md", *root.glob("docs/definitions/*.md")]]
     architecture = (root / "docs/ARCHITECTURE.md").read_text()
-    by_group = {"ARCHITECTURE": architecture, "README": readme}
     rules = {
         "numbers": numbers_are_counted(root, documents),
+        "words": words_are_few(root, documents),
         "definitions": structure.definitions_are_on_the_pages(repository, pages),
         "public definitions": structure.public_definitions_are_on_the_pages(repository, pages),
         "readers": structure.public_definitions_have_readers(repository),
@@ -117,9 +115,8 @@ def claims(root):
         "clauses": structure.clauses_are_short(repository),
         "files": structure.files_have_their_form(repository),
         "solver": structure.checkers_stand_on_no_solver(repository),
-        "groups": structure.groups_agree(repository, by_group),
-        "trust base": structure.ported_crates_are_named(repository, readme),
-        "crates below": structure.crates_below_agree(repository, architecture),
+        "groups": structure.groups_agree(repository, {"ARCHITECTURE": architecture}),
+        "trust base": structure.ported_crates_are_named(repository, proved),
     }
     for rule, found in rules.items():
         for claim, holds in found:

@@ -1,4 +1,4 @@
-"""A second program for what `crnt` answers, written from docs/FORMATS.md and docs/DEFINITIONS.md alone and sharing
+"""A second program for what `crnt` answers, written from docs/FORMATS.md, docs/CERTIFICATES.md and docs/DEFINITIONS.md alone and sharing
 nothing with it: the network that a text spells, the verdicts by their definitions, the judgement of a report, and the
 check of a certificate.
 

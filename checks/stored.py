@@ -1,6 +1,6 @@
 #!/usr/bin/env python3
 """Writes again what is stored of the program's output: the reports and certificates of `examples`, the report that the gate
-compares, and those that the documents show. Each report is judged by the second program first, and each certificate is checked by it.
+compares, and those that the documents show; `NAME.v1.cert` is in version 1. Each report is judged by the second program first, and each certificate is checked by it.
 
     checks/stored.py PROGRAM     after a question was built, or an answer's free lines have changed
 """
@@ -11,6 +11,7 @@ import sys
 from pathlib import Path
 
 import second_opinion
+from end_to_end import first_version
 
 ROOT = Path(__file__).resolve().parent.parent
 NETWORKS = ROOT / "examples" / "networks"
@@ -74,8 +75,9 @@ def main():
     for network, text in networks.items():
         network.with_suffix(".report").write_bytes(report_of(program, network.stem, text))
     for certificate in sorted((ROOT / "examples" / "certificates").glob("*.cert")):
-        text = (NETWORKS / f"{certificate.stem}.crn").read_bytes()
-        certificate.write_bytes(certificate_of(program, certificate.stem, text))
+        name, _, version = certificate.stem.partition(".")
+        written_now = certificate_of(program, name, (NETWORKS / f"{name}.crn").read_bytes())
+        certificate.write_bytes(first_version(written_now) if version == "v1" else written_now)
     (GATE / "stdout").write_bytes(report_of(program, "the gate", (GATE / "stdin").read_bytes()))
     for path in SHOWN:
         (ROOT / path).write_text(in_document(program, path, networks.values()), "utf-8")

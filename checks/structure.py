@@ -230,20 +230,8 @@ def groups_agree(repository, documents):
             yield f"{name} has in the group {group} the crates {', '.join(crates)}", found.get(group) == crates
 
 
-def ported_crates_are_named(repository, readme):
-    """README says of each crate of the toolchain that the repository depends on it."""
+def ported_crates_are_named(repository, proved):
+    """The trust base names each crate of the toolchain that the repository depends on."""
     for name in sorted({need for needs in repository.crates.needs.values() for need in needs}):
         if name not in repository.crates.needs:
-            yield f"README names {name}, on which it rests", f"`{name}`" in readme
-
-
-def crates_below_agree(repository, document):
-    """The table of who depends on whom says what `crates.txt` says."""
-    found = {}
-    for line in document.splitlines():
-        cells = [cell.strip() for cell in line.strip().strip("|").split("|")]
-        if len(cells) == 3 and re.fullmatch(r"`(?:crnt|crn_\w+)`", cells[0]):
-            found[cells[0].strip("`")] = sorted(re.findall(r"`(\w+)`", cells[1] + cells[2]))
-    for crate, needs in repository.crates.needs.items():
-        claim = f"ARCHITECTURE says that {crate} depends on {', '.join(needs) or 'nothing'}"
-        yield claim, found.get(crate) == sorted(needs)
+            yield f"the trust base names {name}", f"`{name}`" in proved
