@@ -105,65 +105,94 @@ def add_network(folder):
 
 
 #: What stands for ssh: the command runs in a network namespace and a home of its own, with the shell and the home of
-#: whom it runs as in its environment, whatever the caller has there.
+#: whom it runs as in its environment, whatever the caller has there. What each host is told to do is kept in a log.
 HOST = """\
 #!/bin/sh
 while :; do case $1 in -[BbcDEeFIiJLlmOopQRSWw]) shift 2 ;; -*) shift ;; *) break ;; esac; done
 host=$1; shift
 [ "$1" = -- ] && shift
 export home="{folder}/$host" command="$*" HOME=~root SHELL=/bin/sh
+printf '%s\\n' "$command" >> "$home.log"
+{lost}
 exec unshare -mn sh -c 'mount --bind "$home" "$HOME" && cd && unset home && exec sh -c "$command"'
 """
+HOSTS = ("alpha", "beta")
 
 
-def make_hosts(folder):
-    """Two hosts on this machine, which `ssh alpha` and `ssh beta` reach."""
+def make_hosts(folder, lost=""):
+    """Two hosts on this machine, which `ssh alpha` and `ssh beta` reach. `lost` is shell that may end a call before."""
     needs("rsync", "unshare")
     if os.geteuid() or subprocess.run(["unshare", "-mn", "true"], capture_output=True).returncode:
         raise support.Skipped("only root can have hosts on one machine, by unshare")
-    for host in ("alpha", "beta"):
-        (folder / host).mkdir()
-    (folder / "bin/ssh").write_text(HOST.format(folder=folder))
+    for host in HOSTS:
+        (folder / host).mkdir(exist_ok=True)
+    (folder / "bin/ssh").write_text(HOST.format(folder=folder, lost=lost))
     (folder / "bin/ssh").chmod(0o755)
+
+
+def logged(folder):
+    """The lines of the log of GNU parallel, in cells: the second is the host and the seventh the status."""
+    return [line.split("\t") for line in (folder / "hosts.log").read_text().splitlines()[1:]]
+
+
+def removal_is_whole(removal, folder):
+    """The last command leaves nothing on a host, and before it nothing was taken away there."""
+    told = "".join((folder / f"{host}.log").read_text() for host in HOSTS)
+    yield "no call takes away what others need", "rmdir" not in told and "rm -" not in told
+    yield "the folder is there", all((folder / host / "crnt-work").is_dir() for host in HOSTS)
+    yield "it is taken away", (removed := shell(removal, folder))[0] == 0, removed
+    left = [str(path) for host in HOSTS for path in (folder / host).rglob("*")]
+    yield "nothing is left there", not left, left[:3]
 
 
 def test_several_hosts():
     needs("parallel")
     with desk(8) as folder:
         make_hosts(folder)
-        [script] = blocks("Over several hosts")
+        script, missing, removal = blocks("Over several hosts")
         shell("ls networks/*.crn > networks.txt", folder)
-        status, out, err = shell(script, folder)
+        status, _, err = shell(script, folder)
         yield "as many as are not 0", status == 2, status, err[-500:]
-        log = [line.split("\t") for line in (folder / "hosts.log").read_text().splitlines()[1:]]
-        yield "both hosts worked", {line[1] for line in log} == {"alpha", "beta"}, {line[1] for line in log}
-        # a report comes back beside its text, as the name of the text has its folder in it
+        log = logged(folder)
+        yield "both hosts worked", {line[1] for line in log} == set(HOSTS), log
+        yield "the statuses", sorted(line[6] for line in log) == ["0"] * 8 + ["1", "2"], log
         yield from reports_are_right(folder, "networks/{}.report")
-        left = [str(path) for host in ("alpha", "beta") for path in (folder / host).rglob("*.crn")]
-        yield "nothing is left there", not left, left[:3]
         add_network(folder)
         shell(script, folder)
-        again = (folder / "hosts.log").read_text().splitlines()[1:]
-        yield "it goes on", len(again) == len(log) + 1, len(again)
+        yield "it goes on", len(logged(folder)) == len(log) + 1, logged(folder)
+        _, out, err = shell(f"rm crnt-program; crnt() {{ echo called; }}; {missing}", folder)
+        yield "none is missing", not out + err, out, err
+        yield from reports_are_right(folder, "networks/{}.report")
+        yield from removal_is_whole(removal, folder)
 
 
 def test_lost_host():
-    """A host that is lost in between: another call makes what it did not."""
+    """A host that is lost in between: other calls make what it did not."""
     needs("parallel")
-    with desk(8) as folder:
-        make_hosts(folder)
-        [script] = blocks("Over several hosts")
-        ssh = folder / "bin/ssh"
-        whole = ssh.read_text()
-        ssh.write_text(whole.replace("shift\n[", "shift\n[ $host = beta ] && exit 255\n[", 1))
-        shell("ls networks/*.crn > networks.txt", folder)
-        shell(script, folder)
-        made = len(list((folder / "networks").glob("*.report")))
-        yield "some are missing", made < 10, made
-        again = script.replace("4/alpha,4/beta", "4/alpha").replace("--resume ", "--resume-failed ")
-        status, _, err = shell(again, folder)
-        yield "as many as are not 0", status == 2, status, err[-300:]
-        yield from reports_are_right(folder, "networks/{}.report")
+    for when, lost, statuses in (
+        ("before the first call", '[ $host = beta ] && [ -e "$home/crnt-work/crnt-program" ] && exit 255', {"255"}),
+        ("before a report is back", 'case "$host $command" in "beta "*--sender*) exit 255 ;; esac', {"0", "1", "2"}),
+    ):
+        with desk(8) as folder:
+            make_hosts(folder, lost)
+            script, missing, removal = blocks("Over several hosts")
+            shell("ls networks/*.crn > networks.txt", folder)
+            shell(script, folder)
+            of_beta = [line for line in logged(folder) if line[1] == "beta"]
+            yield f"{when}: the log", of_beta and {line[6] for line in of_beta} <= statuses, logged(folder)
+            made = len(list((folder / "networks").glob("*.report")))
+            yield f"{when}: what beta had is missing", made == 10 - len(of_beta), made, len(of_beta)
+            again = script.replace("4/alpha,4/beta", "4/alpha").replace("--resume ", "--resume-failed ")
+            status, _, err = shell(again, folder)
+            yield f"{when}: as many as are not 0", status == 2, status, err[-300:]
+            hosts = {line[1] for line in logged(folder)[10:]}
+            yield f"{when}: alpha makes the failed ones again", hosts == {"alpha"}, logged(folder)
+            lacking = 10 - len(list((folder / "networks").glob("*.report")))
+            yield f"{when}: what the log knows", lacking == [line[6] for line in of_beta].count("0"), lacking, logged(folder)
+            shell(missing, folder)
+            yield from reports_are_right(folder, "networks/{}.report")
+            make_hosts(folder)
+            yield from removal_is_whole(removal, folder)
 
 
 def test_slurm_array():
