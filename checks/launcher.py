@@ -161,7 +161,8 @@ QUIET = (3, b"text", "", [])
 def builds(repository, folder):
     status, out, err, calls = repository.run(["report"])
     yield "builds a program that is missing, the lowest crate first", calls == BUILD, calls
-    yield "says how many crates are proved", "3 crates are proved and a program is built" in err, err
+    yield "says how many crates are proved, and the time", \
+        "3 crates are proved and a program is built, which takes half an hour to an hour" in err, err
     yield "says which crates are proved, and how many are left", \
         "crnt: low is proved, 1 to go\ncrnt: middle is proved, 0 to go\n" in err and "what rt says" not in err, err
     yield "hands on streams and status", (status, out) == (3, b"text"), (status, out)
@@ -291,7 +292,7 @@ def ships_its_sources_alone(repository):
         was = file.read_text() if file.exists() else None
         file.write_text(changed)
         _, _, err, calls = run_fresh(repository)
-        yield f"builds if {what} is not that of the shipped program", calls == BUILD and "of other sources" in err, (calls, err)
+        yield f"builds if {what} is not that of the shipped program", calls == BUILD and "from other sources" in err, (calls, err)
         seen = gate_compares(repository)
         yield f"the gate finds that {what} has changed", seen[0] == 1 and "checks/release --write" in seen[1], seen
         file.unlink()
@@ -305,7 +306,7 @@ def ships_its_sources_alone(repository):
 
 
 def refusals(repository, folder):
-    """Why the shipped program may not run. With a toolchain one is built; without it the launcher says why, and what is missing."""
+    """Why the shipped program may not run. With a toolchain one is built; without it the launcher says why, and what to do."""
     shipped = repository.root / "release" / SHIPPED
     built = repository.root / "release" / "built"
     was, lines = shipped.read_text(), built.read_text().splitlines()
@@ -317,38 +318,43 @@ def refusals(repository, folder):
         put_script(only / name, f"#!/bin/sh\n{body}\n")
         return only
 
-    def refused(what, reason, first=None):
+    def refused(what, reason, remedy, first=None):
         """Tries it with a toolchain and without; `first` is a folder that comes first on the path."""
         path = "" if first is None else f"{first}:"
         _, _, err, calls = run_fresh(repository, PATH=path + repository.path)
         yield f"builds if {what}", calls == BUILD and reason in err, (calls, err)
         status, out, err, calls = run_fresh(repository, PATH=path + bare)
-        said = reason in err and "its command rt is not on the path" in err
+        said = f"{reason}; " in err and "its command rt is not on the path" in err
         seen = (status, out, calls, said)
         yield f"ends with 70 if {what} and there is no toolchain", seen == (70, b"", [], True), (seen, err)
+        yield f"says what to do without a toolchain if {what}", f"; {remedy}" in err and "not public" in err, err
 
+    from_git = f"in {repository.root} type: git checkout -- release"
     source = repository.source("low").read_text()
     repository.source("low").write_text("changed")
-    yield from refused("the shipped program is stale", "of other sources")
+    yield from refused("the shipped program is stale", "built from other sources than those that are here",
+                       f"see in {repository.root} what has changed, by git status")
     repository.source("low").write_text(source)
     arm = tool_that("uname", "echo Linux aarch64")
-    yield from refused("the processor is another", "needs Linux on x86-64, and this is Linux aarch64", arm)
+    yield from refused("the processor is another", "needs Linux on x86-64, and this is Linux aarch64", "run it on such a machine, or in a container", arm)
     unreadable = tool_that("sha256sum", 'echo "sha256sum: a source: Permission denied" >&2; exit 1')
-    yield from refused("the sources cannot be read", "the sources or the shipped program cannot be read", unreadable)
+    yield from refused("the sources cannot be read", "the sources or the shipped program cannot be read",
+                       f"their owner makes them readable by: chmod -R a+rX '{repository.root}'", unreadable)
+    shipped.chmod(0o644)
+    yield from refused("the shipped program may not be executed", "may not be executed", f"allow it by: chmod +x '{shipped}'")
     shipped.unlink()
-    yield from refused("the shipped program is not there", "the sources or the shipped program cannot be read")
+    yield from refused("the shipped program is not there", f"the shipped program, {shipped}, is not there", from_git)
     put_script(shipped, was + "# another byte\n")
-    yield from refused("the shipped program is another", "not the one that release/built names")
+    yield from refused("the shipped program is another", "not the one that release/built names", from_git)
     seen = gate_compares(repository)
     yield "the gate finds another program", seen[0] == 1 and "release/ is not" in seen[1], seen
     put_script(shipped, "#!/bin/sh\necho \"version 'GLIBC_2.34' not found\" >&2\nexit 1\n")
     sum_of = hashlib.sha256(shipped.read_bytes()).hexdigest()
     built.write_text("\n".join([lines[0], sum_of, lines[2]]) + "\n")
     reason = "needs the GNU C library 2.34 or later, and does not run here (version 'GLIBC_2.34' not found)"
-    yield from refused("the C library is too old", reason)
+    yield from refused("the C library is too old", reason, "run it on a newer system (Debian 12")
     built.write_text(lines[0] + "\n")
-    _, _, _, calls = run_fresh(repository)
-    yield "builds if the record of the shipped program is cut short", calls == BUILD, calls
+    yield from refused("the record of the shipped program is cut short", "release/built, the record of the program that is shipped, cannot be read", from_git)
 
 
 def doubts(repository, folder):
