@@ -9,6 +9,7 @@ repository is needed.
 
 import hashlib
 import os
+import re
 import shutil
 import subprocess
 import sys
@@ -16,11 +17,13 @@ import tarfile
 import tempfile
 from pathlib import Path
 
+from documents import LINK
 from tally import Tally
 
 ROOT = Path(__file__).resolve().parent.parent
 PROGRAM = "release/crnt-x86_64-linux-gnu"
-PACKED = ["README.md", "CHANGELOG.md", "LICENSE-MIT", "LICENSE-APACHE", "benches", "companions", "docs", "examples", "release"]
+SOURCE = "crates/crnt/src/main.rt"
+PACKED = ["README.md", "CHANGELOG.md", "LICENSE-MIT", "LICENSE-APACHE", "benches", "companions", "docs", "examples", "page", "release"]
 LIBRARIES = ["/lib64/ld-linux-x86-64.so.2", "/lib/x86_64-linux-gnu/libc.so.6"]
 NETWORK = "examples/networks/two_site_futile_cycle"
 TIME = 1_700_000_000
@@ -44,19 +47,30 @@ def as_a_user(home):
 
 
 def commit(folder, program):
-    """A repository in this folder of the files that are here, with this program, committed at one time."""
+    """A repository in this folder of the documents that are here, with this program and one source, committed at one time."""
     for name in PACKED:
         if (ROOT / name).is_dir():
             shutil.copytree(ROOT / name, folder / name, ignore=shutil.ignore_patterns("__pycache__"))
         else:
             shutil.copy(ROOT / name, folder / name)
     shutil.copy(program, folder / PROGRAM)
+    source = folder / SOURCE
+    source.parent.mkdir(parents=True)
+    source.write_text("")
+    (folder / "crates.txt").write_text("crnt:\n")
+    (folder / "HANDLES").write_text("")
+    _, of_sources = done([folder / "release" / "sum"], folder)
     of_program = hashlib.sha256(Path(program).read_bytes()).hexdigest()
-    (folder / "release" / "built").write_text(f"the sources\n{of_program}\nthe toolchain\n")
+    (folder / "release" / "built").write_text(f"{of_sources.strip()}\n{of_program}\nthe toolchain\n")
+    done(["git", "init", "-q"], folder)
+    commit_all(folder, "A release")
+
+
+def commit_all(folder, message):
     at = f"{TIME} +0000"
     how = {"env": {**os.environ, "GIT_AUTHOR_DATE": at, "GIT_COMMITTER_DATE": at}}
     git = ["git", "-c", "user.name=crnt", "-c", "user.email=crnt", "-c", "commit.gpgsign=false"]
-    for words in [["git", "init", "-q"], ["git", "add", "-A", "-f"], [*git, "commit", "-q", "-m", "A release"]]:
+    for words in [["git", "add", "-A", "-f"], [*git, "commit", "-q", "-m", message]]:
         status, said = done(words, folder, **how)
         assert status == 0, said
 
@@ -79,10 +93,14 @@ def packs(folder, program):
     yield "the same commit gives the same bytes", archives[0] == archives[1], list(map(len, archives))
     yield "no time or name is in the gzip header", archives[0][3:8] == b"\0\0\0\0\0", archives[0][:10]
     yield from entries(written[0][0])
-    (first / PROGRAM).write_bytes(b"another program")
-    done(["git", "-c", "user.name=crnt", "-c", "user.email=crnt", "commit", "-q", "-a", "-m", "Another program"], first)
-    status, said = done([first / "release" / "make", str(folder)], folder)
-    yield "release/make refuses a program that release/built does not name", status == 1 and "is not the one" in said, said
+    for changed, what, reason in [(SOURCE, "a program of other sources", "not of the sources of this commit"),
+                                  (PROGRAM, "a program that release/built does not name", "is not the one")]:
+        was = (first / changed).read_bytes()
+        (first / changed).write_bytes(b"another")
+        commit_all(first, "Another")
+        status, said = done([first / "release" / "make", str(folder)], folder)
+        yield f"release/make refuses {what}", status == 1 and reason in said, said
+        (first / changed).write_bytes(was)
 
 
 def entries(archive):
@@ -127,16 +145,44 @@ def installs(folder, archive):
     shown = [line for line in said.splitlines() if line.startswith("to try it: ")]
     status, out = done(["sh", "-c", "".join(shown).removeprefix("to try it: ")], "/", **how)
     yield "what it says to try works", status == 0 and out.startswith("crn report 1\n"), out
+    yield "says how zsh finds its completions", f"fpath=({prefix}/share/zsh/site-functions $fpath)" in said, said
     yield from completes(prefix / "share/bash-completion/completions/crnt")
-    yield from links_lead_somewhere(prefix / "share/doc/crnt")
+    yield from links_lead_somewhere(prefix / "share/doc/crnt", (prefix / "share/man/man1/crnt.1").read_text())
+    yield from has_companions(prefix, how)
     (prefix / "bin").mkdir(parents=True, exist_ok=True)
     (prefix / "bin" / "of another").write_text("")
-    again = done(["./install.sh", str(prefix)], top, **how)
-    yield "installs again over itself", again[0] == 0, again
+    was = sorted(prefix.rglob("*"))
+    yield from installs_over(prefix, top, how)
+    seen = sorted(prefix.rglob("*"))
+    yield "installs over an older version with nothing of it left", seen == was, set(seen) ^ set(was)
     status, said = done([prefix / "share/doc/crnt/uninstall.sh"], "/", **how)
     left = sorted(str(it.relative_to(prefix)) for it in prefix.rglob("*"))
     yield "removes all that it installed, and nothing else", (status, left) == (0, ["bin", "bin/of another"]), (status, said, left)
+    seen = done([top / "install.sh", "below here"], home, **how)
+    there = home / "below here"
+    yield "takes a relative folder from where one is", seen[0] == 0 and (there / "bin/crnt").is_file(), seen
+    seen = done([there / "share/doc/crnt/uninstall.sh"], "/", **how)
+    yield "and removes it again", seen[0] == 0 and not list(there.iterdir()), seen
     yield from refuses_to_install(folder, archive)
+
+
+def installs_over(prefix, top, how):
+    """Installs over a version that has more files."""
+    documents = prefix / "share/doc/crnt"
+    for name in ["docs/OLD.md", "old folder/OLD.md"]:
+        done(["sh", "-ec", 'mkdir -p "${1%/*}"; : >"$1"; echo "share/doc/crnt/$1" >>installed', "sh", name], documents, **how)
+    again = done(["./install.sh", str(prefix)], top, **how)
+    yield "installs again", again[0] == 0, again
+    listed = (documents / "installed").read_text().splitlines()
+    there = sorted(str(it.relative_to(prefix)) for it in prefix.rglob("*") if it.is_file() and it.name != "of another" and it.suffix != ".pyc")
+    yield "lists what it installed, each file once", sorted(listed) == there, set(listed) ^ set(there)
+
+
+def has_companions(prefix, how):
+    """The companions that README calls, with the installed program."""
+    environment = {**how["env"], "PATH": f"{prefix}/bin:{how['env']['PATH']}"}
+    seen = done(["companions/crnt-tools", "explain"], prefix / "share/doc/crnt", b"A -> B\n", **{**how, "env": environment})
+    yield "crnt-tools finds the installed program", seen[0] == 0 and "weakly reversible" in seen[1], seen
 
 
 def refuses_to_install(folder, archive):
@@ -169,9 +215,17 @@ def completes(file):
         yield f"bash completes {words}", seen == (0, f"{wanted}\n"), seen
 
 
-def links_lead_somewhere(documents):
-    """What the man page names is there."""
-    for name in ["docs/FORMATS.md", "docs/CERTIFICATES.md", "docs/DEFINITIONS.md", "docs/pictures", "examples/networks", "examples/certificates", "LICENSE-MIT"]:
+def links_lead_somewhere(documents, page):
+    """What the documents and the manual page name is there."""
+    lost = [(str(document.relative_to(documents)), target) for document in sorted(documents.rglob("*.md"))
+            for target in LINK.findall(document.read_text()) if not (document.parent / target).exists()]
+    yield "each link of a document that is installed leads somewhere", not lost, lost
+    named = set(re.findall(r"^\.IR? ((?:docs|examples)/[\w./]*\w)", page, re.MULTILINE))
+    lost = [name for name in named if not (documents / name).exists()]
+    yield "what the manual page names is installed", named and not lost, lost or named
+    [codes] = re.findall(r"^whose codes are in\n\.IR (\S+) \.$", page, re.MULTILINE)
+    yield "the manual page says where the codes of rejections are", "## Rejections\n" in (documents / codes).read_text(), codes
+    for name in ["docs/pictures", "docs/conclusions.json", "LICENSE-MIT", "LICENSE-APACHE"]:
         yield f"{name} is installed", (documents / name).exists(), name
 
 

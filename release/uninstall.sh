@@ -13,6 +13,8 @@ uninstall() {
     prefix=$(CDPATH='' cd -- "$(dirname -- "$0")/../../.." && pwd -P)
     cd "$prefix"
     files=$(cat share/doc/crnt/installed)
+    # What Python wrote beside the companions that it ran.
+    [ ! -d share/doc/crnt/companions ] || find share/doc/crnt/companions -type d -name __pycache__ -prune -exec rm -rf {} +
     printf '%s\n' "$files" | while IFS= read -r file; do
         rm -f "./$file"
         remove_folders "${file%/*}"
