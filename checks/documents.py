@@ -1,10 +1,10 @@
 #!/usr/bin/env python3
 """Reads the documents and the crates.
 
-The documents: their links lead somewhere, the definitions and contracts that they name are there, the reports that they
-show are stored reports, what they count is as many as they say, they have no more words than their budget, and they cite
-nothing that is not in the repository. The definitions pages name every definition that a public contract reaches. The crates: what one may cite of another, the lines of clauses, and who may
-depend on whom (`structure.py`)."""
+The documents: their links lead somewhere, to the heading that they name; the definitions and contracts that they name are
+there, the reports that they show are stored reports, what they count is as many as they say, they have no more words than their
+budget, and they cite nothing that is not in the repository. The definitions pages name every definition that a public contract
+reaches. The crates: what one may cite of another, the lines of clauses, and who may depend on whom (`structure.py`)."""
 
 import re
 import sys
@@ -18,7 +18,13 @@ ROOT = Path(__file__).resolve().parent.parent
 MOST_README = 1_500
 MOST_WORDS = 62_000
 
+# what README says of the proof
+ROWS = ["`report`", "`certify`", "`check`", "openness", "completeness", "every call returns"]
+
 LINK = re.compile(r"\]\(([^)#:]+)(?:#[^)]*)?\)")
+ANCHOR = re.compile(r"\]\(([^)#:]*)#([^)]+)\)")
+HEADING = re.compile(r"^#+ (.*)$", re.MULTILINE)
+TOOLCHAIN = re.compile(r"`(rattle-kit-\w+)")
 REPORT = re.compile(r"^```\n(crn report 1\n.*?)^```", re.MULTILINE | re.DOTALL)
 SHOWN = re.compile(r"^```antt\n(.*?)^```", re.MULTILINE | re.DOTALL)
 FILE = re.compile(r"`((?:crates/)?(?:crn_\w+|crnt)/(?:src|specs|proofs)/[\w/]+\.(?:rt|antt))`")
@@ -36,10 +42,18 @@ def is_defined(repository, file, name):
     return bool(has_owner and re.search(rf"\b(?:fn|struct|enum|trait|const|type) {own}\b", text))
 
 
+def anchors(text):
+    """The names by which links lead to the headings of a document."""
+    return {re.sub(r"[^\w\- ]", "", heading.lower()).replace(" ", "-") for heading in HEADING.findall(text)}
+
+
 def document_claims(repository, document, text, reports):
     root = repository.root
     for target in LINK.findall(text):
         yield f"the link to {target}", (document.parent / target).exists()
+    for target, name in ANCHOR.findall(text):
+        file = document.parent / target if target else document
+        yield f"the link to {target}#{name}", file.is_file() and name in anchors(file.read_text())
     for path in sorted(set(FILE.findall(text))):
         yield f"the file {path}", repository.exists(path.removeprefix("crates/"))
     for path, names in structure.PLACE.findall(text):
@@ -74,6 +88,18 @@ def words_are_few(root, documents):
     yield f"the documents have {total} words, at most {MOST_WORDS}", total <= MOST_WORDS
 
 
+def proof_has_its_rows(readme):
+    """README says in a row each what is proved of the commands, of openness, of completeness, and that every call returns."""
+    for row in ROWS:
+        yield f"README has the row {row}", f"\n| {row} | " in readme
+
+
+def toolchain_is_one(readme, proved):
+    """README and the trust base name one toolchain."""
+    named = [TOOLCHAIN.findall(text) for text in (readme, proved)]
+    yield f"README names the toolchain {named[0]}, PROVED {named[1]}", len(named[0]) == 1 and named[0] == named[1]
+
+
 def numbers_are_counted(root, documents):
     """The example networks are as many as the documents say."""
     counts = {
@@ -92,7 +118,7 @@ def claims(root):
     documents = sorted(document for folder in folders for document in root.glob(folder))
     reports = {path.read_text() for path in root.glob("examples/networks/*.report")}
     repository = Repository(root)
-    proved = (root / "docs/PROVED.md").read_text()
+    readme, proved = ((root / name).read_text() for name in ["README.md", "docs/PROVED.md"])
     for claim, holds in contracts_are_there(repository, proved):
         yield "docs/PROVED.md", claim, holds
     for document in documents:
@@ -104,6 +130,8 @@ def claims(root):
     rules = {
         "numbers": numbers_are_counted(root, documents),
         "words": words_are_few(root, documents),
+        "rows": proof_has_its_rows(readme),
+        "toolchain": toolchain_is_one(readme, proved),
         "definitions": structure.definitions_are_on_the_pages(repository, pages),
         "public definitions": structure.public_definitions_are_on_the_pages(repository, pages),
         "readers": structure.public_definitions_have_readers(repository),

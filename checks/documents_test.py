@@ -105,7 +105,16 @@ IsStep n m = m ≡ n
     "crates/crn_cert/src/lib.rt": "//! Answers.\n",
     "crates/crn_part_check/src/lib.rt": "//! A checker.\n",
     README: """\
-[definitions](docs/DEFINITIONS.md) There are 1 networks with their reports.
+[definitions](docs/DEFINITIONS.md) There are 1 networks with their reports. By `rattle-kit-1`; see the [rest](docs/PROVED.md#what-else).
+
+| | |
+|---|---|
+| `report` | one |
+| `certify` | two |
+| `check` | three |
+| openness | four |
+| completeness | five |
+| every call returns | six |
 
 ```
 crn report 1
@@ -117,7 +126,9 @@ open: 0
 |---|---|---|
 | It counts. | `crn_low` | `count_of`, view of `Counter` |
 
-It rests on `itoa`.
+## What else?
+
+It rests on `itoa` and `rattle-kit-1 logic 2`.
 """,
     MAP: """\
 | group | crate | what it does |
@@ -151,6 +162,9 @@ pub record KeptCounter : Type 0 where
 # what is broken; the file; the text there; the text in its place; the rule or document that says so
 BREAKS = [
     ("a link leads nowhere", README, PAGE, "docs/DEFINITION.md", README),
+    ("a link leads to no heading", README, "#what-else", "#what", README),
+    ("README leaves out what is proved of openness", README, "| openness | four |\n", "", "rows"),
+    ("the documents name two toolchains", PROVED, "rattle-kit-1 ", "rattle-kit-2 ", "toolchain"),
     ("a contract is not in its crate", PROVED, "`count_of`", "`counts`", PROVED),
     ("a file is not there", KEPT, "Kept.antt", "Keep.antt", KEPT),
     ("a name is not in its file", PAGE,
