@@ -514,6 +514,10 @@ def failures(repository, folder):
     status, out, err, _ = repository.run(["report"], PATH=str(bare))
     yield "ends with 70 if there is no program and no toolchain", \
         (status, out) == (70, b"") and "rt is not on the path" in err, (status, err)
+    done = subprocess.run([repository.root / "release" / "build"], capture_output=True, timeout=SECONDS,
+                          env={**repository.environment, "PATH": without_toolchain(folder)})
+    yield "release/build ends with 70 if there is no toolchain", \
+        (done.returncode, done.stdout) == (70, b"") and b"rt is not on the path" in done.stderr, done
     (repository.root / "crates.txt").write_text("low:\n")
     status, out, err, calls = repository.run(["report"])
     yield "ends with 70 if crates.txt has no crnt", (status, out, calls) == (70, b"", []), (status, err, calls)
