@@ -11,7 +11,7 @@ HEAD = re.compile(rf"(?:abbrev|unfoldable) (?:pub )?(?!pub\b)({NAME})|(?:pub )?(
 HEAD_INSIDE = re.compile(rf"  (?:pub )?()()({NAME}) :")
 IMPORT = re.compile(r"\b(pub )?use (Rattle\.[\w.]+?)(?:\.\{([^}]*)\}|(?=[\s;]))")
 RUST_IMPORT = re.compile(r"^\s*(pub )?use (\w+(?:::\w+)*)(?:::\{([^}]*)\})?;", re.MULTILINE)
-ITEM_HEAD = re.compile(r"^(pub(?:\([\w ]+\))? )?(?:fn|const|struct|enum|trait|type) (\w+)", re.MULTILINE)
+ITEM_HEAD = re.compile(r"^(pub(?:\([\w ]+\))? )?(?:(?:extern\s+)?fn|const|struct|enum|trait|type) (\w+)", re.MULTILINE)
 DECLARED = re.compile(r"^ *(pub(?:\([\w ]+\))? )?(?:const|struct|enum|trait|type) (\w+)", re.MULTILINE)
 BRACE = re.compile(r"[{}]")
 GROUP = re.compile(r"# (\w+)(?:: .*)?$")
@@ -351,7 +351,7 @@ ITEM = re.compile(
     r"|(?P<impl>\bimpl\b[^{;]*\{)"
     r"|(?P<trait>(?:pub )?\btrait \w+[^{;]*\{)"
     r"|(?P<struct>(?:pub )?\bstruct \w+[^{;(]*\{)"
-    r"|(?P<fn>(?P<pub>pub(?:\([\w ]+\))? )?(?:unsafe )?fn \w+)"
+    r"|(?P<fn>(?P<pub>pub(?:\([\w ]+\))? )?(?:unsafe )?(?:extern\s+)?fn \w+)"
 )
 
 

@@ -192,7 +192,7 @@ def is_documented(text, name):
     """Whether the item of this name has a doc comment above it and its attributes."""
     lines = text.splitlines()
     for place, line in enumerate(lines):
-        if re.match(rf"\s*pub (?:fn|const|struct|enum|trait|type) {name}\b", line):
+        if re.match(rf"\s*pub (?:(?:extern \"C\" )?fn|const|struct|enum|trait|type) {name}\b", line):
             above = place - 1
             while above > 0 and re.match(r"\s*#\[.*\]$", lines[above]):
                 above -= 1
