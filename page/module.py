@@ -24,6 +24,7 @@ import sys
 import tempfile
 
 CRATE, EXPORT = "crn_page", "crn_page_run"
+PARTS = ["src", "specs", "proofs"]
 HERE = pathlib.Path(__file__).resolve().parent
 STACK = 8 << 20
 KEEPER = """#!/bin/sh
@@ -60,9 +61,17 @@ def library(root, name):
     return root / "crates" / name / "out/rlib" / f"{name}.rlib"
 
 
+def is_built(root, name):
+    """Whether a library came here after the last change of its sources, be it built or handed on from an earlier run of rt ci.
+    Its folder says when: its files may be those of that run, and older."""
+    made, folder = library(root, name), root / "crates" / name
+    changed = [it.stat().st_mtime for part in PARTS for it in (folder / part).rglob("*") if it.is_file()]
+    return made.is_dir() and max(changed, default=0) <= made.stat().st_ctime
+
+
 def missing(root):
-    """The libraries below crn_page that are not built."""
-    return [name for name in below(crates(root), CRATE, []) if not library(root, name).is_dir()]
+    """The libraries below crn_page that are not built of these sources."""
+    return [name for name in below(crates(root), CRATE, []) if not is_built(root, name)]
 
 
 def call(*words, **how):
@@ -128,7 +137,7 @@ def compile_wide(kit, native, work):
 def main():
     root, module = (pathlib.Path(it).resolve() for it in sys.argv[1:3])
     if missing(root):
-        sys.exit(f"these libraries are not built, as rt ci does: {' '.join(missing(root))}")
+        sys.exit(f"these libraries are not built of these sources, as rt ci does in a clone without out/: {' '.join(missing(root))}")
     kit = pathlib.Path(os.path.realpath(shutil.which("rt"))).parent.parent
     with tempfile.TemporaryDirectory() as work:
         work = pathlib.Path(work)
