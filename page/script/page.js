@@ -311,8 +311,24 @@ function save(file, bytes, type = 'text/plain') {
     setTimeout(() => URL.revokeObjectURL(link.href), 10000);
 }
 
+// The bytes of a file, or nothing if the browser cannot read it, as a folder, or a file that has gone.
+async function bytesOfFile(file, tell) {
+    try {
+        return new Uint8Array(await file.arrayBuffer());
+    } catch (error) {
+        tell(`The browser cannot read this file: ${error.message}`, 'bad');
+        return null;
+    }
+}
+
+async function checkFile(file) {
+    const bytes = await bytesOfFile(file, sayCertified);
+    if (bytes) return check(bytes);
+}
+
 async function openFile(file) {
-    const bytes = new Uint8Array(await file.arrayBuffer());
+    const bytes = await bytesOfFile(file, say);
+    if (!bytes) return;
     if (textOf(bytes.subarray(0, 16)) === 'crn certificate ') return check(bytes);
     name = file.name.replace(/\.\w+$/, '') || 'network';
     const kept = bytes.subarray(0, MOST_TEXT);
@@ -382,7 +398,7 @@ function wire() {
         $('examples').close();
         take(data.examples.find(one => one.name === button.dataset.example));
     });
-    for (const [id, act] of [['open', openFile], ['check', async file => check(new Uint8Array(await file.arrayBuffer()))]]) {
+    for (const [id, act] of [['open', openFile], ['check', checkFile]]) {
         on(id, 'change', event => {
             const [file] = event.target.files;
             if (file) act(file);

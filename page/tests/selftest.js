@@ -186,6 +186,10 @@ async function testBytes(test, { bytes }) {
     }
     await enter('A -> \ud800 B');
     test.expect('half a character', $('status').textContent === 'refused 11 NotAscii at line 1', $('status').textContent);
+    const gone = { name: 'gone', arrayBuffer: async () => { throw new Error('it has gone'); } };
+    await Promise.all([openFile(gone), checkFile(gone)]);
+    const said = [$('status'), $('certified')].map(where => where.textContent);
+    test.expect('a file that cannot be read', said.every(text => text === 'The browser cannot read this file: it has gone'), said);
     await openFile(new File(['crn certificate 2\nnetwork 1\nA -> \n'], 'a.txt'));
     test.expect('a certificate is opened as one', /^rejected \d+ /.test($('certified').textContent), $('certified').textContent);
 }
